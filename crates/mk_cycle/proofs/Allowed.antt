@@ -24,6 +24,7 @@ use Rattle.mk_words.specs.Seats.{Has}
 use Rattle.mk_words.specs.TurnSteps.{Acts, IsTurn, turn_stays}
 use Rattle.mk_words.specs.States.{WordsState, PassState, now_of, call_of}
 use Rattle.mk_words.specs.Steps.{IsEnabledTo}
+use Rattle.mk_words.proofs.Made.{own_before, pass_before}
 use Rattle.mk_words.proofs.TurnSteps.{holds_after}
 use Rattle.mk_cycle.specs.EngineLaw.{IsFreeForCycle, IsAtPhase, is_register}
 use Rattle.mk_cycle.specs.TurnKeeps.{InTurn}
@@ -105,6 +106,10 @@ module _ (p : PassState) (t : InTurn p) (free : IsFreeForCycle p) where
 pub in_turn : (p : PassState) (o : Option Op) → Has p.seats p.seat → IsTurn p o → IsHistory p.table.config p.seen
     → InTurn p
 in_turn p o own turn history = record { own = own; holds = turn.holds; history = history }
+
+-- before a step of the turn
+pub in_turn_before : {p : PassState} {s : Step} {q : PassState} → Acts p s q → InTurn p
+in_turn_before a = record { own = own_before a.makes; holds = a.holds; history = (pass_before a.makes).history }
 
 -- after a step of the turn that isn't its last
 pub in_turn_after : {p : PassState} {s : Step} {q : PassState} → Acts p s q → turn_stays s ≡ true → InTurn q

@@ -21,6 +21,14 @@ use mk_core::{Tally, Word};
 use mk_geom::Page;
 use mk_words::{Turn, Words};
 
+/// Whose turn it is, and that what it has seen is a history. It does nothing.
+#[inline(always)]
+fn in_turn(turn: &Turn)
+    ensures { InTurn turn.now.pass }
+{
+    turn.is_in_order();
+}
+
 /// Looks at a word that is no register, in a table of this many pages.
 #[inline(always)]
 pub(crate) fn look_among(turn: &mut Turn, words: &Words, pages: u64, x: Word) -> u64
@@ -35,7 +43,7 @@ pub(crate) fn look_among(turn: &mut Turn, words: &Words, pages: u64, x: Word) ->
     ensures is { InTurn turn.new.pass }
     ensures reads { result ≡ named_word (now_of turn.new.pass).words x }
 {
-    turn.is_in_order();
+    in_turn(turn);
     turn.look_among(words, pages, x)
 }
 
@@ -61,7 +69,7 @@ pub(crate) fn next_in_use(turn: &Turn, from: u64) -> Option<u64>
     ensures is { InTurn turn.now.pass }
     ensures next { IsNext (is_in_use (now_of turn.now.pass).words.pages) from turn.now.pass.table.config.pages result }
 {
-    turn.is_in_order();
+    in_turn(turn);
     turn.next_in_use(from)
 }
 
@@ -71,7 +79,7 @@ pub(crate) fn next_uncleaned(turn: &Turn, from: u64) -> Option<u64>
     ensures is { InTurn turn.now.pass }
     ensures next { IsNextUncleaned (now_of turn.now.pass).words from turn.now.pass.table.config.pages result }
 {
-    turn.is_in_order();
+    in_turn(turn);
     turn.next_uncleaned(from)
 }
 
@@ -82,7 +90,7 @@ pub(crate) fn next_quarantined(turn: &Turn, from: u64) -> Option<u64>
     ensures next { IsNext (has_freed_cells (now_of turn.now.pass).words.freed) from turn.now.pass.table.config.pages
         result }
 {
-    turn.is_in_order();
+    in_turn(turn);
     turn.next_quarantined(from)
 }
 
@@ -93,7 +101,7 @@ pub(crate) fn known_page(turn: &Turn, page: u64) -> Page
     ensures is { InTurn turn.now.pass }
     ensures page { result ≡ page_of (now_of turn.now.pass).words page }
 {
-    turn.is_in_order();
+    in_turn(turn);
     turn.page(page)
 }
 
@@ -108,7 +116,7 @@ pub(crate) fn clear(turn: &mut Turn, words: &Words, page: u64)
     ensures acts { Acts turn.old.pass (step.Clear page) turn.new.pass }
     ensures is { InTurn turn.new.pass }
 {
-    turn.is_in_order();
+    in_turn(turn);
     turn.clear(words, page);
 }
 
@@ -123,7 +131,7 @@ pub(crate) fn unblack(turn: &mut Turn, words: &Words, page: u64)
     ensures acts { Acts turn.old.pass (step.Unblack page) turn.new.pass }
     ensures is { InTurn turn.new.pass }
 {
-    turn.is_in_order();
+    in_turn(turn);
     turn.unblack(words, page);
 }
 
@@ -138,7 +146,7 @@ pub(crate) fn undirty(turn: &mut Turn, words: &Words, page: u64)
     ensures acts { Acts turn.old.pass (step.Undirty page) turn.new.pass }
     ensures is { InTurn turn.new.pass }
 {
-    turn.is_in_order();
+    in_turn(turn);
     turn.undirty(words, page);
 }
 
@@ -155,7 +163,7 @@ pub(crate) fn take_snapshot(turn: &mut Turn, words: &Words, page: u64, value: u6
     ensures acts { Acts turn.old.pass (step.Quar page value) turn.new.pass }
     ensures is { InTurn turn.new.pass }
 {
-    turn.is_in_order();
+    in_turn(turn);
     turn.quar(words, page, value);
 }
 
@@ -168,7 +176,7 @@ pub(crate) fn tally(turn: &mut Turn, words: &Words, n: Tally, v: u64)
     ensures acts { Acts turn.old.pass (step.Tally n v) turn.new.pass }
     ensures is { InTurn turn.new.pass }
 {
-    turn.is_in_order();
+    in_turn(turn);
     turn.tally(words, n, v);
 }
 
@@ -184,7 +192,7 @@ pub(crate) fn begin(turn: &mut Turn, words: &Words)
     ensures acts { Acts turn.old.pass step.Begin turn.new.pass }
     ensures is { InTurn turn.new.pass }
 {
-    turn.is_in_order();
+    in_turn(turn);
     turn.begin(words);
 }
 
@@ -201,7 +209,7 @@ pub(crate) fn try_hold(turn: &mut Turn, words: &Words, caller: u64) -> bool
     ensures is { InTurn turn.new.pass }
     ensures held { result ≡ true → is_held (now_of turn.new.pass).words caller ≡ true }
 {
-    turn.is_in_order();
+    in_turn(turn);
     turn.try_hold(words, caller).is_ok()
 }
 
@@ -218,7 +226,7 @@ pub(crate) fn wipe(turn: &mut Turn, words: &Words, word: u64)
     ensures acts { Acts turn.old.pass (step.Wipe word) turn.new.pass }
     ensures is { InTurn turn.new.pass }
 {
-    turn.is_in_order();
+    in_turn(turn);
     turn.wipe(words, word);
 }
 
@@ -234,7 +242,7 @@ pub(crate) fn give_cells(turn: &mut Turn, words: &Words, page: u64, v: u64)
     ensures acts { Acts turn.old.pass (step.Used page v) turn.new.pass }
     ensures is { InTurn turn.new.pass }
 {
-    turn.is_in_order();
+    in_turn(turn);
     turn.used(words, page, v);
 }
 
@@ -250,7 +258,7 @@ pub(crate) fn drop_cells(turn: &mut Turn, words: &Words, page: u64, v: u64)
     ensures acts { Acts turn.old.pass (step.Quar page v) turn.new.pass }
     ensures is { InTurn turn.new.pass }
 {
-    turn.is_in_order();
+    in_turn(turn);
     turn.quar(words, page, v);
 }
 
@@ -266,7 +274,7 @@ pub(crate) fn free_head(turn: &mut Turn, words: &Words, page: u64)
     ensures acts { Acts turn.old.pass (step.Head page 0) turn.new.pass }
     ensures is { InTurn turn.new.pass }
 {
-    turn.is_in_order();
+    in_turn(turn);
     turn.head(words, page, 0);
 }
 
@@ -281,6 +289,6 @@ pub(crate) fn end(turn: &mut Turn, words: &Words)
     ensures acts { Acts turn.old.pass step.End turn.new.pass }
     ensures is { InTurn turn.new.pass }
 {
-    turn.is_in_order();
+    in_turn(turn);
     turn.end(words);
 }

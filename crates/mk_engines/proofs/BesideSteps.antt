@@ -7,6 +7,7 @@ use Rattle.std.proofs.lemmas.Bool.{and_from, and_parts, cases_lt, eqb-true, fals
 use Rattle.std.proofs.lemmas.List.{get_or-set_same, get_or-set_other, get_or_past, set_past}
 use Rattle.mk_geom.specs.declared.addresses.Cell.{Cell}
 use Rattle.mk_geom.specs.declared.pages.Place.{Place}
+use Rattle.mk_geom.specs.Addresses.{page_at_address}
 use Rattle.mk_geom.specs.PageUses.{or_else}
 use Rattle.mk_geom.specs.Headers.{header_of}
 use Rattle.mk_core.specs.declared.config.Config.{Config}
@@ -44,24 +45,25 @@ use Rattle.mk_marker.proofs.PointedCells.{pointed_is_cell}
 use Rattle.mk_words.specs.States.{PassState, TurnState, now_of, call_of, event_of}
 use Rattle.mk_words.specs.Steps.{Finds, IsEnabledTo, found_by}
 use Rattle.mk_words.specs.TurnSteps.{Acts, world_at}
-use Rattle.mk_words.proofs.Made.{stands_behind_others}
+use Rattle.mk_words.proofs.Made.{own_before, stands_behind_others}
+use Rattle.mk_turns.specs.Pointing.{LooksForCell, MayLookAtHeaders}
 use Rattle.mk_turns.proofs.Doing.{does_step}
+use Rattle.mk_turns.proofs.PointedCells.{found_there, looked_for}
 use Rattle.mk_tracing.specs.Grays.{IsInHand, HandPointsInto, MarksReached, TracesReached}
 use Rattle.mk_tracing.specs.Stops.{hand_of, is_root}
 use Rattle.mk_tracing.proofs.MaySteps.{marks_by}
 use Rattle.mk_tracing.proofs.MoreMarks.{marked_now}
-use Rattle.mk_tracing.proofs.Steps.{found_there}
 use Rattle.mk_cycle.specs.EngineLaw.{is_register}
 use Rattle.mk_cycle.specs.Kinds.{begins_marking}
-use Rattle.mk_cycle.specs.TurnKeeps.{InTurn, LeavesTurn, unchanged}
-use Rattle.mk_cycle.proofs.Allowed.{protocol}
+use Rattle.mk_cycle.specs.TurnKeeps.{InTurn, KeepsGates, LeavesTurn, unchanged}
+use Rattle.mk_cycle.proofs.Allowed.{in_turn_before, look_allowed, protocol}
 use Rattle.mk_cycle.proofs.CleaningSteps.{calm_keeps}
-use Rattle.mk_cycle.proofs.KeptInParts.{held_so}
+use Rattle.mk_cycle.proofs.KeptInParts.{gates_behind, held_so}
 use Rattle.mk_cycle.proofs.MayAct.{may_act}
 use Rattle.mk_cycle.proofs.OwnSteps.{done_in, keeps_call, keeps_counts}
 use Rattle.mk_engines.specs.Beside.{FindsInRoot, GoesBeside, IsBeside, IsOpenToLook, KeepsOtherGates, StaysWell}
 use Rattle.mk_engines.specs.Beside.{found_well, gives_no_hand, looks_at_root}
-use Rattle.mk_engines.proofs.MarksBeside.{still_beside}
+use Rattle.mk_engines.proofs.MarksBeside.{gates_at_once, goes_nowhere, still_beside}
 use Rattle.mk_engines.proofs.Since.{done_step, keeps_step}
 
 -- words that give no hand
@@ -123,8 +125,7 @@ module _ (p : PassState) (t : InTurn p) (b : IsBeside p) where
       (hand_marks cell r))
 
 -- One step.
-module _ (t u : TurnState) (s : Step) (a : Acts t.pass s u.pass) (was : InTurn t.pass) (is : InTurn u.pass)
-    (b : IsBeside t.pass) (same : u.op ≡ t.op) where
+module _ (t u : TurnState) (s : Step) (a : Acts t.pass s u.pass) (b : IsBeside t.pass) (same : u.op ≡ t.op) where
   abbrev c : Config
   c = t.pass.table.config
 
@@ -135,7 +136,7 @@ module _ (t u : TurnState) (s : Step) (a : Acts t.pass s u.pass) (was : InTurn t
   stays_well none v h =
       let d = stands_behind_others t.pass u.pass s a.makes in
       let early : IsMarking (world_at a.makes).now.words = inl phase_there in
-      let others = (d.admitted.turn was.holds).well (inl b.marking) v h in
+      let others = (d.admitted.turn a.holds).well (inl b.marking) v h in
       ap (λ (w : World). points_well c.pages w.now.words v) a.world
       ∙ well_is c (world_behind c (world_at a.makes) (event_of t.pass s)).now.words v
       (wells_from c (world_at a.makes).now.words (world_behind c (world_at a.makes) (event_of t.pass s)).now.words
@@ -154,49 +155,50 @@ module _ (t u : TurnState) (s : Step) (a : Acts t.pass s u.pass) (was : InTurn t
         marks = record {
           does = does_step begins_marking t.pass u.pass s a.makes kind;
           keeps = keeps;
-          reached = keeps_step t.pass s u.pass a.makes TracesReached was.own rule;
+          reached = keeps_step t.pass s u.pass a.makes TracesReached (own_before a.makes) rule;
           found =
               ap (λ (xs : List Finding). list_all (found_well c.pages (now_of u.pass).words) xs)
-              (done_step t.pass s u.pass a.makes was.own)
+              (done_step t.pass s u.pass a.makes (own_before a.makes))
               ∙ and_from (not (looks_at_root s) || points_well c.pages (now_of u.pass).words (found_by a.makes)) true
               (ap (λ (x : Bool). not x || points_well c.pages (now_of u.pass).words (found_by a.makes)) plain) refl;
           well = stays_well none;
         };
       }
 
-module _ (t u : TurnState) (was : InTurn t.pass) (is : InTurn u.pass) (b : IsBeside t.pass) (same : u.op ≡ t.op) where
+module _ (t u : TurnState) (b : IsBeside t.pass) (same : u.op ≡ t.op) where
   pub goes_look : (x : Word) → Acts t.pass (step.Look x) u.pass → gives_no_hand x ≡ true → GoesBeside t u
   goes_look x a plain =
-      goes_step t u (step.Look x) a was is b same refl refl (no_root x plain)
-      (calm_keeps t.pass (step.Look x) u.pass a was is.history refl b.free unchanged refl)
+      goes_step t u (step.Look x) a b same refl refl (no_root x plain)
+      (calm_keeps t.pass (step.Look x) u.pass a (in_turn_before a) a.makes.pass.history refl b.free unchanged refl)
       (no_heap_word t.pass.table.config (world_at a.makes).now x plain)
 
   pub goes_hold : (j : ℕ) → Acts t.pass (step.Hold j) u.pass → GoesBeside t u
   goes_hold j a =
-      goes_step t u (step.Hold j) a was is b same refl refl refl
-      (calm_keeps t.pass (step.Hold j) u.pass a was is.history refl b.free unchanged refl) tt
+      goes_step t u (step.Hold j) a b same refl refl refl
+      (calm_keeps t.pass (step.Hold j) u.pass a (in_turn_before a) a.makes.pass.history refl b.free unchanged refl) tt
 
   pub goes_open : (j : ℕ) → Acts t.pass (step.Open j) u.pass → GoesBeside t u
   goes_open j a =
-      goes_step t u (step.Open j) a was is b same refl refl refl
-      (calm_keeps t.pass (step.Open j) u.pass a was is.history refl b.free unchanged refl) tt
+      goes_step t u (step.Open j) a b same refl refl refl
+      (calm_keeps t.pass (step.Open j) u.pass a (in_turn_before a) a.makes.pass.history refl b.free unchanged refl) tt
 
   pub finds_in_root : (x : Word) (n : ℕ) → Acts t.pass (step.Look x) u.pass → Finds t.pass (step.Look x) n u.pass
       → is_root x ≡ true
       → FindsInRoot x n t u
   finds_in_root x n a f root =
-      let keeps = calm_keeps t.pass (step.Look x) u.pass a was is.history refl b.free unchanged refl in
+      let keeps = calm_keeps t.pass (step.Look x) u.pass a (in_turn_before a) a.makes.pass.history refl b.free
+      unchanged refl in
       record {
         table = ap (λ (y : PassState). y.table) a.makes.is;
         op = same;
         beside = still_beside t.pass u.pass b keeps;
         does = does_step begins_marking t.pass u.pass (step.Look x) a.makes refl;
         keeps = keeps;
-        reached = keeps_step t.pass (step.Look x) u.pass a.makes TracesReached was.own
+        reached = keeps_step t.pass (step.Look x) u.pass a.makes TracesReached (own_before a.makes)
             (root_is_no_heap_word t.pass.table.config (world_at a.makes).now x root);
-        done = done_step t.pass (step.Look x) u.pass f.makes was.own
+        done = done_step t.pass (step.Look x) u.pass f.makes (own_before a.makes)
             ∙ ap (λ (v : ℕ). record { event = event_of t.pass (step.Look x); found = v } ∷ []) (sym f.finds);
-        well = stays_well t u (step.Look x) a was is b same refl;
+        well = stays_well t u (step.Look x) a b same refl;
       }
 
 -- the hand after a look
@@ -225,6 +227,22 @@ module _ (p q : PassState) (x : Word) (a : Acts p (step.Look x) q) where
       by (word.Global g) value h = refl
       by _ value h = cc
 
+-- The cell into which a value points is looked for.
+
+pub may_look_at_headers : (p : PassState) → InTurn p → IsBeside p → MayLookAtHeaders p
+may_look_at_headers p t b page lt = look_allowed p t b.free (word.Head page) (lt-ltb page _ lt) refl
+
+module _ {value : ℕ} {t u : TurnState} (l : LooksForCell value t u) where
+  pub goes_for_cell : IsBeside t.pass → GoesBeside t u
+  goes_for_cell b =
+      looked_for (λ (v : TurnState). GoesBeside t v) l (goes_nowhere t b)
+      (λ a. goes_look t u b l.op (word.Head (page_at_address value)) a refl)
+
+  pub gates_for_cell : KeepsGates t.pass u.pass
+  gates_for_cell =
+      looked_for (λ (v : TurnState). KeepsGates t.pass v.pass) l (gates_at_once t.pass)
+      (λ a. gates_behind t.pass (step.Look (word.Head (page_at_address value))) u.pass a refl)
+
 -- A mark by the hand: the cell's page has a header, so it isn't the place of a New.
 
 no_header : (n : ℕ) → n ≡ 0 → cells_under (header_of n) ≡ 0
@@ -239,7 +257,7 @@ no_place w o (Some x) page value ne =
     let two = and_parts (is_phase w 1 && (page == x.page)) (header_at w page == 0) parts.0 in
     ne (eqb-true (header_at w page) 0 two.1))
 
-module _ (t u : TurnState) (was : InTurn t.pass) (is : InTurn u.pass) (b : IsBeside t.pass) (same : u.op ≡ t.op)
+module _ (t u : TurnState) (b : IsBeside t.pass) (same : u.op ≡ t.op)
     (cell : Cell) (a : Acts t.pass (step.Mark cell.page (2 ^ cell.index)) u.pass) (r : HandPointsInto t.pass cell) where
   points_there : pointed_cell t.pass.table.config.pages (world_at a.makes).now.words.pages r.value ≡ Some cell
   points_there = ap (λ (x : Steady). pointed_cell t.pass.table.config.pages x.pages r.value) a.turn.steady ∙ r.points
@@ -265,13 +283,15 @@ module _ (t u : TurnState) (was : InTurn t.pass) (is : InTurn u.pass) (b : IsBes
       let then_placed : Placing = chosen placed (place_now c m f) in
       record {
         call =
-            keeps_call t.pass (step.Mark cell.page (2 ^ cell.index)) u.pass a was.own was.holds is.history (λ n. refl)
+            keeps_call t.pass (step.Mark cell.page (2 ^ cell.index)) u.pass a (own_before a.makes) a.holds
+            a.makes.pass.history (λ n. refl)
             (λ n. ap (λ (x : Bool). done_in (record m.seats.holding { placing = if x then then_placed else placed }))
             (no_place m.words (object_made c f.op) (place_now c m f) cell.page (2 ^ cell.index) has_header))
             refl;
         steady = ap (λ (x : World). steady_of x) a.world ∙ a.turn.steady;
         counts =
-            keeps_counts t.pass (step.Mark cell.page (2 ^ cell.index)) u.pass a was.own was.holds is.history
+            keeps_counts t.pass (step.Mark cell.page (2 ^ cell.index)) u.pass a (own_before a.makes) a.holds
+            a.makes.pass.history
             (λ n. refl) refl;
       }
 
@@ -290,7 +310,7 @@ module _ (t u : TurnState) (was : InTurn t.pass) (is : InTurn u.pass) (b : IsBes
 
   pub goes_mark : GoesBeside t u
   goes_mark =
-      goes_step t u (step.Mark cell.page (2 ^ cell.index)) a was is b same refl refl refl mark_keeps marks_reached
+      goes_step t u (step.Mark cell.page (2 ^ cell.index)) a b same refl refl refl mark_keeps marks_reached
 
   pub marked_there : is_marked (now_of u.pass).words cell ≡ true
   marked_there =

@@ -12,7 +12,7 @@ use Rattle.mk_tracing.specs.Grays.{TracesReached}
 use Rattle.mk_tracing.specs.Tracing.{OwnStepsKeep}
 use Rattle.mk_tracing.proofs.StopSteps.{reached_marks_sweep_nothing}
 use Rattle.mk_turns.specs.Sweeping.{SweepsNothing, SweepsNothingFrom}
-use Rattle.mk_engines.specs.Beside.{MarksReachedAlone, seen_since}
+use Rattle.mk_engines.specs.Beside.{MarksReachedAlone}
 use Rattle.mk_engines.proofs.Since.{since_is}
 
 sweepless_from : (c : Config) (s : Seat) (w : World) (es : List Event) → OwnStepsKeep TracesReached c s w es

@@ -1,6 +1,6 @@
 //! What values of roots point into, and the marks by them.
 ghost use Rattle.std.specs.Prelude.{◌≡◌, ◌<◌, true};
-ghost use Rattle.mk_core.specs.Cells.{is_marked, pointed_cell, points_well};
+ghost use Rattle.mk_core.specs.Cells.{is_marked, points_well};
 ghost use Rattle.mk_words.specs.States.{now_of};
 ghost use Rattle.mk_cycle.specs.TurnKeeps.{KeepsGates};
 ghost use Rattle.mk_tracing.specs.Grays.{IsInHand};
@@ -9,22 +9,9 @@ ghost use Rattle.mk_engines.specs.Beside.{GoesBeside, IsBeside};
 
 use crate::steps::{look_at, mark_cell};
 use mk_core::{Word, has_bit};
-use mk_geom::{Cell, heap_page, lookup};
+use mk_geom::Cell;
+use mk_turns::cell_pointed;
 use mk_words::{Turn, Words};
-
-/// The cell into which a value points.
-fn cell_pointed(words: &Words, turn: &mut Turn, value: u64) -> Option<Cell>
-    requires one_table { turn.old.pass.table ≡ words.now }
-    requires beside { IsBeside turn.old.pass }
-    ensures on { GoesBeside turn.old turn.new }
-    ensures gates { KeepsGates turn.old.pass turn.new.pass }
-    ensures hand { hand_of turn.new.pass ≡ hand_of turn.old.pass }
-    ensures points { result ≡ pointed_cell words.now.config.pages (now_of turn.new.pass).words.pages value }
-{
-    let page = heap_page(words.pages(), value)?;
-    let header = look_at(words, turn, Word::Head(page));
-    lookup(words.pages(), header, value)
-}
 
 /// Whether the cell is marked.
 fn is_marked(words: &Words, turn: &mut Turn, cell: Cell) -> bool
@@ -49,6 +36,7 @@ pub(crate) fn mark_value(words: &Words, turn: &mut Turn, value: u64)
     ensures gates { KeepsGates turn.old.pass turn.new.pass }
     ensures well { points_well words.now.config.pages (now_of turn.new.pass).words value ≡ true }
 {
+    turn.is_in_order();
     let Some(cell) = cell_pointed(words, turn, value) else {
         return;
     };

@@ -1,5 +1,5 @@
 -- What a look of the turn's holder finds, and that it leaves all as it was.
-use Rattle.std.proofs.Common.{◌≡◌, ℕ, ◌%◌, true, false, [], ◌++◌, refl, sym, ◌∙◌, ap}
+use Rattle.std.proofs.Common.{◌≡◌, ℕ, ◌%◌, true, false, [], ◌++◌, refl, ◌∙◌, ap}
 use Rattle.std.specs.Prelude.{Option, slice_index_or, slice_index}
 use Rattle.std.proofs.lemmas.Bool.{lt-ltb}
 use Rattle.mk_never.specs.declared.operations.Op.{Op}
@@ -12,13 +12,12 @@ use Rattle.mk_core.specs.declared.events.Word.{Word}
 use Rattle.mk_core.specs.declared.events.Word.TheVariants as word
 use Rattle.mk_core.specs.declared.seats.Flight.{Flight}
 use Rattle.mk_core.specs.Frames.{Steady, steady_of}
-use Rattle.mk_core.specs.History.{World, first_world, left, world_behind}
+use Rattle.mk_core.specs.History.{World, left, world_behind}
 use Rattle.mk_core.specs.Moments.{Moment, flight_of}
 use Rattle.mk_core.specs.Order.{seat_exists}
 use Rattle.mk_core.specs.Readings.{Holds}
 use Rattle.mk_core.specs.Words.{named_word, phase_of, quarantine_word}
-use Rattle.mk_core.proofs.Histories.{left_more}
-use Rattle.mk_words.specs.States.{PassState, call_of, event_of, now_of, world_of}
+use Rattle.mk_words.specs.States.{PassState, call_of, now_of, world_of}
 use Rattle.mk_words.specs.Steps.{Finds, may_decide, moment_of}
 use Rattle.mk_words.specs.TurnSteps.{Acts, IsTurn}
 use Rattle.mk_words.proofs.Made.{made}
@@ -81,14 +80,6 @@ look_reaches p q o x turn acts plain a =
     reaches_still is_look p p q (IsAsLeft p.seat (world_of p)) (IsAsLeft p.seat (world_of p)) [] (step.Look x)
     (reaches_nothing is_look p (IsAsLeft p.seat (world_of p)) (left_same p.seat (world_of p))) a refl refl
     (acting_caller p acts) (plain_is_idle x plain) (looks_on p x (acting_now p o turn acts) plain)
-
--- What a look found is there after it.
-pub found_there : (p q : PassState) (x : Word) (n : ℕ) → Finds p (step.Look x) n q → named_word (now_of q).words x ≡ n
-found_there p q x n f =
-    ap (λ (r : PassState). named_word (now_of r).words x) f.makes.is
-    ∙ ap (λ (w : World). named_word w.now.words x) (left_more p.table.config (first_world p.table.config)
-    (p.seen ++ f.makes.others) (event_of p (step.Look x)))
-    ∙ sym f.finds
 
 -- What it finds is what the word is for the holder.
 module _ (p q : PassState) (o : Option Op) (x : Word) (n : ℕ) (turn : IsTurn p o) (f : Finds p (step.Look x) n q) where

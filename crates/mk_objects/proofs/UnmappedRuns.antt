@@ -46,12 +46,13 @@ use Rattle.mk_laws.proofs.Tests.{all_below_from}
 use Rattle.mk_words.specs.States.{PassState, call_of, now_of, world_of}
 use Rattle.mk_words.specs.Steps.{Finds, IsEnabledTo}
 use Rattle.mk_words.specs.TurnSteps.{Acts, IsTurn}
+use Rattle.mk_turns.proofs.PointedCells.{found_there}
 use Rattle.mk_objects.specs.FreeParts.{Changes, RunIsUnmapped, Unmaps, is_clearing}
 use Rattle.mk_objects.specs.Looking.{is_acting}
 use Rattle.mk_objects.specs.Placing.{IsOutOfStop, ComesTo}
 use Rattle.mk_objects.specs.Unchanged.{IsAsLeft}
 use Rattle.mk_objects.specs.Unmapping.{IsStillMapped, UnmappedTo, WipedTo, WipesTo}
-use Rattle.mk_objects.proofs.Looks.{acting_caller, acting_now, found_there}
+use Rattle.mk_objects.proofs.Looks.{acting_caller, acting_now}
 use Rattle.mk_objects.proofs.MayAct.{IsActing, may_look_heap, may_unmap, may_wipe, off_four}
 use Rattle.mk_objects.proofs.Reaching.{reaches_nothing, reaches_still, reaches_still_in_stop}
 use Rattle.mk_objects.proofs.ReachedParts.{reached_there, reaches_so}

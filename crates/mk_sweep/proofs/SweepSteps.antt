@@ -3,13 +3,13 @@ use Rattle.std.proofs.Common.{◌≡◌, ◌∙◌, ℕ, ◌+◌, ◌*◌, ◌^�
 use Rattle.std.proofs.Common.{option_and_then, refl, sym, ap, subst, arith, append-nil}
 use Rattle.std.specs.Prelude.{Some, None, slice_index, if◌then◌else◌, ◌&&◌, not}
 use Rattle.std.proofs.lemmas.Bool.{and_from, and_parts, eq-eqb, lt-ltb, ne_eqb}
-use Rattle.mk_sweep.proofs.Vocabulary.{Acts, Cell, Config, Has, InGlobal, InRegister, InWord, IsEnabledTo, IsHistory}
+use Rattle.mk_sweep.proofs.Vocabulary.{Acts, Cell, Config, InGlobal, InRegister, InWord, IsEnabledTo, IsHistory}
 use Rattle.mk_sweep.proofs.Vocabulary.{IsScannedWord, IsSettled, IsSweptValue, Moment, PassState, PlacedAllocation}
 use Rattle.mk_sweep.proofs.Vocabulary.{Step, SweepsBy, SweepsOn, TurnState, Untouched, Words, WordsState, World}
 use Rattle.mk_sweep.proofs.Vocabulary.{cell_of_allocation, event_of, has_no_pointers, header_in, heap_looks, is_mapped}
 use Rattle.mk_sweep.proofs.Vocabulary.{is_marked, is_phase, now_of, others_are_held, phase_of, placed_at, pointed_cell}
 use Rattle.mk_sweep.proofs.Vocabulary.{still_words, storage_of, untouched_of, world_of}
-use Rattle.mk_geom.specs.Addresses.{address_of}
+use Rattle.mk_geom.specs.Addresses.{address_of, page_at_address}
 use Rattle.mk_geom.specs.PageUses.{or_else}
 use Rattle.mk_core.specs.declared.events.Step.TheVariants as step
 use Rattle.mk_core.specs.declared.events.Word.{Word}
@@ -29,13 +29,16 @@ use Rattle.mk_laws.specs.Protocol.{has_place}
 use Rattle.mk_laws.proofs.MappedWords.{mapped_stays}
 use Rattle.mk_words.specs.Steps.{Finds}
 use Rattle.mk_words.specs.TurnSteps.{world_at}
+use Rattle.mk_words.proofs.Made.{own_before}
+use Rattle.mk_turns.specs.Pointing.{LooksForCell, MayLookAtHeaders}
+use Rattle.mk_turns.proofs.PointedCells.{found_there, looked_for}
 use Rattle.mk_tracing.specs.Stops.{IsWanted, hand_of, is_page_word, is_root}
 use Rattle.mk_tracing.specs.Tracing.{Traces, is_marking}
-use Rattle.mk_tracing.proofs.MaySteps.{may_mark_by_hand, marks_by}
+use Rattle.mk_tracing.proofs.MaySteps.{may_look, may_mark_by_hand, marks_by}
 use Rattle.mk_tracing.proofs.Parts.{traces_alike, traces_nothing, traces_then}
-use Rattle.mk_tracing.proofs.Steps.{found_there, step_untouched}
+use Rattle.mk_tracing.proofs.Steps.{step_untouched}
 use Rattle.mk_tracing.proofs.Stilled.{but_phase, found_now, hand_now, is_stopped_step, phase_there, root_hand}
-use Rattle.mk_tracing.proofs.Stilled.{still_wanted, stopped_traces, words_there}
+use Rattle.mk_tracing.proofs.Stilled.{look_words, still_wanted, stopped_traces, words_there}
 use Rattle.mk_sweep.specs.Swept.{IsSweptCell}
 use Rattle.mk_sweep.specs.Sweeping.{HasInHand, IsReachedCell, IsSweeping, word_looked_at}
 use Rattle.mk_sweep.proofs.Done.{looks_in_parts, looks_of_nothing, looks_of_step}
@@ -111,11 +114,11 @@ settled_kept p q pass same two settled =
     }
 
 module _ (t u : TurnState) (sweeping : IsSweeping t.pass)
-    (all : HoldsAll t.pass.table.config (now_of t.pass) t.pass.seat)
-    (own : Has t.pass.seats t.pass.seat) (same : u.op ≡ t.op) where
+    (all : HoldsAll t.pass.table.config (now_of t.pass) t.pass.seat) (same : u.op ≡ t.op) where
   pub sweeps_by_step : (s : Step) (a : Acts t.pass s u.pass) → is_stopped_step s ≡ true → is_marking s ≡ true
       → SweepsBy (world_of t.pass) t.pass.table.config (world_at a.makes).now s → SweepsOn t u (word_looked_at s)
   sweeps_by_step s a stopped kind ruled =
+      let own = own_before a.makes in
       let traces = stopped_traces t.pass u.pass s a sweeping.wanted all stopped own (SweepsBy (world_of t.pass))
       kind ruled in
       let wanted = still_wanted t.pass u.pass s a sweeping.wanted all stopped in
@@ -167,6 +170,24 @@ module _ (t u : TurnState) (sweeping : IsSweeping t.pass)
 
   pub on_undirty : (page : ℕ) → Acts t.pass (step.Undirty page) u.pass → SweepsOn t u []
   on_undirty page a = sweeps_by_step (step.Undirty page) a refl refl tt
+
+-- The cell into which a value points is looked for.
+
+pub may_look_at_headers : {p : PassState} → IsSweeping p → HoldsAll p.table.config (now_of p) p.seat
+    → MayLookAtHeaders p
+may_look_at_headers {p} sweeping all page lt = may_look p sweeping.wanted all (word.Head page) (lt-ltb page _ lt)
+
+module _ {value : ℕ} {t u : TurnState} (l : LooksForCell value t u) (sweeping : IsSweeping t.pass)
+    (all : HoldsAll t.pass.table.config (now_of t.pass) t.pass.seat) where
+  pub sweeps_for_cell : SweepsOn t u []
+  sweeps_for_cell =
+      looked_for (λ (v : TurnState). SweepsOn t v []) l (sweeps_from t sweeping)
+      (λ a. on_plain t u sweeping all l.op (word.Head (page_at_address value)) a refl)
+
+  pub words_for_cell : still_words u.pass ≡ still_words t.pass
+  words_for_cell =
+      looked_for (λ (v : TurnState). still_words v.pass ≡ still_words t.pass) l refl
+      (λ a. look_words t.pass u.pass sweeping.wanted all (word.Head (page_at_address value)) a)
 
 -- The hand stays, through looks that leave it.
 pub hand_kept : {t u : TurnState} {ns : List ℕ} {n : ℕ} → SweepsOn t u ns → hand_of u.pass ≡ hand_of t.pass
@@ -234,7 +255,7 @@ module _ (p q : PassState) (sweeping : IsSweeping p) (all : HoldsAll p.table.con
     m = (world_at acts.makes).now
 
     still : but_phase (world_at acts.makes).now.words ≡ still_words p
-    still = words_there p q (step.Look (word.Heap n)) acts sweeping.wanted all refl
+    still = words_there p q (step.Look (word.Heap n)) acts sweeping.wanted all
 
     abbrev gives : Bool → Bool → Bool → ℕ → Option Hand
     gives bare marked mapped value =
@@ -258,7 +279,7 @@ module _ (p q : PassState) (sweeping : IsSweeping p) (all : HoldsAll p.table.con
         and_from (is_in_stop p.table.config.callers m.words p.seat) (is_mapped_cell m.words m.seats.holding.placing
         cell)
         (and_from (is_phase m.words 2) (others_are_held p.table.config.callers m.words p.seat)
-        (eq-eqb (phase_of m.words) 2 (phase_there p q (step.Look (word.Heap n)) acts sweeping.wanted all refl))
+        (eq-eqb (phase_of m.words) 2 (phase_there p q (step.Look (word.Heap n)) acts sweeping.wanted all))
         (ap (λ (w : Words). others_are_held p.table.config.callers w p.seat) still ∙ all.1))
         (ap (λ (w : Words). is_mapped_cell w m.seats.holding.placing cell) still
         ∙ ap (λ (x : Holding). is_mapped_cell (now_of p).words x.placing cell) acts.holding

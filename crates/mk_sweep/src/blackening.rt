@@ -7,8 +7,8 @@ ghost use Rattle.mk_tracing.specs.Grays.{is_black};
 ghost use Rattle.mk_tracing.specs.Stops.{still_words};
 ghost use Rattle.mk_sweep.specs.Sweeping.{BlacksMore, IsSweeping, PageIsBlack, SweepsOn};
 
-use crate::stepping::{blacken_cell, look_at};
-use mk_core::{Word, cells_under, has_bit};
+use crate::stepping::look_at;
+use mk_core::{Word, bit, cells_under, has_bit};
 use mk_geom::Cell;
 use mk_words::{Stopped, Words};
 
@@ -26,7 +26,8 @@ fn blacken_if_marked(words: &Words, stop: &mut Stopped, marked: bool, cell: Cell
     if !marked {
         return;
     }
-    blacken_cell(words, stop, cell);
+    stop.is_in_order();
+    stop.black(words, cell.page, bit(cell.index));
 }
 
 /// Blackens the marked ones among a page's cells, where there are this many and these are its marks.

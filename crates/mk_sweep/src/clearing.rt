@@ -4,7 +4,6 @@ ghost use Rattle.mk_tracing.specs.Grays.{BlacksFewer, DirtyFewer};
 ghost use Rattle.mk_tracing.specs.Stops.{still_words};
 ghost use Rattle.mk_sweep.specs.Sweeping.{IsSweeping, SweepsOn};
 
-use crate::stepping::{unblack_page, undirty_page};
 use mk_words::{Stopped, Words};
 
 /// Clears all black words.
@@ -16,7 +15,8 @@ pub(crate) fn unblack_all(words: &Words, stop: &mut Stopped)
     ensures none { (p : ℕ) → p < words.now.config.pages → slice_index (still_words stop.new.pass).blacks p ≡ 0 }
 {
     for page in 0..words.pages() {
-        unblack_page(words, stop, page);
+        stop.is_in_order();
+        stop.unblack(words, page);
     }
 }
 
@@ -30,6 +30,7 @@ pub(crate) fn undirty_all(words: &Words, stop: &mut Stopped)
     ensures clean { (p : ℕ) → p < words.now.config.pages → slice_index (still_words stop.new.pass).dirty p ≡ 0 }
 {
     for page in 0..words.pages() {
-        undirty_page(words, stop, page);
+        stop.is_in_order();
+        stop.undirty(words, page);
     }
 }

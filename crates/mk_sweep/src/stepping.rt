@@ -1,11 +1,9 @@
 //! Steps of a sweep: in the stop, when the close is wanted and no marker attends.
-ghost use Rattle.std.specs.Prelude.{◌≡◌, ◌<◌, ◌^◌, [], ◌∷◌, true, slice_index};
-ghost use Rattle.mk_core.specs.Cells.{head_page};
+ghost use Rattle.std.specs.Prelude.{◌≡◌, ◌^◌, [], ◌∷◌, true, slice_index};
 ghost use Rattle.mk_core.specs.Ranges.{is_word};
-ghost use Rattle.mk_core.specs.StopConditions.{may_turn_black};
 ghost use Rattle.mk_core.specs.Words.{named_word};
 ghost use Rattle.mk_words.specs.States.{world_of};
-ghost use Rattle.mk_tracing.specs.Grays.{with_marks, with_blacks, without_blacks, without_dirty};
+ghost use Rattle.mk_tracing.specs.Grays.{with_marks};
 ghost use Rattle.mk_tracing.specs.Stops.{hand_of, is_page_word, is_root, still_words};
 ghost use Rattle.mk_sweep.specs.Swept.{IsScannedWord};
 ghost use Rattle.mk_sweep.specs.Sweeping.{HasInHand, IsReachedCell, IsSweeping, SweepsOn};
@@ -71,44 +69,4 @@ pub(crate) fn mark_cell(words: &Words, stop: &mut Stopped, cell: Cell)
 {
     stop.is_in_order();
     stop.mark(words, cell.page, bit(cell.index));
-}
-
-/// Blackens a marked cell, whose words point well or aren't scanned.
-pub(crate) fn blacken_cell(words: &Words, stop: &mut Stopped, cell: Cell)
-    requires one_table { stop.old.pass.table ≡ words.now }
-    requires sweeping { IsSweeping stop.old.pass }
-    requires page { cell.page < words.now.config.pages }
-    requires index { cell.index < 32 }
-    requires turns { may_turn_black words.now.config.pages (still_words stop.old.pass) cell ≡ true }
-    ensures on { SweepsOn stop.old stop.new [] }
-    ensures words { still_words stop.new.pass ≡ with_blacks cell.page (2 ^ cell.index) (still_words stop.old.pass) }
-{
-    stop.is_in_order();
-    stop.black(words, cell.page, bit(cell.index));
-}
-
-/// Clears a page's black word.
-pub(crate) fn unblack_page(words: &Words, stop: &mut Stopped, page: u64)
-    requires one_table { stop.old.pass.table ≡ words.now }
-    requires sweeping { IsSweeping stop.old.pass }
-    requires page { page < words.now.config.pages }
-    ensures on { SweepsOn stop.old stop.new [] }
-    ensures words { still_words stop.new.pass ≡ without_blacks page (still_words stop.old.pass) }
-{
-    stop.is_in_order();
-    stop.unblack(words, page);
-}
-
-/// Clears a page's dirty word, where nothing of the page is black.
-pub(crate) fn undirty_page(words: &Words, stop: &mut Stopped, page: u64)
-    requires one_table { stop.old.pass.table ≡ words.now }
-    requires sweeping { IsSweeping stop.old.pass }
-    requires page { page < words.now.config.pages }
-    requires own { slice_index (still_words stop.old.pass).blacks page ≡ 0 }
-    requires head { slice_index (still_words stop.old.pass).blacks (head_page (still_words stop.old.pass) page) ≡ 0 }
-    ensures on { SweepsOn stop.old stop.new [] }
-    ensures words { still_words stop.new.pass ≡ without_dirty page (still_words stop.old.pass) }
-{
-    stop.is_in_order();
-    stop.undirty(words, page);
 }

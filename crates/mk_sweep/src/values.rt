@@ -1,28 +1,15 @@
 //! What values point into, and the marks by them.
 ghost use Rattle.std.specs.Prelude.{◌≡◌, ◌<◌, [], true};
-ghost use Rattle.mk_core.specs.Cells.{is_marked, pointed_cell, points_well};
+ghost use Rattle.mk_core.specs.Cells.{is_marked, points_well};
 ghost use Rattle.mk_tracing.specs.Grays.{MarksMore};
 ghost use Rattle.mk_tracing.specs.Stops.{hand_of, still_words};
 ghost use Rattle.mk_sweep.specs.Sweeping.{HasInHand, IsSweeping, SweepsOn};
 
 use crate::stepping::{look_at, mark_cell};
 use mk_core::{Word, has_bit};
-use mk_geom::{Cell, heap_page, lookup};
+use mk_geom::Cell;
+use mk_turns::cell_pointed;
 use mk_words::{Stopped, Words};
-
-/// The cell into which a value points.
-fn cell_pointed(words: &Words, stop: &mut Stopped, value: u64) -> Option<Cell>
-    requires one_table { stop.old.pass.table ≡ words.now }
-    requires sweeping { IsSweeping stop.old.pass }
-    ensures on { SweepsOn stop.old stop.new [] }
-    ensures words { still_words stop.new.pass ≡ still_words stop.old.pass }
-    ensures hand { hand_of stop.new.pass ≡ hand_of stop.old.pass }
-    ensures points { result ≡ pointed_cell words.now.config.pages (still_words stop.old.pass).pages value }
-{
-    let page = heap_page(words.pages(), value)?;
-    let header = look_at(words, stop, Word::Head(page));
-    lookup(words.pages(), header, value)
-}
 
 /// Whether the cell is marked.
 fn is_marked(words: &Words, stop: &mut Stopped, cell: Cell) -> bool
@@ -47,6 +34,7 @@ pub(crate) fn mark_value(words: &Words, stop: &mut Stopped, value: u64)
     ensures more { MarksMore (still_words stop.old.pass) (still_words stop.new.pass) }
     ensures well { points_well words.now.config.pages (still_words stop.new.pass) value ≡ true }
 {
+    stop.is_in_order();
     let Some(cell) = cell_pointed(words, stop, value) else {
         return;
     };

@@ -1,21 +1,17 @@
 -- Marks that are added: what points well goes on doing so.
-use Rattle.std.proofs.Common.{◌≡◌, ◌≢◌, ℕ, ◌^◌, ◌<◌, Bool, true, false, List, length}
-use Rattle.std.proofs.Common.{option_and_then, refl, sym, ◌∙◌, ap, subst}
-use Rattle.std.specs.Prelude.{slice_index_or, Option, Some, None, slice_index, slice_set, bit_or}
-use Rattle.std.specs.Prelude.{if◌then◌else◌}
+use Rattle.std.proofs.Common.{◌≡◌, ◌≢◌, ℕ, ◌^◌, ◌<◌, true, List, length, refl, sym, ◌∙◌, ap, subst}
+use Rattle.std.specs.Prelude.{Option, Some, None, slice_index, slice_set, bit_or}
 use Rattle.mk_geom.specs.declared.addresses.Cell.{Cell}
 use Rattle.mk_geom.specs.declared.pages.Page.{Page}
-use Rattle.mk_geom.specs.Addresses.{is_heap_address, page_at_address, word_at_address, cell_at, cell_under}
-use Rattle.mk_geom.specs.Headers.{header_of}
-use Rattle.mk_geom.specs.Storages.{free_page}
 use Rattle.mk_core.specs.Bits.{has_bit}
 use Rattle.mk_core.specs.Bounded.{is_none_or}
 use Rattle.mk_core.specs.Cells.{is_marked, pointed_cell, points_well}
-use Rattle.mk_core.specs.Words.{Words, header_at}
+use Rattle.mk_core.specs.Words.{Words}
 use Rattle.mk_core.proofs.Lengths.{histories_keep_lengths}
 use Rattle.mk_core.proofs.PointedPages.{pointed_within}
 use Rattle.mk_core.proofs.WordBits.{bits_stay, bits_added, bit_for_small, bit_for_has}
 use Rattle.mk_words.specs.States.{PassState}
+use Rattle.mk_turns.proofs.PointedCells.{outside_none}
 use Rattle.mk_tracing.specs.Grays.{IsInHand, MarksMore}
 use Rattle.mk_tracing.specs.Stops.{still_words, hand_of}
 
@@ -69,14 +65,7 @@ marked_now w v cell lt small e =
     ∙ bits_added w.marks cell.page (2 ^ cell.index) cell.index lt
     (subst (λ n. has_bit n cell.index ≡ true) (bit_for_small cell.index small) (bit_for_has cell.index small))
 
--- what lies outside the heap points into nothing
-pub outside_none : (pages : ℕ) (ps : List Page) (u : ℕ) → is_heap_address pages u ≡ false
-    → pointed_cell pages ps u ≡ None
-unfolding pointed_cell
-outside_none pages ps u out = ap (λ (b : Bool). if b then option_and_then
-    (λ h. cell_under h (page_at_address u) (word_at_address u))
-    (header_of (slice_index_or ps (page_at_address u) free_page).header) else None) out
-
+-- null points into nothing
 pub zero_none : (pages : ℕ) (ps : List Page) → pointed_cell pages ps 0 ≡ None
 zero_none pages ps = outside_none pages ps 0 refl
 
@@ -84,12 +73,6 @@ zero_none pages ps = outside_none pages ps 0 refl
 pub some_not_zero : (pages : ℕ) (ps : List Page) (u : ℕ) (cell : Cell) → pointed_cell pages ps u ≡ Some cell → u ≢ 0
 some_not_zero pages ps u cell is z =
     let bad : None ≡ Some cell = sym (zero_none pages ps) ∙ ap (λ n. pointed_cell pages ps n) (sym z) ∙ is in cc
-
--- A lookup by the header that is there finds the cell.
-pub found_by_header : (pages : ℕ) (w : Words) (u : ℕ)
-    → cell_at pages (header_at w (page_at_address u)) u ≡ pointed_cell pages w.pages u
-unfolding pointed_cell
-found_by_header pages w u = refl
 
 -- The hand, through looks that leave it and the words.
 pub hand_kept : (p q : PassState) (u : ℕ) → hand_of q ≡ hand_of p → IsInHand p u → IsInHand q u

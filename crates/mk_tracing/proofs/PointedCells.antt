@@ -13,9 +13,10 @@ use Rattle.mk_geom.proofs.HeaderLemmas.{header_of-word_of}
 use Rattle.mk_core.specs.Cells.{is_marked, pointed_cell, points_well}
 use Rattle.mk_core.specs.Words.{Words, header_at}
 use Rattle.mk_words.specs.States.{PassState, WordsState}
+use Rattle.mk_turns.proofs.PointedCells.{found_by_header}
 use Rattle.mk_tracing.specs.Grays.{HandPointsInto, IsInHand, MarksMore}
 use Rattle.mk_tracing.specs.Stops.{hand_of, still_words}
-use Rattle.mk_tracing.proofs.MoreMarks.{found_by_header, hand_kept, some_not_zero, well_none, well_some}
+use Rattle.mk_tracing.proofs.MoreMarks.{hand_kept, some_not_zero, well_none, well_some}
 
 -- The hand points into the cell that its value points into.
 pub hand_points : (p : PassState) (t : WordsState) (value : ℕ) (cell : Cell) → p.table ≡ t

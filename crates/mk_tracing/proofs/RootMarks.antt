@@ -25,9 +25,10 @@ use Rattle.mk_laws.proofs.Protocols.{lists_keep_the_protocol}
 use Rattle.mk_laws.specs.Images.{flight_among, shown}
 use Rattle.mk_laws.proofs.InvariantHistories.{histories_keep_the_invariant}
 use Rattle.mk_words.specs.States.{PassState, now_of}
+use Rattle.mk_turns.proofs.PointedCells.{outside_none}
 use Rattle.mk_tracing.specs.Grays.{MarksMore, RootsPointWell}
 use Rattle.mk_tracing.specs.Stops.{is_root}
-use Rattle.mk_tracing.proofs.MoreMarks.{outside_none, well_more, well_none, zero_none, marked_as}
+use Rattle.mk_tracing.proofs.MoreMarks.{well_more, well_none, zero_none, marked_as}
 
 -- Each value below one points well, and so does the next.
 pub values_then : (pages : ℕ) (v x : Words) (value : ℕ → ℕ) (i : ℕ) → MarksMore v x

@@ -28,7 +28,7 @@ use Rattle.mk_core.specs.declared.seats.Placing.{Placing}
 use Rattle.mk_core.specs.declared.seats.Progress.{Progress}
 use Rattle.mk_core.specs.declared.seats.Stage.{Stage}
 use Rattle.mk_core.specs.declared.seats.Stage.TheVariants as stage
-use Rattle.mk_core.specs.Words.{Words, phase_of, header_at, named_word}
+use Rattle.mk_core.specs.Words.{Words, phase_of, header_at}
 use Rattle.mk_core.specs.Accesses.{found, caller_number}
 use Rattle.mk_core.specs.declared.events.Answer.TheVariants as answer
 use Rattle.mk_core.specs.Calls.{at_rest, still}
@@ -49,9 +49,9 @@ use Rattle.mk_core.specs.Readings.{Holds}
 use Rattle.mk_core.specs.StopConditions.{marks_place}
 use Rattle.mk_core.specs.TurnConditions.{place_now}
 use Rattle.mk_core.proofs.Conditions.{meets_enabled}
-use Rattle.mk_core.proofs.Histories.{calls_more, left_more}
+use Rattle.mk_core.proofs.Histories.{calls_more}
 use Rattle.mk_words.specs.States.{PassState, now_of, call_of, world_of, event_of}
-use Rattle.mk_words.specs.Steps.{Makes, Finds, IsEnabledTo, may_decide as may_decide_call}
+use Rattle.mk_words.specs.Steps.{Makes, IsEnabledTo, may_decide as may_decide_call}
 use Rattle.mk_words.specs.TurnSteps.{Acts, world_at}
 use Rattle.mk_words.proofs.Undecided.{decides_nothing}
 use Rattle.mk_tracing.specs.Stops.{HolderIsLoaded, is_loaded, is_loaded_at}
@@ -303,11 +303,3 @@ still_ready p q s m same ready =
     same_call (Caller k) e = ap (λ (fs : List Flight). is_loaded_at (slice_index_or fs k at_rest).stage) e
     same_call (Marker k) e = refl
     same_call Host e = refl
-
--- what a look found is there after it
-pub found_there : (p q : PassState) (x : Word) (n : ℕ) → Finds p (step.Look x) n q → named_word (now_of q).words x ≡ n
-found_there p q x n f =
-    ap (λ (r : PassState). named_word (now_of r).words x) f.makes.is
-    ∙ ap (λ (w : World). named_word w.now.words x) (left_more p.table.config (first_world p.table.config)
-    (p.seen ++ f.makes.others) (event_of p (step.Look x)))
-    ∙ sym f.finds

@@ -21,7 +21,7 @@ use Rattle.mk_geom.specs.PageUses.{or_else}
 use Rattle.mk_never.specs.declared.operations.Op.{Op}
 use Rattle.mk_core.specs.Cells.{header_in, pointed_cell, is_marked, has_no_pointers}
 use Rattle.mk_core.specs.Effects.{markers_behind, hand_given, hand_of_cell, is_in_stop, is_mapped_cell}
-use Rattle.mk_core.specs.Frames.{HoldsAll, Steady, Written, steady_of, written_of}
+use Rattle.mk_core.specs.Frames.{TurnIsLeft, HoldsAll, Steady, Written, steady_of, written_of}
 use Rattle.mk_core.specs.History.{World, world_behind}
 use Rattle.mk_core.specs.Moments.{Moment, outside}
 use Rattle.mk_core.specs.Readings.{Holds, NoneAttends}
@@ -31,11 +31,12 @@ use Rattle.mk_words.specs.Seats.{Has}
 use Rattle.mk_words.specs.States.{PassState, now_of, world_of, event_of}
 use Rattle.mk_words.specs.Steps.{Finds}
 use Rattle.mk_words.specs.TurnSteps.{Acts, world_at}
+use Rattle.mk_turns.proofs.PointedCells.{found_there}
 use Rattle.mk_tracing.specs.Grays.{with_marks, with_blacks, without_blacks, without_dirty, MarksOn, IsInHand}
 use Rattle.mk_tracing.specs.Grays.{TracesReached}
-use Rattle.mk_tracing.specs.Stops.{IsWanted, is_page_word, is_root, still_words, hand_of}
+use Rattle.mk_tracing.specs.Stops.{IsWanted, is_page_word, is_root, is_still_word, still_words, hand_of}
 use Rattle.mk_tracing.specs.Tracing.{Traces, untouched_of, is_marking}
-use Rattle.mk_tracing.proofs.Steps.{is_quiet, is_late, step_counts, step_untouched, still_ready, found_there}
+use Rattle.mk_tracing.proofs.Steps.{is_quiet, is_late, step_counts, step_untouched, still_ready}
 use Rattle.mk_tracing.proofs.Parts.{traces_step}
 
 abbrev words_by : Steady → Written → List ℕ → List ℕ → Words
@@ -63,11 +64,15 @@ words_by s y marks blacks =
 abbrev pub but_phase : Words → Words
 but_phase w = record w { phase = 0 }
 
--- names of words but the phase
-
-abbrev pub is_still_name : Word → Bool
-is_still_name word.Phase = false
-is_still_name _ = true
+-- What leaves the holder its own in the stop leaves the words but the phase.
+pub words_left : {w v : World} → TurnIsLeft w v → written_of v ≡ written_of w → phase_of w.now.words ≡ 2
+    → NoneAttends w.now → but_phase v.now.words ≡ but_phase w.now.words
+words_left {w} {v} turn written two none =
+    let there = turn.stopped two none in
+    ap (λ (x : Steady). words_by x (written_of v) v.now.words.marks v.now.words.blacks) turn.steady
+    ∙ ap (λ (y : Written). words_by (steady_of w) y v.now.words.marks v.now.words.blacks) written
+    ∙ ap (λ (xs : List ℕ). words_by (steady_of w) (written_of w) xs v.now.words.blacks) there.1
+    ∙ ap (words_by (steady_of w) (written_of w) w.now.words.marks) there.2
 
 -- the steps in the stop after the wish
 abbrev pub is_stopped_step : Step → Bool
@@ -98,31 +103,30 @@ abbrev NoneOf : List MarkerState → Type 0
 NoneOf xs = (k : ℕ) → is_attending (slice_index_or xs k outside).presence ≡ false
 
 module _ (p q : PassState) (s : Step) (a : Acts p s q) (wanted : IsWanted p)
-    (all : HoldsAll p.table.config (now_of p) p.seat) (stopped : is_stopped_step s ≡ true) where
-  there : (NoneAttends (world_at a.makes).now) × ((world_at a.makes).now.words.marks ≡ (now_of p).words.marks)
-      × ((world_at a.makes).now.words.blacks ≡ (now_of p).words.blacks)
-  there = a.turn.stopped wanted.phase wanted.none
-
+    (all : HoldsAll p.table.config (now_of p) p.seat) where
   pub phase_there : phase_of (world_at a.makes).now.words ≡ 2
   phase_there = ap (λ (x : Steady). x.phase) a.turn.steady ∙ wanted.phase
 
   pub words_there : but_phase (world_at a.makes).now.words ≡ still_words p
-  words_there =
-      ap (λ (x : Steady). words_by x (written_of (world_at a.makes)) (world_at a.makes).now.words.marks
-      (world_at a.makes).now.words.blacks) a.turn.steady
-      ∙ ap (λ (y : Written). words_by (steady_of (world_of p)) y (world_at a.makes).now.words.marks
-      (world_at a.makes).now.words.blacks) (a.stop all)
-      ∙ ap (λ (xs : List ℕ). words_by (steady_of (world_of p)) (written_of (world_of p)) xs
-      (world_at a.makes).now.words.blacks) there.1
-      ∙ ap (λ (xs : List ℕ). words_by (steady_of (world_of p)) (written_of (world_of p)) (now_of p).words.marks xs)
-      there.2
+  words_there = words_left a.turn (a.stop all) wanted.phase wanted.none
 
+  -- none attends after it either
+  pub none_after : NoneAttends (now_of q)
+  none_after =
+      subst NoneOf
+      (sym (ap (λ (w : World). w.now.seats.markers) a.world
+      ∙ markers_stay p.table.config (world_at a.makes).now p.seat
+      (found p.table.config (world_at a.makes).now (event_of p s)) s (now_of p) all.0))
+      (a.turn.stopped wanted.phase wanted.none).0
+
+module _ (p q : PassState) (s : Step) (a : Acts p s q) (wanted : IsWanted p)
+    (all : HoldsAll p.table.config (now_of p) p.seat) (stopped : is_stopped_step s ≡ true) where
   late : is_late (world_at a.makes).now.words s ≡ true
   late = by s
     where
       by : (x : Step) → is_late (world_at a.makes).now.words x ≡ true
       by (step.Mark pg v) = ap not (ne_eqb (phase_of (world_at a.makes).now.words) 1
-          (λ e. let two = phase_there in omega arith))
+          (λ e. let two = phase_there p q s a wanted all in omega arith))
       by _ = refl
 
   untouched : untouched_of (world_of q) ≡ untouched_of (world_of p)
@@ -134,11 +138,9 @@ module _ (p q : PassState) (s : Step) (a : Acts p s q) (wanted : IsWanted p)
         ready = still_ready p q s a.makes untouched wanted.ready;
         phase =
             ap (λ (w : World). phase_of w.now.words) a.world
-            ∙ ap (λ n. n % 8) (phase_behind p.table.config (world_at a.makes) p.seat s stopped) ∙ phase_there;
-        none = subst NoneOf
-            (sym (ap (λ (w : World). w.now.seats.markers) a.world
-            ∙ markers_stay p.table.config (world_at a.makes).now p.seat
-            (found p.table.config (world_at a.makes).now (event_of p s)) s (now_of p) all.0)) there.0;
+            ∙ ap (λ n. n % 8) (phase_behind p.table.config (world_at a.makes) p.seat s stopped)
+            ∙ phase_there p q s a wanted all;
+        none = none_after p q s a wanted all;
       }
 
   pub stopped_traces : Has p.seats p.seat → (rule : Config → Moment → Step → Type 0) → is_marking s ≡ true
@@ -150,25 +152,25 @@ module _ (p q : PassState) (s : Step) (a : Acts p s q) (wanted : IsWanted p)
 -- what each step leaves
 
 module _ (p q : PassState) (wanted : IsWanted p) (all : HoldsAll p.table.config (now_of p) p.seat) where
-  pub look_words : (x : Word) → Acts p (step.Look x) q → is_quiet (step.Look x) ≡ true → still_words q ≡ still_words p
-  look_words x a quiet = ap (λ (w : World). but_phase w.now.words) a.world ∙ words_there p q
-      (step.Look x) a wanted all quiet
+  pub look_words : (x : Word) → Acts p (step.Look x) q → still_words q ≡ still_words p
+  look_words x a = ap (λ (w : World). but_phase w.now.words) a.world ∙ words_there p q
+      (step.Look x) a wanted all
 
   pub mark_words : (pg v : ℕ) → Acts p (step.Mark pg v) q → still_words q ≡ with_marks pg v (still_words p)
   mark_words pg v a = ap (λ (w : World). but_phase w.now.words) a.world ∙ ap (with_marks pg v)
-      (words_there p q (step.Mark pg v) a wanted all refl)
+      (words_there p q (step.Mark pg v) a wanted all)
 
   pub black_words : (pg v : ℕ) → Acts p (step.Black pg v) q → still_words q ≡ with_blacks pg v (still_words p)
   black_words pg v a = ap (λ (w : World). but_phase w.now.words) a.world ∙ ap (with_blacks pg v)
-      (words_there p q (step.Black pg v) a wanted all refl)
+      (words_there p q (step.Black pg v) a wanted all)
 
   pub unblack_words : (pg : ℕ) → Acts p (step.Unblack pg) q → still_words q ≡ without_blacks pg (still_words p)
   unblack_words pg a = ap (λ (w : World). but_phase w.now.words) a.world ∙ ap (without_blacks pg)
-      (words_there p q (step.Unblack pg) a wanted all refl)
+      (words_there p q (step.Unblack pg) a wanted all)
 
   pub undirty_words : (pg : ℕ) → Acts p (step.Undirty pg) q → still_words q ≡ without_dirty pg (still_words p)
   undirty_words pg a = ap (λ (w : World). but_phase w.now.words) a.world ∙ ap (without_dirty pg)
-      (words_there p q (step.Undirty pg) a wanted all refl)
+      (words_there p q (step.Undirty pg) a wanted all)
 
   pub marks_on : Has p.seats p.seat → (s : Step) → Acts p s q → is_stopped_step s ≡ true → (o o' : Option Op) → o' ≡ o
       → ((w : World) → but_phase w.now.words ≡ still_words p → w.now.seats.holding ≡ (now_of p).seats.holding
@@ -180,7 +182,7 @@ module _ (p q : PassState) (wanted : IsWanted p) (all : HoldsAll p.table.config 
         op = same;
         wanted = still_wanted p q s a wanted all stopped;
         traces = stopped_traces p q s a wanted all stopped own TracesReached (marking s stopped)
-            (ruled (world_at a.makes) (words_there p q s a wanted all stopped) a.holding);
+            (ruled (world_at a.makes) (words_there p q s a wanted all) a.holding);
       }
     where
       marking : (x : Step) → is_stopped_step x ≡ true → is_marking x ≡ true
@@ -191,16 +193,16 @@ module _ (p q : PassState) (wanted : IsWanted p) (all : HoldsAll p.table.config 
 
 -- what a look finds, and the hand that it gives
 
-still_name : (w : Words) (x : Word) → is_still_name x ≡ true → named_word (but_phase w) x ≡ named_word w x
+pub still_name : (w : Words) (x : Word) → is_still_word x ≡ true → named_word (but_phase w) x ≡ named_word w x
 still_name w word.Phase h = cc
 still_name w _ h = refl
 
 module _ (p q : PassState) (wanted : IsWanted p) (all : HoldsAll p.table.config (now_of p) p.seat) (x : Word)
     (a : Acts p (step.Look x) q) (n : ℕ) (finds : Finds p (step.Look x) n q) where
-  pub look_finds : is_still_name x ≡ true → is_quiet (step.Look x) ≡ true → n ≡ named_word (still_words p) x
-  look_finds name quiet =
+  pub look_finds : is_still_word x ≡ true → n ≡ named_word (still_words p) x
+  look_finds name =
       sym (found_there p q x n finds) ∙ sym (still_name (now_of q).words x name) ∙ ap (λ (w : Words). named_word w x)
-      (look_words p q wanted all x a quiet)
+      (look_words p q wanted all x a)
 
   pub found_now : found p.table.config (world_at a.makes).now (event_of p (step.Look x)) ≡ n
   found_now = ap (λ (w : World). named_word w.now.words x) (sym a.world) ∙ found_there p q x n finds
@@ -264,7 +266,7 @@ marked_hand p q wanted all i a n finds cell pointed marked scanned =
     m' = (world_at a.makes).now
 
     same : but_phase m'.words ≡ still_words p
-    same = words_there p q (step.Look (word.Heap i)) a wanted all refl
+    same = words_there p q (step.Look (word.Heap i)) a wanted all
 
     pointed_now : pointed_cell p.table.config.pages m'.words.pages (address_of i) ≡ Some cell
     pointed_now = ap (λ (w : Words). pointed_cell p.table.config.pages w.pages (address_of i)) same ∙ pointed

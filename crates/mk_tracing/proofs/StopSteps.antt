@@ -1,8 +1,9 @@
 -- Each step in the stop goes on with the marking.
-use Rattle.std.proofs.Common.{◌≡◌, ◌≢◌, ℕ, ◌+◌, ◌*◌, ◌^◌, ◌<◌, true, false, Option, refl, sym, ◌∙◌, ap, subst, arith}
+use Rattle.std.proofs.Common.{◌≡◌, ◌≢◌, ℕ, ◌+◌, ◌*◌, ◌^◌, ◌<◌, true, Option, refl, sym, ◌∙◌, ap, subst, arith}
 use Rattle.std.specs.Prelude.{Some, slice_index}
 use Rattle.std.proofs.lemmas.Bool.{lt-ltb}
 use Rattle.mk_geom.specs.declared.addresses.Cell.{Cell}
+use Rattle.mk_geom.specs.Addresses.{address_of}
 use Rattle.mk_core.specs.declared.config.Config.{Config}
 use Rattle.mk_core.specs.declared.events.Step.TheVariants as step
 use Rattle.mk_core.specs.declared.events.Word.{Word}
@@ -10,7 +11,7 @@ use Rattle.mk_core.specs.declared.events.Word.TheVariants as word
 use Rattle.mk_core.specs.declared.seats.Hand.{Hand}
 use Rattle.mk_core.specs.declared.seats.Holding.{Holding}
 use Rattle.mk_core.specs.Bounded.{is_some_and}
-use Rattle.mk_core.specs.Cells.{pointed_cell, cell_words, first_word, has_no_pointers, header_in}
+use Rattle.mk_core.specs.Cells.{pointed_cell, cell_words, first_word}
 use Rattle.mk_core.specs.Cycles.{is_unmarked}
 use Rattle.mk_core.specs.Frames.{HoldsAll}
 use Rattle.mk_core.specs.History.{World, IsHistory}
@@ -23,18 +24,18 @@ use Rattle.std.specs.Prelude.{Bool, ◌&&◌, not}
 use Rattle.mk_core.specs.Words.{Words, header_at}
 use Rattle.mk_core.proofs.PointedPages.{pointed_within}
 use Rattle.mk_words.specs.Seats.{Has}
-use Rattle.mk_words.specs.States.{PassState, TurnState, now_of}
+use Rattle.mk_words.specs.States.{PassState, TurnState, WordsState, now_of}
 use Rattle.mk_words.specs.Steps.{Finds}
 use Rattle.mk_words.specs.TurnSteps.{Acts}
 use Rattle.mk_words.proofs.Unmarked.{pointed_has_header}
 use Rattle.mk_tracing.specs.Grays.{ReachedMarksSweepNothing, HasDirtyPart, IsGray, IsGrayWord, IsInHand, HandPointsInto}
-use Rattle.mk_tracing.specs.Grays.{MarksOn, MarksReached, TracesReached}
+use Rattle.mk_tracing.specs.Grays.{IsDue, MarksOn, MarksReached, TracesReached}
 use Rattle.mk_tracing.specs.Stops.{IsWanted, is_page_word, is_root, still_words}
 use Rattle.mk_tracing.specs.Tracing.{is_marking}
 use Rattle.mk_tracing.proofs.CellWords.{cell_of_word, words_in_heap}
 use Rattle.mk_tracing.proofs.MaySteps.{marks_by}
 use Rattle.mk_tracing.proofs.Steps.{is_quiet}
-use Rattle.mk_tracing.proofs.Stilled.{but_phase, marks_on, marked_hand}
+use Rattle.mk_tracing.proofs.Stilled.{but_phase, look_finds, marks_on, marked_hand}
 use Rattle.mk_tracing.proofs.Parts.{traces_nothing, traces_then}
 
 -- The marking goes on, and on.
@@ -139,29 +140,53 @@ module _ (t u : TurnState) (wanted : IsWanted t.pass) (all : HoldsAll t.pass.tab
   pub on_undirty : (page : ℕ) → Acts t.pass (step.Undirty page) u.pass → MarksOn t u
   on_undirty page a = marks_on t.pass u.pass wanted all own (step.Undirty page) a refl t.op u.op same (λ w e h. tt)
 
--- a word of a gray cell
+-- A word of a gray cell of this many words.
+module _ (p : PassState) (history : IsHistory p.table.config p.seen) (t : WordsState) (table : p.table ≡ t)
+    (cell : Cell) (size i : ℕ) (due : IsDue t.config.pages (still_words p) cell size) (lt : i < size) where
+  abbrev n : ℕ
+  n = 64 * cell.page + cell.index * size + i
 
-pub gray_word : (pages : ℕ) (w : Words) (cell : Cell) (i : ℕ) → IsGray pages w cell → i < cell_words w cell
-    → IsGrayWord pages w (first_word w cell + i)
-gray_word pages w cell i gray li = record { cell = cell; gray = gray; least = omega arith; below = omega arith }
+  gray : IsGray p.table.config.pages (still_words p) cell
+  gray = subst (λ (x : WordsState). IsGray x.config.pages (still_words p) cell) (sym table) due.gray
 
-module _ (p : PassState) (history : IsHistory p.table.config p.seen) (cell : Cell) (i : ℕ)
-    (gray : IsGray p.table.config.pages (still_words p) cell)
-    (scanned : has_no_pointers (header_in (still_words p) cell.page) ≡ false)
-    (li : i < cell_words (still_words p) cell) where
-  pub word_named : is_word p.table.config (word.Heap (first_word (still_words p) cell + i)) ≡ true
-  word_named = lt-ltb (first_word (still_words p) cell + i) (64 * p.table.config.pages)
-      (words_in_heap p.table.config p.seen cell i history gray.page gray.index scanned li)
+  within : i < cell_words (still_words p) cell
+  within = subst (λ k. i < k) due.words lt
 
-  pub word_hand : (q : PassState) → IsWanted p → HoldsAll p.table.config (now_of p) p.seat
-      → (n : ℕ) (a : Acts p (step.Look (word.Heap (first_word (still_words p) cell + i))) q)
-      → Finds p (step.Look (word.Heap (first_word (still_words p) cell + i))) n q
-      → n ≡ slice_index (still_words p).heap (first_word (still_words p) cell + i) → n ≢ 0 → IsInHand q n
-  word_hand q wanted all n a finds is some =
-      marked_hand p q wanted all (first_word (still_words p) cell + i) a n finds cell
-      (cell_of_word p.table.config p.seen cell i history wanted.phase gray.page gray.index scanned li
-      (λ z. some (is ∙ z)))
-      gray.marked scanned
+  pub same_word : 64 * cell.page + cell.index * size + i ≡ first_word (still_words p) cell + i
+  same_word = ap (λ k. 64 * cell.page + cell.index * k + i) due.words
+
+  pub gray_word : IsGrayWord p.table.config.pages (still_words p) (64 * cell.page + cell.index * size + i)
+  gray_word =
+      let li = within in
+      subst (λ k. IsGrayWord p.table.config.pages (still_words p) k) (sym same_word)
+      (record { cell = cell; gray = gray; least = omega arith; below = omega arith })
+
+  in_heap : n < 64 * p.table.config.pages
+  in_heap =
+      subst (λ k. k < 64 * p.table.config.pages) (sym same_word)
+      (words_in_heap p.table.config p.seen cell i history gray.page gray.index due.scanned within)
+
+  pub word_named : is_word p.table.config (word.Heap (64 * cell.page + cell.index * size + i)) ≡ true
+  word_named = lt-ltb n (64 * p.table.config.pages) in_heap
+
+  pub word_near : 64 * cell.page + cell.index * size + i < 262144
+  word_near = let near = in_heap in let few = history.within_limits.pages.1 in omega arith
+
+  module _ (q : PassState) (wanted : IsWanted p) (all : HoldsAll p.table.config (now_of p) p.seat) (v : ℕ)
+      (a : Acts p (step.Look (word.Heap (64 * cell.page + cell.index * size + i))) q)
+      (finds : Finds p (step.Look (word.Heap (64 * cell.page + cell.index * size + i))) v q) where
+    pub word_found : v ≡ slice_index (still_words p).heap (first_word (still_words p) cell + i)
+    word_found =
+        look_finds p q wanted all (word.Heap n) a v finds refl
+        ∙ ap (λ k. slice_index (still_words p).heap k) same_word
+
+    pub word_hand : v ≢ 0 → IsInHand q v
+    word_hand some =
+        marked_hand p q wanted all n a v finds cell
+        (ap (λ k. pointed_cell p.table.config.pages (still_words p).pages (address_of k)) same_word
+        ∙ cell_of_word p.table.config p.seen cell i history wanted.phase gray.page gray.index due.scanned within
+        (λ z. some (word_found ∙ z)))
+        gray.marked due.scanned
 
 -- The cell into which the hand points lies in the heap.
 pub reached_within : (p : PassState) (cell : Cell) → HandPointsInto p cell
@@ -174,17 +199,6 @@ pub reached_in_use : (p : PassState) (cell : Cell) → IsHistory p.table.config 
 reached_in_use p cell history wanted r =
     pointed_has_header p.table.config p.seen history r.value cell (λ four. (let two = wanted.phase in omega arith))
     r.points
-
--- The number of a cell's word is small.
-pub word_near : (p : PassState) → IsHistory p.table.config p.seen → (cell : Cell) (i size : ℕ)
-    → IsGray p.table.config.pages (still_words p) cell
-    → has_no_pointers (header_in (still_words p) cell.page) ≡ false → size ≡ cell_words (still_words p) cell → i < size
-    → 64 * cell.page + cell.index * size + i < 262144
-word_near p history cell i size gray scanned is li =
-    let near = words_in_heap p.table.config p.seen cell i history gray.page gray.index scanned
-    (subst (λ k. i < k) is li) in
-    let few = history.within_limits.pages.1 in
-    subst (λ k. 64 * cell.page + cell.index * k + i < 262144) (sym is) (omega arith)
 
 -- A mark by what stood in a root or a marked cell isn't sweeping.
 pub reached_marks_sweep_nothing : ReachedMarksSweepNothing

@@ -14,10 +14,11 @@ use Rattle.mk_words.specs.Seats.{Has}
 use Rattle.mk_words.specs.States.{PassState, now_of}
 use Rattle.mk_words.specs.Steps.{Finds}
 use Rattle.mk_words.specs.TurnSteps.{Acts, world_at}
+use Rattle.mk_turns.proofs.PointedCells.{found_there}
 use Rattle.mk_tracing.specs.Grays.{TracesReached}
 use Rattle.mk_tracing.specs.Stops.{HolderIsLoaded}
 use Rattle.mk_tracing.specs.Tracing.{Traces, Counted, is_tracing, is_marking, is_waiting, is_want}
-use Rattle.mk_tracing.proofs.Steps.{step_counts, step_untouched, still_ready, found_there}
+use Rattle.mk_tracing.proofs.Steps.{step_counts, step_untouched, still_ready}
 use Rattle.mk_tracing.proofs.Parts.{traces_step, traces_wider, counted_then, counted_wider}
 
 phase_there : (p q : PassState) (s : Step) (a : Acts p s q)

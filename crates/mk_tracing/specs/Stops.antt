@@ -42,6 +42,11 @@ is_page_word (word.Black p) = true
 is_page_word (word.Dirty p) = true
 is_page_word _ = false
 
+-- any word but the phase, which markers count in
+abbrev pub is_still_word : Word → Bool
+is_still_word word.Phase = false
+is_still_word _ = true
+
 -- a register, or a global
 abbrev pub is_root : Word → Bool
 is_root (word.Reg j r) = true

@@ -1,2 +1,3 @@
 pub mod Doing
+pub mod PointedCells
 pub mod Sweeping

@@ -1,11 +1,16 @@
-//! What a seat does in a call, from what its pass had seen to what it has seen now: facts alone, with no code.
+//! What a seat does in a call, from what its pass had seen to what it has seen now, as facts that add up over several
+//! calls; and what engines share in a turn: the cell into which a value points.
 //!
-//! They add up what was done in several calls. Start with `specs/Doing.antt`.
+//! Start with `specs/Doing.antt`.
 #![tactic(auto)]
 
 ghost use Rattle.mk_turns.specs.Doing.{NothingIsDone, DoneInTurn, StepsAreDone};
 ghost use Rattle.mk_turns.specs.Sweeping.{NothingSweepsNothing, NothingIsSweptInTurn, OtherKindsSweepNothing};
 ghost use Rattle.mk_turns.specs.Sweeping.{StepsMaySweepNothing};
+
+mod pointing;
+
+pub use pointing::cell_pointed;
 
 /// Nothing done is allowed, what is done one after the other adds up, and a step of an allowed kind is done.
 pub fn what_is_done_adds_up()

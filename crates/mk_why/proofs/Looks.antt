@@ -1,36 +1,37 @@
 -- Looks leave the view as it is, and so does what others do in the stop; after an engine's marks they leave its law.
-use Rattle.std.proofs.Common.{◌≡◌, ◌∙◌, ℕ, true, false, List, refl, sym, ap, subst, zero, suc, ◌+◌, Bool, cond, [], ◌∷◌}
+use Rattle.std.proofs.Common.{◌≡◌, ◌∙◌, ℕ, true, false, List, refl, sym, ap, zero, suc, ◌+◌, Bool, cond, [], ◌∷◌}
 use Rattle.std.proofs.Common.{◌++◌, count_by, append_assoc, arith}
 use Rattle.std.specs.Prelude.{slice_index_or, ◌&&◌, not}
-use Rattle.std.proofs.lemmas.Bool.{and_from, and_parts, eq-eqb, not-true, true≢false}
+use Rattle.std.proofs.lemmas.Bool.{and_from, and_parts, eq-eqb, lt-ltb, not-true, true≢false}
 use Rattle.std.proofs.lemmas.List.{append_cancel_left}
 use Rattle.std.proofs.lemmas.List.Sums.{sum_by-append, sum_by-cons}
-use Rattle.mk_why.proofs.Vocabulary.{Config, Event, IsHistory, IsStill, LooksOn, PassState, TurnState, View, Words}
-use Rattle.mk_why.proofs.Vocabulary.{World, is_still_word, is_word, left, named_word, now_of, others_are_held, phase_of}
-use Rattle.mk_why.proofs.Vocabulary.{view_by, view_of}
-use Rattle.mk_core.specs.declared.events.Seat.{Seat}
-use Rattle.mk_core.specs.declared.events.Seat.TheVariants.{Caller, Host, Marker}
+use Rattle.mk_why.proofs.Vocabulary.{Config, Event, IsHistory, IsStill, LooksOn, PassState, PlacedAllocation, TurnState}
+use Rattle.mk_why.proofs.Vocabulary.{World, is_word, left, now_of, others_are_held, phase_of}
+use Rattle.mk_why.proofs.Vocabulary.{View, Words, view_by, view_of}
+use Rattle.mk_geom.specs.Addresses.{page_at_address}
 use Rattle.mk_core.specs.declared.events.Step.{Step}
 use Rattle.mk_core.specs.declared.events.Step.TheVariants as step
 use Rattle.mk_core.specs.declared.events.Word.{Word}
 use Rattle.mk_core.specs.declared.events.Word.TheVariants as word
 use Rattle.mk_core.specs.declared.seats.Marker.{Marker as MarkerState}
-use Rattle.mk_core.specs.Effects.{markers_behind}
-use Rattle.mk_core.specs.Accesses.{found}
-use Rattle.mk_core.specs.Frames.{Steady, TurnIsLeft, Written, steady_of, written_of}
+use Rattle.mk_core.specs.Frames.{Steady, TurnIsLeft, written_of}
 use Rattle.mk_core.specs.Moments.{Moment, outside}
-use Rattle.mk_core.specs.Readings.{Holds, NoneAttends}
+use Rattle.mk_core.specs.Readings.{NoneAttends}
 use Rattle.mk_core.specs.StopConditions.{is_attending, has_closed_page, none_attends, roots_point_well}
 use Rattle.mk_core.specs.Bounded.{all_below}
 use Rattle.mk_core.specs.Growing.{AreOfOthers, Finding}
 use Rattle.mk_core.proofs.Conditions.{enabled_meets}
 use Rattle.mk_words.specs.States.{event_of}
-use Rattle.mk_words.specs.Steps.{Finds, IsAdmittedTo, IsEnabledTo}
-use Rattle.mk_words.specs.TurnSteps.{Acts, world_at}
+use Rattle.mk_words.specs.Steps.{IsAdmittedTo, IsEnabledTo}
+use Rattle.mk_words.specs.TurnSteps.{Acts}
 use Rattle.mk_turns.proofs.Doing.{does_nothing, does_step, does_then, done_in_parts}
+use Rattle.mk_turns.specs.Pointing.{LooksForCell, MayLookAtHeaders}
+use Rattle.mk_turns.proofs.PointedCells.{looked_for}
 use Rattle.mk_tracing.specs.Stops.{IsWanted}
 use Rattle.mk_tracing.proofs.MaySteps.{may_look}
-use Rattle.mk_tracing.proofs.Steps.{found_there, may_step}
+use Rattle.mk_tracing.proofs.Steps.{may_step}
+use Rattle.mk_tracing.proofs.Stilled.{none_after, phase_there, words_left}
+use Rattle.mk_cycle.proofs.Allowed.{in_turn_before}
 use Rattle.mk_cycle.specs.TurnKeeps.{InTurn, LeavesTurn, but_phase}
 use Rattle.mk_cycle.proofs.CleaningSteps.{calm_keeps}
 use Rattle.mk_cycle.proofs.KeptInParts.{free_then, keeps_at_once, keeps_then}
@@ -49,54 +50,14 @@ use Rattle.mk_why.specs.Stops.{is_look}
 
 -- Looks leave the view as it is, and so does what others do in the stop.
 
-view_from : Steady → Written → List ℕ → List ℕ → View
-view_from s y marks blacks =
-    record {
-      words = record {
-        phase = 0;
-        turn = s.turn;
-        held = s.held;
-        fresh = s.fresh;
-        cycles = s.cycles;
-        released = s.released;
-        full = s.full;
-        gates = y.gates;
-        registers = y.registers;
-        globals = y.globals;
-        pages = s.pages;
-        freed = s.freed;
-        snapshot = s.snapshot;
-        marks = marks;
-        blacks = blacks;
-        dirty = y.dirty;
-        heap = y.heap;
-      };
-      allocations = s.allocations;
-    }
+abbrev view_from : Words → List PlacedAllocation → View
+view_from w xs = record { words = w; allocations = xs }
 
--- What leaves the holder its own in the stop leaves the view.
 pub view_left : {w v : World} → TurnIsLeft w v → written_of v ≡ written_of w → phase_of w.now.words ≡ 2
     → NoneAttends w.now → view_of v ≡ view_of w
-unfolding view_from
 view_left {w} {v} turn written two none =
-    let there = turn.stopped two none in
-    ap (λ (x : Steady). view_from x (written_of v) v.now.words.marks v.now.words.blacks) turn.steady
-    ∙ ap (λ (y : Written). view_from (steady_of w) y v.now.words.marks v.now.words.blacks) written
-    ∙ ap (λ (xs : List ℕ). view_from (steady_of w) (written_of w) xs v.now.words.blacks) there.1
-    ∙ ap (view_from (steady_of w) (written_of w) w.now.words.marks) there.2
-
-markers_stay : (c : Config) (m : Moment) (seat : Seat) (n : ℕ) (s : Step) (l : Moment) → Holds c l seat
-    → markers_behind c m seat n s ≡ m.seats.markers
-markers_stay c m (Caller k) n s l holds = refl
-markers_stay c m (Marker k) n s l holds = absurd holds
-markers_stay c m Host n s l holds = refl
-
-abbrev NoneOf : List MarkerState → Type 0
-NoneOf xs = (k : ℕ) → is_attending (slice_index_or xs k outside).presence ≡ false
-
-still_name : (w : Words) (x : Word) → is_still_word x ≡ true → named_word (record w { phase = 0 }) x ≡ named_word w x
-still_name w word.Phase h = cc
-still_name w _ h = refl
+    ap (λ (x : Words). view_from x v.allocations) (words_left turn written two none)
+    ∙ ap (λ (x : Steady). view_from (view_of w).words x.allocations) turn.steady
 
 -- Any word may be looked at.
 module _ (p : PassState) (turn : InTurn p) (gates : others_are_held p.table.config.callers (now_of p).words p.seat
@@ -111,26 +72,23 @@ module _ (p : PassState) (turn : InTurn p) (gates : others_are_held p.table.conf
   look_admitted x = calm_admitted p (step.Look x) turn.history refl still.free.decided
 
 -- A look leaves all still.
-module _ (t u : TurnState) (x : Word) (a : Acts t.pass (step.Look x) u.pass) (turn : InTurn t.pass)
+module _ (t u : TurnState) (x : Word) (a : Acts t.pass (step.Look x) u.pass)
     (gates : others_are_held t.pass.table.config.callers (now_of t.pass).words t.pass.seat ≡ true)
-    (history : IsHistory u.pass.table.config u.pass.seen) (still : IsStill t.pass) where
-  view_behind : view_by u.pass ≡ view_by t.pass
-  view_behind = ap view_of a.world ∙ view_left a.turn (a.stop (turn.holds, gates)) still.wanted still.none
+    (still : IsStill t.pass) where
+  wanted : IsWanted t.pass
+  wanted = wanted_now t.pass (in_turn_before a) gates still
 
   keeps : LeavesTurn but_phase t.pass u.pass
-  keeps = calm_keeps t.pass (step.Look x) u.pass a turn history refl still.free but_phase refl
+  keeps =
+      calm_keeps t.pass (step.Look x) u.pass a (in_turn_before a) a.makes.pass.history refl still.free but_phase refl
 
   still_behind : IsStill u.pass
   still_behind =
       record {
         free = free_then t.pass u.pass keeps.call still.free;
-        wanted = ap (λ (w : World). phase_of w.now.words) a.world ∙ ap (λ (s : Steady). s.phase) a.turn.steady
-            ∙ still.wanted;
-        none = subst NoneOf
-            (sym (ap (λ (w : World). w.now.seats.markers) a.world
-            ∙ markers_stay t.pass.table.config (world_at a.makes).now t.pass.seat
-            (found t.pass.table.config (world_at a.makes).now (event_of t.pass (step.Look x))) (step.Look x)
-            (now_of t.pass) turn.holds)) (a.turn.stopped still.wanted still.none).0;
+        wanted = ap (λ (w : World). phase_of w.now.words) a.world
+            ∙ phase_there t.pass u.pass (step.Look x) a wanted (a.holds, gates);
+        none = none_after t.pass u.pass (step.Look x) a wanted (a.holds, gates);
       }
 
   pub look_on : u.op ≡ t.op → LooksOn t u
@@ -140,15 +98,9 @@ module _ (t u : TurnState) (x : Word) (a : Acts t.pass (step.Look x) u.pass) (tu
         op = same;
         does = does_step is_look t.pass u.pass (step.Look x) a.makes refl;
         keeps = keeps;
-        view = view_behind;
+        view = ap view_of a.world ∙ view_left a.turn (a.stop (a.holds, gates)) still.wanted still.none;
         still = still_behind;
       }
-
-  pub look_finds : (n : ℕ) → Finds t.pass (step.Look x) n u.pass → is_still_word x ≡ true
-      → n ≡ named_word (view_by t.pass).words x
-  look_finds n finds name =
-      sym (found_there t.pass u.pass x n finds) ∙ sym (still_name (now_of u.pass).words x name)
-      ∙ ap (λ (v : View). named_word v.words x) view_behind
 
 -- Nothing is looked at, and one part is after the other.
 
@@ -173,6 +125,19 @@ looks_then {t} {u} {v} one two =
       view = two.view ∙ one.view;
       still = two.still;
     }
+
+-- The cell into which a value points is looked for.
+
+pub may_look_at_headers : {p : PassState} → InTurn p
+    → others_are_held p.table.config.callers (now_of p).words p.seat ≡ true → IsStill p → MayLookAtHeaders p
+may_look_at_headers {p} turn gates still page lt = look_enabled p turn gates still (word.Head page) (lt-ltb page _ lt)
+
+pub looks_for_cell : {value : ℕ} {t u : TurnState} → LooksForCell value t u
+    → others_are_held t.pass.table.config.callers (now_of t.pass).words t.pass.seat ≡ true → IsStill t.pass
+    → LooksOn t u
+looks_for_cell {value} {t} {u} l gates still =
+    looked_for (λ (v : TurnState). LooksOn t v) l (looks_at_nothing t still)
+    (λ a. look_on t u (word.Head (page_at_address value)) a gates still l.op)
 
 -- Looks after an engine's marks leave its law, and what is said of the view.
 

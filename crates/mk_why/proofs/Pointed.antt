@@ -8,7 +8,6 @@ use Rattle.mk_why.proofs.Vocabulary.{cell_of_allocation, first_word, has_bit, he
 use Rattle.mk_why.proofs.Vocabulary.{is_mapped, is_scanned_allocation, never_behind, now_of, object_placed, phase_of}
 use Rattle.mk_why.proofs.Vocabulary.{placed_at, storage_of, storage_words, used_at, view_by, words_under, world_of}
 use Rattle.mk_core.specs.Cells.{has_no_pointers, is_used, pointed_cell}
-use Rattle.mk_core.proofs.PointedPages.{pointed_within}
 use Rattle.mk_core.proofs.Sizes.{words_within}
 use Rattle.mk_core.proofs.StandingAllocations.{cells_begin, typed_size}
 use Rattle.mk_laws.specs.SettledPages.{IsSettled, StandsUsed}
@@ -200,10 +199,6 @@ module _ (p : PassState) (history : IsHistory p.table.config p.seen) (still : Is
         (sym (under ∙ ap (λ h. words_under (header_of h)) shown))
         (used_pointed p history still value cell (pointed_here (Some cell) is)
         (ap (λ n. has_bit n cell.index) (sym found) ∙ has)))
-
-  pub cell_within : (cell : Cell) → Some cell ≡ pointed_cell k.config.pages (view_by p).words.pages value
-      → (cell.page < k.config.pages) × (cell.index < 64)
-  cell_within cell is = pointed_within k.config.pages (view_by p).words value cell (sym is)
 
 module _ (p : PassState) (history : IsHistory p.table.config p.seen) (still : IsStill p) (k : WordsState)
     (same : p.table ≡ k) (base : ℕ) (is : IsFirstWord (view_by p) base) where

@@ -7,12 +7,13 @@ pub use Rattle.mk_core.specs.ClosedMarks.{is_scanned_allocation}
 pub use Rattle.mk_core.specs.Ranges.{is_word}
 pub use Rattle.mk_core.specs.Touched.{PointsIntoAllocation}
 pub use Rattle.mk_core.specs.Words.{named_word}
+pub use Rattle.mk_tracing.specs.Stops.{is_still_word, still_words}
 pub use Rattle.mk_why.specs.Chains.{IsWhy, LinksLead, is_kept, word_of_root}
 pub use Rattle.mk_why.specs.Entries.{AreEntriesBelow, IsLedBack}
 pub use Rattle.mk_why.specs.Listing.{AreOfKept, IsListed, IsTold, ListsOn}
 pub use Rattle.mk_why.specs.Searching.{AreWays, BeginApart, FindsMore, IsFirstWord, IsFound, IsFoundThrough, IsNoted}
 pub use Rattle.mk_why.specs.Searching.{IsSearch, IsSearched, IsWay, SearchesOn, entry_at, links_in, links_of}
-pub use Rattle.mk_why.specs.Stops.{IsStill, LooksOn, View, base_at, is_still_word, view_by, view_of, world_in}
+pub use Rattle.mk_why.specs.Stops.{IsStill, LooksOn, View, base_at, view_by, view_of, world_in}
 pub use Rattle.mk_why.specs.declared.found.Found.{Found}
 pub use Rattle.mk_why.specs.declared.found.Storage.{Storage}
 pub use Rattle.mk_why.specs.declared.found.Way.TheVariants.{Link, Start}

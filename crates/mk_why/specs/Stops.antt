@@ -3,8 +3,6 @@
 use Rattle.std.specs.Prelude.{◌≡◌, ℕ, Bool, true, false, List, []}
 use Rattle.mk_core.specs.declared.events.Step.{Step}
 use Rattle.mk_core.specs.declared.events.Step.TheVariants as step
-use Rattle.mk_core.specs.declared.events.Word.{Word}
-use Rattle.mk_core.specs.declared.events.Word.TheVariants as word
 use Rattle.mk_core.specs.declared.config.Config.{Config}
 use Rattle.mk_core.specs.Allocations.{PlacedAllocation, placed_at}
 use Rattle.mk_core.specs.History.{World}
@@ -52,11 +50,6 @@ pub record IsStill (p : PassState) : Type 0 where
 abbrev pub is_look : Step → Bool
 is_look (step.Look x) = true
 is_look _ = false
-
--- any word but the phase, which markers count in
-abbrev pub is_still_word : Word → Bool
-is_still_word word.Phase = false
-is_still_word _ = true
 
 -- The holder of the turn has looked, and all is still.
 pub record LooksOn (t u : TurnState) : Type 0 where

@@ -2,7 +2,8 @@
 ghost use Rattle.std.specs.Prelude.{◌≡◌, true};
 ghost use Rattle.mk_core.specs.Ranges.{is_word};
 ghost use Rattle.mk_core.specs.Words.{named_word};
-ghost use Rattle.mk_why.specs.Stops.{IsStill, LooksOn, is_still_word, view_by};
+ghost use Rattle.mk_tracing.specs.Stops.{is_still_word};
+ghost use Rattle.mk_why.specs.Stops.{IsStill, LooksOn, view_by};
 
 use mk_core::Word;
 use mk_words::{Stopped, Words};

@@ -1,27 +1,15 @@
 //! What values point into, and which words of an allocation are scanned.
 ghost use Rattle.std.specs.Prelude.{◌≡◌, ◌+◌, ◌*◌, ◌≤◌, ℕ, true};
 ghost use Rattle.mk_core.specs.Allocations.{placed_at, storage_words};
-ghost use Rattle.mk_core.specs.Cells.{pointed_cell};
 ghost use Rattle.mk_core.specs.ClosedMarks.{is_scanned_allocation};
 ghost use Rattle.mk_why.specs.Searching.{AreScannedFrom, IsFirstWord, IsBasePointed};
 ghost use Rattle.mk_why.specs.Stops.{IsStill, LooksOn, base_at, view_by};
 
 use crate::stepping::look_at;
 use mk_core::{Word, has_bit, has_no_pointers, words_under};
-use mk_geom::{Cell, PAGE_WORDS, heap_page, lookup};
+use mk_geom::PAGE_WORDS;
+use mk_turns::cell_pointed;
 use mk_words::{Stopped, Words};
-
-/// The cell into which a value points.
-fn cell_pointed(words: &Words, stop: &mut Stopped, value: u64) -> Option<Cell>
-    requires one_table { stop.old.pass.table ≡ words.now }
-    requires still { IsStill stop.old.pass }
-    ensures on { LooksOn stop.old stop.new }
-    ensures points { result ≡ pointed_cell words.now.config.pages (view_by stop.old.pass).words.pages value }
-{
-    let page = heap_page(words.pages(), value)?;
-    let header = look_at(words, stop, Word::Head(page));
-    lookup(words.pages(), header, value)
-}
 
 /// The first heap word of the allocation into which a value points.
 pub(crate) fn base_pointed(words: &Words, stop: &mut Stopped, value: u64) -> Option<u64>

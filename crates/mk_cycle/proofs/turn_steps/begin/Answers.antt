@@ -1,4 +1,4 @@
-use Rattle.mk_cycle.proofs.Allowed.{in_turn, in_turn_after}
+use Rattle.mk_cycle.proofs.Allowed.{in_turn_after}
 use Rattle.std.proofs.Common.{◌<◌, subst, refl}
 use Rattle.mk_words.specs.States.{WordsState}
 use Rattle.mk_cycle.proofs.BeginSteps.{begin_allowed}
@@ -6,10 +6,7 @@ use Rattle.mk_cycle.proofs.turn_steps.begin.Goals as goal
 
 pub begin-requires-clause-enabled : goal.begin-requires-clause-enabled
 begin-requires-clause-enabled c =
-    begin_allowed c.args.turn.now.pass
-    (in_turn c.args.turn.now.pass c.args.turn.now.op c.is_in_order.ensures.own c.is_in_order.ensures.turn
-    c.is_in_order.ensures.history)
-    c.requires.free c.requires.phase
+    begin_allowed c.args.turn.now.pass c.in_turn.ensures c.requires.free c.requires.phase
     (λ page lt. c.requires.clean page (subst (λ (w : WordsState). page < w.config.pages) c.requires.one_table lt))
     c.requires.fresh
 

@@ -1,20 +1,17 @@
 use Rattle.std.proofs.Common.{refl}
-use Rattle.mk_cycle.proofs.Allowed.{in_turn, in_turn_after, on_table}
+use Rattle.mk_cycle.proofs.Allowed.{in_turn_after, on_table}
 use Rattle.mk_cycle.proofs.GivingSteps.{quar_allowed}
 use Rattle.mk_cycle.proofs.MayAct.{calm_admitted}
 use Rattle.mk_cycle.proofs.turn_steps.drop_cells.Goals as goal
 
 pub quar-requires-clause-enabled : goal.quar-requires-clause-enabled
 quar-requires-clause-enabled c =
-    quar_allowed c.args.turn.now.pass
-    (in_turn c.args.turn.now.pass c.args.turn.now.op c.is_in_order.ensures.own c.is_in_order.ensures.turn
-    c.is_in_order.ensures.history)
-    c.requires.free c.requires.phase c.args.page c.args.v
+    quar_allowed c.args.turn.now.pass c.in_turn.ensures c.requires.free c.requires.phase c.args.page c.args.v
     (on_table c.args.turn.now.pass _ c.requires.one_table c.args.page c.requires.within) c.requires.drops
 
 pub quar-requires-clause-admitted : goal.quar-requires-clause-admitted
 quar-requires-clause-admitted c =
-    calm_admitted c.args.turn.now.pass _ c.is_in_order.ensures.history refl c.requires.free.decided
+    calm_admitted c.args.turn.now.pass _ c.in_turn.ensures.history refl c.requires.free.decided
 
 pub returns-clause-is : goal.returns-clause-is
 returns-clause-is c = in_turn_after c.quar.ensures.acts refl

@@ -1,14 +1,11 @@
 use Rattle.std.proofs.Common.{refl}
-use Rattle.mk_cycle.proofs.Allowed.{in_turn, in_turn_after, on_table}
+use Rattle.mk_cycle.proofs.Allowed.{in_turn_after, on_table}
 use Rattle.mk_cycle.proofs.GivingSteps.{head_allowed}
 use Rattle.mk_cycle.proofs.turn_steps.free_head.Goals as goal
 
 pub head-requires-clause-enabled : goal.head-requires-clause-enabled
 head-requires-clause-enabled c =
-    head_allowed c.args.turn.now.pass
-    (in_turn c.args.turn.now.pass c.args.turn.now.op c.is_in_order.ensures.own c.is_in_order.ensures.turn
-    c.is_in_order.ensures.history)
-    c.requires.free c.requires.phase c.args.page
+    head_allowed c.args.turn.now.pass c.in_turn.ensures c.requires.free c.requires.phase c.args.page
     (on_table c.args.turn.now.pass _ c.requires.one_table c.args.page c.requires.within) c.requires.empty
 
 pub returns-clause-is : goal.returns-clause-is

@@ -1,14 +1,11 @@
 use Rattle.std.proofs.Common.{refl}
-use Rattle.mk_cycle.proofs.Allowed.{in_turn, in_turn_after, on_table}
+use Rattle.mk_cycle.proofs.Allowed.{in_turn_after, on_table}
 use Rattle.mk_cycle.proofs.GivingSteps.{used_allowed}
 use Rattle.mk_cycle.proofs.turn_steps.give_cells.Goals as goal
 
 pub used-requires-clause-enabled : goal.used-requires-clause-enabled
 used-requires-clause-enabled c =
-    used_allowed c.args.turn.now.pass
-    (in_turn c.args.turn.now.pass c.args.turn.now.op c.is_in_order.ensures.own c.is_in_order.ensures.turn
-    c.is_in_order.ensures.history)
-    c.requires.free c.requires.phase c.args.page c.args.v
+    used_allowed c.args.turn.now.pass c.in_turn.ensures c.requires.free c.requires.phase c.args.page c.args.v
     (on_table c.args.turn.now.pass _ c.requires.one_table c.args.page c.requires.within) c.requires.gives
 
 pub returns-clause-is : goal.returns-clause-is

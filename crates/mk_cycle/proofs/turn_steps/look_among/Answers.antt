@@ -1,22 +1,19 @@
 use Rattle.std.proofs.Common.{◌≡◌, true, refl, sym, subst}
 use Rattle.mk_core.specs.Ranges.{is_word}
 use Rattle.mk_words.specs.States.{WordsState}
-use Rattle.mk_cycle.proofs.Allowed.{in_turn, in_turn_after, look_allowed}
+use Rattle.mk_cycle.proofs.Allowed.{in_turn_after, look_allowed}
 use Rattle.mk_cycle.proofs.MayAct.{calm_admitted}
 use Rattle.mk_cycle.proofs.turn_steps.look_among.Goals as goal
 
 pub look_among-requires-clause-enabled : goal.look_among-requires-clause-enabled
 look_among-requires-clause-enabled c =
-    look_allowed c.args.turn.now.pass
-    (in_turn c.args.turn.now.pass c.args.turn.now.op c.is_in_order.ensures.own c.is_in_order.ensures.turn
-    c.is_in_order.ensures.history)
-    c.requires.free c.args.x
+    look_allowed c.args.turn.now.pass c.in_turn.ensures c.requires.free c.args.x
     (subst (λ (w : WordsState). is_word w.config c.args.x ≡ true) (sym c.requires.one_table) c.requires.in_range)
     c.requires.no_register
 
 pub look_among-requires-clause-admitted : goal.look_among-requires-clause-admitted
 look_among-requires-clause-admitted c may =
-    calm_admitted c.args.turn.now.pass _ c.is_in_order.ensures.history refl c.requires.free.decided
+    calm_admitted c.args.turn.now.pass _ c.in_turn.ensures.history refl c.requires.free.decided
 
 pub returns-clause-is : goal.returns-clause-is
 returns-clause-is c = in_turn_after c.look_among.ensures.acts refl

@@ -1,15 +1,12 @@
 use Rattle.std.proofs.Common.{◌<◌, ◌*◌, sym, subst, refl}
 use Rattle.mk_words.specs.States.{WordsState}
-use Rattle.mk_cycle.proofs.Allowed.{in_turn, in_turn_after}
+use Rattle.mk_cycle.proofs.Allowed.{in_turn_after}
 use Rattle.mk_cycle.proofs.GivingSteps.{wipe_allowed}
 use Rattle.mk_cycle.proofs.turn_steps.wipe.Goals as goal
 
 pub wipe-requires-clause-enabled : goal.wipe-requires-clause-enabled
 wipe-requires-clause-enabled c =
-    wipe_allowed c.args.turn.now.pass
-    (in_turn c.args.turn.now.pass c.args.turn.now.op c.is_in_order.ensures.own c.is_in_order.ensures.turn
-    c.is_in_order.ensures.history)
-    c.requires.free c.requires.phase c.args.word
+    wipe_allowed c.args.turn.now.pass c.in_turn.ensures c.requires.free c.requires.phase c.args.word
     (subst (λ (w : WordsState). c.args.word < 64 * w.config.pages) (sym c.requires.one_table) c.requires.within)
     c.requires.released
 

@@ -1,7 +1,7 @@
 use Rattle.std.proofs.Common.{◌≡◌, true, refl, sym, subst}
 use Rattle.mk_core.specs.Ranges.{is_word}
 use Rattle.mk_words.specs.States.{WordsState}
-use Rattle.mk_cycle.proofs.Allowed.{in_turn, in_turn_after, look_allowed}
+use Rattle.mk_cycle.proofs.Allowed.{in_turn, look_allowed}
 use Rattle.mk_cycle.proofs.MayAct.{calm_admitted}
 use Rattle.mk_engines.proofs.BesideSteps.{goes_look, no_register}
 use Rattle.mk_engines.proofs.steps.look_at.Goals as goal
@@ -20,7 +20,5 @@ look-requires-clause-admitted c may =
 
 pub returns-clause-on : goal.returns-clause-on
 returns-clause-on c =
-    goes_look c.args.turn.now c.look.new.self
-    (in_turn _ _ c.is_in_order.ensures.own c.is_in_order.ensures.turn c.is_in_order.ensures.history)
-    (in_turn_after c.look.ensures.acts refl)
-    c.requires.beside c.look.ensures.op c.args.x c.look.ensures.acts c.requires.plain
+    goes_look c.args.turn.now c.look.new.self c.requires.beside c.look.ensures.op c.args.x c.look.ensures.acts
+    c.requires.plain

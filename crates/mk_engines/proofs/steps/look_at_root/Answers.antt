@@ -1,7 +1,7 @@
 use Rattle.std.proofs.Common.{◌≡◌, true, refl, sym, subst}
 use Rattle.mk_core.specs.Ranges.{is_word}
 use Rattle.mk_words.specs.States.{WordsState}
-use Rattle.mk_cycle.proofs.Allowed.{in_turn, in_turn_after}
+use Rattle.mk_cycle.proofs.Allowed.{in_turn}
 use Rattle.mk_cycle.proofs.MayAct.{calm_admitted}
 use Rattle.mk_engines.proofs.BesideSteps.{finds_in_root, may_look_at_root, root_hand}
 use Rattle.mk_engines.proofs.steps.look_at_root.Goals as goal
@@ -20,12 +20,8 @@ look-requires-clause-admitted c may =
 
 pub returns-clause-finds : goal.returns-clause-finds
 returns-clause-finds c =
-    finds_in_root c.args.turn.now c.look.new.self
-    (in_turn _ _ c.is_in_order.ensures.own c.is_in_order.ensures.turn c.is_in_order.ensures.history)
-    (in_turn_after c.look.ensures.acts refl)
-    c.requires.beside c.look.ensures.op c.args.x c.look.result c.look.ensures.acts
-    c.look.ensures.finds
-    c.requires.root
+    finds_in_root c.args.turn.now c.look.new.self c.requires.beside c.look.ensures.op c.args.x c.look.result
+    c.look.ensures.acts c.look.ensures.finds c.requires.root
 
 pub returns-clause-hand : goal.returns-clause-hand
 returns-clause-hand c =

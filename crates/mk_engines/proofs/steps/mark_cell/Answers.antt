@@ -1,10 +1,10 @@
-use Rattle.std.proofs.Common.{sym, subst, refl}
+use Rattle.std.proofs.Common.{sym, subst}
 use Rattle.mk_core.specs.declared.events.Step.TheVariants as step
 use Rattle.mk_core.proofs.PointedPages.{pointed_within}
 use Rattle.mk_words.specs.States.{now_of}
 use Rattle.mk_words.specs.Steps.{IsEnabledTo}
 use Rattle.mk_words.specs.TurnSteps.{Acts}
-use Rattle.mk_cycle.proofs.Allowed.{in_turn, in_turn_after}
+use Rattle.mk_cycle.proofs.Allowed.{in_turn}
 use Rattle.mk_engines.proofs.BesideSteps.{goes_mark, marked_there, may_mark_beside}
 use Rattle.mk_engines.proofs.steps.mark_cell.Goals as goal
 
@@ -23,20 +23,12 @@ mark-requires-clause-enabled c =
 
 pub returns-clause-on : goal.returns-clause-on
 returns-clause-on c =
-    goes_mark c.args.turn.now c.mark.new.self
-    (in_turn _ _ c.is_in_order.ensures.own c.is_in_order.ensures.turn c.is_in_order.ensures.history)
-    (in_turn_after c.mark.ensures.acts refl)
-    c.requires.beside c.mark.ensures.op c.args.cell
-    (subst (λ v. Acts c.args.turn.now.pass
-    (step.Mark c.args.cell.page v) c.mark.new.self.pass) c.bit.ensures c.mark.ensures.acts)
+    goes_mark c.args.turn.now c.mark.new.self c.requires.beside c.mark.ensures.op c.args.cell (subst (λ v. Acts
+    c.args.turn.now.pass (step.Mark c.args.cell.page v) c.mark.new.self.pass) c.bit.ensures c.mark.ensures.acts)
     c.requires.reached
 
 pub returns-clause-marked : goal.returns-clause-marked
 returns-clause-marked c =
-    marked_there c.args.turn.now c.mark.new.self
-    (in_turn _ _ c.is_in_order.ensures.own c.is_in_order.ensures.turn c.is_in_order.ensures.history)
-    (in_turn_after c.mark.ensures.acts refl)
-    c.requires.beside c.mark.ensures.op c.args.cell
-    (subst (λ v. Acts c.args.turn.now.pass
-    (step.Mark c.args.cell.page v) c.mark.new.self.pass) c.bit.ensures c.mark.ensures.acts)
+    marked_there c.args.turn.now c.mark.new.self c.requires.beside c.mark.ensures.op c.args.cell (subst (λ v. Acts
+    c.args.turn.now.pass (step.Mark c.args.cell.page v) c.mark.new.self.pass) c.bit.ensures c.mark.ensures.acts)
     c.requires.reached

@@ -1,6 +1,6 @@
-use Rattle.std.proofs.Common.{◌<◌, sym, subst, refl}
+use Rattle.std.proofs.Common.{◌<◌, sym, subst}
 use Rattle.mk_words.specs.States.{WordsState}
-use Rattle.mk_cycle.proofs.Allowed.{in_turn, in_turn_after}
+use Rattle.mk_cycle.proofs.Allowed.{in_turn}
 use Rattle.mk_engines.proofs.BesideSteps.{goes_open, may_open, open_others, opened}
 use Rattle.mk_engines.proofs.steps.open_gate.Goals as goal
 
@@ -14,10 +14,8 @@ open_gate-requires-clause-enabled c =
 
 pub returns-clause-on : goal.returns-clause-on
 returns-clause-on c =
-    goes_open c.args.turn.now c.open_gate.new.self
-    (in_turn _ _ c.is_in_order.ensures.own c.is_in_order.ensures.turn c.is_in_order.ensures.history)
-    (in_turn_after c.open_gate.ensures.acts refl)
-    c.requires.beside c.open_gate.ensures.op c.args.caller c.open_gate.ensures.acts
+    goes_open c.args.turn.now c.open_gate.new.self c.requires.beside c.open_gate.ensures.op c.args.caller
+    c.open_gate.ensures.acts
 
 pub returns-clause-others : goal.returns-clause-others
 returns-clause-others c =

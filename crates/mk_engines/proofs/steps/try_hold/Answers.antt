@@ -1,6 +1,6 @@
-use Rattle.std.proofs.Common.{◌<◌, sym, subst, refl}
+use Rattle.std.proofs.Common.{◌<◌, sym, subst}
 use Rattle.mk_words.specs.States.{WordsState}
-use Rattle.mk_cycle.proofs.Allowed.{in_turn, in_turn_after}
+use Rattle.mk_cycle.proofs.Allowed.{in_turn}
 use Rattle.mk_cycle.proofs.HoldingSteps.{hold_allowed}
 use Rattle.mk_engines.proofs.BesideSteps.{goes_hold, hold_others}
 use Rattle.mk_engines.proofs.steps.try_hold.Goals as goal
@@ -15,10 +15,8 @@ try_hold-requires-clause-enabled c =
 
 pub returns-clause-on : goal.returns-clause-on
 returns-clause-on c =
-    goes_hold c.args.turn.now c.try_hold.new.self
-    (in_turn _ _ c.is_in_order.ensures.own c.is_in_order.ensures.turn c.is_in_order.ensures.history)
-    (in_turn_after c.try_hold.ensures.acts refl)
-    c.requires.beside c.try_hold.ensures.op c.args.caller c.try_hold.ensures.acts
+    goes_hold c.args.turn.now c.try_hold.new.self c.requires.beside c.try_hold.ensures.op c.args.caller
+    c.try_hold.ensures.acts
 
 pub returns-clause-others : goal.returns-clause-others
 returns-clause-others c =

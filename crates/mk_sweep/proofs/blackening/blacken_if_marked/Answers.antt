@@ -1,8 +1,14 @@
-use Rattle.std.proofs.Common.{◌<◌, refl, subst, sym, arith}
-use Rattle.mk_sweep.proofs.Vocabulary.{WordsState, still_words}
+use Rattle.std.proofs.Common.{◌≡◌, ◌<◌, ◌^◌, true, refl, subst, sym, arith}
+use Rattle.mk_sweep.proofs.Vocabulary.{Acts, IsEnabledTo, WordsState, still_words}
+use Rattle.mk_core.specs.declared.events.Step.TheVariants as step
+use Rattle.mk_core.specs.StopConditions.{may_turn_black}
+use Rattle.mk_tracing.specs.Grays.{with_blacks}
+use Rattle.mk_tracing.proofs.MaySteps.{may_black_cell}
+use Rattle.mk_tracing.proofs.Stilled.{black_words}
 use Rattle.mk_sweep.proofs.Blacks.{black_now, blacks_added, blacks_length, blacks_same}
-use Rattle.mk_sweep.proofs.SweepSteps.{sweeps_from}
+use Rattle.mk_sweep.proofs.SweepSteps.{on_black, sweeps_from}
 use Rattle.mk_sweep.proofs.blackening.blacken_if_marked.Goals as goal
+use Rattle.mk_sweep.proofs.blackening.blacken_if_marked.Goals.{After-black, After-is_in_order}
 
 pub returns-then-not-marked-clause-on : goal.returns-then-not-marked-clause-on
 returns-then-not-marked-clause-on c = sweeps_from c.args.stop.now c.requires.sweeping
@@ -11,15 +17,43 @@ pub returns-then-not-marked-clause-more : goal.returns-then-not-marked-clause-mo
 returns-then-not-marked-clause-more c =
     blacks_same (still_words c.args.stop.now.pass) (still_words c.args.stop.now.pass) refl
 
+-- the cell is on a page
+near : (c : After-is_in_order) → c.args.cell.page < c.args.stop.now.pass.table.config.pages
+near c = subst (λ (t : WordsState). c.args.cell.page < t.config.pages) (sym c.requires.one_table) c.requires.page
+
+pub black-requires-clause-enabled : goal.black-requires-clause-enabled
+black-requires-clause-enabled c =
+    let p = c.args.stop.now.pass in
+    subst (λ v. IsEnabledTo p (step.Black c.args.cell.page v)) (sym c.bit.ensures)
+    (may_black_cell p c.requires.sweeping.wanted (c.is_in_order.ensures.turn.holds, c.is_in_order.ensures.gates)
+    c.args.cell (near (goal.at.black-requires-clause-enabled c).After-is_in_order) c.requires.index
+    (subst (λ (t : WordsState). may_turn_black t.config.pages (still_words p) c.args.cell ≡ true)
+    (sym c.requires.one_table) (c.requires.turns c.if-not-marked.false)))
+
+pub returns-clause-on : goal.returns-clause-on
+returns-clause-on c =
+    on_black c.args.stop.now c.black.new.self c.requires.sweeping
+    (c.is_in_order.ensures.turn.holds, c.is_in_order.ensures.gates) c.black.ensures.op c.args.cell.page c.bit.result
+    c.black.ensures.acts
+
+blackened : (c : After-black)
+    → still_words c.black.new.self.pass
+    ≡ with_blacks c.args.cell.page (2 ^ c.args.cell.index) (still_words c.args.stop.now.pass)
+blackened c =
+    black_words c.args.stop.now.pass c.black.new.self.pass c.requires.sweeping.wanted
+    (c.is_in_order.ensures.turn.holds, c.is_in_order.ensures.gates) c.args.cell.page (2 ^ c.args.cell.index)
+    (subst (λ v. Acts c.args.stop.now.pass (step.Black c.args.cell.page v) c.black.new.self.pass) c.bit.ensures
+    c.black.ensures.acts)
+
 pub returns-clause-more : goal.returns-clause-more
 returns-clause-more c =
-    blacks_added (still_words c.args.stop.now.pass) (still_words c.blacken_cell.new.stop.pass) c.args.cell.page _
-    c.blacken_cell.ensures.words
+    blacks_added (still_words c.args.stop.now.pass) (still_words c.black.new.self.pass) c.args.cell.page _
+    (blackened (goal.at.returns-clause-more c).After-black)
 
 pub returns-clause-black : goal.returns-clause-black
 returns-clause-black c marked =
+    let x = goal.at.returns-clause-black c in
     let p = c.args.stop.now.pass in
-    black_now (still_words p) (still_words c.blacken_cell.new.stop.pass) c.args.cell
-    (subst (λ n. c.args.cell.page < n) (sym (blacks_length p))
-    (subst (λ (t : WordsState). c.args.cell.page < t.config.pages) (sym c.requires.one_table) c.requires.page))
-    (let small = c.requires.index in omega arith) c.blacken_cell.ensures.words
+    black_now (still_words p) (still_words c.black.new.self.pass) c.args.cell
+    (subst (λ n. c.args.cell.page < n) (sym (blacks_length p)) (near x.After-is_in_order))
+    (let small = c.requires.index in omega arith) (blackened x.After-black)

@@ -1,8 +1,10 @@
-use Rattle.std.proofs.Common.{◌≡◌, refl, arith}
+use Rattle.std.proofs.Common.{◌≡◌, ◌∙◌, ◌<◌, refl, subst, sym, arith}
 use Rattle.std.specs.Prelude.{slice_index}
-use Rattle.mk_sweep.proofs.Vocabulary.{still_words}
+use Rattle.mk_sweep.proofs.Vocabulary.{WordsState, still_words}
 use Rattle.mk_tracing.proofs.Clearing.{black_cleared, blacks_cleared, blacks_same, blacks_then, pages_then}
-use Rattle.mk_sweep.proofs.SweepSteps.{quiet_then, sweeps_from}
+use Rattle.mk_tracing.proofs.MaySteps.{may_unblack_page}
+use Rattle.mk_tracing.proofs.Stilled.{unblack_words}
+use Rattle.mk_sweep.proofs.SweepSteps.{on_unblack, quiet_then, sweeps_from}
 use Rattle.mk_sweep.proofs.clearing.unblack_all.Goals as goal
 
 pub loop-page-init : goal.loop-page-init
@@ -12,15 +14,29 @@ loop-page-init c = record {
   none = λ p lt. absurd (omega arith);
 }
 
+pub unblack-requires-clause-enabled : goal.unblack-requires-clause-enabled
+unblack-requires-clause-enabled c =
+    may_unblack_page c.loop-page.stop.pass c.loop-page.invariant.on.sweeping.wanted
+    (c.is_in_order.ensures.turn.holds, c.is_in_order.ensures.gates) c.loop-page.page
+    (subst (λ (t : WordsState). c.loop-page.page < t.config.pages)
+    (sym (c.loop-page.invariant.on.table ∙ c.requires.one_table)) (omega arith))
+
 pub loop-page-preserved : goal.loop-page-preserved
 loop-page-preserved c =
+    let t = c.loop-page.stop in
+    let u = c.unblack.new.self in
     let w = still_words c.args.stop.now.pass in
-    let v = still_words c.loop-page.stop.pass in
-    let x = still_words c.unblack_page.new.stop.pass in
-    let fewer = blacks_cleared v x c.loop-page.page c.unblack_page.ensures.words in
+    let v = still_words t.pass in
+    let x = still_words u.pass in
+    let sweeping = c.loop-page.invariant.on.sweeping in
+    let gone = unblack_words t.pass u.pass sweeping.wanted
+    (c.is_in_order.ensures.turn.holds, c.is_in_order.ensures.gates) c.loop-page.page c.unblack.ensures.acts in
+    let fewer = blacks_cleared v x c.loop-page.page gone in
     record {
-      on = quiet_then c.loop-page.invariant.on c.unblack_page.ensures.on;
+      on = quiet_then c.loop-page.invariant.on (on_unblack t u sweeping
+          (c.is_in_order.ensures.turn.holds, c.is_in_order.ensures.gates) c.unblack.ensures.op c.loop-page.page
+          c.unblack.ensures.acts);
       fewer = blacks_then w v x c.loop-page.invariant.fewer fewer;
       none = pages_then (λ p. slice_index v.blacks p ≡ 0) (λ p. slice_index x.blacks p ≡ 0) c.loop-page.page
-          fewer.fewer c.loop-page.invariant.none (black_cleared v x c.loop-page.page c.unblack_page.ensures.words);
+          fewer.fewer c.loop-page.invariant.none (black_cleared v x c.loop-page.page gone);
     }

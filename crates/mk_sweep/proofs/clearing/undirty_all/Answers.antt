@@ -1,8 +1,10 @@
-use Rattle.std.proofs.Common.{◌≡◌, ◌∙◌, refl, ap, arith}
+use Rattle.std.proofs.Common.{◌≡◌, ◌∙◌, ◌<◌, refl, ap, subst, sym, arith}
 use Rattle.std.specs.Prelude.{slice_index}
-use Rattle.mk_sweep.proofs.Vocabulary.{Words, head_page, still_words}
+use Rattle.mk_sweep.proofs.Vocabulary.{Words, WordsState, head_page, still_words}
 use Rattle.mk_tracing.proofs.Clearing.{dirt_cleared, dirty_cleared, dirty_same, dirty_then, pages_then}
-use Rattle.mk_sweep.proofs.SweepSteps.{quiet_then, sweeps_from}
+use Rattle.mk_tracing.proofs.MaySteps.{may_undirty_page}
+use Rattle.mk_tracing.proofs.Stilled.{undirty_words}
+use Rattle.mk_sweep.proofs.SweepSteps.{on_undirty, quiet_then, sweeps_from}
 use Rattle.mk_sweep.proofs.WordLists.{head_is_near}
 use Rattle.mk_sweep.proofs.clearing.undirty_all.Goals as goal
 
@@ -13,27 +15,35 @@ loop-page-init c = record {
   clean = λ p lt. absurd (omega arith);
 }
 
-pub undirty_page-requires-clause-own : goal.undirty_page-requires-clause-own
-undirty_page-requires-clause-own c =
-    ap (λ (w : Words). slice_index w.blacks c.loop-page.page) c.loop-page.invariant.fewer.is
-    ∙ c.requires.none c.loop-page.page (omega arith)
-
-pub undirty_page-requires-clause-head : goal.undirty_page-requires-clause-head
-undirty_page-requires-clause-head c =
+pub undirty-requires-clause-enabled : goal.undirty-requires-clause-enabled
+undirty-requires-clause-enabled c =
     let w = still_words c.args.stop.now.pass in
     let near = head_is_near w c.loop-page.page in
-    ap (λ (y : Words). slice_index y.blacks (head_page y c.loop-page.page)) c.loop-page.invariant.fewer.is
-    ∙ c.requires.none (head_page w c.loop-page.page) (omega arith)
+    may_undirty_page c.loop-page.stop.pass c.loop-page.invariant.on.sweeping.wanted
+    (c.is_in_order.ensures.turn.holds, c.is_in_order.ensures.gates) c.loop-page.page
+    (subst (λ (t : WordsState). c.loop-page.page < t.config.pages)
+    (sym (c.loop-page.invariant.on.table ∙ c.requires.one_table)) (omega arith))
+    (ap (λ (y : Words). slice_index y.blacks c.loop-page.page) c.loop-page.invariant.fewer.is
+    ∙ c.requires.none c.loop-page.page (omega arith))
+    (ap (λ (y : Words). slice_index y.blacks (head_page y c.loop-page.page)) c.loop-page.invariant.fewer.is
+    ∙ c.requires.none (head_page w c.loop-page.page) (omega arith))
 
 pub loop-page-preserved : goal.loop-page-preserved
 loop-page-preserved c =
+    let t = c.loop-page.stop in
+    let u = c.undirty.new.self in
     let w = still_words c.args.stop.now.pass in
-    let v = still_words c.loop-page.stop.pass in
-    let x = still_words c.undirty_page.new.stop.pass in
-    let fewer = dirty_cleared v x c.loop-page.page c.undirty_page.ensures.words in
+    let v = still_words t.pass in
+    let x = still_words u.pass in
+    let sweeping = c.loop-page.invariant.on.sweeping in
+    let gone = undirty_words t.pass u.pass sweeping.wanted
+    (c.is_in_order.ensures.turn.holds, c.is_in_order.ensures.gates) c.loop-page.page c.undirty.ensures.acts in
+    let fewer = dirty_cleared v x c.loop-page.page gone in
     record {
-      on = quiet_then c.loop-page.invariant.on c.undirty_page.ensures.on;
+      on = quiet_then c.loop-page.invariant.on (on_undirty t u sweeping
+          (c.is_in_order.ensures.turn.holds, c.is_in_order.ensures.gates) c.undirty.ensures.op c.loop-page.page
+          c.undirty.ensures.acts);
       fewer = dirty_then w v x c.loop-page.invariant.fewer fewer;
       clean = pages_then (λ p. slice_index v.dirty p ≡ 0) (λ p. slice_index x.dirty p ≡ 0) c.loop-page.page
-          fewer.fewer c.loop-page.invariant.clean (dirt_cleared v x c.loop-page.page c.undirty_page.ensures.words);
+          fewer.fewer c.loop-page.invariant.clean (dirt_cleared v x c.loop-page.page gone);
     }

@@ -21,7 +21,7 @@ pub returns-clause-on : goal.returns-clause-on
 returns-clause-on c =
     let p = c.args.stop.now.pass in
     on_word c.args.stop.now c.look.new.self c.requires.sweeping
-    (c.is_in_order.ensures.turn.holds, c.is_in_order.ensures.gates) c.is_in_order.ensures.own c.look.ensures.op
+    (c.is_in_order.ensures.turn.holds, c.is_in_order.ensures.gates) c.look.ensures.op
     c.args.word c.look.ensures.acts
     (subst (λ (t : WordsState). IsScannedWord t.config (world_of p).allocations c.args.word)
     (sym c.requires.one_table) c.requires.scanned)
@@ -38,4 +38,4 @@ pub returns-clause-found : goal.returns-clause-found
 returns-clause-found c =
     look_finds c.args.stop.now.pass c.look.new.self.pass c.requires.sweeping.wanted
     (c.is_in_order.ensures.turn.holds, c.is_in_order.ensures.gates) (word.Heap c.args.word) c.look.ensures.acts
-    c.look.result c.look.ensures.finds refl refl
+    c.look.result c.look.ensures.finds refl

@@ -1,7 +1,8 @@
 use Rattle.std.proofs.Common.{◌≡◌, true, subst, sym}
 use Rattle.mk_why.proofs.Vocabulary.{WordsState, is_word}
+use Rattle.mk_tracing.proofs.Stilled.{look_finds}
 use Rattle.mk_cycle.proofs.Allowed.{in_turn}
-use Rattle.mk_why.proofs.Looks.{look_admitted, look_enabled, look_finds, look_on}
+use Rattle.mk_why.proofs.Looks.{look_admitted, look_enabled, look_on, wanted_now}
 use Rattle.mk_why.proofs.stepping.look_at.Goals as goal
 
 pub look-requires-clause-enabled : goal.look-requires-clause-enabled
@@ -19,13 +20,14 @@ look-requires-clause-admitted c _ =
 
 pub returns-clause-on : goal.returns-clause-on
 returns-clause-on c =
-    look_on c.args.stop.now c.look.new.self c.args.x c.look.ensures.acts
-    (in_turn _ _ c.is_in_order.ensures.own c.is_in_order.ensures.turn c.is_in_order.ensures.history)
-    c.is_in_order.ensures.gates c.look.ensures.acts.makes.pass.history c.requires.still c.look.ensures.op
+    look_on c.args.stop.now c.look.new.self c.args.x c.look.ensures.acts c.is_in_order.ensures.gates c.requires.still
+    c.look.ensures.op
 
 pub returns-clause-found : goal.returns-clause-found
 returns-clause-found c =
-    look_finds c.args.stop.now c.look.new.self c.args.x c.look.ensures.acts
+    look_finds c.args.stop.now.pass c.look.new.self.pass
+    (wanted_now c.args.stop.now.pass
     (in_turn _ _ c.is_in_order.ensures.own c.is_in_order.ensures.turn c.is_in_order.ensures.history)
-    c.is_in_order.ensures.gates c.look.ensures.acts.makes.pass.history c.requires.still c.look.result
+    c.is_in_order.ensures.gates c.requires.still)
+    (c.is_in_order.ensures.turn.holds, c.is_in_order.ensures.gates) c.args.x c.look.ensures.acts c.look.result
     c.look.ensures.finds c.requires.name

@@ -1,54 +1,85 @@
-use Rattle.std.proofs.Common.{◌∙◌, ◌*◌, ◌≤◌, ap, arith, sym}
+use Rattle.std.proofs.Common.{◌≡◌, ◌∙◌, ◌*◌, ◌<◌, ◌≤◌, ap, arith, sym}
 use Rattle.std.proofs.lemmas.Bool.{lt-ltb}
 use Rattle.std.proofs.Math.Nat.{mul-le-mul}
-use Rattle.mk_why.proofs.Vocabulary.{View, header_at, used_at}
-use Rattle.mk_why.proofs.Looks.{looks_then}
-use Rattle.mk_why.proofs.Pointed.{cell_within, none_at, none_at_unused, some_at_used}
+use Rattle.std.specs.Prelude.{Option, None, Some}
+use Rattle.mk_geom.specs.declared.addresses.Cell.{Cell}
+use Rattle.mk_core.specs.Cells.{pointed_cell}
+use Rattle.mk_core.proofs.PointedPages.{pointed_within}
+use Rattle.mk_cycle.proofs.Allowed.{in_turn}
+use Rattle.mk_why.proofs.Vocabulary.{LooksOn, View, header_at, now_of, used_at, view_by}
+use Rattle.mk_why.proofs.Looks.{looks_for_cell, looks_then, may_look_at_headers}
+use Rattle.mk_why.proofs.Pointed.{none_at, none_at_unused, some_at_used}
 use Rattle.mk_why.proofs.values.base_pointed.Goals as goal
+use Rattle.mk_why.proofs.values.base_pointed.Goals.{After-cell_pointed, In-Some}
+
+pub cell_pointed-requires-clause-may : goal.cell_pointed-requires-clause-may
+cell_pointed-requires-clause-may c =
+    may_look_at_headers
+    (in_turn _ _ c.is_in_order.ensures.own c.is_in_order.ensures.turn c.is_in_order.ensures.history)
+    c.is_in_order.ensures.gates c.requires.still
+
+-- what looking for the cell leaves, and what the value points into by the view as it was
+
+looks : (c : After-cell_pointed) → LooksOn c.args.stop.now c.cell_pointed.new.turn
+looks c = looks_for_cell c.cell_pointed.ensures.looks c.is_in_order.ensures.gates c.requires.still
+
+here : (c : After-cell_pointed) (cell : Option Cell)
+    → cell ≡ pointed_cell c.args.words.now.config.pages (now_of c.cell_pointed.new.turn.pass).words.pages c.args.value
+    → cell ≡ pointed_cell c.args.words.now.config.pages (view_by c.args.stop.now.pass).words.pages c.args.value
+here c cell is =
+    is ∙ ap (λ (v : View). pointed_cell c.args.words.now.config.pages v.words.pages c.args.value) (looks c).view
+
+pub returns-in_default-clause-on : goal.returns-in_default-clause-on
+returns-in_default-clause-on c = looks (goal.at.returns-in_default-clause-on c).After-cell_pointed
 
 pub returns-in_default-clause-points : goal.returns-in_default-clause-points
 returns-in_default-clause-points c =
+    let x = (goal.at.returns-in_default-clause-points c).After-cell_pointed in
     none_at c.args.stop.now.pass c.is_in_order.ensures.history c.requires.still c.args.words.now
-    c.requires.one_table c.args.value c.in_default.ensures.points
+    c.requires.one_table c.args.value (here x None c.in_default.ensures.points)
+
+-- where the cell lies
+within : (c : In-Some) → (c.in-Some.cell.page < c.args.words.now.config.pages) × (c.in-Some.cell.index < 64)
+within c =
+    pointed_within c.args.words.now.config.pages (now_of c.cell_pointed.new.turn.pass).words c.args.value
+    c.in-Some.cell (sym c.in-Some.ensures.points)
+
+pub look_at-used-requires-clause-still : goal.look_at-used-requires-clause-still
+look_at-used-requires-clause-still c = (looks (goal.at.look_at-used-requires-clause-still c).After-cell_pointed).still
 
 pub look_at-used-requires-clause-word : goal.look_at-used-requires-clause-word
 look_at-used-requires-clause-word c =
-    let p = c.args.stop.now.pass in
     lt-ltb c.in-Some.cell.page c.args.words.now.config.pages
-    (cell_within p c.is_in_order.ensures.history c.requires.still c.args.words.now c.requires.one_table c.args.value
-    c.in-Some.cell c.in-Some.ensures.points).0
+    (within (goal.at.look_at-used-requires-clause-word c).In-Some).0
 
 pub look_at-header-requires-clause-word : goal.look_at-header-requires-clause-word
 look_at-header-requires-clause-word c =
-    let p = c.args.stop.now.pass in
     lt-ltb c.in-Some.cell.page c.args.words.now.config.pages
-    (cell_within p c.is_in_order.ensures.history c.requires.still c.args.words.now c.requires.one_table c.args.value
-    c.in-Some.cell c.in-Some.ensures.points).0
+    (within (goal.at.look_at-header-requires-clause-word c).In-Some).0
 
 pub returns-then-not-has_bit-clause-on : goal.returns-then-not-has_bit-clause-on
-returns-then-not-has_bit-clause-on c = looks_then c.cell_pointed.ensures.on c.look_at-used.ensures.on
+returns-then-not-has_bit-clause-on c =
+    looks_then (looks (goal.at.returns-then-not-has_bit-clause-on c).After-cell_pointed) c.look_at-used.ensures.on
 
 pub returns-then-not-has_bit-clause-points : goal.returns-then-not-has_bit-clause-points
 returns-then-not-has_bit-clause-points c =
+    let x = goal.at.returns-then-not-has_bit-clause-points c in
     none_at_unused c.args.stop.now.pass c.is_in_order.ensures.history c.requires.still c.args.words.now
-    c.requires.one_table c.args.value c.in-Some.cell c.in-Some.ensures.points c.look_at-used.result
+    c.requires.one_table c.args.value c.in-Some.cell
+    (here x.After-cell_pointed (Some c.in-Some.cell) c.in-Some.ensures.points) c.look_at-used.result
     (c.look_at-used.ensures.found
-    ∙ ap (λ (v : View). used_at v.words c.in-Some.cell.page) c.cell_pointed.ensures.on.view)
+    ∙ ap (λ (v : View). used_at v.words c.in-Some.cell.page) (looks x.After-cell_pointed).view)
     (sym c.has_bit.ensures ∙ c.if-not-has_bit.true)
 
 pub overflow_mul-result : goal.overflow_mul-result
 overflow_mul-result c =
-    let p = c.args.stop.now.pass in
-    let low = (cell_within p c.is_in_order.ensures.history c.requires.still c.args.words.now c.requires.one_table
-    c.args.value c.in-Some.cell c.in-Some.ensures.points).0 in
+    let low = (within (goal.at.overflow_mul-result c).In-Some).0 in
     let few = c.is_within_limits.ensures.pages in
     omega arith
 
 pub overflow_mul-result-2 : goal.overflow_mul-result-2
 overflow_mul-result-2 c =
-    let p = c.args.stop.now.pass in
-    let low = (cell_within p c.is_in_order.ensures.history c.requires.still c.args.words.now c.requires.one_table
-    c.args.value c.in-Some.cell c.in-Some.ensures.points).1 in
+    let low = (within (goal.at.overflow_mul-result-2 c).In-Some).1 in
     let small = c.words_under.ensures.few in
     let top : c.in-Some.cell.index * c.words_under.result ≤ 64 * 4096 =
     mul-le-mul {n₁ = c.in-Some.cell.index} {m₁ = c.words_under.result} {n₂ = 64} {m₂ = 4096} (omega arith) small in
@@ -56,11 +87,8 @@ overflow_mul-result-2 c =
 
 pub overflow_add-result : goal.overflow_add-result
 overflow_add-result c =
-    let p = c.args.stop.now.pass in
-    let within = cell_within p c.is_in_order.ensures.history c.requires.still c.args.words.now c.requires.one_table
-    c.args.value c.in-Some.cell c.in-Some.ensures.points in
-    let low = within.0 in
-    let index = within.1 in
+    let low = (within (goal.at.overflow_add-result c).In-Some).0 in
+    let index = (within (goal.at.overflow_add-result c).In-Some).1 in
     let few = c.is_within_limits.ensures.pages in
     let small = c.words_under.ensures.few in
     let top : c.in-Some.cell.index * c.words_under.result ≤ 64 * 4096 =
@@ -69,15 +97,18 @@ overflow_add-result c =
 
 pub returns-clause-on : goal.returns-clause-on
 returns-clause-on c =
-    looks_then (looks_then c.cell_pointed.ensures.on c.look_at-used.ensures.on) c.look_at-header.ensures.on
+    looks_then (looks_then (looks (goal.at.returns-clause-on c).After-cell_pointed) c.look_at-used.ensures.on)
+    c.look_at-header.ensures.on
 
 pub returns-clause-points : goal.returns-clause-points
 returns-clause-points c =
-    let same = c.look_at-used.ensures.on.view ∙ c.cell_pointed.ensures.on.view in
+    let x = goal.at.returns-clause-points c in
+    let before = looks x.After-cell_pointed in
+    let same = c.look_at-used.ensures.on.view ∙ before.view in
     some_at_used c.args.stop.now.pass c.is_in_order.ensures.history c.requires.still c.args.words.now
-    c.requires.one_table c.args.value c.in-Some.cell c.in-Some.ensures.points c.look_at-used.result
-    (c.look_at-used.ensures.found
-    ∙ ap (λ (v : View). used_at v.words c.in-Some.cell.page) c.cell_pointed.ensures.on.view)
+    c.requires.one_table c.args.value c.in-Some.cell
+    (here x.After-cell_pointed (Some c.in-Some.cell) c.in-Some.ensures.points) c.look_at-used.result
+    (c.look_at-used.ensures.found ∙ ap (λ (v : View). used_at v.words c.in-Some.cell.page) before.view)
     (sym c.has_bit.ensures ∙ c.if-not-has_bit.false) c.look_at-header.result c.words_under.result
     (c.look_at-header.ensures.found ∙ ap (λ (v : View). header_at v.words c.in-Some.cell.page) same)
     c.words_under.ensures.exact
