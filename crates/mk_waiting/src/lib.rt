@@ -19,7 +19,7 @@ use mk_words::{Pass, Turn, Words};
 pub use patience::Patience;
 use std::sync::Wait;
 
-/// Waits for the turn, looks at it before each try, and takes it.
+/// Waits for the turn, and takes it.
 #[inline(never)]
 fn wait_for_turn<R: Wait>(rt: &R, words: &Words, home: Pass, op: Option<Op>) -> Turn
     requires one_table { home.table ≡ words.now }
@@ -33,13 +33,11 @@ fn wait_for_turn<R: Wait>(rt: &R, words: &Words, home: Pass, op: Option<Op>) -> 
     let mut pass = home;
     let mut patience = Patience::new();
     'waiting: for _ in rt.forever() {
-        if words.is_turn_free(&mut pass) {
-            match pass.try_take(words, op) {
-                Ok(turn) => return turn,
-                Err((back, _)) => pass = back,
-            }
-        }
         patience.pause_for_turn(rt, words);
+        match pass.try_take(words, op) {
+            Ok(turn) => return turn,
+            Err((back, _)) => pass = back,
+        }
     }
     unreachable!()
 }

@@ -1,5 +1,5 @@
 //! How one waits for what may take long. No promise rests on it, but how long each sleep is.
-ghost use Rattle.std.specs.Prelude.{◌≡◌, ◌*◌, ◌<◌, IfSome, IfNone};
+ghost use Rattle.std.specs.Prelude.{◌≡◌, ◌*◌, ◌<◌, ◌≤◌, IfSome, IfNone};
 ghost use Rattle.std.specs.Duration.{as_nanos};
 ghost use Rattle.mk_waiting.specs.Sleeps.{first_sleep, sleep_after, PausesOnce};
 
@@ -7,7 +7,18 @@ use crossbeam_utils::Backoff;
 use mk_words::Words;
 use std::marker::Model;
 use std::sync::Wait;
+use std::thread::yield_now;
 use std::time::Duration;
+
+/// How often one who waits for the turn spins before it yields: all in all for less than a turn lasts. To spin for
+/// longer takes the words of the turn away from a holder who wants it again at once.
+const SPINS_FOR_TURN: u32 = 4;
+
+/// How often one who waits for a gate or a phase spins: as often as `Backoff` spins for longer each time.
+const SPINS: u32 = 7;
+
+/// How often one yields before it sleeps.
+const YIELDS: u32 = 4;
 
 /// The first sleep, in microseconds. Linux ends a sleep up to 50 microseconds late, so none is shorter.
 const FIRST: u64 = 50;
@@ -15,12 +26,13 @@ const FIRST: u64 = 50;
 /// The longest sleep: less than a scheduler lets a thread run, so one who sleeps loses little by it.
 const LONGEST: u64 = 1000;
 
-/// One who waits: it spins for about as long as a turn lasts, then leaves the processor to others a few times, and then
-/// sleeps, each time twice as long as before. After a sleep it spins again, since one look alone may often come too
-/// early or too late. It is seen as its next sleep, in microseconds.
+/// One who waits: it spins a few times, each time twice as long as before, then leaves the processor to others a few
+/// times, and then sleeps, each time twice as long as before. After a sleep it spins again, since one look alone may
+/// often come too early or too late. It is seen as its next sleep, in microseconds.
 #[derive(Drop)]
 pub struct Patience {
     backoff: Backoff,
+    pauses: u32,
     micros: u64,
 }
 
@@ -42,6 +54,7 @@ impl Patience {
     {
         Patience {
             backoff: Backoff::new(),
+            pauses: 0,
             micros: FIRST,
         }
     }
@@ -51,31 +64,38 @@ impl Patience {
         ensures { self.new ≡ first_sleep }
     {
         self.backoff.reset();
+        self.pauses = 0;
         self.micros = FIRST;
     }
 
     /// Spins or yields once, or returns how long to sleep.
-    fn pause(&mut self) -> Option<Duration>
+    fn pause(&mut self, spins: u32) -> Option<Duration>
+        requires few { spins ≤ 7 }
         ensures awake { IfNone result (self.new ≡ self.old) }
         ensures sleep { IfSome result (λ sleep. as_nanos sleep ≡ 1000 * self.old) }
         ensures longer { IfSome result (λ sleep. self.new ≡ sleep_after self.old) }
     {
-        if self.backoff.is_completed() {
+        if self.pauses >= spins + YIELDS {
             let sleep = Duration::from_micros(self.micros);
             self.micros = (2 * self.micros).min(LONGEST);
             self.backoff.reset();
-            Some(sleep)
-        } else {
-            self.backoff.snooze();
-            None
+            self.pauses = 0;
+            return Some(sleep);
         }
+        if self.pauses < spins {
+            self.backoff.spin();
+        } else {
+            yield_now();
+        }
+        self.pauses += 1;
+        None
     }
 
     /// Pauses once, where another has the turn.
     pub fn pause_for_turn<R: Wait>(&mut self, rt: &R, words: &Words)
         ensures { PausesOnce self.old self.new }
     {
-        if let Some(sleep) = self.pause() {
+        if let Some(sleep) = self.pause(SPINS_FOR_TURN) {
             words.sleep_on_turn(rt, sleep);
         }
     }
@@ -84,7 +104,7 @@ impl Patience {
     pub fn pause_for_phase<R: Wait>(&mut self, rt: &R, words: &Words, phase: u64)
         ensures { PausesOnce self.old self.new }
     {
-        if let Some(sleep) = self.pause() {
+        if let Some(sleep) = self.pause(SPINS) {
             words.sleep_on_phase(rt, phase, sleep);
         }
     }
@@ -94,7 +114,7 @@ impl Patience {
         requires { caller < words.now.config.callers }
         ensures { PausesOnce self.old self.new }
     {
-        if let Some(sleep) = self.pause() {
+        if let Some(sleep) = self.pause(SPINS) {
             words.sleep_on_gate(rt, caller, sleep);
         }
     }
