@@ -233,7 +233,7 @@ module _ (nodes : List Node) where
       → p.frames ≡ [] → left_in nodes p ≡ Done
   unfolded_done p tree w e none = unfolded p node.Done tree w e ∙ ap (behind_frames (trees nodes)) none
 
-  below_length : (p : Place) (n : Node) → IsTree nodes → PlaceIsWithin (length nodes) p → node_at nodes p.at ≡ n
+  pub below_length : (p : Place) (n : Node) → IsTree nodes → PlaceIsWithin (length nodes) p → node_at nodes p.at ≡ n
       → IsBelow (length nodes) n
   below_length p n tree w e =
       subst (λ (m : Node). IsBelow (length nodes) m) e

@@ -1,52 +1,109 @@
--- What a sequel says, and where a script then stops.
+-- What is told of what comes after a line, and where a script then stops.
 use Rattle.std.proofs.Common.{◌≡◌, ℕ, Bool, true, false, List, length, refl, ap, sym, ◌∙◌, subst}
-use Rattle.std.specs.Prelude.{Option, Some, None, if◌then◌else◌, not, ◌&&◌, ◌-◌, slice_set}
+use Rattle.std.specs.Prelude.{Option, Some, None, if◌then◌else◌, not, ◌&&◌}
 use Rattle.mk_core.specs.declared.events.Answer.{Answer}
 use Rattle.mk_core.specs.declared.events.Answer.TheVariants as answer
 use Rattle.mk_check.specs.declared.feeding.instructions.Instruction.{Instruction}
 use Rattle.mk_check.specs.declared.feeding.instructions.Instruction.TheVariants.{GetNum, CasPtr, Same, IsNull, Show}
-use Rattle.mk_check.specs.declared.feeding.tree.Frame.TheVariants as frame
 use Rattle.mk_check.specs.declared.feeding.tree.Node.{Node}
 use Rattle.mk_check.specs.declared.feeding.tree.Node.TheVariants as node
 use Rattle.mk_check.specs.declared.feeding.tree.Sequel.{Sequel}
 use Rattle.mk_check.specs.declared.feeding.tree.Sequel.TheVariants as sequel
-use Rattle.mk_check.specs.AtOnce.{BeginsRound, TakesAtOnce}
+use Rattle.mk_check.specs.declared.feeding.tree.Sequels.{Sequels}
+use Rattle.mk_check.specs.AtOnce.{BeginsRound, TakesAtOnce, TakesLine}
 use Rattle.mk_check.specs.Feed.{is_refusal}
-use Rattle.mk_check.specs.Spots.{asks_at, sequel_before, then_asks, then_node}
+use Rattle.mk_check.specs.Spots.{asks_at, sequel_to, sequels_by, sequels_of}
 use Rattle.mk_check.specs.Steps.{KeptState, after_answer, is_asking, is_show, is_silent, keeping_register, with_value}
 use Rattle.mk_check.specs.Trees.{IsTree, Place, PlaceIsWithin, HasStopped, kept_in, node_at, with_kept}
 use Rattle.mk_check.proofs.AtOnce.{asks_so, stopped_here}
+use Rattle.mk_check.proofs.Moves.{below_length}
 use Rattle.mk_check.proofs.NextRounds.{round_begins}
 
--- what it says of whether the instruction shows its answer, where that is kept, and which node comes next
-abbrev Says : Sequel → Bool → Option ℕ → Node → Type 0
-Says sequel.Other shown kept n = Unit {0}
-Says sequel.Asks shown kept n = (shown ≡ false) × (kept ≡ None) × (asks_at n ≡ true)
-Says (sequel.KeptThenAsks number) shown kept n = (shown ≡ false) × (kept ≡ Some number) × (asks_at n ≡ true)
-Says sequel.Ends shown kept n = (shown ≡ false) × (kept ≡ None) × (n ≡ node.Done)
-Says (sequel.KeptThenEnds number) shown kept n = (shown ≡ false) × (kept ≡ Some number) × (n ≡ node.Done)
+-- what is next, where that is told
 
-says_asks : (asks : Bool) (kept : Option ℕ) (n : Node) → asks_at n ≡ asks
-    → Says (if asks then then_asks kept else sequel.Other) false kept n
-says_asks true None n e = (refl, refl, e)
-says_asks true (Some number) n e = (refl, refl, e)
-says_asks false kept n e = tt
+asks_if : (b : Bool) → (if b then sequel.Asks else sequel.Other) ≡ sequel.Asks → b ≡ true
+asks_if true e = refl
+asks_if false e = cc
 
-says : (shown : Bool) (kept : Option ℕ) (n : Node)
-    → Says (if shown then sequel.Other else then_node n kept) shown kept n
-says true kept n = tt
-says false None node.Done = (refl, refl, refl)
-says false (Some number) node.Done = (refl, refl, refl)
-says false kept (node.Line line instruction next) =
-    says_asks (is_asking instruction) kept (node.Line line instruction next) refl
-says false kept (node.Rounds rounds body next) = tt
-says false kept (node.Choice number first second next) = tt
+next_asks : (n : Node) → sequel_to n ≡ sequel.Asks → asks_at n ≡ true
+next_asks node.Done e = cc
+next_asks (node.Line line instruction next) e = asks_if (is_asking instruction) e
+next_asks (node.Rounds rounds body next) e = cc
+next_asks (node.Choice number first second next) e = cc
 
-says_so : (s t : Sequel) (n : Node) (instruction : Instruction) → s ≡ sequel_before n instruction → s ≡ t
-    → Says t (is_show instruction) (keeping_register instruction) n
-says_so s t n instruction is e =
-    subst (λ (x : Sequel). Says x (is_show instruction) (keeping_register instruction) n) (sym is ∙ e)
-    (says (is_show instruction) (keeping_register instruction) n)
+ends_not : (b : Bool) (n : Node) → (if b then sequel.Asks else sequel.Other) ≡ sequel.Ends → n ≡ node.Done
+ends_not true n e = cc
+ends_not false n e = cc
+
+next_ends : (n : Node) → sequel_to n ≡ sequel.Ends → n ≡ node.Done
+next_ends node.Done e = refl
+next_ends (node.Line line instruction next) e = ends_not (is_asking instruction) (node.Line line instruction next) e
+next_ends (node.Rounds rounds body next) e = cc
+next_ends (node.Choice number first second next) e = cc
+
+-- The node is a line before this one, whose answer this register keeps, if any does, and this comes next.
+record IsLine (nodes : List Node) (n : Node) (next : ℕ) (kept : Option ℕ) (s : Sequel) : Type 0 where
+  line : ℕ
+  instruction : Instruction
+  is : n ≡ node.Line line instruction next
+  shown : is_show instruction ≡ false
+  keeps : keeping_register instruction ≡ kept
+  told : sequel_to (node_at nodes next) ≡ s
+
+kept_by : (next : ℕ) (shown : Bool) (kept : Option ℕ) (u s : Sequel) → (s ≡ sequel.Other → ⊥)
+    → (sequels_by next shown kept u).kept ≡ s
+    → ((sequels_by next shown kept u).next ≡ next) × (shown ≡ false)
+    × (kept ≡ Some (sequels_by next shown kept u).register) × (u ≡ s)
+kept_by next true kept u s known e = absurd (known (sym e))
+kept_by next false None u s known e = absurd (known (sym e))
+kept_by next false (Some number) u s known e = (refl, refl, refl, e)
+
+unkept_by : (next : ℕ) (shown : Bool) (kept : Option ℕ) (u s : Sequel) → (s ≡ sequel.Other → ⊥)
+    → (sequels_by next shown kept u).unkept ≡ s
+    → ((sequels_by next shown kept u).next ≡ next) × (shown ≡ false) × (kept ≡ None) × (u ≡ s)
+unkept_by next true kept u s known e = absurd (known (sym e))
+unkept_by next false None u s known e = (refl, refl, refl, e)
+unkept_by next false (Some number) u s known e = absurd (known (sym e))
+
+kept_line : (nodes : List Node) (n : Node) (s : Sequel) → (s ≡ sequel.Other → ⊥) → (sequels_of nodes n).kept ≡ s
+    → IsLine nodes n (sequels_of nodes n).next (Some (sequels_of nodes n).register) s
+kept_line nodes node.Done s known e = absurd (known (sym e))
+kept_line nodes (node.Line line instruction next) s known e =
+    let by = kept_by next (is_show instruction) (keeping_register instruction) (sequel_to (node_at nodes next)) s known e
+    in
+    record {
+      line = line;
+      instruction = instruction;
+      is = ap (λ (j : ℕ). node.Line line instruction j) (sym by.0);
+      shown = by.1;
+      keeps = by.2;
+      told = ap (λ (j : ℕ). sequel_to (node_at nodes j)) by.0 ∙ by.3;
+    }
+kept_line nodes (node.Rounds rounds body next) s known e = absurd (known (sym e))
+kept_line nodes (node.Choice number first second next) s known e = absurd (known (sym e))
+
+unkept_line : (nodes : List Node) (n : Node) (s : Sequel) → (s ≡ sequel.Other → ⊥)
+    → (sequels_of nodes n).unkept ≡ s → IsLine nodes n (sequels_of nodes n).next None s
+unkept_line nodes node.Done s known e = absurd (known (sym e))
+unkept_line nodes (node.Line line instruction next) s known e =
+    let by = unkept_by next (is_show instruction) (keeping_register instruction) (sequel_to (node_at nodes next)) s known e
+    in
+    record {
+      line = line;
+      instruction = instruction;
+      is = ap (λ (j : ℕ). node.Line line instruction j) (sym by.0);
+      shown = by.1;
+      keeps = by.2;
+      told = ap (λ (j : ℕ). sequel_to (node_at nodes j)) by.0 ∙ by.3;
+    }
+unkept_line nodes (node.Rounds rounds body next) s known e = absurd (known (sym e))
+unkept_line nodes (node.Choice number first second next) s known e = absurd (known (sym e))
+
+asks_is_known : sequel.Asks ≡ sequel.Other → ⊥
+asks_is_known e = absurd cc
+
+ends_is_known : sequel.Ends ≡ sequel.Other → ⊥
+ends_is_known e = absurd cc
 
 -- what the answer does to what is kept
 
@@ -104,42 +161,79 @@ module _ (nodes : List Node) (p : Place) (next : ℕ) (instruction : Instruction
             (is ∙ ap (λ (x : Place). with_kept x (after_answer instruction a (kept_in p))) b.is);
       }
 
-  module _ (s : Sequel) (is : s ≡ sequel_before (node_at nodes next) instruction) where
-    pub number_at_line : (number value : ℕ) (t : Place) → s ≡ sequel.KeptThenAsks number
-        → t ≡ with_kept (record p { at = next }) (with_value (kept_in p) number value)
-        → TakesAtOnce nodes next instruction (answer.Num value) p t
-    number_at_line number value t e h =
-        let says = says_so s (sequel.KeptThenAsks number) (node_at nodes next) instruction is e in
-        let kept = number_kept instruction number value (kept_in p) says.1 in
-        stops_at_line (answer.Num value) t (silent instruction (answer.Num value) refl says.0) says.2
-        (h ∙ ap (λ (k : KeptState). with_kept (record p { at = next }) k) (sym kept))
+module _ (nodes : List Node) (p : Place) (tree : IsTree nodes) (w : PlaceIsWithin (length nodes) p) where
+  -- the node after the place's line
+  within_next : (line : ℕ) (instruction : Instruction) (next : ℕ) → node_at nodes p.at ≡ node.Line line instruction next
+      → PlaceIsWithin (length nodes) (record p { at = next })
+  within_next line instruction next here =
+      record { at = below_length nodes p (node.Line line instruction next) tree w here; frames = w.frames }
 
-    pub number_in_round : (number value : ℕ) (q t : Place) → s ≡ sequel.KeptThenEnds number → BeginsRound nodes p q
-        → t ≡ with_kept q (with_value (kept_in p) number value)
-        → TakesAtOnce nodes next instruction (answer.Num value) p t
-    number_in_round number value q t e b h =
-        let says = says_so s (sequel.KeptThenEnds number) (node_at nodes next) instruction is e in
-        let kept = number_kept instruction number value (kept_in p) says.1 in
-        stops_in_round (answer.Num value) q t (silent instruction (answer.Num value) refl says.0) says.2 b
-        (h ∙ ap (λ (k : KeptState). with_kept q k) (sym kept))
+  at_line : (kept : Option ℕ) (next : ℕ) (a : Answer) (k : KeptState) (t : Place) → is_refusal a ≡ false
+      → (l : IsLine nodes (node_at nodes p.at) next kept sequel.Asks)
+      → after_answer l.instruction a (kept_in p) ≡ k → t ≡ with_kept (record p { at = next }) k → TakesLine nodes a p t
+  at_line kept next a k t accepted l after is =
+      record {
+        line = l.line;
+        instruction = l.instruction;
+        next = next;
+        here = l.is;
+        taken = stops_at_line nodes p next l.instruction tree (within_next l.line l.instruction next l.is) a t
+            (silent l.instruction a accepted l.shown) (next_asks (node_at nodes next) l.told)
+            (is ∙ ap (λ (x : KeptState). with_kept (record p { at = next }) x) (sym after));
+      }
 
-    pub none_at_line : (a : Answer) (t : Place) → is_refusal a ≡ false → s ≡ sequel.Asks → t ≡ record p { at = next }
-        → TakesAtOnce nodes next instruction a p t
-    none_at_line a t accepted e h =
-        let says = says_so s sequel.Asks (node_at nodes next) instruction is e in
-        let kept = nothing_kept instruction a (kept_in p) says.0 says.1 in
-        stops_at_line a t (silent instruction a accepted says.0) says.2
-        (h ∙ ap (λ (k : KeptState). with_kept (record p { at = next }) k) (sym kept))
+  in_round : (kept : Option ℕ) (next : ℕ) (a : Answer) (k : KeptState) (q t : Place) → is_refusal a ≡ false
+      → (l : IsLine nodes (node_at nodes p.at) next kept sequel.Ends) → BeginsRound nodes p q
+      → after_answer l.instruction a (kept_in p) ≡ k → t ≡ with_kept q k → TakesLine nodes a p t
+  in_round kept next a k q t accepted l begins after is =
+      record {
+        line = l.line;
+        instruction = l.instruction;
+        next = next;
+        here = l.is;
+        taken = stops_in_round nodes p next l.instruction tree (within_next l.line l.instruction next l.is) a q t
+            (silent l.instruction a accepted l.shown) (next_ends (node_at nodes next) l.told) begins
+            (is ∙ ap (λ (x : KeptState). with_kept q x) (sym after));
+      }
 
-    pub none_in_round : (a : Answer) (t : Place) → is_refusal a ≡ false → s ≡ sequel.Ends → BeginsRound nodes p t
-        → TakesAtOnce nodes next instruction a p t
-    none_in_round a t accepted e b =
-        let says = says_so s sequel.Ends (node_at nodes next) instruction is e in
-        let kept = nothing_kept instruction a (kept_in p) says.0 says.1 in
-        stops_in_round a t t (silent instruction a accepted says.0) says.2 b
-        (b.is ∙ sym (ap (λ (x : Place). with_kept x (after_answer instruction a (kept_in p))) b.is
-        ∙ ap (λ (k : KeptState). with_kept (record p {
-          at = b.body;
-          frames = slice_set p.frames (length p.frames - 1) (frame.Rounds (b.rounds - 1) b.body b.behind);
-        }) k)
-        kept))
+  module _ (s : Sequels) (so : s ≡ sequels_of nodes (node_at nodes p.at)) where
+    kept_here : (told : Sequel) → (told ≡ sequel.Other → ⊥) → s.kept ≡ told
+        → IsLine nodes (node_at nodes p.at) s.next (Some s.register) told
+    kept_here told known e =
+        subst (λ (x : Sequels). IsLine nodes (node_at nodes p.at) x.next (Some x.register) told) (sym so)
+        (kept_line nodes (node_at nodes p.at) told known (sym (ap (λ (x : Sequels). x.kept) so) ∙ e))
+
+    unkept_here : (told : Sequel) → (told ≡ sequel.Other → ⊥) → s.unkept ≡ told
+        → IsLine nodes (node_at nodes p.at) s.next None told
+    unkept_here told known e =
+        subst (λ (x : Sequels). IsLine nodes (node_at nodes p.at) x.next None told) (sym so)
+        (unkept_line nodes (node_at nodes p.at) told known (sym (ap (λ (x : Sequels). x.unkept) so) ∙ e))
+
+    pub number_at_line : (value : ℕ) (t : Place) → s.kept ≡ sequel.Asks
+        → t ≡ with_kept (record p { at = s.next }) (with_value (kept_in p) s.register value)
+        → TakesLine nodes (answer.Num value) p t
+    number_at_line value t e is =
+        let l = kept_here sequel.Asks asks_is_known e in
+        at_line (Some s.register) s.next (answer.Num value) (with_value (kept_in p) s.register value) t refl l
+        (number_kept l.instruction s.register value (kept_in p) l.keeps) is
+
+    pub number_in_round : (value : ℕ) (q t : Place) → s.kept ≡ sequel.Ends → BeginsRound nodes p q
+        → t ≡ with_kept q (with_value (kept_in p) s.register value) → TakesLine nodes (answer.Num value) p t
+    number_in_round value q t e begins is =
+        let l = kept_here sequel.Ends ends_is_known e in
+        in_round (Some s.register) s.next (answer.Num value) (with_value (kept_in p) s.register value) q t refl l begins
+        (number_kept l.instruction s.register value (kept_in p) l.keeps) is
+
+    pub none_at_line : (a : Answer) (t : Place) → is_refusal a ≡ false → s.unkept ≡ sequel.Asks
+        → t ≡ record p { at = s.next } → TakesLine nodes a p t
+    none_at_line a t accepted e is =
+        let l = unkept_here sequel.Asks asks_is_known e in
+        at_line None s.next a (kept_in p) t accepted l (nothing_kept l.instruction a (kept_in p) l.shown l.keeps) is
+
+    pub none_in_round : (a : Answer) (t : Place) → is_refusal a ≡ false → s.unkept ≡ sequel.Ends
+        → BeginsRound nodes p t → TakesLine nodes a p t
+    none_in_round a t accepted e begins =
+        let l = unkept_here sequel.Ends ends_is_known e in
+        in_round None s.next a (kept_in p) t t accepted l begins
+        (nothing_kept l.instruction a (kept_in p) l.shown l.keeps)
+        (begins.is ∙ ap (λ (x : Place). with_kept x (kept_in p)) (sym begins.is))

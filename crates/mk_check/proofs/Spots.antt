@@ -7,8 +7,8 @@ use Rattle.std.proofs.lemmas.List.{map-append}
 use Rattle.mk_check.specs.declared.feeding.tree.Node.{Node}
 use Rattle.mk_check.specs.declared.feeding.tree.Node.TheVariants as node
 use Rattle.mk_check.specs.declared.feeding.tree.Spot.{Spot}
-use Rattle.mk_check.specs.Spots.{IsMarked, IsMarkedTree, end_spot, instruction_of_node, nodes_of, sequel_before}
-use Rattle.mk_check.specs.Spots.{asks_at, sequel_of, spot_at}
+use Rattle.mk_check.specs.Spots.{IsMarked, IsMarkedTree, end_spot, instruction_of_node, nodes_of, sequels_before}
+use Rattle.mk_check.specs.Spots.{asks_at, sequels_of, spot_at}
 use Rattle.mk_check.specs.Feeding.{op_of_node}
 use Rattle.mk_check.specs.Steps.{asks_first, is_asking, op_asked}
 use Rattle.mk_check.specs.Trees.{IsBelow, IsTree, node_at, steps_at, steps_from, trees}
@@ -42,18 +42,18 @@ nodes_of_push : (spots : List Spot) (s : Spot) → nodes_of (spots ++ s ∷ []) 
 nodes_of_push spots s = map-append (λ (s : Spot). s.node) spots (s ∷ [])
 
 same_mark : (nodes more : List Node) (n : Node) → IsBelow (length nodes) n
-    → sequel_of (nodes ++ more) n ≡ sequel_of nodes n
+    → sequels_of (nodes ++ more) n ≡ sequels_of nodes n
 same_mark nodes more node.Done below = refl
 same_mark nodes more (node.Line line instruction next) below =
-    ap (λ (m : Node). sequel_before m instruction) (get_or_append_left nodes more node.Done next below)
+    ap (λ (m : Node). sequels_before next m instruction) (get_or_append_left nodes more node.Done next below)
 same_mark nodes more (node.Rounds rounds body next) below = refl
 same_mark nodes more (node.Choice number first second next) below = refl
 
 same_mark_pushed : (spots : List Spot) (s : Spot) (n : Node) → IsBelow (length spots) n
-    → sequel_of (nodes_of spots) n ≡ sequel_of (nodes_of (spots ++ s ∷ [])) n
+    → sequels_of (nodes_of spots) n ≡ sequels_of (nodes_of (spots ++ s ∷ [])) n
 same_mark_pushed spots s n below =
     let within = subst (λ (c : ℕ). IsBelow c n) (sym (length-nodes_of spots)) below in
-    sym (ap (λ (nodes : List Node). sequel_of nodes n) (nodes_of_push spots s)
+    sym (ap (λ (nodes : List Node). sequels_of nodes n) (nodes_of_push spots s)
     ∙ same_mark (nodes_of spots) (s.node ∷ []) n within)
 
 -- the node of a spot names nodes before it
@@ -78,7 +78,7 @@ marked_still : (spots : List Spot) (s x : Spot) → IsBelow (length spots) x.nod
     → IsMarked (nodes_of (spots ++ s ∷ [])) x
 marked_still spots s x below m = record {
   instruction = m.instruction;
-  sequel = m.sequel ∙ same_mark_pushed spots s x.node below;
+  sequels = m.sequels ∙ same_mark_pushed spots s x.node below;
   first = m.first ∙ ap asks_first (same_steps_pushed spots s x.node below);
 }
 
@@ -103,7 +103,7 @@ IsMarkedTree_push spots s m below mark = record {
 pub mark_there : (spots : List Spot) (at : ℕ) (s : Spot) → IsMarkedTree spots → at < length (nodes_of spots)
     → s ≡ get_or spots at s
     → (s.instruction ≡ instruction_of_node (node_at (nodes_of spots) at))
-    × (s.sequel ≡ sequel_of (nodes_of spots) (node_at (nodes_of spots) at))
+    × (s.sequels ≡ sequels_of (nodes_of spots) (node_at (nodes_of spots) at))
     × (s.asks_first ≡ asks_first (steps_at (trees (nodes_of spots)) at))
 mark_there spots at s m h is =
     let lt : at < length spots = omega (arith, length-nodes_of spots) in
@@ -111,7 +111,7 @@ mark_there spots at s m h is =
     let here = sym (node_of_spot spots at lt) in
     let mark = m.marks at lt in (
       ap (λ (x : Spot). x.instruction) same ∙ (mark.instruction ∙ ap instruction_of_node here),
-      ap (λ (x : Spot). x.sequel) same ∙ (mark.sequel ∙ ap (sequel_of (nodes_of spots)) here),
+      ap (λ (x : Spot). x.sequels) same ∙ (mark.sequels ∙ ap (sequels_of (nodes_of spots)) here),
       ap (λ (x : Spot). x.asks_first) same
           ∙ (mark.first ∙ (ap (λ (n : Node). asks_first (steps_from (trees (nodes_of spots)) n)) here
           ∙ sym (ap asks_first (steps_at-trees (nodes_of spots) at m.tree h)))),

@@ -4,6 +4,7 @@ use Rattle.std.specs.Prelude.{◌≡◌, ℕ, ◌<◌, ◌-◌, true, List, leng
 use Rattle.mk_core.specs.declared.events.Answer.{Answer}
 use Rattle.mk_check.specs.declared.feeding.instructions.Instruction.{Instruction}
 use Rattle.mk_check.specs.declared.feeding.tree.Node.{Node}
+use Rattle.mk_check.specs.declared.feeding.tree.Node.TheVariants as node
 use Rattle.mk_check.specs.declared.feeding.tree.Frame.TheVariants as frame
 use Rattle.mk_check.specs.Spots.{asks_at}
 use Rattle.mk_check.specs.Steps.{after_answer, is_silent}
@@ -30,3 +31,12 @@ pub record TakesAtOnce (nodes : List Node) (next : ℕ) (instruction : Instructi
     Type 0 where
   pub silent : is_silent instruction a ≡ true
   pub stopped : HasStopped nodes (with_kept (record old { at = next }) (after_answer instruction a (kept_in old))) new
+
+-- The place's node is a line, which takes an answer at which it prints nothing, and the script stops at the next
+-- operation.
+pub record TakesLine (nodes : List Node) (a : Answer) (old new : Place) : Type 0 where
+  pub line : ℕ
+  pub instruction : Instruction
+  pub next : ℕ
+  pub here : node_at nodes old.at ≡ node.Line line instruction next
+  pub taken : TakesAtOnce nodes next instruction a old new

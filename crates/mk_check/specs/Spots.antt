@@ -1,6 +1,6 @@
 -- A script's tree with what comes after each node.
 -- Private functions alone cite these words.
-use Rattle.std.specs.Prelude.{◌≡◌, ℕ, ◌<◌, Bool, false, if◌then◌else◌, List, length, map, slice_index_or}
+use Rattle.std.specs.Prelude.{◌≡◌, ℕ, ◌<◌, Bool, true, false, if◌then◌else◌, List, length, map, slice_index_or}
 use Rattle.std.specs.Prelude.{Option, Some, None}
 use Rattle.mk_check.specs.declared.feeding.instructions.Instruction.{Instruction}
 use Rattle.mk_check.specs.declared.feeding.instructions.Instruction.TheVariants.{Nothing}
@@ -8,6 +8,7 @@ use Rattle.mk_check.specs.declared.feeding.tree.Node.{Node}
 use Rattle.mk_check.specs.declared.feeding.tree.Node.TheVariants as node
 use Rattle.mk_check.specs.declared.feeding.tree.Sequel.{Sequel}
 use Rattle.mk_check.specs.declared.feeding.tree.Sequel.TheVariants as sequel
+use Rattle.mk_check.specs.declared.feeding.tree.Sequels.{Sequels}
 use Rattle.mk_check.specs.declared.feeding.tree.Spot.{Spot}
 use Rattle.mk_check.specs.Steps.{asks_first, is_asking, is_show, keeping_register}
 use Rattle.mk_check.specs.Trees.{IsTree, node_at, steps_from, trees}
@@ -29,38 +30,37 @@ instruction_of_node (node.Line line instruction next) = instruction
 instruction_of_node (node.Rounds rounds body next) = Nothing
 instruction_of_node (node.Choice number first second next) = Nothing
 
--- a line that asks for an operation comes next
-abbrev pub then_asks : Option ℕ → Sequel
-then_asks None = sequel.Asks
-then_asks (Some number) = sequel.KeptThenAsks number
+-- what comes where this node is the next one
+abbrev pub sequel_to : Node → Sequel
+sequel_to node.Done = sequel.Ends
+sequel_to (node.Line line instruction next) = if is_asking instruction then sequel.Asks else sequel.Other
+sequel_to (node.Rounds rounds body next) = sequel.Other
+sequel_to (node.Choice number first second next) = sequel.Other
 
--- the end of a block comes next
-abbrev pub then_ends : Option ℕ → Sequel
-then_ends None = sequel.Ends
-then_ends (Some number) = sequel.KeptThenEnds number
+abbrev pub no_sequels : Sequels
+no_sequels = record { next = 0; register = 0; unkept = sequel.Other; kept = sequel.Other }
 
--- this node comes after an answer that is kept in this register, if in any
-abbrev pub then_node : Node → Option ℕ → Sequel
-then_node node.Done kept = then_ends kept
-then_node (node.Line line instruction next) kept = if is_asking instruction then then_asks kept else sequel.Other
-then_node (node.Rounds rounds body next) kept = sequel.Other
-then_node (node.Choice number first second next) kept = sequel.Other
+-- this comes at the next node, after an answer that is shown, or not, and that this register keeps, if any does
+abbrev pub sequels_by : ℕ → Bool → Option ℕ → Sequel → Sequels
+sequels_by next true kept s = no_sequels
+sequels_by next false None s = record { next = next; register = 0; unkept = s; kept = sequel.Other }
+sequels_by next false (Some number) s = record { next = next; register = number; unkept = sequel.Other; kept = s }
 
 -- what comes after an instruction before this node
-abbrev pub sequel_before : Node → Instruction → Sequel
-sequel_before next instruction =
-    if is_show instruction then sequel.Other else then_node next (keeping_register instruction)
+abbrev pub sequels_before : ℕ → Node → Instruction → Sequels
+sequels_before next n instruction =
+    sequels_by next (is_show instruction) (keeping_register instruction) (sequel_to n)
 
 -- what comes after a node
-abbrev pub sequel_of : List Node → Node → Sequel
-sequel_of nodes node.Done = sequel.Other
-sequel_of nodes (node.Line line instruction next) = sequel_before (node_at nodes next) instruction
-sequel_of nodes (node.Rounds rounds body next) = sequel.Other
-sequel_of nodes (node.Choice number first second next) = sequel.Other
+abbrev pub sequels_of : List Node → Node → Sequels
+sequels_of nodes node.Done = no_sequels
+sequels_of nodes (node.Line line instruction next) = sequels_before next (node_at nodes next) instruction
+sequels_of nodes (node.Rounds rounds body next) = no_sequels
+sequels_of nodes (node.Choice number first second next) = no_sequels
 
 -- what is known of the end of a block
 abbrev pub end_spot : Spot
-end_spot = record { instruction = Nothing; node = node.Done; sequel = sequel.Other; asks_first = false }
+end_spot = record { instruction = Nothing; node = node.Done; sequels = no_sequels; asks_first = false }
 
 -- what is known at this place; where there is none, of the end of a block
 abbrev pub spot_at : List Spot → ℕ → Spot
@@ -69,7 +69,7 @@ spot_at spots at = slice_index_or spots at end_spot
 -- it has the node's instruction, what comes after the node, and whether its steps come to an operation first
 pub record IsMarked (nodes : List Node) (s : Spot) : Type 0 where
   pub instruction : s.instruction ≡ instruction_of_node s.node
-  pub sequel : s.sequel ≡ sequel_of nodes s.node
+  pub sequels : s.sequels ≡ sequels_of nodes s.node
   pub first : s.asks_first ≡ asks_first (steps_from (trees nodes) s.node)
 
 -- The nodes are a tree, and each is marked.

@@ -127,14 +127,8 @@ impl Feed {
         ensures nearer { IsTrue result → work_left self.new < work_left self.old }
         ensures refused { result ≡ false → self.new ≡ self.old }
     {
-        let at = self.running.at();
-        let Node::Line { next, .. } = self.tree.node(at) else {
-            unreachable!()
-        };
-        let sequel = self.tree.sequel(at);
-        let instruction = self.tree.instruction(at);
-        self.running
-            .answer_silently(&self.tree, sequel, next, instruction, answer)
+        let sequels = self.tree.sequels(self.running.at());
+        self.running.answer_silently(&self.tree, sequels, answer)
     }
 
     /// The same, run on a copy first, so that no memory leaves the script as it was.

@@ -61,62 +61,84 @@ impl Frame {
     }
 }
 
-/// What comes after a line that is answered and shows nothing: another line that asks for an operation, or the end of a
-/// block. The number is that of the register which keeps the answer, where one does.
+/// What comes next: a line that asks for an operation, or the end of a block.
 #[derive(Clone, Copy)]
 pub enum Sequel {
-    /// Something else, or something is shown.
-    Other,
     Asks,
-    KeptThenAsks { number: usize },
     Ends,
-    KeptThenEnds { number: usize },
+    /// Something else.
+    Other,
 }
 
 impl Sequel {
-    ghost use Rattle.mk_check.specs.Spots.{sequel_before, then_asks, then_ends};
+    ghost use Rattle.mk_check.specs.Spots.{sequel_to};
 
-    /// A line that asks for an operation comes after an answer that is kept in this register, if in any.
-    fn asks(kept: Option<usize>) -> Sequel
-        ensures { result ≡ then_asks kept }
+    /// What comes where this node is the next one.
+    fn to(node: Node) -> Sequel
+        ensures { result ≡ sequel_to node }
     {
-        match kept {
-            Some(number) => Sequel::KeptThenAsks { number },
-            None => Sequel::Asks,
-        }
-    }
-
-    /// The end of a block comes after it.
-    fn ends(kept: Option<usize>) -> Sequel
-        ensures { result ≡ then_ends kept }
-    {
-        match kept {
-            Some(number) => Sequel::KeptThenEnds { number },
-            None => Sequel::Ends,
-        }
-    }
-
-    /// What comes after an instruction that this node follows.
-    fn before(next: Node, instruction: Instruction) -> Sequel
-        ensures { result ≡ sequel_before next instruction }
-    {
-        if instruction.shows() {
-            return Sequel::Other;
-        }
-        match next {
-            Node::Line {
-                instruction: later,
-                ..
-            } => {
-                if later.asks() {
-                    Sequel::asks(instruction.keeping_register())
+        match node {
+            Node::Line { instruction, .. } => {
+                if instruction.asks() {
+                    Sequel::Asks
                 } else {
                     Sequel::Other
                 }
             }
-            Node::Done => Sequel::ends(instruction.keeping_register()),
+            Node::Done => Sequel::Ends,
             Node::Rounds { .. } => Sequel::Other,
             Node::Choice { .. } => Sequel::Other,
+        }
+    }
+}
+
+/// What comes after a line that is answered and shows nothing, apart for an answer that a register keeps. Each is told
+/// in one look, and the next node stands beside it.
+#[derive(Clone, Copy)]
+pub struct Sequels {
+    pub next: usize,
+    pub register: usize,
+    /// After an answer that no register keeps.
+    pub unkept: Sequel,
+    /// After one that the register keeps.
+    pub kept: Sequel,
+}
+
+impl Sequels {
+    ghost use Rattle.mk_check.specs.Spots.{no_sequels, sequels_before};
+
+    fn unknown() -> Sequels
+        ensures { result ≡ no_sequels }
+    {
+        Sequels {
+            next: 0,
+            register: 0,
+            unkept: Sequel::Other,
+            kept: Sequel::Other,
+        }
+    }
+
+    /// What comes after an instruction before this node.
+    fn before(next: usize, node: Node, instruction: Instruction) -> Sequels
+        ensures { result ≡ sequels_before next node instruction }
+    {
+        if instruction.shows() {
+            return Sequels::unknown();
+        }
+        let sequel = Sequel::to(node);
+        match instruction.keeping_register() {
+            Some(register) => Sequels {
+                next,
+                register,
+                unkept: Sequel::Other,
+                kept: sequel,
+            },
+            None => Sequels {
+                next,
+                register: 0,
+                unkept: sequel,
+                kept: Sequel::Other,
+            },
         }
     }
 }
@@ -141,7 +163,7 @@ impl Node {
 pub struct Spot {
     instruction: Instruction,
     node: Node,
-    sequel: Sequel,
+    sequels: Sequels,
     asks_first: bool,
 }
 
@@ -164,7 +186,7 @@ impl Model for Tree {
 }
 
 impl Tree {
-    ghost use Rattle.mk_check.specs.Spots.{asks_at, instruction_of_node, sequel_of};
+    ghost use Rattle.mk_check.specs.Spots.{asks_at, instruction_of_node, sequels_of};
     ghost use Rattle.mk_check.specs.Steps.{asks_first};
     ghost use Rattle.mk_check.specs.Trees.{IsTree, IsBelow, node_at, steps_at, steps_from, trees};
 
@@ -190,7 +212,7 @@ impl Tree {
         let spot = Spot {
             instruction: node.instruction(),
             node,
-            sequel: self.sequel_from(node),
+            sequels: self.sequels_from(node),
             asks_first: self.asks_first_from(node),
         };
         Ok(self.spots.push(spot)?)
@@ -225,30 +247,31 @@ impl Tree {
     }
 
     /// What comes after a node that names these alone.
-    fn sequel_from(&self, node: Node) -> Sequel
+    fn sequels_from(&self, node: Node) -> Sequels
         requires { IsBelow (length self.now) node }
-        ensures { result ≡ sequel_of self.now node }
+        ensures { result ≡ sequels_of self.now node }
     {
         match node {
             Node::Line {
                 instruction,
                 next,
                 ..
-            } => Sequel::before(self.node(next), instruction),
-            _ => Sequel::Other,
+            } => Sequels::before(next, self.node(next), instruction),
+            _ => Sequels::unknown(),
         }
     }
 
-    /// What comes after a node.
+    /// What comes after a node, to be read in place.
     #[inline(always)]
-    pub fn sequel(&self, at: usize) -> Sequel
+    pub fn sequels(&self, at: usize) -> &Sequels
         requires { at < length self.now }
-        ensures { result ≡ sequel_of self.now (node_at self.now at) }
+        ensures value { result.now ≡ sequels_of self.now (node_at self.now at) }
+        ensures tree { IsTree self.now }
     {
-        self.spots[at].sequel
+        &self.spots[at].sequels
     }
 
-    /// The same for a node that names these alone.
+    /// Whether a script at a node that names these alone comes to an operation before it prints, and before a block ends.
     fn asks_first_from(&self, node: Node) -> bool
         requires { IsBelow (length self.now) node }
         ensures { result ≡ asks_first (steps_from (trees self.now) node) }
@@ -270,7 +293,7 @@ impl Tree {
         }
     }
 
-    /// Whether a script at this node comes to an operation before it prints, and before a block ends.
+    /// The same of a node of the tree.
     #[inline(always)]
     pub fn asks_first(&self, at: usize) -> bool
         requires { at < length self.now }

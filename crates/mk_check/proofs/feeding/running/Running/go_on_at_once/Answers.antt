@@ -1,17 +1,17 @@
-use Rattle.std.proofs.Common.{◌≡◌, ap}
+use Rattle.std.proofs.Common.{ap}
 use Rattle.mk_check.specs.Trees.{Place}
 use Rattle.mk_check.proofs.Sequels.{none_at_line, none_in_round}
 use Rattle.mk_check.proofs.feeding.running.Running.go_on_at_once.Goals as goal
 
 pub returns-in-Asks-clause-taken : goal.returns-in-Asks-clause-taken
 returns-in-Asks-clause-taken c =
-    let at = c.args.next in
-    λ t. none_at_line c.args.tree.now c.args.self.now at c.args.instruction.now c.requires.tree c.requires.within
-    c.args.sequel c.requires.sequel c.args.answer _ c.requires.accepted c.in-Asks.is
+    let at = c.args.sequels.now.next in
+    λ t. none_at_line c.args.tree.now c.args.self.now c.requires.tree c.requires.within c.args.sequels.now
+    c.requires.sequels c.args.answer _ c.requires.accepted c.in-Asks.is
     (ap (λ (q : Place). let x : Place = record q { at = at } in x) c.self.view_is)
 
 pub returns-in-Ends-clause-taken : goal.returns-in-Ends-clause-taken
 returns-in-Ends-clause-taken c = λ t.
-    none_in_round c.args.tree.now c.args.self.now c.args.next c.args.instruction.now c.requires.tree c.requires.within
-    c.args.sequel c.requires.sequel c.args.answer c.begin_round.new.self c.requires.accepted c.in-Ends.is
+    none_in_round c.args.tree.now c.args.self.now c.requires.tree c.requires.within c.args.sequels.now
+    c.requires.sequels c.args.answer c.begin_round.new.self c.requires.accepted c.in-Ends.is
     (c.begin_round.ensures.begun t)

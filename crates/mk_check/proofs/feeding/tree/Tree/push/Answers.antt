@@ -1,7 +1,7 @@
 use Rattle.std.proofs.Common.{List, length, sym, subst, ap, ◌∙◌}
 use Rattle.mk_check.specs.declared.feeding.tree.Node.{Node}
 use Rattle.mk_check.specs.declared.feeding.tree.Spot.{Spot}
-use Rattle.mk_check.specs.Spots.{IsMarkedTree, sequel_of}
+use Rattle.mk_check.specs.Spots.{IsMarkedTree, sequels_of}
 use Rattle.mk_check.specs.Steps.{asks_first}
 use Rattle.mk_check.specs.Trees.{IsBelow, steps_from, trees}
 use Rattle.mk_check.proofs.Spots.{IsMarkedTree_push}
@@ -15,15 +15,15 @@ invariant_of-self-2 c =
     (record {
       instruction = c.instruction.result;
       node = c.args.node;
-      sequel = c.sequel_from.result;
+      sequels = c.sequels_from.result;
       asks_first = c.asks_first_from.result;
     })
     c.self.invariant
     (subst (λ (nodes : List Node). IsBelow (length nodes) c.args.node) (sym c.self.view_is) c.requires)
     (record {
       instruction = c.instruction.ensures;
-      sequel = c.sequel_from.ensures
-          ∙ ap (λ (nodes : List Node). sequel_of nodes c.args.node) (sym c.self.view_is);
+      sequels = c.sequels_from.ensures
+          ∙ ap (λ (nodes : List Node). sequels_of nodes c.args.node) (sym c.self.view_is);
       first = c.asks_first_from.ensures
           ∙ ap (λ (nodes : List Node). asks_first (steps_from (trees nodes) c.args.node)) (sym c.self.view_is);
     }))
