@@ -1,6 +1,6 @@
 //! The words of the run of a large object that a Free has freed and unmapped are wiped. Most are 0 already, so those of
 //! a group are looked at together first. A word that is 0 isn't stored to.
-ghost use Rattle.std.specs.Prelude.{◌≡◌, ◌+◌, ◌*◌, ◌≤◌, true, Some};
+ghost use Rattle.std.specs.Prelude.{◌≡◌, ◌+◌, ◌*◌, ◌/◌, ◌<◌, ◌≤◌, true, Some};
 ghost use Rattle.mk_core.specs.declared.seats.Stage.TheVariants as stage;
 ghost use Rattle.mk_core.specs.NewPlaces.{is_run_unmapped};
 ghost use Rattle.mk_words.specs.States.{call_of, now_of};
@@ -15,13 +15,24 @@ use mk_words::{Turn, Words};
 /// The words of a page are groups of this many.
 const GROUP: u64 = 8;
 
-/// Looks at a group of words of the run. Returns true only where all are 0.
+/// How many groups a page has.
+const PAGE_GROUPS: u64 = PAGE_WORDS / GROUP;
+
+/// Looks at a group of words of the run, which stand on this page of it. Returns true only where all are 0.
 #[inline(always)]
-fn are_zero(words: &Words, turn: &mut Turn, pages: u64, run: RunPages, group: u64) -> bool
+fn are_zero(
+    words: &Words,
+    turn: &mut Turn,
+    pages: u64,
+    run: RunPages,
+    part: u64,
+    group: u64,
+) -> bool
     requires one_table { turn.old.pass.table ≡ words.now }
     requires pages { pages ≡ words.now.config.pages }
     requires may { MayWipe turn.old.pass run }
     requires group { 8 * group + 8 ≤ 64 * run.count }
+    requires part { part ≡ group / 8 }
     requires wiped { AreWiped (now_of turn.old.pass).words run (8 * group) }
     ensures op { turn.new.op ≡ turn.old.op }
     ensures still { WipesTo turn.old.pass run (8 * group) turn.new.pass }
@@ -33,19 +44,21 @@ fn are_zero(words: &Words, turn: &mut Turn, pages: u64, run: RunPages, group: u6
     let mut all = 0;
     for i in 0..GROUP {
         let word = first + i;
-        all |= turn.look_among(words, pages, Word::Heap(PAGE_WORDS * run.page + word));
+        let at = Word::Heap(PAGE_WORDS * run.page + word);
+        all |= turn.look_on_page(words, pages, run.page + part, at);
     }
     all == 0
 }
 
-/// Wipes a group of words of the run. It isn't inlined, since few groups need it. It takes the group's number and not
+/// Wipes a group of words of the run, which stand on this page of it. It isn't inlined, since few groups need it. It takes the group's number and not
 /// its first word, so the loop over groups keeps no word number beside an address.
 #[inline(never)]
-fn wipe_words(words: &Words, turn: &mut Turn, pages: u64, run: RunPages, group: u64)
+fn wipe_words(words: &Words, turn: &mut Turn, pages: u64, run: RunPages, part: u64, group: u64)
     requires one_table { turn.old.pass.table ≡ words.now }
     requires pages { pages ≡ words.now.config.pages }
     requires may { MayWipe turn.old.pass run }
     requires group { 8 * group + 8 ≤ 64 * run.count }
+    requires part { part ≡ group / 8 }
     requires wiped { AreWiped (now_of turn.old.pass).words run (8 * group) }
     ensures op { turn.new.op ≡ turn.old.op }
     ensures wipes { WipesTo turn.old.pass run (8 * group + 8) turn.new.pass }
@@ -54,28 +67,46 @@ fn wipe_words(words: &Words, turn: &mut Turn, pages: u64, run: RunPages, group: 
     turn.is_in_order();
     let first = GROUP * group;
     for word in first..first + GROUP {
-        let found = turn.look_among(words, pages, Word::Heap(PAGE_WORDS * run.page + word));
+        let at = Word::Heap(PAGE_WORDS * run.page + word);
+        let found = turn.look_on_page(words, pages, run.page + part, at);
         if found != 0 {
             turn.wipe(words, PAGE_WORDS * run.page + word);
         }
     }
 }
 
-/// Wipes what isn't 0 of a group of words of the run.
+/// Wipes what isn't 0 of a group of words of the run, which stand on this page of it.
 #[inline(always)]
-fn wipe_group(words: &Words, turn: &mut Turn, pages: u64, run: RunPages, group: u64)
+fn wipe_group(words: &Words, turn: &mut Turn, pages: u64, run: RunPages, part: u64, group: u64)
     requires one_table { turn.old.pass.table ≡ words.now }
     requires pages { pages ≡ words.now.config.pages }
     requires may { MayWipe turn.old.pass run }
     requires group { 8 * group + 8 ≤ 64 * run.count }
+    requires part { part ≡ group / 8 }
     requires wiped { AreWiped (now_of turn.old.pass).words run (8 * group) }
     ensures op { turn.new.op ≡ turn.old.op }
     ensures wipes { WipesTo turn.old.pass run (8 * group + 8) turn.new.pass }
 {
-    if are_zero(words, turn, pages, run, group) {
+    if are_zero(words, turn, pages, run, part, group) {
         return;
     }
-    wipe_words(words, turn, pages, run, group);
+    wipe_words(words, turn, pages, run, part, group);
+}
+
+/// Wipes the words of a page of the run.
+#[inline(always)]
+fn wipe_page(words: &Words, turn: &mut Turn, pages: u64, run: RunPages, part: u64)
+    requires one_table { turn.old.pass.table ≡ words.now }
+    requires pages { pages ≡ words.now.config.pages }
+    requires may { MayWipe turn.old.pass run }
+    requires part { part < run.count }
+    requires wiped { AreWiped (now_of turn.old.pass).words run (64 * part) }
+    ensures op { turn.new.op ≡ turn.old.op }
+    ensures wipes { WipesTo turn.old.pass run (64 * part + 64) turn.new.pass }
+{
+    for group in PAGE_GROUPS * part..PAGE_GROUPS * part + PAGE_GROUPS {
+        wipe_group(words, turn, pages, run, part, group);
+    }
 }
 
 /// Wipes the words of the run that the call has freed and unmapped.
@@ -91,7 +122,7 @@ pub(crate) fn wipe_run(words: &Words, turn: &mut Turn, run: RunPages)
     ensures wipes { Wipes turn.old.pass run turn.new.pass }
 {
     let pages = words.pages();
-    for group in 0..PAGE_WORDS / GROUP * run.count {
-        wipe_group(words, turn, pages, run, group);
+    for part in 0..run.count {
+        wipe_page(words, turn, pages, run, part);
     }
 }

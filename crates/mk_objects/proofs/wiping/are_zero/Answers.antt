@@ -14,13 +14,16 @@ loop-i-init c =
     let start : 8 * c.args.group ≡ 8 * c.args.group + 0 = omega arith in
     record { op = refl; still = none; zero = λ zero. subst (λ n. WipesTo p c.args.run n p) start none }
 
-pub look_among-all-requires-clause-enabled : goal.look_among-all-requires-clause-enabled
-look_among-all-requires-clause-enabled c =
+pub look_on_page-all-requires-clause-enabled : goal.look_on_page-all-requires-clause-enabled
+look_on_page-all-requires-clause-enabled c =
     let may = c.requires.may in
     let group = c.requires.group in
     look_may c.args.turn.now.pass c.args.turn.now.op c.args.run c.is_in_order.ensures.turn may.decided may.stopped
     c.loop-i.turn.pass (8 * c.args.group) (8 * c.args.group + c.loop-i.i) c.loop-i.invariant.still
     (omega (arith, group, c.loop-i-test.true)) may.within
+
+pub look_on_page-all-requires-clause-page : goal.look_on_page-all-requires-clause-page
+look_on_page-all-requires-clause-page c = omega (arith, c.requires.part, c.loop-i-test.true)
 
 pub loop-i-preserved : goal.loop-i-preserved
 loop-i-preserved c =
@@ -30,14 +33,14 @@ loop-i-preserved c =
     let i = c.loop-i.invariant in
     let word : ℕ = 8 * c.args.group + c.loop-i.i in
     let next : word + 1 ≡ 8 * c.args.group + (c.loop-i.i + 1) = omega arith in
-    let q : PassState = c.look_among-all.new.self.pass in
-    let found : ℕ = c.look_among-all.result in
+    let q : PassState = c.look_on_page-all.new.self.pass in
+    let found : ℕ = c.look_on_page-all.result in
     let seen : (n : ℕ) → WipesTo p c.args.run n c.loop-i.turn.pass → WipesTo p c.args.run n q =
     λ n reached. looks_then p c.args.turn.now.op c.args.run c.is_in_order.ensures.turn may.decided may.stopped
     c.loop-i.turn.pass q n word reached (omega (arith, group, c.loop-i-test.true)) may.few may.unmapped
-    c.look_among-all.ensures.acts in
+    c.look_on_page-all.ensures.acts in
     record {
-      op = c.look_among-all.ensures.op ∙ i.op;
+      op = c.look_on_page-all.ensures.op ∙ i.op;
       still = seen (8 * c.args.group) i.still;
       zero = λ none.
           let before : c.loop-i.all ≡ 0 =
@@ -45,7 +48,7 @@ loop-i-preserved c =
           let here : found ≡ 0 = let most = le_or_r c.loop-i.all found in omega (arith, most, none) in
           subst (λ n. WipesTo p c.args.run n q) next
           (found_wiped p c.args.turn.now.op c.args.run c.is_in_order.ensures.turn may.decided may.stopped
-          c.loop-i.turn.pass q word found (seen word (i.zero before)) c.look_among-all.ensures.finds here);
+          c.loop-i.turn.pass q word found (seen word (i.zero before)) c.look_on_page-all.ensures.finds here);
     }
 
 pub returns-clause-zero : goal.returns-clause-zero

@@ -15,34 +15,34 @@ may c =
       within = c.requires.within;
     }
 
-pub loop-group-init : goal.loop-group-init
-loop-group-init c =
+pub loop-part-init : goal.loop-part-init
+loop-part-init c =
     record {
       op = refl;
       wiped = wiped_from c.args.turn.now.pass c.args.run 0 (λ i lt. absurd (omega arith));
     }
 
-pub wipe_group-requires-clause-may : goal.wipe_group-requires-clause-may
-wipe_group-requires-clause-may c =
-    still_may _ _ c.args.run (8 * c.loop-group.group) c.loop-group.invariant.wiped
-    (may (goal.at.wipe_group-requires-clause-may c).Start)
+pub wipe_page-requires-clause-may : goal.wipe_page-requires-clause-may
+wipe_page-requires-clause-may c =
+    still_may _ _ c.args.run (64 * c.loop-part.part) c.loop-part.invariant.wiped
+    (may (goal.at.wipe_page-requires-clause-may c).Start)
 
-pub wipe_group-requires-clause-wiped : goal.wipe_group-requires-clause-wiped
-wipe_group-requires-clause-wiped c = wiped_now _ _ c.args.run (8 * c.loop-group.group) c.loop-group.invariant.wiped
+pub wipe_page-requires-clause-wiped : goal.wipe_page-requires-clause-wiped
+wipe_page-requires-clause-wiped c = wiped_now _ _ c.args.run (64 * c.loop-part.part) c.loop-part.invariant.wiped
 
-pub loop-group-preserved : goal.loop-group-preserved
-loop-group-preserved c =
-    let next : 8 * c.loop-group.group + 8 ≡ 8 * (c.loop-group.group + 1) = omega arith in
+pub loop-part-preserved : goal.loop-part-preserved
+loop-part-preserved c =
+    let next : 64 * c.loop-part.part + 64 ≡ 64 * (c.loop-part.part + 1) = omega arith in
     record {
-      op = c.wipe_group.ensures.op ∙ c.loop-group.invariant.op;
-      wiped = subst (λ n. WipesTo c.args.turn.now.pass c.args.run n c.wipe_group.new.turn.pass) next
-          (wipes_then _ _ _ c.args.run (8 * c.loop-group.group) _ c.loop-group.invariant.wiped
-          c.wipe_group.ensures.wipes);
+      op = c.wipe_page.ensures.op ∙ c.loop-part.invariant.op;
+      wiped = subst (λ n. WipesTo c.args.turn.now.pass c.args.run n c.wipe_page.new.turn.pass) next
+          (wipes_then _ _ _ c.args.run (64 * c.loop-part.part) _ c.loop-part.invariant.wiped
+          c.wipe_page.ensures.wipes);
     }
 
 pub returns-clause-wipes : goal.returns-clause-wipes
 returns-clause-wipes c =
-    let all : 8 * c.loop-group.group ≡ 64 * c.args.run.count =
-    omega (arith, c.loop-group-test.false, c.loop-group.auto.group-end) in
-    wiped_all c.args.turn.now.pass c.loop-group.turn.pass c.args.run
-    (subst (λ n. WipesTo c.args.turn.now.pass c.args.run n c.loop-group.turn.pass) all c.loop-group.invariant.wiped)
+    let all : 64 * c.loop-part.part ≡ 64 * c.args.run.count =
+    omega (arith, c.loop-part-test.false, c.loop-part.auto.part-end) in
+    wiped_all c.args.turn.now.pass c.loop-part.turn.pass c.args.run
+    (subst (λ n. WipesTo c.args.turn.now.pass c.args.run n c.loop-part.turn.pass) all c.loop-part.invariant.wiped)
