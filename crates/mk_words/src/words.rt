@@ -10,13 +10,13 @@ ghost use Rattle.mk_words.specs.Finals.{history_of, config_of, HasTallies};
 
 use crate::finals::{Final, freed_bits, last_word};
 use crate::homes::{Carried, MapHome};
-use crate::indexes::{MOST_WORDS, count_of_words, index_of};
+use crate::indexes::{MOST_WORDS, count_of_words};
 use crate::passes::Pass;
 use crate::rule::{OneHistory, View};
 use crate::telling::{HandOver, Handing, Remember, Settle, Together};
 use crate::tokens::{SeatToken, TokenWith};
 use atomic_table::Table;
-use mk_core::{Config, Seat, TableWord, Word};
+use mk_core::{Config, Seat, Word};
 use mk_never::{NoMemory, TypeTable};
 use mk_page_map::PageMap;
 use std::alloc::Global;
@@ -192,17 +192,6 @@ impl Words {
         let shared = &words.table.shared;
         shared.join_seat::<Together>(own, token);
         shared.load::<Settle>(own, 0);
-    }
-
-    /// Whether the turn looks free. It is no event, and promises nothing of the answer: who waits for the turn looks
-    /// so between two tries.
-    pub fn is_turn_free(&self, pass: &mut Pass) -> bool
-        ensures { pass.new ≡ pass.old }
-    {
-        self.table
-            .shared
-            .peek(index_of(self.config.pages, TableWord::Turn))
-            == 0
     }
 
     /// Ends the table. The pass has all seats, so what it has seen is the whole history.
