@@ -49,12 +49,12 @@ noted_same pages w v work same noted = subst (λ (y : Words). AreNoted pages y w
 
 pub noted_more : (pages : ℕ) (w v : Words) (work : Worklist) → MarksMore w v → AreNoted pages w work
     → AreNoted pages v work
-noted_more pages w v work more noted k d low lt = one_stays pages w v _ (more_stays w v more) (noted k d low lt)
+noted_more pages w v work more noted k d lt = one_stays pages w v _ (more_stays w v more) (noted k d lt)
 
 pub noted_black : (pages page bits : ℕ) (w v : Words) (work : Worklist) → v ≡ with_blacks page bits w
     → AreNoted pages w work → AreNoted pages v work
-noted_black pages page bits w v work is noted k d low lt =
-    one_stays pages w v _ (black_stays page bits w v is) (noted k d low lt)
+noted_black pages page bits w v work is noted k d lt =
+    one_stays pages w v _ (black_stays page bits w v is) (noted k d lt)
 
 pub one_same : (pages : ℕ) (w v : Words) (noted : Noted) → v ≡ w → IsNoted pages w noted → IsNoted pages v noted
 one_same pages w v noted same is = subst (λ (y : Words). IsNoted pages y noted) (sym same) is

@@ -1,6 +1,6 @@
 -- What is noted of the cells that are still to be scanned.
 use Rattle.std.specs.Prelude.{◌≡◌, ℕ, ◌<◌, true}
-use Rattle.std.specs.List.{AllWithin}
+use Rattle.std.specs.List.{All}
 use Rattle.mk_core.specs.Cells.{cells_under, header_in, is_marked}
 use Rattle.mk_core.specs.Words.{Words}
 use Rattle.mk_tracing.specs.declared.noted.Noted.{Noted}
@@ -16,7 +16,7 @@ pub record IsNoted (pages : ℕ) (w : Words) (noted : Noted) : Type 0 where
 
 -- So are all cells of a list.
 abbrev pub AreNoted : ℕ → Words → Worklist → Type 0
-AreNoted pages w work = AllWithin (IsNoted pages w) work.cells.items 0 work.count
+AreNoted pages w work = All (IsNoted pages w) work.cells.items
 
 -- The cell is gray, and so many of its words are scanned.
 pub record IsGrayNoted (pages : ℕ) (w : Words) (noted : Noted) : Type 0 where

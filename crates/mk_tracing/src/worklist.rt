@@ -11,9 +11,7 @@ use std::alloc::Global;
 #[derive(Drop)]
 pub struct Worklist {
     cells: Vec<Noted>,
-    count: usize,
     pub(crate) page: u64,
-    ghost within: { count ≤ vec_len cells },
 }
 
 impl Worklist {
@@ -24,21 +22,15 @@ impl Worklist {
     pub fn new(alloc: Global, pages: u64) -> Result<Worklist, NoMemory>
         requires { pages ≤ 4096 }
     {
-        let room = 64 + 8 * pages as usize;
-        let nothing = Noted::nothing();
-        let cells = Vec::from_elem(alloc, nothing, room)?;
-        Ok(Worklist {
-            cells,
-            count: 0,
-            page: 0,
-        })
+        let cells = Vec::with_capacity(alloc, 64 + 8 * pages as usize)?;
+        Ok(Worklist { cells, page: 0 })
     }
 
     /// Forgets all cells.
     pub(crate) fn forget(&mut self)
         ensures none { (pages : ℕ) (w : Words) → AreNoted pages w self.new }
     {
-        self.count = 0;
+        self.cells.clear();
     }
 
     /// Notes a cell, if there is room.
@@ -47,9 +39,8 @@ impl Worklist {
         ensures each { (pages : ℕ) (w : Words) → AreNoted pages w self.old → IsNoted pages w noted
             → AreNoted pages w self.new }
     {
-        if self.count < self.cells.len() {
-            self.cells[self.count] = noted;
-            self.count += 1;
+        if self.cells.len() < self.cells.capacity() {
+            self.cells.push_reserved(noted);
         }
     }
 
@@ -67,15 +58,11 @@ impl Worklist {
     /// The cell that was noted last, which the list then has no more.
     #[inline(always)]
     pub(crate) fn pop(&mut self) -> Option<Noted>
-        ensures fewer { IfSome result (λ noted. self.new.count < self.old.count) }
+        ensures fewer { IfSome result (λ noted. vec_len self.new.cells < vec_len self.old.cells) }
         ensures each { (pages : ℕ) (w : Words) → AreNoted pages w self.old → AreNoted pages w self.new }
         ensures noted { IfSome result (λ noted. (pages : ℕ) (w : Words) → AreNoted pages w self.old
             → IsNoted pages w noted) }
     {
-        if self.count == 0 {
-            return None;
-        }
-        self.count -= 1;
-        Some(self.cells[self.count])
+        self.cells.pop()
     }
 }

@@ -12,4 +12,4 @@ invariant-loop-noted l = record {
 }
 
 abbrev pub decreases-loop-noted : goal.decreases-loop-noted
-decreases-loop-noted l = l.work.count
+decreases-loop-noted l = vec_len l.work.cells
