@@ -1,4 +1,6 @@
 //! Steps of a turn that is free for a cycle, with what is asked of each in terms of the words.
+#![tactic(auto, using(crate::proofs::Allowed::in_turn_after))]
+
 ghost use Rattle.std.specs.Prelude.{◌≡◌, ◌<◌, ◌*◌, ◌/◌, ◌%◌, ◌^◌, ℕ, true, false, slice_index};
 ghost use Rattle.mk_core.specs.declared.events.Step.TheVariants as step;
 ghost use Rattle.mk_geom.specs.Addresses.{address_of};

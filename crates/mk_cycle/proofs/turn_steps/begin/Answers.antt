@@ -1,5 +1,4 @@
-use Rattle.mk_cycle.proofs.Allowed.{in_turn_after}
-use Rattle.std.proofs.Common.{◌<◌, subst, refl}
+use Rattle.std.proofs.Common.{◌<◌, subst}
 use Rattle.mk_words.specs.States.{WordsState}
 use Rattle.mk_cycle.proofs.BeginSteps.{begin_allowed}
 use Rattle.mk_cycle.proofs.turn_steps.begin.Goals as goal
@@ -9,6 +8,3 @@ begin-requires-clause-enabled c =
     begin_allowed c.args.turn.now.pass c.in_turn.ensures c.requires.free c.requires.phase
     (λ page lt. c.requires.clean page (subst (λ (w : WordsState). page < w.config.pages) c.requires.one_table lt))
     c.requires.fresh
-
-pub returns-clause-is : goal.returns-clause-is
-returns-clause-is c = in_turn_after c.begin.ensures.acts refl

@@ -1,11 +1,7 @@
-use Rattle.std.proofs.Common.{refl}
-use Rattle.mk_cycle.proofs.Allowed.{in_turn_after, on_table, clear_allowed}
+use Rattle.mk_cycle.proofs.Allowed.{on_table, clear_allowed}
 use Rattle.mk_cycle.proofs.turn_steps.clear.Goals as goal
 
 pub clear-requires-clause-enabled : goal.clear-requires-clause-enabled
 clear-requires-clause-enabled c =
     clear_allowed c.args.turn.now.pass c.in_turn.ensures c.requires.free c.args.page
     (on_table c.args.turn.now.pass _ c.requires.one_table c.args.page c.requires.within) c.requires.phase
-
-pub returns-clause-is : goal.returns-clause-is
-returns-clause-is c = in_turn_after c.clear.ensures.acts refl

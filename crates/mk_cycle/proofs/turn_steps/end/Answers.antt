@@ -1,6 +1,5 @@
-use Rattle.std.proofs.Common.{◌<◌, subst, refl}
+use Rattle.std.proofs.Common.{◌<◌, subst}
 use Rattle.mk_words.specs.States.{WordsState}
-use Rattle.mk_cycle.proofs.Allowed.{in_turn_after}
 use Rattle.mk_cycle.proofs.EndSteps.{end_allowed}
 use Rattle.mk_cycle.proofs.turn_steps.end.Goals as goal
 
@@ -8,6 +7,3 @@ pub end-requires-clause-enabled : goal.end-requires-clause-enabled
 end-requires-clause-enabled c =
     end_allowed c.args.turn.now.pass c.in_turn.ensures c.requires.free c.requires.phase
     (λ page lt. c.requires.settled page (subst (λ (w : WordsState). page < w.config.pages) c.requires.one_table lt))
-
-pub returns-clause-is : goal.returns-clause-is
-returns-clause-is c = in_turn_after c.end.ensures.acts refl

@@ -1,5 +1,4 @@
-use Rattle.std.proofs.Common.{refl}
-use Rattle.mk_cycle.proofs.Allowed.{in_turn_after, on_table}
+use Rattle.mk_cycle.proofs.Allowed.{on_table}
 use Rattle.mk_cycle.proofs.GivingSteps.{head_allowed}
 use Rattle.mk_cycle.proofs.turn_steps.free_head.Goals as goal
 
@@ -7,6 +6,3 @@ pub head-requires-clause-enabled : goal.head-requires-clause-enabled
 head-requires-clause-enabled c =
     head_allowed c.args.turn.now.pass c.in_turn.ensures c.requires.free c.requires.phase c.args.page
     (on_table c.args.turn.now.pass _ c.requires.one_table c.args.page c.requires.within) c.requires.empty
-
-pub returns-clause-is : goal.returns-clause-is
-returns-clause-is c = in_turn_after c.head.ensures.acts refl

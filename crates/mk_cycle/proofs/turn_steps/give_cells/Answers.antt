@@ -1,5 +1,4 @@
-use Rattle.std.proofs.Common.{refl}
-use Rattle.mk_cycle.proofs.Allowed.{in_turn_after, on_table}
+use Rattle.mk_cycle.proofs.Allowed.{on_table}
 use Rattle.mk_cycle.proofs.GivingSteps.{used_allowed}
 use Rattle.mk_cycle.proofs.turn_steps.give_cells.Goals as goal
 
@@ -7,6 +6,3 @@ pub used-requires-clause-enabled : goal.used-requires-clause-enabled
 used-requires-clause-enabled c =
     used_allowed c.args.turn.now.pass c.in_turn.ensures c.requires.free c.requires.phase c.args.page c.args.v
     (on_table c.args.turn.now.pass _ c.requires.one_table c.args.page c.requires.within) c.requires.gives
-
-pub returns-clause-is : goal.returns-clause-is
-returns-clause-is c = in_turn_after c.used.ensures.acts refl

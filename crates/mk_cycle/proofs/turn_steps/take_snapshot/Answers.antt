@@ -1,5 +1,5 @@
 use Rattle.std.proofs.Common.{refl}
-use Rattle.mk_cycle.proofs.Allowed.{in_turn_after, on_table, snapshot_allowed}
+use Rattle.mk_cycle.proofs.Allowed.{on_table, snapshot_allowed}
 use Rattle.mk_cycle.proofs.MayAct.{calm_admitted}
 use Rattle.mk_cycle.proofs.turn_steps.take_snapshot.Goals as goal
 
@@ -12,6 +12,3 @@ quar-requires-clause-enabled c =
 pub quar-requires-clause-admitted : goal.quar-requires-clause-admitted
 quar-requires-clause-admitted c =
     calm_admitted c.args.turn.now.pass _ c.in_turn.ensures.history refl c.requires.free.decided
-
-pub returns-clause-is : goal.returns-clause-is
-returns-clause-is c = in_turn_after c.quar.ensures.acts refl

@@ -1,10 +1,6 @@
-use Rattle.std.proofs.Common.{refl}
-use Rattle.mk_cycle.proofs.Allowed.{in_turn_after, tally_allowed}
+use Rattle.mk_cycle.proofs.Allowed.{tally_allowed}
 use Rattle.mk_cycle.proofs.turn_steps.tally.Goals as goal
 
 pub tally-requires-clause-enabled : goal.tally-requires-clause-enabled
 tally-requires-clause-enabled c =
     tally_allowed c.args.turn.now.pass c.in_turn.ensures c.requires.free c.args.n c.args.v
-
-pub returns-clause-is : goal.returns-clause-is
-returns-clause-is c = in_turn_after c.tally.ensures.acts refl

@@ -1,6 +1,5 @@
-use Rattle.std.proofs.Common.{◌<◌, sym, subst, refl}
+use Rattle.std.proofs.Common.{◌<◌, sym, subst}
 use Rattle.mk_words.specs.States.{WordsState}
-use Rattle.mk_cycle.proofs.Allowed.{in_turn_after}
 use Rattle.mk_cycle.proofs.HoldingSteps.{hold_allowed}
 use Rattle.mk_cycle.proofs.turn_steps.try_hold.Goals as goal
 
@@ -9,6 +8,3 @@ try_hold-requires-clause-enabled c =
     hold_allowed c.args.turn.now.pass c.in_turn.ensures c.requires.free c.args.caller
     (subst (λ (w : WordsState). c.args.caller < w.config.callers) (sym c.requires.one_table) c.requires.within)
     c.requires.another c.requires.open
-
-pub returns-clause-is : goal.returns-clause-is
-returns-clause-is c = in_turn_after c.try_hold.ensures.acts refl

@@ -1,11 +1,7 @@
-use Rattle.std.proofs.Common.{refl}
-use Rattle.mk_cycle.proofs.Allowed.{in_turn_after, on_table, undirty_allowed}
+use Rattle.mk_cycle.proofs.Allowed.{on_table, undirty_allowed}
 use Rattle.mk_cycle.proofs.turn_steps.undirty.Goals as goal
 
 pub undirty-requires-clause-enabled : goal.undirty-requires-clause-enabled
 undirty-requires-clause-enabled c =
     undirty_allowed c.args.turn.now.pass c.in_turn.ensures c.requires.free c.args.page
     (on_table c.args.turn.now.pass _ c.requires.one_table c.args.page c.requires.within) c.requires.phase
-
-pub returns-clause-is : goal.returns-clause-is
-returns-clause-is c = in_turn_after c.undirty.ensures.acts refl

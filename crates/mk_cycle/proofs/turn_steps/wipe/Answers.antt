@@ -1,6 +1,5 @@
-use Rattle.std.proofs.Common.{◌<◌, ◌*◌, sym, subst, refl}
+use Rattle.std.proofs.Common.{◌<◌, ◌*◌, sym, subst}
 use Rattle.mk_words.specs.States.{WordsState}
-use Rattle.mk_cycle.proofs.Allowed.{in_turn_after}
 use Rattle.mk_cycle.proofs.GivingSteps.{wipe_allowed}
 use Rattle.mk_cycle.proofs.turn_steps.wipe.Goals as goal
 
@@ -9,6 +8,3 @@ wipe-requires-clause-enabled c =
     wipe_allowed c.args.turn.now.pass c.in_turn.ensures c.requires.free c.requires.phase c.args.word
     (subst (λ (w : WordsState). c.args.word < 64 * w.config.pages) (sym c.requires.one_table) c.requires.within)
     c.requires.released
-
-pub returns-clause-is : goal.returns-clause-is
-returns-clause-is c = in_turn_after c.wipe.ensures.acts refl
