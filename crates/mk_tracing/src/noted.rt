@@ -30,14 +30,6 @@ pub(crate) fn words_scanned(header: u64) -> u64
 }
 
 impl Noted {
-    /// A first cell of a block, for room that nothing is noted in yet.
-    pub(crate) fn nothing() -> Noted {
-        Noted {
-            cell: Cell { page: 0, index: 0 },
-            words: 2,
-        }
-    }
-
     /// The cell of a page, if there is one of its index under the header word.
     pub(crate) fn under(header: u64, cell: Cell) -> Option<Noted>
         ensures cell { IfSome result (λ noted. noted.cell ≡ cell) }
