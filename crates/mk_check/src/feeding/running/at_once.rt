@@ -39,21 +39,19 @@ impl Running {
         ensures taken { IsTrue result → TakesLine tree.now (answer.Num value) self.old self.new }
         ensures refused { result ≡ false → self.new ≡ self.old }
     {
-        match sequels.kept {
-            Sequel::Asks => {
-                self.set(sequels.register, value);
-                self.at = sequels.next;
-                true
-            }
-            Sequel::Ends => {
-                let begun = self.begin_round(tree);
-                if begun {
-                    self.set(sequels.register, value);
-                }
-                begun
-            }
-            Sequel::Other => false,
+        if let Sequel::Asks = sequels.kept {
+            self.set(sequels.register, value);
+            self.at = sequels.next;
+            return true;
         }
+        let Sequel::Ends = sequels.kept else {
+            return false;
+        };
+        let begun = self.begin_round(tree);
+        if begun {
+            self.set(sequels.register, value);
+        }
+        begun
     }
 
     /// The same with an answer that no register keeps.
@@ -66,14 +64,14 @@ impl Running {
         ensures taken { IsTrue result → TakesLine tree.now answer self.old self.new }
         ensures refused { result ≡ false → self.new ≡ self.old }
     {
-        match sequels.unkept {
-            Sequel::Asks => {
-                self.at = sequels.next;
-                true
-            }
-            Sequel::Ends => self.begin_round(tree),
-            Sequel::Other => false,
+        if let Sequel::Asks = sequels.unkept {
+            self.at = sequels.next;
+            return true;
         }
+        if let Sequel::Ends = sequels.unkept {
+            return self.begin_round(tree);
+        }
+        false
     }
 
     /// The same where other lines come before the operation.
