@@ -31,13 +31,10 @@ pub without_last : (pieces : List (Bor (List ℕ))) (last : Bor (List ℕ)) → 
     → last ≡ get_or pieces (length pieces - 1) last → (length last.now == 0) ≡ true
     → texts_of (take (length pieces - 1) pieces) ≡ without_empty_last (texts_of pieces)
 without_last pieces last inside is_last empty =
-    sym (ap without_empty_last (split pieces last inside is_last)
-    ∙ last_empty (texts_of (take (length pieces - 1) pieces)) last.now empty)
+    cc (split pieces last inside is_last, last_empty (texts_of (take (length pieces - 1) pieces)) last.now empty)
 
 pub with_last : (pieces : List (Bor (List ℕ))) (last : Bor (List ℕ)) → 0 < length pieces
     → last ≡ get_or pieces (length pieces - 1) last → (length last.now == 0) ≡ false
     → texts_of pieces ≡ without_empty_last (texts_of pieces)
 with_last pieces last inside is_last full =
-    split pieces last inside is_last
-    ∙ sym (ap without_empty_last (split pieces last inside is_last)
-    ∙ last_full (texts_of (take (length pieces - 1) pieces)) last.now full)
+    cc (split pieces last inside is_last, last_full (texts_of (take (length pieces - 1) pieces)) last.now full)

@@ -51,9 +51,7 @@ open_blocks-push before item = fold-append open_behind [] before (item ∷ [])
 turned : (front : List OpenBlock) (last : OpenBlock)
     → reverse (set (front ++ last ∷ []) (length front) InSecond) ≡ behind_else (reverse (front ++ last ∷ []))
 turned front last =
-    ap reverse (set-append_seam front last [] InSecond)
-    ∙ reverse-append front (InSecond ∷ [])
-    ∙ ap behind_else (sym (reverse-append front (last ∷ [])))
+    cc (set-append_seam front last [] InSecond, reverse-append front (InSecond ∷ []), reverse-append front (last ∷ []))
 
 last_turned_of : (blocks : List OpenBlock) → 0 < length blocks
     → reverse (set blocks (length blocks - 1) InSecond) ≡ behind_else (reverse blocks)
@@ -66,10 +64,7 @@ last_turned_of blocks some =
     let parts : blocks ≡ take i blocks ++ last ∷ [] = cc in
     let front_len : length (take i blocks) ≡ i =
     omega (arith, ap length parts, length-append (take i blocks) (last ∷ [])) in
-    ap (λ found. reverse (set found i InSecond)) parts
-    ∙ ap (λ place. reverse (set (take i blocks ++ last ∷ []) place InSecond)) (sym front_len)
-    ∙ turned (take i blocks) last
-    ∙ ap (λ found. behind_else (reverse found)) (sym parts)
+    cc (parts, front_len, turned (take i blocks) last)
 
 pub last_turned : (blocks : List OpenBlock) (count : ℕ) → count ≡ length blocks
     → reverse (set blocks (count - 1) InSecond) ≡ behind_else (reverse blocks)

@@ -34,8 +34,7 @@ items_again [] before items again whole end =
 items_again (line ∷ rest) before items again whole end =
     let reads : line_of before (words_of_line (joined_words (words_of_item line))) ≡ Ok line =
     ap (λ ws. line_of before ws) (words_of-joined (words_of_item line) again.0.apart) ∙ again.0.reads in
-    ap (λ r. go_on (length before + 1) r (λ x. items_behind (lines_of_items rest) (before ++ x ∷ []))) reads
-    ∙ items_again rest (before ++ line ∷ []) items again.1 (append_assoc before (line ∷ []) rest ∙ whole) end
+    cc (reads, items_again rest (before ++ line ∷ []) items again.1 (append_assoc before (line ∷ []) rest ∙ whole) end)
 
 have_words : (rest before : List Item) → AreSaidAgain before rest → HaveWords rest
 have_words [] before again = tt
