@@ -18,9 +18,7 @@ module _ (globals : List ℕ) (n m : NeverState) (k : ℕ) (on : Continues n m) 
     where
       kind : slice_index_or (kinds_of n.types (allocation_at n a).ty) (o + i) Number
           ≡ slice_index_or (kinds_of m.types (allocation_at m a).ty) (o + i) Number
-      kind = ap (λ (types : List (List Kind)). slice_index_or (kinds_of types (allocation_at n a).ty)
-          (o + i) Number) (sym on.types)
-          ∙ ap (λ ty. slice_index_or (kinds_of m.types ty) (o + i) Number) (sym (on.ty a sound.0))
+      kind = cc (on.types, on.ty a sound.0)
   meets_value _ i P sound h = tt
 
   pub meets_register : (q i : ℕ) (P : Kind → Type 0) → q < 8 → Meets n (register_at n k q) i P

@@ -112,6 +112,5 @@ layout_behind c w seat x b h laid =
         → HasLayout c (object_now c w.now) r (WorldBehind c w seat x).now.words.marks
         (ground_of (WorldBehind c w seat x))
     marks true is st = rw (releasing_marks c w seat x b.known h is) st
-    marks false is st = unreleasing c (object_now c w.now) w.now.words.marks (WorldBehind c w seat x).now.words.marks
-        (ground_of (WorldBehind c w seat x))
+    marks false is st = unreleasing c _ _ (WorldBehind c w seat x).now.words.marks (ground_of (WorldBehind c w seat x))
         (WorldBehind c w seat x).now.words.freed (WorldBehind c w seat x).now.words.snapshot st

@@ -346,9 +346,8 @@ stores_told c es e h =
 kept : KeptByEvents Stands
 kept c es e h d =
     let here = before_it c (es ++ e ∷ []) es e [] h refl in
-    subst (λ (w : World). DirtyStands c w) (sym (left_more c (first_world c) es e))
-    (by_event c (left c es) e.seat e.step (known_world c es here.0.within_limits here.0.enabled) here.1 d
-    (stores_told c es e h))
+    subst (λ (w : World). DirtyStands c w) (sym (left_more c _ es e)) (by_event c _ _ _ (known_world c es
+    here.0.within_limits here.0.enabled) here.1 d (stores_told c es e h))
 
 pub dirty_stands : OfHistories Stands
 dirty_stands = holds_of_histories Stands first_stands kept

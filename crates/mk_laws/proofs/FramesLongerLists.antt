@@ -129,8 +129,7 @@ module _ (c : Config) (es more : List Event) (k : ℕ) (x : Step) (h : IsHistory
   at_probe is = at_its_stage f.stage f.op Step.Probe refl (rw is at meets).order
 
   in_call : x ≡ Step.Probe → standing f ≡ InCall
-  in_call is = calls_stand f.stage f.op (ap is_call_stage (at_probe is))
-      (not_astray c w.now here.known.now.orderly k lt)
+  in_call is = calls_stand _ f.op (ap is_call_stage (at_probe is)) (not_astray c w.now here.known.now.orderly k lt)
 
   is_in : x ≡ Step.Probe → IsInCall w.now (Caller k)
   is_in is = cc (in_call_told f.stage f.op (not_astray c w.now here.known.now.orderly k lt), in_call is)
@@ -149,8 +148,7 @@ module _ (c : Config) (es more : List Event) (k : ℕ) (x : Step) (h : IsHistory
         let register =
         registers_are_left c es more k h others (q_of f.op) (operands_of c f.op (here.known.now.operands k)).q in
         probe_still c w v _ _ here.known there.known here.all there.all k lt kept.own.flight (at_probe is)
-        (never_continues c es more) register (admitted_call c.globals _ k f.op Answer.Fault out decides) unmapped
-        ∙ sym unmapped
+        (never_continues c es more) register (admitted_call _ _ k f.op Answer.Fault out decides) unmapped ∙ sym unmapped
   ]
 
   finds_header : x ≡ Step.Probe → is_unmapped_header (header_of (found c v.now (of_caller k x)))
@@ -271,8 +269,7 @@ longer_lists_go_on c es more e one h others =
     let on = enabled_still c es more e h others last.on in
     let reaches = others_leave_accesses c es more e h.within_limits h.enabled others last.on in
     record {
-      history = goes_on_by c (es ++ more) e h on (still_admitted c es more e.seat e.step h
-          others last.on last.admitted);
+      history = goes_on_by c (es ++ more) e h on (still_admitted c es more _ _ h others last.on last.admitted);
       same = record {
         word = reaches.word;
         of_the_table = events_reach_the_table c es e h.within_limits last.before.enabled last.on;

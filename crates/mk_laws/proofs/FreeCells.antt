@@ -152,8 +152,7 @@ module _ (c : Config) (w : World) (n : NeverState) (known : KnownWorld c w) (all
       let first : cell.index * size ≡ 0 * size = ap (λ k. k * size) first_one in
       let x : ℕ = first_word w.now.words cell + i in
       elim (cases_eq (i / 64) 0) [
-        | inl here ↦ begins_there w.now.words o base x cell.page cell.index on (omega arith) lt (omega arith)
-            (omega arith)
+        | inl here ↦ begins_there _ o base x cell.page cell.index on (omega arith) lt (omega arith) (omega arith)
         | inr far ↦
             let later = (all.order.runs cell.page heads).later (i / 64) (omega arith) (omega arith) in
             let base_is = run_begins_there w.now.words o base x cell.page (i / 64) on (omega arith)

@@ -98,5 +98,4 @@ module _ (c : Config) (w : World) (n : NeverState) (known : KnownWorld c w) (mir
           let word = eqb-true _ _ (all_below-at run.count (x / 64 - run.page) (stands w.now.words run.page
           (unmapped_header run.count)) parts.1 high) in
           let place : x / 64 ≡ run.page + (x / 64 - run.page) = omega arith in
-          ap (λ p. is_unmapped_header (header_in w.now.words p)) place ∙ ap (λ y. is_unmapped_header (header_of y)) word
-          ∙ unmapped_is_unmapped run.count (x / 64 - run.page) (omega arith, omega arith) high
+          cc (place, word, unmapped_is_unmapped run.count (x / 64 - run.page) (omega arith, omega arith) high)

@@ -188,8 +188,7 @@ quarantine_by_kind c w seat (Step.Quar p n) b h laid q = quar_kept c w seat p n 
 quarantine_by_kind c w seat Step.Grant b h laid q =
     rw (grants_early w h.phase) (grant_kept c w.now.words.marks (ground_of w) _ refl (rw (grants_early w h.phase) at q))
 quarantine_by_kind c w seat (Step.Mark p n) b h laid q =
-    replaced c _ w.now.words.marks (ground_of w) _ _ w.now.seats.holding.freed (λ place e.
-    mark_from _ w.now.seats.holding.placing _ place e) q
+    replaced c _ _ _ _ _ _ (λ place e. mark_from _ w.now.seats.holding.placing _ place e) q
 quarantine_by_kind c w seat Step.Begin b h laid q = begin_kept c _ w.now.words.marks (ground_of w) q
 quarantine_by_kind c w seat Step.Release b h laid q =
     let off = off_at w 3 h.phase (λ e. absurd (omega arith)) in

@@ -135,9 +135,7 @@ pub others_leave_accesses : OthersLeaveAccesses
 others_leave_accesses c es more e limits on others now =
     let l = (others_leave c es more e.seat limits on others).own in
     record {
-      word = rw l.flight
-          (ap (λ (y : MarkerState). word_reached c (caller_number e.seat) (flight_of (left c es).now e.seat) y e.step)
-          l.marker);
+      word = cc (l.flight, l.marker);
       access = same_access c (left c es).now (left c (es ++ more)).now e.seat e.step l.flight l.marker
           (λ g. (l.holding (granting e.step g (enabled_meets c (left c es).now e now))).1);
     }

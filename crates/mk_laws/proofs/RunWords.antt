@@ -108,10 +108,8 @@ module _ (c : Config) (w : World) (known : KnownWorld c w) (laid : LayoutStands 
   words_behind seat (Step.Wipe n) h stored i lt = elim (cases_eq (64 * r.page + i) n) [
     | inr ne ↦ get_or-set_other w.now.words.heap n _ 0 0 ne ∙ words_gone i lt
     | inl e ↦ elim (cases_lt n (length w.now.words.heap)) [
-      | inl near ↦ ap (λ k. slice_index (slice_set w.now.words.heap n 0) k) e
-          ∙ get_or-set_same w.now.words.heap n 0 0 near
-      | inr past ↦ ap (λ (ys : List ℕ). slice_index ys (64 * r.page + i)) (set_past w.now.words.heap n 0 past)
-          ∙ words_gone i lt
+      | inl near ↦ cc (e, get_or-set_same w.now.words.heap n 0 0 near)
+      | inr past ↦ cc (set_past w.now.words.heap n 0 past, words_gone i lt)
     ]
   ]
   words_behind seat _ h stored i lt = words_gone i lt

@@ -107,9 +107,8 @@ pub by_kind : (c : Config) (w : World) (seat : Seat) (x : Step) → Before c w s
     (WorldBehind c w seat x))
 by_kind c w seat (Step.Take o) b h z = take_kind c w seat (Step.Take o) b z (w.now.words.turn == 0) refl
 by_kind c w seat Step.Give b h z = give_kind c w seat h z
-by_kind c w seat Step.Reg b h z = kept_heap c w _
-    (register_leaves w.now.words (caller_number seat) (register_met (flight_of w.now seat) (flight_of w.now seat).stage)
-    (reg_access (flight_of w.now seat) (flight_of w.now seat).stage)) z
+by_kind c w seat Step.Reg b h z = kept_heap c w _ (register_leaves _ _ (register_met (flight_of w.now seat) (flight_of
+    w.now seat).stage) (reg_access (flight_of w.now seat) (flight_of w.now seat).stage)) z
 by_kind c w seat (Step.Tally n v) b h z = kept_heap c w _ (tally_leaves w.now.words n v) z
 by_kind c w seat Step.Write b h z = stored_words c (here w) (word_met (flight_of w.now seat)) _ (b.others.stored refl) z
 by_kind c w seat Step.Cas b h z = stored_words c (here w) (word_met (flight_of w.now seat)) _ (b.others.stored refl) z
