@@ -1,8 +1,8 @@
 -- An operation that is admitted stays so, whatever others call.
 use Rattle.mk_laws.proofs.Vocabulary.{AccessIsAdmitted, Answer, AreAdmitted, Continues, IsAdmitted, IsNumber, IsPointer}
 use Rattle.mk_laws.proofs.Vocabulary.{IsSound, IsTyped, KeepsRegisters, Kind, List, Meets, NeverState, None, Number, Op}
-use Rattle.mk_laws.proofs.Vocabulary.{Option, Ptr, Some, Value, ℕ, allocation_at, ap, asked, entry_of, flagged}
-use Rattle.mk_laws.proofs.Vocabulary.{kinds_of, register_at, slice_index_or, subst, sym, ◌*◌, ◌+◌, ◌<◌, ◌∙◌, ◌≡◌}
+use Rattle.mk_laws.proofs.Vocabulary.{Option, Ptr, Some, Value, ℕ, allocation_at, asked, entry_of, flagged, kinds_of}
+use Rattle.mk_laws.proofs.Vocabulary.{register_at, slice_index_or, subst, sym, ◌*◌, ◌+◌, ◌<◌, ◌≡◌}
 use Rattle.mk_never.specs.Admitted.{IsBase, IsOfKind, OperandsAreInRange, StoreIsAdmitted}
 
 module _ (globals : List ℕ) (n m : NeverState) (k : ℕ) (on : Continues n m) (own : KeepsRegisters k n m)

@@ -7,8 +7,8 @@ use Rattle.mk_laws.proofs.Vocabulary.{Value, World, ℕ, accessed, address_of, a
 use Rattle.mk_laws.proofs.Vocabulary.{and_right, answer_decided, ap, arith, asked, at_rest, bases_of, call_decided}
 use Rattle.mk_laws.proofs.Vocabulary.{caller_number, cases_Bool, cases_eq, cases_lt, cell_of_allocation, changed_at}
 use Rattle.mk_laws.proofs.Vocabulary.{eqb-true, false, false≢true, flight_among, flight_of, fresh_leaves, get_or_past}
-use Rattle.mk_laws.proofs.Vocabulary.{global_at, has_bit, has_bit_without, if◌then◌else◌, image_of, image_scene_of, inl}
-use Rattle.mk_laws.proofs.Vocabulary.{inr, is_left_unmarked, is_marked, is_none_or, is_open_to, is_past_probe, is_put}
+use Rattle.mk_laws.proofs.Vocabulary.{global_at, has_bit_without, if◌then◌else◌, image_of, image_scene_of, inl, inr}
+use Rattle.mk_laws.proofs.Vocabulary.{is_left_unmarked, is_marked, is_none_or, is_open_to, is_past_probe, is_put}
 use Rattle.mk_laws.proofs.Vocabulary.{is_run_cell, is_some_and, is_unmapped, kinds_of, length, ltb-true, map}
 use Rattle.mk_laws.proofs.Vocabulary.{no_longer_fresh, none_freed, not, or_cases, or_parts, others_are_held, placed_at}
 use Rattle.mk_laws.proofs.Vocabulary.{pointed_cell, points_well, refl, released_leaves, set-get_or, slice_index}

@@ -11,12 +11,11 @@ use Rattle.mk_laws.proofs.Vocabulary.{target, true, word_accessed, [], ◌&&◌,
 use Rattle.mk_core.specs.{Counts.releases, Effects.begins_where_free, Frames.CountsAreLeft, LongerLists.LongerListsGoOn}
 use Rattle.mk_laws.proofs.Basics.{InCall, Meets, actor_of, at_its_stage, calls_stand, in_call_told, is_call_stage}
 use Rattle.mk_laws.proofs.Basics.{is_holders, not_astray, operands_of, register_small, standing}
-use Rattle.mk_laws.proofs.EnabledStill.{before, enabled_still, left_to}
 use Rattle.mk_laws.proofs.LastEvents.{Stands, comes_last, goes_on_by, stands}
-use Rattle.mk_laws.proofs.Reaching.{events_reach_the_table, others_leave_accesses}
-use Rattle.mk_laws.proofs.{AdmittedStill.call_on, CallSorts.admitted_call, CallSorts.call_outside}
-use Rattle.mk_laws.proofs.{FramesHolders.acts_as_holder, FramesHolders.holds_is, OtherCalls.never_continues}
-use Rattle.mk_laws.proofs.{OtherCalls.registers_are_left, ProbesStill.probe_still, Standings.is_standing_in_call}
+use Rattle.mk_laws.proofs.{AdmittedStill.call_on, CallSorts.admitted_call, CallSorts.call_outside, EnabledStill.before}
+use Rattle.mk_laws.proofs.{EnabledStill.enabled_still, EnabledStill.left_to, FramesHolders.acts_as_holder}
+use Rattle.mk_laws.proofs.{FramesHolders.holds_is, OtherCalls.never_continues, OtherCalls.registers_are_left}
+use Rattle.mk_laws.proofs.{ProbesStill.probe_still, Reaching.events_reach_the_table, Reaching.others_leave_accesses}
 
 -- What a step asks of the heap that never reuses storage it asks after a longer list too: what it finds may differ,
 -- and so the answer, but not whether it decides, nor what for.

@@ -1,13 +1,13 @@
 -- What the images tell the other groups.
 use Rattle.mk_laws.proofs.Vocabulary.{AreAdmitted, Caller, CarriesOwn, Cell, Config, ImagePremises, ImagesSay}
 use Rattle.mk_laws.proofs.Vocabulary.{IsAdmitted, IsNumber, IsPointer, IsSafe, IsSound, Kind, MeetsAll, Mirrors}
-use Rattle.mk_laws.proofs.Vocabulary.{NeverState, Null, Num, Op, Option, ProbedOwn, Ptr, RunPages, Seat, Some, Stage}
-use Rattle.mk_laws.proofs.Vocabulary.{Step, Value, World, ℕ, ap, arith, asked, bases_of, call_decided, cases_eq}
+use Rattle.mk_laws.proofs.Vocabulary.{NeverState, Null, Num, Op, ProbedOwn, Ptr, RunPages, Seat, Some, Stage, Step}
+use Rattle.mk_laws.proofs.Vocabulary.{Value, World, ℕ, ap, arith, asked, bases_of, call_decided, cases_eq}
 use Rattle.mk_laws.proofs.Vocabulary.{cell_of_allocation, enabled_meets, false, false≢true, flight_of, i_of, image_of}
-use Rattle.mk_laws.proofs.Vocabulary.{image_scene_of, inl, inr, is_marked, is_none_or, is_put, is_undecided_free}
-use Rattle.mk_laws.proofs.Vocabulary.{ltb-true, not, object_placed, p_of, phase_of, placed_at, pointed_cell, refl}
-use Rattle.mk_laws.proofs.Vocabulary.{register_at, run_begins, subst, sym, target, true, typed_size, word_met, ◌*◌, ◌+◌}
-use Rattle.mk_laws.proofs.Vocabulary.{◌-◌, ◌/◌, ◌∙◌, ◌≡◌, ◌≢◌, ◌⊎◌}
+use Rattle.mk_laws.proofs.Vocabulary.{image_scene_of, inl, inr, is_marked, is_put, is_undecided_free, ltb-true, not}
+use Rattle.mk_laws.proofs.Vocabulary.{object_placed, p_of, phase_of, placed_at, pointed_cell, refl, register_at}
+use Rattle.mk_laws.proofs.Vocabulary.{run_begins, subst, sym, target, true, typed_size, word_met, ◌*◌, ◌+◌, ◌-◌, ◌/◌}
+use Rattle.mk_laws.proofs.Vocabulary.{◌∙◌, ◌≡◌, ◌≢◌, ◌⊎◌}
 use Rattle.mk_core.proofs.{PlacesNow.target_is, StandingAllocations.run_cell}
 use Rattle.mk_laws.proofs.Basics.{KnownWorld, Ready, Stands, at_its_stage, exists_placed, flight, is_astray}
 use Rattle.mk_laws.proofs.Basics.{is_call_stage, not_astray, ready_of, standing_at, stands_of, unmapped_is, words_fit}

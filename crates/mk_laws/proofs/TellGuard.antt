@@ -10,10 +10,10 @@ use Rattle.mk_laws.proofs.Vocabulary.{false≢true, flight_of, get_or_past, grou
 use Rattle.mk_laws.proofs.Vocabulary.{head_page_under, header_made, header_of, header_on, heads_run, inl, inr, is_large}
 use Rattle.mk_laws.proofs.Vocabulary.{is_mapped, is_phase, is_small_object, is_undecided_new, is_unmapping, kinds_of}
 use Rattle.mk_laws.proofs.Vocabulary.{large_is_not_small, left, lt-ltb, made_shows, mode_of, ne_eqb, not, not-true}
-use Rattle.mk_laws.proofs.Vocabulary.{object_made, object_now, object_placed, pages_made, pages_some, part_head}
-use Rattle.mk_laws.proofs.Vocabulary.{phase_of, place_claim, placed_at, placed_now, plot_of, refl, run_count}
-use Rattle.mk_laws.proofs.Vocabulary.{seat_exists, shows_on, slice_index, small_pages, subst, sym, true, true≢false}
-use Rattle.mk_laws.proofs.Vocabulary.{used_on, ◌&&◌, ◌*◌, ◌+◌, ◌-◌, ◌/◌, ◌<◌, ◌==◌, ◌∙◌, ◌≡◌, ◌≢◌, ◌≤◌, ◌⊎◌}
+use Rattle.mk_laws.proofs.Vocabulary.{object_now, object_placed, pages_made, pages_some, part_head, phase_of}
+use Rattle.mk_laws.proofs.Vocabulary.{place_claim, placed_at, placed_now, plot_of, refl, run_count, seat_exists}
+use Rattle.mk_laws.proofs.Vocabulary.{shows_on, slice_index, small_pages, subst, sym, true, true≢false, used_on, ◌&&◌}
+use Rattle.mk_laws.proofs.Vocabulary.{◌*◌, ◌+◌, ◌-◌, ◌/◌, ◌<◌, ◌==◌, ◌∙◌, ◌≡◌, ◌≢◌, ◌≤◌, ◌⊎◌}
 use Rattle.mk_laws.proofs.BarePages.{Unreleasing, bare_page, plot_page, shown_there}
 use Rattle.mk_laws.proofs.Basics.{Known, KnownWorld, Laid, all_stand, claimed, first_header, holding_object}
 use Rattle.mk_laws.proofs.Basics.{known_world, made_sized, mapped_stays, new_has_turn, placed_claim, zero_where_none}

@@ -1,9 +1,9 @@
 -- Registers of no caller, and globals that nobody has stored to.
 use Rattle.mk_laws.proofs.Vocabulary.{Bool, Config, Event, Flight, Invariant, Leaves, List, Moment, NeverState, Null}
-use Rattle.mk_laws.proofs.Vocabulary.{OfHistories, Seat, Step, Value, World, ℕ, ap, append_assoc, arith, at_rest}
-use Rattle.mk_laws.proofs.Vocabulary.{bases_of, false, first_world, flight_of, g_of, get_or-set_other, get_or_past}
-use Rattle.mk_laws.proofs.Vocabulary.{image_of, left, left_from, left_more, refl, shown, slice_index, sym, true, []}
-use Rattle.mk_laws.proofs.Vocabulary.{◌%◌, ◌*◌, ◌++◌, ◌+◌, ◌/◌, ◌∙◌, ◌∷◌, ◌≡◌}
+use Rattle.mk_laws.proofs.Vocabulary.{OfHistories, Seat, Step, World, ℕ, ap, append_assoc, arith, at_rest, false}
+use Rattle.mk_laws.proofs.Vocabulary.{first_world, flight_of, g_of, get_or-set_other, get_or_past, left, left_from}
+use Rattle.mk_laws.proofs.Vocabulary.{left_more, refl, shown, slice_index, sym, true, [], ◌%◌, ◌*◌, ◌++◌, ◌+◌, ◌/◌, ◌∙◌}
+use Rattle.mk_laws.proofs.Vocabulary.{◌∷◌, ◌≡◌}
 use Rattle.mk_laws.proofs.{Basics.Behind, Basics.KeptByEvents, Basics.KnownWorld, Basics.Table, Basics.at_first}
 use Rattle.mk_laws.proofs.{Basics.holds_of_histories, Basics.reg_table, Basics.tally_table, FreeWords.of_worlds}
 use Rattle.mk_laws.specs.UnsetWords.{IsNeverSet, RegistersOfNoCallerAreZero, UnsetGlobalsAreZero}
