@@ -1,7 +1,7 @@
 -- The lines of a text are the pieces between its newlines, without an empty last piece.
 use Rattle.std.proofs.{Common.Bor, lemmas.List.map-append, lemmas.List.take_more}
-use Rattle.mk_script.proofs.Vocabulary.{List, ℕ, ap, arith, false, get_or, length, refl, sym, take, take_all, texts_of}
-use Rattle.mk_script.proofs.Vocabulary.{true, without_empty_last, [], ◌++◌, ◌+◌, ◌-◌, ◌<◌, ◌==◌, ◌∙◌, ◌∷◌, ◌≡◌}
+use Rattle.mk_script.proofs.Vocabulary.{List, ℕ, ap, arith, false, get_or, length, refl, take, take_all, texts_of, true}
+use Rattle.mk_script.proofs.Vocabulary.{without_empty_last, [], ◌++◌, ◌+◌, ◌-◌, ◌<◌, ◌==◌, ◌∙◌, ◌∷◌, ◌≡◌}
 
 last_empty : (front : List (List ℕ)) (last : List ℕ) → (length last == 0) ≡ true
     → without_empty_last (front ++ last ∷ []) ≡ front

@@ -4,9 +4,8 @@ use Rattle.std.specs.Result.{IfErr, IfOk, MatchResult}
 use Rattle.mk_script.proofs.Vocabulary.{Err, Item, List, Ok, ℕ, ap, arith, drop, get_or, go_on, items_behind}
 use Rattle.mk_script.proofs.Vocabulary.{items_of_lines, length, length-map, line_of, refl, sym, texts_of, words_of_line}
 use Rattle.mk_script.proofs.Vocabulary.{[], ◌++◌, ◌+◌, ◌<◌, ◌∙◌, ◌∷◌, ◌≡◌, ◌≢◌}
-use Rattle.mk_script.specs.ScopeOf.{IsStopOfLine, ReadsLine}
 use Rattle.mk_script.specs.declared.faults.LineStop.TheVariants.{Fault, NoMemory}
-use Rattle.mk_script.specs.{Grammar.fault_at, Stops.stop_at, declared.faults.LineStop.LineStop}
+use Rattle.mk_script.specs.{ScopeOf.IsStopOfLine, ScopeOf.ReadsLine, Stops.stop_at, declared.faults.LineStop.LineStop}
 use Rattle.mk_script.specs.{declared.faults.TextStop.TextStop, declared.scope.Scope.Scope}
 
 -- what a text is read as whose next line has an item, or hasn't

@@ -1,8 +1,8 @@
 -- The canonical text of a text's program has the same program.
 use Rattle.mk_script.proofs.Vocabulary.{IsOfSomeText, Item, List, Ok, ap, append-nil, append_assoc, at_end}
-use Rattle.mk_script.proofs.Vocabulary.{canonical_text, cond-true, go_on, items_behind, items_of_lines, joined_words}
-use Rattle.mk_script.proofs.Vocabulary.{le-leb, length, line_of, refl, subst, sym, words_of_item, words_of_line, []}
-use Rattle.mk_script.proofs.Vocabulary.{◌++◌, ◌+◌, ◌∙◌, ◌∷◌, ◌≡◌, ◌≤◌}
+use Rattle.mk_script.proofs.Vocabulary.{canonical_text, cond-true, items_behind, items_of_lines, joined_words, le-leb}
+use Rattle.mk_script.proofs.Vocabulary.{length, line_of, refl, subst, sym, words_of_item, words_of_line, [], ◌++◌, ◌+◌}
+use Rattle.mk_script.proofs.Vocabulary.{◌∙◌, ◌∷◌, ◌≡◌, ◌≤◌}
 use Rattle.mk_script.proofs.CanonicalLines.{HaveWords, lines_of-canonical_text, lines_of_items}
 use Rattle.mk_script.proofs.PassedLines.{ArePassed, IsWhole, is_whole}
 use Rattle.mk_script.proofs.{LineWords.AreWords, LineWords.words_of-joined, LinesAgain.line_again}

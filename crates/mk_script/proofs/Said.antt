@@ -3,10 +3,10 @@ use Rattle.std.proofs.Common.{drop-drop, drop_at, inl, inr, ne_eqb, ok_or, one-a
 use Rattle.std.proofs.lemmas.Bool.{cases_cond, cond-false, cond_both, not_from_false, or_from, or_right}
 use Rattle.std.specs.List.{after_first, before_first, position_or_len}
 use Rattle.mk_script.proofs.Vocabulary.{At, Bool, Err, LineFault, List, None, Ok, Option, Result, Some, ℕ, and_from}
-use Rattle.mk_script.proofs.Vocabulary.{and_parts, ap, arith, at, at_text, codes, cond, cond-true, decimal, drop, false}
+use Rattle.mk_script.proofs.Vocabulary.{and_parts, ap, arith, at, at_text, codes, cond, cond-true, decimal, false}
 use Rattle.mk_script.proofs.Vocabulary.{length, list_all, list_any, list_any-append, name, nat_eq, nat_tests}
-use Rattle.mk_script.proofs.Vocabulary.{number_of_word, refl, subst, suc, sym, take, true, zero, [], ◌++◌, ◌+◌, ◌<◌}
-use Rattle.mk_script.proofs.Vocabulary.{◌>>=◌, ◌^◌, ◌∙◌, ◌∷◌, ◌≡◌}
+use Rattle.mk_script.proofs.Vocabulary.{number_of_word, refl, subst, suc, sym, true, zero, [], ◌++◌, ◌+◌, ◌<◌, ◌>>=◌}
+use Rattle.mk_script.proofs.Vocabulary.{◌^◌, ◌∙◌, ◌∷◌, ◌≡◌}
 use Rattle.mk_script.proofs.LineWords.{is_solid, is_solid-append, is_solid-decimal, is_solid-names, is_word}
 use Rattle.mk_script.proofs.LineWords.{is_word-append}
 use Rattle.mk_script.proofs.PrintedNumbers.{number_of_word-below, number_of_word-decimal}

@@ -1,4 +1,4 @@
-use Rattle.mk_script.proofs.Vocabulary.{arith, length-map, sym, texts_of}
+use Rattle.mk_script.proofs.Vocabulary.{arith, length-map, sym}
 use Rattle.mk_script.proofs.NoForm.{of_no_form}
 use Rattle.mk_script.proofs.forms.item.Goals as goal
 

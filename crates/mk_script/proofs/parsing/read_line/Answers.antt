@@ -1,4 +1,4 @@
-use Rattle.mk_script.proofs.Vocabulary.{Ok, ap, arith, line_of, sym, texts_of, words_of_line, [], ◌++◌, ◌∙◌, ◌∷◌, ◌≡◌}
+use Rattle.mk_script.proofs.Vocabulary.{Ok, ap, arith, line_of, texts_of, words_of_line, [], ◌++◌, ◌∙◌, ◌∷◌, ◌≡◌}
 use Rattle.mk_script.proofs.PassedLines.{passed}
 use Rattle.mk_script.proofs.parsing.read_line.Goals as goal
 

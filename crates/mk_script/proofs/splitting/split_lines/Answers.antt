@@ -1,5 +1,5 @@
-use Rattle.mk_script.proofs.Vocabulary.{ap, arith, false, get_or, length, sym, take, texts_of, true, without_empty_last}
-use Rattle.mk_script.proofs.Vocabulary.{◌-◌, ◌<◌, ◌==◌, ◌∙◌, ◌≡◌}
+use Rattle.mk_script.proofs.Vocabulary.{ap, arith, false, get_or, length, sym, take, true, without_empty_last, ◌-◌, ◌<◌}
+use Rattle.mk_script.proofs.Vocabulary.{◌==◌, ◌∙◌, ◌≡◌}
 use Rattle.mk_script.proofs.LastPiece.{with_last, without_last}
 use Rattle.mk_script.proofs.splitting.split_lines.Goals.{else-is_empty, then-is_empty}
 use Rattle.mk_script.proofs.splitting.split_lines.Goals as goal
