@@ -114,16 +114,14 @@ get_or-halves : (blocks leaves : List ℕ) (class : ℕ) (leaf : Bool) → lengt
     → get_or (blocks ++ leaves) (class_place class leaf) 0 ≡ get_or (if leaf then leaves else blocks) class 0
 get_or-halves blocks leaves class false long within = get_or_append_left blocks leaves 0 class (omega arith)
 get_or-halves blocks leaves class true long within =
-    get_or-append_right blocks leaves 8 (8 + class) 0 long (omega arith)
-    ∙ ap (λ place. get_or leaves place 0) (back class)
+    cc (get_or-append_right blocks leaves 8 (8 + class) 0 long (omega arith), back class)
 
 set-halves : (blocks leaves : List ℕ) (class y : ℕ) (leaf : Bool) → length blocks ≡ 8 → class < 8
     → set (blocks ++ leaves) (class_place class leaf) y
     ≡ (if leaf then blocks ++ set leaves class y else set blocks class y ++ leaves)
 set-halves blocks leaves class y false long within = set-append_left blocks leaves class y (omega arith)
 set-halves blocks leaves class y true long within =
-    set-append_right blocks leaves 8 (8 + class) y long (omega arith)
-    ∙ ap (λ place. blocks ++ set leaves place y) (back class)
+    cc (set-append_right blocks leaves 8 (8 + class) y long (omega arith), back class)
 
 -- one page more, a block
 by_class-push : (pages : List PageUse) (class : ℕ) (leaf : Bool) (taken : List Bool) → class < 8

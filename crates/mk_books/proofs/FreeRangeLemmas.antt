@@ -77,9 +77,8 @@ range_start-skip count n [] ends short within = absurd (omega arith)
 range_start-skip count zero (page ∷ pages) ends short within = range_start-later count page pages (omega arith)
 range_start-skip count (suc n) (page ∷ pages) ends short within =
     let rest : free_range pages ≡ n = range-suc (is_free_page page) (free_range pages) n ends in
-    range_start-later count page pages (omega arith)
-    ∙ ap (λ first. option_map (λ m. m + 1) first) (range_start-skip count n pages rest (omega arith) (omega arith))
-    ∙ shifted_twice (suc n) (range_start count (drop (suc n) pages))
+    range_start-later count page pages (omega arith) ∙ ap (λ first. option_map (λ m. m + 1) first) (range_start-skip
+    count n pages rest (omega arith) (omega arith)) ∙ shifted_twice _ (range_start count (drop (suc n) pages))
 
 -- the free pages from page n on, and the lowest range from there on, as a place among all pages
 abbrev pub free_range_from : ℕ → List Page → ℕ
@@ -113,18 +112,15 @@ range_start_from-skip range n count pages begun within ends short =
     let next : range + suc m ≡ n + 1 = omega arith in
     let long : length (uses_of_pages rest) ≡ length pages - range = length-map rest use_of_page
     ∙ length-drop range pages in
-    ap (option_map (λ p. p + range))
-    (range_start-skip count m (uses_of_pages rest) (omega arith) (omega arith) (omega arith)
-    ∙ ap (λ pages. option_map (λ p. p + suc m) (range_start count pages))
-    (drop-map use_of_page (suc m) rest
-    ∙ ap uses_of_pages (drop-drop (suc m) range pages ∙ ap (λ k. drop k pages) next)))
-    ∙ from_shifted (range_start count (uses_of_pages (drop (n + 1) pages))) range (suc m) (n + 1) next
+    ap (option_map (λ p. p + range)) (range_start-skip count m (uses_of_pages rest) (omega arith) (omega arith) (omega
+    arith) ∙ ap (λ pages. option_map (λ p. p + suc m) (range_start count pages)) (drop-map use_of_page (suc m) rest ∙ ap
+    uses_of_pages (drop-drop (suc m) range pages ∙ ap (λ k. drop k pages) next))) ∙ from_shifted (range_start count
+    (uses_of_pages (drop (n + 1) pages))) range _ (n + 1) next
 
 range_start_from-here : (range count : ℕ) (pages : List Page) → 1 ≤ count → count ≤ free_range_from range pages
     → range_start_from range count pages ≡ Some range
 range_start_from-here range count pages some long =
-    ap (option_map (λ p. p + range)) (range_start-here count (uses_of_pages (drop range pages)) some long)
-    ∙ ap Some (zero-add range)
+    cc (range_start-here count (uses_of_pages (drop range pages)) some long, zero-add range)
 
 range_start_from-end : (range count : ℕ) (pages : List Page) → range ≤ length pages → length pages < range + count
     → range_start_from range count pages ≡ None

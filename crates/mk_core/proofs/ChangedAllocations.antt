@@ -1,5 +1,5 @@
 -- Allocations that change one by one, and stay at their places.
-use Rattle.std.proofs.{Common.get_or, Math.ListN.get_or-map as get_or-map-default, Math.Seq.get_or-append_seam}
+use Rattle.std.proofs.{Math.ListN.get_or-map as get_or-map-default, Math.Seq.get_or-append_seam}
 use Rattle.mk_core.proofs.Vocabulary.{Bool, Cell, Config, HasItsHeaders, IsHeaderOf, List, None, Option}
 use Rattle.mk_core.proofs.Vocabulary.{PlacedAllocation, Some, Words, ℕ, and-false, ap, false, get_or_append_left}
 use Rattle.mk_core.proofs.Vocabulary.{header_at, if◌then◌else◌, is_small_object, kinds_of, length, map, never_granted}

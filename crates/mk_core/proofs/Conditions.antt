@@ -1,6 +1,6 @@
 -- What each condition says of an enabled event.
-use Rattle.mk_core.proofs.Vocabulary.{Bool, Config, Event, IsEnabled, Moment, Seat, ℕ, arith, false, and_parts}
-use Rattle.mk_core.proofs.Vocabulary.{flight_of, if◌then◌else◌, refl, subst, true, ◌&&◌, ◌≡◌}
+use Rattle.mk_core.proofs.Vocabulary.{Bool, Config, Event, IsEnabled, Moment, Seat, ℕ, and_parts, arith, false}
+use Rattle.mk_core.proofs.Vocabulary.{flight_of, if◌then◌else◌, refl, true, ◌≡◌}
 use Rattle.mk_core.specs.Enabled.{EnabledEventsMeetAll, MeetsAll, holder_may, marker_may, meets_own}
 use Rattle.mk_core.specs.{Moments.marker_at, Moments.marker_of, Order.group_of, Order.is_in_order, Order.is_open_to}
 use Rattle.mk_core.specs.{Order.seat_exists, Ranges.has_gates, Ranges.has_phase, Ranges.is_in_range, Words.phase_of}

@@ -5,7 +5,7 @@ use Rattle.mk_core.proofs.Vocabulary.{Option, PlacedAllocation, Some, StandsOnHe
 use Rattle.mk_core.proofs.Vocabulary.{cases_Bool, cell_of_storage, cell_words, cells_of, class_words_of, false}
 use Rattle.mk_core.proofs.Vocabulary.{first_word, header_at, if◌then◌else◌, inl, inr, nat_lt, object_placed}
 use Rattle.mk_core.proofs.Vocabulary.{page_at_address, placed_at, pointed_cell, points_well, storage_of, sym, true, ◌%◌}
-use Rattle.mk_core.proofs.Vocabulary.{◌*◌, ◌+◌, ◌/◌, ◌<◌, ◌||◌, ◌∙◌, ◌≡◌}
+use Rattle.mk_core.proofs.Vocabulary.{◌*◌, ◌+◌, ◌/◌, ◌<◌, ◌∙◌, ◌≡◌}
 use Rattle.mk_geom.proofs.PointedCells.{address_points_into, cell_index, class_has_words, small_cell_of, small_lookup}
 use Rattle.mk_geom.proofs.Standing.{cell_stands_at, has_words, large_is_run, small_is_cell, stands_parts}
 use Rattle.mk_geom.proofs.CellsOnPages.{is_address}

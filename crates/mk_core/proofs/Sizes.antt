@@ -1,12 +1,12 @@
 -- Small and large objects: their classes, cells, pages and words.
 use Rattle.std.proofs.Common.{cond, le-ltb, lt-ltb, unwrap_or}
 use Rattle.std.proofs.{lemmas.Bool.lt-leb, lemmas.Bool.or_left, lemmas.Bool.or_right, lemmas.Bool.Decides.leb_tells}
-use Rattle.std.specs.List.{position, position_or_len}
-use Rattle.mk_core.proofs.Vocabulary.{Bool, IsSized, List, None, Object, Option, Some, ℕ, ap, arith, cases_Bool}
-use Rattle.mk_core.proofs.Vocabulary.{cells_made, cells_of, class_made, class_words_of, cond-false, cond-true, false}
-use Rattle.mk_core.proofs.Vocabulary.{if◌then◌else◌, inl, inr, is_small_object, le-leb, leb-true, length, list_any}
-use Rattle.mk_core.proofs.Vocabulary.{nat_le, nat_lt, ne_eqb, not, pages_made, subst, sym, true, words_made, [], ◌*◌}
-use Rattle.mk_core.proofs.Vocabulary.{◌+◌, ◌<◌, ◌==◌, ◌||◌, ◌∙◌, ◌∷◌, ◌≡◌, ◌≤◌}
+use Rattle.std.specs.List.{position_or_len}
+use Rattle.mk_core.proofs.Vocabulary.{Bool, IsSized, List, Object, Option, Some, ℕ, ap, arith, cases_Bool, cells_made}
+use Rattle.mk_core.proofs.Vocabulary.{cells_of, class_made, class_words_of, cond-false, cond-true, false, inl, inr}
+use Rattle.mk_core.proofs.Vocabulary.{is_small_object, le-leb, leb-true, length, list_any, nat_le, nat_lt, ne_eqb, not}
+use Rattle.mk_core.proofs.Vocabulary.{pages_made, subst, sym, true, words_made, [], ◌*◌, ◌+◌, ◌<◌, ◌==◌, ◌||◌, ◌∙◌, ◌∷◌}
+use Rattle.mk_core.proofs.Vocabulary.{◌≡◌, ◌≤◌}
 use Rattle.mk_geom.proofs.ClassTable.{class_for-some, class_words_within, some_cells}
 use Rattle.mk_geom.specs.Classes.{class_for, class_sizes, run_pages_of}
 use Rattle.mk_core.specs.HistoryLaws.{LargeIsNotSmall}

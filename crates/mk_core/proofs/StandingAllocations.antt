@@ -5,8 +5,8 @@ use Rattle.mk_core.proofs.Vocabulary.{base_made, cases_Bool, cell_ends, cell_of_
 use Rattle.mk_core.proofs.Vocabulary.{cells_under, class_made, class_words_of, cond-false, cond-true, false, header_at}
 use Rattle.mk_core.proofs.Vocabulary.{header_in, inl, inr, is_small_object, kinds_of, length, not, object_placed}
 use Rattle.mk_core.proofs.Vocabulary.{page_at_address, pages_made, pointed_cell, refl, storage_of, subst, suc, sym}
-use Rattle.mk_core.proofs.Vocabulary.{true, true≢false, unmapped_header, words_made, words_under, zero, [], ◌%◌, ◌&&◌}
-use Rattle.mk_core.proofs.Vocabulary.{◌*◌, ◌+◌, ◌-◌, ◌/◌, ◌<◌, ◌∙◌, ◌≡◌, ◌≤◌, ◌⊎◌}
+use Rattle.mk_core.proofs.Vocabulary.{true, true≢false, unmapped_header, words_made, words_under, zero, [], ◌%◌, ◌*◌}
+use Rattle.mk_core.proofs.Vocabulary.{◌+◌, ◌-◌, ◌/◌, ◌<◌, ◌∙◌, ◌≡◌, ◌≤◌, ◌⊎◌}
 use Rattle.mk_geom.proofs.PointedCells.{cell_first, cell_from_first, large_cell_of, points_into_cell, shows_cell}
 use Rattle.mk_geom.proofs.PointedCells.{shows_run, stands_at_address}
 use Rattle.mk_geom.proofs.{ClassTable.class_words_within, Standing.stands_parts}

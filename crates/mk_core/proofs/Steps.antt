@@ -1,8 +1,8 @@
 -- What a step says of the histories for which the core stood.
 use Rattle.std.proofs.Common.{Err, IfOk, IsOk, MatchResult, Ok, OnOk, Result}
 use Rattle.mk_core.proofs.Vocabulary.{Answer, AreEnabledFrom, Config, CoreState, Event, IsEnabled, List, Moment, Option}
-use Rattle.mk_core.proofs.Vocabulary.{World, ap, arith, calls, failing, first_moment, first_world, flight_of, left}
-use Rattle.mk_core.proofs.Vocabulary.{left_from, refl, subst, sym, [], ◌++◌, ◌↔◌, ◌∙◌, ◌∷◌, ◌≡◌, ◌≤◌}
+use Rattle.mk_core.proofs.Vocabulary.{ap, arith, calls, failing, first_moment, first_world, flight_of, left, left_from}
+use Rattle.mk_core.proofs.Vocabulary.{refl, subst, sym, [], ◌++◌, ◌↔◌, ◌∙◌, ◌∷◌, ◌≡◌, ◌≤◌}
 use Rattle.mk_never.specs.declared.never_heap.NoMemory.{NoMemory}
 use Rattle.mk_core.proofs.Histories.{calls_more, enabled_more, last_enabled, left_more}
 use Rattle.mk_core.specs.{Accesses.caller_number, Decided.entry_of, Effects.answer_decided, Effects.moment_behind}

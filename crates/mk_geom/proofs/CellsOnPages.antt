@@ -109,8 +109,7 @@ module _ (pages : List Page) (storages : List Storage) (stand : PagesStandFor pa
   nothing_on_free u k is none =
       let page = page_at_address u in
       let (low, within) = address_within u k is in
-      let free : page_in pages page ≡ free_page = stand.words page free_page within
-      ∙ ap (words_by storages page) none in
+      let free : page_in pages page ≡ free_page = cc (stand.words page free_page within, none) in
       let header_free = ap (λ (p : Page). header_of p.header) free in
       none-some k (sym (looked_up (length pages) (page_in pages page).header u Free low within header_free) ∙ is)
 
@@ -132,8 +131,7 @@ module _ (pages : List Page) (storages : List Storage) (stand : PagesStandFor pa
 word_in_cell : (word index words : ℕ) → 1 ≤ words → word / words ≡ index
     → (index * words ≤ word) × (word < index * words + words)
 word_in_cell word index words some is =
-    let split : index * words + word % words ≡ word = ap (λ (n : ℕ). n * words + word % words) (sym is)
-    ∙ div-add-mod' word words in
+    let split : index * words + word % words ≡ word = cc (is, div-add-mod' word words) in
     omega (arith, mod_below word words some)
 
 -- a storage that shares a page with a small one is small, and has as many words
@@ -176,8 +174,7 @@ small_back : (n u : ℕ) (s t : Storage) → IsStorage n s → is_small s ≡ tr
 small_back n u s t is small low at words index =
     let cell = small_is_cell n s is small in
     let some = has_words n s is in
-    let same : word_at_address u / s.words ≡ cell.index = ap (λ (w : ℕ). word_at_address u / w) (sym words) ∙ sym index
-    ∙ cell_index s cell in
+    let same : word_at_address u / s.words ≡ cell.index = cc (words, index, cell_index s cell) in
     let range = word_in_cell (word_at_address u) cell.index s.words some same in
     let first : s.first % 64 ≡ cell.index * s.words = cell.first ∙ ap (λ (w : ℕ). cell.index * w) (sym cell.words) in
     (low, (omega arith, omega arith))

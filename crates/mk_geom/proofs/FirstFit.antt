@@ -106,8 +106,7 @@ cell_place_fits class leaf (u ∷ uses) place is =
           subst (λ (x : Place). FitsOn class leaf (u ∷ uses) x × (x.carve ≡ false)) place_is (
             record {
               on = fits.on;
-              at = ap (slice_get (u ∷ uses)) (add-one behind.page)
-                  ∙ fits.at;
+              at = cc (add-one behind.page, fits.at);
               may_take = fits.may_take;
               carves = fits.carves;
             },
@@ -208,8 +207,7 @@ range_start_free count (u ∷ uses) start is = elim (cases_Bool (nat_le count (f
 -- from what stands on the pages to the pages
 use_of_some : (pages : List Page) (k : ℕ) (u : PageUse) → slice_get (uses_of_pages pages) k ≡ Some u
     → (p : Page) × (slice_get pages k ≡ Some p) × (use_of_page p ≡ u)
-use_of_some pages k u at = option_map_some use_of_page (slice_get pages k) u (sym (slice_get-map use_of_page pages k)
-    ∙ at)
+use_of_some pages k u at = option_map_some use_of_page _ u (sym (slice_get-map use_of_page pages k) ∙ at)
 
 cell_place_on : (limit class : ℕ) (leaf : Bool) (pages : List Page) (place : Place)
     → FitsOn class leaf (uses_of_pages pages) place → (place.carve ≡ true → place.index ≡ 0)

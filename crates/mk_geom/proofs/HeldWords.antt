@@ -108,8 +108,7 @@ held_small xs page s small = ap held_by_use (cond-true (is_small s) (cells_with 
 
 held_large : (xs : List Storage) (page : ℕ) (s : Storage) → is_small s ≡ false
     → held_by_use (use_by xs page (Some s)) ≡ (if s.mapped then 64 else 0)
-held_large xs page s large =
-    ap held_by_use (cond-false (is_small s) (cells_with xs page s) (PartOfRun s.mapped) large)
+held_large xs page s large = ap held_by_use (cond-false (is_small s) (cells_with xs page s) (PartOfRun s.mapped) large)
 
 found_first : (page : ℕ) (s : Storage) (xs : List Storage) → stands_on page s ≡ true
     → find (stands_on page) (s ∷ xs) ≡ Some s
@@ -141,8 +140,7 @@ module _ (n : ℕ) (s : Storage) (xs : List Storage) (laid : AreLaidOut n (s ∷
       → held_by_use (use_of_storages (s ∷ xs) page) ≡ held_by_use (use_of_storages xs page)
   held_elsewhere page apart =
       ap (held_as (s ∷ xs) page) (found_later page s xs apart) ∙ elim (find_cases (stands_on page) xs) [
-        | inl (t, found, inside, stands) ↦ ap (held_as (s ∷ xs) page) found ∙ same t inside
-            ∙ sym (ap (held_as xs page) found)
+        | inl (t, found, inside, stands) ↦ cc (found, same t inside)
         | inr (none, others) ↦ ap (held_as (s ∷ xs) page) none ∙ sym (ap (held_as xs page) none)
       ]
     where
@@ -220,20 +218,19 @@ module _ (n : ℕ) (s : Storage) (xs : List Storage) (laid : AreLaidOut n (s ∷
     taken_more =
         let here = cell_taken_from page (class_words_of (class_of_storage s)) cell.index (s ∷ xs) s
         (Contains-head s xs) first_is in
-        ap (λ (bits : List Bool). count bits)
-        (taken_cells-set page (class_of_storage s) cell.index xs (s ∷ xs) true here others_stay)
-        ∙ one_more (taken_cells xs page (class_of_storage s)) cell.index
-        (omega (arith, length-taken_cells xs page (class_of_storage s), index_within))
-        (get_or-taken_cells xs page (class_of_storage s) cell.index true index_within ∙ was_free)
+        ap (λ (bits : List Bool). count bits) (taken_cells-set page (class_of_storage s) cell.index xs (s ∷ xs) true
+        here others_stay) ∙ one_more _ cell.index (omega (
+          arith,
+          length-taken_cells xs page (class_of_storage s),
+          index_within,
+        )) (get_or-taken_cells xs page _ cell.index true index_within ∙ was_free)
 
     held_before : held_by_use (use_of_storages xs page)
         ≡ class_words_of (class_of_storage s) * count (taken_cells xs page (class_of_storage s))
     held_before = elim (find_cases (stands_on page) xs) [
       | inl (t, found, inside, t_stands) ↦
           let alike = (from_head t inside).alike page stands t_stands in
-          ap (held_as xs page) found ∙ held_small xs page t alike.1
-          ∙ ap (λ (w : ℕ). class_words_of (unwrap_or (class_for w) 0) * count
-          (taken_cells xs page (unwrap_or (class_for w) 0))) (sym alike.2)
+          cc (found, held_small xs page t alike.1, alike.2)
       | inr (none, others) ↦
           let no_bit : count (taken_cells xs page (class_of_storage s)) ≡ 0 =
           none_set (taken_cells xs page (class_of_storage s)) (λ k below.
@@ -256,10 +253,8 @@ module _ (n : ℕ) (s : Storage) (xs : List Storage) (laid : AreLaidOut n (s ∷
       → held_by_use (use_of_storages (s ∷ xs) page) ≡ words_on s page + held_by_use (use_of_storages xs page)
   held_more page = elim (cases_Bool (stands_on page s)) [
     | inl stands ↦ elim (cases_Bool (is_small s)) [
-      | inl small ↦ held_on_block page stands small
-          ∙ ap (λ (k : ℕ). k + held_by_use (use_of_storages xs page)) (sym (words_on_page s page stands))
-      | inr large ↦ held_on_run page stands large
-          ∙ ap (λ (k : ℕ). k + held_by_use (use_of_storages xs page)) (sym (words_on_page s page stands))
+      | inl small ↦ cc (held_on_block page stands small, words_on_page s page stands)
+      | inr large ↦ cc (held_on_run page stands large, words_on_page s page stands)
     ]
     | inr apart ↦ held_elsewhere page apart
         ∙ omega (arith, words_off_page s page (λ stands. false≢true (sym apart ∙ stands)))
@@ -282,6 +277,5 @@ held_sum n (s ∷ xs) laid =
 pub pages_hold_mapped_words : (pages : List Page) (storages : List Storage) → PagesStandFor pages storages
     → held_by_uses (uses_of_pages pages) ≡ held_by_storages storages
 pages_hold_mapped_words pages storages stand =
-    ap held_by_uses (same_uses pages storages stand)
-    ∙ sum_by-range held_by_use (use_of_storages storages) (length pages)
-    ∙ held_sum (length pages) storages stand.laid_out
+    ap held_by_uses (same_uses pages storages stand) ∙ sum_by-range held_by_use (use_of_storages storages) _ ∙ held_sum
+    _ storages stand.laid_out

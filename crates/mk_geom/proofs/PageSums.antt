@@ -12,9 +12,7 @@ sum_below f (suc n) = sum_below f n + f n
 pub sum_by-range : {X : Type 0} (g : X → ℕ) (f : ℕ → X) (n : ℕ)
     → sum_by g (map f (range_with_len 0 n)) ≡ sum_below (λ p. g (f p)) n
 sum_by-range g f zero = refl
-sum_by-range g f (suc n) =
-    subst (λ (m : ℕ). sum_by g (map f (range_with_len 0 m)) ≡ sum_below (λ p. g (f p)) n + g (f n)) (add-one n)
-    (sum_by-map-range_with_len_more g f 0 n n (omega arith) ∙ ap (λ (x : ℕ). x + g (f n)) (sum_by-range g f n))
+sum_by-range g f (suc n) = cc (add-one n, sum_by-map-range_with_len_more g f 0 n n (omega arith), sum_by-range g f n)
 
 pub sum_below-add : (f g h : ℕ → ℕ) (n : ℕ) → ((p : ℕ) → p < n → f p ≡ g p + h p)
     → sum_below f n ≡ sum_below g n + sum_below h n

@@ -22,11 +22,9 @@ pub looked_up : (pages header u : ℕ) (h : Header) → 65536 ≤ u → page_at_
 looked_up pages header u h low within is =
     let high : u < 65536 + 512 * pages = omega arith in
     let inside : is_heap_address pages u ≡ true =
-    and_from (nat_le 65536 u) (nat_lt u (65536 + 512 * pages)) (le-leb 65536 u low)
-    (lt-ltb u (65536 + 512 * pages) high) in
-    cond-true (is_heap_address pages u)
-    (option_and_then (λ h. cell_under h (page_at_address u) (word_at_address u)) (header_of header)) None inside
-    ∙ ap (option_and_then (λ h. cell_under h (page_at_address u) (word_at_address u))) is
+    and_from _ _ (le-leb 65536 u low) (lt-ltb u (65536 + 512 * pages) high) in
+    cond-true _ (option_and_then (λ h. cell_under h (page_at_address u) (word_at_address u)) (header_of header)) None
+    inside ∙ ap (option_and_then (λ h. cell_under h (page_at_address u) (word_at_address u))) is
 
 block_under : (class : ℕ) (leaf : Bool) (page word : ℕ)
     → cell_under (block_header class leaf) page word ≡ cell_of_block class page word
@@ -60,9 +58,8 @@ module _ (pages header u : ℕ) (s : Storage) (is : IsStorage pages s) (low : 65
       let known : class_of_storage s < 8 = omega (arith, class_of_cell s cell, cell.known) in
       let h : Header = block_header (class_of_storage s) s.leaf in
       let header_is : header ≡ word_of h = shows.1 ∙ ap word_of (cond-true (is_small s) _ _ small) in
-      looked_up pages header u h low page_within (ap header_of header_is
-      ∙ header_of-word_of h (block_in_range (class_of_storage s) s.leaf known))
-      ∙ block_under (class_of_storage s) s.leaf (page_at_address u) (word_at_address u)
+      looked_up pages header u h low page_within (ap header_of header_is ∙ header_of-word_of h (block_in_range _ s.leaf
+      known)) ∙ block_under _ s.leaf _ _
 
   pub large_lookup : is_small s ≡ false → cell_at pages header u ≡ Some (record { page = first_page s; index = 0 })
   large_lookup large =
@@ -104,10 +101,7 @@ small_cell_of s small =
 
 small_cell_is : (s : Storage) (cell : IsCell s) (page : ℕ) → is_small s ≡ true → page ≡ first_page s
     → Some (record { page = page; index = cell.index }) ≡ Some (cell_of_storage s)
-small_cell_is s cell page small at =
-    ap (λ (p : ℕ). Some (record { page = p; index = cell.index })) at
-    ∙ ap (λ (n : ℕ). Some (record { page = first_page s; index = n })) (sym (cell_index s cell))
-    ∙ ap (λ (k : Cell). Some k) (sym (small_cell_of s small))
+small_cell_is s cell page small at = cc (cell_index s cell, small_cell_of s small)
 
 pub cell_from_first : (s : Storage) (page index : ℕ) → is_small s ≡ true → 1 ≤ s.words → index * s.words + s.words ≤ 64
     → s.first ≡ 64 * page + index * s.words
@@ -173,9 +167,7 @@ small_cell_at u s cell small into =
     let offset : heap_word_at u - s.first < class_words_of (class_of_storage s) = omega arith in
     let word : word_at_address u ≡ cell.index * class_words_of (class_of_storage s) + (heap_word_at u - s.first) =
     omega arith in
-    block_cell (class_of_storage s) (page_at_address u) cell.index (heap_word_at u - s.first) (word_at_address u) within
-    offset word
-    ∙ small_cell_is s cell (page_at_address u) small at
+    block_cell _ _ cell.index _ _ within offset word ∙ small_cell_is s cell _ small at
 
 -- what the header word of its page says, by a storage's numbers
 pub shows_cell : (s : Storage) (page header class : ℕ) → class < 8 → s.words ≡ class_words_of class
@@ -214,6 +206,5 @@ points_into_cell pages header u s is shows into =
     elim (cases_Bool (is_small s)) [
       | inl small ↦ small_lookup pages header u s is into.0 stands shows small
           ∙ small_cell_at u s (small_is_cell pages s is small) small into
-      | inr large ↦ large_lookup pages header u s is into.0 stands shows large
-          ∙ ap (λ (k : Cell). Some k) (sym (large_cell_of s large))
+      | inr large ↦ cc (large_lookup pages header u s is into.0 stands shows large, large_cell_of s large)
     ]

@@ -47,9 +47,7 @@ stands_parts page s stands =
 
 pub stands_from : (page : ℕ) (s : Storage) → s.first / 64 ≤ page → page ≤ (s.first + s.words - 1) / 64
     → stands_on page s ≡ true
-stands_from page s begins ends =
-    and_from (nat_le (first_page s) page) (nat_le page (last_page s)) (le-leb (first_page s) page begins)
-    (le-leb page (last_page s) ends)
+stands_from page s begins ends = and_from _ _ (le-leb _ page begins) (le-leb page _ ends)
 
 -- a storage stands on the page of its first word, and a cell on no other
 pub stands_at_first : (n : ℕ) (s : Storage) (page : ℕ) → IsStorage n s → s.first / 64 ≡ page → stands_on page s ≡ true

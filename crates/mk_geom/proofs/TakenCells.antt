@@ -83,15 +83,12 @@ taken_cells-set page class index xs ys b here others = same_lists _ _ same_lengt
     old = taken_cells xs page class
 
     same_length : length (taken_cells ys page class) ≡ length (set (taken_cells xs page class) index b)
-    same_length = length-taken_cells ys page class ∙ sym (length-taken_cells xs page class)
-        ∙ sym (length-set old index b)
+    same_length = cc (length-taken_cells ys page class, length-taken_cells xs page class, length-set old index b)
 
     changed : (k : ℕ) (d : Bool) → k < cells_of class → k ≡ index
         → is_cell_taken ys page (class_words_of class) k ≡ get_or (set (taken_cells xs page class) index b) k d
     changed k d within same =
-        ap (is_cell_taken ys page (class_words_of class)) same ∙ here
-        ∙ sym (ap (λ i. get_or (set old index b) i d) same
-        ∙ get_or-set_same old index b d (omega (arith, length-taken_cells xs page class, same)))
+        cc (here, get_or-set_same old index b d (omega (arith, length-taken_cells xs page class, same)))
 
     each : (k : ℕ) (d : Bool) → k < length (taken_cells ys page class)
         → get_or (taken_cells ys page class) k d ≡ get_or (set (taken_cells xs page class) index b) k d

@@ -55,8 +55,7 @@ caller_acts c m k x h a = by (group_of x) refl
     by Group.Host g = let e : false ≡ true = ap (λ (y : Group). is_open_to (Caller k) y) (sym g) ∙ h.kind in cc
     by Group.Turn g = elim (cases_Bool (is_take x)) [
       | inl t ↦ caller_takes c m k x h t
-      | inr t ↦ AsHolder (Caller k) x (lt, turns_stand f.stage f.op (of_turn f.stage f.op x g t h.order) a)
-          (turns_kind x g t)
+      | inr t ↦ AsHolder (Caller k) x (lt, turns_stand _ f.op (of_turn _ f.op x g t h.order) a) (turns_kind x g t)
     ]
 
 marker_acts : (c : Config) (m : Moment) (k : ℕ) (x : Step) → Meets c m (Marker k) x → Actor c m (Marker k) x

@@ -1,8 +1,8 @@
 -- An operation that is admitted stays so, whatever others call.
 use Rattle.mk_laws.proofs.Vocabulary.{AccessIsAdmitted, Answer, AreAdmitted, Continues, IsAdmitted, IsNumber, IsPointer}
 use Rattle.mk_laws.proofs.Vocabulary.{IsSound, IsTyped, KeepsRegisters, Kind, List, Meets, NeverState, None, Number, Op}
-use Rattle.mk_laws.proofs.Vocabulary.{Option, Ptr, Some, Value, ℕ, allocation_at, ap, asked, entry_of, flagged}
-use Rattle.mk_laws.proofs.Vocabulary.{kinds_of, register_at, slice_index_or, subst, sym, ◌*◌, ◌+◌, ◌<◌, ◌∙◌, ◌≡◌}
+use Rattle.mk_laws.proofs.Vocabulary.{Option, Ptr, Some, Value, ℕ, allocation_at, asked, entry_of, flagged, kinds_of}
+use Rattle.mk_laws.proofs.Vocabulary.{register_at, slice_index_or, subst, sym, ◌*◌, ◌+◌, ◌<◌, ◌≡◌}
 use Rattle.mk_never.specs.Admitted.{IsBase, IsOfKind, OperandsAreInRange, StoreIsAdmitted}
 
 module _ (globals : List ℕ) (n m : NeverState) (k : ℕ) (on : Continues n m) (own : KeepsRegisters k n m)
@@ -18,9 +18,7 @@ module _ (globals : List ℕ) (n m : NeverState) (k : ℕ) (on : Continues n m) 
     where
       kind : slice_index_or (kinds_of n.types (allocation_at n a).ty) (o + i) Number
           ≡ slice_index_or (kinds_of m.types (allocation_at m a).ty) (o + i) Number
-      kind = ap (λ (types : List (List Kind)). slice_index_or (kinds_of types (allocation_at n a).ty)
-          (o + i) Number) (sym on.types)
-          ∙ ap (λ ty. slice_index_or (kinds_of m.types ty) (o + i) Number) (sym (on.ty a sound.0))
+      kind = cc (on.types, on.ty a sound.0)
   meets_value _ i P sound h = tt
 
   pub meets_register : (q i : ℕ) (P : Kind → Type 0) → q < 8 → Meets n (register_at n k q) i P

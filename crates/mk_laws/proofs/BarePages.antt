@@ -96,5 +96,4 @@ plot_page c w first o distance n q plot lt at = elim (plot.headers distance lt) 
         let zero : first + 0 ≡ first = omega arith in
         let page : x.claim.page ≡ first = sym (claimed_head w.now.words.pages x.claim x.distance shown x.near)
         ∙ ap (head_on w.now.words.pages) (x.at ∙ at) ∙ part_head o distance first _ part in
-        none_set _ x.claim.index
-        (ap (used_on w.now.words.pages) (page ∙ sym zero) ∙ plot.used 0 (omega arith)) shown.used
+        none_set _ _ (ap (used_on w.now.words.pages) (page ∙ sym zero) ∙ plot.used 0 (omega arith)) shown.used

@@ -1,9 +1,9 @@
 -- One event: what stands on the pages after it.
-use Rattle.mk_laws.proofs.Vocabulary.{Bool, Chosen, Config, HasLayout, LayoutStands, Marker, Moment, None, Option}
-use Rattle.mk_laws.proofs.Vocabulary.{Placing, Seat, SeenHeader, Some, Step, World, ℕ, ap, arith, cases_Bool, cell_seen}
-use Rattle.mk_laws.proofs.Vocabulary.{eqb-true, false, ground_of, has_place, holder_number, if◌then◌else◌, inl, inr}
-use Rattle.mk_laws.proofs.Vocabulary.{is_attending, is_phase, is_some, marker_at, marker_of, nothing_done, object_now}
-use Rattle.mk_laws.proofs.Vocabulary.{phase_of, refl, sym, true, ◌+◌, ◌-◌, ◌==◌, ◌∙◌, ◌≡◌, ◌⊎◌}
+use Rattle.mk_laws.proofs.Vocabulary.{Bool, Chosen, Config, HasLayout, LayoutStands, Marker, Moment, None, Placing}
+use Rattle.mk_laws.proofs.Vocabulary.{Seat, Some, Step, World, ℕ, ap, arith, cases_Bool, cell_seen, eqb-true, false}
+use Rattle.mk_laws.proofs.Vocabulary.{ground_of, has_place, holder_number, if◌then◌else◌, inl, inr, is_attending}
+use Rattle.mk_laws.proofs.Vocabulary.{is_phase, is_some, marker_at, marker_of, nothing_done, object_now, phase_of, refl}
+use Rattle.mk_laws.proofs.Vocabulary.{sym, true, ◌+◌, ◌-◌, ◌==◌, ◌∙◌, ◌≡◌, ◌⊎◌}
 use Rattle.mk_laws.proofs.Basics.{Before, Known, Meets, WorldBehind, actor_of, held_place, is_releasing_behind}
 use Rattle.mk_laws.proofs.Basics.{not_astray, reg_leaves, tally_keeps, view_of}
 use Rattle.mk_laws.proofs.Colours.{AddsMarks, ClearsMarks, Colours, ColourStep, MarksSeen, colour_step}
@@ -112,6 +112,5 @@ layout_behind c w seat x b h laid =
         → HasLayout c (object_now c w.now) r (WorldBehind c w seat x).now.words.marks
         (ground_of (WorldBehind c w seat x))
     marks true is st = rw (releasing_marks c w seat x b.known h is) st
-    marks false is st = unreleasing c (object_now c w.now) w.now.words.marks (WorldBehind c w seat x).now.words.marks
-        (ground_of (WorldBehind c w seat x))
+    marks false is st = unreleasing c _ _ (WorldBehind c w seat x).now.words.marks (ground_of (WorldBehind c w seat x))
         (WorldBehind c w seat x).now.words.freed (WorldBehind c w seat x).now.words.snapshot st

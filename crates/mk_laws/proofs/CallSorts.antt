@@ -206,11 +206,10 @@ module _ (c : Config) (w : World) (n : NeverState) (known : KnownWorld c w) (mir
       let e = literal f Stage.Read st in
       let out = call_outside f.op f.stage (ap is_call_stage st) (own_astray k lt) in
       let x = slice_index w.now.words.heap (word_met f) in
-      subst (λ (g : Flight). LeadsBy safe (image_scene_of w) n k g.op (image_scene_of w) (progress_read g g.op x))
-      (sym e) (read_leads c.globals safe _ n k ready (there_is k lt)
-      (own_registers k lt) f.op f.q f.p f.r f.loaded x e (own_d k) (rw e at (own_astray k lt))
-      (rw e at (ready.images.carried k)) (rw e at (ready.images.probed k)) refl
-      (read_admitted c.globals n k f f.op x out ad))
+      subst (λ (g : Flight). LeadsBy safe (image_scene_of w) n k g.op (image_scene_of w) (progress_read g g.op x)) (sym
+      e) (read_leads _ safe _ n k ready (there_is k lt) (own_registers k lt) f.op f.q f.p f.r _ x e (own_d k) (rw e at
+      (own_astray k lt)) (rw e at (ready.images.carried k)) (rw e at (ready.images.probed k)) refl (read_admitted _ n k
+      f f.op x out ad))
 
   pub write_leads_at : (k : ℕ) → Meets c w k Step.Write → AdmittedAt c w n k Step.Write
       → LeadsAt c w n safe k Step.Write

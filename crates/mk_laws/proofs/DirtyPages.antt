@@ -5,14 +5,14 @@ use Rattle.mk_laws.proofs.Vocabulary.{Flight, HasAllocation, Host, IsHistory, Is
 use Rattle.mk_laws.proofs.Vocabulary.{None, OfHistories, Op, Option, Seat, Some, Stage, Step, World, ℕ}
 use Rattle.mk_laws.proofs.Vocabulary.{admitted_in_parts, all_below-at, and_parts, ap, append-nil, arith, asked, at_rest}
 use Rattle.mk_laws.proofs.Vocabulary.{begun, call_decided, calls_from, cases_eq, cases_lt, comes_next, decided}
-use Rattle.mk_laws.proofs.Vocabulary.{earlier_part_is_history, enabled_in_parts, eqb-true, false, first_world}
-use Rattle.mk_laws.proofs.Vocabulary.{flight_of, found, get_or-set_other, get_or-set_same, get_or_past, if◌then◌else◌}
-use Rattle.mk_laws.proofs.Vocabulary.{inl, inr, is_heap_store, is_release, left, left_from, left_more, length, ltb-true}
+use Rattle.mk_laws.proofs.Vocabulary.{earlier_part_is_history, enabled_in_parts, eqb-true, false, flight_of, found}
+use Rattle.mk_laws.proofs.Vocabulary.{get_or-set_other, get_or-set_same, get_or_past, if◌then◌else◌, inl, inr}
+use Rattle.mk_laws.proofs.Vocabulary.{is_heap_store, is_release, left, left_from, left_more, length, ltb-true}
 use Rattle.mk_laws.proofs.Vocabulary.{never_behind, onward, page_met, phase_of, placed_at, progress, progress_freed}
 use Rattle.mk_laws.proofs.Vocabulary.{progress_p, progress_q, progress_read, progress_reg, refl, refused, set_past}
-use Rattle.mk_laws.proofs.Vocabulary.{slice_index, slice_index_or, slice_set, stage_behind, stage_refused, steps_of}
-use Rattle.mk_laws.proofs.Vocabulary.{still, storage_words, subst, sym, true, true≢false, word_met, [], ◌++◌, ◌==◌, ◌∙◌}
-use Rattle.mk_laws.proofs.Vocabulary.{◌∷◌, ◌≡◌, ◌≢◌, ◌⊎◌}
+use Rattle.mk_laws.proofs.Vocabulary.{slice_index, slice_set, stage_behind, stage_refused, steps_of, still}
+use Rattle.mk_laws.proofs.Vocabulary.{storage_words, subst, sym, true, true≢false, word_met, [], ◌++◌, ◌==◌, ◌∙◌, ◌∷◌}
+use Rattle.mk_laws.proofs.Vocabulary.{◌≡◌, ◌≢◌, ◌⊎◌}
 use Rattle.mk_core.specs.Calls.{first_of}
 use Rattle.mk_laws.proofs.Basics.{Behind, InCall, KeptByEvents, Known, KnownWorld, Meets, Table, WorldBehind, at_first}
 use Rattle.mk_laws.proofs.Basics.{at_its_stage, at_reg, before_it, calls_stand, holds_of_histories, is_astray}
@@ -346,9 +346,8 @@ stores_told c es e h =
 kept : KeptByEvents Stands
 kept c es e h d =
     let here = before_it c (es ++ e ∷ []) es e [] h refl in
-    subst (λ (w : World). DirtyStands c w) (sym (left_more c (first_world c) es e))
-    (by_event c (left c es) e.seat e.step (known_world c es here.0.within_limits here.0.enabled) here.1 d
-    (stores_told c es e h))
+    subst (λ (w : World). DirtyStands c w) (sym (left_more c _ es e)) (by_event c _ _ _ (known_world c es
+    here.0.within_limits here.0.enabled) here.1 d (stores_told c es e h))
 
 pub dirty_stands : OfHistories Stands
 dirty_stands = holds_of_histories Stands first_stands kept

@@ -7,8 +7,8 @@ use Rattle.mk_laws.proofs.Vocabulary.{Value, World, ℕ, accessed, address_of, a
 use Rattle.mk_laws.proofs.Vocabulary.{and_right, answer_decided, ap, arith, asked, at_rest, bases_of, call_decided}
 use Rattle.mk_laws.proofs.Vocabulary.{caller_number, cases_Bool, cases_eq, cases_lt, cell_of_allocation, changed_at}
 use Rattle.mk_laws.proofs.Vocabulary.{eqb-true, false, false≢true, flight_among, flight_of, fresh_leaves, get_or_past}
-use Rattle.mk_laws.proofs.Vocabulary.{global_at, has_bit, has_bit_without, if◌then◌else◌, image_of, image_scene_of, inl}
-use Rattle.mk_laws.proofs.Vocabulary.{inr, is_left_unmarked, is_marked, is_none_or, is_open_to, is_past_probe, is_put}
+use Rattle.mk_laws.proofs.Vocabulary.{global_at, has_bit_without, if◌then◌else◌, image_of, image_scene_of, inl, inr}
+use Rattle.mk_laws.proofs.Vocabulary.{is_left_unmarked, is_marked, is_none_or, is_open_to, is_past_probe, is_put}
 use Rattle.mk_laws.proofs.Vocabulary.{is_run_cell, is_some_and, is_unmapped, kinds_of, length, ltb-true, map}
 use Rattle.mk_laws.proofs.Vocabulary.{no_longer_fresh, none_freed, not, or_cases, or_parts, others_are_held, placed_at}
 use Rattle.mk_laws.proofs.Vocabulary.{pointed_cell, points_well, refl, released_leaves, set-get_or, slice_index}
@@ -82,9 +82,8 @@ module _ (c : Config) (w : World) (n : NeverState) (known : KnownWorld c w) (mir
         let typed : IsTypedAllocation n (allocation_at n a) = mirrors.typed.allocations a (omega arith) in
         let un = sym (unmapped_is c w n known mirrors a lt) ∙ mapped in
         elim (cases_Bool (is_leaf (kinds_of c.types (placed a).ty))) [
-          | inl leaf ↦ number_cut (word_at n a i) _ (typed.words i li) (is_number_kind _ (rw mirrors.types
-              (rw (mirrors.twins.ty a lt) at
-              (list_all-at is_number (kinds_of c.types (placed a).ty) Number leaf refl i))))
+          | inl leaf ↦ number_cut _ _ (typed.words i li) (is_number_kind _ (rw mirrors.types (rw (mirrors.twins.ty a lt)
+              at (list_all-at is_number (kinds_of c.types (placed a).ty) Number leaf refl i))))
           | inr pointers ↦
               let fits = words_fit c w n known mirrors a lt in
               let scanned : is_scanned_allocation c (placed a) ≡ true = rw u (rw un (ap not pointers)) in
@@ -129,13 +128,10 @@ module _ (c : Config) (w : World) (n : NeverState) (known : KnownWorld c w) (mir
         let u = ready.set.unreleased a parts.0 in
         let x = placed a in
         let cell = cell_of_allocation c x in
-        ap (λ (y : PlacedAllocation). y.released) (changed_at (with_released c w.now.words) w.allocations a refl)
-        ∙ ap (λ b. b || is_some_and (is_left_unmarked w.now.words)
-        (pointed_cell c.pages w.now.words.pages (address_of x.base))) u
-        ∙ ap (λ (y : Option Cell). is_some_and (is_left_unmarked w.now.words) y) (base_cell_is a u)
-        ∙ has_bit_without (slice_index w.now.words.snapshot cell.page) (slice_index w.now.words.marks cell.page)
-        cell.index ∙ and_right (has_bit (slice_index w.now.words.snapshot cell.page) cell.index)
-        (not (is_marked w.now.words cell)) (ap not parts.1);
+        ap (λ (y : PlacedAllocation). y.released) (changed_at (with_released c w.now.words) w.allocations a refl) ∙ ap
+        (λ b. b || is_some_and (is_left_unmarked w.now.words) (pointed_cell c.pages w.now.words.pages (address_of
+        x.base))) u ∙ ap (λ (y : Option Cell). is_some_and (is_left_unmarked w.now.words) y) (base_cell_is a u) ∙
+        has_bit_without _ _ cell.index ∙ and_right _ (not _) (ap not parts.1);
   }
 
   pub releases : Move safe (image_scene_of w) n
@@ -228,9 +224,8 @@ module _ (c : Config) (w : World) (n : NeverState) (known : KnownWorld c w) (mir
       subst (λ (x : ImageScene). Move safe (image_scene_of w) n x n) (tally_scene w t v) Rests
   still_moves seat (Step.Wipe x) s h = Wipes x (wiped_outside c w n known mirrors others st x (h.holder))
   still_moves seat Step.Begin s h =
-      Renews (map no_longer_fresh w.allocations) (same_places no_longer_fresh w.allocations fresh_leaves)
-      (λ a. rw (changed_at no_longer_fresh w.allocations a refl))
-      (λ a. rw (changed_at no_longer_fresh w.allocations a refl))
+      Renews (map no_longer_fresh w.allocations) (same_places no_longer_fresh _ fresh_leaves) (λ a. rw (changed_at
+      no_longer_fresh w.allocations a refl)) (λ a. rw (changed_at no_longer_fresh w.allocations a refl))
   still_moves seat Step.Release s h =
       releases c w n known mirrors safe ready st (others.marks (eqb-true _ 3 h.phase)) (plain_at seat h.kind h)
   still_moves seat _ s h = Rests

@@ -11,12 +11,11 @@ use Rattle.mk_laws.proofs.Vocabulary.{target, true, word_accessed, [], ◌&&◌,
 use Rattle.mk_core.specs.{Counts.releases, Effects.begins_where_free, Frames.CountsAreLeft, LongerLists.LongerListsGoOn}
 use Rattle.mk_laws.proofs.Basics.{InCall, Meets, actor_of, at_its_stage, calls_stand, in_call_told, is_call_stage}
 use Rattle.mk_laws.proofs.Basics.{is_holders, not_astray, operands_of, register_small, standing}
-use Rattle.mk_laws.proofs.EnabledStill.{before, enabled_still, left_to}
 use Rattle.mk_laws.proofs.LastEvents.{Stands, comes_last, goes_on_by, stands}
-use Rattle.mk_laws.proofs.Reaching.{events_reach_the_table, others_leave_accesses}
-use Rattle.mk_laws.proofs.{AdmittedStill.call_on, CallSorts.admitted_call, CallSorts.call_outside}
-use Rattle.mk_laws.proofs.{FramesHolders.acts_as_holder, FramesHolders.holds_is, OtherCalls.never_continues}
-use Rattle.mk_laws.proofs.{OtherCalls.registers_are_left, ProbesStill.probe_still, Standings.is_standing_in_call}
+use Rattle.mk_laws.proofs.{AdmittedStill.call_on, CallSorts.admitted_call, CallSorts.call_outside, EnabledStill.before}
+use Rattle.mk_laws.proofs.{EnabledStill.enabled_still, EnabledStill.left_to, FramesHolders.acts_as_holder}
+use Rattle.mk_laws.proofs.{FramesHolders.holds_is, OtherCalls.never_continues, OtherCalls.registers_are_left}
+use Rattle.mk_laws.proofs.{ProbesStill.probe_still, Reaching.events_reach_the_table, Reaching.others_leave_accesses}
 
 -- What a step asks of the heap that never reuses storage it asks after a longer list too: what it finds may differ,
 -- and so the answer, but not whether it decides, nor what for.
@@ -129,8 +128,7 @@ module _ (c : Config) (es more : List Event) (k : ℕ) (x : Step) (h : IsHistory
   at_probe is = at_its_stage f.stage f.op Step.Probe refl (rw is at meets).order
 
   in_call : x ≡ Step.Probe → standing f ≡ InCall
-  in_call is = calls_stand f.stage f.op (ap is_call_stage (at_probe is))
-      (not_astray c w.now here.known.now.orderly k lt)
+  in_call is = calls_stand _ f.op (ap is_call_stage (at_probe is)) (not_astray c w.now here.known.now.orderly k lt)
 
   is_in : x ≡ Step.Probe → IsInCall w.now (Caller k)
   is_in is = cc (in_call_told f.stage f.op (not_astray c w.now here.known.now.orderly k lt), in_call is)
@@ -149,8 +147,7 @@ module _ (c : Config) (es more : List Event) (k : ℕ) (x : Step) (h : IsHistory
         let register =
         registers_are_left c es more k h others (q_of f.op) (operands_of c f.op (here.known.now.operands k)).q in
         probe_still c w v _ _ here.known there.known here.all there.all k lt kept.own.flight (at_probe is)
-        (never_continues c es more) register (admitted_call c.globals _ k f.op Answer.Fault out decides) unmapped
-        ∙ sym unmapped
+        (never_continues c es more) register (admitted_call _ _ k f.op Answer.Fault out decides) unmapped ∙ sym unmapped
   ]
 
   finds_header : x ≡ Step.Probe → is_unmapped_header (header_of (found c v.now (of_caller k x)))
@@ -271,8 +268,7 @@ longer_lists_go_on c es more e one h others =
     let on = enabled_still c es more e h others last.on in
     let reaches = others_leave_accesses c es more e h.within_limits h.enabled others last.on in
     record {
-      history = goes_on_by c (es ++ more) e h on (still_admitted c es more e.seat e.step h
-          others last.on last.admitted);
+      history = goes_on_by c (es ++ more) e h on (still_admitted c es more _ _ h others last.on last.admitted);
       same = record {
         word = reaches.word;
         of_the_table = events_reach_the_table c es e h.within_limits last.before.enabled last.on;

@@ -2,15 +2,15 @@
 use Rattle.std.proofs.{Common.le_refl, lemmas.Bool.cases_order}
 use Rattle.mk_laws.proofs.Vocabulary.{BeginsAtCell, Block, Bool, Cell, Config, Free, Header, Invariant, IsSized}
 use Rattle.mk_laws.proofs.Vocabulary.{IsTaken, Later, LeafBlock, LeafRun, Leaves, NeverState, None, Object, OfBlock}
-use Rattle.mk_laws.proofs.Vocabulary.{OfHistories, OfLater, OfLeafBlock, OfLeafRun, OfRun, Option, PlacedAllocation}
-use Rattle.mk_laws.proofs.Vocabulary.{Run, ShowsPart, Some, Words, World, ℕ, all_below_more_is, all_below_zero_is}
-use Rattle.mk_laws.proofs.Vocabulary.{and_from, ap, arith, cases_eq, cell_ends, cell_words, cells_of, cells_under}
-use Rattle.mk_laws.proofs.Vocabulary.{class_made, class_words_of, eq-eqb, first_word, header_at, header_in}
-use Rattle.mk_laws.proofs.Vocabulary.{header_shows, heads_run, inl, inr, is_small_object, later_cells, mul-le, not}
-use Rattle.mk_laws.proofs.Vocabulary.{object_placed, pages_made, part_not_free, part_words, phase_of, placed_at, refl}
-use Rattle.mk_laws.proofs.Vocabulary.{run_begins, run_count, shown_later, slice_index, small_cells, small_words, subst}
-use Rattle.mk_laws.proofs.Vocabulary.{suc, sym, true, typed_size, words_are_zero, words_made, words_under, zero, ◌%◌}
-use Rattle.mk_laws.proofs.Vocabulary.{◌*◌, ◌+◌, ◌-◌, ◌/◌, ◌<◌, ◌==◌, ◌∙◌, ◌≡◌, ◌≢◌, ◌≤◌, ◌⊎◌}
+use Rattle.mk_laws.proofs.Vocabulary.{OfHistories, OfLeafBlock, OfRun, Option, PlacedAllocation, Run, ShowsPart, Some}
+use Rattle.mk_laws.proofs.Vocabulary.{Words, World, ℕ, all_below_more_is, all_below_zero_is, and_from, ap, arith}
+use Rattle.mk_laws.proofs.Vocabulary.{cases_eq, cell_ends, cell_words, cells_of, cells_under, class_made}
+use Rattle.mk_laws.proofs.Vocabulary.{class_words_of, eq-eqb, first_word, header_at, header_in, header_shows, heads_run}
+use Rattle.mk_laws.proofs.Vocabulary.{inl, inr, is_small_object, later_cells, mul-le, not, object_placed, pages_made}
+use Rattle.mk_laws.proofs.Vocabulary.{part_not_free, part_words, phase_of, placed_at, refl, run_begins, run_count}
+use Rattle.mk_laws.proofs.Vocabulary.{shown_later, slice_index, small_cells, small_words, subst, suc, sym, true}
+use Rattle.mk_laws.proofs.Vocabulary.{typed_size, words_are_zero, words_made, words_under, zero, ◌%◌, ◌*◌, ◌+◌, ◌-◌}
+use Rattle.mk_laws.proofs.Vocabulary.{◌/◌, ◌<◌, ◌==◌, ◌∙◌, ◌≡◌, ◌≢◌, ◌≤◌, ◌⊎◌}
 use Rattle.mk_laws.proofs.FreeWords.{IsOfOne, of_one, of_worlds}
 use Rattle.mk_laws.proofs.{Basics.KnownWorld, Basics.ends_on_pages, ForImages.standing}
 use Rattle.mk_laws.specs.FreeWords.{FreeCellsAreZero, WordsBehindCellsAreZero, words_in_cells}
@@ -152,8 +152,7 @@ module _ (c : Config) (w : World) (n : NeverState) (known : KnownWorld c w) (all
       let first : cell.index * size ≡ 0 * size = ap (λ k. k * size) first_one in
       let x : ℕ = first_word w.now.words cell + i in
       elim (cases_eq (i / 64) 0) [
-        | inl here ↦ begins_there w.now.words o base x cell.page cell.index on (omega arith) lt (omega arith)
-            (omega arith)
+        | inl here ↦ begins_there _ o base x cell.page cell.index on (omega arith) lt (omega arith) (omega arith)
         | inr far ↦
             let later = (all.order.runs cell.page heads).later (i / 64) (omega arith) (omega arith) in
             let base_is = run_begins_there w.now.words o base x cell.page (i / 64) on (omega arith)

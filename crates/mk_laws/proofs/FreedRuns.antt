@@ -256,8 +256,7 @@ module _ (c : Config) (w : World) (n : NeverState) (known : KnownWorld c w) (oth
       let lit = literal f Stage.Give at_give in
       let any : is_of_any_holder x ≡ true = rw at_give at h.order in
       let stays : progress c w.now f (found c w.now e) x ≡ still f =
-      subst (λ (y : Flight). progress c w.now y (found c w.now e) x ≡ still y) (sym lit)
-      (give_still c w.now f.op f.q f.p f.r f.loaded (found c w.now e) x any g) in
+      cc (lit, give_still c w.now f.op f.q f.p f.r f.loaded (found c w.now e) x any g) in
       let there : k < length w.now.seats.flights = (let l = known.now.orderly.flights in omega (arith, l)) in
       let same : behind ≡ f = get_or-set_same w.now.seats.flights k _ at_rest there ∙ rw stays in
       let never : never_after c w n e ≡ n = rw stays in

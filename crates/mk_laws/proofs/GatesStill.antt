@@ -24,8 +24,7 @@ module _ (c : Config) (w v : World) (kept : TurnIsLeft w v) where
       (λ j. is_number_of s j || is_held v.now.words j) (λ j lt. or_on _ _ (is_number_of s j) _ (λ e. e) (held_on j)) h
 
   none_on : none_is_held c.callers w.now.words ≡ true → none_is_held c.callers v.now.words ≡ true
-  none_on h = all_below_on c.callers (λ j. not (is_held w.now.words j))
-      (λ j. not (is_held v.now.words j)) (λ j lt. free_on j) h
+  none_on h = all_below_on _ (λ j. not (is_held w.now.words j)) (λ j. not (is_held v.now.words j)) (λ j lt. free_on j) h
 
   run_cell_same : (f : Flight) → is_run_cell v.now.words (target c.pages v.now.words f) ≡ is_run_cell w.now.words
       (target c.pages w.now.words f)

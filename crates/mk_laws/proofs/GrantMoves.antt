@@ -3,11 +3,11 @@ use Rattle.mk_laws.proofs.Vocabulary.{Bool, Config, ImagePremises, IsPlaceOfNone
 use Rattle.mk_laws.proofs.Vocabulary.{None, Option, Place, PlacedAllocation, RunPages, Some, Words, World, ℕ}
 use Rattle.mk_laws.proofs.Vocabulary.{address_of, all_below-at, allocation_at, and_parts, ap, arith, base_made}
 use Rattle.mk_laws.proofs.Vocabulary.{cases_eq, cell_of_allocation, cells_begin, eqb-true, false, false≢true}
-use Rattle.mk_laws.proofs.Vocabulary.{first_word, header_in, header_of, inl, inr, is_left_unmarked, is_phase}
-use Rattle.mk_laws.proofs.Vocabulary.{is_released_cell, is_run_unmapped, is_some_and, is_unmapped, is_unmapped_header}
-use Rattle.mk_laws.proofs.Vocabulary.{large_count, leb-true, length, ltb-true, nat_le, nat_lt, not, object_placed}
-use Rattle.mk_laws.proofs.Vocabulary.{or_cases, pages_made, phase_of, placed_at, pointed_cell, refl, slice_index}
-use Rattle.mk_laws.proofs.Vocabulary.{stands, storage_words, sym, true, true≢false, typed_size, unmapped_header}
+use Rattle.mk_laws.proofs.Vocabulary.{first_word, header_in, inl, inr, is_left_unmarked, is_phase, is_released_cell}
+use Rattle.mk_laws.proofs.Vocabulary.{is_run_unmapped, is_some_and, is_unmapped, is_unmapped_header, large_count}
+use Rattle.mk_laws.proofs.Vocabulary.{leb-true, length, ltb-true, nat_le, nat_lt, not, object_placed, or_cases}
+use Rattle.mk_laws.proofs.Vocabulary.{pages_made, phase_of, placed_at, pointed_cell, refl, slice_index, stands}
+use Rattle.mk_laws.proofs.Vocabulary.{storage_words, sym, true, true≢false, typed_size, unmapped_header}
 use Rattle.mk_laws.proofs.Vocabulary.{unmapped_is_unmapped, word_points, words_of, ◌&&◌, ◌*◌, ◌+◌, ◌-◌, ◌/◌, ◌<◌, ◌∙◌}
 use Rattle.mk_laws.proofs.Vocabulary.{◌≡◌, ◌≢◌, ◌≤◌}
 use Rattle.mk_core.proofs.GrantedAllocations.{placed_headers, placed_stands}
@@ -98,5 +98,4 @@ module _ (c : Config) (w : World) (n : NeverState) (known : KnownWorld c w) (mir
           let word = eqb-true _ _ (all_below-at run.count (x / 64 - run.page) (stands w.now.words run.page
           (unmapped_header run.count)) parts.1 high) in
           let place : x / 64 ≡ run.page + (x / 64 - run.page) = omega arith in
-          ap (λ p. is_unmapped_header (header_in w.now.words p)) place ∙ ap (λ y. is_unmapped_header (header_of y)) word
-          ∙ unmapped_is_unmapped run.count (x / 64 - run.page) (omega arith, omega arith) high
+          cc (place, word, unmapped_is_unmapped run.count (x / 64 - run.page) (omega arith, omega arith) high)

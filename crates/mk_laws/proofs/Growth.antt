@@ -13,7 +13,8 @@ pub grows_more : (xs : List ℕ) (q bits : ℕ) → OnlyGrow xs (slice_set xs q 
 grows_more xs q bits p k is = elim (cases_eq p q) [
   | inl e ↦ elim (cases_lt q (length xs)) [
     | inl lt ↦ rw (ap (λ i. slice_index (slice_set xs q (bit_or (slice_index xs q) bits)) i) e
-        ∙ get_or-set_same xs q (bit_or (slice_index xs q) bits) 0 lt) (has_bit_or_left (slice_index xs q) bits k (sym (rw e) ∙ is))
+        ∙ get_or-set_same xs q (bit_or (slice_index xs q) bits) 0 lt)
+        (has_bit_or_left (slice_index xs q) bits k (sym (rw e) ∙ is))
     | inr past ↦ rw (set_past xs q (bit_or (slice_index xs q) bits) past) is
   ]
   | inr ne ↦ rw (get_or-set_other xs q p (bit_or _ bits) 0 ne) is

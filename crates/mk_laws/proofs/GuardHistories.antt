@@ -89,9 +89,8 @@ marks_stand_behind_lists c es limits on say =
 pub close_finds_marks_closed : CloseFindsMarksClosed
 close_finds_marks_closed c es seat limits on enabled say g =
     let h = enabled_meets c (left c es).now (record { seat = seat; step = Step.Close }) enabled in
-    closed_allocations c (left c es) limits say.mapped
-    (closed c (left c es).now seat (known_left c es limits on) (histories_keep_lengths c es) h
-    (g.guarded (inr (eqb-true _ 2 h.phase))).black)
+    closed_allocations c _ limits say.mapped (closed c (left c es).now seat (known_left c es limits on)
+    (histories_keep_lengths c es) h (g.guarded (inr (eqb-true _ 2 h.phase))).black)
 
 pub stopped_marks_are_closed : StoppedMarksAreClosed
 stopped_marks_are_closed c w limits say g three = closed_allocations c w limits say.mapped (g.closed three)

@@ -53,8 +53,7 @@ head_keeps c m seat p n len h finds = record {
   headers = λ q. elim (cases_eq q p) [
     | inl e ↦ subst (HeaderGoesOn c.pages (header_at m.words q)) (sym (here q e))
         (subst (λ j. HeaderGoesOn c.pages (header_at m.words j) n) (sym e) (goes finds))
-    | inr ne ↦ subst (HeaderGoesOn c.pages (header_at m.words q)) (sym (other q ne))
-        (goes_same c.pages (header_at m.words q))
+    | inr ne ↦ subst (HeaderGoesOn c.pages (header_at m.words q)) (sym (other q ne)) (goes_same _ _)
   ];
   new = λ q k i none lt li. elim (cases_eq q p) [
     | inl e ↦ made finds q k i e (subst (λ j. cells_under (header_in m.words j) ≡ 0) e none)

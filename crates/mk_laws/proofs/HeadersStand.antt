@@ -157,9 +157,8 @@ module _ (c : Config) (w : Words) (xs : List PlacedAllocation) (i p : ℕ) (r : 
           let low : (cell_of_allocation c a).index ≡ 0 = large_index c a shown.sized large in
           one_bit (used_at w p) (rw (← first) (ap (λ k. has_bit (used_at w (a.base / 64)) k) (sym low) ∙ shown.used))
           (λ k h. let t = (r.laid.used p k h).0 in omega arith)
-      used_by (suc e) z = cellless_unused (quiet_scene c w xs) p r.laid (later_cells o d (shows_on w.pages p)
-          (subst (λ q. ShowsPart o d (shows_on w.pages q)) at
-          (claimed w.pages (claim_of c None a) d shown ld)) (omega arith))
+      used_by (suc e) z = cellless_unused (quiet_scene c w xs) p r.laid (later_cells o d _ (subst (λ q. ShowsPart o d
+          (shows_on w.pages q)) at (claimed _ _ d shown ld)) (omega arith))
 
       page_is : slice_index_or w.pages p free_page ≡ run_page (pages_made o) (not (a.freed && true)) o.leaf d
       page_is = ap (λ h. record { header = h; used = used_at w p }) header ∙ rw (used_by d refl)
@@ -195,8 +194,7 @@ module _ (c : Config) (w : Words) (xs : List PlacedAllocation) (i p : ℕ) (r : 
       begins_at j v s same =
           let b = (r.cells j v).begins in
           let o : Object = object_placed c (placed_at xs j) in
-          b.first ∙ ap (λ n. b.index * n) (small_words o s ∙ ap class_words_of same)
-          ∙ ap (λ n. n * class_words_of class) (sym (index_is c (placed_at xs j) (shown_of c w xs j r v).sized b))
+          cc (b.first, small_words o s, same, index_is c (placed_at xs j) (shown_of c w xs j r v).sized b)
 
       -- whose cell it is
       there : (n : ℕ) → n < cells_of class → has_bit (used_at w p) n ≡ true
@@ -213,8 +211,7 @@ module _ (c : Config) (w : Words) (xs : List PlacedAllocation) (i p : ℕ) (r : 
               let index : (cell_of_allocation c (placed_at xs j)).index ≡ n = cc (y.is, x.index) in
               let same = alike_at c w xs i j p r u y.unreleased small at page in
               let first = begins_at j y.unreleased same.0 same.1 ∙ ap (λ m. m * class_words_of class) index in
-              cell_taken_from p (class_words_of class) n (unreleased_storage c xs) (storage_of c (placed_at xs j))
-              (has_its_storage c xs j y.unreleased) (omega arith)
+              cell_taken_from p (class_words_of class) n _ _ (has_its_storage c xs j y.unreleased) (omega arith)
 
       back : (n : ℕ) → n < cells_of class → is_cell_taken (unreleased_storage c xs) p (class_words_of class) n ≡ true
           → has_bit (used_at w p) n ≡ true
@@ -233,9 +230,7 @@ module _ (c : Config) (w : Words) (xs : List PlacedAllocation) (i p : ℕ) (r : 
           let is_n : (cell_of_allocation c (placed_at xs j)).index ≡ n =
           same_index k (cell_of_allocation c (placed_at xs j)).index n (omega arith) (sym first
           ∙ (let rest : (placed_at xs j).base % 64 ≡ n * k = omega arith in rest)) in
-          ap (λ q. has_bit (used_at w q) n) (sym page)
-          ∙ ap (λ m. has_bit (used_at w ((placed_at xs j).base / 64)) m) (sym is_n)
-          ∙ (shown_of c w xs j r h.unreleased).used
+          cc (page, is_n, (shown_of c w xs j r h.unreleased).used)
 
       used : used_at w p ≡ used_word (taken_cells (unreleased_storage c xs) p class)
       used =
@@ -243,9 +238,8 @@ module _ (c : Config) (w : Words) (xs : List PlacedAllocation) (i p : ℕ) (r : 
           let taken : List Bool = taken_cells (unreleased_storage c xs) p k in
           let long : length taken ≡ cells_of k = length-taken_cells (unreleased_storage c xs) p k in
           same_from_bits (used_at w p) (used_word taken) (λ n. elim (cases_lt n (cells_of k)) [
-            | inl ln ↦ same_bits (used_at w p) (used_word taken) n (same_from_both _ _ (there n ln) (back n ln)
-                ∙ sym (get_or-taken_cells (unreleased_storage c xs) p k n false ln)
-                ∙ sym (bit_at-used_word taken n false (omega arith)))
+            | inl ln ↦ same_bits _ _ n (same_from_both _ _ (there n ln) (back n ln) ∙ sym (get_or-taken_cells _ p k n
+                false ln) ∙ sym (bit_at-used_word taken n false (omega arith)))
             | inr past ↦
                 let none : has_bit (used_at w p) n ≡ false = false_from_ne_true (has_bit (used_at w p) n)
                 (λ h. let t = (r.laid.used p n h).0 in let m = cells in omega arith) in

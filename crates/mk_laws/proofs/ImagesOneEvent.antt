@@ -224,13 +224,11 @@ one_event c w n e known others mirrors on ad =
         register_count = stays.registers ∙ mirrors.register_count;
         global_count = stays.globals ∙ mirrors.global_count;
         typed = calls_keep c.globals n (asked (call_decided c w.now e)) mirrors.typed ad;
-        twins = twins_kept safe.0 (image_scene_of w) (image_scene_of (world_behind c w e)) n
-            (never_after c w n e) mirrors.twins leads.0;
+        twins = twins_kept safe.0 _ _ n (never_after c w n e) mirrors.twins leads.0;
         images = images_kept c.globals (image_scene_of w) n mirrors.images ready.small mirrors.typed
             mirrors.twins.count safe.0 _ _ ready.apart leads.0;
         freed_run = freed_run_stays c w n e known others mirrors (enabled_meets c w.now e on) grows ad;
-        safe = safe_kept safe.0 (image_scene_of w) (image_scene_of (world_behind c w e)) n (never_after c w n e) safe.1
-            mirrors.twins.count leads.0;
+        safe = safe_kept safe.0 _ _ n (never_after c w n e) safe.1 mirrors.twins.count leads.0;
       };
       bases = grows;
       right = leads.1;

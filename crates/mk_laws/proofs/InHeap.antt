@@ -43,9 +43,8 @@ in_heap_behind c w seat x known in_heap h =
     let e : Event = record { seat = seat; step = x } in
     record {
       lengths = accessed_lengths c.pages w.now.words (word_accessed c w.now e) (access c w.now e) in_heap.lengths;
-      runs = runs_behind c w (flight_of w.now seat) (ground_of (WorldBehind c w seat x))
-          (λ place now. place_fits_now c w.now seat x place in_heap.lengths.pages in_heap.places h now) in_heap.runs
-          (ground_step c w seat x h);
+      runs = runs_behind c w _ (ground_of (WorldBehind c w seat x)) (λ place now. place_fits_now c w.now seat x place
+          in_heap.lengths.pages in_heap.places h now) in_heap.runs (ground_step c w seat x h);
       places = places_behind c w seat x known in_heap.lengths.pages in_heap.places h;
       markers = markers_fit c w seat x in_heap h;
     }

@@ -125,8 +125,7 @@ new_was c v seat n j (Works f i t s) new = inl (by seat t s new)
     by : (s : Seat) → HoldsTurn c v s → Service (flight_at v.flights s) v.holding f i
         → is_undecided_new (slice_index_or (flights_with v.flights s f) j at_rest) ≡ true
         → slice_index_or (flights_with v.flights s f) j at_rest ≡ flight_in v j
-    by (Caller k) t s new = set_new v.flights k j f (service_new (slice_index_or v.flights k at_rest) v.holding f i s)
-        new
+    by (Caller k) t s new = set_new _ k j f (service_new _ _ f i s) new
     by _ t s new = cc
 new_was c v seat n j _ new = inl refl
 

@@ -95,8 +95,7 @@ module _ (c : Config) (w : World) (n : NeverState) (seat : Seat) (x : Step) (aft
             (omega (arith, ltb-true q c.pages h.range, s.before.known.lengths.pages))) in
             ap (λ y. is_leaf_header (header_of y)) at ∙ stored_no_leaf c w n seat q v s.before s.early h
             (subst (λ i. cells_under (header_in w.now.words i) ≢ 0) e cells)
-        | inr ne ↦ ap (λ (y : Page). is_leaf_header (header_of y.header))
-            (get_or-set_other w.now.words.pages q p (stored q v) free_page ne) ∙ none
+        | inr ne ↦ cc (get_or-set_other w.now.words.pages q p (stored q v) free_page ne, none)
       ]
       by y is h = rest y refl
         where

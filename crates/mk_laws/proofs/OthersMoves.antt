@@ -164,8 +164,7 @@ marker_out c w k Step.Mload known lt g h = Marks _ lt (MarkerLoads refl)
 marker_out c w k Step.Mmark known lt g h =
     Marks _ lt (AddsMarks _ _ (work_attends c (marker_of w.now k) Step.Mmark (known.orderly.idle k) h.marker refl) refl)
 marker_out c w k Step.Mblack known lt g h =
-    Marks _ lt (AddsBlacks _ _ (work_attends c (marker_of w.now k) Step.Mblack (known.orderly.idle k) h.marker refl)
-    refl)
+    Marks _ lt (AddsBlacks _ _ (work_attends c _ Step.Mblack (known.orderly.idle k) h.marker refl) refl)
 marker_out c w k _ known lt g h = cc
 
 -- any seat that doesn't hold the turn

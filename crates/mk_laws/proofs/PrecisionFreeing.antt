@@ -120,11 +120,9 @@ released c es k h at =
     record {
       release = subst (λ (y : World). AreOlder w.allocations y.allocations) left_is
           (older_behind c w e.seat Step.Release refl);
-      end = older_joined _ v.allocations _
-          (subst (λ (xs : List Event). AreOlder (left c start).allocations (left c xs).allocations) same along.older)
-          (subst (λ (y : World). AreOlder v.allocations y.allocations) (sym last.left)
-          (older_behind c v k.end.at.event.seat k.end.at.event.step
-          (ap is_grant (end_is k.end.at.event.step k.end.at.of_kind))));
+      end = older_joined _ _ _ (subst (λ (xs : List Event). AreOlder (left c start).allocations (left c xs).allocations)
+          same along.older) (subst (λ (y : World). AreOlder v.allocations y.allocations) (sym last.left) (older_behind c
+          v _ _ (ap is_grant (end_is k.end.at.event.step k.end.at.of_kind))));
     }
 
 -- What is in the snapshot is unreleased up to the `release`.
@@ -178,8 +176,7 @@ frees_the_untouched c es h k unswept i quarantined untouched =
 
     -- an allocation that was unreleased before the `release` has its storage still
     storage : (j : ℕ) → (placed_at xs j).released ≡ false → IsStorage c.pages (storage_of c (placed_at xs j))
-    storage j u = standing_has_storage c (placed_at xs j) h.within_limits
-        (stands c (left c (before_release r)) _ (told c (before_release r) before) j u)
+    storage j u = standing_has_storage c _ h.within_limits (stands c _ _ (told c _ before) j u)
 
     size : (j : ℕ) → (placed_at xs j).released ≡ false → 1 ≤ storage_words c (placed_at zs j)
     size j u =

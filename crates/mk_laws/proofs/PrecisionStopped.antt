@@ -155,8 +155,7 @@ keeps_only_the_touched c es h k unswept i quarantined unreleased =
     let u : a.released ≡ false = (or_parts a.released _ now).0 in
     let t = told c (before_release k) m.history in
     let taken : has_bit_of c w.now.words.snapshot a ≡ true =
-    snapshot_is_the_cycles c (before_release k) m.history (last_begin k) at.begun (ap is_cycling at.phase) i u
-    ∙ quarantined in
+    snapshot_is_the_cycles c _ m.history (last_begin k) at.begun (ap is_cycling at.phase) i u ∙ quarantined in
     let kept = sym (released_where_left c w.now.words a h.within_limits (stands c w _ t i u) (headers c w _ t i u))
     ∙ now in
     at.marked i u (kept_is_marked c w i taken kept)

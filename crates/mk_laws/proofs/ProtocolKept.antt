@@ -92,8 +92,7 @@ works_served c v seat f i h t s = rw (behind c v seat f i h t s) (served_on _ v.
     behind c v (Caller k) f i h t s =
         let turn = turn_of c v (Caller k) h t in
         let e : v.turn - 1 ≡ k = omega arith in
-        ap (λ j. slice_index_or (slice_set v.flights k f) j at_rest) e
-        ∙ get_or-set_same v.flights k f at_rest (omega (arith, h.flights, t.0))
+        cc (e, get_or-set_same v.flights k f at_rest (omega (arith, h.flights, t.0)))
     behind c v (Marker k) f i h t s = absurd t
     behind c v Host f i h t s = holders_flight c v Host h t ∙ sym (service_rests at_rest v.holding f i refl s)
 
@@ -106,8 +105,7 @@ works_shown c v seat f i h t s = all_but_seat c v.turn seat v.gates v.flights f
 -- a gate of another is set
 gate_shown : (c : Config) (v : View) (j x : ℕ) → c.callers ≤ 16 → Orderly c v → j < c.callers
     → Shows v.turn x j (standing (flight_in v j)) → AllShow c.callers v.turn (slice_set v.gates j x) v.flights
-gate_shown c v j x small h lj s = all_but_gate c.callers v.turn j x v.gates v.flights (omega (arith, h.gates)) s
-    (λ b lb nb. h.each b lb)
+gate_shown c v j x small h lj s = all_but_gate _ _ j x v.gates _ (omega (arith, h.gates)) s (λ b lb nb. h.each b lb)
 
 -- one gate is set to 2, or stays
 held_or : (gs : List ℕ) (j b : ℕ) → j < length gs → (b ≢ j → slice_index gs b ≡ 2)

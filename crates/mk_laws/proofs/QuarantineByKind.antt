@@ -8,9 +8,9 @@ use Rattle.mk_laws.proofs.Vocabulary.{false_from_ne_true, flight_of, found, free
 use Rattle.mk_laws.proofs.Vocabulary.{has_place, if◌then◌else◌, inl, inr, is_phase, is_released_in, is_undecided_free}
 use Rattle.mk_laws.proofs.Vocabulary.{is_undecided_new, length, ltb-true, may_end, none_freed, not, nothing_done}
 use Rattle.mk_laws.proofs.Vocabulary.{object_now, object_placed, or_cases, phase_of, place_now, placed_at}
-use Rattle.mk_laws.proofs.Vocabulary.{quarantine_step, refl, set-get_or, slice_index, slice_set, stands_in}
-use Rattle.mk_laws.proofs.Vocabulary.{stands_in_its_cell, sym, taken, target, true, true≢false, undecided_free}
-use Rattle.mk_laws.proofs.Vocabulary.{undecided_new, used_step, ◌%◌, ◌/◌, ◌<◌, ◌==◌, ◌^◌, ◌||◌, ◌∙◌, ◌≡◌}
+use Rattle.mk_laws.proofs.Vocabulary.{quarantine_step, refl, set-get_or, slice_index, slice_set, stands_in_its_cell}
+use Rattle.mk_laws.proofs.Vocabulary.{sym, taken, target, true, true≢false, undecided_free, undecided_new, used_step}
+use Rattle.mk_laws.proofs.Vocabulary.{◌%◌, ◌/◌, ◌<◌, ◌==◌, ◌^◌, ◌||◌, ◌∙◌, ◌≡◌}
 use Rattle.mk_core.proofs.{EvaluatedPlaces.full, PlacesNow.FreesCell, PlacesNow.chosen_used}
 use Rattle.mk_laws.proofs.Basics.{Before, Laid, Meets, WorldBehind, all_stand, claim_among, free_has_turn}
 use Rattle.mk_laws.proofs.Basics.{is_releasing_behind, none_set, own_claim, placed_undecided, reg_leaves_ground}
@@ -188,8 +188,7 @@ quarantine_by_kind c w seat (Step.Quar p n) b h laid q = quar_kept c w seat p n 
 quarantine_by_kind c w seat Step.Grant b h laid q =
     rw (grants_early w h.phase) (grant_kept c w.now.words.marks (ground_of w) _ refl (rw (grants_early w h.phase) at q))
 quarantine_by_kind c w seat (Step.Mark p n) b h laid q =
-    replaced c _ w.now.words.marks (ground_of w) _ _ w.now.seats.holding.freed (λ place e.
-    mark_from _ w.now.seats.holding.placing _ place e) q
+    replaced c _ _ _ _ _ _ (λ place e. mark_from _ w.now.seats.holding.placing _ place e) q
 quarantine_by_kind c w seat Step.Begin b h laid q = begin_kept c _ w.now.words.marks (ground_of w) q
 quarantine_by_kind c w seat Step.Release b h laid q =
     let off = off_at w 3 h.phase (λ e. absurd (omega arith)) in

@@ -62,8 +62,7 @@ release_kept c w limits stand q = record {
   owned = λ p k h. owned p k (q.owned p k h);
   shown = λ i u f.
       let b = before_change c _ w.allocations i leaves u in
-      ap (λ (x : Cell). has_bit (slice_index w.now.words.freed x.page) x.index) b.cell
-      ∙ q.shown i b.was (ap (λ (x : PlacedAllocation). x.freed) (sym b.now) ∙ f);
+      cc (b.cell, q.shown i b.was (ap (λ (x : PlacedAllocation). x.freed) (sym b.now) ∙ f));
   taken = q.taken;
   kept = λ on i u.
       let b = before_change c _ w.allocations i leaves u in
@@ -98,8 +97,7 @@ begin_kept c releasing marks t q = record {
   ];
   shown = λ i u f.
       let b = before_change c no_longer_fresh t.allocations i fresh_cells u in
-      ap (λ (x : Cell). has_bit (slice_index t.freed x.page) x.index) b.cell
-      ∙ q.shown i b.was (ap (λ (x : PlacedAllocation). x.freed) (sym b.now) ∙ f);
+      cc (b.cell, q.shown i b.was (ap (λ (x : PlacedAllocation). x.freed) (sym b.now) ∙ f));
   taken = q.taken;
   kept = λ on i u.
       let b = before_change c no_longer_fresh t.allocations i fresh_cells u in
@@ -216,8 +214,7 @@ free_kept c w cell run n x q = record {
       ap (λ (y : Cell). has_bit (slice_index (slice_set w.now.words.freed cell.page (n % 2 ^ 32)) y.page) y.index)
       b.cell ∙ elim (freed_by (stands_in w.now.words cell a) a (rw (← b.now) f)) [
         | inl here ↦
-            ap (λ (y : Cell). has_bit (slice_index (slice_set w.now.words.freed cell.page (n % 2 ^ 32)) y.page)
-            y.index) (x.others i b.was here) ∙ set_here
+            cc (x.others i b.was here, set_here)
         | inr old ↦ grown (cell_of_allocation c a).page (cell_of_allocation c a).index (q.shown i b.was old)
       ];
   taken = λ place used. absurd (true≢false (ap (λ (p : Placing). has_place p) (sym used) ∙ x.unplaced));

@@ -22,8 +22,7 @@ rest_bit n m k sub =
     least a b = omega arith
 
     turned : bit_and m n ≡ n
-    turned = same_from_bits (bit_and m n) (bit_and n m) (λ i. bit_at_and m n i ∙ least (bit_at m i) (bit_at n i)
-        ∙ sym (bit_at_and n m i)) ∙ sub
+    turned = same_from_bits _ _ (λ i. bit_at_and m n i ∙ least (bit_at m i) (bit_at n i) ∙ sym (bit_at_and n m i)) ∙ sub
 
 pub and_both : (a b : Bool) → a ≡ true → b ≡ false → (a && not b) ≡ true
 and_both a b x y = rw x (ap not y)

@@ -5,8 +5,8 @@ use Rattle.mk_laws.proofs.Vocabulary.{caller_number, enabled_meets, false, fligh
 use Rattle.mk_laws.proofs.Vocabulary.{is_number_of, is_under_turn, left, ltb-true, marker_at, nat_lt, not, outside}
 use Rattle.mk_laws.proofs.Vocabulary.{page_met, refl, seat_exists, tally_word, true, word_accessed, word_met, ◌&&◌, ◌*◌}
 use Rattle.mk_laws.proofs.Vocabulary.{◌++◌, ◌<◌, ◌∙◌, ◌≡◌, ◌≤◌}
-use Rattle.mk_core.specs.Accesses.{access_by, word_reached}
-use Rattle.mk_core.specs.{Layout.IsOfTable, Layout.NamesWord, Ranges.is_word, Ranges.is_word_met, Readings.is_idle}
+use Rattle.mk_core.specs.Layout.{IsOfTable, NamesWord}
+use Rattle.mk_core.specs.{Accesses.access_by, Ranges.is_word, Ranges.is_word_met, Readings.is_idle}
 use Rattle.mk_laws.proofs.Basics.{Known, Meets, grants_new, is_grant, known_left, new_holds, operands_of}
 use Rattle.mk_laws.proofs.Basics.{register_small}
 use Rattle.mk_laws.proofs.ScansInHeap.{MarkerFits, next_in_heap, nothing_fits, scan_page_in_heap, seen_page_in_heap}
@@ -135,9 +135,7 @@ pub others_leave_accesses : OthersLeaveAccesses
 others_leave_accesses c es more e limits on others now =
     let l = (others_leave c es more e.seat limits on others).own in
     record {
-      word = rw l.flight
-          (ap (λ (y : MarkerState). word_reached c (caller_number e.seat) (flight_of (left c es).now e.seat) y e.step)
-          l.marker);
+      word = cc (l.flight, l.marker);
       access = same_access c (left c es).now (left c (es ++ more)).now e.seat e.step l.flight l.marker
           (λ g. (l.holding (granting e.step g (enabled_meets c (left c es).now e now))).1);
     }

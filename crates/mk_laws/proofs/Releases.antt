@@ -174,5 +174,4 @@ releases_none_reached c es h r = none_reached c es h r
 pub no_others_release : OfHistories NoOthersRelease
 no_others_release c es h front rest e is other i u =
     let none : list_any (λ (x : Event). is_release x.step) (e ∷ []) ≡ false = ap (λ b. b || false) other in
-    ap (λ (v : World). (placed_at v.allocations i).released) (left_in_parts c front (e ∷ []))
-    ∙ (stays_put c (left c front) (e ∷ []) i none u).unreleased
+    cc (left_in_parts c front (e ∷ []), (stays_put c (left c front) (e ∷ []) i none u).unreleased)

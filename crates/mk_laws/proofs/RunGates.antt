@@ -156,7 +156,6 @@ module _ (c : Config) (w : World) (known : KnownWorld c w) (laid : LayoutStands 
           → OthersHeld c (Behind c w.now seat x)
       rest x h stored out shut off k lt other =
           let same : is_run_gone (Behind c w.now seat x).words w.now.seats.holding.freed ≡ false =
-          ap (λ (r : Option RunPages). is_run_gone (Behind c w.now seat x).words r)
-          (sym (freed_kind c w.now seat x out)) ∙ off in
+          cc (freed_kind c w.now seat x out, off) in
           gates_stay c w.now seat x known.now h shut k lt
           (gates (before seat x h stored same) k lt (λ e. other (turn_kind c w.now seat x out ∙ e)))

@@ -1,13 +1,13 @@
 -- What the images tell the other groups.
 use Rattle.mk_laws.proofs.Vocabulary.{AreAdmitted, Caller, CarriesOwn, Cell, Config, ImagePremises, ImagesSay}
 use Rattle.mk_laws.proofs.Vocabulary.{IsAdmitted, IsNumber, IsPointer, IsSafe, IsSound, Kind, MeetsAll, Mirrors}
-use Rattle.mk_laws.proofs.Vocabulary.{NeverState, Null, Num, Op, Option, ProbedOwn, Ptr, RunPages, Seat, Some, Stage}
-use Rattle.mk_laws.proofs.Vocabulary.{Step, Value, World, ℕ, ap, arith, asked, bases_of, call_decided, cases_eq}
+use Rattle.mk_laws.proofs.Vocabulary.{NeverState, Null, Num, Op, ProbedOwn, Ptr, RunPages, Seat, Some, Stage, Step}
+use Rattle.mk_laws.proofs.Vocabulary.{Value, World, ℕ, ap, arith, asked, bases_of, call_decided, cases_eq}
 use Rattle.mk_laws.proofs.Vocabulary.{cell_of_allocation, enabled_meets, false, false≢true, flight_of, i_of, image_of}
-use Rattle.mk_laws.proofs.Vocabulary.{image_scene_of, inl, inr, is_marked, is_none_or, is_put, is_undecided_free}
-use Rattle.mk_laws.proofs.Vocabulary.{ltb-true, not, object_placed, p_of, phase_of, placed_at, pointed_cell, refl}
-use Rattle.mk_laws.proofs.Vocabulary.{register_at, run_begins, subst, sym, target, true, typed_size, word_met, ◌*◌, ◌+◌}
-use Rattle.mk_laws.proofs.Vocabulary.{◌-◌, ◌/◌, ◌∙◌, ◌≡◌, ◌≢◌, ◌⊎◌}
+use Rattle.mk_laws.proofs.Vocabulary.{image_scene_of, inl, inr, is_marked, is_put, is_undecided_free, ltb-true, not}
+use Rattle.mk_laws.proofs.Vocabulary.{object_placed, p_of, phase_of, placed_at, pointed_cell, refl, register_at}
+use Rattle.mk_laws.proofs.Vocabulary.{run_begins, subst, sym, target, true, typed_size, word_met, ◌*◌, ◌+◌, ◌-◌, ◌/◌}
+use Rattle.mk_laws.proofs.Vocabulary.{◌∙◌, ◌≡◌, ◌≢◌, ◌⊎◌}
 use Rattle.mk_core.proofs.{PlacesNow.target_is, StandingAllocations.run_cell}
 use Rattle.mk_laws.proofs.Basics.{KnownWorld, Ready, Stands, at_its_stage, exists_placed, flight, is_astray}
 use Rattle.mk_laws.proofs.Basics.{is_call_stage, not_astray, ready_of, standing_at, stands_of, unmapped_is, words_fit}
@@ -88,10 +88,7 @@ module _ (c : Config) (w : World) (n : NeverState) (known : KnownWorld c w) (oth
       let cell = pointer_cell c w n known mirrors mirrors.safe.0 ready st points.number points.ty points.offset _ sound
       is word in
       let well = (others.marks phase).registers (8 * k + p_of f.op) in
-      subst (λ p. is_marked w.now.words (record { page = p; index = 0 }) ≡ true) (sym page)
-      (subst (λ (y : Cell). is_marked w.now.words y ≡ true)
-      (ap (λ i. cell_of_allocation c (placed_at w.allocations i)) one ∙ run_cell c x sized owner.large)
-      (ap (λ (y : Option Cell). is_none_or (is_marked w.now.words) y) (sym cell) ∙ well))
+      cc (page, one, run_cell c x sized owner.large, cell, well)
 
   -- The word that a caller stores to
 
@@ -110,21 +107,18 @@ module _ (c : Config) (w : World) (n : NeverState) (known : KnownWorld c w) (oth
       → CarriesOwn (bases_of w.allocations) n k (flight Stage.Write o q p r l)
       → ProbedOwn n k (flight Stage.Write o q p r l)
       → IsAdmitted c.globals n k o → IsMappedWord c w ((q - 65536) / 8 + i_of o)
-  write_word k (Op.SetNum q' i m) q p r l a car pro ad = reached_word k i q _ IsNumber
-      (reaches c.globals mirrors.safe.0 _ n ready _ q i IsNumber (car.q refl)
-      (car.some_q refl) (own_sound k q') (own_safe k q') (pro refl) ad.access)
-  write_word k (Op.SetPtr q' i p') q p r l a car pro ad = reached_word k i q _ IsPointer
-      (reaches c.globals mirrors.safe.0 _ n ready _ q i IsPointer (car.q refl)
-      (car.some_q refl) (own_sound k q') (own_safe k q') (pro refl) ad.access)
+  write_word k (Op.SetNum q' i m) q p r l a car pro ad = reached_word k i q _ IsNumber (reaches _ mirrors.safe.0 _ n
+      ready _ q i IsNumber (car.q refl) (car.some_q refl) (own_sound k q') (own_safe k q') (pro refl) ad.access)
+  write_word k (Op.SetPtr q' i p') q p r l a car pro ad = reached_word k i q _ IsPointer (reaches _ mirrors.safe.0 _ n
+      ready _ q i IsPointer (car.q refl) (car.some_q refl) (own_sound k q') (own_safe k q') (pro refl) ad.access)
   write_word k _ q p r l a car pro ad = cc
 
   cas_word : (k : ℕ) (o : Op) (q p r l : ℕ) → is_astray (standing_at Stage.Cas o) ≡ false
       → CarriesOwn (bases_of w.allocations) n k (flight Stage.Cas o q p r l)
       → ProbedOwn n k (flight Stage.Cas o q p r l)
       → IsAdmitted c.globals n k o → IsMappedWord c w ((q - 65536) / 8 + i_of o)
-  cas_word k (Op.CasPtr q' i p' r') q p r l a car pro ad = reached_word k i q _ IsPointer
-      (reaches c.globals mirrors.safe.0 _ n ready _ q i IsPointer (car.q refl)
-      (car.some_q refl) (own_sound k q') (own_safe k q') (pro refl) ad.access)
+  cas_word k (Op.CasPtr q' i p' r') q p r l a car pro ad = reached_word k i q _ IsPointer (reaches _ mirrors.safe.0 _ n
+      ready _ q i IsPointer (car.q refl) (car.some_q refl) (own_sound k q') (own_safe k q') (pro refl) ad.access)
   cas_word k _ q p r l a car pro ad = cc
 
   stored_word : (k : ℕ) (x : Step) → (x ≡ Step.Write) ⊎ (x ≡ Step.Cas)

@@ -40,8 +40,7 @@ dropped_bits : (c : Config) (w : World) (p f n i : ℕ) → p < length w.now.wor
     ≡ has_bit_of c w.now.words.snapshot (placed_at w.allocations i)
 dropped_bits c w p f n i ls q d u = elim (bit_cases w.now.words.snapshot p n x.page x.index ls) [
   | inr other ↦ other.1
-  | inl here ↦ here.1 ∙ same here.0 (cases_Bool (has_bit n x.index))
-      (cases_Bool (has_bit (slice_index w.now.words.snapshot x.page) x.index))
+  | inl here ↦ here.1 ∙ same here.0 (cases_Bool _) (cases_Bool _)
 ]
   where
     x : Cell
@@ -189,8 +188,7 @@ begin_kind c w b quiet own laid q = record {
     taken p lt =
         let clean : Bool = (slice_index w.now.words.marks p == 0) && (slice_index w.now.words.blacks p == 0) in
         let all = (and_parts (all_below c.pages (has_clean_page w.now.words)) (w.now.words.fresh == 0) own).0 in
-        eqb-true (slice_index w.now.words.freed p) (slice_index w.now.words.snapshot p)
-        (and_parts clean (slice_index w.now.words.freed p == slice_index w.now.words.snapshot p)
+        eqb-true _ _ (and_parts clean (slice_index w.now.words.freed p == slice_index w.now.words.snapshot p)
         (all_below-at c.pages p (has_clean_page w.now.words) all lt)).1
 
     bit : (i : ℕ) → (placed_at w.allocations i).released ≡ false

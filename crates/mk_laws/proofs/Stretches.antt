@@ -27,8 +27,7 @@ at_close {es} k =
 
 pub at_release : {es : List Event} (k : Releasing es)
     → es ≡ before_release k ++ k.release.at.event ∷ k.release.at.behind
-at_release {es} k = next_part es _ k.release.at.before k.release.at.behind
-    k.marking.close.at.event k.release.at.event k.marking.close.at.behind (at_close k.marking) k.release.at.is
+at_release {es} k = next_part es _ _ _ _ _ _ (at_close k.marking) k.release.at.is
 
 pub at_end : {es : List Event} (k : Cycle es) → es ≡ before_end k ++ k.end.at.event ∷ k.end.at.behind
 at_end {es} k = next_part es _ _ k.end.at.behind _ _ _ (at_release k.releasing) k.end.at.is

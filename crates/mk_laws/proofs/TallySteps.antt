@@ -1,7 +1,7 @@
 -- What events leave to the tallies, and to the allocations that they count.
 use Rattle.mk_laws.proofs.Vocabulary.{Bool, Caller, Config, Event, Flight, Moment, Seat, Step, World, ℕ, answer_decided}
 use Rattle.mk_laws.proofs.Vocabulary.{ap, arith, false, flight_of, group_of, holder_number, if◌then◌else◌, is_end}
-use Rattle.mk_laws.proofs.Vocabulary.{is_of_turn, refl, reg_access, true, world_behind, ◌+◌, ◌==◌, ◌∙◌, ◌≡◌, ◌≢◌}
+use Rattle.mk_laws.proofs.Vocabulary.{is_of_turn, refl, reg_access, true, world_behind, ◌+◌, ◌==◌, ◌≡◌, ◌≢◌}
 use Rattle.mk_core.proofs.RegisterAccesses.{LeavesTallies, register_leaves_tallies}
 use Rattle.mk_laws.proofs.Basics.{Actor, AsHolder, AsMarker, HoldsTurn, InCallOf, Known, Meets, WorldBehind, actor_of}
 use Rattle.mk_laws.proofs.Basics.{reg_leaves, tally_keeps, turn_of, view_of}

@@ -10,10 +10,10 @@ use Rattle.mk_laws.proofs.Vocabulary.{false≢true, flight_of, get_or_past, grou
 use Rattle.mk_laws.proofs.Vocabulary.{head_page_under, header_made, header_of, header_on, heads_run, inl, inr, is_large}
 use Rattle.mk_laws.proofs.Vocabulary.{is_mapped, is_phase, is_small_object, is_undecided_new, is_unmapping, kinds_of}
 use Rattle.mk_laws.proofs.Vocabulary.{large_is_not_small, left, lt-ltb, made_shows, mode_of, ne_eqb, not, not-true}
-use Rattle.mk_laws.proofs.Vocabulary.{object_made, object_now, object_placed, pages_made, pages_some, part_head}
-use Rattle.mk_laws.proofs.Vocabulary.{phase_of, place_claim, placed_at, placed_now, plot_of, refl, run_count}
-use Rattle.mk_laws.proofs.Vocabulary.{seat_exists, shows_on, slice_index, small_pages, subst, sym, true, true≢false}
-use Rattle.mk_laws.proofs.Vocabulary.{used_on, ◌&&◌, ◌*◌, ◌+◌, ◌-◌, ◌/◌, ◌<◌, ◌==◌, ◌∙◌, ◌≡◌, ◌≢◌, ◌≤◌, ◌⊎◌}
+use Rattle.mk_laws.proofs.Vocabulary.{object_now, object_placed, pages_made, pages_some, part_head, phase_of}
+use Rattle.mk_laws.proofs.Vocabulary.{place_claim, placed_at, placed_now, plot_of, refl, run_count, seat_exists}
+use Rattle.mk_laws.proofs.Vocabulary.{shows_on, slice_index, small_pages, subst, sym, true, true≢false, used_on, ◌&&◌}
+use Rattle.mk_laws.proofs.Vocabulary.{◌*◌, ◌+◌, ◌-◌, ◌/◌, ◌<◌, ◌==◌, ◌∙◌, ◌≡◌, ◌≢◌, ◌≤◌, ◌⊎◌}
 use Rattle.mk_laws.proofs.BarePages.{Unreleasing, bare_page, plot_page, shown_there}
 use Rattle.mk_laws.proofs.Basics.{Known, KnownWorld, Laid, all_stand, claimed, first_header, holding_object}
 use Rattle.mk_laws.proofs.Basics.{known_world, made_sized, mapped_stays, new_has_turn, placed_claim, zero_where_none}
@@ -60,11 +60,9 @@ later_pages c w q p count distance is some lt =
         let some = pages_some x.object shown.sized in
         let first : x.page + 0 ≡ p = let page = o.page in omega arith in
         let part : ShowsPart x.object 0 (shows_on w.now.words.pages p) =
-        subst (λ i. ShowsPart x.object 0 (shows_on w.now.words.pages i)) first
-        (claimed w.now.words.pages x 0 shown (omega arith)) in
+        subst (λ i. ShowsPart x.object 0 (shows_on w.now.words.pages i)) first (claimed _ x 0 shown (omega arith)) in
         let pages = (run_part x.object 0 count true (shows_on w.now.words.pages p) part is).1 in
-        ap (λ i. head_page w.now.words (i + distance)) (sym o.page)
-        ∙ claimed_head w.now.words.pages x distance shown (omega arith) ∙ o.page
+        cc (o.page, claimed_head w.now.words.pages x distance shown (omega arith))
 
     in_plot : (first : ℕ) (o : Object) → IsPlotShown w.now.words.pages first o → first ≤ p → p < first + pages_made o
         → (head_page w.now.words (p + distance) ≡ p)
@@ -198,9 +196,8 @@ guard_in c w known laid zeros = record {
       let placed = placed_now c w.now (flight_of w.now seat) place now in
       let there = new_exists c w.now seat known.now placed.new in
       let own = holding_object c w.now seat known.now (new_has_turn c w.now seat there placed.new) in
-      bare_place c w (object_made c (flight_of w.now seat).op) place (quiet early)
-      (subst (λ (o : Object). Laid c o false w (ground_of w)) own (quiet early).laid)
-      (made_sized c w.now seat known.limits known.now placed.new) placed.placed;
+      bare_place c w _ place (quiet early) (subst (λ (o : Object). Laid c o false w (ground_of w)) own (quiet
+      early).laid) (made_sized c w.now seat known.limits known.now placed.new) placed.placed;
   freed = λ early run is. run_has_object c w run (quiet early) is;
   later = λ early. later_pages c w (quiet early);
   mapped = λ i is. mapped_stands c w i known.lengths laid is;

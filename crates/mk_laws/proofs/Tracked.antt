@@ -152,11 +152,9 @@ tracked_behind c es seat x k (WasNew same) all h meets lt new =
     let t : Tracked c es (left c es) k = all k lt was in
     record {
       turn = longer_turn t.turn e on;
-      placed = subst (λ (y : Object). HasPlace c (Caller k) (longer_turn t.turn e on) y
-          (held_place (WorldBehind c (left c es) seat x).now.seats.holding.placing))
-          (ap (λ (f : Flight). object_made c f.op) (sym same))
-          (place_more c es e k o t.turn on _ _ (places_at c w seat x k known meets lt was new)
-          (fits_here c es k o h lt was) t.placed);
+      placed = subst (λ (y : Object). HasPlace c (Caller k) (longer_turn t.turn e on) y (held_place (WorldBehind c (left
+          c es) seat x).now.seats.holding.placing)) (ap (λ (f : Flight). object_made c f.op) (sym same)) (place_more c
+          es e k o _ on _ _ (places_at c w seat x k known meets lt was new) (fits_here c es k o h lt was) t.placed);
       cycle = cycle_more t.turn.behind e _ _ w.now.seats.holding.cycle _ (cycle_step c w seat x meets) t.cycle;
     }
   where

@@ -1,9 +1,9 @@
 -- Registers of no caller, and globals that nobody has stored to.
 use Rattle.mk_laws.proofs.Vocabulary.{Bool, Config, Event, Flight, Invariant, Leaves, List, Moment, NeverState, Null}
-use Rattle.mk_laws.proofs.Vocabulary.{OfHistories, Seat, Step, Value, World, ℕ, ap, append_assoc, arith, at_rest}
-use Rattle.mk_laws.proofs.Vocabulary.{bases_of, false, first_world, flight_of, g_of, get_or-set_other, get_or_past}
-use Rattle.mk_laws.proofs.Vocabulary.{image_of, left, left_from, left_more, refl, shown, slice_index, sym, true, []}
-use Rattle.mk_laws.proofs.Vocabulary.{◌%◌, ◌*◌, ◌++◌, ◌+◌, ◌/◌, ◌∙◌, ◌∷◌, ◌≡◌}
+use Rattle.mk_laws.proofs.Vocabulary.{OfHistories, Seat, Step, World, ℕ, ap, append_assoc, arith, at_rest, false}
+use Rattle.mk_laws.proofs.Vocabulary.{first_world, flight_of, g_of, get_or-set_other, get_or_past, left, left_from}
+use Rattle.mk_laws.proofs.Vocabulary.{left_more, refl, shown, slice_index, sym, true, [], ◌%◌, ◌*◌, ◌++◌, ◌+◌, ◌/◌, ◌∙◌}
+use Rattle.mk_laws.proofs.Vocabulary.{◌∷◌, ◌≡◌}
 use Rattle.mk_laws.proofs.{Basics.Behind, Basics.KeptByEvents, Basics.KnownWorld, Basics.Table, Basics.at_first}
 use Rattle.mk_laws.proofs.{Basics.holds_of_histories, Basics.reg_table, Basics.tally_table, FreeWords.of_worlds}
 use Rattle.mk_laws.specs.UnsetWords.{IsNeverSet, RegistersOfNoCallerAreZero, UnsetGlobalsAreZero}
@@ -18,8 +18,7 @@ no_caller c w n known all k r past =
     get_or_past w.now.seats.flights (i / 8) at_rest (omega arith) in
     let plain = ap (λ (f : Flight). shown f (i % 8) (slice_index w.now.words.registers i)) rest in
     let count = all.mirrors.register_count in
-    sym plain ∙ all.mirrors.images.registers i
-    ∙ ap (λ (v : Value). image_of (bases_of w.allocations) v) (get_or_past n.registers i Null (omega arith))
+    cc (plain, all.mirrors.images.registers i, get_or_past n.registers i Null (omega arith))
 
 pub registers_of_no_caller_are_zero : OfHistories (Leaves RegistersOfNoCallerAreZero)
 registers_of_no_caller_are_zero = of_worlds no_caller
@@ -54,8 +53,7 @@ kept c es e h unset g never =
     let before : IsNeverSet c es g = λ front rest seat is. never front (rest ++ e ∷ []) seat
     (ap (λ (xs : List Event). xs ++ e ∷ []) is ∙ append_assoc front (record { seat = seat; step = Step.Setg } ∷ rest)
     (e ∷ [])) in
-    ap (λ (w : World). slice_index w.now.words.globals g) (left_more c (first_world c) es e)
-    ∙ one_more c es e.seat e.step g never (unset g before)
+    cc (left_more c (first_world c) es e, one_more c es e.seat e.step g never (unset g before))
 
 pub unset_globals_are_zero : OfHistories UnsetGlobalsAreZero
 unset_globals_are_zero = holds_of_histories UnsetGlobalsAreZero first_unset kept

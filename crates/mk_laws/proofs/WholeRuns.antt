@@ -125,8 +125,7 @@ claimed_run s x p laid ix page h =
       within = omega arith;
       later = λ d some lt.
           let near : d < pages_made x.object = omega arith in
-          later_at s.pages s.releasing s.plot p x.page d _ page refl
-          (later_part x.object d _ (claimed s.pages x d shown near) some);
+          later_at _ s.releasing s.plot p _ d _ page refl (later_part x.object d _ (claimed _ x d shown near) some);
     }
 
 -- from a plot, whose first page it is
@@ -234,8 +233,9 @@ emptied w plot p n lt x whole q h = elim (cases_eq q p) [
         page d (inl at) (inl is) =
             let head : head_page w p ≡ q = rw (← at) (rw is.1 (let back : q + d - d ≡ q = omega arith in back)) in
             inr (
-              ap (header_on (with_header_on w.pages p n)) at ∙ headed_here w.pages p n lt ∙ x.is,
-              headed_used w.pages p n q lt ∙ rw (← head) x.unused,
+              ap (header_on (with_header_on w.pages p n)) at ∙ headed_here _ p n lt ∙ x.is,
+              headed_used _ p n q lt ∙
+                  rw (← head) x.unused,
               inl refl,
             )
 

@@ -3,15 +3,14 @@ use Rattle.mk_laws.proofs.Vocabulary.{AreEnabledFrom, AreOfPages, Bool, Caller, 
 use Rattle.mk_laws.proofs.Vocabulary.{IsEnabled, IsReleasedWord, IsWithinLimits, IsWordOfMapped, List, MayHold, None}
 use Rattle.mk_laws.proofs.Vocabulary.{OfFreedRun, OfMapped, OfReleased, OthersAreZero, PlacedAllocation, Seat, Some}
 use Rattle.mk_laws.proofs.Vocabulary.{Step, World, ZeroScene, ℕ, access, accessed_lengths, address_of, and_parts, ap}
-use Rattle.mk_laws.proofs.Vocabulary.{arith, at_rest, caller_number, cases_Bool, cell_of_allocation, cells_begin}
-use Rattle.mk_laws.proofs.Vocabulary.{enabled_meets, eqb-true, false, first_moment, first_world, flight_of, granted}
-use Rattle.mk_laws.proofs.Vocabulary.{has_bit_without, head_step, held_by_pages, histories_keep_lengths, if◌then◌else◌}
-use Rattle.mk_laws.proofs.Vocabulary.{inl, inr, is_decided, is_heap_store, is_left_unmarked, is_phase}
-use Rattle.mk_laws.proofs.Vocabulary.{is_released_there, is_run_gone, left, left_from, map, may_end, nothing_done}
-use Rattle.mk_laws.proofs.Vocabulary.{object_placed, placed_at, quarantine_step, refl, reg_access, register_met, subst}
-use Rattle.mk_laws.proofs.Vocabulary.{sym, target, true, true≢false, used_step, with_released, word_accessed, word_met}
-use Rattle.mk_laws.proofs.Vocabulary.{word_points, world_behind, zero_lengths, zero_scene_with, [], ◌*◌, ◌++◌, ◌==◌}
-use Rattle.mk_laws.proofs.Vocabulary.{◌∙◌, ◌∷◌, ◌≡◌}
+use Rattle.mk_laws.proofs.Vocabulary.{arith, at_rest, cases_Bool, cell_of_allocation, cells_begin, enabled_meets}
+use Rattle.mk_laws.proofs.Vocabulary.{eqb-true, false, first_moment, first_world, flight_of, granted, has_bit_without}
+use Rattle.mk_laws.proofs.Vocabulary.{head_step, held_by_pages, histories_keep_lengths, if◌then◌else◌, inl, inr}
+use Rattle.mk_laws.proofs.Vocabulary.{is_decided, is_heap_store, is_left_unmarked, is_phase, is_released_there}
+use Rattle.mk_laws.proofs.Vocabulary.{is_run_gone, left, left_from, map, may_end, nothing_done, object_placed}
+use Rattle.mk_laws.proofs.Vocabulary.{placed_at, quarantine_step, refl, reg_access, register_met, subst, sym, target}
+use Rattle.mk_laws.proofs.Vocabulary.{true, true≢false, used_step, with_released, word_accessed, word_met, word_points}
+use Rattle.mk_laws.proofs.Vocabulary.{world_behind, zero_lengths, zero_scene_with, [], ◌*◌, ◌++◌, ◌==◌, ◌∙◌, ◌∷◌, ◌≡◌}
 use Rattle.mk_core.proofs.{PointedPages.pointed_within, RegisterAccesses.register_leaves, RegisterAccesses.tally_leaves}
 use Rattle.mk_laws.proofs.Basics.{Known, Meets, WorldBehind, at_first, changed_words, is_releasing_behind}
 use Rattle.mk_laws.proofs.Basics.{known_at_first, known_behind, known_left, mapped_stays, none_released}
@@ -107,9 +106,8 @@ pub by_kind : (c : Config) (w : World) (seat : Seat) (x : Step) → Before c w s
     (WorldBehind c w seat x))
 by_kind c w seat (Step.Take o) b h z = take_kind c w seat (Step.Take o) b z (w.now.words.turn == 0) refl
 by_kind c w seat Step.Give b h z = give_kind c w seat h z
-by_kind c w seat Step.Reg b h z = kept_heap c w _
-    (register_leaves w.now.words (caller_number seat) (register_met (flight_of w.now seat) (flight_of w.now seat).stage)
-    (reg_access (flight_of w.now seat) (flight_of w.now seat).stage)) z
+by_kind c w seat Step.Reg b h z = kept_heap c w _ (register_leaves _ _ (register_met (flight_of w.now seat) (flight_of
+    w.now seat).stage) (reg_access (flight_of w.now seat) (flight_of w.now seat).stage)) z
 by_kind c w seat (Step.Tally n v) b h z = kept_heap c w _ (tally_leaves w.now.words n v) z
 by_kind c w seat Step.Write b h z = stored_words c (here w) (word_met (flight_of w.now seat)) _ (b.others.stored refl) z
 by_kind c w seat Step.Cas b h z = stored_words c (here w) (word_met (flight_of w.now seat)) _ (b.others.stored refl) z

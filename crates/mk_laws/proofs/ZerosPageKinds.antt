@@ -202,9 +202,7 @@ word_of_freed c w cell n limits m st in_cell = by (stands_in w.now.words cell a)
         record {
           run = record { page = cell.page; count = pages_made (object_placed c a) };
           there = run_large (object_placed c a) (header_in w.now.words cell.page) cell.page part large;
-          word = and_from (nat_le cell.page (n / 64)) (nat_lt (n / 64 - cell.page) (pages_made (object_placed c a)))
-              (le-leb cell.page (n / 64) (omega arith))
-              (lt-ltb (n / 64 - cell.page) (pages_made (object_placed c a)) (omega arith));
+          word = and_from _ _ (le-leb cell.page (n / 64) (omega arith)) (lt-ltb (n / 64 - cell.page) _ (omega arith));
         }
 
     by : (b : Bool) → stands_in w.now.words cell a ≡ b

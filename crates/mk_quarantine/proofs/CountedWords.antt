@@ -2,7 +2,7 @@
 use Rattle.std.proofs.{Common.filter, Common.sum_by, lemmas.List.Sums.sum_by-append, lemmas.List.Sums.sum_by-cons}
 use Rattle.mk_laws.proofs.Vocabulary.{address_of, is_large, is_left_unmarked, kinds_of, map, none_freed, pointed_cell}
 use Rattle.mk_quarantine.proofs.Vocabulary.{Bool, Cell, Config, Event, List, None, Option, PlacedAllocation, Seat, Some}
-use Rattle.mk_quarantine.proofs.Vocabulary.{Step, World, WorldBehind, ℕ, ap, arith, cell_freed, decides_freed, false}
+use Rattle.mk_quarantine.proofs.Vocabulary.{Step, World, WorldBehind, ℕ, arith, cell_freed, decides_freed, false}
 use Rattle.mk_quarantine.proofs.Vocabulary.{first_world, flight_of, freed_where_it_stands, fresh_words_of, given_back}
 use Rattle.mk_quarantine.proofs.Vocabulary.{given_back_behind, granted, held_by_allocations, if◌then◌else◌, is_begin}
 use Rattle.mk_quarantine.proofs.Vocabulary.{is_mapped, is_release, is_some, is_some_and, left, not, refl, storage_words}

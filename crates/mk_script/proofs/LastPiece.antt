@@ -1,7 +1,7 @@
 -- The lines of a text are the pieces between its newlines, without an empty last piece.
 use Rattle.std.proofs.{Common.Bor, lemmas.List.map-append, lemmas.List.take_more}
-use Rattle.mk_script.proofs.Vocabulary.{List, ℕ, ap, arith, false, get_or, length, refl, sym, take, take_all, texts_of}
-use Rattle.mk_script.proofs.Vocabulary.{true, without_empty_last, [], ◌++◌, ◌+◌, ◌-◌, ◌<◌, ◌==◌, ◌∙◌, ◌∷◌, ◌≡◌}
+use Rattle.mk_script.proofs.Vocabulary.{List, ℕ, ap, arith, false, get_or, length, refl, take, take_all, texts_of, true}
+use Rattle.mk_script.proofs.Vocabulary.{without_empty_last, [], ◌++◌, ◌+◌, ◌-◌, ◌<◌, ◌==◌, ◌∙◌, ◌∷◌, ◌≡◌}
 
 last_empty : (front : List (List ℕ)) (last : List ℕ) → (length last == 0) ≡ true
     → without_empty_last (front ++ last ∷ []) ≡ front
@@ -31,13 +31,10 @@ pub without_last : (pieces : List (Bor (List ℕ))) (last : Bor (List ℕ)) → 
     → last ≡ get_or pieces (length pieces - 1) last → (length last.now == 0) ≡ true
     → texts_of (take (length pieces - 1) pieces) ≡ without_empty_last (texts_of pieces)
 without_last pieces last inside is_last empty =
-    sym (ap without_empty_last (split pieces last inside is_last)
-    ∙ last_empty (texts_of (take (length pieces - 1) pieces)) last.now empty)
+    cc (split pieces last inside is_last, last_empty (texts_of (take (length pieces - 1) pieces)) last.now empty)
 
 pub with_last : (pieces : List (Bor (List ℕ))) (last : Bor (List ℕ)) → 0 < length pieces
     → last ≡ get_or pieces (length pieces - 1) last → (length last.now == 0) ≡ false
     → texts_of pieces ≡ without_empty_last (texts_of pieces)
 with_last pieces last inside is_last full =
-    split pieces last inside is_last
-    ∙ sym (ap without_empty_last (split pieces last inside is_last)
-    ∙ last_full (texts_of (take (length pieces - 1) pieces)) last.now full)
+    cc (split pieces last inside is_last, last_full (texts_of (take (length pieces - 1) pieces)) last.now full)

@@ -88,9 +88,7 @@ keeps_words ((byte ∷ word) ∷ words) ws = cond-true _ _ _ (not_zero (length w
 -- the words of words with spaces between them
 pub words_of-joined : (words : List (List ℕ)) → AreWords words → words_of_line (joined_words words) ≡ words
 words_of-joined [] ws = refl
-words_of-joined (word ∷ words) ws =
-    ap (λ parts. filter (λ part. not (is_empty part)) parts) (split_spaced word words ws.0 ws.1)
-    ∙ keeps_words (word ∷ words) ws
+words_of-joined (word ∷ words) ws = cc (split_spaced word words ws.0 ws.1, keeps_words (word ∷ words) ws)
 
 newline_apart : (words : List (List ℕ)) → AreWords words → All (λ byte. nat_eq byte 10 ≡ false) (spaced_words words)
 newline_apart [] ws = All-nil (λ byte. nat_eq byte 10 ≡ false)

@@ -85,8 +85,7 @@ at_most_was found greatest limit e = leb-true found greatest (cond_none (nat_le 
 
 is_short : (before : List Item) (line : Item) → limit_fault before line ≡ None → IsShort line
 is_short before (Item.TypeLine name words) e =
-    at_most_was (length words) 4096 Which.Words
-    (option_or_was (at_most (length (type_names before) + 1) 64 Which.Types) _ e)
+    at_most_was _ 4096 Which.Words (option_or_was (at_most (length (type_names before) + 1) 64 Which.Types) _ e)
 is_short before line e = tt
 
 checked_again : (before : List Item) (line : Item) → is_twice before line ≡ false → limit_fault before line ≡ None

@@ -12,9 +12,7 @@ pub among_both : (name : List ℕ) (names set others other_set : List (List ℕ)
     → IsPermutation others other_set
     → (is_among name set || is_among name other_set) ≡ is_among name (names ++ others)
 among_both name names set others other_set same same' =
-    ap (λ found. found || is_among name other_set) (among name names set same)
-    ∙ ap (λ found. is_among name names || found) (among name others other_set same')
-    ∙ sym (list_any-append (bytes_eq name) names others)
+    cc (among name names set same, among name others other_set same', list_any-append (bytes_eq name) names others)
 
 pub count : (names set : List (List ℕ)) → IsPermutation names set → length set ≡ length names
 count names set same = length_permutation names set same

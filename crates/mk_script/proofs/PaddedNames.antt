@@ -12,17 +12,15 @@ same_test false false there back = refl
 
 -- the rest is the same
 with_rest : (n : ℕ) (xs ys : List ℕ) → drop n xs ≡ drop n ys → bytes_eq xs ys ≡ bytes_eq (take n xs) (take n ys)
-with_rest n xs ys rest = same_test (bytes_eq xs ys) (bytes_eq (take n xs) (take n ys))
-    (λ same. (bytes_eq-Decides (take n xs) (take n ys)).1 (ap (take n) ((bytes_eq-Decides xs ys).0 same)))
-    (λ same. (bytes_eq-Decides xs ys).1
-    (sym (take-append-drop n xs) ∙ ap (λ front. front ++ drop n xs) ((bytes_eq-Decides (take n xs) (take n ys)).0 same)
-    ∙ ap (λ behind. take n ys ++ behind) rest ∙ take-append-drop n ys))
+with_rest n xs ys rest = same_test _ _ (λ same. (bytes_eq-Decides (take n xs) (take n ys)).1 (ap (take n)
+    ((bytes_eq-Decides xs ys).0 same))) (λ same. (bytes_eq-Decides xs ys).1 (sym (take-append-drop n xs) ∙ ap (λ front.
+    front ++ drop n xs) ((bytes_eq-Decides (take n xs) (take n ys)).0 same) ∙ ap (λ behind. take n ys ++ behind) rest ∙
+    take-append-drop n ys))
 
 pub of_one_length : (n m : ℕ) (xs ys : List ℕ) → n ≡ m → drop n xs ≡ replicate (16 - n) 0
     → drop m ys ≡ replicate (16 - m) 0 → bytes_eq xs ys ≡ bytes_eq (take n xs) (take m ys)
 of_one_length n m xs ys one zeros zeros' =
-    with_rest n xs ys (zeros ∙ ap (λ k. replicate (16 - k) 0) one ∙ sym zeros' ∙ ap (λ k. drop k ys) (sym one))
-    ∙ ap (λ k. bytes_eq (take n xs) (take k ys)) one
+    cc (with_rest n xs ys (zeros ∙ ap (λ k. replicate (16 - k) 0) one ∙ sym zeros' ∙ ap (λ k. drop k ys) (sym one)))
 
 -- what stands after a name that was put at the start of sixteen zeros
 pub zeros_behind : (name : List ℕ) (n : ℕ) → n ≡ length name → n ≤ 16

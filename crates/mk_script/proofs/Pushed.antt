@@ -3,8 +3,8 @@ use Rattle.std.proofs.lemmas.List.{reverse-append, take_more}
 use Rattle.std.proofs.{Common.set, Math.Seq.set-append_seam, lemmas.List.Sums.fold-append}
 use Rattle.mk_script.proofs.Vocabulary.{Item, List, ℕ, ap, arith, get_or, global_names, if◌then◌else◌, is_script}
 use Rattle.mk_script.proofs.Vocabulary.{length, length-append, number_names, open_behind, open_blocks, pointer_names}
-use Rattle.mk_script.proofs.Vocabulary.{refl, reverse, script_names, sym, take, take_all, this_script, type_names, []}
-use Rattle.mk_script.proofs.Vocabulary.{◌++◌, ◌+◌, ◌-◌, ◌<◌, ◌∙◌, ◌∷◌, ◌≡◌}
+use Rattle.mk_script.proofs.Vocabulary.{refl, reverse, script_names, take, take_all, this_script, type_names, [], ◌++◌}
+use Rattle.mk_script.proofs.Vocabulary.{◌+◌, ◌-◌, ◌<◌, ◌∙◌, ◌∷◌, ◌≡◌}
 use Rattle.mk_script.specs.declared.items.Item.TheVariants.{Global, Num, Ptr, Script, TypeLine}
 use Rattle.mk_script.specs.Scopes.{InSecond, OpenBlock, behind_else}
 
@@ -51,9 +51,7 @@ open_blocks-push before item = fold-append open_behind [] before (item ∷ [])
 turned : (front : List OpenBlock) (last : OpenBlock)
     → reverse (set (front ++ last ∷ []) (length front) InSecond) ≡ behind_else (reverse (front ++ last ∷ []))
 turned front last =
-    ap reverse (set-append_seam front last [] InSecond)
-    ∙ reverse-append front (InSecond ∷ [])
-    ∙ ap behind_else (sym (reverse-append front (last ∷ [])))
+    cc (set-append_seam front last [] InSecond, reverse-append front (InSecond ∷ []), reverse-append front (last ∷ []))
 
 last_turned_of : (blocks : List OpenBlock) → 0 < length blocks
     → reverse (set blocks (length blocks - 1) InSecond) ≡ behind_else (reverse blocks)
@@ -66,10 +64,7 @@ last_turned_of blocks some =
     let parts : blocks ≡ take i blocks ++ last ∷ [] = cc in
     let front_len : length (take i blocks) ≡ i =
     omega (arith, ap length parts, length-append (take i blocks) (last ∷ [])) in
-    ap (λ found. reverse (set found i InSecond)) parts
-    ∙ ap (λ place. reverse (set (take i blocks ++ last ∷ []) place InSecond)) (sym front_len)
-    ∙ turned (take i blocks) last
-    ∙ ap (λ found. behind_else (reverse found)) (sym parts)
+    cc (parts, front_len, turned (take i blocks) last)
 
 pub last_turned : (blocks : List OpenBlock) (count : ℕ) → count ≡ length blocks
     → reverse (set blocks (count - 1) InSecond) ≡ behind_else (reverse blocks)

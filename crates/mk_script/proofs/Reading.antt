@@ -4,9 +4,8 @@ use Rattle.std.specs.Result.{IfErr, IfOk, MatchResult}
 use Rattle.mk_script.proofs.Vocabulary.{Err, Item, List, Ok, ℕ, ap, arith, drop, get_or, go_on, items_behind}
 use Rattle.mk_script.proofs.Vocabulary.{items_of_lines, length, length-map, line_of, refl, sym, texts_of, words_of_line}
 use Rattle.mk_script.proofs.Vocabulary.{[], ◌++◌, ◌+◌, ◌<◌, ◌∙◌, ◌∷◌, ◌≡◌, ◌≢◌}
-use Rattle.mk_script.specs.ScopeOf.{IsStopOfLine, ReadsLine}
 use Rattle.mk_script.specs.declared.faults.LineStop.TheVariants.{Fault, NoMemory}
-use Rattle.mk_script.specs.{Grammar.fault_at, Stops.stop_at, declared.faults.LineStop.LineStop}
+use Rattle.mk_script.specs.{ScopeOf.IsStopOfLine, ScopeOf.ReadsLine, Stops.stop_at, declared.faults.LineStop.LineStop}
 use Rattle.mk_script.specs.{declared.faults.TextStop.TextStop, declared.scope.Scope.Scope}
 
 -- what a text is read as whose next line has an item, or hasn't
@@ -17,11 +16,10 @@ goes_on before line lines item is =
     ap (λ read. go_on (length before + 1) read (λ item'. items_behind lines (before ++ item' ∷ []))) is
 
 pub stops : (before : List Item) (line : List ℕ) (lines : List (List ℕ)) (number : ℕ) (found : LineStop)
-    → number ≡ length before + 1 → IsStopOfLine before (words_of_line line) found → stop_at number found ≢ TextStop.NoMemory
+    → number ≡ length before + 1 → IsStopOfLine before (words_of_line line) found
+    → stop_at number found ≢ TextStop.NoMemory
     → items_behind (line ∷ lines) before ≡ Err (stop_at number found)
-stops before line lines number (Fault fault) counts is memory =
-    ap (λ read. go_on (length before + 1) read (λ item. items_behind lines (before ++ item ∷ []))) is
-    ∙ ap (λ n. Err (fault_at n fault)) (sym counts)
+stops before line lines number (Fault fault) counts is memory = cc
 stops before line lines number NoMemory counts is memory = absurd (memory refl)
 
 pub from_first : (lines : List (List ℕ)) → 0 < length lines → items_of_lines lines ≡ items_behind lines []
@@ -54,8 +52,7 @@ stops_at lines i before d found inside counts is memory =
 
 pub whole : (lines : List (Bor (List ℕ))) (text_lines : List (List ℕ)) → 0 < length lines → texts_of lines ≡ text_lines
     → items_of_lines text_lines ≡ items_behind (texts_of lines) []
-whole lines text_lines some are = ap items_of_lines (sym are)
-    ∙ from_first (texts_of lines) (omega (arith, length-map lines (λ text. text.now)))
+whole lines text_lines some are = cc (from_first (texts_of lines) (omega (arith, length-map lines (λ text. text.now))))
 
 pub ended_well : {A : Type 0} (view : A
     → List Item) (result : Result A TextStop) (expected found : Result (List Item) TextStop) → expected ≡ found

@@ -1,8 +1,8 @@
 -- The canonical text of a text's program has the same program.
 use Rattle.mk_script.proofs.Vocabulary.{IsOfSomeText, Item, List, Ok, ap, append-nil, append_assoc, at_end}
-use Rattle.mk_script.proofs.Vocabulary.{canonical_text, cond-true, go_on, items_behind, items_of_lines, joined_words}
-use Rattle.mk_script.proofs.Vocabulary.{le-leb, length, line_of, refl, subst, sym, words_of_item, words_of_line, []}
-use Rattle.mk_script.proofs.Vocabulary.{◌++◌, ◌+◌, ◌∙◌, ◌∷◌, ◌≡◌, ◌≤◌}
+use Rattle.mk_script.proofs.Vocabulary.{canonical_text, cond-true, items_behind, items_of_lines, joined_words, le-leb}
+use Rattle.mk_script.proofs.Vocabulary.{length, line_of, refl, subst, sym, words_of_item, words_of_line, [], ◌++◌, ◌+◌}
+use Rattle.mk_script.proofs.Vocabulary.{◌∙◌, ◌∷◌, ◌≡◌, ◌≤◌}
 use Rattle.mk_script.proofs.CanonicalLines.{HaveWords, lines_of-canonical_text, lines_of_items}
 use Rattle.mk_script.proofs.PassedLines.{ArePassed, IsWhole, is_whole}
 use Rattle.mk_script.proofs.{LineWords.AreWords, LineWords.words_of-joined, LinesAgain.line_again}
@@ -34,8 +34,7 @@ items_again [] before items again whole end =
 items_again (line ∷ rest) before items again whole end =
     let reads : line_of before (words_of_line (joined_words (words_of_item line))) ≡ Ok line =
     ap (λ ws. line_of before ws) (words_of-joined (words_of_item line) again.0.apart) ∙ again.0.reads in
-    ap (λ r. go_on (length before + 1) r (λ x. items_behind (lines_of_items rest) (before ++ x ∷ []))) reads
-    ∙ items_again rest (before ++ line ∷ []) items again.1 (append_assoc before (line ∷ []) rest ∙ whole) end
+    cc (reads, items_again rest (before ++ line ∷ []) items again.1 (append_assoc before (line ∷ []) rest ∙ whole) end)
 
 have_words : (rest before : List Item) → AreSaidAgain before rest → HaveWords rest
 have_words [] before again = tt

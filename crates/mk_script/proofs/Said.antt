@@ -3,10 +3,10 @@ use Rattle.std.proofs.Common.{drop-drop, drop_at, inl, inr, ne_eqb, ok_or, one-a
 use Rattle.std.proofs.lemmas.Bool.{cases_cond, cond-false, cond_both, not_from_false, or_from, or_right}
 use Rattle.std.specs.List.{after_first, before_first, position_or_len}
 use Rattle.mk_script.proofs.Vocabulary.{At, Bool, Err, LineFault, List, None, Ok, Option, Result, Some, ℕ, and_from}
-use Rattle.mk_script.proofs.Vocabulary.{and_parts, ap, arith, at, at_text, codes, cond, cond-true, decimal, drop, false}
+use Rattle.mk_script.proofs.Vocabulary.{and_parts, ap, arith, at, at_text, codes, cond, cond-true, decimal, false}
 use Rattle.mk_script.proofs.Vocabulary.{length, list_all, list_any, list_any-append, name, nat_eq, nat_tests}
-use Rattle.mk_script.proofs.Vocabulary.{number_of_word, refl, subst, suc, sym, take, true, zero, [], ◌++◌, ◌+◌, ◌<◌}
-use Rattle.mk_script.proofs.Vocabulary.{◌>>=◌, ◌^◌, ◌∙◌, ◌∷◌, ◌≡◌}
+use Rattle.mk_script.proofs.Vocabulary.{number_of_word, refl, subst, suc, sym, true, zero, [], ◌++◌, ◌+◌, ◌<◌, ◌>>=◌}
+use Rattle.mk_script.proofs.Vocabulary.{◌^◌, ◌∙◌, ◌∷◌, ◌≡◌}
 use Rattle.mk_script.proofs.LineWords.{is_solid, is_solid-append, is_solid-decimal, is_solid-names, is_word}
 use Rattle.mk_script.proofs.LineWords.{is_word-append}
 use Rattle.mk_script.proofs.PrintedNumbers.{number_of_word-below, number_of_word-decimal}
@@ -79,14 +79,11 @@ first_plus (byte ∷ n) digits h =
     ∙ one-add (length n)
 
 before_plus : (n digits : List ℕ) → list_all is_name_byte n ≡ true → before_first is_plus (n ++ 43 ∷ digits) ≡ n
-before_plus n digits h = ap (λ k. take k (n ++ 43 ∷ digits)) (first_plus n digits h)
-    ∙ take_at n (43 ∷ digits) (length n) refl
+before_plus n digits h = cc (first_plus n digits h, take_at n (43 ∷ digits) (length n) refl)
 
 behind_plus : (n digits : List ℕ) → list_all is_name_byte n ≡ true → after_first is_plus (n ++ 43 ∷ digits) ≡ digits
 behind_plus n digits h =
-    ap (λ k. drop (k + 1) (n ++ 43 ∷ digits)) (first_plus n digits h)
-    ∙ sym (drop-drop 1 (length n) (n ++ 43 ∷ digits))
-    ∙ ap (λ rest. drop 1 rest) (drop_at n (43 ∷ digits) (length n) refl)
+    cc (first_plus n digits h, drop-drop 1 (length n) (n ++ 43 ∷ digits), drop_at n (43 ∷ digits) (length n) refl)
 
 has_plus : (n digits : List ℕ) → list_any is_plus (n ++ 43 ∷ digits) ≡ true
 has_plus n digits = list_any-append is_plus n (43 ∷ digits) ∙ or_right _ _ refl
@@ -142,14 +139,12 @@ with_at w {f} {y} e go = let was = then_was (at w) f y e in go was.0 (at_was w w
 
 pub is_solid-at : (a : At) → IsPlace a → is_solid (at_text a) ≡ true
 is_solid-at a place =
-    cond_both (nat_eq a.offset 0) a.name (a.name ++ (codes "+" ++ decimal a.offset)) (λ text. is_solid text ≡ true)
-    (λ none. is_solid-name a.name place.named)
-    (λ some. is_solid-append a.name (codes "+" ++ decimal a.offset) (is_solid-name a.name place.named)
-    (is_solid-decimal a.offset place.small))
+    cond_both _ a.name (a.name ++ (codes "+" ++ decimal a.offset)) (λ text. is_solid text ≡ true) (λ none. is_solid-name
+    a.name place.named) (λ some. is_solid-append a.name (codes "+" ++ decimal a.offset) (is_solid-name a.name
+    place.named) (is_solid-decimal a.offset place.small))
 
 pub is_word-at : (a : At) → IsPlace a → is_word (at_text a) ≡ true
 is_word-at a place =
-    cond_both (nat_eq a.offset 0) a.name (a.name ++ (codes "+" ++ decimal a.offset)) (λ text. is_word text ≡ true)
-    (λ none. is_word-name a.name place.named)
-    (λ some. is_word-append a.name (codes "+" ++ decimal a.offset) (is_word-name a.name place.named)
+    cond_both _ a.name (a.name ++ (codes "+" ++ decimal a.offset)) (λ text. is_word text ≡ true) (λ none. is_word-name
+    a.name place.named) (λ some. is_word-append a.name (codes "+" ++ decimal a.offset) (is_word-name a.name place.named)
     (is_solid-decimal a.offset place.small))

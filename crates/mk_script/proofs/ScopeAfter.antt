@@ -64,8 +64,7 @@ names_added : (names : List Item → List (List ℕ))
     → IsPermutation (names before) set → IsPermutation (set ++ added) set'
     → IsPermutation (names (before ++ item ∷ [])) set'
 names_added names push before item set set' added are said more =
-    let names_are : names (before ++ item ∷ []) ≡ names before ++ added = push before item
-    ∙ ap (λ others. names before ++ others) are in
+    let names_are : names (before ++ item ∷ []) ≡ names before ++ added = cc (push before item, are) in
     rw names_are (IsPermutation-trans (names before ++ added) (set ++ added) set'
     (IsPermutation-append_left added (names before) set said) more)
 
@@ -96,8 +95,7 @@ after_line old new before item types globals scripts pointers numbers scope adds
           ∙ sym (ap (list_any is_instruction) lines ∙ list_any-append is_instruction (this_script before) (item ∷ [])
           ∙ ap (λ some. list_any is_instruction (this_script before) || some)
           (or-false (is_instruction item) false refl));
-      types = names_added type_names type_names-push before item old.types new.types types adds.types_are scope.types
-          types';
+      types = names_added type_names type_names-push before item _ _ types adds.types_are scope.types types';
       globals = names_added global_names global_names-push before item old.globals new.globals globals adds.globals_are
           scope.globals globals';
       scripts = names_added script_names script_names-push before item old.scripts new.scripts scripts adds.scripts_are

@@ -1,13 +1,12 @@
 -- What ends find in a call of the caller: of a New, a Free, and a call beside the turn.
 use Rattle.mk_trace.proofs.Vocabulary.{Answer, Caller, Calls, Config, Decided, EndsTell, Event, HostState}
 use Rattle.mk_trace.proofs.Vocabulary.{LeavesAllocations, Op, PassState, Seat, Step, World, call_decided, calls_append}
-use Rattle.mk_trace.proofs.Vocabulary.{decides_freed, entry_of, flagged, flight_of, found, has_step, is_begin}
-use Rattle.mk_trace.proofs.Vocabulary.{is_of_cycle, is_same_seat, is_under_turn, lacks_append, lacks_one, left}
-use Rattle.mk_trace.proofs.Vocabulary.{object_made, unflagged, world_behind}
+use Rattle.mk_trace.proofs.Vocabulary.{decides_freed, entry_of, flagged, flight_of, has_step, is_begin, is_of_cycle}
+use Rattle.mk_trace.proofs.Vocabulary.{is_under_turn, lacks_append, lacks_one, left, object_made, unflagged}
+use Rattle.mk_trace.proofs.Vocabulary.{world_behind}
 use Rattle.mk_laws.proofs.Vocabulary.{Bool, List, Some, ℕ, and_parts, ap, append_assoc, cases_Bool, enabled_meets}
-use Rattle.mk_laws.proofs.Vocabulary.{false, group_of, if◌then◌else◌, inl, inr, is_open_to, left_append, left_in_parts}
-use Rattle.mk_laws.proofs.Vocabulary.{list_any, or_from, or_parts, refl, subst, sym, true, [], ◌&&◌, ◌++◌, ◌||◌, ◌∙◌}
-use Rattle.mk_laws.proofs.Vocabulary.{◌∷◌, ◌≡◌}
+use Rattle.mk_laws.proofs.Vocabulary.{false, group_of, inl, inr, is_open_to, left_append, left_in_parts, list_any}
+use Rattle.mk_laws.proofs.Vocabulary.{or_from, or_parts, refl, subst, sym, true, [], ◌&&◌, ◌++◌, ◌||◌, ◌∙◌, ◌∷◌, ◌≡◌}
 use Rattle.mk_core.specs.{Growing.own_from, History.AreEnabledFrom, History.calls_from, History.left_from}
 use Rattle.mk_alloc.proofs.OneCycles.{one_before, one_behind}
 use Rattle.mk_alloc.specs.TurnCycles.{FreeIsExact, FreesFirst, NewIsExact, RunsOneCycle, finishes, within_turn}

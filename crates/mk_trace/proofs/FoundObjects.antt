@@ -1,6 +1,6 @@
 -- What freed bits and globals show between calls.
 use Rattle.std.proofs.Math.ListN.{get_or-map as get_or-map-default}
-use Rattle.mk_trace.proofs.Vocabulary.{AreLater, Cell, Config, Event, IsHistory, IsSound, Kind, NeverState, Null, Num}
+use Rattle.mk_trace.proofs.Vocabulary.{AreLater, Cell, Config, Event, IsHistory, IsSound, NeverState, Null, Num}
 use Rattle.mk_trace.proofs.Vocabulary.{PlacedAllocation, Ptr, Value, Words, address_of, allocation_at}
 use Rattle.mk_trace.proofs.Vocabulary.{cell_of_allocation, cell_words, exists_placed, global_at}
 use Rattle.mk_trace.proofs.Vocabulary.{histories_keep_the_invariant, is_freed, is_large, is_phase, kinds_of, left}

@@ -3,11 +3,10 @@ use Rattle.mk_trace.proofs.Vocabulary.{Answer, AreLater, CallerIsHome, Calls, Co
 use Rattle.mk_trace.proofs.Vocabulary.{FlagsBehind, FlagsBehindCall, HoldsMostAtEnd, HostState, IsHistory}
 use Rattle.mk_trace.proofs.Vocabulary.{IsMostWhereFreed, LeavesAllocations, NeverState, Op, PassState, PlacedAllocation}
 use Rattle.mk_trace.proofs.Vocabulary.{QuarantinesMostWhereFreed, Step, WordsState, World, after_calls, after_free}
-use Rattle.mk_trace.proofs.Vocabulary.{allocation_at, asked, calls_from, decides_freed, entry_of, exists_placed}
-use Rattle.mk_trace.proofs.Vocabulary.{first_world, flight_of, freed_words, greatest, has_step, is_begin, is_of_cycle}
-use Rattle.mk_trace.proofs.Vocabulary.{is_release, is_under_turn, lacks_append, left, max, never_behind, none_at}
-use Rattle.mk_trace.proofs.Vocabulary.{number_freed, placed_at, quarantined_words, reach_is_kept, register_at}
-use Rattle.mk_trace.proofs.Vocabulary.{reserved_words, unflagged, world_behind}
+use Rattle.mk_trace.proofs.Vocabulary.{allocation_at, asked, calls_from, entry_of, exists_placed, first_world}
+use Rattle.mk_trace.proofs.Vocabulary.{freed_words, greatest, has_step, is_begin, is_of_cycle, is_release}
+use Rattle.mk_trace.proofs.Vocabulary.{is_under_turn, lacks_append, left, max, never_behind, none_at, number_freed}
+use Rattle.mk_trace.proofs.Vocabulary.{placed_at, reach_is_kept, register_at, reserved_words, unflagged, world_behind}
 use Rattle.mk_laws.proofs.Vocabulary.{Bool, List, Some, ℕ, ap, append_assoc, arith, cases_Bool, earlier_part_is_history}
 use Rattle.mk_laws.proofs.Vocabulary.{false, inl, inr, left_in_parts, length, list_any, never_in_parts, refl, subst}
 use Rattle.mk_laws.proofs.Vocabulary.{sym, true, true≢false, [], ◌*◌, ◌++◌, ◌+◌, ◌<◌, ◌||◌, ◌∙◌, ◌∷◌, ◌≡◌}

@@ -1,12 +1,11 @@
 -- The most words that were quarantined over a call.
 use Rattle.mk_trace.proofs.Vocabulary.{Answer, AreLater, Cell, Config, Decided, Event, Flight, IsHistory, Moment}
-use Rattle.mk_trace.proofs.Vocabulary.{NeverState, Op, PlacedAllocation, Step, Value, Words, World, address_of}
-use Rattle.mk_trace.proofs.Vocabulary.{after_calls, after_free, allocations_by, asked, call_decided, calls_append}
-use Rattle.mk_trace.proofs.Vocabulary.{cell_freed, decides_freed, entry_of, first_world, flight_of}
-use Rattle.mk_trace.proofs.Vocabulary.{freed_where_it_stands, granted, greatest, has_step, is_left_unmarked, is_release}
-use Rattle.mk_trace.proofs.Vocabulary.{is_some_and, lacks_append, lacks_one, left, max, never_behind, no_longer_fresh}
-use Rattle.mk_trace.proofs.Vocabulary.{number_freed, pointed_cell, register_at, stands_in, sum_by-append, sum_by-cons}
-use Rattle.mk_trace.proofs.Vocabulary.{unfreed, with_released, words_of_some, world_behind}
+use Rattle.mk_trace.proofs.Vocabulary.{NeverState, Op, PlacedAllocation, Step, Value, Words, World, after_calls}
+use Rattle.mk_trace.proofs.Vocabulary.{after_free, allocations_by, asked, call_decided, calls_append, cell_freed}
+use Rattle.mk_trace.proofs.Vocabulary.{decides_freed, entry_of, first_world, flight_of, freed_where_it_stands, granted}
+use Rattle.mk_trace.proofs.Vocabulary.{greatest, has_step, is_release, is_some_and, lacks_append, lacks_one, left, max}
+use Rattle.mk_trace.proofs.Vocabulary.{never_behind, no_longer_fresh, number_freed, register_at, stands_in}
+use Rattle.mk_trace.proofs.Vocabulary.{sum_by-append, sum_by-cons, unfreed, with_released, words_of_some, world_behind}
 use Rattle.mk_laws.proofs.Vocabulary.{Bool, List, None, Option, Some, ℕ, ap, append-nil, append_assoc, arith}
 use Rattle.mk_laws.proofs.Vocabulary.{earlier_part_is_history, false, if◌then◌else◌, inl, inr, left_in_parts, list_any}
 use Rattle.mk_laws.proofs.Vocabulary.{never_in_parts, not, or_parts, refl, subst, sym, true, true≢false, [], ◌&&◌, ◌*◌}

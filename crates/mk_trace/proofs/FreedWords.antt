@@ -1,10 +1,9 @@
 -- The words of quarantined allocations, and of held ones, where a type says how many words one has.
 use Rattle.mk_trace.proofs.Vocabulary.{AreLater, Cell, Config, Event, Flight, IsHistory, Moment, NeverState}
-use Rattle.mk_trace.proofs.Vocabulary.{PlacedAllocation, Step, Value, Words, World, address_of, after_free}
-use Rattle.mk_trace.proofs.Vocabulary.{allocation_at, allocations_by, cell_freed, exists_placed, flight_of}
-use Rattle.mk_trace.proofs.Vocabulary.{freed_where_it_stands, granted, held_by_allocations, is_grant, is_large}
-use Rattle.mk_trace.proofs.Vocabulary.{is_left_unmarked, is_quarantined, is_some_and, kinds_of, left, lets_go}
-use Rattle.mk_trace.proofs.Vocabulary.{never_behind, never_granted, no_longer_fresh, placed_at, pointed_cell}
+use Rattle.mk_trace.proofs.Vocabulary.{PlacedAllocation, Step, Value, Words, World, after_free, allocation_at}
+use Rattle.mk_trace.proofs.Vocabulary.{allocations_by, cell_freed, exists_placed, flight_of, freed_where_it_stands}
+use Rattle.mk_trace.proofs.Vocabulary.{granted, held_by_allocations, is_grant, is_large, is_quarantined, is_some_and}
+use Rattle.mk_trace.proofs.Vocabulary.{kinds_of, left, lets_go, never_behind, never_granted, no_longer_fresh, placed_at}
 use Rattle.mk_trace.proofs.Vocabulary.{quarantined_words, reach_is_kept, reserved_words, stands_in, storage_words}
 use Rattle.mk_trace.proofs.Vocabulary.{sum_by, sum_by-append, sum_by-cons, unfreed, with_released, words_of_some}
 use Rattle.mk_trace.proofs.Vocabulary.{world_behind}

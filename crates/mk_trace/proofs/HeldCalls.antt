@@ -2,9 +2,8 @@
 use Rattle.mk_trace.proofs.Vocabulary.{Answer, AreOfOthers, Caller, Calls, Config, Contents, Decided, Event, Grows}
 use Rattle.mk_trace.proofs.Vocabulary.{HoldsMostAtEnd, Host, HostState, IsHistory, Marker, Moment, Op, PassState, Seat}
 use Rattle.mk_trace.proofs.Vocabulary.{Stage, Step, WordsState, World, call_decided, config_of, entry_of, first_host}
-use Rattle.mk_trace.proofs.Vocabulary.{first_world, flagged, flight_of, has_step, held_by_allocations, in_a_word}
-use Rattle.mk_trace.proofs.Vocabulary.{is_grant, is_under_turn, left, most_held, none_at, object_made, pass_for}
-use Rattle.mk_trace.proofs.Vocabulary.{peaks_of, unflagged, without_seat, world_behind}
+use Rattle.mk_trace.proofs.Vocabulary.{flagged, flight_of, has_step, in_a_word, is_grant, is_under_turn, most_held}
+use Rattle.mk_trace.proofs.Vocabulary.{none_at, object_made, pass_for, peaks_of, unflagged, without_seat, world_behind}
 use Rattle.mk_laws.proofs.Vocabulary.{Bool, IsEnabled, List, MeetsAll, Some, ℕ, ap, arith, comes_next, enabled_meets}
 use Rattle.mk_laws.proofs.Vocabulary.{false, false_from_ne_true, host_has_turn, list_any, list_any-append, or_from}
 use Rattle.mk_laws.proofs.Vocabulary.{or_parts, refl, subst, sym, true, true≢false, [], ◌&&◌, ◌++◌, ◌<◌, ◌||◌, ◌∙◌, ◌∷◌}

@@ -2,12 +2,12 @@
 use Rattle.mk_trace.proofs.Vocabulary.{AreAgesOf, AreFound, AreObjectsOf, Config, Contents, Decided, EndsNone, EndsOne}
 use Rattle.mk_trace.proofs.Vocabulary.{EndsTell, Event, FlagsBehindCall, Freed, FreedObject, HoldsMostAtEnd}
 use Rattle.mk_trace.proofs.Vocabulary.{HostOnlyLooks, IsBetweenCycles, IsHistory, IsMostWhereFreed, Keeps}
-use Rattle.mk_trace.proofs.Vocabulary.{LeavesAllocations, NeverState, Op, PlacedAllocation, QuarantinesMostWhereFreed}
-use Rattle.mk_trace.proofs.Vocabulary.{SettlesFreed, Words, after_calls, asked, config_of, ends, first_world}
-use Rattle.mk_trace.proofs.Vocabulary.{freed_object_of, freed_words, greatest, held_by_allocations, in_a_word}
-use Rattle.mk_trace.proofs.Vocabulary.{is_quarantined, is_under_turn, large_words, left, most_held, never_behind}
-use Rattle.mk_trace.proofs.Vocabulary.{never_first, number_freed, objects_kept, option_map, peaks_of, placed_at}
-use Rattle.mk_trace.proofs.Vocabulary.{quarantined_words, reserved_words, storage_words}
+use Rattle.mk_trace.proofs.Vocabulary.{LeavesAllocations, Op, PlacedAllocation, QuarantinesMostWhereFreed, SettlesFreed}
+use Rattle.mk_trace.proofs.Vocabulary.{Words, after_calls, asked, config_of, ends, first_world, freed_object_of}
+use Rattle.mk_trace.proofs.Vocabulary.{freed_words, greatest, held_by_allocations, in_a_word, is_quarantined}
+use Rattle.mk_trace.proofs.Vocabulary.{is_under_turn, large_words, left, most_held, never_behind, never_first}
+use Rattle.mk_trace.proofs.Vocabulary.{number_freed, objects_kept, option_map, peaks_of, placed_at, quarantined_words}
+use Rattle.mk_trace.proofs.Vocabulary.{reserved_words, storage_words}
 use Rattle.mk_laws.proofs.Vocabulary.{List, Option, ℕ, ap, arith, false, inl, inr, refl, subst, sym, [], ◌+◌, ◌<◌, ◌∙◌}
 use Rattle.mk_laws.proofs.Vocabulary.{◌≡◌, ◌≤◌, ◌⊎◌}
 use Rattle.mk_core.specs.{Allocations.unreleased_storage, History.left_from}

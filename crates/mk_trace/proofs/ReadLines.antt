@@ -2,7 +2,7 @@
 use Rattle.std.{proofs.Common.Bor, proofs.Common.Err, proofs.Common.Result, specs.Result.IfErr, specs.Result.OnOk}
 use Rattle.mk_trace.proofs.Vocabulary.{Contents, HeapPages, IsBetween, LinesSoFar, Ok, TraceStop, Which, at_drop_more}
 use Rattle.mk_trace.proofs.Vocabulary.{contents_of, header_line_of, length-drop, lines_of, nat_tests, nothing_written}
-use Rattle.mk_trace.proofs.Vocabulary.{take_all, text_fault_at, texts_of, trace_of_lines, words_of_line, written_from}
+use Rattle.mk_trace.proofs.Vocabulary.{take_all, texts_of, trace_of_lines, words_of_line, written_from}
 use Rattle.mk_laws.proofs.Vocabulary.{Bool, List, None, Option, Some, ℕ, ap, append-nil, append_assoc, arith, cond-true}
 use Rattle.mk_laws.proofs.Vocabulary.{drop, false, get_or, if◌then◌else◌, le-leb, length, nat_le, refl, subst, sym}
 use Rattle.mk_laws.proofs.Vocabulary.{take, true, [], ◌&&◌, ◌++◌, ◌+◌, ◌-◌, ◌<◌, ◌∙◌, ◌∷◌, ◌≡◌, ◌≢◌, ◌≤◌}

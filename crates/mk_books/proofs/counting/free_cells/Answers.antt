@@ -38,7 +38,6 @@ loop-page-preserved c =
             added = rw w.cells.ensures at w.count_clear.ensures;
           })
       | in_default w ↦
-          w.counts-is ∙ c.loop-page.invariant
-          ∙ by_class-more_other c.args.pages.now c.loop-page.page-index _ c.loop-page-test.true
+          w.counts-is ∙ c.loop-page.invariant ∙ by_class-more_other _ c.loop-page.page-index _ c.loop-page-test.true
           w.in_default.ensures.none
     ]

@@ -7,9 +7,7 @@ use Rattle.mk_books.proofs.page_uses.count_set.Goals as goal
 pub returns-clause-exact : goal.returns-clause-exact
 returns-clause-exact c =
     let shifted : 1 * 2 ^ c.args.bits % 2 ^ 64 ≡ 2 ^ c.args.bits = grind (arith, common_steps) in
-    c.from.ensures
-    ∙ ap (λ high. count_ones (bit_and c.args.word (high - 1))) shifted
-    ∙ count_ones-masked c.args.bits c.args.word
+    cc (c.from.ensures, shifted, count_ones-masked c.args.bits c.args.word)
 
 pub returns-clause-few : goal.returns-clause-few
 returns-clause-few c =

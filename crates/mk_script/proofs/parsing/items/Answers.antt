@@ -23,20 +23,17 @@ returns-in-Err-clause-fault c = λ memory.
     let is = c.at.ensures in
     let memory' : stop_at (c.loop-index.index + 1) c.in-Err.stop ≢ NoMemory = λ e. memory (is ∙ e) in
     let some : 0 < length lines = omega arith in
-    whole lines (lines_of c.args.text.now) some (ap texts_of c.deref-line-items.ensures.value ∙ c.in_ok-lines.ensures)
-    ∙ sym so_far.rest
-    ∙ stops_at lines c.loop-index.index c.loop-index.items.items _ c.in-Err.stop c.loop-index-test.true so_far.count
-    (c.in-Err.ensures so_far.scope_of) memory'
-    ∙ ap Err (sym is)
+    whole lines _ some (ap texts_of c.deref-line-items.ensures.value ∙ c.in_ok-lines.ensures) ∙ sym so_far.rest ∙
+    stops_at lines c.loop-index.index c.loop-index.items.items _ c.in-Err.stop c.loop-index-test.true so_far.count
+    (c.in-Err.ensures so_far.scope_of) memory' ∙ ap Err (sym is)
 
 ends : (c : goal.After-drop-lines-2) → items_of_lines (lines_of c.args.text.now) ≡ at_end c.loop-index.items.items
 ends c =
     let so_far = c.loop-index.invariant in
     let lines = c.deref-line-items.result.now in
     let some : 0 < length lines = grind (arith, nat_tests, ap length c.deref-line-items.ensures.value) in
-    whole lines (lines_of c.args.text.now) some (ap texts_of c.deref-line-items.ensures.value ∙ c.in_ok-lines.ensures)
-    ∙ sym so_far.rest
-    ∙ at_drop_all (λ left. items_behind (texts_of left) c.loop-index.items.items) lines c.loop-index.index
+    whole lines _ some (ap texts_of c.deref-line-items.ensures.value ∙ c.in_ok-lines.ensures) ∙ sym so_far.rest ∙
+    at_drop_all (λ left. items_behind (texts_of left) c.loop-index.items.items) lines c.loop-index.index
     c.loop-index-test.false
 
 pub returns-clause-items : goal.returns-clause-items

@@ -1,5 +1,5 @@
-use Rattle.mk_script.proofs.Vocabulary.{ap, arith, false, get_or, length, sym, take, texts_of, true, without_empty_last}
-use Rattle.mk_script.proofs.Vocabulary.{◌-◌, ◌<◌, ◌==◌, ◌∙◌, ◌≡◌}
+use Rattle.mk_script.proofs.Vocabulary.{ap, arith, false, get_or, length, sym, take, true, without_empty_last, ◌-◌, ◌<◌}
+use Rattle.mk_script.proofs.Vocabulary.{◌==◌, ◌∙◌, ◌≡◌}
 use Rattle.mk_script.proofs.LastPiece.{with_last, without_last}
 use Rattle.mk_script.proofs.splitting.split_lines.Goals.{else-is_empty, then-is_empty}
 use Rattle.mk_script.proofs.splitting.split_lines.Goals as goal
@@ -17,13 +17,8 @@ returns c =
           let empty : (length last.now == 0) ≡ true = sym c.is_empty.ensures ∙ w.if-is_empty.true in
           let rest : w.pop.new.self.items ≡ take (length pieces - 1) pieces = w.pop.ensures.rest
           ∙ ap (λ count. take (count - 1) pieces) (sym c.deref.ensures.len ∙ ap length here) in
-          ap (λ lines. texts_of lines.items) w.lines-is
-          ∙ ap texts_of rest
-          ∙ without_last pieces last inside is_last empty
-          ∙ split
+          cc (w.lines-is, rest, without_last pieces last inside is_last empty, split)
       | else-is_empty w ↦
           let full : (length last.now == 0) ≡ false = sym c.is_empty.ensures ∙ w.if-is_empty.false in
-          ap (λ lines. texts_of lines.items) w.lines-is
-          ∙ with_last pieces last inside is_last full
-          ∙ split
+          cc (w.lines-is, with_last pieces last inside is_last full, split)
     ]
