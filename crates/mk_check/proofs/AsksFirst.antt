@@ -232,7 +232,13 @@ module _ (nodes : List Node) where
   stays_to_op : (p q : Place) → PlaceIsWithin (length nodes) p
       → asks_first (steps_at (trees nodes) p.at) ≡ true → q ≡ p → MovesToOp nodes p q
   stays_to_op p q w first same =
-      subst (λ (x : Place). MovesToOp nodes p x) (sym same) (record { within = w; run = refl; first = first; fits = λ f. f })
+      subst (λ (x : Place). MovesToOp nodes p x) (sym same) (record {
+        within = w;
+        run = refl;
+        first = first;
+        fits =
+            λ f. f;
+      })
 
   -- the end of a block, after which an operation comes first
   pub left_to_op : (p q : Place) (left : Bool) → IsTree nodes → PlaceIsWithin (length nodes) p

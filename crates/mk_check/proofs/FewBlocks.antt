@@ -126,7 +126,12 @@ module _ (before more : List Item) (line : ℕ) where
       (around_it (If number) (opened before + 1) (omega (arith, opened_push before (If number))) h)
   parts_before Else few h =
       else_fits (opened before) (parts_from (line + 1) (before_next_script more)) few
-      (around_it Else (opened before) (omega (arith, opened_push before Else, length-behind_else (open_blocks before))) h)
+      (around_it Else (opened before) (omega (
+        arith,
+        opened_push before Else,
+        length-behind_else
+            (open_blocks before),
+      )) h)
   parts_before End few h = (
     (omega arith, omega arith),
     around_it End (opened before - 1) (omega (arith, opened_push before End, length-behind_end (open_blocks before)))

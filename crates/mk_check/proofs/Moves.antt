@@ -252,7 +252,11 @@ module _ (nodes : List Node) where
         run = sym (ap (λ (s : Steps). stop_of s (kept_in p)) here
             ∙ ap (λ (b : Bool). if b then stop else stop_of rest (after_line instruction (kept_in p))) none);
         nearer = omega (arith, ap work_of here);
-        fits = λ f. let at = line_fits p line instruction next tree w e f in record { here = at.here; frames = at.frames };
+        fits = λ f. let at = line_fits p line instruction next tree w e f in record {
+          here = at.here;
+          frames =
+              at.frames;
+        };
       }
 
   pub rounds_go_on : (p : Place) (rounds body next : ℕ) → IsTree nodes → PlaceIsWithin (length nodes) p

@@ -69,7 +69,8 @@ kept_line : (nodes : List Node) (n : Node) (s : Sequel) → (s ≡ sequel.Other 
     → IsLine nodes n (sequels_of nodes n).next (Some (sequels_of nodes n).register) s
 kept_line nodes node.Done s known e = absurd (known (sym e))
 kept_line nodes (node.Line line instruction next) s known e =
-    let by = kept_by next (is_show instruction) (keeping_register instruction) (sequel_to (node_at nodes next)) s known e
+    let by =
+    kept_by next (is_show instruction) (keeping_register instruction) (sequel_to (node_at nodes next)) s known e
     in
     record {
       line = line;
@@ -86,7 +87,8 @@ unkept_line : (nodes : List Node) (n : Node) (s : Sequel) → (s ≡ sequel.Othe
     → (sequels_of nodes n).unkept ≡ s → IsLine nodes n (sequels_of nodes n).next None s
 unkept_line nodes node.Done s known e = absurd (known (sym e))
 unkept_line nodes (node.Line line instruction next) s known e =
-    let by = unkept_by next (is_show instruction) (keeping_register instruction) (sequel_to (node_at nodes next)) s known e
+    let by =
+    unkept_by next (is_show instruction) (keeping_register instruction) (sequel_to (node_at nodes next)) s known e
     in
     record {
       line = line;

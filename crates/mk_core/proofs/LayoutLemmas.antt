@@ -137,7 +137,8 @@ stands_in pages (Named x) h = named_stands_in pages x h
 in_turn : (pages : ℕ) (g h : LineGroup) (i j : ℕ) → StandsIn pages g i → StandsIn pages h j → rank g < rank h
     → i + 8 ≤ j
 in_turn pages g h i j sg sh lt =
-    let apart = later_group pages g h sg.within sh.within lt in let here = sg.last in let there = sh.first in omega arith
+    let apart = later_group pages g h sg.within sh.within lt in let here = sg.last in let there =
+    sh.first in omega arith
 
 pub groups_apart : LineGroupsAreApart
 groups_apart pages x y hx hy ne =

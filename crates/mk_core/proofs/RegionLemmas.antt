@@ -97,7 +97,8 @@ begins pages w h =
     let q : length (quarantine_words w.freed w.snapshot) ≡ pages = quarantine_length w.freed w.snapshot (h.freed
     ∙ sym h.snapshot) ∙ h.freed in
     let d = h.dirty in
-    let s : length (page_by_page w.dirty w.heap) ≡ 72 * length w.dirty = length_pages w.dirty w.heap (words_of_all w h) in
+    let s : length (page_by_page w.dirty w.heap)
+    ≡ 72 * length w.dirty = length_pages w.dirty w.heap (words_of_all w h) in
     let m = h.marks in let b = h.blacks in
     omega arith
 

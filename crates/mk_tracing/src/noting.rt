@@ -63,7 +63,8 @@ fn mark_under(
     }
 }
 
-/// Marks what the hand points into, in this page. Most pages are blocks for objects with pointers: then what is noted of
+/// Marks what the hand points into, in this page. Most pages are blocks for objects with pointers: then what is noted
+/// of
 /// the cell, if it wasn't marked yet, is returned, and stays in registers. Else it goes to the list.
 #[inline(always)]
 fn mark_pointed(

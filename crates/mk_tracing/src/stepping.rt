@@ -73,7 +73,8 @@ pub(crate) fn look_at_root(words: &Words, stop: &mut Stopped, pages: u64, x: Wor
     stop.look_among(words, pages, x)
 }
 
-/// Looks at a word of a gray cell of this many words, whose value is then the hand, if it isn't 0. It stands on this page
+/// Looks at a word of a gray cell of this many words, whose value is then the hand, if it isn't 0. It stands on this
+/// page
 /// of the cell. The table is of this many pages.
 #[inline(always)]
 pub(crate) fn look_at_word(

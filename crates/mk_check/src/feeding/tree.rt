@@ -271,7 +271,8 @@ impl Tree {
         &self.spots[at].sequels
     }
 
-    /// Whether a script at a node that names these alone comes to an operation before it prints, and before a block ends.
+    /// Whether a script at a node that names these alone comes to an operation before it prints, and before a block
+    /// ends.
     fn asks_first_from(&self, node: Node) -> bool
         requires { IsBelow (length self.now) node }
         ensures { result ≡ asks_first (steps_from (trees self.now) node) }

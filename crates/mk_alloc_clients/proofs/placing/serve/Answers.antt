@@ -67,14 +67,16 @@ grant-requires-clause-register c =
     let x = goal.at.grant-requires-clause-register c in
     let k = knows x.After-is_in_order in
     c.requires.register
-    ∙ sym (grant_register c.args.turn.now.pass c.args.place c.requires.goes k c.used.new.self.pass (taken x.After-used k))
+    ∙ sym (grant_register c.args.turn.now.pass c.args.place c.requires.goes k c.used.new.self.pass
+    (taken x.After-used k))
 
 pub grant-requires-clause-address : goal.grant-requires-clause-address
 grant-requires-clause-address c =
     let x = goal.at.grant-requires-clause-address c in
     let k = knows x.After-is_in_order in
     c.address.ensures ∙ ap (λ (o : Object). address_of (base_made o c.args.place) % 2 ^ 64) (sym c.requires.number)
-    ∙ sym (grant_address c.args.turn.now.pass c.args.place c.requires.goes k c.used.new.self.pass (taken x.After-used k))
+    ∙ sym (grant_address c.args.turn.now.pass c.args.place c.requires.goes k c.used.new.self.pass
+    (taken x.After-used k))
 
 pub address-requires-clause-page : goal.address-requires-clause-page
 address-requires-clause-page c =

@@ -24,7 +24,9 @@ pub loop-noted-preserved : goal.loop-noted-preserved
 loop-noted-preserved c = record {
   on = on_then c.args.stop.now c.loop-noted.stop c.is_gray.new.stop c.loop-noted.invariant.on c.is_gray.ensures.on;
   words = c.is_gray.ensures.words ∙ c.loop-noted.invariant.words;
-  noted = noted_same c.args.words.now.config.pages (still_words c.loop-noted.stop.pass) (still_words c.is_gray.new.stop.pass)
+  noted =
+      noted_same c.args.words.now.config.pages (still_words c.loop-noted.stop.pass)
+      (still_words c.is_gray.new.stop.pass)
       c.pop.new.self c.is_gray.ensures.words
       (c.pop.ensures.each c.args.words.now.config.pages (still_words c.loop-noted.stop.pass)
       c.loop-noted.invariant.noted);

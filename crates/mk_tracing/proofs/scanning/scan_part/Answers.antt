@@ -26,7 +26,8 @@ loop-group-preserved c =
     record {
       on = on_then c.args.stop.now c.loop-group.stop c.scan_group.new.stop c.loop-group.invariant.on
           c.scan_group.ensures.on;
-      scanned = scanned_then pages (still_words c.args.stop.now.pass) v x c.args.cell (8 * (8 * c.args.part)) (8 * group)
+      scanned =
+          scanned_then pages (still_words c.args.stop.now.pass) v x c.args.cell (8 * (8 * c.args.part)) (8 * group)
           (8 * (group + 1)) c.loop-group.invariant.scanned
           (group_scanned pages v x c.args.cell group c.scan_group.ensures.more c.scan_group.ensures.well);
       noted = λ h. c.scan_group.ensures.noted (c.loop-group.invariant.noted h);

@@ -13,7 +13,8 @@ blacken_cell-requires-clause-index c =
     omega arith
 
 pub returns-clause-on : goal.returns-clause-on
-returns-clause-on c = on_then c.args.stop.now c.scan_if_due-last.new.stop c.blacken_cell.new.stop c.scan_if_due-last.ensures.on
+returns-clause-on c =
+    on_then c.args.stop.now c.scan_if_due-last.new.stop c.blacken_cell.new.stop c.scan_if_due-last.ensures.on
     c.blacken_cell.ensures.on
 
 pub returns-clause-one : goal.returns-clause-one
@@ -25,7 +26,8 @@ returns-clause-one c =
 pub returns-clause-noted : goal.returns-clause-noted
 returns-clause-noted c noted =
     noted_black c.args.words.now.config.pages c.args.gray.cell.page (2 ^ c.args.gray.cell.index)
-    (still_words c.scan_if_due-last.new.stop.pass) (still_words c.blacken_cell.new.stop.pass) c.scan_if_due-last.new.work
+    (still_words c.scan_if_due-last.new.stop.pass)
+    (still_words c.blacken_cell.new.stop.pass) c.scan_if_due-last.new.work
     c.blacken_cell.ensures.words (c.scan_if_due-last.ensures.noted noted)
 
 pub returns-clause-last : goal.returns-clause-last

@@ -13,7 +13,8 @@ answer_silently-requires-clause-sequels c =
     c.sequels-sequels.ensures.value ∙ ap (λ (at : ℕ). sequels_of nodes (node_at nodes at)) c.at.ensures
 
 -- where it stops behind the line that it took
-behind : (c : After-answer_silently) (l : TakesLine c.self.inside.tree c.args.answer c.self.inside.running c.answer_silently.new.self)
+behind : (c : After-answer_silently)
+    (l : TakesLine c.self.inside.tree c.args.answer c.self.inside.running c.answer_silently.new.self)
     → StopsBehind c.self.inside.tree c.self.inside.running c.args.answer c.answer_silently.new.self
 behind c l =
     stops_at_once c.self.inside.tree c.self.inside.running c.answer_silently.new.self l.line l.instruction l.next

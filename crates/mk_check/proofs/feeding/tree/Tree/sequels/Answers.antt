@@ -8,6 +8,7 @@ use Rattle.mk_check.proofs.feeding.tree.Tree.sequels.Goals as goal
 
 pub returns-clause-value : goal.returns-clause-value
 returns-clause-value c =
-    subst (λ (nodes : List Node). c.index.result.now.sequels ≡ sequels_of nodes (node_at nodes c.args.at)) c.self.view_is
+    subst (λ (nodes : List Node). c.index.result.now.sequels
+    ≡ sequels_of nodes (node_at nodes c.args.at)) c.self.view_is
     (mark_there c.self.inside.spots.items c.args.at c.index.result.now c.self.invariant
     (subst (λ (nodes : List Node). c.args.at < length nodes) (sym c.self.view_is) c.requires) c.index.ensures).1
