@@ -28,7 +28,8 @@ wipe-requires-clause-enabled c =
     wipe_may p c.args.turn.now.op c.args.run c.is_in_order.ensures.turn c.requires.may.decided c.requires.may.stopped
     c.look_on_page-found.new.self.pass c.loop-word.word
     (looks_then p c.args.turn.now.op c.args.run c.is_in_order.ensures.turn c.requires.may.decided c.requires.may.stopped
-    c.loop-word.turn.pass c.look_on_page-found.new.self.pass c.loop-word.word c.loop-word.word c.loop-word.invariant.wiped
+    c.loop-word.turn.pass c.look_on_page-found.new.self.pass c.loop-word.word c.loop-word.word
+    c.loop-word.invariant.wiped
     (omega (arith, c.requires.group, c.loop-word-test.true)) c.requires.may.few c.requires.may.unmapped
     c.look_on_page-found.ensures.acts)
     c.requires.may.freed c.requires.may.unmapped

@@ -38,7 +38,8 @@ loop-gray-preserved c =
           (on_then c.args.stop.now c.loop-gray.stop c.next_gray.new.stop c.loop-gray.invariant.on
           c.next_gray.ensures.on) c.blacken-last.ensures.on;
       more =
-          colours_then w v (still_words c.blacken-last.new.stop.pass) c.in-Some.gray.cell more c.blacken-last.ensures.one;
+          colours_then w v (still_words c.blacken-last.new.stop.pass) c.in-Some.gray.cell more
+          c.blacken-last.ensures.one;
       last = c.blacken-last.ensures.last;
       noted = c.blacken-last.ensures.noted c.next_gray.ensures.noted;
     }

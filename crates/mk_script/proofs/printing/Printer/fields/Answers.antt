@@ -1,6 +1,6 @@
 use Rattle.mk_script.proofs.Vocabulary.{ap, arith, fields_behind, spaced_words, ◌++◌, ◌∙◌}
 use Rattle.mk_script.proofs.{Spacing.drop_next, Spacing.pointer_behind, printing.Printer.fields.Goals.in-Number}
-use Rattle.mk_script.proofs.{printing.Printer.fields.Goals.in-Pointer+in_ok-numbers-in-Pointer+in_ok-word-in-Pointer+in_ok-printer-in-Pointer}
+use Rattle.mk_script.proofs.printing.Printer.fields.Goals.{in-Pointer+in_ok-numbers-in-Pointer+in_ok-word-in-Pointer+in_ok-printer-in-Pointer}
 use Rattle.mk_script.proofs.printing.Printer.fields.Goals as goal
 
 pub loop-word-preserved : goal.loop-word-preserved

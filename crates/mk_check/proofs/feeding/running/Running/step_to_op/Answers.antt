@@ -94,7 +94,8 @@ pub returns-in-Rounds-clause-first : goal.returns-in-Rounds-clause-first
 returns-in-Rounds-clause-first c =
     let nodes = c.args.tree.now in
     λ t. ap (λ (q : Place). asks_first (steps_at (trees nodes) q.at)) c.enter.ensures
-    ∙ first_in_rounds nodes c.args.self.now c.in-Rounds.rounds c.in-Rounds.body c.in-Rounds.next c.in-Rounds.ensures.tree
+    ∙ first_in_rounds nodes c.args.self.now c.in-Rounds.rounds c.in-Rounds.body c.in-Rounds.next
+    c.in-Rounds.ensures.tree
     c.requires.within.at (rounds_here ((goal.at.returns-in-Rounds-clause-first c).In-Rounds)) c.requires.first
 
 choice_here : (c : In-Choice) → node_at c.args.tree.now c.args.self.now.at
