@@ -1,4 +1,4 @@
-use Rattle.std.proofs.Common.{◌≡◌}
+use Rattle.std.proofs.Common.{◌≡◌, vec_len}
 use Rattle.mk_tracing.specs.Grays.{MarksOn}
 use Rattle.mk_tracing.specs.Noted.{AreNoted}
 use Rattle.mk_tracing.specs.Stops.{still_words}
