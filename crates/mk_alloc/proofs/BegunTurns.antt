@@ -1,25 +1,22 @@
 -- What the engine does after each `begin` of a call under the turn.
 use Rattle.mk_alloc.proofs.Vocabulary.{Answer, BeginsNone, Config, DecidesFree, EachIsBegun, EndsOlder, Event, Has}
-use Rattle.mk_alloc.proofs.Vocabulary.{IsAtPhase, IsOutOfStop, List, Looks, Op, PassState, Seat, Some, begun_then}
+use Rattle.mk_alloc.proofs.Vocabulary.{IsAtPhase, IsOutOfStop, List, Looks, Op, PassState, Seat, Some, Step, begun_then}
 use Rattle.mk_alloc.proofs.Vocabulary.{finish_begins_none, is_begin, is_freeing, is_loading, is_look, is_take, now_of}
 use Rattle.mk_alloc.proofs.Vocabulary.{only_seen, own_before, refl, subst, sym, ⊎_elim}
+use Rattle.mk_alloc.proofs.{CalledTurns.GivenBack, CalledTurns.taken_is, Going.looks_begin_none, ListParts.none_at}
 use Rattle.mk_cycle.proofs.Begun.{HaveNoBegin, does_begin_none, step_begins_none}
 use Rattle.mk_waiting.proofs.TakesAlone.{taking_does}
-use Rattle.mk_alloc.proofs.CalledTurns.{GivenBack, taken_is}
-use Rattle.mk_alloc.proofs.Going.{looks_begin_none}
-use Rattle.mk_alloc.proofs.ListParts.{none_at}
-use Rattle.mk_core.specs.declared.events.Step.TheVariants as step
 
 taking_begins_none : HaveNoBegin is_take
-taking_begins_none step.Begin h = cc
+taking_begins_none Step.Begin h = cc
 taking_begins_none _ h = refl
 
 freeing_begins_none : HaveNoBegin is_freeing
-freeing_begins_none step.Begin h = cc
+freeing_begins_none Step.Begin h = cc
 freeing_begins_none _ h = refl
 
 loading_begins_none : HaveNoBegin is_loading
-loading_begins_none step.Begin h = cc
+loading_begins_none Step.Begin h = cc
 loading_begins_none _ h = refl
 
 module _ (begins : Config → Seat → List Event → List Event → Type 0) where
@@ -68,4 +65,4 @@ module _ (begins : Config → Seat → List Event → List Event → Type 0) whe
       begun_then begins p taken q (taken_is g.took)
       (does_begin_none begins is_take p taken taking_begins_none (taking_does p (Some o) taken g.took.own g.took.takes))
       (begun_then begins taken done q (only_seen taken done g.on.does.more g.on.does.is) inside
-      (step_begins_none begins done q step.Give (own_before g.gives) g.gives refl))
+      (step_begins_none begins done q Step.Give (own_before g.gives) g.gives refl))

@@ -2,27 +2,22 @@
 use Rattle.mk_laws.proofs.Vocabulary.{calls_from}
 use Rattle.mk_alloc.proofs.Vocabulary.{Answer, AreOfOthers, Bool, CalledInTurn, Caller, Config, Decided, Event, Flight}
 use Rattle.mk_alloc.proofs.Vocabulary.{Has, InTurn, IsFresh, IsHistory, KeepsRegisters, List, Makes, Op, PassState}
-use Rattle.mk_alloc.proofs.Vocabulary.{Seat, Some, Step, TakesTurn, TurnGoesOn, TurnOf, World, [], and_parts, ap}
+use Rattle.mk_alloc.proofs.Vocabulary.{Seat, Some, Step, TakesTurn, TurnGoesOn, TurnOf, World, ℕ, and_parts, ap}
 use Rattle.mk_alloc.proofs.Vocabulary.{append-nil, append_assoc, append_cancel_left, at_rest, by_append, call_of}
 use Rattle.mk_alloc.proofs.Vocabulary.{caller_of_pass, calls, calls_by, calls_in_parts, entry_of, event_of, false}
 use Rattle.mk_alloc.proofs.Vocabulary.{is_one_of, is_same_seat, is_take, left, list_all, made, never_behind}
 use Rattle.mk_alloc.proofs.Vocabulary.{no_more_calls, not, not-true, not_both, now_of, only_one, only_seen}
 use Rattle.mk_alloc.proofs.Vocabulary.{only_seen_by, or_cases, others_add_none, others_one, own_before, own_calls}
-use Rattle.mk_alloc.proofs.Vocabulary.{pass_before, phase_of, refl, subst, sym, true, turn_stays, waits_for, ℕ, ⊎_elim}
+use Rattle.mk_alloc.proofs.Vocabulary.{pass_before, phase_of, refl, subst, sym, true, turn_stays, waits_for, [], ⊎_elim}
 use Rattle.mk_alloc.proofs.Vocabulary.{◌&&◌, ◌++◌, ◌∙◌, ◌∷◌, ◌≡◌}
-use Rattle.mk_words.proofs.Seats.{others_own}
-use Rattle.mk_words.proofs.TurnSteps.{takes as takes_turn}
-use Rattle.mk_words.proofs.Undecided.{decides_nothing}
-use Rattle.mk_words.specs.Steps.{may_decide}
-use Rattle.mk_caller.specs.States.{never_of}
 use Rattle.mk_alloc.proofs.Decisions.{decided_in, registers_stay}
-use Rattle.mk_alloc.proofs.Going.{IsCallers}
-use Rattle.mk_alloc.proofs.ListParts.{Lacks, SomeKind}
 use Rattle.mk_alloc.proofs.OwnGives.{GivesNone, doing_gives, gives_append, others_give}
 use Rattle.mk_alloc.proofs.Parts.{in_turn_then, others_lack, seen_after, seen_by, seen_then}
-use Rattle.mk_alloc.proofs.StepKinds.{IsHolders}
+use Rattle.mk_alloc.proofs.{Going.IsCallers, ListParts.Lacks, ListParts.SomeKind, StepKinds.IsHolders}
 use Rattle.mk_alloc.specs.TurnCycles.{CallIsExact}
-use Rattle.mk_core.specs.declared.events.Step.TheVariants as step
+use Rattle.mk_caller.specs.States.{never_of}
+use Rattle.mk_words.proofs.{Seats.others_own, TurnSteps.takes as takes_turn, Undecided.decides_nothing}
+use Rattle.mk_words.specs.Steps.{may_decide}
 
 -- Waiting and taking the turn add no entry, nor does a `give`.
 
@@ -49,7 +44,7 @@ step_adds_none p q s m seat own idle =
     (of_others_alone p m.others seat own m.of_others)
 
 take_idle : (s : Step) → is_take s ≡ true → may_decide s ≡ false
-take_idle (step.Take o) h = refl
+take_idle (Step.Take o) h = refl
 take_idle _ h = cc
 
 waits_add : (p : PassState) (es more : List Event) → IsCallers p → Has p.seats p.seat → list_all (waits_for p) more
@@ -82,14 +77,14 @@ module _ {o : Op} {p taken : PassState} (x : Taken o p taken) where
   abbrev pub waited : PassState
   waited = x.takes.waited
 
-  abbrev pub taking : Makes waited (step.Take (Some o)) taken
+  abbrev pub taking : Makes waited (Step.Take (Some o)) taken
   taking = x.takes.takes.makes
 
   waited_same : waited ≡ record p { seen = waited.seen }
   waited_same = only_seen p waited x.takes.waits.more x.takes.waits.is
 
   pub taken_is : taken ≡ record p { seen = taken.seen }
-  taken_is = only_seen_by waited taken (step.Take (Some o)) taking
+  taken_is = only_seen_by waited taken (Step.Take (Some o)) taking
       ∙ ap (λ (y : PassState). record y { seen = taken.seen }) waited_same
 
   pub taken_callers : IsCallers taken
@@ -98,7 +93,7 @@ module _ {o : Op} {p taken : PassState} (x : Taken o p taken) where
   pub taken_adds : own_calls p taken.seen ≡ own_calls p p.seen
   taken_adds =
       sym (ap (λ (y : PassState). own_calls y taken.seen) waited_same)
-      ∙ step_adds_none waited taken (step.Take (Some o)) taking
+      ∙ step_adds_none waited taken (Step.Take (Some o)) taking
       (subst (λ (y : PassState). IsCallers y) (sym waited_same) x.seat) (own_before taking) refl
       ∙ ap (λ (y : PassState). own_calls y waited.seen) waited_same
       ∙ ap (λ (y : PassState). own_calls p y.seen) x.takes.waits.is
@@ -118,7 +113,7 @@ module _ {o : Op} {p taken : PassState} (x : Taken o p taken) where
       }
 
   abbrev pub to_taken : List Event
-  to_taken = x.takes.waits.more ++ (taking.others ++ event_of waited (step.Take (Some o)) ∷ [])
+  to_taken = x.takes.waits.more ++ (taking.others ++ event_of waited (Step.Take (Some o)) ∷ [])
 
   pub taken_seen : taken.seen ≡ p.seen ++ to_taken
   taken_seen =
@@ -152,7 +147,7 @@ pub record GivenBack (o : Op) (a : Answer) (p taken done q : PassState) : Type 0
   pub took : Taken o p taken
   pub fresh : IsFresh taken (Some o)
   pub on : TurnGoesOn (Some a) taken done
-  pub gives : Makes done step.Give q
+  pub gives : Makes done Step.Give q
   pub rests : call_of q ≡ at_rest
 
 module _ {o : Op} {a : Answer} {p taken done q : PassState} (g : GivenBack o a p taken done q) where
@@ -168,7 +163,7 @@ module _ {o : Op} {a : Answer} {p taken done q : PassState} (g : GivenBack o a p
   in_turn = g.on.does.more ++ g.gives.others
 
   abbrev more : List Event
-  more = to_taken g.took ++ (g.on.does.more ++ (g.gives.others ++ event_of done step.Give ∷ []))
+  more = to_taken g.took ++ (g.on.does.more ++ (g.gives.others ++ event_of done Step.Give ∷ []))
 
   seen_is : q.seen ≡ p.seen ++ more
   seen_is =
@@ -177,14 +172,14 @@ module _ {o : Op} {a : Answer} {p taken done q : PassState} (g : GivenBack o a p
 
   pub q_is : q ≡ record p { seen = p.seen ++ more }
   q_is =
-      only_seen_by done q step.Give g.gives ∙ ap (λ (y : PassState). record y { seen = q.seen }) done_is
+      only_seen_by done q Step.Give g.gives ∙ ap (λ (y : PassState). record y { seen = q.seen }) done_is
       ∙ ap (λ (l : List Event). record p { seen = l }) seen_is
 
   pub entry : own_calls p (p.seen ++ more) ≡ own_calls p p.seen ++ entry_of (caller_of_pass p) o (Some a)
   entry =
       ap (λ (l : List Event). own_calls p l) (sym seen_is)
       ∙ sym (ap (λ (y : PassState). own_calls y q.seen) done_is)
-      ∙ step_adds_none done q step.Give g.gives
+      ∙ step_adds_none done q Step.Give g.gives
       (subst (λ (y : PassState). IsCallers y) (sym done_is) g.took.seat) (own_before g.gives) refl
       ∙ ap (λ (y : PassState). own_calls y done.seen)
       (done_is ∙ sym (ap (λ (y : PassState). record y { seen = done.seen }) (taken_is g.took)))
@@ -199,15 +194,15 @@ module _ {o : Op} {a : Answer} {p taken done q : PassState} (g : GivenBack o a p
 
   -- what the turn has seen after its `take`
   pub within_is : (part : List Event)
-      → taken.seen ++ part ≡ took_at ++ record { seat = p.seat; step = step.Take (Some o) } ∷ part
+      → taken.seen ++ part ≡ took_at ++ record { seat = p.seat; step = Step.Take (Some o) } ∷ part
   within_is part =
       ap (λ (y : PassState). y.seen ++ part) (taking g.took).is
-      ∙ ap (λ (y : PassState). (took_at ++ record { seat = y.seat; step = step.Take (Some o) } ∷ []) ++ part)
+      ∙ ap (λ (y : PassState). (took_at ++ record { seat = y.seat; step = Step.Take (Some o) } ∷ []) ++ part)
       (waited_same g.took)
-      ∙ append_assoc took_at (record { seat = p.seat; step = step.Take (Some o) } ∷ []) part
+      ∙ append_assoc took_at (record { seat = p.seat; step = Step.Take (Some o) } ∷ []) part
 
   pub turn_is : done.seen ++ g.gives.others
-      ≡ took_at ++ record { seat = p.seat; step = step.Take (Some o) } ∷ in_turn
+      ≡ took_at ++ record { seat = p.seat; step = Step.Take (Some o) } ∷ in_turn
   turn_is =
       ap (λ (l : List Event). l ++ g.gives.others) (seen_by g.on.does)
       ∙ append_assoc taken.seen g.on.does.more g.gives.others ∙ within_is in_turn
@@ -216,7 +211,7 @@ module _ {o : Op} {a : Answer} {p taken done q : PassState} (g : GivenBack o a p
   given_turn = in_turn_then turn_stays taken done (λ y h. h) (taken_turn g.took) g.on.does (pass_before g.gives).history
 
   pub lacks_given : (kind : SomeKind) → IsHolders kind → Lacks kind g.gives.others
-  lacks_given kind holders = others_lack kind done q step.Give holders given_turn g.gives g.gives.pass.history
+  lacks_given kind holders = others_lack kind done q Step.Give holders given_turn g.gives g.gives.pass.history
 
   pub turn_took : (left p.table.config took_at).now.words.turn ≡ 0
   turn_took =
@@ -234,7 +229,7 @@ module _ {o : Op} {a : Answer} {p taken done q : PassState} (g : GivenBack o a p
   pub phase_taken : phase_of (left p.table.config took_at).now.words ≡ phase_of (now_of taken).words
   phase_taken =
       sym (ap (λ (w : World). phase_of w.now.words)
-      (made (waited g.took) (step.Take (Some o)) taken (taking g.took)).world
+      (made (waited g.took) (Step.Take (Some o)) taken (taking g.took)).world
       ∙ ap (λ (y : PassState). phase_of (left y.table.config took_at).now.words) (waited_same g.took))
 
   -- the turn after its last event

@@ -1,65 +1,63 @@
 -- Stretches of a turn that isn't for an undecided Free, in which nothing is granted and no New is full: no call of the
 -- holder's is decided, and up to a `release` the unreleased storage stays as it is.
 use Rattle.mk_alloc.proofs.Vocabulary.{AreOfOthers, Caller, Cell, Config, Decided, Event, Flight, Has, List, Moment}
-use Rattle.mk_alloc.proofs.Vocabulary.{Option, PassState, PlacedAllocation, Steady, Step, Storage, World, []}
+use Rattle.mk_alloc.proofs.Vocabulary.{Option, PassState, PlacedAllocation, Steady, Step, Storage, World, ℕ}
 use Rattle.mk_alloc.proofs.Vocabulary.{allocations_by, ap, caller_of_pass, calls_by, event_of, false, flight_of}
 use Rattle.mk_alloc.proofs.Vocabulary.{freed_where_it_stands, frees_none, is_pending_free, left, left_after, map}
 use Rattle.mk_alloc.proofs.Vocabulary.{no_more_calls, none_freed, only_one, others_add_none, others_one, own_calls}
-use Rattle.mk_alloc.proofs.Vocabulary.{progress, refl, still, sym, true, unreleased_storage, ℕ, ◌++◌, ◌∙◌, ◌∷◌, ◌≡◌}
+use Rattle.mk_alloc.proofs.Vocabulary.{progress, refl, still, sym, true, unreleased_storage, [], ◌++◌, ◌∙◌, ◌∷◌, ◌≡◌}
 use Rattle.mk_alloc.proofs.Vocabulary.{◌≢◌}
 use Rattle.mk_core.proofs.ChangedAllocations.{fresh_storage}
 use Rattle.mk_laws.proofs.Protocols.{protocol_of}
-use Rattle.mk_cycle.proofs.Calm.{calm_still}
-use Rattle.mk_cycle.proofs.OwnSteps.{flight_behind, undecided}
 use Rattle.mk_alloc.proofs.Stretches.{AreOfTurn, Here, SomeKinds, Stretch, Within, along, call_in}
-use Rattle.mk_core.specs.declared.events.Step.TheVariants as step
+use Rattle.mk_cycle.proofs.{Calm.calm_still, OwnSteps.flight_behind, OwnSteps.undecided}
 
 -- the steps of cycles, and those that leave the unreleased storage
 
 abbrev pub is_of_cycles : SomeKinds
-is_of_cycles (step.Look x) = true
-is_of_cycles (step.Quar p v) = true
-is_of_cycles (step.Tally n v) = true
-is_of_cycles (step.Hold j) = true
-is_of_cycles (step.Open j) = true
-is_of_cycles (step.Clear p) = true
-is_of_cycles (step.Wipe n) = true
-is_of_cycles (step.Mark p v) = true
-is_of_cycles (step.Head p v) = true
-is_of_cycles (step.Used p v) = true
-is_of_cycles step.Begin = true
-is_of_cycles step.Want = true
-is_of_cycles step.Close = true
-is_of_cycles step.Release = true
-is_of_cycles step.End = true
-is_of_cycles (step.Undirty p) = true
-is_of_cycles (step.Black p v) = true
-is_of_cycles (step.Unblack p) = true
+is_of_cycles (Step.Look x) = true
+is_of_cycles (Step.Quar p v) = true
+is_of_cycles (Step.Tally n v) = true
+is_of_cycles (Step.Hold j) = true
+is_of_cycles (Step.Open j) = true
+is_of_cycles (Step.Clear p) = true
+is_of_cycles (Step.Wipe n) = true
+is_of_cycles (Step.Mark p v) = true
+is_of_cycles (Step.Head p v) = true
+is_of_cycles (Step.Used p v) = true
+is_of_cycles Step.Begin = true
+is_of_cycles Step.Want = true
+is_of_cycles Step.Close = true
+is_of_cycles Step.Release = true
+is_of_cycles Step.End = true
+is_of_cycles (Step.Undirty p) = true
+is_of_cycles (Step.Black p v) = true
+is_of_cycles (Step.Unblack p) = true
 is_of_cycles _ = false
 
 abbrev pub releases_none : SomeKinds
-releases_none step.Release = false
+releases_none Step.Release = false
 releases_none x = is_of_cycles x
 
 pub cycles_in_turn : AreOfTurn is_of_cycles
-cycles_in_turn (step.Take o) h = cc
-cycles_in_turn step.Give h = cc
-cycles_in_turn (step.Enter o) h = cc
-cycles_in_turn step.Leave h = cc
+cycles_in_turn (Step.Take o) h = cc
+cycles_in_turn Step.Give h = cc
+cycles_in_turn (Step.Enter o) h = cc
+cycles_in_turn Step.Leave h = cc
 cycles_in_turn x h = refl
 
 pub of_turn : {kinds : SomeKinds} → Within kinds is_of_cycles → AreOfTurn kinds
 of_turn within x h = cycles_in_turn x (within x h)
 
 pub of_cycles : Within releases_none is_of_cycles
-of_cycles step.Release h = cc
+of_cycles Step.Release h = cc
 of_cycles x h = h
 
 pub cycle_still : (c : Config) (m : Moment) (f : Flight) (n : ℕ) (x : Step) → is_of_cycles x ≡ true → is_pending_free f
     ≡ false
     → progress c m f n x ≡ still f
-cycle_still c m f n (step.Look x) h free = calm_still c m f n (step.Look x) refl free
-cycle_still c m f n (step.Quar p v) h free = calm_still c m f n (step.Quar p v) refl free
+cycle_still c m f n (Step.Look x) h free = calm_still c m f n (Step.Look x) refl free
+cycle_still c m f n (Step.Quar p v) h free = calm_still c m f n (Step.Quar p v) refl free
 cycle_still c m f n _ h free = cc
 
 -- The holder's call stays as it is, and none of its calls is decided.
@@ -117,13 +115,13 @@ storage_in p es = unreleased_storage p.table.config (left p.table.config es).all
 
 storage_by : (c : Config) (m : Moment) (f : Flight) (x : Step) (xs : List PlacedAllocation) → releases_none x ≡ true
     → is_pending_free f ≡ false → unreleased_storage c (allocations_by c m f x xs) ≡ unreleased_storage c xs
-storage_by c m f (step.Quar p v) xs h free =
+storage_by c m f (Step.Quar p v) xs h free =
     ap (λ (cell : Option Cell). unreleased_storage c (map (freed_where_it_stands m.words cell) xs))
     (frees_none c.pages m.words f p v free)
     ∙ ap (λ (ys : List PlacedAllocation). unreleased_storage c ys) (none_freed m.words xs)
-storage_by c m f step.Begin xs h free = fresh_storage c xs
-storage_by c m f step.Grant xs h free = cc
-storage_by c m f step.Release xs h free = cc
+storage_by c m f Step.Begin xs h free = fresh_storage c xs
+storage_by c m f Step.Grant xs h free = cc
+storage_by c m f Step.Release xs h free = cc
 storage_by c m f x xs h free = refl
 
 -- stays where nothing is released, at each event.

@@ -1,85 +1,72 @@
 -- The three steps of a Full: the tally is looked at, raised, and the New decided.
-use Rattle.std.specs.Prelude.{min}
-use Rattle.mk_laws.proofs.Vocabulary.{◌-◌, ◌^◌}
+use Rattle.std.proofs.Common.{min}
+use Rattle.mk_laws.proofs.Vocabulary.{Tally, Word, ◌-◌, ◌^◌}
 use Rattle.mk_alloc.proofs.Vocabulary.{Acts, Answer, AnswersFull, BeginsNone, Caller, Config, Decided, Does, Done}
 use Rattle.mk_alloc.proofs.Vocabulary.{Ended, Event, Flight, Holding, IsAtPhase, IsQuiet, IsUnplaced, LeavesTurn, List}
-use Rattle.mk_alloc.proofs.Vocabulary.{Moment, None, Option, PassState, Placing, RunPages, Seat, Some, Steady, World}
-use Rattle.mk_alloc.proofs.Vocabulary.{[], answer_decided, ap, arith, asks_room, by_append, call_decided, call_of}
-use Rattle.mk_alloc.proofs.Vocabulary.{caller_of_pass, calls, calls_by, calls_more, calm_keeps, cond, does_step}
-use Rattle.mk_alloc.proofs.Vocabulary.{does_then, does_wider, ends, entry_of, event_of, false, first_world, free_then}
-use Rattle.mk_alloc.proofs.Vocabulary.{full_answers, fulls_append, fulls_of, gates_behind, has_place, in_a_word}
-use Rattle.mk_alloc.proofs.Vocabulary.{is_begin, is_end, is_pending_free_at, is_run_gone, left, lets_go, made, now_of}
-use Rattle.mk_alloc.proofs.Vocabulary.{object_for, object_made, others_add_none, own_before, own_calls, place_now_for}
-use Rattle.mk_alloc.proofs.Vocabulary.{refl, same_config, steady_of, subst, sum_by_push, sym, true, turn_stays}
-use Rattle.mk_alloc.proofs.Vocabulary.{unchanged, world_of, ℕ, ◌++◌, ◌+◌, ◌∙◌, ◌∷◌, ◌≡◌}
-use Rattle.mk_words.specs.Steps.{Finds}
-use Rattle.mk_caller.proofs.OwnSteps.{own_entry}
-use Rattle.mk_cycle.proofs.KeptInParts.{gates_then}
-use Rattle.mk_cycle.specs.TurnKeeps.{done_of}
-use Rattle.mk_alloc.proofs.CalledTurns.{of_others_alone, step_adds_none}
-use Rattle.mk_alloc.proofs.FullLeaves.{leaves_then, made_leaves}
-use Rattle.mk_alloc.proofs.Going.{IsCallers}
-use Rattle.mk_alloc.proofs.GrantParts.{calm_last}
-use Rattle.mk_alloc.proofs.OneCycles.{begins_none_by}
-use Rattle.mk_alloc.proofs.Parts.{Part, before_act}
-use Rattle.mk_alloc.proofs.PlacedTurns.{none_freed_yet}
+use Rattle.mk_alloc.proofs.Vocabulary.{Moment, None, Option, PassState, Placing, RunPages, Seat, Some, Stage, Steady}
+use Rattle.mk_alloc.proofs.Vocabulary.{Step, World, ℕ, answer_decided, ap, arith, asks_room, by_append, call_decided}
+use Rattle.mk_alloc.proofs.Vocabulary.{call_of, caller_of_pass, calls, calls_by, calls_more, calm_keeps, cond}
+use Rattle.mk_alloc.proofs.Vocabulary.{does_step, does_then, does_wider, ends, entry_of, event_of, false, first_world}
+use Rattle.mk_alloc.proofs.Vocabulary.{free_then, full_answers, fulls_append, fulls_of, gates_behind, has_place}
+use Rattle.mk_alloc.proofs.Vocabulary.{in_a_word, is_begin, is_end, is_pending_free_at, is_run_gone, left, lets_go}
+use Rattle.mk_alloc.proofs.Vocabulary.{made, now_of, object_for, object_made, others_add_none, own_before, own_calls}
+use Rattle.mk_alloc.proofs.Vocabulary.{place_now_for, refl, same_config, steady_of, subst, sum_by_push, sym, true}
+use Rattle.mk_alloc.proofs.Vocabulary.{turn_stays, unchanged, world_of, [], ◌++◌, ◌+◌, ◌∙◌, ◌∷◌, ◌≡◌}
 use Rattle.mk_alloc.proofs.QuietTurns.{but_full, exact_kept, none_held_kept, same_phase, tidy_kept}
-use Rattle.mk_alloc.proofs.RetiredTurns.{given_is_decided}
-use Rattle.mk_alloc.proofs.RoomParts.{room_lacks}
 use Rattle.mk_alloc.proofs.SeekingTurns.{new_callers, still_nowhere, unplaced_kept}
-use Rattle.mk_alloc.proofs.StepKinds.{AreApart}
-use Rattle.mk_alloc.proofs.Stretches.{AreOfTurn, SomeKinds}
-use Rattle.mk_core.specs.declared.events.Answer.TheVariants as answer
-use Rattle.mk_core.specs.declared.events.Step.TheVariants as step
-use Rattle.mk_core.specs.declared.events.Tally.TheVariants as tally
-use Rattle.mk_core.specs.declared.events.Word.TheVariants as word
-use Rattle.mk_core.specs.declared.seats.Stage.TheVariants as stage
+use Rattle.mk_alloc.proofs.{CalledTurns.of_others_alone, CalledTurns.step_adds_none, FullLeaves.leaves_then}
+use Rattle.mk_alloc.proofs.{FullLeaves.made_leaves, Going.IsCallers, GrantParts.calm_last, OneCycles.begins_none_by}
+use Rattle.mk_alloc.proofs.{Parts.Part, Parts.before_act, PlacedTurns.none_freed_yet, RetiredTurns.given_is_decided}
+use Rattle.mk_alloc.proofs.{RoomParts.room_lacks, StepKinds.AreApart, Stretches.AreOfTurn, Stretches.SomeKinds}
+use Rattle.mk_caller.proofs.OwnSteps.{own_entry}
+use Rattle.mk_cycle.{proofs.KeptInParts.gates_then, specs.TurnKeeps.done_of}
+use Rattle.mk_words.specs.Steps.{Finds}
 
 counts_full : SomeKinds
-counts_full (step.Look x) = true
-counts_full (step.Tally n v) = true
-counts_full step.Full = true
+counts_full (Step.Look x) = true
+counts_full (Step.Tally n v) = true
+counts_full Step.Full = true
 counts_full _ = false
 
 counting_stays : AreOfTurn counts_full
 unfolding counts_full
-counting_stays step.Begin h = cc
+counting_stays Step.Begin h = cc
 counting_stays _ h = cc
 
 counting_no_begin : AreApart counts_full is_begin
 unfolding counts_full
-counting_no_begin step.Begin h = cc
+counting_no_begin Step.Begin h = cc
 counting_no_begin _ h = refl
 
 counting_no_room : AreApart counts_full asks_room
 unfolding counts_full
-counting_no_room step.Begin h = cc
+counting_no_room Step.Begin h = cc
 counting_no_room _ h = cc
 
 counting_lets_none_go : AreApart counts_full lets_go
 unfolding counts_full
-counting_lets_none_go step.Begin h = cc
+counting_lets_none_go Step.Begin h = cc
 counting_lets_none_go _ h = cc
 
 answers : (c : Config) (m : Moment) (seat : Seat) (k : ℕ) → seat ≡ Caller k
-    → answer_decided c m (record { seat = seat; step = step.Full }) ≡ Some answer.Full
+    → answer_decided c m (record { seat = seat; step = Step.Full }) ≡ Some Answer.Full
 answers c m seat k is =
-    subst (λ (s : Seat). answer_decided c m (record { seat = s; step = step.Full }) ≡ Some answer.Full) (sym is) refl
+    subst (λ (s : Seat). answer_decided c m (record { seat = s; step = Step.Full }) ≡ Some Answer.Full) (sym is) refl
 
 raised_so : (n v f g : ℕ) → n ≡ in_a_word f → v ≡ min (n + 1) (2 ^ 64 - 1) → g ≡ f + 1 → v ≡ in_a_word g
 raised_so n v f g is raised more = omega arith
 
 -- the looks and the tally before
 module _ {p p1 p2 : PassState} {n v : ℕ} (quiet : IsQuiet p) (u : IsUnplaced p)
-    (look : Acts p (step.Look word.Full) p1) (finds : Finds p (step.Look word.Full) n p1)
-    (tallies : Acts p1 (step.Tally tally.Full v) p2) where
+    (look : Acts p (Step.Look Word.Full) p1) (finds : Finds p (Step.Look Word.Full) n p1)
+    (tallies : Acts p1 (Step.Tally Tally.Full v) p2) where
   k1 : LeavesTurn unchanged p p1
   k1 =
-      calm_keeps p (step.Look word.Full) p1 look
+      calm_keeps p (Step.Look Word.Full) p1 look
       (before_act look) look.makes.pass.history refl quiet.free unchanged refl
 
   k2 : LeavesTurn but_full p1 p2
-  k2 = calm_keeps p1 (step.Tally tally.Full v) p2 tallies (before_act tallies) tallies.makes.pass.history refl
+  k2 = calm_keeps p1 (Step.Tally Tally.Full v) p2 tallies (before_act tallies) tallies.makes.pass.history refl
       (free_then p p1 k1.call quiet.free) but_full refl
 
   steady : but_full (steady_of (world_of p2)) ≡ but_full (steady_of (world_of p))
@@ -91,7 +78,7 @@ module _ {p p1 p2 : PassState} {n v : ℕ} (quiet : IsQuiet p) (u : IsUnplaced p
   found : n ≡ (now_of p).words.full
   found =
       finds.finds ∙ ap (λ (s : Steady). s.full)
-      (((made p (step.Look word.Full) p1 finds.makes).frame.turn look.holds).0).steady
+      (((made p (Step.Look Word.Full) p1 finds.makes).frame.turn look.holds).0).steady
 
   tally_is : (now_of p2).words.full ≡ v
   tally_is = ap (λ (w : World). w.now.words.full) tallies.world
@@ -118,7 +105,7 @@ module _ {p p1 p2 : PassState} {n v : ℕ} (quiet : IsQuiet p) (u : IsUnplaced p
       (ap (λ (x : PassState). object_made x.table.config (call_of p2).op) same_pass
       ∙ ap (λ (f : Flight). object_made p.table.config f.op) call_same) none
 
-  module _ {q : PassState} (full : Acts p2 step.Full q) (raised : v ≡ min (n + 1) (2 ^ 64 - 1)) where
+  module _ {q : PassState} (full : Acts p2 Step.Full q) (raised : v ≡ min (n + 1) (2 ^ 64 - 1)) where
     seat : IsCallers p
     seat = new_callers p u
 
@@ -131,13 +118,13 @@ module _ {p p1 p2 : PassState} {n v : ℕ} (quiet : IsQuiet p) (u : IsUnplaced p
     pass_q : q ≡ record p { seen = q.seen }
     pass_q =
         full.makes.is ∙ ap (λ (x : PassState). record x
-        { seen = p2.seen ++ full.makes.others ++ event_of x step.Full ∷ [] }) same_pass
+        { seen = p2.seen ++ full.makes.others ++ event_of x Step.Full ∷ [] }) same_pass
         ∙ ap (λ (l : List Event). record p { seen = l })
-        (ap (λ (x : PassState). p2.seen ++ full.makes.others ++ event_of x step.Full ∷ []) (sym same_pass)
+        (ap (λ (x : PassState). p2.seen ++ full.makes.others ++ event_of x Step.Full ∷ []) (sym same_pass)
         ∙ sym (ap (λ (x : PassState). x.seen) full.makes.is))
 
-    call_q : call_of q ≡ record (call_of p) { stage = stage.Give }
-    call_q = full.call (caller_of_pass p2) seat2 ∙ ap (λ (f : Flight). record f { stage = stage.Give }) call_same
+    call_q : call_of q ≡ record (call_of p) { stage = Stage.Give }
+    call_q = full.call (caller_of_pass p2) seat2 ∙ ap (λ (f : Flight). record f { stage = Stage.Give }) call_same
 
     holding_q : (now_of q).seats.holding ≡ (now_of p2).seats.holding
     holding_q = ap (λ (w : World). w.now.seats.holding) full.world ∙ full.holding
@@ -146,7 +133,7 @@ module _ {p p1 p2 : PassState} {n v : ℕ} (quiet : IsQuiet p) (u : IsUnplaced p
     es = p2.seen ++ full.makes.others
 
     abbrev e : Event
-    e = event_of p2 step.Full
+    e = event_of p2 Step.Full
 
     seen_q : q.seen ≡ es ++ e ∷ []
     seen_q = ap (λ (x : PassState). x.seen) full.makes.is
@@ -155,7 +142,7 @@ module _ {p p1 p2 : PassState} {n v : ℕ} (quiet : IsQuiet p) (u : IsUnplaced p
     config2 = ap (λ (x : PassState). x.table.config) same_pass
 
     decides : call_decided p2.table.config (left p2.table.config es).now e
-        ≡ entry_of (caller_of_pass p2) (call_of p2).op (Some answer.Full)
+        ≡ entry_of (caller_of_pass p2) (call_of p2).op (Some Answer.Full)
     decides =
         ap (λ (f : Flight). entry_of (caller_of_pass p2) f.op
         (answer_decided p2.table.config (left p2.table.config es).now e)) full.own.flight
@@ -185,7 +172,7 @@ module _ {p p1 p2 : PassState} {n v : ℕ} (quiet : IsQuiet p) (u : IsUnplaced p
         ∙ ap (λ (l : List Event). full_answers p2.table.config l) seen_q in
         omega arith
 
-    entry : own_calls p q.seen ≡ own_calls p p.seen ++ entry_of (caller_of_pass p) (call_of p).op (Some answer.Full)
+    entry : own_calls p q.seen ≡ own_calls p p.seen ++ entry_of (caller_of_pass p) (call_of p).op (Some Answer.Full)
     entry =
         sym (ap (λ (x : PassState). own_calls x q.seen) same_pass)
         ∙ ap (λ (l : List Event). own_calls p2 l) seen_q
@@ -199,16 +186,16 @@ module _ {p p1 p2 : PassState} {n v : ℕ} (quiet : IsQuiet p) (u : IsUnplaced p
         (of_others_alone p2 full.makes.others seat2 (own_before full.makes) full.makes.of_others))
         ∙ ap (λ (l : List Decided). own_calls p2 p2.seen ++ calls_by (caller_of_pass p2) l) decides
         ∙ ap (λ (l : List Decided). own_calls p2 p2.seen ++ l)
-        (own_entry (caller_of_pass p2) (call_of p2).op (Some answer.Full))
-        ∙ ap (λ (f : Flight). own_calls p2 p2.seen ++ entry_of (caller_of_pass p2) f.op (Some answer.Full)) call_same
-        ∙ ap (λ (x : PassState). own_calls x p2.seen ++ entry_of (caller_of_pass x) (call_of p).op (Some answer.Full))
+        (own_entry (caller_of_pass p2) (call_of p2).op (Some Answer.Full))
+        ∙ ap (λ (f : Flight). own_calls p2 p2.seen ++ entry_of (caller_of_pass p2) f.op (Some Answer.Full)) call_same
+        ∙ ap (λ (x : PassState). own_calls x p2.seen ++ entry_of (caller_of_pass x) (call_of p).op (Some Answer.Full))
         same_pass
-        ∙ ap (λ (l : List Decided). l ++ entry_of (caller_of_pass p) (call_of p).op (Some answer.Full))
+        ∙ ap (λ (l : List Decided). l ++ entry_of (caller_of_pass p) (call_of p).op (Some Answer.Full))
         (sym (ap (λ (x : PassState). own_calls x p2.seen) k1.call.pass)
-        ∙ step_adds_none p1 p2 (step.Tally tally.Full v) tallies.makes
+        ∙ step_adds_none p1 p2 (Step.Tally Tally.Full v) tallies.makes
         (subst (λ (x : PassState). IsCallers x) (sym k1.call.pass) seat) (own_before tallies.makes) refl
         ∙ ap (λ (x : PassState). own_calls x p1.seen) k1.call.pass
-        ∙ step_adds_none p p1 (step.Look word.Full) look.makes seat (own_before look.makes) refl)
+        ∙ step_adds_none p p1 (Step.Look Word.Full) look.makes seat (own_before look.makes) refl)
 
     all_steady : but_full (steady_of (world_of q)) ≡ but_full (steady_of (world_of p))
     all_steady = ap but_full steady_q ∙ steady
@@ -234,9 +221,9 @@ module _ {p p1 p2 : PassState} {n v : ℕ} (quiet : IsQuiet p) (u : IsUnplaced p
           phase = same_phase p q (ap (λ (s : Steady). s.phase) all_steady) quiet.phase;
           gates =
               none_held_kept p q pass_q
-              (gates_then p p1 q k1.call.pass (gates_behind p (step.Look word.Full) p1 look refl)
-              (gates_then p1 p2 q k2.call.pass (gates_behind p1 (step.Tally tally.Full v) p2 tallies refl)
-              (gates_behind p2 step.Full q full refl)))
+              (gates_then p p1 q k1.call.pass (gates_behind p (Step.Look Word.Full) p1 look refl)
+              (gates_then p1 p2 q k2.call.pass (gates_behind p1 (Step.Tally Tally.Full v) p2 tallies refl)
+              (gates_behind p2 Step.Full q full refl)))
               quiet.gates;
           exact = exact_kept p q pass_q all_steady quiet.exact;
           tidy = tidy_kept p q all_steady ends_q
@@ -250,9 +237,9 @@ module _ {p p1 p2 : PassState} {n v : ℕ} (quiet : IsQuiet p) (u : IsUnplaced p
     does : Does counts_full p q
     unfolding counts_full
     does =
-        does_then counts_full p p1 q (does_step counts_full p p1 (step.Look word.Full) look.makes refl)
-        (does_then counts_full p1 p2 q (does_step counts_full p1 p2 (step.Tally tally.Full v) tallies.makes refl)
-        (does_step counts_full p2 q step.Full full.makes refl))
+        does_then counts_full p p1 q (does_step counts_full p p1 (Step.Look Word.Full) look.makes refl)
+        (does_then counts_full p1 p2 q (does_step counts_full p1 p2 (Step.Tally Tally.Full v) tallies.makes refl)
+        (does_step counts_full p2 q Step.Full full.makes refl))
 
     part : Part counts_full p q
     part = record { turn = before_act look; stays = counting_stays; does = does; history = full.makes.pass.history }
@@ -279,7 +266,7 @@ module _ {p p1 p2 : PassState} {n v : ℕ} (quiet : IsQuiet p) (u : IsUnplaced p
           };
           before = es;
           behind = [];
-          is = seen_q ∙ ap (λ (x : PassState). es ++ event_of x step.Full ∷ []) same_pass;
+          is = seen_q ∙ ap (λ (x : PassState). es ++ event_of x Step.Full ∷ []) same_pass;
           allocations = allocations_q;
           leaves = leaves_then p p1 q k1.call.pass (made_leaves look.makes refl refl)
               (leaves_then p1 p2 q k2.call.pass (made_leaves tallies.makes refl refl)

@@ -1,124 +1,122 @@
 -- The events of a cycle's parts: where its `begin` stands, and where it is closed, released and ended.
 use Rattle.mk_alloc.proofs.Vocabulary.{BeginsCycle, Does, Event, FinishesCycle, Has, InTurn, IsHistory, List, PassState}
-use Rattle.mk_alloc.proofs.Vocabulary.{[], ap, append_assoc, begins_marking, clears, closes_marks, does_step, does_then}
-use Rattle.mk_alloc.proofs.Vocabulary.{does_wider, event_of, false, finishes, holds_gates, is_begin, is_close, is_end}
-use Rattle.mk_alloc.proofs.Vocabulary.{is_giving_back, is_release, is_want, pass_before, refl, sets_tallies, sym, true}
-use Rattle.mk_alloc.proofs.Vocabulary.{◌++◌, ◌∙◌, ◌∷◌, ◌≡◌}
+use Rattle.mk_alloc.proofs.Vocabulary.{Step, ap, append_assoc, begins_marking, clears, closes_marks, does_step}
+use Rattle.mk_alloc.proofs.Vocabulary.{does_then, does_wider, event_of, false, finishes, holds_gates, is_begin}
+use Rattle.mk_alloc.proofs.Vocabulary.{is_close, is_end, is_giving_back, is_release, is_want, pass_before, refl}
+use Rattle.mk_alloc.proofs.Vocabulary.{sets_tallies, sym, true, [], ◌++◌, ◌∙◌, ◌∷◌, ◌≡◌}
 use Rattle.mk_alloc.proofs.CalmStretches.{is_of_cycles, of_turn}
 use Rattle.mk_alloc.proofs.ListParts.{Lacks, lacks_in_parts}
 use Rattle.mk_alloc.proofs.Parts.{Part, behind_part, nothing_part, part_lacks, seen_behind, seen_then, step_behind}
-use Rattle.mk_alloc.proofs.StepKinds.{AreApart, IsHolders}
-use Rattle.mk_alloc.proofs.Stretches.{SomeKinds, Within}
-use Rattle.mk_core.specs.declared.events.Step.TheVariants as step
+use Rattle.mk_alloc.proofs.{StepKinds.AreApart, StepKinds.IsHolders, Stretches.SomeKinds, Stretches.Within}
 
 -- The kinds of the parts are of cycles. Up to a `close` nothing is released, and after it no room is asked for.
 
 abbrev pub ends_marking : SomeKinds
-ends_marking step.Begin = false
-ends_marking step.Close = false
-ends_marking step.Release = false
-ends_marking step.End = false
+ends_marking Step.Begin = false
+ends_marking Step.Close = false
+ends_marking Step.Release = false
+ends_marking Step.End = false
 ends_marking x = is_of_cycles x
 
 abbrev pub gives_room : SomeKinds
-gives_room step.Begin = false
-gives_room step.Want = false
+gives_room Step.Begin = false
+gives_room Step.Want = false
 gives_room x = is_of_cycles x
 
 pub clears_of : Within clears is_of_cycles
-clears_of step.Begin h = refl
+clears_of Step.Begin h = refl
 clears_of _ h = cc
 
 pub begins_of : Within begins_marking is_of_cycles
-begins_of step.Begin h = refl
+begins_of Step.Begin h = refl
 begins_of _ h = cc
 
 gives_of : Within is_giving_back is_of_cycles
-gives_of step.Begin h = refl
+gives_of Step.Begin h = refl
 gives_of _ h = cc
 
 marking_of : Within ends_marking is_of_cycles
-marking_of step.Begin h = refl
+marking_of Step.Begin h = refl
 marking_of _ h = cc
 
 pub room_of : Within gives_room is_of_cycles
-room_of step.Begin h = refl
+room_of Step.Begin h = refl
 room_of _ h = cc
 
 holds_end : Within holds_gates ends_marking
-holds_end step.Begin h = cc
+holds_end Step.Begin h = cc
 holds_end _ h = cc
 
 closes_end : Within closes_marks ends_marking
-closes_end step.Begin h = cc
+closes_end Step.Begin h = cc
 closes_end _ h = cc
 
 gives_back : Within is_giving_back gives_room
-gives_back step.Begin h = cc
+gives_back Step.Begin h = cc
 gives_back _ h = cc
 
 tallies_back : Within sets_tallies gives_room
-tallies_back step.Begin h = cc
+tallies_back Step.Begin h = cc
 tallies_back _ h = cc
 
 -- The kinds of a cycle's own steps are the holder's.
 
 pub begins_held : IsHolders is_begin
-begins_held step.Begin h = cc
+begins_held Step.Begin h = cc
 begins_held _ h = refl
 
 closes_held : IsHolders is_close
-closes_held step.Close h = cc
+closes_held Step.Close h = cc
 closes_held _ h = refl
 
 releases_held : IsHolders is_release
-releases_held step.Release h = cc
+releases_held Step.Release h = cc
 releases_held _ h = refl
 
 ends_held : IsHolders is_end
-ends_held step.End h = cc
+ends_held Step.End h = cc
 ends_held _ h = refl
 
 pub wants_held : IsHolders is_want
-wants_held step.Want h = cc
+wants_held Step.Want h = cc
 wants_held _ h = refl
 
 pub finishes_held : IsHolders finishes
-finishes_held step.Begin h = refl
+finishes_held Step.Begin h = refl
 finishes_held _ h = cc
 
 -- and the parts lack them
 
 clears_apart : AreApart clears is_begin
-clears_apart step.Begin h = cc
+clears_apart Step.Begin h = cc
 clears_apart _ h = refl
 
 clears_finish : AreApart clears finishes
-clears_finish step.Begin h = refl
+clears_finish Step.Begin h = refl
 clears_finish _ h = cc
 
 marking_apart : AreApart begins_marking is_begin
-marking_apart step.Begin h = cc
+marking_apart Step.Begin h = cc
 marking_apart _ h = refl
 
 marking_finish : AreApart begins_marking finishes
-marking_finish step.Begin h = refl
+marking_finish Step.Begin h = refl
 marking_finish _ h = cc
 
 ending_apart : AreApart ends_marking is_begin
-ending_apart step.Begin h = cc
+ending_apart Step.Begin h = cc
 ending_apart _ h = refl
 
 ending_no_close : AreApart ends_marking is_close
-ending_no_close step.Close h = cc
+ending_no_close Step.Close h = cc
 ending_no_close _ h = refl
 
 room_apart : AreApart gives_room is_begin
-room_apart step.Begin h = cc
+room_apart Step.Begin h = cc
 room_apart _ h = refl
 
 gives_no_end : AreApart is_giving_back is_end
-gives_no_end step.End h = cc
+gives_no_end Step.End h = cc
 gives_no_end _ h = refl
 
 -- A cycle's close, release and end stand in a list one after the other.
@@ -160,11 +158,11 @@ module _ {p q : PassState} (law : FinishesCycle p q) where
   gives_room_back =
       let m = law.makes in
       let r = m.releases in
-      does_then gives_room closing r.closed q (does_step gives_room closing r.closed step.Close r.close refl)
-      (does_then gives_room r.closed m.released q (does_step gives_room r.closed m.released step.Release r.release refl)
+      does_then gives_room closing r.closed q (does_step gives_room closing r.closed Step.Close r.close refl)
+      (does_then gives_room r.closed m.released q (does_step gives_room r.closed m.released Step.Release r.release refl)
       (does_then gives_room m.released m.freed q
       (does_wider is_giving_back gives_room gives_back m.released m.freed m.frees)
-      (does_then gives_room m.freed m.ended q (does_step gives_room m.freed m.ended step.End m.end refl)
+      (does_then gives_room m.freed m.ended q (does_step gives_room m.freed m.ended Step.End m.end refl)
       (does_wider sets_tallies gives_room tallies_back m.ended q m.behind))))
 
   pub part_closing : InTurn p → Part ends_marking p closing
@@ -210,12 +208,12 @@ finish_in p q own law t history =
     record { turn = y.turn; stays = of_turn gives_of; does = m.frees; history = (pass_before m.end).history } in
     let z = step_behind gives m.end refl in
     let more : List Event =
-    x.before ++ event_of r.closing step.Close
-    ∷ (y.before ++ event_of r.closed step.Release ∷ (z.before ++ event_of m.freed step.End ∷ m.behind.more)) in
+    x.before ++ event_of r.closing Step.Close
+    ∷ (y.before ++ event_of r.closed Step.Release ∷ (z.before ++ event_of m.freed Step.End ∷ m.behind.more)) in
     let is : q.seen ≡ p.seen ++ more =
-    seen_then p.seen r.closed.seen q.seen (x.before ++ event_of r.closing step.Close ∷ []) _ x.is
-    (seen_then r.closed.seen m.released.seen q.seen (y.before ++ event_of r.closed step.Release ∷ []) _ y.is
-    (seen_then m.released.seen m.ended.seen q.seen (z.before ++ event_of m.freed step.End ∷ []) m.behind.more z.is
+    seen_then p.seen r.closed.seen q.seen (x.before ++ event_of r.closing Step.Close ∷ []) _ x.is
+    (seen_then r.closed.seen m.released.seen q.seen (y.before ++ event_of r.closed Step.Release ∷ []) _ y.is
+    (seen_then m.released.seen m.ended.seen q.seen (z.before ++ event_of m.freed Step.End ∷ []) m.behind.more z.is
     (seen_behind sets_tallies m.ended q m.behind)))
     ∙ ap (λ (l : List Event). p.seen ++ l) (three x.before y.before z.before m.behind.more _ _ _) in
     let first = part_closing law t in
@@ -225,11 +223,11 @@ finish_in p q own law t history =
       is = is;
       ends = record {
         to_close = x.before;
-        close = event_of r.closing step.Close;
+        close = event_of r.closing Step.Close;
         to_release = y.before;
-        release = event_of r.closed step.Release;
+        release = event_of r.closed Step.Release;
         to_end = z.before;
-        end = event_of m.freed step.End;
+        end = event_of m.freed Step.End;
         behind = m.behind.more;
         is = refl;
         closes = refl;
@@ -261,7 +259,7 @@ pub begin_done : {p q : PassState} → BeginsCycle p q → Does is_of_cycles p q
 begin_done {p} {q} law =
     let m = law.makes in
     does_then is_of_cycles p m.cleared q (does_wider clears is_of_cycles clears_of p m.cleared m.before)
-    (does_then is_of_cycles m.cleared m.begun q (does_step is_of_cycles m.cleared m.begun step.Begin m.begin refl)
+    (does_then is_of_cycles m.cleared m.begun q (does_step is_of_cycles m.cleared m.begun Step.Begin m.begin refl)
     (does_wider begins_marking is_of_cycles begins_of m.begun q m.behind))
 
 pub begin_does : (p q : PassState) → Has p.seats p.seat → BeginsCycle p q → Does is_of_cycles p q
@@ -276,7 +274,7 @@ begin_in p q own law t history =
     let x = step_behind clearing m.begin refl in
     let marking : Part begins_marking m.begun q =
     record { turn = x.turn; stays = of_turn begins_of; does = m.behind; history = history } in
-    let e : Event = event_of m.cleared step.Begin in
+    let e : Event = event_of m.cleared Step.Begin in
     record {
       before = x.before;
       begin = e;

@@ -3,19 +3,16 @@
 use Rattle.mk_laws.proofs.Vocabulary.{NeverState, admitted_in_parts, admitted_keep, answer_of, answered, answers_of}
 use Rattle.mk_laws.proofs.Vocabulary.{bases_of, flagged, never_in_parts, replies_of}
 use Rattle.mk_alloc.proofs.Vocabulary.{Answer, Bool, Config, Decided, Event, IsHistory, KeepsRegisters, List, None, Op}
-use Rattle.mk_alloc.proofs.Vocabulary.{Option, PassState, Some, World, [], after_calls, answer_decided, ap, append-nil}
+use Rattle.mk_alloc.proofs.Vocabulary.{Option, PassState, Some, World, ℕ, after_calls, answer_decided, ap, append-nil}
 use Rattle.mk_alloc.proofs.Vocabulary.{append_assoc, asked, by_append, call_decided, caller_number, caller_of_pass}
 use Rattle.mk_alloc.proofs.Vocabulary.{calls, calls_by, calls_in_parts, comes_last, earlier_part_is_history, entry_of}
 use Rattle.mk_alloc.proofs.Vocabulary.{eq-eqb, false, flight_of, if◌then◌else◌, left, left_in_parts, never_behind}
 use Rattle.mk_alloc.proofs.Vocabulary.{own_calls, refl, stands, subst, sym, told_to_images, true, true≢false}
-use Rattle.mk_alloc.proofs.Vocabulary.{world_behind, ℕ, ◌++◌, ◌==◌, ◌∙◌, ◌∷◌, ◌≡◌}
-use Rattle.mk_never.specs.Laws.{AreNotBy}
-use Rattle.mk_never.specs.NeverHeap.{after_op, reply_of}
+use Rattle.mk_alloc.proofs.Vocabulary.{world_behind, [], ◌++◌, ◌==◌, ◌∙◌, ◌∷◌, ◌≡◌}
+use Rattle.mk_never.specs.{Laws.AreNotBy, NeverHeap.after_op, NeverHeap.reply_of}
 use Rattle.mk_core.specs.History.{calls_from, left_from}
 use Rattle.mk_laws.proofs.ImagesOneEvent.{one_event}
 use Rattle.mk_caller.specs.Called.{IsDecidedIn}
-use Rattle.mk_never.specs.declared.operations.Op.TheVariants as op
-use Rattle.mk_core.specs.declared.events.Answer.TheVariants as answer
 
 pub same_last : (xs ys zs : List Decided) → xs ++ ys ≡ xs ++ zs → ys ≡ zs
 same_last [] ys zs h = h
@@ -108,8 +105,8 @@ registers_stay c es more k h none =
     ((admitted_in_parts c es more).0 h.admitted).1 (none_by k (calls_from c (left c es) more) none))
 
 flagged_once : (o : Op) (a : Answer) → flagged (flagged o a) a ≡ flagged o a
-flagged_once (op.New d ty full) answer.Full = refl
-flagged_once (op.New d ty full) _ = refl
+flagged_once (Op.New d ty full) Answer.Full = refl
+flagged_once (Op.New d ty full) _ = refl
 flagged_once _ a = refl
 
 module _ (p : PassState) (o : Op) (a : Answer) (more : List Event) (history : IsHistory p.table.config (p.seen ++ more))

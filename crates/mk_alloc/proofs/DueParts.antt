@@ -1,19 +1,17 @@
 -- The events of the cycle that a due Free begins, after one that was on.
 use Rattle.mk_alloc.proofs.Vocabulary.{At, Bool, EndsOlder, Event, FinishesCycle, InTurn, IsAtPhase, IsHistory, IsQuiet}
-use Rattle.mk_alloc.proofs.Vocabulary.{List, None, PassState, Step, TurnGoesOn, [], ap, append-nil, append_assoc, arith}
+use Rattle.mk_alloc.proofs.Vocabulary.{List, None, PassState, Step, TurnGoesOn, ap, append-nil, append_assoc, arith}
 use Rattle.mk_alloc.proofs.Vocabulary.{cases_Bool, false, finishes, has_step, inl, inr, is_begin, is_close, is_end}
-use Rattle.mk_alloc.proofs.Vocabulary.{is_look, or_from, or_parts, refl, subst, sym, true, true≢false, turn_stays, ◌++◌}
-use Rattle.mk_alloc.proofs.Vocabulary.{◌∙◌, ◌∷◌, ◌≡◌, ◌⊎◌}
+use Rattle.mk_alloc.proofs.Vocabulary.{is_look, or_from, or_parts, refl, subst, sym, true, true≢false, turn_stays, []}
+use Rattle.mk_alloc.proofs.Vocabulary.{◌++◌, ◌∙◌, ◌∷◌, ◌≡◌, ◌⊎◌}
 use Rattle.mk_laws.proofs.Longer.{longer_at}
-use Rattle.mk_alloc.proofs.CalmStretches.{cycles_in_turn, is_of_cycles}
 use Rattle.mk_alloc.proofs.CycleParts.{BeginIn, EndsIn, begin_done, begin_in, begins_held, finish_done, finish_in}
 use Rattle.mk_alloc.proofs.Going.{IsCallers, begun_on, callers_then, finished_on, look_part, looked_on}
 use Rattle.mk_alloc.proofs.Going.{looks_begin_none, on_then}
 use Rattle.mk_alloc.proofs.ListParts.{Lacks, SomeKind, lacks_append}
 use Rattle.mk_alloc.proofs.Parts.{behind_part, history_before, in_turn_then, part_lacks, seen_behind, seen_then}
-use Rattle.mk_alloc.proofs.QuietTurns.{quiet_looked}
+use Rattle.mk_alloc.proofs.{CalmStretches.cycles_in_turn, CalmStretches.is_of_cycles, QuietTurns.quiet_looked}
 use Rattle.mk_alloc.specs.DueCycles.{RunsCycle}
-use Rattle.mk_core.specs.declared.events.Step.TheVariants as step
 
 pub at_behind : (kind : SomeKind) (xs ys : List Event) → At kind ys → At kind (xs ++ ys)
 at_behind kind xs ys at =
@@ -147,7 +145,7 @@ pub record RunIn (on : Bool) (p q : PassState) : Type 0 where
   pub older : IsAtPhase p 1 → At is_end first
 
 close_finishes : (x : Step) → finishes x ≡ false → is_close x ≡ false
-close_finishes step.Close h = cc
+close_finishes Step.Close h = cc
 close_finishes _ h = refl
 
 pub no_close : (es : List Event) → Lacks finishes es → Lacks is_close es

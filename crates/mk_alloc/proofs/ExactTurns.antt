@@ -1,13 +1,12 @@
 -- The turns of a caller stay exact, whatever its next call is.
-use Rattle.mk_alloc.proofs.Vocabulary.{Bool, EndsExactly, Event, List, PassState, Some, TurnsOfAreExact, [], ap}
-use Rattle.mk_alloc.proofs.Vocabulary.{append_assoc, event_of, is_take, only_seen, own_before, refl, subst, sym, ◌++◌}
-use Rattle.mk_alloc.proofs.Vocabulary.{◌∙◌, ◌∷◌, ◌≡◌}
-use Rattle.mk_waiting.proofs.TakesAlone.{taking_does}
+use Rattle.mk_alloc.proofs.Vocabulary.{Bool, EndsExactly, Event, List, PassState, Some, Step, TurnsOfAreExact, ap}
+use Rattle.mk_alloc.proofs.Vocabulary.{append_assoc, event_of, is_take, only_seen, own_before, refl, subst, sym, []}
+use Rattle.mk_alloc.proofs.Vocabulary.{◌++◌, ◌∙◌, ◌∷◌, ◌≡◌}
 use Rattle.mk_alloc.proofs.OwnGives.{GivesNone, HaveNoGive, calls_give, does_give_none, doing_gives, none_more}
 use Rattle.mk_alloc.proofs.OwnGives.{one_gives, one_more, others_give}
 use Rattle.mk_alloc.specs.Laws.{OwnAreExact, StayExactBehindCalls, StayExactBehindOthers, StayExactBehindTurns}
 use Rattle.mk_alloc.specs.Laws.{StayExactWhereHeld}
-use Rattle.mk_core.specs.declared.events.Step.TheVariants as step
+use Rattle.mk_waiting.proofs.TakesAlone.{taking_does}
 
 pub stay_exact_behind_calls : StayExactBehindCalls
 stay_exact_behind_calls on p o a q own called exact =
@@ -19,9 +18,9 @@ stay_exact_where_held on p o q own held exact =
     let m = held.finds.makes in
     subst (λ (x : PassState). OwnAreExact on x) (sym m.is)
     (subst (λ (l : List Event). TurnsOfAreExact on p.table.config p.seat l)
-    (sym (append_assoc p.seen m.others (event_of p (step.Enter o) ∷ [])))
-    (none_more on p.table.config p.seat p.seen (m.others ++ event_of p (step.Enter o) ∷ [])
-    (one_gives p (step.Enter o) q m own refl) exact))
+    (sym (append_assoc p.seen m.others (event_of p (Step.Enter o) ∷ [])))
+    (none_more on p.table.config p.seat p.seen (m.others ++ event_of p (Step.Enter o) ∷ [])
+    (one_gives p (Step.Enter o) q m own refl) exact))
 
 -- after more that a pass has seen, in which its seat gave nothing back
 goes_on : (on : Bool) (p q : PassState) (more : List Event) → q ≡ record p { seen = p.seen ++ more }
@@ -31,7 +30,7 @@ goes_on on p q more is none exact =
     subst (λ (x : PassState). OwnAreExact on x) (sym is) (none_more on p.table.config p.seat p.seen more none exact)
 
 taking_gives_none : HaveNoGive is_take
-taking_gives_none step.Give h = cc
+taking_gives_none Step.Give h = cc
 taking_gives_none _ h = refl
 
 pub stay_exact_behind_turns : StayExactBehindTurns
@@ -49,7 +48,7 @@ stay_exact_behind_turns on p o a q own called exact =
     ∙ ap (λ (x : PassState). record x { seen = called.done.seen }) takes.is in
     subst (λ (x : PassState). OwnAreExact on x) (sym g.is)
     (one_more on called.done.table.config called.done.seat (called.done.seen ++ g.others)
-    (event_of called.done step.Give) before
+    (event_of called.done Step.Give) before
     (subst (λ (x : PassState). EndsExactly on x.table.config x.seat (called.done.seen ++ g.others)) (sym same)
     called.ends))
 

@@ -1,45 +1,41 @@
 -- What the turn of a Free does with cycles, by the events after its `take`.
 use Rattle.mk_alloc.proofs.Vocabulary.{At, Bool, Config, Event, Flight, FreeIsExact, FreesFirst, IsDue, IsDueIn, List}
-use Rattle.mk_alloc.proofs.Vocabulary.{Moment, Seat, Step, TurnOf, [], ap, false, finishes, flight_of, has_step}
-use Rattle.mk_alloc.proofs.Vocabulary.{is_begin, is_end, is_freeing, is_loading, is_of_cycle, left, or_from, or_parts}
-use Rattle.mk_alloc.proofs.Vocabulary.{refl, subst, sym, true, ◌++◌, ◌∙◌, ◌∷◌, ◌≡◌}
-use Rattle.mk_core.specs.Counts.{decides_freed}
-use Rattle.mk_core.specs.Cycles.{BeginsAndEndsIn, BeginsIn}
-use Rattle.mk_alloc.proofs.CycleParts.{EndsIn}
-use Rattle.mk_alloc.proofs.DueParts.{end_at}
+use Rattle.mk_alloc.proofs.Vocabulary.{Moment, Seat, Step, TurnOf, ap, false, finishes, flight_of, has_step, is_begin}
+use Rattle.mk_alloc.proofs.Vocabulary.{is_end, is_freeing, is_loading, is_of_cycle, left, or_from, or_parts, refl}
+use Rattle.mk_alloc.proofs.Vocabulary.{subst, sym, true, [], ◌++◌, ◌∙◌, ◌∷◌, ◌≡◌}
+use Rattle.mk_core.specs.{Counts.decides_freed, Cycles.BeginsAndEndsIn, Cycles.BeginsIn}
 use Rattle.mk_alloc.proofs.ListParts.{IsAt, Lacks, SomeKind, cycle_in, lacks_at, none_at, only_at}
 use Rattle.mk_alloc.proofs.StepKinds.{AreApart, IsHolders}
-use Rattle.mk_alloc.proofs.Stretches.{Within}
+use Rattle.mk_alloc.proofs.{CycleParts.EndsIn, DueParts.end_at, Stretches.Within}
 use Rattle.mk_alloc.specs.TurnCycles.{CycleIsOn}
-use Rattle.mk_core.specs.declared.events.Step.TheVariants as step
 
 abbrev pub is_quar : SomeKind
-is_quar (step.Quar p v) = true
+is_quar (Step.Quar p v) = true
 is_quar _ = false
 
 pub quars_held : IsHolders is_quar
-quars_held (step.Quar p v) h = cc
+quars_held (Step.Quar p v) h = cc
 quars_held _ h = refl
 
 pub loading_no_quar : AreApart is_loading is_quar
-loading_no_quar (step.Quar p v) h = cc
+loading_no_quar (Step.Quar p v) h = cc
 loading_no_quar _ h = refl
 
 pub cycles_held : IsHolders is_of_cycle
-cycles_held step.Begin h = cc
+cycles_held Step.Begin h = cc
 cycles_held _ h = cc
 
 pub freeing_no_cycle : AreApart is_freeing is_of_cycle
-freeing_no_cycle step.Begin h = cc
+freeing_no_cycle Step.Begin h = cc
 freeing_no_cycle _ h = cc
 
 pub loading_frees : Within is_loading is_freeing
-loading_frees step.Begin h = cc
+loading_frees Step.Begin h = cc
 loading_frees _ h = cc
 
 -- Only a `quar` frees.
 due_is_quar : (c : Config) (m : Moment) (f : Flight) (x : Step) → decides_freed c m f x ≡ true → is_quar x ≡ true
-due_is_quar c m f (step.Quar p v) h = refl
+due_is_quar c m f (Step.Quar p v) h = refl
 due_is_quar c m f _ h = cc
 
 pub not_due_without : (c : Config) (es more before : List Event) (e : Event) (behind : List Event) → Lacks is_quar more

@@ -1,31 +1,26 @@
 -- What a Free is answered, and that its turn may go on and be given back.
 use Rattle.mk_laws.proofs.Vocabulary.{register_at}
-use Rattle.mk_alloc.proofs.Vocabulary.{BeginsTurn, Bool, FreeIsExact, FreesObject, Has, InTurn, IsAnsweredDouble}
-use Rattle.mk_alloc.proofs.Vocabulary.{IsDueIn, IsDueSince, IsFresh, IsHistory, Makes, PassState, RunsIfDue, Some}
-use Rattle.mk_alloc.proofs.Vocabulary.{TakesTurn, TurnGoesOn, Value, ap, append_assoc, append_cancel_left, at_rest}
-use Rattle.mk_alloc.proofs.Vocabulary.{call_of, caller_of_pass, cases_Bool, inl, inr, is_freeing, is_loading}
-use Rattle.mk_alloc.proofs.Vocabulary.{pass_before, refl, subst, sym, true, ℕ, ◌++◌, ◌<◌, ◌∙◌, ◌∷◌, ◌≡◌}
+use Rattle.mk_alloc.proofs.Vocabulary.{Answer, BeginsTurn, Bool, FreeIsExact, FreesObject, Has, InTurn}
+use Rattle.mk_alloc.proofs.Vocabulary.{IsAnsweredDouble, IsDueIn, IsDueSince, IsFresh, IsHistory, Makes, Op, PassState}
+use Rattle.mk_alloc.proofs.Vocabulary.{RunsIfDue, Some, Step, TakesTurn, TurnGoesOn, Value, ℕ, ap, append_assoc}
+use Rattle.mk_alloc.proofs.Vocabulary.{append_cancel_left, at_rest, call_of, caller_of_pass, cases_Bool, inl, inr}
+use Rattle.mk_alloc.proofs.Vocabulary.{is_freeing, is_loading, pass_before, refl, subst, sym, true, ◌++◌, ◌<◌, ◌∙◌, ◌∷◌}
+use Rattle.mk_alloc.proofs.Vocabulary.{◌≡◌}
 use Rattle.mk_never.specs.Admitted.{IsBase}
-use Rattle.mk_objects.specs.Retired.{FindsFreed, Retires}
-use Rattle.mk_objects.specs.Retiring.{IsUnloaded}
 use Rattle.mk_alloc.proofs.CalledTurns.{GivenBack, Taken, called, registers_taken, taken_callers, taken_is, taken_turn}
 use Rattle.mk_alloc.proofs.CalledTurns.{turn_of}
-use Rattle.mk_alloc.proofs.DueParts.{RunIn, run_in}
 use Rattle.mk_alloc.proofs.FreeTurns.{is_quar, loading_frees, loading_no_quar, not_due_without, quars_held}
-use Rattle.mk_alloc.proofs.Going.{IsCallers, callers_then}
 use Rattle.mk_alloc.proofs.Parts.{Part, part_lacks, seen_by}
 use Rattle.mk_alloc.proofs.RetiredTurns.{decided_on, due_in, due_since, freeing_in_turn, rests_exactly, run_or_rest}
 use Rattle.mk_alloc.proofs.RetiredTurns.{runs_exactly}
-use Rattle.mk_alloc.proofs.Stretches.{AreOfTurn}
-use Rattle.mk_never.specs.declared.operations.Op.TheVariants as op
-use Rattle.mk_core.specs.declared.events.Answer.TheVariants as answer
-use Rattle.mk_core.specs.declared.events.Step.TheVariants as step
+use Rattle.mk_alloc.proofs.{DueParts.RunIn, DueParts.run_in, Going.IsCallers, Going.callers_then, Stretches.AreOfTurn}
+use Rattle.mk_objects.specs.{Retired.FindsFreed, Retired.Retires, Retiring.IsUnloaded}
 use Rattle.mk_caller.specs.States as caller
 
 -- The register that the turn's Free loads is null or points to a first word, as before.
 pub unloaded : (p taken : PassState) (r : ℕ) → IsCallers p → Has p.seats p.seat
-    → (takes : TakesTurn p (Some (op.Free r)) taken)
-    → IsFresh taken (Some (op.Free r)) → IsHistory taken.table.config taken.seen → r < 8 → IsBase (caller.value_of p r)
+    → (takes : TakesTurn p (Some (Op.Free r)) taken)
+    → IsFresh taken (Some (Op.Free r)) → IsHistory taken.table.config taken.seen → r < 8 → IsBase (caller.value_of p r)
     → IsUnloaded taken r
 unloaded p taken r seat own takes fresh history lt base =
     record {
@@ -35,7 +30,7 @@ unloaded p taken r seat own takes fresh history lt base =
           (sym (taken_is took)) (subst (λ (v : Value). IsBase v) (sym (same r lt)) base);
     }
   where
-    took : Taken (op.Free r) p taken
+    took : Taken (Op.Free r) p taken
     took = record { seat = seat; own = own; takes = takes }
 
     same : (i : ℕ) → i < 8 → caller.value_of (record p { seen = taken.seen }) i ≡ caller.value_of p i
@@ -47,8 +42,8 @@ unloaded p taken r seat own takes fresh history lt base =
 
 -- The turn of a Free that retired its object, up to the end of a cycle that is due.
 pub record Frees (flag due : Bool) (r : ℕ) (p taken retired done : PassState) : Type 0 where
-  pub took : Taken (op.Free r) p taken
-  pub begins : BeginsTurn (op.Free r) taken
+  pub took : Taken (Op.Free r) p taken
+  pub begins : BeginsTurn (Op.Free r) taken
   pub retires : Retires taken r due retired
   pub decided : InTurn retired
   pub run : RunsIfDue flag due retired done
@@ -58,11 +53,11 @@ module _ {flag due : Bool} {r : ℕ} {p taken retired done : PassState} (f : Fre
   seat_decided : IsCallers retired
   seat_decided = callers_then is_freeing taken retired f.retires.decides.does (taken_callers f.took)
 
-  decides : TurnGoesOn (Some answer.Done) taken retired
-  decides = decided_on taken r f.begins.fresh f.begins.phase f.begins.tidy is_freeing answer.Done retired
+  decides : TurnGoesOn (Some Answer.Done) taken retired
+  decides = decided_on taken r f.begins.fresh f.begins.phase f.begins.tidy is_freeing Answer.Done retired
       (λ x h. h) f.retires.decides
 
-  pub freed : TurnGoesOn (Some answer.Done) taken done
+  pub freed : TurnGoesOn (Some Answer.Done) taken done
   freed = run_or_rest decides f.decided seat_decided f.run f.history
 
   freeing : Part is_freeing taken retired
@@ -77,8 +72,8 @@ module _ {flag due : Bool} {r : ℕ} {p taken retired done : PassState} (f : Fre
   runs : due ≡ true → RunIn flag retired done
   runs is = run_in f.decided seat_decided decides.quiet (f.run.runs is) f.history
 
-  module _ {q : PassState} (gives : Makes done step.Give q) (rests : call_of q ≡ at_rest) where
-    abbrev pub given : GivenBack (op.Free r) answer.Done p taken done q
+  module _ {q : PassState} (gives : Makes done Step.Give q) (rests : call_of q ≡ at_rest) where
+    abbrev pub given : GivenBack (Op.Free r) Answer.Done p taken done q
     given = record { took = f.took; fresh = f.begins.fresh; on = freed; gives = gives; rests = rests }
 
     exact : FreeIsExact flag (turn_of given)
@@ -102,23 +97,23 @@ module _ {flag due : Bool} {r : ℕ} {p taken retired done : PassState} (f : Fre
     freed_object = record { called = called given flag exact; is_due = (tells, told) }
 
 loads_in_turn : AreOfTurn is_loading
-loads_in_turn step.Begin h = refl
+loads_in_turn Step.Begin h = refl
 loads_in_turn _ h = cc
 
 -- The turn of one whose object was freed already.
 pub record Refuses (r : ℕ) (p taken done : PassState) : Type 0 where
-  pub took : Taken (op.Free r) p taken
-  pub begins : BeginsTurn (op.Free r) taken
+  pub took : Taken (Op.Free r) p taken
+  pub begins : BeginsTurn (Op.Free r) taken
   pub finds : FindsFreed taken r done
 
 module _ {r : ℕ} {p taken done : PassState} (f : Refuses r p taken done) where
-  pub refused : TurnGoesOn (Some answer.Double) taken done
+  pub refused : TurnGoesOn (Some Answer.Double) taken done
   refused =
-      decided_on taken r f.begins.fresh f.begins.phase f.begins.tidy is_loading answer.Double done loading_frees
+      decided_on taken r f.begins.fresh f.begins.phase f.begins.tidy is_loading Answer.Double done loading_frees
       f.finds.decides
 
-  module _ {q : PassState} (gives : Makes done step.Give q) (rests : call_of q ≡ at_rest) where
-    abbrev pub given_double : GivenBack (op.Free r) answer.Double p taken done q
+  module _ {q : PassState} (gives : Makes done Step.Give q) (rests : call_of q ≡ at_rest) where
+    abbrev pub given_double : GivenBack (Op.Free r) Answer.Double p taken done q
     given_double = record { took = f.took; fresh = f.begins.fresh; on = refused; gives = gives; rests = rests }
 
     loading : Part is_loading taken done
@@ -146,13 +141,13 @@ module _ {r : ℕ} {p taken done : PassState} (f : Refuses r p taken done) where
         }
 
 pub double_answered : (flag : Bool) {r : ℕ} {p taken done q : PassState} → Refuses r p taken done
-    → Makes done step.Give q → call_of q ≡ at_rest → IsAnsweredDouble flag p r q
+    → Makes done Step.Give q → call_of q ≡ at_rest → IsAnsweredDouble flag p r q
 double_answered flag f gives rests = double_told f gives rests flag
 
 -- The same of their parts.
 
 module _ (flag due : Bool) (p taken decided done q : PassState) (r : ℕ) (seat : IsCallers p) (own : Has p.seats p.seat)
-    (takes : TakesTurn p (Some (op.Free r)) taken) (begins : BeginsTurn (op.Free r) taken) (t : InTurn taken)
+    (takes : TakesTurn p (Some (Op.Free r)) taken) (begins : BeginsTurn (Op.Free r) taken) (t : InTurn taken)
     (retires : Retires taken r due decided) (t_decided : InTurn decided) (run : RunsIfDue flag due decided done)
     (t_done : InTurn done) where
   frees : Frees flag due r p taken decided done
@@ -166,22 +161,22 @@ module _ (flag due : Bool) (p taken decided done q : PassState) (r : ℕ) (seat 
         history = t_done.history;
       }
 
-  pub freed_on : TurnGoesOn (Some answer.Done) taken done
+  pub freed_on : TurnGoesOn (Some Answer.Done) taken done
   freed_on = freed frees
 
-  pub frees_object : Makes done step.Give q → call_of q ≡ at_rest → IsHistory q.table.config q.seen
+  pub frees_object : Makes done Step.Give q → call_of q ≡ at_rest → IsHistory q.table.config q.seen
       → FreesObject flag p r due q
   frees_object gives rests history = freed_object frees gives rests
 
 module _ (flag : Bool) (p taken decided q : PassState) (r : ℕ) (seat : IsCallers p) (own : Has p.seats p.seat)
-    (takes : TakesTurn p (Some (op.Free r)) taken) (begins : BeginsTurn (op.Free r) taken) (t : InTurn taken)
+    (takes : TakesTurn p (Some (Op.Free r)) taken) (begins : BeginsTurn (Op.Free r) taken) (t : InTurn taken)
     (finds : FindsFreed taken r decided) (t_decided : InTurn decided) where
   refuses : Refuses r p taken decided
   refuses = record { took = record { seat = seat; own = own; takes = takes }; begins = begins; finds = finds }
 
-  pub double_on : TurnGoesOn (Some answer.Double) taken decided
+  pub double_on : TurnGoesOn (Some Answer.Double) taken decided
   double_on = refused refuses
 
-  pub is_answered_double : Makes decided step.Give q → call_of q ≡ at_rest → IsHistory q.table.config q.seen
+  pub is_answered_double : Makes decided Step.Give q → call_of q ≡ at_rest → IsHistory q.table.config q.seen
       → IsAnsweredDouble flag p r q
   is_answered_double gives rests history = double_answered flag refuses gives rests

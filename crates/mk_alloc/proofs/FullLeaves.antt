@@ -1,68 +1,61 @@
 -- Each own event of a call that is answered Full leaves all but what is released.
-use Rattle.mk_laws.proofs.Basics.{WorldBehind, exists_placed, stands_of, unmapped_is}
 use Rattle.mk_laws.proofs.Vocabulary.{Named, Store, Tally, Words, accessed, changed_at, get_or-set_other, holder_may}
 use Rattle.mk_laws.proofs.Vocabulary.{is_mapped, kinds_of, length-map, no_longer_fresh, placed_at, tally_word}
 use Rattle.mk_laws.proofs.Vocabulary.{with_released}
 use Rattle.mk_alloc.proofs.Vocabulary.{Bool, Cell, Config, Event, Flight, Has, IsHistory, List, Makes, Moment, Op}
 use Rattle.mk_alloc.proofs.Vocabulary.{Option, OwnLeaveAllButReleased, PassState, PlacedAllocation, Seat, Some, Step}
-use Rattle.mk_alloc.proofs.Vocabulary.{TakesTurn, World, [], allocations_by, and_parts, ap, append_assoc, call_of}
+use Rattle.mk_alloc.proofs.Vocabulary.{TakesTurn, World, ℕ, allocations_by, and_parts, ap, append_assoc, call_of}
 use Rattle.mk_alloc.proofs.Vocabulary.{comes_last, event_of, false, flight_of, freed_where_it_stands, frees_none, inl}
 use Rattle.mk_alloc.proofs.Vocabulary.{inr, is_pending_free, is_same_seat, is_take, left, left_in_parts, length}
 use Rattle.mk_alloc.proofs.Vocabulary.{list_all, made, map, never_behind, none_freed, not, not-true, only_seen}
 use Rattle.mk_alloc.proofs.Vocabulary.{own_before, refl, same_seat, slice_index, stands, subst, sym, told_to_images}
-use Rattle.mk_alloc.proofs.Vocabulary.{true, true≢false, waits_for, world_behind, world_of, ℕ, ◌++◌, ◌+◌, ◌<◌, ◌||◌}
+use Rattle.mk_alloc.proofs.Vocabulary.{true, true≢false, waits_for, world_behind, world_of, [], ◌++◌, ◌+◌, ◌<◌, ◌||◌}
 use Rattle.mk_alloc.proofs.Vocabulary.{◌∙◌, ◌∷◌, ◌≡◌, ◌≢◌, ◌⊎◌}
-use Rattle.mk_core.specs.Growing.{AreOfOthers}
-use Rattle.mk_core.specs.History.{left_from}
-use Rattle.mk_core.specs.TurnConditions.{may_wipe}
-use Rattle.mk_laws.proofs.GrantMoves.{wiped_outside}
-use Rattle.mk_laws.proofs.ImagesBefore.{words_are}
+use Rattle.mk_core.specs.{Growing.AreOfOthers, History.left_from, TurnConditions.may_wipe}
+use Rattle.mk_laws.proofs.Basics.{WorldBehind, exists_placed, stands_of, unmapped_is}
+use Rattle.mk_laws.proofs.{GrantMoves.wiped_outside, ImagesBefore.words_are}
+use Rattle.mk_alloc.proofs.CalmStretches.{cycles_in_turn, goes_undecided, is_of_cycles}
+use Rattle.mk_alloc.proofs.Stretches.{First, IsOwn, Stretch, Within, call_in, does_stretch, first_of, first_part}
+use Rattle.mk_alloc.proofs.{FreeTurns.is_quar, Going.IsCallers, Parts.Part, Parts.seen_after, Parts.seen_by}
+use Rattle.mk_alloc.specs.Leaving.{KeepsItsWords, LeavesAllButReleased, OwnLeaveFrom, StaysOrIsReleased}
 use Rattle.mk_turns.proofs.Doing.{not_own}
 use Rattle.mk_waiting.proofs.TakesAlone.{own_take}
-use Rattle.mk_alloc.proofs.CalmStretches.{cycles_in_turn, goes_undecided, is_of_cycles}
-use Rattle.mk_alloc.proofs.FreeTurns.{is_quar}
-use Rattle.mk_alloc.proofs.Going.{IsCallers}
-use Rattle.mk_alloc.proofs.Parts.{Part, seen_after, seen_by}
-use Rattle.mk_alloc.proofs.Stretches.{First, IsOwn, Stretch, Within, call_in, does_stretch, first_of, first_part}
-use Rattle.mk_alloc.specs.Leaving.{KeepsItsWords, LeavesAllButReleased, OwnLeaveFrom, StaysOrIsReleased}
-use Rattle.mk_core.specs.declared.events.Step.TheVariants as step
-use Rattle.mk_core.specs.declared.events.Tally.TheVariants as tally
 
 -- the kinds of the call's own steps
 
 abbrev pub is_of_full : Step → Bool
-is_of_full (step.Take o) = true
-is_of_full step.Give = true
-is_of_full step.Full = true
+is_of_full (Step.Take o) = true
+is_of_full Step.Give = true
+is_of_full Step.Full = true
 is_of_full x = is_of_cycles x
 
 -- One step
 
 tally_registers : (w : Words) (n : Tally) (v : ℕ) → (accessed w (Named (tally_word n)) (Store v)).registers
     ≡ w.registers
-tally_registers w tally.Held v = refl
+tally_registers w Tally.Held v = refl
 tally_registers w _ v = refl
 
 tally_globals : (w : Words) (n : Tally) (v : ℕ) → (accessed w (Named (tally_word n)) (Store v)).globals ≡ w.globals
-tally_globals w tally.Held v = refl
+tally_globals w Tally.Held v = refl
 tally_globals w _ v = refl
 
 tally_heap : (w : Words) (n : Tally) (v : ℕ) → (accessed w (Named (tally_word n)) (Store v)).heap ≡ w.heap
-tally_heap w tally.Held v = refl
+tally_heap w Tally.Held v = refl
 tally_heap w _ v = refl
 
 registers_stay : (c : Config) (w : World) (s : Seat) (x : Step) → is_of_full x ≡ true
     → (WorldBehind c w s x).now.words.registers ≡ w.now.words.registers
-registers_stay c w s step.Reg h = cc
-registers_stay c w s step.Grant h = cc
-registers_stay c w s (step.Tally n v) h = tally_registers w.now.words n v
+registers_stay c w s Step.Reg h = cc
+registers_stay c w s Step.Grant h = cc
+registers_stay c w s (Step.Tally n v) h = tally_registers w.now.words n v
 registers_stay c w s _ h = refl
 
 globals_stay : (c : Config) (w : World) (s : Seat) (x : Step) → is_of_full x ≡ true
     → (WorldBehind c w s x).now.words.globals ≡ w.now.words.globals
-globals_stay c w s step.Reg h = cc
-globals_stay c w s step.Setg h = cc
-globals_stay c w s (step.Tally n v) h = tally_globals w.now.words n v
+globals_stay c w s Step.Reg h = cc
+globals_stay c w s Step.Setg h = cc
+globals_stay c w s (Step.Tally n v) h = tally_globals w.now.words n v
 globals_stay c w s _ h = refl
 
 -- allocations
@@ -85,15 +78,15 @@ still_released false b h = cc
 each_stays : (c : Config) (m : Moment) (f : Flight) (x : Step) (xs : List PlacedAllocation) → is_of_full x ≡ true
     → (is_quar x ≡ true → is_pending_free f ≡ false) → (a : ℕ)
     → StaysOrIsReleased (placed_at xs a) (placed_at (allocations_by c m f x xs) a)
-each_stays c m f step.Grant xs h free a = cc
-each_stays c m f (step.Quar p v) xs h free a =
-    same_each xs (allocations_by c m f (step.Quar p v) xs)
+each_stays c m f Step.Grant xs h free a = cc
+each_stays c m f (Step.Quar p v) xs h free a =
+    same_each xs (allocations_by c m f (Step.Quar p v) xs)
     (ap (λ (cell : Option Cell). map (freed_where_it_stands m.words cell) xs)
     (frees_none c.pages m.words f p v (free refl))
     ∙ none_freed m.words xs) a
-each_stays c m f step.Begin xs h free a =
+each_stays c m f Step.Begin xs h free a =
     changed_each no_longer_fresh xs a (record { same = refl; released = λ h. h }) (changed_at no_longer_fresh xs a refl)
-each_stays c m f step.Release xs h free a =
+each_stays c m f Step.Release xs h free a =
     changed_each (with_released c m.words) xs a
     (record { same = refl; released = λ h. still_released (placed_at xs a).released _ h })
     (changed_at (with_released c m.words) xs a refl)
@@ -101,10 +94,10 @@ each_stays c m f _ xs h free a = same_each xs xs refl a
 
 count_stays : (c : Config) (m : Moment) (f : Flight) (x : Step) (xs : List PlacedAllocation) → is_of_full x ≡ true
     → length (allocations_by c m f x xs) ≡ length xs
-count_stays c m f step.Grant xs h = cc
-count_stays c m f (step.Quar p v) xs h = length-map xs _
-count_stays c m f step.Begin xs h = length-map xs no_longer_fresh
-count_stays c m f step.Release xs h = length-map xs (with_released c m.words)
+count_stays c m f Step.Grant xs h = cc
+count_stays c m f (Step.Quar p v) xs h = length-map xs _
+count_stays c m f Step.Begin xs h = length-map xs no_longer_fresh
+count_stays c m f Step.Release xs h = length-map xs (with_released c m.words)
 count_stays c m f _ xs h = refl
 
 -- and their words
@@ -136,14 +129,14 @@ module _ (c : Config) (es : List Event) (s : Seat) (x : Step) (history : IsHisto
       by : (y : Step) → is_of_full y ≡ true → holder_may c w.now (flight_of w.now s) y ≡ true
           → slice_index (WorldBehind c w s y).now.words.heap ((placed_at w.allocations a).base + i)
           ≡ slice_index w.now.words.heap ((placed_at w.allocations a).base + i)
-      by (step.Wipe n) k may =
+      by (Step.Wipe n) k may =
           get_or-set_other w.now.words.heap n ((placed_at w.allocations a).base + i) 0 0
           (wiped_apart n may a i mapped lt)
-      by (step.Tally n v) k may =
+      by (Step.Tally n v) k may =
           ap (λ (l : List ℕ). slice_index l ((placed_at w.allocations a).base + i)) (tally_heap w.now.words n v)
-      by step.Reg k may = cc
-      by step.Write k may = cc
-      by step.Cas k may = cc
+      by Step.Reg k may = cc
+      by Step.Write k may = cc
+      by Step.Cas k may = cc
       by _ k may = refl
 
   pub step_leaves : is_of_full x ≡ true → (is_quar x ≡ true → is_pending_free (flight_of w.now s) ≡ false)
@@ -159,7 +152,7 @@ module _ (c : Config) (es : List Event) (s : Seat) (x : Step) (history : IsHisto
 
 take_leaves : (c : Config) (w : World) (s : Seat) (x : Step) → is_take x ≡ true
     → LeavesAllButReleased c w (WorldBehind c w s x)
-take_leaves c w s (step.Take o) h =
+take_leaves c w s (Step.Take o) h =
     record {
       registers = refl;
       globals = refl;
@@ -255,7 +248,7 @@ taking_leaves {p} {q} has t =
 -- a part of such steps as cycles are made of
 
 of_full : Within is_of_cycles is_of_full
-of_full step.Begin h = refl
+of_full Step.Begin h = refl
 of_full _ h = cc
 
 cycles_left : (p : PassState) → IsCallers p → Has p.seats p.seat → (es more : List Event)

@@ -2,42 +2,35 @@
 use Rattle.std.proofs.lemmas.List.{length-replicate}
 use Rattle.mk_laws.proofs.Vocabulary.{AreAdmitted, Call, IsAdmitted, Null, OwnCycle, Unplaced, is_new_at, is_none}
 use Rattle.mk_laws.proofs.Vocabulary.{ltb-true, map-append, may_answer_full, place_on_pages, ◌*◌}
-use Rattle.mk_alloc.proofs.Vocabulary.{Bool, Caller, Config, Decided, Ended, Event, Flight, Holds, InTurn, IsAtPhase}
-use Rattle.mk_alloc.proofs.Vocabulary.{IsEnabled, IsEnabledTo, IsHistory, IsTurn, IsUnplaced, List, Moment, None, Op}
-use Rattle.mk_alloc.proofs.Vocabulary.{Option, PassState, Place, Placing, Seat, Some, Stage, Value, [], acting_caller}
-use Rattle.mk_alloc.proofs.Vocabulary.{after_calls, and_parts, ap, arith, asked, call_of, caller_of_pass, calls}
-use Rattle.mk_alloc.proofs.Vocabulary.{calls_more, comes_next, entry_of, eq-eqb, first_world, flight_of, has_operands}
-use Rattle.mk_alloc.proofs.Vocabulary.{is_undecided_new, known_left, left, length, lt-ltb, meets_enabled, nat_lt}
-use Rattle.mk_alloc.proofs.Vocabulary.{new_is_acting, now_of, object_for, object_made, op_for, phase_of, place_now_for}
-use Rattle.mk_alloc.proofs.Vocabulary.{refl, subst, sym, true, undecided_new, ℕ, ◌&&◌, ◌++◌, ◌<◌, ◌∙◌, ◌∷◌, ◌≡◌}
-use Rattle.mk_never.proofs.Later.{calls_stay}
-use Rattle.mk_never.proofs.Parts.{admitted_join}
+use Rattle.mk_alloc.proofs.Vocabulary.{Answer, Bool, Caller, Config, Decided, Ended, Event, Flight, Holds, InTurn}
+use Rattle.mk_alloc.proofs.Vocabulary.{IsAtPhase, IsEnabled, IsEnabledTo, IsHistory, IsTurn, IsUnplaced, List, Moment}
+use Rattle.mk_alloc.proofs.Vocabulary.{None, Op, Option, PassState, Place, Placing, Seat, Some, Stage, Step, Value, ℕ}
+use Rattle.mk_alloc.proofs.Vocabulary.{acting_caller, after_calls, and_parts, ap, arith, asked, call_of, caller_of_pass}
+use Rattle.mk_alloc.proofs.Vocabulary.{calls, calls_more, comes_next, entry_of, eq-eqb, first_world, flight_of}
+use Rattle.mk_alloc.proofs.Vocabulary.{has_operands, is_undecided_new, known_left, left, length, lt-ltb, meets_enabled}
+use Rattle.mk_alloc.proofs.Vocabulary.{nat_lt, new_is_acting, now_of, object_for, object_made, op_for, phase_of}
+use Rattle.mk_alloc.proofs.Vocabulary.{place_now_for, refl, subst, sym, true, undecided_new, [], ◌&&◌, ◌++◌, ◌<◌, ◌∙◌}
+use Rattle.mk_alloc.proofs.Vocabulary.{◌∷◌, ◌≡◌}
+use Rattle.mk_never.proofs.{Later.calls_stay, Parts.admitted_join}
 use Rattle.mk_core.specs.History.{IsAdmittedBehind, never_first}
-use Rattle.mk_laws.proofs.InvariantTheorems.{first_fit_finds_the_place}
-use Rattle.mk_laws.proofs.LayoutHolders.{seat_operands}
+use Rattle.mk_laws.proofs.{InvariantTheorems.first_fit_finds_the_place, LayoutHolders.seat_operands}
+use Rattle.mk_alloc.proofs.{Going.IsCallers, SeekingTurns.new_callers}
+use Rattle.mk_objects.proofs.{Looks.acting_now, Takes.unplaced_settled}
 use Rattle.mk_words.specs.Steps.{IsAdmittedTo}
-use Rattle.mk_objects.proofs.Looks.{acting_now}
-use Rattle.mk_objects.proofs.Takes.{unplaced_settled}
-use Rattle.mk_alloc.proofs.Going.{IsCallers}
-use Rattle.mk_alloc.proofs.SeekingTurns.{new_callers}
-use Rattle.mk_never.specs.declared.operations.Op.TheVariants as op
-use Rattle.mk_core.specs.declared.events.Answer.TheVariants as answer
-use Rattle.mk_core.specs.declared.events.Step.TheVariants as step
-use Rattle.mk_core.specs.declared.seats.Stage.TheVariants as stage
 
 -- It is enabled
 
-full_next : (s : Stage) (o : Op) → is_new_at s o ≡ true → comes_next s o step.Full ≡ true
-full_next stage.Turn (op.New d ty full) h = refl
+full_next : (s : Stage) (o : Op) → is_new_at s o ≡ true → comes_next s o Step.Full ≡ true
+full_next Stage.Turn (Op.New d ty full) h = refl
 full_next _ _ h = cc
 
 full_for : (c : Config) (m : Moment) (k : ℕ) → k < c.callers → is_undecided_new (flight_of m (Caller k)) ≡ true
     → phase_of m.words ≡ 0 → m.seats.holding.placing ≡ Unplaced → m.seats.holding.cycle ≡ Ended
     → place_on_pages c.resident m.words.pages (object_made c (flight_of m (Caller k)).op) ≡ None
-    → IsEnabled c m (record { seat = Caller k; step = step.Full })
+    → IsEnabled c m (record { seat = Caller k; step = Step.Full })
 full_for c m k lt new idle placing ended none =
     let o = object_made c (flight_of m (Caller k)).op in
-    meets_enabled c m (record { seat = Caller k; step = step.Full })
+    meets_enabled c m (record { seat = Caller k; step = Step.Full })
     (record {
       seat = lt-ltb k c.callers lt;
       kind = refl;
@@ -53,7 +46,7 @@ full_for c m k lt new idle placing ended none =
     })
 
 pub full_allowed : (p : PassState) → InTurn p → IsUnplaced p → IsAtPhase p 0
-    → (now_of p).seats.holding.cycle ≡ Ended → place_now_for p ≡ None → IsEnabledTo p step.Full
+    → (now_of p).seats.holding.cycle ≡ Ended → place_now_for p ≡ None → IsEnabledTo p Step.Full
 full_allowed p t u idle ended none =
     let turn : IsTurn p (op_for p.seat (call_of p)) = record { holds = t.holds; op = refl } in
     let acts = new_is_acting (call_of p) u.new in
@@ -65,7 +58,7 @@ full_allowed p t u idle ended none =
     (λ (s : Seat). caller_of_pass p < p.table.config.callers → is_undecided_new (flight_of (now_of p) s) ≡ true
     → place_on_pages p.table.config.resident (now_of p).words.pages
     (object_made p.table.config (flight_of (now_of p) s).op) ≡ None
-    → IsEnabled p.table.config (now_of p) (record { seat = s; step = step.Full }))
+    → IsEnabled p.table.config (now_of p) (record { seat = s; step = Step.Full }))
     (sym seat) (λ lt new fit. full_for p.table.config (now_of p) (caller_of_pass p) lt new idle u.placing ended fit)
     (exists seat t) u.new fits
   where
@@ -75,10 +68,10 @@ full_allowed p t u idle ended none =
 
 -- and admitted.
 
-new_in_range : (c : Config) (o : Op) (d ty : ℕ) (full : Bool) → o ≡ op.New d ty full → has_operands c o ≡ true
+new_in_range : (c : Config) (o : Op) (d ty : ℕ) (full : Bool) → o ≡ Op.New d ty full → has_operands c o ≡ true
     → (d < 8) × (ty < length c.types)
 new_in_range c o d ty full is h =
-    let at : has_operands c (op.New d ty full) ≡ true = ap (λ (x : Op). has_operands c x) (sym is) ∙ h in
+    let at : has_operands c (Op.New d ty full) ≡ true = ap (λ (x : Op). has_operands c x) (sym is) ∙ h in
     let a = and_parts (nat_lt 0 8 && nat_lt 0 8 && nat_lt 0 8 && nat_lt d 8 && nat_lt 0 64)
     (nat_lt ty (length c.types)) at in
     let b = and_parts (nat_lt 0 8 && nat_lt 0 8 && nat_lt 0 8 && nat_lt d 8) (nat_lt 0 64) a.0 in
@@ -86,7 +79,7 @@ new_in_range c o d ty full is h =
     (ltb-true d 8 e.1, ltb-true ty (length c.types) a.1)
 
 full_new_admitted : (c : Config) (k d ty : ℕ) (xs : List Call) → k < c.callers → d < 8 → ty < length c.types
-    → IsAdmitted c.globals (after_calls (never_first c) xs) k (op.New d ty true)
+    → IsAdmitted c.globals (after_calls (never_first c) xs) k (Op.New d ty true)
 full_new_admitted c k d ty xs lt small typed =
     let stays = calls_stay (never_first c) xs in
     record {
@@ -100,24 +93,24 @@ full_new_admitted c k d ty xs lt small typed =
 admitted_for : (c : Config) (es : List Event) (k : ℕ) → IsHistory c es → k < c.callers
     → is_undecided_new (flight_of (left c es).now (Caller k)) ≡ true
     → has_operands c (flight_of (left c es).now (Caller k)).op ≡ true
-    → IsAdmittedBehind c es (record { seat = Caller k; step = step.Full })
+    → IsAdmittedBehind c es (record { seat = Caller k; step = Step.Full })
 admitted_for c es k h lt new operands =
     let f : Flight = flight_of (left c es).now (Caller k) in
     let n = undecided_new f new in
     let ranges = new_in_range c f.op n.d n.ty n.full n.op operands in
-    let more : asked (calls c (es ++ record { seat = Caller k; step = step.Full } ∷ [])) ≡ asked
-    (calls c es) ++ record { caller = k; op = op.New n.d n.ty true } ∷ [] =
+    let more : asked (calls c (es ++ record { seat = Caller k; step = Step.Full } ∷ [])) ≡ asked
+    (calls c es) ++ record { caller = k; op = Op.New n.d n.ty true } ∷ [] =
     ap (λ (ds : List Decided). asked ds) (calls_more c (first_world c) es
-    (record { seat = Caller k; step = step.Full }))
+    (record { seat = Caller k; step = Step.Full }))
     ∙ map-append (λ (x : Decided). record { caller = x.caller; op = x.op }) (calls c es)
-    (entry_of k f.op (Some answer.Full))
-    ∙ ap (λ (x : Op). asked (calls c es) ++ asked (entry_of k x (Some answer.Full))) n.op in
+    (entry_of k f.op (Some Answer.Full))
+    ∙ ap (λ (x : Op). asked (calls c es) ++ asked (entry_of k x (Some Answer.Full))) n.op in
     subst (λ (xs : List Call). AreAdmitted c.globals (never_first c) xs) (sym more)
     (admitted_join c.globals (never_first c) (asked (calls c es))
-    (record { caller = k; op = op.New n.d n.ty true } ∷ [])
+    (record { caller = k; op = Op.New n.d n.ty true } ∷ [])
     (h.admitted, (full_new_admitted c k n.d n.ty (asked (calls c es)) lt ranges.0 ranges.1, tt)))
 
-pub full_admitted : (p : PassState) → InTurn p → IsUnplaced p → IsAdmittedTo p step.Full
+pub full_admitted : (p : PassState) → InTurn p → IsUnplaced p → IsAdmittedTo p Step.Full
 full_admitted p t u =
     let seat = new_callers p u in
     let operands = seat_operands p.table.config (now_of p) p.seat
@@ -126,7 +119,7 @@ full_admitted p t u =
     (λ (s : Seat). is_undecided_new (flight_of (now_of p) s) ≡ true
     → has_operands p.table.config (flight_of (now_of p) s).op ≡ true
     → Holds p.table.config (now_of p) s
-    → IsAdmittedBehind p.table.config p.seen (record { seat = s; step = step.Full }))
+    → IsAdmittedBehind p.table.config p.seen (record { seat = s; step = Step.Full }))
     (sym seat) (λ new range holds. admitted_for p.table.config p.seen
     (caller_of_pass p) t.history holds.0 new range) u.new
     operands t.holds

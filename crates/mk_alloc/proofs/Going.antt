@@ -6,11 +6,8 @@ use Rattle.mk_alloc.proofs.Vocabulary.{does_wider, entry_of, is_begin, is_look, 
 use Rattle.mk_alloc.proofs.Vocabulary.{◌++◌, ◌∙◌, ◌≡◌}
 use Rattle.mk_alloc.proofs.CalmStretches.{cycles_in_turn, goes_undecided, is_of_cycles, of_turn}
 use Rattle.mk_alloc.proofs.CycleParts.{begin_done, finish_done}
-use Rattle.mk_alloc.proofs.Parts.{Part, seen_behind}
 use Rattle.mk_alloc.proofs.QuietTurns.{quiet_begun, quiet_finished, quiet_looked}
-use Rattle.mk_alloc.proofs.StepKinds.{AreApart}
-use Rattle.mk_alloc.proofs.Stretches.{Within, does_stretch}
-use Rattle.mk_core.specs.declared.events.Step.TheVariants as step
+use Rattle.mk_alloc.proofs.{Parts.Part, Parts.seen_behind, StepKinds.AreApart, Stretches.Within, Stretches.does_stretch}
 
 -- the pass of a caller
 abbrev pub IsCallers : PassState → Type 0
@@ -27,11 +24,11 @@ own_calls_same : (kinds : Step → Bool) (p q : PassState) → Does kinds p q �
 own_calls_same kinds p q d es = ap (λ (x : PassState). own_calls x es) d.is
 
 pub looks_of : Within is_look is_of_cycles
-looks_of step.Begin h = cc
+looks_of Step.Begin h = cc
 looks_of _ h = cc
 
 pub looks_begin_none : AreApart is_look is_begin
-looks_begin_none step.Begin h = cc
+looks_begin_none Step.Begin h = cc
 looks_begin_none _ h = refl
 
 pub look_part : {p q : PassState} → InTurn p → Does is_look p q → IsHistory q.table.config q.seen → Part is_look p q

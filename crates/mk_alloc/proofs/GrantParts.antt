@@ -1,35 +1,32 @@
 -- Parts of a New's turn: what was granted in them, and what is let go after that.
-use Rattle.mk_alloc.proofs.Vocabulary.{At, Does, Event, GrantsNone, List, PassState, [], ap, append_assoc}
+use Rattle.mk_alloc.proofs.Vocabulary.{At, Does, Event, GrantsNone, List, PassState, Step, ap, append_assoc}
 use Rattle.mk_alloc.proofs.Vocabulary.{append_cancel_left, has_step, is_grant, is_look, is_placing, lets_go, refl}
-use Rattle.mk_alloc.proofs.Vocabulary.{subst, sym, ⊎_elim, ◌++◌, ◌∙◌, ◌∷◌, ◌≡◌}
-use Rattle.mk_alloc.proofs.CalmStretches.{is_of_cycles}
+use Rattle.mk_alloc.proofs.Vocabulary.{subst, sym, [], ⊎_elim, ◌++◌, ◌∙◌, ◌∷◌, ◌≡◌}
 use Rattle.mk_alloc.proofs.ListParts.{InFirst, InSecond, Lacks, lacks_append, lacks_at, lacks_second, stands}
 use Rattle.mk_alloc.proofs.Parts.{Part, part_lacks, seen_by, seen_by_both}
-use Rattle.mk_alloc.proofs.StepKinds.{AreApart, IsHolders}
-use Rattle.mk_alloc.proofs.Stretches.{SomeKinds}
+use Rattle.mk_alloc.proofs.{CalmStretches.is_of_cycles, StepKinds.AreApart, StepKinds.IsHolders, Stretches.SomeKinds}
 use Rattle.mk_alloc.specs.Rooms.{GrantsLast}
-use Rattle.mk_core.specs.declared.events.Step.TheVariants as step
 
 -- kinds
 
 pub grants_held : IsHolders is_grant
-grants_held step.Grant h = cc
+grants_held Step.Grant h = cc
 grants_held _ h = refl
 
 pub lets_go_held : IsHolders lets_go
-lets_go_held step.Begin h = refl
+lets_go_held Step.Begin h = refl
 lets_go_held _ h = cc
 
 pub looks_no_grant : AreApart is_look is_grant
-looks_no_grant step.Grant h = cc
+looks_no_grant Step.Grant h = cc
 looks_no_grant _ h = refl
 
 pub cycles_no_grant : AreApart is_of_cycles is_grant
-cycles_no_grant step.Grant h = cc
+cycles_no_grant Step.Grant h = cc
 cycles_no_grant _ h = refl
 
 pub places_let_none_go : AreApart is_placing lets_go
-places_let_none_go step.Begin h = cc
+places_let_none_go Step.Begin h = cc
 places_let_none_go _ h = cc
 
 -- lists

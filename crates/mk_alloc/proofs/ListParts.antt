@@ -1,8 +1,8 @@
 -- Lists in parts: where an event stands, and what they have of a kind.
 use Rattle.mk_laws.proofs.Vocabulary.{Cycle}
-use Rattle.mk_alloc.proofs.Vocabulary.{At, Bool, Event, List, Step, [], ap, append-nil, append_cancel_left, false}
-use Rattle.mk_alloc.proofs.Vocabulary.{has_step, inl, inr, is_begin, is_close, is_end, is_release, list_any-append}
-use Rattle.mk_alloc.proofs.Vocabulary.{refl, sym, true, true≢false, ⊎_elim, ◌++◌, ◌||◌, ◌∙◌, ◌∷◌, ◌≡◌, ◌⊎◌}
+use Rattle.mk_alloc.proofs.Vocabulary.{At, Bool, Event, List, Step, ap, append-nil, append_cancel_left, false, has_step}
+use Rattle.mk_alloc.proofs.Vocabulary.{inl, inr, is_begin, is_close, is_end, is_release, list_any-append, refl, sym}
+use Rattle.mk_alloc.proofs.Vocabulary.{true, true≢false, [], ⊎_elim, ◌++◌, ◌||◌, ◌∙◌, ◌∷◌, ◌≡◌, ◌⊎◌}
 use Rattle.mk_cycle.proofs.InParts as parts
 
 -- An event of a list in two parts stands in the first, or in the second.

@@ -2,38 +2,30 @@
 use Rattle.mk_laws.proofs.Vocabulary.{Page, histories_keep_lengths, or_right, uses_of_pages}
 use Rattle.mk_alloc.proofs.Vocabulary.{Answer, AnswersFull, At, BeginsTurn, Bool, CalledInTurn, Config, Event, Flight}
 use Rattle.mk_alloc.proofs.Vocabulary.{HasNoPlace, Holding, InTurn, IsAnsweredFull, IsHistory, IsQuiet, IsUnplaced}
-use Rattle.mk_alloc.proofs.Vocabulary.{List, Makes, Misfits, Object, PassState, PlacedAllocation, RunsOne, RunsOneCycle}
-use Rattle.mk_alloc.proofs.Vocabulary.{Seeks, Some, Steady, Step, TurnOf, World, [], and_from, ap, append_assoc}
-use Rattle.mk_alloc.proofs.Vocabulary.{append_cancel_left, asks_room, at_rest, call_of, event_of, false}
+use Rattle.mk_alloc.proofs.Vocabulary.{List, Makes, Misfits, Object, Op, PassState, PlacedAllocation, RunsOne}
+use Rattle.mk_alloc.proofs.Vocabulary.{RunsOneCycle, Seeks, Some, Steady, Step, TurnOf, World, ℕ, and_from, ap}
+use Rattle.mk_alloc.proofs.Vocabulary.{append_assoc, append_cancel_left, asks_room, at_rest, call_of, event_of, false}
 use Rattle.mk_alloc.proofs.Vocabulary.{gone_is_unmapped, has_operands, has_place, is_begin, is_grant, is_pending_free}
 use Rattle.mk_alloc.proofs.Vocabulary.{is_run_gone, is_undecided_new, is_want, length, lets_go, lt-ltb, made, nat_lt}
 use Rattle.mk_alloc.proofs.Vocabulary.{now_of, object_for, object_made, off_four, only_seen, only_seen_by, or_left}
 use Rattle.mk_alloc.proofs.Vocabulary.{pass_before, refl, subst, sym, true, turn_stays, unreleased_storage, within_turn}
-use Rattle.mk_alloc.proofs.Vocabulary.{world_of, ℕ, ⊎_elim, ◌&&◌, ◌++◌, ◌<◌, ◌∙◌, ◌∷◌, ◌≡◌}
+use Rattle.mk_alloc.proofs.Vocabulary.{world_of, [], ⊎_elim, ◌&&◌, ◌++◌, ◌<◌, ◌∙◌, ◌∷◌, ◌≡◌}
 use Rattle.mk_geom.proofs.Bridge.{same_census}
-use Rattle.mk_geom.specs.PageUses.{census_among}
-use Rattle.mk_geom.specs.Storages.{census_of}
-use Rattle.mk_geom.specs.declared.pages.Census.{Census}
+use Rattle.mk_geom.specs.{PageUses.census_among, Storages.census_of, declared.pages.Census.Census}
 use Rattle.mk_core.specs.Allocations.{census_of_allocations}
-use Rattle.mk_laws.proofs.InvariantTheorems.{pages_show_the_storage}
-use Rattle.mk_laws.proofs.PlacementTheorems.{fulls_fit_nowhere}
+use Rattle.mk_laws.proofs.{InvariantTheorems.pages_show_the_storage, PlacementTheorems.fulls_fit_nowhere}
 use Rattle.mk_alloc.proofs.CalledTurns.{GivenBack, Taken, called, done_is, given_turn, lacks_given, taken_is}
 use Rattle.mk_alloc.proofs.CalledTurns.{taken_turn, turn_of, within_is}
-use Rattle.mk_alloc.proofs.CycleParts.{begins_held}
 use Rattle.mk_alloc.proofs.FullLeaves.{leaves_then, made_leaves, taking_leaves}
 use Rattle.mk_alloc.proofs.GrantParts.{grants_held, last_before, lets_go_held}
 use Rattle.mk_alloc.proofs.ListParts.{InFirst, InSecond, SomeKind, lacks_at, stands}
-use Rattle.mk_alloc.proofs.OneCycles.{one_before}
 use Rattle.mk_alloc.proofs.Parts.{history_before, in_turn_then, seen_after, seen_by}
-use Rattle.mk_alloc.proofs.RoomParts.{rooms_held}
+use Rattle.mk_alloc.proofs.{CycleParts.begins_held, OneCycles.one_before, RoomParts.rooms_held}
 use Rattle.mk_alloc.specs.TurnCycles.{NewIsExact}
-use Rattle.mk_never.specs.declared.operations.Op.TheVariants as op
-use Rattle.mk_core.specs.declared.events.Answer.TheVariants as answer
-use Rattle.mk_core.specs.declared.events.Step.TheVariants as step
 
 -- Directly after its `take` the turn of a New is quiet, and its object has no place yet.
 
-pub begun_quiet : (p : PassState) (d ty : ℕ) (full : Bool) → BeginsTurn (op.New d ty full) p → IsQuiet p
+pub begun_quiet : (p : PassState) (d ty : ℕ) (full : Bool) → BeginsTurn (Op.New d ty full) p → IsQuiet p
 begun_quiet p d ty full b =
     record {
       free = record {
@@ -47,7 +39,7 @@ begun_quiet p d ty full b =
       tidy = b.tidy;
     }
 
-pub begun_unplaced : (p : PassState) (d ty : ℕ) (full : Bool) → BeginsTurn (op.New d ty full) p → IsUnplaced p
+pub begun_unplaced : (p : PassState) (d ty : ℕ) (full : Bool) → BeginsTurn (Op.New d ty full) p → IsUnplaced p
 begun_unplaced p d ty full b =
     record {
       new = ap (λ (f : Flight). is_undecided_new f) b.fresh.call;
@@ -55,34 +47,34 @@ begun_unplaced p d ty full b =
       phase = b.phase;
     }
 
-pub operands_of : (c : Config) (d ty : ℕ) → d < 8 → ty < length c.types → has_operands c (op.New d ty false) ≡ true
+pub operands_of : (c : Config) (d ty : ℕ) → d < 8 → ty < length c.types → has_operands c (Op.New d ty false) ≡ true
 operands_of c d ty small typed =
     and_from (nat_lt 0 8 && nat_lt 0 8 && nat_lt 0 8 && nat_lt d 8 && nat_lt 0 64) (nat_lt ty (length c.types))
     (ap (λ (b : Bool). true && b && true) (lt-ltb d 8 small)) (lt-ltb ty (length c.types) typed)
 
 -- A New that sought room, and was answered in its turn.
 pub record NewGiven (d ty : ℕ) (a : Answer) (p taken done q : PassState) : Type 0 where
-  pub took : Taken (op.New d ty false) p taken
-  pub begins : BeginsTurn (op.New d ty false) taken
+  pub took : Taken (Op.New d ty false) p taken
+  pub begins : BeginsTurn (Op.New d ty false) taken
   pub seeks : Seeks (Some a) taken done
   pub runs : RunsOne taken done
-  pub gives : Makes done step.Give q
+  pub gives : Makes done Step.Give q
   pub rests : call_of q ≡ at_rest
 
 module _ {d ty : ℕ} {a : Answer} {p taken done q : PassState} (m : NewGiven d ty a p taken done q) where
-  abbrev pub given : GivenBack (op.New d ty false) a p taken done q
+  abbrev pub given : GivenBack (Op.New d ty false) a p taken done q
   given = record { took = m.took; fresh = m.begins.fresh; on = m.seeks.on; gives = m.gives; rests = m.rests }
 
   abbrev turn : TurnOf p.table.config p.seat (done.seen ++ m.gives.others)
   turn = turn_of given
 
   abbrev o : Object
-  o = object_made p.table.config (op.New d ty false)
+  o = object_made p.table.config (Op.New d ty false)
 
   same_object : object_for taken ≡ o
   same_object =
       ap (λ (f : Flight). object_made taken.table.config f.op) m.begins.fresh.call
-      ∙ ap (λ (x : PassState). object_made x.table.config (op.New d ty false)) (taken_is m.took)
+      ∙ ap (λ (x : PassState). object_made x.table.config (Op.New d ty false)) (taken_is m.took)
 
   -- at each step that asks for room
   room_at : (kind : SomeKind) → ((x : Step) → kind x ≡ true → asks_room x ≡ true) → (at : At kind turn.behind)
@@ -121,7 +113,7 @@ module _ {d ty : ℕ} {a : Answer} {p taken done q : PassState} (m : NewGiven d 
             (lacks_given given is_grant grants_held) (lacks_given given lets_go lets_go_held);
       }
 
-  abbrev pub new_called : (flag : Bool) → CalledInTurn flag p (op.New d ty false) a q
+  abbrev pub new_called : (flag : Bool) → CalledInTurn flag p (Op.New d ty false) a q
   new_called flag = called given flag exact
 
 -- the counts of the pages, where all is quiet
@@ -143,14 +135,14 @@ census_told {p} t quiet shows is =
     (histories_keep_lengths c p.seen).pages
 
 -- Giving the turn back leaves the allocations.
-given_allocations : {p q : PassState} → InTurn p → Makes p step.Give q
+given_allocations : {p q : PassState} → InTurn p → Makes p Step.Give q
     → (world_of q).allocations ≡ (world_of p).allocations
 given_allocations {p} {q} t m =
-    let d = made p step.Give q m in
+    let d = made p Step.Give q m in
     ap (λ (w : World). w.allocations) d.world ∙ ap (λ (s : Steady). s.allocations) ((d.frame.turn t.holds).0).steady
 
 -- It is answered Full, where it fits nowhere last.
-module _ {d ty : ℕ} {p taken last done q : PassState} (m : NewGiven d ty answer.Full p taken done q)
+module _ {d ty : ℕ} {p taken last done q : PassState} (m : NewGiven d ty Answer.Full p taken done q)
     (misfits : Misfits taken last) (full : AnswersFull last done) where
   pub last_turn : InTurn last
   last_turn =
@@ -162,21 +154,21 @@ module _ {d ty : ℕ} {p taken last done q : PassState} (m : NewGiven d ty answe
       ∙ ap (λ (x : PassState). record x { seen = last.seen }) (taken_is m.took)
 
   q_is : q ≡ record p { seen = q.seen }
-  q_is = only_seen_by done q step.Give m.gives ∙ ap (λ (x : PassState). record x { seen = q.seen }) (done_is (given m))
+  q_is = only_seen_by done q Step.Give m.gives ∙ ap (λ (x : PassState). record x { seen = q.seen }) (done_is (given m))
 
   abbrev behind : List Event
-  behind = full.behind ++ (m.gives.others ++ event_of done step.Give ∷ [])
+  behind = full.behind ++ (m.gives.others ++ event_of done Step.Give ∷ [])
 
-  seen_is : q.seen ≡ full.before ++ event_of p step.Full ∷ behind
+  seen_is : q.seen ≡ full.before ++ event_of p Step.Full ∷ behind
   seen_is =
-      seen_after m.gives ∙ ap (λ (l : List Event). l ++ (m.gives.others ++ event_of done step.Give ∷ [])) full.is
-      ∙ append_assoc full.before (event_of last step.Full ∷ full.behind)
-      (m.gives.others ++ event_of done step.Give ∷ [])
-      ∙ ap (λ (x : PassState). full.before ++ event_of x step.Full ∷ behind) last_is
+      seen_after m.gives ∙ ap (λ (l : List Event). l ++ (m.gives.others ++ event_of done Step.Give ∷ [])) full.is
+      ∙ append_assoc full.before (event_of last Step.Full ∷ full.behind)
+      (m.gives.others ++ event_of done Step.Give ∷ [])
+      ∙ ap (λ (x : PassState). full.before ++ event_of x Step.Full ∷ behind) last_is
 
   pub is_answered_full : {census : Census} (flag : Bool)
       → census ≡ census_of_allocations last.table.config (world_of last).allocations
-      → IsAnsweredFull flag p (op.New d ty false) census q
+      → IsAnsweredFull flag p (Op.New d ty false) census q
   is_answered_full flag told =
       record {
         called = new_called m flag;
@@ -185,7 +177,7 @@ module _ {d ty : ℕ} {p taken last done q : PassState} (m : NewGiven d ty answe
         is = seen_is;
         full = fulls_fit_nowhere p.table.config q.seen
             (subst (λ (x : PassState). IsHistory x.table.config q.seen) q_is m.gives.pass.history) full.before
-            (event_of p step.Full) behind seen_is refl;
+            (event_of p Step.Full) behind seen_is refl;
         counts =
             told ∙ ap (λ (x : PassState). census_of_allocations x.table.config (world_of last).allocations) last_is
             ∙ ap (λ (xs : List PlacedAllocation). census_of_allocations p.table.config xs)

@@ -1,20 +1,15 @@
 -- One cycle at most: in lists, and in parts of a turn.
 use Rattle.mk_alloc.proofs.Vocabulary.{At, BeginsCycle, BeginsNone, Does, Event, FinishesCycle, InTurn, IsHistory}
-use Rattle.mk_alloc.proofs.Vocabulary.{IsPlaced, List, PassState, RunsOne, RunsOneCycle, ap, append_assoc, false}
+use Rattle.mk_alloc.proofs.Vocabulary.{IsPlaced, List, PassState, RunsOne, RunsOneCycle, Step, ap, append_assoc, false}
 use Rattle.mk_alloc.proofs.Vocabulary.{has_step, is_begin, is_end, is_look, is_placing, refl, subst, sym, ⊎_elim, ◌++◌}
 use Rattle.mk_alloc.proofs.Vocabulary.{◌∙◌, ◌∷◌, ◌≡◌}
 use Rattle.mk_laws.proofs.Longer.{longer_at}
 use Rattle.mk_alloc.proofs.CycleParts.{begin_in, begins_held, finish_in}
-use Rattle.mk_alloc.proofs.DueParts.{at_behind, end_at}
-use Rattle.mk_alloc.proofs.Going.{look_part, looks_begin_none}
-use Rattle.mk_alloc.proofs.GrantParts.{first_behind}
 use Rattle.mk_alloc.proofs.ListParts.{InFirst, InSecond, Lacks, lacks_append, lacks_at, none_at, only_at, stands}
 use Rattle.mk_alloc.proofs.Parts.{Part, part_lacks, seen_behind, seen_then}
-use Rattle.mk_alloc.proofs.PlacedTurns.{place_part}
-use Rattle.mk_alloc.proofs.StepKinds.{AreApart}
-use Rattle.mk_alloc.proofs.Stretches.{SomeKinds}
+use Rattle.mk_alloc.proofs.{DueParts.at_behind, DueParts.end_at, Going.look_part, Going.looks_begin_none}
+use Rattle.mk_alloc.proofs.{GrantParts.first_behind, PlacedTurns.place_part, StepKinds.AreApart, Stretches.SomeKinds}
 use Rattle.mk_alloc.specs.Rooms.{EndsOnly}
-use Rattle.mk_core.specs.declared.events.Step.TheVariants as step
 
 -- lists
 
@@ -58,7 +53,7 @@ one_run xs e ys none_before none_behind ended b =
 -- parts of a turn
 
 placing_no_begin : AreApart is_placing is_begin
-placing_no_begin step.Begin h = cc
+placing_no_begin Step.Begin h = cc
 placing_no_begin _ h = refl
 
 pub begins_none_by : {kinds : SomeKinds} {p q : PassState} → Part kinds p q → AreApart kinds is_begin → BeginsNone p q

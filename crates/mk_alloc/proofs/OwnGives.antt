@@ -2,19 +2,16 @@
 use Rattle.std.proofs.Math.Bool.{and-false}
 use Rattle.mk_laws.proofs.Vocabulary.{false_from_ne_true, list_any}
 use Rattle.mk_alloc.proofs.Vocabulary.{Answer, Bool, Config, Does, EndsExactly, Event, Finding, Has, List, Makes, Op}
-use Rattle.mk_alloc.proofs.Vocabulary.{PassState, Seat, Stage, Step, TurnsOfAreExact, World, [], and_from, and_parts}
-use Rattle.mk_alloc.proofs.Vocabulary.{ap, append-nil, are_of, event_of, false, found, if◌then◌else◌, is_same_seat}
+use Rattle.mk_alloc.proofs.Vocabulary.{PassState, Seat, Stage, Step, TurnsOfAreExact, World, and_from, and_parts, ap}
+use Rattle.mk_alloc.proofs.Vocabulary.{append-nil, are_of, event_of, false, found, if◌then◌else◌, is_same_seat}
 use Rattle.mk_alloc.proofs.Vocabulary.{list_all, list_any-append, map, not, not-true, not_both, or_from, or_parts}
 use Rattle.mk_alloc.proofs.Vocabulary.{own_steps, refl, same_seat, same_self, stages_made, step_at, subst, sym, true}
-use Rattle.mk_alloc.proofs.Vocabulary.{true≢false, turn_stays, world_behind, world_of, ⊎_elim, ◌&&◌, ◌++◌, ◌∙◌, ◌∷◌}
+use Rattle.mk_alloc.proofs.Vocabulary.{true≢false, turn_stays, world_behind, world_of, [], ⊎_elim, ◌&&◌, ◌++◌, ◌∙◌, ◌∷◌}
 use Rattle.mk_alloc.proofs.Vocabulary.{◌≡◌}
-use Rattle.mk_core.specs.Cycles.{is_give}
-use Rattle.mk_core.specs.Growing.{AreOfOthers, own_from}
+use Rattle.mk_core.specs.{Cycles.is_give, Growing.AreOfOthers, Growing.own_from}
+use Rattle.mk_alloc.proofs.ListParts.{InFirst, InSecond, stands}
 use Rattle.mk_caller.specs.Called.{steps_made}
 use Rattle.mk_turns.specs.Doing.{done_in}
-use Rattle.mk_alloc.proofs.ListParts.{InFirst, InSecond, stands}
-use Rattle.mk_core.specs.declared.events.Step.TheVariants as step
-use Rattle.mk_core.specs.declared.seats.Stage.TheVariants as stage
 
 abbrev pub own_give : Seat → Event → Bool
 own_give s e = is_same_seat s e.seat && is_give e.step
@@ -26,14 +23,14 @@ pub gives_append : (s : Seat) (xs ys : List Event) → GivesNone s xs → GivesN
 gives_append s xs ys one two =
     list_any-append (own_give s) xs ys ∙ or_from (list_any (own_give s) xs) (list_any (own_give s) ys) one two
 
-is_own_give : (s : Seat) (e : Event) → e.step ≡ step.Give → e.seat ≡ s → own_give s e ≡ true
+is_own_give : (s : Seat) (e : Event) → e.step ≡ Step.Give → e.seat ≡ s → own_give s e ≡ true
 is_own_give s e give same =
     and_from (is_same_seat s e.seat) (is_give e.step)
     (subst (λ (t : Seat). is_same_seat s t ≡ true) (sym same) (same_self s)) (ap (λ (x : Step). is_give x) give)
 
 gives_at : (s : Seat) (es before : List Event) (e : Event) (behind : List Event) → GivesNone s es → es
     ≡ before ++ e ∷ behind
-    → e.step ≡ step.Give → e.seat ≡ s → ⊥
+    → e.step ≡ Step.Give → e.seat ≡ s → ⊥
 gives_at s es before e behind none is give same =
     let whole : GivesNone s (before ++ e ∷ behind) = subst (λ (l : List Event). GivesNone s l) is none in
     let parts = or_parts (list_any (own_give s) before) (list_any (own_give s) (e ∷ behind))
@@ -105,7 +102,7 @@ does_give_none {kinds} {p} {q} none d =
     kinds_give kinds p.table.config p.seat (world_of p) d.more none d.of_kinds
 
 stays_no_give : HaveNoGive turn_stays
-stays_no_give step.Give h = cc
+stays_no_give Step.Give h = cc
 stays_no_give _ h = refl
 
 pub doing_gives : (p q : PassState) (d : Does turn_stays p q) → GivesNone p.seat d.more
@@ -125,11 +122,11 @@ all_of_steps kinds [] = refl
 all_of_steps kinds (x ∷ xs) = ap (λ (b : Bool). kinds x.event.step && b) (all_of_steps kinds xs)
 
 pub steps_are : (kinds : Step → Bool) → ((s : Stage) → kinds (step_at s) ≡ true) → (p : PassState) (o : Op)
-    (a : Answer) (more : List Event) → kinds (step.Enter o) ≡ true → own_steps p more ≡ steps_made o a
+    (a : Answer) (more : List Event) → kinds (Step.Enter o) ≡ true → own_steps p more ≡ steps_made o a
     → are_of kinds (done_in p more) ≡ true
 steps_are kinds at p o a more enter steps =
     sym (all_of_steps kinds (done_in p more)) ∙ ap (λ (l : List Step). list_all kinds l) steps
-    ∙ and_from (kinds (step.Enter o)) (list_all kinds (map step_at (stages_made o a))) enter
+    ∙ and_from (kinds (Step.Enter o)) (list_all kinds (map step_at (stages_made o a))) enter
     (stages_are kinds at (stages_made o a))
 
 -- so it gives nothing back.
@@ -139,7 +136,7 @@ no_give x = not (is_give x)
 
 at_no_give : (s : Stage) → no_give (step_at s) ≡ true
 unfolding no_give
-at_no_give stage.Probe = refl
+at_no_give Stage.Probe = refl
 at_no_give _ = refl
 
 pub calls_give : (p : PassState) (o : Op) (a : Answer) (more : List Event) → own_steps p more ≡ steps_made o a

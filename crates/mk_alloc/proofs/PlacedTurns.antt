@@ -1,31 +1,23 @@
 -- A turn stays quiet where its New's object is granted, and where it only looks.
-use Rattle.mk_laws.proofs.Basics.{none_on_its_way}
-use Rattle.mk_alloc.proofs.Vocabulary.{Config, CountsAreLeft, Does, Event, Flight, Holding, InTurn, IsHistory, IsPlaced}
-use Rattle.mk_alloc.proofs.Vocabulary.{IsQuiet, IsUnplaced, KeepsGates, LeavesTurn, List, None, OnlyLooks, Option}
-use Rattle.mk_alloc.proofs.Vocabulary.{PassState, PlacedAllocation, Placing, RunPages, Some, Stage, Steady, TurnGoesOn}
-use Rattle.mk_alloc.proofs.Vocabulary.{World, [], ap, arith, call_of, cond, does_wider, fresh_words_of, full_answers}
-use Rattle.mk_alloc.proofs.Vocabulary.{has_place, holds_turn, in_a_word, is_held, is_look, is_pending_free_at}
-use Rattle.mk_alloc.proofs.Vocabulary.{is_placing, is_run_gone, is_undecided_new, known_left, left, looks_left, now_of}
-use Rattle.mk_alloc.proofs.Vocabulary.{refl, releases, same_config, steady_of, subst, sum_by_push, sym, true}
-use Rattle.mk_alloc.proofs.Vocabulary.{turn_stays, unchanged, undecided_new, world_of, ℕ, ◌++◌, ◌+◌, ◌∙◌, ◌∷◌, ◌≡◌}
-use Rattle.mk_laws.proofs.FreshWords.{fresh_pushed}
-use Rattle.mk_cycle.specs.TurnKeeps.{IsGone}
-use Rattle.mk_objects.proofs.JoinedLooks.{looks_call}
-use Rattle.mk_objects.specs.Placing.{object_at_place}
-use Rattle.mk_objects.specs.Unchanged.{IsAsLeft}
-use Rattle.mk_alloc.proofs.CalmStretches.{of_turn}
-use Rattle.mk_alloc.proofs.Going.{looks_of}
-use Rattle.mk_alloc.proofs.Parts.{Part, seen_behind}
+use Rattle.mk_alloc.proofs.Vocabulary.{Answer, Config, CountsAreLeft, Does, Event, Flight, Holding, InTurn, IsHistory}
+use Rattle.mk_alloc.proofs.Vocabulary.{IsPlaced, IsQuiet, IsUnplaced, KeepsGates, LeavesTurn, List, None, OnlyLooks}
+use Rattle.mk_alloc.proofs.Vocabulary.{Option, PassState, PlacedAllocation, Placing, RunPages, Some, Stage, Steady}
+use Rattle.mk_alloc.proofs.Vocabulary.{Step, TurnGoesOn, World, ℕ, ap, arith, call_of, cond, does_wider, fresh_words_of}
+use Rattle.mk_alloc.proofs.Vocabulary.{full_answers, has_place, holds_turn, in_a_word, is_held, is_look}
+use Rattle.mk_alloc.proofs.Vocabulary.{is_pending_free_at, is_placing, is_run_gone, is_undecided_new, known_left, left}
+use Rattle.mk_alloc.proofs.Vocabulary.{looks_left, now_of, refl, releases, same_config, steady_of, subst, sum_by_push}
+use Rattle.mk_alloc.proofs.Vocabulary.{sym, true, turn_stays, unchanged, undecided_new, world_of, [], ◌++◌, ◌+◌, ◌∙◌}
+use Rattle.mk_alloc.proofs.Vocabulary.{◌∷◌, ◌≡◌}
+use Rattle.mk_laws.proofs.{Basics.none_on_its_way, FreshWords.fresh_pushed}
 use Rattle.mk_alloc.proofs.PlacingStretches.{LeavesBeside, leaves_beside, placing_in_turn}
 use Rattle.mk_alloc.proofs.QuietTurns.{none_held_kept, quiet_kept, same_phase}
-use Rattle.mk_alloc.proofs.RetiredTurns.{given_is_decided}
-use Rattle.mk_alloc.proofs.Stretches.{Within, does_stretch}
-use Rattle.mk_core.specs.declared.events.Answer.TheVariants as answer
-use Rattle.mk_core.specs.declared.events.Step.TheVariants as step
-use Rattle.mk_core.specs.declared.seats.Stage.TheVariants as stage
+use Rattle.mk_alloc.proofs.{CalmStretches.of_turn, Going.looks_of, Parts.Part, Parts.seen_behind}
+use Rattle.mk_alloc.proofs.{RetiredTurns.given_is_decided, Stretches.Within, Stretches.does_stretch}
+use Rattle.mk_cycle.specs.TurnKeeps.{IsGone}
+use Rattle.mk_objects.{proofs.JoinedLooks.looks_call, specs.Placing.object_at_place, specs.Unchanged.IsAsLeft}
 
 looks_place : Within is_look is_placing
-looks_place step.Begin h = cc
+looks_place Step.Begin h = cc
 looks_place _ h = cc
 
 pub place_part : {p q : PassState} → InTurn p → Does is_placing p q → IsHistory q.table.config q.seen
@@ -138,7 +130,7 @@ module _ (p q : PassState) (t : InTurn p) (u : IsUnplaced p) (quiet : IsQuiet p)
   counts : CountsAreLeft p.table.config p.seen q.seen
   counts = counts_beside p q t placed.granted.does history
 
-  decided : (call_of q).stage ≡ stage.Give
+  decided : (call_of q).stage ≡ Stage.Give
   decided =
       ap (λ (x : PassState). (call_of x).stage) placed.granted.same
       ∙ ap (λ (f : Flight). f.stage) placed.granted.world.call
@@ -172,7 +164,7 @@ module _ (p q : PassState) (t : InTurn p) (u : IsUnplaced p) (quiet : IsQuiet p)
         };
       }
 
-  pub placed_on : TurnGoesOn (Some answer.Done) p q
+  pub placed_on : TurnGoesOn (Some Answer.Done) p q
   placed_on =
       record {
         does = does_wider is_placing turn_stays placing_in_turn p q placed.granted.does;

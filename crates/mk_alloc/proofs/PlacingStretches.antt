@@ -1,36 +1,34 @@
 -- Stretches of a turn in which no gate is held or opened, no cycle ends, no New is full and no object is freed.
-use Rattle.mk_laws.proofs.Basics.{Behind, tally_keeps}
 use Rattle.mk_laws.proofs.Vocabulary.{Marker, Progress, cases_eq, decided, ne_eqb, sees_double, target}
-use Rattle.mk_alloc.proofs.Vocabulary.{Bool, Caller, Config, CountsAreLeft, Decided, Event, Flight, Has, Holding, Host}
-use Rattle.mk_alloc.proofs.Vocabulary.{List, Moment, PassState, Seat, Step, World, [], actor_of, answer_decided, ap}
-use Rattle.mk_alloc.proofs.Vocabulary.{arith, call_decided, caller_number, calls, calls_more, cond, ends, eq-eqb}
-use Rattle.mk_alloc.proofs.Vocabulary.{event_of, false, first_world, flight_of, found, full_answers, fulls_append}
-use Rattle.mk_alloc.proofs.Vocabulary.{fulls_of, if◌then◌else◌, inl, inr, is_end, is_held, is_placing, left, left_after}
-use Rattle.mk_alloc.proofs.Vocabulary.{progress, refl, slice_index, still, sum_by_push, sym, true, ℕ, ◌++◌, ◌+◌, ◌==◌}
-use Rattle.mk_alloc.proofs.Vocabulary.{◌∙◌, ◌∷◌, ◌≡◌, ◌≢◌}
+use Rattle.mk_alloc.proofs.Vocabulary.{Answer, Bool, Caller, Config, CountsAreLeft, Decided, Event, Flight, Has}
+use Rattle.mk_alloc.proofs.Vocabulary.{Holding, Host, List, Moment, PassState, Seat, Step, World, ℕ, actor_of}
+use Rattle.mk_alloc.proofs.Vocabulary.{answer_decided, ap, arith, call_decided, caller_number, calls, calls_more, cond}
+use Rattle.mk_alloc.proofs.Vocabulary.{ends, eq-eqb, event_of, false, first_world, flight_of, found, full_answers}
+use Rattle.mk_alloc.proofs.Vocabulary.{fulls_append, fulls_of, if◌then◌else◌, inl, inr, is_end, is_held, is_placing}
+use Rattle.mk_alloc.proofs.Vocabulary.{left, left_after, progress, refl, slice_index, still, sum_by_push, sym, true, []}
+use Rattle.mk_alloc.proofs.Vocabulary.{◌++◌, ◌+◌, ◌==◌, ◌∙◌, ◌∷◌, ◌≡◌, ◌≢◌}
 use Rattle.mk_core.specs.Effects.{holding_behind}
 use Rattle.mk_laws.proofs.OthersCounts.{answers_full, counts_nothing, entry_fulls}
+use Rattle.mk_laws.proofs.Basics.{Behind, tally_keeps}
 use Rattle.mk_alloc.proofs.Stretches.{AreOfTurn, Here, Stretch, along, holds_none}
-use Rattle.mk_core.specs.declared.events.Step.TheVariants as step
-use Rattle.mk_core.specs.declared.events.Answer.TheVariants as answer
 
 pub placing_in_turn : AreOfTurn is_placing
-placing_in_turn step.Begin h = cc
+placing_in_turn Step.Begin h = cc
 placing_in_turn _ h = cc
 
 placing_gates : (c : Config) (m : Moment) (seat : Seat) (x : Step) → is_placing x ≡ true
     → (Behind c m seat x).words.gates ≡ m.words.gates
-placing_gates c m seat (step.Tally n v) h = (tally_keeps m.words n v).gates
+placing_gates c m seat (Step.Tally n v) h = (tally_keeps m.words n v).gates
 placing_gates c m seat _ h = cc
 
 placing_frees_none : (c : Config) (m : Moment) (seat : Seat) (f : Flight) (n : ℕ) (x : Step) (h : Holding)
     → is_placing x ≡ true
     → (holding_behind c m seat f n x h).freed ≡ h.freed
-placing_frees_none c m seat f n step.Begin h kind = cc
+placing_frees_none c m seat f n Step.Begin h kind = cc
 placing_frees_none c m seat f n _ h kind = cc
 
 placing_ends_none : (x : Step) → is_placing x ≡ true → is_end x ≡ false
-placing_ends_none step.End h = cc
+placing_ends_none Step.End h = cc
 placing_ends_none _ h = refl
 
 either_answer : (b : Bool) (x y : Progress) → answers_full x.answer ≡ false → answers_full y.answer ≡ false
@@ -40,8 +38,8 @@ either_answer false x y one two = two
 
 placing_answers : (c : Config) (m : Moment) (f : Flight) (n : ℕ) (x : Step) → is_placing x ≡ true
     → answers_full (progress c m f n x).answer ≡ false
-placing_answers c m f n (step.Look x) h =
-    either_answer (sees_double m.words (target c.pages m.words f) x) (decided f answer.Double) (still f) refl refl
+placing_answers c m f n (Step.Look x) h =
+    either_answer (sees_double m.words (target c.pages m.words f) x) (decided f Answer.Double) (still f) refl refl
 placing_answers c m f n _ h = cc
 
 placing_decides : (c : Config) (m : Moment) (seat : Seat) (x : Step) → is_placing x ≡ true

@@ -1,36 +1,31 @@
 -- What keeps a turn quiet, and that a quiet one may look at the phase and, once its call is decided, be given back.
-use Rattle.mk_laws.proofs.Vocabulary.{IsSettled, all_below-at, held_by_pages, is_decided}
+use Rattle.mk_laws.proofs.Vocabulary.{IsSettled, Word, all_below-at, held_by_pages, is_decided}
 use Rattle.mk_alloc.proofs.Vocabulary.{Acts, BeginsCycle, Config, Done, FinishesCycle, InTurn, IsEnabledTo, IsHistory}
 use Rattle.mk_alloc.proofs.Vocabulary.{IsOutOfStop, IsQuiet, KeepsGates, LeavesTurn, List, Looks, Moment, PassState}
-use Rattle.mk_alloc.proofs.Vocabulary.{PlacedAllocation, Stage, Steady, TalliesAreTidy, and_from, ap, call_of}
+use Rattle.mk_alloc.proofs.Vocabulary.{PlacedAllocation, Stage, Steady, Step, TalliesAreTidy, ℕ, and_from, ap, call_of}
 use Rattle.mk_alloc.proofs.Vocabulary.{calm_keeps, does_step, ends, eq-eqb, free_then, fresh_words_of, full_answers}
 use Rattle.mk_alloc.proofs.Vocabulary.{gates_behind, gone_is_unmapped, has_place, held_by_allocations, in_a_word, inl}
 use Rattle.mk_alloc.proofs.Vocabulary.{inr, is_held, is_look, is_pending_free, is_run_gone, none_is_held, not, now_of}
 use Rattle.mk_alloc.proofs.Vocabulary.{off_four, or_left, phase_of, refl, releases, same_config, steady_of, subst, sym}
-use Rattle.mk_alloc.proofs.Vocabulary.{true, unchanged, world_of, ℕ, ◌&&◌, ◌==◌, ◌||◌, ◌∙◌, ◌≡◌, ◌⊎◌}
+use Rattle.mk_alloc.proofs.Vocabulary.{true, unchanged, world_of, ◌&&◌, ◌==◌, ◌||◌, ◌∙◌, ◌≡◌, ◌⊎◌}
 use Rattle.mk_core.specs.Counts.{TalliesAreExact}
-use Rattle.mk_words.proofs.Tallies.{settled_tallies}
-use Rattle.mk_cycle.proofs.Allowed.{look_allowed, protocol}
-use Rattle.mk_cycle.proofs.BeginSteps.{all_from}
-use Rattle.mk_cycle.proofs.MayAct.{may_act}
+use Rattle.mk_cycle.proofs.{Allowed.look_allowed, Allowed.protocol, BeginSteps.all_from, MayAct.may_act}
 use Rattle.mk_cycle.specs.EngineLaw.{IsFreeForCycle}
-use Rattle.mk_core.specs.declared.events.Step.TheVariants as step
-use Rattle.mk_core.specs.declared.events.Word.TheVariants as word
-use Rattle.mk_core.specs.declared.seats.Stage.TheVariants as stage
+use Rattle.mk_words.proofs.Tallies.{settled_tallies}
 
 -- the look at the phase
 
-pub phase_allowed : (p : PassState) → InTurn p → IsFreeForCycle p → IsEnabledTo p (step.Look word.Phase)
-phase_allowed p t free = look_allowed p t free word.Phase refl refl
+pub phase_allowed : (p : PassState) → InTurn p → IsFreeForCycle p → IsEnabledTo p (Step.Look Word.Phase)
+phase_allowed p t free = look_allowed p t free Word.Phase refl refl
 
 pub looked : (p q : PassState) → InTurn p → IsFreeForCycle p → IsHistory q.table.config q.seen
-    → Acts p (step.Look word.Phase) q
+    → Acts p (Step.Look Word.Phase) q
     → Looks p q
 looked p q t free history a =
     record {
-      does = does_step is_look p q (step.Look word.Phase) a.makes refl;
-      keeps = calm_keeps p (step.Look word.Phase) q a t history refl free unchanged refl;
-      gates = gates_behind p (step.Look word.Phase) q a refl;
+      does = does_step is_look p q (Step.Look Word.Phase) a.makes refl;
+      keeps = calm_keeps p (Step.Look Word.Phase) q a t history refl free unchanged refl;
+      gates = gates_behind p (Step.Look Word.Phase) q a refl;
     }
 
 -- What is exact and tidy stays so where all that only the holder changes is kept, but for the tally of the Fulls.
@@ -139,7 +134,7 @@ give_phase : (n : ℕ) → (n ≡ 0) ⊎ (n ≡ 1) → ((n == 0) || (n == 1) || 
 give_phase n (inl none) = or_left ((n == 0) || (n == 1)) (n == 5) (or_left (n == 0) (n == 1) (eq-eqb n 0 none))
 give_phase n (inr one) = ap (λ (i : ℕ). (i == 0) || (i == 1) || (i == 5)) one
 
-pub give_allowed : (p : PassState) → InTurn p → IsQuiet p → (call_of p).stage ≡ stage.Give → IsEnabledTo p step.Give
+pub give_allowed : (p : PassState) → InTurn p → IsQuiet p → (call_of p).stage ≡ Stage.Give → IsEnabledTo p Step.Give
 give_allowed p t quiet decided =
     let m : Moment = now_of p in
     let settled : IsSettled (world_of p) = record {
@@ -148,7 +143,7 @@ give_allowed p t quiet decided =
       unmapped = gone_is_unmapped m.words m.seats.holding.freed quiet.free.gone;
     } in
     let told = settled_tallies p.table.config p.seen t.history settled quiet.exact in
-    may_act p step.Give (protocol p t quiet.free) t.holds quiet.free.decided refl refl quiet.gates
+    may_act p Step.Give (protocol p t quiet.free) t.holds quiet.free.decided refl refl quiet.gates
     (give_phase (phase_of m.words) quiet.phase)
     (and_from (is_decided (call_of p).stage && is_run_gone m.words m.seats.holding.freed &&
     (m.words.held == held_by_pages m.words))

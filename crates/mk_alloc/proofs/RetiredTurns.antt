@@ -2,35 +2,29 @@
 use Rattle.mk_alloc.proofs.Vocabulary.{Answer, Bool, Config, DecidesFree, Event, FreeIsExact, FreesFirst, Holding}
 use Rattle.mk_alloc.proofs.Vocabulary.{InTurn, IsDue, IsDueIn, IsDueSince, IsFresh, IsHistory, IsOutOfStop, List, Op}
 use Rattle.mk_alloc.proofs.Vocabulary.{PassState, Placing, RunsIfDue, Some, Stage, Step, TalliesAreTidy, TurnGoesOn}
-use Rattle.mk_alloc.proofs.Vocabulary.{TurnOf, ap, append_assoc, append_cancel_left, call_of, cases_Bool, does_wider}
+use Rattle.mk_alloc.proofs.Vocabulary.{TurnOf, ℕ, ap, append_assoc, append_cancel_left, call_of, cases_Bool, does_wider}
 use Rattle.mk_alloc.proofs.Vocabulary.{false, finishes, has_place, inl, inr, is_begin, is_end, is_freeing, is_of_cycle}
 use Rattle.mk_alloc.proofs.Vocabulary.{is_pending_free_at, none_is_held, now_of, phase_of, refl, same_config, subst}
-use Rattle.mk_alloc.proofs.Vocabulary.{sym, true, turn_stays, within_turn, ℕ, ⊎_elim, ◌++◌, ◌∙◌, ◌∷◌, ◌≡◌}
+use Rattle.mk_alloc.proofs.Vocabulary.{sym, true, turn_stays, within_turn, ⊎_elim, ◌++◌, ◌∙◌, ◌∷◌, ◌≡◌}
 use Rattle.mk_alloc.proofs.CalledTurns.{GivenBack, lacks_given, phase_taken, taken_is, turn_of, within_is}
-use Rattle.mk_alloc.proofs.CycleParts.{begins_held, finishes_held}
 use Rattle.mk_alloc.proofs.DueParts.{RunIn, at_behind, ends_before, run_in, run_list}
 use Rattle.mk_alloc.proofs.FreeTurns.{cycles_held, due_exact, freeing_no_cycle, is_quar, not_due_without, quars_held}
 use Rattle.mk_alloc.proofs.FreeTurns.{undue_exact}
-use Rattle.mk_alloc.proofs.Going.{IsCallers, then_on}
 use Rattle.mk_alloc.proofs.ListParts.{InFirst, InSecond, Lacks, lacks_append, lacks_first, stands}
-use Rattle.mk_alloc.proofs.Parts.{Part, part_lacks, seen_by, seen_then}
-use Rattle.mk_alloc.proofs.QuietTurns.{same_phase}
-use Rattle.mk_alloc.proofs.StepKinds.{AreApart}
-use Rattle.mk_alloc.proofs.Stretches.{AreOfTurn, SomeKinds, Within}
-use Rattle.mk_never.specs.declared.operations.Op.TheVariants as op
-use Rattle.mk_core.specs.declared.events.Step.TheVariants as step
-use Rattle.mk_core.specs.declared.seats.Stage.TheVariants as stage
+use Rattle.mk_alloc.proofs.{CycleParts.begins_held, CycleParts.finishes_held, Going.IsCallers, Going.then_on}
+use Rattle.mk_alloc.proofs.{Parts.Part, Parts.part_lacks, Parts.seen_by, Parts.seen_then, QuietTurns.same_phase}
+use Rattle.mk_alloc.proofs.{StepKinds.AreApart, Stretches.AreOfTurn, Stretches.SomeKinds, Stretches.Within}
 
 pub freeing_in_turn : AreOfTurn is_freeing
-freeing_in_turn step.Begin h = refl
+freeing_in_turn Step.Begin h = refl
 freeing_in_turn _ h = cc
 
-pub given_is_decided : (o : Op) → is_pending_free_at o stage.Give ≡ false
-given_is_decided (op.Free p) = refl
+pub given_is_decided : (o : Op) → is_pending_free_at o Stage.Give ≡ false
+given_is_decided (Op.Free p) = refl
 given_is_decided _ = refl
 
 -- A Free that is decided goes on, quietly.
-module _ (taken : PassState) (r : ℕ) (fresh : IsFresh taken (Some (op.Free r))) (phase : IsOutOfStop (now_of taken))
+module _ (taken : PassState) (r : ℕ) (fresh : IsFresh taken (Some (Op.Free r))) (phase : IsOutOfStop (now_of taken))
     (tidy : TalliesAreTidy taken.table.config taken.seen) where
   pub decided_on : (kinds : Step → Bool) (a : Answer) (q : PassState)
       → Within kinds is_freeing → DecidesFree kinds a taken q → TurnGoesOn (Some a) taken q
@@ -67,10 +61,10 @@ run_or_rest {flag} {due} {a} {taken} {p} {q} x t seat run history = elim (cases_
 ]
 
 freeing_no_begin : AreApart is_freeing is_begin
-freeing_no_begin step.Begin h = cc
+freeing_no_begin Step.Begin h = cc
 freeing_no_begin _ h = refl
 
-module _ {p taken decided done q : PassState} {r : ℕ} {a : Answer} (g : GivenBack (op.Free r) a p taken done q)
+module _ {p taken decided done q : PassState} {r : ℕ} {a : Answer} (g : GivenBack (Op.Free r) a p taken done q)
     {kinds : SomeKinds} (within : Within kinds is_freeing) (x : Part kinds taken decided) where
   abbrev c : Config
   c = p.table.config

@@ -1,21 +1,19 @@
 -- Where a New asks for room: its cycle's begin and its end come while its object has no place.
-use Rattle.std.specs.Prelude.{IsSome}
+use Rattle.std.proofs.Common.{IsSome}
 use Rattle.mk_alloc.proofs.Vocabulary.{AsksRoom, BeginsCycle, Config, Does, Event, FinishesCycle, HasNoPlace, InTurn}
-use Rattle.mk_alloc.proofs.Vocabulary.{IsHistory, List, None, Object, Option, PassState, Place, Some, Storage, [], ap}
+use Rattle.mk_alloc.proofs.Vocabulary.{IsHistory, List, None, Object, Option, PassState, Place, Some, Step, Storage, ap}
 use Rattle.mk_alloc.proofs.Vocabulary.{append-nil, append_assoc, append_cancel_left, asks_room, begins_marking, call_of}
 use Rattle.mk_alloc.proofs.Vocabulary.{clears, does_step, does_then, does_wider, false, is_begin, is_look}
-use Rattle.mk_alloc.proofs.Vocabulary.{is_pending_free, is_placing, is_want, or_from, place_after, refl, subst, sym}
+use Rattle.mk_alloc.proofs.Vocabulary.{is_pending_free, is_placing, is_want, or_from, place_after, refl, subst, sym, []}
 use Rattle.mk_alloc.proofs.Vocabulary.{⊎_elim, ◌++◌, ◌∙◌, ◌∷◌, ◌≡◌}
 use Rattle.mk_geom.specs.Storages.{Fits}
 use Rattle.mk_alloc.proofs.CalmStretches.{of_cycles, of_turn, releases_none, stays_reserved}
 use Rattle.mk_alloc.proofs.CycleParts.{begins_held, closing, ends_marking, gives_room, gives_room_back}
 use Rattle.mk_alloc.proofs.CycleParts.{part_behind_closing, part_closing, wants_held}
-use Rattle.mk_alloc.proofs.Going.{IsCallers}
 use Rattle.mk_alloc.proofs.ListParts.{InFirst, InSecond, lacks_at, stands}
 use Rattle.mk_alloc.proofs.Parts.{Part, part_lacks, seen_behind}
-use Rattle.mk_alloc.proofs.StepKinds.{AreApart, IsHolders}
 use Rattle.mk_alloc.proofs.Stretches.{SomeKinds, Stretch, Within, does_stretch, first_part}
-use Rattle.mk_core.specs.declared.events.Step.TheVariants as step
+use Rattle.mk_alloc.proofs.{Going.IsCallers, StepKinds.AreApart, StepKinds.IsHolders}
 
 pub rooms_held : IsHolders asks_room
 rooms_held x h = or_from (is_begin x) (is_want x) (begins_held x h) (wants_held x h)
@@ -87,27 +85,27 @@ module _ {p q : PassState} (o : Object) (seat : IsCallers p) (free : is_pending_
 -- So it is after a `begin`, and up to the `close` of a cycle.
 
 clears_none : Within clears releases_none
-clears_none step.Begin h = refl
+clears_none Step.Begin h = refl
 clears_none _ h = cc
 
 marking_none : Within begins_marking releases_none
-marking_none step.Begin h = refl
+marking_none Step.Begin h = refl
 marking_none _ h = cc
 
 ending_none : Within ends_marking releases_none
-ending_none step.Begin h = refl
+ending_none Step.Begin h = refl
 ending_none _ h = cc
 
 back_asks_none : AreApart gives_room asks_room
-back_asks_none step.Begin h = cc
+back_asks_none Step.Begin h = cc
 back_asks_none _ h = cc
 
 pub looks_no_room : AreApart is_look asks_room
-looks_no_room step.Begin h = cc
+looks_no_room Step.Begin h = cc
 looks_no_room _ h = cc
 
 pub places_no_room : AreApart is_placing asks_room
-places_no_room step.Begin h = cc
+places_no_room Step.Begin h = cc
 places_no_room _ h = cc
 
 pub part_begun : {p q : PassState} → BeginsCycle p q → InTurn p → IsHistory q.table.config q.seen
@@ -120,7 +118,7 @@ part_begun {p} {q} law t history =
       does =
           does_then releases_none p m.cleared q (does_wider clears releases_none clears_none p m.cleared m.before)
           (does_then releases_none m.cleared m.begun q
-          (does_step releases_none m.cleared m.begun step.Begin m.begin refl)
+          (does_step releases_none m.cleared m.begun Step.Begin m.begin refl)
           (does_wider begins_marking releases_none marking_none m.begun q m.behind));
       history = history;
     }

@@ -8,20 +8,17 @@ use Rattle.mk_alloc.proofs.Vocabulary.{cycle_ended, does_wider, false, inl, inr,
 use Rattle.mk_alloc.proofs.Vocabulary.{new_is_acting, now_of, object_for, object_made, only_seen, own_seat, phase_of}
 use Rattle.mk_alloc.proofs.Vocabulary.{place_after, place_now_for, refl, subst, world_of, ◌==◌, ◌∙◌, ◌≡◌}
 use Rattle.mk_core.specs.Allocations.{place_among_allocations}
-use Rattle.mk_objects.proofs.JoinedLooks.{looks_object, looks_unplaced}
 use Rattle.mk_alloc.proofs.CalmStretches.{cycles_in_turn, is_of_cycles}
 use Rattle.mk_alloc.proofs.CycleParts.{begin_done, finish_done}
-use Rattle.mk_alloc.proofs.FullLeaves.{cycles_leave, leaves_then}
 use Rattle.mk_alloc.proofs.Going.{IsCallers, begun_on, finished_on, look_part, looked_on, looks_of, on_then}
 use Rattle.mk_alloc.proofs.GrantParts.{calm_last, cycles_no_grant, grants_none, last_behind, none_last, none_then}
 use Rattle.mk_alloc.proofs.GrantParts.{places_let_none_go}
-use Rattle.mk_alloc.proofs.Parts.{Part}
 use Rattle.mk_alloc.proofs.PlacedTurns.{looked_beside, place_part, placed_on}
-use Rattle.mk_alloc.proofs.QuietTurns.{same_phase}
 use Rattle.mk_alloc.proofs.RoomParts.{finish_room, looks_no_room, no_place, none_behind, nowhere_then, part_begun}
 use Rattle.mk_alloc.proofs.RoomParts.{places_no_room, room_kept, room_lacks, room_then}
+use Rattle.mk_alloc.proofs.{FullLeaves.cycles_leave, FullLeaves.leaves_then, Parts.Part, QuietTurns.same_phase}
 use Rattle.mk_alloc.specs.Rooms.{MisfitsIdly}
-use Rattle.mk_core.specs.declared.events.Answer.TheVariants as answer
+use Rattle.mk_objects.proofs.JoinedLooks.{looks_object, looks_unplaced}
 
 -- An undecided New is a caller's.
 pub new_callers : (p : PassState) → IsUnplaced p → IsCallers p
@@ -52,7 +49,7 @@ seeks_then a p q r x y =
 
 pub seeks_placed : (p q : PassState) → InTurn p → IsUnplaced p → IsQuiet p → IsPlaced p q
     → IsHistory q.table.config q.seen
-    → Seeks (Some answer.Done) p q
+    → Seeks (Some Answer.Done) p q
 seeks_placed p q t u quiet placed history =
     let x = place_part t placed.granted.does history in
     record {

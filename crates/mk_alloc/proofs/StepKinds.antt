@@ -1,24 +1,22 @@
 -- What stretches of a turn lack, by their kinds of step: what they don't do, others don't do either, where it is the
 -- turn's holder's.
-use Rattle.mk_laws.proofs.Basics.{Actor, AsHolder, AsMarker, InCallOf, is_holders}
-use Rattle.mk_laws.proofs.Vocabulary.{group_of, is_of_turn}
-use Rattle.mk_alloc.proofs.Vocabulary.{Config, Event, Has, HoldsTurn, List, Moment, PassState, Seat, Step, [], actor_of}
-use Rattle.mk_alloc.proofs.Vocabulary.{ap, false, has_step, left, or_from, refl, true, view_of, ⊎_elim, ◌++◌, ◌∷◌, ◌≡◌}
+use Rattle.mk_laws.proofs.Vocabulary.{Group, group_of, is_of_turn}
+use Rattle.mk_alloc.proofs.Vocabulary.{Config, Event, Has, HoldsTurn, List, Moment, PassState, Seat, Step, actor_of, ap}
+use Rattle.mk_alloc.proofs.Vocabulary.{false, has_step, left, or_from, refl, true, view_of, [], ⊎_elim, ◌++◌, ◌∷◌, ◌≡◌}
 use Rattle.mk_alloc.proofs.Vocabulary.{◌≢◌}
+use Rattle.mk_laws.proofs.Basics.{Actor, AsHolder, AsMarker, InCallOf, is_holders}
 use Rattle.mk_laws.proofs.Actors.{CallTakes, HostTakes}
-use Rattle.mk_alloc.proofs.ListParts.{Lacks, SomeKind}
 use Rattle.mk_alloc.proofs.Stretches.{AreOfTurn, Here, IsOwn, SomeKinds, Stretch, first_of, holds_none}
-use Rattle.mk_core.specs.declared.events.Group.TheVariants as group
-use Rattle.mk_core.specs.declared.events.Step.TheVariants as step
+use Rattle.mk_alloc.proofs.ListParts.{Lacks, SomeKind}
 
-of_callers : (x : Step) → group_of x ≡ group.Callers → is_holders x ≡ false
-of_callers (step.Take o) is = refl
-of_callers step.Over is = cc
+of_callers : (x : Step) → group_of x ≡ Group.Callers → is_holders x ≡ false
+of_callers (Step.Take o) is = refl
+of_callers Step.Over is = cc
 of_callers x is = ap is_of_turn is
 
-of_markers : (x : Step) → group_of x ≡ group.Markers → is_holders x ≡ false
-of_markers (step.Take o) is = refl
-of_markers step.Over is = cc
+of_markers : (x : Step) → group_of x ≡ Group.Markers → is_holders x ≡ false
+of_markers (Step.Take o) is = refl
+of_markers Step.Over is = cc
 of_markers x is = ap is_of_turn is
 
 outside : (c : Config) (m : Moment) (seat : Seat) (x : Step) → (HoldsTurn c (view_of m) seat → ⊥) → Actor c m seat x

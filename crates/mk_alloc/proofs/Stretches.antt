@@ -1,18 +1,17 @@
 -- Stretches of a turn: events of its holder, of some kinds, and of others. What each of them keeps, all keep.
 use Rattle.std.proofs.lemmas.List.Folds.{list_all-append}
-use Rattle.mk_laws.proofs.Basics.{Known, Meets, same_holder}
 use Rattle.mk_alloc.proofs.Vocabulary.{AreOfOthers, Bool, Config, Does, Event, Finding, Flight, Has, Holds, HoldsTurn}
-use Rattle.mk_alloc.proofs.Vocabulary.{IsHistory, IsTurn, List, Makes, Moment, PassState, Seat, Step, World, []}
-use Rattle.mk_alloc.proofs.Vocabulary.{and_parts, ap, append-nil, append_assoc, are_of, comes_last}
-use Rattle.mk_alloc.proofs.Vocabulary.{earlier_part_is_history, event_of, false, flight_of, found, holds_turn}
-use Rattle.mk_alloc.proofs.Vocabulary.{if◌then◌else◌, inl, inr, is_same_seat, known_left, left, left_after, now_of}
-use Rattle.mk_alloc.proofs.Vocabulary.{op_for, refl, same_seat, same_self, subst, sym, true, true≢false, turn_stays}
-use Rattle.mk_alloc.proofs.Vocabulary.{view_of, world_behind, ◌++◌, ◌∙◌, ◌∷◌, ◌≡◌, ◌≢◌, ◌⊎◌}
+use Rattle.mk_alloc.proofs.Vocabulary.{IsHistory, IsTurn, List, Makes, Moment, PassState, Seat, Step, World, and_parts}
+use Rattle.mk_alloc.proofs.Vocabulary.{ap, append-nil, append_assoc, are_of, comes_last, earlier_part_is_history}
+use Rattle.mk_alloc.proofs.Vocabulary.{event_of, false, flight_of, found, holds_turn, if◌then◌else◌, inl, inr}
+use Rattle.mk_alloc.proofs.Vocabulary.{is_same_seat, known_left, left, left_after, now_of, op_for, refl, same_seat}
+use Rattle.mk_alloc.proofs.Vocabulary.{same_self, subst, sym, true, true≢false, turn_stays, view_of, world_behind, []}
+use Rattle.mk_alloc.proofs.Vocabulary.{◌++◌, ◌∙◌, ◌∷◌, ◌≡◌, ◌≢◌, ◌⊎◌}
 use Rattle.mk_core.specs.Growing.{own_from}
-use Rattle.mk_words.proofs.Seats.{others_none}
-use Rattle.mk_words.proofs.TurnSteps.{still_turn}
+use Rattle.mk_laws.proofs.Basics.{Known, Meets, same_holder}
 use Rattle.mk_turns.proofs.Doing.{none_own, others_are_so, own_in_parts}
 use Rattle.mk_turns.specs.Doing.{AreOwnOrOfOthers}
+use Rattle.mk_words.proofs.{Seats.others_none, TurnSteps.still_turn}
 
 -- the pass, where it has seen these
 abbrev pub seeing : PassState → List Event → PassState

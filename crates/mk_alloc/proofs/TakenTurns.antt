@@ -1,17 +1,14 @@
 -- A caller may take the turn for a New or a Free, and finds no stop, and not the end of all.
 use Rattle.mk_laws.proofs.Vocabulary.{is_under_turn, suc, zero, ◌≤◌}
 use Rattle.mk_alloc.proofs.Vocabulary.{Caller, Config, Flight, Has, Host, IsEnabled, IsEnabledTo, IsFresh, IsHistory}
-use Rattle.mk_alloc.proofs.Vocabulary.{IsOutOfStop, Moment, Op, PassState, Seat, Some, TakesTurn, [], ap, arith}
+use Rattle.mk_alloc.proofs.Vocabulary.{IsOutOfStop, Moment, Op, PassState, Seat, Some, Step, TakesTurn, ℕ, ap, arith}
 use Rattle.mk_alloc.proofs.Vocabulary.{at_rest, caller_of_pass, comes_next, flight_of, has_operands, inl, inr, lt-ltb}
-use Rattle.mk_alloc.proofs.Vocabulary.{meets_enabled, now_of, only_one, own_seat, phase_of, refl, subst, sym, true, ℕ}
+use Rattle.mk_alloc.proofs.Vocabulary.{meets_enabled, now_of, only_one, own_seat, phase_of, refl, subst, sym, true, []}
 use Rattle.mk_alloc.proofs.Vocabulary.{◌<◌, ◌∙◌, ◌∷◌, ◌≡◌, ◌⊎◌}
 use Rattle.mk_laws.proofs.Asked.{give_phase}
-use Rattle.mk_words.proofs.OverPhases.{end_is_behind_over}
-use Rattle.mk_words.specs.Seats.{CallersAreBeforeOver}
+use Rattle.mk_alloc.proofs.{CalledTurns.Taken, CalledTurns.taken_same, Going.IsCallers}
 use Rattle.mk_caller.specs.States.{IsIdleCaller}
-use Rattle.mk_alloc.proofs.CalledTurns.{Taken, taken_same}
-use Rattle.mk_alloc.proofs.Going.{IsCallers}
-use Rattle.mk_core.specs.declared.events.Step.TheVariants as step
+use Rattle.mk_words.{proofs.OverPhases.end_is_behind_over, specs.Seats.CallersAreBeforeOver}
 
 pub callers : (p : PassState) → IsIdleCaller p → IsCallers p
 callers p idle = own_seat p idle.caller idle.seat
@@ -28,13 +25,13 @@ took_by {p = p} {taken = taken} {o = o} same idle own takes =
 
 take_for : (c : Config) (m : Moment) (k : ℕ) (o : Op) → k < c.callers → flight_of m (Caller k) ≡ at_rest
     → is_under_turn o ≡ true
-    → has_operands c o ≡ true → IsEnabled c m (record { seat = Caller k; step = step.Take (Some o) })
+    → has_operands c o ≡ true → IsEnabled c m (record { seat = Caller k; step = Step.Take (Some o) })
 take_for c m k o lt rest under operands =
-    meets_enabled c m (record { seat = Caller k; step = step.Take (Some o) })
+    meets_enabled c m (record { seat = Caller k; step = Step.Take (Some o) })
     (record {
       seat = lt-ltb k c.callers lt;
       kind = refl;
-      order = ap (λ (f : Flight). comes_next f.stage f.op (step.Take (Some o))) rest ∙ under;
+      order = ap (λ (f : Flight). comes_next f.stage f.op (Step.Take (Some o))) rest ∙ under;
       range = operands;
       gates = refl;
       phase = refl;
@@ -45,9 +42,9 @@ take_for c m k o lt rest under operands =
 pub take_allowed : (p : PassState) (o : Op) → IsIdleCaller p → caller_of_pass p < p.table.config.callers
     → is_under_turn o
     ≡ true
-    → has_operands p.table.config o ≡ true → IsEnabledTo p (step.Take (Some o))
+    → has_operands p.table.config o ≡ true → IsEnabledTo p (Step.Take (Some o))
 take_allowed p o idle lt under operands =
-    subst (λ (s : Seat). IsEnabled p.table.config (now_of p) (record { seat = s; step = step.Take (Some o) }))
+    subst (λ (s : Seat). IsEnabled p.table.config (now_of p) (record { seat = s; step = Step.Take (Some o) }))
     (sym (callers p idle))
     (take_for p.table.config (now_of p) (caller_of_pass p) o lt
     (subst (λ (s : Seat). flight_of (now_of p) s ≡ at_rest) (callers p idle) idle.rest) under operands)

@@ -3,15 +3,12 @@ use Rattle.mk_alloc.proofs.Vocabulary.{Acts, Answer, Bool, DecidesFree, Does, En
 use Rattle.mk_alloc.proofs.Vocabulary.{Op, PassState, Some, Stage, Step, SweepsNothing, ap, false, is_freeing}
 use Rattle.mk_alloc.proofs.Vocabulary.{is_loading, is_look, not, not-true, now_of, only_seen, refl, step_at, subst}
 use Rattle.mk_alloc.proofs.Vocabulary.{sweeps_then, sym, true, world_of, ⊎_elim, ◌∙◌, ◌≡◌}
+use Rattle.mk_alloc.proofs.{CalledTurns.GivenBack, CalledTurns.taken_is, OwnGives.steps_are}
+use Rattle.mk_alloc.specs.Laws.{CallsSweepNothing, SweepNothingWhereHeld}
+use Rattle.mk_objects.proofs.UnsweptNews.{look_is_no_mark}
 use Rattle.mk_turns.proofs.Sweeping.{does_sweep, kinds_sweep, other_step_sweeps, step_then_sweeps}
 use Rattle.mk_turns.specs.Sweeping.{HaveNoMark, is_mark}
 use Rattle.mk_waiting.proofs.Unswept.{taking_sweeps}
-use Rattle.mk_objects.proofs.UnsweptNews.{look_is_no_mark}
-use Rattle.mk_alloc.proofs.CalledTurns.{GivenBack, taken_is}
-use Rattle.mk_alloc.proofs.OwnGives.{steps_are}
-use Rattle.mk_alloc.specs.Laws.{CallsSweepNothing, SweepNothingWhereHeld}
-use Rattle.mk_core.specs.declared.events.Step.TheVariants as step
-use Rattle.mk_core.specs.declared.seats.Stage.TheVariants as stage
 
 -- A call with `enter` and `leave` marks nothing.
 
@@ -22,7 +19,7 @@ no_mark_marks : HaveNoMark no_mark
 no_mark_marks x h = not-true (is_mark x) h
 
 at_no_mark : (s : Stage) → no_mark (step_at s) ≡ true
-at_no_mark stage.Probe = refl
+at_no_mark Stage.Probe = refl
 at_no_mark _ = refl
 
 pub calls_sweep_nothing : CallsSweepNothing
@@ -35,7 +32,7 @@ calls_sweep_nothing p o a q called =
     }
 
 pub sweep_nothing_where_held : SweepNothingWhereHeld
-sweep_nothing_where_held p o q own held = other_step_sweeps p q (step.Enter o) held.finds.makes refl
+sweep_nothing_where_held p o q own held = other_step_sweeps p q (Step.Enter o) held.finds.makes refl
 
 -- Parts of a turn.
 
@@ -61,11 +58,11 @@ full_sweeps p q r s x y z a b d first second third =
 -- the parts of a Free that aren't of cycles
 
 freeing_has_no_mark : HaveNoMark is_freeing
-freeing_has_no_mark (step.Mark p v) h = cc
+freeing_has_no_mark (Step.Mark p v) h = cc
 freeing_has_no_mark _ h = refl
 
 loading_has_no_mark : HaveNoMark is_loading
-loading_has_no_mark (step.Mark p v) h = cc
+loading_has_no_mark (Step.Mark p v) h = cc
 loading_has_no_mark _ h = refl
 
 pub freeing_then_sweeps : {a : Answer} {p q r : PassState} → DecidesFree is_freeing a p q → SweepsNothing q r
@@ -82,7 +79,7 @@ pub turn_sweeps : {o : Op} {a : Answer} {p taken done q : PassState} → GivenBa
 turn_sweeps {o} {a} {p} {taken} {done} {q} g inside =
     sweeps_then p taken q (taken_is g.took) (taking_sweeps p (Some o) taken g.took.own g.took.takes)
     (sweeps_then taken done q (only_seen taken done g.on.does.more g.on.does.is) inside
-    (other_step_sweeps done q step.Give g.gives refl))
+    (other_step_sweeps done q Step.Give g.gives refl))
 
 -- Only the list has grown where an older cycle was ended.
 pub older_same : (p q : PassState) → IsOutOfStop (now_of p) → EndsOlder p q → q ≡ record p { seen = q.seen }

@@ -1,36 +1,26 @@
 -- The parts that several calls have in common.
-use Rattle.std.proofs.Common.{◌≡◌, ◌≢◌, ℕ, true, List, [], ◌∷◌, refl, sym, ◌∙◌, ap, subst}
-use Rattle.std.specs.Prelude.{Some, None, map}
-use Rattle.mk_never.specs.declared.operations.Op.{Op}
-use Rattle.mk_never.specs.declared.values.Value.TheVariants.{Null as NullValue}
-use Rattle.mk_core.specs.declared.events.Answer.TheVariants as answer
-use Rattle.mk_core.specs.declared.events.Step.{Step}
-use Rattle.mk_core.specs.declared.events.Step.TheVariants as step
-use Rattle.mk_core.specs.declared.seats.Flight.{Flight}
-use Rattle.mk_core.specs.declared.seats.Stage.{Stage}
-use Rattle.mk_core.specs.declared.seats.Stage.TheVariants as stage
-use Rattle.mk_core.specs.declared.seats.Progress.{Progress}
-use Rattle.mk_core.specs.Calls.{at_rest, begun, onward, refused, stage_refused, q_of, progress_reg}
-use Rattle.mk_words.specs.States.{PassState, call_of}
-use Rattle.mk_caller.specs.States.{never_of, value_of}
-use Rattle.mk_caller.specs.Called.{Called, step_at, refused_from}
-use Rattle.mk_caller.specs.Moves.{MayBeginCall, IsAtFlight, is_access, stores_register, refused_steps, refused_register}
-use Rattle.mk_caller.specs.Moves.{behind_q}
-use Rattle.mk_caller.proofs.Chains.{go, to, on_to, either_to, of_same, called, value_kept, access_finds_null}
-use Rattle.mk_caller.proofs.Chains.{access_finds_some, access_is_small, null_steps, refused_puts}
+use Rattle.mk_laws.proofs.Vocabulary.{Answer, Flight, List, None, Null as NullValue, Op, Progress, Some, Stage, Step, ℕ}
+use Rattle.mk_laws.proofs.Vocabulary.{ap, at_rest, begun, map, onward, progress_reg, q_of, refl, refused, stage_refused}
+use Rattle.mk_laws.proofs.Vocabulary.{subst, sym, true, [], ◌∙◌, ◌∷◌, ◌≡◌, ◌≢◌}
+use Rattle.mk_caller.proofs.Chains.{access_finds_null, access_finds_some, access_is_small, called, either_to, go}
+use Rattle.mk_caller.proofs.Chains.{null_steps, of_same, on_to, refused_puts, to, value_kept}
 use Rattle.mk_caller.proofs.Onward.{store_goes_on}
+use Rattle.mk_caller.specs.Moves.{IsAtFlight, MayBeginCall, behind_q, is_access, refused_register, refused_steps}
+use Rattle.mk_caller.specs.Moves.{stores_register}
+use Rattle.mk_caller.specs.{Called.Called, Called.refused_from, Called.step_at, States.never_of, States.value_of}
+use Rattle.mk_words.specs.States.{PassState, call_of}
 
-pub marks_and_leaves : {p q r : PassState} → IsAtFlight p (call_of p).op (step.Dirty ∷ []) None
+pub marks_and_leaves : {p q r : PassState} → IsAtFlight p (call_of p).op (Step.Dirty ∷ []) None
     (onward (call_of p) None).flight q
-    → IsAtFlight q (call_of q).op (step.Leave ∷ []) None at_rest r
-    → IsAtFlight p (call_of p).op (step.Dirty ∷ step.Leave ∷ []) None at_rest r
+    → IsAtFlight q (call_of q).op (Step.Leave ∷ []) None at_rest r
+    → IsAtFlight p (call_of p).op (Step.Dirty ∷ Step.Leave ∷ []) None at_rest r
 marks_and_leaves a b = to a (of_same (ap (λ (f : Flight). f.op) a.call) b)
 
 pub stores_and_leaves : {p q r : PassState} (v : ℕ) → stores_register (call_of p).stage ≡ true
-    → IsAtFlight p (call_of p).op (step.Reg ∷ []) (progress_reg (call_of p) (call_of p).stage v).answer
+    → IsAtFlight p (call_of p).op (Step.Reg ∷ []) (progress_reg (call_of p) (call_of p).stage v).answer
     (progress_reg (call_of p) (call_of p).stage v).flight q
-    → IsAtFlight q (call_of q).op (step.Leave ∷ []) None at_rest r
-    → IsAtFlight p (call_of p).op (step.Reg ∷ step.Leave ∷ []) (progress_reg (call_of p) (call_of p).stage v).answer
+    → IsAtFlight q (call_of q).op (Step.Leave ∷ []) None at_rest r
+    → IsAtFlight p (call_of p).op (Step.Reg ∷ Step.Leave ∷ []) (progress_reg (call_of p) (call_of p).stage v).answer
     at_rest r
 stores_and_leaves {p} v is a b =
     either_to (progress_reg (call_of p) (call_of p).stage v).answer a
@@ -39,43 +29,43 @@ stores_and_leaves {p} v is a b =
 -- a refusal that makes a register null
 pub refuses : {p q r : PassState} (d : ℕ) → (call_of p).stage ≡ stage_refused (call_of p).op
     → Some d ≡ refused_register (call_of p).op
-    → IsAtFlight p (call_of p).op (step.Reg ∷ []) (progress_reg (call_of p) (call_of p).stage 0).answer
+    → IsAtFlight p (call_of p).op (Step.Reg ∷ []) (progress_reg (call_of p) (call_of p).stage 0).answer
     (progress_reg (call_of p) (call_of p).stage 0).flight q
-    → IsAtFlight q (call_of q).op (step.Leave ∷ []) None at_rest r
+    → IsAtFlight q (call_of q).op (Step.Leave ∷ []) None at_rest r
     → IsAtFlight p (call_of p).op (refused_steps (call_of p).op) None at_rest r
 refuses {p} {q} {r} d at is a b =
-    let put : stage_refused (call_of p).op ≡ stage.Put = (refused_puts (call_of p).op d is).0 in
-    let here : (call_of p).stage ≡ stage.Put = at ∙ put in
+    let put : stage_refused (call_of p).op ≡ Stage.Put = (refused_puts (call_of p).op d is).0 in
+    let here : (call_of p).stage ≡ Stage.Put = at ∙ put in
     subst (λ (s : Stage). IsAtFlight p (call_of p).op (map step_at (refused_from s)) None at_rest r) (sym put)
-    (subst (λ (s : Stage). IsAtFlight p (call_of p).op (step.Reg ∷ step.Leave ∷ []) (progress_reg (call_of p) s
+    (subst (λ (s : Stage). IsAtFlight p (call_of p).op (Step.Reg ∷ Step.Leave ∷ []) (progress_reg (call_of p) s
     0).answer
     at_rest r) here
     (stores_and_leaves 0 (ap (λ (s : Stage). stores_register s) here) a b))
 
 loaded : {p q r : PassState} {o : Op} (u : ℕ) (x : Progress) → progress_reg (begun o) (begun o).stage u ≡ x
-    → IsAtFlight p o (step.Enter o ∷ []) None (begun o) q
-    → IsAtFlight q (call_of q).op (step.Reg ∷ []) (progress_reg (call_of q) (call_of q).stage u).answer
+    → IsAtFlight p o (Step.Enter o ∷ []) None (begun o) q
+    → IsAtFlight q (call_of q).op (Step.Reg ∷ []) (progress_reg (call_of q) (call_of q).stage u).answer
     (progress_reg (call_of q) (call_of q).stage u).flight r
-    → IsAtFlight p o (step.Enter o ∷ step.Reg ∷ []) x.answer x.flight r
+    → IsAtFlight p o (Step.Enter o ∷ Step.Reg ∷ []) x.answer x.flight r
 loaded {p} {q} {r} {o} u x is a b =
-    subst (λ (y : Progress). IsAtFlight p o (step.Enter o ∷ step.Reg ∷ []) y.answer y.flight r) is
+    subst (λ (y : Progress). IsAtFlight p o (Step.Enter o ∷ Step.Reg ∷ []) y.answer y.flight r) is
     (go a (λ (f : Flight). progress_reg f f.stage u) refl b)
 
 pub begins : {p q r : PassState} {o : Op} (u : ℕ) → is_access o ≡ true → u ≢ 0
-    → IsAtFlight p o (step.Enter o ∷ []) None (begun o) q
-    → IsAtFlight q (call_of q).op (step.Reg ∷ []) (progress_reg (call_of q) (call_of q).stage u).answer
+    → IsAtFlight p o (Step.Enter o ∷ []) None (begun o) q
+    → IsAtFlight q (call_of q).op (Step.Reg ∷ []) (progress_reg (call_of q) (call_of q).stage u).answer
     (progress_reg (call_of q) (call_of q).stage u).flight r
-    → IsAtFlight p o (step.Enter o ∷ step.Reg ∷ []) None (behind_q o u) r
+    → IsAtFlight p o (Step.Enter o ∷ Step.Reg ∷ []) None (behind_q o u) r
 begins {p} {q} {r} {o} u access ne a b = loaded u (onward (record (begun o) { q = u }) None)
     (access_finds_some o u access ne) a b
 
 pub null_ends : {p q r s : PassState} {o : Op} (u : ℕ) → is_access o ≡ true → u ≡ 0
-    → IsAtFlight p o (step.Enter o ∷ []) None (begun o) q
-    → IsAtFlight q (call_of q).op (step.Reg ∷ []) (progress_reg (call_of q) (call_of q).stage u).answer
+    → IsAtFlight p o (Step.Enter o ∷ []) None (begun o) q
+    → IsAtFlight q (call_of q).op (Step.Reg ∷ []) (progress_reg (call_of q) (call_of q).stage u).answer
     (progress_reg (call_of q) (call_of q).stage u).flight r
-    → IsAtFlight r (call_of r).op (refused_steps (call_of r).op) None at_rest s → Called p o answer.Null s
+    → IsAtFlight r (call_of r).op (refused_steps (call_of r).op) None at_rest s → Called p o Answer.Null s
 null_ends {p} {q} {r} {s} {o} u access zero a b e =
-    let x = loaded u (refused (record (begun o) { q = 0 }) answer.Null)
+    let x = loaded u (refused (record (begun o) { q = 0 }) Answer.Null)
     (ap (λ n. progress_reg (begun o) (begun o).stage n) zero ∙ access_finds_null o access) a b in
     let same : (call_of r).op ≡ o = ap (λ (f : Flight). f.op) x.call in
     called (on_to x (subst (λ (y : Op). IsAtFlight r y (refused_steps y) None at_rest s) same e)) (null_steps o access)
@@ -88,10 +78,10 @@ null_value {p} {q} {o} r ready access is a null =
     sym (value_kept a.makes (q_of o) (access_is_small (never_of p) o access ready.admits.in_range))
     ∙ ap (λ x. value_of q x) (sym is) ∙ null
 
-pub fault_ends : {p q r : PassState} → IsAtFlight p (call_of p).op (step.Probe ∷ []) (Some answer.Fault)
-    (refused (call_of p) answer.Fault).flight q
+pub fault_ends : {p q r : PassState} → IsAtFlight p (call_of p).op (Step.Probe ∷ []) (Some Answer.Fault)
+    (refused (call_of p) Answer.Fault).flight q
     → IsAtFlight q (call_of q).op (refused_steps (call_of q).op) None at_rest r
-    → IsAtFlight p (call_of p).op (step.Probe ∷ refused_steps (call_of p).op) (Some answer.Fault) at_rest r
+    → IsAtFlight p (call_of p).op (Step.Probe ∷ refused_steps (call_of p).op) (Some Answer.Fault) at_rest r
 fault_ends {p} {q} {r} a e =
     let same : (call_of q).op ≡ (call_of p).op = ap (λ (f : Flight). f.op) a.call in
     on_to a (subst (λ (y : Op). IsAtFlight q y (refused_steps y) None at_rest r) same e)

@@ -1,24 +1,14 @@
 -- What a call leaves in its caller's registers.
-use Rattle.std.proofs.Common.{◌≡◌, ◌≢◌, ℕ, ◌+◌, ◌*◌, ◌<◌, Bool, true, false, List, ◌++◌, refl, sym, ◌∙◌, ap, subst}
-use Rattle.std.proofs.Common.{arith}
-use Rattle.std.specs.Prelude.{Some, if◌then◌else◌, slice_index_or}
-use Rattle.std.proofs.lemmas.List.{get_or-set_same, get_or-set_other}
-use Rattle.mk_never.specs.declared.operations.Op.{Op}
-use Rattle.mk_never.specs.declared.operations.Op.TheVariants as op
-use Rattle.mk_never.specs.declared.values.Target.{Target}
-use Rattle.mk_never.specs.declared.values.Target.TheVariants.{Nothing, Unmapped, WordOf}
-use Rattle.mk_never.specs.declared.values.Value.{Value}
-use Rattle.mk_never.specs.declared.values.Value.TheVariants.{Null, Num, Ptr}
-use Rattle.mk_never.specs.NeverHeap.{NeverState, register_at, with_register, word_at, with_word, target_of, left_at}
-use Rattle.mk_never.specs.NeverHeap.{after_free, after_op, is_same}
-use Rattle.mk_never.specs.Admitted.{IsCaller}
-use Rattle.mk_core.specs.declared.events.Answer.{Answer}
-use Rattle.mk_core.specs.History.{never_behind}
+use Rattle.mk_laws.proofs.Vocabulary.{Answer, Bool, List, NeverState, Null, Num, Op, Ptr, Some, Unmapped, Value, WordOf}
+use Rattle.mk_laws.proofs.Vocabulary.{ℕ, after_free, ap, arith, false, get_or-set_other, get_or-set_same, if◌then◌else◌}
+use Rattle.mk_laws.proofs.Vocabulary.{is_same, never_behind, refl, register_at, slice_index_or, subst, sym, target_of}
+use Rattle.mk_laws.proofs.Vocabulary.{true, with_register, with_word, word_at, ◌*◌, ◌++◌, ◌+◌, ◌<◌, ◌∙◌, ◌≡◌, ◌≢◌}
+use Rattle.mk_never.specs.NeverHeap.{after_op, left_at}
+use Rattle.mk_never.specs.{Admitted.IsCaller, declared.values.Target.Target, declared.values.Target.TheVariants.Nothing}
 use Rattle.mk_laws.proofs.OtherCalls.{never_continues}
-use Rattle.mk_words.specs.States.{PassState}
 use Rattle.mk_caller.specs.States.{caller_of_pass, never_of, value_of}
-use Rattle.mk_caller.specs.Called.{Called}
-use Rattle.mk_caller.specs.Laws.{destination, CallsLeaveOtherRegisters}
+use Rattle.mk_caller.specs.{Called.Called, Laws.CallsLeaveOtherRegisters, Laws.destination}
+use Rattle.mk_words.specs.States.{PassState}
 
 set_other : (n : NeverState) (k d r : ℕ) (v : Value) → Some d ≢ Some r
     → register_at (with_register n k d v) k r ≡ register_at n k r
@@ -67,21 +57,21 @@ new_leaves n m k d r v false same ne = set_other m k d r v ne
 
 leaves : (n : NeverState) (k : ℕ) (o : Op) (r : ℕ) → destination o ≢ Some r
     → register_at (after_op n k o) k r ≡ register_at n k r
-leaves n k (op.New d ty full) r ne = new_leaves n _ k d r _ full refl ne
-leaves n k (op.Free p) r ne = free_leaves n k r (register_at n k p)
-leaves n k (op.GetNum q i) r ne = refl
-leaves n k (op.SetNum q i m) r ne = write_leaves n k r (target_of n (register_at n k q) i) (λ a w. Num m)
-leaves n k (op.GetPtr d q i) r ne = read_leaves n k d r (target_of n (register_at n k q) i) ne
-leaves n k (op.SetPtr q i p) r ne = write_leaves n k r (target_of n (register_at n k q) i) (λ a w. register_at n k p)
-leaves n k (op.CasPtr q i p x) r ne = cas_leaves n k r (target_of n (register_at n k q) i) (register_at n k p)
+leaves n k (Op.New d ty full) r ne = new_leaves n _ k d r _ full refl ne
+leaves n k (Op.Free p) r ne = free_leaves n k r (register_at n k p)
+leaves n k (Op.GetNum q i) r ne = refl
+leaves n k (Op.SetNum q i m) r ne = write_leaves n k r (target_of n (register_at n k q) i) (λ a w. Num m)
+leaves n k (Op.GetPtr d q i) r ne = read_leaves n k d r (target_of n (register_at n k q) i) ne
+leaves n k (Op.SetPtr q i p) r ne = write_leaves n k r (target_of n (register_at n k q) i) (λ a w. register_at n k p)
+leaves n k (Op.CasPtr q i p x) r ne = cas_leaves n k r (target_of n (register_at n k q) i) (register_at n k p)
     (register_at n k x)
-leaves n k (op.Lea d q i) r ne = set_other n k d r _ ne
-leaves n k (op.Move d q) r ne = set_other n k d r _ ne
-leaves n k (op.Clear d) r ne = set_other n k d r _ ne
-leaves n k (op.GetGlobal d g) r ne = set_other n k d r _ ne
-leaves n k (op.SetGlobal g p) r ne = refl
-leaves n k (op.Same p q) r ne = refl
-leaves n k (op.IsNull p) r ne = refl
+leaves n k (Op.Lea d q i) r ne = set_other n k d r _ ne
+leaves n k (Op.Move d q) r ne = set_other n k d r _ ne
+leaves n k (Op.Clear d) r ne = set_other n k d r _ ne
+leaves n k (Op.GetGlobal d g) r ne = set_other n k d r _ ne
+leaves n k (Op.SetGlobal g p) r ne = refl
+leaves n k (Op.Same p q) r ne = refl
+leaves n k (Op.IsNull p) r ne = refl
 
 -- A register after a call is what the operation leaves at its place.
 pub value_left : {p q : PassState} {o : Op} {a : Answer} → (c : Called p o a q) → (r : ℕ) → r < 8

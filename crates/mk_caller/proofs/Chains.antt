@@ -1,33 +1,16 @@
 -- A call step by step, from its beginning to its end.
-use Rattle.std.proofs.Common.{◌≡◌, ◌≢◌, ℕ, ◌<◌, Bool, true, List, ◌∷◌, ◌++◌, refl, sym, ◌∙◌, ap, subst, append_assoc}
-use Rattle.std.specs.Prelude.{Option, Some, None, ◌==◌, if◌then◌else◌}
-use Rattle.std.proofs.lemmas.Bool.{ne_eqb}
-use Rattle.mk_never.specs.declared.operations.Op.{Op}
-use Rattle.mk_never.specs.declared.operations.Op.TheVariants as op
-use Rattle.mk_never.specs.declared.values.Target.{Target}
-use Rattle.mk_never.specs.declared.values.Target.TheVariants.{Unmapped}
-use Rattle.mk_never.specs.declared.values.Value.{Value}
-use Rattle.mk_never.specs.NeverHeap.{NeverState, target_of}
-use Rattle.mk_never.specs.Admitted.{OperandsAreInRange}
-use Rattle.mk_never.specs.Laws.{KeepsRegisters}
-use Rattle.mk_core.specs.declared.events.Answer.{Answer}
-use Rattle.mk_core.specs.declared.events.Answer.TheVariants as answer
-use Rattle.mk_core.specs.declared.events.Event.{Event}
-use Rattle.mk_core.specs.declared.events.Step.{Step}
-use Rattle.mk_core.specs.declared.events.Step.TheVariants as step
-use Rattle.mk_core.specs.declared.seats.Flight.{Flight}
-use Rattle.mk_core.specs.declared.seats.Stage.TheVariants as stage
-use Rattle.mk_core.specs.declared.seats.Progress.{Progress}
-use Rattle.mk_core.specs.Calls.{at_rest, begun, onward, refused, first_of, steps_of, stage_refused, q_of, i_of, d_of}
-use Rattle.mk_core.specs.Calls.{progress_reg}
-use Rattle.mk_core.specs.History.{never_behind}
-use Rattle.mk_words.specs.States.{PassState, call_of, event_of}
-use Rattle.mk_caller.specs.States.{caller_of_pass, never_of, value_of}
-use Rattle.mk_caller.specs.Called.{Called, steps_made}
-use Rattle.mk_caller.specs.Causes.{Probes, ProbesAWord}
-use Rattle.mk_caller.specs.Moves.{loads, MayBeginCall, MakesSteps, IsAtFlight, is_access, refused_register}
-use Rattle.mk_caller.specs.Moves.{refused_steps}
+use Rattle.mk_laws.proofs.Vocabulary.{Answer, Bool, Event, Flight, KeepsRegisters, List, NeverState, None, Op, Option}
+use Rattle.mk_laws.proofs.Vocabulary.{Progress, Some, Stage, Step, Unmapped, Value, ℕ, ap, append_assoc, at_rest, begun}
+use Rattle.mk_laws.proofs.Vocabulary.{d_of, i_of, if◌then◌else◌, ne_eqb, never_behind, onward, progress_reg, q_of, refl}
+use Rattle.mk_laws.proofs.Vocabulary.{refused, stage_refused, steps_of, subst, sym, target_of, true, ◌++◌, ◌<◌, ◌==◌}
+use Rattle.mk_laws.proofs.Vocabulary.{◌∙◌, ◌∷◌, ◌≡◌, ◌≢◌}
+use Rattle.mk_never.specs.{Admitted.OperandsAreInRange, declared.values.Target.Target}
+use Rattle.mk_core.specs.Calls.{first_of}
 use Rattle.mk_caller.proofs.Joined.{joined, joined_on}
+use Rattle.mk_caller.specs.{Called.Called, Called.steps_made, Causes.Probes, Causes.ProbesAWord, Moves.IsAtFlight}
+use Rattle.mk_caller.specs.{Moves.MakesSteps, Moves.MayBeginCall, Moves.is_access, Moves.loads, Moves.refused_register}
+use Rattle.mk_caller.specs.{Moves.refused_steps, States.caller_of_pass, States.never_of, States.value_of}
+use Rattle.mk_words.specs.States.{PassState, call_of, event_of}
 
 -- Further steps of a call that isn't decided; how they go on is said by the call before them.
 pub go : {p q r : PassState} {o : Op} {ss ts : List Step} {f : Flight} → IsAtFlight p o ss None f q → (X : Flight
@@ -135,7 +118,7 @@ probes_from {p} {q} {r} {o} {ss} {t} m lt probes =
         record {
           before = m1 ++ x.before;
           behind = x.behind;
-          is = x.is ∙ ap (λ (l : List Event). l ++ event_of p step.Probe ∷ x.behind) join;
+          is = x.is ∙ ap (λ (l : List Event). l ++ event_of p Step.Probe ∷ x.behind) join;
           gets_to =
               subst (λ (v : Value). target_of (never_behind p.table.config (p.seen ++ (m1 ++ x.before))) v
               (i_of o) ≡ t) (keeps (q_of o) lt)
@@ -145,68 +128,68 @@ probes_from {p} {q} {r} {o} {ss} {t} m lt probes =
 
 -- facts of operations
 
-pub access_begins : (o : Op) → is_access o ≡ true → first_of (steps_of o) ≡ stage.LoadQ
-access_begins (op.GetNum q i) h = refl
-access_begins (op.SetNum q i n) h = refl
-access_begins (op.GetPtr d q i) h = refl
-access_begins (op.SetPtr q i p) h = refl
-access_begins (op.CasPtr q i p r) h = refl
-access_begins (op.Lea d q i) h = refl
+pub access_begins : (o : Op) → is_access o ≡ true → first_of (steps_of o) ≡ Stage.LoadQ
+access_begins (Op.GetNum q i) h = refl
+access_begins (Op.SetNum q i n) h = refl
+access_begins (Op.GetPtr d q i) h = refl
+access_begins (Op.SetPtr q i p) h = refl
+access_begins (Op.CasPtr q i p r) h = refl
+access_begins (Op.Lea d q i) h = refl
 access_begins _ h = cc
 
 pub access_finds_null : (o : Op) → is_access o ≡ true → progress_reg (begun o) (begun o).stage 0 ≡ refused
-    (record (begun o) { q = 0 }) answer.Null
-access_finds_null (op.GetNum q i) h = refl
-access_finds_null (op.SetNum q i n) h = refl
-access_finds_null (op.GetPtr d q i) h = refl
-access_finds_null (op.SetPtr q i p) h = refl
-access_finds_null (op.CasPtr q i p r) h = refl
-access_finds_null (op.Lea d q i) h = refl
+    (record (begun o) { q = 0 }) Answer.Null
+access_finds_null (Op.GetNum q i) h = refl
+access_finds_null (Op.SetNum q i n) h = refl
+access_finds_null (Op.GetPtr d q i) h = refl
+access_finds_null (Op.SetPtr q i p) h = refl
+access_finds_null (Op.CasPtr q i p r) h = refl
+access_finds_null (Op.Lea d q i) h = refl
 access_finds_null _ h = cc
 
-pub null_steps : (o : Op) → is_access o ≡ true → step.Enter o ∷ step.Reg ∷ refused_steps o ≡ steps_made o answer.Null
-null_steps (op.GetNum q i) h = refl
-null_steps (op.SetNum q i n) h = refl
-null_steps (op.GetPtr d q i) h = refl
-null_steps (op.SetPtr q i p) h = refl
-null_steps (op.CasPtr q i p r) h = refl
-null_steps (op.Lea d q i) h = refl
+pub null_steps : (o : Op) → is_access o ≡ true → Step.Enter o ∷ Step.Reg ∷ refused_steps o ≡ steps_made o Answer.Null
+null_steps (Op.GetNum q i) h = refl
+null_steps (Op.SetNum q i n) h = refl
+null_steps (Op.GetPtr d q i) h = refl
+null_steps (Op.SetPtr q i p) h = refl
+null_steps (Op.CasPtr q i p r) h = refl
+null_steps (Op.Lea d q i) h = refl
 null_steps _ h = cc
 
 pub access_is_small : (n : NeverState) (o : Op) → is_access o ≡ true → OperandsAreInRange n o → q_of o < 8
-access_is_small n (op.GetNum q i) h r = r
-access_is_small n (op.SetNum q i m) h r = r
-access_is_small n (op.GetPtr d q i) h r = r.1
-access_is_small n (op.SetPtr q i p) h r = r.0
-access_is_small n (op.CasPtr q i p s) h r = r.0
-access_is_small n (op.Lea d q i) h r = r.1
+access_is_small n (Op.GetNum q i) h r = r
+access_is_small n (Op.SetNum q i m) h r = r
+access_is_small n (Op.GetPtr d q i) h r = r.1
+access_is_small n (Op.SetPtr q i p) h r = r.0
+access_is_small n (Op.CasPtr q i p s) h r = r.0
+access_is_small n (Op.Lea d q i) h r = r.1
 access_is_small n _ h r = cc
 
-pub refused_puts : (o : Op) (d : ℕ) → Some d ≡ refused_register o → (stage_refused o ≡ stage.Put) × (d_of o ≡ d)
-refused_puts (op.GetPtr d q i) e h = (refl, cc)
-refused_puts (op.Lea d q i) e h = (refl, cc)
+pub refused_puts : (o : Op) (d : ℕ) → Some d ≡ refused_register o → (stage_refused o ≡ Stage.Put) × (d_of o ≡ d)
+refused_puts (Op.GetPtr d q i) e h = (refl, cc)
+refused_puts (Op.Lea d q i) e h = (refl, cc)
 refused_puts _ e h = cc
 
-pub refused_leaves : (o : Op) → None ≡ refused_register o → stage_refused o ≡ stage.Leave
-refused_leaves (op.GetPtr d q i) h = cc
-refused_leaves (op.Lea d q i) h = cc
+pub refused_leaves : (o : Op) → None ≡ refused_register o → stage_refused o ≡ Stage.Leave
+refused_leaves (Op.GetPtr d q i) h = cc
+refused_leaves (Op.Lea d q i) h = cc
 refused_leaves _ h = refl
 
 some_for : (o : Op) (u : ℕ) → u ≢ 0
-    → (if u == 0 then refused (record (begun o) { q = u }) answer.Null else onward (record (begun o) { q = u }) None)
+    → (if u == 0 then refused (record (begun o) { q = u }) Answer.Null else onward (record (begun o) { q = u }) None)
     ≡ onward (record (begun o) { q = u }) None
 some_for o u ne =
-    ap (λ (b : Bool). if b then refused (record (begun o) { q = u }) answer.Null else onward
+    ap (λ (b : Bool). if b then refused (record (begun o) { q = u }) Answer.Null else onward
     (record (begun o) { q = u }) None) (ne_eqb u 0 ne)
 
 pub access_finds_some : (o : Op) (u : ℕ) → is_access o ≡ true → u ≢ 0
     → progress_reg (begun o) (begun o).stage u ≡ onward (record (begun o) { q = u }) None
-access_finds_some (op.GetNum q i) u h ne = some_for (op.GetNum q i) u ne
-access_finds_some (op.SetNum q i n) u h ne = some_for (op.SetNum q i n) u ne
-access_finds_some (op.GetPtr d q i) u h ne = some_for (op.GetPtr d q i) u ne
-access_finds_some (op.SetPtr q i p) u h ne = some_for (op.SetPtr q i p) u ne
-access_finds_some (op.CasPtr q i p r) u h ne = some_for (op.CasPtr q i p r) u ne
-access_finds_some (op.Lea d q i) u h ne = some_for (op.Lea d q i) u ne
+access_finds_some (Op.GetNum q i) u h ne = some_for (Op.GetNum q i) u ne
+access_finds_some (Op.SetNum q i n) u h ne = some_for (Op.SetNum q i n) u ne
+access_finds_some (Op.GetPtr d q i) u h ne = some_for (Op.GetPtr d q i) u ne
+access_finds_some (Op.SetPtr q i p) u h ne = some_for (Op.SetPtr q i p) u ne
+access_finds_some (Op.CasPtr q i p r) u h ne = some_for (Op.CasPtr q i p r) u ne
+access_finds_some (Op.Lea d q i) u h ne = some_for (Op.Lea d q i) u ne
 access_finds_some _ u h ne = cc
 
 -- What a pass has seen goes on.
@@ -234,7 +217,7 @@ probes_on {p} {q} {r} {o} {t} x g =
       before = x.before;
       behind = x.behind ++ g.more;
       is = g.is ∙ ap (λ (l : List Event). l ++ g.more) x.is
-          ∙ append_assoc (p.seen ++ x.before) (event_of p step.Probe ∷ x.behind) g.more;
+          ∙ append_assoc (p.seen ++ x.before) (event_of p Step.Probe ∷ x.behind) g.more;
       gets_to = x.gets_to;
     }
 
@@ -253,13 +236,13 @@ reached {p} {q} {s} {r} {o} ready access a same x g =
 -- It found the allocation's pages unmapped.
 pub faults : {p q r : PassState} {o : Op} {ss : List Step} {f : Flight} → MayBeginCall p o → is_access o ≡ true
     → IsAtFlight p o ss None f q → f.op ≡ o
-    → ss ++ (step.Probe ∷ refused_steps o) ≡ steps_made o answer.Fault
-    → IsAtFlight q (call_of q).op (step.Probe ∷ refused_steps (call_of q).op) (Some answer.Fault) at_rest r
+    → ss ++ (Step.Probe ∷ refused_steps o) ≡ steps_made o Answer.Fault
+    → IsAtFlight q (call_of q).op (Step.Probe ∷ refused_steps (call_of q).op) (Some Answer.Fault) at_rest r
     → Probes q (call_of q).op r Unmapped
-    → Called p o answer.Fault r × Probes p o r Unmapped
+    → Called p o Answer.Fault r × Probes p o r Unmapped
 faults {p} {q} {r} {o} ready access a same steps b x =
     let is : (call_of q).op ≡ o = ap (λ (f : Flight). f.op) a.call ∙ same in (
-      called (to a (subst (λ (y : Op). IsAtFlight q y (step.Probe ∷ refused_steps y) (Some answer.Fault) at_rest r) is
+      called (to a (subst (λ (y : Op). IsAtFlight q y (Step.Probe ∷ refused_steps y) (Some Answer.Fault) at_rest r) is
           b))
           steps,
       probes_from a.makes (access_is_small (never_of p) o access ready.admits.in_range)

@@ -1,19 +1,13 @@
 -- A compare and exchange compares values: its answer is that of the heap that never reuses storage.
-use Rattle.std.proofs.Common.{◌≡◌, ◌↔◌, ℕ, Bool, true, false, List, refl, sym, ◌∙◌, ap}
-use Rattle.mk_never.specs.declared.operations.Op.TheVariants as op
-use Rattle.mk_never.specs.declared.operations.Reply.TheVariants as reply
-use Rattle.mk_never.specs.declared.values.Target.{Target}
-use Rattle.mk_never.specs.declared.values.Target.TheVariants.{Nothing, Unmapped, WordOf}
-use Rattle.mk_never.specs.declared.values.Value.{Value}
-use Rattle.mk_never.specs.NeverHeap.{NeverState, register_at, word_at, target_of, reply_at, is_same, bit}
+use Rattle.mk_laws.proofs.Vocabulary.{Answer, Bool, List, NeverState, Op, Unmapped, Value, WordOf, ℕ, answer_of, ap}
+use Rattle.mk_laws.proofs.Vocabulary.{bit, false, is_same, one_if, refl, register_at, sym, target_of, true, word_at}
+use Rattle.mk_laws.proofs.Vocabulary.{◌↔◌, ◌∙◌, ◌≡◌}
 use Rattle.mk_never.proofs.Sameness.{equal_from_same, same_from_equal}
-use Rattle.mk_core.specs.declared.events.Answer.TheVariants as answer
-use Rattle.mk_core.specs.Calls.{one_if}
-use Rattle.mk_core.specs.Image.{answer_of}
+use Rattle.mk_never.specs.declared.values.Target.TheVariants.{Nothing}
+use Rattle.mk_never.specs.{NeverHeap.reply_at, declared.operations.Reply.Reply, declared.values.Target.Target}
+use Rattle.mk_caller.specs.States.{Admits, caller_of_pass, never_then, value_of}
+use Rattle.mk_caller.specs.{Called.Says, Comparing.CallComparesValues}
 use Rattle.mk_words.specs.States.{PassState}
-use Rattle.mk_caller.specs.States.{caller_of_pass, never_then, value_of, Admits}
-use Rattle.mk_caller.specs.Called.{Says}
-use Rattle.mk_caller.specs.Comparing.{CallComparesValues}
 
 -- the word that an access gets to which is answered by a number, and what that says
 record Reached (n : NeverState) (v w : Value) (i : ℕ) (said : Bool) : Type 0 where
@@ -29,12 +23,12 @@ same_bits true false e = cc
 same_bits false true e = cc
 
 reached : (bases : List ℕ) (n : NeverState) (v w : Value) (i : ℕ) (said : Bool) (t : Target) → target_of n v i ≡ t
-    → answer.Num (one_if said) ≡ answer_of bases (reply_at t (λ a k. reply.Num (bit (is_same (word_at n a k) w))))
+    → Answer.Num (one_if said) ≡ answer_of bases (reply_at t (λ a k. Reply.Num (bit (is_same (word_at n a k) w))))
     → Reached n v w i said
 reached bases n v w i said (WordOf a k) is e =
     record { number = a; place = k; gets_to = is; said_so = same_bits said (is_same (word_at n a k) w) (numbers e) }
   where
-    numbers : {x y : ℕ} → answer.Num x ≡ answer.Num y → x ≡ y
+    numbers : {x y : ℕ} → Answer.Num x ≡ Answer.Num y → x ≡ y
     numbers e = cc
 reached bases n v w i said Nothing is e = cc
 reached bases n v w i said Unmapped is e = cc
@@ -42,8 +36,8 @@ reached bases n v w i said Unmapped is e = cc
 equal_where_said : (said : Bool) (v w : Value) → said ≡ is_same v w → (said ≡ true) ↔ (v ≡ w)
 equal_where_said said v w is = (λ yes. equal_from_same v w (sym is ∙ yes), λ e. is ∙ same_from_equal v w e)
 
-pub compares_values : {p q : PassState} (x i e r : ℕ) (said : Bool) → Admits p (op.CasPtr x i e r)
-    → Says p (op.CasPtr x i e r) said q → CallComparesValues p x i e r said q
+pub compares_values : {p q : PassState} (x i e r : ℕ) (said : Bool) → Admits p (Op.CasPtr x i e r)
+    → Says p (Op.CasPtr x i e r) said q → CallComparesValues p x i e r said q
 compares_values {p} x i e r said ad c =
     let n : NeverState = never_then p c.decided.before in
     let there = reached _ n (register_at n (caller_of_pass p) x) (register_at n (caller_of_pass p) e) i said

@@ -1,40 +1,18 @@
 -- When a step of a call is enabled and admitted.
-use Rattle.std.proofs.Common.{◌≡◌, ℕ, ◌<◌, Bool, true, false, List, length, refl, sym, ap, subst, arith}
-use Rattle.std.specs.Prelude.{Option, Some, None, nat_lt, ◌&&◌}
-use Rattle.std.proofs.lemmas.Bool.{and_from, and_parts, ltb-true, lt-ltb}
-use Rattle.mk_never.specs.declared.operations.Op.{Op}
-use Rattle.mk_never.specs.declared.operations.Op.TheVariants as op
-use Rattle.mk_never.specs.NeverHeap.{NeverState}
-use Rattle.mk_never.specs.Admitted.{AreAdmitted, IsAdmitted, IsCaller, OperandsAreInRange}
-use Rattle.mk_core.specs.declared.config.Config.{Config}
-use Rattle.mk_core.specs.declared.events.Answer.{Answer}
-use Rattle.mk_core.specs.declared.events.Group.{Group}
-use Rattle.mk_core.specs.declared.events.Group.TheVariants as group
-use Rattle.mk_core.specs.declared.events.Seat.{Seat}
-use Rattle.mk_core.specs.declared.events.Seat.TheVariants.{Caller}
-use Rattle.mk_core.specs.declared.events.Step.{Step}
-use Rattle.mk_core.specs.declared.events.Step.TheVariants as step
-use Rattle.mk_core.specs.declared.seats.Flight.{Flight}
-use Rattle.mk_core.specs.declared.seats.Stage.{Stage}
-use Rattle.mk_core.specs.declared.seats.Stage.TheVariants as stage
-use Rattle.mk_core.specs.Accesses.{caller_number, register_met, found}
-use Rattle.mk_core.specs.Calls.{is_under_turn, has_operands, has_type, q_of, p_of, r_of, d_of, g_of, progress_reg}
-use Rattle.mk_core.specs.Decided.{asked, entry_of}
-use Rattle.mk_core.specs.Effects.{answer_decided}
-use Rattle.mk_core.specs.Enabled.{IsEnabled, marker_may, holder_may}
-use Rattle.mk_core.specs.History.{IsHistory}
-use Rattle.mk_core.specs.Moments.{Moment, flight_of, outside}
-use Rattle.mk_core.specs.Order.{group_of, comes_next}
-use Rattle.mk_core.specs.Ranges.{is_in_range, has_gates, has_phase}
-use Rattle.mk_core.specs.Words.{phase_of}
-use Rattle.mk_core.proofs.Conditions.{meets_enabled}
-use Rattle.mk_laws.proofs.LayoutHolders.{seat_operands}
-use Rattle.mk_laws.proofs.LastEvents.{stands, goes_on_by}
-use Rattle.mk_words.specs.States.{PassState, call_of, event_of, now_of}
-use Rattle.mk_words.specs.Steps.{IsEnabledTo, IsAdmittedTo}
-use Rattle.mk_caller.specs.States.{caller_of_pass, never_of, Admits}
-use Rattle.mk_caller.specs.Moves.{MayBeginCall}
+use Rattle.mk_laws.proofs.Vocabulary.{Answer, AreAdmitted, Bool, Caller, Config, Flight, Group, IsAdmitted, IsEnabled}
+use Rattle.mk_laws.proofs.Vocabulary.{IsHistory, List, Moment, NeverState, None, Op, Option, Seat, Some, Stage, Step, ℕ}
+use Rattle.mk_laws.proofs.Vocabulary.{and_from, and_parts, answer_decided, ap, arith, asked, caller_number, comes_next}
+use Rattle.mk_laws.proofs.Vocabulary.{d_of, entry_of, false, flight_of, found, g_of, group_of, has_gates, has_operands}
+use Rattle.mk_laws.proofs.Vocabulary.{has_phase, holder_may, is_in_range, is_under_turn, length, lt-ltb, ltb-true}
+use Rattle.mk_laws.proofs.Vocabulary.{marker_may, nat_lt, outside, p_of, phase_of, progress_reg, q_of, r_of, refl}
+use Rattle.mk_laws.proofs.Vocabulary.{register_met, subst, sym, true, ◌&&◌, ◌<◌, ◌≡◌}
+use Rattle.mk_never.specs.Admitted.{IsCaller, OperandsAreInRange}
+use Rattle.mk_core.{proofs.Conditions.meets_enabled, specs.Calls.has_type}
+use Rattle.mk_laws.proofs.{LastEvents.goes_on_by, LastEvents.stands, LayoutHolders.seat_operands}
 use Rattle.mk_caller.proofs.OneStep.{flagged_same}
+use Rattle.mk_caller.specs.{Moves.MayBeginCall, States.Admits, States.caller_of_pass, States.never_of}
+use Rattle.mk_words.specs.States.{PassState, call_of, event_of, now_of}
+use Rattle.mk_words.specs.Steps.{IsAdmittedTo, IsEnabledTo}
 
 -- Callers' kinds have no conditions 5 to 7.
 record IsFree (c : Config) (m : Moment) (seat : Seat) (f : Flight) (s : Step) : Type 0 where
@@ -43,21 +21,21 @@ record IsFree (c : Config) (m : Moment) (seat : Seat) (f : Flight) (s : Step) : 
   pub marker : marker_may c outside s ≡ true
   pub holder : holder_may c m f s ≡ true
 
-is_free : (c : Config) (m : Moment) (seat : Seat) (f : Flight) (s : Step) → group_of s ≡ group.Callers
+is_free : (c : Config) (m : Moment) (seat : Seat) (f : Flight) (s : Step) → group_of s ≡ Group.Callers
     → IsFree c m seat f s
-is_free c m seat f (step.Enter o) h = record { gates = refl; phase = refl; marker = refl; holder = refl }
-is_free c m seat f step.Leave h = record { gates = refl; phase = refl; marker = refl; holder = refl }
-is_free c m seat f step.Reg h = record { gates = refl; phase = refl; marker = refl; holder = refl }
-is_free c m seat f step.Probe h = record { gates = refl; phase = refl; marker = refl; holder = refl }
-is_free c m seat f step.Read h = record { gates = refl; phase = refl; marker = refl; holder = refl }
-is_free c m seat f step.Write h = record { gates = refl; phase = refl; marker = refl; holder = refl }
-is_free c m seat f step.Cas h = record { gates = refl; phase = refl; marker = refl; holder = refl }
-is_free c m seat f step.Getg h = record { gates = refl; phase = refl; marker = refl; holder = refl }
-is_free c m seat f step.Setg h = record { gates = refl; phase = refl; marker = refl; holder = refl }
-is_free c m seat f step.Dirty h = record { gates = refl; phase = refl; marker = refl; holder = refl }
+is_free c m seat f (Step.Enter o) h = record { gates = refl; phase = refl; marker = refl; holder = refl }
+is_free c m seat f Step.Leave h = record { gates = refl; phase = refl; marker = refl; holder = refl }
+is_free c m seat f Step.Reg h = record { gates = refl; phase = refl; marker = refl; holder = refl }
+is_free c m seat f Step.Probe h = record { gates = refl; phase = refl; marker = refl; holder = refl }
+is_free c m seat f Step.Read h = record { gates = refl; phase = refl; marker = refl; holder = refl }
+is_free c m seat f Step.Write h = record { gates = refl; phase = refl; marker = refl; holder = refl }
+is_free c m seat f Step.Cas h = record { gates = refl; phase = refl; marker = refl; holder = refl }
+is_free c m seat f Step.Getg h = record { gates = refl; phase = refl; marker = refl; holder = refl }
+is_free c m seat f Step.Setg h = record { gates = refl; phase = refl; marker = refl; holder = refl }
+is_free c m seat f Step.Dirty h = record { gates = refl; phase = refl; marker = refl; holder = refl }
 is_free c m seat f _ h = cc
 
-enabled_for : (c : Config) (m : Moment) (k : ℕ) (s : Step) → k < c.callers → group_of s ≡ group.Callers
+enabled_for : (c : Config) (m : Moment) (k : ℕ) (s : Step) → k < c.callers → group_of s ≡ Group.Callers
     → comes_next (flight_of m (Caller k)).stage (flight_of m (Caller k)).op s ≡ true
     → is_in_range c (Caller k) (flight_of m (Caller k)) s ≡ true → IsEnabled c m (record { seat = Caller k; step = s })
 enabled_for c m k s lt kind next range =
@@ -76,7 +54,7 @@ enabled_for c m k s lt kind next range =
 
 -- The next step of a call is enabled, where its argument is in range.
 pub enabled : (p : PassState) (s : Step) (k : ℕ) → p.seat ≡ Caller k → k < p.table.config.callers
-    → group_of s ≡ group.Callers
+    → group_of s ≡ Group.Callers
     → comes_next (call_of p).stage (call_of p).op s ≡ true → is_in_range p.table.config p.seat (call_of p) s ≡ true
     → IsEnabledTo p s
 enabled p s k is lt kind next range =
@@ -113,15 +91,15 @@ idly_admitted p s h on none =
     (subst (λ (a : Option Answer). AreAdmitted p.table.config.globals (never_of p)
     (asked (entry_of (caller_of_pass p) (call_of p).op a))) (sym none) tt)).admitted
 
-pub put_decides_nothing : (p : PassState) (k : ℕ) → p.seat ≡ Caller k → (call_of p).stage ≡ stage.Put
-    → answer_decided p.table.config (now_of p) (event_of p step.Reg) ≡ None
+pub put_decides_nothing : (p : PassState) (k : ℕ) → p.seat ≡ Caller k → (call_of p).stage ≡ Stage.Put
+    → answer_decided p.table.config (now_of p) (event_of p Step.Reg) ≡ None
 put_decides_nothing p k is put =
     subst
-    (λ (t : Seat). (flight_of (now_of p) t).stage ≡ stage.Put
-    → answer_decided p.table.config (now_of p) (record { seat = t; step = step.Reg }) ≡ None) (sym is)
-    (λ (e : (flight_of (now_of p) (Caller k)).stage ≡ stage.Put).
+    (λ (t : Seat). (flight_of (now_of p) t).stage ≡ Stage.Put
+    → answer_decided p.table.config (now_of p) (record { seat = t; step = Step.Reg }) ≡ None) (sym is)
+    (λ (e : (flight_of (now_of p) (Caller k)).stage ≡ Stage.Put).
     ap (λ (s : Stage). (progress_reg (flight_of (now_of p) (Caller k)) s
-    (found p.table.config (now_of p) (record { seat = Caller k; step = step.Reg }))).answer) e) put
+    (found p.table.config (now_of p) (record { seat = Caller k; step = Step.Reg }))).answer) e) put
 
 -- the operands
 
@@ -136,28 +114,28 @@ below x n lt = lt-ltb x n lt
 
 operands : (c : Config) (n : NeverState) (o : Op) → length n.globals ≡ 64 → is_under_turn o ≡ false
     → OperandsAreInRange n o → has_operands c o ≡ true
-operands c n (op.GetNum q i) g u h = six (nat_lt q 8) _ _ _ _ _ (below q 8 h) refl refl refl refl refl
-operands c n (op.SetNum q i m) g u h = six (nat_lt q 8) _ _ _ _ _ (below q 8 h) refl refl refl refl refl
-operands c n (op.GetPtr d q i) g u h = six (nat_lt q 8) _ _ (nat_lt d 8) _ _ (below q 8 h.1) refl refl (below d 8 h.0)
+operands c n (Op.GetNum q i) g u h = six (nat_lt q 8) _ _ _ _ _ (below q 8 h) refl refl refl refl refl
+operands c n (Op.SetNum q i m) g u h = six (nat_lt q 8) _ _ _ _ _ (below q 8 h) refl refl refl refl refl
+operands c n (Op.GetPtr d q i) g u h = six (nat_lt q 8) _ _ (nat_lt d 8) _ _ (below q 8 h.1) refl refl (below d 8 h.0)
     refl refl
-operands c n (op.SetPtr q i p) g u h = six (nat_lt q 8) (nat_lt p 8) _ _ _ _ (below q 8 h.0) (below p 8 h.1) refl refl
+operands c n (Op.SetPtr q i p) g u h = six (nat_lt q 8) (nat_lt p 8) _ _ _ _ (below q 8 h.0) (below p 8 h.1) refl refl
     refl refl
-operands c n (op.CasPtr q i p r) g u h = six (nat_lt q 8) (nat_lt p 8) (nat_lt r 8) _ _ _ (below q 8 h.0)
+operands c n (Op.CasPtr q i p r) g u h = six (nat_lt q 8) (nat_lt p 8) (nat_lt r 8) _ _ _ (below q 8 h.0)
     (below p 8 h.1) (below r 8 h.2) refl refl refl
-operands c n (op.Lea d q i) g u h = six (nat_lt q 8) _ _ (nat_lt d 8) _ _ (below q 8 h.1) refl refl (below d 8 h.0)
+operands c n (Op.Lea d q i) g u h = six (nat_lt q 8) _ _ (nat_lt d 8) _ _ (below q 8 h.1) refl refl (below d 8 h.0)
     refl refl
-operands c n (op.Move d q) g u h = six (nat_lt q 8) _ _ (nat_lt d 8) _ _ (below q 8 h.1) refl refl (below d 8 h.0)
+operands c n (Op.Move d q) g u h = six (nat_lt q 8) _ _ (nat_lt d 8) _ _ (below q 8 h.1) refl refl (below d 8 h.0)
     refl refl
-operands c n (op.Clear d) g u h = six _ _ _ (nat_lt d 8) _ _ refl refl refl (below d 8 h) refl refl
-operands c n (op.GetGlobal d x) g u h = six _ _ _ (nat_lt d 8) (nat_lt x 64) _ refl refl refl (below d 8 h.0)
+operands c n (Op.Clear d) g u h = six _ _ _ (nat_lt d 8) _ _ refl refl refl (below d 8 h) refl refl
+operands c n (Op.GetGlobal d x) g u h = six _ _ _ (nat_lt d 8) (nat_lt x 64) _ refl refl refl (below d 8 h.0)
     (below x 64 (omega arith)) refl
-operands c n (op.SetGlobal x p) g u h = six _ (nat_lt p 8) _ _ (nat_lt x 64) _ refl (below p 8 h.1) refl refl
+operands c n (Op.SetGlobal x p) g u h = six _ (nat_lt p 8) _ _ (nat_lt x 64) _ refl (below p 8 h.1) refl refl
     (below x 64 (omega arith)) refl
-operands c n (op.Same p q) g u h = six (nat_lt q 8) (nat_lt p 8) _ _ _ _ (below q 8 h.1) (below p 8 h.0) refl refl
+operands c n (Op.Same p q) g u h = six (nat_lt q 8) (nat_lt p 8) _ _ _ _ (below q 8 h.1) (below p 8 h.0) refl refl
     refl refl
-operands c n (op.IsNull p) g u h = six _ (nat_lt p 8) _ _ _ _ refl (below p 8 h) refl refl refl refl
-operands c n (op.New d ty full) g u h = cc
-operands c n (op.Free p) g u h = cc
+operands c n (Op.IsNull p) g u h = six _ (nat_lt p 8) _ _ _ _ refl (below p 8 h) refl refl refl refl
+operands c n (Op.New d ty full) g u h = cc
+operands c n (Op.Free p) g u h = cc
 
 pub caller_exists : (p : PassState) (o : Op) (k : ℕ) → IsHistory p.table.config p.seen → p.seat ≡ Caller k
     → Admits p o → k < p.table.config.callers
@@ -168,11 +146,11 @@ caller_exists p o k h is ad =
     omega arith
 
 pub enter_enabled : (p : PassState) (o : Op) → IsHistory p.table.config p.seen → MayBeginCall p o
-    → IsEnabledTo p (step.Enter o)
+    → IsEnabledTo p (Step.Enter o)
 enter_enabled p o h ready =
     let st = stands p.table.config p.seen h in
-    enabled p (step.Enter o) ready.caller ready.seat (caller_exists p o ready.caller h ready.seat ready.admits) refl
-    (subst (λ (f : Flight). comes_next f.stage f.op (step.Enter o) ≡ true) (sym ready.rest)
+    enabled p (Step.Enter o) ready.caller ready.seat (caller_exists p o ready.caller h ready.seat ready.admits) refl
+    (subst (λ (f : Flight). comes_next f.stage f.op (Step.Enter o) ≡ true) (sym ready.rest)
     (ap Rattle.std.specs.Prelude.not ready.entered))
     (operands p.table.config (never_of p) o st.all.mirrors.global_count ready.entered ready.admits.in_range)
 
@@ -194,7 +172,7 @@ met_is_small p s h =
         (ltb-true (d_of f.op) 8 four.1)
       where
         at : (s : Stage) → q_of f.op < 8 → p_of f.op < 8 → r_of f.op < 8 → d_of f.op < 8 → register_met f s < 8
-        at stage.LoadQ q p r d = q
-        at stage.LoadP q p r d = p
-        at stage.LoadR q p r d = r
+        at Stage.LoadQ q p r d = q
+        at Stage.LoadP q p r d = p
+        at Stage.LoadR q p r d = r
         at _ q p r d = d

@@ -1,8 +1,7 @@
 -- What holds of a caller whose pass is home.
-use Rattle.std.proofs.Common.{◌≡◌, ℕ, true, ◌∙◌, ap, subst}
-use Rattle.std.specs.Prelude.{Option, Some, None}
-use Rattle.mk_words.specs.States.{WordsState, PassState}
-use Rattle.mk_caller.specs.States.{CallerState, caller_of, IsPassAtRest, IsIdleCaller}
+use Rattle.mk_laws.proofs.Vocabulary.{None, Option, Some, ℕ, ap, subst, true, ◌∙◌, ◌≡◌}
+use Rattle.mk_caller.specs.States.{CallerState, IsIdleCaller, IsPassAtRest, caller_of}
+use Rattle.mk_words.specs.States.{PassState, WordsState}
 
 pub idle : (w : WordsState) (k : ℕ) (x : Option PassState) (s : CallerState) → caller_of w k x ≡ s → IsPassAtRest w k x
     → s.home ≡ true → IsIdleCaller s.pass

@@ -1,23 +1,13 @@
 -- Steps of a call, one after the other.
-use Rattle.std.proofs.Common.{◌≡◌, List, [], ◌∷◌, ◌++◌, sym, ◌∙◌, ap, subst, append-nil, append_assoc}
-use Rattle.std.specs.Prelude.{Option, Some, None}
-use Rattle.mk_never.specs.declared.operations.Op.{Op}
-use Rattle.mk_never.specs.NeverHeap.{reply_of, after_op}
-use Rattle.mk_never.specs.Laws.{KeepsRegisters}
-use Rattle.mk_core.specs.declared.config.Config.{Config}
-use Rattle.mk_core.specs.declared.events.Answer.{Answer}
-use Rattle.mk_core.specs.declared.events.Event.{Event}
-use Rattle.mk_core.specs.declared.events.Step.{Step}
-use Rattle.mk_core.specs.Decided.{Decided, entry_of}
-use Rattle.mk_core.specs.History.{World, left, left_from, call_decided, never_behind, bases_of}
-use Rattle.mk_core.specs.Image.{answer_of}
-use Rattle.mk_core.proofs.HistoryParts.{left_in_parts}
+use Rattle.mk_laws.proofs.Vocabulary.{Answer, Config, Decided, Event, KeepsRegisters, List, None, Op, Option, Some}
+use Rattle.mk_laws.proofs.Vocabulary.{Step, World, answer_of, ap, append-nil, append_assoc, bases_of, call_decided}
+use Rattle.mk_laws.proofs.Vocabulary.{entry_of, left, left_from, left_in_parts, never_behind, subst, sym, [], ◌++◌, ◌∙◌}
+use Rattle.mk_laws.proofs.Vocabulary.{◌∷◌, ◌≡◌}
+use Rattle.mk_never.specs.NeverHeap.{after_op, reply_of}
+use Rattle.mk_caller.proofs.{OneStep.keeps_both, OwnSteps.steps_append, OwnSteps.steps_from}
+use Rattle.mk_caller.specs.Called.{IsDecidedIn, own_calls, own_steps}
+use Rattle.mk_caller.specs.{Moves.IsDecidedAs, Moves.MakesSteps, States.caller_of_pass, States.never_of}
 use Rattle.mk_words.specs.States.{PassState}
-use Rattle.mk_caller.specs.States.{caller_of_pass, never_of}
-use Rattle.mk_caller.specs.Called.{own_steps, own_calls, IsDecidedIn}
-use Rattle.mk_caller.specs.Moves.{IsDecidedAs, MakesSteps}
-use Rattle.mk_caller.proofs.OwnSteps.{steps_from, steps_append}
-use Rattle.mk_caller.proofs.OneStep.{keeps_both}
 
 -- the pass that has seen more
 abbrev seen_more : PassState → List Event → PassState

@@ -1,47 +1,25 @@
 -- One step of a call: what it adds to the list, to the calls and to the heap that never reuses storage.
-use Rattle.std.proofs.Common.{◌≡◌, ℕ, ◌<◌, true, false, List, [], ◌∷◌, ◌++◌, refl, sym, ◌∙◌, ap, subst, append-nil}
-use Rattle.std.proofs.Common.{append_assoc}
-use Rattle.std.specs.Prelude.{Option, Some, None}
-use Rattle.mk_never.specs.declared.operations.Op.{Op}
-use Rattle.mk_never.specs.declared.operations.Op.TheVariants as op
-use Rattle.mk_never.specs.NeverHeap.{NeverState, register_at, after_calls, reply_of, after_op, replies_of}
-use Rattle.mk_never.specs.Laws.{KeepsRegisters}
-use Rattle.mk_core.specs.declared.config.Config.{Config}
-use Rattle.mk_core.specs.declared.events.Answer.{Answer}
-use Rattle.mk_core.specs.declared.events.Answer.TheVariants as answer
-use Rattle.mk_core.specs.declared.events.Event.{Event}
-use Rattle.mk_core.specs.declared.events.Seat.{Seat}
-use Rattle.mk_core.specs.declared.events.Seat.TheVariants.{Caller}
-use Rattle.mk_core.specs.declared.events.Step.{Step}
-use Rattle.mk_core.specs.declared.seats.Flight.{Flight}
-use Rattle.mk_core.specs.declared.seats.Stage.TheVariants as stage
-use Rattle.mk_core.specs.declared.seats.Progress.{Progress}
-use Rattle.mk_core.specs.Accesses.{caller_number}
-use Rattle.mk_core.specs.Calls.{is_under_turn}
-use Rattle.mk_core.specs.Decided.{Decided, asked, answered, entry_of, flagged}
-use Rattle.mk_core.specs.Effects.{answer_decided}
-use Rattle.mk_core.specs.Growing.{AreOfOthers}
-use Rattle.mk_core.specs.History.{World, first_world, world_behind, left, calls, call_decided, never_behind, bases_of}
-use Rattle.mk_core.specs.History.{IsHistory}
-use Rattle.mk_core.specs.Image.{answer_of, answers_of}
-use Rattle.mk_core.specs.Ranges.{is_word_met}
-use Rattle.mk_core.proofs.Histories.{calls_more}
-use Rattle.mk_laws.proofs.ImagesOneEvent.{one_event}
-use Rattle.mk_laws.proofs.InvariantJoined.{told_to_images}
-use Rattle.mk_laws.proofs.AdmittedStill.{call_on}
-use Rattle.mk_laws.proofs.LastEvents.{stands, comes_last}
-use Rattle.mk_laws.proofs.OtherCalls.{registers_are_left, never_continues}
-use Rattle.mk_words.specs.States.{PassState, call_of, event_of}
-use Rattle.mk_words.specs.Steps.{Goes}
+use Rattle.mk_laws.proofs.Vocabulary.{Answer, AreOfOthers, Caller, Config, Decided, Event, Flight, IsHistory}
+use Rattle.mk_laws.proofs.Vocabulary.{KeepsRegisters, List, NeverState, None, Op, Option, Progress, Seat, Some, Stage}
+use Rattle.mk_laws.proofs.Vocabulary.{Step, World, ℕ, after_calls, answer_decided, answer_of, answered, answers_of, ap}
+use Rattle.mk_laws.proofs.Vocabulary.{append-nil, append_assoc, asked, bases_of, call_decided, caller_number, calls}
+use Rattle.mk_laws.proofs.Vocabulary.{entry_of, false, first_world, flagged, is_under_turn, left, never_behind, refl}
+use Rattle.mk_laws.proofs.Vocabulary.{register_at, replies_of, subst, sym, true, world_behind, [], ◌++◌, ◌<◌, ◌∙◌, ◌∷◌}
+use Rattle.mk_laws.proofs.Vocabulary.{◌≡◌}
+use Rattle.mk_never.specs.NeverHeap.{after_op, reply_of}
+use Rattle.mk_core.{proofs.Histories.calls_more, specs.Ranges.is_word_met}
+use Rattle.mk_laws.proofs.LastEvents.{comes_last, stands}
+use Rattle.mk_laws.proofs.OtherCalls.{never_continues, registers_are_left}
+use Rattle.mk_laws.proofs.{AdmittedStill.call_on, ImagesOneEvent.one_event, InvariantJoined.told_to_images}
+use Rattle.mk_caller.proofs.OwnSteps.{by_append, calls_by, others_add_none, own_entry, own_step}
+use Rattle.mk_caller.specs.Moves.{IsDecidedAs, IsUnderway, MakesSteps, is_past_decision}
+use Rattle.mk_caller.specs.{Called.own_calls, States.Admits, States.caller_of_pass, States.never_of}
 use Rattle.mk_words.proofs.Made.{Made, made, pass_before}
-use Rattle.mk_caller.specs.States.{caller_of_pass, never_of, Admits}
-use Rattle.mk_caller.specs.Called.{own_calls}
-use Rattle.mk_caller.specs.Moves.{IsDecidedAs, MakesSteps, IsUnderway, is_past_decision}
-use Rattle.mk_caller.proofs.OwnSteps.{own_step, by_append, own_entry, others_add_none, calls_by}
+use Rattle.mk_words.specs.{States.PassState, States.call_of, States.event_of, Steps.Goes}
 
 -- An operation that isn't a New has no flag.
 pub flagged_same : (o : Op) (a : Answer) → is_under_turn o ≡ false → flagged o a ≡ o
-flagged_same (op.New d ty full) a h = cc
+flagged_same (Op.New d ty full) a h = cc
 flagged_same _ a h = refl
 
 pub keeps_both : (k : ℕ) (n m l : NeverState) → KeepsRegisters k n m → KeepsRegisters k m l → KeepsRegisters k n l
@@ -162,7 +140,7 @@ module _ (p : PassState) (o : Op) (s : Step) (x : Progress) (q : PassState) (k :
   -- and that the call may go on
   pub goes_underway : k < p.table.config.callers → is_under_turn x.flight.op ≡ false
       → (is_past_decision x.flight.stage ≡ false → (x.answer ≡ None) × Admits p x.flight.op)
-      → (x.flight.stage ≡ stage.Dirty → is_word_met p.table.config x.flight ≡ true) → IsUnderway q
+      → (x.flight.stage ≡ Stage.Dirty → is_word_met p.table.config x.flight ≡ true) → IsUnderway q
   goes_underway exists goes_on next page =
       let back : (P : PassState → Type 0) → P (record p { seen = p.seen ++ (others ++ e ∷ []) }) → P q =
       λ P h. subst P (sym is_more) h in
@@ -174,11 +152,11 @@ module _ (p : PassState) (o : Op) (s : Step) (x : Progress) (q : PassState) (k :
       let keeps : KeepsRegisters (caller_of_pass p) (never_of p) (never_behind c (p.seen ++ (others ++ e ∷ []))) =
       decided_as None h.0 in
       let st = stands c p.seen (pass_before g.makes).history in
-      let flag = flagged_same x.flight.op answer.Done goes_on in
+      let flag = flagged_same x.flight.op Answer.Done goes_on in
       subst (λ (y : Op). Admits (record p { seen = p.seen ++ (others ++ e ∷ []) }) y) flag
       (call_on c.globals (never_of p) (never_behind c (p.seen ++ (others ++ e ∷ []))) (caller_of_pass p)
       (never_continues c p.seen (others ++ e ∷ [])) keeps
-      st.all.mirrors.typed x.flight.op (Some answer.Done) (subst (λ (y : Op). Admits p y) (sym flag) h.1, tt)).0 in
+      st.all.mirrors.typed x.flight.op (Some Answer.Done) (subst (λ (y : Op). Admits p y) (sym flag) h.1, tt)).0 in
       record {
         pass = g.makes.pass;
         caller = k;

@@ -1,24 +1,13 @@
 -- The own steps and the own calls of a list in parts: events of others have none of them.
-use Rattle.std.proofs.Common.{◌≡◌, ◌≢◌, ℕ, Bool, true, false, List, [], ◌∷◌, ◌++◌, map, refl, sym, ◌∙◌, ap, append-nil}
-use Rattle.std.proofs.Common.{cond}
-use Rattle.std.specs.Prelude.{◌==◌, filter, Option, Some, None, if◌then◌else◌}
-use Rattle.std.proofs.lemmas.Bool.{eq-eqb, ne_eqb}
-use Rattle.std.proofs.lemmas.List.{map-append}
-use Rattle.std.proofs.lemmas.List.Elements.{filter-append}
-use Rattle.mk_never.specs.declared.operations.Op.{Op}
-use Rattle.mk_core.specs.declared.config.Config.{Config}
-use Rattle.mk_core.specs.declared.events.Answer.{Answer}
-use Rattle.mk_core.specs.declared.events.Event.{Event}
-use Rattle.mk_core.specs.declared.events.Seat.{Seat}
-use Rattle.mk_core.specs.declared.events.Seat.TheVariants.{Caller, Marker, Host}
-use Rattle.mk_core.specs.declared.events.Step.{Step}
-use Rattle.mk_core.specs.Accesses.{found}
-use Rattle.mk_core.specs.Decided.{Decided, entry_of}
-use Rattle.mk_core.specs.Effects.{answer_decided}
-use Rattle.mk_core.specs.Growing.{AreOfOthers, Finding, own_from, is_same_seat, is_one_of}
-use Rattle.mk_core.specs.History.{World, world_behind, left_from, left, calls, calls_from, call_decided}
-use Rattle.mk_core.specs.Moments.{flight_of}
+use Rattle.std.proofs.{Common.filter, lemmas.List.Elements.filter-append}
+use Rattle.mk_laws.proofs.Vocabulary.{Answer, Bool, Caller, Config, Decided, Event, Host, List, Marker, None, Op}
+use Rattle.mk_laws.proofs.Vocabulary.{Option, Seat, Some, Step, World, ℕ, answer_decided, ap, append-nil, call_decided}
+use Rattle.mk_laws.proofs.Vocabulary.{calls, cond, entry_of, eq-eqb, false, flight_of, found, if◌then◌else◌, is_one_of}
+use Rattle.mk_laws.proofs.Vocabulary.{left, map, map-append, ne_eqb, refl, sym, true, world_behind, [], ◌++◌, ◌==◌, ◌∙◌}
+use Rattle.mk_laws.proofs.Vocabulary.{◌∷◌, ◌≡◌, ◌≢◌}
 use Rattle.mk_core.proofs.HistoryParts.{calls_in_parts}
+use Rattle.mk_core.specs.Growing.{AreOfOthers, Finding, is_same_seat, own_from}
+use Rattle.mk_core.specs.History.{calls_from, left_from}
 use Rattle.mk_laws.proofs.ProtocolFrames.{other_seat}
 use Rattle.mk_words.proofs.Seats.{same_seat, same_self}
 

@@ -1,48 +1,20 @@
 -- What a probe says of the heap that never reuses storage.
-use Rattle.std.proofs.Common.{◌≡◌, ◌≢◌, ℕ, ◌+◌, ◌*◌, ◌<◌, Bool, true, false, List, [], ◌∷◌, ◌++◌, refl, sym, ◌∙◌, ap}
-use Rattle.std.proofs.Common.{subst}
-use Rattle.std.specs.Prelude.{if◌then◌else◌}
-use Rattle.mk_never.specs.declared.operations.Op.{Op}
-use Rattle.mk_never.specs.declared.values.Target.TheVariants.{Unmapped, WordOf}
-use Rattle.mk_never.specs.declared.values.Value.{Value}
-use Rattle.mk_never.specs.declared.values.Value.TheVariants.{Null, Num, Ptr}
-use Rattle.mk_never.specs.NeverHeap.{NeverState, register_at, target_of}
-use Rattle.mk_never.specs.Admitted.{Meets}
-use Rattle.mk_never.specs.Typed.{IsSound}
-use Rattle.mk_geom.specs.Headers.{header_of}
-use Rattle.mk_core.specs.declared.config.Config.{Config}
-use Rattle.mk_core.specs.declared.events.Event.{Event}
-use Rattle.mk_core.specs.declared.events.Seat.{Seat}
-use Rattle.mk_core.specs.declared.events.Seat.TheVariants.{Caller}
-use Rattle.mk_core.specs.declared.events.Step.TheVariants as step
-use Rattle.mk_core.specs.declared.seats.Flight.{Flight}
-use Rattle.mk_core.specs.declared.seats.Stage.{Stage}
-use Rattle.mk_core.specs.declared.seats.Stage.TheVariants as stage
-use Rattle.mk_core.specs.Accesses.{caller_number}
-use Rattle.mk_core.specs.Calls.{q_of, i_of, page_met}
-use Rattle.mk_core.specs.Cells.{header_in, is_unmapped_header}
-use Rattle.mk_core.specs.Growing.{AreOfOthers}
-use Rattle.mk_core.specs.History.{World, left, never_behind, bases_of, IsHistory}
-use Rattle.mk_core.specs.Moments.{flight_of}
-use Rattle.mk_core.specs.Words.{header_at}
-use Rattle.mk_laws.proofs.OrderlyLists.{not_astray}
-use Rattle.mk_laws.proofs.Stages.{calls_stand, is_call_stage}
-use Rattle.mk_laws.proofs.Standings.{InCall, standing}
-use Rattle.mk_laws.specs.Images.{CarriesOwn, IsMet, has_q, has_some_q, image_scene_of}
-use Rattle.mk_laws.proofs.Reached.{mapped_met, unmapped_target}
-use Rattle.mk_laws.proofs.AdmittedStill.{meets_register}
-use Rattle.mk_laws.proofs.LastEvents.{Stands, stands}
-use Rattle.mk_laws.proofs.OtherCalls.{registers_are_left, never_continues}
-use Rattle.mk_laws.proofs.ProbesStill.{ready, pages_tell}
-use Rattle.mk_words.specs.States.{PassState, call_of, event_of}
-use Rattle.mk_words.specs.Steps.{Finds}
-use Rattle.mk_words.proofs.Made.{Made, made}
+use Rattle.mk_laws.proofs.Vocabulary.{AreOfOthers, Bool, Caller, CarriesOwn, Config, Event, Flight, IsHistory, IsMet}
+use Rattle.mk_laws.proofs.Vocabulary.{IsSound, List, Meets, NeverState, Null, Num, Op, Ptr, Seat, Stage, Step, Unmapped}
+use Rattle.mk_laws.proofs.Vocabulary.{Value, WordOf, World, ℕ, ap, bases_of, caller_number, false, flight_of, header_at}
+use Rattle.mk_laws.proofs.Vocabulary.{header_in, header_of, i_of, if◌then◌else◌, image_scene_of, is_unmapped_header}
+use Rattle.mk_laws.proofs.Vocabulary.{left, never_behind, page_met, q_of, refl, register_at, subst, sym, target_of}
+use Rattle.mk_laws.proofs.Vocabulary.{true, [], ◌*◌, ◌++◌, ◌+◌, ◌<◌, ◌∙◌, ◌∷◌, ◌≡◌, ◌≢◌}
+use Rattle.mk_laws.proofs.OtherCalls.{never_continues, registers_are_left}
+use Rattle.mk_laws.proofs.{AdmittedStill.meets_register, LastEvents.Stands, LastEvents.stands, OrderlyLists.not_astray}
+use Rattle.mk_laws.proofs.{ProbesStill.pages_tell, ProbesStill.ready, Reached.mapped_met, Reached.unmapped_target}
+use Rattle.mk_laws.proofs.{Stages.calls_stand, Stages.is_call_stage, Standings.InCall, Standings.standing}
+use Rattle.mk_laws.specs.Images.{has_q, has_some_q}
+use Rattle.mk_caller.proofs.{Enabling.met_is_small, OneStep.own_seat, WordsMet.access_meets}
 use Rattle.mk_caller.specs.States.{caller_of_pass, never_of, value_of}
-use Rattle.mk_caller.specs.Causes.{Probes, ProbesAWord}
-use Rattle.mk_caller.specs.Moves.{IsUnderway, is_access}
-use Rattle.mk_caller.proofs.Enabling.{met_is_small}
-use Rattle.mk_caller.proofs.OneStep.{own_seat}
-use Rattle.mk_caller.proofs.WordsMet.{access_meets}
+use Rattle.mk_caller.specs.{Causes.Probes, Causes.ProbesAWord, Moves.IsUnderway, Moves.is_access}
+use Rattle.mk_words.proofs.Made.{Made, made}
+use Rattle.mk_words.specs.{States.PassState, States.call_of, States.event_of, Steps.Finds}
 
 -- the word that is got to
 pub record GetsToWord (n : NeverState) (v : Value) (i : ℕ) : Type 0 where
@@ -62,7 +34,7 @@ mapped_word n (Ptr a t o) i some sound meets met =
     record { number = a; place = o + i; is = ap (λ (b : Bool). if b then Unmapped else WordOf a (o + i)) (met meets.0) }
 
 module _ (c : Config) (es : List Event) (k : ℕ) (h : IsHistory c es) (lt : k < c.callers)
-    (at : (flight_of (left c es).now (Caller k)).stage ≡ stage.Probe)
+    (at : (flight_of (left c es).now (Caller k)).stage ≡ Stage.Probe)
     (meets : Meets (never_behind c es) (register_at (never_behind c es) k
     (q_of (flight_of (left c es).now (Caller k)).op)) (i_of (flight_of (left c es).now (Caller k)).op)
     (λ kind. Unit {0})) where
@@ -115,7 +87,7 @@ module _ (c : Config) (es : List Event) (k : ℕ) (h : IsHistory c es) (lt : k <
 
 -- a seat's, after what others did
 gets_to_for : (c : Config) (es : List Event) (t : Seat) (k : ℕ) → t ≡ Caller k → IsHistory c es → k < c.callers
-    → (flight_of (left c es).now t).stage ≡ stage.Probe
+    → (flight_of (left c es).now t).stage ≡ Stage.Probe
     → Meets (never_behind c es) (register_at (never_behind c es) (caller_number t)
     (q_of (flight_of (left c es).now t).op)) (i_of (flight_of (left c es).now t).op) (λ kind. Unit {0})
     → (b : Bool) → is_unmapped_header (header_in (left c es).now.words (page_met (flight_of (left c es).now t))) ≡ b
@@ -123,7 +95,7 @@ gets_to_for : (c : Config) (es : List Event) (t : Seat) (k : ℕ) → t ≡ Call
     (q_of (flight_of (left c es).now t).op)) (i_of (flight_of (left c es).now t).op)
 gets_to_for c es t k is h lt at meets b u =
     subst
-    (λ (t : Seat). (flight_of (left c es).now t).stage ≡ stage.Probe
+    (λ (t : Seat). (flight_of (left c es).now t).stage ≡ Stage.Probe
     → Meets (never_behind c es) (register_at (never_behind c es) (caller_number t)
     (q_of (flight_of (left c es).now t).op)) (i_of (flight_of (left c es).now t).op) (λ kind. Unit {0})
     → is_unmapped_header (header_in (left c es).now.words (page_met (flight_of (left c es).now t))) ≡ b
@@ -132,16 +104,16 @@ gets_to_for c es t k is h lt at meets b u =
     (sym is) (λ at' meets' u'. gets_to c es k h lt at' meets' b u') at meets u
 
 module _ (p : PassState) (q : PassState) (n : ℕ) (u : IsUnderway p)
-    (finds : Finds p step.Probe n q)
-    (at : (call_of p).stage ≡ stage.Probe) (through : is_access (call_of p).op ≡ true) where
+    (finds : Finds p Step.Probe n q)
+    (at : (call_of p).stage ≡ Stage.Probe) (through : is_access (call_of p).op ≡ true) where
   abbrev es : List Event
   es = p.seen ++ finds.makes.others
 
   abbrev o : Op
   o = (call_of p).op
 
-  d : Made p step.Probe q finds.makes
-  d = made p step.Probe q finds.makes
+  d : Made p Step.Probe q finds.makes
+  d = made p Step.Probe q finds.makes
 
   others : AreOfOthers (Caller (caller_of_pass p) ∷ []) finds.makes.others
   others = subst (λ (t : Seat). AreOfOthers (t ∷ []) finds.makes.others) (own_seat p u.caller u.seat) d.others
@@ -153,7 +125,7 @@ module _ (p : PassState) (q : PassState) (n : ℕ) (u : IsUnderway p)
   same = d.frame.own.flight
 
   small : q_of o < 8
-  small = met_is_small p stage.LoadQ u.pass.history
+  small = met_is_small p Stage.LoadQ u.pass.history
 
   meets : Meets (never_behind p.table.config es) (register_at (never_behind p.table.config es) (caller_of_pass p)
       (q_of o))
@@ -181,7 +153,7 @@ module _ (p : PassState) (q : PassState) (n : ℕ) (u : IsUnderway p)
       (sym same) meets)
       b (sym finds_header ∙ is)))
 
-  seen : q.seen ≡ p.seen ++ finds.makes.others ++ event_of p step.Probe ∷ []
+  seen : q.seen ≡ p.seen ++ finds.makes.others ++ event_of p Step.Probe ∷ []
   seen = ap (λ (r : PassState). r.seen) finds.makes.is
 
   pub probes_unmapped : is_unmapped_header (header_of n) ≡ true → Probes p o q Unmapped

@@ -1,67 +1,53 @@
 -- Each step of a call, from what is known of a call on its way: it may be made, and the call goes on.
-use Rattle.std.proofs.Common.{◌≡◌, ℕ, ◌+◌, ◌-◌, ◌*◌, ◌/◌, ◌^◌, ◌<◌, ◌≤◌, Bool, true, false, refl, sym, ◌∙◌, ap, subst}
-use Rattle.std.proofs.Common.{arith}
-use Rattle.std.specs.Prelude.{◌↔◌, None, nat_lt, nat_le, if◌then◌else◌}
-use Rattle.std.proofs.lemmas.Bool.{and_parts, ltb-true, leb-true}
-use Rattle.mk_never.specs.declared.operations.Op.{Op}
-use Rattle.mk_never.specs.declared.values.Value.TheVariants.{Null}
-use Rattle.mk_core.specs.declared.events.Group.TheVariants as group
-use Rattle.mk_core.specs.declared.events.Step.{Step}
-use Rattle.mk_core.specs.declared.events.Step.TheVariants as step
-use Rattle.mk_core.specs.declared.seats.Stage.{Stage}
-use Rattle.mk_core.specs.declared.seats.Stage.TheVariants as stage
-use Rattle.mk_core.specs.Accesses.{register_met}
-use Rattle.mk_core.specs.Calls.{word_met, i_of, refused, onward}
-use Rattle.mk_core.specs.Cells.{is_unmapped_header}
-use Rattle.mk_core.specs.Effects.{progress_probe}
-use Rattle.mk_geom.specs.Headers.{header_of}
-use Rattle.mk_core.specs.declared.events.Answer.TheVariants as answer
-use Rattle.mk_core.specs.Order.{group_of, comes_next}
-use Rattle.mk_core.specs.Ranges.{is_in_range, is_word_met}
-use Rattle.mk_laws.specs.Images.{has_q, has_some_q, is_put}
-use Rattle.mk_words.specs.States.{PassState, call_of}
-use Rattle.mk_words.specs.Steps.{IsEnabledTo, IsAdmittedTo}
-use Rattle.mk_words.specs.CallSteps.{register_of}
-use Rattle.mk_caller.specs.States.{value_of}
-use Rattle.mk_caller.specs.Moves.{IsUnderway, CallMoves, is_access, is_past_decision, loads_register, stores_register}
-use Rattle.mk_caller.proofs.Enabling.{enabled, admitted, idly_admitted, put_decides_nothing, met_is_small}
+use Rattle.mk_laws.proofs.Vocabulary.{Answer, Bool, Group, None, Null, Op, Stage, Step, ℕ, and_parts, ap, arith}
+use Rattle.mk_laws.proofs.Vocabulary.{comes_next, false, group_of, header_of, i_of, if◌then◌else◌, is_in_range, is_put}
+use Rattle.mk_laws.proofs.Vocabulary.{is_unmapped_header, leb-true, ltb-true, nat_le, nat_lt, onward, refl, refused}
+use Rattle.mk_laws.proofs.Vocabulary.{register_met, subst, sym, true, word_met, ◌*◌, ◌+◌, ◌-◌, ◌/◌, ◌<◌, ◌^◌, ◌↔◌, ◌∙◌}
+use Rattle.mk_laws.proofs.Vocabulary.{◌≡◌, ◌≤◌}
+use Rattle.mk_core.specs.{Effects.progress_probe, Ranges.is_word_met}
+use Rattle.mk_laws.specs.Images.{has_q, has_some_q}
+use Rattle.mk_caller.proofs.Enabling.{admitted, enabled, idly_admitted, met_is_small, put_decides_nothing}
 use Rattle.mk_caller.proofs.WordsMet.{null_tells, word_is_met}
+use Rattle.mk_caller.specs.Moves.{CallMoves, IsUnderway, is_access, is_past_decision, loads_register, stores_register}
+use Rattle.mk_caller.specs.States.{value_of}
+use Rattle.mk_words.specs.States.{PassState, call_of}
+use Rattle.mk_words.specs.{CallSteps.register_of, Steps.IsAdmittedTo, Steps.IsEnabledTo}
 
-load_comes : (s : Stage) (o : Op) → loads_register s ≡ true → comes_next s o step.Reg ≡ true
-load_comes stage.LoadQ o h = refl
-load_comes stage.LoadP o h = refl
-load_comes stage.LoadR o h = refl
+load_comes : (s : Stage) (o : Op) → loads_register s ≡ true → comes_next s o Step.Reg ≡ true
+load_comes Stage.LoadQ o h = refl
+load_comes Stage.LoadP o h = refl
+load_comes Stage.LoadR o h = refl
 load_comes _ o h = cc
 
 load_undecided : (s : Stage) → loads_register s ≡ true → (is_past_decision s ≡ false) × (is_put s ≡ false)
-load_undecided stage.LoadQ h = (refl, refl)
-load_undecided stage.LoadP h = (refl, refl)
-load_undecided stage.LoadR h = (refl, refl)
+load_undecided Stage.LoadQ h = (refl, refl)
+load_undecided Stage.LoadP h = (refl, refl)
+load_undecided Stage.LoadR h = (refl, refl)
 load_undecided _ h = cc
 
 module _ (p : PassState) (u : IsUnderway p) where
-  enabled_step : (s : Step) → group_of s ≡ group.Callers → comes_next (call_of p).stage (call_of p).op s ≡ true
+  enabled_step : (s : Step) → group_of s ≡ Group.Callers → comes_next (call_of p).stage (call_of p).op s ≡ true
       → is_in_range p.table.config p.seat (call_of p) s ≡ true → IsEnabledTo p s
   enabled_step s kind next range = enabled p s u.caller u.seat u.exists kind next range
 
   admitted_step : (s : Step) → is_past_decision (call_of p).stage ≡ false → IsEnabledTo p s → IsAdmittedTo p s
   admitted_step s undecided on = admitted p s u.pass.history on u.entered (u.admits undecided)
 
-  pub may_load : loads_register (call_of p).stage ≡ true → IsAdmittedTo p step.Reg
+  pub may_load : loads_register (call_of p).stage ≡ true → IsAdmittedTo p Step.Reg
   may_load is =
-      admitted_step step.Reg (load_undecided (call_of p).stage is).0
-      (enabled_step step.Reg refl (load_comes (call_of p).stage (call_of p).op is) refl)
+      admitted_step Step.Reg (load_undecided (call_of p).stage is).0
+      (enabled_step Step.Reg refl (load_comes (call_of p).stage (call_of p).op is) refl)
 
-  pub may_store : stores_register (call_of p).stage ≡ true → IsAdmittedTo p step.Reg
+  pub may_store : stores_register (call_of p).stage ≡ true → IsAdmittedTo p Step.Reg
   may_store is = by (call_of p).stage refl is
     where
-      by : (s : Stage) → (call_of p).stage ≡ s → stores_register s ≡ true → IsAdmittedTo p step.Reg
-      by stage.Store e is =
-          admitted_step step.Reg (ap (λ (s : Stage). is_past_decision s) e)
-          (enabled_step step.Reg refl (ap (λ (s : Stage). comes_next s (call_of p).op step.Reg) e) refl)
-      by stage.Put e is =
-          idly_admitted p step.Reg u.pass.history
-          (enabled_step step.Reg refl (ap (λ (s : Stage). comes_next s (call_of p).op step.Reg) e) refl)
+      by : (s : Stage) → (call_of p).stage ≡ s → stores_register s ≡ true → IsAdmittedTo p Step.Reg
+      by Stage.Store e is =
+          admitted_step Step.Reg (ap (λ (s : Stage). is_past_decision s) e)
+          (enabled_step Step.Reg refl (ap (λ (s : Stage). comes_next s (call_of p).op Step.Reg) e) refl)
+      by Stage.Put e is =
+          idly_admitted p Step.Reg u.pass.history
+          (enabled_step Step.Reg refl (ap (λ (s : Stage). comes_next s (call_of p).op Step.Reg) e) refl)
           (put_decides_nothing p u.caller u.seat e)
       by _ e is = cc
 
@@ -82,7 +68,7 @@ module _ (p : PassState) (u : IsUnderway p) where
         (ap (λ (x : Stage). has_some_q x (call_of p).op) at ∙ some) through
         (u.admits (ap (λ (x : Stage). is_past_decision x) at ∙ undecided))
 
-    pub may_reach : (x : Step) → group_of x ≡ group.Callers → comes_next s (call_of p).op x ≡ true
+    pub may_reach : (x : Step) → group_of x ≡ Group.Callers → comes_next s (call_of p).op x ≡ true
         → is_in_range p.table.config p.seat (call_of p) x ≡ is_word_met p.table.config (call_of p)
         → IsEnabledTo p x × IsAdmittedTo p x
     may_reach x kind next range =
@@ -90,15 +76,15 @@ module _ (p : PassState) (u : IsUnderway p) where
         (on, admitted_step x (ap (λ (y : Stage). is_past_decision y) at ∙ undecided) on)
 
   -- a step that reaches a global
-  pub may_getg : (call_of p).stage ≡ stage.Getg → IsAdmittedTo p step.Getg
+  pub may_getg : (call_of p).stage ≡ Stage.Getg → IsAdmittedTo p Step.Getg
   may_getg at =
-      admitted_step step.Getg (ap (λ (x : Stage). is_past_decision x) at)
-      (enabled_step step.Getg refl (ap (λ (x : Stage). comes_next x (call_of p).op step.Getg) at) refl)
+      admitted_step Step.Getg (ap (λ (x : Stage). is_past_decision x) at)
+      (enabled_step Step.Getg refl (ap (λ (x : Stage). comes_next x (call_of p).op Step.Getg) at) refl)
 
-  pub may_setg : (call_of p).stage ≡ stage.Setg → IsAdmittedTo p step.Setg
+  pub may_setg : (call_of p).stage ≡ Stage.Setg → IsAdmittedTo p Step.Setg
   may_setg at =
-      admitted_step step.Setg (ap (λ (x : Stage). is_past_decision x) at)
-      (enabled_step step.Setg refl (ap (λ (x : Stage). comes_next x (call_of p).op step.Setg) at) refl)
+      admitted_step Step.Setg (ap (λ (x : Stage). is_past_decision x) at)
+      (enabled_step Step.Setg refl (ap (λ (x : Stage). comes_next x (call_of p).op Step.Setg) at) refl)
 
   -- what the word is
   pub met_bounds : (value offset : ℕ) → value ≡ (call_of p).q → offset ≡ i_of (call_of p).op
@@ -115,30 +101,30 @@ module _ (p : PassState) (u : IsUnderway p) where
       )
 
 probe_by : (p q : PassState) (n : ℕ) (b : Bool) → is_unmapped_header (header_of n) ≡ b
-    → CallMoves p (call_of p).op step.Probe (progress_probe (call_of p) n) q
-    → CallMoves p (call_of p).op step.Probe (if b then refused (call_of p) answer.Fault else onward (call_of p) None) q
+    → CallMoves p (call_of p).op Step.Probe (progress_probe (call_of p) n) q
+    → CallMoves p (call_of p).op Step.Probe (if b then refused (call_of p) Answer.Fault else onward (call_of p) None) q
 probe_by p q n b is m =
-    subst (λ (x : Bool). CallMoves p (call_of p).op step.Probe
-    (if x then refused (call_of p) answer.Fault else onward (call_of p) None) q) is m
+    subst (λ (x : Bool). CallMoves p (call_of p).op Step.Probe
+    (if x then refused (call_of p) Answer.Fault else onward (call_of p) None) q) is m
 
 pub probe_refused : (p q : PassState) (n : ℕ) → is_unmapped_header (header_of n) ≡ true
-    → CallMoves p (call_of p).op step.Probe (progress_probe (call_of p) n) q
-    → CallMoves p (call_of p).op step.Probe (refused (call_of p) answer.Fault) q
+    → CallMoves p (call_of p).op Step.Probe (progress_probe (call_of p) n) q
+    → CallMoves p (call_of p).op Step.Probe (refused (call_of p) Answer.Fault) q
 probe_refused p q n is m = probe_by p q n true is m
 
 pub probe_passed : (p q : PassState) (n : ℕ) → is_unmapped_header (header_of n) ≡ false
-    → CallMoves p (call_of p).op step.Probe (progress_probe (call_of p) n) q
-    → CallMoves p (call_of p).op step.Probe (onward (call_of p) None) q
+    → CallMoves p (call_of p).op Step.Probe (progress_probe (call_of p) n) q
+    → CallMoves p (call_of p).op Step.Probe (onward (call_of p) None) q
 probe_passed p q n is m = probe_by p q n false is m
 
 -- A pointer that is moved on stays within its allocation.
 pub moved_within : (p : PassState) (u : IsUnderway p) (value offset : ℕ)
-    → (call_of p).stage ≡ stage.Store → is_access (call_of p).op ≡ true → has_q stage.Store (call_of p).op ≡ true
-    → has_some_q stage.Store (call_of p).op ≡ true
+    → (call_of p).stage ≡ Stage.Store → is_access (call_of p).op ≡ true → has_q Stage.Store (call_of p).op ≡ true
+    → has_some_q Stage.Store (call_of p).op ≡ true
     → value ≡ (call_of p).q → offset ≡ i_of (call_of p).op
     → value + 8 * offset < 2 ^ 64
 moved_within p u value offset at access has some v i =
-    let m = met p u stage.Store at access refl has some in
+    let m = met p u Stage.Store at access refl has some in
     let b = met_bounds p u value offset v i m in
     let pages = u.pass.history.within_limits.pages.1 in
     let low = b.0 in

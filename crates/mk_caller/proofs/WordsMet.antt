@@ -1,39 +1,15 @@
 -- What the words that a call loads show of its registers' values, and the heap word that it accesses.
-use Rattle.std.proofs.Common.{◌≡◌, ℕ, ◌+◌, ◌*◌, ◌/◌, ◌%◌, ◌<◌, true, false, List, sym, ◌∙◌, ap, subst, arith}
-use Rattle.std.specs.Prelude.{nat_lt, nat_le, ◌↔◌}
-use Rattle.std.proofs.lemmas.Bool.{and_from, lt-ltb, le-leb}
-use Rattle.mk_never.specs.declared.operations.Op.{Op}
-use Rattle.mk_never.specs.declared.operations.Op.TheVariants as op
-use Rattle.mk_never.specs.declared.types.Kind.{Kind}
-use Rattle.mk_never.specs.declared.values.Value.{Value}
-use Rattle.mk_never.specs.declared.values.Value.TheVariants.{Null, Num, Ptr}
-use Rattle.mk_never.specs.NeverHeap.{NeverState, register_at}
-use Rattle.mk_never.specs.Admitted.{AccessIsAdmitted, Meets, IsNumber, IsPointer}
-use Rattle.mk_never.specs.Typed.{IsSound}
-use Rattle.mk_core.specs.declared.config.Config.{Config}
-use Rattle.mk_core.specs.declared.events.Event.{Event}
-use Rattle.mk_core.specs.declared.events.Seat.{Seat}
-use Rattle.mk_core.specs.declared.events.Seat.TheVariants.{Caller}
-use Rattle.mk_core.specs.declared.seats.Flight.{Flight}
-use Rattle.mk_core.specs.Accesses.{caller_number}
-use Rattle.mk_core.specs.Calls.{q_of, i_of, word_met}
-use Rattle.mk_core.specs.History.{World, left, never_behind, bases_of, IsHistory}
-use Rattle.mk_core.specs.Image.{image_of}
-use Rattle.mk_core.specs.Moments.{flight_of}
+use Rattle.mk_laws.proofs.Vocabulary.{AccessIsAdmitted, Caller, CarriesOwn, Config, Event, Flight, IsHistory, IsNumber}
+use Rattle.mk_laws.proofs.Vocabulary.{IsPointer, IsSafe, IsSound, Kind, List, Meets, NeverState, Null, Num, Op, Ptr}
+use Rattle.mk_laws.proofs.Vocabulary.{Seat, Value, World, ℕ, and_from, ap, arith, bases_of, caller_number, false}
+use Rattle.mk_laws.proofs.Vocabulary.{flight_among, flight_of, histories_keep_lengths, i_of, image_of, is_put, le-leb}
+use Rattle.mk_laws.proofs.Vocabulary.{left, lt-ltb, nat_le, nat_lt, never_behind, q_of, register_at, register_word}
+use Rattle.mk_laws.proofs.Vocabulary.{shown, subst, sym, true, word_met, ◌%◌, ◌*◌, ◌+◌, ◌/◌, ◌<◌, ◌↔◌, ◌∙◌, ◌≡◌}
 use Rattle.mk_core.specs.Ranges.{is_word_met}
-use Rattle.mk_core.specs.Words.{register_word}
-use Rattle.mk_core.proofs.Lengths.{histories_keep_lengths}
-use Rattle.mk_laws.specs.Images.{shown, is_put, has_q, has_some_q, CarriesOwn, flight_among}
-use Rattle.mk_laws.specs.SafeSets.{IsSafe}
-use Rattle.mk_laws.proofs.ImagesKept.{base_at}
-use Rattle.mk_laws.proofs.Pairs.{shows_plain}
-use Rattle.mk_laws.proofs.Ready.{image_zero}
-use Rattle.mk_laws.proofs.LastEvents.{stands}
-use Rattle.mk_laws.proofs.ProbesStill.{ready}
-use Rattle.mk_words.specs.States.{PassState, call_of, now_of}
-use Rattle.mk_words.specs.CallSteps.{register_of}
-use Rattle.mk_caller.specs.States.{caller_of_pass, never_of, value_of, Admits}
-use Rattle.mk_caller.specs.Moves.{is_access}
+use Rattle.mk_laws.{proofs.ImagesKept.base_at, proofs.LastEvents.stands, proofs.Pairs.shows_plain}
+use Rattle.mk_laws.{proofs.ProbesStill.ready, proofs.Ready.image_zero, specs.Images.has_q, specs.Images.has_some_q}
+use Rattle.mk_caller.specs.{Moves.is_access, States.Admits, States.caller_of_pass, States.never_of, States.value_of}
+use Rattle.mk_words.specs.{CallSteps.register_of, States.PassState, States.call_of, States.now_of}
 
 meets_some : (n : NeverState) (v : Value) (i : ℕ) (P : Kind → Type 0) → Meets n v i P → Meets n v i (λ kind. Unit {0})
 meets_some n Null i P h = tt
@@ -43,12 +19,12 @@ meets_some n (Ptr a t o) i P h = (h.0, tt)
 -- the access of an operation through q
 pub access_meets : (n : NeverState) (k : ℕ) (o : Op) → is_access o ≡ true → AccessIsAdmitted n k o
     → Meets n (register_at n k (q_of o)) (i_of o) (λ kind. Unit {0})
-access_meets n k (op.GetNum q i) a h = meets_some n (register_at n k q) i IsNumber h
-access_meets n k (op.SetNum q i m) a h = meets_some n (register_at n k q) i IsNumber h
-access_meets n k (op.GetPtr d q i) a h = meets_some n (register_at n k q) i IsPointer h
-access_meets n k (op.SetPtr q i p) a h = meets_some n (register_at n k q) i IsPointer h
-access_meets n k (op.CasPtr q i p r) a h = meets_some n (register_at n k q) i IsPointer h
-access_meets n k (op.Lea d q i) a h = h
+access_meets n k (Op.GetNum q i) a h = meets_some n (register_at n k q) i IsNumber h
+access_meets n k (Op.SetNum q i m) a h = meets_some n (register_at n k q) i IsNumber h
+access_meets n k (Op.GetPtr d q i) a h = meets_some n (register_at n k q) i IsPointer h
+access_meets n k (Op.SetPtr q i p) a h = meets_some n (register_at n k q) i IsPointer h
+access_meets n k (Op.CasPtr q i p r) a h = meets_some n (register_at n k q) i IsPointer h
+access_meets n k (Op.Lea d q i) a h = h
 access_meets n k _ a h = cc
 
 -- A register, where nothing is owed to it, is the image of its value.

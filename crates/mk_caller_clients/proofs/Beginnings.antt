@@ -1,20 +1,12 @@
 -- A caller's pass of a heap that nobody has used.
-use Rattle.std.proofs.Common.{◌≡◌, ◌*◌, ◌≤◌, true, List, [], ◌∷◌, length, refl, sym, ◌∙◌, ap, subst, arith}
-use Rattle.std.specs.Prelude.{slice_index_or}
 use Rattle.std.proofs.lemmas.List.{length-replicate}
-use Rattle.mk_never.specs.declared.operations.Op.TheVariants as op
-use Rattle.mk_never.specs.declared.values.Value.{Value}
-use Rattle.mk_never.specs.declared.values.Value.TheVariants.{Null}
-use Rattle.mk_never.specs.NeverHeap.{is_same}
-use Rattle.mk_core.specs.declared.config.Config.{Config}
-use Rattle.mk_core.specs.declared.events.Event.{Event}
-use Rattle.mk_core.specs.declared.events.Seat.TheVariants.{Caller}
-use Rattle.mk_core.specs.Calls.{at_rest}
-use Rattle.mk_core.specs.History.{World, left, first_world, never_behind, never_first, left_from, calls_from}
-use Rattle.mk_core.specs.Moments.{flight_of}
+use Rattle.mk_laws.proofs.Vocabulary.{Caller, Config, Event, List, Null, Op, Value, World, ap, arith, at_rest}
+use Rattle.mk_laws.proofs.Vocabulary.{first_world, flight_of, is_same, left, length, never_behind, refl, slice_index_or}
+use Rattle.mk_laws.proofs.Vocabulary.{subst, sym, true, [], ◌*◌, ◌∙◌, ◌∷◌, ◌≡◌, ◌≤◌}
+use Rattle.mk_core.specs.History.{calls_from, left_from, never_first}
 use Rattle.mk_laws.proofs.OrderlyLists.{at_first}
+use Rattle.mk_caller.specs.States.{Admits, IsIdleCaller, value_of}
 use Rattle.mk_words.specs.States.{PassState, WordsState}
-use Rattle.mk_caller.specs.States.{value_of, Admits, IsIdleCaller}
 
 none_left : (c : Config) → left c [] ≡ first_world c
 unfolding left_from
@@ -36,7 +28,7 @@ idle_at_first w =
       rest = ap (λ (x : World). flight_of x.now (Caller 0)) (none_left w.config) ∙ at_first w.config.callers 0 at_rest;
     }
 
-admits_at_first : (w : WordsState) → 1 ≤ w.config.callers → Admits (first_pass w) (op.IsNull 0)
+admits_at_first : (w : WordsState) → 1 ≤ w.config.callers → Admits (first_pass w) (Op.IsNull 0)
 admits_at_first w some =
     let count : length (never_behind w.config []).registers ≡ 8 * w.config.callers =
     ap (λ (n : Rattle.mk_never.specs.NeverHeap.NeverState). length n.registers) (none_called w.config)
@@ -53,8 +45,8 @@ null_at_first w =
 pub idle : (p : PassState) (w : WordsState) → p ≡ first_pass w → IsIdleCaller p
 idle p w is = subst (λ (x : PassState). IsIdleCaller x) (sym is) (idle_at_first w)
 
-pub admits : (p : PassState) (w : WordsState) → p ≡ first_pass w → 1 ≤ w.config.callers → Admits p (op.IsNull 0)
-admits p w is some = subst (λ (x : PassState). Admits x (op.IsNull 0)) (sym is) (admits_at_first w some)
+pub admits : (p : PassState) (w : WordsState) → p ≡ first_pass w → 1 ≤ w.config.callers → Admits p (Op.IsNull 0)
+admits p w is some = subst (λ (x : PassState). Admits x (Op.IsNull 0)) (sym is) (admits_at_first w some)
 
 pub tells_null : (p : PassState) (w : WordsState) → p ≡ first_pass w → is_same (value_of p 0) Null ≡ true
 tells_null p w is = ap (λ (x : PassState). is_same (value_of x 0) Null) is

@@ -1,21 +1,13 @@
 -- Two calls, of one caller or of two, one after the other, and the calls between the events that decide them.
-use Rattle.std.proofs.Common.{◌≡◌, Bool, true, List, [], ◌∷◌, ◌++◌, length, refl, sym, ◌∙◌, ap, append_assoc}
-use Rattle.std.proofs.Common.{append-nil, length-append, arith, cond}
-use Rattle.std.specs.Prelude.{filter}
-use Rattle.std.proofs.lemmas.List.Elements.{filter-append}
-use Rattle.mk_never.specs.declared.operations.Op.{Op}
-use Rattle.mk_never.specs.NeverHeap.{after_op, after_calls}
-use Rattle.mk_core.specs.declared.config.Config.{Config}
-use Rattle.mk_core.specs.declared.events.Answer.{Answer}
-use Rattle.mk_core.specs.declared.events.Event.{Event}
-use Rattle.mk_core.specs.Decided.{Decided, asked, flagged}
-use Rattle.mk_core.specs.History.{first_world, left, calls, calls_from, call_decided, never_behind}
-use Rattle.mk_core.proofs.Histories.{calls_more}
-use Rattle.mk_core.proofs.HistoryParts.{calls_in_parts, never_in_parts}
-use Rattle.mk_words.specs.States.{PassState}
-use Rattle.mk_caller.specs.States.{caller_of_pass}
-use Rattle.mk_caller.specs.Called.{Called}
+use Rattle.std.proofs.{Common.filter, Common.length-append, lemmas.List.Elements.filter-append}
+use Rattle.mk_laws.proofs.Vocabulary.{Answer, Bool, Config, Decided, Event, List, Op, after_calls, ap, append-nil}
+use Rattle.mk_laws.proofs.Vocabulary.{append_assoc, arith, asked, call_decided, calls, cond, first_world, flagged, left}
+use Rattle.mk_laws.proofs.Vocabulary.{length, never_behind, never_in_parts, refl, sym, true, [], ◌++◌, ◌∙◌, ◌∷◌, ◌≡◌}
+use Rattle.mk_never.specs.NeverHeap.{after_op}
+use Rattle.mk_core.{proofs.Histories.calls_more, proofs.HistoryParts.calls_in_parts, specs.History.calls_from}
+use Rattle.mk_caller.specs.{Called.Called, States.caller_of_pass}
 use Rattle.mk_caller_clients.specs.Setters.{HasSeenAllOf}
+use Rattle.mk_words.specs.States.{PassState}
 
 -- those of the calls whose operations pass a test
 abbrev pub picked : (Op → Bool) → List Decided → List Decided

@@ -1,17 +1,11 @@
 -- A global stays as it is set, up to the next call that sets it.
-use Rattle.std.proofs.Common.{◌≡◌, ℕ, ◌<◌, Bool, true, false, List, [], ◌∷◌, length, refl, sym, ◌∙◌, cond}
-use Rattle.std.specs.Prelude.{filter, if◌then◌else◌}
-use Rattle.std.proofs.lemmas.Bool.{eq-eqb}
-use Rattle.std.proofs.lemmas.List.{get_or-set_same, get_or-set_other}
-use Rattle.mk_never.specs.declared.operations.Op.{Op}
-use Rattle.mk_never.specs.declared.operations.Op.TheVariants as op
-use Rattle.mk_never.specs.declared.values.Target.{Target}
-use Rattle.mk_never.specs.declared.values.Target.TheVariants.{Nothing, Unmapped, WordOf}
-use Rattle.mk_never.specs.declared.values.Value.{Value}
-use Rattle.mk_never.specs.declared.values.Value.TheVariants.{Null, Num, Ptr}
-use Rattle.mk_never.specs.NeverHeap.{NeverState, register_at, global_at, with_register, word_at, with_word, target_of}
-use Rattle.mk_never.specs.NeverHeap.{left_at, after_free, after_op, after_calls, is_same}
-use Rattle.mk_core.specs.Decided.{Decided, asked}
+use Rattle.std.proofs.Common.{filter}
+use Rattle.mk_laws.proofs.Vocabulary.{Bool, Decided, List, NeverState, Null, Num, Op, Ptr, Unmapped, Value, WordOf, ℕ}
+use Rattle.mk_laws.proofs.Vocabulary.{after_calls, after_free, asked, cond, eq-eqb, false, get_or-set_other}
+use Rattle.mk_laws.proofs.Vocabulary.{get_or-set_same, global_at, if◌then◌else◌, is_same, length, refl, register_at}
+use Rattle.mk_laws.proofs.Vocabulary.{sym, target_of, true, with_register, with_word, word_at, [], ◌<◌, ◌∙◌, ◌∷◌, ◌≡◌}
+use Rattle.mk_never.specs.NeverHeap.{after_op, left_at}
+use Rattle.mk_never.specs.{declared.values.Target.Target, declared.values.Target.TheVariants.Nothing}
 use Rattle.mk_caller_clients.specs.Setters.{is_set_of}
 
 -- those of the calls that set the global
@@ -42,20 +36,20 @@ new_keeps n m g false x = x
 
 op_keeps : (n : NeverState) (k : ℕ) (o : Op) (g : ℕ) → is_set_of g o ≡ false
     → global_at (after_op n k o) g ≡ global_at n g
-op_keeps n k (op.New d ty full) g h = new_keeps n _ g full refl
-op_keeps n k (op.Free p) g h = free_keeps n g (register_at n k p)
-op_keeps n k (op.GetNum q i) g h = refl
-op_keeps n k (op.SetNum q i m) g h = left_keeps n n g (target_of n (register_at n k q) i)
+op_keeps n k (Op.New d ty full) g h = new_keeps n _ g full refl
+op_keeps n k (Op.Free p) g h = free_keeps n g (register_at n k p)
+op_keeps n k (Op.GetNum q i) g h = refl
+op_keeps n k (Op.SetNum q i m) g h = left_keeps n n g (target_of n (register_at n k q) i)
     (λ a w. with_word n a w (Num m)) refl (λ a w. refl)
-op_keeps n k (op.GetPtr d q i) g h = left_keeps n (with_register n k d Null) g (target_of n (register_at n k q) i)
+op_keeps n k (Op.GetPtr d q i) g h = left_keeps n (with_register n k d Null) g (target_of n (register_at n k q) i)
     (λ a w. with_register n k d (word_at n a w)) refl (λ a w. refl)
-op_keeps n k (op.SetPtr q i p) g h = left_keeps n n g (target_of n (register_at n k q) i)
+op_keeps n k (Op.SetPtr q i p) g h = left_keeps n n g (target_of n (register_at n k q) i)
     (λ a w. with_word n a w (register_at n k p)) refl (λ a w. refl)
-op_keeps n k (op.CasPtr q i p r) g h =
+op_keeps n k (Op.CasPtr q i p r) g h =
     left_keeps n n g (target_of n (register_at n k q) i)
     (λ a w. if is_same (word_at n a w) (register_at n k p) then with_word n a w (register_at n k r) else n) refl
     (λ a w. either_keeps n (with_word n a w (register_at n k r)) g (is_same (word_at n a w) (register_at n k p)) refl)
-op_keeps n k (op.SetGlobal x p) g h =
+op_keeps n k (Op.SetGlobal x p) g h =
     get_or-set_other n.globals x g (register_at n k p) Null
     (λ e. (let t : true ≡ false = sym (eq-eqb x g (sym e)) ∙ h in cc))
 op_keeps n k _ g h = refl
@@ -77,5 +71,5 @@ calls_keep n g (x ∷ xs) h =
     calls_keep (after_op n x.caller x.op) g xs u.1 ∙ op_keeps n x.caller x.op g u.0
 
 pub set_gives : (n : NeverState) (k g p : ℕ) → g < length n.globals
-    → global_at (after_op n k (op.SetGlobal g p)) g ≡ register_at n k p
+    → global_at (after_op n k (Op.SetGlobal g p)) g ≡ register_at n k p
 set_gives n k g p lt = get_or-set_same n.globals g (register_at n k p) Null lt

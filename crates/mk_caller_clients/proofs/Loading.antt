@@ -1,44 +1,28 @@
 -- What is loaded after a store.
-use Rattle.std.proofs.Common.{◌≡◌, ℕ, ◌+◌, ◌<◌, Bool, true, false, List, [], ◌∷◌, ◌++◌, refl, sym, ◌∙◌, ap, subst}
-use Rattle.std.proofs.Common.{append_assoc, append-nil, cond}
-use Rattle.std.specs.Prelude.{if◌then◌else◌}
-use Rattle.mk_never.specs.declared.operations.Op.{Op}
-use Rattle.mk_never.specs.declared.operations.Op.TheVariants as op
-use Rattle.mk_never.specs.declared.operations.Reply.{Reply}
-use Rattle.mk_never.specs.declared.operations.Reply.TheVariants as reply
-use Rattle.mk_never.specs.declared.values.Target.{Target}
-use Rattle.mk_never.specs.declared.values.Target.TheVariants.{Nothing, Unmapped, WordOf}
-use Rattle.mk_never.specs.declared.values.Value.{Value}
-use Rattle.mk_never.specs.declared.values.Value.TheVariants.{Null, Num, Ptr}
-use Rattle.mk_never.specs.NeverHeap.{NeverState, register_at, target_of, is_unmapped, allocation_at, word_at}
-use Rattle.mk_never.specs.NeverHeap.{number_of as number_in, reply_at, reply_of, after_op, after_calls}
-use Rattle.mk_never.specs.Admitted.{AreAdmitted, Meets, IsNumber}
-use Rattle.mk_never.specs.Laws.{NoneStoresTo, StoresTo, KeepsRegisters}
+use Rattle.mk_laws.proofs.Vocabulary.{Answer, AreAdmitted, Bool, Config, Decided, Event, IsHistory, IsNumber}
+use Rattle.mk_laws.proofs.Vocabulary.{KeepsRegisters, List, Meets, NeverState, Null, Num, Op, Ptr, Unmapped, Value}
+use Rattle.mk_laws.proofs.Vocabulary.{WordOf, ℕ, after_calls, allocation_at, answer_of, ap, append-nil, append_assoc}
+use Rattle.mk_laws.proofs.Vocabulary.{asked, bases_of, cond, earlier_part_is_history, false, if◌then◌else◌, is_unmapped}
+use Rattle.mk_laws.proofs.Vocabulary.{left, never_behind, number_of as number_in, refl, register_at, subst, sym}
+use Rattle.mk_laws.proofs.Vocabulary.{target_of, true, word_at, [], ◌++◌, ◌+◌, ◌<◌, ◌∙◌, ◌∷◌, ◌≡◌}
 use Rattle.mk_never.proofs.Stores.{load_gives_stored, store_is_inside}
-use Rattle.mk_core.specs.declared.config.Config.{Config}
-use Rattle.mk_core.specs.declared.events.Answer.{Answer}
-use Rattle.mk_core.specs.declared.events.Answer.TheVariants as answer
-use Rattle.mk_core.specs.declared.events.Event.{Event}
-use Rattle.mk_core.specs.Decided.{Decided, asked}
-use Rattle.mk_core.specs.History.{left, never_behind, bases_of, IsHistory}
-use Rattle.mk_core.specs.Image.{answer_of}
-use Rattle.mk_core.proofs.HistoryParts.{earlier_part_is_history}
+use Rattle.mk_never.specs.NeverHeap.{after_op, reply_at, reply_of}
+use Rattle.mk_never.specs.{Laws.NoneStoresTo, Laws.StoresTo, declared.operations.Reply.Reply}
+use Rattle.mk_never.specs.{declared.values.Target.Target, declared.values.Target.TheVariants.Nothing}
 use Rattle.mk_laws.proofs.LastEvents.{comes_last, stands}
-use Rattle.mk_laws.proofs.AdmittedStill.{meets_register}
-use Rattle.mk_laws.proofs.OtherCalls.{never_continues}
+use Rattle.mk_laws.proofs.{AdmittedStill.meets_register, OtherCalls.never_continues}
+use Rattle.mk_caller.proofs.After.{calls_leave_other_registers, still_caller}
+use Rattle.mk_caller.specs.{Called.Called, States.Admits, States.caller_of_pass, States.never_of, States.value_of}
+use Rattle.mk_caller_clients.proofs.Between.{at_once, before, between, never_later, never_there, none_between, picked}
+use Rattle.mk_caller_clients.proofs.Between.{place, same_config, same_number}
+use Rattle.mk_caller_clients.specs.Setters.{IsOnlyStore, is_store}
 use Rattle.mk_words.specs.States.{PassState}
-use Rattle.mk_caller.specs.States.{caller_of_pass, never_of, value_of, Admits}
-use Rattle.mk_caller.specs.Called.{Called}
-use Rattle.mk_caller.proofs.After.{still_caller, calls_leave_other_registers}
-use Rattle.mk_caller_clients.specs.Setters.{is_store, IsOnlyStore}
-use Rattle.mk_caller_clients.proofs.Between.{at_once, picked, before, between, same_config, same_number, place}
-use Rattle.mk_caller_clients.proofs.Between.{never_there, never_later, none_between}
 
 -- Calls that don't store store to no word.
 stores_nothing : (n : NeverState) (k : ℕ) (o : Op) (number at : ℕ) → is_store o ≡ false → StoresTo n k o number at → ⊥
-stores_nothing n k (op.SetNum q i x) number at h s = cc
-stores_nothing n k (op.SetPtr q i p) number at h s = cc
-stores_nothing n k (op.CasPtr q i p r) number at h s = cc
+stores_nothing n k (Op.SetNum q i x) number at h s = cc
+stores_nothing n k (Op.SetPtr q i p) number at h s = cc
+stores_nothing n k (Op.CasPtr q i p r) number at h s = cc
 stores_nothing n k _ number at h s = s
 
 unpicked : (test : Op → Bool) (x : Decided) (xs : List Decided) → picked test (x ∷ xs) ≡ []
@@ -64,14 +48,14 @@ record Word (n : NeverState) (v : Value) (i : ℕ) : Type 0 where
   pub is : target_of n v i ≡ WordOf number at
 
 done_gets : (bases : List ℕ) (n : NeverState) (v : Value) (i : ℕ) (t : Target) → target_of n v i ≡ t
-    → answer.Done ≡ answer_of bases (reply_at t (λ a w. reply.Done))
+    → Answer.Done ≡ answer_of bases (reply_at t (λ a w. Reply.Done))
     → Word n v i
 done_gets bases n v i (WordOf a w) is e = record { number = a; at = w; is = is }
 done_gets bases n v i Nothing is e = cc
 done_gets bases n v i Unmapped is e = cc
 
 number_gets : (bases : List ℕ) (n : NeverState) (v : Value) (i r : ℕ) (f : ℕ → ℕ → ℕ) (t : Target) → target_of n v i ≡ t
-    → answer.Num r ≡ answer_of bases (reply_at t (λ a w. reply.Num (f a w))) → Word n v i
+    → Answer.Num r ≡ answer_of bases (reply_at t (λ a w. Reply.Num (f a w))) → Word n v i
 number_gets bases n v i r f (WordOf a w) is e = record { number = a; at = w; is = is }
 number_gets bases n v i r f Nothing is e = cc
 number_gets bases n v i r f Unmapped is e = cc
@@ -111,7 +95,7 @@ admitted_there {p} {q} {o} {a} c h =
     c.decided.decides last.admitted
 
 module _ {p0 p1 p2 : PassState} (x i n loaded : ℕ) (lt : x < 8) (h : IsHistory p1.table.config p1.seen)
-    (set : Called p0 (op.SetNum x i n) answer.Done p1) (get : Called p1 (op.GetNum x i) (answer.Num loaded) p2) where
+    (set : Called p0 (Op.SetNum x i n) Answer.Done p1) (get : Called p1 (Op.GetNum x i) (Answer.Num loaded) p2) where
   abbrev c : Config
   c = p0.table.config
 
@@ -122,7 +106,7 @@ module _ {p0 p1 p2 : PassState} (x i n loaded : ℕ) (lt : x < 8) (h : IsHistory
   n1 = never_behind c (before set (at_once p1) get)
 
   abbrev n2 : NeverState
-  n2 = after_calls (after_op n1 k (op.SetNum x i n)) (asked (between set (at_once p1) get))
+  n2 = after_calls (after_op n1 k (Op.SetNum x i n)) (asked (between set (at_once p1) get))
 
   there : never_behind p1.table.config (p1.seen ++ get.decided.before) ≡ n2
   there =
@@ -138,21 +122,21 @@ module _ {p0 p1 p2 : PassState} (x i n loaded : ℕ) (lt : x < 8) (h : IsHistory
       ∙ ap (λ j. register_at (never_behind p1.table.config (p1.seen ++ get.decided.before)) j x)
       (sym (same_number set (at_once p1) get))
       ∙ get.decided.known x lt
-      ∙ calls_leave_other_registers p0 (op.SetNum x i n) answer.Done p1 x set lt (λ e. cc)
+      ∙ calls_leave_other_registers p0 (Op.SetNum x i n) Answer.Done p1 x set lt (λ e. cc)
       ∙ sym (set.decided.known x lt)
 
   stored_to : Word n1 (register_at n1 k x) i
   stored_to = done_gets _ n1 (register_at n1 k x) i (target_of n1 (register_at n1 k x) i) refl set.decided.reply
 
-  answered : answer.Num loaded ≡ answer_of (bases_of (left p1.table.config
-      (p1.seen ++ get.decided.before ++ get.decided.event ∷ [])).allocations) (reply_of n2 k (op.GetNum x i))
+  answered : Answer.Num loaded ≡ answer_of (bases_of (left p1.table.config
+      (p1.seen ++ get.decided.before ++ get.decided.event ∷ [])).allocations) (reply_of n2 k (Op.GetNum x i))
   answered =
       get.decided.reply
       ∙ ap (λ (m : NeverState). answer_of (bases_of (left p1.table.config
       (p1.seen ++ get.decided.before ++ get.decided.event ∷ [])).allocations)
-      (reply_of m (caller_of_pass p1) (op.GetNum x i))) there
+      (reply_of m (caller_of_pass p1) (Op.GetNum x i))) there
       ∙ ap (λ j. answer_of (bases_of (left p1.table.config
-      (p1.seen ++ get.decided.before ++ get.decided.event ∷ [])).allocations) (reply_of n2 j (op.GetNum x i)))
+      (p1.seen ++ get.decided.before ++ get.decided.event ∷ [])).allocations) (reply_of n2 j (Op.GetNum x i)))
       (same_number set (at_once p1) get)
 
   loaded_from : Word n2 (register_at n2 k x) i
@@ -168,29 +152,29 @@ module _ {p0 p1 p2 : PassState} (x i n loaded : ℕ) (lt : x < 8) (h : IsHistory
   load_gives only =
       let none = none_between set (at_once p1) get is_store p2.seen [] (sym (append-nil p2.seen)) refl only in
       let ad = (admitted_there set h).0 in
-      let inside = store_is_inside n1 k (op.SetNum x i n) stored_to.number stored_to.at ad.access stored_to.is in
-      let gives = load_gives_stored n1 k (op.SetNum x i n) (asked (between set (at_once p1) get)) stored_to.number
+      let inside = store_is_inside n1 k (Op.SetNum x i n) stored_to.number stored_to.at ad.access stored_to.is in
+      let gives = load_gives_stored n1 k (Op.SetNum x i n) (asked (between set (at_once p1) get)) stored_to.number
       stored_to.at
       inside stored_to.is
-      (none_store (after_op n1 k (op.SetNum x i n)) (between set (at_once p1) get) stored_to.number stored_to.at none)
+      (none_store (after_op n1 k (Op.SetNum x i n)) (between set (at_once p1) get) stored_to.number stored_to.at none)
       in
-      let is : reply_of n2 k (op.GetNum x i) ≡ reply.Num n = gives.a_number k x i reaches in
+      let is : reply_of n2 k (Op.GetNum x i) ≡ Reply.Num n = gives.a_number k x i reaches in
       numbers (answered ∙ ap (λ (r : Reply). answer_of
       (bases_of (left p1.table.config (p1.seen ++ get.decided.before ++ get.decided.event ∷ [])).allocations) r)
       is)
     where
-      numbers : answer.Num loaded ≡ answer.Num n → loaded ≡ n
+      numbers : Answer.Num loaded ≡ Answer.Num n → loaded ≡ n
       numbers e = cc
 
 -- What was admitted for the store is for the load.
-pub may_load : {p q : PassState} (x i n : ℕ) → Admits p (op.SetNum x i n) → IsHistory q.table.config q.seen
-    → Called p (op.SetNum x i n) answer.Done q → Admits q (op.GetNum x i)
+pub may_load : {p q : PassState} (x i n : ℕ) → Admits p (Op.SetNum x i n) → IsHistory q.table.config q.seen
+    → Called p (Op.SetNum x i n) Answer.Done q → Admits q (Op.GetNum x i)
 may_load {p} {q} x i n ad h c =
     let whole : IsHistory p.table.config (p.seen ++ c.more) = subst
     (λ (r : PassState). IsHistory r.table.config r.seen) c.is h in
     let keeps : KeepsRegisters (caller_of_pass p) (never_of p) (never_behind p.table.config (p.seen ++ c.more)) =
     λ r lt. sym (ap (λ (y : PassState). value_of y r) c.is)
-    ∙ calls_leave_other_registers p (op.SetNum x i n) answer.Done q r c lt (λ e. cc) in
+    ∙ calls_leave_other_registers p (Op.SetNum x i n) Answer.Done q r c lt (λ e. cc) in
     let typed = (stands p.table.config p.seen (earlier_part_is_history p.table.config p.seen c.more
     whole)).all.mirrors.typed in
     let meets : Meets (never_behind p.table.config (p.seen ++ c.more))

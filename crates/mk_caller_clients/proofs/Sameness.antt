@@ -1,35 +1,25 @@
 -- What the registers of the clients hold after their calls.
-use Rattle.std.proofs.Common.{◌≡◌, ◌≢◌, ℕ, ◌<◌, Bool, true, List, ◌++◌, length, refl, sym, ◌∙◌, ap, subst, inl, inr}
-use Rattle.std.specs.Prelude.{Result, Ok, Err, IfOk}
-use Rattle.mk_words.specs.declared.call_steps.Held.{Held}
-use Rattle.mk_core.specs.Calls.{one_if}
-use Rattle.std.proofs.lemmas.Bool.{cases_eq, eq-eqb}
-use Rattle.mk_never.specs.declared.operations.Op.{Op}
-use Rattle.mk_never.specs.declared.operations.Op.TheVariants as op
-use Rattle.mk_never.specs.NeverHeap.{NeverState, global_at, is_same}
-use Rattle.mk_never.specs.Admitted.{IsCaller}
-use Rattle.mk_never.proofs.Sameness.{same_from_equal}
-use Rattle.mk_core.specs.declared.config.Config.{Config}
-use Rattle.mk_core.specs.declared.events.Answer.{Answer}
-use Rattle.mk_core.specs.declared.events.Answer.TheVariants as answer
-use Rattle.mk_core.specs.declared.events.Event.{Event}
-use Rattle.mk_core.specs.History.{never_behind}
-use Rattle.mk_words.specs.States.{PassState}
-use Rattle.mk_caller.specs.States.{caller_of_pass, never_of, value_of, Admits}
-use Rattle.mk_caller.specs.Called.{Called, IsAnswered}
-use Rattle.mk_caller.proofs.After.{set_same, value_left, calls_leave_other_registers, still_caller, caller_there}
+use Rattle.std.proofs.Common.{Err, IfOk, Ok, Result}
+use Rattle.mk_laws.proofs.Vocabulary.{Answer, Bool, Config, Event, List, NeverState, Op, ℕ, ap, cases_eq, eq-eqb}
+use Rattle.mk_laws.proofs.Vocabulary.{global_at, inl, inr, is_same, length, never_behind, one_if, refl, subst, sym}
+use Rattle.mk_laws.proofs.Vocabulary.{true, ◌++◌, ◌<◌, ◌∙◌, ◌≡◌, ◌≢◌}
+use Rattle.mk_never.{proofs.Sameness.same_from_equal, specs.Admitted.IsCaller}
 use Rattle.mk_laws.proofs.OtherCalls.{never_continues}
-use Rattle.mk_caller_clients.specs.Setters.{is_set_of, IsOnlySetter, HasSeenAllOf, TakesOut}
+use Rattle.mk_caller.proofs.After.{caller_there, calls_leave_other_registers, set_same, still_caller, value_left}
+use Rattle.mk_caller.specs.States.{Admits, caller_of_pass, never_of, value_of}
+use Rattle.mk_caller.specs.Called.{Called, IsAnswered}
+use Rattle.mk_caller_clients.proofs.Between.{at_once, before, between, decided, never_later, never_there, none_between}
+use Rattle.mk_caller_clients.proofs.Between.{others, place, same_config}
 use Rattle.mk_caller_clients.proofs.Globals.{calls_keep, set_gives}
-use Rattle.mk_caller_clients.proofs.Between.{at_once, before, decided, others, between, same_config, place, never_there}
-use Rattle.mk_caller_clients.proofs.Between.{never_later, none_between}
+use Rattle.mk_caller_clients.specs.Setters.{HasSeenAllOf, IsOnlySetter, TakesOut, is_set_of}
+use Rattle.mk_words.specs.{States.PassState, declared.call_steps.Held.Held}
 
 pub same_is : (p : PassState) (x y : ℕ) → value_of p x ≡ value_of p y → is_same (value_of p x) (value_of p y) ≡ true
 same_is p x y e = same_from_equal (value_of p x) (value_of p y) e
 
 -- through registers
 
-pub moved : {p q : PassState} (d x : ℕ) → Admits p (op.Move d x) → Called p (op.Move d x) answer.Done q
+pub moved : {p q : PassState} (d x : ℕ) → Admits p (Op.Move d x) → Called p (Op.Move d x) Answer.Done q
     → value_of q d ≡ value_of p x
 moved {p} d x ad c =
     value_left c d ad.in_range.0
@@ -37,25 +27,25 @@ moved {p} d x ad c =
     (caller_there c ad.of_a_caller) ad.in_range.0
     ∙ c.decided.known x ad.in_range.1
 
-source : {p q : PassState} (d x : ℕ) → Admits p (op.Move d x) → Called p (op.Move d x) answer.Done q
+source : {p q : PassState} (d x : ℕ) → Admits p (Op.Move d x) → Called p (Op.Move d x) Answer.Done q
     → value_of q x ≡ value_of p x
 source {p} {q} d x ad c = elim (cases_eq d x) [
   | inl e ↦ ap (λ y. value_of q y) (sym e) ∙ moved d x ad c
-  | inr ne ↦ calls_leave_other_registers p (op.Move d x) answer.Done q x c ad.in_range.1 (λ e. ne (cc e))
+  | inr ne ↦ calls_leave_other_registers p (Op.Move d x) Answer.Done q x c ad.in_range.1 (λ e. ne (cc e))
 ]
 
-pub moved_same : {p q : PassState} (d x : ℕ) → Admits p (op.Move d x) → Called p (op.Move d x) answer.Done q
+pub moved_same : {p q : PassState} (d x : ℕ) → Admits p (Op.Move d x) → Called p (Op.Move d x) Answer.Done q
     → is_same (value_of q d) (value_of q x) ≡ true
 moved_same {p} {q} d x ad c = same_is q d x (moved d x ad c ∙ sym (source d x ad c))
 
 pub may_compare : {p q : PassState} {o : Op} {a : Answer} (x y : ℕ) → IsCaller (never_of p) (caller_of_pass p) → x < 8
-    → y < 8 → Called p o a q → Admits q (op.Same x y)
+    → y < 8 → Called p o a q → Admits q (Op.Same x y)
 may_compare x y is lx ly c = record { of_a_caller = still_caller c is; in_range = (lx, ly); access = tt; store = tt }
 
 -- through a global
 
-pub may_get : {p q : PassState} (d g r : ℕ) → Admits p (op.SetGlobal g r) → d < 8
-    → Called p (op.SetGlobal g r) answer.Done q → Admits q (op.GetGlobal d g)
+pub may_get : {p q : PassState} (d g r : ℕ) → Admits p (Op.SetGlobal g r) → d < 8
+    → Called p (Op.SetGlobal g r) Answer.Done q → Admits q (Op.GetGlobal d g)
 may_get {p} {q} d g r ad lt c =
     let on = never_continues p.table.config p.seen c.more in
     let there : g < length (never_of q).globals =
@@ -63,9 +53,9 @@ may_get {p} {q} d g r ad lt c =
     (subst (λ count. g < count) (sym on.globals) ad.in_range.0) in
     record { of_a_caller = still_caller c ad.of_a_caller; in_range = (lt, there); access = tt; store = tt }
 
-module _ {p0 p1 r1 p2 p3 : PassState} (d g r : ℕ) (word : ℕ) (a : Answer) (o : Op) (ad : Admits p0 (op.SetGlobal g r))
-    (may : Admits r1 (op.GetGlobal d g)) (set : Called p0 (op.SetGlobal g r) answer.Done p1)
-    (later : HasSeenAllOf p1 r1) (get : Called r1 (op.GetGlobal d g) (answer.Word word) p2) (last : Called p2 o a p3)
+module _ {p0 p1 r1 p2 p3 : PassState} (d g r : ℕ) (word : ℕ) (a : Answer) (o : Op) (ad : Admits p0 (Op.SetGlobal g r))
+    (may : Admits r1 (Op.GetGlobal d g)) (set : Called p0 (Op.SetGlobal g r) Answer.Done p1)
+    (later : HasSeenAllOf p1 r1) (get : Called r1 (Op.GetGlobal d g) (Answer.Word word) p2) (last : Called p2 o a p3)
   where
     abbrev c : Config
     c = p0.table.config
@@ -97,38 +87,38 @@ module _ {p0 p1 r1 p2 p3 : PassState} (d g r : ℕ) (word : ℕ) (a : Answer) (o
 
     -- Another register stays as it is while the global is loaded.
     pub kept : (x : ℕ) → x < 8 → d ≢ x → value_of p2 x ≡ value_of r1 x
-    kept x lt ne = calls_leave_other_registers r1 (op.GetGlobal d g) (answer.Word word) p2 x get lt (λ e. ne (cc e))
+    kept x lt ne = calls_leave_other_registers r1 (Op.GetGlobal d g) (Answer.Word word) p2 x get lt (λ e. ne (cc e))
 
 through_global : {p0 p1 p2 p3 : PassState} (d g r : ℕ) (word : ℕ) (a : Answer) (o : Op)
-    → Admits p0 (op.SetGlobal g r) → d < 8 → d ≢ r → Called p0 (op.SetGlobal g r) answer.Done p1
-    → Called p1 (op.GetGlobal d g) (answer.Word word) p2 → Called p2 o a p3 → IsOnlySetter p0 g r p3
+    → Admits p0 (Op.SetGlobal g r) → d < 8 → d ≢ r → Called p0 (Op.SetGlobal g r) Answer.Done p1
+    → Called p1 (Op.GetGlobal d g) (Answer.Word word) p2 → Called p2 o a p3 → IsOnlySetter p0 g r p3
     → is_same (value_of p2 r) (value_of p2 d) ≡ true
 through_global {p0} {p1} {p2} d g r word a o ad lt ne set get last only =
     let may = may_get d g r ad lt set in
     same_is p2 r d (kept d g r word a o ad may set (at_once p1) get last r ad.in_range.1 ne
-    ∙ calls_leave_other_registers p0 (op.SetGlobal g r) answer.Done p1 r set ad.in_range.1 (λ e. cc)
+    ∙ calls_leave_other_registers p0 (Op.SetGlobal g r) Answer.Done p1 r set ad.in_range.1 (λ e. cc)
     ∙ sym (got d g r word a o ad may set (at_once p1) get last only))
 
 -- The answers of the clients.
 
-pub told_of_other : (b p2 p3 : PassState) (y : Result Bool Held) (d g x : ℕ) → Admits b (op.GetGlobal d g) → x < 8
-    → d ≢ x → IsAnswered b (op.GetGlobal d g) p2
-    → IfOk y (λ s. Called p2 (op.Same d x) (answer.Num (one_if s)) p3)
+pub told_of_other : (b p2 p3 : PassState) (y : Result Bool Held) (d g x : ℕ) → Admits b (Op.GetGlobal d g) → x < 8
+    → d ≢ x → IsAnswered b (Op.GetGlobal d g) p2
+    → IfOk y (λ s. Called p2 (Op.Same d x) (Answer.Num (one_if s)) p3)
     → IfOk y (λ s. s ≡ is_same (value_of p2 d) (value_of p2 x)) → IfOk y (λ s. TakesOut b g x s p3)
 told_of_other b p2 p3 (Ok s) d g x may lt ne get last is = λ p0 p1 r ad set later only e. is
-    ∙ same_is p2 d x (got d g r get.word (answer.Num (one_if s)) (op.Same d x) ad may set later get.called last only
-    ∙ sym e ∙ sym (kept d g r get.word (answer.Num (one_if s)) (op.Same d x) ad may set later get.called last x lt ne))
+    ∙ same_is p2 d x (got d g r get.word (Answer.Num (one_if s)) (Op.Same d x) ad may set later get.called last only
+    ∙ sym e ∙ sym (kept d g r get.word (Answer.Num (one_if s)) (Op.Same d x) ad may set later get.called last x lt ne))
 told_of_other b p2 p3 (Err e) d g x may lt ne get last is = tt
 
 pub told : (x : Result Bool Held) (b : Bool) → IfOk x (λ s. s ≡ b) → b ≡ true → IfOk x (λ s. s ≡ true)
 told (Ok s) b is h = is ∙ h
 told (Err e) b is h = tt
 
-pub told_of_global : (p0 p1 p2 p3 : PassState) (x : Result Bool Held) (d g r : ℕ) → Admits p0 (op.SetGlobal g r)
+pub told_of_global : (p0 p1 p2 p3 : PassState) (x : Result Bool Held) (d g r : ℕ) → Admits p0 (Op.SetGlobal g r)
     → d < 8 → d ≢ r
-    → Called p0 (op.SetGlobal g r) answer.Done p1 → IsAnswered p1 (op.GetGlobal d g) p2
-    → IfOk x (λ s. Called p2 (op.Same r d) (answer.Num (one_if s)) p3)
+    → Called p0 (Op.SetGlobal g r) Answer.Done p1 → IsAnswered p1 (Op.GetGlobal d g) p2
+    → IfOk x (λ s. Called p2 (Op.Same r d) (Answer.Num (one_if s)) p3)
     → IfOk x (λ s. s ≡ is_same (value_of p2 r) (value_of p2 d)) → IfOk x (λ s. IsOnlySetter p0 g r p3 → s ≡ true)
 told_of_global p0 p1 p2 p3 (Ok s) d g r ad lt ne set get last is = λ only. is
-    ∙ through_global d g r get.word (answer.Num (one_if s)) (op.Same r d) ad lt ne set get.called last only
+    ∙ through_global d g r get.word (Answer.Num (one_if s)) (Op.Same r d) ad lt ne set get.called last only
 told_of_global p0 p1 p2 p3 (Err e) d g r ad lt ne set get last is = tt

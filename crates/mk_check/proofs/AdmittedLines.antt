@@ -1,38 +1,26 @@
 -- What a well-typed line asks for is admitted, and leaves its script's registers as declared.
-use Rattle.std.proofs.Common.{◌≡◌, ℕ, ◌<◌, Bool, true, false, List, length, Option, Some, refl, sym, subst, ◌∙◌, arith}
-use Rattle.std.specs.Prelude.{IfSome, slice_get}
-use Rattle.mk_never.specs.declared.types.Kind.{Kind}
-use Rattle.mk_never.specs.declared.types.Kind.TheVariants.{Num as NumKind, To}
-use Rattle.mk_never.specs.declared.values.Value.{Value}
+use Rattle.mk_check.proofs.Vocabulary.{Answer, At, Bool, Fed, HasFew, IfSome, IsOfKind, Item, Kind, List, NeverState}
+use Rattle.mk_check.proofs.Vocabulary.{Op, Option, Some, Value, ℕ, arith, base_of, false, flagged, global_names}
+use Rattle.mk_check.proofs.Vocabulary.{global_type, globals_of, kind_of, length, moved_by, number_of_name, op_of}
+use Rattle.mk_check.proofs.Vocabulary.{pointer_at, pointer_names, refl, scope_of, slice_get, subst, sym, true}
+use Rattle.mk_check.proofs.Vocabulary.{type_names, ◌<◌, ◌∙◌, ◌≡◌}
+use Rattle.mk_never.proofs.Edits.{if_by, left_at_by}
+use Rattle.mk_never.specs.Admitted.{IsAdmitted, IsBase, IsNumber, IsPointer, Meets}
+use Rattle.mk_never.specs.NeverHeap.{after_free, after_op, is_same, target_of, with_new, with_register, word_at}
 use Rattle.mk_never.specs.declared.values.Value.TheVariants.{Null, Num, Ptr}
-use Rattle.mk_never.specs.declared.operations.Op.{Op}
-use Rattle.mk_never.specs.declared.operations.Op.TheVariants as op
-use Rattle.mk_never.specs.NeverHeap.{NeverState, word_at, with_register, with_new, is_same, target_of, after_free}
-use Rattle.mk_never.specs.NeverHeap.{after_op}
-use Rattle.mk_never.specs.Admitted.{IsNumber, IsPointer, IsOfKind, IsBase, Meets, IsAdmitted}
-use Rattle.mk_never.proofs.Edits.{left_at_by, if_by}
-use Rattle.mk_core.specs.declared.events.Answer.{Answer}
-use Rattle.mk_core.specs.declared.events.Answer.TheVariants as answer
-use Rattle.mk_core.specs.Decided.{flagged}
-use Rattle.mk_script.specs.declared.items.At.{At}
+use Rattle.mk_never.specs.declared.types.Kind.TheVariants.{Num as NumKind, To}
+use Rattle.mk_check.proofs.DeclaredRegisters.{AreAsDeclared, FitsScript, global_word, kind_at, loaded_word}
+use Rattle.mk_check.proofs.DeclaredRegisters.{meets_before, meets_weaker, moved_word, register_of, set_register}
+use Rattle.mk_check.proofs.TypedLines.{PointsBefore, PointsBeforeOne, PointsBehind, PointsToGlobal, PointsToType, Says}
+use Rattle.mk_check.proofs.DeclaredPlaces.{global_place, global_within, pointer_within, type_place}
+use Rattle.mk_script.specs.declared.items.Item.TheVariants.{Casp, Clear, Free, Getn, Getp, Isnull, Lea, Loadg, Move}
+use Rattle.mk_script.specs.declared.items.Item.TheVariants.{New, Same, Setn, Setp, Show, Storeg}
 use Rattle.mk_script.specs.declared.items.TypeWord.TheVariants.{Number, Pointer}
-use Rattle.mk_script.specs.declared.items.Item.{Item}
-use Rattle.mk_script.specs.declared.items.Item.TheVariants.{New, Free, Getn, Setn, Getp, Setp, Casp, Lea, Move, Clear}
-use Rattle.mk_script.specs.declared.items.Item.TheVariants.{Loadg, Storeg, Same, Isnull, Show}
-use Rattle.mk_script.specs.Scopes.{type_names, global_names, pointer_names}
-use Rattle.mk_check.specs.Typing.{pointer_at, global_type, moved_by, base_of}
-use Rattle.mk_check.specs.Declarations.{number_of_name, kind_of, globals_of}
-use Rattle.mk_check.specs.Feed.{Fed, op_of, scope_of}
-use Rattle.mk_check.specs.NamesInScope.{HasFew}
-use Rattle.mk_check.proofs.DeclaredPlaces.{pointer_within, type_place, global_place, global_within}
-use Rattle.mk_check.proofs.TypedLines.{PointsBefore, PointsBeforeOne, PointsBehind, PointsToType, PointsToGlobal, Says}
-use Rattle.mk_check.proofs.DeclaredRegisters.{kind_at, register_of, AreAsDeclared, FitsScript, set_register}
-use Rattle.mk_check.proofs.DeclaredRegisters.{meets_weaker, meets_before, loaded_word, moved_word, global_word}
 
 -- what holds of a New, full or not, holds of it as it is noted
-flagged_new : (Q : Op → Type 0) (d ty : ℕ) → ((full : Bool) → Q (op.New d ty full)) → (a : Answer)
-    → Q (flagged (op.New d ty false) a)
-flagged_new Q d ty holds answer.Full = holds true
+flagged_new : (Q : Op → Type 0) (d ty : ℕ) → ((full : Bool) → Q (Op.New d ty full)) → (a : Answer)
+    → Q (flagged (Op.New d ty false) a)
+flagged_new Q d ty holds Answer.Full = holds true
 flagged_new Q d ty holds a = holds false
 
 -- null or a pointer to a first word is a whole allocation
@@ -227,7 +215,7 @@ module _ (program script : List Item) (few : HasFew (scope_of program script)) (
 
   load_keeps : (loaded pointer : List ℕ) (i : ℕ) → PointsBeforeOne program script pointer i loaded
       → Keeps (after_op n caller
-      (op.GetPtr (number_of_name loaded (pointer_names script)) (number_of_name pointer (pointer_names script)) i))
+      (Op.GetPtr (number_of_name loaded (pointer_names script)) (number_of_name pointer (pointer_names script)) i))
   load_keeps loaded pointer i s =
       left_at_by Keeps (target_of n (register_of script n caller pointer) i) _ _ (sets loaded s.at Null s.declared tt)
       (λ number place e. sets loaded s.at (word_at n number place) s.declared

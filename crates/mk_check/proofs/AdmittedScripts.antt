@@ -1,42 +1,28 @@
 -- The operations of a well-typed program's scripts are admitted.
-use Rattle.std.proofs.Common.{◌≡◌, ◌≢◌, ℕ, ◌+◌, ◌*◌, ◌<◌, ◌≤◌, Bool, true, false, List, [], ◌∷◌, ◌++◌, length, Option}
-use Rattle.std.proofs.Common.{Some, None, refl, ap, sym, subst, ◌∙◌, ⊎_elim, arith}
-use Rattle.std.specs.Prelude.{All, IfSome, option_map, ◌==◌, if◌then◌else◌}
-use Rattle.std.proofs.lemmas.Bool.{eqb-true, eq-eqb, cases_Bool, false≢true}
-use Rattle.std.proofs.lemmas.List.{append-nil, get_or-replicate, length-replicate}
-use Rattle.std.proofs.lemmas.List.Elements.{All-nil, All-head, All-tail, All-push}
-use Rattle.mk_never.specs.declared.values.Value.{Value}
-use Rattle.mk_never.specs.declared.values.Value.TheVariants.{Null}
-use Rattle.mk_never.specs.declared.operations.Op.{Op}
-use Rattle.mk_never.specs.NeverHeap.{NeverState, Call, after_op, after_calls}
-use Rattle.mk_never.specs.Admitted.{IsOfKind, IsAdmitted, AreAdmitted}
-use Rattle.mk_never.specs.Laws.{Continues, KeepsRegisters}
-use Rattle.mk_never.proofs.Later.{op_stays}
+use Rattle.std.proofs.lemmas.List.Elements.{All-head, All-nil, All-push, All-tail}
+use Rattle.std.proofs.{Common.eq-eqb, Common.eqb-true, Common.◌≢◌, lemmas.Bool.cases_Bool, lemmas.List.get_or-replicate}
+use Rattle.mk_check.proofs.Vocabulary.{All, Answer, Blocks, Bool, Choice, Done, Fed, HasFew, IfSome, IsOfKind, Item}
+use Rattle.mk_check.proofs.Vocabulary.{Line, List, NeverState, None, Op, Option, Rounds, Scope, Some, Value, ℕ, ap}
+use Rattle.mk_check.proofs.Vocabulary.{append-nil, arith, blocks_from, false, false≢true, fed_before_answers}
+use Rattle.mk_check.proofs.Vocabulary.{fed_before_lines, feed, flagged, globals_of, if◌then◌else◌, length}
+use Rattle.mk_check.proofs.Vocabulary.{length-replicate, next_op, note, number_of_name, op_of, option_map}
+use Rattle.mk_check.proofs.Vocabulary.{pointer_names, refl, run, scope_of, script_names, script_of, script_scope, subst}
+use Rattle.mk_check.proofs.Vocabulary.{sym, take_answer, take_answers, true, types_of, with_answer, [], ⊎_elim, ◌*◌}
+use Rattle.mk_check.proofs.Vocabulary.{◌++◌, ◌+◌, ◌<◌, ◌==◌, ◌∙◌, ◌∷◌, ◌≡◌, ◌≤◌}
+use Rattle.mk_never.{proofs.Later.op_stays, specs.Admitted.AreAdmitted, specs.Admitted.IsAdmitted, specs.Laws.Continues}
+use Rattle.mk_never.{specs.Laws.KeepsRegisters, specs.NeverHeap.Call, specs.NeverHeap.after_calls}
+use Rattle.mk_never.{specs.NeverHeap.after_op, specs.declared.values.Value.TheVariants.Null}
+use Rattle.mk_check.proofs.AdmittedLines.{admitted, line_keeps}
+use Rattle.mk_check.proofs.DeclaredRegisters.{AreAsDeclared, FitsScript, kind_at}
+use Rattle.mk_check.proofs.LinesLeft.{AllPlaced-run, AllPlaced-take_answers, next_placed, next_stands, placed_of_script}
+use Rattle.mk_check.proofs.{DeclaredPlaces.pointer_within, FeedLaws.ops-feed_push, FewNames.text_has_few}
+use Rattle.mk_check.proofs.{Numbered.ops-with_answer, Numbered.run_agrees, TypedLines.Says, TypedScripts.script_says}
+use Rattle.mk_check.specs.Laws.{AnswersAreNoted, AreAdmittedFor, AreNotedBy, AreOfScripts, IsChecked, IsScript}
+use Rattle.mk_check.specs.Laws.{NextIsAdmitted, OthersAreIgnored, heap_of, ops_of_caller}
+use Rattle.mk_check.specs.Blocks.{AllPlaced}
+use Rattle.mk_script.specs.declared.items.Item.TheVariants.{New}
 use Rattle.mk_never.proofs.Registers as registers
 use Rattle.mk_never.proofs.TypedCalls as typed_calls
-use Rattle.mk_core.specs.declared.events.Answer.{Answer}
-use Rattle.mk_core.specs.declared.events.Answer.TheVariants as answer
-use Rattle.mk_core.specs.Decided.{flagged}
-use Rattle.mk_script.specs.declared.items.Item.{Item}
-use Rattle.mk_script.specs.declared.items.Item.TheVariants.{New}
-use Rattle.mk_script.specs.Scopes.{pointer_names, script_names}
-use Rattle.mk_check.specs.Blocks.{Blocks, Done, Line, Rounds, Choice, AllPlaced, blocks_from, script_of}
-use Rattle.mk_check.specs.Declarations.{number_of_name, types_of, globals_of}
-use Rattle.mk_check.specs.Feed.{Scope, Fed, op_of, note, with_answer, run, take_answer, take_answers, fed_before_lines}
-use Rattle.mk_check.specs.Feed.{fed_before_answers, scope_of, feed}
-use Rattle.mk_check.specs.Feeding.{script_scope, next_op}
-use Rattle.mk_check.specs.Laws.{IsChecked, IsScript, ops_of_caller, AreNotedBy, AnswersAreNoted, OthersAreIgnored}
-use Rattle.mk_check.specs.Laws.{heap_of, AreAdmittedFor, NextIsAdmitted, AreOfScripts}
-use Rattle.mk_check.specs.NamesInScope.{HasFew}
-use Rattle.mk_check.proofs.AdmittedLines.{admitted, line_keeps}
-use Rattle.mk_check.proofs.DeclaredPlaces.{pointer_within}
-use Rattle.mk_check.proofs.DeclaredRegisters.{kind_at, AreAsDeclared, FitsScript}
-use Rattle.mk_check.proofs.FewNames.{text_has_few}
-use Rattle.mk_check.proofs.LinesLeft.{AllPlaced-run, AllPlaced-take_answers, placed_of_script, next_placed, next_stands}
-use Rattle.mk_check.proofs.Numbered.{run_agrees, ops-with_answer}
-use Rattle.mk_check.proofs.FeedLaws.{ops-feed_push}
-use Rattle.mk_check.proofs.TypedLines.{Says}
-use Rattle.mk_check.proofs.TypedScripts.{script_says}
 
 -- an operation as a well-typed line of the script asks for it, noted with an answer
 record IsAsked (program script : List Item) (op : Op) : Type 0 where
@@ -50,7 +36,7 @@ record IsAsked (program script : List Item) (op : Op) : Type 0 where
 
 -- No line asks for a New that is full, so an operation is asked for as it is noted with this answer.
 flagged_asked : (scope : Scope) (fed : Fed) (item : Item)
-    → option_map (λ o. flagged o answer.Done) (op_of scope fed item) ≡ op_of scope fed item
+    → option_map (λ o. flagged o Answer.Done) (op_of scope fed item) ≡ op_of scope fed item
 flagged_asked scope fed (New pointer ty) = refl
 flagged_asked scope fed item = refl
 
@@ -276,10 +262,10 @@ next_asked program k answers o a checked e =
     }
 
 flagged_next : (program : List Item) (k : ℕ) (answers : List Answer) (o : Op) → next_op program k answers ≡ Some o
-    → flagged o answer.Done ≡ o
+    → flagged o Answer.Done ≡ o
 flagged_next program k answers o e =
     let at = next_stands program k answers o e in
-    some_value (ap (option_map (λ x. flagged x answer.Done)) (sym at.op)
+    some_value (ap (option_map (λ x. flagged x Answer.Done)) (sym at.op)
     ∙ (flagged_asked (script_scope program k) (feed program k answers) at.item ∙ at.op))
   where
     some_value : {a b : Op} → Some a ≡ Some b → a ≡ b
@@ -303,7 +289,7 @@ next_is_admitted program callers calls k answers checked enough is_script admits
     record {
       asked = λ o e. subst
           (λ (x : Op). IsAdmitted (globals_of program) (after_calls (heap_of program callers) calls) k x)
-          (flagged_next program k answers o e) (noted_too o answer.Done e);
+          (flagged_next program k answers o e) (noted_too o Answer.Done e);
       noted = noted_too;
     }
 

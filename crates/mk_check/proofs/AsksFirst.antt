@@ -1,28 +1,20 @@
 -- Steps that come to an operation before anything is printed, and before a block ends.
-use Rattle.std.proofs.Common.{◌≡◌, ℕ, zero, suc, ◌+◌, ◌-◌, ◌<◌, Bool, true, false, List, [], ◌∷◌, ◌++◌, length}
-use Rattle.std.proofs.Common.{refl, ap, sym, ◌∙◌, subst, arith, take, IsTrue}
-use Rattle.std.specs.Prelude.{if◌then◌else◌, slice_index, ◌==◌, not, ◌&&◌, ◌||◌, is_some, Option, Some, None, slice_get}
-use Rattle.std.specs.Prelude.{slice_set}
-use Rattle.std.proofs.lemmas.Bool.{and_parts}
-use Rattle.std.proofs.lemmas.List.{length_push, take_all, take_more, set_split, drop_all}
-use Rattle.std.proofs.lemmas.Option.{slice_get_within, get_or_from_slice_get, slice_get-get_or}
-use Rattle.mk_check.specs.declared.feeding.instructions.Instruction.{Instruction}
-use Rattle.mk_check.specs.declared.feeding.instructions.Instruction.TheVariants.{Nothing, Const, Add, Sub, Print, New}
-use Rattle.mk_check.specs.declared.feeding.instructions.Instruction.TheVariants.{Free, GetPtr, SetPtr, Lea, Move, Clear}
-use Rattle.mk_check.specs.declared.feeding.instructions.Instruction.TheVariants.{GetGlobal, SetGlobal, SetNum, GetNum}
-use Rattle.mk_check.specs.declared.feeding.instructions.Instruction.TheVariants.{CasPtr, Same, IsNull, Show}
-use Rattle.mk_check.specs.declared.feeding.tree.Node.{Node}
-use Rattle.mk_check.specs.declared.feeding.tree.Node.TheVariants as node
-use Rattle.mk_check.specs.declared.feeding.tree.Frame.{Frame}
-use Rattle.mk_check.specs.declared.feeding.tree.Frame.TheVariants as frame
-use Rattle.mk_check.specs.Steps.{after_line, asks_first, is_asking, is_print, op_asked}
-use Rattle.mk_check.specs.Trees.{FrameIsWithin, FramesAreWithin, HasStopped, IsTree, PlaceIsWithin}
-use Rattle.mk_check.specs.Trees.{LeavesBlock}
-use Rattle.mk_check.specs.Trees.{MovesOn, MovesToOp, Place}
-use Rattle.mk_check.specs.Trees.{innermost, kept_in, node_after, node_at, node_to_go_on, place_behind_block}
-use Rattle.mk_check.specs.Trees.{place_in_branch, place_in_rounds}
-use Rattle.mk_check.specs.Trees.{resumed_node, steps_at, steps_from, trees, with_kept}
+use Rattle.std.proofs.lemmas.Option.{get_or_from_slice_get, slice_get-get_or}
+use Rattle.std.proofs.{Common.IsTrue, Common.slice_set, Common.◌||◌, lemmas.List.drop_all, lemmas.List.set_split}
+use Rattle.mk_check.proofs.Vocabulary.{Bool, Frame, FrameIsWithin, FramesAreWithin, HasStopped, Instruction, IsTree}
+use Rattle.mk_check.proofs.Vocabulary.{List, MovesOn, Node, None, Option, Place, PlaceIsWithin, Some, ℕ, after_line}
+use Rattle.mk_check.proofs.Vocabulary.{and_parts, ap, arith, asks_first, false, if◌then◌else◌, innermost, is_asking}
+use Rattle.mk_check.proofs.Vocabulary.{is_print, is_some, kept_in, length, length_push, node_at, not, op_asked, refl}
+use Rattle.mk_check.proofs.Vocabulary.{slice_get, slice_get_within, slice_index, steps_at, steps_from, subst, suc, sym}
+use Rattle.mk_check.proofs.Vocabulary.{take, take_all, take_more, trees, true, with_kept, zero, [], ◌&&◌, ◌++◌, ◌+◌}
+use Rattle.mk_check.proofs.Vocabulary.{◌-◌, ◌<◌, ◌==◌, ◌∙◌, ◌∷◌, ◌≡◌}
 use Rattle.mk_check.proofs.Moves.{FramesAreWithin_pop, asks_at, end_goes_on, line_goes_on, steps_at-trees}
+use Rattle.mk_check.specs.declared.feeding.instructions.Instruction.TheVariants.{Add, CasPtr, Clear, Const, Free}
+use Rattle.mk_check.specs.declared.feeding.instructions.Instruction.TheVariants.{GetGlobal, GetNum, GetPtr, IsNull, Lea}
+use Rattle.mk_check.specs.declared.feeding.instructions.Instruction.TheVariants.{Move, New, Nothing, Print, Same}
+use Rattle.mk_check.specs.declared.feeding.instructions.Instruction.TheVariants.{SetGlobal, SetNum, SetPtr, Show, Sub}
+use Rattle.mk_check.specs.Trees.{LeavesBlock, MovesToOp, node_after, node_to_go_on, place_behind_block, place_in_branch}
+use Rattle.mk_check.specs.Trees.{place_in_rounds, resumed_node}
 
 pub asked_so : (numbers : List ℕ) (instruction : Instruction)
     → is_some (op_asked numbers instruction) ≡ is_asking instruction
@@ -97,66 +89,66 @@ set_last frames f g e =
 
 -- another round of a `repeat`
 pub round_left : (p q : Place) (rounds less body next : ℕ)
-    → innermost p.frames ≡ Some (frame.Rounds rounds body next) → 0 < rounds → less ≡ rounds - 1
-    → q ≡ record p { at = body; frames = slice_set p.frames (length p.frames - 1) (frame.Rounds less body next) }
+    → innermost p.frames ≡ Some (Frame.Rounds rounds body next) → 0 < rounds → less ≡ rounds - 1
+    → q ≡ record p { at = body; frames = slice_set p.frames (length p.frames - 1) (Frame.Rounds less body next) }
     → LeavesBlock p q
 round_left p q zero less body next e some one is = absurd (omega arith)
 round_left p q (suc more) less body next e some one is =
     let same : less ≡ more = omega arith in
     record {
-      frame = frame.Rounds (suc more) body next;
+      frame = Frame.Rounds (suc more) body next;
       frames = take (length p.frames - 1) p.frames;
-      was = split_last p.frames (frame.Rounds (suc more) body next) e;
+      was = split_last p.frames (Frame.Rounds (suc more) body next) e;
       is = is
           ∙ (ap (λ (n : ℕ). let at : Place = record p
-          { at = body; frames = slice_set p.frames (length p.frames - 1) (frame.Rounds n body next) } in at) same
+          { at = body; frames = slice_set p.frames (length p.frames - 1) (Frame.Rounds n body next) } in at) same
           ∙ ap (λ (xs : List Frame). let at : Place = record p { at = body; frames = xs } in at)
-          (set_last p.frames (frame.Rounds (suc more) body next) (frame.Rounds more body next) e));
+          (set_last p.frames (Frame.Rounds (suc more) body next) (Frame.Rounds more body next) e));
     }
 
 -- no round is left
-pub repeat_left : (p q : Place) (rounds body next : ℕ) → innermost p.frames ≡ Some (frame.Rounds rounds body next)
+pub repeat_left : (p q : Place) (rounds body next : ℕ) → innermost p.frames ≡ Some (Frame.Rounds rounds body next)
     → rounds ≡ 0 → q ≡ record p { at = next; frames = take (length p.frames - 1) p.frames } → LeavesBlock p q
 repeat_left p q zero body next e none is = record {
-  frame = frame.Rounds 0 body next;
+  frame = Frame.Rounds 0 body next;
   frames = take (length p.frames - 1) p.frames;
-  was = split_last p.frames (frame.Rounds 0 body next) e;
+  was = split_last p.frames (Frame.Rounds 0 body next) e;
   is = is;
 }
 repeat_left p q (suc more) body next e none is = absurd (omega arith)
 
-pub branch_left : (p q : Place) (next : ℕ) → innermost p.frames ≡ Some (frame.Branch next)
+pub branch_left : (p q : Place) (next : ℕ) → innermost p.frames ≡ Some (Frame.Branch next)
     → q ≡ record p { at = next; frames = take (length p.frames - 1) p.frames } → LeavesBlock p q
 branch_left p q next e is = record {
-  frame = frame.Branch next;
+  frame = Frame.Branch next;
   frames = take (length p.frames - 1) p.frames;
-  was = split_last p.frames (frame.Branch next) e;
+  was = split_last p.frames (Frame.Branch next) e;
   is = is;
 }
 
 at_after : (p : Place) (f : Frame) → (place_behind_block p f).at ≡ node_after f
-at_after p (frame.Rounds zero body next) = refl
-at_after p (frame.Rounds (suc more) body next) = refl
-at_after p (frame.Branch next) = refl
+at_after p (Frame.Rounds zero body next) = refl
+at_after p (Frame.Rounds (suc more) body next) = refl
+at_after p (Frame.Branch next) = refl
 
-pub goes_on_here : (n : Node) (at : ℕ) (block : Option Frame) → (n ≡ node.Done → ⊥) → node_to_go_on n at block ≡ at
-goes_on_here node.Done at block h = absurd (h refl)
-goes_on_here (node.Line line instruction next) at block h = refl
-goes_on_here (node.Rounds rounds body next) at block h = refl
-goes_on_here (node.Choice number first second next) at block h = refl
+pub goes_on_here : (n : Node) (at : ℕ) (block : Option Frame) → (n ≡ Node.Done → ⊥) → node_to_go_on n at block ≡ at
+goes_on_here Node.Done at block h = absurd (h refl)
+goes_on_here (Node.Line line instruction next) at block h = refl
+goes_on_here (Node.Rounds rounds body next) at block h = refl
+goes_on_here (Node.Choice number first second next) at block h = refl
 
 node_after_within : (count : ℕ) (f : Frame) → FrameIsWithin count f → node_after f < count
-node_after_within count (frame.Rounds zero body next) w = w.1
-node_after_within count (frame.Rounds (suc more) body next) w = w.0
-node_after_within count (frame.Branch next) w = w
+node_after_within count (Frame.Rounds zero body next) w = w.1
+node_after_within count (Frame.Rounds (suc more) body next) w = w.0
+node_after_within count (Frame.Branch next) w = w
 
 to_go_on_within : (count : ℕ) (n : Node) (at : ℕ) (block : Option Frame) → at < count
     → ((f : Frame) → block ≡ Some f → FrameIsWithin count f) → node_to_go_on n at block < count
-to_go_on_within count node.Done at None h w = h
-to_go_on_within count node.Done at (Some f) h w = node_after_within count f (w f refl)
-to_go_on_within count (node.Line line instruction next) at block h w = h
-to_go_on_within count (node.Rounds rounds body next) at block h w = h
-to_go_on_within count (node.Choice number first second next) at block h w = h
+to_go_on_within count Node.Done at None h w = h
+to_go_on_within count Node.Done at (Some f) h w = node_after_within count f (w f refl)
+to_go_on_within count (Node.Line line instruction next) at block h w = h
+to_go_on_within count (Node.Rounds rounds body next) at block h w = h
+to_go_on_within count (Node.Choice number first second next) at block h w = h
 
 pub resumed_within : (nodes : List Node) (p : Place) → PlaceIsWithin (length nodes) p
     → resumed_node nodes p < length nodes
@@ -171,34 +163,34 @@ module _ (nodes : List Node) where
   first_from at n tree h e = ap asks_first (steps_at-trees nodes at tree h ∙ ap (steps_from (trees nodes)) e)
 
   pub first_later : (at line : ℕ) (instruction : Instruction) (next : ℕ) → IsTree nodes → at < length nodes
-      → node_at nodes at ≡ node.Line line instruction next → is_asking instruction ≡ false
+      → node_at nodes at ≡ Node.Line line instruction next → is_asking instruction ≡ false
       → is_print instruction ≡ false
       → asks_first (steps_at (trees nodes) at) ≡ asks_first (steps_at (trees nodes) next)
   first_later at line instruction next tree h e asks prints =
-      first_from at (node.Line line instruction next) tree h e
+      first_from at (Node.Line line instruction next) tree h e
       ∙ asks_later (is_asking instruction) (is_print instruction) (asks_first (steps_at (trees nodes) next)) asks
       prints
 
-  pub first_done : (at : ℕ) → IsTree nodes → at < length nodes → node_at nodes at ≡ node.Done
+  pub first_done : (at : ℕ) → IsTree nodes → at < length nodes → node_at nodes at ≡ Node.Done
       → asks_first (steps_at (trees nodes) at) ≡ false
-  first_done at tree h e = first_from at node.Done tree h e
+  first_done at tree h e = first_from at Node.Done tree h e
 
   -- so do those of a block that begins
 
   pub first_in_rounds : (p : Place) (rounds body next : ℕ) → IsTree nodes → p.at < length nodes
-      → node_at nodes p.at ≡ node.Rounds rounds body next → asks_first (steps_at (trees nodes) p.at) ≡ true
+      → node_at nodes p.at ≡ Node.Rounds rounds body next → asks_first (steps_at (trees nodes) p.at) ≡ true
       → asks_first (steps_at (trees nodes) (place_in_rounds p rounds body next).at) ≡ true
   first_in_rounds p zero body next tree h e first =
-      sym (first_from p.at (node.Rounds zero body next) tree h e) ∙ first
+      sym (first_from p.at (Node.Rounds zero body next) tree h e) ∙ first
   first_in_rounds p (suc more) body next tree h e first =
-      sym (first_from p.at (node.Rounds (suc more) body next) tree h e) ∙ first
+      sym (first_from p.at (Node.Rounds (suc more) body next) tree h e) ∙ first
 
   pub first_in_branch : (p : Place) (number first second next : ℕ) → IsTree nodes → p.at < length nodes
-      → node_at nodes p.at ≡ node.Choice number first second next → asks_first (steps_at (trees nodes) p.at) ≡ true
+      → node_at nodes p.at ≡ Node.Choice number first second next → asks_first (steps_at (trees nodes) p.at) ≡ true
       → asks_first (steps_at (trees nodes) (place_in_branch p number first second next).at) ≡ true
   first_in_branch p number first second next tree h e asks =
       let both = and_parts (asks_first (steps_at (trees nodes) first)) (asks_first (steps_at (trees nodes) second))
-      (sym (first_from p.at (node.Choice number first second next) tree h e) ∙ asks) in
+      (sym (first_from p.at (Node.Choice number first second next) tree h e) ∙ asks) in
       by_test (slice_index p.numbers number == 0) both.0 both.1
     where
       by_test : (b : Bool) → asks_first (steps_at (trees nodes) first) ≡ true
@@ -208,23 +200,23 @@ module _ (nodes : List Node) where
       by_test false f g = f
 
   pub no_print_here : (at line : ℕ) (instruction : Instruction) (next : ℕ) → IsTree nodes → at < length nodes
-      → node_at nodes at ≡ node.Line line instruction next → is_asking instruction ≡ false
+      → node_at nodes at ≡ Node.Line line instruction next → is_asking instruction ≡ false
       → asks_first (steps_at (trees nodes) at) ≡ true → is_print instruction ≡ false
   no_print_here at line instruction next tree h e asks first =
       no_print (is_asking instruction) (is_print instruction) (asks_first (steps_at (trees nodes) next)) asks
-      (sym (first_from at (node.Line line instruction next) tree h e) ∙ first)
+      (sym (first_from at (Node.Line line instruction next) tree h e) ∙ first)
 
   -- A place moves on through lines that print nothing.
 
   pub line_to_op : (p : Place) (line : ℕ) (instruction : Instruction) (next : ℕ) → IsTree nodes
-      → PlaceIsWithin (length nodes) p → node_at nodes p.at ≡ node.Line line instruction next
+      → PlaceIsWithin (length nodes) p → node_at nodes p.at ≡ Node.Line line instruction next
       → is_asking instruction ≡ false
       → MovesOn nodes p (with_kept (record p { at = next }) (after_line instruction (kept_in p)))
   line_to_op p line instruction next tree w e asks =
       line_goes_on nodes p line instruction next tree w e (asked_so p.numbers instruction ∙ asks)
 
   pub stops_at_op : (p : Place) (line : ℕ) (instruction : Instruction) (next : ℕ) → IsTree nodes
-      → PlaceIsWithin (length nodes) p → node_at nodes p.at ≡ node.Line line instruction next
+      → PlaceIsWithin (length nodes) p → node_at nodes p.at ≡ Node.Line line instruction next
       → is_asking instruction ≡ true → HasStopped nodes p p
   stops_at_op p line instruction next tree w e asks =
       asks_at nodes p line instruction next tree w e (asked_so p.numbers instruction ∙ asks)
@@ -242,7 +234,7 @@ module _ (nodes : List Node) where
 
   -- the end of a block, after which an operation comes first
   pub left_to_op : (p q : Place) (left : Bool) → IsTree nodes → PlaceIsWithin (length nodes) p
-      → node_at nodes p.at ≡ node.Done → asks_first (steps_at (trees nodes) (resumed_node nodes p)) ≡ true
+      → node_at nodes p.at ≡ Node.Done → asks_first (steps_at (trees nodes) (resumed_node nodes p)) ≡ true
       → (IsTrue left → LeavesBlock p q) → (left ≡ false → (p.frames ≡ []) × (q ≡ p)) → MovesToOp nodes p q
   left_to_op p q true tree w e first leaves none =
       let block = leaves refl in
@@ -251,7 +243,7 @@ module _ (nodes : List Node) where
       ap innermost block.was ∙ innermost_push block.frames block.frame in
       let resumed : resumed_node nodes p ≡ node_after block.frame =
       ap (λ (n : Node). node_to_go_on n p.at (innermost p.frames)) e
-      ∙ ap (λ (o : Option Frame). node_to_go_on node.Done p.at o) last in
+      ∙ ap (λ (o : Option Frame). node_to_go_on Node.Done p.at o) last in
       let here : q.at ≡ node_after block.frame =
       ap (λ (x : Place). x.at) block.is ∙ at_after (record p { frames = block.frames }) block.frame in
       record {
@@ -264,11 +256,11 @@ module _ (nodes : List Node) where
       let last : innermost p.frames ≡ None = ap innermost (none refl).0 in
       let resumed : resumed_node nodes p ≡ p.at =
       ap (λ (n : Node). node_to_go_on n p.at (innermost p.frames)) e
-      ∙ ap (λ (o : Option Frame). node_to_go_on node.Done p.at o) last in
+      ∙ ap (λ (o : Option Frame). node_to_go_on Node.Done p.at o) last in
       stays_to_op p q w (ap (λ (at : ℕ). asks_first (steps_at (trees nodes) at)) (sym resumed) ∙ first) (none refl).1
 
   pub same_to_op : (p q : Place) (n : Node) → PlaceIsWithin (length nodes) p → node_at nodes p.at ≡ n
-      → (n ≡ node.Done → ⊥) → asks_first (steps_at (trees nodes) (resumed_node nodes p)) ≡ true → q ≡ p
+      → (n ≡ Node.Done → ⊥) → asks_first (steps_at (trees nodes) (resumed_node nodes p)) ≡ true → q ≡ p
       → MovesToOp nodes p q
   same_to_op p q n w e other first same =
       let resumed : resumed_node nodes p ≡ p.at =

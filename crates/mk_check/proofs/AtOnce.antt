@@ -1,34 +1,23 @@
 -- An answer at which nothing is printed, where the next line asks: the script stops there.
-use Rattle.std.proofs.Common.{◌≡◌, ℕ, ◌<◌, Bool, true, false, subst, List, ◌++◌, length, refl, ap, sym, ◌∙◌, arith}
-use Rattle.std.specs.Prelude.{[], ◌∷◌, not, ◌&&◌, is_some}
-use Rattle.std.proofs.lemmas.Bool.{and_parts}
-use Rattle.std.proofs.lemmas.List.{append-nil}
-use Rattle.mk_core.specs.declared.events.Answer.{Answer}
-use Rattle.mk_core.specs.declared.events.Answer.TheVariants as answer
-use Rattle.mk_check.specs.declared.feeding.instructions.Instruction.{Instruction}
-use Rattle.mk_check.specs.declared.feeding.tree.Node.{Node}
-use Rattle.mk_check.specs.declared.feeding.tree.Node.TheVariants as node
-use Rattle.mk_check.specs.Feed.{is_refusal, refusal_line, refusal_text}
-use Rattle.mk_check.specs.Feeding.{FeedState, IsFeed, IsWaiting, TakesAnswer, op_of_node, work_left}
-use Rattle.mk_check.specs.Spots.{asks_at}
-use Rattle.mk_check.specs.Steps.{KeptState, Steps, after_answer, is_show, is_silent, op_asked, stop_of, stop_on_answer}
-use Rattle.mk_check.specs.Steps.{with_text}
-use Rattle.mk_check.specs.Trees.{HasStopped, IsTree, PlaceFits, PlaceIsWithin, Place, StopsAt, kept_in, left_in}
-use Rattle.mk_check.specs.Trees.{node_at, stopped_in, with_kept}
-use Rattle.mk_check.proofs.AsksFirst.{asked_so}
-use Rattle.mk_check.proofs.Moves as moves
+use Rattle.mk_check.proofs.Vocabulary.{Answer, Bool, FeedState, HasStopped, Instruction, IsFeed, IsTree, IsWaiting}
+use Rattle.mk_check.proofs.Vocabulary.{KeptState, List, Node, Place, PlaceFits, PlaceIsWithin, Steps, StopsAt}
+use Rattle.mk_check.proofs.Vocabulary.{TakesAnswer, ℕ, after_answer, and_parts, ap, append-nil, asks_at, false, is_some}
+use Rattle.mk_check.proofs.Vocabulary.{kept_in, left_in, length, node_at, not, op_asked, op_of_node, refl, refusal_line}
+use Rattle.mk_check.proofs.Vocabulary.{refusal_text, stop_of, stop_on_answer, stopped_in, subst, sym, true, with_kept}
+use Rattle.mk_check.proofs.Vocabulary.{with_text, work_left, [], ◌++◌, ◌<◌, ◌∙◌, ◌∷◌, ◌≡◌}
 use Rattle.mk_check.proofs.Moves.{line_fits, unfolded_line}
-use Rattle.mk_check.proofs.Stands.{answer_stands, waits_for_answer}
-use Rattle.mk_check.proofs.WorkLaws.{answer_nearer}
+use Rattle.mk_check.proofs.{AsksFirst.asked_so, Stands.answer_stands, Stands.waits_for_answer, WorkLaws.answer_nearer}
+use Rattle.mk_check.specs.{Feed.is_refusal, Steps.is_show, Steps.is_silent}
+use Rattle.mk_check.proofs.Moves as moves
 
 no_text : (a : Answer) → not (is_refusal a) ≡ true → refusal_text a ≡ []
-no_text answer.Done h = refl
-no_text (answer.Num n) h = refl
-no_text (answer.Word w) h = refl
-no_text answer.Full h = cc
-no_text answer.Fault h = cc
-no_text answer.Null h = cc
-no_text answer.Double h = cc
+no_text Answer.Done h = refl
+no_text (Answer.Num n) h = refl
+no_text (Answer.Word w) h = refl
+no_text Answer.Full h = cc
+no_text Answer.Fault h = cc
+no_text Answer.Null h = cc
+no_text Answer.Double h = cc
 
 silent_kept : (line : ℕ) (instruction : Instruction) (a : Answer) (k : KeptState) → is_silent instruction a ≡ true
     → with_text k (refusal_line line (refusal_text a)) ≡ k
@@ -39,11 +28,11 @@ silent_kept line instruction a k h =
 
 pub stopped_here : (nodes : List Node) (p : Place) (n : Node) → IsTree nodes → PlaceIsWithin (length nodes) p
     → node_at nodes p.at ≡ n → is_some (op_of_node p.numbers n) ≡ true → HasStopped nodes p p
-stopped_here nodes p node.Done tree w e h = cc
-stopped_here nodes p (node.Line line instruction next) tree w e h =
+stopped_here nodes p Node.Done tree w e h = cc
+stopped_here nodes p (Node.Line line instruction next) tree w e h =
     moves.asks_at nodes p line instruction next tree w e h
-stopped_here nodes p (node.Rounds rounds body next) tree w e h = cc
-stopped_here nodes p (node.Choice number first second next) tree w e h = cc
+stopped_here nodes p (Node.Rounds rounds body next) tree w e h = cc
+stopped_here nodes p (Node.Choice number first second next) tree w e h = cc
 
 -- The place is where the steps stop after an answer to the first.
 pub record StopsBehind (nodes : List Node) (p : Place) (a : Answer) (t : Place) : Type 0 where
@@ -53,7 +42,7 @@ pub record StopsBehind (nodes : List Node) (p : Place) (a : Answer) (t : Place) 
   pub fits : PlaceFits nodes p → PlaceFits nodes t
 
 pub stops_at_once : (nodes : List Node) (p t : Place) (line : ℕ) (instruction : Instruction) (next : ℕ) (a : Answer)
-    → IsTree nodes → PlaceIsWithin (length nodes) p → node_at nodes p.at ≡ node.Line line instruction next
+    → IsTree nodes → PlaceIsWithin (length nodes) p → node_at nodes p.at ≡ Node.Line line instruction next
     → is_silent instruction a ≡ true
     → HasStopped nodes (with_kept (record p { at = next }) (after_answer instruction a (kept_in p))) t
     → StopsBehind nodes p a t
@@ -73,10 +62,10 @@ stops_at_once nodes p t line instruction next a tree w e silent stopped =
     }
 
 pub asks_so : (numbers : List ℕ) (n : Node) → asks_at n ≡ true → is_some (op_of_node numbers n) ≡ true
-asks_so numbers node.Done h = cc
-asks_so numbers (node.Line line instruction next) h = asked_so numbers instruction ∙ h
-asks_so numbers (node.Rounds rounds body next) h = cc
-asks_so numbers (node.Choice number first second next) h = cc
+asks_so numbers Node.Done h = cc
+asks_so numbers (Node.Line line instruction next) h = asked_so numbers instruction ∙ h
+asks_so numbers (Node.Rounds rounds body next) h = cc
+asks_so numbers (Node.Choice number first second next) h = cc
 
 -- whether it took the answer or not
 pub feeds : (s : FeedState) (t : Place) (taken : Bool) → (taken ≡ true → IsFeed (record { nodes = s.nodes; place = t }))
@@ -88,7 +77,7 @@ feeds s t false takes stays is =
 -- A script that waits, answered so.
 module _ (s : FeedState) (t : Place) (a : Answer) (line : ℕ) (instruction : Instruction) (next : ℕ)
     (tree : IsTree s.nodes) (is : IsFeed s) (waiting : IsWaiting s)
-    (here : node_at s.nodes s.place.at ≡ node.Line line instruction next)
+    (here : node_at s.nodes s.place.at ≡ Node.Line line instruction next)
     (behind : StopsBehind s.nodes s.place a t) where
   asks_here : is_some (op_asked s.place.numbers instruction) ≡ true
   asks_here =

@@ -1,20 +1,12 @@
 -- One more line of a tree that is being built.
-use Rattle.std.proofs.Common.{◌≡◌, ℕ, ◌+◌, ◌<◌, ◌≤◌, List, [], ◌∷◌, ◌++◌, length, refl, ap, sym, ◌∙◌, subst, arith}
-use Rattle.std.specs.Prelude.{fold}
-use Rattle.std.proofs.lemmas.List.{get_or_append_left, get_or_at, length_push}
-use Rattle.std.proofs.lemmas.List.Sums.{fold_push}
-use Rattle.mk_check.specs.declared.feeding.instructions.Instruction.{Instruction}
-use Rattle.mk_check.specs.declared.feeding.instructions.Element.{Element}
-use Rattle.mk_check.specs.declared.feeding.instructions.Element.TheVariants as element
-use Rattle.mk_check.specs.declared.feeding.tree.Node.{Node}
-use Rattle.mk_check.specs.declared.feeding.tree.Node.TheVariants as node
-use Rattle.mk_check.specs.declared.feeding.building.Part.{Part}
-use Rattle.mk_check.specs.Steps.{Steps, Done}
-use Rattle.mk_check.specs.Trees.{steps_at, steps_from, with_node, trees}
-use Rattle.mk_check.specs.Building.{StepPart, with_element, Built, part_at, parts_at, parts_in, PartsAreWithin}
-use Rattle.mk_check.specs.Building.{IsSoundlyBuilt}
-use Rattle.mk_check.specs.Building.{with_part, with_node_and_part, AddsLine}
+use Rattle.std.proofs.Common.{fold}
+use Rattle.mk_check.proofs.Vocabulary.{AddsLine, Built, Element, Instruction, List, Node, Steps, ℕ, ap, arith}
+use Rattle.mk_check.proofs.Vocabulary.{fold_push, get_or_append_left, get_or_at, length, length_push, parts_in, refl}
+use Rattle.mk_check.proofs.Vocabulary.{steps_at, steps_from, subst, sym, trees, with_element, with_node_and_part}
+use Rattle.mk_check.proofs.Vocabulary.{with_part, [], ◌++◌, ◌+◌, ◌<◌, ◌∙◌, ◌∷◌, ◌≡◌, ◌≤◌}
 use Rattle.mk_check.proofs.Moves.{trees_push}
+use Rattle.mk_check.specs.Building.{IsSoundlyBuilt, PartsAreWithin, StepPart, part_at, parts_at}
+use Rattle.mk_check.specs.{Steps.Done, Trees.with_node, declared.feeding.building.Part.Part}
 
 length-fold_with_node : (built : List Steps) (nodes : List Node)
     → length (fold with_node built nodes) ≡ length built + length nodes
@@ -118,44 +110,44 @@ grown_parts b n second sound h =
 
 pub line_added : (b : Built) (parts : List Part) (part : Part) (line : ℕ) (instruction : Instruction) → IsSoundlyBuilt b
     → b.parts ≡ parts ++ part ∷ []
-    → AddsLine line (element.Line instruction) b
-    (with_node_and_part (record b { parts = parts }) (node.Line line instruction part.steps) part.second)
+    → AddsLine line (Element.Line instruction) b
+    (with_node_and_part (record b { parts = parts }) (Node.Line line instruction part.steps) part.second)
 line_added b parts part line instruction sound was =
     let p = popped b part parts sound was in
     record {
-      sound = grown_sound (record b { parts = parts }) (node.Line line instruction part.steps) part.second p.0 p.2;
-      parts = grown_parts (record b { parts = parts }) (node.Line line instruction part.steps) part.second p.0 p.2
-          ∙ sym (ap (with_element line (element.Line instruction)) p.3);
+      sound = grown_sound (record b { parts = parts }) (Node.Line line instruction part.steps) part.second p.0 p.2;
+      parts = grown_parts (record b { parts = parts }) (Node.Line line instruction part.steps) part.second p.0 p.2
+          ∙ sym (ap (with_element line (Element.Line instruction)) p.3);
     }
 
 pub repeat_added : (b : Built) (parts : List Part) (part body : Part) (line rounds : ℕ) → IsSoundlyBuilt b
     → b.parts ≡ (parts ++ part ∷ []) ++ body ∷ []
-    → AddsLine line (element.Repeat rounds) b
-    (with_node_and_part (record b { parts = parts }) (node.Rounds rounds body.steps part.steps) part.second)
+    → AddsLine line (Element.Repeat rounds) b
+    (with_node_and_part (record b { parts = parts }) (Node.Rounds rounds body.steps part.steps) part.second)
 repeat_added b parts part body line rounds sound was =
     let p = popped b body (parts ++ part ∷ []) sound was in
     let q = popped (record b { parts = parts ++ part ∷ [] }) part parts p.0 refl in
     record {
-      sound = grown_sound (record b { parts = parts }) (node.Rounds rounds body.steps part.steps) part.second q.0 q.2;
-      parts = grown_parts (record b { parts = parts }) (node.Rounds rounds body.steps part.steps) part.second q.0 q.2
-          ∙ sym (ap (with_element line (element.Repeat rounds)) (p.3
+      sound = grown_sound (record b { parts = parts }) (Node.Rounds rounds body.steps part.steps) part.second q.0 q.2;
+      parts = grown_parts (record b { parts = parts }) (Node.Rounds rounds body.steps part.steps) part.second q.0 q.2
+          ∙ sym (ap (with_element line (Element.Repeat rounds)) (p.3
           ∙ ap (λ (ps : List StepPart). part_at (trees b.nodes) body ∷ ps) q.3));
     }
 
 pub if_added : (b : Built) (parts : List Part) (part branches : Part) (line number : ℕ) → IsSoundlyBuilt b
     → b.parts ≡ (parts ++ part ∷ []) ++ branches ∷ []
-    → AddsLine line (element.If number) b
-    (with_node_and_part (record b { parts = parts }) (node.Choice number branches.steps branches.second part.steps)
+    → AddsLine line (Element.If number) b
+    (with_node_and_part (record b { parts = parts }) (Node.Choice number branches.steps branches.second part.steps)
     part.second)
 if_added b parts part branches line number sound was =
     let p = popped b branches (parts ++ part ∷ []) sound was in
     let q = popped (record b { parts = parts ++ part ∷ [] }) part parts p.0 refl in
     record {
-      sound = grown_sound (record b { parts = parts }) (node.Choice number branches.steps branches.second part.steps)
+      sound = grown_sound (record b { parts = parts }) (Node.Choice number branches.steps branches.second part.steps)
           part.second q.0 q.2;
-      parts = grown_parts (record b { parts = parts }) (node.Choice number branches.steps branches.second part.steps)
+      parts = grown_parts (record b { parts = parts }) (Node.Choice number branches.steps branches.second part.steps)
           part.second q.0 q.2
-          ∙ sym (ap (with_element line (element.If number)) (p.3
+          ∙ sym (ap (with_element line (Element.If number)) (p.3
           ∙ ap (λ (ps : List StepPart). part_at (trees b.nodes) branches ∷ ps) q.3));
     }
 
@@ -168,7 +160,7 @@ put_parts b second sound =
 
 pub else_added : (b : Built) (parts : List Part) (part : Part) (line : ℕ) → IsSoundlyBuilt b → b.parts ≡ parts
     ++ part ∷ []
-    → AddsLine line element.Else b (with_part (record b { parts = parts }) 0 part.steps)
+    → AddsLine line Element.Else b (with_part (record b { parts = parts }) 0 part.steps)
 else_added b parts part line sound was =
     let p = popped b part parts sound was in
     record {
@@ -178,10 +170,10 @@ else_added b parts part line sound was =
         parts = PartsAreWithin_push (length b.nodes) parts (record { steps = 0; second = part.steps }) p.0.parts
             sound.some p.1;
       };
-      parts = put_parts (record b { parts = parts }) part.steps p.0 ∙ sym (ap (with_element line element.Else) p.3);
+      parts = put_parts (record b { parts = parts }) part.steps p.0 ∙ sym (ap (with_element line Element.Else) p.3);
     }
 
-pub end_added : (b : Built) (line : ℕ) → IsSoundlyBuilt b → AddsLine line element.End b (with_part b 0 0)
+pub end_added : (b : Built) (line : ℕ) → IsSoundlyBuilt b → AddsLine line Element.End b (with_part b 0 0)
 end_added b line sound = record {
   sound = record {
     some = sound.some;

@@ -1,37 +1,23 @@
 -- The configuration of a well typed program of some text is within its limits.
-use Rattle.std.proofs.Common.{◌≡◌, ℕ, ◌+◌, ◌≤◌, ◌<◌, Bool, true, false, List, [], ◌∷◌, ◌++◌, length, map, Option, Some}
-use Rattle.std.proofs.Common.{None, is_some, refl, ap, sym, subst, arith, add-one}
-use Rattle.std.specs.Prelude.{if◌then◌else◌, All, slice_get}
-use Rattle.std.specs.Str.{bytes_eq}
-use Rattle.std.proofs.lemmas.Bool.{false≢true}
-use Rattle.std.proofs.lemmas.List.{length-map}
-use Rattle.std.proofs.lemmas.List.Elements.{All-nil, All-cons}
-use Rattle.std.proofs.lemmas.Option.{slice_get_within}
-use Rattle.mk_never.specs.declared.types.Kind.{Kind}
-use Rattle.mk_never.specs.Types.{kinds_of}
+use Rattle.std.proofs.{Common.add-one, lemmas.List.Elements.All-cons, lemmas.List.Elements.All-nil}
+use Rattle.mk_check.proofs.Vocabulary.{All, ArePassed, Around, At, Bool, Config, Item, Kind, List, None, Option, Some}
+use Rattle.mk_check.proofs.Vocabulary.{TypeKind, TypeWord, Which, ℕ, ap, arith, at_line, bytes_eq, false, false≢true}
+use Rattle.mk_check.proofs.Vocabulary.{fault_from, globals_among, globals_of, if◌then◌else◌, is_some, kind_of}
+use Rattle.mk_check.proofs.Vocabulary.{kinds_among, kinds_of, length, length-map, map, number_of_name, pages_of, refl}
+use Rattle.mk_check.proofs.Vocabulary.{resident_of, script_names, slice_get, slice_get_within, subst, sym, this_script}
+use Rattle.mk_check.proofs.Vocabulary.{true, type_names, type_words, types_of, typing_fault, word_among, [], ◌++◌, ◌+◌}
+use Rattle.mk_check.proofs.Vocabulary.{◌<◌, ◌or◌, ◌∷◌, ◌≡◌, ◌≤◌}
 use Rattle.mk_core.specs.Config.{IsAmong, IsTypeAmong, IsWithinLimits}
-use Rattle.mk_script.specs.declared.items.At.{At}
-use Rattle.mk_script.specs.declared.items.TypeWord.{TypeWord}
-use Rattle.mk_script.specs.declared.items.TypeWord.TheVariants.{Number, Pointer}
-use Rattle.mk_script.specs.declared.items.Item.{Item}
-use Rattle.mk_script.specs.declared.items.Item.TheVariants.{TypeLine, Global}
-use Rattle.mk_script.specs.Scopes.{type_names, this_script, script_names}
-use Rattle.mk_script.specs.Lines.{at_most}
-use Rattle.mk_script.specs.declared.faults.Which.TheVariants as which
-use Rattle.mk_check.specs.declared.typing_faults.TypeKind.{TypeKind}
-use Rattle.mk_check.specs.declared.typing_faults.TypeKind.TheVariants as kind
-use Rattle.mk_check.specs.Declarations.{config_of, number_of_name, kind_of, kinds_among, types_of, globals_among}
-use Rattle.mk_check.specs.Declarations.{globals_of}
-use Rattle.mk_check.specs.Declarations.{pages_of, resident_of}
-use Rattle.mk_check.specs.Typing.{Around, TypingFault, ◌or◌, unless, at_line, typing_fault, fault_from, type_words}
-use Rattle.mk_check.specs.Typing.{word_among, type_word_at, type_fault, inside_fault, pointers_fault, offsets_fault}
-use Rattle.mk_check.specs.Typing.{IsWellTyped}
-use Rattle.mk_script.proofs.PassedLines.{ArePassed, IsWhole}
-use Rattle.mk_check.proofs.GrammarLemmas.{Some≢None, at_most-None, option_or-None, heap_within, length-script_names}
-use Rattle.mk_check.proofs.GrammarLemmas.{length-type_names, length-global_names}
-use Rattle.mk_core.specs.declared.config.Config.{Config}
+use Rattle.mk_check.proofs.GrammarLemmas.{Some≢None, at_most-None, heap_within, length-global_names}
+use Rattle.mk_check.proofs.GrammarLemmas.{length-script_names, length-type_names, option_or-None}
+use Rattle.mk_check.proofs.NumberLemmas.{length-globals_among, length-kinds_among}
 use Rattle.mk_check.proofs.FormLemmas.{line_item-word}
-use Rattle.mk_check.proofs.NumberLemmas.{length-kinds_among, length-globals_among}
+use Rattle.mk_check.specs.Typing.{IsWellTyped, TypingFault, inside_fault, offsets_fault, pointers_fault, type_fault}
+use Rattle.mk_check.specs.Typing.{type_word_at, unless}
+use Rattle.mk_check.specs.Declarations.{config_of}
+use Rattle.mk_script.{proofs.PassedLines.IsWhole, specs.Lines.at_most, specs.declared.items.Item.TheVariants.Global}
+use Rattle.mk_script.{specs.declared.items.Item.TheVariants.TypeLine, specs.declared.items.TypeWord.TheVariants.Number}
+use Rattle.mk_script.{specs.declared.items.TypeWord.TheVariants.Pointer}
 
 or-None : (fault other : Option TypeKind) → fault or other ≡ None → (fault ≡ None) × (other ≡ None)
 or-None None other h = (refl, h)
@@ -103,7 +89,7 @@ module _ (program : List Item) (script : List Item) where
   pub type_fault-within : (name : List ℕ) → type_fault (record { program = program; script = script }) name ≡ None
       → number_of_name name (type_names program) < length (types_of program)
   type_fault-within name h =
-      let found = has_value (type_words name program) (unless-None (is_some (type_words name program)) kind.NoType h) in
+      let found = has_value (type_words name program) (unless-None (is_some (type_words name program)) TypeKind.NoType h) in
       (type_words-IsAt (type_names program) name program found.value found.is).within
 
   word_within : (at : At) (found : Option (List TypeWord)) → type_words at.name program ≡ found
@@ -127,7 +113,7 @@ module _ (program : List Item) (script : List Item) where
       → IsAmong (types_of program) (kind_of (type_names program) (Pointer at))
   inside_fault-IsAmong at h =
       word_within at (type_words at.name program) refl
-      (unless-None (is_some (type_word_at (record { program = program; script = script }) (Some at))) kind.Offset h)
+      (unless-None (is_some (type_word_at (record { program = program; script = script }) (Some at))) TypeKind.Offset h)
 
   words_among : (words : List TypeWord) → offsets_fault (record { program = program; script = script }) words ≡ None
       → All (IsAmong (types_of program)) (map (kind_of (type_names program)) words)
@@ -148,13 +134,13 @@ types-within program line before (TypeLine name words ∷ items) lines h =
     let both = at_line-None line (typing_fault a line items (TypeLine name words))
     (fault_from program (line + 1) (before ++ TypeLine name words ∷ []) items) h in
     let pointers = or-None (pointers_fault a words) (offsets_fault a words) both.0 in
-    let limits = option_or-None (at_most (length (type_names before) + 1) 64 which.Types)
-    (at_most (length words) 4096 which.Words) lines.0.within in
+    let limits = option_or-None (at_most (length (type_names before) + 1) 64 Which.Types)
+    (at_most (length words) 4096 Which.Words) lines.0.within in
     let size = length-map words (kind_of (type_names program)) in
     All-cons (IsTypeAmong (types_of program)) _ _ (
       (
         omega (arith, size, line_item-word before lines.0.words name words lines.0.says),
-        omega (arith, size, at_most-None (length words) 4096 which.Words limits.1),
+        omega (arith, size, at_most-None (length words) 4096 Which.Words limits.1),
       ),
       words_among program (this_script before) words pointers.1,
     )

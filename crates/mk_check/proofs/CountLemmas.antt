@@ -1,18 +1,15 @@
 -- Counts of parts, as a script is read from its end.
-use Rattle.std.proofs.Common.{◌≡◌, ℕ, zero, suc, ◌+◌, ◌*◌, ◌-◌, ◌^◌, ◌≤◌, ◌<◌, max, Bool, true, false, List, [], ◌∷◌}
-use Rattle.std.proofs.Common.{◌++◌, length, get_or, set, take, drop, reverse, refl, ap, ◌∙◌, sym, arith, ⊎_elim}
-use Rattle.std.specs.Prelude.{if◌then◌else◌}
-use Rattle.std.proofs.lemmas.Bool.{cases_lt, false≢true}
-use Rattle.std.proofs.lemmas.Grind.{reverse_onto}
-use Rattle.std.proofs.lemmas.List.{append_assoc, reverse-append, reverse-reverse, length-reverse, length-append, set_at}
-use Rattle.std.proofs.lemmas.List.{get_or_at, drop_more, take_more}
-use Rattle.mk_script.specs.declared.items.Item.{Item}
-use Rattle.mk_script.specs.declared.items.Item.TheVariants.{Script, Repeat, If, Else, End}
-use Rattle.mk_script.specs.Scopes.{is_script, is_instruction}
-use Rattle.mk_check.specs.declared.lengths.PartCount.{PartCount}
-use Rattle.mk_check.specs.Blocks.{Part, with_item, branch, outermost_blocks, before_next_script}
+use Rattle.std.proofs.lemmas.List.{length-reverse, reverse-append, reverse-reverse, set_at}
+use Rattle.std.proofs.{Common.set, Common.◌^◌, lemmas.Grind.reverse_onto}
+use Rattle.mk_check.proofs.Vocabulary.{Bool, Item, List, Part, PartCount, ℕ, ap, append_assoc, arith}
+use Rattle.mk_check.proofs.Vocabulary.{before_next_script, branch, cases_lt, counts_of, drop, drop_more, false}
+use Rattle.mk_check.proofs.Vocabulary.{false≢true, get_or, get_or_at, if◌then◌else◌, is_script, length, length-append}
+use Rattle.mk_check.proofs.Vocabulary.{max, outermost_blocks, refl, reverse, suc, sym, take, take_more, true, with_item}
+use Rattle.mk_check.proofs.Vocabulary.{zero, [], ⊎_elim, ◌*◌, ◌++◌, ◌+◌, ◌-◌, ◌<◌, ◌∙◌, ◌∷◌, ◌≡◌, ◌≤◌}
+use Rattle.mk_check.specs.Counts.{counts_with, innermost_count, saturated_count, with_count, with_innermost}
 use Rattle.mk_check.specs.Lengths.{length_of}
-use Rattle.mk_check.specs.Counts.{saturated_count, counts_of, counts_with, innermost_count, with_count, with_innermost}
+use Rattle.mk_script.specs.declared.items.Item.TheVariants.{Else, End, If, Repeat, Script}
+use Rattle.mk_script.specs.Scopes.{is_instruction}
 
 saturated_count-add : (n m : ℕ) → saturated_count (n + m) ≡ saturated_count (saturated_count m + n)
 saturated_count-add n m = omega arith

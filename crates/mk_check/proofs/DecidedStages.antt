@@ -1,47 +1,29 @@
 -- A caller's call is decided once, before its last step.
-use Rattle.std.proofs.Common.{◌≡◌, ℕ, ◌+◌, Bool, true, false, refl, sym, ◌∙◌, ap, subst, arith}
-use Rattle.std.specs.Prelude.{Option, Some, None, if◌then◌else◌, ◌==◌}
 use Rattle.std.specs.List.{list_any}
-use Rattle.std.proofs.lemmas.Bool.{and_parts}
-use Rattle.mk_never.specs.declared.operations.Op.{Op}
-use Rattle.mk_never.specs.declared.operations.Op.TheVariants as op
-use Rattle.mk_geom.specs.declared.addresses.Cell.{Cell}
-use Rattle.mk_geom.specs.Headers.{header_of}
-use Rattle.mk_core.specs.declared.config.Config.{Config}
-use Rattle.mk_core.specs.declared.events.Answer.{Answer}
-use Rattle.mk_core.specs.declared.events.Answer.TheVariants as answer
-use Rattle.mk_core.specs.declared.events.Step.{Step}
-use Rattle.mk_core.specs.declared.events.Step.TheVariants as step
-use Rattle.mk_core.specs.declared.events.Word.{Word}
-use Rattle.mk_core.specs.declared.events.Word.TheVariants as word
-use Rattle.mk_core.specs.declared.seats.Stage.{Stage}
-use Rattle.mk_core.specs.declared.seats.Stage.TheVariants as stage
-use Rattle.mk_core.specs.declared.seats.Flight.{Flight}
-use Rattle.mk_core.specs.declared.seats.Progress.{Progress}
-use Rattle.mk_core.specs.Words.{Words}
-use Rattle.mk_core.specs.Calls.{steps_of, stage_behind, stage_refused, is_same_stage, begun, onward, still, refused}
-use Rattle.mk_core.specs.Calls.{progress_q, progress_p, progress_reg, progress_read}
-use Rattle.mk_core.specs.Cells.{is_unmapped_header}
-use Rattle.mk_core.specs.Moments.{Moment}
-use Rattle.mk_core.specs.NewPlaces.{target}
-use Rattle.mk_core.specs.Order.{may_decide_new, comes_next, is_of_any_holder}
-use Rattle.mk_core.specs.TurnConditions.{is_decided, cell_freed}
-use Rattle.mk_core.specs.Enabled.{holder_may}
-use Rattle.mk_core.specs.Effects.{decided, sees_double, progress, progress_freed, progress_look}
+use Rattle.mk_check.proofs.Vocabulary.{Answer, Bool, Config, None, Op, Option, Some, ℕ, and_parts, ap, arith, false}
+use Rattle.mk_check.proofs.Vocabulary.{if◌then◌else◌, refl, subst, sym, true, ◌+◌, ◌==◌, ◌∙◌, ◌≡◌}
+use Rattle.mk_geom.specs.{Headers.header_of, declared.addresses.Cell.Cell}
+use Rattle.mk_core.specs.Calls.{begun, is_same_stage, onward, progress_p, progress_q, progress_read, progress_reg}
+use Rattle.mk_core.specs.Calls.{refused, stage_behind, stage_refused, steps_of, still}
+use Rattle.mk_core.specs.Effects.{decided, progress, progress_freed, progress_look, sees_double}
+use Rattle.mk_core.specs.{Cells.is_unmapped_header, Enabled.holder_may, Moments.Moment, NewPlaces.target}
+use Rattle.mk_core.specs.{Order.comes_next, Order.is_of_any_holder, Order.may_decide_new, TurnConditions.cell_freed}
+use Rattle.mk_core.specs.{TurnConditions.is_decided, Words.Words, declared.events.Step.Step, declared.events.Word.Word}
+use Rattle.mk_core.specs.{declared.seats.Flight.Flight, declared.seats.Progress.Progress, declared.seats.Stage.Stage}
 use Rattle.mk_check.specs.Output.{ends_call}
 
 -- The operation has a stage. A refused Lea stores null, at a stage that it hasn't else.
 abbrev pub has_stage : Op → Stage → Bool
-has_stage o stage.Idle = true
-has_stage (op.Lea d q i) stage.Put = true
+has_stage o Stage.Idle = true
+has_stage (Op.Lea d q i) Stage.Put = true
 has_stage o s = list_any (is_same_stage s) (steps_of o)
 
 -- how many answers of the call in flight are decided
 abbrev pub pending : Stage → ℕ
-pending stage.Put = 1
-pending stage.Dirty = 1
-pending stage.Leave = 1
-pending stage.Give = 1
+pending Stage.Put = 1
+pending Stage.Dirty = 1
+pending Stage.Leave = 1
+pending Stage.Give = 1
 pending _ = 0
 
 abbrev pub count : Option Answer → ℕ
@@ -68,35 +50,35 @@ still_goes s o q p r l h = record { stage = h; pending = omega arith }
 -- the next stage
 
 abbrev goes_on : Stage → Bool
-goes_on stage.Idle = false
-goes_on stage.Put = false
-goes_on stage.Leave = false
-goes_on stage.Turn = false
-goes_on stage.Give = false
+goes_on Stage.Idle = false
+goes_on Stage.Put = false
+goes_on Stage.Leave = false
+goes_on Stage.Turn = false
+goes_on Stage.Give = false
 goes_on _ = true
 
 -- whether the step at this stage decides, where it isn't refused
 abbrev decides : Stage → Op → ℕ
-decides stage.Read o = 1
-decides stage.Write o = 1
-decides stage.Cas o = 1
-decides stage.Getg o = 1
-decides stage.Setg o = 1
-decides stage.Store o = 1
-decides stage.LoadQ (op.Same p q) = 1
-decides stage.LoadP (op.IsNull p) = 1
+decides Stage.Read o = 1
+decides Stage.Write o = 1
+decides Stage.Cas o = 1
+decides Stage.Getg o = 1
+decides Stage.Setg o = 1
+decides Stage.Store o = 1
+decides Stage.LoadQ (Op.Same p q) = 1
+decides Stage.LoadP (Op.IsNull p) = 1
 decides _ o = 0
 
 next_stage : (s : Stage) (o : Op) → has_stage o s ≡ true → has_stage o (stage_behind s (steps_of o)) ≡ true
-next_stage stage.Idle (op.Free p) h = cc
-next_stage stage.Idle _ h = cc
-next_stage _ (op.Free p) h = cc
+next_stage Stage.Idle (Op.Free p) h = cc
+next_stage Stage.Idle _ h = cc
+next_stage _ (Op.Free p) h = cc
 next_stage _ _ h = cc
 
 next_pending : (s : Stage) (o : Op) → goes_on s ≡ true → has_stage o s ≡ true
     → pending (stage_behind s (steps_of o)) ≡ pending s + decides s o
-next_pending stage.Idle _ g h = cc
-next_pending _ (op.Free p) g h = cc
+next_pending Stage.Idle _ g h = cc
+next_pending _ (Op.Free p) g h = cc
 next_pending _ _ g h = cc
 
 onward_goes : (s : Stage) (o : Op) (q p r l q' p' r' l' : ℕ) (a : Option Answer) → goes_on s ≡ true
@@ -109,18 +91,18 @@ onward_goes s o q p r l q' p' r' l' a g h e = record {
 }
 
 abbrev may_refuse : Stage → Bool
-may_refuse stage.LoadQ = true
-may_refuse stage.Probe = true
+may_refuse Stage.LoadQ = true
+may_refuse Stage.Probe = true
 may_refuse _ = false
 
 refused_stage : (s : Stage) (o : Op) → may_refuse s ≡ true → has_stage o s ≡ true → has_stage o (stage_refused o) ≡ true
-refused_stage stage.Idle _ m h = cc
-refused_stage _ (op.Free p) m h = cc
+refused_stage Stage.Idle _ m h = cc
+refused_stage _ (Op.Free p) m h = cc
 refused_stage _ _ m h = cc
 
 refused_pending : (s : Stage) (o : Op) → may_refuse s ≡ true → pending (stage_refused o) ≡ pending s + 1
-refused_pending stage.Idle _ m = cc
-refused_pending _ (op.Free p) m = cc
+refused_pending Stage.Idle _ m = cc
+refused_pending _ (Op.Free p) m = cc
 refused_pending _ _ m = cc
 
 refused_goes : (s : Stage) (o : Op) (q p r l q' p' r' l' : ℕ) (a : Answer) → may_refuse s ≡ true → has_stage o s ≡ true
@@ -129,122 +111,122 @@ refused_goes s o q p r l q' p' r' l' a m h = record { stage = refused_stage s o 
 
 -- `reg`
 
-q_goes : (o : Op) (q p r l found : ℕ) → has_stage o stage.LoadQ ≡ true
-    → Goes (flight stage.LoadQ o q p r l) (progress_q (flight stage.LoadQ o q p r l) o found)
-q_goes (op.Move d q') q p r l found h = onward_goes stage.LoadQ (op.Move d q') q p r l found p r l None refl h refl
-q_goes (op.Same p' q') q p r l found h = onward_goes stage.LoadQ (op.Same p' q') q p r l found p r l _ refl h refl
+q_goes : (o : Op) (q p r l found : ℕ) → has_stage o Stage.LoadQ ≡ true
+    → Goes (flight Stage.LoadQ o q p r l) (progress_q (flight Stage.LoadQ o q p r l) o found)
+q_goes (Op.Move d q') q p r l found h = onward_goes Stage.LoadQ (Op.Move d q') q p r l found p r l None refl h refl
+q_goes (Op.Same p' q') q p r l found h = onward_goes Stage.LoadQ (Op.Same p' q') q p r l found p r l _ refl h refl
 q_goes o q p r l found h =
-    either (found == 0) _ _ _ (refused_goes stage.LoadQ o q p r l found p r l answer.Null refl h)
-    (onward_goes stage.LoadQ o q p r l found p r l None refl h refl)
+    either (found == 0) _ _ _ (refused_goes Stage.LoadQ o q p r l found p r l Answer.Null refl h)
+    (onward_goes Stage.LoadQ o q p r l found p r l None refl h refl)
 
-p_goes : (o : Op) (q p r l found : ℕ) → has_stage o stage.LoadP ≡ true
-    → Goes (flight stage.LoadP o q p r l) (progress_p (flight stage.LoadP o q p r l) o found)
-p_goes (op.IsNull p') q p r l found h = onward_goes stage.LoadP (op.IsNull p') q p r l q found r l _ refl h refl
-p_goes (op.Free p') q p r l found h =
+p_goes : (o : Op) (q p r l found : ℕ) → has_stage o Stage.LoadP ≡ true
+    → Goes (flight Stage.LoadP o q p r l) (progress_p (flight Stage.LoadP o q p r l) o found)
+p_goes (Op.IsNull p') q p r l found h = onward_goes Stage.LoadP (Op.IsNull p') q p r l q found r l _ refl h refl
+p_goes (Op.Free p') q p r l found h =
     either (found == 0) _ _ _ (record { stage = refl; pending = refl })
-    (onward_goes stage.LoadP (op.Free p') q p r l q found r l None refl h refl)
-p_goes o q p r l found h = onward_goes stage.LoadP o q p r l q found r l None refl h refl
+    (onward_goes Stage.LoadP (Op.Free p') q p r l q found r l None refl h refl)
+p_goes o q p r l found h = onward_goes Stage.LoadP o q p r l q found r l None refl h refl
 
 -- after a `put` comes `leave`
-leave_stage : (o : Op) → has_stage o stage.Put ≡ true → has_stage o stage.Leave ≡ true
-leave_stage (op.Free p) h = cc
+leave_stage : (o : Op) → has_stage o Stage.Put ≡ true → has_stage o Stage.Leave ≡ true
+leave_stage (Op.Free p) h = cc
 leave_stage _ h = cc
 
-reg_goes : (s : Stage) (o : Op) (q p r l found : ℕ) → has_stage o s ≡ true → comes_next s o step.Reg ≡ true
+reg_goes : (s : Stage) (o : Op) (q p r l found : ℕ) → has_stage o s ≡ true → comes_next s o Step.Reg ≡ true
     → Goes (flight s o q p r l) (progress_reg (flight s o q p r l) s found)
-reg_goes stage.LoadQ o q p r l found h n = q_goes o q p r l found h
-reg_goes stage.LoadP o q p r l found h n = p_goes o q p r l found h
-reg_goes stage.LoadR o q p r l found h n = onward_goes stage.LoadR o q p r l q p found l None refl h refl
-reg_goes stage.Store o q p r l found h n = onward_goes stage.Store o q p r l q p r l _ refl h refl
-reg_goes stage.Put o q p r l found h n = record { stage = leave_stage o h; pending = refl }
+reg_goes Stage.LoadQ o q p r l found h n = q_goes o q p r l found h
+reg_goes Stage.LoadP o q p r l found h n = p_goes o q p r l found h
+reg_goes Stage.LoadR o q p r l found h n = onward_goes Stage.LoadR o q p r l q p found l None refl h refl
+reg_goes Stage.Store o q p r l found h n = onward_goes Stage.Store o q p r l q p r l _ refl h refl
+reg_goes Stage.Put o q p r l found h n = record { stage = leave_stage o h; pending = refl }
 reg_goes s o q p r l found h n = still_goes s o q p r l h
 
 -- the steps that have a stage of their own
 
 abbrev stage_of : Step → Stage
-stage_of step.Leave = stage.Leave
-stage_of step.Probe = stage.Probe
-stage_of step.Read = stage.Read
-stage_of step.Write = stage.Write
-stage_of step.Cas = stage.Cas
-stage_of step.Getg = stage.Getg
-stage_of step.Setg = stage.Setg
-stage_of step.Dirty = stage.Dirty
-stage_of _ = stage.Idle
+stage_of Step.Leave = Stage.Leave
+stage_of Step.Probe = Stage.Probe
+stage_of Step.Read = Stage.Read
+stage_of Step.Write = Stage.Write
+stage_of Step.Cas = Stage.Cas
+stage_of Step.Getg = Stage.Getg
+stage_of Step.Setg = Stage.Setg
+stage_of Step.Dirty = Stage.Dirty
+stage_of _ = Stage.Idle
 
 abbrev has_stage_of_its_own : Step → Bool
-has_stage_of_its_own (step.Enter o) = true
-has_stage_of_its_own (step.Take o) = true
-has_stage_of_its_own step.Leave = true
-has_stage_of_its_own step.Probe = true
-has_stage_of_its_own step.Read = true
-has_stage_of_its_own step.Write = true
-has_stage_of_its_own step.Cas = true
-has_stage_of_its_own step.Getg = true
-has_stage_of_its_own step.Setg = true
-has_stage_of_its_own step.Dirty = true
+has_stage_of_its_own (Step.Enter o) = true
+has_stage_of_its_own (Step.Take o) = true
+has_stage_of_its_own Step.Leave = true
+has_stage_of_its_own Step.Probe = true
+has_stage_of_its_own Step.Read = true
+has_stage_of_its_own Step.Write = true
+has_stage_of_its_own Step.Cas = true
+has_stage_of_its_own Step.Getg = true
+has_stage_of_its_own Step.Setg = true
+has_stage_of_its_own Step.Dirty = true
 has_stage_of_its_own _ = false
 
 not_holders : (x : Step) → has_stage_of_its_own x ≡ true → is_of_any_holder x ≡ true → ⊥
-not_holders step.Leave k h = cc
+not_holders Step.Leave k h = cc
 not_holders _ k h = cc
 
 not_deciding : (o : Op) (x : Step) → has_stage_of_its_own x ≡ true → may_decide_new o x ≡ true → ⊥
-not_deciding (op.New d ty full) step.Grant k h = cc
-not_deciding (op.New d ty full) step.Full k h = cc
+not_deciding (Op.New d ty full) Step.Grant k h = cc
+not_deciding (Op.New d ty full) Step.Full k h = cc
 not_deciding o x k h = not_holders x k h
 
 own_stage : (s : Stage) (o : Op) (x : Step) → has_stage_of_its_own x ≡ true → comes_next s o x ≡ true → s ≡ stage_of x
-own_stage stage.Turn o x k h = absurd (not_deciding o x k h)
-own_stage stage.Give o x k h = absurd (not_holders x k h)
-own_stage stage.Idle o (step.Enter y) k h = refl
-own_stage _ o (step.Enter y) k h = cc
+own_stage Stage.Turn o x k h = absurd (not_deciding o x k h)
+own_stage Stage.Give o x k h = absurd (not_holders x k h)
+own_stage Stage.Idle o (Step.Enter y) k h = refl
+own_stage _ o (Step.Enter y) k h = cc
 own_stage _ o _ k h = cc
 
-begun_goes : (o y : Op) (q p r l : ℕ) → Goes (flight stage.Idle o q p r l) (record { flight = begun y; answer = None })
-begun_goes o (op.Free p') q p r l = record { stage = refl; pending = refl }
+begun_goes : (o y : Op) (q p r l : ℕ) → Goes (flight Stage.Idle o q p r l) (record { flight = begun y; answer = None })
+begun_goes o (Op.Free p') q p r l = record { stage = refl; pending = refl }
 begun_goes o _ q p r l = record { stage = refl; pending = refl }
 
-probe_goes : (o : Op) (q p r l : ℕ) (b : Bool) → has_stage o stage.Probe ≡ true
-    → Goes (flight stage.Probe o q p r l) (if b then refused (flight stage.Probe o q p r l) answer.Fault
-    else onward (flight stage.Probe o q p r l) None)
+probe_goes : (o : Op) (q p r l : ℕ) (b : Bool) → has_stage o Stage.Probe ≡ true
+    → Goes (flight Stage.Probe o q p r l) (if b then refused (flight Stage.Probe o q p r l) Answer.Fault
+    else onward (flight Stage.Probe o q p r l) None)
 probe_goes o q p r l b h =
-    either b _ _ _ (refused_goes stage.Probe o q p r l q p r l answer.Fault refl h)
-    (onward_goes stage.Probe o q p r l q p r l None refl h refl)
+    either b _ _ _ (refused_goes Stage.Probe o q p r l q p r l Answer.Fault refl h)
+    (onward_goes Stage.Probe o q p r l q p r l None refl h refl)
 
-read_goes : (o : Op) (q p r l found : ℕ) → has_stage o stage.Read ≡ true
-    → Goes (flight stage.Read o q p r l) (progress_read (flight stage.Read o q p r l) o found)
-read_goes (op.GetPtr d q' i) q p r l found h =
-    onward_goes stage.Read (op.GetPtr d q' i) q p r l q p r found _ refl h refl
-read_goes o q p r l found h = onward_goes stage.Read o q p r l q p r l _ refl h refl
+read_goes : (o : Op) (q p r l found : ℕ) → has_stage o Stage.Read ≡ true
+    → Goes (flight Stage.Read o q p r l) (progress_read (flight Stage.Read o q p r l) o found)
+read_goes (Op.GetPtr d q' i) q p r l found h =
+    onward_goes Stage.Read (Op.GetPtr d q' i) q p r l q p r found _ refl h refl
+read_goes o q p r l found h = onward_goes Stage.Read o q p r l q p r l _ refl h refl
 
 -- the turn's steps
 
-give_stage : (o : Op) → has_stage o stage.Turn ≡ true → has_stage o stage.Give ≡ true
-give_stage (op.Free p) h = refl
+give_stage : (o : Op) → has_stage o Stage.Turn ≡ true → has_stage o Stage.Give ≡ true
+give_stage (Op.Free p) h = refl
 give_stage _ h = cc
 
-decided_goes : (o : Op) (q p r l : ℕ) (a : Answer) → has_stage o stage.Turn ≡ true
-    → Goes (flight stage.Turn o q p r l) (decided (flight stage.Turn o q p r l) a)
+decided_goes : (o : Op) (q p r l : ℕ) (a : Answer) → has_stage o Stage.Turn ≡ true
+    → Goes (flight Stage.Turn o q p r l) (decided (flight Stage.Turn o q p r l) a)
 decided_goes o q p r l a h = record { stage = give_stage o h; pending = refl }
 
 sees_none : (w : Words) (x : Word) → sees_double w None x ≡ false
-sees_none w (word.Quar p) = refl
+sees_none w (Word.Quar p) = refl
 sees_none w _ = refl
 
 look_goes : (s : Stage) (o : Op) (q p r l : ℕ) (c : Config) (w : Words) (x : Word) → has_stage o s ≡ true
-    → comes_next s o (step.Look x) ≡ true
+    → comes_next s o (Step.Look x) ≡ true
     → Goes (flight s o q p r l) (progress_look c w (flight s o q p r l) x)
-look_goes stage.Turn o q p r l c w x h n =
-    either (sees_double w (target c.pages w (flight stage.Turn o q p r l)) x) _ _ _
-    (decided_goes o q p r l answer.Double h) (still_goes stage.Turn o q p r l h)
-look_goes stage.Give o q p r l c w x h n = rw (sees_none w x) (still_goes stage.Give o q p r l h)
+look_goes Stage.Turn o q p r l c w x h n =
+    either (sees_double w (target c.pages w (flight Stage.Turn o q p r l)) x) _ _ _
+    (decided_goes o q p r l Answer.Double h) (still_goes Stage.Turn o q p r l h)
+look_goes Stage.Give o q p r l c w x h n = rw (sees_none w x) (still_goes Stage.Give o q p r l h)
 look_goes s o q p r l c w x h n = cc
 
-freed_goes : (o : Op) (q p r l : ℕ) (cell : Option Cell) → has_stage o stage.Turn ≡ true
-    → Goes (flight stage.Turn o q p r l) (progress_freed (flight stage.Turn o q p r l) cell)
-freed_goes o q p r l (Some cell) h = decided_goes o q p r l answer.Done h
-freed_goes o q p r l None h = still_goes stage.Turn o q p r l h
+freed_goes : (o : Op) (q p r l : ℕ) (cell : Option Cell) → has_stage o Stage.Turn ≡ true
+    → Goes (flight Stage.Turn o q p r l) (progress_freed (flight Stage.Turn o q p r l) cell)
+freed_goes o q p r l (Some cell) h = decided_goes o q p r l Answer.Done h
+freed_goes o q p r l None h = still_goes Stage.Turn o q p r l h
 
 -- nothing is freed where the Free is decided
 freed_none : (b : Bool) (f : Flight) → progress_freed f (if b then None else None) ≡ still f
@@ -252,23 +234,23 @@ freed_none true f = refl
 freed_none false f = refl
 
 quar_goes : (s : Stage) (o : Op) (q p r l : ℕ) (c : Config) (w : Words) (page v : ℕ) → has_stage o s ≡ true
-    → comes_next s o (step.Quar page v) ≡ true
+    → comes_next s o (Step.Quar page v) ≡ true
     → Goes (flight s o q p r l) (progress_freed (flight s o q p r l) (cell_freed c.pages w (flight s o q p r l) page v))
-quar_goes stage.Turn o q p r l c w page v h n =
-    freed_goes o q p r l (cell_freed c.pages w (flight stage.Turn o q p r l) page v) h
-quar_goes stage.Give o q p r l c w page v h n =
-    subst (λ (x : Progress). Goes (flight stage.Give o q p r l) x) (sym (freed_none _ (flight stage.Give o q p r l)))
-    (still_goes stage.Give o q p r l h)
+quar_goes Stage.Turn o q p r l c w page v h n =
+    freed_goes o q p r l (cell_freed c.pages w (flight Stage.Turn o q p r l) page v) h
+quar_goes Stage.Give o q p r l c w page v h n =
+    subst (λ (x : Progress). Goes (flight Stage.Give o q p r l) x) (sym (freed_none _ (flight Stage.Give o q p r l)))
+    (still_goes Stage.Give o q p r l h)
 quar_goes s o q p r l c w page v h n = cc
 
 -- a New is granted, or refused, while it is undecided
 
-grants_at_turn : (s : Stage) (o : Op) → comes_next s o step.Grant ≡ true → s ≡ stage.Turn
-grants_at_turn stage.Turn o n = refl
+grants_at_turn : (s : Stage) (o : Op) → comes_next s o Step.Grant ≡ true → s ≡ Stage.Turn
+grants_at_turn Stage.Turn o n = refl
 grants_at_turn _ o n = cc
 
-fulls_at_turn : (s : Stage) (o : Op) → comes_next s o step.Full ≡ true → s ≡ stage.Turn
-fulls_at_turn stage.Turn o n = refl
+fulls_at_turn : (s : Stage) (o : Op) → comes_next s o Step.Full ≡ true → s ≡ Stage.Turn
+fulls_at_turn Stage.Turn o n = refl
 fulls_at_turn _ o n = cc
 
 abbrev pub At : Config → Moment → Op → ℕ → ℕ → ℕ → ℕ → ℕ → Step → Stage → Type 0
@@ -283,49 +265,49 @@ own c m s o q p r l found x k h n f =
 
 pub goes : (c : Config) (m : Moment) (s : Stage) (o : Op) (q p r l found : ℕ) (x : Step)
     → has_stage o s ≡ true → comes_next s o x ≡ true → ends_call x ≡ false → At c m o q p r l found x s
-goes c m s o q p r l found (step.Enter y) h n e =
-    own c m s o q p r l found (step.Enter y) refl h n
-    (λ i. either (found == 0) _ _ _ (begun_goes o y q p r l) (still_goes stage.Idle o q p r l i))
-goes c m s o q p r l found (step.Take (Some y)) h n e =
-    own c m s o q p r l found (step.Take (Some y)) refl h n
-    (λ i. either (found == 0) _ _ _ (begun_goes o y q p r l) (still_goes stage.Idle o q p r l i))
-goes c m s o q p r l found step.Leave h n e = cc
-goes c m s o q p r l found step.Give h n e = cc
-goes c m s o q p r l found step.Reg h n e = reg_goes s o q p r l found h n
-goes c m s o q p r l found step.Probe h n e =
-    own c m s o q p r l found step.Probe refl h n (λ i. probe_goes o q p r l (is_unmapped_header (header_of found)) i)
-goes c m s o q p r l found step.Read h n e =
-    own c m s o q p r l found step.Read refl h n (λ i. read_goes o q p r l found i)
-goes c m s o q p r l found step.Write h n e =
-    own c m s o q p r l found step.Write refl h n (λ i. onward_goes stage.Write o q p r l q p r l _ refl i refl)
-goes c m s o q p r l found step.Cas h n e =
-    own c m s o q p r l found step.Cas refl h n (λ i. onward_goes stage.Cas o q p r l q p r l _ refl i refl)
-goes c m s o q p r l found step.Getg h n e =
-    own c m s o q p r l found step.Getg refl h n (λ i. onward_goes stage.Getg o q p r l q p r found _ refl i refl)
-goes c m s o q p r l found step.Setg h n e =
-    own c m s o q p r l found step.Setg refl h n (λ i. onward_goes stage.Setg o q p r l q p r l _ refl i refl)
-goes c m s o q p r l found step.Dirty h n e =
-    own c m s o q p r l found step.Dirty refl h n (λ i. onward_goes stage.Dirty o q p r l q p r l None refl i refl)
-goes c m s o q p r l found (step.Look x) h n e = look_goes s o q p r l c m.words x h n
-goes c m s o q p r l found (step.Quar page v) h n e = quar_goes s o q p r l c m.words page v h n
-goes c m s o q p r l found step.Grant h n e =
+goes c m s o q p r l found (Step.Enter y) h n e =
+    own c m s o q p r l found (Step.Enter y) refl h n
+    (λ i. either (found == 0) _ _ _ (begun_goes o y q p r l) (still_goes Stage.Idle o q p r l i))
+goes c m s o q p r l found (Step.Take (Some y)) h n e =
+    own c m s o q p r l found (Step.Take (Some y)) refl h n
+    (λ i. either (found == 0) _ _ _ (begun_goes o y q p r l) (still_goes Stage.Idle o q p r l i))
+goes c m s o q p r l found Step.Leave h n e = cc
+goes c m s o q p r l found Step.Give h n e = cc
+goes c m s o q p r l found Step.Reg h n e = reg_goes s o q p r l found h n
+goes c m s o q p r l found Step.Probe h n e =
+    own c m s o q p r l found Step.Probe refl h n (λ i. probe_goes o q p r l (is_unmapped_header (header_of found)) i)
+goes c m s o q p r l found Step.Read h n e =
+    own c m s o q p r l found Step.Read refl h n (λ i. read_goes o q p r l found i)
+goes c m s o q p r l found Step.Write h n e =
+    own c m s o q p r l found Step.Write refl h n (λ i. onward_goes Stage.Write o q p r l q p r l _ refl i refl)
+goes c m s o q p r l found Step.Cas h n e =
+    own c m s o q p r l found Step.Cas refl h n (λ i. onward_goes Stage.Cas o q p r l q p r l _ refl i refl)
+goes c m s o q p r l found Step.Getg h n e =
+    own c m s o q p r l found Step.Getg refl h n (λ i. onward_goes Stage.Getg o q p r l q p r found _ refl i refl)
+goes c m s o q p r l found Step.Setg h n e =
+    own c m s o q p r l found Step.Setg refl h n (λ i. onward_goes Stage.Setg o q p r l q p r l _ refl i refl)
+goes c m s o q p r l found Step.Dirty h n e =
+    own c m s o q p r l found Step.Dirty refl h n (λ i. onward_goes Stage.Dirty o q p r l q p r l None refl i refl)
+goes c m s o q p r l found (Step.Look x) h n e = look_goes s o q p r l c m.words x h n
+goes c m s o q p r l found (Step.Quar page v) h n e = quar_goes s o q p r l c m.words page v h n
+goes c m s o q p r l found Step.Grant h n e =
     let is = grants_at_turn s o n in
-    subst (At c m o q p r l found step.Grant) (sym is)
-    (decided_goes o q p r l answer.Done (subst (λ (t : Stage). has_stage o t ≡ true) is h))
-goes c m s o q p r l found step.Full h n e =
+    subst (At c m o q p r l found Step.Grant) (sym is)
+    (decided_goes o q p r l Answer.Done (subst (λ (t : Stage). has_stage o t ≡ true) is h))
+goes c m s o q p r l found Step.Full h n e =
     let is = fulls_at_turn s o n in
-    subst (At c m o q p r l found step.Full) (sym is)
-    (decided_goes o q p r l answer.Full (subst (λ (t : Stage). has_stage o t ≡ true) is h))
+    subst (At c m o q p r l found Step.Full) (sym is)
+    (decided_goes o q p r l Answer.Full (subst (λ (t : Stage). has_stage o t ≡ true) is h))
 goes c m s o q p r l found _ h n e = still_goes s o q p r l h
 
 -- At its call's last step the answer is decided.
-gives_decided : (s : Stage) (o : Op) → comes_next s o step.Give ≡ true → is_decided s ≡ true → pending s ≡ 1
-gives_decided stage.Give o n d = refl
+gives_decided : (s : Stage) (o : Op) → comes_next s o Step.Give ≡ true → is_decided s ≡ true → pending s ≡ 1
+gives_decided Stage.Give o n d = refl
 gives_decided _ o n d = cc
 
 pub ends : (c : Config) (m : Moment) (f : Flight) (x : Step) → comes_next f.stage f.op x ≡ true
     → holder_may c m f x ≡ true → ends_call x ≡ true → pending f.stage ≡ 1
-ends c m f step.Leave n h e = ap pending (own_stage f.stage f.op step.Leave refl n)
-ends c m f step.Give n h e =
+ends c m f Step.Leave n h e = ap pending (own_stage f.stage f.op Step.Leave refl n)
+ends c m f Step.Give n h e =
     gives_decided f.stage f.op n (and_parts (is_decided f.stage) _ (and_parts _ _ (and_parts _ _ h).0).0).0
 ends c m f _ n h e = cc

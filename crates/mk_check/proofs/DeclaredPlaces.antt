@@ -1,18 +1,10 @@
 -- What stands at the place of a declared name.
-use Rattle.std.proofs.Common.{◌≡◌, ℕ, suc, ◌+◌, ◌<◌, Bool, true, false, List, [], ◌∷◌, length, get_or, map, Some, refl}
-use Rattle.std.proofs.Common.{ap, sym, ◌∙◌, arith, if◌then◌else◌}
-use Rattle.std.specs.Prelude.{slice_get}
-use Rattle.std.specs.Str.{bytes_eq}
-use Rattle.std.proofs.lemmas.Option.{same_Some}
-use Rattle.std.proofs.lemmas.Slice.Eq.{bytes_eq-Decides}
-use Rattle.mk_never.specs.Types.{kinds_of}
-use Rattle.mk_script.specs.declared.items.At.{At}
-use Rattle.mk_script.specs.declared.items.TypeWord.{TypeWord}
-use Rattle.mk_script.specs.declared.items.Item.{Item}
-use Rattle.mk_script.specs.declared.items.Item.TheVariants.{TypeLine, Global, Ptr}
-use Rattle.mk_script.specs.Scopes.{type_names, global_names, pointer_names}
-use Rattle.mk_check.specs.Typing.{type_words, global_type, pointer_at}
-use Rattle.mk_check.specs.Declarations.{number_of_name, kind_of, kinds_among, globals_among}
+use Rattle.mk_check.proofs.Vocabulary.{At, Bool, Item, List, Some, TypeWord, ℕ, ap, arith, bytes_eq, bytes_eq-Decides}
+use Rattle.mk_check.proofs.Vocabulary.{false, get_or, global_names, global_type, globals_among, if◌then◌else◌, kind_of}
+use Rattle.mk_check.proofs.Vocabulary.{kinds_among, kinds_of, length, map, number_of_name, pointer_at, pointer_names}
+use Rattle.mk_check.proofs.Vocabulary.{refl, same_Some, slice_get, suc, sym, true, type_names, type_words, [], ◌+◌, ◌<◌}
+use Rattle.mk_check.proofs.Vocabulary.{◌∙◌, ◌∷◌, ◌≡◌}
+use Rattle.mk_script.specs.declared.items.Item.TheVariants.{Global, Ptr, TypeLine}
 
 -- the name at its place
 at_place : (name : List ℕ) (names : List (List ℕ)) → number_of_name name names < length names

@@ -1,29 +1,21 @@
 -- A caller's registers hold what its script declares them for, and its typed lines keep them so.
-use Rattle.std.proofs.Common.{◌≡◌, ℕ, ◌+◌, ◌*◌, ◌<◌, List, length, map, get_or, Option, Some, None, refl, ap, sym}
-use Rattle.std.proofs.Common.{subst, ◌∙◌, arith}
-use Rattle.std.specs.Prelude.{IfSome, option_map, slice_get}
-use Rattle.std.proofs.lemmas.List.{length-map}
-use Rattle.std.proofs.lemmas.Option.{same_Some, slice_get-map, slice_get_within, get_or_from_slice_get}
-use Rattle.mk_never.specs.declared.types.Kind.{Kind}
+use Rattle.std.proofs.lemmas.Option.{get_or_from_slice_get, slice_get-map}
+use Rattle.mk_check.proofs.Vocabulary.{At, IfSome, IsOfKind, Item, Kind, List, NeverState, None, Option, Some, TypeWord}
+use Rattle.mk_check.proofs.Vocabulary.{Value, ℕ, ap, arith, base_of, get_or, global_names, global_type, globals_of}
+use Rattle.mk_check.proofs.Vocabulary.{kind_of, kinds_of, length, length-map, map, moved_by, number_of_name, option_map}
+use Rattle.mk_check.proofs.Vocabulary.{pointer_at, pointer_names, refl, same_Some, slice_get, slice_get_within, subst}
+use Rattle.mk_check.proofs.Vocabulary.{sym, type_names, type_words, types_of, word_among, ◌*◌, ◌+◌, ◌<◌, ◌∙◌, ◌≡◌}
+use Rattle.mk_never.proofs.Edits.{exists, if_by, set_by}
+use Rattle.mk_never.specs.Admitted.{IsCaller, Meets}
+use Rattle.mk_never.specs.NeverHeap.{allocation_at, global_at, is_unmapped, moved_on, register_at, target_of}
+use Rattle.mk_never.specs.NeverHeap.{with_register, word_at, words_of}
+use Rattle.mk_never.specs.Typed.{IsSound, IsTyped, Suits, kind_in}
 use Rattle.mk_never.specs.declared.types.Kind.TheVariants.{Num as NumKind, To}
-use Rattle.mk_never.specs.declared.values.Value.{Value}
 use Rattle.mk_never.specs.declared.values.Value.TheVariants.{Null, Num, Ptr}
 use Rattle.mk_never.specs.declared.values.Target.TheVariants.{Unmapped, WordOf}
-use Rattle.mk_never.specs.Types.{kinds_of}
-use Rattle.mk_never.specs.NeverHeap.{NeverState, register_at, allocation_at, global_at, words_of, word_at}
-use Rattle.mk_never.specs.NeverHeap.{with_register, is_unmapped, target_of, moved_on}
-use Rattle.mk_never.specs.Admitted.{IsCaller, Meets, IsOfKind}
-use Rattle.mk_never.specs.Typed.{IsSound, Suits, kind_in, IsTyped}
-use Rattle.mk_never.proofs.Edits.{if_by, set_by, exists}
-use Rattle.mk_script.specs.declared.items.At.{At}
-use Rattle.mk_script.specs.declared.items.TypeWord.{TypeWord}
-use Rattle.mk_script.specs.declared.items.TypeWord.TheVariants.{Pointer}
-use Rattle.mk_script.specs.declared.items.Item.{Item}
-use Rattle.mk_script.specs.Scopes.{type_names, global_names, pointer_names}
-use Rattle.mk_check.specs.Typing.{type_words, global_type, pointer_at, moved_by, word_among, base_of}
-use Rattle.mk_check.specs.Declarations.{number_of_name, kind_of, types_of, globals_of}
-use Rattle.mk_check.proofs.DeclaredPlaces.{same_place, pointer_within, type_place, global_place}
+use Rattle.mk_check.proofs.DeclaredPlaces.{global_place, pointer_within, same_place, type_place}
 use Rattle.mk_check.proofs.TypedLines.{PointsBefore}
+use Rattle.mk_script.specs.declared.items.TypeWord.TheVariants.{Pointer}
 
 -- what a register that is declared for this place holds
 abbrev pub kind_at : List Item → At → Kind

@@ -1,15 +1,10 @@
 -- The first fault, as lines are read one by one.
-use Rattle.std.proofs.Common.{◌≡◌, ℕ, ◌+◌, ◌<◌, cond, List, ◌∷◌, take, drop, length, get_or, Option, Some, None}
-use Rattle.std.proofs.Common.{count_by, refl, ◌∙◌, arith}
-use Rattle.std.specs.Prelude.{IfOk, Result, Ok, Err}
-use Rattle.std.proofs.lemmas.List.Recursion.{is_count_by}
-use Rattle.std.proofs.lemmas.List.{drop_more, take_more}
-use Rattle.mk_script.specs.declared.items.Item.{Item}
+use Rattle.std.proofs.{Common.IfOk, Common.cond, Common.count_by, lemmas.List.Recursion.is_count_by}
+use Rattle.mk_check.proofs.Vocabulary.{Err, Item, List, None, Ok, Option, Result, Some, TypeKind, ℕ, arith, around}
+use Rattle.mk_check.proofs.Vocabulary.{at_line, drop, drop_more, fault_from, get_or, is_script, length, refl}
+use Rattle.mk_check.proofs.Vocabulary.{script_names, take, take_more, typing_fault, ◌+◌, ◌<◌, ◌∙◌, ◌∷◌, ◌≡◌}
+use Rattle.mk_check.specs.Lookups.{Reading}
 use Rattle.mk_script.specs.declared.items.Item.TheVariants.{Script}
-use Rattle.mk_script.specs.Scopes.{is_script, script_names}
-use Rattle.mk_check.specs.declared.typing_faults.TypeKind.{TypeKind}
-use Rattle.mk_check.specs.Lookups.{Reading, around}
-use Rattle.mk_check.specs.Typing.{at_line, typing_fault, fault_from}
 
 pub IfOk-map : {T E : Type 0} {P Q : T → Type 0} (r : Result T E) → ((x : T) → P x → Q x) → IfOk r P → IfOk r Q
 IfOk-map (Ok x) f p = f x p

@@ -1,15 +1,11 @@
 -- A script that is fed with one more answer.
-use Rattle.std.proofs.Common.{◌≡◌, ℕ, Bool, true, false, IsTrue, List, [], ◌∷◌, ◌++◌, refl, ap, ◌∙◌}
-use Rattle.std.specs.Prelude.{Option, Some, ◌↔◌, is_some, IsNone}
-use Rattle.mk_never.specs.declared.operations.Op.{Op}
-use Rattle.mk_core.specs.declared.events.Answer.{Answer}
-use Rattle.mk_core.specs.Decided.{flagged}
-use Rattle.mk_script.specs.declared.items.Item.{Item}
-use Rattle.mk_check.specs.Blocks.{Blocks, Done, Line, Rounds, Choice, is_end_of_block, script_of}
-use Rattle.mk_check.specs.Feed.{Scope, Fed, op_of, with_answer, note, take_answer, take_answers, fed_before_answers}
-use Rattle.mk_check.specs.Feed.{feed, has_ended}
-use Rattle.mk_check.specs.Feeding.{FeedState, FeedStandsFor, IsWaiting, first_op, script_scope, next_op}
-use Rattle.mk_check.proofs.Numbered.{run_agrees, ops-with_answer}
+use Rattle.std.proofs.Common.{IsNone, IsTrue, ◌↔◌}
+use Rattle.mk_check.proofs.Vocabulary.{Answer, Blocks, Bool, Choice, Done, Fed, FeedStandsFor, FeedState, IsWaiting}
+use Rattle.mk_check.proofs.Vocabulary.{Item, Line, List, Op, Option, Rounds, Scope, Some, ℕ, ap, false}
+use Rattle.mk_check.proofs.Vocabulary.{fed_before_answers, feed, first_op, flagged, is_end_of_block, is_some, next_op}
+use Rattle.mk_check.proofs.Vocabulary.{note, op_of, refl, script_of, script_scope, take_answer, take_answers, true}
+use Rattle.mk_check.proofs.Vocabulary.{with_answer, [], ◌++◌, ◌∙◌, ◌∷◌, ◌≡◌}
+use Rattle.mk_check.{proofs.Numbered.ops-with_answer, proofs.Numbered.run_agrees, specs.Feed.has_ended}
 
 pub take_answers_push : (scope : Scope) (fed : Fed) (answers : List Answer) (a : Answer)
     → take_answers scope fed (answers ++ a ∷ [])

@@ -1,23 +1,14 @@
 -- The blocks of a script of a text are few that stand in one another.
-use Rattle.std.proofs.Common.{◌≡◌, ℕ, zero, suc, ◌+◌, ◌-◌, ◌≤◌, max, List, [], ◌∷◌, ◌++◌, length, refl, ap, subst}
-use Rattle.std.proofs.Common.{arith}
-use Rattle.std.specs.Prelude.{None}
-use Rattle.std.proofs.lemmas.List.Sums.{fold_push}
-use Rattle.mk_script.specs.declared.items.Item.{Item}
-use Rattle.mk_script.specs.declared.items.Item.TheVariants.{Script, Repeat, If, Else, End}
-use Rattle.mk_script.specs.declared.faults.Which.TheVariants as which
-use Rattle.mk_script.specs.declared.scope.OpenBlock.{OpenBlock}
-use Rattle.mk_script.specs.Scopes.{behind_else, behind_end, open_behind, open_blocks}
-use Rattle.mk_script.specs.Lines.{limit_fault}
-use Rattle.mk_script.specs.Grammar.{IsOfSomeText}
-use Rattle.mk_script.proofs.PassedLines.{ArePassed, is_whole}
-use Rattle.mk_check.specs.Blocks.{Blocks, Done, Line, Rounds, Choice, Part, branch, no_lines, blocks_from, parts_from}
-use Rattle.mk_check.specs.Blocks.{before_next_script, outermost_blocks, script_from, script_of, with_else, with_if}
-use Rattle.mk_check.specs.Blocks.{with_line, with_repeat}
-use Rattle.mk_check.specs.Feed.{Scope}
-use Rattle.mk_check.specs.Steps.{numbered}
-use Rattle.mk_check.specs.Trees.{depth_of}
+use Rattle.mk_check.proofs.Vocabulary.{ArePassed, Blocks, Choice, Done, Item, Line, List, None, Part, Rounds, Scope}
+use Rattle.mk_check.proofs.Vocabulary.{Which, ℕ, ap, arith, before_next_script, blocks_from, branch, depth_of}
+use Rattle.mk_check.proofs.Vocabulary.{fold_push, is_whole, length, limit_fault, max, numbered, outermost_blocks}
+use Rattle.mk_check.proofs.Vocabulary.{parts_from, refl, script_from, script_of, subst, suc, with_line, zero, [], ◌++◌}
+use Rattle.mk_check.proofs.Vocabulary.{◌+◌, ◌-◌, ◌∷◌, ◌≡◌, ◌≤◌}
 use Rattle.mk_check.proofs.GrammarLemmas.{at_most-None}
+use Rattle.mk_check.specs.Blocks.{with_else, with_if, with_repeat}
+use Rattle.mk_script.specs.Scopes.{behind_else, behind_end, open_behind, open_blocks}
+use Rattle.mk_script.specs.declared.items.Item.TheVariants.{Else, End, If, Repeat, Script}
+use Rattle.mk_script.specs.{Grammar.IsOfSomeText, declared.scope.OpenBlock.OpenBlock}
 
 abbrev depth : Blocks → ℕ
 depth Done = 0
@@ -97,9 +88,9 @@ few_open : (before : List Item) (item : Item) → limit_fault before item ≡ No
     → opened (before ++ item ∷ []) ≤ 32
 few_open before (Script name) limit h = omega (arith, opened_push before (Script name))
 few_open before (Repeat rounds) limit h =
-    omega (arith, opened_push before (Repeat rounds), at_most-None (opened before + 1) 32 which.Depth limit)
+    omega (arith, opened_push before (Repeat rounds), at_most-None (opened before + 1) 32 Which.Depth limit)
 few_open before (If number) limit h =
-    omega (arith, opened_push before (If number), at_most-None (opened before + 1) 32 which.Depth limit)
+    omega (arith, opened_push before (If number), at_most-None (opened before + 1) 32 Which.Depth limit)
 few_open before Else limit h = omega (arith, opened_push before Else, length-behind_else (open_blocks before))
 few_open before End limit h = omega (arith, opened_push before End, length-behind_end (open_blocks before))
 few_open before item limit h = omega (arith, opened_push before item)

@@ -1,22 +1,11 @@
 -- A program of a text declares few registers in a script, and few globals.
-use Rattle.std.proofs.Common.{◌≡◌, ℕ, zero, suc, ◌+◌, ◌≤◌, Bool, true, false, List, [], ◌∷◌, ◌++◌, length, refl, ap}
-use Rattle.std.proofs.Common.{◌∙◌}
-use Rattle.std.proofs.Common.{if◌then◌else◌, arith}
-use Rattle.std.specs.Prelude.{None}
-use Rattle.std.proofs.lemmas.List.{append_assoc}
-use Rattle.std.proofs.lemmas.List.Sums.{fold_push}
-use Rattle.mk_script.specs.declared.items.At.{At}
-use Rattle.mk_script.specs.declared.items.Item.{Item}
-use Rattle.mk_script.specs.declared.items.Item.TheVariants.{Global, Num, Script, Ptr}
-use Rattle.mk_script.specs.declared.faults.Which.TheVariants as which
-use Rattle.mk_script.specs.Scopes.{global_names, number_names, pointer_names, is_script, this_script}
-use Rattle.mk_script.specs.Lines.{limit_fault}
-use Rattle.mk_script.proofs.PassedLines.{ArePassed, is_whole}
+use Rattle.mk_check.proofs.Vocabulary.{ArePassed, Bool, HasFew, Item, List, None, Which, ℕ, ap, append_assoc, arith}
+use Rattle.mk_check.proofs.Vocabulary.{before_next_script, false, fold_push, global_names, if◌then◌else◌, is_script}
+use Rattle.mk_check.proofs.Vocabulary.{is_whole, length, limit_fault, number_names, pointer_names, refl, script_from}
+use Rattle.mk_check.proofs.Vocabulary.{script_scope, suc, this_script, true, zero, [], ◌++◌, ◌+◌, ◌∙◌, ◌∷◌, ◌≡◌, ◌≤◌}
 use Rattle.mk_check.proofs.GrammarLemmas.{at_most-None}
+use Rattle.mk_script.specs.declared.items.Item.TheVariants.{Global, Num, Ptr, Script}
 use Rattle.mk_script.specs.Grammar.{IsOfSomeText}
-use Rattle.mk_check.specs.Blocks.{before_next_script, script_from}
-use Rattle.mk_check.specs.NamesInScope.{HasFew}
-use Rattle.mk_check.specs.Feeding.{script_scope}
 
 this_script_push : (before : List Item) (item : Item)
     → this_script (before ++ item ∷ []) ≡ (if is_script item then [] else this_script before ++ item ∷ [])
@@ -107,12 +96,12 @@ globals-append (item ∷ xs) ys = omega (arith, globals-append xs ys)
 
 pointer_fits : (before : List Item) (item : Item) → limit_fault before item ≡ None
     → pointers (this_script before) ≤ 8 → pointers (this_script before) + pointers (item ∷ []) ≤ 8
-pointer_fits before (Ptr name at) limit h = at_most-None (pointers (this_script before) + 1) 8 which.Pointers limit
+pointer_fits before (Ptr name at) limit h = at_most-None (pointers (this_script before) + 1) 8 Which.Pointers limit
 pointer_fits before item limit h = omega arith
 
 number_fits : (before : List Item) (item : Item) → limit_fault before item ≡ None → numbers (this_script before) ≤ 8
     → numbers (this_script before) + numbers (item ∷ []) ≤ 8
-number_fits before (Num name) limit h = at_most-None (numbers (this_script before) + 1) 8 which.Numbers limit
+number_fits before (Num name) limit h = at_most-None (numbers (this_script before) + 1) 8 Which.Numbers limit
 number_fits before item limit h = omega arith
 
 globals_are_few : (before more : List Item) → ArePassed before more → globals before ≤ 64
@@ -120,7 +109,7 @@ globals_are_few : (before more : List Item) → ArePassed before more → global
 globals_are_few before [] limited h = omega (arith, globals-append before [])
 globals_are_few before (Global name ty ∷ more) limited h =
     let e = globals-append before (Global name ty ∷ []) in
-    let f = at_most-None (globals before + 1) 64 which.Globals limited.0.within in
+    let f = at_most-None (globals before + 1) 64 Which.Globals limited.0.within in
     let g = ap globals (append_assoc before (Global name ty ∷ []) more) in
     omega (arith, globals_are_few (before ++ Global name ty ∷ []) more limited.1 (omega arith))
 globals_are_few before (item ∷ more) limited h =

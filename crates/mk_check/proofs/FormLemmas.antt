@@ -1,30 +1,23 @@
 -- A type has a word.
-use Rattle.std.proofs.Common.{◌≡◌, ℕ, suc, ◌≤◌, Bool, true, false, List, [], ◌∷◌, length, replicate, Option, Some, None}
-use Rattle.std.proofs.Common.{option_map, unwrap_or, Result, Ok, Err, refl, ap, sym, ◌∙◌, subst, arith}
-use Rattle.std.specs.Prelude.{if◌then◌else◌, nat_le, ◌&&◌, ◌==◌, is_some, option_and_then}
-use Rattle.std.proofs.lemmas.List.{length-append, length-replicate}
-use Rattle.std.proofs.lemmas.Bool.{false≢true, leb-true}
-use Rattle.std.specs.List.{list_all}
-use Rattle.std.specs.Result.{result_ok}
-use Rattle.mk_script.specs.declared.items.At.{At}
-use Rattle.mk_script.specs.declared.items.TypeWord.{TypeWord}
-use Rattle.mk_script.specs.declared.items.TypeWord.TheVariants.{Number, Pointer}
-use Rattle.mk_script.specs.declared.items.Item.{Item}
-use Rattle.mk_script.specs.declared.items.Item.TheVariants.{TypeLine as TypeItem}
-use Rattle.mk_script.specs.declared.keywords.Keyword.{Keyword}
-use Rattle.mk_script.specs.declared.keywords.Keyword.TheVariants.{Heap, TypeLine, Global, Script, Ptr, Num, New, Free}
-use Rattle.mk_script.specs.declared.keywords.Keyword.TheVariants.{Getn, Setn, Getp, Setp, Casp, Lea, Move, Clear, Loadg}
-use Rattle.mk_script.specs.declared.keywords.Keyword.TheVariants.{Storeg, Same, Isnull, Show, Const, Add, Sub, Print}
-use Rattle.mk_script.specs.declared.keywords.Keyword.TheVariants.{Repeat, If, Else, End}
-use Rattle.mk_script.specs.declared.faults.LineFault.{LineFault}
-use Rattle.mk_script.specs.declared.faults.LineFault.TheVariants.{Text}
-use Rattle.mk_script.specs.declared.faults.TextKind.TheVariants as kind
-use Rattle.mk_script.specs.Names.{number_of_word}
-use Rattle.mk_script.specs.Keywords.{keyword_of, has_word_count}
-use Rattle.mk_script.specs.Operands.{◌>>=◌, name, at, number, numbers, number_field, pointer_field, field_of, fields_of}
-use Rattle.mk_script.specs.Operands.{have_form, item_from}
-use Rattle.mk_script.specs.Lines.{line_item, other_line, placed_item, is_placed}
+use Rattle.std.proofs.Common.{leb-true, nat_le, option_and_then}
+use Rattle.std.specs.{List.list_all, Result.result_ok}
+use Rattle.mk_check.proofs.Vocabulary.{At, Bool, Err, Item, List, None, Ok, Option, Result, Some, TypeWord, ℕ, ap}
+use Rattle.mk_check.proofs.Vocabulary.{arith, false, false≢true, if◌then◌else◌, is_some, length, length-append}
+use Rattle.mk_check.proofs.Vocabulary.{length-replicate, option_map, refl, replicate, subst, suc, sym, true, unwrap_or}
+use Rattle.mk_check.proofs.Vocabulary.{[], ◌&&◌, ◌==◌, ◌∙◌, ◌∷◌, ◌≡◌, ◌≤◌}
 use Rattle.mk_check.proofs.GrammarLemmas.{Err≢Ok, and-true, heap_line-item}
+use Rattle.mk_script.specs.Lines.{is_placed, line_item, other_line, placed_item}
+use Rattle.mk_script.specs.Names.{number_of_word}
+use Rattle.mk_script.specs.Operands.{at, field_of, fields_of, have_form, item_from, name, number, number_field, numbers}
+use Rattle.mk_script.specs.Operands.{pointer_field, ◌>>=◌}
+use Rattle.mk_script.specs.declared.items.TypeWord.TheVariants.{Number, Pointer}
+use Rattle.mk_script.specs.declared.keywords.Keyword.TheVariants.{Add, Casp, Clear, Const, Else, End, Free, Getn, Getp}
+use Rattle.mk_script.specs.declared.keywords.Keyword.TheVariants.{Global, Heap, If, Isnull, Lea, Loadg, Move, New, Num}
+use Rattle.mk_script.specs.declared.keywords.Keyword.TheVariants.{Print, Ptr, Repeat, Same, Script, Setn, Setp, Show}
+use Rattle.mk_script.specs.declared.keywords.Keyword.TheVariants.{Storeg, Sub, TypeLine}
+use Rattle.mk_script.specs.{Keywords.has_word_count, Keywords.keyword_of, declared.faults.LineFault.LineFault}
+use Rattle.mk_script.specs.{declared.faults.LineFault.TheVariants.Text, declared.faults.TextKind.TextKind}
+use Rattle.mk_script.specs.{declared.items.Item.TheVariants.TypeLine as TypeItem, declared.keywords.Keyword.Keyword}
 
 -- The words of a field, where it has a form.
 
@@ -146,7 +139,7 @@ form-word : (form : Keyword) (operands : List (List ℕ)) (t : List ℕ) (words 
     → has_word_count form (length operands) ≡ true → have_form form operands ≡ true
     → item_from form operands ≡ Ok (TypeItem t words) → 1 ≤ length words
 unfolding item_from
-form-word TypeLine [] t words two forms h = absurd (Err≢Ok (Text kind.Word) (TypeItem t words) h)
+form-word TypeLine [] t words two forms h = absurd (Err≢Ok (Text TextKind.Word) (TypeItem t words) h)
 form-word TypeLine (first ∷ fields) t words two forms h =
     subst (λ ws. 1 ≤ length ws) (type_from (name first) fields t words h) (fields-word fields two forms)
 form-word form operands t words two forms h = absurd (false≢true (sym (other_form form operands refl) ∙ ap is_type h))
@@ -158,10 +151,10 @@ if-Ok-both false r e x h = absurd (Err≢Ok e x h)
 
 placed-word : (before : List Item) (form : Option Keyword) (operands : List (List ℕ)) (t : List ℕ)
     (words : List TypeWord) → placed_item before form operands ≡ Ok (TypeItem t words) → 1 ≤ length words
-placed-word before None operands t words h = absurd (Err≢Ok (Text kind.Word) (TypeItem t words) h)
+placed-word before None operands t words h = absurd (Err≢Ok (Text TextKind.Word) (TypeItem t words) h)
 placed-word before (Some form) operands t words h =
     let both = if-Ok-both (has_word_count form (length operands) && have_form form operands && is_placed before form)
-    (item_from form operands) (Text kind.Word) (TypeItem t words) h in
+    (item_from form operands) (Text TextKind.Word) (TypeItem t words) h in
     let fits = and-true (has_word_count form (length operands)
     && have_form form operands) (is_placed before form) both.0
     in
@@ -170,7 +163,7 @@ placed-word before (Some form) operands t words h =
 
 other_line-word : (before : List Item) (words : List (List ℕ)) (t : List ℕ) (kinds : List TypeWord)
     → other_line before words ≡ Ok (TypeItem t kinds) → 1 ≤ length kinds
-other_line-word before [] t kinds h = absurd (Err≢Ok (Text kind.Word) (TypeItem t kinds) h)
+other_line-word before [] t kinds h = absurd (Err≢Ok (Text TextKind.Word) (TypeItem t kinds) h)
 other_line-word before (word ∷ operands) t kinds h = placed-word before (keyword_of word) operands t kinds h
 
 -- a type that a line says has a word

@@ -1,44 +1,28 @@
 -- What a script was given after a history, with one event more.
-use Rattle.std.proofs.Common.{◌≡◌, ◌≢◌, ℕ, zero, suc, ◌+◌, ◌<◌, ◌≤◌, eq-eqb, Bool, true, false, List, [], ◌∷◌, ◌++◌}
-use Rattle.std.proofs.Common.{length, take, map, get_or, set, replicate, refl, sym, ◌∙◌, ap, subst, append-nil}
-use Rattle.std.proofs.Common.{append_assoc, arith, inl, inr}
-use Rattle.std.specs.Prelude.{Option, Some, None, if◌then◌else◌, ◌==◌, ◌&&◌, filter}
-use Rattle.std.specs.List.{slice_get, cons_option}
-use Rattle.std.specs.Option.{option_or}
-use Rattle.std.proofs.lemmas.Bool.{cases_eq, ltb-true}
-use Rattle.std.proofs.lemmas.Bool.Decides.{nat_tests}
-use Rattle.std.proofs.lemmas.List.{map-append, length-append, length-take, length-set, length-replicate, take-append-le}
-use Rattle.std.proofs.lemmas.List.{take_more, get_or-set_same, get_or-set_other}
+use Rattle.std.proofs.lemmas.List.Sums.{count_by-le-length, sum_by-cons, sum_by_push}
 use Rattle.std.proofs.lemmas.Option.{slice_get-get_or, slice_get_past}
-use Rattle.std.proofs.lemmas.List.Elements.{filter-append}
-use Rattle.std.proofs.lemmas.List.Sums.{sum_by-cons, sum_by_push, count_by-le-length}
-use Rattle.mk_never.specs.declared.operations.Op.{Op}
-use Rattle.mk_core.specs.declared.config.Config.{Config}
-use Rattle.mk_core.specs.declared.events.Answer.{Answer}
-use Rattle.mk_core.specs.declared.events.Answer.TheVariants as answer
-use Rattle.mk_core.specs.declared.events.Seat.{Seat}
-use Rattle.mk_core.specs.declared.events.Seat.TheVariants.{Caller, Marker, Host}
-use Rattle.mk_core.specs.declared.events.Step.{Step}
-use Rattle.mk_core.specs.declared.events.Step.TheVariants as step
-use Rattle.mk_core.specs.declared.events.Event.{Event}
-use Rattle.mk_core.specs.declared.seats.Stage.{Stage}
-use Rattle.mk_core.specs.declared.seats.Stage.TheVariants as stage
-use Rattle.mk_core.specs.declared.seats.Flight.{Flight}
-use Rattle.mk_core.specs.declared.seats.Progress.{Progress}
-use Rattle.mk_core.specs.Calls.{at_rest}
-use Rattle.mk_core.specs.Accesses.{found}
-use Rattle.mk_core.specs.Decided.{Decided, entry_of}
-use Rattle.mk_core.specs.Enabled.{IsEnabled}
-use Rattle.mk_core.specs.Effects.{progress, flights_behind, answer_decided}
-use Rattle.mk_core.specs.Growing.{is_same_seat}
-use Rattle.mk_core.specs.Moments.{Moment, flight_of}
-use Rattle.mk_core.specs.History.{World, first_world, world_behind, left_from, left, AreEnabledFrom, AreEnabled}
-use Rattle.mk_core.specs.History.{call_decided, calls_from, calls}
-use Rattle.mk_core.proofs.Conditions.{enabled_meets}
+use Rattle.std.proofs.{Common.eq-eqb, Common.filter, Common.get_or-set_other, Common.get_or-set_same, Common.length-set}
+use Rattle.std.proofs.{Common.length-take, Common.ltb-true, Common.set, Common.◌≢◌, lemmas.Bool.cases_eq}
+use Rattle.std.proofs.{lemmas.Bool.Decides.nat_tests, lemmas.List.take-append-le, lemmas.List.Elements.filter-append}
+use Rattle.std.specs.List.{cons_option, slice_get}
+use Rattle.mk_check.proofs.Vocabulary.{Answer, Bool, Config, List, None, Op, Option, Some, ℕ, ap, append-nil}
+use Rattle.mk_check.proofs.Vocabulary.{append_assoc, arith, false, get_or, if◌then◌else◌, inl, inr, length}
+use Rattle.mk_check.proofs.Vocabulary.{length-append, length-replicate, map, map-append, option_or, refl, replicate}
+use Rattle.mk_check.proofs.Vocabulary.{subst, suc, sym, take, take_more, true, zero, [], ◌&&◌, ◌++◌, ◌+◌, ◌<◌, ◌==◌}
+use Rattle.mk_check.proofs.Vocabulary.{◌∙◌, ◌∷◌, ◌≡◌, ◌≤◌}
 use Rattle.mk_core.proofs.Histories.{calls_more, enabled_parts, last_enabled}
-use Rattle.mk_check.specs.Output.{ends_call, ends_call_of, ended_calls, answers_among, answers_given, answer_waiting}
-use Rattle.mk_check.specs.Output.{EndedCallsAreAnswered}
-use Rattle.mk_check.proofs.DecidedStages.{has_stage, pending, count, Goes, goes, ends}
+use Rattle.mk_core.proofs.Conditions.{enabled_meets}
+use Rattle.mk_core.specs.Decided.{Decided, entry_of}
+use Rattle.mk_core.specs.History.{AreEnabled, AreEnabledFrom, World, call_decided, calls, calls_from, first_world, left}
+use Rattle.mk_core.specs.History.{left_from, world_behind}
+use Rattle.mk_core.specs.declared.events.Seat.TheVariants.{Caller, Host, Marker}
+use Rattle.mk_core.specs.{Accesses.found, Calls.at_rest, Effects.answer_decided, Effects.flights_behind}
+use Rattle.mk_core.specs.{Effects.progress, Enabled.IsEnabled, Growing.is_same_seat, Moments.Moment, Moments.flight_of}
+use Rattle.mk_core.specs.{declared.events.Event.Event, declared.events.Seat.Seat, declared.events.Step.Step}
+use Rattle.mk_core.specs.{declared.seats.Flight.Flight, declared.seats.Progress.Progress, declared.seats.Stage.Stage}
+use Rattle.mk_check.proofs.DecidedStages.{Goes, count, ends, goes, has_stage, pending}
+use Rattle.mk_check.specs.Output.{EndedCallsAreAnswered, answer_waiting, answers_among, answers_given, ended_calls}
+use Rattle.mk_check.specs.Output.{ends_call, ends_call_of}
 
 abbrev pub as_list : Option Answer → List Answer
 as_list a = cons_option a []
@@ -88,12 +72,12 @@ among_others k j o None ne = refl
 -- a caller's last step leaves it at rest, and decides nothing
 last_rests : (c : Config) (m : Moment) (f : Flight) (found : ℕ) (x : Step) → ends_call x ≡ true
     → progress c m f found x ≡ record { flight = at_rest; answer = None }
-last_rests c m f found step.Leave h = refl
-last_rests c m f found step.Give h = refl
+last_rests c m f found Step.Leave h = refl
+last_rests c m f found Step.Give h = refl
 last_rests c m f found _ h = cc
 
 few_pending : (s : Stage) → pending s ≤ 1
-few_pending stage.Put = omega arith
+few_pending Stage.Put = omega arith
 few_pending _ = omega arith
 
 pending_behind : (n p p' k : ℕ) (a : Option Answer) → k ≡ n + p → p' ≡ p + count a → k + length (as_list a) ≡ n + p'
@@ -290,8 +274,8 @@ given_case : (answers : List Answer) (n : ℕ) (a : Option Answer) (mine last : 
     ≡ take n answers ++ given_by mine last a (slice_get answers n)
 given_case answers n a true true few l =
     let lt : n < length answers = (let e = (l refl).1 in omega arith) in
-    let waits = slice_get-get_or answers n answer.Done lt in
-    rw ((l refl).0, append-nil answers, waits) (take_more answers n answer.Done lt)
+    let waits = slice_get-get_or answers n Answer.Done lt in
+    rw ((l refl).0, append-nil answers, waits) (take_more answers n Answer.Done lt)
 given_case answers n a true false few l = take-append-le n answers (as_list a) few ∙ sym (append-nil (take n answers))
 given_case answers n a false last few l = ap (take n) (append-nil answers) ∙ sym (append-nil (take n answers))
 

@@ -1,27 +1,18 @@
 -- Limits that the lines of a program of some text keep.
-use Rattle.std.proofs.Common.{◌≡◌, ℕ, ◌+◌, ◌-◌, ◌^◌, ◌≤◌, min, Bool, true, false, List, [], ◌∷◌, ◌++◌, length, Option}
-use Rattle.std.proofs.Common.{Some, None, Result, Ok, Err, refl, ap, sym, ◌∙◌, subst, arith}
-use Rattle.std.specs.Prelude.{if◌then◌else◌, nat_le, is_ok, is_some, ◌&&◌}
-use Rattle.std.proofs.lemmas.List.{append_assoc, append-nil, length-append}
-use Rattle.std.proofs.lemmas.Bool.{false≢true, leb-true}
-use Rattle.std.specs.Option.{option_or}
-use Rattle.mk_script.specs.declared.items.Item.{Item}
-use Rattle.mk_script.specs.declared.items.Item.TheVariants.{Global, Heap, TypeLine, Script}
-use Rattle.mk_script.specs.declared.faults.TextKind.TheVariants.{Header}
-use Rattle.mk_script.specs.declared.faults.Which.TheVariants as which
-use Rattle.mk_script.specs.declared.faults.LineFault.{LineFault}
-use Rattle.mk_script.specs.declared.faults.LineFault.TheVariants.{Text, Limit}
-use Rattle.mk_script.specs.declared.faults.Which.{Which}
-use Rattle.std.specs.Str.{bytes_eq}
-use lib.Chars.{codes}
-use Rattle.mk_script.specs.declared.keywords.Keyword.TheVariants as keyword
-use Rattle.mk_script.specs.Operands.{◌>>=◌, item_from, number}
-use Rattle.mk_script.specs.Scopes.{global_names, type_names, script_names}
-use Rattle.mk_script.proofs.PassedLines.{ArePassed, IsWhole}
-use Rattle.mk_script.specs.Lines.{at_most, within, limit_fault, heap_line, has_script}
+use Rattle.std.proofs.Common.{codes, is_ok, leb-true, min, nat_le, ◌^◌}
+use Rattle.mk_check.proofs.Vocabulary.{ArePassed, Bool, Err, Item, List, None, Ok, Option, Result, Some, Which, ℕ, ap}
+use Rattle.mk_check.proofs.Vocabulary.{append-nil, append_assoc, arith, bytes_eq, false, false≢true, global_names}
+use Rattle.mk_check.proofs.Vocabulary.{if◌then◌else◌, is_some, length, length-append, limit_fault, option_or, pages_of}
+use Rattle.mk_check.proofs.Vocabulary.{refl, resident_of, script_names, subst, sym, true, type_names, [], ◌&&◌, ◌++◌}
+use Rattle.mk_check.proofs.Vocabulary.{◌+◌, ◌-◌, ◌∙◌, ◌∷◌, ◌≡◌, ◌≤◌}
 use Rattle.mk_core.specs.Config.{IsBetween}
-use Rattle.mk_check.specs.Declarations.{pages_of, resident_of}
 use Rattle.mk_check.proofs.NumberLemmas.{length-global_names-append, type_names-append}
+use Rattle.mk_script.proofs.PassedLines.{IsWhole}
+use Rattle.mk_script.specs.Lines.{at_most, has_script, heap_line, within}
+use Rattle.mk_script.specs.declared.faults.LineFault.TheVariants.{Limit, Text}
+use Rattle.mk_script.specs.declared.items.Item.TheVariants.{Global, Heap, Script, TypeLine}
+use Rattle.mk_script.specs.{Operands.item_from, Operands.number, Operands.◌>>=◌, declared.faults.LineFault.LineFault}
+use Rattle.mk_script.specs.{declared.faults.TextKind.TheVariants.Header, declared.keywords.Keyword.Keyword}
 
 pub Err≢Ok : {T E : Type 0} (e : E) (x : T) → Err e ≡ Ok x → ⊥
 Err≢Ok e x h = false≢true (ap is_ok h)
@@ -75,7 +66,7 @@ globals-keep before (Global name ty) within h =
     omega (
       arith,
       length-global_names-append before (Global name ty ∷ []),
-      at_most-None (length (global_names before) + 1) 64 which.Globals within,
+      at_most-None (length (global_names before) + 1) 64 Which.Globals within,
     )
 globals-keep before item within h = omega (arith, length-global_names-append before (item ∷ []))
 
@@ -86,9 +77,9 @@ length-global_names items program = bound (λ xs. length (global_names xs)) 64 g
 types-keep : (before : List Item) (item : Item) → limit_fault before item ≡ None → length (type_names before) ≤ 64
     → length (type_names (before ++ item ∷ [])) ≤ 64
 types-keep before (TypeLine name words) within h =
-    let most = at_most-None (length (type_names before) + 1) 64 which.Types
-    (option_or-None (at_most (length (type_names before) + 1) 64 which.Types)
-    (at_most (length words) 4096 which.Words) within).0 in
+    let most = at_most-None (length (type_names before) + 1) 64 Which.Types
+    (option_or-None (at_most (length (type_names before) + 1) 64 Which.Types)
+    (at_most (length words) 4096 Which.Words) within).0 in
     omega (
       arith,
       ap length (type_names-append before (TypeLine name words ∷ [])),
@@ -114,7 +105,7 @@ scripts-keep before (Script name) within h =
     omega (
       arith,
       length-script_names-append before (Script name ∷ []),
-      at_most-None (length (script_names before) + 1) 16 which.Scripts within,
+      at_most-None (length (script_names before) + 1) 16 Which.Scripts within,
     )
 scripts-keep before item within h = omega (arith, length-script_names-append before (item ∷ []))
 
@@ -150,14 +141,14 @@ two_numbers (Ok p) (Ok r) item h = record { pages = p; resident = r; is = sym (O
 two_numbers (Ok p) (Err fault) item h = absurd (Err≢Ok fault item h)
 two_numbers (Err fault) resident item h = absurd (Err≢Ok fault item h)
 
-item_from-heap : (a b : List ℕ) (item : Item) → item_from keyword.Heap (a ∷ b ∷ []) ≡ Ok item → IsHeapLine item
+item_from-heap : (a b : List ℕ) (item : Item) → item_from Keyword.Heap (a ∷ b ∷ []) ≡ Ok item → IsHeapLine item
 unfolding item_from
 item_from-heap a b item h = two_numbers (number a) (number b) item h
 
 pub heap_line-item : (words : List (List ℕ)) (item : Item) → heap_line words ≡ Ok item → IsHeapLine item
 heap_line-item (word ∷ a ∷ b ∷ []) item h =
     item_from-heap a b item
-    (if-Ok (bytes_eq word (codes "heap")) (item_from keyword.Heap (a ∷ b ∷ [])) (Text Header) item h)
+    (if-Ok (bytes_eq word (codes "heap")) (item_from Keyword.Heap (a ∷ b ∷ [])) (Text Header) item h)
 heap_line-item words item h = absurd (Err≢Ok (Text Header) item h)
 
 pub record IsHeapWithin (items : List Item) : Type 0 where
@@ -167,12 +158,12 @@ pub record IsHeapWithin (items : List Item) : Type 0 where
 heap_first : (item : Item) (items : List Item) → limit_fault [] item ≡ None → IsHeapLine item
     → IsHeapWithin (item ∷ items)
 heap_first item items h heap =
-    let both = option_or-None (within 1 heap.pages 4096 which.Pages) (within 1 heap.resident heap.pages which.Resident)
+    let both = option_or-None (within 1 heap.pages 4096 Which.Pages) (within 1 heap.resident heap.pages Which.Resident)
     (ap (limit_fault []) (sym heap.is) ∙ h) in
     subst (λ first. IsHeapWithin (first ∷ items)) (sym heap.is)
     (record {
-      pages = within-None 1 heap.pages 4096 which.Pages both.0;
-      resident = within-None 1 heap.resident heap.pages which.Resident both.1;
+      pages = within-None 1 heap.pages 4096 Which.Pages both.0;
+      resident = within-None 1 heap.resident heap.pages Which.Resident both.1;
     })
 
 pub heap_within : (items : List Item) → IsWhole items → IsHeapWithin items

@@ -32,3 +32,4 @@ pub mod AdmittedScripts
 mod DecidedStages
 pub mod GivenAnswers
 pub mod WrittenLines
+pub mod Vocabulary

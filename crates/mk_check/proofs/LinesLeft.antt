@@ -1,19 +1,15 @@
 -- Each line that a script has left to run is a line of the script.
-use Rattle.std.proofs.Common.{◌≡◌, ℕ, zero, suc, ◌+◌, Bool, true, false, List, [], ◌∷◌, ◌++◌, length, refl, sym, ◌∙◌}
-use Rattle.std.proofs.Common.{if◌then◌else◌, arith}
-use Rattle.std.specs.Prelude.{All, ◌==◌, Some, is_some}
-use Rattle.std.proofs.lemmas.List.{length_push, append_assoc}
 use Rattle.std.proofs.lemmas.List.Elements.{All-head, All-tail}
-use Rattle.mk_never.specs.declared.operations.Op.{Op}
-use Rattle.mk_core.specs.declared.events.Answer.{Answer}
-use Rattle.mk_script.specs.declared.items.Item.{Item}
-use Rattle.mk_script.specs.declared.items.Item.TheVariants.{Repeat, If, Else, End}
-use Rattle.mk_check.specs.Blocks.{Blocks, Done, Line, Rounds, Choice, followed_by, is_end_of_block, AllPlaced, AllLines}
-use Rattle.mk_check.specs.Blocks.{AllFrom, Part, branch, with_line, with_item, parts_from, outermost_blocks}
-use Rattle.mk_check.specs.Blocks.{blocks_from, ScriptText, script_of}
-use Rattle.mk_check.specs.Feed.{Scope, Fed, number_in, op_of, run_line, then_run, run_rounds, run, with_answer, note}
-use Rattle.mk_check.specs.Feed.{take_answer, take_answers, fed_before_lines, fed_before_answers, feed}
-use Rattle.mk_check.specs.Feeding.{first_op, script_scope, next_op}
+use Rattle.mk_check.proofs.Vocabulary.{All, Answer, Blocks, Bool, Choice, Done, Fed, Item, Line, List, Op, Part, Rounds}
+use Rattle.mk_check.proofs.Vocabulary.{Scope, ScriptText, Some, ℕ, append_assoc, arith, blocks_from, branch, false}
+use Rattle.mk_check.proofs.Vocabulary.{fed_before_answers, fed_before_lines, feed, first_op, if◌then◌else◌}
+use Rattle.mk_check.proofs.Vocabulary.{is_end_of_block, is_some, length, length_push, next_op, note, op_of}
+use Rattle.mk_check.proofs.Vocabulary.{outermost_blocks, parts_from, refl, run, script_of, script_scope, suc, sym}
+use Rattle.mk_check.proofs.Vocabulary.{take_answer, take_answers, true, with_answer, with_item, with_line, zero, []}
+use Rattle.mk_check.proofs.Vocabulary.{◌++◌, ◌+◌, ◌==◌, ◌∙◌, ◌∷◌, ◌≡◌}
+use Rattle.mk_check.specs.Blocks.{AllFrom, AllLines, AllPlaced, followed_by}
+use Rattle.mk_check.specs.Feed.{number_in, run_line, run_rounds, then_run}
+use Rattle.mk_script.specs.declared.items.Item.TheVariants.{Else, End, If, Repeat}
 
 module _ (P : ℕ → Item → Type 0) where
   -- The blocks of a script.

@@ -1,22 +1,12 @@
 -- What names stand for with one more line.
-use Rattle.std.proofs.Common.{◌≡◌, ℕ, Bool, true, false, cond, List, [], ◌∷◌, ◌++◌, Option, Some, None, Bor, refl, ap}
-use Rattle.std.proofs.Common.{sym, ◌∙◌, subst, ⊎_elim}
-use Rattle.std.specs.Prelude.{if◌then◌else◌, ◌||◌, is_some, OnOk, Result, Ok, Err}
-use Rattle.std.specs.Cmp.Lexicographic.{nat_list_eq_equiv}
-use Rattle.std.specs.Option.{option_or, option_copied}
-use Rattle.std.specs.Str.{bytes_eq}
-use Rattle.std.proofs.lemmas.Bool.{cases_Bool, false≢true}
-use Rattle.std.proofs.lemmas.List.{append-nil}
-use Rattle.std.proofs.lemmas.List.Sums.{fold-append}
-use Rattle.std.proofs.lemmas.Slice.Eq.{bytes_eq-Decides}
-use Rattle.mk_script.specs.declared.items.At.{At}
-use Rattle.mk_script.specs.declared.items.TypeWord.{TypeWord}
-use Rattle.mk_script.specs.declared.items.Item.{Item}
-use Rattle.mk_script.specs.declared.items.Item.TheVariants.{TypeLine, Global, Script, Ptr, Num}
-use Rattle.mk_script.specs.Scopes.{is_script, number_names, this_script}
-use Rattle.mk_check.specs.Typing.{type_words, global_type, pointer_at}
-use Rattle.mk_check.specs.declared.lookups.PointerRegister.{PointerRegister}
-use Rattle.mk_check.specs.Lookups.{lines_behind, first_at}
+use Rattle.std.proofs.{Common.Bor, Common.cond, lemmas.Bool.cases_Bool, lemmas.List.Sums.fold-append}
+use Rattle.std.specs.{Cmp.Lexicographic.nat_list_eq_equiv, Option.option_copied}
+use Rattle.mk_check.proofs.Vocabulary.{At, Bool, Err, Item, List, None, Ok, OnOk, Option, Result, Some, TypeWord, ℕ, ap}
+use Rattle.mk_check.proofs.Vocabulary.{append-nil, bytes_eq, bytes_eq-Decides, false, false≢true, first_at, global_type}
+use Rattle.mk_check.proofs.Vocabulary.{if◌then◌else◌, is_script, is_some, number_names, option_or, pointer_at, refl}
+use Rattle.mk_check.proofs.Vocabulary.{subst, sym, this_script, true, type_words, [], ⊎_elim, ◌++◌, ◌∙◌, ◌∷◌, ◌≡◌}
+use Rattle.mk_check.specs.{Lookups.lines_behind, declared.lookups.PointerRegister.PointerRegister}
+use Rattle.mk_script.specs.declared.items.Item.TheVariants.{Global, Num, Ptr, Script, TypeLine}
 
 -- no value, by its test
 pub None-from_is_some : {X : Type 0} (o : Option X) → is_some o ≡ false → o ≡ None

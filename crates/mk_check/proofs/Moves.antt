@@ -1,34 +1,26 @@
 -- A place that moves on keeps where its steps stop, and comes nearer to it.
-use Rattle.std.proofs.Common.{◌≡◌, ℕ, zero, suc, ◌+◌, ◌*◌, ◌<◌, ◌≤◌, Bool, true, false, List, [], ◌∷◌, ◌++◌, length}
-use Rattle.std.proofs.Common.{refl, ap, sym, ◌∙◌, subst, if◌then◌else◌, arith, inl, inr}
-use Rattle.std.specs.Prelude.{slice_index, fold, ◌==◌, is_some}
-use Rattle.std.proofs.lemmas.List.{get_or_append_left, get_or_at, length_push}
-use Rattle.std.proofs.lemmas.List.Sums.{fold_push}
-use Rattle.std.proofs.lemmas.Bool.{cases_lt}
-use Rattle.mk_check.specs.declared.feeding.instructions.Instruction.{Instruction}
-use Rattle.mk_check.specs.declared.feeding.tree.Node.{Node}
-use Rattle.mk_check.specs.declared.feeding.tree.Node.TheVariants as node
-use Rattle.mk_check.specs.declared.feeding.tree.Frame.{Frame}
-use Rattle.mk_check.specs.declared.feeding.tree.Frame.TheVariants as frame
-use Rattle.mk_check.specs.Steps.{Steps, Done, Line, Rounds, Choice, then_steps, KeptState, Stopped, op_asked}
-use Rattle.mk_check.specs.Steps.{after_line}
-use Rattle.mk_check.specs.Steps.{stop_of}
-use Rattle.mk_check.specs.Trees.{steps_at, steps_from, with_node, trees, IsBelow, node_at, IsTree, Place, frame_steps}
-use Rattle.mk_check.specs.Trees.{behind_frames, left_in, kept_in, with_kept, FrameIsWithin, FramesAreWithin}
-use Rattle.mk_check.specs.Trees.{FrameFits, FramesFit, PlaceFits, PlaceIsWithin, depth_of}
-use Rattle.mk_check.specs.Trees.{StopsAt, place_in_rounds, place_behind_block, place_in_branch, LeavesBlock, work_of}
-use Rattle.mk_check.specs.Trees.{work_in, MovesOn, HasStopped}
-use Rattle.mk_check.proofs.StepLaws.{stop_of-round, stop_of-choice_zero, stop_of-choice_other}
+use Rattle.std.proofs.Common.{fold}
+use Rattle.mk_check.proofs.Vocabulary.{Bool, Frame, FrameIsWithin, FramesAreWithin, HasStopped, Instruction, IsBelow}
+use Rattle.mk_check.proofs.Vocabulary.{IsTree, KeptState, List, MovesOn, Node, Place, PlaceFits, PlaceIsWithin, Steps}
+use Rattle.mk_check.proofs.Vocabulary.{Stopped, StopsAt, ℕ, after_line, ap, arith, cases_lt, depth_of, false, fold_push}
+use Rattle.mk_check.proofs.Vocabulary.{get_or_append_left, get_or_at, if◌then◌else◌, inl, inr, is_some, kept_in}
+use Rattle.mk_check.proofs.Vocabulary.{left_in, length, length_push, node_at, op_asked, refl, slice_index, steps_at}
+use Rattle.mk_check.proofs.Vocabulary.{steps_from, stop_of, subst, suc, sym, then_steps, trees, true, with_kept}
+use Rattle.mk_check.proofs.Vocabulary.{work_in, zero, [], ◌*◌, ◌++◌, ◌+◌, ◌<◌, ◌==◌, ◌∙◌, ◌∷◌, ◌≡◌, ◌≤◌}
+use Rattle.mk_check.proofs.StepLaws.{stop_of-choice_other, stop_of-choice_zero, stop_of-round}
+use Rattle.mk_check.specs.Trees.{FrameFits, FramesFit, LeavesBlock, behind_frames, frame_steps, place_behind_block}
+use Rattle.mk_check.specs.Trees.{place_in_branch, place_in_rounds, with_node, work_of}
+use Rattle.mk_check.specs.Steps.{Choice, Done, Line, Rounds}
 
 -- The steps from a node are those that it names.
 
 pub steps_from_same : (count : ℕ) (a b : List Steps) (n : Node) → ((j : ℕ) → j < count → steps_at a j ≡ steps_at b j)
     → IsBelow count n → steps_from a n ≡ steps_from b n
-steps_from_same count a b node.Done h below = refl
-steps_from_same count a b (node.Line line instruction next) h below = ap (Line line instruction) (h next below)
-steps_from_same count a b (node.Rounds rounds body next) h below = let e = h body below.0 in let f =
+steps_from_same count a b Node.Done h below = refl
+steps_from_same count a b (Node.Line line instruction next) h below = ap (Line line instruction) (h next below)
+steps_from_same count a b (Node.Rounds rounds body next) h below = let e = h body below.0 in let f =
     h next below.1 in cc
-steps_from_same count a b (node.Choice number first second next) h below =
+steps_from_same count a b (Node.Choice number first second next) h below =
     let e = h first below.0 in let f = h second below.1 in let g = h next below.2 in cc
 
 trees_keep : (built : List Steps) (nodes : List Node) (j : ℕ) → j < length built
@@ -67,18 +59,18 @@ steps_at-trees nodes at tree h =
     ∙ trees_behind [] nodes at (λ k g. subst (λ (c : ℕ). IsBelow c (node_at nodes k)) (omega arith) (tree k g)) h
 
 pub IsBelow-more : (few many : ℕ) (n : Node) → few ≤ many → IsBelow few n → IsBelow many n
-IsBelow-more few many node.Done h below = tt
-IsBelow-more few many (node.Line line instruction next) h below = omega arith
-IsBelow-more few many (node.Rounds rounds body next) h below = (omega arith, omega arith)
-IsBelow-more few many (node.Choice number first second next) h below = (omega arith, omega arith, omega arith)
+IsBelow-more few many Node.Done h below = tt
+IsBelow-more few many (Node.Line line instruction next) h below = omega arith
+IsBelow-more few many (Node.Rounds rounds body next) h below = (omega arith, omega arith)
+IsBelow-more few many (Node.Choice number first second next) h below = (omega arith, omega arith, omega arith)
 
 -- One more node, which names those before it.
 pub IsTree_push : (nodes : List Node) (n : Node) → IsTree nodes → IsBelow (length nodes) n → IsTree (nodes ++ n ∷ [])
 IsTree_push nodes n tree below at h = elim (cases_lt at (length nodes)) [
-  | inl lt ↦ subst (λ (m : Node). IsBelow at m) (sym (get_or_append_left nodes (n ∷ []) node.Done at lt)) (tree at lt)
+  | inl lt ↦ subst (λ (m : Node). IsBelow at m) (sym (get_or_append_left nodes (n ∷ []) Node.Done at lt)) (tree at lt)
   | inr ge ↦
       let e : length nodes ≡ at = omega (arith, length_push nodes n) in
-      subst (λ (m : Node). IsBelow at m) (sym (get_or_at nodes n [] node.Done at e))
+      subst (λ (m : Node). IsBelow at m) (sym (get_or_at nodes n [] Node.Done at e))
       (subst (λ (c : ℕ). IsBelow c n) e below)
 ]
 
@@ -139,7 +131,7 @@ module _ (nodes : List Node) where
   entered_runs p (suc more) body next k =
       let rest = then_steps (steps_at (trees nodes) next) (behind_frames (trees nodes) p.frames) in
       ap (λ (s : Steps). stop_of (then_steps (steps_at (trees nodes) body) s) k)
-      (behind_frames_push (trees nodes) p.frames (frame.Rounds more body next))
+      (behind_frames_push (trees nodes) p.frames (Frame.Rounds more body next))
       ∙ sym (stop_of-round more (steps_at (trees nodes) body) rest k)
 
   entered_nearer : (p : Place) (rounds body next : ℕ)
@@ -150,39 +142,39 @@ module _ (nodes : List Node) where
   entered_nearer p (suc more) body next =
       let rest = then_steps (steps_at (trees nodes) next) (behind_frames (trees nodes) p.frames) in
       let e = ap work_of (ap (then_steps (steps_at (trees nodes) body))
-      (behind_frames_push (trees nodes) p.frames (frame.Rounds more body next))) in
+      (behind_frames_push (trees nodes) p.frames (Frame.Rounds more body next))) in
       let f = work_of-then_steps (steps_at (trees nodes) body) (Rounds more (steps_at (trees nodes) body) rest) in
-      omega (arith, e, f, length_push p.frames (frame.Rounds more body next))
+      omega (arith, e, f, length_push p.frames (Frame.Rounds more body next))
 
   entered_within : (p : Place) (rounds body next : ℕ) → FramesAreWithin (length nodes) p.frames → body < length nodes
       → next < length nodes
       → PlaceIsWithin (length nodes) (place_in_rounds p rounds body next)
   entered_within p zero body next w b n = record { at = n; frames = w }
   entered_within p (suc more) body next w b n =
-      record { at = b; frames = FramesAreWithin_push (length nodes) p.frames (frame.Rounds more body next) w (b, n) }
+      record { at = b; frames = FramesAreWithin_push (length nodes) p.frames (Frame.Rounds more body next) w (b, n) }
 
   entered_fits : (p : Place) (rounds body next : ℕ) → FramesFit (trees nodes) 0 p.frames
-      → FrameFits (trees nodes) (length p.frames) (frame.Rounds rounds body next)
+      → FrameFits (trees nodes) (length p.frames) (Frame.Rounds rounds body next)
       → PlaceFits nodes (place_in_rounds p rounds body next)
   entered_fits p zero body next w f = record { here = f.1; frames = w }
   entered_fits p (suc more) body next w f =
-      let longer = length_push p.frames (frame.Rounds more body next) in
+      let longer = length_push p.frames (Frame.Rounds more body next) in
       let deep = f.0 in
       record {
         here = omega arith;
-        frames = FramesFit_push (trees nodes) p.frames (frame.Rounds more body next) w f;
+        frames = FramesFit_push (trees nodes) p.frames (Frame.Rounds more body next) w f;
       }
 
   -- a branch begins
   chosen_fits : (p : Place) (at next : ℕ) → FramesFit (trees nodes) 0 p.frames
       → length p.frames + 1 + depth_of (steps_at (trees nodes) at) ≤ 32
       → length p.frames + depth_of (steps_at (trees nodes) next) ≤ 32
-      → PlaceFits nodes (record p { at = at; frames = p.frames ++ frame.Branch next ∷ [] })
+      → PlaceFits nodes (record p { at = at; frames = p.frames ++ Frame.Branch next ∷ [] })
   chosen_fits p at next w inside behind =
-      let longer = length_push p.frames (frame.Branch next) in
+      let longer = length_push p.frames (Frame.Branch next) in
       record {
         here = omega arith;
-        frames = FramesFit_push (trees nodes) p.frames (frame.Branch next) w behind;
+        frames = FramesFit_push (trees nodes) p.frames (Frame.Branch next) w behind;
       }
 
   -- a node's steps are as deep as they are
@@ -194,25 +186,25 @@ module _ (nodes : List Node) where
   -- A block that begins finds room.
 
   pub rounds_find_room : (p : Place) (rounds body next : ℕ) → IsTree nodes → PlaceIsWithin (length nodes) p
-      → node_at nodes p.at ≡ node.Rounds rounds body next → PlaceFits nodes p → length p.frames < 32
+      → node_at nodes p.at ≡ Node.Rounds rounds body next → PlaceFits nodes p → length p.frames < 32
   rounds_find_room p rounds body next tree w e f =
-      let deep = depth_here p (node.Rounds rounds body next) tree w e in
+      let deep = depth_here p (Node.Rounds rounds body next) tree w e in
       let fits = f.here in
       omega arith
 
   pub choice_finds_room : (p : Place) (number first second next : ℕ) → IsTree nodes → PlaceIsWithin (length nodes) p
-      → node_at nodes p.at ≡ node.Choice number first second next → PlaceFits nodes p → length p.frames < 32
+      → node_at nodes p.at ≡ Node.Choice number first second next → PlaceFits nodes p → length p.frames < 32
   choice_finds_room p number first second next tree w e f =
-      let deep = depth_here p (node.Choice number first second next) tree w e in
+      let deep = depth_here p (Node.Choice number first second next) tree w e in
       let fits = f.here in
       omega arith
 
   -- the line after a line
   pub line_fits : (p : Place) (line : ℕ) (instruction : Instruction) (next : ℕ) → IsTree nodes
-      → PlaceIsWithin (length nodes) p → node_at nodes p.at ≡ node.Line line instruction next → PlaceFits nodes p
+      → PlaceIsWithin (length nodes) p → node_at nodes p.at ≡ Node.Line line instruction next → PlaceFits nodes p
       → PlaceFits nodes (record p { at = next })
   line_fits p line instruction next tree w e f =
-      let deep = depth_here p (node.Line line instruction next) tree w e in
+      let deep = depth_here p (Node.Line line instruction next) tree w e in
       let fits = f.here in
       record { here = omega arith; frames = f.frames }
 
@@ -225,13 +217,13 @@ module _ (nodes : List Node) where
 
   pub unfolded_line : (p : Place) (line : ℕ) (instruction : Instruction) (next : ℕ) → IsTree nodes
       → PlaceIsWithin (length nodes) p
-      → node_at nodes p.at ≡ node.Line line instruction next
+      → node_at nodes p.at ≡ Node.Line line instruction next
       → left_in nodes p ≡ Line line instruction (left_in nodes (record p { at = next }))
-  unfolded_line p line instruction next tree w e = unfolded p (node.Line line instruction next) tree w e
+  unfolded_line p line instruction next tree w e = unfolded p (Node.Line line instruction next) tree w e
 
-  pub unfolded_done : (p : Place) → IsTree nodes → PlaceIsWithin (length nodes) p → node_at nodes p.at ≡ node.Done
+  pub unfolded_done : (p : Place) → IsTree nodes → PlaceIsWithin (length nodes) p → node_at nodes p.at ≡ Node.Done
       → p.frames ≡ [] → left_in nodes p ≡ Done
-  unfolded_done p tree w e none = unfolded p node.Done tree w e ∙ ap (behind_frames (trees nodes)) none
+  unfolded_done p tree w e none = unfolded p Node.Done tree w e ∙ ap (behind_frames (trees nodes)) none
 
   pub below_length : (p : Place) (n : Node) → IsTree nodes → PlaceIsWithin (length nodes) p → node_at nodes p.at ≡ n
       → IsBelow (length nodes) n
@@ -241,14 +233,14 @@ module _ (nodes : List Node) where
 
   pub line_goes_on : (p : Place) (line : ℕ) (instruction : Instruction) (next : ℕ) → IsTree nodes
       → PlaceIsWithin (length nodes) p
-      → node_at nodes p.at ≡ node.Line line instruction next → is_some (op_asked p.numbers instruction) ≡ false
+      → node_at nodes p.at ≡ Node.Line line instruction next → is_some (op_asked p.numbers instruction) ≡ false
       → MovesOn nodes p (with_kept (record p { at = next }) (after_line instruction (kept_in p)))
   line_goes_on p line instruction next tree w e none =
-      let here = unfolded p (node.Line line instruction next) tree w e in
+      let here = unfolded p (Node.Line line instruction next) tree w e in
       let rest = then_steps (steps_at (trees nodes) next) (behind_frames (trees nodes) p.frames) in
       let stop : Stopped = record { left = Line line instruction rest; kept = kept_in p } in
       record {
-        within = record { at = below_length p (node.Line line instruction next) tree w e; frames = w.frames };
+        within = record { at = below_length p (Node.Line line instruction next) tree w e; frames = w.frames };
         run = sym (ap (λ (s : Steps). stop_of s (kept_in p)) here
             ∙ ap (λ (b : Bool). if b then stop else stop_of rest (after_line instruction (kept_in p))) none);
         nearer = omega (arith, ap work_of here);
@@ -260,17 +252,17 @@ module _ (nodes : List Node) where
       }
 
   pub rounds_go_on : (p : Place) (rounds body next : ℕ) → IsTree nodes → PlaceIsWithin (length nodes) p
-      → node_at nodes p.at ≡ node.Rounds rounds body next → MovesOn nodes p (place_in_rounds p rounds body next)
+      → node_at nodes p.at ≡ Node.Rounds rounds body next → MovesOn nodes p (place_in_rounds p rounds body next)
   rounds_go_on p rounds body next tree w e =
-      let here = unfolded p (node.Rounds rounds body next) tree w e in
-      let below = below_length p (node.Rounds rounds body next) tree w e in
+      let here = unfolded p (Node.Rounds rounds body next) tree w e in
+      let below = below_length p (Node.Rounds rounds body next) tree w e in
       record {
         within = entered_within p rounds body next w.frames below.0 below.1;
         run = kept rounds ∙ (entered_runs p rounds body next (kept_in p)
             ∙ sym (ap (λ (s : Steps). stop_of s (kept_in p)) here));
         nearer = omega (arith, ap work_of here, entered_nearer p rounds body next);
         fits = λ f.
-            let deep = depth_here p (node.Rounds rounds body next) tree w e in
+            let deep = depth_here p (Node.Rounds rounds body next) tree w e in
             let around = f.here in
             entered_fits p rounds body next f.frames (omega arith, omega arith);
       }
@@ -281,10 +273,10 @@ module _ (nodes : List Node) where
       kept (suc m) = refl
 
   pub choice_goes_on : (p : Place) (number first second next : ℕ) → IsTree nodes → PlaceIsWithin (length nodes) p
-      → node_at nodes p.at ≡ node.Choice number first second next
+      → node_at nodes p.at ≡ Node.Choice number first second next
       → MovesOn nodes p (place_in_branch p number first second next)
   choice_goes_on p number first second next tree w e =
-      let n = node.Choice number first second next in
+      let n = Node.Choice number first second next in
       by_test (slice_index p.numbers number == 0) refl (unfolded p n tree w e) (below_length p n tree w e)
       (depth_here p n tree w e)
     where
@@ -294,26 +286,26 @@ module _ (nodes : List Node) where
       by_test : (b : Bool) → (slice_index p.numbers number == 0) ≡ b
           → left_in nodes p ≡ Choice number (steps_at (trees nodes) first) (steps_at (trees nodes) second)
           (then_steps (steps_at (trees nodes) next) (behind_frames (trees nodes) p.frames))
-          → IsBelow (length nodes) (node.Choice number first second next)
+          → IsBelow (length nodes) (Node.Choice number first second next)
           → depth_of (steps_at (trees nodes) p.at)
-          ≡ depth_of (steps_from (trees nodes) (node.Choice number first second next))
-          → MovesOn nodes p (record p { at = if b then second else first; frames = p.frames ++ frame.Branch next ∷ [] })
+          ≡ depth_of (steps_from (trees nodes) (Node.Choice number first second next))
+          → MovesOn nodes p (record p { at = if b then second else first; frames = p.frames ++ Frame.Branch next ∷ [] })
       by_test true t here below deep = record {
         within = record {
           at = below.1;
-          frames = FramesAreWithin_push (length nodes) p.frames (frame.Branch next) w.frames below.2;
+          frames = FramesAreWithin_push (length nodes) p.frames (Frame.Branch next) w.frames below.2;
         };
         run = ap (λ (s : Steps). stop_of (then_steps (steps_at (trees nodes) second) s) (kept_in p))
-            (behind_frames_push (trees nodes) p.frames (frame.Branch next))
+            (behind_frames_push (trees nodes) p.frames (Frame.Branch next))
             ∙ (sym (stop_of-choice_zero number (steps_at (trees nodes) first) (steps_at (trees nodes) second)
             (then_steps (steps_at (trees nodes) next) (behind_frames (trees nodes) p.frames)) (kept_in p) t)
             ∙ sym (ap (λ (s : Steps). stop_of s (kept_in p)) here));
         nearer = omega (
           arith,
           ap work_of here,
-          length_push p.frames (frame.Branch next),
+          length_push p.frames (Frame.Branch next),
           ap work_of (ap (then_steps (steps_at (trees nodes) second))
-              (behind_frames_push (trees nodes) p.frames (frame.Branch next))),
+              (behind_frames_push (trees nodes) p.frames (Frame.Branch next))),
           work_of-then_steps (steps_at (trees nodes) second)
               (then_steps (steps_at (trees nodes) next) (behind_frames (trees nodes) p.frames)),
         );
@@ -322,19 +314,19 @@ module _ (nodes : List Node) where
       by_test false t here below deep = record {
         within = record {
           at = below.0;
-          frames = FramesAreWithin_push (length nodes) p.frames (frame.Branch next) w.frames below.2;
+          frames = FramesAreWithin_push (length nodes) p.frames (Frame.Branch next) w.frames below.2;
         };
         run = ap (λ (s : Steps). stop_of (then_steps (steps_at (trees nodes) first) s) (kept_in p))
-            (behind_frames_push (trees nodes) p.frames (frame.Branch next))
+            (behind_frames_push (trees nodes) p.frames (Frame.Branch next))
             ∙ (sym (stop_of-choice_other number (steps_at (trees nodes) first) (steps_at (trees nodes) second)
             (then_steps (steps_at (trees nodes) next) (behind_frames (trees nodes) p.frames)) (kept_in p) t)
             ∙ sym (ap (λ (s : Steps). stop_of s (kept_in p)) here));
         nearer = omega (
           arith,
           ap work_of here,
-          length_push p.frames (frame.Branch next),
+          length_push p.frames (Frame.Branch next),
           ap work_of (ap (then_steps (steps_at (trees nodes) first))
-              (behind_frames_push (trees nodes) p.frames (frame.Branch next))),
+              (behind_frames_push (trees nodes) p.frames (Frame.Branch next))),
           work_of-then_steps (steps_at (trees nodes) first)
               (then_steps (steps_at (trees nodes) next) (behind_frames (trees nodes) p.frames)),
         );
@@ -353,20 +345,20 @@ module _ (nodes : List Node) where
       → left_in nodes p ≡ frame_steps (trees nodes) (behind_frames (trees nodes) frames) f
       → FramesAreWithin (length nodes) frames × FrameIsWithin (length nodes) f
       → MovesOn nodes p (place_behind_block (record p { frames = frames }) f)
-  block_goes_on p frames (frame.Branch next) was here w = record {
+  block_goes_on p frames (Frame.Branch next) was here w = record {
     within = record { at = w.1; frames = w.0 };
     run = sym (ap (λ (s : Steps). stop_of s (kept_in p)) here);
     nearer = omega (
       arith,
       ap work_of here,
       ap (λ (fs : List Frame). length fs) was,
-      length_push frames (frame.Branch next),
+      length_push frames (Frame.Branch next),
     );
     fits = λ w.
-        let left = frames_before p frames (frame.Branch next) was w in
+        let left = frames_before p frames (Frame.Branch next) was w in
         record { here = left.1; frames = left.0 };
   }
-  block_goes_on p frames (frame.Rounds rounds body next) was here w = record {
+  block_goes_on p frames (Frame.Rounds rounds body next) was here w = record {
     within = entered_within (record p { frames = frames }) rounds body next w.0 w.1.0 w.1.1;
     run = kept rounds ∙ (entered_runs (record p { frames = frames }) rounds body next (kept_in p)
         ∙ sym (ap (λ (s : Steps). stop_of s (kept_in p)) here));
@@ -374,11 +366,11 @@ module _ (nodes : List Node) where
       arith,
       ap work_of here,
       ap (λ (fs : List Frame). length fs) was,
-      length_push frames (frame.Rounds rounds body next),
+      length_push frames (Frame.Rounds rounds body next),
       entered_nearer (record p { frames = frames }) rounds body next,
     );
     fits = λ w.
-        let left = frames_before p frames (frame.Rounds rounds body next) was w in
+        let left = frames_before p frames (Frame.Rounds rounds body next) was w in
         entered_fits (record p { frames = frames }) rounds body next left.0 left.1;
   }
     where
@@ -388,11 +380,11 @@ module _ (nodes : List Node) where
       kept zero = refl
       kept (suc m) = refl
 
-  pub end_goes_on : (p q : Place) → IsTree nodes → PlaceIsWithin (length nodes) p → node_at nodes p.at ≡ node.Done
+  pub end_goes_on : (p q : Place) → IsTree nodes → PlaceIsWithin (length nodes) p → node_at nodes p.at ≡ Node.Done
       → LeavesBlock p q → MovesOn nodes p q
   end_goes_on p q tree w e leaves =
       let here : left_in nodes p ≡ frame_steps (trees nodes) (behind_frames (trees nodes) leaves.frames) leaves.frame =
-      unfolded p node.Done tree w e
+      unfolded p Node.Done tree w e
       ∙ (ap (behind_frames (trees nodes)) leaves.was
       ∙ behind_frames_push (trees nodes) leaves.frames leaves.frame) in
       let fs = FramesAreWithin_pop (length nodes) leaves.frames leaves.frame
@@ -402,11 +394,11 @@ module _ (nodes : List Node) where
 
   -- A place where the steps stop.
 
-  pub ends_at : (p : Place) → IsTree nodes → PlaceIsWithin (length nodes) p → node_at nodes p.at ≡ node.Done
+  pub ends_at : (p : Place) → IsTree nodes → PlaceIsWithin (length nodes) p → node_at nodes p.at ≡ Node.Done
       → p.frames ≡ []
       → HasStopped nodes p p
   ends_at p tree w e none =
-      let here : left_in nodes p ≡ Done = unfolded p node.Done tree w e ∙ ap (behind_frames (trees nodes)) none in
+      let here : left_in nodes p ≡ Done = unfolded p Node.Done tree w e ∙ ap (behind_frames (trees nodes)) none in
       let at : (s : Steps) → s ≡ Done
       → record { left = s; kept = kept_in p } ≡ stop_of s (kept_in p) =
       λ s d. subst (λ (x : Steps). record { left = x; kept = kept_in p } ≡ stop_of x (kept_in p)) (sym d) refl in
@@ -419,12 +411,12 @@ module _ (nodes : List Node) where
 
   pub asks_at : (p : Place) (line : ℕ) (instruction : Instruction) (next : ℕ) → IsTree nodes
       → PlaceIsWithin (length nodes) p
-      → node_at nodes p.at ≡ node.Line line instruction next → is_some (op_asked p.numbers instruction) ≡ true
+      → node_at nodes p.at ≡ Node.Line line instruction next → is_some (op_asked p.numbers instruction) ≡ true
       → HasStopped nodes p p
   asks_at p line instruction next tree w e some =
       let rest = then_steps (steps_at (trees nodes) next) (behind_frames (trees nodes) p.frames) in
       let stop : Stopped = record { left = Line line instruction rest; kept = kept_in p } in
-      let here = unfolded p (node.Line line instruction next) tree w e in
+      let here = unfolded p (Node.Line line instruction next) tree w e in
       record {
         within = w;
         at = subst (λ (m : Node). StopsAt m p) (sym e) some;

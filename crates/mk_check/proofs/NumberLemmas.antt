@@ -1,20 +1,12 @@
 -- Numbers of types, and tables of types and globals, as lines are read.
-use Rattle.std.proofs.lemmas.List.{take-append-drop, take_more, drop_more}
-use Rattle.std.proofs.Common.{◌≡◌, ℕ, suc, ◌+◌, ◌<◌, Bool, true, false, List, [], ◌∷◌, ◌++◌, length, take, drop, get_or}
-use Rattle.std.proofs.Common.{map, Option, Some, None, option_map, unwrap_or, refl, ap, sym, ◌∙◌, arith}
-use Rattle.std.specs.Prelude.{if◌then◌else◌}
-use Rattle.std.specs.Option.{option_or}
-use Rattle.std.specs.Str.{bytes_eq}
-use Rattle.mk_script.specs.declared.items.TypeWord.{TypeWord}
-use Rattle.mk_script.specs.declared.items.Item.{Item}
-use Rattle.mk_script.specs.declared.items.Item.TheVariants.{TypeLine, Global}
-use Rattle.mk_script.specs.Scopes.{type_names, global_names}
-use Rattle.mk_check.specs.Declarations.{number_of_name, kind_of, kinds_among, globals_among}
-use Rattle.std.specs.Borrow.{Bor}
-use Rattle.std.specs.HashMap.{HashMap}
-use Rattle.std.proofs.lemmas.List.{length-append}
-use Rattle.mk_check.specs.Lookups.{AddsFirst}
-use Rattle.mk_check.specs.Numbers.{number_among, AreNumbers}
+use Rattle.std.{proofs.Common.take-append-drop, specs.Borrow.Bor, specs.HashMap.HashMap}
+use Rattle.mk_check.proofs.Vocabulary.{Bool, Item, List, None, Option, Some, TypeWord, ℕ, ap, arith, bytes_eq, drop}
+use Rattle.mk_check.proofs.Vocabulary.{drop_more, false, get_or, global_names, globals_among, if◌then◌else◌, kind_of}
+use Rattle.mk_check.proofs.Vocabulary.{kinds_among, length, length-append, map, number_of_name, option_map, option_or}
+use Rattle.mk_check.proofs.Vocabulary.{refl, suc, sym, take, take_more, true, type_names, unwrap_or, [], ◌++◌, ◌+◌, ◌<◌}
+use Rattle.mk_check.proofs.Vocabulary.{◌∙◌, ◌∷◌, ◌≡◌}
+use Rattle.mk_check.specs.{Lookups.AddsFirst, Numbers.AreNumbers, Numbers.number_among}
+use Rattle.mk_script.specs.declared.items.Item.TheVariants.{Global, TypeLine}
 
 place-step : (b : Bool) (o : Option ℕ) (n : ℕ)
     → (if b then 0 else unwrap_or o n + 1) ≡ unwrap_or (if b then Some 0 else option_map (λ place. place + 1) o) (suc n)

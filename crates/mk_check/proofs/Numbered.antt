@@ -1,15 +1,11 @@
 -- A script with numbers for its names does what the script does.
-use Rattle.std.proofs.Common.{◌≡◌, ℕ, zero, suc, Bool, true, false, List, refl, ap, ◌∙◌, if◌then◌else◌}
-use Rattle.std.specs.Prelude.{◌==◌, is_some, Option}
-use Rattle.mk_never.specs.declared.operations.Op.{Op}
-use Rattle.mk_core.specs.declared.events.Answer.{Answer}
-use Rattle.mk_script.specs.declared.items.Item.{Item}
+use Rattle.mk_check.proofs.Vocabulary.{Answer, Blocks, Bool, Choice, Done, Fed, Item, KeptState, Line, List, Op, Option}
+use Rattle.mk_check.proofs.Vocabulary.{Rounds, Scope, Steps, Stopped, ℕ, after_answer, after_line, ap, false}
+use Rattle.mk_check.proofs.Vocabulary.{if◌then◌else◌, instruction_of, is_some, number_of_name, numbered, op_asked}
+use Rattle.mk_check.proofs.Vocabulary.{op_of, refl, run, stop_behind, stop_of, stop_of_rounds, suc, then_steps, true}
+use Rattle.mk_check.proofs.Vocabulary.{with_answer, zero, ◌==◌, ◌∙◌, ◌≡◌}
+use Rattle.mk_check.specs.{Blocks.followed_by, Feed.number_in, Feed.run_line, Feed.run_rounds, Feed.then_run}
 use Rattle.mk_script.specs.declared.items.Item.TheVariants.{Heap}
-use Rattle.mk_check.specs.Declarations.{number_of_name}
-use Rattle.mk_check.specs.Blocks.{Blocks, Done, Line, Rounds, Choice, followed_by}
-use Rattle.mk_check.specs.Feed.{Scope, Fed, number_in, op_of, run_line, then_run, run_rounds, run, with_answer}
-use Rattle.mk_check.specs.Steps.{Steps, then_steps, none_left, numbered, instruction_of, KeptState, Stopped, op_asked}
-use Rattle.mk_check.specs.Steps.{after_line, stop_behind, stop_of_rounds, stop_of, after_answer, stop_on_answer}
 use Rattle.mk_check.specs.Steps as steps
 
 abbrev pub kept_of : Fed → KeptState

@@ -1,18 +1,14 @@
 -- The parts of a script, with numbers for their names.
-use Rattle.std.proofs.Common.{◌≡◌, ℕ, ◌+◌, ◌<◌, List, [], ◌∷◌, length, map, drop, refl, ap, sym, ◌∙◌, arith}
-use Rattle.std.specs.Prelude.{slice_index_or}
-use Rattle.std.proofs.lemmas.List.{drop_more}
-use Rattle.mk_script.specs.declared.items.Item.{Item}
-use Rattle.mk_script.specs.declared.items.Item.TheVariants.{Repeat, If, Else, End}
-use Rattle.mk_check.specs.Blocks.{Part, with_line, with_item, parts_from}
-use Rattle.mk_check.specs.Feed.{Scope}
-use Rattle.mk_check.specs.Steps.{instruction_of, element_of}
-use Rattle.mk_check.specs.declared.feeding.instructions.Element.TheVariants as element
-use Rattle.mk_check.specs.Building.{part_of, with_element}
+use Rattle.std.proofs.Common.{slice_index_or}
+use Rattle.mk_check.proofs.Vocabulary.{Element, Item, List, Part, Scope, ℕ, ap, arith, drop, drop_more, element_of}
+use Rattle.mk_check.proofs.Vocabulary.{instruction_of, length, map, parts_from, refl, sym, with_element, with_item}
+use Rattle.mk_check.proofs.Vocabulary.{with_line, [], ◌+◌, ◌<◌, ◌∙◌, ◌∷◌, ◌≡◌}
+use Rattle.mk_check.specs.Building.{part_of}
+use Rattle.mk_script.specs.declared.items.Item.TheVariants.{Else, End, If, Repeat}
 
 line_of_parts : (scope : Scope) (line : ℕ) (item : Item) (parts : List Part)
     → map (part_of scope) (with_line line item parts)
-    ≡ with_element line (element.Line (instruction_of scope item)) (map (part_of scope) parts)
+    ≡ with_element line (Element.Line (instruction_of scope item)) (map (part_of scope) parts)
 line_of_parts scope line item [] = refl
 line_of_parts scope line item (part ∷ parts) = refl
 

@@ -1,18 +1,13 @@
 -- A line is of one sort.
-use Rattle.std.proofs.Common.{◌≡◌, ℕ, false, List, Option, None, refl, sym, ◌∙◌}
-use Rattle.std.specs.Option.{option_or}
-use Rattle.std.proofs.lemmas.Bool.{false≢true}
-use Rattle.mk_script.specs.declared.items.Item.{Item}
-use Rattle.mk_script.specs.declared.items.Item.TheVariants.{Heap, TypeLine, Global, Script, Ptr, Num, New, Free, Getn}
-use Rattle.mk_script.specs.declared.items.Item.TheVariants.{Setn, Getp, Setp, Casp, Lea, Move, Clear, Loadg, Storeg}
-use Rattle.mk_script.specs.declared.items.Item.TheVariants.{Same, Isnull, Show, Const, Add, Sub, Print, Repeat, If}
-use Rattle.mk_script.specs.declared.items.Item.TheVariants.{Else, End}
-use Rattle.mk_script.specs.Scopes.{is_script}
-use Rattle.mk_check.specs.declared.typing_faults.TypeKind.{TypeKind}
-use Rattle.mk_check.specs.Typing.{Around, ◌or◌, typing_fault}
-use Rattle.mk_check.specs.Rules.{fault_of_sort, is_declaration, is_number_access, is_pointer_access, is_pointer_line}
-use Rattle.mk_check.specs.Rules.{is_number_line}
+use Rattle.mk_check.proofs.Vocabulary.{Around, Item, List, None, Option, TypeKind, ℕ, false, false≢true, is_script}
+use Rattle.mk_check.proofs.Vocabulary.{option_or, refl, sym, typing_fault, ◌or◌, ◌∙◌, ◌≡◌}
 use Rattle.mk_check.proofs.LookupLemmas.{option_or-none}
+use Rattle.mk_check.specs.Rules.{fault_of_sort, is_declaration, is_number_access, is_number_line, is_pointer_access}
+use Rattle.mk_check.specs.Rules.{is_pointer_line}
+use Rattle.mk_script.specs.declared.items.Item.TheVariants.{Add, Casp, Clear, Const, Else, End, Free, Getn, Getp}
+use Rattle.mk_script.specs.declared.items.Item.TheVariants.{Global, Heap, If, Isnull, Lea, Loadg, Move, New, Num, Print}
+use Rattle.mk_script.specs.declared.items.Item.TheVariants.{Ptr, Repeat, Same, Script, Setn, Setp, Show, Storeg, Sub}
+use Rattle.mk_script.specs.declared.items.Item.TheVariants.{TypeLine}
 
 -- what is wrong by the rules of all sorts, one after the other
 abbrev pub fault_of_sorts : Around → Item → Option TypeKind

@@ -1,56 +1,46 @@
 -- What is told of what comes after a line, and where a script then stops.
-use Rattle.std.proofs.Common.{◌≡◌, ℕ, Bool, true, false, List, length, refl, ap, sym, ◌∙◌, subst}
-use Rattle.std.specs.Prelude.{Option, Some, None, if◌then◌else◌, not, ◌&&◌}
-use Rattle.mk_core.specs.declared.events.Answer.{Answer}
-use Rattle.mk_core.specs.declared.events.Answer.TheVariants as answer
-use Rattle.mk_check.specs.declared.feeding.instructions.Instruction.{Instruction}
-use Rattle.mk_check.specs.declared.feeding.instructions.Instruction.TheVariants.{GetNum, CasPtr, Same, IsNull, Show}
-use Rattle.mk_check.specs.declared.feeding.tree.Node.{Node}
-use Rattle.mk_check.specs.declared.feeding.tree.Node.TheVariants as node
-use Rattle.mk_check.specs.declared.feeding.tree.Sequel.{Sequel}
-use Rattle.mk_check.specs.declared.feeding.tree.Sequel.TheVariants as sequel
-use Rattle.mk_check.specs.declared.feeding.tree.Sequels.{Sequels}
-use Rattle.mk_check.specs.AtOnce.{BeginsRound, TakesAtOnce, TakesLine}
-use Rattle.mk_check.specs.Feed.{is_refusal}
-use Rattle.mk_check.specs.Spots.{asks_at, sequel_to, sequels_by, sequels_of}
-use Rattle.mk_check.specs.Steps.{KeptState, after_answer, is_asking, is_show, is_silent, keeping_register, with_value}
-use Rattle.mk_check.specs.Trees.{IsTree, Place, PlaceIsWithin, HasStopped, kept_in, node_at, with_kept}
-use Rattle.mk_check.proofs.AtOnce.{asks_so, stopped_here}
-use Rattle.mk_check.proofs.Moves.{below_length}
-use Rattle.mk_check.proofs.NextRounds.{round_begins}
+use Rattle.mk_check.proofs.Vocabulary.{Answer, Bool, HasStopped, Instruction, IsTree, KeptState, List, Node, None}
+use Rattle.mk_check.proofs.Vocabulary.{Option, Place, PlaceIsWithin, Sequel, Some, TakesLine, ℕ, after_answer, ap}
+use Rattle.mk_check.proofs.Vocabulary.{asks_at, false, if◌then◌else◌, is_asking, kept_in, length, node_at, not, refl}
+use Rattle.mk_check.proofs.Vocabulary.{sequel_to, sequels_of, subst, sym, true, with_kept, ◌&&◌, ◌∙◌, ◌≡◌}
+use Rattle.mk_check.proofs.{AtOnce.asks_so, AtOnce.stopped_here, Moves.below_length, NextRounds.round_begins}
+use Rattle.mk_check.specs.AtOnce.{BeginsRound, TakesAtOnce}
+use Rattle.mk_check.specs.Steps.{is_show, is_silent, keeping_register, with_value}
+use Rattle.mk_check.specs.declared.feeding.instructions.Instruction.TheVariants.{CasPtr, GetNum, IsNull, Same, Show}
+use Rattle.mk_check.specs.{Feed.is_refusal, Spots.sequels_by, declared.feeding.tree.Sequels.Sequels}
 
 -- what is next, where that is told
 
-asks_if : (b : Bool) → (if b then sequel.Asks else sequel.Other) ≡ sequel.Asks → b ≡ true
+asks_if : (b : Bool) → (if b then Sequel.Asks else Sequel.Other) ≡ Sequel.Asks → b ≡ true
 asks_if true e = refl
 asks_if false e = cc
 
-next_asks : (n : Node) → sequel_to n ≡ sequel.Asks → asks_at n ≡ true
-next_asks node.Done e = cc
-next_asks (node.Line line instruction next) e = asks_if (is_asking instruction) e
-next_asks (node.Rounds rounds body next) e = cc
-next_asks (node.Choice number first second next) e = cc
+next_asks : (n : Node) → sequel_to n ≡ Sequel.Asks → asks_at n ≡ true
+next_asks Node.Done e = cc
+next_asks (Node.Line line instruction next) e = asks_if (is_asking instruction) e
+next_asks (Node.Rounds rounds body next) e = cc
+next_asks (Node.Choice number first second next) e = cc
 
-ends_not : (b : Bool) (n : Node) → (if b then sequel.Asks else sequel.Other) ≡ sequel.Ends → n ≡ node.Done
+ends_not : (b : Bool) (n : Node) → (if b then Sequel.Asks else Sequel.Other) ≡ Sequel.Ends → n ≡ Node.Done
 ends_not true n e = cc
 ends_not false n e = cc
 
-next_ends : (n : Node) → sequel_to n ≡ sequel.Ends → n ≡ node.Done
-next_ends node.Done e = refl
-next_ends (node.Line line instruction next) e = ends_not (is_asking instruction) (node.Line line instruction next) e
-next_ends (node.Rounds rounds body next) e = cc
-next_ends (node.Choice number first second next) e = cc
+next_ends : (n : Node) → sequel_to n ≡ Sequel.Ends → n ≡ Node.Done
+next_ends Node.Done e = refl
+next_ends (Node.Line line instruction next) e = ends_not (is_asking instruction) (Node.Line line instruction next) e
+next_ends (Node.Rounds rounds body next) e = cc
+next_ends (Node.Choice number first second next) e = cc
 
 -- The node is a line before this one, whose answer this register keeps, if any does, and this comes next.
 record IsLine (nodes : List Node) (n : Node) (next : ℕ) (kept : Option ℕ) (s : Sequel) : Type 0 where
   line : ℕ
   instruction : Instruction
-  is : n ≡ node.Line line instruction next
+  is : n ≡ Node.Line line instruction next
   shown : is_show instruction ≡ false
   keeps : keeping_register instruction ≡ kept
   told : sequel_to (node_at nodes next) ≡ s
 
-kept_by : (next : ℕ) (shown : Bool) (kept : Option ℕ) (u s : Sequel) → (s ≡ sequel.Other → ⊥)
+kept_by : (next : ℕ) (shown : Bool) (kept : Option ℕ) (u s : Sequel) → (s ≡ Sequel.Other → ⊥)
     → (sequels_by next shown kept u).kept ≡ s
     → ((sequels_by next shown kept u).next ≡ next) × (shown ≡ false)
     × (kept ≡ Some (sequels_by next shown kept u).register) × (u ≡ s)
@@ -58,60 +48,60 @@ kept_by next true kept u s known e = absurd (known (sym e))
 kept_by next false None u s known e = absurd (known (sym e))
 kept_by next false (Some number) u s known e = (refl, refl, refl, e)
 
-unkept_by : (next : ℕ) (shown : Bool) (kept : Option ℕ) (u s : Sequel) → (s ≡ sequel.Other → ⊥)
+unkept_by : (next : ℕ) (shown : Bool) (kept : Option ℕ) (u s : Sequel) → (s ≡ Sequel.Other → ⊥)
     → (sequels_by next shown kept u).unkept ≡ s
     → ((sequels_by next shown kept u).next ≡ next) × (shown ≡ false) × (kept ≡ None) × (u ≡ s)
 unkept_by next true kept u s known e = absurd (known (sym e))
 unkept_by next false None u s known e = (refl, refl, refl, e)
 unkept_by next false (Some number) u s known e = absurd (known (sym e))
 
-kept_line : (nodes : List Node) (n : Node) (s : Sequel) → (s ≡ sequel.Other → ⊥) → (sequels_of nodes n).kept ≡ s
+kept_line : (nodes : List Node) (n : Node) (s : Sequel) → (s ≡ Sequel.Other → ⊥) → (sequels_of nodes n).kept ≡ s
     → IsLine nodes n (sequels_of nodes n).next (Some (sequels_of nodes n).register) s
-kept_line nodes node.Done s known e = absurd (known (sym e))
-kept_line nodes (node.Line line instruction next) s known e =
+kept_line nodes Node.Done s known e = absurd (known (sym e))
+kept_line nodes (Node.Line line instruction next) s known e =
     let by =
     kept_by next (is_show instruction) (keeping_register instruction) (sequel_to (node_at nodes next)) s known e
     in
     record {
       line = line;
       instruction = instruction;
-      is = ap (λ (j : ℕ). node.Line line instruction j) (sym by.0);
+      is = ap (λ (j : ℕ). Node.Line line instruction j) (sym by.0);
       shown = by.1;
       keeps = by.2;
       told = ap (λ (j : ℕ). sequel_to (node_at nodes j)) by.0 ∙ by.3;
     }
-kept_line nodes (node.Rounds rounds body next) s known e = absurd (known (sym e))
-kept_line nodes (node.Choice number first second next) s known e = absurd (known (sym e))
+kept_line nodes (Node.Rounds rounds body next) s known e = absurd (known (sym e))
+kept_line nodes (Node.Choice number first second next) s known e = absurd (known (sym e))
 
-unkept_line : (nodes : List Node) (n : Node) (s : Sequel) → (s ≡ sequel.Other → ⊥)
+unkept_line : (nodes : List Node) (n : Node) (s : Sequel) → (s ≡ Sequel.Other → ⊥)
     → (sequels_of nodes n).unkept ≡ s → IsLine nodes n (sequels_of nodes n).next None s
-unkept_line nodes node.Done s known e = absurd (known (sym e))
-unkept_line nodes (node.Line line instruction next) s known e =
+unkept_line nodes Node.Done s known e = absurd (known (sym e))
+unkept_line nodes (Node.Line line instruction next) s known e =
     let by =
     unkept_by next (is_show instruction) (keeping_register instruction) (sequel_to (node_at nodes next)) s known e
     in
     record {
       line = line;
       instruction = instruction;
-      is = ap (λ (j : ℕ). node.Line line instruction j) (sym by.0);
+      is = ap (λ (j : ℕ). Node.Line line instruction j) (sym by.0);
       shown = by.1;
       keeps = by.2;
       told = ap (λ (j : ℕ). sequel_to (node_at nodes j)) by.0 ∙ by.3;
     }
-unkept_line nodes (node.Rounds rounds body next) s known e = absurd (known (sym e))
-unkept_line nodes (node.Choice number first second next) s known e = absurd (known (sym e))
+unkept_line nodes (Node.Rounds rounds body next) s known e = absurd (known (sym e))
+unkept_line nodes (Node.Choice number first second next) s known e = absurd (known (sym e))
 
-asks_is_known : sequel.Asks ≡ sequel.Other → ⊥
+asks_is_known : Sequel.Asks ≡ Sequel.Other → ⊥
 asks_is_known e = absurd cc
 
-ends_is_known : sequel.Ends ≡ sequel.Other → ⊥
+ends_is_known : Sequel.Ends ≡ Sequel.Other → ⊥
 ends_is_known e = absurd cc
 
 -- what the answer does to what is kept
 
 pub number_kept : (instruction : Instruction) (number value : ℕ) (k : KeptState)
     → keeping_register instruction ≡ Some number
-    → after_answer instruction (answer.Num value) k ≡ with_value k number value
+    → after_answer instruction (Answer.Num value) k ≡ with_value k number value
 number_kept (GetNum q n i) number value k e = cc
 number_kept (CasPtr q p r n i) number value k e = cc
 number_kept (Same p q n) number value k e = cc
@@ -152,7 +142,7 @@ module _ (nodes : List Node) (p : Place) (next : ℕ) (instruction : Instruction
             (asks_so (start a).numbers (node_at nodes next) asks));
       }
 
-  stops_in_round : (a : Answer) (q t : Place) → is_silent instruction a ≡ true → node_at nodes next ≡ node.Done
+  stops_in_round : (a : Answer) (q t : Place) → is_silent instruction a ≡ true → node_at nodes next ≡ Node.Done
       → BeginsRound nodes p q → t ≡ with_kept q (after_answer instruction a (kept_in p))
       → TakesAtOnce nodes next instruction a p t
   stops_in_round a q t quiet ends b is =
@@ -165,13 +155,13 @@ module _ (nodes : List Node) (p : Place) (next : ℕ) (instruction : Instruction
 
 module _ (nodes : List Node) (p : Place) (tree : IsTree nodes) (w : PlaceIsWithin (length nodes) p) where
   -- the node after the place's line
-  within_next : (line : ℕ) (instruction : Instruction) (next : ℕ) → node_at nodes p.at ≡ node.Line line instruction next
+  within_next : (line : ℕ) (instruction : Instruction) (next : ℕ) → node_at nodes p.at ≡ Node.Line line instruction next
       → PlaceIsWithin (length nodes) (record p { at = next })
   within_next line instruction next here =
-      record { at = below_length nodes p (node.Line line instruction next) tree w here; frames = w.frames }
+      record { at = below_length nodes p (Node.Line line instruction next) tree w here; frames = w.frames }
 
   at_line : (kept : Option ℕ) (next : ℕ) (a : Answer) (k : KeptState) (t : Place) → is_refusal a ≡ false
-      → (l : IsLine nodes (node_at nodes p.at) next kept sequel.Asks)
+      → (l : IsLine nodes (node_at nodes p.at) next kept Sequel.Asks)
       → after_answer l.instruction a (kept_in p) ≡ k → t ≡ with_kept (record p { at = next }) k → TakesLine nodes a p t
   at_line kept next a k t accepted l after is =
       record {
@@ -185,7 +175,7 @@ module _ (nodes : List Node) (p : Place) (tree : IsTree nodes) (w : PlaceIsWithi
       }
 
   in_round : (kept : Option ℕ) (next : ℕ) (a : Answer) (k : KeptState) (q t : Place) → is_refusal a ≡ false
-      → (l : IsLine nodes (node_at nodes p.at) next kept sequel.Ends) → BeginsRound nodes p q
+      → (l : IsLine nodes (node_at nodes p.at) next kept Sequel.Ends) → BeginsRound nodes p q
       → after_answer l.instruction a (kept_in p) ≡ k → t ≡ with_kept q k → TakesLine nodes a p t
   in_round kept next a k q t accepted l begins after is =
       record {
@@ -199,43 +189,43 @@ module _ (nodes : List Node) (p : Place) (tree : IsTree nodes) (w : PlaceIsWithi
       }
 
   module _ (s : Sequels) (so : s ≡ sequels_of nodes (node_at nodes p.at)) where
-    kept_here : (told : Sequel) → (told ≡ sequel.Other → ⊥) → s.kept ≡ told
+    kept_here : (told : Sequel) → (told ≡ Sequel.Other → ⊥) → s.kept ≡ told
         → IsLine nodes (node_at nodes p.at) s.next (Some s.register) told
     kept_here told known e =
         subst (λ (x : Sequels). IsLine nodes (node_at nodes p.at) x.next (Some x.register) told) (sym so)
         (kept_line nodes (node_at nodes p.at) told known (sym (ap (λ (x : Sequels). x.kept) so) ∙ e))
 
-    unkept_here : (told : Sequel) → (told ≡ sequel.Other → ⊥) → s.unkept ≡ told
+    unkept_here : (told : Sequel) → (told ≡ Sequel.Other → ⊥) → s.unkept ≡ told
         → IsLine nodes (node_at nodes p.at) s.next None told
     unkept_here told known e =
         subst (λ (x : Sequels). IsLine nodes (node_at nodes p.at) x.next None told) (sym so)
         (unkept_line nodes (node_at nodes p.at) told known (sym (ap (λ (x : Sequels). x.unkept) so) ∙ e))
 
-    pub number_at_line : (value : ℕ) (t : Place) → s.kept ≡ sequel.Asks
+    pub number_at_line : (value : ℕ) (t : Place) → s.kept ≡ Sequel.Asks
         → t ≡ with_kept (record p { at = s.next }) (with_value (kept_in p) s.register value)
-        → TakesLine nodes (answer.Num value) p t
+        → TakesLine nodes (Answer.Num value) p t
     number_at_line value t e is =
-        let l = kept_here sequel.Asks asks_is_known e in
-        at_line (Some s.register) s.next (answer.Num value) (with_value (kept_in p) s.register value) t refl l
+        let l = kept_here Sequel.Asks asks_is_known e in
+        at_line (Some s.register) s.next (Answer.Num value) (with_value (kept_in p) s.register value) t refl l
         (number_kept l.instruction s.register value (kept_in p) l.keeps) is
 
-    pub number_in_round : (value : ℕ) (q t : Place) → s.kept ≡ sequel.Ends → BeginsRound nodes p q
-        → t ≡ with_kept q (with_value (kept_in p) s.register value) → TakesLine nodes (answer.Num value) p t
+    pub number_in_round : (value : ℕ) (q t : Place) → s.kept ≡ Sequel.Ends → BeginsRound nodes p q
+        → t ≡ with_kept q (with_value (kept_in p) s.register value) → TakesLine nodes (Answer.Num value) p t
     number_in_round value q t e begins is =
-        let l = kept_here sequel.Ends ends_is_known e in
-        in_round (Some s.register) s.next (answer.Num value) (with_value (kept_in p) s.register value) q t refl l begins
+        let l = kept_here Sequel.Ends ends_is_known e in
+        in_round (Some s.register) s.next (Answer.Num value) (with_value (kept_in p) s.register value) q t refl l begins
         (number_kept l.instruction s.register value (kept_in p) l.keeps) is
 
-    pub none_at_line : (a : Answer) (t : Place) → is_refusal a ≡ false → s.unkept ≡ sequel.Asks
+    pub none_at_line : (a : Answer) (t : Place) → is_refusal a ≡ false → s.unkept ≡ Sequel.Asks
         → t ≡ record p { at = s.next } → TakesLine nodes a p t
     none_at_line a t accepted e is =
-        let l = unkept_here sequel.Asks asks_is_known e in
+        let l = unkept_here Sequel.Asks asks_is_known e in
         at_line None s.next a (kept_in p) t accepted l (nothing_kept l.instruction a (kept_in p) l.shown l.keeps) is
 
-    pub none_in_round : (a : Answer) (t : Place) → is_refusal a ≡ false → s.unkept ≡ sequel.Ends
+    pub none_in_round : (a : Answer) (t : Place) → is_refusal a ≡ false → s.unkept ≡ Sequel.Ends
         → BeginsRound nodes p t → TakesLine nodes a p t
     none_in_round a t accepted e begins =
-        let l = unkept_here sequel.Ends ends_is_known e in
+        let l = unkept_here Sequel.Ends ends_is_known e in
         in_round None s.next a (kept_in p) t t accepted l begins
         (nothing_kept l.instruction a (kept_in p) l.shown l.keeps)
         (begins.is ∙ ap (λ (x : Place). with_kept x (kept_in p)) (sym begins.is))

@@ -1,34 +1,29 @@
 -- A tree with marks that gets one more node.
-use Rattle.std.proofs.Common.{◌≡◌, ℕ, ◌<◌, List, [], ◌∷◌, ◌++◌, length, refl, ap, sym, ◌∙◌}
-use Rattle.std.proofs.Common.{subst, arith, inl, inr, get_or}
-use Rattle.std.proofs.lemmas.Bool.{cases_lt}
-use Rattle.std.proofs.lemmas.List.{get_or-map, get_or_append_left, get_or_at, get_or_default, length_push, length-map}
-use Rattle.std.proofs.lemmas.List.{map-append}
-use Rattle.mk_check.specs.declared.feeding.tree.Node.{Node}
-use Rattle.mk_check.specs.declared.feeding.tree.Node.TheVariants as node
-use Rattle.mk_check.specs.declared.feeding.tree.Spot.{Spot}
-use Rattle.mk_check.specs.Spots.{IsMarked, IsMarkedTree, end_spot, instruction_of_node, nodes_of, sequels_before}
-use Rattle.mk_check.specs.Spots.{asks_at, sequels_of, spot_at}
-use Rattle.mk_check.specs.Feeding.{op_of_node}
-use Rattle.mk_check.specs.Steps.{asks_first, is_asking, op_asked}
-use Rattle.mk_check.specs.Trees.{IsBelow, IsTree, node_at, steps_at, steps_from, trees}
-use Rattle.mk_check.proofs.Builds.{steps_at_push}
+use Rattle.std.proofs.lemmas.List.{get_or-map, get_or_default}
+use Rattle.mk_check.proofs.Vocabulary.{IsBelow, IsTree, List, Node, ℕ, ap, arith, asks_at, asks_first, cases_lt, get_or}
+use Rattle.mk_check.proofs.Vocabulary.{get_or_append_left, get_or_at, inl, inr, instruction_of_node, is_asking, length}
+use Rattle.mk_check.proofs.Vocabulary.{length-map, length_push, map-append, node_at, op_asked, op_of_node, refl}
+use Rattle.mk_check.proofs.Vocabulary.{sequels_of, steps_at, steps_from, subst, sym, trees, [], ◌++◌, ◌<◌, ◌∙◌, ◌∷◌}
+use Rattle.mk_check.proofs.Vocabulary.{◌≡◌}
 use Rattle.mk_check.proofs.Moves.{IsBelow-more, IsTree_push, steps_at-trees, steps_from_same}
+use Rattle.mk_check.proofs.Builds.{steps_at_push}
+use Rattle.mk_check.specs.Spots.{IsMarked, IsMarkedTree, end_spot, nodes_of, sequels_before, spot_at}
+use Rattle.mk_check.specs.declared.feeding.tree.Spot.{Spot}
 
 -- whether a node asks for an operation, by its instruction
 pub asks_by_instruction : (n : Node) → is_asking (instruction_of_node n) ≡ asks_at n
-asks_by_instruction node.Done = refl
-asks_by_instruction (node.Line line instruction next) = refl
-asks_by_instruction (node.Rounds rounds body next) = refl
-asks_by_instruction (node.Choice number first second next) = refl
+asks_by_instruction Node.Done = refl
+asks_by_instruction (Node.Line line instruction next) = refl
+asks_by_instruction (Node.Rounds rounds body next) = refl
+asks_by_instruction (Node.Choice number first second next) = refl
 
 -- the operation that it asks for
 pub op_by_instruction : (numbers : List ℕ) (n : Node)
     → op_asked numbers (instruction_of_node n) ≡ op_of_node numbers n
-op_by_instruction numbers node.Done = refl
-op_by_instruction numbers (node.Line line instruction next) = refl
-op_by_instruction numbers (node.Rounds rounds body next) = refl
-op_by_instruction numbers (node.Choice number first second next) = refl
+op_by_instruction numbers Node.Done = refl
+op_by_instruction numbers (Node.Line line instruction next) = refl
+op_by_instruction numbers (Node.Rounds rounds body next) = refl
+op_by_instruction numbers (Node.Choice number first second next) = refl
 
 pub length-nodes_of : (spots : List Spot) → length (nodes_of spots) ≡ length spots
 length-nodes_of spots = length-map spots (λ (s : Spot). s.node)
@@ -36,18 +31,18 @@ length-nodes_of spots = length-map spots (λ (s : Spot). s.node)
 pub node_of_spot : (spots : List Spot) (at : ℕ) → at < length spots
     → node_at (nodes_of spots) at ≡ (spot_at spots at).node
 node_of_spot spots at h =
-    get_or-map (λ (s : Spot). s.node) spots at end_spot node.Done h
+    get_or-map (λ (s : Spot). s.node) spots at end_spot Node.Done h
 
 nodes_of_push : (spots : List Spot) (s : Spot) → nodes_of (spots ++ s ∷ []) ≡ nodes_of spots ++ s.node ∷ []
 nodes_of_push spots s = map-append (λ (s : Spot). s.node) spots (s ∷ [])
 
 same_mark : (nodes more : List Node) (n : Node) → IsBelow (length nodes) n
     → sequels_of (nodes ++ more) n ≡ sequels_of nodes n
-same_mark nodes more node.Done below = refl
-same_mark nodes more (node.Line line instruction next) below =
-    ap (λ (m : Node). sequels_before next m instruction) (get_or_append_left nodes more node.Done next below)
-same_mark nodes more (node.Rounds rounds body next) below = refl
-same_mark nodes more (node.Choice number first second next) below = refl
+same_mark nodes more Node.Done below = refl
+same_mark nodes more (Node.Line line instruction next) below =
+    ap (λ (m : Node). sequels_before next m instruction) (get_or_append_left nodes more Node.Done next below)
+same_mark nodes more (Node.Rounds rounds body next) below = refl
+same_mark nodes more (Node.Choice number first second next) below = refl
 
 same_mark_pushed : (spots : List Spot) (s : Spot) (n : Node) → IsBelow (length spots) n
     → sequels_of (nodes_of spots) n ≡ sequels_of (nodes_of (spots ++ s ∷ [])) n

@@ -1,33 +1,23 @@
 -- A script that is fed stands for what the definition says.
-use Rattle.std.proofs.Common.{◌≡◌, ℕ, ◌+◌, Bool, true, false, List, [], ◌∷◌, ◌++◌, length, refl, ap, sym, ◌∙◌, arith}
-use Rattle.std.specs.Prelude.{Option, Some, None, is_some}
-use Rattle.std.proofs.lemmas.List.{length_push, append_assoc}
-use Rattle.mk_never.specs.declared.operations.Op.{Op}
-use Rattle.mk_core.specs.declared.events.Answer.{Answer}
-use Rattle.mk_core.specs.Decided.{flagged}
-use Rattle.mk_script.specs.declared.items.Item.{Item}
-use Rattle.mk_check.specs.declared.feeding.instructions.Instruction.{Instruction}
-use Rattle.mk_check.specs.declared.feeding.instructions.Instruction.TheVariants.{Nothing, Const, Add, Sub, Print, New}
-use Rattle.mk_check.specs.declared.feeding.instructions.Instruction.TheVariants.{Free, GetPtr, SetPtr, Lea, Move, Clear}
-use Rattle.mk_check.specs.declared.feeding.instructions.Instruction.TheVariants.{GetGlobal, SetGlobal, SetNum, GetNum}
-use Rattle.mk_check.specs.declared.feeding.instructions.Instruction.TheVariants.{CasPtr, Same, IsNull, Show}
-use Rattle.mk_check.specs.declared.feeding.tree.Node.{Node}
-use Rattle.mk_check.specs.declared.feeding.tree.Node.TheVariants as node
-use Rattle.mk_check.specs.Blocks.{Blocks, Done, Line, Rounds, Choice, ScriptText, script_of, blocks_from}
-use Rattle.mk_check.specs.Blocks.{is_end_of_block}
-use Rattle.mk_check.specs.Feed.{Scope, Fed, op_of, refusal_line, refusal_text, answered_number, show_text, with_answer}
-use Rattle.mk_check.specs.Feed.{note, take_answer, fed_before_lines, feed, has_ended}
-use Rattle.mk_check.specs.Steps.{Steps, then_steps, numbered, instruction_of, KeptState, Stopped, op_asked, with_text}
-use Rattle.mk_check.specs.Steps.{after_answer, stop_of, stop_on_answer}
+use Rattle.mk_check.proofs.Vocabulary.{Answer, Blocks, Bool, Choice, Done, Fed, FeedStandsFor, FeedState, HasStopped}
+use Rattle.mk_check.proofs.Vocabulary.{Instruction, IsAtStop, IsFeed, IsTree, IsWaiting, Item, KeptState, Line, List}
+use Rattle.mk_check.proofs.Vocabulary.{Node, None, Op, Option, Place, PlaceIsWithin, Rounds, Scope, ScriptText, Some}
+use Rattle.mk_check.proofs.Vocabulary.{Steps, Stopped, StopsAt, ℕ, after_answer, ap, append_assoc, arith, blocks_from}
+use Rattle.mk_check.proofs.Vocabulary.{false, fed_before_lines, feed, first_op, flagged, instruction_of}
+use Rattle.mk_check.proofs.Vocabulary.{is_end_of_block, is_some, kept_in, left_in, length, length_push, node_at, note}
+use Rattle.mk_check.proofs.Vocabulary.{numbered, op_asked, op_in, op_of, op_of_node, refl, refusal_line, refusal_text}
+use Rattle.mk_check.proofs.Vocabulary.{script_of, script_scope, steps_at, stop_of, stop_on_answer, stopped_in, sym}
+use Rattle.mk_check.proofs.Vocabulary.{take_answer, then_steps, trees, true, with_answer, with_kept, with_text, []}
+use Rattle.mk_check.proofs.Vocabulary.{◌++◌, ◌+◌, ◌∙◌, ◌∷◌, ◌≡◌}
+use Rattle.mk_check.proofs.Numbered.{kept_of, kept_of-with_answer, op_of-asked, ops-with_answer, run_agrees, stopped_of}
+use Rattle.mk_check.proofs.StepLaws.{behind_text, stop_of-text, stopped_behind_text}
+use Rattle.mk_check.proofs.{FeedLaws.feed_push, Moves.unfolded_done, Moves.unfolded_line}
+use Rattle.mk_check.specs.declared.feeding.instructions.Instruction.TheVariants.{Add, CasPtr, Clear, Const, Free}
+use Rattle.mk_check.specs.declared.feeding.instructions.Instruction.TheVariants.{GetGlobal, GetNum, GetPtr, IsNull, Lea}
+use Rattle.mk_check.specs.declared.feeding.instructions.Instruction.TheVariants.{Move, New, Nothing, Print, Same}
+use Rattle.mk_check.specs.declared.feeding.instructions.Instruction.TheVariants.{SetGlobal, SetNum, SetPtr, Show, Sub}
+use Rattle.mk_check.specs.Feed.{answered_number, has_ended, show_text}
 use Rattle.mk_check.specs.Steps as steps
-use Rattle.mk_check.specs.Trees.{Place, steps_at, trees, left_in, kept_in, stopped_in, with_kept, node_at, IsTree}
-use Rattle.mk_check.specs.Trees.{PlaceIsWithin, StopsAt, HasStopped}
-use Rattle.mk_check.specs.Feeding.{FeedState, IsAtStop, op_of_node, op_in, first_op, script_scope, FeedStandsFor}
-use Rattle.mk_check.specs.Feeding.{IsFeed, IsWaiting}
-use Rattle.mk_check.proofs.StepLaws.{behind_text, stopped_behind_text, stop_of-text}
-use Rattle.mk_check.proofs.Numbered.{kept_of, stopped_of, run_agrees, op_of-asked, kept_of-with_answer, ops-with_answer}
-use Rattle.mk_check.proofs.FeedLaws.{feed_push}
-use Rattle.mk_check.proofs.Moves.{unfolded_done, unfolded_line}
 
 -- blocks that begin with a line
 pub record BeginsWith (scope : Scope) (left : Blocks) (line : ℕ) (instruction : Instruction)
@@ -63,14 +53,14 @@ pub record Tells (scope : Scope) (fed : Fed) (o : Option Op) : Type 0 where
 tells : (scope : Scope) (fed : Fed) (nodes : List Node) (p : Place) (n : Node) → IsTree nodes
     → PlaceIsWithin (length nodes) p → node_at nodes p.at ≡ n → StopsAt n p
     → left_in nodes p ≡ numbered scope fed.left → p.numbers ≡ fed.numbers → Tells scope fed (op_of_node p.numbers n)
-tells scope fed nodes p node.Done tree w e stops left numbers =
+tells scope fed nodes p Node.Done tree w e stops left numbers =
     let over = no_more scope fed.left (sym left ∙ unfolded_done nodes p tree w e stops) in
     record {
       op = sym (ap (first_op scope fed) over);
       ended = λ h. ap is_end_of_block over;
       none = λ h. refl;
     }
-tells scope fed nodes p (node.Line line instruction next) tree w e stops left numbers =
+tells scope fed nodes p (Node.Line line instruction next) tree w e stops left numbers =
     let here = begins_with scope fed.left line instruction _ (sym left
     ∙ unfolded_line nodes p line instruction next tree w e) in
     let op : op_asked p.numbers instruction ≡ first_op scope fed fed.left =
@@ -79,16 +69,16 @@ tells scope fed nodes p (node.Line line instruction next) tree w e stops left nu
     ∙ (sym (op_of-asked scope fed here.item) ∙ sym (ap (first_op scope fed) here.is))) in
     let on : has_ended fed ≡ false = ap is_end_of_block here.is in
     record { op = op; ended = λ h. cc; none = λ h. cc }
-tells scope fed nodes p (node.Rounds rounds body next) tree w e stops left numbers = absurd stops
-tells scope fed nodes p (node.Choice number first second next) tree w e stops left numbers = absurd stops
+tells scope fed nodes p (Node.Rounds rounds body next) tree w e stops left numbers = absurd stops
+tells scope fed nodes p (Node.Choice number first second next) tree w e stops left numbers = absurd stops
 
 pub op_of_others : (numbers : List ℕ) (n : Node)
-    → ((line : ℕ) (instruction : Instruction) (next : ℕ) → n ≡ node.Line line instruction next → ⊥)
+    → ((line : ℕ) (instruction : Instruction) (next : ℕ) → n ≡ Node.Line line instruction next → ⊥)
     → op_of_node numbers n ≡ None
-op_of_others numbers node.Done h = refl
-op_of_others numbers (node.Line line instruction next) h = absurd (h line instruction next refl)
-op_of_others numbers (node.Rounds rounds body next) h = refl
-op_of_others numbers (node.Choice number first second next) h = refl
+op_of_others numbers Node.Done h = refl
+op_of_others numbers (Node.Line line instruction next) h = absurd (h line instruction next refl)
+op_of_others numbers (Node.Rounds rounds body next) h = refl
+op_of_others numbers (Node.Choice number first second next) h = refl
 
 pub op_stands : (program : List Item) (k : ℕ) (s : FeedState) (answers : List Answer) → IsTree s.nodes → IsAtStop s
     → FeedStandsFor program k s answers
@@ -204,7 +194,7 @@ answered_from program k answers a line item rest s is taken some stop =
 pub answer_stands : (program : List Item) (k : ℕ) (answers : List Answer) (a : Answer) (s t : FeedState) (line : ℕ)
     (instruction : Instruction) (next : ℕ)
     → IsTree s.nodes → PlaceIsWithin (length s.nodes) s.place → node_at s.nodes s.place.at
-    ≡ node.Line line instruction next
+    ≡ Node.Line line instruction next
     → is_some (op_asked s.place.numbers instruction) ≡ true
     → stopped_in t.nodes t.place ≡ stop_on_answer (left_in s.nodes s.place) a (kept_in s.place)
     → FeedStandsFor program k s answers → FeedStandsFor program k t (answers ++ a ∷ [])
@@ -260,7 +250,7 @@ stop_on_answer-text rest line instruction a k =
 
 -- A copy that runs on without the text so far stops where the script stops.
 pub answer_stops : (nodes : List Node) (p r q t : Place) (line : ℕ) (instruction : Instruction) (next : ℕ) (a : Answer)
-    → IsTree nodes → PlaceIsWithin (length nodes) p → node_at nodes p.at ≡ node.Line line instruction next
+    → IsTree nodes → PlaceIsWithin (length nodes) p → node_at nodes p.at ≡ Node.Line line instruction next
     → r ≡ with_kept (record p { at = next })
     (after_answer instruction a (record { numbers = p.numbers; text = refusal_line line (refusal_text a) }))
     → HasStopped nodes r q → t ≡ record q { text = p.text ++ q.text }

@@ -1,17 +1,14 @@
 -- Laws of what steps do: one part after another, rounds, and text that stands before.
-use Rattle.std.proofs.Common.{◌≡◌, ℕ, zero, suc, Bool, true, false, List, ◌++◌, refl, ap, sym, ◌∙◌, if◌then◌else◌}
-use Rattle.std.specs.Prelude.{slice_index, ◌==◌, is_some}
 use Rattle.std.specs.Fmt.{decimal}
-use Rattle.std.proofs.lemmas.List.{append_assoc}
-use Rattle.mk_check.specs.declared.feeding.instructions.Instruction.{Instruction}
-use Rattle.mk_check.specs.declared.feeding.instructions.Instruction.TheVariants.{Nothing, Const, Add, Sub, Print, New}
-use Rattle.mk_check.specs.declared.feeding.instructions.Instruction.TheVariants.{Free, GetPtr, SetPtr, Lea, Move, Clear}
-use Rattle.mk_check.specs.declared.feeding.instructions.Instruction.TheVariants.{GetGlobal, SetGlobal, SetNum, GetNum}
-use Rattle.mk_check.specs.declared.feeding.instructions.Instruction.TheVariants.{CasPtr, Same, IsNull, Show}
-use Rattle.mk_check.specs.Feed.{newline}
-use Rattle.mk_check.specs.Steps.{Steps, Done, Line, Rounds, Choice, then_steps, KeptState, Stopped, op_asked}
-use Rattle.mk_check.specs.Steps.{after_line}
-use Rattle.mk_check.specs.Steps.{stop_behind, stop_of_rounds, stop_of}
+use Rattle.mk_check.proofs.Vocabulary.{Bool, Instruction, KeptState, List, Steps, Stopped, ℕ, after_line, ap}
+use Rattle.mk_check.proofs.Vocabulary.{append_assoc, false, if◌then◌else◌, is_some, op_asked, refl, slice_index}
+use Rattle.mk_check.proofs.Vocabulary.{stop_behind, stop_of, stop_of_rounds, suc, sym, then_steps, true, zero, ◌++◌}
+use Rattle.mk_check.proofs.Vocabulary.{◌==◌, ◌∙◌, ◌≡◌}
+use Rattle.mk_check.specs.declared.feeding.instructions.Instruction.TheVariants.{Add, CasPtr, Clear, Const, Free}
+use Rattle.mk_check.specs.declared.feeding.instructions.Instruction.TheVariants.{GetGlobal, GetNum, GetPtr, IsNull, Lea}
+use Rattle.mk_check.specs.declared.feeding.instructions.Instruction.TheVariants.{Move, New, Nothing, Print, Same}
+use Rattle.mk_check.specs.declared.feeding.instructions.Instruction.TheVariants.{SetGlobal, SetNum, SetPtr, Show, Sub}
+use Rattle.mk_check.specs.{Feed.newline, Steps.Choice, Steps.Done, Steps.Line, Steps.Rounds}
 
 pub then_steps_assoc : (a b c : Steps) → then_steps (then_steps a b) c ≡ then_steps a (then_steps b c)
 then_steps_assoc Done b c = refl

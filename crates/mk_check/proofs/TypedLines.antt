@@ -1,23 +1,15 @@
 -- What a well-typed line says of its registers, its types and its globals.
-use Rattle.std.proofs.Common.{◌≡◌, ℕ, ◌+◌, Bool, true, false, List, Option, Some, None, refl, ap, sym, ◌∙◌}
-use Rattle.std.specs.Prelude.{◌==◌, is_some, option_map}
-use Rattle.std.specs.Str.{bytes_eq}
-use Rattle.std.proofs.lemmas.Bool.{and_parts, eqb-true, false≢true}
-use Rattle.std.proofs.lemmas.Option.{same_Some}
-use Rattle.std.proofs.lemmas.Slice.Eq.{bytes_eq-Decides}
-use Rattle.mk_script.specs.declared.items.At.{At}
-use Rattle.mk_script.specs.declared.items.TypeWord.{TypeWord}
+use Rattle.std.proofs.Common.{eqb-true}
+use Rattle.mk_check.proofs.Vocabulary.{Around, At, Bool, Item, List, None, Option, Some, TypeKind, TypeWord, ℕ}
+use Rattle.mk_check.proofs.Vocabulary.{and_parts, ap, base_of, bytes_eq, bytes_eq-Decides, false, false≢true}
+use Rattle.mk_check.proofs.Vocabulary.{global_type, is_some, moved_by, option_map, pointer_at, refl, same_Some, sym}
+use Rattle.mk_check.proofs.Vocabulary.{true, type_words, typing_fault, word_among, ◌+◌, ◌==◌, ◌or◌, ◌∙◌, ◌≡◌}
+use Rattle.mk_check.specs.Typing.{base_of_global, inside_fault, is_base, is_number_word, kind_fault, number_word_fault}
+use Rattle.mk_check.specs.Typing.{place_behind, pointed_place, pointer_fault, pointer_word_fault, same_at, type_fault}
+use Rattle.mk_check.specs.Typing.{type_word_at, unless}
+use Rattle.mk_script.specs.declared.items.Item.TheVariants.{Casp, Clear, Free, Getn, Getp, Isnull, Lea, Loadg, Move}
+use Rattle.mk_script.specs.declared.items.Item.TheVariants.{New, Same, Setn, Setp, Show, Storeg}
 use Rattle.mk_script.specs.declared.items.TypeWord.TheVariants.{Number, Pointer}
-use Rattle.mk_script.specs.declared.items.Item.{Item}
-use Rattle.mk_script.specs.declared.items.Item.TheVariants.{New, Free, Getn, Setn, Getp, Setp, Casp, Lea, Move, Clear}
-use Rattle.mk_script.specs.declared.items.Item.TheVariants.{Loadg, Storeg, Same, Isnull, Show}
-use Rattle.mk_check.specs.declared.typing_faults.TypeKind.{TypeKind}
-use Rattle.mk_check.specs.declared.typing_faults.TypeKind.TheVariants as kind
-use Rattle.mk_check.specs.Typing.{Around, type_words, global_type, pointer_at, ◌or◌, unless, type_fault, pointer_fault}
-use Rattle.mk_check.specs.Typing.{same_at, moved_by, place_behind, word_among, type_word_at, inside_fault}
-use Rattle.mk_check.specs.Typing.{is_number_word}
-use Rattle.mk_check.specs.Typing.{pointed_place, base_of, is_base, base_of_global, kind_fault, number_word_fault}
-use Rattle.mk_check.specs.Typing.{pointer_word_fault, typing_fault}
 
 -- The register points to a place from which this word is i words on.
 pub record PointsBefore (program script : List Item) (pointer : List ℕ) (i : ℕ) (word : TypeWord) : Type 0 where
@@ -134,7 +126,7 @@ module _ (a : Around) (script : List Item) (stays : (name : List ℕ) (at : At) 
     → pointer_at name script ≡ Some at) where
   declared : (pointer : List ℕ) → pointer_fault a pointer ≡ None → IsDeclared script pointer
   declared pointer e =
-      let found = is_some_one (pointer_at pointer a.script) (unless_none _ kind.NoRegister e) in
+      let found = is_some_one (pointer_at pointer a.script) (unless_none _ TypeKind.NoRegister e) in
       record { at = found.value; declared = stays pointer found.value found.is }
 
   before : (pointer : List ℕ) (i : ℕ) (word : TypeWord) → type_word_at a (place_behind a pointer i) ≡ Some word
@@ -148,13 +140,13 @@ module _ (a : Around) (script : List Item) (stays : (name : List ℕ) (at : At) 
 
   before_number : (pointer : List ℕ) (i : ℕ) → number_word_fault a pointer i ≡ None
       → PointsBefore a.program script pointer i Number
-  before_number pointer i e = before pointer i Number (number_word _ (unless_none _ kind.Kind e))
+  before_number pointer i e = before pointer i Number (number_word _ (unless_none _ TypeKind.Kind e))
 
   before_one : (pointer : List ℕ) (i : ℕ) (register : List ℕ) → pointer_word_fault a pointer i register ≡ None
       → PointsBeforeOne a.program script pointer i register
   before_one pointer i register e =
       let one = are_one (pointed_place (type_word_at a (place_behind a pointer i))) (pointer_at register a.script)
-      (unless_none _ kind.Kind e) in
+      (unless_none _ TypeKind.Kind e) in
       record {
         at = one.at;
         word = before pointer i (Pointer one.at) (pointer_word _ one.at one.first);
@@ -165,8 +157,8 @@ module _ (a : Around) (script : List Item) (stays : (name : List ℕ) (at : At) 
       → kind_fault (pointer_at register a.script) (place_behind a pointer i) ≡ None
       → PointsBehind a.program script pointer i register
   behind pointer i register inside alike =
-      by_place (pointer_at pointer a.script) refl (is_some_one _ (unless_none _ kind.Offset inside))
-      (are_one _ _ (unless_none _ kind.Kind alike))
+      by_place (pointer_at pointer a.script) refl (is_some_one _ (unless_none _ TypeKind.Offset inside))
+      (are_one _ _ (unless_none _ TypeKind.Kind alike))
     where
       by_place : (place : Option At) → pointer_at pointer a.script ≡ place
           → Is (type_word_at a (option_map (moved_by i) place))
@@ -184,14 +176,14 @@ module _ (a : Around) (script : List Item) (stays : (name : List ℕ) (at : At) 
   alike : (first second : List ℕ) → kind_fault (pointer_at first a.script) (pointer_at second a.script) ≡ None
       → AreAlike script first second
   alike first second e =
-      let one = are_one (pointer_at first a.script) (pointer_at second a.script) (unless_none _ kind.Kind e) in
+      let one = are_one (pointer_at first a.script) (pointer_at second a.script) (unless_none _ TypeKind.Kind e) in
       record { at = one.at; first_is = stays first one.at one.first; second_is = stays second one.at one.second }
 
   to_type : (pointer ty : List ℕ) → type_fault a ty ≡ None
       → kind_fault (pointer_at pointer a.script) (Some (base_of ty)) ≡ None → PointsToType a.program script pointer ty
   to_type pointer ty e f =
-      let found = is_some_one (type_words ty a.program) (unless_none _ kind.NoType e) in
-      let one = are_one (pointer_at pointer a.script) (Some (base_of ty)) (unless_none _ kind.Kind f) in
+      let found = is_some_one (type_words ty a.program) (unless_none _ TypeKind.NoType e) in
+      let one = are_one (pointer_at pointer a.script) (Some (base_of ty)) (unless_none _ TypeKind.Kind f) in
       record {
         words = found.value;
         is = found.is;
@@ -202,7 +194,7 @@ module _ (a : Around) (script : List Item) (stays : (name : List ℕ) (at : At) 
       → PointsToGlobal a.program script pointer global
   to_global pointer global e =
       by_type (global_type global a.program) refl
-      (are_one (pointer_at pointer a.script) (base_of_global a global) (unless_none _ kind.Kind e))
+      (are_one (pointer_at pointer a.script) (base_of_global a global) (unless_none _ TypeKind.Kind e))
     where
       by_type : (ty : Option (List ℕ)) → global_type global a.program ≡ ty
           → AreOne (pointer_at pointer a.script) (option_map base_of ty)
@@ -211,9 +203,9 @@ module _ (a : Around) (script : List Item) (stays : (name : List ℕ) (at : At) 
       by_type (Some ty) is one =
           record { ty = ty; is = is; declared = stays pointer (base_of ty) (one.first ∙ sym one.second) }
 
-  to_base : (pointer : List ℕ) → unless (is_base (pointer_at pointer a.script)) kind.InteriorFree ≡ None
+  to_base : (pointer : List ℕ) → unless (is_base (pointer_at pointer a.script)) TypeKind.InteriorFree ≡ None
       → PointsToBase script pointer
-  to_base pointer e = by_place (pointer_at pointer a.script) refl (unless_none _ kind.InteriorFree e)
+  to_base pointer e = by_place (pointer_at pointer a.script) refl (unless_none _ TypeKind.InteriorFree e)
     where
       by_place : (place : Option At) → pointer_at pointer a.script ≡ place → is_base place ≡ true
           → PointsToBase script pointer

@@ -1,17 +1,12 @@
 -- Each line of a script of a well-typed program says what a well-typed line says.
-use Rattle.std.proofs.Common.{◌≡◌, ℕ, zero, suc, ◌+◌, List, [], ◌∷◌, ◌++◌, Option, Some, None, refl, ap, sym, ◌∙◌}
-use Rattle.std.specs.Option.{option_or}
-use Rattle.std.proofs.lemmas.List.{append_assoc}
-use Rattle.mk_script.specs.declared.items.At.{At}
-use Rattle.mk_script.specs.declared.items.Item.{Item}
-use Rattle.mk_script.specs.declared.items.Item.TheVariants.{Script}
-use Rattle.mk_script.specs.Scopes.{this_script}
-use Rattle.mk_check.specs.declared.typing_faults.TypeKind.{TypeKind}
-use Rattle.mk_check.specs.Blocks.{AllFrom, before_next_script, script_from, script_of}
-use Rattle.mk_check.specs.Typing.{pointer_at, TypingFault, typing_fault, at_line, fault_from, IsWellTyped}
-use Rattle.mk_check.specs.Lookups.{lines_behind}
+use Rattle.mk_check.proofs.Vocabulary.{At, Item, List, None, Option, Some, TypeKind, ℕ, ap, append_assoc, at_line}
+use Rattle.mk_check.proofs.Vocabulary.{before_next_script, fault_from, option_or, pointer_at, refl, script_from}
+use Rattle.mk_check.proofs.Vocabulary.{script_of, suc, sym, this_script, typing_fault, zero, [], ◌++◌, ◌+◌, ◌∙◌, ◌∷◌}
+use Rattle.mk_check.proofs.Vocabulary.{◌≡◌}
 use Rattle.mk_check.proofs.LookupLemmas.{pointer_at-append, this_script-push}
 use Rattle.mk_check.proofs.TypedLines.{Says, says}
+use Rattle.mk_check.specs.{Blocks.AllFrom, Lookups.lines_behind, Typing.IsWellTyped, Typing.TypingFault}
+use Rattle.mk_script.specs.declared.items.Item.TheVariants.{Script}
 
 line_none : (line : ℕ) (fault : Option TypeKind) (other : Option TypingFault) → at_line line fault other ≡ None
     → (fault ≡ None) × (other ≡ None)

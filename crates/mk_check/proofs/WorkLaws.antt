@@ -1,17 +1,12 @@
 -- What a run leaves is no more work than it began with, and an answer leaves less.
-use Rattle.std.proofs.Common.{◌≡◌, ℕ, zero, suc, ◌+◌, ◌*◌, ◌<◌, ◌≤◌, Bool, true, false, List, length, sym, subst}
-use Rattle.std.proofs.Common.{if◌then◌else◌, arith}
-use Rattle.std.specs.Prelude.{slice_index, ◌==◌, is_some, max}
-use Rattle.mk_core.specs.declared.events.Answer.{Answer}
-use Rattle.mk_check.specs.declared.feeding.instructions.Instruction.{Instruction}
-use Rattle.mk_check.specs.declared.feeding.tree.Node.{Node}
-use Rattle.mk_check.specs.declared.feeding.tree.Node.TheVariants as node
-use Rattle.mk_check.specs.Feed.{refusal_line, refusal_text}
-use Rattle.mk_check.specs.Steps.{Steps, Done, Line, Rounds, Choice, then_steps, none_left, KeptState, Stopped, op_asked}
-use Rattle.mk_check.specs.Steps.{with_text, after_line, stop_behind, stop_of_rounds, stop_of, after_answer}
-use Rattle.mk_check.specs.Steps.{stop_on_answer}
-use Rattle.mk_check.specs.Trees.{Place, left_in, kept_in, stopped_in, node_at, IsTree, PlaceIsWithin, work_of}
-use Rattle.mk_check.proofs.Moves.{work_of-then_steps, unfolded_line}
+use Rattle.mk_check.proofs.Vocabulary.{Answer, Bool, Instruction, IsTree, KeptState, List, Node, Place, PlaceIsWithin}
+use Rattle.mk_check.proofs.Vocabulary.{Steps, Stopped, ℕ, after_answer, after_line, arith, false, if◌then◌else◌}
+use Rattle.mk_check.proofs.Vocabulary.{is_some, kept_in, left_in, length, max, node_at, op_asked, refusal_line}
+use Rattle.mk_check.proofs.Vocabulary.{refusal_text, slice_index, stop_behind, stop_of, stop_of_rounds, stop_on_answer}
+use Rattle.mk_check.proofs.Vocabulary.{stopped_in, subst, suc, sym, then_steps, true, with_text, zero, ◌*◌, ◌+◌, ◌<◌}
+use Rattle.mk_check.proofs.Vocabulary.{◌==◌, ◌≡◌, ◌≤◌}
+use Rattle.mk_check.proofs.Moves.{unfolded_line, work_of-then_steps}
+use Rattle.mk_check.specs.{Steps.Choice, Steps.Done, Steps.Line, Steps.Rounds, Steps.none_left, Trees.work_of}
 
 work_of-stop_behind : (stopped : Stopped) (go : KeptState → Stopped) (rest : Steps)
     → ((k : KeptState) → work_of (go k).left ≤ work_of rest)
@@ -73,7 +68,7 @@ work_of-stop_on_answer line instruction rest a k =
 
 -- A place that was answered has less work left.
 pub answer_nearer : (nodes : List Node) (p t : Place) (line : ℕ) (instruction : Instruction) (next : ℕ) (a : Answer)
-    → IsTree nodes → PlaceIsWithin (length nodes) p → node_at nodes p.at ≡ node.Line line instruction next
+    → IsTree nodes → PlaceIsWithin (length nodes) p → node_at nodes p.at ≡ Node.Line line instruction next
     → stopped_in nodes t ≡ stop_on_answer (left_in nodes p) a (kept_in p)
     → work_of (left_in nodes t) < work_of (left_in nodes p)
 answer_nearer nodes p t line instruction next a tree w here stop =

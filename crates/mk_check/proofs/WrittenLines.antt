@@ -1,15 +1,12 @@
 -- The blocks of a script are its lines.
-use Rattle.std.proofs.Common.{◌≡◌, ℕ, zero, suc, ◌+◌, Bool, true, false, List, [], ◌∷◌, ◌++◌, length, refl, ap, sym}
-use Rattle.std.proofs.Common.{◌∙◌, subst, append_assoc, arith, inl, inr}
-use Rattle.std.specs.Prelude.{Option, Some, None}
-use Rattle.std.proofs.lemmas.List.{length-append}
-use Rattle.mk_script.specs.declared.items.Item.{Item}
-use Rattle.mk_script.specs.declared.items.Item.TheVariants.{Script, Repeat, If, Else, End}
+use Rattle.mk_check.proofs.Vocabulary.{Blocks, Bool, Choice, Done, Item, Line, List, None, Option, Part, Rounds, Some}
+use Rattle.mk_check.proofs.Vocabulary.{ℕ, ap, append_assoc, arith, before_next_script, branch, false, inl, inr, length}
+use Rattle.mk_check.proofs.Vocabulary.{length-append, outermost_blocks, parts_from, refl, script_from, script_of, subst}
+use Rattle.mk_check.proofs.Vocabulary.{suc, sym, true, with_line, zero, [], ◌++◌, ◌+◌, ◌∙◌, ◌∷◌, ◌≡◌}
+use Rattle.mk_check.specs.Blocks.{no_lines, with_else, with_if, with_repeat}
+use Rattle.mk_check.specs.WrittenBlocks.{AreWritten, IsSecondBranch, ScriptsAreTheirLines, is_plain}
 use Rattle.mk_script.proofs.ClosedBlocks.{Closes, program_closes}
-use Rattle.mk_check.specs.Blocks.{Blocks, Done, Line, Rounds, Choice, Part, branch, with_line, with_repeat, with_if}
-use Rattle.mk_check.specs.Blocks.{with_else, no_lines, parts_from, outermost_blocks, before_next_script, script_from}
-use Rattle.mk_check.specs.Blocks.{script_of}
-use Rattle.mk_check.specs.WrittenBlocks.{is_plain, IsSecondBranch, AreWritten, ScriptsAreTheirLines}
+use Rattle.mk_script.specs.declared.items.Item.TheVariants.{Else, End, If, Repeat, Script}
 
 -- what stands after the `else` of a part, which may be one that has none
 abbrev MayHave : Bool → Option Blocks → Type 0

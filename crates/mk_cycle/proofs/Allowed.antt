@@ -1,39 +1,20 @@
 -- The steps that a turn which is free for a cycle may make at phase 0.
-use Rattle.std.proofs.Common.{◌≡◌, ℕ, ◌<◌, Bool, true, false, refl, sym, subst, ap, ◌∙◌}
-use Rattle.std.specs.Prelude.{slice_index, ◌==◌, ◌||◌, ◌&&◌, ◌%◌, ◌/◌, ◌^◌, if◌then◌else◌, nat_lt, not, Option, None}
-use Rattle.std.proofs.lemmas.Bool.{eq-eqb, lt-ltb}
-use Rattle.mk_geom.specs.declared.addresses.Cell.{Cell}
-use Rattle.mk_core.specs.declared.config.Config.{Config}
-use Rattle.mk_core.specs.declared.events.Seat.{Seat}
-use Rattle.mk_core.specs.declared.events.Tally.{Tally}
-use Rattle.mk_core.specs.declared.events.Word.{Word}
-use Rattle.mk_core.specs.declared.events.Word.TheVariants as word
-use Rattle.mk_core.specs.declared.events.Step.{Step}
-use Rattle.mk_core.specs.declared.events.Step.TheVariants as step
-use Rattle.mk_core.specs.declared.seats.Flight.{Flight}
-use Rattle.mk_core.specs.Moments.{is_phase, others_are_held}
-use Rattle.mk_core.specs.NewPlaces.{target}
-use Rattle.mk_core.specs.Ranges.{is_word, is_run_cell, has_gates}
-use Rattle.mk_core.specs.TurnConditions.{frees, takes_snapshot, drops}
-use Rattle.mk_core.specs.Words.{Words, phase_of, quarantine_word}
-use Rattle.mk_laws.specs.Protocol.{Protocol}
+use Rattle.mk_laws.proofs.Vocabulary.{Bool, Cell, Config, Flight, IsHistory, None, Op, Option, Protocol, Seat, Step}
+use Rattle.mk_laws.proofs.Vocabulary.{Tally, Word, Words, ℕ, ap, eq-eqb, false, frees, has_gates, if◌then◌else◌}
+use Rattle.mk_laws.proofs.Vocabulary.{is_phase, is_run_cell, lt-ltb, nat_lt, not, others_are_held, phase_of}
+use Rattle.mk_laws.proofs.Vocabulary.{quarantine_word, refl, slice_index, subst, sym, target, true, ◌%◌, ◌&&◌, ◌/◌, ◌<◌}
+use Rattle.mk_laws.proofs.Vocabulary.{◌==◌, ◌^◌, ◌||◌, ◌∙◌, ◌≡◌}
+use Rattle.mk_cycle.proofs.Vocabulary.{Acts, Has, InTurn, IsAtPhase, IsEnabledTo, IsFreeForCycle, PassState, WordsState}
+use Rattle.mk_cycle.proofs.Vocabulary.{call_of, drops, now_of}
+use Rattle.mk_core.specs.{Ranges.is_word, TurnConditions.takes_snapshot}
 use Rattle.mk_laws.proofs.Protocols.{lists_keep_the_protocol}
-use Rattle.mk_never.specs.declared.operations.Op.{Op}
-use Rattle.mk_core.specs.History.{IsHistory}
-use Rattle.mk_words.specs.Seats.{Has}
-use Rattle.mk_words.specs.TurnSteps.{Acts, IsTurn, turn_stays}
-use Rattle.mk_words.specs.States.{WordsState, PassState, now_of, call_of}
-use Rattle.mk_words.specs.Steps.{IsEnabledTo}
-use Rattle.mk_words.proofs.Made.{own_before, pass_before}
-use Rattle.mk_words.proofs.TurnSteps.{holds_after}
-use Rattle.mk_cycle.specs.EngineLaw.{IsFreeForCycle, IsAtPhase, is_register}
-use Rattle.mk_cycle.specs.TurnKeeps.{InTurn}
-use Rattle.mk_cycle.proofs.Calm.{no_target}
-use Rattle.mk_cycle.proofs.MayAct.{may_act}
+use Rattle.mk_cycle.{proofs.Calm.no_target, proofs.MayAct.may_act, specs.EngineLaw.is_register}
+use Rattle.mk_words.proofs.{Made.own_before, Made.pass_before, TurnSteps.holds_after}
+use Rattle.mk_words.specs.TurnSteps.{IsTurn, turn_stays}
 
 look_gates : (c : Config) (w : Words) (seat : Seat) (f : Flight) (x : Word) → is_register x ≡ false
-    → has_gates c w seat f (step.Look x) ≡ true
-look_gates c w seat f (word.Reg j r) h = cc
+    → has_gates c w seat f (Step.Look x) ≡ true
+look_gates c w seat f (Word.Reg j r) h = cc
 look_gates c w seat f _ h = refl
 
 pub or_true : (a b : Bool) → b ≡ true → (a || b) ≡ true
@@ -44,13 +25,13 @@ module _ (p : PassState) (t : InTurn p) (free : IsFreeForCycle p) where
   pub protocol : Protocol p.table.config (now_of p)
   protocol = lists_keep_the_protocol p.table.config p.seen t.history.within_limits t.history.enabled
 
-  pub look_allowed : (x : Word) → is_word p.table.config x ≡ true → is_register x ≡ false → IsEnabledTo p (step.Look x)
+  pub look_allowed : (x : Word) → is_word p.table.config x ≡ true → is_register x ≡ false → IsEnabledTo p (Step.Look x)
   look_allowed x range none =
-      may_act p (step.Look x) protocol t.holds free.decided refl range
+      may_act p (Step.Look x) protocol t.holds free.decided refl range
       (look_gates p.table.config (now_of p).words p.seat (call_of p) x none) refl refl
 
-  pub tally_allowed : (n : Tally) (v : ℕ) → IsEnabledTo p (step.Tally n v)
-  tally_allowed n v = may_act p (step.Tally n v) protocol t.holds free.decided refl refl refl refl refl
+  pub tally_allowed : (n : Tally) (v : ℕ) → IsEnabledTo p (Step.Tally n v)
+  tally_allowed n v = may_act p (Step.Tally n v) protocol t.holds free.decided refl refl refl refl refl
 
   module _ (page : ℕ) (lt : page < p.table.config.pages) (none : IsAtPhase p 0) where
     range : nat_lt page p.table.config.pages ≡ true
@@ -59,8 +40,8 @@ module _ (p : PassState) (t : InTurn p) (free : IsFreeForCycle p) where
     at_zero : (phase_of (now_of p).words == 0) ≡ true
     at_zero = eq-eqb (phase_of (now_of p).words) 0 none
 
-    pub clear_allowed : IsEnabledTo p (step.Clear page)
-    clear_allowed = may_act p (step.Clear page) protocol t.holds free.decided refl range refl at_zero refl
+    pub clear_allowed : IsEnabledTo p (Step.Clear page)
+    clear_allowed = may_act p (Step.Clear page) protocol t.holds free.decided refl range refl at_zero refl
 
     not_two : is_phase (now_of p).words 2 ≡ false
     not_two = ap (λ (n : ℕ). n == 2) none
@@ -68,17 +49,17 @@ module _ (p : PassState) (t : InTurn p) (free : IsFreeForCycle p) where
     or_left : (a b : Bool) → a ≡ true → (a || b) ≡ true
     or_left a b h = ap (λ (x : Bool). x || b) h
 
-    pub unblack_allowed : IsEnabledTo p (step.Unblack page)
+    pub unblack_allowed : IsEnabledTo p (Step.Unblack page)
     unblack_allowed =
-        may_act p (step.Unblack page) protocol t.holds free.decided refl range
+        may_act p (Step.Unblack page) protocol t.holds free.decided refl range
         (or_left (not (is_phase (now_of p).words 2)) (others_are_held p.table.config.callers (now_of p).words p.seat)
         (ap not not_two))
         (or_left (phase_of (now_of p).words == 0) (phase_of (now_of p).words == 2) at_zero)
         (or_left (not (is_phase (now_of p).words 2)) _ (ap not not_two))
 
-    pub undirty_allowed : IsEnabledTo p (step.Undirty page)
+    pub undirty_allowed : IsEnabledTo p (Step.Undirty page)
     undirty_allowed =
-        may_act p (step.Undirty page) protocol t.holds free.decided refl range
+        may_act p (Step.Undirty page) protocol t.holds free.decided refl range
         (or_left (not (is_phase (now_of p).words 2)) (others_are_held p.table.config.callers (now_of p).words p.seat)
         (ap not not_two))
         (or_left (phase_of (now_of p).words == 0) (phase_of (now_of p).words == 2) at_zero)
@@ -86,12 +67,12 @@ module _ (p : PassState) (t : InTurn p) (free : IsFreeForCycle p) where
 
     pub snapshot_allowed : (v : ℕ)
         → v ≡ quarantine_word (slice_index (now_of p).words.freed page) (slice_index (now_of p).words.freed page)
-        → IsEnabledTo p (step.Quar page v)
+        → IsEnabledTo p (Step.Quar page v)
     snapshot_allowed v is =
         let w : Words = (now_of p).words in
         let f : Flight = call_of p in
         let none_freed : target p.table.config.pages w f ≡ None = no_target p.table.config.pages w f free.decided in
-        may_act p (step.Quar page v) protocol t.holds free.decided refl range
+        may_act p (Step.Quar page v) protocol t.holds free.decided refl range
         (ap (λ (cell : Option Cell). not (is_run_cell w cell) || others_are_held p.table.config.callers w p.seat)
         none_freed)
         (or_left ((phase_of w == 0) || (phase_of w == 1)) (phase_of w == 4)

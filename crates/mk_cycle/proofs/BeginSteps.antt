@@ -1,40 +1,23 @@
 -- The `begin` of a cycle, and the calls around it.
-use Rattle.std.proofs.Common.{◌≡◌, ℕ, zero, suc, ◌+◌, ◌/◌, ◌%◌, ◌^◌, ◌<◌, ◌≤◌, Bool, true, false, List, [], ◌∷◌, length}
-use Rattle.std.proofs.Common.{refl, sym, ap, subst, ◌∙◌, arith}
-use Rattle.std.specs.Prelude.{◌&&◌, ◌==◌, map, filter, sum_by, count_by, if◌then◌else◌, slice_index}
-use Rattle.std.proofs.lemmas.Bool.{and_from, eq-eqb}
-use Rattle.std.proofs.lemmas.List.Sums.{count_by-le-length}
-use Rattle.mk_core.specs.declared.config.Config.{Config}
-use Rattle.mk_core.specs.declared.events.Step.TheVariants as step
-use Rattle.mk_core.specs.declared.seats.Holding.{Holding}
-use Rattle.mk_core.specs.declared.seats.OwnCycle.TheVariants.{Begun}
-use Rattle.mk_core.specs.Allocations.{PlacedAllocation, no_longer_fresh, unreleased_storage, storage_of, storage_words}
-use Rattle.mk_core.specs.Allocations.{held_by_allocations, fresh_words_of, is_mapped}
-use Rattle.mk_geom.specs.Storages.{Storage}
+use Rattle.std.proofs.Common.{filter}
+use Rattle.mk_laws.proofs.Vocabulary.{Bool, Config, Holding, List, PlacedAllocation, Steady, Step, Storage}
+use Rattle.mk_laws.proofs.Vocabulary.{TalliesAreTidy, World, ℕ, all_below, all_below_more_is, all_below_zero_is}
+use Rattle.mk_laws.proofs.Vocabulary.{and_from, ap, arith, eq-eqb, false, fresh_words_of, has_clean_page, has_place}
+use Rattle.mk_laws.proofs.Vocabulary.{if◌then◌else◌, in_a_word, is_in, is_mapped, length, map, no_longer_fresh}
+use Rattle.mk_laws.proofs.Vocabulary.{phase_of, refl, slice_index, storage_of, storage_words, subst, suc, sym, true}
+use Rattle.mk_laws.proofs.Vocabulary.{zero, [], ◌%◌, ◌&&◌, ◌+◌, ◌/◌, ◌<◌, ◌==◌, ◌^◌, ◌∙◌, ◌∷◌, ◌≡◌, ◌≤◌}
+use Rattle.mk_cycle.proofs.Vocabulary.{Acts, Cleans, CountsAreLeft, Done, InTurn, IsAtPhase, IsClean, IsEnabledTo}
+use Rattle.mk_cycle.proofs.Vocabulary.{IsFreeForCycle, IsGone, KeepsGates, PassState, WasUndirty, call_of, count_by}
+use Rattle.mk_cycle.proofs.Vocabulary.{count_by-le-length, done_of, full_answers, held_by_allocations, is_pending_free}
+use Rattle.mk_cycle.proofs.Vocabulary.{made, now_of, releases, stands, steady_of, sum_by, world_at, world_of}
 use Rattle.mk_geom.specs.StorageWords.{held_by_storages}
-use Rattle.mk_core.specs.Bounded.{all_below}
-use Rattle.mk_core.specs.Counts.{releases, in_a_word, TalliesAreExact, TalliesAreTidy, full_answers}
-use Rattle.mk_core.specs.Frames.{Steady, steady_of, CountsAreLeft}
-use Rattle.mk_core.specs.History.{World}
-use Rattle.mk_core.specs.Readings.{is_in}
-use Rattle.mk_core.specs.StopConditions.{has_clean_page}
-use Rattle.mk_core.specs.Words.{phase_of}
 use Rattle.mk_books.proofs.PlaceLemmas.{count_by-map}
-use Rattle.mk_core.proofs.AllBelow.{all_below_zero_is, all_below_more_is}
-use Rattle.mk_laws.specs.Protocol.{has_place}
-use Rattle.mk_laws.proofs.LastEvents.{stands}
-use Rattle.mk_words.specs.States.{PassState, world_of, now_of, call_of}
-use Rattle.mk_words.specs.Steps.{IsEnabledTo}
-use Rattle.mk_words.specs.TurnSteps.{world_at, Acts}
-use Rattle.mk_words.proofs.Made.{made}
-use Rattle.mk_cycle.specs.BeginCycle.{BeginsCycle, with_cycle_begun}
-use Rattle.mk_cycle.specs.Cleaning.{Cleans, IsClean, WasUndirty}
-use Rattle.mk_cycle.specs.EngineLaw.{IsFreeForCycle, IsAtPhase, BeginsMarking, is_pending_free}
-use Rattle.mk_cycle.specs.TurnKeeps.{Done, done_of, IsGone, KeepsGates, InTurn}
-use Rattle.mk_cycle.proofs.Allowed.{protocol}
+use Rattle.mk_core.specs.Allocations.{unreleased_storage}
+use Rattle.mk_core.specs.{Counts.TalliesAreExact, declared.seats.OwnCycle.TheVariants.Begun}
 use Rattle.mk_cycle.proofs.KeptInParts.{gates_behind, gates_then, same_config}
-use Rattle.mk_cycle.proofs.MayAct.{may_act}
-use Rattle.mk_cycle.proofs.OwnSteps.{done_in, same_pass, same_call, still_gone, keeps_counts}
+use Rattle.mk_cycle.proofs.OwnSteps.{done_in, keeps_counts, same_call, same_pass, still_gone}
+use Rattle.mk_cycle.proofs.{Allowed.protocol, MayAct.may_act}
+use Rattle.mk_cycle.specs.{BeginCycle.BeginsCycle, BeginCycle.with_cycle_begun, EngineLaw.BeginsMarking}
 
 pub all_from : (n : ℕ) (test : ℕ → Bool) → ((k : ℕ) → k < n → test k ≡ true) → all_below n test ≡ true
 all_from zero test h = all_below_zero_is test
@@ -48,9 +31,9 @@ clean_page p page h =
 
 pub begin_allowed : (p : PassState) → InTurn p → IsFreeForCycle p → IsAtPhase p 0
     → ((page : ℕ) → page < p.table.config.pages → IsClean p page) → (now_of p).words.fresh ≡ 0
-    → IsEnabledTo p step.Begin
+    → IsEnabledTo p Step.Begin
 begin_allowed p t free none clean fresh =
-    may_act p step.Begin (protocol p t free) t.holds free.decided refl refl refl
+    may_act p Step.Begin (protocol p t free) t.holds free.decided refl refl refl
     (eq-eqb (phase_of (now_of p).words) 0 none)
     (and_from (all_below p.table.config.pages (has_clean_page (now_of p).words)) ((now_of p).words.fresh == 0)
     (all_from p.table.config.pages (has_clean_page (now_of p).words) (λ page lt. clean_page p page (clean page lt)))
@@ -102,13 +85,13 @@ pub stale_releases : (xs : List PlacedAllocation) → releases (map no_longer_fr
 stale_releases xs = count_by-map (λ (a : PlacedAllocation). a.released) no_longer_fresh xs
 
 module _ (p q : PassState) (t : InTurn p) (free : IsFreeForCycle p) (none : IsAtPhase p 0) (u : InTurn q)
-    (a : Acts p step.Begin q) where
+    (a : Acts p Step.Begin q) where
   abbrev w : World
   w = world_at a.makes
 
   phase_there : (w.now.words.phase + 1) % 2 ^ 64 % 8 ≡ 1
   phase_there =
-      let there = (made p step.Begin q a.makes).protocol in
+      let there = (made p Step.Begin q a.makes).protocol in
       let low : w.now.words.phase % 8 ≡ 0 = ap (λ (s : Steady). s.phase) a.turn.steady ∙ none in
       let few : count_by is_in w.now.seats.markers ≤ 8 =
       subst (λ (n : ℕ). count_by is_in w.now.seats.markers ≤ n) there.markers
@@ -132,7 +115,7 @@ module _ (p q : PassState) (t : InTurn p) (free : IsFreeForCycle p) (none : IsAt
       a.turn.steady
 
   pub begun_call : call_of q ≡ call_of p
-  begun_call = same_call p step.Begin q a t.own t.holds u.history (λ n. refl)
+  begun_call = same_call p Step.Begin q a t.own t.holds u.history (λ n. refl)
 
   pub begun_done : done_of (now_of q) ≡ record (done_of (now_of p)) { cycle = Begun }
   begun_done =
@@ -140,13 +123,13 @@ module _ (p q : PassState) (t : InTurn p) (free : IsFreeForCycle p) (none : IsAt
       ∙ ap (λ (h : Holding). record (done_in h) { cycle = Begun }) a.holding
 
   pub begun_gone : IsGone p → IsGone q
-  begun_gone = still_gone p step.Begin q a t.own t.holds u.history (λ n. refl) refl
+  begun_gone = still_gone p Step.Begin q a t.own t.holds u.history (λ n. refl) refl
 
   pub begun_counts : CountsAreLeft p.table.config p.seen q.seen
-  begun_counts = keeps_counts p step.Begin q a t.own t.holds u.history (λ n. refl) refl
+  begun_counts = keeps_counts p Step.Begin q a t.own t.holds u.history (λ n. refl) refl
 
   pub begun_gates : KeepsGates p q
-  begun_gates = gates_behind p step.Begin q a refl
+  begun_gates = gates_behind p Step.Begin q a refl
 
   pub begun_free : IsFreeForCycle q
   begun_free =
@@ -217,11 +200,11 @@ counts_then p q r same a b =
 pub begins_cycle : (p b d q : PassState) → Cleans p b → InTurn b → IsFreeForCycle b → IsAtPhase b 0
     → ((page : ℕ) → page < b.table.config.pages → IsClean b page)
     → ((page : ℕ) → page < p.table.config.pages → WasUndirty page p b) → (now_of b).words.fresh ≡ 0
-    → Acts b step.Begin d → InTurn d → BeginsMarking d q → BeginsCycle p q
+    → Acts b Step.Begin d → InTurn d → BeginsMarking d q → BeginsCycle p q
 begins_cycle p b d q k t free none clean undirty fresh a u law =
     let begun = steady_begun b d t free none u a in
     let first : b ≡ record p { seen = b.seen } = k.keeps.call.pass in
-    let second : d ≡ record p { seen = d.seen } = same_pass b step.Begin d a t.own t.holds u.history
+    let second : d ≡ record p { seen = d.seen } = same_pass b Step.Begin d a t.own t.holds u.history
     ∙ ap (λ (x : PassState). record x { seen = d.seen }) first in
     let pass : q ≡ record p { seen = q.seen } = law.keeps.call.pass
     ∙ ap (λ (x : PassState). record x { seen = q.seen }) second in
@@ -235,7 +218,7 @@ begins_cycle p b d q k t free none clean undirty fresh a u law =
     ∙ ap with_cycle_begun k.keeps.steady in
     let counts : CountsAreLeft p.table.config p.seen q.seen =
     counts_then p b q (same_config p b first) k.keeps.counts
-    (counts_then b d q (same_config b d (same_pass b step.Begin d a t.own t.holds u.history))
+    (counts_then b d q (same_config b d (same_pass b Step.Begin d a t.own t.holds u.history))
     (begun_counts b d t free none u a) law.keeps.counts) in
     record {
       makes = record {
@@ -253,7 +236,7 @@ begins_cycle p b d q k t free none clean undirty fresh a u law =
       steady = steady;
       counts = counts;
       gates = gates_then p b q first k.gates
-          (gates_then b d q (same_pass b step.Begin d a t.own t.holds u.history) (begun_gates b d t free none u a)
+          (gates_then b d q (same_pass b Step.Begin d a t.own t.holds u.history) (begun_gates b d t free none u a)
           law.gates);
       gone = law.keeps.call.gone (begun_gone b d t free none u a free.gone);
       exact = exact_from p q pass steady;

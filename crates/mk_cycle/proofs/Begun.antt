@@ -1,58 +1,45 @@
 -- What an engine does after each `begin`, in parts, by kinds of step, and at the `begin` itself.
-use Rattle.std.proofs.Common.{◌≡◌, ⊎_elim, Bool, true, false, List, [], ◌∷◌, ◌++◌, refl, sym, ap, subst, ◌∙◌}
-use Rattle.std.proofs.Common.{append-nil, append_assoc}
-use Rattle.std.specs.Prelude.{◌&&◌, not, if◌then◌else◌}
-use Rattle.std.specs.List.{list_any}
-use Rattle.std.proofs.lemmas.Bool.{and_parts, not-true, or_from, true≢false}
-use Rattle.std.proofs.lemmas.List.{append_cancel_left}
-use Rattle.std.proofs.lemmas.List.Folds.{list_all-append}
-use Rattle.mk_core.specs.declared.config.Config.{Config}
-use Rattle.mk_core.specs.declared.events.Event.{Event}
-use Rattle.mk_core.specs.declared.events.Seat.{Seat}
-use Rattle.mk_core.specs.declared.events.Step.{Step}
-use Rattle.mk_core.specs.declared.events.Step.TheVariants as step
-use Rattle.mk_core.specs.Accesses.{found}
-use Rattle.mk_core.specs.Cycles.{At, is_begin, is_give, through}
-use Rattle.mk_core.specs.Growing.{AreOfOthers, Finding, is_same_seat, own_from}
-use Rattle.mk_core.specs.History.{World, left, left_from, world_behind}
-use Rattle.mk_words.specs.Seats.{Has}
-use Rattle.mk_words.specs.States.{PassState, event_of}
-use Rattle.mk_words.specs.Steps.{Makes}
-use Rattle.mk_words.proofs.Seats.{same_self}
-use Rattle.mk_turns.specs.Doing.{Does, are_of}
-use Rattle.mk_turns.proofs.Doing.{does_step, not_own, own_in_parts}
-use Rattle.mk_turns.proofs.Sweeping.{only_seen, only_seen_by}
-use Rattle.mk_cycle.specs.Begun.{AreBegunFirst, DoesNothing, EachIsBegun, IsBegun, IsBegunFirst}
-use Rattle.mk_cycle.specs.FinishCycle.{FinishesCycle}
-use Rattle.mk_cycle.specs.Kinds.{begins_marking, clears, closes_marks, is_giving_back, holds_gates, sets_tallies}
+use Rattle.std.proofs.{Common.⊎_elim, lemmas.List.append_cancel_left, lemmas.List.Folds.list_all-append}
+use Rattle.mk_laws.proofs.Vocabulary.{At, Bool, Config, Event, List, Seat, Step, World, and_parts, ap, append-nil}
+use Rattle.mk_laws.proofs.Vocabulary.{append_assoc, false, found, if◌then◌else◌, is_begin, left, left_from, list_any}
+use Rattle.mk_laws.proofs.Vocabulary.{not, not-true, or_from, refl, subst, sym, through, true, true≢false, world_behind}
+use Rattle.mk_laws.proofs.Vocabulary.{[], ◌&&◌, ◌++◌, ◌∙◌, ◌∷◌, ◌≡◌}
+use Rattle.mk_cycle.proofs.Vocabulary.{Has, Makes, PassState, clears, does_step, event_of, holds_gates, is_giving_back}
+use Rattle.mk_cycle.proofs.Vocabulary.{only_seen_by, sets_tallies}
+use Rattle.mk_core.specs.{Cycles.is_give, Growing.AreOfOthers, Growing.Finding, Growing.is_same_seat, Growing.own_from}
 use Rattle.mk_cycle.proofs.InParts.{InFirst, InSecond, in_parts}
+use Rattle.mk_cycle.specs.Begun.{AreBegunFirst, DoesNothing, EachIsBegun, IsBegun, IsBegunFirst}
+use Rattle.mk_cycle.specs.{FinishCycle.FinishesCycle, Kinds.begins_marking, Kinds.closes_marks}
+use Rattle.mk_turns.proofs.{Doing.not_own, Doing.own_in_parts, Sweeping.only_seen}
+use Rattle.mk_turns.specs.Doing.{Does, are_of}
+use Rattle.mk_words.proofs.Seats.{same_self}
 
 -- These kinds of step have no `begin` among them.
 abbrev pub HaveNoBegin : (Step → Bool) → Type 0
 HaveNoBegin kinds = (x : Step) → kinds x ≡ true → is_begin x ≡ false
 
 pub clearing_begins_none : HaveNoBegin clears
-clearing_begins_none step.Begin h = cc
+clearing_begins_none Step.Begin h = cc
 clearing_begins_none _ h = refl
 
 pub marking_begins_none : HaveNoBegin begins_marking
-marking_begins_none step.Begin h = cc
+marking_begins_none Step.Begin h = cc
 marking_begins_none _ h = refl
 
 holding_begins_none : HaveNoBegin holds_gates
-holding_begins_none step.Begin h = cc
+holding_begins_none Step.Begin h = cc
 holding_begins_none _ h = refl
 
 closing_begins_none : HaveNoBegin closes_marks
-closing_begins_none step.Begin h = cc
+closing_begins_none Step.Begin h = cc
 closing_begins_none _ h = refl
 
 giving_begins_none : HaveNoBegin is_giving_back
-giving_begins_none step.Begin h = cc
+giving_begins_none Step.Begin h = cc
 giving_begins_none _ h = refl
 
 setting_begins_none : HaveNoBegin sets_tallies
-setting_begins_none step.Begin h = cc
+setting_begins_none Step.Begin h = cc
 setting_begins_none _ h = refl
 
 -- The own events of a list are of these kinds.
@@ -89,7 +76,7 @@ kinds_begin_none kinds c s w es none all b own =
 -- The seat gives no turn back in a list whose own events are of kinds without a `give`.
 
 marking_gives_none : (x : Step) → begins_marking x ≡ true → is_give x ≡ false
-marking_gives_none step.Give h = cc
+marking_gives_none Step.Give h = cc
 marking_gives_none _ h = refl
 
 give_first : (kinds : Step → Bool) (b : Bool) (x : Finding) (rest : List Finding)
@@ -197,13 +184,13 @@ module _ (begins : Config → Seat → List Event → List Event → Type 0) whe
       }
 
   -- The `begin`, and what the engine does after it.
-  module _ (p d q : PassState) (own : Has p.seats p.seat) (m : Makes p step.Begin d)
+  module _ (p d q : PassState) (own : Has p.seats p.seat) (m : Makes p Step.Begin d)
       (does : Does begins_marking d q) (part : IsBegun begins d q) where
     abbrev c : Config
     c = p.table.config
 
     abbrev e : Event
-    e = event_of p step.Begin
+    e = event_of p Step.Begin
 
     same_more : does.more ≡ part.more
     same_more =
@@ -287,10 +274,10 @@ module _ (begins : Config → Seat → List Event → List Event → Type 0) whe
       let r = m.releases in
       let held = only_seen p m.held m.holds.more m.holds.is in
       let closing = only_seen m.held r.closing r.marks.does.more r.marks.does.is in
-      let closed = only_seen_by r.closing r.closed step.Close r.close in
-      let released = only_seen_by r.closed m.released step.Release r.release in
+      let closed = only_seen_by r.closing r.closed Step.Close r.close in
+      let released = only_seen_by r.closed m.released Step.Release r.release in
       let freed = only_seen m.released m.freed m.frees.more m.frees.is in
-      let ended = only_seen_by m.freed m.ended step.End m.end in
+      let ended = only_seen_by m.freed m.ended Step.End m.end in
       let own_held = has_on p m.held held own in
       let own_closing = has_on m.held r.closing closing own_held in
       let own_closed = has_on r.closing r.closed closed own_closing in
@@ -299,10 +286,10 @@ module _ (begins : Config → Seat → List Event → List Event → Type 0) whe
       begun_then p m.held q held (does_begin_none holds_gates p m.held holding_begins_none m.holds)
       (begun_then m.held r.closing q closing
       (does_begin_none closes_marks m.held r.closing closing_begins_none r.marks.does)
-      (begun_then r.closing r.closed q closed (step_begins_none r.closing r.closed step.Close own_closing r.close refl)
+      (begun_then r.closing r.closed q closed (step_begins_none r.closing r.closed Step.Close own_closing r.close refl)
       (begun_then r.closed m.released q released
-      (step_begins_none r.closed m.released step.Release own_closed r.release refl)
+      (step_begins_none r.closed m.released Step.Release own_closed r.release refl)
       (begun_then m.released m.freed q freed
       (does_begin_none is_giving_back m.released m.freed giving_begins_none m.frees)
-      (begun_then m.freed m.ended q ended (step_begins_none m.freed m.ended step.End own_freed m.end refl)
+      (begun_then m.freed m.ended q ended (step_begins_none m.freed m.ended Step.End own_freed m.end refl)
       (does_begin_none sets_tallies m.ended q setting_begins_none m.behind))))))

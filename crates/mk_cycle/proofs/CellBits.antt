@@ -1,15 +1,11 @@
 -- Bits of cells that are given back.
-use Rattle.std.proofs.Common.{◌≡◌, ◌⊎◌, ℕ, zero, suc, ◌-◌, ◌/◌, ◌%◌, ◌^◌, ◌<◌, Bool, true, false, refl, sym, ap, ◌∙◌}
-use Rattle.std.proofs.Common.{arith, inl, inr, min, bit_and}
-use Rattle.std.specs.Prelude.{◌&&◌, not, ◌==◌}
-use Rattle.std.specs.Int.{bit_at}
-use Rattle.std.proofs.lemmas.Bool.{cases_Bool}
-use Rattle.std.proofs.lemmas.Nat.{and_le_l}
-use Rattle.std.proofs.lemmas.Nat.Bits.{bit_at_and, bit_at-lt, same_from_bits}
-use Rattle.mk_core.specs.Bits.{has_bit, without}
-use Rattle.mk_core.specs.Words.{quarantine_word}
-use Rattle.mk_core.proofs.BitsWithout.{has_bit_without}
-use Rattle.mk_core.proofs.WordBits.{bit_is_one, bit_is_none, zero_from_bits}
+use Rattle.std.proofs.lemmas.Nat.Bits.{bit_at-lt, bit_at_and, same_from_bits}
+use Rattle.std.proofs.Common.{min}
+use Rattle.mk_laws.proofs.Vocabulary.{Bool, ℕ, ap, arith, bit_at, cases_Bool, false, has_bit, has_bit_without, inl, inr}
+use Rattle.mk_laws.proofs.Vocabulary.{not, quarantine_word, refl, suc, sym, true, without, zero, ◌%◌, ◌&&◌, ◌-◌, ◌/◌}
+use Rattle.mk_laws.proofs.Vocabulary.{◌<◌, ◌==◌, ◌^◌, ◌∙◌, ◌≡◌, ◌⊎◌}
+use Rattle.mk_cycle.proofs.Vocabulary.{and_le_l, bit_and}
+use Rattle.mk_core.proofs.WordBits.{bit_is_none, bit_is_one, zero_from_bits}
 
 same_from_has : (a b : ℕ) → ((k : ℕ) → has_bit a k ≡ has_bit b k) → a ≡ b
 same_from_has a b h = same_from_bits a b (λ k. by k (cases_Bool (has_bit a k)))

@@ -1,18 +1,13 @@
 -- Pages are cleaned one by one, and others are passed over: what is known of those before goes on.
-use Rattle.std.proofs.Common.{◌≡◌, ℕ, ◌+◌, ◌<◌, ◌≤◌, false, sym, ◌∙◌, ap, below_more, inl, inr, arith}
-use Rattle.std.specs.Prelude.{slice_index}
-use Rattle.std.proofs.lemmas.Bool.{cases_lt}
+use Rattle.mk_laws.proofs.Vocabulary.{Steady, ℕ, ap, arith, cases_lt, false, header_at, inl, inr, slice_index, sym, ◌+◌}
+use Rattle.mk_laws.proofs.Vocabulary.{◌<◌, ◌∙◌, ◌≡◌, ◌≤◌}
+use Rattle.mk_cycle.proofs.Vocabulary.{Cleans, InTurn, IsClean, PassState, WasUndirty, below_more, now_of}
 use Rattle.mk_page_map.specs.Members.{has_freed_cells, is_in_use, page_at}
-use Rattle.mk_core.specs.Frames.{Steady}
-use Rattle.mk_core.specs.Words.{header_at}
 use Rattle.mk_laws.proofs.FreePages.{free_pages_have_nothing}
-use Rattle.mk_words.specs.PageMaps.{HasNoMarks}
-use Rattle.mk_words.specs.States.{PassState, now_of}
-use Rattle.mk_cycle.specs.Cleaning.{Cleans, HasTakenSnapshot, IsClean, IsCleanedPage, WasUndirty}
-use Rattle.mk_cycle.specs.TurnKeeps.{InTurn}
-use Rattle.mk_cycle.proofs.PageByPage.{no_header}
-use Rattle.mk_cycle.proofs.SettledPages.{no_cells, no_snapshot}
 use Rattle.mk_cycle.proofs.Undirty.{undirty_earlier, undirty_later, undirty_now}
+use Rattle.mk_cycle.proofs.{PageByPage.no_header, SettledPages.no_cells, SettledPages.no_snapshot}
+use Rattle.mk_cycle.specs.Cleaning.{HasTakenSnapshot, IsCleanedPage}
+use Rattle.mk_words.specs.PageMaps.{HasNoMarks}
 
 pub bare_stays : (p q : PassState) (page : ℕ) → Cleans p q → HasNoMarks (now_of p).words page
     → HasNoMarks (now_of q).words page

@@ -1,39 +1,17 @@
 -- Pages are cleaned step by step.
-use Rattle.std.proofs.Common.{◌≡◌, ℕ, ◌<◌, ◌%◌, ◌/◌, ◌^◌, true, false, List, [], ◌∷◌, ◌++◌, length, refl, sym, ap}
-use Rattle.std.proofs.Common.{subst, ◌∙◌, arith, inl, inr}
-use Rattle.std.specs.Prelude.{Option, None, map, slice_index, slice_set}
-use Rattle.std.proofs.lemmas.Bool.{cases_eq, cases_lt}
-use Rattle.std.proofs.lemmas.List.{get_or-set_same, get_or-set_other, set_past, set-get_or}
-use Rattle.mk_core.specs.declared.config.Config.{Config}
-use Rattle.mk_core.specs.declared.events.Step.{Step}
-use Rattle.mk_core.specs.declared.events.Word.{Word}
-use Rattle.mk_core.specs.declared.events.Seat.{Seat}
-use Rattle.mk_core.specs.declared.events.Step.TheVariants as step
-use Rattle.mk_core.specs.declared.events.Tally.TheVariants as tally
-use Rattle.mk_core.specs.Effects.{progress}
-use Rattle.mk_core.specs.Frames.{Steady, steady_of}
-use Rattle.mk_core.specs.History.{World, world_behind, IsHistory}
-use Rattle.mk_core.specs.Moments.{Moment, flight_of}
-use Rattle.mk_core.specs.Calls.{still}
-use Rattle.mk_core.specs.Cycles.{is_end}
-use Rattle.mk_core.specs.declared.seats.Flight.{Flight}
-use Rattle.mk_laws.specs.ZeroLaws.{is_heap_store}
-use Rattle.mk_core.specs.Words.{Words, quarantine_word}
-use Rattle.mk_core.specs.Allocations.{PlacedAllocation, freed_where_it_stands}
-use Rattle.mk_geom.specs.declared.addresses.Cell.{Cell}
-use Rattle.mk_words.specs.States.{WordsState, PassState, now_of, event_of}
-use Rattle.mk_words.specs.TurnSteps.{world_at, Acts}
-use Rattle.mk_turns.proofs.Doing.{does_nothing, does_then, does_step}
-use Rattle.mk_cycle.specs.Cleaning.{HasTakenSnapshot, IsClean, Cleans}
-use Rattle.mk_cycle.specs.EngineLaw.{IsFreeForCycle, IsAtPhase, is_pending_free}
-use Rattle.mk_cycle.specs.Kinds.{clears}
-use Rattle.mk_cycle.specs.TurnKeeps.{LeavesTurn, InTurn, but_cleaned}
-use Rattle.mk_core.specs.declared.events.Event.{Event}
-use Rattle.mk_laws.proofs.LastEvents.{stands}
-use Rattle.mk_words.proofs.Made.{made}
-use Rattle.mk_cycle.proofs.KeptInParts.{free_then, keeps_at_once, keeps_then, gates_then, gates_behind}
-use Rattle.mk_cycle.proofs.Calm.{is_calm, calm_still, calm_done, frees_none}
+use Rattle.mk_laws.proofs.Vocabulary.{Cell, Config, Event, Flight, IsHistory, List, Moment, None, Option}
+use Rattle.mk_laws.proofs.Vocabulary.{PlacedAllocation, Seat, Steady, Step, Tally, Word, Words, World, ℕ, ap, arith}
+use Rattle.mk_laws.proofs.Vocabulary.{cases_eq, cases_lt, false, flight_of, freed_where_it_stands, get_or-set_other}
+use Rattle.mk_laws.proofs.Vocabulary.{get_or-set_same, inl, inr, is_end, is_heap_store, length, map, progress}
+use Rattle.mk_laws.proofs.Vocabulary.{quarantine_word, refl, set-get_or, set_past, slice_index, slice_set, still, subst}
+use Rattle.mk_laws.proofs.Vocabulary.{sym, true, world_behind, [], ◌%◌, ◌++◌, ◌/◌, ◌<◌, ◌^◌, ◌∙◌, ◌∷◌, ◌≡◌}
+use Rattle.mk_cycle.proofs.Vocabulary.{Acts, Cleans, InTurn, IsAtPhase, IsClean, IsFreeForCycle, LeavesTurn, PassState}
+use Rattle.mk_cycle.proofs.Vocabulary.{WordsState, clears, does_nothing, does_step, does_then, event_of}
+use Rattle.mk_cycle.proofs.Vocabulary.{is_pending_free, made, now_of, stands, steady_of, world_at}
+use Rattle.mk_cycle.proofs.Calm.{calm_done, calm_still, frees_none, is_calm}
+use Rattle.mk_cycle.proofs.KeptInParts.{free_then, gates_behind, gates_then, keeps_at_once, keeps_then}
 use Rattle.mk_cycle.proofs.OwnSteps.{keeps_call, keeps_counts}
+use Rattle.mk_cycle.specs.{Cleaning.HasTakenSnapshot, TurnKeeps.but_cleaned}
 
 pub cleans_nothing : (p : PassState) → Cleans p p
 cleans_nothing p =
@@ -68,12 +46,12 @@ zero_stays xs i r h = elim (cases_eq r i) [
 ]
 
 calm_stores : (s : Step) → is_calm s ≡ true → is_heap_store s ≡ false
-calm_stores step.Write h = cc
-calm_stores step.Cas h = cc
+calm_stores Step.Write h = cc
+calm_stores Step.Cas h = cc
 calm_stores _ h = refl
 
 calm_ends : (s : Step) → is_calm s ≡ true → is_end s ≡ false
-calm_ends step.End h = cc
+calm_ends Step.End h = cc
 calm_ends _ h = refl
 
 -- A calm step of a turn that is free for a cycle.
@@ -140,12 +118,12 @@ module _ (p : PassState) (s : Step) (q : PassState) (a : Acts p s q) (t : InTurn
 -- by kind
 
 pub look_cleans : (c : Config) (w : World) (seat : Seat) (x : Word)
-    → CleansAt w (world_behind c w (record { seat = seat; step = step.Look x }))
+    → CleansAt w (world_behind c w (record { seat = seat; step = Step.Look x }))
 look_cleans c w seat x =
     record { steady = refl; gates = refl; unmarked = λ r h. h; unscanned = λ r h. h; snapshot = λ r h. h }
 
 pub clear_cleans : (c : Config) (w : World) (seat : Seat) (p : ℕ)
-    → CleansAt w (world_behind c w (record { seat = seat; step = step.Clear p }))
+    → CleansAt w (world_behind c w (record { seat = seat; step = Step.Clear p }))
 clear_cleans c w seat p =
     record {
       steady = refl;
@@ -156,7 +134,7 @@ clear_cleans c w seat p =
     }
 
 pub unblack_cleans : (c : Config) (w : World) (seat : Seat) (p : ℕ)
-    → CleansAt w (world_behind c w (record { seat = seat; step = step.Unblack p }))
+    → CleansAt w (world_behind c w (record { seat = seat; step = Step.Unblack p }))
 unblack_cleans c w seat p =
     record {
       steady = refl;
@@ -167,7 +145,7 @@ unblack_cleans c w seat p =
     }
 
 pub undirty_cleans : (c : Config) (w : World) (seat : Seat) (p : ℕ)
-    → CleansAt w (world_behind c w (record { seat = seat; step = step.Undirty p }))
+    → CleansAt w (world_behind c w (record { seat = seat; step = Step.Undirty p }))
 undirty_cleans c w seat p =
     record { steady = refl; gates = refl; unmarked = λ r h. h; unscanned = λ r h. h; snapshot = λ r h. h }
 
@@ -194,7 +172,7 @@ none_freed w (a ∷ xs) = ap (λ (ys : List PlacedAllocation). a ∷ ys) (none_f
 
 -- A `quar` of a call that isn't an undecided Free frees nothing.
 pub quar_frees_none : (c : Config) (w : World) (seat : Seat) (p v : ℕ) → is_pending_free (flight_of w.now seat) ≡ false
-    → (world_behind c w (record { seat = seat; step = step.Quar p v })).allocations ≡ w.allocations
+    → (world_behind c w (record { seat = seat; step = Step.Quar p v })).allocations ≡ w.allocations
 quar_frees_none c w seat p v free =
     ap (λ (cell : Option Cell). map (freed_where_it_stands w.now.words cell) w.allocations)
     (frees_none c.pages w.now.words (flight_of w.now seat) p v free)
@@ -203,7 +181,7 @@ quar_frees_none c w seat p v free =
 pub quar_cleans : (c : Config) (w : World) (seat : Seat) (p v : ℕ) → is_pending_free (flight_of w.now seat) ≡ false
     → p < length w.now.words.snapshot → slice_index w.now.words.freed p < 2 ^ 32
     → v ≡ quarantine_word (slice_index w.now.words.freed p) (slice_index w.now.words.freed p)
-    → CleansAt w (world_behind c w (record { seat = seat; step = step.Quar p v }))
+    → CleansAt w (world_behind c w (record { seat = seat; step = Step.Quar p v }))
 quar_cleans c w seat p v free lt small is =
     let f : ℕ = slice_index w.now.words.freed p in
     let low : v % 2 ^ 32 ≡ f = ap (λ (n : ℕ). n % 2 ^ 32) is ∙ low_half f small in
@@ -214,7 +192,7 @@ quar_cleans c w seat p v free lt small is =
       steady =
           ap (λ (fs : List ℕ). record (but_cleaned (steady_of w)) {
             freed = fs;
-            allocations = (world_behind c w (record { seat = seat; step = step.Quar p v })).allocations;
+            allocations = (world_behind c w (record { seat = seat; step = Step.Quar p v })).allocations;
           }) same
           ∙ ap (λ (xs : List PlacedAllocation). record (but_cleaned (steady_of w)) { allocations = xs })
           (quar_frees_none c w seat p v free);
@@ -240,28 +218,28 @@ cleaned_table p q w k is = ap (λ (x : PassState). x.table) k.keeps.call.pass �
 
 -- Each step by which they are.
 module _ (p q : PassState) (t : InTurn p) (free : IsFreeForCycle p) (none : IsAtPhase p 0) (u : InTurn q) where
-  pub looked : (x : Word) → Acts p (step.Look x) q → Cleans p q
-  looked x a = cleans_step p (step.Look x) q a t u.history refl refl free none
+  pub looked : (x : Word) → Acts p (Step.Look x) q → Cleans p q
+  looked x a = cleans_step p (Step.Look x) q a t u.history refl refl free none
       (look_cleans p.table.config (world_at a.makes) p.seat x)
 
-  pub cleared : (page : ℕ) → Acts p (step.Clear page) q → Cleans p q
-  cleared page a = cleans_step p (step.Clear page) q a t u.history refl refl free none
+  pub cleared : (page : ℕ) → Acts p (Step.Clear page) q → Cleans p q
+  cleared page a = cleans_step p (Step.Clear page) q a t u.history refl refl free none
       (clear_cleans p.table.config (world_at a.makes) p.seat page)
 
-  pub unblacked : (page : ℕ) → Acts p (step.Unblack page) q → Cleans p q
-  unblacked page a = cleans_step p (step.Unblack page) q a t u.history refl refl free none
+  pub unblacked : (page : ℕ) → Acts p (Step.Unblack page) q → Cleans p q
+  unblacked page a = cleans_step p (Step.Unblack page) q a t u.history refl refl free none
       (unblack_cleans p.table.config (world_at a.makes) p.seat page)
 
-  pub undirtied : (page : ℕ) → Acts p (step.Undirty page) q → Cleans p q
-  undirtied page a = cleans_step p (step.Undirty page) q a t u.history refl refl free none
+  pub undirtied : (page : ℕ) → Acts p (Step.Undirty page) q → Cleans p q
+  undirtied page a = cleans_step p (Step.Undirty page) q a t u.history refl refl free none
       (undirty_cleans p.table.config (world_at a.makes) p.seat page)
 
-  pub tallied : (v : ℕ) → Acts p (step.Tally tally.Fresh v) q → Cleans p q
+  pub tallied : (v : ℕ) → Acts p (Step.Tally Tally.Fresh v) q → Cleans p q
   tallied v a =
-      cleans_step p (step.Tally tally.Fresh v) q a t u.history refl refl free none
+      cleans_step p (Step.Tally Tally.Fresh v) q a t u.history refl refl free none
       (record { steady = refl; gates = refl; unmarked = λ r h. h; unscanned = λ r h. h; snapshot = λ r h. h })
 
-  module _ (page v : ℕ) (a : Acts p (step.Quar page v) q) (lt : page < p.table.config.pages)
+  module _ (page v : ℕ) (a : Acts p (Step.Quar page v) q) (lt : page < p.table.config.pages)
       (is : v ≡ quarantine_word (slice_index (now_of p).words.freed page) (slice_index (now_of p).words.freed page))
     where
       w : World
@@ -276,11 +254,11 @@ module _ (p q : PassState) (t : InTurn p) (free : IsFreeForCycle p) (none : IsAt
       snapshot_taken =
           let c : Config = p.table.config in
           let es : List Event = p.seen ++ a.makes.others in
-          let known = stands c es (made p (step.Quar page v) q a.makes).history in
+          let known = stands c es (made p (Step.Quar page v) q a.makes).history in
           let long : page < length w.now.words.snapshot =
           subst (λ (n : ℕ). page < n) (sym known.known.lengths.snapshot) lt in
           let small : slice_index w.now.words.freed page < 2 ^ 32 = (known.all.order.quarantined.small page).0 in
-          cleans_step p (step.Quar page v) q a t u.history refl refl free none
+          cleans_step p (Step.Quar page v) q a t u.history refl refl free none
           (quar_cleans c w p.seat page v (ap is_pending_free a.own.flight ∙ free.decided) long small
           (is ∙ ap (λ (n : ℕ). quarantine_word n n) (sym same_freed)))
 
@@ -289,7 +267,7 @@ module _ (p q : PassState) (t : InTurn p) (free : IsFreeForCycle p) (none : IsAt
       has_snapshot =
           let c : Config = p.table.config in
           let es : List Event = p.seen ++ a.makes.others in
-          let known = stands c es (made p (step.Quar page v) q a.makes).history in
+          let known = stands c es (made p (Step.Quar page v) q a.makes).history in
           let long : page < length w.now.words.snapshot =
           subst (λ (n : ℕ). page < n) (sym known.known.lengths.snapshot) lt in
           let long' : page < length w.now.words.freed =

@@ -1,11 +1,8 @@
 -- What an engine did up to a `close`, from wider parts of a turn.
-use Rattle.std.proofs.Common.{◌≡◌, List, [], ◌++◌, sym, ap, ◌∙◌, append-nil, append_assoc}
-use Rattle.mk_core.specs.declared.events.Event.{Event}
-use Rattle.mk_words.specs.States.{PassState}
-use Rattle.mk_cycle.specs.Closing.{IsClosedBy}
-use Rattle.mk_cycle.specs.Holding.{HoldsGates}
-use Rattle.mk_cycle.specs.Releasing.{MakesRelease}
+use Rattle.mk_laws.proofs.Vocabulary.{Event, List, ap, append-nil, append_assoc, sym, [], ◌++◌, ◌∙◌, ◌≡◌}
+use Rattle.mk_cycle.proofs.Vocabulary.{HoldsGates, PassState}
 use Rattle.mk_cycle.proofs.HoldingSteps.{holds_nothing, holds_then}
+use Rattle.mk_cycle.specs.{Closing.IsClosedBy, Releasing.MakesRelease}
 
 module _ (closes : PassState → PassState → Type 0) where
   -- in the stop itself

@@ -1,21 +1,12 @@
 -- What was released is counted page by page.
-use Rattle.std.proofs.Common.{◌≡◌, ℕ, zero, suc, ◌+◌, ◌*◌, ◌/◌, ◌^◌, ◌≤◌, Bool, true, false, bit_and, count_ones, List}
-use Rattle.std.proofs.Common.{refl, sym, ap, ◌∙◌, arith}
-use Rattle.std.specs.Prelude.{if◌then◌else◌, slice_index}
-use Rattle.mk_geom.specs.Headers.{header_of}
-use Rattle.mk_core.specs.Bits.{without}
-use Rattle.std.proofs.lemmas.Nat.{and_le_l, ones_le_self}
-use Rattle.mk_core.specs.Cells.{header_in, is_unmapped_header, words_under}
-use Rattle.mk_core.specs.Words.{Words, header_at, quarantine_word}
-use Rattle.mk_words.specs.States.{PassState, now_of}
-use Rattle.mk_cycle.specs.declared.finishing.Released.{Released}
-use Rattle.mk_cycle.specs.Freeing.{GivesNothingBack, PageState, SamePage}
-use Rattle.mk_cycle.specs.ReleasedPages.{held_below, held_unmarked, released_below, released_on, words_unmarked}
-use Rattle.mk_cycle.specs.TurnKeeps.{InTurn}
-use Rattle.mk_cycle.proofs.CleaningSteps.{halves}
-use Rattle.mk_cycle.proofs.GivingSteps.{none_then}
-use Rattle.mk_cycle.proofs.PageSteps.{same_header}
-use Rattle.mk_cycle.proofs.SumsBelow.{sum_same}
+use Rattle.std.proofs.{Common.count_ones, lemmas.Nat.ones_le_self}
+use Rattle.mk_laws.proofs.Vocabulary.{Bool, List, Words, ℕ, ap, arith, false, header_at, header_in, header_of}
+use Rattle.mk_laws.proofs.Vocabulary.{if◌then◌else◌, is_unmapped_header, quarantine_word, refl, slice_index, suc, sym}
+use Rattle.mk_laws.proofs.Vocabulary.{true, without, words_under, zero, ◌*◌, ◌+◌, ◌/◌, ◌^◌, ◌∙◌, ◌≡◌, ◌≤◌}
+use Rattle.mk_cycle.proofs.Vocabulary.{GivesNothingBack, InTurn, PageState, PassState, Released, SamePage, and_le_l}
+use Rattle.mk_cycle.proofs.Vocabulary.{bit_and, held_below, held_unmarked, now_of, released_below, released_on}
+use Rattle.mk_cycle.proofs.Vocabulary.{words_unmarked}
+use Rattle.mk_cycle.proofs.{CleaningSteps.halves, GivingSteps.none_then, PageSteps.same_header, SumsBelow.sum_same}
 
 pub same_released : (a b : Released) → a.count ≡ b.count → a.words ≡ b.words → a.kept ≡ b.kept → a ≡ b
 same_released a b count words kept =

@@ -1,37 +1,20 @@
 -- All of a finish: what was released is given back, the cycle ends, and the tallies are set.
-use Rattle.std.proofs.Common.{◌≡◌, ℕ, ◌+◌, ◌-◌, ◌<◌, true, List, [], length, map, sym, ap, subst, ◌∙◌, arith}
-use Rattle.std.specs.Prelude.{not, ◌||◌}
-use Rattle.mk_core.specs.declared.config.Config.{Config}
-use Rattle.mk_core.specs.declared.events.Step.TheVariants as step
-use Rattle.mk_core.specs.Allocations.{PlacedAllocation, fresh_words_of, held_by_allocations, with_released}
-use Rattle.mk_geom.specs.Addresses.{address_of}
-use Rattle.mk_core.specs.Bounded.{is_some_and}
-use Rattle.mk_core.specs.Cells.{is_left_unmarked, pointed_cell}
-use Rattle.mk_core.specs.Counts.{TalliesAreExact, TalliesAreTidy, ends, full_answers, in_a_word, releases}
-use Rattle.mk_core.specs.Effects.{cycle_ended}
-use Rattle.mk_core.specs.Frames.{CountsAreLeft, Steady, steady_of}
-use Rattle.mk_core.specs.Moments.{is_held, none_is_held}
-use Rattle.mk_core.specs.Words.{Words}
-use Rattle.mk_core.proofs.AllBelow.{all_below-at}
-use Rattle.mk_words.specs.States.{PassState, world_of, now_of}
-use Rattle.mk_words.specs.TurnSteps.{Acts}
-use Rattle.mk_cycle.specs.declared.finishing.Released.{Released}
-use Rattle.mk_cycle.specs.BeginCycle.{BeginsCycle}
-use Rattle.mk_cycle.specs.EngineLaw.{IsAtPhase, IsFreeForCycle, is_pending_free}
-use Rattle.mk_cycle.specs.FinishCycle.{FinishesCycle, HasReleased, HoldsFewer, newly_released}
-use Rattle.mk_cycle.specs.GivingAll.{GivesAllBack}
-use Rattle.mk_cycle.specs.Releasing.{words_released}
-use Rattle.mk_cycle.specs.Tallying.{Sets, with_cycle_counted}
-use Rattle.mk_cycle.specs.TurnKeeps.{Done, done_of, InTurn, KeepsCall, KeepsGates}
-use Rattle.mk_laws.specs.Protocol.{has_place}
+use Rattle.mk_laws.proofs.Vocabulary.{Config, List, PlacedAllocation, Steady, Step, TalliesAreTidy, Words, ℕ}
+use Rattle.mk_laws.proofs.Vocabulary.{address_of, all_below-at, ap, arith, ends, fresh_words_of, has_place, in_a_word}
+use Rattle.mk_laws.proofs.Vocabulary.{is_held, is_left_unmarked, is_some_and, length, map, not, pointed_cell, subst}
+use Rattle.mk_laws.proofs.Vocabulary.{sym, true, with_released, [], ◌+◌, ◌-◌, ◌<◌, ◌||◌, ◌∙◌, ◌≡◌}
+use Rattle.mk_cycle.proofs.Vocabulary.{Acts, CountsAreLeft, Done, HasReleased, HoldsFewer, InTurn, IsAtPhase}
+use Rattle.mk_cycle.proofs.Vocabulary.{IsFreeForCycle, KeepsCall, KeepsGates, PassState, Released, done_of}
+use Rattle.mk_cycle.proofs.Vocabulary.{full_answers, held_by_allocations, is_pending_free, newly_released, now_of}
+use Rattle.mk_cycle.proofs.Vocabulary.{releases, steady_of, world_of}
+use Rattle.mk_core.specs.{Counts.TalliesAreExact, Effects.cycle_ended, Moments.none_is_held}
 use Rattle.mk_cycle.proofs.BeginSteps.{all_from, counts_then}
-use Rattle.mk_cycle.proofs.EndSteps.{as_many_fulls, ended_call, ended_done, ended_gates, ended_gone, one_more_end}
-use Rattle.mk_cycle.proofs.EndSteps.{steady_ended}
-use Rattle.mk_cycle.proofs.HeldReleased.{held_alike}
 use Rattle.mk_cycle.proofs.KeptInParts.{calls_then, free_then, gates_then, same_config}
-use Rattle.mk_cycle.proofs.NewlyReleased.{newly_added}
-use Rattle.mk_cycle.proofs.OwnSteps.{same_pass}
-use Rattle.mk_cycle.proofs.ReleasedCounts.{told_to}
+use Rattle.mk_cycle.proofs.{EndSteps.as_many_fulls, EndSteps.ended_call, EndSteps.ended_done, EndSteps.ended_gates}
+use Rattle.mk_cycle.proofs.{EndSteps.ended_gone, EndSteps.one_more_end, EndSteps.steady_ended, HeldReleased.held_alike}
+use Rattle.mk_cycle.proofs.{NewlyReleased.newly_added, OwnSteps.same_pass, ReleasedCounts.told_to}
+use Rattle.mk_cycle.specs.{BeginCycle.BeginsCycle, FinishCycle.FinishesCycle, GivingAll.GivesAllBack}
+use Rattle.mk_cycle.specs.{Releasing.words_released, Tallying.Sets, Tallying.with_cycle_counted}
 
 pub gives_call : (p g : PassState) → GivesAllBack p g → KeepsCall p g
 gives_call p g x = calls_then p x.released g
@@ -46,7 +29,7 @@ gives_counts p g x =
     (counts_then x.held x.released g
     (same_config x.held x.released x.releases.call.pass) x.releases.counts x.frees.keeps.counts)
 
-pub ended_free : (g e : PassState) → InTurn g → IsAtPhase g 4 → InTurn e → Acts g step.End e → IsFreeForCycle g
+pub ended_free : (g e : PassState) → InTurn g → IsAtPhase g 4 → InTurn e → Acts g Step.End e → IsFreeForCycle g
     → IsFreeForCycle e
 ended_free g e t at u a free =
     record {
@@ -77,7 +60,7 @@ none_held callers v w same h =
     (λ j lt. ap not (same j lt) ∙ all_below-at callers j (λ i. not (is_held v i)) h lt)
 
 module _ (p g e q : PassState) (r : Released) (gives : GivesAllBack p g) (free : IsFreeForCycle p) (t : InTurn g)
-    (a : Acts g step.End e)
+    (a : Acts g Step.End e)
     (u : InTurn e) (held : ℕ) (sets : Sets (with_cycle_counted (now_of e).words held r.count) e q)
     (told : HasReleased p g r) (fewer : HoldsFewer p g held) where
   abbrev c : Config
@@ -94,7 +77,7 @@ module _ (p g e q : PassState) (r : Released) (gives : GivesAllBack p g) (free :
   pass_g = (gives_call p g gives).pass
 
   pass_e : e ≡ record g { seen = e.seen }
-  pass_e = same_pass g step.End e a t.own t.holds u.history
+  pass_e = same_pass g Step.End e a t.own t.holds u.history
 
   pass_p : e ≡ record p { seen = e.seen }
   pass_p = pass_e ∙ ap (λ (x : PassState). record x { seen = e.seen }) pass_g

@@ -1,49 +1,23 @@
 -- Cells are given back step by step.
-use Rattle.std.proofs.Common.{◌≡◌, ◌≢◌, ℕ, Bool, true, false, List, ◌++◌, length, refl, sym, ap, subst, ◌∙◌, arith, inl}
-use Rattle.std.proofs.Common.{inr}
-use Rattle.std.specs.Prelude.{slice_index, slice_set, if◌then◌else◌}
-use Rattle.std.proofs.lemmas.Bool.{cases_eq, cases_lt, eq-eqb, eqb-false, ne_eqb}
-use Rattle.std.proofs.lemmas.List.{get_or-set_same, get_or-set_other, set_past}
-use Rattle.mk_core.specs.declared.config.Config.{Config}
-use Rattle.mk_core.specs.declared.events.Event.{Event}
-use Rattle.mk_core.specs.declared.events.Seat.{Seat}
-use Rattle.mk_core.specs.declared.events.Word.{Word}
-use Rattle.mk_core.specs.declared.events.Step.{Step}
-use Rattle.mk_core.specs.declared.events.Step.TheVariants as step
-use Rattle.mk_core.specs.declared.seats.Flight.{Flight}
-use Rattle.mk_core.specs.declared.seats.Holding.{Holding}
-use Rattle.mk_core.specs.Allocations.{PlacedAllocation}
-use Rattle.mk_core.specs.Calls.{still}
-use Rattle.mk_core.specs.Cycles.{is_end}
-use Rattle.mk_core.specs.Effects.{progress, holding_behind, chosen, taken}
-use Rattle.mk_core.specs.TurnConditions.{place_now}
-use Rattle.mk_core.specs.Frames.{Steady, steady_of}
-use Rattle.mk_core.specs.Growing.{AreOfOthers}
-use Rattle.mk_core.specs.History.{World, world_behind, IsHistory}
-use Rattle.mk_core.specs.Moments.{Moment, flight_of, is_held, is_phase}
-use Rattle.mk_core.specs.Words.{phase_of}
-use Rattle.mk_laws.specs.Zeros.{IsWordOfMapped}
-use Rattle.mk_laws.specs.ZeroLaws.{is_heap_store}
-use Rattle.mk_laws.proofs.RunsStill.{HolderFinds, holder_finds}
-use Rattle.mk_words.specs.States.{WordsState, PassState, world_of, now_of, event_of}
-use Rattle.mk_words.specs.TurnSteps.{world_at, Acts}
-use Rattle.mk_words.proofs.Made.{made}
-use Rattle.mk_turns.proofs.Doing.{does_nothing, does_then, does_step}
-use Rattle.mk_cycle.specs.EngineLaw.{IsFreeForCycle, IsAtPhase, is_pending_free}
-use Rattle.mk_cycle.specs.Freeing.{but_pages, IsUnmapped, Frees}
-use Rattle.mk_cycle.specs.Kinds.{is_giving_back}
-use Rattle.mk_cycle.specs.TurnKeeps.{InTurn, LeavesTurn}
-use Rattle.mk_core.specs.NewPlaces.{is_run_gone}
+use Rattle.mk_laws.proofs.Vocabulary.{AreOfOthers, Bool, Config, Event, Flight, Holding, IsHistory, IsWordOfMapped}
+use Rattle.mk_laws.proofs.Vocabulary.{List, Moment, PlacedAllocation, Seat, Steady, Step, Word, World, ℕ, ap, arith}
+use Rattle.mk_laws.proofs.Vocabulary.{cases_eq, cases_lt, chosen, earlier_part_is_history, eq-eqb, eqb-false, false}
+use Rattle.mk_laws.proofs.Vocabulary.{flight_of, get_or-set_other, get_or-set_same, if◌then◌else◌, inl, inr, is_end}
+use Rattle.mk_laws.proofs.Vocabulary.{is_heap_store, is_held, is_phase, is_run_gone, length, ne_eqb, phase_of}
+use Rattle.mk_laws.proofs.Vocabulary.{place_now, progress, refl, set_past, slice_index, slice_set, still, subst, sym}
+use Rattle.mk_laws.proofs.Vocabulary.{taken, true, world_behind, ◌++◌, ◌∙◌, ◌≡◌, ◌≢◌}
+use Rattle.mk_cycle.proofs.Vocabulary.{Acts, Frees, InTurn, IsAtPhase, IsFreeForCycle, LeavesTurn, PassState}
+use Rattle.mk_cycle.proofs.Vocabulary.{WordsState, does_nothing, does_step, does_then, event_of, holder_finds}
+use Rattle.mk_cycle.proofs.Vocabulary.{holding_behind, is_giving_back, is_pending_free, made, now_of, steady_of}
+use Rattle.mk_cycle.proofs.Vocabulary.{world_at, world_of}
 use Rattle.mk_core.specs.Growing.{Finding}
-use Rattle.mk_core.proofs.HistoryParts.{earlier_part_is_history}
-use Rattle.mk_laws.proofs.ProtocolFrames.{others_leave}
-use Rattle.mk_words.proofs.Seats.{others_own}
-use Rattle.mk_turns.specs.Doing.{are_of}
-use Rattle.mk_turns.proofs.Doing.{others_are_so, none_own}
-use Rattle.mk_cycle.proofs.CleaningSteps.{quar_frees_none, zero_stays}
-use Rattle.mk_cycle.proofs.Calm.{is_calm, calm_still, calm_done}
+use Rattle.mk_laws.proofs.{ProtocolFrames.others_leave, RunsStill.HolderFinds}
 use Rattle.mk_cycle.proofs.KeptInParts.{free_then, keeps_at_once, keeps_then, same_config}
-use Rattle.mk_cycle.proofs.OwnSteps.{done_in, keeps_call, keeps_counts}
+use Rattle.mk_cycle.proofs.{Calm.calm_done, Calm.calm_still, Calm.is_calm, CleaningSteps.quar_frees_none}
+use Rattle.mk_cycle.proofs.{CleaningSteps.zero_stays, OwnSteps.done_in, OwnSteps.keeps_call, OwnSteps.keeps_counts}
+use Rattle.mk_cycle.specs.Freeing.{IsUnmapped, but_pages}
+use Rattle.mk_turns.{proofs.Doing.none_own, proofs.Doing.others_are_so, specs.Doing.are_of}
+use Rattle.mk_words.proofs.Seats.{others_own}
 
 pub frees_nothing : (p : PassState) → Frees p p
 frees_nothing p =
@@ -82,33 +56,33 @@ freed_phase p q k at = ap (λ (s : Steady). s.phase) k.keeps.steady ∙ at
 -- A step that is calm, or that stores a header or a used word at phase 4, goes on with the call and what was done.
 
 abbrev pub frees_calmly : Step → Bool
-frees_calmly (step.Head p v) = true
-frees_calmly (step.Used p v) = true
+frees_calmly (Step.Head p v) = true
+frees_calmly (Step.Used p v) = true
 frees_calmly s = is_calm s
 
 frees_still : (c : Config) (m : Moment) (f : Flight) (n : ℕ) (s : Step) → frees_calmly s ≡ true
     → is_pending_free f ≡ false
     → progress c m f n s ≡ still f
-frees_still c m f n (step.Head p v) h free = refl
-frees_still c m f n (step.Used p v) h free = refl
+frees_still c m f n (Step.Head p v) h free = refl
+frees_still c m f n (Step.Used p v) h free = refl
 frees_still c m f n s h free = calm_still c m f n s h free
 
 frees_done : (c : Config) (m : Moment) (seat : Seat) (f : Flight) (n : ℕ) (s : Step) (h : Holding)
     → frees_calmly s ≡ true
     → is_pending_free f ≡ false → is_phase m.words 4 ≡ true → done_in (holding_behind c m seat f n s h) ≡ done_in h
-frees_done c m seat f n (step.Head p v) h kind free at =
+frees_done c m seat f n (Step.Head p v) h kind free at =
     ap (λ (b : Bool). done_in (record h { placing = if b then h.placing else chosen h.placing (place_now c m f) })) at
-frees_done c m seat f n (step.Used p v) h kind free at =
+frees_done c m seat f n (Step.Used p v) h kind free at =
     ap (λ (b : Bool). done_in (record h { placing = if b then h.placing else taken h.placing (place_now c m f) })) at
 frees_done c m seat f n s h kind free at = calm_done c m seat f n s h kind free
 
 frees_stores : (s : Step) → frees_calmly s ≡ true → is_heap_store s ≡ false
-frees_stores step.Write h = cc
-frees_stores step.Cas h = cc
+frees_stores Step.Write h = cc
+frees_stores Step.Cas h = cc
 frees_stores _ h = refl
 
 frees_ends : (s : Step) → frees_calmly s ≡ true → is_end s ≡ false
-frees_ends step.End h = cc
+frees_ends Step.End h = cc
 frees_ends _ h = refl
 
 -- what a step that gives back makes of the words
@@ -160,23 +134,23 @@ module _ (p : PassState) (s : Step) (q : PassState) (a : Acts p s q) (t : InTurn
 -- by kind
 
 pub look_gives : (c : Config) (w : World) (seat : Seat) (x : Word)
-    → FreesAt w (world_behind c w (record { seat = seat; step = step.Look x }))
+    → FreesAt w (world_behind c w (record { seat = seat; step = Step.Look x }))
 look_gives c w seat x = record { steady = refl; marks = refl; gates = λ j h. h; zeros = λ n h. h }
 
 pub wipe_gives : (c : Config) (w : World) (seat : Seat) (n : ℕ)
-    → FreesAt w (world_behind c w (record { seat = seat; step = step.Wipe n }))
+    → FreesAt w (world_behind c w (record { seat = seat; step = Step.Wipe n }))
 wipe_gives c w seat n = record { steady = refl; marks = refl; gates = λ j h. h; zeros = zero_stays w.now.words.heap n }
 
 pub used_gives : (c : Config) (w : World) (seat : Seat) (p v : ℕ)
-    → FreesAt w (world_behind c w (record { seat = seat; step = step.Used p v }))
+    → FreesAt w (world_behind c w (record { seat = seat; step = Step.Used p v }))
 used_gives c w seat p v = record { steady = refl; marks = refl; gates = λ j h. h; zeros = λ n h. h }
 
 pub head_gives : (c : Config) (w : World) (seat : Seat) (p v : ℕ)
-    → FreesAt w (world_behind c w (record { seat = seat; step = step.Head p v }))
+    → FreesAt w (world_behind c w (record { seat = seat; step = Step.Head p v }))
 head_gives c w seat p v = record { steady = refl; marks = refl; gates = λ j h. h; zeros = λ n h. h }
 
 pub quar_gives : (c : Config) (w : World) (seat : Seat) (p v : ℕ) → is_pending_free (flight_of w.now seat) ≡ false
-    → FreesAt w (world_behind c w (record { seat = seat; step = step.Quar p v }))
+    → FreesAt w (world_behind c w (record { seat = seat; step = Step.Quar p v }))
 quar_gives c w seat p v free =
     record {
       steady = ap (λ (xs : List PlacedAllocation). record (but_pages (steady_of w)) { allocations = xs })
@@ -199,7 +173,7 @@ still_open gs i j h two = elim (cases_eq j i) [
 ]
 
 pub open_gives : (c : Config) (w : World) (seat : Seat) (j : ℕ)
-    → FreesAt w (world_behind c w (record { seat = seat; step = step.Open j }))
+    → FreesAt w (world_behind c w (record { seat = seat; step = Step.Open j }))
 open_gives c w seat j = record { steady = refl; marks = refl; gates = still_open w.now.words.gates j; zeros = λ n h. h }
 
 -- what others leave is left

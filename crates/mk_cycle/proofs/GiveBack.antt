@@ -1,30 +1,18 @@
 -- Giving back: the used bits, and then the quarantine bits.
-use Rattle.std.proofs.Common.{◌≡◌, ℕ, ◌+◌, ◌*◌, ◌-◌, ◌/◌, ◌%◌, ◌^◌, ◌<◌, true, List, sym, ap, subst, ◌∙◌, arith}
-use Rattle.std.proofs.Common.{bit_and}
-use Rattle.std.specs.Prelude.{slice_index}
-use Rattle.std.proofs.lemmas.Bool.{and_parts}
-use Rattle.std.proofs.lemmas.Nat.{and_le_l}
-use Rattle.mk_geom.specs.Headers.{header_of}
-use Rattle.mk_core.specs.declared.config.Config.{Config}
-use Rattle.mk_core.specs.declared.events.Step.TheVariants as step
-use Rattle.mk_core.specs.Bits.{has_bit, without}
-use Rattle.mk_core.specs.Cells.{header_in, is_unmapped_header, left_unmarked, words_under}
-use Rattle.mk_core.specs.TurnConditions.{drops, gives_back}
-use Rattle.mk_core.specs.Words.{header_at, used_at, quarantine_word}
-use Rattle.mk_words.specs.States.{PassState, now_of}
-use Rattle.mk_words.specs.TurnSteps.{Acts}
-use Rattle.mk_cycle.specs.EngineLaw.{IsFreeForCycle, IsAtPhase}
-use Rattle.mk_cycle.specs.Freeing.{GivesNothingBack, FreesPage, GivesBack, HasFreeCells, IsQuarantineWord}
-use Rattle.mk_cycle.specs.Freeing.{IsUnmappedWord}
-use Rattle.mk_cycle.specs.Freeing.{IsZero, PageState, page_state}
-use Rattle.mk_cycle.specs.TurnKeeps.{InTurn}
+use Rattle.mk_laws.proofs.Vocabulary.{Config, List, Step, ℕ, and_parts, ap, arith, gives_back, has_bit, header_at}
+use Rattle.mk_laws.proofs.Vocabulary.{header_in, header_of, is_unmapped_header, quarantine_word, slice_index, subst}
+use Rattle.mk_laws.proofs.Vocabulary.{sym, true, used_at, without, words_under, ◌%◌, ◌*◌, ◌+◌, ◌-◌, ◌/◌, ◌<◌, ◌^◌, ◌∙◌}
+use Rattle.mk_laws.proofs.Vocabulary.{◌≡◌}
+use Rattle.mk_cycle.proofs.Vocabulary.{Acts, FreesPage, GivesNothingBack, HasFreeCells, InTurn, IsAtPhase}
+use Rattle.mk_cycle.proofs.Vocabulary.{IsFreeForCycle, IsUnmappedWord, IsZero, PageState, PassState, and_le_l, bit_and}
+use Rattle.mk_cycle.proofs.Vocabulary.{drops, left_unmarked, now_of, page_state}
 use Rattle.mk_cycle.proofs.CellBits.{has_bit_and, high_part, low_part, none_in_both}
 use Rattle.mk_cycle.proofs.CleaningSteps.{Halves, halves}
-use Rattle.mk_cycle.proofs.FreeingSteps.{freed_free, freed_phase}
 use Rattle.mk_cycle.proofs.GivingSteps.{quar_frees, quar_state, used_frees, used_state}
-use Rattle.mk_cycle.proofs.KeptInParts.{same_config}
 use Rattle.mk_cycle.proofs.PageSteps.{drops_ok, gives_ok, none_is_left, page_at_once, page_then, same_header, same_left}
 use Rattle.mk_cycle.proofs.PageSteps.{same_used}
+use Rattle.mk_cycle.proofs.{FreeingSteps.freed_free, FreeingSteps.freed_phase, KeptInParts.same_config}
+use Rattle.mk_cycle.specs.Freeing.{GivesBack, IsQuarantineWord}
 
 -- The words of released cells, by the header word of their page.
 module _ (p : PassState) (page header cells : ℕ) (is : header ≡ header_at (now_of p).words page)
@@ -66,7 +54,7 @@ module _ (p b d q : PassState) (t : InTurn p) (k : GivesNothingBack p b) (tb : I
     (page used gone quarantine : ℕ) (lt : page < p.table.config.pages)
     (is_used : used ≡ used_at (now_of p).words page) (is_gone : gone ≡ left_unmarked (now_of p).words page)
     (word : IsQuarantineWord p page quarantine)
-    (g : Acts b (step.Used page (without used gone)) d) (td : InTurn d) where
+    (g : Acts b (Step.Used page (without used gone)) d) (td : InTurn d) where
   free_b : IsFreeForCycle b
   free_b = freed_free p b k.frees free
 
@@ -129,7 +117,7 @@ module _ (p b d q : PassState) (t : InTurn p) (k : GivesNothingBack p b) (tb : I
       (ap (λ (x : PageState). bit_and x.page.used gone) state_d ∙ none_in_both used gone)
 
   pub gives_all : Acts d
-      (step.Quar page (quarantine_word (without (quarantine % 2 ^ 32) gone) (quarantine / 2 ^ 32 - gone))) q → InTurn q
+      (Step.Quar page (quarantine_word (without (quarantine % 2 ^ 32) gone) (quarantine / 2 ^ 32 - gone))) q → InTurn q
       → GivesBack page p q
   gives_all a tq =
       let v : ℕ = quarantine_word (without (quarantine % 2 ^ 32) gone) (quarantine / 2 ^ 32 - gone) in

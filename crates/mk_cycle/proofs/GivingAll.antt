@@ -1,26 +1,14 @@
 -- The stop and the giving back, joined.
-use Rattle.std.proofs.Common.{◌≡◌, ℕ, ◌<◌, true, sym, ap, subst, ◌∙◌, arith}
-use Rattle.std.specs.Prelude.{not}
-use Rattle.std.proofs.lemmas.Bool.{not-true}
-use Rattle.mk_core.specs.declared.config.Config.{Config}
-use Rattle.mk_core.specs.Frames.{Steady}
-use Rattle.mk_core.specs.Moments.{is_held, none_is_held}
-use Rattle.mk_core.proofs.AllBelow.{all_below-at}
-use Rattle.mk_words.specs.States.{WordsState, PassState, now_of}
-use Rattle.mk_cycle.specs.declared.finishing.Released.{Released}
-use Rattle.mk_cycle.specs.EngineLaw.{IsFreeForCycle, IsAtPhase}
-use Rattle.mk_cycle.specs.FinishCycle.{HasReleased, HoldsFewer}
-use Rattle.mk_cycle.specs.Freeing.{Frees, GivesNothingBack, IsSettledPage}
-use Rattle.mk_cycle.specs.GivingAll.{GivesAllBack}
-use Rattle.mk_cycle.specs.Holding.{HoldsGates}
-use Rattle.mk_cycle.specs.ReleasedPages.{held_below, released_below}
-use Rattle.mk_cycle.specs.Releasing.{ReleasesUnmarked}
-use Rattle.mk_cycle.proofs.BeginSteps.{all_from}
-use Rattle.mk_cycle.proofs.CountedPages.{held_alike_below, told_alike_below}
-use Rattle.mk_cycle.proofs.FreeingSteps.{freed_phase, frees_then}
-use Rattle.mk_cycle.proofs.HeldReleased.{held_alike}
-use Rattle.mk_cycle.proofs.KeptInParts.{free_then}
-use Rattle.mk_cycle.proofs.ReleasedCounts.{told_from, told_to}
+use Rattle.mk_laws.proofs.Vocabulary.{Config, Steady, ℕ, all_below-at, ap, arith, is_held, not, not-true, subst, sym}
+use Rattle.mk_laws.proofs.Vocabulary.{true, ◌<◌, ◌∙◌, ◌≡◌}
+use Rattle.mk_cycle.proofs.Vocabulary.{Frees, GivesNothingBack, HasReleased, HoldsFewer, HoldsGates, IsAtPhase}
+use Rattle.mk_cycle.proofs.Vocabulary.{IsFreeForCycle, IsSettledPage, PassState, Released, WordsState, held_below}
+use Rattle.mk_cycle.proofs.Vocabulary.{now_of, released_below}
+use Rattle.mk_core.specs.Moments.{none_is_held}
+use Rattle.mk_cycle.proofs.{BeginSteps.all_from, CountedPages.held_alike_below, CountedPages.told_alike_below}
+use Rattle.mk_cycle.proofs.{FreeingSteps.freed_phase, FreeingSteps.frees_then, HeldReleased.held_alike}
+use Rattle.mk_cycle.proofs.{KeptInParts.free_then, ReleasedCounts.told_from, ReleasedCounts.told_to}
+use Rattle.mk_cycle.specs.{GivingAll.GivesAllBack, Releasing.ReleasesUnmarked}
 
 pub held_phase : (p q : PassState) (n : ℕ) → HoldsGates p q → IsAtPhase p n → IsAtPhase q n
 held_phase p q n k at = ap (λ (s : Steady). s.phase) k.keeps.steady ∙ at

@@ -1,47 +1,22 @@
 -- What the steps that give back make of a page's words.
-use Rattle.std.proofs.Common.{◌≡◌, ℕ, ◌+◌, ◌*◌, ◌-◌, ◌/◌, ◌%◌, ◌^◌, ◌<◌, Bool, true, List, ◌++◌, length, refl, sym, ap}
-use Rattle.std.proofs.Common.{subst, ◌∙◌, arith, inl, inr}
-use Rattle.std.specs.Prelude.{slice_index, slice_index_or, slice_set, ◌==◌, ◌&&◌, ◌||◌, not, nat_lt, nat_le}
-use Rattle.std.specs.Prelude.{if◌then◌else◌, Option, Some, None}
-use Rattle.std.proofs.lemmas.Bool.{cases_lt, eq-eqb, eqb-true, lt-ltb, ltb-true, leb-true, and_parts}
-use Rattle.std.proofs.lemmas.List.{get_or-set_same, get_or-set_other, get_or_past, set_past}
-use Rattle.mk_geom.specs.declared.addresses.Cell.{Cell}
-use Rattle.mk_geom.specs.declared.pages.Page.{Page}
-use Rattle.mk_geom.specs.Addresses.{address_of}
-use Rattle.mk_geom.specs.Storages.{free_page}
-use Rattle.mk_core.specs.declared.config.Config.{Config}
-use Rattle.mk_core.specs.declared.events.Step.TheVariants as step
-use Rattle.mk_core.specs.declared.events.Word.{Word}
-use Rattle.mk_core.specs.declared.seats.Flight.{Flight}
-use Rattle.mk_core.specs.Bounded.{is_some_and}
-use Rattle.mk_core.specs.declared.seats.RunPages.{RunPages}
-use Rattle.mk_core.proofs.AllBelow.{all_below-at}
-use Rattle.mk_laws.specs.Zeros.{MayHold, OfMapped, OfReleased, OfFreedRun, zero_scene_of}
-use Rattle.mk_core.specs.Cells.{pointed_cell, is_released_cell, is_in_run, words_are_zero}
-use Rattle.mk_core.specs.Frames.{Steady}
-use Rattle.mk_core.specs.History.{World}
-use Rattle.mk_core.specs.Moments.{others_are_held}
-use Rattle.mk_core.specs.NewPlaces.{target}
-use Rattle.mk_core.specs.Ranges.{is_run_cell}
-use Rattle.mk_core.specs.TurnConditions.{gives_back, drops, empties, carves, unmaps, takes_cell, frees, takes_snapshot}
-use Rattle.mk_core.specs.TurnConditions.{is_in_gone_run, is_used_once, place_now}
-use Rattle.mk_core.specs.NewPlaces.{object_made, is_run_gone, is_run_unmapped}
-use Rattle.mk_core.specs.Words.{Words, header_at, used_at, page_of, phase_of}
-use Rattle.mk_laws.proofs.LastEvents.{stands}
-use Rattle.mk_words.specs.States.{PassState, world_of, now_of, call_of}
-use Rattle.mk_words.specs.Steps.{IsEnabledTo}
-use Rattle.mk_words.specs.TurnSteps.{world_at, Acts}
-use Rattle.mk_words.proofs.Made.{made}
-use Rattle.mk_cycle.specs.EngineLaw.{IsFreeForCycle, IsAtPhase, is_pending_free}
-use Rattle.mk_cycle.specs.Freeing.{IsUnmapped, IsUnmappedWord, IsZero, Frees, GivesNothingBack, FreesPage, PageState}
-use Rattle.mk_cycle.specs.Freeing.{page_state}
-use Rattle.mk_cycle.specs.TurnKeeps.{InTurn}
-use Rattle.mk_cycle.proofs.Allowed.{protocol, or_true}
-use Rattle.mk_cycle.proofs.Calm.{no_target}
+use Rattle.mk_laws.proofs.Vocabulary.{Bool, Cell, Config, Flight, List, MayHold, None, OfFreedRun, OfMapped, OfReleased}
+use Rattle.mk_laws.proofs.Vocabulary.{Option, Page, RunPages, Some, Steady, Step, Word, Words, World, ℕ, address_of}
+use Rattle.mk_laws.proofs.Vocabulary.{all_below-at, and_parts, ap, arith, carves, cases_lt, empties, eq-eqb, eqb-true}
+use Rattle.mk_laws.proofs.Vocabulary.{free_page, frees, get_or-set_other, get_or-set_same, get_or_past, gives_back}
+use Rattle.mk_laws.proofs.Vocabulary.{header_at, if◌then◌else◌, inl, inr, is_released_cell, is_run_cell, is_run_gone}
+use Rattle.mk_laws.proofs.Vocabulary.{is_run_unmapped, is_some_and, is_used_once, leb-true, length, lt-ltb, ltb-true}
+use Rattle.mk_laws.proofs.Vocabulary.{nat_le, nat_lt, not, object_made, others_are_held, phase_of, place_now}
+use Rattle.mk_laws.proofs.Vocabulary.{pointed_cell, refl, set_past, slice_index, slice_index_or, slice_set, subst, sym}
+use Rattle.mk_laws.proofs.Vocabulary.{takes_cell, target, true, unmaps, used_at, words_are_zero, zero_scene_of, ◌%◌}
+use Rattle.mk_laws.proofs.Vocabulary.{◌&&◌, ◌*◌, ◌++◌, ◌+◌, ◌-◌, ◌/◌, ◌<◌, ◌==◌, ◌^◌, ◌||◌, ◌∙◌, ◌≡◌}
+use Rattle.mk_cycle.proofs.Vocabulary.{Acts, Frees, FreesPage, GivesNothingBack, InTurn, IsAtPhase, IsEnabledTo}
+use Rattle.mk_cycle.proofs.Vocabulary.{IsFreeForCycle, IsUnmappedWord, IsZero, PageState, PassState, call_of, drops}
+use Rattle.mk_cycle.proofs.Vocabulary.{is_pending_free, made, now_of, page_state, stands, world_at, world_of}
+use Rattle.mk_core.specs.{Cells.is_in_run, TurnConditions.is_in_gone_run, TurnConditions.takes_snapshot, Words.page_of}
 use Rattle.mk_cycle.proofs.FreeingSteps.{frees_nothing, frees_step, frees_then, head_gives, look_gives, quar_gives}
 use Rattle.mk_cycle.proofs.FreeingSteps.{still_unmapped, used_gives, wipe_gives}
-use Rattle.mk_cycle.proofs.KeptInParts.{same_config}
-use Rattle.mk_cycle.proofs.MayAct.{may_act}
+use Rattle.mk_cycle.proofs.{Allowed.or_true, Allowed.protocol, Calm.no_target, KeptInParts.same_config, MayAct.may_act}
+use Rattle.mk_cycle.specs.Freeing.{IsUnmapped}
 
 -- where the step is made, a page's words are as the holder knows them
 state_at : World → ℕ → PageState
@@ -70,10 +45,10 @@ state_there p q w s t e r =
     }) e
 
 module _ (p q : PassState) (t : InTurn p) (u : InTurn q) (free : IsFreeForCycle p) (at : IsAtPhase p 4) where
-  pub look_frees : (x : Word) → Acts p (step.Look x) q → GivesNothingBack p q
+  pub look_frees : (x : Word) → Acts p (Step.Look x) q → GivesNothingBack p q
   look_frees x a =
       record {
-        frees = frees_step p (step.Look x) q a t u refl refl free at
+        frees = frees_step p (Step.Look x) q a t u refl refl free at
             (look_gives p.table.config (world_at a.makes) p.seat x);
         same = λ r. ap (λ (w : World). record {
           page = page_of w.now.words r;
@@ -83,10 +58,10 @@ module _ (p q : PassState) (t : InTurn p) (u : InTurn q) (free : IsFreeForCycle 
             ∙ state_there p q (world_of p) _ _ a.turn.steady r;
       }
 
-  pub wipe_frees : (n : ℕ) → Acts p (step.Wipe n) q → GivesNothingBack p q
+  pub wipe_frees : (n : ℕ) → Acts p (Step.Wipe n) q → GivesNothingBack p q
   wipe_frees n a =
       record {
-        frees = frees_step p (step.Wipe n) q a t u refl refl free at
+        frees = frees_step p (Step.Wipe n) q a t u refl refl free at
             (wipe_gives p.table.config (world_at a.makes) p.seat n);
         same = λ r. ap (λ (w : World). record {
           page = page_of w.now.words r;
@@ -112,24 +87,24 @@ module _ (p : PassState) (t : InTurn p) (free : IsFreeForCycle p) (at : IsAtPhas
   pub wipe_allowed : (n : ℕ) → n < 64 * p.table.config.pages
       → is_some_and (is_released_cell (now_of p).words)
       (pointed_cell p.table.config.pages (now_of p).words.pages (address_of n)) ≡ true
-      → IsEnabledTo p (step.Wipe n)
+      → IsEnabledTo p (Step.Wipe n)
   wipe_allowed n lt is =
-      may_act p (step.Wipe n) (protocol p t free) t.holds free.decided refl (lt-ltb n (64 * c.pages) lt) refl refl
+      may_act p (Step.Wipe n) (protocol p t free) t.holds free.decided refl (lt-ltb n (64 * c.pages) lt) refl refl
       (ap (λ (b : Bool). b || is_in_gone_run w (now_of p).seats.holding.freed n) is)
 
   pub used_allowed : (page v : ℕ) → page < p.table.config.pages → gives_back (now_of p).words page v ≡ true
-      → IsEnabledTo p (step.Used page v)
+      → IsEnabledTo p (Step.Used page v)
   used_allowed page v lt is =
-      may_act p (step.Used page v) (protocol p t free) t.holds free.decided refl (lt-ltb page c.pages lt) refl
+      may_act p (Step.Used page v) (protocol p t free) t.holds free.decided refl (lt-ltb page c.pages lt) refl
       (four_or (phase_of w == 0) (phase_of w == 1) (phase_of w) at)
       (ap (λ (n : ℕ). if n == 4 then gives_back w page v
       else (not (is_used_once (now_of p).seats.holding.placing) && takes_cell w (object_made c f.op)
       (place_now c (now_of p) f) page v)) at ∙ is)
 
   pub head_allowed : (page : ℕ) → page < p.table.config.pages → empties (now_of p).words page 0 ≡ true
-      → IsEnabledTo p (step.Head page 0)
+      → IsEnabledTo p (Step.Head page 0)
   head_allowed page lt is =
-      may_act p (step.Head page 0) (protocol p t free) t.holds free.decided refl (lt-ltb page c.pages lt) refl
+      may_act p (Step.Head page 0) (protocol p t free) t.holds free.decided refl (lt-ltb page c.pages lt) refl
       (four_or (phase_of w == 0) (phase_of w == 1) (phase_of w) at)
       (ap (λ (n : ℕ). if n == 4 then empties w page 0
       else (carves w (object_made c f.op) (place_now c (now_of p) f) page 0
@@ -137,10 +112,10 @@ module _ (p : PassState) (t : InTurn p) (free : IsFreeForCycle p) (at : IsAtPhas
 
   pub quar_allowed : (page v : ℕ) → page < p.table.config.pages
       → drops (now_of p).words page (v % 2 ^ 32) (v / 2 ^ 32) ≡ true
-      → IsEnabledTo p (step.Quar page v)
+      → IsEnabledTo p (Step.Quar page v)
   quar_allowed page v lt is =
       let none : target c.pages w f ≡ None = no_target c.pages w f free.decided in
-      may_act p (step.Quar page v) (protocol p t free) t.holds free.decided refl (lt-ltb page c.pages lt)
+      may_act p (Step.Quar page v) (protocol p t free) t.holds free.decided refl (lt-ltb page c.pages lt)
       (ap (λ (cell : Option Cell). not (is_run_cell w cell) || others_are_held c.callers w p.seat) none)
       (four_or (phase_of w == 0) (phase_of w == 1) (phase_of w) at)
       (ap (λ (n : ℕ). if n == 4 then drops w page (v % 2 ^ 32) (v / 2 ^ 32)
@@ -185,7 +160,7 @@ still_unmapped_word p q n k h =
     }
 
 -- the word is 0 after its wipe
-pub wiped : (p q : PassState) → InTurn p → InTurn q → (n : ℕ) → Acts p (step.Wipe n) q → IsZero q n
+pub wiped : (p q : PassState) → InTurn p → InTurn q → (n : ℕ) → Acts p (Step.Wipe n) q → IsZero q n
 wiped p q t u n a =
     ap (λ (x : World). slice_index x.now.words.heap n) a.world ∙ zero_here (world_at a.makes).now.words.heap n
   where
@@ -214,13 +189,13 @@ state_behind p q v is r =
     }) is
 
 module _ (p q : PassState) (t : InTurn p) (u : InTurn q) (free : IsFreeForCycle p) (at : IsAtPhase p 4) where
-  module _ (page v : ℕ) (a : Acts p (step.Used page v) q) (lt : page < p.table.config.pages) where
+  module _ (page v : ℕ) (a : Acts p (Step.Used page v) q) (lt : page < p.table.config.pages) where
     pub used_frees : FreesPage page p q
     unfolding state_at
     used_frees =
         let w : World = world_at a.makes in
         record {
-          frees = frees_step p (step.Used page v) q a t u refl refl free at (used_gives p.table.config w p.seat page v);
+          frees = frees_step p (Step.Used page v) q a t u refl refl free at (used_gives p.table.config w p.seat page v);
           others = λ r ne.
               state_behind p q _ a.world r
               ∙ ap (λ (x : Page). record {
@@ -239,7 +214,7 @@ module _ (p q : PassState) (t : InTurn p) (u : InTurn q) (free : IsFreeForCycle 
     used_state =
         let w : World = world_at a.makes in
         let known = stands p.table.config (p.seen ++ a.makes.others)
-        (made p (step.Used page v) q a.makes).history in
+        (made p (Step.Used page v) q a.makes).history in
         let long : page < length w.now.words.pages = subst (λ (n : ℕ). page < n) (sym known.known.lengths.pages) lt in
         state_behind p q _ a.world page
         ∙ ap (λ (x : Page). record {
@@ -252,13 +227,13 @@ module _ (p q : PassState) (t : InTurn p) (u : InTurn q) (free : IsFreeForCycle 
         ∙ ap (λ (x : PageState). record x { page = record { header = x.page.header; used = v } })
         (state_there p q w _ _ a.turn.steady page)
 
-  module _ (page : ℕ) (a : Acts p (step.Head page 0) q) (lt : page < p.table.config.pages) where
+  module _ (page : ℕ) (a : Acts p (Step.Head page 0) q) (lt : page < p.table.config.pages) where
     pub head_frees : FreesPage page p q
     unfolding state_at
     head_frees =
         let w : World = world_at a.makes in
         record {
-          frees = frees_step p (step.Head page 0) q a t u refl refl free at (head_gives p.table.config w p.seat page 0);
+          frees = frees_step p (Step.Head page 0) q a t u refl refl free at (head_gives p.table.config w p.seat page 0);
           others = λ r ne.
               state_behind p q _ a.world r
               ∙ ap (λ (x : Page). record {
@@ -277,7 +252,7 @@ module _ (p q : PassState) (t : InTurn p) (u : InTurn q) (free : IsFreeForCycle 
     head_state =
         let w : World = world_at a.makes in
         let known = stands p.table.config (p.seen ++ a.makes.others)
-        (made p (step.Head page 0) q a.makes).history in
+        (made p (Step.Head page 0) q a.makes).history in
         let long : page < length w.now.words.pages = subst (λ (n : ℕ). page < n) (sym known.known.lengths.pages) lt in
         state_behind p q _ a.world page
         ∙ ap (λ (x : Page). record {
@@ -289,13 +264,13 @@ module _ (p q : PassState) (t : InTurn p) (u : InTurn q) (free : IsFreeForCycle 
         ∙ ap (λ (x : PageState). record x { page = record { header = 0; used = x.page.used } })
         (state_there p q w _ _ a.turn.steady page)
 
-  module _ (page v : ℕ) (a : Acts p (step.Quar page v) q) (lt : page < p.table.config.pages) where
+  module _ (page v : ℕ) (a : Acts p (Step.Quar page v) q) (lt : page < p.table.config.pages) where
     pub quar_frees : FreesPage page p q
     unfolding state_at
     quar_frees =
         let w : World = world_at a.makes in
         record {
-          frees = frees_step p (step.Quar page v) q a t u refl refl free at
+          frees = frees_step p (Step.Quar page v) q a t u refl refl free at
               (quar_gives p.table.config w p.seat page v (ap is_pending_free a.own.flight ∙ free.decided));
           others = λ r ne.
               state_behind p q _ a.world r
@@ -319,7 +294,7 @@ module _ (p q : PassState) (t : InTurn p) (u : InTurn q) (free : IsFreeForCycle 
     quar_state =
         let w : World = world_at a.makes in
         let known = stands p.table.config (p.seen ++ a.makes.others)
-        (made p (step.Quar page v) q a.makes).history in
+        (made p (Step.Quar page v) q a.makes).history in
         let long : page < length w.now.words.freed = subst (λ (n : ℕ). page < n) (sym known.known.lengths.freed) lt in
         let long' : page < length w.now.words.snapshot =
         subst (λ (n : ℕ). page < n) (sym known.known.lengths.snapshot) lt in

@@ -1,53 +1,26 @@
 -- What a `release` releases is held no longer: of that, the small allocations were held.
-use Rattle.std.proofs.Common.{◌≡◌, ℕ, zero, suc, ◌+◌, ◌*◌, ◌/◌, ◌++◌, Bool, true, false, cond, List, [], ◌∷◌, get_or}
-use Rattle.std.proofs.Common.{map, sum_by, refl, sym, ap, subst, ◌∙◌, append-nil, arith, inl, inr, zero-add}
-use Rattle.std.specs.Prelude.{◌&&◌, ◌||◌, not, Option, if◌then◌else◌}
-use Rattle.std.proofs.lemmas.Bool.{cases_Bool, false_from_ne_true, true≢false}
-use Rattle.std.proofs.lemmas.List.Sums.{sum_by-cons}
-use Rattle.std.proofs.Math.Bool.{and-false}
-use Rattle.mk_never.specs.Types.{is_large, kinds_of}
-use Rattle.mk_geom.specs.declared.addresses.Cell.{Cell}
-use Rattle.mk_geom.specs.declared.headers.Header.{Header}
-use Rattle.mk_geom.specs.Addresses.{address_of}
-use Rattle.mk_geom.specs.PageUses.{is_resident_page}
-use Rattle.mk_geom.specs.PageWords.{use_under}
-use Rattle.mk_geom.specs.Storages.{Storage}
+use Rattle.std.proofs.{Common.zero-add, Math.Bool.and-false}
+use Rattle.mk_laws.proofs.Vocabulary.{Bool, Cell, Config, Event, Header, IsHistory, List, Object, OfBlock, OfLater}
+use Rattle.mk_laws.proofs.Vocabulary.{OfLeafBlock, OfLeafRun, OfRun, Option, PlacedAllocation, ShowsPart, Step, Storage}
+use Rattle.mk_laws.proofs.Vocabulary.{Words, World, ℕ, address_of, ap, append-nil, arith, cases_Bool}
+use Rattle.mk_laws.proofs.Vocabulary.{cell_of_allocation, cells_begin, cond, false, false_from_ne_true, get_or}
+use Rattle.mk_laws.proofs.Vocabulary.{header_at, header_in, header_shows, if◌then◌else◌, inl, inr, is_large}
+use Rattle.mk_laws.proofs.Vocabulary.{is_left_unmarked, is_mapped, is_resident_page, is_run_gone, is_small_object}
+use Rattle.mk_laws.proofs.Vocabulary.{is_some_and, is_unmapped_header, kinds_of, left, map, never_granted, not}
+use Rattle.mk_laws.proofs.Vocabulary.{object_placed, pages_some, phase_of, placed_at, pointed_cell, refl, run_begins}
+use Rattle.mk_laws.proofs.Vocabulary.{storage_of, storage_words, subst, suc, sym, true, true≢false, typed_size}
+use Rattle.mk_laws.proofs.Vocabulary.{use_under, used_at, with_released, words_under, words_within, zero, [], ◌&&◌, ◌*◌}
+use Rattle.mk_laws.proofs.Vocabulary.{◌++◌, ◌+◌, ◌/◌, ◌||◌, ◌∙◌, ◌∷◌, ◌≡◌}
+use Rattle.mk_cycle.proofs.Vocabulary.{Acts, HoldsFewer, InTurn, IsAtPhase, IsGone, PassState, allocations_stand}
+use Rattle.mk_cycle.proofs.Vocabulary.{cells_unmarked, held_below, held_by_allocations, held_unmarked, left_unmarked}
+use Rattle.mk_cycle.proofs.Vocabulary.{made, now_of, sum_below, sum_by, sum_by-cons, world_at, world_of}
 use Rattle.mk_geom.specs.StorageWords.{held_by_storages}
-use Rattle.mk_core.specs.declared.config.Config.{Config}
-use Rattle.mk_core.specs.declared.events.Event.{Event}
-use Rattle.mk_core.specs.declared.events.Step.TheVariants as step
-use Rattle.mk_core.specs.declared.seats.Object.{Object}
-use Rattle.mk_core.specs.Allocations.{PlacedAllocation, cell_of_allocation, held_by_allocations, is_mapped}
-use Rattle.mk_core.specs.Allocations.{never_granted, placed_at, storage_of, storage_words, unreleased_storage}
-use Rattle.mk_core.specs.Allocations.{with_released}
-use Rattle.mk_core.specs.Bounded.{is_some_and}
-use Rattle.mk_core.specs.Cells.{header_in, is_left_unmarked, is_unmapped_header, left_unmarked, pointed_cell}
-use Rattle.mk_core.specs.Cells.{words_under}
-use Rattle.mk_core.specs.History.{World, IsHistory, left}
-use Rattle.mk_core.specs.NewPlaces.{is_run_gone, is_small_object}
-use Rattle.mk_core.specs.ObjectHeaders.{OfBlock, OfLater, OfLeafBlock, OfLeafRun, OfRun, ShowsPart}
-use Rattle.mk_core.specs.StandingAllocations.{object_placed}
-use Rattle.mk_core.specs.Words.{Words, header_at, phase_of, used_at}
-use Rattle.mk_core.proofs.ObjectHeaders.{header_shows}
-use Rattle.mk_core.proofs.Sizes.{pages_some, words_within}
-use Rattle.mk_core.proofs.StandingAllocations.{cells_begin, placed_cell, run_begins, typed_size}
-use Rattle.mk_laws.specs.UnmappedRuns.{is_resident_in}
-use Rattle.mk_laws.proofs.ForImages.{gone_is}
-use Rattle.mk_laws.proofs.InvariantTheorems.{allocations_stand}
-use Rattle.mk_laws.proofs.Settled.{gone_is_unmapped, unmapped_run}
-use Rattle.mk_laws.proofs.UnmappedRuns.{unmapped_runs_take_no_memory}
-use Rattle.mk_words.specs.States.{PassState, world_of, now_of}
-use Rattle.mk_words.specs.TurnSteps.{world_at, Acts}
-use Rattle.mk_words.proofs.Made.{made}
-use Rattle.mk_cycle.specs.EngineLaw.{IsAtPhase}
-use Rattle.mk_cycle.specs.FinishCycle.{HoldsFewer}
-use Rattle.mk_cycle.specs.ReleasedPages.{cells_unmarked, held_below, held_unmarked, sum_below}
-use Rattle.mk_cycle.specs.TurnKeeps.{InTurn, IsGone}
-use Rattle.mk_cycle.proofs.CellCounts.{cells_weigh_as_much}
-use Rattle.mk_cycle.proofs.NewlyReleased.{is_new}
+use Rattle.mk_core.{proofs.StandingAllocations.placed_cell, specs.Allocations.unreleased_storage}
+use Rattle.mk_laws.{proofs.ForImages.gone_is, proofs.Settled.gone_is_unmapped, proofs.Settled.unmapped_run}
+use Rattle.mk_laws.{proofs.UnmappedRuns.unmapped_runs_take_no_memory, specs.UnmappedRuns.is_resident_in}
 use Rattle.mk_cycle.proofs.ReleasedCells.{gone_there, plus_zero, unmapped_is_large}
 use Rattle.mk_cycle.proofs.ReleasedCounts.{phase_there, quiet, same_before, unmarked_are}
-use Rattle.mk_cycle.proofs.SumsBelow.{sum_same}
+use Rattle.mk_cycle.proofs.{CellCounts.cells_weigh_as_much, NewlyReleased.is_new, SumsBelow.sum_same}
 
 -- what one allocation holds
 abbrev held_part : Config → PlacedAllocation → ℕ
@@ -228,12 +201,12 @@ held_alike p q table same =
     ∙ ap (λ (xs : List PlacedAllocation). held_by_allocations p.table.config xs) same
 
 -- A pass that made the `release` knows it so.
-module _ (d q : PassState) (t : InTurn d) (u : InTurn q) (at : IsAtPhase d 3) (a : Acts d step.Release q) where
+module _ (d q : PassState) (t : InTurn d) (u : InTurn q) (at : IsAtPhase d 3) (a : Acts d Step.Release q) where
   pub release_holds : IsGone d → HoldsFewer d q (held_below (now_of q).words d.table.config.pages)
   release_holds gone =
       let c : Config = d.table.config in
       let es : List Event = d.seen ++ a.makes.others in
-      let told = held_told c es (made d step.Release q a.makes).history (phase_there d q t u at a)
+      let told = held_told c es (made d Step.Release q a.makes).history (phase_there d q t u at a)
       (gone_there d q t u at a gone) in
       ap (λ (ys : List PlacedAllocation). held_by_allocations c ys) (sym (same_before d q t u at a))
       ∙ told

@@ -1,26 +1,14 @@
 -- Gates are held one after the other.
-use Rattle.std.proofs.Common.{◌≡◌, ℕ, ◌<◌, Bool, true, false, List, length, refl, sym, ap, ◌∙◌, arith, inl, inr}
-use Rattle.std.specs.Prelude.{slice_index, slice_set, ◌==◌, ◌||◌, not, nat_lt, if◌then◌else◌}
-use Rattle.std.proofs.lemmas.Bool.{and_from, cases_Bool, cases_eq, cases_lt, eq-eqb, eqb-true, lt-ltb, ne_eqb}
-use Rattle.std.proofs.lemmas.List.{get_or-set_same, get_or-set_other, set_past}
-use Rattle.mk_core.specs.declared.events.Seat.{Seat}
-use Rattle.mk_core.specs.declared.events.Word.TheVariants as word
-use Rattle.mk_core.specs.declared.events.Step.TheVariants as step
-use Rattle.mk_core.specs.History.{World}
-use Rattle.mk_core.specs.Moments.{is_held, is_number_of, others_are_held}
-use Rattle.mk_words.specs.States.{WordsState, PassState, now_of}
-use Rattle.mk_words.specs.Steps.{IsEnabledTo}
-use Rattle.mk_words.specs.TurnSteps.{world_at, Acts}
-use Rattle.mk_turns.proofs.Doing.{does_nothing, does_then, does_step}
-use Rattle.mk_cycle.specs.EngineLaw.{IsFreeForCycle}
-use Rattle.mk_cycle.specs.Holding.{HoldsGates, IsHeldOrOwn}
-use Rattle.mk_cycle.specs.Kinds.{holds_gates}
-use Rattle.mk_cycle.specs.TurnKeeps.{InTurn, unchanged}
-use Rattle.mk_cycle.proofs.Allowed.{protocol}
-use Rattle.mk_cycle.proofs.BeginSteps.{all_from}
-use Rattle.mk_cycle.proofs.CleaningSteps.{calm_keeps}
+use Rattle.mk_laws.proofs.Vocabulary.{Bool, List, Seat, Step, Word, World, ℕ, and_from, ap, arith, cases_Bool, cases_eq}
+use Rattle.mk_laws.proofs.Vocabulary.{cases_lt, eq-eqb, eqb-true, false, get_or-set_other, get_or-set_same}
+use Rattle.mk_laws.proofs.Vocabulary.{if◌then◌else◌, inl, inr, is_held, is_number_of, length, lt-ltb, nat_lt, ne_eqb}
+use Rattle.mk_laws.proofs.Vocabulary.{not, others_are_held, refl, set_past, slice_index, slice_set, sym, true, ◌<◌}
+use Rattle.mk_laws.proofs.Vocabulary.{◌==◌, ◌||◌, ◌∙◌, ◌≡◌}
+use Rattle.mk_cycle.proofs.Vocabulary.{Acts, HoldsGates, InTurn, IsEnabledTo, IsFreeForCycle, PassState, WordsState}
+use Rattle.mk_cycle.proofs.Vocabulary.{does_nothing, does_step, does_then, holds_gates, now_of, world_at}
 use Rattle.mk_cycle.proofs.KeptInParts.{free_then, keeps_at_once, keeps_then}
-use Rattle.mk_cycle.proofs.MayAct.{may_act}
+use Rattle.mk_cycle.proofs.{Allowed.protocol, BeginSteps.all_from, CleaningSteps.calm_keeps, MayAct.may_act}
+use Rattle.mk_cycle.specs.{Holding.IsHeldOrOwn, TurnKeeps.unchanged}
 
 pub holds_nothing : (p : PassState) → HoldsGates p p
 holds_nothing p = record { does = does_nothing holds_gates p; keeps = keeps_at_once unchanged p; held = λ j h. h }
@@ -44,9 +32,9 @@ held_seat p q k = ap (λ (x : PassState). x.seat) k.keeps.call.pass
 
 pub hold_allowed : (p : PassState) → InTurn p → IsFreeForCycle p → (j : ℕ) → j < p.table.config.callers
     → is_number_of p.seat j ≡ false
-    → is_held (now_of p).words j ≡ false → IsEnabledTo p (step.Hold j)
+    → is_held (now_of p).words j ≡ false → IsEnabledTo p (Step.Hold j)
 hold_allowed p t free j lt other none =
-    may_act p (step.Hold j) (protocol p t free) t.holds free.decided refl
+    may_act p (Step.Hold j) (protocol p t free) t.holds free.decided refl
     (and_from (nat_lt j p.table.config.callers) (not (is_number_of p.seat j)) (lt-ltb j p.table.config.callers lt)
     (ap not other))
     (ap not none) refl refl
@@ -68,20 +56,20 @@ stays_held gs i j two = elim (cases_eq j i) [
 ]
 
 module _ (p q : PassState) (t : InTurn p) (free : IsFreeForCycle p) (u : InTurn q) where
-  pub look_holds : (j : ℕ) → Acts p (step.Look (word.Gate j)) q → HoldsGates p q
+  pub look_holds : (j : ℕ) → Acts p (Step.Look (Word.Gate j)) q → HoldsGates p q
   look_holds j a =
       record {
-        does = does_step holds_gates p q (step.Look (word.Gate j)) a.makes refl;
-        keeps = calm_keeps p (step.Look (word.Gate j)) q a t u.history refl free unchanged refl;
+        does = does_step holds_gates p q (Step.Look (Word.Gate j)) a.makes refl;
+        keeps = calm_keeps p (Step.Look (Word.Gate j)) q a t u.history refl free unchanged refl;
         held = λ i h. eq-eqb _ 2 (ap (λ (w : World). slice_index w.now.words.gates i) a.world
             ∙ a.turn.held_gates i (eqb-true _ 2 h));
       }
 
-  pub hold_holds : (j : ℕ) → Acts p (step.Hold j) q → HoldsGates p q
+  pub hold_holds : (j : ℕ) → Acts p (Step.Hold j) q → HoldsGates p q
   hold_holds j a =
       record {
-        does = does_step holds_gates p q (step.Hold j) a.makes refl;
-        keeps = calm_keeps p (step.Hold j) q a t u.history refl free unchanged refl;
+        does = does_step holds_gates p q (Step.Hold j) a.makes refl;
+        keeps = calm_keeps p (Step.Hold j) q a t u.history refl free unchanged refl;
         held = λ i h. eq-eqb _ 2
             (ap (λ (w : World). slice_index w.now.words.gates i) a.world
             ∙ stays_held (world_at a.makes).now.words.gates j i (a.turn.held_gates i (eqb-true _ 2 h)));

@@ -1,19 +1,9 @@
 -- What is kept in parts is kept.
-use Rattle.std.proofs.Common.{◌≡◌, ◌≢◌, ℕ, ◌<◌, refl, sym, ap, subst, ◌∙◌, inl, inr}
-use Rattle.std.specs.Prelude.{slice_index, ◌==◌}
-use Rattle.std.proofs.lemmas.Bool.{cases_eq, eq-eqb, ne_eqb}
-use Rattle.mk_core.specs.declared.config.Config.{Config}
-use Rattle.mk_core.specs.declared.events.Step.{Step}
-use Rattle.mk_core.specs.Counts.{full_answers}
-use Rattle.mk_core.specs.Frames.{Steady}
-use Rattle.mk_core.specs.History.{World, world_behind}
-use Rattle.mk_core.specs.Moments.{is_held}
-use Rattle.mk_laws.specs.Protocol.{has_place}
-use Rattle.mk_words.specs.Seats.{Has}
-use Rattle.mk_words.specs.States.{PassState, event_of}
-use Rattle.mk_words.specs.TurnSteps.{world_at, Acts}
-use Rattle.mk_cycle.specs.EngineLaw.{IsFreeForCycle, is_pending_free}
-use Rattle.mk_cycle.specs.TurnKeeps.{Done, KeepsCall, LeavesTurn, KeepsGates}
+use Rattle.mk_laws.proofs.Vocabulary.{Config, Steady, Step, World, ℕ, ap, cases_eq, eq-eqb, has_place, inl, inr}
+use Rattle.mk_laws.proofs.Vocabulary.{is_held, ne_eqb, refl, slice_index, subst, sym, world_behind, ◌<◌, ◌==◌, ◌∙◌, ◌≡◌}
+use Rattle.mk_laws.proofs.Vocabulary.{◌≢◌}
+use Rattle.mk_cycle.proofs.Vocabulary.{Acts, Done, Has, IsFreeForCycle, KeepsCall, KeepsGates, LeavesTurn, PassState}
+use Rattle.mk_cycle.proofs.Vocabulary.{event_of, full_answers, is_pending_free, world_at}
 
 pub calls_then : (p q r : PassState) → KeepsCall p q → KeepsCall q r → KeepsCall p r
 calls_then p q r a b =

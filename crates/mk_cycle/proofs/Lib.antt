@@ -34,3 +34,4 @@ pub mod InParts
 pub mod Begun
 pub mod Undirty
 pub mod CleanedPages
+pub mod Vocabulary

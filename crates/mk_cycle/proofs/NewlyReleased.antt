@@ -1,12 +1,10 @@
 -- Lists of allocations after a `release`: what is new there, counted and weighed.
-use Rattle.std.proofs.Common.{◌≡◌, ℕ, zero, suc, ◌+◌, Bool, true, false, cond, ◌&&◌, not, List, [], ◌∷◌, length, map}
-use Rattle.std.proofs.Common.{get_or, sum_by, count_by, refl, sym, ◌∙◌, ap, arith}
-use Rattle.std.specs.Prelude.{filter, if◌then◌else◌}
-use Rattle.std.proofs.lemmas.Bool.{true≢false}
-use Rattle.std.proofs.lemmas.List.Sums.{sum_by-cons}
-use Rattle.mk_core.specs.Allocations.{PlacedAllocation}
-use Rattle.mk_core.specs.Counts.{releases}
-use Rattle.mk_cycle.specs.FinishCycle.{is_newly_released, newly_released}
+use Rattle.std.proofs.Common.{filter}
+use Rattle.mk_laws.proofs.Vocabulary.{Bool, List, PlacedAllocation, ℕ, ap, arith, cond, false, get_or, if◌then◌else◌}
+use Rattle.mk_laws.proofs.Vocabulary.{length, map, not, refl, suc, sym, true, true≢false, zero, [], ◌&&◌, ◌+◌, ◌∙◌, ◌∷◌}
+use Rattle.mk_laws.proofs.Vocabulary.{◌≡◌}
+use Rattle.mk_cycle.proofs.Vocabulary.{count_by, newly_released, releases, sum_by, sum_by-cons}
+use Rattle.mk_cycle.specs.FinishCycle.{is_newly_released}
 
 -- Sums of what is the same at each place are the same,
 pub same_at_each : {X : Type 0} (d : X) (f g : X → ℕ) (xs : List X)

@@ -1,47 +1,21 @@
 -- The gates are opened after a `release`.
-use Rattle.std.proofs.Common.{◌≡◌, ℕ, Bool, true, false, List, [], ◌∷◌, ◌++◌, refl, sym, ap, subst, ◌∙◌, inl, inr}
-use Rattle.std.proofs.Common.{append-nil, append_assoc}
-use Rattle.mk_core.specs.declared.config.Config.{Config}
-use Rattle.mk_core.specs.declared.events.Event.{Event}
-use Rattle.mk_core.specs.declared.events.Seat.{Seat}
-use Rattle.mk_core.specs.declared.events.Step.{Step}
-use Rattle.mk_core.specs.declared.events.Step.TheVariants as step
-use Rattle.mk_core.specs.Growing.{AreOfOthers, is_one_of}
-use Rattle.mk_core.specs.History.{IsHistory}
-use Rattle.mk_core.proofs.HistoryParts.{earlier_part_is_history}
-use Rattle.mk_laws.proofs.Actors.{is_holders}
-use Rattle.mk_laws.proofs.ProtocolFrames.{others_leave}
-use Rattle.mk_laws.proofs.Known.{holds_turn}
-use Rattle.mk_laws.proofs.Orderly.{same_holder}
-use Rattle.mk_laws.proofs.OrderlyLists.{actor_of}
-use Rattle.mk_laws.proofs.Views.{view_of}
-use Rattle.mk_laws.proofs.FramesHolders.{acts_as_holder}
-use Rattle.mk_laws.proofs.LastEvents.{comes_last, stands}
-use Rattle.mk_words.specs.Opening.{is_open, OnlyOpen, Opens}
-use Rattle.mk_words.specs.States.{PassState, world_of, now_of, call_of, event_of}
-use Rattle.mk_words.specs.Steps.{Makes}
-use Rattle.mk_words.specs.TurnSteps.{op_for, world_at}
-use Rattle.mk_words.proofs.Seats.{others_own}
-use Rattle.mk_words.proofs.TurnSteps.{acts, still_turn}
-use Rattle.std.specs.Prelude.{◌==◌, ◌||◌, not, nat_lt}
-use Rattle.std.proofs.lemmas.Bool.{and_from, lt-ltb}
-use Rattle.mk_core.specs.Moments.{is_held, is_number_of, others_are_held}
-use Rattle.mk_core.specs.Words.{Words}
-use Rattle.mk_core.proofs.AllBelow.{all_below-at}
-use Rattle.mk_words.specs.Opening.{OthersMayOpen}
-use Rattle.mk_cycle.proofs.Allowed.{protocol}
-use Rattle.mk_cycle.proofs.MayAct.{may_act}
-use Rattle.mk_cycle.specs.EngineLaw.{IsFreeForCycle, IsAtPhase}
-use Rattle.mk_core.specs.History.{World}
-use Rattle.mk_core.specs.Words.{page_of}
-use Rattle.std.specs.Prelude.{slice_index}
-use Rattle.mk_cycle.specs.Freeing.{GivesNothingBack}
-use Rattle.mk_cycle.proofs.GivingSteps.{none_at_once, none_then, state_there}
-use Rattle.mk_cycle.specs.TurnKeeps.{InTurn}
+use Rattle.mk_laws.proofs.Vocabulary.{Bool, Config, Event, IsHistory, List, Seat, Step, Words, World, ℕ, all_below-at}
+use Rattle.mk_laws.proofs.Vocabulary.{and_from, ap, append-nil, append_assoc, earlier_part_is_history, false, inl, inr}
+use Rattle.mk_laws.proofs.Vocabulary.{is_held, is_number_of, is_one_of, lt-ltb, nat_lt, not, others_are_held, refl}
+use Rattle.mk_laws.proofs.Vocabulary.{slice_index, subst, sym, true, [], ◌++◌, ◌==◌, ◌||◌, ◌∙◌, ◌∷◌, ◌≡◌}
+use Rattle.mk_cycle.proofs.Vocabulary.{GivesNothingBack, InTurn, IsAtPhase, IsFreeForCycle, Makes, PassState, call_of}
+use Rattle.mk_cycle.proofs.Vocabulary.{event_of, now_of, stands, world_at, world_of}
+use Rattle.mk_core.specs.{Growing.AreOfOthers, Words.page_of}
+use Rattle.mk_laws.proofs.{Actors.is_holders, FramesHolders.acts_as_holder, Known.holds_turn, LastEvents.comes_last}
+use Rattle.mk_laws.proofs.{Orderly.same_holder, OrderlyLists.actor_of, ProtocolFrames.others_leave, Views.view_of}
 use Rattle.mk_cycle.proofs.FreeingSteps.{freed_free, freed_phase, frees_step, open_gives, others_free}
+use Rattle.mk_cycle.proofs.GivingSteps.{none_at_once, none_then, state_there}
+use Rattle.mk_cycle.proofs.{Allowed.protocol, MayAct.may_act}
+use Rattle.mk_words.proofs.{Seats.others_own, TurnSteps.acts, TurnSteps.still_turn}
+use Rattle.mk_words.specs.{Opening.OnlyOpen, Opening.Opens, Opening.OthersMayOpen, Opening.is_open, TurnSteps.op_for}
 
 open_is_holders : (x : Step) → is_open x ≡ true → is_holders x ≡ true
-open_is_holders (step.Open j) h = refl
+open_is_holders (Step.Open j) h = refl
 open_is_holders _ h = cc
 
 -- Only the turn's holder opens a gate.
@@ -82,25 +56,25 @@ by_another p e t at h other =
     }
 
 by_itself : (p : PassState) (j : ℕ) → InTurn p → IsFreeForCycle p → IsAtPhase p 4
-    → IsHistory p.table.config (p.seen ++ event_of p (step.Open j) ∷ [])
-    → Further p (behind p (event_of p (step.Open j) ∷ []))
+    → IsHistory p.table.config (p.seen ++ event_of p (Step.Open j) ∷ [])
+    → Further p (behind p (event_of p (Step.Open j) ∷ []))
 unfolding behind AreOfOthers
 by_itself p j t free at h =
-    let q : PassState = record p { seen = p.seen ++ event_of p (step.Open j) ∷ [] } in
-    let makes : Makes p (step.Open j) q =
+    let q : PassState = record p { seen = p.seen ++ event_of p (Step.Open j) ∷ [] } in
+    let makes : Makes p (Step.Open j) q =
     record {
       others = [];
       of_others = tt;
-      is = ap (λ (es : List Event). record p { seen = es ++ event_of p (step.Open j) ∷ [] }) (sym (append-nil p.seen));
+      is = ap (λ (es : List Event). record p { seen = es ++ event_of p (Step.Open j) ∷ [] }) (sym (append-nil p.seen));
       pass = record { own = t.own; history = h };
     } in
-    let a = acts p (step.Open j) q makes t.holds in
-    let turn = still_turn p (step.Open j) q makes (op_for p.seat (call_of p)) refl
+    let a = acts p (Step.Open j) q makes t.holds in
+    let turn = still_turn p (Step.Open j) q makes (op_for p.seat (call_of p)) refl
     (record { holds = t.holds; op = refl }) in
     let next : InTurn q = record { own = t.own; holds = turn.holds; history = h } in
     record {
       none = record {
-        frees = frees_step p (step.Open j) q a t next refl refl free at
+        frees = frees_step p (Step.Open j) q a t next refl refl free at
             (open_gives p.table.config (world_at a.makes) p.seat j);
         same = λ r.
             ap (λ (w : World). record {
@@ -119,9 +93,9 @@ opens_one : (p : PassState) (e : Event) → InTurn p → IsFreeForCycle p → Is
 opens_one p e t free at h is = by e.step refl is (opens_itself p e t h is)
   where
     by : (x : Step) → e.step ≡ x → is_open x ≡ true → e.seat ≡ p.seat → Further p (behind p (e ∷ []))
-    by (step.Open j) at_step kind same =
-        let it : event_of p (step.Open j) ≡ e =
-        ap (λ (s : Seat). record { seat = s; step = step.Open j }) (sym same)
+    by (Step.Open j) at_step kind same =
+        let it : event_of p (Step.Open j) ≡ e =
+        ap (λ (s : Seat). record { seat = s; step = Step.Open j }) (sym same)
         ∙ ap (λ (x : Step). record { seat = e.seat; step = x }) (sym at_step) in
         subst (λ (f : Event). Further p (behind p (f ∷ []))) it
         (by_itself p j t free at (subst (λ (f : Event). IsHistory p.table.config (p.seen ++ f ∷ [])) (sym it) h))
@@ -158,7 +132,7 @@ pub others_may_open : (p : PassState) → InTurn p → IsFreeForCycle p → IsAt
 others_may_open p t free at held j le lt other =
     let w : Words = (now_of p).words in
     let all = all_below-at p.table.config.callers j (λ i. is_number_of p.seat i || is_held w i) held lt in
-    may_act p (step.Open j) (protocol p t free) t.holds free.decided refl
+    may_act p (Step.Open j) (protocol p t free) t.holds free.decided refl
     (and_from (nat_lt j p.table.config.callers) (not (is_number_of p.seat j)) (lt-ltb j p.table.config.callers lt)
     (ap not other))
     (sym (ap (λ (b : Bool). b || is_held w j) other) ∙ all)

@@ -1,41 +1,18 @@
 -- What a step of the turn's holder keeps, of whatever kind.
-use Rattle.std.proofs.Common.{◌≡◌, ℕ, ◌+◌, ◌<◌, Bool, true, false, List, [], ◌∷◌, ◌++◌, length, refl, sym, ap, subst}
-use Rattle.std.proofs.Common.{◌∙◌, append-nil, arith}
-use Rattle.std.specs.Prelude.{Option, Some, None, count_by, if◌then◌else◌}
-use Rattle.std.proofs.lemmas.Bool.{true≢false}
-use Rattle.std.proofs.lemmas.List.{get_or-set_same}
 use Rattle.std.proofs.lemmas.List.Sums.{sum_by-append}
-use Rattle.mk_core.specs.declared.config.Config.{Config}
-use Rattle.mk_core.specs.declared.events.Answer.{Answer}
-use Rattle.mk_core.specs.declared.events.Seat.{Seat}
-use Rattle.mk_core.specs.declared.events.Seat.TheVariants.{Caller, Marker, Host}
-use Rattle.mk_core.specs.declared.events.Step.{Step}
-use Rattle.mk_core.specs.declared.events.Event.{Event}
-use Rattle.mk_core.specs.declared.seats.Holding.{Holding}
-use Rattle.mk_core.specs.declared.seats.Progress.{Progress}
-use Rattle.mk_core.specs.declared.seats.RunPages.{RunPages}
-use Rattle.mk_core.specs.Accesses.{caller_number}
-use Rattle.mk_core.specs.Calls.{at_rest, still}
-use Rattle.mk_core.specs.Counts.{ends, full_answers, is_full_answer}
-use Rattle.mk_core.specs.Cycles.{is_end}
-use Rattle.mk_core.specs.Decided.{Decided, answered, entry_of}
-use Rattle.mk_core.specs.Effects.{progress, holding_behind, moment_behind, answer_decided}
-use Rattle.mk_core.specs.Frames.{Steady, steady_of, CountsAreLeft}
-use Rattle.mk_core.specs.History.{World, world_behind, first_world, left, calls, IsHistory}
-use Rattle.mk_core.specs.Moments.{Moment, flight_of}
-use Rattle.mk_core.specs.NewPlaces.{is_run_gone}
-use Rattle.mk_core.specs.Readings.{Holds}
-use Rattle.mk_core.proofs.Histories.{calls_more}
-use Rattle.mk_laws.specs.Protocol.{Protocol}
-use Rattle.mk_laws.specs.ZeroLaws.{is_heap_store}
+use Rattle.mk_laws.proofs.Vocabulary.{Answer, Bool, Caller, Config, Decided, Event, Holding, Holds, Host, IsHistory}
+use Rattle.mk_laws.proofs.Vocabulary.{List, Marker, Moment, None, Option, Progress, Protocol, RunPages, Seat, Some}
+use Rattle.mk_laws.proofs.Vocabulary.{Steady, Step, World, ℕ, answer_decided, answered, ap, append-nil, arith, at_rest}
+use Rattle.mk_laws.proofs.Vocabulary.{caller_number, calls, ends, entry_of, false, first_world, flight_of}
+use Rattle.mk_laws.proofs.Vocabulary.{get_or-set_same, if◌then◌else◌, is_end, is_heap_store, is_run_gone, left, length}
+use Rattle.mk_laws.proofs.Vocabulary.{progress, refl, still, subst, sym, true, true≢false, world_behind, [], ◌++◌, ◌+◌}
+use Rattle.mk_laws.proofs.Vocabulary.{◌<◌, ◌∙◌, ◌∷◌, ◌≡◌}
+use Rattle.mk_cycle.proofs.Vocabulary.{Acts, CountsAreLeft, Done, Has, IsGone, KeepsCall, PassState, call_of, count_by}
+use Rattle.mk_cycle.proofs.Vocabulary.{done_of, event_of, full_answers, holder_finds, holding_behind, made, now_of}
+use Rattle.mk_cycle.proofs.Vocabulary.{stands, steady_of, world_at, world_of}
+use Rattle.mk_core.{proofs.Histories.calls_more, specs.Counts.is_full_answer, specs.Effects.moment_behind}
 use Rattle.mk_laws.proofs.RunWords.{gone_behind}
-use Rattle.mk_laws.proofs.LastEvents.{stands}
-use Rattle.mk_laws.proofs.RunsStill.{holder_finds}
-use Rattle.mk_words.specs.Seats.{Has}
-use Rattle.mk_words.specs.States.{PassState, world_of, now_of, call_of, event_of}
-use Rattle.mk_words.specs.TurnSteps.{world_at, Acts}
-use Rattle.mk_words.proofs.Made.{Made, made}
-use Rattle.mk_cycle.specs.TurnKeeps.{Done, done_of, IsGone, KeepsCall}
+use Rattle.mk_words.proofs.Made.{Made}
 
 -- what a holding shows of what was done
 abbrev pub done_in : Holding → Done

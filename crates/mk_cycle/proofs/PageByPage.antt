@@ -1,31 +1,22 @@
 -- Pages are settled one by one, and pages without freed cells are passed over: what is known of those before, and of
 -- those still to come, goes on.
-use Rattle.std.proofs.Common.{◌≡◌, ℕ, ◌+◌, ◌<◌, ◌≤◌, ◌∙◌, false, ap, arith, below_more, inl, inr, refl, sym}
-use Rattle.std.specs.Prelude.{◌||◌, not, nat_lt, Option, Some, None, slice_index}
-use Rattle.std.proofs.lemmas.Bool.{and_from, cases_lt, eq-eqb, le-ltb, lt-ltb, ltb-false, or_parts}
-use Rattle.mk_geom.specs.declared.headers.Header.{Header}
-use Rattle.mk_geom.specs.declared.headers.Header.TheVariants.{Free, Block, Run, Later, LeafBlock, LeafRun}
-use Rattle.mk_geom.specs.Headers.{header_of}
-use Rattle.mk_geom.specs.PageUses.{is_free_page}
-use Rattle.mk_geom.specs.PageWords.{use_under}
-use Rattle.mk_geom.proofs.HeaderLemmas.{word_of-header_of}
+use Rattle.std.proofs.Common.{le-ltb, ltb-false}
+use Rattle.mk_laws.proofs.Vocabulary.{Block, Free, Header, Later, LeafBlock, LeafRun, None, Option, Run, Some, Words, ℕ}
+use Rattle.mk_laws.proofs.Vocabulary.{and_from, ap, arith, cases_lt, eq-eqb, false, head_page, header_at, header_in}
+use Rattle.mk_laws.proofs.Vocabulary.{header_of, inl, inr, lt-ltb, nat_lt, not, or_parts, refl, run_count, slice_index}
+use Rattle.mk_laws.proofs.Vocabulary.{sym, use_under, used_at, ◌+◌, ◌<◌, ◌||◌, ◌∙◌, ◌≡◌, ◌≤◌}
+use Rattle.mk_cycle.proofs.Vocabulary.{Frees, FreesPage, HasFreeCells, InTurn, IsOccupied, IsSettledPage, PageState}
+use Rattle.mk_cycle.proofs.Vocabulary.{PassState, Released, SamePage, below_more, cells_unmarked, held_below}
+use Rattle.mk_cycle.proofs.Vocabulary.{held_unmarked, left_unmarked, now_of, released_below, released_on}
+use Rattle.mk_cycle.proofs.Vocabulary.{words_unmarked}
+use Rattle.mk_geom.{proofs.HeaderLemmas.word_of-header_of, specs.PageUses.is_free_page}
 use Rattle.mk_page_map.specs.Members.{IsNext, has_freed_cells, is_in_use}
-use Rattle.mk_core.specs.Cells.{header_in, head_page, left_unmarked}
-use Rattle.mk_core.specs.Words.{Words, header_at, used_at}
-use Rattle.mk_laws.specs.LayoutScene.{run_count}
-use Rattle.mk_words.specs.States.{PassState, now_of}
-use Rattle.mk_cycle.specs.declared.finishing.Released.{Released}
-use Rattle.mk_cycle.specs.Freeing.{Frees, FreesPage, HasFreeCells, IsOccupied, IsSettledPage, PageState, SamePage}
-use Rattle.mk_cycle.specs.Freeing.{may_be_unsettled}
-use Rattle.mk_cycle.specs.ReleasedPages.{cells_marked, cells_unmarked, held_below, held_unmarked, released_below}
-use Rattle.mk_cycle.specs.ReleasedPages.{released_on, words_unmarked}
-use Rattle.mk_cycle.specs.TurnKeeps.{InTurn}
 use Rattle.mk_cycle.proofs.CountedPages.{counted_more, held_more, held_same, none_held, nothing_on, same_released}
 use Rattle.mk_cycle.proofs.CountedPages.{told_same}
-use Rattle.mk_cycle.proofs.FreeingSteps.{frees_nothing, frees_then}
 use Rattle.mk_cycle.proofs.SettledPages.{free_cells_stay, head_elsewhere, no_cells, no_snapshot, none_left}
 use Rattle.mk_cycle.proofs.SettledPages.{same_occupied, still_settled}
-use Rattle.mk_cycle.proofs.SumsBelow.{sum_past}
+use Rattle.mk_cycle.proofs.{FreeingSteps.frees_nothing, FreeingSteps.frees_then, SumsBelow.sum_past}
+use Rattle.mk_cycle.specs.{Freeing.may_be_unsettled, ReleasedPages.cells_marked}
 
 -- The pages below this one are settled and counted, and the others are as they were; those that also aren't before the
 -- end of a run are occupied.

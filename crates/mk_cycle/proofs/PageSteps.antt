@@ -1,16 +1,12 @@
 -- A page's released cells are given back.
-use Rattle.std.proofs.Common.{◌≡◌, ℕ, ◌+◌, ◌*◌, ◌-◌, ◌<◌, Bool, true, false, List, refl, sym, ap, subst, ◌∙◌, bit_and}
-use Rattle.std.specs.Prelude.{slice_index, ◌||◌, not}
-use Rattle.std.proofs.lemmas.Bool.{eq-eqb, and_from}
-use Rattle.mk_core.specs.Bits.{has_bit, without}
-use Rattle.mk_core.specs.Cells.{are_left_unmarked, cell_words, header_in, left_unmarked, words_under}
-use Rattle.mk_core.specs.TurnConditions.{are_wiped, drops, gives_back}
-use Rattle.mk_core.specs.Words.{Words, header_at, used_at}
-use Rattle.mk_words.specs.States.{PassState, now_of}
-use Rattle.mk_cycle.specs.Freeing.{GivesNothingBack, FreesPage, PageState, SamePage}
-use Rattle.mk_cycle.proofs.BeginSteps.{all_from}
+use Rattle.mk_laws.proofs.Vocabulary.{Bool, List, Words, ℕ, and_from, ap, cell_words, eq-eqb, false, gives_back}
+use Rattle.mk_laws.proofs.Vocabulary.{has_bit, header_at, header_in, not, refl, slice_index, subst, sym, true, used_at}
+use Rattle.mk_laws.proofs.Vocabulary.{without, words_under, ◌*◌, ◌+◌, ◌-◌, ◌<◌, ◌||◌, ◌∙◌, ◌≡◌}
+use Rattle.mk_cycle.proofs.Vocabulary.{FreesPage, GivesNothingBack, PageState, PassState, SamePage, bit_and, drops}
+use Rattle.mk_cycle.proofs.Vocabulary.{left_unmarked, now_of}
+use Rattle.mk_core.specs.{Cells.are_left_unmarked, TurnConditions.are_wiped}
 use Rattle.mk_cycle.proofs.CellBits.{left_within, none_beyond, none_of_itself, part_within, rest_away, taken_away}
-use Rattle.mk_cycle.proofs.FreeingSteps.{frees_then}
+use Rattle.mk_cycle.proofs.{BeginSteps.all_from, FreeingSteps.frees_then}
 
 pub page_at_once : (page : ℕ) (p q : PassState) → GivesNothingBack p q → FreesPage page p q
 page_at_once page p q a = record { frees = a.frees; others = λ r ne. a.same r }

@@ -1,30 +1,14 @@
 -- The `close` and the `release` of a cycle.
-use Rattle.std.proofs.Common.{◌≡◌, ℕ, ◌+◌, ◌/◌, ◌%◌, ◌^◌, ◌<◌, ◌≤◌, true, [], refl, ap, subst, ◌∙◌, arith}
-use Rattle.std.specs.Prelude.{map, count_by}
-use Rattle.std.proofs.lemmas.Bool.{eq-eqb}
-use Rattle.std.proofs.lemmas.List.Sums.{count_by-le-length}
-use Rattle.mk_core.specs.declared.config.Config.{Config}
-use Rattle.mk_core.specs.declared.events.Step.{Step}
-use Rattle.mk_core.specs.declared.events.Step.TheVariants as step
-use Rattle.mk_core.specs.Allocations.{fresh_words_of, with_released}
-use Rattle.mk_core.specs.Frames.{Steady, steady_of}
-use Rattle.mk_core.specs.History.{World}
-use Rattle.mk_core.specs.Moments.{others_are_held}
-use Rattle.mk_core.specs.Readings.{is_in}
-use Rattle.mk_core.specs.Words.{Words, phase_of}
-use Rattle.mk_words.specs.States.{PassState, world_of, now_of}
-use Rattle.mk_words.specs.Steps.{IsEnabledTo, moment_of}
-use Rattle.mk_words.specs.TurnSteps.{world_at, Acts}
-use Rattle.mk_words.proofs.Made.{made}
-use Rattle.mk_cycle.specs.EngineLaw.{IsFreeForCycle, IsAtPhase, ClosesMarks}
-use Rattle.mk_cycle.specs.Releasing.{ReleasesUnmarked}
-use Rattle.mk_cycle.specs.TurnKeeps.{InTurn, LeavesTurn, but_phase}
-use Rattle.mk_cycle.proofs.Allowed.{protocol}
+use Rattle.mk_laws.proofs.Vocabulary.{Config, Steady, Step, Words, World, ℕ, ap, arith, eq-eqb, fresh_words_of, is_in}
+use Rattle.mk_laws.proofs.Vocabulary.{map, others_are_held, phase_of, refl, subst, true, with_released, [], ◌%◌, ◌+◌}
+use Rattle.mk_laws.proofs.Vocabulary.{◌/◌, ◌<◌, ◌^◌, ◌∙◌, ◌≡◌, ◌≤◌}
+use Rattle.mk_cycle.proofs.Vocabulary.{Acts, InTurn, IsAtPhase, IsEnabledTo, IsFreeForCycle, LeavesTurn, PassState}
+use Rattle.mk_cycle.proofs.Vocabulary.{count_by, count_by-le-length, made, now_of, steady_of, world_at, world_of}
 use Rattle.mk_cycle.proofs.BeginSteps.{counts_then}
-use Rattle.mk_cycle.proofs.CleaningSteps.{calm_keeps}
 use Rattle.mk_cycle.proofs.KeptInParts.{calls_then, free_then, same_config}
-use Rattle.mk_cycle.proofs.MayAct.{may_act}
-use Rattle.mk_cycle.proofs.ReleasedCounts.{fresh_words_stay}
+use Rattle.mk_cycle.proofs.{Allowed.protocol, CleaningSteps.calm_keeps, MayAct.may_act, ReleasedCounts.fresh_words_stay}
+use Rattle.mk_cycle.specs.{EngineLaw.ClosesMarks, Releasing.ReleasesUnmarked, TurnKeeps.but_phase}
+use Rattle.mk_words.specs.Steps.{moment_of}
 
 -- One is added to the phase.
 phase_more : (n markers phase : ℕ) → n % 8 ≡ phase → phase < 7 → n / 8 ≡ markers → markers ≤ 8
@@ -45,34 +29,34 @@ phase_at p s q a t u phase at small =
     phase_more w.now.words.phase (count_by is_in w.now.seats.markers) phase low small there.high few
 
 pub release_allowed : (p : PassState) → InTurn p → IsFreeForCycle p → IsAtPhase p 3
-    → others_are_held p.table.config.callers (now_of p).words p.seat ≡ true → IsEnabledTo p step.Release
+    → others_are_held p.table.config.callers (now_of p).words p.seat ≡ true → IsEnabledTo p Step.Release
 release_allowed p t free at held =
-    may_act p step.Release (protocol p t free) t.holds free.decided refl refl held
+    may_act p Step.Release (protocol p t free) t.holds free.decided refl refl held
     (eq-eqb (phase_of (now_of p).words) 3 at) refl
 
-pub close_leaves : (p q : PassState) → InTurn p → IsFreeForCycle p → IsAtPhase p 2 → Acts p step.Close q → InTurn q
+pub close_leaves : (p q : PassState) → InTurn p → IsFreeForCycle p → IsAtPhase p 2 → Acts p Step.Close q → InTurn q
     → LeavesTurn but_phase p q × IsAtPhase q 3
 close_leaves p q t free at a u = (
-  calm_keeps p step.Close q a t u.history refl free but_phase refl,
-  ap (λ (w : World). phase_of w.now.words) a.world ∙ phase_at p step.Close q a t u 2 at (omega arith),
+  calm_keeps p Step.Close q a t u.history refl free but_phase refl,
+  ap (λ (w : World). phase_of w.now.words) a.world ∙ phase_at p Step.Close q a t u 2 at (omega arith),
 )
 
 but_release : Steady → Steady
 but_release s = record s { phase = 0; allocations = [] }
 
 pub releases_unmarked : (p b d q : PassState) → InTurn p → IsFreeForCycle p → ClosesMarks p b → InTurn b
-    → Acts b step.Close d → InTurn d
-    → Acts d step.Release q → InTurn q → ReleasesUnmarked p q
+    → Acts b Step.Close d → InTurn d
+    → Acts d Step.Release q → InTurn q → ReleasesUnmarked p q
 unfolding but_release
 releases_unmarked p b d q t free marks tb close td release tq =
     let free_b = free_then p b marks.keeps.call free in
     let one = close_leaves b d tb free_b marks.phase close td in
     let free_d = free_then b d one.0.call free_b in
-    let two = calm_keeps d step.Release q release td tq.history refl free_d but_release refl in
+    let two = calm_keeps d Step.Release q release td tq.history refl free_d but_release refl in
     let c : Config = p.table.config in
     let w : Words = (moment_of release.makes).words in
     let phase : ((world_at release.makes).now.words.phase + 1) % 2 ^ 64 % 8 ≡ 4 =
-    phase_at d step.Release q release td tq 3 one.1 (omega arith) in
+    phase_at d Step.Release q release td tq 3 one.1 (omega arith) in
     let same_b : b.table.config ≡ c = same_config p b marks.keeps.call.pass in
     let same_d : d.table.config ≡ c = same_config b d one.0.call.pass ∙ same_b in
     record {

@@ -1,55 +1,24 @@
 -- After a `release` the released cells have no word of a mapped allocation.
-use Rattle.std.proofs.Common.{◌≡◌, ℕ, ◌+◌, ◌*◌, ◌/◌, ◌<◌, ◌++◌, Bool, true, false, List, refl, sym, ap, subst, ◌∙◌}
-use Rattle.std.proofs.Common.{arith, inl, inr}
-use Rattle.std.specs.Prelude.{◌⊎◌, slice_index, ◌==◌, ◌&&◌, ◌||◌, not, map, Option}
-use Rattle.std.proofs.lemmas.Bool.{and_parts, cases_eq, eq-eqb, ne_eqb, or_right, true≢false}
 use Rattle.std.proofs.Math.Bool.{and-false}
-use Rattle.mk_never.specs.Types.{kinds_of, is_large}
-use Rattle.mk_geom.specs.declared.addresses.Cell.{Cell}
-use Rattle.mk_geom.specs.declared.headers.Header.{Header}
-use Rattle.mk_geom.specs.Headers.{header_of}
-use Rattle.mk_geom.specs.StorageWords.{IsWordOf}
-use Rattle.mk_core.specs.declared.config.Config.{Config}
-use Rattle.mk_core.specs.declared.events.Event.{Event}
-use Rattle.mk_core.specs.declared.events.Step.TheVariants as step
-use Rattle.mk_core.specs.declared.seats.Holding.{Holding}
-use Rattle.mk_core.specs.declared.seats.Object.{Object}
-use Rattle.mk_core.specs.declared.seats.Placing.{Placing}
-use Rattle.mk_core.specs.declared.seats.Placing.TheVariants.{Chosen, Granted, Unplaced, Used}
-use Rattle.mk_core.specs.Allocations.{PlacedAllocation, is_mapped, placed_at, storage_of, storage_words, with_released}
-use Rattle.mk_core.specs.Bits.{has_bit}
-use Rattle.mk_core.specs.Cells.{cell_words, first_word, header_in, is_left_unmarked, is_unmapped_header, left_unmarked}
-use Rattle.mk_core.specs.Cells.{head_page, words_under}
-use Rattle.mk_core.specs.Frames.{Steady}
-use Rattle.mk_core.specs.History.{World, IsHistory}
-use Rattle.mk_core.specs.Moments.{is_phase}
-use Rattle.mk_core.specs.NewPlaces.{is_run_gone, is_small_object, pages_made}
-use Rattle.mk_core.specs.ObjectHeaders.{OfBlock, OfLater, OfLeafBlock, OfLeafRun, OfRun, ShowsPart}
-use Rattle.mk_core.specs.StandingAllocations.{object_placed}
-use Rattle.mk_core.specs.Words.{header_at, phase_of, used_at}
-use Rattle.mk_core.proofs.BitsWithout.{has_bit_without}
-use Rattle.mk_core.proofs.ChangedAllocations.{changed_at}
-use Rattle.mk_core.proofs.ObjectHeaders.{header_shows}
-use Rattle.mk_core.proofs.PointedAllocations.{released_where_left}
-use Rattle.mk_core.proofs.Sizes.{large_is_not_small, pages_some}
-use Rattle.mk_core.proofs.StandingAllocations.{cells_begin, placed_cell, typed_size}
-use Rattle.mk_laws.specs.Quarantine.{IsFreedCell}
-use Rattle.mk_laws.specs.LayoutScene.{InPlot, is_released_in}
-use Rattle.mk_laws.specs.Protocol.{has_place}
-use Rattle.mk_laws.specs.Terrain.{plot_of}
-use Rattle.mk_laws.proofs.InvariantTheorems.{allocations_are_disjoint, allocations_stand}
-use Rattle.mk_laws.proofs.LastEvents.{stands}
-use Rattle.mk_laws.proofs.RunsStill.{HolderFinds, holder_finds}
-use Rattle.mk_laws.specs.Zeros.{IsWordOfMapped}
-use Rattle.mk_laws.proofs.MappedWords.{mapped_stays}
-use Rattle.mk_laws.specs.FreeWords.{IsOfNoneMapped}
-use Rattle.mk_laws.proofs.FreeWords.{unmapped_words_are_zero}
-use Rattle.mk_words.specs.States.{PassState, now_of, world_of}
-use Rattle.mk_words.specs.TurnSteps.{world_at, Acts}
-use Rattle.mk_words.proofs.Made.{made}
-use Rattle.mk_cycle.specs.EngineLaw.{IsAtPhase}
-use Rattle.mk_cycle.specs.Freeing.{HasFreeCells, IsOccupied, IsUnmappedWord, IsZero, is_occupied_page}
-use Rattle.mk_cycle.specs.TurnKeeps.{InTurn, IsGone}
+use Rattle.mk_laws.proofs.Vocabulary.{Bool, Cell, Chosen, Config, Event, Granted, Header, Holding, InPlot, IsFreedCell}
+use Rattle.mk_laws.proofs.Vocabulary.{IsHistory, IsWordOf, IsWordOfMapped, List, Object, OfBlock, OfLater, OfLeafBlock}
+use Rattle.mk_laws.proofs.Vocabulary.{OfLeafRun, OfRun, Option, PlacedAllocation, Placing, ShowsPart, Steady, Step}
+use Rattle.mk_laws.proofs.Vocabulary.{Unplaced, Used, World, ℕ, and_parts, ap, arith, cases_eq, cell_words, cells_begin}
+use Rattle.mk_laws.proofs.Vocabulary.{changed_at, eq-eqb, false, first_word, has_bit, has_bit_without, has_place}
+use Rattle.mk_laws.proofs.Vocabulary.{head_page, header_at, header_in, header_of, header_shows, inl, inr, is_large}
+use Rattle.mk_laws.proofs.Vocabulary.{is_left_unmarked, is_mapped, is_phase, is_released_in, is_run_gone}
+use Rattle.mk_laws.proofs.Vocabulary.{is_small_object, is_unmapped_header, kinds_of, large_is_not_small, map, ne_eqb}
+use Rattle.mk_laws.proofs.Vocabulary.{not, object_placed, or_right, pages_made, pages_some, phase_of, placed_at}
+use Rattle.mk_laws.proofs.Vocabulary.{plot_of, refl, released_where_left, slice_index, storage_of, storage_words, subst}
+use Rattle.mk_laws.proofs.Vocabulary.{sym, true, true≢false, typed_size, used_at, with_released, words_under, ◌&&◌, ◌*◌}
+use Rattle.mk_laws.proofs.Vocabulary.{◌++◌, ◌+◌, ◌/◌, ◌<◌, ◌==◌, ◌||◌, ◌∙◌, ◌≡◌, ◌⊎◌}
+use Rattle.mk_cycle.proofs.Vocabulary.{Acts, HasFreeCells, InTurn, IsAtPhase, IsGone, IsOccupied, IsUnmappedWord}
+use Rattle.mk_cycle.proofs.Vocabulary.{IsZero, PassState, allocations_stand, holder_finds, left_unmarked, made, now_of}
+use Rattle.mk_cycle.proofs.Vocabulary.{stands, world_at, world_of}
+use Rattle.mk_core.proofs.StandingAllocations.{placed_cell}
+use Rattle.mk_laws.{proofs.FreeWords.unmapped_words_are_zero, proofs.InvariantTheorems.allocations_are_disjoint}
+use Rattle.mk_laws.{proofs.MappedWords.mapped_stays, proofs.RunsStill.HolderFinds, specs.FreeWords.IsOfNoneMapped}
+use Rattle.mk_cycle.specs.Freeing.{is_occupied_page}
 
 pub plus_zero : (n : ℕ) → n + 0 ≡ n
 plus_zero n = omega arith
@@ -63,7 +32,7 @@ unmapped_is_large o x (OfRun mapped first large leaf) h = large
 unmapped_is_large o x (OfLeafRun first large leaf) h = large
 unmapped_is_large o x (OfLater mapped some large) h = large
 
-module _ (d q : PassState) (t : InTurn d) (u : InTurn q) (at : IsAtPhase d 3) (a : Acts d step.Release q) where
+module _ (d q : PassState) (t : InTurn d) (u : InTurn q) (at : IsAtPhase d 3) (a : Acts d Step.Release q) where
   abbrev c : Config
   c = d.table.config
 
@@ -82,7 +51,7 @@ module _ (d q : PassState) (t : InTurn d) (u : InTurn q) (at : IsAtPhase d 3) (a
   -- the freed allocation of a released cell, before the release
   owner : (page k : ℕ) → has_bit (left_unmarked w.now.words page) k ≡ true → IsFreedCell c w.allocations page k
   owner page k has =
-      let order = (stands c es (made d step.Release q a.makes).history).all.order in
+      let order = (stands c es (made d Step.Release q a.makes).history).all.order in
       let in_snapshot = (and_parts (has_bit (slice_index w.now.words.snapshot page) k)
       (not (has_bit (slice_index w.now.words.marks page) k))
       (sym (has_bit_without (slice_index w.now.words.snapshot page) (slice_index w.now.words.marks page) k) ∙ has)).0 in
@@ -102,7 +71,7 @@ module _ (d q : PassState) (t : InTurn d) (u : InTurn q) (at : IsAtPhase d 3) (a
       → IsWordOf (storage_of c (placed_at w.allocations f.number)) n
       → IsWordOfMapped c (map (with_released c w.now.words) w.allocations) n → ⊥
   none_mapped page k n f has word m =
-      let history = (made d step.Release q a.makes).history in
+      let history = (made d Step.Release q a.makes).history in
       let x : PlacedAllocation = placed_at w.allocations m.number in
       let y : PlacedAllocation = placed_at w.allocations f.number in
       let same : placed_at (map (with_released c w.now.words) w.allocations) m.number ≡ with_released c w.now.words x =
@@ -138,7 +107,7 @@ module _ (d q : PassState) (t : InTurn d) (u : InTurn q) (at : IsAtPhase d 3) (a
       → is_unmapped_header (header_in w.now.words page) ≡ true
       → is_mapped c (placed_at w.allocations f.number) ≡ false
   unmapped_owner page k f gone =
-      let history = (made d step.Release q a.makes).history in
+      let history = (made d Step.Release q a.makes).history in
       let y : PlacedAllocation = placed_at w.allocations f.number in
       let o : Object = object_placed c y in
       let st = allocations_stand c es history f.number f.unreleased in
@@ -156,7 +125,7 @@ module _ (d q : PassState) (t : InTurn d) (u : InTurn q) (at : IsAtPhase d 3) (a
 
   pub gone_there : IsGone d → is_run_gone w.now.words w.now.seats.holding.freed ≡ true
   gone_there gone =
-      let m = made d step.Release q a.makes in
+      let m = made d Step.Release q a.makes in
       let finds : HolderFinds c d.seat (world_of d) w =
       holder_finds c d.seat d.seen a.makes.others m.history m.others t.holds in
       ap (λ (h : Holding). is_run_gone w.now.words h.freed) finds.holding ∙ finds.gone gone
@@ -166,13 +135,13 @@ module _ (d q : PassState) (t : InTurn d) (u : InTurn q) (at : IsAtPhase d 3) (a
       → is_unmapped_header (header_in w.now.words page) ≡ true
       → IsWordOf (storage_of c (placed_at w.allocations f.number)) n → slice_index w.now.words.heap n ≡ 0
   unmapped_is_zero gone page k n f unmapped word =
-      let history = (made d step.Release q a.makes).history in
+      let history = (made d Step.Release q a.makes).history in
       let three : phase_of w.now.words ≡ 3 = ap (λ (s : Steady). s.phase) a.turn.steady ∙ at in
       unmapped_words_are_zero c es history (λ four. absurd (omega arith)) (gone_there gone) n none
     where
       none : IsOfNoneMapped c w.allocations n
       none i mapped there =
-          let history = (made d step.Release q a.makes).history in
+          let history = (made d Step.Release q a.makes).history in
           let number : i ≡ f.number =
           allocations_are_disjoint c es history i f.number n (mapped_stays c (placed_at w.allocations i) mapped)
           f.unreleased there word in
@@ -186,7 +155,7 @@ module _ (d q : PassState) (t : InTurn d) (u : InTurn q) (at : IsAtPhase d 3) (a
       × IsWordOf (storage_of c (placed_at w.allocations f.number))
       (64 * page + k * words_under (header_in w.now.words page) + i)
   owned_word page k i has small f =
-      let history = (made d step.Release q a.makes).history in
+      let history = (made d Step.Release q a.makes).history in
       let y : PlacedAllocation = placed_at w.allocations f.number in
       let st = allocations_stand c es history f.number f.unreleased in
       let begins = cells_begin c w.now.words y history.within_limits st.stands st.headers in
@@ -244,12 +213,12 @@ module _ (d q : PassState) (t : InTurn d) (u : InTurn q) (at : IsAtPhase d 3) (a
   pages_are_occupied none page = ap (λ (x : World). is_occupied_page x.now.words page) a.world ∙ there
     where
       history : IsHistory c es
-      history = (made d step.Release q a.makes).history
+      history = (made d Step.Release q a.makes).history
 
       unplaced : has_place w.now.seats.holding.placing ≡ false
       unplaced =
           ap (λ (h : Holding). has_place h.placing)
-          (holder_finds c d.seat d.seen a.makes.others history (made d step.Release q a.makes).others t.holds).holding
+          (holder_finds c d.seat d.seen a.makes.others history (made d Step.Release q a.makes).others t.holds).holding
           ∙ none
 
       no_plot : (o : Object) (placing : Placing) → has_place placing ≡ false → InPlot (plot_of o placing) page → ⊥

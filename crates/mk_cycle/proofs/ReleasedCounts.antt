@@ -1,43 +1,20 @@
 -- The words of the pages after a `release` say what it released.
-use Rattle.std.proofs.Common.{◌≡◌, ◌≢◌, ℕ, ◌+◌, ◌++◌, Bool, true, false, cond, ◌&&◌, ◌||◌, not, List, length, map}
-use Rattle.std.proofs.Common.{sum_by, count_by, refl, sym, ap, ◌∙◌, arith}
-use Rattle.std.specs.Prelude.{slice_index}
-use Rattle.std.proofs.lemmas.Bool.{and_from, and_parts, not-true, true≢false}
-use Rattle.std.proofs.lemmas.Nat.{and_le_l}
-use Rattle.mk_geom.specs.declared.addresses.Cell.{Cell}
-use Rattle.mk_core.specs.declared.config.Config.{Config}
-use Rattle.mk_core.specs.declared.events.Event.{Event}
-use Rattle.mk_core.specs.declared.events.Step.TheVariants as step
-use Rattle.mk_core.specs.Allocations.{PlacedAllocation, cell_of_allocation, fresh_words_of, is_mapped, never_granted}
-use Rattle.mk_core.specs.Allocations.{placed_at, storage_words, with_released}
-use Rattle.mk_core.specs.Bounded.{is_some_and}
-use Rattle.mk_geom.specs.Addresses.{address_of}
-use Rattle.mk_never.specs.Types.{kinds_of, is_large}
-use Rattle.mk_core.specs.Bits.{has_bit}
-use Rattle.mk_core.specs.Cells.{header_in, is_left_unmarked, pointed_cell, left_unmarked, words_under}
-use Rattle.mk_core.specs.Cycles.{is_quarantined}
-use Rattle.mk_core.specs.Frames.{Steady}
-use Rattle.mk_core.specs.History.{World, IsHistory, left}
-use Rattle.mk_core.specs.Words.{Words, phase_of}
-use Rattle.mk_core.proofs.BitsWithout.{has_bit_without}
-use Rattle.mk_core.proofs.PointedAllocations.{released_where_left}
-use Rattle.mk_core.proofs.StandingAllocations.{cells_begin}
-use Rattle.mk_laws.specs.Quarantine.{has_bit_of, is_cycling}
-use Rattle.mk_laws.proofs.InvariantTheorems.{allocations_stand}
-use Rattle.mk_laws.proofs.LastEvents.{stands}
-use Rattle.mk_words.specs.States.{PassState, world_of, now_of}
-use Rattle.mk_words.specs.TurnSteps.{world_at, Acts}
-use Rattle.mk_words.proofs.Made.{made}
-use Rattle.mk_cycle.specs.declared.finishing.Released.{Released}
-use Rattle.mk_cycle.specs.EngineLaw.{IsAtPhase}
-use Rattle.mk_cycle.specs.TurnKeeps.{InTurn}
-use Rattle.mk_cycle.specs.ReleasedPages.{cells_marked, cells_unmarked, left_marked, released_below, sum_below}
-use Rattle.mk_cycle.specs.ReleasedPages.{words_unmarked}
-use Rattle.mk_cycle.specs.FinishCycle.{HasReleased, is_in_snapshot_of_cycle, newly_released}
-use Rattle.mk_cycle.proofs.CellBits.{has_bit_and}
+use Rattle.mk_laws.proofs.Vocabulary.{Bool, Cell, Config, Event, IsHistory, List, PlacedAllocation, Steady, Step, Words}
+use Rattle.mk_laws.proofs.Vocabulary.{World, ℕ, address_of, and_from, and_parts, ap, arith, cell_of_allocation}
+use Rattle.mk_laws.proofs.Vocabulary.{cells_begin, cond, false, fresh_words_of, has_bit, has_bit_of, has_bit_without}
+use Rattle.mk_laws.proofs.Vocabulary.{header_in, is_cycling, is_large, is_left_unmarked, is_mapped, is_quarantined}
+use Rattle.mk_laws.proofs.Vocabulary.{is_some_and, kinds_of, left, length, map, never_granted, not, not-true, phase_of}
+use Rattle.mk_laws.proofs.Vocabulary.{placed_at, pointed_cell, refl, released_where_left, slice_index, storage_words}
+use Rattle.mk_laws.proofs.Vocabulary.{sym, true, true≢false, with_released, words_under, ◌&&◌, ◌++◌, ◌+◌, ◌||◌, ◌∙◌}
+use Rattle.mk_laws.proofs.Vocabulary.{◌≡◌, ◌≢◌}
+use Rattle.mk_cycle.proofs.Vocabulary.{Acts, HasReleased, InTurn, IsAtPhase, PassState, Released, allocations_stand}
+use Rattle.mk_cycle.proofs.Vocabulary.{and_le_l, cells_unmarked, count_by, left_unmarked, made, newly_released, now_of}
+use Rattle.mk_cycle.proofs.Vocabulary.{released_below, stands, sum_below, sum_by, words_unmarked, world_at, world_of}
 use Rattle.mk_cycle.proofs.CellCounts.{AreTheirBits, cells_are_as_many, cells_weigh_as_much}
 use Rattle.mk_cycle.proofs.NewlyReleased.{is_new, left_filtered, newly_counted, newly_weighed, parts_at_each}
 use Rattle.mk_cycle.proofs.NewlyReleased.{same_at_each}
+use Rattle.mk_cycle.proofs.CellBits.{has_bit_and}
+use Rattle.mk_cycle.specs.{FinishCycle.is_in_snapshot_of_cycle, ReleasedPages.cells_marked, ReleasedPages.left_marked}
 
 -- what is left of a bit of the snapshot that isn't left unmarked is marked
 marked_rest : (s m : Bool) → (s && not (s && not m)) ≡ (s && m)
@@ -243,9 +220,9 @@ module _ (c : Config) (es : List Event) (h : IsHistory c es) (at : phase_of (lef
           (not (a.freed && is_large (kinds_of c.types a.ty))) a.fresh isnt
 
 -- A pass that made the `release` knows it so.
-module _ (d q : PassState) (t : InTurn d) (u : InTurn q) (at : IsAtPhase d 3) (a : Acts d step.Release q) where
+module _ (d q : PassState) (t : InTurn d) (u : InTurn q) (at : IsAtPhase d 3) (a : Acts d Step.Release q) where
   there : IsHistory d.table.config (d.seen ++ a.makes.others)
-  there = (made d step.Release q a.makes).history
+  there = (made d Step.Release q a.makes).history
 
   pub phase_there : phase_of (world_at a.makes).now.words ≡ 3
   phase_there = ap (λ (s : Steady). s.phase) a.turn.steady ∙ at

@@ -1,11 +1,7 @@
 -- The bits that are left of a word after its lowest is taken away.
-use Rattle.std.proofs.Common.{◌≡◌, ℕ, ◌^◌, ◌<◌, Bool, true, false, refl, sym, ap, ◌∙◌, subst, arith}
-use Rattle.std.proofs.Common.{bit_and}
-use Rattle.std.specs.Prelude.{◌&&◌, not}
-use Rattle.std.proofs.lemmas.Bool.{true≢false}
-use Rattle.std.proofs.lemmas.Nat.{and_le_l}
-use Rattle.mk_core.specs.Bits.{has_bit, without}
-use Rattle.mk_core.proofs.BitsWithout.{has_bit_without}
+use Rattle.mk_laws.proofs.Vocabulary.{Bool, ℕ, ap, arith, false, has_bit, has_bit_without, not, refl, subst, sym, true}
+use Rattle.mk_laws.proofs.Vocabulary.{true≢false, without, ◌&&◌, ◌<◌, ◌^◌, ◌∙◌, ◌≡◌}
+use Rattle.mk_cycle.proofs.Vocabulary.{and_le_l, bit_and}
 use Rattle.mk_core.proofs.WordBits.{bit_for_has, bit_for_small, bit_of_power}
 
 both_left : (x y : Bool) → (x && not y) ≡ true → x ≡ true

@@ -1,36 +1,20 @@
 -- Pages are settled one after the other.
-use Rattle.std.proofs.Common.{◌≡◌, ◌≢◌, ◌⊎◌, ℕ, ◌+◌, ◌-◌, ◌*◌, ◌/◌, ◌^◌, ◌<◌, ◌≤◌, Bool, true, false, List, refl}
-use Rattle.std.proofs.Common.{sym, ap, subst, ◌∙◌, arith, inl, inr}
-use Rattle.std.specs.Prelude.{slice_index, ◌==◌, ◌&&◌, ◌||◌, not, Option, Some}
-use Rattle.std.proofs.lemmas.Bool.{cases_eq, eq-eqb, eqb-true, ne_eqb, and_from, and_parts, true≢false}
-use Rattle.std.proofs.lemmas.Bool.{eqb-false, false_from_ne_true, not-true, or_cases}
-use Rattle.mk_geom.specs.declared.headers.Header.{Header}
-use Rattle.mk_geom.specs.declared.headers.Header.TheVariants as header
-use Rattle.mk_geom.specs.declared.addresses.Cell.{Cell}
-use Rattle.mk_geom.specs.Addresses.{head_page_under}
-use Rattle.mk_geom.specs.Headers.{header_of}
-use Rattle.mk_core.specs.Bits.{has_bit, without}
-use Rattle.mk_core.specs.Cells.{head_page, header_in, is_unmapped_header, is_used, left_unmarked}
-use Rattle.mk_core.specs.Cells.{words_under}
-use Rattle.mk_core.specs.Moments.{is_phase}
-use Rattle.mk_core.specs.TurnConditions.{empties}
-use Rattle.mk_core.specs.Words.{Words, header_at, used_at, quarantine_word}
-use Rattle.mk_core.proofs.BitsWithout.{has_bit_without}
-use Rattle.mk_core.proofs.WordBits.{no_bit, zero_from_bits}
-use Rattle.mk_laws.specs.Quarantine.{IsFreedCell}
-use Rattle.mk_laws.specs.LayoutScene.{is_released_in, run_count}
+use Rattle.mk_laws.proofs.Vocabulary.{Bool, Cell, Header, IsFreedCell, List, Option, Some, Words, ℕ, and_from}
+use Rattle.mk_laws.proofs.Vocabulary.{and_parts, ap, arith, cases_eq, empties, eq-eqb, eqb-false, eqb-true, false}
+use Rattle.mk_laws.proofs.Vocabulary.{false_from_ne_true, has_bit, has_bit_without, head_page, head_page_under}
+use Rattle.mk_laws.proofs.Vocabulary.{header_at, header_in, header_of, inl, inr, is_phase, is_released_in}
+use Rattle.mk_laws.proofs.Vocabulary.{is_unmapped_header, ne_eqb, no_bit, not, not-true, or_cases, quarantine_word}
+use Rattle.mk_laws.proofs.Vocabulary.{refl, run_count, slice_index, subst, sym, true, true≢false, used_at, without}
+use Rattle.mk_laws.proofs.Vocabulary.{words_under, ◌&&◌, ◌*◌, ◌+◌, ◌-◌, ◌/◌, ◌<◌, ◌==◌, ◌^◌, ◌||◌, ◌∙◌, ◌≡◌, ◌≢◌, ◌≤◌}
+use Rattle.mk_laws.proofs.Vocabulary.{◌⊎◌}
+use Rattle.mk_cycle.proofs.Vocabulary.{Frees, FreesPage, GivesNothingBack, HasFreeCells, InTurn, IsAtPhase, IsOccupied}
+use Rattle.mk_cycle.proofs.Vocabulary.{IsSettledPage, IsUnmappedWord, IsZero, PageState, PassState, SamePage}
+use Rattle.mk_cycle.proofs.Vocabulary.{allocations_stand, left_unmarked, now_of, page_state, stands, world_of}
+use Rattle.mk_core.{proofs.WordBits.zero_from_bits, specs.Cells.is_used}
 use Rattle.mk_laws.proofs.FreePages.{free_pages_have_nothing}
-use Rattle.mk_laws.proofs.InvariantTheorems.{allocations_stand}
-use Rattle.mk_laws.proofs.LastEvents.{stands}
-use Rattle.mk_words.specs.States.{PassState, world_of, now_of}
-use Rattle.mk_cycle.specs.EngineLaw.{IsAtPhase}
-use Rattle.mk_cycle.specs.Freeing.{Frees, GivesNothingBack, FreesPage, GivesBack, HasFreeCells, IsOccupied}
-use Rattle.mk_cycle.specs.Freeing.{IsSettledPage, IsUnmappedWord, IsZero, PageState, SamePage, is_occupied_page}
-use Rattle.mk_cycle.specs.Freeing.{page_state}
-use Rattle.mk_cycle.specs.TurnKeeps.{InTurn}
-use Rattle.mk_cycle.proofs.CleaningSteps.{halves}
-use Rattle.mk_cycle.proofs.GivingSteps.{still_unmapped_word}
 use Rattle.mk_cycle.proofs.PageSteps.{page_at_once, page_then, same_header, same_left, same_used}
+use Rattle.mk_cycle.proofs.{CleaningSteps.halves, GivingSteps.still_unmapped_word}
+use Rattle.mk_cycle.specs.Freeing.{GivesBack, is_occupied_page}
 
 pub free_cells_stay : (p q : PassState) (page : ℕ) → Frees p q → SamePage p q page → HasFreeCells p page
     → HasFreeCells q page
@@ -139,7 +123,7 @@ settled_left p page h = eqb-true _ 0 (and_parts (left_unmarked (now_of p).words 
 
 -- The head of a page's run isn't after it.
 pub head_before : (x : Option Header) (page : ℕ) → head_page_under x page ≤ page
-head_before (Some (header.Later distance mapped)) page = omega arith
+head_before (Some (Header.Later distance mapped)) page = omega arith
 head_before _ page = omega arith
 
 pub head_near : (w : Words) (page : ℕ) → head_page w page ≤ page
@@ -177,7 +161,7 @@ head_elsewhere q t n r after past occupied = by (header_in (now_of q).words r) r
     ]
 
     by : (x : Option Header) → header_in w r ≡ x → head_page_under x r ≢ n
-    by (Some (header.Later distance mapped)) is there =
+    by (Some (Header.Later distance mapped)) is there =
         let head = (stands q.table.config q.seen t.history).all.order.laid.scene.later r distance mapped is in
         let n_is : r - distance ≡ n = there in
         elim head.1 [
@@ -188,7 +172,7 @@ head_elsewhere q t n r after past occupied = by (header_in (now_of q).words r) r
           | inr gone ↦
               let none = bare (subst (λ (m : ℕ). header_at w m ≡ 0) n_is gone.1)
               (ap (λ (y : Option Header). head_page_under y r) is ∙ there) in
-              let free : header_of 0 ≡ Some (header.Later distance mapped) = sym (ap header_of none) ∙ is in
+              let free : header_of 0 ≡ Some (Header.Later distance mapped) = sym (ap header_of none) ∙ is in
               cc
         ]
     by _ is there = absurd (omega (arith, after, there))

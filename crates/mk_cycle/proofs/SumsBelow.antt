@@ -1,9 +1,8 @@
 -- Counts that are counted in parts: the elements of a list by a key, and the bits of a word one by one.
-use Rattle.std.proofs.Common.{◌≡◌, ℕ, zero, suc, ◌+◌, ◌<◌, ◌≤◌, Bool, true, false, cond, ◌*◌, ◌&&◌, ◌==◌, List, [], ◌∷◌}
-use Rattle.std.proofs.Common.{length, get_or, sum_by, count_by, refl, sym, ◌∙◌, ap, inl, inr, arith}
-use Rattle.std.proofs.lemmas.Bool.{cases_eq, eq-eqb, ne_eqb, true≢false}
-use Rattle.std.proofs.lemmas.List.Sums.{sum_by-cons}
-use Rattle.mk_cycle.specs.ReleasedPages.{sum_below}
+use Rattle.mk_laws.proofs.Vocabulary.{Bool, List, ℕ, ap, arith, cases_eq, cond, eq-eqb, false, get_or, inl, inr, length}
+use Rattle.mk_laws.proofs.Vocabulary.{ne_eqb, refl, suc, sym, true, true≢false, zero, [], ◌&&◌, ◌*◌, ◌+◌, ◌<◌, ◌==◌}
+use Rattle.mk_laws.proofs.Vocabulary.{◌∙◌, ◌∷◌, ◌≡◌, ◌≤◌}
+use Rattle.mk_cycle.proofs.Vocabulary.{count_by, sum_below, sum_by, sum_by-cons}
 
 pub sum_same : (n : ℕ) (f g : ℕ → ℕ) → ((i : ℕ) → i < n → f i ≡ g i) → sum_below n f ≡ sum_below n g
 sum_same zero f g same = refl

@@ -1,24 +1,12 @@
 -- Looks and tallies after an `end`.
-use Rattle.std.proofs.Common.{◌≡◌, ℕ, ◌+◌, ◌-◌, refl, sym, ap, subst, ◌∙◌}
-use Rattle.mk_core.specs.declared.config.Config.{Config}
-use Rattle.mk_core.specs.declared.events.Tally.{Tally}
-use Rattle.mk_core.specs.declared.events.Tally.TheVariants as tally
-use Rattle.mk_core.specs.declared.events.Word.{Word}
-use Rattle.mk_core.specs.declared.events.Step.TheVariants as step
-use Rattle.mk_core.specs.Counts.{in_a_word}
-use Rattle.mk_core.specs.Accesses.{tally_word}
-use Rattle.mk_core.specs.Frames.{Steady, steady_of}
-use Rattle.mk_core.specs.History.{World, world_behind}
-use Rattle.mk_core.specs.Words.{Words, named_word}
-use Rattle.mk_words.specs.States.{PassState, world_of, now_of, event_of}
-use Rattle.mk_words.specs.TurnSteps.{world_at, Acts}
-use Rattle.mk_turns.proofs.Doing.{does_then, does_step}
-use Rattle.mk_cycle.specs.EngineLaw.{IsFreeForCycle}
-use Rattle.mk_cycle.specs.Kinds.{sets_tallies}
-use Rattle.mk_cycle.specs.Tallying.{Sets, with_cycle_counted, with_tally}
-use Rattle.mk_cycle.specs.TurnKeeps.{InTurn, unchanged}
-use Rattle.mk_cycle.proofs.CleaningSteps.{calm_keeps}
+use Rattle.mk_laws.proofs.Vocabulary.{Config, Steady, Step, Tally, Word, Words, World, ℕ, ap, in_a_word, refl, subst}
+use Rattle.mk_laws.proofs.Vocabulary.{sym, tally_word, world_behind, ◌+◌, ◌-◌, ◌∙◌, ◌≡◌}
+use Rattle.mk_cycle.proofs.Vocabulary.{Acts, InTurn, IsFreeForCycle, PassState, does_step, does_then, event_of, now_of}
+use Rattle.mk_cycle.proofs.Vocabulary.{sets_tallies, steady_of, world_at, world_of}
+use Rattle.mk_core.specs.Words.{named_word}
 use Rattle.mk_cycle.proofs.KeptInParts.{gates_behind, gates_then, keeps_then}
+use Rattle.mk_cycle.proofs.CleaningSteps.{calm_keeps}
+use Rattle.mk_cycle.specs.{Tallying.Sets, Tallying.with_cycle_counted, Tallying.with_tally, TurnKeeps.unchanged}
 
 pub sets_then : (f g : Steady → Steady) (p q r : PassState) → Sets f p q → Sets g q r → Sets (λ s. g (f s)) p r
 sets_then f g p q r a b =
@@ -34,58 +22,58 @@ sets_then f g p q r a b =
     }
 
 tally_behind : (c : Config) (w : World) (p : PassState) (n : Tally) (v : ℕ)
-    → steady_of (world_behind c w (event_of p (step.Tally n v))) ≡ with_tally n v (steady_of w)
-tally_behind c w p tally.Held v = refl
-tally_behind c w p tally.Fresh v = refl
-tally_behind c w p tally.Cycles v = refl
-tally_behind c w p tally.Released v = refl
-tally_behind c w p tally.Full v = refl
+    → steady_of (world_behind c w (event_of p (Step.Tally n v))) ≡ with_tally n v (steady_of w)
+tally_behind c w p Tally.Held v = refl
+tally_behind c w p Tally.Fresh v = refl
+tally_behind c w p Tally.Cycles v = refl
+tally_behind c w p Tally.Released v = refl
+tally_behind c w p Tally.Full v = refl
 
 tally_gates : (c : Config) (w : World) (p : PassState) (n : Tally) (v : ℕ)
-    → (world_behind c w (event_of p (step.Tally n v))).now.words.gates ≡ w.now.words.gates
-tally_gates c w p tally.Held v = refl
-tally_gates c w p tally.Fresh v = refl
-tally_gates c w p tally.Cycles v = refl
-tally_gates c w p tally.Released v = refl
-tally_gates c w p tally.Full v = refl
+    → (world_behind c w (event_of p (Step.Tally n v))).now.words.gates ≡ w.now.words.gates
+tally_gates c w p Tally.Held v = refl
+tally_gates c w p Tally.Fresh v = refl
+tally_gates c w p Tally.Cycles v = refl
+tally_gates c w p Tally.Released v = refl
+tally_gates c w p Tally.Full v = refl
 
 nothing_seen : Steady → Steady → Steady
 nothing_seen t s = t
 
 module _ (p q : PassState) (t : InTurn p) (free : IsFreeForCycle p) (u : InTurn q) where
-  pub look_sets : (x : Word) → Acts p (step.Look x) q → Sets unchanged p q
+  pub look_sets : (x : Word) → Acts p (Step.Look x) q → Sets unchanged p q
   look_sets x a =
-      let k = calm_keeps p (step.Look x) q a t u.history refl free unchanged refl in
+      let k = calm_keeps p (Step.Look x) q a t u.history refl free unchanged refl in
       record {
-        does = does_step sets_tallies p q (step.Look x) a.makes refl;
+        does = does_step sets_tallies p q (Step.Look x) a.makes refl;
         call = k.call;
         steady = k.steady;
         counts = k.counts;
-        gates = gates_behind p (step.Look x) q a refl;
+        gates = gates_behind p (Step.Look x) q a refl;
       }
 
-  pub tally_sets : (n : Tally) (v : ℕ) → Acts p (step.Tally n v) q → Sets (with_tally n v) p q
+  pub tally_sets : (n : Tally) (v : ℕ) → Acts p (Step.Tally n v) q → Sets (with_tally n v) p q
   unfolding nothing_seen
   tally_sets n v a =
-      let k = calm_keeps p (step.Tally n v) q a t u.history refl free (nothing_seen (steady_of (world_of p))) refl in
+      let k = calm_keeps p (Step.Tally n v) q a t u.history refl free (nothing_seen (steady_of (world_of p))) refl in
       record {
-        does = does_step sets_tallies p q (step.Tally n v) a.makes refl;
+        does = does_step sets_tallies p q (Step.Tally n v) a.makes refl;
         call = k.call;
         steady = ap (λ (x : World). steady_of x) a.world
             ∙ tally_behind p.table.config (world_at a.makes) p n v
             ∙ ap (λ (s : Steady). with_tally n v s) a.turn.steady;
         counts = k.counts;
-        gates = gates_behind p (step.Tally n v) q a (tally_gates p.table.config (world_at a.makes) p n v);
+        gates = gates_behind p (Step.Tally n v) q a (tally_gates p.table.config (world_at a.makes) p n v);
       }
 
 -- What a tally's word is goes by what only the holder changes.
 pub same_tally : (p q : PassState) (n : Tally) → steady_of (world_of q) ≡ steady_of (world_of p)
     → named_word (now_of q).words (tally_word n) ≡ named_word (now_of p).words (tally_word n)
-same_tally p q tally.Held same = ap (λ (s : Steady). s.held) same
-same_tally p q tally.Fresh same = ap (λ (s : Steady). s.fresh) same
-same_tally p q tally.Cycles same = ap (λ (s : Steady). s.cycles) same
-same_tally p q tally.Released same = ap (λ (s : Steady). s.released) same
-same_tally p q tally.Full same = ap (λ (s : Steady). s.full) same
+same_tally p q Tally.Held same = ap (λ (s : Steady). s.held) same
+same_tally p q Tally.Fresh same = ap (λ (s : Steady). s.fresh) same
+same_tally p q Tally.Cycles same = ap (λ (s : Steady). s.cycles) same
+same_tally p q Tally.Released same = ap (λ (s : Steady). s.released) same
+same_tally p q Tally.Full same = ap (λ (s : Steady). s.full) same
 
 -- a tally that is set by what it is found to be
 pub set_by : (p a q : PassState) (n : Tally) (x : Word) (becomes : ℕ → ℕ) (found to : ℕ) → x ≡ tally_word n
@@ -104,9 +92,9 @@ with_three : ℕ → ℕ → ℕ → Steady → Steady
 with_three held cycles released s = record s { held = held; cycles = cycles; released = released }
 
 pub cycle_counted : (p a b q : PassState) (fewer released : ℕ)
-    → Sets (with_tally tally.Held ((now_of p).words.held - fewer)) p a
-    → Sets (with_tally tally.Cycles (in_a_word ((now_of a).words.cycles + 1))) a b
-    → Sets (with_tally tally.Released (in_a_word ((now_of b).words.released + released))) b q
+    → Sets (with_tally Tally.Held ((now_of p).words.held - fewer)) p a
+    → Sets (with_tally Tally.Cycles (in_a_word ((now_of a).words.cycles + 1))) a b
+    → Sets (with_tally Tally.Released (in_a_word ((now_of b).words.released + released))) b q
     → Sets (with_cycle_counted (now_of p).words fewer released) p q
 unfolding with_three
 cycle_counted p a b q fewer released held cycles more =
@@ -114,9 +102,9 @@ cycle_counted p a b q fewer released held cycles more =
     let h : ℕ = v.held - fewer in
     let c : ℕ = in_a_word ((now_of a).words.cycles + 1) in
     let r : ℕ = in_a_word ((now_of b).words.released + released) in
-    let both = sets_then (with_tally tally.Held h) (with_tally tally.Cycles c) p a b held cycles in
+    let both = sets_then (with_tally Tally.Held h) (with_tally Tally.Cycles c) p a b held cycles in
     let all : Sets (with_three h c r) p q =
-    sets_then (λ s. record s { held = h; cycles = c }) (with_tally tally.Released r) p b q both more in
+    sets_then (λ s. record s { held = h; cycles = c }) (with_tally Tally.Released r) p b q both more in
     subst (λ (n : ℕ). Sets (with_three h (in_a_word (n + 1)) (in_a_word (v.released + released))) p q)
     (ap (λ (s : Steady). s.cycles) held.steady)
     (subst (λ (n : ℕ). Sets (with_three h c (in_a_word (n + released))) p q)

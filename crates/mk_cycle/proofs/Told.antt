@@ -1,24 +1,18 @@
 -- What is said of the world in which marks are closed, from wider parts of a turn.
-use Rattle.std.proofs.Common.{◌≡◌, List, [], ◌∷◌, ◌++◌, ap, subst, ◌∙◌, append_assoc}
-use Rattle.mk_core.specs.declared.config.Config.{Config}
-use Rattle.mk_core.specs.declared.events.Event.{Event}
-use Rattle.mk_core.specs.declared.events.Step.TheVariants as step
-use Rattle.mk_core.specs.History.{IsHistory, World, left}
-use Rattle.mk_words.specs.Seats.{Has}
-use Rattle.mk_words.specs.States.{PassState, event_of}
-use Rattle.mk_words.specs.Steps.{Makes}
-use Rattle.mk_words.proofs.Made.{made}
+use Rattle.mk_laws.proofs.Vocabulary.{Config, Event, IsHistory, List, Step, World, ap, append_assoc, left, subst, []}
+use Rattle.mk_laws.proofs.Vocabulary.{◌++◌, ◌∙◌, ◌∷◌, ◌≡◌}
+use Rattle.mk_cycle.proofs.Vocabulary.{Has, Makes, PassState, event_of, made}
 use Rattle.mk_cycle.specs.Telling.{IsToldAtClose, IsToldOf}
 
 -- at the step that closes them
-pub told_closing : (tells : Config → World → Type 0) (p q : PassState) → Has p.seats p.seat → Makes p step.Close q
+pub told_closing : (tells : Config → World → Type 0) (p q : PassState) → Has p.seats p.seat → Makes p Step.Close q
     → IsHistory q.table.config q.seen → IsToldOf tells p → IsToldAtClose tells p q
 told_closing tells p q has makes history told =
     record {
       before = makes.others;
       behind = [];
       is = ap (λ (x : PassState). x.seen) makes.is;
-      told = told makes.others makes.of_others (made p step.Close q makes).history;
+      told = told makes.others makes.of_others (made p Step.Close q makes).history;
     }
 
 -- when more was seen after it
@@ -30,7 +24,7 @@ told_later tells p q r more is t =
       behind = t.behind ++ more;
       is = is
           ∙ ap (λ (es : List Event). es ++ more) t.is
-          ∙ append_assoc (p.seen ++ t.before) (event_of p step.Close ∷ t.behind) more;
+          ∙ append_assoc (p.seen ++ t.before) (event_of p Step.Close ∷ t.behind) more;
       told = t.told;
     }
 
@@ -42,7 +36,7 @@ told_at tells p more q t =
     record {
       before = more ++ t.before;
       behind = t.behind;
-      is = t.is ∙ ap (λ (es : List Event). es ++ event_of p step.Close ∷ t.behind) same;
+      is = t.is ∙ ap (λ (es : List Event). es ++ event_of p Step.Close ∷ t.behind) same;
       told = subst (λ (es : List Event). tells p.table.config (left p.table.config es)) same t.told;
     }
 

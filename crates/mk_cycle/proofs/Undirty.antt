@@ -1,14 +1,8 @@
 -- A dirty word was 0 at a moment, from wider parts of a turn.
-use Rattle.std.proofs.Common.{◌≡◌, ℕ, List, [], ◌++◌, ◌∙◌, sym, ap, subst, append-nil, append_assoc, inl, inr}
-use Rattle.std.specs.Prelude.{length, slice_index, slice_set}
-use Rattle.std.proofs.lemmas.Bool.{cases_lt}
-use Rattle.std.proofs.lemmas.List.{get_or-set_same, get_or_past, set_past}
-use Rattle.mk_core.specs.declared.events.Event.{Event}
-use Rattle.mk_core.specs.declared.events.Step.TheVariants as step
-use Rattle.mk_core.specs.History.{World, left}
-use Rattle.mk_words.specs.States.{PassState, now_of}
-use Rattle.mk_words.specs.TurnSteps.{Acts, world_at}
-use Rattle.mk_cycle.specs.Cleaning.{Cleans, WasUndirty}
+use Rattle.mk_laws.proofs.Vocabulary.{Event, List, Step, World, ℕ, ap, append-nil, append_assoc, cases_lt}
+use Rattle.mk_laws.proofs.Vocabulary.{get_or-set_same, get_or_past, inl, inr, left, length, set_past, slice_index}
+use Rattle.mk_laws.proofs.Vocabulary.{slice_set, subst, sym, [], ◌++◌, ◌∙◌, ◌≡◌}
+use Rattle.mk_cycle.proofs.Vocabulary.{Acts, Cleans, PassState, WasUndirty, now_of, world_at}
 
 -- where it is 0 now
 pub undirty_now : (p q : PassState) (page : ℕ) → Cleans p q → slice_index (now_of q).words.dirty page ≡ 0
@@ -61,7 +55,7 @@ zero_there xs i = elim (cases_lt i (length xs)) [
   | inr past ↦ ap (λ (ys : List ℕ). slice_index ys i) (set_past xs i 0 past) ∙ get_or_past xs i 0 past
 ]
 
-pub undirty_behind : (p q : PassState) (page : ℕ) → Acts p (step.Undirty page) q
+pub undirty_behind : (p q : PassState) (page : ℕ) → Acts p (Step.Undirty page) q
     → slice_index (now_of q).words.dirty page ≡ 0
 undirty_behind p q page a =
     ap (λ (w : World). slice_index w.now.words.dirty page) a.world

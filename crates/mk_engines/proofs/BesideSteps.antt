@@ -1,109 +1,77 @@
 -- Each step of the turn's holder while a cycle marks beside others.
-use Rattle.std.proofs.Common.{◌≡◌, ◌≢◌, ◌∙◌, ℕ, ◌^◌, ◌<◌, Bool, true, false, List, [], ◌∷◌, ◌++◌, length, refl, sym, ap}
-use Rattle.std.proofs.Common.{subst, inl, inr, arith}
-use Rattle.std.specs.Prelude.{◌||◌, ◌&&◌, ◌==◌, not, nat_lt, if◌then◌else◌, Option, Some, None, slice_index, slice_set}
 use Rattle.std.specs.List.{list_all}
-use Rattle.std.proofs.lemmas.Bool.{and_from, and_parts, cases_lt, eqb-true, false_from_ne_true, lt-ltb}
-use Rattle.std.proofs.lemmas.List.{get_or-set_same, get_or-set_other, get_or_past, set_past}
-use Rattle.mk_geom.specs.declared.addresses.Cell.{Cell}
-use Rattle.mk_geom.specs.declared.pages.Place.{Place}
-use Rattle.mk_geom.specs.Addresses.{page_at_address}
-use Rattle.mk_geom.specs.PageUses.{or_else}
-use Rattle.mk_geom.specs.Headers.{header_of}
-use Rattle.mk_core.specs.declared.config.Config.{Config}
-use Rattle.mk_core.specs.declared.events.Step.{Step}
-use Rattle.mk_core.specs.declared.events.Step.TheVariants as step
-use Rattle.mk_core.specs.declared.events.Word.{Word}
-use Rattle.mk_core.specs.declared.events.Word.TheVariants as word
-use Rattle.mk_core.specs.declared.seats.Flight.{Flight}
-use Rattle.mk_core.specs.declared.seats.Hand.{Hand}
-use Rattle.mk_core.specs.declared.seats.Holding.{Holding}
-use Rattle.mk_core.specs.declared.seats.Object.{Object}
-use Rattle.mk_core.specs.declared.seats.Placing.{Placing}
-use Rattle.mk_core.specs.declared.seats.Source.TheVariants.{Root}
-use Rattle.mk_core.specs.Accesses.{found}
-use Rattle.mk_core.specs.Bounded.{is_some_and}
-use Rattle.mk_core.specs.Cells.{cells_under, is_marked, pointed_cell, points_well}
-use Rattle.mk_core.specs.Cycles.{is_unmarked}
-use Rattle.mk_core.specs.Effects.{chosen, hand_given}
-use Rattle.mk_core.specs.Frames.{Steady, steady_of}
-use Rattle.mk_core.specs.Growing.{Finding}
-use Rattle.mk_core.specs.History.{World, world_behind}
-use Rattle.mk_core.specs.Moments.{Moment, flight_of, is_held, is_number_of, is_phase}
-use Rattle.mk_core.specs.NewPlaces.{object_made, bits_made}
-use Rattle.mk_core.specs.Ranges.{has_gates, is_word}
-use Rattle.mk_core.specs.StopConditions.{marks_by_hand, marks_place}
-use Rattle.mk_core.specs.TurnConditions.{place_now}
-use Rattle.mk_core.specs.Words.{Words, header_at, named_word, phase_of}
-use Rattle.mk_core.proofs.Lengths.{histories_keep_lengths}
+use Rattle.mk_laws.proofs.Vocabulary.{Bool, Cell, Config, Flight, Hand, Holding, IsMarking, List, Moment, None, Object}
+use Rattle.mk_laws.proofs.Vocabulary.{Option, Place, Placing, Some, Steady, Step, Word, Words, World, ℕ, and_from}
+use Rattle.mk_laws.proofs.Vocabulary.{and_parts, ap, arith, cases_lt, cells_under, chosen, eqb-true, false}
+use Rattle.mk_laws.proofs.Vocabulary.{false_from_ne_true, flight_of, found, get_or-set_other, get_or-set_same}
+use Rattle.mk_laws.proofs.Vocabulary.{get_or_past, has_gates, header_at, header_of, histories_keep_lengths}
+use Rattle.mk_laws.proofs.Vocabulary.{if◌then◌else◌, inl, inr, is_held, is_marked, is_number_of, is_phase, is_some_and}
+use Rattle.mk_laws.proofs.Vocabulary.{is_unmarked, length, lt-ltb, marks_place, nat_lt, not, object_made, or_else}
+use Rattle.mk_laws.proofs.Vocabulary.{page_at_address, phase_of, place_now, pointed_cell, points_well, refl, set_past}
+use Rattle.mk_laws.proofs.Vocabulary.{slice_index, slice_set, subst, sym, true, world_behind, [], ◌&&◌, ◌++◌, ◌<◌, ◌==◌}
+use Rattle.mk_laws.proofs.Vocabulary.{◌^◌, ◌||◌, ◌∙◌, ◌∷◌, ◌≡◌, ◌≢◌}
 use Rattle.mk_core.proofs.PointedPages.{pointed_within}
+use Rattle.mk_core.specs.{Effects.hand_given, Frames.steady_of, Growing.Finding, NewPlaces.bits_made, Ranges.is_word}
+use Rattle.mk_core.specs.{StopConditions.marks_by_hand, Words.named_word, declared.seats.Source.TheVariants.Root}
 use Rattle.mk_laws.proofs.Changes.{headers_kind, is_head, marks_kind}
-use Rattle.mk_laws.proofs.Wells.{is_well, well_is, wells_from}
-use Rattle.mk_laws.specs.Guard.{IsMarking}
-use Rattle.mk_laws.proofs.LastEvents.{stands}
-use Rattle.mk_marker.proofs.PointedCells.{pointed_is_cell}
-use Rattle.mk_words.specs.States.{PassState, TurnState, now_of, call_of, event_of}
-use Rattle.mk_words.specs.Steps.{Finds, IsEnabledTo, found_by}
-use Rattle.mk_words.specs.TurnSteps.{Acts, world_at}
-use Rattle.mk_words.proofs.Made.{own_before, stands_behind_others}
-use Rattle.mk_turns.specs.Pointing.{LooksForCell, MayLookAtHeaders}
-use Rattle.mk_turns.proofs.Doing.{does_step}
-use Rattle.mk_turns.proofs.PointedCells.{found_there, looked_for}
-use Rattle.mk_tracing.specs.Grays.{IsInHand, HandPointsInto, MarksReached, TracesReached}
-use Rattle.mk_tracing.specs.Stops.{hand_of, is_root}
-use Rattle.mk_tracing.proofs.MaySteps.{marks_by}
-use Rattle.mk_tracing.proofs.MoreMarks.{marked_now}
-use Rattle.mk_cycle.specs.EngineLaw.{is_register}
-use Rattle.mk_cycle.specs.Kinds.{begins_marking}
-use Rattle.mk_cycle.specs.TurnKeeps.{InTurn, KeepsGates, LeavesTurn, unchanged}
+use Rattle.mk_laws.proofs.{LastEvents.stands, Wells.is_well, Wells.well_is, Wells.wells_from}
 use Rattle.mk_cycle.proofs.Allowed.{in_turn_before, look_allowed, protocol}
-use Rattle.mk_cycle.proofs.CleaningSteps.{calm_keeps}
-use Rattle.mk_cycle.proofs.KeptInParts.{gates_behind, held_so}
-use Rattle.mk_cycle.proofs.MayAct.{may_act}
 use Rattle.mk_cycle.proofs.OwnSteps.{done_in, keeps_call, keeps_counts}
-use Rattle.mk_engines.specs.Beside.{FindsInRoot, GoesBeside, IsBeside, IsOpenToLook, KeepsOtherGates, StaysWell}
-use Rattle.mk_engines.specs.Beside.{found_well, gives_no_hand, looks_at_root}
+use Rattle.mk_cycle.proofs.{CleaningSteps.calm_keeps, KeptInParts.gates_behind, KeptInParts.held_so, MayAct.may_act}
+use Rattle.mk_cycle.specs.TurnKeeps.{InTurn, KeepsGates, LeavesTurn, unchanged}
+use Rattle.mk_cycle.specs.{EngineLaw.is_register, Kinds.begins_marking}
 use Rattle.mk_engines.proofs.MarksBeside.{gates_at_once, goes_nowhere, still_beside}
 use Rattle.mk_engines.proofs.Since.{done_step, keeps_step}
+use Rattle.mk_engines.specs.Beside.{FindsInRoot, GoesBeside, IsBeside, IsOpenToLook, KeepsOtherGates, StaysWell}
+use Rattle.mk_engines.specs.Beside.{found_well, gives_no_hand, looks_at_root}
+use Rattle.mk_marker.proofs.PointedCells.{pointed_is_cell}
+use Rattle.mk_tracing.proofs.{MaySteps.marks_by, MoreMarks.marked_now}
+use Rattle.mk_tracing.specs.Grays.{HandPointsInto, IsInHand, MarksReached, TracesReached}
+use Rattle.mk_tracing.specs.Stops.{hand_of, is_root}
+use Rattle.mk_turns.proofs.{Doing.does_step, PointedCells.found_there, PointedCells.looked_for}
+use Rattle.mk_turns.specs.Pointing.{LooksForCell, MayLookAtHeaders}
+use Rattle.mk_words.proofs.Made.{own_before, stands_behind_others}
+use Rattle.mk_words.specs.States.{PassState, TurnState, call_of, event_of, now_of}
+use Rattle.mk_words.specs.{Steps.Finds, Steps.IsEnabledTo, Steps.found_by, TurnSteps.Acts, TurnSteps.world_at}
 
 -- words that give no hand
 
 pub no_register : (x : Word) → gives_no_hand x ≡ true → is_register x ≡ false
-no_register (word.Reg j r) h = cc
+no_register (Word.Reg j r) h = cc
 no_register _ h = refl
 
 no_root : (x : Word) → gives_no_hand x ≡ true → is_root x ≡ false
-no_root (word.Reg j r) h = cc
-no_root (word.Global g) h = cc
+no_root (Word.Reg j r) h = cc
+no_root (Word.Global g) h = cc
 no_root _ h = refl
 
-no_heap_word : (c : Config) (m : Moment) (x : Word) → gives_no_hand x ≡ true → TracesReached c m (step.Look x)
-no_heap_word c m (word.Heap n) h = cc
+no_heap_word : (c : Config) (m : Moment) (x : Word) → gives_no_hand x ≡ true → TracesReached c m (Step.Look x)
+no_heap_word c m (Word.Heap n) h = cc
 no_heap_word c m _ h = tt
 
-root_is_no_heap_word : (c : Config) (m : Moment) (x : Word) → is_root x ≡ true → TracesReached c m (step.Look x)
-root_is_no_heap_word c m (word.Heap n) h = cc
+root_is_no_heap_word : (c : Config) (m : Moment) (x : Word) → is_root x ≡ true → TracesReached c m (Step.Look x)
+root_is_no_heap_word c m (Word.Heap n) h = cc
 root_is_no_heap_word c m _ h = tt
 
 -- Which steps may come.
 
 module _ (p : PassState) (t : InTurn p) (b : IsBeside p) where
   pub may_look_at_root : (x : Word) → is_word p.table.config x ≡ true → is_root x ≡ true → IsOpenToLook p x
-      → IsEnabledTo p (step.Look x)
+      → IsEnabledTo p (Step.Look x)
   may_look_at_root x range root seen =
-      may_act p (step.Look x) (protocol p t b.free) t.holds b.free.decided refl range (gates x root seen) refl refl
+      may_act p (Step.Look x) (protocol p t b.free) t.holds b.free.decided refl range (gates x root seen) refl refl
     where
       gates : (y : Word) → is_root y ≡ true → IsOpenToLook p y
-          → has_gates p.table.config (now_of p).words p.seat (call_of p) (step.Look y) ≡ true
-      gates (word.Reg j r) h o = o j r refl
-      gates (word.Global g) h o = refl
+          → has_gates p.table.config (now_of p).words p.seat (call_of p) (Step.Look y) ≡ true
+      gates (Word.Reg j r) h o = o j r refl
+      gates (Word.Global g) h o = refl
       gates _ h o = cc
 
   pub may_open : (j : ℕ) → j < p.table.config.callers → is_number_of p.seat j ≡ false
       → is_held (now_of p).words j ≡ true
-      → IsEnabledTo p (step.Open j)
+      → IsEnabledTo p (Step.Open j)
   may_open j lt other held =
-      may_act p (step.Open j) (protocol p t b.free) t.holds b.free.decided refl
+      may_act p (Step.Open j) (protocol p t b.free) t.holds b.free.decided refl
       (and_from (nat_lt j p.table.config.callers) (not (is_number_of p.seat j))
       (lt-ltb j p.table.config.callers lt) (ap not other))
       held (ap (λ (n : ℕ). not (n == 3)) b.marking) b.free.gone
@@ -114,10 +82,10 @@ module _ (p : PassState) (t : InTurn p) (b : IsBeside p) where
       marks_by p.table.config.pages (now_of p).words
       (hand_of p) r.value cell r.in_hand.hand r.in_hand.is r.in_hand.value r.points
 
-  pub may_mark_beside : (cell : Cell) → HandPointsInto p cell → IsEnabledTo p (step.Mark cell.page (2 ^ cell.index))
+  pub may_mark_beside : (cell : Cell) → HandPointsInto p cell → IsEnabledTo p (Step.Mark cell.page (2 ^ cell.index))
   may_mark_beside cell r =
       let within = pointed_within p.table.config.pages (now_of p).words r.value cell r.points in
-      may_act p (step.Mark cell.page (2 ^ cell.index)) (protocol p t b.free) t.holds b.free.decided refl
+      may_act p (Step.Mark cell.page (2 ^ cell.index)) (protocol p t b.free) t.holds b.free.decided refl
       (lt-ltb cell.page p.table.config.pages within.0) refl
       (ap (λ (n : ℕ). (n == 1) || (n == 2)) b.marking)
       (ap (λ (x : Bool). x || marks_place (now_of p).words (object_made p.table.config (call_of p).op)
@@ -166,56 +134,56 @@ module _ (t u : TurnState) (s : Step) (a : Acts t.pass s u.pass) (b : IsBeside t
       }
 
 module _ (t u : TurnState) (b : IsBeside t.pass) (same : u.op ≡ t.op) where
-  pub goes_look : (x : Word) → Acts t.pass (step.Look x) u.pass → gives_no_hand x ≡ true → GoesBeside t u
+  pub goes_look : (x : Word) → Acts t.pass (Step.Look x) u.pass → gives_no_hand x ≡ true → GoesBeside t u
   goes_look x a plain =
-      goes_step t u (step.Look x) a b same refl refl (no_root x plain)
-      (calm_keeps t.pass (step.Look x) u.pass a (in_turn_before a) a.makes.pass.history refl b.free unchanged refl)
+      goes_step t u (Step.Look x) a b same refl refl (no_root x plain)
+      (calm_keeps t.pass (Step.Look x) u.pass a (in_turn_before a) a.makes.pass.history refl b.free unchanged refl)
       (no_heap_word t.pass.table.config (world_at a.makes).now x plain)
 
-  pub goes_hold : (j : ℕ) → Acts t.pass (step.Hold j) u.pass → GoesBeside t u
+  pub goes_hold : (j : ℕ) → Acts t.pass (Step.Hold j) u.pass → GoesBeside t u
   goes_hold j a =
-      goes_step t u (step.Hold j) a b same refl refl refl
-      (calm_keeps t.pass (step.Hold j) u.pass a (in_turn_before a) a.makes.pass.history refl b.free unchanged refl) tt
+      goes_step t u (Step.Hold j) a b same refl refl refl
+      (calm_keeps t.pass (Step.Hold j) u.pass a (in_turn_before a) a.makes.pass.history refl b.free unchanged refl) tt
 
-  pub goes_open : (j : ℕ) → Acts t.pass (step.Open j) u.pass → GoesBeside t u
+  pub goes_open : (j : ℕ) → Acts t.pass (Step.Open j) u.pass → GoesBeside t u
   goes_open j a =
-      goes_step t u (step.Open j) a b same refl refl refl
-      (calm_keeps t.pass (step.Open j) u.pass a (in_turn_before a) a.makes.pass.history refl b.free unchanged refl) tt
+      goes_step t u (Step.Open j) a b same refl refl refl
+      (calm_keeps t.pass (Step.Open j) u.pass a (in_turn_before a) a.makes.pass.history refl b.free unchanged refl) tt
 
-  pub finds_in_root : (x : Word) (n : ℕ) → Acts t.pass (step.Look x) u.pass → Finds t.pass (step.Look x) n u.pass
+  pub finds_in_root : (x : Word) (n : ℕ) → Acts t.pass (Step.Look x) u.pass → Finds t.pass (Step.Look x) n u.pass
       → is_root x ≡ true
       → FindsInRoot x n t u
   finds_in_root x n a f root =
-      let keeps = calm_keeps t.pass (step.Look x) u.pass a (in_turn_before a) a.makes.pass.history refl b.free
+      let keeps = calm_keeps t.pass (Step.Look x) u.pass a (in_turn_before a) a.makes.pass.history refl b.free
       unchanged refl in
       record {
         table = ap (λ (y : PassState). y.table) a.makes.is;
         op = same;
         beside = still_beside t.pass u.pass b keeps;
-        does = does_step begins_marking t.pass u.pass (step.Look x) a.makes refl;
+        does = does_step begins_marking t.pass u.pass (Step.Look x) a.makes refl;
         keeps = keeps;
-        reached = keeps_step t.pass (step.Look x) u.pass a.makes TracesReached (own_before a.makes)
+        reached = keeps_step t.pass (Step.Look x) u.pass a.makes TracesReached (own_before a.makes)
             (root_is_no_heap_word t.pass.table.config (world_at a.makes).now x root);
-        done = done_step t.pass (step.Look x) u.pass f.makes (own_before a.makes)
-            ∙ ap (λ (v : ℕ). record { event = event_of t.pass (step.Look x); found = v } ∷ []) (sym f.finds);
-        well = stays_well t u (step.Look x) a b same refl;
+        done = done_step t.pass (Step.Look x) u.pass f.makes (own_before a.makes)
+            ∙ ap (λ (v : ℕ). record { event = event_of t.pass (Step.Look x); found = v } ∷ []) (sym f.finds);
+        well = stays_well t u (Step.Look x) a b same refl;
       }
 
 -- the hand after a look
 
-module _ (p q : PassState) (x : Word) (a : Acts p (step.Look x) q) where
+module _ (p q : PassState) (x : Word) (a : Acts p (Step.Look x) q) where
   hand_now : hand_of q ≡ or_else (hand_given p.table.config (world_at a.makes).now p.seat x
-      (found p.table.config (world_at a.makes).now (event_of p (step.Look x)))) (hand_of p)
+      (found p.table.config (world_at a.makes).now (event_of p (Step.Look x)))) (hand_of p)
   hand_now =
       ap (λ (w : World). w.now.seats.holding.hand) a.world
       ∙ ap (λ (h : Holding). or_else (hand_given p.table.config (world_at a.makes).now p.seat x
-      (found p.table.config (world_at a.makes).now (event_of p (step.Look x)))) h.hand) a.holding
+      (found p.table.config (world_at a.makes).now (event_of p (Step.Look x)))) h.hand) a.holding
 
-  pub root_hand : (n : ℕ) → Finds p (step.Look x) n q → is_root x ≡ true → IsInHand q n
+  pub root_hand : (n : ℕ) → Finds p (Step.Look x) n q → is_root x ≡ true → IsInHand q n
   root_hand n f root =
       record {
-        hand = record { value = found p.table.config (world_at a.makes).now (event_of p (step.Look x)); source = Root };
-        is = hand_now ∙ by x (found p.table.config (world_at a.makes).now (event_of p (step.Look x))) root;
+        hand = record { value = found p.table.config (world_at a.makes).now (event_of p (Step.Look x)); source = Root };
+        is = hand_now ∙ by x (found p.table.config (world_at a.makes).now (event_of p (Step.Look x))) root;
         value = ap (λ (w : World). named_word w.now.words x) (sym a.world) ∙ found_there p q x n f;
         reached = refl;
       }
@@ -223,25 +191,25 @@ module _ (p q : PassState) (x : Word) (a : Acts p (step.Look x) q) where
       by : (y : Word) (value : ℕ) → is_root y ≡ true
           → or_else (hand_given p.table.config (world_at a.makes).now p.seat y value) (hand_of p)
           ≡ Some (record { value = value; source = Root })
-      by (word.Reg j r) value h = refl
-      by (word.Global g) value h = refl
+      by (Word.Reg j r) value h = refl
+      by (Word.Global g) value h = refl
       by _ value h = cc
 
 -- The cell into which a value points is looked for.
 
 pub may_look_at_headers : (p : PassState) → InTurn p → IsBeside p → MayLookAtHeaders p
-may_look_at_headers p t b page lt = look_allowed p t b.free (word.Head page) (lt-ltb page _ lt) refl
+may_look_at_headers p t b page lt = look_allowed p t b.free (Word.Head page) (lt-ltb page _ lt) refl
 
 module _ {value : ℕ} {t u : TurnState} (l : LooksForCell value t u) where
   pub goes_for_cell : IsBeside t.pass → GoesBeside t u
   goes_for_cell b =
       looked_for (λ (v : TurnState). GoesBeside t v) l (goes_nowhere t b)
-      (λ a. goes_look t u b l.op (word.Head (page_at_address value)) a refl)
+      (λ a. goes_look t u b l.op (Word.Head (page_at_address value)) a refl)
 
   pub gates_for_cell : KeepsGates t.pass u.pass
   gates_for_cell =
       looked_for (λ (v : TurnState). KeepsGates t.pass v.pass) l (gates_at_once t.pass)
-      (λ a. gates_behind t.pass (step.Look (word.Head (page_at_address value))) u.pass a refl)
+      (λ a. gates_behind t.pass (Step.Look (Word.Head (page_at_address value))) u.pass a refl)
 
 -- A mark by the hand: the cell's page has a header, so it isn't the place of a New.
 
@@ -258,7 +226,7 @@ no_place w o (Some x) page value ne =
     ne (eqb-true (header_at w page) 0 two.1))
 
 module _ (t u : TurnState) (b : IsBeside t.pass) (same : u.op ≡ t.op)
-    (cell : Cell) (a : Acts t.pass (step.Mark cell.page (2 ^ cell.index)) u.pass) (r : HandPointsInto t.pass cell) where
+    (cell : Cell) (a : Acts t.pass (Step.Mark cell.page (2 ^ cell.index)) u.pass) (r : HandPointsInto t.pass cell) where
   points_there : pointed_cell t.pass.table.config.pages (world_at a.makes).now.words.pages r.value ≡ Some cell
   points_there = ap (λ (x : Steady). pointed_cell t.pass.table.config.pages x.pages r.value) a.turn.steady ∙ r.points
 
@@ -267,7 +235,7 @@ module _ (t u : TurnState) (b : IsBeside t.pass) (same : u.op ≡ t.op)
 
   has_header : header_at (world_at a.makes).now.words cell.page ≢ 0
   has_header z =
-      let d = stands_behind_others t.pass u.pass (step.Mark cell.page (2 ^ cell.index)) a.makes in
+      let d = stands_behind_others t.pass u.pass (Step.Mark cell.page (2 ^ cell.index)) a.makes in
       let known = stands t.pass.table.config (t.pass.seen ++ a.makes.others) d.history in
       let lt = pointed_is_cell t.pass.table.config (world_at a.makes) known.all.order.laid
       (ap (λ (n : ℕ). n == 4) phase_then) r.value cell points_there in
@@ -283,14 +251,14 @@ module _ (t u : TurnState) (b : IsBeside t.pass) (same : u.op ≡ t.op)
       let then_placed : Placing = chosen placed (place_now c m f) in
       record {
         call =
-            keeps_call t.pass (step.Mark cell.page (2 ^ cell.index)) u.pass a (own_before a.makes) a.holds
+            keeps_call t.pass (Step.Mark cell.page (2 ^ cell.index)) u.pass a (own_before a.makes) a.holds
             a.makes.pass.history (λ n. refl)
             (λ n. ap (λ (x : Bool). done_in (record m.seats.holding { placing = if x then then_placed else placed }))
             (no_place m.words (object_made c f.op) (place_now c m f) cell.page (2 ^ cell.index) has_header))
             refl;
         steady = ap (λ (x : World). steady_of x) a.world ∙ a.turn.steady;
         counts =
-            keeps_counts t.pass (step.Mark cell.page (2 ^ cell.index)) u.pass a (own_before a.makes) a.holds
+            keeps_counts t.pass (Step.Mark cell.page (2 ^ cell.index)) u.pass a (own_before a.makes) a.holds
             a.makes.pass.history
             (λ n. refl) refl;
       }
@@ -310,7 +278,7 @@ module _ (t u : TurnState) (b : IsBeside t.pass) (same : u.op ≡ t.op)
 
   pub goes_mark : GoesBeside t u
   goes_mark =
-      goes_step t u (step.Mark cell.page (2 ^ cell.index)) a b same refl refl refl mark_keeps marks_reached
+      goes_step t u (Step.Mark cell.page (2 ^ cell.index)) a b same refl refl refl mark_keeps marks_reached
 
   pub marked_there : is_marked (now_of u.pass).words cell ≡ true
   marked_there =
@@ -319,7 +287,7 @@ module _ (t u : TurnState) (b : IsBeside t.pass) (same : u.op ≡ t.op)
       let within = pointed_within c.pages x r.value cell points_there in
       ap (λ (v : World). is_marked v.now.words cell) a.world
       ∙ marked_now x (world_behind c (world_at a.makes)
-      (event_of t.pass (step.Mark cell.page (2 ^ cell.index)))).now.words cell
+      (event_of t.pass (Step.Mark cell.page (2 ^ cell.index)))).now.words cell
       (subst (λ (n : ℕ). cell.page < n) (sym (histories_keep_lengths c (t.pass.seen ++ a.makes.others)).marks) within.0)
       within.1 refl
 
@@ -341,19 +309,19 @@ module _ (p : PassState) (s : Step) (q : PassState) (a : Acts p s q) where
       ∙ ap (λ (n : ℕ). n == 2) (same j ne)
       ∙ held_so _ _ (a.turn.held_gates j) (a.turn.other_gates j)
 
-pub hold_others : (p : PassState) (caller : ℕ) (q : PassState) → Acts p (step.Hold caller) q
+pub hold_others : (p : PassState) (caller : ℕ) (q : PassState) → Acts p (Step.Hold caller) q
     → KeepsOtherGates caller p q
 hold_others p caller q a =
-    others_behind p (step.Hold caller) q a caller
+    others_behind p (Step.Hold caller) q a caller
     (λ j ne. get_or-set_other (world_at a.makes).now.words.gates caller j _ 0 ne)
 
-pub open_others : (p : PassState) (caller : ℕ) (q : PassState) → Acts p (step.Open caller) q
+pub open_others : (p : PassState) (caller : ℕ) (q : PassState) → Acts p (Step.Open caller) q
     → KeepsOtherGates caller p q
 open_others p caller q a =
-    others_behind p (step.Open caller) q a caller
+    others_behind p (Step.Open caller) q a caller
     (λ j ne. get_or-set_other (world_at a.makes).now.words.gates caller j 0 0 ne)
 
-pub opened : (p : PassState) (caller : ℕ) (q : PassState) → Acts p (step.Open caller) q
+pub opened : (p : PassState) (caller : ℕ) (q : PassState) → Acts p (Step.Open caller) q
     → is_held (now_of q).words caller ≡ false
 opened p caller q a =
     ap (λ (w : World). is_held w.now.words caller) a.world ∙ open_at (world_at a.makes).now.words.gates caller

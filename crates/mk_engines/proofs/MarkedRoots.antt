@@ -1,19 +1,13 @@
 -- All roots are marked in what was seen since.
-use Rattle.std.proofs.Common.{◌≡◌, true, List, ap, subst}
-use Rattle.std.specs.List.{list_all, list_any}
-use Rattle.mk_core.specs.declared.events.Event.{Event}
-use Rattle.mk_core.specs.declared.events.Word.{Word}
-use Rattle.mk_core.specs.Growing.{Finding}
-use Rattle.mk_core.specs.Ranges.{is_word}
-use Rattle.mk_words.specs.States.{PassState, now_of, world_of}
-use Rattle.mk_turns.specs.Doing.{done_in}
-use Rattle.mk_tracing.specs.Grays.{TracesReached}
-use Rattle.mk_tracing.specs.Stops.{is_root}
-use Rattle.mk_tracing.specs.Tracing.{OwnStepsKeep}
+use Rattle.std.specs.List.{list_all}
+use Rattle.mk_laws.proofs.Vocabulary.{Event, List, Word, ap, list_any, subst, true, ◌≡◌}
+use Rattle.mk_core.specs.{Growing.Finding, Ranges.is_word}
 use Rattle.mk_cycle.specs.Begun.{IsBegun}
-use Rattle.mk_engines.specs.Beside.{LooksAt, MarksBeside, found_well, looks_at}
-use Rattle.mk_engines.specs.Roots.{MarksRoots}
 use Rattle.mk_engines.proofs.Since.{since_is}
+use Rattle.mk_engines.specs.{Beside.LooksAt, Beside.MarksBeside, Beside.found_well, Beside.looks_at, Roots.MarksRoots}
+use Rattle.mk_tracing.specs.{Grays.TracesReached, Stops.is_root, Tracing.OwnStepsKeep}
+use Rattle.mk_turns.specs.Doing.{done_in}
+use Rattle.mk_words.specs.States.{PassState, now_of, world_of}
 
 pub marks_roots : (p q : PassState) → MarksBeside p q
     → ((x : Word) → is_root x ≡ true → is_word p.table.config x ≡ true → LooksAt x p q) → IsBegun MarksRoots p q

@@ -1,33 +1,20 @@
 -- What is marked beside others, in parts.
-use Rattle.std.proofs.Common.{◌≡◌, ◌∙◌, ℕ, ◌<◌, Bool, true, false, List, [], ◌∷◌, ◌++◌, refl, sym, ap, subst, inl, inr}
-use Rattle.std.specs.Prelude.{◌||◌, not, ◌==◌, nat_lt}
-use Rattle.std.specs.List.{list_all, list_any}
-use Rattle.std.proofs.lemmas.Bool.{and_from, and_parts, cases_eq, eq-eqb, ltb-true, or_right}
-use Rattle.std.proofs.lemmas.List.Folds.{list_all-append, list_any-append}
-use Rattle.mk_core.specs.declared.config.Config.{Config}
-use Rattle.mk_core.specs.declared.events.Event.{Event}
-use Rattle.mk_core.specs.declared.events.Step.TheVariants as step
-use Rattle.mk_core.specs.declared.events.Word.{Word}
-use Rattle.mk_core.specs.declared.events.Word.TheVariants as word
-use Rattle.mk_core.specs.Cells.{points_well}
-use Rattle.mk_core.specs.Frames.{Steady}
-use Rattle.mk_core.specs.Growing.{Finding}
-use Rattle.mk_core.specs.Moments.{is_held, is_number_of}
-use Rattle.mk_core.specs.Ranges.{is_word}
-use Rattle.mk_core.specs.Words.{Words}
-use Rattle.mk_words.specs.States.{PassState, TurnState, now_of, event_of}
-use Rattle.mk_turns.specs.Doing.{Does}
-use Rattle.mk_turns.proofs.Doing.{does_nothing, does_then}
-use Rattle.mk_tracing.specs.Grays.{TracesReached}
-use Rattle.mk_tracing.specs.Stops.{is_root}
-use Rattle.mk_cycle.specs.Holding.{IsHeldOrOwn}
-use Rattle.mk_cycle.specs.Kinds.{begins_marking}
-use Rattle.mk_cycle.specs.TurnKeeps.{LeavesTurn, KeepsGates, unchanged}
+use Rattle.std.{proofs.lemmas.List.Folds.list_all-append, specs.List.list_all}
+use Rattle.mk_laws.proofs.Vocabulary.{Bool, Config, Event, List, Steady, Step, Word, Words, ℕ, and_from, and_parts, ap}
+use Rattle.mk_laws.proofs.Vocabulary.{cases_eq, eq-eqb, false, inl, inr, is_held, is_number_of, list_any}
+use Rattle.mk_laws.proofs.Vocabulary.{list_any-append, ltb-true, nat_lt, not, or_right, points_well, refl, subst, sym}
+use Rattle.mk_laws.proofs.Vocabulary.{true, [], ◌++◌, ◌<◌, ◌==◌, ◌||◌, ◌∙◌, ◌∷◌, ◌≡◌}
+use Rattle.mk_core.specs.{Growing.Finding, Ranges.is_word}
 use Rattle.mk_cycle.proofs.KeptInParts.{free_then, gates_then, keeps_at_once, keeps_then, same_config}
+use Rattle.mk_cycle.specs.TurnKeeps.{KeepsGates, LeavesTurn, unchanged}
+use Rattle.mk_cycle.specs.{Holding.IsHeldOrOwn, Kinds.begins_marking}
+use Rattle.mk_engines.proofs.Since.{done_then, nothing_done, nothing_keeps, rule_then}
 use Rattle.mk_engines.specs.Beside.{FindsInRoot, GoesBeside, IsBeside, IsOpenToLook, KeepsOtherGates, LooksAt}
 use Rattle.mk_engines.specs.Beside.{MarksBeside, MarksReachedAlone, StaysWell, done_since, found_well, is_same_root}
 use Rattle.mk_engines.specs.Beside.{looks_at, looks_at_root}
-use Rattle.mk_engines.proofs.Since.{done_then, nothing_done, nothing_keeps, rule_then}
+use Rattle.mk_tracing.specs.{Grays.TracesReached, Stops.is_root}
+use Rattle.mk_turns.{proofs.Doing.does_nothing, proofs.Doing.does_then, specs.Doing.Does}
+use Rattle.mk_words.specs.States.{PassState, TurnState, event_of, now_of}
 
 -- The turn goes on being free, and the cycle marking.
 pub still_beside : (p q : PassState) → IsBeside p → LeavesTurn unchanged p q → IsBeside q
@@ -96,7 +83,7 @@ module _ (p : PassState) (xs : List Event) (r : PassState) where
             ++ xs;
       })
       → StaysWell p (record p { seen = p.seen ++ xs })
-      → done_since p (record p { seen = p.seen ++ xs }) ≡ record { event = event_of p (step.Look x); found = n } ∷ []
+      → done_since p (record p { seen = p.seen ++ xs }) ≡ record { event = event_of p (Step.Look x); found = n } ∷ []
       → MarksBeside (record p { seen = p.seen ++ xs }) r → points_well p.table.config.pages (now_of r).words n ≡ true
       → MarksBeside p r
   root_part x n beside does keeps reached well done b here =
@@ -170,8 +157,8 @@ then_looked x p q r d e here =
 -- A look at a root, and the marks after it by which its value points well.
 
 same_root : (x : Word) → is_root x ≡ true → is_same_root x x ≡ true
-same_root (word.Reg j r) h = and_from (j == j) (r == r) (eq-eqb j j refl) (eq-eqb r r refl)
-same_root (word.Global g) h = eq-eqb g g refl
+same_root (Word.Reg j r) h = and_from (j == j) (r == r) (eq-eqb j j refl) (eq-eqb r r refl)
+same_root (Word.Global g) h = eq-eqb g g refl
 same_root _ h = cc
 
 module _ (x : Word) (n : ℕ) (t u v : TurnState) (beside : IsBeside t.pass) (f : FindsInRoot x n t u)
@@ -186,7 +173,7 @@ module _ (x : Word) (n : ℕ) (t u v : TurnState) (beside : IsBeside t.pass) (f 
             subst (λ (y : PassState). Does begins_marking t.pass y → LeavesTurn unchanged t.pass y
             → MarksReachedAlone t.pass y
             → StaysWell t.pass y → done_since t.pass y ≡ record
-            { event = event_of t.pass (step.Look x); found = n } ∷ []
+            { event = event_of t.pass (Step.Look x); found = n } ∷ []
             → MarksBeside y v.pass → points_well t.pass.table.config.pages (now_of v.pass).words n ≡ true
             → MarksBeside t.pass v.pass)
             (sym f.does.is) (root_part t.pass f.does.more v.pass x n beside)
@@ -246,27 +233,27 @@ pub own_is : (p : PassState) (caller : ℕ) → is_number_of p.seat caller ≡ t
 own_is p caller h = ap (λ (b : Bool). b || is_held (now_of p).words caller) h
 
 pub open_register : (p : PassState) (caller register : ℕ) → IsHeldOrOwn p caller
-    → IsOpenToLook p (word.Reg caller register)
+    → IsOpenToLook p (Word.Reg caller register)
 open_register p caller register h k r e = subst (λ (i : ℕ). IsHeldOrOwn p i) (caller_of e) h
   where
     number : Word → ℕ
-    number (word.Reg j s) = j
+    number (Word.Reg j s) = j
     number _ = 0
 
-    caller_of : word.Reg caller register ≡ word.Reg k r → caller ≡ k
+    caller_of : Word.Reg caller register ≡ Word.Reg k r → caller ≡ k
     caller_of is = ap number is
 
-pub open_global : (p : PassState) (g : ℕ) → IsOpenToLook p (word.Global g)
+pub open_global : (p : PassState) (g : ℕ) → IsOpenToLook p (Word.Global g)
 open_global p g k r e = cc
 
 -- Each root was looked at.
-pub all_looked : (p q : PassState) → ((k r : ℕ) → k < p.table.config.callers → r < 8 → LooksAt (word.Reg k r) p q)
-    → ((g : ℕ) → g < 64 → LooksAt (word.Global g) p q)
+pub all_looked : (p q : PassState) → ((k r : ℕ) → k < p.table.config.callers → r < 8 → LooksAt (Word.Reg k r) p q)
+    → ((g : ℕ) → g < 64 → LooksAt (Word.Global g) p q)
     → (x : Word) → is_root x ≡ true → is_word p.table.config x ≡ true → LooksAt x p q
-all_looked p q registers globals (word.Reg k r) root h =
+all_looked p q registers globals (Word.Reg k r) root h =
     let parts = and_parts (nat_lt k p.table.config.callers) (nat_lt r 8) h in
     registers k r (ltb-true k p.table.config.callers parts.0) (ltb-true r 8 parts.1)
-all_looked p q registers globals (word.Global g) root h = globals g (ltb-true g 64 h)
+all_looked p q registers globals (Word.Global g) root h = globals g (ltb-true g 64 h)
 all_looked p q registers globals _ root h = cc
 
 -- A root that was looked at was so over more of the turn.

@@ -1,23 +1,14 @@
 -- What a pass has seen since, in parts and by one step.
-use Rattle.std.proofs.Common.{◌≡◌, ◌∙◌, List, [], ◌∷◌, ◌++◌, sym, ap, subst, append_assoc}
 use Rattle.std.proofs.Math.Seq.{drop-append_seam, drop-length}
-use Rattle.mk_core.specs.declared.config.Config.{Config}
-use Rattle.mk_core.specs.declared.events.Event.{Event}
-use Rattle.mk_core.specs.declared.events.Step.{Step}
+use Rattle.mk_laws.proofs.Vocabulary.{Config, Event, List, Moment, Step, World, ap, append_assoc, left, left_in_parts}
+use Rattle.mk_laws.proofs.Vocabulary.{subst, sym, [], ◌++◌, ◌∙◌, ◌∷◌, ◌≡◌}
 use Rattle.mk_core.specs.Growing.{Finding, own_from}
-use Rattle.mk_core.specs.History.{World, left}
-use Rattle.mk_core.specs.Moments.{Moment}
-use Rattle.mk_core.proofs.HistoryParts.{left_in_parts}
-use Rattle.mk_words.specs.Seats.{Has}
-use Rattle.mk_words.specs.States.{PassState, world_of, event_of}
-use Rattle.mk_words.specs.Steps.{Makes, found_by}
-use Rattle.mk_words.specs.TurnSteps.{world_at}
-use Rattle.mk_words.proofs.Seats.{same_self}
-use Rattle.mk_turns.specs.Doing.{done_in}
-use Rattle.mk_turns.proofs.Doing.{done_in_parts, none_own}
-use Rattle.mk_tracing.specs.Tracing.{OwnStepsKeep}
-use Rattle.mk_tracing.proofs.Parts.{keep_in_parts, one_keeps, one_own, others_keep}
 use Rattle.mk_engines.specs.Beside.{done_since, seen_since}
+use Rattle.mk_tracing.proofs.Parts.{keep_in_parts, one_keeps, one_own, others_keep}
+use Rattle.mk_tracing.specs.Tracing.{OwnStepsKeep}
+use Rattle.mk_turns.{proofs.Doing.done_in_parts, proofs.Doing.none_own, specs.Doing.done_in}
+use Rattle.mk_words.{proofs.Seats.same_self, specs.Seats.Has, specs.States.PassState, specs.States.event_of}
+use Rattle.mk_words.{specs.States.world_of, specs.Steps.Makes, specs.Steps.found_by, specs.TurnSteps.world_at}
 
 -- what was seen after a list
 pub since_behind : (p : PassState) (xs : List Event) → seen_since p (record p { seen = p.seen ++ xs }) ≡ xs

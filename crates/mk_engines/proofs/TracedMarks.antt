@@ -1,48 +1,29 @@
 -- Tracing in the stop meets the law of engines.
-use Rattle.std.proofs.Common.{◌≡◌, ◌∙◌, ℕ, ◌+◌, Bool, true, false, List, [], ◌∷◌, refl, sym, ap}
-use Rattle.std.specs.Prelude.{not, ◌&&◌, slice_index_or, count_by, cond}
-use Rattle.std.proofs.lemmas.List.Sums.{sum_by-cons}
-use Rattle.mk_never.specs.declared.operations.Op.{Op}
-use Rattle.mk_never.specs.declared.operations.Op.TheVariants as op
-use Rattle.mk_core.specs.declared.config.Config.{Config}
-use Rattle.mk_core.specs.declared.events.Seat.{Seat}
-use Rattle.mk_core.specs.declared.events.Seat.TheVariants.{Caller, Marker, Host}
-use Rattle.mk_core.specs.declared.events.Step.{Step}
-use Rattle.mk_core.specs.declared.events.Step.TheVariants as step
-use Rattle.mk_core.specs.declared.seats.Flight.{Flight}
-use Rattle.mk_core.specs.declared.seats.Stage.{Stage}
-use Rattle.mk_core.specs.declared.seats.Stage.TheVariants as stage
-use Rattle.mk_core.specs.Calls.{at_rest, is_under_turn}
-use Rattle.mk_core.specs.ClosedMarks.{MarksAreClosed}
-use Rattle.mk_core.specs.Frames.{Steady, CountsAreLeft}
-use Rattle.mk_core.specs.Growing.{Finding}
-use Rattle.mk_core.specs.History.{IsHistory}
-use Rattle.mk_core.specs.Moments.{Moment, flight_of}
-use Rattle.mk_core.specs.NewPlaces.{is_run_gone}
-use Rattle.mk_core.specs.Readings.{Holds, is_idle}
-use Rattle.mk_core.specs.Words.{Words}
-use Rattle.mk_laws.specs.Protocol.{Protocol, has_stage}
-use Rattle.mk_laws.proofs.Protocols.{lists_keep_the_protocol}
-use Rattle.mk_words.specs.States.{PassState, world_of, now_of}
-use Rattle.mk_words.specs.Steps.{IsEnabledTo}
-use Rattle.mk_turns.specs.Doing.{Does, are_of, done_in}
-use Rattle.mk_turns.proofs.Doing.{does_nothing}
-use Rattle.mk_tracing.specs.Grays.{TracesReached}
-use Rattle.mk_tracing.specs.Stops.{HolderIsLoaded, IsWanted, is_loaded, is_loaded_at}
-use Rattle.mk_tracing.specs.Tracing.{Counted, Traces, Untouched, untouched_of, is_tracing, is_want}
-use Rattle.mk_cycle.specs.EngineLaw.{BeginsMarking, ClosesMarks, IsFreeForCycle, is_pending_free, is_pending_free_at}
-use Rattle.mk_cycle.specs.Kinds.{begins_marking, closes_marks, is_want as is_wish}
-use Rattle.mk_cycle.specs.TurnKeeps.{Done, KeepsCall, LeavesTurn, but_phase, unchanged}
+use Rattle.std.proofs.{Common.count_by, lemmas.List.Sums.sum_by-cons}
+use Rattle.mk_laws.proofs.Vocabulary.{Bool, Caller, Config, Flight, Holds, Host, IsHistory, List, Marker}
+use Rattle.mk_laws.proofs.Vocabulary.{MarksAreClosed, Moment, Op, Protocol, Seat, Stage, Steady, Step, Words, ℕ, ap}
+use Rattle.mk_laws.proofs.Vocabulary.{at_rest, cond, false, flight_of, is_run_gone, is_under_turn, not, refl}
+use Rattle.mk_laws.proofs.Vocabulary.{slice_index_or, sym, true, [], ◌&&◌, ◌+◌, ◌∙◌, ◌∷◌, ◌≡◌}
+use Rattle.mk_core.specs.{Frames.CountsAreLeft, Growing.Finding, Readings.is_idle}
+use Rattle.mk_laws.{proofs.Protocols.lists_keep_the_protocol, specs.Protocol.has_stage}
 use Rattle.mk_cycle.proofs.KeptInParts.{keeps_at_once}
+use Rattle.mk_cycle.specs.EngineLaw.{BeginsMarking, ClosesMarks, IsFreeForCycle, is_pending_free, is_pending_free_at}
+use Rattle.mk_cycle.specs.TurnKeeps.{Done, KeepsCall, LeavesTurn, but_phase, unchanged}
+use Rattle.mk_cycle.specs.Kinds.{begins_marking, closes_marks, is_want as is_wish}
+use Rattle.mk_tracing.specs.Stops.{HolderIsLoaded, IsWanted, is_loaded, is_loaded_at}
+use Rattle.mk_tracing.specs.Tracing.{Counted, Traces, Untouched, is_tracing, is_want, untouched_of}
+use Rattle.mk_tracing.specs.Grays.{TracesReached}
+use Rattle.mk_turns.{proofs.Doing.does_nothing, specs.Doing.Does, specs.Doing.are_of, specs.Doing.done_in}
+use Rattle.mk_words.specs.{States.PassState, States.now_of, States.world_of, Steps.IsEnabledTo}
 
 -- A call that is free for a cycle has loaded what it loads.
 
 loaded_at : (x : Stage) (o : Op) → has_stage o x ≡ true → (not (is_idle x) && is_under_turn o) ≡ true
     → is_pending_free_at o x ≡ false → is_loaded_at x ≡ true
-loaded_at stage.Turn o has turn decided = refl
-loaded_at stage.Give o has turn decided = refl
-loaded_at x (op.New d ty full) has turn decided = cc
-loaded_at x (op.Free p) has turn decided = cc
+loaded_at Stage.Turn o has turn decided = refl
+loaded_at Stage.Give o has turn decided = refl
+loaded_at x (Op.New d ty full) has turn decided = cc
+loaded_at x (Op.Free p) has turn decided = cc
 loaded_at x o has turn decided = absurd (never (not (is_idle x)) turn)
   where
     never : (b : Bool) → (b && false) ≡ true → ⊥
@@ -65,12 +46,12 @@ ready_of p history holds free =
 -- Its kinds are those of the law.
 
 closing_kind : (s : Step) → is_tracing s ≡ true → closes_marks s ≡ true
-closing_kind step.Want h = refl
-closing_kind (step.Look x) h = refl
-closing_kind (step.Mark p v) h = refl
-closing_kind (step.Undirty p) h = refl
-closing_kind (step.Black p v) h = refl
-closing_kind (step.Unblack p) h = refl
+closing_kind Step.Want h = refl
+closing_kind (Step.Look x) h = refl
+closing_kind (Step.Mark p v) h = refl
+closing_kind (Step.Undirty p) h = refl
+closing_kind (Step.Black p v) h = refl
+closing_kind (Step.Unblack p) h = refl
 closing_kind _ h = cc
 
 both_parts : (a b : Bool) → (a && b) ≡ true → (a ≡ true) × (b ≡ true)
@@ -89,7 +70,7 @@ closing_kinds (x ∷ xs) h =
     (closing_kinds xs parts.1)
 
 same_wish : (s : Step) → is_wish s ≡ is_want s
-same_wish step.Want = refl
+same_wish Step.Want = refl
 same_wish _ = refl
 
 same_count : (xs : List Finding)
@@ -156,7 +137,7 @@ module _ (p q : PassState) (pass : q ≡ record p { seen = q.seen })
   keeps_turn counts = record { call = keeps_call; steady = ap steady_as same; counts = counts }
 
 pub closes_by_tracing : (p q : PassState) → Counted is_tracing TracesReached is_want p q 1 → IsWanted q
-    → IsEnabledTo q step.Close → MarksAreClosed q.table.config (world_of q) → ClosesMarks p q
+    → IsEnabledTo q Step.Close → MarksAreClosed q.table.config (world_of q) → ClosesMarks p q
 closes_by_tracing p q counted wanted close closed =
     let t : Traces is_tracing TracesReached p q = counted.traces in
     let d : Does is_tracing p q = t.does in

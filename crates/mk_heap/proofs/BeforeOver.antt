@@ -1,29 +1,18 @@
 -- Whether an `over` stands among what the host has seen. It comes by the host's own step alone.
-use Rattle.std.proofs.Common.{◌≡◌, ◌≢◌, ◌⊎◌, Bool, true, false, List, [], ◌∷◌, ◌++◌, refl, sym, ap, subst, ◌∙◌, inl}
-use Rattle.std.proofs.Common.{inr, arith}
-use Rattle.std.specs.Prelude.{ℕ, ◌&&◌, ◌||◌, not, None}
 use Rattle.std.specs.List.{list_all}
-use Rattle.std.proofs.lemmas.Bool.{and_parts, false_from_ne_true, not-true, or_cases, true≢false}
-use Rattle.std.proofs.lemmas.List.Folds.{list_any-append}
-use Rattle.mk_core.specs.declared.config.Config.{Config}
-use Rattle.mk_core.specs.declared.events.Event.{Event}
-use Rattle.mk_core.specs.declared.events.Seat.{Seat}
-use Rattle.mk_core.specs.declared.events.Seat.TheVariants.{Host}
-use Rattle.mk_core.specs.declared.events.Step.{Step}
-use Rattle.mk_core.specs.declared.events.Step.TheVariants as step
-use Rattle.mk_core.specs.Growing.{Grows, is_one_of, is_same_seat}
-use Rattle.mk_core.specs.History.{AreEnabledFrom, IsHistory, World, first_world, left, left_from, world_behind}
-use Rattle.mk_core.specs.Words.{phase_of}
-use Rattle.mk_core.proofs.HistoryParts.{earlier_part_is_history, enabled_in_parts}
+use Rattle.mk_laws.proofs.Vocabulary.{Bool, Config, Event, Host, IsHistory, List, None, Seat, Step, World, ℕ, and_parts}
+use Rattle.mk_laws.proofs.Vocabulary.{ap, arith, earlier_part_is_history, enabled_in_parts, false, false_from_ne_true}
+use Rattle.mk_laws.proofs.Vocabulary.{first_world, inl, inr, is_one_of, left, list_any-append, not, not-true, or_cases}
+use Rattle.mk_laws.proofs.Vocabulary.{phase_of, refl, subst, sym, true, true≢false, world_behind, [], ◌&&◌, ◌++◌, ◌||◌}
+use Rattle.mk_laws.proofs.Vocabulary.{◌∙◌, ◌∷◌, ◌≡◌, ◌≢◌, ◌⊎◌}
+use Rattle.mk_core.specs.{Growing.Grows, Growing.is_same_seat, History.AreEnabledFrom, History.left_from}
 use Rattle.mk_laws.proofs.CyclePhases.{AsksPhase, moves_phase, phase_behind}
-use Rattle.mk_words.specs.Seats.{Has, has_over, is_over}
-use Rattle.mk_words.specs.States.{PassState, WordsState, event_of}
-use Rattle.mk_words.specs.Steps.{Makes}
-use Rattle.mk_words.proofs.Overs.{none_over, over_is_hosts}
-use Rattle.mk_waiting.specs.Taking.{TakesTurn, Waits, is_take, waits_for}
+use Rattle.mk_heap.{proofs.MovedHosts.MovesOn, specs.Hosts.HostState, specs.Hosts.IsHost}
 use Rattle.mk_waiting.proofs.Waiting.{waits_more}
-use Rattle.mk_heap.specs.Hosts.{HostState, IsHost}
-use Rattle.mk_heap.proofs.MovedHosts.{MovesOn}
+use Rattle.mk_waiting.specs.Taking.{TakesTurn, Waits, is_take, waits_for}
+use Rattle.mk_words.proofs.Overs.{none_over, over_is_hosts}
+use Rattle.mk_words.specs.Seats.{Has, has_over, is_over}
+use Rattle.mk_words.specs.{States.PassState, States.WordsState, States.event_of, Steps.Makes}
 
 -- a list that goes on without one
 
@@ -60,7 +49,7 @@ step_overs p q s m has out =
 -- No one comes while the host waits for the turn.
 
 no_take_is_over : (s : Step) → is_take s ≡ true → is_over s ≡ true → ⊥
-no_take_is_over (step.Take o) t h = cc
+no_take_is_over (Step.Take o) t h = cc
 no_take_is_over _ t h = cc
 
 none_over_waiting : (p : PassState) (c : Config) (w : World) (es : List Event) → Has p.seats Host
@@ -97,16 +86,16 @@ taken_overs p q t has history =
 -- After an `over` the phase says so for ever.
 
 five_stays : (x : Step) (n : ℕ) → AsksPhase x n → n ≡ 5 → phase_behind x n ≡ 5
-five_stays step.Begin n asks five = absurd (omega arith)
-five_stays step.Want n asks five = absurd (omega arith)
-five_stays step.Close n asks five = absurd (omega arith)
-five_stays step.Release n asks five = absurd (omega arith)
-five_stays step.End n asks five = absurd (omega arith)
-five_stays step.Over n asks five = refl
+five_stays Step.Begin n asks five = absurd (omega arith)
+five_stays Step.Want n asks five = absurd (omega arith)
+five_stays Step.Close n asks five = absurd (omega arith)
+five_stays Step.Release n asks five = absurd (omega arith)
+five_stays Step.End n asks five = absurd (omega arith)
+five_stays Step.Over n asks five = refl
 five_stays _ n asks five = five
 
 five_behind : (x : Step) (n : ℕ) → is_over x ≡ true → phase_behind x n ≡ 5
-five_behind step.Over n h = refl
+five_behind Step.Over n h = refl
 five_behind _ n h = cc
 
 over_lasts : (c : Config) (w : World) (es : List Event) → AreEnabledFrom c w es

@@ -1,41 +1,30 @@
 -- What the engine does after each `begin` of the host's.
-use Rattle.std.proofs.Common.{◌≡◌, ⊎_elim, List, refl, sym, subst}
-use Rattle.std.specs.Prelude.{None}
-use Rattle.mk_core.specs.declared.config.Config.{Config}
-use Rattle.mk_core.specs.declared.events.Event.{Event}
-use Rattle.mk_core.specs.declared.events.Seat.{Seat}
-use Rattle.mk_core.specs.declared.events.Step.TheVariants as step
-use Rattle.mk_core.specs.declared.events.Word.TheVariants as word
-use Rattle.mk_words.specs.Seats.{Has}
-use Rattle.mk_words.specs.States.{PassState}
-use Rattle.mk_words.specs.Steps.{Makes}
-use Rattle.mk_turns.proofs.Sweeping.{only_seen, only_seen_by}
-use Rattle.mk_waiting.specs.Taking.{is_take}
-use Rattle.mk_waiting.proofs.TakesAlone.{taking_does}
-use Rattle.mk_cycle.specs.BeginCycle.{BeginsCycle}
-use Rattle.mk_cycle.specs.Begun.{EachIsBegun}
-use Rattle.mk_cycle.specs.EngineLaw.{IsAtPhase}
-use Rattle.mk_cycle.specs.FinishCycle.{FinishesCycle}
+use Rattle.std.proofs.Common.{⊎_elim}
+use Rattle.mk_laws.proofs.Vocabulary.{Config, Event, List, None, Seat, Step, Word, refl, subst, sym, ◌≡◌}
 use Rattle.mk_cycle.proofs.Begun.{HaveNoBegin, begun_then, does_begin_none, finish_begins_none, has_on}
 use Rattle.mk_cycle.proofs.Begun.{step_begins_none}
-use Rattle.mk_heap.specs.Ending.{EndsCycle, SaysOver, TakesIdleTurn}
+use Rattle.mk_cycle.specs.{BeginCycle.BeginsCycle, Begun.EachIsBegun, EngineLaw.IsAtPhase, FinishCycle.FinishesCycle}
 use Rattle.mk_heap.proofs.MovedHosts.{idle_moves, turn_moves}
+use Rattle.mk_heap.specs.Ending.{EndsCycle, SaysOver, TakesIdleTurn}
+use Rattle.mk_turns.proofs.Sweeping.{only_seen, only_seen_by}
+use Rattle.mk_waiting.{proofs.TakesAlone.taking_does, specs.Taking.is_take}
+use Rattle.mk_words.specs.{Seats.Has, States.PassState, Steps.Makes}
 
 taking_begins_none : HaveNoBegin is_take
-taking_begins_none step.Begin h = cc
+taking_begins_none Step.Begin h = cc
 taking_begins_none _ h = refl
 
 module _ (begins : Config → Seat → List Event → List Event → Type 0) where
   -- It finishes the cycle that is on, if one is.
   ending_begun : (p q : PassState) → Has p.seats p.seat → EndsCycle p q → EachIsBegun begins p q
   ending_begun p q own ends =
-      let look = step_begins_none begins p ends.looked (step.Look word.Phase) own ends.looks refl in
+      let look = step_begins_none begins p ends.looked (Step.Look Word.Phase) own ends.looks refl in
       ⊎_elim
       (λ (none : IsAtPhase p 0). subst (λ (x : PassState). EachIsBegun begins p x) (sym (ends.none none)) look)
       (λ (on : IsAtPhase p 1).
-      begun_then begins p ends.looked q (only_seen_by p ends.looked (step.Look word.Phase) ends.looks) look
+      begun_then begins p ends.looked q (only_seen_by p ends.looked (Step.Look Word.Phase) ends.looks) look
       (finish_begins_none begins ends.looked q
-      (has_on p ends.looked (only_seen_by p ends.looked (step.Look word.Phase) ends.looks) own) (ends.on on)))
+      (has_on p ends.looked (only_seen_by p ends.looked (Step.Look Word.Phase) ends.looks) own) (ends.on on)))
       ends.phase
 
   idle_same : (p idle : PassState) → TakesIdleTurn p idle → idle ≡ record p { seen = idle.seen }
@@ -51,14 +40,14 @@ module _ (begins : Config → Seat → List Event → List Event → Type 0) whe
 
   -- a whole cycle
   pub cycle_begun : (p idle begun ended q : PassState) → Has p.seats p.seat → TakesIdleTurn p idle
-      → BeginsCycle idle begun → EachIsBegun begins idle begun → FinishesCycle begun ended → Makes ended step.Give q
+      → BeginsCycle idle begun → EachIsBegun begins idle begun → FinishesCycle begun ended → Makes ended Step.Give q
       → EachIsBegun begins p q
   cycle_begun p idle begun ended q own takes law part finishes gives =
       let own_begun = has_on idle begun law.pass (has_on p idle (idle_same p idle takes) own) in
       begun_then begins p idle q (idle_same p idle takes) (idle_begun p idle own takes)
       (begun_then begins idle begun q law.pass part
       (begun_then begins begun ended q finishes.pass (finish_begins_none begins begun ended own_begun finishes)
-      (step_begins_none begins ended q step.Give (has_on begun ended finishes.pass own_begun) gives refl)))
+      (step_begins_none begins ended q Step.Give (has_on begun ended finishes.pass own_begun) gives refl)))
 
   -- and an `over`, which begins none
   pub over_begun : (p q : PassState) → Has p.seats p.seat → SaysOver p q → EachIsBegun begins p q
@@ -66,9 +55,9 @@ module _ (begins : Config → Seat → List Event → List Event → Type 0) whe
       let takes : TakesIdleTurn p over.idle =
       record { taken = over.taken; takes = over.takes; ends = over.ends } in
       let same = idle_same p over.idle takes in
-      let same_said = only_seen_by over.idle over.said step.Over over.says in
+      let same_said = only_seen_by over.idle over.said Step.Over over.says in
       let own_idle = has_on p over.idle same own in
       begun_then begins p over.idle q same (idle_begun p over.idle own takes)
       (begun_then begins over.idle over.said q same_said
-      (step_begins_none begins over.idle over.said step.Over own_idle over.says refl)
-      (step_begins_none begins over.said q step.Give (has_on over.idle over.said same_said own_idle) over.gives refl))
+      (step_begins_none begins over.idle over.said Step.Over own_idle over.says refl)
+      (step_begins_none begins over.said q Step.Give (has_on over.idle over.said same_said own_idle) over.gives refl))

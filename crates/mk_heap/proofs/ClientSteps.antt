@@ -1,35 +1,21 @@
 -- What the client's calls ask.
-use Rattle.std.proofs.Common.{◌≡◌, ℕ, ◌+◌, ◌*◌, ◌<◌, ◌≤◌, Bool, true, false, List, [], ◌∷◌, ◌++◌, length, refl, sym}
-use Rattle.std.proofs.Common.{◌∙◌, ap, subst, arith}
-use Rattle.std.specs.Prelude.{◌||◌}
 use Rattle.std.proofs.lemmas.List.{length-replicate}
-use Rattle.std.proofs.lemmas.List.Folds.{list_any-append}
-use Rattle.mk_never.specs.declared.operations.Op.TheVariants as op
-use Rattle.mk_never.specs.declared.values.Value.TheVariants.{Null}
+use Rattle.mk_laws.proofs.Vocabulary.{Bool, Caller, Config, Event, IsWithinLimits, List, Null, Op, Seat, Step, ℕ, ap}
+use Rattle.mk_laws.proofs.Vocabulary.{arith, asked, caller_number, calls, false, length, list_any-append, never_behind}
+use Rattle.mk_laws.proofs.Vocabulary.{refl, subst, sym, true, [], ◌*◌, ◌++◌, ◌+◌, ◌<◌, ◌||◌, ◌∙◌, ◌∷◌, ◌≡◌, ◌≤◌}
 use Rattle.mk_never.proofs.Later.{calls_stay}
-use Rattle.mk_core.specs.declared.config.Config.{Config}
-use Rattle.mk_core.specs.declared.events.Event.{Event}
-use Rattle.mk_core.specs.declared.events.Seat.{Seat}
-use Rattle.mk_core.specs.declared.events.Seat.TheVariants.{Caller}
-use Rattle.mk_core.specs.declared.events.Step.TheVariants as step
-use Rattle.mk_core.specs.Config.{IsWithinLimits}
-use Rattle.mk_core.specs.Accesses.{caller_number}
-use Rattle.mk_core.specs.Decided.{asked}
-use Rattle.mk_core.specs.History.{calls, never_behind, never_first}
-use Rattle.mk_words.specs.Seats.{Has, has_over, is_over}
-use Rattle.mk_words.specs.States.{WordsState, PassState, event_of}
-use Rattle.mk_words.specs.Steps.{Makes}
-use Rattle.mk_words.proofs.Seats.{has_right}
-use Rattle.mk_caller.specs.States.{CallerState, Admits, at_home}
-use Rattle.mk_heap.specs.Clients.{IsPassOf}
-use Rattle.mk_heap.specs.Ending.{SaysOver}
+use Rattle.mk_core.specs.History.{never_first}
+use Rattle.mk_caller.specs.States.{Admits, CallerState, at_home}
 use Rattle.mk_heap.specs.Hosts.{AllAreJoined, HostState, first_host, pass_for, with_caller_made, with_joined, with_seen}
+use Rattle.mk_heap.specs.{Clients.IsPassOf, Ending.SaysOver}
+use Rattle.mk_words.{proofs.Seats.has_right, specs.Seats.Has, specs.Seats.has_over, specs.Seats.is_over}
+use Rattle.mk_words.{specs.States.PassState, specs.States.WordsState, specs.States.event_of, specs.Steps.Makes}
 
 -- Each caller has eight registers, whatever happened.
 registers_are : (c : Config) (es : List Event) → length (never_behind c es).registers ≡ 8 * c.callers
 registers_are c es = (calls_stay (never_first c) (asked (calls c es))).registers ∙ length-replicate (8 * c.callers) Null
 
-pub may_clear : (p : PassState) (d : ℕ) → IsPassOf p.table p → d < 8 → Admits p (op.Clear d)
+pub may_clear : (p : PassState) (d : ℕ) → IsPassOf p.table p → d < 8 → Admits p (Op.Clear d)
 may_clear p d of small =
     let count = registers_are p.table.config p.seen in
     let number : caller_number p.seat ≡ of.number = ap caller_number of.seat in
@@ -98,11 +84,11 @@ one_is_joined w first made h joined over p seen later is_first is_made is seats 
 over_before : (xs ys : List Event) → has_over xs ≡ true → has_over (xs ++ ys) ≡ true
 over_before xs ys h = list_any-append (λ (e : Event). is_over e.step) xs ys ∙ ap (λ (b : Bool). b || has_over ys) h
 
-over_last : (p q : PassState) → Makes p step.Over q → has_over q.seen ≡ true
+over_last : (p q : PassState) → Makes p Step.Over q → has_over q.seen ≡ true
 over_last p q m =
     let es : List Event = p.seen ++ m.others in
     ap (λ (r : PassState). has_over r.seen) m.is
-    ∙ list_any-append (λ (e : Event). is_over e.step) es (event_of p step.Over ∷ [])
+    ∙ list_any-append (λ (e : Event). is_over e.step) es (event_of p Step.Over ∷ [])
     ∙ either (has_over es)
   where
     either : (b : Bool) → (b || true) ≡ true
@@ -112,5 +98,5 @@ over_last p q m =
 pub has_said_over : (p q : PassState) → SaysOver p q → has_over q.seen ≡ true
 has_said_over p q o =
     ap (λ (r : PassState). has_over r.seen) o.gives.is
-    ∙ over_before (o.said.seen ++ o.gives.others) (event_of o.said step.Give ∷ [])
+    ∙ over_before (o.said.seen ++ o.gives.others) (event_of o.said Step.Give ∷ [])
     (over_before o.said.seen o.gives.others (over_last o.idle o.said o.says))

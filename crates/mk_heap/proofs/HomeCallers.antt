@@ -1,33 +1,18 @@
 -- Where all callers are home, nobody makes a step of the turn's holder while the host waits for the turn: the phase
 -- stays.
-use Rattle.std.proofs.Common.{◌≡◌, ℕ, ◌<◌, ◌≤◌, Bool, true, false, List, [], ◌∷◌, ◌++◌, refl, sym, ◌∙◌, ap, subst}
-use Rattle.std.proofs.Common.{⊎_elim}
-use Rattle.std.specs.Prelude.{not, ◌&&◌, ◌||◌, None}
-use Rattle.std.specs.List.{list_all, list_any}
-use Rattle.std.proofs.lemmas.Bool.{and_parts, cases_lt, ltb-true, not-true, or_cases, or_from, or_parts, true≢false}
-use Rattle.mk_core.specs.declared.config.Config.{Config}
-use Rattle.mk_core.specs.declared.events.Event.{Event}
-use Rattle.mk_core.specs.declared.events.Group.{Group}
-use Rattle.mk_core.specs.declared.events.Group.TheVariants as group
-use Rattle.mk_core.specs.declared.events.Seat.{Seat}
-use Rattle.mk_core.specs.declared.events.Seat.TheVariants.{Caller, Marker, Host}
-use Rattle.mk_core.specs.declared.events.Step.{Step}
-use Rattle.mk_core.specs.declared.events.Step.TheVariants as step
-use Rattle.mk_core.specs.Growing.{AreOfOthers, is_one_of, is_same_seat}
-use Rattle.mk_core.specs.History.{AreEnabledFrom, IsHistory, World, left, left_from, world_behind}
-use Rattle.mk_core.specs.Moments.{Moment}
-use Rattle.mk_core.specs.Order.{group_of, is_of_turn, is_open_to, seat_exists}
-use Rattle.mk_core.specs.Words.{phase_of}
-use Rattle.mk_core.proofs.Conditions.{enabled_meets}
-use Rattle.mk_core.proofs.HistoryParts.{enabled_in_parts, left_in_parts}
-use Rattle.mk_laws.proofs.Actors.{Meets, is_holders}
-use Rattle.mk_laws.proofs.CyclePhases.{moves_phase, phase_behind}
-use Rattle.mk_words.specs.Seats.{Has, HasCallers}
-use Rattle.mk_words.specs.States.{PassState, now_of}
-use Rattle.mk_waiting.specs.Taking.{TakesTurn, Waits, is_take, waits_for}
+use Rattle.std.{proofs.Common.⊎_elim, specs.List.list_all}
+use Rattle.mk_laws.proofs.Vocabulary.{Bool, Caller, Config, Event, Group, Host, IsHistory, List, Marker, Moment, None}
+use Rattle.mk_laws.proofs.Vocabulary.{Seat, Step, World, ℕ, and_parts, ap, cases_lt, enabled_in_parts, enabled_meets}
+use Rattle.mk_laws.proofs.Vocabulary.{false, group_of, is_of_turn, is_one_of, is_open_to, left, left_in_parts, list_any}
+use Rattle.mk_laws.proofs.Vocabulary.{ltb-true, not, not-true, or_cases, or_from, or_parts, phase_of, refl, seat_exists}
+use Rattle.mk_laws.proofs.Vocabulary.{subst, sym, true, true≢false, world_behind, [], ◌&&◌, ◌++◌, ◌<◌, ◌||◌, ◌∙◌, ◌∷◌}
+use Rattle.mk_laws.proofs.Vocabulary.{◌≡◌, ◌≤◌}
+use Rattle.mk_core.specs.{Growing.AreOfOthers, Growing.is_same_seat, History.AreEnabledFrom, History.left_from}
+use Rattle.mk_laws.proofs.{Actors.Meets, Actors.is_holders, CyclePhases.moves_phase, CyclePhases.phase_behind}
+use Rattle.mk_heap.specs.{Ending.CallersAreJoined, Hosts.HostState, Hosts.IsHost}
 use Rattle.mk_waiting.proofs.Waiting.{waits_more}
-use Rattle.mk_heap.specs.Ending.{CallersAreJoined}
-use Rattle.mk_heap.specs.Hosts.{HostState, IsHost}
+use Rattle.mk_waiting.specs.Taking.{TakesTurn, Waits, is_take, waits_for}
+use Rattle.mk_words.specs.{Seats.Has, Seats.HasCallers, States.PassState, States.now_of}
 
 -- Callers that weren't made are home, and those that were are joined.
 pub callers_home : (h : HostState) → IsHost h → CallersAreJoined h → HasCallers h.pass.table.config h.pass.seats
@@ -38,19 +23,19 @@ callers_home h is joined = λ k lt.
 abbrev pub HoldersStepNone : List Event → Type 0
 HoldersStepNone es = list_any (λ (e : Event). is_holders e.step) es ≡ false
 
-markers_group : (k : ℕ) (g : Group) → is_open_to (Marker k) g ≡ true → g ≡ group.Markers
-markers_group k group.Callers h = cc
-markers_group k group.Turn h = cc
-markers_group k group.Host h = cc
-markers_group k group.Markers h = refl
+markers_group : (k : ℕ) (g : Group) → is_open_to (Marker k) g ≡ true → g ≡ Group.Markers
+markers_group k Group.Callers h = cc
+markers_group k Group.Turn h = cc
+markers_group k Group.Host h = cc
+markers_group k Group.Markers h = refl
 
-of_markers : (x : Step) → group_of x ≡ group.Markers → is_holders x ≡ false
-of_markers (step.Take o) g = refl
-of_markers step.Over g = cc
+of_markers : (x : Step) → group_of x ≡ Group.Markers → is_holders x ≡ false
+of_markers (Step.Take o) g = refl
+of_markers Step.Over g = cc
 of_markers x g = ap is_of_turn g
 
 take_is_none : (x : Step) → is_take x ≡ true → is_holders x ≡ false
-take_is_none (step.Take o) h = refl
+take_is_none (Step.Take o) h = refl
 take_is_none _ h = cc
 
 module _ (p : PassState) (c : Config) (host : Has p.seats Host) (callers : HasCallers c p.seats) where
@@ -94,12 +79,12 @@ module _ (p : PassState) (c : Config) (host : Has p.seats Host) (callers : HasCa
 -- The phase stays where no holder steps.
 
 stays_there : (x : Step) (n : ℕ) → is_holders x ≡ false → phase_behind x n ≡ n
-stays_there step.Begin n h = cc
-stays_there step.Want n h = cc
-stays_there step.Close n h = cc
-stays_there step.Release n h = cc
-stays_there step.End n h = cc
-stays_there step.Over n h = cc
+stays_there Step.Begin n h = cc
+stays_there Step.Want n h = cc
+stays_there Step.Close n h = cc
+stays_there Step.Release n h = cc
+stays_there Step.End n h = cc
+stays_there Step.Over n h = cc
 stays_there _ n h = refl
 
 pub phase_kept : (c : Config) (w : World) (es : List Event) → AreEnabledFrom c w es → HoldersStepNone es

@@ -1,24 +1,17 @@
 -- What always holds of the host holds of the first, and is kept where a caller or a marker is made or joined.
-use Rattle.std.proofs.Common.{◌≡◌, ℕ, ◌+◌, ◌<◌, ◌≤◌, List, [], ◌∷◌, get_or, replicate, refl, sym, ◌∙◌, ap, subst}
-use Rattle.std.proofs.Common.{⊎_elim, arith}
-use Rattle.std.specs.Prelude.{Option, Some, None, IsSome}
-use Rattle.std.proofs.lemmas.Bool.{ne_eqb, lt-ltb, cases_lt, ltb-true}
-use Rattle.std.proofs.lemmas.List.{get_or-replicate, get_or_past, length-replicate}
-use Rattle.mk_core.specs.declared.config.Config.{Config}
-use Rattle.mk_core.specs.declared.events.Event.{Event}
-use Rattle.mk_core.specs.declared.events.Seat.{Seat}
-use Rattle.mk_core.specs.declared.events.Seat.TheVariants.{Caller, Marker, Host}
-use Rattle.mk_core.specs.Calls.{at_rest}
-use Rattle.mk_core.specs.Growing.{Grows}
-use Rattle.mk_core.specs.History.{left, left_from, IsHistory}
-use Rattle.mk_core.specs.Moments.{first_moment, marker_at, outside}
-use Rattle.mk_words.specs.Seats.{Has, HasAll}
-use Rattle.mk_words.specs.States.{WordsState, PassState, now_of}
-use Rattle.mk_words.proofs.Seats.{has_all, has_either, has_left, only_one, without_keeps, without_less}
+use Rattle.std.proofs.Common.{IsSome, replicate, ⊎_elim}
+use Rattle.std.proofs.lemmas.List.{get_or-replicate, length-replicate}
+use Rattle.mk_laws.proofs.Vocabulary.{Caller, Config, Event, Host, IsHistory, List, Marker, None, Option, Seat, Some, ℕ}
+use Rattle.mk_laws.proofs.Vocabulary.{ap, arith, at_rest, cases_lt, first_moment, get_or, get_or_past, left, lt-ltb}
+use Rattle.mk_laws.proofs.Vocabulary.{ltb-true, marker_at, ne_eqb, outside, refl, subst, sym, [], ◌+◌, ◌<◌, ◌∙◌, ◌∷◌}
+use Rattle.mk_laws.proofs.Vocabulary.{◌≡◌, ◌≤◌}
+use Rattle.mk_core.specs.{Growing.Grows, History.left_from}
 use Rattle.mk_caller.specs.States.{IsIdleCaller}
-use Rattle.mk_heap.specs.Hosts.{HostState, host_of, IsWholeHost, pass_for, first_host, with_caller_made}
-use Rattle.mk_heap.specs.Hosts.{with_caller_out, with_marker_made, with_joined, AllAreJoined, Rests, IsDone, IsHost}
-use Rattle.mk_heap.proofs.Joining.{still_rests, still_no_turn}
+use Rattle.mk_heap.proofs.Joining.{still_no_turn, still_rests}
+use Rattle.mk_heap.specs.Hosts.{AllAreJoined, HostState, IsDone, IsHost, IsWholeHost, Rests, first_host, host_of}
+use Rattle.mk_heap.specs.Hosts.{pass_for, with_caller_made, with_caller_out, with_joined, with_marker_made}
+use Rattle.mk_words.proofs.Seats.{has_all, has_either, has_left, only_one, without_keeps, without_less}
+use Rattle.mk_words.specs.{Seats.Has, Seats.HasAll, States.PassState, States.WordsState, States.now_of}
 
 all_same : {A : Type 0} (n k : ℕ) (x : A) → get_or (replicate n x) k x ≡ x
 all_same n k x =

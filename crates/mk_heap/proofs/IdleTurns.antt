@@ -1,37 +1,20 @@
 -- The host's turn before an `over`: whether a cycle is on, and that none is after the end of one.
-use Rattle.std.proofs.Common.{◌≡◌, ◌⊎◌, ℕ, zero, suc, ◌≤◌, ◌%◌, true, false, List, refl, sym, ap, subst, ◌∙◌, inl, inr}
-use Rattle.std.proofs.Common.{arith}
-use Rattle.std.specs.Prelude.{not, None}
-use Rattle.std.proofs.lemmas.Bool.{true≢false}
-use Rattle.mk_core.specs.declared.config.Config.{Config}
-use Rattle.mk_core.specs.declared.events.Seat.TheVariants.{Host}
-use Rattle.mk_core.specs.declared.events.Step.TheVariants as step
-use Rattle.mk_core.specs.declared.events.Word.TheVariants as word
-use Rattle.mk_core.specs.declared.seats.Holding.{Holding}
-use Rattle.mk_core.specs.Allocations.{PlacedAllocation, held_by_allocations, fresh_words_of}
-use Rattle.mk_core.specs.Counts.{TalliesAreExact, TalliesAreTidy, full_answers, in_a_word, releases}
-use Rattle.mk_core.specs.Frames.{Steady}
-use Rattle.mk_core.specs.History.{IsHistory}
-use Rattle.mk_core.specs.Moments.{is_held, none_is_held}
-use Rattle.mk_core.specs.NewPlaces.{is_run_gone}
-use Rattle.mk_core.specs.Words.{phase_of}
-use Rattle.mk_core.proofs.AllBelow.{all_below-at}
-use Rattle.mk_laws.specs.Protocol.{has_place}
+use Rattle.mk_laws.proofs.Vocabulary.{Config, Holding, Host, IsHistory, List, None, PlacedAllocation, Steady, Step}
+use Rattle.mk_laws.proofs.Vocabulary.{TalliesAreTidy, Word, ℕ, all_below-at, ap, arith, false, fresh_words_of}
+use Rattle.mk_laws.proofs.Vocabulary.{has_place, in_a_word, inl, inr, is_held, is_run_gone, not, phase_of, refl, subst}
+use Rattle.mk_laws.proofs.Vocabulary.{suc, sym, true, true≢false, zero, ◌%◌, ◌∙◌, ◌≡◌, ◌≤◌, ◌⊎◌}
+use Rattle.mk_core.specs.Counts.{TalliesAreExact, full_answers, releases}
+use Rattle.mk_core.specs.{Allocations.held_by_allocations, Moments.none_is_held}
 use Rattle.mk_laws.proofs.Asked.{give_phase}
-use Rattle.mk_words.specs.Seats.{has_over}
-use Rattle.mk_words.specs.States.{PassState, now_of, world_of}
-use Rattle.mk_words.specs.Steps.{Finds}
-use Rattle.mk_words.specs.TurnSteps.{Acts, IsFresh}
-use Rattle.mk_words.proofs.Made.{made}
-use Rattle.mk_words.proofs.OverPhases.{end_is_behind_over}
-use Rattle.mk_cycle.specs.BeginCycle.{BeginsCycle}
-use Rattle.mk_cycle.specs.EngineLaw.{IsAtPhase, IsFreeForCycle, is_pending_free}
-use Rattle.mk_cycle.specs.FinishCycle.{FinishesCycle}
-use Rattle.mk_cycle.specs.TurnKeeps.{Done, InTurn, KeepsGates, LeavesTurn, but_phase, unchanged}
-use Rattle.mk_cycle.proofs.BeginSteps.{all_from}
-use Rattle.mk_cycle.proofs.CleaningSteps.{calm_keeps}
 use Rattle.mk_cycle.proofs.KeptInParts.{free_then, gates_behind, keeps_less, same_config}
+use Rattle.mk_cycle.proofs.{BeginSteps.all_from, CleaningSteps.calm_keeps}
+use Rattle.mk_cycle.specs.EngineLaw.{IsAtPhase, IsFreeForCycle, is_pending_free}
+use Rattle.mk_cycle.specs.TurnKeeps.{Done, InTurn, KeepsGates, LeavesTurn, but_phase, unchanged}
+use Rattle.mk_cycle.specs.{BeginCycle.BeginsCycle, FinishCycle.FinishesCycle}
 use Rattle.mk_heap.specs.Ending.{EndsCycle, IsIdleTurn}
+use Rattle.mk_words.proofs.{Made.made, OverPhases.end_is_behind_over}
+use Rattle.mk_words.specs.States.{PassState, now_of, world_of}
+use Rattle.mk_words.specs.{Seats.has_over, Steps.Finds, TurnSteps.Acts, TurnSteps.IsFresh}
 
 at_most_one : (n : ℕ) → n ≤ 1 → (n ≡ 0) ⊎ (n ≡ 1)
 at_most_one zero le = inl refl
@@ -57,27 +40,27 @@ fresh_free p f =
 
 -- The look at the phase finds it, and keeps all.
 
-pub phase_found : (p q : PassState) (n : ℕ) → InTurn p → Finds p (step.Look word.Phase) n q
+pub phase_found : (p q : PassState) (n : ℕ) → InTurn p → Finds p (Step.Look Word.Phase) n q
     → n % 8 ≡ phase_of (now_of p).words
 phase_found p q n t f =
-    let there = made p (step.Look word.Phase) q f.makes in
+    let there = made p (Step.Look Word.Phase) q f.makes in
     ap (λ (i : ℕ). i % 8) f.finds ∙ ap (λ (s : Steady). s.phase) ((there.frame.turn t.holds).0).steady
 
-pub look_keeps : (p q : PassState) → InTurn p → IsFreeForCycle p → Acts p (step.Look word.Phase) q
+pub look_keeps : (p q : PassState) → InTurn p → IsFreeForCycle p → Acts p (Step.Look Word.Phase) q
     → LeavesTurn unchanged p q
 look_keeps p q t free a =
-    calm_keeps p (step.Look word.Phase) q a t a.makes.pass.history refl free unchanged refl
+    calm_keeps p (Step.Look Word.Phase) q a t a.makes.pass.history refl free unchanged refl
 
 -- So it reports whether a cycle is on, which is finished then.
 
 pub none_is_on : (p q : PassState) (n : ℕ) → InTurn p → IsFresh p None → has_over p.seen ≡ false
-    → Finds p (step.Look word.Phase) n q → (n % 8 ≡ 1 → ⊥) → IsAtPhase p 0
+    → Finds p (Step.Look Word.Phase) n q → (n % 8 ≡ 1 → ⊥) → IsAtPhase p 0
 none_is_on p q n t fresh before f other = elim (fresh_phase p fresh t.history before) [
   | inl none ↦ none
   | inr on ↦ absurd (other (phase_found p q n t f ∙ on))
 ]
 
-pub ends_none : (p q : PassState) (n : ℕ) → Finds p (step.Look word.Phase) n q → IsAtPhase p 0 → EndsCycle p q
+pub ends_none : (p q : PassState) (n : ℕ) → Finds p (Step.Look Word.Phase) n q → IsAtPhase p 0 → EndsCycle p q
 ends_none p q n f none =
     record {
       looked = q;
@@ -87,7 +70,7 @@ ends_none p q n f none =
       on = λ (one : IsAtPhase p 1). absurd (omega arith);
     }
 
-pub ends_one : (p q r : PassState) (n : ℕ) → Finds p (step.Look word.Phase) n q → IsAtPhase p 1 → FinishesCycle q r
+pub ends_one : (p q r : PassState) (n : ℕ) → Finds p (Step.Look Word.Phase) n q → IsAtPhase p 1 → FinishesCycle q r
     → EndsCycle p r
 ends_one p q r n f on law =
     record {
@@ -145,7 +128,7 @@ none_held_kept p q is keeps none =
 -- What is idle: a turn in which the look found no cycle on, and one in which a cycle was finished.
 
 pub looked_idle : (p q : PassState) → p.seat ≡ Host → InTurn p → IsFresh p None
-    → Acts p (step.Look word.Phase) q → IsAtPhase p 0 → TalliesAreExact p.table.config p.seen
+    → Acts p (Step.Look Word.Phase) q → IsAtPhase p 0 → TalliesAreExact p.table.config p.seen
     → TalliesAreTidy p.table.config p.seen → IsIdleTurn q
 looked_idle p q host t f a none exact tidy =
     let keeps = look_keeps p q t (fresh_free p f) a in
@@ -154,7 +137,7 @@ looked_idle p q host t f a none exact tidy =
       seat = ap (λ (r : PassState). r.seat) keeps.call.pass ∙ host;
       phase = ap (λ (s : Steady). s.phase) keeps.steady ∙ none;
       free = free_then p q keeps.call (fresh_free p f);
-      gates = none_held_kept p q keeps.call.pass (gates_behind p (step.Look word.Phase) q a refl) f.gates;
+      gates = none_held_kept p q keeps.call.pass (gates_behind p (Step.Look Word.Phase) q a refl) f.gates;
       exact = exact_kept p q less exact;
       tidy = tidy_kept p q less tidy;
     }

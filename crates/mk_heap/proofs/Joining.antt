@@ -1,36 +1,22 @@
 -- What the host knows still holds after the events of others.
-use Rattle.std.proofs.Common.{◌≡◌, Bool, true, false, not, List, ◌++◌, refl, sym, ◌∙◌, ap, subst}
-use Rattle.std.specs.Prelude.{None}
-use Rattle.atomic_table.specs.Seated.{TableId}
-use Rattle.mk_core.specs.declared.config.Config.{Config}
-use Rattle.mk_core.specs.declared.events.Event.{Event}
-use Rattle.mk_core.specs.declared.events.Seat.{Seat}
-use Rattle.mk_core.specs.declared.events.Seat.TheVariants.{Host}
-use Rattle.mk_core.specs.declared.events.Step.TheVariants as step
-use Rattle.mk_core.specs.Enabled.{IsEnabled}
-use Rattle.mk_core.specs.Growing.{Grows}
-use Rattle.mk_core.specs.History.{first_world, left, IsHistory}
-use Rattle.mk_core.specs.Moments.{Moment}
-use Rattle.mk_core.specs.Order.{host_has_turn}
-use Rattle.mk_core.proofs.Conditions.{enabled_meets, meets_enabled}
-use Rattle.mk_core.proofs.Histories.{last_enabled}
-use Rattle.mk_core.proofs.HistoryParts.{earlier_part_is_history}
+use Rattle.mk_laws.proofs.Vocabulary.{Bool, Config, Event, Host, IsEnabled, IsHistory, List, Moment, None, Seat, Step}
+use Rattle.mk_laws.proofs.Vocabulary.{ap, earlier_part_is_history, enabled_meets, false, first_world, host_has_turn}
+use Rattle.mk_laws.proofs.Vocabulary.{left, not, refl, subst, sym, true, ◌++◌, ◌∙◌, ◌≡◌}
+use Rattle.mk_core.{proofs.Conditions.meets_enabled, proofs.Histories.last_enabled, specs.Growing.Grows}
 use Rattle.mk_laws.proofs.ProtocolFrames.{others_leave}
-use Rattle.mk_words.specs.Seats.{Has}
-use Rattle.mk_words.specs.States.{PassState}
-use Rattle.mk_words.proofs.LongerLists.{longer_lists}
-use Rattle.mk_words.proofs.Owed.{history_more}
-use Rattle.mk_words.proofs.Seats.{others_own}
+use Rattle.atomic_table.specs.Seated.{TableId}
 use Rattle.mk_heap.specs.Hosts.{Rests}
+use Rattle.mk_words.proofs.{LongerLists.longer_lists, Owed.history_more, Seats.others_own}
+use Rattle.mk_words.specs.{Seats.Has, States.PassState}
 
 abbrev take_of_host : Event
-take_of_host = record { seat = Host; step = step.Take None }
+take_of_host = record { seat = Host; step = Step.Take None }
 
 -- The host may take the turn, where it hasn't it.
 pub host_may_take : (c : Config) (m : Moment) → host_has_turn c m ≡ false
-    → IsEnabled c m (record { seat = Host; step = step.Take None })
+    → IsEnabled c m (record { seat = Host; step = Step.Take None })
 host_may_take c m no_turn =
-    meets_enabled c m (record { seat = Host; step = step.Take None }) (record {
+    meets_enabled c m (record { seat = Host; step = Step.Take None }) (record {
       seat = refl;
       kind = refl;
       order = ap not no_turn;
@@ -68,7 +54,7 @@ still_no_turn id c seats es fs h g has no_turn =
     let whole = begins c seats es fs h g in
     let before = earlier_part_is_history c es g.more whole in
     let p : PassState = record { table = record { id = id; config = c }; seat = Host; seats = seats; seen = es } in
-    let short = history_more p (step.Take None) before
+    let short = history_more p (Step.Take None) before
     (record { enabled = host_may_take c (left c es).now no_turn; admitted = λ e. cc; tidy = λ e. cc; home = λ e. cc })
     in
     let long = longer_lists c es g.more take_of_host short whole (others_own seats Host g.more has g.of_others) in

@@ -1,14 +1,9 @@
 -- A marker that is made is out, and one that is out is done.
-use Rattle.std.proofs.Common.{◌≡◌, ◌<◌, [], ◌∷◌, refl, sym, ap, subst, arith}
-use Rattle.mk_core.specs.declared.events.Seat.{Seat}
-use Rattle.mk_core.specs.declared.events.Seat.TheVariants.{Marker}
-use Rattle.mk_core.specs.Config.{IsWithinLimits}
-use Rattle.mk_core.specs.History.{IsHistory}
-use Rattle.mk_core.specs.Moments.{flight_of, marker_at, outside}
+use Rattle.mk_laws.proofs.Vocabulary.{IsHistory, IsWithinLimits, Marker, Seat, ap, arith, flight_of, marker_at, outside}
+use Rattle.mk_laws.proofs.Vocabulary.{refl, subst, sym, [], ◌<◌, ◌∷◌, ◌≡◌}
+use Rattle.mk_heap.specs.Hosts.{HostState, IsDone, IsHost, pass_for}
+use Rattle.mk_marker.{proofs.OutMarkers.out_is_outside, specs.Markers.IsMarkers, specs.Markers.IsOut}
 use Rattle.mk_words.specs.States.{PassState, WordsState, now_of}
-use Rattle.mk_marker.specs.Markers.{IsMarkers, IsOut}
-use Rattle.mk_marker.proofs.OutMarkers.{out_is_outside}
-use Rattle.mk_heap.specs.Hosts.{HostState, pass_for, IsDone, IsHost}
 
 -- A marker that is out is done.
 pub out_is_done : (p : PassState) → IsHistory p.table.config p.seen → p.seats ≡ p.seat ∷ [] → IsMarkers p → IsOut p

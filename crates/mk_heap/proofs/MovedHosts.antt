@@ -1,31 +1,19 @@
 -- The host's pass goes on: it waits for the turn, and makes steps of its own.
-use Rattle.std.proofs.Common.{◌≡◌, ◌⊎◌, Bool, true, false, not, ◌||◌, ◌&&◌, List, [], ◌∷◌, ◌++◌, refl, sym, ◌∙◌, ap}
-use Rattle.std.proofs.Common.{subst, inl, inr, append_assoc}
-use Rattle.std.specs.Prelude.{None}
 use Rattle.std.specs.List.{list_all}
-use Rattle.std.proofs.lemmas.Bool.{and_parts, not-true, or_cases, true≢false}
-use Rattle.mk_core.specs.declared.events.Event.{Event}
-use Rattle.mk_core.specs.declared.events.Seat.{Seat}
-use Rattle.mk_core.specs.declared.events.Seat.TheVariants.{Caller, Marker, Host}
-use Rattle.mk_core.specs.declared.events.Step.{Step}
-use Rattle.mk_core.specs.declared.events.Step.TheVariants as step
-use Rattle.mk_core.specs.declared.events.Word.TheVariants as word
-use Rattle.mk_core.specs.Growing.{AreOfOthers, is_one_of, is_same_seat}
-use Rattle.mk_core.specs.History.{left, IsHistory}
-use Rattle.mk_core.specs.Order.{host_has_turn}
-use Rattle.mk_words.specs.Seats.{Has}
-use Rattle.mk_words.specs.States.{PassState, now_of, event_of}
-use Rattle.mk_words.specs.Steps.{Makes}
-use Rattle.mk_words.proofs.Seats.{has_not, others_append, others_one, others_own, only_one, same_seat, same_self}
-use Rattle.mk_turns.specs.Doing.{AreOwnOrOfOthers, Does}
-use Rattle.mk_waiting.specs.Taking.{TakesTurn, Waits, is_take, waits_for}
-use Rattle.mk_waiting.proofs.Waiting.{joined_lists, waits_more}
-use Rattle.mk_cycle.specs.BeginCycle.{BeginsCycle}
-use Rattle.mk_cycle.specs.FinishCycle.{FinishesCycle}
-use Rattle.mk_cycle.specs.Kinds.{begins_marking, clears, closes_marks, is_giving_back, holds_gates, sets_tallies}
-use Rattle.mk_heap.specs.Ending.{TakesIdleTurn}
-use Rattle.mk_heap.specs.Hosts.{HostState, IsHost, Rests}
+use Rattle.mk_laws.proofs.Vocabulary.{Bool, Caller, Event, Host, IsHistory, List, Marker, None, Seat, Step, Word}
+use Rattle.mk_laws.proofs.Vocabulary.{and_parts, ap, append_assoc, false, host_has_turn, inl, inr, is_one_of, left, not}
+use Rattle.mk_laws.proofs.Vocabulary.{not-true, or_cases, refl, subst, sym, true, true≢false, [], ◌&&◌, ◌++◌, ◌||◌, ◌∙◌}
+use Rattle.mk_laws.proofs.Vocabulary.{◌∷◌, ◌≡◌, ◌⊎◌}
+use Rattle.mk_core.specs.Growing.{AreOfOthers, is_same_seat}
+use Rattle.mk_cycle.specs.Kinds.{begins_marking, clears, closes_marks, holds_gates, is_giving_back, sets_tallies}
+use Rattle.mk_cycle.specs.{BeginCycle.BeginsCycle, FinishCycle.FinishesCycle}
 use Rattle.mk_heap.proofs.Joining.{still_rests}
+use Rattle.mk_heap.specs.{Ending.TakesIdleTurn, Hosts.HostState, Hosts.IsHost, Hosts.Rests}
+use Rattle.mk_turns.specs.Doing.{AreOwnOrOfOthers, Does}
+use Rattle.mk_waiting.proofs.Waiting.{joined_lists, waits_more}
+use Rattle.mk_waiting.specs.Taking.{TakesTurn, Waits, is_take, waits_for}
+use Rattle.mk_words.proofs.Seats.{has_not, only_one, others_append, others_one, others_own, same_seat, same_self}
+use Rattle.mk_words.specs.{Seats.Has, States.PassState, States.event_of, States.now_of, Steps.Makes}
 
 -- The host's pass has seen more: no event of a seat that is home, but for its own.
 pub record MovesOn (p q : PassState) : Type 0 where
@@ -113,22 +101,22 @@ finish_moves p q r v f =
     let closing : MovesOn p release.closing =
     moves_does closes_marks p m.held release.closing held release.marks.does in
     let closed : MovesOn p release.closed =
-    moves_more p release.closing release.closed step.Close closing release.close in
-    let released : MovesOn p m.released = moves_more p release.closed m.released step.Release closed release.release in
+    moves_more p release.closing release.closed Step.Close closing release.close in
+    let released : MovesOn p m.released = moves_more p release.closed m.released Step.Release closed release.release in
     let freed : MovesOn p m.freed = moves_does is_giving_back p m.released m.freed released m.frees in
-    moves_does sets_tallies p m.ended r (moves_more p m.freed m.ended step.End freed m.end) m.behind
+    moves_does sets_tallies p m.ended r (moves_more p m.freed m.ended Step.End freed m.end) m.behind
 
 pub begin_moves : (p q r : PassState) → MovesOn p q → BeginsCycle q r → MovesOn p r
 begin_moves p q r v b =
     let m = b.makes in
     let cleared : MovesOn p m.cleared = moves_does clears p q m.cleared v m.before in
-    moves_does begins_marking p m.begun r (moves_more p m.cleared m.begun step.Begin cleared m.begin) m.behind
+    moves_does begins_marking p m.begun r (moves_more p m.cleared m.begun Step.Begin cleared m.begin) m.behind
 
 pub idle_moves : (p q : PassState) → TakesIdleTurn p q → MovesOn p q
 idle_moves p q t =
     let e = t.ends in
     let looked : MovesOn p e.looked =
-    moves_more p t.taken e.looked (step.Look word.Phase) (turn_moves p t.taken t.takes) e.looks in
+    moves_more p t.taken e.looked (Step.Look Word.Phase) (turn_moves p t.taken t.takes) e.looks in
     elim e.phase [
       | inl none ↦ subst (λ (r : PassState). MovesOn p r) (sym (e.none none)) looked
       | inr on ↦ finish_moves p e.looked q looked (e.on on)

@@ -1,48 +1,30 @@
 -- The host says that all is over, and gives its turn back.
-use Rattle.std.proofs.Common.{◌≡◌, ◌⊎◌, ℕ, ◌+◌, ◌/◌, ◌%◌, ◌^◌, ◌≤◌, Bool, true, false, refl, ap, subst, ◌∙◌, inl, inr}
-use Rattle.std.proofs.Common.{arith}
-use Rattle.std.specs.Prelude.{◌&&◌, ◌==◌, count_by}
-use Rattle.std.proofs.lemmas.Bool.{and_from, eq-eqb, ne_eqb}
-use Rattle.std.proofs.lemmas.List.Sums.{count_by-le-length}
-use Rattle.mk_core.specs.declared.events.Seat.{Seat}
-use Rattle.mk_core.specs.declared.events.Seat.TheVariants.{Host}
-use Rattle.mk_core.specs.declared.events.Step.TheVariants as step
-use Rattle.mk_core.specs.Counts.{TalliesAreExact}
-use Rattle.mk_core.specs.Frames.{Steady}
-use Rattle.mk_core.specs.History.{World}
-use Rattle.mk_core.specs.Moments.{Moment, flight_of, none_is_held}
-use Rattle.mk_core.specs.NewPlaces.{is_run_gone}
-use Rattle.mk_core.specs.Ranges.{has_phase}
-use Rattle.mk_core.specs.Readings.{is_in}
-use Rattle.mk_core.specs.TurnConditions.{is_decided, held_by_pages}
-use Rattle.mk_core.specs.Words.{phase_of}
-use Rattle.mk_laws.specs.SettledPages.{IsSettled}
-use Rattle.mk_laws.proofs.Settled.{gone_is_unmapped}
-use Rattle.mk_laws.proofs.Asked.{give_phase}
-use Rattle.mk_words.specs.States.{PassState, call_of, now_of, world_of}
-use Rattle.mk_words.specs.Steps.{IsEnabledTo}
-use Rattle.mk_words.specs.TurnSteps.{Acts, world_at}
-use Rattle.mk_words.proofs.Made.{made}
-use Rattle.mk_words.proofs.Tallies.{settled_tallies}
-use Rattle.mk_cycle.specs.EngineLaw.{IsAtPhase, IsFreeForCycle}
-use Rattle.mk_cycle.specs.TurnKeeps.{InTurn, LeavesTurn, but_phase}
-use Rattle.mk_cycle.proofs.Allowed.{protocol}
-use Rattle.mk_cycle.proofs.KeptInParts.{free_then, gates_behind}
-use Rattle.mk_cycle.proofs.MayAct.{may_act}
+use Rattle.std.proofs.{Common.count_by, lemmas.List.Sums.count_by-le-length}
+use Rattle.mk_laws.proofs.Vocabulary.{Bool, Host, IsSettled, Moment, Seat, Steady, Step, World, ℕ, and_from, ap, arith}
+use Rattle.mk_laws.proofs.Vocabulary.{eq-eqb, false, flight_of, has_phase, held_by_pages, inl, inr, is_decided, is_in}
+use Rattle.mk_laws.proofs.Vocabulary.{is_run_gone, ne_eqb, phase_of, refl, subst, true, ◌%◌, ◌&&◌, ◌+◌, ◌/◌, ◌==◌, ◌^◌}
+use Rattle.mk_laws.proofs.Vocabulary.{◌∙◌, ◌≡◌, ◌≤◌, ◌⊎◌}
+use Rattle.mk_core.specs.{Counts.TalliesAreExact, Moments.none_is_held}
+use Rattle.mk_laws.proofs.{Asked.give_phase, Settled.gone_is_unmapped}
 use Rattle.mk_cycle.proofs.OwnSteps.{keeps_call, keeps_counts, steady_behind}
-use Rattle.mk_heap.specs.Ending.{IsIdleTurn}
-use Rattle.mk_heap.proofs.IdleTurns.{exact_kept, none_held_kept}
+use Rattle.mk_cycle.proofs.{Allowed.protocol, KeptInParts.free_then, KeptInParts.gates_behind, MayAct.may_act}
+use Rattle.mk_cycle.specs.TurnKeeps.{InTurn, LeavesTurn, but_phase}
+use Rattle.mk_cycle.specs.EngineLaw.{IsAtPhase, IsFreeForCycle}
+use Rattle.mk_heap.{proofs.IdleTurns.exact_kept, proofs.IdleTurns.none_held_kept, specs.Ending.IsIdleTurn}
+use Rattle.mk_words.proofs.{Made.made, Tallies.settled_tallies}
+use Rattle.mk_words.specs.States.{PassState, call_of, now_of, world_of}
+use Rattle.mk_words.specs.{Steps.IsEnabledTo, TurnSteps.Acts, TurnSteps.world_at}
 
 over_phase : (n markers : ℕ) → n % 8 ≡ 0 → n / 8 ≡ markers → markers ≤ 8 → (n + 5) % 2 ^ 64 % 8 ≡ 5
 over_phase n markers none high few = omega arith
 
-module _ (p q : PassState) (t : InTurn p) (idle : IsIdleTurn p) (u : InTurn q) (a : Acts p step.Over q) where
+module _ (p q : PassState) (t : InTurn p) (idle : IsIdleTurn p) (u : InTurn q) (a : Acts p Step.Over q) where
   abbrev w : World
   w = world_at a.makes
 
   phase_there : (w.now.words.phase + 5) % 2 ^ 64 % 8 ≡ 5
   phase_there =
-      let there = (made p step.Over q a.makes).protocol in
+      let there = (made p Step.Over q a.makes).protocol in
       let low : w.now.words.phase % 8 ≡ 0 = ap (λ (s : Steady). s.phase) a.turn.steady ∙ idle.phase in
       let few : count_by is_in w.now.seats.markers ≤ 8 =
       subst (λ (n : ℕ). count_by is_in w.now.seats.markers ≤ n) there.markers
@@ -55,22 +37,22 @@ module _ (p q : PassState) (t : InTurn p) (idle : IsIdleTurn p) (u : InTurn q) (
   pub over_keeps : LeavesTurn but_phase p q
   over_keeps =
       record {
-        call = keeps_call p step.Over q a t.own t.holds u.history (λ n. refl) (λ n. refl) refl;
-        steady = steady_behind p step.Over q a t.own t.holds u.history but_phase (λ x. refl);
-        counts = keeps_counts p step.Over q a t.own t.holds u.history (λ n. refl) refl;
+        call = keeps_call p Step.Over q a t.own t.holds u.history (λ n. refl) (λ n. refl) refl;
+        steady = steady_behind p Step.Over q a t.own t.holds u.history but_phase (λ x. refl);
+        counts = keeps_counts p Step.Over q a t.own t.holds u.history (λ n. refl) refl;
       }
 
 -- What the host's turn is where it may be given back.
 pub record MayGive (p : PassState) : Type 0 where
   pub seat : p.seat ≡ Host
-  pub phase : has_phase (phase_of (now_of p).words) step.Give ≡ true
+  pub phase : has_phase (phase_of (now_of p).words) Step.Give ≡ true
   pub free : IsFreeForCycle p
   pub gates : none_is_held p.table.config.callers (now_of p).words ≡ true
   pub exact : TalliesAreExact p.table.config p.seen
 
-pub give_allowed : (p : PassState) → InTurn p → MayGive p → IsEnabledTo p step.Give
+pub give_allowed : (p : PassState) → InTurn p → MayGive p → IsEnabledTo p Step.Give
 give_allowed p t may =
-    may_act p step.Give (protocol p t may.free) t.holds may.free.decided refl refl may.gates may.phase
+    may_act p Step.Give (protocol p t may.free) t.holds may.free.decided refl refl may.gates may.phase
     (and_from (decided && gone && held) fresh
     (and_from (decided && gone) held (and_from decided gone rests may.free.gone)
     (eq-eqb m.words.held (held_by_pages m.words) tallies.0)) (eq-eqb m.words.fresh m.fresh_words tallies.1))
@@ -115,19 +97,19 @@ pub idle_may_give : (p : PassState) → IsIdleTurn p → MayGive p
 idle_may_give p idle =
     record {
       seat = idle.seat;
-      phase = ap (λ (n : ℕ). has_phase n step.Give) idle.phase;
+      phase = ap (λ (n : ℕ). has_phase n Step.Give) idle.phase;
       free = idle.free;
       gates = idle.gates;
       exact = idle.exact;
     }
 
-pub over_may_give : (p q : PassState) → InTurn p → IsIdleTurn p → InTurn q → Acts p step.Over q → MayGive q
+pub over_may_give : (p q : PassState) → InTurn p → IsIdleTurn p → InTurn q → Acts p Step.Over q → MayGive q
 over_may_give p q t idle u a =
     let keeps = over_keeps p q t idle u a in
     record {
       seat = ap (λ (r : PassState). r.seat) keeps.call.pass ∙ idle.seat;
-      phase = ap (λ (n : ℕ). has_phase n step.Give) (over_at_five p q t idle u a);
+      phase = ap (λ (n : ℕ). has_phase n Step.Give) (over_at_five p q t idle u a);
       free = free_then p q keeps.call idle.free;
-      gates = none_held_kept p q keeps.call.pass (gates_behind p step.Over q a refl) idle.gates;
+      gates = none_held_kept p q keeps.call.pass (gates_behind p Step.Over q a refl) idle.gates;
       exact = exact_kept p q keeps idle.exact;
     }

@@ -1,18 +1,12 @@
 -- The freed bits of the quarantine words are as many as the allocations that are freed and unreleased.
-use Rattle.std.proofs.Common.{◌≡◌, ◌≢◌, ℕ, zero, suc, ◌<◌, ◌^◌, count_ones, not, List, refl, sym, ◌∙◌, ap, arith}
-use Rattle.std.specs.Prelude.{◌%◌, slice_index}
-use Rattle.std.proofs.lemmas.Bool.{and_from, and_parts, not-true}
-use Rattle.mk_core.specs.declared.config.Config.{Config}
-use Rattle.mk_core.specs.declared.events.Event.{Event}
-use Rattle.mk_core.specs.Allocations.{PlacedAllocation, placed_at}
-use Rattle.mk_core.specs.Cycles.{is_quarantined}
-use Rattle.mk_core.specs.History.{IsHistory, left}
-use Rattle.mk_core.specs.Words.{Words, phase_of}
+use Rattle.std.proofs.Common.{count_ones}
+use Rattle.mk_laws.proofs.Vocabulary.{Config, Event, IsHistory, List, PlacedAllocation, Words, ℕ, and_from, and_parts}
+use Rattle.mk_laws.proofs.Vocabulary.{ap, arith, is_quarantined, left, not, not-true, phase_of, placed_at, refl}
+use Rattle.mk_laws.proofs.Vocabulary.{slice_index, suc, sym, zero, ◌%◌, ◌<◌, ◌^◌, ◌∙◌, ◌≡◌, ◌≢◌}
 use Rattle.mk_laws.proofs.InvariantHistories.{histories_keep_the_invariant}
-use Rattle.mk_words.specs.Finals.{freed_cells}
-use Rattle.mk_cycle.specs.ReleasedPages.{sum_below}
-use Rattle.mk_cycle.proofs.CellCounts.{AreTheirBits, cells_are_as_many}
+use Rattle.mk_cycle.{proofs.CellCounts.AreTheirBits, proofs.CellCounts.cells_are_as_many, specs.ReleasedPages.sum_below}
 use Rattle.mk_heap.specs.Reports.{quarantined}
+use Rattle.mk_words.specs.Finals.{freed_cells}
 
 abbrev freed_bits : Words → ℕ → ℕ
 freed_bits w p = slice_index w.freed p

@@ -1,47 +1,31 @@
 -- What the host asks where it tells a word: a look decides nothing, and the turn may be given back after it.
-use Rattle.std.proofs.Common.{◌≡◌, ◌+◌, false, List, [], ◌∷◌, ◌++◌, refl, sym, ◌∙◌, ap, subst, append-nil, arith}
-use Rattle.std.specs.Prelude.{None}
-use Rattle.std.proofs.lemmas.Bool.{ne_eqb}
-use Rattle.mk_core.specs.declared.config.Config.{Config}
-use Rattle.mk_core.specs.declared.events.Event.{Event}
-use Rattle.mk_core.specs.declared.events.Seat.{Seat}
-use Rattle.mk_core.specs.declared.events.Seat.TheVariants.{Host}
-use Rattle.mk_core.specs.declared.events.Step.TheVariants as step
-use Rattle.mk_core.specs.declared.events.Word.{Word}
-use Rattle.mk_core.specs.Counts.{TalliesAreTidy, in_a_word, releases}
-use Rattle.mk_core.specs.Decided.{Decided, asked}
-use Rattle.mk_core.specs.Frames.{Steady, steady_of, CountsAreLeft}
-use Rattle.mk_core.specs.Words.{phase_of}
-use Rattle.mk_core.specs.History.{World, first_world, left, IsHistory, never_first, calls}
-use Rattle.mk_core.specs.Order.{host_has_turn}
-use Rattle.mk_core.proofs.Histories.{calls_more}
-use Rattle.mk_core.specs.Counts.{TalliesAreExact}
-use Rattle.mk_core.specs.Ranges.{has_phase}
-use Rattle.mk_never.specs.Admitted.{AreAdmitted}
+use Rattle.mk_laws.proofs.Vocabulary.{AreAdmitted, Config, Decided, Event, Host, IsHistory, List, None, Seat, Steady}
+use Rattle.mk_laws.proofs.Vocabulary.{Step, TalliesAreTidy, Word, World, ap, append-nil, arith, asked, calls, false}
+use Rattle.mk_laws.proofs.Vocabulary.{first_world, has_phase, host_has_turn, in_a_word, left, ne_eqb, phase_of, refl}
+use Rattle.mk_laws.proofs.Vocabulary.{subst, sym, [], ◌++◌, ◌+◌, ◌∙◌, ◌∷◌, ◌≡◌}
+use Rattle.mk_core.{proofs.Histories.calls_more, specs.Counts.TalliesAreExact, specs.Counts.releases}
+use Rattle.mk_core.{specs.Frames.CountsAreLeft, specs.Frames.steady_of, specs.History.never_first}
 use Rattle.mk_laws.proofs.TallySteps.{CountsNothing}
-use Rattle.mk_words.specs.States.{PassState, now_of}
-use Rattle.mk_words.specs.Steps.{IsAdmittedTo}
-use Rattle.mk_words.specs.TurnSteps.{Acts, IsFresh}
-use Rattle.mk_words.proofs.Tallies.{counts_tidy_more}
-use Rattle.mk_cycle.specs.TurnKeeps.{InTurn, but_phase, unchanged}
-use Rattle.mk_cycle.proofs.CleaningSteps.{calm_keeps}
 use Rattle.mk_cycle.proofs.KeptInParts.{free_then, gates_behind, keeps_less}
-use Rattle.mk_heap.proofs.IdleTurns.{exact_kept, fresh_free, none_held_kept}
-use Rattle.mk_heap.proofs.Overs.{MayGive}
+use Rattle.mk_cycle.proofs.CleaningSteps.{calm_keeps}
+use Rattle.mk_cycle.specs.TurnKeeps.{InTurn, but_phase, unchanged}
+use Rattle.mk_heap.proofs.{IdleTurns.exact_kept, IdleTurns.fresh_free, IdleTurns.none_held_kept, Overs.MayGive}
+use Rattle.mk_words.proofs.Tallies.{counts_tidy_more}
+use Rattle.mk_words.specs.{States.PassState, States.now_of, Steps.IsAdmittedTo, TurnSteps.Acts, TurnSteps.IsFresh}
 
 -- No step of the host's decides a call.
 pub look_admitted : (p : PassState) (x : Word) → p.seat ≡ Host → IsHistory p.table.config p.seen
-    → IsAdmittedTo p (step.Look x)
+    → IsAdmittedTo p (Step.Look x)
 look_admitted p x host h =
     let c : Config = p.table.config in
     subst (λ (s : Seat). AreAdmitted c.globals (never_first c)
-    (asked (calls c (p.seen ++ record { seat = s; step = step.Look x } ∷ [])))) (sym host)
+    (asked (calls c (p.seen ++ record { seat = s; step = Step.Look x } ∷ [])))) (sym host)
     (subst (λ (xs : List Decided). AreAdmitted c.globals (never_first c) (asked xs))
-    (sym (calls_more c (first_world c) p.seen (record { seat = Host; step = step.Look x })
+    (sym (calls_more c (first_world c) p.seen (record { seat = Host; step = Step.Look x })
     ∙ append-nil (calls c p.seen))) h.admitted)
 
 look_counts_nothing : (c : Config) (w : World) (x : Word)
-    → CountsNothing c w (record { seat = Host; step = step.Look x })
+    → CountsNothing c w (record { seat = Host; step = Step.Look x })
 look_counts_nothing c w x =
     record {
       alike = record {
@@ -64,40 +48,40 @@ tidy_behind_others c es fs same counts t =
     }
 
 -- A look leaves the tallies what they count (as in the clients of the shared words).
-pub look_tidy : (p q : PassState) (x : Word) → Acts p (step.Look x) q → p.seat ≡ Host
+pub look_tidy : (p q : PassState) (x : Word) → Acts p (Step.Look x) q → p.seat ≡ Host
     → TalliesAreTidy p.table.config p.seen → TalliesAreTidy q.table.config q.seen
 look_tidy p q x a host t =
     let c : Config = p.table.config in
     let fs : List Event = p.seen ++ a.makes.others in
-    let e : Event = record { seat = Host; step = step.Look x } in
+    let e : Event = record { seat = Host; step = Step.Look x } in
     let behind : TalliesAreTidy c (fs ++ e ∷ []) =
     counts_tidy_more c fs e (look_counts_nothing c (left c fs) x)
     (tidy_behind_others c p.seen fs a.turn.steady a.counts t) in
     let seen_is : q.seen ≡ fs ++ e ∷ [] =
     ap (λ (r : PassState). r.seen) a.makes.is
-    ∙ ap (λ (s : Seat). fs ++ record { seat = s; step = step.Look x } ∷ []) host in
+    ∙ ap (λ (s : Seat). fs ++ record { seat = s; step = Step.Look x } ∷ []) host in
     subst (λ (d : Config). TalliesAreTidy d q.seen) (sym (ap (λ (r : PassState). r.table.config) a.makes.is))
     (subst (λ (es : List Event). TalliesAreTidy c es) (sym seen_is) behind)
 
 -- After a `give` the host hasn't the turn.
-pub given_no_turn : (p q : PassState) → Acts p step.Give q → host_has_turn q.table.config (now_of q) ≡ false
+pub given_no_turn : (p q : PassState) → Acts p Step.Give q → host_has_turn q.table.config (now_of q) ≡ false
 given_no_turn p q a =
     ne_eqb (now_of q).words.turn (1 + q.table.config.callers)
     (λ e. let zero : (now_of q).words.turn ≡ 0 = ap (λ (w : World). w.now.words.turn) a.world in absurd (omega arith))
 
 -- and the phase is as it was.
-pub given_phase : (p q : PassState) → Acts p step.Give q → phase_of (now_of q).words ≡ phase_of (now_of p).words
+pub given_phase : (p q : PassState) → Acts p Step.Give q → phase_of (now_of q).words ≡ phase_of (now_of p).words
 given_phase p q a = ap (λ (w : World). phase_of w.now.words) a.world ∙ ap (λ (s : Steady). s.phase) a.turn.steady
 
 -- A turn of the host's that is fresh but for a look may be given back.
 pub looked_may_give : (p q : PassState) (x : Word) → p.seat ≡ Host → InTurn p → IsFresh p None
-    → Acts p (step.Look x) q → TalliesAreExact p.table.config p.seen → MayGive q
+    → Acts p (Step.Look x) q → TalliesAreExact p.table.config p.seen → MayGive q
 looked_may_give p q x host t f a exact =
-    let keeps = calm_keeps p (step.Look x) q a t a.makes.pass.history refl (fresh_free p f) unchanged refl in
+    let keeps = calm_keeps p (Step.Look x) q a t a.makes.pass.history refl (fresh_free p f) unchanged refl in
     record {
       seat = ap (λ (r : PassState). r.seat) keeps.call.pass ∙ host;
-      phase = ap (λ (s : Steady). has_phase s.phase step.Give) keeps.steady ∙ f.phase;
+      phase = ap (λ (s : Steady). has_phase s.phase Step.Give) keeps.steady ∙ f.phase;
       free = free_then p q keeps.call (fresh_free p f);
-      gates = none_held_kept p q keeps.call.pass (gates_behind p (step.Look x) q a refl) f.gates;
+      gates = none_held_kept p q keeps.call.pass (gates_behind p (Step.Look x) q a refl) f.gates;
       exact = exact_kept p q (keeps_less unchanged but_phase p q keeps) exact;
     }

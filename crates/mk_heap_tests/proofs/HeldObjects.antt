@@ -1,36 +1,20 @@
 -- Callers that make and free objects keep to pointers to first words.
-use Rattle.std.proofs.Common.{◌≡◌, ◌≢◌, ℕ, ◌+◌, ◌*◌, ◌<◌, Bool, true, false, List, [], ◌∷◌, length, refl, sym}
-use Rattle.std.proofs.Common.{◌∙◌, ap, subst, inl, inr, arith}
-use Rattle.std.specs.Prelude.{Result, Ok, Err, IfOk, IfErr, OnOk, OnErr}
-use Rattle.std.proofs.lemmas.Bool.{cases_eq}
-use Rattle.std.proofs.lemmas.List.{get_or-set_other}
-use Rattle.mk_never.specs.declared.operations.Op.{Op}
-use Rattle.mk_never.specs.declared.operations.Op.TheVariants as op
-use Rattle.mk_never.specs.declared.values.Value.{Value}
-use Rattle.mk_never.specs.declared.values.Value.TheVariants.{Null, Num, Ptr}
-use Rattle.mk_never.specs.Admitted.{IsBase, IsCaller}
-use Rattle.mk_never.specs.NeverHeap.{NeverState, after_free, after_op, register_at, with_new}
-use Rattle.mk_core.specs.declared.config.Config.{Config}
-use Rattle.mk_core.specs.declared.events.Answer.{Answer}
-use Rattle.mk_core.specs.declared.events.Answer.TheVariants as answer
-use Rattle.mk_core.specs.declared.events.Event.{Event}
-use Rattle.mk_core.specs.declared.events.Seat.{Seat}
-use Rattle.mk_core.specs.declared.events.Seat.TheVariants.{Caller}
-use Rattle.mk_core.specs.Accesses.{caller_number}
-use Rattle.mk_core.specs.Decided.{flagged}
+use Rattle.std.proofs.Common.{IfErr, IfOk, OnErr}
+use Rattle.mk_laws.proofs.Vocabulary.{Answer, Bool, Caller, Config, Event, List, NeverState, Null, Num, Op, Ptr, Seat}
+use Rattle.mk_laws.proofs.Vocabulary.{Value, ℕ, after_free, ap, arith, caller_number, cases_eq, false, flagged}
+use Rattle.mk_laws.proofs.Vocabulary.{get_or-set_other, inl, inr, length, refl, register_at, subst, sym, true, with_new}
+use Rattle.mk_laws.proofs.Vocabulary.{[], ◌*◌, ◌+◌, ◌<◌, ◌∙◌, ◌∷◌, ◌≡◌, ◌≢◌}
+use Rattle.mk_heap_tests.proofs.Vocabulary.{CallerState, Err, HostState, IsCaller, IsIdleCaller, IsPassOfObjects}
+use Rattle.mk_heap_tests.proofs.Vocabulary.{MayAllocate, Ok, OnOk, PassState, Result, WordsState, at_home}
+use Rattle.mk_heap_tests.proofs.Vocabulary.{caller_of_pass, pass_for, value_of}
+use Rattle.mk_never.specs.{Admitted.IsBase, NeverHeap.after_op}
 use Rattle.mk_laws.proofs.OtherCalls.{never_continues}
-use Rattle.mk_words.specs.States.{PassState, WordsState}
-use Rattle.mk_caller.specs.States.{CallerState, IsIdleCaller, at_home, never_then, caller_of_pass, value_of}
-use Rattle.mk_caller.proofs.After.{set_same}
 use Rattle.mk_alloc.specs.TurnCalls.{CalledInTurn, FreesObject, IsAnsweredDouble, IsAnsweredFull}
 use Rattle.mk_alloc.specs.declared.making.Full.{Full}
-use Rattle.mk_objects.specs.declared.freeing.Double.{Double}
-use Rattle.mk_objects.specs.declared.freeing.Freed.{Freed}
-use Rattle.mk_heap.specs.Hosts.{HostState, pass_for}
-use Rattle.mk_heap_tests.specs.HeldObjects.{HoldsObjects, IsPassOfObjects, MayMakeObjects, MayAllocate}
-use Rattle.mk_heap_tests.specs.Passes.{IsFirstPass}
-use Rattle.mk_heap_tests.proofs.JoinedHosts.{still_for}
-use Rattle.mk_heap_tests.proofs.Registers.{has_registers, null_at_first}
+use Rattle.mk_caller.{proofs.After.set_same, specs.States.never_then}
+use Rattle.mk_heap_tests.proofs.{JoinedHosts.still_for, Registers.has_registers, Registers.null_at_first}
+use Rattle.mk_heap_tests.specs.{HeldObjects.HoldsObjects, HeldObjects.MayMakeObjects, Passes.IsFirstPass}
+use Rattle.mk_objects.specs.{declared.freeing.Double.Double, declared.freeing.Freed.Freed}
 
 -- what calls ask of such a caller
 
@@ -71,14 +55,14 @@ has_registers_there {on} {p} c exists =
     let on_it = never_continues p.table.config p.seen c.decided.before in
     subst (λ (count : ℕ). 8 * caller_of_pass p + 7 < count) (sym on_it.registers) (has_registers p exists)
 
-new_sets : {on : Bool} {p q : PassState} {d ty : ℕ} → CalledInTurn on p (op.New d ty false) answer.Done q
+new_sets : {on : Bool} {p q : PassState} {d ty : ℕ} → CalledInTurn on p (Op.New d ty false) Answer.Done q
     → caller_of_pass p < p.table.config.callers → d < 8 → IsBase (value_of q d)
 new_sets {on} {p} {q} {d} {ty} c exists lt =
     let n : NeverState = never_then p c.decided.before in
     subst (λ (v : Value). IsBase v)
     (sym (left_there c d lt ∙ set_same (with_new n ty) (caller_of_pass p) d _ (has_registers_there c exists) lt)) refl
 
-new_leaves : {on : Bool} {p q : PassState} {d ty : ℕ} → (c : CalledInTurn on p (op.New d ty false) answer.Done q)
+new_leaves : {on : Bool} {p q : PassState} {d ty : ℕ} → (c : CalledInTurn on p (Op.New d ty false) Answer.Done q)
     → (r : ℕ) → r < 8 → r ≢ d → value_of q r ≡ value_of p r
 new_leaves {on} {p} {q} {d} {ty} c r lt other =
     let n : NeverState = never_then p c.decided.before in
@@ -87,14 +71,14 @@ new_leaves {on} {p} {q} {d} {ty} c r lt other =
     (λ e. other (omega arith))
     ∙ c.decided.known r lt
 
-new_keeps : {on : Bool} {p q : PassState} {d ty : ℕ} → CalledInTurn on p (op.New d ty false) answer.Done q
+new_keeps : {on : Bool} {p q : PassState} {d ty : ℕ} → CalledInTurn on p (Op.New d ty false) Answer.Done q
     → caller_of_pass p < p.table.config.callers → d < 8 → HoldsObjects p → HoldsObjects q
 new_keeps {on} {p} {q} {d} c exists small h r lt = elim (cases_eq r d) [
   | inl same ↦ subst (λ (i : ℕ). IsBase (value_of q i)) (sym same) (new_sets c exists small)
   | inr other ↦ subst (λ (v : Value). IsBase v) (sym (new_leaves c r lt other)) (h r lt)
 ]
 
-full_keeps : {on : Bool} {p q : PassState} {d ty : ℕ} → CalledInTurn on p (op.New d ty false) answer.Full q
+full_keeps : {on : Bool} {p q : PassState} {d ty : ℕ} → CalledInTurn on p (Op.New d ty false) Answer.Full q
     → HoldsObjects p → HoldsObjects q
 full_keeps c h r lt = subst (λ (v : Value). IsBase v) (sym (left_there c r lt ∙ c.decided.known r lt)) (h r lt)
 
@@ -103,7 +87,7 @@ free_leaves n k r Null = refl
 free_leaves n k r (Num m) = refl
 free_leaves n k r (Ptr a t o) = refl
 
-pub freed_keeps : {on : Bool} {p q : PassState} {x : ℕ} → CalledInTurn on p (op.Free x) answer.Done q
+pub freed_keeps : {on : Bool} {p q : PassState} {x : ℕ} → CalledInTurn on p (Op.Free x) Answer.Done q
     → HoldsObjects p → HoldsObjects q
 freed_keeps {on} {p} {q} {x} c h r lt =
     let n : NeverState = never_then p c.decided.before in
@@ -112,7 +96,7 @@ freed_keeps {on} {p} {q} {x} c h r lt =
     ∙ c.decided.known r lt))
     (h r lt)
 
-pub double_keeps : {on : Bool} {p q : PassState} {x : ℕ} → CalledInTurn on p (op.Free x) answer.Double q
+pub double_keeps : {on : Bool} {p q : PassState} {x : ℕ} → CalledInTurn on p (Op.Free x) Answer.Double q
     → HoldsObjects p → HoldsObjects q
 double_keeps {on} {p} {q} {x} c h r lt =
     let n : NeverState = never_then p c.decided.before in
@@ -146,15 +130,15 @@ ready_on s t r home is objects =
     }
 
 pub same_new : (on : Bool) (d ty : ℕ) {T : Type 0} (s t : CallerState) (x : Result T Full)
-    → OnOk x (CalledInTurn on s.pass (op.New d ty false) answer.Done t.pass)
-    → IfErr x (λ full. IsAnsweredFull on s.pass (op.New d ty false) full.census t.pass)
+    → OnOk x (CalledInTurn on s.pass (Op.New d ty false) Answer.Done t.pass)
+    → IfErr x (λ full. IsAnsweredFull on s.pass (Op.New d ty false) full.census t.pass)
     → t.pass ≡ record s.pass { seen = t.pass.seen }
 same_new on d ty s t (Ok u) made full = seen_only made
 same_new on d ty s t (Err e) made full = seen_only full.called
 
 pub ready_new : (on : Bool) (d ty : ℕ) {T : Type 0} (s t : CallerState) (x : Result T Full) → MayMakeObjects s → d < 8
-    → t.home ≡ true → OnOk x (CalledInTurn on s.pass (op.New d ty false) answer.Done t.pass)
-    → IfErr x (λ full. IsAnsweredFull on s.pass (op.New d ty false) full.census t.pass) → MayMakeObjects t
+    → t.home ≡ true → OnOk x (CalledInTurn on s.pass (Op.New d ty false) Answer.Done t.pass)
+    → IfErr x (λ full. IsAnsweredFull on s.pass (Op.New d ty false) full.census t.pass) → MayMakeObjects t
 ready_new on d ty s t (Ok u) r small home made full =
     ready_on s t r home (seen_only made) (new_keeps made (number_is s r) small r.objects)
 ready_new on d ty s t (Err e) r small home made full =

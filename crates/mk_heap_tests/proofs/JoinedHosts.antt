@@ -1,26 +1,15 @@
 -- The host's callers and markers before their first call, and after their last.
-use Rattle.std.proofs.Common.{◌≡◌, ◌⊎◌, ℕ, zero, suc, ◌<◌, true, false, List, [], ◌∷◌, ◌++◌, refl, sym, ◌∙◌}
-use Rattle.std.proofs.Common.{ap, subst, inl, inr, arith}
-use Rattle.std.specs.Prelude.{not}
-use Rattle.std.proofs.lemmas.Bool.{not-true}
-use Rattle.mk_core.specs.declared.events.Event.{Event}
-use Rattle.mk_core.specs.declared.events.Seat.{Seat}
-use Rattle.mk_core.specs.declared.events.Seat.TheVariants.{Caller, Marker}
-use Rattle.mk_core.specs.History.{left}
-use Rattle.mk_core.specs.Moments.{is_held, none_is_held}
-use Rattle.mk_core.specs.Order.{host_has_turn}
-use Rattle.mk_core.proofs.AllBelow.{all_below-at}
-use Rattle.mk_words.specs.Seats.{Has}
-use Rattle.mk_words.specs.States.{WordsState, PassState, now_of}
-use Rattle.mk_words.proofs.Seats.{has_first, has_left, has_right}
-use Rattle.mk_caller.specs.States.{CallerState, IsIdleCaller, at_home}
-use Rattle.mk_heap.specs.Clients.{IsPassOf}
-use Rattle.mk_heap.specs.Ending.{CallersAreJoined}
-use Rattle.mk_heap.specs.Hosts.{HostState, AllAreJoined, IsHost, first_host, pass_for, with_caller_made, with_joined}
-use Rattle.mk_heap.specs.Hosts.{with_seen}
+use Rattle.mk_laws.proofs.Vocabulary.{Caller, Event, List, Marker, Seat, ℕ, all_below-at, ap, arith, false}
+use Rattle.mk_laws.proofs.Vocabulary.{host_has_turn, inl, inr, is_held, left, not, not-true, refl, subst, suc, sym}
+use Rattle.mk_laws.proofs.Vocabulary.{true, zero, [], ◌++◌, ◌<◌, ◌∙◌, ◌∷◌, ◌≡◌, ◌⊎◌}
+use Rattle.mk_heap_tests.proofs.Vocabulary.{CallerState, Has, HoldsNull, HostState, IsIdleCaller, IsPassFor, PassState}
+use Rattle.mk_heap_tests.proofs.Vocabulary.{WordsState, at_home, now_of, pass_for}
+use Rattle.mk_core.specs.Moments.{none_is_held}
 use Rattle.mk_heap.proofs.HostsKept.{first_is_host}
-use Rattle.mk_heap_tests.proofs.Registers.{null_at_first}
-use Rattle.mk_heap_tests.specs.Passes.{HasJoinedOne, HoldsNull, IsFirstPass, IsPassFor}
+use Rattle.mk_heap.specs.Hosts.{AllAreJoined, IsHost, first_host, with_caller_made, with_joined, with_seen}
+use Rattle.mk_heap.specs.{Clients.IsPassOf, Ending.CallersAreJoined}
+use Rattle.mk_heap_tests.{proofs.Registers.null_at_first, specs.Passes.HasJoinedOne, specs.Passes.IsFirstPass}
+use Rattle.mk_words.proofs.Seats.{has_first, has_left, has_right}
 
 pub holds_null : (w : WordsState) (k : ℕ) (p : PassState) → IsFirstPass w k p → k < w.config.callers → HoldsNull p
 holds_null w k p first lt =

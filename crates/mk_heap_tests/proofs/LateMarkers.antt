@@ -1,56 +1,31 @@
 -- A marker that is out, or comes in, the host's turn and cycle beside it, and the caller that was joined.
-use Rattle.std.proofs.Common.{◌≡◌, ℕ, ◌<◌, ◌%◌, true, false, List, [], ◌∷◌, refl, sym, ◌∙◌, ap, subst, arith}
-use Rattle.std.specs.Prelude.{None, Result, Ok, Err, OnOk}
 use Rattle.std.specs.Result.{is_err}
-use Rattle.std.proofs.lemmas.Bool.{eq-eqb}
-use Rattle.mk_core.specs.declared.config.Config.{Config}
-use Rattle.mk_core.specs.declared.seats.Marker.{Marker as MarkerState}
-use Rattle.mk_core.specs.declared.seats.Presence.{Presence}
-use Rattle.mk_core.specs.declared.seats.Presence.TheVariants as presence
-use Rattle.mk_core.specs.declared.events.Event.{Event}
-use Rattle.mk_core.specs.declared.events.Seat.{Seat}
-use Rattle.mk_core.specs.declared.events.Seat.TheVariants.{Caller, Marker, Host}
-use Rattle.mk_core.specs.declared.events.Step.TheVariants as step
-use Rattle.mk_core.specs.declared.events.Word.TheVariants as word
-use Rattle.mk_core.specs.Counts.{TalliesAreExact, TalliesAreTidy}
-use Rattle.mk_core.specs.Enabled.{IsEnabled}
-use Rattle.mk_core.specs.Frames.{Steady}
-use Rattle.mk_core.specs.History.{IsHistory, left_from}
-use Rattle.mk_core.specs.MarkerConditions.{is_out}
-use Rattle.mk_core.specs.Moments.{is_held, is_number_of, marker_at, others_are_held, outside}
-use Rattle.mk_core.specs.StopConditions.{is_attending}
-use Rattle.mk_core.specs.Words.{phase_of}
-use Rattle.mk_words.specs.Markers.{marker_in}
-use Rattle.mk_words.specs.Seats.{Has, all_seats, has_over, without_seat}
-use Rattle.mk_words.specs.States.{PassState, WordsState, now_of}
-use Rattle.mk_words.specs.Steps.{Finds, IsEnabledTo}
-use Rattle.mk_words.specs.TurnSteps.{Acts, IsFresh}
-use Rattle.mk_words.proofs.Seats.{has_all, without_keeps}
-use Rattle.mk_caller.specs.States.{CallerState, at_home}
-use Rattle.mk_marker.specs.Markers.{IsOut, attends}
-use Rattle.mk_waiting.specs.Taking.{TakesTurn}
-use Rattle.mk_cycle.specs.BeginCycle.{BeginsCycle}
-use Rattle.mk_cycle.specs.EngineLaw.{IsFreeForCycle}
-use Rattle.mk_cycle.specs.Holding.{HoldsGates}
-use Rattle.mk_cycle.specs.TurnKeeps.{InTurn}
-use Rattle.mk_cycle.proofs.Allowed.{or_true, protocol}
+use Rattle.mk_laws.proofs.Vocabulary.{Caller, Config, Event, Host, IsEnabled, IsHistory, List, Marker, MarkerState}
+use Rattle.mk_laws.proofs.Vocabulary.{None, Presence, Seat, Steady, Step, TalliesAreTidy, Word, ℕ, ap, arith, eq-eqb}
+use Rattle.mk_laws.proofs.Vocabulary.{false, is_attending, is_held, is_number_of, marker_at, others_are_held, outside}
+use Rattle.mk_laws.proofs.Vocabulary.{phase_of, refl, subst, sym, true, [], ◌%◌, ◌<◌, ◌∙◌, ◌∷◌, ◌≡◌}
+use Rattle.mk_heap_tests.proofs.Vocabulary.{CallerState, Err, Has, HostState, InTurn, IsEnabledTo, IsFresh, Ok, OnOk}
+use Rattle.mk_heap_tests.proofs.Vocabulary.{PassState, Result, TakesTurn, TalliesAreExact, WordsState, at_home, has_all}
+use Rattle.mk_heap_tests.proofs.Vocabulary.{now_of, pass_for}
+use Rattle.mk_core.specs.{History.left_from, MarkerConditions.is_out}
 use Rattle.mk_cycle.proofs.HoldingSteps.{all_held_below, held_free, held_table, hold_allowed, hold_holds}
-use Rattle.mk_cycle.proofs.MayAct.{may_act}
-use Rattle.mk_heap.specs.Ending.{IsIdleTurn}
-use Rattle.mk_heap.specs.Hosts.{HostState, IsHost, first_host, pass_for, with_caller_made, with_joined}
-use Rattle.mk_heap.specs.Hosts.{with_marker_made}
+use Rattle.mk_cycle.proofs.{Allowed.or_true, Allowed.protocol, MayAct.may_act}
+use Rattle.mk_cycle.specs.{BeginCycle.BeginsCycle, EngineLaw.IsFreeForCycle, Holding.HoldsGates}
 use Rattle.mk_heap.proofs.BeforeOver.{taken_overs}
-use Rattle.mk_heap.proofs.HostsKept.{first_is_host}
 use Rattle.mk_heap.proofs.IdleTurns.{begun_free, fresh_free, look_keeps, looked_idle, none_held_kept, none_is_on}
-use Rattle.mk_heap.proofs.Joining.{host_may_take}
-use Rattle.mk_heap.proofs.MovedHosts.{turn_moves}
-use Rattle.mk_heap_tests.specs.Passes.{HasJoinedOne, IsHostsPass, HostIsMarking, IsMarkerOut}
+use Rattle.mk_heap.proofs.{HostsKept.first_is_host, Joining.host_may_take, MovedHosts.turn_moves}
+use Rattle.mk_heap.specs.Hosts.{IsHost, first_host, with_caller_made, with_joined, with_marker_made}
+use Rattle.mk_heap.specs.Ending.{IsIdleTurn}
 use Rattle.mk_heap_tests.proofs.JoinedHosts.{free_at_first, has_joined, none_is_held_at, only_zero}
+use Rattle.mk_heap_tests.specs.Passes.{HasJoinedOne, HostIsMarking, IsHostsPass, IsMarkerOut}
+use Rattle.mk_marker.specs.Markers.{IsOut, attends}
+use Rattle.mk_words.{proofs.Seats.without_keeps, specs.Markers.marker_in, specs.Seats.all_seats, specs.Seats.has_over}
+use Rattle.mk_words.{specs.Seats.without_seat, specs.Steps.Finds, specs.TurnSteps.Acts}
 
 out_attends_not : (x : Presence) → is_out x ≡ true → is_attending x ≡ false
-out_attends_not presence.Out h = refl
-out_attends_not presence.Visiting h = refl
-out_attends_not presence.Attending h = cc
+out_attends_not Presence.Out h = refl
+out_attends_not Presence.Visiting h = refl
+out_attends_not Presence.Attending h = cc
 
 pub attends_not : (p : PassState) → IsOut p → attends p ≡ false
 attends_not p out = out_attends_not (marker_in p).presence out
@@ -121,16 +96,16 @@ host_at_first w p table seat seen =
       before_over = ap has_over seen;
     }
 
-pub host_may : (w : WordsState) (p : PassState) → IsHostsPass w p → IsEnabledTo p (step.Take None)
+pub host_may : (w : WordsState) (p : PassState) → IsHostsPass w p → IsEnabledTo p (Step.Take None)
 host_may w p host =
-    subst (λ (s : Seat). IsEnabled p.table.config (now_of p) (record { seat = s; step = step.Take None }))
+    subst (λ (s : Seat). IsEnabled p.table.config (now_of p) (record { seat = s; step = Step.Take None }))
     (sym host.seat) (host_may_take p.table.config (now_of p) host.without)
 
 -- The turn that it took for no operation, and its cycle.
 module _ (w : WordsState) (h p q : PassState) (host : IsHostsPass w h) (own : Has h.seats h.seat)
     (takes : TakesTurn h None p) (fresh : IsFresh p None) (exact : TalliesAreExact p.table.config p.seen)
-    (tidy : TalliesAreTidy p.table.config p.seen) (t : InTurn p) (n : ℕ) (finds : Finds p (step.Look word.Phase) n q)
-    (acts : Acts p (step.Look word.Phase) q) (history : IsHistory q.table.config q.seen) where
+    (tidy : TalliesAreTidy p.table.config p.seen) (t : InTurn p) (n : ℕ) (finds : Finds p (Step.Look Word.Phase) n q)
+    (acts : Acts p (Step.Look Word.Phase) q) (history : IsHistory q.table.config q.seen) where
   pub looked_table : q.table ≡ w
   looked_table =
       ap (λ (x : PassState). x.table) (look_keeps p q t (fresh_free p fresh) acts).call.pass
@@ -168,11 +143,11 @@ module _ (w : WordsState) (p : PassState) (m : HostIsMarking w p) (one : w.confi
   there : 0 < p.table.config.callers
   there = let is = one_caller in omega arith
 
-  pub may_hold : IsEnabledTo p (step.Hold 0)
+  pub may_hold : IsEnabledTo p (Step.Hold 0)
   may_hold = hold_allowed p t m.free 0 there (ap (λ (s : Seat). is_number_of s 0) m.seat)
       (none_is_held_at p 0 there m.gates)
 
-  module _ (q : PassState) (u : InTurn q) (acts : Acts p (step.Hold 0) q) (held : is_held (now_of q).words 0 ≡ true)
+  module _ (q : PassState) (u : InTurn q) (acts : Acts p (Step.Hold 0) q) (held : is_held (now_of q).words 0 ≡ true)
     where
       holds : HoldsGates p q
       holds = hold_holds p q t m.free u 0 acts
@@ -191,10 +166,10 @@ module _ (w : WordsState) (p : PassState) (m : HostIsMarking w p) (one : w.confi
           (subst (λ (i : ℕ). is_held (now_of q).words i ≡ true)
           (sym (only_zero j q.table.config.callers count lt)) held))
 
-      pub may_want : IsEnabledTo q step.Want
+      pub may_want : IsEnabledTo q Step.Want
       may_want =
           let phase : phase_of (now_of q).words ≡ 1 = ap (λ (s : Steady). s.phase) holds.keeps.steady ∙ m.phase in
-          may_act q step.Want (protocol q u free) u.holds free.decided refl refl all_held
+          may_act q Step.Want (protocol q u free) u.holds free.decided refl refl all_held
           (eq-eqb (phase_of (now_of q).words) 1 phase) refl
 
 -- The host, after its first marker and its first caller, which has joined the caller.

@@ -5,3 +5,4 @@ pub mod HeldObjects
 pub mod LateMarkers
 pub mod NewTurns
 pub mod RetiringTurns
+pub mod Vocabulary

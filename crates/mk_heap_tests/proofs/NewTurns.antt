@@ -1,34 +1,18 @@
 -- A caller's turn for a New, from its `take` to its `give`.
-use Rattle.std.proofs.Common.{◌≡◌, ℕ, ◌<◌, true, false, [], ◌∷◌, length, refl, sym, ◌∙◌, ap, subst, arith}
-use Rattle.std.specs.Prelude.{Some}
-use Rattle.mk_never.specs.declared.operations.Op.{Op}
-use Rattle.mk_never.specs.declared.operations.Op.TheVariants as op
-use Rattle.mk_core.specs.declared.events.Answer.TheVariants as answer
-use Rattle.mk_core.specs.declared.events.Seat.{Seat}
-use Rattle.mk_core.specs.declared.events.Seat.TheVariants.{Caller}
-use Rattle.mk_core.specs.declared.events.Step.TheVariants as step
-use Rattle.mk_core.specs.Accesses.{caller_number}
-use Rattle.mk_core.specs.Calls.{at_rest, has_operands}
-use Rattle.mk_core.specs.Counts.{TalliesAreExact, TalliesAreTidy}
-use Rattle.mk_core.specs.History.{IsHistory}
-use Rattle.mk_words.specs.Seats.{CallersAreBeforeOver, Has}
-use Rattle.mk_words.specs.States.{PassState, WordsState, call_of}
-use Rattle.mk_words.specs.Steps.{IsEnabledTo, Makes}
-use Rattle.mk_words.specs.TurnSteps.{IsFresh}
-use Rattle.mk_caller.specs.States.{caller_of_pass}
-use Rattle.mk_cycle.specs.TurnKeeps.{InTurn}
-use Rattle.mk_waiting.specs.Taking.{TakesTurn}
-use Rattle.mk_objects.specs.Placing.{IsPlaced, IsUnplaced}
-use Rattle.mk_alloc.specs.Rooms.{Seeks}
-use Rattle.mk_alloc.specs.Underway.{BeginsTurn}
-use Rattle.mk_alloc.proofs.CalledTurns.{taken_same}
+use Rattle.mk_laws.proofs.Vocabulary.{Answer, Caller, IsHistory, Op, Seat, Some, Step, TalliesAreTidy, ℕ, ap, arith}
+use Rattle.mk_laws.proofs.Vocabulary.{at_rest, caller_number, false, has_operands, length, refl, subst, sym, true, []}
+use Rattle.mk_laws.proofs.Vocabulary.{◌<◌, ◌∙◌, ◌∷◌, ◌≡◌}
+use Rattle.mk_heap_tests.proofs.Vocabulary.{Has, InTurn, IsEnabledTo, IsFresh, IsPassFor, PassState, TakesTurn}
+use Rattle.mk_heap_tests.proofs.Vocabulary.{TalliesAreExact, WordsState, caller_of_pass}
 use Rattle.mk_alloc.proofs.NewTurns.{begun_quiet, begun_unplaced, operands_of}
-use Rattle.mk_alloc.proofs.SeekingTurns.{seeks_placed}
 use Rattle.mk_alloc.proofs.TakenTurns.{callers, take_allowed, taken_phase}
-use Rattle.mk_heap_tests.specs.Passes.{IsPassFor}
+use Rattle.mk_alloc.proofs.{CalledTurns.taken_same, SeekingTurns.seeks_placed}
+use Rattle.mk_alloc.specs.{Rooms.Seeks, Underway.BeginsTurn}
+use Rattle.mk_objects.specs.Placing.{IsPlaced, IsUnplaced}
+use Rattle.mk_words.specs.{Seats.CallersAreBeforeOver, States.call_of, Steps.Makes}
 
 abbrev pub first_new : Op
-first_new = op.New 0 0 false
+first_new = Op.New 0 0 false
 
 module _ (w : WordsState) (k : ℕ) (p : PassState) (is : IsPassFor w k p) where
   number : caller_of_pass p ≡ k
@@ -42,15 +26,15 @@ module _ (w : WordsState) (k : ℕ) (p : PassState) (is : IsPassFor w k p) where
   alone : p.seats ≡ p.seat ∷ []
   alone = is.alone ∙ ap (λ (s : Seat). s ∷ []) (sym is.seat)
 
-  pub may_free : k < w.config.callers → IsEnabledTo p (step.Take (Some (op.Free 0)))
-  may_free few = take_allowed p (op.Free 0) is.idle (exists few) refl refl
+  pub may_free : k < w.config.callers → IsEnabledTo p (Step.Take (Some (Op.Free 0)))
+  may_free few = take_allowed p (Op.Free 0) is.idle (exists few) refl refl
 
   operands : 0 < length w.config.types → has_operands p.table.config first_new ≡ true
   operands typed =
       operands_of p.table.config 0 0 (omega arith)
       (subst (λ (v : WordsState). 0 < length v.config.types) (sym is.table) typed)
 
-  pub may_make : k < w.config.callers → 0 < length w.config.types → IsEnabledTo p (step.Take (Some first_new))
+  pub may_make : k < w.config.callers → 0 < length w.config.types → IsEnabledTo p (Step.Take (Some first_new))
   may_make few typed = take_allowed p first_new is.idle (exists few) refl (operands typed)
 
   -- Directly after its `take` the turn may place its object.
@@ -77,13 +61,13 @@ module _ (w : WordsState) (k : ℕ) (p : PassState) (is : IsPassFor w k p) where
 
     -- Where it has placed it, it may be given back.
     module _ (r : PassState) (placed : IsPlaced q r) (history : IsHistory r.table.config r.seen) where
-      pub seeks : Seeks (Some answer.Done) q r
+      pub seeks : Seeks (Some Answer.Done) q r
       seeks = seeks_placed q r t unplaced (begun_quiet q 0 0 false begins) placed history
 
       pub placed_table : r.table ≡ w
       placed_table = ap (λ (x : PassState). x.table) seeks.on.does.is ∙ taken_table
 
-      pub passed_back : (b : PassState) → Makes r step.Give b → call_of b ≡ at_rest → IsPassFor w k b
+      pub passed_back : (b : PassState) → Makes r Step.Give b → call_of b ≡ at_rest → IsPassFor w k b
       passed_back b gives rests =
           let table : b.table ≡ w = ap (λ (x : PassState). x.table) gives.is ∙ placed_table in
           let seat : b.seat ≡ Caller k =

@@ -1,27 +1,15 @@
 -- Calls on registers that are null.
-use Rattle.std.proofs.Common.{◌≡◌, ◌≢◌, ℕ, ◌<◌, List, length, refl, sym, ◌∙◌, ap, subst, arith}
-use Rattle.std.specs.Prelude.{Bool, Option, Some, None, IfSome, Result, Ok, Err, IfOk, IfErr, OnOk, OnErr, slice_get}
-use Rattle.mk_never.specs.declared.operations.Op.{Op}
-use Rattle.mk_never.specs.declared.operations.Op.TheVariants as op
-use Rattle.mk_never.specs.declared.values.Value.{Value}
-use Rattle.mk_never.specs.declared.values.Value.TheVariants.{Null}
-use Rattle.mk_never.specs.declared.types.Kind.TheVariants.{To}
-use Rattle.mk_never.specs.NeverHeap.{register_at}
-use Rattle.mk_never.specs.Admitted.{IsCaller, IsNumber, IsOfKind, Meets}
-use Rattle.mk_core.specs.declared.events.Answer.{Answer}
-use Rattle.mk_core.specs.declared.events.Answer.TheVariants as answer
-use Rattle.mk_core.specs.declared.events.Event.{Event}
-use Rattle.mk_core.specs.Accesses.{caller_number}
-use Rattle.mk_words.specs.States.{PassState}
-use Rattle.mk_caller.specs.Called.{Called, IsAnswered, Says}
-use Rattle.mk_caller.specs.Causes.{FindsGateHeld, IsRefused}
-use Rattle.mk_caller.specs.declared.refusals.Refusal.{Refusal}
-use Rattle.mk_caller.specs.declared.refusals.Refusal.TheVariants as refusal
-use Rattle.mk_caller.specs.Laws.{destination}
-use Rattle.mk_caller.specs.States.{Admits, never_of, caller_of_pass, value_of}
+use Rattle.std.proofs.Common.{IfErr, IfOk, IfSome, OnErr, slice_get}
+use Rattle.mk_laws.proofs.Vocabulary.{Answer, Bool, Event, IsNumber, List, Meets, None, Null, Op, Option, Some, To}
+use Rattle.mk_laws.proofs.Vocabulary.{Value, ℕ, ap, arith, caller_number, length, refl, register_at, subst, sym, ◌<◌}
+use Rattle.mk_laws.proofs.Vocabulary.{◌∙◌, ◌≡◌, ◌≢◌}
+use Rattle.mk_heap_tests.proofs.Vocabulary.{Err, HoldsNull, IsCaller, Ok, OnOk, PassState, Result, caller_of_pass}
+use Rattle.mk_heap_tests.proofs.Vocabulary.{value_of}
+use Rattle.mk_never.specs.Admitted.{IsOfKind}
 use Rattle.mk_caller.proofs.After.{calls_leave_other_registers}
-use Rattle.mk_heap_tests.proofs.Registers.{globals_are, has_registers}
-use Rattle.mk_heap_tests.specs.Passes.{HoldsNull, StaysNull}
+use Rattle.mk_caller.specs.{Called.Called, Called.IsAnswered, Called.Says, Causes.FindsGateHeld, Causes.IsRefused}
+use Rattle.mk_caller.specs.{Laws.destination, States.Admits, States.never_of, declared.refusals.Refusal.Refusal}
+use Rattle.mk_heap_tests.{proofs.Registers.globals_are, proofs.Registers.has_registers, specs.Passes.StaysNull}
 
 of_a_caller : (p : PassState) → HoldsNull p → IsCaller (never_of p) (caller_of_pass p)
 of_a_caller p h =
@@ -36,14 +24,14 @@ first_global p =
 
 -- what is admitted
 
-pub may_move : (p : PassState) → HoldsNull p → Admits p (op.Move 0 1)
+pub may_move : (p : PassState) → HoldsNull p → Admits p (Op.Move 0 1)
 may_move p h = record { of_a_caller = of_a_caller p h; in_range = (omega arith, omega arith); access = tt; store = tt }
 
-pub may_load : (p : PassState) → HoldsNull p → Admits p (op.GetGlobal 2 0)
+pub may_load : (p : PassState) → HoldsNull p → Admits p (Op.GetGlobal 2 0)
 may_load p h =
     record { of_a_caller = of_a_caller p h; in_range = (omega arith, first_global p); access = tt; store = tt }
 
-pub may_compare : (p : PassState) → HoldsNull p → Admits p (op.Same 1 2)
+pub may_compare : (p : PassState) → HoldsNull p → Admits p (Op.Same 1 2)
 may_compare p h =
     record { of_a_caller = of_a_caller p h; in_range = (omega arith, omega arith); access = tt; store = tt }
 
@@ -51,7 +39,7 @@ null_is_of_kind : (x : Option ℕ) → IfSome x (λ ty. IsOfKind Null (To ty 0))
 null_is_of_kind (Some ty) = tt
 null_is_of_kind None = tt
 
-pub may_store : (p : PassState) → HoldsNull p → Admits p (op.SetGlobal 0 1)
+pub may_store : (p : PassState) → HoldsNull p → Admits p (Op.SetGlobal 0 1)
 may_store p h =
     record {
       of_a_caller = of_a_caller p h;
@@ -62,7 +50,7 @@ may_store p h =
           (null_is_of_kind (slice_get p.table.config.globals 0));
     }
 
-pub may_read : (p : PassState) → HoldsNull p → Admits p (op.GetNum 1 0)
+pub may_read : (p : PassState) → HoldsNull p → Admits p (Op.GetNum 1 0)
 may_read p h =
     record {
       of_a_caller = of_a_caller p h;
@@ -126,11 +114,11 @@ stays_said p q o (Err e) said held other h = stays_held held h
 
 stays_refused : (p q : PassState) (o : Op) (e : Refusal) → IsRefused p o e q → destination o ≢ Some 1 → HoldsNull p
     → StaysNull p q
-stays_refused p q o refusal.Fault refused other h = stays_called refused.0 other h
-stays_refused p q o refusal.Null refused other h = stays_called refused.0 other h
-stays_refused p q o refusal.Held refused other h = stays_held refused h
+stays_refused p q o Refusal.Fault refused other h = stays_called refused.0 other h
+stays_refused p q o Refusal.Null refused other h = stays_called refused.0 other h
+stays_refused p q o Refusal.Held refused other h = stays_held refused h
 
-stays_read : (p q : PassState) (o : Op) (r : Result ℕ Refusal) → IfOk r (λ n. Called p o (answer.Num n) q)
+stays_read : (p q : PassState) (o : Op) (r : Result ℕ Refusal) → IfOk r (λ n. Called p o (Answer.Num n) q)
     → IfErr r (λ e. IsRefused p o e q) → destination o ≢ Some 1 → HoldsNull p → StaysNull p q
 stays_read p q o (Ok n) called refused other h = stays_called called other h
 stays_read p q o (Err e) called refused other h = stays_refused p q o e refused other h
@@ -156,27 +144,27 @@ sets_none (Some i) is e = cc
 
 -- The calls of a round leave register 1 null.
 
-pub stays_moved : {T E : Type 0} {p q : PassState} (r : Result T E) → OnOk r (Called p (op.Move 0 1) answer.Done q)
-    → OnErr r (FindsGateHeld p (op.Move 0 1) q) → HoldsNull p → StaysNull p q
+pub stays_moved : {T E : Type 0} {p q : PassState} (r : Result T E) → OnOk r (Called p (Op.Move 0 1) Answer.Done q)
+    → OnErr r (FindsGateHeld p (Op.Move 0 1) q) → HoldsNull p → StaysNull p q
 stays_moved {T} {E} {p} {q} r called held h =
-    stays_done p q (op.Move 0 1) answer.Done r called held (sets_another 0 (λ e. absurd (omega arith))) h
+    stays_done p q (Op.Move 0 1) Answer.Done r called held (sets_another 0 (λ e. absurd (omega arith))) h
 
 pub stays_stored : {T E : Type 0} {p q : PassState} (r : Result T E)
-    → OnOk r (Called p (op.SetGlobal 0 1) answer.Done q) → OnErr r (FindsGateHeld p (op.SetGlobal 0 1) q)
+    → OnOk r (Called p (Op.SetGlobal 0 1) Answer.Done q) → OnErr r (FindsGateHeld p (Op.SetGlobal 0 1) q)
     → HoldsNull p → StaysNull p q
 stays_stored {T} {E} {p} {q} r called held h =
-    stays_done p q (op.SetGlobal 0 1) answer.Done r called held (sets_none None refl) h
+    stays_done p q (Op.SetGlobal 0 1) Answer.Done r called held (sets_none None refl) h
 
-pub stays_loaded : {T E : Type 0} {p q : PassState} (r : Result T E) → OnOk r (IsAnswered p (op.GetGlobal 2 0) q)
-    → OnErr r (FindsGateHeld p (op.GetGlobal 2 0) q) → HoldsNull p → StaysNull p q
+pub stays_loaded : {T E : Type 0} {p q : PassState} (r : Result T E) → OnOk r (IsAnswered p (Op.GetGlobal 2 0) q)
+    → OnErr r (FindsGateHeld p (Op.GetGlobal 2 0) q) → HoldsNull p → StaysNull p q
 stays_loaded {T} {E} {p} {q} r answered held h =
-    stays_answered p q (op.GetGlobal 2 0) r answered held (sets_another 2 (λ e. absurd (omega arith))) h
+    stays_answered p q (Op.GetGlobal 2 0) r answered held (sets_another 2 (λ e. absurd (omega arith))) h
 
-pub stays_compared : {E : Type 0} {p q : PassState} (r : Result Bool E) → IfOk r (λ b. Says p (op.Same 1 2) b q)
-    → OnErr r (FindsGateHeld p (op.Same 1 2) q) → HoldsNull p → StaysNull p q
-stays_compared {E} {p} {q} r said held h = stays_said p q (op.Same 1 2) r said held (sets_none None refl) h
+pub stays_compared : {E : Type 0} {p q : PassState} (r : Result Bool E) → IfOk r (λ b. Says p (Op.Same 1 2) b q)
+    → OnErr r (FindsGateHeld p (Op.Same 1 2) q) → HoldsNull p → StaysNull p q
+stays_compared {E} {p} {q} r said held h = stays_said p q (Op.Same 1 2) r said held (sets_none None refl) h
 
 pub stays_read_through : {p q : PassState} (r : Result ℕ Refusal)
-    → IfOk r (λ n. Called p (op.GetNum 1 0) (answer.Num n) q) → IfErr r (λ e. IsRefused p (op.GetNum 1 0) e q)
+    → IfOk r (λ n. Called p (Op.GetNum 1 0) (Answer.Num n) q) → IfErr r (λ e. IsRefused p (Op.GetNum 1 0) e q)
     → HoldsNull p → StaysNull p q
-stays_read_through {p} {q} r called refused h = stays_read p q (op.GetNum 1 0) r called refused (sets_none None refl) h
+stays_read_through {p} {q} r called refused h = stays_read p q (Op.GetNum 1 0) r called refused (sets_none None refl) h

@@ -1,17 +1,12 @@
 -- Each caller has eight registers, and there are 64 globals, whatever happened. Before the first call all are null.
-use Rattle.std.proofs.Common.{◌≡◌, ℕ, ◌+◌, ◌*◌, ◌<◌, List, [], length, refl, ◌∙◌, ap, arith}
 use Rattle.std.proofs.lemmas.List.{length-replicate}
-use Rattle.mk_never.specs.declared.values.Value.TheVariants.{Null}
-use Rattle.mk_never.specs.Admitted.{IsCaller}
-use Rattle.mk_never.specs.NeverHeap.{NeverState, register_at}
+use Rattle.mk_laws.proofs.Vocabulary.{Config, Event, List, NeverState, Null, ℕ, ap, arith, asked, calls, length}
+use Rattle.mk_laws.proofs.Vocabulary.{never_behind, refl, register_at, [], ◌*◌, ◌+◌, ◌<◌, ◌∙◌, ◌≡◌}
+use Rattle.mk_heap_tests.proofs.Vocabulary.{IsCaller, PassState, caller_of_pass, value_of}
 use Rattle.mk_never.proofs.Later.{calls_stay}
-use Rattle.mk_core.specs.declared.config.Config.{Config}
-use Rattle.mk_core.specs.declared.events.Event.{Event}
-use Rattle.mk_core.specs.Decided.{asked}
-use Rattle.mk_core.specs.History.{calls, calls_from, never_behind, never_first}
+use Rattle.mk_core.specs.History.{calls_from, never_first}
 use Rattle.mk_laws.proofs.OrderlyLists.{at_first}
-use Rattle.mk_words.specs.States.{PassState}
-use Rattle.mk_caller.specs.States.{never_of, caller_of_pass, value_of}
+use Rattle.mk_caller.specs.States.{never_of}
 
 registers_are : (c : Config) (es : List Event) → length (never_behind c es).registers ≡ 8 * c.callers
 registers_are c es = (calls_stay (never_first c) (asked (calls c es))).registers ∙ length-replicate (8 * c.callers) Null

@@ -1,56 +1,38 @@
 -- A caller's turn for a Free, from its `take` to its `give`, with no cycle.
-use Rattle.std.proofs.Common.{◌≡◌, ℕ, ◌<◌, Bool, true, false, refl, ◌∙◌, ap}
-use Rattle.std.specs.Prelude.{◌&&◌, Some}
-use Rattle.std.proofs.lemmas.Bool.{lt-ltb}
-use Rattle.mk_never.specs.declared.operations.Op.TheVariants as op
-use Rattle.mk_core.specs.declared.events.Answer.{Answer}
-use Rattle.mk_core.specs.declared.events.Answer.TheVariants as answer
-use Rattle.mk_core.specs.declared.events.Step.TheVariants as step
-use Rattle.mk_core.specs.Calls.{at_rest}
-use Rattle.mk_core.specs.Counts.{TalliesAreExact, TalliesAreTidy}
-use Rattle.mk_core.specs.History.{IsHistory}
-use Rattle.mk_words.specs.Seats.{CallersAreBeforeOver, Has}
-use Rattle.mk_words.specs.States.{PassState, WordsState, call_of, now_of}
-use Rattle.mk_words.specs.Steps.{IsEnabledTo, Makes}
-use Rattle.mk_words.specs.TurnSteps.{IsFresh}
-use Rattle.mk_cycle.specs.TurnKeeps.{InTurn}
-use Rattle.mk_waiting.specs.Taking.{TakesTurn}
-use Rattle.mk_objects.specs.Placing.{IsOutOfStop}
-use Rattle.mk_objects.specs.Retired.{FindsFreed, Retires}
-use Rattle.mk_objects.specs.Retiring.{IsUnloaded}
-use Rattle.mk_alloc.specs.DueCycles.{RunsIfDue}
-use Rattle.mk_alloc.specs.Underway.{BeginsTurn, TurnGoesOn}
-use Rattle.mk_alloc.proofs.CalledTurns.{taken_same}
+use Rattle.mk_laws.proofs.Vocabulary.{Answer, Bool, IsHistory, Op, Some, Step, TalliesAreTidy, ℕ, ap, at_rest, false}
+use Rattle.mk_laws.proofs.Vocabulary.{lt-ltb, refl, true, ◌&&◌, ◌<◌, ◌∙◌, ◌≡◌}
+use Rattle.mk_heap_tests.proofs.Vocabulary.{Has, InTurn, IsEnabledTo, IsFresh, IsPassFor, IsPassOfObjects, PassState}
+use Rattle.mk_heap_tests.proofs.Vocabulary.{TakesTurn, TalliesAreExact, WordsState, now_of}
 use Rattle.mk_alloc.proofs.FreedTurns.{double_on, freed_on, frees_object, is_answered_double, unloaded}
-use Rattle.mk_alloc.proofs.QuietTurns.{give_allowed}
 use Rattle.mk_alloc.proofs.TakenTurns.{callers, take_allowed, taken_phase}
-use Rattle.mk_heap_tests.specs.HeldObjects.{IsPassOfObjects}
-use Rattle.mk_heap_tests.specs.Passes.{IsPassFor}
+use Rattle.mk_alloc.proofs.{CalledTurns.taken_same, QuietTurns.give_allowed}
+use Rattle.mk_alloc.specs.{DueCycles.RunsIfDue, Underway.BeginsTurn, Underway.TurnGoesOn}
 use Rattle.mk_heap_tests.proofs.HeldObjects.{double_keeps, freed_keeps}
-use Rattle.mk_heap_tests.proofs.JoinedHosts.{alone_in}
-use Rattle.mk_heap_tests.proofs.NewTurns.{exists}
+use Rattle.mk_heap_tests.proofs.{JoinedHosts.alone_in, NewTurns.exists}
+use Rattle.mk_objects.specs.{Placing.IsOutOfStop, Retired.FindsFreed, Retired.Retires, Retiring.IsUnloaded}
+use Rattle.mk_words.specs.{Seats.CallersAreBeforeOver, States.call_of, Steps.Makes}
 
 module _ (w : WordsState) (k r : ℕ) (p : PassState) (is : IsPassOfObjects w k p) (few : k < w.config.callers)
     (small : r < 8) where
-  pub may_retire : IsEnabledTo p (step.Take (Some (op.Free r)))
-  may_retire = take_allowed p (op.Free r) is.pass.idle (exists w k p is.pass few) refl
+  pub may_retire : IsEnabledTo p (Step.Take (Some (Op.Free r)))
+  may_retire = take_allowed p (Op.Free r) is.pass.idle (exists w k p is.pass few) refl
       (ap (λ (b : Bool). true && b && true && true && true && true) (lt-ltb r 8 small))
 
-  module _ (q : PassState) (own : Has p.seats p.seat) (takes : TakesTurn p (Some (op.Free r)) q)
-      (fresh : IsFresh q (Some (op.Free r))) (exact : TalliesAreExact q.table.config q.seen)
+  module _ (q : PassState) (own : Has p.seats p.seat) (takes : TakesTurn p (Some (Op.Free r)) q)
+      (fresh : IsFresh q (Some (Op.Free r))) (exact : TalliesAreExact q.table.config q.seen)
       (tidy : TalliesAreTidy q.table.config q.seen) (t : InTurn q)
       (before : CallersAreBeforeOver q.table.config q.seats q.seen) where
     taken_is : q ≡ record p { seen = q.seen }
-    taken_is = taken_same p q (op.Free r) (callers p is.pass.idle) own takes
+    taken_is = taken_same p q (Op.Free r) (callers p is.pass.idle) own takes
 
     pub taken_table : q.table ≡ w
     taken_table = ap (λ (x : PassState). x.table) taken_is ∙ is.pass.table
 
     pub phase : IsOutOfStop (now_of q)
-    phase = taken_phase p q (op.Free r) (callers p is.pass.idle) (exists w k p is.pass few) (alone_in is.pass) own takes
+    phase = taken_phase p q (Op.Free r) (callers p is.pass.idle) (exists w k p is.pass few) (alone_in is.pass) own takes
         fresh t.history before
 
-    begins : BeginsTurn (op.Free r) q
+    begins : BeginsTurn (Op.Free r) q
     begins = record { fresh = fresh; phase = phase; exact = exact; tidy = tidy }
 
     pub is_unloaded : IsUnloaded q r
@@ -58,7 +40,7 @@ module _ (w : WordsState) (k r : ℕ) (p : PassState) (is : IsPassOfObjects w k 
         unloaded p q r (callers p is.pass.idle) own takes fresh t.history small (is.objects r small)
 
     -- The pass that is given back, where the turn went on to an answer.
-    back_of : (a : Answer) (d : PassState) → TurnGoesOn (Some a) q d → (b : PassState) → Makes d step.Give b
+    back_of : (a : Answer) (d : PassState) → TurnGoesOn (Some a) q d → (b : PassState) → Makes d Step.Give b
         → call_of b ≡ at_rest → IsPassFor w k b
     back_of a d on b gives rests =
         let all : (b.table ≡ p.table) × (b.seat ≡ p.seat) × (b.seats ≡ p.seats) = (
@@ -81,20 +63,20 @@ module _ (w : WordsState) (k r : ℕ) (p : PassState) (is : IsPassOfObjects w k 
       runs_none : RunsIfDue false false d d
       runs_none = record { runs = λ h. cc; rests = λ h. refl }
 
-      pub freed : TurnGoesOn (Some answer.Done) q d
+      pub freed : TurnGoesOn (Some Answer.Done) q d
       freed = freed_on false false p q d d d r (callers p is.pass.idle) own takes begins t retires u runs_none u
 
       pub freed_table : d.table ≡ w
       freed_table = ap (λ (x : PassState). x.table) freed.does.is ∙ taken_table
 
-      pub freed_may_give : IsEnabledTo d step.Give
+      pub freed_may_give : IsEnabledTo d Step.Give
       freed_may_give = give_allowed d u freed.quiet (freed.decided refl)
 
-      pub freed_back : (b : PassState) → Makes d step.Give b → call_of b ≡ at_rest → IsHistory b.table.config b.seen
+      pub freed_back : (b : PassState) → Makes d Step.Give b → call_of b ≡ at_rest → IsHistory b.table.config b.seen
           → IsPassOfObjects w k b
       freed_back b gives rests history =
           record {
-            pass = back_of answer.Done d freed b gives rests;
+            pass = back_of Answer.Done d freed b gives rests;
             objects = freed_keeps
                 (frees_object false false p q d d b r (callers p is.pass.idle) own takes begins t retires u runs_none u
                 gives rests history).called
@@ -103,20 +85,20 @@ module _ (w : WordsState) (k r : ℕ) (p : PassState) (is : IsPassOfObjects w k 
 
     -- It was freed already.
     module _ (d : PassState) (finds : FindsFreed q r d) (u : InTurn d) where
-      pub double : TurnGoesOn (Some answer.Double) q d
+      pub double : TurnGoesOn (Some Answer.Double) q d
       double = double_on false p q d d r (callers p is.pass.idle) own takes begins t finds u
 
       pub double_table : d.table ≡ w
       double_table = ap (λ (x : PassState). x.table) double.does.is ∙ taken_table
 
-      pub double_may_give : IsEnabledTo d step.Give
+      pub double_may_give : IsEnabledTo d Step.Give
       double_may_give = give_allowed d u double.quiet (double.decided refl)
 
-      pub double_back : (b : PassState) → Makes d step.Give b → call_of b ≡ at_rest → IsHistory b.table.config b.seen
+      pub double_back : (b : PassState) → Makes d Step.Give b → call_of b ≡ at_rest → IsHistory b.table.config b.seen
           → IsPassOfObjects w k b
       double_back b gives rests history =
           record {
-            pass = back_of answer.Double d double b gives rests;
+            pass = back_of Answer.Double d double b gives rests;
             objects = double_keeps
                 (is_answered_double false p q d b r (callers p is.pass.idle) own takes begins t finds u gives rests
                 history).called

@@ -1,14 +1,9 @@
 -- A page has at most 32 cells.
-use Rattle.std.proofs.Common.{◌≡◌, ℕ, ◌<◌, refl, arith}
-use Rattle.std.specs.Prelude.{Option, Some, None}
-use Rattle.std.proofs.lemmas.Nat.{mul-le}
-use Rattle.mk_geom.specs.declared.headers.Header.{Header}
-use Rattle.mk_geom.specs.declared.headers.Header.TheVariants.{Free, Block, Run, Later, LeafBlock, LeafRun}
-use Rattle.mk_geom.specs.Classes.{cells_of, class_words_of}
-use Rattle.mk_geom.specs.Headers.{header_of, IsInRange}
-use Rattle.mk_geom.proofs.ClassTable.{class_words_within, cell_ends}
-use Rattle.mk_geom.proofs.HeaderLemmas.{word_of-header_of}
-use Rattle.mk_core.specs.Cells.{cells_under}
+use Rattle.mk_laws.proofs.Vocabulary.{Block, Free, Header, Later, LeafBlock, LeafRun, None, Option, Run, Some, ℕ, arith}
+use Rattle.mk_laws.proofs.Vocabulary.{cell_ends, cells_of, cells_under, class_words_of, header_of, mul-le, refl, ◌<◌}
+use Rattle.mk_laws.proofs.Vocabulary.{◌≡◌}
+use Rattle.mk_geom.proofs.{ClassTable.class_words_within, HeaderLemmas.word_of-header_of}
+use Rattle.mk_geom.specs.Headers.{IsInRange}
 
 few_of_class : (class k : ℕ) → class < 8 → k < cells_of class → k < 32
 few_of_class class k known lt =

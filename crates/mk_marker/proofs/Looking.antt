@@ -1,37 +1,19 @@
 -- Looks at pages, one after the other.
-use Rattle.mk_core.specs.declared.seats.Marker.{Marker as MarkerState}
-use Rattle.std.proofs.Common.{◌≡◌, ◌≢◌, ◌⊎◌, ℕ, ◌+◌, ◌<◌, ◌≤◌, true, List, [], ◌∷◌, ◌++◌, refl, sym, ◌∙◌, ap, subst}
-use Rattle.std.proofs.Common.{inl, inr, append_assoc, arith}
-use Rattle.std.specs.Prelude.{not, Option, Some, None, IfSome, IfNone}
-use Rattle.std.proofs.lemmas.Bool.{and_parts, not-true}
-use Rattle.mk_geom.specs.Headers.{header_of}
-use Rattle.mk_core.specs.declared.config.Config.{Config}
-use Rattle.mk_core.specs.declared.events.Seat.{Seat}
-use Rattle.mk_core.specs.declared.events.Seat.TheVariants.{Caller, Marker, Host}
-use Rattle.mk_core.specs.declared.events.Word.TheVariants as word
-use Rattle.mk_core.specs.declared.events.Step.{Step}
-use Rattle.mk_core.specs.declared.events.Step.TheVariants as step
-use Rattle.mk_core.specs.declared.seats.SeenHeader.{SeenHeader}
-use Rattle.mk_core.specs.Bits.{has_bit, without}
-use Rattle.mk_core.specs.Cells.{cells_under}
-use Rattle.mk_core.specs.Effects.{marker_behind}
-use Rattle.mk_core.specs.Growing.{Finding}
-use Rattle.mk_core.specs.Moments.{Moment, marker_at}
-use Rattle.mk_core.specs.StopConditions.{is_attending}
-use Rattle.mk_core.specs.Words.{named_word, header_at}
-use Rattle.mk_core.proofs.BitsWithout.{has_bit_without}
+use Rattle.std.proofs.Common.{IfNone, IfSome}
+use Rattle.mk_laws.proofs.Vocabulary.{Caller, Config, Host, IsMarking, List, Marker, MarkerState, Moment, None, Option}
+use Rattle.mk_laws.proofs.Vocabulary.{Seat, SeenHeader, Some, Step, Word, ℕ, and_parts, ap, append_assoc, arith}
+use Rattle.mk_laws.proofs.Vocabulary.{cells_under, has_bit, has_bit_without, header_at, header_of, inl, inr}
+use Rattle.mk_laws.proofs.Vocabulary.{is_attending, marker_at, marker_behind, not, not-true, refl, subst, sym, true}
+use Rattle.mk_laws.proofs.Vocabulary.{without, [], ◌++◌, ◌+◌, ◌<◌, ◌∙◌, ◌∷◌, ◌≡◌, ◌≢◌, ◌≤◌, ◌⊎◌}
+use Rattle.mk_core.specs.{Growing.Finding, Words.named_word}
 use Rattle.mk_laws.proofs.Known.{Known, known_left}
-use Rattle.mk_laws.specs.Guard.{IsMarking}
-use Rattle.mk_words.specs.States.{PassState, now_of}
-use Rattle.mk_words.specs.Markers.{marker_in}
+use Rattle.mk_marker.proofs.{Did.did_nothing, Did.did_then, Did.seat_kept, MarkedCells.marks_are_of_cells}
+use Rattle.mk_marker.specs.Doing.{Did, finding, is_markers_look, looking}
+use Rattle.mk_marker.specs.Markers.{IsBetweenScans, attends, between_scans}
+use Rattle.mk_marker.specs.Steps.{IsMarkedIn, LooksInVain, MovesMarker, SeesCell}
+use Rattle.mk_marker.specs.{Working.SeesACell, Working.SeesNoWork, declared.cells.MarkedCell.MarkedCell}
 use Rattle.mk_turns.proofs.Doing.{of_kinds_in_parts}
-use Rattle.mk_marker.specs.declared.cells.MarkedCell.{MarkedCell}
-use Rattle.mk_marker.specs.Markers.{IsBetweenScans, between_scans, attends}
-use Rattle.mk_marker.specs.Doing.{Did, finding, looking, is_markers_look}
-use Rattle.mk_marker.specs.Working.{SeesNoWork, SeesACell}
-use Rattle.mk_marker.specs.Steps.{MovesMarker, IsMarkedIn, LooksInVain, SeesCell}
-use Rattle.mk_marker.proofs.Did.{did_then, did_nothing, seat_kept}
-use Rattle.mk_marker.proofs.MarkedCells.{marks_are_of_cells}
+use Rattle.mk_words.specs.{Markers.marker_in, States.PassState, States.now_of}
 
 -- one more step
 pub did_more : (p : PassState) (xs : List Finding) (q : PassState) (s : Step) (n : ℕ) (r : PassState) → Did p xs q
@@ -52,8 +34,8 @@ seen_before s page xs ys h =
       blacks = h.blacks;
       is =
           ap (λ (zs : List Finding). zs ++ ys) h.is
-          ∙ append_assoc h.before (looking s (word.Mark page) h.marks ∷ looking s
-          (word.Black page) h.blacks ∷ h.behind) ys;
+          ∙ append_assoc h.before (looking s (Word.Mark page) h.marks ∷ looking s
+          (Word.Black page) h.blacks ∷ h.behind) ys;
       no_work = elim h.no_work [
         | inl none ↦ inl none
         | inr free ↦ inr
@@ -70,8 +52,8 @@ seen_behind s page xs ys h =
       blacks = h.blacks;
       is =
           ap (λ (zs : List Finding). xs ++ zs) h.is
-          ∙ sym (append_assoc xs h.before (looking s (word.Mark page) h.marks ∷ looking s
-          (word.Black page) h.blacks ∷ h.behind));
+          ∙ sym (append_assoc xs h.before (looking s (Word.Mark page) h.marks ∷ looking s
+          (Word.Black page) h.blacks ∷ h.behind));
       no_work = h.no_work;
     }
 
@@ -120,8 +102,8 @@ sees_then p a b q cell r one two =
         is =
             ap (λ (zs : List Finding). one.steps ++ zs) sees.is
             ∙ sym (append_assoc one.steps sees.looks
-            (looking p.seat (word.Mark cell.page) sees.marks ∷ looking p.seat
-            (word.Black cell.page) sees.blacks ∷ looking p.seat (word.Head cell.page) cell.header ∷ []));
+            (looking p.seat (Word.Mark cell.page) sees.marks ∷ looking p.seat
+            (Word.Black cell.page) sees.blacks ∷ looking p.seat (Word.Head cell.page) cell.header ∷ []));
         are_looks = of_kinds_in_parts is_markers_look one.steps sees.looks one.looks sees.are_looks;
         marked = sees.marked;
         not_black = sees.not_black;
@@ -134,63 +116,63 @@ sees_then p a b q cell r one two =
 -- A look of a marker between two scans leaves it so.
 
 behind_look : (c : Config) (n page : ℕ) (x : MarkerState) (seen : Option SeenHeader) → x ≡ between_scans seen
-    → marker_behind c n (step.Mlook (word.Head page)) x ≡ between_scans (Some (record { page = page; header = n }))
-behind_look c n page x seen is = ap (λ (y : MarkerState). marker_behind c n (step.Mlook (word.Head page)) y) is
+    → marker_behind c n (Step.Mlook (Word.Head page)) x ≡ between_scans (Some (record { page = page; header = n }))
+behind_look c n page x seen is = ap (λ (y : MarkerState). marker_behind c n (Step.Mlook (Word.Head page)) y) is
 
 -- the looks at a page's mark and black word
 pub record TwoLooks (p : PassState) (page n m : ℕ) (b : PassState) : Type 0 where
-  pub did : Did p (looking p.seat (word.Mark page) n ∷ looking p.seat (word.Black page) m ∷ []) b
+  pub did : Did p (looking p.seat (Word.Mark page) n ∷ looking p.seat (Word.Black page) m ∷ []) b
   pub marker : marker_in b ≡ between_scans None
 
 pub two_looks : (p : PassState) (page n : ℕ) (a : PassState) (m : ℕ) (b : PassState) → IsBetweenScans p
-    → MovesMarker p (step.Mlook (word.Mark page)) n a
-    → MovesMarker a (step.Mlook (word.Black page)) m b → TwoLooks p page n m b
+    → MovesMarker p (Step.Mlook (Word.Mark page)) n a
+    → MovesMarker a (Step.Mlook (Word.Black page)) m b → TwoLooks p page n m b
 two_looks p page n a m b between one two =
     let at : marker_in a ≡ between_scans None =
-    one.marker ∙ ap (λ (x : MarkerState). marker_behind p.table.config n (step.Mlook (word.Mark page)) x) between.1 in
+    one.marker ∙ ap (λ (x : MarkerState). marker_behind p.table.config n (Step.Mlook (Word.Mark page)) x) between.1 in
     record {
-      did = did_more p (looking p.seat (word.Mark page) n ∷ []) a (step.Mlook (word.Black page)) m b one.did two;
+      did = did_more p (looking p.seat (Word.Mark page) n ∷ []) a (Step.Mlook (Word.Black page)) m b one.did two;
       marker = two.marker ∙ ap (λ (x : MarkerState). marker_behind a.table.config m
-          (step.Mlook (word.Black page)) x) at;
+          (Step.Mlook (Word.Black page)) x) at;
     }
 
 pub nothing_to_scan : (p : PassState) (page n m : ℕ) (b : PassState) → TwoLooks p page n m b → without n m ≡ 0
     → LooksInVain p page (page + 1) b
 nothing_to_scan p page n m b two none =
     record {
-      steps = looking p.seat (word.Mark page) n ∷ looking p.seat (word.Black page) m ∷ [];
+      steps = looking p.seat (Word.Mark page) n ∷ looking p.seat (Word.Black page) m ∷ [];
       did = two.did;
       looks = refl;
       pages = λ other le lt.
           let same : page ≡ other = omega arith in
-          subst (λ (i : ℕ). SeesNoWork p.seat i (looking p.seat (word.Mark page) n ∷ looking p.seat
-          (word.Black page) m ∷ [])) same
+          subst (λ (i : ℕ). SeesNoWork p.seat i (looking p.seat (Word.Mark page) n ∷ looking p.seat
+          (Word.Black page) m ∷ [])) same
           (record { before = []; behind = []; marks = n; blacks = m; is = refl; no_work = inl none });
       between = (None, two.marker);
     }
 
 pub no_cell_yet : (p : PassState) (page n m : ℕ) (b : PassState) (h : ℕ) (d : PassState) → TwoLooks p page n m b
-    → MovesMarker b (step.Mlook (word.Head page)) h d → h ≡ 0 → LooksInVain p page (page + 1) d
+    → MovesMarker b (Step.Mlook (Word.Head page)) h d → h ≡ 0 → LooksInVain p page (page + 1) d
 no_cell_yet p page n m b h d two head free =
-    let xs = looking p.seat (word.Mark page) n ∷ looking p.seat (word.Black page) m ∷ looking p.seat
-    (word.Head page) 0 ∷ [] in
+    let xs = looking p.seat (Word.Mark page) n ∷ looking p.seat (Word.Black page) m ∷ looking p.seat
+    (Word.Head page) 0 ∷ [] in
     record {
-      steps = looking p.seat (word.Mark page) n ∷ looking p.seat (word.Black page) m ∷ looking p.seat
-          (word.Head page) 0 ∷ [];
+      steps = looking p.seat (Word.Mark page) n ∷ looking p.seat (Word.Black page) m ∷ looking p.seat
+          (Word.Head page) 0 ∷ [];
       did =
-          subst (λ (i : ℕ). Did p (looking p.seat (word.Mark page) n ∷ looking p.seat
-          (word.Black page) m ∷ looking p.seat (word.Head page) i ∷ []) d) free
-          (did_more p (looking p.seat (word.Mark page) n ∷ looking p.seat (word.Black page) m ∷ []) b
-          (step.Mlook (word.Head page)) h d two.did head);
+          subst (λ (i : ℕ). Did p (looking p.seat (Word.Mark page) n ∷ looking p.seat
+          (Word.Black page) m ∷ looking p.seat (Word.Head page) i ∷ []) d) free
+          (did_more p (looking p.seat (Word.Mark page) n ∷ looking p.seat (Word.Black page) m ∷ []) b
+          (Step.Mlook (Word.Head page)) h d two.did head);
       looks = refl;
       pages = λ other le lt.
           let same : page ≡ other = omega arith in
-          subst (λ (i : ℕ). SeesNoWork p.seat i (looking p.seat (word.Mark page) n ∷ looking p.seat
-          (word.Black page) m ∷ looking p.seat (word.Head page) 0 ∷ [])) same
+          subst (λ (i : ℕ). SeesNoWork p.seat i (looking p.seat (Word.Mark page) n ∷ looking p.seat
+          (Word.Black page) m ∷ looking p.seat (Word.Head page) 0 ∷ [])) same
           (record {
             before = [];
             behind = looking p.seat
-                (word.Head page) 0 ∷ [];
+                (Word.Head page) 0 ∷ [];
             marks = n;
             blacks = m;
             is = refl;
@@ -212,16 +194,16 @@ marking_for c m Host known on = cc
 
 pub a_cell : (p : PassState) (page n : ℕ) (a : PassState) (m : ℕ) (b : PassState) (h : ℕ) (d : PassState) (k : ℕ)
     → IsBetweenScans p
-    → MovesMarker p (step.Mlook (word.Mark page)) n a → n ≡ named_word (now_of a).words (word.Mark page)
-    → MovesMarker a (step.Mlook (word.Black page)) m b
-    → MovesMarker b (step.Mlook (word.Head page)) h d → h ≡ named_word (now_of d).words (word.Head page)
+    → MovesMarker p (Step.Mlook (Word.Mark page)) n a → n ≡ named_word (now_of a).words (Word.Mark page)
+    → MovesMarker a (Step.Mlook (Word.Black page)) m b
+    → MovesMarker b (Step.Mlook (Word.Head page)) h d → h ≡ named_word (now_of d).words (Word.Head page)
     → h ≢ 0 → has_bit (without n m) k ≡ true
     → SeesCell p (record { page = page; index = k; header = h }) d
 a_cell p page n a m b h d k between one marks two head shows some bit =
     let history = head.pass.history in
     let looks = two_looks p page n a m b between one two in
     let at : marker_in a ≡ between_scans None =
-    one.marker ∙ ap (λ (x : MarkerState). marker_behind p.table.config n (step.Mlook (word.Mark page)) x) between.1 in
+    one.marker ∙ ap (λ (x : MarkerState). marker_behind p.table.config n (Step.Mlook (Word.Mark page)) x) between.1 in
     let now : marker_in d ≡ between_scans (Some (record { page = page; header = h })) =
     head.marker ∙ behind_look b.table.config h page (marker_in b) None looks.marker in
     let parts = and_parts (has_bit n k) (not (has_bit m k)) (sym (has_bit_without n m k) ∙ bit) in
@@ -236,10 +218,10 @@ a_cell p page n a m b h d k between one marks two head shows some bit =
     let cell : k < cells_under (header_of (header_at (now_of d).words page)) =
     marks_are_of_cells d.table.config d.seen history early page k still (λ z. some (shows ∙ z)) in
     record {
-      steps = looking p.seat (word.Mark page) n ∷ looking p.seat (word.Black page) m ∷ looking p.seat
-          (word.Head page) h ∷ [];
-      did = did_more p (looking p.seat (word.Mark page) n ∷ looking p.seat (word.Black page) m ∷ []) b
-          (step.Mlook (word.Head page)) h d looks.did head;
+      steps = looking p.seat (Word.Mark page) n ∷ looking p.seat (Word.Black page) m ∷ looking p.seat
+          (Word.Head page) h ∷ [];
+      did = did_more p (looking p.seat (Word.Mark page) n ∷ looking p.seat (Word.Black page) m ∷ []) b
+          (Step.Mlook (Word.Head page)) h d looks.did head;
       sees = record {
         looks = [];
         marks = n;

@@ -1,42 +1,16 @@
 -- What an event leaves of the marks while a cycle marks: each is of a cell, or of one that a New is to carve.
-use Rattle.std.proofs.Common.{◌≡◌, ◌⊎◌, ℕ, ◌+◌, ◌<◌, Bool, true, false, refl, sym, ◌∙◌, ap, subst, inl, inr, arith}
-use Rattle.std.specs.Prelude.{Option, slice_index, ◌&&◌, ◌==◌, if◌then◌else◌}
-use Rattle.std.proofs.lemmas.Bool.{eqb-true, ne_eqb, true≢false, and_parts}
-use Rattle.mk_geom.specs.declared.pages.Place.{Place}
-use Rattle.mk_geom.specs.Headers.{header_of}
-use Rattle.mk_core.specs.declared.config.Config.{Config}
-use Rattle.mk_core.specs.declared.events.Seat.{Seat}
-use Rattle.mk_core.specs.declared.events.Step.{Step}
-use Rattle.mk_core.specs.declared.events.Step.TheVariants as step
-use Rattle.mk_core.specs.declared.seats.Holding.{Holding}
-use Rattle.mk_core.specs.declared.seats.Object.{Object}
-use Rattle.mk_core.specs.declared.seats.Placing.{Placing}
-use Rattle.mk_core.specs.declared.seats.Placing.TheVariants.{Unplaced, Chosen, Used, Granted}
-use Rattle.mk_core.specs.declared.seats.Stage.{Stage}
-use Rattle.mk_core.specs.declared.seats.Stage.TheVariants as stage
-use Rattle.mk_core.specs.Bits.{has_bit}
-use Rattle.mk_core.specs.Config.{IsWithinLimits}
-use Rattle.mk_core.specs.Words.{header_at, phase_of}
-use Rattle.mk_core.specs.Cells.{header_in, cells_under}
-use Rattle.mk_core.specs.NewPlaces.{object_made, header_made, is_run_gone}
-use Rattle.mk_core.specs.ObjectHeaders.{IsSized, cells_made}
-use Rattle.mk_core.specs.TurnConditions.{place_now, held_by_pages, is_decided, is_used_once}
-use Rattle.mk_core.specs.StopConditions.{marks_place}
-use Rattle.mk_core.specs.Effects.{chosen}
-use Rattle.mk_core.specs.Moments.{Moment, flight_of, is_phase, nothing_done}
-use Rattle.mk_core.specs.History.{World}
-use Rattle.mk_core.proofs.ObjectHeaders.{made_shows, part_cells}
-use Rattle.mk_core.proofs.PageSteps.{UsedStep, ItTakes, ItGivesBack, used_step}
-use Rattle.mk_core.proofs.PlacesNow.{IsPlaced, ByFit, AsChosen, AsUsed, placed_now, undecided_new}
-use Rattle.mk_core.proofs.Sizes.{pages_some}
-use Rattle.mk_laws.specs.Protocol.{has_place}
-use Rattle.mk_laws.proofs.Actors.{Meets}
-use Rattle.mk_laws.proofs.Known.{Known}
-use Rattle.mk_laws.proofs.OthersMoves.{WorldBehind}
-use Rattle.mk_laws.specs.Guard.{HeaderGoesOn, IsMarking}
-use Rattle.mk_laws.specs.Terrain.{object_now}
-use Rattle.mk_laws.proofs.Behind.{object_kind}
-use Rattle.mk_laws.proofs.LayoutHolders.{new_has_turn, giver_has_turn, holding_object, placed_undecided, made_sized}
+use Rattle.mk_laws.proofs.Vocabulary.{AsChosen, AsUsed, Bool, ByFit, Chosen, Config, Granted, HeaderGoesOn, Holding}
+use Rattle.mk_laws.proofs.Vocabulary.{IsMarking, IsPlaced, IsSized, IsWithinLimits, ItGivesBack, ItTakes, Moment}
+use Rattle.mk_laws.proofs.Vocabulary.{Object, Option, Place, Placing, Seat, Stage, Step, Unplaced, Used, UsedStep}
+use Rattle.mk_laws.proofs.Vocabulary.{World, ℕ, and_parts, ap, arith, cells_made, cells_under, chosen, eqb-true, false}
+use Rattle.mk_laws.proofs.Vocabulary.{flight_of, has_bit, has_place, header_at, header_in, header_made, header_of}
+use Rattle.mk_laws.proofs.Vocabulary.{held_by_pages, if◌then◌else◌, inl, inr, is_decided, is_phase, is_run_gone}
+use Rattle.mk_laws.proofs.Vocabulary.{is_used_once, made_shows, marks_place, ne_eqb, nothing_done, object_made}
+use Rattle.mk_laws.proofs.Vocabulary.{object_now, pages_some, part_cells, phase_of, place_now, placed_now, refl}
+use Rattle.mk_laws.proofs.Vocabulary.{slice_index, subst, sym, true, true≢false, undecided_new, used_step, ◌&&◌, ◌+◌}
+use Rattle.mk_laws.proofs.Vocabulary.{◌<◌, ◌==◌, ◌∙◌, ◌≡◌, ◌⊎◌}
+use Rattle.mk_laws.proofs.LayoutHolders.{giver_has_turn, holding_object, made_sized, new_has_turn, placed_undecided}
+use Rattle.mk_laws.proofs.{Actors.Meets, Behind.object_kind, Known.Known, OthersMoves.WorldBehind}
 
 -- the cell of a place whose first page is to be carved
 pub record IsToCarve (c : Config) (m : Moment) (p k : ℕ) : Type 0 where
@@ -80,8 +54,8 @@ chosen_still : (b : Bool) (p : Placing) (o : Option Place) (place : Place) → p
 chosen_still true p o place is = ap (λ (x : Placing). chosen x o) is
 chosen_still false p o place is = is
 
-undecided : (s : Stage) → s ≡ stage.Turn → is_decided s ≡ true → ⊥
-undecided stage.Turn at h = cc
+undecided : (s : Stage) → s ≡ Stage.Turn → is_decided s ≡ true → ⊥
+undecided Stage.Turn at h = cc
 undecided _ at h = cc
 
 not_used : (p : Placing) (place : Place) → p ≡ Chosen place → is_used_once p ≡ true → ⊥
@@ -99,7 +73,7 @@ StaysChosen c w seat place x =
 module _ (c : Config) (w : World) (seat : Seat) (limits : IsWithinLimits c) (known : Known c w.now)
     (early : IsMarking w.now.words) (place : Place)
     (is : w.now.seats.holding.placing ≡ Chosen place) where
-  gives_not : Meets c w.now seat step.Give → ⊥
+  gives_not : Meets c w.now seat Step.Give → ⊥
   gives_not h =
       let t = giver_has_turn c w.now seat known h in
       let new = placed_undecided c w.now seat known t (ap (λ (x : Placing). has_place x) is) in
@@ -111,8 +85,8 @@ module _ (c : Config) (w : World) (seat : Seat) (limits : IsWithinLimits c) (kno
       let d = and_parts decided gone b.0 in
       undecided (flight_of w.now seat).stage (undecided_new (flight_of w.now seat) new).stage d.0
 
-  takes : (p n : ℕ) → Meets c w.now seat (step.Used p n) → UsedStep c w.now (flight_of w.now seat) p n
-      → StaysChosen c w seat place (step.Used p n)
+  takes : (p n : ℕ) → Meets c w.now seat (Step.Used p n) → UsedStep c w.now (flight_of w.now seat) p n
+      → StaysChosen c w seat place (Step.Used p n)
   takes p n h (ItTakes four once t) =
       let now = placed_now c w.now (flight_of w.now seat) t.place t.there in
       let o : Object = object_made c (flight_of w.now seat).op in
@@ -138,15 +112,15 @@ module _ (c : Config) (w : World) (seat : Seat) (limits : IsWithinLimits c) (kno
   takes p n h (ItGivesBack four g) = absurd (true≢false (sym four ∙ marking_not_four (phase_of w.now.words) early))
 
   pub stays_chosen : (x : Step) → Meets c w.now seat x → StaysChosen c w seat place x
-  stays_chosen (step.Take o) h =
+  stays_chosen (Step.Take o) h =
       inl (either (w.now.words.turn == 0) w.now.seats.holding place is
       (λ z. ap (λ (y : Holding). y.placing) (known.orderly.free (eqb-true w.now.words.turn 0 z))))
-  stays_chosen step.Give h = absurd (gives_not h)
-  stays_chosen (step.Head p n) h = inl (still_chosen (is_phase w.now.words 4) w.now.seats.holding.placing
+  stays_chosen Step.Give h = absurd (gives_not h)
+  stays_chosen (Step.Head p n) h = inl (still_chosen (is_phase w.now.words 4) w.now.seats.holding.placing
       (place_now c w.now (flight_of w.now seat)) place is)
-  stays_chosen (step.Used p n) h = takes p n h (used_step c w.now (flight_of w.now seat) p n h.holder)
-  stays_chosen step.Grant h = absurd (not_used w.now.seats.holding.placing place is h.holder)
-  stays_chosen (step.Mark p n) h =
+  stays_chosen (Step.Used p n) h = takes p n h (used_step c w.now (flight_of w.now seat) p n h.holder)
+  stays_chosen Step.Grant h = absurd (not_used w.now.seats.holding.placing place is h.holder)
+  stays_chosen (Step.Mark p n) h =
       inl (chosen_still (marks_place w.now.words (object_made c (flight_of w.now seat).op)
       (place_now c w.now (flight_of w.now seat)) p n) w.now.seats.holding.placing
       (place_now c w.now (flight_of w.now seat)) place is)

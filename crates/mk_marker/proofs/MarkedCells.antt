@@ -1,43 +1,19 @@
 -- While a cycle marks, each mark on a page that has a header is of a cell.
-use Rattle.std.proofs.Common.{◌≡◌, ◌≢◌, ◌⊎◌, ℕ, ◌+◌, ◌<◌, true, false, List, [], ◌∷◌, ◌++◌, refl, sym, ◌∙◌, subst, inl}
-use Rattle.std.proofs.Common.{inr, arith, append-nil, append_assoc}
-use Rattle.std.specs.Prelude.{slice_index, ◌&&◌, ◌==◌}
-use Rattle.std.proofs.lemmas.Bool.{cases_lt, eqb-true, true≢false, and_parts}
-use Rattle.std.proofs.lemmas.List.{get_or_past}
-use Rattle.mk_core.specs.declared.config.Config.{Config}
-use Rattle.mk_core.specs.declared.events.Event.{Event}
-use Rattle.mk_core.specs.declared.events.Seat.{Seat}
-use Rattle.mk_core.specs.declared.events.Step.{Step}
-use Rattle.mk_core.specs.declared.events.Step.TheVariants as step
-use Rattle.mk_core.specs.declared.seats.Placing.{Placing}
-use Rattle.mk_core.specs.Bits.{has_bit}
-use Rattle.mk_core.specs.Bounded.{all_below}
-use Rattle.mk_core.specs.Cells.{header_in, cells_under}
-use Rattle.mk_core.specs.Config.{IsWithinLimits}
-use Rattle.mk_core.specs.History.{IsHistory, World, left, left_from, never_behind}
-use Rattle.mk_core.specs.Layout.{AreOfPages}
-use Rattle.mk_core.specs.NewPlaces.{header_made}
-use Rattle.mk_core.specs.StopConditions.{has_clean_page}
-use Rattle.mk_core.specs.Words.{header_at, phase_of}
-use Rattle.mk_core.proofs.AllBelow.{all_below-at}
-use Rattle.mk_core.proofs.HistoryParts.{earlier_part_is_history}
-use Rattle.mk_core.proofs.Sizes.{pages_some}
-use Rattle.mk_core.proofs.WordBits.{no_bit}
-use Rattle.mk_laws.proofs.Actors.{Meets}
-use Rattle.mk_laws.proofs.Known.{Known}
-use Rattle.mk_laws.proofs.OthersMoves.{WorldBehind}
-use Rattle.mk_laws.specs.Guard.{HeaderGoesOn, Guard, IsMarking, MarksStand}
-use Rattle.mk_laws.specs.Kept.{GuardPremises}
-use Rattle.mk_laws.proofs.Changes.{headers_kind, is_head}
-use Rattle.mk_laws.proofs.FoundHeaders.{head_finds}
-use Rattle.mk_laws.proofs.Headers.{head_keeps}
-use Rattle.mk_laws.proofs.KeptGuard.{goes_equal}
-use Rattle.mk_laws.proofs.Phases.{is_phase_step, phase_stays, over_phase}
-use Rattle.mk_laws.proofs.InvariantJoined.{told_to_guard}
-use Rattle.mk_laws.specs.LayoutScene.{PlotStands, IsPlotShown}
-use Rattle.mk_laws.specs.Terrain.{LayoutStands, object_now, plot_of}
-use Rattle.mk_laws.proofs.LastEvents.{stands, comes_last}
-use Rattle.mk_marker.proofs.MarkBits.{MarksAreOfCells, IsCell, IsToCarve, made_has, marking_not_four, still_a_cell}
+use Rattle.mk_laws.proofs.Vocabulary.{AreOfPages, Config, Event, GuardPremises, HeaderGoesOn, IsHistory, IsMarking}
+use Rattle.mk_laws.proofs.Vocabulary.{IsPlotShown, IsWithinLimits, LayoutStands, List, Placing, PlotStands, Seat, Step}
+use Rattle.mk_laws.proofs.Vocabulary.{World, ℕ, all_below, all_below-at, and_parts, append-nil, append_assoc, arith}
+use Rattle.mk_laws.proofs.Vocabulary.{cases_lt, cells_under, earlier_part_is_history, eqb-true, false, get_or_past}
+use Rattle.mk_laws.proofs.Vocabulary.{has_bit, has_clean_page, header_at, header_in, header_made, inl, inr, left}
+use Rattle.mk_laws.proofs.Vocabulary.{never_behind, no_bit, object_now, pages_some, phase_of, plot_of, refl}
+use Rattle.mk_laws.proofs.Vocabulary.{slice_index, subst, sym, true, true≢false, [], ◌&&◌, ◌++◌, ◌+◌, ◌<◌, ◌==◌, ◌∙◌}
+use Rattle.mk_laws.proofs.Vocabulary.{◌∷◌, ◌≡◌, ◌≢◌, ◌⊎◌}
+use Rattle.mk_core.specs.History.{left_from}
+use Rattle.mk_laws.proofs.Phases.{is_phase_step, over_phase, phase_stays}
+use Rattle.mk_laws.proofs.{Actors.Meets, Changes.headers_kind, Changes.is_head, FoundHeaders.head_finds}
+use Rattle.mk_laws.proofs.{Headers.head_keeps, InvariantJoined.told_to_guard, KeptGuard.goes_equal, Known.Known}
+use Rattle.mk_laws.proofs.{LastEvents.comes_last, LastEvents.stands, OthersMoves.WorldBehind}
+use Rattle.mk_laws.specs.Guard.{Guard, MarksStand}
+use Rattle.mk_marker.proofs.MarkBits.{IsCell, IsToCarve, MarksAreOfCells, made_has, marking_not_four, still_a_cell}
 use Rattle.mk_marker.proofs.NewMarks.{new_mark}
 
 -- headers go on while a cycle marks
@@ -45,7 +21,7 @@ headers_go_on : (c : Config) (w : World) (seat : Seat) (x : Step) → IsWithinLi
     → AreOfPages c.pages w.now.words → IsMarking w.now.words
     → GuardPremises c w → Meets c w.now seat x → (p : ℕ)
     → HeaderGoesOn c.pages (header_at w.now.words p) (header_at (WorldBehind c w seat x).now.words p)
-headers_go_on c w seat (step.Head q n) limits known len early say h p =
+headers_go_on c w seat (Step.Head q n) limits known len early say h p =
     (head_keeps c w.now seat q n len h (head_finds c w seat q n limits known early say h)).headers p
 headers_go_on c w seat x limits known len early say h p = rest x refl
   where
@@ -56,7 +32,7 @@ headers_go_on c w seat x limits known len early say h p = rest x refl
 
 -- after a `begin` nothing is marked
 nothing_marked : (c : Config) (w : World) (seat : Seat) → AreOfPages c.pages w.now.words
-    → Meets c w.now seat step.Begin → (p k : ℕ)
+    → Meets c w.now seat Step.Begin → (p k : ℕ)
     → has_bit (slice_index w.now.words.marks p) k ≡ true → ⊥
 nothing_marked c w seat len h p k is = true≢false (sym is ∙ no_bit (slice_index w.now.words.marks p) k none)
   where
@@ -92,21 +68,21 @@ marks_behind : (c : Config) (w : World) (seat : Seat) (x : Step) → IsWithinLim
     → AreOfPages c.pages w.now.words → LayoutStands c w → GuardPremises c w
     → MarksStand c w.now → Meets c w.now seat x → MarksAreOfCells c w.now
     → MarksAreOfCells c (WorldBehind c w seat x).now
-marks_behind c w seat step.Begin limits known len laid say g h all early p k is = absurd
+marks_behind c w seat Step.Begin limits known len laid say g h all early p k is = absurd
     (nothing_marked c w seat len h p k is)
-marks_behind c w seat step.Want limits known len laid say g h all early p k is =
+marks_behind c w seat Step.Want limits known len laid say g h all early p k is =
     let one = eqb-true (phase_of w.now.words) 1 h.phase in
-    cells_kept c w seat step.Want limits known len laid say (g.guarded (inl one)) (inl one) h all p k is
-marks_behind c w seat step.Close limits known len laid say g h all early p k is =
+    cells_kept c w seat Step.Want limits known len laid say (g.guarded (inl one)) (inl one) h all p k is
+marks_behind c w seat Step.Close limits known len laid say g h all early p k is =
     let two = eqb-true (phase_of w.now.words) 2 h.phase in absurd
     (elim early [ inl e ↦ omega arith | inr e ↦ omega arith ])
-marks_behind c w seat step.Release limits known len laid say g h all early p k is =
+marks_behind c w seat Step.Release limits known len laid say g h all early p k is =
     let three = eqb-true (phase_of w.now.words) 3 h.phase in absurd
     (elim early [ inl e ↦ omega arith | inr e ↦ omega arith ])
-marks_behind c w seat step.End limits known len laid say g h all early p k is =
+marks_behind c w seat Step.End limits known len laid say g h all early p k is =
     let four = eqb-true (phase_of w.now.words) 4 h.phase in absurd
     (elim early [ inl e ↦ omega arith | inr e ↦ omega arith ])
-marks_behind c w seat step.Over limits known len laid say g h all early p k is =
+marks_behind c w seat Step.Over limits known len laid say g h all early p k is =
     let zero = over_phase c w.now seat h in absurd (elim early [ inl e ↦ omega arith | inr e ↦ omega arith ])
 marks_behind c w seat x limits known len laid say g h all early p k is = rest x h refl early is
   where

@@ -1,48 +1,24 @@
 -- One step of a marker: what it leaves.
-use Rattle.mk_core.specs.declared.seats.Marker.{Marker as MarkerState}
-use Rattle.std.proofs.Common.{◌≡◌, ℕ, ◌+◌, ◌-◌, ◌*◌, ◌%◌, ◌<◌, ◌≤◌, Bool, true, List, [], ◌∷◌, ◌++◌}
-use Rattle.std.proofs.Common.{refl, sym, ◌∙◌, ap, subst, append_assoc, arith}
-use Rattle.std.specs.Prelude.{slice_index, if◌then◌else◌, Some, None, ◌&&◌, nat_lt, slice_set, bit_or}
-use Rattle.std.proofs.lemmas.Bool.{lt-ltb, eq-eqb}
-use Rattle.mk_geom.specs.Headers.{header_of}
-use Rattle.mk_core.specs.declared.config.Config.{Config}
-use Rattle.mk_core.specs.declared.events.Seat.{Seat}
-use Rattle.mk_core.specs.declared.events.Seat.TheVariants.{Caller, Marker, Host}
-use Rattle.mk_core.specs.declared.events.Step.{Step}
-use Rattle.mk_core.specs.declared.events.Step.TheVariants as step
-use Rattle.mk_core.specs.declared.events.Word.{Word}
-use Rattle.mk_core.specs.declared.events.Event.{Event}
-use Rattle.mk_core.specs.declared.seats.Presence.TheVariants.{Attending}
-use Rattle.mk_core.specs.Accesses.{found, scan_page, scan_bit}
-use Rattle.mk_core.specs.Cells.{words_under, cells_under}
-use Rattle.mk_core.specs.Enabled.{failing, marker_may}
-use Rattle.mk_core.proofs.Conditions.{meets_enabled}
-use Rattle.mk_core.specs.Effects.{marker_behind, scan_begun}
-use Rattle.mk_core.specs.Bits.{has_bit, bit_for}
+use Rattle.mk_laws.proofs.Vocabulary.{Bool, Caller, Config, Event, Host, List, Marker, MarkerState, Moment, None, Seat}
+use Rattle.mk_laws.proofs.Vocabulary.{Some, Step, Word, World, ℕ, ap, append_assoc, arith, bit_or, cells_under, eq-eqb}
+use Rattle.mk_laws.proofs.Vocabulary.{found, has_bit, header_of, histories_keep_lengths, if◌then◌else◌, is_attending}
+use Rattle.mk_laws.proofs.Vocabulary.{left, lt-ltb, marker_at, marker_behind, marker_may, nat_lt, refl, scan_begun}
+use Rattle.mk_laws.proofs.Vocabulary.{scan_page, slice_index, slice_set, subst, sym, true, words_under, world_behind}
+use Rattle.mk_laws.proofs.Vocabulary.{[], ◌%◌, ◌&&◌, ◌*◌, ◌++◌, ◌+◌, ◌-◌, ◌<◌, ◌∙◌, ◌∷◌, ◌≡◌, ◌≤◌}
+use Rattle.mk_core.proofs.{Conditions.meets_enabled, WordBits.bit_for_has, WordBits.bits_added}
 use Rattle.mk_core.specs.Frames.{Attends, ScanIsLeft}
-use Rattle.mk_core.specs.Growing.{Finding, own_from}
-use Rattle.mk_core.specs.History.{World, left, world_behind}
-use Rattle.mk_core.specs.Moments.{Moment, marker_at}
-use Rattle.mk_core.specs.StopConditions.{is_attending}
-use Rattle.mk_core.specs.Words.{named_word}
-use Rattle.mk_core.proofs.Lengths.{histories_keep_lengths}
-use Rattle.mk_core.proofs.WordBits.{bits_added, bit_for_has}
+use Rattle.mk_core.specs.{Accesses.scan_bit, Bits.bit_for, Enabled.failing, Growing.Finding, Growing.own_from}
+use Rattle.mk_core.specs.{Words.named_word, declared.seats.Presence.TheVariants.Attending}
 use Rattle.mk_laws.proofs.Changes.{marks_kind}
-use Rattle.mk_marker.specs.Working.{IsBlackIn}
-use Rattle.mk_words.specs.Seats.{Has}
-use Rattle.mk_words.specs.States.{WordsState, PassState, now_of, event_of}
-use Rattle.mk_words.specs.Steps.{Makes, Finds, found_by, IsEnabledTo}
-use Rattle.mk_words.specs.Markers.{marker_in, Marks}
-use Rattle.mk_words.proofs.Made.{made, own_before}
-use Rattle.mk_words.proofs.Seats.{same_self}
-use Rattle.mk_turns.specs.Doing.{AreOwnOrOfOthers, done_in}
-use Rattle.mk_turns.proofs.Doing.{done_in_parts, own_or_others_in_parts, others_are_so, none_own}
-use Rattle.mk_marker.specs.declared.cells.MarkedCell.{MarkedCell}
-use Rattle.mk_marker.specs.Markers.{attends, between_scans}
-use Rattle.mk_marker.specs.Doing.{Did, finding}
-use Rattle.mk_marker.specs.Scanning.{words_scanned}
-use Rattle.mk_marker.specs.Steps.{IsOf, MovesMarker, Moved, MarksGrow, IsMarkedIn, IsScanning, IsScanOf, ClaimsMarked}
+use Rattle.mk_marker.specs.Steps.{ClaimsMarked, IsMarkedIn, IsOf, IsScanning, IsScanOf, MarksGrow, Moved, MovesMarker}
 use Rattle.mk_marker.specs.Steps.{words_left}
+use Rattle.mk_marker.specs.{Doing.Did, Doing.finding, Markers.attends, Markers.between_scans, Scanning.words_scanned}
+use Rattle.mk_marker.specs.{Working.IsBlackIn, declared.cells.MarkedCell.MarkedCell}
+use Rattle.mk_turns.proofs.Doing.{done_in_parts, none_own, others_are_so, own_or_others_in_parts}
+use Rattle.mk_turns.specs.Doing.{AreOwnOrOfOthers, done_in}
+use Rattle.mk_words.proofs.{Made.made, Made.own_before, Seats.same_self}
+use Rattle.mk_words.specs.{Markers.Marks, Markers.marker_in, Seats.Has, States.PassState, States.WordsState}
+use Rattle.mk_words.specs.{States.event_of, States.now_of, Steps.Finds, Steps.IsEnabledTo, Steps.Makes, Steps.found_by}
 
 -- one own event
 one_own : (c : Config) (s : Seat) (w : World) (x : Step)
@@ -106,16 +82,16 @@ moves p s n q m =
 
 -- Who comes in finds one of the six phases.
 pub known_phase : (p : PassState) (n : ℕ) (q : PassState)
-    → Finds p step.Attend n q → n % 8 ≤ 5
+    → Finds p Step.Attend n q → n % 8 ≤ 5
 known_phase p n q f =
-    let d = made p step.Attend q f.makes in
+    let d = made p Step.Attend q f.makes in
     subst (λ (i : ℕ). i % 8 ≤ 5) (sym f.finds) d.protocol.low
 
 -- a look shows the word as it is then
-pub look_shows : (p : PassState) (x : Word) (n : ℕ) (q : PassState) → Finds p (step.Mlook x) n q
+pub look_shows : (p : PassState) (x : Word) (n : ℕ) (q : PassState) → Finds p (Step.Mlook x) n q
     → n ≡ named_word (now_of q).words x
 look_shows p x n q f =
-    let d = made p (step.Mlook x) q f.makes in
+    let d = made p (Step.Mlook x) q f.makes in
     f.finds ∙ sym (ap (λ (w : World). named_word w.now.words x) d.world)
 
 -- a step of which the number that it found isn't said
@@ -130,14 +106,14 @@ moved p s q m behind = (
 
 -- A claim of a cell that was marked finds it marked.
 pub still_marked : (p : PassState) (page k n : ℕ) (q : PassState) → attends p ≡ true
-    → IsMarkedIn p page k → Finds p (step.Claim page k) n q → has_bit n k ≡ true
+    → IsMarkedIn p page k → Finds p (Step.Claim page k) n q → has_bit n k ≡ true
 still_marked p page k n q on is f =
-    let d = made p (step.Claim page k) q f.makes in
+    let d = made p (Step.Claim page k) q f.makes in
     let scan = d.frame.scan (attends_there (now_of p) p.seat on) in
     ap (λ (i : ℕ). has_bit i k) f.finds ∙ scan.marks page k is
 
 scan_of : (c : Config) (page k header n : ℕ) → has_bit n k ≡ true
-    → marker_behind c n (step.Claim page k) (between_scans (Some (record { page = page; header = header })))
+    → marker_behind c n (Step.Claim page k) (between_scans (Some (record { page = page; header = header })))
     ≡ record {
       presence = Attending;
       scan = Some (scan_begun page k header);
@@ -157,7 +133,7 @@ scan_of c page k header n is =
 pub claimed : (p : PassState) (cell : MarkedCell) (n : ℕ) (q : PassState)
     → marker_in p ≡ between_scans (Some (record { page = cell.page; header = cell.header }))
     → IsMarkedIn p cell.page cell.index
-    → Marks p (step.Claim cell.page cell.index) n q
+    → Marks p (Step.Claim cell.page cell.index) n q
     → ClaimsMarked p cell q × IsScanning (marker_in q) × IsScanOf (marker_in q) cell.page cell.index ×
     (words_left (marker_in q) ≡ words_scanned cell.header)
 claimed p cell n q at is m =
@@ -172,9 +148,9 @@ claimed p cell n q at is m =
           (record { page = cell.page; header = cell.header });
     } in
     let now : marker_in q ≡ x =
-    m.marker ∙ ap (λ (y : MarkerState). marker_behind p.table.config n (step.Claim cell.page cell.index) y) at
+    m.marker ∙ ap (λ (y : MarkerState). marker_behind p.table.config n (Step.Claim cell.page cell.index) y) at
     ∙ scan_of p.table.config cell.page cell.index cell.header n marked in (
-      record { found = n; moves = moves p (step.Claim cell.page cell.index) n q m; marked = marked },
+      record { found = n; moves = moves p (Step.Claim cell.page cell.index) n q m; marked = marked },
       record {
         scan = scan_begun cell.page cell.index cell.header;
         seen = Some
@@ -197,9 +173,9 @@ claimed p cell n q at is m =
 pub may_claim_seen : (w : WordsState) (p : PassState) (cell : MarkedCell) → IsOf w p
     → marker_in p ≡ between_scans (Some (record { page = cell.page; header = cell.header }))
     → cell.page < w.config.pages → cell.index < cells_under (header_of cell.header) → cell.index < 32
-    → IsEnabledTo p (step.Claim cell.page cell.index)
+    → IsEnabledTo p (Step.Claim cell.page cell.index)
 may_claim_seen w p cell of at page index few =
-    let s : Step = step.Claim cell.page cell.index in
+    let s : Step = Step.Claim cell.page cell.index in
     let c : Config = p.table.config in
     let page_in : (nat_lt cell.page c.pages && nat_lt cell.index 32) ≡ true =
     ap (λ (b : Bool). b && nat_lt cell.index 32)
@@ -224,10 +200,10 @@ may_claim_seen w p cell of at page index few =
 
 -- after its `mblack` the cell is black
 pub blackened : (p : PassState) (page k : ℕ) (q : PassState)
-    → Makes p step.Mblack q
+    → Makes p Step.Mblack q
     → IsScanOf (marker_in p) page k → page < p.table.config.pages → k < 64 → IsBlackIn q page k
 blackened p page k q makes of lt few =
-    let d = made p step.Mblack q makes in
+    let d = made p Step.Mblack q makes in
     let c : Config = p.table.config in
     let w : World = left c (p.seen ++ makes.others) in
     let at : scan_page (marker_at w.now p.seat).scan ≡ page = ap
@@ -238,7 +214,7 @@ blackened p page k q makes of lt few =
     let there : has_bit (slice_index (slice_set w.now.words.blacks page
     (bit_or (slice_index w.now.words.blacks page) (bit_for k))) page) k ≡ true =
     bits_added w.now.words.blacks page (bit_for k) k (omega (arith, len.blacks, lt)) (bit_for_has k few) in
-    let black : has_bit (slice_index (world_behind c w (event_of p step.Mblack)).now.words.blacks page) k ≡ true =
+    let black : has_bit (slice_index (world_behind c w (event_of p Step.Mblack)).now.words.blacks page) k ≡ true =
     subst (λ (i : ℕ). has_bit (slice_index (slice_set w.now.words.blacks i
     (bit_or (slice_index w.now.words.blacks i) (scan_bit (marker_at w.now p.seat).scan))) page) k ≡ true) (sym at)
     (subst (λ (i : ℕ). has_bit (slice_index (slice_set w.now.words.blacks page

@@ -1,69 +1,39 @@
 -- The marks that an event adds are of cells, or of those that a New is to carve.
-use Rattle.std.proofs.Common.{◌≡◌, ◌⊎◌, ℕ, ◌+◌, ◌-◌, ◌^◌, ◌<◌, Bool, true, false, List, refl, sym, ◌∙◌, ap, subst, inl}
-use Rattle.std.proofs.Common.{inr, arith}
-use Rattle.std.specs.Prelude.{Option, Some, None, is_some, slice_index, ◌==◌, if◌then◌else◌}
-use Rattle.std.proofs.lemmas.Bool.{cases_Bool, cases_lt, eqb-true, true≢false, and_parts, or_cases}
 use Rattle.std.proofs.lemmas.Nat.Bits.{bit_at_ones_above}
-use Rattle.mk_geom.specs.declared.addresses.Cell.{Cell}
-use Rattle.mk_geom.specs.declared.pages.Place.{Place}
-use Rattle.mk_geom.specs.Addresses.{cell_at, page_at_address}
-use Rattle.mk_geom.specs.Classes.{cells_of}
-use Rattle.mk_core.specs.declared.config.Config.{Config}
-use Rattle.mk_core.specs.declared.events.Seat.{Seat}
-use Rattle.mk_core.specs.declared.events.Seat.TheVariants.{Caller, Marker, Host}
-use Rattle.mk_core.specs.declared.events.Step.{Step}
-use Rattle.mk_core.specs.declared.events.Step.TheVariants as step
-use Rattle.mk_core.specs.declared.seats.Hand.{Hand}
-use Rattle.mk_core.specs.declared.seats.Object.{Object}
-use Rattle.mk_core.specs.declared.seats.Placing.{Placing}
-use Rattle.mk_core.specs.declared.seats.Placing.TheVariants.{Unplaced, Chosen, Used, Granted}
-use Rattle.mk_core.specs.declared.seats.SeenHeader.{SeenHeader}
-use Rattle.mk_core.specs.Bits.{has_bit}
-use Rattle.mk_core.specs.Config.{IsWithinLimits}
-use Rattle.mk_core.specs.Words.{header_at, phase_of}
-use Rattle.mk_core.specs.Cells.{header_in, cells_under, pointed_cell}
-use Rattle.mk_core.specs.NewPlaces.{object_made, bits_made, header_made, is_small_object, class_made}
-use Rattle.mk_core.specs.ObjectHeaders.{cells_made}
-use Rattle.mk_core.specs.TurnConditions.{place_now}
-use Rattle.mk_core.specs.StopConditions.{is_attending, marks_by_hand, marks_place, is_bit_of}
-use Rattle.mk_core.specs.MarkerConditions.{cell_seen}
-use Rattle.mk_core.specs.Effects.{chosen}
-use Rattle.mk_core.specs.Moments.{Moment, flight_of, marker_of, marker_at, is_phase}
-use Rattle.mk_core.specs.Accesses.{seen_page, seen_bit}
-use Rattle.mk_core.specs.History.{World}
-use Rattle.mk_core.proofs.PlacesNow.{IsPlaced, ByFit, AsChosen, AsUsed, PlacedNow, placed_now}
-use Rattle.mk_core.proofs.ServingSteps.{MarksPlace, marks_is}
-use Rattle.mk_core.proofs.Sizes.{pages_some}
-use Rattle.mk_core.proofs.WordBits.{more_bits, bit_of_power, bit_of_cell, bit_is_one}
-use Rattle.mk_laws.specs.Protocol.{has_place}
-use Rattle.mk_laws.proofs.Actors.{Meets}
-use Rattle.mk_laws.proofs.Known.{Known}
-use Rattle.mk_laws.proofs.OthersMoves.{WorldBehind}
-use Rattle.mk_laws.specs.Guard.{HeaderGoesOn, MarkerStands, IsMarking}
-use Rattle.mk_laws.proofs.Changes.{Table, reg_table, tally_table}
-use Rattle.mk_laws.specs.LayoutScene.{Among}
-use Rattle.mk_laws.specs.Terrain.{LayoutStands, object_now, place_claim, claims_placed}
-use Rattle.mk_laws.specs.Ground.{ground_of}
-use Rattle.mk_laws.proofs.Serving.{placed_claim}
-use Rattle.mk_laws.proofs.Behind.{object_kind}
-use Rattle.mk_laws.proofs.LayoutHolders.{new_has_turn, holding_object, first_header}
-use Rattle.mk_marker.proofs.PointedCells.{pointed_is_cell, found_is_cell}
-use Rattle.mk_marker.proofs.MarkBits.{IsCell}
+use Rattle.mk_laws.proofs.Vocabulary.{Among, AsChosen, AsUsed, Bool, ByFit, Caller, Cell, Chosen, Config, Granted, Hand}
+use Rattle.mk_laws.proofs.Vocabulary.{HeaderGoesOn, Host, IsMarking, IsPlaced, IsWithinLimits, LayoutStands, List}
+use Rattle.mk_laws.proofs.Vocabulary.{Marker, MarkerStands, Moment, None, Object, Option, Place, Placing, Seat}
+use Rattle.mk_laws.proofs.Vocabulary.{SeenHeader, Some, Step, Unplaced, Used, World, ℕ, and_parts, ap, arith}
+use Rattle.mk_laws.proofs.Vocabulary.{cases_Bool, cases_lt, cell_at, cell_seen, cells_made, cells_of, cells_under}
+use Rattle.mk_laws.proofs.Vocabulary.{chosen, claims_placed, class_made, eqb-true, false, flight_of, ground_of, has_bit}
+use Rattle.mk_laws.proofs.Vocabulary.{has_place, header_at, header_in, header_made, if◌then◌else◌, inl, inr}
+use Rattle.mk_laws.proofs.Vocabulary.{is_attending, is_phase, is_small_object, is_some, marker_at, marker_of, marks_is}
+use Rattle.mk_laws.proofs.Vocabulary.{marks_place, object_made, object_now, or_cases, page_at_address, pages_some}
+use Rattle.mk_laws.proofs.Vocabulary.{phase_of, place_claim, place_now, placed_now, pointed_cell, refl, seen_bit}
+use Rattle.mk_laws.proofs.Vocabulary.{seen_page, slice_index, subst, sym, true, true≢false, ◌+◌, ◌-◌, ◌<◌, ◌==◌, ◌^◌}
+use Rattle.mk_laws.proofs.Vocabulary.{◌∙◌, ◌≡◌, ◌⊎◌}
+use Rattle.mk_core.proofs.WordBits.{bit_is_one, bit_of_cell, bit_of_power, more_bits}
+use Rattle.mk_core.proofs.{PlacesNow.PlacedNow, ServingSteps.MarksPlace}
+use Rattle.mk_core.specs.{NewPlaces.bits_made, StopConditions.is_bit_of, StopConditions.marks_by_hand}
+use Rattle.mk_laws.proofs.LayoutHolders.{first_header, holding_object, new_has_turn}
+use Rattle.mk_laws.proofs.{Actors.Meets, Behind.object_kind, Changes.Table, Changes.reg_table, Changes.tally_table}
+use Rattle.mk_laws.proofs.{Known.Known, OthersMoves.WorldBehind, Serving.placed_claim}
+use Rattle.mk_marker.proofs.{MarkBits.IsCell, PointedCells.found_is_cell, PointedCells.pointed_is_cell}
 
 -- no other kind changes the marks while a cycle marks
 abbrev pub is_marking_step : Step → Bool
-is_marking_step (step.Mark p n) = true
-is_marking_step step.Mmark = true
-is_marking_step (step.Clear p) = true
+is_marking_step (Step.Mark p n) = true
+is_marking_step Step.Mmark = true
+is_marking_step (Step.Clear p) = true
 is_marking_step _ = false
 
 marks_same : (c : Config) (w : World) (seat : Seat) (x : Step) → is_marking_step x ≡ false
     → (WorldBehind c w seat x).now.words.marks ≡ w.now.words.marks
-marks_same c w seat step.Reg u = ap (λ (t : Table). t.marks) (reg_table c w.now seat)
-marks_same c w seat (step.Tally n v) u = ap (λ (t : Table). t.marks) (tally_table w.now.words n v)
-marks_same c w seat (step.Mark p n) u = cc
-marks_same c w seat step.Mmark u = cc
-marks_same c w seat (step.Clear p) u = cc
+marks_same c w seat Step.Reg u = ap (λ (t : Table). t.marks) (reg_table c w.now seat)
+marks_same c w seat (Step.Tally n v) u = ap (λ (t : Table). t.marks) (tally_table w.now.words n v)
+marks_same c w seat (Step.Mark p n) u = cc
+marks_same c w seat Step.Mmark u = cc
+marks_same c w seat (Step.Clear p) u = cc
 marks_same c w seat _ u = refl
 
 -- the bits of a New's cells
@@ -129,10 +99,10 @@ module _ (c : Config) (w : World) (seat : Seat) (limits : IsWithinLimits c) (kno
           (pointed_is_cell c w laid on hand.value cell there))
 
   -- for the place of a New
-  by_place : (p n k : ℕ) → Meets c w.now seat (step.Mark p n)
+  by_place : (p n k : ℕ) → Meets c w.now seat (Step.Mark p n)
       → marks_place w.now.words (object_made c (flight_of w.now seat).op)
       (place_now c w.now (flight_of w.now seat)) p n ≡ true → has_bit n k ≡ true
-      → IsCell c (WorldBehind c w seat (step.Mark p n)).now p k
+      → IsCell c (WorldBehind c w seat (Step.Mark p n)).now p k
   by_place p n k h may is = at w.now.seats.holding.placing refl now.placed
     where
       m : MarksPlace w.now.words (object_made c (flight_of w.now seat).op)
@@ -156,7 +126,7 @@ module _ (c : Config) (w : World) (seat : Seat) (limits : IsWithinLimits c) (kno
 
       placed : (placing : Placing) → w.now.seats.holding.placing ≡ placing
           → chosen placing (Some m.place) ≡ Chosen m.place
-          → (WorldBehind c w seat (step.Mark p n)).now.seats.holding.placing ≡ Chosen m.place
+          → (WorldBehind c w seat (Step.Mark p n)).now.seats.holding.placing ≡ Chosen m.place
       placed placing e is =
           ap (λ (b : Bool). if b then chosen w.now.seats.holding.placing
           (place_now c w.now (flight_of w.now seat)) else w.now.seats.holding.placing) may
@@ -165,10 +135,10 @@ module _ (c : Config) (w : World) (seat : Seat) (limits : IsWithinLimits c) (kno
 
       carved : (placing : Placing) → w.now.seats.holding.placing ≡ placing
           → chosen placing (Some m.place) ≡ Chosen m.place
-          → IsCell c (WorldBehind c w seat (step.Mark p n)).now p k
+          → IsCell c (WorldBehind c w seat (Step.Mark p n)).now p k
       carved placing e is =
           let there = placed placing e is in
-          let kept = object_kind c w seat (step.Mark p n) known h (ap (λ (y : Placing). has_place y) there) in
+          let kept = object_kind c w seat (Step.Mark p n) known h (ap (λ (y : Placing). has_place y) there) in
           inr (record {
             place = m.place;
             chosen = there;
@@ -192,7 +162,7 @@ module _ (c : Config) (w : World) (seat : Seat) (limits : IsWithinLimits c) (kno
 
       at : (placing : Placing) → w.now.seats.holding.placing ≡ placing
           → IsPlaced c.resident w.now.words.pages (object_made c (flight_of w.now seat).op) m.place placing
-          → IsCell c (WorldBehind c w seat (step.Mark p n)).now p k
+          → IsCell c (WorldBehind c w seat (Step.Mark p n)).now p k
       at Unplaced e (ByFit fits) = carved Unplaced e refl
       at (Chosen y) e AsChosen = carved (Chosen m.place) e refl
       at (Used y) e AsUsed = absurd (used e)
@@ -233,20 +203,20 @@ module _ (c : Config) (w : World) (seat : Seat) (limits : IsWithinLimits c) (kno
       → ((p : ℕ) → HeaderGoesOn c.pages (header_at w.now.words p) (header_at (WorldBehind c w seat x).now.words p))
       → has_bit (slice_index (WorldBehind c w seat x).now.words.marks p) k ≡ true
       → (has_bit (slice_index w.now.words.marks p) k ≡ true) ⊎ IsCell c (WorldBehind c w seat x).now p k
-  new_mark (step.Mark q n) p k h early markers goes is = elim (more_bits w.now.words.marks q n p k is) [
+  new_mark (Step.Mark q n) p k h early markers goes is = elim (more_bits w.now.words.marks q n p k is) [
     | inl old ↦ inl old
     | inr new ↦
         let may = or_cases (marks_by_hand c.pages w.now.words w.now.seats.holding.hand q n)
         (marks_place w.now.words (object_made c (flight_of w.now seat).op)
         (place_now c w.now (flight_of w.now seat)) q n) h.holder in
         subst (λ (i : ℕ). (has_bit (slice_index w.now.words.marks p) k ≡ true) ⊎ IsCell c
-        (WorldBehind c w seat (step.Mark q n)).now i k) (sym new.0)
+        (WorldBehind c w seat (Step.Mark q n)).now i k) (sym new.0)
         (elim may [
           | inl hand ↦ inr (inl (by_hand w.now.seats.holding.hand q n k hand new.1))
           | inr place ↦ inr (by_place q n k h place new.1)
         ])
   ]
-  new_mark step.Mmark p k h early markers goes is =
+  new_mark Step.Mmark p k h early markers goes is =
       elim (more_bits w.now.words.marks (seen_page
       (cell_seen c (marker_at w.now seat).seen (marker_at w.now seat).hand))
       (seen_bit (cell_seen c (marker_at w.now seat).seen (marker_at w.now seat).hand)) p k is) [
@@ -255,7 +225,7 @@ module _ (c : Config) (w : World) (seat : Seat) (limits : IsWithinLimits c) (kno
             inr (inl (seen_is (marker_at w.now seat).seen (marker_at w.now seat).hand
             (seen_header_goes_on c w.now seat known markers h.marker) p k h.marker new.0 new.1))
       ]
-  new_mark (step.Clear q) p k h early markers goes is =
+  new_mark (Step.Clear q) p k h early markers goes is =
       let z = eqb-true (phase_of w.now.words) 0 h.phase in absurd
       (elim early [ inl e ↦ omega arith | inr e ↦ omega arith ])
   new_mark x p k h early markers goes is = rest x refl is

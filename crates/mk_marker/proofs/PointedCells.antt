@@ -1,22 +1,12 @@
 -- Outside the phase of releasing, what a value points into is one of its page's cells.
-use Rattle.std.proofs.Common.{◌≡◌, ℕ, ◌-◌, ◌<◌, Bool, true, false, sym, ◌∙◌, ap, subst, inl, inr, arith}
-use Rattle.std.specs.Prelude.{Option, Some, None, nat_le, if◌then◌else◌}
-use Rattle.std.proofs.lemmas.Bool.{true≢false}
-use Rattle.mk_geom.specs.declared.addresses.Cell.{Cell}
-use Rattle.mk_geom.specs.declared.headers.Header.{Header}
-use Rattle.mk_geom.specs.declared.headers.Header.TheVariants.{Free, Block, Run, Later, LeafBlock, LeafRun}
-use Rattle.mk_geom.specs.Addresses.{cell_at, cell_under, page_at_address, word_at_address, run_of_page}
-use Rattle.mk_geom.specs.Headers.{IsInRange}
-use Rattle.mk_geom.proofs.ClassTable.{some_cells}
-use Rattle.mk_geom.proofs.HeaderLemmas.{word_of-header_of}
-use Rattle.mk_core.specs.declared.config.Config.{Config}
-use Rattle.mk_core.specs.Words.{header_at}
-use Rattle.mk_core.specs.Cells.{cells_under, header_in, pointed_cell}
-use Rattle.mk_core.specs.History.{World}
-use Rattle.mk_core.specs.Moments.{is_phase}
-use Rattle.mk_core.proofs.PointedPages.{LiesUnder, lies_under, found_under}
-use Rattle.mk_laws.specs.LayoutScene.{run_count}
-use Rattle.mk_laws.specs.Terrain.{LayoutStands}
+use Rattle.mk_laws.proofs.Vocabulary.{Block, Bool, Cell, Config, Free, Header, Later, LayoutStands, LeafBlock, LeafRun}
+use Rattle.mk_laws.proofs.Vocabulary.{None, Option, Run, Some, World, ℕ, ap, arith, cell_at, cells_under, false}
+use Rattle.mk_laws.proofs.Vocabulary.{header_at, header_in, if◌then◌else◌, inl, inr, is_phase, nat_le, page_at_address}
+use Rattle.mk_laws.proofs.Vocabulary.{run_count, subst, sym, true, true≢false, ◌-◌, ◌<◌, ◌∙◌, ◌≡◌}
+use Rattle.mk_geom.proofs.{ClassTable.some_cells, HeaderLemmas.word_of-header_of}
+use Rattle.mk_geom.specs.{Addresses.cell_under, Addresses.run_of_page, Addresses.word_at_address, Headers.IsInRange}
+use Rattle.mk_core.proofs.PointedPages.{LiesUnder, found_under, lies_under}
+use Rattle.mk_core.specs.Cells.{pointed_cell}
 
 -- a header that heads a run has one cell
 heads_one : (h : Option Header) (d : ℕ) → d < run_count h → 0 < cells_under h

@@ -1,18 +1,14 @@
 -- The steps of a scan, one after the other.
-use Rattle.std.proofs.Common.{◌≡◌, ℕ, ◌+◌, Bool, true, false, List, [], ◌∷◌, ◌++◌, refl, ◌∙◌, ap, subst}
-use Rattle.std.specs.Prelude.{◌&&◌, cond}
 use Rattle.std.proofs.lemmas.List.Sums.{sum_by-append}
-use Rattle.mk_core.specs.declared.events.Step.{Step}
-use Rattle.mk_core.specs.declared.events.Step.TheVariants as step
-use Rattle.mk_core.specs.declared.events.Seat.{Seat}
+use Rattle.mk_laws.proofs.Vocabulary.{Bool, List, Seat, Step, ℕ, ap, cond, false, refl, subst, true, [], ◌&&◌, ◌++◌}
+use Rattle.mk_laws.proofs.Vocabulary.{◌+◌, ◌∙◌, ◌∷◌, ◌≡◌}
 use Rattle.mk_core.specs.Growing.{Finding}
-use Rattle.mk_words.specs.States.{PassState}
+use Rattle.mk_marker.proofs.Did.{did_nothing, did_then, seat_kept}
+use Rattle.mk_marker.specs.Doing.{Did, count_loads, finding, is_markers_load, is_of_scan}
+use Rattle.mk_marker.specs.Steps.{ClaimsMarked, Moved, MovesMarker, ScansCell, ScansOn}
+use Rattle.mk_marker.specs.{Scanning.words_scanned, declared.cells.MarkedCell.MarkedCell}
 use Rattle.mk_turns.proofs.Doing.{of_kinds_in_parts}
-use Rattle.mk_marker.specs.declared.cells.MarkedCell.{MarkedCell}
-use Rattle.mk_marker.specs.Doing.{Did, finding, is_of_scan, is_markers_load, count_loads}
-use Rattle.mk_marker.specs.Scanning.{words_scanned}
-use Rattle.mk_marker.specs.Steps.{MovesMarker, Moved, ClaimsMarked, ScansOn, ScansCell}
-use Rattle.mk_marker.proofs.Did.{did_then, did_nothing, seat_kept}
+use Rattle.mk_words.specs.States.{PassState}
 
 count_in_parts : (xs ys : List Finding) → count_loads (xs ++ ys) ≡ count_loads xs + count_loads ys
 count_in_parts xs ys = sum_by-append (λ (x : Finding). cond (is_markers_load x.event.step) 1 0) xs ys
@@ -41,25 +37,25 @@ goes_once p s n q allowed silent m =
       has_loads = ap (λ (b : Bool). 0 + cond {A = ℕ} b 1 0) silent;
     }
 
-pub loads_once : (p : PassState) (n : ℕ) (q : PassState) → MovesMarker p step.Mload n q → ScansOn p 1 q
-loads_once p n q m = record { steps = finding p.seat step.Mload n ∷ []; did = m.did; of_scan = refl; has_loads = refl }
+pub loads_once : (p : PassState) (n : ℕ) (q : PassState) → MovesMarker p Step.Mload n q → ScansOn p 1 q
+loads_once p n q m = record { steps = finding p.seat Step.Mload n ∷ []; did = m.did; of_scan = refl; has_loads = refl }
 
 pub scanned : (p : PassState) (cell : MarkedCell) (a : PassState) (count : ℕ) (b q : PassState)
     → ClaimsMarked p cell a → ScansOn a count b
-    → count ≡ words_scanned cell.header → Moved b step.Mblack q → ScansCell p cell q
+    → count ≡ words_scanned cell.header → Moved b Step.Mblack q → ScansCell p cell q
 scanned p cell a count b q claims goes is black =
     let one = goes.did in
     let at : b.seat ≡ p.seat = seat_kept a goes.steps b goes.did
-    ∙ seat_kept p (finding p.seat (step.Claim cell.page cell.index) claims.found ∷ []) a claims.moves.did in
-    let last : Did b (finding p.seat step.Mblack black.0 ∷ []) q = subst
-    (λ (s : Seat). Did b (finding s step.Mblack black.0 ∷ []) q) at black.1.did in
+    ∙ seat_kept p (finding p.seat (Step.Claim cell.page cell.index) claims.found ∷ []) a claims.moves.did in
+    let last : Did b (finding p.seat Step.Mblack black.0 ∷ []) q = subst
+    (λ (s : Seat). Did b (finding s Step.Mblack black.0 ∷ []) q) at black.1.did in
     record {
-      steps = finding p.seat (step.Claim cell.page cell.index) claims.found ∷
-          (goes.steps ++ finding p.seat step.Mblack black.0 ∷ []);
+      steps = finding p.seat (Step.Claim cell.page cell.index) claims.found ∷
+          (goes.steps ++ finding p.seat Step.Mblack black.0 ∷ []);
       did =
-          did_then p (finding p.seat (step.Claim cell.page cell.index) claims.found ∷ []) a
-          (goes.steps ++ finding p.seat step.Mblack black.0 ∷ []) q claims.moves.did
-          (did_then a goes.steps b (finding p.seat step.Mblack black.0 ∷ []) q goes.did last);
+          did_then p (finding p.seat (Step.Claim cell.page cell.index) claims.found ∷ []) a
+          (goes.steps ++ finding p.seat Step.Mblack black.0 ∷ []) q claims.moves.did
+          (did_then a goes.steps b (finding p.seat Step.Mblack black.0 ∷ []) q goes.did last);
       scans = record {
         marks = claims.found;
         blacks = black.0;

@@ -1,33 +1,18 @@
 -- A Free whose register is null or points to a first word is admitted, whatever its step.
-use Rattle.std.proofs.Common.{◌≡◌, ℕ, ◌*◌, ◌<◌, List, [], ◌∷◌, ◌++◌, refl, sym, ◌∙◌, ap, subst, arith, append-nil}
-use Rattle.std.specs.Prelude.{Option, Some, None}
-use Rattle.std.proofs.lemmas.List.{length-replicate, map-append}
-use Rattle.mk_never.specs.declared.operations.Op.{Op}
-use Rattle.mk_never.specs.declared.operations.Op.TheVariants as op
-use Rattle.mk_never.specs.declared.values.Value.{Value}
-use Rattle.mk_never.specs.declared.values.Value.TheVariants.{Null}
-use Rattle.mk_never.specs.Admitted.{AreAdmitted, IsAdmitted, IsBase}
-use Rattle.mk_never.specs.NeverHeap.{Call, after_calls, register_at}
-use Rattle.mk_never.proofs.Later.{calls_stay}
-use Rattle.mk_never.proofs.Parts.{admitted_join}
-use Rattle.mk_core.specs.declared.config.Config.{Config}
-use Rattle.mk_core.specs.declared.events.Answer.{Answer}
-use Rattle.mk_core.specs.declared.events.Event.{Event}
-use Rattle.mk_core.specs.declared.events.Seat.TheVariants.{Caller}
-use Rattle.mk_core.specs.declared.events.Step.{Step}
-use Rattle.mk_core.specs.Decided.{Decided, asked, entry_of}
-use Rattle.mk_core.specs.Effects.{answer_decided}
-use Rattle.mk_core.specs.Growing.{AreOfOthers}
-use Rattle.mk_core.specs.History.{IsAdmittedBehind, IsHistory, call_decided, calls, first_world, left, never_behind}
+use Rattle.std.proofs.lemmas.List.{length-replicate}
+use Rattle.mk_laws.proofs.Vocabulary.{Answer, AreAdmitted, AreOfOthers, Call, Caller, Config, Decided, Event}
+use Rattle.mk_laws.proofs.Vocabulary.{IsAdmitted, IsHistory, List, None, Null, Op, Option, Some, Step, Value, ℕ}
+use Rattle.mk_laws.proofs.Vocabulary.{after_calls, answer_decided, ap, append-nil, arith, asked, call_decided, calls}
+use Rattle.mk_laws.proofs.Vocabulary.{earlier_part_is_history, entry_of, first_world, flight_of, left, map-append}
+use Rattle.mk_laws.proofs.Vocabulary.{never_behind, refl, register_at, subst, sym, [], ◌*◌, ◌++◌, ◌<◌, ◌∙◌, ◌∷◌, ◌≡◌}
+use Rattle.mk_objects.proofs.Vocabulary.{IsAdmittedBehind, IsBase, calls_more}
+use Rattle.mk_never.proofs.{Later.calls_stay, Parts.admitted_join}
 use Rattle.mk_core.specs.History.{never_first}
-use Rattle.mk_core.specs.Moments.{flight_of}
-use Rattle.mk_core.proofs.Histories.{calls_more}
-use Rattle.mk_core.proofs.HistoryParts.{earlier_part_is_history}
 use Rattle.mk_laws.proofs.SeatFrames.{admitted_others_leave}
 
 free_admitted : (c : Config) (k r : ℕ) (xs : List Call) → k < c.callers → r < 8
     → IsBase (register_at (after_calls (never_first c) xs) k r)
-    → IsAdmitted c.globals (after_calls (never_first c) xs) k (op.Free r)
+    → IsAdmitted c.globals (after_calls (never_first c) xs) k (Op.Free r)
 free_admitted c k r xs lt small base =
     let stays = calls_stay (never_first c) xs in
     record {
@@ -40,7 +25,7 @@ free_admitted c k r xs lt small base =
 
 free_call : (c : Config) (k r : ℕ) (xs : List Call) (a : Option Answer) → k < c.callers → r < 8
     → IsBase (register_at (after_calls (never_first c) xs) k r)
-    → AreAdmitted c.globals (after_calls (never_first c) xs) (asked (entry_of k (op.Free r) a))
+    → AreAdmitted c.globals (after_calls (never_first c) xs) (asked (entry_of k (Op.Free r) a))
 free_call c k r xs None lt small base = tt
 free_call c k r xs (Some a) lt small base = (free_admitted c k r xs lt small base, tt)
 
@@ -52,7 +37,7 @@ asked_more c es e =
     (call_decided c (left c es).now e)
 
 pub free_admits : (c : Config) (es : List Event) (k r : ℕ) (x : Step) → IsHistory c es → k < c.callers → r < 8
-    → (flight_of (left c es).now (Caller k)).op ≡ op.Free r → IsBase (register_at (never_behind c es) k r)
+    → (flight_of (left c es).now (Caller k)).op ≡ Op.Free r → IsBase (register_at (never_behind c es) k r)
     → IsAdmittedBehind c es (record { seat = Caller k; step = x })
 free_admits c es k r x h lt small is base =
     let e : Event = record { seat = Caller k; step = x } in

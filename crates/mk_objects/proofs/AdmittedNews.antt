@@ -1,35 +1,18 @@
 -- A New is admitted wherever its call is.
-use Rattle.std.proofs.Common.{◌≡◌, ℕ, ◌*◌, ◌<◌, Bool, true, false, List, [], ◌∷◌, ◌++◌, length, sym, ◌∙◌, ap, subst}
-use Rattle.std.proofs.Common.{arith}
-use Rattle.std.specs.Prelude.{◌&&◌, nat_lt, Some}
-use Rattle.std.proofs.lemmas.Bool.{and_parts, ltb-true}
-use Rattle.mk_never.specs.declared.operations.Op.{Op}
-use Rattle.mk_never.specs.declared.operations.Op.TheVariants as op
-use Rattle.mk_never.specs.declared.values.Value.{Value}
-use Rattle.mk_never.specs.declared.values.Value.TheVariants.{Null}
-use Rattle.mk_never.specs.Admitted.{AreAdmitted, IsAdmitted}
-use Rattle.mk_never.specs.NeverHeap.{Call, after_calls}
-use Rattle.mk_never.proofs.Later.{calls_stay}
-use Rattle.mk_core.specs.declared.config.Config.{Config}
-use Rattle.mk_core.specs.declared.events.Answer.TheVariants as answer
-use Rattle.mk_core.specs.declared.events.Event.{Event}
-use Rattle.mk_core.specs.declared.events.Seat.TheVariants.{Caller}
-use Rattle.mk_core.specs.declared.events.Step.TheVariants as step
-use Rattle.mk_core.specs.declared.seats.Flight.{Flight}
-use Rattle.mk_core.specs.Calls.{d_of, has_operands}
-use Rattle.mk_core.specs.Decided.{Decided, asked, entry_of}
-use Rattle.mk_core.specs.History.{IsAdmittedBehind, IsHistory, calls, first_world, left, never_first}
-use Rattle.mk_core.specs.Moments.{flight_of}
-use Rattle.mk_core.specs.NewPlaces.{is_undecided_new}
-use Rattle.mk_core.proofs.Histories.{calls_more}
-use Rattle.mk_core.proofs.PlacesNow.{undecided_new}
-use Rattle.mk_never.proofs.Parts.{admitted_join}
-use Rattle.std.proofs.lemmas.List.{length-replicate, map-append}
+use Rattle.std.proofs.lemmas.List.{length-replicate}
+use Rattle.mk_laws.proofs.Vocabulary.{Answer, AreAdmitted, Bool, Call, Caller, Config, Decided, Event, Flight}
+use Rattle.mk_laws.proofs.Vocabulary.{IsAdmitted, IsHistory, List, Null, Op, Some, Step, Value, ℕ, after_calls}
+use Rattle.mk_laws.proofs.Vocabulary.{and_parts, ap, arith, asked, calls, d_of, entry_of, false, first_world, flight_of}
+use Rattle.mk_laws.proofs.Vocabulary.{has_operands, is_undecided_new, left, length, ltb-true, map-append, nat_lt, subst}
+use Rattle.mk_laws.proofs.Vocabulary.{sym, true, undecided_new, [], ◌&&◌, ◌*◌, ◌++◌, ◌<◌, ◌∙◌, ◌∷◌, ◌≡◌}
+use Rattle.mk_objects.proofs.Vocabulary.{IsAdmittedBehind, calls_more}
+use Rattle.mk_never.proofs.{Later.calls_stay, Parts.admitted_join}
+use Rattle.mk_core.specs.History.{never_first}
 
-new_in_range : (c : Config) (o : Op) (d ty : ℕ) (full : Bool) → o ≡ op.New d ty full → has_operands c o ≡ true
+new_in_range : (c : Config) (o : Op) (d ty : ℕ) (full : Bool) → o ≡ Op.New d ty full → has_operands c o ≡ true
     → (d < 8) × (ty < length c.types)
 new_in_range c o d ty full is h =
-    let at : has_operands c (op.New d ty full) ≡ true = ap (λ (x : Op). has_operands c x) (sym is) ∙ h in
+    let at : has_operands c (Op.New d ty full) ≡ true = ap (λ (x : Op). has_operands c x) (sym is) ∙ h in
     let a = and_parts (nat_lt 0 8 && nat_lt 0 8 && nat_lt 0 8 && nat_lt d 8 && nat_lt 0 64) (nat_lt ty (length c.types))
     at in
     let b = and_parts (nat_lt 0 8 && nat_lt 0 8 && nat_lt 0 8 && nat_lt d 8) (nat_lt 0 64) a.0 in
@@ -42,7 +25,7 @@ register_small c f new h =
     subst (λ (x : Op). d_of x < 8) (sym n.op) (new_in_range c f.op n.d n.ty n.full n.op h).0
 
 new_admitted : (c : Config) (k d ty : ℕ) (xs : List Call) → k < c.callers → d < 8 → ty < length c.types
-    → IsAdmitted c.globals (after_calls (never_first c) xs) k (op.New d ty false)
+    → IsAdmitted c.globals (after_calls (never_first c) xs) k (Op.New d ty false)
 new_admitted c k d ty xs lt small typed =
     let stays = calls_stay (never_first c) xs in
     record {
@@ -57,19 +40,19 @@ new_admitted c k d ty xs lt small typed =
 pub grant_admitted : (c : Config) (es : List Event) (k : ℕ) → IsHistory c es → k < c.callers
     → is_undecided_new (flight_of (left c es).now (Caller k)) ≡ true
     → has_operands c (flight_of (left c es).now (Caller k)).op ≡ true
-    → IsAdmittedBehind c es (record { seat = Caller k; step = step.Grant })
+    → IsAdmittedBehind c es (record { seat = Caller k; step = Step.Grant })
 grant_admitted c es k h lt new operands =
     let f = flight_of (left c es).now (Caller k) in
     let n = undecided_new f new in
     let ranges = new_in_range c f.op n.d n.ty n.full n.op operands in
-    let more : asked (calls c (es ++ record { seat = Caller k; step = step.Grant } ∷ [])) ≡ asked
-    (calls c es) ++ record { caller = k; op = op.New n.d n.ty false } ∷ [] =
+    let more : asked (calls c (es ++ record { seat = Caller k; step = Step.Grant } ∷ [])) ≡ asked
+    (calls c es) ++ record { caller = k; op = Op.New n.d n.ty false } ∷ [] =
     ap (λ (ds : List Decided). asked ds)
-    (calls_more c (first_world c) es (record { seat = Caller k; step = step.Grant }))
+    (calls_more c (first_world c) es (record { seat = Caller k; step = Step.Grant }))
     ∙ map-append (λ (x : Decided). record { caller = x.caller; op = x.op }) (calls c es)
-    (entry_of k f.op (Some answer.Done))
-    ∙ ap (λ (x : Op). asked (calls c es) ++ asked (entry_of k x (Some answer.Done))) n.op in
+    (entry_of k f.op (Some Answer.Done))
+    ∙ ap (λ (x : Op). asked (calls c es) ++ asked (entry_of k x (Some Answer.Done))) n.op in
     subst (λ (xs : List Call). AreAdmitted c.globals (never_first c) xs) (sym more)
     (admitted_join c.globals (never_first c) (asked (calls c es))
-    (record { caller = k; op = op.New n.d n.ty false } ∷ [])
+    (record { caller = k; op = Op.New n.d n.ty false } ∷ [])
     (h.admitted, (new_admitted c k n.d n.ty (asked (calls c es)) lt ranges.0 ranges.1, tt)))

@@ -1,9 +1,7 @@
 -- The pages of a place on their way.
-use Rattle.std.proofs.Common.{◌≡◌, ℕ}
-use Rattle.mk_geom.specs.declared.pages.Place.{Place}
-use Rattle.mk_words.specs.States.{TurnState}
+use Rattle.mk_laws.proofs.Vocabulary.{Place, ℕ, ◌≡◌}
+use Rattle.mk_objects.proofs.Vocabulary.{HasCarved, TurnState}
 use Rattle.mk_turns.specs.Sweeping.{SweepsNothing}
-use Rattle.mk_objects.specs.Placing.{HasCarved}
 
 pub record IsCarvedTo (was now : TurnState) (place : Place) (n : ℕ) : Type 0 where
   pub op : now.op ≡ was.op

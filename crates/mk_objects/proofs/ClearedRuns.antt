@@ -1,18 +1,13 @@
 -- A run is unmapped and wiped, and then the gates are opened.
-use Rattle.std.proofs.Common.{◌≡◌, ℕ, ◌<◌, Bool, true, false, [], refl, sym, ◌∙◌, ap, subst}
-use Rattle.std.specs.Prelude.{◌||◌, not}
-use Rattle.mk_core.specs.declared.seats.RunPages.{RunPages}
-use Rattle.mk_core.specs.Frames.{Steady}
-use Rattle.mk_core.specs.Moments.{is_held, is_number_of, others_are_held}
-use Rattle.mk_core.specs.NewPlaces.{is_run_gone}
-use Rattle.mk_laws.proofs.Tests.{all_below_from}
-use Rattle.mk_words.specs.States.{PassState, WordsState, now_of, world_of}
-use Rattle.mk_objects.specs.Deciding.{ClearsRun, is_following}
-use Rattle.mk_objects.specs.FreeParts.{HasGates, RunIsUnmapped, RunIsWiped, SetsGates, Unmaps, Wipes, all_others}
-use Rattle.mk_objects.specs.FreeParts.{is_clearing, is_settling, no_gate}
+use Rattle.mk_laws.proofs.Vocabulary.{Bool, RunPages, Steady, ℕ, ap, false, is_held, is_number_of, is_run_gone, not}
+use Rattle.mk_laws.proofs.Vocabulary.{others_are_held, refl, subst, sym, true, [], ◌<◌, ◌||◌, ◌∙◌, ◌≡◌}
+use Rattle.mk_objects.proofs.Vocabulary.{HasGates, PassState, RunIsUnmapped, RunIsWiped, SetsGates, Unmaps, Wipes}
+use Rattle.mk_objects.proofs.Vocabulary.{WordsState, all_below_from, all_others, is_clearing, is_following, is_settling}
+use Rattle.mk_objects.proofs.Vocabulary.{now_of, world_of}
 use Rattle.mk_objects.proofs.DecidedFrees.{Stays, clearing_follows, gates_stay, settling_follows, stays_then}
 use Rattle.mk_objects.proofs.DecidedFrees.{unmaps_stay, wipes_stay}
 use Rattle.mk_objects.proofs.ReachedParts.{reached_world, same_kinds}
+use Rattle.mk_objects.specs.{Deciding.ClearsRun, FreeParts.no_gate}
 
 -- Where the others' gates are held, all but the own one are.
 pub stopped_by : (p : PassState)

@@ -1,19 +1,11 @@
 -- What is counted of ended cycles and of Full answers, one event further and in parts.
-use Rattle.std.proofs.Common.{◌≡◌, ℕ, ◌+◌, false, List, [], ◌∷◌, ◌++◌, ◌∙◌, ap, arith}
-use Rattle.std.specs.Prelude.{cond}
 use Rattle.std.proofs.lemmas.List.Sums.{sum_by_push}
-use Rattle.mk_core.specs.declared.config.Config.{Config}
-use Rattle.mk_core.specs.declared.events.Event.{Event}
-use Rattle.mk_core.specs.Accesses.{caller_number}
-use Rattle.mk_core.specs.Counts.{ends, full_answers}
-use Rattle.mk_core.specs.Cycles.{is_end}
-use Rattle.mk_core.specs.Decided.{Decided}
-use Rattle.mk_core.specs.Effects.{answer_decided}
-use Rattle.mk_core.specs.Frames.{CountsAreLeft}
-use Rattle.mk_core.specs.History.{call_decided, calls, first_world, left}
-use Rattle.mk_core.specs.Moments.{flight_of}
-use Rattle.mk_core.proofs.Histories.{calls_more}
-use Rattle.mk_laws.proofs.OthersCounts.{answers_full, entry_fulls, fulls_append, fulls_of}
+use Rattle.mk_laws.proofs.Vocabulary.{Config, Decided, Event, List, ℕ, answer_decided, ap, arith, call_decided}
+use Rattle.mk_laws.proofs.Vocabulary.{caller_number, calls, cond, ends, false, first_world, flight_of, is_end, left, []}
+use Rattle.mk_laws.proofs.Vocabulary.{◌++◌, ◌+◌, ◌∙◌, ◌∷◌, ◌≡◌}
+use Rattle.mk_objects.proofs.Vocabulary.{answers_full, calls_more}
+use Rattle.mk_core.specs.{Counts.full_answers, Frames.CountsAreLeft}
+use Rattle.mk_laws.proofs.OthersCounts.{entry_fulls, fulls_append, fulls_of}
 
 pub counts_then : (c : Config) (es fs gs : List Event) → CountsAreLeft c es fs → CountsAreLeft c fs gs
     → CountsAreLeft c es gs

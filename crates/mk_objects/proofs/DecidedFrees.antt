@@ -1,132 +1,112 @@
 -- A Free is decided, and parts of its turn come before that and after it.
-use Rattle.std.proofs.Common.{◌≡◌, ℕ, ◌+◌, Bool, true, false, List, [], ◌∷◌, map, refl, sym, ◌∙◌, ap, subst}
-use Rattle.std.specs.Prelude.{Some, cond}
-use Rattle.std.proofs.lemmas.List.Sums.{sum_by-cons}
-use Rattle.mk_core.specs.Words.{Words}
-use Rattle.mk_geom.specs.declared.addresses.Cell.{Cell}
-use Rattle.mk_core.specs.declared.config.Config.{Config}
-use Rattle.mk_core.specs.declared.events.Answer.{Answer}
-use Rattle.mk_core.specs.declared.events.Answer.TheVariants as answer
-use Rattle.mk_core.specs.declared.events.Seat.{Seat}
-use Rattle.mk_core.specs.declared.events.Step.{Step}
-use Rattle.mk_core.specs.declared.events.Step.TheVariants as step
-use Rattle.mk_core.specs.declared.events.Tally.TheVariants as tally
-use Rattle.mk_core.specs.declared.seats.Flight.{Flight}
-use Rattle.mk_core.specs.declared.seats.Holding.{Holding}
-use Rattle.mk_core.specs.Accesses.{caller_number}
-use Rattle.mk_core.specs.Allocations.{PlacedAllocation, freed_where_it_stands}
+use Rattle.mk_laws.proofs.Vocabulary.{Answer, Bool, Cell, Config, Decided, Flight, Holding, List, PlacedAllocation}
+use Rattle.mk_laws.proofs.Vocabulary.{Seat, Some, Steady, Step, Tally, Words, World, ℕ, ap, caller_number, cond}
+use Rattle.mk_laws.proofs.Vocabulary.{entry_of, false, flight_of, freed_released, freed_where_it_stands, left, map}
+use Rattle.mk_laws.proofs.Vocabulary.{refl, subst, sym, true, [], ◌+◌, ◌∙◌, ◌∷◌, ◌≡◌}
+use Rattle.mk_objects.proofs.Vocabulary.{Changes, ComesTo, HasFreed, HasGates, IsAsLeft, IsFreedAt, OnlyLooks}
+use Rattle.mk_objects.proofs.Vocabulary.{PassState, RunIsUnmapped, RunIsWiped, SetsGates, SetsTally, StaysSo, Unmaps}
+use Rattle.mk_objects.proofs.Vocabulary.{Wipes, entry_for, is_clearing, is_following, is_freeing, is_holding}
+use Rattle.mk_objects.proofs.Vocabulary.{is_loading, is_look, is_settling, steady_of, sum_by-cons, turn_stays}
+use Rattle.mk_objects.proofs.Vocabulary.{with_tally, world_of}
 use Rattle.mk_core.specs.Counts.{releases}
-use Rattle.mk_core.specs.Decided.{Decided, entry_of}
-use Rattle.mk_core.specs.Frames.{Steady, steady_of}
-use Rattle.mk_core.specs.History.{World, left}
-use Rattle.mk_core.specs.Moments.{flight_of}
-use Rattle.mk_core.proofs.ChangedAllocations.{freed_released}
-use Rattle.mk_words.specs.States.{PassState, world_of}
-use Rattle.mk_words.specs.TurnSteps.{turn_stays}
-use Rattle.mk_objects.specs.Deciding.{IsDecidedAt, StaysSo, is_following}
-use Rattle.mk_objects.specs.FreeParts.{Changes, HasGates, RunIsUnmapped, RunIsWiped, SetsGates, SetsTally, Unmaps}
-use Rattle.mk_objects.specs.FreeParts.{Wipes, is_clearing, is_holding, is_settling, with_tally}
-use Rattle.mk_objects.specs.Placing.{OnlyLooks, ComesTo, entry_for, is_look}
-use Rattle.mk_objects.specs.Retiring.{HasFreed, IsFreedAt, is_freeing, is_loading}
-use Rattle.mk_objects.specs.Unchanged.{IsAsLeft}
-use Rattle.mk_objects.proofs.FreedOnce.{FreesNot, is_quar}
-use Rattle.mk_objects.proofs.JoinedLooks.{does_wider}
 use Rattle.mk_objects.proofs.ReachedParts.{AreAmong, reached_world, reaches_after, reaches_so, reaches_then, same_kinds}
+use Rattle.mk_objects.proofs.{FreedOnce.FreesNot, FreedOnce.is_quar, JoinedLooks.does_wider}
+use Rattle.mk_objects.specs.Deciding.{IsDecidedAt}
 
 -- kinds among others
 
 pub look_loads : AreAmong is_look is_loading
-look_loads (step.Look x) h = refl
+look_loads (Step.Look x) h = refl
 look_loads _ h = cc
 
 pub load_frees : AreAmong is_loading is_freeing
-load_frees (step.Look x) h = refl
-load_frees step.Reg h = refl
+load_frees (Step.Look x) h = refl
+load_frees Step.Reg h = refl
 load_frees _ h = cc
 
 pub look_settles : AreAmong is_look is_settling
-look_settles (step.Look x) h = refl
+look_settles (Step.Look x) h = refl
 look_settles _ h = cc
 
 pub settling_follows : AreAmong is_settling is_following
-settling_follows (step.Look x) h = refl
-settling_follows (step.Open j) h = refl
-settling_follows (step.Tally n v) h = refl
+settling_follows (Step.Look x) h = refl
+settling_follows (Step.Open j) h = refl
+settling_follows (Step.Tally n v) h = refl
 settling_follows _ h = cc
 
 pub clearing_follows : AreAmong is_clearing is_following
-clearing_follows (step.Look x) h = refl
-clearing_follows (step.Head p v) h = refl
-clearing_follows (step.Wipe n) h = refl
+clearing_follows (Step.Look x) h = refl
+clearing_follows (Step.Head p v) h = refl
+clearing_follows (Step.Wipe n) h = refl
 clearing_follows _ h = cc
 
 pub following_frees : AreAmong is_following is_freeing
-following_frees (step.Look x) h = refl
-following_frees (step.Open j) h = refl
-following_frees (step.Head p v) h = refl
-following_frees (step.Wipe n) h = refl
-following_frees (step.Tally n v) h = refl
+following_frees (Step.Look x) h = refl
+following_frees (Step.Open j) h = refl
+following_frees (Step.Head p v) h = refl
+following_frees (Step.Wipe n) h = refl
+following_frees (Step.Tally n v) h = refl
 following_frees _ h = cc
 
 pub look_frees : AreAmong is_look is_freeing
-look_frees (step.Look x) h = refl
+look_frees (Step.Look x) h = refl
 look_frees _ h = cc
 
 pub hold_frees : AreAmong is_holding is_freeing
-hold_frees (step.Hold j) h = refl
+hold_frees (Step.Hold j) h = refl
 hold_frees _ h = cc
 
 -- None of them is a `quar`.
 
 loading_stays : (x : Step) → is_loading x ≡ true → turn_stays x ≡ true
-loading_stays (step.Look x) h = refl
-loading_stays step.Reg h = refl
+loading_stays (Step.Look x) h = refl
+loading_stays Step.Reg h = refl
 loading_stays _ h = cc
 
 loading_no_quar : (x : Step) → is_loading x ≡ true → is_quar x ≡ false
-loading_no_quar (step.Look x) h = refl
-loading_no_quar step.Reg h = refl
+loading_no_quar (Step.Look x) h = refl
+loading_no_quar Step.Reg h = refl
 loading_no_quar _ h = cc
 
 pub loading_not : FreesNot is_loading
 loading_not = record { stays = loading_stays; no_quar = loading_no_quar }
 
 holding_stays : (x : Step) → is_holding x ≡ true → turn_stays x ≡ true
-holding_stays (step.Hold j) h = refl
+holding_stays (Step.Hold j) h = refl
 holding_stays _ h = cc
 
 holding_no_quar : (x : Step) → is_holding x ≡ true → is_quar x ≡ false
-holding_no_quar (step.Hold j) h = refl
+holding_no_quar (Step.Hold j) h = refl
 holding_no_quar _ h = cc
 
 pub holding_not : FreesNot is_holding
 holding_not = record { stays = holding_stays; no_quar = holding_no_quar }
 
 look_stays : (x : Step) → is_look x ≡ true → turn_stays x ≡ true
-look_stays (step.Look x) h = refl
+look_stays (Step.Look x) h = refl
 look_stays _ h = cc
 
 look_no_quar : (x : Step) → is_look x ≡ true → is_quar x ≡ false
-look_no_quar (step.Look x) h = refl
+look_no_quar (Step.Look x) h = refl
 look_no_quar _ h = cc
 
 pub look_not : FreesNot is_look
 look_not = record { stays = look_stays; no_quar = look_no_quar }
 
 following_stays : (x : Step) → is_following x ≡ true → turn_stays x ≡ true
-following_stays (step.Look x) h = refl
-following_stays (step.Open j) h = refl
-following_stays (step.Head p v) h = refl
-following_stays (step.Wipe n) h = refl
-following_stays (step.Tally n v) h = refl
+following_stays (Step.Look x) h = refl
+following_stays (Step.Open j) h = refl
+following_stays (Step.Head p v) h = refl
+following_stays (Step.Wipe n) h = refl
+following_stays (Step.Tally n v) h = refl
 following_stays _ h = cc
 
 following_no_quar : (x : Step) → is_following x ≡ true → is_quar x ≡ false
-following_no_quar (step.Look x) h = refl
-following_no_quar (step.Open j) h = refl
-following_no_quar (step.Head p v) h = refl
-following_no_quar (step.Wipe n) h = refl
-following_no_quar (step.Tally n v) h = refl
+following_no_quar (Step.Look x) h = refl
+following_no_quar (Step.Open j) h = refl
+following_no_quar (Step.Head p v) h = refl
+following_no_quar (Step.Wipe n) h = refl
+following_no_quar (Step.Tally n v) h = refl
 following_no_quar _ h = cc
 
 pub following_not : FreesNot is_following
@@ -182,9 +162,9 @@ unmaps_stay p q run a =
       allocations = ap (λ (x : Steady). x.allocations) at.changes.steady;
     })
 
-pub fresh_stays : (p q : PassState) (n : ℕ) → SetsTally p tally.Fresh n q → Stays is_settling p q
+pub fresh_stays : (p q : PassState) (n : ℕ) → SetsTally p Tally.Fresh n q → Stays is_settling p q
 fresh_stays p q n a =
-    reaches_so is_settling p q (Changes p.seat (with_tally tally.Fresh n) (world_of p)) (StaysSo p.seat (world_of p))
+    reaches_so is_settling p q (Changes p.seat (with_tally Tally.Fresh n) (world_of p)) (StaysSo p.seat (world_of p))
     [] a
     (λ at. record {
       call = at.call;
@@ -197,9 +177,9 @@ fresh_stays p q n a =
       allocations = ap (λ (x : Steady). x.allocations) at.steady;
     })
 
-pub held_stays : (p q : PassState) (n : ℕ) → SetsTally p tally.Held n q → Stays is_settling p q
+pub held_stays : (p q : PassState) (n : ℕ) → SetsTally p Tally.Held n q → Stays is_settling p q
 held_stays p q n a =
-    reaches_so is_settling p q (Changes p.seat (with_tally tally.Held n) (world_of p)) (StaysSo p.seat (world_of p))
+    reaches_so is_settling p q (Changes p.seat (with_tally Tally.Held n) (world_of p)) (StaysSo p.seat (world_of p))
     [] a
     (λ at. record {
       call = at.call;
@@ -278,10 +258,10 @@ decided_by c s cell w v at =
 abbrev pub Decides : (Step → Bool) → PassState → Answer → PassState → Type 0
 Decides kinds p a q = ComesTo kinds p (IsDecidedAt p.seat (world_of p)) (entry_for p a) q
 
-pub freed_decides : (p q : PassState) (cell : Cell) → HasFreed p cell q → Decides is_freeing p answer.Done q
+pub freed_decides : (p q : PassState) (cell : Cell) → HasFreed p cell q → Decides is_freeing p Answer.Done q
 freed_decides p q cell a =
     reaches_so is_freeing p q (IsFreedAt p.table.config p.seat cell (world_of p)) (IsDecidedAt p.seat (world_of p))
-    (entry_for p answer.Done) a
+    (entry_for p Answer.Done) a
     (λ at. decided_by p.table.config p.seat cell (world_of p) (left p.table.config q.seen) at)
 
 -- what follows leaves it decided,

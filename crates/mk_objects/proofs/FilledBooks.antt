@@ -1,14 +1,10 @@
 -- A book on its way to be filled.
-use Rattle.std.proofs.Common.{◌≡◌, ℕ, ◌+◌, ◌<◌, List, length, sym, ◌∙◌, ap, inl, inr, arith}
-use Rattle.std.specs.Prelude.{slice_index_or, slice_set}
-use Rattle.std.proofs.lemmas.Bool.{cases_eq}
-use Rattle.std.proofs.lemmas.List.{ext_get_or, get_or-set_other, get_or-set_same}
-use Rattle.mk_geom.specs.declared.pages.Page.{Page}
-use Rattle.mk_geom.specs.Storages.{free_page}
-use Rattle.mk_core.specs.Words.{header_at, page_of, used_at}
-use Rattle.mk_words.specs.States.{PassState, TurnState, now_of}
-use Rattle.mk_core.specs.Frames.{Steady}
-use Rattle.mk_objects.specs.Placing.{OnlyLooks}
+use Rattle.std.proofs.Common.{ext_get_or}
+use Rattle.mk_laws.proofs.Vocabulary.{List, Page, Steady, ℕ, ap, arith, cases_eq, free_page, get_or-set_other}
+use Rattle.mk_laws.proofs.Vocabulary.{get_or-set_same, header_at, inl, inr, length, slice_index_or, slice_set, sym}
+use Rattle.mk_laws.proofs.Vocabulary.{used_at, ◌+◌, ◌<◌, ◌∙◌, ◌≡◌}
+use Rattle.mk_objects.proofs.Vocabulary.{OnlyLooks, PassState, TurnState, now_of}
+use Rattle.mk_core.specs.Words.{page_of}
 use Rattle.mk_objects.proofs.JoinedLooks.{looks_left}
 
 pub record IsFilledTo (was now : TurnState) (first book : List Page) (page : ℕ) : Type 0 where

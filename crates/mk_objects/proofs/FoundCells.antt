@@ -1,39 +1,19 @@
 -- The cell that the register of a Free points into, by a look at its page's header.
-use Rattle.std.proofs.Common.{◌≡◌, ℕ, ◌+◌, ◌*◌, ◌<◌, ◌≤◌, true, sym, ap, subst, ◌∙◌, inl, inr, arith}
-use Rattle.std.specs.Prelude.{nat_le, nat_lt, Option, Some, None, option_and_then}
-use Rattle.std.proofs.lemmas.Bool.{and_parts, cases_Bool, leb-true, ltb-true, cond-false}
-use Rattle.mk_geom.specs.declared.addresses.Cell.{Cell}
-use Rattle.mk_geom.specs.declared.headers.Header.{Header}
-use Rattle.mk_geom.specs.Addresses.{cell_at, cell_under, is_heap_address, page_at_address, word_at_address}
-use Rattle.mk_geom.specs.Headers.{header_of}
-use Rattle.mk_core.specs.declared.config.Config.{Config}
-use Rattle.mk_core.specs.declared.events.Seat.{Seat}
-use Rattle.mk_core.specs.declared.events.Seat.TheVariants.{Caller}
-use Rattle.mk_core.specs.declared.seats.Flight.{Flight}
-use Rattle.mk_core.specs.Cells.{pointed_cell}
-use Rattle.mk_core.specs.History.{IsHistory, never_behind}
-use Rattle.mk_core.specs.Moments.{flight_of}
-use Rattle.mk_core.specs.Allocations.{cell_of_allocation, placed_at}
-use Rattle.mk_core.specs.NewPlaces.{is_undecided_free, target}
-use Rattle.mk_core.specs.Words.{Words, header_at}
-use Rattle.mk_words.specs.States.{PassState, call_of, now_of, world_of}
-use Rattle.mk_objects.proofs.FreedCells.{PointsAt, free_points_at}
-use Rattle.mk_core.specs.Allocations.{PlacedAllocation}
-use Rattle.mk_core.specs.Config.{IsWithinLimits}
-use Rattle.mk_core.specs.History.{World}
-use Rattle.mk_core.specs.StandingAllocations.{object_placed}
 use Rattle.std.proofs.Math.Nat.{div-le_of_le-mul}
-use Rattle.mk_geom.specs.Classes.{cells_of, class_words_of}
-use Rattle.mk_geom.proofs.ClassTable.{class_words_within}
-use Rattle.mk_core.specs.declared.seats.Object.{Object}
-use Rattle.mk_core.specs.NewPlaces.{class_made, is_small_object}
-use Rattle.mk_core.specs.ObjectHeaders.{IsSized, cells_made}
-use Rattle.mk_core.proofs.Sizes.{class_known, large_cells, small_cells, words_within}
-use Rattle.mk_core.proofs.StandingAllocations.{placed_cell, typed_size}
-use Rattle.mk_laws.specs.SettledPages.{StandsUsed}
-use Rattle.mk_laws.proofs.InvariantTheorems.{allocations_stand}
-use Rattle.mk_objects.proofs.Looks.{acting_caller}
-use Rattle.mk_objects.proofs.MayAct.{free_is_acting}
+use Rattle.mk_laws.proofs.Vocabulary.{Caller, Cell, Config, Flight, Header, IsHistory, IsSized, IsWithinLimits, None}
+use Rattle.mk_laws.proofs.Vocabulary.{Object, Option, PlacedAllocation, Seat, Some, Words, World, ℕ, and_parts, ap}
+use Rattle.mk_laws.proofs.Vocabulary.{arith, cases_Bool, cell_at, cell_of_allocation, cells_made, cells_of, class_known}
+use Rattle.mk_laws.proofs.Vocabulary.{class_made, class_words_of, cond-false, flight_of, header_at, header_of, inl, inr}
+use Rattle.mk_laws.proofs.Vocabulary.{is_heap_address, is_small_object, is_undecided_free, large_cells, leb-true}
+use Rattle.mk_laws.proofs.Vocabulary.{ltb-true, nat_le, nat_lt, never_behind, object_placed, page_at_address, placed_at}
+use Rattle.mk_laws.proofs.Vocabulary.{small_cells, subst, sym, target, true, typed_size, words_within, ◌*◌, ◌+◌, ◌<◌}
+use Rattle.mk_laws.proofs.Vocabulary.{◌∙◌, ◌≡◌, ◌≤◌}
+use Rattle.mk_objects.proofs.Vocabulary.{PassState, call_of, now_of, option_and_then, world_of}
+use Rattle.mk_geom.{proofs.ClassTable.class_words_within, specs.Addresses.cell_under, specs.Addresses.word_at_address}
+use Rattle.mk_core.{proofs.StandingAllocations.placed_cell, specs.Cells.pointed_cell}
+use Rattle.mk_laws.{proofs.InvariantTheorems.allocations_stand, specs.SettledPages.StandsUsed}
+use Rattle.mk_objects.proofs.FreedCells.{PointsAt, free_points_at}
+use Rattle.mk_objects.proofs.{Looks.acting_caller, MayAct.free_is_acting}
 
 -- what points into a cell is an address of the heap
 pub record InHeap (pages u : ℕ) : Type 0 where

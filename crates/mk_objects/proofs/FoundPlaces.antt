@@ -1,32 +1,20 @@
 -- What the place that first fit finds says of its pages, and how many words are held.
-use Rattle.std.proofs.Common.{◌≡◌, ◌≢◌, ℕ, ◌*◌, ◌<◌, ◌≤◌, Bool, true, false, List, [], ◌∷◌, length, refl, sym, ap}
-use Rattle.std.proofs.Common.{subst, ◌∙◌, inl, inr, arith}
-use Rattle.std.specs.Prelude.{◌==◌, Option, Some, None, slice_index_or, slice_get, count_by}
-use Rattle.std.specs.Int.{bit_at}
-use Rattle.std.proofs.lemmas.Bool.{cases_Bool, leb-false, leb-true}
-use Rattle.std.proofs.lemmas.Option.{get_or_from_slice_get, slice_get_within}
-use Rattle.std.proofs.lemmas.List.FromFn.{get_or-map-range_with_len}
-use Rattle.std.proofs.lemmas.List.Sums.{sum_by-cons, count_by-le-length}
+use Rattle.std.proofs.Common.{count_by, leb-false, slice_get}
 use Rattle.std.proofs.Math.Nat.{mul-div-le, mul-le-mul_left}
-use Rattle.mk_geom.specs.declared.headers.Header.{Header}
-use Rattle.mk_geom.specs.declared.headers.Header.TheVariants.{Block, Free, Later, LeafBlock, LeafRun, Run}
-use Rattle.mk_geom.specs.declared.pages.Page.{Page}
-use Rattle.mk_geom.specs.declared.pages.Place.{Place}
-use Rattle.mk_geom.specs.Classes.{cells_of, class_words_of}
-use Rattle.mk_geom.specs.Headers.{header_of}
-use Rattle.mk_geom.specs.PageUses.{PageUse, is_free_page, held_by_uses, held_by_use}
-use Rattle.mk_geom.specs.PageWords.{bits_of, use_of_page, use_under, uses_of_pages}
-use Rattle.mk_geom.specs.Places.{MayTakeCell}
-use Rattle.mk_geom.specs.Storages.{free_page}
-use Rattle.mk_geom.proofs.FirstFit.{cell_place_is, run_place_is}
-use Rattle.mk_geom.proofs.HeaderLemmas.{word_of-header_of}
-use Rattle.mk_core.specs.declared.seats.Object.{Object}
-use Rattle.mk_core.specs.Bits.{has_bit}
-use Rattle.mk_core.specs.NewPlaces.{class_made, is_small_object, place_on_pages}
-use Rattle.mk_core.specs.ObjectHeaders.{IsSized}
-use Rattle.mk_core.proofs.Sizes.{class_for_small, large_pages, pages_some}
-use Rattle.mk_laws.specs.LayoutScene.{header_on, used_on}
+use Rattle.std.proofs.lemmas.Option.{get_or_from_slice_get, slice_get_within}
+use Rattle.std.proofs.{lemmas.List.FromFn.get_or-map-range_with_len, lemmas.List.Sums.count_by-le-length}
+use Rattle.mk_laws.proofs.Vocabulary.{Block, Bool, Free, Header, IsSized, Later, LeafBlock, LeafRun, List, None, Object}
+use Rattle.mk_laws.proofs.Vocabulary.{Option, Page, Place, Run, Some, ℕ, ap, arith, bit_at, cases_Bool, cells_of}
+use Rattle.mk_laws.proofs.Vocabulary.{class_made, class_words_of, false, free_page, has_bit, header_of, header_on, inl}
+use Rattle.mk_laws.proofs.Vocabulary.{inr, is_small_object, leb-true, length, pages_some, place_on_pages, refl}
+use Rattle.mk_laws.proofs.Vocabulary.{slice_index_or, subst, sym, true, use_under, used_on, uses_of_pages, [], ◌*◌, ◌<◌}
+use Rattle.mk_laws.proofs.Vocabulary.{◌==◌, ◌∙◌, ◌∷◌, ◌≡◌, ◌≢◌, ◌≤◌}
+use Rattle.mk_objects.proofs.Vocabulary.{sum_by-cons}
+use Rattle.mk_geom.proofs.{FirstFit.cell_place_is, FirstFit.run_place_is, HeaderLemmas.word_of-header_of}
+use Rattle.mk_geom.specs.PageUses.{PageUse, held_by_use, held_by_uses, is_free_page}
+use Rattle.mk_geom.specs.{PageWords.bits_of, PageWords.use_of_page, Places.MayTakeCell}
 use Rattle.mk_books.proofs.UsedBitLemmas.{length-bits_of}
+use Rattle.mk_core.proofs.Sizes.{class_for_small, large_pages}
 
 bit_told : (count used k : ℕ) → slice_get (bits_of count used) k ≡ Some false → has_bit used k ≡ false
 bit_told count used k is =

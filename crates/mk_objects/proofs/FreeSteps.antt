@@ -1,57 +1,21 @@
 -- The target of a Free is quarantined.
-use Rattle.std.proofs.Common.{◌≡◌, ℕ, ◌+◌, ◌-◌, ◌*◌, ◌/◌, ◌%◌, ◌<◌, ◌^◌, min, true, false, List, [], length, map, refl}
-use Rattle.std.proofs.Common.{sym, ap, subst, ◌∙◌, arith}
-use Rattle.std.specs.Prelude.{◌&&◌, ◌||◌, not, Option, Some, None, is_some, if◌then◌else◌, slice_index, slice_set}
-use Rattle.std.proofs.lemmas.Bool.{and_from, eq-eqb}
-use Rattle.std.proofs.lemmas.List.{set-get_or}
-use Rattle.mk_geom.specs.declared.addresses.Cell.{Cell}
-use Rattle.mk_geom.specs.declared.pages.Page.{Page}
-use Rattle.mk_geom.specs.PageUses.{or_else}
-use Rattle.mk_core.specs.declared.config.Config.{Config}
-use Rattle.mk_core.specs.declared.events.Answer.TheVariants as answer
-use Rattle.mk_core.specs.declared.events.Seat.{Seat}
-use Rattle.mk_core.specs.declared.events.Seat.TheVariants.{Caller}
-use Rattle.mk_core.specs.declared.events.Step.TheVariants as step
-use Rattle.mk_core.specs.declared.seats.Flight.{Flight}
-use Rattle.mk_core.specs.declared.seats.Holding.{Holding}
-use Rattle.mk_core.specs.declared.seats.Stage.TheVariants as stage
-use Rattle.mk_core.specs.Allocations.{PlacedAllocation, freed_where_it_stands}
-use Rattle.mk_core.specs.Bits.{has_bit}
-use Rattle.mk_core.specs.Cells.{is_freed}
-use Rattle.mk_core.specs.Effects.{answer_decided, progress_freed, run_of_cell, words_freed}
-use Rattle.mk_core.specs.Frames.{Steady, steady_of}
-use Rattle.mk_core.specs.History.{World, world_behind}
-use Rattle.mk_core.specs.Moments.{Moment, flight_of, is_phase}
-use Rattle.mk_core.specs.NewPlaces.{is_undecided_free, target}
-use Rattle.mk_core.specs.TurnConditions.{cell_freed, frees}
-use Rattle.mk_core.specs.Words.{Words, quarantine_word}
-use Rattle.std.specs.Prelude.{bit_or}
-use Rattle.std.proofs.Math.Pow.{pow-lt}
-use Rattle.std.proofs.lemmas.Nat.{or_lt}
-use Rattle.mk_never.specs.declared.operations.Op.{Op}
-use Rattle.mk_core.specs.Accesses.{caller_number}
-use Rattle.mk_core.specs.Cells.{header_in, heads_run}
-use Rattle.mk_core.specs.Decided.{entry_of}
-use Rattle.mk_core.specs.Moments.{others_are_held}
-use Rattle.mk_core.specs.Ranges.{is_run_cell}
-use Rattle.mk_core.specs.Readings.{Holds}
-use Rattle.mk_core.specs.Words.{phase_of}
-use Rattle.mk_laws.proofs.Known.{Known}
-use Rattle.mk_words.specs.States.{PassState, call_of, now_of, world_of}
-use Rattle.mk_words.specs.Steps.{IsEnabledTo}
-use Rattle.mk_words.specs.TurnSteps.{Acts, IsTurn}
-use Rattle.mk_objects.specs.Placing.{IsOutOfStop, entry_for}
-use Rattle.mk_objects.specs.Retiring.{HasFreed, IsFreedAt, is_freeing}
-use Rattle.mk_objects.specs.Unchanged.{IsAsLeft}
-use Rattle.mk_objects.proofs.Looks.{acting_caller, acting_now}
+use Rattle.std.proofs.{Math.Pow.pow-lt, lemmas.Nat.or_lt}
+use Rattle.mk_laws.proofs.Vocabulary.{Answer, Caller, Cell, Config, Flight, Holding, Holds, List, Moment, None, Op}
+use Rattle.mk_laws.proofs.Vocabulary.{Option, Page, PlacedAllocation, Seat, Some, Stage, Steady, Step, Words, World, ℕ}
+use Rattle.mk_laws.proofs.Vocabulary.{and_from, answer_decided, ap, arith, bit_or, caller_number, cell_freed, entry_of}
+use Rattle.mk_laws.proofs.Vocabulary.{eq-eqb, false, flight_of, freed_where_it_stands, frees, has_bit, header_in}
+use Rattle.mk_laws.proofs.Vocabulary.{heads_run, if◌then◌else◌, is_freed, is_phase, is_run_cell, is_some}
+use Rattle.mk_laws.proofs.Vocabulary.{is_undecided_free, length, map, not, or_else, others_are_held, phase_of}
+use Rattle.mk_laws.proofs.Vocabulary.{progress_freed, quarantine_word, refl, run_of_cell, set-get_or, slice_index}
+use Rattle.mk_laws.proofs.Vocabulary.{slice_set, subst, sym, target, true, world_behind, [], ◌%◌, ◌&&◌, ◌*◌, ◌+◌, ◌-◌}
+use Rattle.mk_laws.proofs.Vocabulary.{◌/◌, ◌<◌, ◌^◌, ◌||◌, ◌∙◌, ◌≡◌}
+use Rattle.mk_objects.proofs.Vocabulary.{Acts, FreesOnce, HasFreed, IsAsLeft, IsEnabledTo, IsFreedAt, IsOutOfStop}
+use Rattle.mk_objects.proofs.Vocabulary.{IsTurn, Known, PassState, call_of, entry_for, is_freeing, min, now_of}
+use Rattle.mk_objects.proofs.Vocabulary.{steady_of, words_freed, world_of}
 use Rattle.mk_objects.proofs.MayAct.{free_is_acting, may_free, off_four}
-use Rattle.mk_objects.proofs.FreedOnce.{frees_now}
 use Rattle.mk_objects.proofs.Reaching.{made_in, reaches_nothing, reaches_on}
-use Rattle.mk_objects.specs.Dues.{FreesOnce}
-use Rattle.mk_objects.proofs.Serves.{out_of_stop}
-use Rattle.mk_objects.proofs.Takes.{one_bit_more}
-use Rattle.mk_objects.proofs.SeenDoubles.{freed_same, target_same}
-use Rattle.mk_objects.proofs.Unchanged.{call_behind}
+use Rattle.mk_objects.proofs.{FreedOnce.frees_now, Looks.acting_caller, Looks.acting_now, SeenDoubles.freed_same}
+use Rattle.mk_objects.proofs.{SeenDoubles.target_same, Serves.out_of_stop, Takes.one_bit_more, Unchanged.call_behind}
 
 -- the word that the step stores
 abbrev pub freed_word : Words → Cell → ℕ
@@ -106,8 +70,8 @@ pub quar_behind : (c : Config) (k : ℕ) (cell : Cell) (value : ℕ) (w v : Worl
     → IsOutOfStop v.now → target c.pages w.now.words (flight_of w.now (Caller k)) ≡ Some cell
     → is_freed w.now.words cell ≡ false
     → value ≡ freed_word w.now.words cell → slice_index w.now.words.freed cell.page + 2 ^ cell.index < 2 ^ 32
-    → IsFreedAt c (Caller k) cell w (world_behind c v (record { seat = Caller k; step = step.Quar cell.page value }))
-    × (answer_decided c v.now (record { seat = Caller k; step = step.Quar cell.page value }) ≡ Some answer.Done)
+    → IsFreedAt c (Caller k) cell w (world_behind c v (record { seat = Caller k; step = Step.Quar cell.page value }))
+    × (answer_decided c v.now (record { seat = Caller k; step = Step.Quar cell.page value }) ≡ Some Answer.Done)
 quar_behind c k cell value w v lt kept low at clear is small =
     let pages : v.now.words.pages ≡ w.now.words.pages = ap (λ (x : Steady). x.pages) kept.steady in
     let freeds : v.now.words.freed ≡ w.now.words.freed = ap (λ (x : Steady). x.freed) kept.steady in
@@ -115,7 +79,7 @@ quar_behind c k cell value w v lt kept low at clear is small =
     let f : Flight = flight_of v.now (Caller k) in
     let frees : cell_freed c.pages v.now.words f cell.page value ≡ Some cell =
     freed_left c (Caller k) cell value w v kept low at clear is in
-    let u : World = world_behind c v (record { seat = Caller k; step = step.Quar cell.page value }) in
+    let u : World = world_behind c v (record { seat = Caller k; step = Step.Quar cell.page value }) in
     let n : ℕ = slice_index w.now.words.freed cell.page + 2 ^ cell.index in
     let freed : u.now.words.freed ≡ slice_set w.now.words.freed cell.page n =
     ap (λ i. slice_set v.now.words.freed cell.page (i % 2 ^ 32)) is
@@ -134,9 +98,9 @@ quar_behind c k cell value w v lt kept low at clear is small =
     ∙ ap (λ (xs : List PlacedAllocation). map (freed_where_it_stands w.now.words (Some cell)) xs)
     (ap (λ (x : Steady). x.allocations) kept.steady) in (
       record {
-        call = call_behind c v.now k (step.Quar cell.page value) lt
+        call = call_behind c v.now k (Step.Quar cell.page value) lt
             ∙ ap (λ (x : Option Cell). (progress_freed f x).flight) frees
-            ∙ ap (λ (g : Flight). record g { stage = stage.Give }) kept.call;
+            ∙ ap (λ (g : Flight). record g { stage = Stage.Give }) kept.call;
         holding = ap (λ (x : Option Cell). record v.now.seats.holding
             { freed = or_else (run_of_cell v.now.words x) v.now.seats.holding.freed }) frees
             ∙ ap (λ (ps : List Page). record v.now.seats.holding
@@ -175,8 +139,8 @@ module _ (p : PassState) (cell : Cell) (value : ℕ) (v : World) (known : Known 
   abbrev Frees : Seat → Type 0
   Frees s =
       IsFreedAt p.table.config s cell (world_of p)
-      (world_behind p.table.config v (record { seat = s; step = step.Quar cell.page value }))
-      × (answer_decided p.table.config v.now (record { seat = s; step = step.Quar cell.page value }) ≡ Some answer.Done)
+      (world_behind p.table.config v (record { seat = s; step = Step.Quar cell.page value }))
+      × (answer_decided p.table.config v.now (record { seat = s; step = Step.Quar cell.page value }) ≡ Some Answer.Done)
 
   still_low : phase_of v.now.words ≡ phase_of (now_of p).words → IsOutOfStop v.now
   still_low same = out_of_stop (now_of p) v.now same low
@@ -201,23 +165,23 @@ pub quarantine_reaches : (p q : PassState) (cell : Cell) (value : ℕ) (o : Opti
     → target p.table.config.pages (now_of p).words (call_of p) ≡ Some cell → is_freed (now_of p).words cell ≡ false
     → IsOutOfStop (now_of p)
     → value ≡ freed_word (now_of p).words cell → slice_index (now_of p).words.freed cell.page + 2 ^ cell.index < 2 ^ 32
-    → Acts p (step.Quar cell.page value) q → HasFreed p cell q
+    → Acts p (Step.Quar cell.page value) q → HasFreed p cell q
 quarantine_reaches p q cell value o turn free at clear low is small a =
     let caller = acting_caller p (free_is_acting (call_of p) free) in
     reaches_on is_freeing p p q (λ w. w ≡ world_of p) (IsFreedAt p.table.config p.seat cell (world_of p)) []
-    (entry_for p answer.Done)
-    (step.Quar cell.page value) (reaches_nothing is_freeing p (λ w. w ≡ world_of p) refl) a refl refl caller
+    (entry_for p Answer.Done)
+    (Step.Quar cell.page value) (reaches_nothing is_freeing p (λ w. w ≡ world_of p) refl) a refl refl caller
     (λ w v first kept known pages.
     let kept : IsAsLeft p.seat (world_of p) v = subst (λ (x : World). IsAsLeft p.seat x v) first kept in
     let to = frees_at p cell value v known low p.seat caller.number caller.is kept turn.holds at clear is small in
     record {
       world = to.0;
-      answer = Some answer.Done;
+      answer = Some Answer.Done;
       decides = to.1;
       no_full = refl;
       entry = λ k is.
-          ap (λ (f : Flight). entry_of k f.op (Some answer.Done)) kept.call
-          ∙ ap (λ i. entry_of i (call_of p).op (Some answer.Done)) (sym (ap caller_number is));
+          ap (λ (f : Flight). entry_of k f.op (Some Answer.Done)) kept.call
+          ∙ ap (λ i. entry_of i (call_of p).op (Some Answer.Done)) (sym (ap caller_number is));
     })
 
 -- and frees once
@@ -225,9 +189,9 @@ pub quarantine_once : (p q : PassState) (cell : Cell) (value : ℕ) (o : Option 
     → target p.table.config.pages (now_of p).words (call_of p) ≡ Some cell → is_freed (now_of p).words cell ≡ false
     → IsOutOfStop (now_of p)
     → value ≡ freed_word (now_of p).words cell
-    → Acts p (step.Quar cell.page value) q → FreesOnce p q
+    → Acts p (Step.Quar cell.page value) q → FreesOnce p q
 quarantine_once p q cell value o turn at clear low is a =
-    frees_now p q (step.Quar cell.page value) (made_in p p.seen (step.Quar cell.page value) q a) a.makes.pass.history
+    frees_now p q (Step.Quar cell.page value) (made_in p p.seen (Step.Quar cell.page value) q a) a.makes.pass.history
     turn.holds
     (λ v kept. ap (λ (x : Option Cell). is_some x)
     (freed_left p.table.config p.seat cell value (world_of p) v kept
@@ -240,7 +204,7 @@ pub quarantine_may : (p : PassState) (cell : Cell) (value : ℕ) (o : Option Op)
     → value ≡ freed_word (now_of p).words cell → cell.page < p.table.config.pages
     → (not (heads_run (header_in (now_of p).words cell.page)) || others_are_held p.table.config.callers
     (now_of p).words p.seat) ≡ true
-    → IsEnabledTo p (step.Quar cell.page value)
+    → IsEnabledTo p (Step.Quar cell.page value)
 quarantine_may p cell value o turn free at clear low is within gates =
     may_free p.table.config (now_of p) p.seat (acting_now p o turn (free_is_acting (call_of p) free)) cell.page value
     within low

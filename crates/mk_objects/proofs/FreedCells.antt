@@ -1,38 +1,13 @@
 -- What the register of an undecided Free points into: the cell of an unreleased allocation.
-use Rattle.std.proofs.Common.{◌≡◌, ◌≢◌, ℕ, ◌+◌, ◌*◌, List, true, false, refl}
-use Rattle.std.specs.Prelude.{Some}
-use Rattle.std.proofs.lemmas.Bool.{false≢true}
-use Rattle.mk_never.specs.declared.operations.Op.{Op}
-use Rattle.mk_never.specs.declared.operations.Op.TheVariants as op
-use Rattle.mk_never.specs.declared.values.Value.{Value}
-use Rattle.mk_never.specs.declared.values.Value.TheVariants.{Null, Num, Ptr}
-use Rattle.mk_never.specs.NeverHeap.{NeverState, register_at}
-use Rattle.mk_never.specs.Typed.{IsSound}
-use Rattle.mk_core.specs.declared.config.Config.{Config}
-use Rattle.mk_core.specs.declared.events.Event.{Event}
-use Rattle.mk_core.specs.declared.events.Seat.TheVariants.{Caller}
-use Rattle.mk_core.specs.declared.seats.Flight.{Flight}
-use Rattle.mk_core.specs.declared.seats.Stage.{Stage}
-use Rattle.mk_core.specs.declared.seats.Stage.TheVariants as stage
-use Rattle.mk_core.specs.Allocations.{cell_of_allocation, placed_at}
-use Rattle.mk_core.specs.Calls.{p_of}
-use Rattle.mk_core.specs.Cells.{pointed_cell}
-use Rattle.mk_core.specs.History.{IsHistory, World, bases_of, left, never_behind}
-use Rattle.mk_core.specs.Image.{image_of}
-use Rattle.mk_core.specs.Moments.{flight_of}
-use Rattle.mk_core.specs.NewPlaces.{is_undecided_free}
-use Rattle.mk_laws.specs.Images.{CarriesOwn, image_scene_of}
-use Rattle.mk_laws.specs.Mirrors.{Mirrors}
-use Rattle.mk_laws.specs.ImagePremises.{ImagePremises}
-use Rattle.mk_laws.specs.SafeSets.{IsSafe}
-use Rattle.mk_laws.proofs.ImagesBefore.{ready_of}
-use Rattle.mk_laws.proofs.FreeMoves.{pointer_cell}
-use Rattle.mk_laws.proofs.KnownWorlds.{KnownWorld, known_world}
-use Rattle.mk_laws.proofs.Ready.{Ready}
-use Rattle.mk_laws.proofs.RegMoves.{flight}
+use Rattle.mk_laws.proofs.Vocabulary.{Caller, CarriesOwn, Config, Event, Flight, ImagePremises, IsHistory, IsSafe}
+use Rattle.mk_laws.proofs.Vocabulary.{IsSound, List, Mirrors, NeverState, Null, Num, Op, Ptr, Some, Stage, Value, World}
+use Rattle.mk_laws.proofs.Vocabulary.{ℕ, bases_of, cell_of_allocation, false, false≢true, flight_of, image_of}
+use Rattle.mk_laws.proofs.Vocabulary.{image_scene_of, is_undecided_free, left, never_behind, p_of, placed_at}
+use Rattle.mk_laws.proofs.Vocabulary.{pointed_cell, refl, register_at, true, ◌*◌, ◌+◌, ◌≡◌, ◌≢◌}
+use Rattle.mk_objects.proofs.Vocabulary.{histories_keep_the_invariant}
 use Rattle.mk_laws.proofs.ImagesStands.{Stands, stands_of}
-use Rattle.mk_laws.proofs.InvariantHistories.{histories_keep_the_invariant}
-use Rattle.mk_laws.proofs.InvariantJoined.{told_to_images}
+use Rattle.mk_laws.proofs.{FreeMoves.pointer_cell, ImagesBefore.ready_of, InvariantJoined.told_to_images}
+use Rattle.mk_laws.proofs.{KnownWorlds.KnownWorld, KnownWorlds.known_world, Ready.Ready, RegMoves.flight}
 
 -- The register has a pointer to an unreleased allocation, and the value that the call has loaded points into its cell.
 pub record PointsAt (c : Config) (w : World) (n : NeverState) (k : ℕ) (f : Flight) : Type 0 where
@@ -67,8 +42,8 @@ module _ (c : Config) (w : World) (n : NeverState) (known : KnownWorld c w) (oth
 
   points_by : (k : ℕ) (s : Stage) (o : Op) (q p r l : ℕ) → is_undecided_free (flight s o q p r l) ≡ true
       → CarriesOwn (bases_of w.allocations) n k (flight s o q p r l) → PointsAt c w n k (flight s o q p r l)
-  points_by k stage.Turn (op.Free p') q p r l undecided car =
-      by_value k (flight stage.Turn (op.Free p') q p r l) (register_at n k p') refl
+  points_by k Stage.Turn (Op.Free p') q p r l undecided car =
+      by_value k (flight Stage.Turn (Op.Free p') q p r l) (register_at n k p') refl
       (mirrors.typed.registers (8 * k + p'))
       (mirrors.safe.1.registers (8 * k + p')) (car.p refl) (car.some_p refl)
   points_by k _ _ q p r l undecided car = absurd (false≢true undecided)

@@ -1,47 +1,25 @@
 -- The object of a Free: the allocation that its register points into, by what the layout and the images say of it.
-use Rattle.std.proofs.Common.{◌≡◌, ◌≢◌, ℕ, ◌+◌, ◌*◌, ◌/◌, ◌<◌, ◌≤◌, true, false, List, length, map, refl, sym, ◌∙◌}
-use Rattle.std.proofs.Common.{ap, subst, inl, inr, arith}
-use Rattle.std.specs.Prelude.{◌==◌, not, Some, slice_set}
-use Rattle.std.proofs.lemmas.Bool.{and_parts, cases_Bool, cases_lt, cond-false, eqb-true, false_from_ne_true}
-use Rattle.std.proofs.lemmas.Bool.{not-true, true≢false}
-use Rattle.std.proofs.lemmas.List.{get_or_past}
-use Rattle.mk_never.specs.declared.values.Value.TheVariants.{Ptr}
-use Rattle.mk_never.specs.NeverHeap.{register_at}
-use Rattle.mk_never.specs.Types.{is_large, kinds_of}
-use Rattle.mk_geom.specs.declared.addresses.Cell.{Cell}
-use Rattle.mk_geom.specs.Headers.{header_of}
-use Rattle.mk_core.specs.declared.events.Seat.{Seat}
-use Rattle.mk_core.specs.declared.seats.Flight.{Flight}
-use Rattle.mk_core.specs.declared.seats.Object.{Object}
-use Rattle.mk_core.specs.Accesses.{caller_number}
-use Rattle.mk_core.specs.Allocations.{PlacedAllocation, cell_of_allocation, freed_where_it_stands, held_by_allocations}
-use Rattle.mk_core.specs.Allocations.{is_mapped, never_granted, placed_at, stands_in, storage_words}
-use Rattle.mk_core.specs.Calls.{p_of}
-use Rattle.mk_core.specs.Cells.{first_word, header_in, heads_run, is_freed, is_unmapped_header, words_under}
-use Rattle.mk_core.specs.History.{IsHistory, never_behind}
-use Rattle.mk_geom.specs.Classes.{class_words_of}
-use Rattle.mk_core.specs.NewPlaces.{class_made, header_made, is_small_object, pages_made, target, unmapped_header}
-use Rattle.mk_core.specs.ObjectHeaders.{IsSized, ShowsPart}
-use Rattle.mk_core.specs.StandingAllocations.{object_placed}
-use Rattle.mk_core.specs.Words.{header_at}
-use Rattle.mk_core.proofs.CellsOfAllocations.{stands_in_its_cell}
-use Rattle.mk_core.proofs.ObjectHeaders.{made_is_mapped, part_heads_run, small_heads_none, unmapped_is_unmapped}
-use Rattle.mk_core.proofs.Sizes.{large_count, large_is_not_small}
-use Rattle.mk_core.proofs.StandingAllocations.{cells_begin, first_page_shows, run_begins, typed_size}
-use Rattle.mk_laws.proofs.KnownWorlds.{known_world}
-use Rattle.mk_laws.specs.ImagePremises.{IsLaidOut, ImagePremises}
-use Rattle.mk_laws.proofs.InvariantHistories.{histories_keep_the_invariant}
-use Rattle.mk_laws.proofs.InvariantJoined.{told_to_images}
-use Rattle.mk_words.specs.States.{PassState, call_of, now_of, world_of}
-use Rattle.mk_objects.specs.Placing.{IsOutOfStop}
-use Rattle.mk_objects.specs.Retired.{freed_and_fresh}
-use Rattle.mk_objects.specs.Retiring.{IsFreeAt, loaded_free, value_of}
-use Rattle.mk_objects.proofs.FoundCells.{points_now, target_of}
-use Rattle.mk_objects.proofs.FreedTold.{freed_told}
+use Rattle.mk_laws.proofs.Vocabulary.{Cell, Flight, ImagePremises, IsHistory, IsSized, List, Object, PlacedAllocation}
+use Rattle.mk_laws.proofs.Vocabulary.{Ptr, Seat, ShowsPart, Some, ℕ, and_parts, ap, arith, caller_number, cases_Bool}
+use Rattle.mk_laws.proofs.Vocabulary.{cases_lt, cell_of_allocation, cells_begin, class_made, class_words_of, cond-false}
+use Rattle.mk_laws.proofs.Vocabulary.{eqb-true, false, false_from_ne_true, first_page_shows, first_word}
+use Rattle.mk_laws.proofs.Vocabulary.{freed_where_it_stands, get_or_past, header_at, header_in, header_made, header_of}
+use Rattle.mk_laws.proofs.Vocabulary.{heads_run, inl, inr, is_freed, is_large, is_mapped, is_small_object}
+use Rattle.mk_laws.proofs.Vocabulary.{is_unmapped_header, kinds_of, large_count, large_is_not_small, length}
+use Rattle.mk_laws.proofs.Vocabulary.{made_is_mapped, map, never_behind, never_granted, not, not-true, object_placed}
+use Rattle.mk_laws.proofs.Vocabulary.{p_of, pages_made, placed_at, refl, register_at, run_begins, slice_set}
+use Rattle.mk_laws.proofs.Vocabulary.{small_heads_none, stands_in, stands_in_its_cell, storage_words, subst, sym}
+use Rattle.mk_laws.proofs.Vocabulary.{target, true, true≢false, typed_size, unmapped_header, unmapped_is_unmapped}
+use Rattle.mk_laws.proofs.Vocabulary.{words_under, ◌*◌, ◌+◌, ◌/◌, ◌<◌, ◌==◌, ◌∙◌, ◌≡◌, ◌≢◌, ◌≤◌}
+use Rattle.mk_objects.proofs.Vocabulary.{IsFreeAt, IsOutOfStop, PassState, call_of, freed_and_fresh}
+use Rattle.mk_objects.proofs.Vocabulary.{held_by_allocations, histories_keep_the_invariant, loaded_free, now_of}
+use Rattle.mk_objects.proofs.Vocabulary.{value_of, world_of}
+use Rattle.mk_core.proofs.ObjectHeaders.{part_heads_run}
+use Rattle.mk_laws.proofs.{InvariantJoined.told_to_images, KnownWorlds.known_world}
+use Rattle.mk_laws.specs.ImagePremises.{IsLaidOut}
 use Rattle.mk_objects.proofs.HeldFreed.{freed_one, held_part, held_set, large_part, live_part, small_part}
-use Rattle.mk_objects.proofs.LoadedFrees.{loaded_undecided}
-use Rattle.mk_objects.proofs.Looks.{acting_caller}
-use Rattle.mk_objects.proofs.MayAct.{free_is_acting, off_four}
+use Rattle.mk_objects.proofs.{FoundCells.points_now, FoundCells.target_of, FreedTold.freed_told}
+use Rattle.mk_objects.proofs.{LoadedFrees.loaded_undecided, Looks.acting_caller, MayAct.free_is_acting, MayAct.off_four}
 
 -- The register of the Free has a pointer to this unreleased allocation, whose cell it is.
 pub record IsObjectAt (p : PassState) (r : ℕ) (cell : Cell) : Type 0 where

@@ -1,48 +1,28 @@
 -- Of the events of a Free's turn one frees its object: a `quar` of its own.
-use Rattle.std.proofs.Common.{◌≡◌, Bool, true, false, List, [], ◌∷◌, ◌++◌, refl, sym, ◌∙◌, ap, subst, append-nil}
-use Rattle.std.proofs.Common.{append_assoc, inl, inr, arith}
-use Rattle.std.proofs.lemmas.Bool.{cases_Bool, true≢false}
-use Rattle.mk_core.specs.declared.config.Config.{Config}
-use Rattle.mk_core.specs.declared.events.Event.{Event}
-use Rattle.mk_core.specs.declared.events.Seat.{Seat}
-use Rattle.mk_core.specs.declared.events.Step.{Step}
-use Rattle.mk_core.specs.declared.events.Step.TheVariants as step
-use Rattle.mk_core.specs.declared.seats.Flight.{Flight}
-use Rattle.mk_core.specs.Allocations.{PlacedAllocation, unreleased_storage}
-use Rattle.mk_core.specs.Counts.{decides_freed}
-use Rattle.mk_core.specs.Growing.{is_one_of}
-use Rattle.mk_core.specs.History.{IsHistory, World, left}
-use Rattle.mk_core.specs.Moments.{Moment, flight_of}
-use Rattle.mk_core.specs.Readings.{Holds}
-use Rattle.mk_core.proofs.HistoryParts.{earlier_part_is_history}
-use Rattle.mk_laws.proofs.Actors.{is_holders}
-use Rattle.mk_laws.proofs.ProtocolFrames.{other_seat}
-use Rattle.mk_laws.proofs.Known.{holds_turn}
-use Rattle.mk_laws.proofs.Orderly.{same_holder}
-use Rattle.mk_laws.proofs.OrderlyLists.{actor_of}
-use Rattle.mk_laws.proofs.Views.{view_of}
-use Rattle.mk_laws.proofs.FramesHolders.{acts_as_holder}
+use Rattle.mk_laws.proofs.Vocabulary.{Bool, Config, Event, Flight, Holds, IsHistory, List, Moment, PlacedAllocation}
+use Rattle.mk_laws.proofs.Vocabulary.{Seat, Step, World, ap, append-nil, append_assoc, arith, cases_Bool}
+use Rattle.mk_laws.proofs.Vocabulary.{earlier_part_is_history, false, flight_of, inl, inr, is_one_of, left, refl, subst}
+use Rattle.mk_laws.proofs.Vocabulary.{sym, true, true≢false, [], ◌++◌, ◌∙◌, ◌∷◌, ◌≡◌}
+use Rattle.mk_objects.proofs.Vocabulary.{Does, FreesOnce, IsAsLeft, IsOverQuarter, PassState, WordsState, event_of}
+use Rattle.mk_objects.proofs.Vocabulary.{now_of, turn_stays, world_of}
+use Rattle.mk_core.specs.{Allocations.unreleased_storage, Counts.decides_freed}
 use Rattle.mk_laws.proofs.LastEvents.{comes_last, stands}
-use Rattle.mk_turns.specs.Doing.{Does}
-use Rattle.mk_words.specs.States.{PassState, WordsState, event_of, now_of, world_of}
-use Rattle.mk_words.specs.TurnSteps.{turn_stays}
-use Rattle.mk_objects.specs.Dues.{FreesOnce, FreesOnly, IsOverQuarter, event_frees}
-use Rattle.mk_objects.specs.Retired.{IsDueSince}
-use Rattle.mk_objects.specs.Unchanged.{IsAsLeft}
-use Rattle.mk_objects.proofs.ListParts.{in_parts, none_behind, one_behind}
-use Rattle.mk_objects.proofs.Reaching.{MadeIn}
+use Rattle.mk_laws.proofs.{Actors.is_holders, FramesHolders.acts_as_holder, Known.holds_turn, Orderly.same_holder}
+use Rattle.mk_laws.proofs.{OrderlyLists.actor_of, ProtocolFrames.other_seat, Views.view_of}
 use Rattle.mk_objects.proofs.TurnEvents.{Another, ComesBy, KeptInTurn, Own, along_others, along_turn}
+use Rattle.mk_objects.proofs.{ListParts.in_parts, ListParts.none_behind, ListParts.one_behind, Reaching.MadeIn}
+use Rattle.mk_objects.specs.{Dues.FreesOnly, Dues.event_frees, Retired.IsDueSince}
 
 abbrev pub is_quar : Step → Bool
-is_quar (step.Quar p v) = true
+is_quar (Step.Quar p v) = true
 is_quar _ = false
 
 frees_none : (c : Config) (m : Moment) (f : Flight) (x : Step) → is_quar x ≡ false → decides_freed c m f x ≡ false
-frees_none c m f (step.Quar p v) h = cc
+frees_none c m f (Step.Quar p v) h = cc
 frees_none c m f _ h = refl
 
 quar_is_holders : (x : Step) → is_quar x ≡ true → is_holders x ≡ true
-quar_is_holders (step.Quar p v) h = refl
+quar_is_holders (Step.Quar p v) h = refl
 quar_is_holders _ h = cc
 
 -- Only the turn's holder frees.

@@ -1,18 +1,9 @@
 -- The freed bit of an unreleased allocation's cell says whether it is freed.
-use Rattle.std.proofs.Common.{◌≡◌, ◌⊎◌, ℕ, true, false, List, sym, ap, ◌∙◌, inl, inr}
-use Rattle.std.proofs.lemmas.Bool.{cases_Bool, false_from_ne_true, true≢false}
-use Rattle.mk_geom.specs.declared.addresses.Cell.{Cell}
-use Rattle.mk_core.specs.declared.config.Config.{Config}
-use Rattle.mk_core.specs.declared.events.Event.{Event}
-use Rattle.mk_core.specs.Allocations.{cell_of_allocation, placed_at}
-use Rattle.mk_core.specs.Cells.{is_freed}
-use Rattle.mk_core.specs.History.{IsHistory, World, left}
-use Rattle.mk_core.specs.Moments.{is_phase}
-use Rattle.mk_laws.specs.LayoutLaws.{StandsInOrder}
-use Rattle.mk_laws.specs.Quarantine.{IsFreedCell}
-use Rattle.mk_laws.specs.LayoutScene.{is_released_in}
+use Rattle.mk_laws.proofs.Vocabulary.{Cell, Config, Event, IsFreedCell, IsHistory, List, StandsInOrder, World, ℕ, ap}
+use Rattle.mk_laws.proofs.Vocabulary.{cases_Bool, cell_of_allocation, false, false_from_ne_true, inl, inr, is_freed}
+use Rattle.mk_laws.proofs.Vocabulary.{is_phase, is_released_in, left, placed_at, sym, true, true≢false, ◌∙◌, ◌≡◌, ◌⊎◌}
+use Rattle.mk_objects.proofs.Vocabulary.{histories_keep_the_invariant}
 use Rattle.mk_laws.proofs.Settled.{unreleased_are_apart}
-use Rattle.mk_laws.proofs.InvariantHistories.{histories_keep_the_invariant}
 
 pub freed_told : (c : Config) (es : List Event) (i : ℕ) → IsHistory c es → is_phase (left c es).now.words 4 ≡ false
     → (placed_at (left c es).allocations i).released ≡ false

@@ -1,48 +1,33 @@
 -- A run that the call has unmapped and wiped stays so, while gates are opened and tallies set.
-use Rattle.std.proofs.Common.{◌≡◌, true, false, List, [], ◌∷◌, ◌++◌, refl, sym, ◌∙◌, ap, subst}
-use Rattle.std.specs.Prelude.{Option, Some, None}
-use Rattle.std.proofs.lemmas.Bool.{true≢false}
-use Rattle.mk_core.specs.declared.config.Config.{Config}
-use Rattle.mk_core.specs.declared.events.Event.{Event}
-use Rattle.mk_core.specs.declared.events.Seat.{Seat}
-use Rattle.mk_core.specs.declared.events.Step.{Step}
-use Rattle.mk_core.specs.declared.events.Step.TheVariants as step
-use Rattle.mk_core.specs.declared.seats.Holding.{Holding}
-use Rattle.mk_core.specs.declared.seats.RunPages.{RunPages}
+use Rattle.mk_laws.proofs.Vocabulary.{Config, Event, Holding, Holds, IsHistory, List, None, Option, RunPages, Seat}
+use Rattle.mk_laws.proofs.Vocabulary.{Some, Step, World, ap, false, is_heap_store, is_run_gone, left, refl, subst, sym}
+use Rattle.mk_laws.proofs.Vocabulary.{true, true≢false, world_behind, [], ◌++◌, ◌∙◌, ◌∷◌, ◌≡◌}
+use Rattle.mk_objects.proofs.Vocabulary.{Does, PassState, is_settling, now_of, turn_stays}
 use Rattle.mk_core.specs.Growing.{AreOfOthers}
-use Rattle.mk_core.specs.History.{IsHistory, World, left, world_behind}
-use Rattle.mk_core.specs.NewPlaces.{is_run_gone}
-use Rattle.mk_core.specs.Readings.{Holds}
-use Rattle.mk_laws.specs.ZeroLaws.{is_heap_store}
-use Rattle.mk_laws.proofs.RunWords.{gone_behind}
 use Rattle.mk_laws.proofs.LastEvents.{ComesLast, comes_last, stands}
-use Rattle.mk_laws.proofs.RunsStill.{holder_finds}
-use Rattle.mk_turns.specs.Doing.{Does}
-use Rattle.mk_words.specs.States.{PassState, now_of}
-use Rattle.mk_words.specs.TurnSteps.{turn_stays}
-use Rattle.mk_objects.specs.FreeParts.{is_settling}
+use Rattle.mk_laws.proofs.{RunWords.gone_behind, RunsStill.holder_finds}
 use Rattle.mk_objects.proofs.TurnEvents.{Another, KeptInTurn, Own, along_turn}
 
 abbrev pub IsGoneIn : World → Type 0
 IsGoneIn w = is_run_gone w.now.words w.now.seats.holding.freed ≡ true
 
 settling_stays : (x : Step) → is_settling x ≡ true → turn_stays x ≡ true
-settling_stays (step.Look x) h = refl
-settling_stays (step.Open j) h = refl
-settling_stays (step.Tally n v) h = refl
+settling_stays (Step.Look x) h = refl
+settling_stays (Step.Open j) h = refl
+settling_stays (Step.Tally n v) h = refl
 settling_stays _ h = cc
 
 settling_stores_none : (x : Step) → is_settling x ≡ true → is_heap_store x ≡ false
-settling_stores_none (step.Look x) h = refl
-settling_stores_none (step.Open j) h = refl
-settling_stores_none (step.Tally n v) h = refl
+settling_stores_none (Step.Look x) h = refl
+settling_stores_none (Step.Open j) h = refl
+settling_stores_none (Step.Tally n v) h = refl
 settling_stores_none _ h = cc
 
 same_run : (c : Config) (w : World) (s : Seat) (x : Step) → is_settling x ≡ true
     → (world_behind c w (record { seat = s; step = x })).now.seats.holding.freed ≡ w.now.seats.holding.freed
-same_run c w s (step.Look x) h = refl
-same_run c w s (step.Open j) h = refl
-same_run c w s (step.Tally n v) h = refl
+same_run c w s (Step.Look x) h = refl
+same_run c w s (Step.Open j) h = refl
+same_run c w s (Step.Tally n v) h = refl
 same_run c w s _ h = cc
 
 gone_on : (c : Config) (es : List Event) (e : Event) → IsHistory c es → ComesLast c es e → is_settling e.step ≡ true

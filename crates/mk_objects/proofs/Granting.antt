@@ -1,42 +1,18 @@
 -- A New after its mark, its grant and its tally.
-use Rattle.std.proofs.Common.{◌≡◌, ℕ, ◌+◌, ◌*◌, ◌<◌, ◌≤◌, ◌^◌, ◌%◌, true, false, List, [], ◌∷◌, ◌++◌, length, refl, sym}
-use Rattle.std.proofs.Common.{ap, ◌∙◌, arith}
-use Rattle.std.specs.Prelude.{not, ◌==◌, Option, Some, slice_index, slice_set, bit_or}
-use Rattle.std.proofs.lemmas.Bool.{and_from, or_left, or_right, eq-eqb}
 use Rattle.std.specs.Int.Bits.{and_self}
-use Rattle.std.proofs.lemmas.List.{get_or-set_same}
-use Rattle.mk_geom.specs.declared.pages.Page.{Page}
-use Rattle.mk_geom.specs.declared.pages.Place.{Place}
-use Rattle.mk_geom.specs.Addresses.{address_of}
-use Rattle.mk_core.specs.declared.config.Config.{Config}
-use Rattle.mk_core.specs.declared.events.Seat.{Seat}
-use Rattle.mk_core.specs.declared.events.Seat.TheVariants.{Caller}
-use Rattle.mk_core.specs.declared.events.Step.TheVariants as step
-use Rattle.mk_core.specs.declared.events.Tally.TheVariants as tally
-use Rattle.mk_core.specs.declared.seats.Flight.{Flight}
-use Rattle.mk_core.specs.declared.seats.Holding.{Holding}
-use Rattle.mk_core.specs.declared.seats.Object.{Object}
-use Rattle.mk_core.specs.declared.seats.Placing.{Placing}
-use Rattle.mk_core.specs.declared.seats.Placing.TheVariants.{Chosen}
-use Rattle.mk_core.specs.declared.seats.Stage.TheVariants as stage
-use Rattle.mk_core.specs.Accesses.{granted_base}
-use Rattle.mk_core.specs.Allocations.{PlacedAllocation, type_made}
-use Rattle.mk_core.specs.Bits.{without}
-use Rattle.mk_core.specs.Calls.{d_of}
-use Rattle.mk_core.specs.Frames.{Steady, steady_of}
-use Rattle.mk_core.specs.History.{World, world_behind}
-use Rattle.mk_core.specs.Moments.{flight_of, is_phase}
-use Rattle.mk_core.specs.NewPlaces.{base_made, bits_made, is_undecided_new, object_made, pages_made}
-use Rattle.mk_core.specs.StopConditions.{marks_place}
-use Rattle.mk_core.specs.TurnConditions.{is_used_once, place_now}
-use Rattle.mk_core.specs.Words.{Words, header_at, phase_of, register_word}
-use Rattle.mk_core.proofs.WordBits.{bits_added}
+use Rattle.mk_laws.proofs.Vocabulary.{Caller, Chosen, Config, Flight, Holding, List, Object, Option, Page, Place}
+use Rattle.mk_laws.proofs.Vocabulary.{PlacedAllocation, Placing, Seat, Some, Stage, Steady, Step, Tally, Words, World}
+use Rattle.mk_laws.proofs.Vocabulary.{ℕ, address_of, and_from, ap, arith, base_made, bit_or, d_of, eq-eqb, false}
+use Rattle.mk_laws.proofs.Vocabulary.{flight_of, get_or-set_same, granted_base, header_at, is_phase, is_undecided_new}
+use Rattle.mk_laws.proofs.Vocabulary.{is_used_once, length, marks_place, not, object_made, or_left, or_right}
+use Rattle.mk_laws.proofs.Vocabulary.{pages_made, phase_of, place_now, refl, register_word, slice_index, slice_set, sym}
+use Rattle.mk_laws.proofs.Vocabulary.{true, without, world_behind, [], ◌%◌, ◌*◌, ◌++◌, ◌+◌, ◌<◌, ◌==◌, ◌^◌, ◌∙◌, ◌∷◌}
+use Rattle.mk_laws.proofs.Vocabulary.{◌≡◌, ◌≤◌}
+use Rattle.mk_objects.proofs.Vocabulary.{Carving, IsAsLeft, IsGrantedAt, Serving, bits_made, object_at_place, steady_of}
+use Rattle.mk_core.{proofs.WordBits.bits_added, specs.Allocations.type_made}
 use Rattle.mk_laws.proofs.Tests.{without_on}
-use Rattle.mk_objects.specs.Unchanged.{IsAsLeft}
-use Rattle.mk_objects.proofs.Unchanged.{HasCall, OfCaller, call_behind}
-use Rattle.mk_objects.specs.Placing.{IsGrantedAt, object_at_place}
-use Rattle.mk_objects.specs.Serving.{Carving, Serving}
 use Rattle.mk_objects.proofs.Serving.{IsTakenAt, chosen_now, new_placed}
+use Rattle.mk_objects.proofs.Unchanged.{HasCall, OfCaller, call_behind}
 
 -- `mark` before the first header: all cells of the place's first page get their marks.
 
@@ -72,9 +48,9 @@ pub carving_marked : (c : Config) (s : Seat) (o : Object) (place : Place) (w v :
     → is_undecided_new (flight_of v.now s) ≡ true → phase_of v.now.words ≡ 1
     → ((d : ℕ) → d < pages_made o → header_at v.now.words (place.page + d) ≡ 0)
     → 1 ≤ pages_made o → place.page < length v.now.words.marks
-    → Carving c s o place w (world_behind c v (record { seat = s; step = step.Mark place.page (bits_made o) })) 0
+    → Carving c s o place w (world_behind c v (record { seat = s; step = Step.Mark place.page (bits_made o) })) 0
 carving_marked c s o place w v at (OfCaller k lt) new one free some room =
-    let x = step.Mark place.page (bits_made o) in
+    let x = Step.Mark place.page (bits_made o) in
     let call = call_behind c v.now k x lt in
     let u : World = world_behind c v (record { seat = s; step = x }) in
     let zero : place.page + 0 ≡ place.page = omega arith in
@@ -131,17 +107,17 @@ granted_left c s place w u v small at left =
 pub granted_behind : (c : Config) (s : Seat) (o : Object) (place : Place) (w v : World) → IsTakenAt c s o place w v
     → HasCall c v.now s
     → ((k : ℕ) → s ≡ Caller k → 8 * k + d_of (flight_of w.now s).op < length v.now.words.registers)
-    → IsGrantedAt c s place w (world_behind c v (record { seat = s; step = step.Grant }))
+    → IsGrantedAt c s place w (world_behind c v (record { seat = s; step = Step.Grant }))
 granted_behind c s o place w v at (OfCaller k lt) room =
-    let call = call_behind c v.now k step.Grant lt in
+    let call = call_behind c v.now k Step.Grant lt in
     let f : Flight = flight_of w.now (Caller k) in
     let base : granted_base c (flight_of v.now (Caller k)) v.now.seats.holding.placing
     ≡ base_made (object_made c f.op) place =
     ap (λ (x : Placing). granted_base c (flight_of v.now (Caller k)) x) at.placing
     ∙ ap (λ (g : Flight). base_made (object_made c g.op) place) at.call in
-    let u : World = world_behind c v (record { seat = Caller k; step = step.Grant }) in
+    let u : World = world_behind c v (record { seat = Caller k; step = Step.Grant }) in
     record {
-      call = call ∙ ap (λ (g : Flight). record g { stage = stage.Give }) at.call;
+      call = call ∙ ap (λ (g : Flight). record g { stage = Stage.Give }) at.call;
       placing = refl;
       steady =
           ap (λ (x : Steady). record x { allocations = u.allocations }) at.steady
@@ -183,7 +159,7 @@ granted_behind c s o place w v at (OfCaller k lt) room =
     }
   where
     granted_register : (j : ℕ) → Caller k ≡ Caller j
-        → register_word (world_behind c v (record { seat = Caller k; step = step.Grant })).now.words j
+        → register_word (world_behind c v (record { seat = Caller k; step = Step.Grant })).now.words j
         (d_of (flight_of w.now (Caller k)).op)
         ≡ address_of (base_made (object_made c (flight_of w.now (Caller k)).op) place) % 2 ^ 64
     granted_register j is =
@@ -203,10 +179,10 @@ granted_behind c s o place w v at (OfCaller k lt) room =
 -- The tally of held words is set.
 pub tallied_behind : (c : Config) (s : Seat) (place : Place) (w v : World) (n : ℕ) → IsGrantedAt c s place w v
     → HasCall c v.now s
-    → IsGrantedAt c s place w (world_behind c v (record { seat = s; step = step.Tally tally.Held n }))
+    → IsGrantedAt c s place w (world_behind c v (record { seat = s; step = Step.Tally Tally.Held n }))
 tallied_behind c s place w v n at (OfCaller k lt) =
     record {
-      call = call_behind c v.now k (step.Tally tally.Held n) lt ∙ at.call;
+      call = call_behind c v.now k (Step.Tally Tally.Held n) lt ∙ at.call;
       placing = at.placing;
       steady = ap (λ (x : Steady). record x { held = n }) at.steady;
       register = at.register;

@@ -1,21 +1,14 @@
 -- What one freed object changes among the allocations, and of the held words.
-use Rattle.std.proofs.Common.{◌≡◌, ◌≢◌, ℕ, ◌+◌, ◌<◌, Bool, true, false, List, [], ◌∷◌, length, map, refl, sym, ◌∙◌}
-use Rattle.std.proofs.Common.{ap, inl, inr, arith}
-use Rattle.std.specs.Prelude.{◌&&◌, not, Some, if◌then◌else◌, slice_set, sum_by}
-use Rattle.std.proofs.lemmas.Bool.{cases_eq, cond-false, cond-true}
-use Rattle.std.proofs.lemmas.List.{ext_get_or, get_or-set_other, get_or-set_same, length-map, length-set}
-use Rattle.std.proofs.lemmas.List.Sums.{sum_by-cons, sum_by-set}
-use Rattle.mk_never.specs.Types.{is_large, kinds_of}
-use Rattle.mk_geom.specs.declared.addresses.Cell.{Cell}
-use Rattle.mk_geom.specs.Storages.{Storage}
+use Rattle.std.proofs.{Common.ext_get_or, Common.sum_by, lemmas.List.Sums.sum_by-set}
+use Rattle.mk_laws.proofs.Vocabulary.{Bool, Cell, Config, List, PlacedAllocation, Some, Storage, Words, ℕ, ap, arith}
+use Rattle.mk_laws.proofs.Vocabulary.{cases_eq, changed_at, cond-false, cond-true, false, freed_leaves}
+use Rattle.mk_laws.proofs.Vocabulary.{freed_where_it_stands, get_or-set_other, get_or-set_same, if◌then◌else◌, inl, inr}
+use Rattle.mk_laws.proofs.Vocabulary.{is_large, is_mapped, kinds_of, length, length-map, length-set, map, never_granted}
+use Rattle.mk_laws.proofs.Vocabulary.{not, placed_at, refl, slice_set, stands_in, storage_of, storage_words, sym, true}
+use Rattle.mk_laws.proofs.Vocabulary.{[], ◌&&◌, ◌+◌, ◌<◌, ◌∙◌, ◌∷◌, ◌≡◌, ◌≢◌}
+use Rattle.mk_objects.proofs.Vocabulary.{freed_and_fresh, held_by_allocations, sum_by-cons}
 use Rattle.mk_geom.specs.StorageWords.{held_by_storages}
-use Rattle.mk_core.specs.declared.config.Config.{Config}
-use Rattle.mk_core.specs.Allocations.{PlacedAllocation, freed_where_it_stands, held_by_allocations, is_mapped}
-use Rattle.mk_core.specs.Allocations.{never_granted}
-use Rattle.mk_core.specs.Allocations.{placed_at, stands_in, storage_of, storage_words, unreleased_storage}
-use Rattle.mk_core.specs.Words.{Words}
-use Rattle.mk_core.proofs.ChangedAllocations.{changed_at, freed_leaves}
-use Rattle.mk_objects.specs.Retired.{freed_and_fresh}
+use Rattle.mk_core.specs.Allocations.{unreleased_storage}
 
 -- what one allocation holds
 abbrev pub held_part : Config → PlacedAllocation → ℕ

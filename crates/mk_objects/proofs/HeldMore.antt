@@ -1,18 +1,11 @@
 -- How many words are held before a grant, and after it.
-use Rattle.std.proofs.Common.{◌≡◌, ℕ, ◌+◌, ◌*◌, ◌≤◌, false, List, [], ◌∷◌, ◌++◌, refl, ap, ◌∙◌, arith}
-use Rattle.std.specs.Prelude.{sum_by, if◌then◌else◌}
-use Rattle.std.proofs.lemmas.List.Sums.{sum_by-cons, sum_by-append}
-use Rattle.mk_geom.specs.Storages.{Storage}
-use Rattle.mk_geom.specs.StorageWords.{held_by_storages}
-use Rattle.mk_geom.proofs.HeldWords.{pages_hold_mapped_words}
-use Rattle.mk_core.specs.declared.config.Config.{Config}
-use Rattle.mk_core.specs.declared.events.Event.{Event}
-use Rattle.mk_core.specs.Allocations.{PlacedAllocation, held_by_allocations, storage_of, storage_words}
-use Rattle.mk_core.specs.Allocations.{unreleased_storage}
-use Rattle.mk_core.specs.History.{IsHistory, left}
-use Rattle.mk_core.proofs.Lengths.{histories_keep_lengths}
+use Rattle.std.proofs.{Common.sum_by, lemmas.List.Sums.sum_by-append}
+use Rattle.mk_laws.proofs.Vocabulary.{Config, Event, IsHistory, IsSettled, List, PlacedAllocation, Storage, ℕ, ap}
+use Rattle.mk_laws.proofs.Vocabulary.{arith, false, histories_keep_lengths, if◌then◌else◌, left, refl, storage_of}
+use Rattle.mk_laws.proofs.Vocabulary.{storage_words, unreleased_storage, [], ◌*◌, ◌++◌, ◌+◌, ◌∙◌, ◌∷◌, ◌≡◌, ◌≤◌}
+use Rattle.mk_objects.proofs.Vocabulary.{held_by_allocations, sum_by-cons}
+use Rattle.mk_geom.{proofs.HeldWords.pages_hold_mapped_words, specs.StorageWords.held_by_storages}
 use Rattle.mk_core.proofs.UnreleasedStorage.{unreleased_more}
-use Rattle.mk_laws.specs.SettledPages.{IsSettled}
 use Rattle.mk_laws.proofs.InvariantTheorems.{pages_show_the_storage}
 use Rattle.mk_objects.proofs.FoundPlaces.{pages_hold_few}
 

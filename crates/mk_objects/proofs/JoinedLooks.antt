@@ -1,39 +1,18 @@
 -- Looks one after the other, and a part of a turn after looks.
-use Rattle.std.proofs.Common.{◌≡◌, ◌^◌, ◌%◌, inl, inr, Bool, true, List, [], ◌∷◌, ◌++◌, refl, sym, ◌∙◌, ap, subst}
-use Rattle.std.proofs.Common.{append-nil}
-use Rattle.std.specs.Prelude.{Some}
-use Rattle.std.proofs.lemmas.Bool.{and_from, and_parts}
-use Rattle.mk_core.specs.declared.events.Step.{Step}
-use Rattle.mk_core.specs.declared.events.Step.TheVariants as step
-use Rattle.mk_core.specs.declared.seats.Flight.{Flight}
-use Rattle.mk_geom.specs.declared.pages.Place.{Place}
-use Rattle.mk_geom.specs.Addresses.{address_of}
-use Rattle.mk_core.specs.declared.config.Config.{Config}
-use Rattle.mk_core.specs.declared.events.Answer.TheVariants as answer
-use Rattle.mk_core.specs.declared.events.Seat.{Seat}
-use Rattle.mk_core.specs.declared.seats.Holding.{Holding}
-use Rattle.mk_core.specs.declared.seats.Placing.{Placing}
-use Rattle.mk_core.specs.declared.seats.Stage.TheVariants as stage
-use Rattle.mk_core.specs.Accesses.{caller_number}
-use Rattle.mk_core.specs.Allocations.{held_by_allocations}
-use Rattle.mk_core.specs.Calls.{d_of}
-use Rattle.mk_core.specs.Decided.{Decided, entry_of}
-use Rattle.mk_core.specs.Frames.{Steady, steady_of}
-use Rattle.mk_core.specs.Moments.{flight_of}
-use Rattle.mk_core.specs.NewPlaces.{base_made, is_undecided_new, object_made, place_by_placing, place_on_pages}
-use Rattle.mk_core.specs.Words.{phase_of, register_word}
+use Rattle.mk_laws.proofs.Vocabulary.{Answer, Bool, Config, Decided, Flight, Holding, List, Place, Placing, Seat, Some}
+use Rattle.mk_laws.proofs.Vocabulary.{Stage, Steady, Step, World, address_of, and_from, and_parts, ap, append-nil}
+use Rattle.mk_laws.proofs.Vocabulary.{base_made, caller_number, d_of, entry_of, flight_of, inl, inr, is_undecided_new}
+use Rattle.mk_laws.proofs.Vocabulary.{object_made, phase_of, place_by_placing, place_on_pages, refl, register_word}
+use Rattle.mk_laws.proofs.Vocabulary.{subst, sym, true, [], ◌%◌, ◌++◌, ◌^◌, ◌∙◌, ◌∷◌, ◌≡◌}
+use Rattle.mk_objects.proofs.Vocabulary.{Does, GoesTo, IsAsLeft, IsGrantedAt, IsOutOfStop, IsUnplaced, OnlyLooks}
+use Rattle.mk_objects.proofs.Vocabulary.{PassState, WordsState, call_of, does_then, entry_for, held_by_allocations}
+use Rattle.mk_objects.proofs.Vocabulary.{is_look, is_placing, now_of, object_at_place, object_for, own_calls, steady_of}
+use Rattle.mk_objects.proofs.Vocabulary.{world_of}
 use Rattle.mk_core.specs.Growing.{Finding}
-use Rattle.mk_core.specs.History.{World}
-use Rattle.mk_words.specs.States.{PassState, WordsState, call_of, now_of, world_of}
-use Rattle.mk_turns.specs.Doing.{Does, are_of, done_in}
-use Rattle.mk_turns.proofs.Doing.{does_then}
-use Rattle.mk_objects.specs.Entries.{own_calls}
-use Rattle.mk_objects.specs.Placing.{GoesTo, HeldIsExact, IsGranted, IsGrantedAt, IsOutOfStop, IsUnplaced, OnlyLooks}
-use Rattle.mk_objects.specs.Placing.{entry_for, is_look, is_placing, object_at_place, object_for}
-use Rattle.mk_objects.specs.Unchanged.{IsAsLeft}
-use Rattle.mk_objects.proofs.Counted.{counts_then}
 use Rattle.mk_objects.proofs.Reaching.{reaches_nothing, seeing}
-use Rattle.mk_objects.proofs.Unchanged.{left_joined, left_same}
+use Rattle.mk_objects.proofs.{Counted.counts_then, Unchanged.left_joined, Unchanged.left_same}
+use Rattle.mk_objects.specs.Placing.{HeldIsExact, IsGranted}
+use Rattle.mk_turns.specs.Doing.{are_of, done_in}
 
 are_wider : (narrow wide : Step → Bool) → ((s : Step) → narrow s ≡ true → wide s ≡ true) → (xs : List Finding)
     → are_of narrow xs ≡ true
@@ -55,7 +34,7 @@ does_wider narrow wide widens p q d =
     }
 
 looks_place : (s : Step) → is_look s ≡ true → is_placing s ≡ true
-looks_place (step.Look x) h = refl
+looks_place (Step.Look x) h = refl
 looks_place _ h = cc
 
 pub looks_nothing : (p : PassState) → OnlyLooks p p
@@ -89,7 +68,7 @@ granted_over : (c : Config) (s : Seat) (place : Place) (w u v : World) → IsAsL
     → IsGrantedAt c s place w v
 granted_over c s place w u v a b =
     record {
-      call = b.call ∙ ap (λ (f : Flight). record f { stage = stage.Give }) a.call;
+      call = b.call ∙ ap (λ (f : Flight). record f { stage = Stage.Give }) a.call;
       placing = b.placing;
       steady = b.steady
           ∙ ap (λ (x : Steady). record x {
@@ -119,9 +98,9 @@ granted_behind_looks p q r place a b = by (subst (λ (x : PassState). IsGranted 
           same = b.same;
           does = does_then is_placing p q r (does_wider is_look is_placing looks_place p q a.does)
               (subst (λ (x : PassState). Does is_placing x r) (sym a.same) b.does);
-          calls = b.calls ∙ ap (λ (l : List Decided). l ++ entry_for (seeing p q.seen) answer.Done) (a.calls
+          calls = b.calls ∙ ap (λ (l : List Decided). l ++ entry_for (seeing p q.seen) Answer.Done) (a.calls
               ∙ append-nil (own_calls p p.seen))
-              ∙ ap (λ (f : Flight). own_calls p p.seen ++ entry_of (caller_number p.seat) f.op (Some answer.Done))
+              ∙ ap (λ (f : Flight). own_calls p p.seen ++ entry_of (caller_number p.seat) f.op (Some Answer.Done))
               a.world.call;
           world = granted_over p.table.config p.seat place (world_of p) _ _ a.world b.world;
           counts = counts_then p.table.config p.seen q.seen r.seen a.counts b.counts;

@@ -1,40 +1,20 @@
 -- A large object is freed and counted, while all others are stopped.
-use Rattle.std.proofs.Common.{◌≡◌, ◌↔◌, ℕ, ◌+◌, ◌*◌, ◌<◌, ◌^◌, Bool, true, false, List, [], map, refl, sym, ◌∙◌, ap}
-use Rattle.std.proofs.Common.{subst, arith}
-use Rattle.std.specs.Prelude.{IsTrue, Option, Some, None, if◌then◌else◌, slice_index_or}
-use Rattle.mk_geom.specs.declared.addresses.Cell.{Cell}
-use Rattle.mk_geom.specs.declared.headers.Header.{Header}
-use Rattle.mk_geom.specs.declared.headers.Header.TheVariants.{Block, Free, Later, LeafBlock, LeafRun, Run}
-use Rattle.mk_geom.specs.declared.pages.Page.{Page}
-use Rattle.mk_geom.specs.PageUses.{or_else}
-use Rattle.mk_geom.specs.Storages.{free_page}
-use Rattle.mk_core.specs.declared.events.Answer.TheVariants as answer
-use Rattle.mk_core.specs.declared.events.Tally.TheVariants as tally
-use Rattle.mk_core.specs.declared.seats.Holding.{Holding}
-use Rattle.mk_core.specs.declared.seats.RunPages.{RunPages}
-use Rattle.mk_core.specs.Allocations.{PlacedAllocation, freed_where_it_stands, fresh_words_of, held_by_allocations}
-use Rattle.mk_core.specs.Cells.{header_in, heads_run, run_headed, words_under}
-use Rattle.mk_core.specs.Counts.{in_a_word}
-use Rattle.mk_core.specs.Effects.{words_freed}
-use Rattle.mk_core.specs.Frames.{Steady, steady_of}
-use Rattle.mk_core.specs.History.{IsHistory}
-use Rattle.mk_core.specs.Moments.{is_held}
-use Rattle.mk_core.specs.Readings.{Holds}
-use Rattle.mk_words.specs.States.{PassState, WordsState, now_of, world_of}
-use Rattle.mk_objects.specs.Deciding.{ClearsRun, FreesCell, MayFree, StaysSo, is_following}
-use Rattle.mk_objects.specs.Dues.{FreesOnce}
-use Rattle.mk_objects.specs.FreeParts.{Changes, SetsTally, is_settling, with_tally}
-use Rattle.mk_objects.specs.Placing.{OnlyLooks, is_look}
-use Rattle.mk_objects.specs.Retiring.{HasFreed, IsFreedAt}
-use Rattle.mk_objects.specs.Unmapping.{IsStillMapped}
+use Rattle.mk_laws.proofs.Vocabulary.{Answer, Block, Bool, Cell, Free, Header, Holding, Holds, IsHistory, Later}
+use Rattle.mk_laws.proofs.Vocabulary.{LeafBlock, LeafRun, List, None, Option, Page, PlacedAllocation, Run, RunPages}
+use Rattle.mk_laws.proofs.Vocabulary.{Some, Steady, Tally, ℕ, ap, arith, false, free_page, freed_where_it_stands}
+use Rattle.mk_laws.proofs.Vocabulary.{fresh_words_of, header_in, heads_run, if◌then◌else◌, in_a_word, is_held, map}
+use Rattle.mk_laws.proofs.Vocabulary.{or_else, refl, run_headed, slice_index_or, subst, sym, true, words_under, [], ◌*◌}
+use Rattle.mk_laws.proofs.Vocabulary.{◌+◌, ◌<◌, ◌^◌, ◌↔◌, ◌∙◌, ◌≡◌}
+use Rattle.mk_objects.proofs.Vocabulary.{Changes, FreesCell, FreesOnce, HasFreed, IsFreedAt, IsTrue, MayFree, OnlyLooks}
+use Rattle.mk_objects.proofs.Vocabulary.{PassState, SetsTally, StaysSo, WordsState, held_by_allocations, is_following}
+use Rattle.mk_objects.proofs.Vocabulary.{is_look, is_settling, now_of, steady_of, with_tally, words_freed, world_of}
 use Rattle.mk_objects.proofs.DecidedFrees.{Stays, decides_before, following_not, freed_decides, held_stays}
 use Rattle.mk_objects.proofs.DecidedFrees.{look_settles, looks_stay, settling_follows, stays_now, stays_then}
 use Rattle.mk_objects.proofs.FreedObjects.{HasRun, IsObjectAt, its_freed, its_run, large_held, object_at, own}
-use Rattle.mk_objects.proofs.FreedOnce.{once_before}
-use Rattle.mk_objects.proofs.GoneRuns.{IsGoneIn, still_gone}
-use Rattle.mk_objects.proofs.JoinedLooks.{looks_left}
 use Rattle.mk_objects.proofs.ReachedParts.{reached_world, same_kinds}
 use Rattle.mk_objects.proofs.SmallFrees.{exact_from, freed_now, fresh_told_by, over_quarter}
+use Rattle.mk_objects.proofs.{FreedOnce.once_before, GoneRuns.IsGoneIn, GoneRuns.still_gone, JoinedLooks.looks_left}
+use Rattle.mk_objects.specs.{Deciding.ClearsRun, Unmapping.IsStillMapped}
 
 -- what heads a run
 pub record HeadsRun (x : Option Header) (count : ℕ) : Type 0 where
@@ -112,7 +92,7 @@ module _ (p : PassState) (reg u : ℕ) (cell : Cell) (count : ℕ) (may : MayFre
     table = sym (ap (λ (x : PassState). x.table) freed.same)
 
     module _ (a b d r : PassState) (n : ℕ) (clears : ClearsRun q a) (looks : OnlyLooks a b)
-        (tallied : SetsTally b tally.Held n d)
+        (tallied : SetsTally b Tally.Held n d)
         (looks_again : OnlyLooks d r) where
       settles : Stays is_settling a r
       settles =
@@ -128,13 +108,13 @@ module _ (p : PassState) (reg u : ℕ) (cell : Cell) (count : ℕ) (may : MayFre
       stays : StaysSo q.seat (world_of q) (world_of r)
       stays = stays_now is_following q r follows
 
-      counted : Changes b.seat (with_tally tally.Held n) (world_of b) (world_of d)
-      counted = reached_world is_settling b d (Changes b.seat (with_tally tally.Held n) (world_of b)) [] tallied
+      counted : Changes b.seat (with_tally Tally.Held n) (world_of b) (world_of d)
+      counted = reached_world is_settling b d (Changes b.seat (with_tally Tally.Held n) (world_of b)) [] tallied
 
-      steady : steady_of (world_of r) ≡ with_tally tally.Held n (steady_of (world_of a))
+      steady : steady_of (world_of r) ≡ with_tally Tally.Held n (steady_of (world_of a))
       steady =
           (looks_left d r looks_again).steady ∙ counted.steady
-          ∙ ap (λ (x : Steady). with_tally tally.Held n x) (looks_left a b looks).steady
+          ∙ ap (λ (x : Steady). with_tally Tally.Held n x) (looks_left a b looks).steady
 
       pub fresh_now : (now_of r).words.fresh ≡ (now_of p).words.fresh
       fresh_now = ap (λ (x : Steady). x.fresh) steady ∙ clears.fresh ∙ ap (λ (x : Steady). x.fresh) now.steady
@@ -173,7 +153,7 @@ module _ (p : PassState) (reg u : ℕ) (cell : Cell) (count : ℕ) (may : MayFre
         pub frees_large : FreesCell p cell due r
         frees_large =
             record {
-              reaches = decides_before p q r answer.Done (freed_decides p q cell freed) follows;
+              reaches = decides_before p q r Answer.Done (freed_decides p q cell freed) follows;
               allocations = allocations_now;
               once = once_before is_following p q r following_not once table follows.does behind holds
                   stays.allocations;

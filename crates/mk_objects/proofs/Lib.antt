@@ -41,3 +41,4 @@ pub mod ClearedRuns
 pub mod PreparedFrees
 pub mod LargeFrees
 pub mod Retirements
+pub mod Vocabulary

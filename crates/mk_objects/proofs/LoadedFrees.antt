@@ -1,62 +1,26 @@
 -- The register of a Free is loaded.
-use Rattle.std.proofs.Common.{◌≡◌, ℕ, ◌+◌, ◌*◌, ◌/◌, ◌%◌, ◌<◌, Bool, true, false, List, [], ◌∷◌, ◌++◌, length, refl}
-use Rattle.std.proofs.Common.{sym, ap, subst, ◌∙◌, arith}
-use Rattle.std.specs.Prelude.{◌==◌, Option, Some, None, if◌then◌else◌}
-use Rattle.std.proofs.lemmas.Bool.{eqb-true, lt-ltb}
-use Rattle.mk_never.specs.declared.operations.Op.{Op}
-use Rattle.mk_never.specs.declared.operations.Op.TheVariants as op
-use Rattle.mk_core.specs.declared.accesses.Access.TheVariants.{Load}
-use Rattle.mk_core.specs.declared.config.Config.{Config}
-use Rattle.mk_core.specs.declared.events.Answer.TheVariants as answer
-use Rattle.mk_core.specs.declared.events.Event.{Event}
-use Rattle.mk_core.specs.declared.events.Seat.{Seat}
-use Rattle.mk_core.specs.declared.events.Seat.TheVariants.{Caller, Host, Marker}
-use Rattle.mk_core.specs.declared.events.Step.TheVariants as step
-use Rattle.mk_core.specs.declared.seats.Flight.{Flight}
-use Rattle.mk_core.specs.declared.seats.Progress.{Progress}
-use Rattle.mk_core.specs.declared.seats.Stage.{Stage}
-use Rattle.mk_core.specs.declared.seats.Stage.TheVariants as stage
-use Rattle.mk_core.specs.Accesses.{caller_number, found, reg_access, register_met}
-use Rattle.mk_core.specs.Calls.{begun, progress_reg}
-use Rattle.mk_core.specs.Decided.{entry_of}
-use Rattle.mk_core.specs.Effects.{answer_decided, moment_behind}
-use Rattle.mk_core.specs.History.{IsAdmittedBehind, IsHistory, World, bases_of, left, never_behind, world_behind}
-use Rattle.mk_core.specs.Moments.{Moment, flight_of, is_held}
-use Rattle.mk_core.specs.NewPlaces.{is_undecided_free}
-use Rattle.mk_core.specs.Enabled.{IsEnabled}
-use Rattle.mk_core.specs.Order.{comes_next}
-use Rattle.mk_core.specs.Readings.{Holds}
-use Rattle.mk_core.specs.Words.{Words, accessed, register_word}
-use Rattle.mk_core.specs.Frames.{steady_of}
-use Rattle.mk_core.specs.declared.accesses.TableWord.TheVariants.{Named}
-use Rattle.mk_core.specs.declared.events.Word.TheVariants as word
-use Rattle.mk_core.proofs.Conditions.{meets_enabled}
-use Rattle.mk_laws.proofs.Known.{Known}
-use Rattle.mk_laws.proofs.OthersCounts.{answers_full}
-use Rattle.mk_words.specs.CallSteps.{register_of}
-use Rattle.mk_words.specs.States.{PassState, call_of, event_of, now_of, world_of}
-use Rattle.mk_words.specs.Steps.{IsAdmittedTo, IsEnabledTo}
-use Rattle.mk_words.specs.TurnSteps.{Acts, IsTurn}
-use Rattle.mk_core.specs.Growing.{AreOfOthers}
-use Rattle.mk_core.specs.declared.events.Step.{Step}
-use Rattle.mk_never.specs.Admitted.{IsBase}
-use Rattle.mk_never.specs.declared.values.Value.{Value}
-use Rattle.mk_never.specs.declared.values.Value.TheVariants.{Null, Num, Ptr}
-use Rattle.mk_core.specs.Image.{image_of}
-use Rattle.mk_laws.specs.Images.{shown}
-use Rattle.mk_laws.proofs.InvariantHistories.{histories_keep_the_invariant}
-use Rattle.mk_never.specs.NeverHeap.{register_at}
-use Rattle.mk_objects.specs.Retiring.{CallIsAt, HasLoaded, IsFreeAt, IsUnloaded, value_of, entry_loaded, is_loading}
-use Rattle.mk_objects.specs.Retiring.{loaded_free}
-use Rattle.mk_objects.specs.Unchanged.{IsAsLeft}
-use Rattle.mk_objects.proofs.AdmittedFrees.{free_admits, registers_kept}
+use Rattle.mk_laws.proofs.Vocabulary.{Answer, AreOfOthers, Bool, Caller, Config, Event, Flight, Holds, Host, IsEnabled}
+use Rattle.mk_laws.proofs.Vocabulary.{IsHistory, List, Load, Marker, Moment, Named, None, Null, Num, Op, Option}
+use Rattle.mk_laws.proofs.Vocabulary.{Progress, Ptr, Seat, Some, Stage, Step, Value, Word, Words, World, ℕ, accessed}
+use Rattle.mk_laws.proofs.Vocabulary.{answer_decided, ap, arith, bases_of, begun, caller_number, comes_next, entry_of}
+use Rattle.mk_laws.proofs.Vocabulary.{eqb-true, false, flight_of, found, if◌then◌else◌, image_of, is_held}
+use Rattle.mk_laws.proofs.Vocabulary.{is_undecided_free, left, length, lt-ltb, never_behind, progress_reg, refl}
+use Rattle.mk_laws.proofs.Vocabulary.{reg_access, register_at, register_met, register_word, shown, subst, sym, true}
+use Rattle.mk_laws.proofs.Vocabulary.{world_behind, [], ◌%◌, ◌*◌, ◌++◌, ◌+◌, ◌/◌, ◌<◌, ◌==◌, ◌∙◌, ◌∷◌, ◌≡◌}
+use Rattle.mk_objects.proofs.Vocabulary.{Acts, CallIsAt, IsAdmittedBehind, IsAsLeft, IsBase, IsEnabledTo, IsFreeAt}
+use Rattle.mk_objects.proofs.Vocabulary.{IsTurn, Known, PassState, answers_full, call_of, event_of}
+use Rattle.mk_objects.proofs.Vocabulary.{histories_keep_the_invariant, is_loading, loaded_free, now_of, steady_of}
+use Rattle.mk_objects.proofs.Vocabulary.{value_of, world_of}
+use Rattle.mk_core.{proofs.Conditions.meets_enabled, specs.Effects.moment_behind}
 use Rattle.mk_objects.proofs.Reaching.{IsCallers, made_in, reaches_nothing, reaches_on}
-use Rattle.mk_objects.proofs.Unchanged.{call_behind}
+use Rattle.mk_objects.proofs.{AdmittedFrees.free_admits, AdmittedFrees.registers_kept, Unchanged.call_behind}
+use Rattle.mk_objects.specs.Retiring.{HasLoaded, IsUnloaded, entry_loaded}
+use Rattle.mk_words.specs.{CallSteps.register_of, Steps.IsAdmittedTo}
 
 -- Any step of a Free is admitted.
 pub free_step_admits : (p : PassState) (r : ℕ) (x : Step) (f : Flight) → IsCallers p
     → Holds p.table.config (now_of p) p.seat
-    → IsHistory p.table.config p.seen → IsFreeAt p r f → f.op ≡ op.Free r → IsAdmittedTo p x
+    → IsHistory p.table.config p.seen → IsFreeAt p r f → f.op ≡ Op.Free r → IsAdmittedTo p x
 free_step_admits p r x f caller holds h u is = by p.seat caller.is holds u.call u.base
   where
     by : (s : Seat) → s ≡ Caller caller.number → Holds p.table.config (now_of p) s → flight_of (now_of p) s ≡ f
@@ -100,25 +64,25 @@ value_kept p q r x caller small a none =
         whole
 
 -- It is a caller's.
-pub unloaded_caller : (p : PassState) (r : ℕ) → call_of p ≡ begun (op.Free r) → IsCallers p
+pub unloaded_caller : (p : PassState) (r : ℕ) → call_of p ≡ begun (Op.Free r) → IsCallers p
 unloaded_caller p r call = by p.seat refl call
   where
     loads : Stage → Bool
-    loads stage.LoadP = true
+    loads Stage.LoadP = true
     loads _ = false
 
-    by : (s : Seat) → p.seat ≡ s → flight_of (now_of p) s ≡ begun (op.Free r) → IsCallers p
+    by : (s : Seat) → p.seat ≡ s → flight_of (now_of p) s ≡ begun (Op.Free r) → IsCallers p
     by (Caller k) is c = record { number = k; is = is }
     by (Marker k) is c = let e : false ≡ true = ap (λ (f : Flight). loads f.stage) c in cc
     by Host is c = let e : false ≡ true = ap (λ (f : Flight). loads f.stage) c in cc
 
-reg_enabled : (c : Config) (m : Moment) (k r : ℕ) → k < c.callers → flight_of m (Caller k) ≡ begun (op.Free r)
-    → IsEnabled c m (record { seat = Caller k; step = step.Reg })
+reg_enabled : (c : Config) (m : Moment) (k r : ℕ) → k < c.callers → flight_of m (Caller k) ≡ begun (Op.Free r)
+    → IsEnabled c m (record { seat = Caller k; step = Step.Reg })
 reg_enabled c m k r lt call =
-    meets_enabled c m (record { seat = Caller k; step = step.Reg }) (record {
+    meets_enabled c m (record { seat = Caller k; step = Step.Reg }) (record {
       seat = lt-ltb k c.callers lt;
       kind = refl;
-      order = ap (λ (f : Flight). comes_next f.stage f.op step.Reg) call;
+      order = ap (λ (f : Flight). comes_next f.stage f.op Step.Reg) call;
       range = refl;
       gates = refl;
       phase = refl;
@@ -137,20 +101,20 @@ module _ (p : PassState) (r : ℕ) (o : Option Op) (turn : IsTurn p o) (h : IsHi
   within : (s : Seat) → s ≡ Caller number → Holds p.table.config (now_of p) s → number < p.table.config.callers
   within s is holds = (subst (λ (x : Seat). Holds p.table.config (now_of p) x) is holds).0
 
-  pub load_may : IsEnabledTo p step.Reg
+  pub load_may : IsEnabledTo p Step.Reg
   load_may = by p.seat caller.is turn.holds u.call
     where
       by : (s : Seat) → s ≡ Caller number → Holds p.table.config (now_of p) s
-          → flight_of (now_of p) s ≡ begun (op.Free r)
-          → IsEnabled p.table.config (now_of p) (record { seat = s; step = step.Reg })
+          → flight_of (now_of p) s ≡ begun (Op.Free r)
+          → IsEnabled p.table.config (now_of p) (record { seat = s; step = Step.Reg })
       by s is holds call =
-          subst (λ (x : Seat). IsEnabled p.table.config (now_of p) (record { seat = x; step = step.Reg })) (sym is)
+          subst (λ (x : Seat). IsEnabled p.table.config (now_of p) (record { seat = x; step = Step.Reg })) (sym is)
           (reg_enabled p.table.config (now_of p) number r (within s is holds)
           (ap (λ (x : Seat). flight_of (now_of p) x) (sym is) ∙ call))
 
   -- whether it decides the Free or not
-  pub load_admits : IsAdmittedTo p step.Reg
-  load_admits = free_step_admits p r step.Reg (begun (op.Free r)) caller turn.holds h u refl
+  pub load_admits : IsAdmittedTo p Step.Reg
+  load_admits = free_step_admits p r Step.Reg (begun (Op.Free r)) caller turn.holds h u refl
 
   pub load_meets : r ≡ register_met (call_of p) (call_of p).stage
   load_meets = sym (ap (λ (f : Flight). register_met f f.stage) u.call)
@@ -163,82 +127,82 @@ module _ (p : PassState) (r : ℕ) (o : Option Op) (turn : IsTurn p o) (h : IsHi
 abbrev load_progress : ℕ → ℕ → Bool → Progress
 load_progress r n b =
     if b
-    then record { flight = record (begun (op.Free r)) { stage = stage.Give; p = n }; answer = Some answer.Done }
-    else record { flight = record (begun (op.Free r)) { stage = stage.Turn; p = n }; answer = None }
+    then record { flight = record (begun (Op.Free r)) { stage = Stage.Give; p = n }; answer = Some Answer.Done }
+    else record { flight = record (begun (Op.Free r)) { stage = Stage.Turn; p = n }; answer = None }
 
-loads_to : (r n : ℕ) → (progress_reg (begun (op.Free r)) stage.LoadP n).flight ≡ loaded_free r n
+loads_to : (r n : ℕ) → (progress_reg (begun (Op.Free r)) Stage.LoadP n).flight ≡ loaded_free r n
 loads_to r n = by (n == 0)
   where
     by : (b : Bool) → (load_progress r n b).flight
-        ≡ record (begun (op.Free r)) { stage = if b then stage.Give else stage.Turn; p = n }
+        ≡ record (begun (Op.Free r)) { stage = if b then Stage.Give else Stage.Turn; p = n }
     by true = refl
     by false = refl
 
 loads_answer : (r n : ℕ)
-    → (progress_reg (begun (op.Free r)) stage.LoadP n).answer ≡ (if n == 0 then Some answer.Done else None)
+    → (progress_reg (begun (Op.Free r)) Stage.LoadP n).answer ≡ (if n == 0 then Some Answer.Done else None)
 loads_answer r n = by (n == 0)
   where
-    by : (b : Bool) → (load_progress r n b).answer ≡ (if b then Some answer.Done else None)
+    by : (b : Bool) → (load_progress r n b).answer ≡ (if b then Some Answer.Done else None)
     by true = refl
     by false = refl
 
 loaded_entry : (k : ℕ) (o : Op) (b : Bool)
-    → entry_of k o (if b then Some answer.Done else None) ≡ (if b then entry_of k o (Some answer.Done) else [])
+    → entry_of k o (if b then Some Answer.Done else None) ≡ (if b then entry_of k o (Some Answer.Done) else [])
 loaded_entry k o true = refl
 loaded_entry k o false = refl
 
-loaded_no_full : (b : Bool) → answers_full (if b then Some answer.Done else None) ≡ false
+loaded_no_full : (b : Bool) → answers_full (if b then Some Answer.Done else None) ≡ false
 loaded_no_full true = refl
 loaded_no_full false = refl
 
-loaded_found : (c : Config) (m : Moment) (k r : ℕ) → flight_of m (Caller k) ≡ begun (op.Free r)
-    → found c m (record { seat = Caller k; step = step.Reg }) ≡ register_word m.words k r
+loaded_found : (c : Config) (m : Moment) (k r : ℕ) → flight_of m (Caller k) ≡ begun (Op.Free r)
+    → found c m (record { seat = Caller k; step = Step.Reg }) ≡ register_word m.words k r
 loaded_found c m k r call = ap (λ (f : Flight). register_word m.words k (register_met f f.stage)) call
 
 -- A load changes no word.
-loaded_words : (c : Config) (m : Moment) (k r : ℕ) → flight_of m (Caller k) ≡ begun (op.Free r)
-    → (moment_behind c m (record { seat = Caller k; step = step.Reg })).words ≡ m.words
+loaded_words : (c : Config) (m : Moment) (k r : ℕ) → flight_of m (Caller k) ≡ begun (Op.Free r)
+    → (moment_behind c m (record { seat = Caller k; step = Step.Reg })).words ≡ m.words
 loaded_words c m k r call =
     ap (λ (f : Flight). accessed m.words
-    (Named (word.Reg k (register_met (flight_of m (Caller k)) (flight_of m (Caller k)).stage)))
+    (Named (Word.Reg k (register_met (flight_of m (Caller k)) (flight_of m (Caller k)).stage)))
     (reg_access f f.stage)) call
 
 record LoadsTo (c : Config) (k r n : ℕ) (w v : World) : Type 0 where
-  at : CallIsAt (Caller k) (loaded_free r n) w (world_behind c v (record { seat = Caller k; step = step.Reg }))
-  answer : answer_decided c v.now (record { seat = Caller k; step = step.Reg })
-      ≡ (if n == 0 then Some answer.Done else None)
+  at : CallIsAt (Caller k) (loaded_free r n) w (world_behind c v (record { seat = Caller k; step = Step.Reg }))
+  answer : answer_decided c v.now (record { seat = Caller k; step = Step.Reg })
+      ≡ (if n == 0 then Some Answer.Done else None)
 
 load_steps : (c : Config) (k r n : ℕ) (w v : World) → k < length v.now.seats.flights → IsAsLeft (Caller k) w v
-    → flight_of w.now (Caller k) ≡ begun (op.Free r) → r < 8 → n ≡ register_word w.now.words k r → LoadsTo c k r n w v
+    → flight_of w.now (Caller k) ≡ begun (Op.Free r) → r < 8 → n ≡ register_word w.now.words k r → LoadsTo c k r n w v
 load_steps c k r n w v lt kept call small is =
-    let e : Event = record { seat = Caller k; step = step.Reg } in
-    let here : flight_of v.now (Caller k) ≡ begun (op.Free r) = kept.call ∙ call in
+    let e : Event = record { seat = Caller k; step = Step.Reg } in
+    let here : flight_of v.now (Caller k) ≡ begun (Op.Free r) = kept.call ∙ call in
     let same : found c v.now e ≡ n = loaded_found c v.now k r here ∙ kept.registers k r refl small ∙ sym is in
     let words = loaded_words c v.now k r here in
     record {
       at = record {
-        call = call_behind c v.now k step.Reg lt
+        call = call_behind c v.now k Step.Reg lt
             ∙ ap (λ (f : Flight). (progress_reg f f.stage (found c v.now e)).flight) here
-            ∙ ap (λ i. (progress_reg (begun (op.Free r)) stage.LoadP i).flight) same ∙ loads_to r n;
+            ∙ ap (λ i. (progress_reg (begun (Op.Free r)) Stage.LoadP i).flight) same ∙ loads_to r n;
         holding = kept.holding;
         steady = ap (λ (ws : Words). steady_of (record v { now = record v.now { words = ws } })) words ∙ kept.steady;
         registers = λ j i is lt. ap (λ (ws : Words). register_word ws j i) words ∙ kept.registers j i is lt;
         gates = λ j. ap (λ (ws : Words). is_held ws j) words ∙ kept.gates j;
       };
       answer = ap (λ (f : Flight). (progress_reg f f.stage (found c v.now e)).answer) here
-          ∙ ap (λ i. (progress_reg (begun (op.Free r)) stage.LoadP i).answer) same ∙ loads_answer r n;
+          ∙ ap (λ i. (progress_reg (begun (Op.Free r)) Stage.LoadP i).answer) same ∙ loads_answer r n;
     }
 
 -- at the seat of a pass
 module _ (p : PassState) (r n : ℕ) (v : World) (small : r < 8) (known : Known p.table.config v.now) where
   abbrev Lands : Seat → Type 0
   Lands s =
-      CallIsAt s (loaded_free r n) (world_of p) (world_behind p.table.config v (record { seat = s; step = step.Reg }))
-      × (answer_decided p.table.config v.now (record { seat = s; step = step.Reg })
-      ≡ (if n == 0 then Some answer.Done else None))
+      CallIsAt s (loaded_free r n) (world_of p) (world_behind p.table.config v (record { seat = s; step = Step.Reg }))
+      × (answer_decided p.table.config v.now (record { seat = s; step = Step.Reg })
+      ≡ (if n == 0 then Some Answer.Done else None))
 
   lands : (s : Seat) (k : ℕ) → s ≡ Caller k → IsAsLeft s (world_of p) v → Holds p.table.config (now_of p) s
-      → flight_of (now_of p) s ≡ begun (op.Free r)
+      → flight_of (now_of p) s ≡ begun (Op.Free r)
       → n ≡ register_word (now_of p).words k r → Lands s
   lands s k e kept holds call is =
       let lt : k < p.table.config.callers = (subst (λ (x : Seat). Holds p.table.config (now_of p) x) e holds).0 in
@@ -248,40 +212,40 @@ module _ (p : PassState) (r n : ℕ) (v : World) (small : r < 8) (known : Known 
       (ap (λ (x : Seat). flight_of (now_of p) x) (sym e) ∙ call) small is in
       subst (λ (x : Seat). Lands x) (sym e) (to.at, to.answer)
 
-pub load_reaches : (p q : PassState) (r n : ℕ) (o : Option Op) → r < 8 → IsTurn p o → IsUnloaded p r → Acts p step.Reg q
+pub load_reaches : (p q : PassState) (r n : ℕ) (o : Option Op) → r < 8 → IsTurn p o → IsUnloaded p r → Acts p Step.Reg q
     → n ≡ register_of p r → HasLoaded p r n q
 load_reaches p q r n o small turn u a is =
     let caller = unloaded_caller p r u.call in
     let here : n ≡ register_word (now_of p).words caller.number r = is
     ∙ ap (λ (x : Seat). register_word (now_of p).words (caller_number x) r) caller.is in
     reaches_on is_loading p p q (λ w. w ≡ world_of p) (CallIsAt p.seat (loaded_free r n) (world_of p)) []
-    (entry_loaded p n) step.Reg
+    (entry_loaded p n) Step.Reg
     (reaches_nothing is_loading p (λ w. w ≡ world_of p) refl) a refl refl caller
     (λ w v first kept known pages.
     let kept : IsAsLeft p.seat (world_of p) v = subst (λ (x : World). IsAsLeft p.seat x v) first kept in
     let to = lands p r n v small known p.seat caller.number caller.is kept turn.holds u.call here in
     record {
       world = to.0;
-      answer = if n == 0 then Some answer.Done else None;
+      answer = if n == 0 then Some Answer.Done else None;
       decides = to.1;
       no_full = loaded_no_full (n == 0);
       entry = λ k is.
-          ap (λ (f : Flight). entry_of k f.op (if n == 0 then Some answer.Done else None)) kept.call
+          ap (λ (f : Flight). entry_of k f.op (if n == 0 then Some Answer.Done else None)) kept.call
           ∙ loaded_entry k (call_of p).op (n == 0)
-          ∙ ap (λ i. if n == 0 then entry_of i (call_of p).op (Some answer.Done) else []) (sym (ap caller_number is));
+          ∙ ap (λ i. if n == 0 then entry_of i (call_of p).op (Some Answer.Done) else []) (sym (ap caller_number is));
     })
 
 -- A load that finds a pointer decides nothing.
-pub load_keeps : (p q : PassState) (r n : ℕ) (o : Option Op) → r < 8 → IsTurn p o → IsUnloaded p r → Acts p step.Reg q
+pub load_keeps : (p q : PassState) (r n : ℕ) (o : Option Op) → r < 8 → IsTurn p o → IsUnloaded p r → Acts p Step.Reg q
     → n ≡ register_of p r → (n == 0) ≡ false → value_of q r ≡ value_of p r
 load_keeps p q r n o small turn u a is some =
     let caller = unloaded_caller p r u.call in
     let here : n ≡ register_word (now_of p).words caller.number r = is
     ∙ ap (λ (x : Seat). register_word (now_of p).words (caller_number x) r) caller.is in
-    value_kept p q r step.Reg caller small a
+    value_kept p q r Step.Reg caller small a
     (λ v kept known.
     (lands p r n v small known p.seat caller.number caller.is kept turn.holds u.call here).1
-    ∙ ap (λ (b : Bool). if b then Some answer.Done else None) some)
+    ∙ ap (λ (b : Bool). if b then Some Answer.Done else None) some)
 
 -- A Free that has loaded a pointer isn't decided.
 pub loaded_undecided : (p : PassState) (r u : ℕ) → IsFreeAt p r (loaded_free r u) → (u == 0) ≡ false
@@ -289,7 +253,7 @@ pub loaded_undecided : (p : PassState) (r u : ℕ) → IsFreeAt p r (loaded_free
 loaded_undecided p r u at some =
     ap (λ (f : Flight). is_undecided_free f) at.call
     ∙ ap (λ (b : Bool). is_undecided_free
-    (record (begun (op.Free r)) { stage = if b then stage.Give else stage.Turn; p = u })) some
+    (record (begun (Op.Free r)) { stage = if b then Stage.Give else Stage.Turn; p = u })) some
 
 -- A register whose word is 0 is null.
 
@@ -299,7 +263,7 @@ null_by bases (Num n) base is = absurd base
 null_by bases (Ptr number ty offset) base is = absurd (omega arith)
 
 null_at : (c : Config) (es : List Event) (k r : ℕ) → IsHistory c es → r < 8
-    → flight_of (left c es).now (Caller k) ≡ begun (op.Free r)
+    → flight_of (left c es).now (Caller k) ≡ begun (Op.Free r)
     → IsBase (register_at (never_behind c es) k r) → register_word (left c es).now.words k r ≡ 0
     → register_at (never_behind c es) k r ≡ Null
 null_at c es k r h small call base zero =
@@ -321,13 +285,13 @@ load_null p r n h u is none =
     let caller = unloaded_caller p r u.call in
     by p.seat caller.is u.call u.base (sym is ∙ eqb-true n 0 none)
   where
-    by : (s : Seat) → s ≡ Caller (unloaded_caller p r u.call).number → flight_of (now_of p) s ≡ begun (op.Free r)
+    by : (s : Seat) → s ≡ Caller (unloaded_caller p r u.call).number → flight_of (now_of p) s ≡ begun (Op.Free r)
         → IsBase (register_at (never_behind p.table.config p.seen) (caller_number s) r)
         → register_word (now_of p).words (caller_number s) r ≡ 0
         → register_at (never_behind p.table.config p.seen) (caller_number s) r ≡ Null
     by s e call base zero =
         subst
-        (λ (x : Seat). flight_of (now_of p) x ≡ begun (op.Free r)
+        (λ (x : Seat). flight_of (now_of p) x ≡ begun (Op.Free r)
         → IsBase (register_at (never_behind p.table.config p.seen) (caller_number x) r)
         → register_word (now_of p).words (caller_number x) r ≡ 0
         → register_at (never_behind p.table.config p.seen) (caller_number x) r ≡ Null)

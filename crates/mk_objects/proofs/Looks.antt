@@ -1,33 +1,16 @@
 -- What a look of the turn's holder finds, and that it leaves all as it was.
-use Rattle.std.proofs.Common.{◌≡◌, ℕ, ◌%◌, true, false, [], ◌++◌, refl, ◌∙◌, ap}
-use Rattle.std.specs.Prelude.{Option, slice_index_or, slice_index}
-use Rattle.std.proofs.lemmas.Bool.{lt-ltb}
-use Rattle.mk_never.specs.declared.operations.Op.{Op}
-use Rattle.mk_geom.specs.Storages.{free_page}
-use Rattle.mk_core.specs.declared.config.Config.{Config}
-use Rattle.mk_core.specs.declared.events.Seat.{Seat}
-use Rattle.mk_core.specs.declared.events.Seat.TheVariants.{Caller, Host, Marker}
-use Rattle.mk_core.specs.declared.events.Step.TheVariants as step
-use Rattle.mk_core.specs.declared.events.Word.{Word}
-use Rattle.mk_core.specs.declared.events.Word.TheVariants as word
-use Rattle.mk_core.specs.declared.seats.Flight.{Flight}
-use Rattle.mk_core.specs.Frames.{Steady, steady_of}
-use Rattle.mk_core.specs.History.{World, left, world_behind}
-use Rattle.mk_core.specs.Moments.{Moment, flight_of}
-use Rattle.mk_core.specs.Order.{seat_exists}
-use Rattle.mk_core.specs.Readings.{Holds}
-use Rattle.mk_core.specs.Words.{named_word, phase_of, quarantine_word}
-use Rattle.mk_words.specs.States.{PassState, call_of, now_of, world_of}
-use Rattle.mk_words.specs.Steps.{Finds, may_decide, moment_of}
-use Rattle.mk_words.specs.TurnSteps.{Acts, IsTurn}
-use Rattle.mk_words.proofs.Made.{made}
-use Rattle.mk_objects.specs.Looking.{is_acting, is_steady_word}
-use Rattle.mk_objects.specs.Placing.{OnlyLooks, is_look}
-use Rattle.mk_objects.specs.Unchanged.{IsAsLeft}
-use Rattle.mk_objects.proofs.MayAct.{IsActing}
+use Rattle.mk_laws.proofs.Vocabulary.{Caller, Config, Flight, Holds, Host, Marker, Moment, Op, Option, Seat, Steady}
+use Rattle.mk_laws.proofs.Vocabulary.{Step, Word, World, ℕ, ap, false, flight_of, free_page, left, lt-ltb, phase_of}
+use Rattle.mk_laws.proofs.Vocabulary.{quarantine_word, refl, seat_exists, slice_index, slice_index_or, true}
+use Rattle.mk_laws.proofs.Vocabulary.{world_behind, [], ◌%◌, ◌++◌, ◌∙◌, ◌≡◌}
+use Rattle.mk_objects.proofs.Vocabulary.{Acts, IsAsLeft, IsTurn, OnlyLooks, PassState, call_of, is_acting, is_look}
+use Rattle.mk_objects.proofs.Vocabulary.{is_steady_word, now_of, steady_of, world_of}
+use Rattle.mk_core.specs.Words.{named_word}
 use Rattle.mk_objects.proofs.Reaching.{GoesOn, IsCallers, reaches_nothing, reaches_still}
 use Rattle.mk_objects.proofs.Unchanged.{IsPlain, OfFresh, OfHead, OfHeld, OfPhase, OfUsed, acting_has_call, left_joined}
 use Rattle.mk_objects.proofs.Unchanged.{left_same, look_leaves}
+use Rattle.mk_objects.proofs.MayAct.{IsActing}
+use Rattle.mk_words.{proofs.Made.made, specs.Steps.Finds, specs.Steps.may_decide, specs.Steps.moment_of}
 
 -- Who holds the turn exists, and is a caller where it is acting.
 
@@ -58,7 +41,7 @@ still_acting c s w v at kept = record {
 
 pub looks_on : (p : PassState) (x : Word) → IsActing p.table.config (now_of p) p.seat → IsPlain x
     → GoesOn p (IsAsLeft p.seat (world_of p)) (λ v. IsAsLeft p.seat (world_of p)
-    (world_behind p.table.config v (record { seat = p.seat; step = step.Look x })))
+    (world_behind p.table.config v (record { seat = p.seat; step = Step.Look x })))
 looks_on p x at plain w v before kept known pages =
     let here = left_joined p.seat (world_of p) w v before kept in
     let call = acting_has_call p.table.config v.now p.seat known.orderly.flights
@@ -66,7 +49,7 @@ looks_on p x at plain w v before kept known pages =
     left_joined p.seat (world_of p) v _ here (look_leaves p.table.config v p.seat x call plain)
 
 -- Such a look decides nothing.
-pub plain_is_idle : (x : Word) → IsPlain x → may_decide (step.Look x) ≡ false
+pub plain_is_idle : (x : Word) → IsPlain x → may_decide (Step.Look x) ≡ false
 plain_is_idle x (OfHead p) = refl
 plain_is_idle x (OfUsed p) = refl
 plain_is_idle x OfHeld = refl
@@ -74,36 +57,36 @@ plain_is_idle x OfFresh = refl
 plain_is_idle x OfPhase = refl
 
 pub look_reaches : (p q : PassState) (o : Option Op) (x : Word) → IsTurn p o → is_acting (call_of p).stage ≡ true
-    → IsPlain x → Acts p (step.Look x) q
+    → IsPlain x → Acts p (Step.Look x) q
     → OnlyLooks p q
 look_reaches p q o x turn acts plain a =
-    reaches_still is_look p p q (IsAsLeft p.seat (world_of p)) (IsAsLeft p.seat (world_of p)) [] (step.Look x)
+    reaches_still is_look p p q (IsAsLeft p.seat (world_of p)) (IsAsLeft p.seat (world_of p)) [] (Step.Look x)
     (reaches_nothing is_look p (IsAsLeft p.seat (world_of p)) (left_same p.seat (world_of p))) a refl refl
     (acting_caller p acts) (plain_is_idle x plain) (looks_on p x (acting_now p o turn acts) plain)
 
 -- What it finds is what the word is for the holder.
-module _ (p q : PassState) (o : Option Op) (x : Word) (n : ℕ) (turn : IsTurn p o) (f : Finds p (step.Look x) n q) where
+module _ (p q : PassState) (o : Option Op) (x : Word) (n : ℕ) (turn : IsTurn p o) (f : Finds p (Step.Look x) n q) where
   same : steady_of (left p.table.config (p.seen ++ f.makes.others)) ≡ steady_of (world_of p)
-  same = (((made p (step.Look x) q f.makes).frame.turn turn.holds).0).steady
+  same = (((made p (Step.Look x) q f.makes).frame.turn turn.holds).0).steady
 
   pub found_steady : is_steady_word x ≡ true → n ≡ named_word (now_of p).words x
   found_steady steady = f.finds ∙ by x steady
     where
       by : (y : Word) → is_steady_word y ≡ true → named_word (moment_of f.makes).words y ≡ named_word (now_of p).words y
-      by (word.Head i) h = ap (λ (t : Steady). (slice_index_or t.pages i free_page).header) same
-      by (word.Used i) h = ap (λ (t : Steady). (slice_index_or t.pages i free_page).used) same
-      by word.Held h = ap (λ (t : Steady). t.held) same
-      by word.Fresh h = ap (λ (t : Steady). t.fresh) same
+      by (Word.Head i) h = ap (λ (t : Steady). (slice_index_or t.pages i free_page).header) same
+      by (Word.Used i) h = ap (λ (t : Steady). (slice_index_or t.pages i free_page).used) same
+      by Word.Held h = ap (λ (t : Steady). t.held) same
+      by Word.Fresh h = ap (λ (t : Steady). t.fresh) same
       by _ h = cc
 
-pub found_phase : (p q : PassState) (o : Option Op) (n : ℕ) → IsTurn p o → Finds p (step.Look word.Phase) n q
+pub found_phase : (p q : PassState) (o : Option Op) (n : ℕ) → IsTurn p o → Finds p (Step.Look Word.Phase) n q
     → n % 8 ≡ phase_of (now_of p).words
 found_phase p q o n turn f =
     ap (λ i. i % 8) f.finds ∙ ap (λ (t : Steady). t.phase)
-    (((made p (step.Look word.Phase) q f.makes).frame.turn turn.holds).0).steady
+    (((made p (Step.Look Word.Phase) q f.makes).frame.turn turn.holds).0).steady
 
 pub found_quarantine : (p q : PassState) (o : Option Op) (page n : ℕ) → IsTurn p o
-    → Finds p (step.Look (word.Quar page)) n q → n ≡ named_word (now_of p).words (word.Quar page)
+    → Finds p (Step.Look (Word.Quar page)) n q → n ≡ named_word (now_of p).words (Word.Quar page)
 found_quarantine p q o page n turn f =
-    let same = (((made p (step.Look (word.Quar page)) q f.makes).frame.turn turn.holds).0).steady in
+    let same = (((made p (Step.Look (Word.Quar page)) q f.makes).frame.turn turn.holds).0).steady in
     f.finds ∙ ap (λ (t : Steady). quarantine_word (slice_index t.freed page) (slice_index t.snapshot page)) same

@@ -1,39 +1,17 @@
 -- What the turn's holder may do, whatever the moment.
-use Rattle.std.proofs.Common.{◌≡◌, ℕ, ◌*◌, ◌<◌, true, false, refl, ap, ◌∙◌, ◌⊎◌, inl, inr}
-use Rattle.std.specs.Prelude.{◌||◌, not, nat_lt, ◌==◌}
-use Rattle.std.proofs.lemmas.Bool.{and_from, lt-ltb, eq-eqb, or_left, or_right}
-use Rattle.mk_geom.specs.Addresses.{address_of}
-use Rattle.mk_core.specs.Bounded.{is_some_and}
-use Rattle.mk_never.specs.declared.operations.Op.{Op}
-use Rattle.mk_never.specs.declared.operations.Op.TheVariants as op
-use Rattle.mk_geom.specs.Headers.{header_of}
-use Rattle.mk_core.specs.declared.config.Config.{Config}
-use Rattle.mk_core.specs.declared.events.Seat.{Seat}
-use Rattle.mk_core.specs.declared.events.Seat.TheVariants.{Caller, Host, Marker}
-use Rattle.mk_core.specs.declared.events.Step.{Step}
-use Rattle.mk_core.specs.declared.events.Step.TheVariants as step
-use Rattle.mk_core.specs.declared.events.Group.TheVariants as group
-use Rattle.mk_core.specs.declared.events.Tally.{Tally}
-use Rattle.mk_core.specs.declared.events.Word.TheVariants as word
-use Rattle.mk_core.specs.declared.seats.Stage.{Stage}
-use Rattle.mk_core.specs.declared.seats.Stage.TheVariants as stage
-use Rattle.mk_core.specs.Words.{phase_of}
-use Rattle.mk_core.specs.Cells.{is_released_cell, is_unmapped_header, pointed_cell}
-use Rattle.mk_core.specs.Enabled.{IsEnabled, marker_may, holder_may}
-use Rattle.mk_core.specs.Moments.{Moment, flight_of, is_held, is_number_of, marker_at, is_phase, others_are_held}
-use Rattle.mk_core.specs.NewPlaces.{is_new_at, is_run_gone, is_undecided_free, is_undecided_new, target, object_made}
-use Rattle.mk_core.specs.Order.{comes_next, group_of, is_in_order, is_of_any_holder, is_open_to, may_decide_new}
-use Rattle.mk_core.specs.Order.{seat_exists}
-use Rattle.mk_core.specs.Ranges.{is_in_range, is_run_cell, is_word, has_gates, has_phase}
-use Rattle.mk_core.specs.StopConditions.{marks_by_hand, marks_place}
-use Rattle.mk_core.specs.TurnConditions.{carves, frees, is_in_gone_run, takes_snapshot, is_used_once, place_now}
-use Rattle.mk_core.specs.TurnConditions.{takes_cell, unmaps}
-use Rattle.mk_core.specs.declared.events.Word.{Word}
-use Rattle.mk_core.specs.declared.seats.Flight.{Flight}
+use Rattle.mk_laws.proofs.Vocabulary.{Caller, Config, Flight, Group, Host, IsEnabled, Marker, Moment, Op, Seat, Stage}
+use Rattle.mk_laws.proofs.Vocabulary.{Step, Tally, Word, ℕ, address_of, and_from, ap, carves, comes_next, eq-eqb, false}
+use Rattle.mk_laws.proofs.Vocabulary.{flight_of, frees, group_of, has_gates, has_phase, header_of, holder_may, inl, inr}
+use Rattle.mk_laws.proofs.Vocabulary.{is_held, is_in_range, is_new_at, is_number_of, is_open_to, is_phase}
+use Rattle.mk_laws.proofs.Vocabulary.{is_released_cell, is_run_cell, is_run_gone, is_some_and, is_undecided_free}
+use Rattle.mk_laws.proofs.Vocabulary.{is_undecided_new, is_unmapped_header, is_used_once, lt-ltb, marker_at, marker_may}
+use Rattle.mk_laws.proofs.Vocabulary.{marks_place, nat_lt, not, object_made, or_left, or_right, others_are_held}
+use Rattle.mk_laws.proofs.Vocabulary.{phase_of, place_now, pointed_cell, refl, seat_exists, takes_cell, target, true}
+use Rattle.mk_laws.proofs.Vocabulary.{undecided_free, undecided_new, unmaps, ◌*◌, ◌<◌, ◌==◌, ◌||◌, ◌∙◌, ◌≡◌, ◌⊎◌}
+use Rattle.mk_objects.proofs.Vocabulary.{IsOutOfStop, is_acting, is_steady_word}
 use Rattle.mk_core.proofs.Conditions.{meets_enabled}
-use Rattle.mk_core.proofs.PlacesNow.{undecided_free, undecided_new}
-use Rattle.mk_objects.specs.Looking.{is_acting, is_steady_word}
-use Rattle.mk_objects.specs.Placing.{IsOutOfStop}
+use Rattle.mk_core.specs.{Order.is_in_order, Order.is_of_any_holder, Order.may_decide_new, Ranges.is_word}
+use Rattle.mk_core.specs.{StopConditions.marks_by_hand, TurnConditions.is_in_gone_run, TurnConditions.takes_snapshot}
 
 -- A seat that is acting is a caller's, and has the steps of any holder next.
 
@@ -41,20 +19,20 @@ pub record IsActing (c : Config) (m : Moment) (s : Seat) : Type 0 where
   pub there : seat_exists c s ≡ true
   pub acts : is_acting (flight_of m s).stage ≡ true
 
-open_to_acting : (m : Moment) (s : Seat) → is_acting (flight_of m s).stage ≡ true → is_open_to s group.Turn ≡ true
+open_to_acting : (m : Moment) (s : Seat) → is_acting (flight_of m s).stage ≡ true → is_open_to s Group.Turn ≡ true
 open_to_acting m (Caller k) acts = refl
 open_to_acting m (Marker k) acts = cc
 open_to_acting m Host acts = cc
 
 any_may_decide : (o : Op) (x : Step) → is_of_any_holder x ≡ true → may_decide_new o x ≡ true
-any_may_decide (op.New d ty full) step.Grant h = refl
-any_may_decide (op.New d ty full) step.Full h = refl
+any_may_decide (Op.New d ty full) Step.Grant h = refl
+any_may_decide (Op.New d ty full) Step.Full h = refl
 any_may_decide _ x h = h
 
 next_of_acting : (s : Stage) (o : Op) (x : Step) → is_acting s ≡ true → is_of_any_holder x ≡ true
     → comes_next s o x ≡ true
-next_of_acting stage.Turn o x acts any = any_may_decide o x any
-next_of_acting stage.Give o x acts any = any
+next_of_acting Stage.Turn o x acts any = any_may_decide o x any
+next_of_acting Stage.Give o x acts any = any
 next_of_acting _ o x acts any = cc
 
 order_of_acting : (c : Config) (m : Moment) (s : Seat) (x : Step) → is_acting (flight_of m s).stage ≡ true
@@ -73,12 +51,12 @@ new_is_acting f new = ap is_acting (undecided_new f new).stage
 pub free_is_acting : (f : Flight) → is_undecided_free f ≡ true → is_acting f.stage ≡ true
 free_is_acting f free = ap is_acting (undecided_free f free).stage
 
-grant_comes_next : (s : Stage) (o : Op) → is_new_at s o ≡ true → comes_next s o step.Grant ≡ true
-grant_comes_next stage.Turn (op.New d ty full) h = refl
+grant_comes_next : (s : Stage) (o : Op) → is_new_at s o ≡ true → comes_next s o Step.Grant ≡ true
+grant_comes_next Stage.Turn (Op.New d ty full) h = refl
 grant_comes_next _ _ h = cc
 
 grant_in_order : (c : Config) (m : Moment) (s : Seat) → is_undecided_new (flight_of m s) ≡ true
-    → is_in_order c m s step.Grant ≡ true
+    → is_in_order c m s Step.Grant ≡ true
 grant_in_order c m (Caller k) new = grant_comes_next (flight_of m (Caller k)).stage (flight_of m (Caller k)).op new
 grant_in_order c m (Marker k) new = cc
 grant_in_order c m Host new = cc
@@ -95,7 +73,7 @@ off_four m (inl none) = ap (λ (n : ℕ). n == 4) none
 off_four m (inr one) = ap (λ (n : ℕ). n == 4) one
 
 module _ (c : Config) (m : Moment) (s : Seat) (at : IsActing c m s) where
-  may_by : (x : Step) → group_of x ≡ group.Turn → is_in_order c m s x ≡ true → is_in_range c s (flight_of m s) x ≡ true
+  may_by : (x : Step) → group_of x ≡ Group.Turn → is_in_order c m s x ≡ true → is_in_range c s (flight_of m s) x ≡ true
       → has_gates c m.words s (flight_of m s) x ≡ true → has_phase (phase_of m.words) x ≡ true
       → marker_may c (marker_at m s) x ≡ true
       → holder_may c m (flight_of m s) x ≡ true → IsEnabled c m (record { seat = s; step = x })
@@ -112,21 +90,21 @@ module _ (c : Config) (m : Moment) (s : Seat) (at : IsActing c m s) where
       })
 
   pub may_look : (x : Word) → is_steady_word x ≡ true → is_word c x ≡ true
-      → IsEnabled c m (record { seat = s; step = step.Look x })
-  may_look x steady within = may_by (step.Look x) refl (order_of_acting c m s (step.Look x) at.acts refl) within
+      → IsEnabled c m (record { seat = s; step = Step.Look x })
+  may_look x steady within = may_by (Step.Look x) refl (order_of_acting c m s (Step.Look x) at.acts refl) within
       (gates x steady) refl refl refl
     where
-      gates : (x : Word) → is_steady_word x ≡ true → has_gates c m.words s (flight_of m s) (step.Look x) ≡ true
-      gates (word.Reg j r) steady = cc
+      gates : (x : Word) → is_steady_word x ≡ true → has_gates c m.words s (flight_of m s) (Step.Look x) ≡ true
+      gates (Word.Reg j r) steady = cc
       gates x steady = refl
 
-  pub may_look_phase : IsEnabled c m (record { seat = s; step = step.Look word.Phase })
-  may_look_phase = may_by (step.Look word.Phase) refl (order_of_acting c m s (step.Look word.Phase) at.acts refl) refl
+  pub may_look_phase : IsEnabled c m (record { seat = s; step = Step.Look Word.Phase })
+  may_look_phase = may_by (Step.Look Word.Phase) refl (order_of_acting c m s (Step.Look Word.Phase) at.acts refl) refl
       refl refl refl refl
 
-  pub may_look_quarantine : (p : ℕ) → p < c.pages → IsEnabled c m (record { seat = s; step = step.Look (word.Quar p) })
+  pub may_look_quarantine : (p : ℕ) → p < c.pages → IsEnabled c m (record { seat = s; step = Step.Look (Word.Quar p) })
   may_look_quarantine p within =
-      may_by (step.Look (word.Quar p)) refl (order_of_acting c m s (step.Look (word.Quar p)) at.acts refl)
+      may_by (Step.Look (Word.Quar p)) refl (order_of_acting c m s (Step.Look (Word.Quar p)) at.acts refl)
       (lt-ltb p c.pages within)
       refl refl refl refl
 
@@ -134,55 +112,55 @@ module _ (c : Config) (m : Moment) (s : Seat) (at : IsActing c m s) where
       → (not (is_run_cell m.words (target c.pages m.words (flight_of m s))) || others_are_held c.callers m.words s)
       ≡ true
       → frees m.words (target c.pages m.words (flight_of m s)) p v ≡ true
-      → IsEnabled c m (record { seat = s; step = step.Quar p v })
+      → IsEnabled c m (record { seat = s; step = Step.Quar p v })
   may_free p v within low gates frees =
-      may_by (step.Quar p v) refl (order_of_acting c m s (step.Quar p v) at.acts refl) (lt-ltb p c.pages within) gates
+      may_by (Step.Quar p v) refl (order_of_acting c m s (Step.Quar p v) at.acts refl) (lt-ltb p c.pages within) gates
       (low_or_more (phase_of m.words) 4 low) refl (rw (off_four m low) (or_left _ (takes_snapshot m.words p v) frees))
 
-  pub may_tally : (n : Tally) (v : ℕ) → IsEnabled c m (record { seat = s; step = step.Tally n v })
-  may_tally n v = may_by (step.Tally n v) refl (order_of_acting c m s (step.Tally n v) at.acts refl) refl refl refl refl
+  pub may_tally : (n : Tally) (v : ℕ) → IsEnabled c m (record { seat = s; step = Step.Tally n v })
+  may_tally n v = may_by (Step.Tally n v) refl (order_of_acting c m s (Step.Tally n v) at.acts refl) refl refl refl refl
       refl
 
   pub may_mark_place : (p v : ℕ) → p < c.pages → phase_of m.words ≡ 1
       → marks_place m.words (object_made c (flight_of m s).op) (place_now c m (flight_of m s)) p v ≡ true
-      → IsEnabled c m (record { seat = s; step = step.Mark p v })
+      → IsEnabled c m (record { seat = s; step = Step.Mark p v })
   may_mark_place p v within one places =
-      may_by (step.Mark p v) refl (order_of_acting c m s (step.Mark p v) at.acts refl) (lt-ltb p c.pages within) refl
+      may_by (Step.Mark p v) refl (order_of_acting c m s (Step.Mark p v) at.acts refl) (lt-ltb p c.pages within) refl
       (ap (λ (n : ℕ). (n == 1) || (n == 2)) one) refl
       (or_right (marks_by_hand c.pages m.words m.seats.holding.hand p v) _ places)
 
   pub may_carve : (p v : ℕ) → p < c.pages → IsOutOfStop m → is_unmapped_header (header_of v) ≡ false
       → carves m.words (object_made c (flight_of m s).op) (place_now c m (flight_of m s)) p v ≡ true
-      → IsEnabled c m (record { seat = s; step = step.Head p v })
+      → IsEnabled c m (record { seat = s; step = Step.Head p v })
   may_carve p v within low mapped carve =
-      may_by (step.Head p v) refl (order_of_acting c m s (step.Head p v) at.acts refl) (lt-ltb p c.pages within)
+      may_by (Step.Head p v) refl (order_of_acting c m s (Step.Head p v) at.acts refl) (lt-ltb p c.pages within)
       (ap (λ b. not b || others_are_held c.callers m.words s) mapped) (low_or_more (phase_of m.words) 4 low) refl
       (rw (off_four m low) (or_left _ (unmaps m.words m.seats.holding.freed p v) carve))
 
   pub may_take : (p v : ℕ) → p < c.pages → IsOutOfStop m → is_used_once m.seats.holding.placing ≡ false
       → takes_cell m.words (object_made c (flight_of m s).op) (place_now c m (flight_of m s)) p v ≡ true
-      → IsEnabled c m (record { seat = s; step = step.Used p v })
+      → IsEnabled c m (record { seat = s; step = Step.Used p v })
   may_take p v within low once takes =
-      may_by (step.Used p v) refl (order_of_acting c m s (step.Used p v) at.acts refl) (lt-ltb p c.pages within)
+      may_by (Step.Used p v) refl (order_of_acting c m s (Step.Used p v) at.acts refl) (lt-ltb p c.pages within)
       refl (low_or_more (phase_of m.words) 4 low) refl
       (rw (off_four m low, once) takes)
 
   pub may_grant : is_undecided_new (flight_of m s) ≡ true → IsOutOfStop m → is_used_once m.seats.holding.placing ≡ true
-      → IsEnabled c m (record { seat = s; step = step.Grant })
+      → IsEnabled c m (record { seat = s; step = Step.Grant })
   may_grant new low once =
-      may_by step.Grant refl (grant_in_order c m s new) refl refl (low_phase (phase_of m.words) low) refl once
+      may_by Step.Grant refl (grant_in_order c m s new) refl refl (low_phase (phase_of m.words) low) refl once
 
   pub may_hold : (j : ℕ) → j < c.callers → is_number_of s j ≡ false → is_held m.words j ≡ false
-      → IsEnabled c m (record { seat = s; step = step.Hold j })
+      → IsEnabled c m (record { seat = s; step = Step.Hold j })
   may_hold j lt other not_held =
-      may_by (step.Hold j) refl (order_of_acting c m s (step.Hold j) at.acts refl)
+      may_by (Step.Hold j) refl (order_of_acting c m s (Step.Hold j) at.acts refl)
       (and_from (nat_lt j c.callers) (not (is_number_of s j)) (lt-ltb j c.callers lt) (ap not other))
       (ap not not_held) refl refl refl
 
   pub may_open : (j : ℕ) → j < c.callers → is_number_of s j ≡ false → is_held m.words j ≡ true → IsOutOfStop m
-      → is_run_gone m.words m.seats.holding.freed ≡ true → IsEnabled c m (record { seat = s; step = step.Open j })
+      → is_run_gone m.words m.seats.holding.freed ≡ true → IsEnabled c m (record { seat = s; step = Step.Open j })
   may_open j lt other held low gone =
-      may_by (step.Open j) refl (order_of_acting c m s (step.Open j) at.acts refl)
+      may_by (Step.Open j) refl (order_of_acting c m s (Step.Open j) at.acts refl)
       (and_from (nat_lt j c.callers) (not (is_number_of s j)) (lt-ltb j c.callers lt) (ap not other)) held
       (ap not (off_three low)) refl gone
     where
@@ -191,21 +169,21 @@ module _ (c : Config) (m : Moment) (s : Seat) (at : IsActing c m s) where
       off_three (inr one) = ap (λ (n : ℕ). n == 3) one
 
   pub may_unmap : (p v : ℕ) → p < c.pages → IsOutOfStop m → others_are_held c.callers m.words s ≡ true
-      → unmaps m.words m.seats.holding.freed p v ≡ true → IsEnabled c m (record { seat = s; step = step.Head p v })
+      → unmaps m.words m.seats.holding.freed p v ≡ true → IsEnabled c m (record { seat = s; step = Step.Head p v })
   may_unmap p v within low held unmap =
-      may_by (step.Head p v) refl (order_of_acting c m s (step.Head p v) at.acts refl) (lt-ltb p c.pages within)
+      may_by (Step.Head p v) refl (order_of_acting c m s (Step.Head p v) at.acts refl) (lt-ltb p c.pages within)
       (or_right (not (is_unmapped_header (header_of v))) _ held) (low_or_more (phase_of m.words) 4 low) refl
       (rw (off_four m low)
       (or_right (carves m.words (object_made c (flight_of m s).op) (place_now c m (flight_of m s)) p v) _ unmap))
 
-  pub may_look_heap : (n : ℕ) → n < 64 * c.pages → IsEnabled c m (record { seat = s; step = step.Look (word.Heap n) })
+  pub may_look_heap : (n : ℕ) → n < 64 * c.pages → IsEnabled c m (record { seat = s; step = Step.Look (Word.Heap n) })
   may_look_heap n within =
-      may_by (step.Look (word.Heap n)) refl (order_of_acting c m s (step.Look (word.Heap n)) at.acts refl)
+      may_by (Step.Look (Word.Heap n)) refl (order_of_acting c m s (Step.Look (Word.Heap n)) at.acts refl)
       (lt-ltb n (64 * c.pages) within) refl refl refl refl
 
   pub may_wipe : (n : ℕ) → n < 64 * c.pages → is_in_gone_run m.words m.seats.holding.freed n ≡ true
-      → IsEnabled c m (record { seat = s; step = step.Wipe n })
+      → IsEnabled c m (record { seat = s; step = Step.Wipe n })
   may_wipe n within gone =
-      may_by (step.Wipe n) refl (order_of_acting c m s (step.Wipe n) at.acts refl) (lt-ltb n (64 * c.pages) within) refl
+      may_by (Step.Wipe n) refl (order_of_acting c m s (Step.Wipe n) at.acts refl) (lt-ltb n (64 * c.pages) within) refl
       refl refl
       (or_right (is_some_and (is_released_cell m.words) (pointed_cell c.pages m.words.pages (address_of n))) _ gone)

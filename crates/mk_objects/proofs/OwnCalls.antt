@@ -1,22 +1,11 @@
 -- The own calls of a list in parts: events of others have none of them. As in mk_caller.
-use Rattle.std.proofs.Common.{◌≡◌, ◌≢◌, ℕ, Bool, List, [], ◌∷◌, ◌++◌, refl, ◌∙◌, ap, append-nil, cond}
-use Rattle.std.specs.Prelude.{◌==◌, filter, Option, Some, None}
-use Rattle.std.proofs.lemmas.Bool.{eq-eqb, ne_eqb}
-use Rattle.std.proofs.lemmas.List.Elements.{filter-append}
-use Rattle.mk_never.specs.declared.operations.Op.{Op}
-use Rattle.mk_core.specs.declared.config.Config.{Config}
-use Rattle.mk_core.specs.declared.events.Answer.{Answer}
-use Rattle.mk_core.specs.declared.events.Event.{Event}
-use Rattle.mk_core.specs.declared.events.Seat.{Seat}
-use Rattle.mk_core.specs.declared.events.Seat.TheVariants.{Caller, Marker, Host}
-use Rattle.mk_core.specs.declared.events.Step.{Step}
-use Rattle.mk_core.specs.Decided.{Decided, entry_of}
-use Rattle.mk_core.specs.Effects.{answer_decided}
-use Rattle.mk_core.specs.Growing.{AreOfOthers}
-use Rattle.mk_core.specs.History.{World, first_world, world_behind, left, calls, calls_from, call_decided}
-use Rattle.mk_core.specs.Moments.{flight_of}
-use Rattle.mk_core.proofs.Histories.{calls_more}
-use Rattle.mk_core.proofs.HistoryParts.{calls_in_parts}
+use Rattle.std.proofs.{Common.filter, lemmas.List.Elements.filter-append}
+use Rattle.mk_laws.proofs.Vocabulary.{Answer, Bool, Caller, Config, Decided, Event, Host, List, Marker, None, Op}
+use Rattle.mk_laws.proofs.Vocabulary.{Option, Seat, Some, Step, World, ℕ, answer_decided, ap, append-nil, call_decided}
+use Rattle.mk_laws.proofs.Vocabulary.{calls, cond, entry_of, eq-eqb, first_world, flight_of, left, ne_eqb, refl}
+use Rattle.mk_laws.proofs.Vocabulary.{world_behind, [], ◌++◌, ◌==◌, ◌∙◌, ◌∷◌, ◌≡◌, ◌≢◌}
+use Rattle.mk_objects.proofs.Vocabulary.{calls_more}
+use Rattle.mk_core.{proofs.HistoryParts.calls_in_parts, specs.Growing.AreOfOthers, specs.History.calls_from}
 use Rattle.mk_laws.proofs.ProtocolFrames.{other_seat}
 
 -- the calls of one caller among these

@@ -1,33 +1,18 @@
 -- What is asked of a New, and where it goes, by what its turn says.
-use Rattle.std.proofs.Common.{◌≡◌, ℕ, ◌<◌, true, List, length, refl, sym, ◌∙◌, ap, arith}
-use Rattle.std.specs.Prelude.{◌&&◌, nat_lt, Option, Some}
-use Rattle.std.proofs.lemmas.Bool.{and_parts}
-use Rattle.mk_never.specs.declared.operations.Op.{Op}
-use Rattle.mk_geom.specs.declared.pages.Page.{Page}
-use Rattle.mk_geom.specs.declared.pages.Place.{Place}
+use Rattle.mk_laws.proofs.Vocabulary.{Caller, Config, Host, IsHistory, List, Marker, Object, Op, Option, Page, Place}
+use Rattle.mk_laws.proofs.Vocabulary.{Seat, Some, ℕ, and_parts, ap, arith, d_of, flight_of, g_of, has_operands}
+use Rattle.mk_laws.proofs.Vocabulary.{is_undecided_new, length, nat_lt, object_made, p_of, place_on_pages, q_of, r_of}
+use Rattle.mk_laws.proofs.Vocabulary.{refl, sym, true, uses_of_pages, ◌&&◌, ◌<◌, ◌∙◌, ◌≡◌}
+use Rattle.mk_objects.proofs.Vocabulary.{GoesTo, IsTurn, IsUnplaced, OnlyLooks, PassState, WordsState, call_of}
+use Rattle.mk_objects.proofs.Vocabulary.{known_left, now_of, object_for}
 use Rattle.mk_geom.specs.PageUses.{place_on_uses}
-use Rattle.mk_geom.specs.PageWords.{uses_of_pages}
-use Rattle.mk_core.specs.declared.config.Config.{Config}
-use Rattle.mk_core.specs.declared.events.Seat.{Seat}
-use Rattle.mk_core.specs.declared.events.Seat.TheVariants.{Caller, Host, Marker}
-use Rattle.mk_core.specs.declared.seats.Object.{Object}
-use Rattle.mk_core.specs.Calls.{d_of, g_of, has_operands, has_type, p_of, q_of, r_of}
-use Rattle.mk_core.specs.History.{IsHistory}
-use Rattle.mk_core.specs.Moments.{flight_of}
-use Rattle.mk_core.specs.NewPlaces.{is_undecided_new, object_made, place_on_pages}
-use Rattle.mk_laws.proofs.LayoutHolders.{seat_operands}
-use Rattle.mk_laws.proofs.Known.{known_left}
-use Rattle.mk_laws.proofs.InvariantTheorems.{first_fit_finds_the_place}
-use Rattle.mk_words.specs.States.{PassState, WordsState, call_of, now_of}
-use Rattle.mk_words.specs.TurnSteps.{IsTurn, op_for}
-use Rattle.mk_objects.specs.declared.objects.Shape.{Shape}
-use Rattle.mk_objects.specs.Placing.{GoesTo, IsUnplaced, OnlyLooks, object_for, place_now_for}
-use Rattle.mk_objects.specs.Shapes.{object_shaped}
+use Rattle.mk_core.specs.Calls.{has_type}
+use Rattle.mk_laws.proofs.{InvariantTheorems.first_fit_finds_the_place, LayoutHolders.seat_operands}
 use Rattle.mk_objects.proofs.JoinedLooks.{goes_to, looks_object, looks_pages, looks_table, looks_unplaced}
 use Rattle.mk_objects.proofs.Looks.{acting_caller, acting_now}
-use Rattle.mk_objects.proofs.MayAct.{new_is_acting}
-use Rattle.mk_objects.proofs.Serves.{knows_place}
-use Rattle.mk_objects.proofs.Takes.{unplaced_settled}
+use Rattle.mk_objects.proofs.{MayAct.new_is_acting, Serves.knows_place, Takes.unplaced_settled}
+use Rattle.mk_objects.specs.{Placing.place_now_for, Shapes.object_shaped, declared.objects.Shape.Shape}
+use Rattle.mk_words.specs.TurnSteps.{op_for}
 
 -- the operation of a turn that is for an undecided New
 pub op_is : (p : PassState) (x : Option Op) → IsTurn p x → is_undecided_new (call_of p) ≡ true → x ≡ Some (call_of p).op

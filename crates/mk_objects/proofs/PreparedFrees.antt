@@ -1,28 +1,14 @@
 -- What comes before a Free's `quar` leaves its turn as it was, but for gates: what is asked stays so, and what is freed
 -- after it is freed.
-use Rattle.std.proofs.Common.{◌≡◌, ℕ, ◌<◌, Bool, true, false, List, [], map, sym, ◌∙◌, ap, subst}
-use Rattle.std.specs.Prelude.{◌↔◌, not, IsTrue, Some}
-use Rattle.mk_geom.specs.declared.addresses.Cell.{Cell}
-use Rattle.mk_geom.specs.declared.pages.Page.{Page}
-use Rattle.mk_core.specs.declared.events.Answer.TheVariants as answer
-use Rattle.mk_core.specs.declared.events.Step.{Step}
-use Rattle.mk_core.specs.Allocations.{PlacedAllocation, freed_where_it_stands}
-use Rattle.mk_core.specs.Frames.{Steady, steady_of}
-use Rattle.mk_core.specs.History.{IsHistory}
-use Rattle.mk_core.specs.Moments.{is_held, none_is_held}
-use Rattle.mk_core.proofs.AllBelow.{all_below-at}
-use Rattle.mk_laws.proofs.Tests.{all_below_from}
-use Rattle.mk_core.specs.Readings.{Holds}
-use Rattle.mk_words.specs.States.{PassState, WordsState, call_of, now_of, world_of}
-use Rattle.mk_objects.specs.Deciding.{FreesCell, StaysSo}
-use Rattle.mk_objects.specs.Dues.{IsOverQuarter}
-use Rattle.mk_objects.specs.FreeParts.{HasGates, IsButGates, SetsGates}
-use Rattle.mk_objects.specs.Placing.{OnlyLooks, ComesTo, is_look}
-use Rattle.mk_objects.specs.Retiring.{is_freeing}
-use Rattle.mk_objects.specs.Unchanged.{IsAsLeft}
-use Rattle.mk_objects.proofs.DecidedFrees.{Stays, decides_behind}
-use Rattle.mk_objects.proofs.FreedOnce.{FreesNot, once_behind}
-use Rattle.mk_objects.proofs.ReachedParts.{AreAmong, reached_world, reaches_so}
+use Rattle.mk_laws.proofs.Vocabulary.{Answer, Bool, Cell, Holds, IsHistory, List, Page, PlacedAllocation, Some, Steady}
+use Rattle.mk_laws.proofs.Vocabulary.{Step, ℕ, all_below-at, ap, false, freed_where_it_stands, is_held, map, not, subst}
+use Rattle.mk_laws.proofs.Vocabulary.{sym, true, [], ◌<◌, ◌↔◌, ◌∙◌, ◌≡◌}
+use Rattle.mk_objects.proofs.Vocabulary.{ComesTo, FreesCell, HasGates, IsAsLeft, IsOverQuarter, IsTrue, OnlyLooks}
+use Rattle.mk_objects.proofs.Vocabulary.{PassState, SetsGates, StaysSo, WordsState, all_below_from, call_of, is_freeing}
+use Rattle.mk_objects.proofs.Vocabulary.{is_look, none_is_held, now_of, steady_of, world_of}
+use Rattle.mk_objects.{proofs.DecidedFrees.Stays, proofs.DecidedFrees.decides_behind, proofs.FreedOnce.FreesNot}
+use Rattle.mk_objects.{proofs.FreedOnce.once_behind, proofs.ReachedParts.AreAmong, proofs.ReachedParts.reached_world}
+use Rattle.mk_objects.{proofs.ReachedParts.reaches_so, specs.FreeParts.IsButGates}
 
 abbrev pub IsExactly : WordsState → Bool → List PlacedAllocation → Type 0
 IsExactly t due xs = IsTrue due ↔ IsOverQuarter t.config xs
@@ -72,7 +58,7 @@ module _ (kinds : Step → Bool) (p q : PassState) (a : Prepares kinds p q) wher
       → Holds p.table.config (now_of p) p.seat → FreesCell q cell due r → FreesCell p cell due r
   frees_behind r cell due among not h holds f =
       record {
-        reaches = decides_behind kinds among p q r answer.Done so f.reaches;
+        reaches = decides_behind kinds among p q r Answer.Done so f.reaches;
         allocations = f.allocations
             ∙ ap (λ (ps : List Page). map (freed_where_it_stands (record (now_of q).words { pages = ps }) (Some cell))
             (world_of q).allocations)

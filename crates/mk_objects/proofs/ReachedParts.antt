@@ -1,16 +1,8 @@
 -- A part of a turn after another, and what a part that is reached says of the pass.
-use Rattle.std.proofs.Common.{◌≡◌, Bool, true, List, [], ◌++◌, sym, ◌∙◌, ap, subst, append-nil, append_assoc}
-use Rattle.mk_core.specs.declared.events.Step.{Step}
-use Rattle.mk_core.specs.Decided.{Decided}
-use Rattle.mk_core.specs.History.{World, left}
-use Rattle.mk_turns.specs.Doing.{Does}
-use Rattle.mk_turns.proofs.Doing.{does_then}
-use Rattle.mk_words.specs.States.{PassState, world_of}
-use Rattle.mk_objects.specs.Entries.{own_calls}
-use Rattle.mk_objects.specs.Placing.{ComesTo}
-use Rattle.mk_objects.proofs.Counted.{counts_then}
-use Rattle.mk_objects.proofs.JoinedLooks.{does_wider}
-use Rattle.mk_objects.proofs.Reaching.{seeing}
+use Rattle.mk_laws.proofs.Vocabulary.{Bool, Decided, List, Step, World, ap, append-nil, append_assoc, left, subst, sym}
+use Rattle.mk_laws.proofs.Vocabulary.{true, [], ◌++◌, ◌∙◌, ◌≡◌}
+use Rattle.mk_objects.proofs.Vocabulary.{ComesTo, Does, PassState, does_then, own_calls, world_of}
+use Rattle.mk_objects.proofs.{Counted.counts_then, JoinedLooks.does_wider, Reaching.seeing}
 
 -- Each kind of the one is of the other.
 abbrev pub AreAmong : (Step → Bool) → (Step → Bool) → Type 0

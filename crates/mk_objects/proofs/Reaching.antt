@@ -1,37 +1,15 @@
 -- The turn's holder goes on by a step.
-use Rattle.std.proofs.Common.{◌≡◌, ◌≢◌, ℕ, Bool, true, false, List, [], ◌∷◌, ◌++◌, refl, sym, ◌∙◌, ap, subst}
-use Rattle.std.proofs.Common.{append-nil, append_assoc, inl, inr}
-use Rattle.std.specs.Prelude.{◌==◌, Option, None}
-use Rattle.std.proofs.lemmas.Bool.{cases_eq, eq-eqb, ne_eqb}
-use Rattle.mk_core.specs.declared.config.Config.{Config}
-use Rattle.mk_core.specs.declared.events.Answer.{Answer}
-use Rattle.mk_core.specs.declared.events.Event.{Event}
-use Rattle.mk_core.specs.declared.events.Seat.{Seat}
-use Rattle.mk_core.specs.declared.events.Seat.TheVariants.{Caller}
-use Rattle.mk_core.specs.declared.events.Step.{Step}
-use Rattle.mk_core.specs.Decided.{Decided, entry_of}
-use Rattle.mk_core.specs.Effects.{answer_decided}
-use Rattle.mk_core.specs.Cycles.{is_end}
+use Rattle.mk_laws.proofs.Vocabulary.{Answer, AreOfOthers, AreOfPages, Bool, Caller, Config, Decided, Event, List, None}
+use Rattle.mk_laws.proofs.Vocabulary.{Option, Seat, Step, World, ℕ, answer_decided, ap, append-nil, append_assoc}
+use Rattle.mk_laws.proofs.Vocabulary.{cases_eq, entry_of, eq-eqb, false, flight_of, histories_keep_lengths, inl, inr}
+use Rattle.mk_laws.proofs.Vocabulary.{is_end, left, ne_eqb, refl, subst, sym, true, world_behind, [], ◌++◌, ◌==◌, ◌∙◌}
+use Rattle.mk_laws.proofs.Vocabulary.{◌∷◌, ◌≡◌, ◌≢◌}
+use Rattle.mk_objects.proofs.Vocabulary.{Acts, ComesTo, Does, IsAsLeft, Known, PassState, answers_full, decides_nothing}
+use Rattle.mk_objects.proofs.Vocabulary.{does_then, event_of, own_calls, world_of}
 use Rattle.mk_core.specs.Frames.{CountsAreLeft, HoldsAll, written_of}
-use Rattle.mk_core.specs.Growing.{AreOfOthers}
-use Rattle.mk_core.specs.History.{World, left, world_behind}
-use Rattle.mk_core.specs.Layout.{AreOfPages}
-use Rattle.mk_core.specs.Moments.{flight_of}
-use Rattle.mk_core.proofs.Lengths.{histories_keep_lengths}
-use Rattle.mk_laws.proofs.Known.{Known}
-use Rattle.mk_laws.proofs.OthersCounts.{answers_full}
-use Rattle.mk_words.specs.States.{PassState, event_of, world_of}
-use Rattle.mk_words.specs.Steps.{may_decide}
-use Rattle.mk_words.specs.TurnSteps.{Acts, world_at}
-use Rattle.mk_words.proofs.Made.{made}
-use Rattle.mk_words.proofs.Undecided.{decides_nothing}
-use Rattle.mk_turns.specs.Doing.{Does}
-use Rattle.mk_turns.proofs.Doing.{does_nothing, does_step, does_then}
-use Rattle.mk_objects.specs.Entries.{own_calls}
-use Rattle.mk_objects.specs.Placing.{ComesTo}
-use Rattle.mk_objects.specs.Unchanged.{IsAsLeft}
-use Rattle.mk_objects.proofs.Counted.{counts_more, counts_then}
-use Rattle.mk_objects.proofs.OwnCalls.{own_step_adds}
+use Rattle.mk_objects.proofs.{Counted.counts_more, Counted.counts_then, OwnCalls.own_step_adds}
+use Rattle.mk_turns.proofs.Doing.{does_nothing, does_step}
+use Rattle.mk_words.{proofs.Made.made, specs.Steps.may_decide, specs.TurnSteps.world_at}
 
 -- the pass, where it has seen these
 abbrev pub seeing : PassState → List Event → PassState

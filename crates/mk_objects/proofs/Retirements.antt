@@ -1,54 +1,29 @@
 -- A Free's whole turn: its register was null, or its object was freed, or found freed.
-use Rattle.std.proofs.Common.{◌≡◌, ℕ, ◌<◌, ◌^◌, Bool, true, false, List, [], length, map, refl, sym, ◌∙◌, ap, subst}
-use Rattle.std.specs.Prelude.{◌%◌, ◌==◌, not, Option, Some, if◌then◌else◌, slice_index, slice_set}
-use Rattle.std.proofs.lemmas.Bool.{true≢false}
-use Rattle.mk_never.specs.declared.operations.Op.{Op}
-use Rattle.mk_never.specs.declared.values.Value.{Value}
-use Rattle.mk_never.specs.declared.values.Value.TheVariants.{Null, Ptr}
-use Rattle.mk_never.specs.NeverHeap.{allocation_at}
-use Rattle.mk_never.specs.Admitted.{IsBase}
-use Rattle.mk_geom.specs.declared.addresses.Cell.{Cell}
-use Rattle.mk_core.specs.declared.events.Answer.{Answer}
-use Rattle.mk_core.specs.declared.events.Answer.TheVariants as answer
-use Rattle.mk_core.specs.declared.events.Seat.{Seat}
-use Rattle.mk_core.specs.declared.events.Step.{Step}
-use Rattle.mk_core.specs.declared.seats.Flight.{Flight}
-use Rattle.mk_core.specs.declared.seats.Holding.{Holding}
-use Rattle.mk_core.specs.declared.seats.RunPages.{RunPages}
-use Rattle.mk_core.specs.declared.seats.Stage.TheVariants as stage
-use Rattle.mk_core.specs.Accesses.{caller_number}
-use Rattle.mk_core.specs.Allocations.{PlacedAllocation, freed_where_it_stands, fresh_words_of, held_by_allocations}
-use Rattle.mk_core.specs.Allocations.{placed_at}
-use Rattle.mk_core.specs.Bits.{has_bit}
-use Rattle.mk_core.specs.Cells.{is_freed}
-use Rattle.mk_core.specs.Counts.{TalliesAreExact, TalliesAreTidy, in_a_word, releases}
-use Rattle.mk_core.specs.Decided.{Decided, entry_of}
-use Rattle.mk_core.specs.Frames.{Steady, steady_of}
-use Rattle.mk_core.specs.History.{IsHistory, World, never_behind}
-use Rattle.mk_core.specs.Moments.{flight_of, is_held, none_is_held, nothing_done}
-use Rattle.mk_core.specs.NewPlaces.{is_run_gone, target}
-use Rattle.mk_core.specs.Readings.{Holds}
-use Rattle.mk_core.specs.Words.{quarantine_word}
-use Rattle.mk_laws.proofs.Tests.{all_below_from}
-use Rattle.mk_laws.proofs.InvariantHistories.{histories_keep_the_invariant}
-use Rattle.mk_words.specs.States.{PassState, WordsState, call_of, now_of, world_of}
-use Rattle.mk_objects.specs.Deciding.{FreesCell, IsDecidedAt, MayFree}
-use Rattle.mk_objects.specs.Placing.{IsOutOfStop, OnlyLooks, ComesTo, entry_for, is_look}
-use Rattle.mk_objects.specs.Retired.{DecidesFree, FindsFreed, IsFreed, Retires, freed_and_fresh, with_freed_object}
-use Rattle.mk_objects.specs.Retiring.{CallIsAt, HasLoaded, HasSeen, IsFreeAt, IsUnloaded, entry_loaded, entry_seen}
-use Rattle.mk_objects.specs.Retiring.{is_freeing, is_loading, loaded_free, seen_free, value_of}
-use Rattle.mk_objects.specs.Unchanged.{IsAsLeft}
+use Rattle.mk_laws.proofs.Vocabulary.{Answer, Bool, Cell, Decided, Flight, Holding, Holds, IsHistory, List, Null, Op}
+use Rattle.mk_laws.proofs.Vocabulary.{Option, PlacedAllocation, Ptr, RunPages, Seat, Some, Stage, Steady, Step}
+use Rattle.mk_laws.proofs.Vocabulary.{TalliesAreTidy, Value, World, ℕ, allocation_at, ap, caller_number, entry_of}
+use Rattle.mk_laws.proofs.Vocabulary.{false, flight_of, freed_where_it_stands, fresh_words_of, has_bit, if◌then◌else◌}
+use Rattle.mk_laws.proofs.Vocabulary.{in_a_word, is_freed, is_held, is_run_gone, length, map, never_behind, not}
+use Rattle.mk_laws.proofs.Vocabulary.{nothing_done, placed_at, quarantine_word, refl, slice_index, slice_set, subst}
+use Rattle.mk_laws.proofs.Vocabulary.{sym, target, true, true≢false, [], ◌%◌, ◌<◌, ◌==◌, ◌^◌, ◌∙◌, ◌≡◌}
+use Rattle.mk_objects.proofs.Vocabulary.{CallIsAt, ComesTo, FreesCell, IsAsLeft, IsBase, IsFreeAt, IsOutOfStop, MayFree}
+use Rattle.mk_objects.proofs.Vocabulary.{OnlyLooks, PassState, WordsState, all_below_from, call_of, entry_for}
+use Rattle.mk_objects.proofs.Vocabulary.{freed_and_fresh, held_by_allocations, histories_keep_the_invariant, is_freeing}
+use Rattle.mk_objects.proofs.Vocabulary.{is_loading, is_look, loaded_free, none_is_held, now_of, steady_of, value_of}
+use Rattle.mk_objects.proofs.Vocabulary.{world_of}
+use Rattle.mk_core.specs.Counts.{TalliesAreExact, releases}
 use Rattle.mk_objects.proofs.DecidedFrees.{Decides, load_frees, loading_not, look_loads}
-use Rattle.mk_objects.proofs.FreeSteps.{low_half}
 use Rattle.mk_objects.proofs.FreedObjects.{IsObjectAt, granted, it_is_freed, its_freed, object_at}
 use Rattle.mk_objects.proofs.FreedOnce.{due_since, due_then, none_due, once_behind}
 use Rattle.mk_objects.proofs.JoinedLooks.{does_wider, looks_call, looks_left, looks_table}
+use Rattle.mk_objects.proofs.PreparedFrees.{IsExactly, still_open}
 use Rattle.mk_objects.proofs.ReachedParts.{AreAmong, reached_world, reaches_after, reaches_named, reaches_so}
 use Rattle.mk_objects.proofs.ReachedParts.{reaches_then, same_kinds}
-use Rattle.mk_objects.proofs.Serves.{out_of_stop}
 use Rattle.mk_objects.proofs.SeenDoubles.{freed_same, target_same}
-use Rattle.mk_objects.proofs.PreparedFrees.{IsExactly, still_open}
-use Rattle.mk_objects.proofs.SmallFrees.{exact_from, none_held}
+use Rattle.mk_objects.proofs.{FreeSteps.low_half, Serves.out_of_stop, SmallFrees.exact_from, SmallFrees.none_held}
+use Rattle.mk_objects.specs.Retired.{DecidesFree, FindsFreed, IsFreed, Retires, with_freed_object}
+use Rattle.mk_objects.specs.Retiring.{HasLoaded, HasSeen, IsUnloaded, entry_loaded, entry_seen, seen_free}
+use Rattle.mk_objects.specs.Deciding.{IsDecidedAt}
 
 -- Up to its `quar` a Free only loads.
 
@@ -78,7 +53,7 @@ is_at_then s f g w u v a b =
 pub comes_loaded : (p q : PassState) (r u : ℕ) → HasLoaded p r u q → (u == 0) ≡ false → Comes p (loaded_free r u) q
 comes_loaded p q r u a some =
     reaches_named is_loading p q (CallIsAt p.seat (loaded_free r u) (world_of p)) (entry_loaded p u) []
-    (ap (λ (b : Bool). if b then entry_for p answer.Done else []) some) a
+    (ap (λ (b : Bool). if b then entry_for p Answer.Done else []) some) a
 
 pub comes_looking : (p q r : PassState) (f : Flight) → Comes p f q → OnlyLooks q r → Comes p f r
 comes_looking p q r f a b =
@@ -110,7 +85,7 @@ comes_seeing p q r f cell a b live =
     undecided : ComesTo is_loading q (CallIsAt q.seat f (world_of q)) [] r
     undecided =
         reaches_named is_loading q r (CallIsAt q.seat f (world_of q)) (entry_seen q (is_freed (now_of q).words cell)) []
-        (ap (λ (b : Bool). if b then entry_for q answer.Double else []) live)
+        (ap (λ (b : Bool). if b then entry_for q Answer.Double else []) live)
         (reaches_so is_loading q r (CallIsAt q.seat (seen_free (call_of q) (is_freed (now_of q).words cell))
         (world_of q)) (CallIsAt q.seat f (world_of q))
         (entry_seen q (is_freed (now_of q).words cell)) b
@@ -124,7 +99,7 @@ comes_seeing p q r f cell a b live =
 
 -- a decided call
 
-decided_at : (s : Seat) (f : Flight) (w v : World) → CallIsAt s f w v → f.stage ≡ stage.Give
+decided_at : (s : Seat) (f : Flight) (w v : World) → CallIsAt s f w v → f.stage ≡ Stage.Give
     → f.op ≡ (flight_of w.now s).op → IsDecidedAt s w v
 decided_at s f w v at give same =
     record {
@@ -191,7 +166,7 @@ decides_free kinds p q a d gone gates exact =
 -- Where the turn had done nothing, and the call only came to be decided
 module _ (p q : PassState) (f : Flight) (a : Answer)
     (at : ComesTo is_loading p (CallIsAt p.seat f (world_of p)) (entry_for p a) q)
-    (give : f.stage ≡ stage.Give) (same : f.op ≡ (call_of p).op) (nothing : (now_of p).seats.holding ≡ nothing_done)
+    (give : f.stage ≡ Stage.Give) (same : f.op ≡ (call_of p).op) (nothing : (now_of p).seats.holding ≡ nothing_done)
     (gates : none_is_held p.table.config.callers (now_of p).words ≡ true)
     (exact : TalliesAreExact p.table.config p.seen) where
   decides : Decides is_loading p a q
@@ -245,17 +220,17 @@ pub retires_null : (p q : PassState) (r u : ℕ) → IsUnloaded p r → HasLoade
     → TalliesAreExact p.table.config p.seen
     → IsHistory q.table.config q.seen → Holds p.table.config (now_of p) p.seat → Retires p r false q
 retires_null p q r u unloaded loaded none null nothing gates exact h holds =
-    let named : ComesTo is_loading p (CallIsAt p.seat (loaded_free r u) (world_of p)) (entry_for p answer.Done) q =
+    let named : ComesTo is_loading p (CallIsAt p.seat (loaded_free r u) (world_of p)) (entry_for p Answer.Done) q =
     reaches_named is_loading p q (CallIsAt p.seat (loaded_free r u) (world_of p)) (entry_loaded p u)
-    (entry_for p answer.Done)
-    (ap (λ (b : Bool). if b then entry_for p answer.Done else []) none) loaded in
-    let give : (loaded_free r u).stage ≡ stage.Give = ap (λ (b : Bool). if b then stage.Give else stage.Turn) none in
+    (entry_for p Answer.Done)
+    (ap (λ (b : Bool). if b then entry_for p Answer.Done else []) none) loaded in
+    let give : (loaded_free r u).stage ≡ Stage.Give = ap (λ (b : Bool). if b then Stage.Give else Stage.Turn) none in
     let same : (loaded_free r u).op ≡ (call_of p).op = sym (ap (λ (f : Flight). f.op) unloaded.call) in
     record {
-      decides = free_wider is_loading is_freeing load_frees answer.Done p q
-          (leaves_all p q (loaded_free r u) answer.Done named give same nothing gates exact);
+      decides = free_wider is_loading is_freeing load_frees Answer.Done p q
+          (leaves_all p q (loaded_free r u) Answer.Done named give same nothing gates exact);
       unfreed = λ freed. subst (λ (v : Value). IsFreed (never_behind p.table.config p.seen) v) null freed;
-      allocations = same_allocations p q (loaded_free r u) answer.Done named give same nothing gates exact
+      allocations = same_allocations p q (loaded_free r u) Answer.Done named give same nothing gates exact
           ∙ ap (λ (v : Value). with_freed_object v (world_of p).allocations) (sym null);
       is_due = λ yes_due. absurd (true≢false (sym yes_due));
       not_due = λ is due. none_due is_loading p q loading_not loaded.does h holds due;
@@ -324,34 +299,34 @@ pub finds_freed : (p q s : PassState) (r u : ℕ) (cell : Cell) → IsUnloaded p
     → TalliesAreExact p.table.config p.seen → IsFreed (never_behind p.table.config p.seen) (value_of p r)
     → FindsFreed p r s
 finds_freed p q s r u cell unloaded come seen set nothing gates exact freed =
-    let f : Flight = record (loaded_free r u) { stage = stage.Give } in
-    let named : ComesTo is_loading q (CallIsAt q.seat f (world_of q)) (entry_for q answer.Double) s =
+    let f : Flight = record (loaded_free r u) { stage = Stage.Give } in
+    let named : ComesTo is_loading q (CallIsAt q.seat f (world_of q)) (entry_for q Answer.Double) s =
     reaches_named is_loading q s (CallIsAt q.seat f (world_of q)) (entry_seen q (is_freed (now_of q).words cell))
-    (entry_for q answer.Double)
-    (ap (λ (b : Bool). if b then entry_for q answer.Double else []) set)
+    (entry_for q Answer.Double)
+    (ap (λ (b : Bool). if b then entry_for q Answer.Double else []) set)
     (reaches_so is_loading q s (CallIsAt q.seat (seen_free (call_of q) (is_freed (now_of q).words cell)) (world_of q))
     (CallIsAt q.seat f (world_of q))
     (entry_seen q (is_freed (now_of q).words cell)) seen
     (λ at. record {
       call = at.call ∙ ap (λ (b : Bool). seen_free (call_of q) b) set
-          ∙ ap (λ (g : Flight). record g { stage = stage.Give }) (come_call p q (loaded_free r u) come);
+          ∙ ap (λ (g : Flight). record g { stage = Stage.Give }) (come_call p q (loaded_free r u) come);
       holding = at.holding;
       steady = at.steady;
       registers = at.registers;
       gates = at.gates;
     })) in
     let same : (loaded_free r u).op ≡ (call_of p).op = sym (ap (λ (g : Flight). g.op) unloaded.call) in
-    let joined : ComesTo is_loading p (CallIsAt p.seat f (world_of p)) (entry_for p answer.Double) s =
+    let joined : ComesTo is_loading p (CallIsAt p.seat f (world_of p)) (entry_for p Answer.Double) s =
     subst (λ (l : List Decided). ComesTo is_loading p (CallIsAt p.seat f (world_of p)) l s)
-    (ap (λ (g : Flight). entry_of (caller_number p.seat) g.op (Some answer.Double)) come.world.call
-    ∙ ap (λ (o : Op). entry_of (caller_number p.seat) o (Some answer.Double)) same)
+    (ap (λ (g : Flight). entry_of (caller_number p.seat) g.op (Some Answer.Double)) come.world.call
+    ∙ ap (λ (o : Op). entry_of (caller_number p.seat) o (Some Answer.Double)) same)
     (reaches_then is_loading is_loading is_loading (same_kinds is_loading) (same_kinds is_loading) p q s
     (CallIsAt p.seat (loaded_free r u) (world_of p))
-    (λ x. CallIsAt x.seat f (world_of x)) (CallIsAt p.seat f (world_of p)) [] (λ x. entry_for x answer.Double) come
+    (λ x. CallIsAt x.seat f (world_of x)) (CallIsAt p.seat f (world_of p)) [] (λ x. entry_for x Answer.Double) come
     named
     (λ v a b. is_at_then p.seat (loaded_free r u) f (world_of p) _ v a b)) in
     record {
-      decides = leaves_all p s f answer.Double joined refl same nothing gates exact;
+      decides = leaves_all p s f Answer.Double joined refl same nothing gates exact;
       freed = freed;
     }
 
@@ -452,19 +427,19 @@ retires p q t r u cell due unloaded come may keeps low f before h holds =
     let object : IsObjectAt q r cell = object_at q r u cell h may.free may.some may.target in
     let same : g.op ≡ (call_of p).op = sym (ap (λ (x : Flight). x.op) unloaded.call) in
     let table = come_table p q g come in
-    let d : Decides is_freeing p answer.Done t =
+    let d : Decides is_freeing p Answer.Done t =
     subst (λ (l : List Decided). ComesTo is_freeing p (IsDecidedAt p.seat (world_of p)) l t)
-    (ap (λ (x : Flight). entry_of (caller_number p.seat) x.op (Some answer.Done)) come.world.call
-    ∙ ap (λ (o : Op). entry_of (caller_number p.seat) o (Some answer.Done)) same)
+    (ap (λ (x : Flight). entry_of (caller_number p.seat) x.op (Some Answer.Done)) come.world.call
+    ∙ ap (λ (o : Op). entry_of (caller_number p.seat) o (Some Answer.Done)) same)
     (reaches_then is_loading is_freeing is_freeing load_frees (same_kinds is_freeing) p q t
     (CallIsAt p.seat g (world_of p))
-    (λ x. IsDecidedAt x.seat (world_of x)) (IsDecidedAt p.seat (world_of p)) [] (λ x. entry_for x answer.Done) come
+    (λ x. IsDecidedAt x.seat (world_of x)) (IsDecidedAt p.seat (world_of p)) [] (λ x. entry_for x Answer.Done) come
     f.reaches
     (λ v a b. decided_come p.seat g (world_of p) _ v a same b)) in
     let once = once_behind is_loading p q t loading_not come.does h holds f.once in
     let exactly = subst (λ (y : WordsState). IsExactly y due (world_of t).allocations) (sym table) f.exactly in
     record {
-      decides = decides_free is_freeing p t answer.Done d f.gone
+      decides = decides_free is_freeing p t Answer.Done d f.gone
           (subst (λ (y : WordsState). (j : ℕ) → j < y.config.callers → is_held (now_of t).words j ≡ false) (sym table)
           f.gates) f.exact;
       unfreed = not_never_freed p q r g cell come before h object keeps low may.live;

@@ -1,47 +1,20 @@
 -- The look at the quarantine word of a Free's target: where its freed bit is set, the Free is a double one.
-use Rattle.std.proofs.Common.{◌≡◌, ℕ, ◌<◌, Bool, true, false, List, [], length, refl, sym, ap, subst, ◌∙◌}
-use Rattle.std.specs.Prelude.{◌&&◌, Option, Some, None, if◌then◌else◌, slice_index}
-use Rattle.std.proofs.lemmas.Bool.{eq-eqb}
-use Rattle.mk_never.specs.declared.operations.Op.{Op}
-use Rattle.mk_geom.specs.declared.addresses.Cell.{Cell}
-use Rattle.mk_core.specs.declared.config.Config.{Config}
-use Rattle.mk_core.specs.declared.events.Answer.TheVariants as answer
-use Rattle.mk_core.specs.declared.events.Seat.{Seat}
-use Rattle.mk_core.specs.declared.events.Seat.TheVariants.{Caller}
-use Rattle.mk_core.specs.declared.events.Step.TheVariants as step
-use Rattle.mk_core.specs.declared.events.Word.TheVariants as word
-use Rattle.mk_core.specs.declared.seats.Flight.{Flight}
-use Rattle.mk_core.specs.declared.seats.Progress.{Progress}
-use Rattle.mk_core.specs.declared.seats.Stage.TheVariants as stage
-use Rattle.mk_core.specs.Accesses.{caller_number}
-use Rattle.mk_core.specs.Bits.{has_bit}
-use Rattle.mk_core.specs.Cells.{is_freed, pointed_cell}
-use Rattle.mk_core.specs.Decided.{entry_of}
-use Rattle.mk_core.specs.Effects.{answer_decided, sees_double}
-use Rattle.mk_core.specs.Frames.{Steady}
-use Rattle.mk_core.specs.History.{World, world_behind}
-use Rattle.mk_core.specs.Moments.{flight_of}
-use Rattle.mk_core.specs.NewPlaces.{is_undecided_free, target}
-use Rattle.mk_core.specs.Words.{Words}
-use Rattle.mk_geom.specs.declared.pages.Page.{Page}
-use Rattle.mk_core.specs.Readings.{Holds}
-use Rattle.mk_laws.proofs.Known.{Known}
-use Rattle.mk_laws.proofs.OthersCounts.{answers_full}
-use Rattle.mk_words.specs.States.{PassState, call_of, now_of, world_of}
-use Rattle.mk_words.specs.TurnSteps.{Acts, IsTurn}
-use Rattle.mk_objects.specs.Unchanged.{IsAsLeft}
-use Rattle.mk_objects.proofs.Looks.{acting_caller}
-use Rattle.mk_objects.proofs.MayAct.{free_is_acting}
+use Rattle.mk_laws.proofs.Vocabulary.{Answer, Bool, Caller, Cell, Config, Flight, Holds, List, None, Op, Option, Page}
+use Rattle.mk_laws.proofs.Vocabulary.{Progress, Seat, Some, Stage, Steady, Step, Word, Words, World, ℕ, answer_decided}
+use Rattle.mk_laws.proofs.Vocabulary.{ap, caller_number, entry_of, eq-eqb, false, flight_of, has_bit, if◌then◌else◌}
+use Rattle.mk_laws.proofs.Vocabulary.{is_freed, is_undecided_free, length, pointed_cell, refl, sees_double, slice_index}
+use Rattle.mk_laws.proofs.Vocabulary.{subst, sym, target, true, world_behind, [], ◌&&◌, ◌<◌, ◌∙◌, ◌≡◌}
+use Rattle.mk_objects.proofs.Vocabulary.{Acts, CallIsAt, IsAsLeft, IsTurn, Known, PassState, answers_full, call_of}
+use Rattle.mk_objects.proofs.Vocabulary.{is_loading, now_of, value_of, world_of}
 use Rattle.mk_objects.proofs.Reaching.{reaches_nothing, reaches_on}
-use Rattle.mk_objects.specs.Retiring.{CallIsAt, HasSeen, answer_seen, entry_seen, is_loading, seen_free, value_of}
-use Rattle.mk_objects.proofs.LoadedFrees.{value_kept}
-use Rattle.mk_objects.proofs.Unchanged.{call_behind}
+use Rattle.mk_objects.proofs.{LoadedFrees.value_kept, Looks.acting_caller, MayAct.free_is_acting, Unchanged.call_behind}
+use Rattle.mk_objects.specs.Retiring.{HasSeen, answer_seen, entry_seen, seen_free}
 
 pub target_same : (pages : ℕ) (w v : Words) (f : Flight) → v.pages ≡ w.pages → target pages v f ≡ target pages w f
 target_same pages w v f same = ap (λ (ps : List Page). if is_undecided_free f then pointed_cell pages ps f.p
     else None) same
 
-seen_at : (w : Words) (cell : Cell) → sees_double w (Some cell) (word.Quar cell.page) ≡ is_freed w cell
+seen_at : (w : Words) (cell : Cell) → sees_double w (Some cell) (Word.Quar cell.page) ≡ is_freed w cell
 seen_at w cell = ap (λ b. b && is_freed w cell) (eq-eqb cell.page cell.page refl)
 
 pub freed_same : (w v : Words) (cell : Cell) → v.freed ≡ w.freed → is_freed v cell ≡ is_freed w cell
@@ -50,18 +23,18 @@ freed_same w v cell same = ap (λ (xs : List ℕ). has_bit (slice_index xs cell.
 -- what is seen of the target in a world that is as it was left
 seen_now : (c : Config) (k : ℕ) (cell : Cell) (w v : World) → IsAsLeft (Caller k) w v
     → target c.pages w.now.words (flight_of w.now (Caller k)) ≡ Some cell
-    → sees_double v.now.words (target c.pages v.now.words (flight_of v.now (Caller k))) (word.Quar cell.page)
+    → sees_double v.now.words (target c.pages v.now.words (flight_of v.now (Caller k))) (Word.Quar cell.page)
     ≡ is_freed w.now.words cell
 seen_now c k cell w v kept at =
     let there : target c.pages v.now.words (flight_of v.now (Caller k)) ≡ Some cell =
     ap (λ (f : Flight). target c.pages v.now.words f) kept.call
     ∙ target_same c.pages w.now.words v.now.words (flight_of w.now (Caller k))
     (ap (λ (x : Steady). x.pages) kept.steady) ∙ at in
-    ap (λ (x : Option Cell). sees_double v.now.words x (word.Quar cell.page)) there ∙ seen_at v.now.words cell
+    ap (λ (x : Option Cell). sees_double v.now.words x (Word.Quar cell.page)) there ∙ seen_at v.now.words cell
     ∙ freed_same w.now.words v.now.words cell (ap (λ (x : Steady). x.freed) kept.steady)
 
 abbrev progress_seen : Flight → Bool → Progress
-progress_seen f b = if b then record { flight = record f { stage = stage.Give }; answer = Some answer.Double }
+progress_seen f b = if b then record { flight = record f { stage = Stage.Give }; answer = Some Answer.Double }
     else record { flight = f; answer = None }
 
 seen_flight : (f : Flight) (b : Bool) → (progress_seen f b).flight ≡ seen_free f b
@@ -74,8 +47,8 @@ seen_answer f false = refl
 
 pub record SeesBy (c : Config) (k : ℕ) (cell : Cell) (w v : World) : Type 0 where
   pub at : CallIsAt (Caller k) (seen_free (flight_of w.now (Caller k)) (is_freed w.now.words cell)) w
-      (world_behind c v (record { seat = Caller k; step = step.Look (word.Quar cell.page) }))
-  pub answer : answer_decided c v.now (record { seat = Caller k; step = step.Look (word.Quar cell.page) })
+      (world_behind c v (record { seat = Caller k; step = Step.Look (Word.Quar cell.page) }))
+  pub answer : answer_decided c v.now (record { seat = Caller k; step = Step.Look (Word.Quar cell.page) })
       ≡ answer_seen (is_freed w.now.words cell)
 
 pub sees_by : (c : Config) (k : ℕ) (cell : Cell) (w v : World) → k < length v.now.seats.flights
@@ -85,7 +58,7 @@ sees_by c k cell w v lt kept at =
     let seen = seen_now c k cell w v kept at in
     record {
       at = record {
-        call = call_behind c v.now k (step.Look (word.Quar cell.page)) lt
+        call = call_behind c v.now k (Step.Look (Word.Quar cell.page)) lt
             ∙ ap (λ b. (progress_seen (flight_of v.now (Caller k)) b).flight) seen
             ∙ ap (λ (f : Flight). (progress_seen f (is_freed w.now.words cell)).flight) kept.call
             ∙ seen_flight (flight_of w.now (Caller k)) (is_freed w.now.words cell);
@@ -104,7 +77,7 @@ seen_no_full false = refl
 
 -- at the seat of a pass
 seen_entry : (k : ℕ) (o : Op) (b : Bool)
-    → entry_of k o (answer_seen b) ≡ (if b then entry_of k o (Some answer.Double) else [])
+    → entry_of k o (answer_seen b) ≡ (if b then entry_of k o (Some Answer.Double) else [])
 seen_entry k o true = refl
 seen_entry k o false = refl
 
@@ -112,8 +85,8 @@ module _ (p : PassState) (cell : Cell) (v : World) (known : Known p.table.config
   abbrev Sees : Seat → Type 0
   Sees s =
       CallIsAt s (seen_free (flight_of (now_of p) s) (is_freed (now_of p).words cell)) (world_of p)
-      (world_behind p.table.config v (record { seat = s; step = step.Look (word.Quar cell.page) }))
-      × (answer_decided p.table.config v.now (record { seat = s; step = step.Look (word.Quar cell.page) })
+      (world_behind p.table.config v (record { seat = s; step = Step.Look (Word.Quar cell.page) }))
+      × (answer_decided p.table.config v.now (record { seat = s; step = Step.Look (Word.Quar cell.page) })
       ≡ answer_seen (is_freed (now_of p).words cell))
 
   sees : (s : Seat) (k : ℕ) → s ≡ Caller k → IsAsLeft s (world_of p) v → Holds p.table.config (now_of p) s
@@ -127,14 +100,14 @@ module _ (p : PassState) (cell : Cell) (v : World) (known : Known p.table.config
       subst (λ (x : Seat). Sees x) (sym e) (by.at, by.answer)
 
 pub see_reaches : (p q : PassState) (cell : Cell) (o : Option Op) → IsTurn p o → is_undecided_free (call_of p) ≡ true
-    → target p.table.config.pages (now_of p).words (call_of p) ≡ Some cell → Acts p (step.Look (word.Quar cell.page)) q
+    → target p.table.config.pages (now_of p).words (call_of p) ≡ Some cell → Acts p (Step.Look (Word.Quar cell.page)) q
     → HasSeen p cell q
 see_reaches p q cell o turn free at a =
     let caller = acting_caller p (free_is_acting (call_of p) free) in
     let double : Bool = is_freed (now_of p).words cell in
     reaches_on is_loading p p q (λ w. w ≡ world_of p) (CallIsAt p.seat (seen_free (call_of p) double) (world_of p)) []
     (entry_seen p double)
-    (step.Look (word.Quar cell.page)) (reaches_nothing is_loading p (λ w. w ≡ world_of p) refl) a refl refl
+    (Step.Look (Word.Quar cell.page)) (reaches_nothing is_loading p (λ w. w ≡ world_of p) refl) a refl refl
     caller
     (λ w v first kept known pages.
     let kept : IsAsLeft p.seat (world_of p) v = subst (λ (x : World). IsAsLeft p.seat x v) first kept in
@@ -146,15 +119,15 @@ see_reaches p q cell o turn free at a =
       no_full = seen_no_full double;
       entry = λ k is.
           ap (λ (f : Flight). entry_of k f.op (answer_seen double)) kept.call ∙ seen_entry k (call_of p).op double
-          ∙ ap (λ i. if double then entry_of i (call_of p).op (Some answer.Double) else []) (sym (ap caller_number is));
+          ∙ ap (λ i. if double then entry_of i (call_of p).op (Some Answer.Double) else []) (sym (ap caller_number is));
     })
 
 -- A look that finds its target unfreed decides nothing.
 pub see_keeps : (p q : PassState) (r : ℕ) (cell : Cell) (o : Option Op) → r < 8 → IsTurn p o
     → is_undecided_free (call_of p) ≡ true
     → target p.table.config.pages (now_of p).words (call_of p) ≡ Some cell → is_freed (now_of p).words cell ≡ false
-    → Acts p (step.Look (word.Quar cell.page)) q → value_of q r ≡ value_of p r
+    → Acts p (Step.Look (Word.Quar cell.page)) q → value_of q r ≡ value_of p r
 see_keeps p q r cell o small turn free at live a =
     let caller = acting_caller p (free_is_acting (call_of p) free) in
-    value_kept p q r (step.Look (word.Quar cell.page)) caller small a
+    value_kept p q r (Step.Look (Word.Quar cell.page)) caller small a
     (λ v kept known. (sees p cell v known p.seat caller.number caller.is kept turn.holds at).1 ∙ ap answer_seen live)

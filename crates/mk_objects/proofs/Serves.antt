@@ -1,54 +1,23 @@
 -- The turn's holder serves its New, step by step.
-use Rattle.std.proofs.Common.{◌≡◌, ◌≢◌, ℕ, ◌+◌, ◌<◌, true, false, List, [], length, refl, sym, ◌∙◌, ap, subst, inl, inr}
-use Rattle.std.proofs.Common.{◌⊎◌, arith}
-use Rattle.std.specs.Prelude.{Option, Some, slice_index_or}
-use Rattle.std.proofs.lemmas.Bool.{cases_eq}
-use Rattle.mk_never.specs.declared.operations.Op.{Op}
-use Rattle.mk_geom.specs.declared.pages.Page.{Page}
-use Rattle.mk_geom.specs.declared.pages.Place.{Place}
-use Rattle.mk_geom.specs.Storages.{free_page}
-use Rattle.mk_core.specs.declared.config.Config.{Config}
-use Rattle.mk_core.specs.declared.events.Seat.{Seat}
-use Rattle.mk_core.specs.declared.events.Step.TheVariants as step
-use Rattle.mk_core.specs.declared.seats.Flight.{Flight}
-use Rattle.mk_core.specs.declared.seats.Object.{Object}
-use Rattle.mk_core.specs.declared.seats.Placing.{Placing}
-use Rattle.mk_core.specs.declared.seats.Placing.TheVariants.{Unplaced}
-use Rattle.mk_core.specs.Bits.{has_bit}
-use Rattle.mk_core.specs.Frames.{Steady}
-use Rattle.mk_core.specs.History.{World, IsHistory, left}
-use Rattle.mk_core.specs.Moments.{Moment, flight_of}
-use Rattle.mk_core.specs.NewPlaces.{bits_made, header_made, is_undecided_new, object_made, pages_made, place_by_placing}
-use Rattle.mk_core.specs.NewPlaces.{place_on_pages}
-use Rattle.mk_core.specs.ObjectHeaders.{IsSized}
-use Rattle.mk_core.specs.TurnConditions.{is_used_once, place_now}
-use Rattle.mk_core.specs.Words.{header_at, phase_of, used_at}
-use Rattle.mk_core.proofs.Lengths.{histories_keep_lengths}
-use Rattle.mk_core.proofs.ObjectHeaders.{made_is_mapped, made_shows, part_not_free}
-use Rattle.mk_core.proofs.Sizes.{pages_some, small_pages}
-use Rattle.mk_core.proofs.WordBits.{no_bit}
-use Rattle.mk_laws.proofs.Known.{known_left}
+use Rattle.mk_laws.proofs.Vocabulary.{Config, Flight, IsHistory, IsSized, List, Moment, Object, Op, Option, Page, Place}
+use Rattle.mk_laws.proofs.Vocabulary.{Placing, Seat, Some, Steady, Step, Unplaced, World, ℕ, ap, arith, cases_eq, false}
+use Rattle.mk_laws.proofs.Vocabulary.{flight_of, free_page, ground_of, has_bit, header_at, header_made}
+use Rattle.mk_laws.proofs.Vocabulary.{histories_keep_lengths, inl, inr, is_phase, is_undecided_new, is_used_once}
+use Rattle.mk_laws.proofs.Vocabulary.{layout_scene_of, left, length, made_is_mapped, made_shows, no_bit, object_made}
+use Rattle.mk_laws.proofs.Vocabulary.{object_now, pages_made, pages_some, part_not_free, phase_of, place_by_placing}
+use Rattle.mk_laws.proofs.Vocabulary.{place_now, place_on_pages, refl, slice_index_or, small_pages, subst, sym, true}
+use Rattle.mk_laws.proofs.Vocabulary.{used_at, [], ◌+◌, ◌<◌, ◌∙◌, ◌≡◌, ◌≢◌, ◌⊎◌}
+use Rattle.mk_objects.proofs.Vocabulary.{Acts, Carving, GoesTo, HasCarved, IsAsLeft, IsCellReady, IsEnabledTo}
+use Rattle.mk_objects.proofs.Vocabulary.{IsOutOfStop, IsTurn, MayTake, PassState, Serving, bits_made, call_of}
+use Rattle.mk_objects.proofs.Vocabulary.{histories_keep_the_invariant, is_acting, is_placing, known_left, now_of}
+use Rattle.mk_objects.proofs.Vocabulary.{object_for, world_of}
 use Rattle.mk_laws.proofs.Fits.{FitsInBlock, FitsOnFreePages, fits}
-use Rattle.mk_laws.proofs.LayoutHolders.{made_sized}
-use Rattle.mk_laws.proofs.LayoutReadings.{free_unused}
-use Rattle.mk_laws.specs.Terrain.{object_now, layout_scene_of}
-use Rattle.mk_laws.specs.Ground.{ground_of}
-use Rattle.mk_core.specs.Moments.{is_phase}
-use Rattle.mk_laws.proofs.InvariantHistories.{histories_keep_the_invariant}
-use Rattle.mk_words.specs.States.{PassState, call_of, now_of, world_of}
-use Rattle.mk_words.specs.Steps.{IsEnabledTo}
-use Rattle.mk_words.specs.TurnSteps.{Acts, IsTurn}
-use Rattle.mk_objects.specs.Looking.{is_acting}
-use Rattle.mk_objects.specs.Placing.{GoesTo, HasCarved, IsOutOfStop, MayTake, is_placing, object_for}
-use Rattle.mk_objects.specs.Serving.{Carving, IsCellReady, Serving}
-use Rattle.mk_objects.specs.Unchanged.{IsAsLeft}
-use Rattle.mk_objects.proofs.FoundPlaces.{found_clear}
+use Rattle.mk_laws.proofs.{LayoutHolders.made_sized, LayoutReadings.free_unused}
 use Rattle.mk_objects.proofs.Granting.{carving_marked, carving_unmarked, serving_marks}
-use Rattle.mk_objects.proofs.Looks.{acting_caller, acting_now}
 use Rattle.mk_objects.proofs.MayAct.{IsActing, may_carve, may_mark_place, new_is_acting}
 use Rattle.mk_objects.proofs.Reaching.{IsCallers, reaches_nothing, reaches_still}
 use Rattle.mk_objects.proofs.Serving.{carving_carves, carving_left, carving_more, ready_carved, serving_left}
-use Rattle.mk_objects.proofs.Unchanged.{acting_has_call}
+use Rattle.mk_objects.proofs.{FoundPlaces.found_clear, Looks.acting_caller, Looks.acting_now, Unchanged.acting_has_call}
 
 -- What is known of the place before the first step that serves.
 pub record KnowsPlace (p : PassState) (place : Place) : Type 0 where
@@ -167,7 +136,7 @@ module _ (p : PassState) (place : Place) (goes : GoesTo p place) (k : KnowsPlace
   frees : FitsOnFreePages p.table.config.resident (now_of p).words.pages (object_for p) place
   frees = free_pages_of p place k free
 
-  pub mark_may : phase_of (now_of p).words ≡ 1 → IsEnabledTo p (step.Mark place.page (bits_made (object_for p)))
+  pub mark_may : phase_of (now_of p).words ≡ 1 → IsEnabledTo p (Step.Mark place.page (bits_made (object_for p)))
   mark_may one =
       may_mark_place p.table.config (now_of p) p.seat k.acting place.page (bits_made (object_for p)) k.within one
       (serving_marks p.table.config p.seat (object_for p) place (world_of p) (world_of p) k.serving one free)
@@ -178,11 +147,11 @@ module _ (p : PassState) (place : Place) (goes : GoesTo p place) (k : KnowsPlace
       ∙ frees.free d lt
 
   pub marks_first : (q : PassState) → phase_of (now_of p).words ≡ 1
-      → Acts p (step.Mark place.page (bits_made (object_for p))) q → HasCarved p place 0 q
+      → Acts p (Step.Mark place.page (bits_made (object_for p))) q → HasCarved p place 0 q
   marks_first q one a =
       reaches_still is_placing p p q (λ w. w ≡ world_of p)
       (λ w. Carving p.table.config p.seat (object_for p) place (world_of p) w 0) []
-      (step.Mark place.page (bits_made (object_for p)))
+      (Step.Mark place.page (bits_made (object_for p)))
       (reaches_nothing is_placing p (λ w. w ≡ world_of p) refl) a refl refl k.caller refl
       (λ w v here kept known pages.
       let kept : IsAsLeft p.seat (world_of p) v = subst (λ (x : World). IsAsLeft p.seat x v) here kept in
@@ -209,12 +178,12 @@ module _ (p : PassState) (place : Place) (goes : GoesTo p place) (k : KnowsPlace
 
   -- `head`
   pub head_may : (q : PassState) (n : ℕ) → HasCarved p place n q → n < pages_made (object_for p)
-      → IsEnabledTo q (step.Head (place.page + n) (header_made (object_for p) n))
+      → IsEnabledTo q (Step.Head (place.page + n) (header_made (object_for p) n))
   head_may q n reached lt =
       let w : World = left p.table.config q.seen in
       let ends = frees.within in
       let lengths = k.serving.pages in
-      subst (λ (x : PassState). IsEnabledTo x (step.Head (place.page + n) (header_made (object_for p) n)))
+      subst (λ (x : PassState). IsEnabledTo x (Step.Head (place.page + n) (header_made (object_for p) n)))
       (sym reached.same)
       (may_carve p.table.config w.now p.seat (served_acting p place w k reached.world.serving) (place.page + n)
       (header_made (object_for p) n)
@@ -224,13 +193,13 @@ module _ (p : PassState) (place : Place) (goes : GoesTo p place) (k : KnowsPlace
       (carving_carves p.table.config p.seat (object_for p) place (world_of p) w n k.sized reached.world lt))
 
   pub heads_on : (q r : PassState) (n : ℕ) → HasCarved p place n q → n < pages_made (object_for p)
-      → Acts q (step.Head (place.page + n) (header_made (object_for p) n)) r → HasCarved p place (n + 1) r
+      → Acts q (Step.Head (place.page + n) (header_made (object_for p) n)) r → HasCarved p place (n + 1) r
   heads_on q r n reached lt a =
       let ends = frees.within in
       let lengths = k.serving.pages in
       reaches_still is_placing p q r (λ w. Carving p.table.config p.seat (object_for p) place (world_of p) w n)
       (λ w. Carving p.table.config p.seat (object_for p) place (world_of p) w (n + 1)) []
-      (step.Head (place.page + n) (header_made (object_for p) n))
+      (Step.Head (place.page + n) (header_made (object_for p) n))
       reached a refl refl k.caller refl
       (λ w v here kept known pages.
       let on = carving_left p.table.config p.seat (object_for p) place (world_of p) w v n here kept in

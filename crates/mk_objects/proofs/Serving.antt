@@ -1,37 +1,17 @@
 -- A New while it is served: how far its pages are, step by step.
-use Rattle.std.proofs.Common.{◌≡◌, ◌≢◌, ℕ, ◌+◌, ◌-◌, ◌<◌, ◌^◌, ◌%◌, true, false, List, length, refl, sym, ap, ◌∙◌, inl}
-use Rattle.std.proofs.Common.{inr, arith}
-use Rattle.std.specs.Prelude.{not, ◌==◌, Option, Some, slice_index, slice_index_or, slice_set}
-use Rattle.std.proofs.lemmas.Bool.{and_from, cases_eq, cases_lt, eq-eqb, ne_eqb, le-leb, lt-ltb}
-use Rattle.std.proofs.lemmas.List.{get_or-set_same, get_or-set_other, length-set, set_past}
-use Rattle.mk_geom.specs.declared.pages.Page.{Page}
-use Rattle.mk_geom.specs.declared.pages.Place.{Place}
-use Rattle.mk_geom.specs.Storages.{free_page}
-use Rattle.mk_core.specs.declared.config.Config.{Config}
-use Rattle.mk_core.specs.declared.events.Seat.{Seat}
-use Rattle.mk_core.specs.declared.events.Step.TheVariants as step
-use Rattle.mk_core.specs.declared.seats.Flight.{Flight}
-use Rattle.mk_core.specs.declared.seats.Holding.{Holding}
-use Rattle.mk_core.specs.declared.seats.Object.{Object}
-use Rattle.mk_core.specs.declared.seats.Placing.{Placing}
-use Rattle.mk_core.specs.declared.seats.Placing.TheVariants.{Unplaced, Chosen, Used, Granted}
-use Rattle.mk_core.specs.Bits.{has_bit}
-use Rattle.mk_core.specs.Effects.{chosen, taken}
-use Rattle.mk_core.specs.Frames.{Steady, steady_of}
-use Rattle.mk_core.specs.History.{World, world_behind}
-use Rattle.mk_core.specs.Moments.{Moment, flight_of, is_phase}
-use Rattle.mk_core.specs.NewPlaces.{bits_made, header_made, is_next_header, is_undecided_new, object_made, pages_made}
-use Rattle.mk_core.specs.NewPlaces.{place_by_placing, stands}
-use Rattle.mk_core.specs.ObjectHeaders.{IsSized}
-use Rattle.mk_core.specs.TurnConditions.{carves, is_marked_first, is_used_once, place_now, takes_cell}
-use Rattle.mk_core.specs.Words.{Words, header_at, used_at}
-use Rattle.mk_core.proofs.ObjectHeaders.{made_shows, part_not_free}
-use Rattle.mk_laws.proofs.Tests.{all_below_from, or_on, without_on}
-use Rattle.mk_objects.specs.Placing.{IsOutOfStop}
-use Rattle.mk_objects.specs.Serving.{Carving, IsCellReady, Serving}
-use Rattle.mk_objects.specs.Unchanged.{IsAsLeft}
-use Rattle.mk_objects.proofs.MayAct.{off_four}
-use Rattle.mk_objects.proofs.Unchanged.{HasCall, OfCaller, call_behind}
+use Rattle.mk_laws.proofs.Vocabulary.{Chosen, Config, Flight, Granted, Holding, IsSized, List, Moment, Object, Option}
+use Rattle.mk_laws.proofs.Vocabulary.{Page, Place, Placing, Seat, Some, Steady, Step, Unplaced, Used, Words, World, ℕ}
+use Rattle.mk_laws.proofs.Vocabulary.{and_from, ap, arith, carves, cases_eq, cases_lt, chosen, eq-eqb, false, flight_of}
+use Rattle.mk_laws.proofs.Vocabulary.{free_page, get_or-set_other, get_or-set_same, has_bit, header_at, header_made}
+use Rattle.mk_laws.proofs.Vocabulary.{inl, inr, is_marked_first, is_next_header, is_phase, is_undecided_new}
+use Rattle.mk_laws.proofs.Vocabulary.{is_used_once, le-leb, length, length-set, lt-ltb, made_shows, ne_eqb, not}
+use Rattle.mk_laws.proofs.Vocabulary.{object_made, pages_made, part_not_free, place_by_placing, place_now, refl}
+use Rattle.mk_laws.proofs.Vocabulary.{set_past, slice_index, slice_index_or, slice_set, stands, sym, taken, takes_cell}
+use Rattle.mk_laws.proofs.Vocabulary.{true, used_at, world_behind, ◌%◌, ◌+◌, ◌-◌, ◌<◌, ◌==◌, ◌^◌, ◌∙◌, ◌≡◌, ◌≢◌}
+use Rattle.mk_objects.proofs.Vocabulary.{Carving, IsAsLeft, IsCellReady, IsOutOfStop, Serving, all_below_from}
+use Rattle.mk_objects.proofs.Vocabulary.{bits_made, steady_of}
+use Rattle.mk_laws.proofs.Tests.{or_on, without_on}
+use Rattle.mk_objects.proofs.{MayAct.off_four, Unchanged.HasCall, Unchanged.OfCaller, Unchanged.call_behind}
 
 -- What others do leaves it so.
 
@@ -139,13 +119,13 @@ pub carving_more : (c : Config) (s : Seat) (o : Object) (place : Place) (w v : W
     → Carving c s o place w v n → HasCall c v.now s
     → is_undecided_new (flight_of v.now s) ≡ true → IsOutOfStop v.now → n < pages_made o → place.page + n < c.pages
     → Carving c s o place w
-    (world_behind c v (record { seat = s; step = step.Head (place.page + n) (header_made o n) })) (n + 1)
+    (world_behind c v (record { seat = s; step = Step.Head (place.page + n) (header_made o n) })) (n + 1)
 carving_more c s o place w v n at (OfCaller k lt) new low within room =
     let p = place.page + n in
-    let call = call_behind c v.now k (step.Head p (header_made o n)) lt in
+    let call = call_behind c v.now k (Step.Head p (header_made o n)) lt in
     let there : p < length v.now.words.pages = omega (arith, at.serving.pages) in
     let placing = new_placed c v.now (flight_of v.now s) place new at.serving.placed at.serving.once in
-    let u : World = world_behind c v (record { seat = s; step = step.Head p (header_made o n) }) in
+    let u : World = world_behind c v (record { seat = s; step = Step.Head p (header_made o n) }) in
     let fixed : u.now.seats.holding.placing ≡ Chosen place = rw (off_four v.now low) placing in
     record {
       serving = record {
@@ -251,10 +231,10 @@ taken_left c s o place w u v at left =
 
 pub taken_behind : (c : Config) (s : Seat) (o : Object) (place : Place) (w v : World) (p value : ℕ)
     → Serving c s o place w v → HasCall c v.now s
-    → IsOutOfStop v.now → IsTakenAt c s o place w (world_behind c v (record { seat = s; step = step.Used p value }))
+    → IsOutOfStop v.now → IsTakenAt c s o place w (world_behind c v (record { seat = s; step = Step.Used p value }))
 taken_behind c s o place w v p value at (OfCaller k lt) low =
-    let call = call_behind c v.now k (step.Used p value) lt in
-    let u : World = world_behind c v (record { seat = s; step = step.Used p value }) in
+    let call = call_behind c v.now k (Step.Used p value) lt in
+    let u : World = world_behind c v (record { seat = s; step = Step.Used p value }) in
     record {
       call = call ∙ at.call;
       object = ap (λ (f : Flight). object_made c f.op) call ∙ at.object;

@@ -1,34 +1,19 @@
 -- Gates are held and opened, one after the other.
-use Rattle.std.proofs.Common.{◌≡◌, ◌≢◌, ℕ, ◌+◌, ◌<◌, ◌≤◌, Bool, true, false, [], length, refl, sym, ◌∙◌, ap, subst}
-use Rattle.std.proofs.Common.{inl, inr, arith}
-use Rattle.std.specs.Prelude.{◌&&◌, not, ◌==◌, nat_lt, OnErr, OnOk, Option, is_ok}
-use Rattle.std.specs.declared.result.Result.{Result}
+use Rattle.std.proofs.Common.{OnErr, OnOk, is_ok, le-ltb}
 use Rattle.std.specs.declared.result.Result.TheVariants.{Err, Ok}
-use Rattle.std.proofs.lemmas.Bool.{cases_eq, cases_lt, le-ltb, lt-ltb, not-true}
-use Rattle.std.proofs.lemmas.List.{get_or-set_other, get_or-set_same}
-use Rattle.mk_never.specs.declared.operations.Op.{Op}
-use Rattle.mk_core.specs.declared.config.Config.{Config}
-use Rattle.mk_core.specs.declared.events.Seat.{Seat}
-use Rattle.mk_core.specs.declared.events.Step.{Step}
-use Rattle.mk_core.specs.declared.events.Step.TheVariants as step
-use Rattle.mk_core.specs.declared.seats.Flight.{Flight}
-use Rattle.mk_core.specs.Frames.{Steady}
-use Rattle.mk_core.specs.History.{World, world_behind}
-use Rattle.mk_core.specs.Moments.{is_held, is_number_of, none_is_held}
-use Rattle.mk_core.proofs.AllBelow.{all_below-at}
-use Rattle.mk_words.specs.States.{PassState, call_of, now_of, world_of}
-use Rattle.mk_words.specs.TurnSteps.{Acts, IsTurn}
-use Rattle.mk_objects.specs.FreeParts.{GateIsSet, HasGates, IsButGates, SetsGate, SetsGates, all_others, held_from}
-use Rattle.mk_objects.specs.FreeParts.{held_to, is_holding, is_settling}
-use Rattle.mk_objects.specs.Looking.{is_acting}
-use Rattle.mk_objects.specs.Placing.{IsOutOfStop}
-use Rattle.mk_objects.specs.Unchanged.{IsAsLeft}
+use Rattle.std.specs.declared.result.Result.{Result}
+use Rattle.mk_laws.proofs.Vocabulary.{Bool, Config, Flight, Op, Option, Seat, Steady, Step, World, ℕ, all_below-at, ap}
+use Rattle.mk_laws.proofs.Vocabulary.{arith, cases_eq, cases_lt, false, get_or-set_other, get_or-set_same, inl, inr}
+use Rattle.mk_laws.proofs.Vocabulary.{is_held, is_number_of, length, lt-ltb, nat_lt, not, not-true, phase_of, refl}
+use Rattle.mk_laws.proofs.Vocabulary.{subst, sym, true, world_behind, [], ◌&&◌, ◌+◌, ◌<◌, ◌==◌, ◌∙◌, ◌≡◌, ◌≢◌, ◌≤◌}
+use Rattle.mk_objects.proofs.Vocabulary.{Acts, HasGates, IsAsLeft, IsOutOfStop, IsTurn, PassState, SetsGate, SetsGates}
+use Rattle.mk_objects.proofs.Vocabulary.{all_others, call_of, held_from, held_to, is_acting, is_holding, is_settling}
+use Rattle.mk_objects.proofs.Vocabulary.{none_is_held, now_of, world_of}
 use Rattle.mk_objects.proofs.Looks.{acting_caller, acting_now, still_acting}
-use Rattle.mk_core.specs.Words.{phase_of}
-use Rattle.mk_objects.proofs.Serves.{out_of_stop}
-use Rattle.mk_objects.proofs.Reaching.{reaches_nothing, reaches_still, seeing}
 use Rattle.mk_objects.proofs.ReachedParts.{reaches_after, reaches_so, same_kinds}
 use Rattle.mk_objects.proofs.Unchanged.{HasCall, OfCaller, acting_has_call, call_behind}
+use Rattle.mk_objects.proofs.{Reaching.reaches_nothing, Reaching.reaches_still, Reaching.seeing, Serves.out_of_stop}
+use Rattle.mk_objects.specs.FreeParts.{GateIsSet, IsButGates}
 
 -- One gate may have changed.
 record AllButOne (s : Seat) (gate : ℕ) (w v : World) : Type 0 where
@@ -36,11 +21,11 @@ record AllButOne (s : Seat) (gate : ℕ) (w v : World) : Type 0 where
   others : (j : ℕ) → j ≢ gate → is_held v.now.words j ≡ is_held w.now.words j
 
 hold_behind : (c : Config) (s : Seat) (w v : World) (gate : ℕ) → IsAsLeft s w v → HasCall c v.now s
-    → AllButOne s gate w (world_behind c v (record { seat = s; step = step.Hold gate }))
+    → AllButOne s gate w (world_behind c v (record { seat = s; step = Step.Hold gate }))
 hold_behind c s w v gate kept (OfCaller k lt) =
     record {
       but_gates = record {
-        call = call_behind c v.now k (step.Hold gate) lt ∙ kept.call;
+        call = call_behind c v.now k (Step.Hold gate) lt ∙ kept.call;
         holding = kept.holding;
         steady = kept.steady;
       };
@@ -49,11 +34,11 @@ hold_behind c s w v gate kept (OfCaller k lt) =
 
 open_behind : (c : Config) (s : Seat) (w v : World) (gate : ℕ) → IsAsLeft s w v → HasCall c v.now s
     → gate < length v.now.words.gates
-    → GateIsSet s gate false w (world_behind c v (record { seat = s; step = step.Open gate }))
+    → GateIsSet s gate false w (world_behind c v (record { seat = s; step = Step.Open gate }))
 open_behind c s w v gate kept (OfCaller k lt) room =
     record {
       but_gates = record {
-        call = call_behind c v.now k (step.Open gate) lt ∙ kept.call;
+        call = call_behind c v.now k (Step.Open gate) lt ∙ kept.call;
         holding = kept.holding;
         steady = kept.steady;
       };
@@ -69,11 +54,11 @@ module _ (p q : PassState) (o : Option Op) (gate : ℕ) (turn : IsTurn p o)
       acting_has_call p.table.config v.now p.seat count (still_acting p.table.config p.seat (world_of p) v
       (acting_now p o turn acts) kept)
 
-  pub sets_hold : (held : Bool) → Acts p (step.Hold gate) q → is_held (now_of q).words gate ≡ held
+  pub sets_hold : (held : Bool) → Acts p (Step.Hold gate) q → is_held (now_of q).words gate ≡ held
       → SetsGate is_holding p gate held q
   sets_hold held a is =
       let step = reaches_still is_holding p p q (λ w. w ≡ world_of p) (AllButOne p.seat gate (world_of p)) []
-      (step.Hold gate)
+      (Step.Hold gate)
       (reaches_nothing is_holding p (λ w. w ≡ world_of p) refl) a refl refl (acting_caller p acts) refl
       (λ w v first kept known pages.
       let kept : IsAsLeft p.seat (world_of p) v = subst (λ (x : World). IsAsLeft p.seat x v) first kept in
@@ -85,10 +70,10 @@ module _ (p q : PassState) (o : Option Op) (gate : ℕ) (turn : IsTurn p o)
         others = all.others;
       })
 
-  pub sets_open : Acts p (step.Open gate) q → gate < p.table.config.callers → SetsGate is_settling p gate false q
+  pub sets_open : Acts p (Step.Open gate) q → gate < p.table.config.callers → SetsGate is_settling p gate false q
   sets_open a within =
       reaches_still is_settling p p q (λ w. w ≡ world_of p) (GateIsSet p.seat gate false (world_of p)) []
-      (step.Open gate)
+      (Step.Open gate)
       (reaches_nothing is_settling p (λ w. w ≡ world_of p) refl) a refl refl (acting_caller p acts) refl
       (λ w v first kept known pages.
       let kept : IsAsLeft p.seat (world_of p) v = subst (λ (x : World). IsAsLeft p.seat x v) first kept in

@@ -1,57 +1,35 @@
 -- A small object is freed and counted.
-use Rattle.std.proofs.Common.{◌≡◌, ◌↔◌, ℕ, ◌+◌, ◌*◌, ◌-◌, ◌<◌, ◌^◌, min, Bool, true, false, List, [], map, refl, sym}
-use Rattle.std.proofs.Common.{◌∙◌, ap, subst, arith}
-use Rattle.std.specs.Prelude.{not, IsTrue, Option, Some, None, if◌then◌else◌}
-use Rattle.std.proofs.lemmas.Bool.{not-true}
-use Rattle.mk_geom.specs.declared.addresses.Cell.{Cell}
-use Rattle.mk_geom.specs.declared.headers.Header.{Header}
-use Rattle.mk_geom.specs.declared.headers.Header.TheVariants.{LeafRun, Run}
-use Rattle.mk_geom.specs.PageUses.{or_else}
-use Rattle.mk_core.specs.declared.config.Config.{Config}
-use Rattle.mk_core.specs.declared.events.Answer.TheVariants as answer
-use Rattle.mk_core.specs.declared.events.Tally.TheVariants as tally
-use Rattle.mk_core.specs.declared.seats.Flight.{Flight}
-use Rattle.mk_core.specs.declared.seats.Holding.{Holding}
-use Rattle.mk_core.specs.declared.seats.RunPages.{RunPages}
-use Rattle.mk_core.specs.declared.seats.Stage.TheVariants as stage
-use Rattle.mk_core.specs.Allocations.{PlacedAllocation, freed_where_it_stands, fresh_words_of, held_by_allocations}
-use Rattle.mk_core.specs.Cells.{header_in, heads_run, run_headed, words_under}
-use Rattle.mk_core.specs.Counts.{TalliesAreExact, in_a_word}
-use Rattle.mk_core.specs.Effects.{words_freed}
-use Rattle.mk_core.specs.Frames.{Steady, steady_of}
-use Rattle.mk_core.specs.History.{IsHistory}
-use Rattle.mk_core.specs.Moments.{is_held, none_is_held}
-use Rattle.mk_core.specs.NewPlaces.{is_run_gone}
-use Rattle.mk_core.specs.Readings.{Holds}
-use Rattle.mk_core.proofs.AllBelow.{all_below-at}
+use Rattle.mk_laws.proofs.Vocabulary.{Answer, Bool, Cell, Config, Flight, Header, Holding, Holds, IsHistory, LeafRun}
+use Rattle.mk_laws.proofs.Vocabulary.{List, None, Option, PlacedAllocation, Run, RunPages, Some, Stage, Steady, Tally}
+use Rattle.mk_laws.proofs.Vocabulary.{ℕ, all_below-at, ap, arith, false, freed_where_it_stands, fresh_words_of}
+use Rattle.mk_laws.proofs.Vocabulary.{header_in, heads_run, if◌then◌else◌, in_a_word, is_held, is_run_gone, map, not}
+use Rattle.mk_laws.proofs.Vocabulary.{not-true, or_else, refl, run_headed, subst, sym, true, words_under, [], ◌*◌, ◌+◌}
+use Rattle.mk_laws.proofs.Vocabulary.{◌-◌, ◌<◌, ◌^◌, ◌↔◌, ◌∙◌, ◌≡◌}
+use Rattle.mk_objects.proofs.Vocabulary.{Changes, FreesCell, FreesOnce, HasFreed, IsFreedAt, IsOverQuarter, IsTrue}
+use Rattle.mk_objects.proofs.Vocabulary.{MayFree, OnlyLooks, PassState, SetsTally, StaysSo, WordsState, call_of}
+use Rattle.mk_objects.proofs.Vocabulary.{entry_for, held_by_allocations, is_acting, is_following, is_freeing, is_look}
+use Rattle.mk_objects.proofs.Vocabulary.{is_settling, min, none_is_held, now_of, steady_of, with_tally, words_freed}
+use Rattle.mk_objects.proofs.Vocabulary.{world_of}
+use Rattle.mk_core.specs.Counts.{TalliesAreExact}
 use Rattle.mk_laws.proofs.Tallies.{fresh_is_told}
-use Rattle.mk_words.specs.States.{PassState, WordsState, call_of, now_of, world_of}
-use Rattle.mk_objects.specs.Deciding.{FreesCell, MayFree, StaysSo, is_following}
-use Rattle.mk_objects.specs.Dues.{FreesOnce, IsOverQuarter}
-use Rattle.mk_objects.specs.FreeParts.{Changes, SetsTally, is_settling, with_tally}
-use Rattle.mk_objects.specs.Looking.{is_acting}
-use Rattle.mk_objects.specs.Placing.{OnlyLooks, entry_for, is_look}
-use Rattle.mk_objects.specs.Retiring.{HasFreed, IsFreedAt, is_freeing}
-use Rattle.mk_objects.proofs.DecidedFrees.{Stays, decides_before, following_not, fresh_stays, freed_decides}
+use Rattle.mk_objects.proofs.DecidedFrees.{Stays, decides_before, following_not, freed_decides, fresh_stays}
 use Rattle.mk_objects.proofs.DecidedFrees.{look_settles, looks_stay, settling_follows, stays_now, stays_then}
 use Rattle.mk_objects.proofs.DecidedFrees.{stays_wider}
 use Rattle.mk_objects.proofs.FreedObjects.{object_at, small_held}
-use Rattle.mk_objects.proofs.FreedOnce.{once_before}
-use Rattle.mk_objects.proofs.GoneRuns.{IsGoneIn, still_gone}
-use Rattle.mk_objects.proofs.JoinedLooks.{looks_left}
 use Rattle.mk_objects.proofs.ReachedParts.{reached_world, same_kinds}
+use Rattle.mk_objects.proofs.{FreedOnce.once_before, GoneRuns.IsGoneIn, GoneRuns.still_gone, JoinedLooks.looks_left}
 
 -- After a `quar` the call is decided.
 pub freed_now : (p q : PassState) (cell : Cell) → HasFreed p cell q
     → IsFreedAt p.table.config p.seat cell (world_of p) (world_of q)
 freed_now p q cell a = reached_world is_freeing p q (IsFreedAt p.table.config p.seat cell (world_of p))
-    (entry_for p answer.Done) a
+    (entry_for p Answer.Done) a
 
 pub freed_seat : (p q : PassState) (cell : Cell) → HasFreed p cell q → q.seat ≡ p.seat
 freed_seat p q cell a = ap (λ (x : PassState). x.seat) a.same
 
 pub freed_call : (p q : PassState) (cell : Cell) → HasFreed p cell q
-    → call_of q ≡ record (call_of p) { stage = stage.Give }
+    → call_of q ≡ record (call_of p) { stage = Stage.Give }
 freed_call p q cell a = ap (λ (x : PassState). call_of x) a.same ∙ a.world.call
 
 pub freed_acting : (p q : PassState) (cell : Cell) → HasFreed p cell q → is_acting (call_of q).stage ≡ true
@@ -112,7 +90,7 @@ none_held p none j lt = not-true _ (all_below-at p.table.config.callers j (λ i.
 
 module _ (p q a b r : PassState) (reg u : ℕ) (cell : Cell) (n : ℕ) (may : MayFree p reg u cell)
     (before : IsHistory p.table.config p.seen) (freed : HasFreed p cell q) (looks : OnlyLooks q a)
-    (tallied : SetsTally a tally.Fresh n b)
+    (tallied : SetsTally a Tally.Fresh n b)
     (looks_again : OnlyLooks b r) (gates : none_is_held p.table.config.callers (now_of p).words ≡ true) where
   settles : Stays is_settling q r
   settles =
@@ -136,13 +114,13 @@ module _ (p q a b r : PassState) (reg u : ℕ) (cell : Cell) (n : ℕ) (may : Ma
   table_then : p.table ≡ r.table
   table_then = table ∙ sym (ap (λ (x : PassState). x.table) settles.same)
 
-  counted : Changes a.seat (with_tally tally.Fresh n) (world_of a) (world_of b)
-  counted = reached_world is_settling a b (Changes a.seat (with_tally tally.Fresh n) (world_of a)) [] tallied
+  counted : Changes a.seat (with_tally Tally.Fresh n) (world_of a) (world_of b)
+  counted = reached_world is_settling a b (Changes a.seat (with_tally Tally.Fresh n) (world_of a)) [] tallied
 
-  steady : steady_of (world_of r) ≡ with_tally tally.Fresh n (steady_of (world_of q))
+  steady : steady_of (world_of r) ≡ with_tally Tally.Fresh n (steady_of (world_of q))
   steady =
       (looks_left b r looks_again).steady ∙ counted.steady
-      ∙ ap (λ (x : Steady). with_tally tally.Fresh n x) (looks_left q a looks).steady
+      ∙ ap (λ (x : Steady). with_tally Tally.Fresh n x) (looks_left q a looks).steady
 
   pub allocations_now : (world_of r).allocations ≡ map (freed_where_it_stands (now_of p).words (Some cell))
       (world_of p).allocations
@@ -184,7 +162,7 @@ module _ (p q a b r : PassState) (reg u : ℕ) (cell : Cell) (n : ℕ) (may : Ma
       pub frees_small : FreesCell p cell due r
       frees_small =
           record {
-            reaches = decides_before p q r answer.Done (freed_decides p q cell freed) follows;
+            reaches = decides_before p q r Answer.Done (freed_decides p q cell freed) follows;
             allocations = allocations_now;
             once = once_before is_following p q r following_not once table follows.does behind holds stays.allocations;
             gone = subst (λ (x : PassState). IsGoneIn (world_of x)) (sym settles.same)

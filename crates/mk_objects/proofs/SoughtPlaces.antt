@@ -1,25 +1,17 @@
 -- What the answers of the page map say of an object's place.
-use Rattle.std.proofs.Common.{◌≡◌, ◌≢◌, ℕ, ◌+◌, ◌<◌, ◌≤◌, Bool, true, false, not, ◌&&◌, nat_eq, List, [], length}
-use Rattle.std.proofs.Common.{◌∷◌, refl, sym, ap, ◌∙◌, inl, inr, add-one, arith}
-use Rattle.std.specs.Prelude.{◌==◌, Option, Some, None, is_some, option_map, option_and_then, nat_lt, if◌then◌else◌}
-use Rattle.std.proofs.lemmas.Bool.{cases_Bool, cases_eq, cond-false, cond-true, ne_eqb}
-use Rattle.std.proofs.lemmas.List.{length-map}
-use Rattle.std.proofs.lemmas.List.Sums.{count_by-le-length}
-use Rattle.std.proofs.lemmas.Option.{none-some, same_Some}
-use Rattle.mk_geom.specs.declared.headers.Header.{Header}
-use Rattle.mk_geom.specs.declared.headers.Header.TheVariants.{Block, Free, Later, LeafBlock, LeafRun, Run}
-use Rattle.mk_geom.specs.declared.pages.Page.{Page}
-use Rattle.mk_geom.specs.declared.pages.Place.{Place}
-use Rattle.mk_geom.specs.Classes.{cells_of}
-use Rattle.mk_geom.specs.Headers.{header_of, word_of}
-use Rattle.mk_geom.specs.PageUses.{Cells, carved, cells_taken, first_where, is_free_page, is_resident_page}
-use Rattle.mk_geom.specs.PageUses.{is_same_sort, or_else, resident_pages, small_place}
-use Rattle.mk_geom.specs.PageWords.{bits_of, use_of_page, use_under, uses_of_pages}
-use Rattle.mk_geom.specs.Storages.{block_header}
+use Rattle.std.proofs.{Common.add-one, Common.nat_eq, lemmas.List.Sums.count_by-le-length}
+use Rattle.mk_laws.proofs.Vocabulary.{Block, Bool, Free, Header, Later, LeafBlock, LeafRun, List, None, Option, Page}
+use Rattle.mk_laws.proofs.Vocabulary.{Place, Run, Some, ℕ, ap, arith, block_header, cases_Bool, cases_eq, cells_of}
+use Rattle.mk_laws.proofs.Vocabulary.{cond-false, cond-true, false, header_of, if◌then◌else◌, inl, inr}
+use Rattle.mk_laws.proofs.Vocabulary.{is_resident_page, is_some, length, length-map, nat_lt, ne_eqb, none-some, not}
+use Rattle.mk_laws.proofs.Vocabulary.{or_else, refl, resident_pages, same_Some, sym, true, use_under, uses_of_pages}
+use Rattle.mk_laws.proofs.Vocabulary.{word_of, [], ◌&&◌, ◌+◌, ◌<◌, ◌==◌, ◌∙◌, ◌∷◌, ◌≡◌, ◌≢◌, ◌≤◌}
+use Rattle.mk_objects.proofs.Vocabulary.{option_and_then, option_map}
 use Rattle.mk_geom.proofs.HeaderLemmas.{header_of-word_of, word_of-header_of}
+use Rattle.mk_geom.specs.PageUses.{Cells, carved, cells_taken, first_where, is_free_page, is_same_sort, small_place}
+use Rattle.mk_geom.specs.PageWords.{bits_of, use_of_page}
 use Rattle.mk_books.proofs.FreeCellLemmas.{cells_taken_alike}
-use Rattle.mk_page_map.specs.Laws.{LowestBlockHasThePlace, free_cell_on}
-use Rattle.mk_page_map.specs.Members.{has_free_cell, page_at}
+use Rattle.mk_page_map.specs.{Laws.LowestBlockHasThePlace, Laws.free_cell_on, Members.has_free_cell, Members.page_at}
 
 -- The cells of a page under the header word of the blocks that are sought,
 

@@ -1,58 +1,30 @@
 -- The turn's holder takes the cell of its New's place, grants the object and counts it.
-use Rattle.std.proofs.Common.{◌≡◌, ℕ, ◌+◌, ◌*◌, ◌<◌, ◌≤◌, ◌^◌, ◌%◌, true, false, List, [], ◌∷◌, ◌++◌, length, refl, sym}
-use Rattle.std.proofs.Common.{◌∙◌, ap, subst, inl, inr, arith, min}
-use Rattle.std.specs.Prelude.{◌==◌, Some, bit_or, bit_and, nat_lt}
-use Rattle.std.specs.Int.{bit_at}
-use Rattle.std.proofs.lemmas.Bool.{cases_Bool, cases_eq, ltb-true, cond-true, cond-false}
-use Rattle.std.proofs.lemmas.Nat.{or_disjoint}
-use Rattle.std.proofs.lemmas.Nat.Bits.{bit_at_and}
-use Rattle.std.proofs.Math.Nat.{div-le_self}
-use Rattle.mk_geom.specs.declared.pages.Place.{Place}
-use Rattle.mk_geom.specs.Addresses.{address_of}
-use Rattle.mk_geom.specs.Classes.{cells_of, class_words_of}
-use Rattle.mk_core.specs.declared.config.Config.{Config}
-use Rattle.mk_core.specs.declared.events.Answer.TheVariants as answer
-use Rattle.mk_core.specs.declared.events.Seat.{Seat}
-use Rattle.mk_core.specs.declared.events.Seat.TheVariants.{Caller}
-use Rattle.mk_core.specs.declared.events.Step.TheVariants as step
-use Rattle.mk_core.specs.declared.events.Tally.TheVariants as tally
-use Rattle.mk_core.specs.declared.seats.Flight.{Flight}
-use Rattle.mk_core.specs.declared.seats.Object.{Object}
-use Rattle.mk_core.specs.Accesses.{caller_number}
-use Rattle.mk_core.specs.Allocations.{PlacedAllocation, held_by_allocations, storage_words}
-use Rattle.mk_core.specs.Bits.{bit_for, has_bit}
-use Rattle.mk_core.specs.Calls.{d_of, has_operands}
-use Rattle.mk_core.specs.Decided.{entry_of}
-use Rattle.mk_core.specs.Effects.{answer_decided}
-use Rattle.mk_core.specs.Frames.{Steady}
-use Rattle.mk_core.specs.History.{IsAdmittedBehind, IsHistory, World, left}
-use Rattle.mk_core.specs.Layout.{AreOfPages}
-use Rattle.mk_core.specs.Moments.{flight_of}
-use Rattle.mk_core.specs.NewPlaces.{base_made, class_made, is_small_object, is_undecided_new, object_made}
-use Rattle.mk_core.specs.ObjectHeaders.{cells_made, words_made}
-use Rattle.mk_core.specs.Order.{seat_exists}
-use Rattle.mk_core.specs.TurnConditions.{is_used_once}
-use Rattle.mk_core.specs.Words.{header_at, phase_of, used_at}
-use Rattle.mk_core.proofs.GrantedAllocations.{granted_base_is, granted_object}
+use Rattle.std.proofs.{Common.bit_and, Math.Nat.div-le_self, lemmas.Nat.or_disjoint, lemmas.Nat.Bits.bit_at_and}
+use Rattle.mk_laws.proofs.Vocabulary.{Answer, AreOfPages, Caller, Config, Flight, IsHistory, IsSettled, List, Object}
+use Rattle.mk_laws.proofs.Vocabulary.{Place, PlacedAllocation, Seat, Some, Steady, Step, Tally, World, ℕ, address_of}
+use Rattle.mk_laws.proofs.Vocabulary.{answer_decided, ap, arith, base_made, bit_at, bit_or, caller_number, cases_Bool}
+use Rattle.mk_laws.proofs.Vocabulary.{cases_eq, cells_made, cells_of, class_made, class_words_of, cond-false, cond-true}
+use Rattle.mk_laws.proofs.Vocabulary.{d_of, entry_of, false, flight_of, granted_base_is, granted_object, has_bit}
+use Rattle.mk_laws.proofs.Vocabulary.{has_operands, header_at, inl, inr, is_small_object, is_undecided_new}
+use Rattle.mk_laws.proofs.Vocabulary.{is_used_once, left, length, ltb-true, nat_lt, object_made, phase_of, refl}
+use Rattle.mk_laws.proofs.Vocabulary.{seat_exists, storage_words, subst, sym, true, used_at, words_made, [], ◌%◌, ◌*◌}
+use Rattle.mk_laws.proofs.Vocabulary.{◌++◌, ◌+◌, ◌<◌, ◌==◌, ◌^◌, ◌∙◌, ◌∷◌, ◌≡◌, ◌≤◌}
+use Rattle.mk_objects.proofs.Vocabulary.{Acts, ComesTo, GoesTo, IsAdmittedBehind, IsCellReady, IsEnabledTo, IsGrantedAt}
+use Rattle.mk_objects.proofs.Vocabulary.{IsOutOfStop, IsUnplaced, Known, MayTake, PassState, call_of, entry_for}
+use Rattle.mk_objects.proofs.Vocabulary.{held_by_allocations, is_acting, is_placing, known_left, min, now_of}
+use Rattle.mk_objects.proofs.Vocabulary.{object_at_place, object_for, world_of}
 use Rattle.mk_core.proofs.WordBits.{bit_for_small, bit_is_none, bit_of_power, zero_from_bits}
-use Rattle.mk_laws.specs.SettledPages.{IsSettled}
+use Rattle.mk_core.specs.Bits.{bit_for}
 use Rattle.mk_laws.proofs.Tracked.{unplaced_settles}
-use Rattle.mk_laws.proofs.Known.{Known, known_left}
-use Rattle.mk_words.specs.States.{PassState, call_of, now_of, world_of}
-use Rattle.mk_words.specs.Steps.{IsAdmittedTo, IsEnabledTo}
-use Rattle.mk_words.specs.TurnSteps.{Acts, granted_address}
-use Rattle.mk_objects.specs.Looking.{is_acting}
-use Rattle.mk_objects.specs.Placing.{GoesTo, HeldIsExact, IsGrantedAt, IsOutOfStop, IsUnplaced, MayTake, ComesTo}
-use Rattle.mk_objects.specs.Placing.{entry_for, is_placing, object_at_place, object_for}
-use Rattle.mk_objects.specs.Serving.{IsCellReady}
 use Rattle.mk_objects.proofs.AdmittedNews.{grant_admitted, register_small}
 use Rattle.mk_objects.proofs.Granting.{granted_behind, granted_left, tallied_behind}
-use Rattle.mk_objects.proofs.HeldMore.{held_is_little, held_one_more}
 use Rattle.mk_objects.proofs.MayAct.{IsActing, may_grant, may_take, may_tally, off_four}
 use Rattle.mk_objects.proofs.Reaching.{IsCallers, reaches_on, reaches_still}
 use Rattle.mk_objects.proofs.Serves.{KnowsPlace, block_of, free_pages_of, out_of_stop, place_unused, served_acting}
 use Rattle.mk_objects.proofs.Serving.{IsTakenAt, ready_left, ready_takes, taken_behind, taken_left}
-use Rattle.mk_objects.proofs.Unchanged.{acting_has_call}
+use Rattle.mk_objects.proofs.{HeldMore.held_is_little, HeldMore.held_one_more, Unchanged.acting_has_call}
+use Rattle.mk_objects.specs.Placing.{HeldIsExact}
+use Rattle.mk_words.specs.{Steps.IsAdmittedTo, TurnSteps.granted_address}
 
 -- A bit more, where it wasn't set.
 pub one_bit_more : (n k : ℕ) → k < 64 → has_bit n k ≡ false → bit_or n (1 * 2 ^ k % 2 ^ 64) ≡ n + 2 ^ k
@@ -121,23 +93,23 @@ module _ (p : PassState) (place : Place) (goes : GoesTo p place) (k : KnowsPlace
   HasTaken q = ComesTo is_placing p (IsTakenAt p.table.config p.seat (object_for p) place (world_of p)) [] q
 
   pub used_may : (q : PassState) (used : ℕ) → MayTake p place q → used_at (now_of p).words place.page ≡ used
-      → IsEnabledTo q (step.Used place.page (used + 2 ^ place.index))
+      → IsEnabledTo q (Step.Used place.page (used + 2 ^ place.index))
   used_may q used reached known =
       let w : World = left c q.seen in
       let unused : has_bit used place.index ≡ false = sym (ap (λ n. has_bit n place.index) known)
       ∙ place_unused p place k in
-      subst (λ (x : PassState). IsEnabledTo x (step.Used place.page (used + 2 ^ place.index))) (sym reached.same)
+      subst (λ (x : PassState). IsEnabledTo x (Step.Used place.page (used + 2 ^ place.index))) (sym reached.same)
       (may_take c w.now p.seat (served_acting p place w k reached.world.serving) place.page (used + 2 ^ place.index)
       k.within
       (low_still w (ap (λ (x : Steady). x.phase) reached.world.serving.steady)) reached.world.serving.once
       (ready_takes c p.seat (object_for p) place (world_of p) w used reached.world known unused))
 
-  pub used_on : (q r : PassState) (value : ℕ) → MayTake p place q → Acts q (step.Used place.page value) r
+  pub used_on : (q r : PassState) (value : ℕ) → MayTake p place q → Acts q (Step.Used place.page value) r
       → HasTaken r
   used_on q r value reached a =
       reaches_still is_placing p q r (IsCellReady c p.seat (object_for p) place (world_of p))
       (IsTakenAt c p.seat (object_for p) place (world_of p)) []
-      (step.Used place.page value) reached a refl refl k.caller refl
+      (Step.Used place.page value) reached a refl refl k.caller refl
       (λ w v here kept known pages.
       let on = ready_left c p.seat (object_for p) place (world_of p) w v here kept in
       let call = acting_has_call c v.now p.seat known.orderly.flights (served_acting p place v k on.serving) in
@@ -156,10 +128,10 @@ module _ (p : PassState) (place : Place) (goes : GoesTo p place) (k : KnowsPlace
       → is_undecided_new (flight_of v.now p.seat) ≡ true
   taken_new v at = ap (λ (f : Flight). is_undecided_new f) at.call ∙ goes.unplaced.new
 
-  pub grant_may : (q : PassState) → HasTaken q → IsEnabledTo q step.Grant
+  pub grant_may : (q : PassState) → HasTaken q → IsEnabledTo q Step.Grant
   grant_may q reached =
       let w : World = left c q.seen in
-      subst (λ (x : PassState). IsEnabledTo x step.Grant) (sym reached.same)
+      subst (λ (x : PassState). IsEnabledTo x Step.Grant) (sym reached.same)
       (may_grant c w.now p.seat (taken_acting w reached.world) (taken_new w reached.world)
       (low_still w (ap (λ (x : Steady). x.phase) reached.world.steady)) (ap is_used_once reached.world.placing))
 
@@ -187,51 +159,51 @@ module _ (p : PassState) (place : Place) (goes : GoesTo p place) (k : KnowsPlace
           ((known_left c p.seen h.within_limits h.enabled).operands j)
 
   pub grant_admits : (q : PassState) → HasTaken q → IsHistory q.table.config q.seen → IsHistory c p.seen
-      → IsAdmittedTo q step.Grant
+      → IsAdmittedTo q Step.Grant
   grant_admits q reached history h =
       let w : World = left c q.seen in
       let here : IsHistory c q.seen = subst (λ (x : PassState). IsHistory x.table.config q.seen) reached.same history in
-      subst (λ (x : PassState). IsAdmittedTo x step.Grant) (sym reached.same)
+      subst (λ (x : PassState). IsAdmittedTo x Step.Grant) (sym reached.same)
       (by p.seat k.caller.is k.acting.there (taken_new w reached.world)
       (ap (λ (f : Flight). has_operands c f.op) reached.world.call ∙ operands h) here)
     where
       by : (s : Seat) → s ≡ Caller k.caller.number → seat_exists c s ≡ true
           → is_undecided_new (flight_of (left c q.seen).now s) ≡ true
           → has_operands c (flight_of (left c q.seen).now s).op ≡ true → IsHistory c q.seen
-          → IsAdmittedBehind c q.seen (record { seat = s; step = step.Grant })
+          → IsAdmittedBehind c q.seen (record { seat = s; step = Step.Grant })
       by s is there new op here =
           subst
           (λ (x : Seat). seat_exists c x ≡ true → is_undecided_new (flight_of (left c q.seen).now x) ≡ true
           → has_operands c (flight_of (left c q.seen).now x).op ≡ true
-          → IsAdmittedBehind c q.seen (record { seat = x; step = step.Grant }))
+          → IsAdmittedBehind c q.seen (record { seat = x; step = Step.Grant }))
           (sym is)
           (λ t n o. grant_admitted c q.seen k.caller.number here (ltb-true k.caller.number c.callers t) n o)
           there new op
 
   abbrev pub HasGranted : PassState → Type 0
-  HasGranted q = ComesTo is_placing p (IsGrantedAt p.table.config p.seat place (world_of p)) (entry_for p answer.Done) q
+  HasGranted q = ComesTo is_placing p (IsGrantedAt p.table.config p.seat place (world_of p)) (entry_for p Answer.Done) q
 
   grant_decides : (v : World) (s : Seat) (j : ℕ) → s ≡ Caller j
-      → answer_decided c v.now (record { seat = s; step = step.Grant }) ≡ Some answer.Done
-  grant_decides v s j is = ap (λ (x : Seat). answer_decided c v.now (record { seat = x; step = step.Grant })) is
+      → answer_decided c v.now (record { seat = s; step = Step.Grant }) ≡ Some Answer.Done
+  grant_decides v s j is = ap (λ (x : Seat). answer_decided c v.now (record { seat = x; step = Step.Grant })) is
 
-  pub grant_on : (q r : PassState) → HasTaken q → Acts q step.Grant r → IsHistory c p.seen
+  pub grant_on : (q r : PassState) → HasTaken q → Acts q Step.Grant r → IsHistory c p.seen
       → HasGranted r
   grant_on q r reached a h =
       reaches_on is_placing p q r (IsTakenAt c p.seat (object_for p) place (world_of p))
       (IsGrantedAt c p.seat place (world_of p)) []
-      (entry_for p answer.Done) step.Grant reached a refl refl k.caller
+      (entry_for p Answer.Done) Step.Grant reached a refl refl k.caller
       (λ w v here kept known pages.
       let on = taken_left c p.seat (object_for p) place (world_of p) w v here kept in
       let call = acting_has_call c v.now p.seat known.orderly.flights (taken_acting v on) in
       record {
         world = granted_behind c p.seat (object_for p) place (world_of p) v on call (λ j is. room v j is known pages);
-        answer = Some answer.Done;
+        answer = Some Answer.Done;
         decides = grant_decides v p.seat k.caller.number k.caller.is;
         no_full = refl;
         entry = λ j is.
-            ap (λ (f : Flight). entry_of j f.op (Some answer.Done)) on.call
-            ∙ ap (λ n. entry_of n (call_of p).op (Some answer.Done)) (sym (ap (λ (x : Seat). caller_number x) is));
+            ap (λ (f : Flight). entry_of j f.op (Some Answer.Done)) on.call
+            ∙ ap (λ n. entry_of n (call_of p).op (Some Answer.Done)) (sym (ap (λ (x : Seat). caller_number x) is));
       })
     where
       room : (v : World) (j : ℕ) → p.seat ≡ Caller j → Known c v.now → AreOfPages c.pages v.now.words
@@ -248,22 +220,22 @@ module _ (p : PassState) (place : Place) (goes : GoesTo p place) (k : KnowsPlace
   granted_acting : (v : World) → IsGrantedAt c p.seat place (world_of p) v → IsActing c v.now p.seat
   granted_acting v at = record { there = k.acting.there; acts = ap (λ (f : Flight). is_acting f.stage) at.call }
 
-  pub tally_may : (q : PassState) (n : ℕ) → HasGranted q → IsEnabledTo q (step.Tally tally.Held n)
+  pub tally_may : (q : PassState) (n : ℕ) → HasGranted q → IsEnabledTo q (Step.Tally Tally.Held n)
   tally_may q n reached =
       let w : World = left c q.seen in
-      subst (λ (x : PassState). IsEnabledTo x (step.Tally tally.Held n)) (sym reached.same)
-      (may_tally c w.now p.seat (granted_acting w reached.world) tally.Held n)
+      subst (λ (x : PassState). IsEnabledTo x (Step.Tally Tally.Held n)) (sym reached.same)
+      (may_tally c w.now p.seat (granted_acting w reached.world) Tally.Held n)
 
   abbrev pub HasCounted : ℕ → PassState → Type 0
   HasCounted n q = ComesTo is_placing p (λ w. IsGrantedAt p.table.config p.seat place (world_of p) w ×
-      (w.now.words.held ≡ n)) (entry_for p answer.Done) q
+      (w.now.words.held ≡ n)) (entry_for p Answer.Done) q
 
-  pub tally_on : (q r : PassState) (n : ℕ) → HasGranted q → Acts q (step.Tally tally.Held n) r
+  pub tally_on : (q r : PassState) (n : ℕ) → HasGranted q → Acts q (Step.Tally Tally.Held n) r
       → IsHistory c p.seen → HasCounted n r
   tally_on q r n reached a h =
       reaches_still is_placing p q r (IsGrantedAt c p.seat place (world_of p))
       (λ w. IsGrantedAt c p.seat place (world_of p) w × (w.now.words.held ≡ n))
-      (entry_for p answer.Done) (step.Tally tally.Held n) reached a refl refl k.caller refl
+      (entry_for p Answer.Done) (Step.Tally Tally.Held n) reached a refl refl k.caller refl
       (λ w v here kept known pages.
       let on = granted_left c p.seat place (world_of p) w v
       (register_small c (call_of p) goes.unplaced.new (operands h)) here kept in

@@ -1,27 +1,15 @@
 -- What each event keeps stands along all that a turn's holder has seen since: the events of others, and its own.
-use Rattle.std.proofs.Common.{◌≡◌, Bool, true, false, List, [], ◌∷◌, ◌++◌, refl, sym, ◌∙◌, ap, subst, append-nil}
-use Rattle.std.proofs.Common.{append_assoc, inl, inr}
-use Rattle.std.specs.Prelude.{◌||◌, if◌then◌else◌}
-use Rattle.std.proofs.lemmas.Bool.{and_parts, cases_Bool, false_from_ne_true, true≢false}
-use Rattle.mk_core.specs.declared.config.Config.{Config}
-use Rattle.mk_core.specs.declared.events.Event.{Event}
-use Rattle.mk_core.specs.declared.events.Seat.{Seat}
-use Rattle.mk_core.specs.declared.events.Step.{Step}
-use Rattle.mk_core.specs.Accesses.{found}
-use Rattle.mk_core.specs.Growing.{AreOfOthers, Finding, is_one_of, is_same_seat, own_from}
-use Rattle.mk_core.specs.History.{IsHistory, World, first_world, left, world_behind}
-use Rattle.mk_core.specs.Readings.{Holds}
-use Rattle.mk_core.proofs.Histories.{left_more}
-use Rattle.mk_core.proofs.HistoryParts.{earlier_part_is_history}
+use Rattle.mk_laws.proofs.Vocabulary.{Bool, Config, Event, Holds, IsHistory, List, Seat, Step, World, and_parts, ap}
+use Rattle.mk_laws.proofs.Vocabulary.{append-nil, append_assoc, cases_Bool, earlier_part_is_history, false}
+use Rattle.mk_laws.proofs.Vocabulary.{false_from_ne_true, first_world, found, if◌then◌else◌, inl, inr, is_one_of, left}
+use Rattle.mk_laws.proofs.Vocabulary.{left_more, refl, subst, sym, true, true≢false, world_behind, [], ◌++◌, ◌||◌, ◌∙◌}
+use Rattle.mk_laws.proofs.Vocabulary.{◌∷◌, ◌≡◌}
+use Rattle.mk_objects.proofs.Vocabulary.{Does, PassState, call_of, event_of, now_of, turn_stays}
+use Rattle.mk_core.specs.Growing.{AreOfOthers, Finding, is_same_seat, own_from}
 use Rattle.mk_laws.proofs.ProtocolFrames.{others_leave}
-use Rattle.mk_turns.specs.Doing.{Does, are_of}
-use Rattle.mk_turns.proofs.Doing.{none_own}
-use Rattle.mk_words.specs.Seats.{Has}
-use Rattle.mk_words.specs.States.{PassState, call_of, event_of, now_of}
-use Rattle.mk_words.specs.Steps.{Makes}
-use Rattle.mk_words.specs.TurnSteps.{op_for, turn_stays}
-use Rattle.mk_words.proofs.Seats.{only_one, same_seat, same_self}
-use Rattle.mk_words.proofs.TurnSteps.{still_turn}
+use Rattle.mk_turns.{proofs.Doing.none_own, specs.Doing.are_of}
+use Rattle.mk_words.proofs.{Seats.only_one, Seats.same_seat, Seats.same_self, TurnSteps.still_turn}
+use Rattle.mk_words.specs.{Seats.Has, Steps.Makes, TurnSteps.op_for}
 
 -- An event is the seat's own, and of these kinds, or another's.
 pub data ComesBy (s : Seat) (kinds : Step → Bool) (e : Event) : Type 0 where

@@ -1,23 +1,10 @@
 -- What stays as it was: after looks, and one part after the other.
-use Rattle.std.proofs.Common.{◌≡◌, ℕ, ◌<◌, true, length, refl, sym, subst, ◌∙◌}
-use Rattle.std.proofs.lemmas.List.{get_or-set_same}
-use Rattle.std.proofs.lemmas.Bool.{ltb-true}
-use Rattle.mk_core.specs.declared.config.Config.{Config}
-use Rattle.mk_core.specs.declared.events.Seat.{Seat}
-use Rattle.mk_core.specs.declared.events.Seat.TheVariants.{Caller, Host, Marker}
-use Rattle.mk_core.specs.declared.events.Step.{Step}
-use Rattle.mk_core.specs.declared.events.Step.TheVariants as step
-use Rattle.mk_core.specs.declared.events.Word.{Word}
-use Rattle.mk_core.specs.declared.events.Word.TheVariants as word
-use Rattle.mk_core.specs.Accesses.{found}
-use Rattle.mk_core.specs.Calls.{at_rest}
-use Rattle.mk_core.specs.Effects.{moment_behind, progress}
-use Rattle.mk_core.specs.History.{World, world_behind}
-use Rattle.mk_core.specs.Moments.{Moment, flight_of}
-use Rattle.mk_core.specs.Order.{seat_exists}
-use Rattle.mk_laws.proofs.Growth.{grows_same, grows_joined}
-use Rattle.mk_objects.specs.Looking.{is_acting, is_steady_word}
-use Rattle.mk_objects.specs.Unchanged.{IsAsLeft}
+use Rattle.mk_laws.proofs.Vocabulary.{Caller, Config, Host, Marker, Moment, Seat, Step, Word, World, ℕ, at_rest}
+use Rattle.mk_laws.proofs.Vocabulary.{flight_of, found, get_or-set_same, length, ltb-true, progress, refl, seat_exists}
+use Rattle.mk_laws.proofs.Vocabulary.{subst, sym, true, world_behind, ◌<◌, ◌∙◌, ◌≡◌}
+use Rattle.mk_objects.proofs.Vocabulary.{IsAsLeft, is_acting, is_steady_word}
+use Rattle.mk_core.specs.Effects.{moment_behind}
+use Rattle.mk_laws.proofs.Growth.{grows_joined, grows_same}
 use Rattle.mk_objects.proofs.MayAct.{IsActing}
 
 pub left_same : (s : Seat) (w : World) → IsAsLeft s w w
@@ -64,25 +51,25 @@ acting_has_call c m s all at = by s at.there at.acts
 -- Looks at steady words and at the phase leave all as it was.
 
 pub data IsPlain : Word → Type 0 where
-  OfHead : (p : ℕ) → IsPlain (word.Head p)
-  OfUsed : (p : ℕ) → IsPlain (word.Used p)
-  OfHeld : IsPlain word.Held
-  OfFresh : IsPlain word.Fresh
-  OfPhase : IsPlain word.Phase
+  OfHead : (p : ℕ) → IsPlain (Word.Head p)
+  OfUsed : (p : ℕ) → IsPlain (Word.Used p)
+  OfHeld : IsPlain Word.Held
+  OfFresh : IsPlain Word.Fresh
+  OfPhase : IsPlain Word.Phase
 
 pub steady_is_plain : (x : Word) → is_steady_word x ≡ true → IsPlain x
-steady_is_plain (word.Head p) h = OfHead p
-steady_is_plain (word.Used p) h = OfUsed p
-steady_is_plain word.Held h = OfHeld
-steady_is_plain word.Fresh h = OfFresh
+steady_is_plain (Word.Head p) h = OfHead p
+steady_is_plain (Word.Used p) h = OfUsed p
+steady_is_plain Word.Held h = OfHeld
+steady_is_plain Word.Fresh h = OfFresh
 steady_is_plain _ h = cc
 
 pub look_leaves : (c : Config) (w : World) (s : Seat) (x : Word) → HasCall c w.now s → IsPlain x
-    → IsAsLeft s w (world_behind c w (record { seat = s; step = step.Look x }))
+    → IsAsLeft s w (world_behind c w (record { seat = s; step = Step.Look x }))
 look_leaves c w s x (OfCaller k lt) (OfHead p) =
     record {
-      call = call_behind c w.now k (step.Look
-          (word.Head p)) lt;
+      call = call_behind c w.now k (Step.Look
+          (Word.Head p)) lt;
       holding = refl;
       steady = refl;
       marks = grows_same w.now.words.marks;
@@ -91,8 +78,8 @@ look_leaves c w s x (OfCaller k lt) (OfHead p) =
     }
 look_leaves c w s x (OfCaller k lt) (OfUsed p) =
     record {
-      call = call_behind c w.now k (step.Look
-          (word.Used p)) lt;
+      call = call_behind c w.now k (Step.Look
+          (Word.Used p)) lt;
       holding = refl;
       steady = refl;
       marks = grows_same w.now.words.marks;
@@ -102,7 +89,7 @@ look_leaves c w s x (OfCaller k lt) (OfUsed p) =
 look_leaves c w s x (OfCaller k lt) OfHeld =
     record {
       call = call_behind c w.now k
-          (step.Look word.Held) lt;
+          (Step.Look Word.Held) lt;
       holding = refl;
       steady = refl;
       marks = grows_same w.now.words.marks;
@@ -112,7 +99,7 @@ look_leaves c w s x (OfCaller k lt) OfHeld =
 look_leaves c w s x (OfCaller k lt) OfFresh =
     record {
       call = call_behind c w.now k
-          (step.Look word.Fresh) lt;
+          (Step.Look Word.Fresh) lt;
       holding = refl;
       steady = refl;
       marks = grows_same w.now.words.marks;
@@ -122,7 +109,7 @@ look_leaves c w s x (OfCaller k lt) OfFresh =
 look_leaves c w s x (OfCaller k lt) OfPhase =
     record {
       call = call_behind c w.now k
-          (step.Look word.Phase) lt;
+          (Step.Look Word.Phase) lt;
       holding = refl;
       steady = refl;
       marks = grows_same w.now.words.marks;

@@ -1,86 +1,53 @@
 -- The pages of a run are unmapped one after the other, and then its words are wiped.
-use Rattle.std.proofs.Common.{◌≡◌, ℕ, zero, suc, ◌+◌, ◌-◌, ◌*◌, ◌/◌, ◌<◌, ◌≤◌, Bool, true, false, List, [], length}
-use Rattle.std.proofs.Common.{refl, sym, ◌∙◌, ap}
-use Rattle.std.proofs.Common.{subst, inl, inr, arith}
-use Rattle.std.specs.Prelude.{◌||◌, ◌==◌, nat_le, nat_lt, Option, Some, None, if◌then◌else◌, slice_index}
-use Rattle.std.specs.Prelude.{option_and_then, slice_index_or, slice_set}
-use Rattle.std.proofs.lemmas.Bool.{and_from, cases_eq, eq-eqb, eqb-true, le-leb, lt-ltb}
-use Rattle.std.proofs.lemmas.List.{get_or-set_other, get_or-set_same}
-use Rattle.std.proofs.lemmas.Option.{same_Some}
-use Rattle.mk_never.specs.declared.operations.Op.{Op}
-use Rattle.mk_geom.specs.declared.addresses.Cell.{Cell}
-use Rattle.mk_geom.specs.declared.headers.Header.{Header}
-use Rattle.mk_geom.specs.declared.headers.Header.TheVariants.{Later, Run}
-use Rattle.mk_geom.specs.declared.pages.Page.{Page}
-use Rattle.mk_geom.specs.Addresses.{address_of, cell_under, is_heap_address, page_at_address, run_of_page}
-use Rattle.mk_geom.specs.Addresses.{word_at_address}
-use Rattle.mk_geom.specs.Headers.{header_of}
-use Rattle.mk_geom.specs.PageUses.{or_else}
-use Rattle.mk_geom.specs.Storages.{free_page, run_header}
-use Rattle.mk_geom.proofs.Bridge.{run_in_range}
-use Rattle.mk_geom.proofs.HeaderLemmas.{header_of-word_of}
-use Rattle.mk_core.specs.declared.config.Config.{Config}
-use Rattle.mk_core.specs.declared.events.Seat.{Seat}
-use Rattle.mk_core.specs.declared.events.Step.TheVariants as step
-use Rattle.mk_core.specs.declared.events.Word.TheVariants as word
-use Rattle.mk_core.specs.declared.seats.Flight.{Flight}
-use Rattle.mk_core.specs.declared.seats.Hand.{Hand}
-use Rattle.mk_core.specs.declared.seats.Holding.{Holding}
-use Rattle.mk_core.specs.declared.seats.Placing.{Placing}
-use Rattle.mk_core.specs.declared.seats.Placing.TheVariants.{Unplaced}
-use Rattle.mk_core.specs.declared.seats.RunPages.{RunPages}
-use Rattle.mk_core.specs.declared.seats.Stage.{Stage}
-use Rattle.mk_core.specs.declared.seats.Stage.TheVariants as stage
-use Rattle.mk_core.specs.Bounded.{all_below}
-use Rattle.mk_core.specs.Cells.{has_no_pointers, header_in, is_in_run, pointed_cell}
-use Rattle.mk_core.specs.Effects.{chosen, hand_given, hand_of_cell, is_in_stop}
-use Rattle.mk_core.specs.Frames.{HoldsAll, Steady, Written, steady_of, written_of}
-use Rattle.mk_core.specs.History.{World, left, world_behind}
-use Rattle.mk_core.specs.Moments.{Moment, flight_of, is_held, is_number_of, is_phase, others_are_held}
-use Rattle.mk_core.specs.NewPlaces.{is_new_at, is_run_unmapped, is_undecided_new, stands, unmapped_header}
-use Rattle.mk_core.specs.Readings.{Holds}
-use Rattle.mk_core.specs.TurnConditions.{is_in_gone_run, place_now, unmaps}
-use Rattle.mk_core.specs.Words.{Words, header_at, phase_of}
-use Rattle.mk_core.proofs.AllBelow.{all_below-at}
-use Rattle.mk_laws.proofs.Tests.{all_below_from}
-use Rattle.mk_words.specs.States.{PassState, call_of, now_of, world_of}
-use Rattle.mk_words.specs.Steps.{Finds, IsEnabledTo}
-use Rattle.mk_words.specs.TurnSteps.{Acts, IsTurn}
-use Rattle.mk_turns.proofs.PointedCells.{found_there}
-use Rattle.mk_objects.specs.FreeParts.{Changes, RunIsUnmapped, Unmaps, is_clearing}
-use Rattle.mk_objects.specs.Looking.{is_acting}
-use Rattle.mk_objects.specs.Placing.{IsOutOfStop, ComesTo}
-use Rattle.mk_objects.specs.Unchanged.{IsAsLeft}
-use Rattle.mk_objects.specs.Unmapping.{IsStillMapped, UnmappedTo, WipedTo, WipesTo}
+use Rattle.mk_laws.proofs.Vocabulary.{Bool, Cell, Config, Flight, Hand, Header, Holding, Holds, Later, List, Moment}
+use Rattle.mk_laws.proofs.Vocabulary.{None, Op, Option, Page, Placing, Run, RunPages, Seat, Some, Stage, Steady, Step}
+use Rattle.mk_laws.proofs.Vocabulary.{Unplaced, Word, Words, World, Written, ℕ, address_of, all_below, all_below-at}
+use Rattle.mk_laws.proofs.Vocabulary.{and_from, ap, arith, cases_eq, chosen, eq-eqb, eqb-true, false, flight_of}
+use Rattle.mk_laws.proofs.Vocabulary.{free_page, get_or-set_other, get_or-set_same, has_no_pointers, header_at}
+use Rattle.mk_laws.proofs.Vocabulary.{header_in, header_of, if◌then◌else◌, inl, inr, is_heap_address, is_held}
+use Rattle.mk_laws.proofs.Vocabulary.{is_new_at, is_number_of, is_phase, is_run_unmapped, is_undecided_new, le-leb}
+use Rattle.mk_laws.proofs.Vocabulary.{left, length, lt-ltb, nat_le, nat_lt, or_else, others_are_held, page_at_address}
+use Rattle.mk_laws.proofs.Vocabulary.{phase_of, place_now, refl, run_header, same_Some, slice_index, slice_index_or}
+use Rattle.mk_laws.proofs.Vocabulary.{slice_set, stands, subst, suc, sym, true, unmapped_header, unmaps, world_behind}
+use Rattle.mk_laws.proofs.Vocabulary.{zero, [], ◌*◌, ◌+◌, ◌-◌, ◌/◌, ◌<◌, ◌==◌, ◌||◌, ◌∙◌, ◌≡◌, ◌≤◌}
+use Rattle.mk_objects.proofs.Vocabulary.{Acts, Changes, ComesTo, IsAsLeft, IsEnabledTo, IsOutOfStop, IsTurn, PassState}
+use Rattle.mk_objects.proofs.Vocabulary.{RunIsUnmapped, Unmaps, WipesTo, all_below_from, call_of, is_acting}
+use Rattle.mk_objects.proofs.Vocabulary.{is_clearing, now_of, option_and_then, steady_of, world_of}
+use Rattle.mk_geom.proofs.{Bridge.run_in_range, HeaderLemmas.header_of-word_of}
+use Rattle.mk_geom.specs.Addresses.{cell_under, run_of_page, word_at_address}
+use Rattle.mk_core.specs.{Cells.is_in_run, Cells.pointed_cell, Effects.hand_given, Effects.hand_of_cell}
+use Rattle.mk_core.specs.{Effects.is_in_stop, Frames.HoldsAll, Frames.written_of, TurnConditions.is_in_gone_run}
 use Rattle.mk_objects.proofs.Looks.{acting_caller, acting_now}
 use Rattle.mk_objects.proofs.MayAct.{IsActing, may_look_heap, may_unmap, may_wipe, off_four}
 use Rattle.mk_objects.proofs.Reaching.{reaches_nothing, reaches_still, reaches_still_in_stop}
-use Rattle.mk_objects.proofs.ReachedParts.{reached_there, reaches_so}
-use Rattle.mk_objects.proofs.Serves.{out_of_stop}
 use Rattle.mk_objects.proofs.Serving.{header_here, header_set, next_is}
 use Rattle.mk_objects.proofs.Unchanged.{HasCall, OfCaller, acting_has_call, call_behind}
+use Rattle.mk_objects.proofs.{ReachedParts.reached_there, ReachedParts.reaches_so, Serves.out_of_stop}
+use Rattle.mk_objects.specs.Unmapping.{IsStillMapped, UnmappedTo, WipedTo}
+use Rattle.mk_turns.proofs.PointedCells.{found_there}
+use Rattle.mk_words.specs.Steps.{Finds}
 
 -- A call that is decided is no New on its way, so its holder's place stays.
 
-no_new : (f : Flight) → f.stage ≡ stage.Give → is_undecided_new f ≡ false
+no_new : (f : Flight) → f.stage ≡ Stage.Give → is_undecided_new f ≡ false
 no_new f is = ap (λ (s : Stage). is_new_at s f.op) is ∙ at_give f
   where
-    at_give : (f : Flight) → is_new_at stage.Give f.op ≡ false
+    at_give : (f : Flight) → is_new_at Stage.Give f.op ≡ false
     at_give f = refl
 
-no_place : (c : Config) (m : Moment) (f : Flight) → f.stage ≡ stage.Give → place_now c m f ≡ None
+no_place : (c : Config) (m : Moment) (f : Flight) → f.stage ≡ Stage.Give → place_now c m f ≡ None
 no_place c m f is = rw (no_new f is) refl
 
 chosen_none : (x : Placing) → chosen x None ≡ x
 chosen_none Unplaced = refl
 chosen_none _ = refl
 
-same_holding : (c : Config) (m : Moment) (f : Flight) → f.stage ≡ stage.Give → IsOutOfStop m
+same_holding : (c : Config) (m : Moment) (f : Flight) → f.stage ≡ Stage.Give → IsOutOfStop m
     → (if is_phase m.words 4 then m.seats.holding.placing else chosen m.seats.holding.placing
     (place_now c m f)) ≡ m.seats.holding.placing
 same_holding c m f is low = rw (off_four m low, no_place c m f is) (chosen_none m.seats.holding.placing)
 
-pub give_acts : (f : Flight) → f.stage ≡ stage.Give → is_acting f.stage ≡ true
+pub give_acts : (f : Flight) → f.stage ≡ Stage.Give → is_acting f.stage ≡ true
 give_acts f is = ap is_acting is
 
 pub changes_nothing : (s : Seat) (w : World) → Changes s (λ x. x) w w
@@ -114,15 +81,15 @@ unmapped_left s run w u v n at kept =
 
 unmapped_more : (c : Config) (s : Seat) (run : RunPages) (w v : World) (n : ℕ) → UnmappedTo s run w v n
     → HasCall c v.now s
-    → (flight_of v.now s).stage ≡ stage.Give → IsOutOfStop v.now → n < run.count
+    → (flight_of v.now s).stage ≡ Stage.Give → IsOutOfStop v.now → n < run.count
     → run.page + n < length v.now.words.pages
     → UnmappedTo s run w (world_behind c v (record {
       seat = s;
-      step = step.Head (run.page + n) (unmapped_header run.count n);
+      step = Step.Head (run.page + n) (unmapped_header run.count n);
     })) (n + 1)
 unmapped_more c s run w v n at (OfCaller k lt) give low near room =
     let p = run.page + n in
-    let x = step.Head p (unmapped_header run.count n) in
+    let x = Step.Head p (unmapped_header run.count n) in
     let u : World = world_behind c v (record { seat = s; step = x }) in
     record {
       changes = record {
@@ -141,7 +108,7 @@ unmapped_more c s run w v n at (OfCaller k lt) give low near room =
           (header_set v.now.words.pages p (run.page + d) _ (λ i. absurd (omega arith))) ∙ e);
     }
 
-module _ (p : PassState) (o : Option Op) (run : RunPages) (turn : IsTurn p o) (give : (call_of p).stage ≡ stage.Give)
+module _ (p : PassState) (o : Option Op) (run : RunPages) (turn : IsTurn p o) (give : (call_of p).stage ≡ Stage.Give)
     (low : IsOutOfStop (now_of p)) where
   abbrev pub HasUnmapped : PassState → ℕ → Type 0
   HasUnmapped q n = ComesTo is_clearing p (λ v. UnmappedTo p.seat run (world_of p) v n) [] q
@@ -171,13 +138,13 @@ module _ (p : PassState) (o : Option Op) (run : RunPages) (turn : IsTurn p o) (g
   pub unmap_may : (q : PassState) (n : ℕ) → HasUnmapped q n
       → others_are_held p.table.config.callers (now_of p).words p.seat ≡ true
       → (now_of p).seats.holding.freed ≡ Some run → n < run.count → run.page + run.count ≤ p.table.config.pages
-      → IsEnabledTo q (step.Head (run.page + n) (unmapped_header run.count n))
+      → IsEnabledTo q (Step.Head (run.page + n) (unmapped_header run.count n))
   unmap_may q n reached stopped freed near within =
       let v : World = left p.table.config q.seen in
       let at = reached.world in
       let here : v.now.seats.holding.freed ≡ Some run = ap (λ (h : Holding). h.freed) at.changes.holding ∙ freed in
       reached_there is_clearing p q _ [] reached (λ (x : PassState). IsEnabledTo x
-      (step.Head (run.page + n) (unmapped_header run.count n)))
+      (Step.Head (run.page + n) (unmapped_header run.count n)))
       (may_unmap p.table.config v.now p.seat (there_acting v at.changes.call) (run.page + n)
       (unmapped_header run.count n) (omega arith)
       (there_low v (ap (λ (x : Steady). x.phase) at.changes.steady)) (still_stopped p v at.changes.gates stopped)
@@ -187,11 +154,11 @@ module _ (p : PassState) (o : Option Op) (run : RunPages) (turn : IsTurn p o) (g
 
   pub unmaps_on : (q r : PassState) (n : ℕ) → HasUnmapped q n → n < run.count
       → run.page + run.count ≤ p.table.config.pages
-      → Acts q (step.Head (run.page + n) (unmapped_header run.count n)) r → HasUnmapped r (n + 1)
+      → Acts q (Step.Head (run.page + n) (unmapped_header run.count n)) r → HasUnmapped r (n + 1)
   unmaps_on q r n reached near within a =
       reaches_still is_clearing p q r (λ v. UnmappedTo p.seat run (world_of p) v n)
       (λ v. UnmappedTo p.seat run (world_of p) v (n + 1)) []
-      (step.Head (run.page + n) (unmapped_header run.count n)) reached a refl refl
+      (Step.Head (run.page + n) (unmapped_header run.count n)) reached a refl refl
       (acting_caller p (give_acts (call_of p) give)) refl
       (λ w v here kept known pages.
       let on = unmapped_left p.seat run (world_of p) w v n here kept in
@@ -264,7 +231,7 @@ gone_cell w run pages address d cell unmapped few near at is =
 
 -- A look at such a word gives no hand.
 no_hand : (c : Config) (m : Moment) (s : Seat) (run : RunPages) (n value : ℕ) → is_run_unmapped m.words run ≡ true
-    → run.count ≤ 64 → n < 64 * run.count → hand_given c m s (word.Heap (64 * run.page + n)) value ≡ None
+    → run.count ≤ 64 → n < 64 * run.count → hand_given c m s (Word.Heap (64 * run.page + n)) value ≡ None
 no_hand c m s run n value unmapped few near =
     by (pointed_cell c.pages m.words.pages (address_of (64 * run.page + n)))
     (λ cell is. gone_cell m.words run c.pages (address_of (64 * run.page + n)) (n / 64) cell unmapped few
@@ -292,12 +259,12 @@ wiped_left s run w u v n at kept stop =
     }
 
 wiped_seen : (c : Config) (s : Seat) (run : RunPages) (w v : World) (n k : ℕ) → WipedTo s run w v n → HasCall c v.now s
-    → ((value : ℕ) → hand_given c v.now s (word.Heap k) value ≡ None)
-    → WipedTo s run w (world_behind c v (record { seat = s; step = step.Look (word.Heap k) })) n
+    → ((value : ℕ) → hand_given c v.now s (Word.Heap k) value ≡ None)
+    → WipedTo s run w (world_behind c v (record { seat = s; step = Step.Look (Word.Heap k) })) n
 wiped_seen c s run w v n k at (OfCaller j lt) none =
     record {
       changes = record {
-        call = call_behind c v.now j (step.Look (word.Heap k)) lt ∙ at.changes.call;
+        call = call_behind c v.now j (Step.Look (Word.Heap k)) lt ∙ at.changes.call;
         holding = ap (λ (x : Option Hand). record v.now.seats.holding { hand = or_else x v.now.seats.holding.hand })
             (none _) ∙ at.changes.holding;
         steady = at.changes.steady;
@@ -321,13 +288,13 @@ wiped_already s run w v n at zero_there =
 wiped_more : (c : Config) (s : Seat) (run : RunPages) (w u v : World) (n : ℕ) → WipedTo s run w u n → IsAsLeft s u v
     → HasCall c v.now s
     → written_of v ≡ written_of u → 64 * run.page + n < length v.now.words.heap
-    → WipedTo s run w (world_behind c v (record { seat = s; step = step.Wipe (64 * run.page + n) })) (n + 1)
+    → WipedTo s run w (world_behind c v (record { seat = s; step = Step.Wipe (64 * run.page + n) })) (n + 1)
 wiped_more c s run w u v n at kept (OfCaller k lt) stop room =
     let heap : v.now.words.heap ≡ u.now.words.heap = ap (λ (x : Written). x.heap) stop in
     let p = 64 * run.page + n in
     record {
       changes = record {
-        call = call_behind c v.now k (step.Wipe p) lt ∙ kept.call ∙ at.changes.call;
+        call = call_behind c v.now k (Step.Wipe p) lt ∙ kept.call ∙ at.changes.call;
         holding = kept.holding ∙ at.changes.holding;
         steady = kept.steady ∙ at.changes.steady;
         gates = λ j. kept.gates j ∙ at.changes.gates j;
@@ -346,7 +313,7 @@ still_unmapped p run v n at unmapped =
     ap (λ (ps : List Page). all_below run.count (λ d. (slice_index_or ps (run.page + d) free_page).header ==
     unmapped_header run.count d)) (ap (λ (x : Steady). x.pages) at.changes.steady) ∙ unmapped
 
-module _ (p : PassState) (o : Option Op) (run : RunPages) (turn : IsTurn p o) (give : (call_of p).stage ≡ stage.Give)
+module _ (p : PassState) (o : Option Op) (run : RunPages) (turn : IsTurn p o) (give : (call_of p).stage ≡ Stage.Give)
     (stopped : others_are_held p.table.config.callers (now_of p).words p.seat ≡ true) where
   abbrev pub HasWiped : PassState → ℕ → Type 0
   HasWiped q n = WipesTo p run n q
@@ -364,11 +331,11 @@ module _ (p : PassState) (o : Option Op) (run : RunPages) (turn : IsTurn p o) (g
 
   pub look_may : (q : PassState) (n k : ℕ) → HasWiped q n → k < 64 * run.count
       → run.page + run.count ≤ p.table.config.pages
-      → IsEnabledTo q (step.Look (word.Heap (64 * run.page + k)))
+      → IsEnabledTo q (Step.Look (Word.Heap (64 * run.page + k)))
   look_may q n k reached near within =
       let at = reached.world in
       reached_there is_clearing p q _ [] reached
-      (λ (x : PassState). IsEnabledTo x (step.Look (word.Heap (64 * run.page + k))))
+      (λ (x : PassState). IsEnabledTo x (Step.Look (Word.Heap (64 * run.page + k))))
       (may_look_heap p.table.config (left p.table.config q.seen).now p.seat
       (there_wiping (left p.table.config q.seen) at.changes.call)
       (64 * run.page + k) (omega arith))
@@ -385,12 +352,12 @@ module _ (p : PassState) (o : Option Op) (run : RunPages) (turn : IsTurn p o) (g
 
   pub looks_then : (q r : PassState) (n k : ℕ) → HasWiped q n → k < 64 * run.count → run.count ≤ 64
       → is_run_unmapped (now_of p).words run ≡ true
-      → Acts q (step.Look (word.Heap (64 * run.page + k))) r → HasWiped r n
+      → Acts q (Step.Look (Word.Heap (64 * run.page + k))) r → HasWiped r n
   looks_then q r n k reached near few unmapped a =
       reaches_still_in_stop is_clearing p q r (λ v. WipedTo p.seat run (world_of p) v n
       × HoldsAll p.table.config v.now p.seat)
       (λ v. WipedTo p.seat run (world_of p) v n) []
-      (step.Look (word.Heap (64 * run.page + k))) (with_turn q n reached a.holds) a refl refl
+      (Step.Look (Word.Heap (64 * run.page + k))) (with_turn q n reached a.holds) a refl refl
       (acting_caller p (give_acts (call_of p) give)) refl
       (λ w v here kept stop known pages.
       let on = wiped_left p.seat run (world_of p) w v n here.0 kept (stop here.1) in
@@ -400,17 +367,17 @@ module _ (p : PassState) (o : Option Op) (run : RunPages) (turn : IsTurn p o) (g
 
   -- The word was found to be 0.
   pub found_wiped : (q r : PassState) (n value : ℕ) → HasWiped r n
-      → Finds q (step.Look (word.Heap (64 * run.page + n))) value r → value ≡ 0 → HasWiped r (n + 1)
+      → Finds q (Step.Look (Word.Heap (64 * run.page + n))) value r → value ≡ 0 → HasWiped r (n + 1)
   found_wiped q r n value reached f none =
       reaches_so is_clearing p r (λ v. WipedTo p.seat run (world_of p) v n)
       (λ v. WipedTo p.seat run (world_of p) v (n + 1)) [] reached
       (λ at. wiped_already p.seat run (world_of p) (left p.table.config r.seen) n at
       (subst (λ (x : PassState). slice_index (now_of x).words.heap (64 * run.page + n) ≡ 0) reached.same
-      (found_there q r (word.Heap (64 * run.page + n)) value f ∙ none)))
+      (found_there q r (Word.Heap (64 * run.page + n)) value f ∙ none)))
 
   pub wipe_may : (q : PassState) (n : ℕ) → HasWiped q n → (now_of p).seats.holding.freed ≡ Some run
       → is_run_unmapped (now_of p).words run ≡ true
-      → n < 64 * run.count → run.page + run.count ≤ p.table.config.pages → IsEnabledTo q (step.Wipe (64 * run.page + n))
+      → n < 64 * run.count → run.page + run.count ≤ p.table.config.pages → IsEnabledTo q (Step.Wipe (64 * run.page + n))
   wipe_may q n reached freed unmapped near within =
       let v : World = left p.table.config q.seen in
       let at = reached.world in
@@ -421,19 +388,19 @@ module _ (p : PassState) (o : Option Op) (run : RunPages) (turn : IsTurn p o) (g
       and_from (nat_le run.page (word / 64)) (nat_lt (word / 64 - run.page) run.count)
       (le-leb run.page (word / 64) (omega arith))
       (lt-ltb (word / 64 - run.page) run.count (omega arith)) in
-      reached_there is_clearing p q _ [] reached (λ (x : PassState). IsEnabledTo x (step.Wipe word))
+      reached_there is_clearing p q _ [] reached (λ (x : PassState). IsEnabledTo x (Step.Wipe word))
       (may_wipe p.table.config v.now p.seat (there_wiping v at.changes.call) word (omega arith)
       (ap (λ (x : Option RunPages). is_in_gone_run v.now.words x word) here
       ∙ and_from (is_in_run run word) (is_run_unmapped v.now.words run) inside still))
 
   pub wipes_on : (q r : PassState) (n : ℕ) → HasWiped q n → n < 64 * run.count
       → run.page + run.count ≤ p.table.config.pages
-      → Acts q (step.Wipe (64 * run.page + n)) r → HasWiped r (n + 1)
+      → Acts q (Step.Wipe (64 * run.page + n)) r → HasWiped r (n + 1)
   wipes_on q r n reached near within a =
       reaches_still_in_stop is_clearing p q r (λ v. WipedTo p.seat run (world_of p) v n
       × HoldsAll p.table.config v.now p.seat)
       (λ v. WipedTo p.seat run (world_of p) v (n + 1)) []
-      (step.Wipe (64 * run.page + n)) (with_turn q n reached a.holds) a refl refl
+      (Step.Wipe (64 * run.page + n)) (with_turn q n reached a.holds) a refl refl
       (acting_caller p (give_acts (call_of p) give))
       refl
       (λ w v here kept stop known pages.

@@ -1,19 +1,12 @@
 -- The words of a run are wiped group by group.
-use Rattle.std.proofs.Common.{ℕ, ◌+◌, ◌*◌, [], ◌∙◌, ap}
-use Rattle.std.specs.Prelude.{◌==◌, slice_index}
-use Rattle.std.proofs.lemmas.Bool.{eq-eqb}
-use Rattle.mk_core.specs.declared.seats.Flight.{Flight}
-use Rattle.mk_core.specs.declared.seats.Holding.{Holding}
-use Rattle.mk_core.specs.declared.seats.RunPages.{RunPages}
-use Rattle.mk_core.specs.declared.events.Seat.{Seat}
-use Rattle.mk_core.specs.History.{World, left}
-use Rattle.mk_laws.proofs.Tests.{all_below_from}
-use Rattle.mk_words.specs.States.{PassState, now_of, world_of}
-use Rattle.mk_objects.specs.FreeParts.{Changes, RunIsWiped, Wipes, is_clearing}
-use Rattle.mk_objects.specs.Unmapping.{AreWiped, MayWipe, WipedTo, WipesTo}
-use Rattle.mk_objects.proofs.Reaching.{reaches_nothing}
+use Rattle.mk_laws.proofs.Vocabulary.{Flight, Holding, RunPages, Seat, World, ℕ, ap, eq-eqb, left, slice_index, [], ◌*◌}
+use Rattle.mk_laws.proofs.Vocabulary.{◌+◌, ◌==◌, ◌∙◌}
+use Rattle.mk_objects.proofs.Vocabulary.{Changes, PassState, RunIsWiped, Wipes, WipesTo, all_below_from, is_clearing}
+use Rattle.mk_objects.proofs.Vocabulary.{now_of, world_of}
 use Rattle.mk_objects.proofs.ReachedParts.{reached_there, reached_world, reaches_after, reaches_so, same_kinds}
 use Rattle.mk_objects.proofs.UnmappedRuns.{changes_nothing, still_stopped, still_unmapped}
+use Rattle.mk_objects.proofs.Reaching.{reaches_nothing}
+use Rattle.mk_objects.specs.Unmapping.{AreWiped, MayWipe, WipedTo}
 
 pub wiped_from : (p : PassState) (run : RunPages) (n : ℕ) → AreWiped (now_of p).words run n → WipesTo p run n p
 wiped_from p run n wiped =

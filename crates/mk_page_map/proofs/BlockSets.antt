@@ -1,17 +1,13 @@
 -- The sets of blocks, by class and sort.
-use Rattle.std.proofs.Common.{◌≡◌, ℕ, ◌+◌, ◌%◌, ◌<◌, ◌≤◌, Bool, true, false, not, ◌&&◌, nat_eq, nat_le, nat_lt}
-use Rattle.std.proofs.Common.{List, [], refl, ap, sym, ◌∙◌, inl, inr, eqb-true, subst, arith}
-use Rattle.std.specs.Option.{is_some}
-use Rattle.std.proofs.lemmas.Bool.{cases_Bool, cases_lt, and_parts, cond-true, cond-false, lt-ltb, le-leb, lt-leb}
-use Rattle.std.proofs.lemmas.Bool.{cases_eq, not-true}
-use Rattle.std.proofs.Math.Nat.{div-le_self}
+use Rattle.std.proofs.lemmas.Bool.{and_parts, cases_Bool, cond-false, cond-true, lt-leb, not-true}
+use Rattle.std.proofs.{Common.eqb-true, Common.le-leb, Common.lt-ltb, Common.nat_le, Common.◌&&◌, Math.Nat.div-le_self}
+use Rattle.mk_page_map.proofs.Vocabulary.{Bool, IsInItsSets, List, Nothing, PageUse, ℕ, ap, arith, cases_eq, cases_lt}
+use Rattle.mk_page_map.proofs.Vocabulary.{false, first_where, has_free_cell, inl, inr, is_member, is_of_set, is_some}
+use Rattle.mk_page_map.proofs.Vocabulary.{nat_eq, nat_lt, not, refl, subst, sym, true, use_of_kind, [], ◌%◌, ◌+◌, ◌<◌}
+use Rattle.mk_page_map.proofs.Vocabulary.{◌∙◌, ◌≡◌, ◌≤◌}
 use Rattle.mk_geom.specs.Classes.{cells_of, class_words_of}
-use Rattle.mk_geom.specs.PageUses.{PageUse, Nothing, Cells, first_where, is_same_sort}
-use Rattle.mk_geom.specs.PageWords.{bits_of}
-use Rattle.mk_books.specs.FreeCells.{class_place}
-use Rattle.mk_books.proofs.FreeCellLemmas.{cells_taken_alike}
-use Rattle.mk_page_map.specs.Members.{has_free_cell}
-use Rattle.mk_page_map.specs.PageSets.{IsInItsSets, is_member, is_of_set, use_of_kind}
+use Rattle.mk_geom.specs.{PageUses.Cells, PageUses.is_same_sort, PageWords.bits_of}
+use Rattle.mk_books.{proofs.FreeCellLemmas.cells_taken_alike, specs.FreeCells.class_place}
 use Rattle.mk_page_map.specs.declared.kinds.PageKind.TheVariants.{Block}
 
 pub of_block_set : (set : ℕ) (use' : PageUse) → set < 16

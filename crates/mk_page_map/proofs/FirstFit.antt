@@ -1,16 +1,11 @@
 -- The place of a small object is in the lowest block that has a free cell.
-use Rattle.std.proofs.Common.{◌≡◌, ℕ, ◌+◌, Bool, false, not, List, [], ◌∷◌, Option, Some, None, option_map}
-use Rattle.std.proofs.Common.{option_and_then}
-use Rattle.std.proofs.Common.{nat_lt, if◌then◌else◌, refl, ap, sym, ◌∙◌, add-one}
-use Rattle.std.specs.Option.{is_some}
-use Rattle.mk_geom.specs.declared.pages.Page.{Page}
+use Rattle.std.proofs.Common.{add-one, if◌then◌else◌, option_and_then, option_map, ◌∷◌}
+use Rattle.mk_page_map.proofs.Vocabulary.{Bool, List, None, Option, Page, Some, ℕ, ap, false, first_where}
+use Rattle.mk_page_map.proofs.Vocabulary.{has_free_cell, is_free_page, is_some, nat_lt, not, page_at, refl}
+use Rattle.mk_page_map.proofs.Vocabulary.{resident_pages, sym, use_of_page, uses_of_pages, [], ◌+◌, ◌∙◌, ◌≡◌}
+use Rattle.mk_geom.specs.PageUses.{carved, cell_place, cells_taken, or_else, page_behind}
 use Rattle.mk_geom.specs.declared.pages.Place.{Place}
-use Rattle.mk_geom.specs.PageUses.{cell_place, cells_taken, first_where, or_else, page_behind, is_free_page}
-use Rattle.mk_geom.specs.PageUses.{resident_pages}
-use Rattle.mk_geom.specs.PageUses.{carved}
-use Rattle.mk_geom.specs.PageWords.{use_of_page, uses_of_pages}
 use Rattle.mk_page_map.specs.Laws.{LowestBlockHasThePlace, free_cell_on}
-use Rattle.mk_page_map.specs.Members.{has_free_cell, page_at}
 
 abbrev cell_here : ℕ → ℕ → Place
 cell_here number index = record { page = number; index = index; carve = false }

@@ -1,15 +1,10 @@
 -- The sets and the count stay fit for the pages where a page changes.
-use Rattle.std.proofs.Common.{◌≡◌, ℕ, ◌+◌, ◌<◌, cond, List, length, get_or, set}
-use Rattle.std.proofs.Common.{ap, sym, ◌∙◌, inl, inr, arith, get_or-set_same, get_or-set_other, length-set, subst}
-use Rattle.std.proofs.lemmas.Bool.{cases_eq}
-use Rattle.std.proofs.lemmas.List.{length-map, map-set, get_or-map}
-use Rattle.std.proofs.lemmas.List.Sums.{sum_by-set}
-use Rattle.mk_geom.specs.declared.pages.Page.{Page}
-use Rattle.mk_geom.specs.Storages.{free_page}
-use Rattle.mk_geom.specs.PageUses.{PageUse, Nothing, is_resident_page, resident_pages}
-use Rattle.mk_geom.specs.PageWords.{use_of_page, uses_of_pages}
-use Rattle.mk_page_map.specs.Members.{page_at}
-use Rattle.mk_page_map.specs.PageSets.{AreSets, FitPages, IsInItsSets, OthersStay, is_member}
+use Rattle.std.proofs.{lemmas.List.get_or-map, lemmas.List.map-set, lemmas.List.Sums.sum_by-set}
+use Rattle.mk_page_map.proofs.Vocabulary.{AreSets, FitPages, IsInItsSets, List, Nothing, OthersStay, Page, PageUse, ℕ}
+use Rattle.mk_page_map.proofs.Vocabulary.{ap, arith, cases_eq, cond, free_page, get_or, get_or-set_other}
+use Rattle.mk_page_map.proofs.Vocabulary.{get_or-set_same, inl, inr, is_member, is_resident_page, length, length-map}
+use Rattle.mk_page_map.proofs.Vocabulary.{length-set, page_at, resident_pages, set, subst, sym, use_of_page}
+use Rattle.mk_page_map.proofs.Vocabulary.{uses_of_pages, ◌+◌, ◌<◌, ◌∙◌, ◌≡◌}
 
 -- 1 for a resident page
 abbrev pub resident_one : Page → ℕ

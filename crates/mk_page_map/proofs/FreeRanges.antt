@@ -1,16 +1,14 @@
 -- The lowest range of free pages, from one range to the next.
-use Rattle.std.proofs.Common.{◌≡◌, ℕ, zero, suc, ◌+◌, ◌-◌, ◌<◌, ◌≤◌, nat_le, Bool, true, false, if◌then◌else◌, refl}
-use Rattle.std.proofs.Common.{List, [], ◌∷◌, length, Option, Some, None, option_map, ap, sym, ◌∙◌, inl, inr, arith}
+use Rattle.std.proofs.Common.{if◌then◌else◌, le-leb, nat_le, option_map, ◌∷◌}
+use Rattle.std.proofs.{lemmas.Bool.both_ways, lemmas.Bool.not-false, lemmas.Bool.not-true, lemmas.List.at_drop_all}
 use Rattle.std.specs.Option.{unwrap_or}
-use Rattle.std.proofs.lemmas.Bool.{both_ways, cases_lt, le-leb, not-false, not-true}
-use Rattle.std.proofs.lemmas.List.{at_drop_all}
-use Rattle.mk_geom.specs.declared.pages.Page.{Page}
-use Rattle.mk_geom.specs.Storages.{free_page}
-use Rattle.mk_geom.specs.PageUses.{PageUse, first_where, free_range, is_free_page, range_start}
-use Rattle.mk_geom.specs.PageWords.{use_of_page, uses_of_pages}
-use Rattle.mk_books.proofs.FreeRangeLemmas.{free_range_from, free_range_from-free, free_range_from-taken}
-use Rattle.mk_books.proofs.FreeRangeLemmas.{range_start_from, first-skip, first-here, first-end}
-use Rattle.mk_page_map.specs.Members.{IsNext, is_in_use, page_at}
+use Rattle.mk_page_map.proofs.Vocabulary.{Bool, IsNext, List, None, Option, Page, PageUse, Some, ℕ, ap, arith, cases_lt}
+use Rattle.mk_page_map.proofs.Vocabulary.{false, first_where, free_page, inl, inr, is_free_page, is_in_use, length}
+use Rattle.mk_page_map.proofs.Vocabulary.{page_at, range_start, range_start_from, refl, suc, sym, true, use_of_page}
+use Rattle.mk_page_map.proofs.Vocabulary.{uses_of_pages, zero, [], ◌+◌, ◌-◌, ◌<◌, ◌∙◌, ◌≡◌, ◌≤◌}
+use Rattle.mk_geom.specs.PageUses.{free_range}
+use Rattle.mk_books.proofs.FreeRangeLemmas.{first-end, first-here, first-skip, free_range_from, free_range_from-free}
+use Rattle.mk_books.proofs.FreeRangeLemmas.{free_range_from-taken}
 
 abbrev pub is_free_at : List Page → ℕ → Bool
 is_free_at pages number = is_free_page (use_of_page (page_at pages number))

@@ -1,19 +1,14 @@
 -- The sets of a heap whose pages are all free.
-use Rattle.std.proofs.Common.{◌≡◌, ℕ, zero, suc, cond, subst, ◌+◌, ◌*◌, ◌/◌, ◌%◌, ◌<◌, ◌≤◌, true, false, not, ◌&&◌}
-use Rattle.std.proofs.Common.{nat_eq, nat_lt, List}
-use Rattle.std.proofs.Common.{get_or, length, take, drop, ◌++◌, replicate, refl, ap, sym, ◌∙◌, inl, inr, arith}
-use Rattle.std.specs.Int.{bit_at}
-use Rattle.std.proofs.lemmas.Bool.{and_left, and_right, cases_eq, cases_lt, le-ltb, lt-ltb, ne_eqb}
-use Rattle.std.proofs.lemmas.List.{get_or-replicate, get_or_past, length-replicate, take_at}
-use Rattle.std.proofs.lemmas.Nat.Bits.{bit_at-zero}
-use Rattle.std.proofs.lemmas.List.Sums.{sum_by-cons}
-use Rattle.mk_geom.specs.declared.pages.Page.{Page}
-use Rattle.mk_geom.specs.Storages.{free_page}
-use Rattle.mk_geom.specs.PageUses.{PageUse, Nothing, is_resident_page, resident_pages}
-use Rattle.mk_geom.specs.PageWords.{use_of_page, uses_of_pages}
-use Rattle.mk_page_map.specs.KnownPages.{Shows}
-use Rattle.mk_page_map.specs.Members.{page_at}
-use Rattle.mk_page_map.specs.PageSets.{AreSets, FitPages, IsInItsSets, OthersStay, is_member, is_of_set}
+use Rattle.std.proofs.Common.{le-ltb, lt-ltb, ne_eqb, take_at, ◌&&◌, ◌/◌}
+use Rattle.std.proofs.lemmas.Bool.{and_left, and_right}
+use Rattle.std.proofs.lemmas.List.{get_or-replicate, get_or_past, length-replicate}
+use Rattle.std.proofs.{lemmas.List.Sums.sum_by-cons, lemmas.Nat.Bits.bit_at-zero}
+use Rattle.mk_page_map.proofs.Vocabulary.{AreSets, FitPages, IsInItsSets, List, Nothing, OthersStay, Page, PageUse}
+use Rattle.mk_page_map.proofs.Vocabulary.{Shows, ℕ, ap, arith, bit_at, cases_eq, cases_lt, cond, drop, false, free_page}
+use Rattle.mk_page_map.proofs.Vocabulary.{get_or, inl, inr, is_member, is_of_set, is_resident_page, length, nat_eq}
+use Rattle.mk_page_map.proofs.Vocabulary.{nat_lt, not, page_at, refl, replicate, resident_pages, subst, suc, sym, take}
+use Rattle.mk_page_map.proofs.Vocabulary.{true, use_of_page, uses_of_pages, zero, ◌%◌, ◌*◌, ◌++◌, ◌+◌, ◌<◌, ◌∙◌, ◌≡◌}
+use Rattle.mk_page_map.proofs.Vocabulary.{◌≤◌}
 use Rattle.mk_page_map.proofs.BlockSets.{OtherSetsStay, each_set, nothing_of_set}
 use Rattle.mk_page_map.proofs.Showing.{known_by, member_at}
 

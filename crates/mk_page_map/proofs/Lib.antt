@@ -10,3 +10,4 @@ pub mod Storing
 pub mod FreeRanges
 pub mod FirstFit
 pub mod Uncleaned
+pub mod Vocabulary

@@ -1,15 +1,11 @@
 -- The lowest 1 of a word, from a place on, and a word with one bit put.
-use Rattle.std.proofs.Common.{◌≡◌, ℕ, ◌-◌, ◌*◌, ◌%◌, ◌^◌, ◌<◌, ◌≤◌, min, true, false, nat_eq, Some, None, bit_and}
-use Rattle.std.proofs.Common.{◌+◌, bit_or, not, refl, zero, suc}
-use Rattle.std.proofs.Common.{w64, ap, sym, ◌∙◌, inl, inr, eq-eqb, arith}
-use Rattle.std.specs.Int.{bit_at, bit_not}
-use Rattle.std.specs.Int.Bits.{bit_xor}
-use Rattle.std.proofs.Math.Pow.{pow-lt}
-use Rattle.std.proofs.lemmas.Bool.{cases_lt}
-use Rattle.std.proofs.lemmas.Nat.Bits.{bit_at_and, bit_at-lt, bit_at-zero, bit_at_mask_inside, bit_at_mask_below}
-use Rattle.std.proofs.lemmas.Nat.Bits.{ones_shl, bit_at_xor, bit_at-pow_same, bit_at-pow_other}
-use Rattle.std.proofs.lemmas.Nat.Bits.{bit_at_set_same, bit_at_set_other, bit_at_clear_same, bit_at_clear_other}
-use Rattle.mk_page_map.specs.Members.{IsNext}
+use Rattle.std.proofs.lemmas.Nat.Bits.{bit_at-lt, bit_at-pow_other, bit_at-pow_same, bit_at-zero, bit_at_and}
+use Rattle.std.proofs.lemmas.Nat.Bits.{bit_at_clear_other, bit_at_clear_same, bit_at_mask_below, bit_at_mask_inside}
+use Rattle.std.proofs.lemmas.Nat.Bits.{bit_at_set_other, bit_at_set_same, bit_at_xor, ones_shl}
+use Rattle.std.proofs.{Common.bit_and, Common.bit_or, Common.eq-eqb, Common.min, Common.◌^◌, Math.Pow.pow-lt}
+use Rattle.std.specs.{Int.bit_not, Int.Bits.bit_xor}
+use Rattle.mk_page_map.proofs.Vocabulary.{IsNext, None, Some, ℕ, ap, arith, bit_at, cases_lt, false, inl, inr, nat_eq}
+use Rattle.mk_page_map.proofs.Vocabulary.{not, refl, suc, sym, true, w64, zero, ◌%◌, ◌*◌, ◌+◌, ◌-◌, ◌<◌, ◌∙◌, ◌≡◌, ◌≤◌}
 
 -- the word without its bits below a place, as the code computes it
 abbrev pub rest_from : ℕ → ℕ → ℕ

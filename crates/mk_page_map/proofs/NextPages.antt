@@ -1,9 +1,7 @@
 -- The next page by one test and by another, and by the list that the test is of.
-use Rattle.std.proofs.Common.{◌≡◌, ℕ, ◌<◌, Bool, List, length}
-use Rattle.std.proofs.Common.{get_or, Option, Some, None, sym, ◌∙◌, arith}
-use Rattle.mk_geom.specs.PageUses.{first_where}
+use Rattle.mk_page_map.proofs.Vocabulary.{Bool, IsNext, List, None, Option, Some, ℕ, arith, first_where, get_or, length}
+use Rattle.mk_page_map.proofs.Vocabulary.{sym, ◌<◌, ◌∙◌, ◌≡◌}
 use Rattle.mk_books.proofs.FirstWhereLemmas.{first_where_at, first_where_nowhere}
-use Rattle.mk_page_map.specs.Members.{IsNext}
 
 -- by another test that says the same
 pub same_next : (passes others : ℕ → Bool) (from count : ℕ) (next : Option ℕ)

@@ -1,9 +1,9 @@
 -- What a page put into a set, or taken out, makes of the words of the sets.
-use Rattle.std.proofs.Common.{◌≡◌, ℕ, ◌+◌, ◌*◌, ◌/◌, ◌%◌, ◌<◌, Bool, not, nat_eq, List, get_or, set}
-use Rattle.std.proofs.Common.{ap, sym, ◌∙◌, inl, inr, arith, get_or-set_same, get_or-set_other, length-set}
-use Rattle.std.specs.Int.{bit_at}
-use Rattle.std.proofs.lemmas.Bool.{cases_eq}
-use Rattle.mk_page_map.specs.PageSets.{AreSets, OthersStay, is_member, summary_of, word_in_set}
+use Rattle.std.proofs.Common.{◌/◌}
+use Rattle.mk_page_map.proofs.Vocabulary.{AreSets, Bool, List, OthersStay, ℕ, ap, arith, bit_at, cases_eq, get_or}
+use Rattle.mk_page_map.proofs.Vocabulary.{get_or-set_other, get_or-set_same, inl, inr, is_member, length-set, nat_eq}
+use Rattle.mk_page_map.proofs.Vocabulary.{not, set, sym, ◌%◌, ◌*◌, ◌+◌, ◌<◌, ◌∙◌, ◌≡◌}
+use Rattle.mk_page_map.specs.PageSets.{summary_of, word_in_set}
 
 abbrev pub after_put : List ℕ → ℕ → ℕ → ℕ → ℕ → List ℕ
 after_put sets s page word summary = set (set sets (65 * s + 1 + page / 64) word) (65 * s) summary

@@ -1,12 +1,9 @@
 -- What a map shows, by its pages and sets.
-use Rattle.std.proofs.Common.{◌≡◌, ℕ, ◌<◌, ◌≤◌, false, not, nat_eq, List, length, get_or, set}
-use Rattle.std.proofs.Common.{ap, sym, ◌∙◌, inl, inr, arith, get_or-set_same, get_or-set_other, length-set}
-use Rattle.std.proofs.lemmas.Bool.{cases_eq}
 use Rattle.std.proofs.lemmas.List.FromFn.{get_or-map-range_with_len}
-use Rattle.mk_geom.specs.declared.pages.Page.{Page}
-use Rattle.mk_page_map.specs.KnownPages.{KnownPages, Shows}
-use Rattle.mk_page_map.specs.Members.{has_freed_cells}
-use Rattle.mk_page_map.specs.PageSets.{OthersStay, is_member, members}
+use Rattle.mk_page_map.proofs.Vocabulary.{KnownPages, List, OthersStay, Page, Shows, ℕ, ap, arith, cases_eq, false}
+use Rattle.mk_page_map.proofs.Vocabulary.{get_or, get_or-set_other, get_or-set_same, inl, inr, is_member, length}
+use Rattle.mk_page_map.proofs.Vocabulary.{length-set, nat_eq, not, set, sym, ◌<◌, ◌∙◌, ◌≡◌, ◌≤◌}
+use Rattle.mk_page_map.specs.{Members.has_freed_cells, PageSets.members}
 
 abbrev pub known_by : List Page → List ℕ → KnownPages
 known_by pages sets =

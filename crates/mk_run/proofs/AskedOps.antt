@@ -1,10 +1,7 @@
 -- The operation that a script asks for is one.
-use Rattle.std.proofs.Common.{◌≡◌, ℕ, List, ap, sym, ◌∙◌}
-use Rattle.std.specs.Prelude.{Option, Some}
-use Rattle.mk_never.specs.declared.operations.Op.{Op}
-use Rattle.mk_core.specs.declared.events.Answer.{Answer}
-use Rattle.mk_script.specs.declared.items.Item.{Item}
-use Rattle.mk_check.specs.Feeding.{FeedState, FeedStandsFor, next_op}
+use Rattle.mk_laws.proofs.Vocabulary.{Answer, List, Op, Some, ℕ, ◌∙◌, ◌≡◌}
+use Rattle.mk_run.proofs.Vocabulary.{Item, next_op}
+use Rattle.mk_check.specs.Feeding.{FeedStandsFor, FeedState}
 use Rattle.mk_run.specs.Scripts.{AsksFor}
 
 -- what a script is found to ask for

@@ -1,40 +1,22 @@
 -- What the engine does after each `begin` of the scripts' callers and of the host, up to the whole run.
-use Rattle.std.proofs.Common.{◌≡◌, ℕ, ◌+◌, ◌≤◌, true, false, List, [], ◌∷◌, ◌++◌, length, refl, sym, ◌∙◌, ap, subst}
-use Rattle.std.proofs.Common.{arith, ⊎_elim}
-use Rattle.std.proofs.lemmas.Bool.{ltb-true, true≢false}
-use Rattle.mk_core.specs.declared.config.Config.{Config}
-use Rattle.mk_core.specs.declared.events.Event.{Event}
-use Rattle.mk_core.specs.declared.events.Seat.{Seat}
-use Rattle.mk_core.specs.declared.events.Seat.TheVariants.{Caller, Host, Marker}
-use Rattle.mk_core.specs.declared.events.Step.{Step}
-use Rattle.mk_core.specs.declared.events.Step.TheVariants as step
-use Rattle.mk_core.specs.Cycles.{At, is_begin, through}
-use Rattle.mk_core.specs.Growing.{Grows}
-use Rattle.mk_core.specs.History.{AreEnabledFrom, IsHistory, left}
-use Rattle.mk_core.specs.Order.{group_of, is_open_to, seat_exists}
-use Rattle.mk_core.proofs.Conditions.{enabled_meets}
-use Rattle.mk_core.proofs.HistoryParts.{enabled_in_parts}
-use Rattle.mk_words.specs.Seats.{Has}
-use Rattle.mk_words.specs.States.{PassState, WordsState}
-use Rattle.mk_words.proofs.Seats.{has_first}
-use Rattle.mk_caller.specs.States.{CallerState, at_home}
-use Rattle.mk_cycle.specs.Begun.{CyclesAreBegun, EachIsBegun, IsBegunFirst}
+use Rattle.mk_laws.proofs.Vocabulary.{At, Caller, Config, Event, Host, IsHistory, List, Marker, Seat, Step, ℕ, ap}
+use Rattle.mk_laws.proofs.Vocabulary.{arith, enabled_in_parts, enabled_meets, false, group_of, is_begin, is_open_to}
+use Rattle.mk_laws.proofs.Vocabulary.{left, length, ltb-true, refl, seat_exists, subst, sym, through, true, true≢false}
+use Rattle.mk_laws.proofs.Vocabulary.{[], ◌++◌, ◌+◌, ◌∙◌, ◌∷◌, ◌≡◌, ◌≤◌}
+use Rattle.mk_run.proofs.Vocabulary.{CallerState, EachIsBegun, Grows, Has, IsFirstPass, IsScript, Item, PassState}
+use Rattle.mk_run.proofs.Vocabulary.{StaysBeside, WordsState, at_home, config_of, has_first, script_names, ⊎_elim}
+use Rattle.mk_core.specs.History.{AreEnabledFrom}
 use Rattle.mk_cycle.proofs.Begun.{HaveNoBegin, begun_append, kinds_begin_none, others_begin_none}
-use Rattle.mk_script.specs.declared.items.Item.{Item}
-use Rattle.mk_script.specs.Scopes.{script_names}
-use Rattle.mk_check.specs.Declarations.{config_of}
-use Rattle.mk_check.specs.Laws.{IsScript}
-use Rattle.mk_run.specs.BegunSeats.{CyclesOfAreBegun, ScriptsBeginCycles}
-use Rattle.mk_run.specs.Joining.{IsFirstPass}
-use Rattle.mk_run.specs.Scripts.{StaysBeside, is_beside_turns}
+use Rattle.mk_cycle.specs.Begun.{CyclesAreBegun, IsBegunFirst}
 use Rattle.mk_run.proofs.JoinedScripts.{same_or_later}
+use Rattle.mk_run.specs.{BegunSeats.CyclesOfAreBegun, BegunSeats.ScriptsBeginCycles, Scripts.is_beside_turns}
 
 beside_begins_none : HaveNoBegin is_beside_turns
-beside_begins_none step.Begin h = cc
+beside_begins_none Step.Begin h = cc
 beside_begins_none _ h = refl
 
 marker_begins_none : (j : ℕ) (x : Step) → is_open_to (Marker j) (group_of x) ≡ true → is_begin x ≡ false
-marker_begins_none j step.Begin h = cc
+marker_begins_none j Step.Begin h = cc
 marker_begins_none j _ h = refl
 
 nowhere : (before : List Event) (e : Event) (behind : List Event) → [] ≡ before ++ e ∷ behind → ⊥

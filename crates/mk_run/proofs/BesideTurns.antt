@@ -1,23 +1,13 @@
 -- Calls that need no turn, and those that find their gate held, make only steps beside all turns.
-use Rattle.std.proofs.Common.{◌≡◌, Bool, true, List, [], ◌∷◌, ◌++◌, map, refl, sym, ◌∙◌, ap, subst, append-nil}
-use Rattle.std.specs.Prelude.{◌&&◌}
 use Rattle.std.specs.List.{list_all}
-use Rattle.std.proofs.lemmas.Bool.{and_from}
-use Rattle.mk_never.specs.declared.operations.Op.{Op}
-use Rattle.mk_core.specs.declared.events.Answer.{Answer}
-use Rattle.mk_core.specs.declared.events.Event.{Event}
-use Rattle.mk_core.specs.declared.events.Step.{Step}
-use Rattle.mk_core.specs.declared.events.Step.TheVariants as step
-use Rattle.mk_core.specs.declared.seats.Stage.{Stage}
-use Rattle.mk_core.specs.declared.seats.Stage.TheVariants as stage
+use Rattle.mk_laws.proofs.Vocabulary.{Answer, Bool, Event, List, Op, Stage, Step, and_from, ap, append-nil, map, refl}
+use Rattle.mk_laws.proofs.Vocabulary.{subst, sym, true, [], ◌&&◌, ◌++◌, ◌∙◌, ◌∷◌, ◌≡◌}
+use Rattle.mk_run.proofs.Vocabulary.{FindsGateHeld, PassState, StaysBeside, seen_then}
 use Rattle.mk_core.specs.Growing.{Finding, own_from}
-use Rattle.mk_words.specs.States.{PassState}
 use Rattle.mk_caller.specs.Called.{Called, own_steps, stages_made, step_at}
-use Rattle.mk_caller.specs.Causes.{FindsGateHeld}
-use Rattle.mk_turns.specs.Doing.{are_of, done_in}
+use Rattle.mk_run.specs.Scripts.{is_beside_turns}
 use Rattle.mk_turns.proofs.Doing.{does_step, done_in_parts, of_kinds_in_parts}
-use Rattle.mk_alloc.proofs.Parts.{seen_then}
-use Rattle.mk_run.specs.Scripts.{StaysBeside, is_beside_turns}
+use Rattle.mk_turns.specs.Doing.{are_of, done_in}
 
 nothing_done : (p : PassState) → are_of is_beside_turns (done_in p []) ≡ true
 unfolding own_from
@@ -46,14 +36,14 @@ steps_of_all [] = refl
 steps_of_all (x ∷ xs) = ap (λ (b : Bool). is_beside_turns x.event.step && b) (steps_of_all xs)
 
 stage_beside : (s : Stage) → is_beside_turns (step_at s) ≡ true
-stage_beside stage.Probe = refl
-stage_beside stage.Read = refl
-stage_beside stage.Write = refl
-stage_beside stage.Cas = refl
-stage_beside stage.Getg = refl
-stage_beside stage.Setg = refl
-stage_beside stage.Dirty = refl
-stage_beside stage.Leave = refl
+stage_beside Stage.Probe = refl
+stage_beside Stage.Read = refl
+stage_beside Stage.Write = refl
+stage_beside Stage.Cas = refl
+stage_beside Stage.Getg = refl
+stage_beside Stage.Setg = refl
+stage_beside Stage.Dirty = refl
+stage_beside Stage.Leave = refl
 stage_beside _ = refl
 
 stages_beside : (xs : List Stage) → list_all is_beside_turns (map step_at xs) ≡ true
@@ -74,5 +64,5 @@ called_beside p o a q called =
 
 pub held_beside : (p : PassState) (o : Op) (q : PassState) → FindsGateHeld p o q → StaysBeside p q
 held_beside p o q held =
-    let d = does_step is_beside_turns p q (step.Enter o) held.finds.makes refl in
+    let d = does_step is_beside_turns p q (Step.Enter o) held.finds.makes refl in
     record { more = d.more; is = ap (λ (x : PassState). x.seen) d.is; steps = d.of_kinds }

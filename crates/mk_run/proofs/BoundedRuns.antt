@@ -1,21 +1,11 @@
 -- What quarantine costs in a run: the turns of its callers are exact, and its host begins no cycle before their end.
-use Rattle.std.proofs.Common.{◌≡◌, ⊎_elim, ℕ, Bool, true, false, List, [], ◌∷◌, sym, ◌∙◌, subst}
-use Rattle.std.proofs.lemmas.Bool.{true≢false}
-use Rattle.mk_core.specs.declared.events.Event.{Event}
-use Rattle.mk_core.specs.declared.events.Seat.{Seat}
-use Rattle.mk_core.specs.declared.events.Seat.TheVariants.{Caller, Host}
-use Rattle.mk_core.specs.declared.config.Config.{Config}
-use Rattle.mk_core.specs.Growing.{AreOfOthers, is_one_of}
+use Rattle.mk_laws.proofs.Vocabulary.{AreOfOthers, Bool, Caller, Config, Event, Host, List, Seat, ℕ, false, is_one_of}
+use Rattle.mk_laws.proofs.Vocabulary.{subst, sym, true, true≢false, [], ◌∙◌, ◌∷◌, ◌≡◌}
+use Rattle.mk_run.proofs.Vocabulary.{HostComesLast, IsRunOf, Item, Outcome, config_of, ⊎_elim}
 use Rattle.mk_alloc.proofs.ListParts.{InFirst, InSecond, stands}
+use Rattle.mk_quarantine.proofs.{Bounds.quarantines_are_bounded, EndedCycles.others_at, EndedCycles.others_behind}
 use Rattle.mk_quarantine.specs.Bounds.{HostBeginsLast, QuarantineIsBounded}
-use Rattle.mk_quarantine.proofs.Bounds.{quarantines_are_bounded}
-use Rattle.mk_quarantine.proofs.EndedCycles.{others_at, others_behind}
 use Rattle.mk_heap.specs.Reports as report
-use Rattle.mk_script.specs.declared.items.Item.{Item}
-use Rattle.mk_check.specs.Declarations.{config_of}
-use Rattle.mk_run.specs.declared.outcomes.Outcome.{Outcome}
-use Rattle.mk_run.specs.HostTurns.{HostComesLast}
-use Rattle.mk_run.specs.Running.{IsRunOf}
 
 -- Where the host comes last, so does each of its cycles.
 pub host_begins_last : (c : Config) (with_cycle : Bool) (es : List Event) → HostComesLast c.callers with_cycle es

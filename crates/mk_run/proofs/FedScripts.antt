@@ -1,37 +1,30 @@
 -- A script that is fed with what its caller is told of the answers.
-use Rattle.std.proofs.Common.{◌≡◌, ℕ, ◌+◌, Bool, List, [], ◌∷◌, ◌++◌, length, refl, sym, ◌∙◌, ap, cond}
-use Rattle.std.specs.Prelude.{Option, Some, None, count_by}
-use Rattle.std.proofs.lemmas.List.{length-append}
-use Rattle.std.proofs.lemmas.List.Sums.{sum_by_push}
-use Rattle.mk_never.specs.declared.operations.Op.{Op}
-use Rattle.mk_never.specs.declared.operations.Op.TheVariants as op
-use Rattle.mk_core.specs.declared.events.Answer.{Answer}
-use Rattle.mk_core.specs.declared.events.Answer.TheVariants as answer
-use Rattle.mk_core.specs.Decided.{flagged}
-use Rattle.mk_script.specs.declared.items.Item.{Item}
-use Rattle.mk_script.specs.declared.items.Item.TheVariants.{Getn, Casp, Same, Isnull, Show}
-use Rattle.mk_check.specs.Blocks.{Blocks, Done, Line, Rounds, Choice}
-use Rattle.mk_check.specs.Feed.{Scope, Fed, op_of, with_answer, note, run, take_answer, feed, is_refusal}
-use Rattle.mk_check.specs.Feeding.{FeedState, FeedStandsFor, script_scope}
-use Rattle.mk_check.specs.Steps.{numbered}
+use Rattle.std.proofs.{Common.count_by, Common.length-append, lemmas.List.Sums.sum_by_push}
+use Rattle.mk_laws.proofs.Vocabulary.{Answer, Bool, List, None, Op, Option, Some, ℕ, ap, cond, flagged, length, refl}
+use Rattle.mk_laws.proofs.Vocabulary.{sym, [], ◌++◌, ◌+◌, ◌∙◌, ◌∷◌, ◌≡◌}
+use Rattle.mk_run.proofs.Vocabulary.{IsFedWith, Item, feed, is_refusal}
 use Rattle.mk_check.proofs.FeedLaws.{feed_push}
-use Rattle.mk_run.specs.Scripts.{Script, as_told, IsFedWith}
+use Rattle.mk_check.specs.Blocks.{Blocks, Choice, Done, Line, Rounds}
+use Rattle.mk_check.specs.Feed.{Fed, Scope, note, op_of, run, take_answer, with_answer}
+use Rattle.mk_check.specs.{Feeding.FeedStandsFor, Feeding.FeedState, Feeding.script_scope, Steps.numbered}
+use Rattle.mk_run.specs.Scripts.{Script, as_told}
+use Rattle.mk_script.specs.declared.items.Item.TheVariants.{Casp, Getn, Isnull, Same, Show}
 
 -- What is said of an answer does to a script what the answer does.
 
 flagged_so : (o : Op) (a : Answer) → flagged o (as_told a) ≡ flagged o a
-flagged_so (op.New d ty full) (answer.Word w) = refl
-flagged_so o (answer.Word w) = refl
+flagged_so (Op.New d ty full) (Answer.Word w) = refl
+flagged_so o (Answer.Word w) = refl
 flagged_so o _ = refl
 
 noted_so : (fed : Fed) (o : Option Op) (line : ℕ) (w : ℕ)
-    → note fed o line (answer.Word 0) ≡ note fed o line (answer.Word w)
+    → note fed o line (Answer.Word 0) ≡ note fed o line (Answer.Word w)
 noted_so fed None line w = refl
-noted_so fed (Some (op.New d ty full)) line w = refl
+noted_so fed (Some (Op.New d ty full)) line w = refl
 noted_so fed (Some o) line w = refl
 
 taken_so : (scope : Scope) (fed : Fed) (item : Item) (w : ℕ)
-    → with_answer scope fed item (answer.Word 0) ≡ with_answer scope fed item (answer.Word w)
+    → with_answer scope fed item (Answer.Word 0) ≡ with_answer scope fed item (Answer.Word w)
 taken_so scope fed (Getn number pointer index) w = refl
 taken_so scope fed (Casp number pointer index expected stored) w = refl
 taken_so scope fed (Same number first second) w = refl
@@ -40,22 +33,22 @@ taken_so scope fed (Show pointer) w = refl
 taken_so scope fed item w = refl
 
 word_taken : (scope : Scope) (fed : Fed) (left : Blocks) (w : ℕ)
-    → take_answer scope fed left (answer.Word 0) ≡ take_answer scope fed left (answer.Word w)
+    → take_answer scope fed left (Answer.Word 0) ≡ take_answer scope fed left (Answer.Word w)
 word_taken scope fed Done w = refl
 word_taken scope fed (Line line item rest) w =
     ap (λ (f : Fed). run scope rest f)
-    (ap (λ (f : Fed). with_answer scope f item (answer.Word 0)) (noted_so fed (op_of scope fed item) line w)
-    ∙ taken_so scope (note fed (op_of scope fed item) line (answer.Word w)) item w)
+    (ap (λ (f : Fed). with_answer scope f item (Answer.Word 0)) (noted_so fed (op_of scope fed item) line w)
+    ∙ taken_so scope (note fed (op_of scope fed item) line (Answer.Word w)) item w)
 word_taken scope fed (Rounds rounds body rest) w = refl
 word_taken scope fed (Choice number first second rest) w = refl
 
 told_taken : (scope : Scope) (fed : Fed) (left : Blocks) (a : Answer)
     → take_answer scope fed left (as_told a) ≡ take_answer scope fed left a
-told_taken scope fed left (answer.Word w) = word_taken scope fed left w
+told_taken scope fed left (Answer.Word w) = word_taken scope fed left w
 told_taken scope fed left _ = refl
 
 told_refuses : (a : Answer) → is_refusal (as_told a) ≡ is_refusal a
-told_refuses (answer.Word w) = refl
+told_refuses (Answer.Word w) = refl
 told_refuses _ = refl
 
 told_fed : (program : List Item) (k : ℕ) (answers : List Answer) (a : Answer)

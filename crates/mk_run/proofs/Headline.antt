@@ -1,33 +1,17 @@
 -- The history of a run keeps all promises, and its texts are all that is printed of it.
-use Rattle.std.proofs.Common.{◌≡◌, ℕ, suc, ◌+◌, ◌<◌, Bool, true, false, List, [], ◌∷◌, ◌++◌, length, refl, ap, sym, ◌∙◌}
-use Rattle.std.proofs.Common.{arith}
-use Rattle.std.specs.Prelude.{slice_get, Some, ◌==◌}
+use Rattle.std.proofs.{Common.slice_get, Common.take_all, lemmas.Bool.Decides.nat_tests}
 use Rattle.std.specs.List.{flat_map, range_with_len}
-use Rattle.std.proofs.lemmas.Bool.Decides.{nat_tests}
-use Rattle.std.proofs.lemmas.List.{take_all}
-use Rattle.std.proofs.lemmas.Option.{slice_get_within}
-use Rattle.mk_core.specs.declared.config.Config.{Config}
-use Rattle.mk_core.specs.declared.events.Answer.{Answer}
-use Rattle.mk_core.specs.declared.events.Event.{Event}
-use Rattle.mk_core.specs.declared.events.Seat.TheVariants.{Caller}
-use Rattle.mk_core.specs.Decided.{Decided, asked}
-use Rattle.mk_core.specs.History.{calls}
-use Rattle.mk_core.specs.Order.{seat_exists}
-use Rattle.mk_script.specs.declared.items.Item.{Item}
-use Rattle.mk_check.specs.declared.text.Text.{Text}
-use Rattle.mk_check.specs.Declarations.{config_of}
-use Rattle.mk_check.specs.Feed.{feed}
-use Rattle.mk_check.specs.Laws.{IsScript, ops_of_caller}
-use Rattle.mk_check.specs.Output.{ended_calls, answers_among, answers_given, text_behind}
-use Rattle.mk_check.proofs.GivenAnswers.{serves}
+use Rattle.mk_laws.proofs.Vocabulary.{Answer, Bool, Caller, Config, Decided, Event, List, Some, ℕ, ap, arith, asked}
+use Rattle.mk_laws.proofs.Vocabulary.{calls, false, length, refl, seat_exists, suc, sym, true, [], ◌++◌, ◌+◌, ◌<◌, ◌==◌}
+use Rattle.mk_laws.proofs.Vocabulary.{◌∙◌, ◌∷◌, ◌≡◌}
+use Rattle.mk_run.proofs.Vocabulary.{IsRunOf, IsScript, IsWhole, Item, Outcome, Text, answers_in, config_of, feed}
+use Rattle.mk_run.proofs.Vocabulary.{slice_get_within}
 use Rattle.mk_laws.proofs.Promises.{histories_keep_all_promises}
+use Rattle.mk_check.{proofs.GivenAnswers.serves, specs.Laws.ops_of_caller, specs.Output.answers_among}
+use Rattle.mk_check.{specs.Output.answers_given, specs.Output.ended_calls, specs.Output.text_behind}
+use Rattle.mk_run.proofs.{BoundedRuns.quarantine_of_run_is_bounded, UnsweptHistories.unswept_is_precise}
+use Rattle.mk_run.specs.Headline.{RunsPrintTheirTexts, RunsStandInOneHistory, RunsToItsEnd, cycles_go_on}
 use Rattle.mk_heap.specs.Reports as report
-use Rattle.mk_heap.specs.Reports.{IsWhole}
-use Rattle.mk_run.specs.declared.outcomes.Outcome.{Outcome}
-use Rattle.mk_run.specs.Running.{answers_in, IsRunOf}
-use Rattle.mk_run.proofs.BoundedRuns.{quarantine_of_run_is_bounded}
-use Rattle.mk_run.proofs.UnsweptHistories.{unswept_is_precise}
-use Rattle.mk_run.specs.Headline.{cycles_go_on, RunsToItsEnd, RunsStandInOneHistory, RunsPrintTheirTexts}
 
 -- A caller has as many answers among the calls as operations.
 

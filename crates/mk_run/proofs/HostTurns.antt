@@ -1,37 +1,19 @@
 -- What the host does in a run: it makes no step before the scripts are joined, and then begins the last cycle alone.
-use Rattle.std.proofs.Common.{◌≡◌, ℕ, ◌+◌, Bool, true, false, List, [], ◌∷◌, ◌++◌, refl, sym, ◌∙◌, ap, subst}
-use Rattle.std.proofs.Common.{arith, append_assoc}
-use Rattle.std.proofs.Math.Bool.{cond}
-use Rattle.std.proofs.lemmas.Bool.{or_parts}
-use Rattle.std.proofs.lemmas.List.{append_cancel_left}
-use Rattle.std.proofs.lemmas.List.Sums.{sum_by-append, sum_by-cons}
-use Rattle.mk_core.specs.declared.config.Config.{Config}
-use Rattle.mk_core.specs.declared.events.Event.{Event}
-use Rattle.mk_core.specs.declared.events.Seat.{Seat}
-use Rattle.mk_core.specs.declared.events.Seat.TheVariants.{Caller, Host}
-use Rattle.mk_core.specs.declared.events.Step.TheVariants as step
-use Rattle.mk_core.specs.Cycles.{is_begin}
-use Rattle.mk_core.specs.Growing.{AreOfOthers, Grows}
-use Rattle.mk_core.specs.History.{IsHistory, left}
-use Rattle.mk_core.proofs.HistoryParts.{earlier_part_is_history, enabled_in_parts}
-use Rattle.mk_words.specs.Seats.{Has, HasCallers}
-use Rattle.mk_words.specs.States.{PassState}
-use Rattle.mk_words.specs.TurnSteps.{turn_stays}
-use Rattle.mk_words.proofs.Seats.{others_append, others_none, others_own}
-use Rattle.mk_heap.specs.Ending.{MakesCycle, SaysOver}
-use Rattle.mk_heap.specs.Hosts.{HostState, with_seen}
-use Rattle.mk_heap.proofs.HomeCallers.{others_hold_none}
-use Rattle.mk_heap.proofs.MovedHosts.{turn_moves}
-use Rattle.mk_alloc.specs.TurnCycles.{has_step}
-use Rattle.mk_alloc.proofs.CalmStretches.{cycles_in_turn, is_of_cycles}
-use Rattle.mk_alloc.proofs.CycleParts.{BeginIn, begin_does, begin_in, finish_does, finish_in}
-use Rattle.mk_alloc.proofs.ListParts.{Lacks}
-use Rattle.mk_alloc.proofs.Parts.{has_then, history_before, in_turn_then, seen_then}
-use Rattle.mk_run.specs.HostTurns.{HostComesLast, cycles_begun}
-use Rattle.mk_run.specs.LastTurns.{BeginsAsAsked, CallersAreStill}
-use Rattle.mk_run.proofs.LastCycles.{before_made, ends_does, turn_taken}
+use Rattle.std.proofs.{Math.Bool.cond, lemmas.List.Sums.sum_by-append, lemmas.List.Sums.sum_by-cons}
+use Rattle.mk_laws.proofs.Vocabulary.{AreOfOthers, Bool, Caller, Config, Event, Host, IsHistory, List, Seat, Step, ℕ}
+use Rattle.mk_laws.proofs.Vocabulary.{ap, append_assoc, arith, earlier_part_is_history, enabled_in_parts, false}
+use Rattle.mk_laws.proofs.Vocabulary.{is_begin, left, or_parts, refl, subst, sym, true, [], ◌++◌, ◌+◌, ◌∙◌, ◌∷◌, ◌≡◌}
+use Rattle.mk_run.proofs.Vocabulary.{CallersAreStill, Grows, Has, HasCallers, HostComesLast, HostState, Lacks}
+use Rattle.mk_run.proofs.Vocabulary.{PassState, SaysOver, append_cancel_left, finish_does, finish_in, has_step}
+use Rattle.mk_run.proofs.Vocabulary.{has_then, history_before, in_turn_then, is_of_cycles, others_append, others_none}
+use Rattle.mk_run.proofs.Vocabulary.{others_own, seen_then, turn_moves, turn_stays}
+use Rattle.mk_alloc.proofs.CycleParts.{BeginIn, begin_does, begin_in}
+use Rattle.mk_alloc.proofs.CalmStretches.{cycles_in_turn}
+use Rattle.mk_heap.{proofs.HomeCallers.others_hold_none, specs.Ending.MakesCycle, specs.Hosts.with_seen}
 use Rattle.mk_run.proofs.LastOvers.{Unbegun, ends_unbegun, over_unbegun, stays, unbegun_made, unheld_unbegun}
 use Rattle.mk_run.proofs.LastOvers.{wait_unbegun}
+use Rattle.mk_run.proofs.LastCycles.{before_made, ends_does, turn_taken}
+use Rattle.mk_run.specs.{HostTurns.cycles_begun, LastTurns.BeginsAsAsked}
 
 -- Before the scripts are joined the host makes no step.
 
@@ -110,7 +92,7 @@ cycle_begins p q own host callers m history =
     let to_begun = begin_does m.idle m.begun idle_own m.begins in
     let begun_own = has_then is_of_cycles m.idle m.begun to_begun idle_own in
     let to_ended = finish_does m.begun m.ended begun_own m.finishes in
-    let ended = before_made m.ended q step.Give m.gives history in
+    let ended = before_made m.ended q Step.Give m.gives history in
     let begun = history_before is_of_cycles m.begun m.ended to_ended ended in
     let idle = history_before is_of_cycles m.idle m.begun to_begun begun in
     let taken = history_before turn_stays m.taken m.idle to_idle idle in
@@ -125,7 +107,7 @@ cycle_begins p q own host callers m history =
     (begins_one m.idle m.begun (begin_in m.idle m.begun idle_own m.begins t_idle begun))
     (begins_then 0 0 m.begun m.ended q
     (begins_none m.begun m.ended (record { more = finish.more; is = finish.is; none = finish.begins_none }))
-    (begins_none m.ended q (unbegun_made m.ended q step.Give t_ended refl m.gives history)))))
+    (begins_none m.ended q (unbegun_made m.ended q Step.Give t_ended refl m.gives history)))))
 
 -- The host's last turns, without a cycle of its own and with one.
 

@@ -1,29 +1,19 @@
 -- The host makes the scripts' callers, and joins them.
-use Rattle.std.proofs.Common.{◌≡◌, ◌≢◌, ◌⊎◌, ℕ, zero, suc, ◌+◌, ◌<◌, ◌≤◌, Bool, List, [], ◌∷◌, ◌++◌, length}
-use Rattle.std.proofs.Common.{refl, sym, ◌∙◌, ap, subst, arith, inl, inr, ⊎_elim}
-use Rattle.std.specs.Prelude.{Some, slice_get, Result, Ok, Err, IfOk, OnOk, IsOk}
-use Rattle.std.proofs.lemmas.Bool.{cases_eq}
-use Rattle.std.proofs.lemmas.Option.{slice_get_within}
-use Rattle.mk_core.specs.declared.config.Config.{Config}
-use Rattle.mk_core.specs.declared.events.Event.{Event}
-use Rattle.mk_core.specs.declared.events.Seat.{Seat}
-use Rattle.mk_core.specs.declared.events.Seat.TheVariants.{Caller, Host}
-use Rattle.mk_core.specs.Growing.{Grows}
-use Rattle.mk_core.specs.History.{calls_from}
+use Rattle.std.proofs.Common.{Err, IsOk, Ok, OnOk, Result, slice_get}
+use Rattle.mk_laws.proofs.Vocabulary.{Bool, Caller, Config, Event, Host, List, Seat, Some, ℕ, ap, arith, cases_eq, inl}
+use Rattle.mk_laws.proofs.Vocabulary.{inr, length, refl, subst, suc, sym, zero, [], ◌++◌, ◌+◌, ◌<◌, ◌∙◌, ◌∷◌, ◌≡◌, ◌≢◌}
+use Rattle.mk_laws.proofs.Vocabulary.{◌≤◌, ◌⊎◌}
+use Rattle.mk_run.proofs.Vocabulary.{AreTextsFrom, CallerState, EndsScript, FollowsScript, Grows, Has, HasJoined}
+use Rattle.mk_run.proofs.Vocabulary.{HasMade, HostState, IfOk, IsFirstPass, IsScript, IsTextOf, Item, PassState, Text}
+use Rattle.mk_run.proofs.Vocabulary.{WordsState, answers_in, at_home, has_first, has_left, script_names}
+use Rattle.mk_run.proofs.Vocabulary.{slice_get_within, with_joined, ⊎_elim}
 use Rattle.mk_never.specs.declared.never_heap.NoMemory.{NoMemory}
-use Rattle.mk_words.specs.Seats.{Has}
-use Rattle.mk_words.specs.States.{WordsState, PassState}
-use Rattle.mk_words.proofs.Seats.{has_first, has_left, has_right, without_keeps}
-use Rattle.mk_caller.specs.States.{CallerState, at_home, IsIdleCaller}
-use Rattle.mk_heap.specs.Hosts.{HostState, pass_for, with_caller_made, with_joined}
-use Rattle.mk_script.specs.declared.items.Item.{Item}
-use Rattle.mk_script.specs.Scopes.{script_names}
-use Rattle.mk_check.specs.Laws.{IsScript}
-use Rattle.mk_check.specs.declared.text.Text.{Text}
+use Rattle.mk_core.specs.History.{calls_from}
+use Rattle.mk_caller.specs.States.{IsIdleCaller}
 use Rattle.mk_check.proofs.AdmittedScripts.{first_are_noted}
-use Rattle.mk_run.specs.Joining.{IsFirstPass, HasMade, AreTextsFrom, HasJoined}
-use Rattle.mk_run.specs.Running.{answers_in, FollowsScript, EndsScript, IsTextOf}
-use Rattle.mk_run.proofs.LaterLists.{of_one, still_follows, still_ends, still_text}
+use Rattle.mk_heap.specs.Hosts.{pass_for, with_caller_made}
+use Rattle.mk_run.proofs.LaterLists.{of_one, still_ends, still_follows, still_text}
+use Rattle.mk_words.proofs.Seats.{has_right, without_keeps}
 
 -- Before the first call.
 

@@ -1,45 +1,28 @@
 -- The host's last cycle, by the events of the whole list: where its turn and its cycle stand, and that no other `close`
 -- stands after.
-use Rattle.std.proofs.Common.{◌≡◌, ℕ, ◌<◌, ◌≤◌, true, false, List, [], ◌∷◌, ◌++◌, refl, sym, ◌∙◌, ap, subst, inl}
-use Rattle.std.proofs.Common.{inr, arith, append-nil, append_assoc}
-use Rattle.std.specs.Prelude.{None}
-use Rattle.std.proofs.lemmas.Bool.{or_from, or_parts}
-use Rattle.std.proofs.lemmas.List.{append_cancel_left}
-use Rattle.mk_core.specs.declared.config.Config.{Config}
-use Rattle.mk_core.specs.declared.events.Event.{Event}
-use Rattle.mk_core.specs.declared.events.Seat.{Seat}
-use Rattle.mk_core.specs.declared.events.Seat.TheVariants.{Caller, Host}
-use Rattle.mk_core.specs.declared.events.Step.{Step}
-use Rattle.mk_core.specs.declared.events.Step.TheVariants as step
-use Rattle.mk_core.specs.declared.events.Word.TheVariants as word
-use Rattle.mk_core.specs.Cycles.{Cycle, TurnOf, before_close, is_begin, is_close}
-use Rattle.mk_core.specs.Growing.{AreOfOthers, is_same_seat}
-use Rattle.mk_core.specs.History.{AreEnabledFrom, IsHistory, World, left, world_behind}
-use Rattle.mk_core.specs.Words.{phase_of}
-use Rattle.mk_core.proofs.HistoryParts.{earlier_part_is_history, enabled_in_parts}
+use Rattle.mk_laws.proofs.Vocabulary.{AreEnabledFrom, AreOfOthers, Caller, Config, Cycle, Event, Host, IsHistory, List}
+use Rattle.mk_laws.proofs.Vocabulary.{None, Seat, Step, TurnOf, Word, World, ℕ, ap, append-nil, append_assoc, arith}
+use Rattle.mk_laws.proofs.Vocabulary.{before_close, earlier_part_is_history, enabled_in_parts, false, inl, inr}
+use Rattle.mk_laws.proofs.Vocabulary.{is_begin, is_close, left, or_from, or_parts, phase_of, refl, subst, sym, true}
+use Rattle.mk_laws.proofs.Vocabulary.{world_behind, [], ◌++◌, ◌<◌, ◌∙◌, ◌∷◌, ◌≡◌, ◌≤◌}
+use Rattle.mk_run.proofs.Vocabulary.{Has, HasCallers, Lacks, PassState, append_cancel_left, finish_does, finish_in}
+use Rattle.mk_run.proofs.Vocabulary.{has_step, has_then, history_before, in_turn_then, is_of_cycles, others_append}
+use Rattle.mk_run.proofs.Vocabulary.{others_none, turn_moves, turn_stays}
+use Rattle.mk_core.specs.Growing.{is_same_seat}
 use Rattle.mk_laws.proofs.CyclePhases.{AsksPhase, close_is, moves_phase, phase_behind}
-use Rattle.mk_words.specs.Seats.{Has, HasCallers}
-use Rattle.mk_words.specs.States.{PassState, event_of}
-use Rattle.mk_words.specs.Steps.{Makes}
-use Rattle.mk_words.specs.TurnSteps.{turn_stays}
-use Rattle.mk_words.proofs.Seats.{others_append, others_none}
-use Rattle.mk_words.proofs.TurnSteps.{takes}
-use Rattle.mk_turns.specs.Doing.{Does}
-use Rattle.mk_turns.proofs.Doing.{does_then}
-use Rattle.mk_waiting.specs.Taking.{TakesTurn}
-use Rattle.mk_cycle.specs.TurnKeeps.{InTurn}
-use Rattle.mk_cycle.proofs.Allowed.{in_turn}
-use Rattle.mk_heap.specs.Ending.{EndsCycle, MakesToldCycle}
-use Rattle.mk_heap.proofs.MovedHosts.{MovesOn, moves_does, moves_more, turn_moves}
-use Rattle.mk_objects.proofs.JoinedLooks.{does_wider}
-use Rattle.mk_alloc.specs.TurnCycles.{finishes, has_step, within_turn}
-use Rattle.mk_alloc.proofs.CalmStretches.{cycles_in_turn, is_of_cycles}
-use Rattle.mk_alloc.proofs.CycleParts.{BeginIn, FinishIn, begin_does, begin_in, begins_held, finish_does}
-use Rattle.mk_alloc.proofs.CycleParts.{finish_in}
-use Rattle.mk_alloc.proofs.ListParts.{IsAt, Lacks, SomeKind, lacks_append, lacks_first, lacks_second, only_at}
+use Rattle.mk_alloc.proofs.CycleParts.{BeginIn, FinishIn, begin_does, begin_in, begins_held}
+use Rattle.mk_alloc.proofs.ListParts.{IsAt, SomeKind, lacks_append, lacks_first, lacks_second, only_at}
 use Rattle.mk_alloc.proofs.OwnGives.{GivesNone, doing_gives, gives_append, others_give}
-use Rattle.mk_alloc.proofs.Parts.{has_then, history_before, in_turn_then, made_as, others_lack, seen_behind}
+use Rattle.mk_alloc.proofs.{CalmStretches.cycles_in_turn, Parts.made_as, Parts.others_lack, Parts.seen_behind}
+use Rattle.mk_alloc.specs.TurnCycles.{finishes, within_turn}
+use Rattle.mk_cycle.{proofs.Allowed.in_turn, specs.TurnKeeps.InTurn}
+use Rattle.mk_heap.proofs.MovedHosts.{MovesOn, moves_does, moves_more}
+use Rattle.mk_heap.specs.Ending.{EndsCycle, MakesToldCycle}
+use Rattle.mk_objects.proofs.JoinedLooks.{does_wider}
 use Rattle.mk_run.specs.LastCycle.{MakesLastCycle, give_of}
+use Rattle.mk_turns.{proofs.Doing.does_then, specs.Doing.Does}
+use Rattle.mk_waiting.specs.Taking.{TakesTurn}
+use Rattle.mk_words.{proofs.TurnSteps.takes, specs.States.event_of, specs.Steps.Makes}
 
 -- Outside of phases 1 and 2 no cycle is closed before another is begun.
 
@@ -48,12 +31,12 @@ IsBeside n = 1 ≤ n → n ≤ 2 → ⊥
 
 beside_step : (x : Step) (n : ℕ) → AsksPhase x n → IsBeside n → is_begin x ≡ false
     → IsBeside (phase_behind x n) × (is_close x ≡ false)
-beside_step step.Begin n asks out none = cc
-beside_step step.Want n asks out none = absurd (out (omega arith) (omega arith))
-beside_step step.Close n asks out none = absurd (out (omega arith) (omega arith))
-beside_step step.Release n asks out none = (λ least most. omega arith, refl)
-beside_step step.End n asks out none = (λ least most. omega arith, refl)
-beside_step step.Over n asks out none = (λ least most. omega arith, refl)
+beside_step Step.Begin n asks out none = cc
+beside_step Step.Want n asks out none = absurd (out (omega arith) (omega arith))
+beside_step Step.Close n asks out none = absurd (out (omega arith) (omega arith))
+beside_step Step.Release n asks out none = (λ least most. omega arith, refl)
+beside_step Step.End n asks out none = (λ least most. omega arith, refl)
+beside_step Step.Over n asks out none = (λ least most. omega arith, refl)
 beside_step _ n asks out none = (out, refl)
 
 closes_none : (c : Config) (w : World) (es : List Event) → AreEnabledFrom c w es → IsBeside (phase_of w.now.words)
@@ -85,7 +68,7 @@ unfinished_unclosed (e ∷ es) h =
     or_from (is_close e.step) (has_step is_close es) (by e.step parts.0) (unfinished_unclosed es parts.1)
   where
     by : (x : Step) → finishes x ≡ false → is_close x ≡ false
-    by step.Close h = cc
+    by Step.Close h = cc
     by _ h = refl
 
 -- what is after the first event
@@ -124,7 +107,7 @@ pub ends_does : (taken idle : PassState) → Has taken.seats taken.seat → Ends
     → Does turn_stays taken idle
 ends_does taken idle own ends =
     let look : Does turn_stays taken ends.looked =
-    made_as turn_stays taken ends.looked (step.Look word.Phase) own ends.looks refl in
+    made_as turn_stays taken ends.looked (Step.Look Word.Phase) own ends.looks refl in
     elim ends.phase [
       | inl none ↦ subst (λ (r : PassState). Does turn_stays taken r) (sym (ends.none none)) look
       | inr on ↦ does_then turn_stays taken ends.looked idle look
@@ -174,7 +157,7 @@ module _ (tells : Config → World → Type 0) (p q : PassState) (m : MakesToldC
   d_turn = does_then turn_stays taken idle ended d_idle (does_then turn_stays idle begun ended d_begun d_ended)
 
   h_ended : IsHistory ended.table.config ended.seen
-  h_ended = before_made ended q step.Give m.makes.gives history
+  h_ended = before_made ended q Step.Give m.makes.gives history
 
   h_begun : IsHistory begun.table.config begun.seen
   h_begun = history_before turn_stays begun ended d_ended h_ended
@@ -236,7 +219,7 @@ module _ (tells : Config → World → Type 0) (p q : PassState) (m : MakesToldC
   before_take = m.makes.takes.waited.seen ++ m.makes.takes.takes.makes.others
 
   abbrev take_event : Event
-  take_event = record { seat = p.seat; step = step.Take None }
+  take_event = record { seat = p.seat; step = Step.Take None }
 
   waited_seat : m.makes.takes.waited.seat ≡ p.seat
   waited_seat = ap (λ (r : PassState). r.seat) m.makes.takes.waits.is
@@ -244,7 +227,7 @@ module _ (tells : Config → World → Type 0) (p q : PassState) (m : MakesToldC
   taken_is : taken.seen ≡ before_take ++ take_event ∷ []
   taken_is =
       ap (λ (r : PassState). r.seen) m.makes.takes.takes.makes.is
-      ∙ ap (λ (s : Seat). before_take ++ record { seat = s; step = step.Take None } ∷ []) waited_seat
+      ∙ ap (λ (s : Seat). before_take ++ record { seat = s; step = Step.Take None } ∷ []) waited_seat
 
   goes_on : GivesNone p.seat inside
   goes_on =
@@ -336,7 +319,7 @@ module _ (tells : Config → World → Type 0) (p q : PassState) (m : MakesToldC
       (subst (λ (l : List Event). Lacks is_begin l) ends.ends.is ends.begins_none))
 
   given_begins_none : Lacks is_begin given
-  given_begins_none = others_lack is_begin ended q step.Give begins_held t_ended m.makes.gives history
+  given_begins_none = others_lack is_begin ended q Step.Give begins_held t_ended m.makes.gives history
 
   behind_is : finished ++ given ≡ behind_close
   behind_is = simp append_assoc
@@ -366,14 +349,14 @@ module _ (tells : Config → World → Type 0) (p q : PassState) (m : MakesToldC
       only_at is_close ends.ends.to_close ends.ends.close finished ends.ends.none_closed finished_closes_none
       (record {
         before = m.at_close.before;
-        event = event_of begun step.Close;
+        event = event_of begun Step.Close;
         behind = m.at_close.behind;
         is =
             sym ends.ends.is
             ∙ append_cancel_left begun.seen ends.more
-            (m.at_close.before ++ event_of begun step.Close ∷ m.at_close.behind)
+            (m.at_close.before ++ event_of begun Step.Close ∷ m.at_close.behind)
             (sym ends.is ∙ m.at_close.is
-            ∙ append_assoc begun.seen m.at_close.before (event_of begun step.Close ∷ m.at_close.behind));
+            ∙ append_assoc begun.seen m.at_close.before (event_of begun Step.Close ∷ m.at_close.behind));
         of_kind = refl;
       })
 
@@ -399,7 +382,7 @@ module _ (tells : Config → World → Type 0) (p q : PassState) (m : MakesToldC
 
   ended_moves : MovesOn taken q
   ended_moves =
-      moves_more taken ended q step.Give
+      moves_more taken ended q Step.Give
       (moves_does turn_stays taken taken ended
       (record {
         more = [];
@@ -407,8 +390,8 @@ module _ (tells : Config → World → Type 0) (p q : PassState) (m : MakesToldC
         leaves = λ s has other. others_none (s ∷ []);
       }) d_turn) m.makes.gives
 
-  give_is : event_of ended step.Give ≡ give_of p.seat
-  give_is = ap (λ (s : Seat). record { seat = s; step = step.Give })
+  give_is : event_of ended Step.Give ≡ give_of p.seat
+  give_is = ap (λ (s : Seat). record { seat = s; step = Step.Give })
       (ap (λ (r : PassState). r.seat) d_turn.is ∙ ap (λ (r : PassState). r.seat) taken_moves.is)
 
   q_is : q.seen ≡ (ended.seen ++ given) ++ give_of p.seat ∷ []

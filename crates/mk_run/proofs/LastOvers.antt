@@ -1,46 +1,26 @@
 -- After the host's last cycle: it says that all is over, and markers are joined. No cycle is begun there.
-use Rattle.std.proofs.Common.{◌≡◌, ℕ, ◌<◌, true, false, List, [], ◌∷◌, ◌++◌, refl, sym, ◌∙◌, ap, subst, inl, inr}
-use Rattle.std.proofs.Common.{append_assoc}
-use Rattle.std.specs.Prelude.{None}
-use Rattle.std.specs.List.{list_any}
-use Rattle.std.proofs.lemmas.Bool.{or_from, or_parts}
-use Rattle.std.proofs.lemmas.List.{append_cancel_left}
-use Rattle.mk_core.specs.declared.config.Config.{Config}
-use Rattle.mk_core.specs.declared.events.Event.{Event}
-use Rattle.mk_core.specs.declared.events.Seat.{Seat}
-use Rattle.mk_core.specs.declared.events.Seat.TheVariants.{Caller, Host}
-use Rattle.mk_core.specs.declared.events.Step.{Step}
-use Rattle.mk_core.specs.declared.events.Step.TheVariants as step
-use Rattle.mk_core.specs.declared.events.Word.TheVariants as word
-use Rattle.mk_core.specs.Cycles.{before_close, is_begin}
-use Rattle.mk_core.specs.Growing.{AreOfOthers}
-use Rattle.mk_core.specs.History.{IsHistory, World, left}
-use Rattle.mk_core.proofs.HistoryParts.{earlier_part_is_history, enabled_in_parts}
+use Rattle.mk_laws.proofs.Vocabulary.{AreOfOthers, Caller, Config, Event, Host, IsHistory, List, None, Seat, Step, Word}
+use Rattle.mk_laws.proofs.Vocabulary.{World, ℕ, ap, append_assoc, before_close, earlier_part_is_history}
+use Rattle.mk_laws.proofs.Vocabulary.{enabled_in_parts, false, inl, inr, is_begin, left, list_any, or_from, or_parts}
+use Rattle.mk_laws.proofs.Vocabulary.{refl, subst, sym, true, [], ◌++◌, ◌<◌, ◌∙◌, ◌∷◌, ◌≡◌}
+use Rattle.mk_run.proofs.Vocabulary.{Has, HasCallers, IsWhole, Lacks, PassState, SaysOver, TakesLastTurns, WordsState}
+use Rattle.mk_run.proofs.Vocabulary.{append_cancel_left, finish_does, finish_in, has_step, has_then, history_before}
+use Rattle.mk_run.proofs.Vocabulary.{in_turn_then, is_of_cycles, others_append, others_own, seen_then, turn_moves}
+use Rattle.mk_run.proofs.Vocabulary.{turn_stays}
 use Rattle.mk_laws.proofs.Actors.{is_holders}
-use Rattle.mk_words.specs.Seats.{Has, HasCallers}
-use Rattle.mk_words.specs.States.{PassState, WordsState, event_of}
-use Rattle.mk_words.specs.Steps.{Makes}
-use Rattle.mk_words.specs.TurnSteps.{turn_stays}
-use Rattle.mk_words.proofs.Seats.{others_append, others_own}
-use Rattle.mk_turns.specs.Doing.{Does}
-use Rattle.mk_waiting.specs.Taking.{TakesTurn, Waits}
-use Rattle.mk_waiting.proofs.Waiting.{waits_more}
+use Rattle.mk_alloc.proofs.Parts.{made_as, others_lack, seen_made}
+use Rattle.mk_alloc.proofs.{CycleParts.begins_held, ListParts.lacks_append, ListParts.lacks_one}
+use Rattle.mk_alloc.specs.TurnCycles.{within_turn}
 use Rattle.mk_cycle.specs.TurnKeeps.{InTurn}
-use Rattle.mk_heap.specs.Ending.{EndsCycle, SaysOver}
-use Rattle.mk_heap.specs.Reports as report
-use Rattle.mk_heap.specs.Reports.{IsWhole}
-use Rattle.mk_heap.specs.declared.reports.Report.{Report}
 use Rattle.mk_heap.proofs.HomeCallers.{HoldersStepNone, others_hold_none, waiting_holds_none}
-use Rattle.mk_heap.proofs.MovedHosts.{turn_moves}
-use Rattle.mk_alloc.specs.TurnCycles.{has_step, within_turn}
-use Rattle.mk_alloc.proofs.CalmStretches.{is_of_cycles}
-use Rattle.mk_alloc.proofs.CycleParts.{begins_held, finish_does, finish_in}
-use Rattle.mk_alloc.proofs.ListParts.{Lacks, lacks_append, lacks_one}
-use Rattle.mk_alloc.proofs.Parts.{has_then, history_before, in_turn_then, made_as, others_lack, seen_made, seen_then}
-use Rattle.mk_run.specs.LastCycle.{EndsWithCycle, MakesLastCycle}
-use Rattle.mk_run.specs.LastTurns.{TakesLastTurns}
+use Rattle.mk_heap.specs.{Ending.EndsCycle, declared.reports.Report.Report}
 use Rattle.mk_run.proofs.LastCycles.{before_made, ends_does, last_cycle, turn_taken}
 use Rattle.mk_run.proofs.LastTurns.{cycle_moves, over_moves, still_behind_over}
+use Rattle.mk_run.specs.LastCycle.{EndsWithCycle, MakesLastCycle}
+use Rattle.mk_turns.specs.Doing.{Does}
+use Rattle.mk_waiting.{proofs.Waiting.waits_more, specs.Taking.TakesTurn, specs.Taking.Waits}
+use Rattle.mk_words.specs.{States.event_of, Steps.Makes}
+use Rattle.mk_heap.specs.Reports as report
 
 -- From what the one pass had seen to what the other has seen no cycle is begun.
 pub record Unbegun (p q : PassState) : Type 0 where
@@ -94,13 +74,13 @@ ends_unbegun taken idle t ends history = elim ends.phase [
 ]
   where
     looks : Does turn_stays taken ends.looked
-    looks = made_as turn_stays taken ends.looked (step.Look word.Phase) t.own ends.looks refl
+    looks = made_as turn_stays taken ends.looked (Step.Look Word.Phase) t.own ends.looks refl
 
     looked_own : Has ends.looked.seats ends.looked.seat
     looked_own = has_then turn_stays taken ends.looked looks t.own
 
     look : IsHistory ends.looked.table.config ends.looked.seen → Unbegun taken ends.looked
-    look there = unbegun_made taken ends.looked (step.Look word.Phase) t refl ends.looks there
+    look there = unbegun_made taken ends.looked (Step.Look Word.Phase) t refl ends.looks there
 
 -- While the host waits for the turn nobody begins one, and it takes the turn.
 pub wait_unbegun : (p taken : PassState) → Has p.seats Host → HasCallers p.table.config p.seats
@@ -121,8 +101,8 @@ wait_unbegun p taken host callers takes history =
 pub over_unbegun : (p q : PassState) → Has p.seats p.seat → Has p.seats Host → HasCallers p.table.config p.seats
     → SaysOver p q → IsHistory q.table.config q.seen → Unbegun p q
 over_unbegun p q own host callers o history =
-    let said = before_made o.said q step.Give o.gives history in
-    let idle = before_made o.idle o.said step.Over o.says said in
+    let said = before_made o.said q Step.Give o.gives history in
+    let idle = before_made o.idle o.said Step.Over o.says said in
     let taken_own : Has o.taken.seats o.taken.seat =
     subst (λ (r : PassState). Has r.seats r.seat) (sym (turn_moves p o.taken o.takes).is) own in
     let ends = ends_does o.taken o.idle taken_own o.ends in
@@ -130,11 +110,11 @@ over_unbegun p q own host callers o history =
     let t_taken = turn_taken p o.taken own o.takes taken in
     let t_idle = in_turn_then turn_stays o.taken o.idle stays t_taken ends idle in
     let t_said = in_turn_then turn_stays o.idle o.said stays t_idle
-    (made_as turn_stays o.idle o.said step.Over t_idle.own o.says refl) said in
+    (made_as turn_stays o.idle o.said Step.Over t_idle.own o.says refl) said in
     unbegun_then p o.taken q (wait_unbegun p o.taken host callers o.takes taken)
     (unbegun_then o.taken o.idle q (ends_unbegun o.taken o.idle t_taken o.ends idle)
-    (unbegun_then o.idle o.said q (unbegun_made o.idle o.said step.Over t_idle refl o.says said)
-    (unbegun_made o.said q step.Give t_said refl o.gives history)))
+    (unbegun_then o.idle o.said q (unbegun_made o.idle o.said Step.Over t_idle refl o.says said)
+    (unbegun_made o.said q Step.Give t_said refl o.gives history)))
 
 -- So the host's last turns end the list with their cycle.
 pub ends_with_cycle : (tells : Config → World → Type 0) (w : WordsState) (p : PassState) → TakesLastTurns tells w p

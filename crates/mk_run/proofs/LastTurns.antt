@@ -1,19 +1,12 @@
 -- The host's last turns, when the scripts are joined: the callers are still, and so they stay as markers are joined.
-use Rattle.std.proofs.Common.{◌≡◌, List, [], ◌∷◌, ◌++◌, sym, ◌∙◌, ap, subst, append-nil, append_assoc}
-use Rattle.mk_core.specs.declared.config.Config.{Config}
-use Rattle.mk_core.specs.declared.events.Event.{Event}
-use Rattle.mk_core.specs.declared.events.Seat.{Seat}
-use Rattle.mk_core.specs.declared.events.Seat.TheVariants.{Caller, Host}
-use Rattle.mk_core.specs.declared.events.Step.TheVariants as step
-use Rattle.mk_core.specs.Growing.{Grows, is_same_seat}
-use Rattle.mk_core.specs.History.{World}
-use Rattle.mk_words.specs.Seats.{Has, HasCallers}
-use Rattle.mk_words.specs.States.{WordsState, PassState}
-use Rattle.mk_words.proofs.Seats.{has_left, others_append, others_fewer, others_none}
-use Rattle.mk_heap.specs.Ending.{MakesCycle, MakesToldCycle, SaysOver}
-use Rattle.mk_heap.specs.Hosts.{HostState, with_joined, with_seen}
+use Rattle.mk_laws.proofs.Vocabulary.{Caller, Config, Event, Host, List, Seat, Step, World, ap, append-nil}
+use Rattle.mk_laws.proofs.Vocabulary.{append_assoc, subst, sym, [], ◌++◌, ◌∙◌, ◌∷◌, ◌≡◌}
+use Rattle.mk_run.proofs.Vocabulary.{CallersAreStill, Grows, Has, HasCallers, HostState, PassState, SaysOver}
+use Rattle.mk_run.proofs.Vocabulary.{TakesLastTurns, WordsState, has_left, others_append, others_none, with_joined}
+use Rattle.mk_core.specs.Growing.{is_same_seat}
 use Rattle.mk_heap.proofs.MovedHosts.{MovesOn, begin_moves, finish_moves, idle_moves, moves_more}
-use Rattle.mk_run.specs.LastTurns.{CallersAreStill, TakesLastTurns}
+use Rattle.mk_heap.specs.{Ending.MakesCycle, Ending.MakesToldCycle, Hosts.with_seen}
+use Rattle.mk_words.proofs.Seats.{others_fewer}
 
 -- The host's own seat is home.
 pub own_seat : (h : HostState) → h.pass.seat ≡ Host → Has h.pass.seats Host → Has h.pass.seats h.pass.seat
@@ -31,13 +24,13 @@ moved_still p q seat moves = λ k has. record {
 pub over_moves : (p q : PassState) → SaysOver p q → MovesOn p q
 over_moves p q over =
     let idle = idle_moves p over.idle (record { taken = over.taken; takes = over.takes; ends = over.ends }) in
-    moves_more p over.said q step.Give (moves_more p over.idle over.said step.Over idle over.says) over.gives
+    moves_more p over.said q Step.Give (moves_more p over.idle over.said Step.Over idle over.says) over.gives
 
 pub cycle_moves : (p q : PassState) → MakesCycle p q → MovesOn p q
 cycle_moves p q m =
     let idle = idle_moves p m.idle (record { taken = m.taken; takes = m.takes; ends = m.ends }) in
     let ended = finish_moves p m.begun m.ended (begin_moves p m.idle m.begun idle m.begins) m.finishes in
-    moves_more p m.ended q step.Give ended m.gives
+    moves_more p m.ended q Step.Give ended m.gives
 
 pub still_behind_over : (p q : PassState) → p.seat ≡ Host → SaysOver p q → CallersAreStill p q.seen
 still_behind_over p q seat over = moved_still p q seat (over_moves p q over)

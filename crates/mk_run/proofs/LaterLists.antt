@@ -1,21 +1,12 @@
 -- What a script has done stands where the list goes on by events of others than its caller.
-use Rattle.std.proofs.Common.{◌≡◌, ℕ, Bool, List, [], ◌∷◌, length, sym, ◌∙◌, ap}
-use Rattle.std.specs.Prelude.{count_by}
-use Rattle.mk_core.specs.declared.config.Config.{Config}
-use Rattle.mk_core.specs.declared.events.Answer.{Answer}
-use Rattle.mk_core.specs.declared.events.Event.{Event}
-use Rattle.mk_core.specs.declared.events.Seat.{Seat}
-use Rattle.mk_core.specs.declared.events.Seat.TheVariants.{Caller}
-use Rattle.mk_core.specs.Growing.{Grows}
-use Rattle.mk_core.specs.History.{calls}
-use Rattle.mk_words.specs.Seats.{Has}
-use Rattle.mk_words.proofs.Seats.{has_first, others_own}
-use Rattle.mk_caller.proofs.OwnSteps.{calls_by, others_add_none}
-use Rattle.mk_script.specs.declared.items.Item.{Item}
-use Rattle.mk_check.specs.Feed.{feed, has_ended, is_refusal}
-use Rattle.mk_check.specs.declared.text.Text.{Text}
-use Rattle.mk_run.specs.Running.{answers_in, FollowsScript, EndsScript, IsTextOf}
+use Rattle.std.proofs.Common.{count_by}
+use Rattle.mk_laws.proofs.Vocabulary.{Answer, Bool, Caller, Config, Event, List, Seat, ℕ, ap, calls, length, sym, []}
+use Rattle.mk_laws.proofs.Vocabulary.{◌∙◌, ◌∷◌, ◌≡◌}
+use Rattle.mk_run.proofs.Vocabulary.{EndsScript, FollowsScript, Grows, Has, IsTextOf, Item, Text, answers_in, calls_by}
+use Rattle.mk_run.proofs.Vocabulary.{feed, has_first, is_refusal, others_own}
 use Rattle.mk_alloc.proofs.ExactTurns.{stay_exact_behind_others}
+use Rattle.mk_caller.proofs.OwnSteps.{others_add_none}
+use Rattle.mk_check.specs.Feed.{has_ended}
 use Rattle.mk_run.proofs.NotedCalls.{same_answers, still_noted}
 
 -- a list that goes on by events of none of these seats goes on by none of one of them

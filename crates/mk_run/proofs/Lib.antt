@@ -17,3 +17,4 @@ pub mod UnsweptHistories
 pub mod UnsweptScripts
 pub mod BegunScripts
 mod PutOff
+pub mod Vocabulary

@@ -1,31 +1,17 @@
 -- Markers beside the scripts: their passes, and the host that joins them.
-use Rattle.std.proofs.Common.{◌≡◌, ℕ, ◌+◌, ◌<◌, ◌≤◌, Bool, true, List, [], ◌∷◌, ◌++◌, sym, ◌∙◌}
-use Rattle.std.proofs.Common.{refl, ap, subst, arith, ⊎_elim}
-use Rattle.std.proofs.lemmas.List.{get_or-replicate}
-use Rattle.std.specs.Prelude.{IfOk}
-use Rattle.std.proofs.lemmas.Result.{IfOk-weaker}
-use Rattle.mk_core.specs.declared.events.Event.{Event}
-use Rattle.mk_core.specs.declared.events.Seat.{Seat}
-use Rattle.mk_core.specs.declared.events.Seat.TheVariants.{Caller, Marker, Host}
-use Rattle.mk_core.specs.declared.config.Config.{Config}
-use Rattle.mk_core.specs.Growing.{Grows}
-use Rattle.mk_core.specs.History.{IsHistory, left, left_from}
-use Rattle.mk_core.specs.MarkerConditions.{is_out}
-use Rattle.mk_core.specs.Moments.{marker_at, outside}
-use Rattle.mk_words.specs.Seats.{Has}
-use Rattle.mk_words.specs.States.{WordsState, PassState}
-use Rattle.mk_words.proofs.Seats.{has_first, has_left, has_right, without_keeps}
-use Rattle.mk_heap.specs.Hosts.{HostState, pass_for, with_marker_made, with_joined}
-use Rattle.mk_script.specs.declared.items.Item.{Item}
-use Rattle.mk_check.specs.Declarations.{config_of}
-use Rattle.mk_run.specs.declared.joining.Joined.{Joined}
-use Rattle.mk_run.specs.Joining.{HasMade, HasJoined, AreTextsFrom}
-use Rattle.mk_run.specs.LastTurns.{CallersAreStill}
-use Rattle.mk_run.specs.Marking.{IsMarkersPass, IsOver}
-use Rattle.mk_run.proofs.JoinedScripts.{same_or_later}
-use Rattle.mk_run.proofs.LaterLists.{of_one}
-use Rattle.mk_run.proofs.HostTurns.{still_last}
+use Rattle.std.proofs.{lemmas.List.get_or-replicate, lemmas.Result.IfOk-weaker}
+use Rattle.mk_laws.proofs.Vocabulary.{Bool, Caller, Config, Event, Host, IsHistory, List, Marker, Seat, ℕ, ap, arith}
+use Rattle.mk_laws.proofs.Vocabulary.{left, marker_at, outside, refl, subst, sym, true, [], ◌++◌, ◌+◌, ◌<◌, ◌∙◌, ◌∷◌}
+use Rattle.mk_laws.proofs.Vocabulary.{◌≡◌, ◌≤◌}
+use Rattle.mk_run.proofs.Vocabulary.{AreTextsFrom, CallersAreStill, Grows, Has, HasJoined, HasMade, HostState, IfOk}
+use Rattle.mk_run.proofs.Vocabulary.{IsOver, Item, PassState, WordsState, config_of, has_first, has_left, with_joined}
+use Rattle.mk_run.proofs.Vocabulary.{⊎_elim}
+use Rattle.mk_core.specs.{History.left_from, MarkerConditions.is_out}
+use Rattle.mk_heap.specs.Hosts.{pass_for, with_marker_made}
 use Rattle.mk_run.proofs.WholeRuns.{all_callers_home, still_joined, still_texts}
+use Rattle.mk_run.proofs.{HostTurns.still_last, JoinedScripts.same_or_later, LaterLists.of_one}
+use Rattle.mk_run.specs.{Marking.IsMarkersPass, declared.joining.Joined.Joined}
+use Rattle.mk_words.proofs.Seats.{has_right, without_keeps}
 
 -- A marker that has done nothing is out.
 

@@ -1,25 +1,11 @@
 -- The calls of one caller among all: what its script notes of them, and what one call more makes of that.
-use Rattle.std.proofs.Common.{◌≡◌, ℕ, ◌≤◌, Bool, true, false, List, [], ◌∷◌, ◌++◌, length, map, refl, sym, ◌∙◌, ap}
-use Rattle.std.proofs.Common.{subst, arith}
-use Rattle.std.specs.Prelude.{Some, ◌==◌, if◌then◌else◌}
-use Rattle.std.proofs.lemmas.List.{map-append}
-use Rattle.mk_never.specs.declared.operations.Op.{Op}
-use Rattle.mk_never.specs.Admitted.{IsAdmitted}
-use Rattle.mk_core.specs.declared.config.Config.{Config}
-use Rattle.mk_core.specs.declared.events.Answer.{Answer}
-use Rattle.mk_core.specs.declared.events.Event.{Event}
-use Rattle.mk_core.specs.Decided.{Decided, asked, entry_of, flagged}
-use Rattle.mk_core.specs.History.{calls, never_behind, IsHistory}
-use Rattle.mk_script.specs.declared.items.Item.{Item}
-use Rattle.mk_script.specs.Scopes.{script_names}
-use Rattle.mk_check.specs.Declarations.{config_of, globals_of}
-use Rattle.mk_check.specs.Feed.{feed}
-use Rattle.mk_check.specs.Feeding.{next_op}
-use Rattle.mk_check.specs.Laws.{IsChecked, IsScript, ops_of_caller, AreNotedBy}
-use Rattle.mk_check.specs.Output.{answers_among}
-use Rattle.mk_check.proofs.AdmittedScripts.{next_is_admitted}
-use Rattle.mk_check.proofs.FeedLaws.{ops-feed_push}
-use Rattle.mk_caller.proofs.OwnSteps.{calls_by}
+use Rattle.mk_laws.proofs.Vocabulary.{Answer, Bool, Config, Decided, Event, IsAdmitted, IsHistory, List, Op, Some, ℕ}
+use Rattle.mk_laws.proofs.Vocabulary.{ap, arith, asked, calls, entry_of, false, flagged, if◌then◌else◌, length, map}
+use Rattle.mk_laws.proofs.Vocabulary.{map-append, never_behind, refl, subst, sym, true, [], ◌++◌, ◌==◌, ◌∙◌, ◌∷◌, ◌≡◌}
+use Rattle.mk_laws.proofs.Vocabulary.{◌≤◌}
+use Rattle.mk_run.proofs.Vocabulary.{IsChecked, IsScript, Item, calls_by, config_of, feed, next_op, script_names}
+use Rattle.mk_check.proofs.{AdmittedScripts.next_is_admitted, FeedLaws.ops-feed_push}
+use Rattle.mk_check.specs.{Declarations.globals_of, Laws.AreNotedBy, Laws.ops_of_caller, Output.answers_among}
 
 abbrev answers_to : List Decided → List Answer
 answers_to xs = map (λ (x : Decided). x.answer) xs

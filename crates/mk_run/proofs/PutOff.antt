@@ -1,22 +1,11 @@
 -- An operation that isn't answered at once, and what it is answered later.
-use Rattle.std.proofs.Common.{◌≡◌, Bool, true, false, List, refl, sym, ◌∙◌, subst}
-use Rattle.std.proofs.lemmas.Bool.{true≢false}
-use Rattle.mk_never.specs.declared.operations.Op.{Op}
-use Rattle.mk_core.specs.declared.events.Answer.{Answer}
-use Rattle.mk_core.specs.Calls.{is_under_turn}
-use Rattle.mk_core.specs.declared.config.Config.{Config}
-use Rattle.mk_core.specs.declared.events.Event.{Event}
-use Rattle.mk_core.specs.declared.events.Seat.{Seat}
-use Rattle.mk_words.specs.States.{PassState}
-use Rattle.mk_caller.specs.States.{CallerState}
-use Rattle.mk_caller.specs.Causes.{FindsGateHeld}
-use Rattle.mk_turns.specs.Sweeping.{SweepsNothing}
-use Rattle.mk_turns.proofs.Sweeping.{sweeps_then}
-use Rattle.mk_cycle.specs.Begun.{EachIsBegun}
-use Rattle.mk_cycle.proofs.Begun.{begun_then}
-use Rattle.mk_run.specs.Scripts.{Answers, IsAdmittedByOwnCalls, IsPutOff, StaysBeside}
-use Rattle.mk_run.proofs.BegunScripts.{beside_begun}
+use Rattle.mk_laws.proofs.Vocabulary.{Answer, Bool, Config, Event, List, Op, Seat, false, is_under_turn, refl, subst}
+use Rattle.mk_laws.proofs.Vocabulary.{sym, true, true≢false, ◌∙◌, ◌≡◌}
+use Rattle.mk_run.proofs.Vocabulary.{Answers, CallerState, EachIsBegun, FindsGateHeld, IsAdmittedByOwnCalls, PassState}
+use Rattle.mk_run.proofs.Vocabulary.{StaysBeside, SweepsNothing, begun_then, sweeps_then}
 use Rattle.mk_run.proofs.ScriptCalls.{makes_none, none_then_answers, stays_admitted_after}
+use Rattle.mk_run.proofs.BegunScripts.{beside_begun}
+use Rattle.mk_run.specs.Scripts.{IsPutOff}
 
 pub turn_put_off : (p : PassState) (o : Op) → is_under_turn o ≡ true → IsPutOff p o p
 turn_put_off p o under = record {

@@ -1,48 +1,23 @@
 -- A script's caller makes one call more, or finds its gate held, and what is known then.
-use Rattle.std.proofs.Common.{◌≡◌, ℕ, ◌+◌, ◌<◌, ◌≤◌, Bool, true, false, length, arith, List, [], ◌∷◌, ◌++◌, refl, sym}
-use Rattle.std.proofs.Common.{◌∙◌, ap, subst}
-use Rattle.std.specs.Prelude.{Some}
-use Rattle.std.proofs.lemmas.Bool.{true≢false}
-use Rattle.std.proofs.lemmas.List.{length-append}
-use Rattle.std.proofs.lemmas.List.Sums.{count_by-le-length}
-use Rattle.mk_never.specs.declared.operations.Op.{Op}
-use Rattle.mk_never.specs.declared.operations.Op.TheVariants as op
-use Rattle.mk_core.specs.declared.config.Config.{Config}
-use Rattle.mk_core.specs.declared.events.Answer.{Answer}
-use Rattle.mk_core.specs.declared.events.Answer.TheVariants as answer
-use Rattle.mk_core.specs.declared.events.Event.{Event}
-use Rattle.mk_core.specs.declared.events.Seat.{Seat}
-use Rattle.mk_core.specs.declared.events.Seat.TheVariants.{Caller}
-use Rattle.mk_core.specs.Accesses.{caller_number}
-use Rattle.mk_core.specs.Calls.{is_under_turn}
-use Rattle.mk_core.specs.Decided.{Decided, entry_of, asked, flagged}
-use Rattle.mk_core.specs.History.{calls, never_first, never_behind, IsHistory}
-use Rattle.mk_never.specs.Admitted.{IsAdmitted}
-use Rattle.mk_never.specs.declared.types.Kind.{Kind}
+use Rattle.std.proofs.{Common.length-append, lemmas.List.Sums.count_by-le-length}
+use Rattle.mk_laws.proofs.Vocabulary.{Answer, Bool, Caller, Config, Decided, Event, IsAdmitted, IsHistory, Kind, List}
+use Rattle.mk_laws.proofs.Vocabulary.{Op, Seat, Some, ℕ, ap, arith, asked, caller_number, calls, entry_of, false}
+use Rattle.mk_laws.proofs.Vocabulary.{flagged, is_under_turn, length, never_behind, refl, subst, sym, true, true≢false}
+use Rattle.mk_laws.proofs.Vocabulary.{[], ◌++◌, ◌+◌, ◌<◌, ◌∙◌, ◌∷◌, ◌≡◌, ◌≤◌}
+use Rattle.mk_run.proofs.Vocabulary.{Answers, FindsGateHeld, FollowsScript, Has, IsAdmittedByOwnCalls, IsChecked}
+use Rattle.mk_run.proofs.Vocabulary.{IsFedWith, IsScript, Item, PassState, WordsState, answers_in, calls_by, config_of}
+use Rattle.mk_run.proofs.Vocabulary.{is_refusal, next_op, script_names}
 use Rattle.mk_never.proofs.Later.{calls_stay}
-use Rattle.mk_words.specs.Seats.{Has}
-use Rattle.mk_words.specs.States.{PassState, WordsState}
-use Rattle.mk_words.proofs.Made.{own_before}
-use Rattle.mk_caller.specs.States.{caller_of_pass, Admits, IsIdleCaller}
-use Rattle.mk_caller.specs.Called.{own_calls}
-use Rattle.mk_caller.specs.Causes.{FindsGateHeld}
-use Rattle.mk_caller.proofs.OwnSteps.{calls_by}
-use Rattle.mk_alloc.specs.Laws.{OwnAreExact}
-use Rattle.mk_alloc.specs.TurnCalls.{CalledInTurn}
-use Rattle.mk_alloc.specs.TurnCycles.{TurnsOfAreExact}
-use Rattle.mk_script.specs.declared.items.Item.{Item}
-use Rattle.mk_script.specs.Scopes.{script_names}
-use Rattle.mk_check.specs.Feed.{is_refusal}
-use Rattle.mk_check.specs.Declarations.{config_of}
-use Rattle.mk_check.specs.Feeding.{next_op}
-use Rattle.mk_check.specs.Laws.{IsChecked, IsScript, AreNotedBy}
-use Rattle.mk_run.specs.Running.{answers_in, FollowsScript}
-use Rattle.mk_run.specs.Scripts.{as_told, unflagged, IsCalled, IsAdmittedByOwnCalls, MakesNoCall, Answers}
-use Rattle.mk_run.specs.Scripts.{Script, IsFedWith, ScriptTakesAnswer, IsRunning}
+use Rattle.mk_core.specs.History.{never_first}
+use Rattle.mk_alloc.proofs.ExactTurns.{stay_exact_behind_calls, stay_exact_behind_turns, stay_exact_where_held}
+use Rattle.mk_alloc.specs.{Laws.OwnAreExact, TurnCalls.CalledInTurn, TurnCycles.TurnsOfAreExact}
+use Rattle.mk_caller.specs.{Called.own_calls, States.Admits, States.IsIdleCaller, States.caller_of_pass}
+use Rattle.mk_check.specs.Laws.{AreNotedBy}
 use Rattle.mk_run.proofs.BesideTurns.{beside_then, called_beside, held_beside}
+use Rattle.mk_run.proofs.NotedCalls.{next_admitted, one_answer_more, one_more_noted, same_answers, still_noted}
 use Rattle.mk_run.proofs.FedScripts.{fed_as_told}
-use Rattle.mk_alloc.proofs.ExactTurns.{stay_exact_behind_calls, stay_exact_where_held, stay_exact_behind_turns}
-use Rattle.mk_run.proofs.NotedCalls.{still_noted, same_answers, one_answer_more, one_more_noted, next_admitted}
+use Rattle.mk_run.specs.Scripts.{IsCalled, IsRunning, MakesNoCall, Script, ScriptTakesAnswer, as_told, unflagged}
+use Rattle.mk_words.proofs.Made.{own_before}
 
 -- The calls that a pass makes.
 
@@ -135,16 +110,16 @@ stays_admitted_after on p o q stays h es history own =
 
 -- A New.
 
-flagged_alike : (d ty : ℕ) (full : Bool) (a : Answer) → flagged (op.New d ty false) a ≡ flagged (op.New d ty full) a
-flagged_alike d ty full answer.Full = refl
+flagged_alike : (d ty : ℕ) (full : Bool) (a : Answer) → flagged (Op.New d ty false) a ≡ flagged (Op.New d ty full) a
+flagged_alike d ty full Answer.Full = refl
 flagged_alike d ty full _ = refl
 
 pub answered_new : (on : Bool) (p : PassState) (o : Op) (d ty : ℕ) (full : Bool) (a : Answer) (q : PassState)
     → Has p.seats p.seat
-    → o ≡ op.New d ty full → CalledInTurn on p (op.New d ty false) a q → Answers on p o (as_told a) q
+    → o ≡ Op.New d ty full → CalledInTurn on p (Op.New d ty false) a q → Answers on p o (as_told a) q
 unfolding answered_in_turn
 answered_new on p o d ty full a q own is h =
-    let made = answered_in_turn on p (op.New d ty false) a q own refl refl h in
+    let made = answered_in_turn on p (Op.New d ty false) a q own refl refl h in
     subst (λ (x : Op). Answers on p x (as_told a) q) (sym is) (record {
       answer = a;
       is_told = refl;
@@ -158,11 +133,11 @@ answered_new on p o d ty full a q own is h =
     })
 
 pub answered_free : (on : Bool) (p : PassState) (o : Op) (r : ℕ) (a : Answer) (q : PassState) → Has p.seats p.seat
-    → o ≡ op.Free r → CalledInTurn on p (op.Free r) a q → Answers on p o (as_told a) q
+    → o ≡ Op.Free r → CalledInTurn on p (Op.Free r) a q → Answers on p o (as_told a) q
 answered_free on p o r a q own is h =
-    subst (λ (x : Op). Answers on p x (as_told a) q) (sym is) (answered_in_turn on p (op.Free r) a q own refl refl h)
+    subst (λ (x : Op). Answers on p x (as_told a) q) (sym is) (answered_in_turn on p (Op.Free r) a q own refl refl h)
 
-pub type_exists : (p : PassState) (o : Op) (d ty : ℕ) (full : Bool) → o ≡ op.New d ty full → Admits p o
+pub type_exists : (p : PassState) (o : Op) (d ty : ℕ) (full : Bool) → o ≡ Op.New d ty full → Admits p o
     → ty < length p.table.config.types
 type_exists p o d ty full is admits =
     let made = subst (λ (x : Op). Admits p x) is admits in

@@ -1,27 +1,18 @@
 -- A history none of whose seats makes a sweeping mark has none, nor has a cycle of it.
-use Rattle.std.proofs.Common.{◌≡◌, ℕ, true, false, List, [], ◌∷◌, ◌++◌, refl, sym, ◌∙◌, subst, append_assoc}
-use Rattle.mk_core.specs.declared.config.Config.{Config}
-use Rattle.mk_core.specs.declared.events.Event.{Event}
-use Rattle.mk_core.specs.declared.events.Seat.{Seat}
-use Rattle.mk_core.specs.declared.events.Seat.TheVariants.{Marker}
-use Rattle.mk_core.specs.declared.events.Step.{Step}
-use Rattle.mk_core.specs.declared.events.Step.TheVariants as step
-use Rattle.mk_core.specs.Cycles.{Marking, NoneSweeps, NoneSweepsFrom, through}
-use Rattle.mk_core.specs.History.{AreEnabledFrom, World, first_world, left, left_from, world_behind}
-use Rattle.mk_core.specs.Moments.{flight_of}
-use Rattle.mk_core.specs.Order.{group_of, is_open_to, seat_exists}
+use Rattle.mk_laws.proofs.Vocabulary.{Config, Event, List, Marker, Marking, Seat, Step, World, ℕ, append_assoc, false}
+use Rattle.mk_laws.proofs.Vocabulary.{first_world, flight_of, group_of, is_open_to, left, refl, seat_exists, subst, sym}
+use Rattle.mk_laws.proofs.Vocabulary.{through, true, world_behind, [], ◌++◌, ◌∙◌, ◌∷◌, ◌≡◌}
 use Rattle.mk_core.proofs.Conditions.{enabled_events_meet_all}
-use Rattle.mk_words.proofs.Seats.{same_seat, same_self}
-use Rattle.mk_turns.specs.Sweeping.{SweepsNothingFrom, is_mark}
-use Rattle.mk_turns.proofs.Sweeping.{other_steps_sweep}
-use Rattle.mk_laws.specs.Precision.{CyclesArePrecise}
-use Rattle.mk_laws.specs.Promises.{KeepsAllPromises}
+use Rattle.mk_core.specs.{Cycles.NoneSweeps, Cycles.NoneSweepsFrom, History.AreEnabledFrom, History.left_from}
+use Rattle.mk_laws.specs.{Precision.CyclesArePrecise, Promises.KeepsAllPromises}
 use Rattle.mk_run.specs.Unswept.{IsUnswept}
+use Rattle.mk_turns.{proofs.Sweeping.other_steps_sweep, specs.Sweeping.SweepsNothingFrom, specs.Sweeping.is_mark}
+use Rattle.mk_words.proofs.Seats.{same_seat, same_self}
 
 -- A marker makes none: its marks are of a kind of their own.
 
 markers_kind : (j : ℕ) (x : Step) → is_open_to (Marker j) (group_of x) ≡ true → is_mark x ≡ false
-markers_kind j (step.Mark p v) h = cc
+markers_kind j (Step.Mark p v) h = cc
 markers_kind j _ h = refl
 
 pub markers_sweep : (c : Config) (j : ℕ) (w : World) (es : List Event) → AreEnabledFrom c w es

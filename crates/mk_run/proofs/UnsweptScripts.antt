@@ -1,28 +1,12 @@
 -- Scripts whose engine doesn't sweep make no sweeping mark, nor does the host that joins them.
-use Rattle.std.proofs.Common.{◌≡◌, ℕ, ◌+◌, ◌≤◌, true, List, [], ◌∷◌, length, sym, ◌∙◌, ap, subst, arith, ⊎_elim}
-use Rattle.std.proofs.lemmas.Bool.{ltb-true}
-use Rattle.mk_core.specs.declared.config.Config.{Config}
-use Rattle.mk_core.specs.declared.events.Event.{Event}
-use Rattle.mk_core.specs.declared.events.Seat.{Seat}
-use Rattle.mk_core.specs.declared.events.Seat.TheVariants.{Caller, Host, Marker}
-use Rattle.mk_core.specs.Growing.{Grows}
-use Rattle.mk_core.specs.History.{IsHistory, first_world, left}
-use Rattle.mk_core.specs.Order.{seat_exists}
-use Rattle.mk_words.specs.Seats.{Has}
-use Rattle.mk_words.specs.States.{PassState, WordsState}
-use Rattle.mk_words.proofs.Seats.{has_first}
-use Rattle.mk_caller.specs.States.{CallerState, at_home}
-use Rattle.mk_turns.specs.Sweeping.{SweepsNothing, SweepsNothingFrom}
-use Rattle.mk_turns.proofs.Sweeping.{others_sweep, sweeps_append}
-use Rattle.mk_script.specs.declared.items.Item.{Item}
-use Rattle.mk_script.specs.Scopes.{script_names}
-use Rattle.mk_check.specs.Declarations.{config_of}
-use Rattle.mk_check.specs.Laws.{IsScript}
-use Rattle.mk_run.specs.Joining.{IsFirstPass}
-use Rattle.mk_run.specs.Unswept.{IsUnswept}
-use Rattle.mk_run.specs.UnsweptSeats.{ScriptsSweepNothing, SeatSweepsNothing}
-use Rattle.mk_run.proofs.JoinedScripts.{same_or_later}
-use Rattle.mk_run.proofs.UnsweptHistories.{markers_sweep, none_sweeps}
+use Rattle.mk_laws.proofs.Vocabulary.{Caller, Config, Event, Host, IsHistory, List, Marker, Seat, ℕ, ap, arith}
+use Rattle.mk_laws.proofs.Vocabulary.{first_world, left, length, ltb-true, seat_exists, subst, sym, true, [], ◌+◌, ◌∙◌}
+use Rattle.mk_laws.proofs.Vocabulary.{◌∷◌, ◌≡◌, ◌≤◌}
+use Rattle.mk_run.proofs.Vocabulary.{CallerState, Grows, Has, IsFirstPass, IsScript, Item, PassState, SweepsNothing}
+use Rattle.mk_run.proofs.Vocabulary.{WordsState, at_home, config_of, has_first, script_names, ⊎_elim}
+use Rattle.mk_run.proofs.{JoinedScripts.same_or_later, UnsweptHistories.markers_sweep, UnsweptHistories.none_sweeps}
+use Rattle.mk_run.specs.{Unswept.IsUnswept, UnsweptSeats.ScriptsSweepNothing, UnsweptSeats.SeatSweepsNothing}
+use Rattle.mk_turns.{proofs.Sweeping.others_sweep, proofs.Sweeping.sweeps_append, specs.Sweeping.SweepsNothingFrom}
 
 -- before the first event
 

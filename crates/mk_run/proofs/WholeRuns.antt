@@ -1,29 +1,13 @@
 -- A run of all scripts, when the heap is closed.
-use Rattle.std.proofs.Common.{◌≡◌, ℕ, ◌+◌, ◌<◌, ◌≤◌, Bool, List, [], ◌∷◌, sym, ◌∙◌, subst, arith}
-use Rattle.std.proofs.lemmas.Option.{slice_get_within}
-use Rattle.mk_core.specs.declared.config.Config.{Config}
-use Rattle.mk_core.specs.declared.events.Event.{Event}
-use Rattle.mk_core.specs.declared.events.Seat.{Seat}
-use Rattle.mk_core.specs.declared.events.Seat.TheVariants.{Caller}
-use Rattle.mk_core.specs.Growing.{Grows}
-use Rattle.mk_words.specs.Seats.{Has, HasCallers}
-use Rattle.mk_words.specs.States.{WordsState}
-use Rattle.mk_heap.specs.Ending.{CallersAreJoined}
-use Rattle.mk_heap.specs.Hosts.{HostState, AllAreJoined}
-use Rattle.mk_heap.specs.Reports as report
-use Rattle.mk_heap.specs.Reports.{IsWhole, HasCounts}
-use Rattle.mk_script.specs.declared.items.Item.{Item}
-use Rattle.mk_check.specs.Declarations.{config_of}
-use Rattle.mk_check.specs.Laws.{IsScript}
-use Rattle.mk_check.specs.declared.text.Text.{Text}
-use Rattle.mk_run.specs.declared.outcomes.Outcome.{Outcome}
+use Rattle.mk_laws.proofs.Vocabulary.{Bool, Caller, Config, Event, List, Seat, ℕ, arith, subst, sym, [], ◌+◌, ◌<◌, ◌∙◌}
+use Rattle.mk_laws.proofs.Vocabulary.{◌∷◌, ◌≡◌, ◌≤◌}
+use Rattle.mk_run.proofs.Vocabulary.{AreTextsFrom, CallersAreStill, EndsScript, FollowsScript, Grows, Has, HasCallers}
+use Rattle.mk_run.proofs.Vocabulary.{HasJoined, HostComesLast, HostState, IsOver, IsRunOf, IsScript, IsTextOf, IsWhole}
+use Rattle.mk_run.proofs.Vocabulary.{Item, Outcome, Text, WordsState, config_of, slice_get_within}
+use Rattle.mk_heap.specs.{Ending.CallersAreJoined, Hosts.AllAreJoined, Reports.HasCounts}
+use Rattle.mk_run.proofs.LaterLists.{still_ends, still_follows, still_text}
 use Rattle.mk_run.specs.declared.joining.Joined.{Joined}
-use Rattle.mk_run.specs.HostTurns.{HostComesLast}
-use Rattle.mk_run.specs.Joining.{HasJoined, AreTextsFrom}
-use Rattle.mk_run.specs.LastTurns.{CallersAreStill}
-use Rattle.mk_run.specs.Marking.{IsOver}
-use Rattle.mk_run.specs.Running.{FollowsScript, EndsScript, IsTextOf, IsRunOf}
-use Rattle.mk_run.proofs.LaterLists.{still_follows, still_ends, still_text}
+use Rattle.mk_heap.specs.Reports as report
 
 pub all_callers_joined : (on : Bool) (program : List Item) (w : WordsState) (h : HostState)
     → HasJoined on program w 0 h → CallersAreJoined h

@@ -1,11 +1,10 @@
 -- What a caller holds at a point of its job: its registers alone tell.
-use Rattle.std.proofs.Common.{◌≡◌, ℕ, ◌<◌, sym, ◌∙◌, ap, subst, arith, Some, None}
 use Rattle.mk_stack.proofs.Vocabulary.{Answer, Called, Checking, Ended, Filling, Following, Founded, Founding, Freeing}
 use Rattle.mk_stack.proofs.Vocabulary.{IsAtPoint, IsPointerTo, Linking, Looking, Making, MayPointTo, Op, PassState}
 use Rattle.mk_stack.proofs.Vocabulary.{Peeking, Placing, Point, Publishing, Reading, Starting, Stays, Taking, Testing}
 use Rattle.mk_stack.proofs.Vocabulary.{Value, caller_of_pass, never_of, register_at, value_of}
-use Rattle.mk_caller.specs.Laws.{destination}
-use Rattle.mk_caller.proofs.After.{calls_leave_other_registers}
+use Rattle.mk_laws.proofs.Vocabulary.{None, Some, ℕ, ap, arith, subst, sym, ◌<◌, ◌∙◌, ◌≡◌}
+use Rattle.mk_caller.{proofs.After.calls_leave_other_registers, specs.Laws.destination}
 
 pub points_on : {ty : ℕ} {v : Value} (w : Value) → w ≡ v → IsPointerTo ty v → IsPointerTo ty w
 points_on w e h = record { number = h.number; is = e ∙ h.is }

@@ -1,22 +1,17 @@
 -- How a stack is founded, and how a job begins; and what a caller does when it has ended.
-use Rattle.std.proofs.Common.{◌≡◌, ℕ, ◌<◌, false, List, length, get_or, refl, sym, ◌∙◌, ap, subst, arith, Some, None}
-use Rattle.std.proofs.Common.{Option, inl, inr}
-use Rattle.std.specs.Prelude.{◌⊎◌}
 use Rattle.mk_stack.proofs.Vocabulary.{Allocation, Checking, Done, Ended, Founded, Founding, Job, Kind, Making}
-use Rattle.mk_stack.proofs.Vocabulary.{NeverState, Null, Op, Peeking, Placing, Point, Pop, Ptr, Push, Replied, Starting}
-use Rattle.mk_stack.proofs.Vocabulary.{Value, after_op, done_without, global_at, numbers_in, register_at, reply_of}
-use Rattle.mk_stack.proofs.Vocabulary.{with_global, with_new, with_register, zero_words}
-use Rattle.mk_never.specs.declared.operations.Op.TheVariants as op
-use Rattle.mk_never.specs.declared.operations.Reply.TheVariants as reply
-use Rattle.mk_stack.proofs.Heaps.{set_register}
-use Rattle.mk_stack.proofs.Roles.{Role, Base, put_same}
-use Rattle.mk_stack.proofs.Invariant.{HasChain, Local, IsHeld, Work, Inv, HasTop, HasBase}
+use Rattle.mk_stack.proofs.Vocabulary.{NeverState, Null, Op, Peeking, Placing, Point, Pop, Ptr, Push, Replied, Reply}
+use Rattle.mk_stack.proofs.Vocabulary.{Starting, Value, after_op, done_without, global_at, numbers_in, register_at}
+use Rattle.mk_stack.proofs.Vocabulary.{reply_of, with_global, with_new, with_register, zero_words}
+use Rattle.mk_laws.proofs.Vocabulary.{List, None, Option, Some, ℕ, ap, arith, false, get_or, inl, inr, length, refl}
+use Rattle.mk_laws.proofs.Vocabulary.{subst, sym, ◌<◌, ◌∙◌, ◌≡◌, ◌⊎◌}
 use Rattle.mk_stack.proofs.Assembly.{Stepped, nothing, settles}
-use Rattle.mk_stack.proofs.Registered.{by_nothing, by_register, by_global}
-use Rattle.mk_stack.proofs.Writes.{unborn_base, base_private, base_taken, base_stacked}
-use Rattle.mk_stack.proofs.Grants.{IsNewRole, by_grant, made}
-use Rattle.mk_stack.proofs.StepParts.{ptr_is_not_null, there, register_set, idle, put_held, undecided, without_left}
-use Rattle.mk_stack.proofs.StepParts.{null_is_null, other_is_not}
+use Rattle.mk_stack.proofs.Invariant.{HasBase, HasChain, HasTop, Inv, IsHeld, Local, Work}
+use Rattle.mk_stack.proofs.StepParts.{idle, null_is_null, other_is_not, ptr_is_not_null, put_held, register_set, there}
+use Rattle.mk_stack.proofs.StepParts.{undecided, without_left}
+use Rattle.mk_stack.proofs.Writes.{base_private, base_stacked, base_taken, unborn_base}
+use Rattle.mk_stack.proofs.{Grants.IsNewRole, Grants.by_grant, Grants.made, Heaps.set_register, Registered.by_global}
+use Rattle.mk_stack.proofs.{Registered.by_nothing, Registered.by_register, Roles.Base, Roles.Role, Roles.put_same}
 
 module _ {callers : ℕ} {n : NeverState} {top : Option ℕ} {role : ℕ → Role} {nodes : List ℕ} {W : ℕ → Work}
     (inv : Inv callers n top role nodes W) (c : ℕ) (exists : c < callers) where
@@ -41,11 +36,11 @@ module _ {callers : ℕ} {n : NeverState} {top : Option ℕ} {role : ℕ → Rol
       }
 
   pub found_steps : (u : Option Done) (rest : List Replied) → Local n top role c Founding u → Held Founding
-      → Goal Founding u (op.New 0 1 false) Placing rest (after_op n c (op.New 0 1 false))
+      → Goal Founding u (Op.New 0 1 false) Placing rest (after_op n c (Op.New 0 1 false))
   found_steps u rest local held =
       let a = length n.allocations in
       let m : NeverState = with_register (with_new n 1) c 0 (Ptr a 1 0) in
-      by_grant inv c 0 1 Base (omega arith) base_fits Founding u (op.New 0 1 false) Placing
+      by_grant inv c 0 1 Base (omega arith) base_fits Founding u (Op.New 0 1 false) Placing
       rest (
         local.0,
         local.1,
@@ -63,31 +58,31 @@ module _ {callers : ℕ} {n : NeverState} {top : Option ℕ} {role : ℕ → Rol
       (idle inv c exists m Founding Placing (λ p. p) (λ f. f) held)) (λ b. refl)
 
   pub place_steps : (u : Option Done) (rest : List Replied) → Local n top role c Placing u → Held Placing
-      → Goal Placing u (op.SetGlobal 0 0) Founded rest (after_op n c (op.SetGlobal 0 0))
+      → Goal Placing u (Op.SetGlobal 0 0) Founded rest (after_op n c (Op.SetGlobal 0 0))
   place_steps u rest local held =
       let base : HasBase n role c = local.2 in
-      subst (λ (v : Value). Goal Placing u (op.SetGlobal 0 0) Founded rest (with_global n 0 v)) (sym base.register)
-      (by_global inv c local.0 base.t local.1 base.has base.word Placing u (op.SetGlobal 0 0) Founded rest tt
+      subst (λ (v : Value). Goal Placing u (Op.SetGlobal 0 0) Founded rest (with_global n 0 v)) (sym base.register)
+      (by_global inv c local.0 base.t local.1 base.has base.word Placing u (Op.SetGlobal 0 0) Founded rest tt
       (idle inv c exists (with_global n 0 (Ptr base.t 1 0)) Placing Founded (λ p. p) (λ f. f) held) (λ b. refl))
 
   -- A job begins.
 
   pub start_steps : (j : Job) (u : Option Done) (rest : List Replied) → Local n top role c (Starting j) u
-      → Held (Starting j) → Goal (Starting j) u (op.GetGlobal 0 0) (Checking j) rest (after_op n c (op.GetGlobal 0 0))
+      → Held (Starting j) → Goal (Starting j) u (Op.GetGlobal 0 0) (Checking j) rest (after_op n c (Op.GetGlobal 0 0))
   start_steps j u rest local held = by top refl inv.core.chain
     where
       by : (x : Option ℕ) → top ≡ x → HasChain n x role nodes
-          → Goal (Starting j) u (op.GetGlobal 0 0) (Checking j) rest (with_register n c 0 (global_at n 0))
+          → Goal (Starting j) u (Op.GetGlobal 0 0) (Checking j) rest (with_register n c 0 (global_at n 0))
       by None is chain =
           by_register inv c 0 (global_at n 0) (omega arith) (Starting j) u
-          (op.GetGlobal 0 0) (Checking j) rest (Some (done_without j))
+          (Op.GetGlobal 0 0) (Checking j) rest (Some (done_without j))
           (Some (record { caller = c; job = j; done = done_without j }))
           (inl (register_set inv c exists 0 (global_at n 0) (omega arith) ∙ chain.0, refl))
           (idle inv c exists (with_register n c 0 (global_at n 0)) (Starting j) (Checking j) (λ p. p) (λ f. f) held)
           (without_left inv c exists j (numbers_in n nodes) (ap (λ (l : List ℕ). numbers_in n l) chain.1))
           (undecided inv c exists (Starting j) u _ (done_without j) local (settles tt)) (λ b. refl)
       by (Some t) is chain =
-          by_register inv c 0 (global_at n 0) (omega arith) (Starting j) u (op.GetGlobal 0 0) (Checking j) rest u None
+          by_register inv c 0 (global_at n 0) (omega arith) (Starting j) u (Op.GetGlobal 0 0) (Checking j) rest u None
           (inr (
             local,
             record { t = t; is = is; register = register_set inv c exists 0 (global_at n 0) (omega arith) ∙ chain.0 },
@@ -96,10 +91,10 @@ module _ {callers : ℕ} {n : NeverState} {top : Option ℕ} {role : ℕ → Rol
           (Checking j) (λ p. p) (λ f. f) held) refl nothing (λ b. refl)
 
   pub lack_steps : (j : Job) (u : Option Done) (rest : List Replied) → Local n top role c (Checking j) u
-      → Held (Checking j) → reply_of n c (op.IsNull 0) ≡ reply.Num 1
-      → Goal (Checking j) u (op.IsNull 0) (Ended (done_without j)) rest n
+      → Held (Checking j) → reply_of n c (Op.IsNull 0) ≡ Reply.Num 1
+      → Goal (Checking j) u (Op.IsNull 0) (Ended (done_without j)) rest n
   lack_steps j u rest local held said =
-      by_nothing inv c (Checking j) u (op.IsNull 0) (Ended (done_without j)) rest u None
+      by_nothing inv c (Checking j) u (Op.IsNull 0) (Ended (done_without j)) rest u None
       (by local) (idle inv c exists n (Checking j) (Ended (done_without j)) (λ p. p)
       (λ f. f) held) refl nothing (λ b. refl)
     where
@@ -109,28 +104,28 @@ module _ {callers : ℕ} {n : NeverState} {top : Option ℕ} {role : ℕ → Rol
       by (inr h) = absurd (ptr_is_not_null h.1.t 1 (sym h.1.register ∙ null_is_null inv c exists 0 said))
 
   pub has_top : (j : Job) (u : Option Done) → Local n top role c (Checking j) u
-      → reply_of n c (op.IsNull 0) ≡ reply.Num 0 → (u ≡ None) × HasTop n top c
+      → reply_of n c (Op.IsNull 0) ≡ Reply.Num 0 → (u ≡ None) × HasTop n top c
   has_top j u (inl h) said = absurd (other_is_not inv c exists 0 said h.0)
   has_top j u (inr h) said = h
 
   pub go_push_steps : (x : ℕ) (u : Option Done) (rest : List Replied) → Local n top role c (Checking (Push x)) u
-      → Held (Checking (Push x)) → reply_of n c (op.IsNull 0) ≡ reply.Num 0
-      → Goal (Checking (Push x)) u (op.IsNull 0) (Making x) rest n
+      → Held (Checking (Push x)) → reply_of n c (Op.IsNull 0) ≡ Reply.Num 0
+      → Goal (Checking (Push x)) u (Op.IsNull 0) (Making x) rest n
   go_push_steps x u rest local held said =
-      by_nothing inv c (Checking (Push x)) u (op.IsNull 0) (Making x) rest u None (has_top (Push x) u local said)
+      by_nothing inv c (Checking (Push x)) u (Op.IsNull 0) (Making x) rest u None (has_top (Push x) u local said)
       (idle inv c exists n (Checking (Push x)) (Making x) (λ p. p) (λ f. f) held) refl nothing (λ b. refl)
 
   pub go_pop_steps : (u : Option Done) (rest : List Replied) → Local n top role c (Checking Pop) u
-      → Held (Checking Pop) → reply_of n c (op.IsNull 0) ≡ reply.Num 0
-      → Goal (Checking Pop) u (op.IsNull 0) Peeking rest n
+      → Held (Checking Pop) → reply_of n c (Op.IsNull 0) ≡ Reply.Num 0
+      → Goal (Checking Pop) u (Op.IsNull 0) Peeking rest n
   go_pop_steps u rest local held said =
-      by_nothing inv c (Checking Pop) u (op.IsNull 0) Peeking rest u None (has_top Pop u local said)
+      by_nothing inv c (Checking Pop) u (Op.IsNull 0) Peeking rest u None (has_top Pop u local said)
       (idle inv c exists n (Checking Pop) Peeking (λ p. p) (λ f. f) held) refl nothing (λ b. refl)
 
   -- A caller whose job has ended sets a register to null.
   pub clear_steps : (d : Done) (r : ℕ) → r < 8 → (u : Option Done) (rest : List Replied)
       → Local n top role c (Ended d) u → Held (Ended d)
-      → Goal (Ended d) u (op.Clear r) (Ended d) rest (after_op n c (op.Clear r))
+      → Goal (Ended d) u (Op.Clear r) (Ended d) rest (after_op n c (Op.Clear r))
   clear_steps d r lt u rest local held =
-      by_register inv c r Null lt (Ended d) u (op.Clear r) (Ended d) rest u None local
+      by_register inv c r Null lt (Ended d) u (Op.Clear r) (Ended d) rest u None local
       (idle inv c exists (with_register n c r Null) (Ended d) (Ended d) (λ p. p) (λ f. f) held) refl nothing (λ b. refl)

@@ -1,18 +1,16 @@
 -- A caller exchanges the uppermost node, or frees the node that it took.
-use Rattle.std.proofs.Common.{◌≡◌, ◌≢◌, ℕ, ◌+◌, ◌<◌, ◌≤◌, List, length, length-set, refl, sym, ◌∙◌, ap, subst, arith}
-use Rattle.std.proofs.Common.{Some, None, Option, inl, inr}
-use Rattle.std.specs.Prelude.{◌⊎◌}
-use Rattle.std.proofs.lemmas.Bool.{cases_eq}
 use Rattle.mk_stack.proofs.Vocabulary.{Done, IsOneOf, NeverState, Op, Ordered, Point, Replied, Value, allocation_at}
 use Rattle.mk_stack.proofs.Vocabulary.{bit, freed_by, numbers_in, with_word, words_of}
-use Rattle.mk_stack.proofs.Heaps.{other_words, written_size, written_flag, written_type}
-use Rattle.mk_stack.proofs.Roles.{Role, Unborn, Base, Private, Stacked, Taken, RoleKeeps, IsPublished, same_role}
-use Rattle.mk_stack.proofs.Roles.{size_of, is_gone, put, put_by}
-use Rattle.mk_stack.proofs.Invariant.{Core, HasChain, Local, IsHeld, Work, Inv}
+use Rattle.mk_laws.proofs.Vocabulary.{List, None, Option, Some, ℕ, ap, arith, cases_eq, inl, inr, length, length-set}
+use Rattle.mk_laws.proofs.Vocabulary.{refl, subst, sym, ◌+◌, ◌<◌, ◌∙◌, ◌≡◌, ◌≢◌, ◌≤◌, ◌⊎◌}
+use Rattle.mk_stack.proofs.Assembly.{Decides, HeldBefore, IsLeft, Stepped, assemble, moved, none_freed_there}
+use Rattle.mk_stack.proofs.Heaps.{other_words, written_flag, written_size, written_type}
+use Rattle.mk_stack.proofs.Invariant.{Core, HasChain, Inv, IsHeld, Local, Work}
+use Rattle.mk_stack.proofs.Roles.{Base, IsPublished, Private, Role, RoleKeeps, Stacked, Taken, Unborn, is_gone, put}
+use Rattle.mk_stack.proofs.Roles.{put_by, same_role, size_of}
+use Rattle.mk_stack.proofs.Writes.{base_private, base_stacked, base_taken, granted, private_stacked, private_taken}
+use Rattle.mk_stack.proofs.Writes.{same_taken, taken_stacked, unborn_private, unborn_stacked, unborn_taken}
 use Rattle.mk_stack.proofs.Frames.{Leaves}
-use Rattle.mk_stack.proofs.Assembly.{Decides, IsLeft, moved, Stepped, assemble, HeldBefore, none_freed_there}
-use Rattle.mk_stack.proofs.Writes.{base_private, base_stacked, base_taken, private_stacked, taken_stacked}
-use Rattle.mk_stack.proofs.Writes.{unborn_private, unborn_stacked, unborn_taken, private_taken, same_taken, granted}
 
 -- What another caller held before, where one role is now that of a node on the stack, or of this caller
 pub put_before : (role : ℕ → Role) (b : ℕ) (r : Role) (k a : ℕ) → (r ≡ Private k → ⊥) → (r ≡ Taken k → ⊥)

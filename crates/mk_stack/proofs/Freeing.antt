@@ -1,18 +1,16 @@
 -- A pop frees the node that it took.
-use Rattle.std.proofs.Common.{◌≡◌, ◌≢◌, ℕ, ◌+◌, ◌<◌, ◌≤◌, List, length, length-set, get_or, refl, sym, ◌∙◌, ap, subst}
-use Rattle.std.proofs.Common.{arith, Some, None, Option}
 use Rattle.mk_stack.proofs.Vocabulary.{Done, Freeing, IsOneOf, NeverState, Null, Op, Popped, Ptr, Reading, Replied}
 use Rattle.mk_stack.proofs.Vocabulary.{Value, allocation_at, bit, freed_by, number_of, register_at, with_freed, word_at}
 use Rattle.mk_stack.proofs.Vocabulary.{words_of}
-use Rattle.mk_stack.proofs.Heaps.{freed_words, freed_type, freed_flag, other_flag}
-use Rattle.mk_stack.proofs.Roles.{Role, Unborn, Base, Private, Stacked, Taken, Freed, RoleKeeps, IsPublished, same_role}
-use Rattle.mk_stack.proofs.Roles.{size_of, is_gone, put, put_by, put_same, put_other}
-use Rattle.mk_stack.proofs.Invariant.{Core, HasChain, IsHeld, HasTaken, HasFreed, Work, Inv}
-use Rattle.mk_stack.proofs.Frames.{Leaves}
-use Rattle.mk_stack.proofs.Chains.{has_chain_stays, all_numbers_stay}
-use Rattle.mk_stack.proofs.Assembly.{moved, Stepped, assemble, nothing}
-use Rattle.mk_stack.proofs.Writes.{base_taken, taken_stacked, unborn_taken, granted}
-use Rattle.mk_stack.proofs.Exchanges.{put_before, roles_put}
+use Rattle.mk_laws.proofs.Vocabulary.{List, None, Option, Some, ℕ, ap, arith, get_or, length, length-set, refl, subst}
+use Rattle.mk_laws.proofs.Vocabulary.{sym, ◌+◌, ◌<◌, ◌∙◌, ◌≡◌, ◌≢◌, ◌≤◌}
+use Rattle.mk_stack.proofs.Assembly.{Stepped, assemble, moved, nothing}
+use Rattle.mk_stack.proofs.Heaps.{freed_flag, freed_type, freed_words, other_flag}
+use Rattle.mk_stack.proofs.Invariant.{Core, HasChain, HasFreed, HasTaken, Inv, IsHeld, Work}
+use Rattle.mk_stack.proofs.Roles.{Base, Freed, IsPublished, Private, Role, RoleKeeps, Stacked, Taken, Unborn, is_gone}
+use Rattle.mk_stack.proofs.Roles.{put, put_by, put_other, put_same, same_role, size_of}
+use Rattle.mk_stack.proofs.{Chains.all_numbers_stay, Chains.has_chain_stays, Exchanges.put_before, Exchanges.roles_put}
+use Rattle.mk_stack.proofs.{Frames.Leaves, Writes.base_taken, Writes.granted, Writes.taken_stacked, Writes.unborn_taken}
 
 freed_private : (k : ℕ) → Freed ≡ Private k → ⊥
 freed_private k e = cc

@@ -1,7 +1,7 @@
 -- Operations one after the other, from the point of a job where its caller was.
-use Rattle.std.proofs.Common.{◌≡◌, ◌<◌, true, List, [], ◌∷◌, ◌++◌, refl, sym, ◌∙◌, ap, subst, append_assoc}
 use Rattle.mk_stack.proofs.Vocabulary.{Advances, CallerState, GoesToPoint, HasStackTypes, Leads, PassState, Point}
 use Rattle.mk_stack.proofs.Vocabulary.{Replied, Stays, caller_of_pass, replied_to}
+use Rattle.mk_laws.proofs.Vocabulary.{List, ap, append_assoc, refl, subst, sym, true, [], ◌++◌, ◌<◌, ◌∙◌, ◌∷◌, ◌≡◌}
 use Rattle.mk_stack.specs.Advancing.{IsReady}
 
 pub leads_through : (s : Point) (xs : List Replied) (t : Point) (ys : List Replied) (u : Point) → Leads s xs t

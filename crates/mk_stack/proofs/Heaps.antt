@@ -1,13 +1,11 @@
 -- What single operations leave of a heap of small objects, and what they reply.
-use Rattle.std.proofs.Common.{◌≡◌, ◌≢◌, ℕ, zero, suc, ◌+◌, ◌*◌, ◌<◌, ◌≤◌, Bool, true, false, if◌then◌else◌, List, []}
-use Rattle.std.proofs.Common.{◌∷◌, ◌++◌, length, get_or, set, length-set, refl, sym, ◌∙◌, ap, arith}
-use Rattle.std.proofs.lemmas.Bool.{le-ltb, and_right}
-use Rattle.std.proofs.lemmas.List.{get_or-set_same, get_or-set_other}
+use Rattle.std.proofs.Common.{le-ltb, set}
 use Rattle.mk_stack.proofs.Vocabulary.{Allocation, NeverState, Null, Ptr, Unmapped, Value, WordOf, allocation_at}
 use Rattle.mk_stack.proofs.Vocabulary.{is_unmapped, no_allocation, register_at, target_of, with_freed, with_new}
 use Rattle.mk_stack.proofs.Vocabulary.{with_register, with_word, word_at, words_of}
-use Rattle.mk_never.specs.Types.{is_large}
-use Rattle.mk_never.proofs.Edits.{set_by}
+use Rattle.mk_laws.proofs.Vocabulary.{Bool, List, ℕ, and_right, ap, arith, false, get_or, get_or-set_other}
+use Rattle.mk_laws.proofs.Vocabulary.{get_or-set_same, if◌then◌else◌, is_large, length, length-set, refl, set_by, suc}
+use Rattle.mk_laws.proofs.Vocabulary.{sym, true, zero, [], ◌*◌, ◌++◌, ◌+◌, ◌<◌, ◌∙◌, ◌∷◌, ◌≡◌, ◌≢◌, ◌≤◌}
 
 -- An access through a pointer to a small object gets to its word.
 small_is_mapped : (a : Allocation) → length a.words ≤ 2 → is_unmapped a ≡ false

@@ -1,12 +1,11 @@
 -- What holds of a stack at every place of an interleaving.
-use Rattle.std.proofs.Common.{◌≡◌, ◌≢◌, ℕ, ◌*◌, ◌<◌, ◌≤◌, List, [], ◌∷◌, length, Some, None, Option}
-use Rattle.std.specs.Prelude.{◌⊎◌}
 use Rattle.mk_stack.proofs.Vocabulary.{Checking, Done, Empty, Ended, Filling, Following, Founded, Founding, Freeing}
 use Rattle.mk_stack.proofs.Vocabulary.{IsOneOf, JobRun, Linking, Looking, Making, NeverState, Null, Peeking, Placing}
 use Rattle.mk_stack.proofs.Vocabulary.{Point, Popped, Ptr, Publishing, Reading, Replied, Starting, Taking, Testing}
 use Rattle.mk_stack.proofs.Vocabulary.{Value, allocation_at, done_without, global_at, kinds_of, node_kinds, number_of}
 use Rattle.mk_stack.proofs.Vocabulary.{register_at, top_kinds, word_at, words_of}
-use Rattle.mk_stack.proofs.Roles.{Role, Base, Private, Stacked, Taken, Unborn, size_of, is_gone, IsPublished}
+use Rattle.mk_laws.proofs.Vocabulary.{List, None, Option, Some, ℕ, length, [], ◌*◌, ◌<◌, ◌∷◌, ◌≡◌, ◌≢◌, ◌≤◌, ◌⊎◌}
+use Rattle.mk_stack.proofs.Roles.{Base, IsPublished, Private, Role, Stacked, Taken, Unborn, is_gone, size_of}
 
 abbrev pub IsNotAmong : ℕ → List ℕ → Type 0
 IsNotAmong a [] = Unit {0}

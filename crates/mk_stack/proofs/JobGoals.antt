@@ -1,14 +1,13 @@
 -- Where operations lead: from points of a job to points of that job.
-use Rattle.std.proofs.Common.{◌≡◌, ℕ, List, [], ◌∷◌, refl, sym, ◌∙◌, subst, Some, None, Option}
 use Rattle.mk_stack.proofs.Vocabulary.{Asks, Done, Empty, Ended, Founded, Founding, Full, Job, Leads, NeverState, Op}
 use Rattle.mk_stack.proofs.Vocabulary.{Placing, Point, Pop, Popped, Push, Pushed, Replied, Reply, Starting, clear}
 use Rattle.mk_stack.proofs.Vocabulary.{done_without, fail, fill, find_no_room, follow, found, free, free_again, go_pop}
 use Rattle.mk_stack.proofs.Vocabulary.{go_push, lack, link, look, make, meet, miss, peek, place, pop_again, publish}
 use Rattle.mk_stack.proofs.Vocabulary.{push_again, read, start, unlink}
+use Rattle.mk_laws.proofs.Vocabulary.{List, None, Option, Some, ℕ, refl, subst, sym, [], ◌∙◌, ◌∷◌, ◌≡◌}
+use Rattle.mk_stack.proofs.Invariant.{IsFreeing, IsPushing, Local}
+use Rattle.mk_stack.proofs.{Assembly.IsOfJob, Assembly.job_at, Roles.Role}
 use Rattle.mk_stack.specs.Advancing.{IsFit, IsGoal}
-use Rattle.mk_stack.proofs.Roles.{Role}
-use Rattle.mk_stack.proofs.Invariant.{Local, IsPushing, IsFreeing}
-use Rattle.mk_stack.proofs.Assembly.{IsOfJob, job_at}
 
 pub goal_pushes_nothing : (g : Point) → IsGoal g → IsPushing g → ⊥
 goal_pushes_nothing Founded h p = p

@@ -1,13 +1,10 @@
 -- A caller does one job more of its list.
-use Rattle.std.proofs.Common.{◌≡◌, ℕ, ◌<◌, ◌+◌, List, [], ◌∷◌, ◌++◌, length, get_or, take, refl, sym, ◌∙◌, ap, subst}
-use Rattle.std.proofs.Common.{append-nil}
 use Rattle.std.proofs.lemmas.List.{take_more}
 use Rattle.mk_stack.proofs.Vocabulary.{AreJobRuns, DoesJobs, Done, Job, JobRun, PassState, replied_to}
-use Rattle.mk_stack.specs.Histories.{AddsJob}
-use Rattle.mk_stack.specs.Jobs.{IsJobRun}
-use Rattle.mk_stack.specs.JobLists.{jobs_of, dones_of}
-use Rattle.mk_stack.specs.Passes.{DoesJob}
+use Rattle.mk_laws.proofs.Vocabulary.{List, ℕ, ap, append-nil, get_or, length, refl, subst, sym, take, [], ◌++◌, ◌+◌}
+use Rattle.mk_laws.proofs.Vocabulary.{◌<◌, ◌∙◌, ◌∷◌, ◌≡◌}
 use Rattle.mk_stack.proofs.StackHistories.{jobs_add_up}
+use Rattle.mk_stack.specs.{Histories.AddsJob, JobLists.dones_of, JobLists.jobs_of, Jobs.IsJobRun, Passes.DoesJob}
 
 pub does_none : (p : PassState) → DoesJobs p [] [] p
 does_none p = record {

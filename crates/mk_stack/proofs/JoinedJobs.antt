@@ -1,25 +1,20 @@
 -- Callers that did their jobs, as the host joins them.
-use Rattle.std.proofs.Common.{◌≡◌, ◌≢◌, ◌⊎◌, ℕ, ◌+◌, ◌<◌, ◌≤◌, List, [], ◌∷◌, ◌++◌, length, refl, sym, ◌∙◌, ap, subst}
-use Rattle.std.proofs.Common.{arith, inl, inr, ⊎_elim, append-nil}
-use Rattle.std.specs.Prelude.{Result, Ok, Err, IfOk, OnOk, IsOk}
-use Rattle.std.proofs.lemmas.Bool.{cases_eq}
+use Rattle.std.proofs.Common.{Err, IfOk, IsOk, Ok, OnOk, Result, ⊎_elim}
 use Rattle.mk_stack.proofs.Vocabulary.{Caller, CallerState, Config, Decided, DoesJobs, Done, Dones, Event, Grows, Has}
 use Rattle.mk_stack.proofs.Vocabulary.{HasHandedOut, HaveDone, HaveWorked, Host, HostState, Job, Jobs, Joined}
 use Rattle.mk_stack.proofs.Vocabulary.{PassState, Replied, Seat, WordsState, after_calls, all_of, asked, at_home}
 use Rattle.mk_stack.proofs.Vocabulary.{caller_of_pass, calls, left, never_first, own_replied, pass_for, replied_in}
 use Rattle.mk_stack.proofs.Vocabulary.{replied_to, with_joined}
+use Rattle.mk_laws.proofs.Vocabulary.{List, ℕ, ap, append-nil, arith, cases_eq, inl, inr, length, refl, subst, sym, []}
+use Rattle.mk_laws.proofs.Vocabulary.{◌++◌, ◌+◌, ◌<◌, ◌∙◌, ◌∷◌, ◌≡◌, ◌≢◌, ◌≤◌, ◌⊎◌}
 use Rattle.mk_never.specs.declared.never_heap.NoMemory.{NoMemory}
-use Rattle.mk_core.specs.History.{calls_from}
-use Rattle.mk_core.proofs.HistoryParts.{calls_in_parts}
-use Rattle.mk_words.specs.Seats.{has_over}
-use Rattle.mk_words.proofs.Seats.{has_first, has_left, has_right, others_own, without_keeps}
+use Rattle.mk_core.{proofs.HistoryParts.calls_in_parts, specs.History.calls_from}
 use Rattle.mk_caller.specs.States.{IsIdleCaller}
 use Rattle.mk_heap.specs.Hosts.{with_caller_made}
-use Rattle.mk_stack.specs.declared.joining.Worked.{Worked}
-use Rattle.mk_stack.specs.JobLists.{HasDone}
-use Rattle.mk_stack.specs.Joining.{HasWorked, IsBetweenJobs}
-use Rattle.mk_stack.proofs.OwnCalls.{none_of}
-use Rattle.mk_stack.proofs.Replies.{asked_in_two, none_replied, own_in_parts}
+use Rattle.mk_stack.proofs.{OwnCalls.none_of, Replies.asked_in_two, Replies.none_replied, Replies.own_in_parts}
+use Rattle.mk_stack.specs.{JobLists.HasDone, Joining.HasWorked, Joining.IsBetweenJobs, declared.joining.Worked.Worked}
+use Rattle.mk_words.proofs.Seats.{has_first, has_left, has_right, others_own, without_keeps}
+use Rattle.mk_words.specs.Seats.{has_over}
 
 -- What a caller did stands where the list goes on by events of others.
 

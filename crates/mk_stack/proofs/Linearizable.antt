@@ -1,20 +1,16 @@
 -- From the first operation on: the order of all jobs, and what becomes of their nodes.
-use Rattle.std.proofs.Common.{◌≡◌, ℕ, zero, suc, ◌+◌, ◌*◌, ◌<◌, ◌≤◌, List, [], length, take, drop, refl, sym, ◌∙◌, ap}
-use Rattle.std.proofs.Common.{arith, None, inl, inr}
-use Rattle.std.specs.Prelude.{◌⊎◌}
-use Rattle.std.proofs.lemmas.Bool.{cases_lt}
 use Rattle.std.proofs.lemmas.List.{length-replicate}
 use Rattle.mk_stack.proofs.Vocabulary.{AreDecidedOnce, Call, Founded, Founding, IsOneOf, JobRun, Kind, NeverState, Null}
 use Rattle.mk_stack.proofs.Vocabulary.{Replied, after_calls, allocation_at, bit, order_of, own_decisions}
+use Rattle.mk_laws.proofs.Vocabulary.{List, None, ℕ, ap, arith, cases_lt, drop, inl, inr, length, refl, suc, sym, take}
+use Rattle.mk_laws.proofs.Vocabulary.{zero, [], ◌*◌, ◌+◌, ◌<◌, ◌∙◌, ◌≡◌, ◌≤◌, ◌⊎◌}
 use Rattle.mk_never.specs.NeverHeap.{start_of}
+use Rattle.mk_stack.proofs.Invariant.{Core, Inv, Local, Work}
+use Rattle.mk_stack.proofs.Roles.{Base, Freed, Private, Role, Stacked, Taken, Unborn, is_gone}
+use Rattle.mk_stack.proofs.Writes.{unborn_base, unborn_private, unborn_stacked, unborn_taken}
+use Rattle.mk_stack.proofs.{Chains.on_stack_role, Chains.stack_is_linked, Owing.IsWork, Owing.Ran, Running.run_all}
+use Rattle.mk_stack.specs.Laws.{IsExplained, IsLinearized, LeaksNothing, StacksAreLinearizable, times_freed}
 use Rattle.mk_stack.specs.Interleavings.{IsInterleaved, jobs_of_first}
-use Rattle.mk_stack.specs.Laws.{IsLinearized, LeaksNothing, IsExplained, StacksAreLinearizable, times_freed}
-use Rattle.mk_stack.proofs.Roles.{Role, Unborn, Base, Private, Stacked, Taken, Freed, is_gone}
-use Rattle.mk_stack.proofs.Invariant.{Core, Local, Work, Inv}
-use Rattle.mk_stack.proofs.Chains.{stack_is_linked, on_stack_role}
-use Rattle.mk_stack.proofs.Writes.{unborn_base, unborn_stacked, unborn_private, unborn_taken}
-use Rattle.mk_stack.proofs.Owing.{IsWork, Ran}
-use Rattle.mk_stack.proofs.Running.{run_all}
 
 -- The first caller founds the stack; each other one begins with its first job.
 first_work : List Replied → (ℕ → List JobRun) → ℕ → Work

@@ -1,20 +1,15 @@
 -- What callers still have to do, what is still to be decided of it, and what one operation more makes of that.
-use Rattle.std.proofs.Common.{◌≡◌, ◌≢◌, ℕ, ◌+◌, Bool, List, [], ◌∷◌, ◌++◌, length, take, drop, refl, sym, ◌∙◌, ap}
-use Rattle.std.proofs.Common.{subst, arith, Some, None, Option}
-use Rattle.std.specs.Prelude.{if◌then◌else◌, option_and_then}
-use Rattle.std.proofs.lemmas.Bool.{eq-eqb, ne_eqb}
+use Rattle.std.proofs.Common.{option_and_then}
 use Rattle.mk_stack.proofs.Vocabulary.{AreDecidedOnce, AreJobRuns, Call, Done, Ended, Founded, Job, JobRun, Leads}
 use Rattle.mk_stack.proofs.Vocabulary.{NeverState, Op, Ordered, Point, Replied, Starting, after_calls, after_op, all_of}
 use Rattle.mk_stack.proofs.Vocabulary.{bit, numbers_in, order_of, own_decisions, own_replied, reply_of}
-use Rattle.mk_never.specs.NeverHeap.{replies_of}
-use Rattle.mk_stack.specs.Jobs.{IsJobRun}
-use Rattle.mk_stack.specs.Orders.{left_by_all}
-use Rattle.mk_stack.specs.Laws.{times_freed, NoneIsDouble}
-use Rattle.mk_stack.proofs.Roles.{Role, Private, Taken, is_gone}
-use Rattle.mk_stack.proofs.Invariant.{Core, Local, IsPushing, IsFreeing, Work, Inv}
-use Rattle.mk_stack.proofs.Assembly.{Decides, nothing, settles, IsLeft, IsOfJob, job_at}
-use Rattle.mk_stack.specs.Advancing.{IsGoal}
-use Rattle.mk_stack.proofs.JobGoals.{goal_pushes_nothing, goal_frees_nothing}
+use Rattle.mk_laws.proofs.Vocabulary.{Bool, List, None, Option, Some, ℕ, ap, arith, drop, eq-eqb, if◌then◌else◌, length}
+use Rattle.mk_laws.proofs.Vocabulary.{ne_eqb, refl, replies_of, subst, sym, take, [], ◌++◌, ◌+◌, ◌∙◌, ◌∷◌, ◌≡◌, ◌≢◌}
+use Rattle.mk_stack.proofs.Assembly.{Decides, IsLeft, IsOfJob, job_at, nothing, settles}
+use Rattle.mk_stack.proofs.Invariant.{Core, Inv, IsFreeing, IsPushing, Local, Work}
+use Rattle.mk_stack.proofs.Roles.{Private, Role, Taken, is_gone}
+use Rattle.mk_stack.proofs.JobGoals.{goal_frees_nothing, goal_pushes_nothing}
+use Rattle.mk_stack.specs.{Advancing.IsGoal, Jobs.IsJobRun, Laws.NoneIsDouble, Laws.times_freed, Orders.left_by_all}
 
 -- what a caller still has to do
 pub record IsWork (n : NeverState) (calls : List Call) (k : ℕ) (w : Work) : Type 0 where

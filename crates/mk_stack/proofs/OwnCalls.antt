@@ -1,11 +1,9 @@
 -- Calls of a history, by the callers that made them.
-use Rattle.std.proofs.Common.{◌≡◌, ◌≢◌, ◌⊎◌, ℕ, ◌<◌, Bool, true, false, List, [], ◌∷◌, ◌++◌, refl, sym, ◌∙◌, ap, inl}
-use Rattle.std.proofs.Common.{inr, append-nil}
-use Rattle.std.specs.Prelude.{◌==◌, if◌then◌else◌}
-use Rattle.std.proofs.lemmas.Bool.{cases_eq, eq-eqb}
 use Rattle.std.proofs.lemmas.List.{append_cancel_left}
 use Rattle.mk_stack.proofs.Vocabulary.{AreAllBy, AreBelow, AreOfOthers, Call, Caller, Config, Decided, Event, asked}
 use Rattle.mk_stack.proofs.Vocabulary.{calls, calls_from, left}
+use Rattle.mk_laws.proofs.Vocabulary.{Bool, List, ℕ, ap, append-nil, cases_eq, eq-eqb, false, if◌then◌else◌, inl, inr}
+use Rattle.mk_laws.proofs.Vocabulary.{refl, sym, true, [], ◌++◌, ◌<◌, ◌==◌, ◌∙◌, ◌∷◌, ◌≡◌, ◌≢◌, ◌⊎◌}
 use Rattle.mk_core.proofs.HistoryParts.{calls_in_parts}
 use Rattle.mk_caller.proofs.OwnSteps.{by_append, calls_by, others_add_none}
 

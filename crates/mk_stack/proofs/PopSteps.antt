@@ -1,26 +1,19 @@
 -- The steps of a pop.
-use Rattle.std.proofs.Common.{◌≡◌, ◌≢◌, ℕ, ◌<◌, Bool, List, [], ◌∷◌, refl, sym, ◌∙◌, ap, subst, arith, Some, None}
-use Rattle.std.proofs.Common.{Option, inl, inr}
-use Rattle.std.specs.Prelude.{◌⊎◌, if◌then◌else◌}
-use Rattle.std.proofs.lemmas.Bool.{eq-eqb, ne_eqb}
 use Rattle.mk_stack.proofs.Vocabulary.{Done, Empty, Ended, Following, Freeing, NeverState, Null, Op, Peeking, Point}
 use Rattle.mk_stack.proofs.Vocabulary.{Pop, Popped, Ptr, Reading, Replied, Reply, Taking, Target, Testing, Value}
 use Rattle.mk_stack.proofs.Vocabulary.{after_free, after_op, freed_by, left_at, left_by, number_of, numbers_in}
 use Rattle.mk_stack.proofs.Vocabulary.{register_at, reply_at, reply_of, with_register, with_word, word_at}
-use Rattle.mk_never.specs.declared.operations.Op.TheVariants as op
-use Rattle.mk_never.specs.declared.operations.Reply.TheVariants as reply
+use Rattle.mk_laws.proofs.Vocabulary.{Bool, List, None, Option, Some, ℕ, ap, arith, eq-eqb, if◌then◌else◌, inl, inr}
+use Rattle.mk_laws.proofs.Vocabulary.{ne_eqb, refl, subst, sym, [], ◌<◌, ◌∙◌, ◌∷◌, ◌≡◌, ◌≢◌, ◌⊎◌}
 use Rattle.mk_never.specs.NeverHeap.{free_reply}
-use Rattle.mk_stack.specs.Laws.{is_pointer_to, is_done}
-use Rattle.mk_stack.proofs.Heaps.{other_register}
-use Rattle.mk_stack.proofs.Roles.{Role, IsPublished, is_gone}
-use Rattle.mk_stack.proofs.Invariant.{IsChain, Local, IsHeld, Work, Inv, HasSeen, HasTaken}
 use Rattle.mk_stack.proofs.Assembly.{Stepped, nothing, settles}
-use Rattle.mk_stack.proofs.Registered.{by_nothing, by_register}
-use Rattle.mk_stack.proofs.Popping.{by_pop}
-use Rattle.mk_stack.proofs.Freeing.{by_free}
-use Rattle.mk_stack.proofs.StepParts.{ptr_is_not_null, num_is, ptr_is, gets, register_set, idle, top_role, undecided}
-use Rattle.mk_stack.proofs.StepParts.{without_left, null_is_null, other_is_not, keeps_top, exchanged_from, exchanges}
-use Rattle.mk_stack.proofs.StepParts.{leaves_all}
+use Rattle.mk_stack.proofs.Invariant.{HasSeen, HasTaken, Inv, IsChain, IsHeld, Local, Work}
+use Rattle.mk_stack.proofs.StepParts.{exchanged_from, exchanges, gets, idle, keeps_top, leaves_all, null_is_null}
+use Rattle.mk_stack.proofs.StepParts.{num_is, other_is_not, ptr_is, ptr_is_not_null, register_set, top_role, undecided}
+use Rattle.mk_stack.proofs.StepParts.{without_left}
+use Rattle.mk_stack.proofs.{Freeing.by_free, Heaps.other_register, Popping.by_pop, Registered.by_nothing}
+use Rattle.mk_stack.proofs.{Registered.by_register, Roles.IsPublished, Roles.Role, Roles.is_gone}
+use Rattle.mk_stack.specs.Laws.{is_done, is_pointer_to}
 
 module _ {callers : ℕ} {n : NeverState} {top : Option ℕ} {role : ℕ → Role} {nodes : List ℕ} {W : ℕ → Work}
     (inv : Inv callers n top role nodes W) (c : ℕ) (exists : c < callers) where
@@ -36,18 +29,18 @@ module _ {callers : ℕ} {n : NeverState} {top : Option ℕ} {role : ℕ → Rol
   empty_left xs e = without_left inv c exists Pop xs e
 
   pub peek_steps : (u : Option Done) (rest : List Replied) → Local n top role c Peeking u → Held Peeking
-      → Goal Peeking u (op.GetPtr 2 0 0) Testing rest (after_op n c (op.GetPtr 2 0 0))
+      → Goal Peeking u (Op.GetPtr 2 0 0) Testing rest (after_op n c (Op.GetPtr 2 0 0))
   peek_steps u rest local held =
-      subst (Goal Peeking u (op.GetPtr 2 0 0) Testing rest)
+      subst (Goal Peeking u (Op.GetPtr 2 0 0) Testing rest)
       (sym (ap (λ (t : Target). left_at t (with_register n c 2 Null) (λ a w. with_register n c 2 (word_at n a w)))
       (gets inv c exists 0 local.1.t 1 0 local.1.register)))
       (by nodes refl (top_role inv c exists local.1.t local.1.is).2)
     where
       by : (l : List ℕ) → nodes ≡ l → IsChain n role (word_at n local.1.t 0) l
-          → Goal Peeking u (op.GetPtr 2 0 0) Testing rest (with_register n c 2 (word_at n local.1.t 0))
+          → Goal Peeking u (Op.GetPtr 2 0 0) Testing rest (with_register n c 2 (word_at n local.1.t 0))
       by [] e chain =
           by_register inv c 2 (word_at n local.1.t 0) (omega arith) Peeking u
-          (op.GetPtr 2 0 0) Testing rest (Some Empty) (Some (record { caller = c; job = Pop; done = Empty })) (
+          (Op.GetPtr 2 0 0) Testing rest (Some Empty) (Some (record { caller = c; job = Pop; done = Empty })) (
             keeps_top inv c exists (with_register n c 2 (word_at n local.1.t 0))
                 (other_register n c 2 0 (word_at n local.1.t 0) (omega arith)) local.1,
             inl (register_set inv c exists 2 (word_at n local.1.t 0) (omega arith) ∙ chain, refl),
@@ -56,7 +49,7 @@ module _ {callers : ℕ} {n : NeverState} {top : Option ℕ} {role : ℕ → Rol
           (undecided inv c exists Peeking u _ Empty local.0 (settles tt)) (λ b. refl)
       by (a ∷ l) e chain =
           by_register inv c 2 (word_at n local.1.t 0) (omega arith) Peeking u
-          (op.GetPtr 2 0 0) Testing rest u None (
+          (Op.GetPtr 2 0 0) Testing rest u None (
             keeps_top inv c exists (with_register n c 2 (word_at n local.1.t 0))
                 (other_register n c 2 0 (word_at n local.1.t 0) (omega arith)) local.1,
             inr (
@@ -72,40 +65,40 @@ module _ {callers : ℕ} {n : NeverState} {top : Option ℕ} {role : ℕ → Rol
           (word_at n local.1.t 0)) Peeking Testing (λ p. p) (λ f. f) held) refl nothing (λ b. refl)
 
   pub missed : (u : Option Done) → ((register_at n c 2 ≡ Null) × (u ≡ Some Empty)) ⊎ ((u ≡ None) × HasSeen n role c)
-      → reply_of n c (op.IsNull 2) ≡ reply.Num 1 → u ≡ Some Empty
+      → reply_of n c (Op.IsNull 2) ≡ Reply.Num 1 → u ≡ Some Empty
   missed u (inl h) said = h.1
   missed u (inr h) said = absurd (ptr_is_not_null h.1.a 0 (sym h.1.register ∙ null_is_null inv c exists 2 said))
 
   pub met : (u : Option Done) → ((register_at n c 2 ≡ Null) × (u ≡ Some Empty)) ⊎ ((u ≡ None) × HasSeen n role c)
-      → reply_of n c (op.IsNull 2) ≡ reply.Num 0 → (u ≡ None) × HasSeen n role c
+      → reply_of n c (Op.IsNull 2) ≡ Reply.Num 0 → (u ≡ None) × HasSeen n role c
   met u (inl h) said = absurd (other_is_not inv c exists 2 said h.0)
   met u (inr h) said = h
 
   pub miss_steps : (u : Option Done) (rest : List Replied) → Local n top role c Testing u → Held Testing
-      → reply_of n c (op.IsNull 2) ≡ reply.Num 1 → Goal Testing u (op.IsNull 2) (Ended Empty) rest n
+      → reply_of n c (Op.IsNull 2) ≡ Reply.Num 1 → Goal Testing u (Op.IsNull 2) (Ended Empty) rest n
   miss_steps u rest local held said =
-      by_nothing inv c Testing u (op.IsNull 2) (Ended Empty) rest u None
+      by_nothing inv c Testing u (Op.IsNull 2) (Ended Empty) rest u None
       (missed u local.1 said) (idle inv c exists n Testing (Ended Empty) (λ p. p)
       (λ f. f) held) refl nothing (λ b. refl)
 
   pub meet_steps : (u : Option Done) (rest : List Replied) → Local n top role c Testing u → Held Testing
-      → reply_of n c (op.IsNull 2) ≡ reply.Num 0 → Goal Testing u (op.IsNull 2) Following rest n
+      → reply_of n c (Op.IsNull 2) ≡ Reply.Num 0 → Goal Testing u (Op.IsNull 2) Following rest n
   meet_steps u rest local held said =
       let seen = met u local.1 said in
-      by_nothing inv c Testing u (op.IsNull 2) Following rest u None (seen.0, local.0, seen.1)
+      by_nothing inv c Testing u (Op.IsNull 2) Following rest u None (seen.0, local.0, seen.1)
       (idle inv c exists n Testing Following (λ p. p) (λ f. f) held) refl nothing (λ b. refl)
 
   pub follow_steps : (u : Option Done) (rest : List Replied) → Local n top role c Following u → Held Following
-      → Goal Following u (op.GetPtr 3 2 1) Taking rest (after_op n c (op.GetPtr 3 2 1))
+      → Goal Following u (Op.GetPtr 3 2 1) Taking rest (after_op n c (Op.GetPtr 3 2 1))
   follow_steps u rest local held =
       let seen : HasSeen n role c = local.2 in
       let v : Value = word_at n seen.a 1 in
       let m : NeverState = with_register n c 3 v in
-      subst (Goal Following u (op.GetPtr 3 2 1) Taking rest)
+      subst (Goal Following u (Op.GetPtr 3 2 1) Taking rest)
       (sym (ap (λ (t : Target). left_at t (with_register n c 3 Null) (λ a w. with_register n c 3 (word_at n a w)))
       (gets inv c exists 2 seen.a 0 1 seen.register)))
       (by_register inv c 3 v (omega arith) Following u
-      (op.GetPtr 3 2 1) Taking rest u None (
+      (Op.GetPtr 3 2 1) Taking rest u None (
         local.0,
         keeps_top inv c exists m (other_register n c 3 0 v (omega arith)) local.1,
         record {
@@ -117,12 +110,12 @@ module _ {callers : ℕ} {n : NeverState} {top : Option ℕ} {role : ℕ → Rol
       ) (idle inv c exists m Following Taking (λ p. p) (λ f. f) held) refl nothing (λ b. refl))
 
   pub unlink_steps : (u : Option Done) (rest : List Replied) → Local n top role c Taking u → Held Taking
-      → reply_of n c (op.CasPtr 0 0 2 3) ≡ reply.Num 1
-      → Goal Taking u (op.CasPtr 0 0 2 3) Freeing rest (after_op n c (op.CasPtr 0 0 2 3))
+      → reply_of n c (Op.CasPtr 0 0 2 3) ≡ Reply.Num 1
+      → Goal Taking u (Op.CasPtr 0 0 2 3) Freeing rest (after_op n c (Op.CasPtr 0 0 2 3))
   unlink_steps u rest local held said =
-      subst (Goal Taking u (op.CasPtr 0 0 2 3) Freeing rest) (sym (exchanges inv c exists local.1 3 said))
+      subst (Goal Taking u (Op.CasPtr 0 0 2 3) Freeing rest) (sym (exchanges inv c exists local.1 3 said))
       (subst
-      (λ (y : Option Done). Goal Taking y (op.CasPtr 0 0 2 3) Freeing rest
+      (λ (y : Option Done). Goal Taking y (Op.CasPtr 0 0 2 3) Freeing rest
       (with_word n local.1.t 0 (register_at n c 3)))
       (sym local.0) (by nodes refl (top_role inv c exists local.1.t local.1.is).2))
     where
@@ -130,57 +123,57 @@ module _ {callers : ℕ} {n : NeverState} {top : Option ℕ} {role : ℕ → Rol
       uppermost_is = exchanged_from inv c exists local.1 3 said ∙ local.2.register
 
       by : (l : List ℕ) → nodes ≡ l → IsChain n role (word_at n local.1.t 0) l
-          → Goal Taking None (op.CasPtr 0 0 2 3) Freeing rest (with_word n local.1.t 0 (register_at n c 3))
+          → Goal Taking None (Op.CasPtr 0 0 2 3) Freeing rest (with_word n local.1.t 0 (register_at n c 3))
       by [] e chain = absurd (ptr_is_not_null local.2.a 0 (sym uppermost_is ∙ chain))
       by (b ∷ l) e chain =
           let same : local.2.a ≡ b = ptr_is local.2.a b 0 0 (sym uppermost_is ∙ chain.0) in
           subst
-          (λ (xs : List ℕ). Stepped callers n role xs W c Taking None (op.CasPtr 0 0 2 3) Freeing rest
+          (λ (xs : List ℕ). Stepped callers n role xs W c Taking None (Op.CasPtr 0 0 2 3) Freeing rest
           (with_word n local.1.t 0 (register_at n c 3))) (sym e)
           (by_pop (subst (λ (xs : List ℕ). Inv callers n top role xs W) e inv) c local.1.t
           (register_at n c 3) local.1.is (local.2.register ∙ ap (λ (x : ℕ). Ptr x 0 0) same)
-          (local.2.next ∙ ap (λ (x : ℕ). word_at n x 1) same) held (op.CasPtr 0 0 2 3) rest (λ x. refl))
+          (local.2.next ∙ ap (λ (x : ℕ). word_at n x 1) same) held (Op.CasPtr 0 0 2 3) rest (λ x. refl))
 
   pub pop_again_steps : (u : Option Done) (rest : List Replied) → Local n top role c Taking u → Held Taking
-      → reply_of n c (op.CasPtr 0 0 2 3) ≡ reply.Num 0
-      → Goal Taking u (op.CasPtr 0 0 2 3) Peeking rest (after_op n c (op.CasPtr 0 0 2 3))
+      → reply_of n c (Op.CasPtr 0 0 2 3) ≡ Reply.Num 0
+      → Goal Taking u (Op.CasPtr 0 0 2 3) Peeking rest (after_op n c (Op.CasPtr 0 0 2 3))
   pop_again_steps u rest local held said =
-      subst (Goal Taking u (op.CasPtr 0 0 2 3) Peeking rest) (sym (leaves_all inv c exists local.1 3 said))
-      (by_nothing inv c Taking u (op.CasPtr 0 0 2 3) Peeking rest u None
+      subst (Goal Taking u (Op.CasPtr 0 0 2 3) Peeking rest) (sym (leaves_all inv c exists local.1 3 said))
+      (by_nothing inv c Taking u (Op.CasPtr 0 0 2 3) Peeking rest u None
       (local.0, local.1) (idle inv c exists n Taking Peeking (λ p. p) (λ f. f) held) refl nothing (λ b. refl))
 
   -- The Free of a node that was taken is done: no one else frees it.
   module _ (u : Option Done) (own : HasTaken n role c u) where
-    pub free_replies : reply_of n c (op.Free 2) ≡ reply.Done
+    pub free_replies : reply_of n c (Op.Free 2) ≡ Reply.Done
     free_replies =
         ap (free_reply n) own.register
-        ∙ ap (λ (b : Bool). if b then reply.Double else reply.Done) (inv.core.freed own.a ∙ ap is_gone own.has)
+        ∙ ap (λ (b : Bool). if b then Reply.Double else Reply.Done) (inv.core.freed own.a ∙ ap is_gone own.has)
 
-    freed_once : freed_by own.a n c (op.Free 2) ≡ 1
+    freed_once : freed_by own.a n c (Op.Free 2) ≡ 1
     freed_once =
-        ap (λ (v : Value). if is_pointer_to own.a v then (if is_done (reply_of n c (op.Free 2)) then 1 else 0) else 0)
-        own.register ∙ ap (λ (b : Bool). if b then (if is_done (reply_of n c (op.Free 2)) then 1 else 0) else 0)
+        ap (λ (v : Value). if is_pointer_to own.a v then (if is_done (reply_of n c (Op.Free 2)) then 1 else 0) else 0)
+        own.register ∙ ap (λ (b : Bool). if b then (if is_done (reply_of n c (Op.Free 2)) then 1 else 0) else 0)
         (eq-eqb own.a own.a refl) ∙ ap (λ (r : Reply). if is_done r then 1 else 0) free_replies
 
-    other_not_freed : (b : ℕ) → b ≢ own.a → freed_by b n c (op.Free 2) ≡ 0
+    other_not_freed : (b : ℕ) → b ≢ own.a → freed_by b n c (Op.Free 2) ≡ 0
     other_not_freed b ne =
-        ap (λ (v : Value). if is_pointer_to b v then (if is_done (reply_of n c (op.Free 2)) then 1 else 0) else 0)
-        own.register ∙ ap (λ (t : Bool). if t then (if is_done (reply_of n c (op.Free 2)) then 1 else 0) else 0)
+        ap (λ (v : Value). if is_pointer_to b v then (if is_done (reply_of n c (Op.Free 2)) then 1 else 0) else 0)
+        own.register ∙ ap (λ (t : Bool). if t then (if is_done (reply_of n c (Op.Free 2)) then 1 else 0) else 0)
         (ne_eqb own.a b (λ e. ne (sym e)))
 
   pub free_steps : (u : Option Done) (rest : List Replied) → Local n top role c Freeing u → Held Freeing
-      → Goal Freeing u (op.Free 2) Reading rest (after_op n c (op.Free 2))
+      → Goal Freeing u (Op.Free 2) Reading rest (after_op n c (Op.Free 2))
   free_steps u rest local held =
-      subst (Goal Freeing u (op.Free 2) Reading rest) (sym (ap (after_free n) local.register))
-      (by_free inv c u local held (op.Free 2) rest (freed_once u local) (other_not_freed u local))
+      subst (Goal Freeing u (Op.Free 2) Reading rest) (sym (ap (after_free n) local.register))
+      (by_free inv c u local held (Op.Free 2) rest (freed_once u local) (other_not_freed u local))
 
   pub read_steps : (x : ℕ) (u : Option Done) (rest : List Replied) → Local n top role c Reading u → Held Reading
-      → reply_of n c (op.GetNum 2 0) ≡ reply.Num x → Goal Reading u (op.GetNum 2 0) (Ended (Popped x)) rest n
+      → reply_of n c (Op.GetNum 2 0) ≡ Reply.Num x → Goal Reading u (Op.GetNum 2 0) (Ended (Popped x)) rest n
   read_steps x u rest local held said =
       let number : number_of (word_at n local.a 0) ≡ x =
       num_is _ x
-      (sym (ap (λ (t : Target). reply_at t (λ a w. reply.Num (number_of (word_at n a w))))
+      (sym (ap (λ (t : Target). reply_at t (λ a w. Reply.Num (number_of (word_at n a w))))
       (gets inv c exists 2 local.a 0 0 local.register)) ∙ said) in
-      by_nothing inv c Reading u (op.GetNum 2 0) (Ended (Popped x)) rest u None
+      by_nothing inv c Reading u (Op.GetNum 2 0) (Ended (Popped x)) rest u None
       (local.owes ∙ ap (λ (y : ℕ). Some (Popped y)) number)
       (idle inv c exists n Reading (Ended (Popped x)) (λ p. p) (λ f. f) held) refl nothing (λ b. refl)

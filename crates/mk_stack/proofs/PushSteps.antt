@@ -1,24 +1,19 @@
 -- The steps of a push.
-use Rattle.std.proofs.Common.{◌≡◌, ℕ, ◌<◌, true, false, List, length, refl, sym, ◌∙◌, ap, subst, arith, Some, None}
-use Rattle.std.proofs.Common.{Option}
 use Rattle.mk_stack.proofs.Vocabulary.{Done, Ended, Filling, Full, Kind, Linking, Looking, Making, NeverState, Null}
-use Rattle.mk_stack.proofs.Vocabulary.{Num, Op, Point, Ptr, Publishing, Push, Pushed, Replied, Target, Value, after_op}
-use Rattle.mk_stack.proofs.Vocabulary.{left_at, number_of, register_at, reply_of, with_new, with_register, with_word}
-use Rattle.mk_stack.proofs.Vocabulary.{word_at, words_of, zero_words}
-use Rattle.mk_never.specs.declared.operations.Op.TheVariants as op
-use Rattle.mk_never.specs.declared.operations.Reply.TheVariants as reply
-use Rattle.mk_stack.proofs.Heaps.{set_register, other_register, written, other_word}
-use Rattle.mk_stack.proofs.Roles.{Role, Private, size_of, put_same}
-use Rattle.mk_stack.proofs.Invariant.{Local, IsHeld, IsPushing, IsFreeing, Work, Inv, HasTop, HasOwn, HasFilled}
-use Rattle.mk_stack.proofs.Invariant.{HasLinked}
-use Rattle.mk_stack.proofs.Assembly.{Stepped, nothing, settles, held_on}
-use Rattle.mk_stack.proofs.Registered.{by_nothing, by_register}
-use Rattle.mk_stack.proofs.Writes.{by_write, granted, unborn_private, private_stacked, base_private, private_taken}
-use Rattle.mk_stack.proofs.Writes.{same_private}
-use Rattle.mk_stack.proofs.Pushing.{by_push}
-use Rattle.mk_stack.proofs.Grants.{IsNewRole, by_grant}
-use Rattle.mk_stack.proofs.StepParts.{there, gets, idle, put_held, undecided, keeps_top, exchanged_from, exchanges}
-use Rattle.mk_stack.proofs.StepParts.{leaves_all}
+use Rattle.mk_stack.proofs.Vocabulary.{Num, Op, Point, Ptr, Publishing, Push, Pushed, Replied, Reply, Target, Value}
+use Rattle.mk_stack.proofs.Vocabulary.{after_op, left_at, number_of, register_at, reply_of, with_new, with_register}
+use Rattle.mk_stack.proofs.Vocabulary.{with_word, word_at, words_of, zero_words}
+use Rattle.mk_laws.proofs.Vocabulary.{List, None, Option, Some, ℕ, ap, arith, false, length, refl, subst, sym, true}
+use Rattle.mk_laws.proofs.Vocabulary.{◌<◌, ◌∙◌, ◌≡◌}
+use Rattle.mk_stack.proofs.Invariant.{HasFilled, HasLinked, HasOwn, HasTop, Inv, IsFreeing, IsHeld, IsPushing, Local}
+use Rattle.mk_stack.proofs.Invariant.{Work}
+use Rattle.mk_stack.proofs.StepParts.{exchanged_from, exchanges, gets, idle, keeps_top, leaves_all, put_held, there}
+use Rattle.mk_stack.proofs.StepParts.{undecided}
+use Rattle.mk_stack.proofs.{Assembly.Stepped, Assembly.held_on, Assembly.nothing, Assembly.settles, Grants.IsNewRole}
+use Rattle.mk_stack.proofs.{Grants.by_grant, Heaps.other_register, Heaps.other_word, Heaps.set_register, Heaps.written}
+use Rattle.mk_stack.proofs.{Pushing.by_push, Registered.by_nothing, Registered.by_register, Roles.Private, Roles.Role}
+use Rattle.mk_stack.proofs.{Roles.put_same, Roles.size_of, Writes.base_private, Writes.by_write, Writes.granted}
+use Rattle.mk_stack.proofs.{Writes.private_stacked, Writes.private_taken, Writes.same_private, Writes.unborn_private}
 
 module _ {callers : ℕ} {n : NeverState} {top : Option ℕ} {role : ℕ → Role} {nodes : List ℕ} {W : ℕ → Work}
     (inv : Inv callers n top role nodes W) (c : ℕ) (exists : c < callers) where
@@ -43,14 +38,14 @@ module _ {callers : ℕ} {n : NeverState} {top : Option ℕ} {role : ℕ → Rol
       }
 
   pub make_steps : (x : ℕ) (u : Option Done) (rest : List Replied) → Local n top role c (Making x) u → Held (Making x)
-      → Goal (Making x) u (op.New 1 0 false) (Filling x) rest (after_op n c (op.New 1 0 false))
+      → Goal (Making x) u (Op.New 1 0 false) (Filling x) rest (after_op n c (Op.New 1 0 false))
   make_steps x u rest local held =
       let a = length n.allocations in
       let m : NeverState = with_register (with_new n 0) c 1 (Ptr a 0 0) in
       let set : register_at m c 1 ≡ Ptr a 0 0 = set_register (with_new n 0) c 1 (Ptr a 0 0)
       (there inv c exists 1 (omega arith)) in
       by_grant inv c 1 0 (Private c) (omega arith) node_fits (Making x) u
-      (op.New 1 0 false) (Filling x) rest (
+      (Op.New 1 0 false) (Filling x) rest (
         local.0,
         keeps_top inv c exists m (other_register (with_new n 0) c 1 0 (Ptr a 0 0) (omega arith)) local.1,
         record { a = a; register = set; has = put_same role a (Private c) },
@@ -60,9 +55,9 @@ module _ {callers : ℕ} {n : NeverState} {top : Option ℕ} {role : ℕ → Rol
       (idle inv c exists m (Making x) (Filling x) (λ p. p) (λ f. f) held)) (λ b. refl)
 
   pub fail_steps : (x : ℕ) (u : Option Done) (rest : List Replied) → Local n top role c (Making x) u → Held (Making x)
-      → Goal (Making x) u (op.New 1 0 true) (Ended Full) rest n
+      → Goal (Making x) u (Op.New 1 0 true) (Ended Full) rest n
   fail_steps x u rest local held =
-      by_nothing inv c (Making x) u (op.New 1 0 true) (Ended Full) rest (Some Full)
+      by_nothing inv c (Making x) u (Op.New 1 0 true) (Ended Full) rest (Some Full)
       (Some (record { caller = c; job = Push x; done = Full })) refl
       (idle inv c exists n (Making x) (Ended Full) (λ p. p) (λ f. f) held) refl
       (undecided inv c exists (Making x) u _ Full local.0 (settles tt)) (λ b. refl)
@@ -80,14 +75,14 @@ module _ {callers : ℕ} {n : NeverState} {top : Option ℕ} {role : ℕ → Rol
   on_push m s next pushes frees same held b = held_on m next (held b) (λ p. (pushes, same)) (λ f. absurd (frees f))
 
   pub fill_steps : (x : ℕ) (u : Option Done) (rest : List Replied) → Local n top role c (Filling x) u → Held (Filling x)
-      → Goal (Filling x) u (op.SetNum 1 0 x) (Looking x) rest (after_op n c (op.SetNum 1 0 x))
+      → Goal (Filling x) u (Op.SetNum 1 0 x) (Looking x) rest (after_op n c (Op.SetNum 1 0 x))
   fill_steps x u rest local held =
       let own : HasOwn n role c = local.2 in
       let m : NeverState = with_word n own.a 0 (Num x) in
-      subst (Goal (Filling x) u (op.SetNum 1 0 x) (Looking x) rest)
+      subst (Goal (Filling x) u (Op.SetNum 1 0 x) (Looking x) rest)
       (sym (ap (λ (t : Target). left_at t n (λ a w. with_word n a w (Num x)))
       (gets inv c exists 1 own.a 0 0 own.register)))
-      (by_write inv c own.a 0 (Num x) own.has (Filling x) u (op.SetNum 1 0 x) (Looking x)
+      (by_write inv c own.a 0 (Num x) own.has (Filling x) u (Op.SetNum 1 0 x) (Looking x)
       rest (
         local.0,
         keeps_top inv c exists m refl local.1,
@@ -101,16 +96,16 @@ module _ {callers : ℕ} {n : NeverState} {top : Option ℕ} {role : ℕ → Rol
       ) (on_push m (Filling x) (Looking x) tt (λ f. f) refl held) (λ b. refl))
 
   pub look_steps : (x : ℕ) (u : Option Done) (rest : List Replied) → Local n top role c (Looking x) u → Held (Looking x)
-      → Goal (Looking x) u (op.GetPtr 2 0 0) (Linking x) rest (after_op n c (op.GetPtr 2 0 0))
+      → Goal (Looking x) u (Op.GetPtr 2 0 0) (Linking x) rest (after_op n c (Op.GetPtr 2 0 0))
   look_steps x u rest local held =
       let h : HasTop n top c = local.1 in
       let own : HasFilled n role c x = local.2 in
       let v : Value = word_at n h.t 0 in
       let m : NeverState = with_register n c 2 v in
-      subst (Goal (Looking x) u (op.GetPtr 2 0 0) (Linking x) rest)
+      subst (Goal (Looking x) u (Op.GetPtr 2 0 0) (Linking x) rest)
       (sym (ap (λ (t : Target). left_at t (with_register n c 2 Null) (λ a w. with_register n c 2 (word_at n a w)))
       (gets inv c exists 0 h.t 1 0 h.register)))
-      (by_register inv c 2 v (omega arith) (Looking x) u (op.GetPtr 2 0 0) (Linking x) rest
+      (by_register inv c 2 v (omega arith) (Looking x) u (Op.GetPtr 2 0 0) (Linking x) rest
       u None (
         local.0,
         keeps_top inv c exists m (other_register n c 2 0 v (omega arith)) h,
@@ -124,15 +119,15 @@ module _ {callers : ℕ} {n : NeverState} {top : Option ℕ} {role : ℕ → Rol
       (λ b. refl))
 
   pub link_steps : (x : ℕ) (u : Option Done) (rest : List Replied) → Local n top role c (Linking x) u → Held (Linking x)
-      → Goal (Linking x) u (op.SetPtr 1 1 2) (Publishing x) rest (after_op n c (op.SetPtr 1 1 2))
+      → Goal (Linking x) u (Op.SetPtr 1 1 2) (Publishing x) rest (after_op n c (Op.SetPtr 1 1 2))
   link_steps x u rest local held =
       let own : HasFilled n role c x = local.2 in
       let v : Value = register_at n c 2 in
       let m : NeverState = with_word n own.a 1 v in
-      subst (Goal (Linking x) u (op.SetPtr 1 1 2) (Publishing x) rest)
+      subst (Goal (Linking x) u (Op.SetPtr 1 1 2) (Publishing x) rest)
       (sym (ap (λ (t : Target). left_at t n (λ a w. with_word n a w (register_at n c 2)))
       (gets inv c exists 1 own.a 0 1 own.register)))
-      (by_write inv c own.a 1 v own.has (Linking x) u (op.SetPtr 1 1 2) (Publishing x)
+      (by_write inv c own.a 1 v own.has (Linking x) u (Op.SetPtr 1 1 2) (Publishing x)
       rest (
         local.0,
         keeps_top inv c exists m refl local.1,
@@ -146,24 +141,24 @@ module _ {callers : ℕ} {n : NeverState} {top : Option ℕ} {role : ℕ → Rol
       ) (on_push m (Linking x) (Publishing x) tt (λ f. f) refl held) (λ b. refl))
 
   pub publish_steps : (x : ℕ) (u : Option Done) (rest : List Replied) → Local n top role c (Publishing x) u
-      → Held (Publishing x) → reply_of n c (op.CasPtr 0 0 2 1) ≡ reply.Num 1
-      → Goal (Publishing x) u (op.CasPtr 0 0 2 1) (Ended Pushed) rest (after_op n c (op.CasPtr 0 0 2 1))
+      → Held (Publishing x) → reply_of n c (Op.CasPtr 0 0 2 1) ≡ Reply.Num 1
+      → Goal (Publishing x) u (Op.CasPtr 0 0 2 1) (Ended Pushed) rest (after_op n c (Op.CasPtr 0 0 2 1))
   publish_steps x u rest local held said =
       let h : HasTop n top c = local.1 in
       let own : HasLinked n role c x = local.2 in
-      subst (Goal (Publishing x) u (op.CasPtr 0 0 2 1) (Ended Pushed) rest)
+      subst (Goal (Publishing x) u (Op.CasPtr 0 0 2 1) (Ended Pushed) rest)
       (sym (exchanges inv c exists h 1 said ∙ ap (with_word n h.t 0) own.register))
       (subst
-      (λ (y : Option Done). Goal (Publishing x) y (op.CasPtr 0 0 2 1) (Ended Pushed) rest
+      (λ (y : Option Done). Goal (Publishing x) y (Op.CasPtr 0 0 2 1) (Ended Pushed) rest
       (with_word n h.t 0 (Ptr own.a 0 0))) (sym local.0)
-      (by_push inv c h.t x h.is own (exchanged_from inv c exists h 1 said) held (op.CasPtr 0 0 2 1) rest (λ b. refl)))
+      (by_push inv c h.t x h.is own (exchanged_from inv c exists h 1 said) held (Op.CasPtr 0 0 2 1) rest (λ b. refl)))
 
   pub push_again_steps : (x : ℕ) (u : Option Done) (rest : List Replied) → Local n top role c (Publishing x) u
-      → Held (Publishing x) → reply_of n c (op.CasPtr 0 0 2 1) ≡ reply.Num 0
-      → Goal (Publishing x) u (op.CasPtr 0 0 2 1) (Looking x) rest (after_op n c (op.CasPtr 0 0 2 1))
+      → Held (Publishing x) → reply_of n c (Op.CasPtr 0 0 2 1) ≡ Reply.Num 0
+      → Goal (Publishing x) u (Op.CasPtr 0 0 2 1) (Looking x) rest (after_op n c (Op.CasPtr 0 0 2 1))
   push_again_steps x u rest local held said =
       let own : HasLinked n role c x = local.2 in
-      subst (Goal (Publishing x) u (op.CasPtr 0 0 2 1) (Looking x) rest) (sym (leaves_all inv c exists local.1 1 said))
-      (by_nothing inv c (Publishing x) u (op.CasPtr 0 0 2 1) (Looking x) rest u None
+      subst (Goal (Publishing x) u (Op.CasPtr 0 0 2 1) (Looking x) rest) (sym (leaves_all inv c exists local.1 1 said))
+      (by_nothing inv c (Publishing x) u (Op.CasPtr 0 0 2 1) (Looking x) rest u None
       (local.0, local.1, record { a = own.a; register = own.register; has = own.has; number = own.number })
       (on_push n (Publishing x) (Looking x) tt (λ f. f) refl held) refl nothing (λ b. refl))

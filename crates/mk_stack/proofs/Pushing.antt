@@ -1,16 +1,16 @@
 -- A push publishes its node: it is the uppermost one from there on.
-use Rattle.std.proofs.Common.{◌≡◌, ◌≢◌, ℕ, List, ◌∷◌, length, get_or, refl, sym, ◌∙◌, ap, ap₂, subst, arith, Some, None}
-use Rattle.std.proofs.Common.{Option, inl, inr}
+use Rattle.std.proofs.Common.{ap₂}
 use Rattle.mk_stack.proofs.Vocabulary.{Ended, IsOneOf, NeverState, Null, Op, Ptr, Publishing, Push, Pushed, Replied}
 use Rattle.mk_stack.proofs.Vocabulary.{Value, freed_by, number_of, numbers_in, register_at, with_word, word_at}
 use Rattle.mk_stack.proofs.Vocabulary.{words_of}
-use Rattle.mk_stack.proofs.Heaps.{written}
-use Rattle.mk_stack.proofs.Roles.{Role, Private, Stacked, Taken, put, put_by, put_same, put_other, size_of}
-use Rattle.mk_stack.proofs.Invariant.{HasChain, IsChain, IsHeld, HasLinked, Work, Inv}
+use Rattle.mk_laws.proofs.Vocabulary.{List, None, Option, Some, ℕ, ap, arith, get_or, inl, inr, length, refl, subst}
+use Rattle.mk_laws.proofs.Vocabulary.{sym, ◌∙◌, ◌∷◌, ◌≡◌, ◌≢◌}
 use Rattle.mk_stack.proofs.Chains.{chain_stays, numbers_stay, other_role}
-use Rattle.mk_stack.proofs.Assembly.{Stepped, settles}
-use Rattle.mk_stack.proofs.Writes.{base_stacked, private_stacked, taken_stacked, unborn_base, granted}
 use Rattle.mk_stack.proofs.Exchanges.{by_exchange, node_is_no_top, words_stay}
+use Rattle.mk_stack.proofs.Invariant.{HasChain, HasLinked, Inv, IsChain, IsHeld, Work}
+use Rattle.mk_stack.proofs.Roles.{Private, Role, Stacked, Taken, put, put_by, put_other, put_same, size_of}
+use Rattle.mk_stack.proofs.Writes.{base_stacked, granted, private_stacked, taken_stacked, unborn_base}
+use Rattle.mk_stack.proofs.{Assembly.Stepped, Assembly.settles, Heaps.written}
 
 module _ {callers : ℕ} {n : NeverState} {top : Option ℕ} {role : ℕ → Role} {nodes : List ℕ} {W : ℕ → Work}
     (inv : Inv callers n top role nodes W) (c t x : ℕ) (is : top ≡ Some t) (own : HasLinked n role c x)

@@ -1,32 +1,29 @@
 -- The first caller reads what is left on the stack, when all callers are joined, and is joined again.
-use Rattle.std.proofs.Common.{◌≡◌, ◌≢◌, ℕ, ◌<◌, List, [], ◌∷◌, ◌++◌, refl, sym, ◌∙◌, ap, subst, ⊎_elim}
-use Rattle.std.proofs.lemmas.Bool.{cases_eq, ne_eqb}
-use Rattle.std.proofs.lemmas.List.{append_cancel_left}
+use Rattle.std.proofs.{Common.⊎_elim, lemmas.List.append_cancel_left}
 use Rattle.mk_stack.proofs.Vocabulary.{AreAllBy, AreBelow, Caller, CallerState, Config, Decided, Event, Grows, Has}
 use Rattle.mk_stack.proofs.Vocabulary.{HasWalked, Host, HostState, IsHistory, PassState, ReadsStack, Seat, WordsState}
 use Rattle.mk_stack.proofs.Vocabulary.{asked, at_home, caller_of_pass, calls, calls_from, left, never_behind}
 use Rattle.mk_stack.proofs.Vocabulary.{never_first, own_replied, pass_for, replied_in, with_joined}
+use Rattle.mk_laws.proofs.Vocabulary.{List, ℕ, ap, cases_eq, ne_eqb, refl, subst, sym, [], ◌++◌, ◌<◌, ◌∙◌, ◌∷◌, ◌≡◌}
+use Rattle.mk_laws.proofs.Vocabulary.{◌≢◌}
 use Rattle.mk_core.proofs.HistoryParts.{calls_in_parts}
-use Rattle.mk_words.specs.Seats.{has_over, without_seat}
-use Rattle.mk_words.proofs.Seats.{has_first, has_left, has_right, others_own, without_keeps}
 use Rattle.mk_heap.specs.Hosts.{with_caller_out}
-use Rattle.mk_stack.specs.declared.walking.WalkPoint.TheVariants as walk
-use Rattle.mk_stack.specs.Joining.{IsReader}
-use Rattle.mk_stack.proofs.JoinedJobs.{still_replied}
-use Rattle.mk_stack.proofs.OwnCalls.{all_by, below_later, none_of}
-use Rattle.mk_stack.proofs.Replies.{asked_in_two, own_in_parts}
-use Rattle.mk_stack.proofs.StackHistories.{callers_are_below}
+use Rattle.mk_stack.proofs.{JoinedJobs.still_replied, OwnCalls.all_by, OwnCalls.below_later, OwnCalls.none_of}
+use Rattle.mk_stack.proofs.{Replies.asked_in_two, Replies.own_in_parts, StackHistories.callers_are_below}
+use Rattle.mk_stack.specs.{Joining.IsReader, declared.walking.WalkPoint.WalkPoint}
+use Rattle.mk_words.proofs.Seats.{has_first, has_left, has_right, others_own, without_keeps}
+use Rattle.mk_words.specs.Seats.{has_over, without_seat}
 
 -- the reader's walk, when it is joined
 pub reads_stack : (w : WordsState) (h g : HostState) (s : CallerState) {q : PassState} (r : PassState)
     {numbers : List ℕ}
-    → h.pass.table ≡ w → s ≡ at_home (pass_for h (Caller 0)) → HasWalked s.pass numbers q walk.Ended → r ≡ q
+    → h.pass.table ≡ w → s ≡ at_home (pass_for h (Caller 0)) → HasWalked s.pass numbers q WalkPoint.Ended → r ≡ q
     → Grows r.seats r.seen g.pass.seen → ReadsStack w.config h numbers g
 reads_stack w h g s {q} r {numbers} table home walked same came =
     let p : PassState = pass_for h (Caller 0) in
     let first : s.pass ≡ p = ap (λ (x : CallerState). x.pass) home in
-    let from : HasWalked p numbers q walk.Ended =
-    subst (λ (x : PassState). HasWalked x numbers q walk.Ended) first walked in
+    let from : HasWalked p numbers q WalkPoint.Ended =
+    subst (λ (x : PassState). HasWalked x numbers q WalkPoint.Ended) first walked in
     let grows : Grows q.seats q.seen g.pass.seen =
     subst (λ (x : PassState). Grows x.seats x.seen g.pass.seen) same came in
     let own : Grows (Caller 0 ∷ []) q.seen g.pass.seen =

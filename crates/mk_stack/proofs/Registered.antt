@@ -1,15 +1,12 @@
 -- Steps that leave all allocations: a register that is set, a global, or nothing.
-use Rattle.std.proofs.Common.{◌≡◌, ◌≢◌, ℕ, ◌+◌, ◌*◌, ◌<◌, List, [], length, length-set, refl, sym, ◌∙◌, subst, arith}
-use Rattle.std.proofs.Common.{Some, None, Option}
-use Rattle.std.proofs.lemmas.List.{get_or-set_same}
 use Rattle.mk_stack.proofs.Vocabulary.{Done, NeverState, Null, Op, Ordered, Point, Ptr, Replied, Value, freed_by}
 use Rattle.mk_stack.proofs.Vocabulary.{numbers_in, with_global, with_register, word_at}
-use Rattle.mk_stack.proofs.Heaps.{register_of_other}
-use Rattle.mk_stack.proofs.Roles.{Role, Base, same_role}
-use Rattle.mk_stack.proofs.Invariant.{Core, HasChain, IsChain, Local, IsHeld, Work, Inv}
-use Rattle.mk_stack.proofs.Frames.{Leaves}
-use Rattle.mk_stack.proofs.Chains.{has_chain_stays, all_numbers_stay}
-use Rattle.mk_stack.proofs.Assembly.{Decides, nothing, IsLeft, moved, Stepped, assemble, same_before}
+use Rattle.mk_laws.proofs.Vocabulary.{List, None, Option, Some, ℕ, arith, get_or-set_same, length, length-set, refl}
+use Rattle.mk_laws.proofs.Vocabulary.{subst, sym, [], ◌*◌, ◌+◌, ◌<◌, ◌∙◌, ◌≡◌, ◌≢◌}
+use Rattle.mk_stack.proofs.Assembly.{Decides, IsLeft, Stepped, assemble, moved, nothing, same_before}
+use Rattle.mk_stack.proofs.Invariant.{Core, HasChain, Inv, IsChain, IsHeld, Local, Work}
+use Rattle.mk_stack.proofs.Roles.{Base, Role, same_role}
+use Rattle.mk_stack.proofs.{Chains.all_numbers_stay, Chains.has_chain_stays, Frames.Leaves, Heaps.register_of_other}
 
 none_some : (x : ℕ) → None ≡ Some x → ⊥
 none_some x same = cc

@@ -1,29 +1,22 @@
 -- One call of a caller, as one more operation with its reply.
-use Rattle.std.proofs.Common.{◌≡◌, ℕ, ◌<◌, Bool, true, false, List, [], ◌∷◌, ◌++◌, length, length-append, refl, sym}
-use Rattle.std.proofs.Common.{◌∙◌, ap, subst, append-nil, append_assoc, arith}
-use Rattle.std.specs.Prelude.{◌==◌, if◌then◌else◌}
-use Rattle.std.proofs.lemmas.Bool.{eq-eqb}
-use Rattle.std.proofs.lemmas.List.{map-append}
+use Rattle.std.proofs.Common.{length-append}
 use Rattle.mk_stack.proofs.Vocabulary.{Answer, AreAdmitted, Call, Called, Config, Decided, Event, IsHistory, IsTyped}
 use Rattle.mk_stack.proofs.Vocabulary.{NeverState, Op, PassState, Replied, Stays, after_calls, after_op, answer_of}
 use Rattle.mk_stack.proofs.Vocabulary.{asked, caller_of_pass, calls, calls_from, flagged, left, never_behind}
 use Rattle.mk_stack.proofs.Vocabulary.{never_first, never_of, own_replied, register_at, replied_in, replied_to}
 use Rattle.mk_stack.proofs.Vocabulary.{reply_of, value_of}
+use Rattle.mk_laws.proofs.Vocabulary.{Bool, KeepsRegisters, List, Step, ℕ, ap, append-nil, append_assoc, arith}
+use Rattle.mk_laws.proofs.Vocabulary.{bases_of, call_decided, earlier_part_is_history, eq-eqb, false, first_world}
+use Rattle.mk_laws.proofs.Vocabulary.{if◌then◌else◌, length, map-append, refl, subst, sym, true, [], ◌++◌, ◌<◌, ◌==◌}
+use Rattle.mk_laws.proofs.Vocabulary.{◌∙◌, ◌∷◌, ◌≡◌}
 use Rattle.mk_never.specs.Admitted.{IsCaller}
-use Rattle.mk_never.specs.Laws.{KeepsRegisters}
-use Rattle.mk_core.specs.declared.events.Step.TheVariants as step
-use Rattle.mk_core.specs.History.{bases_of, call_decided, first_world}
-use Rattle.mk_core.proofs.Histories.{calls_more}
-use Rattle.mk_core.proofs.HistoryParts.{calls_in_parts, earlier_part_is_history}
+use Rattle.mk_core.proofs.{Histories.calls_more, HistoryParts.calls_in_parts}
 use Rattle.mk_laws.proofs.LastEvents.{comes_last, stands}
-use Rattle.mk_words.specs.States.{event_of}
-use Rattle.mk_caller.specs.Called.{IsDecidedIn, Says, own_calls}
-use Rattle.mk_caller.specs.Causes.{FindsGateHeld, IsRefused}
-use Rattle.mk_caller.specs.declared.refusals.Refusal.{Refusal}
-use Rattle.mk_caller.specs.declared.refusals.Refusal.TheVariants.{Held}
+use Rattle.mk_alloc.{proofs.Decisions.same_last, specs.TurnCalls.CalledInTurn}
 use Rattle.mk_caller.proofs.OwnSteps.{by_append, calls_by}
-use Rattle.mk_alloc.specs.TurnCalls.{CalledInTurn}
-use Rattle.mk_alloc.proofs.Decisions.{same_last}
+use Rattle.mk_caller.specs.{Called.IsDecidedIn, Called.Says, Called.own_calls, Causes.FindsGateHeld, Causes.IsRefused}
+use Rattle.mk_caller.specs.{declared.refusals.Refusal.Refusal, declared.refusals.Refusal.TheVariants.Held}
+use Rattle.mk_words.specs.States.{event_of}
 
 -- A caller's operations in two parts
 
@@ -216,10 +209,10 @@ from_turn {on} {p} {q} {o} {a} h once history =
 -- A caller that found its gate held asked nothing.
 pub stays_held : {p q : PassState} {o : Op} → FindsGateHeld p o q → Stays p q
 stays_held {p} {q} {o} f =
-    let more : List Event = f.finds.makes.others ++ event_of p (step.Enter o) ∷ [] in
+    let more : List Event = f.finds.makes.others ++ event_of p (Step.Enter o) ∷ [] in
     let is : q ≡ record p { seen = p.seen ++ more } =
     f.finds.makes.is ∙ ap (λ (l : List Event). record p { seen = l })
-    (append_assoc p.seen f.finds.makes.others (event_of p (step.Enter o) ∷ [])) in
+    (append_assoc p.seen f.finds.makes.others (event_of p (Step.Enter o) ∷ [])) in
     record {
       is = is ∙ ap (λ (r : PassState). record p { seen = r.seen }) (sym is);
       did = subst (λ (r : PassState). replied_to r ≡ replied_to p) (sym is) (held_did more

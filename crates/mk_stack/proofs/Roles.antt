@@ -1,7 +1,6 @@
 -- What each allocation is for the stack, and what a step of one caller leaves of what the others rely on.
-use Rattle.std.proofs.Common.{◌≡◌, ◌≢◌, ℕ, Bool, true, false, refl, sym, ap, subst, cond}
-use Rattle.std.specs.Prelude.{◌==◌, if◌then◌else◌}
-use Rattle.std.proofs.lemmas.Bool.{eqb-true, eqb-false, eq-eqb, ne_eqb}
+use Rattle.mk_laws.proofs.Vocabulary.{Bool, ℕ, ap, cond, eq-eqb, eqb-false, eqb-true, false, if◌then◌else◌, ne_eqb}
+use Rattle.mk_laws.proofs.Vocabulary.{refl, subst, sym, true, ◌==◌, ◌≡◌, ◌≢◌}
 
 -- Not granted; the top; a caller's, and not yet pushed; on the stack; popped by a caller, which frees it next; freed
 pub data Role : Type 0 where

@@ -1,18 +1,15 @@
 -- All operations, one after the other: the invariant, the order, and that each job is decided once.
-use Rattle.std.proofs.Common.{◌≡◌, ◌≢◌, ℕ, suc, ◌<◌, List, [], ◌∷◌, ◌++◌, length, take, drop, refl, sym, ◌∙◌, ap, subst}
-use Rattle.std.proofs.Common.{arith, None, Option, inl, inr}
-use Rattle.std.specs.Prelude.{◌⊎◌}
-use Rattle.std.proofs.lemmas.Bool.{cases_eq}
 use Rattle.mk_stack.proofs.Vocabulary.{AreBelow, AreDecidedOnce, AreJobRuns, Asks, Call, Ended, Founded, JobRun, Leads}
 use Rattle.mk_stack.proofs.Vocabulary.{NeverState, Op, Ordered, Replied, Starting, after_calls, after_op, all_of}
 use Rattle.mk_stack.proofs.Vocabulary.{numbers_in, order_of, own_decisions, own_replied, reply_of}
-use Rattle.mk_stack.proofs.Roles.{Role, put, put_by, put_same, put_other}
-use Rattle.mk_stack.proofs.Invariant.{Local, IsHeld, IsPushing, IsFreeing, Work, Inv}
-use Rattle.mk_stack.proofs.Assembly.{Stepped, IsOfJob, moved}
-use Rattle.mk_stack.proofs.Stepping.{steps, single}
-use Rattle.mk_stack.proofs.JobGoals.{goal_pushes_nothing, goal_frees_nothing, no_founding, same_job}
-use Rattle.mk_stack.proofs.Owing.{IsWork, owed, IsOnce, Ran, settled, begins, all_done, mine, of_other, my_decision}
-use Rattle.mk_stack.proofs.Owing.{decision_of_other, explained_more, once_more}
+use Rattle.mk_laws.proofs.Vocabulary.{List, None, Option, ℕ, ap, arith, cases_eq, drop, inl, inr, length, refl, subst}
+use Rattle.mk_laws.proofs.Vocabulary.{suc, sym, take, [], ◌++◌, ◌<◌, ◌∙◌, ◌∷◌, ◌≡◌, ◌≢◌, ◌⊎◌}
+use Rattle.mk_stack.proofs.Invariant.{Inv, IsFreeing, IsHeld, IsPushing, Local, Work}
+use Rattle.mk_stack.proofs.JobGoals.{goal_frees_nothing, goal_pushes_nothing, no_founding, same_job}
+use Rattle.mk_stack.proofs.Owing.{IsOnce, IsWork, Ran, all_done, begins, decision_of_other, explained_more, mine}
+use Rattle.mk_stack.proofs.Owing.{my_decision, of_other, once_more, owed, settled}
+use Rattle.mk_stack.proofs.{Assembly.IsOfJob, Assembly.Stepped, Assembly.moved, Roles.Role, Roles.put, Roles.put_by}
+use Rattle.mk_stack.proofs.{Roles.put_other, Roles.put_same, Stepping.single, Stepping.steps}
 
 cons_head : (a b : Replied) (xs ys : List Replied) → a ∷ xs ≡ b ∷ ys → a ≡ b
 cons_head a b xs ys e = cc

@@ -1,8 +1,8 @@
 -- The heap of a stack is within the limits, and has the types of a stack.
-use Rattle.std.proofs.Common.{ℕ, ◌<◌, ◌≤◌, List, [], ◌∷◌, length, refl, arith}
 use Rattle.std.proofs.lemmas.List.Elements.{All-cons, All-nil}
 use Rattle.mk_stack.proofs.Vocabulary.{HasStackTypes, Kind, Number, To, node_kinds, top_kinds}
-use Rattle.mk_core.specs.Config.{IsAmong, IsBetween, IsTypeAmong, IsWithinLimits}
+use Rattle.mk_laws.proofs.Vocabulary.{IsWithinLimits, List, ℕ, arith, length, refl, [], ◌<◌, ◌∷◌, ◌≤◌}
+use Rattle.mk_core.specs.Config.{IsAmong, IsBetween, IsTypeAmong}
 use Rattle.mk_stack.specs.StackRuns.{stack_config}
 
 -- the types

@@ -1,24 +1,20 @@
 -- Lists of jobs that callers did are the jobs of a history, and so are explained.
-use Rattle.std.proofs.Common.{◌≡◌, ℕ, zero, suc, ◌+◌, ◌*◌, ◌<◌, ◌≤◌, List, [], ◌∷◌, ◌++◌, length, refl, sym, ◌∙◌, ap}
-use Rattle.std.proofs.Common.{subst, arith, append-nil}
-use Rattle.std.specs.Prelude.{◌==◌, if◌then◌else◌, Bool, true, false, slice_get, Some}
-use Rattle.std.proofs.lemmas.Bool.{ne_eqb}
+use Rattle.std.proofs.Common.{slice_get}
 use Rattle.mk_stack.proofs.Vocabulary.{AreAllBy, AreBelow, AreJobRuns, AreOfOthers, Call, Caller, Config, Decided}
 use Rattle.mk_stack.proofs.Vocabulary.{Dones, Event, Founded, Founding, HasStackTypes, HaveDone, IsHistory, JobRun}
 use Rattle.mk_stack.proofs.Vocabulary.{Jobs, Leads, LeadsDown, NeverState, Replied, after_op, all_of, asked, calls}
 use Rattle.mk_stack.proofs.Vocabulary.{calls_from, left, never_behind, never_first, numbers_read, own_replied}
 use Rattle.mk_stack.proofs.Vocabulary.{replied_in, reply_of}
-use Rattle.mk_core.proofs.HistoryParts.{calls_in_parts, earlier_part_is_history}
+use Rattle.mk_laws.proofs.Vocabulary.{Bool, List, Some, ℕ, ap, append-nil, arith, earlier_part_is_history, false}
+use Rattle.mk_laws.proofs.Vocabulary.{if◌then◌else◌, length, ne_eqb, refl, subst, suc, sym, true, zero, [], ◌*◌, ◌++◌}
+use Rattle.mk_laws.proofs.Vocabulary.{◌+◌, ◌<◌, ◌==◌, ◌∙◌, ◌∷◌, ◌≡◌, ◌≤◌}
+use Rattle.mk_core.proofs.HistoryParts.{calls_in_parts}
 use Rattle.mk_laws.proofs.LastEvents.{stands}
-use Rattle.mk_stack.specs.declared.walking.WalkPoint.TheVariants as walk
-use Rattle.mk_stack.specs.Interleavings.{IsInterleaved, jobs_of_first}
-use Rattle.mk_stack.specs.Laws.{IsExplained}
-use Rattle.mk_stack.specs.StackRuns.{AreRunsOf, IsStackRun}
 use Rattle.mk_stack.proofs.Linearizable.{stacks_are_linearizable}
 use Rattle.mk_stack.proofs.OwnCalls.{below_later, no_calls, none_of}
-use Rattle.mk_stack.proofs.Replies.{asked_in_two}
-use Rattle.mk_stack.proofs.StackHistories.{callers_are_below}
-use Rattle.mk_stack.proofs.Walks.{walks_read_the_stack}
+use Rattle.mk_stack.proofs.{Replies.asked_in_two, StackHistories.callers_are_below, Walks.walks_read_the_stack}
+use Rattle.mk_stack.specs.{Interleavings.IsInterleaved, Interleavings.jobs_of_first, Laws.IsExplained}
+use Rattle.mk_stack.specs.{StackRuns.AreRunsOf, StackRuns.IsStackRun, declared.walking.WalkPoint.WalkPoint}
 
 -- A caller that isn't there asks for nothing.
 unasked_beyond : (k callers : ℕ) (n : NeverState) (xs : List Call) → AreBelow callers xs → callers ≤ k
@@ -105,7 +101,8 @@ pub is_stack_run : {c : Config} (es more : List Event) {fs : List Event} (foundi
     → Leads Founding founding Founded → length lists ≡ c.callers → HaveDone c es founding 0 lists all
     → AreAllBy 0 (asked (calls_from c (left c es) more))
     → own_replied 0 (never_behind c es) (asked (calls_from c (left c es) more)) ≡ walked
-    → LeadsDown walk.Starting walked walk.Ended → numbers_read walked ≡ left_on → IsStackRun c fs lists all left_on
+    → LeadsDown WalkPoint.Starting walked WalkPoint.Ended → numbers_read walked ≡ left_on
+    → IsStackRun c fs lists all left_on
 is_stack_run {c} es more founding lists all left_on walked is history types founds count h by_first own leads reads =
     let jobs_history : IsHistory c es = earlier_part_is_history c es more (subst (IsHistory c) is history) in
     let below = callers_are_below jobs_history in
@@ -128,7 +125,7 @@ is_stack_run {c} es more founding lists all left_on walked is history types foun
     let registers : length (never_behind c es).registers ≡ 8 * c.callers =
     (stands c es jobs_history).all.mirrors.register_count in
     let read = walks_read_the_stack (never_behind c es) 0 later explained.nodes (omega (arith, least, registers))
-    by_first explained.linked (subst (λ (l : List Replied). LeadsDown walk.Starting l walk.Ended) (sym own) leads) in
+    by_first explained.linked (subst (λ (l : List Replied). LeadsDown WalkPoint.Starting l WalkPoint.Ended) (sym own) leads) in
     record {
       founding = founding;
       runs = runs;

@@ -1,19 +1,15 @@
 -- What the steps of all points share.
-use Rattle.std.proofs.Common.{◌≡◌, ◌≢◌, ℕ, ◌+◌, ◌*◌, ◌<◌, ◌≤◌, Bool, true, false, cond, List, [], length, refl, sym}
-use Rattle.std.proofs.Common.{◌∙◌, ap, subst, arith, Some, None, Option}
-use Rattle.std.specs.Prelude.{if◌then◌else◌}
-use Rattle.std.proofs.lemmas.Bool.{false≢true}
 use Rattle.mk_stack.proofs.Vocabulary.{Done, Empty, Job, NeverState, Null, Op, Ordered, Point, Pop, Ptr, Push, Replied}
-use Rattle.mk_stack.proofs.Vocabulary.{Target, Value, WordOf, after_op, bit, done_without, is_same, left_at, left_by}
-use Rattle.mk_stack.proofs.Vocabulary.{register_at, reply_at, reply_of, target_of, with_register, with_word, word_at}
-use Rattle.mk_stack.proofs.Vocabulary.{words_of}
-use Rattle.mk_never.specs.declared.operations.Op.TheVariants as op
-use Rattle.mk_never.specs.declared.operations.Reply.TheVariants as reply
+use Rattle.mk_stack.proofs.Vocabulary.{Reply, Target, Value, WordOf, after_op, bit, done_without, is_same, left_at}
+use Rattle.mk_stack.proofs.Vocabulary.{left_by, register_at, reply_at, reply_of, target_of, with_register, with_word}
+use Rattle.mk_stack.proofs.Vocabulary.{word_at, words_of}
+use Rattle.mk_laws.proofs.Vocabulary.{Bool, List, None, Option, Some, ℕ, ap, arith, cond, false, false≢true}
+use Rattle.mk_laws.proofs.Vocabulary.{if◌then◌else◌, length, refl, subst, sym, true, [], ◌*◌, ◌+◌, ◌<◌, ◌∙◌, ◌≡◌, ◌≢◌}
+use Rattle.mk_laws.proofs.Vocabulary.{◌≤◌}
 use Rattle.mk_never.proofs.Sameness.{equal_from_same, same_from_equal}
-use Rattle.mk_stack.proofs.Heaps.{reaches, set_register}
-use Rattle.mk_stack.proofs.Roles.{Role, Unborn, Base, Private, Stacked, Taken, Freed, size_of, put, put_by}
-use Rattle.mk_stack.proofs.Invariant.{HasChain, IsHeld, IsPushing, IsFreeing, Work, Inv, HasTop}
-use Rattle.mk_stack.proofs.Assembly.{Stepped, Decides, held_on}
+use Rattle.mk_stack.proofs.Invariant.{HasChain, HasTop, Inv, IsFreeing, IsHeld, IsPushing, Work}
+use Rattle.mk_stack.proofs.Roles.{Base, Freed, Private, Role, Stacked, Taken, Unborn, put, put_by, size_of}
+use Rattle.mk_stack.proofs.{Assembly.Decides, Assembly.Stepped, Assembly.held_on, Heaps.reaches, Heaps.set_register}
 
 pub ptr_is_not_null : (a ty : ℕ) → Ptr a ty 0 ≡ Null → ⊥
 ptr_is_not_null a ty e = cc
@@ -26,13 +22,13 @@ pub bit_is_zero : (b : Bool) → bit b ≡ 0 → b ≡ false
 bit_is_zero true e = absurd (omega arith)
 bit_is_zero false e = refl
 
-pub num_is : (a b : ℕ) → reply.Num a ≡ reply.Num b → a ≡ b
+pub num_is : (a b : ℕ) → Reply.Num a ≡ Reply.Num b → a ≡ b
 num_is a b e = cc
 
-pub val_is : (v w : Value) → reply.Val v ≡ reply.Val w → v ≡ w
+pub val_is : (v w : Value) → Reply.Val v ≡ Reply.Val w → v ≡ w
 val_is v w e = cc
 
-pub done_is_not_double : reply.Done ≡ reply.Double → ⊥
+pub done_is_not_double : Reply.Done ≡ Reply.Double → ⊥
 done_is_not_double e = cc
 
 pub ptr_is : (a b ty offset : ℕ) → Ptr a ty offset ≡ Ptr b ty offset → a ≡ b
@@ -90,13 +86,13 @@ module _ {callers : ℕ} {n : NeverState} {top : Option ℕ} {role : ℕ → Rol
   without_left Pop xs e = subst (λ (l : List ℕ). left_by l Pop Empty ≡ Some l) (sym e) refl
 
   -- What IsNull says
-  pub is_null_says : (r m : ℕ) → reply_of n c (op.IsNull r) ≡ reply.Num m → bit (is_same (register_at n c r) Null) ≡ m
+  pub is_null_says : (r m : ℕ) → reply_of n c (Op.IsNull r) ≡ Reply.Num m → bit (is_same (register_at n c r) Null) ≡ m
   is_null_says r m said = num_is _ m said
 
-  pub null_is_null : (r : ℕ) → reply_of n c (op.IsNull r) ≡ reply.Num 1 → register_at n c r ≡ Null
+  pub null_is_null : (r : ℕ) → reply_of n c (Op.IsNull r) ≡ Reply.Num 1 → register_at n c r ≡ Null
   null_is_null r said = equal_from_same _ Null (bit_is_one _ (is_null_says r 1 said))
 
-  pub other_is_not : (r : ℕ) → reply_of n c (op.IsNull r) ≡ reply.Num 0 → register_at n c r ≢ Null
+  pub other_is_not : (r : ℕ) → reply_of n c (Op.IsNull r) ≡ Reply.Num 0 → register_at n c r ≢ Null
   other_is_not r said e =
       false≢true (sym (bit_is_zero _ (is_null_says r 0 said)) ∙ same_from_equal (register_at n c r) Null e)
 
@@ -106,26 +102,26 @@ module _ {callers : ℕ} {n : NeverState} {top : Option ℕ} {role : ℕ → Rol
 
   -- A compare and exchange on the top
   module _ (h : HasTop n top c) (r : ℕ) where
-    pub same_is : (m : ℕ) → reply_of n c (op.CasPtr 0 0 2 r) ≡ reply.Num m
+    pub same_is : (m : ℕ) → reply_of n c (Op.CasPtr 0 0 2 r) ≡ Reply.Num m
         → bit (is_same (word_at n h.t 0) (register_at n c 2)) ≡ m
     same_is m said =
         num_is _ m
-        (sym (ap (λ (t : Target). reply_at t (λ a w. reply.Num (bit (is_same (word_at n a w) (register_at n c 2)))))
+        (sym (ap (λ (t : Target). reply_at t (λ a w. Reply.Num (bit (is_same (word_at n a w) (register_at n c 2)))))
         (gets 0 h.t 1 0 h.register)) ∙ said)
 
-    pub exchanged_from : reply_of n c (op.CasPtr 0 0 2 r) ≡ reply.Num 1 → word_at n h.t 0 ≡ register_at n c 2
+    pub exchanged_from : reply_of n c (Op.CasPtr 0 0 2 r) ≡ Reply.Num 1 → word_at n h.t 0 ≡ register_at n c 2
     exchanged_from said = equal_from_same _ _ (bit_is_one _ (same_is 1 said))
 
     pub after_exchange : (b : Bool) → is_same (word_at n h.t 0) (register_at n c 2) ≡ b
-        → after_op n c (op.CasPtr 0 0 2 r) ≡ cond b (with_word n h.t 0 (register_at n c r)) n
+        → after_op n c (Op.CasPtr 0 0 2 r) ≡ cond b (with_word n h.t 0 (register_at n c r)) n
     after_exchange b is =
         ap (λ (t : Target). left_at t n
         (λ a w. if is_same (word_at n a w) (register_at n c 2) then with_word n a w (register_at n c r) else n))
         (gets 0 h.t 1 0 h.register) ∙ ap (λ (x : Bool). cond x (with_word n h.t 0 (register_at n c r)) n) is
 
-    pub exchanges : reply_of n c (op.CasPtr 0 0 2 r) ≡ reply.Num 1
-        → after_op n c (op.CasPtr 0 0 2 r) ≡ with_word n h.t 0 (register_at n c r)
+    pub exchanges : reply_of n c (Op.CasPtr 0 0 2 r) ≡ Reply.Num 1
+        → after_op n c (Op.CasPtr 0 0 2 r) ≡ with_word n h.t 0 (register_at n c r)
     exchanges said = after_exchange true (bit_is_one _ (same_is 1 said))
 
-    pub leaves_all : reply_of n c (op.CasPtr 0 0 2 r) ≡ reply.Num 0 → after_op n c (op.CasPtr 0 0 2 r) ≡ n
+    pub leaves_all : reply_of n c (Op.CasPtr 0 0 2 r) ≡ Reply.Num 0 → after_op n c (Op.CasPtr 0 0 2 r) ≡ n
     leaves_all said = after_exchange false (bit_is_zero _ (same_is 0 said))

@@ -1,22 +1,18 @@
 -- Each operation of a caller keeps the invariant, and decides its job where it should.
-use Rattle.std.proofs.Common.{◌≡◌, ℕ, ◌<◌, true, List, refl, sym, ◌∙◌, None, Option}
 use Rattle.mk_stack.proofs.Vocabulary.{Asks, Done, Founded, Founding, NeverState, Op, Point, Replied, Reply, after_op}
 use Rattle.mk_stack.proofs.Vocabulary.{clear, fail, fill, find_no_room, follow, found, free, free_again, go_pop}
 use Rattle.mk_stack.proofs.Vocabulary.{go_push, lack, link, look, make, meet, miss, peek, place, pop_again, publish}
 use Rattle.mk_stack.proofs.Vocabulary.{push_again, read, reply_of, start, unlink}
-use Rattle.mk_never.specs.declared.operations.Op.TheVariants as op
-use Rattle.mk_never.specs.declared.operations.Reply.TheVariants as reply
-use Rattle.mk_stack.proofs.Roles.{Role}
-use Rattle.mk_stack.proofs.Invariant.{Local, IsHeld, Work, Inv}
+use Rattle.mk_laws.proofs.Vocabulary.{List, None, Option, ℕ, refl, sym, true, ◌<◌, ◌∙◌, ◌≡◌}
 use Rattle.mk_stack.proofs.Assembly.{Stepped, nothing}
-use Rattle.mk_stack.proofs.Registered.{by_nothing}
-use Rattle.mk_stack.proofs.StepParts.{done_is_not_double, idle}
-use Rattle.mk_stack.proofs.BeginSteps.{found_steps, place_steps, start_steps, lack_steps, go_push_steps, go_pop_steps}
-use Rattle.mk_stack.proofs.BeginSteps.{clear_steps}
-use Rattle.mk_stack.proofs.PushSteps.{make_steps, fail_steps, fill_steps, look_steps, link_steps, publish_steps}
+use Rattle.mk_stack.proofs.BeginSteps.{clear_steps, found_steps, go_pop_steps, go_push_steps, lack_steps, place_steps}
+use Rattle.mk_stack.proofs.BeginSteps.{start_steps}
+use Rattle.mk_stack.proofs.Invariant.{Inv, IsHeld, Local, Work}
+use Rattle.mk_stack.proofs.PopSteps.{follow_steps, free_replies, free_steps, meet_steps, miss_steps, peek_steps}
+use Rattle.mk_stack.proofs.PopSteps.{pop_again_steps, read_steps, unlink_steps}
+use Rattle.mk_stack.proofs.PushSteps.{fail_steps, fill_steps, link_steps, look_steps, make_steps, publish_steps}
 use Rattle.mk_stack.proofs.PushSteps.{push_again_steps}
-use Rattle.mk_stack.proofs.PopSteps.{peek_steps, miss_steps, meet_steps, follow_steps, unlink_steps, pop_again_steps}
-use Rattle.mk_stack.proofs.PopSteps.{free_steps, read_steps, free_replies}
+use Rattle.mk_stack.proofs.{Registered.by_nothing, Roles.Role, StepParts.done_is_not_double, StepParts.idle}
 
 module _ {callers : ℕ} {n : NeverState} {top : Option ℕ} {role : ℕ → Role} {nodes : List ℕ} {W : ℕ → Work}
     (inv : Inv callers n top role nodes W) (c : ℕ) (exists : c < callers) where
@@ -32,7 +28,7 @@ module _ {callers : ℕ} {n : NeverState} {top : Option ℕ} {role : ℕ → Rol
       → Local n top role c s u → Held s → reply_of n c o ≡ r → Goal s u o next rest (after_op n c o)
   steps s o r next found u rest local held said = found_steps inv c exists u rest local held
   steps s o r next find_no_room u rest local held said =
-      by_nothing inv c Founding u (op.New 0 1 true) Founded rest u None tt
+      by_nothing inv c Founding u (Op.New 0 1 true) Founded rest u None tt
       (idle inv c exists n Founding Founded (λ p. p) (λ f. f) held) refl nothing (λ b. refl)
   steps s o r next place u rest local held said = place_steps inv c exists u rest local held
   steps s o r next (start {j} {v}) u rest local held said = start_steps inv c exists j u rest local held
@@ -59,7 +55,7 @@ module _ {callers : ℕ} {n : NeverState} {top : Option ℕ} {role : ℕ → Rol
 
   -- No Free is answered Double.
   pub single : (s : Point) (o : Op) (r : Reply) (next : Point) → Asks s o r next → (u : Option Done)
-      → Local n top role c s u → reply_of n c o ≡ r → reply_of n c o ≡ reply.Double → ⊥
+      → Local n top role c s u → reply_of n c o ≡ r → reply_of n c o ≡ Reply.Double → ⊥
   single s o r next found u local said double = cc
   single s o r next find_no_room u local said double = cc
   single s o r next place u local said double = cc

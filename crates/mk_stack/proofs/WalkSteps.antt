@@ -1,26 +1,17 @@
 -- Each call of a walk is its next operation, and what its caller's registers hold after it.
-use Rattle.std.proofs.Common.{◌≡◌, ℕ, ◌+◌, List, [], ◌∷◌, ◌++◌, refl, sym, ◌∙◌, ap, subst, arith, append-nil}
-use Rattle.std.proofs.Common.{append_assoc}
-use Rattle.mk_stack.proofs.Vocabulary.{Advances, Asks, Called, HasStackTypes, HasWalked, HoldsDown, IsAtPoint}
+use Rattle.mk_stack.proofs.Vocabulary.{Advances, Answer, Asks, Called, HasStackTypes, HasWalked, HoldsDown, IsAtPoint}
 use Rattle.mk_stack.proofs.Vocabulary.{IsHistory, LeadsDown, Op, PassState, Point, Pop, Replied, Reply, Stays}
 use Rattle.mk_stack.proofs.Vocabulary.{caller_of_pass, node_kinds, numbers_read, replied_to, reply_of, value_of}
-use Rattle.mk_never.specs.declared.operations.Op.TheVariants as op
-use Rattle.mk_never.specs.declared.operations.Reply.TheVariants as reply
-use Rattle.mk_core.specs.declared.events.Answer.TheVariants as answer
+use Rattle.mk_laws.proofs.Vocabulary.{List, ℕ, ap, append-nil, append_assoc, arith, refl, subst, sym, [], ◌++◌, ◌+◌}
+use Rattle.mk_laws.proofs.Vocabulary.{◌∙◌, ◌∷◌, ◌≡◌}
 use Rattle.mk_caller.specs.Called.{IsAnswered}
-use Rattle.mk_stack.specs.declared.points.Point.TheVariants as point
-use Rattle.mk_stack.specs.declared.walking.Found.{Found}
-use Rattle.mk_stack.specs.declared.walking.WalkPoint.{WalkPoint}
-use Rattle.mk_stack.specs.declared.walking.WalkPoint.TheVariants as walk
-use Rattle.mk_stack.specs.Jobs as asked
-use Rattle.mk_stack.specs.Walks.{StepsDown, Walks, number_read, next_of, numbers_found, walk_point, start, lack, go}
-use Rattle.mk_stack.specs.Walks.{peek, stop, meet, read, descend}
-use Rattle.mk_stack.proofs.Going.{seen_then}
-use Rattle.mk_stack.proofs.NodeKinds.{node_link}
-use Rattle.mk_stack.proofs.Replies.{from_called}
-use Rattle.mk_stack.proofs.ReplyForms.{num_reply, word_reply}
 use Rattle.mk_stack.proofs.AtPoints.{holds_held, holds_on, other_on, points_on}
-use Rattle.mk_stack.proofs.Advances.{loaded}
+use Rattle.mk_stack.proofs.ReplyForms.{num_reply, word_reply}
+use Rattle.mk_stack.proofs.{Advances.loaded, Going.seen_then, NodeKinds.node_link, Replies.from_called}
+use Rattle.mk_stack.specs.Walks.{StepsDown, Walks, descend, go, lack, meet, next_of, number_read, numbers_found, peek}
+use Rattle.mk_stack.specs.Walks.{read, start, stop, walk_point}
+use Rattle.mk_stack.specs.{declared.walking.Found.Found, declared.walking.WalkPoint.WalkPoint}
+use Rattle.mk_stack.specs.Jobs as asked
 
 -- It begins as a pop does.
 
@@ -43,29 +34,31 @@ module _ (p q : PassState) where
         holds = so.2;
       }
 
-  pub starts_walk : (t : Point) → Advances p (point.Starting Pop) q t → StepsDown p walk.Starting [] q (walk_point t)
-  starts_walk t on = steps_so walk.Starting (point.Starting Pop) t by on
+  pub starts_walk : (t : Point) → Advances p (Point.Starting Pop) q t
+      → StepsDown p WalkPoint.Starting [] q (walk_point t)
+  starts_walk t on = steps_so WalkPoint.Starting (Point.Starting Pop) t by on
     where
-      by : (o : Op) (r : Reply) (x : Point) → Asks (point.Starting Pop) o r x → AsPop walk.Starting o r x
+      by : (o : Op) (r : Reply) (x : Point) → Asks (Point.Starting Pop) o r x → AsPop WalkPoint.Starting o r x
       by o r x (asked.start {v = v}) = λ holds. (start, refl, holds)
 
-  pub checks_walk : (t : Point) → Advances p (point.Checking Pop) q t → StepsDown p walk.Checking [] q (walk_point t)
-  checks_walk t on = steps_so walk.Checking (point.Checking Pop) t by on
+  pub checks_walk : (t : Point) → Advances p (Point.Checking Pop) q t
+      → StepsDown p WalkPoint.Checking [] q (walk_point t)
+  checks_walk t on = steps_so WalkPoint.Checking (Point.Checking Pop) t by on
     where
-      by : (o : Op) (r : Reply) (x : Point) → Asks (point.Checking Pop) o r x → AsPop walk.Checking o r x
+      by : (o : Op) (r : Reply) (x : Point) → Asks (Point.Checking Pop) o r x → AsPop WalkPoint.Checking o r x
       by o r x asked.lack = λ holds. (lack, refl, tt)
       by o r x asked.go_pop = λ holds. (go, refl, holds)
 
-  pub peeks_walk : (t : Point) → Advances p point.Peeking q t → StepsDown p walk.Peeking [] q (walk_point t)
-  peeks_walk t on = steps_so walk.Peeking point.Peeking t by on
+  pub peeks_walk : (t : Point) → Advances p Point.Peeking q t → StepsDown p WalkPoint.Peeking [] q (walk_point t)
+  peeks_walk t on = steps_so WalkPoint.Peeking Point.Peeking t by on
     where
-      by : (o : Op) (r : Reply) (x : Point) → Asks point.Peeking o r x → AsPop walk.Peeking o r x
+      by : (o : Op) (r : Reply) (x : Point) → Asks Point.Peeking o r x → AsPop WalkPoint.Peeking o r x
       by o r x (asked.peek {v = v}) = λ holds. (peek, refl, holds)
 
-  pub tests_walk : (t : Point) → Advances p point.Testing q t → StepsDown p walk.Testing [] q (walk_point t)
-  tests_walk t on = steps_so walk.Testing point.Testing t by on
+  pub tests_walk : (t : Point) → Advances p Point.Testing q t → StepsDown p WalkPoint.Testing [] q (walk_point t)
+  tests_walk t on = steps_so WalkPoint.Testing Point.Testing t by on
     where
-      by : (o : Op) (r : Reply) (x : Point) → Asks point.Testing o r x → AsPop walk.Testing o r x
+      by : (o : Op) (r : Reply) (x : Point) → Asks Point.Testing o r x → AsPop WalkPoint.Testing o r x
       by o r x asked.miss = λ holds. (stop, refl, tt)
       by o r x asked.meet = λ holds. (meet, refl, holds)
 
@@ -84,31 +77,31 @@ module _ (p q : PassState) (types : HasStackTypes p.table.config) (history : IsH
   abbrev k : ℕ
   k = caller_of_pass p
 
-  pub reads_number : (x : ℕ) → HoldsDown p walk.Reading → Called p (op.GetNum 2 0) (answer.Num x) q
-      → StepsDown p walk.Reading (x ∷ []) q walk.Descending
+  pub reads_number : (x : ℕ) → HoldsDown p WalkPoint.Reading → Called p (Op.GetNum 2 0) (Answer.Num x) q
+      → StepsDown p WalkPoint.Reading (x ∷ []) q WalkPoint.Descending
   reads_number x holds called =
       let h = from_called called refl history in
-      let replied : reply_of h.n k (op.GetNum 2 0) ≡ reply.Num x = num_reply h.bases x _ h.image in
+      let replied : reply_of h.n k (Op.GetNum 2 0) ≡ Reply.Num x = num_reply h.bases x _ h.image in
       record {
         is = h.is;
-        op = op.GetNum 2 0;
-        reply = reply_of h.n k (op.GetNum 2 0);
-        walks = subst (λ (r : Reply). Walks walk.Reading (op.GetNum 2 0) r walk.Descending) (sym replied) read;
-        reads = ap (number_read (op.GetNum 2 0)) replied;
+        op = Op.GetNum 2 0;
+        reply = reply_of h.n k (Op.GetNum 2 0);
+        walks = subst (λ (r : Reply). Walks WalkPoint.Reading (Op.GetNum 2 0) r WalkPoint.Descending) (sym replied) read;
+        reads = ap (number_read (Op.GetNum 2 0)) replied;
         did = h.did;
-        holds = holds_on called refl point.Following holds;
+        holds = holds_on called refl Point.Following holds;
       }
 
-  pub descends_walk : HoldsDown p walk.Descending → IsAnswered p (op.GetPtr 2 2 1) q
-      → StepsDown p walk.Descending [] q walk.Testing
+  pub descends_walk : HoldsDown p WalkPoint.Descending → IsAnswered p (Op.GetPtr 2 2 1) q
+      → StepsDown p WalkPoint.Descending [] q WalkPoint.Testing
   descends_walk holds called =
       let h = from_called called.called refl history in
       let v = word_reply h.bases called.word _ h.image in
       record {
         is = h.is;
-        op = op.GetPtr 2 2 1;
-        reply = reply_of h.n k (op.GetPtr 2 2 1);
-        walks = subst (λ (r : Reply). Walks walk.Descending (op.GetPtr 2 2 1) r walk.Testing) (sym v.is) descend;
+        op = Op.GetPtr 2 2 1;
+        reply = reply_of h.n k (Op.GetPtr 2 2 1);
+        walks = subst (λ (r : Reply). Walks WalkPoint.Descending (Op.GetPtr 2 2 1) r WalkPoint.Testing) (sym v.is) descend;
         reads = refl;
         did = h.did;
         holds = (
@@ -132,7 +125,7 @@ reads_more (x ∷ xs) y =
     ap (λ (l : List ℕ). number_read x.op x.reply ++ l) (reads_more xs y)
     ∙ sym (append_assoc (number_read x.op x.reply) (numbers_read xs) (number_read y.op y.reply))
 
-pub walked_nowhere : (p : PassState) → HasWalked p [] p walk.Starting
+pub walked_nowhere : (p : PassState) → HasWalked p [] p WalkPoint.Starting
 walked_nowhere p = record { is = refl; all = []; leads = refl; reads = refl; did = sym (append-nil (replied_to p)) }
 
 pub walked_more : {p q r : PassState} {numbers more : List ℕ} {s t : WalkPoint} → HasWalked p numbers q s
@@ -142,7 +135,7 @@ walked_more {p} {q} {r} {numbers} walked steps =
     record {
       is = seen_then p q r walked.is steps.is;
       all = walked.all ++ y ∷ [];
-      leads = leads_more walk.Starting walked.all y walked.leads steps.walks;
+      leads = leads_more WalkPoint.Starting walked.all y walked.leads steps.walks;
       reads =
           reads_more walked.all y ∙ ap (λ (l : List ℕ). l ++ number_read steps.op steps.reply) walked.reads
           ∙ ap (λ (l : List ℕ). numbers ++ l) steps.reads;
@@ -164,10 +157,10 @@ walked_held {p} {q} r walked on =
     }
 
 pub down_held : (q r : PassState) → Stays q r → (t : WalkPoint) → HoldsDown q t → HoldsDown r t
-down_held q r on walk.Starting h = tt
-down_held q r on walk.Checking h = holds_held q r on (point.Checking Pop) h
-down_held q r on walk.Peeking h = holds_held q r on point.Peeking h
-down_held q r on walk.Testing h = holds_held q r on point.Testing h
-down_held q r on walk.Reading h = holds_held q r on point.Following h
-down_held q r on walk.Descending h = holds_held q r on point.Following h
-down_held q r on walk.Ended h = tt
+down_held q r on WalkPoint.Starting h = tt
+down_held q r on WalkPoint.Checking h = holds_held q r on (Point.Checking Pop) h
+down_held q r on WalkPoint.Peeking h = holds_held q r on Point.Peeking h
+down_held q r on WalkPoint.Testing h = holds_held q r on Point.Testing h
+down_held q r on WalkPoint.Reading h = holds_held q r on Point.Following h
+down_held q r on WalkPoint.Descending h = holds_held q r on Point.Following h
+down_held q r on WalkPoint.Ended h = tt

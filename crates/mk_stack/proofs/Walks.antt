@@ -1,22 +1,15 @@
 -- What a walk down a stack reads is what is on it.
-use Rattle.std.proofs.Common.{◌≡◌, ◌≢◌, ℕ, ◌+◌, ◌*◌, ◌<◌, Bool, true, false, List, [], ◌∷◌, ◌++◌, length, refl, sym}
-use Rattle.std.proofs.Common.{◌∙◌, ap, subst, arith}
-use Rattle.std.specs.Prelude.{if◌then◌else◌, map}
-use Rattle.std.proofs.lemmas.Bool.{eq-eqb}
-use Rattle.std.proofs.lemmas.List.{length-set}
 use Rattle.mk_stack.proofs.Vocabulary.{Allocation, AreAllBy, Call, LeadsDown, NeverState, Null, Num, Op, Ptr, Replied}
 use Rattle.mk_stack.proofs.Vocabulary.{Reply, Target, Unmapped, Value, WordOf, after_op, allocation_at, bit, global_at}
 use Rattle.mk_stack.proofs.Vocabulary.{is_same, is_unmapped, left_at, number_of, numbers_in, numbers_read, own_replied}
 use Rattle.mk_stack.proofs.Vocabulary.{register_at, reply_at, reply_of, target_of, with_register, word_at}
-use Rattle.mk_never.specs.declared.operations.Op.TheVariants as op
-use Rattle.mk_never.specs.declared.operations.Reply.TheVariants as reply
-use Rattle.mk_stack.specs.declared.walking.WalkPoint.{WalkPoint}
-use Rattle.mk_stack.specs.declared.walking.WalkPoint.TheVariants as walk
-use Rattle.mk_stack.specs.Laws.{AreLinked, uppermost}
-use Rattle.mk_stack.specs.Looks.{IsLook, AreLooks}
-use Rattle.mk_stack.specs.Walks.{Walks, start, lack, go, peek, stop, meet, read, descend, number_told, number_read}
-use Rattle.mk_stack.specs.Walks.{WalksReadTheStack}
+use Rattle.mk_laws.proofs.Vocabulary.{Bool, List, ℕ, ap, arith, eq-eqb, false, if◌then◌else◌, length, length-set, map}
+use Rattle.mk_laws.proofs.Vocabulary.{refl, subst, sym, true, [], ◌*◌, ◌++◌, ◌+◌, ◌<◌, ◌∙◌, ◌∷◌, ◌≡◌, ◌≢◌}
 use Rattle.mk_stack.proofs.Heaps.{set_register}
+use Rattle.mk_stack.specs.Laws.{AreLinked, uppermost}
+use Rattle.mk_stack.specs.Walks.{Walks, WalksReadTheStack, descend, go, lack, meet, number_read, number_told, peek}
+use Rattle.mk_stack.specs.Walks.{read, start, stop}
+use Rattle.mk_stack.specs.{Looks.AreLooks, Looks.IsLook, declared.walking.WalkPoint.WalkPoint}
 
 -- the operations of one caller, with their replies
 abbrev each : ℕ → NeverState → List Op → List Replied
@@ -43,35 +36,39 @@ own_is_each k n (x ∷ xs) all =
 
 -- What is asked at each point
 
-by_starting : (P : Op → Reply → WalkPoint → Type 0) → ((v : Value) → P (op.GetGlobal 0 0) (reply.Val v) walk.Checking)
-    → {o : Op} {r : Reply} {t : WalkPoint} → Walks walk.Starting o r t → P o r t
+by_starting : (P : Op → Reply → WalkPoint → Type 0)
+    → ((v : Value) → P (Op.GetGlobal 0 0) (Reply.Val v) WalkPoint.Checking)
+    → {o : Op} {r : Reply} {t : WalkPoint} → Walks WalkPoint.Starting o r t → P o r t
 by_starting P a (start {v}) = a v
 
-by_checking : (P : Op → Reply → WalkPoint → Type 0) → P (op.IsNull 0) (reply.Num 1) walk.Ended
-    → P (op.IsNull 0) (reply.Num 0) walk.Peeking → {o : Op} {r : Reply} {t : WalkPoint} → Walks walk.Checking o r t
+by_checking : (P : Op → Reply → WalkPoint → Type 0) → P (Op.IsNull 0) (Reply.Num 1) WalkPoint.Ended
+    → P (Op.IsNull 0) (Reply.Num 0) WalkPoint.Peeking → {o : Op} {r : Reply} {t : WalkPoint}
+    → Walks WalkPoint.Checking o r t
     → P o r t
 by_checking P a b lack = a
 by_checking P a b go = b
 
-by_peeking : (P : Op → Reply → WalkPoint → Type 0) → ((v : Value) → P (op.GetPtr 2 0 0) (reply.Val v) walk.Testing)
-    → {o : Op} {r : Reply} {t : WalkPoint} → Walks walk.Peeking o r t → P o r t
+by_peeking : (P : Op → Reply → WalkPoint → Type 0) → ((v : Value) → P (Op.GetPtr 2 0 0) (Reply.Val v) WalkPoint.Testing)
+    → {o : Op} {r : Reply} {t : WalkPoint} → Walks WalkPoint.Peeking o r t → P o r t
 by_peeking P a (peek {v}) = a v
 
-by_testing : (P : Op → Reply → WalkPoint → Type 0) → P (op.IsNull 2) (reply.Num 1) walk.Ended
-    → P (op.IsNull 2) (reply.Num 0) walk.Reading → {o : Op} {r : Reply} {t : WalkPoint} → Walks walk.Testing o r t
+by_testing : (P : Op → Reply → WalkPoint → Type 0) → P (Op.IsNull 2) (Reply.Num 1) WalkPoint.Ended
+    → P (Op.IsNull 2) (Reply.Num 0) WalkPoint.Reading → {o : Op} {r : Reply} {t : WalkPoint}
+    → Walks WalkPoint.Testing o r t
     → P o r t
 by_testing P a b stop = a
 by_testing P a b meet = b
 
-by_reading : (P : Op → Reply → WalkPoint → Type 0) → ((x : ℕ) → P (op.GetNum 2 0) (reply.Num x) walk.Descending)
-    → {o : Op} {r : Reply} {t : WalkPoint} → Walks walk.Reading o r t → P o r t
+by_reading : (P : Op → Reply → WalkPoint → Type 0) → ((x : ℕ) → P (Op.GetNum 2 0) (Reply.Num x) WalkPoint.Descending)
+    → {o : Op} {r : Reply} {t : WalkPoint} → Walks WalkPoint.Reading o r t → P o r t
 by_reading P a (read {n = x}) = a x
 
-by_descending : (P : Op → Reply → WalkPoint → Type 0) → ((v : Value) → P (op.GetPtr 2 2 1) (reply.Val v) walk.Testing)
-    → {o : Op} {r : Reply} {t : WalkPoint} → Walks walk.Descending o r t → P o r t
+by_descending : (P : Op → Reply → WalkPoint → Type 0)
+    → ((v : Value) → P (Op.GetPtr 2 2 1) (Reply.Val v) WalkPoint.Testing)
+    → {o : Op} {r : Reply} {t : WalkPoint} → Walks WalkPoint.Descending o r t → P o r t
 by_descending P a (descend {v}) = a v
 
-not_from_end : {s : WalkPoint} {o : Op} {r : Reply} {t : WalkPoint} → Walks s o r t → s ≡ walk.Ended → ⊥
+not_from_end : {s : WalkPoint} {o : Op} {r : Reply} {t : WalkPoint} → Walks s o r t → s ≡ WalkPoint.Ended → ⊥
 not_from_end (start) e = cc
 not_from_end lack e = cc
 not_from_end go e = cc
@@ -82,7 +79,7 @@ not_from_end (read {n = x}) e = cc
 not_from_end (descend) e = cc
 
 -- Behind its end a walk asks nothing.
-at_end : (k : ℕ) (m : NeverState) (os : List Op) (t : WalkPoint) → LeadsDown walk.Ended (each k m os) t
+at_end : (k : ℕ) (m : NeverState) (os : List Op) (t : WalkPoint) → LeadsDown WalkPoint.Ended (each k m os) t
     → numbers_read (each k m os) ≡ []
 at_end k m [] t leads = refl
 at_end k m (o ∷ os) t leads = absurd (not_from_end leads.1 refl)
@@ -90,7 +87,7 @@ at_end k m (o ∷ os) t leads = absurd (not_from_end leads.1 refl)
 -- A load that was answered found its word.
 
 mapped : (m : NeverState) (a ty i j : ℕ) (at : ℕ → ℕ → Reply) (r : Reply)
-    → reply_at (target_of m (Ptr a ty i) j) at ≡ r → r ≢ reply.Fault → is_unmapped (allocation_at m a) ≡ false
+    → reply_at (target_of m (Ptr a ty i) j) at ≡ r → r ≢ Reply.Fault → is_unmapped (allocation_at m a) ≡ false
 mapped m a ty i j at r said is = by (is_unmapped (allocation_at m a)) said
   where
     by : (b : Bool) → reply_at (if b then Unmapped else WordOf a (i + j)) at ≡ r → b ≡ false
@@ -104,24 +101,24 @@ target m a ty i j is = ap (λ (b : Bool). if b then Unmapped else WordOf a (i + 
 same_word : (n m : NeverState) (a i : ℕ) → m.allocations ≡ n.allocations → word_at m a i ≡ word_at n a i
 same_word n m a i same = ap (λ (l : List Allocation). word_at (record m { allocations = l }) a i) same
 
-num_is : (x y : ℕ) → reply.Num x ≡ reply.Num y → x ≡ y
+num_is : (x y : ℕ) → Reply.Num x ≡ Reply.Num y → x ≡ y
 num_is x y e = cc
 
-num_is_no_fault : (x : ℕ) → reply.Num x ≢ reply.Fault
+num_is_no_fault : (x : ℕ) → Reply.Num x ≢ Reply.Fault
 num_is_no_fault x e = cc
 
-val_is_no_fault : (v : Value) → reply.Val v ≢ reply.Fault
+val_is_no_fault : (v : Value) → Reply.Val v ≢ Reply.Fault
 val_is_no_fault v e = cc
 
 says_null : (m : NeverState) (k r x : ℕ) (v : Value) → register_at m k r ≡ v
-    → reply_of m k (op.IsNull r) ≡ reply.Num x → bit (is_same v Null) ≡ x
+    → reply_of m k (Op.IsNull r) ≡ Reply.Num x → bit (is_same v Null) ≡ x
 says_null m k r x v is said =
     ap (λ (u : Value). bit (is_same u Null)) (sym is) ∙ num_is (bit (is_same (register_at m k r) Null)) x said
 
 differ : (x y : ℕ) → x < y → x ≡ y → ⊥
 differ x y lt e = omega (arith, lt, e)
 
-null_is_no_val : (v : Value) → reply.Null ≡ reply.Val v → ⊥
+null_is_no_val : (v : Value) → Reply.Null ≡ Reply.Val v → ⊥
 null_is_no_val v e = cc
 
 null_is_no_pointer : (a : ℕ) → Null ≡ Ptr a 0 0 → ⊥
@@ -130,15 +127,16 @@ null_is_no_pointer a e = cc
 -- A number more, and the walk goes on.
 module _ (n : NeverState) (k : ℕ) where
   abbrev Down : NeverState → List Op → List ℕ → Type 0
-  Down m os nodes = LeadsDown walk.Testing (each k m os) walk.Ended → numbers_read (each k m os) ≡ numbers_in n nodes
+  Down m os nodes = LeadsDown WalkPoint.Testing (each k m os) WalkPoint.Ended
+      → numbers_read (each k m os) ≡ numbers_in n nodes
 
   abbrev Asked : NeverState → List Op → List ℕ → Op → Reply → WalkPoint → Type 0
   Asked m os told o r t =
-      reply_of m k o ≡ r → LeadsDown t (each k (after_op m k o) os) walk.Ended
+      reply_of m k o ≡ r → LeadsDown t (each k (after_op m k o) os) WalkPoint.Ended
       → number_read o (reply_of m k o) ++ numbers_read (each k (after_op m k o) os) ≡ told
 
   next_register : (m : NeverState) (a : ℕ) → 8 * k + 7 < length m.registers → register_at m k 2 ≡ Ptr a 0 0
-      → is_unmapped (allocation_at m a) ≡ false → after_op m k (op.GetPtr 2 2 1) ≡ with_register m k 2 (word_at m a 1)
+      → is_unmapped (allocation_at m a) ≡ false → after_op m k (Op.GetPtr 2 2 1) ≡ with_register m k 2 (word_at m a 1)
   next_register m a room is there =
       ap (λ (t : Target). left_at t (with_register m k 2 Null) (λ a w. with_register m k 2 (word_at m a w)))
       (ap (λ (v : Value). target_of m v 1) is ∙ target m a 0 0 1 there)
@@ -152,13 +150,13 @@ module _ (n : NeverState) (k : ℕ) where
 
   descends : (a : ℕ) (nodes : List ℕ) → Goes (word_at n a 1) nodes → (m : NeverState) (os : List Op)
       → Ready m (Ptr a 0 0) → is_unmapped (allocation_at m a) ≡ false
-      → LeadsDown walk.Descending (each k m os) walk.Ended → numbers_read (each k m os) ≡ numbers_in n nodes
+      → LeadsDown WalkPoint.Descending (each k m os) WalkPoint.Ended → numbers_read (each k m os) ≡ numbers_in n nodes
   descends a nodes goes m [] ready there leads = absurd (none leads)
     where
-      none : walk.Descending ≡ walk.Ended → ⊥
+      none : WalkPoint.Descending ≡ WalkPoint.Ended → ⊥
       none e = cc
   descends a nodes goes m (o ∷ os) ready there leads =
-      by_descending (Asked m os (numbers_in n nodes)) (λ v said rest. goes (after_op m k (op.GetPtr 2 2 1)) os
+      by_descending (Asked m os (numbers_in n nodes)) (λ v said rest. goes (after_op m k (Op.GetPtr 2 2 1)) os
       (subst (λ (s : NeverState). Ready s (word_at n a 1)) (sym (next_register m a ready.1 ready.2 there)) (
         ready.0,
         omega (arith, ready.1, length-set m.registers (8 * k + 2) (word_at m a 1)),
@@ -166,18 +164,18 @@ module _ (n : NeverState) (k : ℕ) where
       )) rest) leads.1 refl leads.2
 
   reads : (a : ℕ) (nodes : List ℕ) → Goes (word_at n a 1) nodes → (m : NeverState) (os : List Op)
-      → Ready m (Ptr a 0 0) → LeadsDown walk.Reading (each k m os) walk.Ended
+      → Ready m (Ptr a 0 0) → LeadsDown WalkPoint.Reading (each k m os) WalkPoint.Ended
       → numbers_read (each k m os) ≡ number_of (word_at n a 0) ∷ numbers_in n nodes
   reads a nodes goes m [] ready leads = absurd (none leads)
     where
-      none : walk.Reading ≡ walk.Ended → ⊥
+      none : WalkPoint.Reading ≡ WalkPoint.Ended → ⊥
       none e = cc
   reads a nodes goes m (o ∷ os) ready leads =
       by_reading (Asked m os (number_of (word_at n a 0) ∷ numbers_in n nodes)) (λ x said rest.
-      let at : ℕ → ℕ → Reply = λ b w. reply.Num (number_of (word_at m b w)) in
-      let told : reply_at (target_of m (Ptr a 0 0) 0) at ≡ reply.Num x =
+      let at : ℕ → ℕ → Reply = λ b w. Reply.Num (number_of (word_at m b w)) in
+      let told : reply_at (target_of m (Ptr a 0 0) 0) at ≡ Reply.Num x =
       ap (λ (v : Value). reply_at (target_of m v 0) at) (sym ready.2) ∙ said in
-      let there = mapped m a 0 0 0 at (reply.Num x) told (num_is_no_fault x) in
+      let there = mapped m a 0 0 0 at (Reply.Num x) told (num_is_no_fault x) in
       let number : number_of (word_at n a 0) ≡ x =
       ap number_of (sym (same_word n m a 0 ready.0)) ∙ num_is (number_of (word_at m a 0)) x
       (sym (ap (λ (t : Target). reply_at t at) (target m a 0 0 0 there)) ∙ told) in
@@ -189,10 +187,10 @@ module _ (n : NeverState) (k : ℕ) where
   down : (v : Value) (nodes : List ℕ) → AreLinked n v nodes → Goes v nodes
   down v nodes linked m [] ready leads = absurd (none leads)
     where
-      none : walk.Testing ≡ walk.Ended → ⊥
+      none : WalkPoint.Testing ≡ WalkPoint.Ended → ⊥
       none e = cc
   down v [] linked m (o ∷ os) ready leads =
-      by_testing (Asked m os []) (λ said rest. at_end k m os walk.Ended rest)
+      by_testing (Asked m os []) (λ said rest. at_end k m os WalkPoint.Ended rest)
       (λ said rest. absurd (differ 0 1 (omega arith) (sym (says_null m k 2 0 Null (ready.2 ∙ linked) said)))) leads.1
       refl leads.2
   down v (a ∷ nodes) linked m (o ∷ os) ready leads =
@@ -207,22 +205,22 @@ module _ (n : NeverState) (k : ℕ) where
   HasTop m v = (m.allocations ≡ n.allocations) × (8 * k + 7 < length m.registers) × (register_at m k 0 ≡ v)
 
   loads : (v : Value) (nodes : List ℕ) → AreLinked n (uppermost n v) nodes → (m : NeverState) (os : List Op)
-      → HasTop m v → (w : Value) → Asked m os (numbers_in n nodes) (op.GetPtr 2 0 0) (reply.Val w) walk.Testing
+      → HasTop m v → (w : Value) → Asked m os (numbers_in n nodes) (Op.GetPtr 2 0 0) (Reply.Val w) WalkPoint.Testing
   loads Null nodes linked m os top w said rest =
-      absurd (null_is_no_val w (sym (ap (λ (u : Value). reply_at (target_of m u 0) (λ a i. reply.Val (word_at m a i)))
+      absurd (null_is_no_val w (sym (ap (λ (u : Value). reply_at (target_of m u 0) (λ a i. Reply.Val (word_at m a i)))
       top.2) ∙ said))
   loads (Num x) nodes linked m os top w said rest =
-      absurd (null_is_no_val w (sym (ap (λ (u : Value). reply_at (target_of m u 0) (λ a i. reply.Val (word_at m a i)))
+      absurd (null_is_no_val w (sym (ap (λ (u : Value). reply_at (target_of m u 0) (λ a i. Reply.Val (word_at m a i)))
       top.2) ∙ said))
   loads (Ptr t ty i) nodes linked m os top w said rest =
-      let at : ℕ → ℕ → Reply = λ a j. reply.Val (word_at m a j) in
-      let there = mapped m t ty i 0 at (reply.Val w)
+      let at : ℕ → ℕ → Reply = λ a j. Reply.Val (word_at m a j) in
+      let there = mapped m t ty i 0 at (Reply.Val w)
       (ap (λ (u : Value). reply_at (target_of m u 0) at) (sym top.2) ∙ said) (val_is_no_fault w) in
-      let after : after_op m k (op.GetPtr 2 0 0) ≡ with_register m k 2 (word_at m t (i + 0)) =
+      let after : after_op m k (Op.GetPtr 2 0 0) ≡ with_register m k 2 (word_at m t (i + 0)) =
       ap (λ (u : Target). left_at u (with_register m k 2 Null) (λ a w. with_register m k 2 (word_at m a w)))
       (ap (λ (u : Value). target_of m u 0) top.2 ∙ target m t ty i 0 there) in
       let same : word_at m t (i + 0) ≡ word_at n t i = same_word n m t (i + 0) top.0 ∙ ap (word_at n t) (omega arith) in
-      down (word_at n t i) nodes linked (after_op m k (op.GetPtr 2 0 0)) os
+      down (word_at n t i) nodes linked (after_op m k (Op.GetPtr 2 0 0)) os
       (subst (λ (s : NeverState). Ready s (word_at n t i)) (sym after) (
         top.0,
         omega (arith, top.1, length-set m.registers (8 * k + 2) (word_at m t (i + 0))),
@@ -230,17 +228,18 @@ module _ (n : NeverState) (k : ℕ) where
       )) rest
 
   peeks : (v : Value) (nodes : List ℕ) → AreLinked n (uppermost n v) nodes → (m : NeverState) (os : List Op)
-      → HasTop m v → LeadsDown walk.Peeking (each k m os) walk.Ended → numbers_read (each k m os) ≡ numbers_in n nodes
+      → HasTop m v → LeadsDown WalkPoint.Peeking (each k m os) WalkPoint.Ended
+      → numbers_read (each k m os) ≡ numbers_in n nodes
   peeks v nodes linked m [] top leads = absurd (none leads)
     where
-      none : walk.Peeking ≡ walk.Ended → ⊥
+      none : WalkPoint.Peeking ≡ WalkPoint.Ended → ⊥
       none e = cc
   peeks v nodes linked m (o ∷ os) top leads =
       by_peeking (Asked m os (numbers_in n nodes)) (loads v nodes linked m os top) leads.1 refl leads.2
 
   lacks : (v : Value) (nodes : List ℕ) → AreLinked n (uppermost n v) nodes → (m : NeverState) (os : List Op)
-      → HasTop m v → Asked m os (numbers_in n nodes) (op.IsNull 0) (reply.Num 1) walk.Ended
-  lacks Null [] linked m os top said rest = at_end k m os walk.Ended rest
+      → HasTop m v → Asked m os (numbers_in n nodes) (Op.IsNull 0) (Reply.Num 1) WalkPoint.Ended
+  lacks Null [] linked m os top said rest = at_end k m os WalkPoint.Ended rest
   lacks Null (a ∷ nodes) linked m os top said rest = absurd (null_is_no_pointer a linked.0)
   lacks (Num x) nodes linked m os top said rest =
       absurd (differ 0 1 (omega arith) (says_null m k 0 1 (Num x) top.2 said))
@@ -248,21 +247,22 @@ module _ (n : NeverState) (k : ℕ) where
       absurd (differ 0 1 (omega arith) (says_null m k 0 1 (Ptr t ty i) top.2 said))
 
   checks : (v : Value) (nodes : List ℕ) → AreLinked n (uppermost n v) nodes → (m : NeverState) (os : List Op)
-      → HasTop m v → LeadsDown walk.Checking (each k m os) walk.Ended → numbers_read (each k m os) ≡ numbers_in n nodes
+      → HasTop m v → LeadsDown WalkPoint.Checking (each k m os) WalkPoint.Ended
+      → numbers_read (each k m os) ≡ numbers_in n nodes
   checks v nodes linked m [] top leads = absurd (none leads)
     where
-      none : walk.Checking ≡ walk.Ended → ⊥
+      none : WalkPoint.Checking ≡ WalkPoint.Ended → ⊥
       none e = cc
   checks v nodes linked m (o ∷ os) top leads =
       by_checking (Asked m os (numbers_in n nodes)) (lacks v nodes linked m os top)
       (λ said rest. peeks v nodes linked m os top rest) leads.1 refl leads.2
 
   starts : (nodes : List ℕ) → AreLinked n (uppermost n (global_at n 0)) nodes → 8 * k + 7 < length n.registers
-      → (os : List Op) → LeadsDown walk.Starting (each k n os) walk.Ended
+      → (os : List Op) → LeadsDown WalkPoint.Starting (each k n os) WalkPoint.Ended
       → numbers_read (each k n os) ≡ numbers_in n nodes
   starts nodes linked room [] leads = absurd (none leads)
     where
-      none : walk.Starting ≡ walk.Ended → ⊥
+      none : WalkPoint.Starting ≡ WalkPoint.Ended → ⊥
       none e = cc
   starts nodes linked room (o ∷ os) leads =
       by_starting (Asked n os (numbers_in n nodes)) (λ v said rest.
@@ -292,8 +292,8 @@ are_looks k m s t (x ∷ xs) leads = (is_look leads.1, are_looks k (after_op m k
 pub walks_read_the_stack : WalksReadTheStack
 walks_read_the_stack n k xs nodes room all linked leads =
     let is = own_is_each k n xs all in
-    let each_leads : LeadsDown walk.Starting (each k n (ops_of xs)) walk.Ended =
-    subst (λ (l : List Replied). LeadsDown walk.Starting l walk.Ended) is leads in (
-      are_looks k n walk.Starting walk.Ended xs each_leads,
+    let each_leads : LeadsDown WalkPoint.Starting (each k n (ops_of xs)) WalkPoint.Ended =
+    subst (λ (l : List Replied). LeadsDown WalkPoint.Starting l WalkPoint.Ended) is leads in (
+      are_looks k n WalkPoint.Starting WalkPoint.Ended xs each_leads,
       ap numbers_read is ∙ starts n k nodes linked room (ops_of xs) each_leads,
     )

@@ -1,16 +1,13 @@
 -- A caller writes to a node of its own.
-use Rattle.std.proofs.Common.{◌≡◌, ◌≢◌, ℕ, ◌<◌, ◌≤◌, List, length, length-set, get_or, refl, sym, ◌∙◌, ap, subst, arith}
-use Rattle.std.proofs.Common.{None, Option, inl, inr}
-use Rattle.std.specs.Prelude.{◌⊎◌}
-use Rattle.std.proofs.lemmas.Bool.{cases_eq, cases_lt}
 use Rattle.mk_stack.proofs.Vocabulary.{Done, NeverState, Null, Op, Point, Replied, Value, freed_by, with_word, word_at}
 use Rattle.mk_stack.proofs.Vocabulary.{words_of}
-use Rattle.mk_stack.proofs.Heaps.{other_words, written_size, written_flag, written_type}
-use Rattle.mk_stack.proofs.Roles.{Role, Unborn, Base, Private, Stacked, Taken, RoleKeeps, same_role}
-use Rattle.mk_stack.proofs.Invariant.{Core, HasChain, Local, IsHeld, Work, Inv}
-use Rattle.mk_stack.proofs.Frames.{Leaves}
-use Rattle.mk_stack.proofs.Chains.{has_chain_stays, all_numbers_stay}
-use Rattle.mk_stack.proofs.Assembly.{nothing, moved, Stepped, assemble, same_before}
+use Rattle.mk_laws.proofs.Vocabulary.{List, None, Option, ℕ, ap, arith, cases_eq, cases_lt, get_or, inl, inr, length}
+use Rattle.mk_laws.proofs.Vocabulary.{length-set, refl, subst, sym, ◌<◌, ◌∙◌, ◌≡◌, ◌≢◌, ◌≤◌, ◌⊎◌}
+use Rattle.mk_stack.proofs.Assembly.{Stepped, assemble, moved, nothing, same_before}
+use Rattle.mk_stack.proofs.Heaps.{other_words, written_flag, written_size, written_type}
+use Rattle.mk_stack.proofs.Invariant.{Core, HasChain, Inv, IsHeld, Local, Work}
+use Rattle.mk_stack.proofs.Roles.{Base, Private, Role, RoleKeeps, Stacked, Taken, Unborn, same_role}
+use Rattle.mk_stack.proofs.{Chains.all_numbers_stay, Chains.has_chain_stays, Frames.Leaves}
 
 -- Roles are apart.
 

@@ -1,32 +1,21 @@
 -- What others do beside a turn whose pass has the seats of all markers: they mark nothing, and take no step of a
 -- holder.
-use Rattle.std.proofs.Common.{◌≡◌, ◌≢◌, ℕ, ◌+◌, ◌<◌, Bool, true, false, List, [], ◌∷◌, ◌++◌, refl, sym, ◌∙◌, ap, subst}
-use Rattle.std.proofs.Common.{inl, inr, arith}
-use Rattle.std.specs.Prelude.{⊤, slice_index}
-use Rattle.std.specs.List.{list_any}
-use Rattle.std.proofs.lemmas.Bool.{cases_Bool, false_from_ne_true, true≢false}
+use Rattle.std.specs.Prelude.{⊤}
 use Rattle.mk_sweep.proofs.Vocabulary.{Caller, Cell, Config, Event, HasMarkers, Holds, Host, Marker, Moment, Seat}
 use Rattle.mk_sweep.proofs.Vocabulary.{Steady, Step, Words, World, has_bit, is_marked, world_behind}
-use Rattle.mk_core.specs.Enabled.{IsEnabled}
-use Rattle.mk_core.specs.Growing.{is_one_of, is_same_seat}
-use Rattle.mk_core.specs.History.{AreEnabledFrom, left_from}
-use Rattle.mk_core.specs.Moments.{holder_number}
-use Rattle.mk_core.proofs.Conditions.{enabled_meets}
-use Rattle.mk_laws.proofs.Actors.{is_holders}
+use Rattle.mk_laws.proofs.Vocabulary.{Bool, IsEnabled, List, ℕ, ap, arith, cases_Bool, enabled_meets, false}
+use Rattle.mk_laws.proofs.Vocabulary.{false_from_ne_true, holder_number, inl, inr, is_one_of, list_any, refl}
+use Rattle.mk_laws.proofs.Vocabulary.{slice_index, subst, sym, true, true≢false, [], ◌++◌, ◌+◌, ◌<◌, ◌∙◌, ◌∷◌, ◌≡◌, ◌≢◌}
+use Rattle.mk_core.specs.{Growing.is_same_seat, History.AreEnabledFrom, History.left_from}
 use Rattle.mk_laws.proofs.Known.{Known, holds_turn, known_behind}
-use Rattle.mk_laws.proofs.Orderly.{same_holder, turn_of}
-use Rattle.mk_laws.proofs.OrderlyLists.{actor_of}
-use Rattle.mk_laws.proofs.OthersMoves.{CallLoads, CallWrite, Calls, Marks, OthersMove, Waits, WorldBehind, others_move}
-use Rattle.mk_laws.proofs.Protocols.{protocol_of}
-use Rattle.mk_laws.proofs.TurnFrame.{turn_after}
-use Rattle.mk_laws.proofs.Views.{HoldsTurn, view_of}
-use Rattle.mk_laws.proofs.FramesHolders.{acts_as_holder}
-use Rattle.mk_laws.proofs.PrecisionStepKinds.{both_fail}
-use Rattle.mk_laws.proofs.Stretches.{None_of}
-use Rattle.mk_words.proofs.Seats.{not_both, same_self}
-use Rattle.mk_turns.specs.Doing.{AreOwnOrOfOthers}
-use Rattle.mk_tracing.specs.Tracing.{OwnStepsKeep}
+use Rattle.mk_laws.proofs.OthersMoves.{CallLoads, Calls, CallWrite, Marks, OthersMove, Waits, WorldBehind, others_move}
+use Rattle.mk_laws.proofs.{Actors.is_holders, FramesHolders.acts_as_holder, Orderly.same_holder, Orderly.turn_of}
+use Rattle.mk_laws.proofs.{OrderlyLists.actor_of, PrecisionStepKinds.both_fail, Protocols.protocol_of}
+use Rattle.mk_laws.proofs.{Stretches.None_of, TurnFrame.turn_after, Views.HoldsTurn, Views.view_of}
 use Rattle.mk_sweep.specs.Unswept.{LeaveUnmarked, OthersLeaveUnmarked}
+use Rattle.mk_tracing.specs.Tracing.{OwnStepsKeep}
+use Rattle.mk_turns.specs.Doing.{AreOwnOrOfOthers}
+use Rattle.mk_words.proofs.Seats.{not_both, same_self}
 
 -- The turn word names a seat that may hold the turn, so it does.
 

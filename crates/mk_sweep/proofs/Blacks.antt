@@ -1,15 +1,12 @@
 -- Marked cells are blackened, one after the other.
-use Rattle.std.proofs.Common.{◌≡◌, ◌∙◌, ℕ, ◌+◌, ◌^◌, ◌<◌, Bool, true, false, List, length, refl, sym, ap, subst, inl}
-use Rattle.std.proofs.Common.{inr, arith}
-use Rattle.std.specs.Prelude.{slice_index, ◌&&◌, ◌||◌, nat_lt}
-use Rattle.std.proofs.lemmas.Bool.{and_from, cases_lt, lt-ltb}
 use Rattle.mk_sweep.proofs.Vocabulary.{BlacksMore, Cell, CellsAreClosed, Config, PageIsBlack, PassState, Words}
 use Rattle.mk_sweep.proofs.Vocabulary.{cell_words, cells_under, first_word, has_bit, has_no_pointers, header_in}
 use Rattle.mk_sweep.proofs.Vocabulary.{is_marked, still_words, word_points_well}
-use Rattle.mk_core.specs.Cells.{words_point_well}
-use Rattle.mk_core.specs.StopConditions.{may_turn_black}
-use Rattle.mk_core.proofs.Lengths.{histories_keep_lengths}
+use Rattle.mk_laws.proofs.Vocabulary.{Bool, List, ℕ, and_from, ap, arith, cases_lt, false, histories_keep_lengths, inl}
+use Rattle.mk_laws.proofs.Vocabulary.{inr, length, lt-ltb, nat_lt, refl, slice_index, subst, sym, true, ◌&&◌, ◌+◌, ◌<◌}
+use Rattle.mk_laws.proofs.Vocabulary.{◌^◌, ◌||◌, ◌∙◌, ◌≡◌}
 use Rattle.mk_core.proofs.WordBits.{bit_for_has, bit_for_small, bits_added, bits_stay}
+use Rattle.mk_core.specs.{Cells.words_point_well, StopConditions.may_turn_black}
 use Rattle.mk_laws.proofs.Tests.{all_below_from}
 use Rattle.mk_tracing.specs.Grays.{is_black, with_blacks}
 

@@ -1,18 +1,15 @@
 -- How often a number stands in the words of cells and pages.
-use Rattle.std.proofs.Common.{◌≡◌, ◌≢◌, ◌⊎◌, ◌∙◌, ℕ, zero, suc, ◌+◌, ◌*◌, ◌-◌, ◌<◌, ◌≤◌, Bool, true, false, cond, List}
-use Rattle.std.proofs.Common.{[], ◌∷◌, ◌++◌, length, get_or, count_by, sum_by, refl, sym, ap, subst, inl, inr, arith}
-use Rattle.std.proofs.Common.{le_refl, length-append}
-use Rattle.std.specs.Prelude.{◌==◌, ◌&&◌, nat_le, nat_lt, filter, if◌then◌else◌}
-use Rattle.std.specs.List.{Contains, range_with_len}
-use Rattle.std.proofs.lemmas.Bool.{and_from, and_parts, cases_eq, cases_lt, cases_order, eq-eqb, le-leb, leb-true}
-use Rattle.std.proofs.lemmas.Bool.{lt-ltb, ltb-true, ne_eqb, true≢false}
-use Rattle.std.proofs.lemmas.List.FromFn.{length-range_with_len}
+use Rattle.std.proofs.Common.{count_by, filter, le_refl, length-append, sum_by}
 use Rattle.std.proofs.lemmas.List.Sums.{sum_by-append, sum_by-cons}
-use Rattle.std.proofs.lemmas.Nat.{mul-le}
+use Rattle.std.proofs.{lemmas.Bool.cases_order, lemmas.List.FromFn.length-range_with_len}
+use Rattle.std.specs.List.{Contains, range_with_len}
 use Rattle.mk_sweep.proofs.Vocabulary.{Words, cells_under, has_bit, has_no_pointers, header_in, used_at, words_below}
 use Rattle.mk_sweep.proofs.Vocabulary.{words_if, words_of_cells, words_on, words_under}
-use Rattle.mk_cycle.specs.ReleasedPages.{sum_below}
-use Rattle.mk_cycle.proofs.SumsBelow.{counted_by_key, sum_same}
+use Rattle.mk_laws.proofs.Vocabulary.{Bool, List, ℕ, and_from, and_parts, ap, arith, cases_eq, cases_lt, cond, eq-eqb}
+use Rattle.mk_laws.proofs.Vocabulary.{false, get_or, if◌then◌else◌, inl, inr, le-leb, leb-true, length, lt-ltb}
+use Rattle.mk_laws.proofs.Vocabulary.{ltb-true, mul-le, nat_le, nat_lt, ne_eqb, refl, subst, suc, sym, true, true≢false}
+use Rattle.mk_laws.proofs.Vocabulary.{zero, [], ◌&&◌, ◌*◌, ◌++◌, ◌+◌, ◌-◌, ◌<◌, ◌==◌, ◌∙◌, ◌∷◌, ◌≡◌, ◌≢◌, ◌≤◌, ◌⊎◌}
+use Rattle.mk_cycle.{proofs.SumsBelow.counted_by_key, proofs.SumsBelow.sum_same, specs.ReleasedPages.sum_below}
 
 -- how often it stands there
 abbrev pub times : ℕ → List ℕ → ℕ

@@ -1,10 +1,8 @@
 -- The kinds of steps in the parts of a sweeping cycle; and what is swept where values and allocations are the same.
-use Rattle.std.proofs.Common.{◌≡◌, ℕ, Bool, true, false, List, refl, sym, ◌∙◌, ap, subst}
-use Rattle.std.specs.Prelude.{slice_index}
 use Rattle.mk_sweep.proofs.Vocabulary.{Config, InGlobal, InRegister, InWord, IsScannedWord, IsSwept, IsSweptValue}
 use Rattle.mk_sweep.proofs.Vocabulary.{PlacedAllocation, Step, World, is_tracing}
-use Rattle.mk_core.specs.declared.events.Step.TheVariants as step
-use Rattle.mk_core.specs.Cycles.{is_close, is_release}
+use Rattle.mk_laws.proofs.Vocabulary.{Bool, List, ℕ, ap, false, is_close, is_release, refl, slice_index, subst, sym}
+use Rattle.mk_laws.proofs.Vocabulary.{true, ◌∙◌, ◌≡◌}
 use Rattle.mk_core.specs.Touched.{PointsIntoAllocation}
 use Rattle.mk_laws.proofs.Actors.{is_holders}
 use Rattle.mk_cycle.specs.Kinds.{holds_gates}
@@ -40,22 +38,22 @@ abbrev pub no_kind : Step → Bool
 no_kind x = false
 
 pub holding_leaves_turn : LeaveTheTurn holds_gates
-holding_leaves_turn c w seat (step.Look x) is = refl
-holding_leaves_turn c w seat (step.Hold j) is = refl
+holding_leaves_turn c w seat (Step.Look x) is = refl
+holding_leaves_turn c w seat (Step.Hold j) is = refl
 holding_leaves_turn c w seat _ is = cc
 
 pub holding_leaves_marks : LeaveTheMarks holds_gates
-holding_leaves_marks c w seat (step.Look x) is = refl
-holding_leaves_marks c w seat (step.Hold j) is = refl
+holding_leaves_marks c w seat (Step.Look x) is = refl
+holding_leaves_marks c w seat (Step.Hold j) is = refl
 holding_leaves_marks c w seat _ is = cc
 
 pub tracing_leaves_turn : LeaveTheTurn is_tracing
-tracing_leaves_turn c w seat (step.Look x) is = refl
-tracing_leaves_turn c w seat step.Want is = refl
-tracing_leaves_turn c w seat (step.Mark p v) is = refl
-tracing_leaves_turn c w seat (step.Undirty p) is = refl
-tracing_leaves_turn c w seat (step.Black p v) is = refl
-tracing_leaves_turn c w seat (step.Unblack p) is = refl
+tracing_leaves_turn c w seat (Step.Look x) is = refl
+tracing_leaves_turn c w seat Step.Want is = refl
+tracing_leaves_turn c w seat (Step.Mark p v) is = refl
+tracing_leaves_turn c w seat (Step.Undirty p) is = refl
+tracing_leaves_turn c w seat (Step.Black p v) is = refl
+tracing_leaves_turn c w seat (Step.Unblack p) is = refl
 tracing_leaves_turn c w seat _ is = cc
 
 pub nothing_leaves_turn : LeaveTheTurn no_kind
@@ -65,21 +63,21 @@ pub nothing_leaves_marks : LeaveTheMarks no_kind
 nothing_leaves_marks c w seat x is = cc
 
 pub close_of_holder : (x : Step) → is_close x ≡ true → is_holders x ≡ true
-close_of_holder step.Close is = refl
+close_of_holder Step.Close is = refl
 close_of_holder _ is = cc
 
 pub release_of_holder : (x : Step) → is_release x ≡ true → is_holders x ≡ true
-release_of_holder step.Release is = refl
+release_of_holder Step.Release is = refl
 release_of_holder _ is = cc
 
 pub holding_closes_none : (x : Step) → holds_gates x ≡ true → is_close x ≡ false
-holding_closes_none step.Close is = cc
+holding_closes_none Step.Close is = cc
 holding_closes_none _ is = refl
 
 pub holding_releases_none : (x : Step) → holds_gates x ≡ true → is_release x ≡ false
-holding_releases_none step.Release is = cc
+holding_releases_none Step.Release is = cc
 holding_releases_none _ is = refl
 
 pub tracing_closes_none : (x : Step) → is_tracing x ≡ true → is_close x ≡ false
-tracing_closes_none step.Close is = cc
+tracing_closes_none Step.Close is = cc
 tracing_closes_none _ is = refl

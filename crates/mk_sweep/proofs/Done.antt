@@ -1,17 +1,13 @@
 -- Which heap words were looked at: in parts, and by one step.
-use Rattle.std.proofs.Common.{◌≡◌, ◌∙◌, Bool, true, List, [], ◌∷◌, ◌++◌, refl, sym, ap, append-nil, append_assoc}
-use Rattle.std.proofs.lemmas.Bool.{and_parts}
 use Rattle.std.proofs.lemmas.List.{append_cancel_left}
 use Rattle.mk_sweep.proofs.Vocabulary.{Config, Event, Has, Moment, PassState, Step, event_of, heap_looks}
-use Rattle.mk_core.specs.declared.events.Step.TheVariants as step
-use Rattle.mk_core.specs.declared.events.Word.TheVariants as word
+use Rattle.mk_laws.proofs.Vocabulary.{Bool, List, Word, and_parts, ap, append-nil, append_assoc, refl, sym, true, []}
+use Rattle.mk_laws.proofs.Vocabulary.{◌++◌, ◌∙◌, ◌∷◌, ◌≡◌}
 use Rattle.mk_core.specs.Growing.{Finding, own_from}
-use Rattle.mk_words.specs.Steps.{Makes}
-use Rattle.mk_turns.specs.Doing.{Does, are_of, done_in}
-use Rattle.mk_turns.proofs.Doing.{done_in_parts}
-use Rattle.mk_tracing.specs.Tracing.{is_waiting}
-use Rattle.mk_tracing.proofs.Parts.{done_by_one}
 use Rattle.mk_sweep.specs.Sweeping.{word_looked_at, words_looked_at}
+use Rattle.mk_tracing.{proofs.Parts.done_by_one, specs.Tracing.is_waiting}
+use Rattle.mk_turns.{proofs.Doing.done_in_parts, specs.Doing.Does, specs.Doing.are_of, specs.Doing.done_in}
+use Rattle.mk_words.specs.Steps.{Makes}
 
 looked_at_in_parts : (xs ys : List Finding) → words_looked_at (xs ++ ys) ≡ words_looked_at xs ++ words_looked_at ys
 looked_at_in_parts [] ys = refl
@@ -64,7 +60,7 @@ looks_of_step {kinds} {p} {q} {s} m d has =
 -- Waiting for the markers looks at none.
 
 none_waiting : (s : Step) → is_waiting s ≡ true → word_looked_at s ≡ []
-none_waiting (step.Look (word.Heap n)) h = cc
+none_waiting (Step.Look (Word.Heap n)) h = cc
 none_waiting _ h = refl
 
 none_waited : (xs : List Finding) → are_of is_waiting xs ≡ true → words_looked_at xs ≡ []

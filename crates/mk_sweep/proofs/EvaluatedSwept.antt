@@ -1,25 +1,16 @@
 -- What is swept at the closes of two small cycles: by a register, by a word of a reached object, by a word of one that
 -- nothing reaches, and not at all.
-use Rattle.std.proofs.Common.{◌≡◌, ℕ, zero, suc, Bool, true, false, List, [], ◌∷◌, ◌++◌, Some, None, refl, subst}
-use Rattle.std.specs.Prelude.{◌&&◌, slice_index}
 use Rattle.std.specs.List.{list_all}
-use Rattle.std.proofs.lemmas.Bool.{and_parts, false≢true, leb-true, ltb-true}
-use Rattle.mk_sweep.proofs.Vocabulary.{Config, Event, InGlobal, InRegister, InWord, IsSwept, IsSweptValue, World, left}
-use Rattle.mk_sweep.proofs.Vocabulary.{placed_at}
-use Rattle.mk_never.specs.declared.operations.Op.TheVariants as op
-use Rattle.mk_core.specs.declared.events.Step.TheVariants as step
-use Rattle.mk_core.specs.declared.events.Tally.TheVariants as tally
-use Rattle.mk_core.specs.declared.events.Word.TheVariants as word
-use Rattle.mk_core.specs.Bounded.{all_below}
-use Rattle.mk_core.specs.Cells.{pointed_cell}
-use Rattle.mk_core.specs.History.{left_from}
-use Rattle.mk_core.specs.StopConditions.{may_turn_black}
-use Rattle.mk_core.proofs.EvaluatedReach.{below_two}
-use Rattle.mk_core.proofs.ListTests.{list_all-at, numbered_all}
+use Rattle.mk_sweep.proofs.Vocabulary.{Config, Event, InGlobal, InRegister, InWord, IsSwept, IsSweptValue, Step, World}
+use Rattle.mk_sweep.proofs.Vocabulary.{left, placed_at}
+use Rattle.mk_laws.proofs.Vocabulary.{Bool, List, None, Op, Some, Tally, Word, ℕ, and_parts, false, false≢true}
+use Rattle.mk_laws.proofs.Vocabulary.{leb-true, ltb-true, refl, slice_index, small, subst, suc, true, zero, [], ◌&&◌}
+use Rattle.mk_laws.proofs.Vocabulary.{◌++◌, ◌∷◌, ◌≡◌}
 use Rattle.mk_core.proofs.Schedules.{by, c0, fault, first_fault, host, pointer_page}
-use Rattle.mk_core.proofs.MoreSchedules.{exchanged}
-use Rattle.mk_core.proofs.SmallCycles.{begun_in_stop, by_host, marked_in_stop, small, three_objects}
-use Rattle.mk_core.proofs.TouchedTests.{is_into_members, points_into}
+use Rattle.mk_core.proofs.SmallCycles.{begun_in_stop, by_host, marked_in_stop, three_objects}
+use Rattle.mk_core.proofs.{EvaluatedReach.below_two, ListTests.list_all-at, ListTests.numbered_all}
+use Rattle.mk_core.proofs.{MoreSchedules.exchanged, TouchedTests.is_into_members, TouchedTests.points_into}
+use Rattle.mk_core.specs.{Bounded.all_below, Cells.pointed_cell, History.left_from, StopConditions.may_turn_black}
 
 -- Whatever these words point into is a member of the set: as a test.
 abbrev pub all_into : Config → World → (ℕ → Bool) → List ℕ → Bool
@@ -57,7 +48,7 @@ module _ (c : Config) (w : World) (S : ℕ → Bool) (h : all_are_into c w S ≡
 -- A register holds the first of three objects, and a word of the first points to the second. The third is freed.
 
 abbrev pub stopped : World
-stopped = left small (begun_in_stop ++ by_host (step.Begin ∷ []) ++ marked_in_stop)
+stopped = left small (begun_in_stop ++ by_host (Step.Begin ∷ []) ++ marked_in_stop)
 
 pub first_is_swept : IsSwept small stopped 0
 unfolding left_from all_below pointed_cell begun_in_stop three_objects marked_in_stop
@@ -89,20 +80,20 @@ third_is_not_swept swept = false≢true (swept_by_test small stopped below_two s
 unfoldable pub two_unreached : List Event
 two_unreached =
     exchanged
-    ++ by c0 (step.Take (Some (op.Free 0)) ∷ step.Reg ∷ step.Quar 0 1 ∷ step.Tally tally.Fresh 2 ∷ step.Give ∷ [])
-    ++ by c0 (step.Take (Some (op.Free 1)) ∷ step.Reg ∷ step.Quar 0 3 ∷ step.Tally tally.Fresh 4 ∷ step.Give ∷ [])
-    ++ by c0 (step.Enter (op.Clear 0) ∷ step.Reg ∷ step.Leave ∷ [])
-    ++ by c0 (step.Enter (op.Clear 1) ∷ step.Reg ∷ step.Leave ∷ [])
+    ++ by c0 (Step.Take (Some (Op.Free 0)) ∷ Step.Reg ∷ Step.Quar 0 1 ∷ Step.Tally Tally.Fresh 2 ∷ Step.Give ∷ [])
+    ++ by c0 (Step.Take (Some (Op.Free 1)) ∷ Step.Reg ∷ Step.Quar 0 3 ∷ Step.Tally Tally.Fresh 4 ∷ Step.Give ∷ [])
+    ++ by c0 (Step.Enter (Op.Clear 0) ∷ Step.Reg ∷ Step.Leave ∷ [])
+    ++ by c0 (Step.Enter (Op.Clear 1) ∷ Step.Reg ∷ Step.Leave ∷ [])
 
 -- The stop looks at the words of both, and marks the second.
 unfoldable pub swept_in_stop : List Event
 swept_in_stop =
     two_unreached
-    ++ by host (step.Take None ∷ step.Hold 0 ∷ step.Quar 0 12884901891 ∷ step.Tally tally.Fresh 0 ∷ step.Undirty 0 ∷
-    step.Begin ∷ step.Want ∷ step.Look (word.Heap 0) ∷ step.Mark 0 2 ∷ step.Black 0 2 ∷ [])
+    ++ by host (Step.Take None ∷ Step.Hold 0 ∷ Step.Quar 0 12884901891 ∷ Step.Tally Tally.Fresh 0 ∷ Step.Undirty 0 ∷
+    Step.Begin ∷ Step.Want ∷ Step.Look (Word.Heap 0) ∷ Step.Mark 0 2 ∷ Step.Black 0 2 ∷ [])
 
 unfoldable pub released_unswept : List Event
-released_unswept = swept_in_stop ++ by host (step.Close ∷ step.Release ∷ [])
+released_unswept = swept_in_stop ++ by host (Step.Close ∷ Step.Release ∷ [])
 
 pub no_fault_released : first_fault pointer_page released_unswept ≡ None
 unfolding first_fault fault by c0 host all_below pointed_cell may_turn_black pointer_page exchanged two_unreached

@@ -1,32 +1,23 @@
 -- What the law of engines asks on entry, and what a stop keeps of it.
-use Rattle.std.proofs.Common.{◌≡◌, ◌∙◌, Bool, true, false, List, refl, ap}
-use Rattle.std.specs.Prelude.{not, ◌&&◌, slice_index_or}
 use Rattle.mk_sweep.proofs.Vocabulary.{Caller, Config, Holds, Host, IsHistory, Marker, Moment, PassState, Seat, Steady}
 use Rattle.mk_sweep.proofs.Vocabulary.{Untouched, Words, flight_of, now_of, untouched_of, world_of}
-use Rattle.mk_never.specs.declared.operations.Op.{Op}
-use Rattle.mk_never.specs.declared.operations.Op.TheVariants as op
-use Rattle.mk_core.specs.declared.seats.Flight.{Flight}
-use Rattle.mk_core.specs.declared.seats.Stage.{Stage}
-use Rattle.mk_core.specs.declared.seats.Stage.TheVariants as stage
-use Rattle.mk_core.specs.Calls.{at_rest, is_under_turn}
-use Rattle.mk_core.specs.Frames.{CountsAreLeft}
-use Rattle.mk_core.specs.NewPlaces.{is_run_gone}
-use Rattle.mk_laws.specs.SettledPages.{is_freed_unmapped}
-use Rattle.mk_core.specs.Readings.{is_idle}
-use Rattle.mk_laws.specs.Protocol.{Protocol, has_stage}
+use Rattle.mk_laws.proofs.Vocabulary.{Bool, Flight, List, Op, Protocol, Stage, ap, at_rest, false, is_run_gone}
+use Rattle.mk_laws.proofs.Vocabulary.{is_under_turn, not, refl, slice_index_or, true, ◌&&◌, ◌∙◌, ◌≡◌}
+use Rattle.mk_core.specs.{Frames.CountsAreLeft, Readings.is_idle}
 use Rattle.mk_laws.proofs.Protocols.{lists_keep_the_protocol}
-use Rattle.mk_tracing.specs.Stops.{HolderIsLoaded, is_loaded, is_loaded_at}
-use Rattle.mk_cycle.specs.EngineLaw.{IsFreeForCycle, is_pending_free, is_pending_free_at}
+use Rattle.mk_laws.specs.{Protocol.has_stage, SettledPages.is_freed_unmapped}
 use Rattle.mk_cycle.specs.TurnKeeps.{Done, IsGone, LeavesTurn, but_phase}
+use Rattle.mk_cycle.specs.EngineLaw.{IsFreeForCycle, is_pending_free, is_pending_free_at}
+use Rattle.mk_tracing.specs.Stops.{HolderIsLoaded, is_loaded, is_loaded_at}
 
 -- A call that is free for a cycle has loaded what it loads.
 
 loaded_at : (x : Stage) (o : Op) → has_stage o x ≡ true → (not (is_idle x) && is_under_turn o) ≡ true
     → is_pending_free_at o x ≡ false → is_loaded_at x ≡ true
-loaded_at stage.Turn o has turn decided = refl
-loaded_at stage.Give o has turn decided = refl
-loaded_at x (op.New d ty full) has turn decided = cc
-loaded_at x (op.Free p) has turn decided = cc
+loaded_at Stage.Turn o has turn decided = refl
+loaded_at Stage.Give o has turn decided = refl
+loaded_at x (Op.New d ty full) has turn decided = cc
+loaded_at x (Op.Free p) has turn decided = cc
 loaded_at x o has turn decided = absurd (never (not (is_idle x)) turn)
   where
     never : (b : Bool) → (b && false) ≡ true → ⊥

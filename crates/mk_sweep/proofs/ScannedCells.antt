@@ -1,45 +1,27 @@
 -- Where nothing is on its way, the used cells of scanned pages are those of the mapped allocations that aren't leaf.
-use Rattle.std.proofs.Common.{◌≡◌, ◌≢◌, ◌⊎◌, ◌∙◌, ℕ, ◌+◌, ◌/◌, ◌<◌, Bool, true, false, List, ◌++◌, refl, sym, ap, subst}
-use Rattle.std.proofs.Common.{inl, inr, arith, append-nil}
-use Rattle.std.specs.Prelude.{◌||◌, ◌&&◌, ◌==◌, not, None}
-use Rattle.std.proofs.lemmas.Bool.{and_from, and_parts, eq-eqb, not-true, true≢false}
 use Rattle.mk_sweep.proofs.Vocabulary.{Cell, Config, Event, IsHistory, IsScannedWord, IsSettled, PlacedAllocation}
 use Rattle.mk_sweep.proofs.Vocabulary.{World, cell_of_allocation, cell_words, cells_under, first_word, has_bit}
 use Rattle.mk_sweep.proofs.Vocabulary.{has_no_pointers, header_at, header_in, header_of, is_mapped, is_phase, left}
 use Rattle.mk_sweep.proofs.Vocabulary.{never_behind, phase_of, placed_at, storage_of, storage_words, used_at}
-use Rattle.mk_never.specs.Types.{is_large, kinds_of}
-use Rattle.mk_geom.specs.StorageWords.{IsWordOf}
-use Rattle.mk_core.specs.declared.seats.Object.{Object}
-use Rattle.mk_core.specs.declared.seats.Placing.{Placing}
-use Rattle.mk_core.specs.declared.seats.Placing.TheVariants.{Chosen, Granted, Unplaced, Used}
-use Rattle.mk_core.specs.Cells.{heads_run, is_freed, is_unmapped_header, is_used, words_are_zero}
-use Rattle.mk_core.specs.ClosedMarks.{is_scanned_allocation}
-use Rattle.mk_core.specs.Effects.{is_mapped_cell, is_ungranted}
-use Rattle.mk_core.specs.NewPlaces.{header_made, is_small_object, pages_made}
-use Rattle.mk_core.specs.ObjectHeaders.{IsSized, ShowsPart}
-use Rattle.mk_core.specs.StandingAllocations.{object_placed}
-use Rattle.mk_core.proofs.ObjectHeaders.{part_has_no_pointers, small_heads_none, unmapped_is_unmapped, made_is_mapped}
-use Rattle.mk_core.proofs.PointedAllocations.{cell_word_is_its_own, taken_cell_is}
-use Rattle.mk_core.proofs.Sizes.{large_count, large_is_not_small, pages_some, words_within}
-use Rattle.mk_core.proofs.StandingAllocations.{cell_is_known, cells_begin, first_page_shows, typed_size}
-use Rattle.mk_laws.specs.Ground.{ground_of}
-use Rattle.mk_laws.specs.Protocol.{has_place}
-use Rattle.mk_laws.specs.LayoutScene.{Among, Claim, HasHeader, IsClaimed, IsShown, Mode, Unmapped, header_on}
-use Rattle.mk_laws.specs.LayoutScene.{is_released_in}
-use Rattle.mk_laws.specs.SettledPages.{StandsUsed}
-use Rattle.mk_laws.proofs.Settled.{unmapped_run, unreleased_are_apart}
-use Rattle.mk_laws.specs.Terrain.{IsCellOf, claim_of, claims_of, claims_on, claims_placed, mode_of, object_now}
-use Rattle.mk_laws.proofs.Claims.{claim_among, claim_is}
-use Rattle.mk_laws.proofs.Freed.{gone_terrain}
-use Rattle.mk_laws.proofs.Serving.{Laid, own_claim}
+use Rattle.mk_laws.proofs.Vocabulary.{Among, Bool, Chosen, Claim, Granted, HasHeader, Invariant, IsClaimed, IsShown}
+use Rattle.mk_laws.proofs.Vocabulary.{IsSized, IsWordOf, List, Mode, None, Object, Placing, ShowsPart, Unplaced, Used}
+use Rattle.mk_laws.proofs.Vocabulary.{ℕ, and_from, and_parts, ap, append-nil, arith, cells_begin, claim_of, claims_of}
+use Rattle.mk_laws.proofs.Vocabulary.{claims_on, claims_placed, eq-eqb, false, first_page_shows, ground_of, has_place}
+use Rattle.mk_laws.proofs.Vocabulary.{header_made, header_on, heads_run, inl, inr, is_freed, is_large, is_released_in}
+use Rattle.mk_laws.proofs.Vocabulary.{is_small_object, is_unmapped_header, kinds_of, large_count, large_is_not_small}
+use Rattle.mk_laws.proofs.Vocabulary.{made_is_mapped, mode_of, not, not-true, object_now, object_placed, pages_made}
+use Rattle.mk_laws.proofs.Vocabulary.{pages_some, part_has_no_pointers, refl, small_heads_none, subst, sym, true}
+use Rattle.mk_laws.proofs.Vocabulary.{true≢false, typed_size, unmapped_is_unmapped, words_are_zero, words_within, ◌&&◌}
+use Rattle.mk_laws.proofs.Vocabulary.{◌++◌, ◌+◌, ◌/◌, ◌<◌, ◌==◌, ◌||◌, ◌∙◌, ◌≡◌, ◌≢◌, ◌⊎◌}
+use Rattle.mk_core.{proofs.PointedAllocations.cell_word_is_its_own, proofs.PointedAllocations.taken_cell_is}
+use Rattle.mk_core.{proofs.StandingAllocations.cell_is_known, specs.Cells.is_used}
+use Rattle.mk_core.{specs.ClosedMarks.is_scanned_allocation, specs.Effects.is_mapped_cell, specs.Effects.is_ungranted}
 use Rattle.mk_laws.proofs.KnownWorlds.{KnownWorld, known_world}
-use Rattle.mk_laws.proofs.MappedWords.{mapped_stays}
-use Rattle.mk_laws.proofs.TellGuard.{guard_in}
-use Rattle.mk_laws.specs.Invariant.{Invariant}
-use Rattle.mk_laws.proofs.InvariantHistories.{histories_keep_the_invariant}
-use Rattle.mk_laws.proofs.InvariantTheorems.{allocations_stand}
-use Rattle.mk_laws.proofs.FreeCells.{free_cells_are_zero}
-use Rattle.mk_laws.proofs.ReadingsStands.{freed_cell}
+use Rattle.mk_laws.proofs.{Claims.claim_among, Claims.claim_is, FreeCells.free_cells_are_zero, Freed.gone_terrain}
+use Rattle.mk_laws.proofs.{InvariantHistories.histories_keep_the_invariant, InvariantTheorems.allocations_stand}
+use Rattle.mk_laws.proofs.{MappedWords.mapped_stays, ReadingsStands.freed_cell, Serving.Laid, Serving.own_claim}
+use Rattle.mk_laws.proofs.{Settled.unmapped_run, Settled.unreleased_are_apart, TellGuard.guard_in}
+use Rattle.mk_laws.specs.{LayoutScene.Unmapped, SettledPages.StandsUsed, Terrain.IsCellOf}
 
 -- the mapped allocation that isn't leaf and has this cell
 pub record OfScanned (c : Config) (xs : List PlacedAllocation) (cell : Cell) : Type 0 where

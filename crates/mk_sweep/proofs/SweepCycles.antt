@@ -1,45 +1,30 @@
 -- A whole cycle with one sweep releases what isn't swept, where the seats of all markers are in the pass of the turn.
-use Rattle.std.proofs.Common.{◌≡◌, ℕ, Bool, true, false, List, [], ◌∷◌, ◌++◌, refl, sym, ◌∙◌, ap, subst, append_assoc}
-use Rattle.std.specs.Prelude.{not}
-use Rattle.std.proofs.lemmas.Bool.{and_parts, false_from_ne_true, not-true}
 use Rattle.mk_sweep.proofs.Vocabulary.{AreOfOthers, Cell, Config, Event, Has, HasMarkers, Holds, IsEnabledTo, IsHistory}
-use Rattle.mk_sweep.proofs.Vocabulary.{IsSwept, PassState, PlacedAllocation, Seat, Step, Steady, Sweeps, Untouched}
-use Rattle.mk_sweep.proofs.Vocabulary.{before_release, cell_of_allocation, is_marked, is_tracing, left, others_are_held}
-use Rattle.mk_sweep.proofs.Vocabulary.{phase_of, placed_at, untouched_of, World}
-use Rattle.mk_core.specs.declared.events.Step.TheVariants as step
-use Rattle.mk_core.specs.Cycles.{Releasing, IsInSnapshot, before_close, is_close, is_release}
-use Rattle.mk_core.specs.Frames.{IsLeft, Written, written_of}
-use Rattle.mk_core.specs.History.{left_from}
-use Rattle.mk_core.proofs.Conditions.{enabled_meets}
-use Rattle.mk_core.proofs.HistoryParts.{earlier_part_is_history, enabled_in_parts, left_in_parts}
-use Rattle.mk_laws.proofs.ProtocolFrames.{others_leave}
-use Rattle.mk_laws.proofs.Known.{Known, known_left}
-use Rattle.mk_laws.proofs.OrderlyLists.{actor_of}
-use Rattle.mk_laws.proofs.OthersMoves.{WorldBehind}
-use Rattle.mk_laws.proofs.FramesHolders.{acts_as_holder, holds_is}
-use Rattle.mk_laws.proofs.LastEvents.{ComesLast, comes_last}
-use Rattle.mk_laws.proofs.KnownWorlds.{known_world}
-use Rattle.mk_laws.proofs.OneStep.{precise_begun}
-use Rattle.mk_laws.proofs.Precise.{IsPrecise}
-use Rattle.mk_laws.proofs.Stretches.{None_of, none_joined}
-use Rattle.mk_laws.specs.Releases.{allocation_behind}
-use Rattle.mk_laws.proofs.CyclePhases.{phase_moves}
+use Rattle.mk_sweep.proofs.Vocabulary.{IsSwept, PassState, PlacedAllocation, Seat, Steady, Step, Sweeps, Untouched}
+use Rattle.mk_sweep.proofs.Vocabulary.{World, before_release, cell_of_allocation, is_marked, is_tracing, left}
+use Rattle.mk_sweep.proofs.Vocabulary.{others_are_held, phase_of, placed_at, untouched_of}
+use Rattle.mk_laws.proofs.Vocabulary.{Bool, IsLeft, List, Releasing, Written, ℕ, and_parts, ap, append_assoc}
+use Rattle.mk_laws.proofs.Vocabulary.{before_close, earlier_part_is_history, enabled_in_parts, enabled_meets, false}
+use Rattle.mk_laws.proofs.Vocabulary.{false_from_ne_true, is_close, is_release, left_from, left_in_parts, not, not-true}
+use Rattle.mk_laws.proofs.Vocabulary.{refl, subst, sym, true, [], ◌++◌, ◌∙◌, ◌∷◌, ◌≡◌}
+use Rattle.mk_core.specs.{Cycles.IsInSnapshot, Frames.written_of}
 use Rattle.mk_laws.proofs.ReadingsKeptPlaces.{StaysPut, keeps_cell, put_step, stays_put}
-use Rattle.mk_words.proofs.Seats.{others_own}
-use Rattle.mk_turns.specs.Doing.{AreOwnOrOfOthers}
-use Rattle.mk_turns.proofs.Doing.{others_are_so}
-use Rattle.mk_cycle.specs.Holding.{HoldsGates}
-use Rattle.mk_cycle.specs.Kinds.{holds_gates}
-use Rattle.mk_cycle.proofs.GivingAll.{held_phase}
-use Rattle.mk_tracing.specs.Tracing.{OwnStepsKeep}
-use Rattle.mk_tracing.proofs.Parts.{kinds_keep, others_keep}
-use Rattle.mk_sweep.specs.Unswept.{LeaveUnmarked, OthersLeaveUnmarked}
+use Rattle.mk_laws.proofs.{CyclePhases.phase_moves, FramesHolders.acts_as_holder, FramesHolders.holds_is, Known.Known}
+use Rattle.mk_laws.proofs.{Known.known_left, KnownWorlds.known_world, LastEvents.ComesLast, LastEvents.comes_last}
+use Rattle.mk_laws.proofs.{OneStep.precise_begun, OrderlyLists.actor_of, OthersMoves.WorldBehind, Precise.IsPrecise}
+use Rattle.mk_laws.proofs.{ProtocolFrames.others_leave, Stretches.None_of, Stretches.none_joined}
+use Rattle.mk_laws.specs.Releases.{allocation_behind}
+use Rattle.mk_cycle.{proofs.GivingAll.held_phase, specs.Holding.HoldsGates, specs.Kinds.holds_gates}
 use Rattle.mk_sweep.proofs.BesideTurn.{IsOf, PartOfTurn, holds_still, leave_first, leave_in_parts, left_unmarked_by}
 use Rattle.mk_sweep.proofs.BesideTurn.{none_marks, none_of_kind, others_mark_none, still_holds}
-use Rattle.mk_sweep.proofs.UnsweptReleased.{unswept_is_released}
 use Rattle.mk_sweep.proofs.CycleParts.{close_of_holder, holding_closes_none, holding_leaves_marks, holding_leaves_turn}
 use Rattle.mk_sweep.proofs.CycleParts.{holding_releases_none, no_kind, nothing_leaves_marks, nothing_leaves_turn}
 use Rattle.mk_sweep.proofs.CycleParts.{release_of_holder, swept_alike, tracing_closes_none, tracing_leaves_turn}
+use Rattle.mk_sweep.proofs.UnsweptReleased.{unswept_is_released}
+use Rattle.mk_sweep.specs.Unswept.{LeaveUnmarked, OthersLeaveUnmarked}
+use Rattle.mk_tracing.{proofs.Parts.kinds_keep, proofs.Parts.others_keep, specs.Tracing.OwnStepsKeep}
+use Rattle.mk_turns.{proofs.Doing.others_are_so, specs.Doing.AreOwnOrOfOthers}
+use Rattle.mk_words.proofs.Seats.{others_own}
 
 -- What was seen up to and after each part of the cycle, by a pass with this beginning.
 pub record SweepParts (p : PassState) (looks : ℕ) (es : List Event) : Type 0 where
@@ -49,14 +34,14 @@ pub record SweepParts (p : PassState) (looks : ℕ) (es : List Event) : Type 0 w
   pub waited : List Event
   pub stopped : List Event
   pub rest : List Event
-  pub holds : HoldsGates (record p { seen = front ++ record { seat = p.seat; step = step.Begin } ∷ [] })
+  pub holds : HoldsGates (record p { seen = front ++ record { seat = p.seat; step = Step.Begin } ∷ [] })
       (record p { seen = held })
   pub sweeps : Sweeps (record p { seen = held }) (record p { seen = swept }) looks
-  pub may_close : IsEnabledTo (record p { seen = swept }) step.Close
+  pub may_close : IsEnabledTo (record p { seen = swept }) Step.Close
   pub while_waiting : AreOfOthers p.seats waited
   pub while_stopped : AreOfOthers p.seats stopped
-  pub is : es ≡ swept ++ (waited ++ record { seat = p.seat; step = step.Close } ∷ (stopped
-      ++ record { seat = p.seat; step = step.Release } ∷ rest))
+  pub is : es ≡ swept ++ (waited ++ record { seat = p.seat; step = Step.Close } ∷ (stopped
+      ++ record { seat = p.seat; step = Step.Release } ∷ rest))
 
 module _ (p : PassState) (looks : ℕ) (es : List Event) (has : Has p.seats p.seat) (markers : HasMarkers p.seats)
     (history : IsHistory p.table.config es) (k : SweepParts p looks es) where
@@ -67,13 +52,13 @@ module _ (p : PassState) (looks : ℕ) (es : List Event) (has : Has p.seats p.se
   s = p.seat
 
   abbrev begin : Event
-  begin = record { seat = p.seat; step = step.Begin }
+  begin = record { seat = p.seat; step = Step.Begin }
 
   abbrev close : Event
-  close = record { seat = p.seat; step = step.Close }
+  close = record { seat = p.seat; step = Step.Close }
 
   abbrev release : Event
-  release = record { seat = p.seat; step = step.Release }
+  release = record { seat = p.seat; step = Step.Release }
 
   -- after the `begin`
   abbrev start : List Event
@@ -147,7 +132,7 @@ module _ (p : PassState) (looks : ℕ) (es : List Event) (has : Has p.seats p.se
   front_holds =
       let there = known k.front last_begin.before in
       holds_is c first.now s there.orderly
-      (acts_as_holder c first.now s step.Begin (actor_of c first.now s step.Begin there.orderly last_begin.meets) refl)
+      (acts_as_holder c first.now s Step.Begin (actor_of c first.now s Step.Begin there.orderly last_begin.meets) refl)
 
   start_holds : Holds c (left c start).now s
   start_holds =
@@ -337,7 +322,7 @@ module _ (p : PassState) (looks : ℕ) (es : List Event) (has : Has p.seats p.se
         let was = not-true (placed_at first.allocations i).released
         (and_parts (placed_at first.allocations i).freed (not (placed_at first.allocations i).released) snapshot).1 in
         subst (λ (w : World). (placed_at w.allocations i).released ≡ false) (sym last_begin.leaves)
-        (put_step c first s step.Begin i refl was).unreleased
+        (put_step c first s Step.Begin i refl was).unreleased
 
     stays : StaysPut at_start (placed_at (left_from c (left c start) holding).allocations i)
     stays = stays_put c (left c start) holding i holding_keeps unreleased
@@ -362,7 +347,7 @@ module _ (p : PassState) (looks : ℕ) (es : List Event) (has : Has p.seats p.se
         (subst (λ (w : World). is_marked w.now.words (cell_of_allocation c (placed_at w.allocations i)) ≡ true)
         last_begin.leaves is))
       where
-        precise : IsPrecise c (WorldBehind c first s step.Begin) (λ b. ⊥)
+        precise : IsPrecise c (WorldBehind c first s Step.Begin) (λ b. ⊥)
         precise = precise_begun c first s (λ b. ⊥)
             (known_world c k.front last_begin.before.within_limits last_begin.before.enabled) last_begin.meets
 
@@ -391,7 +376,7 @@ module _ (p : PassState) (looks : ℕ) (es : List Event) (has : Has p.seats p.se
         since_sweep i history held_history release_is
         (held_phase (record p { seen = start }) (record p { seen = k.held }) 1 k.holds
         (ap (λ (w : World). phase_of w.now.words) last_begin.leaves
-        ∙ phase_moves c first.now s step.Begin last_begin.meets))
+        ∙ phase_moves c first.now s Step.Begin last_begin.meets))
         snapshot unreleased_there (λ x. out (swept_at_close i x))
         (subst (λ (x : Cell). is_marked (left c k.held).now.words x ≡ false) (sym same_cell) unmarked_there)
         (subst (λ (x : Cell). OthersLeaveUnmarked c s x (left c k.held) sweeping) (sym same_cell)

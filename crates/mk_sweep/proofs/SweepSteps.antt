@@ -1,49 +1,33 @@
 -- Each step of a sweep goes on with it.
-use Rattle.std.proofs.Common.{◌≡◌, ◌∙◌, ℕ, ◌+◌, ◌*◌, ◌^◌, ◌<◌, Bool, true, false, List, [], ◌∷◌, ◌++◌, Option}
-use Rattle.std.proofs.Common.{option_and_then, refl, sym, ap, subst, arith, append-nil}
-use Rattle.std.specs.Prelude.{Some, None, slice_index, if◌then◌else◌, ◌&&◌, not}
-use Rattle.std.proofs.lemmas.Bool.{and_from, and_parts, eq-eqb, lt-ltb, ne_eqb}
+use Rattle.std.proofs.Common.{option_and_then}
 use Rattle.mk_sweep.proofs.Vocabulary.{Acts, Cell, Config, InGlobal, InRegister, InWord, IsEnabledTo, IsHistory}
 use Rattle.mk_sweep.proofs.Vocabulary.{IsScannedWord, IsSettled, IsSweptValue, Moment, PassState, PlacedAllocation}
 use Rattle.mk_sweep.proofs.Vocabulary.{Step, SweepsBy, SweepsOn, TurnState, Untouched, Words, WordsState, World}
 use Rattle.mk_sweep.proofs.Vocabulary.{cell_of_allocation, event_of, has_no_pointers, header_in, heap_looks, is_mapped}
 use Rattle.mk_sweep.proofs.Vocabulary.{is_marked, is_phase, now_of, others_are_held, phase_of, placed_at, pointed_cell}
 use Rattle.mk_sweep.proofs.Vocabulary.{still_words, storage_of, untouched_of, world_of}
-use Rattle.mk_geom.specs.Addresses.{address_of, page_at_address}
-use Rattle.mk_geom.specs.PageUses.{or_else}
-use Rattle.mk_core.specs.declared.events.Step.TheVariants as step
-use Rattle.mk_core.specs.declared.events.Word.{Word}
-use Rattle.mk_core.specs.declared.events.Word.TheVariants as word
-use Rattle.mk_core.specs.declared.seats.Hand.{Hand}
-use Rattle.mk_core.specs.declared.seats.Holding.{Holding}
-use Rattle.mk_core.specs.declared.seats.Source.TheVariants.{Marked, Unmarked}
-use Rattle.mk_core.specs.Accesses.{found}
-use Rattle.mk_core.specs.Effects.{hand_given, hand_of_cell, is_in_stop, is_mapped_cell}
-use Rattle.mk_core.specs.Frames.{HoldsAll}
-use Rattle.mk_core.specs.Ranges.{is_word}
-use Rattle.mk_core.specs.Words.{named_word}
-use Rattle.mk_core.proofs.PointedAllocations.{word_points}
+use Rattle.mk_laws.proofs.Vocabulary.{Bool, Hand, Holding, List, None, Option, Some, Word, ℕ, address_of, and_from}
+use Rattle.mk_laws.proofs.Vocabulary.{and_parts, ap, append-nil, arith, eq-eqb, false, found, has_place, if◌then◌else◌}
+use Rattle.mk_laws.proofs.Vocabulary.{lt-ltb, ne_eqb, not, or_else, page_at_address, refl, slice_index, subst, sym}
+use Rattle.mk_laws.proofs.Vocabulary.{true, word_points, [], ◌&&◌, ◌*◌, ◌++◌, ◌+◌, ◌<◌, ◌^◌, ◌∙◌, ◌∷◌, ◌≡◌}
 use Rattle.mk_core.proofs.PointedPages.{pointed_within}
-use Rattle.mk_laws.proofs.InvariantTheorems.{allocations_stand}
-use Rattle.mk_laws.specs.Protocol.{has_place}
-use Rattle.mk_laws.proofs.MappedWords.{mapped_stays}
-use Rattle.mk_words.specs.Steps.{Finds}
-use Rattle.mk_words.specs.TurnSteps.{world_at}
-use Rattle.mk_words.proofs.Made.{own_before}
-use Rattle.mk_turns.specs.Pointing.{LooksForCell, MayLookAtHeaders}
-use Rattle.mk_turns.proofs.PointedCells.{found_there, looked_for}
+use Rattle.mk_core.specs.Effects.{hand_given, hand_of_cell, is_in_stop, is_mapped_cell}
+use Rattle.mk_core.specs.declared.seats.Source.TheVariants.{Marked, Unmarked}
+use Rattle.mk_core.specs.{Frames.HoldsAll, Ranges.is_word, Words.named_word}
+use Rattle.mk_laws.proofs.{InvariantTheorems.allocations_stand, MappedWords.mapped_stays}
+use Rattle.mk_sweep.proofs.Done.{looks_in_parts, looks_of_nothing, looks_of_step}
+use Rattle.mk_sweep.proofs.{Kept.unmapped_kept, ScannedCells.mapped_cell, ScannedCells.scanned_stands}
+use Rattle.mk_sweep.specs.Sweeping.{HasInHand, IsReachedCell, IsSweeping, word_looked_at}
+use Rattle.mk_sweep.specs.Swept.{IsSweptCell}
+use Rattle.mk_tracing.proofs.MaySteps.{marks_by, may_look, may_mark_by_hand}
+use Rattle.mk_tracing.proofs.Stilled.{but_phase, found_now, hand_now, is_stopped_step, look_words, phase_there}
+use Rattle.mk_tracing.proofs.Stilled.{root_hand, still_wanted, stopped_traces, words_there}
+use Rattle.mk_tracing.proofs.{Parts.traces_alike, Parts.traces_nothing, Parts.traces_then, Steps.step_untouched}
 use Rattle.mk_tracing.specs.Stops.{IsWanted, hand_of, is_page_word, is_root}
 use Rattle.mk_tracing.specs.Tracing.{Traces, is_marking}
-use Rattle.mk_tracing.proofs.MaySteps.{may_look, may_mark_by_hand, marks_by}
-use Rattle.mk_tracing.proofs.Parts.{traces_alike, traces_nothing, traces_then}
-use Rattle.mk_tracing.proofs.Steps.{step_untouched}
-use Rattle.mk_tracing.proofs.Stilled.{but_phase, found_now, hand_now, is_stopped_step, phase_there, root_hand}
-use Rattle.mk_tracing.proofs.Stilled.{look_words, still_wanted, stopped_traces, words_there}
-use Rattle.mk_sweep.specs.Swept.{IsSweptCell}
-use Rattle.mk_sweep.specs.Sweeping.{HasInHand, IsReachedCell, IsSweeping, word_looked_at}
-use Rattle.mk_sweep.proofs.Done.{looks_in_parts, looks_of_nothing, looks_of_step}
-use Rattle.mk_sweep.proofs.ScannedCells.{mapped_cell, scanned_stands}
-use Rattle.mk_sweep.proofs.Kept.{unmapped_kept}
+use Rattle.mk_turns.proofs.PointedCells.{found_there, looked_for}
+use Rattle.mk_turns.specs.Pointing.{LooksForCell, MayLookAtHeaders}
+use Rattle.mk_words.{proofs.Made.own_before, specs.Steps.Finds, specs.TurnSteps.world_at}
 
 -- Where values and allocations are the same, so is what a sweep looks at and marks.
 module _ (c : Config) (v w : World) (same : untouched_of v ≡ untouched_of w) where
@@ -66,8 +50,8 @@ module _ (c : Config) (v w : World) (same : untouched_of v ≡ untouched_of w) w
       }
 
   pub rule_alike : (m : Moment) (s : Step) → SweepsBy v c m s → SweepsBy w c m s
-  rule_alike m (step.Look (word.Heap n)) r = word_alike n r
-  rule_alike m (step.Mark p k) r =
+  rule_alike m (Step.Look (Word.Heap n)) r = word_alike n r
+  rule_alike m (Step.Mark p k) r =
       record { index = r.index; bit = r.bit; swept = cell_alike (record { page = p; index = r.index }) r.swept }
   rule_alike m _ r = tt
 
@@ -135,59 +119,59 @@ module _ (t u : TurnState) (sweeping : IsSweeping t.pass)
         looked = looks_of_step a.makes traces.does own;
       }
 
-  pub on_plain : (x : Word) → Acts t.pass (step.Look x) u.pass → is_page_word x ≡ true → SweepsOn t u []
-  on_plain (word.Head p) a h = sweeps_by_step (step.Look (word.Head p)) a refl refl tt
-  on_plain (word.Used p) a h = sweeps_by_step (step.Look (word.Used p)) a refl refl tt
-  on_plain (word.Mark p) a h = sweeps_by_step (step.Look (word.Mark p)) a refl refl tt
-  on_plain (word.Black p) a h = sweeps_by_step (step.Look (word.Black p)) a refl refl tt
-  on_plain (word.Dirty p) a h = sweeps_by_step (step.Look (word.Dirty p)) a refl refl tt
+  pub on_plain : (x : Word) → Acts t.pass (Step.Look x) u.pass → is_page_word x ≡ true → SweepsOn t u []
+  on_plain (Word.Head p) a h = sweeps_by_step (Step.Look (Word.Head p)) a refl refl tt
+  on_plain (Word.Used p) a h = sweeps_by_step (Step.Look (Word.Used p)) a refl refl tt
+  on_plain (Word.Mark p) a h = sweeps_by_step (Step.Look (Word.Mark p)) a refl refl tt
+  on_plain (Word.Black p) a h = sweeps_by_step (Step.Look (Word.Black p)) a refl refl tt
+  on_plain (Word.Dirty p) a h = sweeps_by_step (Step.Look (Word.Dirty p)) a refl refl tt
   on_plain _ a h = cc
 
-  pub on_root : (x : Word) → Acts t.pass (step.Look x) u.pass → is_root x ≡ true → SweepsOn t u []
-  on_root (word.Reg j r) a h = sweeps_by_step (step.Look (word.Reg j r)) a refl refl tt
-  on_root (word.Global g) a h = sweeps_by_step (step.Look (word.Global g)) a refl refl tt
+  pub on_root : (x : Word) → Acts t.pass (Step.Look x) u.pass → is_root x ≡ true → SweepsOn t u []
+  on_root (Word.Reg j r) a h = sweeps_by_step (Step.Look (Word.Reg j r)) a refl refl tt
+  on_root (Word.Global g) a h = sweeps_by_step (Step.Look (Word.Global g)) a refl refl tt
   on_root _ a h = cc
 
-  pub on_word : (n : ℕ) → Acts t.pass (step.Look (word.Heap n)) u.pass
+  pub on_word : (n : ℕ) → Acts t.pass (Step.Look (Word.Heap n)) u.pass
       → IsScannedWord t.pass.table.config (world_of t.pass).allocations n → SweepsOn t u (n ∷ [])
-  on_word n a scanned = sweeps_by_step (step.Look (word.Heap n)) a refl refl scanned
+  on_word n a scanned = sweeps_by_step (Step.Look (Word.Heap n)) a refl refl scanned
 
-  pub on_mark : (cell : Cell) → Acts t.pass (step.Mark cell.page (2 ^ cell.index)) u.pass → IsReachedCell t.pass cell
+  pub on_mark : (cell : Cell) → Acts t.pass (Step.Mark cell.page (2 ^ cell.index)) u.pass → IsReachedCell t.pass cell
       → SweepsOn t u []
   on_mark cell a r =
-      sweeps_by_step (step.Mark cell.page (2 ^ cell.index)) a refl refl
+      sweeps_by_step (Step.Mark cell.page (2 ^ cell.index)) a refl refl
       (record {
         index = cell.index;
         bit = refl;
         swept = record { value = r.value; found = r.in_hand.found; points = r.points };
       })
 
-  pub on_black : (page value : ℕ) → Acts t.pass (step.Black page value) u.pass → SweepsOn t u []
-  on_black page value a = sweeps_by_step (step.Black page value) a refl refl tt
+  pub on_black : (page value : ℕ) → Acts t.pass (Step.Black page value) u.pass → SweepsOn t u []
+  on_black page value a = sweeps_by_step (Step.Black page value) a refl refl tt
 
-  pub on_unblack : (page : ℕ) → Acts t.pass (step.Unblack page) u.pass → SweepsOn t u []
-  on_unblack page a = sweeps_by_step (step.Unblack page) a refl refl tt
+  pub on_unblack : (page : ℕ) → Acts t.pass (Step.Unblack page) u.pass → SweepsOn t u []
+  on_unblack page a = sweeps_by_step (Step.Unblack page) a refl refl tt
 
-  pub on_undirty : (page : ℕ) → Acts t.pass (step.Undirty page) u.pass → SweepsOn t u []
-  on_undirty page a = sweeps_by_step (step.Undirty page) a refl refl tt
+  pub on_undirty : (page : ℕ) → Acts t.pass (Step.Undirty page) u.pass → SweepsOn t u []
+  on_undirty page a = sweeps_by_step (Step.Undirty page) a refl refl tt
 
 -- The cell into which a value points is looked for.
 
 pub may_look_at_headers : {p : PassState} → IsSweeping p → HoldsAll p.table.config (now_of p) p.seat
     → MayLookAtHeaders p
-may_look_at_headers {p} sweeping all page lt = may_look p sweeping.wanted all (word.Head page) (lt-ltb page _ lt)
+may_look_at_headers {p} sweeping all page lt = may_look p sweeping.wanted all (Word.Head page) (lt-ltb page _ lt)
 
 module _ {value : ℕ} {t u : TurnState} (l : LooksForCell value t u) (sweeping : IsSweeping t.pass)
     (all : HoldsAll t.pass.table.config (now_of t.pass) t.pass.seat) where
   pub sweeps_for_cell : SweepsOn t u []
   sweeps_for_cell =
       looked_for (λ (v : TurnState). SweepsOn t v []) l (sweeps_from t sweeping)
-      (λ a. on_plain t u sweeping all l.op (word.Head (page_at_address value)) a refl)
+      (λ a. on_plain t u sweeping all l.op (Word.Head (page_at_address value)) a refl)
 
   pub words_for_cell : still_words u.pass ≡ still_words t.pass
   words_for_cell =
       looked_for (λ (v : TurnState). still_words v.pass ≡ still_words t.pass) l refl
-      (λ a. look_words t.pass u.pass sweeping.wanted all (word.Head (page_at_address value)) a)
+      (λ a. look_words t.pass u.pass sweeping.wanted all (Word.Head (page_at_address value)) a)
 
 -- The hand stays, through looks that leave it.
 pub hand_kept : {t u : TurnState} {ns : List ℕ} {n : ℕ} → SweepsOn t u ns → hand_of u.pass ≡ hand_of t.pass
@@ -207,7 +191,7 @@ pub reached_within : {p : PassState} {cell : Cell} → IsReachedCell p cell
 reached_within {p} {cell} r = pointed_within p.table.config.pages (still_words p) r.value cell r.points
 
 pub may_mark_reached : {p : PassState} {cell : Cell} → IsWanted p → HoldsAll p.table.config (now_of p) p.seat
-    → IsReachedCell p cell → IsEnabledTo p (step.Mark cell.page (2 ^ cell.index))
+    → IsReachedCell p cell → IsEnabledTo p (Step.Mark cell.page (2 ^ cell.index))
 may_mark_reached {p} {cell} wanted all r =
     may_mark_by_hand p wanted all cell
     (marks_by p.table.config.pages (now_of p).words (hand_of p) r.value cell r.in_hand.hand r.in_hand.is r.in_hand.value
@@ -216,14 +200,14 @@ may_mark_reached {p} {cell} wanted all r =
 -- what a look at a root gives, and one at a scanned word
 
 pub root_in_hand : {p q : PassState} → IsWanted p → HoldsAll p.table.config (now_of p) p.seat → (x : Word)
-    → (a : Acts p (step.Look x) q) (n : ℕ) → Finds p (step.Look x) n q → is_root x ≡ true → HasInHand q n
+    → (a : Acts p (Step.Look x) q) (n : ℕ) → Finds p (Step.Look x) n q → is_root x ≡ true → HasInHand q n
 root_in_hand {p} {q} wanted all x a n finds root =
     let h = root_hand p q wanted all x a n finds root in
     record { hand = h.hand; is = h.is; value = h.value; found = by x root (found_there p q x n finds) }
   where
     by : (y : Word) → is_root y ≡ true → named_word (now_of q).words y ≡ n → IsSweptValue q.table.config (world_of q) n
-    by (word.Reg j r) e is = InRegister (8 * j + r) is
-    by (word.Global g) e is = InGlobal g is
+    by (Word.Reg j r) e is = InRegister (8 * j + r) is
+    by (Word.Global g) e is = InGlobal g is
     by _ e is = cc
 
 module _ (p q : PassState) (sweeping : IsSweeping p) (all : HoldsAll p.table.config (now_of p) p.seat)
@@ -243,19 +227,19 @@ module _ (p q : PassState) (sweeping : IsSweeping p) (all : HoldsAll p.table.con
       let st = allocations_stand p.table.config p.seen history scanned.number (mapped_stays p.table.config a mapped) in
       word_points p.table.config (now_of p).words a history.within_limits st.stands st.headers n scanned.word
 
-  pub word_named : is_word p.table.config (word.Heap n) ≡ true
+  pub word_named : is_word p.table.config (Word.Heap n) ≡ true
   word_named =
       let mapped = (and_parts (is_mapped p.table.config a) (not (storage_of p.table.config a).leaf)
       scanned.scanned).0 in
       let st = allocations_stand p.table.config p.seen history scanned.number (mapped_stays p.table.config a mapped) in
       lt-ltb n (64 * p.table.config.pages) (let end = st.stands.within in let high = scanned.word.1 in omega arith)
 
-  module _ (acts : Acts p (step.Look (word.Heap n)) q) where
+  module _ (acts : Acts p (Step.Look (Word.Heap n)) q) where
     abbrev m : Moment
     m = (world_at acts.makes).now
 
     still : but_phase (world_at acts.makes).now.words ≡ still_words p
-    still = words_there p q (step.Look (word.Heap n)) acts sweeping.wanted all
+    still = words_there p q (Step.Look (Word.Heap n)) acts sweeping.wanted all
 
     abbrev gives : Bool → Bool → Bool → ℕ → Option Hand
     gives bare marked mapped value =
@@ -279,18 +263,18 @@ module _ (p q : PassState) (sweeping : IsSweeping p) (all : HoldsAll p.table.con
         and_from (is_in_stop p.table.config.callers m.words p.seat) (is_mapped_cell m.words m.seats.holding.placing
         cell)
         (and_from (is_phase m.words 2) (others_are_held p.table.config.callers m.words p.seat)
-        (eq-eqb (phase_of m.words) 2 (phase_there p q (step.Look (word.Heap n)) acts sweeping.wanted all))
+        (eq-eqb (phase_of m.words) 2 (phase_there p q (Step.Look (Word.Heap n)) acts sweeping.wanted all))
         (ap (λ (w : Words). others_are_held p.table.config.callers w p.seat) still ∙ all.1))
         (ap (λ (w : Words). is_mapped_cell w m.seats.holding.placing cell) still
         ∙ ap (λ (x : Holding). is_mapped_cell (now_of p).words x.placing cell) acts.holding
         ∙ mapped_cell p.table.config p.seen history sweeping.settled scanned.number scanned.scanned)
 
     -- some hand, whether the cell is marked or not
-    given : (value : ℕ) → (h : Hand) × (hand_given p.table.config (world_at acts.makes).now p.seat (word.Heap n) value
+    given : (value : ℕ) → (h : Hand) × (hand_given p.table.config (world_at acts.makes).now p.seat (Word.Heap n) value
         ≡ Some h) × (h.value ≡ value)
     given value = by (is_marked m.words cell) refl
       where
-        to_cell : hand_given p.table.config (world_at acts.makes).now p.seat (word.Heap n) value
+        to_cell : hand_given p.table.config (world_at acts.makes).now p.seat (Word.Heap n) value
             ≡ gives false (is_marked m.words cell) true value
         to_cell =
             ap (option_and_then (λ (x : Cell). hand_of_cell m.words
@@ -300,26 +284,26 @@ module _ (p q : PassState) (sweeping : IsSweeping p) (all : HoldsAll p.table.con
             ∙ ap (λ (b : Bool). gives false (is_marked m.words cell) b value) mapped_now
 
         by : (b : Bool) → is_marked m.words cell ≡ b
-            → (h : Hand) × (hand_given p.table.config (world_at acts.makes).now p.seat (word.Heap n) value ≡ Some h)
+            → (h : Hand) × (hand_given p.table.config (world_at acts.makes).now p.seat (Word.Heap n) value ≡ Some h)
             × (h.value ≡ value)
         by true e =
             (record { value = value; source = Marked }, to_cell ∙ ap (λ (b : Bool). gives false b true value) e, refl)
         by false e =
             (record { value = value; source = Unmarked }, to_cell ∙ ap (λ (b : Bool). gives false b true value) e, refl)
 
-    pub word_in_hand : (k : ℕ) → Finds p (step.Look (word.Heap n)) k q → HasInHand q k
+    pub word_in_hand : (k : ℕ) → Finds p (Step.Look (Word.Heap n)) k q → HasInHand q k
     word_in_hand k finds =
-        let value : ℕ = found p.table.config m (event_of p (step.Look (word.Heap n))) in
+        let value : ℕ = found p.table.config m (event_of p (Step.Look (Word.Heap n))) in
         let g = given value in
-        let same = step_untouched p q (step.Look (word.Heap n)) acts refl all refl in
+        let same = step_untouched p q (Step.Look (Word.Heap n)) acts refl all refl in
         let there : IsScannedWord p.table.config (world_of q).allocations n =
         word_alike p.table.config (world_of p) (world_of q) (sym same) n scanned in
         record {
           hand = g.0;
-          is = hand_now p q sweeping.wanted all (word.Heap n) acts k finds ∙ ap (λ (o : Option Hand). or_else o
+          is = hand_now p q sweeping.wanted all (Word.Heap n) acts k finds ∙ ap (λ (o : Option Hand). or_else o
               (hand_of p)) g.1;
-          value = g.2 ∙ found_now p q sweeping.wanted all (word.Heap n) acts k finds;
+          value = g.2 ∙ found_now p q sweeping.wanted all (Word.Heap n) acts k finds;
           found = InWord n
               (subst (λ (x : WordsState). IsScannedWord x.config (world_of q).allocations n)
-              (sym (ap (λ (x : PassState). x.table) acts.makes.is)) there) (found_there p q (word.Heap n) k finds);
+              (sym (ap (λ (x : PassState). x.table) acts.makes.is)) there) (found_there p q (Word.Heap n) k finds);
         }

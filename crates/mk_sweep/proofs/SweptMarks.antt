@@ -1,56 +1,41 @@
 -- A sweep meets the law of engines, and makes what it promises.
-use Rattle.std.proofs.Common.{◌≡◌, ◌∙◌, ℕ, ◌+◌, ◌<◌, ◌≤◌, Bool, true, cond, List, [], ◌∷◌, ◌++◌, length, count_by, refl}
-use Rattle.std.proofs.Common.{sym, ap, subst, arith}
-use Rattle.std.specs.Prelude.{slice_index}
-use Rattle.std.proofs.lemmas.Bool.{ne_eqb}
-use Rattle.std.proofs.lemmas.List.Sums.{sum_by-cons}
+use Rattle.std.proofs.{Common.count_by, lemmas.List.Sums.sum_by-cons}
 use Rattle.mk_sweep.proofs.Vocabulary.{CellsAreClosed, Config, InGlobal, InRegister, InWord, IsHistory, IsScannedWord}
 use Rattle.mk_sweep.proofs.Vocabulary.{IsSwept, IsSweptValue, Moment, PageIsBlack, PassState, PlacedAllocation}
 use Rattle.mk_sweep.proofs.Vocabulary.{PointWell, Step, Sweeps, SweepsBy, SweepsOn, TurnState, Untouched, WordsState}
 use Rattle.mk_sweep.proofs.Vocabulary.{World, heap_looks, is_tracing, now_of, phase_of, placed_at, points_well}
 use Rattle.mk_sweep.proofs.Vocabulary.{still_words, words_below, world_of}
-use Rattle.mk_core.specs.declared.events.Step.TheVariants as step
-use Rattle.mk_core.specs.declared.events.Word.TheVariants as word
-use Rattle.mk_core.specs.ClosedMarks.{is_marked_allocation}
-use Rattle.mk_core.specs.Frames.{HoldsAll}
-use Rattle.mk_core.specs.Growing.{Finding}
+use Rattle.mk_laws.proofs.Vocabulary.{Bool, List, Word, ℕ, ap, arith, cond, length, ne_eqb, refl, slice_index, subst}
+use Rattle.mk_laws.proofs.Vocabulary.{sym, true, [], ◌++◌, ◌+◌, ◌<◌, ◌∙◌, ◌∷◌, ◌≡◌, ◌≤◌}
 use Rattle.mk_core.proofs.PointedAllocations.{marked_where_its_cell_is, points_well_where_marked}
-use Rattle.mk_laws.proofs.InvariantTheorems.{allocations_stand}
-use Rattle.mk_turns.specs.Doing.{Does, done_in}
-use Rattle.mk_tracing.specs.Grays.{TracesReached}
-use Rattle.mk_tracing.specs.Stops.{IsWanted}
-use Rattle.mk_tracing.specs.Tracing.{Counted, is_marking, is_waiting, is_want}
-use Rattle.mk_tracing.proofs.Closes.{marks_closed_now, may_close_now}
-use Rattle.mk_laws.proofs.Settled.{gone_is_unmapped}
-use Rattle.mk_tracing.proofs.NoGrays.{no_gray}
-use Rattle.mk_tracing.proofs.Parts.{counted_by_kinds, counted_wider, traces_alike}
-use Rattle.mk_tracing.proofs.Wants.{wanted_once_then}
-use Rattle.mk_cycle.specs.EngineLaw.{BeginsMarking, ClosesMarks, IsFreeForCycle}
-use Rattle.mk_cycle.specs.Kinds.{begins_marking, closes_marks, is_want as is_wish}
-use Rattle.mk_cycle.specs.TurnKeeps.{unchanged as all_of_it}
-use Rattle.mk_cycle.proofs.KeptInParts.{keeps_at_once}
-use Rattle.mk_turns.proofs.Doing.{does_nothing}
-use Rattle.mk_sweep.specs.Swept.{scanned_words}
-use Rattle.mk_sweep.specs.Sweeping.{IsSweeping}
-use Rattle.mk_sweep.proofs.CountedWords.{some_there, times}
-use Rattle.mk_sweep.proofs.Done.{looks_in_parts, looks_of_waiting}
+use Rattle.mk_core.specs.{ClosedMarks.is_marked_allocation, Frames.HoldsAll, Growing.Finding}
+use Rattle.mk_laws.proofs.{InvariantTheorems.allocations_stand, Settled.gone_is_unmapped}
+use Rattle.mk_cycle.{proofs.KeptInParts.keeps_at_once, specs.EngineLaw.BeginsMarking, specs.EngineLaw.ClosesMarks}
+use Rattle.mk_cycle.{specs.EngineLaw.IsFreeForCycle, specs.Kinds.begins_marking, specs.Kinds.closes_marks}
+use Rattle.mk_cycle.{specs.Kinds.is_want as is_wish, specs.TurnKeeps.unchanged as all_of_it}
 use Rattle.mk_sweep.proofs.EachOnce.{as_many, looked_at_once, never_twice}
-use Rattle.mk_sweep.proofs.Kept.{keeps_turn}
-use Rattle.mk_sweep.proofs.SweepSteps.{rule_alike, settled_kept, word_alike}
+use Rattle.mk_sweep.proofs.{CountedWords.some_there, CountedWords.times, Done.looks_in_parts, Done.looks_of_waiting}
+use Rattle.mk_sweep.proofs.{Kept.keeps_turn, SweepSteps.rule_alike, SweepSteps.settled_kept, SweepSteps.word_alike}
+use Rattle.mk_sweep.specs.{Sweeping.IsSweeping, Swept.scanned_words}
+use Rattle.mk_tracing.proofs.Parts.{counted_by_kinds, counted_wider, traces_alike}
+use Rattle.mk_tracing.proofs.{Closes.marks_closed_now, Closes.may_close_now, NoGrays.no_gray, Wants.wanted_once_then}
+use Rattle.mk_tracing.specs.Tracing.{Counted, is_marking, is_waiting, is_want}
+use Rattle.mk_tracing.specs.{Grays.TracesReached, Stops.IsWanted}
+use Rattle.mk_turns.{proofs.Doing.does_nothing, specs.Doing.Does, specs.Doing.done_in}
 
 -- the kinds of a sweep are those of the law
 
 closing_kind : (s : Step) → is_tracing s ≡ true → closes_marks s ≡ true
-closing_kind step.Want h = refl
-closing_kind (step.Look x) h = refl
-closing_kind (step.Mark p v) h = refl
-closing_kind (step.Undirty p) h = refl
-closing_kind (step.Black p v) h = refl
-closing_kind (step.Unblack p) h = refl
+closing_kind Step.Want h = refl
+closing_kind (Step.Look x) h = refl
+closing_kind (Step.Mark p v) h = refl
+closing_kind (Step.Undirty p) h = refl
+closing_kind (Step.Black p v) h = refl
+closing_kind (Step.Unblack p) h = refl
 closing_kind _ h = cc
 
 same_wish : (s : Step) → is_wish s ≡ is_want s
-same_wish step.Want = refl
+same_wish Step.Want = refl
 same_wish _ = refl
 
 same_count : (xs : List Finding)
@@ -69,10 +54,10 @@ begins_with_nothing p =
 
 -- Waiting keeps to the rule of every sweep.
 waits : (w : World) (c : Config) (m : Moment) (s : Step) → is_waiting s ≡ true → SweepsBy w c m s
-waits w c m step.Want h = tt
-waits w c m (step.Look word.Phase) h = tt
-waits w c m (step.Look (word.Heap n)) h = cc
-waits w c m (step.Mark p v) h = cc
+waits w c m Step.Want h = tt
+waits w c m (Step.Look Word.Phase) h = tt
+waits w c m (Step.Look (Word.Heap n)) h = cc
+waits w c m (Step.Mark p v) h = cc
 waits w c m _ h = tt
 
 -- After the wait the sweep may begin.

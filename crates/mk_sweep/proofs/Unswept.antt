@@ -1,22 +1,16 @@
 -- A cell that no swept value points into isn't marked by a sweep.
-use Rattle.std.proofs.Common.{◌≡◌, ◌∙◌, ℕ, true, false, List, [], ◌∷◌, sym, ap, subst, inl, inr}
-use Rattle.std.specs.Prelude.{slice_index, slice_set, bit_or}
-use Rattle.std.proofs.lemmas.Bool.{cases_Bool, false_from_ne_true, true≢false}
 use Rattle.mk_sweep.proofs.Vocabulary.{Cell, Config, Event, Moment, PassState, Seat, Step, SweepsBy, World}
 use Rattle.mk_sweep.proofs.Vocabulary.{cell_of_allocation, has_bit, is_marked, is_tracing, never_behind, placed_at}
 use Rattle.mk_sweep.proofs.Vocabulary.{world_behind, world_of}
-use Rattle.mk_core.specs.declared.events.Step.TheVariants as step
-use Rattle.mk_core.specs.Growing.{is_same_seat}
-use Rattle.mk_core.specs.History.{left_from}
-use Rattle.mk_core.proofs.HistoryParts.{left_in_parts}
+use Rattle.mk_laws.proofs.Vocabulary.{List, ℕ, ap, bit_or, cases_Bool, false, false_from_ne_true, inl, inr}
+use Rattle.mk_laws.proofs.Vocabulary.{left_in_parts, slice_index, slice_set, subst, sym, true, true≢false, [], ◌∙◌, ◌∷◌}
+use Rattle.mk_laws.proofs.Vocabulary.{◌≡◌}
 use Rattle.mk_core.proofs.WordBits.{bit_of_power, more_bits}
-use Rattle.mk_laws.proofs.KnownWorlds.{known_world}
-use Rattle.mk_laws.proofs.InvariantHistories.{histories_keep_the_invariant}
-use Rattle.mk_laws.proofs.Worlds.{comes_back}
-use Rattle.mk_tracing.specs.Tracing.{OwnStepsKeep}
-use Rattle.mk_tracing.proofs.Parts.{kinds_keep}
+use Rattle.mk_core.specs.{Growing.is_same_seat, History.left_from}
+use Rattle.mk_laws.proofs.{InvariantHistories.histories_keep_the_invariant, KnownWorlds.known_world, Worlds.comes_back}
 use Rattle.mk_sweep.specs.Swept.{IsSweptCell, MarksSwept}
 use Rattle.mk_sweep.specs.Unswept.{OthersLeaveUnmarked, UnsweptStaysUnmarked}
+use Rattle.mk_tracing.{proofs.Parts.kinds_keep, specs.Tracing.OwnStepsKeep}
 
 -- an own step is a tracing one
 abbrev IsTracing : Config → Moment → Step → Type 0
@@ -40,12 +34,12 @@ mark_leaves {c} {v} marks {page} {value} cell swept out was = false_from_ne_true
 step_leaves : (c : Config) (v w : World) (seat : Seat) (cell : Cell) (s : Step) → is_tracing s ≡ true
     → SweepsBy v c w.now s → (IsSweptCell c v cell → ⊥) → is_marked w.now.words cell ≡ false
     → is_marked (world_behind c w (record { seat = seat; step = s })).now.words cell ≡ false
-step_leaves c v w seat cell (step.Mark p k) kind rule out was = mark_leaves w.now.words.marks cell rule out was
-step_leaves c v w seat cell (step.Look x) kind rule out was = was
-step_leaves c v w seat cell step.Want kind rule out was = was
-step_leaves c v w seat cell (step.Undirty p) kind rule out was = was
-step_leaves c v w seat cell (step.Black p k) kind rule out was = was
-step_leaves c v w seat cell (step.Unblack p) kind rule out was = was
+step_leaves c v w seat cell (Step.Mark p k) kind rule out was = mark_leaves w.now.words.marks cell rule out was
+step_leaves c v w seat cell (Step.Look x) kind rule out was = was
+step_leaves c v w seat cell Step.Want kind rule out was = was
+step_leaves c v w seat cell (Step.Undirty p) kind rule out was = was
+step_leaves c v w seat cell (Step.Black p k) kind rule out was = was
+step_leaves c v w seat cell (Step.Unblack p) kind rule out was = was
 step_leaves c v w seat cell _ kind rule out was = cc
 
 list_leaves : (c : Config) (v w : World) (seat : Seat) (cell : Cell) (es : List Event)

@@ -1,16 +1,12 @@
 -- The parts of a whole cycle, read off what beginning and finishing it ensure.
-use Rattle.std.proofs.Common.{◌≡◌, List, [], ◌∷◌, ◌++◌, ◌∙◌, ap, subst, append-nil, append_assoc}
-use Rattle.std.specs.Prelude.{ℕ}
-use Rattle.mk_sweep.proofs.Vocabulary.{AreOfOthers, Event, Has, HasMarkers, IsEnabledTo, IsHistory, PassState, Sweeps}
-use Rattle.mk_sweep.proofs.Vocabulary.{event_of}
-use Rattle.mk_core.specs.declared.events.Step.TheVariants as step
-use Rattle.mk_turns.proofs.Sweeping.{only_seen_by}
+use Rattle.mk_sweep.proofs.Vocabulary.{AreOfOthers, Event, Has, HasMarkers, IsEnabledTo, IsHistory, PassState, Step}
+use Rattle.mk_sweep.proofs.Vocabulary.{Sweeps, event_of}
+use Rattle.mk_laws.proofs.Vocabulary.{List, ℕ, ap, append-nil, append_assoc, subst, [], ◌++◌, ◌∙◌, ◌∷◌, ◌≡◌}
 use Rattle.mk_cycle.specs.Begun.{DoesNothing, IsBegunLast}
-use Rattle.mk_cycle.specs.Closing.{IsClosedBy}
-use Rattle.mk_cycle.specs.Holding.{HoldsGates}
-use Rattle.mk_cycle.specs.Releasing.{MakesRelease}
-use Rattle.mk_sweep.specs.SweepCycle.{ReleasesUnswept}
+use Rattle.mk_cycle.specs.{Closing.IsClosedBy, Holding.HoldsGates, Releasing.MakesRelease}
 use Rattle.mk_sweep.proofs.SweepCycles.{SweepParts, cycle, is_released_by_it}
+use Rattle.mk_sweep.specs.SweepCycle.{ReleasesUnswept}
+use Rattle.mk_turns.proofs.Sweeping.{only_seen_by}
 
 stretches : {X : Type 0} (xs ws zs rest : List X) (b r : X)
     → ((((xs ++ ws) ++ b ∷ []) ++ zs) ++ r ∷ []) ++ rest ≡ xs ++ (ws ++ b ∷ (zs ++ r ∷ rest))
@@ -21,13 +17,13 @@ stretches xs ws zs rest b r =
 module _ (p b q : PassState) (looks : ℕ) (same : b ≡ record p { seen = b.seen })
     (last : IsBegunLast DoesNothing p b) (closed : IsClosedBy (λ x y. Sweeps x y looks) b q) where
   abbrev begin : Event
-  begin = event_of p step.Begin
+  begin = event_of p Step.Begin
 
   abbrev close : Event
-  close = event_of p step.Close
+  close = event_of p Step.Close
 
   abbrev release : Event
-  release = event_of p step.Release
+  release = event_of p Step.Release
 
   -- before the `begin`
   abbrev front : List Event
@@ -36,7 +32,7 @@ module _ (p b q : PassState) (looks : ℕ) (same : b ≡ record p { seen = b.see
   begun_is : last.begun ≡ record p { seen = front ++ begin ∷ [] }
   begun_is =
       last.begin.is
-      ∙ ap (λ (x : PassState). record x { seen = x.seen ++ last.begin.others ++ event_of x step.Begin ∷ [] })
+      ∙ ap (λ (x : PassState). record x { seen = x.seen ++ last.begin.others ++ event_of x Step.Begin ∷ [] })
       last.before.is
 
   start_is : b ≡ record p { seen = front ++ begin ∷ [] }
@@ -56,7 +52,7 @@ module _ (p b q : PassState) (looks : ℕ) (same : b ≡ record p { seen = b.see
 
   closed_is : makes.closed ≡ record p { seen = makes.closed.seen }
   closed_is =
-      only_seen_by makes.closing makes.closed step.Close makes.close
+      only_seen_by makes.closing makes.closed Step.Close makes.close
       ∙ ap (λ (x : PassState). record x { seen = makes.closed.seen }) closing_is
 
   abbrev waited : List Event
@@ -68,10 +64,10 @@ module _ (p b q : PassState) (looks : ℕ) (same : b ≡ record p { seen = b.see
   seen_is : q.seen ≡ makes.closing.seen ++ (waited ++ close ∷ (stopped ++ release ∷ closed.rest))
   seen_is =
       closed.is ∙ ap (λ (x : PassState). x.seen ++ closed.rest) makes.release.is
-      ∙ ap (λ (x : PassState). ((makes.closed.seen ++ stopped) ++ event_of x step.Release ∷ []) ++ closed.rest)
+      ∙ ap (λ (x : PassState). ((makes.closed.seen ++ stopped) ++ event_of x Step.Release ∷ []) ++ closed.rest)
       closed_is ∙ ap (λ (x : PassState). ((x.seen ++ stopped) ++ release ∷ []) ++ closed.rest) makes.close.is
       ∙ ap (λ (x : PassState).
-      ((((makes.closing.seen ++ waited) ++ event_of x step.Close ∷ []) ++ stopped) ++ release ∷ []) ++ closed.rest)
+      ((((makes.closing.seen ++ waited) ++ event_of x Step.Close ∷ []) ++ stopped) ++ release ∷ []) ++ closed.rest)
       closing_is ∙ stretches makes.closing.seen waited stopped closed.rest close release
 
   abbrev parts : SweepParts p looks q.seen
@@ -87,7 +83,7 @@ module _ (p b q : PassState) (looks : ℕ) (same : b ≡ record p { seen = b.see
             (subst (HoldsGates b) held_is closed.holds);
         sweeps = subst (λ (x : PassState). Sweeps x (record p { seen = makes.closing.seen }) looks) held_is
             (subst (λ (x : PassState). Sweeps closed.held x looks) closing_is closed.part);
-        may_close = subst (λ (x : PassState). IsEnabledTo x step.Close) closing_is makes.marks.close;
+        may_close = subst (λ (x : PassState). IsEnabledTo x Step.Close) closing_is makes.marks.close;
         while_waiting = subst (λ (x : PassState). AreOfOthers x.seats waited) closing_is makes.close.of_others;
         while_stopped = subst (λ (x : PassState). AreOfOthers x.seats stopped) closed_is makes.release.of_others;
         is = seen_is;

@@ -1,15 +1,12 @@
 -- The words of a page's used cells, one after the other; and what points well of them.
-use Rattle.std.proofs.Common.{◌≡◌, ◌∙◌, ℕ, zero, suc, ◌+◌, ◌*◌, ◌≤◌, Bool, true, false, List, [], ◌∷◌, ◌++◌, sym, ap}
-use Rattle.std.proofs.Common.{inl, inr, arith}
-use Rattle.std.specs.Prelude.{Option, Some, slice_index, if◌then◌else◌}
-use Rattle.std.specs.List.{range_with_len}
 use Rattle.std.proofs.lemmas.List.Elements.{Contains-append_cases, Contains-push_cases}
+use Rattle.std.specs.List.{range_with_len}
 use Rattle.mk_sweep.proofs.Vocabulary.{MarksMore, PointWell, Words, cells_under, has_bit, has_no_pointers, head_page}
 use Rattle.mk_sweep.proofs.Vocabulary.{header_at, header_in, header_of, points_well, used_at, word_points_well}
 use Rattle.mk_sweep.proofs.Vocabulary.{words_below, words_if, words_of_cells, words_on, words_under}
-use Rattle.mk_geom.specs.declared.headers.Header.{Header}
-use Rattle.mk_geom.specs.declared.headers.Header.TheVariants.{Later}
-use Rattle.mk_geom.specs.Addresses.{head_page_under}
+use Rattle.mk_laws.proofs.Vocabulary.{Bool, Header, Later, List, Option, Some, ℕ, ap, arith, false, head_page_under}
+use Rattle.mk_laws.proofs.Vocabulary.{if◌then◌else◌, inl, inr, slice_index, suc, sym, true, zero, [], ◌*◌, ◌++◌, ◌+◌}
+use Rattle.mk_laws.proofs.Vocabulary.{◌∙◌, ◌∷◌, ◌≡◌, ◌≤◌}
 use Rattle.mk_tracing.proofs.MoreMarks.{well_more}
 
 -- The head of a page's run doesn't lie after it.

@@ -1,19 +1,13 @@
 -- A cell that is blackened: its words point well, and one fewer is white.
-use Rattle.std.proofs.Common.{◌≡◌, ◌⊎◌, ℕ, zero, suc, ◌+◌, ◌^◌, ◌<◌, ◌≤◌, Bool, true, false, List, length, refl, sym}
-use Rattle.std.proofs.Common.{◌∙◌, ap, subst, inl, inr, arith, lit≤}
-use Rattle.std.specs.Prelude.{Option, Some, None, slice_index, slice_set, bit_or, ◌&&◌, ◌||◌, nat_lt, if◌then◌else◌}
-use Rattle.std.proofs.lemmas.Bool.{cases_lt, and_from, lt-ltb, true≢false}
-use Rattle.mk_geom.specs.declared.addresses.Cell.{Cell}
-use Rattle.mk_geom.specs.declared.headers.Header.{Header}
-use Rattle.mk_geom.specs.declared.headers.Header.TheVariants.{Free, Block, Run, Later, LeafBlock, LeafRun}
-use Rattle.mk_geom.specs.Classes.{cells_of}
-use Rattle.mk_core.specs.Bits.{has_bit}
-use Rattle.mk_core.specs.Bounded.{all_below}
-use Rattle.mk_core.specs.Cells.{header_in, cells_under, cell_words, first_word, has_no_pointers, is_marked, points_well}
-use Rattle.mk_core.specs.Cells.{words_point_well}
-use Rattle.mk_core.specs.StopConditions.{may_turn_black}
-use Rattle.mk_core.specs.Words.{Words}
-use Rattle.mk_core.proofs.WordBits.{bits_stay, bits_added, bit_for_small, bit_for_has}
+use Rattle.std.proofs.Common.{lit≤}
+use Rattle.mk_laws.proofs.Vocabulary.{Block, Bool, Cell, Free, Header, Later, LeafBlock, LeafRun, List, None, Option}
+use Rattle.mk_laws.proofs.Vocabulary.{Run, Some, Words, ℕ, all_below, and_from, ap, arith, bit_or, cases_lt, cell_words}
+use Rattle.mk_laws.proofs.Vocabulary.{cells_of, cells_under, false, first_word, has_bit, has_no_pointers, header_in}
+use Rattle.mk_laws.proofs.Vocabulary.{if◌then◌else◌, inl, inr, is_marked, length, lt-ltb, nat_lt, points_well, refl}
+use Rattle.mk_laws.proofs.Vocabulary.{slice_index, slice_set, subst, suc, sym, true, true≢false, zero, ◌&&◌, ◌+◌, ◌<◌}
+use Rattle.mk_laws.proofs.Vocabulary.{◌^◌, ◌||◌, ◌∙◌, ◌≡◌, ◌≤◌, ◌⊎◌}
+use Rattle.mk_core.proofs.WordBits.{bit_for_has, bit_for_small, bits_added, bits_stay}
+use Rattle.mk_core.specs.{Cells.words_point_well, StopConditions.may_turn_black}
 use Rattle.mk_laws.proofs.Tests.{all_below_from}
 use Rattle.mk_tracing.specs.Grays.{BlackensOne, ColoursMore, IsGray, MarksMore}
 

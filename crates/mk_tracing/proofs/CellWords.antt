@@ -1,38 +1,20 @@
 -- A word of a scanned cell lies in the heap, and a lookup finds the cell there, where the word isn't 0.
-use Rattle.std.proofs.Common.{◌≡◌, ◌≢◌, ◌⊎◌, ℕ, ◌+◌, ◌-◌, ◌*◌, ◌/◌, ◌%◌, ◌<◌, ◌≤◌, Bool, true, false, List, refl, sym}
-use Rattle.std.proofs.Common.{◌∙◌, ap, subst, inl, inr, arith, option_and_then}
-use Rattle.std.specs.Prelude.{Option, Some, None, slice_index, nat_le, nat_lt, if◌then◌else◌}
-use Rattle.std.proofs.lemmas.Bool.{and_from, le-leb, lt-ltb, ne_eqb, true≢false}
-use Rattle.std.proofs.Math.Nat.{mul_comm}
-use Rattle.std.proofs.lemmas.Nat.{mul-add-lt, div-mul-add}
-use Rattle.mk_geom.specs.declared.addresses.Cell.{Cell}
-use Rattle.mk_geom.specs.declared.headers.Header.{Header}
-use Rattle.mk_geom.specs.declared.headers.Header.TheVariants.{Free, Block, Run, Later, LeafBlock, LeafRun}
-use Rattle.mk_geom.specs.Addresses.{address_of, is_heap_address, page_at_address, word_at_address, cell_of_block}
-use Rattle.mk_geom.specs.Addresses.{cell_under}
-use Rattle.mk_geom.specs.Classes.{class_words_of, cells_of}
-use Rattle.mk_geom.proofs.ClassTable.{cell_ends}
-use Rattle.mk_core.specs.declared.config.Config.{Config}
-use Rattle.mk_core.specs.declared.events.Event.{Event}
-use Rattle.mk_core.specs.Words.{Words, phase_of}
-use Rattle.mk_core.specs.Cells.{header_in, cells_under, words_under, head_page, has_no_pointers, pointed_cell}
-use Rattle.mk_core.specs.Cells.{first_word, cell_words}
-use Rattle.mk_core.specs.History.{World, left, never_behind, IsHistory}
-use Rattle.mk_core.specs.Moments.{is_phase}
-use Rattle.mk_core.specs.ObjectHeaders.{ShowsPart, OfBlock, OfLeafBlock, OfRun, OfLeafRun, OfLater}
-use Rattle.mk_core.specs.declared.seats.Object.{Object}
-use Rattle.mk_laws.specs.Ground.{ground_of}
-use Rattle.mk_laws.proofs.InHeap.{in_heap_left}
-use Rattle.mk_laws.proofs.RunsInHeap.{RunsFit}
-use Rattle.mk_laws.specs.LayoutScene.{shows_on}
-use Rattle.mk_laws.specs.Terrain.{object_now}
-use Rattle.mk_laws.proofs.LayoutReadings.{claimed, claimed_head}
-use Rattle.mk_laws.proofs.Serving.{Laid}
-use Rattle.mk_laws.proofs.CoveredWords.{covered_word}
+use Rattle.std.proofs.{Common.option_and_then, Math.Nat.mul_comm, lemmas.Nat.div-mul-add, lemmas.Nat.mul-add-lt}
+use Rattle.mk_laws.proofs.Vocabulary.{Block, Bool, Cell, Config, Event, Free, Header, Invariant, IsHistory, Later}
+use Rattle.mk_laws.proofs.Vocabulary.{LeafBlock, LeafRun, List, None, Object, OfBlock, OfLater, OfLeafBlock, OfLeafRun}
+use Rattle.mk_laws.proofs.Vocabulary.{OfRun, Option, Run, ShowsPart, Some, Words, World, ℕ, address_of, and_from, ap}
+use Rattle.mk_laws.proofs.Vocabulary.{arith, cell_ends, cell_words, cells_of, cells_under, class_words_of, false}
+use Rattle.mk_laws.proofs.Vocabulary.{first_word, ground_of, has_no_pointers, head_page, header_in, if◌then◌else◌, inl}
+use Rattle.mk_laws.proofs.Vocabulary.{inr, is_heap_address, is_phase, le-leb, left, lt-ltb, nat_le, nat_lt, ne_eqb}
+use Rattle.mk_laws.proofs.Vocabulary.{never_behind, object_now, page_at_address, phase_of, refl, shows_on, slice_index}
+use Rattle.mk_laws.proofs.Vocabulary.{subst, sym, true, true≢false, words_under, ◌%◌, ◌*◌, ◌+◌, ◌-◌, ◌/◌, ◌<◌, ◌∙◌, ◌≡◌}
+use Rattle.mk_laws.proofs.Vocabulary.{◌≢◌, ◌≤◌, ◌⊎◌}
+use Rattle.mk_geom.specs.Addresses.{cell_of_block, cell_under, word_at_address}
+use Rattle.mk_core.specs.Cells.{pointed_cell}
 use Rattle.mk_laws.proofs.BarePages.{Unreleasing, on_allocation, shown_there}
-use Rattle.mk_laws.proofs.TellGuard.{later_pages}
-use Rattle.mk_laws.specs.Invariant.{Invariant}
-use Rattle.mk_laws.proofs.InvariantHistories.{histories_keep_the_invariant}
+use Rattle.mk_laws.proofs.CoveredWords.{covered_word}
+use Rattle.mk_laws.proofs.{InHeap.in_heap_left, InvariantHistories.histories_keep_the_invariant, LayoutReadings.claimed}
+use Rattle.mk_laws.proofs.{LayoutReadings.claimed_head, RunsInHeap.RunsFit, Serving.Laid, TellGuard.later_pages}
 
 -- the page is after its head as its header says
 abbrev LiesBehind : Words → ℕ → ℕ → Type 0

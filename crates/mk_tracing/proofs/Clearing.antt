@@ -1,14 +1,11 @@
 -- Black and dirty words that are cleared.
-use Rattle.std.proofs.Common.{◌⊎◌, ◌≡◌, ◌≢◌, ℕ, ◌+◌, ◌<◌, List, length, refl, sym, ◌∙◌, ap, subst, inl, inr, arith}
-use Rattle.std.specs.Prelude.{slice_index, slice_set}
-use Rattle.std.proofs.lemmas.Bool.{cases_eq, cases_lt}
-use Rattle.std.proofs.lemmas.List.{get_or-set_same, get_or-set_other, set-get_or, set_past, get_or_past}
-use Rattle.mk_core.specs.Words.{Words}
-use Rattle.mk_core.specs.Cells.{head_page}
-use Rattle.mk_words.specs.States.{PassState}
-use Rattle.mk_tracing.specs.Stops.{still_words}
+use Rattle.mk_laws.proofs.Vocabulary.{List, Words, ℕ, ap, arith, cases_eq, cases_lt, get_or-set_other, get_or-set_same}
+use Rattle.mk_laws.proofs.Vocabulary.{get_or_past, head_page, inl, inr, length, refl, set-get_or, set_past, slice_index}
+use Rattle.mk_laws.proofs.Vocabulary.{slice_set, subst, sym, ◌+◌, ◌<◌, ◌∙◌, ◌≡◌, ◌≢◌, ◌⊎◌}
 use Rattle.mk_tracing.proofs.DirtyWords.{dirty_is_one}
-use Rattle.mk_tracing.specs.Grays.{BlacksFewer, DirtyFewer, HasDirtyPart, IsCleaner, DirtyIsUnscanned}
+use Rattle.mk_tracing.specs.Grays.{BlacksFewer, DirtyFewer, DirtyIsUnscanned, HasDirtyPart, IsCleaner}
+use Rattle.mk_tracing.specs.Stops.{still_words}
+use Rattle.mk_words.specs.States.{PassState}
 
 -- a word that is cleared, and the others
 

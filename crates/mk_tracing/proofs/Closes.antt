@@ -1,29 +1,17 @@
 -- The marks may be closed, and are closed.
-use Rattle.std.proofs.Common.{◌≡◌, ℕ, ◌<◌, Bool, true, List, [], ◌∷◌, ◌++◌, suc, refl, ◌∙◌, ap}
-use Rattle.std.specs.Prelude.{slice_index, ◌==◌, ◌&&◌}
 use Rattle.std.specs.List.{list_all}
-use Rattle.std.proofs.lemmas.Bool.{and_from, eq-eqb}
-use Rattle.mk_geom.specs.declared.pages.Page.{Page}
-use Rattle.mk_core.specs.declared.config.Config.{Config}
-use Rattle.mk_core.specs.declared.events.Event.{Event}
-use Rattle.mk_core.specs.declared.events.Step.TheVariants as step
-use Rattle.mk_core.specs.Bounded.{all_below, is_none_or}
-use Rattle.mk_core.specs.Cells.{is_marked, pointed_cell, points_well}
-use Rattle.mk_core.specs.ClosedMarks.{MarksAreClosed}
-use Rattle.mk_core.specs.Frames.{HoldsAll}
-use Rattle.mk_core.specs.History.{IsHistory, AreEnabledFrom}
-use Rattle.mk_core.specs.StopConditions.{has_closed_page, none_attends, roots_point_well}
-use Rattle.mk_core.specs.Words.{Words, phase_of}
-use Rattle.mk_core.proofs.HistoryParts.{enabled_in_parts}
-use Rattle.mk_laws.proofs.Tests.{all_below_from, none_from}
-use Rattle.mk_laws.proofs.InvariantTheorems.{closes_find_marks_closed}
-use Rattle.mk_words.specs.States.{PassState, now_of, world_of, event_of}
-use Rattle.mk_words.specs.Steps.{IsEnabledTo}
-use Rattle.mk_words.proofs.Undecided.{undecided_admitted}
+use Rattle.mk_laws.proofs.Vocabulary.{Bool, Config, Event, IsHistory, List, MarksAreClosed, Page, Step, Words, ℕ}
+use Rattle.mk_laws.proofs.Vocabulary.{all_below, and_from, ap, enabled_in_parts, eq-eqb, has_closed_page, is_marked}
+use Rattle.mk_laws.proofs.Vocabulary.{is_none_or, none_attends, phase_of, pointed_cell, points_well, refl}
+use Rattle.mk_laws.proofs.Vocabulary.{roots_point_well, slice_index, suc, true, [], ◌&&◌, ◌++◌, ◌<◌, ◌==◌, ◌∙◌, ◌∷◌}
+use Rattle.mk_laws.proofs.Vocabulary.{◌≡◌}
+use Rattle.mk_core.specs.{Frames.HoldsAll, History.AreEnabledFrom}
+use Rattle.mk_laws.proofs.{InvariantTheorems.closes_find_marks_closed, Tests.all_below_from, Tests.none_from}
+use Rattle.mk_tracing.proofs.{MoreMarks.marked_as, MoreMarks.well_more, Steps.may_step}
 use Rattle.mk_tracing.specs.Grays.{ColoursMore, HasNoGray, MarksMore, RootsPointWell}
 use Rattle.mk_tracing.specs.Stops.{IsWanted, still_words}
-use Rattle.mk_tracing.proofs.MoreMarks.{marked_as, well_more}
-use Rattle.mk_tracing.proofs.Steps.{may_step}
+use Rattle.mk_words.proofs.Undecided.{undecided_admitted}
+use Rattle.mk_words.specs.{States.PassState, States.event_of, States.now_of, States.world_of, Steps.IsEnabledTo}
 
 all_from : (test : ℕ → Bool) (xs : List ℕ) → ((i : ℕ) → test (slice_index xs i) ≡ true) → list_all test xs ≡ true
 all_from test [] each = refl
@@ -51,11 +39,11 @@ roots_more pages w v more roots =
 pub may_close_now : (p : PassState) → IsWanted p → HoldsAll p.table.config (now_of p) p.seat
     → ((pg : ℕ) → pg < p.table.config.pages → HasNoGray (still_words p) pg)
     → ((pg : ℕ) → pg < p.table.config.pages → slice_index (still_words p).dirty pg ≡ 0)
-    → RootsPointWell p.table.config.pages (still_words p) → IsEnabledTo p step.Close
+    → RootsPointWell p.table.config.pages (still_words p) → IsEnabledTo p Step.Close
 may_close_now p wanted all black clean roots =
     let w : Words = (now_of p).words in
     let pages : ℕ = p.table.config.pages in
-    may_step p step.Close wanted.ready all.0 refl refl all.1 (eq-eqb (phase_of w) 2 wanted.phase) refl
+    may_step p Step.Close wanted.ready all.0 refl refl all.1 (eq-eqb (phase_of w) 2 wanted.phase) refl
     (and_from (none_attends (now_of p).seats.markers && all_below pages (has_closed_page w)) (roots_point_well pages w)
     (and_from (none_attends (now_of p).seats.markers) (all_below pages (has_closed_page w))
     (none_from (now_of p).seats.markers wanted.none)
@@ -65,16 +53,16 @@ may_close_now p wanted all black clean roots =
     (all_from (points_well pages w) w.registers roots.registers)
     (all_from (points_well pages w) w.globals roots.globals)))
 
-pub marks_closed_now : (p : PassState) → IsHistory p.table.config p.seen → IsEnabledTo p step.Close
+pub marks_closed_now : (p : PassState) → IsHistory p.table.config p.seen → IsEnabledTo p Step.Close
     → MarksAreClosed p.table.config (world_of p)
 unfolding AreEnabledFrom
 marks_closed_now p history on =
     let c : Config = p.table.config in
-    let e : Event = event_of p step.Close in
+    let e : Event = event_of p Step.Close in
     let whole : IsHistory c (p.seen ++ e ∷ []) =
     record {
       within_limits = history.within_limits;
       enabled = (enabled_in_parts c p.seen (e ∷ [])).1 (history.enabled, (on, tt));
-      admitted = undecided_admitted p step.Close history (λ h. cc);
+      admitted = undecided_admitted p Step.Close history (λ h. cc);
     } in
     closes_find_marks_closed c (p.seen ++ e ∷ []) whole p.seen [] p.seat refl

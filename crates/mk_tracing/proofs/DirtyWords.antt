@@ -1,33 +1,18 @@
 -- A dirty word is 0 or 1, after every list of events.
-use Rattle.std.proofs.Common.{◌≡◌, ◌≢◌, ℕ, ◌≤◌, List, [], ◌∷◌, length, refl, sym, ◌∙◌, ap, subst, inl, inr, arith}
-use Rattle.std.specs.Prelude.{slice_index, slice_set, replicate}
-use Rattle.std.proofs.lemmas.Bool.{cases_eq, cases_lt}
-use Rattle.std.proofs.lemmas.List.{get_or-set_same, get_or-set_other, get_or-replicate, get_or_past, set_past}
-use Rattle.std.proofs.lemmas.List.{length-replicate}
-use Rattle.mk_core.specs.declared.config.Config.{Config}
-use Rattle.mk_core.specs.declared.accesses.Access.{Access}
-use Rattle.mk_core.specs.declared.accesses.Access.TheVariants.{Load, Store}
-use Rattle.mk_core.specs.declared.accesses.TableWord.TheVariants.{Named}
-use Rattle.mk_core.specs.declared.events.Event.{Event}
-use Rattle.mk_core.specs.declared.events.Seat.{Seat}
-use Rattle.mk_core.specs.declared.events.Step.{Step}
-use Rattle.mk_core.specs.declared.events.Step.TheVariants as step
-use Rattle.mk_core.specs.declared.events.Tally.{Tally}
-use Rattle.mk_core.specs.declared.events.Tally.TheVariants as tally
-use Rattle.mk_core.specs.declared.events.Word.TheVariants as word
-use Rattle.mk_core.specs.Accesses.{caller_number, reg_access, register_met, tally_word}
-use Rattle.mk_core.specs.Calls.{page_met}
-use Rattle.mk_core.specs.Effects.{moment_behind}
-use Rattle.mk_core.specs.History.{World, first_world, world_behind, left_from, left}
-use Rattle.mk_core.specs.Moments.{Moment, flight_of}
-use Rattle.mk_core.specs.Words.{Words, accessed}
+use Rattle.std.proofs.{Common.replicate, lemmas.List.get_or-replicate, lemmas.List.length-replicate}
+use Rattle.mk_laws.proofs.Vocabulary.{Access, Config, Event, List, Load, Moment, Named, Seat, Step, Store, Tally, Word}
+use Rattle.mk_laws.proofs.Vocabulary.{Words, World, ℕ, accessed, ap, arith, caller_number, cases_eq, cases_lt}
+use Rattle.mk_laws.proofs.Vocabulary.{first_world, flight_of, get_or-set_other, get_or-set_same, get_or_past, inl, inr}
+use Rattle.mk_laws.proofs.Vocabulary.{left, length, page_met, refl, reg_access, register_met, set_past, slice_index}
+use Rattle.mk_laws.proofs.Vocabulary.{slice_set, subst, sym, tally_word, world_behind, [], ◌∙◌, ◌∷◌, ◌≡◌, ◌≢◌, ◌≤◌}
+use Rattle.mk_core.specs.{Effects.moment_behind, History.left_from}
 
-reg_leaves : (w : Words) (k r : ℕ) (a : Access) → (accessed w (Named (word.Reg k r)) a).dirty ≡ w.dirty
+reg_leaves : (w : Words) (k r : ℕ) (a : Access) → (accessed w (Named (Word.Reg k r)) a).dirty ≡ w.dirty
 reg_leaves w k r Load = refl
 reg_leaves w k r _ = refl
 
 tally_leaves : (w : Words) (n : Tally) (v : ℕ) → (accessed w (Named (tally_word n)) (Store v)).dirty ≡ w.dirty
-tally_leaves w tally.Held v = refl
+tally_leaves w Tally.Held v = refl
 tally_leaves w _ v = refl
 
 -- the words are the same, or one of them is 0 or 1 now
@@ -37,12 +22,12 @@ pub data IsMarked01 (xs ys : List ℕ) : Type 0 where
 
 dirty_behind : (c : Config) (m : Moment) (seat : Seat) (s : Step)
     → IsMarked01 m.words.dirty (moment_behind c m (record { seat = seat; step = s })).words.dirty
-dirty_behind c m seat step.Dirty = OneIs (page_met (flight_of m seat)) 1 (omega arith) refl
-dirty_behind c m seat (step.Undirty p) = OneIs p 0 (omega arith) refl
-dirty_behind c m seat step.Reg =
+dirty_behind c m seat Step.Dirty = OneIs (page_met (flight_of m seat)) 1 (omega arith) refl
+dirty_behind c m seat (Step.Undirty p) = OneIs p 0 (omega arith) refl
+dirty_behind c m seat Step.Reg =
     Same (reg_leaves m.words (caller_number seat) (register_met (flight_of m seat) (flight_of m seat).stage)
     (reg_access (flight_of m seat) (flight_of m seat).stage))
-dirty_behind c m seat (step.Tally n v) = Same (tally_leaves m.words n v)
+dirty_behind c m seat (Step.Tally n v) = Same (tally_leaves m.words n v)
 dirty_behind c m seat _ = Same refl
 
 abbrev AreSmall : List ℕ → Type 0

@@ -1,19 +1,12 @@
 -- The first cell among those that a word has as bits.
-use Rattle.std.proofs.Common.{◌≡◌, ℕ, ◌^◌, ◌<◌, ◌≤◌, Bool, true, false, not, ◌&&◌, nat_lt, w64, refl, sym, ap, ◌∙◌}
-use Rattle.std.proofs.Common.{subst, arith}
-use Rattle.std.specs.Prelude.{◌==◌, Option, IfSome, IfNone, slice_index}
-use Rattle.std.specs.Bool.{then_some}
-use Rattle.std.specs.Int.{bit_at, trailing_zeros}
-use Rattle.std.proofs.lemmas.Bool.{ltb-true, ltb-false, eq-eqb, true≢false}
-use Rattle.std.proofs.lemmas.Nat.Bits.{bit_at-trailing_zeros}
-use Rattle.mk_core.specs.Bits.{has_bit, without}
-use Rattle.mk_core.proofs.BitsWithout.{has_bit_without}
-use Rattle.mk_core.proofs.WordBits.{no_bit}
-use Rattle.mk_core.specs.Cells.{cells_under, header_in}
-use Rattle.mk_core.specs.Words.{Words, header_at}
-use Rattle.mk_geom.specs.Headers.{header_of}
-use Rattle.mk_tracing.specs.Grays.{AllAreBlack, HasNoGray, IsGray}
+use Rattle.std.{proofs.Common.IfNone, proofs.Common.IfSome, proofs.Common.ltb-false, proofs.Common.w64}
+use Rattle.std.{proofs.lemmas.Nat.Bits.bit_at-trailing_zeros, specs.Bool.then_some, specs.Int.trailing_zeros}
+use Rattle.mk_laws.proofs.Vocabulary.{Bool, Option, Words, ℕ, ap, arith, bit_at, cells_under, eq-eqb, false, has_bit}
+use Rattle.mk_laws.proofs.Vocabulary.{has_bit_without, header_at, header_in, header_of, ltb-true, nat_lt, no_bit, not}
+use Rattle.mk_laws.proofs.Vocabulary.{refl, slice_index, subst, sym, true, true≢false, without, ◌&&◌, ◌<◌, ◌==◌, ◌^◌}
+use Rattle.mk_laws.proofs.Vocabulary.{◌∙◌, ◌≡◌, ◌≤◌}
 use Rattle.mk_tracing.proofs.NoGrays.{no_gray, no_gray_found}
+use Rattle.mk_tracing.specs.Grays.{AllAreBlack, HasNoGray, IsGray}
 
 -- what holds of a value that is told where a test holds, and what holds where it doesn't
 

@@ -1,22 +1,13 @@
 -- Free pages are passed over: none has a gray cell, and none is dirty.
-use Rattle.std.proofs.Common.{◌≡◌, ℕ, ◌<◌, ◌≤◌, false, refl, sym, ap, subst, inl, inr, arith}
-use Rattle.std.specs.Prelude.{not, slice_index, Option, Some, None}
-use Rattle.std.proofs.lemmas.Bool.{cases_lt}
-use Rattle.mk_geom.specs.declared.headers.Header.{Header}
-use Rattle.mk_geom.specs.declared.headers.Header.TheVariants.{Free, Block, Run, Later, LeafBlock, LeafRun}
-use Rattle.mk_geom.specs.Headers.{header_of}
-use Rattle.mk_geom.specs.PageUses.{is_free_page}
-use Rattle.mk_geom.specs.PageWords.{use_under}
-use Rattle.mk_geom.proofs.HeaderLemmas.{word_of-header_of}
+use Rattle.mk_laws.proofs.Vocabulary.{Block, Free, Header, IsHistory, Later, LeafBlock, LeafRun, None, Option, Run}
+use Rattle.mk_laws.proofs.Vocabulary.{Some, Words, ℕ, ap, arith, cases_lt, cells_under, false, header_at, header_in}
+use Rattle.mk_laws.proofs.Vocabulary.{header_of, inl, inr, not, refl, slice_index, subst, sym, use_under, used_at, ◌<◌}
+use Rattle.mk_laws.proofs.Vocabulary.{◌≡◌, ◌≤◌}
+use Rattle.mk_geom.{proofs.HeaderLemmas.word_of-header_of, specs.PageUses.is_free_page}
 use Rattle.mk_page_map.specs.Members.{is_in_use}
-use Rattle.mk_core.specs.Cells.{cells_under, header_in}
-use Rattle.mk_core.specs.History.{IsHistory}
-use Rattle.mk_core.specs.Words.{Words, header_at, used_at}
 use Rattle.mk_laws.proofs.FreePages.{free_pages_have_nothing}
+use Rattle.mk_tracing.{proofs.NoGrays.no_gray, specs.Grays.HasNoGray, specs.Stops.still_words}
 use Rattle.mk_words.specs.States.{PassState}
-use Rattle.mk_tracing.specs.Grays.{HasNoGray}
-use Rattle.mk_tracing.specs.Stops.{still_words}
-use Rattle.mk_tracing.proofs.NoGrays.{no_gray}
 
 no_header : (h : ℕ) (x : Option Header) (u : ℕ) → header_of h ≡ x → not (is_free_page (use_under x u)) ≡ false → h ≡ 0
 no_header h (Some Free) u is free = sym (word_of-header_of h Free is).1

@@ -1,35 +1,21 @@
 -- Which steps may come in the stop.
-use Rattle.std.proofs.Common.{◌≡◌, ℕ, ◌^◌, ◌<◌, Bool, true, false, Option, refl, ◌∙◌, ap}
-use Rattle.std.specs.Prelude.{Some, slice_index, ◌||◌, ◌==◌, nat_lt, not, ◌&&◌}
-use Rattle.std.proofs.lemmas.Bool.{and_from, and_parts, eq-eqb, ltb-true, lt-ltb}
-use Rattle.mk_geom.specs.declared.addresses.Cell.{Cell}
-use Rattle.mk_core.specs.declared.config.Config.{Config}
-use Rattle.mk_core.specs.declared.events.Seat.{Seat}
-use Rattle.mk_core.specs.declared.events.Step.TheVariants as step
-use Rattle.mk_core.specs.declared.events.Word.{Word}
-use Rattle.mk_core.specs.declared.events.Word.TheVariants as word
-use Rattle.mk_core.specs.declared.seats.Flight.{Flight}
-use Rattle.mk_core.specs.declared.seats.Hand.{Hand}
-use Rattle.mk_core.specs.Bounded.{all_below}
-use Rattle.mk_core.specs.Cells.{pointed_cell, head_page}
-use Rattle.mk_core.specs.Frames.{HoldsAll}
-use Rattle.mk_core.specs.Moments.{Moment, is_number_of, is_held, others_are_held, is_phase}
-use Rattle.mk_core.specs.Ranges.{is_word, has_gates}
-use Rattle.mk_core.specs.Readings.{NoneAttends}
-use Rattle.mk_core.specs.StopConditions.{is_bit_of, marks_by_hand, none_attends, blackens, may_turn_black}
-use Rattle.mk_core.specs.Words.{Words, phase_of}
-use Rattle.mk_core.proofs.AllBelow.{all_below-at, all_below_not_is}
+use Rattle.mk_laws.proofs.Vocabulary.{Bool, Cell, Config, Flight, Hand, Moment, Option, Seat, Some, Step, Word, Words}
+use Rattle.mk_laws.proofs.Vocabulary.{ℕ, all_below, all_below-at, and_from, and_parts, ap, eq-eqb, false, has_gates}
+use Rattle.mk_laws.proofs.Vocabulary.{head_page, is_held, is_number_of, is_phase, lt-ltb, ltb-true, nat_lt}
+use Rattle.mk_laws.proofs.Vocabulary.{none_attends, not, others_are_held, phase_of, pointed_cell, refl, slice_index}
+use Rattle.mk_laws.proofs.Vocabulary.{true, ◌&&◌, ◌<◌, ◌==◌, ◌^◌, ◌||◌, ◌∙◌, ◌≡◌}
+use Rattle.mk_core.proofs.AllBelow.{all_below_not_is}
+use Rattle.mk_core.specs.StopConditions.{blackens, is_bit_of, marks_by_hand, may_turn_black}
+use Rattle.mk_core.specs.{Frames.HoldsAll, Ranges.is_word, Readings.NoneAttends}
 use Rattle.mk_laws.proofs.Tests.{none_from}
-use Rattle.mk_words.specs.States.{PassState, now_of, call_of}
-use Rattle.mk_words.specs.Steps.{IsEnabledTo}
-use Rattle.mk_tracing.specs.Grays.{HandPointsInto}
-use Rattle.mk_tracing.specs.Stops.{IsWanted, still_words, hand_of}
 use Rattle.mk_tracing.proofs.Steps.{may_step}
+use Rattle.mk_tracing.specs.{Grays.HandPointsInto, Stops.IsWanted, Stops.hand_of, Stops.still_words}
+use Rattle.mk_words.specs.{States.PassState, States.call_of, States.now_of, Steps.IsEnabledTo}
 
 look_gates : (c : Config) (w : Words) (seat : Seat) (f : Flight) (x : Word) → others_are_held c.callers w seat ≡ true
     → is_word c x ≡ true
-    → has_gates c w seat f (step.Look x) ≡ true
-look_gates c w seat f (word.Reg j r) all is =
+    → has_gates c w seat f (Step.Look x) ≡ true
+look_gates c w seat f (Word.Reg j r) all is =
     all_below-at c.callers j (λ k. is_number_of seat k || is_held w k) all
     (ltb-true j c.callers (and_parts (nat_lt j c.callers) (nat_lt r 8) is).0)
 look_gates c w seat f _ all is = refl
@@ -70,29 +56,29 @@ module _ (p : PassState) (wanted : IsWanted p) (all : HoldsAll p.table.config (n
   phase_two : is_phase (now_of p).words 2 ≡ true
   phase_two = eq-eqb (phase_of (now_of p).words) 2 wanted.phase
 
-  pub may_look : (x : Word) → is_word p.table.config x ≡ true → IsEnabledTo p (step.Look x)
-  may_look x is = may_step p (step.Look x) wanted.ready all.0 refl is
+  pub may_look : (x : Word) → is_word p.table.config x ≡ true → IsEnabledTo p (Step.Look x)
+  may_look x is = may_step p (Step.Look x) wanted.ready all.0 refl is
       (look_gates p.table.config (now_of p).words p.seat (call_of p) x all.1 is) refl refl refl
 
   -- whatever the hand's value stood in
   pub may_mark_by_hand : (cell : Cell)
       → marks_by_hand p.table.config.pages (now_of p).words (hand_of p) cell.page (2 ^ cell.index) ≡ true
-      → cell.page < p.table.config.pages → IsEnabledTo p (step.Mark cell.page (2 ^ cell.index))
+      → cell.page < p.table.config.pages → IsEnabledTo p (Step.Mark cell.page (2 ^ cell.index))
   may_mark_by_hand cell by_hand lt =
-      may_step p (step.Mark cell.page (2 ^ cell.index)) wanted.ready all.0 refl
+      may_step p (Step.Mark cell.page (2 ^ cell.index)) wanted.ready all.0 refl
       (lt-ltb cell.page p.table.config.pages lt) refl
       (or_second (phase_of (now_of p).words == 1) (phase_of (now_of p).words == 2) phase_two) refl
       (or_first (marks_by_hand p.table.config.pages (now_of p).words (hand_of p) cell.page (2 ^ cell.index)) _ by_hand)
 
   pub may_mark_cell : (cell : Cell) → HandPointsInto p cell → cell.page < p.table.config.pages
-      → IsEnabledTo p (step.Mark cell.page (2 ^ cell.index))
+      → IsEnabledTo p (Step.Mark cell.page (2 ^ cell.index))
   may_mark_cell cell reached lt = may_mark_by_hand cell (marks_reached p cell reached) lt
 
   pub may_black_cell : (cell : Cell) → cell.page < p.table.config.pages → cell.index < 32
       → may_turn_black p.table.config.pages (still_words p) cell ≡ true
-      → IsEnabledTo p (step.Black cell.page (2 ^ cell.index))
+      → IsEnabledTo p (Step.Black cell.page (2 ^ cell.index))
   may_black_cell cell lt small turns =
-      may_step p (step.Black cell.page (2 ^ cell.index)) wanted.ready all.0 refl
+      may_step p (Step.Black cell.page (2 ^ cell.index)) wanted.ready all.0 refl
       (lt-ltb cell.page p.table.config.pages lt) all.1 phase_two refl
       (and_from (none_attends (now_of p).seats.markers) (not (all_below 32
       (λ k. not (blackens p.table.config.pages (now_of p).words cell.page (2 ^ cell.index) k))))
@@ -102,18 +88,18 @@ module _ (p : PassState) (wanted : IsWanted p) (all : HoldsAll p.table.config (n
       (ap not (and_from (2 ^ cell.index == 2 ^ cell.index) (may_turn_black p.table.config.pages (now_of p).words cell)
       (eq-eqb (2 ^ cell.index) (2 ^ cell.index) refl) (turns_now p cell turns))))))
 
-  pub may_unblack_page : (page : ℕ) → page < p.table.config.pages → IsEnabledTo p (step.Unblack page)
+  pub may_unblack_page : (page : ℕ) → page < p.table.config.pages → IsEnabledTo p (Step.Unblack page)
   may_unblack_page page lt =
-      may_step p (step.Unblack page) wanted.ready all.0 refl (lt-ltb page p.table.config.pages lt)
+      may_step p (Step.Unblack page) wanted.ready all.0 refl (lt-ltb page p.table.config.pages lt)
       (or_second (not (is_phase (now_of p).words 2)) _ all.1)
       (or_second (phase_of (now_of p).words == 0) (phase_of (now_of p).words == 2) phase_two) refl
       (or_second (not (is_phase (now_of p).words 2)) (none_attends (now_of p).seats.markers)
       (none_by_test (now_of p) wanted.none))
 
   pub may_undirty_page : (page : ℕ) → page < p.table.config.pages → slice_index (still_words p).blacks page ≡ 0
-      → slice_index (still_words p).blacks (head_page (still_words p) page) ≡ 0 → IsEnabledTo p (step.Undirty page)
+      → slice_index (still_words p).blacks (head_page (still_words p) page) ≡ 0 → IsEnabledTo p (Step.Undirty page)
   may_undirty_page page lt own head =
-      may_step p (step.Undirty page) wanted.ready all.0 refl (lt-ltb page p.table.config.pages lt)
+      may_step p (Step.Undirty page) wanted.ready all.0 refl (lt-ltb page p.table.config.pages lt)
       (or_second (not (is_phase (now_of p).words 2)) _ all.1)
       (or_second (phase_of (now_of p).words == 0) (phase_of (now_of p).words == 2) phase_two) refl
       (or_second (not (is_phase (now_of p).words 2)) _

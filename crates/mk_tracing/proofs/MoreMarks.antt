@@ -1,19 +1,12 @@
 -- Marks that are added: what points well goes on doing so.
-use Rattle.std.proofs.Common.{◌≡◌, ◌≢◌, ℕ, ◌^◌, ◌<◌, true, List, length, refl, sym, ◌∙◌, ap, subst}
-use Rattle.std.specs.Prelude.{Option, Some, None, slice_index, slice_set, bit_or}
-use Rattle.mk_geom.specs.declared.addresses.Cell.{Cell}
-use Rattle.mk_geom.specs.declared.pages.Page.{Page}
-use Rattle.mk_core.specs.Bits.{has_bit}
-use Rattle.mk_core.specs.Bounded.{is_none_or}
-use Rattle.mk_core.specs.Cells.{is_marked, pointed_cell, points_well}
-use Rattle.mk_core.specs.Words.{Words}
-use Rattle.mk_core.proofs.Lengths.{histories_keep_lengths}
+use Rattle.mk_laws.proofs.Vocabulary.{Cell, List, None, Option, Page, Some, Words, ℕ, ap, bit_or, has_bit}
+use Rattle.mk_laws.proofs.Vocabulary.{histories_keep_lengths, is_marked, is_none_or, length, pointed_cell, points_well}
+use Rattle.mk_laws.proofs.Vocabulary.{refl, slice_index, slice_set, subst, sym, true, ◌<◌, ◌^◌, ◌∙◌, ◌≡◌, ◌≢◌}
+use Rattle.mk_core.proofs.WordBits.{bit_for_has, bit_for_small, bits_added, bits_stay}
 use Rattle.mk_core.proofs.PointedPages.{pointed_within}
-use Rattle.mk_core.proofs.WordBits.{bits_stay, bits_added, bit_for_small, bit_for_has}
-use Rattle.mk_words.specs.States.{PassState}
+use Rattle.mk_tracing.specs.{Grays.IsInHand, Grays.MarksMore, Stops.hand_of, Stops.still_words}
 use Rattle.mk_turns.proofs.PointedCells.{outside_none}
-use Rattle.mk_tracing.specs.Grays.{IsInHand, MarksMore}
-use Rattle.mk_tracing.specs.Stops.{still_words, hand_of}
+use Rattle.mk_words.specs.States.{PassState}
 
 -- a record with the marks of another
 abbrev pub marked_as : Words → List ℕ → Words

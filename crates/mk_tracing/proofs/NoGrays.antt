@@ -1,17 +1,10 @@
 -- Pages without gray cells, and pages with one.
-use Rattle.std.proofs.Common.{◌≡◌, ℕ, ◌-◌, ◌^◌, ◌<◌, ◌≤◌, min, Bool, true, false, refl, sym, ◌∙◌, ap, subst, inl, inr}
-use Rattle.std.proofs.Common.{arith, bit_and}
-use Rattle.std.specs.Prelude.{slice_index, not, ◌&&◌}
-use Rattle.std.specs.Int.{bit_at}
-use Rattle.std.proofs.lemmas.Bool.{cases_lt, eq-eqb}
-use Rattle.std.proofs.Math.Pow.{pow_pos}
-use Rattle.std.proofs.lemmas.Nat.Bits.{bit_at_and, bit_at_above, bit_at-lt}
-use Rattle.mk_core.specs.Bits.{has_bit, without}
-use Rattle.mk_core.specs.Cells.{header_in, cells_under}
-use Rattle.mk_geom.specs.Headers.{header_of}
-use Rattle.mk_core.specs.Words.{Words, header_at}
-use Rattle.mk_core.proofs.BitsWithout.{has_bit_without}
-use Rattle.mk_core.proofs.WordBits.{zero_from_bits, bit_is_one}
+use Rattle.std.proofs.lemmas.Nat.Bits.{bit_at-lt, bit_at_above, bit_at_and}
+use Rattle.std.proofs.{Common.bit_and, Common.min, Math.Pow.pow_pos}
+use Rattle.mk_laws.proofs.Vocabulary.{Bool, Words, ℕ, ap, arith, bit_at, cases_lt, cells_under, eq-eqb, false, has_bit}
+use Rattle.mk_laws.proofs.Vocabulary.{has_bit_without, header_at, header_in, header_of, inl, inr, not, refl}
+use Rattle.mk_laws.proofs.Vocabulary.{slice_index, subst, sym, true, without, ◌&&◌, ◌-◌, ◌<◌, ◌^◌, ◌∙◌, ◌≡◌, ◌≤◌}
+use Rattle.mk_core.proofs.WordBits.{bit_is_one, zero_from_bits}
 use Rattle.mk_tracing.specs.Grays.{HasNoGray}
 
 -- no bit of the cells is in one word and not in the other

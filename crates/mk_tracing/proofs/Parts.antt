@@ -1,27 +1,17 @@
 -- Tracing in parts: nothing, one part after another, and one step.
-use Rattle.std.proofs.Common.{◌≡◌, ◌+◌, ℕ, Bool, true, false, List, [], ◌∷◌, ◌++◌, refl, sym, ◌∙◌, ap, subst}
-use Rattle.std.proofs.Common.{append-nil, append_assoc, arith}
-use Rattle.std.specs.Prelude.{count_by, cond, if◌then◌else◌}
-use Rattle.std.proofs.lemmas.Bool.{and_parts, and_from, true≢false}
-use Rattle.std.proofs.lemmas.List.Sums.{sum_by-append}
-use Rattle.mk_core.specs.declared.config.Config.{Config}
-use Rattle.mk_core.specs.declared.events.Seat.{Seat}
-use Rattle.mk_core.specs.declared.events.Event.{Event}
-use Rattle.mk_core.specs.declared.events.Step.{Step}
-use Rattle.mk_core.specs.Accesses.{found}
-use Rattle.mk_core.specs.Frames.{CountsAreLeft}
-use Rattle.mk_core.specs.Growing.{is_same_seat, is_one_of, AreOfOthers, Finding, own_from}
-use Rattle.mk_core.specs.History.{World, world_behind, left, left_from}
-use Rattle.mk_core.specs.Moments.{Moment}
-use Rattle.mk_core.proofs.HistoryParts.{left_in_parts}
-use Rattle.mk_words.specs.Seats.{Has}
-use Rattle.mk_words.specs.States.{PassState, world_of, event_of}
-use Rattle.mk_words.specs.Steps.{Makes}
-use Rattle.mk_words.specs.TurnSteps.{world_at}
-use Rattle.mk_words.proofs.Seats.{same_seat, same_self, not_both}
+use Rattle.std.proofs.{Common.count_by, lemmas.List.Sums.sum_by-append}
+use Rattle.mk_laws.proofs.Vocabulary.{Bool, Config, Event, List, Moment, Seat, Step, World, ℕ, and_from, and_parts, ap}
+use Rattle.mk_laws.proofs.Vocabulary.{append-nil, append_assoc, arith, cond, false, found, if◌then◌else◌, is_one_of}
+use Rattle.mk_laws.proofs.Vocabulary.{left, left_in_parts, refl, subst, sym, true, true≢false, world_behind, [], ◌++◌}
+use Rattle.mk_laws.proofs.Vocabulary.{◌+◌, ◌∙◌, ◌∷◌, ◌≡◌}
+use Rattle.mk_core.specs.Growing.{AreOfOthers, Finding, is_same_seat, own_from}
+use Rattle.mk_core.specs.{Frames.CountsAreLeft, History.left_from}
+use Rattle.mk_tracing.specs.Tracing.{Counted, OwnStepsKeep, Traces, untouched_of}
+use Rattle.mk_turns.proofs.Doing.{done_in_parts, none_own, of_kinds_in_parts, others_are_so, own_or_others_in_parts}
 use Rattle.mk_turns.specs.Doing.{AreOwnOrOfOthers, are_of, count_done, done_in}
-use Rattle.mk_turns.proofs.Doing.{done_in_parts, of_kinds_in_parts, own_or_others_in_parts, others_are_so, none_own}
-use Rattle.mk_tracing.specs.Tracing.{Traces, Counted, OwnStepsKeep, untouched_of}
+use Rattle.mk_words.proofs.Seats.{not_both, same_seat, same_self}
+use Rattle.mk_words.specs.States.{PassState, event_of, world_of}
+use Rattle.mk_words.specs.{Seats.Has, Steps.Makes, TurnSteps.world_at}
 
 -- the rule, over a list in two parts
 pub keep_in_parts : (rule : Config → Moment → Step → Type 0) (c : Config) (s : Seat) (w : World) (xs ys : List Event)

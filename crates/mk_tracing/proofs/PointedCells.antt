@@ -1,22 +1,15 @@
 -- The cell into which the hand points, and its marks.
-use Rattle.std.proofs.Common.{◌≡◌, ◌≢◌, ℕ, ◌+◌, ◌-◌, ◌*◌, ◌/◌, ◌%◌, ◌<◌, true, sym, ◌∙◌, ap}
-use Rattle.std.proofs.Common.{arith, option_and_then, nat_le, nat_lt, ◌≤◌}
-use Rattle.std.proofs.lemmas.Bool.{and_parts, leb-true}
-use Rattle.std.specs.Prelude.{Bool, Option, Some, None, if◌then◌else◌}
-use Rattle.mk_geom.specs.declared.addresses.Cell.{Cell}
-use Rattle.mk_geom.specs.declared.headers.Header.{Header}
-use Rattle.mk_geom.specs.declared.headers.Header.TheVariants.{Block}
-use Rattle.mk_geom.specs.Addresses.{cell_at, cell_of_block, cell_under, is_heap_address, page_at_address}
-use Rattle.mk_geom.specs.Addresses.{word_at_address}
-use Rattle.mk_geom.specs.Headers.{header_of}
+use Rattle.std.proofs.Common.{option_and_then}
+use Rattle.mk_laws.proofs.Vocabulary.{Block, Bool, Cell, Header, None, Option, Some, Words, ℕ, and_parts, ap, arith}
+use Rattle.mk_laws.proofs.Vocabulary.{cell_at, header_at, header_of, if◌then◌else◌, is_heap_address, is_marked}
+use Rattle.mk_laws.proofs.Vocabulary.{leb-true, nat_le, nat_lt, page_at_address, pointed_cell, points_well, sym, true}
+use Rattle.mk_laws.proofs.Vocabulary.{◌%◌, ◌*◌, ◌+◌, ◌-◌, ◌/◌, ◌<◌, ◌∙◌, ◌≡◌, ◌≢◌, ◌≤◌}
 use Rattle.mk_geom.proofs.HeaderLemmas.{header_of-word_of}
-use Rattle.mk_core.specs.Cells.{is_marked, pointed_cell, points_well}
-use Rattle.mk_core.specs.Words.{Words, header_at}
-use Rattle.mk_words.specs.States.{PassState, WordsState}
-use Rattle.mk_turns.proofs.PointedCells.{found_by_header}
-use Rattle.mk_tracing.specs.Grays.{HandPointsInto, IsInHand, MarksMore}
-use Rattle.mk_tracing.specs.Stops.{hand_of, still_words}
+use Rattle.mk_geom.specs.Addresses.{cell_of_block, cell_under, word_at_address}
 use Rattle.mk_tracing.proofs.MoreMarks.{hand_kept, some_not_zero, well_none, well_some}
+use Rattle.mk_tracing.specs.{Grays.HandPointsInto, Grays.IsInHand, Grays.MarksMore, Stops.hand_of, Stops.still_words}
+use Rattle.mk_turns.proofs.PointedCells.{found_by_header}
+use Rattle.mk_words.specs.States.{PassState, WordsState}
 
 -- The hand points into the cell that its value points into.
 pub hand_points : (p : PassState) (t : WordsState) (value : ℕ) (cell : Cell) → p.table ≡ t

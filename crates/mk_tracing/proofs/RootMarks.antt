@@ -1,34 +1,17 @@
 -- Roots that point well, one after the other.
-use Rattle.std.proofs.Common.{◌≡◌, ◌⊎◌, ℕ, ◌+◌, ◌*◌, ◌-◌, ◌/◌, ◌%◌, ◌<◌, ◌≤◌, Bool, true, false, List, refl, sym, ◌∙◌}
-use Rattle.std.proofs.Common.{ap}
-use Rattle.std.proofs.Common.{subst, inl, inr, nat_le, nat_lt, bit_or}
-use Rattle.std.proofs.Common.{arith, slice_index_or}
-use Rattle.std.specs.Prelude.{◌&&◌, slice_index}
-use Rattle.std.proofs.lemmas.Bool.{cases_Bool, cases_lt, leb-true}
-use Rattle.mk_geom.specs.Addresses.{is_heap_address}
-use Rattle.std.proofs.lemmas.List.{get_or_past}
 use Rattle.std.proofs.lemmas.Nat.{le_or_l, le_or_r}
-use Rattle.mk_never.specs.declared.values.Value.{Value}
-use Rattle.mk_never.specs.declared.values.Value.TheVariants.{Null}
-use Rattle.mk_core.specs.declared.config.Config.{Config}
-use Rattle.mk_core.specs.declared.events.Event.{Event}
-use Rattle.mk_core.specs.declared.events.Word.{Word}
-use Rattle.mk_core.specs.declared.events.Word.TheVariants as word
-use Rattle.mk_core.specs.declared.seats.Flight.{Flight}
-use Rattle.mk_core.specs.Calls.{at_rest}
-use Rattle.mk_core.specs.Cells.{points_well}
-use Rattle.mk_core.specs.History.{left, never_behind, IsHistory, bases_of}
-use Rattle.mk_core.specs.Image.{image_of}
-use Rattle.mk_core.specs.Words.{Words, named_word, register_word}
-use Rattle.mk_core.proofs.Lengths.{histories_keep_lengths}
-use Rattle.mk_laws.proofs.Protocols.{lists_keep_the_protocol}
-use Rattle.mk_laws.specs.Images.{flight_among, shown}
-use Rattle.mk_laws.proofs.InvariantHistories.{histories_keep_the_invariant}
-use Rattle.mk_words.specs.States.{PassState, now_of}
+use Rattle.mk_laws.proofs.Vocabulary.{Bool, Config, Event, Flight, IsHistory, List, Null, Value, Word, Words, ℕ, ap}
+use Rattle.mk_laws.proofs.Vocabulary.{arith, at_rest, bases_of, bit_or, cases_Bool, cases_lt, false, flight_among}
+use Rattle.mk_laws.proofs.Vocabulary.{get_or_past, histories_keep_lengths, image_of, inl, inr, is_heap_address}
+use Rattle.mk_laws.proofs.Vocabulary.{leb-true, left, nat_le, nat_lt, never_behind, points_well, refl, register_word}
+use Rattle.mk_laws.proofs.Vocabulary.{shown, slice_index, slice_index_or, subst, sym, true, ◌%◌, ◌&&◌, ◌*◌, ◌+◌, ◌-◌}
+use Rattle.mk_laws.proofs.Vocabulary.{◌/◌, ◌<◌, ◌∙◌, ◌≡◌, ◌≤◌, ◌⊎◌}
+use Rattle.mk_core.specs.Words.{named_word}
+use Rattle.mk_laws.proofs.{InvariantHistories.histories_keep_the_invariant, Protocols.lists_keep_the_protocol}
+use Rattle.mk_tracing.proofs.MoreMarks.{marked_as, well_more, well_none, zero_none}
+use Rattle.mk_tracing.specs.{Grays.MarksMore, Grays.RootsPointWell, Stops.is_root}
 use Rattle.mk_turns.proofs.PointedCells.{outside_none}
-use Rattle.mk_tracing.specs.Grays.{MarksMore, RootsPointWell}
-use Rattle.mk_tracing.specs.Stops.{is_root}
-use Rattle.mk_tracing.proofs.MoreMarks.{well_more, well_none, zero_none, marked_as}
+use Rattle.mk_words.specs.States.{PassState, now_of}
 
 -- Each value below one points well, and so does the next.
 pub values_then : (pages : ℕ) (v x : Words) (value : ℕ → ℕ) (i : ℕ) → MarksMore v x
@@ -44,8 +27,8 @@ pub root_kept : (w v : Words) (x : Word) → is_root x ≡ true → MarksMore w 
 root_kept w v x root more = ap (λ (y : Words). named_word y x) more.is ∙ by x root
   where
     by : (y : Word) → is_root y ≡ true → named_word (marked_as w v.marks) y ≡ named_word w y
-    by (word.Reg j r) h = refl
-    by (word.Global g) h = refl
+    by (Word.Reg j r) h = refl
+    by (Word.Global g) h = refl
     by _ h = cc
 
 -- A value before the heap points well.
@@ -76,7 +59,7 @@ groups_then pages w v x group old more before here g lt = elim (cases_lt g (8 * 
   | inl below ↦ well_more pages v x (slice_index w.globals g) more (before g below)
   | inr past ↦
       let at : 8 * group + (g - 8 * group) ≡ g = omega arith in
-      subst (λ (n : ℕ). points_well pages x n ≡ true) (root_kept w v (word.Global g) refl old)
+      subst (λ (n : ℕ). points_well pages x n ≡ true) (root_kept w v (Word.Global g) refl old)
       (subst (λ (j : ℕ). points_well pages x (slice_index v.globals j) ≡ true) at
       (here (g - 8 * group) (omega arith)))
 ]

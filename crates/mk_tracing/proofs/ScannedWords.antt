@@ -1,13 +1,9 @@
 -- The words of a cell that is scanned, which point well one after the other.
-use Rattle.std.proofs.Common.{◌≡◌, ℕ, ◌+◌, ◌*◌, ◌-◌, ◌<◌, ◌≤◌, true, refl, sym, ◌∙◌, ap, subst, inl, inr, arith}
-use Rattle.std.proofs.lemmas.Bool.{cases_lt}
-use Rattle.mk_geom.specs.declared.addresses.Cell.{Cell}
-use Rattle.std.specs.Prelude.{slice_index}
-use Rattle.mk_core.specs.Cells.{cell_words, first_word, has_no_pointers, header_in, points_well}
-use Rattle.mk_core.specs.Words.{Words}
-use Rattle.mk_tracing.specs.Grays.{IsDue, MarksMore}
-use Rattle.mk_tracing.proofs.Blackened.{cell_kept, gray_kept}
-use Rattle.mk_tracing.proofs.MoreMarks.{more_same, more_then, well_more}
+use Rattle.mk_laws.proofs.Vocabulary.{Cell, Words, ℕ, ap, arith, cases_lt, cell_words, first_word, has_no_pointers}
+use Rattle.mk_laws.proofs.Vocabulary.{header_in, inl, inr, points_well, refl, slice_index, subst, sym, true, ◌*◌, ◌+◌}
+use Rattle.mk_laws.proofs.Vocabulary.{◌-◌, ◌<◌, ◌∙◌, ◌≡◌, ◌≤◌}
+use Rattle.mk_tracing.{proofs.Blackened.cell_kept, proofs.Blackened.gray_kept, proofs.MoreMarks.more_same}
+use Rattle.mk_tracing.{proofs.MoreMarks.more_then, proofs.MoreMarks.well_more, specs.Grays.IsDue, specs.Grays.MarksMore}
 
 -- A cell stays due through looks, and after marks.
 

@@ -1,61 +1,26 @@
 -- One step of tracing: it may come, and leaves alone what tracing doesn't touch.
-use Rattle.std.proofs.Common.{◌≡◌, ℕ, ◌+◌, Bool, true, false, List, [], ◌∷◌, ◌++◌, Option, refl, sym, ◌∙◌, ap, subst}
-use Rattle.std.proofs.Common.{arith, append-nil}
-use Rattle.std.specs.Prelude.{Some, None, slice_index, slice_set, slice_index_or, ◌==◌, if◌then◌else◌, not, ◌&&◌}
-use Rattle.std.specs.Prelude.{count_by, cond}
-use Rattle.std.proofs.lemmas.Bool.{and_from, lt-ltb, eq-eqb, not-true}
-use Rattle.std.proofs.lemmas.List.{set-get_or}
-use Rattle.std.proofs.lemmas.List.Sums.{sum_by-append}
-use Rattle.mk_never.specs.declared.operations.Op.{Op}
-use Rattle.mk_never.specs.declared.operations.Op.TheVariants as op
-use Rattle.mk_geom.specs.declared.pages.Place.{Place}
-use Rattle.mk_geom.specs.declared.addresses.Cell.{Cell}
-use Rattle.mk_core.specs.declared.config.Config.{Config}
-use Rattle.mk_core.specs.declared.events.Answer.{Answer}
-use Rattle.mk_core.specs.declared.events.Event.{Event}
-use Rattle.mk_core.specs.declared.events.Group.{Group}
-use Rattle.mk_core.specs.declared.events.Group.TheVariants as group
-use Rattle.mk_core.specs.declared.events.Seat.{Seat}
-use Rattle.mk_core.specs.declared.events.Seat.TheVariants.{Caller, Marker, Host}
-use Rattle.mk_core.specs.declared.events.Step.{Step}
-use Rattle.mk_core.specs.declared.events.Step.TheVariants as step
-use Rattle.mk_core.specs.declared.events.Word.{Word}
-use Rattle.mk_core.specs.declared.events.Word.TheVariants as word
-use Rattle.mk_core.specs.declared.seats.Flight.{Flight}
-use Rattle.mk_core.specs.declared.seats.Holding.{Holding}
-use Rattle.mk_core.specs.declared.seats.Object.{Object}
-use Rattle.mk_core.specs.declared.seats.Placing.{Placing}
-use Rattle.mk_core.specs.declared.seats.Progress.{Progress}
-use Rattle.mk_core.specs.declared.seats.Stage.{Stage}
-use Rattle.mk_core.specs.declared.seats.Stage.TheVariants as stage
-use Rattle.mk_core.specs.Words.{Words, phase_of, header_at}
-use Rattle.mk_core.specs.Accesses.{found, caller_number}
-use Rattle.mk_core.specs.declared.events.Answer.TheVariants as answer
-use Rattle.mk_core.specs.Calls.{at_rest, still}
-use Rattle.mk_core.specs.Counts.{ends, is_full_answer}
-use Rattle.mk_core.specs.Decided.{Decided, entry_of, answered}
-use Rattle.mk_core.specs.Cycles.{is_end}
-use Rattle.mk_core.specs.Effects.{decided, progress, sees_double, flights_behind, chosen, answer_decided}
-use Rattle.mk_core.specs.Enabled.{marker_may, holder_may}
-use Rattle.mk_core.specs.Frames.{HoldsAll, Steady, Written, steady_of, written_of, CountsAreLeft}
-use Rattle.mk_core.specs.History.{World, world_behind, left, first_world, calls}
-use Rattle.mk_core.specs.Moments.{Moment, flight_of, marker_at, outside, is_phase}
-use Rattle.mk_core.specs.NewPlaces.{object_made, bits_made, target}
-use Rattle.mk_core.specs.Order.{seat_exists, comes_next, comes_next_to_host, may_decide_new, is_of_any_holder}
-use Rattle.mk_core.specs.Order.{is_of_turn}
-use Rattle.mk_core.specs.Order.{is_in_order, is_open_to, group_of, host_has_turn}
-use Rattle.mk_core.specs.Ranges.{is_in_range, has_gates, has_phase}
-use Rattle.mk_core.specs.Readings.{Holds}
-use Rattle.mk_core.specs.StopConditions.{marks_place}
-use Rattle.mk_core.specs.TurnConditions.{place_now}
-use Rattle.mk_core.proofs.Conditions.{meets_enabled}
-use Rattle.mk_core.proofs.Histories.{calls_more}
-use Rattle.mk_words.specs.States.{PassState, now_of, call_of, world_of, event_of}
-use Rattle.mk_words.specs.Steps.{Makes, IsEnabledTo, may_decide as may_decide_call}
-use Rattle.mk_words.specs.TurnSteps.{Acts, world_at}
-use Rattle.mk_words.proofs.Undecided.{decides_nothing}
+use Rattle.std.proofs.{Common.count_by, lemmas.List.Sums.sum_by-append}
+use Rattle.mk_laws.proofs.Vocabulary.{Answer, Bool, Caller, Cell, Config, Decided, Event, Flight, Group, Holding, Holds}
+use Rattle.mk_laws.proofs.Vocabulary.{Host, List, Marker, Moment, None, Object, Op, Option, Place, Placing, Progress}
+use Rattle.mk_laws.proofs.Vocabulary.{Seat, Some, Stage, Steady, Step, Word, Words, World, Written, ℕ, and_from}
+use Rattle.mk_laws.proofs.Vocabulary.{answer_decided, answered, ap, append-nil, arith, at_rest, caller_number, calls}
+use Rattle.mk_laws.proofs.Vocabulary.{chosen, comes_next, cond, decided, ends, entry_of, eq-eqb, false, first_world}
+use Rattle.mk_laws.proofs.Vocabulary.{flight_of, found, group_of, has_gates, has_phase, header_at, holder_may}
+use Rattle.mk_laws.proofs.Vocabulary.{host_has_turn, if◌then◌else◌, is_end, is_in_range, is_of_turn, is_open_to}
+use Rattle.mk_laws.proofs.Vocabulary.{is_phase, left, lt-ltb, marker_at, marker_may, marks_place, not, not-true}
+use Rattle.mk_laws.proofs.Vocabulary.{object_made, outside, phase_of, place_now, progress, refl, seat_exists}
+use Rattle.mk_laws.proofs.Vocabulary.{sees_double, set-get_or, slice_index, slice_index_or, slice_set, still, subst}
+use Rattle.mk_laws.proofs.Vocabulary.{sym, target, true, world_behind, [], ◌&&◌, ◌++◌, ◌+◌, ◌==◌, ◌∙◌, ◌∷◌, ◌≡◌}
+use Rattle.mk_core.proofs.{Conditions.meets_enabled, Histories.calls_more}
+use Rattle.mk_core.specs.Frames.{CountsAreLeft, HoldsAll, steady_of, written_of}
+use Rattle.mk_core.specs.Order.{comes_next_to_host, is_in_order, is_of_any_holder, may_decide_new}
+use Rattle.mk_core.specs.{Counts.is_full_answer, Effects.flights_behind, NewPlaces.bits_made}
 use Rattle.mk_tracing.specs.Stops.{HolderIsLoaded, is_loaded, is_loaded_at}
-use Rattle.mk_tracing.specs.Tracing.{Untouched, untouched_of, is_tracing}
+use Rattle.mk_tracing.specs.Tracing.{Untouched, is_tracing, untouched_of}
+use Rattle.mk_words.proofs.Undecided.{decides_nothing}
+use Rattle.mk_words.specs.States.{PassState, call_of, event_of, now_of, world_of}
+use Rattle.mk_words.specs.Steps.{IsEnabledTo, Makes, may_decide as may_decide_call}
+use Rattle.mk_words.specs.TurnSteps.{Acts, world_at}
 
 -- what tracing doesn't touch, from what the frame law speaks of
 abbrev untouched_by : Steady → Written → Holding → Untouched
@@ -93,18 +58,18 @@ others_leave_untouched p q s a all =
 -- Any step of a holder comes next, where the call has loaded what it loads.
 
 any_decides : (o : Op) (s : Step) → is_of_any_holder s ≡ true → may_decide_new o s ≡ true
-any_decides (op.New d ty full) step.Grant h = refl
-any_decides (op.New d ty full) step.Full h = refl
+any_decides (Op.New d ty full) Step.Grant h = refl
+any_decides (Op.New d ty full) Step.Full h = refl
 any_decides o s h = h
 
 next_at : (t : Stage) (o : Op) (s : Step) → is_loaded_at t ≡ true → is_of_any_holder s ≡ true → comes_next t o s ≡ true
-next_at stage.Turn o s l h = any_decides o s h
-next_at stage.Give o s l h = h
+next_at Stage.Turn o s l h = any_decides o s h
+next_at Stage.Give o s l h = h
 next_at _ o s l h = cc
 
 host_next : (b : Bool) (s : Step) → b ≡ true → is_of_any_holder s ≡ true → comes_next_to_host b s ≡ true
-host_next b (step.Take o) e h = cc
-host_next b step.Over e h = refl
+host_next b (Step.Take o) e h = cc
+host_next b Step.Over e h = refl
 host_next b s e h = and_from b (is_of_any_holder s) e h
 
 in_order_of : (c : Config) (m : Moment) (seat : Seat) (s : Step) → Holds c m seat
@@ -117,9 +82,9 @@ in_order_of c m Host s holds loaded any = host_next (host_has_turn c m) s
     (eq-eqb m.words.turn (1 + c.callers) holds) any
 
 any_turn : (s : Step) → is_of_any_holder s ≡ true → is_of_turn (group_of s) ≡ true
-any_turn (step.Take o) h = cc
-any_turn step.Grant h = refl
-any_turn step.Full h = refl
+any_turn (Step.Take o) h = cc
+any_turn Step.Grant h = refl
+any_turn Step.Full h = refl
 any_turn s h = h
 
 pub exists_of : (c : Config) (m : Moment) (seat : Seat) → Holds c m seat → seat_exists c seat ≡ true
@@ -129,10 +94,10 @@ exists_of c m Host holds = refl
 
 open_of : (c : Config) (m : Moment) (seat : Seat) (g : Group) → Holds c m seat → is_of_turn g ≡ true
     → is_open_to seat g ≡ true
-open_of c m (Caller k) group.Turn holds h = refl
+open_of c m (Caller k) Group.Turn holds h = refl
 open_of c m (Caller k) _ holds h = cc
 open_of c m (Marker k) g holds h = absurd holds
-open_of c m Host group.Turn holds h = refl
+open_of c m Host Group.Turn holds h = refl
 open_of c m Host _ holds h = cc
 
 no_marker : (c : Config) (m : Moment) (seat : Seat) (s : Step) → Holds c m seat
@@ -171,18 +136,18 @@ flights_stay c m Host n s still = refl
 
 -- looks that decide nothing
 abbrev pub is_quiet : Step → Bool
-is_quiet (step.Look (word.Quar p)) = false
+is_quiet (Step.Look (Word.Quar p)) = false
 is_quiet s = is_tracing s
 
-sees_nothing : (w : Words) (cell : Option Cell) (x : Word) → is_quiet (step.Look x) ≡ true
+sees_nothing : (w : Words) (cell : Option Cell) (x : Word) → is_quiet (Step.Look x) ≡ true
     → sees_double w cell x ≡ false
-sees_nothing w cell (word.Quar p) h = cc
+sees_nothing w cell (Word.Quar p) h = cc
 sees_nothing w cell _ h = refl
 
-look_still : (c : Config) (m : Moment) (x : Word) (n : ℕ) → is_quiet (step.Look x) ≡ true → (f : Flight)
-    → (progress c m f n (step.Look x)).flight ≡ f
+look_still : (c : Config) (m : Moment) (x : Word) (n : ℕ) → is_quiet (Step.Look x) ≡ true → (f : Flight)
+    → (progress c m f n (Step.Look x)).flight ≡ f
 look_still c m x n h f =
-    let at : Bool → Progress = λ (b : Bool). if b then decided f answer.Double else still f in
+    let at : Bool → Progress = λ (b : Bool). if b then decided f Answer.Double else still f in
     ap (λ (b : Bool). (at b).flight) (sees_nothing m.words (target c.pages m.words f) x h)
 
 -- no place gets marks in the stop
@@ -198,37 +163,37 @@ with_flights w fs e = ap (λ (gs : List Flight). record (untouched_of w) { fligh
 
 -- a mark while no place is being marked
 abbrev pub is_late : Words → Step → Bool
-is_late w (step.Mark p v) = not (is_phase w 1)
+is_late w (Step.Mark p v) = not (is_phase w 1)
 is_late w _ = true
 
 untouched_behind : (c : Config) (w : World) (seat : Seat) (s : Step) → is_quiet s ≡ true → is_late w.now.words s ≡ true
     → untouched_of (world_behind c w (record { seat = seat; step = s })) ≡ untouched_of w
-untouched_behind c w seat (step.Look (word.Quar p)) h late = cc
-untouched_behind c w seat (step.Look x) h late =
-    with_flights w (flights_behind c w.now seat (found c w.now (record { seat = seat; step = step.Look x }))
-    (step.Look x))
-    (flights_stay c w.now seat (found c w.now (record { seat = seat; step = step.Look x })) (step.Look x)
-    (look_still c w.now x (found c w.now (record { seat = seat; step = step.Look x })) h))
-untouched_behind c w seat step.Want h late =
-    with_flights w (flights_behind c w.now seat w.now.words.phase step.Want)
-    (flights_stay c w.now seat w.now.words.phase step.Want (λ f. refl))
-untouched_behind c w seat (step.Mark p v) h late =
+untouched_behind c w seat (Step.Look (Word.Quar p)) h late = cc
+untouched_behind c w seat (Step.Look x) h late =
+    with_flights w (flights_behind c w.now seat (found c w.now (record { seat = seat; step = Step.Look x }))
+    (Step.Look x))
+    (flights_stay c w.now seat (found c w.now (record { seat = seat; step = Step.Look x })) (Step.Look x)
+    (look_still c w.now x (found c w.now (record { seat = seat; step = Step.Look x })) h))
+untouched_behind c w seat Step.Want h late =
+    with_flights w (flights_behind c w.now seat w.now.words.phase Step.Want)
+    (flights_stay c w.now seat w.now.words.phase Step.Want (λ f. refl))
+untouched_behind c w seat (Step.Mark p v) h late =
     let f : Flight = flight_of w.now seat in
-    let fs : List Flight = flights_behind c w.now seat (slice_index w.now.words.marks p) (step.Mark p v) in
+    let fs : List Flight = flights_behind c w.now seat (slice_index w.now.words.marks p) (Step.Mark p v) in
     let place : Option Place = place_now c w.now f in
     let x : Placing = w.now.seats.holding.placing in
     ap (λ (b : Bool). record (untouched_of w) { flights = fs; placing = if b then chosen x place else x })
     (no_place_marked w.now.words (object_made c f.op) place p v (not-true (is_phase w.now.words 1) late))
-    ∙ with_flights w fs (flights_stay c w.now seat (slice_index w.now.words.marks p) (step.Mark p v) (λ f. refl))
-untouched_behind c w seat (step.Undirty p) h late =
-    with_flights w (flights_behind c w.now seat (slice_index w.now.words.dirty p) (step.Undirty p))
-    (flights_stay c w.now seat (slice_index w.now.words.dirty p) (step.Undirty p) (λ f. refl))
-untouched_behind c w seat (step.Black p v) h late =
-    with_flights w (flights_behind c w.now seat (slice_index w.now.words.blacks p) (step.Black p v))
-    (flights_stay c w.now seat (slice_index w.now.words.blacks p) (step.Black p v) (λ f. refl))
-untouched_behind c w seat (step.Unblack p) h late =
-    with_flights w (flights_behind c w.now seat (slice_index w.now.words.blacks p) (step.Unblack p))
-    (flights_stay c w.now seat (slice_index w.now.words.blacks p) (step.Unblack p) (λ f. refl))
+    ∙ with_flights w fs (flights_stay c w.now seat (slice_index w.now.words.marks p) (Step.Mark p v) (λ f. refl))
+untouched_behind c w seat (Step.Undirty p) h late =
+    with_flights w (flights_behind c w.now seat (slice_index w.now.words.dirty p) (Step.Undirty p))
+    (flights_stay c w.now seat (slice_index w.now.words.dirty p) (Step.Undirty p) (λ f. refl))
+untouched_behind c w seat (Step.Black p v) h late =
+    with_flights w (flights_behind c w.now seat (slice_index w.now.words.blacks p) (Step.Black p v))
+    (flights_stay c w.now seat (slice_index w.now.words.blacks p) (Step.Black p v) (λ f. refl))
+untouched_behind c w seat (Step.Unblack p) h late =
+    with_flights w (flights_behind c w.now seat (slice_index w.now.words.blacks p) (Step.Unblack p))
+    (flights_stay c w.now seat (slice_index w.now.words.blacks p) (Step.Unblack p) (λ f. refl))
 untouched_behind c w seat _ h late = cc
 
 -- No cycle ends, and no call is decided.
@@ -249,17 +214,17 @@ no_call_more c es e none =
     ∙ append-nil (calls c es)
 
 quiet_decides_nothing : (s : Step) → is_quiet s ≡ true → may_decide_call s ≡ false
-quiet_decides_nothing (step.Look (word.Quar p)) h = cc
-quiet_decides_nothing (step.Look x) h = refl
-quiet_decides_nothing step.Want h = refl
-quiet_decides_nothing (step.Mark p v) h = refl
-quiet_decides_nothing (step.Undirty p) h = refl
-quiet_decides_nothing (step.Black p v) h = refl
-quiet_decides_nothing (step.Unblack p) h = refl
+quiet_decides_nothing (Step.Look (Word.Quar p)) h = cc
+quiet_decides_nothing (Step.Look x) h = refl
+quiet_decides_nothing Step.Want h = refl
+quiet_decides_nothing (Step.Mark p v) h = refl
+quiet_decides_nothing (Step.Undirty p) h = refl
+quiet_decides_nothing (Step.Black p v) h = refl
+quiet_decides_nothing (Step.Unblack p) h = refl
 quiet_decides_nothing _ h = cc
 
 quiet_ends_nothing : (s : Step) → is_quiet s ≡ true → is_end s ≡ false
-quiet_ends_nothing step.End h = cc
+quiet_ends_nothing Step.End h = cc
 quiet_ends_nothing _ h = refl
 
 counts_more : (c : Config) (es : List Event) (seat : Seat) (s : Step) → is_quiet s ≡ true

@@ -1,43 +1,24 @@
 -- In the stop, where no marker attends, the words are at each step as they were left, but for the phase.
-use Rattle.std.proofs.Common.{◌≡◌, ℕ, ◌%◌, Bool, true, false, List, Option, option_and_then, refl, sym, ◌∙◌, ap, subst}
-use Rattle.std.proofs.Common.{arith}
-use Rattle.std.specs.Prelude.{Some, None, slice_index_or, if◌then◌else◌, not, ◌&&◌}
-use Rattle.std.proofs.lemmas.Bool.{ne_eqb}
-use Rattle.mk_core.specs.declared.config.Config.{Config}
-use Rattle.mk_core.specs.declared.events.Seat.{Seat}
-use Rattle.mk_core.specs.declared.events.Seat.TheVariants.{Caller, Marker, Host}
-use Rattle.mk_core.specs.declared.events.Step.{Step}
-use Rattle.mk_core.specs.declared.events.Step.TheVariants as step
-use Rattle.mk_core.specs.declared.events.Word.{Word}
-use Rattle.mk_core.specs.declared.events.Word.TheVariants as word
-use Rattle.mk_core.specs.declared.seats.Hand.{Hand}
-use Rattle.mk_core.specs.declared.seats.Holding.{Holding}
-use Rattle.mk_core.specs.declared.seats.Marker.{Marker as MarkerState}
-use Rattle.mk_core.specs.declared.seats.Source.TheVariants.{Root, Marked, Unmarked}
-use Rattle.mk_core.specs.Accesses.{found}
-use Rattle.mk_geom.specs.declared.addresses.Cell.{Cell}
-use Rattle.mk_geom.specs.Addresses.{address_of}
-use Rattle.mk_geom.specs.PageUses.{or_else}
-use Rattle.mk_never.specs.declared.operations.Op.{Op}
-use Rattle.mk_core.specs.Cells.{header_in, pointed_cell, is_marked, has_no_pointers}
-use Rattle.mk_core.specs.Effects.{markers_behind, hand_given, hand_of_cell, is_in_stop, is_mapped_cell}
-use Rattle.mk_core.specs.Frames.{TurnIsLeft, HoldsAll, Steady, Written, steady_of, written_of}
-use Rattle.mk_core.specs.History.{World, world_behind}
-use Rattle.mk_core.specs.Moments.{Moment, outside}
-use Rattle.mk_core.specs.Readings.{Holds, NoneAttends}
-use Rattle.mk_core.specs.StopConditions.{is_attending}
-use Rattle.mk_core.specs.Words.{Words, phase_of, named_word}
-use Rattle.mk_words.specs.Seats.{Has}
-use Rattle.mk_words.specs.States.{PassState, now_of, world_of, event_of}
-use Rattle.mk_words.specs.Steps.{Finds}
-use Rattle.mk_words.specs.TurnSteps.{Acts, world_at}
-use Rattle.mk_turns.proofs.PointedCells.{found_there}
-use Rattle.mk_tracing.specs.Grays.{with_marks, with_blacks, without_blacks, without_dirty, MarksOn, IsInHand}
-use Rattle.mk_tracing.specs.Grays.{TracesReached}
-use Rattle.mk_tracing.specs.Stops.{IsWanted, is_page_word, is_root, is_still_word, still_words, hand_of}
-use Rattle.mk_tracing.specs.Tracing.{Traces, untouched_of, is_marking}
-use Rattle.mk_tracing.proofs.Steps.{is_quiet, is_late, step_counts, step_untouched, still_ready}
+use Rattle.std.proofs.Common.{option_and_then}
+use Rattle.mk_laws.proofs.Vocabulary.{Bool, Caller, Cell, Config, Hand, Holding, Holds, Host, List, Marker, MarkerState}
+use Rattle.mk_laws.proofs.Vocabulary.{Moment, None, Op, Option, Seat, Some, Steady, Step, TurnIsLeft, Word, Words}
+use Rattle.mk_laws.proofs.Vocabulary.{World, Written, ℕ, address_of, ap, arith, false, found, has_no_pointers}
+use Rattle.mk_laws.proofs.Vocabulary.{header_in, if◌then◌else◌, is_attending, is_marked, ne_eqb, not, or_else, outside}
+use Rattle.mk_laws.proofs.Vocabulary.{phase_of, pointed_cell, refl, slice_index_or, subst, sym, true, world_behind, ◌%◌}
+use Rattle.mk_laws.proofs.Vocabulary.{◌&&◌, ◌∙◌, ◌≡◌}
+use Rattle.mk_core.specs.Effects.{hand_given, hand_of_cell, is_in_stop, is_mapped_cell, markers_behind}
+use Rattle.mk_core.specs.Frames.{HoldsAll, steady_of, written_of}
+use Rattle.mk_core.specs.declared.seats.Source.TheVariants.{Marked, Root, Unmarked}
+use Rattle.mk_core.specs.{Readings.NoneAttends, Words.named_word}
+use Rattle.mk_tracing.proofs.Steps.{is_late, is_quiet, step_counts, step_untouched, still_ready}
 use Rattle.mk_tracing.proofs.Parts.{traces_step}
+use Rattle.mk_tracing.specs.Grays.{IsInHand, MarksOn, TracesReached, with_blacks, with_marks, without_blacks}
+use Rattle.mk_tracing.specs.Grays.{without_dirty}
+use Rattle.mk_tracing.specs.Stops.{IsWanted, hand_of, is_page_word, is_root, is_still_word, still_words}
+use Rattle.mk_tracing.specs.Tracing.{Traces, is_marking, untouched_of}
+use Rattle.mk_turns.proofs.PointedCells.{found_there}
+use Rattle.mk_words.specs.States.{PassState, event_of, now_of, world_of}
+use Rattle.mk_words.specs.{Seats.Has, Steps.Finds, TurnSteps.Acts, TurnSteps.world_at}
 
 abbrev words_by : Steady → Written → List ℕ → List ℕ → Words
 words_by s y marks blacks =
@@ -76,21 +57,21 @@ words_left {w} {v} turn written two none =
 
 -- the steps in the stop after the wish
 abbrev pub is_stopped_step : Step → Bool
-is_stopped_step step.Want = false
+is_stopped_step Step.Want = false
 is_stopped_step s = is_quiet s
 
 quiet_of : (s : Step) → is_stopped_step s ≡ true → is_quiet s ≡ true
-quiet_of step.Want h = refl
+quiet_of Step.Want h = refl
 quiet_of s h = h
 
 phase_behind : (c : Config) (w : World) (seat : Seat) (s : Step) → is_stopped_step s ≡ true
     → (world_behind c w (record { seat = seat; step = s })).now.words.phase ≡ w.now.words.phase
-phase_behind c w seat (step.Look (word.Quar p)) h = cc
-phase_behind c w seat (step.Look x) h = refl
-phase_behind c w seat (step.Mark p v) h = refl
-phase_behind c w seat (step.Undirty p) h = refl
-phase_behind c w seat (step.Black p v) h = refl
-phase_behind c w seat (step.Unblack p) h = refl
+phase_behind c w seat (Step.Look (Word.Quar p)) h = cc
+phase_behind c w seat (Step.Look x) h = refl
+phase_behind c w seat (Step.Mark p v) h = refl
+phase_behind c w seat (Step.Undirty p) h = refl
+phase_behind c w seat (Step.Black p v) h = refl
+phase_behind c w seat (Step.Unblack p) h = refl
 phase_behind c w seat _ h = cc
 
 markers_stay : (c : Config) (m : Moment) (seat : Seat) (n : ℕ) (s : Step) (l : Moment) → Holds c l seat
@@ -125,7 +106,7 @@ module _ (p q : PassState) (s : Step) (a : Acts p s q) (wanted : IsWanted p)
   late = by s
     where
       by : (x : Step) → is_late (world_at a.makes).now.words x ≡ true
-      by (step.Mark pg v) = ap not (ne_eqb (phase_of (world_at a.makes).now.words) 1
+      by (Step.Mark pg v) = ap not (ne_eqb (phase_of (world_at a.makes).now.words) 1
           (λ e. let two = phase_there p q s a wanted all in omega arith))
       by _ = refl
 
@@ -152,25 +133,25 @@ module _ (p q : PassState) (s : Step) (a : Acts p s q) (wanted : IsWanted p)
 -- what each step leaves
 
 module _ (p q : PassState) (wanted : IsWanted p) (all : HoldsAll p.table.config (now_of p) p.seat) where
-  pub look_words : (x : Word) → Acts p (step.Look x) q → still_words q ≡ still_words p
+  pub look_words : (x : Word) → Acts p (Step.Look x) q → still_words q ≡ still_words p
   look_words x a = ap (λ (w : World). but_phase w.now.words) a.world ∙ words_there p q
-      (step.Look x) a wanted all
+      (Step.Look x) a wanted all
 
-  pub mark_words : (pg v : ℕ) → Acts p (step.Mark pg v) q → still_words q ≡ with_marks pg v (still_words p)
+  pub mark_words : (pg v : ℕ) → Acts p (Step.Mark pg v) q → still_words q ≡ with_marks pg v (still_words p)
   mark_words pg v a = ap (λ (w : World). but_phase w.now.words) a.world ∙ ap (with_marks pg v)
-      (words_there p q (step.Mark pg v) a wanted all)
+      (words_there p q (Step.Mark pg v) a wanted all)
 
-  pub black_words : (pg v : ℕ) → Acts p (step.Black pg v) q → still_words q ≡ with_blacks pg v (still_words p)
+  pub black_words : (pg v : ℕ) → Acts p (Step.Black pg v) q → still_words q ≡ with_blacks pg v (still_words p)
   black_words pg v a = ap (λ (w : World). but_phase w.now.words) a.world ∙ ap (with_blacks pg v)
-      (words_there p q (step.Black pg v) a wanted all)
+      (words_there p q (Step.Black pg v) a wanted all)
 
-  pub unblack_words : (pg : ℕ) → Acts p (step.Unblack pg) q → still_words q ≡ without_blacks pg (still_words p)
+  pub unblack_words : (pg : ℕ) → Acts p (Step.Unblack pg) q → still_words q ≡ without_blacks pg (still_words p)
   unblack_words pg a = ap (λ (w : World). but_phase w.now.words) a.world ∙ ap (without_blacks pg)
-      (words_there p q (step.Unblack pg) a wanted all)
+      (words_there p q (Step.Unblack pg) a wanted all)
 
-  pub undirty_words : (pg : ℕ) → Acts p (step.Undirty pg) q → still_words q ≡ without_dirty pg (still_words p)
+  pub undirty_words : (pg : ℕ) → Acts p (Step.Undirty pg) q → still_words q ≡ without_dirty pg (still_words p)
   undirty_words pg a = ap (λ (w : World). but_phase w.now.words) a.world ∙ ap (without_dirty pg)
-      (words_there p q (step.Undirty pg) a wanted all)
+      (words_there p q (Step.Undirty pg) a wanted all)
 
   pub marks_on : Has p.seats p.seat → (s : Step) → Acts p s q → is_stopped_step s ≡ true → (o o' : Option Op) → o' ≡ o
       → ((w : World) → but_phase w.now.words ≡ still_words p → w.now.seats.holding ≡ (now_of p).seats.holding
@@ -186,51 +167,51 @@ module _ (p q : PassState) (wanted : IsWanted p) (all : HoldsAll p.table.config 
       }
     where
       marking : (x : Step) → is_stopped_step x ≡ true → is_marking x ≡ true
-      marking (step.Look (word.Quar pg)) h = cc
-      marking (step.Look x) h = refl
-      marking step.Want h = cc
+      marking (Step.Look (Word.Quar pg)) h = cc
+      marking (Step.Look x) h = refl
+      marking Step.Want h = cc
       marking x h = h
 
 -- what a look finds, and the hand that it gives
 
 pub still_name : (w : Words) (x : Word) → is_still_word x ≡ true → named_word (but_phase w) x ≡ named_word w x
-still_name w word.Phase h = cc
+still_name w Word.Phase h = cc
 still_name w _ h = refl
 
 module _ (p q : PassState) (wanted : IsWanted p) (all : HoldsAll p.table.config (now_of p) p.seat) (x : Word)
-    (a : Acts p (step.Look x) q) (n : ℕ) (finds : Finds p (step.Look x) n q) where
+    (a : Acts p (Step.Look x) q) (n : ℕ) (finds : Finds p (Step.Look x) n q) where
   pub look_finds : is_still_word x ≡ true → n ≡ named_word (still_words p) x
   look_finds name =
       sym (found_there p q x n finds) ∙ sym (still_name (now_of q).words x name) ∙ ap (λ (w : Words). named_word w x)
       (look_words p q wanted all x a)
 
-  pub found_now : found p.table.config (world_at a.makes).now (event_of p (step.Look x)) ≡ n
+  pub found_now : found p.table.config (world_at a.makes).now (event_of p (Step.Look x)) ≡ n
   found_now = ap (λ (w : World). named_word w.now.words x) (sym a.world) ∙ found_there p q x n finds
 
   pub hand_now : hand_of q ≡ or_else (hand_given p.table.config (world_at a.makes).now p.seat x
-      (found p.table.config (world_at a.makes).now (event_of p (step.Look x)))) (hand_of p)
+      (found p.table.config (world_at a.makes).now (event_of p (Step.Look x)))) (hand_of p)
   hand_now =
       ap (λ (w : World). w.now.seats.holding.hand) a.world
       ∙ ap (λ (h : Holding). or_else (hand_given p.table.config (world_at a.makes).now p.seat x
-      (found p.table.config (world_at a.makes).now (event_of p (step.Look x)))) h.hand) a.holding
+      (found p.table.config (world_at a.makes).now (event_of p (Step.Look x)))) h.hand) a.holding
 
   pub plain_hand : is_page_word x ≡ true → hand_of q ≡ hand_of p
-  plain_hand plain = hand_now ∙ by x (found p.table.config (world_at a.makes).now (event_of p (step.Look x))) plain
+  plain_hand plain = hand_now ∙ by x (found p.table.config (world_at a.makes).now (event_of p (Step.Look x))) plain
     where
       by : (y : Word) (value : ℕ) → is_page_word y ≡ true
           → or_else (hand_given p.table.config (world_at a.makes).now p.seat y value) (hand_of p) ≡ hand_of p
-      by (word.Head pg) value h = refl
-      by (word.Used pg) value h = refl
-      by (word.Mark pg) value h = refl
-      by (word.Black pg) value h = refl
-      by (word.Dirty pg) value h = refl
+      by (Word.Head pg) value h = refl
+      by (Word.Used pg) value h = refl
+      by (Word.Mark pg) value h = refl
+      by (Word.Black pg) value h = refl
+      by (Word.Dirty pg) value h = refl
       by _ value h = cc
 
   pub root_hand : is_root x ≡ true → IsInHand q n
   root_hand root =
       record {
         hand = record { value = n; source = Root };
-        is = hand_now ∙ by x (found p.table.config (world_at a.makes).now (event_of p (step.Look x))) root ∙ ap
+        is = hand_now ∙ by x (found p.table.config (world_at a.makes).now (event_of p (Step.Look x))) root ∙ ap
             (λ (v : ℕ). Some (record { value = v; source = Root })) found_now;
         value = refl;
         reached = refl;
@@ -239,25 +220,25 @@ module _ (p q : PassState) (wanted : IsWanted p) (all : HoldsAll p.table.config 
       by : (y : Word) (value : ℕ) → is_root y ≡ true
           → or_else (hand_given p.table.config (world_at a.makes).now p.seat y value) (hand_of p)
           ≡ Some (record { value = value; source = Root })
-      by (word.Reg j r) value h = refl
-      by (word.Global g) value h = refl
+      by (Word.Reg j r) value h = refl
+      by (Word.Global g) value h = refl
       by _ value h = cc
 
 -- a word of a marked cell that is scanned
 pub marked_hand : (p q : PassState) → IsWanted p → HoldsAll p.table.config (now_of p) p.seat
-    → (i : ℕ) (a : Acts p (step.Look (word.Heap i)) q) (n : ℕ)
-    → Finds p (step.Look (word.Heap i)) n q → (cell : Cell)
+    → (i : ℕ) (a : Acts p (Step.Look (Word.Heap i)) q) (n : ℕ)
+    → Finds p (Step.Look (Word.Heap i)) n q → (cell : Cell)
     → pointed_cell p.table.config.pages (still_words p).pages (address_of i) ≡ Some cell
     → is_marked (still_words p) cell ≡ true → has_no_pointers (header_in (still_words p) cell.page) ≡ false
     → IsInHand q n
 marked_hand p q wanted all i a n finds cell pointed marked scanned =
     record {
       hand = record { value = n; source = Marked };
-      is = hand_now p q wanted all (word.Heap i) a n finds
+      is = hand_now p q wanted all (Word.Heap i) a n finds
           ∙ ap (λ (o : Option Hand). or_else o (hand_of p)) (given
-          (found p.table.config (world_at a.makes).now (event_of p (step.Look (word.Heap i)))))
+          (found p.table.config (world_at a.makes).now (event_of p (Step.Look (Word.Heap i)))))
           ∙ ap (λ (v : ℕ). Some (record { value = v; source = Marked }))
-          (found_now p q wanted all (word.Heap i) a n finds);
+          (found_now p q wanted all (Word.Heap i) a n finds);
       value = refl;
       reached = refl;
     }
@@ -266,7 +247,7 @@ marked_hand p q wanted all i a n finds cell pointed marked scanned =
     m' = (world_at a.makes).now
 
     same : but_phase m'.words ≡ still_words p
-    same = words_there p q (step.Look (word.Heap i)) a wanted all
+    same = words_there p q (Step.Look (Word.Heap i)) a wanted all
 
     pointed_now : pointed_cell p.table.config.pages m'.words.pages (address_of i) ≡ Some cell
     pointed_now = ap (λ (w : Words). pointed_cell p.table.config.pages w.pages (address_of i)) same ∙ pointed
@@ -284,7 +265,7 @@ marked_hand p q wanted all i a n finds cell pointed marked scanned =
         (ap (λ (w : Words). has_no_pointers (header_in w cell.page)) same ∙ scanned)
         ∙ ap (λ (b : Bool). given_by false b) (ap (λ (w : Words). is_marked w cell) same ∙ marked)
 
-    given : (value : ℕ) → hand_given p.table.config m' p.seat (word.Heap i) value
+    given : (value : ℕ) → hand_given p.table.config m' p.seat (Word.Heap i) value
         ≡ Some (record { value = value; source = Marked })
     given value =
         ap (λ (o : Option Cell). option_and_then (λ (x : Cell). hand_of_cell m'.words

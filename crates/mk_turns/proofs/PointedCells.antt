@@ -1,35 +1,27 @@
 -- What a look finds, and what a value points into by the header that is found.
-use Rattle.std.proofs.Common.{◌≡◌, ℕ, Bool, false, List, ◌++◌, None, option_and_then, refl, sym, ap, subst}
-use Rattle.std.proofs.Common.{◌∙◌, inl, inr}
-use Rattle.std.specs.Prelude.{slice_index_or, if◌then◌else◌}
+use Rattle.std.proofs.Common.{Bool, List, None, ℕ, ap, false, if◌then◌else◌, inl, inr, option_and_then, refl}
+use Rattle.std.proofs.Common.{slice_index_or, subst, sym, ◌++◌, ◌∙◌, ◌≡◌}
 use Rattle.std.proofs.lemmas.Bool.{cases_Bool}
-use Rattle.mk_geom.specs.declared.pages.Page.{Page}
 use Rattle.mk_geom.specs.Addresses.{cell_at, cell_under, is_heap_address, page_at_address, word_at_address}
-use Rattle.mk_geom.specs.Headers.{header_of}
-use Rattle.mk_geom.specs.Storages.{free_page}
-use Rattle.mk_core.specs.declared.events.Step.TheVariants as step
-use Rattle.mk_core.specs.declared.events.Word.{Word}
-use Rattle.mk_core.specs.declared.events.Word.TheVariants as word
-use Rattle.mk_core.specs.declared.seats.Holding.{Holding}
-use Rattle.mk_core.specs.Cells.{pointed_cell}
-use Rattle.mk_core.specs.History.{World, first_world}
-use Rattle.mk_core.specs.Words.{Words, header_at, named_word}
+use Rattle.mk_geom.specs.{Headers.header_of, Storages.free_page, declared.pages.Page.Page}
 use Rattle.mk_core.proofs.Histories.{left_more}
-use Rattle.mk_words.specs.States.{PassState, TurnState, event_of, now_of}
-use Rattle.mk_words.specs.Steps.{Finds}
-use Rattle.mk_words.specs.TurnSteps.{Acts}
+use Rattle.mk_core.specs.Words.{Words, header_at, named_word}
+use Rattle.mk_core.specs.{Cells.pointed_cell, History.World, History.first_world, declared.events.Step.Step}
+use Rattle.mk_core.specs.{declared.events.Word.Word, declared.seats.Holding.Holding}
 use Rattle.mk_turns.specs.Pointing.{LooksForCell}
+use Rattle.mk_words.specs.States.{PassState, TurnState, event_of, now_of}
+use Rattle.mk_words.specs.{Steps.Finds, TurnSteps.Acts}
 
 -- What a look found is there after it.
-pub found_there : (p q : PassState) (x : Word) (n : ℕ) → Finds p (step.Look x) n q → named_word (now_of q).words x ≡ n
+pub found_there : (p q : PassState) (x : Word) (n : ℕ) → Finds p (Step.Look x) n q → named_word (now_of q).words x ≡ n
 found_there p q x n f =
     ap (λ (r : PassState). named_word (now_of r).words x) f.makes.is
     ∙ ap (λ (w : World). named_word w.now.words x) (left_more p.table.config (first_world p.table.config)
-    (p.seen ++ f.makes.others) (event_of p (step.Look x)))
+    (p.seen ++ f.makes.others) (event_of p (Step.Look x)))
     ∙ sym f.finds
 
 -- A look at a header gives no hand.
-pub header_hand : (p q : PassState) (page : ℕ) → Acts p (step.Look (word.Head page)) q
+pub header_hand : (p q : PassState) (page : ℕ) → Acts p (Step.Look (Word.Head page)) q
     → (now_of q).seats.holding.hand ≡ (now_of p).seats.holding.hand
 header_hand p q page a =
     ap (λ (w : World). w.now.seats.holding.hand) a.world ∙ ap (λ (h : Holding). h.hand) a.holding
@@ -50,7 +42,7 @@ found_by_header pages w u = refl
 
 -- What holds of the turn as it was, and after the one look, holds after looking for a cell.
 pub looked_for : {value : ℕ} {t u : TurnState} (P : TurnState → Type 0) → LooksForCell value t u → P t
-    → (Acts t.pass (step.Look (word.Head (page_at_address value))) u.pass → P u) → P u
+    → (Acts t.pass (Step.Look (Word.Head (page_at_address value))) u.pass → P u) → P u
 looked_for {value} {t} P l same looked = elim (cases_Bool (is_heap_address t.pass.table.config.pages value)) [
   | inl inside ↦ looked (l.inside inside)
   | inr outside ↦ subst P (sym (l.outside outside)) same

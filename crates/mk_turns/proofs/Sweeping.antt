@@ -1,28 +1,18 @@
 -- What sweeps nothing, in parts, by kinds of step, and by one step.
-use Rattle.std.proofs.Common.{◌≡◌, Bool, true, false, List, [], ◌∷◌, ◌++◌, refl, sym, ap, subst, ◌∙◌, append-nil}
-use Rattle.std.proofs.Common.{append_assoc}
-use Rattle.std.specs.Prelude.{if◌then◌else◌}
-use Rattle.std.proofs.lemmas.Bool.{and_parts, true≢false}
-use Rattle.mk_core.specs.declared.config.Config.{Config}
-use Rattle.mk_core.specs.declared.events.Event.{Event}
-use Rattle.mk_core.specs.declared.events.Seat.{Seat}
-use Rattle.mk_core.specs.declared.events.Step.{Step}
-use Rattle.mk_core.specs.declared.events.Step.TheVariants as step
-use Rattle.mk_core.specs.declared.seats.Flight.{Flight}
-use Rattle.mk_core.specs.Accesses.{found}
-use Rattle.mk_core.specs.Cycles.{sweeps}
-use Rattle.mk_core.specs.Growing.{AreOfOthers, Finding, is_same_seat, own_from}
-use Rattle.mk_core.specs.History.{World, left, left_from, world_behind}
-use Rattle.mk_core.specs.Moments.{Moment, flight_of}
+use Rattle.std.proofs.Common.{Bool, List, ap, append-nil, append_assoc, false, if◌then◌else◌, refl, subst, sym, true}
+use Rattle.std.proofs.Common.{true≢false, [], ◌++◌, ◌∙◌, ◌∷◌, ◌≡◌}
+use Rattle.std.proofs.lemmas.Bool.{and_parts}
 use Rattle.mk_core.proofs.HistoryParts.{left_in_parts}
-use Rattle.mk_words.specs.Seats.{Has}
-use Rattle.mk_words.specs.States.{PassState, event_of, world_of}
-use Rattle.mk_words.specs.Steps.{Makes, moment_of}
-use Rattle.mk_words.proofs.Made.{own_before}
-use Rattle.mk_turns.specs.Doing.{are_of}
+use Rattle.mk_core.specs.{Accesses.found, Cycles.sweeps, Growing.AreOfOthers, Growing.Finding, Growing.is_same_seat}
+use Rattle.mk_core.specs.{Growing.own_from, History.World, History.left, History.left_from, History.world_behind}
+use Rattle.mk_core.specs.{Moments.Moment, Moments.flight_of, declared.config.Config.Config, declared.events.Event.Event}
+use Rattle.mk_core.specs.{declared.events.Seat.Seat, declared.events.Step.Step, declared.seats.Flight.Flight}
+use Rattle.mk_turns.proofs.Doing.{not_own}
 use Rattle.mk_turns.specs.Sweeping.{HaveNoMark, NothingIsSweptInTurn, NothingSweepsNothing, OtherKindsSweepNothing}
 use Rattle.mk_turns.specs.Sweeping.{StepsMaySweepNothing, SweepsNothing, SweepsNothingFrom, is_mark}
-use Rattle.mk_turns.proofs.Doing.{not_own}
+use Rattle.mk_turns.specs.Doing.{are_of}
+use Rattle.mk_words.proofs.Made.{own_before}
+use Rattle.mk_words.specs.{Seats.Has, States.PassState, States.event_of, States.world_of, Steps.Makes, Steps.moment_of}
 
 -- lists in parts, and lists of others
 
@@ -50,7 +40,7 @@ one_sweeps c s w e none = (none, tt)
 
 -- Only a mark may sweep.
 pub other_steps_sweep : (c : Config) (m : Moment) (f : Flight) (x : Step) → is_mark x ≡ false → sweeps c m f x ≡ false
-other_steps_sweep c m f (step.Mark p v) h = cc
+other_steps_sweep c m f (Step.Mark p v) h = cc
 other_steps_sweep c m f _ h = refl
 
 own_first : (kinds : Step → Bool) (b : Bool) (x : Finding) (rest : List Finding)

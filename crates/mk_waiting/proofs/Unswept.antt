@@ -1,25 +1,18 @@
 -- Who waits for the turn marks nothing: it only tries to take it.
-use Rattle.std.proofs.Common.{◌≡◌, ⊎_elim, true, false, List, [], ◌∷◌, refl, ap, subst}
-use Rattle.std.specs.Prelude.{not, ◌&&◌}
-use Rattle.std.specs.List.{list_all}
+use Rattle.std.proofs.Common.{List, ap, false, not, refl, subst, true, [], ⊎_elim, ◌&&◌, ◌∷◌, ◌≡◌}
 use Rattle.std.proofs.lemmas.Bool.{and_parts, not-true, or_cases}
-use Rattle.mk_core.specs.declared.events.Event.{Event}
-use Rattle.mk_core.specs.declared.events.Seat.{Seat}
-use Rattle.mk_core.specs.declared.events.Step.{Step}
-use Rattle.mk_core.specs.declared.events.Step.TheVariants as step
+use Rattle.std.specs.List.{list_all}
 use Rattle.mk_core.specs.Growing.{is_one_of, is_same_seat}
-use Rattle.mk_core.specs.History.{World, world_behind}
-use Rattle.mk_core.specs.Moments.{flight_of}
-use Rattle.mk_words.specs.Seats.{Has}
-use Rattle.mk_words.specs.States.{PassState, world_of}
-use Rattle.mk_words.proofs.Seats.{not_both, same_seat}
-use Rattle.mk_turns.specs.Sweeping.{SweepsNothingFrom, is_mark}
+use Rattle.mk_core.specs.{History.World, History.world_behind, Moments.flight_of, declared.events.Event.Event}
+use Rattle.mk_core.specs.{declared.events.Seat.Seat, declared.events.Step.Step}
 use Rattle.mk_turns.proofs.Sweeping.{only_seen, other_step_sweeps, other_steps_sweep, sweeps_then}
-use Rattle.mk_waiting.specs.Taking.{is_take, waits_for}
-use Rattle.mk_waiting.specs.Unswept.{TakingSweepsNothing}
+use Rattle.mk_turns.specs.Sweeping.{SweepsNothingFrom, is_mark}
+use Rattle.mk_waiting.specs.{Taking.is_take, Taking.waits_for, Unswept.TakingSweepsNothing}
+use Rattle.mk_words.proofs.Seats.{not_both, same_seat}
+use Rattle.mk_words.specs.{Seats.Has, States.PassState, States.world_of}
 
 take_is_no_mark : (x : Step) → is_take x ≡ true → is_mark x ≡ false
-take_is_no_mark (step.Take o) h = refl
+take_is_no_mark (Step.Take o) h = refl
 take_is_no_mark _ h = cc
 
 waiting : (p : PassState) (e : Event) → Has p.seats p.seat → waits_for p e ≡ true → is_same_seat p.seat e.seat ≡ true
@@ -52,4 +45,4 @@ taking_sweeps p o q has t =
       is = ap (λ (x : PassState). x.seen) w.is;
       none = waits_sweep p (world_of p) w.more has w.only;
     })
-    (other_step_sweeps t.waited q (step.Take o) t.takes.makes refl)
+    (other_step_sweeps t.waited q (Step.Take o) t.takes.makes refl)

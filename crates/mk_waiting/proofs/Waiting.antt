@@ -1,19 +1,13 @@
 -- Waiting for the turn, a try after the other.
-use Rattle.std.proofs.Common.{◌≡◌, Bool, true, false, not, ◌||◌, ◌&&◌, List, [], ◌∷◌, ◌++◌, refl, sym, ◌∙◌, ap, subst}
-use Rattle.std.proofs.Common.{append-nil, append_assoc}
-use Rattle.std.specs.Prelude.{Option}
+use Rattle.std.proofs.Common.{Bool, List, Option, ap, append-nil, append_assoc, false, not, refl, subst, sym, true, []}
+use Rattle.std.proofs.Common.{◌&&◌, ◌++◌, ◌||◌, ◌∙◌, ◌∷◌, ◌≡◌}
+use Rattle.std.proofs.{lemmas.Bool.and_from, lemmas.List.Folds.list_all-append}
 use Rattle.std.specs.List.{list_all}
-use Rattle.std.proofs.lemmas.Bool.{and_from}
-use Rattle.std.proofs.lemmas.List.Folds.{list_all-append}
 use Rattle.mk_never.specs.declared.operations.Op.{Op}
-use Rattle.mk_core.specs.declared.events.Event.{Event}
-use Rattle.mk_core.specs.declared.events.Step.{Step}
-use Rattle.mk_core.specs.declared.events.Step.TheVariants as step
 use Rattle.mk_core.specs.Growing.{AreOfOthers, is_one_of, is_same_seat}
-use Rattle.mk_words.specs.States.{PassState, event_of}
-use Rattle.mk_words.specs.Steps.{Makes}
-use Rattle.mk_words.proofs.Seats.{same_self}
-use Rattle.mk_waiting.specs.Taking.{is_take, waits_for, TakesTurn, Waits}
+use Rattle.mk_core.specs.{declared.events.Event.Event, declared.events.Step.Step}
+use Rattle.mk_waiting.specs.Taking.{TakesTurn, Waits, is_take, waits_for}
+use Rattle.mk_words.{proofs.Seats.same_self, specs.States.PassState, specs.States.event_of, specs.Steps.Makes}
 
 -- the list of a pass that made a step
 pub joined_lists : (p q r : PassState) (first : List Event) (s : Step) → q ≡ record p { seen = p.seen ++ first }
@@ -40,14 +34,14 @@ pub waits_none : (p : PassState) → Waits p p
 waits_none p =
     record { more = []; is = ap (λ (l : List Event). record p { seen = l }) (sym (append-nil p.seen)); only = refl }
 
-pub waits_more : (p q r : PassState) (o : Option Op) → Waits p q → Makes q (step.Take o) r → Waits p r
+pub waits_more : (p q r : PassState) (o : Option Op) → Waits p q → Makes q (Step.Take o) r → Waits p r
 waits_more p q r o w m =
-    let e : Event = event_of p (step.Take o) in
+    let e : Event = event_of p (Step.Take o) in
     let others : AreOfOthers p.seats m.others =
     subst (λ (x : PassState). AreOfOthers x.seats m.others) w.is m.of_others in
     record {
       more = w.more ++ (m.others ++ e ∷ []);
-      is = joined_lists p q r w.more (step.Take o) w.is m;
+      is = joined_lists p q r w.more (Step.Take o) w.is m;
       only = list_all-append (waits_for p) w.more (m.others ++ e ∷ [])
           ∙ and_from (list_all (waits_for p) w.more) (list_all (waits_for p) (m.others ++ e ∷ [])) w.only
           (list_all-append (waits_for p) m.others (e ∷ [])

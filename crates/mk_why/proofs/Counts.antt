@@ -1,12 +1,10 @@
 -- How many entries of a table there are, and how large tables are.
-use Rattle.std.proofs.Common.{◌≡◌, ℕ, suc, ◌+◌, ◌<◌, ◌≤◌, cond, false, List, [], ◌∷◌, refl, ap, arith, length, count_by}
-use Rattle.std.proofs.Common.{◌∙◌, ◌*◌, Bool, true, sym}
-use Rattle.std.specs.Prelude.{Option, None, Some, is_some, slice_index_or, slice_set, ◌==◌, min, if◌then◌else◌}
-use Rattle.std.proofs.lemmas.List.{length-set}
 use Rattle.std.proofs.lemmas.List.Sums.{count_by-le-length, sum_by-cons, sum_by-set}
-use Rattle.std.proofs.lemmas.Bool.{eqb-true}
-use Rattle.mk_why.specs.Sizes.{pages_for}
-use Rattle.mk_why.specs.States.{WhyState}
+use Rattle.std.proofs.Common.{count_by, min}
+use Rattle.mk_laws.proofs.Vocabulary.{Bool, List, None, Option, Some, ℕ, ap, arith, cond, eqb-true, false}
+use Rattle.mk_laws.proofs.Vocabulary.{if◌then◌else◌, is_some, length, length-set, refl, slice_index_or, slice_set, suc}
+use Rattle.mk_laws.proofs.Vocabulary.{sym, true, [], ◌*◌, ◌+◌, ◌<◌, ◌==◌, ◌∙◌, ◌∷◌, ◌≡◌, ◌≤◌}
+use Rattle.mk_why.specs.{Sizes.pages_for, States.WhyState}
 
 -- How many entries of a table there are, with one more, and with none.
 

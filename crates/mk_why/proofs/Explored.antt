@@ -1,17 +1,15 @@
 -- A search breadth first: ways from roots, and what chains lead to.
-use Rattle.std.proofs.Common.{◌≡◌, ◌∙◌, ℕ, ◌+◌, ◌*◌, true, List, refl, sym, ap, subst, ◌<◌, ◌≤◌, [], ◌∷◌, arith, length}
-use Rattle.std.specs.Prelude.{Option, slice_index, nat_lt}
-use Rattle.std.proofs.lemmas.Bool.{and_from, lt-ltb}
+use Rattle.std.proofs.Common.{below_more}
 use Rattle.mk_why.proofs.Vocabulary.{AreWays, Config, FindsMore, Found, Global, IsFound, IsFoundThrough, IsNoted}
 use Rattle.mk_why.proofs.Vocabulary.{IsSearch, IsSearched, IsWay, LinksLead, PointsIntoAllocation, Register, Root}
 use Rattle.mk_why.proofs.Vocabulary.{Tables, View, Words, base_at, entry_at, is_scanned_allocation, is_still_word}
 use Rattle.mk_why.proofs.Vocabulary.{is_word, links_in, links_of, named_word, placed_at, storage_of, word_of_root}
 use Rattle.mk_why.proofs.Vocabulary.{world_in}
-use Rattle.mk_geom.specs.StorageWords.{IsWordOf}
-use borrow.Author.Count.{below_more}
-use Rattle.mk_why.specs.Searching.{IsFoundAt, IsOnward, IsFoundWithin, PointsAtBase, root_word, IsExplored}
-use Rattle.mk_why.specs.Chains.{IsRoot}
+use Rattle.mk_laws.proofs.Vocabulary.{IsWordOf, List, Option, ℕ, and_from, ap, arith, length, lt-ltb, nat_lt, refl}
+use Rattle.mk_laws.proofs.Vocabulary.{slice_index, subst, sym, true, [], ◌*◌, ◌+◌, ◌<◌, ◌∙◌, ◌∷◌, ◌≡◌, ◌≤◌}
 use Rattle.mk_why.proofs.Searches.{Stays, links_stay, noted_stays, same_links}
+use Rattle.mk_why.specs.Searching.{IsExplored, IsFoundAt, IsFoundWithin, IsOnward, PointsAtBase, root_word}
+use Rattle.mk_why.specs.Chains.{IsRoot}
 
 -- Ways to what values point into.
 

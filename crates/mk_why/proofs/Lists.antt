@@ -1,26 +1,18 @@
 -- The kept allocations are those of the cells that are in the snapshot and marked.
-use Rattle.std.proofs.Common.{◌≡◌, ◌≢◌, ◌∙◌, ℕ, ◌+◌, ◌*◌, ◌/◌, ◌^◌, ◌<◌, Bool, true, false, List, refl, sym, ap, subst}
-use Rattle.std.proofs.Common.{inl, inr, arith, length}
-use Rattle.std.specs.Prelude.{Option, None, Some, ◌&&◌, not, slice_index, slice_set}
-use Rattle.std.proofs.lemmas.Bool.{and_from, and_parts, cases_eq, cases_lt, not-true, true≢false}
-use Rattle.std.proofs.lemmas.List.{get_or-set_other, get_or-set_same, length-set}
 use Rattle.mk_why.proofs.Vocabulary.{AreOfKept, Cell, Config, IsHistory, IsListed, IsStill, ListsOn, PassState}
 use Rattle.mk_why.proofs.Vocabulary.{PlacedAllocation, Storage, Tables, View, WordsState, base_at, cell_of_allocation}
 use Rattle.mk_why.proofs.Vocabulary.{entry_at, first_word, has_bit, header_at, header_in, header_of, is_kept}
 use Rattle.mk_why.proofs.Vocabulary.{never_behind, now_of, object_placed, placed_at, storage_words, view_by}
 use Rattle.mk_why.proofs.Vocabulary.{words_under, world_in, world_of}
-use Rattle.mk_core.specs.Cells.{cell_words, cells_under, is_marked}
+use Rattle.mk_laws.proofs.Vocabulary.{Bool, Invariant, List, None, Option, Some, ℕ, and_from, and_parts, ap, arith}
+use Rattle.mk_laws.proofs.Vocabulary.{cases_eq, cases_lt, cell_words, cells_begin, cells_under, false, get_or-set_other}
+use Rattle.mk_laws.proofs.Vocabulary.{get_or-set_same, inl, inr, is_cycling, is_marked, length, length-set, not}
+use Rattle.mk_laws.proofs.Vocabulary.{not-true, refl, slice_index, slice_set, subst, sym, true, true≢false, typed_size}
+use Rattle.mk_laws.proofs.Vocabulary.{words_within, ◌&&◌, ◌*◌, ◌+◌, ◌/◌, ◌<◌, ◌^◌, ◌∙◌, ◌≡◌, ◌≢◌}
+use Rattle.mk_core.proofs.{PointedAllocations.marked_where_its_cell_is, StandingAllocations.cell_is_known}
 use Rattle.mk_core.specs.ClosedMarks.{is_marked_allocation}
-use Rattle.mk_core.proofs.PointedAllocations.{marked_where_its_cell_is}
-use Rattle.mk_core.proofs.Sizes.{words_within}
-use Rattle.mk_core.proofs.StandingAllocations.{cell_is_known, cells_begin, typed_size}
-use Rattle.mk_laws.specs.Quarantine.{is_cycling}
-use Rattle.mk_laws.specs.SettledPages.{StandsUsed}
-use Rattle.mk_laws.proofs.KnownWorlds.{known_world}
-use Rattle.mk_laws.specs.Invariant.{Invariant}
-use Rattle.mk_laws.proofs.InvariantHistories.{histories_keep_the_invariant}
-use Rattle.mk_laws.proofs.InvariantTheorems.{allocations_stand}
-use Rattle.mk_laws.proofs.ReadingsStands.{freed_cell}
+use Rattle.mk_laws.{proofs.InvariantHistories.histories_keep_the_invariant, proofs.InvariantTheorems.allocations_stand}
+use Rattle.mk_laws.{proofs.KnownWorlds.known_world, proofs.ReadingsStands.freed_cell, specs.SettledPages.StandsUsed}
 use Rattle.mk_cycle.specs.FinishCycle.{is_in_snapshot_of_cycle}
 use Rattle.mk_why.specs.Listing.{IsKeptAt}
 

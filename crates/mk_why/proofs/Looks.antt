@@ -1,52 +1,31 @@
 -- Looks leave the view as it is, and so does what others do in the stop; after an engine's marks they leave its law.
-use Rattle.std.proofs.Common.{◌≡◌, ◌∙◌, ℕ, true, false, List, refl, sym, ap, zero, suc, ◌+◌, Bool, cond, [], ◌∷◌}
-use Rattle.std.proofs.Common.{◌++◌, count_by, append_assoc, arith}
-use Rattle.std.specs.Prelude.{slice_index_or, ◌&&◌, not}
-use Rattle.std.proofs.lemmas.Bool.{and_from, and_parts, eq-eqb, lt-ltb, not-true, true≢false}
-use Rattle.std.proofs.lemmas.List.{append_cancel_left}
 use Rattle.std.proofs.lemmas.List.Sums.{sum_by-append, sum_by-cons}
+use Rattle.std.proofs.{Common.count_by, lemmas.List.append_cancel_left}
 use Rattle.mk_why.proofs.Vocabulary.{Config, Event, IsHistory, IsStill, LooksOn, PassState, PlacedAllocation, TurnState}
-use Rattle.mk_why.proofs.Vocabulary.{World, is_word, left, now_of, others_are_held, phase_of}
-use Rattle.mk_why.proofs.Vocabulary.{View, Words, view_by, view_of}
-use Rattle.mk_geom.specs.Addresses.{page_at_address}
-use Rattle.mk_core.specs.declared.events.Step.{Step}
-use Rattle.mk_core.specs.declared.events.Step.TheVariants as step
-use Rattle.mk_core.specs.declared.events.Word.{Word}
-use Rattle.mk_core.specs.declared.events.Word.TheVariants as word
-use Rattle.mk_core.specs.declared.seats.Marker.{Marker as MarkerState}
-use Rattle.mk_core.specs.Frames.{Steady, TurnIsLeft, written_of}
-use Rattle.mk_core.specs.Moments.{Moment, outside}
-use Rattle.mk_core.specs.Readings.{NoneAttends}
-use Rattle.mk_core.specs.StopConditions.{is_attending, has_closed_page, none_attends, roots_point_well}
-use Rattle.mk_core.specs.Bounded.{all_below}
-use Rattle.mk_core.specs.Growing.{AreOfOthers, Finding}
-use Rattle.mk_core.proofs.Conditions.{enabled_meets}
-use Rattle.mk_words.specs.States.{event_of}
-use Rattle.mk_words.specs.Steps.{IsAdmittedTo, IsEnabledTo}
-use Rattle.mk_words.specs.TurnSteps.{Acts}
-use Rattle.mk_turns.proofs.Doing.{does_nothing, does_step, does_then, done_in_parts}
-use Rattle.mk_turns.specs.Pointing.{LooksForCell, MayLookAtHeaders}
-use Rattle.mk_turns.proofs.PointedCells.{looked_for}
-use Rattle.mk_tracing.specs.Stops.{IsWanted}
-use Rattle.mk_tracing.proofs.MaySteps.{may_look}
-use Rattle.mk_tracing.proofs.Steps.{may_step}
-use Rattle.mk_tracing.proofs.Stilled.{none_after, phase_there, words_left}
-use Rattle.mk_cycle.proofs.Allowed.{in_turn_before}
-use Rattle.mk_cycle.specs.TurnKeeps.{InTurn, LeavesTurn, but_phase}
-use Rattle.mk_cycle.proofs.CleaningSteps.{calm_keeps}
+use Rattle.mk_why.proofs.Vocabulary.{View, Words, World, is_word, left, now_of, others_are_held, phase_of, view_by}
+use Rattle.mk_why.proofs.Vocabulary.{view_of}
+use Rattle.mk_laws.proofs.Vocabulary.{AreOfOthers, Bool, List, MarkerState, Moment, Steady, Step, TurnIsLeft, Word, ℕ}
+use Rattle.mk_laws.proofs.Vocabulary.{all_below, and_from, and_parts, ap, append_assoc, arith, cond, enabled_meets}
+use Rattle.mk_laws.proofs.Vocabulary.{eq-eqb, false, has_closed_page, is_attending, lt-ltb, none_attends, not, not-true}
+use Rattle.mk_laws.proofs.Vocabulary.{outside, page_at_address, refl, roots_point_well, slice_index_or, suc, sym, true}
+use Rattle.mk_laws.proofs.Vocabulary.{true≢false, zero, [], ◌&&◌, ◌++◌, ◌+◌, ◌∙◌, ◌∷◌, ◌≡◌}
+use Rattle.mk_core.specs.{Frames.written_of, Growing.Finding, Readings.NoneAttends}
+use Rattle.mk_laws.proofs.{ProtocolFrames.others_leave, Tests.none_from}
 use Rattle.mk_cycle.proofs.KeptInParts.{free_then, keeps_at_once, keeps_then}
-use Rattle.mk_cycle.proofs.MayAct.{calm_admitted}
+use Rattle.mk_cycle.proofs.{Allowed.in_turn_before, CleaningSteps.calm_keeps, MayAct.calm_admitted}
+use Rattle.mk_cycle.specs.TurnKeeps.{InTurn, LeavesTurn, but_phase}
+use Rattle.mk_cycle.specs.{EngineLaw.ClosesMarks, EngineLaw.IsFreeForCycle, Kinds.closes_marks, Kinds.is_want}
 use Rattle.mk_sweep.proofs.Kept.{ready_of}
-use Rattle.mk_laws.proofs.Tests.{none_from}
-use Rattle.mk_laws.proofs.ProtocolFrames.{others_leave}
-use Rattle.mk_words.proofs.Seats.{others_own}
-use Rattle.mk_turns.specs.Doing.{Does, are_of, count_done, done_in}
-use Rattle.mk_turns.specs.Sweeping.{HaveNoMark, SweepsNothing}
-use Rattle.mk_turns.proofs.Sweeping.{does_sweep, sweeps_then}
-use Rattle.mk_tracing.proofs.Closes.{marks_closed_now}
-use Rattle.mk_cycle.specs.EngineLaw.{ClosesMarks, IsFreeForCycle}
-use Rattle.mk_cycle.specs.Kinds.{closes_marks, is_want}
+use Rattle.mk_tracing.proofs.Stilled.{none_after, phase_there, words_left}
+use Rattle.mk_tracing.proofs.{Closes.marks_closed_now, MaySteps.may_look, Steps.may_step}
+use Rattle.mk_tracing.specs.Stops.{IsWanted}
+use Rattle.mk_turns.proofs.Doing.{does_nothing, does_step, does_then, done_in_parts}
+use Rattle.mk_turns.proofs.{PointedCells.looked_for, Sweeping.does_sweep, Sweeping.sweeps_then}
+use Rattle.mk_turns.specs.{Doing.Does, Doing.are_of, Doing.count_done, Doing.done_in, Pointing.LooksForCell}
+use Rattle.mk_turns.specs.{Pointing.MayLookAtHeaders, Sweeping.HaveNoMark, Sweeping.SweepsNothing}
 use Rattle.mk_why.specs.Stops.{is_look}
+use Rattle.mk_words.proofs.Seats.{others_own}
+use Rattle.mk_words.specs.{States.event_of, Steps.IsAdmittedTo, Steps.IsEnabledTo, TurnSteps.Acts}
 
 -- Looks leave the view as it is, and so does what others do in the stop.
 
@@ -65,14 +44,14 @@ module _ (p : PassState) (turn : InTurn p) (gates : others_are_held p.table.conf
   pub wanted_now : IsWanted p
   wanted_now = record { ready = ready_of p turn.history turn.holds still.free; phase = still.wanted; none = still.none }
 
-  pub look_enabled : (x : Word) → is_word p.table.config x ≡ true → IsEnabledTo p (step.Look x)
+  pub look_enabled : (x : Word) → is_word p.table.config x ≡ true → IsEnabledTo p (Step.Look x)
   look_enabled x is = may_look p wanted_now (turn.holds, gates) x is
 
-  pub look_admitted : (x : Word) → IsAdmittedTo p (step.Look x)
-  look_admitted x = calm_admitted p (step.Look x) turn.history refl still.free.decided
+  pub look_admitted : (x : Word) → IsAdmittedTo p (Step.Look x)
+  look_admitted x = calm_admitted p (Step.Look x) turn.history refl still.free.decided
 
 -- A look leaves all still.
-module _ (t u : TurnState) (x : Word) (a : Acts t.pass (step.Look x) u.pass)
+module _ (t u : TurnState) (x : Word) (a : Acts t.pass (Step.Look x) u.pass)
     (gates : others_are_held t.pass.table.config.callers (now_of t.pass).words t.pass.seat ≡ true)
     (still : IsStill t.pass) where
   wanted : IsWanted t.pass
@@ -80,15 +59,15 @@ module _ (t u : TurnState) (x : Word) (a : Acts t.pass (step.Look x) u.pass)
 
   keeps : LeavesTurn but_phase t.pass u.pass
   keeps =
-      calm_keeps t.pass (step.Look x) u.pass a (in_turn_before a) a.makes.pass.history refl still.free but_phase refl
+      calm_keeps t.pass (Step.Look x) u.pass a (in_turn_before a) a.makes.pass.history refl still.free but_phase refl
 
   still_behind : IsStill u.pass
   still_behind =
       record {
         free = free_then t.pass u.pass keeps.call still.free;
         wanted = ap (λ (w : World). phase_of w.now.words) a.world
-            ∙ phase_there t.pass u.pass (step.Look x) a wanted (a.holds, gates);
-        none = none_after t.pass u.pass (step.Look x) a wanted (a.holds, gates);
+            ∙ phase_there t.pass u.pass (Step.Look x) a wanted (a.holds, gates);
+        none = none_after t.pass u.pass (Step.Look x) a wanted (a.holds, gates);
       }
 
   pub look_on : u.op ≡ t.op → LooksOn t u
@@ -96,7 +75,7 @@ module _ (t u : TurnState) (x : Word) (a : Acts t.pass (step.Look x) u.pass)
       record {
         table = ap (λ (y : PassState). y.table) a.makes.is;
         op = same;
-        does = does_step is_look t.pass u.pass (step.Look x) a.makes refl;
+        does = does_step is_look t.pass u.pass (Step.Look x) a.makes refl;
         keeps = keeps;
         view = ap view_of a.world ∙ view_left a.turn (a.stop (a.holds, gates)) still.wanted still.none;
         still = still_behind;
@@ -130,14 +109,14 @@ looks_then {t} {u} {v} one two =
 
 pub may_look_at_headers : {p : PassState} → InTurn p
     → others_are_held p.table.config.callers (now_of p).words p.seat ≡ true → IsStill p → MayLookAtHeaders p
-may_look_at_headers {p} turn gates still page lt = look_enabled p turn gates still (word.Head page) (lt-ltb page _ lt)
+may_look_at_headers {p} turn gates still page lt = look_enabled p turn gates still (Word.Head page) (lt-ltb page _ lt)
 
 pub looks_for_cell : {value : ℕ} {t u : TurnState} → LooksForCell value t u
     → others_are_held t.pass.table.config.callers (now_of t.pass).words t.pass.seat ≡ true → IsStill t.pass
     → LooksOn t u
 looks_for_cell {value} {t} {u} l gates still =
     looked_for (λ (v : TurnState). LooksOn t v) l (looks_at_nothing t still)
-    (λ a. look_on t u (word.Head (page_at_address value)) a gates still l.op)
+    (λ a. look_on t u (Word.Head (page_at_address value)) a gates still l.op)
 
 -- Looks after an engine's marks leave its law, and what is said of the view.
 
@@ -161,12 +140,12 @@ record ClosesBy (c : Config) (m : Moment) (v : View) : Type 0 where
   pages : pages_close c.pages v ≡ true
   roots : roots_close c.pages v ≡ true
 
-closes_by : (p : PassState) → IsEnabledTo p step.Close → ClosesBy p.table.config (now_of p) (view_by p)
+closes_by : (p : PassState) → IsEnabledTo p Step.Close → ClosesBy p.table.config (now_of p) (view_by p)
 unfolding pages_close roots_close
 closes_by p on =
     let c : Config = p.table.config in
     let m : Moment = now_of p in
-    let met = (enabled_meets c m (event_of p step.Close) on).holder in
+    let met = (enabled_meets c m (event_of p Step.Close) on).holder in
     let parts = and_parts (none_attends m.seats.markers && all_below c.pages (has_closed_page m.words))
     (roots_point_well c.pages m.words) met in
     let first = and_parts (none_attends m.seats.markers) (all_below c.pages (has_closed_page m.words)) parts.0 in
@@ -183,12 +162,12 @@ still_closed {p} {q} law free =
 may_close_by : (p : PassState) (turn : InTurn p)
     → others_are_held p.table.config.callers (now_of p).words p.seat ≡ true → IsStill p
     → pages_close p.table.config.pages (view_by p) ≡ true → roots_close p.table.config.pages (view_by p) ≡ true
-    → IsEnabledTo p step.Close
+    → IsEnabledTo p Step.Close
 unfolding pages_close roots_close
 may_close_by p turn gates still pages roots =
     let c : Config = p.table.config in
     let m : Moment = now_of p in
-    may_step p step.Close (wanted_now p turn gates still).ready turn.holds refl refl gates
+    may_step p Step.Close (wanted_now p turn gates still).ready turn.holds refl refl gates
     (eq-eqb (phase_of m.words) 2 still.wanted) refl
     (and_from (none_attends m.seats.markers && all_below c.pages (has_closed_page m.words))
     (roots_point_well c.pages m.words)
@@ -204,7 +183,7 @@ look_closes (x ∷ xs) h =
     and_from (closes_marks x.event.step) (are_of closes_marks xs) (by x.event.step parts.0) (look_closes xs parts.1)
   where
     by : (s : Step) → is_look s ≡ true → closes_marks s ≡ true
-    by (step.Look y) e = refl
+    by (Step.Look y) e = refl
     by _ e = cc
 
 none_wished : (xs : List Finding) → are_of is_look xs ≡ true → count_by (λ (x : Finding). is_want x.event.step) xs ≡ 0
@@ -220,7 +199,7 @@ none_wished (x ∷ xs) h =
     omega arith
   where
     by : (s : Step) → is_look s ≡ true → is_want s ≡ false
-    by (step.Look y) e = refl
+    by (Step.Look y) e = refl
     by _ e = cc
 
 -- what is done is counted in parts
@@ -246,7 +225,7 @@ counts_then kind {p} {r} d e f =
 
 module _ (p : PassState) (t u : TurnState) (law : ClosesMarks p t.pass) (on : LooksOn t u) (turn : InTurn u.pass)
     (gates : others_are_held u.pass.table.config.callers (now_of u.pass).words u.pass.seat ≡ true) where
-  close_now : IsEnabledTo u.pass step.Close
+  close_now : IsEnabledTo u.pass Step.Close
   close_now =
       let was = closes_by t.pass law.close in
       let pages : ℕ = t.pass.table.config.pages in
@@ -280,7 +259,7 @@ module _ (p : PassState) (t u : TurnState) (law : ClosesMarks p t.pass) (on : Lo
       }
 
 look_marks : HaveNoMark is_look
-look_marks (step.Mark p v) h = absurd (true≢false (sym h))
+look_marks (Step.Mark p v) h = absurd (true≢false (sym h))
 look_marks s h = refl
 
 pub sweepless_kept : {p : PassState} {t u : TurnState} → ClosesMarks p t.pass → LooksOn t u

@@ -1,28 +1,22 @@
 -- Chains followed back, and the entries of the kept allocations.
-use Rattle.std.proofs.Common.{◌≡◌, ◌∙◌, ℕ, ◌+◌, ◌*◌, ◌<◌, Bool, true, false, List, [], ◌∷◌, ◌++◌, refl, sym, ap, subst}
-use Rattle.std.proofs.Common.{inl, inr, arith, length}
-use Rattle.std.specs.Prelude.{Option, None, Some, if◌then◌else◌, is_some, map, reverse, slice_index, slice_index_or}
-use Rattle.std.specs.Prelude.{not, ◌&&◌}
-use Rattle.std.specs.List.Sorted.{IsStrictlyIncreasing}
-use Rattle.std.proofs.Math.ListN.{get_or-append}
-use Rattle.std.proofs.Math.Seq.{get_or-append_seam}
-use Rattle.std.proofs.lemmas.Bool.{and_parts, cases_lt, lt-ltb, not-true, true≢false}
-use Rattle.std.proofs.lemmas.List.{get_or_read_under, length-append, length-map, length-reverse, map-append}
-use Rattle.std.proofs.lemmas.List.{reverse-append}
+use Rattle.std.proofs.lemmas.List.{get_or_read_under, length-reverse, reverse-append}
 use Rattle.std.proofs.lemmas.List.Elements.{Contains-append_left, Contains-push, Contains-push_cases}
+use Rattle.std.proofs.{Common.length-append, Common.reverse, Math.ListN.get_or-append, Math.Seq.get_or-append_seam}
+use Rattle.std.specs.List.Sorted.{IsStrictlyIncreasing}
 use Rattle.mk_why.proofs.Vocabulary.{AreEntriesBelow, AreWays, BeginApart, Config, Found, IsLedBack, IsTold, IsWay}
 use Rattle.mk_why.proofs.Vocabulary.{IsWhy, Link, LinksLead, PlacedAllocation, Root, Start, Storage, View, base_at}
 use Rattle.mk_why.proofs.Vocabulary.{entry_at, is_kept, is_mapped, is_scanned_allocation, placed_at, storage_of}
 use Rattle.mk_why.proofs.Vocabulary.{world_in}
+use Rattle.mk_laws.proofs.Vocabulary.{Bool, List, None, Option, Some, ℕ, and_parts, ap, arith, cases_lt, false}
+use Rattle.mk_laws.proofs.Vocabulary.{if◌then◌else◌, inl, inr, is_some, length, length-map, lt-ltb, map, map-append}
+use Rattle.mk_laws.proofs.Vocabulary.{not, not-true, refl, slice_index, slice_index_or, subst, sym, true, true≢false}
+use Rattle.mk_laws.proofs.Vocabulary.{[], ◌&&◌, ◌*◌, ◌++◌, ◌+◌, ◌<◌, ◌∙◌, ◌∷◌, ◌≡◌}
 use Rattle.mk_core.specs.ClosedMarks.{is_marked_allocation}
 use Rattle.mk_laws.proofs.MappedWords.{mapped_stays}
 use Rattle.mk_cycle.specs.FinishCycle.{is_in_snapshot_of_cycle}
-use Rattle.mk_why.specs.declared.found.Way.{Way}
-use Rattle.mk_why.specs.declared.kept.Kept.{Kept}
 use Rattle.mk_why.specs.Chains.{IsEntryOf}
 use Rattle.mk_why.specs.Entries.{IsLed, IsMadeOf, IsOneMore, IsToldWhy, IsWayOf, back_to, root_of, step_back}
-use Rattle.mk_why.specs.Listing.{IsKeptAt}
-use Rattle.mk_why.specs.Searching.{IsOnward}
+use Rattle.mk_why.specs.{Listing.IsKeptAt, Searching.IsOnward, declared.found.Way.Way, declared.kept.Kept.Kept}
 
 -- what is read of a table
 pub read_at : {A : Type 0} → (xs : List (Option A)) (i : ℕ) (o : Option A) → o ≡ slice_index_or xs i o → i < length xs

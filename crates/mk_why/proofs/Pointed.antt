@@ -1,23 +1,19 @@
 -- What values point into, by lookup and used bits, and what is scanned of an allocation, by the header of its page.
-use Rattle.std.proofs.Common.{◌≡◌, ◌∙◌, ℕ, ◌+◌, ◌*◌, ◌/◌, ◌<◌, ◌≤◌, true, false, sym, ap, subst, inr, arith}
-use Rattle.std.specs.Prelude.{Option, None, Some, not}
-use Rattle.std.proofs.lemmas.Bool.{ne_eqb, true≢false, and_parts}
 use Rattle.mk_why.proofs.Vocabulary.{BeginApart, Cell, Config, IsFirstWord, IsHistory, IsStill, PassState}
 use Rattle.mk_why.proofs.Vocabulary.{PlacedAllocation, PointsIntoAllocation, WordsState, World, base_at}
 use Rattle.mk_why.proofs.Vocabulary.{cell_of_allocation, first_word, has_bit, header_at, header_in, header_of}
 use Rattle.mk_why.proofs.Vocabulary.{is_mapped, is_scanned_allocation, never_behind, now_of, object_placed, phase_of}
 use Rattle.mk_why.proofs.Vocabulary.{placed_at, storage_of, storage_words, used_at, view_by, words_under, world_of}
-use Rattle.mk_core.specs.Cells.{has_no_pointers, is_used, pointed_cell}
-use Rattle.mk_core.proofs.Sizes.{words_within}
-use Rattle.mk_core.proofs.StandingAllocations.{cells_begin, typed_size}
-use Rattle.mk_laws.specs.SettledPages.{IsSettled, StandsUsed}
-use Rattle.mk_laws.proofs.Settled.{gone_is_unmapped, unreleased_are_apart}
-use Rattle.mk_laws.proofs.KnownWorlds.{known_world}
-use Rattle.mk_laws.proofs.InvariantHistories.{histories_keep_the_invariant}
+use Rattle.mk_laws.proofs.Vocabulary.{IsSettled, None, Option, Some, ℕ, and_parts, ap, arith, cells_begin, false}
+use Rattle.mk_laws.proofs.Vocabulary.{has_no_pointers, inr, ne_eqb, not, pointed_cell, subst, sym, true, true≢false}
+use Rattle.mk_laws.proofs.Vocabulary.{typed_size, words_within, ◌*◌, ◌+◌, ◌/◌, ◌<◌, ◌∙◌, ◌≡◌, ◌≤◌}
+use Rattle.mk_core.specs.Cells.{is_used}
 use Rattle.mk_laws.proofs.InvariantTheorems.{allocations_are_disjoint, allocations_stand}
 use Rattle.mk_laws.proofs.Worlds.{Told, comes_back, hits}
+use Rattle.mk_laws.proofs.{InvariantHistories.histories_keep_the_invariant, KnownWorlds.known_world}
+use Rattle.mk_laws.proofs.{MappedWords.mapped_stays, Settled.gone_is_unmapped, Settled.unreleased_are_apart}
+use Rattle.mk_laws.specs.SettledPages.{StandsUsed}
 use Rattle.mk_sweep.proofs.ScannedCells.{scanned_stands, used_cell, used_is_taken}
-use Rattle.mk_laws.proofs.MappedWords.{mapped_stays}
 use Rattle.mk_why.specs.Searching.{AreScannedFrom, IsBasePointed, PointsAtBase}
 
 module _ (p : PassState) (history : IsHistory p.table.config p.seen) (still : IsStill p) where

@@ -1,17 +1,14 @@
 -- What scans find, and that what is said of a view is said of its world.
-use Rattle.std.proofs.Common.{◌≡◌, ◌∙◌, ℕ, ◌+◌, ◌-◌, ◌<◌, ◌≤◌, true, List, refl, sym, ap, subst, inl, inr, arith}
-use Rattle.std.proofs.Common.{length, [], ◌∷◌}
-use Rattle.std.specs.Prelude.{Option, None, Some, count_by, is_some, slice_index, slice_index_or}
-use Rattle.std.proofs.lemmas.Bool.{cases_lt}
-use Rattle.std.proofs.lemmas.List.{get_or_past, get_or_read_under}
-use Rattle.std.proofs.lemmas.List.Sums.{count_by-le-length}
+use Rattle.std.proofs.{Common.count_by, lemmas.List.get_or_read_under, lemmas.List.Sums.count_by-le-length}
 use Rattle.mk_why.proofs.Vocabulary.{AreEntriesBelow, Config, Found, Global, IsFirstWord, IsFoundThrough, IsNoted}
 use Rattle.mk_why.proofs.Vocabulary.{IsSearch, IsSearched, IsTold, IsWhy, LinksLead, PointsIntoAllocation, Register}
 use Rattle.mk_why.proofs.Vocabulary.{Root, Storage, Tables, View, Words, World, base_at, entry_at}
 use Rattle.mk_why.proofs.Vocabulary.{is_scanned_allocation, links_in, links_of, placed_at, storage_words, view_of}
 use Rattle.mk_why.proofs.Vocabulary.{word_of_root, world_in}
-use Rattle.mk_why.specs.declared.kept.Kept.{Kept}
-use Rattle.mk_why.specs.Chains.{AreKept, IsChain, IsEntryOf, IsLink}
+use Rattle.mk_laws.proofs.Vocabulary.{List, None, Option, Some, ℕ, ap, arith, cases_lt, get_or_past, inl, inr, is_some}
+use Rattle.mk_laws.proofs.Vocabulary.{length, refl, slice_index, slice_index_or, subst, sym, true, [], ◌+◌, ◌-◌, ◌<◌}
+use Rattle.mk_laws.proofs.Vocabulary.{◌∙◌, ◌∷◌, ◌≡◌, ◌≤◌}
+use Rattle.mk_why.specs.{Chains.AreKept, Chains.IsChain, Chains.IsEntryOf, Chains.IsLink, declared.kept.Kept.Kept}
 
 -- What is done after the scan of an allocation's words.
 

@@ -1,16 +1,14 @@
 -- The search, one note after the other: what was found stays, and the queue rises.
-use Rattle.std.proofs.Common.{◌≡◌, ◌≢◌, ◌⊎◌, ◌∙◌, ℕ, ◌+◌, ◌*◌, ◌<◌, ◌≤◌, true, false, List, refl, sym, ap, subst, inl}
-use Rattle.std.proofs.Common.{inr, arith, length}
-use Rattle.std.specs.Prelude.{Option, None, Some, is_some, slice_index, slice_set}
-use Rattle.std.proofs.lemmas.Bool.{cases_Bool, cases_eq, cases_lt, true≢false}
-use Rattle.std.proofs.lemmas.List.{get_or-set_other, get_or-set_same, length-set}
+use Rattle.std.proofs.Common.{below_more}
 use Rattle.mk_why.proofs.Vocabulary.{AreWays, Config, FindsMore, Found, IsFound, IsFoundThrough, IsNoted, IsSearch}
 use Rattle.mk_why.proofs.Vocabulary.{IsStill, IsWay, Link, LooksOn, SearchesOn, Start, Tables, TurnState, View}
 use Rattle.mk_why.proofs.Vocabulary.{entry_at, links_in, links_of, view_by}
-use borrow.Author.Count.{below_more}
-use Rattle.mk_why.specs.declared.found.Way.{Way}
-use Rattle.mk_why.specs.Searching.{IsFoundAt, IsQueued, IsFoundWithin}
+use Rattle.mk_laws.proofs.Vocabulary.{List, None, Option, Some, ℕ, ap, arith, cases_Bool, cases_eq, cases_lt, false}
+use Rattle.mk_laws.proofs.Vocabulary.{get_or-set_other, get_or-set_same, inl, inr, is_some, length, length-set, refl}
+use Rattle.mk_laws.proofs.Vocabulary.{slice_index, slice_set, subst, sym, true, true≢false, ◌*◌, ◌+◌, ◌<◌, ◌∙◌, ◌≡◌}
+use Rattle.mk_laws.proofs.Vocabulary.{◌≢◌, ◌≤◌, ◌⊎◌}
 use Rattle.mk_why.proofs.Looks.{looks_at_nothing, looks_then}
+use Rattle.mk_why.specs.{Searching.IsFoundAt, Searching.IsFoundWithin, Searching.IsQueued, declared.found.Way.Way}
 
 abbrev pub Stays : List (Option Found) → List (Option Found) → Type 0
 Stays found more = (base : ℕ) (f : Found) → entry_at found base ≡ Some f → entry_at more base ≡ Some f

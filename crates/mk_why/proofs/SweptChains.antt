@@ -1,8 +1,7 @@
 -- What chains lead to is swept, link by link.
-use Rattle.std.proofs.Common.{ℕ, ◌+◌, ◌*◌, List, [], ◌∷◌, refl, subst}
-use Rattle.std.specs.Prelude.{slice_index}
 use Rattle.mk_why.proofs.Vocabulary.{Config, Global, LinksLead, Register, Root, World, word_of_root}
-use Rattle.mk_sweep.specs.Swept.{IsSwept, IsSweptValue, InGlobal, InRegister, InWord}
+use Rattle.mk_laws.proofs.Vocabulary.{List, ℕ, refl, slice_index, subst, [], ◌*◌, ◌+◌, ◌∷◌}
+use Rattle.mk_sweep.specs.Swept.{InGlobal, InRegister, InWord, IsSwept, IsSweptValue}
 use Rattle.mk_why.specs.SweptChains.{ChainsAreSwept}
 
 root_swept : (c : Config) (w : World) (root : Root) → IsSweptValue c w (word_of_root w.now.words root)

@@ -1,50 +1,24 @@
 -- What the steps of a caller's call find and leave.
-use Rattle.std.proofs.Common.{◌≡◌, ◌≢◌, ℕ, ◌+◌, ◌*◌, ◌<◌, ◌≤◌, Bool, true, false, List, ◌++◌, length, refl, sym, ◌∙◌}
-use Rattle.std.proofs.Common.{ap, subst, arith}
-use Rattle.std.specs.Prelude.{slice_index, slice_set, ◌==◌, Some, None, if◌then◌else◌, not, ◌&&◌}
-use Rattle.std.proofs.lemmas.Bool.{ltb-true, eq-eqb, ne_eqb}
-use Rattle.std.proofs.lemmas.List.{get_or-set_same, get_or-set_other}
-use Rattle.mk_core.specs.declared.config.Config.{Config}
-use Rattle.mk_never.specs.declared.operations.Op.{Op}
-use Rattle.mk_core.specs.declared.events.Answer.TheVariants as answer
-use Rattle.mk_core.specs.declared.events.Seat.{Seat}
-use Rattle.mk_core.specs.declared.events.Seat.TheVariants.{Caller, Marker, Host}
-use Rattle.mk_core.specs.declared.events.Step.{Step}
-use Rattle.mk_core.specs.declared.events.Group.{Group}
-use Rattle.mk_core.specs.declared.events.Group.TheVariants as group
-use Rattle.mk_core.specs.declared.accesses.Access.{Access}
-use Rattle.mk_core.specs.declared.accesses.Access.TheVariants.{Load, Store}
-use Rattle.mk_core.specs.declared.accesses.TableWord.{TableWord}
-use Rattle.mk_core.specs.declared.accesses.TableWord.TheVariants.{Named}
-use Rattle.mk_core.specs.declared.events.Word.TheVariants as word
-use Rattle.mk_core.specs.declared.events.Step.TheVariants as step
-use Rattle.mk_core.specs.declared.seats.Stage.{Stage}
-use Rattle.mk_core.specs.declared.seats.Stage.TheVariants as stage
-use Rattle.mk_core.specs.declared.seats.Flight.{Flight}
-use Rattle.mk_core.specs.declared.seats.Progress.{Progress}
-use Rattle.mk_core.specs.Words.{Words, register_word, accessed, with_named, word_in}
-use Rattle.mk_core.specs.Layout.{IsOfTable}
-use Rattle.mk_core.specs.Calls.{at_rest, is_under_turn, begun, still, onward, one_if, progress_reg, progress_cas}
-use Rattle.mk_core.specs.Order.{seat_exists, group_of, is_open_to, is_in_order}
-use Rattle.mk_core.specs.Readings.{is_idle, is_in_call}
-use Rattle.mk_core.specs.HeldGates.{is_gate_held}
-use Rattle.mk_core.specs.Accesses.{word_accessed, access, found, caller_number, register_met, reg_access}
-use Rattle.mk_core.specs.Moments.{Moment, flight_of}
-use Rattle.mk_core.specs.Effects.{progress, begins_where_free, moment_behind, answer_decided}
-use Rattle.mk_core.specs.History.{World}
-use Rattle.mk_core.proofs.Conditions.{enabled_meets}
-use Rattle.mk_core.proofs.Lengths.{histories_keep_lengths}
-use Rattle.mk_laws.proofs.NextSteps.{at_enter}
-use Rattle.mk_laws.proofs.ProtocolHeldGates.{gates_tell_holds}
-use Rattle.mk_words.specs.Seats.{is_caller}
-use Rattle.mk_words.specs.States.{PassState, now_of, call_of, event_of}
-use Rattle.mk_words.specs.Rule.{told_by}
-use Rattle.mk_words.specs.Steps.{Makes, moment_of, found_by, Finds, Tells, Goes}
-use Rattle.mk_words.specs.CallSteps.{register_of, LeavesRegisters, KeepsOtherRegisters, FindsHeld}
+use Rattle.mk_laws.proofs.Vocabulary.{Access, Answer, Bool, Caller, Config, Flight, Group, Host, List, Load, Marker}
+use Rattle.mk_laws.proofs.Vocabulary.{Moment, Named, None, Op, Progress, Seat, Some, Stage, Step, Store, Word, Words}
+use Rattle.mk_laws.proofs.Vocabulary.{World, ℕ, access, accessed, answer_decided, ap, arith, at_rest, begun}
+use Rattle.mk_laws.proofs.Vocabulary.{caller_number, eq-eqb, false, flight_of, found, get_or-set_other, get_or-set_same}
+use Rattle.mk_laws.proofs.Vocabulary.{group_of, histories_keep_lengths, if◌then◌else◌, is_open_to, is_under_turn}
+use Rattle.mk_laws.proofs.Vocabulary.{length, ltb-true, ne_eqb, not, one_if, onward, progress, progress_reg, refl}
+use Rattle.mk_laws.proofs.Vocabulary.{reg_access, register_met, register_word, seat_exists, slice_index, slice_set}
+use Rattle.mk_laws.proofs.Vocabulary.{still, subst, sym, true, word_accessed, ◌&&◌, ◌*◌, ◌++◌, ◌+◌, ◌<◌, ◌==◌, ◌∙◌, ◌≡◌}
+use Rattle.mk_laws.proofs.Vocabulary.{◌≢◌, ◌≤◌}
+use Rattle.mk_core.specs.{Calls.progress_cas, Effects.begins_where_free, Effects.moment_behind, HeldGates.is_gate_held}
+use Rattle.mk_core.specs.{Layout.IsOfTable, Order.is_in_order, Readings.is_idle, Readings.is_in_call, Words.with_named}
+use Rattle.mk_core.specs.{Words.word_in, declared.accesses.TableWord.TableWord}
+use Rattle.mk_laws.proofs.{NextSteps.at_enter, ProtocolHeldGates.gates_tell_holds}
 use Rattle.mk_words.proofs.Made.{made}
+use Rattle.mk_words.specs.CallSteps.{FindsHeld, KeepsOtherRegisters, LeavesRegisters, register_of}
+use Rattle.mk_words.specs.Steps.{Finds, Goes, Makes, Tells, found_by, moment_of}
+use Rattle.mk_words.specs.{Rule.told_by, States.PassState, States.call_of, States.event_of, States.now_of}
 
 -- a step of a call is its caller's
-pub is_callers : (s : Seat) → is_open_to s group.Callers ≡ true → (k : ℕ) × (s ≡ Caller k)
+pub is_callers : (s : Seat) → is_open_to s Group.Callers ≡ true → (k : ℕ) × (s ≡ Caller k)
 is_callers (Caller k) h = (k, refl)
 is_callers (Marker k) h = cc
 is_callers Host h = cc
@@ -118,7 +92,7 @@ keeps_registers p s q m k is same r lt =
 
 -- The same, from what a call says.
 module _ (p : PassState) (s : Step) (n : ℕ) (q : PassState) (t : Tells p s n q)
-    (kind : group_of s ≡ group.Callers) where
+    (kind : group_of s ≡ Group.Callers) where
   pub caller_is : (k : ℕ) × (p.seat ≡ Caller k)
   caller_is =
       is_callers p.seat
@@ -150,69 +124,69 @@ module _ (p : PassState) (s : Step) (n : ℕ) (q : PassState) (t : Tells p s n q
 
 -- A store's progress doesn't read what was there.
 unread : (f : Flight) (s : Stage) (v n : ℕ) → reg_access f s ≡ Store v → progress_reg f s n ≡ progress_reg f s v
-unread f stage.Store v n h = refl
-unread f stage.Put v n h = refl
+unread f Stage.Store v n h = refl
+unread f Stage.Put v n h = refl
 unread f _ v n h = cc
 
 -- `reg`, by the access that the call makes at its stage
 
 -- the access is the one that the pass's own list gives
-reg_access_is : (p : PassState) (q : PassState) (m : Makes p step.Reg q) (a : Access)
+reg_access_is : (p : PassState) (q : PassState) (m : Makes p Step.Reg q) (a : Access)
     → flight_of (moment_of m) p.seat ≡ call_of p → reg_access (call_of p) (call_of p).stage ≡ a
-    → access p.table.config (moment_of m) (event_of p step.Reg) ≡ a
+    → access p.table.config (moment_of m) (event_of p Step.Reg) ≡ a
 reg_access_is p q m a same is = ap (λ (f : Flight). reg_access f f.stage) same ∙ is
 
-reg_reaches : (p : PassState) (q : PassState) (m : Makes p step.Reg q) (r : ℕ)
+reg_reaches : (p : PassState) (q : PassState) (m : Makes p Step.Reg q) (r : ℕ)
     → flight_of (moment_of m) p.seat ≡ call_of p → r ≡ register_met (call_of p) (call_of p).stage
-    → word_accessed p.table.config (moment_of m) (event_of p step.Reg) ≡ Named (word.Reg (caller_number p.seat) r)
-reg_reaches p q m r same is = ap (λ (f : Flight). Named (word.Reg (caller_number p.seat) (register_met f f.stage))) same
-    ∙ ap (λ (i : ℕ). Named (word.Reg (caller_number p.seat) i)) (sym is)
+    → word_accessed p.table.config (moment_of m) (event_of p Step.Reg) ≡ Named (Word.Reg (caller_number p.seat) r)
+reg_reaches p q m r same is = ap (λ (f : Flight). Named (Word.Reg (caller_number p.seat) (register_met f f.stage))) same
+    ∙ ap (λ (i : ℕ). Named (Word.Reg (caller_number p.seat) i)) (sym is)
 
-reg_goes : (p : PassState) (q : PassState) (m : Makes p step.Reg q) (n : ℕ) → n ≡ found_by m
-    → progress p.table.config (moment_of m) (call_of p) (found_by m) step.Reg
+reg_goes : (p : PassState) (q : PassState) (m : Makes p Step.Reg q) (n : ℕ) → n ≡ found_by m
+    → progress p.table.config (moment_of m) (call_of p) (found_by m) Step.Reg
     ≡ progress_reg (call_of p) (call_of p).stage n
 reg_goes p q m n is = ap (λ (i : ℕ). progress_reg (call_of p) (call_of p).stage i) (sym is)
 
-module _ (p : PassState) (n : ℕ) (q : PassState) (t : Tells p step.Reg n q)
+module _ (p : PassState) (n : ℕ) (q : PassState) (t : Tells p Step.Reg n q)
     (r : ℕ) (met : r ≡ register_met (call_of p) (call_of p).stage) where
   same : flight_of (moment_of t.makes) p.seat ≡ call_of p
-  same = same_call p step.Reg n q t refl
+  same = same_call p Step.Reg n q t refl
 
-  reaches : word_accessed p.table.config (moment_of t.makes) (event_of p step.Reg)
-      ≡ Named (word.Reg (caller_number p.seat) r)
+  reaches : word_accessed p.table.config (moment_of t.makes) (event_of p Step.Reg)
+      ≡ Named (Word.Reg (caller_number p.seat) r)
   reaches = reg_reaches p q t.makes r same met
 
   small : r < 8
   small = (subst (λ (x : TableWord). IsOfTable p.table.config.pages x) reaches
-      (made p step.Reg q t.makes).of_table).1
+      (made p Step.Reg q t.makes).of_table).1
 
   module _ (loads : reg_access (call_of p) (call_of p).stage ≡ Load) where
     found_is : n ≡ found_by t.makes
     found_is = t.tells ∙ ap (λ (a : Access). told_by a (found_by t.makes)) loads
 
-    pub load_finds : Finds p step.Reg n q
+    pub load_finds : Finds p Step.Reg n q
     load_finds = record { makes = t.makes; finds = found_is }
 
-    pub load_goes : Goes p step.Reg (progress_reg (call_of p) (call_of p).stage n) q
-    load_goes = goes_on p step.Reg n q t refl _ (reg_goes p q t.makes n found_is)
+    pub load_goes : Goes p Step.Reg (progress_reg (call_of p) (call_of p).stage n) q
+    load_goes = goes_on p Step.Reg n q t refl _ (reg_goes p q t.makes n found_is)
 
     pub load_keeps : LeavesRegisters p q
     load_keeps =
-        keeps p step.Reg n q t refl
+        keeps p Step.Reg n q t refl
         (ap (λ (a : Access).
-        (accessed (moment_of t.makes).words (word_accessed p.table.config (moment_of t.makes) (event_of p step.Reg))
+        (accessed (moment_of t.makes).words (word_accessed p.table.config (moment_of t.makes) (event_of p Step.Reg))
         a).registers) (reg_access_is p q t.makes Load same loads))
 
     pub load_own : n ≡ register_of p r
     load_own = found_is ∙ ap (λ (x : TableWord). word_in (moment_of t.makes).words x) reaches
-        ∙ same_register p step.Reg n q t refl r small
+        ∙ same_register p Step.Reg n q t refl r small
 
   module _ (v : ℕ) (stores : reg_access (call_of p) (call_of p).stage ≡ Store v) where
-    words_now : (moment_behind p.table.config (moment_of t.makes) (event_of p step.Reg)).words
-        ≡ with_named (moment_of t.makes).words (word.Reg (caller_number p.seat) r) v
+    words_now : (moment_behind p.table.config (moment_of t.makes) (event_of p Step.Reg)).words
+        ≡ with_named (moment_of t.makes).words (Word.Reg (caller_number p.seat) r) v
     words_now =
         ap (λ (a : Access). accessed (moment_of t.makes).words
-        (word_accessed p.table.config (moment_of t.makes) (event_of p step.Reg)) a)
+        (word_accessed p.table.config (moment_of t.makes) (event_of p Step.Reg)) a)
         (reg_access_is p q t.makes (Store v) same stores)
         ∙ ap (λ (x : TableWord). accessed (moment_of t.makes).words x (Store v)) reaches
 
@@ -220,12 +194,12 @@ module _ (p : PassState) (n : ℕ) (q : PassState) (t : Tells p step.Reg n q)
         → register_of q x ≡ slice_index (slice_set (moment_of t.makes).words.registers (8 * caller_number p.seat + r) v)
         (8 * caller_number p.seat + x)
     register_set x =
-        register_now p step.Reg n q t refl x
+        register_now p Step.Reg n q t refl x
         ∙ ap (λ (w : Words). register_word w (caller_number p.seat) x) words_now
 
-    pub store_goes : Goes p step.Reg (progress_reg (call_of p) (call_of p).stage v) q
+    pub store_goes : Goes p Step.Reg (progress_reg (call_of p) (call_of p).stage v) q
     store_goes =
-        goes_on p step.Reg n q t refl _
+        goes_on p Step.Reg n q t refl _
         (unread (call_of p) (call_of p).stage v (found_by t.makes) stores)
 
     pub store_keeps : KeepsOtherRegisters r p q
@@ -233,16 +207,16 @@ module _ (p : PassState) (n : ℕ) (q : PassState) (t : Tells p step.Reg n q)
         register_set x
         ∙ get_or-set_other (moment_of t.makes).words.registers (8 * caller_number p.seat + r)
         (8 * caller_number p.seat + x) v 0 (λ e. ne (omega arith))
-        ∙ same_register p step.Reg n q t refl x lt
+        ∙ same_register p Step.Reg n q t refl x lt
 
     pub store_stored : register_of q r ≡ v
     store_stored =
         register_set r
         ∙ get_or-set_same (moment_of t.makes).words.registers (8 * caller_number p.seat + r) v 0
         (let long = (histories_keep_lengths p.table.config (p.seen ++ t.makes.others)).registers in
-        let k = caller_is p step.Reg n q t refl in
+        let k = caller_is p Step.Reg n q t refl in
         let number : caller_number p.seat ≡ k.0 = number_is p.seat k.0 k.1 in
-        let d = made p step.Reg q t.makes in
+        let d = made p Step.Reg q t.makes in
         let within = caller_exists p.table.config p.seat k.0 k.1 d.meets.seat in
         let most = d.known.small in
         let lt = small in
@@ -250,9 +224,9 @@ module _ (p : PassState) (n : ℕ) (q : PassState) (t : Tells p step.Reg n q)
 
 -- `cas`
 pub cas_goes : (f : Flight) (n found expected : ℕ) → n ≡ found → expected ≡ f.p
-    → progress_cas f found ≡ onward f (Some (answer.Num (one_if (n == expected))))
+    → progress_cas f found ≡ onward f (Some (Answer.Num (one_if (n == expected))))
 cas_goes f n found expected is old =
-    ap (λ (i : ℕ). progress_cas f i) (sym is) ∙ ap (λ (i : ℕ). onward f (Some (answer.Num (one_if (n == i))))) (sym old)
+    ap (λ (i : ℕ). progress_cas f i) (sym is) ∙ ap (λ (i : ℕ). onward f (Some (Answer.Num (one_if (n == i))))) (sym old)
 
 -- `enter`
 
@@ -265,28 +239,28 @@ pub waits : (f : Flight) (o : Op) (n found : ℕ) → n ≡ found → n ≢ 0 �
 waits f o n found is held = ap (λ (b : Bool). if b then record { flight = begun o; answer = None } else still f)
     (ne_eqb found 0 (λ z. held (is ∙ z)))
 
-module _ (p : PassState) (o : Op) (n : ℕ) (q : PassState) (t : Tells p (step.Enter o) n q) where
-  pub enter_goes : n ≡ 0 → Goes p (step.Enter o) (record { flight = begun o; answer = None }) q
-  enter_goes free = goes_on p (step.Enter o) n q t refl _
+module _ (p : PassState) (o : Op) (n : ℕ) (q : PassState) (t : Tells p (Step.Enter o) n q) where
+  pub enter_goes : n ≡ 0 → Goes p (Step.Enter o) (record { flight = begun o; answer = None }) q
+  enter_goes free = goes_on p (Step.Enter o) n q t refl _
       (begins (call_of p) o n (found_by t.makes) t.tells free)
 
-  pub enter_waits : n ≢ 0 → Goes p (step.Enter o) (still (call_of p)) q
-  enter_waits held = goes_on p (step.Enter o) n q t refl _
+  pub enter_waits : n ≢ 0 → Goes p (Step.Enter o) (still (call_of p)) q
+  enter_waits held = goes_on p (Step.Enter o) n q t refl _
       (waits (call_of p) o n (found_by t.makes) t.tells held)
 
   pub enter_keeps : LeavesRegisters p q
-  enter_keeps = keeps p (step.Enter o) n q t refl refl
+  enter_keeps = keeps p (Step.Enter o) n q t refl refl
 
   pub enter_held : n ≢ 0 → FindsHeld p o q
   enter_held held =
       let c : Config = p.table.config in
-      let d = made p (step.Enter o) q t.makes in
-      let k = caller_is p (step.Enter o) n q t refl in
+      let d = made p (Step.Enter o) q t.makes in
+      let k = caller_is p (Step.Enter o) n q t refl in
       let m : Moment = moment_of t.makes in
       let within : k.0 < c.callers = caller_exists c p.seat k.0 k.1 d.meets.seat in
       let number : caller_number p.seat ≡ k.0 = number_is p.seat k.0 k.1 in
-      let order : is_in_order c m (Caller k.0) (step.Enter o) ≡ true =
-      subst (λ (s : Seat). is_in_order c m s (step.Enter o) ≡ true) k.1 d.meets.order in
+      let order : is_in_order c m (Caller k.0) (Step.Enter o) ≡ true =
+      subst (λ (s : Seat). is_in_order c m s (Step.Enter o) ≡ true) k.1 d.meets.order in
       let idle = (at_enter (flight_of m (Caller k.0)).stage (flight_of m (Caller k.0)).op o order).0 in
       let gate : ℕ = slice_index m.words.gates k.0 in
       let is : n ≡ gate = t.tells ∙ ap (λ (i : ℕ). slice_index m.words.gates i) number in

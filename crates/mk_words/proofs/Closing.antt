@@ -1,26 +1,17 @@
 -- What is known of a table that has ended.
-use Rattle.std.proofs.Common.{◌≡◌, ℕ, zero, suc, ◌+◌, ◌<◌, ◌≤◌, List, [], ◌∷◌, refl, sym, ◌∙◌, ap, subst, add-one}
-use Rattle.std.proofs.Common.{arith}
-use Rattle.std.specs.Prelude.{◌%◌, ◌^◌, slice_index, count_ones}
-use Rattle.std.proofs.Math.Nat.{add-mul-mod_self_left}
+use Rattle.std.proofs.{Common.add-one, Common.count_ones, Math.Nat.add-mul-mod_self_left}
+use Rattle.mk_laws.proofs.Vocabulary.{AreOfPages, Config, Event, List, Named, Word, Words, ℕ, ap, arith}
+use Rattle.mk_laws.proofs.Vocabulary.{histories_keep_lengths, left, refl, slice_index, subst, suc, sym, zero, [], ◌%◌}
+use Rattle.mk_laws.proofs.Vocabulary.{◌+◌, ◌<◌, ◌^◌, ◌∙◌, ◌∷◌, ◌≡◌, ◌≤◌}
+use Rattle.mk_page_map.specs.KnownPages.{KnownPages}
+use Rattle.mk_core.proofs.RegionLemmas.{words_stand}
+use Rattle.mk_core.specs.Layout.{IsOfTable, in_order, index_of, index_of_named}
+use Rattle.mk_core.specs.{Words.word_in, declared.accesses.TableWord.TableWord}
+use Rattle.atomic_table.specs.declared.shared.Seat.{Seat as Token}
+use Rattle.mk_words.specs.Finals.{HasTallies, freed_bits_in, freed_cells}
+use Rattle.mk_words.specs.{declared.finals.Final.Final, declared.rule.View.View}
 use mathlib.Core.Option.{some, some-injective, some-ne-none}
 use lib.ListN.{get_elem?}
-use Rattle.atomic_table.specs.declared.shared.Seat.{Seat as Token}
-use Rattle.mk_core.specs.declared.config.Config.{Config}
-use Rattle.mk_core.specs.declared.events.Event.{Event}
-use Rattle.mk_core.specs.declared.events.Word.{Word}
-use Rattle.mk_core.specs.declared.events.Word.TheVariants as word
-use Rattle.mk_core.specs.declared.accesses.TableWord.{TableWord}
-use Rattle.mk_core.specs.declared.accesses.TableWord.TheVariants.{Named}
-use Rattle.mk_core.specs.Words.{Words, word_in}
-use Rattle.mk_core.specs.Layout.{index_of, index_of_named, in_order, AreOfPages, IsOfTable}
-use Rattle.mk_core.specs.History.{left}
-use Rattle.mk_core.proofs.Lengths.{histories_keep_lengths}
-use Rattle.mk_core.proofs.RegionLemmas.{words_stand}
-use Rattle.mk_page_map.specs.KnownPages.{KnownPages}
-use Rattle.mk_words.specs.declared.rule.View.{View}
-use Rattle.mk_words.specs.declared.finals.Final.{Final}
-use Rattle.mk_words.specs.Finals.{freed_bits_in, freed_cells, HasTallies}
 
 pub found_at : (l : List ℕ) (i n : ℕ) → get_elem? l i ≡ some n → n ≡ slice_index l i
 found_at [] i n e = absurd (some-ne-none n (sym e))
@@ -28,7 +19,7 @@ found_at (x ∷ l) zero n e = sym (some-injective x n e)
 found_at (x ∷ l) (suc i) n e = found_at l i n e
 
 pub one_page_more : (ws : List ℕ) (pages page freed found : ℕ) → freed ≡ freed_bits_in ws pages page
-    → found ≡ slice_index ws (index_of_named pages (word.Quar page))
+    → found ≡ slice_index ws (index_of_named pages (Word.Quar page))
     → freed + count_ones (found % 2 ^ 32) ≡ freed_bits_in ws pages (page + 1)
 one_page_more ws pages page freed found counted is =
     ap (λ (n : ℕ). n + count_ones (found % 2 ^ 32)) counted
@@ -42,8 +33,8 @@ freed_are : (pages : ℕ) (w : Words) (n : ℕ) → AreOfPages pages w → n ≤
 freed_are pages w zero of le = refl
 freed_are pages w (suc n) of le =
     let lt : n < pages = omega arith in
-    let at = words_stand pages w (Named (word.Quar n)) of lt in
-    ap (λ (k : ℕ). k + count_ones (slice_index (in_order w) (index_of_named pages (word.Quar n)) % 2 ^ 32))
+    let at = words_stand pages w (Named (Word.Quar n)) of lt in
+    ap (λ (k : ℕ). k + count_ones (slice_index (in_order w) (index_of_named pages (Word.Quar n)) % 2 ^ 32))
     (freed_are pages w n of (omega arith))
     ∙ ap (λ (k : ℕ). freed_cells w n + count_ones (k % 2 ^ 32)) at
     ∙ ap (λ (k : ℕ). freed_cells w n + count_ones k)
@@ -62,9 +53,9 @@ last_of ws tally = slice_index ws (index_of_named 0 tally)
 
 pub tallies_are : (c : Config) (es : List Event) (ws : List ℕ) (held fresh quarantined cycles released full : ℕ)
     (memory : Token KnownPages View)
-    → ws ≡ in_order (left c es).now.words → held ≡ last_of ws word.Held → fresh ≡ last_of ws word.Fresh
+    → ws ≡ in_order (left c es).now.words → held ≡ last_of ws Word.Held → fresh ≡ last_of ws Word.Fresh
     → quarantined ≡ freed_bits_in ws c.pages c.pages
-    → cycles ≡ last_of ws word.Cycles → released ≡ last_of ws word.Released → full ≡ last_of ws word.Full
+    → cycles ≡ last_of ws Word.Cycles → released ≡ last_of ws Word.Released → full ≡ last_of ws Word.Full
     → HasTallies (left c es).now.words c.pages
     (record {
       held = held;
@@ -79,22 +70,22 @@ tallies_are c es ws held fresh quarantined cycles released full memory is a b q 
     let w : Words = (left c es).now.words in
     let of = histories_keep_lengths c es in
     record {
-      held = tally_at c.pages w ws (Named word.Held) held of tt is a;
-      fresh = tally_at c.pages w ws (Named word.Fresh) fresh of tt is b;
+      held = tally_at c.pages w ws (Named Word.Held) held of tt is a;
+      fresh = tally_at c.pages w ws (Named Word.Fresh) fresh of tt is b;
       quarantined = q ∙ ap (λ (l : List ℕ). freed_bits_in l c.pages c.pages) is
           ∙ freed_are c.pages w c.pages of (omega arith);
-      cycles = tally_at c.pages w ws (Named word.Cycles) cycles of tt is d;
-      released = tally_at c.pages w ws (Named word.Released) released of tt is e;
-      full = tally_at c.pages w ws (Named word.Full) full of tt is f;
+      cycles = tally_at c.pages w ws (Named Word.Cycles) cycles of tt is d;
+      released = tally_at c.pages w ws (Named Word.Released) released of tt is e;
+      full = tally_at c.pages w ws (Named Word.Full) full of tt is f;
     }
 
 -- The same, where a call names the configuration and the list in its own way.
 pub tallies_told : (c of_pass of_words : Config) (es seen : List Event) (ws : List ℕ)
     (held fresh quarantined cycles released full : ℕ) (memory : Token KnownPages View)
-    → of_pass ≡ c → of_words ≡ c → seen ≡ es → ws ≡ in_order (left c es).now.words → held ≡ last_of ws word.Held
-    → fresh ≡ last_of ws word.Fresh
-    → quarantined ≡ freed_bits_in ws c.pages c.pages → cycles ≡ last_of ws word.Cycles
-    → released ≡ last_of ws word.Released → full ≡ last_of ws word.Full
+    → of_pass ≡ c → of_words ≡ c → seen ≡ es → ws ≡ in_order (left c es).now.words → held ≡ last_of ws Word.Held
+    → fresh ≡ last_of ws Word.Fresh
+    → quarantined ≡ freed_bits_in ws c.pages c.pages → cycles ≡ last_of ws Word.Cycles
+    → released ≡ last_of ws Word.Released → full ≡ last_of ws Word.Full
     → HasTallies (left of_pass seen).now.words of_words.pages
     (record {
       held = held;

@@ -1,28 +1,18 @@
 -- Splits and joins of passes keep the rule.
-use Rattle.std.proofs.Common.{◌≡◌, ◌≢◌, ◌⊎◌, ℕ, zero, suc, true, false, List, [], ◌∷◌, ◌++◌, length, set, refl}
-use Rattle.std.proofs.Common.{sym, ◌∙◌, ap, subst, inl, inr, ⊎_elim}
+use Rattle.std.proofs.Common.{set, ⊎_elim}
+use Rattle.mk_laws.proofs.Vocabulary.{AreEnabled, Caller, Config, Event, Host, IsHistory, List, Seat, ℕ, ap}
+use Rattle.mk_laws.proofs.Vocabulary.{enabled_parts, false, first_world, inl, inr, left, length, refl, subst, suc, sym}
+use Rattle.mk_laws.proofs.Vocabulary.{true, zero, [], ◌++◌, ◌∙◌, ◌∷◌, ◌≡◌, ◌≢◌, ◌⊎◌}
+use Rattle.mk_core.specs.Growing.{is_same_seat}
+use Rattle.atomic_table.{proofs.Lists.at_set, proofs.Lists.set_else, specs.Table.Joins, specs.Table.Splits}
+use Rattle.mk_words.proofs.Keeps.{Apart, Both, apart_stays, sees_fewer, sees_none}
+use Rattle.mk_words.proofs.Seats.{has_either, has_left, has_right, only_one, without_it, without_keeps, without_less}
+use Rattle.mk_words.proofs.Overs.{none_in_parts, none_over, overs_with}
+use Rattle.mk_words.specs.Rule.{Kept, Sees, beside, copy_of, goes_with, no_part, nobody, seats_of, stays_with}
+use Rattle.mk_words.specs.Seats.{CallersAreBeforeOver, Has, has_over, is_caller, without_seat}
+use Rattle.mk_words.specs.{declared.rule.Part.Part, declared.rule.View.View}
 use mathlib.Core.Option.{some, some-injective, some-ne-none}
 use lib.ListN.{get_elem?}
-use Rattle.atomic_table.specs.Table.{Splits, Joins}
-use Rattle.atomic_table.proofs.Lists.{at_set, set_else}
-use Rattle.mk_core.specs.declared.config.Config.{Config}
-use Rattle.mk_core.specs.declared.events.Seat.{Seat}
-use Rattle.mk_core.specs.declared.events.Seat.TheVariants.{Caller, Host}
-use Rattle.mk_core.specs.declared.events.Event.{Event}
-use Rattle.mk_core.specs.History.{first_world, left, AreEnabled}
-use Rattle.mk_core.specs.History.{IsHistory}
-use Rattle.mk_core.specs.Growing.{is_same_seat}
-use Rattle.mk_core.proofs.Histories.{enabled_parts}
-use Rattle.mk_words.specs.declared.rule.Part.{Part}
-use Rattle.mk_words.specs.declared.rule.View.{View}
-use Rattle.mk_words.specs.Seats.{CallersAreBeforeOver, Has, has_over, is_caller}
-use Rattle.mk_words.specs.Seats.{without_seat}
-use Rattle.mk_words.specs.Rule.{no_part, seats_of, Sees, Kept, nobody}
-use Rattle.mk_words.specs.Rule.{beside, stays_with, goes_with, copy_of}
-use Rattle.mk_words.proofs.Seats.{has_left, has_right, has_either}
-use Rattle.mk_words.proofs.Seats.{only_one, without_keeps, without_less, without_it}
-use Rattle.mk_words.proofs.Overs.{none_in_parts, none_over, overs_with}
-use Rattle.mk_words.proofs.Keeps.{Both, Apart, sees_none, sees_fewer, apart_stays}
 
 -- A cut: what stays and what goes have seen as much as the view, and have seats of it, none in common.
 pub record Cut (v left right : View) : Type 0 where

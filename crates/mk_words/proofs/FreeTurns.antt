@@ -1,36 +1,17 @@
 -- What a page map shows stays while nobody has the turn: no step but a `take` changes a word of a page.
-use Rattle.std.proofs.Common.{◌≡◌, ℕ, true, false, List, [], ◌∷◌, ◌++◌, refl, sym, ◌∙◌, ap, subst, arith}
-use Rattle.std.proofs.Common.{append-nil}
-use Rattle.std.proofs.lemmas.List.{append_assoc}
-use Rattle.mk_geom.specs.declared.pages.Page.{Page}
-use Rattle.mk_page_map.specs.KnownPages.{KnownPages, Shows}
-use Rattle.mk_page_map.specs.Members.{page_at}
-use Rattle.mk_core.specs.declared.config.Config.{Config}
-use Rattle.mk_core.specs.declared.events.Seat.{Seat}
-use Rattle.mk_core.specs.declared.events.Step.{Step}
-use Rattle.mk_core.specs.declared.events.Step.TheVariants as step
-use Rattle.mk_core.specs.declared.events.Event.{Event}
-use Rattle.mk_core.specs.Words.{Words, header_at}
-use Rattle.mk_core.specs.Accesses.{caller_number, register_met, reg_access}
-use Rattle.mk_core.specs.Moments.{Moment, flight_of}
-use Rattle.mk_core.specs.History.{World, first_world, left, world_behind, IsHistory}
-use Rattle.mk_core.specs.Frames.{Steady}
-use Rattle.mk_core.specs.Growing.{AreOfOthers}
-use Rattle.mk_core.specs.Readings.{Holds}
-use Rattle.mk_core.proofs.Conditions.{enabled_meets}
-use Rattle.mk_core.proofs.Histories.{left_more, last_enabled, enabled_parts}
-use Rattle.mk_core.proofs.HistoryParts.{earlier_part_is_history}
-use Rattle.mk_laws.proofs.ProtocolFrames.{left_after, other_seat}
+use Rattle.mk_laws.proofs.Vocabulary.{Config, Event, Holds, IsHistory, List, Moment, Page, Seat, Steady, Step, Words}
+use Rattle.mk_laws.proofs.Vocabulary.{World, ℕ, ap, append-nil, append_assoc, arith, caller_number}
+use Rattle.mk_laws.proofs.Vocabulary.{earlier_part_is_history, enabled_meets, enabled_parts, false, first_world}
+use Rattle.mk_laws.proofs.Vocabulary.{flight_of, header_at, left, left_more, refl, reg_access, register_met, subst, sym}
+use Rattle.mk_laws.proofs.Vocabulary.{true, world_behind, [], ◌++◌, ◌∙◌, ◌∷◌, ◌≡◌}
+use Rattle.mk_page_map.specs.{KnownPages.KnownPages, KnownPages.Shows, Members.page_at}
+use Rattle.mk_core.{proofs.Histories.last_enabled, specs.Growing.AreOfOthers}
 use Rattle.mk_laws.proofs.Known.{holds_turn, known_left}
-use Rattle.mk_laws.proofs.Orderly.{same_holder, turn_of}
-use Rattle.mk_laws.proofs.Views.{view_of}
 use Rattle.mk_laws.proofs.SameWords.{Behind, reg_keeps, tally_keeps}
-use Rattle.mk_laws.proofs.NextSteps.{is_take}
-use Rattle.mk_laws.proofs.OthersMoves.{free_move}
-use Rattle.mk_laws.proofs.TurnFrame.{steady_out}
-use Rattle.mk_words.specs.PageMaps.{IsMapOf, is_handing}
-use Rattle.mk_words.specs.TurnSteps.{turn_stays}
+use Rattle.mk_laws.proofs.{NextSteps.is_take, Orderly.same_holder, Orderly.turn_of, OthersMoves.free_move}
+use Rattle.mk_laws.proofs.{ProtocolFrames.left_after, ProtocolFrames.other_seat, TurnFrame.steady_out, Views.view_of}
 use Rattle.mk_words.proofs.Unmarked.{is_mark, others_unmark, stays_bare}
+use Rattle.mk_words.specs.{PageMaps.IsMapOf, PageMaps.is_handing, TurnSteps.turn_stays}
 
 -- the words that a page map shows
 
@@ -98,23 +79,23 @@ map_left c es (e ∷ more) s map h others holds m =
 
 -- A turn that goes on isn't handed over.
 pub hands_none : (s : Step) → turn_stays s ≡ true → is_handing s ≡ false
-hands_none (step.Take o) stays = cc
-hands_none step.Give stays = cc
+hands_none (Step.Take o) stays = cc
+hands_none Step.Give stays = cc
 hands_none _ stays = refl
 
 no_take : (s : Step) → is_handing s ≡ false → is_take s ≡ false
-no_take (step.Take o) h = cc
+no_take (Step.Take o) h = cc
 no_take _ h = refl
 
 -- The turn word is another only after `take` and `give`.
 pub turn_word_stays : (c : Config) (m : Moment) (seat : Seat) (s : Step) → is_handing s ≡ false
     → (Behind c m seat s).words.turn ≡ m.words.turn
-turn_word_stays c m seat (step.Take o) h = cc
-turn_word_stays c m seat step.Give h = cc
-turn_word_stays c m seat step.Reg h =
+turn_word_stays c m seat (Step.Take o) h = cc
+turn_word_stays c m seat Step.Give h = cc
+turn_word_stays c m seat Step.Reg h =
     (reg_keeps m.words (caller_number seat) (register_met (flight_of m seat) (flight_of m seat).stage)
     (reg_access (flight_of m seat) (flight_of m seat).stage)).turn
-turn_word_stays c m seat (step.Tally n v) h = (tally_keeps m.words n v).turn
+turn_word_stays c m seat (Step.Tally n v) h = (tally_keeps m.words n v).turn
 turn_word_stays c m seat _ h = refl
 
 -- The event found the turn free, left the pages as they were, and is no `mark`.

@@ -1,41 +1,28 @@
 -- `take` and `give` keep the rule, and hand the page map over.
-use Rattle.std.proofs.Common.{◌≡◌, ◌≢◌, ℕ, ◌+◌, true, List, [], ◌∷◌, ◌++◌, set, refl}
-use Rattle.std.proofs.Common.{sym, ◌∙◌, ap, subst, arith}
-use Rattle.std.specs.Prelude.{slice_index, Option}
+use Rattle.std.proofs.Common.{set}
+use Rattle.mk_laws.proofs.Vocabulary.{Config, Event, Holds, IsHistory, List, Op, Option, Seat, Step, TalliesAreTidy}
+use Rattle.mk_laws.proofs.Vocabulary.{World, ℕ, ap, arith, first_world, holder_number, left, left_more, refl}
+use Rattle.mk_laws.proofs.Vocabulary.{slice_index, subst, sym, true, [], ◌++◌, ◌+◌, ◌∙◌, ◌∷◌, ◌≡◌, ◌≢◌}
+use Rattle.mk_page_map.specs.KnownPages.{KnownPages}
+use Rattle.mk_core.specs.{Cycles.is_give, Words.becomes}
+use Rattle.atomic_table.proofs.Lists.{exchanged, set_here}
+use Rattle.atomic_table.specs.Table.{Allows, Step as TableStep, gives, keeps, put_back, takes}
+use Rattle.mk_words.proofs.FreeTurns.{map_left, map_there, page_words}
+use Rattle.mk_words.proofs.{Keeps.access_there, Keeps.place_there, Keeps.steps_at, Seats.others_own}
+use Rattle.mk_words.specs.Rule.{Adds, IsHome, Kept, Mine, gives_map, no_part, takes_map}
+use Rattle.mk_words.specs.{PageMaps.IsMapOf, Seats.Has, Seats.HasCallers, Seats.is_over, declared.rule.View.View}
 use mathlib.Core.Option.{Option as Maybe, none as nothing, some}
 use mathlib.Core.Logic.{dite}
 use native.Mathlib.Decide.{ℕ_discrete}
 use lib.ListN.{get_elem?}
-use Rattle.atomic_table.specs.Table.{Step as TableStep, keeps, takes, gives, put_back, Allows}
-use Rattle.atomic_table.proofs.Lists.{set_here, exchanged}
-use Rattle.mk_page_map.specs.KnownPages.{KnownPages}
-use Rattle.mk_never.specs.declared.operations.Op.{Op}
-use Rattle.mk_core.specs.declared.config.Config.{Config}
-use Rattle.mk_core.specs.declared.events.Seat.{Seat}
-use Rattle.mk_core.specs.declared.events.Step.TheVariants as step
-use Rattle.mk_core.specs.declared.events.Event.{Event}
-use Rattle.mk_core.specs.Words.{becomes}
-use Rattle.mk_core.specs.Cycles.{is_give}
-use Rattle.mk_core.specs.Counts.{TalliesAreTidy}
-use Rattle.mk_core.specs.History.{World, first_world, left, IsHistory}
-use Rattle.mk_core.specs.Moments.{holder_number}
-use Rattle.mk_core.specs.Readings.{Holds}
-use Rattle.mk_core.proofs.Histories.{left_more}
-use Rattle.mk_words.specs.declared.rule.View.{View}
-use Rattle.mk_words.specs.PageMaps.{IsMapOf}
-use Rattle.mk_words.specs.Seats.{Has, HasCallers, is_over}
-use Rattle.mk_words.specs.Rule.{IsHome, Kept, Mine, no_part, Adds, takes_map, gives_map}
-use Rattle.mk_words.proofs.FreeTurns.{map_left, map_there, page_words}
-use Rattle.mk_words.proofs.Keeps.{steps_at, place_there, access_there}
-use Rattle.mk_words.proofs.Seats.{others_own}
 
 -- the event of each, the turn word after a `take`, and the pages after both
 
 abbrev pub take_event : Seat → Option Op → Event
-take_event seat o = record { seat = seat; step = step.Take o }
+take_event seat o = record { seat = seat; step = Step.Take o }
 
 abbrev pub give_event : Seat → Event
-give_event seat = record { seat = seat; step = step.Give }
+give_event seat = record { seat = seat; step = Step.Give }
 
 taken_turn : (c : Config) (es : List Event) (seat : Seat) (o : Option Op) → (left c es).now.words.turn ≡ 0
     → (left c (es ++ take_event seat o ∷ [])).now.words.turn ≢ 0

@@ -1,32 +1,16 @@
 -- What the calls that hand over the turn owe the table, and what they learn.
-use Rattle.std.proofs.Common.{◌≡◌, ℕ, ◌+◌, ◌<◌, List, [], ◌∷◌, refl, sym, ◌∙◌, ap, subst}
-use Rattle.std.specs.Prelude.{Option}
-use Rattle.atomic_table.specs.Seated.{TableId}
-use Rattle.atomic_table.specs.Table.{Allows, rest}
+use Rattle.mk_laws.proofs.Vocabulary.{Config, Event, Holds, IsHistory, IsTidy, List, Op, Option, Seat, Step, Store, ℕ}
+use Rattle.mk_laws.proofs.Vocabulary.{access, ap, holder_number, left, refl, subst, sym, [], ◌+◌, ◌<◌, ◌∙◌, ◌∷◌, ◌≡◌}
 use Rattle.mk_page_map.specs.KnownPages.{KnownPages}
-use Rattle.mk_never.specs.declared.operations.Op.{Op}
-use Rattle.mk_core.specs.declared.config.Config.{Config}
-use Rattle.mk_core.specs.declared.events.Seat.{Seat}
-use Rattle.mk_core.specs.declared.events.Step.TheVariants as step
-use Rattle.mk_core.specs.declared.events.Event.{Event}
-use Rattle.mk_core.specs.declared.accesses.Access.TheVariants.{Exchange, Store}
-use Rattle.mk_core.specs.declared.accesses.TableWord.TheVariants.{Turn}
-use Rattle.mk_core.specs.Words.{becomes}
-use Rattle.mk_core.specs.Layout.{index_of, count_of_words}
-use Rattle.mk_core.specs.Accesses.{access}
-use Rattle.mk_core.specs.Moments.{holder_number}
-use Rattle.mk_core.specs.Readings.{Holds}
-use Rattle.mk_core.specs.Counts.{IsTidy}
-use Rattle.mk_core.specs.History.{left, IsHistory}
-use Rattle.mk_words.specs.declared.rule.View.{View}
-use Rattle.mk_words.specs.PageMaps.{IsMapOf}
-use Rattle.mk_words.specs.Seats.{CallersAreBeforeOver, Has}
-use Rattle.mk_words.specs.States.{WordsState, PassState, now_of, event_of}
-use Rattle.mk_words.specs.Rule.{Kept, Mine, no_part, no_step, takes_map, gives_map}
-use Rattle.mk_words.specs.Passes.{state_of, IsInOrder}
-use Rattle.mk_words.specs.Steps.{May, Tells, Makes}
-use Rattle.mk_words.proofs.HandedMaps.{take_event, give_event, takes_at, gives_at}
-use Rattle.mk_words.proofs.Owed.{made_of, history_more, owed_call, in_order_still, perform_learns}
+use Rattle.mk_core.specs.{Layout.count_of_words, Layout.index_of, Words.becomes}
+use Rattle.mk_core.specs.{declared.accesses.Access.TheVariants.Exchange, declared.accesses.TableWord.TheVariants.Turn}
+use Rattle.atomic_table.specs.{Seated.TableId, Table.Allows, Table.rest}
+use Rattle.mk_words.proofs.Owed.{history_more, in_order_still, made_of, owed_call, perform_learns}
+use Rattle.mk_words.proofs.HandedMaps.{give_event, gives_at, take_event, takes_at}
+use Rattle.mk_words.specs.Rule.{Kept, Mine, gives_map, no_part, no_step, takes_map}
+use Rattle.mk_words.specs.States.{PassState, WordsState, event_of, now_of}
+use Rattle.mk_words.specs.{PageMaps.IsMapOf, Passes.IsInOrder, Passes.state_of, Seats.CallersAreBeforeOver, Seats.Has}
+use Rattle.mk_words.specs.{Steps.Makes, Steps.May, Steps.Tells, declared.rule.View.View}
 
 module _ (w : WordsState) (tid pid : TableId) (config key : Config) (me : Mine) (seat : Seat)
     (w_is : made_of tid config ≡ w) (one_table : (state_of pid me seat).table ≡ w) where
@@ -35,29 +19,29 @@ module _ (w : WordsState) (tid pid : TableId) (config key : Config) (me : Mine) 
 
   pub take_call : (words slots id : ℕ) (o : Option Op) (i number : ℕ) (picked : Event) → IsInOrder me seat → key
       ≡ config
-      → words ≡ count_of_words config.pages → picked ≡ take_event seat o → May p (step.Take o)
+      → words ≡ count_of_words config.pages → picked ≡ take_event seat o → May p (Step.Take o)
       → Exchange 0 number ≡ access p.table.config (now_of p) (take_event seat o)
       → i ≡ index_of config.pages Turn
       → (i < words)
       × Allows (Kept key) slots id me i (becomes (Exchange 0 number)) (λ n m. takes_map picked no_step me n m)
   take_call words slots id o i number picked order key_is words_are picked_is may a_is i_is =
-      owed_call w p tid pid config key me seat w_is refl one_table words slots id (step.Take o) i Turn
+      owed_call w p tid pid config key me seat w_is refl one_table words slots id (Step.Take o) i Turn
       (Exchange 0 number) picked (λ e n m. takes_map e no_step me n m) order key_is words_are picked_is may refl a_is
       i_is
       (λ mine. takes_at slots id me seat o no_step order.settled order.own
-      (history_more p (step.Take o) order.history mine))
+      (history_more p (Step.Take o) order.history mine))
 
   pub give_call : (words slots id i : ℕ) (map : KnownPages) (picked : Event) → IsInOrder me seat → key ≡ config
-      → words ≡ count_of_words config.pages → slots ≡ 1 → picked ≡ give_event seat → May p step.Give
+      → words ≡ count_of_words config.pages → slots ≡ 1 → picked ≡ give_event seat → May p Step.Give
       → Holds p.table.config (now_of p) seat → me.1 ≡ (0, map) ∷ [] → IsMapOf map (now_of p).words
       → i ≡ index_of config.pages Turn
       → (i < words) × Allows (Kept key) slots id me i (becomes (Store 0)) (λ n m. gives_map picked no_step me 0 m)
   give_call words slots id i map picked order key_is words_are slots_are picked_is may holds carried shows i_is =
       subst (λ (k : ℕ). (i < words)
       × Allows (Kept key) k id me i (becomes (Store 0)) (λ n m. gives_map picked no_step me 0 m)) (sym slots_are)
-      (owed_call w p tid pid config key me seat w_is refl one_table words 1 id step.Give i Turn (Store 0) picked
+      (owed_call w p tid pid config key me seat w_is refl one_table words 1 id Step.Give i Turn (Store 0) picked
       (λ e n m. gives_map e no_step me 0 m) order key_is words_are picked_is may refl refl i_is
-      (λ mine. gives_at id me seat map no_step order.settled order.own (history_more p step.Give order.history mine)
+      (λ mine. gives_at id me seat map no_step order.settled order.own (history_more p Step.Give order.history mine)
       (mine.tidy refl) holds carried shows 0))
 
 -- the number that a `take` stores is the seat's
@@ -65,7 +49,7 @@ pub take_access : (tid : TableId) (me : Mine) (seat : Seat) (o : Option Op) (num
     → state_of tid me seat ≡ p → number ≡ 1 + holder_number p.table.config p.seat
     → Exchange 0 number ≡ access me.0.config (now_of (state_of tid me seat)) (take_event seat o)
 take_access tid me seat o number p p_is is =
-    subst (λ (r : PassState). Exchange 0 number ≡ access r.table.config (now_of r) (event_of r (step.Take o)))
+    subst (λ (r : PassState). Exchange 0 number ≡ access r.table.config (now_of r) (event_of r (Step.Take o)))
     (sym p_is) (ap (λ (n : ℕ). Exchange 0 n) is)
 
 -- the event that a call picked is its own
@@ -83,9 +67,9 @@ gives_own me n picked e is on = subst (λ (d : Event). gives_map d no_step me 0 
 pub take_tells : (tid qid : TableId) (me n : Mine) (seat : Seat) (o : Option Op) (number found : ℕ) → qid ≡ tid
     → Exchange 0 number ≡ access me.0.config (now_of (state_of tid me seat)) (take_event seat o) → IsInOrder me seat
     → takes_map (take_event seat o) no_step me found n
-    → Tells (state_of tid me seat) (step.Take o) found (state_of qid n seat)
+    → Tells (state_of tid me seat) (Step.Take o) found (state_of qid n seat)
 take_tells tid qid me n seat o number found q_is a_is order on =
-    perform_learns (state_of tid me seat) tid qid me (n.0, me.1) seat (step.Take o) (Exchange 0 number) found
+    perform_learns (state_of tid me seat) tid qid me (n.0, me.1) seat (Step.Take o) (Exchange 0 number) found
     (take_event seat o) refl q_is refl a_is order (found, (refl, on.0), refl)
 
 pub take_order : (me n : Mine) (seat : Seat) (o : Option Op) (found : ℕ) → IsInOrder me seat
@@ -95,9 +79,9 @@ take_order me n seat o found order on = in_order_still me n seat (take_event sea
 -- and a `give`
 
 pub give_makes : (tid qid : TableId) (me n : Mine) (seat : Seat) → qid ≡ tid → IsInOrder me seat
-    → gives_map (give_event seat) no_step me 0 n → Makes (state_of tid me seat) step.Give (state_of qid n seat)
+    → gives_map (give_event seat) no_step me 0 n → Makes (state_of tid me seat) Step.Give (state_of qid n seat)
 give_makes tid qid me n seat q_is order on =
-    (perform_learns (state_of tid me seat) tid qid me (n.0, me.1) seat step.Give (Store 0) 0
+    (perform_learns (state_of tid me seat) tid qid me (n.0, me.1) seat Step.Give (Store 0) 0
     (give_event seat) refl q_is refl refl order (on.1.0, (refl, on.1.1), refl)).makes
 
 pub give_order : (me n : Mine) (seat : Seat) → IsInOrder me seat → gives_map (give_event seat) no_step me 0 n
@@ -142,17 +126,17 @@ pub taken_learns : (tid qid rid : TableId) (me n m : Mine) (seat : Seat) (o : Op
     (map : KnownPages) (p : PassState) → state_of tid me seat ≡ p → qid ≡ tid → rid ≡ qid
     → Exchange 0 number ≡ access me.0.config (now_of (state_of tid me seat)) (take_event seat o) → IsInOrder me seat
     → takes_map (take_event seat o) no_step me found n → found ≡ 0 → m.0 ≡ n.0 → n.1 ≡ (0, map) ∷ rest n.1
-    → Tells p (step.Take o) 0 (state_of rid m seat) × IsMapOf map (now_of (state_of rid m seat)).words
+    → Tells p (Step.Take o) 0 (state_of rid m seat) × IsMapOf map (now_of (state_of rid m seat)).words
 taken_learns tid qid rid me n m seat o number found map p p_is q_is r_is a_is order on free same slot =
     let back : state_of rid m seat ≡ state_of qid n seat = still_state qid rid n m seat (state_of qid n seat) r_is same
     refl in
-    let told : Tells (state_of tid me seat) (step.Take o) found (state_of qid n seat) =
+    let told : Tells (state_of tid me seat) (Step.Take o) found (state_of qid n seat) =
     take_tells tid qid me n seat o number found q_is a_is order on in
     let h = on.1 free in
     let it : h.0 ≡ map = took_that n.1 me.1 (rest n.1) h.0 map h.1 slot in (
-      subst (λ (r : PassState). Tells p (step.Take o) 0 r) (sym back)
-          (subst (λ (r : PassState). Tells r (step.Take o) 0 (state_of qid n seat)) p_is
-          (subst (λ (k : ℕ). Tells (state_of tid me seat) (step.Take o) k (state_of qid n seat)) free told)),
+      subst (λ (r : PassState). Tells p (Step.Take o) 0 r) (sym back)
+          (subst (λ (r : PassState). Tells r (Step.Take o) 0 (state_of qid n seat)) p_is
+          (subst (λ (k : ℕ). Tells (state_of tid me seat) (Step.Take o) k (state_of qid n seat)) free told)),
       subst (λ (r : PassState). IsMapOf map (now_of r).words) (sym back)
           (subst (λ (x : KnownPages). IsMapOf x (left n.0.config n.0.own.seen).now.words) it h.2),
     )

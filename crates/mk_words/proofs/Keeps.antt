@@ -1,45 +1,27 @@
 -- Each move of a pass keeps the rule.
-use Rattle.std.proofs.Common.{◌≡◌, ◌≢◌, ℕ, zero, suc, true, false, List, [], ◌∷◌, ◌++◌, set, refl}
-use Rattle.std.proofs.Common.{sym, ◌∙◌, ap, subst, ⊎_elim, append_assoc, append-nil}
-use Rattle.std.specs.Prelude.{slice_index, slice_set}
-use Rattle.std.proofs.lemmas.List.{set-get_or}
+use Rattle.std.proofs.Common.{set, ⊎_elim}
+use Rattle.mk_laws.proofs.Vocabulary.{Access, AreEnabled, AreOfPages, Caller, Config, Event, Host, IsHistory, IsTidy}
+use Rattle.mk_laws.proofs.Vocabulary.{IsWithinLimits, List, Seat, TalliesAreTidy, Words, World, ℕ, access, accessed, ap}
+use Rattle.mk_laws.proofs.Vocabulary.{append-nil, append_assoc, enabled_meets, enabled_parts, false, first_world}
+use Rattle.mk_laws.proofs.Vocabulary.{histories_keep_lengths, left, left_more, refl, set-get_or, slice_index, slice_set}
+use Rattle.mk_laws.proofs.Vocabulary.{subst, suc, sym, true, word_accessed, zero, [], ◌++◌, ◌∙◌, ◌∷◌, ◌≡◌, ◌≢◌}
+use Rattle.mk_page_map.specs.KnownPages.{KnownPages}
+use Rattle.mk_core.proofs.{Histories.last_enabled, RegionLemmas.accesses_change, RegionLemmas.words_stand}
+use Rattle.mk_core.specs.History.{AreEnabledFrom, calls_from, left_from}
+use Rattle.mk_core.specs.{Cycles.is_give, Growing.AreOfOthers, Layout.IsOfTable, Layout.in_order, Layout.index_of}
+use Rattle.mk_core.specs.{Words.becomes, Words.word_in, Words.zero_words_of, declared.accesses.TableWord.TableWord}
+use Rattle.atomic_table.proofs.Lists.{at_set}
+use Rattle.atomic_table.specs.Table.{Allows, Final, Seen, State, Step as TableStep, keeps}
+use Rattle.mk_words.proofs.Seats.{has_either, has_left, has_right, not_both, others_append, others_fewer, others_nobody}
+use Rattle.mk_words.proofs.Seats.{others_none, others_one, others_own}
+use Rattle.mk_words.proofs.{FreeTurns.free_stays, FreeTurns.map_there, LongerLists.longer_lists, Overs.overs_later}
+use Rattle.mk_words.proofs.{Overs.overs_with, Overs.set_there, Tidy.none_tidy, Tidy.tidy_more, Tidy.tidy_part}
+use Rattle.mk_words.specs.Seats.{CallersAreBeforeOver, Has, HasAll, HasCallers, all_seats, is_over}
+use Rattle.mk_words.specs.{PageMaps.IsMapOf, PageMaps.is_handing, Rule.Adds, Rule.IsHome, Rule.Kept, Rule.Mine}
+use Rattle.mk_words.specs.{Rule.Sees, Rule.adds, Rule.first_view, Rule.no_part, Rule.part, Rule.seats_of, Rule.settles}
+use Rattle.mk_words.specs.{Rule.view, declared.rule.Part.Part, declared.rule.View.View}
 use mathlib.Core.Option.{Option as Maybe, some, some-injective, some-ne-none}
 use lib.ListN.{get_elem?}
-use Rattle.atomic_table.specs.Table.{State, Step as TableStep, keeps, Allows, Final, Seen}
-use Rattle.atomic_table.proofs.Lists.{at_set}
-use Rattle.mk_page_map.specs.KnownPages.{KnownPages}
-use Rattle.mk_core.specs.declared.config.Config.{Config}
-use Rattle.mk_core.specs.declared.events.Seat.{Seat}
-use Rattle.mk_core.specs.declared.events.Seat.TheVariants.{Caller, Host}
-use Rattle.mk_core.specs.declared.events.Event.{Event}
-use Rattle.mk_core.specs.declared.accesses.Access.{Access}
-use Rattle.mk_core.specs.declared.accesses.TableWord.{TableWord}
-use Rattle.mk_core.specs.Config.{IsWithinLimits}
-use Rattle.mk_core.specs.Words.{Words, zero_words_of, becomes, accessed, word_in}
-use Rattle.mk_core.specs.Layout.{index_of, in_order, AreOfPages, IsOfTable}
-use Rattle.mk_core.specs.Accesses.{word_accessed, access}
-use Rattle.mk_core.specs.Cycles.{is_give}
-use Rattle.mk_core.specs.Counts.{TalliesAreTidy, IsTidy}
-use Rattle.mk_core.specs.History.{World, first_world, left_from, left, AreEnabledFrom, AreEnabled, calls_from}
-use Rattle.mk_core.specs.History.{IsHistory}
-use Rattle.mk_core.specs.Growing.{AreOfOthers}
-use Rattle.mk_core.proofs.Conditions.{enabled_meets}
-use Rattle.mk_core.proofs.Histories.{left_more, enabled_parts, last_enabled}
-use Rattle.mk_core.proofs.Lengths.{histories_keep_lengths}
-use Rattle.mk_core.proofs.RegionLemmas.{words_stand, accesses_change}
-use Rattle.mk_words.specs.declared.rule.Part.{Part}
-use Rattle.mk_words.specs.declared.rule.View.{View}
-use Rattle.mk_words.specs.Seats.{CallersAreBeforeOver, Has, HasAll, HasCallers, all_seats, is_over}
-use Rattle.mk_words.specs.PageMaps.{IsMapOf, is_handing}
-use Rattle.mk_words.specs.Rule.{IsHome, Adds}
-use Rattle.mk_words.specs.Rule.{part, no_part, view, seats_of, Sees, Kept, Mine, adds, settles, first_view}
-use Rattle.mk_words.proofs.Seats.{has_left, has_right, has_either, others_append, others_none, others_one, others_own}
-use Rattle.mk_words.proofs.Seats.{others_fewer, others_nobody}
-use Rattle.mk_words.proofs.Seats.{not_both}
-use Rattle.mk_words.proofs.FreeTurns.{free_stays, map_there}
-use Rattle.mk_words.proofs.Tidy.{tidy_part, tidy_more, none_tidy}
-use Rattle.mk_words.proofs.LongerLists.{longer_lists}
-use Rattle.mk_words.proofs.Overs.{overs_later, overs_with, set_there}
 
 abbrev pub Table : Type 0
 Table = State KnownPages View

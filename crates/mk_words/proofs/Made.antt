@@ -1,28 +1,12 @@
 -- What is known of a step that was made, of whatever kind.
-use Rattle.std.proofs.Common.{◌≡◌, List, [], ◌∷◌, ◌++◌, ◌∙◌, ap, subst}
-use Rattle.mk_core.specs.declared.config.Config.{Config}
-use Rattle.mk_core.specs.declared.events.Step.{Step}
-use Rattle.mk_core.specs.declared.events.Event.{Event}
-use Rattle.mk_core.specs.Layout.{IsOfTable}
-use Rattle.mk_core.specs.Accesses.{word_accessed}
-use Rattle.mk_core.specs.Enabled.{MeetsAll}
-use Rattle.mk_core.specs.History.{first_world, world_behind, left, IsHistory}
-use Rattle.mk_core.specs.Growing.{AreOfOthers}
-use Rattle.mk_core.specs.Frames.{IsLeft}
-use Rattle.mk_core.proofs.Conditions.{enabled_meets}
-use Rattle.mk_core.proofs.Histories.{left_more, last_enabled}
-use Rattle.mk_core.proofs.HistoryParts.{earlier_part_is_history}
-use Rattle.mk_laws.specs.Protocol.{Protocol}
-use Rattle.mk_laws.proofs.Known.{Known, known_left}
-use Rattle.mk_laws.proofs.Protocols.{protocol_of}
-use Rattle.mk_laws.proofs.ProtocolFrames.{others_leave}
-use Rattle.mk_laws.proofs.Reaching.{events_reach_the_table}
-use Rattle.mk_words.specs.Seats.{Has}
-use Rattle.mk_words.specs.States.{PassState, IsPass, world_of, event_of}
-use Rattle.mk_words.specs.Steps.{Makes}
-use Rattle.mk_words.specs.Laws.{StepsStandBehindOthers}
-use Rattle.mk_laws.proofs.SeatFrames.{admitted_others_leave}
-use Rattle.mk_words.proofs.Seats.{others_own}
+use Rattle.mk_laws.proofs.Vocabulary.{AreOfOthers, Config, Event, IsHistory, IsLeft, List, MeetsAll, Protocol, Step, ap}
+use Rattle.mk_laws.proofs.Vocabulary.{earlier_part_is_history, enabled_meets, first_world, left, left_more, subst}
+use Rattle.mk_laws.proofs.Vocabulary.{word_accessed, world_behind, [], ◌++◌, ◌∙◌, ◌∷◌, ◌≡◌}
+use Rattle.mk_core.{proofs.Histories.last_enabled, specs.Layout.IsOfTable}
+use Rattle.mk_laws.proofs.{Known.Known, Known.known_left, ProtocolFrames.others_leave, Protocols.protocol_of}
+use Rattle.mk_laws.proofs.{Reaching.events_reach_the_table, SeatFrames.admitted_others_leave}
+use Rattle.mk_words.{proofs.Seats.others_own, specs.Laws.StepsStandBehindOthers, specs.Seats.Has, specs.States.IsPass}
+use Rattle.mk_words.{specs.States.PassState, specs.States.event_of, specs.States.world_of, specs.Steps.Makes}
 
 -- The events of others leave the seat its own; the event met its conditions after them, and the new list leaves what
 -- it leaves there.

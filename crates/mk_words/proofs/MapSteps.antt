@@ -1,67 +1,45 @@
 -- The page map of a turn is kept in step with what its holder stores.
-use Rattle.std.proofs.Common.{◌≡◌, ◌≢◌, ℕ, ◌<◌, Bool, true, false, Option, Some, None, List, [], ◌∷◌, ◌++◌, length}
-use Rattle.std.proofs.Common.{refl}
-use Rattle.std.proofs.Common.{sym, ◌∙◌, ap, subst, inl, inr, arith}
-use Rattle.std.specs.Prelude.{◌%◌, ◌^◌, slice_index, slice_set}
-use Rattle.std.proofs.lemmas.Bool.{cases_eq, ltb-true}
-use Rattle.std.proofs.lemmas.List.{get_or-set_other, get_or-set_same}
-use Rattle.mk_never.specs.declared.operations.Op.{Op}
-use Rattle.mk_geom.specs.declared.pages.Page.{Page}
-use Rattle.mk_geom.specs.Storages.{free_page}
+use Rattle.mk_laws.proofs.Vocabulary.{Access, Bool, Config, IsHistory, List, Load, Moment, Named, None, Op, Option}
+use Rattle.mk_laws.proofs.Vocabulary.{Page, Seat, Some, Step, Store, Tally, Word, Words, World, ℕ, accessed, ap, arith}
+use Rattle.mk_laws.proofs.Vocabulary.{caller_number, cases_eq, earlier_part_is_history, enabled_meets, false, flight_of}
+use Rattle.mk_laws.proofs.Vocabulary.{free_page, get_or-set_other, get_or-set_same, header_at, histories_keep_lengths}
+use Rattle.mk_laws.proofs.Vocabulary.{inl, inr, length, ltb-true, refl, reg_access, register_met, slice_index}
+use Rattle.mk_laws.proofs.Vocabulary.{slice_set, subst, sym, tally_word, true, [], ◌%◌, ◌++◌, ◌<◌, ◌^◌, ◌∙◌, ◌∷◌, ◌≡◌}
+use Rattle.mk_laws.proofs.Vocabulary.{◌≢◌}
 use Rattle.mk_page_map.specs.KnownPages.{KnownPages, Shows, is_uncleaned, with_header, with_used}
 use Rattle.mk_page_map.specs.Members.{IsNext, page_at}
-use Rattle.mk_core.specs.declared.config.Config.{Config}
-use Rattle.mk_core.specs.declared.accesses.Access.{Access}
-use Rattle.mk_core.specs.declared.accesses.Access.TheVariants.{Load, Store}
-use Rattle.mk_core.specs.declared.accesses.TableWord.TheVariants.{Named}
-use Rattle.mk_core.specs.declared.events.Seat.{Seat}
-use Rattle.mk_core.specs.declared.events.Step.{Step}
-use Rattle.mk_core.specs.declared.events.Step.TheVariants as step
-use Rattle.mk_core.specs.declared.events.Tally.{Tally}
-use Rattle.mk_core.specs.declared.events.Tally.TheVariants as tally
-use Rattle.mk_core.specs.declared.events.Word.TheVariants as word
-use Rattle.mk_core.specs.Words.{Words, accessed, header_at}
-use Rattle.mk_core.specs.Accesses.{caller_number, register_met, reg_access, tally_word}
-use Rattle.mk_core.specs.History.{IsHistory, World}
-use Rattle.mk_core.specs.Moments.{Moment, flight_of}
-use Rattle.mk_core.proofs.Conditions.{enabled_meets}
-use Rattle.mk_core.proofs.HistoryParts.{earlier_part_is_history}
-use Rattle.mk_core.proofs.Lengths.{histories_keep_lengths}
 use Rattle.mk_laws.proofs.SameWords.{Behind}
-use Rattle.mk_words.specs.declared.homes.Carried.{Carried}
-use Rattle.mk_words.specs.PageMaps.{HasNoMarks, IsMapOf, IsNextUncleaned, is_told}
-use Rattle.mk_words.specs.States.{PassState, now_of, event_of}
-use Rattle.mk_words.specs.Steps.{IsEnabledTo}
-use Rattle.mk_words.specs.TurnSteps.{turn_stays, gates_stay, world_at, Acts, IsTurnWithMap, GatesAre}
 use Rattle.mk_words.proofs.FreeTurns.{map_left, map_stays, page_words}
-use Rattle.mk_words.proofs.Made.{own_before}
-use Rattle.mk_words.proofs.Seats.{others_own}
-use Rattle.mk_words.proofs.TurnSteps.{still_turn, turn_stays_too, gates_still}
-use Rattle.mk_words.proofs.Unmarked.{is_mark, stays_unmarked}
+use Rattle.mk_words.proofs.TurnSteps.{gates_still, still_turn, turn_stays_too}
+use Rattle.mk_words.proofs.{Made.own_before, Seats.others_own, Unmarked.is_mark, Unmarked.stays_unmarked}
+use Rattle.mk_words.specs.PageMaps.{HasNoMarks, IsMapOf, IsNextUncleaned, is_told}
+use Rattle.mk_words.specs.States.{PassState, event_of, now_of}
+use Rattle.mk_words.specs.TurnSteps.{Acts, GatesAre, IsTurnWithMap, gates_stay, turn_stays, world_at}
+use Rattle.mk_words.specs.{Steps.IsEnabledTo, declared.homes.Carried.Carried}
 
 no_mark : (s : Step) → is_told s ≡ false → is_mark s ≡ false
-no_mark (step.Mark p v) untold = cc
+no_mark (Step.Mark p v) untold = cc
 no_mark _ untold = refl
 
 -- All steps but three leave the pages.
 
-reg_pages : (w : Words) (k r : ℕ) (a : Access) → page_words (accessed w (Named (word.Reg k r)) a) ≡ page_words w
+reg_pages : (w : Words) (k r : ℕ) (a : Access) → page_words (accessed w (Named (Word.Reg k r)) a) ≡ page_words w
 reg_pages w k r Load = refl
 reg_pages w k r _ = refl
 
 tally_pages : (w : Words) (n : Tally) (v : ℕ) → page_words (accessed w (Named (tally_word n)) (Store v)) ≡ page_words w
-tally_pages w tally.Held v = refl
+tally_pages w Tally.Held v = refl
 tally_pages w _ v = refl
 
 pages_stay : (c : Config) (m : Moment) (seat : Seat) (s : Step) → is_told s ≡ false
     → page_words (Behind c m seat s).words ≡ page_words m.words
-pages_stay c m seat (step.Head p v) leaves = cc
-pages_stay c m seat (step.Used p v) leaves = cc
-pages_stay c m seat (step.Quar p v) leaves = cc
-pages_stay c m seat step.Reg leaves =
+pages_stay c m seat (Step.Head p v) leaves = cc
+pages_stay c m seat (Step.Used p v) leaves = cc
+pages_stay c m seat (Step.Quar p v) leaves = cc
+pages_stay c m seat Step.Reg leaves =
     reg_pages m.words (caller_number seat) (register_met (flight_of m seat) (flight_of m seat).stage)
     (reg_access (flight_of m seat) (flight_of m seat).stage)
-pages_stay c m seat (step.Tally n v) leaves = tally_pages m.words n v
+pages_stay c m seat (Step.Tally n v) leaves = tally_pages m.words n v
 pages_stay c m seat _ leaves = refl
 
 -- a step of the turn's holder
@@ -171,7 +149,7 @@ told_used w page v old new told within m =
     }
 
 told_mark : (c : Config) (m : Moment) (seat : Seat) (page v : ℕ) (old new : KnownPages) → MarkIsTold old page new
-    → IsMapOf old m.words → IsMapOf new (Behind c m seat (step.Mark page v)).words
+    → IsMapOf old m.words → IsMapOf new (Behind c m seat (Step.Mark page v)).words
 told_mark c m seat page v old new told shows =
     record {
       words = told.shows m.words.pages m.words.freed shows.words;
@@ -182,7 +160,7 @@ told_mark c m seat page v old new told shows =
             ∙ ap (λ i. (page_at m.words.pages i).header) (sym here) ∙ bare in
             both (is_uncleaned new page) (told.marked free) (ap (is_uncleaned new) (sym here) ∙ cleaned)
         | inr ne ↦
-            stays_unmarked c m seat (step.Mark page v) number
+            stays_unmarked c m seat (Step.Mark page v) number
             (λ p is same. (let e : page ≡ p = cc in ne (same ∙ sym e)))
             (shows.unmarked number bare (sym (told.others number ne) ∙ cleaned))
       ];
@@ -204,27 +182,27 @@ map_cleaned w page old new shows others none m =
 
 -- the steps
 
-pub shows_head : (p : PassState) (page v : ℕ) (q : PassState) (a : Acts p (step.Head page v) q)
+pub shows_head : (p : PassState) (page v : ℕ) (q : PassState) (a : Acts p (Step.Head page v) q)
     (old new : KnownPages) → HeaderIsTold old page v new → page < length old.pages → IsMapOf old (now_of p).words
     → IsMapOf new (now_of q).words
 shows_head p page v q a old new told within shows =
-    let s : Step = step.Head page v in
+    let s : Step = Step.Head page v in
     map_now p s q a new
     (told_header (world_at a.makes).now.words page v old new told within (map_then p s q a old shows))
 
-pub shows_used : (p : PassState) (page v : ℕ) (q : PassState) (a : Acts p (step.Used page v) q)
+pub shows_used : (p : PassState) (page v : ℕ) (q : PassState) (a : Acts p (Step.Used page v) q)
     (old new : KnownPages) → UsedIsTold old page v new → page < length old.pages → IsMapOf old (now_of p).words
     → IsMapOf new (now_of q).words
 shows_used p page v q a old new told within shows =
-    let s : Step = step.Used page v in
+    let s : Step = Step.Used page v in
     map_now p s q a new
     (told_used (world_at a.makes).now.words page v old new told within (map_then p s q a old shows))
 
-pub shows_quar : (p : PassState) (page v : ℕ) (q : PassState) (a : Acts p (step.Quar page v) q)
+pub shows_quar : (p : PassState) (page v : ℕ) (q : PassState) (a : Acts p (Step.Quar page v) q)
     (old new : KnownPages) → QuarantineIsTold old page (v % 2 ^ 32) new → IsMapOf old (now_of p).words
     → IsMapOf new (now_of q).words
 shows_quar p page v q a old new told shows =
-    let s : Step = step.Quar page v in
+    let s : Step = Step.Quar page v in
     let w : Words = (world_at a.makes).now.words in
     let m = map_then p s q a old shows in
     map_now p s q a new
@@ -235,10 +213,10 @@ shows_quar p page v q a old new told shows =
           (m.unmarked number bare (sym (told.uncleaned number) ∙ cleaned));
     })
 
-pub shows_mark : (p : PassState) (page v : ℕ) (q : PassState) (a : Acts p (step.Mark page v) q)
+pub shows_mark : (p : PassState) (page v : ℕ) (q : PassState) (a : Acts p (Step.Mark page v) q)
     (old new : KnownPages) → MarkIsTold old page new → IsMapOf old (now_of p).words → IsMapOf new (now_of q).words
 shows_mark p page v q a old new told shows =
-    let s : Step = step.Mark page v in
+    let s : Step = Step.Mark page v in
     map_now p s q a new
     (told_mark p.table.config (world_at a.makes).now p.seat page v old new told (map_then p s q a old shows))
 
@@ -291,29 +269,29 @@ page_known p page map lt shows =
     ap (λ (l : List Page). length l) shows.words.page_by_page in
     omega arith
 
-pub head_known : (p : PassState) (page v : ℕ) (map : KnownPages) → IsEnabledTo p (step.Head page v)
+pub head_known : (p : PassState) (page v : ℕ) (map : KnownPages) → IsEnabledTo p (Step.Head page v)
     → IsMapOf map (now_of p).words → page < length map.pages
 head_known p page v map on = page_known p page map
     (ltb-true page p.table.config.pages
-    (enabled_meets p.table.config (now_of p) (event_of p (step.Head page v)) on).range)
+    (enabled_meets p.table.config (now_of p) (event_of p (Step.Head page v)) on).range)
 
-pub used_known : (p : PassState) (page v : ℕ) (map : KnownPages) → IsEnabledTo p (step.Used page v)
+pub used_known : (p : PassState) (page v : ℕ) (map : KnownPages) → IsEnabledTo p (Step.Used page v)
     → IsMapOf map (now_of p).words → page < length map.pages
 used_known p page v map on = page_known p page map
     (ltb-true page p.table.config.pages
-    (enabled_meets p.table.config (now_of p) (event_of p (step.Used page v)) on).range)
+    (enabled_meets p.table.config (now_of p) (event_of p (Step.Used page v)) on).range)
 
-pub quar_known : (p : PassState) (page v : ℕ) (map : KnownPages) → IsEnabledTo p (step.Quar page v)
+pub quar_known : (p : PassState) (page v : ℕ) (map : KnownPages) → IsEnabledTo p (Step.Quar page v)
     → IsMapOf map (now_of p).words → page < length map.pages
 quar_known p page v map on = page_known p page map
     (ltb-true page p.table.config.pages
-    (enabled_meets p.table.config (now_of p) (event_of p (step.Quar page v)) on).range)
+    (enabled_meets p.table.config (now_of p) (event_of p (Step.Quar page v)) on).range)
 
-pub mark_known : (p : PassState) (page v : ℕ) (map : KnownPages) → IsEnabledTo p (step.Mark page v)
+pub mark_known : (p : PassState) (page v : ℕ) (map : KnownPages) → IsEnabledTo p (Step.Mark page v)
     → IsMapOf map (now_of p).words → page < length map.pages
 mark_known p page v map on = page_known p page map
     (ltb-true page p.table.config.pages
-    (enabled_meets p.table.config (now_of p) (event_of p (step.Mark page v)) on).range)
+    (enabled_meets p.table.config (now_of p) (event_of p (Step.Mark page v)) on).range)
 
 -- The next page of those that the map has is the next of the heap's.
 pub next_known : (p : PassState) (passes : ℕ → Bool) (from : ℕ) (next : Option ℕ)

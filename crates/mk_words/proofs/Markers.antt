@@ -1,48 +1,32 @@
 -- What a seat is at as a marker, after its own steps and those of others.
-use Rattle.std.proofs.Common.{◌≡◌, ℕ, ◌<◌, true, length, refl, sym, ◌∙◌, ap, subst, arith}
-use Rattle.std.proofs.lemmas.Bool.{ltb-true}
-use Rattle.std.proofs.lemmas.List.{get_or-set_same}
-use Rattle.mk_core.specs.declared.config.Config.{Config}
-use Rattle.mk_core.specs.declared.events.Seat.{Seat}
-use Rattle.mk_core.specs.declared.events.Seat.TheVariants.{Caller, Marker, Host}
-use Rattle.mk_core.specs.declared.events.Step.{Step}
-use Rattle.mk_core.specs.declared.events.Step.TheVariants as step
-use Rattle.mk_core.specs.declared.events.Group.{Group}
-use Rattle.mk_core.specs.declared.events.Group.TheVariants as group
-use Rattle.mk_core.specs.declared.seats.Flight.{Flight}
-use Rattle.mk_core.specs.declared.seats.Placing.{Placing}
-use Rattle.mk_core.specs.declared.seats.Marker.{Marker as MarkerState}
-use Rattle.mk_core.specs.Order.{seat_exists, group_of, is_open_to}
-use Rattle.mk_core.specs.Accesses.{access_by, found}
-use Rattle.mk_core.specs.Moments.{Moment, outside, flight_of, marker_at, holder_number}
-use Rattle.mk_core.specs.Enabled.{marker_may}
-use Rattle.mk_core.specs.Effects.{marker_behind, moment_behind}
-use Rattle.mk_core.specs.History.{World}
-use Rattle.mk_core.proofs.Conditions.{enabled_meets}
-use Rattle.mk_words.specs.States.{PassState, now_of, event_of}
-use Rattle.mk_words.specs.Rule.{told_by}
-use Rattle.mk_words.specs.Steps.{IsEnabledTo, moment_of, found_by, Tells}
-use Rattle.mk_words.specs.Markers.{is_markers, marker_in, Marks}
+use Rattle.mk_laws.proofs.Vocabulary.{Caller, Config, Flight, Group, Host, Marker, MarkerState, Moment, Placing, Seat}
+use Rattle.mk_laws.proofs.Vocabulary.{Step, World, ℕ, ap, arith, enabled_meets, flight_of, found, get_or-set_same}
+use Rattle.mk_laws.proofs.Vocabulary.{group_of, holder_number, is_open_to, length, ltb-true, marker_at, marker_behind}
+use Rattle.mk_laws.proofs.Vocabulary.{marker_may, outside, refl, seat_exists, subst, sym, true, ◌<◌, ◌∙◌, ◌≡◌}
+use Rattle.mk_core.specs.{Accesses.access_by, Effects.moment_behind}
 use Rattle.mk_words.proofs.Made.{Made, made}
+use Rattle.mk_words.specs.Markers.{Marks, is_markers, marker_in}
+use Rattle.mk_words.specs.Steps.{IsEnabledTo, Tells, found_by, moment_of}
+use Rattle.mk_words.specs.{Rule.told_by, States.PassState, States.event_of, States.now_of}
 
 -- no access of a marker's is a store
 told_found : (c : Config) (n : ℕ) (f : Flight) (placing : Placing) (x : MarkerState) (s : Step) (k : ℕ)
     → is_markers (group_of s) ≡ true → told_by (access_by c n f placing x s) k ≡ k
-told_found c n f placing x step.Attend k h = refl
-told_found c n f placing x step.Quit k h = refl
-told_found c n f placing x (step.Mlook w) k h = refl
-told_found c n f placing x (step.Claim p i) k h = refl
-told_found c n f placing x step.Mload k h = refl
-told_found c n f placing x step.Mmark k h = refl
-told_found c n f placing x step.Mblack k h = refl
+told_found c n f placing x Step.Attend k h = refl
+told_found c n f placing x Step.Quit k h = refl
+told_found c n f placing x (Step.Mlook w) k h = refl
+told_found c n f placing x (Step.Claim p i) k h = refl
+told_found c n f placing x Step.Mload k h = refl
+told_found c n f placing x Step.Mmark k h = refl
+told_found c n f placing x Step.Mblack k h = refl
 told_found c n f placing x _ k h = cc
 
 -- a marker's step is a marker's
 
 marker_steps : (seat : Seat) (g : Group) → is_markers g ≡ true → is_open_to seat g ≡ true → (k : ℕ) × (seat ≡ Marker k)
-marker_steps (Marker k) group.Markers m h = (k, refl)
-marker_steps (Caller k) group.Markers m h = cc
-marker_steps Host group.Markers m h = cc
+marker_steps (Marker k) Group.Markers m h = (k, refl)
+marker_steps (Caller k) Group.Markers m h = cc
+marker_steps Host Group.Markers m h = cc
 marker_steps seat _ m h = cc
 
 behind_own : (c : Config) (m : Moment) (seat : Seat) (k : ℕ) (s : Step) → seat ≡ Marker k → k < length m.seats.markers

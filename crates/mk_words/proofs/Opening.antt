@@ -1,49 +1,27 @@
 -- All gates are opened, one after the other.
-use Rattle.std.proofs.Common.{◌≡◌, ◌≢◌, ◌⊎◌, ℕ, ◌+◌, ◌<◌, ◌≤◌, true, false, List, [], ◌∷◌, ◌++◌, length, refl, sym, ◌∙◌}
-use Rattle.std.proofs.Common.{ap, subst, inl, inr, ⊎_elim, append_assoc, append-nil, arith}
-use Rattle.std.specs.Prelude.{slice_index, slice_set, ◌==◌, not, Option}
-use Rattle.std.proofs.lemmas.Bool.{cases_Bool, cases_lt, cases_eq, eqb-true, eqb-false, ne_eqb, false_from_ne_true}
-use Rattle.std.proofs.lemmas.List.{get_or-set_same, get_or-set_other, get_or_past, length-set, set-get_or}
-use Rattle.mk_never.specs.declared.operations.Op.{Op}
-use Rattle.mk_core.specs.declared.config.Config.{Config}
-use Rattle.mk_core.specs.declared.events.Seat.{Seat}
-use Rattle.mk_core.specs.declared.events.Seat.TheVariants.{Caller, Marker, Host}
-use Rattle.mk_core.specs.declared.events.Step.TheVariants as step
-use Rattle.mk_core.specs.declared.events.Event.{Event}
-use Rattle.mk_core.specs.declared.seats.Flight.{Flight}
-use Rattle.mk_core.specs.declared.seats.Marker.{Marker as MarkerState}
-use Rattle.mk_core.specs.Growing.{AreOfOthers}
-use Rattle.mk_laws.proofs.Protocols.{lists_keep_the_protocol}
-use Rattle.mk_words.proofs.TurnSteps.{all_from}
-use Rattle.mk_core.specs.Calls.{at_rest}
-use Rattle.mk_core.specs.Moments.{Moment, outside, is_number_of, is_held, none_is_held}
-use Rattle.mk_core.specs.Enabled.{IsEnabled, MeetsAll}
-use Rattle.mk_core.specs.Effects.{moment_behind}
-use Rattle.mk_core.specs.History.{World, first_world, IsHistory}
-use Rattle.mk_core.specs.Readings.{Holds}
-use Rattle.mk_core.proofs.Conditions.{enabled_meets, meets_enabled}
-use Rattle.mk_core.proofs.Histories.{last_enabled}
-use Rattle.mk_laws.specs.Protocol.{Protocol}
-use Rattle.mk_words.specs.States.{PassState, now_of, event_of}
-use Rattle.mk_words.specs.Steps.{IsEnabledTo}
-use Rattle.mk_words.specs.TurnSteps.{IsTurn, world_at, Acts}
-use Rattle.mk_core.specs.Counts.{ends, full_answers}
-use Rattle.mk_core.specs.Effects.{answer_decided}
-use Rattle.mk_core.specs.Frames.{steady_of, CountsAreLeft}
-use Rattle.mk_core.specs.History.{left}
-use Rattle.mk_core.specs.Moments.{flight_of}
-use Rattle.mk_laws.proofs.OthersCounts.{answers_full}
-use Rattle.mk_laws.proofs.TallySteps.{CountsNothing}
-use Rattle.mk_words.proofs.Tallies.{same_ends, same_fulls}
-use Rattle.mk_words.specs.Opening.{OthersMayOpen, OnlyOpen, Opens, AreOpened}
-use Rattle.mk_words.proofs.Owed.{history_more}
-use Rattle.mk_words.proofs.Made.{made, pass_before}
-use Rattle.mk_words.proofs.LongerLists.{longer_lists}
+use Rattle.std.proofs.Common.{⊎_elim}
+use Rattle.mk_laws.proofs.Vocabulary.{Caller, Config, Event, Flight, Holds, Host, IsEnabled, IsHistory, List, Marker}
+use Rattle.mk_laws.proofs.Vocabulary.{MarkerState, MeetsAll, Moment, Op, Option, Protocol, Seat, Step, World, ℕ}
+use Rattle.mk_laws.proofs.Vocabulary.{answer_decided, ap, append-nil, append_assoc, arith, at_rest, cases_Bool}
+use Rattle.mk_laws.proofs.Vocabulary.{cases_eq, cases_lt, enabled_meets, ends, eqb-false, eqb-true, false}
+use Rattle.mk_laws.proofs.Vocabulary.{false_from_ne_true, first_world, flight_of, get_or-set_other, get_or-set_same}
+use Rattle.mk_laws.proofs.Vocabulary.{get_or_past, inl, inr, is_held, is_number_of, left, length, length-set, ne_eqb}
+use Rattle.mk_laws.proofs.Vocabulary.{not, outside, refl, set-get_or, slice_index, slice_set, subst, sym, true, []}
+use Rattle.mk_laws.proofs.Vocabulary.{◌++◌, ◌+◌, ◌<◌, ◌==◌, ◌∙◌, ◌∷◌, ◌≡◌, ◌≢◌, ◌≤◌, ◌⊎◌}
+use Rattle.mk_core.proofs.{Conditions.meets_enabled, Histories.last_enabled}
+use Rattle.mk_core.specs.Frames.{CountsAreLeft, steady_of}
+use Rattle.mk_core.specs.{Counts.full_answers, Effects.moment_behind, Growing.AreOfOthers, Moments.none_is_held}
+use Rattle.mk_laws.proofs.{OthersCounts.answers_full, Protocols.lists_keep_the_protocol, TallySteps.CountsNothing}
+use Rattle.mk_words.proofs.{LongerLists.longer_lists, Made.made, Made.pass_before, Owed.history_more, Tallies.same_ends}
+use Rattle.mk_words.proofs.{Tallies.same_fulls, TurnSteps.all_from}
+use Rattle.mk_words.specs.Opening.{AreOpened, OnlyOpen, Opens, OthersMayOpen}
+use Rattle.mk_words.specs.States.{PassState, event_of, now_of}
+use Rattle.mk_words.specs.{Steps.IsEnabledTo, TurnSteps.Acts, TurnSteps.IsTurn, TurnSteps.world_at}
 
 -- one gate that is opened leaves the others to be opened
 
 behind_open : (c : Config) (m : Moment) (seat : Seat) (k : ℕ)
-    → moment_behind c m (record { seat = seat; step = step.Open k })
+    → moment_behind c m (record { seat = seat; step = Step.Open k })
     ≡ record m { words = record m.words { gates = slice_set m.words.gates k 0 } }
 behind_open c m (Caller i) k =
     ap (λ (fs : List Flight). record {
@@ -63,8 +41,8 @@ behind_open c m Host k = refl
 
 open_elsewhere : (c : Config) (m : Moment) (seat : Seat) (j : ℕ) (gs : List ℕ)
     → slice_index gs j ≡ slice_index m.words.gates j
-    → MeetsAll c m (record { seat = seat; step = step.Open j })
-    → MeetsAll c (record m { words = record m.words { gates = gs } }) (record { seat = seat; step = step.Open j })
+    → MeetsAll c m (record { seat = seat; step = Step.Open j })
+    → MeetsAll c (record m { words = record m.words { gates = gs } }) (record { seat = seat; step = Step.Open j })
 open_elsewhere c m (Caller i) j gs same h =
     record {
       seat = h.seat;
@@ -98,7 +76,7 @@ unfolding OnlyOpen AreOfOthers
 only_others seats [] h = tt
 only_others seats (e ∷ es) h = (inl h.0, only_others seats es h.1)
 
-only_one : (seats : List Seat) (seat : Seat) (k : ℕ) → OnlyOpen seats (record { seat = seat; step = step.Open k } ∷ [])
+only_one : (seats : List Seat) (seat : Seat) (k : ℕ) → OnlyOpen seats (record { seat = seat; step = Step.Open k } ∷ [])
 unfolding OnlyOpen
 only_one seats seat k = (inr refl, tt)
 
@@ -123,13 +101,13 @@ opens_none p = record {
 -- An `open` counts nothing.
 
 open_answers : (c : Config) (m : Moment) (seat : Seat) (k : ℕ)
-    → answers_full (answer_decided c m (record { seat = seat; step = step.Open k })) ≡ false
+    → answers_full (answer_decided c m (record { seat = seat; step = Step.Open k })) ≡ false
 open_answers c m (Caller i) k = refl
 open_answers c m (Marker i) k = refl
 open_answers c m Host k = refl
 
 open_counts_nothing : (c : Config) (w : World) (seat : Seat) (k : ℕ)
-    → CountsNothing c w (record { seat = seat; step = step.Open k })
+    → CountsNothing c w (record { seat = seat; step = Step.Open k })
 open_counts_nothing c w seat k =
     record {
       alike = record {
@@ -140,11 +118,11 @@ open_counts_nothing c w seat k =
       no_full = open_answers c w.now seat k;
     }
 
-opens_more : (p q r : PassState) (k : ℕ) → Opens p q → Acts q (step.Open k) r → Opens p r
+opens_more : (p q r : PassState) (k : ℕ) → Opens p q → Acts q (Step.Open k) r → Opens p r
 opens_more p q r k o a =
     let seats_are : q.seats ≡ p.seats = ap (λ (x : PassState). x.seats) o.is in
     let seen_is : q.seen ≡ p.seen ++ o.more = ap (λ (x : PassState). x.seen) o.is in
-    let last : Event = event_of q (step.Open k) in
+    let last : Event = event_of q (Step.Open k) in
     let more : List Event = o.more ++ (a.makes.others ++ last ∷ []) in
     let c : Config = p.table.config in
     let config_is : q.table.config ≡ c = ap (λ (x : PassState). x.table.config) o.is in
@@ -185,34 +163,34 @@ opens_more p q r k o a =
     }
 
 -- The others may still be opened.
-still_may : (p q : PassState) (k : ℕ) → Acts p (step.Open k) q
-    → (j : ℕ) → j ≢ k → IsEnabledTo p (step.Open j) → IsEnabledTo q (step.Open j)
+still_may : (p q : PassState) (k : ℕ) → Acts p (Step.Open k) q
+    → (j : ℕ) → j ≢ k → IsEnabledTo p (Step.Open j) → IsEnabledTo q (Step.Open j)
 still_may p q k a j other on =
     let c : Config = p.table.config in
-    let d = made p (step.Open k) q a.makes in
-    let e : Event = event_of p (step.Open j) in
-    let short = history_more p (step.Open j) (pass_before a.makes).history
+    let d = made p (Step.Open k) q a.makes in
+    let e : Event = event_of p (Step.Open j) in
+    let short = history_more p (Step.Open j) (pass_before a.makes).history
     (record { enabled = on; admitted = λ h. cc; tidy = λ h. cc; home = λ h. cc }) in
     let long = longer_lists c p.seen a.makes.others e short d.history d.others in
     let then_on = last_enabled c (first_world c) (p.seen ++ a.makes.others) e long.history.enabled in
     let m : Moment = (world_at a.makes).now in
     let meets = open_elsewhere c m p.seat j (slice_set m.words.gates k 0) (get_or-set_other m.words.gates k j 0 0 other)
     (enabled_meets c m e then_on) in
-    let now : IsEnabled c (moment_behind c m (event_of p (step.Open k))) e =
+    let now : IsEnabled c (moment_behind c m (event_of p (Step.Open k))) e =
     subst (λ (n : Moment). IsEnabled c n e) (sym (behind_open c m p.seat k))
     (meets_enabled c (record m { words = record m.words { gates = slice_set m.words.gates k 0 } }) e meets) in
     let there : IsEnabled c (now_of q) e = subst (λ (w : World). IsEnabled c w.now e) (sym a.world) now in
-    subst (λ (r : PassState). IsEnabled r.table.config (now_of q) (event_of r (step.Open j))) (sym a.makes.is) there
+    subst (λ (r : PassState). IsEnabled r.table.config (now_of q) (event_of r (Step.Open j))) (sym a.makes.is) there
 
 -- the gates after it
-gates_behind : (p q : PassState) (k : ℕ) (a : Acts p (step.Open k) q)
+gates_behind : (p q : PassState) (k : ℕ) (a : Acts p (Step.Open k) q)
     → (now_of q).words.gates ≡ slice_set (world_at a.makes).now.words.gates k 0
 gates_behind p q k a = ap (λ (w : World). w.now.words.gates) a.world
 
 not_held : (gs : List ℕ) (j : ℕ) → (slice_index gs j == 2) ≡ false → slice_index gs j ≢ 2
 not_held gs j h = eqb-false (slice_index gs j) 2 h
 
-opened_then : (p q : PassState) (k j : ℕ) → Acts p (step.Open k) q → (is_held (now_of p).words j ≡ false) ⊎ (j ≡ k)
+opened_then : (p q : PassState) (k j : ℕ) → Acts p (Step.Open k) q → (is_held (now_of p).words j ≡ false) ⊎ (j ≡ k)
     → is_held (now_of q).words j ≡ false
 opened_then p q k j a h = by (cases_eq j k)
   where
@@ -244,7 +222,7 @@ pub record Round (p q r : PassState) (k : ℕ) : Type 0 where
   pub opened : AreOpened r (k + 1)
 
 pub one_round : (p q r : PassState) (k : ℕ) → Opens p q → OthersMayOpen q k → AreOpened q k
-    → (is_number_of q.seat k ≡ false → Acts q (step.Open k) r)
+    → (is_number_of q.seat k ≡ false → Acts q (Step.Open k) r)
     → (is_number_of q.seat k ≡ true → r ≡ q) → Round p q r k
 one_round p q r k o may opened acts same = elim (cases_Bool (is_number_of q.seat k)) [
   | inl mine ↦ subst (λ (x : PassState). Round p q x k) (sym (same mine)) (record {

@@ -1,23 +1,18 @@
 -- The phase says that all is over only after an `over`.
-use Rattle.std.proofs.Common.{◌≡◌, ◌≢◌, ℕ, false, List, [], ◌∷◌, sym, ◌∙◌, arith}
-use Rattle.std.proofs.lemmas.Bool.{or_parts, true_from_ne_false}
-use Rattle.mk_core.specs.declared.config.Config.{Config}
-use Rattle.mk_core.specs.declared.events.Event.{Event}
-use Rattle.mk_core.specs.declared.events.Step.{Step}
-use Rattle.mk_core.specs.declared.events.Step.TheVariants as step
-use Rattle.mk_core.specs.History.{AreEnabledFrom, World, first_world, left_from, world_behind}
-use Rattle.mk_core.specs.Words.{phase_of}
+use Rattle.std.proofs.lemmas.Bool.{true_from_ne_false}
+use Rattle.mk_laws.proofs.Vocabulary.{AreEnabledFrom, Config, Event, List, Step, World, ℕ, arith, false, first_world}
+use Rattle.mk_laws.proofs.Vocabulary.{or_parts, phase_of, sym, world_behind, [], ◌∙◌, ◌∷◌, ◌≡◌, ◌≢◌}
+use Rattle.mk_core.specs.History.{left_from}
 use Rattle.mk_laws.proofs.CyclePhases.{moves_phase, phase_behind}
-use Rattle.mk_words.specs.Laws.{EndIsBehindOver}
-use Rattle.mk_words.specs.Seats.{has_over, is_over}
+use Rattle.mk_words.specs.{Laws.EndIsBehindOver, Seats.has_over, Seats.is_over}
 
 not_over : (x : Step) (p : ℕ) → is_over x ≡ false → p ≢ 5 → phase_behind x p ≢ 5
-not_over step.Begin p out ne = λ h. absurd (omega arith)
-not_over step.Want p out ne = λ h. absurd (omega arith)
-not_over step.Close p out ne = λ h. absurd (omega arith)
-not_over step.Release p out ne = λ h. absurd (omega arith)
-not_over step.End p out ne = λ h. absurd (omega arith)
-not_over step.Over p out ne = cc
+not_over Step.Begin p out ne = λ h. absurd (omega arith)
+not_over Step.Want p out ne = λ h. absurd (omega arith)
+not_over Step.Close p out ne = λ h. absurd (omega arith)
+not_over Step.Release p out ne = λ h. absurd (omega arith)
+not_over Step.End p out ne = λ h. absurd (omega arith)
+not_over Step.Over p out ne = cc
 not_over _ p out ne = ne
 
 never_over : (c : Config) (w : World) (es : List Event) → AreEnabledFrom c w es → has_over es ≡ false

@@ -1,35 +1,21 @@
 -- An `over` is the host's, who has the seats of all callers then, so no caller steps after one.
-use Rattle.std.proofs.Common.{◌≡◌, ◌≢◌, ◌⊎◌, ℕ, zero, suc, Bool, true, false, List, [], ◌∷◌, ◌++◌, refl, sym, ◌∙◌}
-use Rattle.std.proofs.Common.{ap, subst, set, inl, inr, ⊎_elim}
-use Rattle.std.specs.Prelude.{◌||◌}
-use Rattle.std.proofs.lemmas.Bool.{or_cases, false_from_ne_true}
-use Rattle.std.proofs.lemmas.List.Folds.{list_any-append}
+use Rattle.std.proofs.Common.{set, ⊎_elim}
+use Rattle.mk_laws.proofs.Vocabulary.{Bool, Caller, Config, Event, Group, Host, IsEnabled, List, Marker, Moment, Seat}
+use Rattle.mk_laws.proofs.Vocabulary.{Step, World, ℕ, ap, enabled_meets, false, false_from_ne_true, group_of, inl, inr}
+use Rattle.mk_laws.proofs.Vocabulary.{is_open_to, list_any-append, or_cases, refl, subst, suc, sym, true, world_behind}
+use Rattle.mk_laws.proofs.Vocabulary.{zero, [], ◌++◌, ◌||◌, ◌∙◌, ◌∷◌, ◌≡◌, ◌≢◌, ◌⊎◌}
+use Rattle.mk_core.specs.{Growing.AreOfOthers, History.AreEnabledFrom}
+use Rattle.atomic_table.proofs.Lists.{at_set}
+use Rattle.mk_words.{proofs.Seats.not_both, specs.Rule.seats_of, specs.Seats.CallersAreBeforeOver, specs.Seats.Has}
+use Rattle.mk_words.{specs.Seats.HasCallers, specs.Seats.has_over, specs.Seats.is_over, specs.declared.rule.View.View}
 use mathlib.Core.Option.{some, some-ne-none}
 use lib.ListN.{get_elem?}
-use Rattle.atomic_table.proofs.Lists.{at_set}
-use Rattle.mk_core.specs.declared.config.Config.{Config}
-use Rattle.mk_core.specs.declared.events.Seat.{Seat}
-use Rattle.mk_core.specs.declared.events.Seat.TheVariants.{Caller, Marker, Host}
-use Rattle.mk_core.specs.declared.events.Event.{Event}
-use Rattle.mk_core.specs.declared.events.Group.TheVariants as group
-use Rattle.mk_core.specs.declared.events.Step.{Step}
-use Rattle.mk_core.specs.declared.events.Step.TheVariants as step
-use Rattle.mk_core.specs.Enabled.{IsEnabled}
-use Rattle.mk_core.specs.Growing.{AreOfOthers}
-use Rattle.mk_core.specs.History.{AreEnabledFrom, World, world_behind}
-use Rattle.mk_core.specs.Moments.{Moment}
-use Rattle.mk_core.specs.Order.{group_of, is_open_to}
-use Rattle.mk_core.proofs.Conditions.{enabled_meets}
-use Rattle.mk_words.specs.declared.rule.View.{View}
-use Rattle.mk_words.specs.Rule.{seats_of}
-use Rattle.mk_words.specs.Seats.{CallersAreBeforeOver, Has, HasCallers, has_over, is_over}
-use Rattle.mk_words.proofs.Seats.{not_both}
 
-over_step : (s : Step) → is_over s ≡ true → s ≡ step.Over
-over_step step.Over h = refl
+over_step : (s : Step) → is_over s ≡ true → s ≡ Step.Over
+over_step Step.Over h = refl
 over_step _ h = cc
 
-hosts_alone : (s : Seat) → is_open_to s group.Host ≡ true → s ≡ Host
+hosts_alone : (s : Seat) → is_open_to s Group.Host ≡ true → s ≡ Host
 hosts_alone (Caller k) h = cc
 hosts_alone (Marker k) h = cc
 hosts_alone Host h = refl

@@ -1,42 +1,27 @@
 -- What the calls owe the table for a step, a split, a join and the end, and what they learn.
-use Rattle.std.proofs.Common.{◌≡◌, ℕ, ◌<◌, List, [], ◌∷◌, ◌++◌, map, refl, sym, ◌∙◌, ap, subst, arith}
-use mathlib.Core.Option.{some}
-use Rattle.std.specs.Prelude.{slice_index, replicate, true, false}
-use Rattle.atomic_table.specs.Seated.{TableId}
-use Rattle.atomic_table.specs.Table.{Allows, Splits, Joins, Final, Seen, opening}
+use Rattle.std.proofs.Common.{replicate}
+use Rattle.mk_laws.proofs.Vocabulary.{Access, Caller, Config, Event, Host, IsHistory, IsTidy, IsWithinLimits, List}
+use Rattle.mk_laws.proofs.Vocabulary.{Seat, Step, ℕ, access, ap, arith, false, first_world, map, refl, slice_index}
+use Rattle.mk_laws.proofs.Vocabulary.{subst, sym, true, word_accessed, [], ◌++◌, ◌<◌, ◌∙◌, ◌∷◌, ◌≡◌}
 use Rattle.mk_page_map.specs.KnownPages.{KnownPages}
-use Rattle.mk_core.specs.declared.config.Config.{Config}
-use Rattle.mk_core.specs.declared.events.Seat.{Seat}
-use Rattle.mk_core.specs.declared.events.Seat.TheVariants.{Caller, Host}
-use Rattle.mk_core.specs.declared.events.Step.{Step}
-use Rattle.mk_core.specs.declared.events.Event.{Event}
-use Rattle.mk_core.specs.declared.accesses.Access.{Access}
-use Rattle.mk_core.specs.declared.accesses.TableWord.{TableWord}
-use Rattle.mk_core.specs.Config.{IsWithinLimits}
-use Rattle.mk_core.specs.Words.{becomes, zero_words_of}
-use Rattle.mk_core.specs.Layout.{index_of, count_of_words, IsOfTable}
-use Rattle.mk_core.specs.Accesses.{word_accessed, access}
-use Rattle.mk_core.specs.History.{first_world, AreEnabledFrom, calls_from, IsHistory}
-use Rattle.mk_core.specs.Counts.{IsTidy}
-use Rattle.mk_core.specs.Growing.{Grows, is_same_seat}
-use Rattle.mk_core.proofs.Histories.{enabled_more}
-use Rattle.mk_core.proofs.LayoutLemmas.{indexes_within}
-use Rattle.mk_core.proofs.RegionLemmas.{first_are_zero}
+use Rattle.mk_core.proofs.{Histories.enabled_more, LayoutLemmas.indexes_within, RegionLemmas.first_are_zero}
+use Rattle.mk_core.specs.Layout.{IsOfTable, count_of_words, index_of}
+use Rattle.mk_core.specs.{Growing.Grows, Growing.is_same_seat, History.AreEnabledFrom, History.calls_from}
+use Rattle.mk_core.specs.{Words.becomes, Words.zero_words_of, declared.accesses.TableWord.TableWord}
 use Rattle.mk_laws.proofs.Reaching.{events_reach_the_table}
-use Rattle.mk_words.specs.declared.rule.View.{View}
-use Rattle.mk_words.specs.Seats.{CallersAreBeforeOver, Has, HasAll, has_over, is_caller}
-use Rattle.mk_words.specs.PageMaps.{IsMapOf, is_handing}
-use Rattle.mk_words.specs.States.{WordsState, PassState, now_of, event_of}
-use Rattle.mk_words.specs.Rule.{Kept, Mine, told_by, no_step, adds, stores_word, settles, stays_with, goes_with}
-use Rattle.mk_words.specs.Rule.{copy_of}
-use Rattle.mk_words.specs.Rule.{beside, nobody, first_view, Adds}
-use Rattle.mk_words.specs.Passes.{state_of, IsInOrder}
-use Rattle.mk_words.specs.Steps.{May, Tells}
-use Rattle.mk_words.proofs.Tidy.{none_tidy}
-use Rattle.mk_words.proofs.Undecided.{undecided_admitted}
-use Rattle.mk_words.proofs.Keeps.{place_there, access_there, performs_at, settles_at, opens, closes, Ended}
-use Rattle.mk_words.proofs.Cuts.{splits, hands_over, remembers, joins}
+use Rattle.atomic_table.specs.Table.{Allows, Final, Joins, Seen, Splits, opening}
+use Rattle.atomic_table.specs.Seated.{TableId}
+use Rattle.mk_words.proofs.Cuts.{hands_over, joins, remembers, splits}
+use Rattle.mk_words.proofs.Keeps.{Ended, access_there, closes, opens, performs_at, place_there, settles_at}
 use Rattle.mk_words.proofs.Seats.{has_all, has_first, has_left, only_one, without_keeps, without_less}
+use Rattle.mk_words.proofs.{Tidy.none_tidy, Undecided.undecided_admitted}
+use Rattle.mk_words.specs.PageMaps.{IsMapOf, is_handing}
+use Rattle.mk_words.specs.Rule.{Adds, Kept, Mine, adds, beside, copy_of, first_view, goes_with, no_step, nobody}
+use Rattle.mk_words.specs.Rule.{settles, stays_with, stores_word, told_by}
+use Rattle.mk_words.specs.Seats.{CallersAreBeforeOver, Has, HasAll, has_over, is_caller}
+use Rattle.mk_words.specs.States.{PassState, WordsState, event_of, now_of}
+use Rattle.mk_words.specs.{Passes.IsInOrder, Passes.state_of, Steps.May, Steps.Tells, declared.rule.View.View}
+use mathlib.Core.Option.{some}
 
 -- with the event the pass's list is a history
 pub history_more : (p : PassState) (s : Step) → IsHistory p.table.config p.seen → May p s

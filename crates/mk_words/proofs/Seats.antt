@@ -1,15 +1,11 @@
 -- Lists of seats, and lists of others' events.
-use Rattle.std.proofs.Common.{◌≡◌, ◌⊎◌, ℕ, ◌<◌, zero, suc, Bool, true, false, List, [], ◌∷◌, ◌++◌, refl, sym, ◌∙◌, ap}
-use Rattle.std.proofs.Common.{subst, inl, inr, ⊎_elim, arith}
-use Rattle.std.specs.Prelude.{◌||◌, if◌then◌else◌}
-use Rattle.std.proofs.lemmas.Bool.{cases_eq, or_cases, eqb-true, eq-eqb, ltb-true, false_from_ne_true}
-use Rattle.std.proofs.lemmas.List.Folds.{list_any-append}
-use Rattle.mk_core.specs.declared.config.Config.{Config}
-use Rattle.mk_core.specs.declared.events.Seat.{Seat}
-use Rattle.mk_core.specs.declared.events.Seat.TheVariants.{Caller, Marker, Host}
-use Rattle.mk_core.specs.declared.events.Event.{Event}
-use Rattle.mk_core.specs.Growing.{is_same_seat, is_one_of, AreOfOthers}
-use Rattle.mk_words.specs.Seats.{Has, without_seat, callers_below, markers_below, all_seats, HasAll}
+use Rattle.std.proofs.Common.{⊎_elim}
+use Rattle.mk_laws.proofs.Vocabulary.{Bool, Caller, Config, Event, Host, List, Marker, Seat, ℕ, ap, arith, cases_eq}
+use Rattle.mk_laws.proofs.Vocabulary.{eq-eqb, eqb-true, false, false_from_ne_true, if◌then◌else◌, inl, inr, is_one_of}
+use Rattle.mk_laws.proofs.Vocabulary.{list_any-append, ltb-true, or_cases, refl, subst, suc, sym, true, zero, [], ◌++◌}
+use Rattle.mk_laws.proofs.Vocabulary.{◌<◌, ◌||◌, ◌∙◌, ◌∷◌, ◌≡◌, ◌⊎◌}
+use Rattle.mk_core.specs.Growing.{AreOfOthers, is_same_seat}
+use Rattle.mk_words.specs.Seats.{Has, HasAll, all_seats, callers_below, markers_below, without_seat}
 
 pub same_seat : (a b : Seat) → is_same_seat a b ≡ true → a ≡ b
 same_seat (Caller j) (Caller k) h = ap (λ i. Caller i) (eqb-true j k h)

@@ -1,39 +1,21 @@
 -- An event that counts nothing leaves the tallies what they count.
-use Rattle.std.proofs.Common.{◌≡◌, ℕ, ◌+◌, List, [], ◌∷◌, ◌++◌, refl, sym, ◌∙◌, ap, subst, arith}
-use Rattle.std.proofs.lemmas.Bool.{ne_eqb}
-use Rattle.std.specs.Prelude.{cond}
 use Rattle.std.proofs.lemmas.List.Sums.{sum_by_push}
-use Rattle.mk_core.specs.declared.config.Config.{Config}
-use Rattle.mk_core.specs.declared.events.Event.{Event}
-use Rattle.mk_core.specs.Accesses.{caller_number}
-use Rattle.mk_core.specs.Allocations.{PlacedAllocation, fresh_words_of, held_by_allocations, unreleased_storage}
-use Rattle.mk_core.specs.Counts.{TalliesAreExact, TalliesAreTidy, ends, full_answers, in_a_word, releases}
-use Rattle.mk_core.specs.Cycles.{is_end}
-use Rattle.mk_core.specs.Decided.{Decided}
-use Rattle.mk_core.specs.Effects.{answer_decided}
-use Rattle.mk_core.specs.History.{World, IsHistory, calls, call_decided, first_world, left, left_from, world_behind}
-use Rattle.mk_core.specs.Moments.{Moment, flight_of}
-use Rattle.mk_core.specs.Words.{Words, phase_of}
-use Rattle.mk_core.proofs.Histories.{calls_more, left_more}
-use Rattle.mk_laws.proofs.OthersCounts.{entry_fulls, fulls_append, fulls_of}
-use Rattle.mk_laws.proofs.TallySteps.{CountsNothing}
+use Rattle.mk_laws.proofs.Vocabulary.{Config, Decided, Event, Holding, IsHistory, IsSettled, List, Moment, OfHistories}
+use Rattle.mk_laws.proofs.Vocabulary.{PlacedAllocation, Protocol, TalliesAreTidy, Words, World, ℕ, answer_decided, ap}
+use Rattle.mk_laws.proofs.Vocabulary.{arith, call_decided, caller_number, calls, cond, ends, first_world, flight_of}
+use Rattle.mk_laws.proofs.Vocabulary.{fresh_words_of, has_place, held_by_pages, histories_keep_lengths, in_a_word}
+use Rattle.mk_laws.proofs.Vocabulary.{is_end, left, left_more, ne_eqb, phase_of, refl, subst, sym, unreleased_storage}
+use Rattle.mk_laws.proofs.Vocabulary.{world_behind, [], ◌++◌, ◌+◌, ◌∙◌, ◌∷◌, ◌≡◌}
 use Rattle.mk_geom.proofs.HeldWords.{pages_hold_mapped_words}
-use Rattle.mk_core.specs.declared.seats.Holding.{Holding}
-use Rattle.mk_core.specs.TurnConditions.{held_by_pages}
-use Rattle.mk_core.proofs.Lengths.{histories_keep_lengths}
-use Rattle.mk_laws.specs.Protocol.{Protocol, has_place}
-use Rattle.mk_laws.proofs.Known.{known_left}
-use Rattle.mk_laws.specs.SettledPages.{IsSettled, is_freed_unmapped}
-use Rattle.mk_laws.proofs.LayoutBefore.{Before}
-use Rattle.mk_laws.proofs.LayoutHistories.{known_before}
-use Rattle.mk_laws.proofs.KnownWorlds.{known_world}
-use Rattle.mk_laws.specs.Theorems.{OfHistories}
-use Rattle.mk_laws.proofs.InvariantHistories.{histories_keep_the_invariant}
-use Rattle.mk_laws.proofs.InvariantJoined.{told_to_layout}
-use Rattle.mk_laws.proofs.InvariantTheorems.{pages_show_the_storage}
-use Rattle.mk_laws.proofs.FreshSteps.{FreshTold, fresh_told_behind}
-use Rattle.mk_laws.proofs.Induction.{KeptByEvents, before_it, holds_of_histories}
-use Rattle.mk_laws.proofs.Tallies.{tallies_tell}
+use Rattle.mk_core.{proofs.Histories.calls_more, specs.Allocations.held_by_allocations, specs.Counts.TalliesAreExact}
+use Rattle.mk_core.{specs.Counts.full_answers, specs.Counts.releases, specs.History.left_from}
+use Rattle.mk_laws.{proofs.FreshSteps.FreshTold, proofs.FreshSteps.fresh_told_behind, proofs.Induction.KeptByEvents}
+use Rattle.mk_laws.{proofs.Induction.before_it, proofs.Induction.holds_of_histories}
+use Rattle.mk_laws.{proofs.InvariantHistories.histories_keep_the_invariant, proofs.InvariantJoined.told_to_layout}
+use Rattle.mk_laws.{proofs.InvariantTheorems.pages_show_the_storage, proofs.Known.known_left}
+use Rattle.mk_laws.{proofs.KnownWorlds.known_world, proofs.LayoutBefore.Before, proofs.LayoutHistories.known_before}
+use Rattle.mk_laws.{proofs.OthersCounts.entry_fulls, proofs.OthersCounts.fulls_append, proofs.OthersCounts.fulls_of}
+use Rattle.mk_laws.{proofs.Tallies.tallies_tell, proofs.TallySteps.CountsNothing, specs.SettledPages.is_freed_unmapped}
 
 -- (as in the crate that proves what the tallies count, where it is private)
 module _ (c : Config) (es : List Event) (e : Event) (nothing : CountsNothing c (left c es) e) where

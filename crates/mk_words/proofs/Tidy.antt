@@ -1,11 +1,8 @@
 -- Tidy lists: a list's beginning, and a list with one event more.
-use Rattle.std.proofs.Common.{◌≡◌, ◌⊎◌, true, List, [], ◌∷◌, ◌++◌, refl, sym, ◌∙◌, ap, subst, inl, inr, ⊎_elim}
-use Rattle.std.proofs.Common.{append_assoc}
-use Rattle.mk_core.specs.declared.config.Config.{Config}
-use Rattle.mk_core.specs.declared.events.Step.{Step}
-use Rattle.mk_core.specs.declared.events.Event.{Event}
+use Rattle.std.proofs.Common.{⊎_elim}
+use Rattle.mk_laws.proofs.Vocabulary.{Config, Event, IsTidy, List, Step, TalliesAreTidy, ap, append_assoc, inl, inr}
+use Rattle.mk_laws.proofs.Vocabulary.{refl, subst, sym, true, [], ◌++◌, ◌∙◌, ◌∷◌, ◌≡◌, ◌⊎◌}
 use Rattle.mk_core.specs.Cycles.{is_give}
-use Rattle.mk_core.specs.Counts.{TalliesAreTidy, IsTidy}
 
 -- An event of a longer list is the last, or one of the list.
 record Last (xs : List Event) (e : Event) (before : List Event) (f : Event) : Type 0 where

@@ -1,59 +1,28 @@
 -- What the steps of the turn's holder leave.
-use Rattle.std.proofs.Common.{◌≡◌, ◌≢◌, ℕ, zero, suc, ◌+◌, ◌<◌, ◌≤◌, Bool, true, false}
-use Rattle.std.proofs.Common.{List, [], ◌∷◌, ◌++◌, length, Option, refl, sym, ◌∙◌, ap, subst, arith}
-use Rattle.std.specs.Prelude.{slice_index, slice_set, nat_lt, ◌||◌, ◌==◌, Some, None}
-use Rattle.std.specs.Prelude.{if◌then◌else◌, not, ◌&&◌}
-use Rattle.std.proofs.lemmas.Bool.{and_from, and_parts, ltb-true, eq-eqb, ne_eqb}
-use Rattle.std.proofs.lemmas.Bool.{eqb-false, not-true}
-use Rattle.std.proofs.lemmas.List.{get_or-set_same, set-get_or}
-use Rattle.mk_never.specs.declared.operations.Op.{Op}
-use Rattle.mk_never.specs.declared.operations.Op.TheVariants as op
-use Rattle.mk_geom.specs.declared.addresses.Cell.{Cell}
-use Rattle.mk_core.specs.declared.config.Config.{Config}
-use Rattle.mk_core.specs.declared.events.Seat.{Seat}
-use Rattle.mk_core.specs.declared.events.Seat.TheVariants.{Caller, Marker, Host}
-use Rattle.mk_core.specs.declared.events.Event.{Event}
-use Rattle.mk_core.specs.declared.events.Step.{Step}
-use Rattle.mk_core.specs.declared.events.Step.TheVariants as step
-use Rattle.mk_core.specs.declared.seats.Stage.{Stage}
-use Rattle.mk_core.specs.declared.seats.Stage.TheVariants as stage
-use Rattle.mk_core.specs.declared.seats.Flight.{Flight}
-use Rattle.mk_core.specs.declared.seats.Progress.{Progress}
-use Rattle.mk_core.specs.declared.seats.Holding.{Holding}
-use Rattle.mk_core.specs.Bounded.{all_below}
-use Rattle.mk_core.specs.Words.{phase_of}
-use Rattle.mk_core.specs.Ranges.{has_phase}
-use Rattle.mk_core.specs.Calls.{at_rest, progress_q, progress_p, progress_reg}
-use Rattle.mk_core.specs.Calls.{progress_read}
-use Rattle.mk_core.specs.Order.{seat_exists, is_in_order}
-use Rattle.mk_core.specs.Accesses.{found, register_met, reg_access, caller_number}
-use Rattle.mk_core.specs.Moments.{Moment, flight_of, holder_number, nothing_done, none_is_held, is_held, is_number_of}
-use Rattle.mk_core.specs.Moments.{others_are_held}
-use Rattle.mk_core.specs.Effects.{progress, progress_freed, begins_where_free}
-use Rattle.mk_core.specs.TurnConditions.{cell_freed, held_by_pages}
-use Rattle.mk_core.specs.Order.{host_has_turn, is_open_to, group_of}
-use Rattle.mk_core.specs.Readings.{Holds}
-use Rattle.mk_core.specs.History.{World, left}
-use Rattle.mk_core.specs.Frames.{HoldsAll, Written}
-use Rattle.mk_core.proofs.Lengths.{histories_keep_lengths}
-use Rattle.mk_laws.specs.Protocol.{Protocol}
-use Rattle.mk_core.specs.Counts.{IsTidy, TalliesAreExact, TalliesAreTidy}
-use Rattle.mk_core.specs.Enabled.{IsEnabled}
+use Rattle.mk_laws.proofs.Vocabulary.{Bool, Caller, Cell, Config, Event, Flight, Holding, Holds, Host, IsEnabled}
+use Rattle.mk_laws.proofs.Vocabulary.{IsTidy, List, Marker, Moment, None, Op, Option, Progress, Protocol, Seat, Some}
+use Rattle.mk_laws.proofs.Vocabulary.{Stage, Step, TalliesAreTidy, World, Written, ℕ, and_from, and_parts, ap, arith}
+use Rattle.mk_laws.proofs.Vocabulary.{at_rest, caller_number, cell_freed, eq-eqb, eqb-false, false, flight_of, found}
+use Rattle.mk_laws.proofs.Vocabulary.{get_or-set_same, group_of, has_phase, held_by_pages, histories_keep_lengths}
+use Rattle.mk_laws.proofs.Vocabulary.{holder_number, host_has_turn, if◌then◌else◌, is_held, is_number_of, is_open_to}
+use Rattle.mk_laws.proofs.Vocabulary.{left, length, ltb-true, nat_lt, ne_eqb, not, not-true, nothing_done}
+use Rattle.mk_laws.proofs.Vocabulary.{others_are_held, phase_of, progress, progress_freed, progress_p, progress_q}
+use Rattle.mk_laws.proofs.Vocabulary.{progress_read, progress_reg, refl, reg_access, register_met, seat_exists}
+use Rattle.mk_laws.proofs.Vocabulary.{set-get_or, slice_index, slice_set, subst, suc, sym, true, zero, [], ◌&&◌, ◌++◌}
+use Rattle.mk_laws.proofs.Vocabulary.{◌+◌, ◌<◌, ◌==◌, ◌||◌, ◌∙◌, ◌∷◌, ◌≡◌, ◌≢◌, ◌≤◌}
 use Rattle.mk_core.proofs.Conditions.{meets_enabled}
-use Rattle.mk_laws.proofs.TallySteps.{others_count_nothing}
-use Rattle.mk_laws.proofs.Tallies.{tallies_tell}
-use Rattle.mk_words.proofs.Tidy.{tidy_part}
-use Rattle.mk_words.proofs.Tallies.{exact_more, counts_tidy_more, free_tallies}
+use Rattle.mk_core.specs.{Bounded.all_below, Counts.TalliesAreExact, Effects.begins_where_free, Frames.HoldsAll}
+use Rattle.mk_core.specs.{Moments.none_is_held, Order.is_in_order}
 use Rattle.mk_laws.proofs.NextSteps.{at_no_take}
 use Rattle.mk_laws.proofs.SameWords.{Behind, reg_keeps, tally_keeps}
-use Rattle.mk_laws.proofs.Protocols.{lists_keep_the_protocol}
-use Rattle.mk_words.specs.States.{PassState, TurnState, now_of, call_of, world_of, event_of}
-use Rattle.mk_words.specs.Steps.{IsEnabledTo, Makes, moment_of, Finds, Tells}
-use Rattle.mk_words.specs.TurnSteps.{op_for, IsTurn, begun_for, IsFresh, turn_stays, gates_stay, world_at, Acts}
-use Rattle.mk_words.specs.TurnSteps.{GatesAre}
-use Rattle.mk_words.proofs.FreeTurns.{turn_word_stays, hands_none}
-use Rattle.mk_words.proofs.Made.{Made, made}
+use Rattle.mk_laws.proofs.{Protocols.lists_keep_the_protocol, Tallies.tallies_tell, TallySteps.others_count_nothing}
 use Rattle.mk_words.proofs.CallSteps.{begins, goes, waits}
+use Rattle.mk_words.proofs.Tallies.{counts_tidy_more, exact_more, free_tallies}
+use Rattle.mk_words.proofs.{FreeTurns.hands_none, FreeTurns.turn_word_stays, Made.Made, Made.made, Tidy.tidy_part}
+use Rattle.mk_words.specs.States.{PassState, TurnState, call_of, event_of, now_of, world_of}
+use Rattle.mk_words.specs.TurnSteps.{Acts, GatesAre, IsFresh, IsTurn, begun_for, gates_stay, op_for, turn_stays}
+use Rattle.mk_words.specs.TurnSteps.{world_at}
+use Rattle.mk_words.specs.Steps.{Finds, IsEnabledTo, Makes, Tells, moment_of}
 
 -- who holds the turn, by the turn word
 
@@ -82,14 +51,14 @@ holder_is_no_marker c m Host h = refl
 -- No gate is changed but by `enter`, `leave`, `hold` and `open`.
 gates_are_kept : (c : Config) (m : Moment) (seat : Seat) (s : Step) → gates_stay s ≡ true
     → (Behind c m seat s).words.gates ≡ m.words.gates
-gates_are_kept c m seat (step.Enter o) h = cc
-gates_are_kept c m seat step.Leave h = cc
-gates_are_kept c m seat (step.Hold j) h = cc
-gates_are_kept c m seat (step.Open j) h = cc
-gates_are_kept c m seat step.Reg h =
+gates_are_kept c m seat (Step.Enter o) h = cc
+gates_are_kept c m seat Step.Leave h = cc
+gates_are_kept c m seat (Step.Hold j) h = cc
+gates_are_kept c m seat (Step.Open j) h = cc
+gates_are_kept c m seat Step.Reg h =
     (reg_keeps m.words (caller_number seat) (register_met (flight_of m seat) (flight_of m seat).stage)
     (reg_access (flight_of m seat) (flight_of m seat).stage)).gates
-gates_are_kept c m seat (step.Tally n v) h = (tally_keeps m.words n v).gates
+gates_are_kept c m seat (Step.Tally n v) h = (tally_keeps m.words n v).gates
 gates_are_kept c m seat _ h = refl
 
 -- A call keeps its operation up to its end.
@@ -100,22 +69,22 @@ either_op true x y o a b = a
 either_op false x y o a b = b
 
 q_op : (f : Flight) (o : Op) (n : ℕ) → (progress_q f o n).flight.op ≡ f.op
-q_op f (op.Move d q) n = refl
-q_op f (op.Same p q) n = refl
+q_op f (Op.Move d q) n = refl
+q_op f (Op.Same p q) n = refl
 q_op f _ n = either_op (n == 0) _ _ f.op refl refl
 
 p_op : (f : Flight) (o : Op) (n : ℕ) → (progress_p f o n).flight.op ≡ f.op
-p_op f (op.IsNull p) n = refl
-p_op f (op.Free p) n = either_op (n == 0) _ _ f.op refl refl
+p_op f (Op.IsNull p) n = refl
+p_op f (Op.Free p) n = either_op (n == 0) _ _ f.op refl refl
 p_op f _ n = refl
 
 reg_op : (f : Flight) (s : Stage) (n : ℕ) → (progress_reg f s n).flight.op ≡ f.op
-reg_op f stage.LoadQ n = q_op f f.op n
-reg_op f stage.LoadP n = p_op f f.op n
+reg_op f Stage.LoadQ n = q_op f f.op n
+reg_op f Stage.LoadP n = p_op f f.op n
 reg_op f _ n = refl
 
 read_op : (f : Flight) (o : Op) (n : ℕ) → (progress_read f o n).flight.op ≡ f.op
-read_op f (op.GetPtr d q i) n = refl
+read_op f (Op.GetPtr d q i) n = refl
 read_op f _ n = refl
 
 freed_op : (f : Flight) (x : Option Cell) → (progress_freed f x).flight.op ≡ f.op
@@ -124,15 +93,15 @@ freed_op f None = refl
 
 op_stays : (c : Config) (m : Moment) (f : Flight) (n : ℕ) (s : Step) → turn_stays s ≡ true
     → (progress c m f n s).flight.op ≡ f.op
-op_stays c m f n (step.Enter o) h = cc
-op_stays c m f n (step.Take o) h = cc
-op_stays c m f n step.Leave h = cc
-op_stays c m f n step.Give h = cc
-op_stays c m f n step.Reg h = reg_op f f.stage n
-op_stays c m f n step.Probe h = either_op _ _ _ f.op refl refl
-op_stays c m f n step.Read h = read_op f f.op n
-op_stays c m f n (step.Look x) h = either_op _ _ _ f.op refl refl
-op_stays c m f n (step.Quar p v) h = freed_op f (cell_freed c.pages m.words f p v)
+op_stays c m f n (Step.Enter o) h = cc
+op_stays c m f n (Step.Take o) h = cc
+op_stays c m f n Step.Leave h = cc
+op_stays c m f n Step.Give h = cc
+op_stays c m f n Step.Reg h = reg_op f f.stage n
+op_stays c m f n Step.Probe h = either_op _ _ _ f.op refl refl
+op_stays c m f n Step.Read h = read_op f f.op n
+op_stays c m f n (Step.Look x) h = either_op _ _ _ f.op refl refl
+op_stays c m f n (Step.Quar p v) h = freed_op f (cell_freed c.pages m.words f p v)
 op_stays c m f n _ h = refl
 
 op_behind : (c : Config) (m : Moment) (seat : Seat) (s : Step) → Protocol c m → seat_exists c seat ≡ true
@@ -220,14 +189,14 @@ gates_still true t s u a stays all = still_stopped t.pass s u.pass a stays all
 gates_still false t s u a stays any = any
 
 pub turn_stays_too : (s : Step) → gates_stay s ≡ true → turn_stays s ≡ true
-turn_stays_too (step.Hold j) h = cc
-turn_stays_too (step.Open j) h = cc
+turn_stays_too (Step.Hold j) h = cc
+turn_stays_too (Step.Open j) h = cc
 turn_stays_too s h = h
 
 -- `hold` finds the gate open, or its caller in a call
-pub hold_finds : (p : PassState) (j n : ℕ) (q : PassState) → Tells p (step.Hold j) n q → n ≢ 0 → n ≡ 1
+pub hold_finds : (p : PassState) (j n : ℕ) (q : PassState) → Tells p (Step.Hold j) n q → n ≢ 0 → n ≡ 1
 hold_finds p j n q t some =
-    let d = made p (step.Hold j) q t.makes in
+    let d = made p (Step.Hold j) q t.makes in
     let lt : j < p.table.config.callers =
     ltb-true j p.table.config.callers
     (and_parts (nat_lt j p.table.config.callers) (not (is_number_of p.seat j)) d.meets.range).0 in
@@ -238,10 +207,10 @@ hold_finds p j n q t some =
     let is : n ≡ slice_index (moment_of t.makes).words.gates j = t.tells in
     omega arith
 
-pub hold_holds : (p : PassState) (j n : ℕ) (q : PassState) → Tells p (step.Hold j) n q → n ≡ 0
+pub hold_holds : (p : PassState) (j n : ℕ) (q : PassState) → Tells p (Step.Hold j) n q → n ≡ 0
     → is_held (now_of q).words j ≡ true
 hold_holds p j n q t none =
-    let d = made p (step.Hold j) q t.makes in
+    let d = made p (Step.Hold j) q t.makes in
     let c : Config = p.table.config in
     let lt : j < c.callers =
     ltb-true j c.callers (and_parts (nat_lt j c.callers) (not (is_number_of p.seat j)) d.meets.range).0 in
@@ -253,10 +222,10 @@ hold_holds p j n q t none =
     (get_or-set_same gs j (if slice_index gs j == 0 then 2 else slice_index gs j) 0 (omega arith)
     ∙ ap (λ (b : Bool). if b then 2 else slice_index gs j) (eq-eqb (slice_index gs j) 0 (sym t.tells ∙ none)))
 
-pub hold_misses : (p : PassState) (j n : ℕ) (q : PassState) → Tells p (step.Hold j) n q → n ≢ 0
+pub hold_misses : (p : PassState) (j n : ℕ) (q : PassState) → Tells p (Step.Hold j) n q → n ≢ 0
     → is_held (now_of q).words j ≡ false
 hold_misses p j n q t some =
-    let d = made p (step.Hold j) q t.makes in
+    let d = made p (Step.Hold j) q t.makes in
     let c : Config = p.table.config in
     let lt : j < c.callers =
     ltb-true j c.callers (and_parts (nat_lt j c.callers) (not (is_number_of p.seat j)) d.meets.range).0 in
@@ -282,8 +251,8 @@ all_from (suc n) test h = and_from (all_below n test) (test n) (all_from n test 
 
 -- a seat that takes the turn where it finds it free
 
-takes_for : (c : Config) (m : Moment) (seat : Seat) (o : Option Op) → is_open_to seat (group_of (step.Take o)) ≡ true
-    → is_in_order c m seat (step.Take o) ≡ true
+takes_for : (c : Config) (m : Moment) (seat : Seat) (o : Option Op) → is_open_to seat (group_of (Step.Take o)) ≡ true
+    → is_in_order c m seat (Step.Take o) ≡ true
     → (is_marker seat ≡ false) × (op_for seat (begun_for o) ≡ o)
 takes_for c m (Caller k) (Some o) kind order = (refl, refl)
 takes_for c m (Caller k) None kind order =
@@ -297,9 +266,9 @@ takes_for c m Host (Some o) kind order = absurd (never (host_has_turn c m) order
     never false e = cc
 
 takes_call : (c : Config) (m : Moment) (seat : Seat) (o : Option Op) → Protocol c m → seat_exists c seat ≡ true
-    → is_open_to seat (group_of (step.Take o)) ≡ true
-    → is_in_order c m seat (step.Take o) ≡ true → m.words.turn ≡ 0
-    → flight_of (Behind c m seat (step.Take o)) seat ≡ begun_for o
+    → is_open_to seat (group_of (Step.Take o)) ≡ true
+    → is_in_order c m seat (Step.Take o) ≡ true → m.words.turn ≡ 0
+    → flight_of (Behind c m seat (Step.Take o)) seat ≡ begun_for o
 takes_call c m (Caller k) (Some o) p exists kind order free =
     let lt : k < length m.seats.flights = subst (λ (i : ℕ). k < i) (sym p.callers) (ltb-true k c.callers exists) in
     get_or-set_same m.seats.flights k _ at_rest lt
@@ -321,7 +290,7 @@ none_held_free c m p free =
     (λ k lt. ap not (ne_eqb (slice_index m.words.gates k) 2 (λ two. (p.held k lt two).0 free)))
 
 -- nor is a stop on
-free_phase : (c : Config) (m : Moment) → Protocol c m → m.words.turn ≡ 0 → has_phase (phase_of m.words) step.Give ≡ true
+free_phase : (c : Config) (m : Moment) → Protocol c m → m.words.turn ≡ 0 → has_phase (phase_of m.words) Step.Give ≡ true
 free_phase c m p free =
     by (phase_of m.words) p.low (λ (two : 2 ≤ phase_of m.words) (four : phase_of m.words ≤ 4). p.cycle two four free)
   where
@@ -334,11 +303,11 @@ free_phase c m p free =
     by (suc (suc (suc (suc (suc zero))))) low out = refl
     by (suc (suc (suc (suc (suc (suc n)))))) low out = absurd (omega arith)
 
-module _ (p : PassState) (o : Option Op) (n : ℕ) (q : PassState) (t : Tells p (step.Take o) n q) where
-  e : Made p (step.Take o) q t.makes
-  e = made p (step.Take o) q t.makes
+module _ (p : PassState) (o : Option Op) (n : ℕ) (q : PassState) (t : Tells p (Step.Take o) n q) where
+  e : Made p (Step.Take o) q t.makes
+  e = made p (Step.Take o) q t.makes
 
-  pub take_finds : (found : ℕ) → n ≡ found → Finds p (step.Take o) found q
+  pub take_finds : (found : ℕ) → n ≡ found → Finds p (Step.Take o) found q
   take_finds found is = record { makes = t.makes; finds = sym is ∙ t.tells }
 
   module _ (none : n ≡ 0) where
@@ -354,7 +323,7 @@ module _ (p : PassState) (o : Option Op) (n : ℕ) (q : PassState) (t : Tells p 
         ∙ ap (λ (b : Bool). if b then 1 + holder_number c p.seat else m.words.turn) (eq-eqb m.words.turn 0 free) in
         let for = takes_for c m p.seat o e.meets.kind e.meets.order in
         let holds : Holds c (world_of q).now p.seat =
-        named_holds c (world_of q).now p.seat (protocol_now p (step.Take o) q t.makes) e.meets.seat for.0
+        named_holds c (world_of q).now p.seat (protocol_now p (Step.Take o) q t.makes) e.meets.seat for.0
         named in
         let call : flight_of (world_of q).now p.seat ≡ begun_for o =
         ap (λ (w : World). flight_of w.now p.seat) e.world
@@ -383,7 +352,7 @@ module _ (p : PassState) (o : Option Op) (n : ℕ) (q : PassState) (t : Tells p 
               ap (λ (r : PassState). none_is_held r.table.config.callers (world_of q).now.words) t.makes.is
               ∙ ap (λ (w : World). none_is_held c.callers w.now.words) e.world
               ∙ none_held_free c m e.protocol free;
-          phase = ap (λ (w : World). has_phase (phase_of w.now.words) step.Give) e.world
+          phase = ap (λ (w : World). has_phase (phase_of w.now.words) Step.Give) e.world
               ∙ free_phase c m e.protocol free;
           held = ap (λ (w : World). w.now.words.held) e.world
               ∙ (free_tallies c (p.seen ++ t.makes.others) e.history e.protocol free).0
@@ -401,29 +370,29 @@ same_flights c m k o n some =
     ap (λ (x : Progress). slice_set m.seats.flights k x.flight) (waits (flight_of m (Caller k)) o n n refl some)
     ∙ set-get_or m.seats.flights k at_rest
 
-missed : (c : Config) (m : Moment) (seat : Seat) (o : Option Op) → is_open_to seat (group_of (step.Take o)) ≡ true
-    → is_in_order c m seat (step.Take o) ≡ true
-    → m.words.turn ≢ 0 → Behind c m seat (step.Take o) ≡ m
+missed : (c : Config) (m : Moment) (seat : Seat) (o : Option Op) → is_open_to seat (group_of (Step.Take o)) ≡ true
+    → is_in_order c m seat (Step.Take o) ≡ true
+    → m.words.turn ≢ 0 → Behind c m seat (Step.Take o) ≡ m
 missed c m seat o kind order some =
     ap (λ (t : ℕ). record {
       words = record m.words { turn = t };
-      seats = (Behind c m seat (step.Take o)).seats;
+      seats = (Behind c m seat (Step.Take o)).seats;
       fresh_words = m.fresh_words;
     })
     (ap (λ (b : Bool). if b then 1 + holder_number c seat else m.words.turn) (ne_eqb m.words.turn 0 some))
     ∙ ap (λ (h : Holding). record {
       words = m.words;
-      seats = record (Behind c m seat (step.Take o)).seats { holding = h };
+      seats = record (Behind c m seat (Step.Take o)).seats { holding = h };
       fresh_words = m.fresh_words;
     })
     (ap (λ (b : Bool). if b then nothing_done else m.seats.holding) (ne_eqb m.words.turn 0 some))
     ∙ by seat o kind order
   where
-    by : (seat : Seat) (o : Option Op) → is_open_to seat (group_of (step.Take o)) ≡ true
-        → is_in_order c m seat (step.Take o) ≡ true
+    by : (seat : Seat) (o : Option Op) → is_open_to seat (group_of (Step.Take o)) ≡ true
+        → is_in_order c m seat (Step.Take o) ≡ true
         → record {
           words = m.words;
-          seats = record (Behind c m seat (step.Take o)).seats { holding = m.seats.holding };
+          seats = record (Behind c m seat (Step.Take o)).seats { holding = m.seats.holding };
           fresh_words = m.fresh_words;
         } ≡ m
     by (Caller k) (Some o) kind order =
@@ -436,31 +405,31 @@ missed c m seat o kind order some =
     by (Marker k) o kind order = cc
     by Host o kind order = refl
 
-pub take_waits : (p : PassState) (o : Option Op) (n : ℕ) (q : PassState) → Tells p (step.Take o) n q → n ≢ 0
-    → (call_of q ≡ call_of p) × IsEnabledTo q (step.Take o)
+pub take_waits : (p : PassState) (o : Option Op) (n : ℕ) (q : PassState) → Tells p (Step.Take o) n q → n ≢ 0
+    → (call_of q ≡ call_of p) × IsEnabledTo q (Step.Take o)
 take_waits p o n q t some =
     let c : Config = p.table.config in
-    let x = made p (step.Take o) q t.makes in
+    let x = made p (Step.Take o) q t.makes in
     let m : Moment = moment_of t.makes in
     let other : m.words.turn ≢ 0 = λ z. some (t.tells ∙ z) in
     let same : now_of q ≡ m = ap (λ (w : World). w.now) x.world
     ∙ missed c m p.seat o x.meets.kind x.meets.order other in (
       ap (λ (s : Seat). flight_of (now_of q) s) x.seat ∙ ap (λ (y : Moment). flight_of y p.seat) same
           ∙ x.frame.own.flight,
-      subst (λ (r : PassState). IsEnabled r.table.config (now_of q) (event_of r (step.Take o))) (sym t.makes.is)
-          (subst (λ (y : Moment). IsEnabled c y (event_of p (step.Take o))) (sym same)
-          (meets_enabled c m (event_of p (step.Take o)) x.meets)),
+      subst (λ (r : PassState). IsEnabled r.table.config (now_of q) (event_of r (Step.Take o))) (sym t.makes.is)
+          (subst (λ (y : Moment). IsEnabled c y (event_of p (Step.Take o))) (sym same)
+          (meets_enabled c m (event_of p (Step.Take o)) x.meets)),
     )
 
 -- where the turn is taken, the tallies are those of the counts
-pub take_counts : (p : PassState) (o : Option Op) (n : ℕ) (q : PassState) → Tells p (step.Take o) n q
+pub take_counts : (p : PassState) (o : Option Op) (n : ℕ) (q : PassState) → Tells p (Step.Take o) n q
     → IsTidy q.table.config q.seen → n ≡ 0
     → TalliesAreExact q.table.config q.seen × TalliesAreTidy q.table.config q.seen
 take_counts p o n q t tidy none =
     let c : Config = p.table.config in
     let es : List Event = p.seen ++ t.makes.others in
-    let e : Event = event_of p (step.Take o) in
-    let x = made p (step.Take o) q t.makes in
+    let e : Event = event_of p (Step.Take o) in
+    let x = made p (Step.Take o) q t.makes in
     let free : (left c es).now.words.turn ≡ 0 = sym t.tells ∙ none in
     let told = tallies_tell c es x.history free in
     let nothing = others_count_nothing c (left c es) e x.known x.meets free in
@@ -471,14 +440,14 @@ take_counts p o n q t tidy none =
     (exact_more c es e nothing told.0, counts_tidy_more c es e nothing (told.1 (tidy_part c es (e ∷ []) whole_tidy)))
 
 -- `give`
-pub gives_rest : (p : PassState) (q : PassState) (m : Makes p step.Give q) → call_of q ≡ at_rest
+pub gives_rest : (p : PassState) (q : PassState) (m : Makes p Step.Give q) → call_of q ≡ at_rest
 gives_rest p q m =
-    let d = made p step.Give q m in
+    let d = made p Step.Give q m in
     ap (λ (s : Seat). flight_of (world_of q).now s) d.seat ∙ ap (λ (w : World). flight_of w.now p.seat) d.world
     ∙ by p.seat d.meets.seat d.protocol
   where
     by : (s : Seat) → seat_exists p.table.config s ≡ true → Protocol p.table.config (moment_of m)
-        → flight_of (Behind p.table.config (moment_of m) s step.Give) s ≡ at_rest
+        → flight_of (Behind p.table.config (moment_of m) s Step.Give) s ≡ at_rest
     by (Caller k) exists protocol =
         get_or-set_same (moment_of m).seats.flights k _ at_rest
         (subst (λ (i : ℕ). k < i) (sym protocol.callers) (ltb-true k p.table.config.callers exists))

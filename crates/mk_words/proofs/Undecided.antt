@@ -1,27 +1,11 @@
 -- A step that decides no call is admitted.
-use Rattle.std.proofs.Common.{◌≡◌, ℕ, Bool, true, false, List, [], ◌∷◌, ◌++◌, Option, refl, sym, ◌∙◌, ap, subst}
-use Rattle.std.proofs.Common.{append-nil, inl, inr}
-use Rattle.std.specs.Prelude.{Some, None, if◌then◌else◌, ◌==◌}
-use Rattle.std.proofs.lemmas.Bool.{cases_Bool}
-use Rattle.mk_never.specs.declared.operations.Op.{Op}
-use Rattle.mk_never.specs.Admitted.{AreAdmitted}
-use Rattle.mk_core.specs.declared.config.Config.{Config}
-use Rattle.mk_core.specs.declared.events.Answer.{Answer}
-use Rattle.mk_core.specs.declared.events.Seat.{Seat}
-use Rattle.mk_core.specs.declared.events.Seat.TheVariants as seat
-use Rattle.mk_core.specs.declared.events.Word.TheVariants as word
-use Rattle.mk_core.specs.declared.events.Step.{Step}
-use Rattle.mk_core.specs.declared.events.Step.TheVariants as step
-use Rattle.mk_core.specs.declared.events.Event.{Event}
-use Rattle.mk_core.specs.declared.seats.Flight.{Flight}
-use Rattle.mk_core.specs.Accesses.{caller_number}
-use Rattle.mk_core.specs.Decided.{Decided, entry_of, asked}
-use Rattle.mk_core.specs.Moments.{Moment, flight_of}
-use Rattle.mk_core.specs.Effects.{progress, begins_where_free, answer_decided}
-use Rattle.mk_core.specs.History.{first_world, left, calls, never_first, IsHistory}
-use Rattle.mk_core.proofs.Histories.{calls_more}
-use Rattle.mk_words.specs.States.{PassState, event_of}
-use Rattle.mk_words.specs.Steps.{may_decide, IsAdmittedTo}
+use Rattle.mk_laws.proofs.Vocabulary.{Answer, AreAdmitted, Bool, Config, Decided, Event, Flight, IsHistory, List}
+use Rattle.mk_laws.proofs.Vocabulary.{Moment, None, Op, Option, Seat, Some, Step, Word, ℕ, answer_decided, ap}
+use Rattle.mk_laws.proofs.Vocabulary.{append-nil, asked, caller_number, calls, cases_Bool, entry_of, false, first_world}
+use Rattle.mk_laws.proofs.Vocabulary.{flight_of, if◌then◌else◌, inl, inr, left, progress, refl, subst, sym, true, []}
+use Rattle.mk_laws.proofs.Vocabulary.{◌++◌, ◌==◌, ◌∙◌, ◌∷◌, ◌≡◌}
+use Rattle.mk_core.{proofs.Histories.calls_more, specs.Effects.begins_where_free, specs.History.never_first}
+use Rattle.mk_words.specs.{States.PassState, States.event_of, Steps.IsAdmittedTo, Steps.may_decide}
 
 begins_undecided : (f : Flight) (o : Op) (n : ℕ) → (begins_where_free f o n).answer ≡ None
 begins_undecided f o n = by (n == 0)
@@ -32,27 +16,27 @@ begins_undecided f o n = by (n == 0)
 
 goes_undecided : (c : Config) (m : Moment) (f : Flight) (n : ℕ) (s : Step) → may_decide s ≡ false
     → (progress c m f n s).answer ≡ None
-goes_undecided c m f n (step.Enter o) h = begins_undecided f o n
-goes_undecided c m f n (step.Take (Some o)) h = begins_undecided f o n
-goes_undecided c m f n (step.Look (word.Quar p)) h = cc
-goes_undecided c m f n (step.Look x) h = refl
-goes_undecided c m f n step.Reg h = cc
-goes_undecided c m f n step.Probe h = cc
-goes_undecided c m f n step.Read h = cc
-goes_undecided c m f n step.Write h = cc
-goes_undecided c m f n step.Cas h = cc
-goes_undecided c m f n step.Getg h = cc
-goes_undecided c m f n step.Setg h = cc
-goes_undecided c m f n (step.Quar p v) h = cc
-goes_undecided c m f n step.Grant h = cc
-goes_undecided c m f n step.Full h = cc
+goes_undecided c m f n (Step.Enter o) h = begins_undecided f o n
+goes_undecided c m f n (Step.Take (Some o)) h = begins_undecided f o n
+goes_undecided c m f n (Step.Look (Word.Quar p)) h = cc
+goes_undecided c m f n (Step.Look x) h = refl
+goes_undecided c m f n Step.Reg h = cc
+goes_undecided c m f n Step.Probe h = cc
+goes_undecided c m f n Step.Read h = cc
+goes_undecided c m f n Step.Write h = cc
+goes_undecided c m f n Step.Cas h = cc
+goes_undecided c m f n Step.Getg h = cc
+goes_undecided c m f n Step.Setg h = cc
+goes_undecided c m f n (Step.Quar p v) h = cc
+goes_undecided c m f n Step.Grant h = cc
+goes_undecided c m f n Step.Full h = cc
 goes_undecided c m f n _ h = refl
 
 pub decides_nothing : (c : Config) (m : Moment) (s : Seat) (x : Step) → may_decide x ≡ false
     → answer_decided c m (record { seat = s; step = x }) ≡ None
-decides_nothing c m (seat.Caller k) x h = goes_undecided c m (flight_of m (seat.Caller k)) _ x h
-decides_nothing c m (seat.Marker k) x h = refl
-decides_nothing c m seat.Host x h = refl
+decides_nothing c m (Seat.Caller k) x h = goes_undecided c m (flight_of m (Seat.Caller k)) _ x h
+decides_nothing c m (Seat.Marker k) x h = refl
+decides_nothing c m Seat.Host x h = refl
 
 no_more_calls : (c : Config) (es : List Event) (e : Event) → answer_decided c (left c es).now e ≡ None
     → calls c (es ++ e ∷ []) ≡ calls c es

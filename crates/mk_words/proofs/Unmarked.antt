@@ -1,64 +1,37 @@
 -- A page without a header gets no marks, but by a `mark` of the turn's holder, which comes before its header.
-use Rattle.std.proofs.Common.{◌≡◌, ◌≢◌, ℕ, zero, suc, ◌-◌, Bool, true, false, List, [], ◌∷◌, ◌++◌, length, refl, sym}
-use Rattle.std.proofs.Common.{◌∙◌}
-use Rattle.std.proofs.Common.{ap, subst, inl, inr, arith}
-use Rattle.std.specs.Prelude.{◌^◌, ◌&&◌, ◌==◌, Option, Some, None, is_some, is_none, not, slice_index, slice_set}
-use Rattle.std.specs.Prelude.{if◌then◌else◌}
-use Rattle.std.proofs.lemmas.Bool.{cases_Bool, cases_eq, cases_lt, and_parts, eqb-true, ltb-true, true≢false}
-use Rattle.std.proofs.lemmas.List.{get_or-set_other, get_or-set_same, set_past}
-use Rattle.mk_geom.specs.declared.addresses.Cell.{Cell}
-use Rattle.mk_geom.specs.declared.headers.Header.{Header}
-use Rattle.mk_geom.specs.declared.headers.Header.TheVariants.{Free, Block, Run, Later, LeafBlock, LeafRun}
-use Rattle.mk_geom.specs.Addresses.{cell_at, cell_under, page_at_address, word_at_address}
-use Rattle.mk_geom.specs.Headers.{header_of}
-use Rattle.mk_core.specs.declared.config.Config.{Config}
-use Rattle.mk_core.specs.declared.events.Event.{Event}
-use Rattle.mk_core.specs.declared.events.Group.TheVariants as group
-use Rattle.mk_core.specs.declared.events.Seat.{Seat}
-use Rattle.mk_core.specs.declared.events.Seat.TheVariants.{Caller, Host, Marker}
-use Rattle.mk_core.specs.declared.events.Step.{Step}
-use Rattle.mk_core.specs.declared.events.Step.TheVariants as step
-use Rattle.mk_core.specs.declared.seats.RunPages.{RunPages}
-use Rattle.mk_core.specs.declared.seats.Scan.{Scan}
-use Rattle.mk_core.specs.declared.seats.SeenHeader.{SeenHeader}
-use Rattle.mk_core.specs.declared.seats.Marker.{Marker as MarkerState}
-use Rattle.mk_core.specs.Accesses.{scan_page, seen_page}
-use Rattle.mk_core.specs.Bounded.{all_below}
-use Rattle.mk_core.specs.Cells.{cells_under, header_in, pointed_cell, run_headed}
-use Rattle.mk_core.specs.History.{IsHistory, left, first_world}
-use Rattle.mk_core.specs.MarkerConditions.{cell_seen, is_scanned}
-use Rattle.mk_core.specs.Moments.{Moment, marker_at, marker_of}
-use Rattle.mk_core.specs.Order.{group_of}
-use Rattle.mk_core.specs.Readings.{WordsTellWhatStands}
-use Rattle.mk_core.specs.StopConditions.{blackens, is_attending, may_black, may_turn_black, none_attends}
-use Rattle.mk_core.specs.Words.{Words, header_at, phase_of}
-use Rattle.mk_core.proofs.Conditions.{enabled_meets}
-use Rattle.mk_core.proofs.Histories.{last_enabled}
-use Rattle.mk_core.proofs.HistoryParts.{earlier_part_is_history}
-use Rattle.mk_core.proofs.PointedPages.{found_under, lies_under}
+use Rattle.mk_laws.proofs.Vocabulary.{Block, Bool, Caller, Cell, Config, Event, Free, Group, Header, Host, IsHistory}
+use Rattle.mk_laws.proofs.Vocabulary.{IsMarking, Later, LeafBlock, LeafRun, List, Marker, MarkerStands, MarkerState}
+use Rattle.mk_laws.proofs.Vocabulary.{Moment, None, Option, Run, RunPages, Scan, Seat, SeenHeader, Some, Step, Words, ℕ}
+use Rattle.mk_laws.proofs.Vocabulary.{and_parts, ap, arith, cases_Bool, cases_eq, cases_lt, cell_at, cell_seen}
+use Rattle.mk_laws.proofs.Vocabulary.{cells_under, earlier_part_is_history, enabled_meets, eqb-true, false, first_world}
+use Rattle.mk_laws.proofs.Vocabulary.{get_or-set_other, get_or-set_same, group_of, header_at, header_in, header_of}
+use Rattle.mk_laws.proofs.Vocabulary.{if◌then◌else◌, inl, inr, is_attending, is_none, is_scanned, is_some, left, length}
+use Rattle.mk_laws.proofs.Vocabulary.{ltb-true, marker_at, marker_of, none_attends, not, page_at_address, phase_of}
+use Rattle.mk_laws.proofs.Vocabulary.{refl, run_headed, scan_page, seen_page, set_past, slice_index, slice_set, subst}
+use Rattle.mk_laws.proofs.Vocabulary.{suc, sym, true, true≢false, zero, [], ◌&&◌, ◌++◌, ◌-◌, ◌==◌, ◌^◌, ◌∙◌, ◌∷◌, ◌≡◌}
+use Rattle.mk_laws.proofs.Vocabulary.{◌≢◌}
+use Rattle.mk_geom.specs.Addresses.{cell_under, word_at_address}
+use Rattle.mk_core.proofs.{Histories.last_enabled, PointedPages.found_under, PointedPages.lies_under}
+use Rattle.mk_core.specs.StopConditions.{blackens, may_black, may_turn_black}
+use Rattle.mk_core.specs.{Bounded.all_below, Cells.pointed_cell, Readings.WordsTellWhatStands}
 use Rattle.mk_laws.proofs.Actors.{Actor, AsHolder, AsMarker, CallTakes, HostTakes, InCallOf, Meets}
-use Rattle.mk_laws.proofs.IdleMarkers.{work_attends}
-use Rattle.mk_laws.proofs.Known.{Known, known_left}
-use Rattle.mk_laws.proofs.OrderlyLists.{actor_of}
-use Rattle.mk_laws.proofs.SameWords.{Behind}
-use Rattle.mk_laws.proofs.Views.{HoldsTurn, view_of}
-use Rattle.mk_laws.specs.Guard.{IsMarking, MarkerStands}
 use Rattle.mk_laws.proofs.Changes.{Table, reg_table, tally_table}
 use Rattle.mk_laws.proofs.InvariantHistories.{histories_keep_the_invariant}
-use Rattle.mk_laws.proofs.ReadingsStands.{headers_and_quarantine_tell}
+use Rattle.mk_laws.proofs.{IdleMarkers.work_attends, Known.Known, Known.known_left, OrderlyLists.actor_of}
+use Rattle.mk_laws.proofs.{ReadingsStands.headers_and_quarantine_tell, SameWords.Behind, Views.HoldsTurn, Views.view_of}
 use Rattle.mk_words.specs.PageMaps.{HasNoMarks}
 
 -- a `mark` of the turn's holder
 abbrev pub is_mark : Step → Bool
-is_mark (step.Mark p v) = true
+is_mark (Step.Mark p v) = true
 is_mark _ = false
 
 -- the page on which a step marks or blackens cells
 abbrev pub page_coloured : Config → Moment → Seat → Step → Option ℕ
-page_coloured c m seat (step.Mark p v) = Some p
-page_coloured c m seat (step.Black p v) = Some p
-page_coloured c m seat step.Mmark = Some (seen_page (cell_seen c (marker_at m seat).seen (marker_at m seat).hand))
-page_coloured c m seat step.Mblack = Some (scan_page (marker_at m seat).scan)
+page_coloured c m seat (Step.Mark p v) = Some p
+page_coloured c m seat (Step.Black p v) = Some p
+page_coloured c m seat Step.Mmark = Some (seen_page (cell_seen c (marker_at m seat).seen (marker_at m seat).hand))
+page_coloured c m seat Step.Mblack = Some (scan_page (marker_at m seat).scan)
 page_coloured c m seat _ = None
 
 -- All other pages stay unmarked.
@@ -78,24 +51,24 @@ elsewhere ws p q v ne z = get_or-set_other ws p q v 0 ne ∙ z
 pub stays_unmarked : (c : Config) (m : Moment) (seat : Seat) (s : Step) (q : ℕ)
     → ((p : ℕ) → page_coloured c m seat s ≡ Some p → q ≢ p) → HasNoMarks m.words q
     → HasNoMarks (Behind c m seat s).words q
-stays_unmarked c m seat (step.Mark p v) q other h =
+stays_unmarked c m seat (Step.Mark p v) q other h =
     record { unmarked = elsewhere m.words.marks p q _ (other p refl) h.unmarked; unscanned = h.unscanned }
-stays_unmarked c m seat (step.Black p v) q other h =
+stays_unmarked c m seat (Step.Black p v) q other h =
     record { unmarked = h.unmarked; unscanned = elsewhere m.words.blacks p q _ (other p refl) h.unscanned }
-stays_unmarked c m seat step.Mmark q other h =
+stays_unmarked c m seat Step.Mmark q other h =
     record { unmarked = elsewhere m.words.marks _ q _ (other _ refl) h.unmarked; unscanned = h.unscanned }
-stays_unmarked c m seat step.Mblack q other h =
+stays_unmarked c m seat Step.Mblack q other h =
     record { unmarked = h.unmarked; unscanned = elsewhere m.words.blacks _ q _ (other _ refl) h.unscanned }
-stays_unmarked c m seat (step.Clear p) q other h =
+stays_unmarked c m seat (Step.Clear p) q other h =
     record { unmarked = cleared m.words.marks p q h.unmarked; unscanned = h.unscanned }
-stays_unmarked c m seat (step.Unblack p) q other h =
+stays_unmarked c m seat (Step.Unblack p) q other h =
     record { unmarked = h.unmarked; unscanned = cleared m.words.blacks p q h.unscanned }
-stays_unmarked c m seat step.Reg q other h =
+stays_unmarked c m seat Step.Reg q other h =
     record {
       unmarked = ap (λ (t : Table). slice_index t.marks q) (reg_table c m seat) ∙ h.unmarked;
       unscanned = ap (λ (t : Table). slice_index t.blacks q) (reg_table c m seat) ∙ h.unscanned;
     }
-stays_unmarked c m seat (step.Tally n v) q other h =
+stays_unmarked c m seat (Step.Tally n v) q other h =
     record {
       unmarked = ap (λ (t : Table). slice_index t.marks q) (tally_table m.words n v) ∙ h.unmarked;
       unscanned = ap (λ (t : Table). slice_index t.blacks q) (tally_table m.words n v) ∙ h.unscanned;
@@ -223,11 +196,11 @@ module _ (c : Config) (es : List Event) (h : IsHistory c es) where
       under.1
       (subst (λ (q : ℕ). cell_under under.0 q (word_at_address value) ≡ Some cell) (sym at) under.2)
 
-  mark_has_header : (k : ℕ) → Meets c m (Marker k) step.Mmark
+  mark_has_header : (k : ℕ) → Meets c m (Marker k) Step.Mmark
       → header_at m.words (seen_page (cell_seen c (marker_of m k).seen (marker_of m k).hand)) ≢ 0
   mark_has_header k meets =
       let x : MarkerState = marker_of m k in
-      let st = stands k (work_attends c x step.Mmark (known.orderly.idle k) meets.marker refl) in
+      let st = stands k (work_attends c x Step.Mmark (known.orderly.idle k) meets.marker refl) in
       let at = seen_where c x.seen x.hand meets.marker in
       let s : SeenHeader = at.0 in
       let v : ℕ = at.1 in
@@ -252,32 +225,32 @@ module _ (c : Config) (es : List Event) (h : IsHistory c es) where
 
   pub coloured_has_header : (seat : Seat) (s : Step) (p : ℕ) → Meets c m seat s → is_mark s ≡ false
       → page_coloured c m seat s ≡ Some p → header_at m.words p ≢ 0
-  coloured_has_header seat (step.Mark q v) p meets unmarks is = cc
-  coloured_has_header seat (step.Black q v) p meets unmarks is =
+  coloured_has_header seat (Step.Mark q v) p meets unmarks is = cc
+  coloured_has_header seat (Step.Black q v) p meets unmarks is =
       let e : q ≡ p = cc in
       subst (λ r. header_at m.words r ≢ 0) e (black_has_header c m q v meets.holder)
-  coloured_has_header (Marker k) step.Mmark p meets unmarks is =
+  coloured_has_header (Marker k) Step.Mmark p meets unmarks is =
       let e : seen_page (cell_seen c (marker_of m k).seen (marker_of m k).hand) ≡ p = cc in
       subst (λ r. header_at m.words r ≢ 0) e (mark_has_header k meets)
-  coloured_has_header (Marker k) step.Mblack p meets unmarks is =
+  coloured_has_header (Marker k) Step.Mblack p meets unmarks is =
       let x : MarkerState = marker_of m k in
       let e : scan_page x.scan ≡ p = cc in
-      let st = stands k (work_attends c x step.Mblack (known.orderly.idle k) meets.marker refl) in
+      let st = stands k (work_attends c x Step.Mblack (known.orderly.idle k) meets.marker refl) in
       subst (λ r. header_at m.words r ≢ 0) e
       (scan_has_header x x.scan refl (and_parts (is_scanned x.scan) (is_none x.hand) meets.marker).0 st.1)
-  coloured_has_header (Caller k) step.Mmark p meets unmarks is = let kind = meets.kind in cc
-  coloured_has_header Host step.Mmark p meets unmarks is = let kind = meets.kind in cc
-  coloured_has_header (Caller k) step.Mblack p meets unmarks is = let kind = meets.kind in cc
-  coloured_has_header Host step.Mblack p meets unmarks is = let kind = meets.kind in cc
+  coloured_has_header (Caller k) Step.Mmark p meets unmarks is = let kind = meets.kind in cc
+  coloured_has_header Host Step.Mmark p meets unmarks is = let kind = meets.kind in cc
+  coloured_has_header (Caller k) Step.Mblack p meets unmarks is = let kind = meets.kind in cc
+  coloured_has_header Host Step.Mblack p meets unmarks is = let kind = meets.kind in cc
   coloured_has_header seat _ p meets unmarks is = cc
 
 -- Nobody but the turn's holder makes a `mark`.
-of_callers : (s : Step) → group_of s ≡ group.Callers → is_mark s ≡ false
-of_callers (step.Mark p v) is = cc
+of_callers : (s : Step) → group_of s ≡ Group.Callers → is_mark s ≡ false
+of_callers (Step.Mark p v) is = cc
 of_callers _ is = refl
 
-of_markers : (s : Step) → group_of s ≡ group.Markers → is_mark s ≡ false
-of_markers (step.Mark p v) is = cc
+of_markers : (s : Step) → group_of s ≡ Group.Markers → is_mark s ≡ false
+of_markers (Step.Mark p v) is = cc
 of_markers _ is = refl
 
 pub others_unmark : (c : Config) (m : Moment) (seat : Seat) (s : Step) → Known c m → Meets c m seat s

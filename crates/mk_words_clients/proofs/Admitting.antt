@@ -1,19 +1,10 @@
 -- Which steps are admitted: those whose operation is, where the call is decided.
-use Rattle.std.proofs.Common.{◌≡◌, List, [], ◌∷◌, ◌++◌, Option, sym, ◌∙◌, ap, subst, append-nil, append_assoc}
-use Rattle.std.specs.Prelude.{Some, None}
-use Rattle.mk_never.specs.declared.operations.Op.{Op}
-use Rattle.mk_never.specs.Admitted.{IsAdmitted, AreAdmitted}
-use Rattle.mk_core.specs.declared.config.Config.{Config}
-use Rattle.mk_core.specs.declared.events.Answer.{Answer}
-use Rattle.mk_core.specs.declared.events.Seat.{Seat}
-use Rattle.mk_core.specs.declared.events.Event.{Event}
-use Rattle.mk_core.specs.declared.events.Step.{Step}
-use Rattle.mk_core.specs.Accesses.{caller_number}
-use Rattle.mk_core.specs.Decided.{Decided, flagged, entry_of, asked}
-use Rattle.mk_core.specs.Effects.{answer_decided}
-use Rattle.mk_core.specs.History.{left, calls_from, call_decided, never_behind, IsHistory}
-use Rattle.mk_core.proofs.HistoryParts.{admitted_in_parts}
-use Rattle.mk_words.specs.States.{PassState, now_of, call_of, event_of}
+use Rattle.mk_laws.proofs.Vocabulary.{Answer, AreAdmitted, Config, Decided, Event, IsAdmitted, IsHistory, List, None}
+use Rattle.mk_laws.proofs.Vocabulary.{Op, Option, Seat, Some, Step, admitted_in_parts, answer_decided, ap, append-nil}
+use Rattle.mk_laws.proofs.Vocabulary.{append_assoc, asked, call_decided, caller_number, entry_of, flagged, left}
+use Rattle.mk_laws.proofs.Vocabulary.{never_behind, subst, sym, [], ◌++◌, ◌∙◌, ◌∷◌, ◌≡◌}
+use Rattle.mk_core.specs.History.{calls_from}
+use Rattle.mk_words.specs.States.{PassState, call_of, event_of, now_of}
 use Rattle.mk_words.specs.Steps.{IsAdmittedTo, Makes}
 use Rattle.mk_words_clients.specs.Clients.{StaysAdmitted}
 

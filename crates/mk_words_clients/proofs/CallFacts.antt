@@ -1,28 +1,12 @@
 -- What a caller's call needs at each of its steps.
-use Rattle.std.proofs.Common.{◌≡◌, ℕ, ◌<◌, true, List, [], ◌∷◌, ◌++◌, sym, ◌∙◌, ap, subst, append-nil, append_assoc}
-use Rattle.std.specs.Prelude.{None}
-use Rattle.mk_never.specs.declared.operations.Op.{Op}
-use Rattle.mk_never.specs.Admitted.{IsAdmitted}
-use Rattle.mk_core.specs.declared.config.Config.{Config}
-use Rattle.mk_core.specs.declared.events.Answer.{Answer}
-use Rattle.mk_core.specs.declared.events.Seat.TheVariants.{Caller}
-use Rattle.mk_core.specs.declared.events.Event.{Event}
-use Rattle.mk_core.specs.declared.events.Step.{Step}
-use Rattle.mk_core.specs.declared.events.Step.TheVariants as step
-use Rattle.mk_core.specs.declared.events.Group.TheVariants as group
-use Rattle.mk_core.specs.declared.seats.Flight.{Flight}
-use Rattle.mk_core.specs.declared.seats.Progress.{Progress}
-use Rattle.mk_core.specs.Accesses.{caller_number}
-use Rattle.mk_core.specs.Calls.{begun, at_rest}
-use Rattle.mk_core.specs.Decided.{flagged}
-use Rattle.mk_core.specs.History.{never_behind, IsHistory}
-use Rattle.mk_core.specs.Order.{group_of, comes_next}
-use Rattle.mk_core.specs.Ranges.{is_in_range}
+use Rattle.mk_laws.proofs.Vocabulary.{Answer, Caller, Config, Event, Flight, Group, IsAdmitted, IsHistory, List, None}
+use Rattle.mk_laws.proofs.Vocabulary.{Op, Progress, Step, ℕ, ap, append-nil, append_assoc, at_rest, begun}
+use Rattle.mk_laws.proofs.Vocabulary.{caller_number, comes_next, flagged, group_of, is_in_range, never_behind, subst}
+use Rattle.mk_laws.proofs.Vocabulary.{sym, true, [], ◌++◌, ◌<◌, ◌∙◌, ◌∷◌, ◌≡◌}
+use Rattle.mk_words.specs.Steps.{Goes, IsAdmittedTo, IsEnabledTo, Makes}
 use Rattle.mk_words.specs.States.{PassState, WordsState, event_of}
-use Rattle.mk_words.specs.Steps.{IsEnabledTo, IsAdmittedTo, Makes, Goes}
+use Rattle.mk_words_clients.proofs.{Admitting.op_step, Enabling.call_step}
 use Rattle.mk_words_clients.specs.Clients.{IsCallers, IsMidCall, StaysAdmitted}
-use Rattle.mk_words_clients.proofs.Admitting.{op_step}
-use Rattle.mk_words_clients.proofs.Enabling.{call_step}
 
 behind : (p : PassState) (others : List Event) (e : Event) (o : Op) → StaysAdmitted p o
     → StaysAdmitted (record p { seen = p.seen ++ others ++ e ∷ [] }) o
@@ -48,7 +32,7 @@ admitted_now p o f s i op_is h plain =
     op_step p s h (λ a. subst (λ (x : Op). IsAdmitted c.globals (never_behind c p.seen) (caller_number p.seat) x)
     (sym (ap (λ (y : Op). flagged y a) (ap (λ (y : Flight). y.op) i.call ∙ op_is) ∙ plain a)) here)
 
-pub next_may : (p : PassState) (o : Op) (f : Flight) (s : Step) → IsMidCall p o f → group_of s ≡ group.Callers
+pub next_may : (p : PassState) (o : Op) (f : Flight) (s : Step) → IsMidCall p o f → group_of s ≡ Group.Callers
     → comes_next f.stage f.op s ≡ true
     → ((k : ℕ) → is_in_range p.table.config (Caller k) f s ≡ true) → IsEnabledTo p s
 next_may p o f s i kind next range = call_step p s i.number f i.seat i.within i.call kind next (range i.number)
@@ -66,7 +50,7 @@ goes_on p q s x o f g i goes is =
     }
 
 pub enters : (p q : PassState) (o : Op) → IsCallers p → StaysAdmitted p o
-    → Goes p (step.Enter o) (record { flight = begun o; answer = None }) q → IsMidCall q o (begun o)
+    → Goes p (Step.Enter o) (record { flight = begun o; answer = None }) q → IsMidCall q o (begun o)
 enters p q o i stays goes =
     record {
       number = i.number;
@@ -74,11 +58,11 @@ enters p q o i stays goes =
       within = subst (λ (t : WordsState). i.number < t.config.callers)
           (sym (ap (λ (r : PassState). r.table) goes.makes.is)) i.within;
       call = goes.call;
-      admitted = stays_on p q (step.Enter o) o goes.makes stays;
+      admitted = stays_on p q (Step.Enter o) o goes.makes stays;
     }
 
 pub ends : (p q : PassState) (o : Op) (f : Flight) → IsMidCall p o f
-    → Goes p step.Leave (record { flight = at_rest; answer = None }) q → IsCallers q
+    → Goes p Step.Leave (record { flight = at_rest; answer = None }) q → IsCallers q
 ends p q o f i goes =
     record {
       number = i.number;

@@ -1,83 +1,70 @@
 -- Which steps a pass may make, by the conditions of their kinds.
-use Rattle.mk_core.specs.declared.seats.Marker.{Marker as MarkerState}
-use Rattle.std.proofs.Common.{◌≡◌, ℕ, ◌<◌, true, refl, sym, ◌∙◌, ap}
-use Rattle.std.proofs.lemmas.Bool.{lt-ltb}
-use Rattle.mk_core.specs.declared.config.Config.{Config}
-use Rattle.mk_core.specs.declared.events.Seat.{Seat}
-use Rattle.mk_core.specs.declared.events.Seat.TheVariants.{Caller}
-use Rattle.mk_core.specs.declared.events.Step.{Step}
-use Rattle.mk_core.specs.declared.events.Step.TheVariants as step
-use Rattle.mk_core.specs.declared.events.Group.{Group}
-use Rattle.mk_core.specs.declared.events.Group.TheVariants as group
-use Rattle.mk_core.specs.declared.seats.Flight.{Flight}
-use Rattle.mk_core.specs.Words.{Words, phase_of}
-use Rattle.mk_core.specs.Moments.{Moment, flight_of, marker_at}
-use Rattle.mk_core.specs.Order.{seat_exists, group_of, is_open_to, is_in_order, comes_next}
-use Rattle.mk_core.specs.Ranges.{is_in_range, has_gates, has_phase}
-use Rattle.mk_core.specs.Enabled.{marker_may, holder_may}
-use Rattle.mk_core.proofs.Conditions.{meets_enabled}
-use Rattle.mk_words.specs.States.{PassState, now_of, call_of, event_of}
-use Rattle.mk_words.specs.Steps.{IsEnabledTo}
+use Rattle.mk_laws.proofs.Vocabulary.{Caller, Config, Flight, Group, MarkerState, Moment, Seat, Step, Words, ℕ, ap}
+use Rattle.mk_laws.proofs.Vocabulary.{comes_next, flight_of, group_of, has_gates, has_phase, holder_may, is_in_range}
+use Rattle.mk_laws.proofs.Vocabulary.{is_open_to, lt-ltb, marker_at, marker_may, phase_of, refl, seat_exists, sym, true}
+use Rattle.mk_laws.proofs.Vocabulary.{◌<◌, ◌∙◌, ◌≡◌}
+use Rattle.mk_core.{proofs.Conditions.meets_enabled, specs.Order.is_in_order}
+use Rattle.mk_words.specs.{States.PassState, States.call_of, States.event_of, States.now_of, Steps.IsEnabledTo}
 
 -- a caller's kinds ask nothing of gates, phase and marks
 
-calls_gates : (c : Config) (w : Words) (seat : Seat) (f : Flight) (s : Step) → group_of s ≡ group.Callers
+calls_gates : (c : Config) (w : Words) (seat : Seat) (f : Flight) (s : Step) → group_of s ≡ Group.Callers
     → has_gates c w seat f s ≡ true
-calls_gates c w seat f (step.Enter o) h = refl
-calls_gates c w seat f step.Leave h = refl
-calls_gates c w seat f step.Reg h = refl
-calls_gates c w seat f step.Probe h = refl
-calls_gates c w seat f step.Read h = refl
-calls_gates c w seat f step.Write h = refl
-calls_gates c w seat f step.Cas h = refl
-calls_gates c w seat f step.Getg h = refl
-calls_gates c w seat f step.Setg h = refl
-calls_gates c w seat f step.Dirty h = refl
+calls_gates c w seat f (Step.Enter o) h = refl
+calls_gates c w seat f Step.Leave h = refl
+calls_gates c w seat f Step.Reg h = refl
+calls_gates c w seat f Step.Probe h = refl
+calls_gates c w seat f Step.Read h = refl
+calls_gates c w seat f Step.Write h = refl
+calls_gates c w seat f Step.Cas h = refl
+calls_gates c w seat f Step.Getg h = refl
+calls_gates c w seat f Step.Setg h = refl
+calls_gates c w seat f Step.Dirty h = refl
 calls_gates c w seat f _ h = cc
 
-calls_phase : (n : ℕ) (s : Step) → group_of s ≡ group.Callers → has_phase n s ≡ true
-calls_phase n (step.Enter o) h = refl
-calls_phase n step.Leave h = refl
-calls_phase n step.Reg h = refl
-calls_phase n step.Probe h = refl
-calls_phase n step.Read h = refl
-calls_phase n step.Write h = refl
-calls_phase n step.Cas h = refl
-calls_phase n step.Getg h = refl
-calls_phase n step.Setg h = refl
-calls_phase n step.Dirty h = refl
+calls_phase : (n : ℕ) (s : Step) → group_of s ≡ Group.Callers → has_phase n s ≡ true
+calls_phase n (Step.Enter o) h = refl
+calls_phase n Step.Leave h = refl
+calls_phase n Step.Reg h = refl
+calls_phase n Step.Probe h = refl
+calls_phase n Step.Read h = refl
+calls_phase n Step.Write h = refl
+calls_phase n Step.Cas h = refl
+calls_phase n Step.Getg h = refl
+calls_phase n Step.Setg h = refl
+calls_phase n Step.Dirty h = refl
 calls_phase n _ h = cc
 
-calls_marker : (c : Config) (x : MarkerState) (s : Step) → group_of s ≡ group.Callers → marker_may c x s ≡ true
-calls_marker c x (step.Enter o) h = refl
-calls_marker c x step.Leave h = refl
-calls_marker c x step.Reg h = refl
-calls_marker c x step.Probe h = refl
-calls_marker c x step.Read h = refl
-calls_marker c x step.Write h = refl
-calls_marker c x step.Cas h = refl
-calls_marker c x step.Getg h = refl
-calls_marker c x step.Setg h = refl
-calls_marker c x step.Dirty h = refl
+calls_marker : (c : Config) (x : MarkerState) (s : Step) → group_of s ≡ Group.Callers → marker_may c x s ≡ true
+calls_marker c x (Step.Enter o) h = refl
+calls_marker c x Step.Leave h = refl
+calls_marker c x Step.Reg h = refl
+calls_marker c x Step.Probe h = refl
+calls_marker c x Step.Read h = refl
+calls_marker c x Step.Write h = refl
+calls_marker c x Step.Cas h = refl
+calls_marker c x Step.Getg h = refl
+calls_marker c x Step.Setg h = refl
+calls_marker c x Step.Dirty h = refl
 calls_marker c x _ h = cc
 
-calls_holder : (c : Config) (m : Moment) (f : Flight) (s : Step) → group_of s ≡ group.Callers
+calls_holder : (c : Config) (m : Moment) (f : Flight) (s : Step) → group_of s ≡ Group.Callers
     → holder_may c m f s ≡ true
-calls_holder c m f (step.Enter o) h = refl
-calls_holder c m f step.Leave h = refl
-calls_holder c m f step.Reg h = refl
-calls_holder c m f step.Probe h = refl
-calls_holder c m f step.Read h = refl
-calls_holder c m f step.Write h = refl
-calls_holder c m f step.Cas h = refl
-calls_holder c m f step.Getg h = refl
-calls_holder c m f step.Setg h = refl
-calls_holder c m f step.Dirty h = refl
+calls_holder c m f (Step.Enter o) h = refl
+calls_holder c m f Step.Leave h = refl
+calls_holder c m f Step.Reg h = refl
+calls_holder c m f Step.Probe h = refl
+calls_holder c m f Step.Read h = refl
+calls_holder c m f Step.Write h = refl
+calls_holder c m f Step.Cas h = refl
+calls_holder c m f Step.Getg h = refl
+calls_holder c m f Step.Setg h = refl
+calls_holder c m f Step.Dirty h = refl
 calls_holder c m f _ h = cc
 
 -- The next step of a caller's call is enabled, where its operands are in range.
 pub call_step : (p : PassState) (s : Step) (k : ℕ) (f : Flight) → p.seat ≡ Caller k → k < p.table.config.callers
-    → call_of p ≡ f → group_of s ≡ group.Callers
+    → call_of p ≡ f → group_of s ≡ Group.Callers
     → comes_next f.stage f.op s ≡ true → is_in_range p.table.config (Caller k) f s ≡ true → IsEnabledTo p s
 call_step p s k f seat_is lt call_is kind next range =
     let c : Config = p.table.config in

@@ -1,70 +1,47 @@
 -- What a turn knows of the table after its own steps.
-use Rattle.std.proofs.Common.{◌≡◌, ◌≢◌, ◌⊎◌, inl, inr, ℕ, ◌+◌, ◌<◌, ◌≤◌, Bool, true, false, List, [], ◌∷◌, ◌++◌, length}
-use Rattle.std.proofs.Common.{Option, refl, sym, ◌∙◌, ap, subst, arith}
-use Rattle.std.specs.Prelude.{slice_index, slice_set, ◌==◌, not, nat_lt}
-use Rattle.std.proofs.lemmas.Bool.{cases_lt, cases_eq, eqb-false, eqb-true, ne_eqb, eq-eqb, lt-ltb, and_from}
-use Rattle.std.proofs.lemmas.Bool.{true≢false}
-use Rattle.std.proofs.lemmas.List.{get_or-set_other, get_or-set_same, get_or_past, length-set}
+use Rattle.mk_laws.proofs.Vocabulary.{Bool, Config, Event, Holding, Holds, Host, IsEnabled, List, Moment, Option}
+use Rattle.mk_laws.proofs.Vocabulary.{RunPages, Seat, Steady, Step, TalliesAreTidy, Word, World, ℕ, and_from, ap, arith}
+use Rattle.mk_laws.proofs.Vocabulary.{at_rest, cases_eq, cases_lt, eq-eqb, eqb-false, eqb-true, false, get_or-set_other}
+use Rattle.mk_laws.proofs.Vocabulary.{get_or-set_same, get_or_past, group_of, has_gates, has_phase, holder_may}
+use Rattle.mk_laws.proofs.Vocabulary.{in_a_word, inl, inr, is_end, is_held, is_in_range, is_open_to, is_run_gone, left}
+use Rattle.mk_laws.proofs.Vocabulary.{length, length-set, lt-ltb, marker_may, nat_lt, ne_eqb, not, others_are_held}
+use Rattle.mk_laws.proofs.Vocabulary.{outside, phase_of, refl, slice_index, slice_set, subst, sym, true, true≢false}
+use Rattle.mk_laws.proofs.Vocabulary.{uses_of_pages, world_behind, [], ◌++◌, ◌+◌, ◌<◌, ◌==◌, ◌∙◌, ◌∷◌, ◌≡◌, ◌≢◌, ◌≤◌}
+use Rattle.mk_laws.proofs.Vocabulary.{◌⊎◌}
 use Rattle.mk_geom.specs.PageUses.{held_by_uses}
-use Rattle.mk_geom.specs.PageWords.{uses_of_pages}
-use Rattle.mk_core.specs.declared.events.Word.{Word}
-use Rattle.mk_core.specs.declared.config.Config.{Config}
-use Rattle.mk_core.specs.declared.events.Seat.{Seat}
-use Rattle.mk_core.specs.declared.events.Seat.TheVariants.{Host}
-use Rattle.mk_core.specs.declared.events.Step.{Step}
-use Rattle.mk_core.specs.declared.events.Step.TheVariants as step
-use Rattle.mk_core.specs.declared.events.Event.{Event}
-use Rattle.mk_core.specs.declared.seats.Holding.{Holding}
-use Rattle.mk_core.specs.declared.seats.RunPages.{RunPages}
-use Rattle.mk_core.specs.Words.{phase_of}
-use Rattle.mk_core.specs.Moments.{Moment, none_is_held, is_held, outside, others_are_held}
-use Rattle.mk_core.specs.Ranges.{has_phase, is_in_range, has_gates}
-use Rattle.mk_core.specs.Effects.{moment_behind}
-use Rattle.mk_core.specs.History.{World, world_behind, left}
-use Rattle.mk_core.specs.Frames.{Steady, steady_of, CountsAreLeft}
-use Rattle.mk_laws.proofs.Asked.{none_held}
-use Rattle.mk_words.specs.States.{PassState, now_of, world_of}
-use Rattle.mk_words.specs.TurnSteps.{world_at, Acts}
-use Rattle.mk_words.proofs.TurnSteps.{all_from}
-use Rattle.mk_core.specs.declared.events.Word.TheVariants as word
-use Rattle.mk_core.specs.Calls.{at_rest}
-use Rattle.mk_core.specs.Order.{is_open_to, group_of, comes_next_to_host}
-use Rattle.mk_core.specs.Enabled.{IsEnabled, marker_may, holder_may}
-use Rattle.mk_core.specs.Readings.{Holds}
-use Rattle.mk_core.specs.NewPlaces.{is_run_gone}
-use Rattle.mk_core.specs.Cycles.{is_end}
-use Rattle.mk_core.specs.Counts.{TalliesAreTidy, in_a_word, releases}
 use Rattle.mk_core.proofs.Conditions.{meets_enabled}
-use Rattle.mk_laws.proofs.TallySteps.{CountsNothing}
-use Rattle.mk_words.specs.Steps.{IsEnabledTo}
-use Rattle.mk_words.proofs.Tallies.{counts_tidy_more}
-use Rattle.mk_words.specs.Opening.{OthersMayOpen}
-use Rattle.mk_words_clients.specs.Clients.{MayGiveBack, Settled, HoldsBelow}
+use Rattle.mk_core.specs.Frames.{CountsAreLeft, steady_of}
+use Rattle.mk_core.specs.{Counts.releases, Effects.moment_behind, Moments.none_is_held, Order.comes_next_to_host}
+use Rattle.mk_laws.proofs.{Asked.none_held, TallySteps.CountsNothing}
+use Rattle.mk_words.proofs.{Tallies.counts_tidy_more, TurnSteps.all_from}
+use Rattle.mk_words.specs.States.{PassState, now_of, world_of}
+use Rattle.mk_words.specs.{Opening.OthersMayOpen, Steps.IsEnabledTo, TurnSteps.Acts, TurnSteps.world_at}
+use Rattle.mk_words_clients.specs.Clients.{HoldsBelow, MayGiveBack, Settled}
 
 -- kinds that leave the steady words, the allocations and the freed run alone
 abbrev pub leaves_steady : Step → Bool
-leaves_steady (step.Look x) = true
-leaves_steady (step.Hold j) = true
-leaves_steady (step.Open j) = true
-leaves_steady (step.Clear p) = true
-leaves_steady (step.Mark p v) = true
-leaves_steady (step.Wipe n) = true
-leaves_steady (step.Undirty p) = true
-leaves_steady (step.Black p v) = true
-leaves_steady (step.Unblack p) = true
+leaves_steady (Step.Look x) = true
+leaves_steady (Step.Hold j) = true
+leaves_steady (Step.Open j) = true
+leaves_steady (Step.Clear p) = true
+leaves_steady (Step.Mark p v) = true
+leaves_steady (Step.Wipe n) = true
+leaves_steady (Step.Undirty p) = true
+leaves_steady (Step.Black p v) = true
+leaves_steady (Step.Unblack p) = true
 leaves_steady _ = false
 
 steady_behind : (c : Config) (w : World) (seat : Seat) (s : Step) → leaves_steady s ≡ true
     → steady_of (world_behind c w (record { seat = seat; step = s })) ≡ steady_of w
-steady_behind c w seat (step.Look x) h = refl
-steady_behind c w seat (step.Hold j) h = refl
-steady_behind c w seat (step.Open j) h = refl
-steady_behind c w seat (step.Clear p) h = refl
-steady_behind c w seat (step.Mark p v) h = refl
-steady_behind c w seat (step.Wipe n) h = refl
-steady_behind c w seat (step.Undirty p) h = refl
-steady_behind c w seat (step.Black p v) h = refl
-steady_behind c w seat (step.Unblack p) h = refl
+steady_behind c w seat (Step.Look x) h = refl
+steady_behind c w seat (Step.Hold j) h = refl
+steady_behind c w seat (Step.Open j) h = refl
+steady_behind c w seat (Step.Clear p) h = refl
+steady_behind c w seat (Step.Mark p v) h = refl
+steady_behind c w seat (Step.Wipe n) h = refl
+steady_behind c w seat (Step.Undirty p) h = refl
+steady_behind c w seat (Step.Black p v) h = refl
+steady_behind c w seat (Step.Unblack p) h = refl
 steady_behind c w seat _ h = cc
 
 pub steady_kept : (p q : PassState) (s : Step) → Acts p s q → leaves_steady s ≡ true
@@ -74,15 +51,15 @@ steady_kept p q s a h =
 
 freed_behind : (c : Config) (m : Moment) (seat : Seat) (s : Step) → leaves_steady s ≡ true
     → (moment_behind c m (record { seat = seat; step = s })).seats.holding.freed ≡ m.seats.holding.freed
-freed_behind c m seat (step.Look x) h = refl
-freed_behind c m seat (step.Hold j) h = refl
-freed_behind c m seat (step.Open j) h = refl
-freed_behind c m seat (step.Clear p) h = refl
-freed_behind c m seat (step.Mark p v) h = refl
-freed_behind c m seat (step.Wipe n) h = refl
-freed_behind c m seat (step.Undirty p) h = refl
-freed_behind c m seat (step.Black p v) h = refl
-freed_behind c m seat (step.Unblack p) h = refl
+freed_behind c m seat (Step.Look x) h = refl
+freed_behind c m seat (Step.Hold j) h = refl
+freed_behind c m seat (Step.Open j) h = refl
+freed_behind c m seat (Step.Clear p) h = refl
+freed_behind c m seat (Step.Mark p v) h = refl
+freed_behind c m seat (Step.Wipe n) h = refl
+freed_behind c m seat (Step.Undirty p) h = refl
+freed_behind c m seat (Step.Black p v) h = refl
+freed_behind c m seat (Step.Unblack p) h = refl
 freed_behind c m seat _ h = cc
 
 pub freed_kept : (p q : PassState) (s : Step) → Acts p s q → leaves_steady s ≡ true
@@ -96,7 +73,7 @@ settled_kept p q s a h x =
     let same = steady_kept p q s a h in
     record {
       seat = ap (λ (r : PassState). r.seat) a.makes.is ∙ x.seat;
-      phase = ap (λ (y : Steady). has_phase y.phase step.Give) same ∙ x.phase;
+      phase = ap (λ (y : Steady). has_phase y.phase Step.Give) same ∙ x.phase;
       freed = freed_kept p q s a h ∙ x.freed;
       held = ap (λ (y : Steady). y.held) same ∙ x.held
           ∙ sym (ap (λ (y : Steady). held_by_uses (uses_of_pages y.pages)) same);
@@ -125,15 +102,15 @@ config_kept p q s a = ap (λ (r : PassState). r.table.config) a.makes.is
 within : (p q : PassState) (s : Step) (a : Acts p s q) (i : ℕ) → i < q.table.config.callers → i < p.table.config.callers
 within p q s a i lt = subst (λ (c : Config). i < c.callers) (config_kept p q s a) lt
 
-pub hold_leaves : (p q : PassState) (j : ℕ) → Acts p (step.Hold j) q → NoneHeld p → OnlyHeld j q
+pub hold_leaves : (p q : PassState) (j : ℕ) → Acts p (Step.Hold j) q → NoneHeld p → OnlyHeld j q
 hold_leaves p q j a h i lt other two =
-    a.turn.other_gates i (h i (within p q (step.Hold j) a i lt))
+    a.turn.other_gates i (h i (within p q (Step.Hold j) a i lt))
     (sym (get_or-set_other (world_at a.makes).now.words.gates j i _ 0 other)
     ∙ sym (ap (λ (w : World). slice_index w.now.words.gates i) a.world) ∙ two)
 
-pub look_leaves : (p q : PassState) (j : ℕ) (x : Word) → Acts p (step.Look x) q → OnlyHeld j p → OnlyHeld j q
+pub look_leaves : (p q : PassState) (j : ℕ) (x : Word) → Acts p (Step.Look x) q → OnlyHeld j p → OnlyHeld j q
 look_leaves p q j x a h i lt other two =
-    a.turn.other_gates i (h i (within p q (step.Look x) a i lt) other)
+    a.turn.other_gates i (h i (within p q (Step.Look x) a i lt) other)
     (sym (ap (λ (w : World). slice_index w.now.words.gates i) a.world) ∙ two)
 
 zero_there : (xs : List ℕ) (i : ℕ) → slice_index (slice_set xs i 0) i ≢ 2
@@ -144,18 +121,18 @@ zero_there xs i two = by (cases_lt i (length xs))
     by (inr past) = let z = get_or_past (slice_set xs i 0) i 0 (subst (λ (n : ℕ). n ≤ i) (sym (length-set xs i 0)) past)
         in absurd (omega arith)
 
-pub open_leaves : (p q : PassState) (j : ℕ) → Acts p (step.Open j) q → OnlyHeld j p → NoneHeld q
+pub open_leaves : (p q : PassState) (j : ℕ) → Acts p (Step.Open j) q → OnlyHeld j p → NoneHeld q
 open_leaves p q j a h i lt two = elim (cases_eq i j) [
   | inl same ↦ zero_there (world_at a.makes).now.words.gates j
       (sym (ap (λ (k : ℕ). slice_index (slice_set (world_at a.makes).now.words.gates j 0) k) same)
       ∙ sym (ap (λ (w : World). slice_index w.now.words.gates i) a.world) ∙ two)
-  | inr other ↦ a.turn.other_gates i (h i (within p q (step.Open j) a i lt) other)
+  | inr other ↦ a.turn.other_gates i (h i (within p q (Step.Open j) a i lt) other)
       (sym (get_or-set_other (world_at a.makes).now.words.gates j i 0 0 other)
       ∙ sym (ap (λ (w : World). slice_index w.now.words.gates i) a.world) ∙ two)
 ]
 
 -- a `hold` that finds the caller in its call holds nothing
-pub miss_leaves : (p q : PassState) (j : ℕ) → Acts p (step.Hold j) q → is_held (now_of q).words j ≡ false → NoneHeld p
+pub miss_leaves : (p q : PassState) (j : ℕ) → Acts p (Step.Hold j) q → is_held (now_of q).words j ≡ false → NoneHeld p
     → NoneHeld q
 miss_leaves p q j a not_held h i lt two = elim (cases_eq i j) [
   | inl same ↦ eqb-false (slice_index (now_of q).words.gates j) 2 not_held
@@ -171,7 +148,7 @@ given_back p x h =
     record { seat = x.seat; gates = is_none_held p h; phase = x.phase; freed = x.freed; held = x.held; fresh = x.fresh }
 
 -- a gate that is held stays so
-pub look_holds : (p q : PassState) (j : ℕ) (x : Word) → Acts p (step.Look x) q → is_held (now_of p).words j ≡ true
+pub look_holds : (p q : PassState) (j : ℕ) (x : Word) → Acts p (Step.Look x) q → is_held (now_of p).words j ≡ true
     → is_held (now_of q).words j ≡ true
 look_holds p q j x a held =
     eq-eqb (slice_index (now_of q).words.gates j) 2
@@ -181,7 +158,7 @@ look_holds p q j x a held =
 -- The tallies of what was counted stay tidy.
 
 steady_no_end : (s : Step) → leaves_steady s ≡ true → is_end s ≡ false
-steady_no_end step.End h = cc
+steady_no_end Step.End h = cc
 steady_no_end _ h = refl
 
 counts_nothing : (c : Config) (w : World) (s : Step) → leaves_steady s ≡ true
@@ -252,27 +229,27 @@ host_step p s host holds kind next range gates phase marker holder =
     }))
 
 pub hold_may : (p : PassState) (j : ℕ) → p.seat ≡ Host → Holds p.table.config (now_of p) p.seat
-    → j < p.table.config.callers → NoneHeld p → IsEnabledTo p (step.Hold j)
+    → j < p.table.config.callers → NoneHeld p → IsEnabledTo p (Step.Hold j)
 hold_may p j host holds lt none =
-    host_step p (step.Hold j) host holds refl refl
+    host_step p (Step.Hold j) host holds refl refl
     (and_from (nat_lt j p.table.config.callers) true (lt-ltb j p.table.config.callers lt) refl)
     (ap not (ne_eqb (slice_index (now_of p).words.gates j) 2 (none j lt))) refl refl refl
 
 pub look_may : (p : PassState) (j r : ℕ) → p.seat ≡ Host → Holds p.table.config (now_of p) p.seat
     → j < p.table.config.callers → r < 8
-    → is_held (now_of p).words j ≡ true → IsEnabledTo p (step.Look (word.Reg j r))
+    → is_held (now_of p).words j ≡ true → IsEnabledTo p (Step.Look (Word.Reg j r))
 look_may p j r host holds lt few held =
-    host_step p (step.Look (word.Reg j r)) host holds refl refl
+    host_step p (Step.Look (Word.Reg j r)) host holds refl refl
     (and_from (nat_lt j p.table.config.callers) (nat_lt r 8) (lt-ltb j p.table.config.callers lt) (lt-ltb r 8 few))
     held refl refl refl
 
-not_closed : (n : ℕ) → has_phase n step.Give ≡ true → not (n == 3) ≡ true
-not_closed n h = ap not (ne_eqb n 3 (λ three. true≢false (sym h ∙ ap (λ (k : ℕ). has_phase k step.Give) three)))
+not_closed : (n : ℕ) → has_phase n Step.Give ≡ true → not (n == 3) ≡ true
+not_closed n h = ap not (ne_eqb n 3 (λ three. true≢false (sym h ∙ ap (λ (k : ℕ). has_phase k Step.Give) three)))
 
 pub open_may : (p : PassState) (j : ℕ) → Settled p → Holds p.table.config (now_of p) p.seat → j < p.table.config.callers
-    → is_held (now_of p).words j ≡ true → IsEnabledTo p (step.Open j)
+    → is_held (now_of p).words j ≡ true → IsEnabledTo p (Step.Open j)
 open_may p j x holds lt held =
-    host_step p (step.Open j) x.seat holds refl refl
+    host_step p (Step.Open j) x.seat holds refl refl
     (and_from (nat_lt j p.table.config.callers) true (lt-ltb j p.table.config.callers lt) refl)
     held (not_closed (phase_of (now_of p).words) x.phase) refl
     (ap (λ (f : Option RunPages). is_run_gone (now_of p).words f) x.freed)
@@ -286,41 +263,41 @@ stays_held p q s a i same held =
     eq-eqb (slice_index (now_of q).words.gates i) 2 (same
     ∙ a.turn.held_gates i (eqb-true (slice_index (now_of p).words.gates i) 2 held))
 
-hold_elsewhere : (p q : PassState) (j : ℕ) (a : Acts p (step.Hold j) q) (i : ℕ) → i ≢ j
+hold_elsewhere : (p q : PassState) (j : ℕ) (a : Acts p (Step.Hold j) q) (i : ℕ) → i ≢ j
     → slice_index (now_of q).words.gates i ≡ slice_index (world_at a.makes).now.words.gates i
 hold_elsewhere p q j a i other =
     ap (λ (w : World). slice_index w.now.words.gates i) a.world
     ∙ get_or-set_other (world_at a.makes).now.words.gates j i _ 0 other
 
-open_elsewhere : (p q : PassState) (j : ℕ) (a : Acts p (step.Open j) q) (i : ℕ) → i ≢ j
+open_elsewhere : (p q : PassState) (j : ℕ) (a : Acts p (Step.Open j) q) (i : ℕ) → i ≢ j
     → slice_index (now_of q).words.gates i ≡ slice_index (world_at a.makes).now.words.gates i
 open_elsewhere p q j a i other =
     ap (λ (w : World). slice_index w.now.words.gates i) a.world
     ∙ get_or-set_other (world_at a.makes).now.words.gates j i 0 0 other
 
-pub holds_one_more : (p q : PassState) (j : ℕ) → HoldsBelow p j → Acts p (step.Hold j) q
+pub holds_one_more : (p q : PassState) (j : ℕ) → HoldsBelow p j → Acts p (Step.Hold j) q
     → is_held (now_of q).words j ≡ true → HoldsBelow q (j + 1)
 holds_one_more p q j h a now =
     record {
       held = λ i lt. elim (cases_eq i j) [
         | inl same ↦ subst (λ (k : ℕ). is_held (now_of q).words k ≡ true) (sym same) now
-        | inr other ↦ stays_held p q (step.Hold j) a i (hold_elsewhere p q j a i other) (h.held i (omega arith))
+        | inr other ↦ stays_held p q (Step.Hold j) a i (hold_elsewhere p q j a i other) (h.held i (omega arith))
       ];
       free = λ i le lt two. (let other : i ≢ j = λ e. omega arith in
-          a.turn.other_gates i (h.free i (omega arith) (within p q (step.Hold j) a i lt))
+          a.turn.other_gates i (h.free i (omega arith) (within p q (Step.Hold j) a i lt))
           (sym (hold_elsewhere p q j a i other) ∙ two));
     }
 
-pub opens_last : (p q : PassState) (j : ℕ) → HoldsBelow p (j + 1) → Acts p (step.Open j) q → HoldsBelow q j
+pub opens_last : (p q : PassState) (j : ℕ) → HoldsBelow p (j + 1) → Acts p (Step.Open j) q → HoldsBelow q j
 opens_last p q j h a =
     record {
       held = λ i lt. (let other : i ≢ j = λ e. omega arith in
-          stays_held p q (step.Open j) a i (open_elsewhere p q j a i other) (h.held i (omega arith)));
+          stays_held p q (Step.Open j) a i (open_elsewhere p q j a i other) (h.held i (omega arith)));
       free = λ i le lt two. elim (cases_eq i j) [
         | inl same ↦ zero_there (world_at a.makes).now.words.gates j
             (sym (ap (λ (k : ℕ). slice_index (slice_set (world_at a.makes).now.words.gates j 0) k) same)
             ∙ sym (ap (λ (w : World). slice_index w.now.words.gates i) a.world) ∙ two)
-        | inr other ↦ a.turn.other_gates i (h.free i (omega arith) (within p q (step.Open j) a i lt))
+        | inr other ↦ a.turn.other_gates i (h.free i (omega arith) (within p q (Step.Open j) a i lt))
             (sym (open_elsewhere p q j a i other) ∙ two)
       ];
     }

@@ -1,4 +1,3 @@
-use Rattle.mk_caller.proofs.After.{still_caller}
 use Rattle.mk_caller_clients.proofs.Sameness.{may_compare, told_of_other}
 use Rattle.mk_caller_clients.proofs.takes_out_of_global.Goals as goal
 

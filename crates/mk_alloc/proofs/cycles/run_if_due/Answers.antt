@@ -1,5 +1,5 @@
-use Rattle.mk_turns.proofs.Sweeping.{nothing_sweeps}
 use Rattle.mk_cycle.proofs.Begun.{nothing_begun}
+use Rattle.mk_turns.proofs.Sweeping.{nothing_sweeps}
 use Rattle.mk_alloc.proofs.cycles.run_if_due.Goals as goal
 
 pub returns-else-due-clause-reached : goal.returns-else-due-clause-reached

@@ -1,18 +1,17 @@
-use Rattle.mk_alloc.proofs.Vocabulary.{CallerState, EachIsBegun, FreesObject, IsAnsweredDouble, PassState}
+use Rattle.mk_alloc.proofs.Vocabulary.{CallerState, EachIsBegun, FreesObject, IsAnsweredDouble, Op, PassState}
 use Rattle.mk_alloc.proofs.Vocabulary.{SweepsNothing, ap, in_turn, refl, subst, sym, ◌∙◌}
-use Rattle.mk_objects.specs.Retired.{FindsFreed}
 use Rattle.mk_alloc.proofs.BegunTurns.{freeing_then_begun, loading_begun, turn_begun}
 use Rattle.mk_alloc.proofs.CalledTurns.{Taken, taken_is, taken_turn}
 use Rattle.mk_alloc.proofs.FreedTurns.{Frees, Refuses, double_answered, freed, freed_object, given, given_double}
 use Rattle.mk_alloc.proofs.FreedTurns.{unloaded}
-use Rattle.mk_alloc.proofs.TakenTurns.{took_by}
 use Rattle.mk_alloc.proofs.UnsweptTurns.{freeing_then_sweeps, loading_sweeps, turn_sweeps}
 use Rattle.mk_alloc.proofs.freeing.free_object.Goals.{After-is_in_order-in-Ok, After-take-turn}
-use Rattle.mk_never.specs.declared.operations.Op.TheVariants as op
+use Rattle.mk_alloc.proofs.TakenTurns.{took_by}
+use Rattle.mk_objects.specs.Retired.{FindsFreed}
 use Rattle.mk_alloc.proofs.freeing.free_object.Goals as goal
 
 -- the turn of the call, as it was taken
-took : (g : _) (c : After-take-turn g) → Taken (op.Free c.args.p) c.args.caller.now.pass c.take-turn.result.pass
+took : (g : _) (c : After-take-turn g) → Taken (Op.Free c.args.p) c.args.caller.now.pass c.take-turn.result.pass
 took g c = took_by c.lend-home.ensures.pass c.is_idle.ensures.idle c.is_idle.ensures.own c.take-turn.ensures.takes
 
 pub retire_object-requires-clause-unloaded : goal.retire_object-requires-clause-unloaded
@@ -23,7 +22,7 @@ retire_object-requires-clause-unloaded g c κs within =
 
 -- The object was freed: the turn goes on to the end of a cycle that is due.
 frees : (g : _) (c : After-is_in_order-in-Ok g)
-    → Taken (op.Free c.args.p) c.args.caller.now.pass c.take-turn.result.pass
+    → Taken (Op.Free c.args.p) c.args.caller.now.pass c.take-turn.result.pass
     → Frees g.E.Engine.on c.in-Ok.freed.due c.args.p c.args.caller.now.pass c.take-turn.result.pass
     c.retire_object.new.turn.pass c.run_if_due-turn.result.pass
 frees g c took =

@@ -1,21 +1,18 @@
-use Rattle.mk_alloc.proofs.Vocabulary.{CalledInTurn, CallerState, EachIsBegun, IsAnsweredFull, Misfits, PassState, Some}
-use Rattle.mk_alloc.proofs.Vocabulary.{SweepsNothing, begun_then, false, only_seen, subst, sym, turn_stays, ◌∙◌}
+use Rattle.mk_alloc.proofs.Vocabulary.{Answer, CalledInTurn, CallerState, EachIsBegun, IsAnsweredFull, Misfits, Op}
+use Rattle.mk_alloc.proofs.Vocabulary.{PassState, Some, SweepsNothing, begun_then, false, only_seen, subst, sym}
+use Rattle.mk_alloc.proofs.Vocabulary.{turn_stays, ◌∙◌}
 use Rattle.mk_alloc.proofs.BegunTurns.{none_begun, turn_begun}
-use Rattle.mk_alloc.proofs.CalledTurns.{Taken}
 use Rattle.mk_alloc.proofs.NewTurns.{NewGiven, census_told, given, is_answered_full, last_turn, new_called}
 use Rattle.mk_alloc.proofs.OneCycles.{none_runs_one, none_then_one, one_then_none}
-use Rattle.mk_alloc.proofs.SeekingTurns.{misfits_then, seeks_then}
-use Rattle.mk_alloc.proofs.TakenTurns.{took_by}
 use Rattle.mk_alloc.proofs.UnsweptTurns.{part_then_sweeps, turn_sweeps}
 use Rattle.mk_alloc.proofs.making.new_object.Goals.{After-answer_full, After-give, After-give-2, After-give-then-placed}
 use Rattle.mk_alloc.proofs.making.new_object.Goals.{After-take-turn}
-use Rattle.mk_never.specs.declared.operations.Op.TheVariants as op
-use Rattle.mk_core.specs.declared.events.Answer.TheVariants as answer
+use Rattle.mk_alloc.proofs.{CalledTurns.Taken, SeekingTurns.misfits_then, SeekingTurns.seeks_then, TakenTurns.took_by}
 use Rattle.mk_alloc.proofs.making.new_object.Goals as goal
 
 -- the turn of the call, as it was taken
 took : (g : _) (c : After-take-turn g)
-    → Taken (op.New c.args.d c.args.ty false) c.args.caller.now.pass c.take-turn.result.pass
+    → Taken (Op.New c.args.d c.args.ty false) c.args.caller.now.pass c.take-turn.result.pass
 took g c = took_by c.lend-home.ensures.pass c.is_idle.ensures.idle c.is_idle.ensures.own c.take-turn.ensures.takes
 
 pub give-requires-then-placed-clause-quiet : goal.give-requires-then-placed-clause-quiet
@@ -26,9 +23,9 @@ answer_full-requires-clause-quiet g c =
     (c.make_room-turn.ensures.misfits c.if-placed.false).misfits.seeks.on.quiet
 
 -- The object is placed at once,
-at_once : (g : _) (c : After-give g) → Taken (op.New c.args.d c.args.ty false) c.args.caller.now.pass
+at_once : (g : _) (c : After-give g) → Taken (Op.New c.args.d c.args.ty false) c.args.caller.now.pass
     c.take-turn.result.pass
-    → NewGiven c.args.d c.args.ty answer.Done c.args.caller.now.pass c.take-turn.result.pass c.try_place.new.turn.pass
+    → NewGiven c.args.d c.args.ty Answer.Done c.args.caller.now.pass c.take-turn.result.pass c.try_place.new.turn.pass
     c.give.result
 at_once g c took =
     record {
@@ -43,8 +40,8 @@ at_once g c took =
 pub returns-then-try_place-clause-made : goal.returns-then-try_place-clause-made
 returns-then-try_place-clause-made g c =
     let x = goal.at.returns-then-try_place-clause-made g c in
-    let o = op.New c.args.d c.args.ty false in
-    subst (λ (x : CallerState). CalledInTurn g.E.Engine.on c.args.caller.now.pass o answer.Done x.pass)
+    let o = Op.New c.args.d c.args.ty false in
+    subst (λ (x : CallerState). CalledInTurn g.E.Engine.on c.args.caller.now.pass o Answer.Done x.pass)
     (sym c.back.ensures) (new_called (at_once g x.After-give (took g x.After-take-turn)) g.E.Engine.on)
 
 pub returns-then-try_place-clause-reached : goal.returns-then-try_place-clause-reached
@@ -63,9 +60,9 @@ returns-then-try_place-clause-begun g c =
     (none_begun begins c.take-turn.result.pass c.try_place.new.turn.pass c.try_place.ensures.begins))
 
 -- or after a cycle, or another one that was on;
-later : (g : _) (c : After-give-then-placed g) → Taken (op.New c.args.d c.args.ty false) c.args.caller.now.pass
+later : (g : _) (c : After-give-then-placed g) → Taken (Op.New c.args.d c.args.ty false) c.args.caller.now.pass
     c.take-turn.result.pass
-    → NewGiven c.args.d c.args.ty answer.Done c.args.caller.now.pass c.take-turn.result.pass
+    → NewGiven c.args.d c.args.ty Answer.Done c.args.caller.now.pass c.take-turn.result.pass
     c.make_room-turn.result.0.pass c.give-then-placed.result
 later g c took =
     let taken : PassState = c.take-turn.result.pass in
@@ -74,7 +71,7 @@ later g c took =
     record {
       took = took;
       begins = c.take-turn.ensures.begins;
-      seeks = seeks_then (Some answer.Done) taken tried done (c.try_place.ensures.misfits c.if-try_place.false).seeks
+      seeks = seeks_then (Some Answer.Done) taken tried done (c.try_place.ensures.misfits c.if-try_place.false).seeks
           (c.make_room-turn.ensures.placed c.if-placed.true);
       runs = none_then_one taken tried done c.try_place.ensures.begins c.make_room-turn.ensures.one;
       gives = c.give-then-placed.ensures.gives;
@@ -84,8 +81,8 @@ later g c took =
 pub returns-then-placed-clause-made : goal.returns-then-placed-clause-made
 returns-then-placed-clause-made g c =
     let x = goal.at.returns-then-placed-clause-made g c in
-    let o = op.New c.args.d c.args.ty false in
-    subst (λ (x : CallerState). CalledInTurn g.E.Engine.on c.args.caller.now.pass o answer.Done x.pass)
+    let o = Op.New c.args.d c.args.ty false in
+    subst (λ (x : CallerState). CalledInTurn g.E.Engine.on c.args.caller.now.pass o Answer.Done x.pass)
     (sym c.back-then-placed.ensures)
     (new_called (later g x.After-give-then-placed (took g x.After-take-turn)) g.E.Engine.on)
 
@@ -118,10 +115,10 @@ nowhere g c =
     (c.try_place.ensures.misfits c.if-try_place.false).seeks
     (c.make_room-turn.ensures.misfits c.if-placed.false).misfits
 
-refused : (g : _) (c : After-give-2 g) → Taken (op.New c.args.d c.args.ty false) c.args.caller.now.pass
+refused : (g : _) (c : After-give-2 g) → Taken (Op.New c.args.d c.args.ty false) c.args.caller.now.pass
     c.take-turn.result.pass
     → Misfits c.take-turn.result.pass c.make_room-turn.result.0.pass
-    → NewGiven c.args.d c.args.ty answer.Full c.args.caller.now.pass c.take-turn.result.pass
+    → NewGiven c.args.d c.args.ty Answer.Full c.args.caller.now.pass c.take-turn.result.pass
     c.answer_full.new.turn.pass c.give-2.result
 refused g c took misfits =
     let taken : PassState = c.take-turn.result.pass in
@@ -131,7 +128,7 @@ refused g c took misfits =
     record {
       took = took;
       begins = c.take-turn.ensures.begins;
-      seeks = seeks_then (Some answer.Full) taken last done misfits.seeks c.answer_full.ensures.full.seeks;
+      seeks = seeks_then (Some Answer.Full) taken last done misfits.seeks c.answer_full.ensures.full.seeks;
       runs =
           one_then_none taken last done
           (none_then_one taken tried last c.try_place.ensures.begins c.make_room-turn.ensures.one)
@@ -145,7 +142,7 @@ returns-clause-full g c =
     let x = goal.at.returns-clause-full g c in
     let misfits = nowhere g x.After-answer_full in
     let m = refused g x.After-give-2 (took g x.After-take-turn) misfits in
-    let o = op.New c.args.d c.args.ty false in
+    let o = Op.New c.args.d c.args.ty false in
     subst (λ (x : CallerState). IsAnsweredFull g.E.Engine.on c.args.caller.now.pass o c.census-census.result x.pass)
     (sym c.back-2.ensures)
     (is_answered_full m misfits c.answer_full.ensures.full g.E.Engine.on

@@ -1,7 +1,6 @@
-use Rattle.mk_alloc.proofs.Vocabulary.{PassState, Some, in_turn, sweeps_then}
-use Rattle.mk_alloc.proofs.OneCycles.{finish_then_none}
+use Rattle.mk_alloc.proofs.Vocabulary.{Answer, PassState, Some, in_turn, sweeps_then}
 use Rattle.mk_alloc.proofs.SeekingTurns.{misfits_finished, seeks_finished, seeks_then}
-use Rattle.mk_core.specs.declared.events.Answer.TheVariants as answer
+use Rattle.mk_alloc.proofs.OneCycles.{finish_then_none}
 use Rattle.mk_alloc.proofs.rooms.finish_and_place.Goals as goal
 
 pub returns-clause-placed : goal.returns-clause-placed
@@ -10,7 +9,7 @@ returns-clause-placed g c =
     let i = c.is_in_order.ensures in
     let q : PassState = c.finish_cycle-turn.result.0.pass in
     λ placed.
-    seeks_then (Some answer.Done) t.pass q c.try_place-placed.new.turn.pass
+    seeks_then (Some Answer.Done) t.pass q c.try_place-placed.new.turn.pass
     (seeks_finished t.pass q (in_turn t.pass t.op i.own i.turn i.history) c.requires.unplaced c.requires.quiet
     c.requires.nowhere
     c.finish_cycle-turn.ensures.law c.is_in_order-2.ensures.history)

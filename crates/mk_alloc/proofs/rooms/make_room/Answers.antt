@@ -1,16 +1,13 @@
-use Rattle.mk_alloc.proofs.Vocabulary.{Some, begun_then, only_seen, turn_stays}
-use Rattle.mk_alloc.proofs.BegunTurns.{none_begun}
-use Rattle.mk_alloc.proofs.OneCycles.{none_runs_one, none_then_one}
-use Rattle.mk_alloc.proofs.SeekingTurns.{misfits_then, seeks_then}
-use Rattle.mk_alloc.proofs.UnsweptTurns.{part_then_sweeps}
-use Rattle.mk_core.specs.declared.events.Answer.TheVariants as answer
+use Rattle.mk_alloc.proofs.Vocabulary.{Answer, Some, begun_then, only_seen, turn_stays}
+use Rattle.mk_alloc.proofs.{BegunTurns.none_begun, OneCycles.none_runs_one, OneCycles.none_then_one}
+use Rattle.mk_alloc.proofs.{SeekingTurns.misfits_then, SeekingTurns.seeks_then, UnsweptTurns.part_then_sweeps}
 use Rattle.mk_alloc.proofs.rooms.make_room.Goals as goal
 
 pub returns-clause-placed : goal.returns-clause-placed
 returns-clause-placed g c =
     let m = c.place_behind_older-turn.ensures.misfits c.if-placed.false in
     λ placed.
-    seeks_then (Some answer.Done) c.args.turn.pass c.place_behind_older-turn.result.0.pass
+    seeks_then (Some Answer.Done) c.args.turn.pass c.place_behind_older-turn.result.0.pass
     c.place_behind_cycle.result.0.pass
     m.misfits.seeks (c.place_behind_cycle.ensures.placed placed)
 

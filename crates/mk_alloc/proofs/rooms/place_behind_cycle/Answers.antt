@@ -1,11 +1,8 @@
-use Rattle.mk_alloc.proofs.Vocabulary.{Done, None, PassState, Seeks, Some, ap, begun_then, cycle_ended, in_turn}
+use Rattle.mk_alloc.proofs.Vocabulary.{Answer, Done, None, PassState, Seeks, Some, ap, begun_then, cycle_ended, in_turn}
 use Rattle.mk_alloc.proofs.Vocabulary.{sweeps_then, ◌∙◌}
-use Rattle.mk_alloc.proofs.BegunTurns.{none_begun}
-use Rattle.mk_alloc.proofs.OneCycles.{begin_then_ends, ends_none}
-use Rattle.mk_alloc.proofs.QuietTurns.{quiet_begun}
 use Rattle.mk_alloc.proofs.SeekingTurns.{misfits_then, nowhere_begun, seeks_begun, seeks_then}
-use Rattle.mk_alloc.proofs.rooms.place_behind_cycle.Goals.{After-is_in_order-2}
-use Rattle.mk_core.specs.declared.events.Answer.TheVariants as answer
+use Rattle.mk_alloc.proofs.{BegunTurns.none_begun, OneCycles.begin_then_ends, OneCycles.ends_none}
+use Rattle.mk_alloc.proofs.{QuietTurns.quiet_begun, rooms.place_behind_cycle.Goals.After-is_in_order-2}
 use Rattle.mk_alloc.proofs.rooms.place_behind_cycle.Goals as goal
 
 pub finish_and_place-requires-clause-quiet : goal.finish_and_place-requires-clause-quiet
@@ -32,7 +29,7 @@ pub returns-clause-placed : goal.returns-clause-placed
 returns-clause-placed g c =
     let x = goal.at.returns-clause-placed g c in
     λ placed.
-    seeks_then (Some answer.Done) c.args.turn.pass c.begin_cycle.new.turn.pass c.finish_and_place.result.0.pass
+    seeks_then (Some Answer.Done) c.args.turn.pass c.begin_cycle.new.turn.pass c.finish_and_place.result.0.pass
     (sought g x.After-is_in_order-2) (c.finish_and_place.ensures.placed placed)
 
 pub returns-clause-misfits : goal.returns-clause-misfits

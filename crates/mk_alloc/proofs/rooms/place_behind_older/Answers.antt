@@ -1,10 +1,8 @@
-use Rattle.mk_alloc.proofs.Vocabulary.{BeginsNone, Misfits, PassState, Some, in_turn, sym, ◌∙◌}
+use Rattle.mk_alloc.proofs.Vocabulary.{Answer, BeginsNone, Misfits, PassState, Some, in_turn, sym, ◌∙◌}
 use Rattle.mk_alloc.proofs.OneCycles.{ends_none, looks_begins_none, none_then_none}
-use Rattle.mk_alloc.proofs.QuietTurns.{quiet_looked}
 use Rattle.mk_alloc.proofs.SeekingTurns.{misfits_seen, misfits_then, phase_seen, seeks_then, seen_at}
 use Rattle.mk_alloc.proofs.UnsweptTurns.{looking_sweeps, looking_then_sweeps}
-use Rattle.mk_alloc.proofs.rooms.place_behind_older.Goals.{After-is_in_order-2}
-use Rattle.mk_core.specs.declared.events.Answer.TheVariants as answer
+use Rattle.mk_alloc.proofs.{QuietTurns.quiet_looked, rooms.place_behind_older.Goals.After-is_in_order-2}
 use Rattle.mk_alloc.proofs.rooms.place_behind_older.Goals as goal
 
 -- the look at the phase
@@ -45,7 +43,7 @@ pub returns-clause-placed : goal.returns-clause-placed
 returns-clause-placed g c =
     let x = goal.at.returns-clause-placed g c in
     λ placed.
-    seeks_then (Some answer.Done) c.args.turn.pass c.is_cycle_on-is_on.new.turn.pass c.finish_and_place.result.0.pass
+    seeks_then (Some Answer.Done) c.args.turn.pass c.is_cycle_on-is_on.new.turn.pass c.finish_and_place.result.0.pass
     (seen g x.After-is_in_order-2).seeks (c.finish_and_place.ensures.placed placed)
 
 pub returns-clause-misfits : goal.returns-clause-misfits

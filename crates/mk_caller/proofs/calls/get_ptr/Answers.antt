@@ -1,5 +1,5 @@
-use Rattle.std.proofs.Common.{refl}
-use Rattle.mk_caller.proofs.Chains.{called, go, go_on, faults, reached, sees_more, sees_further, stores}
+use Rattle.mk_laws.proofs.Vocabulary.{refl}
+use Rattle.mk_caller.proofs.Chains.{called, faults, go, go_on, reached, sees_further, sees_more, stores}
 use Rattle.mk_caller.specs.Moves.{passes, reads}
 use Rattle.mk_caller.proofs.calls.get_ptr.Goals as goal
 

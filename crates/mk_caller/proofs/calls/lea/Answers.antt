@@ -1,4 +1,4 @@
-use Rattle.std.proofs.Common.{refl}
+use Rattle.mk_laws.proofs.Vocabulary.{refl}
 use Rattle.mk_caller.proofs.Chains.{called, go, stores}
 use Rattle.mk_caller.proofs.calls.lea.Goals as goal
 

@@ -1,6 +1,6 @@
-use Rattle.std.proofs.Common.{refl}
-use Rattle.mk_caller.proofs.Chains.{called, go, go_on, faults, reached, sees_more, sees_further}
-use Rattle.mk_caller.specs.Moves.{passes, writes, call_ends}
+use Rattle.mk_laws.proofs.Vocabulary.{refl}
+use Rattle.mk_caller.proofs.Chains.{called, faults, go, go_on, reached, sees_further, sees_more}
+use Rattle.mk_caller.specs.Moves.{call_ends, passes, writes}
 use Rattle.mk_caller.proofs.calls.set_num.Goals as goal
 
 pub returns-in_default-clause-refused : goal.returns-in_default-clause-refused

@@ -1,8 +1,6 @@
-use Rattle.std.specs.Prelude.{None}
-use Rattle.mk_core.specs.declared.events.Step.TheVariants as step
-use Rattle.mk_core.specs.Calls.{onward}
+use Rattle.mk_laws.proofs.Vocabulary.{None, Step, onward}
+use Rattle.mk_caller.proofs.Onward.{dirty_next, moves}
 use Rattle.mk_words.specs.States.{call_of}
-use Rattle.mk_caller.proofs.Onward.{moves, dirty_next}
 use Rattle.mk_caller.proofs.steps.dirty.Goals as goal
 
 pub returns : goal.returns
@@ -10,6 +8,6 @@ returns c =
     let f = c.dirty in
     let p = c.args.pass.now in
     record {
-      moves = moves p step.Dirty (onward (call_of p) None) f.new.self c.requires.underway f.ensures.goes
+      moves = moves p Step.Dirty (onward (call_of p) None) f.new.self c.requires.underway f.ensures.goes
           (dirty_next p.table.config (call_of p) c.requires.stage);
     }

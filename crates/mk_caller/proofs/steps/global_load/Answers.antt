@@ -1,8 +1,7 @@
-use Rattle.mk_core.specs.declared.events.Step.TheVariants as step
+use Rattle.mk_laws.proofs.Vocabulary.{Step}
 use Rattle.mk_core.specs.Calls.{progress_getg}
+use Rattle.mk_caller.proofs.{Onward.getg_next, Onward.moves, Stepping.may_getg}
 use Rattle.mk_words.specs.States.{call_of}
-use Rattle.mk_caller.proofs.Onward.{moves, getg_next}
-use Rattle.mk_caller.proofs.Stepping.{may_getg}
 use Rattle.mk_caller.proofs.steps.global_load.Goals as goal
 
 pub global_load-requires-clause-admitted : goal.global_load-requires-clause-admitted
@@ -13,6 +12,6 @@ returns c =
     let f = c.global_load in
     let p = c.args.pass.now in
     record {
-      moves = moves p step.Getg (progress_getg (call_of p) f.result) f.new.self c.requires.underway f.ensures.goes
+      moves = moves p Step.Getg (progress_getg (call_of p) f.result) f.new.self c.requires.underway f.ensures.goes
           (getg_next p.table.config (call_of p) f.result c.requires.stage);
     }

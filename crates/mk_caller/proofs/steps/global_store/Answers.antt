@@ -1,10 +1,6 @@
-use Rattle.std.specs.Prelude.{Some}
-use Rattle.mk_core.specs.declared.events.Answer.TheVariants as answer
-use Rattle.mk_core.specs.declared.events.Step.TheVariants as step
-use Rattle.mk_core.specs.Calls.{onward}
+use Rattle.mk_laws.proofs.Vocabulary.{Answer, Some, Step, onward}
+use Rattle.mk_caller.proofs.{Onward.moves, Onward.setg_next, Stepping.may_setg}
 use Rattle.mk_words.specs.States.{call_of}
-use Rattle.mk_caller.proofs.Onward.{moves, setg_next}
-use Rattle.mk_caller.proofs.Stepping.{may_setg}
 use Rattle.mk_caller.proofs.steps.global_store.Goals as goal
 
 pub global_store-requires-clause-admitted : goal.global_store-requires-clause-admitted
@@ -15,6 +11,6 @@ returns c =
     let f = c.global_store in
     let p = c.args.pass.now in
     record {
-      moves = moves p step.Setg (onward (call_of p) (Some answer.Done)) f.new.self c.requires.underway f.ensures.goes
+      moves = moves p Step.Setg (onward (call_of p) (Some Answer.Done)) f.new.self c.requires.underway f.ensures.goes
           (setg_next p.table.config (call_of p) c.requires.stage);
     }

@@ -1,9 +1,6 @@
-use Rattle.std.proofs.Common.{sym, ◌∙◌}
-use Rattle.mk_core.specs.declared.events.Step.TheVariants as step
-use Rattle.mk_core.specs.Calls.{progress_reg}
+use Rattle.mk_laws.proofs.Vocabulary.{Step, progress_reg, sym, ◌∙◌}
+use Rattle.mk_caller.proofs.{Onward.load_next, Onward.moves, Stepping.may_load, Stepping.null_is}
 use Rattle.mk_words.specs.States.{call_of}
-use Rattle.mk_caller.proofs.Onward.{moves, load_next}
-use Rattle.mk_caller.proofs.Stepping.{may_load, null_is}
 use Rattle.mk_caller.proofs.steps.load.Goals as goal
 
 pub reg_load-requires-clause-admitted : goal.reg_load-requires-clause-admitted
@@ -13,7 +10,7 @@ pub returns-clause-moves : goal.returns-clause-moves
 returns-clause-moves c =
     let f = c.reg_load in
     let p = c.args.pass.now in
-    moves p step.Reg (progress_reg (call_of p) (call_of p).stage f.result) f.new.self c.requires.underway f.ensures.goes
+    moves p Step.Reg (progress_reg (call_of p) (call_of p).stage f.result) f.new.self c.requires.underway f.ensures.goes
     (load_next p.table.config (call_of p) f.result c.requires.stage c.requires.underway.entered)
 
 pub returns-clause-null : goal.returns-clause-null

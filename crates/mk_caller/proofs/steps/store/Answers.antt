@@ -1,8 +1,6 @@
-use Rattle.mk_core.specs.declared.events.Step.TheVariants as step
-use Rattle.mk_core.specs.Calls.{progress_reg}
+use Rattle.mk_laws.proofs.Vocabulary.{Step, progress_reg}
+use Rattle.mk_caller.proofs.{Onward.moves, Onward.store_goes_on, Stepping.may_store}
 use Rattle.mk_words.specs.States.{call_of}
-use Rattle.mk_caller.proofs.Onward.{moves, store_goes_on}
-use Rattle.mk_caller.proofs.Stepping.{may_store}
 use Rattle.mk_caller.proofs.steps.store.Goals as goal
 
 pub reg_store-requires-clause-admitted : goal.reg_store-requires-clause-admitted
@@ -13,6 +11,6 @@ returns c =
     let f = c.reg_store in
     let p = c.args.pass.now in
     record {
-      moves = moves p step.Reg (progress_reg (call_of p) (call_of p).stage c.args.v) f.new.self c.requires.underway
+      moves = moves p Step.Reg (progress_reg (call_of p) (call_of p).stage c.args.v) f.new.self c.requires.underway
           f.ensures.goes (store_goes_on p.table.config (call_of p) c.args.v c.requires.stage);
     }

@@ -1,5 +1,4 @@
-use Rattle.std.proofs.Common.{◌≡◌, drop}
-use Rattle.mk_check.specs.Declarations.{pages_of, resident_of}
+use Rattle.mk_check.proofs.Vocabulary.{drop, pages_of, resident_of, ◌≡◌}
 use Rattle.mk_check.proofs.checked.heap_pages.Given as goal
 
 abbrev pub invariant-loop-item : goal.invariant-loop-item

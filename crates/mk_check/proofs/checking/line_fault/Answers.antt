@@ -1,4 +1,4 @@
-use Rattle.mk_check.specs.Lookups.{around}
+use Rattle.mk_check.proofs.Vocabulary.{around}
 use Rattle.mk_check.proofs.FaultLemmas.{IfOk-map}
 use Rattle.mk_check.proofs.checking.line_fault.Goals as goal
 

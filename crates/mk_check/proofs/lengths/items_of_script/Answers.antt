@@ -1,5 +1,4 @@
-use Rattle.std.proofs.Common.{◌++◌, take, ap, sym, ◌∙◌}
-use Rattle.std.proofs.lemmas.List.{append-nil}
+use Rattle.mk_check.proofs.Vocabulary.{ap, append-nil, sym, take, ◌++◌, ◌∙◌}
 use Rattle.mk_check.proofs.CountLemmas.{before_next_script-end, before_next_script-more}
 use Rattle.mk_check.proofs.lengths.items_of_script.Goals as goal
 

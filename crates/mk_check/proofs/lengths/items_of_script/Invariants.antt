@@ -1,5 +1,4 @@
-use Rattle.std.proofs.Common.{◌≡◌, ◌++◌, take, drop}
-use Rattle.mk_check.specs.Blocks.{before_next_script}
+use Rattle.mk_check.proofs.Vocabulary.{before_next_script, drop, take, ◌++◌, ◌≡◌}
 use Rattle.mk_check.proofs.lengths.items_of_script.Given as goal
 
 abbrev pub invariant-loop-place : goal.invariant-loop-place

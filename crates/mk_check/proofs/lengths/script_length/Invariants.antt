@@ -1,6 +1,4 @@
-use Rattle.std.proofs.Common.{◌≡◌, ℕ, map, reverse}
-use Rattle.mk_check.specs.Blocks.{parts_from}
-use Rattle.mk_check.specs.Counts.{counts_of}
+use Rattle.mk_check.proofs.Vocabulary.{ℕ, counts_of, map, parts_from, reverse, ◌≡◌}
 use Rattle.mk_check.proofs.lengths.script_length.Given as goal
 
 abbrev pub invariant-loop-item : goal.invariant-loop-item

@@ -1,14 +1,9 @@
-use Rattle.std.proofs.Common.{◌<◌, refl, ap, subst}
-use Rattle.mk_core.specs.declared.events.Step.TheVariants as step
-use Rattle.mk_core.specs.History.{World}
-use Rattle.mk_words.specs.States.{WordsState}
-use Rattle.mk_cycle.specs.Kinds.{clears}
+use Rattle.mk_laws.proofs.Vocabulary.{Step, World, ap, refl, subst, ◌<◌}
+use Rattle.mk_cycle.proofs.Vocabulary.{WordsState, clears, does_sweep, only_seen_by, other_step_sweeps, sweeps_then}
 use Rattle.mk_cycle.proofs.BeginSteps.{begins_cycle, begun_free}
-use Rattle.mk_cycle.proofs.CleaningSteps.{clean_stays, cleaned_free, cleaned_phase, cleaned_table, cleans_then, tallied}
-use Rattle.mk_turns.proofs.Sweeping.{does_sweep, only_seen_by, other_step_sweeps, sweeps_then}
-use Rattle.mk_cycle.proofs.Sweepless.{clearing_marks_nothing}
-use Rattle.mk_cycle.proofs.Undirty.{undirty_later}
 use Rattle.mk_cycle.proofs.Begun.{begin_begun, begun_then, clearing_begins_none, does_begin_none}
+use Rattle.mk_cycle.proofs.CleaningSteps.{clean_stays, cleaned_free, cleaned_phase, cleaned_table, cleans_then, tallied}
+use Rattle.mk_cycle.proofs.{Sweepless.clearing_marks_nothing, Undirty.undirty_later}
 use Rattle.mk_cycle.proofs.beginning.begin_cycle.Goals as goal
 
 pub begin-requires-clause-free : goal.begin-requires-clause-free
@@ -61,8 +56,8 @@ returns-clause-reached g c none =
     (tallied _ _ c.tally.ensures.was free zero c.tally.ensures.is 0 c.tally.ensures.acts) in
     let begin = c.begin.ensures.acts.makes in
     sweeps_then p b q all.keeps.call.pass (does_sweep clears p b clearing_marks_nothing all.does)
-    (sweeps_then b d q (only_seen_by b d step.Begin begin)
-    (other_step_sweeps b d step.Begin begin refl)
+    (sweeps_then b d q (only_seen_by b d Step.Begin begin)
+    (other_step_sweeps b d Step.Begin begin refl)
     (c.begin-2.ensures.reached none))
 
 pub returns-clause-begun : goal.returns-clause-begun

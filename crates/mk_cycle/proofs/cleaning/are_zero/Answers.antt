@@ -1,6 +1,5 @@
-use Rattle.std.proofs.Common.{◌≡◌, ℕ, arith, bit_or}
-use Rattle.std.proofs.lemmas.Bool.{eqb-true}
 use Rattle.std.proofs.lemmas.Nat.{le_or_l, le_or_r}
+use Rattle.mk_laws.proofs.Vocabulary.{ℕ, arith, bit_or, eqb-true, ◌≡◌}
 use Rattle.mk_cycle.proofs.cleaning.are_zero.Goals as goal
 
 left_none : (a b : ℕ) → bit_or a b ≡ 0 → a ≡ 0

@@ -1,5 +1,5 @@
-use Rattle.std.proofs.Common.{◌≡◌, ◌≤◌, ◌-◌}
-use Rattle.mk_cycle.specs.Cleaning.{Cleans}
+use Rattle.mk_laws.proofs.Vocabulary.{◌-◌, ◌≡◌, ◌≤◌}
+use Rattle.mk_cycle.proofs.Vocabulary.{Cleans}
 use Rattle.mk_cycle.proofs.CleanedPages.{FreeAreBare}
 use Rattle.mk_cycle.proofs.cleaning.clean_free_pages.Given as goal
 

@@ -1,10 +1,9 @@
-use Rattle.std.proofs.Common.{◌≡◌, ◌∙◌, sym, inl, inr}
-use Rattle.std.proofs.lemmas.Bool.{cases_eq}
-use Rattle.mk_cycle.specs.Cleaning.{Cleans, IsUnmarked, IsUnscanned, WasUndirty}
-use Rattle.mk_cycle.proofs.CleaningSteps.{cleans_then}
+use Rattle.mk_laws.proofs.Vocabulary.{cases_eq, inl, inr, sym, ◌∙◌, ◌≡◌}
+use Rattle.mk_cycle.proofs.Vocabulary.{Cleans, WasUndirty}
 use Rattle.mk_cycle.proofs.Undirty.{undirty_earlier, undirty_later, undirty_now}
+use Rattle.mk_cycle.proofs.{CleaningSteps.cleans_then, cleaning.clean_page.Goals.After-look_before-dirty}
+use Rattle.mk_cycle.specs.Cleaning.{IsUnmarked, IsUnscanned}
 use Rattle.mk_cycle.proofs.cleaning.clean_page.Goals as goal
-use Rattle.mk_cycle.proofs.cleaning.clean_page.Goals.{After-look_before-dirty}
 
 -- what the three looks say
 looks : (c : After-look_before-dirty) → Cleans c.args.turn.now.pass c.look_before-dirty.new.turn.pass

@@ -1,9 +1,9 @@
-use Rattle.std.proofs.Common.{◌≡◌, ◌<◌, ℕ, refl, ◌∙◌, ap, arith}
-use Rattle.mk_words.specs.States.{PassState, WordsState}
+use Rattle.mk_laws.proofs.Vocabulary.{ℕ, ap, arith, refl, ◌<◌, ◌∙◌, ◌≡◌}
+use Rattle.mk_cycle.proofs.Vocabulary.{PassState, WordsState}
 use Rattle.mk_cycle.proofs.CleanedPages.{ready_more, ready_past}
 use Rattle.mk_cycle.proofs.CleaningSteps.{cleaned_table, cleans_nothing, cleans_then}
-use Rattle.mk_cycle.proofs.cleaning.clean_pages_in_use.Goals as goal
 use Rattle.mk_cycle.proofs.cleaning.clean_pages_in_use.Goals.{In_default}
+use Rattle.mk_cycle.proofs.cleaning.clean_pages_in_use.Goals as goal
 
 pub loop-page-init : goal.loop-page-init
 loop-page-init c = record {

@@ -1,5 +1,5 @@
-use Rattle.std.proofs.Common.{◌≡◌, ◌≤◌, ◌-◌}
-use Rattle.mk_cycle.specs.Cleaning.{Cleans}
+use Rattle.mk_laws.proofs.Vocabulary.{◌-◌, ◌≡◌, ◌≤◌}
+use Rattle.mk_cycle.proofs.Vocabulary.{Cleans}
 use Rattle.mk_cycle.proofs.CleanedPages.{AreReady}
 use Rattle.mk_cycle.proofs.cleaning.clean_pages_in_use.Given as goal
 

@@ -1,7 +1,6 @@
-use Rattle.std.proofs.Common.{ℕ, sym, ap, ◌∙◌}
-use Rattle.mk_core.specs.Words.{quarantine_word}
-use Rattle.mk_cycle.proofs.CleaningSteps.{cleaned_free, cleaned_phase, cleaned_table, looked, then_cleans}
-use Rattle.mk_cycle.proofs.CleaningSteps.{snapshot_taken, has_snapshot, halves}
+use Rattle.mk_laws.proofs.Vocabulary.{ℕ, ap, quarantine_word, sym, ◌∙◌}
+use Rattle.mk_cycle.proofs.CleaningSteps.{cleaned_free, cleaned_phase, cleaned_table, halves, has_snapshot, looked}
+use Rattle.mk_cycle.proofs.CleaningSteps.{snapshot_taken, then_cleans}
 use Rattle.mk_cycle.proofs.Allowed.{on_table}
 use Rattle.mk_cycle.proofs.cleaning.copy_freed.Goals as goal
 

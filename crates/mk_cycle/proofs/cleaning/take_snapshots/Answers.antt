@@ -1,9 +1,8 @@
-use Rattle.std.proofs.Common.{◌≡◌, ◌<◌, ℕ, refl, ◌∙◌, ap, arith}
-use Rattle.mk_words.specs.States.{PassState, WordsState}
-use Rattle.mk_cycle.proofs.CleanedPages.{taken_more, taken_past}
+use Rattle.mk_laws.proofs.Vocabulary.{ℕ, ap, arith, refl, ◌<◌, ◌∙◌, ◌≡◌}
+use Rattle.mk_cycle.proofs.Vocabulary.{PassState, WordsState}
 use Rattle.mk_cycle.proofs.CleaningSteps.{cleaned_table, cleans_nothing, cleans_then}
+use Rattle.mk_cycle.proofs.{CleanedPages.taken_more, CleanedPages.taken_past, cleaning.take_snapshots.Goals.In_default}
 use Rattle.mk_cycle.proofs.cleaning.take_snapshots.Goals as goal
-use Rattle.mk_cycle.proofs.cleaning.take_snapshots.Goals.{In_default}
 
 pub loop-page-init : goal.loop-page-init
 loop-page-init c = record {

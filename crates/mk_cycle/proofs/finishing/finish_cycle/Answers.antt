@@ -1,12 +1,8 @@
-use Rattle.std.proofs.Common.{refl, ap, ◌∙◌, append_assoc}
-use Rattle.mk_core.specs.declared.events.Step.TheVariants as step
-use Rattle.mk_words.specs.States.{PassState}
-use Rattle.mk_cycle.specs.Kinds.{sets_tallies}
+use Rattle.mk_laws.proofs.Vocabulary.{Step, ap, append_assoc, refl, ◌∙◌}
+use Rattle.mk_cycle.proofs.Vocabulary.{PassState, does_sweep, only_seen_by, other_step_sweeps, sets_tallies}
+use Rattle.mk_cycle.proofs.Vocabulary.{sweeps_then}
 use Rattle.mk_cycle.proofs.FinishedCycles.{ended_free, finishes_cycle, gives_call, gives_free, has_released}
-use Rattle.mk_turns.proofs.Sweeping.{does_sweep, only_seen_by, other_step_sweeps, sweeps_then}
-use Rattle.mk_cycle.proofs.Sweepless.{setting_marks_nothing}
-use Rattle.mk_cycle.proofs.Told.{told_later}
-use Rattle.mk_cycle.proofs.ClosedBy.{closed_later}
+use Rattle.mk_cycle.proofs.{ClosedBy.closed_later, Sweepless.setting_marks_nothing, Told.told_later}
 use Rattle.mk_cycle.proofs.finishing.finish_cycle.Goals as goal
 
 pub count_cycle-requires-clause-free : goal.count_cycle-requires-clause-free
@@ -39,7 +35,7 @@ returns-clause-reached g c none =
     let end = c.end.ensures.acts.makes in
     sweeps_then p b q (gives_call p b c.give_all_back-turn.ensures.gives).pass
     (c.give_all_back-turn.ensures.reached none)
-    (sweeps_then b e q (only_seen_by b e step.End end) (other_step_sweeps b e step.End end refl)
+    (sweeps_then b e q (only_seen_by b e Step.End end) (other_step_sweeps b e Step.End end refl)
     (does_sweep sets_tallies e q setting_marks_nothing c.count_cycle.ensures.sets.does))
 
 pub returns-clause-told : goal.returns-clause-told

@@ -1,18 +1,10 @@
-use Rattle.std.proofs.Common.{ℕ, ◌-◌, ◌/◌, ◌%◌, ◌^◌, ap, subst, sym, ◌∙◌}
-use Rattle.mk_geom.specs.Headers.{header_of}
-use Rattle.mk_core.specs.Bits.{has_bit}
-use Rattle.mk_core.specs.Cells.{words_under}
-use Rattle.mk_core.specs.declared.events.Step.TheVariants as step
-use Rattle.mk_core.specs.TurnConditions.{drops, gives_back}
-use Rattle.mk_core.specs.Words.{quarantine_word}
-use Rattle.mk_words.specs.States.{now_of}
-use Rattle.mk_words.specs.TurnSteps.{Acts}
-use Rattle.mk_cycle.proofs.Allowed.{on_table}
-use Rattle.mk_cycle.proofs.FreeingSteps.{freed_free}
+use Rattle.mk_laws.proofs.Vocabulary.{Step, ℕ, ap, gives_back, has_bit, header_of, quarantine_word, subst, sym}
+use Rattle.mk_laws.proofs.Vocabulary.{words_under, ◌%◌, ◌-◌, ◌/◌, ◌^◌, ◌∙◌}
+use Rattle.mk_cycle.proofs.Vocabulary.{Acts, drops, now_of}
 use Rattle.mk_cycle.proofs.GiveBack.{drops_here, free_d, gives_all, gives_here, gone_too}
 use Rattle.mk_cycle.proofs.GivingSteps.{look_frees, none_then}
 use Rattle.mk_cycle.proofs.PageSteps.{same_header, same_left, same_used}
-use Rattle.mk_cycle.proofs.SettledPages.{free_cells_stay}
+use Rattle.mk_cycle.proofs.{Allowed.on_table, FreeingSteps.freed_free, SettledPages.free_cells_stay}
 use Rattle.mk_cycle.proofs.freeing.give_back.Goals as goal
 
 pub wipe_released-requires-clause-free : goal.wipe_released-requires-clause-free
@@ -76,7 +68,7 @@ drop_cells-requires-clause-free c =
     (c.look_among-used.ensures.reads
     ∙ same_used p c.look_among-used.new.turn.pass c.args.page (first.same c.args.page)) c.requires.gone
     c.requires.quarantine
-    (subst (λ (n : ℕ). Acts b (step.Used c.args.page n) d) c.without.ensures c.give_cells.ensures.acts)
+    (subst (λ (n : ℕ). Acts b (Step.Used c.args.page n) d) c.without.ensures c.give_cells.ensures.acts)
     c.give_cells.ensures.is
 
 pub drop_cells-requires-clause-drops : goal.drop_cells-requires-clause-drops
@@ -96,7 +88,7 @@ drop_cells-requires-clause-drops c =
     (c.look_among-used.ensures.reads
     ∙ same_used p c.look_among-used.new.turn.pass c.args.page (first.same c.args.page)) c.requires.gone
     c.requires.quarantine
-    (subst (λ (n : ℕ). Acts b (step.Used c.args.page n) d) c.without.ensures c.give_cells.ensures.acts)
+    (subst (λ (n : ℕ). Acts b (Step.Used c.args.page n) d) c.without.ensures c.give_cells.ensures.acts)
     c.give_cells.ensures.is
 
 pub returns-clause-gives : goal.returns-clause-gives
@@ -114,8 +106,8 @@ returns-clause-gives c =
     (c.look_among-used.ensures.reads
     ∙ same_used p c.look_among-used.new.turn.pass c.args.page (first.same c.args.page)) c.requires.gone
     c.requires.quarantine
-    (subst (λ (n : ℕ). Acts b (step.Used c.args.page n) d) c.without.ensures c.give_cells.ensures.acts)
+    (subst (λ (n : ℕ). Acts b (Step.Used c.args.page n) d) c.without.ensures c.give_cells.ensures.acts)
     c.give_cells.ensures.is
-    (subst (λ (n : ℕ). Acts d (step.Quar c.args.page (quarantine_word n (c.args.quarantine / 2 ^ 32 - c.args.gone))) q)
+    (subst (λ (n : ℕ). Acts d (Step.Quar c.args.page (quarantine_word n (c.args.quarantine / 2 ^ 32 - c.args.gone))) q)
     c.without-freed.ensures c.drop_cells.ensures.acts)
     c.drop_cells.ensures.is

@@ -1,18 +1,12 @@
 -- A page's quarantine and mark words are looked at once each, and say what is released on it.
-use Rattle.std.proofs.Common.{◌≡◌, ◌/◌, ◌^◌, ap, sym, ◌∙◌}
-use Rattle.mk_core.specs.Cells.{left_unmarked}
-use Rattle.mk_core.specs.Words.{header_at}
-use Rattle.mk_words.specs.States.{PassState, now_of}
-use Rattle.mk_cycle.specs.Freeing.{GivesNothingBack}
-use Rattle.mk_cycle.specs.ReleasedPages.{held_unmarked, released_on}
-use Rattle.mk_cycle.specs.declared.finishing.Released.{Released}
+use Rattle.mk_laws.proofs.Vocabulary.{ap, header_at, sym, ◌/◌, ◌^◌, ◌∙◌, ◌≡◌}
+use Rattle.mk_cycle.proofs.Vocabulary.{GivesNothingBack, PassState, Released, held_unmarked, left_unmarked, now_of}
+use Rattle.mk_cycle.proofs.Vocabulary.{released_on}
 use Rattle.mk_cycle.proofs.CountedPages.{counted_on, held_by_header, none_held, nothing_on, snapshot_told}
-use Rattle.mk_cycle.proofs.FreeingSteps.{freed_free}
-use Rattle.mk_cycle.proofs.GivingSteps.{none_at_once, none_then}
-use Rattle.mk_cycle.proofs.PageSteps.{same_header}
 use Rattle.mk_cycle.proofs.SettledPages.{free_cells_stay, gives_none, gives_then, marked_gone, none_left_on}
+use Rattle.mk_cycle.proofs.{FreeingSteps.freed_free, GivingSteps.none_at_once, GivingSteps.none_then}
+use Rattle.mk_cycle.proofs.{PageSteps.same_header, freeing.release_cells.Goals.After-without-gone}
 use Rattle.mk_cycle.proofs.freeing.release_cells.Goals as goal
-use Rattle.mk_cycle.proofs.freeing.release_cells.Goals.{After-without-gone}
 
 pub returns-then-snapshot-eq0-clause-released : goal.returns-then-snapshot-eq0-clause-released
 returns-then-snapshot-eq0-clause-released c =

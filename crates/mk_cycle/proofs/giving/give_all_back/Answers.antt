@@ -1,15 +1,11 @@
-use Rattle.std.proofs.Common.{◌<◌, sym, ap, subst, ◌∙◌}
-use Rattle.mk_core.specs.Cells.{head_page}
-use Rattle.mk_words.specs.States.{PassState, WordsState, TurnState, now_of}
-use Rattle.mk_cycle.specs.Holding.{HoldsGates}
-use Rattle.mk_cycle.specs.Kinds.{is_giving_back, holds_gates}
-use Rattle.mk_cycle.proofs.FreeingSteps.{frees_then}
+use Rattle.mk_laws.proofs.Vocabulary.{ap, head_page, subst, sym, ◌<◌, ◌∙◌}
+use Rattle.mk_cycle.proofs.Vocabulary.{HoldsGates, PassState, WordsState, does_sweep, holds_gates, is_giving_back}
+use Rattle.mk_cycle.proofs.Vocabulary.{now_of, sweeps_then}
 use Rattle.mk_cycle.proofs.GivingAll.{all_held, all_told, gives_all_back}
-use Rattle.mk_cycle.proofs.SettledPages.{free_cells_stay, same_occupied}
-use Rattle.mk_turns.proofs.Sweeping.{does_sweep, sweeps_then}
-use Rattle.mk_cycle.proofs.Sweepless.{giving_marks_nothing, holding_marks_nothing}
-use Rattle.mk_cycle.proofs.Told.{told_earlier, told_later}
-use Rattle.mk_cycle.proofs.ClosedBy.{closed_later, closed_when_held}
+use Rattle.mk_cycle.proofs.{ClosedBy.closed_later, ClosedBy.closed_when_held, FreeingSteps.frees_then}
+use Rattle.mk_cycle.proofs.{SettledPages.free_cells_stay, SettledPages.same_occupied, Sweepless.giving_marks_nothing}
+use Rattle.mk_cycle.proofs.{Sweepless.holding_marks_nothing, Told.told_earlier, Told.told_later}
+use Rattle.mk_words.specs.States.{TurnState}
 use Rattle.mk_cycle.proofs.giving.give_all_back.Goals as goal
 
 pub settle_pages-settled-requires-clause-cells : goal.settle_pages-settled-requires-clause-cells

@@ -1,4 +1,4 @@
-use Rattle.std.proofs.Common.{refl, ◌∙◌}
+use Rattle.mk_laws.proofs.Vocabulary.{refl, ◌∙◌}
 use Rattle.mk_cycle.proofs.HoldingSteps.{held_free, hold_holds, holds_nothing, holds_then, look_holds}
 use Rattle.mk_cycle.proofs.holding.hold_gate.Goals as goal
 

@@ -1,5 +1,5 @@
-use Rattle.std.proofs.Common.{◌≡◌}
-use Rattle.mk_cycle.specs.Holding.{HoldsGates}
+use Rattle.mk_laws.proofs.Vocabulary.{◌≡◌}
+use Rattle.mk_cycle.proofs.Vocabulary.{HoldsGates}
 use Rattle.mk_cycle.proofs.holding.hold_gate.Given as goal
 
 abbrev pub invariant-trying : goal.invariant-trying

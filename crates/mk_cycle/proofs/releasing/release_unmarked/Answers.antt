@@ -1,19 +1,11 @@
-use Rattle.std.proofs.Common.{ℕ, refl, ap, subst, sym, ◌∙◌, append_assoc}
-use Rattle.mk_core.specs.declared.config.Config.{Config}
-use Rattle.mk_core.specs.declared.events.Step.TheVariants as step
-use Rattle.mk_core.specs.Frames.{Steady}
-use Rattle.mk_words.specs.States.{PassState, WordsState, now_of}
-use Rattle.mk_cycle.specs.ReleasedPages.{held_below, released_below}
-use Rattle.mk_cycle.specs.FinishCycle.{HasReleased, HoldsFewer}
-use Rattle.mk_cycle.proofs.Allowed.{in_turn, in_turn_after}
-use Rattle.mk_cycle.proofs.HeldReleased.{held_alike, release_holds}
-use Rattle.mk_cycle.proofs.KeptInParts.{free_then, same_config}
-use Rattle.mk_cycle.proofs.ReleasedCounts.{release_tells, told_from}
-use Rattle.mk_cycle.proofs.ReleasedCells.{cells_are_free, pages_are_occupied}
-use Rattle.mk_cycle.proofs.ReleaseSteps.{close_leaves, releases_unmarked}
-use Rattle.mk_turns.proofs.Sweeping.{only_seen_by, other_step_sweeps, sweeps_then}
+use Rattle.mk_laws.proofs.Vocabulary.{Config, Steady, Step, ℕ, ap, append_assoc, refl, subst, sym, ◌∙◌}
+use Rattle.mk_cycle.proofs.Vocabulary.{HasReleased, HoldsFewer, PassState, WordsState, held_below, now_of, only_seen_by}
+use Rattle.mk_cycle.proofs.Vocabulary.{other_step_sweeps, released_below, sweeps_then}
 use Rattle.mk_cycle.proofs.Told.{told_closing, told_earlier, told_later}
-use Rattle.mk_cycle.proofs.ClosedBy.{closed_in_stop}
+use Rattle.mk_cycle.proofs.{Allowed.in_turn, Allowed.in_turn_after, ClosedBy.closed_in_stop, HeldReleased.held_alike}
+use Rattle.mk_cycle.proofs.{HeldReleased.release_holds, KeptInParts.free_then, KeptInParts.same_config}
+use Rattle.mk_cycle.proofs.{ReleaseSteps.close_leaves, ReleaseSteps.releases_unmarked, ReleasedCells.cells_are_free}
+use Rattle.mk_cycle.proofs.{ReleasedCells.pages_are_occupied, ReleasedCounts.release_tells, ReleasedCounts.told_from}
 use Rattle.mk_cycle.proofs.releasing.release_unmarked.Goals as goal
 
 pub returns-clause-releases : goal.returns-clause-releases
@@ -94,9 +86,9 @@ returns-clause-reached g c none =
     let q = c.release.new.self.pass in
     let close = c.close_phase.ensures.acts.makes in
     sweeps_then p b q c.close_marks.ensures.law.keeps.call.pass (c.close_marks.ensures.reached none)
-    (sweeps_then b d q (only_seen_by b d step.Close close)
-    (other_step_sweeps b d step.Close close refl)
-    (other_step_sweeps d q step.Release c.release.ensures.acts.makes refl))
+    (sweeps_then b d q (only_seen_by b d Step.Close close)
+    (other_step_sweeps b d Step.Close close refl)
+    (other_step_sweeps d q Step.Release c.release.ensures.acts.makes refl))
 
 pub returns-clause-told_at_close : goal.returns-clause-told_at_close
 returns-clause-told_at_close g c =

@@ -1,9 +1,6 @@
-use Rattle.std.proofs.Common.{◌∙◌, sym, ap}
-use Rattle.mk_geom.specs.declared.pages.Page.{Page}
-use Rattle.mk_cycle.proofs.Allowed.{on_table}
-use Rattle.mk_cycle.proofs.GivingSteps.{head_frees, head_state, none_at_once}
-use Rattle.mk_cycle.proofs.PageSteps.{page_at_once}
-use Rattle.mk_cycle.proofs.SettledPages.{empties_here, freed_settles}
+use Rattle.mk_laws.proofs.Vocabulary.{Page, ap, sym, ◌∙◌}
+use Rattle.mk_cycle.proofs.{Allowed.on_table, GivingSteps.head_frees, GivingSteps.head_state, GivingSteps.none_at_once}
+use Rattle.mk_cycle.proofs.{PageSteps.page_at_once, SettledPages.empties_here, SettledPages.freed_settles}
 use Rattle.mk_cycle.proofs.settling.free_unused.Goals as goal
 
 pub free_head-requires-clause-empty : goal.free_head-requires-clause-empty

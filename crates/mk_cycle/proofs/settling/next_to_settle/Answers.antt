@@ -1,5 +1,5 @@
-use Rattle.std.proofs.Common.{arith}
-use Rattle.mk_words.specs.States.{now_of}
+use Rattle.mk_laws.proofs.Vocabulary.{arith}
+use Rattle.mk_cycle.proofs.Vocabulary.{now_of}
 use Rattle.mk_cycle.proofs.PageByPage.{next_in_run, next_past}
 use Rattle.mk_cycle.proofs.settling.next_to_settle.Goals as goal
 

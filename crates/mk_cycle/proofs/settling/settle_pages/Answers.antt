@@ -1,14 +1,10 @@
-use Rattle.std.proofs.Common.{◌≡◌, ℕ, ◌+◌, ◌<◌, refl, ◌∙◌, ap, arith}
-use Rattle.mk_geom.specs.declared.pages.Page.{Page}
-use Rattle.mk_geom.specs.Headers.{header_of}
-use Rattle.mk_core.specs.Cells.{header_in}
-use Rattle.mk_core.specs.Counts.{in_a_word}
-use Rattle.mk_laws.specs.LayoutScene.{run_count}
-use Rattle.mk_words.specs.States.{PassState, WordsState, now_of}
-use Rattle.mk_cycle.proofs.FreeingSteps.{freed_table}
+use Rattle.mk_laws.proofs.Vocabulary.{Page, ℕ, ap, arith, header_in, header_of, in_a_word, refl, run_count, ◌+◌, ◌<◌}
+use Rattle.mk_laws.proofs.Vocabulary.{◌∙◌, ◌≡◌}
+use Rattle.mk_cycle.proofs.Vocabulary.{PassState, WordsState, now_of}
 use Rattle.mk_cycle.proofs.PageByPage.{AreSettledBelow, settled_more, settled_none, settled_to}
-use Rattle.mk_cycle.proofs.settling.settle_pages.Goals as goal
 use Rattle.mk_cycle.proofs.settling.settle_pages.Goals.{After-known_page-word, In_default}
+use Rattle.mk_cycle.proofs.FreeingSteps.{freed_table}
+use Rattle.mk_cycle.proofs.settling.settle_pages.Goals as goal
 
 pub loop-page-init : goal.loop-page-init
 loop-page-init c =

@@ -1,9 +1,6 @@
-use Rattle.std.proofs.Common.{ℕ, ◌≤◌, sym, subst, ap, ◌∙◌}
-use Rattle.mk_geom.specs.Addresses.{head_page_under}
-use Rattle.mk_geom.specs.Headers.{header_of}
-use Rattle.mk_cycle.proofs.FreeingSteps.{freed_free}
-use Rattle.mk_cycle.proofs.PageSteps.{page_then}
+use Rattle.mk_laws.proofs.Vocabulary.{ℕ, ap, head_page_under, header_of, subst, sym, ◌∙◌, ◌≤◌}
 use Rattle.mk_cycle.proofs.SettledPages.{head_before, none_at}
+use Rattle.mk_cycle.proofs.{FreeingSteps.freed_free, PageSteps.page_then}
 use Rattle.mk_cycle.proofs.settling.settle_taken.Goals as goal
 
 pub free_unused-requires-clause-free : goal.free_unused-requires-clause-free

@@ -1,5 +1,4 @@
-use Rattle.std.proofs.Common.{◌+◌}
-use Rattle.mk_core.specs.Counts.{in_a_word}
+use Rattle.mk_laws.proofs.Vocabulary.{in_a_word, ◌+◌}
 use Rattle.mk_cycle.proofs.TallySteps.{set_by}
 use Rattle.mk_cycle.proofs.tallying.raise.Goals as goal
 

@@ -1,5 +1,5 @@
-use Rattle.std.proofs.Common.{◌<◌, subst}
-use Rattle.mk_words.specs.States.{WordsState}
+use Rattle.mk_laws.proofs.Vocabulary.{subst, ◌<◌}
+use Rattle.mk_cycle.proofs.Vocabulary.{WordsState}
 use Rattle.mk_cycle.proofs.BeginSteps.{begin_allowed}
 use Rattle.mk_cycle.proofs.turn_steps.begin.Goals as goal
 

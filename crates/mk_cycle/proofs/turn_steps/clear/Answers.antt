@@ -1,4 +1,4 @@
-use Rattle.mk_cycle.proofs.Allowed.{on_table, clear_allowed}
+use Rattle.mk_cycle.proofs.Allowed.{clear_allowed, on_table}
 use Rattle.mk_cycle.proofs.turn_steps.clear.Goals as goal
 
 pub clear-requires-clause-enabled : goal.clear-requires-clause-enabled

@@ -1,5 +1,5 @@
-use Rattle.std.proofs.Common.{◌<◌, subst}
-use Rattle.mk_words.specs.States.{WordsState}
+use Rattle.mk_laws.proofs.Vocabulary.{subst, ◌<◌}
+use Rattle.mk_cycle.proofs.Vocabulary.{WordsState}
 use Rattle.mk_cycle.proofs.EndSteps.{end_allowed}
 use Rattle.mk_cycle.proofs.turn_steps.end.Goals as goal
 

@@ -1,5 +1,4 @@
-use Rattle.mk_cycle.proofs.Allowed.{on_table}
-use Rattle.mk_cycle.proofs.GivingSteps.{head_allowed}
+use Rattle.mk_cycle.proofs.{Allowed.on_table, GivingSteps.head_allowed}
 use Rattle.mk_cycle.proofs.turn_steps.free_head.Goals as goal
 
 pub head-requires-clause-enabled : goal.head-requires-clause-enabled

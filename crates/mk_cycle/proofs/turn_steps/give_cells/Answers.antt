@@ -1,5 +1,4 @@
-use Rattle.mk_cycle.proofs.Allowed.{on_table}
-use Rattle.mk_cycle.proofs.GivingSteps.{used_allowed}
+use Rattle.mk_cycle.proofs.{Allowed.on_table, GivingSteps.used_allowed}
 use Rattle.mk_cycle.proofs.turn_steps.give_cells.Goals as goal
 
 pub used-requires-clause-enabled : goal.used-requires-clause-enabled

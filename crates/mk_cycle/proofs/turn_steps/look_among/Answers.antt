@@ -1,8 +1,7 @@
-use Rattle.std.proofs.Common.{◌≡◌, true, refl, sym, subst}
+use Rattle.mk_laws.proofs.Vocabulary.{refl, subst, sym, true, ◌≡◌}
+use Rattle.mk_cycle.proofs.Vocabulary.{WordsState}
 use Rattle.mk_core.specs.Ranges.{is_word}
-use Rattle.mk_words.specs.States.{WordsState}
-use Rattle.mk_cycle.proofs.Allowed.{in_turn_after, look_allowed}
-use Rattle.mk_cycle.proofs.MayAct.{calm_admitted}
+use Rattle.mk_cycle.proofs.{Allowed.in_turn_after, Allowed.look_allowed, MayAct.calm_admitted}
 use Rattle.mk_cycle.proofs.turn_steps.look_among.Goals as goal
 
 pub look_among-requires-clause-enabled : goal.look_among-requires-clause-enabled

@@ -1,6 +1,5 @@
-use Rattle.std.proofs.Common.{refl}
-use Rattle.mk_cycle.proofs.Allowed.{on_table, snapshot_allowed}
-use Rattle.mk_cycle.proofs.MayAct.{calm_admitted}
+use Rattle.mk_laws.proofs.Vocabulary.{refl}
+use Rattle.mk_cycle.proofs.{Allowed.on_table, Allowed.snapshot_allowed, MayAct.calm_admitted}
 use Rattle.mk_cycle.proofs.turn_steps.take_snapshot.Goals as goal
 
 pub quar-requires-clause-enabled : goal.quar-requires-clause-enabled

@@ -1,5 +1,5 @@
-use Rattle.std.proofs.Common.{◌<◌, sym, subst}
-use Rattle.mk_words.specs.States.{WordsState}
+use Rattle.mk_laws.proofs.Vocabulary.{subst, sym, ◌<◌}
+use Rattle.mk_cycle.proofs.Vocabulary.{WordsState}
 use Rattle.mk_cycle.proofs.HoldingSteps.{hold_allowed}
 use Rattle.mk_cycle.proofs.turn_steps.try_hold.Goals as goal
 

@@ -1,5 +1,5 @@
-use Rattle.std.proofs.Common.{◌<◌, ◌*◌, sym, subst}
-use Rattle.mk_words.specs.States.{WordsState}
+use Rattle.mk_laws.proofs.Vocabulary.{subst, sym, ◌*◌, ◌<◌}
+use Rattle.mk_cycle.proofs.Vocabulary.{WordsState}
 use Rattle.mk_cycle.proofs.GivingSteps.{wipe_allowed}
 use Rattle.mk_cycle.proofs.turn_steps.wipe.Goals as goal
 

@@ -1,5 +1,5 @@
-use Rattle.std.proofs.Common.{◌≡◌, ℕ, ◌+◌, ◌<◌}
-use Rattle.mk_cycle.specs.Freeing.{GivesNothingBack, IsZero}
+use Rattle.mk_laws.proofs.Vocabulary.{ℕ, ◌+◌, ◌<◌, ◌≡◌}
+use Rattle.mk_cycle.proofs.Vocabulary.{GivesNothingBack, IsZero}
 use Rattle.mk_cycle.proofs.wiping.wipe_cell.Given as goal
 
 abbrev pub invariant-loop-i : goal.invariant-loop-i

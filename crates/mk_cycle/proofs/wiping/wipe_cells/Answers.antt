@@ -1,10 +1,8 @@
-use Rattle.std.proofs.Common.{◌≡◌, ◌⊎◌, ◌+◌, ◌*◌, ℕ, ◌<◌, ◌^◌, refl, sym, ap, ◌∙◌, subst, true, false, inl, inr}
-use Rattle.std.proofs.lemmas.Bool.{cases_Bool, true≢false}
-use Rattle.mk_core.specs.Bits.{has_bit, without}
-use Rattle.mk_core.proofs.WordBits.{no_bit}
-use Rattle.mk_cycle.specs.Freeing.{IsZero}
-use Rattle.mk_cycle.proofs.RestBits.{fewer_left, left_among, taken_or_gone}
+use Rattle.mk_laws.proofs.Vocabulary.{ℕ, ap, cases_Bool, false, has_bit, inl, inr, no_bit, refl, subst, sym, true}
+use Rattle.mk_laws.proofs.Vocabulary.{true≢false, without, ◌*◌, ◌+◌, ◌<◌, ◌^◌, ◌∙◌, ◌≡◌, ◌⊎◌}
+use Rattle.mk_cycle.proofs.Vocabulary.{IsZero}
 use Rattle.mk_cycle.proofs.GivingSteps.{none_at_once, none_then, still_unmapped_word}
+use Rattle.mk_cycle.proofs.RestBits.{fewer_left, left_among, taken_or_gone}
 use Rattle.mk_cycle.proofs.wiping.wipe_cells.Goals as goal
 
 pub loop-rest-init : goal.loop-rest-init

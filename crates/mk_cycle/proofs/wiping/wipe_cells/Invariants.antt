@@ -1,6 +1,5 @@
-use Rattle.std.proofs.Common.{◌≡◌, ℕ, ◌+◌, ◌*◌, ◌<◌, true, false}
-use Rattle.mk_core.specs.Bits.{has_bit}
-use Rattle.mk_cycle.specs.Freeing.{GivesNothingBack, IsZero}
+use Rattle.mk_laws.proofs.Vocabulary.{ℕ, false, has_bit, true, ◌*◌, ◌+◌, ◌<◌, ◌≡◌}
+use Rattle.mk_cycle.proofs.Vocabulary.{GivesNothingBack, IsZero}
 use Rattle.mk_cycle.proofs.wiping.wipe_cells.Given as goal
 
 abbrev pub invariant-loop-rest : goal.invariant-loop-rest

@@ -1,7 +1,6 @@
-use Rattle.std.proofs.Common.{ℕ, ◌+◌, ◌*◌, ◌<◌, sym, subst, ◌∙◌}
-use Rattle.mk_cycle.specs.Freeing.{IsUnmappedWord, IsZero}
-use Rattle.mk_cycle.proofs.GiveBack.{chosen_unmapped, chosen_wiped}
-use Rattle.mk_cycle.proofs.GivingSteps.{none_at_once}
+use Rattle.mk_laws.proofs.Vocabulary.{ℕ, subst, sym, ◌*◌, ◌+◌, ◌<◌, ◌∙◌}
+use Rattle.mk_cycle.proofs.Vocabulary.{IsUnmappedWord, IsZero}
+use Rattle.mk_cycle.proofs.{GiveBack.chosen_unmapped, GiveBack.chosen_wiped, GivingSteps.none_at_once}
 use Rattle.mk_cycle.proofs.wiping.wipe_released.Goals as goal
 
 pub wipe_cells-requires-clause-unmapped : goal.wipe_cells-requires-clause-unmapped

@@ -1,6 +1,6 @@
-use Rattle.std.proofs.Common.{◌∙◌}
-use Rattle.mk_cycle.proofs.FreeingSteps.{freed_free, freed_phase, still_unmapped}
+use Rattle.mk_laws.proofs.Vocabulary.{◌∙◌}
 use Rattle.mk_cycle.proofs.GivingSteps.{holds_released, look_frees, none_then, wipe_frees, wiped}
+use Rattle.mk_cycle.proofs.FreeingSteps.{freed_free, freed_phase, still_unmapped}
 use Rattle.mk_cycle.proofs.wiping.wipe_word.Goals as goal
 
 pub wipe-requires-clause-free : goal.wipe-requires-clause-free

@@ -1,4 +1,4 @@
-use Rattle.std.proofs.Common.{refl, ◌∙◌}
+use Rattle.mk_laws.proofs.Vocabulary.{refl, ◌∙◌}
 use Rattle.mk_engines.proofs.MarksBeside.{goes_nowhere, goes_then, others_on}
 use Rattle.mk_engines.proofs.gates.wait_and_hold.Goals as goal
 

@@ -1,7 +1,6 @@
-use Rattle.std.proofs.Common.{◌≡◌, false}
-use Rattle.mk_core.specs.Moments.{is_held}
-use Rattle.mk_words.specs.States.{now_of}
+use Rattle.mk_laws.proofs.Vocabulary.{false, is_held, ◌≡◌}
 use Rattle.mk_engines.specs.Beside.{GoesBeside, KeepsOtherGates}
+use Rattle.mk_words.specs.States.{now_of}
 use Rattle.mk_engines.proofs.gates.wait_and_hold.Given as goal
 
 abbrev pub invariant-trying : goal.invariant-trying

@@ -1,5 +1,5 @@
-use Rattle.std.proofs.Common.{arith, below_more}
-use Rattle.mk_core.specs.declared.events.Word.TheVariants as word
+use Rattle.std.proofs.Common.{below_more}
+use Rattle.mk_laws.proofs.Vocabulary.{Word, arith}
 use Rattle.mk_engines.proofs.MarksBeside.{gates_at_once, gates_on, goes_nowhere, goes_then, looked_on, on_looked}
 use Rattle.mk_engines.proofs.roots.mark_globals.Goals as goal
 
@@ -22,7 +22,7 @@ loop-global-preserved c =
       gates = gates_on t u v before.on before.gates c.mark_root.ensures.gates;
       looked =
           below_more _ _
-          (λ g lt. looked_on (word.Global g) t u v before.on c.mark_root.ensures.on (before.looked g lt))
-          (on_looked (word.Global c.loop-global.global) t u v before.on
+          (λ g lt. looked_on (Word.Global g) t u v before.on c.mark_root.ensures.on (before.looked g lt))
+          (on_looked (Word.Global c.loop-global.global) t u v before.on
           c.mark_root.ensures.on c.mark_root.ensures.looked);
     }

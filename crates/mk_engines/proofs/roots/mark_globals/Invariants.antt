@@ -1,5 +1,4 @@
-use Rattle.std.proofs.Common.{ℕ, ◌<◌}
-use Rattle.mk_core.specs.declared.events.Word.TheVariants as word
+use Rattle.mk_laws.proofs.Vocabulary.{Word, ℕ, ◌<◌}
 use Rattle.mk_cycle.specs.TurnKeeps.{KeepsGates}
 use Rattle.mk_engines.specs.Beside.{GoesBeside, LooksAt}
 use Rattle.mk_engines.proofs.roots.mark_globals.Given as goal
@@ -9,5 +8,5 @@ invariant-loop-global l =
     record {
       on : GoesBeside l.fn.turn l.turn;
       gates : KeepsGates l.fn.turn.pass l.turn.pass;
-      looked : (g : ℕ) → g < l.global → LooksAt (word.Global g) l.fn.turn.pass l.turn.pass;
+      looked : (g : ℕ) → g < l.global → LooksAt (Word.Global g) l.fn.turn.pass l.turn.pass;
     }

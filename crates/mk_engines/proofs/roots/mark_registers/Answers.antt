@@ -1,5 +1,5 @@
-use Rattle.std.proofs.Common.{arith, below_more}
-use Rattle.mk_core.specs.declared.events.Word.TheVariants as word
+use Rattle.std.proofs.Common.{below_more}
+use Rattle.mk_laws.proofs.Vocabulary.{Word, arith}
 use Rattle.mk_engines.proofs.MarksBeside.{gates_at_once, gates_on, goes_nowhere, goes_then, looked_on, on_looked}
 use Rattle.mk_engines.proofs.roots.mark_registers.Goals as goal
 
@@ -22,7 +22,7 @@ loop-caller-preserved g c =
       gates = gates_on t u v before.on before.gates c.mark_caller.ensures.gates;
       looked =
           below_more _ _
-          (λ k lt r few. looked_on (word.Reg k r) t u v before.on c.mark_caller.ensures.on (before.looked k lt r few))
-          (λ r few. on_looked (word.Reg c.loop-caller.caller r) t u v before.on c.mark_caller.ensures.on
+          (λ k lt r few. looked_on (Word.Reg k r) t u v before.on c.mark_caller.ensures.on (before.looked k lt r few))
+          (λ r few. on_looked (Word.Reg c.loop-caller.caller r) t u v before.on c.mark_caller.ensures.on
           (c.mark_caller.ensures.looked r few));
     }

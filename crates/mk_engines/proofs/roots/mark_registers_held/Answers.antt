@@ -1,4 +1,4 @@
-use Rattle.mk_core.specs.declared.events.Word.TheVariants as word
+use Rattle.mk_laws.proofs.Vocabulary.{Word}
 use Rattle.mk_engines.proofs.MarksBeside.{goes_then, looked_on, on_looked}
 use Rattle.mk_engines.proofs.roots.mark_registers_held.Goals as goal
 
@@ -11,7 +11,7 @@ returns-then-was_open-clause-on g c =
 
 pub returns-then-was_open-clause-looked : goal.returns-then-was_open-clause-looked
 returns-then-was_open-clause-looked g c r few =
-    let x = word.Reg c.args.caller r in
+    let x = Word.Reg c.args.caller r in
     let t = c.args.turn.now in
     let marked = c.mark_registers_of.ensures in
     looked_on x t c.mark_registers_of.new.turn c.open_gate.new.turn
@@ -27,5 +27,5 @@ returns-else-was_open-clause-on g c =
 
 pub returns-else-was_open-clause-looked : goal.returns-else-was_open-clause-looked
 returns-else-was_open-clause-looked g c r few =
-    on_looked (word.Reg c.args.caller r) c.args.turn.now c.hold_gate-was_open.new.turn c.mark_registers_of.new.turn
+    on_looked (Word.Reg c.args.caller r) c.args.turn.now c.hold_gate-was_open.new.turn c.mark_registers_of.new.turn
     c.hold_gate-was_open.ensures.on c.mark_registers_of.ensures.on (c.mark_registers_of.ensures.looked r few)

@@ -1,5 +1,5 @@
-use Rattle.std.proofs.Common.{arith, below_more}
-use Rattle.mk_core.specs.declared.events.Word.TheVariants as word
+use Rattle.std.proofs.Common.{below_more}
+use Rattle.mk_laws.proofs.Vocabulary.{Word, arith}
 use Rattle.mk_engines.proofs.MarksBeside.{gates_at_once, gates_on, goes_nowhere, goes_then, looked_on, on_looked}
 use Rattle.mk_engines.proofs.roots.mark_registers_of.Goals as goal
 
@@ -22,7 +22,7 @@ loop-register-preserved c =
       gates = gates_on t u v before.on before.gates c.mark_root.ensures.gates;
       looked =
           below_more _ _
-          (λ r lt. looked_on (word.Reg c.args.caller r) t u v before.on c.mark_root.ensures.on (before.looked r lt))
-          (on_looked (word.Reg c.args.caller c.loop-register.register) t u v before.on
+          (λ r lt. looked_on (Word.Reg c.args.caller r) t u v before.on c.mark_root.ensures.on (before.looked r lt))
+          (on_looked (Word.Reg c.args.caller c.loop-register.register) t u v before.on
           c.mark_root.ensures.on c.mark_root.ensures.looked);
     }

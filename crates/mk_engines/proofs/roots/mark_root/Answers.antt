@@ -1,7 +1,6 @@
-use Rattle.std.proofs.Common.{ap, ◌∙◌}
-use Rattle.mk_core.specs.Cells.{points_well}
-use Rattle.mk_words.specs.States.{WordsState, now_of}
+use Rattle.mk_laws.proofs.Vocabulary.{ap, points_well, ◌∙◌}
 use Rattle.mk_engines.proofs.MarksBeside.{root_looked, root_then}
+use Rattle.mk_words.specs.States.{WordsState, now_of}
 use Rattle.mk_engines.proofs.roots.mark_root.Goals as goal
 
 pub returns-clause-on : goal.returns-clause-on

@@ -1,8 +1,7 @@
-use Rattle.std.proofs.Common.{◌<◌, subst}
-use Rattle.mk_core.specs.declared.events.Word.TheVariants as word
-use Rattle.mk_words.specs.States.{WordsState}
-use Rattle.mk_engines.proofs.MarkedRoots.{marks_roots}
+use Rattle.mk_laws.proofs.Vocabulary.{Word, subst, ◌<◌}
 use Rattle.mk_engines.proofs.MarksBeside.{all_looked, goes_then, looked_on, on_looked}
+use Rattle.mk_engines.proofs.MarkedRoots.{marks_roots}
+use Rattle.mk_words.specs.States.{WordsState}
 use Rattle.mk_engines.proofs.roots.mark_roots.Goals as goal
 
 pub returns-clause-on : goal.returns-clause-on
@@ -17,8 +16,8 @@ returns-clause-roots g c =
     let v = c.mark_globals.new.turn in
     marks_roots t.pass v.pass (returns-clause-on g c).marks
     (all_looked t.pass v.pass
-    (λ k r lt few. looked_on (word.Reg k r) t u v c.mark_registers.ensures.on c.mark_globals.ensures.on
+    (λ k r lt few. looked_on (Word.Reg k r) t u v c.mark_registers.ensures.on c.mark_globals.ensures.on
     (c.mark_registers.ensures.looked k
     (subst (λ (w : WordsState). k < w.config.callers) c.requires.one_table lt) r few))
-    (λ i lt. on_looked (word.Global i) t u v c.mark_registers.ensures.on c.mark_globals.ensures.on
+    (λ i lt. on_looked (Word.Global i) t u v c.mark_registers.ensures.on c.mark_globals.ensures.on
     (c.mark_globals.ensures.looked i lt)))

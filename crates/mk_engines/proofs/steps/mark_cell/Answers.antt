@@ -1,11 +1,8 @@
-use Rattle.std.proofs.Common.{sym, subst}
-use Rattle.mk_core.specs.declared.events.Step.TheVariants as step
+use Rattle.mk_laws.proofs.Vocabulary.{Step, subst, sym}
 use Rattle.mk_core.proofs.PointedPages.{pointed_within}
-use Rattle.mk_words.specs.States.{now_of}
-use Rattle.mk_words.specs.Steps.{IsEnabledTo}
-use Rattle.mk_words.specs.TurnSteps.{Acts}
 use Rattle.mk_cycle.proofs.Allowed.{in_turn}
 use Rattle.mk_engines.proofs.BesideSteps.{goes_mark, marked_there, may_mark_beside}
+use Rattle.mk_words.specs.{States.now_of, Steps.IsEnabledTo, TurnSteps.Acts}
 use Rattle.mk_engines.proofs.steps.mark_cell.Goals as goal
 
 pub bit-requires : goal.bit-requires
@@ -16,7 +13,7 @@ bit-requires c =
 
 pub mark-requires-clause-enabled : goal.mark-requires-clause-enabled
 mark-requires-clause-enabled c =
-    subst (λ v. IsEnabledTo c.args.turn.now.pass (step.Mark c.args.cell.page v)) (sym c.bit.ensures)
+    subst (λ v. IsEnabledTo c.args.turn.now.pass (Step.Mark c.args.cell.page v)) (sym c.bit.ensures)
     (may_mark_beside c.args.turn.now.pass
     (in_turn _ _ c.is_in_order.ensures.own c.is_in_order.ensures.turn c.is_in_order.ensures.history)
     c.requires.beside c.args.cell c.requires.reached)
@@ -24,11 +21,11 @@ mark-requires-clause-enabled c =
 pub returns-clause-on : goal.returns-clause-on
 returns-clause-on c =
     goes_mark c.args.turn.now c.mark.new.self c.requires.beside c.mark.ensures.op c.args.cell (subst (λ v. Acts
-    c.args.turn.now.pass (step.Mark c.args.cell.page v) c.mark.new.self.pass) c.bit.ensures c.mark.ensures.acts)
+    c.args.turn.now.pass (Step.Mark c.args.cell.page v) c.mark.new.self.pass) c.bit.ensures c.mark.ensures.acts)
     c.requires.reached
 
 pub returns-clause-marked : goal.returns-clause-marked
 returns-clause-marked c =
     marked_there c.args.turn.now c.mark.new.self c.requires.beside c.mark.ensures.op c.args.cell (subst (λ v. Acts
-    c.args.turn.now.pass (step.Mark c.args.cell.page v) c.mark.new.self.pass) c.bit.ensures c.mark.ensures.acts)
+    c.args.turn.now.pass (Step.Mark c.args.cell.page v) c.mark.new.self.pass) c.bit.ensures c.mark.ensures.acts)
     c.requires.reached

@@ -1,7 +1,7 @@
-use Rattle.std.proofs.Common.{◌<◌, sym, subst}
-use Rattle.mk_words.specs.States.{WordsState}
+use Rattle.mk_laws.proofs.Vocabulary.{subst, sym, ◌<◌}
 use Rattle.mk_cycle.proofs.Allowed.{in_turn}
 use Rattle.mk_engines.proofs.BesideSteps.{goes_open, may_open, open_others, opened}
+use Rattle.mk_words.specs.States.{WordsState}
 use Rattle.mk_engines.proofs.steps.open_gate.Goals as goal
 
 pub open_gate-requires-clause-enabled : goal.open_gate-requires-clause-enabled

@@ -1,9 +1,9 @@
-use Rattle.std.proofs.Common.{sym}
+use Rattle.mk_laws.proofs.Vocabulary.{sym}
 use Rattle.mk_core.proofs.PointedPages.{pointed_within}
-use Rattle.mk_words.specs.States.{now_of}
 use Rattle.mk_cycle.proofs.Allowed.{in_turn}
 use Rattle.mk_engines.proofs.BesideSteps.{gates_for_cell, goes_for_cell, may_look_at_headers}
 use Rattle.mk_engines.proofs.MarksBeside.{gates_on, goes_then}
+use Rattle.mk_words.specs.States.{now_of}
 use Rattle.mk_engines.proofs.values.mark_value.Goals as goal
 
 pub cell_pointed-requires-clause-may : goal.cell_pointed-requires-clause-may

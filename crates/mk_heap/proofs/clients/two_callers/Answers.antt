@@ -1,5 +1,4 @@
-use Rattle.std.proofs.Common.{◌≤◌, sym, subst, arith}
-use Rattle.mk_core.specs.declared.config.Config.{Config}
+use Rattle.mk_laws.proofs.Vocabulary.{Config, arith, subst, sym, ◌≤◌}
 use Rattle.mk_heap.proofs.ClientSteps.{behind_one, pass_of_next}
 use Rattle.mk_heap.proofs.clients.two_callers.Goals as goal
 

@@ -1,29 +1,13 @@
-use Rattle.std.proofs.Common.{◌≡◌, ◌%◌, refl, sym, ◌∙◌, ap, subst, arith}
-use Rattle.mk_core.specs.declared.events.Seat.{Seat}
-use Rattle.mk_core.specs.declared.events.Seat.TheVariants.{Host}
+use Rattle.mk_laws.proofs.Vocabulary.{Host, Seat, ap, arith, refl, subst, sym, ◌%◌, ◌∙◌, ◌≡◌}
 use Rattle.mk_core.proofs.PhaseTests.{in_word, not_in_word}
-use Rattle.mk_words.specs.Seats.{Has}
-use Rattle.mk_words.specs.States.{PassState}
+use Rattle.mk_cycle.proofs.{Allowed.in_turn, KeptInParts.free_then, KeptInParts.keeps_less}
 use Rattle.mk_cycle.specs.TurnKeeps.{but_phase, unchanged}
-use Rattle.mk_cycle.proofs.Allowed.{in_turn}
-use Rattle.mk_cycle.proofs.KeptInParts.{free_then, keeps_less}
 use Rattle.mk_heap.proofs.BeforeOver.{taken_overs}
-use Rattle.mk_heap.proofs.HomeCallers.{taken_phase}
-use Rattle.mk_heap.proofs.IdleTurns.{
-  ends_none,
-  ends_one,
-  exact_kept,
-  finished_idle,
-  fresh_free,
-  look_keeps,
-  looked_idle,
-  none_is_on,
-  phase_found,
-  tidy_kept,
-}
-use Rattle.mk_heap.proofs.MovedHosts.{turn_moves}
+use Rattle.mk_heap.proofs.IdleTurns.{ends_none, ends_one, exact_kept, finished_idle, fresh_free, look_keeps}
+use Rattle.mk_heap.proofs.IdleTurns.{looked_idle, none_is_on, phase_found, tidy_kept}
+use Rattle.mk_heap.proofs.{HomeCallers.taken_phase, MovedHosts.turn_moves, UnsweptHosts.taken_then_sweeps}
 use Rattle.mk_turns.proofs.Sweeping.{other_step_sweeps, step_then_sweeps}
-use Rattle.mk_heap.proofs.UnsweptHosts.{taken_then_sweeps}
+use Rattle.mk_words.specs.{Seats.Has, States.PassState}
 use Rattle.mk_heap.proofs.ending.take_idle_turn.Goals as goal
 
 pub returns-then-is_in-clause-takes : goal.returns-then-is_in-clause-takes

@@ -1,7 +1,5 @@
-use Rattle.std.proofs.Common.{sym, subst}
-use Rattle.mk_words.specs.States.{PassState}
-use Rattle.mk_caller.specs.States.{CallerState, IsIdleCaller}
-use Rattle.mk_heap_tests.specs.Passes.{HoldsNull}
+use Rattle.mk_laws.proofs.Vocabulary.{subst, sym}
+use Rattle.mk_heap_tests.proofs.Vocabulary.{CallerState, HoldsNull, IsIdleCaller, PassState}
 use Rattle.mk_heap_tests.proofs.JoinedHosts.{holds_null, same_at_home, still_for}
 use Rattle.mk_heap_tests.proofs.callers.make_alone.Goals as goal
 

@@ -1,17 +1,6 @@
-use Rattle.mk_words.specs.States.{PassState}
-use Rattle.mk_heap_tests.proofs.NullCalls.{
-  may_compare,
-  may_load,
-  may_move,
-  may_read,
-  may_store,
-  stays_compared,
-  stays_loaded,
-  stays_moved,
-  stays_read_through,
-  stays_stored,
-  stays_then,
-}
+use Rattle.mk_heap_tests.proofs.Vocabulary.{PassState}
+use Rattle.mk_heap_tests.proofs.NullCalls.{may_compare, may_load, may_move, may_read, may_store, stays_compared}
+use Rattle.mk_heap_tests.proofs.NullCalls.{stays_loaded, stays_moved, stays_read_through, stays_stored, stays_then}
 use Rattle.mk_heap_tests.proofs.callers.make_round.Goals as goal
 
 pub move_ptr-moved-requires-clause-admitted : goal.move_ptr-moved-requires-clause-admitted

@@ -1,4 +1,4 @@
-use Rattle.std.proofs.Common.{◌≡◌, true}
+use Rattle.mk_laws.proofs.Vocabulary.{true, ◌≡◌}
 use Rattle.mk_heap_tests.specs.Passes.{StaysNull}
 use Rattle.mk_heap_tests.proofs.callers.make_rounds.Given as goal
 

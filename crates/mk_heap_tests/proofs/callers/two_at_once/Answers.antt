@@ -1,7 +1,5 @@
-use Rattle.std.proofs.Common.{◌≡◌, ◌∙◌, ap, arith}
-use Rattle.mk_core.specs.declared.config.Config.{Config}
-use Rattle.mk_words.specs.States.{WordsState}
-use Rattle.mk_heap.specs.Hosts.{HostState}
+use Rattle.mk_laws.proofs.Vocabulary.{Config, ap, arith, ◌∙◌, ◌≡◌}
+use Rattle.mk_heap_tests.proofs.Vocabulary.{HostState, WordsState}
 use Rattle.mk_heap_tests.proofs.JoinedHosts.{alone_in, first_of, second_of, two_are_joined}
 use Rattle.mk_heap_tests.proofs.callers.two_at_once.Goals as goal
 

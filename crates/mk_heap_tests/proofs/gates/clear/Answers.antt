@@ -1,4 +1,4 @@
-use Rattle.std.proofs.Common.{arith}
+use Rattle.mk_laws.proofs.Vocabulary.{arith}
 use Rattle.mk_heap.proofs.ClientSteps.{may_clear}
 use Rattle.mk_heap_tests.proofs.gates.clear.Goals as goal
 

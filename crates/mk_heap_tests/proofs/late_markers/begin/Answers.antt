@@ -1,7 +1,5 @@
+use Rattle.mk_heap_tests.proofs.Vocabulary.{InTurn, PassState, in_turn}
 use Rattle.mk_core.proofs.PhaseTests.{not_in_word}
-use Rattle.mk_words.specs.States.{PassState}
-use Rattle.mk_cycle.specs.TurnKeeps.{InTurn}
-use Rattle.mk_cycle.proofs.Allowed.{in_turn}
 use Rattle.mk_heap_tests.proofs.LateMarkers.{host_may, idle, looked_table, marking}
 use Rattle.mk_heap_tests.proofs.late_markers.begin.Goals as goal
 

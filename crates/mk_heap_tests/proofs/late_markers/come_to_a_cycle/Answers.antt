@@ -1,12 +1,7 @@
-use Rattle.std.proofs.Common.{◌∙◌, ◌<◌, length, sym, ap, subst, arith}
-use Rattle.std.proofs.lemmas.Bool.{lt-ltb}
-use Rattle.mk_core.specs.declared.config.Config.{Config}
-use Rattle.mk_core.specs.declared.events.Seat.TheVariants.{Caller}
-use Rattle.mk_words.specs.Seats.{Has}
-use Rattle.mk_words.proofs.Seats.{has_all}
-use Rattle.mk_words.specs.States.{PassState}
-use Rattle.mk_heap_tests.proofs.JoinedHosts.{first_split}
+use Rattle.mk_laws.proofs.Vocabulary.{Caller, Config, ap, arith, length, lt-ltb, subst, sym, ◌<◌, ◌∙◌}
+use Rattle.mk_heap_tests.proofs.Vocabulary.{Has, PassState, has_all}
 use Rattle.mk_heap_tests.proofs.LateMarkers.{host_at_first, marker_is_home, marker_is_outside, marker_split}
+use Rattle.mk_heap_tests.proofs.JoinedHosts.{first_split}
 use Rattle.mk_heap_tests.proofs.late_markers.come_to_a_cycle.Goals as goal
 
 pub split-caller-requires-clause-here : goal.split-caller-requires-clause-here

@@ -1,9 +1,7 @@
-use Rattle.std.proofs.Common.{◌∙◌, length, sym, ap, subst, arith}
-use Rattle.mk_words.specs.States.{PassState, WordsState}
-use Rattle.mk_caller.specs.States.{CallerState}
+use Rattle.mk_laws.proofs.Vocabulary.{ap, arith, length, subst, sym, ◌∙◌}
+use Rattle.mk_heap_tests.proofs.Vocabulary.{CallerState, PassState, WordsState}
+use Rattle.mk_heap_tests.proofs.{HeldObjects.may_at_first, LateMarkers.attends_not}
 use Rattle.mk_marker.specs.Markers.{IsOut}
-use Rattle.mk_heap_tests.proofs.HeldObjects.{may_at_first}
-use Rattle.mk_heap_tests.proofs.LateMarkers.{attends_not}
 use Rattle.mk_heap_tests.proofs.late_markers.mark_beside.Goals as goal
 
 pub new-marker-requires-clause-one_table : goal.new-marker-requires-clause-one_table

@@ -1,10 +1,7 @@
-use Rattle.std.proofs.Common.{◌≡◌, ◌∙◌, true, sym, ap, subst}
-use Rattle.mk_core.specs.declared.events.Step.TheVariants as step
-use Rattle.mk_core.specs.Moments.{is_held}
-use Rattle.mk_words.specs.States.{TurnState, now_of}
-use Rattle.mk_words.specs.Steps.{IsEnabledTo}
-use Rattle.mk_cycle.proofs.Allowed.{in_turn}
+use Rattle.mk_laws.proofs.Vocabulary.{Step, ap, is_held, subst, sym, true, ◌∙◌, ◌≡◌}
+use Rattle.mk_heap_tests.proofs.Vocabulary.{IsEnabledTo, in_turn, now_of}
 use Rattle.mk_heap_tests.proofs.LateMarkers.{all_held, may_hold, may_want, on_ok, stop_table}
+use Rattle.mk_words.specs.States.{TurnState}
 use Rattle.mk_heap_tests.proofs.late_markers.want_close.Goals as goal
 
 pub try_hold-requires-clause-one_table : goal.try_hold-requires-clause-one_table
@@ -44,7 +41,7 @@ want-requires-clause-enabled c =
     let o = c.is_in_order.ensures in
     let k = c.is_in_order-2.ensures in
     let held : TurnState = c.try_hold.new.self in
-    subst (λ (s : TurnState). IsEnabledTo s.pass step.Want) (sym c.stopped-stop.ensures)
+    subst (λ (s : TurnState). IsEnabledTo s.pass Step.Want) (sym c.stopped-stop.ensures)
     (may_want c.args.words.now c.args.turn.pass c.requires.turn c.requires.one
     (in_turn c.args.turn.pass c.args.turn.op o.own o.turn o.history) held.pass
     (in_turn held.pass held.op k.own k.turn k.history) c.try_hold.ensures.acts

@@ -1,8 +1,5 @@
-use Rattle.std.proofs.Common.{◌≡◌, ◌<◌, ◌+◌, ◌∙◌, [], ◌∷◌, length, sym, ap, subst, arith}
-use Rattle.mk_core.specs.declared.config.Config.{Config}
-use Rattle.mk_words.specs.States.{PassState, WordsState}
-use Rattle.mk_caller.specs.States.{CallerState}
-use Rattle.mk_heap.specs.Hosts.{HostState}
+use Rattle.mk_laws.proofs.Vocabulary.{Config, ap, arith, length, subst, sym, [], ◌+◌, ◌<◌, ◌∙◌, ◌∷◌, ◌≡◌}
+use Rattle.mk_heap_tests.proofs.Vocabulary.{CallerState, HostState, PassState, WordsState}
 use Rattle.mk_heap_tests.proofs.HeldObjects.{is_alone, ready_at_first}
 use Rattle.mk_heap_tests.proofs.objects.fill_a_page.Goals as goal
 

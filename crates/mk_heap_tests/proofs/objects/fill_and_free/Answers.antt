@@ -1,5 +1,5 @@
-use Rattle.std.proofs.Common.{◌∙◌, length, sym, ap}
-use Rattle.mk_words.specs.States.{PassState}
+use Rattle.mk_laws.proofs.Vocabulary.{ap, length, sym, ◌∙◌}
+use Rattle.mk_heap_tests.proofs.Vocabulary.{PassState}
 use Rattle.mk_heap_tests.proofs.HeldObjects.{may_at, same_then}
 use Rattle.mk_heap_tests.proofs.objects.fill_and_free.Goals as goal
 

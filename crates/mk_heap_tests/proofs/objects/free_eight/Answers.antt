@@ -1,4 +1,4 @@
-use Rattle.std.proofs.Common.{refl}
+use Rattle.mk_laws.proofs.Vocabulary.{refl}
 use Rattle.mk_heap_tests.proofs.HeldObjects.{same_then}
 use Rattle.mk_heap_tests.proofs.objects.free_eight.Goals as goal
 

@@ -1,5 +1,5 @@
-use Rattle.std.proofs.Common.{◌≡◌, length}
-use Rattle.mk_heap_tests.specs.HeldObjects.{MayAllocate}
+use Rattle.mk_laws.proofs.Vocabulary.{length, ◌≡◌}
+use Rattle.mk_heap_tests.proofs.Vocabulary.{MayAllocate}
 use Rattle.mk_heap_tests.proofs.objects.make_eight_thrice.Given as goal
 
 abbrev pub invariant-loop-eight : goal.invariant-loop-eight

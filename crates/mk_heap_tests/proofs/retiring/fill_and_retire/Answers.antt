@@ -1,11 +1,7 @@
-use Rattle.std.proofs.Common.{◌≡◌, ◌<◌, ◌+◌, ◌∙◌, length, refl, sym, ap, subst, arith}
-use Rattle.mk_core.specs.declared.config.Config.{Config}
-use Rattle.mk_words.specs.States.{PassState, WordsState}
-use Rattle.mk_caller.specs.States.{CallerState}
-use Rattle.mk_heap.specs.Hosts.{HostState}
-use Rattle.mk_heap_tests.specs.HeldObjects.{IsPassOfObjects}
-use Rattle.mk_heap_tests.proofs.JoinedHosts.{first_of, second_of}
+use Rattle.mk_laws.proofs.Vocabulary.{Config, ap, arith, length, refl, subst, sym, ◌+◌, ◌<◌, ◌∙◌, ◌≡◌}
+use Rattle.mk_heap_tests.proofs.Vocabulary.{CallerState, HostState, IsPassOfObjects, PassState, WordsState}
 use Rattle.mk_heap_tests.proofs.HeldObjects.{home_at_first, may_at, may_at_first, pass_of_objects, ready_at_first}
+use Rattle.mk_heap_tests.proofs.JoinedHosts.{first_of, second_of}
 use Rattle.mk_heap_tests.proofs.retiring.fill_and_retire.Goals as goal
 
 pub make_eight_thrice-three_times-requires-clause-may : goal.make_eight_thrice-three_times-requires-clause-may

@@ -1,8 +1,8 @@
-use Rattle.std.proofs.Common.{subst}
-use Rattle.mk_cycle.proofs.Allowed.{in_turn}
-use Rattle.mk_objects.specs.Retired.{Retires}
+use Rattle.mk_laws.proofs.Vocabulary.{subst}
+use Rattle.mk_heap_tests.proofs.Vocabulary.{in_turn}
 use Rattle.mk_heap_tests.proofs.RetiringTurns.{double_back, double_may_give, freed_back, freed_may_give, is_unloaded}
 use Rattle.mk_heap_tests.proofs.RetiringTurns.{may_retire, phase, taken_table}
+use Rattle.mk_objects.specs.Retired.{Retires}
 use Rattle.mk_heap_tests.proofs.retiring.retire.Goals as goal
 
 pub take_turn-turn-requires-clause-enabled : goal.take_turn-turn-requires-clause-enabled

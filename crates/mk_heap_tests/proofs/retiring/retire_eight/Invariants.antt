@@ -1,4 +1,4 @@
-use Rattle.mk_heap_tests.specs.HeldObjects.{IsPassOfObjects}
+use Rattle.mk_heap_tests.proofs.Vocabulary.{IsPassOfObjects}
 use Rattle.mk_heap_tests.proofs.retiring.retire_eight.Given as goal
 
 abbrev pub invariant-loop-p : goal.invariant-loop-p

@@ -1,8 +1,5 @@
-use Rattle.std.proofs.Common.{◌∙◌, sym, ap, subst}
-use Rattle.mk_core.specs.declared.config.Config.{Config}
-use Rattle.mk_words.specs.States.{WordsState}
-use Rattle.mk_heap.specs.Hosts.{HostState}
-use Rattle.mk_heap_tests.specs.Passes.{IsPassFor}
+use Rattle.mk_laws.proofs.Vocabulary.{Config, ap, subst, sym, ◌∙◌}
+use Rattle.mk_heap_tests.proofs.Vocabulary.{HostState, IsPassFor, WordsState}
 use Rattle.mk_heap_tests.proofs.JoinedHosts.{first_for, first_of, second_of}
 use Rattle.mk_heap_tests.proofs.turns.caller_holds.Goals as goal
 

@@ -1,10 +1,5 @@
-use Rattle.std.proofs.Common.{◌∙◌, ◌<◌, sym, ap, subst, arith}
-use Rattle.std.proofs.lemmas.Bool.{lt-ltb}
-use Rattle.mk_core.specs.declared.config.Config.{Config}
-use Rattle.mk_core.specs.declared.events.Seat.TheVariants.{Caller}
-use Rattle.mk_words.specs.Seats.{Has}
-use Rattle.mk_words.proofs.Seats.{has_all}
-use Rattle.mk_words.specs.States.{PassState}
+use Rattle.mk_laws.proofs.Vocabulary.{Caller, Config, ap, arith, lt-ltb, subst, sym, ◌<◌, ◌∙◌}
+use Rattle.mk_heap_tests.proofs.Vocabulary.{Has, PassState, has_all}
 use Rattle.mk_heap_tests.proofs.JoinedHosts.{free_at_first, split_at_first}
 use Rattle.mk_heap_tests.proofs.turns.caller_holds_before_host.Goals as goal
 

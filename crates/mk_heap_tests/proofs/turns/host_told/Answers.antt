@@ -1,4 +1,4 @@
-use Rattle.std.proofs.Common.{arith}
+use Rattle.mk_laws.proofs.Vocabulary.{arith}
 use Rattle.mk_heap_tests.proofs.NewTurns.{may_free}
 use Rattle.mk_heap_tests.proofs.turns.host_told.Goals as goal
 

@@ -1,5 +1,5 @@
-use Rattle.std.proofs.Common.{refl}
-use Rattle.mk_cycle.proofs.Allowed.{in_turn}
+use Rattle.mk_laws.proofs.Vocabulary.{refl}
+use Rattle.mk_heap_tests.proofs.Vocabulary.{in_turn}
 use Rattle.mk_alloc.proofs.QuietTurns.{give_allowed}
 use Rattle.mk_heap_tests.proofs.NewTurns.{may_make, passed_back, placed_table, seeks, taken_table, unplaced}
 use Rattle.mk_heap_tests.proofs.turns.place.Goals as goal

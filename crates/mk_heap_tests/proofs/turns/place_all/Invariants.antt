@@ -1,5 +1,5 @@
-use Rattle.std.proofs.Common.{◌≡◌, length}
-use Rattle.mk_heap_tests.specs.Passes.{IsPassFor}
+use Rattle.mk_laws.proofs.Vocabulary.{length, ◌≡◌}
+use Rattle.mk_heap_tests.proofs.Vocabulary.{IsPassFor}
 use Rattle.mk_heap_tests.proofs.turns.place_all.Given as goal
 
 abbrev pub invariant-loop-count : goal.invariant-loop-count

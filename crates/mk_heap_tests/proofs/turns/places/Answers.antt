@@ -1,11 +1,6 @@
-use Rattle.std.proofs.Common.{◌<◌, ◌∙◌, List, length, sym, ap, subst}
 use Rattle.std.proofs.lemmas.List.{length-replicate}
-use Rattle.mk_geom.specs.declared.pages.Page.{Page}
-use Rattle.mk_geom.specs.Storages.{free_page}
-use Rattle.mk_core.specs.declared.config.Config.{Config}
-use Rattle.mk_words.specs.States.{WordsState}
-use Rattle.mk_heap.specs.Hosts.{HostState}
-use Rattle.mk_heap_tests.specs.Passes.{IsPassFor}
+use Rattle.mk_laws.proofs.Vocabulary.{Config, List, Page, ap, free_page, length, subst, sym, ◌<◌, ◌∙◌}
+use Rattle.mk_heap_tests.proofs.Vocabulary.{HostState, IsPassFor, WordsState}
 use Rattle.mk_heap_tests.proofs.JoinedHosts.{first_for, first_of}
 use Rattle.mk_heap_tests.proofs.turns.places.Goals as goal
 

@@ -1,6 +1,5 @@
-use Rattle.std.proofs.Common.{◌∙◌, sym, subst, ℕ, ◌≡◌, true}
-use Rattle.mk_core.specs.Bits.{has_bit}
-use Rattle.mk_marker.proofs.Looking.{two_looks, nothing_to_scan, no_cell_yet, a_cell}
+use Rattle.mk_laws.proofs.Vocabulary.{ℕ, has_bit, subst, sym, true, ◌∙◌, ◌≡◌}
+use Rattle.mk_marker.proofs.Looking.{a_cell, no_cell_yet, nothing_to_scan, two_looks}
 use Rattle.mk_marker.proofs.cells.find_on_page.Goals as goal
 
 pub returns-then-bits-eq0-clause-none : goal.returns-then-bits-eq0-clause-none

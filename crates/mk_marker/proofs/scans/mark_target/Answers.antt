@@ -1,6 +1,4 @@
-use Rattle.std.proofs.Common.{refl}
-use Rattle.mk_core.specs.declared.events.Word.TheVariants as word
-use Rattle.mk_core.specs.declared.events.Step.TheVariants as step
+use Rattle.mk_laws.proofs.Vocabulary.{Step, Word, refl}
 use Rattle.mk_marker.proofs.Scanned.{goes_once, goes_then}
 use Rattle.mk_marker.proofs.scans.mark_target.Goals as goal
 
@@ -9,6 +7,6 @@ returns-in-Some-clause-goes c =
     let p = c.args.pass.now in
     let q = c.look-header.new.pass in
     let r = c.mark.new.pass in
-    goes_then p 0 q 0 r (goes_once p (step.Mlook
-    (word.Head c.args.page)) c.look-header.result q refl refl c.look-header.ensures.moves)
-    (goes_once q step.Mmark c.mark.ensures.0 r refl refl c.mark.ensures.1)
+    goes_then p 0 q 0 r (goes_once p (Step.Mlook
+    (Word.Head c.args.page)) c.look-header.result q refl refl c.look-header.ensures.moves)
+    (goes_once q Step.Mmark c.mark.ensures.0 r refl refl c.mark.ensures.1)

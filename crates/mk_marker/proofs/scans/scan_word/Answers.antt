@@ -1,4 +1,4 @@
-use Rattle.mk_marker.proofs.Scanned.{loads_once, goes_then}
+use Rattle.mk_marker.proofs.Scanned.{goes_then, loads_once}
 use Rattle.mk_marker.proofs.scans.scan_word.Goals as goal
 
 pub returns-in-Some-clause-goes : goal.returns-in-Some-clause-goes

@@ -1,11 +1,10 @@
-use Rattle.std.proofs.Common.{◌<◌, subst, sym}
-use Rattle.mk_core.specs.declared.events.Step.TheVariants as step
+use Rattle.mk_laws.proofs.Vocabulary.{Step, subst, sym, ◌<◌}
+use Rattle.mk_marker.proofs.Moving.{blackened, moved}
 use Rattle.mk_words.specs.States.{WordsState}
-use Rattle.mk_marker.proofs.Moving.{moved, blackened}
 use Rattle.mk_marker.proofs.steps.blacken.Goals as goal
 
 pub returns-clause-moves : goal.returns-clause-moves
-returns-clause-moves c = moved c.args.pass.now step.Mblack c.marker_black.new.self c.marker_black.ensures.makes
+returns-clause-moves c = moved c.args.pass.now Step.Mblack c.marker_black.new.self c.marker_black.ensures.makes
     c.marker_black.ensures.marker
 
 pub returns-clause-black : goal.returns-clause-black

@@ -1,6 +1,6 @@
-use Rattle.mk_core.specs.declared.events.Step.TheVariants as step
+use Rattle.mk_laws.proofs.Vocabulary.{Step}
 use Rattle.mk_marker.proofs.Moving.{moves}
 use Rattle.mk_marker.proofs.steps.load.Goals as goal
 
 pub returns : goal.returns
-returns c = moves c.args.pass.now step.Mload c.marker_load.result c.marker_load.new.self c.marker_load.ensures
+returns c = moves c.args.pass.now Step.Mload c.marker_load.result c.marker_load.new.self c.marker_load.ensures

@@ -1,11 +1,11 @@
-use Rattle.mk_core.specs.declared.events.Step.TheVariants as step
-use Rattle.mk_marker.proofs.Moving.{moves, look_shows}
+use Rattle.mk_laws.proofs.Vocabulary.{Step}
+use Rattle.mk_marker.proofs.Moving.{look_shows, moves}
 use Rattle.mk_marker.proofs.steps.look.Goals as goal
 
 pub returns-clause-moves : goal.returns-clause-moves
 returns-clause-moves c =
     let f = c.marker_look in
-    moves c.args.pass.now (step.Mlook c.args.x) f.result f.new.self f.ensures
+    moves c.args.pass.now (Step.Mlook c.args.x) f.result f.new.self f.ensures
 
 pub returns-clause-shows : goal.returns-clause-shows
 returns-clause-shows c =

@@ -1,16 +1,9 @@
-use Rattle.std.proofs.Common.{◌≡◌, ℕ, sym, ap, ◌∙◌}
-use Rattle.std.specs.Prelude.{Option, option_map, slice_index_or}
-use Rattle.mk_geom.specs.Storages.{free_page}
-use Rattle.mk_geom.specs.Headers.{header_of}
-use Rattle.mk_core.specs.Cells.{heads_run}
-use Rattle.mk_core.specs.Frames.{Steady}
-use Rattle.mk_core.specs.Words.{header_at}
-use Rattle.mk_words.specs.States.{PassState, now_of}
-use Rattle.mk_objects.specs.Placing.{is_look}
+use Rattle.mk_laws.proofs.Vocabulary.{Option, Steady, ℕ, ap, free_page, header_at, header_of, heads_run, slice_index_or}
+use Rattle.mk_laws.proofs.Vocabulary.{sym, ◌∙◌, ◌≡◌}
+use Rattle.mk_objects.proofs.Vocabulary.{PassState, is_look, now_of, option_map}
 use Rattle.mk_objects.proofs.DecidedFrees.{look_frees, look_not}
-use Rattle.mk_objects.proofs.JoinedLooks.{looks_left, looks_table}
-use Rattle.mk_objects.proofs.LargeFrees.{heads_none}
 use Rattle.mk_objects.proofs.PreparedFrees.{frees_behind, looks_prepare, still_open}
+use Rattle.mk_objects.proofs.{JoinedLooks.looks_left, JoinedLooks.looks_table, LargeFrees.heads_none}
 use Rattle.mk_objects.proofs.freeing.free_found.Goals as goal
 
 pub free_small-requires-clause-gates : goal.free_small-requires-clause-gates

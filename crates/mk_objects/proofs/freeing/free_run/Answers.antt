@@ -1,5 +1,4 @@
-use Rattle.mk_words.specs.States.{PassState}
-use Rattle.mk_objects.specs.FreeParts.{all_others, is_holding}
+use Rattle.mk_objects.proofs.Vocabulary.{PassState, all_others, is_holding}
 use Rattle.mk_objects.proofs.DecidedFrees.{hold_frees, holding_not}
 use Rattle.mk_objects.proofs.PreparedFrees.{frees_behind, gates_prepare}
 use Rattle.mk_objects.proofs.freeing.free_run.Goals as goal

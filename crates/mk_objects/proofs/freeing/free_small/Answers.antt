@@ -1,8 +1,6 @@
-use Rattle.std.proofs.Common.{◌≡◌, ◌+◌, ◌-◌, ◌^◌, min, sym, ap, ◌∙◌}
-use Rattle.mk_core.specs.Frames.{Steady}
-use Rattle.mk_words.specs.States.{PassState, now_of}
-use Rattle.mk_objects.proofs.JoinedLooks.{looks_left}
-use Rattle.mk_objects.proofs.SmallFrees.{frees_small, freed_now}
+use Rattle.mk_laws.proofs.Vocabulary.{Steady, ap, sym, ◌+◌, ◌-◌, ◌^◌, ◌∙◌, ◌≡◌}
+use Rattle.mk_objects.proofs.Vocabulary.{PassState, min, now_of}
+use Rattle.mk_objects.proofs.{JoinedLooks.looks_left, SmallFrees.freed_now, SmallFrees.frees_small}
 use Rattle.mk_objects.proofs.freeing.free_small.Goals as goal
 
 pub returns-clause-frees : goal.returns-clause-frees

@@ -1,13 +1,8 @@
-use Rattle.std.proofs.Common.{◌≡◌, ◌≤◌, ◌+◌, ◌-◌, ◌*◌, ◌^◌, ℕ, ◌<◌, sym, ap, subst, ◌∙◌, arith}
-use Rattle.std.proofs.lemmas.Bool.{or_right}
-use Rattle.mk_core.specs.Frames.{Steady}
-use Rattle.mk_core.specs.Moments.{is_held}
-use Rattle.mk_words.specs.States.{PassState, now_of}
-use Rattle.mk_objects.specs.FreeParts.{all_others}
-use Rattle.mk_objects.proofs.ClearedRuns.{stopped_by}
-use Rattle.mk_objects.proofs.JoinedLooks.{looks_left}
+use Rattle.mk_laws.proofs.Vocabulary.{Steady, ℕ, ap, arith, is_held, or_right, subst, sym, ◌*◌, ◌+◌, ◌-◌, ◌<◌, ◌^◌, ◌∙◌}
+use Rattle.mk_laws.proofs.Vocabulary.{◌≡◌, ◌≤◌}
+use Rattle.mk_objects.proofs.Vocabulary.{PassState, all_others, now_of}
 use Rattle.mk_objects.proofs.LargeFrees.{frees_large, held_then, run_is, run_mapped}
-use Rattle.mk_objects.proofs.SmallFrees.{freed_now}
+use Rattle.mk_objects.proofs.{ClearedRuns.stopped_by, JoinedLooks.looks_left, SmallFrees.freed_now}
 use Rattle.mk_objects.proofs.freeing.free_stopped.Goals as goal
 
 pub quarantine-requires-clause-gates : goal.quarantine-requires-clause-gates

@@ -1,15 +1,10 @@
 -- The whole of a Free: its register is loaded, its cell found, and the quarantine word of that looked at.
-use Rattle.std.proofs.Common.{◌≡◌, ℕ, false, sym, ◌∙◌}
-use Rattle.std.proofs.lemmas.Bool.{eq-eqb, ne_eqb}
-use Rattle.mk_core.specs.Cells.{is_freed}
-use Rattle.mk_geom.specs.declared.addresses.Cell.{Cell}
-use Rattle.mk_words.specs.States.{PassState, now_of}
-use Rattle.mk_objects.specs.Deciding.{MayFree}
-use Rattle.mk_objects.specs.Retiring.{loaded_free}
+use Rattle.mk_laws.proofs.Vocabulary.{Cell, ℕ, eq-eqb, false, is_freed, ne_eqb, sym, ◌∙◌, ◌≡◌}
+use Rattle.mk_objects.proofs.Vocabulary.{MayFree, PassState, loaded_free, now_of}
 use Rattle.mk_objects.proofs.Retirements.{IsFound, comes_seeing, finds_freed, found_so, freed_by_word, is_never_freed}
 use Rattle.mk_objects.proofs.Retirements.{may_free, none_held_there, object_found, retires, retires_null}
+use Rattle.mk_objects.proofs.freeing.retire_object.Goals.{After-is_freed, After-is_in_order-3}
 use Rattle.mk_objects.proofs.freeing.retire_object.Goals as goal
-use Rattle.mk_objects.proofs.freeing.retire_object.Goals.{After-is_in_order-3, After-is_freed}
 
 pub returns-then-value-eq0-clause-freed : goal.returns-then-value-eq0-clause-freed
 returns-then-value-eq0-clause-freed g c =

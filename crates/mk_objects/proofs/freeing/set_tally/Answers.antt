@@ -1,7 +1,5 @@
-use Rattle.mk_words.specs.States.{PassState, now_of}
-use Rattle.mk_objects.proofs.Looks.{acting_now}
-use Rattle.mk_objects.proofs.MayAct.{may_tally}
-use Rattle.mk_objects.proofs.SetTallies.{sets_tally}
+use Rattle.mk_objects.proofs.Vocabulary.{PassState, now_of}
+use Rattle.mk_objects.proofs.{Looks.acting_now, MayAct.may_tally, SetTallies.sets_tally}
 use Rattle.mk_objects.proofs.freeing.set_tally.Goals as goal
 
 pub tally-requires-clause-enabled : goal.tally-requires-clause-enabled

@@ -1,7 +1,5 @@
-use Rattle.std.proofs.Common.{◌≡◌, ◌<◌, false, refl, subst, ◌∙◌}
-use Rattle.mk_core.specs.Moments.{is_held, is_number_of}
-use Rattle.mk_words.specs.States.{PassState, now_of}
-use Rattle.mk_objects.specs.FreeParts.{SetsGate, is_holding}
+use Rattle.mk_laws.proofs.Vocabulary.{false, is_held, is_number_of, refl, subst, ◌<◌, ◌∙◌, ◌≡◌}
+use Rattle.mk_objects.proofs.Vocabulary.{PassState, SetsGate, is_holding, now_of}
 use Rattle.mk_objects.proofs.SetGates.{one_acting, one_there, set_nothing, sets_again}
 use Rattle.mk_objects.proofs.gates.hold_gate.Goals as goal
 

@@ -1,6 +1,5 @@
-use Rattle.std.proofs.Common.{◌≡◌, ℕ, ◌<◌, false}
-use Rattle.mk_objects.specs.FreeParts.{SetsGate, is_holding}
-use Rattle.mk_objects.specs.Retiring.{value_of}
+use Rattle.mk_laws.proofs.Vocabulary.{ℕ, false, ◌<◌, ◌≡◌}
+use Rattle.mk_objects.proofs.Vocabulary.{SetsGate, is_holding, value_of}
 use Rattle.mk_objects.proofs.gates.hold_gate.Given as goal
 
 -- the gate isn't held yet

@@ -1,7 +1,5 @@
-use Rattle.std.proofs.Common.{◌+◌, ◌<◌, refl, ap, subst, ◌∙◌, arith}
-use Rattle.mk_core.specs.declared.events.Seat.{Seat}
-use Rattle.mk_words.specs.States.{PassState, WordsState}
-use Rattle.mk_objects.specs.FreeParts.{SetsGate, all_others, held_to, is_holding}
+use Rattle.mk_laws.proofs.Vocabulary.{Seat, ap, arith, refl, subst, ◌+◌, ◌<◌, ◌∙◌}
+use Rattle.mk_objects.proofs.Vocabulary.{PassState, SetsGate, WordsState, all_others, held_to, is_holding}
 use Rattle.mk_objects.proofs.SetGates.{held_next, held_so_far, holds_none, none_yet_held, set_acting, set_held}
 use Rattle.mk_objects.proofs.SetGates.{set_seat, set_there, sets_more, sets_named}
 use Rattle.mk_objects.proofs.gates.hold_gates.Goals as goal

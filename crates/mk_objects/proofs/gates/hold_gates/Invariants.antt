@@ -1,6 +1,5 @@
-use Rattle.std.proofs.Common.{◌≡◌, ℕ, ◌<◌}
-use Rattle.mk_objects.specs.FreeParts.{SetsGates, held_to, is_holding}
-use Rattle.mk_objects.specs.Retiring.{value_of}
+use Rattle.mk_laws.proofs.Vocabulary.{ℕ, ◌<◌, ◌≡◌}
+use Rattle.mk_objects.proofs.Vocabulary.{SetsGates, held_to, is_holding, value_of}
 use Rattle.mk_objects.proofs.gates.hold_gates.Given as goal
 
 abbrev pub invariant-loop-caller : goal.invariant-loop-caller

@@ -1,9 +1,5 @@
-use Rattle.std.proofs.Common.{◌≡◌, Bool, true, false, ap, subst, sym, ◌∙◌}
-use Rattle.std.specs.Prelude.{not}
-use Rattle.mk_core.specs.declared.events.Seat.{Seat}
-use Rattle.mk_core.specs.Moments.{is_number_of}
-use Rattle.mk_words.specs.States.{PassState}
-use Rattle.mk_objects.specs.FreeParts.{SetsGate, all_others, is_holding}
+use Rattle.mk_laws.proofs.Vocabulary.{Bool, Seat, ap, false, is_number_of, not, subst, sym, true, ◌∙◌, ◌≡◌}
+use Rattle.mk_objects.proofs.Vocabulary.{PassState, SetsGate, all_others, is_holding}
 use Rattle.mk_objects.proofs.SetGates.{set_nothing}
 use Rattle.mk_objects.proofs.gates.hold_other.Goals as goal
 

@@ -1,9 +1,8 @@
-use Rattle.std.proofs.Common.{◌+◌, ◌<◌, refl, ap, sym, ◌∙◌, arith}
-use Rattle.mk_core.specs.declared.events.Seat.{Seat}
-use Rattle.mk_words.specs.States.{PassState, WordsState}
-use Rattle.mk_objects.specs.FreeParts.{all_others, held_from, is_settling, no_gate}
+use Rattle.mk_laws.proofs.Vocabulary.{Seat, ap, arith, refl, sym, ◌+◌, ◌<◌, ◌∙◌}
+use Rattle.mk_objects.proofs.Vocabulary.{PassState, WordsState, all_others, held_from, is_settling}
 use Rattle.mk_objects.proofs.SetGates.{all_yet_held, opened_next, opened_so_far, opens_none, set_acting, set_held}
 use Rattle.mk_objects.proofs.SetGates.{set_phase, set_seat, set_there, sets_more, sets_named}
+use Rattle.mk_objects.specs.FreeParts.{no_gate}
 use Rattle.mk_objects.proofs.gates.open_gates.Goals as goal
 
 pub loop-caller-init : goal.loop-caller-init

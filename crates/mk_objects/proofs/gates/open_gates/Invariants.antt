@@ -1,7 +1,5 @@
-use Rattle.std.proofs.Common.{◌≡◌, true}
-use Rattle.mk_core.specs.NewPlaces.{is_run_gone}
-use Rattle.mk_words.specs.States.{now_of}
-use Rattle.mk_objects.specs.FreeParts.{SetsGates, held_from, is_settling}
+use Rattle.mk_laws.proofs.Vocabulary.{is_run_gone, true, ◌≡◌}
+use Rattle.mk_objects.proofs.Vocabulary.{SetsGates, held_from, is_settling, now_of}
 use Rattle.mk_objects.proofs.gates.open_gates.Given as goal
 
 abbrev pub invariant-loop-caller : goal.invariant-loop-caller

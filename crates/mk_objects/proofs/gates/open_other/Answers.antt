@@ -1,14 +1,7 @@
-use Rattle.std.proofs.Common.{◌≡◌, true, false, ap, sym, ◌∙◌}
-use Rattle.std.specs.Prelude.{not}
-use Rattle.mk_core.specs.declared.events.Seat.{Seat}
-use Rattle.mk_core.specs.Moments.{is_number_of}
-use Rattle.mk_core.specs.NewPlaces.{is_run_gone}
-use Rattle.mk_words.specs.States.{PassState, now_of}
-use Rattle.mk_objects.specs.FreeParts.{is_settling}
-use Rattle.mk_objects.proofs.GoneRuns.{still_gone}
-use Rattle.mk_objects.proofs.Looks.{acting_now}
-use Rattle.mk_objects.proofs.MayAct.{may_open}
+use Rattle.mk_laws.proofs.Vocabulary.{Seat, ap, false, is_number_of, is_run_gone, not, sym, true, ◌∙◌, ◌≡◌}
+use Rattle.mk_objects.proofs.Vocabulary.{PassState, is_settling, now_of}
 use Rattle.mk_objects.proofs.SetGates.{one_there, set_nothing, sets_open}
+use Rattle.mk_objects.proofs.{GoneRuns.still_gone, Looks.acting_now, MayAct.may_open}
 use Rattle.mk_objects.proofs.gates.open_other.Goals as goal
 
 pub open_gate-requires-clause-enabled : goal.open_gate-requires-clause-enabled

@@ -1,12 +1,7 @@
-use Rattle.std.proofs.Common.{refl, sym, ◌∙◌}
-use Rattle.mk_core.specs.declared.events.Step.TheVariants as step
-use Rattle.mk_core.specs.Moments.{is_held}
-use Rattle.mk_words.specs.States.{PassState, now_of}
-use Rattle.mk_words.proofs.Undecided.{decides_nothing}
-use Rattle.mk_objects.proofs.LoadedFrees.{value_kept}
+use Rattle.mk_laws.proofs.Vocabulary.{Step, is_held, refl, sym, ◌∙◌}
+use Rattle.mk_objects.proofs.Vocabulary.{PassState, decides_nothing, now_of}
 use Rattle.mk_objects.proofs.Looks.{acting_caller, acting_now}
-use Rattle.mk_objects.proofs.MayAct.{may_hold}
-use Rattle.mk_objects.proofs.SetGates.{sets_hold, tried}
+use Rattle.mk_objects.proofs.{LoadedFrees.value_kept, MayAct.may_hold, SetGates.sets_hold, SetGates.tried}
 use Rattle.mk_objects.proofs.gates.try_hold.Goals as goal
 
 pub try_hold-requires-clause-enabled : goal.try_hold-requires-clause-enabled
@@ -31,6 +26,6 @@ pub returns-clause-keeps : goal.returns-clause-keeps
 returns-clause-keeps c =
     let p : PassState = c.args.turn.now.pass in
     λ r lt.
-    value_kept p c.try_hold.new.self.pass r (step.Hold c.args.caller) (acting_caller p c.requires.acting) lt
+    value_kept p c.try_hold.new.self.pass r (Step.Hold c.args.caller) (acting_caller p c.requires.acting) lt
     c.try_hold.ensures.acts
-    (λ v kept known. decides_nothing p.table.config v.now p.seat (step.Hold c.args.caller) refl)
+    (λ v kept known. decides_nothing p.table.config v.now p.seat (Step.Hold c.args.caller) refl)

@@ -1,13 +1,8 @@
-use Rattle.std.proofs.Common.{◌<◌, refl, ◌∙◌, ap, arith, length}
-use Rattle.std.proofs.Common.{List}
-use Rattle.std.specs.Prelude.{slice_index_or}
-use Rattle.mk_geom.specs.Storages.{free_page}
-use Rattle.std.proofs.lemmas.List.{length-set}
-use Rattle.mk_geom.specs.declared.pages.Page.{Page}
-use Rattle.mk_core.proofs.Lengths.{histories_keep_lengths}
-use Rattle.mk_words.specs.States.{PassState, WordsState, now_of}
-use Rattle.mk_objects.proofs.FilledBooks.{all_filled, filled_more}
+use Rattle.mk_laws.proofs.Vocabulary.{List, Page, ap, arith, free_page, histories_keep_lengths, length, length-set}
+use Rattle.mk_laws.proofs.Vocabulary.{refl, slice_index_or, ◌<◌, ◌∙◌}
+use Rattle.mk_objects.proofs.Vocabulary.{PassState, WordsState, now_of}
 use Rattle.mk_objects.proofs.JoinedLooks.{looks_joined, looks_nothing, looks_pages}
+use Rattle.mk_objects.proofs.FilledBooks.{all_filled, filled_more}
 use Rattle.mk_objects.proofs.looking.fill.Goals as goal
 
 pub loop-page-init : goal.loop-page-init

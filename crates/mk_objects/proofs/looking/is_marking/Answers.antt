@@ -1,9 +1,6 @@
-use Rattle.std.proofs.Common.{ℕ, ap, ◌∙◌}
-use Rattle.std.specs.Prelude.{◌==◌}
+use Rattle.mk_laws.proofs.Vocabulary.{Word, ℕ, ap, ◌==◌, ◌∙◌}
 use Rattle.mk_objects.proofs.Looks.{acting_now, found_phase, look_reaches}
-use Rattle.mk_objects.proofs.MayAct.{may_look_phase}
-use Rattle.mk_objects.proofs.Unchanged.{OfPhase}
-use Rattle.mk_core.specs.declared.events.Word.TheVariants as word
+use Rattle.mk_objects.proofs.{MayAct.may_look_phase, Unchanged.OfPhase}
 use Rattle.mk_objects.proofs.looking.is_marking.Goals as goal
 
 pub look-found-requires-clause-enabled : goal.look-found-requires-clause-enabled
@@ -15,7 +12,7 @@ look-found-requires-clause-enabled c =
 pub returns-clause-looks : goal.returns-clause-looks
 returns-clause-looks c =
     let t = c.args.turn.now in
-    look_reaches t.pass c.look-found.new.self.pass t.op word.Phase c.is_in_order.ensures.turn c.requires.acting OfPhase
+    look_reaches t.pass c.look-found.new.self.pass t.op Word.Phase c.is_in_order.ensures.turn c.requires.acting OfPhase
     c.look-found.ensures.acts
 
 pub returns-clause-finds : goal.returns-clause-finds

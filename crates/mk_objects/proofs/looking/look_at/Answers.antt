@@ -1,9 +1,7 @@
-use Rattle.mk_core.specs.declared.events.Step.TheVariants as step
-use Rattle.mk_words.proofs.Undecided.{decides_nothing}
-use Rattle.mk_objects.proofs.LoadedFrees.{value_kept}
-use Rattle.mk_objects.proofs.Looks.{acting_caller, plain_is_idle, acting_now, found_steady, look_reaches}
-use Rattle.mk_objects.proofs.MayAct.{may_look}
-use Rattle.mk_objects.proofs.Unchanged.{steady_is_plain}
+use Rattle.mk_laws.proofs.Vocabulary.{Step}
+use Rattle.mk_objects.proofs.Vocabulary.{decides_nothing}
+use Rattle.mk_objects.proofs.Looks.{acting_caller, acting_now, found_steady, look_reaches, plain_is_idle}
+use Rattle.mk_objects.proofs.{LoadedFrees.value_kept, MayAct.may_look, Unchanged.steady_is_plain}
 use Rattle.mk_objects.proofs.looking.look_at.Goals as goal
 
 pub look-requires-clause-enabled : goal.look-requires-clause-enabled
@@ -30,7 +28,7 @@ pub returns-clause-keeps : goal.returns-clause-keeps
 returns-clause-keeps c =
     let t = c.args.turn.now in
     λ r lt.
-    value_kept t.pass c.look.new.self.pass r (step.Look c.args.word) (acting_caller t.pass c.requires.acting) lt
+    value_kept t.pass c.look.new.self.pass r (Step.Look c.args.word) (acting_caller t.pass c.requires.acting) lt
     c.look.ensures.acts
-    (λ v kept known. decides_nothing t.pass.table.config v.now t.pass.seat (step.Look c.args.word)
+    (λ v kept known. decides_nothing t.pass.table.config v.now t.pass.seat (Step.Look c.args.word)
     (plain_is_idle c.args.word (steady_is_plain c.args.word c.requires.steady)))

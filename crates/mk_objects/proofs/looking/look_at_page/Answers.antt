@@ -1,6 +1,5 @@
-use Rattle.mk_words.specs.States.{PassState}
-use Rattle.mk_objects.proofs.FilledBooks.{page_found}
-use Rattle.mk_objects.proofs.JoinedLooks.{looks_joined, looks_nothing}
+use Rattle.mk_objects.proofs.Vocabulary.{PassState}
+use Rattle.mk_objects.proofs.{FilledBooks.page_found, JoinedLooks.looks_joined, JoinedLooks.looks_nothing}
 use Rattle.mk_objects.proofs.looking.look_at_page.Goals as goal
 
 pub returns-clause-looks : goal.returns-clause-looks

@@ -1,12 +1,6 @@
-use Rattle.std.proofs.Common.{◌≡◌, ◌<◌, ◌+◌, sym, ◌∙◌, ap, subst, arith}
-use Rattle.mk_core.specs.declared.events.Step.TheVariants as step
-use Rattle.mk_core.specs.declared.seats.Object.{Object}
-use Rattle.mk_core.specs.NewPlaces.{header_made, pages_made}
-use Rattle.mk_core.specs.ObjectHeaders.{IsSized}
-use Rattle.mk_words.specs.States.{PassState}
-use Rattle.mk_words.specs.Steps.{IsEnabledTo}
-use Rattle.mk_words.specs.TurnSteps.{Acts}
-use Rattle.mk_objects.specs.Placing.{HasCarved, object_for}
+use Rattle.mk_laws.proofs.Vocabulary.{IsSized, Object, Step, ap, arith, header_made, pages_made, subst, sym, ◌+◌, ◌<◌}
+use Rattle.mk_laws.proofs.Vocabulary.{◌∙◌, ◌≡◌}
+use Rattle.mk_objects.proofs.Vocabulary.{Acts, HasCarved, IsEnabledTo, PassState, object_for}
 use Rattle.mk_objects.proofs.Serves.{carved_all, free_pages_of, head_may, heads_on, knows_place}
 use Rattle.mk_objects.proofs.UnsweptNews.{head_sweeps}
 use Rattle.mk_objects.proofs.placing.carve.Goals as goal
@@ -37,7 +31,7 @@ head-requires-clause-enabled c =
     c.requires.goes in
     let near : d < pages_made (object_for p) = omega
     (arith, c.pages-pages.ensures, c.loop-distance-test.true, ap (λ (o : Object). pages_made o) c.requires.shape) in
-    subst (λ n. IsEnabledTo c.loop-distance.turn.pass (step.Head (c.args.place.page + d) n))
+    subst (λ n. IsEnabledTo c.loop-distance.turn.pass (Step.Head (c.args.place.page + d) n))
     (sym (c.header_word.ensures ∙ ap (λ (o : Object). header_made o d) c.requires.shape))
     (head_may p c.args.place c.requires.goes k c.requires.free c.loop-distance.turn.pass d
     c.loop-distance.invariant.carved near)
@@ -52,7 +46,7 @@ loop-distance-preserved c =
     c.requires.goes in
     let near : d < pages_made (object_for p) = omega
     (arith, c.pages-pages.ensures, c.loop-distance-test.true, ap (λ (o : Object). pages_made o) c.requires.shape) in
-    let a = subst (λ n. Acts q (step.Head (c.args.place.page + d) n) r)
+    let a = subst (λ n. Acts q (Step.Head (c.args.place.page + d) n) r)
     (c.header_word.ensures ∙ ap (λ (o : Object). header_made o d) c.requires.shape) c.head.ensures.acts in
     record {
       op = c.head.ensures.op ∙ c.loop-distance.invariant.op;

@@ -1,7 +1,5 @@
-use Rattle.std.proofs.Common.{sym, ◌∙◌}
-use Rattle.std.proofs.lemmas.Bool.{eqb-false, eqb-true}
-use Rattle.mk_core.specs.Words.{header_at}
-use Rattle.mk_words.specs.States.{PassState, now_of}
+use Rattle.mk_laws.proofs.Vocabulary.{eqb-false, eqb-true, header_at, sym, ◌∙◌}
+use Rattle.mk_objects.proofs.Vocabulary.{PassState, now_of}
 use Rattle.mk_objects.proofs.Serves.{block_ready, knows_place}
 use Rattle.mk_turns.proofs.Sweeping.{nothing_sweeps}
 use Rattle.mk_objects.proofs.placing.make_ready.Goals as goal

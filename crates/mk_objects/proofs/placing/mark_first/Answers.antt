@@ -1,12 +1,5 @@
-use Rattle.std.proofs.Common.{sym, ◌∙◌, ap, subst}
-use Rattle.std.proofs.lemmas.Bool.{eqb-false, eqb-true}
-use Rattle.mk_core.specs.declared.events.Step.TheVariants as step
-use Rattle.mk_core.specs.declared.seats.Object.{Object}
-use Rattle.mk_core.specs.NewPlaces.{bits_made}
-use Rattle.mk_core.specs.Words.{phase_of}
-use Rattle.mk_words.specs.States.{PassState, now_of}
-use Rattle.mk_words.specs.Steps.{IsEnabledTo}
-use Rattle.mk_words.specs.TurnSteps.{Acts}
+use Rattle.mk_laws.proofs.Vocabulary.{Object, Step, ap, eqb-false, eqb-true, phase_of, subst, sym, ◌∙◌}
+use Rattle.mk_objects.proofs.Vocabulary.{Acts, IsEnabledTo, PassState, bits_made, now_of}
 use Rattle.mk_objects.proofs.Serves.{knows_place, mark_may, marks_first, marks_none}
 use Rattle.mk_objects.proofs.UnsweptNews.{first_mark_sweeps}
 use Rattle.mk_turns.proofs.Sweeping.{nothing_sweeps}
@@ -18,7 +11,7 @@ mark-requires-clause-enabled c =
     let k = knows_place p c.args.turn.now.op c.args.place c.is_in_order.ensures.turn c.is_in_order.ensures.history
     c.requires.goes in
     let one = eqb-true (phase_of (now_of p).words) 1 (sym c.requires.marking ∙ c.if-marking.true) in
-    subst (λ n. IsEnabledTo p (step.Mark c.args.place.page n))
+    subst (λ n. IsEnabledTo p (Step.Mark c.args.place.page n))
     (sym (c.bits.ensures ∙ ap (λ (o : Object). bits_made o) c.requires.shape))
     (mark_may p c.args.place c.requires.goes k c.requires.free one)
 
@@ -29,7 +22,7 @@ returns-then-marking-clause-carved c =
     let k = knows_place p c.args.turn.now.op c.args.place c.is_in_order.ensures.turn c.is_in_order.ensures.history
     c.requires.goes in
     let one = eqb-true (phase_of (now_of p).words) 1 (sym c.requires.marking ∙ c.if-marking.true) in
-    let a = subst (λ n. Acts p (step.Mark c.args.place.page n) q)
+    let a = subst (λ n. Acts p (Step.Mark c.args.place.page n) q)
     (c.bits.ensures ∙ ap (λ (o : Object). bits_made o) c.requires.shape) c.mark.ensures.acts in
     marks_first p c.args.place c.requires.goes k c.requires.free q one a
 
@@ -48,7 +41,7 @@ returns-then-marking-clause-reached c =
     let k = knows_place p c.args.turn.now.op c.args.place c.is_in_order.ensures.turn c.is_in_order.ensures.history
     c.requires.goes in
     let one = eqb-true (phase_of (now_of p).words) 1 (sym c.requires.marking ∙ c.if-marking.true) in
-    let a = subst (λ n. Acts p (step.Mark c.args.place.page n) q)
+    let a = subst (λ n. Acts p (Step.Mark c.args.place.page n) q)
     (c.bits.ensures ∙ ap (λ (o : Object). bits_made o) c.requires.shape) c.mark.ensures.acts in
     first_mark_sweeps p c.args.place k q c.requires.free one a
 

@@ -1,15 +1,10 @@
-use Rattle.std.proofs.Common.{◌≡◌, List, length, refl, sym, ◌∙◌, ap, arith}
-use Rattle.std.specs.Prelude.{Some, None}
-use Rattle.mk_geom.specs.declared.pages.Page.{Page}
-use Rattle.mk_core.proofs.Lengths.{histories_keep_lengths}
-use Rattle.mk_core.specs.NewPlaces.{place_on_pages}
-use Rattle.mk_words.specs.States.{PassState, now_of}
-use Rattle.mk_objects.specs.Placing.{object_for}
+use Rattle.mk_laws.proofs.Vocabulary.{List, None, Page, Some, ap, arith, histories_keep_lengths, length, place_on_pages}
+use Rattle.mk_laws.proofs.Vocabulary.{refl, sym, ◌∙◌, ◌≡◌}
+use Rattle.mk_objects.proofs.Vocabulary.{PassState, now_of, object_for}
 use Rattle.mk_objects.proofs.JoinedLooks.{granted_behind_looks, looks_nothing, looks_pages}
 use Rattle.mk_objects.proofs.PlacedNews.{fit_found, fit_within, goes_behind, place_found}
-use Rattle.mk_objects.proofs.UnsweptNews.{looks_sweep}
+use Rattle.mk_objects.proofs.{UnsweptNews.looks_sweep, placing.place_apart.Goals.After-seek}
 use Rattle.mk_objects.proofs.placing.place_apart.Goals as goal
-use Rattle.mk_objects.proofs.placing.place_apart.Goals.{After-seek}
 
 -- the place that was sought is where it fits
 fit : (c : After-seek)

@@ -1,36 +1,27 @@
-use Rattle.std.proofs.Common.{◌≡◌, ◌<◌, List, length, refl, sym, ◌∙◌, ap, subst, arith}
-use Rattle.std.specs.Prelude.{Some}
-use Rattle.std.proofs.lemmas.Bool.{ltb-true}
-use Rattle.mk_never.specs.declared.operations.Op.{Op}
-use Rattle.mk_never.specs.declared.types.Kind.{Kind}
-use Rattle.mk_never.specs.Types.{kinds_of}
-use Rattle.mk_core.specs.Calls.{d_of}
-use Rattle.mk_never.specs.declared.operations.Op.TheVariants as op
-use Rattle.mk_core.proofs.Lengths.{histories_keep_lengths}
-use Rattle.mk_core.proofs.PlacesNow.{undecided_new}
-use Rattle.mk_core.specs.NewPlaces.{object_of, place_on_pages}
-use Rattle.mk_words.specs.States.{PassState, call_of, now_of}
-use Rattle.mk_objects.specs.Placing.{object_for}
-use Rattle.mk_objects.specs.Shapes.{object_shaped}
-use Rattle.mk_objects.proofs.JoinedLooks.{granted_behind_looks, looks_nothing}
+use Rattle.mk_laws.proofs.Vocabulary.{Kind, List, Op, Some, ap, arith, d_of, histories_keep_lengths, kinds_of, length}
+use Rattle.mk_laws.proofs.Vocabulary.{ltb-true, place_on_pages, refl, subst, sym, undecided_new, ◌<◌, ◌∙◌, ◌≡◌}
+use Rattle.mk_objects.proofs.Vocabulary.{PassState, call_of, now_of, object_for}
+use Rattle.mk_core.specs.NewPlaces.{object_of}
 use Rattle.mk_objects.proofs.PlacedNews.{fit_found, fit_within, goes_behind, op_is, op_known, place_found, shape_asked}
 use Rattle.mk_objects.proofs.PlacedNews.{type_asked}
-use Rattle.mk_objects.proofs.placing.place_object.Goals as goal
 use Rattle.mk_objects.proofs.placing.place_object.Goals.{After-shape_of-shape, In-New, In-Some-seek_cell}
+use Rattle.mk_objects.proofs.JoinedLooks.{granted_behind_looks, looks_nothing}
+use Rattle.mk_objects.specs.Shapes.{object_shaped}
+use Rattle.mk_objects.proofs.placing.place_object.Goals as goal
 
 -- the operation is the New that was looked at
-asked : (c : In-New) → (call_of c.args.turn.now.pass).op ≡ op.New c.in-New.d c.in-New.ty c.in-New.full
+asked : (c : In-New) → (call_of c.args.turn.now.pass).op ≡ Op.New c.in-New.d c.in-New.ty c.in-New.full
 asked c =
     op_known c.args.turn.now.pass c.args.turn.now.op c.op.result c.in-Some.op c.is_in_order.ensures.turn
     c.requires.unplaced.new c.op.ensures c.in-Some.is ∙ c.in-New.is
 
 -- and the shape is that of its object
 shape_is : (c : After-shape_of-shape) → (call_of c.args.turn.now.pass).op
-    ≡ op.New c.in-New.d c.in-New.ty c.in-New.full
+    ≡ Op.New c.in-New.d c.in-New.ty c.in-New.full
     → object_shaped c.shape_of-shape.result ≡ object_for c.args.turn.now.pass
 shape_is c is =
     shape_asked c.args.turn.now.pass c.args.words.now
-    (op.New c.in-New.d c.in-New.ty c.in-New.full) c.shape_of-shape.result c.requires.one_table is
+    (Op.New c.in-New.d c.in-New.ty c.in-New.full) c.shape_of-shape.result c.requires.one_table is
     (c.shape_of-shape.ensures
     ∙ ap (λ (ts : List (List Kind)). object_of (kinds_of ts c.in-New.ty)) c.types.ensures)
 
@@ -61,7 +52,7 @@ unreachable-requires-in_default-op c =
 pub shape_of-shape-requires : goal.shape_of-shape-requires
 shape_of-shape-requires c =
     let has = type_asked c.args.turn.now.pass c.args.words.now
-    (op.New c.in-New.d c.in-New.ty c.in-New.full) c.requires.one_table c.is_in_order.ensures.history
+    (Op.New c.in-New.d c.in-New.ty c.in-New.full) c.requires.one_table c.is_in_order.ensures.history
     (asked (goal.at.shape_of-shape-requires c).In-New) in
     subst (λ (ts : List (List Kind)). c.in-New.ty < length ts) (sym c.types.ensures)
     (ltb-true c.in-New.ty (length c.args.words.now.config.types) has)

@@ -1,22 +1,13 @@
-use Rattle.std.proofs.Common.{◌≡◌, ◌+◌, ◌%◌, ◌^◌, refl, sym, ◌∙◌, ap, subst, arith}
-use Rattle.mk_geom.specs.Addresses.{address_of}
-use Rattle.mk_core.specs.declared.events.Step.TheVariants as step
-use Rattle.mk_core.specs.declared.seats.Object.{Object}
-use Rattle.mk_core.specs.ObjectHeaders.{IsSized, words_made}
-use Rattle.mk_core.specs.NewPlaces.{base_made}
-use Rattle.mk_core.specs.Words.{used_at}
-use Rattle.mk_core.proofs.Sizes.{words_within}
-use Rattle.mk_words.specs.States.{PassState, now_of}
-use Rattle.mk_words.specs.Steps.{IsEnabledTo}
-use Rattle.mk_objects.specs.Placing.{object_for}
-use Rattle.mk_core.specs.Bits.{has_bit}
+use Rattle.mk_laws.proofs.Vocabulary.{IsSized, Object, Step, address_of, ap, arith, base_made, has_bit, refl, subst}
+use Rattle.mk_laws.proofs.Vocabulary.{sym, used_at, words_made, words_within, ◌%◌, ◌+◌, ◌^◌, ◌∙◌, ◌≡◌}
+use Rattle.mk_objects.proofs.Vocabulary.{IsEnabledTo, PassState, now_of, object_for}
 use Rattle.mk_objects.proofs.Serves.{KnowsPlace, knows_place, place_unused}
-use Rattle.mk_objects.proofs.Takes.{HasGranted, HasTaken, counted, counted_held, few_held}
-use Rattle.mk_objects.proofs.Takes.{grant_address, grant_admits, grant_may, grant_on, grant_register}
-use Rattle.mk_objects.proofs.Takes.{one_bit_more, small_index, tally_may, tally_on, used_may, used_on}
+use Rattle.mk_objects.proofs.Takes.{HasGranted, HasTaken, counted, counted_held, few_held, grant_address, grant_admits}
+use Rattle.mk_objects.proofs.Takes.{grant_may, grant_on, grant_register, one_bit_more, small_index, tally_may, tally_on}
+use Rattle.mk_objects.proofs.Takes.{used_may, used_on}
+use Rattle.mk_objects.proofs.placing.serve.Goals.{After-grant, After-is_in_order, After-used}
 use Rattle.mk_objects.proofs.UnsweptNews.{serving_sweeps}
 use Rattle.mk_objects.proofs.placing.serve.Goals as goal
-use Rattle.mk_objects.proofs.placing.serve.Goals.{After-grant, After-is_in_order, After-used}
 
 -- what is known of the place
 knows : (c : After-is_in_order) → KnowsPlace c.args.turn.now.pass c.args.place
@@ -51,7 +42,7 @@ used-requires-clause-enabled c =
     sym c.requires.used in
     let clear : has_bit c.args.used c.args.place.index ≡ _ =
     sym (ap (λ n. has_bit n c.args.place.index) known) ∙ place_unused p c.args.place k in
-    subst (λ n. IsEnabledTo c.make_ready.new.turn.pass (step.Used c.args.place.page n))
+    subst (λ n. IsEnabledTo c.make_ready.new.turn.pass (Step.Used c.args.place.page n))
     (sym (one_bit_more c.args.used c.args.place.index (small_index p c.args.place k) clear))
     (used_may p c.args.place c.requires.goes k c.make_ready.new.turn.pass c.args.used
     c.make_ready.ensures.ready known)

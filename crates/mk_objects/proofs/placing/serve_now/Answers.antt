@@ -1,7 +1,5 @@
-use Rattle.std.proofs.Common.{sym, ap, ◌∙◌}
-use Rattle.mk_core.specs.declared.seats.Flight.{Flight}
-use Rattle.mk_core.specs.Calls.{d_of}
-use Rattle.mk_words.specs.States.{PassState}
+use Rattle.mk_laws.proofs.Vocabulary.{Flight, ap, d_of, sym, ◌∙◌}
+use Rattle.mk_objects.proofs.Vocabulary.{PassState}
 use Rattle.mk_objects.proofs.JoinedLooks.{granted_behind_looks, looks_call, looks_joined}
 use Rattle.mk_objects.proofs.UnsweptNews.{looks_then_sweep}
 use Rattle.mk_objects.proofs.placing.serve_now.Goals as goal

@@ -1,13 +1,7 @@
-use Rattle.std.proofs.Common.{◌≡◌, ◌<◌, sym, ap, subst, ◌∙◌}
-use Rattle.std.specs.Prelude.{Some}
-use Rattle.std.proofs.lemmas.Bool.{lt-ltb}
-use Rattle.mk_geom.specs.declared.addresses.Cell.{Cell}
-use Rattle.mk_geom.specs.Addresses.{cell_at}
-use Rattle.mk_core.specs.Words.{header_at}
-use Rattle.mk_words.specs.States.{PassState, WordsState, now_of}
-use Rattle.mk_objects.proofs.FoundCells.{pointed_now}
+use Rattle.mk_laws.proofs.Vocabulary.{Cell, Some, ap, cell_at, header_at, lt-ltb, subst, sym, ◌<◌, ◌∙◌, ◌≡◌}
+use Rattle.mk_objects.proofs.Vocabulary.{PassState, WordsState, now_of}
+use Rattle.mk_objects.proofs.{FoundCells.pointed_now, retiring.find_cell.Goals.After-lookup}
 use Rattle.mk_objects.proofs.retiring.find_cell.Goals as goal
-use Rattle.mk_objects.proofs.retiring.find_cell.Goals.{After-lookup}
 
 -- the cell is what the value points into
 found : (c : After-lookup) → c.lookup.result

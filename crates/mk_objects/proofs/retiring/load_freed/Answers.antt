@@ -1,4 +1,4 @@
-use Rattle.mk_words.specs.States.{PassState}
+use Rattle.mk_objects.proofs.Vocabulary.{PassState}
 use Rattle.mk_objects.proofs.LoadedFrees.{load_admits, load_keeps, load_loads, load_may, load_meets, load_null}
 use Rattle.mk_objects.proofs.LoadedFrees.{load_reaches}
 use Rattle.mk_objects.proofs.retiring.load_freed.Goals as goal

@@ -1,12 +1,8 @@
-use Rattle.std.proofs.Common.{refl}
-use Rattle.mk_core.specs.declared.events.Step.TheVariants as step
-use Rattle.mk_core.specs.declared.events.Word.TheVariants as word
-use Rattle.mk_words.specs.States.{PassState, call_of, now_of}
-use Rattle.mk_objects.specs.Retiring.{loaded_free}
-use Rattle.mk_objects.proofs.LoadedFrees.{free_step_admits, loaded_undecided}
+use Rattle.mk_laws.proofs.Vocabulary.{Step, Word, refl}
+use Rattle.mk_objects.proofs.Vocabulary.{PassState, call_of, loaded_free, now_of}
 use Rattle.mk_objects.proofs.Looks.{acting_caller, acting_now, found_quarantine}
-use Rattle.mk_objects.proofs.MayAct.{free_is_acting, may_look_quarantine}
-use Rattle.mk_objects.proofs.SeenDoubles.{see_keeps, see_reaches}
+use Rattle.mk_objects.proofs.{LoadedFrees.free_step_admits, LoadedFrees.loaded_undecided, MayAct.free_is_acting}
+use Rattle.mk_objects.proofs.{MayAct.may_look_quarantine, SeenDoubles.see_keeps, SeenDoubles.see_reaches}
 use Rattle.mk_objects.proofs.retiring.look_at_quarantine.Goals as goal
 
 pub look-requires-clause-enabled : goal.look-requires-clause-enabled
@@ -22,7 +18,7 @@ look-requires-clause-admitted c =
     let p : PassState = c.args.turn.now.pass in
     let free = loaded_undecided p c.args.register c.args.value c.requires.free c.requires.some in
     λ decides.
-    free_step_admits p c.args.register (step.Look (word.Quar c.args.cell.page))
+    free_step_admits p c.args.register (Step.Look (Word.Quar c.args.cell.page))
     (loaded_free c.args.register c.args.value)
     (acting_caller p (free_is_acting (call_of p) free)) c.is_in_order.ensures.turn.holds c.is_in_order.ensures.history
     c.requires.free refl

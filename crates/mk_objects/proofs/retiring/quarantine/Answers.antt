@@ -1,13 +1,8 @@
-use Rattle.std.proofs.Common.{ℕ, ◌<◌, ◌^◌, refl, arith}
-use Rattle.std.specs.Prelude.{slice_index}
-use Rattle.mk_laws.proofs.InvariantHistories.{histories_keep_the_invariant}
-use Rattle.mk_words.specs.States.{PassState, call_of, now_of}
-use Rattle.mk_objects.specs.Retiring.{loaded_free}
-use Rattle.mk_objects.proofs.FreeSteps.{freed_half, freed_word_made, quarantine_may, quarantine_once}
-use Rattle.mk_objects.proofs.FreeSteps.{quarantine_reaches}
-use Rattle.mk_objects.proofs.LoadedFrees.{free_step_admits, loaded_undecided}
-use Rattle.mk_objects.proofs.Looks.{acting_caller}
-use Rattle.mk_objects.proofs.MayAct.{free_is_acting}
+use Rattle.mk_laws.proofs.Vocabulary.{ℕ, arith, refl, slice_index, ◌<◌, ◌^◌}
+use Rattle.mk_objects.proofs.Vocabulary.{PassState, call_of, histories_keep_the_invariant, loaded_free, now_of}
+use Rattle.mk_objects.proofs.{FreeSteps.freed_half, FreeSteps.freed_word_made, FreeSteps.quarantine_may}
+use Rattle.mk_objects.proofs.{FreeSteps.quarantine_once, FreeSteps.quarantine_reaches, LoadedFrees.free_step_admits}
+use Rattle.mk_objects.proofs.{LoadedFrees.loaded_undecided, Looks.acting_caller, MayAct.free_is_acting}
 use Rattle.mk_objects.proofs.retiring.quarantine.Goals as goal
 
 pub quar-requires-clause-enabled : goal.quar-requires-clause-enabled

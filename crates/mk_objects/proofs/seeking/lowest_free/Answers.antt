@@ -1,9 +1,6 @@
-use Rattle.std.proofs.Common.{nat_lt, w64, ap, sym, ◌∙◌}
-use Rattle.std.specs.Bool.{then_some}
-use Rattle.std.specs.Int.{trailing_ones}
-use Rattle.std.proofs.Math.Nat.{div-le_self}
+use Rattle.std.{proofs.Common.w64, proofs.Math.Nat.div-le_self, specs.Bool.then_some, specs.Int.trailing_ones}
+use Rattle.mk_laws.proofs.Vocabulary.{ap, cells_of, class_words_of, nat_lt, sym, ◌∙◌}
 use Rattle.mk_books.proofs.UsedBitLemmas.{first_where-bits_of}
-use Rattle.mk_geom.specs.Classes.{cells_of, class_words_of}
 use Rattle.mk_objects.proofs.seeking.lowest_free.Goals as goal
 
 pub returns : goal.returns

@@ -1,16 +1,11 @@
-use Rattle.std.proofs.Common.{◌≡◌, sym, ap, ◌∙◌, arith}
-use Rattle.std.specs.Prelude.{◌==◌, Option, option_and_then, true}
-use Rattle.std.proofs.lemmas.Bool.{cond-true, le-leb}
-use Rattle.mk_geom.specs.Classes.{is_small_size}
-use Rattle.mk_geom.specs.PageUses.{small_place}
-use Rattle.mk_geom.specs.PageWords.{uses_of_pages}
-use Rattle.mk_core.proofs.Lengths.{histories_keep_lengths}
-use Rattle.mk_core.specs.Words.{header_at}
+use Rattle.mk_laws.proofs.Vocabulary.{Option, ap, arith, cond-true, header_at, histories_keep_lengths, le-leb, sym}
+use Rattle.mk_laws.proofs.Vocabulary.{true, uses_of_pages, ◌==◌, ◌∙◌, ◌≡◌}
+use Rattle.mk_objects.proofs.Vocabulary.{PassState, now_of, option_and_then}
+use Rattle.mk_geom.specs.{Classes.is_small_size, PageUses.small_place}
 use Rattle.mk_page_map.specs.Members.{page_at}
-use Rattle.mk_words.specs.States.{PassState, now_of}
 use Rattle.mk_objects.proofs.SoughtPlaces.{IsBlock, block_found, block_has_header, place_in_block}
-use Rattle.mk_objects.proofs.seeking.seek_cell.Goals as goal
 use Rattle.mk_objects.proofs.seeking.seek_cell.Goals.{In-Some-first_block}
+use Rattle.mk_objects.proofs.seeking.seek_cell.Goals as goal
 
 -- the block that was found
 block : (c : In-Some-first_block)

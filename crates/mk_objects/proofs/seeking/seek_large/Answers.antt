@@ -1,6 +1,5 @@
-use Rattle.std.proofs.Common.{◌≡◌, length, ap, ◌∙◌, arith}
-use Rattle.mk_core.proofs.Lengths.{histories_keep_lengths}
-use Rattle.mk_words.specs.States.{PassState, WordsState, now_of}
+use Rattle.mk_laws.proofs.Vocabulary.{ap, arith, histories_keep_lengths, length, ◌∙◌, ◌≡◌}
+use Rattle.mk_objects.proofs.Vocabulary.{PassState, WordsState, now_of}
 use Rattle.mk_objects.proofs.SoughtPlaces.{resident_few}
 use Rattle.mk_objects.proofs.seeking.seek_large.Goals as goal
 

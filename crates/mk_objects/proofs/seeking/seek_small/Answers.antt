@@ -1,6 +1,5 @@
-use Rattle.std.proofs.Common.{sym, ◌∙◌, arith}
-use Rattle.mk_core.proofs.Lengths.{histories_keep_lengths}
-use Rattle.mk_words.specs.States.{PassState, now_of}
+use Rattle.mk_laws.proofs.Vocabulary.{arith, histories_keep_lengths, sym, ◌∙◌}
+use Rattle.mk_objects.proofs.Vocabulary.{PassState, now_of}
 use Rattle.mk_objects.proofs.SoughtPlaces.{block_found, place_in_block}
 use Rattle.mk_objects.proofs.seeking.seek_small.Goals as goal
 

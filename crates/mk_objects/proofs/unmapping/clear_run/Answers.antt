@@ -1,4 +1,4 @@
-use Rattle.mk_words.specs.States.{PassState}
+use Rattle.mk_objects.proofs.Vocabulary.{PassState}
 use Rattle.mk_objects.proofs.ClearedRuns.{clears, stopped_by, unmapped_held}
 use Rattle.mk_objects.proofs.unmapping.clear_run.Goals as goal
 

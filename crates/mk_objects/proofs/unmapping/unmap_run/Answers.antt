@@ -1,8 +1,5 @@
-use Rattle.std.proofs.Common.{◌≡◌, ◌+◌, refl, sym, subst, ◌∙◌, arith}
-use Rattle.mk_core.specs.declared.events.Step.TheVariants as step
-use Rattle.mk_words.specs.States.{PassState}
-use Rattle.mk_words.specs.Steps.{IsEnabledTo}
-use Rattle.mk_words.specs.TurnSteps.{Acts}
+use Rattle.mk_laws.proofs.Vocabulary.{Step, arith, refl, subst, sym, ◌+◌, ◌∙◌, ◌≡◌}
+use Rattle.mk_objects.proofs.Vocabulary.{Acts, IsEnabledTo, PassState}
 use Rattle.mk_objects.proofs.UnmappedRuns.{HasUnmapped, unmap_may, unmapped_all, unmapped_none, unmaps_on}
 use Rattle.mk_objects.proofs.unmapping.unmap_run.Goals as goal
 
@@ -18,7 +15,7 @@ pub head-requires-clause-enabled : goal.head-requires-clause-enabled
 head-requires-clause-enabled c =
     let p : PassState = c.args.turn.now.pass in
     let d = c.loop-distance.distance in
-    subst (λ n. IsEnabledTo c.loop-distance.turn.pass (step.Head (c.args.run.page + d) n))
+    subst (λ n. IsEnabledTo c.loop-distance.turn.pass (Step.Head (c.args.run.page + d) n))
     (sym c.unmapped_header.ensures)
     (unmap_may p c.args.turn.now.op c.args.run c.is_in_order.ensures.turn c.requires.decided c.requires.phase
     c.loop-distance.turn.pass d
@@ -28,7 +25,7 @@ pub loop-distance-preserved : goal.loop-distance-preserved
 loop-distance-preserved c =
     let p : PassState = c.args.turn.now.pass in
     let d = c.loop-distance.distance in
-    let a = subst (λ n. Acts c.loop-distance.turn.pass (step.Head (c.args.run.page + d) n) c.head.new.self.pass)
+    let a = subst (λ n. Acts c.loop-distance.turn.pass (Step.Head (c.args.run.page + d) n) c.head.new.self.pass)
     c.unmapped_header.ensures c.head.ensures.acts in
     record {
       op = c.head.ensures.op ∙ c.loop-distance.invariant.op;

@@ -1,8 +1,6 @@
-use Rattle.std.proofs.Common.{◌≡◌, []}
-use Rattle.mk_objects.specs.FreeParts.{is_clearing}
-use Rattle.mk_objects.specs.Placing.{ComesTo}
+use Rattle.mk_laws.proofs.Vocabulary.{[], ◌≡◌}
+use Rattle.mk_objects.proofs.Vocabulary.{ComesTo, is_clearing, world_of}
 use Rattle.mk_objects.specs.Unmapping.{UnmappedTo}
-use Rattle.mk_words.specs.States.{world_of}
 use Rattle.mk_objects.proofs.unmapping.unmap_run.Given as goal
 
 abbrev pub invariant-loop-distance : goal.invariant-loop-distance

@@ -1,8 +1,6 @@
-use Rattle.std.proofs.Common.{◌≡◌, ℕ, ◌+◌, ◌*◌, refl, subst, ◌∙◌, arith}
-use Rattle.std.proofs.lemmas.Bool.{eqb-true}
 use Rattle.std.proofs.lemmas.Nat.{le_or_l, le_or_r}
-use Rattle.mk_words.specs.States.{PassState}
-use Rattle.mk_objects.specs.Unmapping.{WipesTo}
+use Rattle.mk_laws.proofs.Vocabulary.{ℕ, arith, eqb-true, refl, subst, ◌*◌, ◌+◌, ◌∙◌, ◌≡◌}
+use Rattle.mk_objects.proofs.Vocabulary.{PassState, WipesTo}
 use Rattle.mk_objects.proofs.UnmappedRuns.{found_wiped, look_may, looks_then}
 use Rattle.mk_objects.proofs.WipedRuns.{wiped_from}
 use Rattle.mk_objects.proofs.wiping.are_zero.Goals as goal

@@ -1,4 +1,4 @@
-use Rattle.std.proofs.Common.{◌*◌}
+use Rattle.mk_laws.proofs.Vocabulary.{◌*◌}
 use Rattle.mk_objects.proofs.WipedRuns.{still_may, wiped_now, wipes_then}
 use Rattle.mk_objects.proofs.wiping.wipe_group.Goals as goal
 

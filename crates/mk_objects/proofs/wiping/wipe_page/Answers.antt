@@ -1,7 +1,7 @@
-use Rattle.std.proofs.Common.{◌≡◌, ◌+◌, ◌*◌, refl, subst, ◌∙◌, arith}
-use Rattle.mk_objects.specs.Unmapping.{AreWiped, WipesTo}
-use Rattle.mk_words.specs.States.{now_of}
+use Rattle.mk_laws.proofs.Vocabulary.{arith, refl, subst, ◌*◌, ◌+◌, ◌∙◌, ◌≡◌}
+use Rattle.mk_objects.proofs.Vocabulary.{WipesTo, now_of}
 use Rattle.mk_objects.proofs.WipedRuns.{still_may, wiped_from, wiped_now, wipes_then}
+use Rattle.mk_objects.specs.Unmapping.{AreWiped}
 use Rattle.mk_objects.proofs.wiping.wipe_page.Goals as goal
 
 pub loop-group-init : goal.loop-group-init

@@ -1,5 +1,5 @@
-use Rattle.std.proofs.Common.{◌≡◌, ◌*◌}
-use Rattle.mk_objects.specs.Unmapping.{WipesTo}
+use Rattle.mk_laws.proofs.Vocabulary.{◌*◌, ◌≡◌}
+use Rattle.mk_objects.proofs.Vocabulary.{WipesTo}
 use Rattle.mk_objects.proofs.wiping.wipe_page.Given as goal
 
 abbrev pub invariant-loop-group : goal.invariant-loop-group

@@ -1,10 +1,9 @@
-use Rattle.std.proofs.Common.{◌≡◌, ◌+◌, ◌*◌, ◌<◌, refl, sym, ap, subst, ◌∙◌, arith}
-use Rattle.mk_words.specs.States.{PassState, TurnState}
-use Rattle.mk_objects.specs.Unmapping.{WipesTo}
+use Rattle.mk_laws.proofs.Vocabulary.{ap, arith, refl, subst, sym, ◌*◌, ◌+◌, ◌<◌, ◌∙◌, ◌≡◌}
+use Rattle.mk_objects.proofs.Vocabulary.{PassState, TurnState, WipesTo}
 use Rattle.mk_objects.proofs.UnmappedRuns.{found_wiped, look_may, looks_then, wipe_may, wipes_on}
+use Rattle.mk_objects.proofs.wiping.wipe_words.Goals.{else-found-ne0, then-found-ne0}
 use Rattle.mk_objects.proofs.WipedRuns.{wiped_from}
 use Rattle.mk_objects.proofs.wiping.wipe_words.Goals as goal
-use Rattle.mk_objects.proofs.wiping.wipe_words.Goals.{then-found-ne0, else-found-ne0}
 
 pub loop-word-init : goal.loop-word-init
 loop-word-init c =

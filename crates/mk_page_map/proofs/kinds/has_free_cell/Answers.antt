@@ -1,7 +1,5 @@
-use Rattle.std.proofs.Common.{◌≡◌, ℕ, Bool, true, false, nat_lt, w64, ap, sym, ◌∙◌, refl}
-use Rattle.std.specs.Int.{trailing_ones}
-use Rattle.std.specs.Option.{is_some}
-use Rattle.std.specs.Bool.{then_some}
+use Rattle.std.specs.{Bool.then_some, Int.trailing_ones}
+use Rattle.mk_page_map.proofs.Vocabulary.{Bool, ℕ, ap, false, is_some, nat_lt, refl, sym, true, w64, ◌∙◌, ◌≡◌}
 use Rattle.mk_geom.specs.Classes.{cells_of}
 use Rattle.mk_books.proofs.UsedBitLemmas.{first_where-bits_of}
 use Rattle.mk_page_map.proofs.BlockSets.{cells_few}

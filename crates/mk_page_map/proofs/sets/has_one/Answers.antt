@@ -1,5 +1,5 @@
-use Rattle.std.proofs.Common.{ap, nat_eq}
 use Rattle.std.proofs.lemmas.Nat.Bits.{shr_and_one}
+use Rattle.mk_page_map.proofs.Vocabulary.{ap, nat_eq}
 use Rattle.mk_page_map.proofs.sets.has_one.Goals as goal
 
 pub returns : goal.returns

@@ -1,6 +1,5 @@
-use Rattle.std.proofs.Common.{ℕ, ◌<◌, w64, subst, ap, ◌∙◌}
-use Rattle.std.specs.Int.{bit_at}
 use Rattle.std.proofs.lemmas.Nat.Bits.{bit_at-trailing_zeros}
+use Rattle.mk_page_map.proofs.Vocabulary.{ℕ, ap, bit_at, subst, w64, ◌<◌, ◌∙◌}
 use Rattle.mk_page_map.proofs.sets.lowest.Goals as goal
 
 pub returns-clause-one : goal.returns-clause-one

@@ -1,7 +1,6 @@
-use Rattle.std.proofs.Common.{◌≡◌, ℕ, Bool, true, false, not, ◌∙◌, ap, refl, sym}
+use Rattle.mk_page_map.proofs.Vocabulary.{Bool, ℕ, ap, bit_at, false, not, refl, sym, true, ◌∙◌, ◌≡◌}
+use Rattle.mk_page_map.proofs.SetWords.{Puts, put_are_sets, put_other_pages, put_other_sets, put_this, summary_stays}
 use mathlib.Core.Bool.{beq}
-use Rattle.std.specs.Int.{bit_at}
-use Rattle.mk_page_map.proofs.SetWords.{Puts, put_are_sets, put_this, put_other_sets, put_other_pages, summary_stays}
 use Rattle.mk_page_map.proofs.sets.put.Goals as goal
 
 same : (a b : Bool) → beq a b ≡ true → a ≡ b

@@ -1,5 +1,5 @@
-use Rattle.std.proofs.Common.{sym, ◌∙◌}
-use Rattle.mk_page_map.proofs.LowestBits.{set_bit_is, set_bit_others, cleared_bit_is, cleared_bit_others}
+use Rattle.mk_page_map.proofs.Vocabulary.{sym, ◌∙◌}
+use Rattle.mk_page_map.proofs.LowestBits.{cleared_bit_is, cleared_bit_others, set_bit_is, set_bit_others}
 use Rattle.mk_page_map.proofs.sets.with_bit.Goals as goal
 
 pub returns-then-is_one-clause-this : goal.returns-then-is_one-clause-this

@@ -1,5 +1,4 @@
-use Rattle.std.proofs.Common.{◌≡◌, ℕ, ◌+◌, List, replicate, subst, sym, arith}
-use Rattle.mk_page_map.specs.PageSets.{AreSets}
+use Rattle.mk_page_map.proofs.Vocabulary.{AreSets, List, ℕ, arith, replicate, subst, sym, ◌+◌, ◌≡◌}
 use Rattle.mk_page_map.proofs.FreeSets.{HaveFree, none_free, one_free_more, written, zero_sets}
 use Rattle.mk_page_map.proofs.sorting.free_sets.Goals as goal
 

@@ -1,4 +1,4 @@
-use Rattle.mk_page_map.specs.PageSets.{AreSets}
+use Rattle.mk_page_map.proofs.Vocabulary.{AreSets}
 use Rattle.mk_page_map.proofs.FreeSets.{HaveFree}
 use Rattle.mk_page_map.proofs.sorting.free_sets.Given as goal
 

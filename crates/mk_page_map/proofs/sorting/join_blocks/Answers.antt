@@ -1,6 +1,5 @@
-use Rattle.std.proofs.Common.{◌≡◌, ℕ, ◌<◌, subst, sym}
-use Rattle.mk_page_map.specs.declared.kinds.PageKind.{PageKind}
-use Rattle.mk_page_map.specs.PageSets.{HasClass, is_member, is_of_set, use_of_kind}
+use Rattle.mk_page_map.proofs.Vocabulary.{HasClass, PageKind, ℕ, is_member, is_of_set, subst, sym, use_of_kind, ◌<◌}
+use Rattle.mk_page_map.proofs.Vocabulary.{◌≡◌}
 use Rattle.mk_page_map.proofs.BlockSets.{joined_blocks}
 use Rattle.mk_page_map.proofs.sorting.join_blocks.Goals as goal
 

@@ -1,6 +1,4 @@
-use Rattle.std.proofs.Common.{subst, arith}
-use Rattle.mk_page_map.specs.declared.kinds.PageKind.{PageKind}
-use Rattle.mk_page_map.specs.PageSets.{HasClass, IsInItsSets, use_of_kind}
+use Rattle.mk_page_map.proofs.Vocabulary.{HasClass, IsInItsSets, PageKind, arith, subst, use_of_kind}
 use Rattle.mk_page_map.proofs.BlockSets.{left_blocks}
 use Rattle.mk_page_map.proofs.sorting.leave_blocks.Goals as goal
 

@@ -1,4 +1,4 @@
-use Rattle.std.proofs.Common.{◌∙◌, arith}
+use Rattle.mk_page_map.proofs.Vocabulary.{arith, ◌∙◌}
 use Rattle.mk_page_map.proofs.sorting.put_free.Goals as goal
 
 pub returns-clause-free : goal.returns-clause-free

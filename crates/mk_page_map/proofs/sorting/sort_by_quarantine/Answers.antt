@@ -1,4 +1,4 @@
-use Rattle.std.proofs.Common.{arith}
+use Rattle.mk_page_map.proofs.Vocabulary.{arith}
 use Rattle.mk_page_map.proofs.sorting.sort_by_quarantine.Goals as goal
 
 pub returns-clause-other_sets : goal.returns-clause-other_sets

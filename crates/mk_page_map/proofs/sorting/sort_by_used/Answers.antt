@@ -1,6 +1,4 @@
-use Rattle.std.proofs.Common.{subst, sym}
-use Rattle.mk_page_map.specs.declared.kinds.PageKind.{PageKind}
-use Rattle.mk_page_map.specs.PageSets.{HasClass, IsInItsSets, use_of_kind}
+use Rattle.mk_page_map.proofs.Vocabulary.{HasClass, IsInItsSets, PageKind, subst, sym, use_of_kind}
 use Rattle.mk_page_map.proofs.BlockSets.{sorted_anew}
 use Rattle.mk_page_map.proofs.sorting.sort_by_used.Goals as goal
 

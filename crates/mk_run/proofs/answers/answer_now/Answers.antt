@@ -1,9 +1,7 @@
-use Rattle.std.proofs.Common.{◌≡◌, false, refl, rules}
-use Rattle.mk_core.specs.declared.events.Answer.TheVariants as answer
-use Rattle.mk_core.specs.Calls.{is_under_turn}
-use Rattle.mk_run.proofs.BegunScripts.{beside_begun}
+use Rattle.mk_laws.proofs.Vocabulary.{Answer, false, is_under_turn, refl, ◌≡◌}
+use Rattle.mk_run.proofs.Vocabulary.{calls_sweep_nothing, rules, sweep_nothing_where_held}
 use Rattle.mk_run.proofs.ScriptCalls.{answered_by_call, answered_free, answered_new, makes_none, type_exists}
-use Rattle.mk_alloc.proofs.UnsweptTurns.{calls_sweep_nothing, sweep_nothing_where_held}
+use Rattle.mk_run.proofs.BegunScripts.{beside_begun}
 use Rattle.mk_run.proofs.answers.answer_now.Goals as goal
 
 pub new_object-requires-clause-ty : goal.new_object-requires-clause-ty
@@ -14,22 +12,22 @@ new_object-requires-clause-ty g c κs within =
 
 pub returns-in-Ok-clause-answers : goal.returns-in-Ok-clause-answers
 returns-in-Ok-clause-answers g c =
-    answered_new g.E.Engine.on c.args.caller.now.pass c.args.op c.in-New.d c.in-New.ty c.in-New.full answer.Done
+    answered_new g.E.Engine.on c.args.caller.now.pass c.args.op c.in-New.d c.in-New.ty c.in-New.full Answer.Done
     c.new_object.new.caller.pass c.is_idle.ensures.own c.in-New.is c.in-Ok.ensures.made
 
 pub returns-in-Err-clause-answers : goal.returns-in-Err-clause-answers
 returns-in-Err-clause-answers g c =
-    answered_new g.E.Engine.on c.args.caller.now.pass c.args.op c.in-New.d c.in-New.ty c.in-New.full answer.Full
+    answered_new g.E.Engine.on c.args.caller.now.pass c.args.op c.in-New.d c.in-New.ty c.in-New.full Answer.Full
     c.new_object.new.caller.pass c.is_idle.ensures.own c.in-New.is c.in-Err.ensures.full.called
 
 pub returns-in-Ok-free_object-clause-answers : goal.returns-in-Ok-free_object-clause-answers
 returns-in-Ok-free_object-clause-answers g c =
-    answered_free g.E.Engine.on c.args.caller.now.pass c.args.op c.in-Free.p answer.Done
+    answered_free g.E.Engine.on c.args.caller.now.pass c.args.op c.in-Free.p Answer.Done
     c.free_object.new.caller.pass c.is_idle.ensures.own c.in-Free.is c.in-Ok-free_object.ensures.freed.called
 
 pub returns-in-Err-free_object-clause-answers : goal.returns-in-Err-free_object-clause-answers
 returns-in-Err-free_object-clause-answers g c =
-    answered_free g.E.Engine.on c.args.caller.now.pass c.args.op c.in-Free.p answer.Double
+    answered_free g.E.Engine.on c.args.caller.now.pass c.args.op c.in-Free.p Answer.Double
     c.free_object.new.caller.pass c.is_idle.ensures.own c.in-Free.is c.in-Err-free_object.ensures.double.called
 
 pub returns-in-Ok-call : goal.returns-in-Ok-call

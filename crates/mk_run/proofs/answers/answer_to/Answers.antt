@@ -1,9 +1,7 @@
-use Rattle.std.proofs.Common.{◌<◌, true, sym, subst, refl}
-use Rattle.mk_words.specs.States.{PassState}
+use Rattle.mk_laws.proofs.Vocabulary.{subst, sym, true, ◌<◌}
+use Rattle.mk_run.proofs.Vocabulary.{PassState, sweeps_then}
 use Rattle.mk_caller.specs.States.{caller_of_pass}
-use Rattle.mk_run.proofs.BegunScripts.{beside_begun}
-use Rattle.mk_run.proofs.ScriptCalls.{none_then_answers, stays_admitted_after}
-use Rattle.mk_turns.proofs.Sweeping.{sweeps_then}
+use Rattle.mk_run.proofs.{BegunScripts.beside_begun, ScriptCalls.none_then_answers, ScriptCalls.stays_admitted_after}
 use Rattle.mk_run.proofs.answers.answer_to.Goals as goal
 
 pub call_until_open-requires : goal.call_until_open-requires

@@ -1,8 +1,5 @@
-use Rattle.std.proofs.Common.{◌≡◌, Bool, false, ap, sym, ◌∙◌, subst}
-use Rattle.std.specs.Prelude.{Option, Some, None}
-use Rattle.mk_never.specs.declared.operations.Op.{Op}
-use Rattle.mk_core.specs.Calls.{is_under_turn}
-use Rattle.mk_run.specs.Scripts.{Answers, AsksFor, IsAdmittedByOwnCalls}
+use Rattle.mk_laws.proofs.Vocabulary.{Op, false, is_under_turn, subst, sym, ◌∙◌, ◌≡◌}
+use Rattle.mk_run.proofs.Vocabulary.{Answers, IsAdmittedByOwnCalls}
 use Rattle.mk_run.proofs.AskedOps.{asked_op}
 use Rattle.mk_run.proofs.answers.answer_when_open.Goals as goal
 

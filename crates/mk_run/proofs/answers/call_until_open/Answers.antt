@@ -1,8 +1,7 @@
-use Rattle.std.proofs.Common.{true, refl}
+use Rattle.mk_laws.proofs.Vocabulary.{refl, true}
+use Rattle.mk_run.proofs.Vocabulary.{calls_sweep_nothing, nothing_sweeps, sweep_nothing_where_held, sweeps_then}
+use Rattle.mk_run.proofs.ScriptCalls.{answered_by_call, makes_none, none_then_answers, none_then_none, still_admitted}
 use Rattle.mk_run.proofs.BesideTurns.{stays_still}
-use Rattle.mk_run.proofs.ScriptCalls.{answered_by_call, makes_none, none_then_none, none_then_answers, still_admitted}
-use Rattle.mk_turns.proofs.Sweeping.{nothing_sweeps, sweeps_then}
-use Rattle.mk_alloc.proofs.UnsweptTurns.{calls_sweep_nothing, sweep_nothing_where_held}
 use Rattle.mk_run.proofs.answers.call_until_open.Goals as goal
 
 pub call-requires-clause-admitted : goal.call-requires-clause-admitted

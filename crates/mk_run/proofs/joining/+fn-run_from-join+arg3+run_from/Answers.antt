@@ -1,21 +1,12 @@
-use Rattle.std.proofs.Common.{◌≡◌, ◌∙◌, ◌+◌, ◌<◌, length, sym, ap, subst, arith, rules}
-use Rattle.std.specs.Prelude.{Some}
 use Rattle.std.proofs.lemmas.List.Elements.{All-pop}
-use Rattle.mk_script.specs.Scopes.{script_names}
-use Rattle.mk_core.specs.declared.config.Config.{Config}
-use Rattle.mk_core.specs.declared.events.Seat.TheVariants.{Caller, Host}
-use Rattle.mk_words.specs.Seats.{Has}
-use Rattle.mk_words.proofs.Seats.{has_left}
-use Rattle.mk_core.specs.Growing.{Grows}
-use Rattle.mk_heap.specs.Hosts.{HostState, with_joined}
-use Rattle.mk_check.specs.Laws.{IsScript}
-use Rattle.mk_run.specs.Benches.{IsMadeFor, AreBenchesFrom}
-use Rattle.mk_run.specs.Joining.{IsFirstPass, HasMade, HasRun, HasJoined, AreJoined}
-use Rattle.mk_run.proofs.LaterLists.{of_one}
-use Rattle.mk_run.proofs.HostTurns.{host_is_still, unseen_by_host}
-use Rattle.mk_run.proofs.JoinedScripts.{next_made, first_pass, one_joined, texts_joined}
-use Rattle.mk_run.proofs.BegunScripts as begun
+use Rattle.mk_laws.proofs.Vocabulary.{Caller, Config, Host, Some, ap, arith, length, subst, sym, ◌+◌, ◌<◌, ◌∙◌, ◌≡◌}
+use Rattle.mk_run.proofs.Vocabulary.{Grows, Has, HasJoined, HasMade, HostState, IsFirstPass, IsMadeFor, IsScript}
+use Rattle.mk_run.proofs.Vocabulary.{has_left, rules, script_names, with_joined}
+use Rattle.mk_run.proofs.JoinedScripts.{first_pass, next_made, one_joined, texts_joined}
 use Rattle.mk_run.proofs.UnsweptScripts.{none_joined, script_joined, scripts_on}
+use Rattle.mk_run.proofs.{HostTurns.host_is_still, HostTurns.unseen_by_host, LaterLists.of_one}
+use Rattle.mk_run.specs.{Benches.AreBenchesFrom, Joining.AreJoined, Joining.HasRun}
+use Rattle.mk_run.proofs.BegunScripts as begun
 use Rattle.mk_run.proofs.joining.+fn-run_from-join+arg3+run_from.Goals as goal
 
 pub join-ran-requires-after_bounds : goal.join-ran-requires-after_bounds

@@ -1,10 +1,7 @@
-use Rattle.std.proofs.Common.{◌≡◌, ◌∙◌, [], ◌∷◌, ap, subst, sym}
-use Rattle.mk_core.specs.declared.events.Seat.{Seat}
-use Rattle.mk_words.specs.States.{PassState}
-use Rattle.mk_caller.specs.States.{CallerState}
-use Rattle.mk_run.proofs.JoinedScripts.{no_answers, follows_at_first}
-use Rattle.mk_run.proofs.BegunScripts.{script_begun}
-use Rattle.mk_run.proofs.UnsweptScripts.{script_sweeps}
+use Rattle.mk_laws.proofs.Vocabulary.{Seat, ap, subst, sym, [], ◌∙◌, ◌∷◌, ◌≡◌}
+use Rattle.mk_run.proofs.Vocabulary.{CallerState, PassState}
+use Rattle.mk_run.proofs.JoinedScripts.{follows_at_first, no_answers}
+use Rattle.mk_run.proofs.{BegunScripts.script_begun, UnsweptScripts.script_sweeps}
 use Rattle.mk_run.proofs.joining.run_alone.Goals as goal
 
 pub new-caller-requires-clause-idle : goal.new-caller-requires-clause-idle

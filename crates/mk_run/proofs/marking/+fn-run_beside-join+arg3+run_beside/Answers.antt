@@ -1,13 +1,9 @@
-use Rattle.std.proofs.Common.{◌≡◌, ◌∙◌, ◌+◌, ◌-◌, ◌<◌, sym, ap, subst, arith, refl, rules}
-use Rattle.mk_core.specs.declared.events.Seat.TheVariants.{Caller, Host}
-use Rattle.mk_heap.specs.Hosts.{HostState}
-use Rattle.mk_run.specs.Joining.{HasMade}
-use Rattle.mk_run.specs.Marking.{IsMarkersPass, IsOver}
-use Rattle.mk_run.proofs.LastTurns.{last_turns_joined}
-use Rattle.mk_run.proofs.MarkersBeside.{first_marker, marker_made, marker_joined}
-use Rattle.mk_run.proofs.LaterLists.{of_one}
+use Rattle.mk_laws.proofs.Vocabulary.{Caller, Host, ap, arith, refl, subst, sym, ◌+◌, ◌-◌, ◌<◌, ◌∙◌, ◌≡◌}
+use Rattle.mk_run.proofs.Vocabulary.{HasMade, HostState, IsOver, rules}
+use Rattle.mk_run.proofs.MarkersBeside.{first_marker, marker_joined, marker_made}
+use Rattle.mk_run.proofs.{LastTurns.last_turns_joined, LaterLists.of_one, UnsweptScripts.scripts_on}
+use Rattle.mk_run.specs.Marking.{IsMarkersPass}
 use Rattle.mk_run.proofs.BegunScripts as begun
-use Rattle.mk_run.proofs.UnsweptScripts.{scripts_on}
 use Rattle.mk_run.proofs.marking.+fn-run_beside-join+arg3+run_beside.Goals as goal
 
 pub join-pass-requires-after_bounds : goal.join-pass-requires-after_bounds

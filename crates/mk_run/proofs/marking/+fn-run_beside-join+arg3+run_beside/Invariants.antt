@@ -1,4 +1,4 @@
-use Rattle.std.proofs.Common.{◌+◌, ◌-◌}
+use Rattle.mk_laws.proofs.Vocabulary.{◌+◌, ◌-◌}
 use Rattle.mk_run.proofs.marking.+fn-run_beside-join+arg3+run_beside.Given as goal
 
 abbrev pub decreases-join+arg3 : goal.decreases-join+arg3

@@ -1,4 +1,4 @@
-use Rattle.std.proofs.Common.{◌≡◌, false}
+use Rattle.mk_laws.proofs.Vocabulary.{false, ◌≡◌}
 use Rattle.mk_marker.specs.Markers.{attends}
 use Rattle.mk_run.proofs.marking.mark_until_over.Given as goal
 

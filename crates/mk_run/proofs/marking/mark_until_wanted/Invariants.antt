@@ -1,4 +1,4 @@
-use Rattle.std.proofs.Common.{◌≡◌, true}
+use Rattle.mk_laws.proofs.Vocabulary.{true, ◌≡◌}
 use Rattle.mk_marker.specs.Markers.{attends}
 use Rattle.mk_run.proofs.marking.mark_until_wanted.Given as goal
 

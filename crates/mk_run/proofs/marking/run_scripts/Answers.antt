@@ -1,13 +1,9 @@
-use Rattle.std.proofs.Common.{◌≡◌, ◌∙◌, ap, arith, sym, subst}
 use Rattle.std.proofs.lemmas.Result.{IfOk-weaker}
-use Rattle.mk_heap.specs.Hosts.{HostState}
-use Rattle.mk_run.specs.Joining.{AreTextsFrom, HasJoined}
-use Rattle.mk_core.specs.declared.events.Seat.TheVariants.{Host}
-use Rattle.mk_words.specs.Seats.{Has}
-use Rattle.mk_run.proofs.HostTurns.{comes_last}
+use Rattle.mk_laws.proofs.Vocabulary.{Host, ap, arith, subst, sym, ◌∙◌, ◌≡◌}
+use Rattle.mk_run.proofs.Vocabulary.{AreTextsFrom, Has, HasJoined, HostState}
 use Rattle.mk_run.proofs.WholeRuns.{all_callers_home, all_callers_joined, still_joined, still_texts}
+use Rattle.mk_run.proofs.{HostTurns.comes_last, UnsweptScripts.scripts_on}
 use Rattle.mk_run.proofs.BegunScripts as begun
-use Rattle.mk_run.proofs.UnsweptScripts.{scripts_on}
 use Rattle.mk_run.proofs.marking.run_scripts.Goals as goal
 
 pub take_last_turns-requires-clause-joined : goal.take_last_turns-requires-clause-joined

@@ -1,18 +1,10 @@
-use Rattle.std.proofs.Common.{◌≡◌, ◌∙◌, ◌+◌, List, sym, ap, subst, arith}
-use Rattle.std.specs.Prelude.{All, IfOk}
-use Rattle.mk_core.specs.declared.config.Config.{Config}
-use Rattle.mk_core.specs.declared.events.Event.{Event}
-use Rattle.mk_heap.specs.Reports as report
-use Rattle.mk_heap.specs.Reports.{IsWhole}
-use Rattle.mk_check.specs.Declarations.{config_of}
-use Rattle.mk_run.specs.Benches.{IsMadeFor}
-use Rattle.mk_run.specs.Joining.{AreTextsFrom}
-use Rattle.mk_run.specs.BegunSeats.{ScriptsBeginCycles}
-use Rattle.mk_run.specs.UnsweptSeats.{ScriptsSweepNothing}
-use Rattle.mk_run.proofs.BegunScripts.{run_is_begun}
-use Rattle.mk_run.proofs.LastOvers.{run_ends_with_cycle}
-use Rattle.mk_run.proofs.UnsweptScripts.{run_is_unswept}
+use Rattle.std.proofs.Common.{All}
+use Rattle.mk_laws.proofs.Vocabulary.{Config, Event, List, ap, arith, subst, sym, ◌∙◌, ◌≡◌}
+use Rattle.mk_run.proofs.Vocabulary.{AreTextsFrom, IfOk, IsMadeFor, IsWhole, config_of}
 use Rattle.mk_run.proofs.WholeRuns.{all_joined, is_run}
+use Rattle.mk_run.proofs.{BegunScripts.run_is_begun, LastOvers.run_ends_with_cycle, UnsweptScripts.run_is_unswept}
+use Rattle.mk_run.specs.{BegunSeats.ScriptsBeginCycles, UnsweptSeats.ScriptsSweepNothing}
+use Rattle.mk_heap.specs.Reports as report
 use Rattle.mk_run.proofs.running.run_and_close.Goals as goal
 
 pub close-report-requires-clause-joined : goal.close-report-requires-clause-joined

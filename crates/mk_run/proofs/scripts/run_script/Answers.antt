@@ -1,16 +1,13 @@
-use Rattle.std.proofs.Common.{◌≡◌, ◌∙◌, List, [], ◌∷◌, refl, sym, ap, subst, arith}
-use Rattle.mk_core.specs.declared.events.Answer.{Answer}
-use Rattle.mk_check.specs.Laws.{IsChecked}
-use Rattle.mk_run.specs.Running.{answers_in}
-use Rattle.mk_run.specs.Scripts.{IsAdmittedByOwnCalls, IsFedWith, script_of}
-use Rattle.mk_words.specs.States.{PassState}
+use Rattle.mk_laws.proofs.Vocabulary.{Answer, List, ap, arith, refl, subst, sym, [], ◌∙◌, ◌∷◌, ◌≡◌}
+use Rattle.mk_run.proofs.Vocabulary.{IsAdmittedByOwnCalls, IsChecked, IsFedWith, PassState, answers_in, begun_then}
+use Rattle.mk_run.proofs.Vocabulary.{nothing_sweeps, sweeps_then}
+use Rattle.mk_cycle.proofs.Begun.{nothing_begun}
 use Rattle.mk_run.proofs.PutOff.{IsAnsweredAs, answered_at_once, answered_later, put_off_admitted, put_off_is}
-use Rattle.mk_run.proofs.ScriptCalls.{exists_on, seat_is, asked_stays_admitted, follows_now, runs_on, then_seen}
-use Rattle.mk_run.proofs.ScriptCalls.{refused_within}
-use Rattle.mk_turns.proofs.Sweeping.{nothing_sweeps, sweeps_then}
-use Rattle.mk_cycle.proofs.Begun.{begun_then, nothing_begun}
-use Rattle.mk_run.proofs.scripts.run_script.Goals.{In-Some, In-None, Joined-answer_at_once}
-use Rattle.mk_run.proofs.scripts.run_script.Goals.{in-Some-answer_at_once, in-None}
+use Rattle.mk_run.proofs.ScriptCalls.{asked_stays_admitted, exists_on, follows_now, refused_within, runs_on, seat_is}
+use Rattle.mk_run.proofs.ScriptCalls.{then_seen}
+use Rattle.mk_run.proofs.scripts.run_script.Goals.{In-None, In-Some, Joined-answer_at_once, in-None}
+use Rattle.mk_run.proofs.scripts.run_script.Goals.{in-Some-answer_at_once}
+use Rattle.mk_run.specs.Scripts.{script_of}
 use Rattle.mk_run.proofs.scripts.run_script.Goals as goal
 
 -- the script's next operation is admitted

@@ -1,6 +1,5 @@
-use Rattle.std.proofs.Common.{◌≡◌, ◌-◌, ◌≤◌, true, false, length}
-use Rattle.mk_turns.specs.Sweeping.{SweepsNothing}
-use Rattle.mk_cycle.specs.Begun.{EachIsBegun}
+use Rattle.mk_laws.proofs.Vocabulary.{false, length, true, ◌-◌, ◌≡◌, ◌≤◌}
+use Rattle.mk_run.proofs.Vocabulary.{EachIsBegun, SweepsNothing}
 use Rattle.mk_run.specs.Scripts.{IsRunning, script_of}
 use Rattle.mk_run.proofs.scripts.run_script.Given as goal
 

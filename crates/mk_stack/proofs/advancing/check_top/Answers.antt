@@ -1,7 +1,6 @@
-use Rattle.std.proofs.Common.{arith, sym, ◌∙◌}
-use Rattle.mk_stack.proofs.NodeKinds.{may_look}
+use Rattle.mk_laws.proofs.Vocabulary.{arith, sym, ◌∙◌}
 use Rattle.mk_stack.proofs.Advances.{go_pop_advances, go_push_advances, lack_advances, ready_state}
-use Rattle.mk_stack.proofs.Replies.{says_so, stays_held}
+use Rattle.mk_stack.proofs.{NodeKinds.may_look, Replies.says_so, Replies.stays_held}
 use Rattle.mk_stack.proofs.advancing.check_top.Goals as goal
 
 pub is_null-null-requires-clause-admitted : goal.is_null-null-requires-clause-admitted

@@ -1,7 +1,5 @@
-use Rattle.mk_stack.proofs.Going.{goes_once}
-use Rattle.mk_stack.proofs.NodeKinds.{may_clear}
 use Rattle.mk_stack.proofs.Advances.{clear_advances, ready_state}
-use Rattle.mk_stack.proofs.Replies.{stays_held}
+use Rattle.mk_stack.proofs.{Going.goes_once, NodeKinds.may_clear, Replies.stays_held}
 use Rattle.mk_stack.proofs.advancing.clear.Goals as goal
 
 pub clear-cleared-requires-clause-admitted : goal.clear-cleared-requires-clause-admitted

@@ -1,8 +1,6 @@
-use Rattle.mk_never.specs.declared.operations.Op.TheVariants as op
-use Rattle.mk_stack.proofs.NodeKinds.{may_fill}
+use Rattle.mk_stack.proofs.Vocabulary.{Op}
 use Rattle.mk_stack.proofs.Advances.{fill_advances, ready_state}
-use Rattle.mk_stack.proofs.RefusedAccesses.{fill_held}
-use Rattle.mk_stack.proofs.Replies.{stays_refused}
+use Rattle.mk_stack.proofs.{NodeKinds.may_fill, RefusedAccesses.fill_held, Replies.stays_refused}
 use Rattle.mk_stack.proofs.advancing.fill.Goals as goal
 
 pub set_num-filled-requires-clause-admitted : goal.set_num-filled-requires-clause-admitted
@@ -21,4 +19,4 @@ returns-in-Ok-clause-advances c =
 
 pub returns-in-Err-clause-held : goal.returns-in-Err-clause-held
 returns-in-Err-clause-held c =
-    stays_refused (op.SetNum 1 0 c.args.n) c.in-Err.cause c.held.ensures c.in-Err.ensures.refused
+    stays_refused (Op.SetNum 1 0 c.args.n) c.in-Err.cause c.held.ensures c.in-Err.ensures.refused

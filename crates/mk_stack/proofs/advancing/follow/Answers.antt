@@ -1,9 +1,7 @@
-use Rattle.std.proofs.Common.{arith}
-use Rattle.mk_never.specs.declared.operations.Op.TheVariants as op
-use Rattle.mk_stack.proofs.NodeKinds.{may_follow}
+use Rattle.mk_stack.proofs.Vocabulary.{Op}
+use Rattle.mk_laws.proofs.Vocabulary.{arith}
 use Rattle.mk_stack.proofs.Advances.{follow_advances, ready_state}
-use Rattle.mk_stack.proofs.RefusedAccesses.{link_load_held}
-use Rattle.mk_stack.proofs.Replies.{stays_refused}
+use Rattle.mk_stack.proofs.{NodeKinds.may_follow, RefusedAccesses.link_load_held, Replies.stays_refused}
 use Rattle.mk_stack.proofs.advancing.follow.Goals as goal
 
 pub get_ptr-loaded-requires-clause-admitted : goal.get_ptr-loaded-requires-clause-admitted
@@ -20,4 +18,4 @@ returns-in-Ok-clause-advances c =
     follow_advances _ _ c.requires.ready.types c.is_idle-2.ensures.history c.requires.holds c.in-Ok.ensures.called
 
 pub returns-in-Err-clause-held : goal.returns-in-Err-clause-held
-returns-in-Err-clause-held c = stays_refused (op.GetPtr 3 2 1) c.in-Err.cause c.held.ensures c.in-Err.ensures.refused
+returns-in-Err-clause-held c = stays_refused (Op.GetPtr 3 2 1) c.in-Err.cause c.held.ensures c.in-Err.ensures.refused

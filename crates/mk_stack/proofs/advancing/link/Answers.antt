@@ -1,8 +1,6 @@
-use Rattle.mk_never.specs.declared.operations.Op.TheVariants as op
-use Rattle.mk_stack.proofs.NodeKinds.{may_link}
+use Rattle.mk_stack.proofs.Vocabulary.{Op}
 use Rattle.mk_stack.proofs.Advances.{link_advances, ready_state}
-use Rattle.mk_stack.proofs.RefusedAccesses.{link_held}
-use Rattle.mk_stack.proofs.Replies.{stays_refused}
+use Rattle.mk_stack.proofs.{NodeKinds.may_link, RefusedAccesses.link_held, Replies.stays_refused}
 use Rattle.mk_stack.proofs.advancing.link.Goals as goal
 
 pub set_ptr-linked-requires-clause-admitted : goal.set_ptr-linked-requires-clause-admitted
@@ -20,4 +18,4 @@ returns-in-Ok-clause-advances c =
     c.in-Ok.ensures.called
 
 pub returns-in-Err-clause-held : goal.returns-in-Err-clause-held
-returns-in-Err-clause-held c = stays_refused (op.SetPtr 1 1 2) c.in-Err.cause c.held.ensures c.in-Err.ensures.refused
+returns-in-Err-clause-held c = stays_refused (Op.SetPtr 1 1 2) c.in-Err.cause c.held.ensures c.in-Err.ensures.refused

@@ -1,6 +1,5 @@
-use Rattle.mk_stack.proofs.NodeKinds.{may_load_global}
 use Rattle.mk_stack.proofs.Advances.{ready_state, start_advances}
-use Rattle.mk_stack.proofs.Replies.{stays_held}
+use Rattle.mk_stack.proofs.{NodeKinds.may_load_global, Replies.stays_held}
 use Rattle.mk_stack.proofs.advancing.load_top.Goals as goal
 
 pub get_global-loaded-requires-clause-admitted : goal.get_global-loaded-requires-clause-admitted

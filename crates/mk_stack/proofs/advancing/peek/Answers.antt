@@ -1,8 +1,6 @@
-use Rattle.mk_never.specs.declared.operations.Op.TheVariants as op
-use Rattle.mk_stack.proofs.NodeKinds.{may_load_top}
+use Rattle.mk_stack.proofs.Vocabulary.{Op}
 use Rattle.mk_stack.proofs.Advances.{peek_advances, ready_state}
-use Rattle.mk_stack.proofs.RefusedAccesses.{look_held}
-use Rattle.mk_stack.proofs.Replies.{stays_refused}
+use Rattle.mk_stack.proofs.{NodeKinds.may_load_top, RefusedAccesses.look_held, Replies.stays_refused}
 use Rattle.mk_stack.proofs.advancing.peek.Goals as goal
 
 pub get_ptr-loaded-requires-clause-admitted : goal.get_ptr-loaded-requires-clause-admitted
@@ -19,4 +17,4 @@ returns-in-Ok-clause-advances c =
     peek_advances _ _ c.requires.ready.types c.is_idle-2.ensures.history c.requires.holds c.in-Ok.ensures.called
 
 pub returns-in-Err-clause-held : goal.returns-in-Err-clause-held
-returns-in-Err-clause-held c = stays_refused (op.GetPtr 2 0 0) c.in-Err.cause c.held.ensures c.in-Err.ensures.refused
+returns-in-Err-clause-held c = stays_refused (Op.GetPtr 2 0 0) c.in-Err.cause c.held.ensures c.in-Err.ensures.refused

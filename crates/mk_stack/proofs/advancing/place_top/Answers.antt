@@ -1,6 +1,4 @@
-use Rattle.mk_stack.proofs.NodeKinds.{may_place}
-use Rattle.mk_stack.proofs.Advances.{place_advances, ready_state}
-use Rattle.mk_stack.proofs.Replies.{stays_held}
+use Rattle.mk_stack.proofs.{Advances.place_advances, Advances.ready_state, NodeKinds.may_place, Replies.stays_held}
 use Rattle.mk_stack.proofs.advancing.place_top.Goals as goal
 
 pub set_global-placed-requires-clause-admitted : goal.set_global-placed-requires-clause-admitted

@@ -1,9 +1,8 @@
-use Rattle.std.proofs.Common.{arith}
-use Rattle.mk_never.specs.declared.operations.Op.TheVariants as op
-use Rattle.mk_stack.proofs.NodeKinds.{may_exchange, may_point}
+use Rattle.mk_stack.proofs.Vocabulary.{Op}
+use Rattle.mk_laws.proofs.Vocabulary.{arith}
 use Rattle.mk_stack.proofs.Advances.{publish_advances, push_again_advances, ready_state}
-use Rattle.mk_stack.proofs.RefusedAccesses.{exchange_held}
-use Rattle.mk_stack.proofs.Replies.{says_so, stays_refused}
+use Rattle.mk_stack.proofs.NodeKinds.{may_exchange, may_point}
+use Rattle.mk_stack.proofs.{RefusedAccesses.exchange_held, Replies.says_so, Replies.stays_refused}
 use Rattle.mk_stack.proofs.advancing.publish.Goals as goal
 
 pub cas_ptr-exchanged-requires-clause-admitted : goal.cas_ptr-exchanged-requires-clause-admitted
@@ -27,4 +26,4 @@ returns-in-Ok-false-clause-advances c =
     (says_so c.in-Ok-false.field-0-test c.in-Ok-false.ensures.called)
 
 pub returns-in-Err-clause-held : goal.returns-in-Err-clause-held
-returns-in-Err-clause-held c = stays_refused (op.CasPtr 0 0 2 1) c.in-Err.cause c.held.ensures c.in-Err.ensures.refused
+returns-in-Err-clause-held c = stays_refused (Op.CasPtr 0 0 2 1) c.in-Err.cause c.held.ensures c.in-Err.ensures.refused

@@ -1,8 +1,6 @@
-use Rattle.mk_never.specs.declared.operations.Op.TheVariants as op
-use Rattle.mk_stack.proofs.NodeKinds.{may_read}
+use Rattle.mk_stack.proofs.Vocabulary.{Op}
 use Rattle.mk_stack.proofs.Advances.{read_advances, ready_state}
-use Rattle.mk_stack.proofs.RefusedAccesses.{read_held}
-use Rattle.mk_stack.proofs.Replies.{stays_refused}
+use Rattle.mk_stack.proofs.{NodeKinds.may_read, RefusedAccesses.read_held, Replies.stays_refused}
 use Rattle.mk_stack.proofs.advancing.read.Goals as goal
 
 pub get_num-read-requires-clause-admitted : goal.get_num-read-requires-clause-admitted
@@ -19,4 +17,4 @@ returns-in-Ok-clause-advances c =
     read_advances _ _ c.requires.ready.types c.is_idle-2.ensures.history c.in-Ok.n c.in-Ok.ensures.called
 
 pub returns-in-Err-clause-held : goal.returns-in-Err-clause-held
-returns-in-Err-clause-held c = stays_refused (op.GetNum 2 0) c.in-Err.cause c.held.ensures c.in-Err.ensures.refused
+returns-in-Err-clause-held c = stays_refused (Op.GetNum 2 0) c.in-Err.cause c.held.ensures c.in-Err.ensures.refused

@@ -1,5 +1,5 @@
-use Rattle.std.proofs.Common.{◌≡◌, true, length, take}
 use Rattle.mk_stack.proofs.Vocabulary.{DoesJobs}
+use Rattle.mk_laws.proofs.Vocabulary.{length, take, true, ◌≡◌}
 use Rattle.mk_stack.proofs.job_lists.run_jobs.Given as goal
 
 abbrev pub invariant-loop-index : goal.invariant-loop-index

@@ -1,11 +1,10 @@
-use Rattle.std.proofs.Common.{◌≡◌, ◌∙◌, ◌+◌, ◌<◌, List, [], length, sym, ap, subst, arith, rules}
-use Rattle.std.specs.Prelude.{Ok, Some}
-use Rattle.std.proofs.lemmas.List.Elements.{All-pop}
+use Rattle.std.proofs.{Common.Ok, Common.rules, lemmas.List.Elements.All-pop}
 use Rattle.mk_stack.proofs.Vocabulary.{HasHandedOut, HaveWorked, HostState, Jobs, Joined, Replied, replied_to}
+use Rattle.mk_laws.proofs.Vocabulary.{List, Some, ap, arith, length, subst, sym, [], ◌+◌, ◌<◌, ◌∙◌, ◌≡◌}
+use Rattle.mk_stack.proofs.JoinedJobs.{next_made, next_ready, next_unasked, no_lists, none_joined}
+use Rattle.mk_stack.specs.Joining.{IsBetweenJobs}
 use denote.Exit.{no}
 use denote.Param.Send.{arg_send, param_send}
-use Rattle.mk_stack.specs.Joining.{IsBetweenJobs}
-use Rattle.mk_stack.proofs.JoinedJobs.{next_made, next_ready, next_unasked, no_lists, none_joined}
 use Rattle.mk_stack.proofs.joining.+fn-run_from-join+arg3+run_from.Goals as goal
 
 pub join-worked-requires-after_bounds : goal.join-worked-requires-after_bounds

@@ -1,6 +1,6 @@
-use Rattle.std.proofs.Common.{List, subst}
-use Rattle.std.specs.Prelude.{IfOk}
+use Rattle.std.proofs.Common.{IfOk}
 use Rattle.mk_stack.proofs.Vocabulary.{DoesJobs, Job}
+use Rattle.mk_laws.proofs.Vocabulary.{List, subst}
 use Rattle.mk_stack.proofs.JoinedJobs.{has_worked, ready_alone, ready_exists}
 use Rattle.mk_stack.proofs.joining.work_alone.Goals as goal
 

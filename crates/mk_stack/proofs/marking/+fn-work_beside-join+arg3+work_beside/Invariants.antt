@@ -1,4 +1,4 @@
-use Rattle.std.proofs.Common.{◌+◌, ◌-◌}
+use Rattle.mk_laws.proofs.Vocabulary.{◌+◌, ◌-◌}
 use Rattle.mk_stack.proofs.marking.+fn-work_beside-join+arg3+work_beside.Given as goal
 
 abbrev pub decreases-join+arg3 : goal.decreases-join+arg3

@@ -1,4 +1,4 @@
-use Rattle.std.proofs.Common.{refl}
+use Rattle.mk_laws.proofs.Vocabulary.{refl}
 use Rattle.mk_stack.proofs.EndedRuns.{marker_joined}
 use Rattle.mk_stack.proofs.marking.join_marker.Goals as goal
 

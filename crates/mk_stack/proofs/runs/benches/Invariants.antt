@@ -1,5 +1,5 @@
-use Rattle.std.proofs.Common.{◌≡◌, length}
-use Rattle.std.specs.Prelude.{All}
+use Rattle.std.proofs.Common.{All}
+use Rattle.mk_laws.proofs.Vocabulary.{length, ◌≡◌}
 use Rattle.mk_stack.proofs.runs.benches.Given as goal
 
 abbrev pub invariant-loop-bench : goal.invariant-loop-bench

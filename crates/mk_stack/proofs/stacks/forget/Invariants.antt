@@ -1,4 +1,4 @@
-use Rattle.std.proofs.Common.{◌≡◌, true}
+use Rattle.mk_laws.proofs.Vocabulary.{true, ◌≡◌}
 use Rattle.mk_stack.specs.Advancing.{StaysEnded}
 use Rattle.mk_stack.proofs.stacks.forget.Given as goal
 

@@ -1,5 +1,5 @@
-use Rattle.std.proofs.Common.{◌≡◌, ◌∷◌, [], length, ◌∙◌, sym, subst}
 use Rattle.mk_stack.proofs.Vocabulary.{PassState}
+use Rattle.mk_laws.proofs.Vocabulary.{length, subst, sym, [], ◌∙◌, ◌∷◌, ◌≡◌}
 use Rattle.mk_stack.proofs.Going.{goes_more, ready_on}
 use Rattle.mk_stack.proofs.stacks.go.Goals as goal
 

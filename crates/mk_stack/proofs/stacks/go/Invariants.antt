@@ -1,5 +1,5 @@
-use Rattle.std.proofs.Common.{◌≡◌, true, length}
 use Rattle.mk_stack.proofs.Vocabulary.{GoesToPoint, IsAtPoint}
+use Rattle.mk_laws.proofs.Vocabulary.{length, true, ◌≡◌}
 use Rattle.mk_stack.proofs.stacks.go.Given as goal
 
 abbrev pub invariant-points : goal.invariant-points

@@ -1,10 +1,7 @@
-use Rattle.std.proofs.Common.{arith}
-use Rattle.mk_never.specs.declared.operations.Op.TheVariants as op
-use Rattle.mk_stack.proofs.WalkSteps.{descends_walk}
-use Rattle.mk_stack.proofs.NodeKinds.{may_follow}
-use Rattle.mk_stack.proofs.Advances.{ready_state}
+use Rattle.mk_stack.proofs.Vocabulary.{Op}
+use Rattle.mk_laws.proofs.Vocabulary.{arith}
 use Rattle.mk_stack.proofs.RefusedAccesses.{link_load_held}
-use Rattle.mk_stack.proofs.Replies.{stays_refused}
+use Rattle.mk_stack.proofs.{Advances.ready_state, NodeKinds.may_follow, Replies.stays_refused, WalkSteps.descends_walk}
 use Rattle.mk_stack.proofs.walking.descend.Goals as goal
 
 pub get_ptr-loaded-requires-clause-admitted : goal.get_ptr-loaded-requires-clause-admitted
@@ -21,4 +18,4 @@ returns-in-Ok-clause-steps c =
     descends_walk _ _ c.requires.ready.types c.is_idle-2.ensures.history c.requires.holds c.in-Ok.ensures.called
 
 pub returns-in-Err-clause-held : goal.returns-in-Err-clause-held
-returns-in-Err-clause-held c = stays_refused (op.GetPtr 2 2 1) c.in-Err.cause c.held.ensures c.in-Err.ensures.refused
+returns-in-Err-clause-held c = stays_refused (Op.GetPtr 2 2 1) c.in-Err.cause c.held.ensures c.in-Err.ensures.refused

@@ -1,9 +1,6 @@
-use Rattle.mk_never.specs.declared.operations.Op.TheVariants as op
-use Rattle.mk_stack.proofs.WalkSteps.{reads_number}
-use Rattle.mk_stack.proofs.NodeKinds.{may_read}
-use Rattle.mk_stack.proofs.Advances.{ready_state}
+use Rattle.mk_stack.proofs.Vocabulary.{Op}
 use Rattle.mk_stack.proofs.RefusedAccesses.{read_held}
-use Rattle.mk_stack.proofs.Replies.{stays_refused}
+use Rattle.mk_stack.proofs.{Advances.ready_state, NodeKinds.may_read, Replies.stays_refused, WalkSteps.reads_number}
 use Rattle.mk_stack.proofs.walking.read_number.Goals as goal
 
 pub get_num-read-requires-clause-admitted : goal.get_num-read-requires-clause-admitted
@@ -21,4 +18,4 @@ returns-in-Ok-clause-steps c =
     c.in-Ok.ensures.called
 
 pub returns-in-Err-clause-held : goal.returns-in-Err-clause-held
-returns-in-Err-clause-held c = stays_refused (op.GetNum 2 0) c.in-Err.cause c.held.ensures c.in-Err.ensures.refused
+returns-in-Err-clause-held c = stays_refused (Op.GetNum 2 0) c.in-Err.cause c.held.ensures c.in-Err.ensures.refused

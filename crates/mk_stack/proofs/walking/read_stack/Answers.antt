@@ -1,10 +1,8 @@
-use Rattle.std.proofs.Common.{ℕ, List, [], ◌∷◌, ◌++◌, subst, sym, append-nil}
 use Rattle.mk_stack.proofs.Vocabulary.{HasWalked, HoldsDown, PassState}
-use Rattle.mk_stack.specs.declared.walking.Found.{Found}
-use Rattle.mk_stack.specs.declared.walking.WalkPoint.TheVariants as walk
+use Rattle.mk_laws.proofs.Vocabulary.{List, ℕ, append-nil, subst, sym, [], ◌++◌, ◌∷◌}
+use Rattle.mk_stack.proofs.{Going.ready_on, WalkSteps.walked_more}
 use Rattle.mk_stack.specs.Walks.{StepsDown, next_of, numbers_found}
-use Rattle.mk_stack.proofs.Going.{ready_on}
-use Rattle.mk_stack.proofs.WalkSteps.{walked_more}
+use Rattle.mk_stack.specs.{declared.walking.Found.Found, declared.walking.WalkPoint.WalkPoint}
 use Rattle.mk_stack.proofs.walking.read_stack.Goals as goal
 
 pub points-preserved-in-Ok-To : goal.points-preserved-in-Ok-To
@@ -29,14 +27,14 @@ points-preserved-in-Ok-Number g c =
     let p : PassState = c.args.caller.now.pass in
     let q : PassState = c.points.caller.pass in
     let r : PassState = c.go_down.new.caller.pass in
-    let steps : StepsDown q c.points.point (c.in-Ok-Number.n ∷ []) r walk.Descending =
+    let steps : StepsDown q c.points.point (c.in-Ok-Number.n ∷ []) r WalkPoint.Descending =
     subst (λ (f : Found). StepsDown q c.points.point (numbers_found f) r (next_of f)) c.in-Ok-Number.field-0-is
     c.in-Ok-Number.ensures.steps in
     record {
       home = c.go_down.ensures.home;
       walked =
-          subst (λ (l : List ℕ). HasWalked p l r walk.Descending) (sym c.in_ok-push-in-Ok-Number.ensures.items)
-          (subst (λ (n : ℕ). HasWalked p (c.points.left.items ++ n ∷ []) r walk.Descending) (sym c.in-Ok-Number.n-is)
+          subst (λ (l : List ℕ). HasWalked p l r WalkPoint.Descending) (sym c.in_ok-push-in-Ok-Number.ensures.items)
+          (subst (λ (n : ℕ). HasWalked p (c.points.left.items ++ n ∷ []) r WalkPoint.Descending) (sym c.in-Ok-Number.n-is)
           (walked_more c.points.invariant.walked steps));
       holds = steps.holds;
     }

@@ -1,5 +1,5 @@
-use Rattle.std.proofs.Common.{◌≡◌, true}
 use Rattle.mk_stack.proofs.Vocabulary.{HasWalked, HoldsDown}
+use Rattle.mk_laws.proofs.Vocabulary.{true, ◌≡◌}
 use Rattle.mk_stack.proofs.walking.read_stack.Given as goal
 
 abbrev pub invariant-points : goal.invariant-points

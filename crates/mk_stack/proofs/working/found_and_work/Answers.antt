@@ -1,7 +1,6 @@
-use Rattle.std.proofs.Common.{sym, subst}
 use Rattle.mk_stack.proofs.Vocabulary.{HasHandedOut, HaveWorked, HostState, replied_to}
-use Rattle.mk_stack.proofs.EndedRuns.{founds_stack}
-use Rattle.mk_stack.proofs.JoinedJobs.{next_made}
+use Rattle.mk_laws.proofs.Vocabulary.{subst, sym}
+use Rattle.mk_stack.proofs.{EndedRuns.founds_stack, JoinedJobs.next_made}
 use Rattle.mk_stack.proofs.working.found_and_work.Goals as goal
 
 pub run_from-requires-clause-host : goal.run_from-requires-clause-host

@@ -1,4 +1,4 @@
-use Rattle.std.proofs.Common.{refl}
+use Rattle.mk_laws.proofs.Vocabulary.{refl}
 use Rattle.mk_stack.proofs.EndedRuns.{callers_are_joined, have_ended}
 use Rattle.mk_stack.proofs.working.work.Goals as goal
 

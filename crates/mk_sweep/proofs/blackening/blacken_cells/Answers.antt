@@ -1,6 +1,5 @@
-use Rattle.std.proofs.Common.{◌≡◌, ◌∙◌, ◌<◌, true, refl, ap, subst, sym, arith}
-use Rattle.std.specs.Prelude.{slice_index}
 use Rattle.mk_sweep.proofs.Vocabulary.{Words, cells_under, has_bit, header_in, still_words}
+use Rattle.mk_laws.proofs.Vocabulary.{ap, arith, refl, slice_index, subst, sym, true, ◌<◌, ◌∙◌, ◌≡◌}
 use Rattle.mk_sweep.proofs.Blacks.{blacks_same, blacks_then, cells_then, closed_kept, may_turn}
 use Rattle.mk_sweep.proofs.SweepSteps.{quiet_then, sweeps_from}
 use Rattle.mk_sweep.proofs.blackening.blacken_cells.Goals as goal

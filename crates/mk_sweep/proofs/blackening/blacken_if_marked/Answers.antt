@@ -1,14 +1,10 @@
-use Rattle.std.proofs.Common.{◌≡◌, ◌<◌, ◌^◌, true, refl, subst, sym, arith}
-use Rattle.mk_sweep.proofs.Vocabulary.{Acts, IsEnabledTo, WordsState, still_words}
-use Rattle.mk_core.specs.declared.events.Step.TheVariants as step
-use Rattle.mk_core.specs.StopConditions.{may_turn_black}
-use Rattle.mk_tracing.specs.Grays.{with_blacks}
-use Rattle.mk_tracing.proofs.MaySteps.{may_black_cell}
-use Rattle.mk_tracing.proofs.Stilled.{black_words}
+use Rattle.mk_sweep.proofs.Vocabulary.{Acts, IsEnabledTo, Step, WordsState, still_words}
+use Rattle.mk_laws.proofs.Vocabulary.{arith, may_turn_black, refl, subst, sym, true, ◌<◌, ◌^◌, ◌≡◌}
 use Rattle.mk_sweep.proofs.Blacks.{black_now, blacks_added, blacks_length, blacks_same}
 use Rattle.mk_sweep.proofs.SweepSteps.{on_black, sweeps_from}
-use Rattle.mk_sweep.proofs.blackening.blacken_if_marked.Goals as goal
 use Rattle.mk_sweep.proofs.blackening.blacken_if_marked.Goals.{After-black, After-is_in_order}
+use Rattle.mk_tracing.{proofs.MaySteps.may_black_cell, proofs.Stilled.black_words, specs.Grays.with_blacks}
+use Rattle.mk_sweep.proofs.blackening.blacken_if_marked.Goals as goal
 
 pub returns-then-not-marked-clause-on : goal.returns-then-not-marked-clause-on
 returns-then-not-marked-clause-on c = sweeps_from c.args.stop.now c.requires.sweeping
@@ -24,7 +20,7 @@ near c = subst (λ (t : WordsState). c.args.cell.page < t.config.pages) (sym c.r
 pub black-requires-clause-enabled : goal.black-requires-clause-enabled
 black-requires-clause-enabled c =
     let p = c.args.stop.now.pass in
-    subst (λ v. IsEnabledTo p (step.Black c.args.cell.page v)) (sym c.bit.ensures)
+    subst (λ v. IsEnabledTo p (Step.Black c.args.cell.page v)) (sym c.bit.ensures)
     (may_black_cell p c.requires.sweeping.wanted (c.is_in_order.ensures.turn.holds, c.is_in_order.ensures.gates)
     c.args.cell (near (goal.at.black-requires-clause-enabled c).After-is_in_order) c.requires.index
     (subst (λ (t : WordsState). may_turn_black t.config.pages (still_words p) c.args.cell ≡ true)
@@ -42,7 +38,7 @@ blackened : (c : After-black)
 blackened c =
     black_words c.args.stop.now.pass c.black.new.self.pass c.requires.sweeping.wanted
     (c.is_in_order.ensures.turn.holds, c.is_in_order.ensures.gates) c.args.cell.page (2 ^ c.args.cell.index)
-    (subst (λ v. Acts c.args.stop.now.pass (step.Black c.args.cell.page v) c.black.new.self.pass) c.bit.ensures
+    (subst (λ v. Acts c.args.stop.now.pass (Step.Black c.args.cell.page v) c.black.new.self.pass) c.bit.ensures
     c.black.ensures.acts)
 
 pub returns-clause-more : goal.returns-clause-more

@@ -1,6 +1,5 @@
-use Rattle.std.proofs.Common.{[], ℕ, ◌<◌, ◌≡◌}
-use Rattle.std.specs.Prelude.{slice_index}
 use Rattle.mk_sweep.proofs.Vocabulary.{SweepsOn, still_words}
+use Rattle.mk_laws.proofs.Vocabulary.{ℕ, slice_index, [], ◌<◌, ◌≡◌}
 use Rattle.mk_tracing.specs.Grays.{BlacksFewer}
 use Rattle.mk_sweep.proofs.clearing.unblack_all.Given as goal
 

@@ -1,9 +1,7 @@
-use Rattle.std.proofs.Common.{◌≡◌, ◌∙◌, ◌<◌, ℕ, length, ap, subst, sym}
-use Rattle.std.specs.Prelude.{slice_index}
 use Rattle.mk_sweep.proofs.Vocabulary.{CellsAreClosed, PageIsBlack, PointWell, SweepsOn, TurnState, WordsState}
 use Rattle.mk_sweep.proofs.Vocabulary.{still_words, words_below}
-use Rattle.mk_sweep.proofs.Kept.{ready_of}
-use Rattle.mk_sweep.proofs.SweptMarks.{closes, sweeping_behind, sweeps}
+use Rattle.mk_laws.proofs.Vocabulary.{ℕ, ap, length, slice_index, subst, sym, ◌<◌, ◌∙◌, ◌≡◌}
+use Rattle.mk_sweep.proofs.{Kept.ready_of, SweptMarks.closes, SweptMarks.sweeping_behind, SweptMarks.sweeps}
 use Rattle.mk_sweep.proofs.closing.close_by_sweeping.Goals as goal
 
 pub want_and_wait-requires-clause-ready : goal.want_and_wait-requires-clause-ready

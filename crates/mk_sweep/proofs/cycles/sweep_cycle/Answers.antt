@@ -1,5 +1,5 @@
-use Rattle.std.proofs.Common.{ap, subst, ◌∙◌}
 use Rattle.mk_sweep.proofs.Vocabulary.{Config, IsHistory, PassState}
+use Rattle.mk_laws.proofs.Vocabulary.{ap, subst, ◌∙◌}
 use Rattle.mk_sweep.proofs.WholeCycles.{releases_unswept}
 use Rattle.mk_sweep.proofs.cycles.sweep_cycle.Goals as goal
 

@@ -1,10 +1,7 @@
-use Rattle.std.proofs.Common.{◌≡◌, ℕ, true, refl, subst, arith}
-use Rattle.std.specs.Prelude.{slice_index}
 use Rattle.mk_sweep.proofs.Vocabulary.{points_well, still_words}
-use Rattle.mk_core.specs.declared.events.Word.TheVariants as word
-use Rattle.mk_tracing.proofs.MoreMarks.{more_same, more_then}
-use Rattle.mk_tracing.proofs.RootMarks.{values_then, root_kept}
-use Rattle.mk_sweep.proofs.SweepSteps.{sweeps_from, quiet_then}
+use Rattle.mk_laws.proofs.Vocabulary.{Word, ℕ, arith, refl, slice_index, subst, true, ◌≡◌}
+use Rattle.mk_sweep.proofs.SweepSteps.{quiet_then, sweeps_from}
+use Rattle.mk_tracing.proofs.{MoreMarks.more_same, MoreMarks.more_then, RootMarks.root_kept, RootMarks.values_then}
 use Rattle.mk_sweep.proofs.roots.mark_globals.Goals as goal
 
 pub loop-global-init : goal.loop-global-init
@@ -28,5 +25,5 @@ loop-global-preserved c =
       well = values_then pages v x (λ g. slice_index w.globals g) c.loop-global.global c.mark_root.ensures.more
           c.loop-global.invariant.well
           (subst (λ n. points_well pages x n ≡ true) (root_kept w v
-          (word.Global c.loop-global.global) refl c.loop-global.invariant.more) c.mark_root.ensures.well);
+          (Word.Global c.loop-global.global) refl c.loop-global.invariant.more) c.mark_root.ensures.well);
     }

@@ -1,6 +1,5 @@
-use Rattle.std.proofs.Common.{[], ◌≡◌, ℕ, ◌<◌, true}
-use Rattle.std.specs.Prelude.{slice_index}
 use Rattle.mk_sweep.proofs.Vocabulary.{MarksMore, SweepsOn, points_well, still_words}
+use Rattle.mk_laws.proofs.Vocabulary.{ℕ, slice_index, true, [], ◌<◌, ◌≡◌}
 use Rattle.mk_sweep.proofs.roots.mark_globals.Given as goal
 
 abbrev pub invariant-loop-global : goal.invariant-loop-global

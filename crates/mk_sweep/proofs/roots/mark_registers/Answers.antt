@@ -1,9 +1,7 @@
-use Rattle.std.proofs.Common.{◌≡◌, ℕ, true, refl, subst, arith}
 use Rattle.mk_sweep.proofs.Vocabulary.{points_well, register_word, still_words}
-use Rattle.mk_core.specs.declared.events.Word.TheVariants as word
-use Rattle.mk_tracing.proofs.MoreMarks.{more_same, more_then}
-use Rattle.mk_tracing.proofs.RootMarks.{values_then, root_kept}
-use Rattle.mk_sweep.proofs.SweepSteps.{sweeps_from, quiet_then}
+use Rattle.mk_laws.proofs.Vocabulary.{Word, ℕ, arith, refl, subst, true, ◌≡◌}
+use Rattle.mk_sweep.proofs.SweepSteps.{quiet_then, sweeps_from}
+use Rattle.mk_tracing.proofs.{MoreMarks.more_same, MoreMarks.more_then, RootMarks.root_kept, RootMarks.values_then}
 use Rattle.mk_sweep.proofs.roots.mark_registers.Goals as goal
 
 pub loop-caller-init : goal.loop-caller-init
@@ -28,6 +26,6 @@ loop-caller-preserved c =
           values_then pages v x (λ j. register_word w j r) c.loop-caller.caller c.mark_registers_of.ensures.more
           (λ j lj. c.loop-caller.invariant.well j lj r lr)
           (subst (λ n. points_well pages x n ≡ true) (root_kept w v
-          (word.Reg c.loop-caller.caller r) refl c.loop-caller.invariant.more) (c.mark_registers_of.ensures.well r lr))
+          (Word.Reg c.loop-caller.caller r) refl c.loop-caller.invariant.more) (c.mark_registers_of.ensures.well r lr))
           k lt;
     }

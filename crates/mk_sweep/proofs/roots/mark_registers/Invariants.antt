@@ -1,5 +1,5 @@
-use Rattle.std.proofs.Common.{[], ℕ, ◌<◌}
 use Rattle.mk_sweep.proofs.Vocabulary.{MarksMore, SweepsOn, still_words}
+use Rattle.mk_laws.proofs.Vocabulary.{ℕ, [], ◌<◌}
 use Rattle.mk_tracing.specs.Grays.{RegistersAreWell}
 use Rattle.mk_sweep.proofs.roots.mark_registers.Given as goal
 

@@ -1,9 +1,7 @@
-use Rattle.std.proofs.Common.{◌≡◌, ℕ, true, refl, subst, arith}
 use Rattle.mk_sweep.proofs.Vocabulary.{points_well, register_word, still_words}
-use Rattle.mk_core.specs.declared.events.Word.TheVariants as word
-use Rattle.mk_tracing.proofs.MoreMarks.{more_same, more_then}
-use Rattle.mk_tracing.proofs.RootMarks.{values_then, root_kept}
-use Rattle.mk_sweep.proofs.SweepSteps.{sweeps_from, quiet_then}
+use Rattle.mk_laws.proofs.Vocabulary.{Word, ℕ, arith, refl, subst, true, ◌≡◌}
+use Rattle.mk_sweep.proofs.SweepSteps.{quiet_then, sweeps_from}
+use Rattle.mk_tracing.proofs.{MoreMarks.more_same, MoreMarks.more_then, RootMarks.root_kept, RootMarks.values_then}
 use Rattle.mk_sweep.proofs.roots.mark_registers_of.Goals as goal
 
 pub loop-register-init : goal.loop-register-init
@@ -27,6 +25,6 @@ loop-register-preserved c =
       well = values_then pages v x (λ r. register_word w c.args.caller r) c.loop-register.register
           c.mark_root.ensures.more c.loop-register.invariant.well
           (subst (λ n. points_well pages x n ≡ true) (root_kept w v
-          (word.Reg c.args.caller c.loop-register.register) refl c.loop-register.invariant.more)
+          (Word.Reg c.args.caller c.loop-register.register) refl c.loop-register.invariant.more)
           c.mark_root.ensures.well);
     }

@@ -1,5 +1,5 @@
-use Rattle.std.proofs.Common.{[], ◌≡◌, ℕ, ◌<◌, true}
 use Rattle.mk_sweep.proofs.Vocabulary.{MarksMore, SweepsOn, points_well, register_word, still_words}
+use Rattle.mk_laws.proofs.Vocabulary.{ℕ, true, [], ◌<◌, ◌≡◌}
 use Rattle.mk_sweep.proofs.roots.mark_registers_of.Given as goal
 
 abbrev pub invariant-loop-register : goal.invariant-loop-register

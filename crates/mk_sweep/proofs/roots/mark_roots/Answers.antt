@@ -1,9 +1,7 @@
-use Rattle.std.proofs.Common.{◌<◌, ◌≡◌, ℕ, true, ap, sym, subst}
-use Rattle.std.specs.Prelude.{slice_index}
 use Rattle.mk_sweep.proofs.Vocabulary.{MarksMore, Words, WordsState, points_well, register_word, still_words}
-use Rattle.mk_tracing.proofs.MoreMarks.{more_then, well_more}
-use Rattle.mk_tracing.proofs.RootMarks.{roots_well}
+use Rattle.mk_laws.proofs.Vocabulary.{ℕ, ap, slice_index, subst, sym, true, ◌<◌, ◌≡◌}
 use Rattle.mk_sweep.proofs.SweepSteps.{quiet_then}
+use Rattle.mk_tracing.proofs.{MoreMarks.more_then, MoreMarks.well_more, RootMarks.roots_well}
 use Rattle.mk_sweep.proofs.roots.mark_roots.Goals as goal
 
 pub returns-clause-on : goal.returns-clause-on

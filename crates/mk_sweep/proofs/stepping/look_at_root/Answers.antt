@@ -1,8 +1,8 @@
-use Rattle.std.proofs.Common.{subst, sym, ◌≡◌, true}
 use Rattle.mk_sweep.proofs.Vocabulary.{WordsState}
+use Rattle.mk_laws.proofs.Vocabulary.{subst, sym, true, ◌≡◌}
 use Rattle.mk_core.specs.Ranges.{is_word}
-use Rattle.mk_tracing.proofs.MaySteps.{may_look}
 use Rattle.mk_sweep.proofs.SweepSteps.{on_root, root_in_hand}
+use Rattle.mk_tracing.proofs.MaySteps.{may_look}
 use Rattle.mk_sweep.proofs.stepping.look_at_root.Goals as goal
 
 pub look-requires-clause-enabled : goal.look-requires-clause-enabled

@@ -1,9 +1,7 @@
-use Rattle.std.proofs.Common.{refl, subst, sym}
 use Rattle.mk_sweep.proofs.Vocabulary.{IsScannedWord, WordsState, world_of}
-use Rattle.mk_core.specs.declared.events.Word.TheVariants as word
-use Rattle.mk_tracing.proofs.MaySteps.{may_look}
-use Rattle.mk_tracing.proofs.Stilled.{look_finds}
+use Rattle.mk_laws.proofs.Vocabulary.{Word, refl, subst, sym}
 use Rattle.mk_sweep.proofs.SweepSteps.{on_word, word_in_hand, word_named}
+use Rattle.mk_tracing.proofs.{MaySteps.may_look, Stilled.look_finds}
 use Rattle.mk_sweep.proofs.stepping.look_at_word.Goals as goal
 
 pub look-requires-clause-enabled : goal.look-requires-clause-enabled
@@ -13,7 +11,7 @@ look-requires-clause-enabled c =
     subst (λ (t : WordsState). IsScannedWord t.config (world_of p).allocations c.args.word)
     (sym c.requires.one_table) c.requires.scanned in
     may_look p c.requires.sweeping.wanted (c.is_in_order.ensures.turn.holds, c.is_in_order.ensures.gates)
-    (word.Heap c.args.word)
+    (Word.Heap c.args.word)
     (word_named p p c.requires.sweeping (c.is_in_order.ensures.turn.holds, c.is_in_order.ensures.gates)
     c.is_in_order.ensures.history c.args.word scanned)
 
@@ -37,5 +35,5 @@ returns-clause-hand c =
 pub returns-clause-found : goal.returns-clause-found
 returns-clause-found c =
     look_finds c.args.stop.now.pass c.look.new.self.pass c.requires.sweeping.wanted
-    (c.is_in_order.ensures.turn.holds, c.is_in_order.ensures.gates) (word.Heap c.args.word) c.look.ensures.acts
+    (c.is_in_order.ensures.turn.holds, c.is_in_order.ensures.gates) (Word.Heap c.args.word) c.look.ensures.acts
     c.look.result c.look.ensures.finds refl

@@ -1,11 +1,11 @@
-use Rattle.std.proofs.Common.{◌≡◌, ◌∙◌, ◌+◌, ◌*◌, ◌<◌, ℕ, Bool, List, ◌++◌, length, refl, ap, subst, sym, arith}
 use Rattle.std.proofs.Common.{length-append}
 use Rattle.mk_sweep.proofs.Vocabulary.{IsScannedWord, PointWell, SweepsOn, WordsState, has_bit, header_in, header_of}
 use Rattle.mk_sweep.proofs.Vocabulary.{still_words, words_if, words_of_cells, words_under, world_of}
-use Rattle.mk_tracing.proofs.MoreMarks.{more_same, more_then}
-use Rattle.mk_sweep.proofs.ScannedCells.{used_word}
+use Rattle.mk_laws.proofs.Vocabulary.{Bool, List, ℕ, ap, arith, length, refl, subst, sym, ◌*◌, ◌++◌, ◌+◌, ◌<◌, ◌∙◌, ◌≡◌}
 use Rattle.mk_sweep.proofs.SweepSteps.{sweeps_from, sweeps_then, word_alike}
 use Rattle.mk_sweep.proofs.WordLists.{both_well, cell_more, none_well, words_of_scanned}
+use Rattle.mk_sweep.proofs.ScannedCells.{used_word}
+use Rattle.mk_tracing.proofs.MoreMarks.{more_same, more_then}
 use Rattle.mk_sweep.proofs.sweeping.sweep_cells.Goals as goal
 
 pub loop-index-init : goal.loop-index-init

@@ -1,9 +1,8 @@
-use Rattle.std.proofs.Common.{◌∙◌, Bool, ap, refl, subst, sym, length}
 use Rattle.std.proofs.lemmas.List.FromFn.{length-range_with_len}
 use Rattle.mk_sweep.proofs.Vocabulary.{PointWell, SweepsOn, still_words, words_if}
+use Rattle.mk_laws.proofs.Vocabulary.{Bool, ap, length, refl, subst, sym, ◌∙◌}
+use Rattle.mk_sweep.proofs.{SweepSteps.sweeps_from, WordLists.none_well}
 use Rattle.mk_tracing.proofs.MoreMarks.{more_same}
-use Rattle.mk_sweep.proofs.SweepSteps.{sweeps_from}
-use Rattle.mk_sweep.proofs.WordLists.{none_well}
 use Rattle.mk_sweep.proofs.sweeping.sweep_if_used.Goals as goal
 
 pub returns-then-not-used-clause-on : goal.returns-then-not-used-clause-on

@@ -1,9 +1,8 @@
-use Rattle.std.proofs.Common.{◌∙◌, ℕ, List, length, ap, subst, sym}
 use Rattle.mk_sweep.proofs.Vocabulary.{MarksMore, PointWell, SweepsOn, Words, has_no_pointers, header_at, header_in}
 use Rattle.mk_sweep.proofs.Vocabulary.{header_of, still_words, used_at, words_on}
+use Rattle.mk_laws.proofs.Vocabulary.{List, ℕ, ap, length, subst, sym, ◌∙◌}
+use Rattle.mk_sweep.proofs.{SweepSteps.quiet_then, WordLists.none_well, WordLists.words_of_bare}
 use Rattle.mk_tracing.proofs.MoreMarks.{more_same}
-use Rattle.mk_sweep.proofs.SweepSteps.{quiet_then}
-use Rattle.mk_sweep.proofs.WordLists.{none_well, words_of_bare}
 use Rattle.mk_sweep.proofs.sweeping.sweep_page.Goals as goal
 
 pub returns-then-has_no_pointers-clause-on : goal.returns-then-has_no_pointers-clause-on

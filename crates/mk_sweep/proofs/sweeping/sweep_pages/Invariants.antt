@@ -1,5 +1,5 @@
-use Rattle.std.proofs.Common.{◌≡◌, ◌≤◌, ◌*◌, length}
 use Rattle.mk_sweep.proofs.Vocabulary.{MarksMore, PointWell, SweepsOn, still_words, words_below}
+use Rattle.mk_laws.proofs.Vocabulary.{length, ◌*◌, ◌≡◌, ◌≤◌}
 use Rattle.mk_sweep.proofs.sweeping.sweep_pages.Given as goal
 
 abbrev pub invariant-loop-page : goal.invariant-loop-page

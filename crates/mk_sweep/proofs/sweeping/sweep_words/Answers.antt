@@ -1,9 +1,9 @@
-use Rattle.std.proofs.Common.{◌≡◌, ◌+◌, ℕ, List, refl, subst, sym, arith}
 use Rattle.std.specs.List.{range_with_len}
 use Rattle.mk_sweep.proofs.Vocabulary.{MarksMore, PointWell, SweepsOn, Words, still_words, world_of}
-use Rattle.mk_tracing.proofs.MoreMarks.{more_same, more_then}
+use Rattle.mk_laws.proofs.Vocabulary.{List, ℕ, arith, refl, subst, sym, ◌+◌, ◌≡◌}
 use Rattle.mk_sweep.proofs.SweepSteps.{sweeps_from, sweeps_then, then_quiet, word_alike}
 use Rattle.mk_sweep.proofs.WordLists.{none_well, one_well, word_more}
+use Rattle.mk_tracing.proofs.MoreMarks.{more_same, more_then}
 use Rattle.mk_sweep.proofs.sweeping.sweep_words.Goals as goal
 
 pub loop-i-init : goal.loop-i-init

@@ -1,10 +1,7 @@
-use Rattle.std.proofs.Common.{◌≡◌, ◌∙◌, ℕ, ◌<◌, sym, subst}
-use Rattle.std.specs.Prelude.{slice_index}
+use Rattle.mk_laws.proofs.Vocabulary.{ℕ, slice_index, subst, sym, ◌<◌, ◌∙◌, ◌≡◌}
+use Rattle.mk_tracing.proofs.{Closes.marks_closed_now, Closes.may_close_now, Wants.wanted_once_then}
+use Rattle.mk_tracing.specs.{Grays.HasNoGray, Grays.RootsPointWell, Grays.TracesReached, Stops.still_words}
 use Rattle.mk_words.specs.States.{WordsState}
-use Rattle.mk_tracing.specs.Grays.{HasNoGray, RootsPointWell, TracesReached}
-use Rattle.mk_tracing.specs.Stops.{still_words}
-use Rattle.mk_tracing.proofs.Closes.{may_close_now, marks_closed_now}
-use Rattle.mk_tracing.proofs.Wants.{wanted_once_then}
 use Rattle.mk_tracing.proofs.closing.close_marks.Goals as goal
 
 pub returns-clause-traces : goal.returns-clause-traces

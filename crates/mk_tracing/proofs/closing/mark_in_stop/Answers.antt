@@ -1,9 +1,5 @@
-use Rattle.std.proofs.Common.{◌∙◌, ap}
-use Rattle.std.specs.Prelude.{slice_index}
-use Rattle.mk_core.specs.Words.{Words}
-use Rattle.mk_tracing.specs.Stops.{still_words}
-use Rattle.mk_tracing.proofs.Closes.{roots_more}
-use Rattle.mk_tracing.proofs.StopSteps.{on_then}
+use Rattle.mk_laws.proofs.Vocabulary.{Words, ap, slice_index, ◌∙◌}
+use Rattle.mk_tracing.{proofs.Closes.roots_more, proofs.StopSteps.on_then, specs.Stops.still_words}
 use Rattle.mk_tracing.proofs.closing.mark_in_stop.Goals as goal
 
 pub returns-clause-on : goal.returns-clause-on

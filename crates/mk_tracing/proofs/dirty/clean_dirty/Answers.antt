@@ -1,10 +1,7 @@
-use Rattle.std.proofs.Common.{◌≡◌, ◌∙◌, ap, arith}
-use Rattle.std.specs.Prelude.{slice_index}
-use Rattle.mk_words.specs.States.{WordsState}
+use Rattle.mk_laws.proofs.Vocabulary.{ap, arith, slice_index, ◌∙◌, ◌≡◌}
+use Rattle.mk_tracing.proofs.{Clearing.pages_then, FreePages.clean_past, StopSteps.on_from, StopSteps.on_then}
 use Rattle.mk_tracing.specs.Stops.{still_words}
-use Rattle.mk_tracing.proofs.Clearing.{pages_then}
-use Rattle.mk_tracing.proofs.FreePages.{clean_past}
-use Rattle.mk_tracing.proofs.StopSteps.{on_from, on_then}
+use Rattle.mk_words.specs.States.{WordsState}
 use Rattle.mk_tracing.proofs.dirty.clean_dirty.Goals as goal
 
 pub loop-page-init : goal.loop-page-init

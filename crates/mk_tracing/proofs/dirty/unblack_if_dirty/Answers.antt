@@ -1,12 +1,7 @@
-use Rattle.std.proofs.Common.{◌≡◌, ◌∙◌, ℕ, ap, sym}
-use Rattle.std.specs.Prelude.{slice_index}
-use Rattle.mk_geom.specs.Addresses.{head_page_under}
-use Rattle.mk_geom.specs.Headers.{header_of}
-use Rattle.mk_core.specs.Cells.{head_page}
-use Rattle.mk_core.specs.Words.{Words}
-use Rattle.mk_tracing.specs.Stops.{still_words}
-use Rattle.mk_tracing.proofs.Clearing.{own_part, head_part, part_kept, black_cleared, blacks_cleared, cleared_unscanned}
+use Rattle.mk_laws.proofs.Vocabulary.{Words, ℕ, ap, head_page, head_page_under, header_of, slice_index, sym, ◌∙◌, ◌≡◌}
+use Rattle.mk_tracing.proofs.Clearing.{black_cleared, blacks_cleared, cleared_unscanned, head_part, own_part, part_kept}
 use Rattle.mk_tracing.proofs.StopSteps.{on_then}
+use Rattle.mk_tracing.specs.Stops.{still_words}
 use Rattle.mk_tracing.proofs.dirty.unblack_if_dirty.Goals as goal
 
 pub returns-then-head-page-clause-on : goal.returns-then-head-page-clause-on

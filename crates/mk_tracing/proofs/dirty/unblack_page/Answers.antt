@@ -1,9 +1,6 @@
-use Rattle.std.proofs.Common.{◌∙◌, ap, subst, sym}
-use Rattle.mk_core.specs.Words.{Words}
-use Rattle.mk_tracing.specs.Grays.{HasDirtyPart, without_blacks}
-use Rattle.mk_tracing.specs.Stops.{still_words}
-use Rattle.mk_tracing.proofs.Clearing.{black_clear}
-use Rattle.mk_tracing.proofs.StopSteps.{on_then}
+use Rattle.mk_laws.proofs.Vocabulary.{Words, ap, subst, sym, ◌∙◌}
+use Rattle.mk_tracing.proofs.{Clearing.black_clear, StopSteps.on_then}
+use Rattle.mk_tracing.specs.{Grays.HasDirtyPart, Grays.without_blacks, Stops.still_words}
 use Rattle.mk_tracing.proofs.dirty.unblack_page.Goals as goal
 
 pub clear_black-requires-clause-part : goal.clear_black-requires-clause-part

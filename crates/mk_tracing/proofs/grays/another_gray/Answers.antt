@@ -1,6 +1,4 @@
-use Rattle.mk_tracing.specs.Stops.{still_words}
-use Rattle.mk_tracing.proofs.NotedCells.{noted_same}
-use Rattle.mk_tracing.proofs.StopSteps.{on_then}
+use Rattle.mk_tracing.{proofs.NotedCells.noted_same, proofs.StopSteps.on_then, specs.Stops.still_words}
 use Rattle.mk_tracing.proofs.grays.another_gray.Goals as goal
 
 pub returns-in_default-gray_somewhere-clause-on : goal.returns-in_default-gray_somewhere-clause-on

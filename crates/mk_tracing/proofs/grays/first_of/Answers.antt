@@ -1,7 +1,6 @@
+use Rattle.std.proofs.Common.{IfNone, IfSome}
+use Rattle.mk_laws.proofs.Vocabulary.{ℕ, false, has_bit, subst, ◌<◌, ◌≡◌}
 use Rattle.mk_tracing.proofs.FirstBits.{first_is_known, first_is_one, none_is_first}
-use Rattle.std.proofs.Common.{◌≡◌, ◌<◌, false, subst}
-use Rattle.std.specs.Prelude.{ℕ, IfSome, IfNone}
-use Rattle.mk_core.specs.Bits.{has_bit}
 use Rattle.mk_tracing.proofs.grays.first_of.Goals as goal
 
 pub returns-clause-known : goal.returns-clause-known

@@ -1,10 +1,6 @@
-use Rattle.std.proofs.Common.{◌≡◌, ℕ, ◌+◌, ◌<◌, ◌≤◌, ◌∙◌, subst, refl, arith, inl, inr}
-use Rattle.std.proofs.lemmas.Bool.{cases_lt}
-use Rattle.mk_core.specs.Words.{Words}
-use Rattle.mk_tracing.specs.Grays.{HasNoGray}
-use Rattle.mk_tracing.specs.Stops.{still_words}
-use Rattle.mk_tracing.proofs.FreePages.{none_past}
-use Rattle.mk_tracing.proofs.StopSteps.{on_from, on_then}
+use Rattle.mk_laws.proofs.Vocabulary.{Words, ℕ, arith, cases_lt, inl, inr, refl, subst, ◌+◌, ◌<◌, ◌∙◌, ◌≡◌, ◌≤◌}
+use Rattle.mk_tracing.proofs.{FreePages.none_past, StopSteps.on_from, StopSteps.on_then}
+use Rattle.mk_tracing.specs.{Grays.HasNoGray, Stops.still_words}
 use Rattle.mk_tracing.proofs.grays.gray_between.Goals as goal
 
 -- where the pages before one have no gray cell, and it has none, those up to the next have none

@@ -1,7 +1,6 @@
-use Rattle.std.proofs.Common.{◌∙◌, refl}
+use Rattle.mk_laws.proofs.Vocabulary.{refl, ◌∙◌}
+use Rattle.mk_tracing.proofs.{NotedCells.noted_same, StopSteps.on_from, StopSteps.on_then}
 use Rattle.mk_tracing.specs.Stops.{still_words}
-use Rattle.mk_tracing.proofs.NotedCells.{noted_same}
-use Rattle.mk_tracing.proofs.StopSteps.{on_from, on_then}
 use Rattle.mk_tracing.proofs.grays.gray_noted.Goals as goal
 
 pub loop-noted-init : goal.loop-noted-init

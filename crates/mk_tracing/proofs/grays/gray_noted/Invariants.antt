@@ -1,7 +1,6 @@
-use Rattle.std.proofs.Common.{◌≡◌, vec_len}
-use Rattle.mk_tracing.specs.Grays.{MarksOn}
-use Rattle.mk_tracing.specs.Noted.{AreNoted}
-use Rattle.mk_tracing.specs.Stops.{still_words}
+use Rattle.std.proofs.Common.{vec_len}
+use Rattle.mk_laws.proofs.Vocabulary.{◌≡◌}
+use Rattle.mk_tracing.specs.{Grays.MarksOn, Noted.AreNoted, Stops.still_words}
 use Rattle.mk_tracing.proofs.grays.gray_noted.Given as goal
 
 abbrev pub invariant-loop-noted : goal.invariant-loop-noted

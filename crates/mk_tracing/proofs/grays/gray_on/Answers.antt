@@ -1,9 +1,5 @@
-use Rattle.std.proofs.Common.{◌∙◌, ap, sym}
-use Rattle.std.specs.Prelude.{slice_index}
-use Rattle.mk_core.specs.Words.{Words}
-use Rattle.mk_tracing.specs.Stops.{still_words}
-use Rattle.mk_tracing.proofs.FirstBits.{no_gray_there}
-use Rattle.mk_tracing.proofs.StopSteps.{on_then}
+use Rattle.mk_laws.proofs.Vocabulary.{Words, ap, slice_index, sym, ◌∙◌}
+use Rattle.mk_tracing.{proofs.FirstBits.no_gray_there, proofs.StopSteps.on_then, specs.Stops.still_words}
 use Rattle.mk_tracing.proofs.grays.gray_on.Goals as goal
 
 pub returns-then-without-eq0-clause-on : goal.returns-then-without-eq0-clause-on

@@ -1,12 +1,10 @@
-use Rattle.std.proofs.Common.{◌≡◌, ◌∙◌, ◌<◌, ℕ, ap, subst, sym}
-use Rattle.std.specs.Prelude.{IfNone}
-use Rattle.mk_core.specs.Words.{Words}
-use Rattle.mk_words.specs.States.{TurnState}
-use Rattle.mk_tracing.specs.Grays.{HasNoGray, MarksOn}
-use Rattle.mk_tracing.specs.Stops.{still_words}
-use Rattle.mk_tracing.proofs.StopSteps.{on_then}
-use Rattle.mk_tracing.proofs.grays.next_gray.Goals as goal
+use Rattle.std.proofs.Common.{IfNone}
+use Rattle.mk_laws.proofs.Vocabulary.{Words, ℕ, ap, subst, sym, ◌<◌, ◌∙◌, ◌≡◌}
 use Rattle.mk_tracing.proofs.grays.next_gray.Goals.{in-Some+else-is_gray, in_default}
+use Rattle.mk_tracing.proofs.StopSteps.{on_then}
+use Rattle.mk_tracing.specs.{Grays.HasNoGray, Grays.MarksOn, Stops.still_words}
+use Rattle.mk_words.specs.States.{TurnState}
+use Rattle.mk_tracing.proofs.grays.next_gray.Goals as goal
 
 pub returns-clause-on : goal.returns-clause-on
 returns-clause-on c =

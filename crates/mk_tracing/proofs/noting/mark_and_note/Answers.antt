@@ -1,6 +1,5 @@
-use Rattle.std.proofs.Common.{ℕ}
-use Rattle.mk_tracing.specs.Stops.{still_words}
-use Rattle.mk_tracing.proofs.NotedCells.{one_more}
+use Rattle.mk_laws.proofs.Vocabulary.{ℕ}
+use Rattle.mk_tracing.{proofs.NotedCells.one_more, specs.Stops.still_words}
 use Rattle.mk_tracing.proofs.noting.mark_and_note.Goals as goal
 
 pub returns-in_default-clause-last : goal.returns-in_default-clause-last

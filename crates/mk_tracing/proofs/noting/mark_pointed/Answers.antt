@@ -1,14 +1,8 @@
-use Rattle.std.proofs.Common.{◌≡◌, ◌∙◌, ◌<◌, ℕ, sym, subst, arith}
-use Rattle.std.specs.Prelude.{Some, None}
-use Rattle.mk_core.specs.Cells.{pointed_cell}
-use Rattle.mk_core.specs.Words.{Words}
-use Rattle.mk_tracing.specs.Grays.{MarksMore}
-use Rattle.mk_tracing.specs.Stops.{still_words}
-use Rattle.mk_tracing.specs.Noted.{IsNoted}
-use Rattle.mk_tracing.proofs.FirstBits.{if_told}
+use Rattle.mk_laws.proofs.Vocabulary.{None, Some, Words, ℕ, arith, pointed_cell, subst, sym, ◌<◌, ◌∙◌, ◌≡◌}
 use Rattle.mk_tracing.proofs.NotedCells.{noted_marked, noted_more, noted_same}
 use Rattle.mk_tracing.proofs.PointedCells.{hand_points, pointed_here, points_on, well_marked, well_nowhere}
-use Rattle.mk_tracing.proofs.StopSteps.{on_then}
+use Rattle.mk_tracing.proofs.{FirstBits.if_told, StopSteps.on_then}
+use Rattle.mk_tracing.specs.{Grays.MarksMore, Noted.IsNoted, Stops.still_words}
 use Rattle.mk_tracing.proofs.noting.mark_pointed.Goals as goal
 
 pub returns-then-header-eq0-clause-on : goal.returns-then-header-eq0-clause-on

@@ -1,11 +1,7 @@
-use Rattle.std.proofs.Common.{◌≡◌, ◌∙◌, ℕ, true, refl, sym, subst}
-use Rattle.std.specs.Prelude.{Some, None}
-use Rattle.mk_core.specs.Cells.{pointed_cell, points_well}
-use Rattle.mk_core.specs.Words.{Words}
-use Rattle.mk_tracing.specs.Stops.{still_words}
-use Rattle.mk_tracing.proofs.NotedCells.{noted_more}
+use Rattle.mk_laws.proofs.Vocabulary.{None, Some, Words, ℕ, pointed_cell, points_well, refl, subst, sym, true, ◌∙◌, ◌≡◌}
 use Rattle.mk_tracing.proofs.PointedCells.{hand_points, pointed_under, well_marked, well_nowhere}
-use Rattle.mk_tracing.proofs.StopSteps.{on_from, on_then}
+use Rattle.mk_tracing.proofs.{NotedCells.noted_more, StopSteps.on_from, StopSteps.on_then}
+use Rattle.mk_tracing.specs.Stops.{still_words}
 use Rattle.mk_tracing.proofs.noting.mark_under.Goals as goal
 
 pub returns-in_default-clause-on : goal.returns-in_default-clause-on

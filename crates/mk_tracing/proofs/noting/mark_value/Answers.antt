@@ -1,9 +1,6 @@
-use Rattle.std.proofs.Common.{ℕ, ◌≡◌, false, subst}
-use Rattle.mk_geom.specs.Addresses.{is_heap_address}
-use Rattle.mk_tracing.specs.Stops.{still_words}
+use Rattle.mk_laws.proofs.Vocabulary.{ℕ, false, is_heap_address, subst, ◌≡◌}
+use Rattle.mk_tracing.{proofs.MoreMarks.well_none, proofs.StopSteps.on_from, specs.Stops.still_words}
 use Rattle.mk_turns.proofs.PointedCells.{outside_none}
-use Rattle.mk_tracing.proofs.MoreMarks.{well_none}
-use Rattle.mk_tracing.proofs.StopSteps.{on_from}
 use Rattle.mk_tracing.proofs.noting.mark_value.Goals as goal
 
 pub returns-in_default-clause-on : goal.returns-in_default-clause-on

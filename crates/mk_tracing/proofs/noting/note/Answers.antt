@@ -1,6 +1,5 @@
-use Rattle.std.proofs.Common.{ℕ}
-use Rattle.mk_tracing.specs.Stops.{still_words}
-use Rattle.mk_tracing.proofs.NotedCells.{noted_cell, noted_same}
+use Rattle.mk_laws.proofs.Vocabulary.{ℕ}
+use Rattle.mk_tracing.{proofs.NotedCells.noted_cell, proofs.NotedCells.noted_same, specs.Stops.still_words}
 use Rattle.mk_tracing.proofs.noting.note.Goals as goal
 
 pub returns-clause-noted : goal.returns-clause-noted

@@ -1,8 +1,6 @@
-use Rattle.std.proofs.Common.{refl, arith}
-use Rattle.mk_tracing.specs.Stops.{still_words}
-use Rattle.mk_tracing.proofs.MoreMarks.{more_same, more_then}
-use Rattle.mk_tracing.proofs.RootMarks.{groups_then}
-use Rattle.mk_tracing.proofs.StopSteps.{on_from, on_then}
+use Rattle.mk_laws.proofs.Vocabulary.{arith, refl}
+use Rattle.mk_tracing.{proofs.MoreMarks.more_same, proofs.MoreMarks.more_then, proofs.RootMarks.groups_then}
+use Rattle.mk_tracing.{proofs.StopSteps.on_from, proofs.StopSteps.on_then, specs.Stops.still_words}
 use Rattle.mk_tracing.proofs.roots.mark_globals.Goals as goal
 
 pub loop-group-init : goal.loop-group-init

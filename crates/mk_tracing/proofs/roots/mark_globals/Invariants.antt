@@ -1,9 +1,5 @@
-use Rattle.std.proofs.Common.{◌≡◌, ℕ, ◌*◌, ◌<◌, true}
-use Rattle.std.specs.Prelude.{slice_index}
-use Rattle.mk_core.specs.Cells.{points_well}
-use Rattle.mk_tracing.specs.Grays.{MarksMore, MarksOn}
-use Rattle.mk_tracing.specs.Noted.{AreNoted}
-use Rattle.mk_tracing.specs.Stops.{still_words}
+use Rattle.mk_laws.proofs.Vocabulary.{ℕ, points_well, slice_index, true, ◌*◌, ◌<◌, ◌≡◌}
+use Rattle.mk_tracing.specs.{Grays.MarksMore, Grays.MarksOn, Noted.AreNoted, Stops.still_words}
 use Rattle.mk_tracing.proofs.roots.mark_globals.Given as goal
 
 abbrev pub invariant-loop-group : goal.invariant-loop-group

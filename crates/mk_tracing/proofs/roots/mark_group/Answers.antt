@@ -1,12 +1,7 @@
-use Rattle.std.proofs.Common.{◌≡◌, ℕ, ◌+◌, true, refl, subst, arith}
-use Rattle.std.specs.Prelude.{slice_index}
-use Rattle.mk_core.specs.declared.events.Word.TheVariants as word
-use Rattle.mk_core.specs.Cells.{points_well}
+use Rattle.mk_laws.proofs.Vocabulary.{Word, ℕ, arith, points_well, refl, slice_index, subst, true, ◌+◌, ◌≡◌}
+use Rattle.mk_tracing.proofs.RootMarks.{before_well, root_kept, values_then}
+use Rattle.mk_tracing.proofs.{MoreMarks.more_same, MoreMarks.more_then, NotedCells.noted_same, StopSteps.on_then}
 use Rattle.mk_tracing.specs.Stops.{still_words}
-use Rattle.mk_tracing.proofs.MoreMarks.{more_same, more_then}
-use Rattle.mk_tracing.proofs.NotedCells.{noted_same}
-use Rattle.mk_tracing.proofs.RootMarks.{before_well, values_then, root_kept}
-use Rattle.mk_tracing.proofs.StopSteps.{on_then}
 use Rattle.mk_tracing.proofs.roots.mark_group.Goals as goal
 
 pub returns-then-are_before_heap-clause-more : goal.returns-then-are_before_heap-clause-more
@@ -42,5 +37,5 @@ loop-i-preserved c =
       well = values_then pages v x (λ j. slice_index w.globals (c.args.first + j)) c.loop-i.i c.mark_root.ensures.more
           c.loop-i.invariant.well
           (subst (λ n. points_well pages x n ≡ true) (root_kept w v
-          (word.Global (c.args.first + c.loop-i.i)) refl c.loop-i.invariant.more) c.mark_root.ensures.well);
+          (Word.Global (c.args.first + c.loop-i.i)) refl c.loop-i.invariant.more) c.mark_root.ensures.well);
     }

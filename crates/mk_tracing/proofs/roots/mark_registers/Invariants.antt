@@ -1,7 +1,5 @@
-use Rattle.std.proofs.Common.{ℕ, ◌<◌}
-use Rattle.mk_tracing.specs.Grays.{RegistersAreWell, MarksMore, MarksOn}
-use Rattle.mk_tracing.specs.Noted.{AreNoted}
-use Rattle.mk_tracing.specs.Stops.{still_words}
+use Rattle.mk_laws.proofs.Vocabulary.{ℕ, ◌<◌}
+use Rattle.mk_tracing.specs.{Grays.MarksMore, Grays.MarksOn, Grays.RegistersAreWell, Noted.AreNoted, Stops.still_words}
 use Rattle.mk_tracing.proofs.roots.mark_registers.Given as goal
 
 abbrev pub invariant-loop-caller : goal.invariant-loop-caller

@@ -1,11 +1,7 @@
-use Rattle.std.proofs.Common.{◌≡◌, ℕ, true, refl, subst, arith}
-use Rattle.mk_core.specs.declared.events.Word.TheVariants as word
-use Rattle.mk_core.specs.Cells.{points_well}
-use Rattle.mk_core.specs.Words.{register_word}
-use Rattle.mk_tracing.specs.Stops.{still_words}
+use Rattle.mk_laws.proofs.Vocabulary.{Word, ℕ, arith, points_well, refl, register_word, subst, true, ◌≡◌}
 use Rattle.mk_tracing.proofs.MoreMarks.{more_same, more_then}
-use Rattle.mk_tracing.proofs.RootMarks.{values_then, root_kept}
-use Rattle.mk_tracing.proofs.StopSteps.{on_from, on_then}
+use Rattle.mk_tracing.proofs.{RootMarks.root_kept, RootMarks.values_then, StopSteps.on_from, StopSteps.on_then}
+use Rattle.mk_tracing.specs.Stops.{still_words}
 use Rattle.mk_tracing.proofs.roots.mark_registers_of.Goals as goal
 
 pub loop-register-init : goal.loop-register-init
@@ -32,6 +28,6 @@ loop-register-preserved c =
       well = values_then pages v x (λ r. register_word w c.args.caller r) c.loop-register.register
           c.mark_root.ensures.more c.loop-register.invariant.well
           (subst (λ n. points_well pages x n ≡ true) (root_kept w v
-          (word.Reg c.args.caller c.loop-register.register) refl c.loop-register.invariant.more)
+          (Word.Reg c.args.caller c.loop-register.register) refl c.loop-register.invariant.more)
           c.mark_root.ensures.well);
     }

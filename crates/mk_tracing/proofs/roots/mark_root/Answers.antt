@@ -1,10 +1,6 @@
-use Rattle.std.proofs.Common.{◌≡◌, true, subst}
-use Rattle.mk_core.specs.Cells.{points_well}
+use Rattle.mk_laws.proofs.Vocabulary.{points_well, subst, true, ◌≡◌}
+use Rattle.mk_tracing.proofs.{MoreMarks.more_same, NotedCells.noted_same, RootMarks.before_well, StopSteps.on_then}
 use Rattle.mk_tracing.specs.Stops.{still_words}
-use Rattle.mk_tracing.proofs.MoreMarks.{more_same}
-use Rattle.mk_tracing.proofs.NotedCells.{noted_same}
-use Rattle.mk_tracing.proofs.RootMarks.{before_well}
-use Rattle.mk_tracing.proofs.StopSteps.{on_then}
 use Rattle.mk_tracing.proofs.roots.mark_root.Goals as goal
 
 pub returns-then-value-lt-HEAP_START-clause-more : goal.returns-then-value-lt-HEAP_START-clause-more

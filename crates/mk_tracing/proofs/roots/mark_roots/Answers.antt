@@ -1,13 +1,7 @@
-use Rattle.std.proofs.Common.{◌<◌, ◌≡◌, ℕ, true, ap, sym, subst}
-use Rattle.std.specs.Prelude.{slice_index}
-use Rattle.mk_core.specs.Cells.{points_well}
-use Rattle.mk_core.specs.Words.{Words, register_word}
+use Rattle.mk_laws.proofs.Vocabulary.{Words, ℕ, ap, points_well, register_word, slice_index, subst, sym, true, ◌<◌, ◌≡◌}
+use Rattle.mk_tracing.proofs.{MoreMarks.more_then, MoreMarks.well_more, RootMarks.roots_well, StopSteps.on_then}
+use Rattle.mk_tracing.specs.{Grays.MarksMore, Stops.still_words}
 use Rattle.mk_words.specs.States.{WordsState}
-use Rattle.mk_tracing.specs.Grays.{MarksMore}
-use Rattle.mk_tracing.specs.Stops.{still_words}
-use Rattle.mk_tracing.proofs.MoreMarks.{more_then, well_more}
-use Rattle.mk_tracing.proofs.RootMarks.{roots_well}
-use Rattle.mk_tracing.proofs.StopSteps.{on_then}
 use Rattle.mk_tracing.proofs.roots.mark_roots.Goals as goal
 
 pub returns-clause-on : goal.returns-clause-on

@@ -1,12 +1,6 @@
-use Rattle.std.proofs.Common.{ℕ, ◌+◌, refl, ap, ◌∙◌, arith}
-use Rattle.std.specs.Prelude.{slice_index}
-use Rattle.std.proofs.lemmas.Bool.{ltb-true}
-use Rattle.mk_core.specs.Cells.{first_word}
-use Rattle.mk_core.specs.Words.{Words}
+use Rattle.mk_laws.proofs.Vocabulary.{Words, ℕ, ap, arith, first_word, ltb-true, refl, slice_index, ◌+◌, ◌∙◌}
+use Rattle.mk_tracing.proofs.{RootMarks.most_then, ScannedWords.due_same, StopSteps.on_from, StopSteps.on_then}
 use Rattle.mk_tracing.specs.Stops.{still_words}
-use Rattle.mk_tracing.proofs.RootMarks.{most_then}
-use Rattle.mk_tracing.proofs.ScannedWords.{due_same}
-use Rattle.mk_tracing.proofs.StopSteps.{on_from, on_then}
 use Rattle.mk_tracing.proofs.scanning.are_before_heap.Goals as goal
 
 pub loop-i-init : goal.loop-i-init

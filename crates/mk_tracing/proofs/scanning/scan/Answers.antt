@@ -1,6 +1,5 @@
-use Rattle.std.proofs.Common.{◌<◌, sym, subst, arith}
-use Rattle.mk_tracing.specs.Stops.{still_words}
-use Rattle.mk_tracing.proofs.Blackened.{scan_done}
+use Rattle.mk_laws.proofs.Vocabulary.{arith, subst, sym, ◌<◌}
+use Rattle.mk_tracing.{proofs.Blackened.scan_done, specs.Stops.still_words}
 use Rattle.mk_tracing.proofs.scanning.scan.Goals as goal
 
 pub returns-then-size-lt-GROUP-clause-well : goal.returns-then-size-lt-GROUP-clause-well

@@ -1,4 +1,4 @@
-use Rattle.std.proofs.Common.{◌+◌, ◌*◌, arith}
+use Rattle.mk_laws.proofs.Vocabulary.{arith, ◌*◌, ◌+◌}
 use Rattle.mk_tracing.specs.Stops.{still_words}
 use Rattle.mk_tracing.proofs.scanning.scan_apart.Goals as goal
 

@@ -1,14 +1,7 @@
-use Rattle.std.proofs.Common.{◌≡◌, ℕ, ◌+◌, ◌*◌, true, subst, arith}
-use Rattle.std.specs.Prelude.{slice_index}
-use Rattle.mk_core.specs.Cells.{first_word, points_well}
-use Rattle.mk_core.specs.Words.{Words}
-use Rattle.mk_tracing.specs.Grays.{MarksMore}
-use Rattle.mk_tracing.specs.Stops.{still_words}
+use Rattle.mk_laws.proofs.Vocabulary.{Words, ℕ, arith, first_word, points_well, slice_index, subst, true, ◌*◌, ◌+◌, ◌≡◌}
 use Rattle.mk_tracing.proofs.MoreMarks.{more_same}
-use Rattle.mk_tracing.proofs.NotedCells.{noted_same}
-use Rattle.mk_tracing.proofs.RootMarks.{before_well}
-use Rattle.mk_tracing.proofs.ScannedWords.{due_same}
-use Rattle.mk_tracing.proofs.StopSteps.{on_then}
+use Rattle.mk_tracing.proofs.{NotedCells.noted_same, RootMarks.before_well, ScannedWords.due_same, StopSteps.on_then}
+use Rattle.mk_tracing.specs.{Grays.MarksMore, Stops.still_words}
 use Rattle.mk_tracing.proofs.scanning.scan_group.Goals as goal
 
 pub returns-then-are_before_heap-clause-more : goal.returns-then-are_before_heap-clause-more

@@ -1,10 +1,9 @@
-use Rattle.std.proofs.Common.{◌≡◌, ℕ, ◌+◌, ◌*◌, ◌/◌, ◌<◌, sym, subst, arith}
-use Rattle.mk_tracing.specs.Stops.{still_words}
-use Rattle.mk_tracing.proofs.Blackened.{scan_done}
+use Rattle.mk_laws.proofs.Vocabulary.{ℕ, arith, subst, sym, ◌*◌, ◌+◌, ◌/◌, ◌<◌, ◌≡◌}
 use Rattle.mk_tracing.proofs.ScannedWords.{ScannedTo, due_kept, none_scanned_yet, scanned_then}
-use Rattle.mk_tracing.proofs.StopSteps.{on_from, on_then}
-use Rattle.mk_tracing.proofs.scanning.scan_groups.Goals as goal
 use Rattle.mk_tracing.proofs.scanning.scan_groups.Goals.{After-scan_part-2, After-scan_words}
+use Rattle.mk_tracing.proofs.{Blackened.scan_done, StopSteps.on_from, StopSteps.on_then}
+use Rattle.mk_tracing.specs.Stops.{still_words}
+use Rattle.mk_tracing.proofs.scanning.scan_groups.Goals as goal
 
 pub loop-part-init : goal.loop-part-init
 loop-part-init c = record {

@@ -1,8 +1,6 @@
-use Rattle.std.proofs.Common.{◌*◌}
-use Rattle.mk_tracing.specs.Grays.{MarksOn}
-use Rattle.mk_tracing.specs.Noted.{AreNoted}
-use Rattle.mk_tracing.specs.Stops.{still_words}
+use Rattle.mk_laws.proofs.Vocabulary.{◌*◌}
 use Rattle.mk_tracing.proofs.ScannedWords.{ScannedTo}
+use Rattle.mk_tracing.specs.{Grays.MarksOn, Noted.AreNoted, Stops.still_words}
 use Rattle.mk_tracing.proofs.scanning.scan_groups.Given as goal
 
 abbrev pub invariant-loop-part : goal.invariant-loop-part

@@ -1,7 +1,7 @@
-use Rattle.std.proofs.Common.{ℕ, ◌+◌, ◌*◌, arith}
-use Rattle.mk_tracing.specs.Stops.{still_words}
+use Rattle.mk_laws.proofs.Vocabulary.{ℕ, arith, ◌*◌, ◌+◌}
 use Rattle.mk_tracing.proofs.ScannedWords.{due_kept, group_scanned, none_scanned_yet, scanned_then}
 use Rattle.mk_tracing.proofs.StopSteps.{on_from, on_then}
+use Rattle.mk_tracing.specs.Stops.{still_words}
 use Rattle.mk_tracing.proofs.scanning.scan_part.Goals as goal
 
 pub loop-group-init : goal.loop-group-init

@@ -1,8 +1,7 @@
-use Rattle.std.proofs.Common.{ℕ, ◌+◌, arith}
-use Rattle.mk_tracing.specs.Stops.{still_words}
-use Rattle.mk_tracing.proofs.NotedCells.{noted_same, one_same}
+use Rattle.mk_laws.proofs.Vocabulary.{ℕ, arith, ◌+◌}
 use Rattle.mk_tracing.proofs.ScannedWords.{due_kept, none_scanned_yet, one_scanned, scanned_then}
-use Rattle.mk_tracing.proofs.StopSteps.{on_from, on_then}
+use Rattle.mk_tracing.proofs.{NotedCells.noted_same, NotedCells.one_same, StopSteps.on_from, StopSteps.on_then}
+use Rattle.mk_tracing.specs.Stops.{still_words}
 use Rattle.mk_tracing.proofs.scanning.scan_rest.Goals as goal
 
 pub loop-i-init : goal.loop-i-init

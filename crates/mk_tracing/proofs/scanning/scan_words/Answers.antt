@@ -1,11 +1,7 @@
-use Rattle.std.proofs.Common.{ℕ, ◌+◌, subst, arith}
-use Rattle.mk_core.specs.Words.{Words}
-use Rattle.mk_tracing.specs.Grays.{MarksMore}
-use Rattle.mk_tracing.specs.Stops.{still_words}
-use Rattle.mk_tracing.proofs.MoreMarks.{more_then}
-use Rattle.mk_tracing.proofs.NotedCells.{noted_same}
+use Rattle.mk_laws.proofs.Vocabulary.{Words, ℕ, arith, subst, ◌+◌}
 use Rattle.mk_tracing.proofs.ScannedWords.{due_kept, none_scanned_yet, one_scanned, scanned_then}
-use Rattle.mk_tracing.proofs.StopSteps.{on_from, on_then}
+use Rattle.mk_tracing.proofs.{MoreMarks.more_then, NotedCells.noted_same, StopSteps.on_from, StopSteps.on_then}
+use Rattle.mk_tracing.specs.{Grays.MarksMore, Stops.still_words}
 use Rattle.mk_tracing.proofs.scanning.scan_words.Goals as goal
 
 pub loop-i-init : goal.loop-i-init

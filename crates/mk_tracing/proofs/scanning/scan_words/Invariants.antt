@@ -1,7 +1,5 @@
-use Rattle.mk_tracing.specs.Grays.{MarksOn}
-use Rattle.mk_tracing.specs.Noted.{AreNoted}
-use Rattle.mk_tracing.specs.Stops.{still_words}
 use Rattle.mk_tracing.proofs.ScannedWords.{ScannedTo}
+use Rattle.mk_tracing.specs.{Grays.MarksOn, Noted.AreNoted, Stops.still_words}
 use Rattle.mk_tracing.proofs.scanning.scan_words.Given as goal
 
 abbrev pub invariant-loop-i : goal.invariant-loop-i

@@ -1,8 +1,6 @@
-use Rattle.std.proofs.Common.{subst, sym, ◌<◌}
+use Rattle.mk_laws.proofs.Vocabulary.{subst, sym, ◌<◌}
+use Rattle.mk_tracing.proofs.{MaySteps.may_unblack_page, Stilled.unblack_words, StopSteps.on_unblack}
 use Rattle.mk_words.specs.States.{WordsState}
-use Rattle.mk_tracing.proofs.MaySteps.{may_unblack_page}
-use Rattle.mk_tracing.proofs.Stilled.{unblack_words}
-use Rattle.mk_tracing.proofs.StopSteps.{on_unblack}
 use Rattle.mk_tracing.proofs.stepping.clear_black.Goals as goal
 
 pub unblack-requires-clause-enabled : goal.unblack-requires-clause-enabled

@@ -1,9 +1,7 @@
-use Rattle.std.proofs.Common.{subst, sym, ◌≡◌, true}
+use Rattle.mk_laws.proofs.Vocabulary.{subst, sym, true, ◌≡◌}
 use Rattle.mk_core.specs.Ranges.{is_word}
+use Rattle.mk_tracing.proofs.{MaySteps.may_look, Stilled.root_hand, StopSteps.on_root}
 use Rattle.mk_words.specs.States.{WordsState}
-use Rattle.mk_tracing.proofs.MaySteps.{may_look}
-use Rattle.mk_tracing.proofs.Stilled.{root_hand}
-use Rattle.mk_tracing.proofs.StopSteps.{on_root}
 use Rattle.mk_tracing.proofs.stepping.look_at_root.Goals as goal
 
 pub look_among-requires-clause-enabled : goal.look_among-requires-clause-enabled

@@ -1,11 +1,8 @@
-use Rattle.std.proofs.Common.{ap, ◌∙◌, ◌<◌, ◌+◌, ◌*◌, arith}
-use Rattle.mk_core.specs.declared.events.Word.TheVariants as word
-use Rattle.mk_tracing.specs.Stops.{still_words}
-use Rattle.mk_tracing.proofs.CellWords.{page_of_word}
-use Rattle.mk_tracing.proofs.MaySteps.{may_look}
+use Rattle.mk_laws.proofs.Vocabulary.{Word, ap, arith, ◌*◌, ◌+◌, ◌<◌, ◌∙◌}
 use Rattle.mk_tracing.proofs.StopSteps.{gray_word, on_word, word_found, word_hand, word_named, word_near}
+use Rattle.mk_tracing.proofs.{CellWords.page_of_word, MaySteps.may_look, stepping.look_at_word.Goals.After-is_in_order}
+use Rattle.mk_tracing.specs.Stops.{still_words}
 use Rattle.mk_tracing.proofs.stepping.look_at_word.Goals as goal
-use Rattle.mk_tracing.proofs.stepping.look_at_word.Goals.{After-is_in_order}
 
 near : (c : After-is_in_order) → 64 * c.args.cell.page + c.args.cell.index * c.args.size + c.args.i < 262144
 near c =
@@ -24,7 +21,7 @@ overflow_add-word-2 c = let low = near (goal.at.overflow_add-word-2 c).After-is_
 pub look_on_page-requires-clause-enabled : goal.look_on_page-requires-clause-enabled
 look_on_page-requires-clause-enabled c =
     may_look c.args.stop.now.pass c.requires.wanted (c.is_in_order.ensures.turn.holds, c.is_in_order.ensures.gates)
-    (word.Heap (64 * c.args.cell.page + c.args.cell.index * c.args.size + c.args.i))
+    (Word.Heap (64 * c.args.cell.page + c.args.cell.index * c.args.size + c.args.i))
     (word_named c.args.stop.now.pass c.is_in_order.ensures.history _ c.requires.one_table c.args.cell c.args.size
     c.args.i c.requires.due c.requires.within)
 

@@ -1,10 +1,7 @@
-use Rattle.std.proofs.Common.{subst, sym, ◌^◌}
-use Rattle.mk_core.specs.declared.events.Step.TheVariants as step
-use Rattle.mk_words.specs.Steps.{IsEnabledTo}
-use Rattle.mk_words.specs.TurnSteps.{Acts}
-use Rattle.mk_tracing.proofs.MaySteps.{may_mark_cell}
-use Rattle.mk_tracing.proofs.Stilled.{mark_words}
+use Rattle.mk_laws.proofs.Vocabulary.{Step, subst, sym, ◌^◌}
 use Rattle.mk_tracing.proofs.StopSteps.{on_mark, reached_in_use, reached_within}
+use Rattle.mk_tracing.proofs.{MaySteps.may_mark_cell, Stilled.mark_words}
+use Rattle.mk_words.specs.{Steps.IsEnabledTo, TurnSteps.Acts}
 use Rattle.mk_tracing.proofs.stepping.mark_cell.Goals as goal
 
 pub bit-requires : goal.bit-requires
@@ -16,7 +13,7 @@ mark_in_use-requires-clause-in_use c =
 
 pub mark_in_use-requires-clause-enabled : goal.mark_in_use-requires-clause-enabled
 mark_in_use-requires-clause-enabled c =
-    subst (λ v. IsEnabledTo c.args.stop.now.pass (step.Mark c.args.cell.page v)) (sym c.bit.ensures)
+    subst (λ v. IsEnabledTo c.args.stop.now.pass (Step.Mark c.args.cell.page v)) (sym c.bit.ensures)
     (may_mark_cell c.args.stop.now.pass c.requires.wanted (
       c.is_in_order.ensures.turn.holds,
       c.is_in_order.ensures.gates,
@@ -28,12 +25,12 @@ returns-clause-on c =
     on_mark c.args.stop.now c.mark_in_use.new.self c.requires.wanted
     (c.is_in_order.ensures.turn.holds, c.is_in_order.ensures.gates) c.is_in_order.ensures.own c.mark_in_use.ensures.op
     c.args.cell
-    (subst (λ v. Acts c.args.stop.now.pass (step.Mark c.args.cell.page v) c.mark_in_use.new.self.pass) c.bit.ensures
+    (subst (λ v. Acts c.args.stop.now.pass (Step.Mark c.args.cell.page v) c.mark_in_use.new.self.pass) c.bit.ensures
     c.mark_in_use.ensures.acts) c.requires.reached
 
 pub returns-clause-words : goal.returns-clause-words
 returns-clause-words c =
     mark_words c.args.stop.now.pass c.mark_in_use.new.self.pass c.requires.wanted
     (c.is_in_order.ensures.turn.holds, c.is_in_order.ensures.gates) c.args.cell.page (2 ^ c.args.cell.index)
-    (subst (λ v. Acts c.args.stop.now.pass (step.Mark c.args.cell.page v) c.mark_in_use.new.self.pass) c.bit.ensures
+    (subst (λ v. Acts c.args.stop.now.pass (Step.Mark c.args.cell.page v) c.mark_in_use.new.self.pass) c.bit.ensures
     c.mark_in_use.ensures.acts)

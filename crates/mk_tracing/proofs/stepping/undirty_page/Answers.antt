@@ -1,8 +1,6 @@
-use Rattle.std.proofs.Common.{subst, sym, ◌<◌}
+use Rattle.mk_laws.proofs.Vocabulary.{subst, sym, ◌<◌}
+use Rattle.mk_tracing.proofs.{MaySteps.may_undirty_page, Stilled.undirty_words, StopSteps.on_undirty}
 use Rattle.mk_words.specs.States.{WordsState}
-use Rattle.mk_tracing.proofs.MaySteps.{may_undirty_page}
-use Rattle.mk_tracing.proofs.Stilled.{undirty_words}
-use Rattle.mk_tracing.proofs.StopSteps.{on_undirty}
 use Rattle.mk_tracing.proofs.stepping.undirty_page.Goals as goal
 
 pub undirty-requires-clause-enabled : goal.undirty-requires-clause-enabled

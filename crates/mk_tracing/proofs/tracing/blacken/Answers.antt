@@ -1,9 +1,6 @@
-use Rattle.std.proofs.Common.{◌^◌, arith}
-use Rattle.mk_core.specs.Cells.{header_in}
-use Rattle.mk_tracing.specs.Stops.{still_words}
-use Rattle.mk_tracing.proofs.Blackened.{blackens_one, cells_few}
-use Rattle.mk_tracing.proofs.NotedCells.{last_black, noted_black}
-use Rattle.mk_tracing.proofs.StopSteps.{on_then}
+use Rattle.mk_laws.proofs.Vocabulary.{arith, header_in, ◌^◌}
+use Rattle.mk_tracing.{proofs.Blackened.blackens_one, proofs.Blackened.cells_few, proofs.NotedCells.last_black}
+use Rattle.mk_tracing.{proofs.NotedCells.noted_black, proofs.StopSteps.on_then, specs.Stops.still_words}
 use Rattle.mk_tracing.proofs.tracing.blacken.Goals as goal
 
 pub blacken_cell-requires-clause-index : goal.blacken_cell-requires-clause-index

@@ -1,13 +1,8 @@
-use Rattle.std.proofs.Common.{◌≡◌, ◌∙◌, ◌⊎◌, ◌<◌, ℕ, Bool, true, false, refl, sym, subst, inl, inr, arith}
-use Rattle.std.specs.Prelude.{if◌then◌else◌}
-use Rattle.mk_geom.specs.declared.addresses.Cell.{Cell}
-use Rattle.mk_core.specs.Cells.{cell_words, has_no_pointers, header_in, words_point_well}
-use Rattle.mk_core.specs.Words.{Words}
-use Rattle.mk_tracing.specs.Grays.{words_scanned}
-use Rattle.mk_tracing.specs.Stops.{still_words}
-use Rattle.mk_tracing.proofs.Blackened.{gray_turns, scan_done}
-use Rattle.mk_tracing.proofs.MoreMarks.{more_same}
-use Rattle.mk_tracing.proofs.StopSteps.{on_from}
+use Rattle.mk_laws.proofs.Vocabulary.{Bool, Cell, Words, ℕ, arith, cell_words, false, has_no_pointers, header_in}
+use Rattle.mk_laws.proofs.Vocabulary.{if◌then◌else◌, inl, inr, refl, subst, sym, true, ◌<◌, ◌∙◌, ◌≡◌, ◌⊎◌}
+use Rattle.mk_core.specs.Cells.{words_point_well}
+use Rattle.mk_tracing.proofs.{Blackened.gray_turns, Blackened.scan_done, MoreMarks.more_same, StopSteps.on_from}
+use Rattle.mk_tracing.specs.{Grays.words_scanned, Stops.still_words}
 use Rattle.mk_tracing.proofs.tracing.scan_if_due.Goals as goal
 
 -- Where no word of a cell is scanned, it has no pointers, or no words.

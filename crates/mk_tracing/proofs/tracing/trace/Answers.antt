@@ -1,11 +1,8 @@
-use Rattle.std.proofs.Common.{◌≡◌, ◌∙◌, ap, sym, subst}
-use Rattle.mk_core.specs.Words.{Words}
-use Rattle.mk_core.proofs.Lengths.{histories_keep_lengths}
-use Rattle.mk_words.specs.States.{WordsState}
-use Rattle.mk_tracing.specs.Grays.{ColoursMore}
-use Rattle.mk_tracing.specs.Stops.{still_words}
+use Rattle.mk_laws.proofs.Vocabulary.{Words, ap, histories_keep_lengths, subst, sym, ◌∙◌, ◌≡◌}
 use Rattle.mk_tracing.proofs.Blackened.{colours_same, colours_then, one_fewer_white}
 use Rattle.mk_tracing.proofs.StopSteps.{on_from, on_then}
+use Rattle.mk_tracing.specs.{Grays.ColoursMore, Stops.still_words}
+use Rattle.mk_words.specs.States.{WordsState}
 use Rattle.mk_tracing.proofs.tracing.trace.Goals as goal
 
 pub loop-gray-init : goal.loop-gray-init

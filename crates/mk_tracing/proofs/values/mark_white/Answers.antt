@@ -1,12 +1,8 @@
-use Rattle.std.proofs.Common.{◌≡◌, ◌∙◌, ◌^◌, ◌<◌, ap, sym, subst}
-use Rattle.std.specs.Prelude.{bit_or, slice_index, slice_set}
-use Rattle.mk_geom.specs.declared.addresses.Cell.{Cell}
-use Rattle.mk_core.specs.Words.{Words}
-use Rattle.mk_words.specs.States.{WordsState}
-use Rattle.mk_tracing.specs.Stops.{still_words}
+use Rattle.mk_laws.proofs.Vocabulary.{Cell, Words, ap, bit_or, slice_index, slice_set, subst, sym, ◌<◌, ◌^◌, ◌∙◌, ◌≡◌}
 use Rattle.mk_tracing.proofs.MoreMarks.{marked_as, marked_now, marks_length, more_marked, more_same}
-use Rattle.mk_tracing.proofs.PointedCells.{points_on}
-use Rattle.mk_tracing.proofs.StopSteps.{on_then, reached_within}
+use Rattle.mk_tracing.proofs.{PointedCells.points_on, StopSteps.on_then, StopSteps.reached_within}
+use Rattle.mk_tracing.specs.Stops.{still_words}
+use Rattle.mk_words.specs.States.{WordsState}
 use Rattle.mk_tracing.proofs.values.mark_white.Goals as goal
 
 pub is_marked-requires-clause-page : goal.is_marked-requires-clause-page

@@ -1,7 +1,7 @@
-use Rattle.std.proofs.Common.{◌∙◌}
+use Rattle.mk_laws.proofs.Vocabulary.{◌∙◌}
 use Rattle.mk_core.specs.Frames.{HoldsAll}
+use Rattle.mk_tracing.proofs.Wants.{look_none, look_phase, look_ready, look_traces}
 use Rattle.mk_words.specs.States.{now_of}
-use Rattle.mk_tracing.proofs.Wants.{look_traces, look_ready, look_phase, look_none}
 use Rattle.mk_tracing.proofs.waiting.look_at_phase.Goals as goal
 
 pub returns-clause-traces : goal.returns-clause-traces

@@ -1,4 +1,4 @@
-use Rattle.mk_tracing.proofs.Wants.{want_traces, want_ready, want_phase}
+use Rattle.mk_tracing.proofs.Wants.{want_phase, want_ready, want_traces}
 use Rattle.mk_tracing.proofs.waiting.want.Goals as goal
 
 pub returns-clause-traces : goal.returns-clause-traces

@@ -1,4 +1,4 @@
-use Rattle.std.proofs.Common.{◌∙◌}
+use Rattle.mk_laws.proofs.Vocabulary.{◌∙◌}
 use Rattle.mk_tracing.proofs.Wants.{waited_then}
 use Rattle.mk_tracing.proofs.waiting.want_and_wait.Goals as goal
 

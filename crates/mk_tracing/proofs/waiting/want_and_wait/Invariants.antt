@@ -1,9 +1,7 @@
-use Rattle.std.proofs.Common.{◌≡◌}
-use Rattle.mk_core.specs.Words.{phase_of}
-use Rattle.mk_words.specs.States.{now_of}
-use Rattle.mk_tracing.specs.Grays.{TracesReached}
-use Rattle.mk_tracing.specs.Stops.{HolderIsLoaded}
+use Rattle.mk_laws.proofs.Vocabulary.{phase_of, ◌≡◌}
 use Rattle.mk_tracing.specs.Tracing.{Counted, is_waiting, is_want}
+use Rattle.mk_tracing.specs.{Grays.TracesReached, Stops.HolderIsLoaded}
+use Rattle.mk_words.specs.States.{now_of}
 use Rattle.mk_tracing.proofs.waiting.want_and_wait.Given as goal
 
 abbrev pub invariant-loop : goal.invariant-loop

@@ -1,12 +1,8 @@
-use Rattle.std.proofs.Common.{◌≡◌, ◌<◌, false, refl, sym, subst, ap, ◌∙◌}
-use Rattle.std.proofs.lemmas.Bool.{true≢false}
+use Rattle.std.proofs.Common.{ap, false, refl, subst, sym, true≢false, ◌<◌, ◌∙◌, ◌≡◌}
 use Rattle.mk_geom.specs.Addresses.{cell_at, is_heap_address}
-use Rattle.mk_core.specs.declared.events.Step.TheVariants as step
-use Rattle.mk_core.specs.declared.events.Word.TheVariants as word
-use Rattle.mk_core.specs.Words.{header_at}
-use Rattle.mk_words.specs.States.{PassState, WordsState, now_of}
-use Rattle.mk_words.specs.TurnSteps.{Acts}
+use Rattle.mk_core.specs.{Words.header_at, declared.events.Step.Step, declared.events.Word.Word}
 use Rattle.mk_turns.proofs.PointedCells.{found_by_header, found_there, header_hand, outside_none}
+use Rattle.mk_words.specs.{States.PassState, States.WordsState, States.now_of, TurnSteps.Acts}
 use Rattle.mk_turns.proofs.pointing.cell_pointed.Goals as goal
 
 pub returns-in_err-page-clause-looks : goal.returns-in_err-page-clause-looks
@@ -44,7 +40,7 @@ returns-clause-looks g c =
       outside = λ out. absurd (true≢false (sym c.in_ok-page.ensures.inside
           ∙ ap (λ n. is_heap_address n c.args.value) c.pages.ensures
           ∙ sym (ap (λ (w : WordsState). is_heap_address w.config.pages c.args.value) c.requires.one_table) ∙ out));
-      inside = λ inside. subst (λ n. Acts c.args.turn.now.pass (step.Look (word.Head n)) c.look-header.new.self.pass)
+      inside = λ inside. subst (λ n. Acts c.args.turn.now.pass (Step.Look (Word.Head n)) c.look-header.new.self.pass)
           c.in_ok-page.ensures.page c.look-header.ensures.acts;
     }
 

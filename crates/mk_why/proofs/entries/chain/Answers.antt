@@ -1,8 +1,7 @@
-use Rattle.std.proofs.Common.{◌∙◌, ℕ, List, sym, subst}
-use Rattle.std.specs.Prelude.{Option}
 use Rattle.mk_why.proofs.Vocabulary.{IsLedBack, Root}
-use Rattle.mk_why.specs.Entries.{IsLed, root_of}
+use Rattle.mk_laws.proofs.Vocabulary.{List, Option, ℕ, subst, sym, ◌∙◌}
 use Rattle.mk_why.proofs.MadeEntries.{led_first, led_more, led_to_root}
+use Rattle.mk_why.specs.Entries.{IsLed, root_of}
 use Rattle.mk_why.proofs.entries.chain.Goals as goal
 
 pub loop-link-init : goal.loop-link-init

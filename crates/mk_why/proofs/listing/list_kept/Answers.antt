@@ -1,6 +1,6 @@
-use Rattle.std.proofs.Common.{◌≡◌, ◌∙◌, ℕ, true, sym, subst, arith}
 use Rattle.mk_why.proofs.Vocabulary.{AreOfKept, IsListed, ListsOn, View, base_at, cell_of_allocation, is_kept}
 use Rattle.mk_why.proofs.Vocabulary.{placed_at, view_by, world_in}
+use Rattle.mk_laws.proofs.Vocabulary.{ℕ, arith, subst, sym, true, ◌∙◌, ◌≡◌}
 use Rattle.mk_why.proofs.Lists.{kept_page, lists_nothing, lists_then, none_listed, pages_more}
 use Rattle.mk_why.proofs.Looks.{looks_at_nothing, looks_then}
 use Rattle.mk_why.proofs.listing.list_kept.Goals as goal

@@ -1,6 +1,6 @@
-use Rattle.std.proofs.Common.{◌≡◌, ℕ, ◌<◌, true}
 use Rattle.mk_why.proofs.Vocabulary.{IsListed, ListsOn, LooksOn, base_at, cell_of_allocation, is_kept, placed_at}
 use Rattle.mk_why.proofs.Vocabulary.{view_by, world_in}
+use Rattle.mk_laws.proofs.Vocabulary.{ℕ, true, ◌<◌, ◌≡◌}
 use Rattle.mk_why.proofs.listing.list_kept.Given as goal
 
 abbrev pub invariant-loop-page : goal.invariant-loop-page

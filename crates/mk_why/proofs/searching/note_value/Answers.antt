@@ -1,7 +1,6 @@
-use Rattle.std.proofs.Common.{arith}
-use Rattle.mk_why.proofs.Pointed.{begins_at}
-use Rattle.mk_why.proofs.Searches.{grows_nothing, notes}
+use Rattle.mk_laws.proofs.Vocabulary.{arith}
 use Rattle.mk_why.proofs.Explored.{found_by, noted_by}
+use Rattle.mk_why.proofs.{Pointed.begins_at, Searches.grows_nothing, Searches.notes}
 use Rattle.mk_why.proofs.searching.note_value.Goals as goal
 
 pub returns-in_default-clause-noted : goal.returns-in_default-clause-noted

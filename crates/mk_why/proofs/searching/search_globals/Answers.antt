@@ -1,5 +1,5 @@
-use Rattle.std.proofs.Common.{arith}
 use Rattle.mk_why.proofs.Vocabulary.{Global, view_by, word_of_root}
+use Rattle.mk_laws.proofs.Vocabulary.{arith}
 use Rattle.mk_why.proofs.Searches.{more_noted, part_noted, searches_nothing, searches_then, view_search}
 use Rattle.mk_why.proofs.searching.search_globals.Goals as goal
 

@@ -1,5 +1,5 @@
-use Rattle.std.proofs.Common.{ℕ, ◌<◌}
 use Rattle.mk_why.proofs.Vocabulary.{Global, IsNoted, SearchesOn, view_by, word_of_root}
+use Rattle.mk_laws.proofs.Vocabulary.{ℕ, ◌<◌}
 use Rattle.mk_why.proofs.searching.search_globals.Given as goal
 
 abbrev pub invariant-loop-global : goal.invariant-loop-global

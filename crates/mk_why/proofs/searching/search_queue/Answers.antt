@@ -1,9 +1,8 @@
-use Rattle.std.proofs.Common.{ℕ, ◌+◌, ◌<◌, subst, arith}
-use Rattle.std.specs.Prelude.{slice_index}
 use Rattle.mk_why.proofs.Vocabulary.{IsSearch, IsSearched, View, links_of, view_by}
+use Rattle.mk_laws.proofs.Vocabulary.{ℕ, arith, slice_index, subst, ◌+◌, ◌<◌}
 use Rattle.mk_why.proofs.Explored.{all_done, done_more, near_next}
-use Rattle.mk_why.proofs.Looks.{looks_at_nothing, looks_then}
 use Rattle.mk_why.proofs.Searches.{grows_nothing, grows_then, limit_of, view_search}
+use Rattle.mk_why.proofs.Looks.{looks_at_nothing, looks_then}
 use Rattle.mk_why.proofs.searching.search_queue.Goals as goal
 
 pub loop-place-init : goal.loop-place-init

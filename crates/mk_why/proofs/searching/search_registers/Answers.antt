@@ -1,6 +1,6 @@
-use Rattle.std.proofs.Common.{ℕ, ◌<◌, arith}
+use Rattle.std.proofs.Common.{below_more}
 use Rattle.mk_why.proofs.Vocabulary.{IsNoted, Register, view_by, word_of_root}
-use borrow.Author.Count.{below_more}
+use Rattle.mk_laws.proofs.Vocabulary.{ℕ, arith, ◌<◌}
 use Rattle.mk_why.proofs.Searches.{noted_stays, part_noted, searches_nothing, searches_then, view_search}
 use Rattle.mk_why.proofs.searching.search_registers.Goals as goal
 

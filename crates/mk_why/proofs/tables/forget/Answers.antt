@@ -1,7 +1,4 @@
-use Rattle.std.proofs.Common.{inl, inr, arith, length}
-use Rattle.std.specs.Prelude.{None}
-use Rattle.std.proofs.lemmas.Bool.{cases_lt}
-use Rattle.std.proofs.lemmas.List.{get_or_past}
+use Rattle.mk_laws.proofs.Vocabulary.{None, arith, cases_lt, get_or_past, inl, inr, length}
 use Rattle.mk_why.proofs.tables.forget.Goals as goal
 
 pub returns-clause-none : goal.returns-clause-none

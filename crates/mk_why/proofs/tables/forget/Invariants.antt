@@ -1,5 +1,4 @@
-use Rattle.std.proofs.Common.{◌≡◌, ℕ, ◌<◌, length}
-use Rattle.std.specs.Prelude.{None, slice_index_or}
+use Rattle.mk_laws.proofs.Vocabulary.{None, ℕ, length, slice_index_or, ◌<◌, ◌≡◌}
 use Rattle.mk_why.proofs.tables.forget.Given as goal
 
 abbrev pub invariant-loop-place : goal.invariant-loop-place

@@ -1,16 +1,12 @@
-use Rattle.std.proofs.Common.{◌≡◌, ◌∙◌, ◌*◌, ◌<◌, ◌≤◌, ap, arith, sym}
-use Rattle.std.proofs.lemmas.Bool.{lt-ltb}
 use Rattle.std.proofs.Math.Nat.{mul-le-mul}
-use Rattle.std.specs.Prelude.{Option, None, Some}
-use Rattle.mk_geom.specs.declared.addresses.Cell.{Cell}
-use Rattle.mk_core.specs.Cells.{pointed_cell}
+use Rattle.mk_why.proofs.Vocabulary.{Cell, LooksOn, View, header_at, now_of, used_at, view_by}
+use Rattle.mk_laws.proofs.Vocabulary.{None, Option, Some, ap, arith, lt-ltb, pointed_cell, sym, ◌*◌, ◌<◌, ◌∙◌, ◌≡◌, ◌≤◌}
 use Rattle.mk_core.proofs.PointedPages.{pointed_within}
 use Rattle.mk_cycle.proofs.Allowed.{in_turn}
-use Rattle.mk_why.proofs.Vocabulary.{LooksOn, View, header_at, now_of, used_at, view_by}
 use Rattle.mk_why.proofs.Looks.{looks_for_cell, looks_then, may_look_at_headers}
 use Rattle.mk_why.proofs.Pointed.{none_at, none_at_unused, some_at_used}
-use Rattle.mk_why.proofs.values.base_pointed.Goals as goal
 use Rattle.mk_why.proofs.values.base_pointed.Goals.{After-cell_pointed, In-Some}
+use Rattle.mk_why.proofs.values.base_pointed.Goals as goal
 
 pub cell_pointed-requires-clause-may : goal.cell_pointed-requires-clause-may
 cell_pointed-requires-clause-may c =

@@ -1,6 +1,5 @@
-use Rattle.std.proofs.Common.{◌∙◌, ◌/◌, sym, arith}
-use Rattle.std.proofs.lemmas.Bool.{lt-ltb}
-use Rattle.mk_why.proofs.Pointed.{bare_at, scanned_at, whole_at, within_at, begins_at}
+use Rattle.mk_laws.proofs.Vocabulary.{arith, lt-ltb, sym, ◌/◌, ◌∙◌}
+use Rattle.mk_why.proofs.Pointed.{bare_at, begins_at, scanned_at, whole_at, within_at}
 use Rattle.mk_why.proofs.values.scanned_size.Goals as goal
 
 pub look_at-header-requires-clause-word : goal.look_at-header-requires-clause-word

@@ -1,8 +1,6 @@
-use Rattle.std.proofs.Common.{◌<◌, ◌≤◌, arith}
-use Rattle.std.specs.Prelude.{◌%◌, ◌^◌, count_ones}
-use Rattle.std.proofs.Math.Nat.{mod-lt}
-use Rattle.std.proofs.lemmas.Nat.{ones-le}
+use Rattle.std.proofs.{Common.count_ones, Math.Nat.mod-lt, lemmas.Nat.ones-le}
 use Rattle.std.specs.Mem.Slots.{slots_items}
+use Rattle.mk_laws.proofs.Vocabulary.{arith, ◌%◌, ◌<◌, ◌^◌, ◌≤◌}
 use Rattle.mk_words.proofs.Closing.{one_page_more}
 use Rattle.mk_words.proofs.finals.freed_bits.Goals as goal
 

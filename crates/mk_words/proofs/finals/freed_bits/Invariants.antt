@@ -1,5 +1,5 @@
-use Rattle.std.proofs.Common.{◌≡◌, ◌≤◌, ◌*◌, ◌-◌}
 use Rattle.std.specs.Mem.Slots.{slots_items}
+use Rattle.mk_laws.proofs.Vocabulary.{◌*◌, ◌-◌, ◌≡◌, ◌≤◌}
 use Rattle.mk_words.specs.Finals.{freed_bits_in}
 use Rattle.mk_words.proofs.finals.freed_bits.Given as goal
 

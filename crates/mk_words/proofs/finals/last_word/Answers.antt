@@ -1,6 +1,5 @@
-use Rattle.std.proofs.Common.{ℕ, ◌∙◌, ap}
-use Rattle.std.specs.Prelude.{slice_index}
 use Rattle.std.specs.Mem.Slots.{slots_items}
+use Rattle.mk_laws.proofs.Vocabulary.{ℕ, ap, slice_index, ◌∙◌}
 use Rattle.mk_words.proofs.Closing.{found_at}
 use Rattle.mk_words.proofs.finals.last_word.Goals as goal
 

@@ -1,6 +1,4 @@
-use Rattle.std.proofs.Common.{◌≡◌, true, false, sym, ◌∙◌, ap}
-use Rattle.mk_core.specs.declared.events.Seat.{Seat}
-use Rattle.mk_core.specs.Moments.{is_number_of}
+use Rattle.mk_laws.proofs.Vocabulary.{Seat, ap, false, is_number_of, sym, true, ◌∙◌, ◌≡◌}
 use Rattle.mk_words.proofs.stopped.open_other.Goals as goal
 
 pub returns-else-not-is_number-clause-opened : goal.returns-else-not-is_number-clause-opened

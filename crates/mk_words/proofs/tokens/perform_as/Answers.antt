@@ -1,9 +1,7 @@
-use Rattle.std.proofs.Common.{◌≡◌, ℕ, refl, sym, subst, ap, ◌∙◌}
-use Rattle.mk_core.specs.declared.accesses.TableWord.{TableWord}
-use Rattle.mk_core.specs.Layout.{IsOfTable, index_of}
-use Rattle.mk_words.specs.Passes.{state_of}
-use Rattle.mk_words.specs.States.{WordsState}
-use Rattle.mk_words.proofs.Owed.{names_word, perform_call, perform_learns, perform_keeps}
+use Rattle.mk_laws.proofs.Vocabulary.{ℕ, ap, refl, subst, sym, ◌∙◌, ◌≡◌}
+use Rattle.mk_core.specs.{Layout.IsOfTable, Layout.index_of, declared.accesses.TableWord.TableWord}
+use Rattle.mk_words.proofs.Owed.{names_word, perform_call, perform_keeps, perform_learns}
+use Rattle.mk_words.specs.{Passes.state_of, States.WordsState}
 use Rattle.mk_words.proofs.tokens.perform_as.Goals as goal
 
 -- The number of pages at hand is the table's.

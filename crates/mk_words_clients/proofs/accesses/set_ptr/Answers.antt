@@ -1,22 +1,15 @@
-use Rattle.std.proofs.Common.{◌≡◌, ◌≢◌, ◌<◌, ℕ, ◌+◌, ◌*◌, Bool, true, refl, sym, ◌∙◌, ap, subst, arith}
-use Rattle.std.specs.Prelude.{Some, None, if◌then◌else◌, ◌&&◌, nat_lt, nat_le}
-use Rattle.std.proofs.lemmas.Bool.{ne_eqb, and_from, lt-ltb, le-leb}
-use Rattle.mk_core.specs.declared.events.Answer.TheVariants as answer
-use Rattle.mk_core.specs.declared.events.Step.TheVariants as step
-use Rattle.mk_core.specs.declared.seats.Flight.{Flight}
-use Rattle.mk_core.specs.declared.seats.Stage.TheVariants.{LoadP, Probe, Write, Dirty, Leave}
-use Rattle.mk_core.specs.Calls.{begun, onward, page_met, refused, progress_reg, value_written}
-use Rattle.mk_core.specs.Effects.{progress_probe}
-use Rattle.mk_never.specs.declared.operations.Op.{Op}
-use Rattle.mk_never.specs.declared.operations.Op.TheVariants as op
+use Rattle.mk_laws.proofs.Vocabulary.{Answer, Bool, Flight, None, Op, Some, Step, ℕ, and_from, ap, arith, begun}
+use Rattle.mk_laws.proofs.Vocabulary.{if◌then◌else◌, le-leb, lt-ltb, nat_le, nat_lt, ne_eqb, onward, page_met}
+use Rattle.mk_laws.proofs.Vocabulary.{progress_reg, refl, refused, subst, sym, true, ◌&&◌, ◌*◌, ◌+◌, ◌<◌, ◌∙◌, ◌≡◌, ◌≢◌}
 use Rattle.mk_geom.specs.Addresses.{heap_word_at}
-use Rattle.mk_words.specs.CallSteps.{register_of}
-use Rattle.mk_words.specs.States.{PassState, WordsState}
-use Rattle.mk_words_clients.specs.Clients.{IsMidCall}
-use Rattle.mk_words_clients.proofs.CallFacts.{enters, goes_on, next_may, admitted_now}
-use Rattle.mk_words_clients.proofs.accesses.set_ptr.Goals as goal
+use Rattle.mk_core.specs.declared.seats.Stage.TheVariants.{Dirty, Leave, LoadP, Probe, Write}
+use Rattle.mk_core.specs.{Calls.value_written, Effects.progress_probe}
+use Rattle.mk_words.specs.{CallSteps.register_of, States.PassState, States.WordsState}
 use Rattle.mk_words_clients.proofs.accesses.set_ptr.Goals.{After-is_in_order, After-is_in_order-2, After-is_in_order-3}
 use Rattle.mk_words_clients.proofs.accesses.set_ptr.Goals.{After-is_in_order-4, After-write}
+use Rattle.mk_words_clients.proofs.CallFacts.{admitted_now, enters, goes_on, next_may}
+use Rattle.mk_words_clients.specs.Clients.{IsMidCall}
+use Rattle.mk_words_clients.proofs.accesses.set_ptr.Goals as goal
 
 -- where the call is after each of its steps
 
@@ -27,9 +20,9 @@ abbrev at_probe : Op → ℕ → ℕ → Flight
 at_probe o to value = record (at_load o to) { stage = Probe; p = value }
 
 entered : (c : After-is_in_order) → let o =
-    op.SetPtr c.args.q c.args.i c.args.p in IsMidCall c.enter.new.self o (begun o)
+    Op.SetPtr c.args.q c.args.i c.args.p in IsMidCall c.enter.new.self o (begun o)
 entered c =
-    enters c.args.pass.now c.enter.new.self (op.SetPtr c.args.q c.args.i c.args.p) c.requires.callers
+    enters c.args.pass.now c.enter.new.self (Op.SetPtr c.args.q c.args.i c.args.p) c.requires.callers
     c.requires.admitted c.in_ok-enter.ensures.goes
 
 -- the pointer that it goes through
@@ -37,51 +30,51 @@ own : (c : After-is_in_order-2) → c.reg_load-to.result ≡ register_of c.args.
 own c = c.reg_load-to.ensures.own ∙ c.enter.ensures.registers c.args.q c.requires.to
 
 found : (c : After-is_in_order-2) → let o =
-    op.SetPtr c.args.q c.args.i c.args.p in IsMidCall c.enter.new.self o (begun o)
+    Op.SetPtr c.args.q c.args.i c.args.p in IsMidCall c.enter.new.self o (begun o)
     → IsMidCall c.reg_load-to.new.self o (at_load o c.reg_load-to.result)
 found c at =
-    let o : Op = op.SetPtr c.args.q c.args.i c.args.p in
+    let o : Op = Op.SetPtr c.args.q c.args.i c.args.p in
     let n : ℕ = c.reg_load-to.result in
     let is = own c in
     let least = c.requires.points.least in
     let some : n ≢ 0 = λ z. omega arith in
-    goes_on c.enter.new.self c.reg_load-to.new.self step.Reg _ o (begun o) (at_load o n) at c.reg_load-to.ensures.goes
+    goes_on c.enter.new.self c.reg_load-to.new.self Step.Reg _ o (begun o) (at_load o n) at c.reg_load-to.ensures.goes
     (ap (λ (f : Flight). (progress_reg f f.stage n).flight) at.call
-    ∙ ap (λ (b : Bool). (if b then refused (record (begun o) { q = n }) answer.Null
+    ∙ ap (λ (b : Bool). (if b then refused (record (begun o) { q = n }) Answer.Null
     else onward (record (begun o) { q = n }) None).flight) (ne_eqb n 0 some))
 
-loaded : (c : After-is_in_order-3) → let o = op.SetPtr c.args.q c.args.i c.args.p in
+loaded : (c : After-is_in_order-3) → let o = Op.SetPtr c.args.q c.args.i c.args.p in
     IsMidCall c.reg_load-to.new.self o (at_load o c.reg_load-to.result)
     → IsMidCall c.reg_load-value.new.self o (at_probe o c.reg_load-to.result c.reg_load-value.result)
 loaded c at =
-    let o : Op = op.SetPtr c.args.q c.args.i c.args.p in
+    let o : Op = Op.SetPtr c.args.q c.args.i c.args.p in
     let n : ℕ = c.reg_load-to.result in
     let v : ℕ = c.reg_load-value.result in
-    goes_on c.reg_load-to.new.self c.reg_load-value.new.self step.Reg _ o (at_load o n) (at_probe o n v) at
+    goes_on c.reg_load-to.new.self c.reg_load-value.new.self Step.Reg _ o (at_load o n) (at_probe o n v) at
     c.reg_load-value.ensures.goes (ap (λ (f : Flight). (progress_reg f f.stage v).flight) at.call)
 
-probed : (c : After-is_in_order-4) → let o = op.SetPtr c.args.q c.args.i c.args.p in
+probed : (c : After-is_in_order-4) → let o = Op.SetPtr c.args.q c.args.i c.args.p in
     let f = at_probe o c.reg_load-to.result c.reg_load-value.result in
     IsMidCall c.reg_load-value.new.self o f → IsMidCall c.probe-header.new.self o (record f { stage = Write })
 probed c at =
-    let o : Op = op.SetPtr c.args.q c.args.i c.args.p in
+    let o : Op = Op.SetPtr c.args.q c.args.i c.args.p in
     let before : Flight = at_probe o c.reg_load-to.result c.reg_load-value.result in
-    goes_on c.reg_load-value.new.self c.probe-header.new.self step.Probe _ o before (record before { stage = Write }) at
+    goes_on c.reg_load-value.new.self c.probe-header.new.self Step.Probe _ o before (record before { stage = Write }) at
     c.probe-header.ensures.goes
     (ap (λ (f : Flight). (progress_probe f c.probe-header.result).flight) at.call
-    ∙ ap (λ (x : Bool). (if x then refused before answer.Fault else onward before None).flight)
+    ∙ ap (λ (x : Bool). (if x then refused before Answer.Fault else onward before None).flight)
     (sym c.is_unmapped.ensures ∙ c.if-is_unmapped.false))
 
-written : (c : After-write) → let o = op.SetPtr c.args.q c.args.i c.args.p in
+written : (c : After-write) → let o = Op.SetPtr c.args.q c.args.i c.args.p in
     let f = at_probe o c.reg_load-to.result c.reg_load-value.result in
     IsMidCall c.probe-header.new.self o (record f { stage = Write })
     → IsMidCall c.write.new.self o (record f { stage = Dirty })
 written c at =
-    let o : Op = op.SetPtr c.args.q c.args.i c.args.p in
+    let o : Op = Op.SetPtr c.args.q c.args.i c.args.p in
     let f : Flight = at_probe o c.reg_load-to.result c.reg_load-value.result in
-    goes_on c.probe-header.new.self c.write.new.self step.Write _ o (record f { stage = Write })
+    goes_on c.probe-header.new.self c.write.new.self Step.Write _ o (record f { stage = Write })
     (record f { stage = Dirty }) at c.write.ensures.goes
-    (ap (λ (f : Flight). (onward f (Some answer.Done)).flight) at.call)
+    (ap (λ (f : Flight). (onward f (Some Answer.Done)).flight) at.call)
 
 -- the word that it accesses is in the heap
 met : (c : After-is_in_order-4) (t : WordsState) → c.reg_load-to.result ≡ register_of c.args.pass.now c.args.q
@@ -106,26 +99,26 @@ probed_table c =
 pub reg_load-to-requires-clause-admitted : goal.reg_load-to-requires-clause-admitted
 reg_load-to-requires-clause-admitted c =
     let x = goal.at.reg_load-to-requires-clause-admitted c in
-    admitted_now _ _ _ step.Reg (entered x.After-is_in_order) refl c.is_in_order.ensures.history (λ x. refl)
+    admitted_now _ _ _ Step.Reg (entered x.After-is_in_order) refl c.is_in_order.ensures.history (λ x. refl)
 
 pub reg_load-value-requires-clause-admitted : goal.reg_load-value-requires-clause-admitted
 reg_load-value-requires-clause-admitted c =
     let x = goal.at.reg_load-value-requires-clause-admitted c in
     let at = found x.After-is_in_order-2 (entered x.After-is_in_order) in
-    admitted_now _ _ _ step.Reg at refl c.is_in_order-2.ensures.history (λ x. refl)
+    admitted_now _ _ _ Step.Reg at refl c.is_in_order-2.ensures.history (λ x. refl)
 
 pub probe-header-requires-clause-admitted : goal.probe-header-requires-clause-admitted
 probe-header-requires-clause-admitted c =
     let x = goal.at.probe-header-requires-clause-admitted c in
     let at = loaded x.After-is_in_order-3 (found x.After-is_in_order-2 (entered x.After-is_in_order)) in
-    admitted_now _ _ _ step.Probe at refl c.is_in_order-3.ensures.history (λ x. refl)
+    admitted_now _ _ _ Step.Probe at refl c.is_in_order-3.ensures.history (λ x. refl)
 
 pub write-requires-clause-enabled : goal.write-requires-clause-enabled
 write-requires-clause-enabled c =
     let x = goal.at.write-requires-clause-enabled c in
     let at = probed x.After-is_in_order-4
     (loaded x.After-is_in_order-3 (found x.After-is_in_order-2 (entered x.After-is_in_order))) in
-    next_may _ _ _ step.Write at refl refl
+    next_may _ _ _ Step.Write at refl refl
     (λ _. met x.After-is_in_order-4 c.probe-header.new.self.table (own x.After-is_in_order-2)
     (probed_table x.After-is_in_order-4))
 
@@ -134,7 +127,7 @@ write-requires-clause-admitted c =
     let x = goal.at.write-requires-clause-admitted c in
     let at = probed x.After-is_in_order-4
     (loaded x.After-is_in_order-3 (found x.After-is_in_order-2 (entered x.After-is_in_order))) in
-    admitted_now _ _ _ step.Write at refl c.is_in_order-4.ensures.history (λ x. refl)
+    admitted_now _ _ _ Step.Write at refl c.is_in_order-4.ensures.history (λ x. refl)
 
 pub write-requires-clause-value : goal.write-requires-clause-value
 write-requires-clause-value c =
@@ -155,17 +148,17 @@ dirty-requires-clause-enabled c =
     let x = goal.at.dirty-requires-clause-enabled c in
     let at = written x.After-write (probed x.After-is_in_order-4
     (loaded x.After-is_in_order-3 (found x.After-is_in_order-2 (entered x.After-is_in_order)))) in
-    next_may _ _ _ step.Dirty at refl refl
+    next_may _ _ _ Step.Dirty at refl refl
     (λ _. met x.After-is_in_order-4 c.write.new.self.table (own x.After-is_in_order-2)
     (ap (λ (r : PassState). r.table) c.write.ensures.goes.makes.is ∙ probed_table x.After-is_in_order-4))
 
 pub leave-requires-2-clause-enabled : goal.leave-requires-2-clause-enabled
 leave-requires-2-clause-enabled c =
     let x = goal.at.leave-requires-2-clause-enabled c in
-    let o : Op = op.SetPtr c.args.q c.args.i c.args.p in
+    let o : Op = Op.SetPtr c.args.q c.args.i c.args.p in
     let f : Flight = at_probe o c.reg_load-to.result c.reg_load-value.result in
     let at = written x.After-write (probed x.After-is_in_order-4
     (loaded x.After-is_in_order-3 (found x.After-is_in_order-2 (entered x.After-is_in_order)))) in
-    let left = goes_on c.write.new.self c.dirty.new.self step.Dirty _ o (record f { stage = Dirty })
+    let left = goes_on c.write.new.self c.dirty.new.self Step.Dirty _ o (record f { stage = Dirty })
     (record f { stage = Leave }) at c.dirty.ensures.goes (ap (λ (f : Flight). (onward f None).flight) at.call) in
-    next_may _ _ _ step.Leave left refl refl (λ _. refl)
+    next_may _ _ _ Step.Leave left refl refl (λ _. refl)

@@ -1,13 +1,10 @@
-use Rattle.std.proofs.Common.{refl, ap}
-use Rattle.mk_never.specs.declared.operations.Op.TheVariants as op
-use Rattle.mk_core.specs.declared.events.Step.TheVariants as step
-use Rattle.mk_core.specs.declared.seats.Flight.{Flight}
+use Rattle.mk_laws.proofs.Vocabulary.{Flight, Op, Step, ap, refl}
 use Rattle.mk_words_clients.proofs.Admitting.{own_step}
 use Rattle.mk_words_clients.proofs.calls.clear.Goals as goal
 
 pub reg_store-requires-clause-admitted : goal.reg_store-requires-clause-admitted
 reg_store-requires-clause-admitted c =
     let entered = c.in_ok-enter.ensures.goes in
-    own_step c.args.pass.now (step.Enter (op.Clear c.args.d)) c.enter.new.self step.Reg
-    (op.Clear c.args.d) c.requires.admitted entered.makes c.is_in_order-2.ensures.history
+    own_step c.args.pass.now (Step.Enter (Op.Clear c.args.d)) c.enter.new.self Step.Reg
+    (Op.Clear c.args.d) c.requires.admitted entered.makes c.is_in_order-2.ensures.history
     (ap (λ (f : Flight). f.op) entered.call) (λ a. refl)

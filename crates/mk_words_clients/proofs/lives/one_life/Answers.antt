@@ -1,16 +1,9 @@
-use Rattle.std.proofs.Common.{◌≡◌, List, ◌∷◌, [], ◌++◌, true, refl, sym, ◌∙◌, ap, subst, inl, inr, arith}
-use Rattle.std.proofs.lemmas.Bool.{cases_Bool, lt-ltb}
-use Rattle.mk_core.specs.declared.config.Config.{Config}
-use Rattle.mk_core.specs.declared.events.Seat.{Seat}
-use Rattle.mk_core.specs.declared.events.Seat.TheVariants.{Caller, Marker}
-use Rattle.mk_core.specs.Growing.{is_same_seat}
-use Rattle.mk_core.specs.Moments.{marker_at, outside}
-use Rattle.mk_core.specs.Order.{seat_exists}
-use Rattle.mk_core.specs.History.{left_from}
-use Rattle.mk_core.specs.declared.events.Event.{Event}
-use Rattle.mk_words.specs.Seats.{Has, all_seats, without_seat}
-use Rattle.mk_words.specs.States.{PassState, now_of}
-use Rattle.mk_words.proofs.Seats.{same_seat, has_all, has_first, has_left, has_right, without_keeps}
+use Rattle.mk_laws.proofs.Vocabulary.{Caller, Config, Event, List, Marker, Seat, ap, arith, cases_Bool, inl, inr}
+use Rattle.mk_laws.proofs.Vocabulary.{lt-ltb, marker_at, outside, refl, seat_exists, subst, sym, true, [], ◌++◌, ◌∙◌}
+use Rattle.mk_laws.proofs.Vocabulary.{◌∷◌, ◌≡◌}
+use Rattle.mk_core.specs.{Growing.is_same_seat, History.left_from}
+use Rattle.mk_words.proofs.Seats.{has_all, has_first, has_left, has_right, same_seat, without_keeps}
+use Rattle.mk_words.specs.{Seats.Has, Seats.all_seats, Seats.without_seat, States.PassState, States.now_of}
 use Rattle.mk_words_clients.proofs.lives.one_life.Goals as goal
 
 pub split-caller-requires-clause-here : goal.split-caller-requires-clause-here

@@ -1,5 +1,5 @@
-use Rattle.std.proofs.Common.{◌-◌, ◌≡◌, ◌≤◌, ◌+◌, ◌*◌}
-use Rattle.mk_words_clients.specs.Clients.{IsAttending, IsAt}
+use Rattle.mk_laws.proofs.Vocabulary.{◌*◌, ◌+◌, ◌-◌, ◌≡◌, ◌≤◌}
+use Rattle.mk_words_clients.specs.Clients.{IsAt, IsAttending}
 use Rattle.mk_words_clients.proofs.markers.scan_words.Given as goal
 
 pub record IsScanning (l : goal.Live-loop-done) : Type 0 where

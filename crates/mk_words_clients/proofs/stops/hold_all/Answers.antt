@@ -1,7 +1,6 @@
-use Rattle.std.proofs.Common.{ℕ, refl, ◌∙◌, ap, arith}
-use Rattle.mk_core.specs.declared.events.Step.TheVariants as step
+use Rattle.mk_laws.proofs.Vocabulary.{Step, ℕ, ap, arith, refl, ◌∙◌}
 use Rattle.mk_words.specs.States.{PassState}
-use Rattle.mk_words_clients.proofs.TurnFacts.{settled, settled_kept, holds_none, holds_one_more, tidy_kept}
+use Rattle.mk_words_clients.proofs.TurnFacts.{holds_none, holds_one_more, settled, settled_kept, tidy_kept}
 use Rattle.mk_words_clients.proofs.stops.hold_all.Goals as goal
 
 pub loop-caller-init : goal.loop-caller-init
@@ -26,10 +25,10 @@ loop-caller-preserved c =
     let few = c.callers.ensures in
     record {
       one_table = ap (λ (r : PassState). r.table) a.makes.is ∙ inv.one_table;
-      settled = settled_kept p q (step.Hold j) a refl inv.settled;
+      settled = settled_kept p q (Step.Hold j) a refl inv.settled;
       within = omega arith;
       holds = holds_one_more p q j inv.holds a c.in-Ok.ensures.held;
-      tidy = λ t. tidy_kept p q (step.Hold j) a inv.settled.seat refl (inv.tidy t);
+      tidy = λ t. tidy_kept p q (Step.Hold j) a inv.settled.seat refl (inv.tidy t);
     }
 
 pub loop-caller-smaller : goal.loop-caller-smaller
@@ -40,5 +39,5 @@ pub returns-in-Err-clause-tidy : goal.returns-in-Err-clause-tidy
 returns-in-Err-clause-tidy c = λ t.
     let inv = c.loop-caller.invariant in
     c.open_below.ensures.tidy
-    (tidy_kept c.loop-caller.turn.pass c.try_hold.new.self.pass (step.Hold c.loop-caller.caller) c.try_hold.ensures.acts
+    (tidy_kept c.loop-caller.turn.pass c.try_hold.new.self.pass (Step.Hold c.loop-caller.caller) c.try_hold.ensures.acts
     inv.settled.seat refl (inv.tidy t))

@@ -1,8 +1,7 @@
-use Rattle.std.proofs.Common.{◌≡◌, ◌+◌, ◌-◌, ℕ, refl, ◌∙◌, ap, subst, arith}
-use Rattle.mk_core.specs.declared.events.Step.TheVariants as step
+use Rattle.mk_laws.proofs.Vocabulary.{Step, ℕ, ap, arith, refl, subst, ◌+◌, ◌-◌, ◌∙◌, ◌≡◌}
 use Rattle.mk_words.specs.States.{PassState}
+use Rattle.mk_words_clients.proofs.TurnFacts.{none_below, opens_last, settled_kept, tidy_kept}
 use Rattle.mk_words_clients.specs.Clients.{HoldsBelow}
-use Rattle.mk_words_clients.proofs.TurnFacts.{settled_kept, opens_last, tidy_kept, none_below}
 use Rattle.mk_words_clients.proofs.stops.open_below.Goals as goal
 
 pub loop-caller-preserved : goal.loop-caller-preserved
@@ -17,10 +16,10 @@ loop-caller-preserved c =
     let above : c.loop-caller.caller ≡ j + 1 = omega arith in
     record {
       one_table = ap (λ (r : PassState). r.table) a.makes.is ∙ inv.one_table;
-      settled = settled_kept p q (step.Open j) a refl inv.settled;
+      settled = settled_kept p q (Step.Open j) a refl inv.settled;
       within = omega arith;
       holds = opens_last p q j (subst (λ (n : ℕ). HoldsBelow p n) above inv.holds) a;
-      tidy = λ t. tidy_kept p q (step.Open j) a inv.settled.seat refl (inv.tidy t);
+      tidy = λ t. tidy_kept p q (Step.Open j) a inv.settled.seat refl (inv.tidy t);
     }
 
 pub returns-clause-free : goal.returns-clause-free

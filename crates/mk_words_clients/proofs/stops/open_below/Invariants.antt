@@ -1,5 +1,5 @@
-use Rattle.std.proofs.Common.{◌≡◌, ◌≤◌}
-use Rattle.mk_words_clients.specs.Clients.{Settled, HoldsBelow, StaysTidy}
+use Rattle.mk_laws.proofs.Vocabulary.{◌≡◌, ◌≤◌}
+use Rattle.mk_words_clients.specs.Clients.{HoldsBelow, Settled, StaysTidy}
 use Rattle.mk_words_clients.proofs.stops.open_below.Given as goal
 
 pub record IsOpening (l : goal.Live-loop-caller) : Type 0 where

@@ -1,9 +1,7 @@
-use Rattle.std.proofs.Common.{refl, sym, subst, ◌<◌, ℕ}
-use Rattle.mk_core.specs.declared.events.Step.TheVariants as step
-use Rattle.mk_core.specs.declared.events.Word.TheVariants as word
+use Rattle.mk_laws.proofs.Vocabulary.{Step, Word, ℕ, refl, subst, sym, ◌<◌}
 use Rattle.mk_words.specs.States.{PassState, WordsState}
-use Rattle.mk_words_clients.proofs.TurnFacts.{settled, settled_kept, given_back, none_held_is, hold_leaves, look_leaves}
-use Rattle.mk_words_clients.proofs.TurnFacts.{open_leaves, miss_leaves, tidy_kept, hold_may}
+use Rattle.mk_words_clients.proofs.TurnFacts.{given_back, hold_leaves, hold_may, look_leaves, miss_leaves, none_held_is}
+use Rattle.mk_words_clients.proofs.TurnFacts.{open_leaves, settled, settled_kept, tidy_kept}
 use Rattle.mk_words_clients.proofs.turns.hold_once.Goals as goal
 
 pub try_hold-requires-clause-enabled : goal.try_hold-requires-clause-enabled
@@ -25,11 +23,11 @@ returns-in-Ok-clause-free c =
     let held = c.try_hold.ensures.acts in
     let looked = c.look.ensures.acts in
     let opened = c.open_gate.ensures.acts in
-    let only = look_leaves q r j (word.Reg j 0) looked (hold_leaves p q j held (none_held_is p free.gates)) in
+    let only = look_leaves q r j (Word.Reg j 0) looked (hold_leaves p q j held (none_held_is p free.gates)) in
     given_back z
-    (settled_kept r z (step.Open j) opened refl
-    (settled_kept q r (step.Look (word.Reg j 0)) looked refl
-    (settled_kept p q (step.Hold j) held refl (settled p free))))
+    (settled_kept r z (Step.Open j) opened refl
+    (settled_kept q r (Step.Look (Word.Reg j 0)) looked refl
+    (settled_kept p q (Step.Hold j) held refl (settled p free))))
     (open_leaves r z j opened only)
 
 pub returns-in-Ok-clause-tidy : goal.returns-in-Ok-clause-tidy
@@ -42,11 +40,11 @@ returns-in-Ok-clause-tidy c = λ tidy.
     let there = settled p c.requires.free in
     let held = c.try_hold.ensures.acts in
     let looked = c.look.ensures.acts in
-    let at_q = settled_kept p q (step.Hold j) held refl there in
-    let at_r = settled_kept q r (step.Look (word.Reg j 0)) looked refl at_q in
-    tidy_kept r z (step.Open j) c.open_gate.ensures.acts at_r.seat refl
-    (tidy_kept q r (step.Look (word.Reg j 0)) looked at_q.seat refl
-    (tidy_kept p q (step.Hold j) held there.seat refl tidy))
+    let at_q = settled_kept p q (Step.Hold j) held refl there in
+    let at_r = settled_kept q r (Step.Look (Word.Reg j 0)) looked refl at_q in
+    tidy_kept r z (Step.Open j) c.open_gate.ensures.acts at_r.seat refl
+    (tidy_kept q r (Step.Look (Word.Reg j 0)) looked at_q.seat refl
+    (tidy_kept p q (Step.Hold j) held there.seat refl tidy))
 
 pub returns-in-Err-clause-free : goal.returns-in-Err-clause-free
 returns-in-Err-clause-free c =
@@ -55,10 +53,10 @@ returns-in-Err-clause-free c =
     let q : PassState = c.try_hold.new.self.pass in
     let free = c.requires.free in
     let missed = c.try_hold.ensures.acts in
-    given_back q (settled_kept p q (step.Hold j) missed refl (settled p free))
+    given_back q (settled_kept p q (Step.Hold j) missed refl (settled p free))
     (miss_leaves p q j missed c.in-Err.ensures.not_held (none_held_is p free.gates))
 
 pub returns-in-Err-clause-tidy : goal.returns-in-Err-clause-tidy
 returns-in-Err-clause-tidy c = λ tidy.
-    tidy_kept c.args.turn.now.pass c.try_hold.new.self.pass (step.Hold c.args.caller) c.try_hold.ensures.acts
+    tidy_kept c.args.turn.now.pass c.try_hold.new.self.pass (Step.Hold c.args.caller) c.try_hold.ensures.acts
     c.requires.free.seat refl tidy

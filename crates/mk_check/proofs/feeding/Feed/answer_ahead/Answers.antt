@@ -1,26 +1,19 @@
-use Rattle.std.proofs.Common.{◌≡◌, ℕ, ◌<◌, List, [], ◌∷◌, ◌++◌, length, true, false, ap, sym, ◌∙◌, subst}
-use Rattle.std.specs.Prelude.{Option, None, is_some, OnOk, OnErr, Ok, Err}
-use Rattle.std.specs.declared.result.Result.{Result}
-use Rattle.mk_never.specs.declared.operations.Op.{Op}
-use Rattle.std.proofs.lemmas.Result.{IfOk-weaker}
-use Rattle.mk_check.specs.declared.feeding.tree.Node.{Node}
-use Rattle.mk_check.specs.declared.feeding.tree.Node.TheVariants as node
-use Rattle.mk_check.specs.Feed.{refusal_line, refusal_text}
-use Rattle.mk_check.specs.Steps.{op_asked, after_answer, stop_on_answer}
-use Rattle.mk_check.specs.Trees.{IsTree, Place, PlaceFits, PlaceIsWithin, StopsAt, left_in, kept_in, stopped_in}
-use Rattle.mk_check.specs.Trees.{node_at, with_kept}
-use Rattle.mk_check.specs.Feeding.{FeedState, StandsForSome, IsAtStop, IsFeed, op_of_node, op_in, work_left}
-use Rattle.mk_check.specs.Feeding.{TakesAnswer}
-use Rattle.mk_check.proofs.Moves.{line_fits}
+use Rattle.std.{proofs.Common.OnErr, specs.declared.result.Result.Result}
+use Rattle.mk_check.proofs.Vocabulary.{Err, FeedState, IfOk-weaker, IsAtStop, IsFeed, IsTree, List, Node, None, Ok}
+use Rattle.mk_check.proofs.Vocabulary.{OnOk, Op, Option, Place, PlaceFits, PlaceIsWithin, StopsAt, TakesAnswer, ℕ}
+use Rattle.mk_check.proofs.Vocabulary.{after_answer, ap, false, is_some, kept_in, left_in, length, node_at, op_asked}
+use Rattle.mk_check.proofs.Vocabulary.{op_in, op_of_node, refusal_line, refusal_text, stop_on_answer, stopped_in, subst}
+use Rattle.mk_check.proofs.Vocabulary.{sym, true, with_kept, work_left, [], ◌++◌, ◌<◌, ◌∙◌, ◌∷◌, ◌≡◌}
 use Rattle.mk_check.proofs.Stands.{answer_stands, answer_stops, op_of_others, waits_for_answer}
-use Rattle.mk_check.proofs.WorkLaws.{answer_nearer}
-use Rattle.mk_check.proofs.feeding.Feed.answer_ahead.Goals as goal
 use Rattle.mk_check.proofs.feeding.Feed.answer_ahead.Goals.{After-follow, In_ok-take}
+use Rattle.mk_check.proofs.{Moves.line_fits, WorkLaws.answer_nearer}
+use Rattle.mk_check.specs.Feeding.{StandsForSome}
+use Rattle.mk_check.proofs.feeding.Feed.answer_ahead.Goals as goal
 
 -- the node that waits is that of the line
 waits : (c : After-follow)
     → node_at c.self.inside.tree c.self.inside.running.at
-    ≡ node.Line c.in-Line.line c.in-Line.instruction c.in-Line.next
+    ≡ Node.Line c.in-Line.line c.in-Line.instruction c.in-Line.next
 waits c = ap (node_at c.self.inside.tree) (sym c.at.ensures) ∙ sym c.in-Line.ensures.value
 
 -- the copy, after the text so far, stops where the script does
@@ -91,7 +84,7 @@ starts_at : (c : In_ok-take) → PlaceFits c.self.inside.tree c.take.new.self
 starts_at c =
     let nodes = c.self.inside.tree in
     let p = c.self.inside.running in
-    let here : node_at nodes p.at ≡ node.Line c.in-Line.line c.in-Line.instruction c.in-Line.next =
+    let here : node_at nodes p.at ≡ Node.Line c.in-Line.line c.in-Line.instruction c.in-Line.next =
     ap (node_at nodes) (sym c.at.ensures) ∙ sym c.in-Line.ensures.value in
     let next = line_fits nodes p c.in-Line.line c.in-Line.instruction c.in-Line.next c.in-Line.ensures.tree
     c.self.invariant.stop.within here c.self.invariant.stop.fits in
@@ -109,10 +102,10 @@ starts_at c =
 
 -- text doesn't change where a script stops
 stops_so : (n : Node) (q : Place) (text : List ℕ) → StopsAt n q → StopsAt n (record q { text = text })
-stops_so node.Done q text h = h
-stops_so (node.Line line instruction next) q text h = h
-stops_so (node.Rounds rounds body next) q text h = h
-stops_so (node.Choice number first second next) q text h = h
+stops_so Node.Done q text h = h
+stops_so (Node.Line line instruction next) q text h = h
+stops_so (Node.Rounds rounds body next) q text h = h
+stops_so (Node.Choice number first second next) q text h = h
 
 stops_behind_text : (nodes : List Node) (q t : Place) (text : List ℕ) → t ≡ record q { text = text }
     → PlaceIsWithin (length nodes) q → PlaceFits nodes q → StopsAt (node_at nodes q.at) q

@@ -1,11 +1,8 @@
-use Rattle.std.proofs.Common.{ℕ, ◌<◌, ap, sym, ◌∙◌, subst}
-use Rattle.mk_check.specs.AtOnce.{TakesLine}
-use Rattle.mk_check.specs.Spots.{sequels_of}
-use Rattle.mk_check.specs.Trees.{node_at}
-use Rattle.mk_check.specs.Feeding.{FeedState, IsWaiting, TakesAnswer, work_left}
+use Rattle.mk_check.proofs.Vocabulary.{FeedState, IsWaiting, TakesAnswer, TakesLine, ℕ, ap, node_at, sequels_of, subst}
+use Rattle.mk_check.proofs.Vocabulary.{sym, work_left, ◌<◌, ◌∙◌}
 use Rattle.mk_check.proofs.AtOnce.{StopsBehind, feeds, feeds_at_once, nearer_at_once, stops_at_once, takes_at_once}
-use Rattle.mk_check.proofs.feeding.Feed.answer_silently.Goals as goal
 use Rattle.mk_check.proofs.feeding.Feed.answer_silently.Goals.{After-answer_silently}
+use Rattle.mk_check.proofs.feeding.Feed.answer_silently.Goals as goal
 
 pub answer_silently-requires-clause-sequels : goal.answer_silently-requires-clause-sequels
 answer_silently-requires-clause-sequels c =

@@ -1,14 +1,7 @@
-use Rattle.std.proofs.Common.{◌≡◌, ap, sym, ◌∙◌, subst}
-use Rattle.std.specs.Prelude.{Option, is_some}
-use Rattle.mk_never.specs.declared.operations.Op.{Op}
-use Rattle.mk_check.specs.Steps.{op_asked}
-use Rattle.mk_check.specs.Spots.{instruction_of_node}
-use Rattle.mk_check.specs.Trees.{IsTree, node_at}
-use Rattle.mk_check.specs.Feeding.{FeedState, IsAtStop, op_in}
-use Rattle.mk_check.proofs.Spots.{op_by_instruction}
-use Rattle.mk_check.proofs.Stands.{op_stands}
+use Rattle.mk_check.proofs.Vocabulary.{FeedState, IsAtStop, IsTree, Op, Option, ap, instruction_of_node, is_some}
+use Rattle.mk_check.proofs.Vocabulary.{node_at, op_asked, op_in, subst, sym, ◌∙◌, ◌≡◌}
+use Rattle.mk_check.proofs.{Spots.op_by_instruction, Stands.op_stands, feeding.Feed.op.Goals.After-asked}
 use Rattle.mk_check.proofs.feeding.Feed.op.Goals as goal
-use Rattle.mk_check.proofs.feeding.Feed.op.Goals.{After-asked}
 
 asks : (c : After-asked) → c.asked.result ≡ op_in c.args.self.now
 asks c =

@@ -1,8 +1,5 @@
-use Rattle.std.proofs.Common.{◌+◌, ◌-◌, List, ap, ◌∙◌, arith}
-use Rattle.mk_check.specs.declared.feeding.instructions.Element.{Element}
-use Rattle.mk_check.specs.Steps.{element_of}
-use Rattle.mk_check.specs.Building.{StepPart, with_element, parts_in}
-use Rattle.mk_check.proofs.NumberedParts.{parts_from_more}
+use Rattle.mk_check.proofs.Vocabulary.{Element, List, ap, arith, element_of, parts_in, with_element, ◌+◌, ◌-◌, ◌∙◌}
+use Rattle.mk_check.{proofs.NumberedParts.parts_from_more, specs.Building.StepPart}
 use Rattle.mk_check.proofs.feeding.building.tree_of.Goals as goal
 
 pub loop-index-preserved : goal.loop-index-preserved

@@ -1,6 +1,5 @@
-use Rattle.std.proofs.Common.{◌≡◌, ◌+◌, drop, map}
-use Rattle.mk_check.specs.Blocks.{parts_from}
-use Rattle.mk_check.specs.Building.{IsSoundlyBuilt, parts_in, part_of}
+use Rattle.mk_check.proofs.Vocabulary.{drop, map, parts_from, parts_in, ◌+◌, ◌≡◌}
+use Rattle.mk_check.specs.Building.{IsSoundlyBuilt, part_of}
 use Rattle.mk_check.proofs.feeding.building.tree_of.Given as goal
 
 abbrev pub invariant-loop-index : goal.invariant-loop-index

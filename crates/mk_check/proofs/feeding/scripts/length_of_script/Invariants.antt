@@ -1,5 +1,4 @@
-use Rattle.std.proofs.Common.{◌≡◌, ◌++◌, take, drop}
-use Rattle.mk_check.specs.Blocks.{before_next_script}
+use Rattle.mk_check.proofs.Vocabulary.{before_next_script, drop, take, ◌++◌, ◌≡◌}
 use Rattle.mk_check.proofs.feeding.scripts.length_of_script.Given as goal
 
 abbrev pub invariant-loop-index : goal.invariant-loop-index

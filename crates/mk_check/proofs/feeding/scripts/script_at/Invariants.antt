@@ -1,6 +1,4 @@
-use Rattle.std.proofs.Common.{◌≡◌, ◌-◌, ◌+◌, ◌<◌, ◌≤◌, length, drop}
-use Rattle.mk_script.specs.Scopes.{script_names}
-use Rattle.mk_check.specs.Blocks.{script_from, script_of}
+use Rattle.mk_check.proofs.Vocabulary.{drop, length, script_from, script_names, script_of, ◌+◌, ◌-◌, ◌<◌, ◌≡◌, ◌≤◌}
 use Rattle.mk_check.proofs.feeding.scripts.script_at.Given as goal
 
 abbrev pub invariant-loop-index : goal.invariant-loop-index

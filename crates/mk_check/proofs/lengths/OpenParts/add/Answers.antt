@@ -1,9 +1,8 @@
-use Rattle.std.proofs.Common.{◌+◌, arith}
-use Rattle.mk_check.specs.declared.lengths.PartCount.{PartCount}
-use Rattle.mk_check.specs.Counts.{saturated_count}
-use Rattle.mk_check.proofs.CountLemmas.{reverse-set, reverse-none}
-use Rattle.mk_check.proofs.lengths.OpenParts.add.Goals as goal
+use Rattle.mk_check.proofs.Vocabulary.{PartCount, arith, ◌+◌}
+use Rattle.mk_check.proofs.CountLemmas.{reverse-none, reverse-set}
 use Rattle.mk_check.proofs.lengths.OpenParts.add.Goals.{in-Some, in_default}
+use Rattle.mk_check.specs.Counts.{saturated_count}
+use Rattle.mk_check.proofs.lengths.OpenParts.add.Goals as goal
 
 pub returns : goal.returns
 returns c =

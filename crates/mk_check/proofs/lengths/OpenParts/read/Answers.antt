@@ -1,4 +1,4 @@
-use Rattle.std.proofs.Common.{refl}
+use Rattle.mk_check.proofs.Vocabulary.{refl}
 use Rattle.mk_check.proofs.CountLemmas.{counts_with-line}
 use Rattle.mk_check.proofs.lengths.OpenParts.read.Goals as goal
 

@@ -1,8 +1,7 @@
-use Rattle.std.proofs.Common.{arith}
-use Rattle.mk_check.specs.declared.lengths.PartCount.{PartCount}
-use Rattle.mk_check.proofs.CountLemmas.{reverse-set, reverse-none}
-use Rattle.mk_check.proofs.lengths.OpenParts.turn.Goals as goal
+use Rattle.mk_check.proofs.Vocabulary.{PartCount, arith}
+use Rattle.mk_check.proofs.CountLemmas.{reverse-none, reverse-set}
 use Rattle.mk_check.proofs.lengths.OpenParts.turn.Goals.{in-Some, in_default}
+use Rattle.mk_check.proofs.lengths.OpenParts.turn.Goals as goal
 
 pub returns : goal.returns
 returns c =

@@ -1,8 +1,7 @@
-use Rattle.std.proofs.Common.{sym, ◌∙◌, ◌++◌, [], ◌∷◌}
-use Rattle.mk_script.specs.declared.items.Item.TheVariants.{TypeLine, Global}
-use Rattle.mk_check.specs.Typing.{type_words, global_type}
-use Rattle.mk_check.proofs.LookupLemmas.{OnOk-map, known-more, type_words-append, global_type-append}
-use Rattle.mk_check.proofs.LookupLemmas.{type_words-push_other, global_type-push_other, option_or-none}
+use Rattle.mk_check.proofs.Vocabulary.{global_type, sym, type_words, [], ◌++◌, ◌∙◌, ◌∷◌}
+use Rattle.mk_check.proofs.LookupLemmas.{OnOk-map, global_type-append, global_type-push_other, known-more}
+use Rattle.mk_check.proofs.LookupLemmas.{option_or-none, type_words-append, type_words-push_other}
+use Rattle.mk_script.specs.declared.items.Item.TheVariants.{Global, TypeLine}
 use Rattle.mk_check.proofs.lookups.Declarations.add.Goals as goal
 
 pub returns-in-TypeLine : goal.returns-in-TypeLine

@@ -1,4 +1,4 @@
-use Rattle.std.proofs.Common.{take}
+use Rattle.mk_check.proofs.Vocabulary.{take}
 use Rattle.mk_check.specs.Lookups.{AreDeclared}
 use Rattle.mk_check.proofs.lookups.Declarations.of_program.Given as goal
 

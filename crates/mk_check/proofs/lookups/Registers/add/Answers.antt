@@ -1,12 +1,8 @@
-use Rattle.std.proofs.Common.{sym, ◌∙◌, ◌++◌, [], ◌∷◌, ap, map}
-use Rattle.std.specs.Option.{option_or}
-use Rattle.std.proofs.lemmas.List.{append-nil, map-append}
-use Rattle.mk_script.specs.declared.items.Item.TheVariants.{Ptr, Num}
-use Rattle.mk_script.specs.Scopes.{number_names}
-use Rattle.mk_check.specs.Lookups.{first_at}
-use Rattle.mk_check.specs.Typing.{pointer_at}
-use Rattle.mk_check.proofs.LookupLemmas.{first_at-append, pointer_at-append, pointer_at-push_other, number_names-append}
-use Rattle.mk_check.proofs.LookupLemmas.{number_names-push_other, is_script-other, option_or-none}
+use Rattle.mk_check.proofs.Vocabulary.{ap, append-nil, first_at, map, map-append, number_names, option_or, pointer_at}
+use Rattle.mk_check.proofs.Vocabulary.{sym, [], ◌++◌, ◌∙◌, ◌∷◌}
+use Rattle.mk_check.proofs.LookupLemmas.{first_at-append, is_script-other, number_names-append, number_names-push_other}
+use Rattle.mk_check.proofs.LookupLemmas.{option_or-none, pointer_at-append, pointer_at-push_other}
+use Rattle.mk_script.specs.declared.items.Item.TheVariants.{Num, Ptr}
 use Rattle.mk_check.proofs.lookups.Registers.add.Goals as goal
 
 pub returns-in_ok-push-in-Ptr-clause-added : goal.returns-in_ok-push-in-Ptr-clause-added

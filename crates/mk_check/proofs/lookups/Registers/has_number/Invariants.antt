@@ -1,6 +1,5 @@
-use Rattle.std.proofs.Common.{◌≡◌, drop, map}
 use Rattle.std.specs.List.{list_any}
-use Rattle.std.specs.Str.{bytes_eq}
+use Rattle.mk_check.proofs.Vocabulary.{bytes_eq, drop, map, ◌≡◌}
 use Rattle.mk_check.proofs.lookups.Registers.has_number.Given as goal
 
 -- the numbers that are left decide

@@ -1,5 +1,4 @@
-use Rattle.std.proofs.Common.{◌≡◌, drop}
-use Rattle.mk_check.specs.Lookups.{first_at}
+use Rattle.mk_check.proofs.Vocabulary.{drop, first_at, ◌≡◌}
 use Rattle.mk_check.proofs.lookups.Registers.pointer_at.Given as goal
 
 -- the registers that are left decide

@@ -1,11 +1,9 @@
-use Rattle.std.proofs.Common.{◌++◌, [], ◌∷◌, length, take, ap, ◌∙◌, arith}
-use Rattle.std.proofs.lemmas.List.{take_all}
-use Rattle.mk_script.specs.Scopes.{type_names, global_names}
-use Rattle.mk_check.specs.Declarations.{number_of_name, globals_among}
-use Rattle.mk_check.proofs.NumberLemmas.{take-step, globals_among-append, globals_among-push_other}
-use Rattle.mk_check.proofs.NumberLemmas.{length-globals_among, length-global_names-take}
-use Rattle.mk_check.proofs.numbers.TypeNumbers.globals.Goals as goal
+use Rattle.mk_check.proofs.Vocabulary.{ap, arith, global_names, globals_among, length, number_of_name, take, take_all}
+use Rattle.mk_check.proofs.Vocabulary.{type_names, [], ◌++◌, ◌∙◌, ◌∷◌}
+use Rattle.mk_check.proofs.NumberLemmas.{globals_among-append, globals_among-push_other, length-global_names-take}
+use Rattle.mk_check.proofs.NumberLemmas.{length-globals_among, take-step}
 use Rattle.mk_check.proofs.numbers.TypeNumbers.globals.Goals.{in-Global+in_ok-add, in_default}
+use Rattle.mk_check.proofs.numbers.TypeNumbers.globals.Goals as goal
 
 pub add-requires : goal.add-requires
 add-requires c =

@@ -1,6 +1,4 @@
-use Rattle.std.proofs.Common.{◌≡◌, take}
-use Rattle.mk_script.specs.Scopes.{type_names}
-use Rattle.mk_check.specs.Declarations.{globals_among}
+use Rattle.mk_check.proofs.Vocabulary.{globals_among, take, type_names, ◌≡◌}
 use Rattle.mk_check.proofs.numbers.TypeNumbers.globals.Given as goal
 
 abbrev pub invariant-loop-item : goal.invariant-loop-item

@@ -1,5 +1,4 @@
-use Rattle.std.proofs.Common.{◌≤◌, take}
-use Rattle.mk_script.specs.Scopes.{type_names}
+use Rattle.mk_check.proofs.Vocabulary.{take, type_names, ◌≤◌}
 use Rattle.mk_check.specs.Numbers.{AreNumbers}
 use Rattle.mk_check.proofs.numbers.TypeNumbers.of_program.Given as goal
 

@@ -1,10 +1,7 @@
-use Rattle.std.proofs.Common.{◌++◌, [], ◌∷◌, map, take, ap, ◌∙◌}
-use Rattle.std.proofs.lemmas.List.{take_all}
-use Rattle.mk_script.specs.Scopes.{type_names}
-use Rattle.mk_check.specs.Declarations.{kind_of, kinds_among}
-use Rattle.mk_check.proofs.NumberLemmas.{take-step, kinds_among-append, kinds_among-push_other}
-use Rattle.mk_check.proofs.numbers.TypeNumbers.types.Goals as goal
+use Rattle.mk_check.proofs.Vocabulary.{ap, kind_of, kinds_among, map, take, take_all, type_names, [], ◌++◌, ◌∙◌, ◌∷◌}
+use Rattle.mk_check.proofs.NumberLemmas.{kinds_among-append, kinds_among-push_other, take-step}
 use Rattle.mk_check.proofs.numbers.TypeNumbers.types.Goals.{in-TypeLine+in_ok-kinds+in_ok-add, in_default}
+use Rattle.mk_check.proofs.numbers.TypeNumbers.types.Goals as goal
 
 pub loop-item-preserved : goal.loop-item-preserved
 loop-item-preserved c =

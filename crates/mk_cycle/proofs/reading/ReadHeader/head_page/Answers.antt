@@ -1,8 +1,5 @@
-use Rattle.std.proofs.Common.{◌≡◌, ℕ, ◌-◌, Option, Some, None, refl, ap, ◌∙◌, arith}
-use Rattle.mk_geom.specs.declared.headers.Header.{Header}
-use Rattle.mk_geom.specs.declared.headers.Header.TheVariants.{Free, Block, Run, Later, LeafBlock, LeafRun}
-use Rattle.mk_geom.specs.Addresses.{head_page_under}
-use Rattle.mk_geom.specs.Headers.{header_of}
+use Rattle.mk_laws.proofs.Vocabulary.{Block, Free, Header, Later, LeafBlock, LeafRun, None, Option, Run, Some, ℕ, ap}
+use Rattle.mk_laws.proofs.Vocabulary.{arith, head_page_under, header_of, refl, ◌-◌, ◌∙◌, ◌≡◌}
 use Rattle.mk_cycle.specs.ReadHeaders.{distance_under}
 use Rattle.mk_cycle.proofs.reading.ReadHeader.head_page.Goals as goal
 

@@ -1,6 +1,6 @@
-use Rattle.mk_turns.proofs.Sweeping.{nothing_sweeps}
 use Rattle.mk_cycle.proofs.Begun.{does_no_part}
 use Rattle.mk_engines.proofs.TracedMarks.{begins_with_nothing}
+use Rattle.mk_turns.proofs.Sweeping.{nothing_sweeps}
 use Rattle.mk_engines.proofs.stop_engine.StopEngineEngine.begin.Goals as goal
 
 pub returns-clause-law : goal.returns-clause-law

@@ -1,7 +1,7 @@
-use Rattle.std.proofs.Common.{◌∙◌, sym, ap, subst}
-use Rattle.mk_heap.specs.Hosts.{HostState, AllAreJoined}
+use Rattle.mk_laws.proofs.Vocabulary.{ap, subst, sym, ◌∙◌}
 use Rattle.mk_heap.proofs.HostsKept.{home_host, home_is, home_view, is_home}
-use Rattle.mk_heap.proofs.Ended.{home, ends_whole, ends_counted}
+use Rattle.mk_heap.proofs.Ended.{ends_counted, ends_whole, home}
+use Rattle.mk_heap.specs.Hosts.{AllAreJoined, HostState}
 use Rattle.mk_heap.proofs.heaps.Heap.close.Goals as goal
 
 pub close-last-requires-clause-home : goal.close-last-requires-clause-home

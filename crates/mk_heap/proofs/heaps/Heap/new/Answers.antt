@@ -1,11 +1,6 @@
-use Rattle.std.proofs.Common.{◌∙◌, sym, ap, subst}
-use Rattle.mk_core.specs.declared.config.Config.{Config}
-use Rattle.mk_core.specs.declared.events.Seat.TheVariants.{Host}
-use Rattle.std.specs.Prelude.{[]}
-use Rattle.mk_words.specs.Seats.{all_seats}
-use Rattle.mk_words.specs.States.{WordsState, PassState}
-use Rattle.mk_heap.specs.Hosts.{IsHost}
-use Rattle.mk_heap.proofs.HostsKept.{first_is_host}
+use Rattle.mk_laws.proofs.Vocabulary.{Config, Host, ap, subst, sym, [], ◌∙◌}
+use Rattle.mk_heap.{proofs.HostsKept.first_is_host, specs.Hosts.IsHost}
+use Rattle.mk_words.specs.{Seats.all_seats, States.PassState, States.WordsState}
 use Rattle.mk_heap.proofs.heaps.Heap.new.Goals as goal
 
 pub invariant_of-result : goal.invariant_of-result

@@ -1,8 +1,8 @@
-use Rattle.std.proofs.Common.{◌<◌, ◌+◌, sym, subst}
+use Rattle.mk_laws.proofs.Vocabulary.{subst, sym, ◌+◌, ◌<◌}
 use Rattle.mk_caller.specs.States.{IsIdleCaller}
-use Rattle.mk_words.specs.States.{WordsState, PassState}
-use Rattle.mk_heap.specs.Hosts.{HostState, IsHost}
 use Rattle.mk_heap.proofs.HostsKept.{caller_made_is_host, home_host, home_is, home_view, is_home, next_is_idle}
+use Rattle.mk_heap.specs.Hosts.{HostState, IsHost}
+use Rattle.mk_words.specs.States.{PassState, WordsState}
 use Rattle.mk_heap.proofs.hosts.Host.caller.Goals as goal
 
 pub new-requires-clause-idle : goal.new-requires-clause-idle

@@ -1,23 +1,14 @@
-use Rattle.std.proofs.Common.{refl, sym, subst, ◌∙◌, arith}
-use Rattle.std.specs.Prelude.{None}
-use Rattle.mk_core.specs.declared.events.Step.TheVariants as step
-use Rattle.mk_words.specs.States.{PassState}
-use Rattle.mk_waiting.specs.Taking.{TakesTurn}
-use Rattle.mk_cycle.specs.EngineLaw.{IsAtPhase}
-use Rattle.mk_cycle.proofs.Allowed.{in_turn}
-use Rattle.mk_heap.specs.Ending.{IsIdleTurn}
-use Rattle.mk_heap.specs.Hosts.{HostState}
-use Rattle.mk_cycle.specs.Begun.{EachIsBegun}
-use Rattle.mk_heap.proofs.BegunHosts.{cycle_begun}
+use Rattle.mk_laws.proofs.Vocabulary.{None, Step, arith, refl, subst, sym, ◌∙◌}
+use Rattle.mk_cycle.{proofs.Allowed.in_turn, specs.Begun.EachIsBegun, specs.EngineLaw.IsAtPhase}
 use Rattle.mk_heap.proofs.BeforeOver.{hosts_seat, none_by_phase, step_overs}
 use Rattle.mk_heap.proofs.HostsKept.{home_host, home_is, home_view, is_home}
-use Rattle.mk_heap.proofs.IdleTurns.{cycle_idle}
 use Rattle.mk_heap.proofs.MovedHosts.{begin_moves, finish_moves, idle_moves, moved_is_host, moves_more}
-use Rattle.mk_heap.proofs.Overs.{give_allowed, idle_may_give}
-use Rattle.mk_heap.proofs.Telling.{given_no_turn, given_phase}
-use Rattle.mk_heap.proofs.UnsweptHosts.{idle_then_sweeps}
-use Rattle.mk_turns.specs.Sweeping.{SweepsNothing}
-use Rattle.mk_turns.proofs.Sweeping.{other_step_sweeps, sweeps_then}
+use Rattle.mk_heap.proofs.{BegunHosts.cycle_begun, IdleTurns.cycle_idle, Overs.give_allowed, Overs.idle_may_give}
+use Rattle.mk_heap.proofs.{Telling.given_no_turn, Telling.given_phase, UnsweptHosts.idle_then_sweeps}
+use Rattle.mk_heap.specs.{Ending.IsIdleTurn, Hosts.HostState}
+use Rattle.mk_turns.{proofs.Sweeping.other_step_sweeps, proofs.Sweeping.sweeps_then, specs.Sweeping.SweepsNothing}
+use Rattle.mk_waiting.specs.Taking.{TakesTurn}
+use Rattle.mk_words.specs.States.{PassState}
 use Rattle.mk_heap.proofs.hosts.Host.cycle.Goals as goal
 
 pub give-back-requires-clause-enabled : goal.give-back-requires-clause-enabled
@@ -43,7 +34,7 @@ invariant_of-self g c =
     let idle = idle_moves h.pass p c.take_idle_turn-turn.ensures.takes in
     let begun = begin_moves h.pass p b idle c.begin_cycle.ensures.law in
     let ended = finish_moves h.pass b r begun c.finish_cycle-turn.ensures.law in
-    moved_is_host h q is (moves_more h.pass r q step.Give ended c.give-back.ensures.acts.makes)
+    moved_is_host h q is (moves_more h.pass r q Step.Give ended c.give-back.ensures.acts.makes)
     c.give-back.ensures.acts.makes.pass.history (given_no_turn r q c.give-back.ensures.acts)
 
 pub returns-clause-own : goal.returns-clause-own
@@ -60,7 +51,7 @@ returns-clause-own g c =
     let begun = begin_moves h.pass p b idle c.begin_cycle.ensures.law in
     let ended = finish_moves h.pass b r begun c.finish_cycle-turn.ensures.law in
     hosts_seat h q is c.is_in_order.ensures.own
-    (moves_more h.pass r q step.Give ended c.give-back.ensures.acts.makes)
+    (moves_more h.pass r q Step.Give ended c.give-back.ensures.acts.makes)
 
 pub returns-clause-idle : goal.returns-clause-idle
 returns-clause-idle g c =
@@ -101,7 +92,7 @@ returns-clause-overs g c =
     let begun = begin_moves h.pass p b idle c.begin_cycle.ensures.law in
     let ended = finish_moves h.pass b r begun c.finish_cycle-turn.ensures.law in
     let none : IsAtPhase r 0 = c.finish_cycle-turn.ensures.law.phase in
-    step_overs r c.give-back.result step.Give c.give-back.ensures.acts.makes
+    step_overs r c.give-back.result Step.Give c.give-back.ensures.acts.makes
     (hosts_seat h r is c.is_in_order.ensures.own ended) refl
     ∙ none_by_phase r.table.config r.seen c.is_in_order-2.ensures.history
     (λ (five : IsAtPhase r 5). absurd (omega arith))

@@ -1,9 +1,5 @@
-use Rattle.std.proofs.Common.{◌≡◌, subst}
-use Rattle.mk_core.specs.declared.events.Seat.TheVariants.{Host}
-use Rattle.mk_core.specs.Counts.{IsTidy}
-use Rattle.mk_core.specs.History.{IsHistory}
-use Rattle.mk_heap.specs.Hosts.{HostState}
-use Rattle.mk_heap.proofs.HostsKept.{home_is, home_view}
+use Rattle.mk_laws.proofs.Vocabulary.{Host, IsHistory, IsTidy, subst, ◌≡◌}
+use Rattle.mk_heap.{proofs.HostsKept.home_is, proofs.HostsKept.home_view, specs.Hosts.HostState}
 use Rattle.mk_heap.proofs.hosts.Host.is_in_order.Goals as goal
 
 pub returns-clause-seat : goal.returns-clause-seat

@@ -1,13 +1,9 @@
-use Rattle.std.proofs.Common.{◌≡◌, ◌∙◌, sym, ap, subst}
-use Rattle.mk_core.specs.History.{IsHistory}
-use Rattle.mk_words.specs.Seats.{has_over}
-use Rattle.mk_words.specs.States.{PassState, WordsState}
-use Rattle.mk_heap.specs.Hosts.{HostState, IsHost}
-use Rattle.mk_heap.proofs.BeforeOver.{joined_overs}
+use Rattle.mk_laws.proofs.Vocabulary.{IsHistory, ap, subst, sym, ◌∙◌, ◌≡◌}
 use Rattle.mk_heap.proofs.HostsKept.{home_host, home_is, home_view, is_home, joined_is_host}
-use Rattle.mk_heap.proofs.MarkersKept.{out_is_done}
-use Rattle.mk_heap.proofs.UnsweptHosts.{grown_sweeps}
+use Rattle.mk_heap.proofs.{BeforeOver.joined_overs, MarkersKept.out_is_done, UnsweptHosts.grown_sweeps}
+use Rattle.mk_heap.specs.Hosts.{HostState, IsHost}
 use Rattle.mk_turns.specs.Sweeping.{SweepsNothing}
+use Rattle.mk_words.specs.{Seats.has_over, States.PassState, States.WordsState}
 use Rattle.mk_heap.proofs.hosts.Host.join_marker.Goals as goal
 
 pub invariant_of-self : goal.invariant_of-self

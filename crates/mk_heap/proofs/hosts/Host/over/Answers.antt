@@ -1,18 +1,12 @@
-use Rattle.std.proofs.Common.{refl, sym, subst}
-use Rattle.mk_core.specs.declared.events.Step.TheVariants as step
-use Rattle.mk_words.specs.States.{PassState}
-use Rattle.mk_cycle.specs.EngineLaw.{IsAtPhase}
-use Rattle.mk_cycle.proofs.Allowed.{in_turn, in_turn_after}
-use Rattle.mk_heap.specs.Ending.{CallersAreJoined, SaysOver}
-use Rattle.mk_heap.specs.Hosts.{HostState}
-use Rattle.mk_heap.proofs.HomeCallers.{callers_home}
-use Rattle.mk_heap.proofs.HostsKept.{home_host, home_is, home_view, is_home}
-use Rattle.mk_heap.proofs.IdleTurns.{tidy_kept}
-use Rattle.mk_heap.proofs.MovedHosts.{idle_moves, moved_is_host, moves_more}
-use Rattle.mk_heap.proofs.Overs.{give_allowed, over_keeps, over_may_give}
-use Rattle.mk_heap.proofs.Telling.{given_no_turn}
-use Rattle.mk_heap.proofs.UnsweptHosts.{given_sweeps, idle_then_sweeps}
+use Rattle.mk_laws.proofs.Vocabulary.{Step, refl, subst, sym}
+use Rattle.mk_cycle.{proofs.Allowed.in_turn, proofs.Allowed.in_turn_after, specs.EngineLaw.IsAtPhase}
+use Rattle.mk_heap.proofs.{HomeCallers.callers_home, HostsKept.home_host, HostsKept.home_is, HostsKept.home_view}
+use Rattle.mk_heap.proofs.{HostsKept.is_home, IdleTurns.tidy_kept, MovedHosts.idle_moves, MovedHosts.moved_is_host}
+use Rattle.mk_heap.proofs.{MovedHosts.moves_more, Overs.give_allowed, Overs.over_keeps, Overs.over_may_give}
+use Rattle.mk_heap.proofs.{Telling.given_no_turn, UnsweptHosts.given_sweeps, UnsweptHosts.idle_then_sweeps}
+use Rattle.mk_heap.specs.{Ending.CallersAreJoined, Ending.SaysOver, Hosts.HostState}
 use Rattle.mk_turns.specs.Sweeping.{SweepsNothing}
+use Rattle.mk_words.specs.States.{PassState}
 use Rattle.mk_heap.proofs.hosts.Host.over.Goals as goal
 
 pub give-back-requires-clause-enabled : goal.give-back-requires-clause-enabled
@@ -44,8 +38,8 @@ invariant_of-self g c =
     let q : PassState = c.over.new.self.pass in
     let r : PassState = c.give-back.result in
     let idle = idle_moves h.pass p c.take_idle_turn-turn.ensures.takes in
-    let said = moves_more h.pass p q step.Over idle c.over.ensures.acts.makes in
-    moved_is_host h r is (moves_more h.pass q r step.Give said c.give-back.ensures.acts.makes)
+    let said = moves_more h.pass p q Step.Over idle c.over.ensures.acts.makes in
+    moved_is_host h r is (moves_more h.pass q r Step.Give said c.give-back.ensures.acts.makes)
     c.give-back.ensures.acts.makes.pass.history (given_no_turn q r c.give-back.ensures.acts)
 
 pub returns-clause-bench : goal.returns-clause-bench

@@ -1,18 +1,13 @@
-use Rattle.std.proofs.Common.{◌≡◌, ◌∙◌, refl, ap, subst}
-use Rattle.mk_core.specs.declared.events.Seat.{Seat}
-use Rattle.mk_core.specs.declared.events.Seat.TheVariants.{Host}
-use Rattle.mk_core.specs.declared.events.Step.TheVariants as step
-use Rattle.mk_words.specs.Seats.{Has, has_over}
-use Rattle.mk_words.specs.States.{PassState}
-use Rattle.mk_heap.specs.Hosts.{HostState}
+use Rattle.mk_laws.proofs.Vocabulary.{Host, Seat, Step, ap, refl, subst, ◌∙◌, ◌≡◌}
+use Rattle.mk_cycle.proofs.Allowed.{in_turn, in_turn_after}
 use Rattle.mk_heap.proofs.BeforeOver.{hosts_seat, step_overs, taken_overs}
 use Rattle.mk_heap.proofs.HostsKept.{home_host, home_is, home_view, is_home}
 use Rattle.mk_heap.proofs.MovedHosts.{moved_is_host, moves_more, turn_moves}
-use Rattle.mk_cycle.proofs.Allowed.{in_turn, in_turn_after}
-use Rattle.mk_heap.proofs.Overs.{give_allowed}
-use Rattle.mk_heap.proofs.Telling.{look_admitted, look_tidy, looked_may_give, given_no_turn}
-use Rattle.mk_heap.proofs.UnsweptHosts.{given_sweeps, taken_then_sweeps}
+use Rattle.mk_heap.proofs.Telling.{given_no_turn, look_admitted, look_tidy, looked_may_give}
+use Rattle.mk_heap.proofs.{Overs.give_allowed, UnsweptHosts.given_sweeps, UnsweptHosts.taken_then_sweeps}
+use Rattle.mk_heap.specs.Hosts.{HostState}
 use Rattle.mk_turns.specs.Sweeping.{SweepsNothing}
+use Rattle.mk_words.specs.{Seats.Has, Seats.has_over, States.PassState}
 use Rattle.mk_heap.proofs.hosts.Host.tell.Goals as goal
 
 pub look-found-requires-clause-admitted : goal.look-found-requires-clause-admitted
@@ -55,8 +50,8 @@ invariant_of-self g c =
     let q : PassState = c.look-found.new.self.pass in
     let r : PassState = c.give-back.result in
     moved_is_host h r is
-    (moves_more h.pass q r step.Give
-    (moves_more h.pass p q (step.Look c.args.x) (turn_moves h.pass p c.take_turn-turn.ensures.takes)
+    (moves_more h.pass q r Step.Give
+    (moves_more h.pass p q (Step.Look c.args.x) (turn_moves h.pass p c.take_turn-turn.ensures.takes)
     c.look-found.ensures.acts.makes)
     c.give-back.ensures.acts.makes)
     c.give-back.ensures.acts.makes.pass.history (given_no_turn q r c.give-back.ensures.acts)
@@ -73,10 +68,10 @@ returns-clause-overs g c =
     let q : PassState = c.look-found.new.self.pass in
     let r : PassState = c.give-back.result in
     let taken = turn_moves h.pass p c.take_turn-turn.ensures.takes in
-    let looked = moves_more h.pass p q (step.Look c.args.x) taken c.look-found.ensures.acts.makes in
+    let looked = moves_more h.pass p q (Step.Look c.args.x) taken c.look-found.ensures.acts.makes in
     let own = c.is_in_order.ensures.own in
-    step_overs q r step.Give c.give-back.ensures.acts.makes (hosts_seat h q is own looked) refl
-    ∙ step_overs p q (step.Look c.args.x) c.look-found.ensures.acts.makes (hosts_seat h p is own taken) refl
+    step_overs q r Step.Give c.give-back.ensures.acts.makes (hosts_seat h q is own looked) refl
+    ∙ step_overs p q (Step.Look c.args.x) c.look-found.ensures.acts.makes (hosts_seat h p is own taken) refl
     ∙ taken_overs h.pass p c.take_turn-turn.ensures.takes (subst (λ (x : Seat). Has h.pass.seats x) is.seat own)
     c.is_in_order-2.ensures.history
     ∙ ap (λ (g : HostState). has_over g.pass.seen) view

@@ -1,8 +1,7 @@
-use Rattle.std.proofs.Common.{subst, ap, sym, ◌∙◌, ◌%◌}
-use Rattle.std.proofs.lemmas.Bool.{eqb-false}
-use Rattle.mk_words.specs.States.{PassState, WordsState}
-use Rattle.mk_marker.specs.Working.{FindsNoWork, ScansACell}
+use Rattle.mk_laws.proofs.Vocabulary.{ap, eqb-false, subst, sym, ◌%◌, ◌∙◌}
 use Rattle.mk_marker.proofs.Worked.{finds_no_work, scans_a_cell}
+use Rattle.mk_marker.specs.Working.{FindsNoWork, ScansACell}
+use Rattle.mk_words.specs.States.{PassState, WordsState}
 use Rattle.mk_marker.proofs.markers.Marker.work.Goals as goal
 
 pub returns-in-Some-clause-cause : goal.returns-in-Some-clause-cause

@@ -1,5 +1,4 @@
-use Rattle.std.proofs.Common.{◌≡◌, ◌+◌, ◌*◌, ◌%◌, ◌^◌, ap, ◌∙◌, arith}
-use Rattle.mk_geom.specs.Addresses.{address_of}
+use Rattle.mk_laws.proofs.Vocabulary.{address_of, ap, arith, ◌%◌, ◌*◌, ◌+◌, ◌^◌, ◌∙◌, ◌≡◌}
 use Rattle.mk_objects.proofs.objects.Shape.address.Goals as goal
 
 pub returns : goal.returns

@@ -1,8 +1,8 @@
-use Rattle.std.proofs.Common.{◌≤◌, ◌*◌, arith}
 use Rattle.std.proofs.Math.Nat.{mul-le-mul}
+use Rattle.mk_laws.proofs.Vocabulary.{arith, ◌*◌, ◌≤◌}
 use Rattle.mk_geom.proofs.ClassTable.{class_words_within}
-use Rattle.mk_objects.proofs.objects.Shape.first_word.Goals as goal
 use Rattle.mk_objects.proofs.objects.Shape.first_word.Goals.{After-class_words}
+use Rattle.mk_objects.proofs.objects.Shape.first_word.Goals as goal
 
 -- a cell begins within the page
 within : (c : After-class_words) → c.args.index * c.class_words.result ≤ 64 * 32

@@ -1,8 +1,5 @@
-use Rattle.std.proofs.Common.{ap, ◌∙◌, arith}
-use Rattle.mk_page_map.specs.Members.{has_free_cell}
-use Rattle.mk_page_map.specs.PageSets.{is_of_set}
-use Rattle.mk_page_map.proofs.BlockSets.{of_own_set}
-use Rattle.mk_page_map.proofs.Reading.{first_of_set}
+use Rattle.mk_page_map.proofs.Vocabulary.{ap, arith, has_free_cell, is_of_set, ◌∙◌}
+use Rattle.mk_page_map.proofs.{BlockSets.of_own_set, Reading.first_of_set}
 use Rattle.mk_page_map.proofs.page_map.PageMap.first_block.Goals as goal
 
 pub returns : goal.returns

@@ -1,5 +1,4 @@
-use Rattle.std.proofs.Common.{refl, arith}
-use Rattle.mk_geom.specs.PageUses.{is_free_page}
+use Rattle.mk_page_map.proofs.Vocabulary.{arith, is_free_page, refl}
 use Rattle.mk_page_map.proofs.Reading.{first_of_set, no_others_there}
 use Rattle.mk_page_map.proofs.page_map.PageMap.first_free.Goals as goal
 

@@ -1,14 +1,11 @@
-use Rattle.std.proofs.Common.{◌≡◌, ℕ, ◌<◌, ◌≤◌, Some, None, length, refl, subst, ap, sym, ◌∙◌, arith}
 use Rattle.std.specs.Option.{unwrap_or}
-use Rattle.mk_geom.specs.PageUses.{range_start}
-use Rattle.mk_geom.specs.PageWords.{uses_of_pages}
-use Rattle.mk_books.proofs.FreeRangeLemmas.{range_start_from}
-use Rattle.mk_page_map.specs.Members.{IsNext, is_in_use}
+use Rattle.mk_page_map.proofs.Vocabulary.{IsNext, None, Some, ℕ, ap, arith, is_in_use, length, range_start}
+use Rattle.mk_page_map.proofs.Vocabulary.{range_start_from, refl, subst, sym, uses_of_pages, ◌<◌, ◌∙◌, ◌≡◌, ◌≤◌}
 use Rattle.mk_page_map.proofs.FreeRanges.{IsRange, is_free_at, lowest_page_is_range, no_range, past_pages_in_use}
 use Rattle.mk_page_map.proofs.FreeRanges.{range_from, range_is_long, range_is_short}
 use Rattle.mk_page_map.proofs.Reading.{next_of_held, no_others_there}
-use Rattle.mk_page_map.proofs.page_map.PageMap.first_range.Goals as goal
 use Rattle.mk_page_map.proofs.page_map.PageMap.first_range.Goals.{After-unwrap_or-end}
+use Rattle.mk_page_map.proofs.page_map.PageMap.first_range.Goals as goal
 
 pub returns-then-count-eq1 : goal.returns-then-count-eq1
 returns-then-count-eq1 c pages freed shows =

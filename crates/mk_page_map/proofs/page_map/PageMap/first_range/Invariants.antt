@@ -1,7 +1,4 @@
-use Rattle.std.proofs.Common.{◌≡◌, ◌≤◌, ◌-◌}
-use Rattle.mk_geom.specs.PageUses.{range_start}
-use Rattle.mk_geom.specs.PageWords.{uses_of_pages}
-use Rattle.mk_books.proofs.FreeRangeLemmas.{range_start_from}
+use Rattle.mk_page_map.proofs.Vocabulary.{range_start, range_start_from, uses_of_pages, ◌-◌, ◌≡◌, ◌≤◌}
 use Rattle.mk_page_map.proofs.page_map.PageMap.first_range.Given as goal
 
 abbrev pub invariant-loop-start : goal.invariant-loop-start

@@ -1,18 +1,11 @@
-use Rattle.std.proofs.Common.{◌≡◌, ℕ, ◌+◌, ◌<◌, ◌≤◌, true, List, ◌++◌, set, take, drop, ◌∙◌, ap, arith, length}
-use Rattle.std.proofs.Common.{length-set, sym}
-use Rattle.mk_geom.specs.declared.pages.Page.{Page}
-use Rattle.mk_geom.specs.Headers.{header_of}
-use Rattle.mk_geom.specs.PageUses.{is_free_page}
-use Rattle.mk_geom.specs.PageWords.{use_under}
-use Rattle.mk_page_map.specs.Members.{page_at}
-use Rattle.mk_page_map.specs.PageSets.{is_of_set}
-use Rattle.mk_page_map.proofs.Fitting.{resident_one}
-use Rattle.mk_page_map.proofs.FreeSets.{written}
+use Rattle.mk_page_map.proofs.Vocabulary.{List, Page, ℕ, ap, arith, drop, is_free_page, is_of_set, length, length-set}
+use Rattle.mk_page_map.proofs.Vocabulary.{page_at, set, sym, take, true, ◌++◌, ◌+◌, ◌<◌, ◌∙◌, ◌≡◌, ◌≤◌}
+use Rattle.mk_geom.specs.{Headers.header_of, PageWords.use_under}
 use Rattle.mk_page_map.proofs.Storing.{Stores, counted_anew, page_read, page_within, resident_byte, store_fits}
 use Rattle.mk_page_map.proofs.Storing.{store_shows}
 use Rattle.mk_page_map.proofs.Uncleaned.{others_kept, this_uncleaned}
+use Rattle.mk_page_map.proofs.{Fitting.resident_one, FreeSets.written, page_map.PageMap.header_stored.Goals.After-from}
 use Rattle.mk_page_map.proofs.page_map.PageMap.header_stored.Goals as goal
-use Rattle.mk_page_map.proofs.page_map.PageMap.header_stored.Goals.{After-from}
 
 abbrev now : After-from → Page
 now c = record { header = c.args.header; used = c.index.result.now.used }

@@ -1,10 +1,5 @@
-use Rattle.std.proofs.Common.{◌≡◌, List, replicate, subst, sym}
-use Rattle.mk_geom.specs.declared.pages.Page.{Page}
-use Rattle.mk_geom.specs.Storages.{free_page}
-use Rattle.mk_page_map.specs.KnownPages.{Shows}
-use Rattle.mk_page_map.specs.PageSets.{FitPages}
-use Rattle.mk_page_map.proofs.FreeSets.{free_fits, free_shows}
-use Rattle.mk_page_map.proofs.Showing.{known_by}
+use Rattle.mk_page_map.proofs.Vocabulary.{FitPages, List, Page, Shows, free_page, replicate, subst, sym, ◌≡◌}
+use Rattle.mk_page_map.proofs.{FreeSets.free_fits, FreeSets.free_shows, Showing.known_by}
 use Rattle.mk_page_map.proofs.page_map.PageMap.new.Goals as goal
 
 pub invariant_of-result : goal.invariant_of-result

@@ -1,5 +1,4 @@
-use Rattle.std.proofs.Common.{refl, arith}
-use Rattle.mk_page_map.specs.Members.{is_in_use}
+use Rattle.mk_page_map.proofs.Vocabulary.{arith, is_in_use, refl}
 use Rattle.mk_page_map.proofs.Reading.{next_of_set, no_others_there}
 use Rattle.mk_page_map.proofs.page_map.PageMap.next_in_use.Goals as goal
 

@@ -1,7 +1,6 @@
-use Rattle.std.proofs.Common.{arith}
+use Rattle.mk_page_map.proofs.Vocabulary.{arith}
+use Rattle.mk_page_map.proofs.{Reading.next_of_quarantine, Reading.no_others_there, Showing.member_of_freed}
 use Rattle.mk_page_map.specs.Members.{has_freed_cells}
-use Rattle.mk_page_map.proofs.Reading.{next_of_quarantine, no_others_there}
-use Rattle.mk_page_map.proofs.Showing.{member_of_freed}
 use Rattle.mk_page_map.proofs.page_map.PageMap.next_quarantined.Goals as goal
 
 pub next_page-requires-clause-no_others : goal.next_page-requires-clause-no_others

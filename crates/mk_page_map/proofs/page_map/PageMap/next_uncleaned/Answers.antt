@@ -1,6 +1,5 @@
-use Rattle.std.proofs.Common.{arith}
-use Rattle.mk_page_map.proofs.Reading.{no_others_there}
-use Rattle.mk_page_map.proofs.Uncleaned.{next_of_uncleaned}
+use Rattle.mk_page_map.proofs.Vocabulary.{arith}
+use Rattle.mk_page_map.proofs.{Reading.no_others_there, Uncleaned.next_of_uncleaned}
 use Rattle.mk_page_map.proofs.page_map.PageMap.next_uncleaned.Goals as goal
 
 pub next_page-requires-clause-no_others : goal.next_page-requires-clause-no_others

@@ -1,9 +1,7 @@
-use Rattle.std.proofs.Common.{◌≡◌, ◌<◌, ◌++◌, take, drop, arith, length}
-use Rattle.mk_page_map.proofs.FreeSets.{written}
-use Rattle.mk_page_map.proofs.Storing.{page_within}
+use Rattle.mk_page_map.proofs.Vocabulary.{arith, drop, length, take, ◌++◌, ◌<◌, ◌≡◌}
 use Rattle.mk_page_map.proofs.Uncleaned.{ChangesUncleaned, others_uncleaned, still_fits, still_shows, this_uncleaned}
+use Rattle.mk_page_map.proofs.{FreeSets.written, Storing.page_within, page_map.PageMap.put_uncleaned.Goals.After-put}
 use Rattle.mk_page_map.proofs.page_map.PageMap.put_uncleaned.Goals as goal
-use Rattle.mk_page_map.proofs.page_map.PageMap.put_uncleaned.Goals.{After-put}
 
 within : (c : After-put) → c.args.page < length c.self.inside.pages.items
 within c = page_within c.args.self.now c.self.inside.pages.items c.self.inside.sets.items c.args.page c.self.view_is

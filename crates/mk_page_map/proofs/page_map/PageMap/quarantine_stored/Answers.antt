@@ -1,13 +1,9 @@
-use Rattle.std.proofs.Common.{◌≡◌, ℕ, ◌<◌, List, ◌++◌, set, take, drop, ◌∙◌, ap, arith, length, refl, subst, sym}
-use Rattle.mk_page_map.specs.KnownPages.{KnownPages, Shows}
-use Rattle.mk_page_map.specs.PageSets.{FitPages, OthersStay, is_member}
-use Rattle.mk_page_map.proofs.Fitting.{fit_again}
-use Rattle.mk_page_map.proofs.FreeSets.{written}
+use Rattle.mk_page_map.proofs.Vocabulary.{FitPages, KnownPages, List, OthersStay, Shows, ℕ, ap, arith, drop, is_member}
+use Rattle.mk_page_map.proofs.Vocabulary.{length, refl, set, subst, sym, take, ◌++◌, ◌<◌, ◌∙◌, ◌≡◌}
 use Rattle.mk_page_map.proofs.Showing.{known_by, quarantine_shows}
-use Rattle.mk_page_map.proofs.Storing.{page_within}
-use Rattle.mk_page_map.proofs.Uncleaned.{all_kept}
-use Rattle.mk_page_map.proofs.page_map.PageMap.quarantine_stored.Goals as goal
 use Rattle.mk_page_map.proofs.page_map.PageMap.quarantine_stored.Goals.{After-sort_by_quarantine}
+use Rattle.mk_page_map.proofs.{Fitting.fit_again, FreeSets.written, Storing.page_within, Uncleaned.all_kept}
+use Rattle.mk_page_map.proofs.page_map.PageMap.quarantine_stored.Goals as goal
 
 within : (c : After-sort_by_quarantine) → c.args.page < length c.self.inside.pages.items
 within c = page_within c.args.self.now c.self.inside.pages.items c.self.inside.sets.items c.args.page c.self.view_is

@@ -1,13 +1,9 @@
-use Rattle.std.proofs.Common.{◌≡◌, ℕ, ◌<◌, List, ◌++◌, set, take, drop, ◌∙◌, ap, arith, length, length-set, sym}
-use Rattle.mk_geom.specs.declared.pages.Page.{Page}
-use Rattle.mk_geom.specs.PageWords.{use_of_page}
-use Rattle.mk_page_map.specs.Members.{page_at}
-use Rattle.mk_page_map.specs.PageSets.{is_member, is_of_set}
+use Rattle.mk_page_map.proofs.Vocabulary.{List, Page, ℕ, ap, arith, drop, is_member, is_of_set, length, length-set}
+use Rattle.mk_page_map.proofs.Vocabulary.{page_at, set, sym, take, use_of_page, ◌++◌, ◌<◌, ◌∙◌, ◌≡◌}
 use Rattle.mk_page_map.proofs.FreeSets.{written}
-use Rattle.mk_page_map.proofs.Uncleaned.{all_kept}
 use Rattle.mk_page_map.proofs.Storing.{Stores, page_read, page_within, same_count, store_fits, store_shows}
+use Rattle.mk_page_map.proofs.{Uncleaned.all_kept, page_map.PageMap.used_stored.Goals.After-sort_by_used}
 use Rattle.mk_page_map.proofs.page_map.PageMap.used_stored.Goals as goal
-use Rattle.mk_page_map.proofs.page_map.PageMap.used_stored.Goals.{After-sort_by_used}
 
 abbrev now : After-sort_by_used → Page
 now c = record { header = c.index.result.now.header; used = c.args.used }

@@ -1,6 +1,6 @@
-use Rattle.std.proofs.Common.{◌≡◌, length}
-use Rattle.std.specs.Prelude.{All}
-use Rattle.mk_run.specs.Benches.{IsMadeFor}
+use Rattle.std.proofs.Common.{All}
+use Rattle.mk_laws.proofs.Vocabulary.{length, ◌≡◌}
+use Rattle.mk_run.proofs.Vocabulary.{IsMadeFor}
 use Rattle.mk_run.proofs.benches.Benches.new.Given as goal
 
 abbrev pub invariant-loop-bench : goal.invariant-loop-bench

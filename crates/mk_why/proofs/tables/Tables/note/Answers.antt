@@ -1,6 +1,5 @@
-use Rattle.std.proofs.Common.{◌∙◌, ap, arith, length, refl, sym}
-use Rattle.std.specs.Prelude.{None, is_some}
 use Rattle.std.proofs.lemmas.List.{get_or_read_under}
+use Rattle.mk_laws.proofs.Vocabulary.{None, ap, arith, is_some, length, refl, sym, ◌∙◌}
 use Rattle.mk_why.proofs.Counts.{room_left}
 use Rattle.mk_why.proofs.tables.Tables.note.Goals as goal
 

@@ -1,16 +1,10 @@
-use Rattle.std.proofs.Common.{◌≡◌, ℕ, ◌<◌, ◌∙◌, List, ◌∷◌, sym, ap, subst, arith}
-use Rattle.atomic_table.specs.Table.{rest}
+use Rattle.mk_laws.proofs.Vocabulary.{List, Step, ℕ, ap, arith, subst, sym, ◌<◌, ◌∙◌, ◌∷◌, ◌≡◌}
 use Rattle.mk_page_map.specs.KnownPages.{KnownPages}
-use Rattle.mk_core.specs.declared.events.Step.TheVariants as step
-use Rattle.mk_words.specs.PageMaps.{IsMapOf, no_map}
+use Rattle.atomic_table.specs.Table.{rest}
+use Rattle.mk_words.proofs.HandingCalls.{order_of_view, take_access, take_order, take_tells, taken_learns, took}
+use Rattle.mk_words.proofs.{MapSteps.page_known, Owed.same_id, handing.SeatToken.take.Goals.After-exchange-home}
 use Rattle.mk_words.specs.States.{PassState, WordsState, now_of}
-use Rattle.mk_words.specs.Rule.{Mine}
-use Rattle.mk_words.specs.Passes.{state_of}
-use Rattle.mk_words.specs.Steps.{May, Tells}
-use Rattle.mk_words.proofs.Owed.{same_id}
-use Rattle.mk_words.proofs.HandingCalls.{take_access, take_tells, take_order, taken_learns, order_of_view, took}
-use Rattle.mk_words.proofs.MapSteps.{page_known}
-use Rattle.mk_words.proofs.handing.SeatToken.take.Goals.{After-exchange-home}
+use Rattle.mk_words.specs.{PageMaps.IsMapOf, PageMaps.no_map, Passes.state_of, Rule.Mine, Steps.May, Steps.Tells}
 use Rattle.mk_words.proofs.handing.SeatToken.take.Goals as goal
 
 pub take_as-found-requires-clause-one_table : goal.take_as-found-requires-clause-one_table
@@ -19,7 +13,7 @@ take_as-found-requires-clause-one_table c =
 
 pub take_as-found-requires-clause-may : goal.take_as-found-requires-clause-may
 take_as-found-requires-clause-may c =
-    subst (λ (r : PassState). May r (step.Take c.args.op)) (sym c.self.view_is)
+    subst (λ (r : PassState). May r (Step.Take c.args.op)) (sym c.self.view_is)
     (record { enabled = c.requires.enabled; admitted = λ e. cc; tidy = λ e. cc; home = λ e. cc })
 
 pub take_as-found-requires-clause-access : goal.take_as-found-requires-clause-access
@@ -41,7 +35,7 @@ exchange-home-requires c =
 
 -- what a token learns that has taken the map out of the slot
 learns : (c : After-exchange-home)
-    → Tells c.args.self (step.Take c.args.op) 0
+    → Tells c.args.self (Step.Take c.args.op) 0
     (state_of c.exchange-home.new.seat.table_id c.exchange-home.new.seat.me c.self.inside.seat)
     × IsMapOf c.exchange-home.result
     (now_of (state_of c.exchange-home.new.seat.table_id c.exchange-home.new.seat.me c.self.inside.seat)).words
@@ -104,7 +98,7 @@ pub returns-else-found-eq0-clause-missed : goal.returns-else-found-eq0-clause-mi
 returns-else-found-eq0-clause-missed c =
     let p = c.self.inside in
     let f = c.take_as-found in
-    subst (λ (r : PassState). Tells r (step.Take c.args.op) f.result
+    subst (λ (r : PassState). Tells r (Step.Take c.args.op) f.result
     (state_of f.new.token.table_id f.new.token.me p.seat)) c.self.view_is
     (take_tells p.token.table_id f.new.token.table_id p.token.me f.new.token.me p.seat c.args.op
     c.turn_word-number.result f.result f.ensures.table

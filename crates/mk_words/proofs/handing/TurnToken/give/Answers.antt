@@ -1,16 +1,10 @@
-use Rattle.std.proofs.Common.{◌≡◌, ℕ, ◌∙◌, List, [], ◌∷◌, sym, ap, subst}
-use Rattle.atomic_table.specs.Table.{rest}
+use Rattle.mk_laws.proofs.Vocabulary.{Holds, List, Step, ℕ, ap, subst, sym, [], ◌∙◌, ◌∷◌, ◌≡◌}
 use Rattle.mk_page_map.specs.KnownPages.{KnownPages}
-use Rattle.mk_core.specs.declared.events.Step.TheVariants as step
-use Rattle.mk_core.specs.Readings.{Holds}
-use Rattle.mk_words.specs.PageMaps.{IsMapOf}
-use Rattle.mk_words.specs.States.{PassState, now_of}
-use Rattle.mk_words.specs.Rule.{Mine}
-use Rattle.mk_words.specs.Passes.{state_of, IsInOrder}
-use Rattle.mk_words.specs.Steps.{May, Makes}
-use Rattle.mk_words.proofs.Owed.{same_id}
+use Rattle.atomic_table.specs.Table.{rest}
 use Rattle.mk_words.proofs.HandingCalls.{give_makes, give_order, order_of_view, still_state, took}
-use Rattle.mk_words.proofs.handing.TurnToken.give.Goals.{After-exchange-empty}
+use Rattle.mk_words.proofs.{Owed.same_id, handing.TurnToken.give.Goals.After-exchange-empty}
+use Rattle.mk_words.specs.Passes.{IsInOrder, state_of}
+use Rattle.mk_words.specs.{PageMaps.IsMapOf, Rule.Mine, States.PassState, States.now_of, Steps.Makes, Steps.May}
 use Rattle.mk_words.proofs.handing.TurnToken.give.Goals as goal
 
 pub exchange-empty-requires : goal.exchange-empty-requires
@@ -53,7 +47,7 @@ give_as-requires-clause-one_table c =
 
 pub give_as-requires-clause-may : goal.give_as-requires-clause-may
 give_as-requires-clause-may c =
-    subst (λ (r : PassState). May r step.Give) (sym (same_pass
+    subst (λ (r : PassState). May r Step.Give) (sym (same_pass
     (goal.at.give_as-requires-clause-may c).After-exchange-empty)) c.requires.may
 
 pub give_as-requires-clause-holds : goal.give_as-requires-clause-holds
@@ -86,7 +80,7 @@ pub returns : goal.returns
 returns c =
     let x = c.exchange-empty.new.seat in
     let f = c.give_as in
-    subst (λ (r : PassState). Makes r step.Give (state_of f.new.token.table_id f.new.token.me c.self.inside.seat))
+    subst (λ (r : PassState). Makes r Step.Give (state_of f.new.token.table_id f.new.token.me c.self.inside.seat))
     (same_pass (goal.at.returns c).After-exchange-empty)
     (give_makes x.table_id f.new.token.table_id x.me f.new.token.me c.self.inside.seat f.ensures.table
     (order_then (goal.at.returns c).After-exchange-empty) f.ensures.told)

@@ -1,14 +1,13 @@
-use Rattle.std.proofs.Common.{refl}
-use Rattle.mk_core.specs.declared.events.Step.TheVariants as step
+use Rattle.mk_laws.proofs.Vocabulary.{Step, refl}
 use Rattle.mk_words.proofs.CallSteps.{goes_on, keeps}
 use Rattle.mk_words.proofs.passes.Pass.dirty.Goals as goal
 
 pub returns-clause-goes : goal.returns-clause-goes
 returns-clause-goes c =
     let f = c.perform_among in
-    goes_on c.args.self.now step.Dirty f.result f.new.self f.ensures.told refl _ refl
+    goes_on c.args.self.now Step.Dirty f.result f.new.self f.ensures.told refl _ refl
 
 pub returns-clause-registers : goal.returns-clause-registers
 returns-clause-registers c =
     let f = c.perform_among in
-    keeps c.args.self.now step.Dirty f.result f.new.self f.ensures.told refl refl
+    keeps c.args.self.now Step.Dirty f.result f.new.self f.ensures.told refl refl

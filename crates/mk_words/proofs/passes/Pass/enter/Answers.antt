@@ -1,6 +1,4 @@
-use Rattle.std.proofs.Common.{refl}
-use Rattle.mk_core.specs.declared.events.Step.TheVariants as step
-use Rattle.mk_words.proofs.CallSteps.{enter_goes, enter_waits, enter_keeps, enter_held}
+use Rattle.mk_words.proofs.CallSteps.{enter_goes, enter_held, enter_keeps, enter_waits}
 use Rattle.mk_words.proofs.passes.Pass.enter.Goals as goal
 
 pub returns-then-found-eq0-clause-goes : goal.returns-then-found-eq0-clause-goes

@@ -1,5 +1,3 @@
-use Rattle.std.proofs.Common.{refl}
-use Rattle.mk_core.specs.declared.events.Step.TheVariants as step
 use Rattle.mk_words.proofs.CallSteps.{load_finds, load_goes, load_keeps, load_own}
 use Rattle.mk_words.proofs.passes.Pass.reg_load.Goals as goal
 

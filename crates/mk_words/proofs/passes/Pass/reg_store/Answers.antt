@@ -1,5 +1,3 @@
-use Rattle.std.proofs.Common.{refl}
-use Rattle.mk_core.specs.declared.events.Step.TheVariants as step
 use Rattle.mk_words.proofs.CallSteps.{store_goes, store_keeps, store_stored}
 use Rattle.mk_words.proofs.passes.Pass.reg_store.Goals as goal
 

@@ -1,7 +1,7 @@
-use Rattle.std.proofs.Common.{sym, refl, ap, arith}
-use Rattle.mk_words.specs.declared.homes.Carried.{Carried}
+use Rattle.mk_laws.proofs.Vocabulary.{ap, arith, refl, sym}
+use Rattle.mk_words.proofs.TurnSteps.{take_counts, take_finds, take_waits, takes, takes_fresh}
 use Rattle.mk_words.proofs.MapSteps.{as_carried, shows_that}
-use Rattle.mk_words.proofs.TurnSteps.{takes, take_finds, takes_fresh, take_counts, take_waits}
+use Rattle.mk_words.specs.declared.homes.Carried.{Carried}
 use Rattle.mk_words.proofs.passes.Pass.try_take.Goals as goal
 
 pub invariant_of-result : goal.invariant_of-result

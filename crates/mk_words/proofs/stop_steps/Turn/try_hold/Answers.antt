@@ -1,4 +1,4 @@
-use Rattle.std.proofs.Common.{sym, ◌∙◌}
+use Rattle.mk_laws.proofs.Vocabulary.{sym, ◌∙◌}
 use Rattle.mk_words.proofs.TurnSteps.{hold_finds, hold_holds, hold_misses}
 use Rattle.mk_words.proofs.stop_steps.Turn.try_hold.Goals as goal
 

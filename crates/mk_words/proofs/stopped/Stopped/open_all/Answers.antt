@@ -1,7 +1,6 @@
-use Rattle.std.proofs.Common.{◌≡◌, ◌≤◌, sym, ◌∙◌, ap, subst, arith}
-use Rattle.mk_words.specs.States.{WordsState, TurnState}
-use Rattle.mk_words.specs.Opening.{OthersMayOpen, Opens}
-use Rattle.mk_words.proofs.Opening.{opens_none, one_round, all_opened}
+use Rattle.mk_laws.proofs.Vocabulary.{ap, arith, subst, sym, ◌∙◌, ◌≡◌, ◌≤◌}
+use Rattle.mk_words.proofs.Opening.{all_opened, one_round, opens_none}
+use Rattle.mk_words.specs.{Opening.Opens, Opening.OthersMayOpen, States.TurnState, States.WordsState}
 use Rattle.mk_words.proofs.stopped.Stopped.open_all.Goals as goal
 
 pub loop-caller-init : goal.loop-caller-init

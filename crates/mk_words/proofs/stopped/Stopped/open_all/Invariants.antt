@@ -1,5 +1,5 @@
-use Rattle.std.proofs.Common.{◌≡◌, ◌≤◌, ◌-◌}
-use Rattle.mk_words.specs.Opening.{OthersMayOpen, Opens, AreOpened}
+use Rattle.mk_laws.proofs.Vocabulary.{◌-◌, ◌≡◌, ◌≤◌}
+use Rattle.mk_words.specs.Opening.{AreOpened, Opens, OthersMayOpen}
 use Rattle.mk_words.proofs.stopped.Stopped.open_all.Given as goal
 
 abbrev pub invariant-loop-caller : goal.invariant-loop-caller

@@ -1,5 +1,4 @@
-use Rattle.std.proofs.Common.{ℕ, ap}
-use Rattle.mk_core.specs.declared.accesses.Access.TheVariants.{Store}
+use Rattle.mk_laws.proofs.Vocabulary.{Store, ℕ, ap}
 use Rattle.mk_words.proofs.turn_steps.Turn.grant.Goals as goal
 
 pub perform-requires-clause-access : goal.perform-requires-clause-access

@@ -1,16 +1,13 @@
-use Rattle.std.proofs.Common.{subst}
-use Rattle.mk_core.specs.declared.events.Step.TheVariants as step
-use Rattle.mk_words.specs.States.{TurnState}
-use Rattle.mk_words.specs.TurnSteps.{Acts}
-use Rattle.mk_words.proofs.TurnSteps.{acts, gives_rest}
+use Rattle.mk_laws.proofs.Vocabulary.{Step, subst}
+use Rattle.mk_words.{proofs.TurnSteps.acts, proofs.TurnSteps.gives_rest, specs.States.TurnState, specs.TurnSteps.Acts}
 use Rattle.mk_words.proofs.turns.Turn.give.Goals as goal
 
 pub returns-clause-acts : goal.returns-clause-acts
 returns-clause-acts c =
     let f = c.give-own in
     let t = c.self.inside in
-    subst (λ (v : TurnState). Acts v.pass step.Give f.result) c.self.view_is
-    (acts t.pass step.Give f.result f.ensures c.self.invariant.turn.holds)
+    subst (λ (v : TurnState). Acts v.pass Step.Give f.result) c.self.view_is
+    (acts t.pass Step.Give f.result f.ensures c.self.invariant.turn.holds)
 
 pub returns-clause-rests : goal.returns-clause-rests
 returns-clause-rests c =

@@ -1,9 +1,6 @@
-use Rattle.std.proofs.Common.{subst}
-use Rattle.mk_words.specs.States.{TurnState}
-use Rattle.mk_words.specs.TurnSteps.{Acts}
-use Rattle.mk_words.proofs.TurnSteps.{acts}
-use Rattle.mk_words.proofs.FreeTurns.{hands_none}
-use Rattle.mk_words.proofs.MapSteps.{shows_still, turn_with_map}
+use Rattle.mk_laws.proofs.Vocabulary.{subst}
+use Rattle.mk_words.proofs.{FreeTurns.hands_none, MapSteps.shows_still, MapSteps.turn_with_map, TurnSteps.acts}
+use Rattle.mk_words.specs.{States.TurnState, TurnSteps.Acts}
 use Rattle.mk_words.proofs.turns.TurnAt.act_among.Goals as goal
 
 pub perform_among-requires-clause-hands_none : goal.perform_among-requires-clause-hands_none

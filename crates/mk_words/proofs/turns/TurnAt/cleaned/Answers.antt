@@ -1,7 +1,6 @@
-use Rattle.std.proofs.Common.{◌<◌, sym, subst}
-use Rattle.mk_words.specs.PageMaps.{HasNoMarks}
-use Rattle.mk_words.specs.States.{TurnState, now_of}
-use Rattle.mk_words.proofs.MapSteps.{map_cleaned, page_known, as_carried}
+use Rattle.mk_laws.proofs.Vocabulary.{subst, sym, ◌<◌}
+use Rattle.mk_words.proofs.MapSteps.{as_carried, map_cleaned, page_known}
+use Rattle.mk_words.specs.{PageMaps.HasNoMarks, States.TurnState, States.now_of}
 use Rattle.mk_words.proofs.turns.TurnAt.cleaned.Goals as goal
 
 pub cleaned-requires : goal.cleaned-requires

@@ -1,8 +1,6 @@
-use Rattle.std.proofs.Common.{◌≡◌, subst}
+use Rattle.mk_laws.proofs.Vocabulary.{subst, uses_of_pages, ◌≡◌}
 use Rattle.mk_geom.specs.PageUses.{first_where, is_free_page}
-use Rattle.mk_geom.specs.PageWords.{uses_of_pages}
-use Rattle.mk_words.specs.States.{TurnState, now_of}
-use Rattle.mk_words.proofs.MapSteps.{as_carried}
+use Rattle.mk_words.{proofs.MapSteps.as_carried, specs.States.TurnState, specs.States.now_of}
 use Rattle.mk_words.proofs.turns.TurnAt.first_free.Goals as goal
 
 pub returns : goal.returns

@@ -1,18 +1,14 @@
-use Rattle.std.proofs.Common.{refl, sym, subst}
-use Rattle.mk_core.specs.declared.events.Step.{Step}
-use Rattle.mk_core.specs.declared.events.Step.TheVariants as step
-use Rattle.mk_words.specs.States.{TurnState}
-use Rattle.mk_words.specs.Steps.{IsEnabledTo}
-use Rattle.mk_words.specs.TurnSteps.{Acts}
+use Rattle.mk_laws.proofs.Vocabulary.{Step, refl, subst, sym}
+use Rattle.mk_words.proofs.MapSteps.{as_carried, mark_known, shows_mark, turn_still}
 use Rattle.mk_words.proofs.TurnSteps.{acts}
-use Rattle.mk_words.proofs.MapSteps.{mark_known, shows_mark, as_carried, turn_still}
+use Rattle.mk_words.specs.{States.TurnState, Steps.IsEnabledTo, TurnSteps.Acts}
 use Rattle.mk_words.proofs.turns.TurnAt.mark.Goals as goal
 
 pub marked-requires : goal.marked-requires
 marked-requires g c =
     let t = c.self.inside in
     mark_known t.pass c.args.page c.args.v c.deref_mut.result.now.map
-    (subst (λ (v : TurnState). IsEnabledTo v.pass (step.Mark c.args.page c.args.v)) (sym c.self.view_is)
+    (subst (λ (v : TurnState). IsEnabledTo v.pass (Step.Mark c.args.page c.args.v)) (sym c.self.view_is)
     c.requires.enabled) (as_carried _ _ _ c.deref_mut.ensures.value c.self.invariant).shows
 
 pub invariant_of-self : goal.invariant_of-self
@@ -20,7 +16,7 @@ invariant_of-self g c =
     let f = c.perform in
     let t = c.self.inside in
     let held = as_carried _ _ _ c.deref_mut.ensures.value c.self.invariant in
-    let s : Step = step.Mark c.args.page c.args.v in
+    let s : Step = Step.Mark c.args.page c.args.v in
     let a = acts t.pass s f.new.self f.ensures.told.makes c.self.invariant.turn.holds in
     turn_still t.pass s f.new.self a c.deref_mut.result.now.op c.deref_mut.result.now.map c.marked.new.self
     refl
@@ -37,6 +33,6 @@ pub returns-clause-acts : goal.returns-clause-acts
 returns-clause-acts g c =
     let f = c.perform in
     let t = c.self.inside in
-    let s : Step = step.Mark c.args.page c.args.v in
+    let s : Step = Step.Mark c.args.page c.args.v in
     subst (λ (v : TurnState). Acts v.pass s f.new.self) c.self.view_is
     (acts t.pass s f.new.self f.ensures.told.makes c.self.invariant.turn.holds)

@@ -1,19 +1,14 @@
-use Rattle.std.proofs.Common.{◌≢◌, refl, sym, subst}
+use Rattle.mk_laws.proofs.Vocabulary.{Step, header_at, refl, subst, sym, ◌≢◌}
 use Rattle.mk_page_map.specs.KnownPages.{KnownPages}
-use Rattle.mk_core.specs.declared.events.Step.{Step}
-use Rattle.mk_core.specs.declared.events.Step.TheVariants as step
-use Rattle.mk_core.specs.Words.{header_at}
-use Rattle.mk_words.specs.States.{TurnState, now_of}
-use Rattle.mk_words.specs.TurnSteps.{Acts}
-use Rattle.mk_words.proofs.TurnSteps.{acts}
-use Rattle.mk_words.proofs.MapSteps.{shows_mark, turn_still, untold_mark}
+use Rattle.mk_words.proofs.{MapSteps.shows_mark, MapSteps.turn_still, MapSteps.untold_mark, TurnSteps.acts}
+use Rattle.mk_words.specs.{States.TurnState, States.now_of, TurnSteps.Acts}
 use Rattle.mk_words.proofs.turns.TurnAt.mark_in_use.Goals as goal
 
 pub invariant_of-self : goal.invariant_of-self
 invariant_of-self g c =
     let f = c.perform_among in
     let t = c.self.inside in
-    let s : Step = step.Mark c.args.page c.args.v in
+    let s : Step = Step.Mark c.args.page c.args.v in
     let a = acts t.pass s f.new.self f.ensures.told.makes c.self.invariant.turn.holds in
     let map : KnownPages = t.carried.value.map in
     let shown = c.self.invariant.shows in
@@ -28,6 +23,6 @@ pub returns-clause-acts : goal.returns-clause-acts
 returns-clause-acts g c =
     let f = c.perform_among in
     let t = c.self.inside in
-    let s : Step = step.Mark c.args.page c.args.v in
+    let s : Step = Step.Mark c.args.page c.args.v in
     subst (λ (v : TurnState). Acts v.pass s f.new.self) c.self.view_is
     (acts t.pass s f.new.self f.ensures.told.makes c.self.invariant.turn.holds)

@@ -1,7 +1,7 @@
-use Rattle.std.proofs.Common.{subst}
+use Rattle.mk_laws.proofs.Vocabulary.{subst}
 use Rattle.mk_page_map.specs.Members.{IsNext, is_in_use}
+use Rattle.mk_words.proofs.MapSteps.{as_carried, next_known}
 use Rattle.mk_words.specs.States.{TurnState, now_of}
-use Rattle.mk_words.proofs.MapSteps.{next_known, as_carried}
 use Rattle.mk_words.proofs.turns.TurnAt.next_in_use.Goals as goal
 
 pub returns : goal.returns

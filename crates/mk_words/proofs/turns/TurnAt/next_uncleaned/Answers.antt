@@ -1,7 +1,6 @@
-use Rattle.std.proofs.Common.{subst}
-use Rattle.mk_words.specs.PageMaps.{IsNextUncleaned}
-use Rattle.mk_words.specs.States.{TurnState, now_of}
-use Rattle.mk_words.proofs.MapSteps.{next_is_uncleaned, as_carried}
+use Rattle.mk_laws.proofs.Vocabulary.{subst}
+use Rattle.mk_words.proofs.MapSteps.{as_carried, next_is_uncleaned}
+use Rattle.mk_words.specs.{PageMaps.IsNextUncleaned, States.TurnState, States.now_of}
 use Rattle.mk_words.proofs.turns.TurnAt.next_uncleaned.Goals as goal
 
 pub returns : goal.returns

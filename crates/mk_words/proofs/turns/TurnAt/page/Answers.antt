@@ -1,7 +1,7 @@
-use Rattle.std.proofs.Common.{◌≡◌, ◌<◌, sym, subst}
+use Rattle.mk_laws.proofs.Vocabulary.{subst, sym, ◌<◌, ◌≡◌}
 use Rattle.mk_core.specs.Words.{page_of}
+use Rattle.mk_words.proofs.MapSteps.{as_carried, page_known}
 use Rattle.mk_words.specs.States.{TurnState, now_of}
-use Rattle.mk_words.proofs.MapSteps.{page_known, as_carried}
 use Rattle.mk_words.proofs.turns.TurnAt.page.Goals as goal
 
 pub page-requires : goal.page-requires

@@ -1,8 +1,5 @@
-use Rattle.std.proofs.Common.{◌≡◌, subst}
-use Rattle.mk_geom.specs.PageUses.{resident_pages}
-use Rattle.mk_geom.specs.PageWords.{uses_of_pages}
-use Rattle.mk_words.specs.States.{TurnState, now_of}
-use Rattle.mk_words.proofs.MapSteps.{as_carried}
+use Rattle.mk_laws.proofs.Vocabulary.{resident_pages, subst, uses_of_pages, ◌≡◌}
+use Rattle.mk_words.{proofs.MapSteps.as_carried, specs.States.TurnState, specs.States.now_of}
 use Rattle.mk_words.proofs.turns.TurnAt.resident.Goals as goal
 
 pub returns : goal.returns

@@ -1,6 +1,6 @@
-use Rattle.std.proofs.Common.{◌∙◌, ap}
+use Rattle.mk_laws.proofs.Vocabulary.{ap, ◌∙◌}
+use Rattle.mk_words.proofs.Owed.{join_call, joined, same_config, same_id, settle_call}
 use Rattle.mk_words.specs.Rule.{Mine}
-use Rattle.mk_words.proofs.Owed.{same_id, same_config, join_call, settle_call, joined}
 use Rattle.mk_words.proofs.words.Words.join_tokens.Goals as goal
 
 pub join_seat-requires : goal.join_seat-requires

@@ -1,10 +1,8 @@
-use Rattle.std.proofs.Common.{◌≡◌, ℕ, [], ◌∷◌, ◌∙◌, ap, rules}
-use Rattle.std.specs.Prelude.{replicate}
+use Rattle.std.proofs.Common.{replicate, rules}
+use Rattle.mk_laws.proofs.Vocabulary.{ℕ, ap, [], ◌∙◌, ◌∷◌, ◌≡◌}
 use Rattle.mk_laws.proofs.OrderlyLists.{at_first}
-use Rattle.mk_words.specs.declared.homes.Carried.{Carried}
-use Rattle.mk_words.specs.Rule.{Mine}
-use Rattle.mk_words.proofs.MapSteps.{shows_that}
-use Rattle.mk_words.proofs.Owed.{first_call, first_in_order}
+use Rattle.mk_words.proofs.{MapSteps.shows_that, Owed.first_call, Owed.first_in_order}
+use Rattle.mk_words.specs.{Rule.Mine, declared.homes.Carried.Carried}
 use Rattle.mk_words.proofs.words.Words.new.Goals as goal
 
 pub new-requires-3 : goal.new-requires-3

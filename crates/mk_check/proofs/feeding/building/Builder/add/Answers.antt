@@ -1,11 +1,6 @@
-use Rattle.std.proofs.Common.{◌≡◌, ℕ, sym, subst}
 use Rattle.std.specs.declared.result.Result.{Result}
-use Rattle.std.specs.Prelude.{OnOk}
-use Rattle.std.proofs.lemmas.Result.{IfOk-weaker}
+use Rattle.mk_check.proofs.Vocabulary.{AddsLine, Built, Element, IfOk-weaker, OnOk, ℕ, subst, sym, ◌≡◌}
 use Rattle.mk_never.specs.declared.never_heap.NoMemory.{NoMemory}
-use Rattle.mk_check.specs.declared.feeding.instructions.Element.{Element}
-use Rattle.mk_check.specs.declared.feeding.instructions.Element.TheVariants as element
-use Rattle.mk_check.specs.Building.{Built, AddsLine}
 use Rattle.mk_check.proofs.feeding.building.Builder.add.Goals as goal
 
 -- a line that is added at any place is added at this one
@@ -18,20 +13,20 @@ at_line r line e e' old new is h =
 
 pub returns-in-Repeat : goal.returns-in-Repeat
 returns-in-Repeat c =
-    at_line c.add_repeat.result c.args.line c.args.element (element.Repeat c.in-Repeat.rounds) c.args.self.now
+    at_line c.add_repeat.result c.args.line c.args.element (Element.Repeat c.in-Repeat.rounds) c.args.self.now
     c.add_repeat.new.self c.in-Repeat.is c.add_repeat.ensures
 
 pub returns-in-If : goal.returns-in-If
 returns-in-If c =
-    at_line c.add_if.result c.args.line c.args.element (element.If c.in-If.number) c.args.self.now c.add_if.new.self
+    at_line c.add_if.result c.args.line c.args.element (Element.If c.in-If.number) c.args.self.now c.add_if.new.self
     c.in-If.is c.add_if.ensures
 
 pub returns-in-Else : goal.returns-in-Else
 returns-in-Else c =
-    at_line c.add_else.result c.args.line c.args.element element.Else c.args.self.now c.add_else.new.self c.in-Else.is
+    at_line c.add_else.result c.args.line c.args.element Element.Else c.args.self.now c.add_else.new.self c.in-Else.is
     c.add_else.ensures
 
 pub returns-in-End : goal.returns-in-End
 returns-in-End c =
-    at_line c.add_end.result c.args.line c.args.element element.End c.args.self.now c.add_end.new.self c.in-End.is
+    at_line c.add_end.result c.args.line c.args.element Element.End c.args.self.now c.add_end.new.self c.in-End.is
     c.add_end.ensures

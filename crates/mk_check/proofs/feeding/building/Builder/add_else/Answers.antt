@@ -1,8 +1,5 @@
-use Rattle.std.proofs.Common.{◌≡◌, ℕ, List, [], ◌∷◌, ◌++◌, ap, sym, ◌∙◌, subst}
-use Rattle.std.proofs.lemmas.Result.{IfOk-weaker}
-use Rattle.mk_check.specs.declared.feeding.instructions.Element.TheVariants as element
-use Rattle.mk_check.specs.declared.feeding.tree.Node.{Node}
-use Rattle.mk_check.specs.Building.{Built, with_part, AddsLine}
+use Rattle.mk_check.proofs.Vocabulary.{AddsLine, Built, Element, IfOk-weaker, List, Node, ℕ, ap, subst, sym, with_part}
+use Rattle.mk_check.proofs.Vocabulary.{[], ◌++◌, ◌∙◌, ◌∷◌, ◌≡◌}
 use Rattle.mk_check.proofs.Builds.{else_added}
 use Rattle.mk_check.proofs.feeding.building.Builder.add_else.Goals as goal
 
@@ -15,7 +12,7 @@ returns c =
     ∙ c.in-Some.ensures.items in
     let new = λ (ns : List Node). with_part (record { nodes = ns; parts = parts }) 0 part.steps in
     IfOk-weaker c.put.result (λ _. c.put.new.self ≡ new c.self.inside.tree) (λ _. (line : ℕ)
-    → AddsLine line element.Else b c.put.new.self)
-    (λ _ e line. subst (λ (x : Built). AddsLine line element.Else b x)
+    → AddsLine line Element.Else b c.put.new.self)
+    (λ _ e line. subst (λ (x : Built). AddsLine line Element.Else b x)
     (sym (e ∙ ap (λ (x : Built). new x.nodes) c.self.view_is)) (else_added b parts part line c.requires was))
     c.put.ensures

@@ -1,10 +1,6 @@
-use Rattle.std.proofs.Common.{◌≡◌, ◌<◌, List, [], ◌∷◌, ◌++◌, length, ap, sym, ◌∙◌, subst}
-use Rattle.std.proofs.lemmas.Result.{IfOk-weaker}
-use Rattle.mk_check.specs.declared.feeding.instructions.Element.TheVariants as element
-use Rattle.mk_check.specs.declared.feeding.tree.Node.{Node}
-use Rattle.mk_check.specs.declared.feeding.tree.Node.TheVariants as node
-use Rattle.mk_check.specs.Building.{Built, with_node_and_part, AddsLine}
-use Rattle.mk_check.proofs.Builds.{popped, line_added}
+use Rattle.mk_check.proofs.Vocabulary.{AddsLine, Built, Element, IfOk-weaker, List, Node, ap, length, subst, sym}
+use Rattle.mk_check.proofs.Vocabulary.{with_node_and_part, [], ◌++◌, ◌<◌, ◌∙◌, ◌∷◌, ◌≡◌}
+use Rattle.mk_check.proofs.Builds.{line_added, popped}
 use Rattle.mk_check.proofs.feeding.building.Builder.add_line.Goals as goal
 
 pub grow-requires : goal.grow-requires
@@ -24,10 +20,10 @@ returns c =
     let parts = c.pop.new.self.items in
     let was : b.parts ≡ parts ++ part ∷ [] = sym (ap (λ (x : Built). x.parts) c.self.view_is)
     ∙ c.in-Some.ensures.items in
-    let n = node.Line c.args.line c.args.instruction part.steps in
+    let n = Node.Line c.args.line c.args.instruction part.steps in
     let new = λ (ns : List Node). with_node_and_part (record { nodes = ns; parts = parts }) n part.second in
     IfOk-weaker c.grow.result (λ _. c.grow.new.self ≡ new c.self.inside.tree)
-    (λ _. AddsLine c.args.line (element.Line c.args.instruction) b c.grow.new.self)
-    (λ _ e. subst (λ (x : Built). AddsLine c.args.line (element.Line c.args.instruction) b x)
+    (λ _. AddsLine c.args.line (Element.Line c.args.instruction) b c.grow.new.self)
+    (λ _ e. subst (λ (x : Built). AddsLine c.args.line (Element.Line c.args.instruction) b x)
     (sym (e ∙ ap (λ (x : Built). new x.nodes) c.self.view_is))
     (line_added b parts part c.args.line c.args.instruction c.requires was)) c.grow.ensures

@@ -1,11 +1,6 @@
-use Rattle.std.proofs.Common.{◌≡◌, ℕ, ◌<◌, List, [], ◌∷◌, ◌++◌, length, ap, sym, ◌∙◌, subst, refl}
-use Rattle.std.proofs.lemmas.Result.{IfOk-weaker}
-use Rattle.mk_check.specs.declared.feeding.instructions.Element.TheVariants as element
-use Rattle.mk_check.specs.declared.feeding.tree.Node.{Node}
-use Rattle.mk_check.specs.declared.feeding.tree.Node.TheVariants as node
-use Rattle.mk_check.specs.declared.feeding.building.Part.{Part}
-use Rattle.mk_check.specs.Building.{Built, with_node_and_part, AddsLine}
-use Rattle.mk_check.proofs.Builds.{popped, repeat_added}
+use Rattle.mk_check.proofs.Vocabulary.{AddsLine, Built, Element, IfOk-weaker, List, Node, ℕ, ap, length, refl, subst}
+use Rattle.mk_check.proofs.Vocabulary.{sym, with_node_and_part, [], ◌++◌, ◌<◌, ◌∙◌, ◌∷◌, ◌≡◌}
+use Rattle.mk_check.{proofs.Builds.popped, proofs.Builds.repeat_added, specs.declared.feeding.building.Part.Part}
 use Rattle.mk_check.proofs.feeding.building.Builder.add_repeat.Goals as goal
 
 pub grow-requires : goal.grow-requires
@@ -33,10 +28,10 @@ returns c =
     let was : b.parts ≡ (parts ++ part ∷ []) ++ inner ∷ [] =
     sym (ap (λ (x : Built). x.parts) c.self.view_is)
     ∙ (c.in-Some.ensures.items ∙ ap (λ (ps : List Part). ps ++ inner ∷ []) c.in-Some-pop.ensures.items) in
-    let n = node.Rounds c.args.rounds inner.steps part.steps in
+    let n = Node.Rounds c.args.rounds inner.steps part.steps in
     let new = λ (ns : List Node). with_node_and_part (record { nodes = ns; parts = parts }) n part.second in
     IfOk-weaker c.grow.result (λ _. c.grow.new.self ≡ new c.self.inside.tree) (λ _. (line : ℕ)
-    → AddsLine line (element.Repeat c.args.rounds) b c.grow.new.self)
-    (λ _ e line. subst (λ (x : Built). AddsLine line (element.Repeat c.args.rounds) b x)
+    → AddsLine line (Element.Repeat c.args.rounds) b c.grow.new.self)
+    (λ _ e line. subst (λ (x : Built). AddsLine line (Element.Repeat c.args.rounds) b x)
     (sym (e ∙ ap (λ (x : Built). new x.nodes) c.self.view_is))
     (repeat_added b parts part inner line c.args.rounds c.requires was)) c.grow.ensures

@@ -1,9 +1,7 @@
-use Rattle.std.proofs.Common.{◌≡◌, ℕ, ◌<◌, List, [], ◌∷◌, ◌++◌, length, ap, sym, ◌∙◌, subst}
-use Rattle.mk_check.specs.declared.feeding.tree.Node.{Node}
-use Rattle.mk_check.specs.Building.{Built}
+use Rattle.mk_check.proofs.Vocabulary.{Built, List, Node, ℕ, ap, length, subst, sym, [], ◌++◌, ◌<◌, ◌∙◌, ◌∷◌, ◌≡◌}
+use Rattle.mk_check.proofs.feeding.building.Builder.finish.Goals.{in-None, in-Some}
 use Rattle.mk_check.proofs.Builds.{popped}
 use Rattle.mk_check.proofs.feeding.building.Builder.finish.Goals as goal
-use Rattle.mk_check.proofs.feeding.building.Builder.finish.Goals.{in-Some, in-None}
 
 pub returns-clause-within : goal.returns-clause-within
 returns-clause-within c =

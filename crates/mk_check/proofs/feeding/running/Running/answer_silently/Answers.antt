@@ -1,8 +1,4 @@
-use Rattle.std.proofs.Common.{sym, subst, length}
-use Rattle.mk_core.specs.declared.events.Answer.{Answer}
-use Rattle.mk_core.specs.declared.events.Answer.TheVariants as answer
-use Rattle.mk_check.specs.AtOnce.{TakesLine}
-use Rattle.mk_check.specs.Trees.{Place, PlaceFits, PlaceIsWithin}
+use Rattle.mk_check.proofs.Vocabulary.{Answer, Place, PlaceFits, PlaceIsWithin, TakesLine, length, subst, sym}
 use Rattle.mk_check.proofs.feeding.running.Running.answer_silently.Goals as goal
 
 pub take_silently-requires-clause-within : goal.take_silently-requires-clause-within
@@ -19,7 +15,7 @@ pub returns-else-take_number_at_once-clause-taken : goal.returns-else-take_numbe
 returns-else-take_number_at_once-clause-taken c =
     λ t. subst (λ (a : Answer). TakesLine c.args.tree.now a c.args.self.now
     c.take_silently.new.self) (sym c.in-Num.is)
-    (subst (λ (p : Place). TakesLine c.args.tree.now (answer.Num c.in-Num.value) p
+    (subst (λ (p : Place). TakesLine c.args.tree.now (Answer.Num c.in-Num.value) p
     c.take_silently.new.self)
     (c.take_number_at_once.ensures.refused c.if-take_number_at_once.false) (c.take_silently.ensures.taken t))
 

@@ -1,19 +1,15 @@
-use Rattle.std.proofs.Common.{◌≡◌, sym, ◌∙◌, length, arith}
-use Rattle.std.specs.Prelude.{Some}
-use Rattle.mk_check.specs.declared.feeding.tree.Frame.TheVariants as frame
-use Rattle.mk_check.specs.Trees.{innermost}
-use Rattle.mk_check.proofs.NextRounds.{innermost_within}
+use Rattle.mk_check.proofs.Vocabulary.{Frame, Some, arith, innermost, length, sym, ◌∙◌, ◌≡◌}
+use Rattle.mk_check.proofs.{NextRounds.innermost_within, feeding.running.Running.begin_round.Goals.In-Some-Rounds}
 use Rattle.mk_check.proofs.feeding.running.Running.begin_round.Goals as goal
-use Rattle.mk_check.proofs.feeding.running.Running.begin_round.Goals.{In-Some-Rounds}
 
 last : (c : In-Some-Rounds) → innermost c.args.self.now.frames
-    ≡ Some (frame.Rounds c.in-Some-Rounds.rounds c.in-Some-Rounds.body c.in-Some-Rounds.next)
+    ≡ Some (Frame.Rounds c.in-Some-Rounds.rounds c.in-Some-Rounds.body c.in-Some-Rounds.next)
 last c = cc
 
 pub asks-requires : goal.asks-requires
 asks-requires c =
     (innermost_within (length c.args.tree.now) c.args.self.now.frames
-    (frame.Rounds c.in-Some-Rounds.rounds c.in-Some-Rounds.body c.in-Some-Rounds.next) c.requires
+    (Frame.Rounds c.in-Some-Rounds.rounds c.in-Some-Rounds.body c.in-Some-Rounds.next) c.requires
     (last ((goal.at.asks-requires c).In-Some-Rounds))).0
 
 pub returns-clause-begun : goal.returns-clause-begun

@@ -1,4 +1,4 @@
-use Rattle.std.proofs.Common.{ℕ, ◌<◌, length, sym, subst}
+use Rattle.mk_check.proofs.Vocabulary.{ℕ, length, subst, sym, ◌<◌}
 use Rattle.mk_check.proofs.AsksFirst.{resumed_within}
 use Rattle.mk_check.proofs.feeding.running.Running.comes_to_op.Goals as goal
 

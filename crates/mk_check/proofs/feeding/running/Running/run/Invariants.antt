@@ -1,6 +1,4 @@
-use Rattle.std.proofs.Common.{◌≡◌, length}
-use Rattle.mk_check.specs.Steps.{stop_of}
-use Rattle.mk_check.specs.Trees.{kept_in, left_in, PlaceFits, PlaceIsWithin, work_in}
+use Rattle.mk_check.proofs.Vocabulary.{PlaceFits, PlaceIsWithin, kept_in, left_in, length, stop_of, work_in, ◌≡◌}
 use Rattle.mk_check.proofs.feeding.running.Running.run.Given as goal
 
 abbrev pub invariant-loop : goal.invariant-loop

@@ -1,6 +1,5 @@
-use Rattle.std.proofs.Common.{◌≡◌, length, true}
-use Rattle.mk_check.specs.Steps.{asks_first, stop_of}
-use Rattle.mk_check.specs.Trees.{kept_in, left_in, steps_at, trees, PlaceFits, PlaceIsWithin, work_in}
+use Rattle.mk_check.proofs.Vocabulary.{PlaceFits, PlaceIsWithin, asks_first, kept_in, left_in, length, steps_at}
+use Rattle.mk_check.proofs.Vocabulary.{stop_of, trees, true, work_in, ◌≡◌}
 use Rattle.mk_check.proofs.feeding.running.Running.run_to_op.Given as goal
 
 abbrev pub invariant-loop : goal.invariant-loop

@@ -1,17 +1,15 @@
-use Rattle.std.proofs.Common.{◌≡◌, true, false, ap, sym, ◌∙◌, subst, is_some}
-use Rattle.mk_check.specs.declared.feeding.tree.Node.TheVariants as node
-use Rattle.mk_check.specs.Steps.{after_line, op_asked}
-use Rattle.mk_check.specs.Trees.{Place, MovesOn, HasStopped, node_at, with_kept, kept_in}
-use Rattle.mk_check.proofs.Moves.{line_goes_on, rounds_go_on, choice_goes_on, end_goes_on, ends_at, asks_at}
-use Rattle.mk_check.proofs.Moves.{choice_finds_room, rounds_find_room}
+use Rattle.mk_check.proofs.Vocabulary.{HasStopped, MovesOn, Node, Place, after_line, ap, false, is_some, kept_in}
+use Rattle.mk_check.proofs.Vocabulary.{node_at, op_asked, subst, sym, true, with_kept, ◌∙◌, ◌≡◌}
+use Rattle.mk_check.proofs.Moves.{asks_at, choice_finds_room, choice_goes_on, end_goes_on, ends_at, line_goes_on}
+use Rattle.mk_check.proofs.Moves.{rounds_find_room, rounds_go_on}
+use Rattle.mk_check.proofs.feeding.running.Running.step.Goals.{In-Choice, In-Rounds}
 use Rattle.mk_check.proofs.feeding.running.Running.step.Goals as goal
-use Rattle.mk_check.proofs.feeding.running.Running.step.Goals.{In-Rounds, In-Choice}
 
 pub returns-then-is_some-clause-stops : goal.returns-then-is_some-clause-stops
 returns-then-is_some-clause-stops c =
     let at = ap (λ (p : Place). p.at) c.self.view_is in
     let here : node_at c.args.tree.now c.args.self.now.at
-    ≡ node.Line c.in-Line.line c.in-Line.instruction c.in-Line.next =
+    ≡ Node.Line c.in-Line.line c.in-Line.instruction c.in-Line.next =
     ap (node_at c.args.tree.now) (sym at) ∙ sym c.in-Line.ensures.value in
     let asks : is_some (op_asked c.args.self.now.numbers c.in-Line.instruction) ≡ true = cc in
     λ f. asks_at c.args.tree.now c.args.self.now c.in-Line.line c.in-Line.instruction c.in-Line.next
@@ -20,7 +18,7 @@ returns-then-is_some-clause-stops c =
 pub returns-in-Done-clause-goes_on : goal.returns-in-Done-clause-goes_on
 returns-in-Done-clause-goes_on c =
     let at = ap (λ (p : Place). p.at) c.self.view_is in
-    let here : node_at c.args.tree.now c.args.self.now.at ≡ node.Done = ap (node_at c.args.tree.now) (sym at)
+    let here : node_at c.args.tree.now c.args.self.now.at ≡ Node.Done = ap (node_at c.args.tree.now) (sym at)
     ∙ sym c.in-Done.ensures.value in
     λ t. end_goes_on c.args.tree.now c.args.self.now c.leave.new.self c.in-Done.ensures.tree c.requires.within here
     (c.leave.ensures.left t)
@@ -28,7 +26,7 @@ returns-in-Done-clause-goes_on c =
 pub returns-in-Done-clause-stops : goal.returns-in-Done-clause-stops
 returns-in-Done-clause-stops c =
     let at = ap (λ (p : Place). p.at) c.self.view_is in
-    let here : node_at c.args.tree.now c.args.self.now.at ≡ node.Done = ap (node_at c.args.tree.now) (sym at)
+    let here : node_at c.args.tree.now c.args.self.now.at ≡ Node.Done = ap (node_at c.args.tree.now) (sym at)
     ∙ sym c.in-Done.ensures.value in
     λ f. subst (λ (p : Place). HasStopped c.args.tree.now c.args.self.now p) (sym (c.leave.ensures.none f).1)
     (ends_at c.args.tree.now c.args.self.now c.in-Done.ensures.tree c.requires.within here (c.leave.ensures.none f).0)
@@ -39,7 +37,7 @@ returns-in_ok-run_line-in-Line-clause-goes_on c =
     let p = c.args.self.now in
     let at = ap (λ (q : Place). q.at) c.self.view_is in
     let here : node_at c.args.tree.now c.args.self.now.at
-    ≡ node.Line c.in-Line.line c.in-Line.instruction c.in-Line.next =
+    ≡ Node.Line c.in-Line.line c.in-Line.instruction c.in-Line.next =
     ap (node_at c.args.tree.now) (sym at) ∙ sym c.in-Line.ensures.value in
     let none : is_some (op_asked c.args.self.now.numbers c.in-Line.instruction) ≡ false = cc in
     let new : c.run_line.new.self
@@ -52,7 +50,7 @@ returns-in_ok-run_line-in-Line-clause-goes_on c =
     c.requires.within here none)
 
 rounds_here : (c : In-Rounds) → node_at c.args.tree.now c.args.self.now.at
-    ≡ node.Rounds c.in-Rounds.rounds c.in-Rounds.body c.in-Rounds.next
+    ≡ Node.Rounds c.in-Rounds.rounds c.in-Rounds.body c.in-Rounds.next
 rounds_here c =
     ap (node_at c.args.tree.now) (sym (ap (λ (q : Place). q.at) c.self.view_is)) ∙ sym c.in-Rounds.ensures.value
 
@@ -69,7 +67,7 @@ returns-in-Rounds-clause-goes_on c =
     c.requires.within (rounds_here ((goal.at.returns-in-Rounds-clause-goes_on c).In-Rounds)))
 
 choice_here : (c : In-Choice) → node_at c.args.tree.now c.args.self.now.at
-    ≡ node.Choice c.in-Choice.number c.in-Choice.first c.in-Choice.second c.in-Choice.next
+    ≡ Node.Choice c.in-Choice.number c.in-Choice.first c.in-Choice.second c.in-Choice.next
 choice_here c =
     ap (node_at c.args.tree.now) (sym (ap (λ (q : Place). q.at) c.self.view_is)) ∙ sym c.in-Choice.ensures.value
 

@@ -1,15 +1,13 @@
-use Rattle.std.proofs.Common.{◌≡◌, true, false, [], ap, sym, ◌∙◌, subst}
-use Rattle.mk_check.specs.declared.feeding.tree.Node.TheVariants as node
-use Rattle.mk_check.specs.Steps.{after_line, asks_first, is_asking, is_print}
-use Rattle.mk_check.specs.Trees.{Place, MovesOn, kept_in, node_at, steps_at, trees, with_kept}
+use Rattle.mk_check.proofs.Vocabulary.{MovesOn, Node, Place, after_line, ap, asks_first, false, is_asking, is_print}
+use Rattle.mk_check.proofs.Vocabulary.{kept_in, node_at, steps_at, subst, sym, trees, true, with_kept, [], ◌∙◌, ◌≡◌}
 use Rattle.mk_check.proofs.AsksFirst.{asked_so, first_done, first_in_branch, first_in_rounds, first_later, line_to_op}
 use Rattle.mk_check.proofs.AsksFirst.{no_print_here, stops_at_op}
 use Rattle.mk_check.proofs.Moves.{choice_finds_room, choice_goes_on, rounds_find_room, rounds_go_on}
+use Rattle.mk_check.proofs.feeding.running.Running.step_to_op.Goals.{After-calculate, In-Choice, In-Line, In-Rounds}
 use Rattle.mk_check.proofs.feeding.running.Running.step_to_op.Goals as goal
-use Rattle.mk_check.proofs.feeding.running.Running.step_to_op.Goals.{In-Choice, In-Line, In-Rounds, After-calculate}
 
 here : (c : In-Line) → node_at c.args.tree.now c.args.self.now.at
-    ≡ node.Line c.in-Line.line c.in-Line.instruction c.in-Line.next
+    ≡ Node.Line c.in-Line.line c.in-Line.instruction c.in-Line.next
 here c = ap (node_at c.args.tree.now) (sym (ap (λ (p : Place). p.at) c.self.view_is)) ∙ sym c.in-Line.ensures.value
 
 pub unreachable-requires : goal.unreachable-requires
@@ -74,7 +72,7 @@ returns-else-asks-clause-first c =
 -- A block begins.
 
 rounds_here : (c : In-Rounds) → node_at c.args.tree.now c.args.self.now.at
-    ≡ node.Rounds c.in-Rounds.rounds c.in-Rounds.body c.in-Rounds.next
+    ≡ Node.Rounds c.in-Rounds.rounds c.in-Rounds.body c.in-Rounds.next
 rounds_here c =
     ap (node_at c.args.tree.now) (sym (ap (λ (q : Place). q.at) c.self.view_is)) ∙ sym c.in-Rounds.ensures.value
 
@@ -99,7 +97,7 @@ returns-in-Rounds-clause-first c =
     c.requires.within.at (rounds_here ((goal.at.returns-in-Rounds-clause-first c).In-Rounds)) c.requires.first
 
 choice_here : (c : In-Choice) → node_at c.args.tree.now c.args.self.now.at
-    ≡ node.Choice c.in-Choice.number c.in-Choice.first c.in-Choice.second c.in-Choice.next
+    ≡ Node.Choice c.in-Choice.number c.in-Choice.first c.in-Choice.second c.in-Choice.next
 choice_here c =
     ap (node_at c.args.tree.now) (sym (ap (λ (q : Place). q.at) c.self.view_is)) ∙ sym c.in-Choice.ensures.value
 

@@ -1,19 +1,16 @@
-use Rattle.std.proofs.Common.{◌≡◌, ap, sym, ◌∙◌}
-use Rattle.mk_check.specs.declared.feeding.tree.Node.TheVariants as node
-use Rattle.mk_check.specs.Trees.{node_at}
-use Rattle.mk_check.proofs.Moves.{below_length, line_fits}
+use Rattle.mk_check.proofs.Vocabulary.{Node, ap, node_at, sym, ◌∙◌, ◌≡◌}
+use Rattle.mk_check.proofs.{Moves.below_length, Moves.line_fits, feeding.running.Running.take_silently.Goals.In-Line}
 use Rattle.mk_check.proofs.feeding.running.Running.take_silently.Goals as goal
-use Rattle.mk_check.proofs.feeding.running.Running.take_silently.Goals.{In-Line}
 
 here : (c : In-Line) → node_at c.args.tree.now c.args.self.now.at
-    ≡ node.Line c.in-Line.line c.in-Line.instruction c.in-Line.next
+    ≡ Node.Line c.in-Line.line c.in-Line.instruction c.in-Line.next
 here c = ap (node_at c.args.tree.now) (sym c.at.ensures) ∙ sym c.in-Line.ensures.value
 
 pub take_to_op-requires-clause-within : goal.take_to_op-requires-clause-within
 take_to_op-requires-clause-within c =
     let l = c.in-Line in
     record {
-      at = below_length c.args.tree.now c.args.self.now (node.Line l.line l.instruction l.next) l.ensures.tree
+      at = below_length c.args.tree.now c.args.self.now (Node.Line l.line l.instruction l.next) l.ensures.tree
           c.requires.within (here ((goal.at.take_to_op-requires-clause-within c).In-Line));
       frames = c.requires.within.frames;
     }

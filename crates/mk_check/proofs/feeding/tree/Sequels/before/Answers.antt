@@ -1,9 +1,6 @@
-use Rattle.std.proofs.Common.{◌≡◌, ℕ, Bool, true, false, ap, sym, ◌∙◌, refl}
-use Rattle.std.specs.Prelude.{Option, Some, None}
-use Rattle.mk_check.specs.declared.feeding.tree.Sequel.{Sequel}
-use Rattle.mk_check.specs.declared.feeding.tree.Sequels.{Sequels}
-use Rattle.mk_check.specs.Spots.{sequel_to, sequels_by}
-use Rattle.mk_check.specs.Steps.{keeping_register}
+use Rattle.mk_check.proofs.Vocabulary.{Bool, None, Option, Sequel, Some, ℕ, ap, false, refl, sequel_to, sym, true, ◌∙◌}
+use Rattle.mk_check.proofs.Vocabulary.{◌≡◌}
+use Rattle.mk_check.specs.{Spots.sequels_by, Steps.keeping_register, declared.feeding.tree.Sequels.Sequels}
 use Rattle.mk_check.proofs.feeding.tree.Sequels.before.Goals as goal
 
 -- what is told of the instruction and of the node is what is so

@@ -1,8 +1,5 @@
-use Rattle.std.proofs.Common.{[], ap, ◌∙◌}
-use Rattle.mk_check.specs.Steps.{is_asking}
-use Rattle.mk_check.specs.Trees.{node_at}
-use Rattle.mk_check.proofs.AsksFirst.{asked_so}
-use Rattle.mk_check.proofs.Spots.{asks_by_instruction}
+use Rattle.mk_check.proofs.Vocabulary.{ap, is_asking, node_at, [], ◌∙◌}
+use Rattle.mk_check.proofs.{AsksFirst.asked_so, Spots.asks_by_instruction}
 use Rattle.mk_check.proofs.feeding.tree.Tree.asks.Goals as goal
 
 pub returns : goal.returns

@@ -1,9 +1,4 @@
-use Rattle.std.proofs.Common.{◌≡◌, ◌<◌, ap, sym, ◌∙◌, subst, length}
-use Rattle.std.specs.Prelude.{List}
-use Rattle.mk_check.specs.declared.feeding.tree.Node.{Node}
-use Rattle.mk_check.specs.declared.feeding.tree.Spot.{Spot}
-use Rattle.mk_check.specs.Steps.{asks_first}
-use Rattle.mk_check.specs.Trees.{steps_at, trees}
+use Rattle.mk_check.proofs.Vocabulary.{List, Node, asks_first, length, steps_at, subst, sym, trees, ◌<◌, ◌≡◌}
 use Rattle.mk_check.proofs.Spots.{mark_there}
 use Rattle.mk_check.proofs.feeding.tree.Tree.asks_first.Goals as goal
 

@@ -1,7 +1,5 @@
-use Rattle.std.proofs.Common.{◌≡◌, true, false, [], ap, sym, ◌∙◌}
-use Rattle.mk_check.specs.declared.feeding.tree.Node.{Node}
-use Rattle.mk_check.specs.Steps.{asks_first, is_asking, is_print}
-use Rattle.mk_check.specs.Trees.{steps_at, steps_from, trees}
+use Rattle.mk_check.proofs.Vocabulary.{Node, ap, asks_first, false, is_asking, is_print, steps_at, steps_from, sym}
+use Rattle.mk_check.proofs.Vocabulary.{trees, true, [], ◌∙◌, ◌≡◌}
 use Rattle.mk_check.proofs.AsksFirst.{asked_so, asks_here, asks_later}
 use Rattle.mk_check.proofs.feeding.tree.Tree.asks_first_from.Goals as goal
 

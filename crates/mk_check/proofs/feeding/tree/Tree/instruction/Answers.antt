@@ -1,8 +1,4 @@
-use Rattle.std.proofs.Common.{◌≡◌, ◌<◌, ap, sym, ◌∙◌, subst, length}
-use Rattle.std.specs.Prelude.{List}
-use Rattle.mk_check.specs.declared.feeding.tree.Node.{Node}
-use Rattle.mk_check.specs.Spots.{instruction_of_node}
-use Rattle.mk_check.specs.Trees.{node_at}
+use Rattle.mk_check.proofs.Vocabulary.{List, Node, instruction_of_node, length, node_at, subst, sym, ◌<◌, ◌≡◌}
 use Rattle.mk_check.proofs.Spots.{mark_there}
 use Rattle.mk_check.proofs.feeding.tree.Tree.instruction.Goals as goal
 

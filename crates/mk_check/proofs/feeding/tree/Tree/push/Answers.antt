@@ -1,10 +1,6 @@
-use Rattle.std.proofs.Common.{List, length, sym, subst, ap, ◌∙◌}
-use Rattle.mk_check.specs.declared.feeding.tree.Node.{Node}
-use Rattle.mk_check.specs.declared.feeding.tree.Spot.{Spot}
-use Rattle.mk_check.specs.Spots.{IsMarkedTree, sequels_of}
-use Rattle.mk_check.specs.Steps.{asks_first}
-use Rattle.mk_check.specs.Trees.{IsBelow, steps_from, trees}
-use Rattle.mk_check.proofs.Spots.{IsMarkedTree_push}
+use Rattle.mk_check.proofs.Vocabulary.{IsBelow, List, Node, ap, asks_first, length, sequels_of, steps_from, subst, sym}
+use Rattle.mk_check.proofs.Vocabulary.{trees, ◌∙◌}
+use Rattle.mk_check.{proofs.Spots.IsMarkedTree_push, specs.Spots.IsMarkedTree, specs.declared.feeding.tree.Spot.Spot}
 use Rattle.mk_check.proofs.feeding.tree.Tree.push.Goals as goal
 
 pub invariant_of-self-2 : goal.invariant_of-self-2

@@ -1,8 +1,4 @@
-use Rattle.std.proofs.Common.{◌≡◌, ◌<◌, sym, subst, length}
-use Rattle.std.specs.Prelude.{List}
-use Rattle.mk_check.specs.declared.feeding.tree.Node.{Node}
-use Rattle.mk_check.specs.Spots.{sequels_of}
-use Rattle.mk_check.specs.Trees.{node_at}
+use Rattle.mk_check.proofs.Vocabulary.{List, Node, length, node_at, sequels_of, subst, sym, ◌<◌, ◌≡◌}
 use Rattle.mk_check.proofs.Spots.{mark_there}
 use Rattle.mk_check.proofs.feeding.tree.Tree.sequels.Goals as goal
 
