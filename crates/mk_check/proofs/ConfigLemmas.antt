@@ -89,7 +89,8 @@ module _ (program : List Item) (script : List Item) where
   pub type_fault-within : (name : List ℕ) → type_fault (record { program = program; script = script }) name ≡ None
       → number_of_name name (type_names program) < length (types_of program)
   type_fault-within name h =
-      let found = has_value (type_words name program) (unless-None (is_some (type_words name program)) TypeKind.NoType h) in
+      let found =
+      has_value (type_words name program) (unless-None (is_some (type_words name program)) TypeKind.NoType h) in
       (type_words-IsAt (type_names program) name program found.value found.is).within
 
   word_within : (at : At) (found : Option (List TypeWord)) → type_words at.name program ≡ found

@@ -125,7 +125,8 @@ is_stack_run {c} es more founding lists all left_on walked is history types foun
     let registers : length (never_behind c es).registers ≡ 8 * c.callers =
     (stands c es jobs_history).all.mirrors.register_count in
     let read = walks_read_the_stack (never_behind c es) 0 later explained.nodes (omega (arith, least, registers))
-    by_first explained.linked (subst (λ (l : List Replied). LeadsDown WalkPoint.Starting l WalkPoint.Ended) (sym own) leads) in
+    by_first explained.linked (subst (λ (l : List Replied). LeadsDown WalkPoint.Starting l WalkPoint.Ended)
+    (sym own) leads) in
     record {
       founding = founding;
       runs = runs;

@@ -86,7 +86,8 @@ module _ (p q : PassState) (types : HasStackTypes p.table.config) (history : IsH
         is = h.is;
         op = Op.GetNum 2 0;
         reply = reply_of h.n k (Op.GetNum 2 0);
-        walks = subst (λ (r : Reply). Walks WalkPoint.Reading (Op.GetNum 2 0) r WalkPoint.Descending) (sym replied) read;
+        walks =
+            subst (λ (r : Reply). Walks WalkPoint.Reading (Op.GetNum 2 0) r WalkPoint.Descending) (sym replied) read;
         reads = ap (number_read (Op.GetNum 2 0)) replied;
         did = h.did;
         holds = holds_on called refl Point.Following holds;
@@ -101,7 +102,8 @@ module _ (p q : PassState) (types : HasStackTypes p.table.config) (history : IsH
         is = h.is;
         op = Op.GetPtr 2 2 1;
         reply = reply_of h.n k (Op.GetPtr 2 2 1);
-        walks = subst (λ (r : Reply). Walks WalkPoint.Descending (Op.GetPtr 2 2 1) r WalkPoint.Testing) (sym v.is) descend;
+        walks =
+            subst (λ (r : Reply). Walks WalkPoint.Descending (Op.GetPtr 2 2 1) r WalkPoint.Testing) (sym v.is) descend;
         reads = refl;
         did = h.did;
         holds = (

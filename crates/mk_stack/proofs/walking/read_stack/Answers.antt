@@ -34,7 +34,8 @@ points-preserved-in-Ok-Number g c =
       home = c.go_down.ensures.home;
       walked =
           subst (λ (l : List ℕ). HasWalked p l r WalkPoint.Descending) (sym c.in_ok-push-in-Ok-Number.ensures.items)
-          (subst (λ (n : ℕ). HasWalked p (c.points.left.items ++ n ∷ []) r WalkPoint.Descending) (sym c.in-Ok-Number.n-is)
+          (subst (λ (n : ℕ). HasWalked p (c.points.left.items
+          ++ n ∷ []) r WalkPoint.Descending) (sym c.in-Ok-Number.n-is)
           (walked_more c.points.invariant.walked steps));
       holds = steps.holds;
     }
