@@ -12,7 +12,7 @@ use Rattle.mk_alloc.proofs.CalmStretches.{cycles_in_turn}
 use Rattle.mk_heap.{proofs.HomeCallers.others_hold_none, specs.Ending.MakesCycle, specs.Hosts.with_seen}
 use Rattle.mk_run.proofs.LastOvers.{Unbegun, ends_unbegun, over_unbegun, stays, unbegun_made, unheld_unbegun}
 use Rattle.mk_run.proofs.LastOvers.{wait_unbegun}
-use Rattle.mk_run.proofs.LastCycles.{before_made, ends_does, turn_taken}
+use Rattle.mk_run.proofs.HostTurnParts.{before_made, ends_does, turn_taken}
 use Rattle.mk_run.specs.{HostTurns.cycles_begun, LastTurns.BeginsAsAsked}
 
 -- Before the scripts are joined the host makes no step.

@@ -14,9 +14,9 @@ use Rattle.mk_alloc.specs.TurnCycles.{within_turn}
 use Rattle.mk_cycle.specs.TurnKeeps.{InTurn}
 use Rattle.mk_heap.proofs.HomeCallers.{HoldersStepNone, others_hold_none, waiting_holds_none}
 use Rattle.mk_heap.specs.{Ending.EndsCycle, declared.reports.Report.Report}
-use Rattle.mk_run.proofs.LastCycles.{before_made, ends_does, last_cycle, turn_taken}
-use Rattle.mk_run.proofs.LastTurns.{cycle_moves, over_moves, still_behind_over}
-use Rattle.mk_run.specs.LastCycle.{EndsWithCycle, MakesLastCycle}
+use Rattle.mk_run.{proofs.HostTurnParts.before_made, proofs.HostTurnParts.ends_does, proofs.HostTurnParts.turn_taken}
+use Rattle.mk_run.{proofs.LastCycles.last_cycle, proofs.LastTurns.cycle_moves, proofs.LastTurns.over_moves}
+use Rattle.mk_run.{proofs.LastTurns.still_behind_over, specs.LastCycle.EndsWithCycle, specs.LastCycle.MakesLastCycle}
 use Rattle.mk_turns.specs.Doing.{Does}
 use Rattle.mk_waiting.{proofs.Waiting.waits_more, specs.Taking.TakesTurn, specs.Taking.Waits}
 use Rattle.mk_words.specs.{States.event_of, Steps.Makes}

@@ -11,6 +11,7 @@ mod WholeRuns
 pub mod BoundedRuns
 pub mod Headline
 pub mod LastTurns
+pub mod HostTurnParts
 pub mod LastCycles
 pub mod LastOvers
 pub mod UnsweptHistories

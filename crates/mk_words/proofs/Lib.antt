@@ -13,6 +13,7 @@ pub mod Owed
 pub mod HandingCalls
 pub mod Made
 pub mod CallSteps
+pub mod FoundTurns
 pub mod TurnSteps
 pub mod MapSteps
 pub mod Closing

@@ -1,28 +1,23 @@
 -- What the steps of the turn's holder leave.
-use Rattle.mk_laws.proofs.Vocabulary.{Bool, Caller, Cell, Config, Event, Flight, Holding, Holds, Host, IsEnabled}
-use Rattle.mk_laws.proofs.Vocabulary.{IsTidy, List, Marker, Moment, None, Op, Option, Progress, Protocol, Seat, Some}
-use Rattle.mk_laws.proofs.Vocabulary.{Stage, Step, TalliesAreTidy, World, Written, ℕ, and_from, and_parts, ap, arith}
-use Rattle.mk_laws.proofs.Vocabulary.{at_rest, caller_number, cell_freed, eq-eqb, eqb-false, false, flight_of, found}
-use Rattle.mk_laws.proofs.Vocabulary.{get_or-set_same, group_of, has_phase, held_by_pages, histories_keep_lengths}
-use Rattle.mk_laws.proofs.Vocabulary.{holder_number, host_has_turn, if◌then◌else◌, is_held, is_number_of, is_open_to}
-use Rattle.mk_laws.proofs.Vocabulary.{left, length, ltb-true, nat_lt, ne_eqb, not, not-true, nothing_done}
-use Rattle.mk_laws.proofs.Vocabulary.{others_are_held, phase_of, progress, progress_freed, progress_p, progress_q}
-use Rattle.mk_laws.proofs.Vocabulary.{progress_read, progress_reg, refl, reg_access, register_met, seat_exists}
-use Rattle.mk_laws.proofs.Vocabulary.{set-get_or, slice_index, slice_set, subst, suc, sym, true, zero, [], ◌&&◌, ◌++◌}
-use Rattle.mk_laws.proofs.Vocabulary.{◌+◌, ◌<◌, ◌==◌, ◌||◌, ◌∙◌, ◌∷◌, ◌≡◌, ◌≢◌, ◌≤◌}
-use Rattle.mk_core.proofs.Conditions.{meets_enabled}
-use Rattle.mk_core.specs.{Bounded.all_below, Counts.TalliesAreExact, Effects.begins_where_free, Frames.HoldsAll}
-use Rattle.mk_core.specs.{Moments.none_is_held, Order.is_in_order}
-use Rattle.mk_laws.proofs.NextSteps.{at_no_take}
+use Rattle.mk_laws.proofs.Vocabulary.{Bool, Caller, Cell, Config, Flight, Holds, Host, List, Marker, Moment, None, Op}
+use Rattle.mk_laws.proofs.Vocabulary.{Option, Progress, Protocol, Seat, Some, Stage, Step, World, Written, ℕ, and_from}
+use Rattle.mk_laws.proofs.Vocabulary.{and_parts, ap, arith, at_rest, caller_number, cell_freed, eq-eqb, eqb-false}
+use Rattle.mk_laws.proofs.Vocabulary.{false, flight_of, found, get_or-set_same, group_of, has_phase, held_by_pages}
+use Rattle.mk_laws.proofs.Vocabulary.{histories_keep_lengths, holder_number, host_has_turn, if◌then◌else◌, is_held}
+use Rattle.mk_laws.proofs.Vocabulary.{is_number_of, is_open_to, length, ltb-true, nat_lt, ne_eqb, not, not-true}
+use Rattle.mk_laws.proofs.Vocabulary.{nothing_done, others_are_held, phase_of, progress, progress_freed, progress_p}
+use Rattle.mk_laws.proofs.Vocabulary.{progress_q, progress_read, progress_reg, refl, reg_access, register_met}
+use Rattle.mk_laws.proofs.Vocabulary.{seat_exists, slice_index, slice_set, subst, suc, sym, true, zero, ◌&&◌, ◌++◌, ◌+◌}
+use Rattle.mk_laws.proofs.Vocabulary.{◌<◌, ◌==◌, ◌||◌, ◌∙◌, ◌≡◌, ◌≢◌, ◌≤◌}
+use Rattle.mk_core.specs.{Bounded.all_below, Frames.HoldsAll, Moments.none_is_held, Order.is_in_order}
 use Rattle.mk_laws.proofs.SameWords.{Behind, reg_keeps, tally_keeps}
-use Rattle.mk_laws.proofs.{Protocols.lists_keep_the_protocol, Tallies.tallies_tell, TallySteps.others_count_nothing}
-use Rattle.mk_words.proofs.CallSteps.{begins, goes, waits}
-use Rattle.mk_words.proofs.Tallies.{counts_tidy_more, exact_more, free_tallies}
-use Rattle.mk_words.proofs.{FreeTurns.hands_none, FreeTurns.turn_word_stays, Made.Made, Made.made, Tidy.tidy_part}
-use Rattle.mk_words.specs.States.{PassState, TurnState, call_of, event_of, now_of, world_of}
+use Rattle.mk_laws.proofs.{NextSteps.at_no_take, Protocols.lists_keep_the_protocol}
+use Rattle.mk_words.proofs.CallSteps.{begins, goes}
+use Rattle.mk_words.proofs.{FreeTurns.hands_none, FreeTurns.turn_word_stays, Made.Made, Made.made, Tallies.free_tallies}
+use Rattle.mk_words.specs.States.{PassState, TurnState, call_of, now_of, world_of}
 use Rattle.mk_words.specs.TurnSteps.{Acts, GatesAre, IsFresh, IsTurn, begun_for, gates_stay, op_for, turn_stays}
 use Rattle.mk_words.specs.TurnSteps.{world_at}
-use Rattle.mk_words.specs.Steps.{Finds, IsEnabledTo, Makes, Tells, moment_of}
+use Rattle.mk_words.specs.Steps.{Finds, Makes, Tells, moment_of}
 
 -- who holds the turn, by the turn word
 
@@ -361,83 +356,6 @@ module _ (p : PassState) (o : Option Op) (n : ℕ) (q : PassState) (t : Tells p 
               ∙ (free_tallies c (p.seen ++ t.makes.others) e.history e.protocol free).1
               ∙ sym (ap (λ (w : World). w.now.fresh_words) e.world);
         }
-
--- a `take` that finds another holder leaves all as it was
-
-same_flights : (c : Config) (m : Moment) (k : ℕ) (o : Op) (n : ℕ) → n ≢ 0
-    → slice_set m.seats.flights k (begins_where_free (flight_of m (Caller k)) o n).flight ≡ m.seats.flights
-same_flights c m k o n some =
-    ap (λ (x : Progress). slice_set m.seats.flights k x.flight) (waits (flight_of m (Caller k)) o n n refl some)
-    ∙ set-get_or m.seats.flights k at_rest
-
-missed : (c : Config) (m : Moment) (seat : Seat) (o : Option Op) → is_open_to seat (group_of (Step.Take o)) ≡ true
-    → is_in_order c m seat (Step.Take o) ≡ true
-    → m.words.turn ≢ 0 → Behind c m seat (Step.Take o) ≡ m
-missed c m seat o kind order some =
-    ap (λ (t : ℕ). record {
-      words = record m.words { turn = t };
-      seats = (Behind c m seat (Step.Take o)).seats;
-      fresh_words = m.fresh_words;
-    })
-    (ap (λ (b : Bool). if b then 1 + holder_number c seat else m.words.turn) (ne_eqb m.words.turn 0 some))
-    ∙ ap (λ (h : Holding). record {
-      words = m.words;
-      seats = record (Behind c m seat (Step.Take o)).seats { holding = h };
-      fresh_words = m.fresh_words;
-    })
-    (ap (λ (b : Bool). if b then nothing_done else m.seats.holding) (ne_eqb m.words.turn 0 some))
-    ∙ by seat o kind order
-  where
-    by : (seat : Seat) (o : Option Op) → is_open_to seat (group_of (Step.Take o)) ≡ true
-        → is_in_order c m seat (Step.Take o) ≡ true
-        → record {
-          words = m.words;
-          seats = record (Behind c m seat (Step.Take o)).seats { holding = m.seats.holding };
-          fresh_words = m.fresh_words;
-        } ≡ m
-    by (Caller k) (Some o) kind order =
-        ap (λ (fs : List Flight). record {
-          words = m.words;
-          seats = record m.seats { flights = fs };
-          fresh_words = m.fresh_words;
-        }) (same_flights c m k o m.words.turn some)
-    by (Caller k) None kind order = absurd (at_no_take (flight_of m (Caller k)).stage (flight_of m (Caller k)).op order)
-    by (Marker k) o kind order = cc
-    by Host o kind order = refl
-
-pub take_waits : (p : PassState) (o : Option Op) (n : ℕ) (q : PassState) → Tells p (Step.Take o) n q → n ≢ 0
-    → (call_of q ≡ call_of p) × IsEnabledTo q (Step.Take o)
-take_waits p o n q t some =
-    let c : Config = p.table.config in
-    let x = made p (Step.Take o) q t.makes in
-    let m : Moment = moment_of t.makes in
-    let other : m.words.turn ≢ 0 = λ z. some (t.tells ∙ z) in
-    let same : now_of q ≡ m = ap (λ (w : World). w.now) x.world
-    ∙ missed c m p.seat o x.meets.kind x.meets.order other in (
-      ap (λ (s : Seat). flight_of (now_of q) s) x.seat ∙ ap (λ (y : Moment). flight_of y p.seat) same
-          ∙ x.frame.own.flight,
-      subst (λ (r : PassState). IsEnabled r.table.config (now_of q) (event_of r (Step.Take o))) (sym t.makes.is)
-          (subst (λ (y : Moment). IsEnabled c y (event_of p (Step.Take o))) (sym same)
-          (meets_enabled c m (event_of p (Step.Take o)) x.meets)),
-    )
-
--- where the turn is taken, the tallies are those of the counts
-pub take_counts : (p : PassState) (o : Option Op) (n : ℕ) (q : PassState) → Tells p (Step.Take o) n q
-    → IsTidy q.table.config q.seen → n ≡ 0
-    → TalliesAreExact q.table.config q.seen × TalliesAreTidy q.table.config q.seen
-take_counts p o n q t tidy none =
-    let c : Config = p.table.config in
-    let es : List Event = p.seen ++ t.makes.others in
-    let e : Event = event_of p (Step.Take o) in
-    let x = made p (Step.Take o) q t.makes in
-    let free : (left c es).now.words.turn ≡ 0 = sym t.tells ∙ none in
-    let told = tallies_tell c es x.history free in
-    let nothing = others_count_nothing c (left c es) e x.known x.meets free in
-    let whole_tidy : IsTidy c (es ++ e ∷ []) =
-    subst (λ (r : PassState). IsTidy r.table.config r.seen) t.makes.is tidy in
-    subst (λ (r : PassState). TalliesAreExact r.table.config r.seen × TalliesAreTidy r.table.config r.seen)
-    (sym t.makes.is)
-    (exact_more c es e nothing told.0, counts_tidy_more c es e nothing (told.1 (tidy_part c es (e ∷ []) whole_tidy)))
 
 -- `give`
 pub gives_rest : (p : PassState) (q : PassState) (m : Makes p Step.Give q) → call_of q ≡ at_rest

@@ -1,6 +1,6 @@
 use Rattle.mk_laws.proofs.Vocabulary.{ap, arith, refl, sym}
-use Rattle.mk_words.proofs.TurnSteps.{take_counts, take_finds, take_waits, takes, takes_fresh}
-use Rattle.mk_words.proofs.MapSteps.{as_carried, shows_that}
+use Rattle.mk_words.proofs.TurnSteps.{take_finds, takes, takes_fresh}
+use Rattle.mk_words.proofs.{FoundTurns.take_counts, FoundTurns.take_waits, MapSteps.as_carried, MapSteps.shows_that}
 use Rattle.mk_words.specs.declared.homes.Carried.{Carried}
 use Rattle.mk_words.proofs.passes.Pass.try_take.Goals as goal
 
