@@ -117,9 +117,9 @@ module _ {d ty : ℕ} {a : Answer} {p taken done q : PassState} (m : NewGiven d 
   new_called flag = called given flag exact
 
 -- the counts of the pages, where all is quiet
-pub census_told : {p : PassState} {book : List Page} {census : Census} → InTurn p → IsQuiet p
-    → book ≡ (now_of p).words.pages
-    → census ≡ census_among (uses_of_pages book) → census
+pub census_told : {p : PassState} {pages : List Page} {census : Census} → InTurn p → IsQuiet p
+    → pages ≡ (now_of p).words.pages
+    → census ≡ census_among (uses_of_pages pages) → census
     ≡ census_of_allocations p.table.config (world_of p).allocations
 census_told {p} t quiet shows is =
     let c : Config = p.table.config in

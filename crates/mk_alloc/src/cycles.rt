@@ -1,5 +1,5 @@
 //! The cycle that a free begins where it is due.
-ghost use Rattle.std.specs.Prelude.{◌≡◌, length, false};
+ghost use Rattle.std.specs.Prelude.{◌≡◌, false};
 ghost use Rattle.mk_turns.specs.Sweeping.{SweepsNothing};
 ghost use Rattle.mk_cycle.specs.Begun.{EachIsBegun};
 ghost use Rattle.mk_alloc.specs.DueCycles.{EndsOlder, RunsCycle, RunsIfDue};
@@ -20,11 +20,9 @@ fn finish_older<E: Engine, R: Threads + Wait + Sync>(
 ) -> Turn
     requires one_table { turn.pass.table ≡ words.now }
     requires made_for { E.made_for bench.old.engine ≡ words.now.config.pages }
-    requires book { length bench.old.book ≡ words.now.config.pages }
     requires quiet { IsQuiet turn.pass }
     ensures op { result.op ≡ turn.op }
     ensures made_for { E.made_for bench.new.engine ≡ E.made_for bench.old.engine }
-    ensures book { length bench.new.book ≡ length bench.old.book }
     ensures ends { EndsOlder turn.pass result.pass }
     ensures reached { E.sweeps ≡ false → SweepsNothing turn.pass result.pass }
 {
@@ -48,11 +46,9 @@ fn run_cycle<E: Engine, R: Threads + Wait + Sync>(
 ) -> Turn
     requires one_table { turn.pass.table ≡ words.now }
     requires made_for { E.made_for bench.old.engine ≡ words.now.config.pages }
-    requires book { length bench.old.book ≡ words.now.config.pages }
     requires quiet { IsQuiet turn.pass }
     ensures op { result.op ≡ turn.op }
     ensures made_for { E.made_for bench.new.engine ≡ E.made_for bench.old.engine }
-    ensures book { length bench.new.book ≡ length bench.old.book }
     ensures runs { RunsCycle E.on turn.pass result.pass }
     ensures reached { E.sweeps ≡ false → SweepsNothing turn.pass result.pass }
     ensures begun { EachIsBegun E.begins turn.pass result.pass }
@@ -77,11 +73,9 @@ pub(crate) fn run_if_due<E: Engine, R: Threads + Wait + Sync>(
 ) -> Turn
     requires one_table { turn.pass.table ≡ words.now }
     requires made_for { E.made_for bench.old.engine ≡ words.now.config.pages }
-    requires book { length bench.old.book ≡ words.now.config.pages }
     requires quiet { IsQuiet turn.pass }
     ensures op { result.op ≡ turn.op }
     ensures made_for { E.made_for bench.new.engine ≡ E.made_for bench.old.engine }
-    ensures book { length bench.new.book ≡ length bench.old.book }
     ensures runs { RunsIfDue E.on due turn.pass result.pass }
     ensures reached { E.sweeps ≡ false → SweepsNothing turn.pass result.pass }
     ensures begun { EachIsBegun E.begins turn.pass result.pass }

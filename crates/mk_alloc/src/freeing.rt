@@ -1,5 +1,5 @@
 //! Freeing objects.
-ghost use Rattle.std.specs.Prelude.{◌≡◌, ◌<◌, ◌∷◌, [], IfOk, OnErr, true, false, length};
+ghost use Rattle.std.specs.Prelude.{◌≡◌, ◌<◌, ◌∷◌, [], IfOk, OnErr, true, false};
 ghost use Rattle.mk_never.specs.Admitted.{IsBase};
 ghost use Rattle.mk_caller.specs.States.{caller_of_pass, value_of};
 ghost use Rattle.mk_turns.specs.Sweeping.{SweepsNothing};
@@ -30,10 +30,8 @@ pub fn free_object<E: Engine, R: Threads + Wait + Sync>(
     requires register { p < 8 }
     requires base { IsBase (value_of caller.old.pass p) }
     requires made_for { E.made_for bench.old.engine ≡ caller.old.pass.table.config.pages }
-    requires book { length bench.old.book ≡ caller.old.pass.table.config.pages }
     ensures home { caller.new.home ≡ true }
     ensures made_for { E.made_for bench.new.engine ≡ E.made_for bench.old.engine }
-    ensures book { length bench.new.book ≡ length bench.old.book }
     ensures freed { IfOk result (λ freed. FreesObject E.on caller.old.pass p freed.due caller.new.pass) }
     ensures double { OnErr result (IsAnsweredDouble E.on caller.old.pass p caller.new.pass) }
     ensures reached { E.sweeps ≡ false → SweepsNothing caller.old.pass caller.new.pass }

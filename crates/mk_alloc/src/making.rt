@@ -40,10 +40,8 @@ pub fn new_object<E: Engine, R: Threads + Wait + Sync>(
     requires register { d < 8 }
     requires ty { ty < length caller.old.pass.table.config.types }
     requires made_for { E.made_for bench.old.engine ≡ caller.old.pass.table.config.pages }
-    requires book { length bench.old.book ≡ caller.old.pass.table.config.pages }
     ensures home { caller.new.home ≡ true }
     ensures made_for { E.made_for bench.new.engine ≡ E.made_for bench.old.engine }
-    ensures book { length bench.new.book ≡ length bench.old.book }
     ensures made { OnOk result (CalledInTurn E.on caller.old.pass (op.New d ty false) answer.Done caller.new.pass) }
     ensures full { IfErr result (λ full.
         IsAnsweredFull E.on caller.old.pass (op.New d ty false) full.census caller.new.pass) }
@@ -55,7 +53,7 @@ pub fn new_object<E: Engine, R: Threads + Wait + Sync>(
     let home = caller.lend();
     let op = Op::New { d, ty, full: false };
     let mut turn = take(rt, words, home, op);
-    if try_place(words, &mut turn, bench) {
+    if try_place(words, &mut turn) {
         caller.back(give(words, turn));
         return Ok(());
     }
@@ -64,7 +62,7 @@ pub fn new_object<E: Engine, R: Threads + Wait + Sync>(
         caller.back(give(words, turn));
         return Ok(());
     }
-    let census = census(bench.book.pages());
+    let census = census(turn.pages());
     answer_full(words, &mut turn);
     caller.back(give(words, turn));
     Err(Full { census })

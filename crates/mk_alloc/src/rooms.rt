@@ -1,5 +1,5 @@
 //! Room for the object of a New: where it fits nowhere, cycles are finished and begun.
-ghost use Rattle.std.specs.Prelude.{◌≡◌, Some, None, true, false, length};
+ghost use Rattle.std.specs.Prelude.{◌≡◌, Some, None, true, false};
 ghost use Rattle.mk_core.specs.declared.events.Answer.TheVariants as answer;
 ghost use Rattle.mk_words.specs.States.{now_of};
 ghost use Rattle.mk_turns.specs.Sweeping.{SweepsNothing};
@@ -18,23 +18,20 @@ use std::sync::Wait;
 use std::thread::Threads;
 
 /// Grants the object where it fits.
-pub(crate) fn try_place<E: Engine>(words: &Words, turn: &mut Turn, bench: &mut Bench<E>) -> bool
+#[inline(always)]
+pub(crate) fn try_place(words: &Words, turn: &mut Turn) -> bool
     requires one_table { turn.old.pass.table ≡ words.now }
-    requires book { length bench.old.book ≡ words.now.config.pages }
     requires quiet { IsQuiet turn.old.pass }
     requires unplaced { IsUnplaced turn.old.pass }
     ensures op { turn.new.op ≡ turn.old.op }
-    ensures made_for { E.made_for bench.new.engine ≡ E.made_for bench.old.engine }
-    ensures book { length bench.new.book ≡ length bench.old.book }
     ensures placed { result ≡ true → Seeks (Some answer.Done) turn.old.pass turn.new.pass }
     ensures misfits { result ≡ false → Misfits turn.old.pass turn.new.pass }
     ensures looks { result ≡ false → OnlyLooks turn.old.pass turn.new.pass }
-    ensures shows { result ≡ false → bench.new.book ≡ (now_of turn.new.pass).words.pages }
     ensures begins { BeginsNone turn.old.pass turn.new.pass }
     ensures reached { SweepsNothing turn.old.pass turn.new.pass }
 {
     turn.is_in_order();
-    let placed = place_object(words, turn, &mut bench.book);
+    let placed = place_object(words, turn);
     turn.is_in_order();
     placed
 }
@@ -50,26 +47,23 @@ fn finish_and_place<E: Engine, R: Threads + Wait + Sync>(
 ) -> (Turn, bool)
     requires one_table { turn.pass.table ≡ words.now }
     requires made_for { E.made_for bench.old.engine ≡ words.now.config.pages }
-    requires book { length bench.old.book ≡ words.now.config.pages }
     requires quiet { IsQuiet turn.pass }
     requires unplaced { IsUnplaced turn.pass }
     requires nowhere { place_now_for turn.pass ≡ None }
     requires on { IsAtPhase turn.pass 1 }
     ensures op { result.0.op ≡ turn.op }
     ensures made_for { E.made_for bench.new.engine ≡ E.made_for bench.old.engine }
-    ensures book { length bench.new.book ≡ length bench.old.book }
     ensures placed { result.1 ≡ true → Seeks (Some answer.Done) turn.pass result.0.pass }
     ensures misfits { result.1 ≡ false → MisfitsIdly turn.pass result.0.pass }
     ensures cycle { result.1 ≡ false → (now_of result.0.pass).seats.holding.cycle
         ≡ cycle_ended (now_of turn.pass).seats.holding.cycle }
-    ensures shows { result.1 ≡ false → bench.new.book ≡ (now_of result.0.pass).words.pages }
     ensures ends { EndsOnly turn.pass result.0.pass }
     ensures reached { E.sweeps ≡ false → SweepsNothing turn.pass result.0.pass }
 {
     turn.is_in_order();
     let (mut turn, _) = finish_cycle(rt, words, turn, bench);
     turn.is_in_order();
-    let placed = try_place(words, &mut turn, bench);
+    let placed = try_place(words, &mut turn);
     (turn, placed)
 }
 
@@ -82,13 +76,11 @@ fn place_behind_older<E: Engine, R: Threads + Wait + Sync>(
 ) -> (Turn, bool)
     requires one_table { turn.pass.table ≡ words.now }
     requires made_for { E.made_for bench.old.engine ≡ words.now.config.pages }
-    requires book { length bench.old.book ≡ words.now.config.pages }
     requires quiet { IsQuiet turn.pass }
     requires unplaced { IsUnplaced turn.pass }
     requires nowhere { place_now_for turn.pass ≡ None }
     ensures op { result.0.op ≡ turn.op }
     ensures made_for { E.made_for bench.new.engine ≡ E.made_for bench.old.engine }
-    ensures book { length bench.new.book ≡ length bench.old.book }
     ensures placed { result.1 ≡ true → Seeks (Some answer.Done) turn.pass result.0.pass }
     ensures misfits { result.1 ≡ false → MisfitsIdly turn.pass result.0.pass }
     ensures begins { BeginsNone turn.pass result.0.pass }
@@ -115,17 +107,14 @@ fn place_behind_cycle<E: Engine, R: Threads + Wait + Sync>(
 ) -> (Turn, bool)
     requires one_table { turn.pass.table ≡ words.now }
     requires made_for { E.made_for bench.old.engine ≡ words.now.config.pages }
-    requires book { length bench.old.book ≡ words.now.config.pages }
     requires quiet { IsQuiet turn.pass }
     requires unplaced { IsUnplaced turn.pass }
     requires nowhere { place_now_for turn.pass ≡ None }
     requires idle { IsAtPhase turn.pass 0 }
     ensures op { result.0.op ≡ turn.op }
     ensures made_for { E.made_for bench.new.engine ≡ E.made_for bench.old.engine }
-    ensures book { length bench.new.book ≡ length bench.old.book }
     ensures placed { result.1 ≡ true → Seeks (Some answer.Done) turn.pass result.0.pass }
     ensures misfits { result.1 ≡ false → MisfitsAtLast turn.pass result.0.pass }
-    ensures shows { result.1 ≡ false → bench.new.book ≡ (now_of result.0.pass).words.pages }
     ensures one { RunsOne turn.pass result.0.pass }
     ensures reached { E.sweeps ≡ false → SweepsNothing turn.pass result.0.pass }
     ensures begun { EachIsBegun E.begins turn.pass result.0.pass }
@@ -149,16 +138,13 @@ pub(crate) fn make_room<E: Engine, R: Threads + Wait + Sync>(
 ) -> (Turn, bool)
     requires one_table { turn.pass.table ≡ words.now }
     requires made_for { E.made_for bench.old.engine ≡ words.now.config.pages }
-    requires book { length bench.old.book ≡ words.now.config.pages }
     requires quiet { IsQuiet turn.pass }
     requires unplaced { IsUnplaced turn.pass }
     requires nowhere { place_now_for turn.pass ≡ None }
     ensures op { result.0.op ≡ turn.op }
     ensures made_for { E.made_for bench.new.engine ≡ E.made_for bench.old.engine }
-    ensures book { length bench.new.book ≡ length bench.old.book }
     ensures placed { result.1 ≡ true → Seeks (Some answer.Done) turn.pass result.0.pass }
     ensures misfits { result.1 ≡ false → MisfitsAtLast turn.pass result.0.pass }
-    ensures shows { result.1 ≡ false → bench.new.book ≡ (now_of result.0.pass).words.pages }
     ensures one { RunsOne turn.pass result.0.pass }
     ensures reached { E.sweeps ≡ false → SweepsNothing turn.pass result.0.pass }
     ensures begun { EachIsBegun E.begins turn.pass result.0.pass }

@@ -74,12 +74,11 @@ fn see(words: &Words, turn: &mut Turn) -> Seen
     ensures marking { result.marking ≡ (phase_of (now_of turn.new.pass).words == 1) }
 {
     words.is_within_limits();
-    let header = look_at(words, turn, Word::Head(0));
-    let used = look_at(words, turn, Word::Used(0));
+    let page = turn.page(0);
     let held = look_at(words, turn, Word::Held);
     let marking = is_marking(words, turn);
     Seen {
-        page: Page { header, used },
+        page,
         held,
         marking,
     }

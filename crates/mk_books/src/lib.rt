@@ -5,13 +5,11 @@
 //! cycle has to come. Start with `fitting`.
 #![tactic(auto)]
 
-mod books;
 mod counting;
 mod fitting;
 mod page_uses;
 mod trigger;
 
-pub use books::{Book, NoMemory};
 pub use counting::{census, free_pages, held_by_pages};
 pub use fitting::first_fit;
 pub use mk_geom::{Census, Page, Place};

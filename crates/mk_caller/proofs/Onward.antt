@@ -15,10 +15,10 @@ pub record Next (c : Config) (f : Flight) (x : Progress) : Type 0 where
   pub page : x.flight.stage ≡ Stage.Dirty → is_word_met c x.flight ≡ true
 
 -- A step of a call that may go on leaves one that may.
-pub moves : (p : PassState) (s : Step) (x : Progress) (q : PassState) → IsUnderway p → Goes p s x q
+pub moves : {p : PassState} {s : Step} {x : Progress} {q : PassState} → IsUnderway p → Goes p s x q
     → Next p.table.config (call_of p) x
     → CallMoves p (call_of p).op s x q
-moves p s x q u g next =
+moves {p} {s} {x} {q} u g next =
     record {
       makes = one_step p (call_of p).op s x q u.caller u.seat g u.entered refl;
       call = g.call;

@@ -25,7 +25,7 @@ load_undecided Stage.LoadP h = (refl, refl)
 load_undecided Stage.LoadR h = (refl, refl)
 load_undecided _ h = cc
 
-module _ (p : PassState) (u : IsUnderway p) where
+module _ {p : PassState} (u : IsUnderway p) where
   enabled_step : (s : Step) → group_of s ≡ Group.Callers → comes_next (call_of p).stage (call_of p).op s ≡ true
       → is_in_range p.table.config p.seat (call_of p) s ≡ true → IsEnabledTo p s
   enabled_step s kind next range = enabled p s u.caller u.seat u.exists kind next range
@@ -107,25 +107,25 @@ probe_by p q n b is m =
     subst (λ (x : Bool). CallMoves p (call_of p).op Step.Probe
     (if x then refused (call_of p) Answer.Fault else onward (call_of p) None) q) is m
 
-pub probe_refused : (p q : PassState) (n : ℕ) → is_unmapped_header (header_of n) ≡ true
+pub probe_refused : {p q : PassState} (n : ℕ) → is_unmapped_header (header_of n) ≡ true
     → CallMoves p (call_of p).op Step.Probe (progress_probe (call_of p) n) q
     → CallMoves p (call_of p).op Step.Probe (refused (call_of p) Answer.Fault) q
-probe_refused p q n is m = probe_by p q n true is m
+probe_refused {p} {q} n is m = probe_by p q n true is m
 
-pub probe_passed : (p q : PassState) (n : ℕ) → is_unmapped_header (header_of n) ≡ false
+pub probe_passed : {p q : PassState} (n : ℕ) → is_unmapped_header (header_of n) ≡ false
     → CallMoves p (call_of p).op Step.Probe (progress_probe (call_of p) n) q
     → CallMoves p (call_of p).op Step.Probe (onward (call_of p) None) q
-probe_passed p q n is m = probe_by p q n false is m
+probe_passed {p} {q} n is m = probe_by p q n false is m
 
 -- A pointer that is moved on stays within its allocation.
-pub moved_within : (p : PassState) (u : IsUnderway p) (value offset : ℕ)
+pub moved_within : {p : PassState} (u : IsUnderway p) {value offset : ℕ}
     → (call_of p).stage ≡ Stage.Store → is_access (call_of p).op ≡ true → has_q Stage.Store (call_of p).op ≡ true
     → has_some_q Stage.Store (call_of p).op ≡ true
     → value ≡ (call_of p).q → offset ≡ i_of (call_of p).op
     → value + 8 * offset < 2 ^ 64
-moved_within p u value offset at access has some v i =
-    let m = met p u Stage.Store at access refl has some in
-    let b = met_bounds p u value offset v i m in
+moved_within u {value} {offset} at access has some v i =
+    let m = met u Stage.Store at access refl has some in
+    let b = met_bounds u value offset v i m in
     let pages = u.pass.history.within_limits.pages.1 in
     let low = b.0 in
     let word = b.1 in

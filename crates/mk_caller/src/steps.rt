@@ -18,8 +18,7 @@ ghost use Rattle.mk_caller.specs.Moves.{MayBeginCall, IsUnderway, CallMoves, Cal
 ghost use Rattle.mk_caller.specs.Moves.{loads_register, stores_register};
 ghost use Rattle.mk_caller.specs.Moves.{loads, loads_global, passes, faults, reads, writes, exchanges, call_ends};
 
-use mk_core::is_unmapped;
-use mk_geom::{HEAP_START, PAGE_WORDS, WORD_BYTES};
+use mk_geom::{HEAP_START, PAGE_WORDS, WORD_BYTES, is_unmapped};
 use mk_never::Op;
 use mk_words::{Held, Pass, Words};
 

@@ -5,7 +5,8 @@ use Rattle.mk_check.proofs.Vocabulary.{global_type, globals_of, kind_of, length,
 use Rattle.mk_check.proofs.Vocabulary.{pointer_at, pointer_names, refl, scope_of, slice_get, subst, sym, true}
 use Rattle.mk_check.proofs.Vocabulary.{type_names, ◌<◌, ◌∙◌, ◌≡◌}
 use Rattle.mk_never.proofs.Edits.{if_by, left_at_by}
-use Rattle.mk_never.specs.Admitted.{IsAdmitted, IsBase, IsNumber, IsPointer, Meets}
+use Rattle.mk_never.specs.Admitted.{AccessIsAdmitted, IsAdmitted, IsBase, IsNumber, IsPointer, Meets}
+use Rattle.mk_never.specs.Admitted.{OperandsAreInRange, StoreIsAdmitted}
 use Rattle.mk_never.specs.NeverHeap.{after_free, after_op, is_same, target_of, with_new, with_register, word_at}
 use Rattle.mk_never.specs.declared.values.Value.TheVariants.{Null, Num, Ptr}
 use Rattle.mk_never.specs.declared.types.Kind.TheVariants.{Num as NumKind, To}
@@ -96,107 +97,50 @@ module _ (program script : List Item) (few : HasFew (scope_of program script)) (
       (sym (global_place (type_names program) global program s.ty s.is))
       (fits.declared stored (base_of s.ty) s.declared)
 
+  admits : {o : Op} → OperandsAreInRange n o → AccessIsAdmitted n caller o
+      → StoreIsAdmitted (globals_of program) n caller o → Admits o
+  admits range access store =
+      record { of_a_caller = fits.of_a_caller; in_range = range; access = access; store = store }
+
   -- What a typed line asks for is admitted, also as it is noted.
   pub admitted : (fed : Fed) (item : Item) → Says program script item
       → IfSome (op_of (scope_of program script) fed item) (λ o. (a : Answer) → Admits (flagged o a))
-  admitted fed (New pointer ty) s = flagged_new Admits _ _ (λ full. record {
-    of_a_caller = fits.of_a_caller;
-    in_range = (pointers pointer _ s.declared, types pointer ty s);
-    access = tt;
-    store = tt;
-  })
-  admitted fed (Free pointer) s = λ a. record {
-    of_a_caller = fits.of_a_caller;
-    in_range = pointers pointer s.at s.declared;
-    access = tt;
-    store = bases program (register_of script n caller pointer) s.at s.base (fits.declared pointer s.at s.declared);
-  }
-  admitted fed (Getn number pointer index) s = λ a. record {
-    of_a_caller = fits.of_a_caller;
-    in_range = pointers pointer s.at s.declared;
-    access = number_access pointer index s;
-    store = tt;
-  }
-  admitted fed (Setn pointer index number) s = λ a. record {
-    of_a_caller = fits.of_a_caller;
-    in_range = pointers pointer s.at s.declared;
-    access = number_access pointer index s;
-    store = tt;
-  }
-  admitted fed (Getp loaded pointer index) s = λ a. record {
-    of_a_caller = fits.of_a_caller;
-    in_range = (pointers loaded s.at s.declared, pointers pointer s.word.at s.word.declared);
-    access = pointer_access pointer index loaded s;
-    store = tt;
-  }
-  admitted fed (Setp pointer index stored) s = λ a. record {
-    of_a_caller = fits.of_a_caller;
-    in_range = (pointers pointer s.word.at s.word.declared, pointers stored s.at s.declared);
-    access = pointer_access pointer index stored s;
-    store = store_access pointer index stored s;
-  }
-  admitted fed (Casp number pointer index expected stored) s = λ a. record {
-    of_a_caller = fits.of_a_caller;
-    in_range = (
-      pointers pointer s.0.word.at s.0.word.declared,
-      pointers expected s.0.at s.0.declared,
-      pointers stored s.1.at s.1.declared,
-    );
-    access = pointer_access pointer index expected s.0;
-    store = meets_both n (register_of script n caller pointer) index _ _ (store_access pointer index expected s.0)
-        (store_access pointer index stored s.1);
-  }
-  admitted fed (Lea moved pointer index) s = λ a. record {
-    of_a_caller = fits.of_a_caller;
-    in_range = (pointers moved _ s.declared, pointers pointer s.before.at s.before.declared);
-    access = any_access pointer index moved s;
-    store = tt;
-  }
-  admitted fed (Move copied pointer) s = λ a. record {
-    of_a_caller = fits.of_a_caller;
-    in_range = (pointers copied s.at s.first_is, pointers pointer s.at s.second_is);
-    access = tt;
-    store = tt;
-  }
-  admitted fed (Clear pointer) s =
-      λ a. record {
-        of_a_caller = fits.of_a_caller;
-        in_range = pointers pointer s.at s.declared;
-        access = tt;
-        store = tt;
-      }
-  admitted fed (Loadg loaded global) s = λ a. record {
-    of_a_caller = fits.of_a_caller;
-    in_range = (pointers loaded _ s.declared, globals global s.ty s.is);
-    access = tt;
-    store = tt;
-  }
-  admitted fed (Storeg stored global) s = λ a. record {
-    of_a_caller = fits.of_a_caller;
-    in_range = (globals global s.ty s.is, pointers stored _ s.declared);
-    access = tt;
-    store = global_store stored global s;
-  }
-  admitted fed (Same number first second) s = λ a. record {
-    of_a_caller = fits.of_a_caller;
-    in_range = (pointers first s.0.at s.0.declared, pointers second s.1.at s.1.declared);
-    access = tt;
-    store = tt;
-  }
-  admitted fed (Isnull number pointer) s =
-      λ a. record {
-        of_a_caller = fits.of_a_caller;
-        in_range = pointers pointer s.at s.declared;
-        access = tt;
-        store = tt;
-      }
-  admitted fed (Show pointer) s =
-      λ a. record {
-        of_a_caller = fits.of_a_caller;
-        in_range = pointers pointer s.at s.declared;
-        access = tt;
-        store = tt;
-      }
+  admitted fed (New pointer ty) s =
+      flagged_new Admits _ _ (λ full. admits (pointers pointer _ s.declared, types pointer ty s) tt tt)
+  admitted fed (Free pointer) s =
+      λ a. admits (pointers pointer s.at s.declared) tt
+      (bases program (register_of script n caller pointer) s.at s.base (fits.declared pointer s.at s.declared))
+  admitted fed (Getn number pointer index) s =
+      λ a. admits (pointers pointer s.at s.declared) (number_access pointer index s) tt
+  admitted fed (Setn pointer index number) s =
+      λ a. admits (pointers pointer s.at s.declared) (number_access pointer index s) tt
+  admitted fed (Getp loaded pointer index) s =
+      λ a. admits (pointers loaded s.at s.declared, pointers pointer s.word.at s.word.declared)
+      (pointer_access pointer index loaded s) tt
+  admitted fed (Setp pointer index stored) s =
+      λ a. admits (pointers pointer s.word.at s.word.declared, pointers stored s.at s.declared)
+      (pointer_access pointer index stored s) (store_access pointer index stored s)
+  admitted fed (Casp number pointer index expected stored) s =
+      λ a. admits (
+        pointers pointer s.0.word.at s.0.word.declared,
+        pointers expected s.0.at s.0.declared,
+        pointers stored s.1.at s.1.declared,
+      ) (pointer_access pointer index expected s.0)
+      (meets_both n (register_of script n caller pointer) index _ _ (store_access pointer index expected s.0)
+      (store_access pointer index stored s.1))
+  admitted fed (Lea moved pointer index) s =
+      λ a. admits (pointers moved _ s.declared, pointers pointer s.before.at s.before.declared)
+      (any_access pointer index moved s) tt
+  admitted fed (Move copied pointer) s =
+      λ a. admits (pointers copied s.at s.first_is, pointers pointer s.at s.second_is) tt tt
+  admitted fed (Clear pointer) s = λ a. admits (pointers pointer s.at s.declared) tt tt
+  admitted fed (Loadg loaded global) s = λ a. admits (pointers loaded _ s.declared, globals global s.ty s.is) tt tt
+  admitted fed (Storeg stored global) s =
+      λ a. admits (globals global s.ty s.is, pointers stored _ s.declared) tt (global_store stored global s)
+  admitted fed (Same number first second) s =
+      λ a. admits (pointers first s.0.at s.0.declared, pointers second s.1.at s.1.declared) tt tt
+  admitted fed (Isnull number pointer) s = λ a. admits (pointers pointer s.at s.declared) tt tt
+  admitted fed (Show pointer) s = λ a. admits (pointers pointer s.at s.declared) tt tt
   admitted fed item s = tt
 
   -- Registers.

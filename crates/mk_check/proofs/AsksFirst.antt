@@ -1,14 +1,15 @@
 -- Steps that come to an operation before anything is printed, and before a block ends.
 use Rattle.std.proofs.lemmas.Option.{get_or_from_slice_get, slice_get-get_or}
 use Rattle.std.proofs.{Common.IsTrue, Common.slice_set, Common.◌||◌, lemmas.List.drop_all, lemmas.List.set_split}
-use Rattle.mk_check.proofs.Vocabulary.{Bool, Frame, FrameIsWithin, FramesAreWithin, HasStopped, Instruction, IsTree}
-use Rattle.mk_check.proofs.Vocabulary.{List, MovesOn, Node, None, Option, Place, PlaceIsWithin, Some, ℕ, after_line}
+use Rattle.mk_check.proofs.Vocabulary.{Bool, Frame, FrameIsWithin, FramesAreWithin, HasStopped, Instruction, List}
+use Rattle.mk_check.proofs.Vocabulary.{MovesOn, Node, None, Option, Place, PlaceIsWithin, Some, ℕ, after_line}
 use Rattle.mk_check.proofs.Vocabulary.{and_parts, ap, arith, asks_first, false, if◌then◌else◌, innermost, is_asking}
 use Rattle.mk_check.proofs.Vocabulary.{is_print, is_some, kept_in, length, length_push, node_at, not, op_asked, refl}
 use Rattle.mk_check.proofs.Vocabulary.{slice_get, slice_get_within, slice_index, steps_at, steps_from, subst, suc, sym}
 use Rattle.mk_check.proofs.Vocabulary.{take, take_all, take_more, trees, true, with_kept, zero, [], ◌&&◌, ◌++◌, ◌+◌}
 use Rattle.mk_check.proofs.Vocabulary.{◌-◌, ◌<◌, ◌==◌, ◌∙◌, ◌∷◌, ◌≡◌}
-use Rattle.mk_check.proofs.Moves.{FramesAreWithin_pop, asks_at, end_goes_on, line_goes_on, steps_at-trees}
+use Rattle.mk_check.proofs.Moves.{FramesAreWithin_pop, asks_at, end_goes_on, line_goes_on}
+use Rattle.mk_check.proofs.TreeNodes.{IsAt, steps_at-trees}
 use Rattle.mk_check.specs.declared.feeding.instructions.Instruction.TheVariants.{Add, CasPtr, Clear, Const, Free}
 use Rattle.mk_check.specs.declared.feeding.instructions.Instruction.TheVariants.{GetGlobal, GetNum, GetPtr, IsNull, Lea}
 use Rattle.mk_check.specs.declared.feeding.instructions.Instruction.TheVariants.{Move, New, Nothing, Print, Same}
@@ -131,12 +132,6 @@ at_after p (Frame.Rounds zero body next) = refl
 at_after p (Frame.Rounds (suc more) body next) = refl
 at_after p (Frame.Branch next) = refl
 
-pub goes_on_here : (n : Node) (at : ℕ) (block : Option Frame) → (n ≡ Node.Done → ⊥) → node_to_go_on n at block ≡ at
-goes_on_here Node.Done at block h = absurd (h refl)
-goes_on_here (Node.Line line instruction next) at block h = refl
-goes_on_here (Node.Rounds rounds body next) at block h = refl
-goes_on_here (Node.Choice number first second next) at block h = refl
-
 node_after_within : (count : ℕ) (f : Frame) → FrameIsWithin count f → node_after f < count
 node_after_within count (Frame.Rounds zero body next) w = w.1
 node_after_within count (Frame.Rounds (suc more) body next) w = w.0
@@ -158,39 +153,36 @@ resumed_within nodes p w =
     (subst (λ (xs : List Frame). FramesAreWithin (length nodes) xs) (split_last p.frames f e) w.frames)).1)
 
 module _ (nodes : List Node) where
-  first_from : (at : ℕ) (n : Node) → IsTree nodes → at < length nodes → node_at nodes at ≡ n
-      → asks_first (steps_at (trees nodes) at) ≡ asks_first (steps_from (trees nodes) n)
-  first_from at n tree h e = ap asks_first (steps_at-trees nodes at tree h ∙ ap (steps_from (trees nodes)) e)
+  first_from : {p : Place} {n : Node} → IsAt nodes p n
+      → asks_first (steps_at (trees nodes) p.at) ≡ asks_first (steps_from (trees nodes) n)
+  first_from {p} at =
+      ap asks_first (steps_at-trees nodes p.at at.tree at.within.at ∙ ap (steps_from (trees nodes)) at.node)
 
-  pub first_later : (at line : ℕ) (instruction : Instruction) (next : ℕ) → IsTree nodes → at < length nodes
-      → node_at nodes at ≡ Node.Line line instruction next → is_asking instruction ≡ false
-      → is_print instruction ≡ false
-      → asks_first (steps_at (trees nodes) at) ≡ asks_first (steps_at (trees nodes) next)
-  first_later at line instruction next tree h e asks prints =
-      first_from at (Node.Line line instruction next) tree h e
+  pub first_later : {p : Place} {line : ℕ} {instruction : Instruction} {next : ℕ}
+      → IsAt nodes p (Node.Line line instruction next) → is_asking instruction ≡ false → is_print instruction ≡ false
+      → asks_first (steps_at (trees nodes) p.at) ≡ asks_first (steps_at (trees nodes) next)
+  first_later {instruction} {next} at asks prints =
+      first_from at
       ∙ asks_later (is_asking instruction) (is_print instruction) (asks_first (steps_at (trees nodes) next)) asks
       prints
 
-  pub first_done : (at : ℕ) → IsTree nodes → at < length nodes → node_at nodes at ≡ Node.Done
-      → asks_first (steps_at (trees nodes) at) ≡ false
-  first_done at tree h e = first_from at Node.Done tree h e
+  pub first_done : {p : Place} → IsAt nodes p Node.Done → asks_first (steps_at (trees nodes) p.at) ≡ false
+  first_done at = first_from at
 
   -- so do those of a block that begins
 
-  pub first_in_rounds : (p : Place) (rounds body next : ℕ) → IsTree nodes → p.at < length nodes
-      → node_at nodes p.at ≡ Node.Rounds rounds body next → asks_first (steps_at (trees nodes) p.at) ≡ true
+  pub first_in_rounds : {p : Place} {rounds body next : ℕ} → IsAt nodes p (Node.Rounds rounds body next)
+      → asks_first (steps_at (trees nodes) p.at) ≡ true
       → asks_first (steps_at (trees nodes) (place_in_rounds p rounds body next).at) ≡ true
-  first_in_rounds p zero body next tree h e first =
-      sym (first_from p.at (Node.Rounds zero body next) tree h e) ∙ first
-  first_in_rounds p (suc more) body next tree h e first =
-      sym (first_from p.at (Node.Rounds (suc more) body next) tree h e) ∙ first
+  first_in_rounds {rounds = zero} at first = sym (first_from at) ∙ first
+  first_in_rounds {rounds = suc more} at first = sym (first_from at) ∙ first
 
-  pub first_in_branch : (p : Place) (number first second next : ℕ) → IsTree nodes → p.at < length nodes
-      → node_at nodes p.at ≡ Node.Choice number first second next → asks_first (steps_at (trees nodes) p.at) ≡ true
+  pub first_in_branch : {p : Place} {number first second next : ℕ}
+      → IsAt nodes p (Node.Choice number first second next) → asks_first (steps_at (trees nodes) p.at) ≡ true
       → asks_first (steps_at (trees nodes) (place_in_branch p number first second next).at) ≡ true
-  first_in_branch p number first second next tree h e asks =
+  first_in_branch {p} {number} {first} {second} at asks =
       let both = and_parts (asks_first (steps_at (trees nodes) first)) (asks_first (steps_at (trees nodes) second))
-      (sym (first_from p.at (Node.Choice number first second next) tree h e) ∙ asks) in
+      (sym (first_from at) ∙ asks) in
       by_test (slice_index p.numbers number == 0) both.0 both.1
     where
       by_test : (b : Bool) → asks_first (steps_at (trees nodes) first) ≡ true
@@ -199,27 +191,23 @@ module _ (nodes : List Node) where
       by_test true f g = g
       by_test false f g = f
 
-  pub no_print_here : (at line : ℕ) (instruction : Instruction) (next : ℕ) → IsTree nodes → at < length nodes
-      → node_at nodes at ≡ Node.Line line instruction next → is_asking instruction ≡ false
-      → asks_first (steps_at (trees nodes) at) ≡ true → is_print instruction ≡ false
-  no_print_here at line instruction next tree h e asks first =
+  pub no_print_here : {p : Place} {line : ℕ} {instruction : Instruction} {next : ℕ}
+      → IsAt nodes p (Node.Line line instruction next) → is_asking instruction ≡ false
+      → asks_first (steps_at (trees nodes) p.at) ≡ true → is_print instruction ≡ false
+  no_print_here {instruction} {next} at asks first =
       no_print (is_asking instruction) (is_print instruction) (asks_first (steps_at (trees nodes) next)) asks
-      (sym (first_from at (Node.Line line instruction next) tree h e) ∙ first)
+      (sym (first_from at) ∙ first)
 
   -- A place moves on through lines that print nothing.
 
-  pub line_to_op : (p : Place) (line : ℕ) (instruction : Instruction) (next : ℕ) → IsTree nodes
-      → PlaceIsWithin (length nodes) p → node_at nodes p.at ≡ Node.Line line instruction next
-      → is_asking instruction ≡ false
+  pub line_to_op : {p : Place} {line : ℕ} {instruction : Instruction} {next : ℕ}
+      → IsAt nodes p (Node.Line line instruction next) → is_asking instruction ≡ false
       → MovesOn nodes p (with_kept (record p { at = next }) (after_line instruction (kept_in p)))
-  line_to_op p line instruction next tree w e asks =
-      line_goes_on nodes p line instruction next tree w e (asked_so p.numbers instruction ∙ asks)
+  line_to_op {p} {instruction} at asks = line_goes_on nodes at (asked_so p.numbers instruction ∙ asks)
 
-  pub stops_at_op : (p : Place) (line : ℕ) (instruction : Instruction) (next : ℕ) → IsTree nodes
-      → PlaceIsWithin (length nodes) p → node_at nodes p.at ≡ Node.Line line instruction next
-      → is_asking instruction ≡ true → HasStopped nodes p p
-  stops_at_op p line instruction next tree w e asks =
-      asks_at nodes p line instruction next tree w e (asked_so p.numbers instruction ∙ asks)
+  pub stops_at_op : {p : Place} {line : ℕ} {instruction : Instruction} {next : ℕ}
+      → IsAt nodes p (Node.Line line instruction next) → is_asking instruction ≡ true → HasStopped nodes p p
+  stops_at_op {p} {instruction} at asks = asks_at nodes at (asked_so p.numbers instruction ∙ asks)
 
   stays_to_op : (p q : Place) → PlaceIsWithin (length nodes) p
       → asks_first (steps_at (trees nodes) p.at) ≡ true → q ≡ p → MovesToOp nodes p q
@@ -233,40 +221,32 @@ module _ (nodes : List Node) where
       })
 
   -- the end of a block, after which an operation comes first
-  pub left_to_op : (p q : Place) (left : Bool) → IsTree nodes → PlaceIsWithin (length nodes) p
-      → node_at nodes p.at ≡ Node.Done → asks_first (steps_at (trees nodes) (resumed_node nodes p)) ≡ true
+  pub left_to_op : {p : Place} (q : Place) (left : Bool) → IsAt nodes p Node.Done
+      → asks_first (steps_at (trees nodes) (resumed_node nodes p)) ≡ true
       → (IsTrue left → LeavesBlock p q) → (left ≡ false → (p.frames ≡ []) × (q ≡ p)) → MovesToOp nodes p q
-  left_to_op p q true tree w e first leaves none =
+  left_to_op {p} q true at first leaves none =
       let block = leaves refl in
-      let moves = end_goes_on nodes p q tree w e block in
+      let moves = end_goes_on nodes at block in
       let last : innermost p.frames ≡ Some block.frame =
       ap innermost block.was ∙ innermost_push block.frames block.frame in
       let resumed : resumed_node nodes p ≡ node_after block.frame =
-      ap (λ (n : Node). node_to_go_on n p.at (innermost p.frames)) e
+      ap (λ (n : Node). node_to_go_on n p.at (innermost p.frames)) at.node
       ∙ ap (λ (o : Option Frame). node_to_go_on Node.Done p.at o) last in
       let here : q.at ≡ node_after block.frame =
       ap (λ (x : Place). x.at) block.is ∙ at_after (record p { frames = block.frames }) block.frame in
       record {
         within = moves.within;
         run = moves.run;
-        first = ap (λ (at : ℕ). asks_first (steps_at (trees nodes) at)) (here ∙ sym resumed) ∙ first;
+        first = ap (λ (k : ℕ). asks_first (steps_at (trees nodes) k)) (here ∙ sym resumed) ∙ first;
         fits = moves.fits;
       }
-  left_to_op p q false tree w e first leaves none =
+  left_to_op {p} q false at first leaves none =
       let last : innermost p.frames ≡ None = ap innermost (none refl).0 in
       let resumed : resumed_node nodes p ≡ p.at =
-      ap (λ (n : Node). node_to_go_on n p.at (innermost p.frames)) e
+      ap (λ (n : Node). node_to_go_on n p.at (innermost p.frames)) at.node
       ∙ ap (λ (o : Option Frame). node_to_go_on Node.Done p.at o) last in
-      stays_to_op p q w (ap (λ (at : ℕ). asks_first (steps_at (trees nodes) at)) (sym resumed) ∙ first) (none refl).1
-
-  pub same_to_op : (p q : Place) (n : Node) → PlaceIsWithin (length nodes) p → node_at nodes p.at ≡ n
-      → (n ≡ Node.Done → ⊥) → asks_first (steps_at (trees nodes) (resumed_node nodes p)) ≡ true → q ≡ p
-      → MovesToOp nodes p q
-  same_to_op p q n w e other first same =
-      let resumed : resumed_node nodes p ≡ p.at =
-      ap (λ (m : Node). node_to_go_on m p.at (innermost p.frames)) e
-      ∙ goes_on_here n p.at (innermost p.frames) other in
-      stays_to_op p q w (ap (λ (at : ℕ). asks_first (steps_at (trees nodes) at)) (sym resumed) ∙ first) same
+      stays_to_op p q at.within (ap (λ (k : ℕ). asks_first (steps_at (trees nodes) k)) (sym resumed) ∙ first)
+      (none refl).1
 
   -- A place that moves on stops where the place after it stops.
   pub stops_after : (p q t : Place) → MovesToOp nodes p q → HasStopped nodes q t → HasStopped nodes p t

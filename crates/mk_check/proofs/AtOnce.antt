@@ -5,8 +5,8 @@ use Rattle.mk_check.proofs.Vocabulary.{TakesAnswer, ℕ, after_answer, and_parts
 use Rattle.mk_check.proofs.Vocabulary.{kept_in, left_in, length, node_at, not, op_asked, op_of_node, refl, refusal_line}
 use Rattle.mk_check.proofs.Vocabulary.{refusal_text, stop_of, stop_on_answer, stopped_in, subst, sym, true, with_kept}
 use Rattle.mk_check.proofs.Vocabulary.{with_text, work_left, [], ◌++◌, ◌<◌, ◌∙◌, ◌∷◌, ◌≡◌}
-use Rattle.mk_check.proofs.Moves.{line_fits, unfolded_line}
-use Rattle.mk_check.proofs.{AsksFirst.asked_so, Stands.answer_stands, Stands.waits_for_answer, WorkLaws.answer_nearer}
+use Rattle.mk_check.proofs.{AsksFirst.asked_so, Moves.line_fits, Moves.unfolded_line, Stands.answer_stands}
+use Rattle.mk_check.proofs.{Stands.waits_for_answer, TreeNodes.IsAt, TreeNodes.is_at, WorkLaws.answer_nearer}
 use Rattle.mk_check.specs.{Feed.is_refusal, Steps.is_show, Steps.is_silent}
 use Rattle.mk_check.proofs.Moves as moves
 
@@ -30,7 +30,7 @@ pub stopped_here : (nodes : List Node) (p : Place) (n : Node) → IsTree nodes �
     → node_at nodes p.at ≡ n → is_some (op_of_node p.numbers n) ≡ true → HasStopped nodes p p
 stopped_here nodes p Node.Done tree w e h = cc
 stopped_here nodes p (Node.Line line instruction next) tree w e h =
-    moves.asks_at nodes p line instruction next tree w e h
+    moves.asks_at nodes (is_at tree w e) h
 stopped_here nodes p (Node.Rounds rounds body next) tree w e h = cc
 stopped_here nodes p (Node.Choice number first second next) tree w e h = cc
 
@@ -41,24 +41,23 @@ pub record StopsBehind (nodes : List Node) (p : Place) (a : Answer) (t : Place) 
   pub run : stopped_in nodes t ≡ stop_on_answer (left_in nodes p) a (kept_in p)
   pub fits : PlaceFits nodes p → PlaceFits nodes t
 
-pub stops_at_once : (nodes : List Node) (p t : Place) (line : ℕ) (instruction : Instruction) (next : ℕ) (a : Answer)
-    → IsTree nodes → PlaceIsWithin (length nodes) p → node_at nodes p.at ≡ Node.Line line instruction next
-    → is_silent instruction a ≡ true
+pub stops_at_once : {nodes : List Node} {p : Place} {line : ℕ} {instruction : Instruction} {next : ℕ} (a : Answer)
+    (t : Place) → IsAt nodes p (Node.Line line instruction next) → is_silent instruction a ≡ true
     → HasStopped nodes (with_kept (record p { at = next }) (after_answer instruction a (kept_in p))) t
     → StopsBehind nodes p a t
-stops_at_once nodes p t line instruction next a tree w e silent stopped =
+stops_at_once {nodes} {p} {line} {instruction} {next} a t at silent stopped =
     let rest = left_in nodes (record p { at = next }) in
     record {
       within = stopped.within;
       at = stopped.at;
       run = stopped.run
           ∙ sym (ap (λ (s : Steps). stop_on_answer s a (kept_in p))
-          (unfolded_line nodes p line instruction next tree w e)
+          (unfolded_line nodes at)
           ∙ ap (λ (k : KeptState). stop_of rest (after_answer instruction a k))
           (silent_kept line instruction a (kept_in p) silent));
       fits = λ f.
-          let at = line_fits nodes p line instruction next tree w e f in
-          stopped.fits (record { here = at.here; frames = at.frames });
+          let behind = line_fits nodes at f in
+          stopped.fits (record { here = behind.here; frames = behind.frames });
     }
 
 pub asks_so : (numbers : List ℕ) (n : Node) → asks_at n ≡ true → is_some (op_of_node numbers n) ≡ true
@@ -74,32 +73,43 @@ feeds s t true takes stays is = takes refl
 feeds s t false takes stays is =
     subst (λ (p : Place). IsFeed (record { nodes = s.nodes; place = p })) (sym (stays refl)) is
 
--- A script that waits, answered so.
-module _ (s : FeedState) (t : Place) (a : Answer) (line : ℕ) (instruction : Instruction) (next : ℕ)
-    (tree : IsTree s.nodes) (is : IsFeed s) (waiting : IsWaiting s)
-    (here : node_at s.nodes s.place.at ≡ Node.Line line instruction next)
-    (behind : StopsBehind s.nodes s.place a t) where
-  asks_here : is_some (op_asked s.place.numbers instruction) ≡ true
+-- A script that waits at a line, answered so.
+pub record IsAnsweredAtOnce (s : FeedState) (t : Place) (a : Answer) : Type 0 where
+  pub line : ℕ
+  pub instruction : Instruction
+  pub next : ℕ
+  pub at : IsAt s.nodes s.place (Node.Line line instruction next)
+  pub feed : IsFeed s
+  pub waiting : IsWaiting s
+  pub behind : StopsBehind s.nodes s.place a t
+
+module _ {s : FeedState} {t : Place} {a : Answer} (is : IsAnsweredAtOnce s t a) where
+  asks_here : is_some (op_asked s.place.numbers is.instruction) ≡ true
   asks_here =
-      ap (λ (n : Node). is_some (op_of_node s.place.numbers n)) (sym here) ∙ waits_for_answer s tree is waiting
+      ap (λ (n : Node). is_some (op_of_node s.place.numbers n)) (sym is.at.node)
+      ∙ waits_for_answer s is.at.tree is.feed is.waiting
 
   pub takes_at_once : TakesAnswer s a (record { nodes = s.nodes; place = t })
   takes_at_once program k answers st =
-      answer_stands program k answers a s (record { nodes = s.nodes; place = t }) line instruction next tree
-      is.stop.within here asks_here behind.run st
+      answer_stands program k answers a s (record { nodes = s.nodes; place = t }) is.line is.instruction is.next
+      is.at.tree is.at.within is.at.node asks_here is.behind.run st
 
   pub feeds_at_once : IsFeed (record { nodes = s.nodes; place = t })
   feeds_at_once =
       record {
-        stop = record { within = behind.within; fits = behind.fits is.stop.fits; stops = behind.at };
+        stop = record {
+          within = is.behind.within;
+          fits = is.behind.fits is.feed.stop.fits;
+          stops = is.behind.at;
+        };
         some = record {
-          program = is.some.program;
-          k = is.some.k;
-          answers = is.some.answers ++ a ∷ [];
-          stands = takes_at_once is.some.program is.some.k is.some.answers is.some.stands;
+          program = is.feed.some.program;
+          k = is.feed.some.k;
+          answers = is.feed.some.answers ++ a ∷ [];
+          stands = takes_at_once is.feed.some.program is.feed.some.k is.feed.some.answers is.feed.some.stands;
         };
       }
 
   pub nearer_at_once : work_left (record { nodes = s.nodes; place = t }) < work_left s
   nearer_at_once =
-      answer_nearer s.nodes s.place t line instruction next a tree is.stop.within here behind.run
+      answer_nearer s.nodes s.place t is.line is.instruction is.next a is.at.tree is.at.within is.at.node is.behind.run

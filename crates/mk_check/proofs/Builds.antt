@@ -4,7 +4,7 @@ use Rattle.mk_check.proofs.Vocabulary.{AddsLine, Built, Element, Instruction, Li
 use Rattle.mk_check.proofs.Vocabulary.{fold_push, get_or_append_left, get_or_at, length, length_push, parts_in, refl}
 use Rattle.mk_check.proofs.Vocabulary.{steps_at, steps_from, subst, sym, trees, with_element, with_node_and_part}
 use Rattle.mk_check.proofs.Vocabulary.{with_part, [], ◌++◌, ◌+◌, ◌<◌, ◌∙◌, ◌∷◌, ◌≡◌, ◌≤◌}
-use Rattle.mk_check.proofs.Moves.{trees_push}
+use Rattle.mk_check.proofs.TreeNodes.{trees_push}
 use Rattle.mk_check.specs.Building.{IsSoundlyBuilt, PartsAreWithin, StepPart, part_at, parts_at}
 use Rattle.mk_check.specs.{Steps.Done, Trees.with_node, declared.feeding.building.Part.Part}
 
@@ -76,6 +76,16 @@ popped b part parts sound was =
       w.2,
       ap (parts_at (trees b.nodes)) was ∙ parts_at_push (trees b.nodes) parts part,
     )
+
+-- The two innermost parts name nodes that there are.
+pub two_popped : (b : Built) (part inner : Part) (parts : List Part) (nodes : List Node) → IsSoundlyBuilt b
+    → b.parts ≡ (parts ++ part ∷ []) ++ inner ∷ [] → nodes ≡ b.nodes
+    → (inner.steps < length nodes) × (inner.second < length nodes) × (part.steps < length nodes)
+two_popped b part inner parts nodes sound was same =
+    let p = popped b inner (parts ++ part ∷ []) sound was in
+    let q = popped (record b { parts = parts ++ part ∷ [] }) part parts p.0 refl in
+    subst (λ (ns : List Node). (inner.steps < length ns) × (inner.second < length ns) × (part.steps < length ns))
+    (sym same) (p.1, p.2, q.1)
 
 -- one more node, which begins a part
 grown_sound : (b : Built) (n : Node) (second : ℕ) → IsSoundlyBuilt b → second < length b.nodes

@@ -12,6 +12,7 @@ pub mod FewBlocks
 pub mod FewNames
 pub mod LinesLeft
 pub mod Moves
+pub mod TreeNodes
 pub mod Numbered
 pub mod NumberedParts
 pub mod OtherLines

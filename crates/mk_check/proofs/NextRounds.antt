@@ -3,8 +3,8 @@ use Rattle.std.proofs.Common.{slice_set}
 use Rattle.mk_check.proofs.Vocabulary.{Frame, FrameIsWithin, FramesAreWithin, HasStopped, IsTree, List, Node, Place}
 use Rattle.mk_check.proofs.Vocabulary.{PlaceIsWithin, Some, ℕ, ap, asks_at, innermost, length, node_at, refl, subst}
 use Rattle.mk_check.proofs.Vocabulary.{take, true, ◌-◌, ◌<◌, ◌∙◌, ◌≡◌}
-use Rattle.mk_check.proofs.AsksFirst.{round_left, split_last}
-use Rattle.mk_check.proofs.{AtOnce.asks_so, AtOnce.stopped_here, Moves.FramesAreWithin_pop, Moves.end_goes_on}
+use Rattle.mk_check.proofs.{AsksFirst.round_left, AsksFirst.split_last, AtOnce.asks_so, AtOnce.stopped_here}
+use Rattle.mk_check.proofs.{Moves.FramesAreWithin_pop, Moves.end_goes_on, TreeNodes.is_at}
 
 pub innermost_within : (count : ℕ) (frames : List Frame) (f : Frame) → FramesAreWithin count frames
     → innermost frames ≡ Some f → FrameIsWithin count f
@@ -19,7 +19,7 @@ pub round_begins : (nodes : List Node) (p t : Place) (rounds less body next : �
     → t ≡ record p { at = body; frames = slice_set p.frames (length p.frames - 1) (Frame.Rounds less body next) }
     → HasStopped nodes p t
 round_begins nodes p t rounds less body next tree w e some one fewer asks is =
-    let moves = end_goes_on nodes p t tree w e (round_left p t rounds less body next some one fewer is) in
+    let moves = end_goes_on nodes (is_at tree w e) (round_left p t rounds less body next some one fewer is) in
     let at : t.at ≡ body = ap (λ (x : Place). x.at) is in
     let stopped =
     stopped_here nodes t (node_at nodes t.at) tree moves.within refl

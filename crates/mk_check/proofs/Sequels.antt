@@ -3,7 +3,8 @@ use Rattle.mk_check.proofs.Vocabulary.{Answer, Bool, HasStopped, Instruction, Is
 use Rattle.mk_check.proofs.Vocabulary.{Option, Place, PlaceIsWithin, Sequel, Some, TakesLine, ℕ, after_answer, ap}
 use Rattle.mk_check.proofs.Vocabulary.{asks_at, false, if◌then◌else◌, is_asking, kept_in, length, node_at, not, refl}
 use Rattle.mk_check.proofs.Vocabulary.{sequel_to, sequels_of, subst, sym, true, with_kept, ◌&&◌, ◌∙◌, ◌≡◌}
-use Rattle.mk_check.proofs.{AtOnce.asks_so, AtOnce.stopped_here, Moves.below_length, NextRounds.round_begins}
+use Rattle.mk_check.proofs.AtOnce.{asks_so, stopped_here}
+use Rattle.mk_check.proofs.{Moves.below_length, NextRounds.round_begins, TreeNodes.is_at}
 use Rattle.mk_check.specs.AtOnce.{BeginsRound, TakesAtOnce}
 use Rattle.mk_check.specs.Steps.{is_show, is_silent, keeping_register, with_value}
 use Rattle.mk_check.specs.declared.feeding.instructions.Instruction.TheVariants.{CasPtr, GetNum, IsNull, Same, Show}
@@ -55,13 +56,10 @@ unkept_by next true kept u s known e = absurd (known (sym e))
 unkept_by next false None u s known e = (refl, refl, refl, e)
 unkept_by next false (Some number) u s known e = absurd (known (sym e))
 
-kept_line : (nodes : List Node) (n : Node) (s : Sequel) → (s ≡ Sequel.Other → ⊥) → (sequels_of nodes n).kept ≡ s
-    → IsLine nodes n (sequels_of nodes n).next (Some (sequels_of nodes n).register) s
-kept_line nodes Node.Done s known e = absurd (known (sym e))
-kept_line nodes (Node.Line line instruction next) s known e =
-    let by =
-    kept_by next (is_show instruction) (keeping_register instruction) (sequel_to (node_at nodes next)) s known e
-    in
+line_told : (nodes : List Node) (line : ℕ) (instruction : Instruction) {next behind : ℕ} {kept : Option ℕ} {s : Sequel}
+    → (behind ≡ next) × (is_show instruction ≡ false) × (keeping_register instruction ≡ kept)
+    × (sequel_to (node_at nodes next) ≡ s) → IsLine nodes (Node.Line line instruction next) behind kept s
+line_told nodes line instruction by =
     record {
       line = line;
       instruction = instruction;
@@ -70,6 +68,13 @@ kept_line nodes (Node.Line line instruction next) s known e =
       keeps = by.2;
       told = ap (λ (j : ℕ). sequel_to (node_at nodes j)) by.0 ∙ by.3;
     }
+
+kept_line : (nodes : List Node) (n : Node) (s : Sequel) → (s ≡ Sequel.Other → ⊥) → (sequels_of nodes n).kept ≡ s
+    → IsLine nodes n (sequels_of nodes n).next (Some (sequels_of nodes n).register) s
+kept_line nodes Node.Done s known e = absurd (known (sym e))
+kept_line nodes (Node.Line line instruction next) s known e =
+    line_told nodes line instruction
+    (kept_by next (is_show instruction) (keeping_register instruction) (sequel_to (node_at nodes next)) s known e)
 kept_line nodes (Node.Rounds rounds body next) s known e = absurd (known (sym e))
 kept_line nodes (Node.Choice number first second next) s known e = absurd (known (sym e))
 
@@ -77,17 +82,8 @@ unkept_line : (nodes : List Node) (n : Node) (s : Sequel) → (s ≡ Sequel.Othe
     → (sequels_of nodes n).unkept ≡ s → IsLine nodes n (sequels_of nodes n).next None s
 unkept_line nodes Node.Done s known e = absurd (known (sym e))
 unkept_line nodes (Node.Line line instruction next) s known e =
-    let by =
-    unkept_by next (is_show instruction) (keeping_register instruction) (sequel_to (node_at nodes next)) s known e
-    in
-    record {
-      line = line;
-      instruction = instruction;
-      is = ap (λ (j : ℕ). Node.Line line instruction j) (sym by.0);
-      shown = by.1;
-      keeps = by.2;
-      told = ap (λ (j : ℕ). sequel_to (node_at nodes j)) by.0 ∙ by.3;
-    }
+    line_told nodes line instruction
+    (unkept_by next (is_show instruction) (keeping_register instruction) (sequel_to (node_at nodes next)) s known e)
 unkept_line nodes (Node.Rounds rounds body next) s known e = absurd (known (sym e))
 unkept_line nodes (Node.Choice number first second next) s known e = absurd (known (sym e))
 
@@ -158,7 +154,7 @@ module _ (nodes : List Node) (p : Place) (tree : IsTree nodes) (w : PlaceIsWithi
   within_next : (line : ℕ) (instruction : Instruction) (next : ℕ) → node_at nodes p.at ≡ Node.Line line instruction next
       → PlaceIsWithin (length nodes) (record p { at = next })
   within_next line instruction next here =
-      record { at = below_length nodes p (Node.Line line instruction next) tree w here; frames = w.frames }
+      record { at = below_length nodes (is_at tree w here); frames = w.frames }
 
   at_line : (kept : Option ℕ) (next : ℕ) (a : Answer) (k : KeptState) (t : Place) → is_refusal a ≡ false
       → (l : IsLine nodes (node_at nodes p.at) next kept Sequel.Asks)

@@ -11,7 +11,7 @@ use Rattle.mk_check.proofs.Vocabulary.{take_answer, then_steps, trees, true, wit
 use Rattle.mk_check.proofs.Vocabulary.{◌++◌, ◌+◌, ◌∙◌, ◌∷◌, ◌≡◌}
 use Rattle.mk_check.proofs.Numbered.{kept_of, kept_of-with_answer, op_of-asked, ops-with_answer, run_agrees, stopped_of}
 use Rattle.mk_check.proofs.StepLaws.{behind_text, stop_of-text, stopped_behind_text}
-use Rattle.mk_check.proofs.{FeedLaws.feed_push, Moves.unfolded_done, Moves.unfolded_line}
+use Rattle.mk_check.proofs.{FeedLaws.feed_push, Moves.unfolded_done, Moves.unfolded_line, TreeNodes.is_at}
 use Rattle.mk_check.specs.declared.feeding.instructions.Instruction.TheVariants.{Add, CasPtr, Clear, Const, Free}
 use Rattle.mk_check.specs.declared.feeding.instructions.Instruction.TheVariants.{GetGlobal, GetNum, GetPtr, IsNull, Lea}
 use Rattle.mk_check.specs.declared.feeding.instructions.Instruction.TheVariants.{Move, New, Nothing, Print, Same}
@@ -54,7 +54,7 @@ tells : (scope : Scope) (fed : Fed) (nodes : List Node) (p : Place) (n : Node) �
     → PlaceIsWithin (length nodes) p → node_at nodes p.at ≡ n → StopsAt n p
     → left_in nodes p ≡ numbered scope fed.left → p.numbers ≡ fed.numbers → Tells scope fed (op_of_node p.numbers n)
 tells scope fed nodes p Node.Done tree w e stops left numbers =
-    let over = no_more scope fed.left (sym left ∙ unfolded_done nodes p tree w e stops) in
+    let over = no_more scope fed.left (sym left ∙ unfolded_done nodes (is_at tree w e) stops) in
     record {
       op = sym (ap (first_op scope fed) over);
       ended = λ h. ap is_end_of_block over;
@@ -62,7 +62,7 @@ tells scope fed nodes p Node.Done tree w e stops left numbers =
     }
 tells scope fed nodes p (Node.Line line instruction next) tree w e stops left numbers =
     let here = begins_with scope fed.left line instruction _ (sym left
-    ∙ unfolded_line nodes p line instruction next tree w e) in
+    ∙ unfolded_line nodes (is_at tree w e)) in
     let op : op_asked p.numbers instruction ≡ first_op scope fed fed.left =
     ap (λ (ns : List ℕ). op_asked ns instruction) numbers
     ∙ (ap (op_asked fed.numbers) (sym here.named)
@@ -202,7 +202,7 @@ answer_stands program k answers a s t line instruction next tree w e some stop s
     let scope = script_scope program k in
     let fed = feed program k answers in
     let here = begins_with scope fed.left line instruction _ (sym st.left
-    ∙ unfolded_line s.nodes s.place line instruction next tree w e) in
+    ∙ unfolded_line s.nodes (is_at tree w e)) in
     let op : op_of scope fed here.item ≡ op_asked s.place.numbers instruction =
     op_of-asked scope fed here.item
     ∙ (ap (op_asked fed.numbers) here.named ∙ ap (λ (ns : List ℕ). op_asked ns instruction) (sym st.numbers)) in
@@ -263,4 +263,4 @@ answer_stops nodes p r q t line instruction next a tree w e starts stopped follo
     ap (stopped_in nodes) follows
     ∙ (ap (stopped_behind_text p.text) runs
     ∙ (sym (stop_on_answer-text rest line instruction a (kept_in p))
-    ∙ sym (ap (λ (s : Steps). stop_on_answer s a (kept_in p)) (unfolded_line nodes p line instruction next tree w e))))
+    ∙ sym (ap (λ (s : Steps). stop_on_answer s a (kept_in p)) (unfolded_line nodes (is_at tree w e)))))

@@ -5,7 +5,7 @@ use Rattle.mk_check.proofs.Vocabulary.{is_some, kept_in, left_in, length, max, n
 use Rattle.mk_check.proofs.Vocabulary.{refusal_text, slice_index, stop_behind, stop_of, stop_of_rounds, stop_on_answer}
 use Rattle.mk_check.proofs.Vocabulary.{stopped_in, subst, suc, sym, then_steps, true, with_text, zero, ◌*◌, ◌+◌, ◌<◌}
 use Rattle.mk_check.proofs.Vocabulary.{◌==◌, ◌≡◌, ◌≤◌}
-use Rattle.mk_check.proofs.Moves.{unfolded_line, work_of-then_steps}
+use Rattle.mk_check.proofs.{Moves.unfolded_line, Moves.work_of-then_steps, TreeNodes.is_at}
 use Rattle.mk_check.specs.{Steps.Choice, Steps.Done, Steps.Line, Steps.Rounds, Steps.none_left, Trees.work_of}
 
 work_of-stop_behind : (stopped : Stopped) (go : KeptState → Stopped) (rest : Steps)
@@ -73,7 +73,7 @@ pub answer_nearer : (nodes : List Node) (p t : Place) (line : ℕ) (instruction 
     → work_of (left_in nodes t) < work_of (left_in nodes p)
 answer_nearer nodes p t line instruction next a tree w here stop =
     let rest = left_in nodes (record p { at = next }) in
-    let unfolded = unfolded_line nodes p line instruction next tree w here in
+    let unfolded = unfolded_line nodes (is_at tree w here) in
     let less : work_of (stop_on_answer (left_in nodes p) a (kept_in p)).left < work_of (left_in nodes p) =
     subst (λ (s : Steps). work_of (stop_on_answer s a (kept_in p)).left < work_of s) (sym unfolded)
     (work_of-stop_on_answer line instruction rest a (kept_in p)) in

@@ -1,9 +1,8 @@
 -- What a word says is what clap reads in it.
-use Rattle.std.proofs.Common.{Bool, None, Option, Some, ℕ, ap, arith, codes, drop, false, if◌then◌else◌, not}
-use Rattle.std.proofs.Common.{option_and_then, refl, suc, sym, take, true, unwrap_or, [], ◌++◌, ◌+◌, ◌==◌, ◌∙◌, ◌∷◌}
-use Rattle.std.proofs.Common.{◌≡◌}
+use Rattle.std.proofs.Common.{Bool, None, Option, Some, ℕ, ap, arith, codes, drop, false, if◌then◌else◌}
+use Rattle.std.proofs.Common.{option_and_then, refl, sym, take, true, unwrap_or, [], ◌++◌, ◌+◌, ◌==◌, ◌∙◌, ◌∷◌, ◌≡◌}
 use Rattle.std.proofs.{lemmas.Bool.Decides.nat_tests, lemmas.Slice.Eq.bytes_eq-Decides}
-use Rattle.std.specs.{List.list_any, List.prefix_len, Str.bytes_eq, Str.chars}
+use Rattle.std.specs.Str.{bytes_eq, chars}
 use Rattle.clap.specs.Lexer.{long_of, long_of_rest, name_and_value, short_of, strip_byte}
 use Rattle.clap.specs.Walk.{Text}
 use Rattle.mk_commands.specs.Given.{Said, behind, flag_said, markers_said, said, said_dashed, sweep_flag, unknown}
@@ -20,10 +19,7 @@ tail_if b rest = tail_of (if b then Some rest else None)
 
 shift : (x : ℕ) (xs : Text) (n : ℕ) (b : Bool)
     → take (1 + n) (x ∷ xs) ++ tail_if b (drop (1 + n + 1) (x ∷ xs)) ≡ x ∷ (take n xs ++ tail_if b (drop (n + 1) xs))
-shift x xs n b =
-    let e2 : 1 + n + 1 ≡ suc (n + 1) = omega arith in
-    let e1 : 1 + n ≡ suc n = omega arith in
-    rw (e2, e1) refl
+shift x xs n b = grind arith
 
 joined : (text : Text) → (name_and_value text).0 ++ tail_of (name_and_value text).1 ≡ text
 joined [] = refl
@@ -32,19 +28,11 @@ joined (x ∷ xs) = by_test (x == 61) refl (joined xs)
     by_test : (t : Bool) → (x == 61) ≡ t → (name_and_value xs).0 ++ tail_of (name_and_value xs).1 ≡ xs
         → (name_and_value (x ∷ xs)).0 ++ tail_of (name_and_value (x ∷ xs)).1 ≡ x ∷ xs
     by_test true e rest = let is : 61 ≡ x = grind (arith, nat_tests) in rw e (ap (λ n. n ∷ xs) is)
-    by_test false e rest =
-        rw e (shift x xs (prefix_len (λ y. not (y == 61)) xs) (list_any (λ y. y == 61) xs) ∙ ap (λ l. x ∷ l) rest)
+    by_test false e rest = grind (arith, shift)
 
 stripped : (c : ℕ) (word rest : Text) → strip_byte c word ≡ Some rest → word ≡ c ∷ rest
 stripped c [] rest e = cc
-stripped c (x ∷ xs) rest e = by_test (x == c) refl e
-  where
-    by_test : (t : Bool) → (x == c) ≡ t → strip_byte c (x ∷ xs) ≡ Some rest → x ∷ xs ≡ c ∷ rest
-    by_test true t e =
-        let is : x ≡ c = grind (arith, nat_tests) in
-        let same : Some xs ≡ Some rest = rw t at e in
-        ap (λ n. n ∷ xs) is ∙ ap (λ (o : Option Text). c ∷ unwrap_or o xs) same
-    by_test false t e = let no : None ≡ Some rest = rw t at e in cc
+stripped c (x ∷ xs) rest e = grind (arith, nat_tests)
 
 long_shape : (word : Text) (p : Text × Option Text) → long_of word ≡ Some p → word ≡ 45 ∷ 45 ∷ (p.0 ++ tail_of p.1)
 long_shape word p e = first (strip_byte 45 word) refl e
@@ -73,10 +61,7 @@ behind_shape (x ∷ front) (y ∷ word) digits e = by_test (y == x) refl e (behi
     by_test : (t : Bool) → (y == x) ≡ t → behind (x ∷ front) (y ∷ word) ≡ Some digits
         → (behind front word ≡ Some digits → word ≡ front ++ digits)
         → y ∷ word ≡ x ∷ (front ++ digits)
-    by_test true t e more =
-        let is : y ≡ x = grind (arith, nat_tests) in
-        let left : behind front word ≡ Some digits = rw t at e in
-        ap (λ n. n ∷ word) is ∙ ap (λ l. x ∷ l) (more left)
+    by_test true t e more = grind (arith, nat_tests)
     by_test false t e more = let no : None ≡ Some digits = rw t at e in cc
 
 -- ---- a word without a name
@@ -85,22 +70,7 @@ pub says_dashed : (word : Text) → bytes_eq word (codes "--") ≡ false → lon
     → said word ≡ said_dashed (short_of word)
 unfolding chars
 says_dashed [] e l = refl
-says_dashed (x ∷ xs) e l = by_first (x == 45) refl xs e l
-  where
-    by_second : (t : Bool) → (x == 45) ≡ true → (y : ℕ) → (y == 45) ≡ t → (ys : Text)
-        → bytes_eq (x ∷ y ∷ ys) (codes "--") ≡ false → long_of (x ∷ y ∷ ys) ≡ None
-        → said (x ∷ y ∷ ys) ≡ said_dashed (short_of (x ∷ y ∷ ys))
-    by_second false first y second ys e l =
-        rw (first, second) (ap (λ b. said_dashed (if b then Some (y ∷ ys) else None)) first)
-    by_second true first y second [] e l = let no : true ≡ false = rw (first, second) at e in cc
-    by_second true first y second (z ∷ zs) e l =
-        let no : Some (name_and_value (z ∷ zs)) ≡ None = rw (first, second) at l in cc
-
-    by_first : (t : Bool) → (x == 45) ≡ t → (xs : Text) → bytes_eq (x ∷ xs) (codes "--") ≡ false
-        → long_of (x ∷ xs) ≡ None → said (x ∷ xs) ≡ said_dashed (short_of (x ∷ xs))
-    by_first false first xs e l = rw first (ap (λ b. said_dashed (if b then Some xs else None)) first)
-    by_first true first [] e l = rw first (ap (λ b. said_dashed (if b then Some [] else None)) first)
-    by_first true first (y ∷ ys) e l = by_second (y == 45) first y refl ys e l
+says_dashed (x ∷ xs) e l = grind arith
 
 -- ---- a word with a name
 

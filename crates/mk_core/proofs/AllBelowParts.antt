@@ -1,15 +1,13 @@
 -- Tests of each number below a sum.
 use Rattle.std.proofs.{Common.add-suc, Math.Bool.and-true, Math.Bool.and_assoc}
-use Rattle.mk_core.proofs.Vocabulary.{Bool, ℕ, all_below, and-false, ap, arith, false, refl, suc, sym, zero, ◌&&◌, ◌+◌}
-use Rattle.mk_core.proofs.Vocabulary.{◌-◌, ◌∙◌, ◌≡◌, ◌≤◌}
+use Rattle.mk_core.proofs.Vocabulary.{Bool, ℕ, all_below, and-false, arith, false, refl, suc, zero, ◌&&◌, ◌+◌, ◌-◌, ◌≡◌}
+use Rattle.mk_core.proofs.Vocabulary.{◌≤◌}
 
 -- this many, and this many after them
 pub all_below-add : (a b : ℕ) (test : ℕ → Bool)
     → all_below (a + b) test ≡ (all_below a test && all_below b (λ i. test (a + i)))
 unfolding all_below
-all_below-add a zero test =
-    let e : a + 0 ≡ a = omega arith in
-    ap (λ n. all_below n test) e ∙ sym (and-true (all_below a test))
+all_below-add a zero test = grind (arith, and-true)
 all_below-add a (suc b) test =
     rw (add-suc, all_below-add a b test) (and_assoc (all_below a test) (all_below b (λ i. test (a + i))) (test (a + b)))
 

@@ -39,5 +39,4 @@ bit_tests (suc zero) (suc (suc y)) lx ly = absurd (omega arith)
 bit_tests (suc (suc x)) y lx ly = absurd (omega arith)
 
 pub has_bit_without : BitsWithout
-has_bit_without word other k = ap (λ b. b == 1) (bit_without word other k)
-    ∙ bit_tests (bit_at word k) (bit_at other k) (bit_at-lt word k) (bit_at-lt other k)
+has_bit_without word other k = grind (arith, bit_without, bit_tests, bit_at-lt)

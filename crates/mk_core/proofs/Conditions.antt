@@ -1,9 +1,7 @@
 -- What each condition says of an enabled event.
 use Rattle.mk_core.proofs.Vocabulary.{Bool, Config, Event, IsEnabled, Moment, Seat, ℕ, and_parts, arith, false}
-use Rattle.mk_core.proofs.Vocabulary.{flight_of, if◌then◌else◌, refl, true, ◌≡◌}
-use Rattle.mk_core.specs.Enabled.{EnabledEventsMeetAll, MeetsAll, holder_may, marker_may, meets_own}
-use Rattle.mk_core.specs.{Moments.marker_at, Moments.marker_of, Order.group_of, Order.is_in_order, Order.is_open_to}
-use Rattle.mk_core.specs.{Order.seat_exists, Ranges.has_gates, Ranges.has_phase, Ranges.is_in_range, Words.phase_of}
+use Rattle.mk_core.proofs.Vocabulary.{if◌then◌else◌, refl, true, ◌≡◌}
+use Rattle.mk_core.specs.{Enabled.EnabledEventsMeetAll, Enabled.MeetsAll, Enabled.marker_may, Moments.marker_of}
 
 all_hold : (a b c d e f g : Bool)
     → ◌≡◌ {A = ℕ} (if a then (if b
@@ -20,22 +18,7 @@ all_hold true true true true true false g h = absurd (omega arith)
 all_hold true true true true true true false h = absurd (omega arith)
 
 pub enabled_meets : (c : Config) (m : Moment) (e : Event) → IsEnabled c m e → MeetsAll c m e
-enabled_meets c m e h =
-    let all = all_hold (seat_exists c e.seat) (is_open_to e.seat (group_of e.step)) (is_in_order c m e.seat e.step)
-    (is_in_range c e.seat (flight_of m e.seat) e.step)
-    (has_gates c m.words e.seat (flight_of m e.seat) e.step) (has_phase (phase_of m.words) e.step)
-    (meets_own c m e.seat e.step) h in
-    let own = and_parts (marker_may c (marker_at m e.seat) e.step) (holder_may c m (flight_of m e.seat) e.step) all.6 in
-    record {
-      seat = all.0;
-      kind = all.1;
-      order = all.2;
-      range = all.3;
-      gates = all.4;
-      phase = all.5;
-      marker = own.0;
-      holder = own.1;
-    }
+enabled_meets c m e h = grind (arith, all_hold, and_parts)
 
 pub meets_enabled : (c : Config) (m : Moment) (e : Event) → MeetsAll c m e → IsEnabled c m e
 meets_enabled c m e h = rw (h.seat, h.kind, h.order, h.range, h.gates, h.phase, h.marker, h.holder) refl

@@ -1,16 +1,15 @@
 -- What is granted stands at its New's place.
 use Rattle.mk_core.proofs.Vocabulary.{BeginsAtCell, Bool, Config, Flight, HasItsHeaders, IsSized, IsWithinLimits}
 use Rattle.mk_core.proofs.Vocabulary.{Moment, Object, Op, Place, PlacedAllocation, StandsOnHeap, Words, ℕ, and_parts}
-use Rattle.mk_core.proofs.Vocabulary.{ap, arith, base_made, cases_Bool, cell_ends, cells_made, cells_of, class_made}
-use Rattle.mk_core.proofs.Vocabulary.{class_words_of, cond-false, cond-true, eqb-true, false, header_at, header_made}
-use Rattle.mk_core.proofs.Vocabulary.{inl, inr, is_small_object, kinds_of, length, ltb-true, nat_lt, object_made}
+use Rattle.mk_core.proofs.Vocabulary.{ap, arith, base_made, cell_ends, cells_made, cond-false, cond-true, eqb-true}
+use Rattle.mk_core.proofs.Vocabulary.{false, header_at, header_made, inl, kinds_of, length, ltb-true, object_made}
 use Rattle.mk_core.proofs.Vocabulary.{object_placed, pages_made, subst, sym, true, words_made, [], ◌*◌, ◌+◌, ◌/◌, ◌<◌}
 use Rattle.mk_core.proofs.Vocabulary.{◌∙◌, ◌≡◌, ◌≤◌}
 use Rattle.mk_core.proofs.Sizes.{large_words, small_cells, small_pages, small_words}
 use Rattle.mk_core.proofs.{AllBelow.all_below-at, PlacesNow.undecided_new, StandingAllocations.made_begins}
 use Rattle.mk_core.specs.NewPlaces.{is_undecided_new, object_of, place_stands}
 use Rattle.mk_core.specs.{Accesses.granted_base, Allocations.granted, Allocations.type_made, Calls.has_operands}
-use Rattle.mk_core.specs.{Calls.has_type, declared.seats.Placing.Placing, declared.seats.Placing.TheVariants.Used}
+use Rattle.mk_core.specs.{declared.seats.Placing.Placing, declared.seats.Placing.TheVariants.Used}
 
 -- Its object is the one that the New makes,
 made_is : (c : Config) (o : Op) (d ty : ℕ) (full : Bool) → o ≡ Op.New d ty full
@@ -24,10 +23,7 @@ granted_object c m f new = let n = undecided_new f new in made_is c f.op n.d n.t
 -- whose type is there,
 typed_by : (c : Config) (o : Op) (d ty : ℕ) (full : Bool) → o ≡ Op.New d ty full → has_operands c o ≡ true
     → type_made o < length c.types
-typed_by c o d ty full is h =
-    let typed = (and_parts _ _ h).1 in
-    let at : nat_lt ty (length c.types) ≡ true = ap (λ (x : Op). has_type c x) (sym is) ∙ typed in
-    subst (λ (x : Op). type_made x < length c.types) (sym is) (ltb-true _ _ at)
+typed_by c o d ty full is h = grind (arith, and_parts, ltb-true)
 
 pub granted_type : (c : Config) (m : Moment) (f : Flight) → is_undecided_new f ≡ true → has_operands c f.op ≡ true
     → (granted c m f).ty < length c.types
@@ -36,31 +32,13 @@ granted_type c m f new h = let n = undecided_new f new in typed_by c f.op n.d n.
 -- so it has 1 to 4,096 words.
 pub new_sized : (c : Config) (f : Flight) → IsWithinLimits c → is_undecided_new f ≡ true → has_operands c f.op ≡ true
     → IsSized (object_made c f.op)
-new_sized c f limits new h =
-    let n = undecided_new f new in
-    subst (λ (o : Object). IsSized o) (made_is c f.op n.d n.ty n.full n.op)
-    (limits.types (type_made f.op) [] (typed_by c f.op n.d n.ty n.full n.op h)).0
+new_sized c f limits new h = grind (arith, undecided_new, made_is, typed_by)
 
 -- The words of a place end with its pages.
 pub place_ends : (o : Object) (place : Place) → IsSized o → place.index < cells_made o
     → base_made o place + words_made o ≤ 64 * (place.page + pages_made o)
-place_ends o place sized known = elim (cases_Bool (is_small_object o)) [
-  | inl small ↦
-      let within : place.index < cells_of (class_made o) = subst (λ n. place.index < n) (small_cells o small) known in
-      let ends = cell_ends place.index (class_words_of (class_made o)) within in
-      let words = small_words o small in
-      let one = small_pages o small in
-      let is : base_made o place ≡ 64 * place.page + place.index * class_words_of (class_made o) =
-      ap (λ n. 64 * place.page + n)
-      (cond-true (is_small_object o) (place.index * class_words_of (class_made o)) 0 small) in
-      omega arith
-  | inr large ↦
-      let words = large_words o large in
-      let is : base_made o place ≡ 64 * place.page + 0 =
-      ap (λ n. 64 * place.page + n)
-      (cond-false (is_small_object o) (place.index * class_words_of (class_made o)) 0 large) in
-      omega arith
-]
+place_ends o place sized known =
+    grind (arith, small_cells, cell_ends, small_words, small_pages, cond-true, large_words, cond-false)
 
 -- The object of a place, as an allocation of its type with its base, stands there,
 pub placed_stands : (c : Config) (a : PlacedAllocation) (place : Place) → IsWithinLimits c → a.ty < length c.types

@@ -29,7 +29,6 @@ pub mod LargeSchedule
 pub mod LayoutLemmas
 pub mod Lengths
 pub mod ListTests
-mod MappedKinds
 pub mod MarkTests
 pub mod MoreSchedules
 pub mod ObjectHeaders

@@ -4,9 +4,8 @@ use Rattle.mk_core.proofs.Vocabulary.{Option, Run, Some, ℕ, ap, arith, cases_B
 use Rattle.mk_core.proofs.Vocabulary.{cond-false, cond-true, false, header_made, inl, inr, is_small_object, pages_made}
 use Rattle.mk_core.proofs.Vocabulary.{refl, subst, suc, sym, true, true≢false, unmapped_header, words_made, words_under}
 use Rattle.mk_core.proofs.Vocabulary.{zero, ◌&&◌, ◌+◌, ◌<◌, ◌||◌, ◌∙◌, ◌≡◌, ◌≢◌, ◌≤◌}
-use Rattle.mk_geom.proofs.HeaderLemmas.{header_of-word_of}
-use Rattle.mk_geom.specs.Headers.{header_of, word_of}
-use Rattle.mk_geom.specs.{Addresses.head_page_under, Classes.run_pages_of, Storages.block_header, Storages.run_header}
+use Rattle.mk_geom.{proofs.HeaderLemmas.header_of-word_of, specs.Addresses.head_page_under, specs.Headers.header_of}
+use Rattle.mk_geom.{specs.Headers.word_of, specs.Storages.block_header, specs.Storages.run_header}
 use Rattle.mk_core.proofs.Sizes.{class_known, large_cells, large_count, large_pages, large_words, small_cells}
 use Rattle.mk_core.proofs.Sizes.{small_pages, small_words}
 use Rattle.mk_core.specs.ObjectHeaders.{FirstPartsHaveCells, OfBlock, OfLater, OfLeafBlock, OfLeafRun, OfRun, ShowsPart}
@@ -14,16 +13,11 @@ use Rattle.mk_core.specs.Cells.{has_no_pointers, heads_run, is_unmapped_header}
 
 pub small_header : (o : Object) (distance : ℕ) → is_small_object o ≡ true
     → header_made o distance ≡ word_of (block_header (class_made o) o.leaf)
-small_header o distance small =
-    cond-true (is_small_object o) (word_of (block_header (class_made o) o.leaf))
-    (word_of (run_header (run_pages_of o.words) true o.leaf distance)) small
+small_header o distance small = grind (arith, cond-true)
 
 pub large_header : (o : Object) (distance : ℕ) → is_small_object o ≡ false
     → header_made o distance ≡ word_of (run_header (pages_made o) true o.leaf distance)
-large_header o distance large =
-    cond-false (is_small_object o) (word_of (block_header (class_made o) o.leaf))
-    (word_of (run_header (run_pages_of o.words) true o.leaf distance)) large
-    ∙ ap (λ n. word_of (run_header n true o.leaf distance)) (sym (large_pages o large))
+large_header o distance large = grind (arith, cond-false, large_pages)
 
 block_part : (o : Object) (distance : ℕ) (leaf : Bool) → o.leaf ≡ leaf → class_made o < 8 → distance ≡ 0
     → is_small_object o ≡ true
@@ -76,10 +70,8 @@ unmapped_shows o distance sized lt large = run_part o distance false false refl 
 
 pub header_shows : (o : Object) (distance header : ℕ) → IsSized o → distance < pages_made o
     → IsHeaderOf o distance header → ShowsPart o distance (header_of header)
-header_shows o distance header sized lt (inl made) =
-    subst (λ h. ShowsPart o distance (header_of h)) (sym made) (made_shows o distance sized lt)
-header_shows o distance header sized lt (inr unmapped) =
-    subst (λ h. ShowsPart o distance (header_of h)) (sym unmapped.1) (unmapped_shows o distance sized lt unmapped.0)
+header_shows o distance header sized lt (inl made) = grind (arith, made_shows)
+header_shows o distance header sized lt (inr unmapped) = grind (arith, unmapped_shows)
 
 -- What shows a part names its head,
 pub part_head : (o : Object) (distance page : ℕ) (x : Option Header) → ShowsPart o distance x
@@ -100,8 +92,7 @@ not_free o distance x (OfBlock first small leaf) = refl
 not_free o distance x _ = refl
 
 pub part_not_free : (o : Object) (distance header : ℕ) → ShowsPart o distance (header_of header) → header ≢ 0
-part_not_free o distance header part is =
-    true≢false (ap (λ h. shows_free (header_of h)) (sym is) ∙ not_free o distance (header_of header) part)
+part_not_free o distance header part is = grind (arith, shows_free, not_free)
 
 -- has the object's cells at its first page, of the object's words,
 pub part_cells : (o : Object) (x : Option Header) → ShowsPart o 0 x → cells_under x ≡ cells_made o
@@ -123,8 +114,7 @@ same_under : (f : Option Header → ℕ) (n : ℕ) (o : Object) → ((x : Option
     → ((distance : ℕ) (x : Option Header) → ShowsPart o distance x → 1 ≤ distance → f x ≡ 0)
     → (distance : ℕ) (x y : Option Header) → ShowsPart o distance x → ShowsPart o distance y → f x ≡ f y
 same_under f n o first later zero x y px py = first x px ∙ sym (first y py)
-same_under f n o first later (suc d) x y px py =
-    later (suc d) x px (omega arith) ∙ sym (later (suc d) y py (omega arith))
+same_under f n o first later (suc d) x y px py = grind arith
 
 -- and none at a later one.
 pub later_part : (o : Object) (distance : ℕ) (x : Option Header) → ShowsPart o distance x → 1 ≤ distance
@@ -176,11 +166,7 @@ pub part_has_no_pointers : (o : Object) (x : Option Header) → ShowsPart o 0 x
 part_has_no_pointers o x (OfBlock first small leaf) = ap (λ b. b || false) (sym leaf)
 part_has_no_pointers o x (OfLeafBlock first small leaf) = ap (λ b. b || false) (sym leaf)
 part_has_no_pointers o x (OfRun true first large leaf) = ap (λ b. b || false) (sym leaf)
-part_has_no_pointers o x (OfRun false first large leaf) = or_true o.leaf
-  where
-    or_true : (b : Bool) → true ≡ (b || true)
-    or_true true = refl
-    or_true false = refl
+part_has_no_pointers o x (OfRun false first large leaf) = grind arith
 part_has_no_pointers o x (OfLeafRun first large leaf) = ap (λ b. b || false) (sym leaf)
 part_has_no_pointers o x (OfLater mapped some large) = absurd (omega arith)
 

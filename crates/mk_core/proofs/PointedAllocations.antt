@@ -1,11 +1,10 @@
 -- Which allocation a value points into, and what a release makes of one.
 use Rattle.std.proofs.Math.Nat.{div-mul-le_self, lt-div-mul-add}
-use Rattle.mk_core.proofs.Vocabulary.{Bool, Cell, Config, HasItsHeaders, IsSized, IsWithinLimits, IsWordOf, None}
-use Rattle.mk_core.proofs.Vocabulary.{Option, PlacedAllocation, Some, StandsOnHeap, Storage, Words, World, ℕ, ap, arith}
-use Rattle.mk_core.proofs.Vocabulary.{cases_Bool, cell_of_storage, cell_words, cells_of, class_words_of, false}
-use Rattle.mk_core.proofs.Vocabulary.{first_word, header_at, if◌then◌else◌, inl, inr, nat_lt, object_placed}
-use Rattle.mk_core.proofs.Vocabulary.{page_at_address, placed_at, pointed_cell, points_well, storage_of, sym, true, ◌%◌}
-use Rattle.mk_core.proofs.Vocabulary.{◌*◌, ◌+◌, ◌/◌, ◌<◌, ◌∙◌, ◌≡◌}
+use Rattle.mk_core.proofs.Vocabulary.{Cell, Config, HasItsHeaders, IsSized, IsWithinLimits, IsWordOf, PlacedAllocation}
+use Rattle.mk_core.proofs.Vocabulary.{Some, StandsOnHeap, Storage, Words, World, ℕ, ap, arith, cases_Bool}
+use Rattle.mk_core.proofs.Vocabulary.{cell_of_storage, cell_words, class_words_of, false, first_word, header_at, inl}
+use Rattle.mk_core.proofs.Vocabulary.{inr, object_placed, page_at_address, placed_at, pointed_cell, points_well}
+use Rattle.mk_core.proofs.Vocabulary.{storage_of, sym, true, ◌%◌, ◌*◌, ◌+◌, ◌/◌, ◌<◌, ◌∙◌, ◌≡◌}
 use Rattle.mk_geom.proofs.PointedCells.{address_points_into, cell_index, class_has_words, small_cell_of, small_lookup}
 use Rattle.mk_geom.proofs.Standing.{cell_stands_at, has_words, large_is_run, small_is_cell, stands_parts}
 use Rattle.mk_geom.proofs.CellsOnPages.{is_address}
@@ -15,20 +14,13 @@ use Rattle.mk_geom.specs.StorageWords.{PointsInto, ShowsStorage}
 use Rattle.mk_core.proofs.StandingAllocations.{cells_begin, headers_show_storage, pointers_hit, standing_has_storage}
 use Rattle.mk_core.proofs.StandingAllocations.{typed_size}
 use Rattle.mk_core.proofs.{CellsOfAllocations.stands_in_no_other, Sizes.words_within}
-use Rattle.mk_core.specs.{Allocations.with_released, Bounded.is_none_or, Bounded.is_some_and, Cells.is_left_unmarked}
-use Rattle.mk_core.specs.{Cells.is_marked, ClosedMarks.is_marked_allocation, Readings.IsTaken}
+use Rattle.mk_core.specs.Cells.{is_left_unmarked, is_marked}
+use Rattle.mk_core.specs.{Allocations.with_released, ClosedMarks.is_marked_allocation, Readings.IsTaken}
 
 -- a word of a block is in the cell that it points into
 block_index : (class page word : ℕ) (cell : Cell) → cell_of_block class page word ≡ Some cell
     → word / class_words_of class ≡ cell.index
-block_index class page word cell is = by (nat_lt word (cells_of class * class_words_of class)) is
-  where
-    by : (b : Bool) → (if b then Some (record { page = page; index = word / class_words_of class }) else None)
-        ≡ Some cell
-        → word / class_words_of class ≡ cell.index
-    by true is = let here : record { page = page; index = word / class_words_of class } ≡ cell =
-        cc in ap (λ (k : Cell). k.index) here
-    by false is = cc
+block_index class page word cell is = grind arith
 
 -- What points into the cell of a storage, from a page that shows it, points into the storage.
 pub cell_points_into : (pages header u : ℕ) (s : Storage) → IsStorage pages s → stands_on (page_at_address u) s ≡ true
@@ -74,16 +66,13 @@ pub word_points : (c : Config) (w : Words) (a : PlacedAllocation) → IsWithinLi
     → HasItsHeaders c w a
     → (n : ℕ) → IsWordOf (storage_of c a) n
     → pointed_cell c.pages w.pages (address_of n) ≡ Some (cell_of_storage (storage_of c a))
-word_points c w a limits st has n is =
-    pointers_hit c w a limits st has (address_of n) ((address_points_into n (storage_of c a)).1 is)
+word_points c w a limits st has n is = grind (arith, pointers_hit, address_points_into)
 
 -- that of its base too.
 pub base_points : (c : Config) (w : Words) (a : PlacedAllocation) → IsWithinLimits c → StandsOnHeap c a
     → HasItsHeaders c w a
     → pointed_cell c.pages w.pages (address_of a.base) ≡ Some (cell_of_storage (storage_of c a))
-base_points c w a limits st has =
-    let some = (words_within (object_placed c a) (typed_size c a limits st.typed)).0 in
-    word_points c w a limits st has a.base (omega arith, omega arith)
+base_points c w a limits st has = grind (arith, words_within, typed_size, word_points)
 
 -- A release releases it exactly where its cell is left unmarked.
 pub released_where_left : (c : Config) (w : Words) (a : PlacedAllocation) → IsWithinLimits c → StandsOnHeap c a
@@ -95,23 +84,19 @@ released_where_left c w a limits st has = cc (st.unreleased, base_points c w a l
 pub marked_where_its_cell_is : (c : Config) (w : Words) (a : PlacedAllocation) → IsWithinLimits c → StandsOnHeap c a
     → HasItsHeaders c w a
     → is_marked_allocation c w a ≡ is_marked w (cell_of_storage (storage_of c a))
-marked_where_its_cell_is c w a limits st has =
-    ap (λ (x : Option Cell). is_some_and (is_marked w) x) (base_points c w a limits st has)
+marked_where_its_cell_is c w a limits st has = grind (arith, base_points)
 
 pub points_well_where_marked : (c : Config) (w : Words) (a : PlacedAllocation) → IsWithinLimits c → StandsOnHeap c a
     → HasItsHeaders c w a
     → (u : ℕ) → PointsInto u (storage_of c a) → points_well c.pages w u ≡ is_marked w (cell_of_storage (storage_of c a))
-points_well_where_marked c w a limits st has u into =
-    ap (λ (x : Option Cell). is_none_or (is_marked w) x) (pointers_hit c w a limits st has u into)
+points_well_where_marked c w a limits st has u into = grind (arith, pointers_hit)
 
 -- The words of its cell are its own.
 pub cell_word_is_its_own : (c : Config) (w : Words) (a : PlacedAllocation) → IsWithinLimits c → StandsOnHeap c a
     → HasItsHeaders c w a
     → (i : ℕ) → i < cell_words w (cell_of_storage (storage_of c a))
     → IsWordOf (storage_of c a) (first_word w (cell_of_storage (storage_of c a)) + i)
-cell_word_is_its_own c w a limits st has i lt =
-    let cells = cells_begin c w a limits st has in
-    omega (arith, cells.0, cells.1)
+cell_word_is_its_own c w a limits st has i lt = grind (arith, cells_begin)
 
 -- A cell that is taken is that of the allocation that stands in it.
 pub taken_cell_is : (c : Config) (w : World) (cell : Cell) (taken : IsTaken w cell)
@@ -119,5 +104,4 @@ pub taken_cell_is : (c : Config) (w : World) (cell : Cell) (taken : IsTaken w ce
     → HasItsHeaders c w.now.words (placed_at w.allocations taken.number)
     → ((placed_at w.allocations taken.number).released ≡ false)
     × (cell_of_storage (storage_of c (placed_at w.allocations taken.number)) ≡ cell)
-taken_cell_is c w cell taken sized has =
-    stands_in_no_other c w.now.words (placed_at w.allocations taken.number) cell sized has taken.in_range taken.stands
+taken_cell_is c w cell taken sized has = grind (arith, stands_in_no_other)

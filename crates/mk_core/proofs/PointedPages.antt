@@ -1,10 +1,9 @@
 -- Where the cell lies into which a value points.
 use Rattle.std.proofs.{Common.option_and_then, Math.Nat.div-le_self, Math.Nat.div-lt_iff_lt-mul}
 use Rattle.mk_core.proofs.Vocabulary.{Block, Bool, Cell, Free, Header, Later, LeafBlock, LeafRun, None, Option, Run}
-use Rattle.mk_core.proofs.Vocabulary.{Some, Words, ℕ, ap, arith, cases_eq, cells_of, cells_under, class_words_of, false}
-use Rattle.mk_core.proofs.Vocabulary.{header_at, header_in, if◌then◌else◌, inl, inr, ltb-true, nat_le, nat_lt}
-use Rattle.mk_core.proofs.Vocabulary.{page_at_address, pointed_cell, refl, subst, sym, true, ◌*◌, ◌/◌, ◌<◌, ◌∙◌, ◌≡◌}
-use Rattle.mk_core.proofs.Vocabulary.{◌≤◌, ◌⊎◌}
+use Rattle.mk_core.proofs.Vocabulary.{Some, Words, ℕ, ap, arith, cells_of, cells_under, false, header_at, header_in}
+use Rattle.mk_core.proofs.Vocabulary.{if◌then◌else◌, inl, inr, ltb-true, nat_le, page_at_address, pointed_cell, refl}
+use Rattle.mk_core.proofs.Vocabulary.{sym, true, ◌<◌, ◌∙◌, ◌≡◌, ◌≤◌, ◌⊎◌}
 use Rattle.mk_geom.{proofs.CellsOnPages.is_address, specs.Addresses.cell_at, specs.Addresses.cell_of_block}
 use Rattle.mk_geom.{specs.Addresses.cell_under, specs.Addresses.head_page_under, specs.Addresses.is_heap_address}
 use Rattle.mk_geom.{specs.Addresses.run_of_page, specs.Addresses.word_at_address, specs.Headers.header_of}
@@ -19,33 +18,14 @@ pub record LiesUnder (h : Header) (page : ℕ) (cell : Cell) : Type 0 where
 
 of_block : (class page word : ℕ) (cell : Cell) → cell_of_block class page word ≡ Some cell
     → (cell.page ≡ page) × (cell.index < 64) × (cell.index < cells_of class)
-of_block class page word cell is = by (nat_lt word (cells_of class * class_words_of class)) refl is
-  where
-    within : word < cells_of class * class_words_of class → word / class_words_of class < cells_of class
-    within lt = elim (cases_eq (class_words_of class) 0) [
-      | inl none ↦ let product : cells_of class * class_words_of class ≡ cells_of class * 0 =
-          ap (λ n. cells_of class * n) none in absurd (omega arith)
-      | inr some ↦ (div-lt_iff_lt-mul {k = class_words_of class} {x = word} {y = cells_of class} (omega arith)).1 lt
-    ]
-
-    by : (b : Bool) → nat_lt word (cells_of class * class_words_of class) ≡ b
-        → (if b then Some (record { page = page; index = word / class_words_of class }) else None) ≡ Some cell
-        → (cell.page ≡ page) × (cell.index < 64) × (cell.index < cells_of class)
-    by true inside is =
-        let here : record { page = page; index = word / class_words_of class } ≡ cell = cc in
-        let known = within (ltb-true _ _ inside) in
-        let most : cells_of class ≤ 64 = div-le_self 64 (class_words_of class) in
-        subst (λ (k : Cell). (k.page ≡ page) × (k.index < 64) × (k.index < cells_of class)) here
-        (refl, omega arith, known)
-    by false outside is = cc
+of_block class page word cell is = grind (arith, div-lt_iff_lt-mul, ltb-true, div-le_self)
 
 -- the run of a page lies at its head page, as cell 0
 abbrev IsRunOf : Header → ℕ → Cell → Type 0
 IsRunOf h page cell = (cell.page ≡ head_page_under (Some h) page) × (cell.index ≡ 0)
 
 of_run : (h : Header) (page : ℕ) (cell : Cell) → Some (run_of_page h page) ≡ Some cell → IsRunOf h page cell
-of_run h page cell is = let here : run_of_page h page ≡ cell =
-    cc in subst (λ (k : Cell). IsRunOf h page k) here (refl, refl)
+of_run h page cell is = grind arith
 
 of_later_page : (b : Bool) (h : Header) (page : ℕ) (cell : Cell)
     → (if b then Some (run_of_page h page) else None) ≡ Some cell → IsRunOf h page cell

@@ -2,20 +2,17 @@
 use Rattle.std.proofs.Common.{cond, le-ltb, lt-ltb, unwrap_or}
 use Rattle.std.proofs.{lemmas.Bool.lt-leb, lemmas.Bool.or_left, lemmas.Bool.or_right, lemmas.Bool.Decides.leb_tells}
 use Rattle.std.specs.List.{position_or_len}
-use Rattle.mk_core.proofs.Vocabulary.{Bool, IsSized, List, Object, Option, Some, ℕ, ap, arith, cases_Bool, cells_made}
-use Rattle.mk_core.proofs.Vocabulary.{cells_of, class_made, class_words_of, cond-false, cond-true, false, inl, inr}
+use Rattle.mk_core.proofs.Vocabulary.{Bool, IsSized, List, Object, Some, ℕ, ap, arith, cases_Bool, cells_made, cells_of}
+use Rattle.mk_core.proofs.Vocabulary.{class_made, class_words_of, cond-false, cond-true, false, inl, inr}
 use Rattle.mk_core.proofs.Vocabulary.{is_small_object, le-leb, leb-true, length, list_any, nat_le, nat_lt, ne_eqb, not}
-use Rattle.mk_core.proofs.Vocabulary.{pages_made, subst, sym, true, words_made, [], ◌*◌, ◌+◌, ◌<◌, ◌==◌, ◌||◌, ◌∙◌, ◌∷◌}
-use Rattle.mk_core.proofs.Vocabulary.{◌≡◌, ◌≤◌}
+use Rattle.mk_core.proofs.Vocabulary.{pages_made, subst, sym, true, words_made, [], ◌*◌, ◌+◌, ◌<◌, ◌||◌, ◌∙◌, ◌∷◌, ◌≡◌}
+use Rattle.mk_core.proofs.Vocabulary.{◌≤◌}
 use Rattle.mk_geom.proofs.ClassTable.{class_for-some, class_words_within, some_cells}
-use Rattle.mk_geom.specs.Classes.{class_for, class_sizes, run_pages_of}
+use Rattle.mk_geom.specs.Classes.{class_for, run_pages_of}
 use Rattle.mk_core.specs.HistoryLaws.{LargeIsNotSmall}
 
 over_is_not : (n : ℕ) → nat_lt 32 n ≡ not (nat_le n 32)
-over_is_not n = elim (leb_tells n 32) [
-  | inl within ↦ le-ltb 32 n within.1 ∙ sym (ap not within.0)
-  | inr over ↦ lt-ltb 32 n over.1 ∙ sym (ap not over.0)
-]
+over_is_not n = grind (arith, leb_tells, le-ltb, lt-ltb)
 
 pub large_is_not_small : LargeIsNotSmall
 large_is_not_small kinds = over_is_not (length kinds)
@@ -51,19 +48,7 @@ first_passes p (x ∷ xs) h = elim (cases_Bool (p x)) [
 ]
 
 pub class_for_small : (n : ℕ) → 1 ≤ n → n ≤ 32 → class_for n ≡ Some (unwrap_or (class_for n) 0)
-class_for_small n some most =
-    let zero : (n == 0) ≡ false = ne_eqb n 0 (λ e. absurd (omega arith)) in
-    let any : list_any (λ size. nat_le n size) class_sizes ≡ true = last n (le-leb n 32 most) in
-    let there = lt-ltb (position_or_len (λ size. nat_le n size) class_sizes) (length class_sizes)
-    (first_passes (λ size. nat_le n size) class_sizes any) in
-    let is : class_for n ≡ Some (position_or_len (λ size. nat_le n size) class_sizes) = cc (zero, there) in
-    is ∙ ap (λ (x : Option ℕ). Some (unwrap_or x 0)) (sym is)
-  where
-    last : (n : ℕ) → nat_le n 32 ≡ true → list_any (λ size. nat_le n size) class_sizes ≡ true
-    last n h =
-        or_right (nat_le n 2) _ (or_right (nat_le n 4) _ (or_right (nat_le n 6) _ (or_right (nat_le n 8) _
-        (or_right (nat_le n 12) _
-        (or_right (nat_le n 16) _ (or_right (nat_le n 24) _ (or_left (nat_le n 32) false h)))))))
+class_for_small n some most = grind (arith, ne_eqb, le-leb, lt-ltb, first_passes, or_right, or_left)
 
 -- the class of a small object is one of the eight, and its cells hold the object
 pub class_known : (o : Object) → IsSized o → is_small_object o ≡ true
@@ -76,21 +61,14 @@ pub large_count : (o : Object) → IsSized o → is_small_object o ≡ false →
 large_count o sized large = omega (arith, large_pages o large, sized.0, sized.1)
 
 pub pages_some : (o : Object) → IsSized o → 1 ≤ pages_made o
-pages_some o sized = elim (cases_Bool (is_small_object o)) [
-  | inl small ↦ let e = small_pages o small in omega arith
-  | inr large ↦ (large_count o sized large).0
-]
+pages_some o sized = grind (arith, small_pages, large_count)
 
 pub cells_some : (o : Object) → IsSized o → 1 ≤ cells_made o
-cells_some o sized = elim (cases_Bool (is_small_object o)) [
-  | inl small ↦ omega (arith, small_cells o small, some_cells (class_made o) (class_known o sized small).0)
-  | inr large ↦ let e = large_cells o large in omega arith
-]
+cells_some o sized = grind (arith, small_cells, some_cells, class_known, large_cells)
 
 -- A small object's storage has at most 32 words, and a large one's 64 or more;
 pub small_words_within : (o : Object) → IsSized o → is_small_object o ≡ true → (1 ≤ words_made o) × (words_made o ≤ 32)
-small_words_within o sized small =
-    omega (arith, small_words o small, class_words_within (class_made o) (class_known o sized small).0)
+small_words_within o sized small = grind (arith, small_words, class_words_within, class_known)
 
 pub large_words_within : (o : Object) → IsSized o → is_small_object o ≡ false
     → (64 ≤ words_made o) × (words_made o ≤ 4096)
@@ -98,21 +76,12 @@ large_words_within o sized large = omega (arith, large_words o large, large_coun
 
 -- it is as small as the object,
 pub words_are_small : (o : Object) → IsSized o → nat_le (words_made o) 32 ≡ is_small_object o
-words_are_small o sized = elim (cases_Bool (is_small_object o)) [
-  | inl small ↦ le-leb (words_made o) 32 (small_words_within o sized small).1 ∙ sym small
-  | inr large ↦ lt-leb (words_made o) 32 (let range = large_words_within o sized large in omega arith) ∙ sym large
-]
+words_are_small o sized = grind (arith, le-leb, small_words_within, lt-leb, large_words_within)
 
 -- has 1 to 4,096 words,
 pub words_within : (o : Object) → IsSized o → (1 ≤ words_made o) × (words_made o ≤ 4096)
-words_within o sized = elim (cases_Bool (is_small_object o)) [
-  | inl small ↦ let range = small_words_within o sized small in (omega arith, omega arith)
-  | inr large ↦ let range = large_words_within o sized large in (omega arith, omega arith)
-]
+words_within o sized = grind (arith, small_words_within, large_words_within)
 
 -- and the object fits into it.
 pub words_hold : (o : Object) → IsSized o → o.words ≤ words_made o
-words_hold o sized = elim (cases_Bool (is_small_object o)) [
-  | inl small ↦ omega (arith, small_words o small, (class_known o sized small).1)
-  | inr large ↦ omega (arith, large_words o large, large_pages o large)
-]
+words_hold o sized = grind (arith, small_words, class_known, large_words, large_pages)

@@ -3,16 +3,15 @@ use Rattle.mk_core.proofs.Vocabulary.{BeginsAtCell, Bool, Cell, Config, HasItsHe
 use Rattle.mk_core.proofs.Vocabulary.{IsWithinLimits, Object, Place, PlacedAllocation, Words, ℕ, and-false, ap, arith}
 use Rattle.mk_core.proofs.Vocabulary.{base_made, cases_Bool, cell_ends, cell_of_storage, cells_made, cells_of}
 use Rattle.mk_core.proofs.Vocabulary.{cells_under, class_made, class_words_of, cond-false, cond-true, false, header_at}
-use Rattle.mk_core.proofs.Vocabulary.{header_in, inl, inr, is_small_object, kinds_of, length, not, object_placed}
-use Rattle.mk_core.proofs.Vocabulary.{page_at_address, pages_made, pointed_cell, refl, storage_of, subst, suc, sym}
-use Rattle.mk_core.proofs.Vocabulary.{true, true≢false, unmapped_header, words_made, words_under, zero, [], ◌%◌, ◌*◌}
-use Rattle.mk_core.proofs.Vocabulary.{◌+◌, ◌-◌, ◌/◌, ◌<◌, ◌∙◌, ◌≡◌, ◌≤◌, ◌⊎◌}
+use Rattle.mk_core.proofs.Vocabulary.{header_in, inl, inr, is_small_object, length, object_placed, page_at_address}
+use Rattle.mk_core.proofs.Vocabulary.{pages_made, pointed_cell, refl, storage_of, subst, suc, sym, true, true≢false}
+use Rattle.mk_core.proofs.Vocabulary.{unmapped_header, words_made, words_under, zero, [], ◌%◌, ◌*◌, ◌+◌, ◌-◌, ◌/◌, ◌<◌}
+use Rattle.mk_core.proofs.Vocabulary.{◌∙◌, ◌≡◌, ◌≤◌, ◌⊎◌}
 use Rattle.mk_geom.proofs.PointedCells.{cell_first, cell_from_first, large_cell_of, points_into_cell, shows_cell}
 use Rattle.mk_geom.proofs.PointedCells.{shows_run, stands_at_address}
 use Rattle.mk_geom.proofs.{ClassTable.class_words_within, Standing.stands_parts}
 use Rattle.mk_geom.specs.Storages.{IsCell, IsRun, IsStorage, run_header, stands_on}
 use Rattle.mk_geom.specs.{Headers.word_of, StorageWords.ShowsStorage}
-use Rattle.mk_never.specs.Types.{is_large}
 use Rattle.mk_core.proofs.Sizes.{class_known, large_cells, large_count, large_is_not_small, large_words, pages_some}
 use Rattle.mk_core.proofs.Sizes.{small_cells, small_pages, small_words, words_are_small, words_hold, words_within}
 use Rattle.mk_core.proofs.ObjectHeaders.{header_shows, large_header, part_cells, part_words, small_header}
@@ -33,20 +32,12 @@ storage_holds c a limits typed =
 -- A small object's cell ends within its page,
 pub cell_ends_within : (o : Object) (base : ℕ) → IsSized o → is_small_object o ≡ true → (b : BeginsAtCell o base)
     → b.index * words_made o + words_made o ≤ 64
-cell_ends_within o base sized small b =
-    let known : b.index < cells_of (class_made o) = subst (λ n. b.index < n) (small_cells o small) b.known in
-    subst (λ n. b.index * n + n ≤ 64) (sym (small_words o small))
-    (cell_ends b.index (class_words_of (class_made o)) known)
+cell_ends_within o base sized small b = grind (arith, small_cells, small_words, cell_ends)
 
 -- and a large object begins at its page.
 pub run_begins : (o : Object) (base : ℕ) → is_small_object o ≡ false → (b : BeginsAtCell o base)
     → (b.index ≡ 0) × (base % 64 ≡ 0)
-run_begins o base large b =
-    let one = large_cells o large in
-    let known = b.known in
-    let zero : b.index ≡ 0 = omega arith in
-    let first : base % 64 ≡ 0 * words_made o = b.first ∙ ap (λ i. i * words_made o) zero in
-    (zero, omega arith)
+run_begins o base large b = grind (arith, large_cells)
 
 -- The object of a place begins there.
 pub made_begins : (o : Object) (place : Place) → IsSized o → place.index < cells_made o
@@ -58,17 +49,13 @@ made_begins o place sized known = elim (cases_Bool (is_small_object o)) [
       let ends = cell_ends place.index (class_words_of (class_made o)) within in
       let some = (class_words_within (class_made o) (class_known o sized small).0).0 in
       let is : base_made o place ≡ 64 * place.page + place.index * class_words_of (class_made o) =
-      ap (λ n. 64 * place.page + n)
-      (cond-true (is_small_object o) (place.index * class_words_of (class_made o)) 0 small) in
-      let product : place.index * words_made o ≡ place.index * class_words_of (class_made o) =
-      ap (λ n. place.index * n) words in
+      grind (arith, cond-true) in
+      let product : place.index * words_made o ≡ place.index * class_words_of (class_made o) = grind arith in
       (record { index = place.index; known = known; first = omega arith }, refl, omega arith)
   | inr large ↦
       let one = large_cells o large in
       let zero : place.index ≡ 0 = omega arith in
-      let is : base_made o place ≡ 64 * place.page + 0 =
-      ap (λ n. 64 * place.page + n)
-      (cond-false (is_small_object o) (place.index * class_words_of (class_made o)) 0 large) in
+      let is : base_made o place ≡ 64 * place.page + 0 = grind (arith, cond-false) in
       let product : place.index * words_made o ≡ 0 * words_made o = ap (λ n. n * words_made o) zero in
       (record { index = place.index; known = known; first = omega arith }, refl, omega arith)
 ]
@@ -95,9 +82,7 @@ module _ (c : Config) (a : PlacedAllocation) (sized : IsSized (object_placed c a
 -- An unreleased small allocation is mapped.
 small_is_mapped : (c : Config) (a : PlacedAllocation) → a.released ≡ false → is_small_object (object_placed c a) ≡ true
     → is_mapped c a ≡ true
-small_is_mapped c a unreleased small =
-    let large : is_large (kinds_of c.types a.ty) ≡ false = large_is_not_small (kinds_of c.types a.ty) ∙ ap not small in
-    cc (unreleased, large, and-false a.freed)
+small_is_mapped c a unreleased small = grind (arith, large_is_not_small, and-false)
 
 pub standing_has_storage : StandingHasStorage
 standing_has_storage c a limits st = by (cases_Bool (is_small_object (object_placed c a)))

@@ -1,7 +1,7 @@
 -- What a step says of the histories for which the core stood.
 use Rattle.std.proofs.Common.{Err, IfOk, IsOk, MatchResult, Ok, OnOk, Result}
-use Rattle.mk_core.proofs.Vocabulary.{Answer, AreEnabledFrom, Config, CoreState, Event, IsEnabled, List, Moment, Option}
-use Rattle.mk_core.proofs.Vocabulary.{ap, arith, calls, failing, first_moment, first_world, flight_of, left, left_from}
+use Rattle.mk_core.proofs.Vocabulary.{Answer, AreEnabledFrom, Config, CoreState, Event, IsEnabled, List, Option, ap}
+use Rattle.mk_core.proofs.Vocabulary.{arith, calls, failing, first_moment, first_world, flight_of, left, left_from}
 use Rattle.mk_core.proofs.Vocabulary.{refl, subst, sym, [], ◌++◌, ◌↔◌, ◌∙◌, ◌∷◌, ◌≡◌, ◌≤◌}
 use Rattle.mk_never.specs.declared.never_heap.NoMemory.{NoMemory}
 use Rattle.mk_core.proofs.Histories.{calls_more, enabled_more, last_enabled, left_more}
@@ -15,16 +15,8 @@ Tells core e r = MatchResult r (λ _. IsEnabled core.config core.now e)
 pub exact_of : (core : CoreState) (es : List Event) (e : Event) (r : Result (Option Answer) NotEnabled)
     → CoreStandsFor core es → Tells core e r
     → (IsOk r ↔ AreEnabled core.config (es ++ e ∷ []))
-exact_of core es e (Ok a) st t = (
-  λ _. enabled_more core.config (first_world core.config) es e st.enabled
-      (subst (λ (m : Moment). failing core.config m e ≡ 0) st.now t),
-  λ _. refl,
-)
-exact_of core es e (Err x) st t = (
-  λ bad. cc,
-  λ en. let z : failing core.config core.now e ≡ 0 = ap (λ (m : Moment). failing core.config m e) st.now
-      ∙ last_enabled core.config (first_world core.config) es e en in absurd (omega arith),
-)
+exact_of core es e (Ok a) st t = grind (arith, enabled_more)
+exact_of core es e (Err x) st t = grind (arith, last_enabled)
 
 pub answer_of : (core : CoreState) (es : List Event) (e : Event) (r : Result (Option Answer) NotEnabled)
     → CoreStandsFor core es → IfOk r (λ a. a ≡ answer_decided core.config core.now e)

@@ -9,14 +9,12 @@ use Rattle.mk_core.specs.StandingAllocations.{HasStorage, UnreleasedStorageInPar
 pub unreleased_front : (c : Config) (a : PlacedAllocation) (xs : List PlacedAllocation) → a.released ≡ false
     → unreleased_storage c (a ∷ xs) ≡ storage_of c a ∷ unreleased_storage c xs
 unfolding unreleased_storage
-unreleased_front c a xs unreleased =
-    cond-false a.released (unreleased_storage c xs) (storage_of c a ∷ unreleased_storage c xs) unreleased
+unreleased_front c a xs unreleased = grind (arith, cond-false)
 
 pub released_front : (c : Config) (a : PlacedAllocation) (xs : List PlacedAllocation) → a.released ≡ true
     → unreleased_storage c (a ∷ xs) ≡ unreleased_storage c xs
 unfolding unreleased_storage
-released_front c a xs released =
-    cond-true a.released (unreleased_storage c xs) (storage_of c a ∷ unreleased_storage c xs) released
+released_front c a xs released = grind (arith, cond-true)
 
 none_unreleased : (c : Config) → unreleased_storage c [] ≡ []
 unfolding unreleased_storage
@@ -34,8 +32,7 @@ unreleased_in_parts c (a ∷ xs) ys = elim (cases_Bool a.released) [
 -- with one allocation more at the end
 pub unreleased_more : (c : Config) (xs : List PlacedAllocation) (a : PlacedAllocation) → a.released ≡ false
     → unreleased_storage c (xs ++ a ∷ []) ≡ unreleased_storage c xs ++ storage_of c a ∷ []
-unreleased_more c xs a unreleased =
-    cc (unreleased_in_parts c xs (a ∷ []), unreleased_front c a [] unreleased, none_unreleased c)
+unreleased_more c xs a unreleased = grind (arith, unreleased_in_parts, unreleased_front, none_unreleased)
 
 -- A change of each allocation that releases none and leaves each storage leaves all.
 pub unreleased_kept : (c : Config) (f : PlacedAllocation → PlacedAllocation)
@@ -63,9 +60,7 @@ contains_more xs x s (k, within, at) = (suc k, omega arith, at)
 pub has_its_storage : (c : Config) (xs : List PlacedAllocation) (i : ℕ) → (placed_at xs i).released ≡ false
     → Contains (unreleased_storage c xs) (storage_of c (placed_at xs i))
 has_its_storage c [] i unreleased = absurd (true≢false unreleased)
-has_its_storage c (a ∷ xs) zero unreleased =
-    subst (λ (ss : List Storage). Contains ss (storage_of c a)) (sym (unreleased_front c a xs unreleased))
-    (0, omega arith, refl)
+has_its_storage c (a ∷ xs) zero unreleased = grind (arith, unreleased_front)
 has_its_storage c (a ∷ xs) (suc i) unreleased = elim (cases_Bool a.released) [
   | inl released ↦
       subst (λ (ss : List Storage). Contains ss (storage_of c (placed_at xs i))) (sym (released_front c a xs released))
@@ -82,8 +77,7 @@ has_more c a xs s h = record { number = suc h.number; unreleased = h.unreleased;
 
 pub storage_is_of : (c : Config) (xs : List PlacedAllocation) (s : Storage) → Contains (unreleased_storage c xs) s
     → HasStorage c xs s
-storage_is_of c [] s h = let none = subst (λ (ss : List Storage). Contains ss s) (none_unreleased c) h in absurd
-    (omega (arith, none.1))
+storage_is_of c [] s h = grind (arith, none_unreleased)
 storage_is_of c (a ∷ xs) s h = elim (cases_Bool a.released) [
   | inl released ↦ has_more c a xs s
       (storage_is_of c xs s (subst (λ (ss : List Storage). Contains ss s) (released_front c a xs released) h))

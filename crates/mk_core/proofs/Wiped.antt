@@ -9,11 +9,7 @@ use Rattle.mk_core.specs.TurnConditions.{are_wiped}
 page_within : (w : Words) (head page : ℕ)
     → all_below 64 (λ i. slice_index w.heap (64 * head + (64 * page + i)) == 0)
     ≡ words_are_zero w (64 * (head + page)) 64
-page_within w head page =
-    all_below_same 64 _ _ (λ i. ap (λ n. slice_index w.heap n == 0) (regroup i))
-  where
-    regroup : (i : ℕ) → 64 * head + (64 * page + i) ≡ 64 * (head + page) + i
-    regroup i = omega arith
+page_within w head page = grind (arith, all_below_same)
 
 -- one more page
 pub run_wiped_more_is : (w : Words) (head page : ℕ)

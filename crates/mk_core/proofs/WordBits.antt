@@ -5,9 +5,9 @@ use Rattle.std.proofs.lemmas.Nat.Bits.{and_pow, bit_at-lt, bit_at-pow_other, bit
 use Rattle.std.proofs.lemmas.Nat.Bits.{bit_at_or, bit_at_xor, same_from_bits}
 use Rattle.std.proofs.{Math.Nat.mul-mod_left, Math.Pow.pow_mono, lemmas.Bool.cases_lt, lemmas.List.set_past}
 use Rattle.std.specs.Int.{bit_at}
-use Rattle.mk_core.proofs.Vocabulary.{List, ℕ, ap, arith, bit_and, cases_Bool, cases_eq, eqb-false, eqb-true, false}
-use Rattle.mk_core.proofs.Vocabulary.{has_bit, inl, inr, length, ne_eqb, slice_index, slice_set, subst, sym, true}
-use Rattle.mk_core.proofs.Vocabulary.{true≢false, ◌%◌, ◌*◌, ◌+◌, ◌-◌, ◌<◌, ◌==◌, ◌^◌, ◌∙◌, ◌≡◌, ◌≢◌, ◌≤◌, ◌⊎◌}
+use Rattle.mk_core.proofs.Vocabulary.{List, ℕ, ap, arith, bit_and, cases_eq, eqb-false, eqb-true, false, has_bit, inl}
+use Rattle.mk_core.proofs.Vocabulary.{inr, length, ne_eqb, slice_index, slice_set, subst, sym, true, true≢false, ◌%◌}
+use Rattle.mk_core.proofs.Vocabulary.{◌*◌, ◌+◌, ◌-◌, ◌<◌, ◌==◌, ◌^◌, ◌∙◌, ◌≡◌, ◌≢◌, ◌≤◌, ◌⊎◌}
 use Rattle.mk_core.specs.Bits.{bit_for, without}
 
 pub bit_is_one : (n k : ℕ) → has_bit n k ≡ true → bit_at n k ≡ 1
@@ -34,21 +34,14 @@ sum_bits : (n k i : ℕ) → has_bit n k ≡ false → bit_at (n + 2 ^ k) i ≡ 
 sum_bits n k i unset = ap (λ m. bit_at m i) (sym (sum_is_or n k unset)) ∙ bit_at_or n (2 ^ k) i
 
 pub added_here : (n k : ℕ) → has_bit n k ≡ false → has_bit (n + 2 ^ k) k ≡ true
-added_here n k unset =
-    let one = bit_at-pow_same k in
-    let none = bit_is_none n k unset in
-    has_from (n + 2 ^ k) k (sum_bits n k k unset ∙ ap (λ b. max b (bit_at (2 ^ k) k)) none ∙ ap (λ b. max 0 b) one)
+added_here n k unset = grind (arith, bit_at-pow_same, bit_is_none, has_from, sum_bits)
 
 pub added_other : (n k i : ℕ) → has_bit n k ≡ false → i ≢ k → has_bit (n + 2 ^ k) i ≡ has_bit n i
-added_other n k i unset ne =
-    ap (λ b. b == 1) (sum_bits n k i unset ∙ ap (λ b. max (bit_at n i) b) (bit_at-pow_other k i ne) ∙ omega arith)
+added_other n k i unset ne = grind (arith, sum_bits, bit_at-pow_other)
 
 -- The bits of one word are all of another's.
 pub fewer_bits : (n m k : ℕ) → bit_and n m ≡ n → has_bit n k ≡ true → has_bit m k ≡ true
-fewer_bits n m k sub h =
-    let one = bit_is_one n k h in
-    let both : min (bit_at n k) (bit_at m k) ≡ bit_at n k = sym (bit_at_and n m k) ∙ ap (λ x. bit_at x k) sub in
-    has_from m k (omega (arith, bit_at-lt m k))
+fewer_bits n m k sub h = grind (arith, bit_is_one, bit_at_and, has_from, bit_at-lt)
 
 pub without_none : (n m : ℕ) → without n m ≡ 0 → bit_and n m ≡ n
 without_none n m z = let le = and_le_l n m in omega arith
@@ -64,10 +57,7 @@ pub rest_is : (n m : ℕ) → bit_and n m ≡ n → m - n ≡ bit_xor m n
 rest_is n m sub = let sum : n + bit_xor m n ≡ m = sym (or_disjoint n (bit_xor m n) disjoint) ∙ whole in omega arith
   where
     bits : (i : ℕ) → (bit_at n i ≡ 0) ⊎ ((bit_at n i ≡ 1) × (bit_at m i ≡ 1))
-    bits i = elim (cases_Bool (has_bit n i)) [
-      | inl h ↦ inr (bit_is_one n i h, bit_is_one m i (fewer_bits n m i sub h))
-      | inr h ↦ inl (bit_is_none n i h)
-    ]
+    bits i = grind (arith, bit_is_one, fewer_bits, bit_is_none)
 
     none_at : (a b : ℕ) → b < 2 → (a ≡ 0) ⊎ ((a ≡ 1) × (b ≡ 1)) → min a ((b + a) % 2) ≡ 0
     none_at a b lt (inl z) = omega arith
@@ -90,9 +80,7 @@ rest_is n m sub = let sum : n + bit_xor m n ≡ m = sym (or_disjoint n (bit_xor 
         ∙ all_at (bit_at n i) (bit_at m i) (bit_at-lt m i) (bits i))
 
 pub rest_bits : (n m k : ℕ) → bit_and n m ≡ n → has_bit m k ≡ true → has_bit n k ≡ false → has_bit (m - n) k ≡ true
-rest_bits n m k sub h out =
-    let one = bit_is_one m k h in let none = bit_is_none n k out in
-    has_from (m - n) k (ap (λ x. bit_at x k) (rest_is n m sub) ∙ bit_at_xor m n k ∙ omega arith)
+rest_bits n m k sub h out = grind (arith, bit_is_one, bit_is_none, has_from, rest_is, bit_at_xor)
 
 -- The bit that stands for a cell is its alone.
 pub bit_for_small : (k : ℕ) → k < 64 → bit_for k ≡ 2 ^ k
@@ -104,14 +92,7 @@ bit_for_past k le =
     ap (λ n. n % 2 ^ 64) e ∙ mul-mod_left (2 ^ (k - 64)) (2 ^ 64)
 
 pub bit_of_power : (k i : ℕ) → has_bit (2 ^ k) i ≡ true → i ≡ k
-bit_of_power k i is = elim (cases_eq i k) [
-  | inl e ↦ e
-  | inr ne ↦
-      let one = bit_is_one (2 ^ k) i is in
-      let none = bit_at-pow_other k i ne in
-      let bad : ◌≡◌ {A = ℕ} 1 0 = sym one ∙ none in
-      absurd (omega arith)
-]
+bit_of_power k i is = grind (arith, bit_is_one, bit_at-pow_other)
 
 pub bit_of_cell : (k i : ℕ) → has_bit (bit_for k) i ≡ true → i ≡ k
 bit_of_cell k i is = elim (cases_lt k 64) [
@@ -121,21 +102,13 @@ bit_of_cell k i is = elim (cases_lt k 64) [
 
 -- a word's bits with another's
 pub has_bit_or : (n m i : ℕ) → has_bit (bit_or n m) i ≡ true → (has_bit n i ≡ true) ⊎ (has_bit m i ≡ true)
-has_bit_or n m i is = elim (cases_Bool (has_bit n i)) [
-  | inl h ↦ inl h
-  | inr out ↦
-      let none = bit_is_none n i out in
-      let some : max (bit_at n i) (bit_at m i) ≡ 1 = sym (bit_at_or n m i) ∙ bit_is_one (bit_or n m) i is in
-      inr (has_from m i (omega arith))
-]
+has_bit_or n m i is = grind (arith, bit_is_none, bit_at_or, bit_is_one, has_from)
 
 pub has_bit_or_left : (n m i : ℕ) → has_bit n i ≡ true → has_bit (bit_or n m) i ≡ true
-has_bit_or_left n m i h = let one = bit_is_one n i h in
-    has_from (bit_or n m) i (bit_at_or n m i ∙ omega (arith, bit_at-lt m i))
+has_bit_or_left n m i h = grind (arith, bit_is_one, has_from, bit_at_or, bit_at-lt)
 
 pub has_bit_or_right : (n m i : ℕ) → has_bit m i ≡ true → has_bit (bit_or n m) i ≡ true
-has_bit_or_right n m i h = let one = bit_is_one m i h in
-    has_from (bit_or n m) i (bit_at_or n m i ∙ omega (arith, bit_at-lt n i))
+has_bit_or_right n m i h = grind (arith, bit_is_one, has_from, bit_at_or, bit_at-lt)
 
 pub bit_for_has : (k : ℕ) → k < 64 → has_bit (bit_for k) k ≡ true
 bit_for_has k lt = has_from (bit_for k) k (ap (λ n. bit_at n k) (bit_for_small k lt) ∙ bit_at-pow_same k)

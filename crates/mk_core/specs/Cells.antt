@@ -8,6 +8,7 @@ use Rattle.mk_geom.specs.declared.pages.Page.{Page}
 use Rattle.mk_geom.specs.Storages.{free_page}
 use Rattle.mk_geom.specs.Classes.{cells_of, class_words_of}
 use Rattle.mk_geom.specs.Headers.{header_of}
+pub use Rattle.mk_geom.specs.Headers.{is_unmapped_header}
 use Rattle.mk_geom.specs.Addresses.{cell_at, page_at_address, head_page_under}
 use Rattle.mk_core.specs.declared.seats.RunPages.{RunPages}
 use Rattle.mk_core.specs.Words.{Words, header_at, used_at}
@@ -46,12 +47,6 @@ abbrev pub is_leaf_header : Option Header → Bool
 is_leaf_header (Some (LeafBlock class)) = true
 is_leaf_header (Some (LeafRun count)) = true
 is_leaf_header _ = false
-
--- the page is one of an unmapped run
-abbrev pub is_unmapped_header : Option Header → Bool
-is_unmapped_header (Some (Run count mapped)) = not mapped
-is_unmapped_header (Some (Later distance mapped)) = not mapped
-is_unmapped_header _ = false
 
 abbrev pub header_in : Words → ℕ → Option Header
 header_in w p = header_of (header_at w p)

@@ -1,5 +1,5 @@
 //! Cells and runs as the words show them.
-ghost use Rattle.std.specs.Prelude.{◌≡◌, ℕ, ◌+◌, ◌-◌, ◌*◌, ◌^◌, ◌<◌, ◌≤◌, ◌==◌, ◌&&◌, nat_le};
+ghost use Rattle.std.specs.Prelude.{◌≡◌, ℕ, ◌+◌, ◌-◌, ◌*◌, ◌^◌, ◌<◌, ◌≤◌, ◌==◌};
 ghost use Rattle.std.specs.Prelude.{IfSome, IfNone, slice_index};
 ghost use Rattle.mk_core.specs.Words.{header_at, used_at};
 ghost use Rattle.mk_geom.specs.Headers.{header_of};
@@ -7,7 +7,7 @@ ghost use Rattle.mk_geom.specs.Addresses.{address_of};
 ghost use Rattle.mk_core.specs.Bits.{bit_for, has_bit, without};
 ghost use Rattle.mk_core.specs.Bounded.{all_below};
 ghost use Rattle.mk_core.specs.Cells.{cells_under, words_under, run_headed, heads_run, is_leaf_header};
-ghost use Rattle.mk_core.specs.Cells.{is_unmapped_header, has_no_pointers, head_page, cell_bits, first_word};
+ghost use Rattle.mk_core.specs.Cells.{has_no_pointers, head_page, cell_bits, first_word};
 ghost use Rattle.mk_core.specs.Cells.{cell_words, pointed_cell, is_used, is_freed, is_marked, points_well};
 ghost use Rattle.mk_core.specs.Cells.{word_points_well, words_point_well, words_are_zero, left_unmarked};
 ghost use Rattle.mk_core.specs.Cells.{is_left_unmarked, are_left_unmarked, none_is_left_unmarked, is_released_cell};
@@ -17,7 +17,7 @@ use crate::table::Table;
 use crate::{Core, Phase, RunPages};
 use mk_geom::{
     Cell, HEAP_START, Header, PAGE_WORDS, WORD_BYTES, cells, class_words, decode, head_page_under,
-    lookup, page_at,
+    is_unmapped, lookup, page_at,
 };
 
 /// The bit of a word that stands for a cell.
@@ -122,35 +122,6 @@ pub(crate) fn heads_run(header: u64) -> bool
         decode(header),
         Some(Header::Run { .. } | Header::LeafRun { .. })
     )
-}
-
-/// The kinds of the headers on the pages of an unmapped run: its first page, and a later one.
-const UNMAPPED: u64 = 11;
-
-const UNMAPPED_LATER: u64 = 12;
-
-/// How many pages the largest run has.
-const MOST_PAGES: u64 = 64;
-
-fn is_from_one(parameter: u64, most: u64) -> bool
-    ensures { result ≡ (nat_le 1 parameter && nat_le parameter most) }
-{
-    1 <= parameter && parameter <= most
-}
-
-/// Whether the page is one of an unmapped run. Most have another kind, and nothing else is read of them.
-#[inline(always)]
-pub fn is_unmapped(header: u64) -> bool
-    ensures { result ≡ is_unmapped_header (header_of header) }
-{
-    let kind = header % 16;
-    if kind == UNMAPPED {
-        return is_from_one(header / 16, MOST_PAGES);
-    }
-    if kind == UNMAPPED_LATER {
-        return is_from_one(header / 16, MOST_PAGES - 1);
-    }
-    false
 }
 
 /// Whether the words of a cell under the header aren't scanned: those of a leaf object, and of an

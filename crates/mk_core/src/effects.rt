@@ -16,7 +16,7 @@ ghost use Rattle.mk_core.specs.Effects.{holding_behind, marker_behind, words_fre
 use crate::calls::{
     begun, onward, progress_cas, progress_getg, progress_read, progress_reg, refused, still,
 };
-use crate::cells::{has_no_pointers, heads_run, is_unmapped, run_headed, words_under};
+use crate::cells::{has_no_pointers, heads_run, run_headed, words_under};
 use crate::machine::{AT_REST, Core, NOTHING_DONE};
 use crate::scans::marker_behind;
 use crate::seats::Progress;
@@ -24,7 +24,7 @@ use crate::{
     Answer, Flight, Hand, Holding, Marker, OwnCycle, Phase, Placing, RunPages, Seat, Source, Stage,
     Step, Word,
 };
-use mk_geom::{Cell, Place};
+use mk_geom::{Cell, Place, is_unmapped};
 use mk_never::Op;
 
 /// A decided answer, after which `give` comes.

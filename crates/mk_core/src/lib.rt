@@ -30,8 +30,7 @@ mod turn_conditions;
 
 pub use accesses::{Access, TableWord};
 pub use cells::{
-    bit, bit_for, cells_under, has_bit, has_cell, has_no_pointers, is_unmapped, without,
-    words_under,
+    bit, bit_for, cells_under, has_bit, has_cell, has_no_pointers, without, words_under,
 };
 pub use config::{Config, GlobalTable};
 pub use events::{Answer, Event, NotEnabled, Seat, Step, Tally, Word};

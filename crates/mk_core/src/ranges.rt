@@ -7,11 +7,11 @@ ghost use Rattle.mk_core.specs.Ranges.{is_word, is_other_caller, is_word_met, is
 ghost use Rattle.mk_core.specs.Ranges.{has_phase, may_look_at};
 
 use crate::calls::word_met;
-use crate::cells::{heads_run, is_unmapped};
+use crate::cells::heads_run;
 use crate::machine::Core;
 use crate::table::Table;
 use crate::{Flight, Phase, Seat, Step, Word};
-use mk_geom::{Cell, HEAP_START, PAGE_WORDS};
+use mk_geom::{Cell, HEAP_START, PAGE_WORDS, is_unmapped};
 
 impl Seat {
     /// Whether it is the caller of this number.

@@ -1,15 +1,14 @@
 -- The `begin` of a cycle, and the calls around it.
 use Rattle.std.proofs.Common.{filter}
-use Rattle.mk_laws.proofs.Vocabulary.{Bool, Config, Holding, List, PlacedAllocation, Steady, Step, Storage}
-use Rattle.mk_laws.proofs.Vocabulary.{TalliesAreTidy, World, ℕ, all_below, all_below_more_is, all_below_zero_is}
-use Rattle.mk_laws.proofs.Vocabulary.{and_from, ap, arith, eq-eqb, false, fresh_words_of, has_clean_page, has_place}
-use Rattle.mk_laws.proofs.Vocabulary.{if◌then◌else◌, in_a_word, is_in, is_mapped, length, map, no_longer_fresh}
-use Rattle.mk_laws.proofs.Vocabulary.{phase_of, refl, slice_index, storage_of, storage_words, subst, suc, sym, true}
+use Rattle.mk_laws.proofs.Vocabulary.{Bool, Config, List, PlacedAllocation, Steady, Step, Storage, TalliesAreTidy}
+use Rattle.mk_laws.proofs.Vocabulary.{World, ℕ, all_below, all_below_more_is, all_below_zero_is, and_from, ap, arith}
+use Rattle.mk_laws.proofs.Vocabulary.{eq-eqb, false, has_clean_page, if◌then◌else◌, is_mapped, length, map}
+use Rattle.mk_laws.proofs.Vocabulary.{no_longer_fresh, phase_of, refl, slice_index, storage_of, subst, suc, sym, true}
 use Rattle.mk_laws.proofs.Vocabulary.{zero, [], ◌%◌, ◌&&◌, ◌+◌, ◌/◌, ◌<◌, ◌==◌, ◌^◌, ◌∙◌, ◌∷◌, ◌≡◌, ◌≤◌}
 use Rattle.mk_cycle.proofs.Vocabulary.{Acts, Cleans, CountsAreLeft, Done, InTurn, IsAtPhase, IsClean, IsEnabledTo}
-use Rattle.mk_cycle.proofs.Vocabulary.{IsFreeForCycle, IsGone, KeepsGates, PassState, WasUndirty, call_of, count_by}
-use Rattle.mk_cycle.proofs.Vocabulary.{count_by-le-length, done_of, full_answers, held_by_allocations, is_pending_free}
-use Rattle.mk_cycle.proofs.Vocabulary.{made, now_of, releases, stands, steady_of, sum_by, world_at, world_of}
+use Rattle.mk_cycle.proofs.Vocabulary.{IsFreeForCycle, IsGone, KeepsGates, PassState, WasUndirty, call_of}
+use Rattle.mk_cycle.proofs.Vocabulary.{count_by-le-length, done_of, held_by_allocations, made, now_of, releases, stands}
+use Rattle.mk_cycle.proofs.Vocabulary.{steady_of, world_at, world_of}
 use Rattle.mk_geom.specs.StorageWords.{held_by_storages}
 use Rattle.mk_books.proofs.PlaceLemmas.{count_by-map}
 use Rattle.mk_core.specs.Allocations.{unreleased_storage}
@@ -26,8 +25,7 @@ all_from (suc n) test h =
     (all_below_more_is n test (all_from n test (λ k lt. h k (omega arith))) (h n (omega arith)))
 
 clean_page : (p : PassState) (page : ℕ) → IsClean p page → has_clean_page (now_of p).words page ≡ true
-clean_page p page h =
-    and_from _ _ (and_from _ _ (eq-eqb _ 0 h.unmarked) (eq-eqb _ 0 h.unscanned)) (eq-eqb _ _ (sym h.snapshot))
+clean_page p page h = grind (arith, and_from, eq-eqb)
 
 pub begin_allowed : (p : PassState) → InTurn p → IsFreeForCycle p → IsAtPhase p 0
     → ((page : ℕ) → page < p.table.config.pages → IsClean p page) → (now_of p).words.fresh ≡ 0
@@ -90,13 +88,7 @@ module _ (p q : PassState) (t : InTurn p) (free : IsFreeForCycle p) (none : IsAt
   w = world_at a.makes
 
   phase_there : (w.now.words.phase + 1) % 2 ^ 64 % 8 ≡ 1
-  phase_there =
-      let there = (made p Step.Begin q a.makes).protocol in
-      let low : w.now.words.phase % 8 ≡ 0 = ap (λ (s : Steady). s.phase) a.turn.steady ∙ none in
-      let few : count_by is_in w.now.seats.markers ≤ 8 =
-      subst (λ (n : ℕ). count_by is_in w.now.seats.markers ≤ n) there.markers
-      (count_by-le-length is_in w.now.seats.markers) in
-      begun_phase w.now.words.phase (count_by is_in w.now.seats.markers) low there.high few
+  phase_there = grind (arith, made, protocol, count_by-le-length, begun_phase)
 
   pub steady_begun : steady_of (world_of q)
       ≡ record (steady_of (world_of p)) {
@@ -104,23 +96,13 @@ module _ (p q : PassState) (t : InTurn p) (free : IsFreeForCycle p) (none : IsAt
         fresh_words = 0;
         allocations = map no_longer_fresh (world_of p).allocations;
       }
-  steady_begun =
-      ap (λ (x : World). steady_of x) a.world
-      ∙ ap (λ (n : ℕ). record (steady_of w) {
-        phase = n;
-        fresh_words = 0;
-        allocations = map no_longer_fresh w.allocations;
-      }) phase_there
-      ∙ ap (λ (s : Steady). record s { phase = 1; fresh_words = 0; allocations = map no_longer_fresh s.allocations })
-      a.turn.steady
+  steady_begun = grind (arith, phase_there)
 
   pub begun_call : call_of q ≡ call_of p
   begun_call = same_call p Step.Begin q a t.own t.holds u.history (λ n. refl)
 
   pub begun_done : done_of (now_of q) ≡ record (done_of (now_of p)) { cycle = Begun }
-  begun_done =
-      ap (λ (x : World). done_of x.now) a.world
-      ∙ ap (λ (h : Holding). record (done_in h) { cycle = Begun }) a.holding
+  begun_done = grind (arith, done_in)
 
   pub begun_gone : IsGone p → IsGone q
   begun_gone = still_gone p Step.Begin q a t.own t.holds u.history (λ n. refl) refl
@@ -132,12 +114,7 @@ module _ (p q : PassState) (t : InTurn p) (free : IsFreeForCycle p) (none : IsAt
   begun_gates = gates_behind p Step.Begin q a refl
 
   pub begun_free : IsFreeForCycle q
-  begun_free =
-      record {
-        decided = ap is_pending_free begun_call ∙ free.decided;
-        unplaced = ap (λ (x : Done). has_place x.placing) begun_done ∙ free.unplaced;
-        gone = begun_gone free.gone;
-      }
+  begun_free = grind (arith, begun_call, begun_done, begun_gone)
 
   pub begun_at_one : IsAtPhase q 1
   begun_at_one = ap (λ (s : Steady). s.phase) steady_begun
@@ -153,48 +130,17 @@ snapshot_is b t clean =
 exact_from : (p q : PassState) → q ≡ record p { seen = q.seen }
     → steady_of (world_of q) ≡ with_cycle_begun (steady_of (world_of p))
     → TalliesAreExact p.table.config p.seen → TalliesAreExact q.table.config q.seen
-exact_from p q is steady x =
-    let c : Config = p.table.config in
-    let same : q.table.config ≡ c = same_config p q is in
-    let xs : List PlacedAllocation = (world_of p).allocations in
-    let allocations : (world_of q).allocations ≡ map no_longer_fresh xs = ap (λ (s : Steady). s.allocations) steady in
-    record {
-      held =
-          ap (λ (s : Steady). s.held) steady ∙ x.held
-          ∙ sym (ap (λ (d : Config). held_by_allocations d (world_of q).allocations) same
-          ∙ ap (λ (ys : List PlacedAllocation). held_by_allocations c ys) allocations ∙ stale_held c xs);
-      fresh =
-          ap (λ (s : Steady). s.fresh) steady
-          ∙ sym (ap (λ (d : Config). in_a_word (fresh_words_of d (world_of q).allocations)) same
-          ∙ ap (λ (ys : List PlacedAllocation). in_a_word (fresh_words_of c ys)) allocations
-          ∙ ap (λ (ys : List PlacedAllocation). in_a_word (sum_by (storage_words c) ys)) (none_fresh c xs));
-    }
+exact_from p q is steady x = grind (arith, same_config, stale_held, none_fresh)
 
 tidy_from : (p q : PassState) → q ≡ record p { seen = q.seen }
     → steady_of (world_of q) ≡ with_cycle_begun (steady_of (world_of p))
     → CountsAreLeft p.table.config p.seen q.seen → TalliesAreTidy p.table.config p.seen
     → TalliesAreTidy q.table.config q.seen
-tidy_from p q is steady counts x =
-    let c : Config = p.table.config in
-    let same : q.table.config ≡ c = same_config p q is in
-    record {
-      cycles = ap (λ (s : Steady). s.cycles) steady ∙ x.cycles ∙ ap in_a_word (sym counts.ends);
-      released =
-          ap (λ (s : Steady). s.released) steady ∙ x.released
-          ∙ ap in_a_word (sym (ap (λ (s : Steady). releases s.allocations) steady
-          ∙ stale_releases (world_of p).allocations));
-      full =
-          ap (λ (s : Steady). s.full) steady ∙ x.full ∙ ap in_a_word (sym counts.fulls)
-          ∙ ap (λ (d : Config). in_a_word (full_answers d q.seen)) (sym same);
-    }
+tidy_from p q is steady counts x = grind (arith, same_config, stale_releases)
 
 pub counts_then : (p q r : PassState) → q.table.config ≡ p.table.config → CountsAreLeft p.table.config p.seen q.seen
     → CountsAreLeft q.table.config q.seen r.seen → CountsAreLeft p.table.config p.seen r.seen
-counts_then p q r same a b =
-    record {
-      ends = b.ends ∙ a.ends;
-      fulls = subst (λ (c : Config). full_answers c r.seen ≡ full_answers c q.seen) same b.fulls ∙ a.fulls;
-    }
+counts_then p q r same a b = grind arith
 
 -- All of it: pages are cleaned, the cycle begins, and the engine does its part.
 pub begins_cycle : (p b d q : PassState) → Cleans p b → InTurn b → IsFreeForCycle b → IsAtPhase b 0
@@ -204,10 +150,8 @@ pub begins_cycle : (p b d q : PassState) → Cleans p b → InTurn b → IsFreeF
 begins_cycle p b d q k t free none clean undirty fresh a u law =
     let begun = steady_begun b d t free none u a in
     let first : b ≡ record p { seen = b.seen } = k.keeps.call.pass in
-    let second : d ≡ record p { seen = d.seen } = same_pass b Step.Begin d a t.own t.holds u.history
-    ∙ ap (λ (x : PassState). record x { seen = d.seen }) first in
-    let pass : q ≡ record p { seen = q.seen } = law.keeps.call.pass
-    ∙ ap (λ (x : PassState). record x { seen = q.seen }) second in
+    let second : d ≡ record p { seen = d.seen } = grind (arith, same_pass) in
+    let pass : q ≡ record p { seen = q.seen } = grind arith in
     let steady : steady_of (world_of q) ≡ with_cycle_begun (steady_of (world_of p)) =
     law.keeps.steady ∙ begun
     ∙ ap (λ (n : ℕ). record (with_cycle_begun (steady_of (world_of b))) {

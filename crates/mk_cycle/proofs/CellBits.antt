@@ -22,8 +22,7 @@ least_test (suc zero) (suc (suc y)) lx ly = absurd (omega arith)
 least_test (suc (suc x)) y lx ly = absurd (omega arith)
 
 pub has_bit_and : (a b k : ℕ) → has_bit (bit_and a b) k ≡ (has_bit a k && has_bit b k)
-has_bit_and a b k = ap (λ (n : ℕ). n == 1) (bit_at_and a b k)
-    ∙ least_test (bit_at a k) (bit_at b k) (bit_at-lt a k) (bit_at-lt b k)
+has_bit_and a b k = grind (arith, bit_at_and, least_test, bit_at-lt)
 
 -- in Booleans
 

@@ -56,23 +56,12 @@ module _ (c : Config) (es : List Event) (h : IsHistory c es) (quiet : phase_of (
   chosen_cell : (p k : ℕ) (a : PlacedAllocation) → in_cell p k a ≡ true
       → (chosen a ≡ true) × (cell_of_allocation c a ≡ record { page = p; index = k })
   unfolding in_cell on_page
-  chosen_cell p k a is =
-      let cell : Cell = cell_of_allocation c a in
-      let outer = and_parts (on_page p a) (cell.index == k) is in
-      let inner = and_parts (chosen a) (cell.page == p) outer.0 in (
-        inner.0,
-        ap (λ (i : ℕ). record { page = i; index = cell.index }) (eqb-true cell.page p inner.1)
-            ∙ ap (λ (i : ℕ). record { page = p; index = i }) (eqb-true cell.index k outer.1),
-      )
+  chosen_cell p k a is = grind (arith, and_parts, on_page, eqb-true)
 
   cell_chosen : (p k : ℕ) (a : PlacedAllocation) → chosen a ≡ true
       → cell_of_allocation c a ≡ record { page = p; index = k } → in_cell p k a ≡ true
   unfolding in_cell on_page
-  cell_chosen p k a is cell =
-      and_from (on_page p a) ((cell_of_allocation c a).index == k)
-      (and_from (chosen a) ((cell_of_allocation c a).page == p) is
-      (eq-eqb (cell_of_allocation c a).page p (ap (λ (y : Cell). y.page) cell)))
-      (eq-eqb (cell_of_allocation c a).index k (ap (λ (y : Cell). y.index) cell))
+  cell_chosen p k a is cell = grind (arith, and_from, on_page, eq-eqb)
 
   bit_of : (i : ℕ) → chosen (placed_at xs i) ≡ true
       → has_bit (bits (cell_of_allocation c (placed_at xs i)).page) (cell_of_allocation c (placed_at xs i)).index ≡ true
@@ -127,8 +116,7 @@ module _ (c : Config) (es : List Event) (h : IsHistory c es) (quiet : phase_of (
 
   allocation_in_range : (i : ℕ) → chosen (placed_at xs i) ≡ true
       → ((cell_of_allocation c (placed_at xs i)).page < c.pages) × ((cell_of_allocation c (placed_at xs i)).index < 32)
-  allocation_in_range i is =
-      in_range (cell_of_allocation c (placed_at xs i)).page (cell_of_allocation c (placed_at xs i)).index (bit_of i is)
+  allocation_in_range i is = grind (arith, in_range, xs, bit_of)
 
   counted_on_page : (p : ℕ) → count_by (on_page p) xs ≡ count_ones (bits p)
   unfolding in_cell on_page

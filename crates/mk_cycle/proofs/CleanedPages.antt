@@ -1,6 +1,5 @@
 -- Pages are cleaned one by one, and others are passed over: what is known of those before goes on.
-use Rattle.mk_laws.proofs.Vocabulary.{Steady, ℕ, ap, arith, cases_lt, false, header_at, inl, inr, slice_index, sym, ◌+◌}
-use Rattle.mk_laws.proofs.Vocabulary.{◌<◌, ◌∙◌, ◌≡◌, ◌≤◌}
+use Rattle.mk_laws.proofs.Vocabulary.{Steady, ℕ, ap, arith, cases_lt, false, header_at, sym, ◌+◌, ◌<◌, ◌∙◌, ◌≡◌, ◌≤◌}
 use Rattle.mk_cycle.proofs.Vocabulary.{Cleans, InTurn, IsClean, PassState, WasUndirty, below_more, now_of}
 use Rattle.mk_page_map.specs.Members.{has_freed_cells, is_in_use, page_at}
 use Rattle.mk_laws.proofs.FreePages.{free_pages_have_nothing}
@@ -11,8 +10,7 @@ use Rattle.mk_words.specs.PageMaps.{HasNoMarks}
 
 pub bare_stays : (p q : PassState) (page : ℕ) → Cleans p q → HasNoMarks (now_of p).words page
     → HasNoMarks (now_of q).words page
-bare_stays p q page k h =
-    record { unmarked = k.unmarked page h.unmarked; unscanned = k.unscanned page h.unscanned }
+bare_stays p q page k h = grind arith
 
 -- The headers stay.
 same_header : (p q : PassState) (page : ℕ) → Cleans p q
@@ -29,10 +27,7 @@ free_stay_bare p q n k h page lt bare = bare_stays p q page k (h page lt (sym (s
 pub free_bare_past : (p : PassState) (from n : ℕ) → FreeAreBare p from
     → ((page : ℕ) → from ≤ page → page < n → header_at (now_of p).words page ≡ 0 → HasNoMarks (now_of p).words page)
     → FreeAreBare p n
-free_bare_past p from n before more page lt bare = elim (cases_lt page from) [
-  | inl low ↦ before page low bare
-  | inr high ↦ more page high lt bare
-]
+free_bare_past p from n before more page lt bare = grind (arith, cases_lt)
 
 pub free_bare_more : (p q : PassState) (n : ℕ) → Cleans p q → FreeAreBare p n → HasNoMarks (now_of q).words n
     → FreeAreBare q (n + 1)
@@ -44,8 +39,7 @@ abbrev pub AreReady : PassState → PassState → ℕ → Type 0
 AreReady o p n = (page : ℕ) → page < n → IsCleanedPage page o p
 
 pub ready_stays : (o p q : PassState) (page : ℕ) → Cleans p q → IsCleanedPage page o p → IsCleanedPage page o q
-ready_stays o p q page k h =
-    record { bare = bare_stays p q page k h.bare; undirty = undirty_later o p q page h.undirty k }
+ready_stays o p q page k h = grind (arith, bare_stays, undirty_later)
 
 pub ready_more : (o p q : PassState) (n : ℕ) → Cleans o p → Cleans p q → AreReady o p n
     → HasNoMarks (now_of q).words n → WasUndirty n p q → AreReady o q (n + 1)
@@ -56,16 +50,8 @@ ready_more o p q n first k before bare undirty =
 pub ready_past : (o p : PassState) (from n pages : ℕ) → InTurn p → Cleans o p → FreeAreBare o pages → n ≤ pages
     → AreReady o p from
     → ((page : ℕ) → from ≤ page → page < n → is_in_use (now_of p).words.pages page ≡ false) → AreReady o p n
-ready_past o p from n pages t k free few before more page lt = elim (cases_lt page from) [
-  | inl low ↦ before page low
-  | inr high ↦
-      let bare = no_header (now_of p).words page (more page high lt) in
-      record {
-        bare = free_stay_bare o p pages k free page (omega arith) bare;
-        undirty = undirty_now o p page k
-            (free_pages_have_nothing p.table.config p.seen t.history page bare).dirty;
-      }
-]
+ready_past o p from n pages t k free few before more page lt =
+    grind (arith, cases_lt, no_header, free_stay_bare, undirty_now, free_pages_have_nothing)
 
 -- The snapshots below this one are taken.
 abbrev pub AreTaken : PassState → ℕ → Type 0
@@ -78,18 +64,8 @@ pub taken_past : (p : PassState) (from n : ℕ) → InTurn p → AreTaken p from
     → ((page : ℕ) → from ≤ page → page < n
     → has_freed_cells (now_of p).words.freed page ≡ false)
     → AreTaken p n
-taken_past p from n t before more page lt = elim (cases_lt page from) [
-  | inl low ↦ before page low
-  | inr high ↦
-      let freed = no_cells (slice_index (now_of p).words.freed page) (more page high lt) in
-      no_snapshot p t page freed ∙ sym freed
-]
+taken_past p from n t before more page lt = grind (arith, cases_lt, no_cells, no_snapshot)
 
 pub clean_ready : (o p q : PassState) (page : ℕ) → IsCleanedPage page o p → Cleans p q → HasTakenSnapshot q page
     → IsClean q page
-clean_ready o p q page h k taken =
-    record {
-      unmarked = k.unmarked page h.bare.unmarked;
-      unscanned = k.unscanned page h.bare.unscanned;
-      snapshot = taken;
-    }
+clean_ready o p q page h k taken = grind arith

@@ -1,10 +1,10 @@
 -- Pages are cleaned step by step.
-use Rattle.mk_laws.proofs.Vocabulary.{Cell, Config, Event, Flight, IsHistory, List, Moment, None, Option}
-use Rattle.mk_laws.proofs.Vocabulary.{PlacedAllocation, Seat, Steady, Step, Tally, Word, Words, World, ℕ, ap, arith}
-use Rattle.mk_laws.proofs.Vocabulary.{cases_eq, cases_lt, false, flight_of, freed_where_it_stands, get_or-set_other}
-use Rattle.mk_laws.proofs.Vocabulary.{get_or-set_same, inl, inr, is_end, is_heap_store, length, map, progress}
-use Rattle.mk_laws.proofs.Vocabulary.{quarantine_word, refl, set-get_or, set_past, slice_index, slice_set, still, subst}
-use Rattle.mk_laws.proofs.Vocabulary.{sym, true, world_behind, [], ◌%◌, ◌++◌, ◌/◌, ◌<◌, ◌^◌, ◌∙◌, ◌∷◌, ◌≡◌}
+use Rattle.mk_laws.proofs.Vocabulary.{Config, Event, Flight, IsHistory, List, Moment, None, PlacedAllocation, Seat}
+use Rattle.mk_laws.proofs.Vocabulary.{Steady, Step, Tally, Word, Words, World, ℕ, ap, arith, cases_eq, cases_lt, false}
+use Rattle.mk_laws.proofs.Vocabulary.{flight_of, freed_where_it_stands, get_or-set_other, get_or-set_same, inl, inr}
+use Rattle.mk_laws.proofs.Vocabulary.{is_end, is_heap_store, length, map, progress, quarantine_word, refl, set-get_or}
+use Rattle.mk_laws.proofs.Vocabulary.{set_past, slice_index, slice_set, still, subst, sym, true, world_behind, [], ◌%◌}
+use Rattle.mk_laws.proofs.Vocabulary.{◌++◌, ◌/◌, ◌<◌, ◌^◌, ◌∙◌, ◌∷◌, ◌≡◌}
 use Rattle.mk_cycle.proofs.Vocabulary.{Acts, Cleans, InTurn, IsAtPhase, IsClean, IsFreeForCycle, LeavesTurn, PassState}
 use Rattle.mk_cycle.proofs.Vocabulary.{WordsState, clears, does_nothing, does_step, does_then, event_of}
 use Rattle.mk_cycle.proofs.Vocabulary.{is_pending_free, made, now_of, stands, steady_of, world_at}
@@ -14,15 +14,7 @@ use Rattle.mk_cycle.proofs.OwnSteps.{keeps_call, keeps_counts}
 use Rattle.mk_cycle.specs.{Cleaning.HasTakenSnapshot, TurnKeeps.but_cleaned}
 
 pub cleans_nothing : (p : PassState) → Cleans p p
-cleans_nothing p =
-    record {
-      does = does_nothing clears p;
-      keeps = keeps_at_once but_cleaned p;
-      gates = λ j lt. refl;
-      unmarked = λ page h. h;
-      unscanned = λ page h. h;
-      snapshot = λ page h. h;
-    }
+cleans_nothing p = grind (arith, does_nothing, keeps_at_once)
 
 pub cleans_then : (p q r : PassState) → Cleans p q → Cleans q r → Cleans p r
 cleans_then p q r a b =
@@ -119,35 +111,19 @@ module _ (p : PassState) (s : Step) (q : PassState) (a : Acts p s q) (t : InTurn
 
 pub look_cleans : (c : Config) (w : World) (seat : Seat) (x : Word)
     → CleansAt w (world_behind c w (record { seat = seat; step = Step.Look x }))
-look_cleans c w seat x =
-    record { steady = refl; gates = refl; unmarked = λ r h. h; unscanned = λ r h. h; snapshot = λ r h. h }
+look_cleans c w seat x = grind arith
 
 pub clear_cleans : (c : Config) (w : World) (seat : Seat) (p : ℕ)
     → CleansAt w (world_behind c w (record { seat = seat; step = Step.Clear p }))
-clear_cleans c w seat p =
-    record {
-      steady = refl;
-      gates = refl;
-      unmarked = zero_stays w.now.words.marks p;
-      unscanned = λ r h. h;
-      snapshot = λ r h. h;
-    }
+clear_cleans c w seat p = grind (arith, zero_stays)
 
 pub unblack_cleans : (c : Config) (w : World) (seat : Seat) (p : ℕ)
     → CleansAt w (world_behind c w (record { seat = seat; step = Step.Unblack p }))
-unblack_cleans c w seat p =
-    record {
-      steady = refl;
-      gates = refl;
-      unmarked = λ r h. h;
-      unscanned = zero_stays w.now.words.blacks p;
-      snapshot = λ r h. h;
-    }
+unblack_cleans c w seat p = grind (arith, zero_stays)
 
 pub undirty_cleans : (c : Config) (w : World) (seat : Seat) (p : ℕ)
     → CleansAt w (world_behind c w (record { seat = seat; step = Step.Undirty p }))
-undirty_cleans c w seat p =
-    record { steady = refl; gates = refl; unmarked = λ r h. h; unscanned = λ r h. h; snapshot = λ r h. h }
+undirty_cleans c w seat p = grind arith
 
 -- `quar` (b): the low half is stored over itself
 
@@ -173,10 +149,7 @@ none_freed w (a ∷ xs) = ap (λ (ys : List PlacedAllocation). a ∷ ys) (none_f
 -- A `quar` of a call that isn't an undecided Free frees nothing.
 pub quar_frees_none : (c : Config) (w : World) (seat : Seat) (p v : ℕ) → is_pending_free (flight_of w.now seat) ≡ false
     → (world_behind c w (record { seat = seat; step = Step.Quar p v })).allocations ≡ w.allocations
-quar_frees_none c w seat p v free =
-    ap (λ (cell : Option Cell). map (freed_where_it_stands w.now.words cell) w.allocations)
-    (frees_none c.pages w.now.words (flight_of w.now seat) p v free)
-    ∙ none_freed w.now.words w.allocations
+quar_frees_none c w seat p v free = grind (arith, frees_none, none_freed)
 
 pub quar_cleans : (c : Config) (w : World) (seat : Seat) (p v : ℕ) → is_pending_free (flight_of w.now seat) ≡ false
     → p < length w.now.words.snapshot → slice_index w.now.words.freed p < 2 ^ 32
@@ -268,10 +241,8 @@ module _ (p q : PassState) (t : InTurn p) (free : IsFreeForCycle p) (none : IsAt
           let c : Config = p.table.config in
           let es : List Event = p.seen ++ a.makes.others in
           let known = stands c es (made p (Step.Quar page v) q a.makes).history in
-          let long : page < length w.now.words.snapshot =
-          subst (λ (n : ℕ). page < n) (sym known.known.lengths.snapshot) lt in
-          let long' : page < length w.now.words.freed =
-          subst (λ (n : ℕ). page < n) (sym known.known.lengths.freed) lt in
+          let long : page < length w.now.words.snapshot = grind arith in
+          let long' : page < length w.now.words.freed = grind arith in
           let f : ℕ = slice_index (now_of p).words.freed page in
           let small : slice_index w.now.words.freed page < 2 ^ 32 = (known.all.order.quarantined.small page).0 in
           let little : f < 2 ^ 32 = subst (λ (n : ℕ). n < 2 ^ 32) same_freed small in
@@ -287,12 +258,7 @@ pub then_cleans : (p q r : PassState) → IsFreeForCycle p → IsAtPhase p 0 →
 then_cleans p q r free none a b = cleans_then p q r a (b (cleaned_free p q a free) (cleaned_phase p q a none))
 
 pub clean_stays : (p q : PassState) (page : ℕ) → Cleans p q → IsClean p page → IsClean q page
-clean_stays p q page k h =
-    record {
-      unmarked = k.unmarked page h.unmarked;
-      unscanned = k.unscanned page h.unscanned;
-      snapshot = k.snapshot page h.snapshot;
-    }
+clean_stays p q page k h = grind arith
 
 -- what a look at a quarantine word says: its halves
 pub record Halves (p : PassState) (page n : ℕ) : Type 0 where

@@ -1,12 +1,10 @@
 -- All of a finish: what was released is given back, the cycle ends, and the tallies are set.
-use Rattle.mk_laws.proofs.Vocabulary.{Config, List, PlacedAllocation, Steady, Step, TalliesAreTidy, Words, ℕ}
-use Rattle.mk_laws.proofs.Vocabulary.{address_of, all_below-at, ap, arith, ends, fresh_words_of, has_place, in_a_word}
-use Rattle.mk_laws.proofs.Vocabulary.{is_held, is_left_unmarked, is_some_and, length, map, not, pointed_cell, subst}
-use Rattle.mk_laws.proofs.Vocabulary.{sym, true, with_released, [], ◌+◌, ◌-◌, ◌<◌, ◌||◌, ◌∙◌, ◌≡◌}
+use Rattle.mk_laws.proofs.Vocabulary.{Config, PlacedAllocation, Steady, Step, TalliesAreTidy, Words, ℕ, all_below-at}
+use Rattle.mk_laws.proofs.Vocabulary.{ap, arith, ends, fresh_words_of, in_a_word, is_held, map, not, subst, sym, true}
+use Rattle.mk_laws.proofs.Vocabulary.{with_released, [], ◌+◌, ◌-◌, ◌<◌, ◌∙◌, ◌≡◌}
 use Rattle.mk_cycle.proofs.Vocabulary.{Acts, CountsAreLeft, Done, HasReleased, HoldsFewer, InTurn, IsAtPhase}
 use Rattle.mk_cycle.proofs.Vocabulary.{IsFreeForCycle, KeepsCall, KeepsGates, PassState, Released, done_of}
-use Rattle.mk_cycle.proofs.Vocabulary.{full_answers, held_by_allocations, is_pending_free, newly_released, now_of}
-use Rattle.mk_cycle.proofs.Vocabulary.{releases, steady_of, world_of}
+use Rattle.mk_cycle.proofs.Vocabulary.{full_answers, now_of, releases, steady_of, world_of}
 use Rattle.mk_core.specs.{Counts.TalliesAreExact, Effects.cycle_ended, Moments.none_is_held}
 use Rattle.mk_cycle.proofs.BeginSteps.{all_from, counts_then}
 use Rattle.mk_cycle.proofs.KeptInParts.{calls_then, free_then, gates_then, same_config}
@@ -17,26 +15,17 @@ use Rattle.mk_cycle.specs.{BeginCycle.BeginsCycle, FinishCycle.FinishesCycle, Gi
 use Rattle.mk_cycle.specs.{Releasing.words_released, Tallying.Sets, Tallying.with_cycle_counted}
 
 pub gives_call : (p g : PassState) → GivesAllBack p g → KeepsCall p g
-gives_call p g x = calls_then p x.released g
-    (calls_then p x.held x.released x.holds.keeps.call x.releases.call) x.frees.keeps.call
+gives_call p g x = grind (arith, calls_then)
 
 pub gives_free : (p g : PassState) → GivesAllBack p g → IsFreeForCycle p → IsFreeForCycle g
 gives_free p g x free = free_then p g (gives_call p g x) free
 
 gives_counts : (p g : PassState) → GivesAllBack p g → CountsAreLeft p.table.config p.seen g.seen
-gives_counts p g x =
-    counts_then p x.held g (same_config p x.held x.holds.keeps.call.pass) x.holds.keeps.counts
-    (counts_then x.held x.released g
-    (same_config x.held x.released x.releases.call.pass) x.releases.counts x.frees.keeps.counts)
+gives_counts p g x = grind (arith, counts_then, same_config)
 
 pub ended_free : (g e : PassState) → InTurn g → IsAtPhase g 4 → InTurn e → Acts g Step.End e → IsFreeForCycle g
     → IsFreeForCycle e
-ended_free g e t at u a free =
-    record {
-      decided = ap is_pending_free (ended_call g e t at u a) ∙ free.decided;
-      unplaced = ap (λ (x : Done). has_place x.placing) (ended_done g e t at u a) ∙ free.unplaced;
-      gone = ended_gone g e t at u a free.gone;
-    }
+ended_free g e t at u a free = grind (arith, ended_call, ended_done, ended_gone)
 
 -- without what is released and given back
 but_given : Steady → Steady
@@ -45,9 +34,7 @@ but_given s = record s { phase = 0; pages = []; freed = []; snapshot = []; fresh
 gives_steady : (p g : PassState) → GivesAllBack p g
     → but_given (steady_of (world_of g)) ≡ but_given (steady_of (world_of p))
 unfolding but_given
-gives_steady p g x =
-    ap (λ (s : Steady). record s { phase = 0; allocations = [] }) x.frees.keeps.steady
-    ∙ ap but_given x.releases.steady ∙ ap but_given x.holds.keeps.steady
+gives_steady p g x = grind (arith, but_given)
 
 -- A count that stands in a word stands there with more as well.
 more_in_a_word : (n more : ℕ) → in_a_word (in_a_word n + more) ≡ in_a_word (n + more)
@@ -97,14 +84,7 @@ module _ (p g e q : PassState) (r : Released) (gives : GivesAllBack p g) (free :
 
   allocations_q : (world_of q).allocations ≡ map f (world_of p).allocations
   unfolding f
-  allocations_q =
-      same_g ∙ ap (λ (s : Steady). s.allocations) gives.frees.keeps.steady
-      ∙ ap (λ (s : Steady). s.allocations) gives.releases.steady
-      ∙ ap (λ (x : Config). map (with_released x (words_released gives.releases.makes))
-      (world_of gives.held).allocations)
-      (same_config p gives.held gives.holds.keeps.call.pass)
-      ∙ ap (λ (s : Steady). map (with_released p.table.config (words_released gives.releases.makes)) s.allocations)
-      gives.holds.keeps.steady
+  allocations_q = grind (arith, same_g, same_config)
 
   done_e : done_of (now_of e) ≡ record (done_of (now_of g)) { cycle = cycle_ended (now_of g).seats.holding.cycle }
   done_e = ended_done g e t gives.phase u a
@@ -113,30 +93,11 @@ module _ (p g e q : PassState) (r : Released) (gives : GivesAllBack p g) (free :
   tallies_g = gives_steady p g gives
 
   fresh_same : fresh_words_of c (world_of q).allocations ≡ fresh_words_of c (world_of p).allocations
-  fresh_same =
-      let h : PassState = gives.held in
-      let config : h.table.config ≡ c = same_config p h gives.holds.keeps.call.pass in
-      ap (λ (xs : List PlacedAllocation). fresh_words_of c xs)
-      (same_g ∙ ap (λ (s : Steady). s.allocations) gives.frees.keeps.steady)
-      ∙ subst (λ (x : Config). fresh_words_of x (world_of gives.released).allocations
-      ≡ fresh_words_of x (world_of h).allocations) config
-      gives.releases.fresh
-      ∙ ap (λ (s : Steady). fresh_words_of c s.allocations) gives.holds.keeps.steady
+  fresh_same = grind (arith, same_config, same_g)
 
   exact_q : TalliesAreExact p.table.config p.seen → TalliesAreExact q.table.config q.seen
   unfolding but_given
-  exact_q x =
-      let same : q.table.config ≡ c = same_config p q pass_q in
-      let before : (now_of e).words.held ≡ held_by_allocations c (world_of p).allocations =
-      ap (λ (s : Steady). s.held) steady_e ∙ ap (λ (s : Steady). s.held) tallies_g ∙ x.held in
-      let now : (now_of q).words.held ≡ (now_of e).words.held - held = ap (λ (s : Steady). s.held) sets.steady in
-      let alike = held_alike g q (same ∙ sym (same_config p g pass_g)) same_g in
-      record {
-        held = omega (arith, before, now, alike, fewer);
-        fresh =
-            ap (λ (s : Steady). s.fresh) steady_q ∙ ap (λ (s : Steady). s.fresh) tallies_g ∙ x.fresh
-            ∙ ap in_a_word (sym (ap (λ (d : Config). fresh_words_of d (world_of q).allocations) same ∙ fresh_same));
-      }
+  exact_q x = grind (arith, same_config, pass_q, steady_e, tallies_g, held_alike, pass_g, same_g, steady_q, fresh_same)
 
   ends_q : ends q.seen ≡ ends p.seen + 1
   ends_q =
@@ -144,44 +105,18 @@ module _ (p g e q : PassState) (r : Released) (gives : GivesAllBack p g) (free :
       ∙ ap (λ (n : ℕ). n + 1) (gives_counts p g gives).ends
 
   fulls_q : full_answers q.table.config q.seen ≡ full_answers c p.seen
-  fulls_q =
-      let from_e : q.table.config ≡ e.table.config = ap (λ (y : PassState). y.table.config) sets.call.pass in
-      let from_g : e.table.config ≡ g.table.config = same_config g e pass_e in
-      ap (λ (d : Config). full_answers d q.seen) from_e ∙ sets.counts.fulls
-      ∙ ap (λ (d : Config). full_answers d e.seen) from_g ∙ as_many_fulls g e t gives.phase u a
-      ∙ ap (λ (d : Config). full_answers d g.seen) (same_config p g pass_g) ∙ (gives_counts p g gives).fulls
+  fulls_q = grind (arith, same_config, pass_e, as_many_fulls, pass_g, gives_counts)
 
   told_q : HasReleased p q r
   told_q = told_to p g q r same_g told
 
   releases_q : releases (world_of q).allocations ≡ releases (world_of p).allocations + r.count
   unfolding f
-  releases_q =
-      let xs : List PlacedAllocation = (world_of p).allocations in
-      let count : r.count ≡ length (newly_released xs (map f xs)) =
-      told_q.count ∙ ap (λ (ys : List PlacedAllocation). length (newly_released xs ys)) allocations_q in
-      ap (λ (ys : List PlacedAllocation). releases ys) allocations_q
-      ∙ newly_added f (λ x is. ap (λ b. b || is_some_and (is_left_unmarked (words_released gives.releases.makes))
-      (pointed_cell c.pages (words_released gives.releases.makes).pages (address_of x.base))) is) xs
-      ∙ ap (λ (n : ℕ). releases xs + n) (sym count)
+  releases_q = grind (arith, told_q, allocations_q, newly_added)
 
   tidy_q : TalliesAreTidy p.table.config p.seen → TalliesAreTidy q.table.config q.seen
   unfolding but_given
-  tidy_q x =
-      record {
-        cycles =
-            ap (λ (s : Steady). s.cycles) sets.steady
-            ∙ ap (λ (n : ℕ). in_a_word (n + 1))
-            (ap (λ (s : Steady). s.cycles) steady_e ∙ ap (λ (s : Steady). s.cycles) tallies_g ∙ x.cycles)
-            ∙ more_in_a_word (ends p.seen) 1 ∙ ap in_a_word (sym ends_q);
-        released =
-            ap (λ (s : Steady). s.released) sets.steady
-            ∙ ap (λ (n : ℕ). in_a_word (n + r.count))
-            (ap (λ (s : Steady). s.released) steady_e ∙ ap (λ (s : Steady). s.released) tallies_g ∙ x.released)
-            ∙ more_in_a_word (releases (world_of p).allocations) r.count ∙ ap in_a_word (sym releases_q);
-        full = ap (λ (s : Steady). s.full) steady_q ∙ ap (λ (s : Steady). s.full) tallies_g ∙ x.full
-            ∙ ap in_a_word (sym fulls_q);
-      }
+  tidy_q x = grind (arith, steady_e, tallies_g, more_in_a_word, ends_q, releases_q, steady_q, fulls_q)
 
   gates_q : none_is_held c.callers (now_of q).words ≡ true
   gates_q =
@@ -222,17 +157,7 @@ module _ (p g e q : PassState) (r : Released) (gives : GivesAllBack p g) (free :
 -- So the turn is free for a cycle after a finish, as it is after a begin.
 
 pub finished_free : (p q : PassState) → FinishesCycle p q → IsFreeForCycle p → IsFreeForCycle q
-finished_free p q k free =
-    record {
-      decided = ap is_pending_free k.call ∙ free.decided;
-      unplaced = ap (λ (x : Done). has_place x.placing) k.done ∙ free.unplaced;
-      gone = k.gone;
-    }
+finished_free p q k free = grind arith
 
 pub begun_cycle_free : (p q : PassState) → BeginsCycle p q → IsFreeForCycle p → IsFreeForCycle q
-begun_cycle_free p q k free =
-    record {
-      decided = ap is_pending_free k.call ∙ free.decided;
-      unplaced = ap (λ (x : Done). has_place x.placing) k.done ∙ free.unplaced;
-      gone = k.gone;
-    }
+begun_cycle_free p q k free = grind arith

@@ -1,11 +1,10 @@
 -- Cells are given back step by step.
-use Rattle.mk_laws.proofs.Vocabulary.{AreOfOthers, Bool, Config, Event, Flight, Holding, IsHistory, IsWordOfMapped}
-use Rattle.mk_laws.proofs.Vocabulary.{List, Moment, PlacedAllocation, Seat, Steady, Step, Word, World, ℕ, ap, arith}
-use Rattle.mk_laws.proofs.Vocabulary.{cases_eq, cases_lt, chosen, earlier_part_is_history, eq-eqb, eqb-false, false}
-use Rattle.mk_laws.proofs.Vocabulary.{flight_of, get_or-set_other, get_or-set_same, if◌then◌else◌, inl, inr, is_end}
-use Rattle.mk_laws.proofs.Vocabulary.{is_heap_store, is_held, is_phase, is_run_gone, length, ne_eqb, phase_of}
-use Rattle.mk_laws.proofs.Vocabulary.{place_now, progress, refl, set_past, slice_index, slice_set, still, subst, sym}
-use Rattle.mk_laws.proofs.Vocabulary.{taken, true, world_behind, ◌++◌, ◌∙◌, ◌≡◌, ◌≢◌}
+use Rattle.mk_laws.proofs.Vocabulary.{AreOfOthers, Bool, Config, Event, Flight, Holding, IsHistory, List, Moment}
+use Rattle.mk_laws.proofs.Vocabulary.{PlacedAllocation, Seat, Steady, Step, Word, World, ℕ, ap, arith, cases_eq}
+use Rattle.mk_laws.proofs.Vocabulary.{cases_lt, earlier_part_is_history, eq-eqb, eqb-false, false, flight_of}
+use Rattle.mk_laws.proofs.Vocabulary.{get_or-set_other, get_or-set_same, inl, inr, is_end, is_heap_store, is_held}
+use Rattle.mk_laws.proofs.Vocabulary.{is_phase, is_run_gone, length, ne_eqb, progress, refl, set_past, slice_index}
+use Rattle.mk_laws.proofs.Vocabulary.{slice_set, still, subst, sym, true, world_behind, ◌++◌, ◌∙◌, ◌≡◌, ◌≢◌}
 use Rattle.mk_cycle.proofs.Vocabulary.{Acts, Frees, InTurn, IsAtPhase, IsFreeForCycle, LeavesTurn, PassState}
 use Rattle.mk_cycle.proofs.Vocabulary.{WordsState, does_nothing, does_step, does_then, event_of, holder_finds}
 use Rattle.mk_cycle.proofs.Vocabulary.{holding_behind, is_giving_back, is_pending_free, made, now_of, steady_of}
@@ -20,22 +19,13 @@ use Rattle.mk_turns.{proofs.Doing.none_own, proofs.Doing.others_are_so, specs.Do
 use Rattle.mk_words.proofs.Seats.{others_own}
 
 pub frees_nothing : (p : PassState) → Frees p p
-frees_nothing p =
-    record {
-      does = does_nothing is_giving_back p;
-      keeps = keeps_at_once but_pages p;
-      marks = refl;
-      gates = λ j h. h;
-      zeros = λ n u h. h;
-    }
+frees_nothing p = grind (arith, does_nothing, keeps_at_once)
 
 same_allocations : (p q : PassState) → LeavesTurn but_pages p q → (world_of q).allocations ≡ (world_of p).allocations
 same_allocations p q k = ap (λ (s : Steady). s.allocations) k.steady
 
 pub still_unmapped : (p q : PassState) (n : ℕ) → LeavesTurn but_pages p q → IsUnmapped p n → IsUnmapped q n
-still_unmapped p q n k h m =
-    h (subst (λ (c : Config). IsWordOfMapped c (world_of p).allocations n) (same_config p q k.call.pass)
-    (subst (λ (xs : List PlacedAllocation). IsWordOfMapped q.table.config xs n) (same_allocations p q k) m))
+still_unmapped p q n k h m = grind (arith, same_config, same_allocations)
 
 pub frees_then : (p q r : PassState) → Frees p q → Frees q r → Frees p r
 frees_then p q r a b =
@@ -70,10 +60,8 @@ frees_still c m f n s h free = calm_still c m f n s h free
 frees_done : (c : Config) (m : Moment) (seat : Seat) (f : Flight) (n : ℕ) (s : Step) (h : Holding)
     → frees_calmly s ≡ true
     → is_pending_free f ≡ false → is_phase m.words 4 ≡ true → done_in (holding_behind c m seat f n s h) ≡ done_in h
-frees_done c m seat f n (Step.Head p v) h kind free at =
-    ap (λ (b : Bool). done_in (record h { placing = if b then h.placing else chosen h.placing (place_now c m f) })) at
-frees_done c m seat f n (Step.Used p v) h kind free at =
-    ap (λ (b : Bool). done_in (record h { placing = if b then h.placing else taken h.placing (place_now c m f) })) at
+frees_done c m seat f n (Step.Head p v) h kind free at = grind (arith, done_in)
+frees_done c m seat f n (Step.Used p v) h kind free at = grind (arith, done_in)
 frees_done c m seat f n s h kind free at = calm_done c m seat f n s h kind free
 
 frees_stores : (s : Step) → frees_calmly s ≡ true → is_heap_store s ≡ false
@@ -110,10 +98,8 @@ module _ (p : PassState) (s : Step) (q : PassState) (a : Acts p s q) (t : InTurn
       let d = made p s q a.makes in
       let pending : is_pending_free f ≡ false = ap is_pending_free a.own.flight ∙ free.decided in
       let st : (n : ℕ) → progress c m f n s ≡ still f = λ n. frees_still c m f n s kind pending in
-      let four : is_phase m.words 4 ≡ true = eq-eqb (phase_of m.words) 4 (ap (λ (y : Steady). y.phase) a.turn.steady
-      ∙ at) in
-      let finds : HolderFinds c p.seat (world_of p) w =
-      holder_finds c p.seat p.seen a.makes.others d.history d.others t.holds in
+      let four : is_phase m.words 4 ≡ true = grind (arith, eq-eqb) in
+      let finds : HolderFinds c p.seat (world_of p) w = grind (arith, holder_finds) in
       record {
         does = does_step is_giving_back p q s a.makes gives;
         keeps = record {

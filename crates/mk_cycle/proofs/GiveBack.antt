@@ -27,10 +27,7 @@ module _ (p : PassState) (page header cells : ℕ) (is : header ≡ header_at (n
   pub chosen_wiped : is_unmapped_header (header_of header) ≡ true
       → (k i : ℕ) → has_bit cells k ≡ true → i < words_under (header_of header)
       → IsZero p (64 * page + k * words_under (header_of header) + i)
-  chosen_wiped gone k i has lt =
-      subst (λ (n : ℕ). IsZero p (64 * page + k * words_under (header_of n) + i)) (sym is)
-      (free.wiped (subst (λ (n : ℕ). is_unmapped_header (header_of n) ≡ true) is gone) k i (released k has)
-      (subst (λ (n : ℕ). i < words_under (header_of n)) is lt))
+  chosen_wiped gone k i has lt = grind arith
 
 -- Of the cells that are used and gone each is gone.
 pub gone_too : (used gone k : ℕ) → has_bit (bit_and used gone) k ≡ true → has_bit gone k ≡ true
@@ -43,11 +40,7 @@ pub gives_here : (p b : PassState) (page used gone size : ℕ) → GivesNothingB
     → IsZero b (64 * page + k * size + i))
     → gives_back (now_of b).words page (without used gone) ≡ true
 gives_here p b page used gone size k is_used is_gone is_size zeros =
-    gives_ok (now_of b).words page used gone size
-    (same_used p b page (k.same page) ∙ sym is_used)
-    (same_left p b page (k.same page) k.frees.marks ∙ sym is_gone)
-    (ap (λ (n : ℕ). words_under (header_of n)) (same_header p b page (k.same page)) ∙ sym is_size)
-    zeros
+    grind (arith, gives_ok, same_used, same_left, same_header)
 
 module _ (p b d q : PassState) (t : InTurn p) (k : GivesNothingBack p b) (tb : InTurn b) (free : IsFreeForCycle p)
     (at : IsAtPhase p 4)
@@ -91,9 +84,7 @@ module _ (p b d q : PassState) (t : InTurn p) (k : GivesNothingBack p b) (tb : I
   marks_d = ap (λ (ms : List ℕ). slice_index ms page) (gives.frees.marks ∙ k.frees.marks)
 
   gone_there : gone ≡ without (quarantine / 2 ^ 32) (slice_index (now_of d).words.marks page)
-  gone_there =
-      is_gone ∙ ap (λ (n : ℕ). without n (slice_index (now_of p).words.marks page)) (sym half.snapshot)
-      ∙ ap (λ (n : ℕ). without (quarantine / 2 ^ 32) n) (sym marks_d)
+  gone_there = grind (arith, half, marks_d)
 
   freed_small : without (quarantine % 2 ^ 32) gone < 2 ^ 32
   freed_small = let le = and_le_l (quarantine % 2 ^ 32) gone in omega arith
@@ -104,17 +95,7 @@ module _ (p b d q : PassState) (t : InTurn p) (k : GivesNothingBack p b) (tb : I
   pub drops_here : drops (now_of d).words page
       (quarantine_word (without (quarantine % 2 ^ 32) gone) (quarantine / 2 ^ 32 - gone) % 2 ^ 32)
       (quarantine_word (without (quarantine % 2 ^ 32) gone) (quarantine / 2 ^ 32 - gone) / 2 ^ 32) ≡ true
-  drops_here =
-      ap (λ (n : ℕ). drops (now_of d).words page n
-      (quarantine_word (without (quarantine % 2 ^ 32) gone) (quarantine / 2 ^ 32 - gone) / 2 ^ 32))
-      (low_part (without (quarantine % 2 ^ 32) gone) (quarantine / 2 ^ 32 - gone) freed_small)
-      ∙ ap (λ (n : ℕ). drops (now_of d).words page (without (quarantine % 2 ^ 32) gone) n)
-      (high_part (without (quarantine % 2 ^ 32) gone) (quarantine / 2 ^ 32 - gone) freed_small)
-      ∙ drops_ok (now_of d).words page (quarantine % 2 ^ 32) (quarantine / 2 ^ 32) gone
-      (ap (λ (x : PageState). x.freed) state_d ∙ sym half.freed)
-      (ap (λ (x : PageState). x.snapshot) state_d ∙ sym half.snapshot)
-      gone_there
-      (ap (λ (x : PageState). bit_and x.page.used gone) state_d ∙ none_in_both used gone)
+  drops_here = grind (arith, low_part, freed_small, high_part, drops_ok, state_d, half, gone_there, none_in_both)
 
   pub gives_all : Acts d
       (Step.Quar page (quarantine_word (without (quarantine % 2 ^ 32) gone) (quarantine / 2 ^ 32 - gone))) q → InTurn q

@@ -1,6 +1,6 @@
 -- The stop and the giving back, joined.
-use Rattle.mk_laws.proofs.Vocabulary.{Config, Steady, ℕ, all_below-at, ap, arith, is_held, not, not-true, subst, sym}
-use Rattle.mk_laws.proofs.Vocabulary.{true, ◌<◌, ◌∙◌, ◌≡◌}
+use Rattle.mk_laws.proofs.Vocabulary.{Config, Steady, ℕ, all_below-at, ap, arith, is_held, not, not-true, subst, true}
+use Rattle.mk_laws.proofs.Vocabulary.{◌<◌, ◌∙◌, ◌≡◌}
 use Rattle.mk_cycle.proofs.Vocabulary.{Frees, GivesNothingBack, HasReleased, HoldsFewer, HoldsGates, IsAtPhase}
 use Rattle.mk_cycle.proofs.Vocabulary.{IsFreeForCycle, IsSettledPage, PassState, Released, WordsState, held_below}
 use Rattle.mk_cycle.proofs.Vocabulary.{now_of, released_below}
@@ -33,9 +33,7 @@ pub gives_all_back : (p h r o q : PassState) → HoldsGates p h → ReleasesUnma
     → none_is_held r.table.config.callers (now_of o).words ≡ true
     → ((page : ℕ) → page < p.table.config.pages → IsSettledPage q page) → GivesAllBack p q
 gives_all_back p h r o q holds releases opens frees none settled =
-    let same : r.table.config ≡ p.table.config =
-    ap (λ (x : PassState). x.table.config) releases.call.pass
-    ∙ ap (λ (x : PassState). x.table.config) holds.keeps.call.pass in
+    let same : r.table.config ≡ p.table.config = grind arith in
     let all : Frees r q = frees_then r o q opens.frees frees in
     record {
       held = h;
@@ -53,19 +51,8 @@ gives_all_back p h r o q holds releases opens frees none settled =
 pub all_told : (p h r o q : PassState) (n : ℕ) (counted : Released) → HoldsGates p h → GivesNothingBack r o → Frees o q
     → HasReleased h r (released_below (now_of r).words n) → counted ≡ released_below (now_of o).words n
     → HasReleased p q counted
-all_told p h r o q n counted holds opens frees told is =
-    subst (λ (x : Released). HasReleased p q x) (sym (is ∙ told_alike_below r o opens n))
-    (told_to p r q _ (ap (λ (s : Steady). s.allocations) ((frees_then r o q opens.frees frees).keeps.steady))
-    (told_from p h r _ (ap (λ (x : PassState). x.table.config) holds.keeps.call.pass)
-    (ap (λ (s : Steady). s.allocations) holds.keeps.steady) told))
+all_told p h r o q n counted holds opens frees told is = grind (arith, told_alike_below, told_to, frees_then, told_from)
 
 pub all_held : (p h r o q : PassState) (n held : ℕ) → HoldsGates p h → GivesNothingBack r o → Frees o q
     → HoldsFewer h r (held_below (now_of r).words n) → held ≡ held_below (now_of o).words n → HoldsFewer p q held
-all_held p h r o q n held holds opens frees told is =
-    let gives = frees_then r o q opens.frees frees in
-    let before = held_alike p h (ap (λ (x : PassState). x.table.config) holds.keeps.call.pass)
-    (ap (λ (s : Steady). s.allocations) holds.keeps.steady) in
-    let behind = held_alike r q (ap (λ (x : PassState). x.table.config) gives.keeps.call.pass)
-    (ap (λ (s : Steady). s.allocations) gives.keeps.steady) in
-    let same = held_alike_below r o opens n in
-    omega (arith, before, behind, told, same, is)
+all_held p h r o q n held holds opens frees told is = grind (arith, frees_then, held_alike, held_alike_below)

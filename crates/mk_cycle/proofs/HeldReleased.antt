@@ -1,19 +1,18 @@
 -- What a `release` releases is held no longer: of that, the small allocations were held.
 use Rattle.std.proofs.{Common.zero-add, Math.Bool.and-false}
-use Rattle.mk_laws.proofs.Vocabulary.{Bool, Cell, Config, Event, Header, IsHistory, List, Object, OfBlock, OfLater}
+use Rattle.mk_laws.proofs.Vocabulary.{Bool, Config, Event, Header, IsHistory, List, Object, OfBlock, OfLater}
 use Rattle.mk_laws.proofs.Vocabulary.{OfLeafBlock, OfLeafRun, OfRun, Option, PlacedAllocation, ShowsPart, Step, Storage}
-use Rattle.mk_laws.proofs.Vocabulary.{Words, World, ℕ, address_of, ap, append-nil, arith, cases_Bool}
-use Rattle.mk_laws.proofs.Vocabulary.{cell_of_allocation, cells_begin, cond, false, false_from_ne_true, get_or}
-use Rattle.mk_laws.proofs.Vocabulary.{header_at, header_in, header_shows, if◌then◌else◌, inl, inr, is_large}
-use Rattle.mk_laws.proofs.Vocabulary.{is_left_unmarked, is_mapped, is_resident_page, is_run_gone, is_small_object}
-use Rattle.mk_laws.proofs.Vocabulary.{is_some_and, is_unmapped_header, kinds_of, left, map, never_granted, not}
-use Rattle.mk_laws.proofs.Vocabulary.{object_placed, pages_some, phase_of, placed_at, pointed_cell, refl, run_begins}
-use Rattle.mk_laws.proofs.Vocabulary.{storage_of, storage_words, subst, suc, sym, true, true≢false, typed_size}
-use Rattle.mk_laws.proofs.Vocabulary.{use_under, used_at, with_released, words_under, words_within, zero, [], ◌&&◌, ◌*◌}
-use Rattle.mk_laws.proofs.Vocabulary.{◌++◌, ◌+◌, ◌/◌, ◌||◌, ◌∙◌, ◌∷◌, ◌≡◌}
+use Rattle.mk_laws.proofs.Vocabulary.{Words, ℕ, address_of, ap, append-nil, arith, cases_Bool, cell_of_allocation}
+use Rattle.mk_laws.proofs.Vocabulary.{cells_begin, cond, false, false_from_ne_true, get_or, header_at, header_in}
+use Rattle.mk_laws.proofs.Vocabulary.{header_shows, if◌then◌else◌, inl, inr, is_large, is_left_unmarked, is_mapped}
+use Rattle.mk_laws.proofs.Vocabulary.{is_resident_page, is_run_gone, is_small_object, is_some_and, is_unmapped_header}
+use Rattle.mk_laws.proofs.Vocabulary.{kinds_of, left, map, never_granted, not, object_placed, pages_some, phase_of}
+use Rattle.mk_laws.proofs.Vocabulary.{placed_at, pointed_cell, refl, run_begins, storage_of, storage_words, subst, suc}
+use Rattle.mk_laws.proofs.Vocabulary.{sym, true, true≢false, typed_size, use_under, used_at, with_released, words_under}
+use Rattle.mk_laws.proofs.Vocabulary.{words_within, zero, [], ◌&&◌, ◌*◌, ◌+◌, ◌/◌, ◌||◌, ◌∙◌, ◌∷◌, ◌≡◌}
 use Rattle.mk_cycle.proofs.Vocabulary.{Acts, HoldsFewer, InTurn, IsAtPhase, IsGone, PassState, allocations_stand}
-use Rattle.mk_cycle.proofs.Vocabulary.{cells_unmarked, held_below, held_by_allocations, held_unmarked, left_unmarked}
-use Rattle.mk_cycle.proofs.Vocabulary.{made, now_of, sum_below, sum_by, sum_by-cons, world_at, world_of}
+use Rattle.mk_cycle.proofs.Vocabulary.{cells_unmarked, held_below, held_by_allocations, left_unmarked, made, now_of}
+use Rattle.mk_cycle.proofs.Vocabulary.{sum_below, sum_by, sum_by-cons, world_of}
 use Rattle.mk_geom.specs.StorageWords.{held_by_storages}
 use Rattle.mk_core.{proofs.StandingAllocations.placed_cell, specs.Allocations.unreleased_storage}
 use Rattle.mk_laws.{proofs.ForImages.gone_is, proofs.Settled.gone_is_unmapped, proofs.Settled.unmapped_run}
@@ -32,10 +31,7 @@ words_mapped s = if s.mapped then s.words else 0
 held_first : (c : Config) (a : PlacedAllocation) (xs : List PlacedAllocation) (b : Bool) → a.released ≡ b
     → held_by_storages (if b then unreleased_storage c xs else storage_of c a ∷ unreleased_storage c xs)
     ≡ held_part c a + held_by_allocations c xs
-held_first c a xs true is =
-    let none : held_part c a ≡ 0 = ap (λ r. if not r && not (a.freed && is_large (kinds_of c.types a.ty))
-    then storage_words c a else 0) is in
-    omega arith
+held_first c a xs true is = grind (arith, held_part)
 held_first c a xs false is = sum_by-cons words_mapped (storage_of c a) (unreleased_storage c xs)
 
 held_cons : (c : Config) (a : PlacedAllocation) (xs : List PlacedAllocation)
@@ -103,11 +99,7 @@ module _ (c : Config) (es : List Event) (h : IsHistory c es) (at : phase_of (lef
   page_of_cell i = (cell_of_allocation c (placed_at xs i)).page
 
   page_is : (i : ℕ) → (placed_at xs i).released ≡ false → page_of_cell i ≡ (placed_at xs i).base / 64
-  page_is i u =
-      let a : PlacedAllocation = placed_at xs i in
-      let st = allocations_stand c es h i u in
-      ap (λ (cell : Cell). cell.page)
-      (placed_cell c a (typed_size c a h.within_limits st.stands.typed) st.stands.begins)
+  page_is i u = grind (arith, xs, allocations_stand, placed_cell, typed_size)
 
   -- The header of its page shows it.
   shows_there : (i : ℕ) → (placed_at xs i).released ≡ false
@@ -150,13 +142,11 @@ module _ (c : Config) (es : List Event) (h : IsHistory c es) (at : phase_of (lef
       let o : Object = object_placed c a in
       elim (cases_Bool (is_small_object o)) [
         | inl small ↦
-            let mapped : is_mapped c a ≡ true =
-            gone_is c a u ∙ ap (λ b. not (a.freed && not b)) small ∙ ap not (and-false a.freed) in
+            let mapped : is_mapped c a ≡ true = grind (arith, gone_is, and-false) in
             false_from_ne_true _ (λ un. true≢false (sym small ∙ unmapped_is_large o _ (shows_there i u) un))
             ∙ sym (ap not mapped)
         | inr large ↦
-            let unmapped : is_mapped c a ≡ false =
-            gone_is c a u ∙ ap (λ b. not (a.freed && not b)) large ∙ ap (λ b. not (b && true)) freed in
+            let unmapped : is_mapped c a ≡ false = grind (arith, gone_is) in
             not_resident o _ (used_at w (page_of_cell i)) (shows_there i u) large
             (not_resident_there i u large unmapped)
             ∙ sym (ap not unmapped)
@@ -187,8 +177,7 @@ module _ (c : Config) (es : List Event) (h : IsHistory c es) (at : phase_of (lef
       let weighed = cells_weigh_as_much c es h (quiet c es h at) (is_new f) (left_unmarked w) (unmarked_are c es h at)
       weight in
       let same : held_below w c.pages ≡ sum_below c.pages (λ p. cells_unmarked w p * weight p) =
-      sum_same c.pages (held_unmarked w) (λ p. cells_unmarked w p * weight p)
-      (λ p lt. weigh (is_unmapped_header (header_in w p)) (cells_unmarked w p) (words_under (header_in w p))) in
+      grind (arith, sum_same, weight, weigh) in
       omega (arith, split, weighed, same)
 
 -- Passes that know the same allocations know the same words to be held.
@@ -196,23 +185,9 @@ pub held_alike : (p q : PassState) → q.table.config ≡ p.table.config
     → (world_of q).allocations ≡ (world_of p).allocations
     → held_by_allocations q.table.config (world_of q).allocations
     ≡ held_by_allocations p.table.config (world_of p).allocations
-held_alike p q table same =
-    ap (λ (c : Config). held_by_allocations c (world_of q).allocations) table
-    ∙ ap (λ (xs : List PlacedAllocation). held_by_allocations p.table.config xs) same
+held_alike p q table same = grind arith
 
 -- A pass that made the `release` knows it so.
 module _ (d q : PassState) (t : InTurn d) (u : InTurn q) (at : IsAtPhase d 3) (a : Acts d Step.Release q) where
   pub release_holds : IsGone d → HoldsFewer d q (held_below (now_of q).words d.table.config.pages)
-  release_holds gone =
-      let c : Config = d.table.config in
-      let es : List Event = d.seen ++ a.makes.others in
-      let told = held_told c es (made d Step.Release q a.makes).history (phase_there d q t u at a)
-      (gone_there d q t u at a gone) in
-      ap (λ (ys : List PlacedAllocation). held_by_allocations c ys) (sym (same_before d q t u at a))
-      ∙ told
-      ∙ ap (λ n. held_by_allocations c (map (with_released c (world_at a.makes).now.words)
-      (world_at a.makes).allocations) + n)
-      (sym (ap (λ (x : World). held_below x.now.words c.pages) a.world))
-      ∙ ap (λ n. n + held_below (now_of q).words c.pages)
-      (sym (ap (λ (x : World). held_by_allocations c x.allocations) a.world)
-      ∙ sym (ap (λ (x : PassState). held_by_allocations x.table.config (world_of q).allocations) a.makes.is))
+  release_holds gone = grind (arith, held_told, made, phase_there, gone_there, same_before)

@@ -1,9 +1,8 @@
 -- Gates are held one after the other.
-use Rattle.mk_laws.proofs.Vocabulary.{Bool, List, Seat, Step, Word, World, ℕ, and_from, ap, arith, cases_Bool, cases_eq}
-use Rattle.mk_laws.proofs.Vocabulary.{cases_lt, eq-eqb, eqb-true, false, get_or-set_other, get_or-set_same}
-use Rattle.mk_laws.proofs.Vocabulary.{if◌then◌else◌, inl, inr, is_held, is_number_of, length, lt-ltb, nat_lt, ne_eqb}
-use Rattle.mk_laws.proofs.Vocabulary.{not, others_are_held, refl, set_past, slice_index, slice_set, sym, true, ◌<◌}
-use Rattle.mk_laws.proofs.Vocabulary.{◌==◌, ◌||◌, ◌∙◌, ◌≡◌}
+use Rattle.mk_laws.proofs.Vocabulary.{Bool, List, Step, Word, World, ℕ, and_from, ap, arith, cases_eq, cases_lt, eq-eqb}
+use Rattle.mk_laws.proofs.Vocabulary.{eqb-true, false, get_or-set_other, get_or-set_same, if◌then◌else◌, inl, inr}
+use Rattle.mk_laws.proofs.Vocabulary.{is_held, is_number_of, length, lt-ltb, nat_lt, ne_eqb, not, others_are_held, refl}
+use Rattle.mk_laws.proofs.Vocabulary.{set_past, slice_index, slice_set, sym, true, ◌<◌, ◌==◌, ◌||◌, ◌∙◌, ◌≡◌}
 use Rattle.mk_cycle.proofs.Vocabulary.{Acts, HoldsGates, InTurn, IsEnabledTo, IsFreeForCycle, PassState, WordsState}
 use Rattle.mk_cycle.proofs.Vocabulary.{does_nothing, does_step, does_then, holds_gates, now_of, world_at}
 use Rattle.mk_cycle.proofs.KeptInParts.{free_then, keeps_at_once, keeps_then}
@@ -80,13 +79,4 @@ pub all_held_below : (p : PassState) (callers : ℕ) → ((j : ℕ) → j < call
 all_held_below p callers h = all_from callers (λ j. is_number_of p.seat j || is_held (now_of p).words j) h
 
 pub still_held_or_own : (p q : PassState) (j : ℕ) → HoldsGates p q → IsHeldOrOwn p j → IsHeldOrOwn q j
-still_held_or_own p q j k h = elim (cases_Bool (is_number_of p.seat j)) [
-  | inl own ↦ ap (λ (b : Bool). b || is_held (now_of q).words j) (ap (λ (s : Seat). is_number_of s j) (held_seat p q k)
-      ∙ own)
-  | inr other ↦ or_right (is_number_of q.seat j) (is_held (now_of q).words j)
-      (k.held j (sym (ap (λ (b : Bool). b || is_held (now_of p).words j) other) ∙ h))
-]
-  where
-    or_right : (a b : Bool) → b ≡ true → (a || b) ≡ true
-    or_right true b e = refl
-    or_right false b e = e
+still_held_or_own p q j k h = grind (arith, held_seat)

@@ -4,11 +4,10 @@ use Rattle.std.proofs.Common.{le-ltb, ltb-false}
 use Rattle.mk_laws.proofs.Vocabulary.{Block, Free, Header, Later, LeafBlock, LeafRun, None, Option, Run, Some, Words, ℕ}
 use Rattle.mk_laws.proofs.Vocabulary.{and_from, ap, arith, cases_lt, eq-eqb, false, head_page, header_at, header_in}
 use Rattle.mk_laws.proofs.Vocabulary.{header_of, inl, inr, lt-ltb, nat_lt, not, or_parts, refl, run_count, slice_index}
-use Rattle.mk_laws.proofs.Vocabulary.{sym, use_under, used_at, ◌+◌, ◌<◌, ◌||◌, ◌∙◌, ◌≡◌, ◌≤◌}
-use Rattle.mk_cycle.proofs.Vocabulary.{Frees, FreesPage, HasFreeCells, InTurn, IsOccupied, IsSettledPage, PageState}
-use Rattle.mk_cycle.proofs.Vocabulary.{PassState, Released, SamePage, below_more, cells_unmarked, held_below}
-use Rattle.mk_cycle.proofs.Vocabulary.{held_unmarked, left_unmarked, now_of, released_below, released_on}
-use Rattle.mk_cycle.proofs.Vocabulary.{words_unmarked}
+use Rattle.mk_laws.proofs.Vocabulary.{sym, use_under, used_at, ◌+◌, ◌<◌, ◌∙◌, ◌≡◌, ◌≤◌}
+use Rattle.mk_cycle.proofs.Vocabulary.{Frees, FreesPage, HasFreeCells, InTurn, IsOccupied, IsSettledPage, PassState}
+use Rattle.mk_cycle.proofs.Vocabulary.{Released, SamePage, below_more, cells_unmarked, held_below, held_unmarked}
+use Rattle.mk_cycle.proofs.Vocabulary.{now_of, released_below, released_on, words_unmarked}
 use Rattle.mk_geom.{proofs.HeaderLemmas.word_of-header_of, specs.PageUses.is_free_page}
 use Rattle.mk_page_map.specs.Members.{IsNext, has_freed_cells, is_in_use}
 use Rattle.mk_cycle.proofs.CountedPages.{counted_more, held_more, held_same, none_held, nothing_on, same_released}
@@ -113,13 +112,11 @@ module _ (q : PassState) (t : InTurn q) (n : ℕ) (bare : has_freed_cells (now_o
   snapshot_none = no_snapshot q t n (no_cells (slice_index (now_of q).words.freed n) bare)
 
   bare_is_settled : IsOccupied q n → IsSettledPage q n
-  bare_is_settled occupied =
-      and_from _ _ (eq-eqb (left_unmarked (now_of q).words n) 0 (none_left q n snapshot_none)) occupied
+  bare_is_settled occupied = grind (arith, and_from, eq-eqb, none_left, snapshot_none)
 
   nothing_released : (p : PassState) → SamePage p q n
       → ◌≡◌ {A = Released} (record { count = 0; words = 0; kept = 0 }) (released_on (now_of p).words n)
-  nothing_released p same =
-      nothing_on (now_of p).words n (sym (ap (λ (x : PageState). x.snapshot) same) ∙ snapshot_none)
+  nothing_released p same = grind (arith, nothing_on, snapshot_none)
 
 -- Pages that aren't unsettled are passed over.
 module _ (p q : PassState) (t : InTurn q) (n m end pages : ℕ) (le : n ≤ m) (few : m ≤ pages)
@@ -170,29 +167,8 @@ module _ (p q : PassState) (t : InTurn q) (n m end pages : ℕ) (le : n ≤ m) (
 
 pub next_in_run : (w : Words) (from end count : ℕ) → from < end → from < count
     → IsNext (may_be_unsettled w end) from count (Some from)
-next_in_run w from end count here within = (
-  omega arith,
-  within,
-  ap (λ b. b || has_freed_cells w.freed from) (lt-ltb from end here),
-  λ r after lt. absurd (omega (arith, after, lt)),
-)
+next_in_run w from end count here within = grind (arith, lt-ltb)
 
 pub next_past : (w : Words) (from end count : ℕ) (next : Option ℕ) → (from < end → count ≤ from)
     → IsNext (has_freed_cells w.freed) from count next → IsNext (may_be_unsettled w end) from count next
-next_past w from end count next past is = by next is
-  where
-    same : (r : ℕ) → from ≤ r → r < count → may_be_unsettled w end r ≡ has_freed_cells w.freed r
-    same r after lt = elim (cases_lt from end) [
-      | inl here ↦ let gone = past here in absurd (omega (arith, gone, after, lt))
-      | inr there ↦ ap (λ b. b || has_freed_cells w.freed r) (le-ltb r end (omega (arith, there, after)))
-    ]
-
-    by : (next : Option ℕ) → IsNext (has_freed_cells w.freed) from count next
-        → IsNext (may_be_unsettled w end) from count next
-    by (Some r) (after, lt, passes, between) = (
-      after,
-      lt,
-      same r after lt ∙ passes,
-      λ s far near. same s far (omega (arith, near, lt)) ∙ between s far near,
-    )
-    by None none = λ r after lt. same r after lt ∙ none r after lt
+next_past w from end count next past is = grind (arith, cases_lt, le-ltb)

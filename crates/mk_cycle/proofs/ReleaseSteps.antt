@@ -1,9 +1,9 @@
 -- The `close` and the `release` of a cycle.
-use Rattle.mk_laws.proofs.Vocabulary.{Config, Steady, Step, Words, World, ℕ, ap, arith, eq-eqb, fresh_words_of, is_in}
-use Rattle.mk_laws.proofs.Vocabulary.{map, others_are_held, phase_of, refl, subst, true, with_released, [], ◌%◌, ◌+◌}
-use Rattle.mk_laws.proofs.Vocabulary.{◌/◌, ◌<◌, ◌^◌, ◌∙◌, ◌≡◌, ◌≤◌}
+use Rattle.mk_laws.proofs.Vocabulary.{Config, Steady, Step, Words, World, ℕ, ap, arith, eq-eqb, fresh_words_of, map}
+use Rattle.mk_laws.proofs.Vocabulary.{others_are_held, phase_of, refl, subst, true, with_released, [], ◌%◌, ◌+◌, ◌/◌}
+use Rattle.mk_laws.proofs.Vocabulary.{◌<◌, ◌^◌, ◌∙◌, ◌≡◌, ◌≤◌}
 use Rattle.mk_cycle.proofs.Vocabulary.{Acts, InTurn, IsAtPhase, IsEnabledTo, IsFreeForCycle, LeavesTurn, PassState}
-use Rattle.mk_cycle.proofs.Vocabulary.{count_by, count_by-le-length, made, now_of, steady_of, world_at, world_of}
+use Rattle.mk_cycle.proofs.Vocabulary.{count_by-le-length, made, now_of, steady_of, world_at, world_of}
 use Rattle.mk_cycle.proofs.BeginSteps.{counts_then}
 use Rattle.mk_cycle.proofs.KeptInParts.{calls_then, free_then, same_config}
 use Rattle.mk_cycle.proofs.{Allowed.protocol, CleaningSteps.calm_keeps, MayAct.may_act, ReleasedCounts.fresh_words_stay}
@@ -19,14 +19,7 @@ phase_more n markers phase now small high few = omega arith
 pub phase_at : (p : PassState) (s : Step) (q : PassState) (a : Acts p s q) → InTurn p → InTurn q → (phase : ℕ)
     → IsAtPhase p phase → phase < 7
     → ((world_at a.makes).now.words.phase + 1) % 2 ^ 64 % 8 ≡ phase + 1
-phase_at p s q a t u phase at small =
-    let w : World = world_at a.makes in
-    let there = (made p s q a.makes).protocol in
-    let low : w.now.words.phase % 8 ≡ phase = ap (λ (y : Steady). y.phase) a.turn.steady ∙ at in
-    let few : count_by is_in w.now.seats.markers ≤ 8 =
-    subst (λ (n : ℕ). count_by is_in w.now.seats.markers ≤ n) there.markers
-    (count_by-le-length is_in w.now.seats.markers) in
-    phase_more w.now.words.phase (count_by is_in w.now.seats.markers) phase low small there.high few
+phase_at p s q a t u phase at small = grind (arith, made, protocol, count_by-le-length, phase_more)
 
 pub release_allowed : (p : PassState) → InTurn p → IsFreeForCycle p → IsAtPhase p 3
     → others_are_held p.table.config.callers (now_of p).words p.seat ≡ true → IsEnabledTo p Step.Release

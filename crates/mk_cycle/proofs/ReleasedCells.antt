@@ -1,23 +1,22 @@
 -- After a `release` the released cells have no word of a mapped allocation.
 use Rattle.std.proofs.Math.Bool.{and-false}
-use Rattle.mk_laws.proofs.Vocabulary.{Bool, Cell, Chosen, Config, Event, Granted, Header, Holding, InPlot, IsFreedCell}
-use Rattle.mk_laws.proofs.Vocabulary.{IsHistory, IsWordOf, IsWordOfMapped, List, Object, OfBlock, OfLater, OfLeafBlock}
-use Rattle.mk_laws.proofs.Vocabulary.{OfLeafRun, OfRun, Option, PlacedAllocation, Placing, ShowsPart, Steady, Step}
-use Rattle.mk_laws.proofs.Vocabulary.{Unplaced, Used, World, ℕ, and_parts, ap, arith, cases_eq, cell_words, cells_begin}
-use Rattle.mk_laws.proofs.Vocabulary.{changed_at, eq-eqb, false, first_word, has_bit, has_bit_without, has_place}
-use Rattle.mk_laws.proofs.Vocabulary.{head_page, header_at, header_in, header_of, header_shows, inl, inr, is_large}
-use Rattle.mk_laws.proofs.Vocabulary.{is_left_unmarked, is_mapped, is_phase, is_released_in, is_run_gone}
-use Rattle.mk_laws.proofs.Vocabulary.{is_small_object, is_unmapped_header, kinds_of, large_is_not_small, map, ne_eqb}
-use Rattle.mk_laws.proofs.Vocabulary.{not, object_placed, or_right, pages_made, pages_some, phase_of, placed_at}
-use Rattle.mk_laws.proofs.Vocabulary.{plot_of, refl, released_where_left, slice_index, storage_of, storage_words, subst}
+use Rattle.mk_laws.proofs.Vocabulary.{Bool, Chosen, Config, Event, Granted, Header, InPlot, IsFreedCell, IsHistory}
+use Rattle.mk_laws.proofs.Vocabulary.{IsWordOf, IsWordOfMapped, List, Object, OfBlock, OfLater, OfLeafBlock, OfLeafRun}
+use Rattle.mk_laws.proofs.Vocabulary.{OfRun, Option, PlacedAllocation, Placing, ShowsPart, Steady, Step, Unplaced, Used}
+use Rattle.mk_laws.proofs.Vocabulary.{World, ℕ, and_parts, ap, arith, cases_eq, cells_begin, changed_at, eq-eqb, false}
+use Rattle.mk_laws.proofs.Vocabulary.{has_bit, has_bit_without, has_place, head_page, header_at, header_in, header_of}
+use Rattle.mk_laws.proofs.Vocabulary.{header_shows, inl, inr, is_large, is_mapped, is_phase, is_released_in}
+use Rattle.mk_laws.proofs.Vocabulary.{is_run_gone, is_small_object, is_unmapped_header, kinds_of, large_is_not_small}
+use Rattle.mk_laws.proofs.Vocabulary.{map, ne_eqb, not, object_placed, or_right, pages_made, pages_some, phase_of}
+use Rattle.mk_laws.proofs.Vocabulary.{placed_at, plot_of, refl, released_where_left, slice_index, storage_of, subst}
 use Rattle.mk_laws.proofs.Vocabulary.{sym, true, true≢false, typed_size, used_at, with_released, words_under, ◌&&◌, ◌*◌}
 use Rattle.mk_laws.proofs.Vocabulary.{◌++◌, ◌+◌, ◌/◌, ◌<◌, ◌==◌, ◌||◌, ◌∙◌, ◌≡◌, ◌⊎◌}
 use Rattle.mk_cycle.proofs.Vocabulary.{Acts, HasFreeCells, InTurn, IsAtPhase, IsGone, IsOccupied, IsUnmappedWord}
 use Rattle.mk_cycle.proofs.Vocabulary.{IsZero, PassState, allocations_stand, holder_finds, left_unmarked, made, now_of}
-use Rattle.mk_cycle.proofs.Vocabulary.{stands, world_at, world_of}
+use Rattle.mk_cycle.proofs.Vocabulary.{stands, world_at}
 use Rattle.mk_core.proofs.StandingAllocations.{placed_cell}
 use Rattle.mk_laws.{proofs.FreeWords.unmapped_words_are_zero, proofs.InvariantTheorems.allocations_are_disjoint}
-use Rattle.mk_laws.{proofs.MappedWords.mapped_stays, proofs.RunsStill.HolderFinds, specs.FreeWords.IsOfNoneMapped}
+use Rattle.mk_laws.{proofs.MappedWords.mapped_stays, specs.FreeWords.IsOfNoneMapped}
 use Rattle.mk_cycle.specs.Freeing.{is_occupied_page}
 
 pub plus_zero : (n : ℕ) → n + 0 ≡ n
@@ -61,9 +60,7 @@ module _ (d q : PassState) (t : InTurn d) (u : InTurn q) (at : IsAtPhase d 3) (a
           ⊎ (is_released_in (is_phase w.now.words 4) w.now.words.snapshot w.now.words.marks page k ≡ true)
           → IsFreedCell c w.allocations page k
       by (inl f) = f
-      by (inr r) = absurd (true≢false (sym r
-          ∙ ap (λ (b : Bool). b && has_bit (slice_index w.now.words.snapshot page) k
-          && not (has_bit (slice_index w.now.words.marks page) k)) not_releasing))
+      by (inr r) = grind (arith, not_releasing)
 
   -- no allocation that is still mapped has one of its words
   none_mapped : (page k n : ℕ) (f : IsFreedCell c w.allocations page k)
@@ -76,21 +73,14 @@ module _ (d q : PassState) (t : InTurn d) (u : InTurn q) (at : IsAtPhase d 3) (a
       let y : PlacedAllocation = placed_at w.allocations f.number in
       let same : placed_at (map (with_released c w.now.words) w.allocations) m.number ≡ with_released c w.now.words x =
       changed_at (with_released c w.now.words) w.allocations m.number refl in
-      let mapped : is_mapped c (with_released c w.now.words x) ≡ true =
-      subst (λ (z : PlacedAllocation). is_mapped c z ≡ true) same m.mapped in
-      let kept : (with_released c w.now.words x).released ≡ false =
-      not_so (with_released c w.now.words x).released
-      (and_parts (not (with_released c w.now.words x).released) (not (x.freed && is_large (kinds_of c.types x.ty)))
-      mapped).0 in
+      let mapped : is_mapped c (with_released c w.now.words x) ≡ true = grind arith in
+      let kept : (with_released c w.now.words x).released ≡ false = grind (arith, and_parts) in
       let unreleased : x.released ≡ false = first_of_or x.released _ kept in
-      let there : IsWordOf (storage_of c x) n =
-      subst (λ (z : PlacedAllocation). IsWordOf (storage_of c z) n) same m.word in
+      let there : IsWordOf (storage_of c x) n = grind arith in
       let number : m.number ≡ f.number =
       allocations_are_disjoint c es history m.number f.number n unreleased f.unreleased there word in
       let st = allocations_stand c es history f.number f.unreleased in
-      let gone : (with_released c w.now.words y).released ≡ true =
-      released_where_left c w.now.words y history.within_limits st.stands st.headers
-      ∙ ap (λ (cell : Cell). is_left_unmarked w.now.words cell) f.cell ∙ has in
+      let gone : (with_released c w.now.words y).released ≡ true = grind (arith, released_where_left) in
       true≢false (sym gone
       ∙ ap (λ (i : ℕ). (with_released c w.now.words (placed_at w.allocations i)).released) (sym number) ∙ kept)
     where
@@ -112,23 +102,16 @@ module _ (d q : PassState) (t : InTurn d) (u : InTurn q) (at : IsAtPhase d 3) (a
       let o : Object = object_placed c y in
       let st = allocations_stand c es history f.number f.unreleased in
       let sized = typed_size c y history.within_limits st.stands.typed in
-      let here : y.base / 64 + 0 ≡ page =
-      plus_zero _ ∙ ap (λ (cell : Cell). cell.page) (sym (placed_cell c y sized st.stands.begins) ∙ f.cell) in
+      let here : y.base / 64 + 0 ≡ page = grind (arith, plus_zero, placed_cell) in
       let some : 0 < pages_made o = pages_some o sized in
-      let shows : ShowsPart o 0 (header_in w.now.words page) =
-      subst (λ (n : ℕ). ShowsPart o 0 (header_in w.now.words n)) here
-      (header_shows o 0 (header_at w.now.words (y.base / 64 + 0)) sized some (st.headers 0 some)) in
+      let shows : ShowsPart o 0 (header_in w.now.words page) = grind (arith, header_shows) in
       ap (λ (b : Bool). not y.released && not (b && is_large (kinds_of c.types y.ty))) f.freed
       ∙ ap (λ (b : Bool). not y.released && not b) (large_is_not_small (kinds_of c.types y.ty)
       ∙ ap not (unmapped_is_large o _ shows gone))
       ∙ and-false (not y.released)
 
   pub gone_there : IsGone d → is_run_gone w.now.words w.now.seats.holding.freed ≡ true
-  gone_there gone =
-      let m = made d Step.Release q a.makes in
-      let finds : HolderFinds c d.seat (world_of d) w =
-      holder_finds c d.seat d.seen a.makes.others m.history m.others t.holds in
-      ap (λ (h : Holding). is_run_gone w.now.words h.freed) finds.holding ∙ finds.gone gone
+  gone_there gone = grind (arith, made, holder_finds)
 
   -- so its words are 0 by then.
   unmapped_is_zero : IsGone d → (page k n : ℕ) (f : IsFreedCell c w.allocations page k)
@@ -154,17 +137,7 @@ module _ (d q : PassState) (t : InTurn d) (u : InTurn q) (at : IsAtPhase d 3) (a
       → (64 * page + k * words_under (header_in w.now.words page) + i < 64 * c.pages)
       × IsWordOf (storage_of c (placed_at w.allocations f.number))
       (64 * page + k * words_under (header_in w.now.words page) + i)
-  owned_word page k i has small f =
-      let history = (made d Step.Release q a.makes).history in
-      let y : PlacedAllocation = placed_at w.allocations f.number in
-      let st = allocations_stand c es history f.number f.unreleased in
-      let begins = cells_begin c w.now.words y history.within_limits st.stands st.headers in
-      let base : 64 * page + k * words_under (header_in w.now.words page) ≡ y.base =
-      ap (λ (cell : Cell). first_word w.now.words cell) (sym f.cell) ∙ begins.0 in
-      let words : words_under (header_in w.now.words page) ≡ storage_words c y =
-      ap (λ (cell : Cell). cell_words w.now.words cell) (sym f.cell) ∙ begins.1 in
-      let ends = st.stands.within in
-      (omega arith, (omega arith, omega arith))
+  owned_word page k i has small f = grind (arith, made, allocations_stand, es, cells_begin)
 
   unmapped_there : (page k i : ℕ) → has_bit (left_unmarked w.now.words page) k ≡ true
       → i < words_under (header_in w.now.words page)
@@ -216,10 +189,7 @@ module _ (d q : PassState) (t : InTurn d) (u : InTurn q) (at : IsAtPhase d 3) (a
       history = (made d Step.Release q a.makes).history
 
       unplaced : has_place w.now.seats.holding.placing ≡ false
-      unplaced =
-          ap (λ (h : Holding). has_place h.placing)
-          (holder_finds c d.seat d.seen a.makes.others history (made d Step.Release q a.makes).others t.holds).holding
-          ∙ none
+      unplaced = grind (arith, holder_finds, history, made)
 
       no_plot : (o : Object) (placing : Placing) → has_place placing ≡ false → InPlot (plot_of o placing) page → ⊥
       no_plot o Unplaced h within = within

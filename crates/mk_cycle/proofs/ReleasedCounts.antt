@@ -49,14 +49,10 @@ module _ (c : Config) (es : List Event) (h : IsHistory c es) (at : phase_of (lef
       → (f (placed_at xs i)).released
       ≡ has_bit (left_unmarked w (cell_of_allocation c (placed_at xs i)).page)
       (cell_of_allocation c (placed_at xs i)).index
-  left_where i u =
-      let st = allocations_stand c es h i u in
-      released_where_left c w (placed_at xs i) h.within_limits st.stands st.headers
+  left_where i u = grind (arith, allocations_stand, released_where_left, xs)
 
   left_parts : (p k : ℕ) → has_bit (left_unmarked w p) k ≡ true → has_bit (slice_index w.snapshot p) k ≡ true
-  left_parts p k has =
-      (and_parts (has_bit (slice_index w.snapshot p) k) (not (has_bit (slice_index w.marks p) k))
-      (sym (has_bit_without (slice_index w.snapshot p) (slice_index w.marks p) k) ∙ has)).0
+  left_parts p k has = grind (arith, and_parts, has_bit_without)
 
   within_freed : (p k : ℕ) → has_bit (slice_index w.snapshot p) k ≡ true → has_bit (slice_index w.freed p) k ≡ true
   within_freed = (stands c es h).all.order.quarantined.within
@@ -95,11 +91,7 @@ module _ (c : Config) (es : List Event) (h : IsHistory c es) (at : phase_of (lef
   -- what is in the snapshot and marked, by what is released
   rest_is : (a : PlacedAllocation) (b m : Bool) → a.released ≡ false → a.freed ≡ true
       → b ≡ (a.freed && not a.fresh) → (f a).released ≡ (b && not m) → is_kept a ≡ (b && m)
-  rest_is a b m u freed snapshot gone =
-      ap (λ x. (a.freed && not x) && not a.fresh && not (f a).released) u
-      ∙ ap (λ x. (x && true) && not a.fresh && not (f a).released) freed
-      ∙ ap (λ x. x && not (f a).released) (sym (snapshot ∙ ap (λ x. x && not a.fresh) freed))
-      ∙ ap (λ x. b && not x) gone ∙ marked_rest b m
+  rest_is a b m u freed snapshot gone = grind (arith, marked_rest)
 
   marked_are : AreTheirBits c es is_kept (left_marked w)
   marked_are =
@@ -144,22 +136,7 @@ module _ (c : Config) (es : List Event) (h : IsHistory c es) (at : phase_of (lef
 
   parts : (a : PlacedAllocation) → (is_new f a ≡ true → is_in_snapshot_of_cycle a ≡ true)
       → cond {A = ℕ} (is_in_snapshot_of_cycle a) 1 0 ≡ cond (is_kept a) 1 0 + cond (is_new f a) 1 0
-  parts a new = by a.freed a.released a.fresh (f a).released new
-    where
-      by : (freed released fresh gone : Bool)
-          → ((not released && gone) ≡ true → ((freed && not released) && not fresh) ≡ true)
-          → cond {A = ℕ} ((freed && not released) && not fresh) 1 0
-          ≡ cond (((freed && not released) && not fresh) && not gone) 1 0 + cond (not released && gone) 1 0
-      by true false false true n = refl
-      by true false false false n = refl
-      by true false true true n = absurd (true≢false (sym (n refl)))
-      by true false true false n = refl
-      by true true fresh true n = refl
-      by true true fresh false n = refl
-      by false false fresh true n = absurd (true≢false (sym (n refl)))
-      by false false fresh false n = refl
-      by false true fresh true n = refl
-      by false true fresh false n = refl
+  parts a new = grind arith
 
   pub count_told : sum_below c.pages (cells_unmarked w) ≡ length (newly_released xs (map f xs))
   count_told = cells_are_as_many c es h quiet (is_new f) (left_unmarked w) unmarked_are ∙ sym (newly_counted f xs)
@@ -237,9 +214,7 @@ module _ (d q : PassState) (t : InTurn d) (u : InTurn q) (at : IsAtPhase d 3) (a
   newly : newly_released (world_of d).allocations (world_of q).allocations
       ≡ newly_released (world_at a.makes).allocations
       (map (with_released d.table.config (world_at a.makes).now.words) (world_at a.makes).allocations)
-  newly =
-      ap (λ (xs : List PlacedAllocation). newly_released xs (world_of q).allocations) (sym same_before)
-      ∙ ap (λ (xs : List PlacedAllocation). newly_released (world_at a.makes).allocations xs) behind
+  newly = grind (arith, xs, same_before, behind)
 
   pub release_tells : HasReleased d q (released_below (now_of q).words d.table.config.pages)
   release_tells =
@@ -259,35 +234,13 @@ module _ (d q : PassState) (t : InTurn d) (u : InTurn q) (at : IsAtPhase d 3) (a
 
   pub fresh_words_stay : fresh_words_of d.table.config (world_of q).allocations
       ≡ fresh_words_of d.table.config (world_of d).allocations
-  fresh_words_stay =
-      let c : Config = d.table.config in
-      ap (λ (xs : List PlacedAllocation). fresh_words_of c xs) behind
-      ∙ fresh_stays c (d.seen ++ a.makes.others) there phase_there
-      ∙ ap (λ (xs : List PlacedAllocation). fresh_words_of c xs) same_before
+  fresh_words_stay = grind (arith, xs, behind, fresh_stays, there, phase_there, same_before)
 
 -- What is said of one pass is said of another that knows the same allocations before, and of one that does after.
 pub told_from : (p d q : PassState) (r : Released) → d.table.config ≡ p.table.config
     → (world_of d).allocations ≡ (world_of p).allocations → HasReleased d q r → HasReleased p q r
-told_from p d q r table same told =
-    record {
-      count = told.count ∙ ap (λ (xs : List PlacedAllocation). length (newly_released xs (world_of q).allocations))
-          same;
-      words = told.words
-          ∙ ap (λ (c : Config). sum_by (storage_words c)
-          (newly_released (world_of d).allocations (world_of q).allocations)) table
-          ∙ ap (λ (xs : List PlacedAllocation). sum_by (storage_words p.table.config)
-          (newly_released xs (world_of q).allocations)) same;
-      kept = ap (λ (xs : List PlacedAllocation). count_by is_in_snapshot_of_cycle xs) (sym same) ∙ told.kept;
-    }
+told_from p d q r table same told = grind arith
 
 pub told_to : (p d q : PassState) (r : Released) → (world_of q).allocations ≡ (world_of d).allocations
     → HasReleased p d r → HasReleased p q r
-told_to p d q r same told =
-    record {
-      count = told.count ∙ ap (λ (xs : List PlacedAllocation). length (newly_released (world_of p).allocations xs))
-          (sym same);
-      words = told.words
-          ∙ ap (λ (xs : List PlacedAllocation). sum_by (storage_words p.table.config)
-          (newly_released (world_of p).allocations xs)) (sym same);
-      kept = told.kept;
-    }
+told_to p d q r same told = grind arith

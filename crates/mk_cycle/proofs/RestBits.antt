@@ -23,8 +23,7 @@ left_among n k j has = both_left (has_bit n j) (has_bit (2 ^ k) j) (sym (has_bit
 
 -- what was there and is not left was taken
 pub taken_or_gone : (n k j : ℕ) → has_bit (without n (2 ^ k)) j ≡ false → has_bit n j ≡ true → j ≡ k
-taken_or_gone n k j gone has =
-    bit_of_power k j (and_gone (has_bit n j) (has_bit (2 ^ k) j) (sym (has_bit_without n (2 ^ k) j) ∙ gone) has)
+taken_or_gone n k j gone has = grind (arith, bit_of_power, and_gone, has_bit_without)
 
 power_has : (k : ℕ) → k < 64 → has_bit (2 ^ k) k ≡ true
 power_has k lt = subst (λ (n : ℕ). has_bit n k ≡ true) (bit_for_small k lt) (bit_for_has k lt)

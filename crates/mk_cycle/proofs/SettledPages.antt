@@ -1,16 +1,15 @@
 -- Pages are settled one after the other.
-use Rattle.mk_laws.proofs.Vocabulary.{Bool, Cell, Header, IsFreedCell, List, Option, Some, Words, ℕ, and_from}
-use Rattle.mk_laws.proofs.Vocabulary.{and_parts, ap, arith, cases_eq, empties, eq-eqb, eqb-false, eqb-true, false}
-use Rattle.mk_laws.proofs.Vocabulary.{false_from_ne_true, has_bit, has_bit_without, head_page, head_page_under}
-use Rattle.mk_laws.proofs.Vocabulary.{header_at, header_in, header_of, inl, inr, is_phase, is_released_in}
-use Rattle.mk_laws.proofs.Vocabulary.{is_unmapped_header, ne_eqb, no_bit, not, not-true, or_cases, quarantine_word}
-use Rattle.mk_laws.proofs.Vocabulary.{refl, run_count, slice_index, subst, sym, true, true≢false, used_at, without}
-use Rattle.mk_laws.proofs.Vocabulary.{words_under, ◌&&◌, ◌*◌, ◌+◌, ◌-◌, ◌/◌, ◌<◌, ◌==◌, ◌^◌, ◌||◌, ◌∙◌, ◌≡◌, ◌≢◌, ◌≤◌}
-use Rattle.mk_laws.proofs.Vocabulary.{◌⊎◌}
+use Rattle.mk_laws.proofs.Vocabulary.{Bool, Header, IsFreedCell, Option, Some, Words, ℕ, and_from, and_parts, ap, arith}
+use Rattle.mk_laws.proofs.Vocabulary.{cases_eq, empties, eq-eqb, eqb-false, eqb-true, false, false_from_ne_true}
+use Rattle.mk_laws.proofs.Vocabulary.{has_bit, has_bit_without, head_page, head_page_under, header_at, header_in}
+use Rattle.mk_laws.proofs.Vocabulary.{header_of, inl, inr, is_phase, is_released_in, is_unmapped_header, ne_eqb, no_bit}
+use Rattle.mk_laws.proofs.Vocabulary.{not, not-true, or_cases, quarantine_word, refl, run_count, slice_index, subst}
+use Rattle.mk_laws.proofs.Vocabulary.{sym, true, true≢false, used_at, without, words_under, ◌&&◌, ◌*◌, ◌+◌, ◌-◌, ◌/◌}
+use Rattle.mk_laws.proofs.Vocabulary.{◌<◌, ◌==◌, ◌^◌, ◌||◌, ◌∙◌, ◌≡◌, ◌≢◌, ◌≤◌, ◌⊎◌}
 use Rattle.mk_cycle.proofs.Vocabulary.{Frees, FreesPage, GivesNothingBack, HasFreeCells, InTurn, IsAtPhase, IsOccupied}
-use Rattle.mk_cycle.proofs.Vocabulary.{IsSettledPage, IsUnmappedWord, IsZero, PageState, PassState, SamePage}
-use Rattle.mk_cycle.proofs.Vocabulary.{allocations_stand, left_unmarked, now_of, page_state, stands, world_of}
-use Rattle.mk_core.{proofs.WordBits.zero_from_bits, specs.Cells.is_used}
+use Rattle.mk_cycle.proofs.Vocabulary.{IsSettledPage, IsUnmappedWord, IsZero, PassState, SamePage, allocations_stand}
+use Rattle.mk_cycle.proofs.Vocabulary.{left_unmarked, now_of, page_state, stands, world_of}
+use Rattle.mk_core.proofs.WordBits.{zero_from_bits}
 use Rattle.mk_laws.proofs.FreePages.{free_pages_have_nothing}
 use Rattle.mk_cycle.proofs.PageSteps.{page_at_once, page_then, same_header, same_left, same_used}
 use Rattle.mk_cycle.proofs.{CleaningSteps.halves, GivingSteps.still_unmapped_word}
@@ -58,10 +57,7 @@ unused_freed p t at h unused none k =
   where
     by : IsFreedCell p.table.config (world_of p).allocations h k
         ⊎ (is_released_in (is_phase (now_of p).words 4) (now_of p).words.snapshot (now_of p).words.marks h k ≡ true) → ⊥
-    by (inl f) =
-        let st = allocations_stand p.table.config p.seen t.history f.number f.unreleased in
-        true≢false (sym (subst (λ (cell : Cell). is_used (now_of p).words cell ≡ true) f.cell st.used)
-        ∙ no_bit (used_at (now_of p).words h) k unused)
+    by (inl f) = grind (arith, allocations_stand, no_bit)
     by (inr r) =
         let parts = and_parts (is_phase (now_of p).words 4 && has_bit (slice_index (now_of p).words.snapshot h) k)
         (not (has_bit (slice_index (now_of p).words.marks h) k)) r in
@@ -96,17 +92,11 @@ no_snapshot p t page none =
     true≢false (sym (order.quarantined.within page k has) ∙ no_bit (slice_index w.freed page) k none)))
 
 pub no_cells : (f : ℕ) → not (f == 0) ≡ false → f ≡ 0
-no_cells f h = elim (cases_eq f 0) [
-  | inl is ↦ is
-  | inr some ↦ absurd (true≢false (sym (ap not (ne_eqb f 0 some)) ∙ h))
-]
+no_cells f h = grind (arith, ne_eqb)
 
 pub none_left : (p : PassState) (page : ℕ) → slice_index (now_of p).words.snapshot page ≡ 0
     → left_unmarked (now_of p).words page ≡ 0
-none_left p page none =
-    let marks : ℕ = slice_index (now_of p).words.marks page in
-    let nothing : without 0 marks ≡ 0 = omega arith in
-    ap (λ (n : ℕ). without n marks) none ∙ nothing
+none_left p page none = grind arith
 
 -- what settles a page
 
@@ -115,8 +105,7 @@ or_left a b h = ap (λ (x : Bool). x || b) h
 
 pub settled_bare : (p : PassState) (page : ℕ) → left_unmarked (now_of p).words page ≡ 0
     → header_at (now_of p).words page ≡ 0 → IsSettledPage p page
-settled_bare p page none bare =
-    and_from _ _ (eq-eqb _ 0 none) (or_left (header_at (now_of p).words page == 0) _ (eq-eqb _ 0 bare))
+settled_bare p page none bare = grind (arith, and_from, eq-eqb, or_left)
 
 pub settled_left : (p : PassState) (page : ℕ) → IsSettledPage p page → left_unmarked (now_of p).words page ≡ 0
 settled_left p page h = eqb-true _ 0 (and_parts (left_unmarked (now_of p).words page == 0) _ h).0
@@ -136,13 +125,7 @@ head_stays p q page same = ap (λ (n : ℕ). head_page_under (header_of n) page)
 -- A page stays as it is in this while it and its head do.
 pub same_occupied : (p q : PassState) (r : ℕ) → SamePage p q r → SamePage p q (head_page (now_of p).words r)
     → is_occupied_page (now_of q).words r ≡ is_occupied_page (now_of p).words r
-same_occupied p q r same head_same =
-    ap (λ (n : ℕ). (n == 0) || not (used_at (now_of q).words (head_page (now_of q).words r) == 0))
-    (same_header p q r same)
-    ∙ ap (λ (n : ℕ). (header_at (now_of p).words r == 0) || not (used_at (now_of q).words n == 0))
-    (head_stays p q r same)
-    ∙ ap (λ (n : ℕ). (header_at (now_of p).words r == 0) || not (n == 0))
-    (same_used p q (head_page (now_of p).words r) head_same)
+same_occupied p q r same head_same = grind (arith, same_header, head_stays, same_used)
 
 -- A later page of a run isn't past it.
 pub head_elsewhere : (q : PassState) → InTurn q → (n r : ℕ) → n < r
@@ -153,12 +136,7 @@ head_elsewhere q t n r after past occupied = by (header_in (now_of q).words r) r
     w = (now_of q).words
 
     bare : header_at w n ≡ 0 → head_page w r ≡ n → header_at w r ≡ 0
-    bare none there = elim (or_cases (header_at w r == 0) _ occupied) [
-      | inl z ↦ eqb-true _ 0 z
-      | inr some ↦
-          let unused = (free_pages_have_nothing q.table.config q.seen t.history n none).used in
-          absurd (eqb-false _ 0 (not-true _ some) (ap (used_at w) there ∙ unused))
-    ]
+    bare none there = grind (arith, or_cases, eqb-true, free_pages_have_nothing, eqb-false, not-true)
 
     by : (x : Option Header) → header_in w r ≡ x → head_page_under x r ≢ n
     by (Some (Header.Later distance mapped)) is there =
@@ -180,14 +158,7 @@ head_elsewhere q t n r after past occupied = by (header_in (now_of q).words r) r
 -- Settled pages stay so while a later one changes.
 pub still_settled : (p q : PassState) (page r : ℕ) → FreesPage page p q → r < page → IsSettledPage p r
     → IsSettledPage q r
-still_settled p q page r k lt h =
-    let same : SamePage p q r = k.others r (λ e. absurd (omega arith)) in
-    let near = head_near (now_of p).words r in
-    let head_same : SamePage p q (head_page (now_of p).words r) =
-    k.others (head_page (now_of p).words r) (λ e. absurd (omega arith)) in
-    ap (λ (n : ℕ). (n == 0) && is_occupied_page (now_of q).words r) (same_left p q r same k.frees.marks)
-    ∙ ap (λ (b : Bool). (left_unmarked (now_of p).words r == 0) && b) (same_occupied p q r same head_same)
-    ∙ h
+still_settled p q page r k lt h = grind (arith, head_near, same_left, same_occupied)
 
 -- what two looks say of the released cells
 pub marked_gone : (a b : PassState) (page quarantine marks : ℕ) → InTurn a → GivesNothingBack a b
@@ -195,18 +166,14 @@ pub marked_gone : (a b : PassState) (page quarantine marks : ℕ) → InTurn a �
     (slice_index (now_of a).words.snapshot page)
     → marks ≡ slice_index (now_of b).words.marks page
     → without (quarantine / 2 ^ 32) marks ≡ left_unmarked (now_of b).words page
-marked_gone a b page quarantine marks t k word is =
-    let h = halves a page quarantine t word in
-    ap (λ (n : ℕ). without n marks) (h.snapshot ∙ sym (ap (λ (x : PageState). x.snapshot) (k.same page)))
-    ∙ ap (λ (n : ℕ). without (slice_index (now_of b).words.snapshot page) n) is
+marked_gone a b page quarantine marks t k word is = grind (arith, halves)
 
 -- where the snapshot is empty
 pub none_left_on : (a : PassState) (page quarantine : ℕ) → InTurn a
     → quarantine ≡ quarantine_word (slice_index (now_of a).words.freed page)
     (slice_index (now_of a).words.snapshot page)
     → quarantine / 2 ^ 32 ≡ 0 → left_unmarked (now_of a).words page ≡ 0
-none_left_on a page quarantine t word none =
-    none_left a page (sym (halves a page quarantine t word).snapshot ∙ none)
+none_left_on a page quarantine t word none = grind (arith, none_left, halves)
 
 -- No cell is released at the head of the page's run: it is the page itself, or one that is settled.
 pub none_at : (p q : PassState) (page h : ℕ) → GivesBack page p q → h ≤ page
@@ -219,9 +186,4 @@ none_at p q page h g le settled = elim (cases_eq h page) [
 pub freed_settles : (a q : PassState) (page used : ℕ) → FreesPage page a q
     → page_state q page ≡ record (page_state a page) { page = record { header = 0; used = used } }
     → left_unmarked (now_of a).words page ≡ 0 → IsSettledPage q page
-freed_settles a q page used k state none =
-    settled_bare q page
-    (ap (λ (x : PageState). without x.snapshot (slice_index (now_of q).words.marks page)) state
-    ∙ ap (λ (ms : List ℕ). without (slice_index (now_of a).words.snapshot page) (slice_index ms page)) k.frees.marks
-    ∙ none)
-    (ap (λ (x : PageState). x.page.header) state)
+freed_settles a q page used k state none = grind (arith, settled_bare)

@@ -13,9 +13,7 @@ sum_same (suc n) f g same =
 
 -- Values that are 0 add nothing.
 pub sum_past : (m n : ℕ) (f : ℕ → ℕ) → m ≤ n → ((i : ℕ) → m ≤ i → i < n → f i ≡ 0) → sum_below n f ≡ sum_below m f
-sum_past m zero f le none =
-    let first : zero ≡ m = omega arith in
-    ap (λ (k : ℕ). sum_below k f) first
+sum_past m zero f le none = grind arith
 sum_past m (suc n) f le none = elim (cases_eq m (suc n)) [
   | inl same ↦ ap (λ (k : ℕ). sum_below k f) (sym same)
   | inr other ↦
@@ -100,10 +98,7 @@ module _ {X : Type 0} (d : X) where
           (λ k below. ap (λ (b : Bool). cond {A = ℕ} (b && (key x == k)) 1 0 * g k) is)
           ∙ sum_of_one (key x) n g (lt is)
           ∙ sym (ap (λ (b : Bool). cond {A = ℕ} b (g (key x)) 0) is)
-      by false is lt =
-          sum_of_none n (λ k. cond (t x && (key x == k)) 1 0 * g k)
-          (λ k below. ap (λ (b : Bool). cond {A = ℕ} (b && (key x == k)) 1 0 * g k) is ∙ none_times (g k))
-          ∙ sym (ap (λ (b : Bool). cond {A = ℕ} b (g (key x)) 0) is)
+      by false is lt = grind (arith, sum_of_none, none_times)
 
   -- the elements that pass, by a key that is below a bound
   pub counted_by_key : (t : X → Bool) (key : X → ℕ) (n : ℕ) (xs : List X)
@@ -128,10 +123,7 @@ module _ {X : Type 0} (d : X) where
           (λ k below. ap (λ (b : Bool). cond {A = ℕ} (b && (key x == k)) 1 0) is)
           ∙ one_if_same (key x) n (lt is)
           ∙ sym (ap (λ (b : Bool). cond {A = ℕ} b 1 0) is)
-      by false is lt =
-          sum_of_none n (λ k. cond (t x && (key x == k)) 1 0)
-          (λ k below. ap (λ (b : Bool). cond {A = ℕ} (b && (key x == k)) 1 0) is)
-          ∙ sym (ap (λ (b : Bool). cond {A = ℕ} b 1 0) is)
+      by false is lt = grind (arith, sum_of_none)
 
   -- where one element passes at most, and one exactly if the flag says so
   pub one_if_any : (u : X → Bool) (b : Bool) (xs : List X) → u d ≡ false

@@ -27,7 +27,6 @@ pub fn begin_cycle<E: Engine, R: Threads + Wait + Sync>(
     requires free { IsFreeForCycle turn.old.pass }
     ensures op { turn.new.op ≡ turn.old.op }
     ensures made_for { E.made_for bench.new.engine ≡ E.made_for bench.old.engine }
-    ensures book { bench.new.book ≡ bench.old.book }
     ensures law { BeginsCycle turn.old.pass turn.new.pass }
     ensures reached { E.sweeps ≡ false → SweepsNothing turn.old.pass turn.new.pass }
     ensures begun { EachIsBegun E.begins turn.old.pass turn.new.pass }

@@ -1,5 +1,5 @@
 //! The end of a cycle.
-ghost use Rattle.std.specs.Prelude.{◌≡◌, length, false};
+ghost use Rattle.std.specs.Prelude.{◌≡◌, false};
 ghost use Rattle.mk_turns.specs.Sweeping.{SweepsNothing};
 ghost use Rattle.mk_cycle.specs.Closing.{IsClosedBy};
 ghost use Rattle.mk_cycle.specs.EngineLaw.{IsFreeForCycle, IsAtPhase};
@@ -34,12 +34,10 @@ pub fn finish_cycle<E: Engine, R: Threads + Wait + Sync>(
 ) -> (Turn, Released)
     requires one_table { turn.pass.table ≡ words.now }
     requires made_for { E.made_for bench.old.engine ≡ words.now.config.pages }
-    requires book { length bench.old.book ≡ words.now.config.pages }
     requires phase { IsAtPhase turn.pass 1 }
     requires free { IsFreeForCycle turn.pass }
     ensures op { result.0.op ≡ turn.op }
     ensures made_for { E.made_for bench.new.engine ≡ E.made_for bench.old.engine }
-    ensures book { length bench.new.book ≡ length bench.old.book }
     ensures law { FinishesCycle turn.pass result.0.pass }
     ensures released { HasReleased turn.pass result.0.pass result.1 }
     ensures reached { E.sweeps ≡ false → SweepsNothing turn.pass result.0.pass }

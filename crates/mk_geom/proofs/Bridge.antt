@@ -1,6 +1,6 @@
 -- What pages show is what the storages say that stand on them.
-use Rattle.std.proofs.Common.{Bool, IsSome, List, Option, Some, ℕ, ap, arith, false, inl, inr, length, refl}
-use Rattle.std.proofs.Common.{slice_index_or, subst, suc, sym, true, zero, ◌&&◌, ◌-◌, ◌/◌, ◌<◌, ◌∙◌, ◌≡◌, ◌≤◌}
+use Rattle.std.proofs.Common.{Bool, List, Option, Some, ℕ, ap, arith, false, inl, inr, length, refl, slice_index_or}
+use Rattle.std.proofs.Common.{subst, suc, sym, true, zero, ◌-◌, ◌/◌, ◌<◌, ◌∙◌, ◌≡◌, ◌≤◌}
 use Rattle.std.proofs.lemmas.Bool.{and_parts, cases_Bool, cond-false, cond-true}
 use Rattle.std.proofs.lemmas.List.{get_or-map, length-map, same_lists}
 use Rattle.std.proofs.lemmas.List.FromFn.{get_or-map-range_with_len, length-map-range_with_len}
@@ -8,7 +8,7 @@ use Rattle.std.proofs.lemmas.List.Elements.{All-contains}
 use Rattle.mk_geom.proofs.Standing.{class_of_cell, large_is_run, small_is_cell, stands_parts}
 use Rattle.mk_geom.proofs.{HeaderLemmas.header_of-word_of, ListSearch.find_cases, StoredWords.words_by_large}
 use Rattle.mk_geom.proofs.{StoredWords.words_by_small, TakenCells.length-taken_cells, UsedWords.bits_of-used_word}
-use Rattle.mk_geom.specs.Headers.{IsHeaderWord, IsInRange, header_of, word_of}
+use Rattle.mk_geom.specs.Headers.{IsHeaderWord, IsInRange, word_of}
 use Rattle.mk_geom.specs.PageUses.{Cells, PageUse, PartOfRun, census_among, place_on_uses}
 use Rattle.mk_geom.specs.PageWords.{HaveHeaderWords, bits_of, use_of_page, use_under, uses_of_pages}
 use Rattle.mk_geom.specs.Storages.{AreLaidOut, IsRun, IsStorage, PagesStandFor, Storage, block_header, block_page}
@@ -23,9 +23,7 @@ Shows page use' = IsHeaderWord page.header × (use_of_page page ≡ use')
 
 shows_header : (h : Header) (used : ℕ) → IsInRange h
     → Shows (record { header = word_of h; used = used }) (use_under (Some h) used)
-shows_header h used in_range =
-    let is : header_of (word_of h) ≡ Some h = header_of-word_of h in_range in
-    (subst (λ (o : Option Header). IsSome o) (sym is) refl, ap (λ o. use_under o used) is)
+shows_header h used in_range = grind (arith, header_of-word_of)
 
 pub block_in_range : (class : ℕ) (leaf : Bool) → class < 8 → IsInRange (block_header class leaf)
 block_in_range class true known = known
@@ -47,19 +45,12 @@ block_shows class leaf taken known long =
 
 pub run_in_range : (pages : ℕ) (mapped leaf : Bool) (distance : ℕ) → 1 ≤ pages → pages ≤ 64 → distance ≤ 63
     → IsInRange (run_header pages mapped leaf distance)
-run_in_range pages mapped leaf zero some most near = elim (cases_Bool (leaf && mapped)) [
-  | inl both ↦ subst IsInRange (sym (cond-true (leaf && mapped) _ _ both)) (some, most)
-  | inr not_both ↦ subst IsInRange (sym (cond-false (leaf && mapped) _ _ not_both)) (some, most)
-]
+run_in_range pages mapped leaf zero some most near = grind (arith, cond-true, cond-false)
 run_in_range pages mapped leaf (suc distance) some most near = (omega arith, near)
 
 run_use : (pages : ℕ) (mapped leaf : Bool) (distance used : ℕ)
     → use_under (Some (run_header pages mapped leaf distance)) used ≡ PartOfRun mapped
-run_use pages mapped leaf zero used = elim (cases_Bool (leaf && mapped)) [
-  | inl both ↦ ap (λ h. use_under (Some h) used) (cond-true (leaf && mapped) _ _ both)
-      ∙ ap PartOfRun (sym (and_parts leaf mapped both).1)
-  | inr not_both ↦ ap (λ h. use_under (Some h) used) (cond-false (leaf && mapped) _ _ not_both)
-]
+run_use pages mapped leaf zero used = grind (arith, cond-true, and_parts, cond-false)
 run_use pages mapped leaf (suc distance) used = refl
 
 pub run_shows : (pages : ℕ) (mapped leaf : Bool) (distance : ℕ) → 1 ≤ pages → pages ≤ 64 → distance ≤ 63
@@ -90,11 +81,7 @@ shown_by n page xs s is stands = elim (cases_Bool (is_small s)) [
 ]
   where
     moved : {p q : Page} {u v : PageUse} → p ≡ q → u ≡ v → Shows p u → Shows q v
-    moved {p} {q} {u} {v} same_page same_use shown = (
-      subst (λ (page : Page). IsHeaderWord page.header) same_page shown.0,
-      sym (ap use_of_page same_page) ∙ shown.1
-          ∙ same_use,
-    )
+    moved {p} {q} {u} {v} same_page same_use shown = grind arith
 
 shown : (n page : ℕ) (xs : List Storage) → AreLaidOut n xs → Shows (words_of_storages xs page) (use_of_storages xs page)
 shown n page xs laid = elim (find_cases (stands_on page) xs) [

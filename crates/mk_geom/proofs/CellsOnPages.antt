@@ -1,7 +1,7 @@
 -- What values point into on pages that stand for storages: their cells, and nothing else that is taken.
-use Rattle.std.proofs.Common.{Contains, List, None, Some, ℕ, ap, arith, div-add-mod', false, find, inl, inr, leb-true}
-use Rattle.std.proofs.Common.{length, ltb-true, nat_le, nat_lt, refl, subst, sym, true, ◌%◌, ◌*◌, ◌+◌, ◌/◌, ◌<◌, ◌==◌}
-use Rattle.std.proofs.Common.{◌↔◌, ◌∙◌, ◌≡◌, ◌≤◌, ◌⊎◌}
+use Rattle.std.proofs.Common.{Contains, List, None, Some, ℕ, ap, arith, false, find, inl, inr, leb-true, length}
+use Rattle.std.proofs.Common.{ltb-true, nat_lt, refl, subst, sym, true, ◌%◌, ◌*◌, ◌+◌, ◌/◌, ◌<◌, ◌==◌, ◌↔◌, ◌∙◌, ◌≡◌}
+use Rattle.std.proofs.Common.{◌≤◌, ◌⊎◌}
 use Rattle.std.proofs.lemmas.Bool.{and_parts, cases_Bool, cond-false, cond-true}
 use Rattle.std.proofs.lemmas.Option.{cond_some, none-some, same_Some}
 use Rattle.std.proofs.lemmas.Nat.{div_below, mod_below}
@@ -15,35 +15,21 @@ use Rattle.mk_geom.proofs.Standing.{small_is_cell, stands_at_first, stands_parts
 use Rattle.mk_geom.proofs.StoredWords.{words_at, words_by_large, words_by_small}
 use Rattle.mk_geom.proofs.TakenCells.{cell_taken_by, get_or-taken_cells, length-taken_cells}
 use Rattle.mk_geom.proofs.{ListSearch.find_cases, UsedWords.bit_at-used_word}
-use Rattle.mk_geom.specs.Addresses.{cell_at, is_heap_address, page_at_address, word_at_address}
-use Rattle.mk_geom.specs.Classes.{cells_of, class_words_of}
 use Rattle.mk_geom.specs.StorageWords.{PointsInto, ShowsStorage, cell_of_storage, cell_on, header_shown, page_in}
 use Rattle.mk_geom.specs.Storages.{AreLaidOut, IsStorage, PagesStandFor, Storage, class_of_storage, first_page}
 use Rattle.mk_geom.specs.Storages.{free_page, is_cell_taken, is_small, stands_on, taken_cells, used_word, words_by}
-use Rattle.mk_geom.specs.declared.headers.Header.TheVariants.{Free}
-use Rattle.mk_geom.specs.{Headers.header_of, Headers.word_of, declared.addresses.Cell.Cell, declared.pages.Page.Page}
+use Rattle.mk_geom.specs.{Addresses.cell_at, Addresses.page_at_address, Addresses.word_at_address, Classes.cells_of}
+use Rattle.mk_geom.specs.{Classes.class_words_of, declared.addresses.Cell.Cell, declared.pages.Page.Page}
 
 -- a storage's page has the header that it shows
 header_by : (xs : List Storage) (page : ℕ) (s : Storage)
     → (words_by xs page (Some s)).header ≡ header_shown s page s.mapped
-header_by xs page s = elim (cases_Bool (is_small s)) [
-  | inl small ↦ ap (λ (p : Page). p.header) (words_by_small page xs s small)
-      ∙ sym (ap word_of (cond-true (is_small s) _ _ small))
-  | inr large ↦ ap (λ (p : Page). p.header) (words_by_large page xs s large)
-      ∙ sym (ap word_of (cond-false (is_small s) _ _ large))
-]
+header_by xs page s = grind (arith, words_by_small, cond-true, words_by_large, cond-false)
 
 -- a value that points into a cell is an address of a page of the heap
 pub is_address : (pages header u : ℕ) (k : Cell) → cell_at pages header u ≡ Some k
     → (65536 ≤ u) × (page_at_address u < pages)
-is_address pages header u k is = elim (cases_Bool (is_heap_address pages u)) [
-  | inl inside ↦
-      let parts = and_parts (nat_le 65536 u) (nat_lt u (65536 + 512 * pages)) inside in
-      let low : 65536 ≤ u = leb-true 65536 u parts.0 in
-      let high : u < 65536 + 512 * pages = ltb-true u (65536 + 512 * pages) parts.1 in
-      (low, omega arith)
-  | inr outside ↦ absurd (none-some k (sym (cond-false (is_heap_address pages u) _ None outside) ∙ is))
-]
+is_address pages header u k is = grind (arith, and_parts, leb-true, ltb-true, none-some, cond-false)
 
 -- The storage of the page that a value is in, where the value points into a cell: a cell of its block, or the run.
 pub record IsCellOn (xs : List Storage) (u : ℕ) (k : Cell) (t : Storage) : Type 0 where
@@ -106,12 +92,7 @@ module _ (pages : List Page) (storages : List Storage) (stand : PagesStandFor pa
 
   nothing_on_free : (u : ℕ) (k : Cell) → cell_on pages u ≡ Some k → find (stands_on (page_at_address u)) storages ≡ None
       → ⊥
-  nothing_on_free u k is none =
-      let page = page_at_address u in
-      let (low, within) = address_within u k is in
-      let free : page_in pages page ≡ free_page = cc (stand.words page free_page within, none) in
-      let header_free = ap (λ (p : Page). header_of p.header) free in
-      none-some k (sym (looked_up (length pages) (page_in pages page).header u Free low within header_free) ∙ is)
+  nothing_on_free u k is none = grind (arith, address_within, none-some, looked_up)
 
   pub cell_is_on : (u : ℕ) (k : Cell) → cell_on pages u ≡ Some k → (t : Storage) × IsCellOn storages u k t
   cell_is_on u k is =
@@ -130,9 +111,7 @@ module _ (pages : List Page) (storages : List Storage) (stand : PagesStandFor pa
 -- the words of a cell of a page, by the quotient
 word_in_cell : (word index words : ℕ) → 1 ≤ words → word / words ≡ index
     → (index * words ≤ word) × (word < index * words + words)
-word_in_cell word index words some is =
-    let split : index * words + word % words ≡ word = cc (is, div-add-mod' word words) in
-    omega (arith, mod_below word words some)
+word_in_cell word index words some is = grind (arith, mod_below)
 
 -- a storage that shares a page with a small one is small, and has as many words
 like_small : {s t : Storage} → (s ≡ t) ⊎ AreAlike s t → is_small t ≡ true → (is_small s ≡ true) × (s.words ≡ t.words)
@@ -159,8 +138,7 @@ same_from_cells n xs s t laid s_in t_in same = elim (same_or_apart n xs s t laid
       let at : first_page s ≡ first_page t = ap (λ (k : Cell). k.page) same in
       let stand = both_stand n xs s t laid s_in t_in at in
       let words : s.words ≡ t.words = (apart.alike (first_page t) stand.0 stand.1).2 in
-      let index : (cell_of_storage s).index * s.words ≡ (cell_of_storage t).index * t.words =
-      ap (λ (k : Cell). k.index * s.words) same ∙ ap (λ (w : ℕ). (cell_of_storage t).index * w) words in
+      let index : (cell_of_storage s).index * s.words ≡ (cell_of_storage t).index * t.words = grind arith in
       let first : s.first ≡ t.first = sym (cell_first n s s_is) ∙ omega (arith, at, index) ∙ cell_first n t t_is in
       let s_some = has_words n s s_is in
       let t_some = has_words n t t_is in
@@ -171,20 +149,11 @@ small_back : (n u : ℕ) (s t : Storage) → IsStorage n s → is_small s ≡ tr
     → first_page s ≡ page_at_address u
     → class_words_of (class_of_storage t) ≡ s.words
     → s.first % 64 / s.words ≡ word_at_address u / class_words_of (class_of_storage t) → PointsInto u s
-small_back n u s t is small low at words index =
-    let cell = small_is_cell n s is small in
-    let some = has_words n s is in
-    let same : word_at_address u / s.words ≡ cell.index = cc (words, index, cell_index s cell) in
-    let range = word_in_cell (word_at_address u) cell.index s.words some same in
-    let first : s.first % 64 ≡ cell.index * s.words = cell.first ∙ ap (λ (w : ℕ). cell.index * w) (sym cell.words) in
-    (low, (omega arith, omega arith))
+small_back n u s t is small low at words index = grind (arith, small_is_cell, has_words, cell_index, word_in_cell)
 
 run_back : (n u : ℕ) (s : Storage) → IsStorage n s → is_small s ≡ false → 65536 ≤ u
     → stands_on (page_at_address u) s ≡ true → PointsInto u s
-run_back n u s is large low stands =
-    let run = large_is_run n s is large in
-    let parts = stands_parts (page_at_address u) s stands in
-    (low, (omega (arith, run.first), omega (arith, run.first, run.words, run.some)))
+run_back n u s is large low stands = grind (arith, large_is_run, stands_parts)
 
 -- a value that points into a storage's cell is in the storage
 pub cell_has_value : (n u : ℕ) (xs : List Storage) (s t : Storage) → AreLaidOut n xs → Contains xs s

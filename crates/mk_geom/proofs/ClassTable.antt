@@ -1,10 +1,9 @@
 -- The classes, one by one, and the cells of a page.
-use Rattle.std.proofs.Common.{None, Some, ℕ, arith, div-add-mod', inl, inr, le_refl, leb-true, nat_le, position, refl}
-use Rattle.std.proofs.Common.{slice_index, suc, sym, zero, [], ◌*◌, ◌+◌, ◌/◌, ◌<◌, ◌==◌, ◌∙◌, ◌∷◌, ◌≡◌, ◌≤◌}
-use Rattle.std.proofs.lemmas.Bool.{cases_Bool, cond-false, cond-true}
-use Rattle.std.proofs.lemmas.Nat.{le-div, mul-le}
-use Rattle.std.proofs.{lemmas.List.Quantifiers.position-Some, lemmas.Option.none-some}
-use Rattle.mk_geom.specs.Classes.{cells_of, class_for, class_sizes, class_words_of}
+use Rattle.std.proofs.Common.{Some, ℕ, arith, leb-true, refl, slice_index, suc, zero, [], ◌*◌, ◌+◌, ◌/◌, ◌<◌, ◌∷◌, ◌≡◌}
+use Rattle.std.proofs.Common.{◌≤◌}
+use Rattle.std.proofs.{lemmas.Bool.cond-false, lemmas.Bool.cond-true, lemmas.List.Quantifiers.position-Some}
+use Rattle.std.proofs.{lemmas.Nat.le-div, lemmas.Nat.mul-le, lemmas.Option.none-some}
+use Rattle.mk_geom.specs.Classes.{cells_of, class_for, class_words_of}
 
 pub class_for-class_words_of : (class : ℕ) → class < 8 → class_for (class_words_of class) ≡ Some class
 class_for-class_words_of zero known = refl
@@ -55,20 +54,10 @@ divided_by_shares (suc (suc (suc (suc (suc (suc (suc (suc n)))))))) word known w
 
 -- a cell of this many words ends within its page
 pub cell_ends : (index words : ℕ) → index < 64 / words → index * words + words ≤ 64
-cell_ends index words within =
-    omega (arith, div-add-mod' 64 words, mul-le (suc index) words (64 / words) words within (le_refl words))
+cell_ends index words within = grind (arith, mul-le)
 
 pub class_for-some : (words class : ℕ) → class_for words ≡ Some class → (class < 8) × (words ≤ class_words_of class)
-class_for-some words class is = elim (cases_Bool (words == 0)) [
-  | inl zero_words ↦ absurd
-      (none-some class (sym (cond-true (words == 0) None (position (λ size. nat_le words size) class_sizes) zero_words)
-      ∙ is))
-  | inr some ↦
-      let at = position-Some (λ size. nat_le words size) class_sizes class 0
-      (sym (cond-false (words == 0) None (position (λ size. nat_le words size) class_sizes) some) ∙ is) in
-      (at.0, leb-true words (class_words_of class) at.1)
-]
+class_for-some words class is = grind (arith, none-some, cond-true, position-Some, cond-false, leb-true)
 
 pub some_cells : (class : ℕ) → class < 8 → 0 < cells_of class
-some_cells class known = let range = class_words_within class known in le-div 1 64 (class_words_of class) (omega arith)
-    (omega arith)
+some_cells class known = grind (arith, class_words_within, le-div)

@@ -1,8 +1,8 @@
 -- First fit finds a place that is as it says.
 use Rattle.std.proofs.Common.{Bool, List, None, Option, Some, ℕ, add-one, ap, arith, eqb-true, false, get_or}
 use Rattle.std.proofs.Common.{if◌then◌else◌, inl, inr, le-leb, leb-true, length, ltb-true, nat_le, nat_lt, not}
-use Rattle.std.proofs.Common.{option_and_then, option_map, refl, slice_get, subst, suc, sym, true, zero, [], ◌&&◌, ◌+◌}
-use Rattle.std.proofs.Common.{◌<◌, ◌==◌, ◌∙◌, ◌∷◌, ◌≡◌, ◌≤◌, ◌⊎◌}
+use Rattle.std.proofs.Common.{option_map, refl, slice_get, subst, suc, sym, true, zero, [], ◌+◌, ◌<◌, ◌∙◌, ◌∷◌, ◌≡◌}
+use Rattle.std.proofs.Common.{◌≤◌, ◌⊎◌}
 use Rattle.std.proofs.lemmas.Bool.{and_parts, cases_Bool, cond-false, cond-true, cond_both, false≢true, lt-leb}
 use Rattle.std.proofs.lemmas.Bool.{not-true}
 use Rattle.std.proofs.lemmas.Option.{none-some, same_Some, slice_get-map}
@@ -57,25 +57,7 @@ free_cell_is : (class : ℕ) (leaf : Bool) (u : PageUse) (index : ℕ)
 free_cell_is class leaf Nothing index is = absurd (none-some index is)
 free_cell_is class leaf (PartOfRun mapped) index is = absurd (none-some index is)
 free_cell_is class leaf (Cells class' leaf' taken) index is =
-    elim (cases_Bool ((class == class') && is_same_sort leaf leaf')) [
-      | inl of_sort ↦
-          let parts = and_parts (class == class') (is_same_sort leaf leaf') of_sort in
-          let (bit, at, unset) =
-          first_where_passes not taken index
-          (subst (λ (bits : List Bool). first_where not bits ≡ Some index) (cond-true _ taken [] of_sort) is) in (
-            (
-              sym (eqb-true class class' parts.0),
-              same_sort_is leaf leaf' parts.1,
-              at
-                  ∙ ap Some (not-true bit unset),
-            ),
-            refl,
-          )
-      | inr other ↦ absurd
-          (none-some index (subst (λ (bits : List Bool). first_where not bits ≡ Some index)
-          (cond-false _ taken [] other)
-          is))
-    ]
+    grind (arith, and_parts, first_where_passes, cond-true, eqb-true, same_sort_is, not-true, none-some, cond-false)
 
 -- a page's use that is as the place says
 record FitsOn (class : ℕ) (leaf : Bool) (uses : List PageUse) (place : Place) : Type 0 where
@@ -155,11 +137,7 @@ free_range_within (u ∷ uses) = cond_both (is_free_page u) (free_range uses + 1
 
 first_is_free : (u : PageUse) (uses : List PageUse) (k : ℕ) → k < free_range (u ∷ uses)
     → (is_free_page u ≡ true) × (k < free_range uses + 1)
-first_is_free u uses k within = elim (cases_Bool (is_free_page u)) [
-  | inl free ↦ (free, subst (λ n. k < n) (cond-true (is_free_page u) (free_range uses + 1) 0 free) within)
-  | inr taken ↦ let none : k < 0 =
-      subst (λ n. k < n) (cond-false (is_free_page u) (free_range uses + 1) 0 taken) within in absurd (omega arith)
-]
+first_is_free u uses k within = grind (arith, cond-true, cond-false)
 
 free_in_range : (uses : List PageUse) (k : ℕ) (d : PageUse) → k < free_range uses
     → is_free_page (get_or uses k d) ≡ true
@@ -178,8 +156,7 @@ range_start_free : (count : ℕ) (uses : List PageUse) (start : ℕ) → range_s
 range_start_free count [] start is = absurd (none-some start is)
 range_start_free count (u ∷ uses) start is = elim (cases_Bool (nat_le count (free_range (u ∷ uses)))) [
   | inl enough ↦
-      let here : 0 ≡ start =
-      same_Some 0 start (sym (cond-true (nat_le count (free_range (u ∷ uses))) (Some 0) later enough) ∙ is) in
+      let here : 0 ≡ start = grind (arith, same_Some, cond-true) in
       let fit : count ≤ free_range (u ∷ uses) = leb-true count (free_range (u ∷ uses)) enough in
       record {
         within = omega (arith, free_range_within (u ∷ uses));
@@ -231,10 +208,7 @@ cell_place_is limit words class leaf pages place class_is is =
     let (known, holds) = class_for-some words class class_is in
     let range = class_words_within class known in
     let small : nat_le words 32 ≡ true = le-leb words 32 (omega arith) in
-    let found : small_place limit class leaf uses ≡ Some place =
-    sym (ap (option_and_then (λ class. small_place limit class leaf uses)) class_is)
-    ∙ sym (cond-true (nat_le words 32) (option_and_then (λ class. small_place limit class leaf uses) (class_for words))
-    (large_place limit (run_pages_of words) uses) small) ∙ is in
+    let found : small_place limit class leaf uses ≡ Some place = grind (arith, cond-true) in
     let (fits, first, room) = small_place_fits limit class leaf uses place (some_cells class known) found in
     cell_place_on limit class leaf pages place fits first room
 
@@ -244,9 +218,7 @@ pub run_place_is : (limit words : ℕ) (leaf : Bool) (pages : List Page) (place 
 run_place_is limit words leaf pages place large is =
     let uses = uses_of_pages pages in
     let count = run_pages_of words in
-    let found : large_place limit count uses ≡ Some place =
-    sym (cond-false (nat_le words 32) (option_and_then (λ class. small_place limit class leaf uses) (class_for words))
-    (large_place limit count uses) (lt-leb words 32 large)) ∙ is in
+    let found : large_place limit count uses ≡ Some place = grind (arith, cond-false, lt-leb) in
     let (room, start_found) =
     if_some (nat_le (resident_pages uses + count) limit) (option_map carved (range_start count uses)) place found in
     let (start, at, place_is) = option_map_some carved (range_start count uses) place start_found in

@@ -1,12 +1,12 @@
 -- The words that pages hold are those of the mapped storages that stand on them.
 use Rattle.std.proofs.Common.{Bool, Contains, List, Option, Some, ℕ, ap, arith, cond, false, find, get_or}
-use Rattle.std.proofs.Common.{if◌then◌else◌, inl, inr, length, ne_eqb, refl, set, subst, suc, sym, true, unwrap_or, []}
-use Rattle.std.proofs.Common.{◌*◌, ◌+◌, ◌<◌, ◌==◌, ◌||◌, ◌∙◌, ◌∷◌, ◌≡◌, ◌≢◌, ◌≤◌}
+use Rattle.std.proofs.Common.{if◌then◌else◌, inl, inr, length, ne_eqb, refl, set, subst, suc, sym, true, [], ◌*◌, ◌+◌}
+use Rattle.std.proofs.Common.{◌<◌, ◌∙◌, ◌∷◌, ◌≡◌, ◌≢◌, ◌≤◌}
 use Rattle.std.proofs.lemmas.Bool.{cases_Bool, cond-false, cond-true, false_from_ne_true, false≢true}
 use Rattle.std.proofs.lemmas.List.Elements.{All-head, All-tail}
 use Rattle.std.proofs.lemmas.List.Sums.{sum_by-cons, sum_by-set}
 use Rattle.std.specs.List.{count_by}
-use Rattle.mk_geom.proofs.ListSearch.{Contains-cons_cases, Contains-head, Contains-tail, find_cases}
+use Rattle.mk_geom.proofs.ListSearch.{Contains-head, Contains-tail, find_cases}
 use Rattle.mk_geom.proofs.PageSums.{sum_below, sum_below-add, sum_below-block, sum_below-zero, sum_by-range}
 use Rattle.mk_geom.proofs.PointedCells.{class_has_words, first_in_page}
 use Rattle.mk_geom.proofs.Standing.{cell_stands_at, cell_within, class_of_cell, has_words, large_is_run, small_is_cell}
@@ -14,7 +14,7 @@ use Rattle.mk_geom.proofs.Standing.{stands_from, stands_parts, storage_in}
 use Rattle.mk_geom.proofs.TakenCells.{cell_taken_by, cell_taken_from, get_or-taken_cells, length-taken_cells}
 use Rattle.mk_geom.proofs.TakenCells.{none_taken, same_index, taken_cells-set, taken_same}
 use Rattle.mk_geom.proofs.{Bridge.same_uses, ClassTable.class_words_within}
-use Rattle.mk_geom.specs.Classes.{cells_of, class_for, class_words_of}
+use Rattle.mk_geom.specs.Classes.{cells_of, class_words_of}
 use Rattle.mk_geom.specs.PageUses.{Cells, PageUse, PartOfRun, held_by_use, held_by_uses}
 use Rattle.mk_geom.specs.Storages.{AreLaidOut, IsCell, IsStorage, LieApart, PagesStandFor, Storage, class_of_storage}
 use Rattle.mk_geom.specs.Storages.{first_page, is_cell_taken, is_small, last_page, stands_on, taken_cells, use_by}
@@ -35,8 +35,7 @@ words_on_page : (s : Storage) (page : ℕ) → stands_on page s ≡ true → wor
 words_on_page s page stands = cond-true (stands_on page s) (words_there s) 0 stands
 
 words_off_page : (s : Storage) (page : ℕ) → (stands_on page s ≡ true → ⊥) → words_on s page ≡ 0
-words_off_page s page elsewhere =
-    cond-false (stands_on page s) (words_there s) 0 (false_from_ne_true (stands_on page s) elsewhere)
+words_off_page s page elsewhere = grind (arith, cond-false, words_there, false_from_ne_true)
 
 -- a storage that stands on this many pages
 sum_on_pages : (s : Storage) (n count : ℕ) → first_page s + count ≡ last_page s + 1 → first_page s + count ≤ n
@@ -49,15 +48,7 @@ sum_on_pages s n count ends within =
     n within
 
 large_there : (s : Storage) (pages : ℕ) → is_small s ≡ false → s.words ≡ 64 * pages → pages * words_there s ≡ held_by s
-large_there s pages large words = by s.mapped
-  where
-    page_words : (if is_small s then s.words else 64) ≡ 64
-    page_words = cond-false (is_small s) s.words 64 large
-
-    by : (mapped : Bool)
-        → pages * (if mapped then (if is_small s then s.words else 64) else 0) ≡ (if mapped then s.words else 0)
-    by true = ap (λ (n : ℕ). pages * n) page_words ∙ omega arith
-    by false = omega arith
+large_there s pages large words = grind (arith, cond-false)
 
 small_there : (s : Storage) → is_small s ≡ true → words_there s ≡ held_by s
 small_there s small = ap (λ (n : ℕ). if s.mapped then n else 0) (cond-true (is_small s) s.words 64 small)
@@ -82,10 +73,7 @@ count bits = count_by (λ cell. cell) bits
 
 one_more : (bits : List Bool) (k : ℕ) → k < length bits → get_or bits k true ≡ false
     → count (set bits k true) ≡ count bits + 1
-one_more bits k within unset =
-    let change = sum_by-set (λ (bit : Bool). cond {A = ℕ} bit 1 0) bits k true true within in
-    let old : cond {A = ℕ} (get_or bits k true) 1 0 ≡ 0 = ap (λ (bit : Bool). cond {A = ℕ} bit 1 0) unset in
-    omega arith
+one_more bits k within unset = grind (arith, sum_by-set)
 
 none_set : (bits : List Bool) → ((k : ℕ) → k < length bits → get_or bits k false ≡ false) → count bits ≡ 0
 none_set [] each = refl
@@ -145,10 +133,7 @@ module _ (n : ℕ) (s : Storage) (xs : List Storage) (laid : AreLaidOut n (s ∷
       ]
     where
       without : (u : Storage) → stands_on page u ≡ true → Contains (s ∷ xs) u → Contains xs u
-      without u stands inside = elim (Contains-cons_cases s xs u inside) [
-        | inl is ↦ absurd (false≢true (sym apart ∙ ap (stands_on page) is ∙ stands))
-        | inr inside' ↦ inside'
-      ]
+      without u stands inside = grind arith
 
       same : (t : Storage) → Contains xs t
           → held_by_use (use_by (s ∷ xs) page (Some t)) ≡ held_by_use (use_by xs page (Some t))
@@ -168,8 +153,7 @@ module _ (n : ℕ) (s : Storage) (xs : List Storage) (laid : AreLaidOut n (s ∷
   held_on_run : (page : ℕ) → stands_on page s ≡ true → is_small s ≡ false
       → held_by_use (use_of_storages (s ∷ xs) page) ≡ words_there s + held_by_use (use_of_storages xs page)
   held_on_run page stands large =
-      let there : words_there s ≡ (if s.mapped then 64 else 0) =
-      ap (λ (n : ℕ). if s.mapped then n else 0) (cond-false (is_small s) s.words 64 large) in
+      let there : words_there s ≡ (if s.mapped then 64 else 0) = grind (arith, cond-false) in
       let nothing : held_by_use (use_of_storages xs page) ≡ 0 = elim (find_cases (stands_on page) xs) [
         | inl (t, found, inside, t_stands) ↦ absurd
             (false≢true (sym large ∙ ((from_head t inside).alike page stands t_stands).0))
@@ -206,12 +190,7 @@ module _ (n : ℕ) (s : Storage) (xs : List Storage) (laid : AreLaidOut n (s ∷
     others_stay : (k : ℕ) → k < cells_of (class_of_storage s) → k ≢ cell.index
         → is_cell_taken (s ∷ xs) page (class_words_of (class_of_storage s)) k
         ≡ is_cell_taken xs page (class_words_of (class_of_storage s)) k
-    others_stay k within other =
-        let not_here : (s.first == 64 * page + k * class_words_of (class_of_storage s)) ≡ false =
-        ne_eqb s.first (64 * page + k * class_words_of (class_of_storage s))
-        (λ at. other (same_index (class_words_of (class_of_storage s)) k cell.index some_words
-        (let first = first_is in omega arith))) in
-        ap (λ (here : Bool). here || is_cell_taken xs page (class_words_of (class_of_storage s)) k) not_here
+    others_stay k within other = grind (arith, ne_eqb, same_index, cell, some_words, first_is)
 
     taken_more : count (taken_cells (s ∷ xs) page (class_of_storage s))
         ≡ count (taken_cells xs page (class_of_storage s)) + 1

@@ -1,15 +1,14 @@
 -- What an address in a storage points into, and in which storage an address is that points into its cell.
-use Rattle.std.proofs.Common.{Bool, None, Option, Some, ℕ, ap, arith, false, inl, inr, le-leb, le_refl, lt-ltb, nat_le}
-use Rattle.std.proofs.Common.{nat_lt, option_and_then, refl, subst, suc, sym, true, zero, ◌%◌, ◌*◌, ◌+◌, ◌-◌, ◌/◌, ◌<◌}
-use Rattle.std.proofs.Common.{◌↔◌, ◌∙◌, ◌≡◌, ◌≤◌}
+use Rattle.std.proofs.Common.{Bool, Option, Some, ℕ, ap, arith, false, inl, inr, le-leb, lt-ltb, refl, suc, sym, true}
+use Rattle.std.proofs.Common.{zero, ◌%◌, ◌*◌, ◌+◌, ◌-◌, ◌/◌, ◌<◌, ◌↔◌, ◌∙◌, ◌≡◌, ◌≤◌}
 use Rattle.std.proofs.lemmas.Bool.{and_from, cases_Bool, cond-false, cond-true, lt-leb}
 use Rattle.std.proofs.lemmas.Nat.{div-mul-add, mul-le}
 use Rattle.mk_geom.proofs.Bridge.{block_in_range, run_in_range, run_near}
 use Rattle.mk_geom.proofs.Standing.{cell_stands_at, class_of_cell, class_of_words, has_words, large_is_run}
 use Rattle.mk_geom.proofs.Standing.{small_is_cell, stands_from, stands_parts}
 use Rattle.mk_geom.proofs.{ClassTable.cell_ends, ClassTable.class_words_within, HeaderLemmas.header_of-word_of}
-use Rattle.mk_geom.specs.Addresses.{address_of, cell_at, cell_of_block, cell_under, heap_word_at, is_heap_address}
-use Rattle.mk_geom.specs.Addresses.{page_at_address, word_at_address}
+use Rattle.mk_geom.specs.Addresses.{address_of, cell_at, cell_of_block, cell_under, heap_word_at, page_at_address}
+use Rattle.mk_geom.specs.Addresses.{word_at_address}
 use Rattle.mk_geom.specs.StorageWords.{IsWordOf, PointsInto, ShowsStorage, cell_of_storage}
 use Rattle.mk_geom.specs.Storages.{IsCell, IsStorage, Storage, block_header, class_of_storage, first_page, is_small}
 use Rattle.mk_geom.specs.Storages.{run_header, stands_on}
@@ -19,12 +18,7 @@ use Rattle.mk_geom.specs.{declared.addresses.Cell.Cell, declared.headers.Header.
 -- a heap address whose page has this header
 pub looked_up : (pages header u : ℕ) (h : Header) → 65536 ≤ u → page_at_address u < pages → header_of header ≡ Some h
     → cell_at pages header u ≡ cell_under h (page_at_address u) (word_at_address u)
-looked_up pages header u h low within is =
-    let high : u < 65536 + 512 * pages = omega arith in
-    let inside : is_heap_address pages u ≡ true =
-    and_from _ _ (le-leb 65536 u low) (lt-ltb u (65536 + 512 * pages) high) in
-    cond-true _ (option_and_then (λ h. cell_under h (page_at_address u) (word_at_address u)) (header_of header)) None
-    inside ∙ ap (option_and_then (λ h. cell_under h (page_at_address u) (word_at_address u))) is
+looked_up pages header u h low within is = grind (arith, and_from, le-leb, lt-ltb, cond-true)
 
 block_under : (class : ℕ) (leaf : Bool) (page word : ℕ)
     → cell_under (block_header class leaf) page word ≡ cell_of_block class page word
@@ -41,9 +35,7 @@ run_under pages true true zero page word near = own_page page
 run_under pages true false zero page word near = own_page page
 run_under pages false true zero page word near = own_page page
 run_under pages false false zero page word near = own_page page
-run_under pages mapped leaf (suc distance) page word near =
-    cond-true (nat_le (suc distance) page) (Some (record { page = page - suc distance; index = 0 })) None
-    (le-leb (suc distance) page near)
+run_under pages mapped leaf (suc distance) page word near = grind (arith, cond-true, le-leb)
 
 -- What an address points into whose page shows a storage that stands there.
 module _ (pages header u : ℕ) (s : Storage) (is : IsStorage pages s) (low : 65536 ≤ u)
@@ -85,19 +77,14 @@ class_has_words s cell = ap class_words_of (class_of_cell s cell) ∙ sym cell.w
 
 -- the cell of a small storage
 pub cell_index : (s : Storage) (cell : IsCell s) → s.first % 64 / s.words ≡ cell.index
-cell_index s cell =
-    let range = class_words_within cell.class cell.known in
-    let first : s.first % 64 ≡ cell.index * s.words + 0 =
-    omega (arith, cell.first, ap (λ (n : ℕ). cell.index * n) cell.words) in
-    ap (λ (n : ℕ). n / s.words) first ∙ div-mul-add cell.index s.words 0 (omega (arith, cell.words))
+cell_index s cell = grind (arith, class_words_within, div-mul-add)
 
 same_cell : (j k : Cell) → j.page ≡ k.page → j.index ≡ k.index → j ≡ k
 same_cell j k page index = λ i. record { page = page i; index = index i }
 
 pub small_cell_of : (s : Storage) → is_small s ≡ true
     → cell_of_storage s ≡ record { page = first_page s; index = s.first % 64 / s.words }
-small_cell_of s small =
-    ap (λ (n : ℕ). record { page = first_page s; index = n }) (cond-true (is_small s) (s.first % 64 / s.words) 0 small)
+small_cell_of s small = grind (arith, cond-true)
 
 small_cell_is : (s : Storage) (cell : IsCell s) (page : ℕ) → is_small s ≡ true → page ≡ first_page s
     → Some (record { page = page; index = cell.index }) ≡ Some (cell_of_storage s)
@@ -106,35 +93,15 @@ small_cell_is s cell page small at = cc (cell_index s cell, small_cell_of s smal
 pub cell_from_first : (s : Storage) (page index : ℕ) → is_small s ≡ true → 1 ≤ s.words → index * s.words + s.words ≤ 64
     → s.first ≡ 64 * page + index * s.words
     → cell_of_storage s ≡ record { page = page; index = index }
-cell_from_first s page index small some ends first =
-    let at : first_page s ≡ page = omega arith in
-    let offset : s.first % 64 ≡ index * s.words + 0 = omega arith in
-    let is : s.first % 64 / s.words ≡ index = ap (λ (n : ℕ). n / s.words) offset ∙ div-mul-add index s.words 0 some in
-    small_cell_of s small
-    ∙ same_cell (record { page = first_page s; index = s.first % 64 / s.words })
-    (record { page = page; index = index }) at is
+cell_from_first s page index small some ends first = grind (arith, div-mul-add, small_cell_of, same_cell)
 
 pub large_cell_of : (s : Storage) → is_small s ≡ false → cell_of_storage s ≡ record { page = first_page s; index = 0 }
-large_cell_of s large =
-    ap (λ (n : ℕ). record { page = first_page s; index = n }) (cond-false (is_small s) (s.first % 64 / s.words) 0 large)
+large_cell_of s large = grind (arith, cond-false)
 
 -- the first word of the cell
 pub cell_first : (pages : ℕ) (s : Storage) → IsStorage pages s
     → 64 * (cell_of_storage s).page + (cell_of_storage s).index * s.words ≡ s.first
-cell_first pages s is = elim (cases_Bool (is_small s)) [
-  | inl small ↦
-      let cell = small_is_cell pages s is small in
-      ap (λ (k : Cell). 64 * k.page + k.index * s.words) (small_cell_of s small)
-      ∙ omega (
-        arith,
-        ap (λ (n : ℕ). n * s.words) (cell_index s cell),
-        cell.first,
-        ap (λ (n : ℕ). cell.index * n) cell.words,
-      )
-  | inr large ↦
-      let run = large_is_run pages s is large in
-      ap (λ (k : Cell). 64 * k.page + k.index * s.words) (large_cell_of s large) ∙ omega (arith, run.first)
-]
+cell_first pages s is = grind (arith, small_is_cell, small_cell_of, cell_index, large_is_run, large_cell_of)
 
 -- the storage stands on the page of each of its addresses
 pub stands_at_address : (u : ℕ) (s : Storage) → PointsInto u s → stands_on (page_at_address u) s ≡ true
@@ -144,22 +111,14 @@ stands_at_address u s (low, (from, to)) = stands_from (page_at_address u) s (ome
 block_cell : (class page index offset word : ℕ) → index < cells_of class → offset < class_words_of class
     → word ≡ index * class_words_of class + offset
     → cell_of_block class page word ≡ Some (record { page = page; index = index })
-block_cell class page index offset word within inside is =
-    let w = class_words_of class in
-    let below : word < cells_of class * w = omega (arith, mul-le (suc index) w (cells_of class) w within (le_refl w)) in
-    let at : word / w ≡ index = ap (λ (n : ℕ). n / w) is ∙ div-mul-add index w offset inside in
-    cond-true (nat_lt word (cells_of class * w)) (Some (record { page = page; index = word / w })) None
-    (lt-ltb word (cells_of class * w) below)
-    ∙ ap (λ (n : ℕ). Some (record { page = page; index = n })) at
+block_cell class page index offset word within inside is = grind (arith, mul-le, div-mul-add, cond-true, lt-ltb)
 
 small_cell_at : (u : ℕ) (s : Storage) (cell : IsCell s) → is_small s ≡ true → PointsInto u s
     → cell_of_block (class_of_storage s) (page_at_address u) (word_at_address u) ≡ Some (cell_of_storage s)
 small_cell_at u s cell small into =
-    let at : page_at_address u ≡ first_page s =
-    sym (cell_stands_at s (page_at_address u) cell (stands_at_address u s into)) in
+    let at : page_at_address u ≡ first_page s = grind (arith, cell_stands_at, stands_at_address) in
     let words = class_has_words s cell in
-    let within : cell.index < cells_of (class_of_storage s) =
-    subst (λ (c : ℕ). cell.index < cells_of c) (sym (class_of_cell s cell)) cell.within in
+    let within : cell.index < cells_of (class_of_storage s) = grind (arith, class_of_cell) in
     let ends = cell_ends cell.index (class_words_of (class_of_storage s)) within in
     let first : s.first % 64 ≡ cell.index * class_words_of (class_of_storage s) = first_in_page s cell in
     let low = into.1.0 in
@@ -173,13 +132,7 @@ small_cell_at u s cell small into =
 pub shows_cell : (s : Storage) (page header class : ℕ) → class < 8 → s.words ≡ class_words_of class
     → header ≡ word_of (block_header class s.leaf)
     → ShowsStorage s page header
-shows_cell s page header class known words is =
-    let range = class_words_within class known in
-    let class_is : class_of_storage s ≡ class = class_of_words s class known words in (
-      true,
-      is ∙ sym (ap word_of (cond-true (is_small s) _ _ (le-leb s.words 32 (omega arith)))
-          ∙ ap (λ (c : ℕ). word_of (block_header c s.leaf)) class_is),
-    )
+shows_cell s page header class known words is = grind (arith, class_words_within, class_of_words, cond-true, le-leb)
 
 pub shows_run : (s : Storage) (header first count distance : ℕ) (mapped : Bool) → s.first ≡ 64 * first
     → s.words ≡ 64 * count → 1 ≤ count
@@ -194,9 +147,7 @@ shows_run s header first count distance mapped begins words some is =
     )
 
 pub address_points_into : (word : ℕ) (s : Storage) → PointsInto (address_of word) s ↔ IsWordOf s word
-address_points_into word s =
-    let at : heap_word_at (address_of word) ≡ word = omega arith in
-    (λ into. subst (IsWordOf s) at into.1, λ is. (omega arith, subst (IsWordOf s) (sym at) is))
+address_points_into word s = grind arith
 
 pub points_into_cell : (pages header u : ℕ) (s : Storage) → IsStorage pages s
     → ShowsStorage s (page_at_address u) header → PointsInto u s

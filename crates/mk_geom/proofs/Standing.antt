@@ -1,19 +1,16 @@
 -- Which pages a storage stands on, and what two storages on one page share.
-use Rattle.std.proofs.Common.{Contains, List, ℕ, ap, arith, false, get_or, inl, inr, le-leb, leb-true, nat_le, refl}
-use Rattle.std.proofs.Common.{subst, sym, true, ◌%◌, ◌+◌, ◌-◌, ◌/◌, ◌<◌, ◌∙◌, ◌≡◌, ◌≤◌, ◌⊎◌}
+use Rattle.std.proofs.Common.{Contains, List, ℕ, ap, arith, false, get_or, inl, inr, le-leb, leb-true, refl, subst, sym}
+use Rattle.std.proofs.Common.{true, ◌%◌, ◌+◌, ◌-◌, ◌/◌, ◌<◌, ◌∙◌, ◌≡◌, ◌≤◌, ◌⊎◌}
 use Rattle.std.proofs.lemmas.Bool.{and_from, and_parts, cases_eq, false≢true, lt-leb}
 use Rattle.std.proofs.{lemmas.List.get_or_default, lemmas.List.Elements.All-contains}
 use Rattle.mk_geom.proofs.ClassTable.{cell_ends, class_for-class_words_of, class_words_within}
-use Rattle.mk_geom.specs.Storages.{AreLaidOut, IsCell, IsRun, IsStorage, LieApart, Storage, class_of_storage}
-use Rattle.mk_geom.specs.Storages.{first_page, is_small, last_page, stands_on}
+use Rattle.mk_geom.specs.Storages.{AreLaidOut, IsCell, IsRun, IsStorage, LieApart, Storage, class_of_storage, is_small}
+use Rattle.mk_geom.specs.Storages.{stands_on}
 use Rattle.mk_geom.specs.Classes.{class_words_of}
 
 -- a cell lies within a page
 pub cell_within : (s : Storage) → IsCell s → (1 ≤ s.words) × (s.words ≤ 32) × (s.first % 64 + s.words ≤ 64)
-cell_within s cell =
-    let range = class_words_within cell.class cell.known in
-    let ends = cell_ends cell.index (class_words_of cell.class) cell.within in
-    (omega (arith, cell.words), omega (arith, cell.words), omega (arith, cell.words, cell.first))
+cell_within s cell = grind (arith, class_words_within, cell_ends)
 
 pub class_of_words : (s : Storage) (class : ℕ) → class < 8 → s.words ≡ class_words_of class → class_of_storage s ≡ class
 class_of_words s class known words = rw (words, class_for-class_words_of class known) refl
@@ -41,9 +38,7 @@ has_words n s (inr run, inside) = omega (arith, run.words, run.some)
 
 pub stands_parts : (page : ℕ) (s : Storage) → stands_on page s ≡ true
     → (s.first / 64 ≤ page) × (page ≤ (s.first + s.words - 1) / 64)
-stands_parts page s stands =
-    let parts = and_parts (nat_le (first_page s) page) (nat_le page (last_page s)) stands in
-    (leb-true (first_page s) page parts.0, leb-true page (last_page s) parts.1)
+stands_parts page s stands = grind (arith, and_parts, leb-true)
 
 pub stands_from : (page : ℕ) (s : Storage) → s.first / 64 ≤ page → page ≤ (s.first + s.words - 1) / 64
     → stands_on page s ≡ true

@@ -1,12 +1,12 @@
 -- The words of a page, by any storage that stands on it.
-use Rattle.std.proofs.Common.{Contains, List, Some, ℕ, ap, arith, false, inl, inr, le-leb, sym, true, unwrap_or, ◌*◌}
-use Rattle.std.proofs.Common.{◌+◌, ◌-◌, ◌/◌, ◌<◌, ◌∙◌, ◌≡◌}
+use Rattle.std.proofs.Common.{Contains, List, Some, ℕ, ap, arith, false, inl, inr, le-leb, sym, true, ◌*◌, ◌+◌, ◌-◌}
+use Rattle.std.proofs.Common.{◌/◌, ◌<◌, ◌∙◌, ◌≡◌}
 use Rattle.std.proofs.lemmas.Bool.{cond-false, cond-true, false≢true, lt-leb}
 use Rattle.mk_geom.proofs.Standing.{AreAlike, class_of_words, same_or_alike, stands_at_first, stands_from, storage_in}
 use Rattle.mk_geom.proofs.{ClassTable.cell_ends, ClassTable.class_words_within, ListSearch.find_cases}
 use Rattle.mk_geom.specs.Storages.{AreLaidOut, Storage, block_page, class_of_storage, first_page, free_page, is_small}
 use Rattle.mk_geom.specs.Storages.{run_page, stands_on, taken_cells, used_word, words_by, words_of_storages}
-use Rattle.mk_geom.specs.Classes.{cells_of, class_for, class_words_of}
+use Rattle.mk_geom.specs.Classes.{cells_of, class_words_of}
 
 pub words_by_small : (page : ℕ) (xs : List Storage) (s : Storage) → is_small s ≡ true
     → words_by xs page (Some s)
@@ -19,13 +19,7 @@ words_by_large page xs s large = cond-false (is_small s) _ _ large
 
 words_by_alike : (page : ℕ) (xs : List Storage) (s t : Storage) → AreAlike s t
     → words_by xs page (Some s) ≡ words_by xs page (Some t)
-words_by_alike page xs s t alike =
-    words_by_small page xs s alike.small
-    ∙ ap (λ words. block_page (unwrap_or (class_for words) 0) s.leaf
-    (used_word (taken_cells xs page (unwrap_or (class_for words) 0)))) alike.words
-    ∙ ap (λ leaf. block_page (class_of_storage t) leaf (used_word (taken_cells xs page (class_of_storage t))))
-    alike.leaf
-    ∙ sym (words_by_small page xs t alike.small_too)
+words_by_alike page xs s t alike = grind (arith, words_by_small)
 
 -- Any storage on a page says what its words are, and where there is none they are 0.
 pub words_at : (n page : ℕ) (xs : List Storage) (s : Storage) → AreLaidOut n xs → Contains xs s
@@ -68,7 +62,4 @@ module _ (n : ℕ) (xs : List Storage) (s : Storage) (laid : AreLaidOut n xs) (i
 
 pub words_free : (page : ℕ) (xs : List Storage) → ((s : Storage) → Contains xs s → stands_on page s ≡ false)
     → words_of_storages xs page ≡ free_page
-words_free page xs none = elim (find_cases (stands_on page) xs) [
-  | inl (t, found, inside, stands) ↦ absurd (false≢true (sym (none t inside) ∙ stands))
-  | inr (not_found, others) ↦ ap (words_by xs page) not_found
-]
+words_free page xs none = grind (arith, find_cases)

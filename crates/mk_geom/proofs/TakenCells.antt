@@ -1,7 +1,7 @@
 -- The cells of a page that storages take.
-use Rattle.std.proofs.Common.{All, Bool, Contains, List, ℕ, ap, arith, eq-eqb, eqb-true, false, get_or}
-use Rattle.std.proofs.Common.{get_or-set_other, get_or-set_same, inl, inr, le_refl, length, length-set, refl, set, suc}
-use Rattle.std.proofs.Common.{sym, true, ◌*◌, ◌+◌, ◌<◌, ◌==◌, ◌∙◌, ◌≡◌, ◌≢◌, ◌≤◌}
+use Rattle.std.proofs.Common.{All, Bool, Contains, List, ℕ, arith, eq-eqb, eqb-true, false, get_or, get_or-set_other}
+use Rattle.std.proofs.Common.{get_or-set_same, inl, inr, length, length-set, refl, set, sym, true, ◌*◌, ◌+◌, ◌<◌, ◌==◌}
+use Rattle.std.proofs.Common.{◌∙◌, ◌≡◌, ◌≢◌, ◌≤◌}
 use Rattle.std.proofs.lemmas.Bool.{cases_eq, cases_order, false_from_ne_true, false≢true}
 use Rattle.std.proofs.lemmas.List.FromFn.{get_or-map-range_with_len, length-map-range_with_len}
 use Rattle.std.proofs.{lemmas.List.same_lists, lemmas.List.Elements.All-contains, lemmas.Nat.mul-le}
@@ -25,8 +25,7 @@ pub cell_taken_by : (n page class k : ℕ) (xs : List Storage) → class < 8 →
     → (s : Storage) × Contains xs s × (s.first ≡ 64 * page + k * class_words_of class) × (stands_on page s ≡ true)
 cell_taken_by n page class k xs known within each taken =
     let (s, inside, at) = list_any_found (λ (s : Storage). s.first == 64 * page + k * class_words_of class) xs taken in
-    let first : s.first ≡ 64 * page + k * class_words_of class =
-    eqb-true s.first (64 * page + k * class_words_of class) at in
+    let first : s.first ≡ 64 * page + k * class_words_of class = grind (arith, eqb-true) in
     let range = class_words_within class known in
     let ends = cell_ends k (class_words_of class) within in
     (s, inside, first, stands_at_first n s page (All-contains (IsStorage n) xs s each inside) (omega arith))
@@ -38,13 +37,11 @@ cell_taken_from page words k xs s inside first =
     (eq-eqb s.first (64 * page + k * words) first)
 
 pub length-taken_cells : (xs : List Storage) (page class : ℕ) → length (taken_cells xs page class) ≡ cells_of class
-length-taken_cells xs page class = length-map-range_with_len (is_cell_taken xs page (class_words_of class)) 0
-    (cells_of class)
+length-taken_cells xs page class = grind (arith, length-map-range_with_len)
 
 pub get_or-taken_cells : (xs : List Storage) (page class k : ℕ) (d : Bool) → k < cells_of class
     → get_or (taken_cells xs page class) k d ≡ is_cell_taken xs page (class_words_of class) k
-get_or-taken_cells xs page class k d within = get_or-map-range_with_len (is_cell_taken xs page (class_words_of class)) 0
-    (cells_of class) k k d within (omega arith)
+get_or-taken_cells xs page class k d within = grind (arith, get_or-map-range_with_len)
 
 -- the same storages on a page take the same cells
 pub taken_same : (n page class : ℕ) (xs ys : List Storage) → class < 8 → All (IsStorage n) xs → All (IsStorage n) ys
@@ -102,11 +99,7 @@ taken_cells-set page class index xs ys b here others = same_lists _ _ same_lengt
 
 -- two cells of a page begin at one word only if they are one
 pub same_index : (words i j : ℕ) → 1 ≤ words → i * words ≡ j * words → i ≡ j
-same_index words i j some same = elim (cases_order i j) [
-  | inl is ↦ is
-  | inr (inl below) ↦ absurd (omega (arith, mul-le (suc i) words j words below (le_refl words)))
-  | inr (inr above) ↦ absurd (omega (arith, mul-le (suc j) words i words above (le_refl words)))
-]
+same_index words i j some same = grind (arith, cases_order, mul-le)
 
 -- where no storage stands, no cell is taken
 pub none_taken : (n page class : ℕ) (xs : List Storage) → class < 8 → All (IsStorage n) xs

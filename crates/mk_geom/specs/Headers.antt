@@ -1,6 +1,6 @@
 -- Header words: what a page is, in one word. The low 4 bits are the kind, and the rest is a parameter.
 use Rattle.std.specs.Prelude.{ℕ, ◌+◌, ◌-◌, ◌*◌, ◌/◌, ◌%◌, ◌<◌, ◌≤◌, true, false, ◌&&◌, nat_le, ◌==◌, Option, Some, None}
-use Rattle.std.specs.Prelude.{IsSome, if◌then◌else◌}
+use Rattle.std.specs.Prelude.{Bool, IsSome, if◌then◌else◌, not}
 use Rattle.mk_geom.specs.declared.headers.Header.{Header}
 use Rattle.mk_geom.specs.declared.headers.Header.TheVariants.{Free, Block, Run, Later, LeafBlock, LeafRun}
 
@@ -46,3 +46,9 @@ header_of word = header_with (word % 16) (word / 16)
 
 abbrev pub IsHeaderWord : ℕ → Type 0
 IsHeaderWord word = IsSome (header_of word)
+
+-- the page is one of an unmapped run
+abbrev pub is_unmapped_header : Option Header → Bool
+is_unmapped_header (Some (Run count mapped)) = not mapped
+is_unmapped_header (Some (Later distance mapped)) = not mapped
+is_unmapped_header _ = false

@@ -1,7 +1,7 @@
 //! Header words: what a page is, in one word.
 ghost use Rattle.std.specs.Prelude.{◌≡◌, ◌≢◌, Some, IfSome, IfNone};
 ghost use Rattle.mk_geom.specs.declared.headers.Header.{Header};
-ghost use Rattle.mk_geom.specs.Headers.{IsInRange, word_of, header_of};
+ghost use Rattle.mk_geom.specs.Headers.{IsInRange, word_of, header_of, is_unmapped_header};
 
 /// What a page is. Classes are 0 to 7, a run's pages 1 to 64, and a distance counts pages from the
 /// head of the run to this one, 1 to 63. The later pages of a leaf run are those of a mapped run.
@@ -71,5 +71,17 @@ pub fn decode(word: u64) -> Option<Header>
         (13, 0..=7) => Some(Header::LeafBlock(parameter)),
         (14, 1..=64) => Some(Header::LeafRun { pages: parameter }),
         _ => None,
+    }
+}
+
+/// Whether the header word is that of an unmapped run's page. Most have another kind, and nothing else is read of them.
+#[inline(always)]
+pub fn is_unmapped(word: u64) -> bool
+    ensures { result ≡ is_unmapped_header (header_of word) }
+{
+    match word % 16 {
+        11 => matches!(word / 16, 1..=64),
+        12 => matches!(word / 16, 1..=63),
+        _ => false,
     }
 }

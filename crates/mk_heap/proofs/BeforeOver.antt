@@ -7,12 +7,12 @@ use Rattle.mk_laws.proofs.Vocabulary.{phase_of, refl, subst, sym, true, true≢f
 use Rattle.mk_laws.proofs.Vocabulary.{◌∙◌, ◌∷◌, ◌≡◌, ◌≢◌, ◌⊎◌}
 use Rattle.mk_core.specs.{Growing.Grows, Growing.is_same_seat, History.AreEnabledFrom, History.left_from}
 use Rattle.mk_laws.proofs.CyclePhases.{AsksPhase, moves_phase, phase_behind}
-use Rattle.mk_heap.{proofs.MovedHosts.MovesOn, specs.Hosts.HostState, specs.Hosts.IsHost}
+use Rattle.mk_heap.{proofs.MovedHosts.MovesOn, specs.Hosts.HostState, specs.Hosts.IsHost, specs.Hosts.with_joined}
 use Rattle.mk_waiting.proofs.Waiting.{waits_more}
 use Rattle.mk_waiting.specs.Taking.{TakesTurn, Waits, is_take, waits_for}
 use Rattle.mk_words.proofs.Overs.{none_over, over_is_hosts}
 use Rattle.mk_words.specs.Seats.{Has, has_over, is_over}
-use Rattle.mk_words.specs.{States.PassState, States.WordsState, States.event_of, Steps.Makes}
+use Rattle.mk_words.specs.{States.PassState, States.event_of, Steps.Makes}
 
 -- a list that goes on without one
 
@@ -124,14 +124,15 @@ none_by_phase c es h other =
 
 -- So it is for the host: its seat stays its own, and others that are joined say no more.
 
-pub hosts_seat : (h : HostState) (q : PassState) → IsHost h → Has h.pass.seats h.pass.seat → MovesOn h.pass q
+pub hosts_seat : {h : HostState} {q : PassState} → IsHost h → Has h.pass.seats h.pass.seat → MovesOn h.pass q
     → Has q.seats Host
-hosts_seat h q is own v =
+hosts_seat {h} is own v =
     subst (λ (r : PassState). Has r.seats Host) (sym v.is) (subst (λ (s : Seat). Has h.pass.seats s) is.seat own)
 
-pub joined_overs : (h : HostState) (q : PassState) → IsHost h → Has h.pass.seats h.pass.seat → q.table ≡ h.pass.table
-    → IsHistory q.table.config q.seen → Grows h.pass.seats h.pass.seen q.seen → has_over q.seen ≡ has_over h.pass.seen
-joined_overs h q is own table history grows =
+pub joined_overs : {h : HostState} {q : PassState} (p : PassState) → IsHost h → Has h.pass.seats h.pass.seat
+    → q ≡ (with_joined h p q.seen).pass → IsHistory q.table.config q.seen → Grows h.pass.seats h.pass.seen q.seen
+    → has_over q.seen ≡ has_over h.pass.seen
+joined_overs {h} {q} p is own joined history grows =
     others_overs h.pass.table.config h.pass.seats h.pass.seen q.seen
-    (subst (λ (w : WordsState). IsHistory w.config q.seen) table history) grows
+    (subst (λ (x : PassState). IsHistory x.table.config q.seen) joined history) grows
     (subst (λ (s : Seat). Has h.pass.seats s) is.seat own)

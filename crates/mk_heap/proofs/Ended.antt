@@ -60,15 +60,21 @@ counts_told c es f h tidy no_turn rests told =
       full = told.full ∙ is_tidy.full;
     }
 
+-- A host of the table, with all seats home.
+pub record HasAllHome (h : HostState) (w : WordsState) : Type 0 where
+  pub is : IsHost h
+  pub joined : AllAreJoined h
+  pub own : Has h.pass.seats h.pass.seat
+  pub table : h.pass.table ≡ w
+
 -- The report of a heap whose table has ended.
-module _ (h : HostState) (w : WordsState) (is : IsHost h) (joined : AllAreJoined h) (own : Has h.pass.seats h.pass.seat)
-    (table : h.pass.table ≡ w)
+module _ {h : HostState} {w : WordsState} (host : HasAllHome h w)
   where
     pub home : HasAll w.config h.pass.seats
-    home = subst (λ (x : WordsState). HasAll x.config h.pass.seats) table (all_home h is own joined)
+    home = subst (λ (x : WordsState). HasAll x.config h.pass.seats) host.table (all_home host.is host.own host.joined)
 
     all_rest : (s : Seat) → seat_exists h.pass.table.config s ≡ true → Rests (now_of h.pass) s
-    all_rest s exists = is.rests s (all_home h is own joined s exists)
+    all_rest s exists = host.is.rests s (all_home host.is host.own host.joined s exists)
 
     module _ (f : Final) (history : IsHistory h.pass.table.config h.pass.seen)
         (tidy : IsTidy h.pass.table.config h.pass.seen)
@@ -76,7 +82,7 @@ module _ (h : HostState) (w : WordsState) (is : IsHost h) (joined : AllAreJoined
       where
         pub ends_whole : IsWhole (final.config_of f) (final.history_of f)
         ends_whole =
-            subst (λ (c : Config). IsWhole c (final.history_of f)) (ap (λ (x : WordsState). x.config) table
+            subst (λ (c : Config). IsWhole c (final.history_of f)) (ap (λ (x : WordsState). x.config) host.table
             ∙ sym config)
             (subst (λ (es : List Event). IsWhole h.pass.table.config es) (sym seen)
             (record { history = history; tidy = tidy; rests = all_rest }))
@@ -86,8 +92,8 @@ module _ (h : HostState) (w : WordsState) (is : IsHost h) (joined : AllAreJoined
             (report_of f)
         ends_counted told =
             let r : Report = report_of f in
-            subst (λ (c : Config). HasCounts c (final.history_of f) r) (ap (λ (x : WordsState). x.config) table
+            subst (λ (c : Config). HasCounts c (final.history_of f) r) (ap (λ (x : WordsState). x.config) host.table
             ∙ sym config)
             (subst (λ (es : List Event). HasCounts h.pass.table.config es r) (sym seen)
-            (counts_told h.pass.table.config h.pass.seen f history tidy is.no_turn all_rest
-            (subst (λ (x : WordsState). HasTallies (now_of h.pass).words x.config.pages f) (sym table) told)))
+            (counts_told h.pass.table.config h.pass.seen f history tidy host.is.no_turn all_rest
+            (subst (λ (x : WordsState). HasTallies (now_of h.pass).words x.config.pages f) (sym host.table) told)))

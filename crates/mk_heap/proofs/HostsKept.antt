@@ -13,6 +13,15 @@ use Rattle.mk_heap.specs.Hosts.{pass_for, with_caller_made, with_caller_out, wit
 use Rattle.mk_words.proofs.Seats.{has_all, has_either, has_left, only_one, without_keeps, without_less}
 use Rattle.mk_words.specs.{Seats.Has, Seats.HasAll, States.PassState, States.WordsState, States.now_of}
 
+abbrev pub home_host : PassState → ℕ → ℕ → HostState
+home_host p callers markers = record { pass = p; callers = callers; markers = markers }
+
+-- the host with its pass as a call left it
+pub still_host : {p q : PassState} {callers markers : ℕ} → q ≡ p → IsHost (home_host p callers markers)
+    → IsHost (home_host q callers markers)
+still_host {callers} {markers} same is =
+    subst (λ (x : PassState). IsHost (home_host x callers markers)) (sym same) is
+
 all_same : {A : Type 0} (n k : ℕ) (x : A) → get_or (replicate n x) k x ≡ x
 all_same n k x =
     ⊎_elim (λ (t : k < n). get_or-replicate n k x x t)
@@ -35,8 +44,8 @@ first_is_host w =
       markers = λ k le lt. has_all w.config (Marker k) (lt-ltb k 8 lt);
     }
 
-pub caller_made_is_host : (h : HostState) → IsHost h → IsHost (with_caller_made h)
-caller_made_is_host h is =
+pub caller_made_is_host : {h : HostState} → IsHost h → IsHost (with_caller_made h)
+caller_made_is_host {h} is =
     record {
       seat = is.seat;
       no_turn = is.no_turn;
@@ -47,8 +56,8 @@ caller_made_is_host h is =
       markers = λ k le lt. without_keeps (Caller h.callers) h.pass.seats (Marker k) refl (is.markers k le lt);
     }
 
-pub caller_out_is_host : (h : HostState) (k : ℕ) → k < h.callers → IsHost h → IsHost (with_caller_out h k)
-caller_out_is_host h k made is =
+pub caller_out_is_host : {h : HostState} (k : ℕ) → k < h.callers → IsHost h → IsHost (with_caller_out h k)
+caller_out_is_host {h} k made is =
     record {
       seat = is.seat;
       no_turn = is.no_turn;
@@ -58,8 +67,8 @@ caller_out_is_host h k made is =
       markers = λ j le lt. without_keeps (Caller k) h.pass.seats (Marker j) refl (is.markers j le lt);
     }
 
-pub marker_made_is_host : (h : HostState) → IsHost h → IsHost (with_marker_made h)
-marker_made_is_host h is =
+pub marker_made_is_host : {h : HostState} → IsHost h → IsHost (with_marker_made h)
+marker_made_is_host {h} is =
     record {
       seat = is.seat;
       no_turn = is.no_turn;
@@ -70,12 +79,14 @@ marker_made_is_host h is =
           (is.markers k (omega arith) lt);
     }
 
-pub joined_is_host : (h : HostState) (p : PassState) (seen : List Event) → IsHost h → Has h.pass.seats h.pass.seat
-    → IsDone p → p.table ≡ h.pass.table → IsHistory h.pass.table.config seen → Grows h.pass.seats h.pass.seen seen
-    → Grows p.seats p.seen seen → IsHost (with_joined h p seen)
-joined_is_host h p seen is own done table history mine theirs =
+pub joined_is_host : {h : HostState} {p q : PassState} → IsHost h → Has h.pass.seats h.pass.seat → IsDone p
+    → p.table ≡ h.pass.table → q ≡ (with_joined h p q.seen).pass → IsHistory q.table.config q.seen
+    → Grows h.pass.seats h.pass.seen q.seen → Grows p.seats p.seen q.seen → IsHost (record h { pass = q })
+joined_is_host {h} {p} {q} is own done table joined whole mine theirs =
     let c : Config = h.pass.table.config in
-    record {
+    let seen : List Event = q.seen in
+    let history : IsHistory c seen = subst (λ (x : PassState). IsHistory x.table.config q.seen) joined whole in
+    still_host joined (record {
       seat = is.seat;
       no_turn = still_no_turn h.pass.table.id c h.pass.seats h.pass.seen seen history mine
           (subst (λ (s : Seat). Has h.pass.seats s) is.seat own) is.no_turn;
@@ -86,7 +97,7 @@ joined_is_host h p seen is own done table history mine theirs =
           (has_either h.pass.seats p.seats s has);
       callers = λ k le lt. has_left h.pass.seats p.seats (Caller k) (is.callers k le lt);
       markers = λ k le lt. has_left h.pass.seats p.seats (Marker k) (is.markers k le lt);
-    }
+    })
   where
     came : (s : Seat) → Has p.seats s → Rests (left h.pass.table.config p.seen).now s
     came s has =
@@ -95,20 +106,20 @@ joined_is_host h p seen is own done table history mine theirs =
         (subst (λ (x : Seat). Rests (now_of p) x) (sym same) done.rests)
 
 -- Where all are joined, every seat is home.
-pub all_home : (h : HostState) → IsHost h → Has h.pass.seats h.pass.seat → AllAreJoined h
+pub all_home : {h : HostState} → IsHost h → Has h.pass.seats h.pass.seat → AllAreJoined h
     → HasAll h.pass.table.config h.pass.seats
-all_home h is own joined (Caller k) exists =
+all_home {h} is own joined (Caller k) exists =
     ⊎_elim (λ (t : k < h.callers). joined.callers k t)
     (λ (t : h.callers ≤ k). is.callers k t (ltb-true k h.pass.table.config.callers exists)) (cases_lt k h.callers)
-all_home h is own joined (Marker k) exists =
+all_home {h} is own joined (Marker k) exists =
     ⊎_elim (λ (t : k < h.markers). joined.markers k t) (λ (t : h.markers ≤ k). is.markers k t (ltb-true k 8 exists))
     (cases_lt k h.markers)
-all_home h is own joined Host exists = subst (λ (s : Seat). Has h.pass.seats s) is.seat own
+all_home {h} is own joined Host exists = subst (λ (s : Seat). Has h.pass.seats s) is.seat own
 
 -- The next caller has no call in flight.
-pub next_is_idle : (h : HostState) → IsHost h → h.callers < h.pass.table.config.callers
+pub next_is_idle : {h : HostState} → IsHost h → h.callers < h.pass.table.config.callers
     → IsIdleCaller (pass_for h (Caller h.callers))
-next_is_idle h is lt =
+next_is_idle {h} is lt =
     record {
       caller = h.callers;
       seat = refl;
@@ -116,32 +127,28 @@ next_is_idle h is lt =
     }
 
 -- Nor has a caller that was joined.
-pub joined_is_idle : (h : HostState) (k : ℕ) → IsHost h → Has h.pass.seats (Caller k)
+pub joined_is_idle : {h : HostState} (k : ℕ) → IsHost h → Has h.pass.seats (Caller k)
     → IsIdleCaller (pass_for h (Caller k))
-joined_is_idle h k is joined =
+joined_is_idle k is joined =
     record { caller = k; seat = refl; rest = (is.rests (Caller k) joined).call }
 
 -- What a host is whose pass is home.
-
-abbrev pub home_host : PassState → ℕ → ℕ → HostState
-home_host p callers markers = record { pass = p; callers = callers; markers = markers }
 
 pub is_home : (x : Option PassState) (callers markers : ℕ) → IsWholeHost x callers markers → IsSome x
 is_home (Some p) callers markers whole = refl
 is_home None callers markers whole = absurd whole
 
-pub home_is : (x : Option PassState) (p : PassState) (callers markers : ℕ) → x ≡ Some p → IsWholeHost x callers markers
-    → IsHost (home_host p callers markers)
-home_is x p callers markers is whole = subst (λ (y : Option PassState). IsWholeHost y callers markers) is whole
+pub home_is : {x : Option PassState} {p : PassState} {callers markers : ℕ} → x ≡ Some p
+    → IsWholeHost x callers markers → IsHost (home_host p callers markers)
+home_is {callers} {markers} is whole = subst (λ (y : Option PassState). IsWholeHost y callers markers) is whole
 
-pub home_view : (x : Option PassState) (p : PassState) (callers markers : ℕ) (h : HostState) → x ≡ Some p
-    → host_of x callers markers ≡ h
-    → home_host p callers markers ≡ h
-home_view x p callers markers h is view = ap (λ (y : Option PassState). host_of y callers markers) (sym is) ∙ view
+pub home_view : {x : Option PassState} {p : PassState} {callers markers : ℕ} {h : HostState} → x ≡ Some p
+    → host_of x callers markers ≡ h → home_host p callers markers ≡ h
+home_view {callers} {markers} is view = ap (λ (y : Option PassState). host_of y callers markers) (sym is) ∙ view
 
 -- A caller that is in no call is done.
-pub idle_is_done : (p : PassState) → p.seats ≡ p.seat ∷ [] → IsIdleCaller p → IsDone p
-idle_is_done p alone idle =
+pub idle_is_done : {p : PassState} → p.seats ≡ p.seat ∷ [] → IsIdleCaller p → IsDone p
+idle_is_done {p} alone idle =
     record {
       alone = alone;
       rests = record { call = idle.rest; out = ap (λ (s : Seat). marker_at (now_of p) s) idle.seat };

@@ -6,9 +6,9 @@ use Rattle.mk_marker.{proofs.OutMarkers.out_is_outside, specs.Markers.IsMarkers,
 use Rattle.mk_words.specs.States.{PassState, WordsState, now_of}
 
 -- A marker that is out is done.
-pub out_is_done : (p : PassState) → IsHistory p.table.config p.seen → p.seats ≡ p.seat ∷ [] → IsMarkers p → IsOut p
+pub out_is_done : {p : PassState} → IsHistory p.table.config p.seen → p.seats ≡ p.seat ∷ [] → IsMarkers p → IsOut p
     → IsDone p
-out_is_done p h alone of out =
+out_is_done {p} h alone of out =
     record {
       alone = alone;
       rests = record {
@@ -18,13 +18,13 @@ out_is_done p h alone of out =
     }
 
 -- The next marker is out.
-pub next_is_out : (h : HostState) → IsHost h → h.markers < 8 → marker_at (now_of h.pass) (Marker h.markers) ≡ outside
-next_is_out h is lt = (is.rests (Marker h.markers) (is.markers h.markers (omega arith) lt)).out
+pub next_is_out : {h : HostState} → IsHost h → h.markers < 8 → marker_at (now_of h.pass) (Marker h.markers) ≡ outside
+next_is_out {h} is lt = (is.rests (Marker h.markers) (is.markers h.markers (omega arith) lt)).out
 
 -- There are eight markers at most.
-pub few_markers : (h g : HostState) (w v : WordsState) → h ≡ g → w ≡ v → g.markers < v.config.markers
+pub few_markers : {h g : HostState} {w v : WordsState} → h ≡ g → w ≡ v → g.markers < v.config.markers
     → IsWithinLimits w.config → h.markers < 8
-few_markers h g w v same table more limits =
+few_markers {h} {g} {w} {v} same table more limits =
     let least : h.markers < w.config.markers = subst (λ (x : HostState). x.markers < w.config.markers) (sym same)
     (subst (λ (x : WordsState). g.markers < x.config.markers) (sym table) more) in
     let most = limits.markers in

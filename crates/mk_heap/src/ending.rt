@@ -1,5 +1,5 @@
 //! The host's cycles, and the end of a heap.
-ghost use Rattle.std.specs.Prelude.{◌≡◌, None, length, false};
+ghost use Rattle.std.specs.Prelude.{◌≡◌, None, false};
 ghost use Rattle.mk_core.specs.declared.events.Seat.TheVariants as seat;
 ghost use Rattle.mk_core.specs.declared.events.Step.TheVariants as step;
 ghost use Rattle.mk_words.specs.Seats.{Has, HasCallers, has_over};
@@ -30,11 +30,9 @@ impl Host {
     )
         requires one_table { self.old.pass.table ≡ heap.now }
         requires made_for { E.made_for bench.old.engine ≡ heap.now.config.pages }
-        requires book { length bench.old.book ≡ heap.now.config.pages }
         requires joined { CallersAreJoined self.old }
         requires before_over { has_over self.old.pass.seen ≡ false }
         ensures made_for { E.made_for bench.new.engine ≡ E.made_for bench.old.engine }
-        ensures book { length bench.new.book ≡ length bench.old.book }
         ensures bench { IsAtPhase self.old.pass 0 → bench.new ≡ bench.old }
         ensures host { self.new ≡ with_seen self.old self.new.pass.seen }
         ensures over { SaysOver self.old.pass self.new.pass }
@@ -59,10 +57,8 @@ impl Host {
     )
         requires one_table { self.old.pass.table ≡ heap.now }
         requires made_for { E.made_for bench.old.engine ≡ heap.now.config.pages }
-        requires book { length bench.old.book ≡ heap.now.config.pages }
         requires before_over { has_over self.old.pass.seen ≡ false }
         ensures made_for { E.made_for bench.new.engine ≡ E.made_for bench.old.engine }
-        ensures book { length bench.new.book ≡ length bench.old.book }
         ensures host { self.new ≡ with_seen self.old self.new.pass.seen }
         ensures own { Has self.new.pass.seats seat.Host }
         ensures idle { IsAtPhase self.new.pass 0 }
@@ -92,12 +88,10 @@ fn take_idle_turn<E: Engine, R: Threads + Wait + Sync>(
 ) -> Turn
     requires one_table { home.table ≡ words.now }
     requires made_for { E.made_for bench.old.engine ≡ words.now.config.pages }
-    requires book { length bench.old.book ≡ words.now.config.pages }
     requires seat { home.seat ≡ seat.Host }
     requires enabled { IsEnabledTo home (step.Take None) }
     requires before_over { has_over home.seen ≡ false }
     ensures made_for { E.made_for bench.new.engine ≡ E.made_for bench.old.engine }
-    ensures book { length bench.new.book ≡ length bench.old.book }
     ensures bench { HasCallers home.table.config home.seats → IsAtPhase home 0 → bench.new ≡ bench.old }
     ensures takes { TakesIdleTurn home result.pass }
     ensures idle { IsIdleTurn result.pass }

@@ -10,7 +10,7 @@ ghost use Rattle.mk_caller.specs.States.{at_home, IsIdleCaller};
 ghost use Rattle.mk_marker.specs.Markers.{IsMarkers, IsOut};
 ghost use Rattle.mk_turns.specs.Sweeping.{SweepsNothing};
 ghost use Rattle.mk_heap.specs.Hosts.{pass_for, with_caller_made, with_caller_out, with_marker_made, with_joined};
-ghost use Rattle.mk_heap.specs.Hosts.{with_seen};
+ghost use Rattle.mk_heap.specs.Hosts.{with_seen, IsDone};
 ghost use Rattle.mk_heap.specs.Turns.{is_register, TellsWord};
 
 use crate::heaps::Heap;
@@ -106,11 +106,7 @@ impl Host {
         ensures reached { SweepsNothing self.old.pass self.new.pass }
         ensures overs { has_over self.new.pass.seen ≡ has_over self.old.pass.seen }
     {
-        let mut home = take_home(&mut self.pass);
-        home.is_in_order();
-        Words::join(&heap.words, &mut home, pass);
-        home.is_in_order();
-        self.pass = Some(home);
+        self.join(heap, pass);
     }
 
     /// The next marker.
@@ -142,8 +138,22 @@ impl Host {
         ensures reached { SweepsNothing self.old.pass self.new.pass }
         ensures overs { has_over self.new.pass.seen ≡ has_over self.old.pass.seen }
     {
-        let mut home = take_home(&mut self.pass);
         pass.is_in_order();
+        self.join(heap, pass);
+    }
+
+    /// Takes a pass back whose seat rests.
+    fn join(&mut self, heap: &Heap, pass: Pass)
+        requires one_table { self.old.pass.table ≡ heap.now }
+        requires of_table { pass.table ≡ heap.now }
+        requires done { IsDone pass }
+        ensures host { self.new ≡ with_joined self.old pass self.new.pass.seen }
+        ensures own { Grows self.old.pass.seats self.old.pass.seen self.new.pass.seen }
+        ensures came { Grows pass.seats pass.seen self.new.pass.seen }
+        ensures reached { SweepsNothing self.old.pass self.new.pass }
+        ensures overs { has_over self.new.pass.seen ≡ has_over self.old.pass.seen }
+    {
+        let mut home = take_home(&mut self.pass);
         home.is_in_order();
         Words::join(&heap.words, &mut home, pass);
         home.is_in_order();

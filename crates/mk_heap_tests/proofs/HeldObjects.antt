@@ -160,32 +160,31 @@ ready_free on x s t (Err e) r home freed double =
 
 -- The bench is of the table's size still, and for another caller of the table too.
 
-pub may_at : (m b : ℕ) (s t : CallerState) → MayAllocate m b s → t.pass.table ≡ s.pass.table → MayMakeObjects t
-    → MayAllocate m b t
-may_at m b s t may same ready =
+pub may_at : (m : ℕ) (s t : CallerState) → MayAllocate m s → t.pass.table ≡ s.pass.table → MayMakeObjects t
+    → MayAllocate m t
+may_at m s t may same ready =
     let config : t.pass.table.config ≡ s.pass.table.config = ap (λ (w : WordsState). w.config) same in
     record {
       ready = ready;
       ty = subst (λ (c : Config). 0 < length c.types) (sym config) may.ty;
       engine = may.engine ∙ sym (ap (λ (c : Config). c.pages) config);
-      pages = may.pages ∙ sym (ap (λ (c : Config). c.pages) config);
     }
 
-pub may_then : (m b n d : ℕ) (s t : CallerState) → MayAllocate m b s → n ≡ m → d ≡ b
-    → t.pass ≡ record s.pass { seen = t.pass.seen } → MayMakeObjects t → MayAllocate n d t
-may_then m b n d s t may engine pages is ready =
-    let at : MayAllocate m b t = may_at m b s t may (ap (λ (p : PassState). p.table) is) ready in
-    record { ready = ready; ty = at.ty; engine = engine ∙ at.engine; pages = pages ∙ at.pages }
+pub may_then : (m n : ℕ) (s t : CallerState) → MayAllocate m s → n ≡ m
+    → t.pass ≡ record s.pass { seen = t.pass.seen } → MayMakeObjects t → MayAllocate n t
+may_then m n s t may engine is ready =
+    let at : MayAllocate m t = may_at m s t may (ap (λ (p : PassState). p.table) is) ready in
+    record { ready = ready; ty = at.ty; engine = engine ∙ at.engine }
 
 -- A caller whose pass was just handed out is at home.
 pub home_at_first : (h : HostState) (s : CallerState) → s ≡ at_home (pass_for h (Caller h.callers)) → s ≡ at_home s.pass
 home_at_first h s is = is ∙ ap (λ (p : PassState). at_home p) (sym (ap (λ (x : CallerState). x.pass) is))
 
 -- A caller before its first call may make objects.
-pub may_at_first : (w : WordsState) (k made_for book : ℕ) (p : PassState) (s : CallerState) → IsFirstPass w k p
+pub may_at_first : (w : WordsState) (k made_for : ℕ) (p : PassState) (s : CallerState) → IsFirstPass w k p
     → s ≡ at_home p → k < w.config.callers → 0 < length w.config.types → made_for ≡ w.config.pages
-    → book ≡ w.config.pages → MayAllocate made_for book s
-may_at_first w k made_for book p s first is exists ty engine pages =
+    → MayAllocate made_for s
+may_at_first w k made_for p s first is exists ty engine =
     let table : s.pass.table ≡ w = ap (λ (x : CallerState). x.pass.table) is ∙ first.table in
     record {
       ready =
@@ -200,7 +199,6 @@ may_at_first w k made_for book p s first is exists ty engine pages =
           });
       ty = subst (λ (v : WordsState). 0 < length v.config.types) (sym table) ty;
       engine = engine ∙ sym (ap (λ (v : WordsState). v.config.pages) table);
-      pages = pages ∙ sym (ap (λ (v : WordsState). v.config.pages) table);
     }
 
 -- The pass of one that has made objects.

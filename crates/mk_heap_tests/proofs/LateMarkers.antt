@@ -102,24 +102,33 @@ host_may w p host =
     (sym host.seat) (host_may_take p.table.config (now_of p) host.without)
 
 -- The turn that it took for no operation, and its cycle.
-module _ (w : WordsState) (h p q : PassState) (host : IsHostsPass w h) (own : Has h.seats h.seat)
-    (takes : TakesTurn h None p) (fresh : IsFresh p None) (exact : TalliesAreExact p.table.config p.seen)
-    (tidy : TalliesAreTidy p.table.config p.seen) (t : InTurn p) (n : ℕ) (finds : Finds p (Step.Look Word.Phase) n q)
-    (acts : Acts p (Step.Look Word.Phase) q) (history : IsHistory q.table.config q.seen) where
+pub record HasLooked (w : WordsState) (h p : PassState) (n : ℕ) (q : PassState) : Type 0 where
+  pub host : IsHostsPass w h
+  pub own : Has h.seats h.seat
+  pub takes : TakesTurn h None p
+  pub fresh : IsFresh p None
+  pub exact : TalliesAreExact p.table.config p.seen
+  pub tidy : TalliesAreTidy p.table.config p.seen
+  pub turn : InTurn p
+  pub finds : Finds p (Step.Look Word.Phase) n q
+  pub acts : Acts p (Step.Look Word.Phase) q
+
+module _ {w : WordsState} {h p : PassState} {n : ℕ} {q : PassState} (l : HasLooked w h p n q) where
   pub looked_table : q.table ≡ w
   looked_table =
-      ap (λ (x : PassState). x.table) (look_keeps p q t (fresh_free p fresh) acts).call.pass
-      ∙ ap (λ (x : PassState). x.table) (turn_moves h p takes).is ∙ host.table
+      ap (λ (x : PassState). x.table) (look_keeps p q l.turn (fresh_free p l.fresh) l.acts).call.pass
+      ∙ ap (λ (x : PassState). x.table) (turn_moves h p l.takes).is ∙ l.host.table
 
   module _ (none : n % 8 ≡ 1 → ⊥) where
     before : has_over p.seen ≡ false
     before =
-        taken_overs h p takes (subst (λ (s : Seat). Has h.seats s) host.seat own) t.history ∙ host.before_over
+        taken_overs h p l.takes (subst (λ (s : Seat). Has h.seats s) l.host.seat l.own) l.turn.history
+        ∙ l.host.before_over
 
     pub idle : IsIdleTurn q
     idle =
-        looked_idle p q (ap (λ (x : PassState). x.seat) (turn_moves h p takes).is ∙ host.seat) t fresh acts
-        (none_is_on p q n t fresh before finds none) exact tidy
+        looked_idle p q (ap (λ (x : PassState). x.seat) (turn_moves h p l.takes).is ∙ l.host.seat) l.turn l.fresh l.acts
+        (none_is_on p q n l.turn l.fresh before l.finds none) l.exact l.tidy
 
     pub marking : (r : PassState) → BeginsCycle q r → HostIsMarking w r
     marking r begins =
@@ -147,30 +156,38 @@ module _ (w : WordsState) (p : PassState) (m : HostIsMarking w p) (one : w.confi
   may_hold = hold_allowed p t m.free 0 there (ap (λ (s : Seat). is_number_of s 0) m.seat)
       (none_is_held_at p 0 there m.gates)
 
-  module _ (q : PassState) (u : InTurn q) (acts : Acts p (Step.Hold 0) q) (held : is_held (now_of q).words 0 ≡ true)
-    where
-      holds : HoldsGates p q
-      holds = hold_holds p q t m.free u 0 acts
+-- It held the caller's gate.
+pub record HasHeld (w : WordsState) (p q : PassState) : Type 0 where
+  pub marking : HostIsMarking w p
+  pub one : w.config.callers ≡ 1
+  pub turn : InTurn p
+  pub after : InTurn q
+  pub acts : Acts p (Step.Hold 0) q
+  pub held : is_held (now_of q).words 0 ≡ true
 
-      free : IsFreeForCycle q
-      free = held_free p q holds m.free
+module _ {w : WordsState} {p q : PassState} (h : HasHeld w p q) where
+  holds : HoldsGates p q
+  holds = hold_holds p q h.turn h.marking.free h.after 0 h.acts
 
-      pub stop_table : q.table ≡ w
-      stop_table = held_table p q w holds m.table
+  free : IsFreeForCycle q
+  free = held_free p q holds h.marking.free
 
-      pub all_held : others_are_held q.table.config.callers (now_of q).words q.seat ≡ true
-      all_held =
-          let count : q.table.config.callers ≡ 1 = ap (λ (v : WordsState). v.config.callers) stop_table ∙ one in
-          all_held_below q q.table.config.callers
-          (λ j lt. or_true (is_number_of q.seat j) (is_held (now_of q).words j)
-          (subst (λ (i : ℕ). is_held (now_of q).words i ≡ true)
-          (sym (only_zero j q.table.config.callers count lt)) held))
+  pub stop_table : q.table ≡ w
+  stop_table = held_table p q w holds h.marking.table
 
-      pub may_want : IsEnabledTo q Step.Want
-      may_want =
-          let phase : phase_of (now_of q).words ≡ 1 = ap (λ (s : Steady). s.phase) holds.keeps.steady ∙ m.phase in
-          may_act q Step.Want (protocol q u free) u.holds free.decided refl refl all_held
-          (eq-eqb (phase_of (now_of q).words) 1 phase) refl
+  pub all_held : others_are_held q.table.config.callers (now_of q).words q.seat ≡ true
+  all_held =
+      let count : q.table.config.callers ≡ 1 = ap (λ (v : WordsState). v.config.callers) stop_table ∙ h.one in
+      all_held_below q q.table.config.callers
+      (λ j lt. or_true (is_number_of q.seat j) (is_held (now_of q).words j)
+      (subst (λ (i : ℕ). is_held (now_of q).words i ≡ true)
+      (sym (only_zero j q.table.config.callers count lt)) h.held))
+
+  pub may_want : IsEnabledTo q Step.Want
+  may_want =
+      let phase : phase_of (now_of q).words ≡ 1 = ap (λ (s : Steady). s.phase) holds.keeps.steady ∙ h.marking.phase in
+      may_act q Step.Want (protocol q h.after free) h.after.holds free.decided refl refl all_held
+      (eq-eqb (phase_of (now_of q).words) 1 phase) refl
 
 -- The host, after its first marker and its first caller, which has joined the caller.
 pub joined_one : (w : WordsState) (f g h j : HostState) (p : PassState) → f ≡ first_host w → g ≡ with_marker_made f

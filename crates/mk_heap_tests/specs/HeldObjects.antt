@@ -19,12 +19,11 @@ pub record MayMakeObjects (s : CallerState) : Type 0 where
   pub alone : s.pass.seats ≡ Caller number ∷ []
   pub objects : HoldsObjects s.pass
 
--- It may, with a bench that was made for this many pages and has a book of this many, and there is a type.
-pub record MayAllocate (made_for book : ℕ) (s : CallerState) : Type 0 where
+-- It may, with a bench that was made for this many pages, and there is a type.
+pub record MayAllocate (made_for : ℕ) (s : CallerState) : Type 0 where
   pub ready : MayMakeObjects s
   pub ty : 0 < length s.pass.table.config.types
   pub engine : made_for ≡ s.pass.table.config.pages
-  pub pages : book ≡ s.pass.table.config.pages
 
 -- the pass of caller k, with no call in flight, whose registers hold objects
 pub record IsPassOfObjects (w : WordsState) (k : ℕ) (p : PassState) : Type 0 where

@@ -102,7 +102,6 @@ fn mark_beside<E: Engine, R: Threads + Wait + Sync>(
     requires one { words.now.config.callers ≡ 1 }
     requires ty { 0 < length words.now.config.types }
     requires made_for { E.made_for bench.old.engine ≡ words.now.config.pages }
-    requires book { length bench.old.book ≡ words.now.config.pages }
 {
     let mut marker = Marker::new(words, marker);
     if !finds_phase(&mut marker, Phase::None) {

@@ -20,9 +20,9 @@ pub(crate) fn make<E: Engine, R: Threads + Wait + Sync>(
     bench: &mut Bench<E>,
     d: u8,
 ) -> bool
-    requires may { MayAllocate (E.made_for bench.old.engine) (length bench.old.book) caller.old }
+    requires may { MayAllocate (E.made_for bench.old.engine) caller.old }
     requires register { d < 8 }
-    ensures may { MayAllocate (E.made_for bench.new.engine) (length bench.new.book) caller.new }
+    ensures may { MayAllocate (E.made_for bench.new.engine) caller.new }
     ensures same { caller.new.pass ≡ record caller.old.pass { seen = caller.new.pass.seen } }
 {
     new_object(rt, caller, bench, d, 0).is_ok()
@@ -35,9 +35,9 @@ pub(crate) fn free<E: Engine, R: Threads + Wait + Sync>(
     bench: &mut Bench<E>,
     p: u8,
 ) -> Result<Freed, Double>
-    requires may { MayAllocate (E.made_for bench.old.engine) (length bench.old.book) caller.old }
+    requires may { MayAllocate (E.made_for bench.old.engine) caller.old }
     requires register { p < 8 }
-    ensures may { MayAllocate (E.made_for bench.new.engine) (length bench.new.book) caller.new }
+    ensures may { MayAllocate (E.made_for bench.new.engine) caller.new }
     ensures same { caller.new.pass ≡ record caller.old.pass { seen = caller.new.pass.seen } }
 {
     free_object(rt, caller, bench, p)
@@ -49,8 +49,8 @@ pub(crate) fn make_eight<E: Engine, R: Threads + Wait + Sync>(
     caller: &mut Caller,
     bench: &mut Bench<E>,
 ) -> bool
-    requires may { MayAllocate (E.made_for bench.old.engine) (length bench.old.book) caller.old }
-    ensures may { MayAllocate (E.made_for bench.new.engine) (length bench.new.book) caller.new }
+    requires may { MayAllocate (E.made_for bench.old.engine) caller.old }
+    ensures may { MayAllocate (E.made_for bench.new.engine) caller.new }
     ensures same { caller.new.pass ≡ record caller.old.pass { seen = caller.new.pass.seen } }
 {
     let mut all_fit = true;
@@ -66,8 +66,8 @@ pub(crate) fn make_eight_thrice<E: Engine, R: Threads + Wait + Sync>(
     caller: &mut Caller,
     bench: &mut Bench<E>,
 ) -> bool
-    requires may { MayAllocate (E.made_for bench.old.engine) (length bench.old.book) caller.old }
-    ensures may { MayAllocate (E.made_for bench.new.engine) (length bench.new.book) caller.new }
+    requires may { MayAllocate (E.made_for bench.old.engine) caller.old }
+    ensures may { MayAllocate (E.made_for bench.new.engine) caller.new }
     ensures same { caller.new.pass ≡ record caller.old.pass { seen = caller.new.pass.seen } }
 {
     let mut all_fit = true;
@@ -87,8 +87,8 @@ fn free_eight<E: Engine, R: Threads + Wait + Sync>(
     caller: &mut Caller,
     bench: &mut Bench<E>,
 ) -> bool
-    requires may { MayAllocate (E.made_for bench.old.engine) (length bench.old.book) caller.old }
-    ensures may { MayAllocate (E.made_for bench.new.engine) (length bench.new.book) caller.new }
+    requires may { MayAllocate (E.made_for bench.old.engine) caller.old }
+    ensures may { MayAllocate (E.made_for bench.new.engine) caller.new }
     ensures same { caller.new.pass ≡ record caller.old.pass { seen = caller.new.pass.seen } }
 {
     let mut none_due = true;
@@ -116,7 +116,7 @@ fn fill_and_free<E: Engine, R: Threads + Wait + Sync>(
     second: &mut Caller,
     bench: &mut Bench<E>,
 ) -> Answers
-    requires first { MayAllocate (E.made_for bench.old.engine) (length bench.old.book) first.old }
+    requires first { MayAllocate (E.made_for bench.old.engine) first.old }
     requires second { MayMakeObjects second.old }
     requires one_table { second.old.pass.table ≡ first.old.pass.table }
     ensures first { MayMakeObjects first.new }

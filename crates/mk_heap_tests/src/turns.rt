@@ -1,6 +1,6 @@
 //! Calls under the turn, one step at a time: objects are placed until no place is left, and who finds the turn taken,
 //! or its gate held, is told so.
-ghost use Rattle.std.specs.Prelude.{◌≡◌, ◌<◌, length, IfSome, IfOk, false};
+ghost use Rattle.std.specs.Prelude.{◌≡◌, ◌<◌, length, IfSome, false};
 ghost use Rattle.mk_core.specs.Config.{IsWithinLimits};
 ghost use Rattle.mk_core.specs.Order.{host_has_turn};
 ghost use Rattle.mk_core.specs.declared.events.Seat.TheVariants as seat;
@@ -8,7 +8,6 @@ ghost use Rattle.mk_words.specs.States.{now_of};
 ghost use Rattle.mk_heap_tests.specs.Passes.{IsPassFor};
 
 use mk_alloc::place_object;
-use mk_books::Book;
 use mk_core::{Config, Seat};
 use mk_heap::Heap;
 use mk_never::{NoMemory, Op};
@@ -18,13 +17,11 @@ use std::alloc::Global;
 use std::sync::Wait;
 
 /// Places an object of the first type, and gives the turn back. Where there is no place, the turn is dropped.
-fn place<R: Wait>(rt: &R, words: &Words, home: Pass, book: &mut Book) -> Option<Pass>
+fn place<R: Wait>(rt: &R, words: &Words, home: Pass) -> Option<Pass>
     requires pass { IsPassFor words.now 0 home }
     requires exists { 0 < words.now.config.callers }
     requires ty { 0 < length words.now.config.types }
-    requires book { length book.old ≡ words.now.config.pages }
     ensures pass { IfSome result (λ back. IsPassFor words.now 0 back) }
-    ensures book { length book.new ≡ length book.old }
 {
     let op = Op::New {
         d: 0,
@@ -34,7 +31,7 @@ fn place<R: Wait>(rt: &R, words: &Words, home: Pass, book: &mut Book) -> Option<
     home.is_in_order();
     let mut turn = take_turn(rt, words, home, Some(op));
     turn.is_in_order();
-    let placed = place_object(words, &mut turn, book);
+    let placed = place_object(words, &mut turn);
     turn.is_in_order();
     if !placed {
         return None;
@@ -43,15 +40,14 @@ fn place<R: Wait>(rt: &R, words: &Words, home: Pass, book: &mut Book) -> Option<
 }
 
 /// How many objects find a place, up to 100.
-fn place_all<R: Wait>(rt: &R, words: &Words, home: Pass, book: &mut Book) -> u64
+fn place_all<R: Wait>(rt: &R, words: &Words, home: Pass) -> u64
     requires pass { IsPassFor words.now 0 home }
     requires exists { 0 < words.now.config.callers }
     requires ty { 0 < length words.now.config.types }
-    requires book { length book.old ≡ words.now.config.pages }
 {
     let mut pass = home;
     for count in 0..100 {
-        match place(rt, words, pass, book) {
+        match place(rt, words, pass) {
             Some(back) => pass = back,
             None => return count,
         }
@@ -64,12 +60,9 @@ pub(crate) fn places<R: Wait>(rt: &R, alloc: Global, config: &Config) -> Result<
     requires limits { IsWithinLimits config.now }
     requires ty { 0 < length config.now.types }
 {
-    let Ok(mut book) = Book::new(alloc, config.pages) else {
-        return Err(NoMemory);
-    };
     let (heap, mut host) = Heap::new(alloc, config)?;
     let home = host.caller(&heap).finish();
-    Ok(place_all(rt, heap.words(), home, &mut book))
+    Ok(place_all(rt, heap.words(), home))
 }
 
 /// The operation for which turns are taken here.

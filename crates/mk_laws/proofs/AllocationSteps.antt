@@ -3,18 +3,14 @@ use Rattle.std.proofs.Common.{length-append}
 use Rattle.mk_laws.proofs.Vocabulary.{Cell, Config, Flight, LeavesPlaces, List, Moment, Option, PlacedAllocation, Step}
 use Rattle.mk_laws.proofs.Vocabulary.{ℕ, address_of, ap, arith, cases_lt, cell_freed, changed_at, false, freed_leaves}
 use Rattle.mk_laws.proofs.Vocabulary.{freed_released, freed_where_it_stands, fresh_leaves, get_or_past, granted, inl}
-use Rattle.mk_laws.proofs.Vocabulary.{inr, is_release, length, length-map, map, never_granted, no_longer_fresh}
-use Rattle.mk_laws.proofs.Vocabulary.{or_parts, placed_at, pointed_cell, refl, released_leaves, sym, true≢false}
-use Rattle.mk_laws.proofs.Vocabulary.{with_released, [], ◌++◌, ◌<◌, ◌∙◌, ◌∷◌, ◌≡◌}
+use Rattle.mk_laws.proofs.Vocabulary.{inr, is_release, length, length-map, map, no_longer_fresh, or_parts, placed_at}
+use Rattle.mk_laws.proofs.Vocabulary.{pointed_cell, refl, released_leaves, sym, true≢false, with_released, [], ◌++◌}
+use Rattle.mk_laws.proofs.Vocabulary.{◌<◌, ◌∙◌, ◌∷◌, ◌≡◌}
 use Rattle.mk_core.{proofs.ChangedAllocations.earlier_at, specs.Allocations.allocations_by}
 
 -- An unreleased allocation is one of the list.
 pub is_there : (xs : List PlacedAllocation) (i : ℕ) → (placed_at xs i).released ≡ false → i < length xs
-is_there xs i u = elim (cases_lt i (length xs)) [
-  | inl lt ↦ lt
-  | inr past ↦
-      absurd (true≢false (sym (rw (get_or_past xs i never_granted past)) ∙ u))
-]
+is_there xs i u = grind (arith, cases_lt, get_or_past)
 
 -- what a change of each allocation is
 pub record ChangesOne (x : Step) (g : PlacedAllocation → PlacedAllocation) : Type 0 where
@@ -66,12 +62,7 @@ pub data Came (xs ys : List PlacedAllocation) (x : Step) (i : ℕ) : Type 0 wher
 pub came : (xs ys : List PlacedAllocation) (x : Step) (i : ℕ) → AllocationStep xs x ys
     → (placed_at ys i).released ≡ false → Came xs ys x i
 came xs _ x i Leaves u = Stayed u (record { base = refl; ty = refl })
-came xs _ x i (Changes g ch) u =
-    let at = changed_at g xs i ch.places.none in
-    Stayed (ch.was (placed_at xs i) (rw (← at) u)) (record {
-      base = ap (λ (a : PlacedAllocation). a.base) at ∙ ch.places.base (placed_at xs i);
-      ty = ap (λ (a : PlacedAllocation). a.ty) at ∙ ch.places.ty (placed_at xs i);
-    })
+came xs _ x i (Changes g ch) u = grind (arith, changed_at)
 came xs _ x i (Grants a grant) u = elim (cases_lt i (length xs)) [
   | inl lt ↦
       Stayed (rw (← (earlier_at xs a i lt)) u) (of_one_same _ _ (earlier_at xs a i lt))

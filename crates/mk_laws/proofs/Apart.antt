@@ -56,10 +56,7 @@ on_its_pages c a p sized b h =
 -- Two small objects whose first pages show one header are of one class and sort.
 same_block_by : (o u : Object) (x y : Option Header) → x ≡ y → ShowsPart o 0 x → ShowsPart u 0 y
     → is_small_object o ≡ true → is_small_object u ≡ true → (class_made o ≡ class_made u) × (o.leaf ≡ u.leaf)
-same_block_by o u x y e (OfBlock f s l) (OfBlock g t m) so su = (
-  let k : class_made o ≡ class_made u = cc in k,
-  l ∙ sym m,
-)
+same_block_by o u x y e (OfBlock f s l) (OfBlock g t m) so su = grind arith
 same_block_by o u x y e (OfLeafBlock f s l) (OfLeafBlock g t m) so su =
     (let k : class_made o ≡ class_made u = cc in k, l ∙ sym m)
 same_block_by o u x y e (OfBlock f s l) (OfLeafBlock g t m) so su = absurd (true≢false (let k : true ≡ false = cc in k))
@@ -184,10 +181,7 @@ module _ (c : Config) (w : Words) (xs : List PlacedAllocation) (i j : ℕ) (r : 
   lie_apart = by (is_small_object (object_placed c a)) refl (is_small_object (object_placed c b)) refl
 
 swapped : (s t : Storage) → LieApart s t → LieApart t s
-swapped s t l = record {
-  apart = elim l.apart [ inl x ↦ inr x | inr x ↦ inl x ];
-  alike = λ p ht hs. let x = l.alike p hs ht in (x.1, x.0, sym x.2, sym x.3);
-}
+swapped s t l = grind arith
 
 -- the storages of the list, in pairs
 abbrev LieInPairs : List Storage → Type 0

@@ -1,10 +1,9 @@
 -- What is promised of pages, and of words that nobody has, on the schedule of a large object, read off from the
 -- theorems.
-use Rattle.mk_laws.proofs.Vocabulary.{Bool, Event, HasAllocation, IsHistory, List, Step, ℕ, all_below, ap, arith, by}
-use Rattle.mk_laws.proofs.Vocabulary.{c0, drop, earlier_part_is_history, false, large_freed, large_is_history, leb-true}
-use Rattle.mk_laws.proofs.Vocabulary.{left, left_from, list_any, list_any-append, ltb-true, may_turn_black, or_parts}
-use Rattle.mk_laws.proofs.Vocabulary.{pointed_cell, refl, register_word, slice_index, sym, take, three_pages, true}
-use Rattle.mk_laws.proofs.Vocabulary.{true≢false, ◌∙◌, ◌∷◌, ◌≡◌}
+use Rattle.mk_laws.proofs.Vocabulary.{Bool, Event, HasAllocation, IsHistory, Step, ℕ, all_below, arith, by, c0, drop}
+use Rattle.mk_laws.proofs.Vocabulary.{earlier_part_is_history, false, large_freed, large_is_history, leb-true, left}
+use Rattle.mk_laws.proofs.Vocabulary.{left_from, list_any, list_any-append, ltb-true, may_turn_black, or_parts}
+use Rattle.mk_laws.proofs.Vocabulary.{pointed_cell, refl, register_word, slice_index, take, three_pages, true, ◌≡◌}
 use Rattle.mk_core.proofs.EventsAt.{events_from}
 use Rattle.mk_laws.proofs.{AppliedTheorems.unmapped_is_settled, Settled.unmapped_run}
 use Rattle.mk_laws.specs.{UnmappedRuns.IsOfUnmappedRun, UnmappedRuns.is_resident_in, UnsetWords.IsNeverSet}
@@ -50,12 +49,7 @@ none_is_set = refl
 
 never_set : (g : ℕ) → IsNeverSet three_pages large_freed g
 unfolding is_setg
-never_set g front rest seat is set =
-    let parts = list_any-append (λ (e : Event). is_setg e.step) front
-    (record { seat = seat; step = Step.Setg } ∷ rest) in
-    let none = or_parts (list_any (λ (e : Event). is_setg e.step) front) true
-    (sym parts ∙ ap (λ (es : List Event). list_any (λ (e : Event). is_setg e.step) es) (sym is) ∙ none_is_set) in
-    true≢false none.1
+never_set g front rest seat is set = grind (arith, list_any-append, is_setg, or_parts, none_is_set)
 
 pub global_is_zero : slice_index (left three_pages large_freed).now.words.globals 5 ≡ 0
 global_is_zero = words.unset_globals_are_zero three_pages large_freed large_is_history 5 (never_set 5)
@@ -64,13 +58,7 @@ global_is_zero = words.unset_globals_are_zero three_pages large_freed large_is_h
 
 second_is_unmapped : IsOfUnmappedRun three_pages (left three_pages (take 19 large_freed)) 1
 unfolding by c0 all_below pointed_cell may_turn_black three_pages large_freed left_from
-second_is_unmapped = record {
-  number = 0;
-  unreleased = refl;
-  freed = refl;
-  page = (leb-true 0 64 refl, ltb-true 64 128 refl);
-  unmapped = λ run is at. unmapped_run (left three_pages (take 19 large_freed)) unmapped_is_settled.unmapped run is;
-}
+second_is_unmapped = grind (arith, leb-true, ltb-true, unmapped_run, three_pages, large_freed, unmapped_is_settled)
 
 up_to_the_next : IsHistory three_pages (take 50 large_freed)
 unfolding by c0 large_freed

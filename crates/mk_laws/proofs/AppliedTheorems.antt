@@ -2,8 +2,8 @@
 use Rattle.std.proofs.Common.{replicate}
 use Rattle.mk_laws.proofs.Vocabulary.{Answer, DirtyIsOwed, Event, IsGuarded, IsHeaderWord, IsHistory, IsSettled}
 use Rattle.mk_laws.proofs.Vocabulary.{IsWordOf, KeepsTheInvariant, List, NeverState, None, Null, OwesDirty, PageIsDirty}
-use Rattle.mk_laws.proofs.Vocabulary.{PointsWell, Seat, Some, Value, WordOf, World, ℕ, all_below, answers_of, ap}
-use Rattle.mk_laws.proofs.Vocabulary.{append_assoc, arith, asked, bases_of, begun_in_stop, by, c0, calls, calls_from}
+use Rattle.mk_laws.proofs.Vocabulary.{PointsWell, Some, Value, WordOf, World, ℕ, all_below, answers_of, append_assoc}
+use Rattle.mk_laws.proofs.Vocabulary.{arith, asked, bases_of, begun_in_stop, by, c0, calls, calls_from}
 use Rattle.mk_laws.proofs.Vocabulary.{cell_of_allocation, drop, earlier_part_is_history, eqb-false, event_number, false}
 use Rattle.mk_laws.proofs.Vocabulary.{false≢true, free_page, has_bit_of, header_at, inl, is_begin, is_run_gone}
 use Rattle.mk_laws.proofs.Vocabulary.{large_freed, large_is_history, leb-true, left, left_from, ltb-true}
@@ -73,11 +73,7 @@ word_of_target n _ = Null
 pub first_compares_equal : word_at (never_behind pointer_page (take 16 exchanged)) 0 0
     ≡ register_at (never_behind pointer_page (take 16 exchanged)) 0 2
 unfolding by c0 all_below pointed_cell pointer_page exchanged left_from calls_from
-first_compares_equal =
-    let compares =
-    theorems.exchanges_compare pointer_page exchanged exchanged_is_history (take 16 exchanged) (drop 17 exchanged)
-    0 0 0 2 1 refl refl in
-    ap (word_of_target (never_behind pointer_page (take 16 exchanged))) compares.target ∙ compares.answered.0 refl
+first_compares_equal = grind (arith, pointer_page, exchanged, exchanged_is_history, word_of_target)
 
 answered_zero : Some (Answer.Num 0) ≡ Some (Answer.Num 1) → ⊥
 answered_zero h = let no : ◌≡◌ {A = ℕ} 0 1 = cc in omega arith
@@ -86,11 +82,7 @@ pub second_compares_unequal : word_at (never_behind pointer_page (take 24 exchan
     ≡ register_at (never_behind pointer_page (take 24 exchanged)) 0 2 → ⊥
 unfolding by c0 all_below pointed_cell pointer_page exchanged left_from calls_from
 second_compares_unequal same =
-    let compares =
-    theorems.exchanges_compare pointer_page exchanged exchanged_is_history (take 24 exchanged) (drop 25 exchanged)
-    0 0 0 2 1 refl refl in
-    answered_zero (compares.answered.1
-    (sym (ap (word_of_target (never_behind pointer_page (take 24 exchanged))) compares.target) ∙ same))
+    grind (arith, pointer_page, exchanged, exchanged_is_history, answered_zero, word_of_target)
 
 -- Two objects fill a page: each has its used bit, and no word of one is the other's.
 
@@ -100,9 +92,7 @@ third_is_used = (theorems.allocations_stand one_page full_then_reused full_is_hi
 
 pub word_of_the_first_alone : IsWordOf (storage_of one_page (placed_at full.allocations 2)) 10 → ⊥
 unfolding by c0 all_below pointed_cell may_turn_black one_page full_then_reused left_from
-word_of_the_first_alone word =
-    eqb-false 0 2 refl (theorems.allocations_are_disjoint one_page full_then_reused full_is_history 0 2 10 refl refl
-    (leb-true 0 10 refl, ltb-true 10 32 refl) word)
+word_of_the_first_alone word = grind (arith, eqb-false, one_page, full_then_reused, full_is_history, leb-true, ltb-true)
 
 full_is_settled : IsSettled full
 unfolding by c0 all_below pointed_cell may_turn_black one_page full_then_reused left_from
@@ -179,9 +169,7 @@ a_call_owes_dirty = owed_by_one written_is_guarded
 
 pub word_points_well_at_close : word_points_well small.pages (stopped 47).now.words 0 ≡ true
 unfolding left_from all_below pointed_cell begun_in_stop three_objects marked_in_stop
-word_points_well_at_close =
-    (theorems.closes_find_marks_closed small stopped_cycle stopped_is_history (take 47 stopped_cycle)
-    (drop 48 stopped_cycle) Seat.Host refl).words 0 0 refl refl (leb-true 0 0 refl, ltb-true 0 2 refl)
+word_points_well_at_close = grind (arith, small, stopped_cycle, stopped_is_history, leb-true, ltb-true)
 
 closed_is_history : IsHistory small (take 48 stopped_cycle)
 unfolding begun_in_stop three_objects marked_in_stop

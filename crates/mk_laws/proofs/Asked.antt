@@ -1,7 +1,7 @@
 -- What the conditions on gates, phases and markers say.
-use Rattle.mk_laws.proofs.Vocabulary.{Caller, Config, Host, List, Marker, MarkerState, Moment, Seat, Words, ℕ}
-use Rattle.mk_laws.proofs.Vocabulary.{all_below-at, and_parts, arith, eqb-false, eqb-true, false, holder_number, inl}
-use Rattle.mk_laws.proofs.Vocabulary.{inr, is_attending, is_held, is_number_of, ltb-true, nat_lt, none_attends, not}
+use Rattle.mk_laws.proofs.Vocabulary.{Caller, Config, List, MarkerState, Moment, Seat, Words, ℕ, all_below-at}
+use Rattle.mk_laws.proofs.Vocabulary.{and_parts, arith, eqb-false, eqb-true, false, holder_number, inl, inr}
+use Rattle.mk_laws.proofs.Vocabulary.{is_attending, is_held, is_number_of, ltb-true, nat_lt, none_attends, not}
 use Rattle.mk_laws.proofs.Vocabulary.{not-true, or_cases, others_are_held, outside, refl, slice_index, slice_index_or}
 use Rattle.mk_laws.proofs.Vocabulary.{suc, true, zero, [], ◌&&◌, ◌<◌, ◌==◌, ◌||◌, ◌∷◌, ◌≡◌, ◌≢◌, ◌≤◌, ◌⊎◌}
 use Rattle.mk_core.specs.{Moments.none_is_held, StopConditions.may_close}
@@ -25,23 +25,10 @@ others_held c m seat h j lt ne = elim (or_cases _ _
 
 pub other_caller : (c : Config) (seat : Seat) (j : ℕ) → (nat_lt j c.callers && not (is_number_of seat j)) ≡ true
     → (j < c.callers) × (holder_number c seat ≢ j)
-other_caller c seat j h =
-    let lt = ltb-true j c.callers (and_parts _ _ h).0 in
-    (lt, apart c seat j lt (not-true _ (and_parts _ _ h).1))
-  where
-    apart : (c : Config) (seat : Seat) (j : ℕ) → j < c.callers → is_number_of seat j ≡ false → holder_number c seat ≢ j
-    apart c (Caller k) j lt h = eqb-false k j h
-    apart c (Marker k) j lt h = λ e. absurd (omega arith)
-    apart c Host j lt h = λ e. absurd (omega arith)
+other_caller c seat j h = grind (arith, ltb-true, and_parts, not-true, eqb-false)
 
 pub give_phase : (n : ℕ) → ((n == 0) || (n == 1) || (n == 5)) ≡ true → (n ≤ 1) ⊎ (n ≡ 5)
-give_phase n h = elim (or_cases _ (n == 5) h) [
-  | inl a ↦ elim (or_cases (n == 0) (n == 1) a) [
-    | inl b ↦ inl (omega (arith, eqb-true n 0 b))
-    | inr b ↦ inl (omega (arith, eqb-true n 1 b))
-  ]
-  | inr a ↦ inr (eqb-true n 5 a)
-]
+give_phase n h = grind (arith, or_cases, eqb-true)
 
 pub none_at : (xs : List MarkerState) (k : ℕ) → none_attends xs ≡ true
     → is_attending (slice_index_or xs k outside).presence ≡ false

@@ -1,9 +1,8 @@
 -- One event: what stands on the pages after it.
 use Rattle.mk_laws.proofs.Vocabulary.{Bool, Chosen, Config, HasLayout, LayoutStands, Marker, Moment, None, Placing}
 use Rattle.mk_laws.proofs.Vocabulary.{Seat, Some, Step, World, ℕ, ap, arith, cases_Bool, cell_seen, eqb-true, false}
-use Rattle.mk_laws.proofs.Vocabulary.{ground_of, has_place, holder_number, if◌then◌else◌, inl, inr, is_attending}
-use Rattle.mk_laws.proofs.Vocabulary.{is_phase, is_some, marker_at, marker_of, nothing_done, object_now, phase_of, refl}
-use Rattle.mk_laws.proofs.Vocabulary.{sym, true, ◌+◌, ◌-◌, ◌==◌, ◌∙◌, ◌≡◌, ◌⊎◌}
+use Rattle.mk_laws.proofs.Vocabulary.{ground_of, has_place, inl, inr, is_phase, is_some, marker_at, object_now}
+use Rattle.mk_laws.proofs.Vocabulary.{phase_of, refl, sym, true, ◌-◌, ◌==◌, ◌∙◌, ◌≡◌, ◌⊎◌}
 use Rattle.mk_laws.proofs.Basics.{Before, Known, Meets, WorldBehind, actor_of, held_place, is_releasing_behind}
 use Rattle.mk_laws.proofs.Basics.{not_astray, reg_leaves, tally_keeps, view_of}
 use Rattle.mk_laws.proofs.Colours.{AddsMarks, ClearsMarks, Colours, ColourStep, MarksSeen, colour_step}
@@ -15,12 +14,7 @@ use Rattle.mk_laws.proofs.{Dropped.unreleasing, NewPlace.new_was, OrderlyLists.o
 
 releasing_step : (x : Step) (p : ℕ) → AsksPhase x p → (phase_behind x p == 4) ≡ is_releasing_behind x (p == 4)
 releasing_step Step.Begin p asks = ap (λ n. n == 4) (sym asks)
-releasing_step Step.Want p asks = ap (λ n. n == 4) (sym asks)
-releasing_step Step.Close p asks = ap (λ n. n == 4) (sym asks)
-releasing_step Step.Release p asks = refl
-releasing_step Step.End p asks = refl
-releasing_step Step.Over p asks = ap (λ n. n == 4) (sym asks)
-releasing_step _ p asks = refl
+releasing_step x0 p asks = cc
 
 pub phase_kind : (c : Config) (w : World) (seat : Seat) (x : Step) → Meets c w.now seat x
     → is_phase (WorldBehind c w seat x).now.words 4 ≡ is_releasing_behind x (is_phase w.now.words 4)
@@ -31,13 +25,7 @@ phase_kind c w seat x h =
 seen_attends : (c : Config) (m : Moment) (seat : Seat) → Known c m
     → is_some (cell_seen c (marker_at m seat).seen (marker_at m seat).hand) ≡ true
     → (phase_of m.words ≡ 1) ⊎ (phase_of m.words ≡ 2)
-seen_attends c m (Marker k) known some = elim (cases_Bool (is_attending (marker_of m k).presence)) [
-  | inl on ↦ known.orderly.attends k on
-  | inr off ↦
-      let none = (known.orderly.idle k off).seen in
-      let f : false ≡ true = cc (none, some) in
-      cc
-]
+seen_attends c m (Marker k) known some = grind arith
 seen_attends c m _ known some = cc
 
 marks_stay : (c : Config) (m : Moment) (seat : Seat) (y : Colours) → Known c m → phase_of m.words ≡ 4
@@ -66,12 +54,7 @@ releasing_marks c w seat x known h on = by x h on
 turn_kind : (c : Config) (w : World) (seat : Seat) (x : Step) → Meets c w.now seat x
     → has_place (WorldBehind c w seat x).now.seats.holding.placing ≡ true
     → (WorldBehind c w seat x).now.words.turn ≡ w.now.words.turn
-turn_kind c w seat (Step.Take o) h has = by (w.now.words.turn == 0) has
-  where
-    by : (b : Bool) → has_place (if b then nothing_done else w.now.seats.holding).placing ≡ true
-        → (if b then 1 + holder_number c seat else w.now.words.turn) ≡ w.now.words.turn
-    by true has = cc
-    by false has = refl
+turn_kind c w seat (Step.Take o) h has = grind arith
 turn_kind c w seat Step.Reg h has = (reg_leaves c w seat).turn
 turn_kind c w seat (Step.Tally n v) h has = (tally_keeps w.now.words n v).turn
 turn_kind c w seat _ h has = cc

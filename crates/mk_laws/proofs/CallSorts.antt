@@ -33,20 +33,7 @@ flag_is _ a h = refl
 pub call_outside : (o : Op) (s : Stage) → is_call_stage s ≡ true → is_astray (standing_at s o) ≡ false
     → is_under_turn o ≡ false
 call_outside (Op.GetNum q i) Stage.Idle h a = cc
-call_outside (Op.SetNum q i m) Stage.Idle h a = cc
-call_outside (Op.GetPtr d q i) Stage.Idle h a = cc
-call_outside (Op.SetPtr q i p) Stage.Idle h a = cc
-call_outside (Op.CasPtr q i p r) Stage.Idle h a = cc
-call_outside (Op.Lea d q i) Stage.Idle h a = cc
-call_outside (Op.Move d q) Stage.Idle h a = cc
-call_outside (Op.Clear d) Stage.Idle h a = cc
-call_outside (Op.GetGlobal d g) Stage.Idle h a = cc
-call_outside (Op.SetGlobal g p) Stage.Idle h a = cc
-call_outside (Op.Same p q) Stage.Idle h a = cc
-call_outside (Op.IsNull p) Stage.Idle h a = cc
-call_outside (Op.New d ty full) Stage.Idle h a = cc
-call_outside (Op.Free p) Stage.Idle h a = cc
-call_outside _ _ h a = cc
+call_outside x0 x1 h a = grind arith
 
 pub admitted_call : (listed : List ℕ) (n : NeverState) (k : ℕ) (o : Op) (a : Answer) → is_under_turn o ≡ false
     → AreAdmitted listed n (asked (entry_of k o (Some a))) → IsAdmitted listed n k o
@@ -55,12 +42,7 @@ admitted_call listed n k o a out ad = rw (flag_is o a out) at ad.0
 read_admitted : (listed : List ℕ) (n : NeverState) (k : ℕ) (f : Flight) (o : Op) (x : ℕ) → is_under_turn o ≡ false
     → AreAdmitted listed n (asked (entry_of k o (progress_read f o x).answer)) → IsAdmitted listed n k o
 read_admitted listed n k f (Op.GetPtr d q i) x out ad = ad.0
-read_admitted listed n k f o x out ad = admitted_call listed n k o (Answer.Num x) out (by o ad)
-  where
-    by : (o : Op) → AreAdmitted listed n (asked (entry_of k o (progress_read f o x).answer))
-        → AreAdmitted listed n (asked (entry_of k o (Some (Answer.Num x))))
-    by (Op.GetPtr d q i) ad = ad
-    by _ ad = ad
+read_admitted listed n k f o x out ad = grind (arith, admitted_call)
 
 pub literal : (f : Flight) (st : Stage) → f.stage ≡ st → f ≡ flight st f.op f.q f.p f.r f.loaded
 literal f st e = rw e

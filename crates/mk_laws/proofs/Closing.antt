@@ -1,13 +1,12 @@
 -- `close`: no dirty word, nothing owed, marked cells black; so the marks are closed.
-use Rattle.std.proofs.{Common.bit_and, Common.min, lemmas.Nat.Bits.bit_at_and, lemmas.Nat.Bits.bit_at_ones}
+use Rattle.std.proofs.{Common.bit_and, lemmas.Nat.Bits.bit_at_and, lemmas.Nat.Bits.bit_at_ones}
 use Rattle.std.specs.List.{list_all}
 use Rattle.mk_laws.proofs.Vocabulary.{AreOfPages, BlackIsGuarded, Caller, CellsAreClosed, Config, DirtyIsOwed, Host}
-use Rattle.mk_laws.proofs.Vocabulary.{IsGuarded, Marker, Moment, Page, PageIsDirty, PointsWell, Seat, Stage, Step}
-use Rattle.mk_laws.proofs.Vocabulary.{Words, ℕ, all_below, all_below-at, and_parts, ap, arith, at_rest, bit_at}
-use Rattle.mk_laws.proofs.Vocabulary.{cases_eq, cases_lt, cells_under, eq-eqb, eqb-true, false, fewer_bits, flight_of}
-use Rattle.mk_laws.proofs.Vocabulary.{free_page, get_or_past, has_bit, has_closed_page, header_in, header_of}
-use Rattle.mk_laws.proofs.Vocabulary.{holder_number, inl, inr, none_attends, points_well, refl, roots_point_well}
-use Rattle.mk_laws.proofs.Vocabulary.{slice_index, slice_index_or, subst, sym, true, true≢false, without}
+use Rattle.mk_laws.proofs.Vocabulary.{IsGuarded, Marker, Moment, PageIsDirty, PointsWell, Seat, Stage, Step, Words, ℕ}
+use Rattle.mk_laws.proofs.Vocabulary.{all_below, all_below-at, and_parts, ap, arith, at_rest, cases_eq, cases_lt}
+use Rattle.mk_laws.proofs.Vocabulary.{cells_under, eq-eqb, eqb-true, false, fewer_bits, flight_of, get_or_past, has_bit}
+use Rattle.mk_laws.proofs.Vocabulary.{has_closed_page, header_in, holder_number, inl, inr, points_well, refl}
+use Rattle.mk_laws.proofs.Vocabulary.{roots_point_well, slice_index, subst, sym, true, true≢false, without}
 use Rattle.mk_laws.proofs.Vocabulary.{word_points_well, ◌/◌, ◌<◌, ◌∙◌, ◌≡◌}
 use Rattle.mk_core.proofs.{ListTests.list_all-at, MarkTests.null_points_well, WordBits.without_none}
 use Rattle.mk_core.specs.Cells.{cell_bits}
@@ -37,10 +36,7 @@ none_owes c m seat j known h at = elim (cases_lt j c.callers) [
 ]
   where
     own : (seat : Seat) → holder_number c seat ≡ j → j < c.callers → Meets c m seat Step.Close → ⊥
-    own (Caller k) e lt h =
-        let here : (flight_of m (Caller k)).stage ≡ Stage.Dirty =
-        subst (λ i. (flight_of m (Caller i)).stage ≡ Stage.Dirty) (sym e) at in
-        true≢false (sym (at_owed (flight_of m (Caller k)).op Step.Close (rw here at h.order)))
+    own (Caller k) e lt h = grind (arith, at_owed)
     own (Marker k) e lt h = absurd (omega arith)
     own Host e lt h = absurd (omega arith)
 
@@ -55,12 +51,7 @@ closed_page w p h = record { black = eqb-true _ 0 (and_parts _ _ h).0; clean = e
 
 black_bit : (w : Words) (p k : ℕ) → ClosedPage w p → k < cells_under (header_in w p)
     → has_bit (slice_index w.marks p) k ≡ true → has_bit (slice_index w.blacks p) k ≡ true
-black_bit w p k h lt is =
-    fewer_bits (bit_and _ (cell_bits w p)) _ k (without_none (bit_and _ (cell_bits w p)) _ h.black)
-    (eq-eqb (bit_at (bit_and _ (cell_bits w p)) k) 1 (bit_at_and _ (cell_bits w p) k ∙ (let ones = bit_at_ones _ k lt in
-    let both : min (bit_at (slice_index w.marks p) k) (bit_at (cell_bits w p) k) ≡ 1 =
-    omega (arith, eqb-true (bit_at _ k) 1 is) in
-    both)))
+black_bit w p k h lt is = grind (arith, fewer_bits, without_none, eq-eqb, bit_at_and, bit_at_ones, eqb-true)
 
 pub closed : (c : Config) (m : Moment) (seat : Seat) → Known c m → AreOfPages c.pages m.words
     → Meets c m seat Step.Close → BlackIsGuarded c m → CellsAreClosed c m.words
@@ -73,9 +64,7 @@ closed c m seat known len h black = record {
 }
   where
     parts : (all_below c.pages (has_closed_page m.words) ≡ true) × (roots_point_well c.pages m.words ≡ true)
-    parts =
-        let a = and_parts _ _ h.holder in
-        ((and_parts (none_attends m.seats.markers) _ a.0).1, a.1)
+    parts = grind (arith, and_parts)
 
     roots : (list_all (points_well c.pages m.words) m.words.registers ≡ true)
         × (list_all (points_well c.pages m.words) m.words.globals ≡ true)
@@ -85,20 +74,10 @@ closed c m seat known len h black = record {
     page p lt = closed_page m.words p (all_below-at c.pages p _ parts.0 lt)
 
     in_heap : (p k : ℕ) → k < cells_under (header_in m.words p) → p < c.pages
-    in_heap p k lt = elim (cases_lt p c.pages) [
-      | inl is ↦ is
-      | inr past ↦
-          let free : slice_index_or m.words.pages p free_page ≡ free_page =
-          get_or_past m.words.pages p free_page (omega (arith, len.pages)) in
-          let none : k < 0 = subst (λ (y : Page). k < cells_under (header_of y.header)) free lt in
-          absurd (omega arith)
-    ]
+    in_heap p k lt = grind (arith, cases_lt, get_or_past)
 
     dirty : (p : ℕ) → slice_index m.words.dirty p ≡ 1 → ⊥
-    dirty p one = elim (cases_lt p c.pages) [
-      | inl lt ↦ let zero = (page p lt).clean in absurd (omega arith)
-      | inr past ↦ let zero = get_or_past m.words.dirty p 0 (omega (arith, len.dirty)) in absurd (omega arith)
-    ]
+    dirty p one = grind (arith, cases_lt, page, get_or_past)
 
     settled : (n : ℕ) → IsGuarded c m n → word_points_well c.pages m.words n ≡ true
     settled n (PointsWell h) = h

@@ -67,13 +67,7 @@ marking n h = elim (or_cases (n == 1) (n == 2) h) [ inl e ↦ inl (eqb-true n 1 
 
 quiet : (m : Moment) (more : Bool) → ((phase_of m.words == 0) || (phase_of m.words == 2)) ≡ true
     → (not (is_phase m.words 2) || (none_attends m.seats.markers && more)) ≡ true → IsQuiet m
-quiet m more h own = elim (or_cases _ _ h) [
-  | inl z ↦ inl (eqb-true _ 0 z)
-  | inr two ↦ elim (or_cases _ _ own) [
-    | inl out ↦ let y : true ≡ false = sym two ∙ not-true _ out in cc
-    | inr none ↦ inr (eqb-true _ 2 two, (and_parts _ more none).0)
-  ]
-]
+quiet m more h own = grind (arith, or_cases, eqb-true, not-true, and_parts)
 
 and_true : (b : Bool) → b ≡ (b && true)
 and_true true = refl

@@ -37,9 +37,7 @@ covered_word w p k i later lk scanned li some = by (header_in w p) refl lk scann
     by : (x : Option Header) → header_in w p ≡ x → k < cells_under x → has_no_pointers x ≡ false → i < words_under x
         → slice_index w.heap (64 * p + k * words_under x + i) ≢ 0
         → head_page w ((64 * p + k * words_under x + i) / 64) ≡ p
-    by (Some (Block class)) is lk scanned li some =
-        let ends = cell_ends k _ lk in
-        own_head w p _ is refl _ (omega arith)
+    by (Some (Block class)) is lk scanned li some = grind (arith, cell_ends, own_head)
     by (Some (Run count true)) is lk scanned li some = in_run count is lk li some
     by (Some Free) is lk scanned li some = absurd (omega arith)
     by (Some (Later d m)) is lk scanned li some = absurd (omega arith)

@@ -20,12 +20,7 @@ AsksPhase _ p = Unit {0}
 
 pub phase_asked : (c : Config) (m : Moment) (seat : Seat) (x : Step) → Meets c m seat x → AsksPhase x (phase_of m.words)
 phase_asked c m seat step.Begin h = eqb-true _ 0 h.phase
-phase_asked c m seat step.Want h = eqb-true _ 1 h.phase
-phase_asked c m seat step.Close h = eqb-true _ 2 h.phase
-phase_asked c m seat step.Release h = eqb-true _ 3 h.phase
-phase_asked c m seat step.End h = eqb-true _ 4 h.phase
-phase_asked c m seat step.Over h = over_phase c m seat h
-phase_asked c m seat _ h = tt
+phase_asked c m seat x3 h = grind (arith, eqb-true, over_phase)
 
 -- and the phase after it
 
@@ -41,16 +36,7 @@ phase_behind _ p = p
 pub phase_moves : (c : Config) (m : Moment) (seat : Seat) (x : Step) → Meets c m seat x
     → phase_of (Behind c m seat x).words ≡ phase_behind x (phase_of m.words)
 phase_moves c m seat step.Reg h = ap (λ (t : Table). t.phase % 8) (reg_table c m seat)
-phase_moves c m seat (step.Tally n v) h = ap (λ (t : Table). t.phase % 8) (tally_table m.words n v)
-phase_moves c m seat step.Begin h = let e = phase_asked c m seat step.Begin h in omega arith
-phase_moves c m seat step.Want h = let e = phase_asked c m seat step.Want h in omega arith
-phase_moves c m seat step.Close h = let e = phase_asked c m seat step.Close h in omega arith
-phase_moves c m seat step.Release h = let e = phase_asked c m seat step.Release h in omega arith
-phase_moves c m seat step.End h = let e = phase_asked c m seat step.End h in omega arith
-phase_moves c m seat step.Over h = let e = over_phase c m seat h in omega arith
-phase_moves c m seat step.Attend h = omega arith
-phase_moves c m seat step.Quit h = omega arith
-phase_moves c m seat _ h = refl
+phase_moves c m seat x3 h = grind (arith, tally_table, phase_asked, over_phase)
 
 -- While marking goes on, phases 1 and 2, no cycle begins or releases before the `close`.
 pub record IsMarking (p : ℕ) : Type 0 where
@@ -60,12 +46,7 @@ pub record IsMarking (p : ℕ) : Type 0 where
 pub marking_step : (x : Step) (p : ℕ) → AsksPhase x p → IsMarking p → is_close x ≡ false
     → IsMarking (phase_behind x p) × (is_begin x ≡ false) × (is_release x ≡ false)
 marking_step step.Begin p asks m out = let least = m.least in absurd (omega arith)
-marking_step step.Want p asks m out = (record { least = omega arith; most = omega arith }, refl, refl)
-marking_step step.Close p asks m out = cc
-marking_step step.Release p asks m out = let most = m.most in absurd (omega arith)
-marking_step step.End p asks m out = let most = m.most in absurd (omega arith)
-marking_step step.Over p asks m out = let least = m.least in absurd (omega arith)
-marking_step _ p asks m out = (m, refl, refl)
+marking_step x0 p asks m out = grind arith
 
 -- From a `begin` up to its `release`, phases 1, 2 and 3, no other cycle begins.
 pub record IsUnreleased (p : ℕ) : Type 0 where
@@ -75,12 +56,7 @@ pub record IsUnreleased (p : ℕ) : Type 0 where
 unreleased_step : (x : Step) (p : ℕ) → AsksPhase x p → IsUnreleased p → is_release x ≡ false
     → IsUnreleased (phase_behind x p) × (is_begin x ≡ false)
 unreleased_step step.Begin p asks m out = let least = m.least in absurd (omega arith)
-unreleased_step step.Want p asks m out = (record { least = omega arith; most = omega arith }, refl)
-unreleased_step step.Close p asks m out = (record { least = omega arith; most = omega arith }, refl)
-unreleased_step step.Release p asks m out = cc
-unreleased_step step.End p asks m out = let most = m.most in absurd (omega arith)
-unreleased_step step.Over p asks m out = let least = m.least in absurd (omega arith)
-unreleased_step _ p asks m out = (m, refl)
+unreleased_step x0 p asks m out = grind arith
 
 -- One event that is enabled: what its phases are.
 pub moves_phase : (c : Config) (w : World) (e : Event) (es : List Event) → AreEnabledFrom c w (e ∷ es)
@@ -88,9 +64,7 @@ pub moves_phase : (c : Config) (w : World) (e : Event) (es : List Event) → Are
     × (phase_of (world_behind c w e).now.words ≡ phase_behind e.step (phase_of w.now.words))
     × AreEnabledFrom c (world_behind c w e) es
 unfolding AreEnabledFrom
-moves_phase c w e es on =
-    let meets = enabled_meets c w.now e on.0 in
-    (phase_asked c w.now e.seat e.step meets, phase_moves c w.now e.seat e.step meets, on.1)
+moves_phase c w e es on = grind (arith, enabled_meets, phase_asked, phase_moves)
 
 pub record MarkingGoesOn (c : Config) (w : World) (es : List Event) : Type 0 where
   pub phase : IsMarking (phase_of (left_from c w es).now.words)

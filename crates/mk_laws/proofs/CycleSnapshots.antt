@@ -3,13 +3,13 @@ use Rattle.std.proofs.Common.{length-append}
 use Rattle.mk_laws.proofs.Vocabulary.{AreEnabledFrom, AreOfPages, Bool, Cell, Config, Event, IsQuarantined}
 use Rattle.mk_laws.proofs.Vocabulary.{IsWithinLimits, LayoutPremisesFrom, LayoutStands, List, None, Option}
 use Rattle.mk_laws.proofs.Vocabulary.{PlacedAllocation, Seat, Some, StandsInOrder, Step, World, ℕ, access}
-use Rattle.mk_laws.proofs.Vocabulary.{accessed_lengths, ap, arith, cell_freed, enabled_meets, false, false_from_ne_true}
+use Rattle.mk_laws.proofs.Vocabulary.{accessed_lengths, arith, cell_freed, enabled_meets, false, false_from_ne_true}
 use Rattle.mk_laws.proofs.Vocabulary.{first_world, flight_of, freed_cell, freed_where_it_stands, get_or_past, granted}
-use Rattle.mk_laws.proofs.Vocabulary.{has_bit, if◌then◌else◌, inl, inr, is_begin, is_quarantined, left, left_append}
-use Rattle.mk_laws.proofs.Vocabulary.{left_from, length, length-map, list_any, map, never_granted, no_longer_fresh}
-use Rattle.mk_laws.proofs.Vocabulary.{none_freed, not, or_parts, placed_at, refl, slice_index, stands_in, suc, sym}
-use Rattle.mk_laws.proofs.Vocabulary.{true, true≢false, with_released, word_accessed, world_behind, zero, zero_lengths}
-use Rattle.mk_laws.proofs.Vocabulary.{[], ◌&&◌, ◌++◌, ◌∙◌, ◌∷◌, ◌≡◌, ◌≤◌, ◌⊎◌}
+use Rattle.mk_laws.proofs.Vocabulary.{inl, inr, is_begin, is_quarantined, left, left_append, left_from, length}
+use Rattle.mk_laws.proofs.Vocabulary.{length-map, list_any, map, never_granted, no_longer_fresh, none_freed, not}
+use Rattle.mk_laws.proofs.Vocabulary.{or_parts, placed_at, refl, stands_in, suc, sym, true, true≢false, with_released}
+use Rattle.mk_laws.proofs.Vocabulary.{word_accessed, world_behind, zero, zero_lengths, [], ◌&&◌, ◌++◌, ◌∙◌, ◌∷◌, ◌≡◌}
+use Rattle.mk_laws.proofs.Vocabulary.{◌≤◌, ◌⊎◌}
 use Rattle.mk_laws.proofs.Basics.{Before, Known, Meets, WorldBehind, begin_is, freeing_leaves, known_at_first}
 use Rattle.mk_laws.proofs.Basics.{known_behind, releasing_leaves}
 use Rattle.mk_laws.proofs.LayoutHistories.{in_order_at_first, known_before, order_behind}
@@ -40,14 +40,8 @@ freed_flags : (c : Config) (w : World) (cell : Cell) (n i : ℕ) → FreesHere c
     → stands_in w.now.words cell (placed_at w.allocations i) ≡ b
     → is_freed_before (freed_where_it_stands w.now.words (Some cell) (placed_at w.allocations i))
     ≡ is_freed_before (placed_at w.allocations i)
-freed_flags c w cell n i x q u true is =
-    let a : PlacedAllocation = placed_at w.allocations i in
-    let unfreed = false_from_ne_true a.freed (λ f. true≢false (sym (q.shown i u f)
-    ∙ ap (λ (y : Cell). has_bit (slice_index w.now.words.freed y.page) y.index) (x.others i u is) ∙ x.unset)) in
-    ap (λ b. is_freed_before (if b then record a { freed = true; fresh = true } else a)) is ∙ sym (rw unfreed)
-freed_flags c w cell n i x q u false is =
-    let a : PlacedAllocation = placed_at w.allocations i in
-    rw is
+freed_flags c w cell n i x q u true is = grind (arith, false_from_ne_true, is_freed_before)
+freed_flags c w cell n i x q u false is = grind arith
 
 quar_flags : (c : Config) (w : World) (seat : Seat) (p n i : ℕ) → Before c w → Meets c w.now seat (Step.Quar p n)
     → LayoutStands c w → IsQuarantined c w
@@ -73,10 +67,7 @@ flags_step : (c : Config) (w : World) (seat : Seat) (x : Step) (i : ℕ) → Bef
     → (placed_at (WorldBehind c w seat x).allocations i).released ≡ false → FlagsStep w (WorldBehind c w seat x) i
 flags_step c w seat (Step.Quar p n) i b h laid q out u = quar_flags c w seat p n i b h laid q u
 flags_step c w seat Step.Begin i b h laid q out u = absurd (true≢false out)
-flags_step c w seat Step.Grant i b h laid q out u = elim (pushed_new w.allocations _ i) [
-  | inl old ↦ Stays (rw (← old) u) (rw old)
-  | inr new ↦ IsNew new.1 (rw new.0)
-]
+flags_step c w seat Step.Grant i b h laid q out u = grind (arith, pushed_new)
 flags_step c w seat Step.Release i b h laid q out u =
     let x = before_change c _ w.allocations i (releasing_leaves c w.now.words) u in
     Stays x.was (rw x.now)

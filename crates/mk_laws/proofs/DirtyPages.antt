@@ -10,9 +10,8 @@ use Rattle.mk_laws.proofs.Vocabulary.{get_or-set_other, get_or-set_same, get_or_
 use Rattle.mk_laws.proofs.Vocabulary.{is_heap_store, is_release, left, left_from, left_more, length, ltb-true}
 use Rattle.mk_laws.proofs.Vocabulary.{never_behind, onward, page_met, phase_of, placed_at, progress, progress_freed}
 use Rattle.mk_laws.proofs.Vocabulary.{progress_p, progress_q, progress_read, progress_reg, refl, refused, set_past}
-use Rattle.mk_laws.proofs.Vocabulary.{slice_index, slice_set, stage_behind, stage_refused, steps_of, still}
-use Rattle.mk_laws.proofs.Vocabulary.{storage_words, subst, sym, true, true≢false, word_met, [], ◌++◌, ◌==◌, ◌∙◌, ◌∷◌}
-use Rattle.mk_laws.proofs.Vocabulary.{◌≡◌, ◌≢◌, ◌⊎◌}
+use Rattle.mk_laws.proofs.Vocabulary.{slice_index, slice_set, stage_behind, stage_refused, steps_of, still, subst, sym}
+use Rattle.mk_laws.proofs.Vocabulary.{true, true≢false, word_met, [], ◌++◌, ◌==◌, ◌∙◌, ◌∷◌, ◌≡◌, ◌≢◌, ◌⊎◌}
 use Rattle.mk_core.specs.Calls.{first_of}
 use Rattle.mk_laws.proofs.Basics.{Behind, InCall, KeptByEvents, Known, KnownWorld, Meets, Table, WorldBehind, at_first}
 use Rattle.mk_laws.proofs.Basics.{at_its_stage, at_reg, before_it, calls_stand, holds_of_histories, is_astray}
@@ -83,10 +82,7 @@ read_not_dirty f _ n off h = onward_not_dirty f off h
 reg_stays : (f : Flight) (s : Stage) (n : ℕ) → is_storing f.stage ≡ false
     → (progress_reg f s n).flight.stage ≡ Stage.Dirty → (progress_reg f s n).flight ≡ f
 reg_stays f Stage.LoadQ n off h = absurd (q_not_dirty f f.op n off h)
-reg_stays f Stage.LoadP n off h = absurd (p_not_dirty f f.op n off h)
-reg_stays f Stage.LoadR n off h = absurd (onward_not_dirty (record f { r = n }) off h)
-reg_stays f Stage.Store n off h = absurd (onward_not_dirty f off h)
-reg_stays f _ n off h = cc
+reg_stays f x1 n off h = grind (arith, p_not_dirty, onward_not_dirty)
 
 begins_stays : (b : Bool) (f : Flight) (o : Op)
     → (if b then record { flight = begun o; answer = None } else still f).flight.stage ≡ Stage.Dirty
@@ -143,25 +139,7 @@ pub record DirtyStands (c : Config) (w : World) : Type 0 where
 -- An allocation stays but at a `release`.
 allocation_stays : (c : Config) (w : World) (seat : Seat) (x : Step) (p : ℕ) → is_release x ≡ false
     → HasAllocation c w p → HasAllocation c (WorldBehind c w seat x) p
-allocation_stays c w seat x p out a =
-    let put = put_step c w seat x a.number out a.unreleased in
-    let base = put.base in
-    let words : storage_words c (placed_at (WorldBehind c w seat x).allocations a.number)
-    ≡ storage_words c (placed_at w.allocations a.number) = ap (λ ty. storage_words c (record {
-      base = 0;
-      ty = ty;
-      freed = false;
-      fresh = false;
-      released = false;
-    })) put.ty in
-    let of_it = a.of_it in
-    record {
-      number = a.number;
-      unreleased = put.unreleased;
-      word = a.word;
-      of_it = (omega arith, omega arith);
-      page = a.page;
-    }
+allocation_stays c w seat x p out a = grind (arith, put_step)
 
 -- While the marks are closed, up to the `release`, no call owes a mark.
 none_owes : (c : Config) (m : Moment) → Known c m → phase_of m.words ≡ 3 → (k : ℕ)
@@ -239,12 +217,7 @@ was_clean c w seat Step.Close known h d three p = elim (cases_lt p c.pages) [
       let pages = and_parts _ _ (and_parts _ _ h.holder).0 in
       eqb-true _ 0 (and_parts _ (slice_index w.now.words.dirty p == 0) (all_below-at c.pages p _ pages.1 lt)).1
 ]
-was_clean c w seat Step.Begin known h d three p = absurd (omega arith)
-was_clean c w seat Step.Want known h d three p = absurd (omega arith)
-was_clean c w seat Step.Release known h d three p = absurd (omega arith)
-was_clean c w seat Step.End known h d three p = absurd (omega arith)
-was_clean c w seat Step.Over known h d three p = absurd (omega arith)
-was_clean c w seat _ known h d three p = d.clean three p
+was_clean c w seat x3 known h d three p = grind arith
 
 not_closing : (x : Step) (n : ℕ) → is_dirty x ≡ true → phase_behind x n ≡ n
 not_closing Step.Dirty n is = refl
@@ -281,9 +254,7 @@ module _ (c : Config) (w : World) (seat : Seat) (x : Step) (known : KnownWorld c
   }
 
   mark_has : is_dirty x ≡ true → HasAllocation c w (page_met (flight_of w.now seat))
-  mark_has is =
-      let owes = owes_now c w.now seat x h is in
-      subst (λ (s : Seat). HasAllocation c w (page_met (flight_of w.now s))) (sym owes.1) (d.owed owes.0 owes.2)
+  mark_has is = grind (arith, owes_now)
 
   stands_behind : is_release x ≡ false
       → (is_heap_store x ≡ true → IsWordOfMapped c w.allocations (word_met (flight_of w.now seat)))
@@ -322,13 +293,7 @@ Stands c es = DirtyStands c (left c es)
 
 first_stands : (c : Config) → Stands c []
 unfolding left_from
-first_stands c = record {
-  dirty = λ p some. absurd (some (at_first c.pages p 0));
-  owed = λ k at.
-      let bad : Stage.Idle ≡ Stage.Dirty = sym (ap (λ (f : Flight). f.stage) (at_first c.callers k at_rest)) ∙ at in
-      absurd (true≢false (let y : true ≡ false = cc in y));
-  clean = λ three p. at_first c.pages p 0;
-}
+first_stands c = grind (arith, at_first)
 
 -- A store is to a word of a mapped allocation.
 stores_told : (c : Config) (es : List Event) (e : Event) → IsHistory c (es ++ e ∷ []) → is_heap_store e.step ≡ true

@@ -10,19 +10,7 @@ use Rattle.mk_laws.proofs.{Releasing.layout_ended, Serving.Laid}
 -- While the phase isn't releasing, no cell is released, whatever the snapshot, the freed cells and the marks.
 pub unreleasing : (c : Config) (o : Object) (marks other : List ℕ) (t : Ground) (freed snapshot : List ℕ)
     → HasLayout c o false marks t → HasLayout c o false other (record t { freed = freed; snapshot = snapshot })
-unreleasing c o marks other t freed snapshot st = record {
-  scene = let s = st.scene in record {
-    shown = s.shown;
-    apart = s.apart;
-    used = s.used;
-    plot = s.plot;
-    occupied = s.occupied;
-    later = s.later;
-  };
-  gone = st.gone;
-  first = st.first;
-  cells = st.cells;
-}
+unreleasing c o marks other t freed snapshot st = grind arith
 
 -- The freed cells aren't read at all.
 pub refreed : (c : Config) (o : Object) (releasing : Bool) (marks : List ℕ) (t : Ground) (freed : List ℕ)
@@ -72,9 +60,7 @@ dropped c o w p freed n st h =
         → IsClaimed (claims_on c o (ground_of w)) q k
         ⊎ (is_released_in true (slice_set w.now.words.snapshot p n) w.now.words.marks q k ≡ true)
     by q k bit (inl own) = inl own
-    by q k bit (inr r) =
-        let parts = and_parts _ _ r in
-        inr (rw (stays q k bit parts.0) parts.1)
+    by q k bit (inr r) = grind (arith, and_parts, stays)
 
 -- What `end` asks: no cell of a page is left, and one with a header has a used cell at its head.
 pub record IsSettledPage (w : Words) (p : ℕ) : Type 0 where

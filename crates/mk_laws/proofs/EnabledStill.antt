@@ -2,17 +2,17 @@
 use Rattle.std.proofs.lemmas.Nat.{div-mul-add}
 use Rattle.mk_laws.proofs.Vocabulary.{AreOfOthers, Block, Bool, Caller, Cell, Config, Event, Flight, Free, Header, Host}
 use Rattle.mk_laws.proofs.Vocabulary.{Invariant, IsEnabled, IsHistory, IsLeft, IsWordOfMapped, Later, LeafBlock}
-use Rattle.mk_laws.proofs.Vocabulary.{LeafRun, List, Marker, MeetsAll, Moment, NeverState, None, Op, Option, Page}
+use Rattle.mk_laws.proofs.Vocabulary.{LeafRun, List, Marker, MeetsAll, Moment, NeverState, Op, Option, Page}
 use Rattle.mk_laws.proofs.Vocabulary.{PlacedAllocation, Run, Seat, Some, Step, Words, World, ℕ, address_of, and_from}
 use Rattle.mk_laws.proofs.Vocabulary.{ap, arith, cases_Bool, cases_eq, cell_ends, cell_words, cells_of, cells_under}
 use Rattle.mk_laws.proofs.Vocabulary.{class_words_of, comes_next, earlier_part_is_history, enabled_meets, eq-eqb}
-use Rattle.mk_laws.proofs.Vocabulary.{eqb-false, eqb-true, false, first_word, flight_of, gives_back, has_bit}
-use Rattle.mk_laws.proofs.Vocabulary.{has_bit_without, has_gates, has_phase, header_at, header_in, heads_run}
-use Rattle.mk_laws.proofs.Vocabulary.{holder_may, host_has_turn, if◌then◌else◌, inl, inr, is_phase, is_released_cell}
-use Rattle.mk_laws.proofs.Vocabulary.{left, ltb-true, nat_le, nat_lt, ne_eqb, no_bit, not, or_left, or_right}
-use Rattle.mk_laws.proofs.Vocabulary.{page_at_address, phase_of, placed_at, pointed_cell, refl, run_count, slice_index}
-use Rattle.mk_laws.proofs.Vocabulary.{sym, true, true≢false, used_at, word_points, words_are_zero, words_under, [], ◌%◌}
-use Rattle.mk_laws.proofs.Vocabulary.{◌*◌, ◌++◌, ◌+◌, ◌-◌, ◌/◌, ◌<◌, ◌==◌, ◌||◌, ◌∙◌, ◌∷◌, ◌≡◌, ◌≢◌}
+use Rattle.mk_laws.proofs.Vocabulary.{eqb-false, eqb-true, first_word, flight_of, gives_back, has_bit, has_bit_without}
+use Rattle.mk_laws.proofs.Vocabulary.{has_gates, has_phase, header_at, header_in, heads_run, holder_may, host_has_turn}
+use Rattle.mk_laws.proofs.Vocabulary.{inl, inr, is_phase, is_released_cell, left, ltb-true, ne_eqb, no_bit, not}
+use Rattle.mk_laws.proofs.Vocabulary.{or_left, or_right, page_at_address, phase_of, placed_at, pointed_cell, refl}
+use Rattle.mk_laws.proofs.Vocabulary.{run_count, slice_index, sym, true, true≢false, used_at, word_points}
+use Rattle.mk_laws.proofs.Vocabulary.{words_are_zero, words_under, [], ◌%◌, ◌*◌, ◌++◌, ◌+◌, ◌-◌, ◌/◌, ◌<◌, ◌==◌, ◌||◌}
+use Rattle.mk_laws.proofs.Vocabulary.{◌∙◌, ◌∷◌, ◌≡◌, ◌≢◌}
 use Rattle.mk_geom.specs.Addresses.{cell_of_block, cell_under, word_at_address}
 use Rattle.mk_core.{proofs.Conditions.meets_enabled, proofs.PageSteps.gives_back_is, proofs.PageSteps.left_bits}
 use Rattle.mk_core.{proofs.PointedPages.found_under, specs.Order.is_in_order, specs.TurnConditions.are_wiped}
@@ -44,16 +44,7 @@ under_at count w n q y at is =
 -- so a word of a block's cell points into that cell,
 block_word : (class page k i : ℕ) (y : Cell) → i < class_words_of class
     → cell_of_block class page (k * class_words_of class + i) ≡ Some y → y ≡ record { page = page; index = k }
-block_word class page k i y inside is =
-    by (nat_lt (k * class_words_of class + i) (cells_of class * class_words_of class)) is
-  where
-    by : (b : Bool) → (if b then Some
-        (record { page = page; index = (k * class_words_of class + i) / class_words_of class }) else None) ≡ Some y
-        → y ≡ record { page = page; index = k }
-    by true is =
-        let here : record { page = page; index = (k * class_words_of class + i) / class_words_of class } ≡ y = cc in
-        sym here ∙ ap (λ (j : ℕ). record { page = page; index = j }) (div-mul-add k _ i inside)
-    by false is = cc
+block_word class page k i y inside is = grind (arith, div-mul-add)
 
 -- and a word of a run's page into its head.
 
@@ -64,12 +55,7 @@ own_run _ page word y r is = cc
 
 later_run : (d : ℕ) (mapped : Bool) (page word : ℕ) (y : Cell) → cell_under (Later d mapped) page word ≡ Some y
     → y ≡ record { page = page - d; index = 0 }
-later_run d mapped page word y is = by (nat_le d page) is
-  where
-    by : (b : Bool) → (if b then Some (record { page = page - d; index = 0 }) else None) ≡ Some y
-        → y ≡ record { page = page - d; index = 0 }
-    by true is = cc
-    by false is = cc
+later_run d mapped page word y is = grind arith
 
 run_sizes : (h : Header) → heads_run (Some h) ≡ true
     → (cells_under (Some h) ≡ 1) × (words_under (Some h) ≡ 64 * run_count (Some h))
@@ -200,21 +186,14 @@ module _ (c : Config) (w v : World) (n : NeverState) (known : KnownWorld c w) (a
 
 taken_turn : (c : Config) (m : Moment) (seat : Seat) (o : Option Op) → Meets c m seat (Step.Take o) → seat ≢ Host
     → m.words.turn ≢ 1 + c.callers → (Behind c m seat (Step.Take o)).words.turn ≢ 1 + c.callers
-taken_turn c m (Caller k) o h ne out = by (m.words.turn == 0)
-  where
-    by : (b : Bool) → (if b then 1 + k else m.words.turn) ≢ 1 + c.callers
-    by true e = let lt = ltb-true k c.callers h.seat in absurd (omega arith)
-    by false e = out e
+taken_turn c m (Caller k) o h ne out = grind (arith, ltb-true)
 taken_turn c m (Marker k) o h ne out = let kind = h.kind in cc
 taken_turn c m Host o h ne out = absurd (ne refl)
 
 turn_after : (c : Config) (m : Moment) (seat : Seat) (x : Step) → Meets c m seat x → seat ≢ Host
     → m.words.turn ≢ 1 + c.callers → (Behind c m seat x).words.turn ≢ 1 + c.callers
 turn_after c m seat (Step.Take o) h ne out = taken_turn c m seat o h ne out
-turn_after c m seat Step.Give h ne out = λ e. absurd (omega arith)
-turn_after c m seat Step.Reg h ne out = λ e. out (sym (reg_keeps m.words _ _ _).turn ∙ e)
-turn_after c m seat (Step.Tally n v) h ne out = λ e. out (sym (tally_keeps m.words n v).turn ∙ e)
-turn_after c m seat _ h ne out = out
+turn_after c m seat x3 h ne out = grind (arith, reg_keeps, tally_keeps)
 
 host_stays_out : (c : Config) (es more : List Event) → IsHistory c (es ++ more) → AreOfOthers (Host ∷ []) more
     → (left c es).now.words.turn ≢ 1 + c.callers → (left c (es ++ more)).now.words.turn ≢ 1 + c.callers
@@ -246,12 +225,7 @@ module _ (c : Config) (es more : List Event) (e : Event) (h : IsHistory c (es ++
   left_to = others_leave c es more e.seat h.within_limits h.enabled others
 
   host_same : e.seat ≡ Host → host_has_turn c v.now ≡ host_has_turn c w.now
-  host_same is = elim (cases_Bool (host_has_turn c w.now)) [
-    | inl on ↦
-        let turn = rw is at left_to in
-        eq-eqb _ _ (turn.own.holding (eqb-true _ _ on)).0 ∙ sym on
-    | inr off ↦ ne_eqb _ _ (host_stays_out c es more h (rw is at others) (eqb-false _ _ off)) ∙ sym off
-  ]
+  host_same is = grind (arith, left_to, eq-eqb, eqb-true, ne_eqb, host_stays_out, eqb-false)
 
   -- what is asked of the turn's holder alone
   record AsksStill : Type 0 where

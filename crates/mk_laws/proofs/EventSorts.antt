@@ -251,10 +251,7 @@ module _ (c : Config) (w : World) (n : NeverState) (known : KnownWorld c w) (mir
       either_held false b e g = absurd (false≢true e)
 
   grant_phase : (p : ℕ) → ((p == 0) || (p == 1)) ≡ true → p ≢ 4
-  grant_phase p h = elim (or_cases (p == 0) (p == 1) h) [
-    | inl e ↦ λ x. absurd (let y = eqb-true p 0 e in omega (arith, x, y))
-    | inr e ↦ λ x. absurd (let y = eqb-true p 1 e in omega (arith, x, y))
-  ]
+  grant_phase p h = grind (arith, or_cases, eqb-true)
 
   caller_goes : (k : ℕ) (x : Step) → MeetsOf c w (Caller k) x → AdmittedOf c w n (record { seat = Caller k; step = x })
       → Goes c w n safe (record { seat = Caller k; step = x })

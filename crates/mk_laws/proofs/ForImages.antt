@@ -2,10 +2,10 @@
 use Rattle.mk_laws.proofs.Vocabulary.{Among, AreApart, Bool, Caller, Cell, Claim, Config, Flight, HasHeader, HasZeros}
 use Rattle.mk_laws.proofs.Vocabulary.{ImagePremises, IsClaimedRun, IsOfOneCell, IsPlaceOfNone, IsQuarantined, IsShown}
 use Rattle.mk_laws.proofs.Vocabulary.{LayoutStands, List, MarksAreClosed, None, Object, Option, Place, PlacedAllocation}
-use Rattle.mk_laws.proofs.Vocabulary.{Placing, RunPages, RunStands, Some, Unmapping, Used, World, ℕ, address_of}
-use Rattle.mk_laws.proofs.Vocabulary.{all_below, all_below_more_is, all_below_zero_is, and_parts, ap, arith, base_made}
-use Rattle.mk_laws.proofs.Vocabulary.{cases_Bool, cell_of_allocation, cells_made, claim_of, claims_of, claims_placed}
-use Rattle.mk_laws.proofs.Vocabulary.{eq-eqb, eqb-true, false, flight_of, granted, granted_base_is, granted_object}
+use Rattle.mk_laws.proofs.Vocabulary.{RunPages, RunStands, Some, Unmapping, Used, World, ℕ, address_of, all_below}
+use Rattle.mk_laws.proofs.Vocabulary.{all_below_more_is, all_below_zero_is, and_parts, ap, arith, base_made, cases_Bool}
+use Rattle.mk_laws.proofs.Vocabulary.{cell_of_allocation, cells_made, claim_of, claims_of, claims_placed, eq-eqb}
+use Rattle.mk_laws.proofs.Vocabulary.{eqb-true, false, flight_of, granted, granted_base_is, granted_object}
 use Rattle.mk_laws.proofs.Vocabulary.{granted_type, ground_of, has_bit_without, header_at, header_made, inl, inr}
 use Rattle.mk_laws.proofs.Vocabulary.{is_large, is_mapped, is_phase, is_released_cell, is_released_in, is_small_object}
 use Rattle.mk_laws.proofs.Vocabulary.{is_undecided_new, is_unmapping, kinds_of, large_is_not_small, layout_scene_of}
@@ -50,9 +50,7 @@ numbers_apart c run (x ∷ xs) i j apart u v same =
     by (inr t) (suc m) zero u v same rest =
         let ap2 : AreApart (claim_of c run x ∷ claims_of c run xs) = rw (front c run x xs t) at apart in
         absurd (ap2.0 _ (claim_among c run xs m u) (sym same.0, sym same.1))
-    by (inr t) (suc m) (suc n) u v same rest =
-        let ap2 : AreApart (claim_of c run x ∷ claims_of c run xs) = rw (front c run x xs t) at apart in
-        rw (rest ap2.1 m n u v same)
+    by (inr t) (suc m) (suc n) u v same rest = grind (arith, front)
 
 -- A large allocation that is freed isn't mapped.
 pub gone_is : (c : Config) (a : PlacedAllocation) → a.released ≡ false
@@ -77,12 +75,7 @@ mode_unmapping false going e = cc
 -- What is left of a snapshot's cells is released while the phase is releasing.
 pub released_is : (w : World) (cell : Cell) → is_released_cell w.now.words cell
     ≡ is_released_in (is_phase w.now.words 4) w.now.words.snapshot w.now.words.marks cell.page cell.index
-released_is w cell =
-    by (is_phase w.now.words 4) _ _ _ (has_bit_without _ _ cell.index)
-  where
-    by : (b x y z : Bool) → x ≡ (y && not z) → (b && x) ≡ (b && y && not z)
-    by true x y z e = e
-    by false x y z e = refl
+released_is w cell = grind (arith, has_bit_without)
 
 module _ (c : Config) (w : World) (known : KnownWorld c w) (laid : LayoutStands c w) where
   abbrev xs : List PlacedAllocation
@@ -160,22 +153,7 @@ module _ (c : Config) (w : World) (known : KnownWorld c w) (laid : LayoutStands 
       ]
 
   pub laid_out : (i : ℕ) → (placed_at xs i).released ≡ false → images.IsLaidOut c w.now.words run (placed_at xs i)
-  laid_out i u =
-      let a : PlacedAllocation = placed_at xs i in
-      let gone : is_mapped c a ≡ not (a.freed && not (is_small_object (object_placed c a))) = gone_is c a u in
-      record {
-        stands = (standing i u).stands;
-        headers = (standing i u).headers;
-        mapped = λ m d lt. mode_mapped _ _ (object_placed c a) d _ (sym gone ∙ m) ((shown_claim i u).headers d lt);
-        unmapped = λ m other d lt.
-            let off : not (a.freed && not (is_small_object (object_placed c a))) ≡ false = sym gone ∙ m in
-            mode_unmapped _ _ (object_placed c a) d _ off (not_going i u (large_of (a.freed) _ off) other)
-            ((shown_claim i u).headers d lt);
-      }
-    where
-      large_of : (x y : Bool) → not (x && not y) ≡ false → y ≡ false
-      large_of true true e = cc
-      large_of _ _ e = cc
+  laid_out i u = grind (arith, xs, gone_is, standing, mode_mapped, shown_claim, mode_unmapped, not_going)
 
   -- The place of an undecided New
 
@@ -202,9 +180,7 @@ module _ (c : Config) (w : World) (known : KnownWorld c w) (laid : LayoutStands 
       let cells : cell_of_allocation c a ≡ cell_of_allocation c b = cc in
       let at = place_index c b place (typed_size c b known.limits typed) base cell in
       let among : Among (place_claim (object_now c w.now) place)
-      (claims_placed (object_now c w.now) w.now.seats.holding.placing) =
-      subst (λ (x : Placing). Among (place_claim (object_now c w.now) place) (claims_placed (object_now c w.now) x))
-      (sym is) (inl refl) in
+      (claims_placed (object_now c w.now) w.now.seats.holding.placing) = grind arith in
       let page : a.base / 64 ≡ place.page = ap (λ (x : Cell). x.page) cells ∙ at.0 in
       let index : (cell_of_allocation c a).index ≡ place.index = ap (λ (x : Cell). x.index) cells ∙ at.1 in
       apart_across _ _ _ _ laid.scene.apart (claim_among c run xs i u) among (page, index)
@@ -218,9 +194,7 @@ module _ (c : Config) (w : World) (known : KnownWorld c w) (laid : LayoutStands 
       let object : object_now c w.now ≡ o =
       holding_object c w.now (Caller k) known.now (new_has_turn c w.now (Caller k) (lt-ltb k c.callers lt) new) in
       let among : Among (place_claim (object_now c w.now) place)
-      (claims_placed (object_now c w.now) w.now.seats.holding.placing) =
-      subst (λ (x : Placing). Among (place_claim (object_now c w.now) place) (claims_placed (object_now c w.now) x))
-      (sym is) (inl refl) in
+      (claims_placed (object_now c w.now) w.now.seats.holding.placing) = grind arith in
       let shown : IsShown w.now.words.pages (place_claim o place) =
       subst (λ (u : Object). IsShown w.now.words.pages (place_claim u place)) object
       (laid.scene.shown (place_claim (object_now c w.now) place)

@@ -2,8 +2,8 @@
 use Rattle.std.proofs.{Common.option_and_then, Math.Bool.or-true, lemmas.Nat.Bits.bit_at_ones}
 use Rattle.mk_laws.proofs.Vocabulary.{Bool, Cell, Config, Flight, GuardPremises, Header, HeaderGoesOn, HeadStep}
 use Rattle.mk_laws.proofs.Vocabulary.{IsMarking, IsSized, IsWithinLimits, ItCarves, ItEmpties, ItUnmaps, None, Object}
-use Rattle.mk_laws.proofs.Vocabulary.{OfBlock, OfLater, OfLeafBlock, OfLeafRun, OfRun, Op, Option, Place, RunPages}
-use Rattle.mk_laws.proofs.Vocabulary.{Seat, ShowsPart, Some, Step, Words, World, ℕ, and_parts, ap, arith, cases_Bool}
+use Rattle.mk_laws.proofs.Vocabulary.{OfBlock, OfLater, OfLeafBlock, OfLeafRun, OfRun, Option, Place, RunPages, Seat}
+use Rattle.mk_laws.proofs.Vocabulary.{ShowsPart, Some, Step, Words, World, ℕ, and_parts, ap, arith, cases_Bool}
 use Rattle.mk_laws.proofs.Vocabulary.{cases_eq, cell_at, cell_ends, cells_made, cells_of, cells_under, class_known}
 use Rattle.mk_laws.proofs.Vocabulary.{class_made, class_words_of, cond-false, cond-true, eq-eqb, eqb-true, false}
 use Rattle.mk_laws.proofs.Vocabulary.{fewer_bits, flight_of, has_bit, has_operands, head_step, header_at, header_in}
@@ -13,13 +13,12 @@ use Rattle.mk_laws.proofs.Vocabulary.{large_cells, large_count, large_words, lat
 use Rattle.mk_laws.proofs.Vocabulary.{nat_le, not-true, object_made, or_cases, page_at_address, pages_made, part_cells}
 use Rattle.mk_laws.proofs.Vocabulary.{part_head, part_not_free, part_words, phase_of, place_now, placed_now, refl}
 use Rattle.mk_laws.proofs.Vocabulary.{slice_index, small_cells, small_pages, small_words, subst, sym, true, true≢false}
-use Rattle.mk_laws.proofs.Vocabulary.{undecided_new, unmapped_header, unmapped_is_unmapped, words_made, words_under, []}
+use Rattle.mk_laws.proofs.Vocabulary.{undecided_new, unmapped_header, unmapped_is_unmapped, words_made, words_under}
 use Rattle.mk_laws.proofs.Vocabulary.{◌*◌, ◌+◌, ◌-◌, ◌<◌, ◌==◌, ◌||◌, ◌∙◌, ◌≡◌, ◌⊎◌}
 use Rattle.mk_geom.{proofs.ClassTable.some_cells, specs.Addresses.cell_under, specs.Addresses.word_at_address}
-use Rattle.mk_core.proofs.ObjectHeaders.{same_cells, same_words}
-use Rattle.mk_core.proofs.PointedPages.{found_under, lies_under}
-use Rattle.mk_core.proofs.{PageSteps.Unmaps, PlacesNow.NewAtTurn, ServingSteps.Carves, WordBits.without_none}
-use Rattle.mk_core.specs.{Calls.has_type, NewPlaces.bits_made}
+use Rattle.mk_core.{proofs.ObjectHeaders.same_cells, proofs.ObjectHeaders.same_words, proofs.PageSteps.Unmaps}
+use Rattle.mk_core.{proofs.PointedPages.found_under, proofs.PointedPages.lies_under, proofs.ServingSteps.Carves}
+use Rattle.mk_core.{proofs.WordBits.without_none, specs.NewPlaces.bits_made}
 use Rattle.mk_laws.proofs.Basics.{Known, Meets, either_phase, new_holds}
 use Rattle.mk_laws.proofs.Headers.{Carved, HeadFinds, Unmapped}
 use Rattle.mk_laws.specs.Kept.{PlaceIsBare, RunHasObject}
@@ -30,10 +29,7 @@ abbrev run_cell : ℕ → ℕ → Option Cell
 run_cell distance page = if nat_le distance page then Some (record { page = page - distance; index = 0 }) else None
 
 first_cell : (distance page : ℕ) → distance ≡ 0 → Some (record { page = page; index = 0 }) ≡ run_cell distance page
-first_cell distance page z =
-    let here : page ≡ page - distance = omega arith in
-    ap (λ (p : ℕ). Some (record { page = p; index = 0 })) here
-    ∙ sym (cond-true _ (Some (record { page = page - distance; index = 0 })) None (le-leb distance page (omega arith)))
+first_cell distance page z = grind (arith, cond-true, le-leb)
 
 run_cell_under : (o : Object) (distance page word : ℕ) (x : Option Header) → ShowsPart o distance x
     → is_small_object o ≡ false → option_and_then (λ h. cell_under h page word) x ≡ run_cell distance page
@@ -161,10 +157,7 @@ made_cell pages o first distance value x sized lt on is = (page, index)
 
 first_marked : (w : Words) (o : Object) (place : Place) (k : ℕ) → is_phase w 1 ≡ true → is_marked_first w o place ≡ true
     → k < cells_made o → has_bit (slice_index w.marks place.page) k ≡ true
-first_marked w o place k one first lt = elim (or_cases _ _ first) [
-  | inl out ↦ absurd (true≢false (sym one ∙ not-true (is_phase w 1) out))
-  | inr none ↦ fewer_bits (bits_made o) _ k (without_none (bits_made o) _ (eqb-true _ 0 none)) (made_bit o k lt)
-]
+first_marked w o place k one first lt = grind (arith, or_cases, not-true, fewer_bits, without_none, eqb-true, made_bit)
 
 -- Its words are those of its pages.
 word_within : (o : Object) (k i : ℕ) → IsSized o → k < cells_made o → i < words_made o
@@ -236,20 +229,12 @@ carves_find c w o found p n sized one bare k = Carved free (λ v x on is.
 -- The object of an undecided New has 1 to 4,096 words.
 new_sized : (c : Config) (f : Flight) → IsWithinLimits c → has_operands c f.op ≡ true → is_undecided_new f ≡ true
     → IsSized (object_made c f.op)
-new_sized c f limits operands new = by f.op (undecided_new f new) operands
-  where
-    by : (o : Op) → NewAtTurn f.stage o → has_operands c o ≡ true → IsSized (object_made c o)
-    by o at operands =
-        subst (λ (x : Op). IsSized (object_made c x)) (sym at.op) (limits.types at.ty []
-        (ltb-true at.ty _ (subst (λ (x : Op). has_type c x ≡ true) at.op (and_parts _ (has_type c o) operands).1))).0
+new_sized c f limits operands new = grind (arith, undecided_new, ltb-true, and_parts)
 
 -- While a cycle marks, a `head` comes before the stop is wanted.
 marking_phase : (n : ℕ) → ((n == 0) || (n == 1) || (n == 4)) ≡ true → (n ≡ 1) ⊎ (n ≡ 2) → n ≡ 1
 marking_phase n h (inl e) = e
-marking_phase n h (inr two) = elim (or_cases _ (n == 4) h) [
-  | inl a ↦ elim (either_phase n 0 1 a) [ inl e ↦ absurd (omega arith) | inr e ↦ absurd (omega arith) ]
-  | inr e ↦ let z = eqb-true n 4 e in absurd (omega arith)
-]
+marking_phase n h (inr two) = grind (arith, or_cases, either_phase, eqb-true)
 
 pub head_finds : (c : Config) (w : World) (seat : Seat) (p n : ℕ) → IsWithinLimits c → Known c w.now
     → IsMarking w.now.words → GuardPremises c w → Meets c w.now seat (Step.Head p n) → HeadFinds c.pages w.now.words p n

@@ -1,38 +1,28 @@
 -- The words of a cell in which no unreleased allocation stands, and those after a page's cells, are of none.
 use Rattle.std.proofs.{Common.le_refl, lemmas.Bool.cases_order}
-use Rattle.mk_laws.proofs.Vocabulary.{BeginsAtCell, Block, Bool, Cell, Config, Free, Header, Invariant, IsSized}
-use Rattle.mk_laws.proofs.Vocabulary.{IsTaken, Later, LeafBlock, LeafRun, Leaves, NeverState, None, Object, OfBlock}
-use Rattle.mk_laws.proofs.Vocabulary.{OfHistories, OfLeafBlock, OfRun, Option, PlacedAllocation, Run, ShowsPart, Some}
-use Rattle.mk_laws.proofs.Vocabulary.{Words, World, ℕ, all_below_more_is, all_below_zero_is, and_from, ap, arith}
-use Rattle.mk_laws.proofs.Vocabulary.{cases_eq, cell_ends, cell_words, cells_of, cells_under, class_made}
-use Rattle.mk_laws.proofs.Vocabulary.{class_words_of, eq-eqb, first_word, header_at, header_in, header_shows, heads_run}
-use Rattle.mk_laws.proofs.Vocabulary.{inl, inr, is_small_object, later_cells, mul-le, not, object_placed, pages_made}
-use Rattle.mk_laws.proofs.Vocabulary.{part_not_free, part_words, phase_of, placed_at, refl, run_begins, run_count}
-use Rattle.mk_laws.proofs.Vocabulary.{shown_later, slice_index, small_cells, small_words, subst, suc, sym, true}
-use Rattle.mk_laws.proofs.Vocabulary.{typed_size, words_are_zero, words_made, words_under, zero, ◌%◌, ◌*◌, ◌+◌, ◌-◌}
-use Rattle.mk_laws.proofs.Vocabulary.{◌/◌, ◌<◌, ◌==◌, ◌∙◌, ◌≡◌, ◌≢◌, ◌≤◌, ◌⊎◌}
+use Rattle.mk_laws.proofs.Vocabulary.{BeginsAtCell, Bool, Cell, Config, Free, Header, Invariant, IsSized, IsTaken}
+use Rattle.mk_laws.proofs.Vocabulary.{Later, Leaves, NeverState, Object, OfBlock, OfHistories, OfLeafBlock, OfRun}
+use Rattle.mk_laws.proofs.Vocabulary.{Option, PlacedAllocation, ShowsPart, Some, Words, World, ℕ, all_below_more_is}
+use Rattle.mk_laws.proofs.Vocabulary.{all_below_zero_is, and_from, ap, arith, cases_eq, cell_ends, cell_words, cells_of}
+use Rattle.mk_laws.proofs.Vocabulary.{cells_under, class_made, class_words_of, eq-eqb, first_word, header_at, header_in}
+use Rattle.mk_laws.proofs.Vocabulary.{header_shows, heads_run, inl, inr, is_small_object, later_cells, mul-le}
+use Rattle.mk_laws.proofs.Vocabulary.{object_placed, pages_made, part_not_free, part_words, phase_of, placed_at}
+use Rattle.mk_laws.proofs.Vocabulary.{run_begins, run_count, shown_later, slice_index, small_cells, small_words, subst}
+use Rattle.mk_laws.proofs.Vocabulary.{suc, sym, true, typed_size, words_are_zero, words_made, words_under, zero, ◌%◌}
+use Rattle.mk_laws.proofs.Vocabulary.{◌*◌, ◌+◌, ◌-◌, ◌/◌, ◌<◌, ◌==◌, ◌∙◌, ◌≡◌, ◌≢◌, ◌≤◌, ◌⊎◌}
 use Rattle.mk_laws.proofs.FreeWords.{IsOfOne, of_one, of_worlds}
 use Rattle.mk_laws.proofs.{Basics.KnownWorld, Basics.ends_on_pages, ForImages.standing}
 use Rattle.mk_laws.specs.FreeWords.{FreeCellsAreZero, WordsBehindCellsAreZero, words_in_cells}
 
 -- A number is in one of equal parts alone.
 one_part : (size i j n : ℕ) → i * size ≤ n → n < i * size + size → j * size ≤ n → n < j * size + size → i ≡ j
-one_part size i j n from to low high = elim (cases_order i j) [
-  | inl is ↦ is
-  | inr (inl below) ↦ absurd (omega (arith, mul-le (suc i) size j size below (le_refl size)))
-  | inr (inr above) ↦ absurd (omega (arith, mul-le (suc j) size i size above (le_refl size)))
-]
+one_part size i j n from to low high = grind (arith, cases_order, mul-le)
 
 -- A cell ends on its page, or it is a run's.
 cell_on : (x : Option Header) (k i : ℕ) → k < cells_under x → i < words_under x
     → (k * words_under x + i < 64) ⊎ ((heads_run x ≡ true) × (k ≡ 0) × (words_under x ≡ 64 * run_count x))
-cell_on None k i known lt = absurd (omega arith)
 cell_on (Some Free) k i known lt = absurd (omega arith)
-cell_on (Some (Block class)) k i known lt = inl (let ends = cell_ends k _ known in omega arith)
-cell_on (Some (LeafBlock class)) k i known lt = inl (let ends = cell_ends k _ known in omega arith)
-cell_on (Some (Run count mapped)) k i known lt = inr (refl, omega arith, refl)
-cell_on (Some (LeafRun count)) k i known lt = inr (refl, omega arith, refl)
-cell_on (Some (Later distance mapped)) k i known lt = absurd (omega arith)
+cell_on x0 k i known lt = grind (arith, cell_ends)
 
 -- what is known of an unreleased allocation that has the word, and of the page that the word is on
 record OnPage (w : Words) (o : Object) (base x : ℕ) : Type 0 where
@@ -92,12 +82,7 @@ run_begins_there w o base n p d x at some (inl later) =
 -- A small object's words end with its page's cells.
 small_within : (o : Object) (base n : ℕ) (b : BeginsAtCell o base) → is_small_object o ≡ true → n / 64 ≡ base / 64
     → n < base + words_made o → n % 64 < cells_of (class_made o) * class_words_of (class_made o)
-small_within o base n b small at to =
-    let known : b.index < cells_of (class_made o) = subst (λ k. b.index < k) (small_cells o small) b.known in
-    let words = small_words o small in
-    let size : b.index * words_made o ≡ b.index * class_words_of (class_made o) = ap (λ k. b.index * k) words in
-    let size_of : ℕ = class_words_of (class_made o) in
-    omega (arith, base_on_page o base b, mul-le (suc b.index) size_of _ size_of known (le_refl size_of))
+small_within o base n b small at to = grind (arith, small_cells, small_words, base_on_page, mul-le)
 
 -- What shows a page of an object has the object's words there within its cells.
 within_cells : (o : Object) (distance base n : ℕ) (x : Option Header) → ShowsPart o distance x
@@ -135,11 +120,7 @@ module _ (c : Config) (w : World) (n : NeverState) (known : KnownWorld c w) (all
 
   taken_by : (cell : Cell) (x : ℕ) (one : IsOfOne c w x) → cell.index < cells_under (header_in w.now.words cell.page)
       → (placed_at w.allocations one.number).base ≡ first_word w.now.words cell → IsTaken w cell
-  taken_by cell x one lt first = record {
-    number = one.number;
-    in_range = lt;
-    stands = and_from _ _ (ap not one.unreleased) (eq-eqb (placed_at w.allocations one.number).base _ first);
-  }
+  taken_by cell x one lt first = grind (arith, and_from, eq-eqb)
 
   -- What has a word of a run begins where the run does.
   in_run : (o : Object) (base : ℕ) (cell : Cell) (i : ℕ) → OnPage w.now.words o base (first_word w.now.words cell + i)

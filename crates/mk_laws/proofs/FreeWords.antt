@@ -57,11 +57,7 @@ module _ (c : Config) (w : World) (n : NeverState) (known : KnownWorld c w) (all
       }
 
   of_mapped : (x : ℕ) → IsWordOfMapped c w.allocations x → IsOfOne c w x
-  of_mapped x m = record {
-    number = m.number;
-    unreleased = mapped_stays c (placed_at w.allocations m.number) m.mapped;
-    word = m.word;
-  }
+  of_mapped x m = grind (arith, mapped_stays)
 
   -- A word that isn't 0 is one of an unreleased allocation,
   pub of_one : phase_of w.now.words ≢ 4 → (x : ℕ) → slice_index w.now.words.heap x ≢ 0 → IsOfOne c w x
@@ -80,9 +76,7 @@ module _ (c : Config) (w : World) (n : NeverState) (known : KnownWorld c w) (all
       by : MayHold c (zero_scene_of w) x → IsWordOfMapped c w.allocations x
       by (OfMapped m) = m
       by (OfReleased r) = absurd (none_released c (zero_scene_of w) x (not_releasing w quiet) r)
-      by (OfFreedRun f) =
-          let there = ap (is_run_gone w.now.words) (sym f.there) ∙ gone in
-          absurd (some (gone_word w.now.words f.run x f.word there))
+      by (OfFreedRun f) = grind (arith, gone_word)
 
   words_of_none : WordsOfNoneAreZero c w
   words_of_none quiet x none = elim (cases_eq (slice_index w.now.words.heap x) 0) [

@@ -37,13 +37,7 @@ moves : (freed now large going : Bool) (o : Object) (d h : ℕ) → (freed ≡ t
     → (freed ≡ false → now ≡ true → large ≡ true → going ≡ true)
     → HasHeader (mode_of (freed && large) false) o d h → HasHeader (mode_of (now && large) going) o d h
 moves true true true true o d h stays starts has = inr has
-moves true true true false o d h stays starts has = has
-moves true true false going o d h stays starts has = has
-moves true false large going o d h stays starts has = absurd (true≢false (sym (stays refl)))
-moves false false large going o d h stays starts has = has
-moves false true false going o d h stays starts has = has
-moves false true true true o d h stays starts has = inl has
-moves false true true false o d h stays starts has = absurd (true≢false (sym (starts refl refl refl)))
+moves x0 x1 large going o d h stays starts has = grind arith
 
 pub freeing_leaves : (w : Words) (cell : Option Cell) → LeavesCells (freed_where_it_stands w cell)
 freeing_leaves w cell = record { places = freed_leaves w cell; released = λ a h. sym (freed_released w cell a) ∙ h }

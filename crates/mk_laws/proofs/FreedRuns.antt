@@ -4,10 +4,10 @@ use Rattle.mk_laws.proofs.Vocabulary.{Header, Holding, Host, ImagePremises, IsSa
 use Rattle.mk_laws.proofs.Vocabulary.{Moment, NeverState, None, Null, Num, Op, Option, PlacedAllocation, Ptr, Run}
 use Rattle.mk_laws.proofs.Vocabulary.{RunPages, Seat, Some, Stage, Step, Value, Word, Words, World, ℕ, admitted_keep}
 use Rattle.mk_laws.proofs.Vocabulary.{after_calls, after_free, ap, arith, asked, at_rest, bases_of, call_decided}
-use Rattle.mk_laws.proofs.Vocabulary.{cases_Bool, cases_eq, cases_lt, cell_freed, cell_of_allocation, decided, entry_of}
-use Rattle.mk_laws.proofs.Vocabulary.{false, false≢true, first_page_shows, flight_of, found, freed_cell}
-use Rattle.mk_laws.proofs.Vocabulary.{get_or-set_other, get_or-set_same, get_or_append_left, get_or_past, header_in}
-use Rattle.mk_laws.proofs.Vocabulary.{heads_run, if◌then◌else◌, image_of, image_scene_of, inl, inr, is_decided_free}
+use Rattle.mk_laws.proofs.Vocabulary.{cases_Bool, cases_eq, cases_lt, cell_freed, cell_of_allocation, entry_of, false}
+use Rattle.mk_laws.proofs.Vocabulary.{false≢true, first_page_shows, flight_of, found, freed_cell, get_or-set_other}
+use Rattle.mk_laws.proofs.Vocabulary.{get_or-set_same, get_or_append_left, get_or_past, header_in, heads_run}
+use Rattle.mk_laws.proofs.Vocabulary.{if◌then◌else◌, image_of, image_scene_of, inl, inr, is_decided_free}
 use Rattle.mk_laws.proofs.Vocabulary.{is_decided_free_at, is_new_at, is_phase, is_small_object, is_undecided_free}
 use Rattle.mk_laws.proofs.Vocabulary.{is_undecided_new, length, length-map, ltb-true, not, nothing_done, object_placed}
 use Rattle.mk_laws.proofs.Vocabulary.{or_else, p_of, placed_at, pointed_cell, progress, progress_freed, refl}
@@ -96,10 +96,7 @@ was_freed c w seat f _ run e = Before e refl
 
 holds_now : (c : Config) (v : View) (seat : Seat) (k : ℕ) → seat ≡ Caller k → HoldsTurn c v seat
     → standing (flight_in v k) ≡ UnderTurn
-holds_now c v seat k e hold = by (rw e at hold)
-  where
-    by : HoldsTurn c v (Caller k) → standing (flight_in v k) ≡ UnderTurn
-    by h = h.1
+holds_now c v seat k e hold = grind (arith, standing, flight_in)
 
 set_under : (v : View) (j k : ℕ) (f : Flight) (s : Standing) → standing f ≡ s → s ≢ UnderTurn
     → standing (slice_index_or (slice_set v.flights j f) k at_rest) ≡ UnderTurn → standing (flight_in v k) ≡ UnderTurn
@@ -132,9 +129,7 @@ none_seen w _ = refl
 give_still : (c : Config) (m : Moment) (o : Op) (q p r l n : ℕ) (x : Step) → is_of_any_holder x ≡ true → gives x ≡ false
     → progress c m (flight Stage.Give o q p r l) n x ≡ still (flight Stage.Give o q p r l)
 give_still c m o q p r l n (Step.Quar y v) h g = none_freed_at _ _
-give_still c m o q p r l n (Step.Look x) h g =
-    let f = flight Stage.Give o q p r l in
-    ap (λ (b : Bool). if b then decided f Answer.Double else still f) (none_seen m.words x)
+give_still c m o q p r l n (Step.Look x) h g = grind (arith, flight, none_seen)
 give_still c m o q p r l n _ h g = cc
 
 no_run : (w : Words) (b : Bool) (run : RunPages) → run_of_cell w (if b && false then None else None) ≡ Some run → ⊥
@@ -311,12 +306,7 @@ module _ (c : Config) (w : World) (n : NeverState) (known : KnownWorld c w) (oth
       absurd (ne (omega arith))
     where
       there : (k : ℕ) → is_decided_free (flight_of w.now (Caller k)) ≡ true → k < c.callers
-      there k free = elim (cases_lt k c.callers) [
-        | inl lt ↦ lt
-        | inr le ↦ absurd (false≢true (ap (λ (y : Flight). is_decided_free y)
-            (sym (get_or_past w.now.seats.flights k at_rest (let e = known.now.orderly.flights in omega (arith, e))))
-            ∙ free))
-      ]
+      there k free = grind (arith, cases_lt, get_or_past)
 
   caller_owns : (j : ℕ) (x : Step) → Meets c w.now (Caller j) x → GrowsBehind (Caller j) x
       → AreAdmitted c.globals n (asked (call_decided c w.now (event_of (Caller j) x)))

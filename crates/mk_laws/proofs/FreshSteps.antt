@@ -4,13 +4,12 @@ use Rattle.mk_laws.proofs.Vocabulary.{Bool, Cell, Config, Header, KeepsSnapshot,
 use Rattle.mk_laws.proofs.Vocabulary.{PlacedAllocation, Seat, ShowsPart, Some, StandsInOrder, Step, World, ℕ, and_parts}
 use Rattle.mk_laws.proofs.Vocabulary.{ap, arith, cases_lt, cell_freed, cell_of_allocation, changed_at, cond-true, false}
 use Rattle.mk_laws.proofs.Vocabulary.{false_from_ne_true, first_page_shows, flight_of, freed_cell}
-use Rattle.mk_laws.proofs.Vocabulary.{freed_where_it_stands, fresh_words_of, get_or_past, ground_of, has_bit, header_in}
-use Rattle.mk_laws.proofs.Vocabulary.{heads_run, if◌then◌else◌, in_a_word, inl, inr, is_large, is_phase}
-use Rattle.mk_laws.proofs.Vocabulary.{is_small_object, kinds_of, large_is_not_small, length, map, never_granted}
-use Rattle.mk_laws.proofs.Vocabulary.{none_freed, not, not-true, object_now, object_placed, part_words, placed_at, refl}
-use Rattle.mk_laws.proofs.Vocabulary.{released_leaves, slice_index, small_heads_none, stands_in, subst, sym, true}
-use Rattle.mk_laws.proofs.Vocabulary.{true≢false, with_released, words_made, words_under, ◌&&◌, ◌+◌, ◌-◌, ◌<◌, ◌^◌}
-use Rattle.mk_laws.proofs.Vocabulary.{◌||◌, ◌∙◌, ◌≡◌, ◌≢◌}
+use Rattle.mk_laws.proofs.Vocabulary.{freed_where_it_stands, fresh_words_of, get_or_past, ground_of, header_in}
+use Rattle.mk_laws.proofs.Vocabulary.{heads_run, if◌then◌else◌, in_a_word, is_large, is_phase, is_small_object}
+use Rattle.mk_laws.proofs.Vocabulary.{kinds_of, large_is_not_small, length, map, none_freed, not, not-true, object_now}
+use Rattle.mk_laws.proofs.Vocabulary.{object_placed, part_words, placed_at, refl, released_leaves, small_heads_none}
+use Rattle.mk_laws.proofs.Vocabulary.{stands_in, subst, sym, true, true≢false, with_released, words_made, words_under}
+use Rattle.mk_laws.proofs.Vocabulary.{◌&&◌, ◌+◌, ◌-◌, ◌<◌, ◌^◌, ◌||◌, ◌∙◌, ◌≡◌, ◌≢◌}
 use Rattle.mk_core.{proofs.ObjectHeaders.part_heads_run, specs.Effects.words_freed}
 use Rattle.mk_laws.proofs.Basics.{Before, Laid, Meets, WorldBehind, all_stand, apart_left}
 use Rattle.mk_laws.proofs.FreshWords.{CountsAsBefore, fresh_kept, fresh_more, fresh_part, fresh_pushed, no_part}
@@ -33,10 +32,7 @@ words_of_part o x part false is = ap (λ b. if b then 0 else words_under x) (par
 counted_freed : (released large small : Bool) (n : ℕ) → released ≡ false → large ≡ not small
     → (if (not released && not (true && large)) && true then n else 0) ≡ (if small then n else 0)
 counted_freed true large small n is l = absurd (true≢false is)
-counted_freed false true true n is l = absurd (true≢false l)
-counted_freed false true false n is l = refl
-counted_freed false false true n is l = refl
-counted_freed false false false n is l = absurd (true≢false (sym l))
+counted_freed x0 large small n is l = grind arith
 
 abbrev freed_fresh : PlacedAllocation → PlacedAllocation
 freed_fresh a = record a { freed = true; fresh = true }
@@ -73,9 +69,7 @@ module _ (c : Config) (w : World) (cell : Cell) (n : ℕ) (b : Before c w) (off 
       (first_page_shows c w.now.words own (shown_at c w x.own.number order.laid x.own.unreleased).sized stands.headers)
 
   unfreed : own.freed ≡ false
-  unfreed = false_from_ne_true own.freed (λ f.
-      let same = ap (λ (y : Cell). has_bit (slice_index w.now.words.freed y.page) y.index) x.own.is in
-      true≢false (sym (order.quarantined.shown x.own.number x.own.unreleased f) ∙ same ∙ x.unset))
+  unfreed = grind (arith, false_from_ne_true, own)
 
   stale : own.fresh ≡ false
   stale = false_from_ne_true own.fresh (λ f. true≢false (sym (order.snapshot.fresh x.own.number f).0 ∙ unfreed))
@@ -92,12 +86,7 @@ module _ (c : Config) (w : World) (cell : Cell) (n : ℕ) (b : Before c w) (off 
       omega (arith, stale_part c own stale)
 
   within : x.own.number < length w.allocations
-  within = elim (cases_lt x.own.number (length w.allocations)) [
-    | inl lt ↦ lt
-    | inr past ↦
-        let none = get_or_past w.allocations x.own.number never_granted past in
-        absurd (true≢false (ap (λ (y : PlacedAllocation). y.released) (sym none) ∙ x.own.unreleased))
-  ]
+  within = grind (arith, cases_lt, get_or_past)
 
   fresh_freed : fresh_words_of c (map (freed_where_it_stands w.now.words (Some cell)) w.allocations)
       ≡ fresh_words_of c w.allocations + words_freed w.now.words (Some cell)

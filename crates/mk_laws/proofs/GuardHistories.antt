@@ -7,7 +7,7 @@ use Rattle.mk_laws.proofs.Vocabulary.{first_word, first_world, has_no_pointers, 
 use Rattle.mk_laws.proofs.Vocabulary.{histories_keep_lengths, inl, inr, is_mapped, left, left_from, made_is_mapped}
 use Rattle.mk_laws.proofs.Vocabulary.{not-true, object_placed, pages_some, part_has_no_pointers, placed_at, storage_of}
 use Rattle.mk_laws.proofs.Vocabulary.{storage_words, subst, sym, true, typed_size, word_accessed, word_points_well}
-use Rattle.mk_laws.proofs.Vocabulary.{world_behind, zero_lengths, [], ◌+◌, ◌-◌, ◌/◌, ◌∙◌, ◌∷◌, ◌≡◌, ◌⊎◌}
+use Rattle.mk_laws.proofs.Vocabulary.{world_behind, zero_lengths, [], ◌+◌, ◌-◌, ◌/◌, ◌∙◌, ◌∷◌, ◌≡◌}
 use Rattle.mk_geom.specs.StorageWords.{cell_of_storage}
 use Rattle.mk_core.proofs.{PointedAllocations.marked_where_its_cell_is, StandingAllocations.cell_is_known}
 use Rattle.mk_core.specs.ClosedMarks.{is_marked_allocation}
@@ -52,13 +52,7 @@ closed_word c w a limits st closed leaf marked n inside =
 pub closed_allocations : (c : Config) (w : World) → IsWithinLimits c
     → ((i : ℕ) → is_mapped c (placed_at w.allocations i) ≡ true
     → StandsMapped c w.now.words (placed_at w.allocations i)) → CellsAreClosed c w.now.words → MarksAreClosed c w
-closed_allocations c w limits stand closed = record {
-  registers = closed.registers;
-  globals = closed.globals;
-  words = λ i n scanned marked inside.
-      let parts = and_parts _ _ scanned in
-      closed_word c w.now.words _ limits (stand i parts.0) closed (not-true _ parts.1) marked n inside;
-}
+closed_allocations c w limits stand closed = grind (arith, closed, and_parts, closed_word, not-true)
 
 pub events_keep_the_marks : EventsKeepTheMarks
 events_keep_the_marks c es e limits on enabled say g =
@@ -67,10 +61,7 @@ events_keep_the_marks c es e limits on enabled say g =
 
 -- nothing stands at first: the phase is 0
 pub marks_at_first : (c : Config) → MarksStand c (first_moment c)
-marks_at_first c = record {
-  guarded = λ early. absurd (elim early [ inl e ↦ omega arith | inr e ↦ omega arith ]);
-  closed = λ three. absurd (omega arith);
-}
+marks_at_first c = grind (arith, closed)
 
 marks_from : (c : Config) (w : World) (es : List Event) → IsWithinLimits c → AreOfPages c.pages w.now.words
     → Known c w.now → AreEnabledFrom c w es
@@ -102,13 +93,4 @@ marking_guards c m g early = (g.guarded (elim early [
 ])).black
 
 pub others_at_first : GuardPremisesAtFirst
-others_at_first c = record {
-  place = λ early seat place now. absurd (not_early early);
-  freed = λ early run is. absurd (not_early early);
-  later = λ early p count distance is some lt. absurd (not_early early);
-  mapped = λ i is. cc;
-}
-  where
-    not_early : (◌≡◌ {A = ℕ} 0 1) ⊎ (◌≡◌ {A = ℕ} 0 2) → ⊥
-    not_early (inl e) = absurd (omega arith)
-    not_early (inr e) = absurd (omega arith)
+others_at_first c = grind arith

@@ -5,11 +5,11 @@ use Rattle.mk_laws.proofs.Vocabulary.{Moment, None, Option, PageIsDirty, PointsW
 use Rattle.mk_laws.proofs.Vocabulary.{World, ℕ, all_below, all_below-at, and_parts, arith, bit_or, cases_eq, cases_lt}
 use Rattle.mk_laws.proofs.Vocabulary.{cell_words, cells_under, eq-eqb, eqb-true, false, first_word, get_or-set_other}
 use Rattle.mk_laws.proofs.Vocabulary.{get_or_past, has_bit, has_clean_page, has_no_pointers, head_page, header_at}
-use Rattle.mk_laws.proofs.Vocabulary.{header_in, inl, inr, is_attending, is_marked, is_none, is_phase, is_scanned}
-use Rattle.mk_laws.proofs.Vocabulary.{marker_of, may_turn_black, nat_lt, no_bit, none_attends, not, not-true, or_cases}
-use Rattle.mk_laws.proofs.Vocabulary.{phase_of, refl, scan_page, slice_index, slice_set, subst, suc, sym, true}
-use Rattle.mk_laws.proofs.Vocabulary.{true≢false, word_points_well, words_under, zero, ◌&&◌, ◌*◌, ◌+◌, ◌/◌, ◌<◌, ◌==◌}
-use Rattle.mk_laws.proofs.Vocabulary.{◌^◌, ◌||◌, ◌∙◌, ◌≡◌, ◌≢◌, ◌≤◌, ◌⊎◌}
+use Rattle.mk_laws.proofs.Vocabulary.{header_in, inl, inr, is_attending, is_none, is_phase, is_scanned, marker_of}
+use Rattle.mk_laws.proofs.Vocabulary.{may_turn_black, no_bit, none_attends, not, not-true, or_cases, phase_of, refl}
+use Rattle.mk_laws.proofs.Vocabulary.{scan_page, slice_index, slice_set, subst, suc, sym, true, true≢false}
+use Rattle.mk_laws.proofs.Vocabulary.{word_points_well, words_under, zero, ◌&&◌, ◌*◌, ◌+◌, ◌/◌, ◌<◌, ◌==◌, ◌^◌, ◌||◌}
+use Rattle.mk_laws.proofs.Vocabulary.{◌∙◌, ◌≡◌, ◌≢◌, ◌≤◌, ◌⊎◌}
 use Rattle.mk_core.proofs.WordBits.{bit_of_cell, bit_of_power, more_bits}
 use Rattle.mk_core.specs.{Accesses.scan_bit, Cells.words_point_well, StopConditions.blackens}
 use Rattle.mk_laws.proofs.Changes.{blacks_kind, dirty_kind, heap_kind, is_blackening, is_undirty, marks_kind, owed_kind}
@@ -59,14 +59,7 @@ turned w pages p value (suc n) h =
 turned_words : (pages : ℕ) (w : Words) (p k : ℕ) → may_turn_black pages w (record { page = p; index = k }) ≡ true
     → has_no_pointers (header_in w p) ≡ false → words_point_well pages w (record { page = p; index = k }) ≡ true
 unfolding may_turn_black
-turned_words pages w p k h sc =
-    let there = nat_lt k (cells_under (header_in w p)) && is_marked w (record { page = p; index = k }) in
-    let a = (and_parts there
-    (has_no_pointers (header_in w p) || words_point_well pages w (record { page = p; index = k })) h).1 in
-    elim (or_cases _ (words_point_well pages w (record { page = p; index = k })) a) [
-      | inl t ↦ absurd (true≢false (sym t ∙ sc))
-      | inr is ↦ is
-    ]
+turned_words pages w p k h sc = grind (arith, and_parts, or_cases)
 
 pub black_kind : (c : Config) (m : Moment) (seat : Seat) (p value : ℕ)
     → Keeps c m (Behind c m seat (Step.Black p value)) → NewCellsAreGuarded c m (Behind c m seat (Step.Black p value))
@@ -107,10 +100,7 @@ mblack_kind c m k known keeps new h g = blackened c m _ _ _ keeps new refl (by (
 
 stop_wanted : (m : Moment) → IsMarking m.words → ((phase_of m.words == 0) || (phase_of m.words == 2)) ≡ true
     → is_phase m.words 2 ≡ true
-stop_wanted m early h = elim (either_phase (phase_of m.words) 0 2 h) [
-  | inl z ↦ elim early [ inl e ↦ absurd (omega arith) | inr e ↦ absurd (omega arith) ]
-  | inr two ↦ eq-eqb (phase_of m.words) 2 two
-]
+stop_wanted m early h = grind (arith, either_phase, eq-eqb)
 
 pub record Undirties (m : Moment) (q : ℕ) : Type 0 where
   pub none : none_attends m.seats.markers ≡ true
@@ -118,12 +108,7 @@ pub record Undirties (m : Moment) (q : ℕ) : Type 0 where
 
 pub undirties : (c : Config) (m : Moment) (seat : Seat) (q : ℕ) → IsMarking m.words → Meets c m seat (Step.Undirty q)
     → Undirties m q
-undirties c m seat q early h = by (is_phase m.words 2) (stop_wanted m early h.phase) h.holder
-  where
-    by : (b : Bool) → b ≡ true → (not b || (none_attends m.seats.markers && (slice_index m.words.blacks q == 0)
-        && (slice_index m.words.blacks (head_page m.words q) == 0))) ≡ true → Undirties m q
-    by false e own = absurd (true≢false (sym e))
-    by true e own = record { none = (and_parts _ _ (and_parts _ _ own).0).0; head = eqb-true _ 0 (and_parts _ _ own).1 }
+undirties c m seat q early h = grind (arith, stop_wanted, and_parts, eqb-true)
 
 pub undirty_kind : (c : Config) (w : World) (seat : Seat) (q : ℕ) → AreOfPages c.pages w.now.words
     → IsMarking w.now.words → GuardPremises c w → Meets c w.now seat (Step.Undirty q)
@@ -251,10 +236,7 @@ begun c m seat known len h = record {
     ]
 
     quiet : (j : ℕ) → Meets c m seat Step.Begin → is_attending (marker_of m j).presence ≡ true → ⊥
-    quiet j h at = let z = eqb-true _ 0 h.phase in elim (known.orderly.attends j at) [
-      | inl e ↦ absurd (omega arith)
-      | inr e ↦ absurd (omega arith)
-    ]
+    quiet j h at = grind (arith, eqb-true)
 
     alone : (seat : Seat) → Meets c m seat Step.Begin → (j : ℕ)
         → is_attending (marker_of (Behind c m seat Step.Begin) j).presence ≡ true → ⊥
@@ -264,13 +246,7 @@ begun c m seat known len h = record {
 
 -- at a phase past the stop nothing is asked
 past : (c : Config) (m : Moment) (n : ℕ) → phase_of m.words ≡ n → (n ≡ 0) ⊎ (4 ≤ n) → MarksStand c m
-past c m n is out = record {
-  guarded = λ early. absurd (elim early [ inl e ↦ late (omega arith) | inr e ↦ late (omega arith) ]);
-  closed = λ three. absurd (late (omega arith));
-}
-  where
-    late : (1 ≤ n) × (n ≤ 3) → ⊥
-    late is = elim out [ inl z ↦ omega arith | inr le ↦ omega arith ]
+past c m n is out = grind (arith, closed)
 
 pub marks_behind : (c : Config) (w : World) (seat : Seat) (x : Step) → IsWithinLimits c → Known c w.now
     → AreOfPages c.pages w.now.words

@@ -1,12 +1,12 @@
 -- From `close` to `release` the marks stay closed: nothing changes but words that are wiped.
-use Rattle.mk_laws.proofs.Vocabulary.{Caller, CellsAreClosed, Config, Flight, Host, Marker, Moment, Named, Seat, Stage}
-use Rattle.mk_laws.proofs.Vocabulary.{Step, Tally, Word, Words, ℕ, accessed, ap, arith, cases_Bool, cases_eq, cases_lt}
+use Rattle.mk_laws.proofs.Vocabulary.{Caller, CellsAreClosed, Config, Flight, Group, Host, Marker, Moment, Named, Seat}
+use Rattle.mk_laws.proofs.Vocabulary.{Stage, Step, Tally, Word, Words, ℕ, accessed, ap, arith, cases_eq, cases_lt}
 use Rattle.mk_laws.proofs.Vocabulary.{eqb-true, false, first_word, flight_of, get_or-set_other, get_or-set_same}
-use Rattle.mk_laws.proofs.Vocabulary.{group_of, header_at, inl, inr, is_open_to, length, ltb-true, marker_of, or_cases}
-use Rattle.mk_laws.proofs.Vocabulary.{phase_of, points_well, refl, reg_access, register_met, set_past, slice_index}
-use Rattle.mk_laws.proofs.Vocabulary.{subst, sym, true, true≢false, word_points_well, ◌<◌, ◌==◌, ◌||◌, ◌∙◌, ◌≡◌, ◌⊎◌}
-use Rattle.mk_core.{proofs.RegisterAccesses.tally_leaves_registers, specs.declared.events.Group.Group}
-use Rattle.mk_laws.proofs.Basics.{Behind, InCall, Known, Meets, Table, at_its_stage, at_reg, calls_stand, either_phase}
+use Rattle.mk_laws.proofs.Vocabulary.{group_of, header_at, inl, inr, is_open_to, length, ltb-true, or_cases, phase_of}
+use Rattle.mk_laws.proofs.Vocabulary.{points_well, refl, reg_access, set_past, slice_index, subst, sym, true}
+use Rattle.mk_laws.proofs.Vocabulary.{true≢false, word_points_well, ◌<◌, ◌==◌, ◌||◌, ◌∙◌, ◌≡◌, ◌⊎◌}
+use Rattle.mk_core.proofs.RegisterAccesses.{tally_leaves_registers}
+use Rattle.mk_laws.proofs.Basics.{Behind, Known, Meets, Table, at_its_stage, at_reg, calls_stand, either_phase}
 use Rattle.mk_laws.proofs.Basics.{headers_kind, is_call_stage, is_head, not_astray, reg_table, shows_at, tally_table}
 use Rattle.mk_laws.proofs.Basics.{view_of, wells_from}
 use Rattle.mk_laws.proofs.{IdleMarkers.work_attends, NextSteps.has_stage_of_its_own, NextSteps.stage_of}
@@ -41,9 +41,7 @@ stays_closed c w v same h = record {
 
 no_call : (c : Config) (m : Moment) (k : ℕ) → Known c m → phase_of m.words ≡ 3 → k < c.callers
     → is_call_stage (flight_of m (Caller k)).stage ≡ true → ⊥
-no_call c m k known three lt at =
-    let s = shows_at c (view_of m) k InCall known.orderly lt (calls_stand _ _ at (not_astray c m known.orderly k lt)) in
-    absurd (omega (arith, s.0, known.orderly.stopped three k lt s.1))
+no_call c m k known three lt at = grind (arith, shows_at, view_of, calls_stand, not_astray)
 
 of_callers : (x : Step) → has_stage_of_its_own x ≡ true → group_of x ≡ Group.Callers
 of_callers Step.Leave own = refl
@@ -67,21 +65,13 @@ load_alone w k r f _ reg out = cc
 
 reg_still : (c : Config) (m : Moment) (seat : Seat) → Known c m → phase_of m.words ≡ 3 → Meets c m seat Step.Reg
     → (Behind c m seat Step.Reg).words.registers ≡ m.words.registers
-reg_still c m (Caller k) known three h = elim (cases_Bool (is_call_stage (flight_of m (Caller k)).stage)) [
-  | inl at ↦ absurd (no_call c m k known three (ltb-true k c.callers h.seat) at)
-  | inr out ↦ load_alone m.words k (register_met (flight_of m (Caller k)) (flight_of m (Caller k)).stage)
-      (flight_of m (Caller k)) (flight_of m (Caller k)).stage
-      (at_reg (flight_of m (Caller k)).stage (flight_of m (Caller k)).op h.order) out
-]
+reg_still c m (Caller k) known three h = grind (arith, is_call_stage, no_call, ltb-true, load_alone, at_reg)
 reg_still c m _ known three h = let kind = h.kind in cc
 
 registers_still : (c : Config) (m : Moment) (seat : Seat) (x : Step) → Known c m → phase_of m.words ≡ 3
     → Meets c m seat x → (Behind c m seat x).words.registers ≡ m.words.registers
 registers_still c m seat Step.Reg known three h = reg_still c m seat known three h
-registers_still c m seat (Step.Tally n v) known three h = tally_leaves_registers m.words n v
-registers_still c m seat Step.Grant known three h =
-    elim (either_phase (phase_of m.words) 0 1 h.phase) [ inl e ↦ absurd (omega arith) | inr e ↦ absurd (omega arith) ]
-registers_still c m seat _ known three h = refl
+registers_still c m seat x3 known three h = grind (arith, tally_leaves_registers, either_phase)
 
 globals_still : (c : Config) (m : Moment) (seat : Seat) (x : Step) → Known c m → phase_of m.words ≡ 3 → Meets c m seat x
     → (Behind c m seat x).words.globals ≡ m.words.globals
@@ -109,43 +99,24 @@ heap_still c m seat _ known three h n = inl refl
 
 -- marks: no marker attends
 no_mark : (c : Config) (m : Moment) (seat : Seat) → Known c m → phase_of m.words ≡ 3 → Meets c m seat Step.Mmark → ⊥
-no_mark c m (Marker k) known three h =
-    elim (known.orderly.attends k (work_attends c (marker_of m k) Step.Mmark (known.orderly.idle k) h.marker refl))
-    [ inl e ↦ absurd (omega arith) | inr e ↦ absurd (omega arith) ]
+no_mark c m (Marker k) known three h = grind (arith, work_attends)
 no_mark c m _ known three h = true≢false (sym h.kind)
 
 marks_still : (c : Config) (m : Moment) (seat : Seat) (x : Step) → Known c m → phase_of m.words ≡ 3 → Meets c m seat x
     → (Behind c m seat x).words.marks ≡ m.words.marks
 marks_still c m seat Step.Reg known three h = ap (λ (t : Table). t.marks) (reg_table c m seat)
-marks_still c m seat (Step.Tally n v) known three h = ap (λ (t : Table). t.marks) (tally_table m.words n v)
-marks_still c m seat (Step.Clear p) known three h = let z = eqb-true _ 0 h.phase in absurd (omega arith)
-marks_still c m seat (Step.Mark p v) known three h =
-    elim (either_phase (phase_of m.words) 1 2 h.phase) [ inl e ↦ absurd (omega arith) | inr e ↦ absurd (omega arith) ]
-marks_still c m seat Step.Mmark known three h = absurd (no_mark c m seat known three h)
-marks_still c m seat _ known three h = refl
+marks_still c m seat x3 known three h = grind (arith, tally_table, eqb-true, either_phase, no_mark)
 
 -- no header is stored
 no_head : (n : ℕ) → n ≡ 3 → ((n == 0) || (n == 1) || (n == 4)) ≡ true → ⊥
-no_head n three h = elim (or_cases _ (n == 4) h) [
-  | inl a ↦ elim (either_phase n 0 1 a) [ inl e ↦ absurd (omega arith) | inr e ↦ absurd (omega arith) ]
-  | inr e ↦ let z = eqb-true n 4 e in absurd (omega arith)
-]
+no_head n three h = grind (arith, or_cases, either_phase, eqb-true)
 
 headers_still : (c : Config) (m : Moment) (seat : Seat) (x : Step) → phase_of m.words ≡ 3 → Meets c m seat x → (p : ℕ)
     → header_at (Behind c m seat x).words p ≡ header_at m.words p
 headers_still c m seat (Step.Head q n) three h p = absurd (no_head _ three h.phase)
-headers_still c m seat x three h p = rest x h refl
-  where
-    rest : (x : Step) → Meets c m seat x → is_head x ≡ false
-        → header_at (Behind c m seat x).words p ≡ header_at m.words p
-    rest x h none = headers_kind c m seat x none p
+headers_still c m seat x three h p = grind (arith, is_head, headers_kind)
 
 pub leaves_closed : (c : Config) (m : Moment) (seat : Seat) (x : Step) → Known c m → phase_of m.words ≡ 3
     → Meets c m seat x → LeavesClosed m.words (Behind c m seat x).words
-leaves_closed c m seat x known three h = record {
-  registers = registers_still c m seat x known three h;
-  globals = globals_still c m seat x known three h;
-  headers = headers_still c m seat x three h;
-  marks = marks_still c m seat x known three h;
-  heap = heap_still c m seat x known three h;
-}
+leaves_closed c m seat x known three h =
+    grind (arith, registers_still, globals_still, headers_still, marks_still, heap_still)

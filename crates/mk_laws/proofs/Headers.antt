@@ -1,10 +1,9 @@
 -- A `head` while a cycle marks, from what it finds: headers go on, and what points well goes on doing so.
-use Rattle.mk_laws.proofs.Vocabulary.{AreOfPages, Bool, Cell, Config, HeaderGoesOn, IsGuarded, Moment, None, Page, Seat}
-use Rattle.mk_laws.proofs.Vocabulary.{Some, Step, Words, ℕ, ap, arith, cases_eq, cell_at, cells_under, false, free_page}
-use Rattle.mk_laws.proofs.Vocabulary.{get_or-set_other, get_or-set_same, header_at, header_in, header_of, if◌then◌else◌}
-use Rattle.mk_laws.proofs.Vocabulary.{inl, inr, is_heap_address, is_marked, ltb-true, none-some, page_at_address, refl}
-use Rattle.mk_laws.proofs.Vocabulary.{slice_index, slice_index_or, slice_set, subst, sym, true, used_at, words_under}
-use Rattle.mk_laws.proofs.Vocabulary.{◌*◌, ◌+◌, ◌<◌, ◌∙◌, ◌≡◌, ◌≢◌}
+use Rattle.mk_laws.proofs.Vocabulary.{AreOfPages, Cell, Config, HeaderGoesOn, IsGuarded, Moment, Page, Seat, Some, Step}
+use Rattle.mk_laws.proofs.Vocabulary.{Words, ℕ, ap, arith, cases_eq, cell_at, cells_under, false, free_page}
+use Rattle.mk_laws.proofs.Vocabulary.{get_or-set_other, get_or-set_same, header_at, header_in, header_of, inl, inr}
+use Rattle.mk_laws.proofs.Vocabulary.{is_marked, ltb-true, none-some, page_at_address, slice_index, slice_index_or}
+use Rattle.mk_laws.proofs.Vocabulary.{slice_set, subst, sym, true, used_at, words_under, ◌*◌, ◌+◌, ◌<◌, ◌∙◌, ◌≡◌, ◌≢◌}
 use Rattle.mk_laws.proofs.Basics.{Behind, Meets, headers_kind, is_head}
 use Rattle.mk_laws.proofs.{KeptGuard.NewCellsAreGuarded, KeptGuard.goes_same, Wells.IsWell, Wells.bare_guarded}
 
@@ -19,19 +18,10 @@ pub data HeadFinds (pages : ℕ) (w : Words) (p header : ℕ) : Type 0 where
       → (cells_under (header_in w p) ≡ 0 → cells_under (header_of header) ≡ 0) → HeadFinds pages w p header
 
 pub free_shows : (pages v : ℕ) (y : Cell) → cell_at pages 0 v ≡ Some y → ⊥
-free_shows pages v y is = by (is_heap_address pages v) is
-  where
-    by : (b : Bool) → (if b then None else None) ≡ Some y → ⊥
-    by true is = none-some _ is
-    by false is = none-some _ is
+free_shows pages v y is = grind (arith, none-some)
 
 from_free : (pages n : ℕ) → HeaderGoesOn pages 0 n
-from_free pages n = record {
-  cell = λ v y is. absurd (free_shows pages v y is);
-  count = λ some. absurd (some refl);
-  words = λ some. absurd (some refl);
-  unscanned = λ some. absurd (some refl);
-}
+from_free pages n = grind (arith, free_shows)
 
 pub record HeadKeeps (c : Config) (m n : Moment) : Type 0 where
   pub some : (p : ℕ) → header_at m.words p ≢ 0 → header_at n.words p ≢ 0
@@ -100,6 +90,4 @@ head_keeps c m seat p n len h finds = record {
 -- no other kind makes cells
 pub no_new_cells : (c : Config) (m : Moment) (seat : Seat) (x : Step) → is_head x ≡ false
     → NewCellsAreGuarded c m (Behind c m seat x)
-no_new_cells c m seat x no_head p k i none lt li =
-    let bad : k < 0 = rw (ap (λ n. cells_under (header_of n)) (headers_kind c m seat x no_head p)
-    ∙ none) at lt in absurd (omega arith)
+no_new_cells c m seat x no_head p k i none lt li = grind (arith, headers_kind)

@@ -66,10 +66,7 @@ mapped_is : (c : Config) (a : PlacedAllocation) → a.released ≡ false → is_
 mapped_is c a u large = rw u (rw (large_is_not_small _ ∙ ap not large))
 
 same_bits : (n m k : ℕ) → has_bit n k ≡ has_bit m k → bit_at n k ≡ bit_at m k
-same_bits n m k e = elim (cases_Bool (has_bit n k)) [
-  | inl is ↦ bit_is_one n k is ∙ sym (bit_is_one m k (sym e ∙ is))
-  | inr out ↦ bit_is_none n k out ∙ sym (bit_is_none m k (sym e ∙ out))
-]
+same_bits n m k e = grind (arith, bit_is_one, bit_is_none)
 
 used_below : (bits : List Bool) → used_word bits < 2 ^ length bits
 used_below [] = omega arith

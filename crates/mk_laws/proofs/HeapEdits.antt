@@ -2,12 +2,12 @@
 use Rattle.std.proofs.{Common.length-append, Math.ListN.get_or-map as get_or-map-default, lemmas.List.get_or_at}
 use Rattle.mk_laws.proofs.Vocabulary.{IsMet, IsSound, Kind, List, NeverAllocation, NeverState, Null, Num, Number}
 use Rattle.mk_laws.proofs.Vocabulary.{PlacedAllocation, Ptr, Suits, To, Value, ℕ, address_of, allocation_at, and_right}
-use Rattle.mk_laws.proofs.Vocabulary.{ap, arith, bases_of, cases_eq, cases_lt, false, get_or, get_or-set_other}
-use Rattle.mk_laws.proofs.Vocabulary.{get_or-set_same, get_or_append_left, get_or_past, image_of, inl, inr, is_large}
-use Rattle.mk_laws.proofs.Vocabulary.{is_unmapped, kinds_of, length, length-map, length-set, map, map-append}
-use Rattle.mk_laws.proofs.Vocabulary.{never_granted, no_allocation, placed_at, refl, set_by, slice_index}
-use Rattle.mk_laws.proofs.Vocabulary.{slice_index_or, slice_set, subst, suc, sym, true, with_freed, with_new, with_word}
-use Rattle.mk_laws.proofs.Vocabulary.{word_at, words_of, zero, [], ◌++◌, ◌+◌, ◌<◌, ◌∙◌, ◌∷◌, ◌≡◌, ◌≢◌}
+use Rattle.mk_laws.proofs.Vocabulary.{ap, arith, bases_of, cases_lt, false, get_or, get_or-set_other, get_or-set_same}
+use Rattle.mk_laws.proofs.Vocabulary.{get_or_append_left, get_or_past, image_of, inl, inr, is_large, is_unmapped}
+use Rattle.mk_laws.proofs.Vocabulary.{kinds_of, length, length-map, length-set, map, map-append, never_granted}
+use Rattle.mk_laws.proofs.Vocabulary.{no_allocation, placed_at, refl, set_by, slice_index, slice_index_or, slice_set}
+use Rattle.mk_laws.proofs.Vocabulary.{suc, sym, true, with_freed, with_new, with_word, word_at, words_of, zero, []}
+use Rattle.mk_laws.proofs.Vocabulary.{◌++◌, ◌+◌, ◌<◌, ◌∙◌, ◌∷◌, ◌≡◌, ◌≢◌}
 use Rattle.mk_never.{proofs.Edits.exists, specs.Types.zero_of, specs.Types.zero_words}
 use Rattle.mk_laws.proofs.Pairs.{image_more}
 
@@ -117,17 +117,9 @@ old_placed xs y b ne = elim (cases_lt b (length xs)) [
 ]
 
 pub meets_new : (n : NeverState) (ty : ℕ) (v : Value) (i : ℕ) → IsMet n v i → IsMet (with_new n ty) v i
-meets_new n ty (Ptr a t o) i h = λ lt. elim (cases_eq a (length n.allocations)) [
-  | inl e ↦ rw e (rw (new_never n ty))
-  | inr ne ↦ rw (old_never n ty a ne)
-      (h (subst (λ (x : NeverAllocation). o + i < length x.words) (old_never n ty a ne) lt))
-]
+meets_new n ty (Ptr a t o) i h = grind (arith, new_never, old_never)
 meets_new n ty _ i h = tt
 
 -- a word of what is granted, and of what was
 pub exists_placed : (xs : List PlacedAllocation) (a : ℕ) → (placed_at xs a).released ≡ false → a < length xs
-exists_placed xs a h = elim (cases_lt a (length xs)) [
-  | inl lt ↦ lt
-  | inr le ↦ let x : true ≡ false = ap (λ (y : PlacedAllocation). y.released) (sym (get_or_past xs a never_granted le))
-      ∙ h in absurd (cc)
-]
+exists_placed xs a h = grind (arith, cases_lt, get_or_past)

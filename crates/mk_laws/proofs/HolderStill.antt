@@ -2,15 +2,14 @@
 use Rattle.std.proofs.Common.{bit_and}
 use Rattle.mk_laws.proofs.Vocabulary.{Bool, Cell, Config, Flight, Holding, List, Object, Option, Page, Place, Seat}
 use Rattle.mk_laws.proofs.Vocabulary.{Steady, Step, TurnIsLeft, Words, World, Written, ℕ, all_below, and_parts, ap}
-use Rattle.mk_laws.proofs.Vocabulary.{arith, carves, cases_Bool, empties, eqb-true, frees, gives_back, has_closed_page}
-use Rattle.mk_laws.proofs.Vocabulary.{has_gates, has_phase, head_page, header_at, header_made, held_by_pages}
-use Rattle.mk_laws.proofs.Vocabulary.{holder_may, if◌then◌else◌, inl, inr, is_decided, is_left_unmarked}
-use Rattle.mk_laws.proofs.Vocabulary.{is_marked_first, is_next_header, is_phase, is_released_cell, is_run_gone}
-use Rattle.mk_laws.proofs.Vocabulary.{is_some_and, is_used_once, marks_place, may_answer_full, may_end, may_turn_black}
-use Rattle.mk_laws.proofs.Vocabulary.{none_attends, not, object_made, or_left, or_right, others_are_held, pages_made}
-use Rattle.mk_laws.proofs.Vocabulary.{phase_of, place_now, quarantine_word, refl, roots_point_well, slice_index, sym}
-use Rattle.mk_laws.proofs.Vocabulary.{takes_cell, target, true, unmaps, used_at, ◌%◌, ◌&&◌, ◌+◌, ◌-◌, ◌/◌, ◌==◌, ◌^◌}
-use Rattle.mk_laws.proofs.Vocabulary.{◌||◌, ◌∙◌, ◌≡◌, ◌≢◌}
+use Rattle.mk_laws.proofs.Vocabulary.{arith, carves, empties, eqb-true, frees, gives_back, has_closed_page, has_gates}
+use Rattle.mk_laws.proofs.Vocabulary.{has_phase, header_at, header_made, held_by_pages, holder_may, if◌then◌else◌}
+use Rattle.mk_laws.proofs.Vocabulary.{is_decided, is_marked_first, is_next_header, is_phase, is_released_cell}
+use Rattle.mk_laws.proofs.Vocabulary.{is_run_gone, is_some_and, is_used_once, marks_place, may_answer_full, may_end}
+use Rattle.mk_laws.proofs.Vocabulary.{may_turn_black, none_attends, not, object_made, or_left, or_right}
+use Rattle.mk_laws.proofs.Vocabulary.{others_are_held, pages_made, phase_of, place_now, refl, roots_point_well, sym}
+use Rattle.mk_laws.proofs.Vocabulary.{takes_cell, target, true, unmaps, used_at, ◌&&◌, ◌+◌, ◌-◌, ◌==◌, ◌||◌, ◌∙◌, ◌≡◌}
+use Rattle.mk_laws.proofs.Vocabulary.{◌≢◌}
 use Rattle.mk_core.specs.StopConditions.{blackens, marks_by_hand, may_begin, may_black, may_close, may_mark}
 use Rattle.mk_core.specs.StopConditions.{may_unblack, may_undirty}
 use Rattle.mk_core.specs.TurnConditions.{are_wiped, drops, is_in_gone_run, may_give, may_head, may_quarantine, may_use}
@@ -69,9 +68,7 @@ module _ (c : Config) (w v : World) (kept : TurnIsLeft w v) (own : v.now.seats.h
   unmaps_same p n = rw own (rw pages)
 
   empties_same : (p n : ℕ) → empties b p n ≡ empties a p n
-  empties_same p n =
-      ap (λ (s : Steady). empties (record a { pages = s.pages; freed = s.freed; snapshot = s.snapshot }) p n)
-      kept.steady
+  empties_same p n = grind (arith, pages)
 
   head_on : (f : Flight) (p n : ℕ) → may_head c w.now f p n ≡ true → may_head c v.now f p n ≡ true
   head_on f p n h =
@@ -107,25 +104,17 @@ module _ (c : Config) (w v : World) (kept : TurnIsLeft w v) (own : v.now.seats.h
   -- `quar`
 
   drops_same : (p f n : ℕ) → b.marks ≡ a.marks → drops b p f n ≡ drops a p f n
-  drops_same p f n marks = ap (λ (ms : List ℕ). drops (record b { marks = ms }) p f n) marks
-      ∙ ap (λ (s : Steady). drops (record a { pages = s.pages; freed = s.freed; snapshot = s.snapshot }) p f n)
-      kept.steady
+  drops_same p f n marks = grind (arith, pages)
 
   frees_same : (f : Flight) (p n : ℕ) → frees b (target c.pages b f) p n ≡ frees a (target c.pages a f) p n
   frees_same f p n = ap (λ (s : Steady). frees (record a { pages = s.pages; freed = s.freed; snapshot = s.snapshot })
       (target c.pages (record a { pages = s.pages; freed = s.freed; snapshot = s.snapshot }) f) p n) kept.steady
 
   snapshot_same : (p n : ℕ) → takes_snapshot b p n ≡ takes_snapshot a p n
-  snapshot_same p n =
-      ap (λ (s : Steady). (s.phase == 0) && (n == quarantine_word (slice_index s.freed p) (slice_index s.freed p)))
-      kept.steady
+  snapshot_same p n = grind arith
 
   quarantine_on : (f : Flight) (p n : ℕ) → may_quarantine c w.now f p n ≡ true → may_quarantine c v.now f p n ≡ true
-  quarantine_on f p n h =
-      ap (λ i. if i == 4 then drops b p (n % 2 ^ 32) (n / 2 ^ 32) else frees b (target c.pages b f) p n
-      || takes_snapshot b p n) phase ∙ if_on (is_phase a 4) _ _ _ _
-      (λ four e. drops_same p (n % 2 ^ 32) (n / 2 ^ 32) (quiet_at_4 four) ∙ e) (λ off e. or_on _ _ _ _
-      (λ u. frees_same f p n ∙ u) (λ u. snapshot_same p n ∙ u) e) h
+  quarantine_on f p n h = grind (arith, phase, if_on, drops_same, quiet_at_4, or_on, frees_same, snapshot_same)
 
   -- `mark`, `wipe`, `full`, `give`
 
@@ -140,11 +129,7 @@ module _ (c : Config) (w v : World) (kept : TurnIsLeft w v) (own : v.now.seats.h
       p == 0) && (n == bits_made o)) (place_now c w.now f)) kept.steady
 
   released_on : (cell : Cell) → is_released_cell a cell ≡ true → is_released_cell b cell ≡ true
-  released_on cell h =
-      let four = (and_parts (is_phase a 4) _ h).0 in
-      ap (λ (ms : List ℕ). is_released_cell (record b { marks = ms }) cell) (quiet_at_4 four)
-      ∙ ap (λ (s : Steady). (s.phase == 4) && is_left_unmarked (record a { snapshot = s.snapshot }) cell) kept.steady
-      ∙ h
+  released_on cell h = grind (arith, and_parts, quiet_at_4)
 
   gone_run_same : (n : ℕ) → is_in_gone_run b v.now.seats.holding.freed n ≡ is_in_gone_run a w.now.seats.holding.freed n
   gone_run_same n = rw own (rw pages)
@@ -170,18 +155,10 @@ module _ (c : Config) (w v : World) (kept : TurnIsLeft w v) (own : v.now.seats.h
   -- the phase's steps
 
   begin_on : phase_of a ≡ 0 → may_begin c.pages a ≡ true → may_begin c.pages b ≡ true
-  begin_on zero h =
-      let q = quiet 0 zero (λ e. absurd (omega arith)) (λ e. absurd (omega arith)) in
-      ap (λ (ms : List ℕ). may_begin c.pages (record b { marks = ms })) q.0
-      ∙ ap (λ (bs : List ℕ). may_begin c.pages (record b { marks = a.marks; blacks = bs })) q.1
-      ∙ ap (λ (s : Steady). may_begin c.pages (record a { freed = s.freed; snapshot = s.snapshot; fresh = s.fresh }))
-      kept.steady ∙ h
+  begin_on zero h = grind (arith, quiet)
 
   end_on : phase_of a ≡ 4 → may_end c.pages a ≡ true → may_end c.pages b ≡ true
-  end_on four h =
-      let q = quiet 4 four (λ e. absurd (omega arith)) (λ e. absurd (omega arith)) in
-      ap (λ (ms : List ℕ). may_end c.pages (record b { marks = ms })) q.0
-      ∙ ap (λ (s : Steady). may_end c.pages (record a { pages = s.pages; snapshot = s.snapshot })) kept.steady ∙ h
+  end_on four h = grind (arith, quiet, pages)
 
   over_on : may_end_all c w.now ≡ true → may_end_all c v.now ≡ true
   over_on h = ap (λ (s : Steady). (s.turn == 1 + c.callers) && (s.phase == 0)) kept.steady ∙ h
@@ -222,28 +199,10 @@ module _ (c : Config) (w v : World) (kept : TurnIsLeft w v) (own : v.now.seats.h
       ∙ ap (λ (ps : List Page). may_black c (record w.now { words = record a { pages = ps } }) p n) pages ∙ h
 
   undirty_on : (p : ℕ) → may_undirty w.now p ≡ true → may_undirty v.now p ≡ true
-  undirty_on p h = elim (cases_Bool (is_phase a 2)) [
-    | inr off ↦ or_left (not (is_phase b 2)) _ (ap not (phase_is 2 ∙ off))
-    | inl on ↦
-        let two = eqb-true (phase_of a) 2 on in
-        let all = ap (λ t. not t || (none_attends w.now.seats.markers && (slice_index a.blacks p == 0)
-        && (slice_index a.blacks (head_page a p) == 0))) (sym on) ∙ h in
-        let parts = and_parts _ _ all in
-        let none = (and_parts _ _ parts.0).0 in
-        or_right _ _
-        (ap (λ (t : Bool). t && (slice_index b.blacks p == 0) && (slice_index b.blacks (head_page b p) == 0))
-        (none_on two none ∙ sym none) ∙ ap (λ (bs : List ℕ). none_attends w.now.seats.markers && (slice_index bs p == 0)
-        && (slice_index bs (head_page b p) == 0)) (stopped two none).1
-        ∙ ap (λ (ps : List Page). none_attends w.now.seats.markers && (slice_index a.blacks p == 0)
-        && (slice_index a.blacks (head_page (record a { pages = ps }) p) == 0)) pages ∙ all)
-  ]
+  undirty_on p h = grind (arith, or_left, phase_is, eqb-true, and_parts, or_right, none_on, stopped, pages)
 
   unblack_on : may_unblack w.now ≡ true → may_unblack v.now ≡ true
-  unblack_on h = elim (cases_Bool (is_phase a 2)) [
-    | inr off ↦ or_left _ _ (ap not (phase_is 2 ∙ off))
-    | inl on ↦ or_right _ _
-        (none_on (eqb-true (phase_of a) 2 on) (ap (λ t. not t || none_attends w.now.seats.markers) (sym on) ∙ h))
-  ]
+  unblack_on h = grind (arith, or_left, phase_is, or_right, none_on, eqb-true)
 
   -- all of them
   pub holder_on : (s : Seat) (f : Flight) (x : Step) → has_gates c a s f x ≡ true → has_phase (phase_of a) x ≡ true

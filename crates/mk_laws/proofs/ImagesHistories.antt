@@ -2,7 +2,7 @@
 use Rattle.std.proofs.lemmas.List.{length-replicate}
 use Rattle.mk_laws.proofs.Vocabulary.{Answer, AreAdmitted, AreEnabled, AreEnabledFrom, Bool, Call, Config, Decided}
 use Rattle.mk_laws.proofs.Vocabulary.{Event, ImagePremises, ImagePremisesAlong, IsHistory, IsSafe, IsWithinLimits, List}
-use Rattle.mk_laws.proofs.Vocabulary.{Mirrors, NeverState, Null, Ptr, Value, World, ℕ, after_calls, answer_of, answered}
+use Rattle.mk_laws.proofs.Vocabulary.{Mirrors, NeverState, Null, Ptr, Value, World, ℕ, after_calls, answered}
 use Rattle.mk_laws.proofs.Vocabulary.{answers_of, ap, append-nil, append_assoc, arith, asked, at_rest, bases_of}
 use Rattle.mk_laws.proofs.Vocabulary.{call_decided, calls_from, false, first_world, image_of, left, left_from}
 use Rattle.mk_laws.proofs.Vocabulary.{left_more, map-append, refl, replies_of, sym, true, world_behind, [], ◌*◌, ◌++◌}
@@ -32,9 +32,7 @@ joined_right : (bs : List ℕ) (n : NeverState) (xs ys : List Decided)
     → answered xs ≡ answers_of bs (replies_of n (asked xs))
     → answered ys ≡ answers_of bs (replies_of (after_calls n (asked xs)) (asked ys))
     → answered (xs ++ ys) ≡ answers_of bs (replies_of n (asked (xs ++ ys)))
-joined_right bs n xs ys hx hy = map-append answer_in xs ys ∙ rw hx (rw hy (sym (map-append (answer_of bs) _ _)
-    ∙ ap (answers_of bs) (sym (replies_append n (asked xs) (asked ys))
-    ∙ ap (replies_of n) (sym (map-append call_of xs ys)))))
+joined_right bs n xs ys hx hy = grind (arith, map-append, answer_in, replies_append, call_of)
 
 -- The list is in two parts: the events that are done, and those that come.
 follows_from : (c : Config) (whole done es : List Event) (w : World) (n : NeverState) → IsWithinLimits c

@@ -202,9 +202,7 @@ module _ (s : ImageScene) (n : NeverState) (h : AreImages s n) (small : AreSmall
   plain_registers : (k : ℕ) (f : Flight) → Decides s n k f → (i : ℕ)
       → shown (flight_among (slice_set s.flights k f) (i / 8)) (i % 8) (slice_index s.registers i)
       ≡ image_of bases (slice_index_or n.registers i Null)
-  plain_registers k f at = registers_from _ s.flights k f s.registers n.registers at.there
-      (λ r lr. shows_plain f _ _ (bare_owes_nothing f.stage at.bare)
-      ∙ own_plain s n h k r lr at.was) (λ i ne. h.registers i)
+  plain_registers k f at = grind (arith, registers_from, shows_plain, bare_owes_nothing, own_plain)
 
   shares : (k g x : ℕ) (f : Flight) (v : Value) → Decides s n k f → g < length s.globals → g < length n.globals
       → x ≡ image_of bases v
@@ -280,13 +278,7 @@ module _ (s : ImageScene) (n : NeverState) (h : AreImages s n) where
   pub rebased : (xs : List PlacedAllocation) → bases_of xs ≡ bases_of s.allocations
       → ((a : ℕ) → (placed_at xs a).released ≡ false → (placed_at s.allocations a).released ≡ false)
       → AreImages (record s { allocations = xs }) n
-  rebased xs e u = record {
-    registers = λ k. h.registers k ∙ rw (← e);
-    globals = λ g. h.globals g ∙ rw (← e);
-    heap = λ a i r m lt. rw (same_base s.allocations xs e a) (h.heap a i (u a r) m lt ∙ rw (← e));
-    carried = λ j. rw e (h.carried j);
-    probed = h.probed;
-  }
+  rebased xs e u = grind (arith, same_base)
 
 module _ (s : ImageScene) (n : NeverState) (h : AreImages s n) (small : AreSmall s.flights) where
   frees : (k a : ℕ) (f : Flight) → Decides s n k f

@@ -63,21 +63,11 @@ module _ (safe : ℕ → Bool) (s : ImageScene) (n : NeverState) (h : IsSafeSet 
   of_freed : (a : ℕ) (xs : List PlacedAllocation)
       → ((b : ℕ) → (placed_at xs b).released ≡ (placed_at s.allocations b).released)
       → IsSafeSet safe xs (with_freed n a)
-  of_freed a xs same = record {
-    registers = h.registers;
-    globals = h.globals;
-    closed = λ b j sb mb. rw (freed_words n a b) (h.closed b j sb (freed_was n a b mb));
-    unreleased = λ b sb. same b ∙ h.unreleased b sb;
-  }
+  of_freed a xs same = grind (arith, freed_words, freed_was)
 
   of_same : (xs : List PlacedAllocation) → ((b : ℕ) → (placed_at xs b).released ≡ (placed_at s.allocations b).released)
       → IsSafeSet safe xs n
-  of_same xs same = record {
-    registers = h.registers;
-    globals = h.globals;
-    closed = h.closed;
-    unreleased = λ b sb. same b ∙ h.unreleased b sb;
-  }
+  of_same xs same = grind arith
 
   of_new : (k d base ty : ℕ) → length s.allocations ≡ length n.allocations
       → IsSafeSet (λ a. safe a || (a == length n.allocations)) (s.allocations ++ fresh_one base ty ∷ [])
@@ -106,10 +96,7 @@ module _ (safe : ℕ → Bool) (s : ImageScene) (n : NeverState) (h : IsSafeSet 
       }
     where
       old : (b : ℕ) → b ≢ length n.allocations → (safe b || (b == length n.allocations)) ≡ true → safe b ≡ true
-      old b ne sb = elim (or_cases (safe b) (b == length n.allocations) sb) [
-        | inl x ↦ x
-        | inr x ↦ absurd (ne (eqb-true b (length n.allocations) x))
-      ]
+      old b ne sb = grind (arith, or_cases, eqb-true)
 
 pub safe_kept : (safe : ℕ → Bool) (s t : ImageScene) (n m : NeverState) → IsSafeSet safe s.allocations n
     → length s.allocations ≡ length n.allocations → Move safe s n t m → HasSafeSet t.allocations m
@@ -141,11 +128,7 @@ twins_changed xs n a x et ef h = record {
 
 twins_same : (xs ys : List PlacedAllocation) (n : NeverState) → SamePlaces xs ys
     → ((a : ℕ) → (placed_at ys a).freed ≡ (placed_at xs a).freed) → AreTwins xs n → AreTwins ys n
-twins_same xs ys n p f h = record {
-  count = p.count ∙ h.count;
-  ty = λ b lt. p.each b ∙ h.ty b (let e = p.count in omega (arith, e));
-  freed = λ b lt. f b ∙ h.freed b (let e = p.count in omega (arith, e));
-}
+twins_same xs ys n p f h = grind arith
 
 twins_freed : (xs ys : List PlacedAllocation) (n : NeverState) (a : ℕ) → SamePlaces xs ys → a < length n.allocations
     → ((b : ℕ) → b ≢ a → (placed_at ys b).freed ≡ (placed_at xs b).freed) → (placed_at ys a).freed ≡ true

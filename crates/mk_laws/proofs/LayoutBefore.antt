@@ -1,8 +1,7 @@
 -- What is known of a world before an event, and what is to show after it.
-use Rattle.mk_laws.proofs.Vocabulary.{Among, AreOfPages, Bool, Claim, Config, Flight, Ground, IsWithinLimits}
-use Rattle.mk_laws.proofs.Vocabulary.{LayoutPremises, Seat, Step, World, ℕ, arith, claims_on, false, flight_of}
-use Rattle.mk_laws.proofs.Vocabulary.{ground_of, is_phase, is_released_in, length, ltb-true, nat_lt, object_now, true}
-use Rattle.mk_laws.proofs.Vocabulary.{◌<◌, ◌≡◌}
+use Rattle.mk_laws.proofs.Vocabulary.{Among, AreOfPages, Bool, Claim, Config, Ground, IsWithinLimits, LayoutPremises}
+use Rattle.mk_laws.proofs.Vocabulary.{Seat, Step, World, ℕ, arith, claims_on, false, ground_of, is_phase}
+use Rattle.mk_laws.proofs.Vocabulary.{is_released_in, length, ltb-true, nat_lt, object_now, true, ◌<◌, ◌≡◌}
 use Rattle.mk_laws.proofs.Ground.{KeepsGround, reg_ground}
 use Rattle.mk_laws.proofs.{Known.Known, OthersMoves.WorldBehind, SameWords.Keeps, SameWords.reg_keeps, Serving.Laid}
 
@@ -35,12 +34,8 @@ page_within c w p b h = let lt = ltb-true p c.pages h in let len = b.lengths.pag
 
 -- A `reg` leaves the protocol's words, and the ground's.
 pub reg_leaves : (c : Config) (w : World) (seat : Seat) → Keeps w.now.words (WorldBehind c w seat Step.Reg).now.words
-reg_leaves c w seat =
-    let f : Flight = flight_of w.now seat in
-    reg_keeps w.now.words _ _ _
+reg_leaves c w seat = grind (arith, reg_keeps)
 
 pub reg_leaves_ground : (c : Config) (w : World) (seat : Seat)
     → KeepsGround w.now.words (WorldBehind c w seat Step.Reg).now.words
-reg_leaves_ground c w seat =
-    let f : Flight = flight_of w.now seat in
-    reg_ground w.now.words _ _ _
+reg_leaves_ground c w seat = grind (arith, reg_ground)

@@ -6,14 +6,13 @@ use Rattle.mk_laws.proofs.Vocabulary.{QuarantineStep, RunPages, Seat, Some, Step
 use Rattle.mk_laws.proofs.Vocabulary.{World, ℕ, and_parts, and_right, ap, arith, cell_freed, chosen, claims_of, decided}
 use Rattle.mk_laws.proofs.Vocabulary.{eqb-true, false, false_from_ne_true, flight_of, freed_cell, freed_where_it_stands}
 use Rattle.mk_laws.proofs.Vocabulary.{fresh_leaves, granted, granted_base_is, granted_object, granted_type, ground_of}
-use Rattle.mk_laws.proofs.Vocabulary.{has_place, head_step, header_at, held_by_pages, if◌then◌else◌, is_decided}
-use Rattle.mk_laws.proofs.Vocabulary.{is_phase, is_run_gone, is_run_unmapped, is_undecided_new, is_used_once}
-use Rattle.mk_laws.proofs.Vocabulary.{layout_scene_of, length, map, marks_is, marks_place, may_end, ne_eqb}
-use Rattle.mk_laws.proofs.Vocabulary.{no_longer_fresh, none_freed, not, nothing_done, object_made, object_now, or_else}
-use Rattle.mk_laws.proofs.Vocabulary.{place_now, placed_now, quarantine_step, refl, run_of_cell, seat_exists, slice_set}
-use Rattle.mk_laws.proofs.Vocabulary.{sym, taken, true, true≢false, undecided_free, undecided_new, used_step}
-use Rattle.mk_laws.proofs.Vocabulary.{with_released, words_are_zero, [], ◌%◌, ◌&&◌, ◌*◌, ◌++◌, ◌/◌, ◌<◌, ◌==◌, ◌^◌, ◌∙◌}
-use Rattle.mk_laws.proofs.Vocabulary.{◌∷◌, ◌≡◌, ◌≢◌}
+use Rattle.mk_laws.proofs.Vocabulary.{has_place, head_step, header_at, if◌then◌else◌, is_decided, is_phase, is_run_gone}
+use Rattle.mk_laws.proofs.Vocabulary.{is_run_unmapped, is_undecided_new, is_used_once, layout_scene_of, length, map}
+use Rattle.mk_laws.proofs.Vocabulary.{marks_is, marks_place, may_end, ne_eqb, no_longer_fresh, none_freed, not}
+use Rattle.mk_laws.proofs.Vocabulary.{nothing_done, object_made, object_now, or_else, place_now, placed_now}
+use Rattle.mk_laws.proofs.Vocabulary.{quarantine_step, refl, run_of_cell, seat_exists, slice_set, sym, taken, true}
+use Rattle.mk_laws.proofs.Vocabulary.{true≢false, undecided_free, undecided_new, used_step, with_released, [], ◌%◌}
+use Rattle.mk_laws.proofs.Vocabulary.{◌++◌, ◌/◌, ◌<◌, ◌==◌, ◌^◌, ◌∙◌, ◌∷◌, ◌≡◌, ◌≢◌}
 use Rattle.mk_laws.proofs.Basics.{Before, Laid, LeavesCells, Meets, WorldBehind, first_header, free_has_turn}
 use Rattle.mk_laws.proofs.Basics.{gone_terrain, grants_new, holding_object, made_sized, new_has_turn, no_run}
 use Rattle.mk_laws.proofs.Basics.{none_on_its_way, page_within, placed_undecided, reg_leaves_ground, tally_ground}
@@ -212,22 +211,7 @@ begin_kind c w laid =
 pub placeless : (c : Config) (o other : Object) (releasing : Bool) (marks : List ℕ) (t : Ground) (placing : Placing)
     → t.placing ≡ placing → has_place placing ≡ false → HasLayout c o releasing marks t
     → HasLayout c other releasing marks t × HasLayout c other releasing marks (record t { placing = Unplaced })
-placeless c o other releasing marks t placing is none st = by placing is none (rw is at st)
-  where
-    by : (placing : Placing) → t.placing ≡ placing → has_place placing ≡ false
-        → HasLayout c o releasing marks (record t { placing = placing })
-        → HasLayout c other releasing marks t × HasLayout c other releasing marks (record t { placing = Unplaced })
-    by Unplaced is none s =
-        let x : HasLayout c other releasing marks (record t { placing = Unplaced }) =
-        record { scene = s.scene; gone = s.gone; first = tt; cells = s.cells } in
-        (rw is x, x)
-    by Granted is none s =
-        let x : HasLayout c other releasing marks (record t { placing = Granted }) =
-        record { scene = s.scene; gone = s.gone; first = tt; cells = s.cells } in (
-          rw is x,
-          record { scene = s.scene; gone = s.gone; first = tt; cells = s.cells },
-        )
-    by _ is none s = cc
+placeless c o other releasing marks t placing is none st = grind arith
 
 -- `give`: the seat has decided, so it has no place, and its run is gone
 undecided_waits : (f : Flight) → is_undecided_new f ≡ true → is_decided f.stage ≡ true → ⊥
@@ -243,12 +227,7 @@ give_kind c w seat b h laid =
     (λ run is. unmapped w.now.seats.holding.freed is own.1) laid)).1
   where
     own : (is_decided (flight_of w.now seat).stage ≡ true) × (is_run_gone w.now.words w.now.seats.holding.freed ≡ true)
-    own =
-        let decided : Bool = is_decided (flight_of w.now seat).stage in
-        let gone : Bool = is_run_gone w.now.words w.now.seats.holding.freed in
-        let counts : Bool = w.now.words.held == held_by_pages w.now.words in
-        let a = and_parts (decided && gone && counts) (w.now.words.fresh == w.now.fresh_words) h.holder in
-        and_parts decided gone (and_parts (decided && gone) counts a.0).0
+    own = grind (arith, and_parts)
 
     no_place : has_place w.now.seats.holding.placing ≡ true → ⊥
     no_place has =
@@ -257,10 +236,7 @@ give_kind c w seat b h laid =
 
     unmapped : (x : Option RunPages) {run : RunPages} → x ≡ Some run → is_run_gone w.now.words x ≡ true
         → is_run_unmapped w.now.words run ≡ true
-    unmapped x {run} is k =
-        let there : is_run_gone w.now.words (Some run) ≡ true = ap (is_run_gone w.now.words) (sym is) ∙ k in
-        (and_parts (is_run_unmapped w.now.words run) (words_are_zero w.now.words (64 * run.page) (64 * run.count))
-        there).0
+    unmapped x {run} is k = grind (arith, and_parts)
 
 -- `take`: where the turn is free, nothing is on its way
 take_kind : (c : Config) (w : World) (seat : Seat) (x : Option Op) → Before c w → LayoutStands c w

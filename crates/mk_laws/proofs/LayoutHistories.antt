@@ -1,21 +1,18 @@
 -- All is in order after every list of enabled events.
-use Rattle.std.proofs.Common.{IsSome, replicate}
-use Rattle.mk_laws.proofs.Vocabulary.{AreEnabledFrom, AreOfPages, Bool, Cell, Config, Empties, Event, Flight}
-use Rattle.mk_laws.proofs.Vocabulary.{HasQuarantine, Header, HeadStep, IsClaimedRun, IsEnabled, IsHeaderWord}
-use Rattle.mk_laws.proofs.Vocabulary.{IsQuarantined, IsWithinLimits, ItCarves, ItDrops, ItEmpties, ItFrees}
-use Rattle.mk_laws.proofs.Vocabulary.{ItTakesSnapshot, ItUnmaps, Later, LayoutPremises, LayoutPremisesFrom}
-use Rattle.mk_laws.proofs.Vocabulary.{LayoutStands, List, NoPlot, Object, OfBlock, Option, Page, PlacedAllocation}
-use Rattle.mk_laws.proofs.Vocabulary.{QuarantineStep, RunStands, Seat, ShowsPart, Some, StandsInOrder, Step, World, ℕ}
-use Rattle.mk_laws.proofs.Vocabulary.{access, accessed_lengths, and_parts, ap, arith, cases_Bool, cases_eq}
-use Rattle.mk_laws.proofs.Vocabulary.{cell_of_allocation, cells_made, cells_under, claim_of, claims_of, enabled_meets}
-use Rattle.mk_laws.proofs.Vocabulary.{false, first_world, flight_of, free_page, ground_of, has_bit, has_bit_without}
-use Rattle.mk_laws.proofs.Vocabulary.{head_page_under, head_step, header_in, header_made, header_of, header_on}
-use Rattle.mk_laws.proofs.Vocabulary.{heads_run, histories_keep_lengths, inl, inr, is_phase, layout_scene_of, left}
-use Rattle.mk_laws.proofs.Vocabulary.{left_from, length, ltb-true, made_shows, object_made, object_now, object_placed}
-use Rattle.mk_laws.proofs.Vocabulary.{pages_made, placed_at, placed_now, quarantine_step, refl, seat_exists, shows_on}
-use Rattle.mk_laws.proofs.Vocabulary.{slice_index, slice_index_or, slice_set, subst, sym, true, true≢false}
-use Rattle.mk_laws.proofs.Vocabulary.{unmapped_header, word_accessed, world_behind, zero_lengths, [], ◌%◌, ◌-◌, ◌/◌}
-use Rattle.mk_laws.proofs.Vocabulary.{◌<◌, ◌^◌, ◌∙◌, ◌∷◌, ◌≡◌}
+use Rattle.std.proofs.Common.{IsSome}
+use Rattle.mk_laws.proofs.Vocabulary.{AreEnabledFrom, AreOfPages, Bool, Config, Empties, Event, Flight, HasQuarantine}
+use Rattle.mk_laws.proofs.Vocabulary.{Header, HeadStep, IsClaimedRun, IsEnabled, IsHeaderWord, IsQuarantined}
+use Rattle.mk_laws.proofs.Vocabulary.{IsWithinLimits, ItCarves, ItDrops, ItEmpties, ItFrees, ItTakesSnapshot, ItUnmaps}
+use Rattle.mk_laws.proofs.Vocabulary.{Later, LayoutPremises, LayoutPremisesFrom, LayoutStands, List, Object, OfBlock}
+use Rattle.mk_laws.proofs.Vocabulary.{Option, Page, QuarantineStep, Seat, ShowsPart, Some, StandsInOrder, Step, World}
+use Rattle.mk_laws.proofs.Vocabulary.{ℕ, access, accessed_lengths, and_parts, ap, arith, cases_Bool, cases_eq}
+use Rattle.mk_laws.proofs.Vocabulary.{cells_under, claims_of, enabled_meets, false, first_world, flight_of, ground_of}
+use Rattle.mk_laws.proofs.Vocabulary.{has_bit, has_bit_without, head_page_under, head_step, header_in, header_made}
+use Rattle.mk_laws.proofs.Vocabulary.{header_of, header_on, histories_keep_lengths, inl, inr, is_phase, left, left_from}
+use Rattle.mk_laws.proofs.Vocabulary.{length, ltb-true, made_shows, object_made, object_now, pages_made, placed_now}
+use Rattle.mk_laws.proofs.Vocabulary.{quarantine_step, refl, seat_exists, shows_on, slice_index, slice_set, sym, true}
+use Rattle.mk_laws.proofs.Vocabulary.{true≢false, unmapped_header, word_accessed, world_behind, zero_lengths, [], ◌%◌}
+use Rattle.mk_laws.proofs.Vocabulary.{◌-◌, ◌/◌, ◌<◌, ◌^◌, ◌∙◌, ◌∷◌, ◌≡◌}
 use Rattle.mk_core.proofs.{EvaluatedHistories.enabled, ObjectHeaders.unmapped_shows}
 use Rattle.mk_laws.proofs.Basics.{Before, Known, Meets, WorldBehind, at_first, bit_cases, headed_other}
 use Rattle.mk_laws.proofs.Basics.{is_releasing_behind, known_at_first, known_behind, known_left, made_sized, none_set}
@@ -27,27 +24,14 @@ use Rattle.mk_laws.proofs.{ResidentPages.count_none, ResidentPages.resident_few,
 use Rattle.mk_laws.proofs.{SnapshotKinds.snapshot_behind, Unmapping.cells_at_claim, WholeRuns.whole_behind}
 use Rattle.mk_laws.specs.LayoutLaws.{EventsKeepTheLayout, HistoriesAreLaidOut, LayoutHasFewResidentPages}
 use Rattle.mk_laws.specs.LayoutLaws.{LayoutHasHeaderWords}
-use Rattle.mk_laws.specs.{Quarantine.FreedCellsAreKnown, Room.HasHeaderWords, Room.is_taken_page}
+use Rattle.mk_laws.specs.{Quarantine.FreedCellsAreKnown, Room.HasHeaderWords}
 
 -- Each freed bit is that of a cell of its page, after each event.
 
 -- While the phase isn't releasing, a freed bit is that of an allocation's cell, which its page has.
 known_quiet : (c : Config) (w : World) → is_phase w.now.words 4 ≡ false → LayoutStands c w → IsQuarantined c w
     → FreedCellsAreKnown w
-known_quiet c w off laid q p k h = elim (q.owned p k h) [
-  | inr r ↦ absurd (true≢false (sym r ∙ rw off))
-  | inl o ↦
-      let a : PlacedAllocation = placed_at w.allocations o.number in
-      let shown = shown_at c w o.number laid o.unreleased in
-      let cells = cells_at_claim
-      (layout_scene_of c (object_now c w.now) (is_phase w.now.words 4) w.now.words.marks (ground_of w))
-      (claim_of c w.now.seats.holding.freed a) shown in
-      let page : a.base / 64 ≡ p = ap (λ (x : Cell). x.page) o.cell in
-      let index : (cell_of_allocation c a).index ≡ k = ap (λ (x : Cell). x.index) o.cell in
-      let lt : (cell_of_allocation c a).index < cells_made (object_placed c a) = shown.known in
-      let here : cells_under (header_in w.now.words p) ≡ cells_made (object_placed c a) = rw (← page) cells in
-      omega arith
-]
+known_quiet c w off laid q p k h = grind (arith, shown_at, cells_at_claim)
 
 -- `head` (d): a page that is emptied has no freed cell
 emptied : (w : World) (p n : ℕ) → p < length w.now.words.pages → Empties w.now.words p n → FreedCellsAreKnown w
@@ -61,12 +45,7 @@ emptied w p n lt x known q k h = elim (cases_eq q p) [
     none : (y : Option Header) → header_in w.now.words p ≡ y → has_bit (slice_index w.now.words.freed p) k ≡ true
         → slice_index w.now.words.freed (head_page_under (header_in w.now.words p) p) ≡ 0 → ⊥
     none (Some (Later d m)) is bit z = let lt = known p k bit in let cells = ap cells_under is in omega arith
-    none y is bit z = by y is bit (ap (λ x. slice_index w.now.words.freed (head_page_under x p)) (sym is) ∙ z)
-      where
-        by : (y : Option Header) → header_in w.now.words p ≡ y → has_bit (slice_index w.now.words.freed p) k ≡ true
-            → slice_index w.now.words.freed (head_page_under y p) ≡ 0 → ⊥
-        by (Some (Later d m)) is bit z = let lt = known p k bit in let cells = ap cells_under is in omega arith
-        by _ is bit z = none_set (slice_index w.now.words.freed p) k z bit
+    none y is bit z = grind (arith, none_set)
 
 abbrev KnownOn : List Page → List ℕ → Type 0
 KnownOn pages freed = (p k : ℕ) → has_bit (slice_index freed p) k ≡ true → k < cells_under (shows_on pages p)
@@ -133,9 +112,7 @@ stored_word c w seat p n b there laid (ItCarves off x) =
     rw x.next.is (part_is o (p - x.place.page) (header_of (header_made o (p - x.place.page)))
     (made_shows o (p - x.place.page) (made_sized c w.now seat b.limits b.known placed.new) x.next.near))
 stored_word c w seat p n b there laid (ItUnmaps off x) =
-    let r : IsClaimedRun (claims_of c w.now.seats.holding.freed w.allocations) x.run =
-    subst (RunStands (claims_of c w.now.seats.holding.freed w.allocations)) x.there laid.gone
-    in
+    let r : IsClaimedRun (claims_of c w.now.seats.holding.freed w.allocations) x.run = grind arith in
     let o : Object = r.claim.object in
     let sized = (laid.scene.shown r.claim (own_claim c (object_now c w.now) (ground_of w) r.claim r.among)).sized in
     let near : p - x.run.page < pages_made o = (let count = r.count in let lt = x.next.near in omega arith) in
@@ -154,62 +131,16 @@ words_behind c w seat (Step.Head p n) b h laid words = λ q. elim (cases_eq q p)
       (stored_word c w seat p n b h.seat laid (head_step c w.now _ p n h.holder)))
   | inr ne ↦ rw (headed_other w.now.words.pages p n q ne) (words q)
 ]
-words_behind c w seat (Step.Used p n) b h laid words =
-    λ q. rw (used_header w.now.words.pages p n q (page_within c w p b h.range)) (words q)
-words_behind c w seat Step.Reg b h laid words = subst HaveWords (sym (reg_leaves_ground c w seat).pages) words
-words_behind c w seat (Step.Tally n v) b h laid words = subst HaveWords (sym (tally_ground w.now.words n v).pages) words
-words_behind c w seat _ b h laid words = words
+words_behind c w seat x3 b h laid words = grind (arith, used_header, page_within, reg_leaves_ground, tally_ground)
 
 laid_at_first : (c : Config) → LayoutStands c (first_world c)
-laid_at_first c = record {
-  scene = record {
-    shown = λ x i. absurd i;
-    apart = tt;
-    used = λ p k h. absurd (none_set (slice_index_or (replicate c.pages free_page) p free_page).used k
-        (rw (free p)) h);
-    plot = tt;
-    occupied = λ p some empty. absurd (some (ap (λ (x : Page). x.header) (free p)));
-    later = λ p d m is. let e = sym (ap (λ (x : Page). header_of x.header) (free p)) ∙ is in let y : true ≡ false =
-        cc in absurd (true≢false y);
-  };
-  gone = tt;
-  first = tt;
-  cells = λ i u. absurd (true≢false u);
-}
-  where
-    free : (p : ℕ) → slice_index_or (replicate c.pages free_page) p free_page ≡ free_page
-    free p = at_first c.pages p free_page
+laid_at_first c = grind (arith, none_set, at_first)
 
 quarantined_at_first : (c : Config) → IsQuarantined c (first_world c)
-quarantined_at_first c = record {
-  small = λ p. (let z = zero_at p in omega arith, let z = zero_at p in omega arith);
-  within = λ p k h. absurd (none_set _ k (zero_at p) h);
-  owned = λ p k h. absurd (none_set _ k (zero_at p) h);
-  shown = λ i u f. absurd (true≢false u);
-  taken = λ place is. let y : true ≡ false = cc in absurd (true≢false y);
-  kept = λ on i u. absurd (true≢false u);
-}
-  where
-    zero_at : (p : ℕ) → slice_index (replicate c.pages 0) p ≡ 0
-    zero_at p = at_first c.pages p 0
+quarantined_at_first c = grind (arith, none_set, at_first)
 
 pub in_order_at_first : (c : Config) → StandsInOrder c (first_world c)
-in_order_at_first c = record {
-  laid = laid_at_first c;
-  quarantined = quarantined_at_first c;
-  known = λ p k h. absurd (none_set _ k (at_first c.pages p 0) h);
-  snapshot = record {
-    fresh = λ i f. absurd (true≢false (sym f));
-    quarantined = λ on. absurd (true≢false (sym on));
-  };
-  words = λ p. subst (λ (x : Page). IsHeaderWord x.header) (sym (at_first c.pages p free_page)) refl;
-  runs = λ p h. absurd
-      (true≢false (sym h ∙ ap (λ (x : Page). heads_run (header_of x.header)) (at_first c.pages p free_page)));
-  room = let none = count_none c.pages _ free in omega arith;
-}
-  where
-    free : (p : ℕ) → is_taken_page (replicate c.pages free_page) NoPlot p ≡ false
-    free p = rw (at_first c.pages p free_page)
+in_order_at_first c = grind (arith, laid_at_first, quarantined_at_first, none_set, at_first, count_none)
 
 pub known_before : (c : Config) (w : World) → IsWithinLimits c → AreOfPages c.pages w.now.words → Known c w.now
     → LayoutPremises c w → IsQuarantined c w → Before c w

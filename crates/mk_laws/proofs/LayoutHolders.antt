@@ -1,5 +1,5 @@
 -- Who serves: the holder of the turn, its object, and how far it is.
-use Rattle.mk_laws.proofs.Vocabulary.{Caller, Config, Group, IsSized, IsWithinLimits, Moment, None, Object, Op, Option}
+use Rattle.mk_laws.proofs.Vocabulary.{Caller, Config, Group, IsSized, IsWithinLimits, Moment, None, Object, Op}
 use Rattle.mk_laws.proofs.Vocabulary.{RunPages, Seat, Some, Stage, Step, arith, false, flight_of, group_of}
 use Rattle.mk_laws.proofs.Vocabulary.{has_operands, has_place, header_made, is_decided_free_at, is_free_at}
 use Rattle.mk_laws.proofs.Vocabulary.{is_undecided_free, is_undecided_new, ltb-true, made_shows, object_made}
@@ -55,17 +55,11 @@ decided_later o _ at h = cc
 
 pub no_run : (c : Config) (m : Moment) (seat : Seat) → Known c m → HoldsTurn c (view_of m) seat
     → (flight_of m seat).stage ≡ Stage.Turn → (run : RunPages) → m.seats.holding.freed ≡ Some run → ⊥
-no_run c m seat known t at run is =
-    let decided = known.orderly.served.freed (rw is) in
-    decided_later (flight_of m seat).op (flight_of m seat).stage at (rw (← (holding_flight c m seat known t)) decided)
+no_run c m seat known t at run is = grind (arith, decided_later, holding_flight)
 
 pub none_on_its_way : (c : Config) (m : Moment) (seat : Seat) → Known c m → HoldsTurn c (view_of m) seat
     → (flight_of m seat).stage ≡ Stage.Turn → m.seats.holding.freed ≡ None
-none_on_its_way c m seat known t at = by m.seats.holding.freed (no_run c m seat known t at)
-  where
-    by : (x : Option RunPages) → ((run : RunPages) → x ≡ Some run → ⊥) → x ≡ None
-    by None out = refl
-    by (Some run) out = absurd (out run refl)
+none_on_its_way c m seat known t at = grind (arith, no_run)
 
 pub placed_undecided : (c : Config) (m : Moment) (seat : Seat) → Known c m → HoldsTurn c (view_of m) seat
     → has_place m.seats.holding.placing ≡ true → is_undecided_new (flight_of m seat) ≡ true

@@ -54,8 +54,5 @@ pub one_claim : (xs : List Claim) (x y : Claim) → AreApart xs → Among x xs �
 one_claim [] x y apart ix iy same = absurd ix
 one_claim (z ∷ zs) x y apart (inl ex) (inl ey) same = ex ∙ sym ey
 one_claim (z ∷ zs) x y apart (inl ex) (inr iy) same = absurd (apart.0 y iy (rw (← ex) same.0, rw (← ex) same.1))
-one_claim (z ∷ zs) x y apart (inr ix) (inl ey) same = absurd (apart.0 x ix (
-  rw (← ey) (sym same.0),
-  rw (← ey) (sym same.1),
-))
+one_claim (z ∷ zs) x y apart (inr ix) (inl ey) same = grind arith
 one_claim (z ∷ zs) x y apart (inr ix) (inr iy) same = one_claim zs x y apart.1 ix iy same

@@ -3,14 +3,14 @@ use Rattle.mk_laws.proofs.Vocabulary.{Bool, Caller, Cell, Config, Flight, Hand, 
 use Rattle.mk_laws.proofs.Vocabulary.{Moment, NeverState, None, Null, Object, Option, Place, PlacedAllocation}
 use Rattle.mk_laws.proofs.Vocabulary.{PointsInto, Seat, SeenHeader, Some, Stage, Step, Words, World, ℕ, address_of}
 use Rattle.mk_laws.proofs.Vocabulary.{and_parts, ap, arith, at_rest, bases_of, bit, cases_Bool, cell_at}
-use Rattle.mk_laws.proofs.Vocabulary.{cell_of_allocation, cell_seen, d_of, eqb-true, false, false≢true}
-use Rattle.mk_laws.proofs.Vocabulary.{first_page_shows, flight_among, flight_of, get_or-set_same, granted, granted_base}
-use Rattle.mk_laws.proofs.Vocabulary.{has_bit, header_at, if◌then◌else◌, image_of, inl, inr, is_marked, is_some}
-use Rattle.mk_laws.proofs.Vocabulary.{is_some_and, is_unmarked, length, ltb-true, marker_of, marks_place, not}
-use Rattle.mk_laws.proofs.Vocabulary.{object_made, object_placed, page_at_address, part_not_free, place_now, placed_at}
-use Rattle.mk_laws.proofs.Vocabulary.{pointed_cell, refl, seen_bit, seen_page, shown, slice_index, slice_index_or}
-use Rattle.mk_laws.proofs.Vocabulary.{storage_of, subst, sym, true, words_within, zero, ◌%◌, ◌&&◌, ◌*◌, ◌+◌, ◌/◌, ◌<◌}
-use Rattle.mk_laws.proofs.Vocabulary.{◌==◌, ◌^◌, ◌||◌, ◌∙◌, ◌≡◌, ◌≢◌}
+use Rattle.mk_laws.proofs.Vocabulary.{cell_of_allocation, cell_seen, d_of, eqb-true, false, first_page_shows}
+use Rattle.mk_laws.proofs.Vocabulary.{flight_among, flight_of, get_or-set_same, granted, granted_base, has_bit}
+use Rattle.mk_laws.proofs.Vocabulary.{header_at, if◌then◌else◌, image_of, inl, inr, is_marked, is_some, is_some_and}
+use Rattle.mk_laws.proofs.Vocabulary.{is_unmarked, length, ltb-true, marker_of, marks_place, not, object_made}
+use Rattle.mk_laws.proofs.Vocabulary.{object_placed, page_at_address, part_not_free, place_now, placed_at, pointed_cell}
+use Rattle.mk_laws.proofs.Vocabulary.{refl, seen_bit, seen_page, shown, slice_index, slice_index_or, storage_of, subst}
+use Rattle.mk_laws.proofs.Vocabulary.{sym, true, words_within, zero, ◌%◌, ◌&&◌, ◌*◌, ◌+◌, ◌/◌, ◌<◌, ◌==◌, ◌^◌, ◌||◌}
+use Rattle.mk_laws.proofs.Vocabulary.{◌∙◌, ◌≡◌, ◌≢◌}
 use Rattle.mk_geom.proofs.PointedCells.{address_points_into}
 use Rattle.mk_core.proofs.WordBits.{bit_of_cell, bit_of_power, more_bits}
 use Rattle.mk_core.proofs.{ChangedAllocations.granted_at, RegisterAccesses.register_is_small, ServingSteps.place_marked}
@@ -92,11 +92,8 @@ granted_points c w n k after T s u = s.there.registers (8 * k + d) i (u, rw imag
 pub new_is_touched : (c : Config) (w : World) (n : NeverState) (seat : Seat) (x : Step) (after : NeverState)
     (T : ℕ → Type 0) (i : ℕ) → Steps c w n seat x after T → x ≡ Step.Grant → i ≡ length w.allocations
     → (placed_at (WorldBehind c w seat x).allocations i).released ≡ false → T i
-new_is_touched c w n (Caller k) Step.Grant after T i s is at u = subst T (sym at) (granted_points c w n k after T s
-    (subst (λ j. (placed_at (WorldBehind c w (Caller k) Step.Grant).allocations j).released ≡ false) at u))
 new_is_touched c w n (Marker k) Step.Grant after T i s is at u = let kind = s.meets.kind in cc
-new_is_touched c w n Host Step.Grant after T i s is at u = absurd (false≢true (and_parts _ false s.meets.order).1)
-new_is_touched c w n seat _ after T i s is at u = cc
+new_is_touched c w n seat x4 after x6 i s is at u = grind (arith, granted_points, and_parts)
 
 -- What pointed into members alone still does after a step.
 pub points_behind : (c : Config) (w : World) (n : NeverState) (seat : Seat) (x : Step) (after : NeverState)
@@ -133,12 +130,7 @@ has_header c w n b t u =
 hand_cell : (cell : Option Cell) (page value k : ℕ) → is_bit_of cell page value ≡ true → has_bit value k ≡ true
     → cell ≡ Some (record { page = page; index = k })
 hand_cell None page value k h bit = cc
-hand_cell (Some x) page value k h bit =
-    let parts = and_parts _ _ h in
-    let at : page ≡ x.page = eqb-true page x.page parts.0 in
-    let one : value ≡ 2 ^ x.index = eqb-true value (2 ^ x.index) parts.1 in
-    let same : k ≡ x.index = bit_of_power x.index k (rw one at bit) in
-    rw (← at) (rw (← same))
+hand_cell (Some x) page value k h bit = grind (arith, and_parts, eqb-true, bit_of_power)
 
 -- A hand that marks, and doesn't sweep
 record MarksWith (w : Words) (pages : ℕ) (hand : Option Hand) (page value : ℕ) : Type 0 where

@@ -23,15 +23,7 @@ use Rattle.mk_laws.specs.Guard.{EndsItsCell, cell_scanned}
 
 -- A number lies in one of the pieces of a length.
 one_piece : (size k j y : ℕ) → k * size ≤ y → y < k * size + size → j * size ≤ y → y < j * size + size → k ≡ j
-one_piece size k j y from to from2 to2 = elim (cases_lt k j) [
-  | inl lt ↦ before k j from2 to lt
-  | inr le ↦ elim (cases_lt j k) [ inl lt ↦ before j k from to2 lt | inr le2 ↦ omega arith ]
-]
-  where
-    before : (a b : ℕ) → b * size ≤ y → y < a * size + size → a < b → k ≡ j
-    before a b low high lt =
-        let m : (a + 1) * size ≤ b * size = mul-le (a + 1) size b size (omega arith) (omega arith) in
-        absurd (omega arith)
+one_piece size k j y from to from2 to2 = grind (arith, cases_lt, mul-le)
 
 -- A page that has a header and a word of a cell names the cell's page.
 scanned_head : (c : Config) (w : World) (n : NeverState) (p k x : ℕ) → Told c w n
@@ -127,11 +119,7 @@ scanned_cell c w n p k x i t known from to u word = ap (λ (q : ℕ). record { p
 -- A marker that is in the middle of nothing holds and has seen nothing.
 pub idle_is_precise : (c : Config) (s : PrecisionScene) (T : ℕ → Type 0) (x : MarkerState) → IsIdle x
     → MarkerIsPrecise c s T x
-idle_is_precise c s T x idle = record {
-  hand = λ v is. absurd (none-some _ (sym idle.hand ∙ is));
-  scan = λ z is. absurd (none-some _ (sym idle.scan ∙ is));
-  seen = λ z is. absurd (none-some _ (sym idle.seen ∙ is));
-}
+idle_is_precise c s T x idle = grind (arith, none-some)
 
 -- what goes on after a step of another, or of its own
 pub marker_kept : (c : Config) (w : World) (n : NeverState) (seat : Seat) (x : Step) (after : NeverState)

@@ -1,9 +1,9 @@
 -- Along the marking of a cycle without a sweeping mark, all that is marked or held is touched.
 use Rattle.mk_laws.proofs.Vocabulary.{AreEnabledFrom, Config, Event, IsHistory, IsMarking, List, Marking, Step, World}
 use Rattle.mk_laws.proofs.Vocabulary.{ℕ, ap, append-nil, append_assoc, arith, before_close, earlier_part_is_history}
-use Rattle.mk_laws.proofs.Vocabulary.{enabled_in_parts, enabled_meets, eqb-true, false, first_world, flight_of, inl}
-use Rattle.mk_laws.proofs.Vocabulary.{is_begin, is_close, is_release, left, left_more, list_any, never_behind, or_from}
-use Rattle.mk_laws.proofs.Vocabulary.{or_parts, refl, subst, sym, through, world_behind, [], ◌++◌, ◌∙◌, ◌∷◌, ◌≡◌}
+use Rattle.mk_laws.proofs.Vocabulary.{enabled_in_parts, enabled_meets, eqb-true, false, flight_of, inl, is_begin}
+use Rattle.mk_laws.proofs.Vocabulary.{is_close, is_release, left, left_more, list_any, never_behind, or_from, or_parts}
+use Rattle.mk_laws.proofs.Vocabulary.{refl, subst, sym, through, world_behind, [], ◌++◌, ◌∙◌, ◌∷◌, ◌≡◌}
 use Rattle.mk_core.specs.Touched.{IsTouched, LeadsToMoment, by_global, by_register, by_word}
 use Rattle.mk_core.specs.Cycles.{NoneSweepsFrom, sweeps}
 use Rattle.mk_laws.proofs.Basics.{Meets, WorldBehind, begin_is, known_world}
@@ -23,11 +23,7 @@ pub record More (c : Config) (front : List Event) (e : Event) : Type 0 where
 
 pub one_more : (c : Config) (front : List Event) (e : Event) → IsHistory c (front ++ e ∷ []) → More c front e
 unfolding AreEnabledFrom
-one_more c front e h = record {
-  history = earlier_part_is_history c front (e ∷ []) h;
-  meets = enabled_meets c _ e ((enabled_in_parts c front (e ∷ [])).0 h.enabled).1.0;
-  left = left_more c (first_world c) front e;
-}
+one_more c front e h = grind (arith, earlier_part_is_history, enabled_meets, enabled_in_parts, left_more)
 
 -- what stands at a moment of the marking
 pub record AtMoment (c : Config) (T : ℕ → Type 0) (front : List Event) : Type 0 where
@@ -78,12 +74,7 @@ along : (c : Config) (es : List Event) (k : Marking es) (done rest : List Event)
     → NoneSweepsFrom c (left c (through k.begin ++ done)) rest
     → AtMoment c (IsTouched c k) (through k.begin ++ done) → Marked c k rest
 unfolding NoneSweepsFrom
-along c es k done [] is h none unswept at = record {
-  at = subst (λ (xs : List Event). AtMoment c (IsTouched c k) (through k.begin ++ xs))
-      (sym (is ∙ append-nil done)) at;
-  begun = refl;
-  released = refl;
-}
+along c es k done [] is h none unswept at = grind (arith, append-nil)
 along c es k done (e ∷ rest) is h none unswept at =
     let first : List Event = through k.begin in
     let front : List Event = first ++ done in

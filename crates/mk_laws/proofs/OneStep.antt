@@ -36,10 +36,7 @@ take_drops m false = inl refl
 pub hand_kept : (c : Config) (m : Moment) (seat : Seat) (x : Step) → is_look x ≡ false
     → ((Behind c m seat x).seats.holding.hand ≡ m.seats.holding.hand) ⊎ ((Behind c m seat x).seats.holding.hand ≡ None)
 hand_kept c m seat (Step.Look y) out = cc
-hand_kept c m seat (Step.Take o) out = take_drops m _
-hand_kept c m seat Step.Give out = inr refl
-hand_kept c m seat Step.Begin out = inr refl
-hand_kept c m seat _ out = inl refl
+hand_kept c m seat x3 out = grind (arith, take_drops)
 
 -- Registers that a look may reach are images: their caller owes out register.
 
@@ -62,9 +59,7 @@ module _ (c : Config) (w : World) (n : NeverState) (t : Told c w n) where
     where
       by : (seat : Seat) → is_number_of seat j ≡ true → Meets c w.now seat (Step.Look (Word.Reg j r))
           → is_put (flight_of w.now (Caller j)).stage ≡ false
-      by (Caller k) own h =
-          let same : k ≡ j = eqb-true k j own in
-          rw same at (look_stage _ _ (Word.Reg j r) h.order)
+      by (Caller k) own h = grind (arith, eqb-true, look_stage)
       by _ own h = cc
 
   register_image : (seat : Seat) (j r : ℕ) → Meets c w.now seat (Step.Look (Word.Reg j r))
@@ -92,13 +87,8 @@ cell_hand w stop placing cell value h is out =
         then Some (record { value = value; source = Marked })
         else if d then Some (record { value = value; source = Unmarked }) else None) ≡ Some h
         → IsOfMarked w cell value h
-    by false true d ea eb is =
-        let e : record { value = value; source = Marked } ≡ h = same_Some _ _ is in
-        record { scanned = ea; marked = eb; holds = sym (ap (λ (y : Hand). y.value) e) }
-    by false false true ea eb is =
-        let e : record { value = value; source = Unmarked } ≡ h = same_Some _ _ is in
-        let bad : true ≡ false = ap (λ (y : Hand). is_unmarked y.source) e ∙ out in
-        cc
+    by false true d ea eb is = grind (arith, same_Some)
+    by false false true ea eb is = grind (arith, same_Some)
     by _ _ _ ea eb is = cc
 
 module _ (c : Config) (w : World) (n : NeverState) (T : ℕ → Type 0) (precise : IsPrecise c w T) where
@@ -136,9 +126,7 @@ module _ (c : Config) (w : World) (n : NeverState) (T : ℕ → Type 0) (precise
 
   root_hand : (value : ℕ) (h : Hand) → PointsOnlyInto c w.allocations T value
       → Some (record { value = value; source = Root }) ≡ Some h → PointsOnlyInto c w.allocations T h.value
-  root_hand value h only is =
-      let e : record { value = value; source = Root } ≡ h = same_Some _ _ is in
-      rw (ap (λ (y : Hand). y.value) e) at only
+  root_hand value h only is = grind (arith, same_Some)
 
   -- what a look gives
   look_hand : (seat : Seat) (y : Word) (after : NeverState) (h : Hand) → Steps c w n seat (Step.Look y) after T
@@ -174,10 +162,7 @@ module _ (c : Config) (w : World) (n : NeverState) (T : ℕ → Type 0) (precise
 -- What markers are in the middle of stands, whether they attend or not.
 
 idle_stands : (c : Config) (m : Moment) (x : MarkerState) → IsIdle x → MarkerStands c m x
-idle_stands c m x idle = record {
-  scan = λ z is. absurd (none-some _ (sym idle.scan ∙ is));
-  seen = λ z is. absurd (none-some _ (sym idle.seen ∙ is));
-}
+idle_stands c m x idle = grind (arith, none-some)
 
 markers_stand : (c : Config) (w : World) (n : NeverState) (seat : Seat) (x : Step) (after : NeverState)
     (T : ℕ → Type 0) → Steps c w n seat x after T → (j : ℕ) → MarkerStands c w.now (marker_of w.now j)

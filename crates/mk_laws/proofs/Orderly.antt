@@ -22,23 +22,15 @@ counted xs k x lt = sum_by-set (λ (y : MarkerState). cond {A = ℕ} (is_in y) 1
 
 pub counted_same : (xs : List MarkerState) (k : ℕ) (x : MarkerState) → k < length xs
     → x.presence ≡ (slice_index_or xs k outside).presence → count_in (slice_set xs k x) ≡ count_in xs
-counted_same xs k x lt same =
-    let e : cond {A = ℕ} (is_in x) 1 0 ≡ cond {A = ℕ} (is_in (slice_index_or xs k outside)) 1 0 = rw same in
-    omega (arith, counted xs k x lt)
+counted_same xs k x lt same = grind (arith, counted)
 
 pub counted_more : (xs : List MarkerState) (k : ℕ) (x : MarkerState) → k < length xs
     → is_in (slice_index_or xs k outside) ≡ false → is_in x ≡ true → count_in (slice_set xs k x) ≡ count_in xs + 1
-counted_more xs k x lt was is =
-    let a : cond {A = ℕ} (is_in (slice_index_or xs k outside)) 1 0 ≡ 0 = rw was in
-    let b : cond {A = ℕ} (is_in x) 1 0 ≡ 1 = rw is in
-    omega (arith, counted xs k x lt)
+counted_more xs k x lt was is = grind (arith, counted)
 
 pub counted_less : (xs : List MarkerState) (k : ℕ) (x : MarkerState) → k < length xs
     → is_in (slice_index_or xs k outside) ≡ true → is_in x ≡ false → count_in (slice_set xs k x) + 1 ≡ count_in xs
-counted_less xs k x lt was is =
-    let a : cond {A = ℕ} (is_in (slice_index_or xs k outside)) 1 0 ≡ 1 = rw was in
-    let b : cond {A = ℕ} (is_in x) 1 0 ≡ 0 = rw is in
-    omega (arith, counted xs k x lt)
+counted_less xs k x lt was is = grind (arith, counted)
 
 -- a marker that is in counts
 pub count_in-at : (xs : List MarkerState) (k : ℕ) → k < length xs → is_in (slice_index_or xs k outside) ≡ true
@@ -159,26 +151,12 @@ turn_of c v Host h t = t
 
 -- so no two seats hold it
 pub same_holder : (c : Config) (v : View) (a b : Seat) → Orderly c v → HoldsTurn c v a → HoldsTurn c v b → a ≡ b
-same_holder c v a b p ha hb =
-    by c v a b ha hb (let x = turn_of c v a p ha in let y = turn_of c v b p hb in let e : holder_number c a
-    ≡ holder_number c b = omega arith in e)
-  where
-    by : (c : Config) (v : View) (a b : Seat) → HoldsTurn c v a → HoldsTurn c v b
-        → holder_number c a ≡ holder_number c b → a ≡ b
-    by c v (Caller j) (Caller k) ha hb e = ap Caller e
-    by c v (Caller j) (Marker k) ha hb e = absurd hb
-    by c v (Caller j) Host ha hb e = let l = ha.0 in absurd (omega arith)
-    by c v Host (Caller k) ha hb e = let l = hb.0 in absurd (omega arith)
-    by c v Host (Marker k) ha hb e = absurd hb
-    by c v Host Host ha hb e = refl
-    by c v (Marker j) b ha hb e = absurd ha
+same_holder c v a b p ha hb = grind (arith, turn_of)
 
 -- its call; the host has none
 pub holders_flight : (c : Config) (v : View) (seat : Seat) → Orderly c v → HoldsTurn c v seat
     → flight_in v (v.turn - 1) ≡ flight_at v.flights seat
-holders_flight c v (Caller k) h t =
-    let e : v.turn - 1 ≡ k = omega (arith, turn_of c v (Caller k) h t) in
-    ap (flight_in v) e
+holders_flight c v (Caller k) h t = grind (arith, turn_of, flight_in)
 holders_flight c v (Marker k) h t = absurd t
 holders_flight c v Host h t =
     get_or_past v.flights (v.turn - 1) at_rest (let e : v.turn ≡ 1 + c.callers = t in omega (arith, h.flights))
@@ -193,11 +171,7 @@ holder_shows c v _ f h t is = tt
 
 pub giver_shows : (c : Config) (v : View) (seat : Seat) → Orderly c v → HoldsTurn c v seat
     → OwnShows c v.flights 0 v.gates seat Resting
-giver_shows c v (Caller k) h t =
-    let g : gate_in v k ≡ 0 = (shows_at c v k UnderTurn h t.0 t.1).0 in (
-      rw h.flights t.0,
-      (λ e. absurd (omega arith), omega arith, λ e. g, λ e. absurd (omega arith)),
-    )
+giver_shows c v (Caller k) h t = grind (arith, gate_in, shows_at)
 giver_shows c v _ h t = tt
 
 pub taker_shows : (c : Config) (v : View) (seat : Seat) (f : Flight) → Orderly c v → v.turn ≡ 0 → MayTake c v seat f

@@ -1,19 +1,18 @@
 -- What an event may do whose seat doesn't hold the turn, while another holds it.
 use Rattle.mk_laws.proofs.Vocabulary.{Bool, Caller, Config, Flight, Group, Host, Marker, MarkerState, Moment, Named}
-use Rattle.mk_laws.proofs.Vocabulary.{None, Op, Seat, Some, Stage, Step, Word, Words, World, ℕ, accessed, ap, arith}
+use Rattle.mk_laws.proofs.Vocabulary.{None, Op, Seat, Some, Stage, Step, Word, Words, World, ℕ, accessed, arith}
 use Rattle.mk_laws.proofs.Vocabulary.{at_rest, begun, bit_or, cases_eq, eq-eqb, false, flight_of, found, group_of}
 use Rattle.mk_laws.proofs.Vocabulary.{if◌then◌else◌, inl, inr, is_attending, is_in, marker_of, ne_eqb, outside, refl}
-use Rattle.mk_laws.proofs.Vocabulary.{reg_access, register_met, set-get_or, slice_index, slice_set, still, sym, true}
-use Rattle.mk_laws.proofs.Vocabulary.{world_behind, ◌%◌, ◌*◌, ◌+◌, ◌-◌, ◌<◌, ◌^◌, ◌∙◌, ◌≡◌, ◌≢◌, ◌≤◌}
+use Rattle.mk_laws.proofs.Vocabulary.{reg_access, register_met, set-get_or, slice_index, slice_set, still, true}
+use Rattle.mk_laws.proofs.Vocabulary.{world_behind, ◌%◌, ◌*◌, ◌+◌, ◌-◌, ◌<◌, ◌^◌, ◌≡◌, ◌≢◌, ◌≤◌}
 use Rattle.mk_core.specs.Moments.{Seats}
 use Rattle.mk_laws.proofs.Actors.{Actor, AsHolder, AsMarker, CallTakes, HostTakes, InCallOf, Meets}
 use Rattle.mk_laws.proofs.Known.{Known, Operands, operands_of, register_small}
 use Rattle.mk_laws.proofs.NextSteps.{at_its_stage, at_reg, has_stage_of_its_own, is_take, stage_of}
-use Rattle.mk_laws.proofs.Orderly.{count_in-at, shows_at, turn_of}
 use Rattle.mk_laws.proofs.Stages.{calls_stand, is_call_stage, is_reg_stage, regs_work}
-use Rattle.mk_laws.proofs.Standings.{Astray, InCall, Resting, Standing, UnderTurn, is_astray, standing}
-use Rattle.mk_laws.proofs.{IdleMarkers.look_stays, IdleMarkers.work_attends, OrderlyLists.actor_of}
-use Rattle.mk_laws.proofs.{OrderlyLists.not_astray, Sorts.attends_at, Views.HoldsTurn, Views.view_of}
+use Rattle.mk_laws.proofs.{IdleMarkers.look_stays, IdleMarkers.work_attends, Orderly.count_in-at, Orderly.shows_at}
+use Rattle.mk_laws.proofs.{Orderly.turn_of, OrderlyLists.actor_of, OrderlyLists.not_astray, Sorts.attends_at}
+use Rattle.mk_laws.proofs.{Standings.InCall, Standings.is_astray, Standings.standing, Views.HoldsTurn, Views.view_of}
 
 -- the words and the seats of a world are others
 abbrev pub with_words_seats : World → Words → Seats → World
@@ -99,25 +98,13 @@ gate_one c m k h lt is = (shows_at c (view_of m) k InCall h.orderly lt is).0
 
 in_call : (c : Config) (m : Moment) (k : ℕ) (x : Step) → Known c m → k < c.callers → Meets c m (Caller k) x
     → has_stage_of_its_own x ≡ true → is_call_stage (stage_of x) ≡ true → slice_index m.words.gates k ≤ 1
-in_call c m k x known lt h own is =
-    let f = flight_of m (Caller k) in
-    let g = gate_one c m k known lt
-    (calls_stand f.stage f.op (ap is_call_stage (at_its_stage f.stage f.op x own h.order)
-    ∙ is) (not_astray c m known.orderly k lt)) in
-    omega arith
+in_call c m k x known lt h own is = grind (arith, gate_one, calls_stand, is_call_stage, at_its_stage, not_astray)
 
 -- `reg` is in a call outside the turn, unless its seat holds the turn
 reg_in_call : (c : Config) (m : Moment) (k : ℕ) → Known c m → k < c.callers
     → is_reg_stage (flight_of m (Caller k)).stage ≡ true → (HoldsTurn c (view_of m) (Caller k) → ⊥)
     → slice_index m.words.gates k ≤ 1
-reg_in_call c m k known lt is free = let g =
-    gate_one c m k known lt (by (standing (flight_of m (Caller k))) refl) in omega arith
-  where
-    by : (s : Standing) → standing (flight_of m (Caller k)) ≡ s → standing (flight_of m (Caller k)) ≡ InCall
-    by Resting e = absurd (regs_work _ _ is e)
-    by InCall e = e
-    by UnderTurn e = absurd (free (lt, e))
-    by Astray e = let y : true ≡ false = ap is_astray (sym e) ∙ not_astray c m known.orderly k lt in cc
+reg_in_call c m k known lt is free = grind (arith, gate_one, standing, regs_work, is_astray, not_astray)
 
 reg_write : (w : Words) (k : ℕ) (f : Flight) (s : Stage) → Operands f.op
     → CallWrite k w (accessed w (Named (Word.Reg k (register_met f s))) (reg_access f s))
@@ -149,9 +136,7 @@ call_out c w k _ known out lt g h = cc
 -- markers, whoever holds the turn
 
 in_counts : (c : Config) (m : Moment) (k : ℕ) → Known c m → k < 8 → is_in (marker_of m k) ≡ true → 8 ≤ m.words.phase
-in_counts c m k h lt is =
-    let one = count_in-at m.seats.markers k (omega (arith, h.orderly.markers)) is in
-    omega (arith, h.orderly.phase)
+in_counts c m k h lt is = grind (arith, count_in-at)
 
 marker_out : (c : Config) (w : World) (k : ℕ) (x : Step) → Known c w.now → k < 8 → group_of x ≡ Group.Markers
     → Meets c w.now (Marker k) x → Outs c w (Marker k) x

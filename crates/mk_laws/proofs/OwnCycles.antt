@@ -1,9 +1,9 @@
 -- The cycle that the turn's holder has begun, and how far it is.
 use Rattle.std.specs.Prelude.{⊤}
 use Rattle.mk_laws.proofs.Vocabulary.{At, Bool, Config, Cycle, Event, Holding, List, Marking, Op, Option, OwnCycle}
-use Rattle.mk_laws.proofs.Vocabulary.{Releasing, Seat, Step, World, ℕ, ap, arith, eqb-true, false, if◌then◌else◌, inl}
-use Rattle.mk_laws.proofs.Vocabulary.{inr, is_begin, is_close, is_end, is_release, list_any, nothing_done, phase_of}
-use Rattle.mk_laws.proofs.Vocabulary.{refl, subst, sym, true, [], ◌%◌, ◌++◌, ◌==◌, ◌∙◌, ◌∷◌, ◌≡◌, ◌⊎◌}
+use Rattle.mk_laws.proofs.Vocabulary.{Releasing, Seat, Step, World, ℕ, arith, eqb-true, false, if◌then◌else◌, inl, inr}
+use Rattle.mk_laws.proofs.Vocabulary.{is_begin, is_close, is_end, is_release, list_any, nothing_done, phase_of, refl}
+use Rattle.mk_laws.proofs.Vocabulary.{subst, sym, true, [], ◌++◌, ◌==◌, ◌∙◌, ◌∷◌, ◌≡◌, ◌⊎◌}
 use Rattle.mk_core.specs.declared.seats.OwnCycle.TheVariants.{Begun, Ended, NotBegun}
 use Rattle.mk_core.specs.Effects.{cycle_ended}
 use Rattle.mk_laws.proofs.Longer.{longer_at, longer_cycle, longer_marking, longer_releasing, next_at_end, none_more}
@@ -62,24 +62,7 @@ take_step c w seat o false = Stays (record { close = refl; release = refl; end =
 pub cycle_step : (c : Config) (w : World) (seat : Seat) (x : Step) → Meets c w.now seat x
     → StepsAt c w seat x (WorldBehind c w seat x)
 cycle_step c w seat (Step.Take o) h = take_step c w seat o (w.now.words.turn == 0)
-cycle_step c w seat Step.Give h = Drops refl
-cycle_step c w seat Step.Reg h =
-    Stays (record { close = refl; release = refl; end = refl }) refl (ap (λ n. n % 8) (reg_leaves c w seat).phase)
-cycle_step c w seat (Step.Tally n v) h =
-    let same = (tally_keeps w.now.words n v).phase in
-    Stays (record { close = refl; release = refl; end = refl }) refl (ap (λ m. m % 8) same)
-cycle_step c w seat Step.Begin h = Begins refl refl (omega (arith, eqb-true _ 0 h.phase))
-cycle_step c w seat Step.Want h =
-    let e = eqb-true _ 1 h.phase in Wants refl e refl (omega arith)
-cycle_step c w seat Step.Close h =
-    let e = eqb-true _ 2 h.phase in Closes refl e refl (omega arith)
-cycle_step c w seat Step.Release h =
-    let e = eqb-true _ 3 h.phase in Frees refl e refl (omega arith)
-cycle_step c w seat Step.End h = Ends refl (eqb-true _ 4 h.phase) refl
-cycle_step c w seat Step.Attend h = Stays (record { close = refl; release = refl; end = refl }) refl (omega arith)
-cycle_step c w seat Step.Quit h = Stays (record { close = refl; release = refl; end = refl }) refl (omega arith)
-cycle_step c w seat Step.Over h = Overs (over_phase c w.now seat h) refl
-cycle_step c w seat _ h = Stays (record { close = refl; release = refl; end = refl }) refl refl
+cycle_step c w seat x3 h = grind (arith, reg_leaves, tally_keeps, eqb-true, over_phase)
 
 -- So what is said of the events is told with one more.
 module _ (es : List Event) (e : Event) (phase now : ℕ) where

@@ -1,11 +1,11 @@
 -- Two lists that are changed at one place together, and facts on images under changes of what they read.
 use Rattle.std.proofs.Common.{set}
-use Rattle.mk_laws.proofs.Vocabulary.{Carries, Flight, IsMet, IsSound, List, NeverState, Op, Ptr, Stage, Value, ℕ}
+use Rattle.mk_laws.proofs.Vocabulary.{Carries, Flight, IsMet, IsSound, List, NeverState, Ptr, Stage, Value, ℕ}
 use Rattle.mk_laws.proofs.Vocabulary.{address_of, allocation_at, ap, arith, cases_eq, d_of, eq-eqb, false, get_or}
-use Rattle.mk_laws.proofs.Vocabulary.{get_or-set_other, get_or-set_same, get_or_append_left, has_p, has_r, has_some_p}
-use Rattle.mk_laws.proofs.Vocabulary.{image_of, inl, inr, is_past_probe, is_put, is_unmapped, length, ne_eqb, refl}
-use Rattle.mk_laws.proofs.Vocabulary.{shown, sym, true, words_of, ◌++◌, ◌+◌, ◌<◌, ◌∙◌, ◌≡◌, ◌≢◌}
-use Rattle.mk_laws.{proofs.ImagesMoves.is_bare, specs.Images.has_q, specs.Images.has_some_q, specs.Images.owes}
+use Rattle.mk_laws.proofs.Vocabulary.{get_or-set_other, get_or-set_same, get_or_append_left, image_of, inl, inr}
+use Rattle.mk_laws.proofs.Vocabulary.{is_past_probe, is_put, is_unmapped, length, ne_eqb, refl, shown, true, words_of}
+use Rattle.mk_laws.proofs.Vocabulary.{◌++◌, ◌+◌, ◌<◌, ◌≡◌, ◌≢◌}
+use Rattle.mk_laws.proofs.ImagesMoves.{is_bare}
 
 pub set_both : {A B : Type 0} (P : A → B → Type 0) (xs : List A) (ys : List B) (k i : ℕ) (x dx : A) (y dy : B)
     → k < length xs → k < length ys → (i ≡ k → P x y) → (i ≢ k → P (get_or xs i dx) (get_or ys i dy))
@@ -17,33 +17,10 @@ set_both P xs ys k i x dx y dy lx ly new old = elim (cases_eq i k) [
 
 -- a stage that carries nothing
 pub bare_carries : (bs : List ℕ) (f : Flight) (a b d : Value) → is_bare f.stage ≡ true → Carries bs f a b d
-bare_carries bs f a b d h =
-    let n = none f.stage f.op h in
-    record {
-      q = λ e. let x : false ≡ true = sym n.0 ∙ e in cc;
-      some_q = λ e. let x : false ≡ true = sym n.1 ∙ e in cc;
-      p = λ e. let x : false ≡ true = sym n.2 ∙ e in cc;
-      some_p = λ e. let x : false ≡ true = sym n.3 ∙ e in cc;
-      r = λ e. let x : false ≡ true = sym n.4 ∙ e in cc;
-    }
-  where
-    none : (s : Stage) (o : Op) → is_bare s ≡ true → (has_q s o ≡ false) × (has_some_q s o ≡ false)
-        × (has_p s o ≡ false) × (has_some_p s o ≡ false) × (has_r s o ≡ false)
-    none Stage.Idle o h = (refl, refl, refl, refl, refl)
-    none Stage.Getg o h = (refl, refl, refl, refl, refl)
-    none Stage.Dirty o h = (refl, refl, refl, refl, refl)
-    none Stage.Leave o h = (refl, refl, refl, refl, refl)
-    none Stage.Give o h = (refl, refl, refl, refl, refl)
-    none _ o h = cc
+bare_carries bs f a b d h = grind (arith, is_bare)
 
 pub put_carries : (bs : List ℕ) (f : Flight) (a b d : Value) → f.stage ≡ Stage.Put → Carries bs f a b d
-put_carries bs f a b d h = record {
-  q = λ e. let x : has_q Stage.Put f.op ≡ true = rw h at e in cc;
-  some_q = λ e. let x : has_some_q Stage.Put f.op ≡ true = rw h at e in cc;
-  p = λ e. let x : has_p Stage.Put f.op ≡ true = rw h at e in cc;
-  some_p = λ e. let x : has_some_p Stage.Put f.op ≡ true = rw h at e in cc;
-  r = λ e. let x : has_r Stage.Put f.op ≡ true = rw h at e in cc;
-}
+put_carries bs f a b d h = grind arith
 
 pub bare_unprobed : (s : Stage) → is_bare s ≡ true → is_past_probe s ≡ false
 bare_unprobed Stage.Read h = cc
@@ -51,11 +28,7 @@ bare_unprobed _ h = cc
 
 -- what a flight shows of a register
 pub shows_plain : (f : Flight) (r x : ℕ) → is_put f.stage ≡ false → shown f r x ≡ x
-shows_plain f r x h = rw (none f.stage (d_of f.op) r h)
-  where
-    none : (s : Stage) (d r : ℕ) → is_put s ≡ false → owes s d r ≡ false
-    none Stage.Put d r h = cc
-    none _ d r h = refl
+shows_plain f r x h = grind arith
 
 pub shows_owed : (f : Flight) (x : ℕ) → f.stage ≡ Stage.Put → shown f (d_of f.op) x ≡ f.loaded
 shows_owed f x h = rw h (rw (eq-eqb (d_of f.op) (d_of f.op) refl))
@@ -77,13 +50,7 @@ image_more n bs more _ e s = refl
 -- what is carried, where the values are others with the same images
 pub carries_same : (bs cs : List ℕ) (f : Flight) (a b d a2 b2 d2 : Value) → image_of cs a2 ≡ image_of bs a
     → image_of cs b2 ≡ image_of bs b → image_of cs d2 ≡ image_of bs d → Carries bs f a b d → Carries cs f a2 b2 d2
-carries_same bs cs f a b d a2 b2 d2 ea eb ed h = record {
-  q = λ e. h.q e ∙ sym ea;
-  some_q = h.some_q;
-  p = λ e. h.p e ∙ sym eb;
-  some_p = h.some_p;
-  r = λ e. h.r e ∙ sym ed;
-}
+carries_same bs cs f a b d a2 b2 d2 ea eb ed h = grind arith
 
 -- an access that is met, where lengths and what is unmapped are the same
 pub met_same : (n m : NeverState) (v : Value) (i : ℕ) → ((a : ℕ) → length (words_of m a) ≡ length (words_of n a))

@@ -1,7 +1,6 @@
 -- The phase along a cycle: it marks up to the `close`, and stays where it is up to the `release` and the `end`.
-use Rattle.mk_laws.proofs.Vocabulary.{Config, IsMarking, Moment, Seat, Step, ℕ, ap, arith, cases_lt, false, inl, inr}
-use Rattle.mk_laws.proofs.Vocabulary.{is_begin, is_close, is_end, is_release, phase_of, refl, subst, sym, true≢false}
-use Rattle.mk_laws.proofs.Vocabulary.{◌∙◌, ◌≡◌, ◌≤◌, ◌⊎◌}
+use Rattle.mk_laws.proofs.Vocabulary.{Config, IsMarking, Moment, Seat, Step, ℕ, arith, cases_lt, false, inl, inr}
+use Rattle.mk_laws.proofs.Vocabulary.{is_begin, is_close, is_end, is_release, phase_of, refl, subst, sym, ◌≡◌, ◌≤◌, ◌⊎◌}
 use Rattle.mk_laws.proofs.CyclePhases.{AsksPhase, IsMarking as IsMarkingPhase, marking_step, phase_asked, phase_behind}
 use Rattle.mk_laws.proofs.CyclePhases.{phase_moves}
 use Rattle.mk_laws.proofs.Basics.{Behind, Meets, either_phase, is_grant}
@@ -38,12 +37,7 @@ pub record Waits (c : Config) (m : Moment) (seat : Seat) (x : Step) (p : ℕ) : 
 waiting_step : (x : Step) (p : ℕ) → 3 ≤ p → AsksPhase x p → (p ≡ 3 → is_release x ≡ false) → (p ≡ 4 → is_end x ≡ false)
     → (phase_behind x p ≡ p) × (is_begin x ≡ false)
 waiting_step Step.Begin p late asks out past = absurd (omega arith)
-waiting_step Step.Want p late asks out past = absurd (omega arith)
-waiting_step Step.Close p late asks out past = absurd (omega arith)
-waiting_step Step.Release p late asks out past = absurd (true≢false (out asks))
-waiting_step Step.End p late asks out past = absurd (true≢false (past asks))
-waiting_step Step.Over p late asks out past = absurd (omega arith)
-waiting_step _ p late asks out past = (refl, refl)
+waiting_step x0 p late asks out past = grind arith
 
 no_grant : (c : Config) (m : Moment) (seat : Seat) (x : Step) → 3 ≤ phase_of m.words → Meets c m seat x
     → is_grant x ≡ false
@@ -53,13 +47,7 @@ no_grant c m seat _ late h = refl
 
 waits : (c : Config) (m : Moment) (seat : Seat) (x : Step) (p : ℕ) → 3 ≤ p → phase_of m.words ≡ p → Meets c m seat x
     → (p ≡ 3 → is_release x ≡ false) → (p ≡ 4 → is_end x ≡ false) → Waits c m seat x p
-waits c m seat x p late at h out past =
-    let one = waiting_step x p late (subst (AsksPhase x) at (phase_asked c m seat x h)) out past in
-    record {
-      phase = phase_moves c m seat x h ∙ ap (phase_behind x) at ∙ one.0;
-      begun = one.1;
-      granted = no_grant c m seat x (omega arith) h;
-    }
+waits c m seat x p late at h out past = grind (arith, waiting_step, phase_asked, phase_moves, phase_behind, no_grant)
 
 pub stopped_waits : (c : Config) (m : Moment) (seat : Seat) (x : Step) → phase_of m.words ≡ 3 → Meets c m seat x
     → is_release x ≡ false → Waits c m seat x 3

@@ -1,13 +1,10 @@
 -- The phase that a condition names, and the phase after a step.
-use Rattle.mk_laws.proofs.Vocabulary.{Bool, Config, Moment, Seat, Step, ℕ, and_parts, ap, arith, eqb-true, false, inl}
-use Rattle.mk_laws.proofs.Vocabulary.{inr, or_cases, phase_of, true, ◌%◌, ◌==◌, ◌||◌, ◌≡◌, ◌⊎◌}
+use Rattle.mk_laws.proofs.Vocabulary.{Bool, Config, Moment, Seat, Step, ℕ, and_parts, ap, arith, eqb-true, false}
+use Rattle.mk_laws.proofs.Vocabulary.{or_cases, phase_of, true, ◌%◌, ◌==◌, ◌||◌, ◌≡◌, ◌⊎◌}
 use Rattle.mk_laws.proofs.{Actors.Meets, Changes.Table, Changes.reg_table, Changes.tally_table, SameWords.Behind}
 
 pub either_phase : (n a b : ℕ) → ((n == a) || (n == b)) ≡ true → (n ≡ a) ⊎ (n ≡ b)
-either_phase n a b h = elim (or_cases (n == a) (n == b) h) [
-  | inl e ↦ inl (eqb-true n a e)
-  | inr e ↦ inr (eqb-true n b e)
-]
+either_phase n a b h = grind (arith, or_cases, eqb-true)
 
 -- six kinds change it
 
@@ -23,10 +20,7 @@ is_phase_step _ = false
 pub phase_stays : (c : Config) (m : Moment) (seat : Seat) (x : Step) → is_phase_step x ≡ false
     → phase_of (Behind c m seat x).words ≡ phase_of m.words
 phase_stays c m seat Step.Reg no_change = ap (λ (t : Table). t.phase % 8) (reg_table c m seat)
-phase_stays c m seat (Step.Tally n v) no_change = ap (λ (t : Table). t.phase % 8) (tally_table m.words n v)
-phase_stays c m seat Step.Attend no_change = omega arith
-phase_stays c m seat Step.Quit no_change = omega arith
-phase_stays c m seat _ no_change = cc
+phase_stays c m seat x3 no_change = grind (arith, tally_table)
 
 pub over_phase : (c : Config) (m : Moment) (seat : Seat) → Meets c m seat Step.Over → phase_of m.words ≡ 0
 over_phase c m seat h = eqb-true _ 0 (and_parts _ _ h.holder).1

@@ -21,22 +21,7 @@ ChosenAt s first o = record s { plot = Plotted first o }
 pub layout_chosen : (s : LayoutScene) (first : ℕ) (o : Object) → IsLaidOn s → s.plot ≡ NoPlot → IsSized o
     → first + pages_made o ≤ length s.pages
     → ((d : ℕ) → d < pages_made o → header_on s.pages (first + d) ≡ 0) → IsLaidOn (ChosenAt s first o)
-layout_chosen s first o laid none sized within free = record {
-  shown = laid.shown;
-  apart = laid.apart;
-  used = laid.used;
-  plot = record {
-    sized = sized;
-    within = within;
-    headers = λ d lt. inl (free d lt);
-    used = λ d lt. free_unused s (first + d) laid (free d lt);
-  };
-  occupied = λ p some empty. elim (laid.occupied p some empty) [
-    | inl on ↦ inl on
-    | inr here ↦ absurd (rw none at here)
-  ];
-  later = laid.later;
-}
+layout_chosen s first o laid none sized within free = grind (arith, free_unused)
 
 -- `head` (a) and (b): the first page that hasn't its header gets it
 abbrev pub Carved : LayoutScene → ℕ → Object → ℕ → LayoutScene
@@ -204,22 +189,10 @@ module _ (s : LayoutScene) (x : Claim) (n : ℕ) (laid : IsLaidOn s) (t : Takes 
   grow q k h = same_bit q k (λ e ek. true≢false (sym h ∙ rw e (rw ek t.unset))) ∙ h
 
   grown : (y : Claim) → IsShown s.pages y → IsShown after y
-  grown y was = record {
-    sized = was.sized;
-    known = was.known;
-    within = let l = len in let w = was.within in omega arith;
-    headers = λ d ld. rw (used_header s.pages x.page n (y.page + d) lt) (was.headers d ld);
-    used = grow y.page y.index was.used;
-  }
+  grown y was = grind (arith, len, used_header, lt, grow)
 
   own : IsShown after x
-  own = record {
-    sized = t.sized;
-    known = t.index;
-    within = let l = len in let w = t.within in omega arith;
-    headers = λ d ld. rw t.mapped (used_header s.pages x.page n (x.page + d) lt ∙ t.headers d ld);
-    used = here_set;
-  }
+  own = grind (arith, len, used_header, lt, here_set)
 
   cells_here : cells_under (shows_on s.pages x.page) ≡ cells_made x.object
   cells_here =

@@ -6,9 +6,9 @@ use Rattle.mk_laws.proofs.Vocabulary.{Some, Stage, Step, Unplaced, Used, World, 
 use Rattle.mk_laws.proofs.Vocabulary.{carves, cases_eq, chosen, eqb-true, false, false_from_ne_true, flight_of, found}
 use Rattle.mk_laws.proofs.Vocabulary.{get_or-set_same, if◌then◌else◌, inl, inr, is_phase, is_undecided_new}
 use Rattle.mk_laws.proofs.Vocabulary.{is_used_once, marks_is, marks_place, ne_eqb, not, object_made, or_cases, phase_of}
-use Rattle.mk_laws.proofs.Vocabulary.{place_by_placing, place_now, place_on_pages, placed_now, progress, refl, subst}
-use Rattle.mk_laws.proofs.Vocabulary.{sym, taken, takes_cell, true, true≢false, undecided_new, unmaps, ◌&&◌, ◌<◌, ◌==◌}
-use Rattle.mk_laws.proofs.Vocabulary.{◌||◌, ◌∙◌, ◌≡◌, ◌≢◌}
+use Rattle.mk_laws.proofs.Vocabulary.{place_now, place_on_pages, placed_now, progress, refl, subst, sym, taken}
+use Rattle.mk_laws.proofs.Vocabulary.{takes_cell, true, true≢false, undecided_new, unmaps, ◌&&◌, ◌<◌, ◌==◌, ◌||◌, ◌∙◌}
+use Rattle.mk_laws.proofs.Vocabulary.{◌≡◌, ◌≢◌}
 use Rattle.mk_core.{proofs.ServingSteps.carves_is, proofs.ServingSteps.takes_is, specs.Placement.serves}
 use Rattle.mk_laws.proofs.Basics.{HoldsTurn, Known, Meets, WorldBehind, at_no_take, held_place, new_has_turn}
 use Rattle.mk_laws.proofs.Basics.{none_on_its_way, same_holder, turn_of, view_of}
@@ -28,17 +28,7 @@ marks_at c m f p n place = marks_place m.words (object_made c f.op) place p n
 
 -- A seat that has no undecided New serves none.
 none_to_serve : (c : Config) (m : Moment) (f : Flight) (x : Step) → is_undecided_new f ≡ false → serves c m f x ≡ false
-none_to_serve c m f x out = by x
-  where
-    none : place_now c m f ≡ None
-    none = ap (λ b. if b then place_by_placing c.resident m.words.pages
-        (object_made c f.op) m.seats.holding.placing else None) out
-
-    by : (x : Step) → serves c m f x ≡ false
-    by (Step.Head p n) = ap (λ (x : Option Place). not (is_phase m.words 4) && carves_at c m f p n x) none ∙ and-false _
-    by (Step.Used p n) = ap (λ (x : Option Place). not (is_phase m.words 4) && takes_at c m f p n x) none ∙ and-false _
-    by (Step.Mark p n) = ap (marks_at c m f p n) none
-    by _ = refl
+none_to_serve c m f x out = grind (arith, carves_at, and-false, takes_at, marks_at)
 
 -- A seat that doesn't hold the turn leaves what its holder has done.
 -- What an event makes of the place: it serves none and leaves it, or fixes the first fit, or goes on with the place.
@@ -120,10 +110,7 @@ mark_places c m f p n true is =
 -- each kind of step of a caller whose New is undecided, and stays so
 
 idle_no_new : (f : Flight) → f.stage ≡ Stage.Idle → is_undecided_new f ≡ true → ⊥
-idle_no_new f idle new = let e : Stage.Idle ≡ Stage.Turn = sym idle ∙ (undecided_new f new).stage in absurd (apart e)
-  where
-    apart : Stage.Idle ≡ Stage.Turn → ⊥
-    apart e = cc
+idle_no_new f idle new = grind (arith, undecided_new)
 
 abbrev flight_behind : Config → World → ℕ → Step → Flight
 flight_behind c w k x =
@@ -132,9 +119,7 @@ flight_behind c w k x =
 own_places : (c : Config) (w : World) (k : ℕ) (x : Step) → Known c w.now → Meets c w.now (Caller k) x → HasNew w k
     → is_undecided_new (flight_behind c w k x) ≡ true
     → Placed c w.now (flight_of w.now (Caller k)) x (WorldBehind c w (Caller k) x).now.seats.holding.placing
-own_places c w k (Step.Take (Some o)) known h new stays =
-    let f : Flight = flight_of w.now (Caller k) in
-    absurd (idle_no_new f (at_take f.stage f.op o h.order).0 new)
+own_places c w k (Step.Take (Some o)) known h new stays = grind (arith, idle_no_new, at_take)
 own_places c w k (Step.Take None) known h new stays =
     absurd (at_no_take (flight_of w.now (Caller k)).stage (flight_of w.now (Caller k)).op h.order)
 own_places c w k Step.Give known h new stays = cc

@@ -4,7 +4,7 @@ use Rattle.mk_laws.proofs.Vocabulary.{Page, PlacedAllocation, PointsInto, Scan, 
 use Rattle.mk_laws.proofs.Vocabulary.{arith, bases_of, cell_of_allocation, cells_under, false, flight_of}
 use Rattle.mk_laws.proofs.Vocabulary.{has_no_pointers, header_of, image_of, is_leaf_header, is_marked, is_unmarked}
 use Rattle.mk_laws.proofs.Vocabulary.{marker_of, placed_at, shows_on, slice_index, slice_index_or, storage_of}
-use Rattle.mk_laws.proofs.Vocabulary.{storage_words, true, ◌+◌, ◌/◌, ◌<◌, ◌≡◌, ◌≢◌, ◌≤◌}
+use Rattle.mk_laws.proofs.Vocabulary.{storage_words, true, ◌/◌, ◌<◌, ◌≡◌, ◌≢◌}
 use Rattle.mk_core.specs.{Cycles.sweeps, Touched.IsWordOfAllocation}
 use Rattle.mk_laws.proofs.AllocationSteps.{AreOfOne, allocation_step, came}
 use Rattle.mk_laws.proofs.{Basics.Came, Basics.Meets, Basics.WorldBehind, Worlds.Told}
@@ -70,12 +70,7 @@ same_leaf c a b e = rw e.ty
 
 pub same_word : (c : Config) (a b : PlacedAllocation) (x : ℕ) → AreOfOne a b → IsWordOf (storage_of c b) x
     → IsWordOf (storage_of c a) x
-same_word c a b x e word =
-    let words = same_words c a b e in
-    let base = e.base in
-    let from : b.base ≤ x = word.0 in
-    let to : x < b.base + storage_words c b = word.1 in
-    (omega arith, omega arith)
+same_word c a b x e word = grind (arith, same_words)
 
 pub points_before : (c : Config) (a b : PlacedAllocation) (v : ℕ) → AreOfOne a b → PointsInto v (storage_of c b)
     → PointsInto v (storage_of c a)

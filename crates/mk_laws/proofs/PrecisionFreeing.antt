@@ -2,12 +2,11 @@
 use Rattle.std.proofs.Common.{Contains}
 use Rattle.mk_laws.proofs.Vocabulary.{Config, Cycle, Event, IsHistory, IsStorage, IsWordOf, List, OfHistories}
 use Rattle.mk_laws.proofs.Vocabulary.{PlacedAllocation, Releasing, Step, Storage, World, ℕ, and_parts, ap, append-nil}
-use Rattle.mk_laws.proofs.Vocabulary.{append_assoc, arith, before_release, cases_Bool, cases_lt}
-use Rattle.mk_laws.proofs.Vocabulary.{earlier_part_is_history, eqb-true, false, inl, inr, is_end, is_release, is_small}
-use Rattle.mk_laws.proofs.Vocabulary.{left, list_any, not, not-true, or_from, phase_of, placed_at, refl}
-use Rattle.mk_laws.proofs.Vocabulary.{standing_has_storage, stands_on, storage_is_of, storage_of, storage_words, subst}
-use Rattle.mk_laws.proofs.Vocabulary.{sym, through_release, true, true≢false, unreleased_storage, [], ◌%◌, ◌*◌, ◌++◌}
-use Rattle.mk_laws.proofs.Vocabulary.{◌+◌, ◌==◌, ◌∙◌, ◌∷◌, ◌≡◌, ◌≤◌}
+use Rattle.mk_laws.proofs.Vocabulary.{append_assoc, arith, before_release, cases_lt, earlier_part_is_history, eqb-true}
+use Rattle.mk_laws.proofs.Vocabulary.{false, inl, inr, is_end, is_release, is_small, left, list_any, not, not-true}
+use Rattle.mk_laws.proofs.Vocabulary.{or_from, phase_of, placed_at, refl, standing_has_storage, stands_on}
+use Rattle.mk_laws.proofs.Vocabulary.{storage_is_of, storage_of, storage_words, subst, sym, through_release, true}
+use Rattle.mk_laws.proofs.Vocabulary.{true≢false, unreleased_storage, [], ◌%◌, ◌*◌, ◌++◌, ◌+◌, ◌==◌, ◌∙◌, ◌∷◌, ◌≡◌, ◌≤◌}
 use Rattle.mk_geom.proofs.Standing.{has_words, large_is_run, stands_parts}
 use Rattle.mk_geom.proofs.ListSearch.{find_cases, list_any_found}
 use Rattle.mk_geom.specs.Storages.{IsRun, is_cell_taken}
@@ -56,17 +55,7 @@ module _ (ss : List Storage) (s : Storage) (some : 1 ≤ s.words) (run : is_smal
       ]
 
   pub counts_as_free : CountsAsFree ss s
-  counts_as_free = record {
-    apart = apart;
-    cell = λ page words k at. elim (cases_Bool (is_cell_taken ss page words k)) [
-      | inl taken ↦ absurd (none_begins page words k at taken)
-      | inr free ↦ free
-    ];
-    pages = λ large page own. elim (find_cases (stands_on page) ss) [
-      | inl found ↦ absurd (none_stands page found.0 large own found.2 found.3)
-      | inr none ↦ rw none.0
-    ];
-  }
+  counts_as_free = grind (arith, none_begins, find_cases, none_stands)
 
 -- what stands this many events after the `release`
 record WhileReleasing (c : Config) (start more : List Event) : Type 0 where

@@ -1,15 +1,15 @@
 -- From a cycle's `close` to its `release` all that is marked is touched. The `release` releases the rest of the
 -- snapshot.
-use Rattle.mk_laws.proofs.Vocabulary.{At, Bool, Cell, Config, Event, IsHistory, List, OfHistories, PlacedAllocation}
+use Rattle.mk_laws.proofs.Vocabulary.{At, Bool, Config, Event, IsHistory, List, OfHistories, PlacedAllocation}
 use Rattle.mk_laws.proofs.Vocabulary.{Releasing, Seat, Step, World, ℕ, ap, append-nil, append_assoc, arith}
-use Rattle.mk_laws.proofs.Vocabulary.{before_close, before_release, cases_Bool, cell_of_allocation, changed_at}
-use Rattle.mk_laws.proofs.Vocabulary.{earlier_part_is_history, eqb-true, false, has_bit_of, has_bit_without, inl, inr}
-use Rattle.mk_laws.proofs.Vocabulary.{is_begin, is_close, is_cycling, is_left_unmarked, is_marked, is_release, left}
-use Rattle.mk_laws.proofs.Vocabulary.{list_any, not, or_from, or_parts, phase_of, placed_at, refl, released_where_left}
-use Rattle.mk_laws.proofs.Vocabulary.{subst, sym, through, through_release, true, true≢false, with_released}
-use Rattle.mk_laws.proofs.Vocabulary.{world_behind, [], ◌&&◌, ◌++◌, ◌∙◌, ◌∷◌, ◌≡◌}
+use Rattle.mk_laws.proofs.Vocabulary.{before_close, before_release, cell_of_allocation, changed_at}
+use Rattle.mk_laws.proofs.Vocabulary.{earlier_part_is_history, eqb-true, false, has_bit_of, has_bit_without, is_begin}
+use Rattle.mk_laws.proofs.Vocabulary.{is_close, is_cycling, is_left_unmarked, is_marked, is_release, left, list_any}
+use Rattle.mk_laws.proofs.Vocabulary.{not, or_from, or_parts, phase_of, placed_at, refl, released_where_left, subst}
+use Rattle.mk_laws.proofs.Vocabulary.{sym, through, through_release, true, true≢false, with_released, world_behind, []}
+use Rattle.mk_laws.proofs.Vocabulary.{◌&&◌, ◌++◌, ◌∙◌, ◌∷◌, ◌≡◌}
 use Rattle.mk_core.specs.{Cycles.NoneSweeps, Touched.IsTouched}
-use Rattle.mk_laws.proofs.Basics.{Came, IsNew, Known, Meets, Stayed, WorldBehind, is_grant, release_is, same_cell}
+use Rattle.mk_laws.proofs.Basics.{Known, Meets, WorldBehind, is_grant, release_is, same_cell}
 use Rattle.mk_laws.proofs.Stretches.{None_of, along_without, at_close, at_release, history_through, none_joined}
 use Rattle.mk_laws.proofs.{GuardStopped.leaves_closed, Marking.marked_at_close, Marking.one_more, Marking.told}
 use Rattle.mk_laws.proofs.{PhaseSteps.stopped_waits, Precise.came_behind, ProtocolStepKinds.close_is}
@@ -34,20 +34,8 @@ not_granted x out is = true≢false (sym (ap is_grant is) ∙ out)
 stop_behind : (c : Config) (w : World) (seat : Seat) (x : Step) (T : ℕ → Type 0) → Known c w.now
     → phase_of w.now.words ≡ 3 → Meets c w.now seat x
     → is_release x ≡ false → IsMarkedOnly c w T → IsMarkedOnly c (WorldBehind c w seat x) T
-stop_behind c w seat x T known three h other marked b u is = by (came_behind c w seat x b u)
-  where
-    a : PlacedAllocation
-    a = placed_at (WorldBehind c w seat x).allocations b
-
-    cell : Cell
-    cell = cell_of_allocation c a
-
-    by : Came w.allocations (WorldBehind c w seat x).allocations x b → T b
-    by (IsNew grant at) = absurd (not_granted x (stopped_waits c w.now seat x three h other).granted grant)
-    by (Stayed was same) =
-        let here : is_marked w.now.words cell ≡ true = rw ((leaves_closed c w.now seat x known three h).marks) at is in
-        marked b was (subst (λ (y : Cell). is_marked w.now.words y ≡ true)
-        (same_cell c (placed_at w.allocations b) a same.base same.ty) here)
+stop_behind c w seat x T known three h other marked b u is =
+    grind (arith, came_behind, not_granted, stopped_waits, leaves_closed, same_cell)
 
 stop_goes_on : (c : Config) (T : ℕ → Type 0) (start more : List Event) (e : Event)
     → IsHistory c ((start ++ more) ++ e ∷ []) → is_release e.step ≡ false
@@ -162,8 +150,4 @@ keeps_only_the_touched c es h k unswept i quarantined unreleased =
 
 -- What isn't touched is released.
 pub releases_the_untouched : OfHistories ReleasesTheUntouched
-releases_the_untouched c es h k unswept i quarantined untouched = elim
-    (cases_Bool (placed_at (left c (through_release k)).allocations i).released) [
-      | inl released ↦ released
-      | inr unreleased ↦ absurd (untouched (keeps_only_the_touched c es h k unswept i quarantined unreleased))
-    ]
+releases_the_untouched c es h k unswept i quarantined untouched = grind (arith, keeps_only_the_touched)

@@ -2,15 +2,14 @@
 use Rattle.std.proofs.lemmas.List.Sums.{sum_by-append}
 use Rattle.mk_laws.proofs.Vocabulary.{AreEnabledFrom, AreOfOthers, Caller, Config, Event, Flight, Holds, Host, IsInCall}
 use Rattle.mk_laws.proofs.Vocabulary.{IsLeft, List, Marker, MarkerState, Moment, Named, OnlyGrow, Protocol, Seat, Stage}
-use Rattle.mk_laws.proofs.Vocabulary.{Steady, Step, Store, Tally, TurnIsLeft, Word, Words, World, Written, ℕ, accessed}
-use Rattle.mk_laws.proofs.Vocabulary.{all_below, answer_decided, ap, arith, at_rest, call_decided, caller_number, calls}
-use Rattle.mk_laws.proofs.Vocabulary.{calls_from, cases_lt, cond, d_of, enabled_meets, enabled_parts, ends, eq-eqb}
-use Rattle.mk_laws.proofs.Vocabulary.{false, first_world, flight_of, get_or-set_other, get_or_past, header_in}
-use Rattle.mk_laws.proofs.Vocabulary.{holder_number, inl, inr, is_attending, is_end, is_in, is_number_of, is_one_of}
-use Rattle.mk_laws.proofs.Vocabulary.{is_unmapped_header, left, left_append, left_from, marker_at, others_are_held}
-use Rattle.mk_laws.proofs.Vocabulary.{outside, phase_of, refl, reg_access, register_met, slice_index, slice_set, sym}
-use Rattle.mk_laws.proofs.Vocabulary.{true, world_behind, [], ◌*◌, ◌++◌, ◌+◌, ◌/◌, ◌<◌, ◌==◌, ◌||◌, ◌∙◌, ◌∷◌, ◌≡◌, ◌≢◌}
-use Rattle.mk_laws.proofs.Vocabulary.{◌≤◌, ◌⊎◌}
+use Rattle.mk_laws.proofs.Vocabulary.{Steady, Step, Store, Tally, TurnIsLeft, Word, Words, World, ℕ, accessed}
+use Rattle.mk_laws.proofs.Vocabulary.{answer_decided, ap, arith, at_rest, call_decided, caller_number, calls_from}
+use Rattle.mk_laws.proofs.Vocabulary.{cases_lt, cond, d_of, enabled_meets, enabled_parts, ends, eq-eqb, false}
+use Rattle.mk_laws.proofs.Vocabulary.{first_world, flight_of, get_or-set_other, get_or_past, header_in, inl, inr}
+use Rattle.mk_laws.proofs.Vocabulary.{is_attending, is_end, is_in, is_one_of, is_unmapped_header, left, left_append}
+use Rattle.mk_laws.proofs.Vocabulary.{left_from, marker_at, others_are_held, outside, refl, reg_access, register_met}
+use Rattle.mk_laws.proofs.Vocabulary.{slice_index, slice_set, sym, true, world_behind, [], ◌*◌, ◌++◌, ◌+◌, ◌/◌, ◌<◌}
+use Rattle.mk_laws.proofs.Vocabulary.{◌∙◌, ◌∷◌, ◌≡◌, ◌≢◌, ◌≤◌}
 use Rattle.mk_core.proofs.{Histories.calls_append, RegisterAccesses.tally_leaves_registers}
 use Rattle.mk_core.specs.Frames.{Attends, CountsAreLeft, HoldsAll, IsIn, OthersLeave, OwnIsLeft, ScanIsLeft, written_of}
 use Rattle.mk_core.specs.{Growing.is_same_seat, Readings.is_in_call}
@@ -39,9 +38,7 @@ reg_registers w k f _ o = KeepsRegisters
 
 pub register_step : (c : Config) (m : Moment) (seat : Seat) (x : Step) → HaveOperands c m.seats.flights
     → Meets c m seat x → RegisterStep m.words seat (Behind c m seat x).words.registers
-register_step c m (Caller k) Step.Reg ops h =
-    reg_registers m.words k (flight_of m (Caller k)) (flight_of m (Caller k)).stage
-    (operands_of c (flight_of m (Caller k)).op (ops k))
+register_step c m (Caller k) Step.Reg ops h = grind (arith, reg_registers, operands_of)
 register_step c m (Marker k) Step.Reg ops h = let kind = h.kind in cc
 register_step c m Host Step.Reg ops h = let kind = h.kind in cc
 register_step c m (Caller k) Step.Grant ops h =
@@ -142,14 +139,7 @@ marks_leave w k y ms x _ = refl
 stop_out : (c : Config) (w : World) (seat s : Seat) (v : World) → OthersMove c w seat v → seat ≢ s → Holds c w.now s
     → others_are_held c.callers w.now.words s ≡ true → written_of v ≡ written_of w
 stop_out c w seat s v Waits ne holds all = refl
-stop_out c w seat s v (Calls {k} f {x} lt le write) ne holds all =
-    let two = others_held c w.now s all k lt (λ e. ne (same s k lt holds e)) in
-    absurd (omega arith)
-  where
-    same : (s : Seat) (k : ℕ) → k < c.callers → Holds c w.now s → holder_number c s ≡ k → Caller k ≡ s
-    same (Caller j) k lt holds e = ap (λ i. Caller i) (sym e)
-    same (Marker j) k lt holds e = absurd holds
-    same Host k lt holds e = absurd (omega arith)
+stop_out c w seat s v (Calls {k} f {x} lt le write) ne holds all = grind (arith, others_held)
 stop_out c w seat s v (Marks {k} y {x} lt write) ne holds all =
     marks_leave w k y (slice_set w.now.seats.markers k y) x write
 
@@ -172,13 +162,7 @@ left_after c w seat s x known h ne = record {
 }
 
 pub left_same : (c : Config) (s : Seat) (w : World) → Left c s w w
-left_same c s w = record {
-  own = record { flight = refl; marker = refl; registers = λ k r is lt. refl; holding = λ holds. (holds, refl) };
-  mapped = λ call p is. is;
-  turn = λ holds. turn_same w;
-  stop = λ all. refl;
-  scan = λ a. (grows_same w.now.words.marks, grows_same w.now.words.blacks);
-}
+left_same c s w = grind (arith, turn_same, grows_same)
 
 -- what the seat is in the middle of, it still is
 
@@ -195,11 +179,7 @@ still_in c (Marker k) w u l i = ap is_in l.marker ∙ i
 still_in c _ w u l i = i
 
 still_stopped : (c : Config) (s : Seat) (w u : World) → Left c s w u → HoldsAll c w.now s → HoldsAll c u.now s
-still_stopped c s w u l all = (
-  (l.own.holding all.0).0,
-  ap (λ (y : Written). all_below c.callers (λ j. is_number_of s j || (slice_index y.gates j == 2))) (l.stop all)
-      ∙ all.1,
-)
+still_stopped c s w u l all = grind arith
 
 pub left_joined : (c : Config) (s : Seat) (w u v : World) → Left c s w u → Left c s u v → Left c s w v
 left_joined c s w u v a b = record {
@@ -227,9 +207,7 @@ same_seat (Marker k) = eq-eqb k k refl
 same_seat Host = refl
 
 pub other_seat : (s seat : Seat) → is_one_of (s ∷ []) seat ≡ false → seat ≢ s
-other_seat s seat h e =
-    let f : true ≡ false = sym (rw (same_seat s)) ∙ ap (λ (t : Seat). is_one_of (s ∷ []) t) (sym e) ∙ h in
-    cc
+other_seat s seat h e = grind (arith, same_seat)
 
 pub left_later : (c : Config) (s : Seat) (w : World) (es : List Event) → Known c w.now → AreEnabledFrom c w es
     → AreOfOthers (s ∷ []) es → Left c s w (left_from c w es)
@@ -267,21 +245,12 @@ counts_later c s w (e ∷ es) k on others holds =
     }
 
 counts_left : (c : Config) (es more : List Event) → CountsNothing c (left c es) more → CountsAreLeft c es (es ++ more)
-counts_left c es more h = record {
-  ends = sum_by-append (λ (x : Event). cond {A = ℕ} (is_end x.step) 1 0) es more ∙ (omega (arith, h.none_ends));
-  fulls = rw (calls_append c (first_world c) es more) (fulls_append (calls c es) _ ∙ (omega (arith, h.none_full)));
-}
+counts_left c es more h = grind (arith, sum_by-append, calls_append, fulls_append)
 
 -- the law
 
 scan_left : (c : Config) (s : Seat) (w v : World) → Left c s w v → Protocol c v.now → Attends w.now s → ScanIsLeft w v
-scan_left c s w v l p a =
-    record { phase = by s (still_attends c s w v l.own a); marks = (l.scan a).0; blacks = (l.scan a).1 }
-  where
-    by : (s : Seat) → Attends v.now s → (phase_of v.now.words ≡ 1) ⊎ (phase_of v.now.words ≡ 2)
-    by (Marker k) a = p.attends k a
-    by (Caller k) a = absurd a
-    by Host a = absurd a
+scan_left c s w v l p a = grind (arith, still_attends)
 
 visit_left : (c : Config) (s : Seat) (m : Moment) → Protocol c m → IsIn m s → 1 ≤ m.words.phase / 8
 visit_left c (Marker k) m p i = in_counts c m k p i

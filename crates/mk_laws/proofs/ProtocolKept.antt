@@ -11,10 +11,10 @@ use Rattle.mk_laws.proofs.Orderly.{taker_shows, turn_of, up_eight, up_five, up_o
 use Rattle.mk_laws.proofs.ProtocolMoves.{Attends, Begins, Closes, Ends, Enters, Gives, GoesOn, Holds, IdlesOutside}
 use Rattle.mk_laws.proofs.ProtocolMoves.{Leaves, Move, Opens, Phases, PhaseStep, Quits, Releases, Scans, Stays, Stops}
 use Rattle.mk_laws.proofs.ProtocolMoves.{Takes, Wants, Works}
-use Rattle.mk_laws.proofs.Services.{Goes, Served, Service, nothing_served, served_on, service_rests, service_stands}
 use Rattle.mk_laws.proofs.Standings.{InCall, Resting, Shows, shows_given, shows_held, shows_opened, shows_taken}
 use Rattle.mk_laws.proofs.Standings.{standing}
 use Rattle.mk_laws.proofs.Views.{HoldsTurn, View, flight_at, flight_in, flights_with, gate_in, marker_in}
+use Rattle.mk_laws.proofs.Services.{Served, Service, nothing_served, served_on, service_rests, service_stands}
 
 -- What a step of the phase leaves.
 
@@ -27,15 +27,7 @@ pub record PhaseKept (c : Config) (v : View) (p : ℕ) : Type 0 where
 -- from a phase in which no marker attends to one that isn't the stop
 quiet : (c : Config) (v : View) (p m : ℕ) → Orderly c v → (p % 8 ≡ m) × (p ≡ m + 8 * count_in v.markers) → m ≤ 5 → m ≢ 3
     → (v.phase % 8 ≡ 0) ⊎ (3 ≤ v.phase % 8) → PhaseKept c v p
-quiet c v p m h n low no_stop idle = record {
-  phase = omega (arith, n.0, n.1);
-  low = omega (arith, n.0);
-  stopped = λ e. absurd (no_stop (sym n.0 ∙ e));
-  attends = λ k a. absurd (elim (h.attends k a) [
-    | inl e ↦ elim idle [ inl z ↦ omega arith | inr l ↦ omega arith ]
-    | inr e ↦ elim idle [ inl z ↦ omega arith | inr l ↦ omega arith ]
-  ]);
-}
+quiet c v p m h n low no_stop idle = grind arith
 
 pub phase_kept : (c : Config) (v : View) (seat : Seat) (p : ℕ) → Orderly c v → HoldsTurn c v seat → PhaseStep c v seat p
     → PhaseKept c v p
@@ -130,21 +122,7 @@ seats_kept : (c : Config) (v : View) (fs : List Flight) (gs : List ℕ) (i : Hol
     → Served (slice_index_or fs (v.turn - 1) at_rest) i → (v.turn ≡ 0 → i ≡ nothing_done)
     → (v.phase % 8 ≡ 3 → (k : ℕ) → k < c.callers → v.turn ≢ 1 + k → slice_index gs k ≡ 2)
     → Orderly c (record v { flights = fs; gates = gs; holding = i })
-seats_kept c v fs gs i h flights gates each served free stopped = record {
-  flights = flights;
-  gates = gates;
-  markers = h.markers;
-  turn = h.turn;
-  each = each;
-  served = served;
-  free = free;
-  phase = h.phase;
-  low = h.low;
-  cycle = h.cycle;
-  stopped = stopped;
-  attends = h.attends;
-  idle = h.idle;
-}
+seats_kept c v fs gs i h flights gates each served free stopped = grind arith
 
 -- where the markers change, and how many of them are in, but not how far the phase is
 markers_kept : (c : Config) (v : View) (k : ℕ) (x : MarkerState) (p : ℕ) → Orderly c v → p % 8 ≡ v.phase % 8
@@ -241,24 +219,7 @@ kept c v seat n small h (Opens j t lj ne was open3) =
     (gate_shown c v j 0 small h lj (shows_opened v.turn j (holder_number c seat) (standing (flight_in v j)) ne turn
     (rw was at (h.each j lj)))) h.served h.free (λ e. absurd (open3 e))
 kept c v seat n small h (Phases i {n = p} t same_place same_run step) =
-    let turn = turn_of c v seat h t in
-    let k = phase_kept c v seat p h t step in
-    record {
-      flights = h.flights;
-      gates = h.gates;
-      markers = h.markers;
-      turn = h.turn;
-      each = h.each;
-      served = served_on (flight_in v (v.turn - 1)) v.holding (flight_in v (v.turn - 1)) i h.served
-          (Goes i same_place same_run);
-      free = λ e. absurd (omega arith);
-      phase = k.phase;
-      low = k.low;
-      cycle = λ a b e. absurd (omega arith);
-      stopped = k.stopped;
-      attends = k.attends;
-      idle = h.idle;
-    }
+    grind (arith, turn_of, phase_kept, served_on, flight_in)
 kept c v seat n small h (Attends {k} x lt was is at idle) =
     let more = counted_more v.markers k x (omega (arith, h.markers)) was is in
     let up = up_eight v.phase (count_in v.markers) (v.phase % 8) h.phase h.low (few_in c v h) in

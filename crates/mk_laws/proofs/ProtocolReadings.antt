@@ -1,8 +1,7 @@
 -- What a look at the turn, at a gate and at the phase says.
 use Rattle.mk_laws.proofs.Vocabulary.{Caller, Config, Event, Holds, Host, List, Marker, Moment, Presence, Protocol}
-use Rattle.mk_laws.proofs.Vocabulary.{Seat, ℕ, ap, arith, cases_Bool, cases_eq, cases_lt, false, get_or_past, inl, inr}
-use Rattle.mk_laws.proofs.Vocabulary.{is_attending, is_in, left, length, marker_of, not, outside, refl, sym, true, ◌-◌}
-use Rattle.mk_laws.proofs.Vocabulary.{◌/◌, ◌<◌, ◌∙◌, ◌≡◌, ◌≤◌}
+use Rattle.mk_laws.proofs.Vocabulary.{Seat, ℕ, arith, cases_Bool, cases_eq, cases_lt, false, get_or_past, inl, inr}
+use Rattle.mk_laws.proofs.Vocabulary.{is_attending, is_in, left, marker_of, not, refl, true, ◌-◌, ◌/◌, ◌<◌, ◌≡◌, ◌≤◌}
 use Rattle.mk_core.specs.Readings.{GateTells, PhaseTells, TurnTells}
 use Rattle.mk_core.specs.{MarkerConditions.is_out, declared.seats.Presence.TheVariants.Attending}
 use Rattle.mk_laws.proofs.{Orderly.count_in-at, ProtocolHeldGates.gates_tell_holds, Protocols.lists_keep_the_protocol}
@@ -31,10 +30,7 @@ attending_in _ h = cc
 
 -- a marker that is in is one of the eight, and counts
 pub in_counts : (c : Config) (m : Moment) (k : ℕ) → Protocol c m → is_in (marker_of m k) ≡ true → 1 ≤ m.words.phase / 8
-in_counts c m k p is = elim (cases_lt k (length m.seats.markers)) [
-  | inl lt ↦ let one = count_in-at m.seats.markers k lt is in let high = p.high in omega arith
-  | inr past ↦ let f = ap is_in (sym (get_or_past m.seats.markers k outside past)) ∙ is in cc
-]
+in_counts c m k p is = grind (arith, cases_lt, count_in-at, get_or_past)
 
 phase_tells : (c : Config) (m : Moment) → Protocol c m → PhaseTells c m
 phase_tells c m p = record {
@@ -50,12 +46,7 @@ phase_tells c m p = record {
     none k no_one = elim (cases_Bool (is_attending (marker_of m k).presence)) [ inl a ↦ absurd (no_one a) | inr a ↦ a ]
 
 gate_tells : (c : Config) (es : List Event) (k : ℕ) → Protocol c (left c es).now → k < c.callers → GateTells c es k
-gate_tells c es k p lt = record {
-  least = p.gate k lt;
-  in_call = p.in_call k lt;
-  held = gates_tell_holds c es k;
-  by_another = p.held k lt;
-}
+gate_tells c es k p lt = grind (arith, gates_tell_holds)
 
 pub words_tell : WordsTell
 words_tell c es limits on =

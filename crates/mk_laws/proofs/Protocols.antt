@@ -1,7 +1,7 @@
 -- The protocol holds after every enabled list.
-use Rattle.mk_laws.proofs.Vocabulary.{Bool, Caller, Config, Flight, Moment, Protocol, ℕ, ap, arith, at_rest, cases_lt}
-use Rattle.mk_laws.proofs.Vocabulary.{false, flight_of, get_or_past, inl, inr, is_decided_free, is_undecided_new, left}
-use Rattle.mk_laws.proofs.Vocabulary.{refl, sym, true, ◌+◌, ◌-◌, ◌<◌, ◌↔◌, ◌∙◌, ◌≡◌, ◌≢◌, ◌≤◌}
+use Rattle.mk_laws.proofs.Vocabulary.{Bool, Caller, Config, Flight, Moment, Protocol, ℕ, arith, at_rest, cases_lt}
+use Rattle.mk_laws.proofs.Vocabulary.{false, flight_of, get_or_past, is_decided_free, is_undecided_new, left, refl, sym}
+use Rattle.mk_laws.proofs.Vocabulary.{true, ◌+◌, ◌-◌, ◌<◌, ◌↔◌, ◌∙◌, ◌≡◌, ◌≢◌, ◌≤◌}
 use Rattle.mk_laws.proofs.Basics.{Known, Orderly, flight_in, gate_in, in_call_told, known_left, not_astray, standing}
 use Rattle.mk_laws.proofs.Basics.{view_of}
 use Rattle.mk_laws.proofs.Standings.{in_turn_told, is_standing_in_call, shows_gate, shows_turn, stage_told}
@@ -13,13 +13,7 @@ use Rattle.mk_laws.specs.Protocol.{ListsKeepTheProtocol, SomeCaller, is_decided_
 -- the holder is a caller, where its call is so and no call is astray
 some_caller : (c : Config) (m : Moment) (test : Flight → Bool) → Orderly c (view_of m) → test at_rest ≡ false
     → test (flight_in (view_of m) (m.words.turn - 1)) ≡ true → SomeCaller c m test
-some_caller c m test o rests is = elim (cases_lt (m.words.turn - 1) c.callers) [
-  | inl lt ↦ record { caller = m.words.turn - 1; within = lt; holds = is }
-  | inr past ↦
-      let none = get_or_past m.seats.flights _ at_rest (omega (arith, o.flights)) in
-      let e : false ≡ true = sym rests ∙ ap test (sym none) ∙ is in
-      cc
-]
+some_caller c m test o rests is = grind (arith, cases_lt, get_or_past)
 
 told : (c : Config) (m : Moment) → Orderly c (view_of m) → HaveOperands c m.seats.flights → Protocol c m
 told c m o operands = record {

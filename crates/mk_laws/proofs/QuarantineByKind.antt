@@ -1,16 +1,16 @@
 -- What each kind of event makes of the quarantine.
 use Rattle.mk_laws.proofs.Vocabulary.{Bool, Cell, Claim, Config, Flight, Ground, HasQuarantine, IsQuarantined, IsShown}
 use Rattle.mk_laws.proofs.Vocabulary.{ItDrops, ItFrees, ItGivesBack, ItTakes, ItTakesSnapshot, LayoutStands, List, None}
-use Rattle.mk_laws.proofs.Vocabulary.{Op, Option, Page, Place, PlacedAllocation, Placing, QuarantineStep, Seat, Some}
-use Rattle.mk_laws.proofs.Vocabulary.{Step, Unplaced, Used, UsedStep, Words, World, ℕ, and_from, ap, arith, cases_lt}
+use Rattle.mk_laws.proofs.Vocabulary.{Option, Page, Place, PlacedAllocation, Placing, QuarantineStep, Seat, Some, Step}
+use Rattle.mk_laws.proofs.Vocabulary.{Unplaced, Used, UsedStep, Words, World, ℕ, and_from, ap, arith, cases_lt}
 use Rattle.mk_laws.proofs.Vocabulary.{cell_freed, cell_of_allocation, chosen, claim_of, cond-true, eqb-true, false}
 use Rattle.mk_laws.proofs.Vocabulary.{false_from_ne_true, flight_of, found, freed_cell, frees, get_or_past, ground_of}
 use Rattle.mk_laws.proofs.Vocabulary.{has_place, if◌then◌else◌, inl, inr, is_phase, is_released_in, is_undecided_free}
-use Rattle.mk_laws.proofs.Vocabulary.{is_undecided_new, length, ltb-true, may_end, none_freed, not, nothing_done}
-use Rattle.mk_laws.proofs.Vocabulary.{object_now, object_placed, or_cases, phase_of, place_now, placed_at}
-use Rattle.mk_laws.proofs.Vocabulary.{quarantine_step, refl, set-get_or, slice_index, slice_set, stands_in_its_cell}
-use Rattle.mk_laws.proofs.Vocabulary.{sym, taken, target, true, true≢false, undecided_free, undecided_new, used_step}
-use Rattle.mk_laws.proofs.Vocabulary.{◌%◌, ◌/◌, ◌<◌, ◌==◌, ◌^◌, ◌||◌, ◌∙◌, ◌≡◌}
+use Rattle.mk_laws.proofs.Vocabulary.{is_undecided_new, length, ltb-true, may_end, none_freed, object_now}
+use Rattle.mk_laws.proofs.Vocabulary.{object_placed, or_cases, phase_of, place_now, placed_at, quarantine_step, refl}
+use Rattle.mk_laws.proofs.Vocabulary.{set-get_or, slice_index, slice_set, stands_in_its_cell, taken, target, true}
+use Rattle.mk_laws.proofs.Vocabulary.{undecided_free, undecided_new, used_step, ◌%◌, ◌/◌, ◌<◌, ◌==◌, ◌^◌, ◌||◌, ◌∙◌}
+use Rattle.mk_laws.proofs.Vocabulary.{◌≡◌}
 use Rattle.mk_core.proofs.{EvaluatedPlaces.full, PlacesNow.FreesCell, PlacesNow.chosen_used}
 use Rattle.mk_laws.proofs.Basics.{Before, Laid, Meets, WorldBehind, all_stand, claim_among, free_has_turn}
 use Rattle.mk_laws.proofs.Basics.{is_releasing_behind, none_set, own_claim, placed_undecided, reg_leaves_ground}
@@ -38,20 +38,11 @@ shown_at c w i laid u =
 -- a step that frees, frees a cell
 pub frees_some : (pages : ℕ) (w : Words) (f : Flight) (p n : ℕ) → is_phase w 4 ≡ false
     → frees w (target pages w f) p n ≡ true → cell_freed pages w f p n ≡ None → ⊥
-frees_some pages w f p n off h none =
-    let at : target pages w f ≡ None = sym (cond-true _ _ None (and_from _ _ (ap not off) h)) ∙ none in
-    true≢false (sym h ∙ ap (λ (x : Option Cell). frees w x p n) at)
+frees_some pages w f p n off h none = grind (arith, cond-true, and_from)
 
 -- a New and a Free aren't the same call
 not_both : (f : Flight) → is_undecided_new f ≡ true → is_undecided_free f ≡ true → ⊥
-not_both f new free =
-    let a = undecided_new f new in
-    let b = undecided_free f free in
-    let e : Op.New a.d a.ty a.full ≡ Op.Free b.p = sym a.op ∙ b.op in
-    apart a.d a.ty a.full b.p e
-  where
-    apart : (d ty : ℕ) (full : Bool) (p : ℕ) → Op.New d ty full ≡ Op.Free p → ⊥
-    apart d ty full p e = cc
+not_both f new free = grind (arith, undecided_new, undecided_free, full)
 
 quar_none : (c : Config) (w : World) (f : Flight) (p n : ℕ) → p < length w.now.words.freed
     → p < length w.now.words.snapshot → cell_freed c.pages w.now.words f p n ≡ None
@@ -151,10 +142,7 @@ kept_ground c w x g q = rw g.pages (rw g.freed (rw g.snapshot q))
 -- `grant` and `end`
 pub grants_early : (w : World) → ((phase_of w.now.words == 0) || (phase_of w.now.words == 1)) ≡ true
     → is_phase w.now.words 4 ≡ false
-grants_early w h = elim (or_cases _ _ h) [
-  | inl e ↦ off_at w 0 e (λ x. absurd (omega arith))
-  | inr e ↦ off_at w 1 e (λ x. absurd (omega arith))
-]
+grants_early w h = grind (arith, or_cases, off_at)
 
 none_left : (c : Config) (w : World) → Before c w → may_end c.pages w.now.words ≡ true → (p k : ℕ)
     → is_released_in true w.now.words.snapshot w.now.words.marks p k ≡ false
@@ -169,14 +157,7 @@ none_left c w b own p k = elim (cases_lt p c.pages) [
 pub quarantine_by_kind : (c : Config) (w : World) (seat : Seat) (x : Step) → Before c w → Meets c w.now seat x
     → LayoutStands c w → IsQuarantined c w
     → QuarantinedAs c (is_releasing_behind x (is_phase w.now.words 4)) w (ground_of (WorldBehind c w seat x))
-quarantine_by_kind c w seat (Step.Take o) b h laid q = by (w.now.words.turn == 0) refl
-  where
-    by : (t : Bool) → (w.now.words.turn == 0) ≡ t → QuarantinedNow c w (record (ground_of w) {
-      placing = (if t then nothing_done else w.now.seats.holding).placing;
-      run = (if t then nothing_done else w.now.seats.holding).freed;
-    })
-    by false is = q
-    by true is = rw (b.known.orderly.free (eqb-true w.now.words.turn 0 is)) at q
+quarantine_by_kind c w seat (Step.Take o) b h laid q = grind (arith, eqb-true)
 quarantine_by_kind c w seat Step.Give b h laid q = replaced c _ _ (ground_of w) _ Unplaced None (λ place e. cc) q
 quarantine_by_kind c w seat Step.Reg b h laid q = kept_ground c w _ (reg_leaves_ground c w seat) q
 quarantine_by_kind c w seat (Step.Tally n v) b h laid q = kept_ground c w _ (tally_ground w.now.words n v) q

@@ -20,15 +20,7 @@ use Rattle.mk_laws.specs.Terrain.{IsCellOf}
 pub freed_behind : (c : Config) (g : PlacedAllocation → PlacedAllocation) (xs : List PlacedAllocation) (p k : ℕ)
     → LeavesCells g → (o : IsFreedCell c xs p k) → (g (placed_at xs o.number)).released ≡ false
     → (g (placed_at xs o.number)).freed ≡ true → IsFreedCell c (map g xs) p k
-freed_behind c g xs p k leaves o u f =
-    let a : PlacedAllocation = placed_at xs o.number in
-    let at = changed_at g xs o.number leaves.places.none in
-    record {
-      number = o.number;
-      unreleased = ap (λ (b : PlacedAllocation). b.released) at ∙ u;
-      freed = ap (λ (b : PlacedAllocation). b.freed) at ∙ f;
-      cell = cc (at, same_cell c a (g a) (leaves.places.base a) (leaves.places.ty a), o.cell);
-    }
+freed_behind c g xs p k leaves o u f = grind (arith, changed_at, same_cell)
 
 -- An unreleased allocation after a change, at its number before it.
 pub record BeforeChange (c : Config) (g : PlacedAllocation
@@ -40,16 +32,7 @@ pub record BeforeChange (c : Config) (g : PlacedAllocation
 
 pub before_change : (c : Config) (g : PlacedAllocation → PlacedAllocation) (xs : List PlacedAllocation) (i : ℕ)
     → LeavesCells g → (placed_at (map g xs) i).released ≡ false → BeforeChange c g xs i
-before_change c g xs i leaves u =
-    let a : PlacedAllocation = placed_at xs i in
-    let at = changed_at g xs i leaves.places.none in
-    let v = ap (λ (b : PlacedAllocation). b.released) (sym at) ∙ u in
-    record {
-      now = at;
-      unreleased = v;
-      was = leaves.released a v;
-      cell = cc (at, same_cell c a (g a) (leaves.places.base a) (leaves.places.ty a));
-    }
+before_change c g xs i leaves u = grind (arith, changed_at, same_cell)
 
 -- `release`: what stays isn't released, and what goes is
 pub release_kept : (c : Config) (w : World) → IsWithinLimits c
@@ -108,27 +91,7 @@ begin_kept c releasing marks t q = record {
 pub grant_kept : (c : Config) (marks : List ℕ) (t : Ground) (a : PlacedAllocation) → a.freed ≡ false
     → HasQuarantine c false marks t
     → HasQuarantine c false marks (record t { placing = Granted; allocations = t.allocations ++ a ∷ [] })
-grant_kept c marks t a unfreed q = record {
-  small = q.small;
-  within = q.within;
-  owned = λ p k h. elim (q.owned p k h) [
-    | inl o ↦
-        let still = still_at t.allocations a o.number o.unreleased in
-        inl (record {
-          number = o.number;
-          unreleased = rw still o.unreleased;
-          freed = rw still o.freed;
-          cell = rw still o.cell;
-        })
-    | inr r ↦ inr r
-  ];
-  shown = λ i u f. elim (pushed_at t.allocations a i u) [
-    | inl old ↦ rw old.1 (q.shown i old.0 (rw (← old.1) f))
-    | inr new ↦ absurd (true≢false (sym f ∙ rw new unfreed))
-  ];
-  taken = λ place is. cc;
-  kept = λ on. absurd (true≢false (sym on));
-}
+grant_kept c marks t a unfreed q = grind (arith, small, still_at, pushed_at)
 
 -- a page has at most 32 cells
 pub index_small : (o : Object) (k : ℕ) → IsSized o → k < cells_made o → k < 32
@@ -231,17 +194,11 @@ free_kept c w cell run n x q = record {
     high = (free_halves c w cell n x q).1
 
     set_here : has_bit (slice_index (slice_set w.now.words.freed cell.page (n % 2 ^ 32)) cell.page) cell.index ≡ true
-    set_here = elim (bit_cases w.now.words.freed cell.page (n % 2 ^ 32) cell.page cell.index x.page) [
-      | inl here ↦ here.1 ∙ rw low (added_here (slice_index w.now.words.freed cell.page) cell.index x.unset)
-      | inr other ↦ absurd (other.0 refl)
-    ]
+    set_here = grind (arith, bit_cases, low, added_here)
 
     same_snap : (i k : ℕ) → has_bit (slice_index (slice_set w.now.words.snapshot cell.page (n / 2 ^ 32)) i) k ≡ true
         → has_bit (slice_index w.now.words.snapshot i) k ≡ true
-    same_snap i k h = elim (bit_cases w.now.words.snapshot cell.page (n / 2 ^ 32) i k x.in_snapshot) [
-      | inl here ↦ rw here.0 (rw (← high) (sym here.1 ∙ h))
-      | inr other ↦ sym other.1 ∙ h
-    ]
+    same_snap i k h = grind (arith, bit_cases, high)
 
     grown : (i k : ℕ) → has_bit (slice_index w.now.words.freed i) k ≡ true
         → has_bit (slice_index (slice_set w.now.words.freed cell.page (n % 2 ^ 32)) i) k ≡ true
@@ -264,18 +221,7 @@ free_kept c w cell run n x q = record {
     was i k h = elim (q.owned i k h) [ inl o ↦ still i k o | inr r ↦ absurd (true≢false (sym r)) ]
 
     new : IsFreedCell c (map (freed_where_it_stands w.now.words (Some cell)) w.allocations) cell.page cell.index
-    new =
-        let a : PlacedAllocation = placed_at w.allocations x.own.number in
-        let at = changed_at (freed_where_it_stands w.now.words (Some cell)) w.allocations x.own.number
-        leaves.places.none in
-        let same : freed_where_it_stands w.now.words (Some cell) a ≡ record a { freed = true; fresh = true } =
-        cond-true (stands_in w.now.words cell a) (record a { freed = true; fresh = true }) a x.stands in
-        record {
-          number = x.own.number;
-          unreleased = rw (at ∙ same) x.own.unreleased;
-          freed = rw (at ∙ same);
-          cell = rw (at ∙ same) x.own.is;
-        }
+    new = grind (arith, changed_at, leaves, cond-true)
 
     owned : (i k : ℕ) → has_bit (slice_index (slice_set w.now.words.freed cell.page (n % 2 ^ 32)) i) k ≡ true
         → IsFreedCell c (map (freed_where_it_stands w.now.words (Some cell)) w.allocations) i k

@@ -3,12 +3,11 @@ use Rattle.std.proofs.Common.{bit_and, min}
 use Rattle.std.proofs.{lemmas.Nat.and_le_r, lemmas.Nat.Bits.bit_at_and, lemmas.Nat.Bits.same_from_bits}
 use Rattle.mk_laws.proofs.Vocabulary.{Among, Bool, Cell, Chosen, Claim, Config, Drops, Granted, Ground, HasQuarantine}
 use Rattle.mk_laws.proofs.Vocabulary.{IsFreedCell, List, Object, Option, Page, Place, Placing, RunPages, Unplaced, Used}
-use Rattle.mk_laws.proofs.Vocabulary.{World, ℕ, and_parts, and_right, ap, arith, bit_at, cases_Bool, cases_eq}
-use Rattle.mk_laws.proofs.Vocabulary.{cell_of_allocation, claims_on, claims_placed, false, false_from_ne_true}
-use Rattle.mk_laws.proofs.Vocabulary.{fewer_bits, get_or-set_other, get_or-set_same, ground_of, has_bit}
-use Rattle.mk_laws.proofs.Vocabulary.{has_bit_without, inl, inr, is_released_in, length, not, not-true, placed_at, refl}
-use Rattle.mk_laws.proofs.Vocabulary.{slice_index, slice_set, sym, true, true≢false, used_on, without, ◌&&◌, ◌-◌, ◌<◌}
-use Rattle.mk_laws.proofs.Vocabulary.{◌^◌, ◌∙◌, ◌≡◌, ◌≢◌, ◌≤◌, ◌⊎◌}
+use Rattle.mk_laws.proofs.Vocabulary.{World, ℕ, and_parts, and_right, ap, arith, bit_at, cases_eq, cell_of_allocation}
+use Rattle.mk_laws.proofs.Vocabulary.{claims_on, claims_placed, false, false_from_ne_true, fewer_bits, get_or-set_other}
+use Rattle.mk_laws.proofs.Vocabulary.{get_or-set_same, ground_of, has_bit, has_bit_without, inl, inr, is_released_in}
+use Rattle.mk_laws.proofs.Vocabulary.{length, not, not-true, placed_at, refl, slice_index, slice_set, sym, true}
+use Rattle.mk_laws.proofs.Vocabulary.{true≢false, used_on, without, ◌&&◌, ◌-◌, ◌<◌, ◌^◌, ◌∙◌, ◌≡◌, ◌≢◌, ◌≤◌, ◌⊎◌}
 use Rattle.mk_core.proofs.{PageSteps.left_bits, WordBits.rest_bits}
 use Rattle.mk_laws.proofs.{Claims.claim_is, Serving.among_parts}
 
@@ -37,19 +36,13 @@ set_cases xs p n q lt = elim (cases_eq q p) [
 
 pub least_set : (xs : List ℕ) (p n i : ℕ) → p < length xs → n < 2 ^ 32 → slice_index xs i < 2 ^ 32
     → slice_index (slice_set xs p n) i < 2 ^ 32
-least_set xs p n i lt l was = elim (set_cases xs p n i lt) [
-  | inl here ↦ let e = here.1 in omega arith
-  | inr other ↦ let e = other.1 in omega arith
-]
+least_set xs p n i lt l was = grind (arith, set_cases)
 
 -- a bit after a change of a page's word
 pub bit_cases : (xs : List ℕ) (p n q k : ℕ) → p < length xs
     → ((q ≡ p) × (has_bit (slice_index (slice_set xs p n) q) k ≡ has_bit n k))
     ⊎ ((q ≢ p) × (has_bit (slice_index (slice_set xs p n) q) k ≡ has_bit (slice_index xs q) k))
-bit_cases xs p n q k lt = elim (set_cases xs p n q lt) [
-  | inl here ↦ inl (here.0, rw here.1)
-  | inr other ↦ inr (other.0, rw other.1)
-]
+bit_cases xs p n q k lt = grind (arith, set_cases)
 
 without_le : (x y : ℕ) → without x y ≤ x
 without_le x y = omega arith
@@ -57,9 +50,7 @@ without_le x y = omega arith
 -- what says that a cell is released
 pub released_bits : (snapshot marks : List ℕ) (p k : ℕ) → is_released_in true snapshot marks p k ≡ true
     → (has_bit (slice_index snapshot p) k ≡ true) × (has_bit (slice_index marks p) k ≡ false)
-released_bits snapshot marks p k r =
-    let parts = and_parts _ _ r in
-    (parts.0, not-true _ parts.1)
+released_bits snapshot marks p k r = grind (arith, and_parts, not-true)
 
 -- `quar` (c): on one page some released bits go, of both halves
 module _ (c : Config) (w : World) (p f n : ℕ) (lf : p < length w.now.words.freed)
@@ -84,24 +75,11 @@ module _ (c : Config) (w : World) (p f n : ℕ) (lf : p < length w.now.words.fre
 
   was_snap : (i k : ℕ) → has_bit (slice_index (slice_set w.now.words.snapshot p n) i) k ≡ true
       → has_bit (slice_index w.now.words.snapshot i) k ≡ true
-  was_snap i k x = elim (bit_cases w.now.words.snapshot p n i k ls) [
-    | inr other ↦ sym other.1 ∙ x
-    | inl here ↦ rw here.0 (fewer_bits n _ k d.fewer (sym here.1 ∙ x))
-  ]
+  was_snap i k x = grind (arith, bit_cases, fewer_bits)
 
   within : (i k : ℕ) → has_bit (slice_index (slice_set w.now.words.snapshot p n) i) k ≡ true
       → has_bit (slice_index (slice_set w.now.words.freed p f) i) k ≡ true
-  within i k x = elim (bit_cases w.now.words.freed p f i k lf) [
-    | inr other ↦ other.1 ∙ q.within i k (was_snap i k x)
-    | inl here ↦
-        let bit : has_bit n k ≡ true = elim (bit_cases w.now.words.snapshot p n i k ls) [
-          | inl h ↦ sym h.1 ∙ x
-          | inr o ↦ absurd (o.0 here.0)
-        ] in
-        let out = rest_bit n _ k d.fewer ∙ and_right _ _ (ap not bit) in
-        let was = ap (λ j. has_bit (slice_index w.now.words.freed j) k) (sym here.0) ∙ q.within i k (was_snap i k x) in
-        here.1 ∙ f_bit k ∙ and_both _ _ was out
-  ]
+  within i k x = grind (arith, bit_cases, was_snap, rest_bit, and_right, f_bit, and_both)
 
   -- what isn't released stays freed
   stays : (i k : ℕ) → has_bit (slice_index w.now.words.freed i) k ≡ true
@@ -121,35 +99,12 @@ module _ (c : Config) (w : World) (p f n : ℕ) (lf : p < length w.now.words.fre
   still_released : (i k : ℕ) → has_bit (slice_index (slice_set w.now.words.freed p f) i) k ≡ true
       → has_bit (slice_index w.now.words.snapshot i) k ≡ true
       → has_bit (slice_index (slice_set w.now.words.snapshot p n) i) k ≡ true
-  still_released i k x was = elim (bit_cases w.now.words.snapshot p n i k ls) [
-    | inr other ↦ other.1 ∙ was
-    | inl here ↦
-        let bit : has_bit f k ≡ true = elim (bit_cases w.now.words.freed p f i k lf) [
-          | inl h ↦ sym h.1 ∙ x
-          | inr o ↦ absurd (o.0 here.0)
-        ] in
-        let out = (and_parts _ _ (sym (f_bit k) ∙ bit)).1 in
-        let there = ap (λ j. has_bit (slice_index w.now.words.snapshot j) k) (sym here.0) ∙ was in
-        here.1 ∙ elim (cases_Bool (has_bit n k)) [
-          | inl is ↦ is
-          | inr gone ↦ absurd (true≢false (sym (rest_bits n _ k d.fewer there gone) ∙ not-true _ out))
-        ]
-  ]
+  still_released i k x was = grind (arith, bit_cases, and_parts, f_bit, rest_bits, not-true)
 
   owned : (i k : ℕ) → has_bit (slice_index (slice_set w.now.words.freed p f) i) k ≡ true
       → IsFreedCell c w.allocations i k
       ⊎ (is_released_in true (slice_set w.now.words.snapshot p n) w.now.words.marks i k ≡ true)
-  owned i k x =
-      let was : has_bit (slice_index w.now.words.freed i) k ≡ true = elim (bit_cases w.now.words.freed p f i k lf) [
-        | inl here ↦ rw here.0 (was_freed k (sym here.1 ∙ x))
-        | inr other ↦ sym other.1 ∙ x
-      ] in
-      elim (q.owned i k was) [
-        | inl o ↦ inl o
-        | inr r ↦
-            let bits = released_bits w.now.words.snapshot w.now.words.marks i k r in
-            inr (and_both _ _ (still_released i k x bits.0) bits.1)
-      ]
+  owned i k x = grind (arith, bit_cases, was_freed, released_bits, and_both, still_released)
 
   pub drop_kept : HasQuarantine c true w.now.words.marks
       (record (ground_of w) { freed = slice_set w.now.words.freed p f; snapshot = slice_set w.now.words.snapshot p n })
@@ -181,56 +136,25 @@ module _ (c : Config) (w : World) (p f n : ℕ) (lf : p < length w.now.words.fre
 pub snapshot_kept : (c : Config) (marks : List ℕ) (t : Ground) (p : ℕ) → p < length t.snapshot
     → HasQuarantine c false marks t
     → HasQuarantine c false marks (record t { snapshot = slice_set t.snapshot p (slice_index t.freed p) })
-snapshot_kept c marks t p ls q = record {
-  small = λ i. ((q.small i).0, least_set t.snapshot p (slice_index t.freed p) i ls (q.small p).0 (q.small i).1);
-  within = λ i k x. elim (bit_cases t.snapshot p (slice_index t.freed p) i k ls) [
-    | inl here ↦ rw here.0 (sym here.1 ∙ x)
-    | inr other ↦ q.within i k (sym other.1 ∙ x)
-  ];
-  owned = q.owned;
-  shown = q.shown;
-  taken = q.taken;
-  kept = λ on. absurd (true≢false (sym on));
-}
+snapshot_kept c marks t p ls q = grind (arith, least_set, bit_cases)
 
 -- `end`
 pub end_kept : (c : Config) (marks : List ℕ) (t : Ground)
     → ((p k : ℕ) → is_released_in true t.snapshot marks p k ≡ false)
     → HasQuarantine c true marks t → HasQuarantine c false marks t
-end_kept c marks t none q = record {
-  small = q.small;
-  within = q.within;
-  owned = λ p k h. elim (q.owned p k h) [ inl o ↦ inl o | inr r ↦ absurd (true≢false (sym r ∙ none p k)) ];
-  shown = q.shown;
-  taken = q.taken;
-  kept = λ on. absurd (true≢false (sym on));
-}
+end_kept c marks t none q = grind arith
 
 -- While the phase isn't releasing, the marks don't matter.
 pub unmarked : (c : Config) (marks other : List ℕ) (t : Ground) → HasQuarantine c false marks t
     → HasQuarantine c false other t
-unmarked c marks other t q = record {
-  small = q.small;
-  within = q.within;
-  owned = q.owned;
-  shown = q.shown;
-  taken = q.taken;
-  kept = λ on. absurd (true≢false (sym on));
-}
+unmarked c marks other t q = grind arith
 
 -- Headers, used words and runs aren't read, and no step but one takes a cell.
 pub replaced : (c : Config) (releasing : Bool) (marks : List ℕ) (t : Ground) (pages : List Page) (placing : Placing)
     (run : Option RunPages)
     → ((place : Place) → placing ≡ Used place → t.placing ≡ Used place) → HasQuarantine c releasing marks t
     → HasQuarantine c releasing marks (record t { pages = pages; placing = placing; run = run })
-replaced c releasing marks t pages placing run from q = record {
-  small = q.small;
-  within = q.within;
-  owned = q.owned;
-  shown = q.shown;
-  taken = λ place is. q.taken place (from place is);
-  kept = q.kept;
-}
+replaced c releasing marks t pages placing run from q = grind arith
 
 -- `used` (a): a cell without a used bit is in no quarantine
 pub take_kept : (c : Config) (marks : List ℕ) (t : Ground) (pages : List Page) (place : Place)
@@ -239,21 +163,7 @@ pub take_kept : (c : Config) (marks : List ℕ) (t : Ground) (pages : List Page)
     (cell_of_allocation c (placed_at t.allocations i)).index ≡ true)
     → has_bit (used_on t.pages place.page) place.index ≡ false → HasQuarantine c false marks t
     → HasQuarantine c false marks (record t { pages = pages; placing = Used place })
-take_kept c marks t pages place used unset q = record {
-  small = q.small;
-  within = q.within;
-  owned = q.owned;
-  shown = q.shown;
-  taken = λ found is. let e : place ≡ found = cc in rw e at clear;
-  kept = q.kept;
-}
-  where
-    clear : has_bit (slice_index t.freed place.page) place.index ≡ false
-    clear = false_from_ne_true _ (λ h. elim (q.owned place.page place.index h) [
-      | inr r ↦ true≢false (sym r)
-      | inl o ↦ true≢false (sym (used o.number o.unreleased)
-          ∙ ap (λ (x : Cell). has_bit (used_on t.pages x.page) x.index) o.cell ∙ unset)
-    ])
+take_kept c marks t pages place used unset q = grind (arith, false_from_ne_true)
 
 -- what the layout asks of the quarantine while cells are released
 pub none_released : (c : Config) (o : Object) (marks : List ℕ) (t : Ground) → HasQuarantine c true marks t → (x : Claim)
@@ -271,6 +181,4 @@ none_released c o marks t q x i = elim (among_parts _ _ x i) [
     by Granted is j = absurd j
     by (Chosen place) is j = absurd j
     by (Used place) is (inr j) = absurd j
-    by (Used place) is (inl e) = false_from_ne_true _ (λ r.
-        let bits = released_bits t.snapshot marks x.page x.index r in
-        true≢false (sym (q.within x.page x.index bits.0) ∙ rw e (q.taken place is)))
+    by (Used place) is (inl e) = grind (arith, false_from_ne_true, released_bits)

@@ -1,10 +1,9 @@
 -- Which word an enabled event reaches, and how.
-use Rattle.mk_laws.proofs.Vocabulary.{Bool, Caller, Config, Flight, Holding, Holds, Host, Marker, MarkerState, Moment}
-use Rattle.mk_laws.proofs.Vocabulary.{Op, Placing, Seat, Stage, Step, Tally, Word, ℕ, access, and_parts, ap, arith}
-use Rattle.mk_laws.proofs.Vocabulary.{caller_number, enabled_meets, false, flight_of, holder_number, is_new_at}
-use Rattle.mk_laws.proofs.Vocabulary.{is_number_of, is_under_turn, left, ltb-true, marker_at, nat_lt, not, outside}
-use Rattle.mk_laws.proofs.Vocabulary.{page_met, refl, seat_exists, tally_word, true, word_accessed, word_met, ◌&&◌, ◌*◌}
-use Rattle.mk_laws.proofs.Vocabulary.{◌++◌, ◌<◌, ◌∙◌, ◌≡◌, ◌≤◌}
+use Rattle.mk_laws.proofs.Vocabulary.{Caller, Config, Flight, Holds, Host, Marker, MarkerState, Moment, Op, Placing}
+use Rattle.mk_laws.proofs.Vocabulary.{Seat, Stage, Step, Tally, Word, ℕ, access, and_parts, arith, caller_number}
+use Rattle.mk_laws.proofs.Vocabulary.{enabled_meets, false, flight_of, is_new_at, is_number_of, is_under_turn, left}
+use Rattle.mk_laws.proofs.Vocabulary.{ltb-true, marker_at, nat_lt, not, outside, page_met, refl, seat_exists}
+use Rattle.mk_laws.proofs.Vocabulary.{tally_word, true, word_accessed, word_met, ◌&&◌, ◌*◌, ◌++◌, ◌<◌, ◌≡◌, ◌≤◌}
 use Rattle.mk_core.specs.Layout.{IsOfTable, NamesWord}
 use Rattle.mk_core.specs.{Accesses.access_by, Ranges.is_word, Ranges.is_word_met, Readings.is_idle}
 use Rattle.mk_laws.proofs.Basics.{Known, Meets, grants_new, is_grant, known_left, new_holds, operands_of}
@@ -31,18 +30,7 @@ seat_marker c m _ h = nothing_fits c outside refl refl
 -- a word that is looked at
 looked_at : (c : Config) (x : Word) → c.callers ≤ 16 → is_word c x ≡ true → NamesWord c.pages x
 looked_at c (Word.Gate j) small h = let lt = ltb-true j c.callers h in omega arith
-looked_at c (Word.Reg j r) small h =
-    let both = and_parts _ (nat_lt r 8) h in
-    (omega (arith, ltb-true j c.callers both.0), ltb-true r 8 both.1)
-looked_at c (Word.Global g) small h = ltb-true g 64 h
-looked_at c (Word.Head p) small h = ltb-true p c.pages h
-looked_at c (Word.Used p) small h = ltb-true p c.pages h
-looked_at c (Word.Quar p) small h = ltb-true p c.pages h
-looked_at c (Word.Mark p) small h = ltb-true p c.pages h
-looked_at c (Word.Black p) small h = ltb-true p c.pages h
-looked_at c (Word.Dirty p) small h = ltb-true p c.pages h
-looked_at c (Word.Heap n) small h = ltb-true n (64 * c.pages) h
-looked_at c _ small h = tt
+looked_at c x1 small h = grind (arith, and_parts, ltb-true)
 
 tallied : (pages : ℕ) (t : Tally) → NamesWord pages (tally_word t)
 tallied pages Tally.Held = tt
@@ -50,9 +38,7 @@ tallied pages _ = tt
 
 -- the word that a call accesses
 met : (c : Config) (f : Flight) → is_word_met c f ≡ true → (word_met f < 64 * c.pages) × (page_met f < c.pages)
-met c f h =
-    let lt = ltb-true (word_met f) (64 * c.pages) (and_parts _ _ h).1 in
-    (lt, omega arith)
+met c f h = grind (arith, ltb-true, and_parts)
 
 other_gate : (c : Config) (seat : Seat) (j : ℕ) → c.callers ≤ 16
     → (nat_lt j c.callers && not (is_number_of seat j)) ≡ true → j < 16
@@ -112,24 +98,12 @@ new_in_turn Stage.Turn (Op.New d ty full) h = refl
 new_in_turn _ _ h = cc
 
 granter_holds : (c : Config) (m : Moment) (seat : Seat) → Meets c m seat Step.Grant → Holds c m seat
-granter_holds c m seat h =
-    let own = new_holds c m seat Step.Grant h (grants_new c m seat h) in
-    rw own.2 (own.1, new_in_turn _ _ (rw own.2 at (grants_new c m seat h)))
+granter_holds c m seat h = grind (arith, new_holds, grants_new, new_in_turn)
 
 same_access : (c : Config) (m n : Moment) (seat : Seat) (x : Step) → flight_of n seat ≡ flight_of m seat
     → marker_at n seat ≡ marker_at m seat → (is_grant x ≡ true → n.seats.holding ≡ m.seats.holding)
     → access c n (record { seat = seat; step = x }) ≡ access c m (record { seat = seat; step = x })
-same_access c m n seat x flight marker holding = rw flight
-    (ap (λ (y : MarkerState). access_by c (holder_number c seat) (flight_of m seat) n.seats.holding.placing y x) marker
-    ∙ by (is_grant x) refl)
-  where
-    by : (b : Bool) → is_grant x ≡ b
-        → access_by c (holder_number c seat) (flight_of m seat) n.seats.holding.placing (marker_at m seat) x
-        ≡ access_by c (holder_number c seat) (flight_of m seat) m.seats.holding.placing (marker_at m seat) x
-    by true g = ap (λ (h : Holding). access_by c (holder_number c seat) (flight_of m seat) h.placing
-        (marker_at m seat) x) (holding g)
-    by false g = placing_apart c (holder_number c seat) (flight_of m seat) n.seats.holding.placing
-        m.seats.holding.placing (marker_at m seat) x g
+same_access c m n seat x flight marker holding = grind (arith, is_grant, placing_apart)
 
 pub others_leave_accesses : OthersLeaveAccesses
 others_leave_accesses c es more e limits on others now =

@@ -1,11 +1,10 @@
 -- What a step of a caller needs of the state before: images tell values apart.
-use Rattle.mk_laws.proofs.Vocabulary.{Answer, Bool, ImageScene, IsSafe, IsSafeSet, IsSound, IsTyped, IsTypedAllocation}
-use Rattle.mk_laws.proofs.Vocabulary.{List, NeverState, Null, Num, Op, Option, Progress, Ptr, Some, Value, ℕ}
-use Rattle.mk_laws.proofs.Vocabulary.{after_calls, allocation_at, answer_of, answered, answers_of, ap, arith, asked}
-use Rattle.mk_laws.proofs.Vocabulary.{bases_of, bit, cases_Bool, cases_eq, entry_of, eq-eqb, false, flagged}
-use Rattle.mk_laws.proofs.Vocabulary.{if◌then◌else◌, image_of, inl, inr, is_same, kinds_of, length, ne_eqb, one_if}
-use Rattle.mk_laws.proofs.Vocabulary.{placed_at, refl, replies_of, slice_set, sym, true, words_of, [], ◌++◌, ◌+◌, ◌<◌}
-use Rattle.mk_laws.proofs.Vocabulary.{◌==◌, ◌^◌, ◌∙◌, ◌∷◌, ◌≡◌}
+use Rattle.mk_laws.proofs.Vocabulary.{Answer, Bool, ImageScene, IsSafe, IsSafeSet, IsSound, IsTyped, List, NeverState}
+use Rattle.mk_laws.proofs.Vocabulary.{Null, Num, Op, Option, Progress, Ptr, Some, Value, ℕ, after_calls, answer_of}
+use Rattle.mk_laws.proofs.Vocabulary.{answered, answers_of, ap, arith, asked, bases_of, bit, cases_Bool, cases_eq}
+use Rattle.mk_laws.proofs.Vocabulary.{entry_of, eq-eqb, false, flagged, if◌then◌else◌, image_of, inl, inr, is_same}
+use Rattle.mk_laws.proofs.Vocabulary.{kinds_of, length, ne_eqb, one_if, placed_at, refl, replies_of, slice_set, sym}
+use Rattle.mk_laws.proofs.Vocabulary.{true, words_of, [], ◌++◌, ◌+◌, ◌<◌, ◌==◌, ◌^◌, ◌∙◌, ◌∷◌, ◌≡◌}
 use Rattle.mk_never.proofs.{Sameness.equal_from_same, Sameness.same_from_equal, Soundness.place_is_inside}
 use Rattle.mk_never.specs.NeverHeap.{reply_of}
 use Rattle.mk_laws.proofs.{HeapEdits.base_at, ImagesKept.AreApart, ImagesKept.AreSmall, ImagesMoves.Move}
@@ -26,11 +25,7 @@ pub record Ready (listed : List ℕ) (safe : ℕ → Bool) (s : ImageScene) (n :
 -- a sound pointer points to one of the words
 pub pointed_word : (listed : List ℕ) (safe : ℕ → Bool) (s : ImageScene) (n : NeverState) → Ready listed safe s n
     → (a t o : ℕ) → IsSound n (Ptr a t o) → o < length (words_of n a)
-pointed_word listed safe s n h a t o sound =
-    let typed : IsTypedAllocation n (allocation_at n a) = h.typed.allocations a sound.0 in
-    let place = place_is_inside _ o sound.2 (h.full t (rw sound.1 typed.ty)) in
-    let place' : o < length (kinds_of n.types (allocation_at n a).ty) = rw sound.1 at place in
-    omega (arith, typed.size)
+pointed_word listed safe s n h a t o sound = grind (arith, place_is_inside)
 
 pub image_zero : (n : NeverState) (bs : List ℕ) (v : Value) → IsSound n v → image_of bs v ≡ 0 → v ≡ Null
 image_zero n bs Null s e = refl

@@ -2,12 +2,11 @@
 use Rattle.mk_laws.proofs.Vocabulary.{Answer, Bool, Done, Flight, ImageScene, List, NeverState, Null, Num, Op, Some}
 use Rattle.mk_laws.proofs.Vocabulary.{Stage, WordOf, ℕ, answer_of, ap, arith, bases_of, bit, d_of, false, flagged}
 use Rattle.mk_laws.proofs.Vocabulary.{flight_among, i_of, if◌then◌else◌, is_put, is_same, length, number_of, q_of, refl}
-use Rattle.mk_laws.proofs.Vocabulary.{register_at, slice_set, stage_refused, subst, sym, target_of, true, with_register}
+use Rattle.mk_laws.proofs.Vocabulary.{register_at, slice_set, stage_refused, sym, target_of, true, with_register}
 use Rattle.mk_laws.proofs.Vocabulary.{with_word, word_at, ◌*◌, ◌++◌, ◌+◌, ◌<◌, ◌∙◌, ◌≡◌}
 use Rattle.mk_never.specs.NeverHeap.{after_op, left_at, reply_at, reply_of}
-use Rattle.mk_never.specs.declared.operations.Reply.{Reply}
 use Rattle.mk_never.specs.declared.operations.Reply.TheVariants.{Num as Number, Val}
-use Rattle.mk_never.specs.{declared.values.Target.Target, declared.values.Target.TheVariants.Nothing}
+use Rattle.mk_never.specs.{declared.operations.Reply.Reply, declared.values.Target.Target}
 use Rattle.mk_laws.proofs.ImagesMoves.{Flies, Move, Owes, is_bare}
 use Rattle.mk_laws.proofs.Pairs.{bare_carries, bare_owes_nothing, bare_unprobed, shows_plain}
 use Rattle.mk_laws.proofs.Ready.{Leads, one_right}
@@ -37,12 +36,7 @@ pub decides_nothing : (safe : ℕ → Bool) (s : ImageScene) (n : NeverState) (k
     → flagged o a ≡ o → is_put (flight_among s.flights k).stage ≡ false → is_bare f.stage ≡ true → after_op n k o ≡ n
     → ((bs : List ℕ) → a ≡ answer_of bs (reply_of n k o))
     → Leads safe s n k o (record s { flights = slice_set s.flights k f }) (Some a)
-decides_nothing safe s n k o f a flag was bare stays is = (
-  subst (λ (m : NeverState). Move safe s n (record s { flights = slice_set s.flights k f }) m)
-      (sym (ap (after_op n k) flag ∙ stays)) (goes_bare safe s n k f was bare),
-  λ more. one_right _ a n k o (is _
-      ∙ ap (λ (x : Op). answer_of (bases_of s.allocations ++ more) (reply_of n k x)) (sym flag)),
-)
+decides_nothing safe s n k o f a flag was bare stays is = grind (arith, goes_bare, one_right)
 
 -- a refused call whose register becomes null, which is still to be stored
 pub owes_null : (safe : ℕ → Bool) (s : ImageScene) (n : NeverState) (k d : ℕ) (o : Op) (f : Flight) (a : Answer)
@@ -59,19 +53,11 @@ owes_null safe s n k d o f a flag there long was put isd ld zero stays is = (
 
 refused_reply : (x t : Target) (at : ℕ → ℕ → Reply) → x ≡ t → is_word t ≡ false
     → reply_at x at ≡ reply_at t (λ a w. Done)
-refused_reply x t at e none = rw e (by t none)
-  where
-    by : (t : Target) → is_word t ≡ false → reply_at t at ≡ reply_at t (λ a w. Done)
-    by Nothing none = refl
-    by _ none = cc
+refused_reply x t at e none = grind (arith, is_word)
 
 refused_left : (x t : Target) (left : NeverState) (at : ℕ → ℕ → NeverState) → x ≡ t → is_word t ≡ false
     → left_at x left at ≡ left
-refused_left x t left at e none = rw e (by t none)
-  where
-    by : (t : Target) → is_word t ≡ false → left_at t left at ≡ left
-    by Nothing none = refl
-    by _ none = cc
+refused_left x t left at e none = grind (arith, is_word)
 
 abbrev flight : Stage → Op → ℕ → ℕ → ℕ → ℕ → Flight
 flight st o q p r l = record { stage = st; op = o; q = q; p = p; r = r; loaded = l }

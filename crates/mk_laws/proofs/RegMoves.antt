@@ -21,13 +21,7 @@ flight st o q p r l = record { stage = st; op = o; q = q; p = p; r = r; loaded =
 -- only q is carried
 carries_q : (bs : List ℕ) (f : Flight) (a b d : Value) → f.q ≡ image_of bs a → f.q ≢ 0 → has_p f.stage f.op ≡ false
     → has_some_p f.stage f.op ≡ false → has_r f.stage f.op ≡ false → Carries bs f a b d
-carries_q bs f a b d e ne p sp r = record {
-  q = λ x. e;
-  some_q = λ x. ne;
-  p = λ x. let y : false ≡ true = sym p ∙ x in cc;
-  some_p = λ x. let y : false ≡ true = sym sp ∙ x in cc;
-  r = λ x. let y : false ≡ true = sym r ∙ x in cc;
-}
+carries_q bs f a b d e ne p sp r = grind arith
 
 -- after the load of q, an access carries q alone
 record BehindLoadQ (s : Stage) (o : Op) : Type 0 where
@@ -39,11 +33,7 @@ record BehindLoadQ (s : Stage) (o : Op) : Type 0 where
 
 behind_load_q : (o : Op) → accesses o ≡ true → BehindLoadQ (stage_behind Stage.LoadQ (steps_of o)) o
 behind_load_q (Op.GetNum q i) h = record { p = refl; some_p = refl; r = refl; put = refl; probed = refl }
-behind_load_q (Op.SetNum q i m) h = record { p = refl; some_p = refl; r = refl; put = refl; probed = refl }
-behind_load_q (Op.GetPtr d q i) h = record { p = refl; some_p = refl; r = refl; put = refl; probed = refl }
-behind_load_q (Op.SetPtr q i p) h = record { p = refl; some_p = refl; r = refl; put = refl; probed = refl }
-behind_load_q (Op.CasPtr q i p r) h = record { p = refl; some_p = refl; r = refl; put = refl; probed = refl }
-behind_load_q _ h = absurd (false≢true h)
+behind_load_q x0 h = grind arith
 
 -- a flight that goes on undecided
 pub flies_on : (safe : ℕ → Bool) (s : ImageScene) (n : NeverState) (k : ℕ) (o : Op) (f : Flight)
@@ -116,9 +106,7 @@ module _ (listed : List ℕ) (safe : ℕ → Bool) (s : ImageScene) (n : NeverSt
     reg_q (Op.Same p' q') q p r l x is ld a car e =
         let u = register_at n k p' in
         let v = register_at n k q' in
-        let tests : (p == x) ≡ is_same u v =
-        rw (car.p refl) (rw e (image_test listed safe s n h u v (h.typed.registers (8 * k + p'))
-        (h.typed.registers (8 * k + q')) (h.set.registers (8 * k + p')) (h.set.registers (8 * k + q')))) in
+        let tests : (p == x) ≡ is_same u v = grind (arith, image_test) in
         decides_nothing safe s n k (Op.Same p' q') _ (Answer.Num (one_if (p == x))) refl (rw is) refl refl
         (λ bs. rw tests (ap Answer.Num (bit_is (is_same u v))))
     reg_q _ q p r l x is ld a car e = cc

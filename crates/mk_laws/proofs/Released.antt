@@ -87,13 +87,7 @@ pub goes : (c : Config) (run : Option RunPages) (w : Words) (xs : List PlacedAll
     → ((i : ℕ) → (placed_at xs i).released ≡ false → IsStanding c w (placed_at xs i)) → Among x (claims_of c run xs)
     → Among x (claims_of c run (map (with_released c w) xs))
     ⊎ (is_released_in true w.snapshot w.marks x.page x.index ≡ true)
-goes c run w xs x limits stand i =
-    let n = claim_is c run xs x i in
-    let a : PlacedAllocation = placed_at xs n.number in
-    elim (cases_Bool (with_released c w a).released) [
-      | inr u ↦ inl (rw n.is (changed_among c run (with_released c w) xs n.number (releasing_leaves c w) u))
-      | inl r ↦ inr (rw n.is (sym (left_is c w a limits (stand n.number n.unreleased)) ∙ r))
-    ]
+goes c run w xs x limits stand i = grind (arith, claim_is, changed_among, releasing_leaves, left_is)
 
 pub released_terrain : (c : Config) (o : Object) (w : World) → IsWithinLimits c → length w.now.words.pages ≡ c.pages
     → Laid c o false w (ground_of w) → ((run : RunPages) → w.now.seats.holding.freed ≡ Some run

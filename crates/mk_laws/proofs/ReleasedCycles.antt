@@ -84,9 +84,7 @@ along c done (e ∷ es) on k =
     let w : World = left c done in
     let moves = moves_phase c w e es on in
     let next : left c (done ++ e ∷ []) ≡ world_behind c w e = left_more c (first_world c) done e in
-    let one : CycleSoFar (phase_of (left c (done ++ e ∷ [])).now.words) (done ++ e ∷ []) =
-    subst (λ p. CycleSoFar p (done ++ e ∷ [])) (sym moves.1 ∙ ap (λ (v : World). phase_of v.now.words) (sym next))
-    (so_far e.seat e.step _ done moves.0 k) in
+    let one : CycleSoFar (phase_of (left c (done ++ e ∷ [])).now.words) (done ++ e ∷ []) = grind (arith, so_far) in
     subst (λ (xs : List Event). CycleSoFar (phase_of (left c xs).now.words) xs) (append_assoc done (e ∷ []) es)
     (along c (done ++ e ∷ []) es (subst (λ (v : World). AreEnabledFrom c v es) (sym next) moves.2) one)
 

@@ -1,13 +1,13 @@
 -- What a cycle's `release` releases.
-use Rattle.mk_laws.proofs.Vocabulary.{AreEnabledFrom, At, Bool, Caller, Config, Decided, Event, IsHistory, List, Moment}
-use Rattle.mk_laws.proofs.Vocabulary.{NeverState, OfHistories, PlacedAllocation, Releasing, Seat, Step, World, ℕ}
-use Rattle.mk_laws.proofs.Vocabulary.{after_calls, and_from, and_parts, ap, append_assoc, arith, asked, before_release}
-use Rattle.mk_laws.proofs.Vocabulary.{call_decided, calls_from, cell_of_allocation, changed_at, earlier_part_is_history}
-use Rattle.mk_laws.proofs.Vocabulary.{enabled_in_parts, enabled_parts, false, flight_of, has_bit_of, has_bit_without}
-use Rattle.mk_laws.proofs.Vocabulary.{is_begin, is_close, is_marked, is_quarantined, is_release, left, left_from}
-use Rattle.mk_laws.proofs.Vocabulary.{left_in_parts, list_any, list_any-append, map, never_behind, never_in_parts, not}
-use Rattle.mk_laws.proofs.Vocabulary.{not-true, phase_of, placed_at, refl, released_leaves, released_where_left, subst}
-use Rattle.mk_laws.proofs.Vocabulary.{sym, true, with_released, world_behind, [], ◌&&◌, ◌++◌, ◌||◌, ◌↔◌, ◌∙◌, ◌∷◌, ◌≡◌}
+use Rattle.mk_laws.proofs.Vocabulary.{AreEnabledFrom, At, Bool, Config, Event, IsHistory, List, Moment, NeverState}
+use Rattle.mk_laws.proofs.Vocabulary.{OfHistories, PlacedAllocation, Releasing, Step, World, ℕ, and_from, and_parts, ap}
+use Rattle.mk_laws.proofs.Vocabulary.{append_assoc, arith, before_release, call_decided, calls_from, cell_of_allocation}
+use Rattle.mk_laws.proofs.Vocabulary.{changed_at, earlier_part_is_history, enabled_in_parts, enabled_parts, false}
+use Rattle.mk_laws.proofs.Vocabulary.{flight_of, has_bit_of, has_bit_without, is_begin, is_close, is_marked}
+use Rattle.mk_laws.proofs.Vocabulary.{is_quarantined, is_release, left, left_from, left_in_parts, list_any}
+use Rattle.mk_laws.proofs.Vocabulary.{list_any-append, map, never_behind, never_in_parts, not, not-true, phase_of}
+use Rattle.mk_laws.proofs.Vocabulary.{placed_at, released_leaves, released_where_left, subst, sym, true, with_released}
+use Rattle.mk_laws.proofs.Vocabulary.{world_behind, [], ◌&&◌, ◌++◌, ◌||◌, ◌↔◌, ◌∙◌, ◌∷◌, ◌≡◌}
 use Rattle.mk_never.specs.Reach.{IsReachable}
 use Rattle.mk_core.specs.Allocations.{allocations_by}
 use Rattle.mk_laws.proofs.CyclePhases.{AsksPhase, IsMarking, IsUnreleased, begin_is, close_is, marking_goes_on}
@@ -52,18 +52,12 @@ none_begins c w b x ys zs on begins no_close closes no_release =
 
 -- A `release` decides no call.
 none_decided : (c : Config) (m : Moment) (e : Event) → e.step ≡ Step.Release → call_decided c m e ≡ []
-none_decided c m e is = ap (λ (x : Step). call_decided c m (record { seat = e.seat; step = x })) is ∙ by e.seat
-  where
-    by : (seat : Seat) → call_decided c m (record { seat = seat; step = Step.Release }) ≡ []
-    by (Caller k) = refl
-    by _ = cc
+none_decided c m e is = grind arith
 
 never_stays : (c : Config) (es : List Event) (e : Event) → is_release e.step ≡ true
     → never_behind c (es ++ e ∷ []) ≡ never_behind c es
 unfolding calls_from
-never_stays c es e is =
-    let none = none_decided c (left c es).now e (release_is e.step is) in
-    never_in_parts c es (e ∷ []) ∙ ap (λ (xs : List Decided). after_calls (never_behind c es) (asked (xs ++ []))) none
+never_stays c es e is = grind (arith, none_decided, release_is, never_in_parts)
 
 module _ (c : Config) (es : List Event) (h : IsHistory c es) (r : Releasing es) where
   abbrev begin : At is_begin es
@@ -83,9 +77,7 @@ module _ (c : Config) (es : List Event) (h : IsHistory c es) (r : Releasing es) 
   w = left c front
 
   es_is : es ≡ front ++ last.event ∷ last.behind
-  es_is = begin.is ∙ ap (λ (xs : List Event). begin.before ++ begin.event ∷ xs)
-      (close.is ∙ ap (λ (xs : List Event). close.before ++ close.event ∷ xs) last.is)
-      ∙ sym (with_rest begin.before close.before last.before (last.event ∷ last.behind) begin.event close.event)
+  es_is = grind (arith, begin, close, last, with_rest)
 
   whole : IsHistory c (front ++ last.event ∷ last.behind)
   whole = subst (IsHistory c) es_is h
@@ -153,12 +145,7 @@ module _ (c : Config) (es : List Event) (h : IsHistory c es) (r : Releasing es) 
 
   pub exact : (i : ℕ) → (allocation_before c r i).released ≡ false
       → ((allocation_behind c r i).released ≡ true) ↔ ((in_snapshot i ≡ true) × (marked i ≡ false))
-  exact i u = (
-    λ gone.
-        let parts = and_parts (in_snapshot i) _ (sym (released_is i u) ∙ gone) in
-        (parts.0, not-true (marked i) parts.1),
-    λ both. released_is i u ∙ and_from (in_snapshot i) _ both.0 (ap not both.1),
-  )
+  exact i u = grind (arith, and_parts, in_snapshot, released_is, not-true, marked, and_from)
 
   pub none_reached : (number : ℕ) → IsReachable (never_behind c front) number
       → (allocation_behind c r number).released ≡ false
@@ -172,6 +159,4 @@ pub releases_none_reached : OfHistories ReleasesNoneReached
 releases_none_reached c es h r = none_reached c es h r
 
 pub no_others_release : OfHistories NoOthersRelease
-no_others_release c es h front rest e is other i u =
-    let none : list_any (λ (x : Event). is_release x.step) (e ∷ []) ≡ false = ap (λ b. b || false) other in
-    cc (left_in_parts c front (e ∷ []), (stays_put c (left c front) (e ∷ []) i none u).unreleased)
+no_others_release c es h front rest e is other i u = grind (arith, left_in_parts, stays_put)

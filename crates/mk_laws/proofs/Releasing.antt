@@ -176,13 +176,7 @@ layout_given_back s p n laid lt on gives kept = record {
     ]
 
     shown : (x : Claim) → Among x s.claims → IsShown s.pages x → IsShown (with_used_on s.pages p n) x
-    shown x among was = record {
-      sized = was.sized;
-      known = was.known;
-      within = let l = len in let w = was.within in omega arith;
-      headers = λ d ld. rw (used_header s.pages p n (x.page + d) lt) (was.headers d ld);
-      used = bit x among was.used;
-    }
+    shown x among was = grind (arith, len, used_header, bit)
 
     plot : (plot : Plot) → PlotStands s.pages plot → PlotStands (with_used_on s.pages p n) plot
     plot NoPlot stands = stands
@@ -220,10 +214,7 @@ layout_released s claims laid off r = record {
     by : (p k : ℕ) → IsClaimed s.claims p k ⊎ (is_released_on s p k ≡ true)
         → IsClaimed claims p k ⊎ (is_released_in true s.snapshot s.marks p k ≡ true)
     by p k (inr was) = absurd (true≢false (sym was ∙ rw off))
-    by p k (inl o) = elim (r.gone o.claim o.among) [
-      | inl stays ↦ inl (record { claim = o.claim; among = stays; page = o.page; index = o.index })
-      | inr goes ↦ inr (rw (← o.index) (rw (← o.page) goes))
-    ]
+    by p k (inl o) = grind arith
 
 -- `end`: nothing released is left, and no page without a used cell
 abbrev Ended : LayoutScene → LayoutScene
@@ -247,16 +238,10 @@ layout_ended s laid ends = record {
 }
   where
     inside : (p : ℕ) → header_on s.pages p ≢ 0 → p < length s.pages
-    inside p some = elim (cases_lt p (length s.pages)) [
-      | inl lt ↦ lt
-      | inr ge ↦ absurd (some (ap (λ (x : Page). x.header) (get_or_past s.pages p free_page ge)))
-    ]
+    inside p some = grind (arith, cases_lt, get_or_past)
 
     with_bit : (p k : ℕ) → has_bit (used_on s.pages p) k ≡ true → p < length s.pages
-    with_bit p k h = elim (cases_lt p (length s.pages)) [
-      | inl lt ↦ lt
-      | inr ge ↦ absurd (none_set _ k (ap (λ (x : Page). x.used) (get_or_past s.pages p free_page ge)) h)
-    ]
+    with_bit p k h = grind (arith, cases_lt, none_set, get_or_past)
 
     by : (p k : ℕ) → has_bit (used_on s.pages p) k ≡ true → IsClaimed s.claims p k ⊎ (is_released_on s p k ≡ true)
         → IsClaimed s.claims p k

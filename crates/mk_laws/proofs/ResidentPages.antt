@@ -1,13 +1,13 @@
 -- How many pages are resident or in a plot, where few change.
 use Rattle.std.{proofs.Common.min, proofs.lemmas.List.Recursion.is_count_by, specs.List.count_by}
-use Rattle.mk_laws.proofs.Vocabulary.{Block, Bool, Config, Free, Header, Later, LeafBlock, LeafRun, List, None, NoPlot}
-use Rattle.mk_laws.proofs.Vocabulary.{Object, Option, Page, Placing, Plot, Run, Some, World, ℕ, ap, arith, cases_eq}
-use Rattle.mk_laws.proofs.Vocabulary.{cases_lt, cond, count_below, false, free_page, get_or-set_other, get_or-set_same}
-use Rattle.mk_laws.proofs.Vocabulary.{header_of, header_on, if◌then◌else◌, inl, inr, is_resident_page}
-use Rattle.mk_laws.proofs.Vocabulary.{is_unmapped_header, leb-true, length, ltb-true, nat_le, nat_lt, object_now}
-use Rattle.mk_laws.proofs.Vocabulary.{or_cases, or_left, or_right, plot_of, refl, resident_pages, set_past, shows_on}
-use Rattle.mk_laws.proofs.Vocabulary.{slice_index_or, suc, sym, true, true≢false, use_under, used_on, uses_of_pages}
-use Rattle.mk_laws.proofs.Vocabulary.{zero, ◌&&◌, ◌+◌, ◌-◌, ◌<◌, ◌||◌, ◌∙◌, ◌∷◌, ◌≡◌, ◌≢◌, ◌≤◌}
+use Rattle.mk_laws.proofs.Vocabulary.{Bool, Config, Free, Header, List, None, NoPlot, Object, Option, Page, Placing}
+use Rattle.mk_laws.proofs.Vocabulary.{Plot, Some, World, ℕ, ap, arith, cases_eq, cases_lt, cond, count_below, false}
+use Rattle.mk_laws.proofs.Vocabulary.{free_page, get_or-set_other, get_or-set_same, header_of, header_on, if◌then◌else◌}
+use Rattle.mk_laws.proofs.Vocabulary.{inl, inr, is_resident_page, is_unmapped_header, leb-true, length, ltb-true}
+use Rattle.mk_laws.proofs.Vocabulary.{nat_le, nat_lt, object_now, or_cases, or_left, or_right, plot_of, refl}
+use Rattle.mk_laws.proofs.Vocabulary.{resident_pages, set_past, shows_on, slice_index_or, suc, sym, true, true≢false}
+use Rattle.mk_laws.proofs.Vocabulary.{use_under, used_on, uses_of_pages, zero, ◌&&◌, ◌+◌, ◌-◌, ◌<◌, ◌||◌, ◌∙◌, ◌∷◌, ◌≡◌}
+use Rattle.mk_laws.proofs.Vocabulary.{◌≢◌, ◌≤◌}
 use Rattle.mk_geom.specs.{PageWords.use_of_page, StorageWords.page_in}
 use Rattle.mk_books.proofs.PlaceLemmas.{count_by-map}
 use Rattle.mk_laws.proofs.Basics.{with_header_on, with_used_on}
@@ -99,11 +99,7 @@ room_fewer c o u pages others placing other fewer room = omega (arith, count_few
 pub room_unplaced : (c : Config) (o u : Object) (pages others : List Page) (placing other : Placing)
     → plot_of u other ≡ NoPlot → ((q : ℕ) → q < c.pages → is_resident others q ≡ true → is_resident pages q ≡ true)
     → RoomOn c o pages placing → RoomOn c u others other
-room_unplaced c o u pages others placing other none fewer room =
-    room_fewer c o u pages others placing other (λ q lt t. or_left _ _ (elim (or_cases _ _ t) [
-      | inl r ↦ fewer q lt r
-      | inr i ↦ absurd (true≢false (sym i ∙ rw none))
-    ])) room
+room_unplaced c o u pages others placing other none fewer room = grind (arith, room_fewer, or_left, or_cases)
 
 -- with the same plot, where fewer pages are resident
 pub room_same : (c : Config) (o : Object) (pages others : List Page) (placing : Placing)
@@ -114,20 +110,12 @@ room_same c o pages others placing fewer room = room_fewer c o o pages others pl
 
 -- whether a page is resident is said by its header
 pub resident_use : (x : Option Header) (u v : ℕ) → is_resident_page (use_under x u) ≡ is_resident_page (use_under x v)
-resident_use None u v = refl
 resident_use (Some Free) u v = refl
-resident_use (Some (Block k)) u v = refl
-resident_use (Some (LeafBlock k)) u v = refl
-resident_use (Some (Run n m)) u v = refl
-resident_use (Some (LeafRun n)) u v = refl
-resident_use (Some (Later d m)) u v = refl
+resident_use x0 u v = cc
 
 pub unmapped_use : (x : Option Header) (u : ℕ) → is_unmapped_header x ≡ true → is_resident_page (use_under x u) ≡ false
 unmapped_use None u h = refl
-unmapped_use (Some Free) u h = refl
-unmapped_use (Some (Run n false)) u h = refl
-unmapped_use (Some (Later d false)) u h = refl
-unmapped_use _ u h = cc
+unmapped_use x0 u h = grind arith
 
 pub resident_used : (pages : List Page) (p n q : ℕ) → is_resident (with_used_on pages p n) q ≡ true
     → is_resident pages q ≡ true

@@ -7,11 +7,10 @@ use Rattle.mk_laws.proofs.Vocabulary.{arith, cases_Bool, cases_eq, chosen, claim
 use Rattle.mk_laws.proofs.Vocabulary.{flight_of, found, ground_of, has_place, head_step, header_at, header_made}
 use Rattle.mk_laws.proofs.Vocabulary.{header_of, if◌then◌else◌, inl, inr, is_phase, is_resident_page}
 use Rattle.mk_laws.proofs.Vocabulary.{is_unmapped_header, large_count, le-leb, length, lt-ltb, marks_is, marks_place}
-use Rattle.mk_laws.proofs.Vocabulary.{nat_le, nat_lt, nothing_done, object_made, object_now, or_left, or_right}
-use Rattle.mk_laws.proofs.Vocabulary.{pages_made, place_claim, place_now, placed_now, plot_of, refl, resident_pages}
-use Rattle.mk_laws.proofs.Vocabulary.{seat_exists, small_pages, subst, sym, taken, true, undecided_new}
-use Rattle.mk_laws.proofs.Vocabulary.{unmapped_is_unmapped, use_under, used_on, uses_of_pages, ◌+◌, ◌-◌, ◌<◌, ◌==◌, ◌∙◌}
-use Rattle.mk_laws.proofs.Vocabulary.{◌≡◌}
+use Rattle.mk_laws.proofs.Vocabulary.{nat_le, nat_lt, object_made, object_now, or_left, or_right, pages_made}
+use Rattle.mk_laws.proofs.Vocabulary.{place_claim, place_now, placed_now, plot_of, refl, resident_pages, seat_exists}
+use Rattle.mk_laws.proofs.Vocabulary.{small_pages, subst, sym, taken, true, undecided_new, unmapped_is_unmapped}
+use Rattle.mk_laws.proofs.Vocabulary.{use_under, used_on, uses_of_pages, ◌+◌, ◌-◌, ◌<◌, ◌∙◌, ◌≡◌}
 use Rattle.mk_laws.proofs.Basics.{Before, Laid, Meets, WorldBehind, first_header, holding_object, made_sized}
 use Rattle.mk_laws.proofs.Basics.{new_has_turn, no_run, own_claim, page_within, placed_claim, reg_leaves_ground}
 use Rattle.mk_laws.proofs.Basics.{tally_ground, with_header_on, with_used_on}
@@ -84,9 +83,7 @@ head_room c w seat p n b there lt laid room (ItCarves off x) =
           absurd (next.not_yet (ap (λ q. header_at w.now.words q) here ∙ fit.header
           ∙ ap (λ e. header_made o e) (sym d)))
     ]
-    by o sized own (Chosen place) is AsChosen next =
-        carved_room c o w place p n next (subst (λ (y : Placing). RoomOn c o w.now.words.pages y) is
-        (subst (λ (y : Object). RoomOn c y w.now.words.pages w.now.seats.holding.placing) own room))
+    by o sized own (Chosen place) is AsChosen next = grind (arith, carved_room)
     by o sized own (Used place) is AsUsed next =
         let st = subst (λ (y : Object). Laid c y (is_phase w.now.words 4) w (ground_of w)) own laid in
         let there : Among (place_claim o place) (claims_placed o w.now.seats.holding.placing) =
@@ -119,17 +116,9 @@ head_room c w seat p n b there lt laid room (ItUnmaps off x) =
         let placed = placed_now c w.now (flight_of w.now seat) place at in
         let turn = new_has_turn c w.now seat there placed.new in
         absurd (no_run c w.now seat b.known turn (undecided_new (flight_of w.now seat) placed.new).stage x.run x.there)
-    by None at = subst (λ (y : Placing). RoomOn c (object_now c w.now) (with_header_on w.now.words.pages p n) y)
-        (sym (chosen_none w.now.seats.holding.placing))
-        (room_same c (object_now c w.now) w.now.words.pages (with_header_on w.now.words.pages p n)
-        w.now.seats.holding.placing (λ q lq r. or_left (is_resident w.now.words.pages q)
-        (in_plot (plot_of (object_now c w.now) w.now.seats.holding.placing) q)
-        (resident_gone w.now.words.pages p n q lt out r)) room)
-head_room c w seat p n b there lt laid room (ItEmpties on x) = subst (λ four. HeadRoom c w seat p n four) (sym on)
-    (room_same c (object_now c w.now) w.now.words.pages (with_header_on w.now.words.pages p n)
-    w.now.seats.holding.placing (λ q lq r. or_left (is_resident w.now.words.pages q)
-    (in_plot (plot_of (object_now c w.now) w.now.seats.holding.placing) q) (resident_gone w.now.words.pages p n q lt
-    (ap (λ v. is_resident_page (use_under (header_of v) (used_on w.now.words.pages p))) x.is) r)) room)
+    by None at = grind (arith, with_header_on, chosen_none, room_same, or_left, is_resident, resident_gone, out)
+head_room c w seat p n b there lt laid room (ItEmpties on x) =
+    grind (arith, room_same, with_header_on, or_left, is_resident, resident_gone)
 
 mark_room : (c : Config) (w : World) (seat : Seat) (p n : ℕ) → Before c w → seat_exists c seat ≡ true → HasRoom c w
     → (t : Bool)
@@ -152,10 +141,7 @@ mark_room c w seat p n b there room true is =
         → (placing : Placing) → w.now.seats.holding.placing ≡ placing
         → IsPlaced c.resident w.now.words.pages o place placing
         → RoomOn c o w.now.words.pages (chosen placing (Some place))
-    by o sized own place free Unplaced is (ByFit at) = elim (fits c.resident w.now.words.pages o place sized at) [
-      | inl fit ↦ chosen_room c o w.now.words.pages place b.lengths.pages fit
-      | inr fit ↦ absurd (first_header o sized (sym fit.header ∙ free))
-    ]
+    by o sized own place free Unplaced is (ByFit at) = grind (arith, fits, chosen_room, first_header)
     by o sized own place free (Chosen found) is AsChosen = rw is at (rw own at room)
     by o sized own place free (Used found) is AsUsed = rw is at (rw own at room)
     by o sized own place free Granted is out = elim out [ ]
@@ -166,10 +152,7 @@ used_room : (c : Config) (w : World) (p n : ℕ) (four : Bool) (found : Option P
 used_room c w p n four found room = by four found
   where
     same : RoomOn c (object_now c w.now) (with_used_on w.now.words.pages p n) w.now.seats.holding.placing
-    same = room_same c (object_now c w.now) w.now.words.pages (with_used_on w.now.words.pages p n)
-        w.now.seats.holding.placing (λ q lt r. or_left (is_resident w.now.words.pages q)
-        (in_plot (plot_of (object_now c w.now) w.now.seats.holding.placing) q)
-        (resident_used w.now.words.pages p n q r)) room
+    same = grind (arith, room_same, with_used_on, or_left, is_resident, resident_used)
 
     by : (four : Bool) (found : Option Place)
         → RoomOn c (object_now c w.now) (with_used_on w.now.words.pages p n) (if four then w.now.seats.holding.placing
@@ -184,29 +167,17 @@ used_room c w p n four found room = by four found
 room_by_kind : (c : Config) (w : World) (seat : Seat) (x : Step) → Before c w → Meets c w.now seat x → LayoutStands c w
     → HasRoom c w → RoomOn c (object_now c w.now) (WorldBehind c w seat x).now.words.pages
     (WorldBehind c w seat x).now.seats.holding.placing
-room_by_kind c w seat (Step.Take o) b h laid room = by (w.now.words.turn == 0)
-  where
-    by : (t : Bool) → RoomOn c (object_now c w.now) w.now.words.pages (if t then nothing_done
-        else w.now.seats.holding).placing
-    by true = room_unplaced c (object_now c w.now) (object_now c w.now) w.now.words.pages w.now.words.pages
-        w.now.seats.holding.placing Unplaced refl (λ q lt r. r) room
-    by false = room
+room_by_kind c w seat (Step.Take o) b h laid room = grind (arith, room_unplaced)
 room_by_kind c w seat Step.Give b h laid room =
     room_unplaced c (object_now c w.now) (object_now c w.now) w.now.words.pages w.now.words.pages
     w.now.seats.holding.placing Unplaced refl (λ q lt r. r) room
 room_by_kind c w seat Step.Reg b h laid room = rw (reg_leaves_ground c w seat).pages room
 room_by_kind c w seat (Step.Tally n v) b h laid room = rw (tally_ground w.now.words n v).pages room
-room_by_kind c w seat (Step.Head p n) b h laid room =
-    head_room c w seat p n b h.seat (page_within c w p b h.range) laid room
-    (head_step c w.now (flight_of w.now seat) p n h.holder)
+room_by_kind c w seat (Step.Head p n) b h laid room = grind (arith, head_room, page_within, head_step)
 room_by_kind c w seat (Step.Used p n) b h laid room =
     used_room c w p n (is_phase w.now.words 4) (place_now c w.now (flight_of w.now seat)) room
-room_by_kind c w seat Step.Grant b h laid room =
-    room_unplaced c (object_now c w.now) (object_now c w.now) w.now.words.pages w.now.words.pages
-    w.now.seats.holding.placing Granted refl (λ q lt r. r) room
-room_by_kind c w seat (Step.Mark p n) b h laid room = mark_room c w seat p n b h.seat room
-    (marks_place w.now.words (object_made c (flight_of w.now seat).op) (place_now c w.now (flight_of w.now seat)) p
-    n) refl
+room_by_kind c w seat Step.Grant b h laid room = grind (arith, room_unplaced)
+room_by_kind c w seat (Step.Mark p n) b h laid room = grind (arith, mark_room)
 room_by_kind c w seat _ b h laid room = room
 
 no_plot : (o : Object) (placing : Placing) → has_place placing ≡ false → plot_of o placing ≡ NoPlot

@@ -8,19 +8,14 @@ use Rattle.mk_laws.proofs.Vocabulary.{is_run_gone, is_run_unmapped, is_unmapped_
 use Rattle.mk_laws.proofs.Vocabulary.{made_is_mapped, object_now, object_placed, pages_made, placed_at, placed_now}
 use Rattle.mk_laws.proofs.Vocabulary.{refl, set_past, slice_index, stands, subst, sym, true, true≢false, typed_size}
 use Rattle.mk_laws.proofs.Vocabulary.{undecided_new, unmapped_header, unmapped_is_unmapped, used_at, word_met}
-use Rattle.mk_laws.proofs.Vocabulary.{words_are_zero, ◌&&◌, ◌*◌, ◌+◌, ◌-◌, ◌/◌, ◌<◌, ◌∙◌, ◌≡◌, ◌≢◌}
+use Rattle.mk_laws.proofs.Vocabulary.{words_are_zero, ◌*◌, ◌+◌, ◌-◌, ◌/◌, ◌<◌, ◌∙◌, ◌≡◌, ◌≢◌}
 use Rattle.mk_laws.proofs.Basics.{Behind, KnownWorld, Meets, Table, ends_on_pages, headers_kind, is_head, mapped_stays}
 use Rattle.mk_laws.proofs.Basics.{new_has_turn, no_run, own_claim, reg_table, tally_table}
 use Rattle.mk_laws.proofs.{ForImages.laid_out, ForImages.run_of, LayoutReadings.claimed_used, Tests.all_below_from}
 
 gone_from : (v : Words) (r : RunPages) → ((d : ℕ) → d < r.count → header_at v (r.page + d) ≡ unmapped_header r.count d)
     → ((i : ℕ) → i < 64 * r.count → slice_index v.heap (64 * r.page + i) ≡ 0) → is_run_gone v (Some r) ≡ true
-gone_from v r headers words =
-    let unmapped : is_run_unmapped v r ≡ true = all_below_from r.count (stands v r.page (unmapped_header r.count))
-    (λ d lt. eq-eqb _ _ (headers d lt)) in
-    let zeros : words_are_zero v (64 * r.page) (64 * r.count) ≡ true =
-    all_below_from (64 * r.count) _ (λ i lt. eq-eqb _ _ (words i lt)) in
-    ap (λ b. b && words_are_zero v (64 * r.page) (64 * r.count)) unmapped ∙ zeros
+gone_from v r headers words = grind (arith, all_below_from, eq-eqb)
 
 module _ (c : Config) (w : World) (known : KnownWorld c w) (laid : LayoutStands c w) (r : RunPages)
     (is : w.now.seats.holding.freed ≡ Some r)

@@ -2,11 +2,10 @@
 use Rattle.std.proofs.Common.{unwrap_or}
 use Rattle.mk_laws.proofs.Vocabulary.{Bool, Config, Flight, Ground, List, None, Object, Option, Page, Place, Run}
 use Rattle.mk_laws.proofs.Vocabulary.{RunPages, Some, Words, World, ℕ, and_parts, arith, block_header, carves, cases_eq}
-use Rattle.mk_laws.proofs.Vocabulary.{class_made, empties, eqb-true, false, free_page, get_or-set_other, header_made}
-use Rattle.mk_laws.proofs.Vocabulary.{header_of, if◌then◌else◌, inl, inr, is_next_header, is_small_object, leb-true}
-use Rattle.mk_laws.proofs.Vocabulary.{object_made, pages_made, place_now, refl, run_header, run_pages_of}
-use Rattle.mk_laws.proofs.Vocabulary.{slice_index_or, slice_set, suc, true, unmapped_header, unmaps, word_of, zero, ◌*◌}
-use Rattle.mk_laws.proofs.Vocabulary.{◌+◌, ◌-◌, ◌<◌, ◌==◌, ◌∙◌, ◌≡◌, ◌≢◌, ◌≤◌}
+use Rattle.mk_laws.proofs.Vocabulary.{empties, eqb-true, false, free_page, get_or-set_other, header_made, header_of}
+use Rattle.mk_laws.proofs.Vocabulary.{inl, inr, is_next_header, is_small_object, leb-true, object_made, pages_made}
+use Rattle.mk_laws.proofs.Vocabulary.{place_now, refl, run_header, run_pages_of, slice_index_or, slice_set, true}
+use Rattle.mk_laws.proofs.Vocabulary.{unmapped_header, unmaps, word_of, zero, ◌*◌, ◌+◌, ◌-◌, ◌<◌, ◌∙◌, ◌≡◌, ◌≢◌, ◌≤◌}
 use Rattle.mk_geom.{proofs.ClassTable.class_for-some, proofs.HeaderLemmas.word_of-header_of, specs.Classes.class_for}
 use Rattle.mk_laws.proofs.Ground.{Carves, Empties, GivesBack, GroundStep, TakesCell, Unmaps}
 use Rattle.mk_laws.proofs.{HeaderSteps.page_set, HeaderSteps.used_set, NewPlace.PlaceFits}
@@ -25,11 +24,7 @@ shown_word word count h = (word_of-header_of word (Run count true) h).1
 -- of the headers that are stored, only the head of a mapped run shows one
 
 class_small : (words : ℕ) → unwrap_or (class_for words) 0 < 8
-class_small words = by (class_for words) refl
-  where
-    by : (x : Option ℕ) → class_for words ≡ x → unwrap_or x 0 < 8
-    by (Some class) e = (class_for-some words class e).0
-    by None e = omega arith
+class_small words = grind (arith, class_for-some)
 
 block_apart : (class count : ℕ) (leaf : Bool) → class < 8 → 9 + 16 * count ≡ word_of (block_header class leaf) → ⊥
 block_apart class count true lt e = omega arith
@@ -39,21 +34,11 @@ run_shown : (pages count distance : ℕ) (mapped leaf : Bool)
     → 9 + 16 * count ≡ word_of (run_header pages mapped leaf distance)
     → (mapped ≡ true) × (distance ≡ 0) × (count ≡ pages)
 run_shown pages count zero true false e = (refl, refl, omega arith)
-run_shown pages count zero false false e = absurd (omega arith)
-run_shown pages count (suc d) true leaf e = absurd (omega arith)
-run_shown pages count (suc d) false leaf e = absurd (omega arith)
-run_shown pages count zero true true e = absurd (omega arith)
-run_shown pages count zero false true e = absurd (omega arith)
+run_shown pages count x2 x3 leaf e = grind arith
 
 made_shown : (o : Object) (distance count : ℕ) → 9 + 16 * count ≡ header_made o distance
     → (is_small_object o ≡ false) × (distance ≡ 0) × (count ≡ run_pages_of o.words)
-made_shown o distance count e = by (is_small_object o) refl e
-  where
-    by : (b : Bool) → is_small_object o ≡ b → 9 + 16 * count ≡ (if b then word_of (block_header (class_made o) o.leaf)
-        else word_of (run_header (run_pages_of o.words) true o.leaf distance)) → (is_small_object o ≡ false)
-        × (distance ≡ 0) × (count ≡ run_pages_of o.words)
-    by true is h = absurd (block_apart (class_made o) count o.leaf (class_small o.words) h)
-    by false is h = let r = run_shown _ count distance true o.leaf h in (is, r.1, r.2)
+made_shown o distance count e = grind (arith, block_apart, class_small, run_shown)
 
 -- the header that is stored next, and its page
 pub record Next (first page value : ℕ) (wanted : ℕ → ℕ) : Type 0 where
@@ -62,9 +47,7 @@ pub record Next (first page value : ℕ) (wanted : ℕ → ℕ) : Type 0 where
 
 pub next_is : (w : Words) (first count : ℕ) (wanted : ℕ → ℕ) (page value : ℕ)
     → is_next_header w first count wanted page value ≡ true → Next first page value wanted
-next_is w first count wanted page value h =
-    let one = and_parts _ _ (and_parts _ _ (and_parts _ _ (and_parts _ _ h).0).0).0 in
-    record { behind = leb-true first page one.0; is = eqb-true value (wanted (page - first)) (and_parts _ _ h).1 }
+next_is w first count wanted page value h = grind (arith, and_parts, leb-true, eqb-true)
 
 carved_fits : (c : Config) (w : Words) (f : Flight) (place : Option Place) (p n : ℕ)
     → ((x : Place) → place ≡ Some x → PlaceFits c f.op x)
@@ -85,12 +68,7 @@ unmapped_fits c w (Some run) p n h = λ count shows.
     cc
 
 emptied_fits : (c : Config) (w : Words) (p n : ℕ) → empties w p n ≡ true → RunFits c p n
-emptied_fits c w p n h = λ count shows.
-    let zero : n ≡ 0 = eqb-true n 0 (value_zero h) in
-    absurd (omega (arith, shown_word n count shows))
-  where
-    value_zero : empties w p n ≡ true → (n == 0) ≡ true
-    value_zero h = (and_parts (n == 0) _ (and_parts _ _ (and_parts _ _ h).0).0).0
+emptied_fits c w p n h = grind (arith, eqb-true, shown_word, and_parts)
 
 -- one page's header is set, or none
 

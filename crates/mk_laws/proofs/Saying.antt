@@ -4,7 +4,7 @@ use Rattle.mk_laws.proofs.Vocabulary.{IsAdmitted, IsNumber, IsPointer, IsSafe, I
 use Rattle.mk_laws.proofs.Vocabulary.{NeverState, Null, Num, Op, ProbedOwn, Ptr, RunPages, Seat, Some, Stage, Step}
 use Rattle.mk_laws.proofs.Vocabulary.{Value, World, ℕ, ap, arith, asked, bases_of, call_decided, cases_eq}
 use Rattle.mk_laws.proofs.Vocabulary.{cell_of_allocation, enabled_meets, false, false≢true, flight_of, i_of, image_of}
-use Rattle.mk_laws.proofs.Vocabulary.{image_scene_of, inl, inr, is_marked, is_put, is_undecided_free, ltb-true, not}
+use Rattle.mk_laws.proofs.Vocabulary.{image_scene_of, inl, inr, is_marked, is_put, is_undecided_free, ltb-true}
 use Rattle.mk_laws.proofs.Vocabulary.{object_placed, p_of, phase_of, placed_at, pointed_cell, refl, register_at}
 use Rattle.mk_laws.proofs.Vocabulary.{run_begins, subst, sym, target, true, typed_size, word_met, ◌*◌, ◌+◌, ◌-◌, ◌/◌}
 use Rattle.mk_laws.proofs.Vocabulary.{◌∙◌, ◌≡◌, ◌≢◌, ◌⊎◌}
@@ -94,14 +94,7 @@ module _ (c : Config) (w : World) (n : NeverState) (known : KnownWorld c w) (oth
 
   reached_word : (k i q : ℕ) (v : Value) (P : Kind → Type 0) → Reaches mirrors.safe.0 (image_scene_of w) n v q i P
       → IsMappedWord c w ((q - 65536) / 8 + i)
-  reached_word k i q v P to =
-      let x = placed_at w.allocations to.number in
-      let lt = exists_placed w.allocations to.number to.unreleased in
-      let fits = words_fit c w n known mirrors to.number lt in
-      let gone = sym (unmapped_is c w n known mirrors to.number lt) ∙ to.mapped in
-      let word = to.word in
-      let inside = to.inside in
-      record { number = to.number; mapped = rw to.unreleased (ap not gone); word = (omega arith, omega arith) }
+  reached_word k i q v P to = grind (arith, exists_placed, words_fit, unmapped_is)
 
   write_word : (k : ℕ) (o : Op) (q p r l : ℕ) → is_astray (standing_at Stage.Write o) ≡ false
       → CarriesOwn (bases_of w.allocations) n k (flight Stage.Write o q p r l)

@@ -2,10 +2,10 @@
 use Rattle.mk_laws.proofs.Vocabulary.{Block, Bool, Cell, Config, Header, LeafBlock, LeafRun, MarkerState as Marker}
 use Rattle.mk_laws.proofs.Vocabulary.{None, Option, Run, Scan, SeenHeader, Some, Step, Word, ℕ, and_parts, arith}
 use Rattle.mk_laws.proofs.Vocabulary.{behind_mlook, cell_at, cell_ends, cell_seen, cells_under, eqb-true, false}
-use Rattle.mk_laws.proofs.Vocabulary.{has_bit, has_next_word, has_no_pointers, has_seen_cell, header_of, if◌then◌else◌}
+use Rattle.mk_laws.proofs.Vocabulary.{has_next_word, has_no_pointers, has_seen_cell, header_of, if◌then◌else◌}
 use Rattle.mk_laws.proofs.Vocabulary.{is_scanned, is_some, ltb-true, marker_behind, marker_may, next_word}
 use Rattle.mk_laws.proofs.Vocabulary.{page_at_address, refl, scan_begun, scan_claimed, scan_onward, scan_page}
-use Rattle.mk_laws.proofs.Vocabulary.{seen_page, subst, sym, true, words_under, ◌*◌, ◌+◌, ◌<◌, ◌==◌, ◌∙◌, ◌≡◌, ◌≤◌}
+use Rattle.mk_laws.proofs.Vocabulary.{seen_page, subst, true, words_under, ◌*◌, ◌+◌, ◌<◌, ◌==◌, ◌≡◌, ◌≤◌}
 use Rattle.mk_core.proofs.PointedPages.{cell_within}
 use Rattle.mk_laws.proofs.RunsInHeap.{RunFits}
 
@@ -15,14 +15,7 @@ pub record MarkerFits (c : Config) (x : Marker) : Type 0 where
   pub end : (s : Scan) → x.scan ≡ Some s → s.end ≤ 64 * c.pages
 
 pub nothing_fits : (c : Config) (x : Marker) → x.seen ≡ None → x.scan ≡ None → MarkerFits c x
-nothing_fits c x no_seen no_scan = record {
-  seen = λ s e. absurd (apart s (sym no_seen ∙ e));
-  page = λ s e. absurd (apart s (sym no_scan ∙ e));
-  end = λ s e. absurd (apart s (sym no_scan ∙ e));
-}
-  where
-    apart : {A : Type 0} (s : A) → None ≡ Some s → ⊥
-    apart s e = cc
+nothing_fits c x no_seen no_scan = grind arith
 
 -- a scan that is begun under a header
 
@@ -35,33 +28,19 @@ scan_end c p i (Some (Run count true)) lt li fits =
     let room = fits count refl in
     let z : i ≡ 0 = omega arith in
     rw z (omega arith)
-scan_end c p i (Some (Run count false)) lt li fits =
-    let z : i ≡ 0 = omega arith in
-    rw z (omega arith)
-scan_end c p i (Some (LeafRun count)) lt li fits =
-    let z : i ≡ 0 = omega arith in
-    rw z (omega arith)
+scan_end c p i (Some (Run count false)) lt li fits = grind arith
+scan_end c p i (Some (LeafRun count)) lt li fits = grind arith
 scan_end c p i _ lt li fits = absurd (omega arith)
 
 seen_cell : (x : Option SeenHeader) (p i : ℕ) → has_seen_cell x p i ≡ true → (s : SeenHeader) → x ≡ Some s
     → (s.page ≡ p) × (i < cells_under (header_of s.header))
 seen_cell None p i h s e = cc
-seen_cell (Some seen) p i h s e =
-    let both = and_parts _ _ h in
-    subst (λ (y : SeenHeader). (y.page ≡ p) × (i < cells_under (header_of y.header))) (same seen s e)
-    (eqb-true seen.page p both.0, ltb-true i _ both.1)
-  where
-    same : (a b : SeenHeader) → Some a ≡ Some b → a ≡ b
-    same a b e = cc
+seen_cell (Some seen) p i h s e = grind (arith, and_parts, eqb-true, ltb-true)
 
 claimed_is : (p i marks : ℕ) (x : Option SeenHeader) (s : Scan) → scan_claimed p i marks x ≡ Some s
     → (h : SeenHeader) × (x ≡ Some h) × (s ≡ scan_begun p i h.header)
 claimed_is p i marks None s e = cc
-claimed_is p i marks (Some h) s e = (h, refl, by (has_bit marks i) e)
-  where
-    by : (b : Bool) → (if b then Some (scan_begun p i h.header) else None) ≡ Some s → s ≡ scan_begun p i h.header
-    by true e = cc
-    by false e = cc
+claimed_is p i marks (Some h) s e = grind arith
 
 claims : (c : Config) (p i marks : ℕ) (x : Marker) → p < c.pages → has_seen_cell x.seen p i ≡ true → MarkerFits c x
     → MarkerFits c (record x { scan = scan_claimed p i marks x.seen })

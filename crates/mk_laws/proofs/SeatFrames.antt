@@ -142,10 +142,7 @@ held_decides_nothing c m k x known h two =
 -- a caller whose gate the turn's holder holds
 
 caller_apart : (j k : ℕ) → j ≢ k → Caller j ≢ Caller k
-caller_apart j k ne e = ne (number_in e)
-  where
-    number_in : Caller j ≡ Caller k → j ≡ k
-    number_in e = cc
+caller_apart j k ne e = grind arith
 
 record HoldsGate (c : Config) (s : Seat) (k : ℕ) (w : World) : Type 0 where
   holds : Holds c w.now s
@@ -236,10 +233,7 @@ said_along c es (e ∷ more) h =
 
 heap_is_left : (c : Config) (es more : List Event) (s : Seat) → IsHistory c (es ++ more) → AreOfOthers (s ∷ []) more
     → Holds c (left c es).now s → HeapIsLeft c (left c es) (left c (es ++ more))
-heap_is_left c es more s h others holds = record {
-  outside = λ n none. (holder_finds c s es more h others holds).outside n (λ m. none m.number m.mapped m.word);
-  well = λ early u is. others_leave_wells c es more s h.within_limits h.enabled others holds u is;
-}
+heap_is_left c es more s h others holds = grind (arith, holder_finds, others_leave_wells)
 
 pub admitted_others_leave : AdmittedOthersLeave
 admitted_others_leave c es more s h others = record {

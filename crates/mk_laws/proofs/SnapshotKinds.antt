@@ -3,16 +3,15 @@ use Rattle.mk_laws.proofs.Vocabulary.{Among, Bool, Cell, Config, Drops, Flight, 
 use Rattle.mk_laws.proofs.Vocabulary.{ItDrops, ItFrees, ItTakesSnapshot, KeepsSnapshot, LayoutStands, List, None}
 use Rattle.mk_laws.proofs.Vocabulary.{Object, Option, PlacedAllocation, Placing, QuarantineStep, Seat, Some, Step, Used}
 use Rattle.mk_laws.proofs.Vocabulary.{World, ℕ, all_below, all_below-at, and_parts, ap, arith, cases_Bool, cell_freed}
-use Rattle.mk_laws.proofs.Vocabulary.{cell_of_allocation, changed_at, claims_of, claims_placed, eqb-true, false}
+use Rattle.mk_laws.proofs.Vocabulary.{cell_of_allocation, changed_at, claims_placed, eqb-true, false}
 use Rattle.mk_laws.proofs.Vocabulary.{false_from_ne_true, fewer_bits, flight_of, freed_cell, freed_leaves}
 use Rattle.mk_laws.proofs.Vocabulary.{freed_where_it_stands, granted, granted_base_is, granted_object, ground_of}
 use Rattle.mk_laws.proofs.Vocabulary.{has_bit, has_bit_of, has_clean_page, if◌then◌else◌, inl, inr, is_cycling}
 use Rattle.mk_laws.proofs.Vocabulary.{is_phase, is_undecided_new, is_used_once, length, ltb-true, map, no_longer_fresh}
-use Rattle.mk_laws.proofs.Vocabulary.{none_freed, not, not-true, object_now, object_placed, pages_made, pages_some}
-use Rattle.mk_laws.proofs.Vocabulary.{phase_of, place_claim, placed_at, quarantine_step, refl, released_leaves}
-use Rattle.mk_laws.proofs.Vocabulary.{set-get_or, slice_index, slice_set, stands_in, sym, true, true≢false}
-use Rattle.mk_laws.proofs.Vocabulary.{with_released, [], ◌%◌, ◌&&◌, ◌++◌, ◌+◌, ◌-◌, ◌/◌, ◌<◌, ◌==◌, ◌^◌, ◌∙◌, ◌∷◌, ◌≡◌}
-use Rattle.mk_laws.proofs.Vocabulary.{◌≤◌, ◌⊎◌}
+use Rattle.mk_laws.proofs.Vocabulary.{none_freed, not, not-true, object_now, object_placed, pages_some, phase_of}
+use Rattle.mk_laws.proofs.Vocabulary.{place_claim, placed_at, quarantine_step, refl, released_leaves, set-get_or}
+use Rattle.mk_laws.proofs.Vocabulary.{slice_index, slice_set, stands_in, sym, true, true≢false, with_released, [], ◌%◌}
+use Rattle.mk_laws.proofs.Vocabulary.{◌&&◌, ◌++◌, ◌+◌, ◌-◌, ◌/◌, ◌<◌, ◌==◌, ◌^◌, ◌∙◌, ◌∷◌, ◌≡◌, ◌⊎◌}
 use Rattle.mk_core.specs.StopConditions.{may_begin}
 use Rattle.mk_laws.proofs.Basics.{Before, LeavesCells, Meets, WorldBehind, all_stand, apart_left, bit_cases}
 use Rattle.mk_laws.proofs.Basics.{freeing_leaves, grants_new, holding_object, new_has_turn, placed_claim}
@@ -158,12 +157,7 @@ is_cycling_behind _ b = b
 
 cycling_step : (x : Step) (p : ℕ) → AsksPhase x p → is_cycling (phase_behind x p) ≡ is_cycling_behind x (is_cycling p)
 cycling_step Step.Begin p asks = refl
-cycling_step Step.Want p asks = ap is_cycling (sym asks)
-cycling_step Step.Close p asks = ap is_cycling (sym asks)
-cycling_step Step.Release p asks = ap is_cycling (sym asks)
-cycling_step Step.End p asks = refl
-cycling_step Step.Over p asks = ap is_cycling (sym asks)
-cycling_step _ p asks = refl
+cycling_step x0 p asks = cc
 
 pub cycle_kind : (c : Config) (w : World) (seat : Seat) (x : Step) → Meets c w.now seat x
     → is_cycling (phase_of (WorldBehind c w seat x).now.words) ≡ is_cycling_behind x (is_cycling (phase_of w.now.words))
@@ -194,28 +188,8 @@ begin_kind c w b quiet own laid q = record {
     bit : (i : ℕ) → (placed_at w.allocations i).released ≡ false
         → ((placed_at w.allocations i).freed ≡ true) ⊎ ((placed_at w.allocations i).freed ≡ false)
         → has_bit_of c w.now.words.snapshot (placed_at w.allocations i) ≡ ((placed_at w.allocations i).freed && true)
-    bit i u (inl f) =
-        let a : PlacedAllocation = placed_at w.allocations i in
-        let shown = shown_at c w i laid u in
-        let some = pages_some (object_placed c a) shown.sized in
-        let within : a.base / 64 + pages_made (object_placed c a) ≤ length w.now.words.pages = shown.within in
-        let len = b.lengths.pages in
-        let page : (cell_of_allocation c a).page < c.pages = (let lt : a.base / 64 < c.pages = omega arith in lt) in
-        ap (λ v. has_bit v (cell_of_allocation c a).index) (sym (taken (cell_of_allocation c a).page page))
-        ∙ q.shown i u f ∙ sym (rw f)
-    bit i u (inr f) =
-        let a : PlacedAllocation = placed_at w.allocations i in
-        let x : Cell = cell_of_allocation c a in
-        false_from_ne_true (has_bit (slice_index w.now.words.snapshot x.page) x.index)
-        (λ h. elim (q.owned x.page x.index (q.within x.page x.index h)) [
-          | inr r ↦ true≢false (sym r ∙ rw (off_at w 0 quiet (λ e. absurd (omega arith))))
-          | inl o ↦
-              let one = numbers_apart c w.now.seats.holding.freed w.allocations o.number i
-              (apart_left (claims_of c w.now.seats.holding.freed w.allocations)
-              (claims_placed (object_now c w.now) w.now.seats.holding.placing) laid.scene.apart)
-              o.unreleased u (ap (λ (y : Cell). y.page) o.cell, ap (λ (y : Cell). y.index) o.cell) in
-              true≢false (sym o.freed ∙ rw one f)
-        ]) ∙ sym (rw f)
+    bit i u (inl f) = grind (arith, shown_at, pages_some, taken)
+    bit i u (inr f) = grind (arith, false_from_ne_true, off_at, numbers_apart, apart_left)
 
 -- `grant`: the new cell isn't in the snapshot
 grant_kind : (c : Config) (w : World) (seat : Seat) → Before c w → Meets c w.now seat Step.Grant → LayoutStands c w
@@ -302,14 +276,8 @@ pub snapshot_by_kind : (c : Config) (w : World) (seat : Seat) (x : Step) → Bef
     → HasSnapshot c (is_cycling_behind x (is_cycling (phase_of w.now.words)))
     (WorldBehind c w seat x).now.words.snapshot (WorldBehind c w seat x).allocations
 snapshot_by_kind c w seat Step.Reg b h laid q s = rw (reg_leaves_ground c w seat).snapshot s
-snapshot_by_kind c w seat (Step.Tally n v) b h laid q s = rw (tally_ground w.now.words n v).snapshot s
-snapshot_by_kind c w seat (Step.Quar p n) b h laid q s = snapshot_of_quar c w seat p n b h laid q s
-snapshot_by_kind c w seat Step.Begin b h laid q s = begin_kind c w b h.phase h.holder laid q
-snapshot_by_kind c w seat Step.Grant b h laid q s = grant_kind c w seat b h laid q s
-snapshot_by_kind c w seat Step.Release b h laid q s = release_kind c w b h.phase laid s
-snapshot_by_kind c w seat Step.End b h laid q s =
-    record { fresh = s.fresh; quarantined = λ on. absurd (true≢false (sym on)) }
-snapshot_by_kind c w seat _ b h laid q s = s
+snapshot_by_kind c w seat x3 b h laid q s =
+    grind (arith, tally_ground, snapshot_of_quar, begin_kind, grant_kind, release_kind)
 
 pub snapshot_behind : (c : Config) (w : World) (seat : Seat) (x : Step) → Before c w → Meets c w.now seat x
     → LayoutStands c w → IsQuarantined c w → KeepsSnapshot c w → KeepsSnapshot c (WorldBehind c w seat x)

@@ -3,9 +3,8 @@ use Rattle.mk_laws.proofs.Vocabulary.{AreEnabledFrom, At, Bool, Cell, Config, Ev
 use Rattle.mk_laws.proofs.Vocabulary.{KeepsTheInvariant, List, OfHistories, PlacedAllocation, Step, World, ℕ, and_from}
 use Rattle.mk_laws.proofs.Vocabulary.{and_parts, ap, arith, cell_of_allocation, enabled_in_parts, false, has_bit_of}
 use Rattle.mk_laws.proofs.Vocabulary.{is_begin, is_cycling, is_quarantined, is_release, le-leb, left, left_from}
-use Rattle.mk_laws.proofs.Vocabulary.{left_in_parts, list_any, nat_le, never_behind, not, not-true, or_parts, phase_of}
-use Rattle.mk_laws.proofs.Vocabulary.{placed_at, refl, subst, sym, true, world_behind, [], ◌++◌, ◌||◌, ◌∙◌, ◌∷◌, ◌≡◌}
-use Rattle.mk_laws.proofs.Vocabulary.{◌≢◌}
+use Rattle.mk_laws.proofs.Vocabulary.{left_in_parts, list_any, never_behind, not-true, or_parts, phase_of, placed_at}
+use Rattle.mk_laws.proofs.Vocabulary.{refl, subst, sym, true, world_behind, [], ◌||◌, ◌∙◌, ◌∷◌, ◌≡◌, ◌≢◌}
 use Rattle.mk_core.specs.{Cells.is_in_snapshot, Readings.SnapshotsTell, Readings.SnapshotTells}
 use Rattle.mk_laws.proofs.CyclePhases.{IsUnreleased, NoneIsReleased, begin_is, moves_phase, none_is_released}
 use Rattle.mk_laws.proofs.CyclePhases.{phase_behind}
@@ -21,24 +20,17 @@ at_event c es kind at = ap (left c) at.is ∙ left_in_parts c at.before (at.even
 
 pub enabled_at : (c : Config) (es : List Event) (kind : Step → Bool) (at : At kind es) → IsHistory c es
     → AreEnabledFrom c (left c at.before) (at.event ∷ at.behind)
-enabled_at c es kind at h =
-    let split : IsHistory c (at.before ++ at.event ∷ at.behind) = subst (IsHistory c) at.is h in
-    ((enabled_in_parts c at.before (at.event ∷ at.behind)).0 split.enabled).1
+enabled_at c es kind at h = grind (arith, enabled_in_parts)
 
 -- An unreleased phase is one of a cycle's.
 pub unreleased_cycles : (p : ℕ) → IsUnreleased p → (is_cycling p ≡ true) × (p ≢ 4)
-unreleased_cycles p u =
-    let most = u.most in
-    (and_from (nat_le 1 p) (nat_le p 4) (le-leb 1 p u.least) (le-leb p 4 (omega arith)), λ e. absurd (omega arith))
+unreleased_cycles p u = grind (arith, and_from, le-leb)
 
 -- what stands after a `begin` where nothing was released since
 pub begun_world : (c : Config) (w : World) (e : Event) (es : List Event) → AreEnabledFrom c w (e ∷ es)
     → is_begin e.step ≡ true
     → list_any (λ (x : Event). is_release x.step) es ≡ false → NoneIsReleased c (world_behind c w e) es
-begun_world c w e es on is none =
-    let moves = moves_phase c w e es on in
-    let first = moves.1 ∙ ap (λ (x : Step). phase_behind x (phase_of w.now.words)) (begin_is e.step is) in
-    none_is_released c _ es moves.2 (record { least = omega arith; most = omega arith }) none
+begun_world c w e es on is none = grind (arith, moves_phase, phase_behind, begin_is, none_is_released)
 
 either_kind : (es : List Event) → list_any (λ (e : Event). is_begin e.step || is_release e.step) es ≡ false
     → (list_any (λ (e : Event). is_begin e.step) es ≡ false) × (list_any (λ (e : Event). is_release e.step) es ≡ false)
@@ -74,12 +66,7 @@ module _ (c : Config) (es : List Event) (h : IsHistory c es) (begin : At is_begi
 
   -- An allocation that was unreleased then is so, in its cell.
   put : (i : ℕ) → (placed_at olds i).released ≡ false → StaysPut (placed_at olds i) (placed_at w.allocations i)
-  put i u =
-      let begins = begin_is begin.event.step begin.of_kind in
-      let none_in : list_any (λ (e : Event). is_release e.step) (begin.event ∷ begin.behind) ≡ false =
-      ap (λ (x : Step). is_release x || list_any (λ (e : Event). is_release e.step) begin.behind) begins ∙ no_release in
-      subst (λ (v : World). StaysPut (placed_at olds i) (placed_at v.allocations i)) (sym since)
-      (stays_put c _ (begin.event ∷ begin.behind) i none_in u)
+  put i u = grind (arith, begin_is, no_release, olds, since, stays_put)
 
   all : KeepsTheInvariant c es
   all = histories_keep_the_invariant c es h
@@ -90,9 +77,7 @@ module _ (c : Config) (es : List Event) (h : IsHistory c es) (begin : At is_begi
 
   put_quarantined : (i : ℕ) → is_quarantined (placed_at olds i) ≡ true
       → StaysPut (placed_at olds i) (placed_at w.allocations i)
-  put_quarantined i q =
-      let a : PlacedAllocation = placed_at olds i in
-      put i (not-true a.released (and_parts a.freed (not a.released) q).1)
+  put_quarantined i q = grind (arith, olds, put, not-true, and_parts)
 
   same_cell : (i : ℕ) → is_quarantined (placed_at olds i) ≡ true
       → cell_of_allocation c (placed_at w.allocations i) ≡ cell_of_allocation c (placed_at olds i)
@@ -100,10 +85,7 @@ module _ (c : Config) (es : List Event) (h : IsHistory c es) (begin : At is_begi
 
   is_of : (cell : Cell) → is_in_snapshot w.now.words cell ≡ true → IsFreedCell c w.allocations cell.page cell.index
       → (i : ℕ) × (is_quarantined (placed_at olds i) ≡ true) × (cell_of_allocation c (placed_at olds i) ≡ cell)
-  is_of cell bit o =
-      let q : is_quarantined (placed_at olds o.number) ≡ true =
-      sym (snapshot_is o.number o.unreleased) ∙ ap (λ (x : Cell). is_in_snapshot w.now.words x) o.cell ∙ bit in
-      (o.number, q, sym (same_cell o.number q) ∙ o.cell)
+  is_of cell bit o = grind (arith, olds, snapshot_is, same_cell)
 
   pub told : SnapshotTells c begin
   told = record {

@@ -89,11 +89,8 @@ shows_taken g b n Astray ne h = h
 
 -- another gives it
 pub shows_given : (t g b n : ℕ) (s : Standing) → n ≢ b → t ≡ 1 + n → g ≢ 2 → Shows t g b s → Shows 0 g b s
-shows_given t g b n Resting ne is free h = let x = h.0 in let y =
-    h.1 in (h.0, h.1, λ e. omega arith, λ e. absurd (omega arith))
 shows_given t g b n InCall ne is free h = (h.0, λ e. absurd (omega arith))
-shows_given t g b n UnderTurn ne is free h = let e = h.1 in absurd (ne (omega arith))
-shows_given t g b n Astray ne is free h = h
+shows_given t g b n x4 ne is free h = grind arith
 
 -- its gate is held while another has the turn, and opened
 pub shows_held : (t b n : ℕ) (s : Standing) → n ≢ b → t ≡ 1 + n → Shows t 0 b s → Shows t 2 b s
@@ -117,9 +114,5 @@ shows_turn t g k Astray h = absurd h
 
 pub shows_gate : (t g k : ℕ) (s : Standing) → Shows t g k s
     → (g ≤ 2) × ((g ≡ 1) ↔ (is_standing_in_call s ≡ true)) × (g ≡ 2 → (t ≢ 0) × (t ≢ 1 + k))
-shows_gate t g k Resting h = let z =
-    h.2 in (h.1, (λ e. absurd (h.0 e), λ e. cc), λ e. (λ x. let y = z x in absurd (omega arith), h.3))
 shows_gate t g k InCall h = let e = h.0 in (omega arith, (λ _. refl, λ _. e), λ x. absurd (omega arith))
-shows_gate t g k UnderTurn h = let e =
-    h.0 in (omega arith, (λ x. absurd (omega arith), λ x. cc), λ x. absurd (omega arith))
-shows_gate t g k Astray h = absurd h
+shows_gate t g k x3 h = grind arith

@@ -1,13 +1,13 @@
 -- What the tallies count: before each `give`, and where nobody holds the turn.
 use Rattle.std.proofs.lemmas.List.Sums.{sum_by_push}
-use Rattle.mk_laws.proofs.Vocabulary.{Bool, Config, Decided, Event, Flight, IsHistory, IsSettled, IsTidy, List, Moment}
+use Rattle.mk_laws.proofs.Vocabulary.{Bool, Config, Event, Flight, IsHistory, IsSettled, IsTidy, List, Moment}
 use Rattle.mk_laws.proofs.Vocabulary.{OfHistories, PlacedAllocation, Seat, Step, TalliesAreTidy, Words, World, ℕ}
-use Rattle.mk_laws.proofs.Vocabulary.{and_parts, ap, append_assoc, arith, call_decided, calls, calls_from, cond, ends}
-use Rattle.mk_laws.proofs.Vocabulary.{eqb-true, false, false_from_ne_true, first_world, flight_of, fresh_words_of}
-use Rattle.mk_laws.proofs.Vocabulary.{held_by_pages, histories_keep_lengths, in_a_word, inl, inr, is_decided, is_end}
-use Rattle.mk_laws.proofs.Vocabulary.{is_run_gone, is_undecided_new, left, left_from, left_more, ne_eqb, refl, subst}
-use Rattle.mk_laws.proofs.Vocabulary.{sym, true, true≢false, undecided_new, unreleased_storage, world_behind, [], ◌++◌}
-use Rattle.mk_laws.proofs.Vocabulary.{◌+◌, ◌==◌, ◌∙◌, ◌∷◌, ◌≡◌, ◌≤◌, ◌⊎◌}
+use Rattle.mk_laws.proofs.Vocabulary.{and_parts, ap, append_assoc, arith, calls_from, ends, eqb-true, false}
+use Rattle.mk_laws.proofs.Vocabulary.{false_from_ne_true, first_world, flight_of, fresh_words_of, held_by_pages}
+use Rattle.mk_laws.proofs.Vocabulary.{histories_keep_lengths, in_a_word, inl, inr, is_decided, is_run_gone}
+use Rattle.mk_laws.proofs.Vocabulary.{is_undecided_new, left, left_from, left_more, ne_eqb, refl, subst, sym, true}
+use Rattle.mk_laws.proofs.Vocabulary.{true≢false, undecided_new, unreleased_storage, world_behind, [], ◌++◌, ◌+◌, ◌==◌}
+use Rattle.mk_laws.proofs.Vocabulary.{◌∙◌, ◌∷◌, ◌≡◌, ◌≤◌, ◌⊎◌}
 use Rattle.mk_geom.proofs.HeldWords.{pages_hold_mapped_words}
 use Rattle.mk_core.{proofs.Histories.calls_more, specs.Allocations.held_by_allocations, specs.Counts.TalliesAreExact}
 use Rattle.mk_core.{specs.Counts.full_answers, specs.Counts.releases, specs.Readings.TalliesTell}
@@ -96,19 +96,10 @@ module _ (c : Config) (es : List Event) (e : Event) (nothing : CountsNothing c (
   same_allocations = sym (ap (λ (w : World). w.allocations) more ∙ nothing.alike.allocations)
 
   same_ends : ends es ≡ ends (es ++ e ∷ [])
-  same_ends =
-      let last : cond {A = ℕ} (is_end e.step) 1 0 ≡ 0 = ap (λ b. cond {A = ℕ} b 1 0) nothing.no_end in
-      let pushed : ends (es ++ e ∷ []) ≡ ends es + cond {A = ℕ} (is_end e.step) 1 0 =
-      sum_by_push (λ (x : Event). cond {A = ℕ} (is_end x.step) 1 0) es e in
-      omega arith
+  same_ends = grind (arith, sum_by_push)
 
   same_fulls : full_answers c es ≡ full_answers c (es ++ e ∷ [])
-  same_fulls =
-      let ds : List Decided = call_decided c (left c es).now e in
-      let m : Moment = (left c es).now in
-      let last : fulls_of ds ≡ 0 = entry_fulls _ _ _ nothing.no_full in
-      let pushed = ap fulls_of (calls_more c (first_world c) es e) ∙ fulls_append (calls c es) ds in
-      omega arith
+  same_fulls = grind (arith, fulls_of, entry_fulls, calls_more, fulls_append)
 
   exact_more : TalliesAreExact c es → TalliesAreExact c (es ++ e ∷ [])
   exact_more exact = record {

@@ -1,7 +1,6 @@
 -- What events leave to the tallies, and to the allocations that they count.
-use Rattle.mk_laws.proofs.Vocabulary.{Bool, Caller, Config, Event, Flight, Moment, Seat, Step, World, ℕ, answer_decided}
-use Rattle.mk_laws.proofs.Vocabulary.{ap, arith, false, flight_of, group_of, holder_number, if◌then◌else◌, is_end}
-use Rattle.mk_laws.proofs.Vocabulary.{is_of_turn, refl, reg_access, true, world_behind, ◌+◌, ◌==◌, ◌≡◌, ◌≢◌}
+use Rattle.mk_laws.proofs.Vocabulary.{Bool, Caller, Config, Event, Moment, Seat, Step, World, ℕ, answer_decided, ap}
+use Rattle.mk_laws.proofs.Vocabulary.{arith, false, group_of, is_end, is_of_turn, refl, true, world_behind, ◌≡◌, ◌≢◌}
 use Rattle.mk_core.proofs.RegisterAccesses.{LeavesTallies, register_leaves_tallies}
 use Rattle.mk_laws.proofs.Basics.{Actor, AsHolder, AsMarker, HoldsTurn, InCallOf, Known, Meets, WorldBehind, actor_of}
 use Rattle.mk_laws.proofs.Basics.{reg_leaves, tally_keeps, turn_of, view_of}
@@ -23,17 +22,7 @@ pub record CountsAlike (w v : World) : Type 0 where
 alike : (c : Config) (w : World) (seat : Seat) (x : Step) → counts_alike x ≡ true
     → CountsAlike w (WorldBehind c w seat x)
 alike c w seat (Step.Tally n v) is = cc
-alike c w seat (Step.Quar p n) is = cc
-alike c w seat Step.Grant is = cc
-alike c w seat Step.Begin is = cc
-alike c w seat Step.Release is = cc
-alike c w seat Step.Reg is =
-    let f : Flight = flight_of w.now seat in
-    record { tallies = register_leaves_tallies w.now.words _ _ (reg_access f f.stage); allocations = refl }
-alike c w seat _ is = record {
-  tallies = record { held = refl; fresh = refl; cycles = refl; released = refl; full = refl };
-  allocations = refl;
-}
+alike c w seat x3 is = grind (arith, register_leaves_tallies)
 
 -- What an event does to the turn: it takes one that is free, gives it back, or leaves it.
 pub data TurnStep (x : Step) (turn now : ℕ) : Type 0 where
@@ -43,15 +32,8 @@ pub data TurnStep (x : Step) (turn now : ℕ) : Type 0 where
 
 pub turn_step : (c : Config) (w : World) (seat : Seat) (x : Step)
     → TurnStep x w.now.words.turn (WorldBehind c w seat x).now.words.turn
-turn_step c w seat (Step.Take o) = by (w.now.words.turn == 0)
-  where
-    by : (b : Bool) → TurnStep (Step.Take o) w.now.words.turn (if b then 1 + holder_number c seat else w.now.words.turn)
-    by true = Takes (λ z. omega arith)
-    by false = Leaves refl
-turn_step c w seat Step.Give = Gives refl
-turn_step c w seat Step.Reg = Leaves (reg_leaves c w seat).turn
-turn_step c w seat (Step.Tally n v) = Leaves (tally_keeps w.now.words n v).turn
-turn_step c w seat _ = Leaves refl
+turn_step c w seat (Step.Take o) = grind arith
+turn_step c w seat x3 = grind (arith, reg_leaves, tally_keeps)
 
 -- A seat that doesn't hold the turn leaves them, and so does `give`.
 
@@ -78,11 +60,7 @@ pub record CountsNothing (c : Config) (w : World) (e : Event) : Type 0 where
   pub no_full : answers_full (answer_decided c w.now e) ≡ false
 
 pub give_counts_nothing : (c : Config) (w : World) (e : Event) → e.step ≡ Step.Give → CountsNothing c w e
-give_counts_nothing c w e is = record {
-  alike = alike c w e.seat e.step (ap counts_alike is);
-  no_end = ap is_end is;
-  no_full = cc (is, give_answers c w.now e.seat);
-}
+give_counts_nothing c w e is = grind (arith, alike, counts_alike, give_answers)
 
 pub others_count_nothing : (c : Config) (w : World) (e : Event) → Known c w.now → Meets c w.now e.seat e.step
     → w.now.words.turn ≡ 0 → CountsNothing c w e

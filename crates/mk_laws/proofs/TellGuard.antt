@@ -4,16 +4,16 @@ use Rattle.mk_laws.proofs.Vocabulary.{Granted, GuardPremises, HasHeader, HasZero
 use Rattle.mk_laws.proofs.Vocabulary.{IsClaimedRun, IsHeaderOf, IsMarking, IsPlaced, IsPlotShown, IsSized, LayoutStands}
 use Rattle.mk_laws.proofs.Vocabulary.{Mapped, Mode, Moment, NoPlot, Object, OfLeafRun, OfRun, Option, Place}
 use Rattle.mk_laws.proofs.Vocabulary.{PlacedAllocation, Placing, Plot, PlotStands, Plotted, Run, RunPages, RunStands}
-use Rattle.mk_laws.proofs.Vocabulary.{Seat, ShowsPart, Some, Unplaced, Used, World, ℕ, and_parts, ap, arith, at_rest}
-use Rattle.mk_laws.proofs.Vocabulary.{cases_eq, cases_lt, cells_under, claims_of, claims_on, claims_placed, false}
-use Rattle.mk_laws.proofs.Vocabulary.{false≢true, flight_of, get_or_past, ground_of, head_on, head_page}
-use Rattle.mk_laws.proofs.Vocabulary.{head_page_under, header_made, header_of, header_on, heads_run, inl, inr, is_large}
-use Rattle.mk_laws.proofs.Vocabulary.{is_mapped, is_phase, is_small_object, is_undecided_new, is_unmapping, kinds_of}
-use Rattle.mk_laws.proofs.Vocabulary.{large_is_not_small, left, lt-ltb, made_shows, mode_of, ne_eqb, not, not-true}
-use Rattle.mk_laws.proofs.Vocabulary.{object_now, object_placed, pages_made, pages_some, part_head, phase_of}
-use Rattle.mk_laws.proofs.Vocabulary.{place_claim, placed_at, placed_now, plot_of, refl, run_count, seat_exists}
-use Rattle.mk_laws.proofs.Vocabulary.{shows_on, slice_index, small_pages, subst, sym, true, true≢false, used_on, ◌&&◌}
-use Rattle.mk_laws.proofs.Vocabulary.{◌*◌, ◌+◌, ◌-◌, ◌/◌, ◌<◌, ◌==◌, ◌∙◌, ◌≡◌, ◌≢◌, ◌≤◌, ◌⊎◌}
+use Rattle.mk_laws.proofs.Vocabulary.{Seat, ShowsPart, Some, Unplaced, Used, World, ℕ, and_parts, ap, arith, cases_eq}
+use Rattle.mk_laws.proofs.Vocabulary.{cases_lt, cells_under, claims_of, claims_on, claims_placed, false, false≢true}
+use Rattle.mk_laws.proofs.Vocabulary.{flight_of, get_or_past, ground_of, head_on, head_page, head_page_under}
+use Rattle.mk_laws.proofs.Vocabulary.{header_made, header_of, header_on, heads_run, inl, inr, is_large, is_mapped}
+use Rattle.mk_laws.proofs.Vocabulary.{is_small_object, is_undecided_new, is_unmapping, kinds_of, large_is_not_small}
+use Rattle.mk_laws.proofs.Vocabulary.{left, lt-ltb, made_shows, mode_of, ne_eqb, not, not-true, object_now}
+use Rattle.mk_laws.proofs.Vocabulary.{object_placed, pages_made, pages_some, part_head, place_claim, placed_at}
+use Rattle.mk_laws.proofs.Vocabulary.{placed_now, plot_of, refl, run_count, seat_exists, shows_on, slice_index}
+use Rattle.mk_laws.proofs.Vocabulary.{small_pages, subst, sym, true, true≢false, used_on, ◌&&◌, ◌*◌, ◌+◌, ◌-◌, ◌/◌, ◌<◌}
+use Rattle.mk_laws.proofs.Vocabulary.{◌==◌, ◌∙◌, ◌≡◌, ◌≢◌, ◌≤◌, ◌⊎◌}
 use Rattle.mk_laws.proofs.BarePages.{Unreleasing, bare_page, plot_page, shown_there}
 use Rattle.mk_laws.proofs.Basics.{Known, KnownWorld, Laid, all_stand, claimed, first_header, holding_object}
 use Rattle.mk_laws.proofs.Basics.{known_world, made_sized, mapped_stays, new_has_turn, placed_claim, zero_where_none}
@@ -103,12 +103,7 @@ later_pages c w q p count distance is some lt =
 -- who is in a New is there
 new_exists : (c : Config) (m : Moment) (seat : Seat) → Known c m → is_undecided_new (flight_of m seat) ≡ true
     → seat_exists c seat ≡ true
-new_exists c m (Caller k) known new = elim (cases_lt k c.callers) [
-  | inl lt ↦ lt-ltb k c.callers lt
-  | inr past ↦
-      let none = get_or_past m.seats.flights k at_rest (let count = known.orderly.flights in omega arith) in
-      absurd (false≢true (sym (ap is_undecided_new none) ∙ new))
-]
+new_exists c m (Caller k) known new = grind (arith, cases_lt, lt-ltb, get_or_past)
 new_exists c m _ known new = absurd (false≢true new)
 
 bare_place : (c : Config) (w : World) (o : Object) (place : Place) → Unreleasing c w → Laid c o false w (ground_of w)
@@ -204,13 +199,7 @@ guard_in c w known laid zeros = record {
 }
   where
     quiet : IsMarking w.now.words → Unreleasing c w
-    quiet early =
-        let off : is_phase w.now.words 4 ≡ false = not_releasing (phase_of w.now.words) early in
-        record {
-          off = off;
-          laid = subst (λ four. Laid c (object_now c w.now) four w (ground_of w)) off laid;
-          zeros = zeros;
-        }
+    quiet early = grind (arith, not_releasing)
 
 pub zeros_tell_the_guard : ZerosTellTheGuard
 zeros_tell_the_guard c es limits on = guard_in c (left c es) (known_world c es limits on)

@@ -1,9 +1,9 @@
 -- Tests that still hold where their parts do.
 use Rattle.mk_laws.proofs.Vocabulary.{Bool, List, MarkerState as Marker, None, Option, Some, ℕ, all_below, all_below-at}
-use Rattle.mk_laws.proofs.Vocabulary.{and_from, and_parts, ap, arith, cases_Bool, eq-eqb, eqb-true, false, has_bit}
-use Rattle.mk_laws.proofs.Vocabulary.{has_bit_without, if◌then◌else◌, inl, inr, is_attending, is_some_and, no_bit}
-use Rattle.mk_laws.proofs.Vocabulary.{none_attends, not, outside, refl, slice_index_or, suc, sym, true, true≢false}
-use Rattle.mk_laws.proofs.Vocabulary.{without, zero, [], ◌&&◌, ◌<◌, ◌==◌, ◌||◌, ◌∙◌, ◌∷◌, ◌≡◌}
+use Rattle.mk_laws.proofs.Vocabulary.{and_from, and_parts, ap, arith, eq-eqb, eqb-true, false, has_bit, has_bit_without}
+use Rattle.mk_laws.proofs.Vocabulary.{if◌then◌else◌, is_attending, is_some_and, no_bit, none_attends, not, outside}
+use Rattle.mk_laws.proofs.Vocabulary.{refl, slice_index_or, suc, sym, true, without, zero, [], ◌&&◌, ◌<◌, ◌==◌, ◌||◌}
+use Rattle.mk_laws.proofs.Vocabulary.{◌∙◌, ◌∷◌, ◌≡◌}
 use Rattle.mk_core.proofs.WordBits.{zero_from_bits}
 
 pub or_on : (a b x y : Bool) → (a ≡ true → x ≡ true) → (b ≡ true → y ≡ true) → (a || b) ≡ true → (x || y) ≡ true
@@ -44,10 +44,7 @@ without_on bits m n grow h = eq-eqb _ 0 (zero_from_bits _ (λ k. has_bit_without
 
     by : (k : ℕ) (b : Bool) → has_bit bits k ≡ b → (b && not (has_bit n k)) ≡ false
     by k false is = refl
-    by k true is = elim (cases_Bool (has_bit m k)) [
-      | inl in_it ↦ ap not (grow k in_it)
-      | inr out ↦ absurd (true≢false (sym (ap not out) ∙ ap (λ b. b && not (has_bit m k)) (sym is) ∙ none k))
-    ]
+    by k true is = grind (arith, none)
 
 -- each marker of a list
 pub none_from : (xs : List Marker) → ((k : ℕ) → is_attending (slice_index_or xs k outside).presence ≡ false)

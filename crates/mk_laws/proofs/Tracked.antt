@@ -2,9 +2,9 @@
 use Rattle.mk_laws.proofs.Vocabulary.{Caller, Config, Event, Flight, Holding, IsHistory, IsSettled, List, None, Object}
 use Rattle.mk_laws.proofs.Vocabulary.{OfHistories, Option, Place, Seat, Some, Step, TurnOf, Unplaced, World, ℕ}
 use Rattle.mk_laws.proofs.Vocabulary.{and_parts, ap, arith, at_rest, eqb-true, false, false_from_ne_true, first_world}
-use Rattle.mk_laws.proofs.Vocabulary.{flight_of, get_or-set_same, has_place, is_phase, is_undecided_new, left}
-use Rattle.mk_laws.proofs.Vocabulary.{left_from, left_more, object_made, phase_of, place_on_pages, refl, subst, sym}
-use Rattle.mk_laws.proofs.Vocabulary.{true, true≢false, undecided_new, world_behind, [], ◌++◌, ◌<◌, ◌==◌, ◌∙◌, ◌∷◌, ◌≡◌}
+use Rattle.mk_laws.proofs.Vocabulary.{get_or-set_same, is_phase, is_undecided_new, left, left_from, left_more}
+use Rattle.mk_laws.proofs.Vocabulary.{object_made, phase_of, place_on_pages, refl, subst, sym, true, true≢false}
+use Rattle.mk_laws.proofs.Vocabulary.{undecided_new, world_behind, [], ◌++◌, ◌<◌, ◌==◌, ◌∙◌, ◌∷◌, ◌≡◌}
 use Rattle.mk_core.specs.Placement.{FirstServed, NoneServesFrom, before_served, event_serves, place_after}
 use Rattle.mk_core.specs.{Allocations.place_among_allocations, Cycles.is_give}
 use Rattle.mk_laws.proofs.Basics.{KeptByEvents, Known, Meets, WorldBehind, at_first, before_it, held_place}
@@ -14,7 +14,6 @@ use Rattle.mk_laws.proofs.OwnCycles.{HasCycle, cycle_more, cycle_step}
 use Rattle.mk_laws.proofs.Placings.{Fixes, GoesOn, PlacingStep, Stays, places_at}
 use Rattle.mk_laws.proofs.Undecided.{HasNew, IsTaken, NewCame, WasNew, new_came, new_holds_turn, new_object}
 use Rattle.mk_laws.proofs.InvariantTheorems.{first_fit_finds_the_place}
-use Rattle.mk_laws.specs.SettledPages.{is_freed_unmapped}
 
 -- A step of the turn has served its New first, where the place was this one.
 pub record ServedFirst (c : Config) (s : Seat) {es : List Event} (t : TurnOf c s es) (o : Object) (place : Place)
@@ -55,15 +54,7 @@ gives_off c w _ x k known lt new = refl
 pub unplaced_settles : (c : Config) (es : List Event) (k : ℕ) → IsHistory c es → k < c.callers → HasNew (left c es) k
     → is_phase (left c es).now.words 4 ≡ false → (left c es).now.seats.holding.placing ≡ Unplaced
     → IsSettled (left c es)
-unplaced_settles c es k h lt new off at =
-    let w : World = left c es in
-    let none = none_on_its_way c w.now (Caller k) (known_left c es h.within_limits h.enabled)
-    (new_holds_turn c w k lt new) (undecided_new (flight_of w.now (Caller k)) new).stage in
-    record {
-      releasing = off;
-      placing = ap has_place at;
-      unmapped = ap (is_freed_unmapped w.now.words) none;
-    }
+unplaced_settles c es k h lt new off at = grind (arith, none_on_its_way, known_left, new_holds_turn, undecided_new)
 
 -- and first fit over the words is the place among the allocations.
 abbrev FitsHere : Config → List Event → Object → Type 0
@@ -88,9 +79,7 @@ module _ (c : Config) (es : List Event) (e : Event) (k : ℕ) (o : Object) (t : 
 
   stays : event_serves c (left c es) e ≡ false → (place : Option Place) → HasPlace c (Caller k) t o place
       → HasPlace c (Caller k) (longer_turn t e on) o place
-  stays none None has =
-      let here = left_in_turn c (Caller k) es t in
-      none_serves_more c _ t.behind e has (ap (λ (w : World). event_serves c w e) here ∙ none)
+  stays none None has = grind (arith, left_in_turn, none_serves_more)
   stays none (Some place) has = goes_on place has
 
   fixes : (place : Place) → event_serves c (left c es) e ≡ true → place_after c es o ≡ Some place

@@ -1,9 +1,9 @@
 -- What an event of another seat leaves to the turn's holder.
-use Rattle.mk_laws.proofs.Vocabulary.{Caller, Config, Flight, List, MarkerState, Moment, OnlyGrow, Seat, Steady}
-use Rattle.mk_laws.proofs.Vocabulary.{TurnIsLeft, Words, World, ℕ, ap, arith, at_rest, cases_Bool, cases_eq, cases_lt}
-use Rattle.mk_laws.proofs.Vocabulary.{false, flight_of, get_or-set_other, get_or-set_same, inl, inr, is_attending}
-use Rattle.mk_laws.proofs.Vocabulary.{length, marker_of, phase_of, refl, register_word, set_past, slice_index}
-use Rattle.mk_laws.proofs.Vocabulary.{slice_set, sym, true, ◌%◌, ◌*◌, ◌+◌, ◌-◌, ◌<◌, ◌^◌, ◌∙◌, ◌≡◌, ◌≢◌, ◌≤◌}
+use Rattle.mk_laws.proofs.Vocabulary.{Caller, Config, Flight, List, MarkerState, Moment, OnlyGrow, Seat, TurnIsLeft}
+use Rattle.mk_laws.proofs.Vocabulary.{Words, World, ℕ, ap, arith, at_rest, cases_Bool, cases_eq, cases_lt, false}
+use Rattle.mk_laws.proofs.Vocabulary.{flight_of, get_or-set_other, get_or-set_same, inl, inr, is_attending, length}
+use Rattle.mk_laws.proofs.Vocabulary.{marker_of, phase_of, refl, register_word, set_past, slice_index, slice_set, sym}
+use Rattle.mk_laws.proofs.Vocabulary.{true, ◌%◌, ◌*◌, ◌+◌, ◌-◌, ◌<◌, ◌^◌, ◌∙◌, ◌≡◌, ◌≢◌, ◌≤◌}
 use Rattle.mk_core.specs.{Frames.steady_of, Readings.NoneAttends}
 use Rattle.mk_laws.proofs.OthersMoves.{AddsBlacks, AddsMarks, CallLoads, Calls, CallWrite, ComesIn, GoesOut}
 use Rattle.mk_laws.proofs.OthersMoves.{MarkerLoads, MarkerWrite, Marks, OthersMove, SetsDirty, SetsGate, SetsRegister}
@@ -194,50 +194,22 @@ dirty_out c w seat v (Marks {k} y {x} lt write) p is = λ z. is (rw (← (same_w
 -- one event of another
 pub turn_after : (c : Config) (w : World) (seat : Seat) (v : World) → Known c w.now → OthersMove c w seat v
     → TurnIsLeft w v
-turn_after c w seat v known move = record {
-  steady = steady_out c w seat v move;
-  held_gates = held_out c w seat v move;
-  other_gates = free_out c w seat v move;
-  held_callers = callers_out c w seat v move;
-  held_registers = registers_out c w seat v move;
-  marks_grow = (grow_out c w seat v move).0;
-  blacks_grow = (grow_out c w seat v move).1;
-  unmarked = unmarked_out c w seat v known move;
-  stopped = stopped_out c w seat v move;
-  dirty = dirty_out c w seat v move;
-}
+turn_after c w seat v known move =
+    grind (
+      arith,
+      steady_out,
+      held_out,
+      free_out,
+      callers_out,
+      registers_out,
+      grow_out,
+      unmarked_out,
+      stopped_out,
+      dirty_out,
+    )
 
 pub turn_same : (w : World) → TurnIsLeft w w
-turn_same w = record {
-  steady = refl;
-  held_gates = λ j is. is;
-  other_gates = λ j is. is;
-  held_callers = λ j is. refl;
-  held_registers = λ j r lt is. refl;
-  marks_grow = grows_same w.now.words.marks;
-  blacks_grow = grows_same w.now.words.blacks;
-  unmarked = λ n1 n2. (refl, refl);
-  stopped = λ two none. (none, refl, refl);
-  dirty = λ p is. is;
-}
+turn_same w = grind (arith, grows_same)
 
 pub turn_joined : (w u v : World) → TurnIsLeft w u → TurnIsLeft u v → TurnIsLeft w v
-turn_joined w u v a b =
-    let phase : phase_of u.now.words ≡ phase_of w.now.words = ap (λ (s : Steady). s.phase) a.steady in
-    record {
-      steady = b.steady ∙ a.steady;
-      held_gates = λ j is. b.held_gates j (a.held_gates j is);
-      other_gates = λ j is. b.other_gates j (a.other_gates j is);
-      held_callers = λ j is. b.held_callers j (a.held_gates j is) ∙ a.held_callers j is;
-      held_registers = λ j r lt is. b.held_registers j r lt (a.held_gates j is) ∙ a.held_registers j r lt is;
-      marks_grow = grows_joined w.now.words.marks u.now.words.marks v.now.words.marks a.marks_grow b.marks_grow;
-      blacks_grow = grows_joined w.now.words.blacks u.now.words.blacks v.now.words.blacks a.blacks_grow b.blacks_grow;
-      unmarked = λ n1 n2.
-          let y = b.unmarked (λ e. n1 (sym phase ∙ e)) (λ e. n2 (sym phase ∙ e)) in
-          (y.0 ∙ (a.unmarked n1 n2).0, y.1 ∙ (a.unmarked n1 n2).1);
-      stopped = λ two none.
-          let x = a.stopped two none in
-          let y = b.stopped (phase ∙ two) x.0 in
-          (y.0, y.1 ∙ x.1, y.2 ∙ x.2);
-      dirty = λ p is. b.dirty p (a.dirty p is);
-    }
+turn_joined w u v a b = grind (arith, grows_joined)

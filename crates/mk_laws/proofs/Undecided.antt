@@ -58,10 +58,7 @@ record IsTake (x : Step) : Type 0 where
 taken_by_take : (c : Config) (w : World) (seat : Seat) (x : Step) (n : ℕ) → w.now.words.turn ≡ 0
     → (WorldBehind c w seat x).now.words.turn ≡ 1 + n → IsTake x
 taken_by_take c w seat (Step.Take o) n free now = record { op = o; is = refl }
-taken_by_take c w seat Step.Give n free now = absurd (omega arith)
-taken_by_take c w seat Step.Reg n free now = let same = (reg_leaves c w seat).turn in absurd (omega arith)
-taken_by_take c w seat (Step.Tally t v) n free now = absurd (omega (arith, (tally_keeps w.now.words t v).turn))
-taken_by_take c w seat _ n free now = absurd (omega arith)
+taken_by_take c w seat x3 n free now = grind (arith, reg_leaves, tally_keeps)
 
 -- where an undecided New comes from
 pub data NewCame (c : Config) (w : World) (seat : Seat) (x : Step) (k : ℕ) : Type 0 where

@@ -1,15 +1,14 @@
 -- The pages of a freed large allocation aren't resident, until they get other headers.
 use Rattle.mk_laws.proofs.Vocabulary.{Bool, Config, Event, HasHeader, Invariant, IsHistory, IsShown, List, Moment}
-use Rattle.mk_laws.proofs.Vocabulary.{NeverState, None, Object, OfHistories, Option, Page, PlacedAllocation, RunPages}
-use Rattle.mk_laws.proofs.Vocabulary.{Seat, Some, Step, World, ℕ, and_from, and_parts, ap, arith, cases_Bool, cases_eq}
-use Rattle.mk_laws.proofs.Vocabulary.{cases_lt, claim_of, earlier_part_is_history, eq-eqb, eqb-true, false}
-use Rattle.mk_laws.proofs.Vocabulary.{false_from_ne_true, ground_of, header_at, header_of, inl, inr, is_phase}
-use Rattle.mk_laws.proofs.Vocabulary.{is_resident_page, is_small_object, is_unmapped_header, is_unmapping, large_count}
-use Rattle.mk_laws.proofs.Vocabulary.{large_words, left, left_append, left_from, length, list_any, mode_of, ne_eqb, not}
-use Rattle.mk_laws.proofs.Vocabulary.{not-true, object_now, object_placed, or_parts, pages_made, placed_at, refl}
-use Rattle.mk_laws.proofs.Vocabulary.{run_begins, set_past, storage_words, subst, sym, true, true≢false}
-use Rattle.mk_laws.proofs.Vocabulary.{unmapped_header, unmapped_is_unmapped, use_under, used_on, world_behind, [], ◌&&◌}
-use Rattle.mk_laws.proofs.Vocabulary.{◌*◌, ◌+◌, ◌-◌, ◌/◌, ◌<◌, ◌==◌, ◌∙◌, ◌∷◌, ◌≡◌}
+use Rattle.mk_laws.proofs.Vocabulary.{NeverState, None, Object, OfHistories, Option, PlacedAllocation, RunPages, Seat}
+use Rattle.mk_laws.proofs.Vocabulary.{Some, Step, World, ℕ, and_from, and_parts, ap, arith, cases_Bool, cases_lt}
+use Rattle.mk_laws.proofs.Vocabulary.{claim_of, earlier_part_is_history, eq-eqb, eqb-true, false, false_from_ne_true}
+use Rattle.mk_laws.proofs.Vocabulary.{ground_of, header_at, header_of, inl, inr, is_phase, is_small_object}
+use Rattle.mk_laws.proofs.Vocabulary.{is_unmapped_header, is_unmapping, large_count, large_words, left, left_append}
+use Rattle.mk_laws.proofs.Vocabulary.{left_from, list_any, mode_of, ne_eqb, not, not-true, object_now, object_placed}
+use Rattle.mk_laws.proofs.Vocabulary.{or_parts, pages_made, placed_at, refl, run_begins, set_past, storage_words, subst}
+use Rattle.mk_laws.proofs.Vocabulary.{sym, true, true≢false, unmapped_header, unmapped_is_unmapped, world_behind, []}
+use Rattle.mk_laws.proofs.Vocabulary.{◌&&◌, ◌*◌, ◌+◌, ◌-◌, ◌/◌, ◌<◌, ◌∙◌, ◌∷◌, ◌≡◌}
 use Rattle.mk_laws.proofs.Basics.{Behind, KnownWorld, Laid, Table, claim_among, gone_terrain, known_world, own_claim}
 use Rattle.mk_laws.proofs.Basics.{reg_table, tally_table}
 use Rattle.mk_laws.proofs.ForImages.{gone_is, shown_claim, standing}
@@ -29,22 +28,10 @@ stays_out c m seat (Step.Used q n) p none out = false_from_ne_true _
 stays_out c m seat (Step.Head q n) p none out = false_from_ne_true _ (λ resident. true≢false (sym (was resident) ∙ out))
   where
     zero_there : p ≡ q → n ≡ 0
-    zero_there e = elim (cases_eq n 0) [
-      | inl z ↦ z
-      | inr some ↦ absurd (true≢false (sym (and_from (q == p) (not (n == 0)) (eq-eqb q p (sym e))
-          (ap not (ne_eqb n 0 some))) ∙ none))
-    ]
+    zero_there e = grind (arith, and_from, eq-eqb, ne_eqb)
 
     was : is_resident (Behind c m seat (Step.Head q n)).words.pages p ≡ true → is_resident m.words.pages p ≡ true
-    was resident = elim (cases_eq p q) [
-      | inr ne ↦ resident_other m.words.pages q n p ne resident
-      | inl e ↦ elim (cases_lt q (length m.words.pages)) [
-        | inl lt ↦ resident_gone m.words.pages q n p lt
-            (ap (λ v. is_resident_page (use_under (header_of v) (used_on m.words.pages q))) (zero_there e)) resident
-        | inr past ↦ ap (λ (ps : List Page). is_resident ps p)
-            (sym (set_past m.words.pages q (record { header = n; used = used_on m.words.pages q }) past)) ∙ resident
-      ]
-    ]
+    was resident = grind (arith, resident_other, cases_lt, resident_gone, zero_there, is_resident, set_past)
 stays_out c m seat _ p none out = out
 
 stays_along : (c : Config) (w : World) (es : List Event) (p : ℕ)

@@ -38,10 +38,7 @@ small_count o x _ is = refl
 
 pub same_count : (o : Object) (distance : ℕ) (x y : Option Header) → ShowsPart o distance x → ShowsPart o distance y
     → is_small_object o ≡ false → run_count x ≡ run_count y
-same_count o distance x y px py large = elim (cases_eq distance 0) [
-  | inl z ↦ part_count o x (rw z at px) large ∙ sym (part_count o y (rw z at py) large)
-  | inr ne ↦ later_count o distance x px (omega arith) ∙ sym (later_count o distance y py (omega arith))
-]
+same_count o distance x y px py large = grind (arith, part_count, later_count)
 
 -- a claim's cells are those under its first page's header
 pub cells_at_claim : (s : LayoutScene) (x : Claim) → IsShown s.pages x
@@ -121,10 +118,7 @@ module _ (s : LayoutScene) (x : Claim) (d : ℕ) (laid : IsLaidOn s) (ix : Among
   here = headed_here s.pages p n lt
 
   header_of_run : (e : ℕ) → e < pages_made x.object → HasHeader Unmapping x.object e (header_on after (x.page + e))
-  header_of_run e le = elim (cases_eq e d) [
-    | inl same ↦ inr (large, rw same (here ∙ rw (← same)))
-    | inr ne ↦ rw (headed_other s.pages p n (x.page + e) (λ is. ne (omega arith))) (rw mode at (sx.headers e le))
-  ]
+  header_of_run e le = grind (arith, here, headed_other, sx)
 
   own : IsShown after x
   own = record {
@@ -148,17 +142,10 @@ module _ (s : LayoutScene) (x : Claim) (d : ℕ) (laid : IsLaidOn s) (ix : Among
   ]
 
   head : (q : ℕ) → head_on after q ≡ head_on s.pages q
-  head q = elim (cases_eq q p) [
-    | inl e ↦ rw e (rw here (part_head x.object d x.page (header_of n) new
-        ∙ sym (part_head x.object d x.page _ old) ∙ rw (← e)))
-    | inr ne ↦ head_of_other s.pages p n q ne
-  ]
+  head q = grind (arith, here, part_head, new, old, head_of_other)
 
   was_some : (q : ℕ) → header_on after q ≢ 0 → header_on s.pages q ≢ 0
-  was_some q some z = elim (cases_eq q p) [
-    | inl e ↦ claimed_some s.pages x d sx ld (rw (← e) z)
-    | inr ne ↦ some (headed_other s.pages p n q ne ∙ z)
-  ]
+  was_some q some z = grind (arith, claimed_some, sx, headed_other)
 
   plot : (plot : Plot) → PlotStands s.pages plot → PlotStands after plot
   plot NoPlot stands = stands

@@ -1,9 +1,8 @@
 -- Registers of no caller, and globals that nobody has stored to.
 use Rattle.mk_laws.proofs.Vocabulary.{Bool, Config, Event, Flight, Invariant, Leaves, List, Moment, NeverState, Null}
 use Rattle.mk_laws.proofs.Vocabulary.{OfHistories, Seat, Step, World, ℕ, ap, append_assoc, arith, at_rest, false}
-use Rattle.mk_laws.proofs.Vocabulary.{first_world, flight_of, g_of, get_or-set_other, get_or_past, left, left_from}
-use Rattle.mk_laws.proofs.Vocabulary.{left_more, refl, shown, slice_index, sym, true, [], ◌%◌, ◌*◌, ◌++◌, ◌+◌, ◌/◌, ◌∙◌}
-use Rattle.mk_laws.proofs.Vocabulary.{◌∷◌, ◌≡◌}
+use Rattle.mk_laws.proofs.Vocabulary.{flight_of, g_of, get_or-set_other, get_or_past, left, left_from, left_more, refl}
+use Rattle.mk_laws.proofs.Vocabulary.{shown, slice_index, sym, true, [], ◌%◌, ◌*◌, ◌++◌, ◌+◌, ◌/◌, ◌∙◌, ◌∷◌, ◌≡◌}
 use Rattle.mk_laws.proofs.{Basics.Behind, Basics.KeptByEvents, Basics.KnownWorld, Basics.Table, Basics.at_first}
 use Rattle.mk_laws.proofs.{Basics.holds_of_histories, Basics.reg_table, Basics.tally_table, FreeWords.of_worlds}
 use Rattle.mk_laws.specs.UnsetWords.{IsNeverSet, RegistersOfNoCallerAreZero, UnsetGlobalsAreZero}
@@ -49,11 +48,7 @@ unfolding left_from
 first_unset c g never = at_first 64 g 0
 
 kept : KeptByEvents UnsetGlobalsAreZero
-kept c es e h unset g never =
-    let before : IsNeverSet c es g = λ front rest seat is. never front (rest ++ e ∷ []) seat
-    (ap (λ (xs : List Event). xs ++ e ∷ []) is ∙ append_assoc front (record { seat = seat; step = Step.Setg } ∷ rest)
-    (e ∷ [])) in
-    cc (left_more c (first_world c) es e, one_more c es e.seat e.step g never (unset g before))
+kept c es e h unset g never = grind (arith, append_assoc, left_more, one_more)
 
 pub unset_globals_are_zero : OfHistories UnsetGlobalsAreZero
 unset_globals_are_zero = holds_of_histories UnsetGlobalsAreZero first_unset kept

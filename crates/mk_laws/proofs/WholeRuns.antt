@@ -93,18 +93,10 @@ own_head _ p h = cc
 
 -- and shows an object's first page
 heads_first : (o : Object) (d : ℕ) (x : Option Header) → ShowsPart o d x → heads_run x ≡ true → d ≡ 0
-heads_first o d x part h = elim (cases_eq d 0) [
-  | inl z ↦ z
-  | inr ne ↦
-      let later = later_part o d x part (omega arith) in
-      absurd (true≢false (sym h ∙ rw later.1))
-]
+heads_first o d x part h = grind (arith, later_part)
 
 heads_large : (o : Object) (x : Option Header) → ShowsPart o 0 x → heads_run x ≡ true → is_small_object o ≡ false
-heads_large o x part h = elim (cases_Bool (is_small_object o)) [
-  | inl s ↦ absurd (true≢false (sym h ∙ (small_heads_none o 0 x part s).0))
-  | inr l ↦ l
-]
+heads_large o x part h = grind (arith, small_heads_none)
 
 later_at : (pages : List Page) (releasing : Bool) (plot : Plot) (p q d : ℕ) (x : Option Header) → q ≡ p
     → shows_on pages (q + d) ≡ x → {large : Type 0}
@@ -143,9 +135,7 @@ plotted_run s (Plotted first o) p is stands here h =
     made e =
         let low = here.0 in
         let high = here.1 in
-        let part : ShowsPart o (p - first) (shows_on s.pages p) =
-        rw e (made_shows o (p - first) stands.sized (omega arith))
-        in
+        let part : ShowsPart o (p - first) (shows_on s.pages p) = grind (arith, made_shows) in
         let none = heads_first o (p - first) _ part h in
         let page : p ≡ first = omega arith in
         let front : ShowsPart o 0 (shows_on s.pages p) = rw none at part in
@@ -190,12 +180,7 @@ whole_quiet s laid off p h = elim (find_bit (used_on s.pages p) (cells_under (sh
 -- While it is, the place of a New doesn't matter.
 replotted : (pages : List Page) (plot other : Plot) (before : Bool) → HaveWholeRuns pages before plot
     → HaveWholeRuns pages true other
-replotted pages plot other before whole p h =
-    let r = whole p h in
-    record {
-      within = r.within;
-      later = λ d some lt. elim (r.later d some lt) [ inl is ↦ inl is | inr free ↦ inr (free.0, free.1, inl refl) ];
-    }
+replotted pages plot other before whole p h = grind arith
 
 -- `head` (d)
 emptied : (w : Words) (plot : Plot) (p n : ℕ) → p < length w.pages → Empties w p n → HaveWholeRuns w.pages true plot

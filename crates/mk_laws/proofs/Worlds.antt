@@ -4,12 +4,12 @@ use Rattle.mk_laws.proofs.Vocabulary.{IsStorage, IsWordOf, Later, LeafBlock, Lea
 use Rattle.mk_laws.proofs.Vocabulary.{OfBlock, OfLater, OfLeafBlock, OfLeafRun, OfRun, Option, PlacedAllocation}
 use Rattle.mk_laws.proofs.Vocabulary.{PointsInto, Run, RunPages, ShowsPart, Some, StandsOnHeap, World, ℕ, and_parts, ap}
 use Rattle.mk_laws.proofs.Vocabulary.{arith, cell_of_allocation, eqb-true, false, first_page_shows, has_no_pointers}
-use Rattle.mk_laws.proofs.Vocabulary.{head_page_under, header_in, inl, inr, is_left_unmarked, is_phase, is_small_object}
-use Rattle.mk_laws.proofs.Vocabulary.{large_words, leb-true, ltb-true, nat_le, nat_lt, object_placed, or_parts}
-use Rattle.mk_laws.proofs.Vocabulary.{page_at_address, pages_made, part_has_no_pointers, phase_of, placed_at}
-use Rattle.mk_laws.proofs.Vocabulary.{pointed_cell, run_begins, run_count, shown, slice_index, small}
-use Rattle.mk_laws.proofs.Vocabulary.{standing_has_storage, stands_on, storage_of, storage_words, subst, sym, true}
-use Rattle.mk_laws.proofs.Vocabulary.{typed_size, ◌*◌, ◌-◌, ◌/◌, ◌<◌, ◌∙◌, ◌≡◌, ◌≢◌, ◌⊎◌}
+use Rattle.mk_laws.proofs.Vocabulary.{head_page_under, header_in, inl, inr, is_small_object, large_words, leb-true}
+use Rattle.mk_laws.proofs.Vocabulary.{ltb-true, nat_le, nat_lt, object_placed, or_parts, page_at_address, pages_made}
+use Rattle.mk_laws.proofs.Vocabulary.{part_has_no_pointers, phase_of, placed_at, pointed_cell, run_begins, run_count}
+use Rattle.mk_laws.proofs.Vocabulary.{shown, slice_index, small, standing_has_storage, stands_on, storage_of}
+use Rattle.mk_laws.proofs.Vocabulary.{storage_words, subst, sym, true, typed_size, ◌*◌, ◌-◌, ◌/◌, ◌<◌, ◌∙◌, ◌≡◌, ◌≢◌}
+use Rattle.mk_laws.proofs.Vocabulary.{◌⊎◌}
 use Rattle.mk_geom.proofs.Standing.{stands_at_first, stands_from}
 use Rattle.mk_core.proofs.PointedPages.{PointsTo, points_to}
 use Rattle.mk_core.proofs.{PointedAllocations.pointers_come_back, StandingAllocations.pointers_hit}
@@ -125,9 +125,7 @@ module _ (c : Config) (w : World) (n : NeverState) (t : Told c w n) where
     where
       by : MayHoldWords c w x → IsHeld c w x
       by (OfMapped i mapped word) = record { number = i; unreleased = mapped_stays c (placed i) mapped; word = word }
-      by (OfReleased cell pointed released) =
-          let four = (and_parts (is_phase w.now.words 4) (is_left_unmarked w.now.words cell) released).0 in
-          absurd (not_four (phase_of w.now.words) early (eqb-true (phase_of w.now.words) 4 four))
+      by (OfReleased cell pointed released) = grind (arith, and_parts, not_four, eqb-true)
       by (OfFreedRun run there inside) =
           let f = others.freed_run run there in
           let a : PlacedAllocation = placed f.number in

@@ -1,16 +1,16 @@
 -- Only words that may hold values aren't 0, after every list of enabled events.
-use Rattle.mk_laws.proofs.Vocabulary.{AreEnabledFrom, AreOfPages, Bool, Caller, Config, Event, HasZeros, Holding}
-use Rattle.mk_laws.proofs.Vocabulary.{IsEnabled, IsReleasedWord, IsWithinLimits, IsWordOfMapped, List, MayHold, None}
-use Rattle.mk_laws.proofs.Vocabulary.{OfFreedRun, OfMapped, OfReleased, OthersAreZero, PlacedAllocation, Seat, Some}
-use Rattle.mk_laws.proofs.Vocabulary.{Step, World, ZeroScene, ℕ, access, accessed_lengths, address_of, and_parts, ap}
-use Rattle.mk_laws.proofs.Vocabulary.{arith, at_rest, cases_Bool, cell_of_allocation, cells_begin, enabled_meets}
-use Rattle.mk_laws.proofs.Vocabulary.{eqb-true, false, first_moment, first_world, flight_of, granted, has_bit_without}
-use Rattle.mk_laws.proofs.Vocabulary.{head_step, held_by_pages, histories_keep_lengths, if◌then◌else◌, inl, inr}
-use Rattle.mk_laws.proofs.Vocabulary.{is_decided, is_heap_store, is_left_unmarked, is_phase, is_released_there}
-use Rattle.mk_laws.proofs.Vocabulary.{is_run_gone, left, left_from, map, may_end, nothing_done, object_placed}
-use Rattle.mk_laws.proofs.Vocabulary.{placed_at, quarantine_step, refl, reg_access, register_met, subst, sym, target}
-use Rattle.mk_laws.proofs.Vocabulary.{true, true≢false, used_step, with_released, word_accessed, word_met, word_points}
-use Rattle.mk_laws.proofs.Vocabulary.{world_behind, zero_lengths, zero_scene_with, [], ◌*◌, ◌++◌, ◌==◌, ◌∙◌, ◌∷◌, ◌≡◌}
+use Rattle.mk_laws.proofs.Vocabulary.{AreEnabledFrom, AreOfPages, Bool, Config, Event, HasZeros, Holding, IsEnabled}
+use Rattle.mk_laws.proofs.Vocabulary.{IsReleasedWord, IsWithinLimits, IsWordOfMapped, List, MayHold, None, OfFreedRun}
+use Rattle.mk_laws.proofs.Vocabulary.{OfMapped, OfReleased, OthersAreZero, PlacedAllocation, Seat, Step, World}
+use Rattle.mk_laws.proofs.Vocabulary.{ZeroScene, ℕ, access, accessed_lengths, address_of, and_parts, arith, cases_Bool}
+use Rattle.mk_laws.proofs.Vocabulary.{cell_of_allocation, cells_begin, enabled_meets, eqb-true, false, first_world}
+use Rattle.mk_laws.proofs.Vocabulary.{flight_of, granted, has_bit_without, head_step, held_by_pages}
+use Rattle.mk_laws.proofs.Vocabulary.{histories_keep_lengths, if◌then◌else◌, inl, inr, is_decided, is_heap_store}
+use Rattle.mk_laws.proofs.Vocabulary.{is_left_unmarked, is_phase, is_released_there, is_run_gone, left, left_from, map}
+use Rattle.mk_laws.proofs.Vocabulary.{may_end, nothing_done, object_placed, placed_at, quarantine_step, refl}
+use Rattle.mk_laws.proofs.Vocabulary.{reg_access, register_met, subst, sym, true, true≢false, used_step, with_released}
+use Rattle.mk_laws.proofs.Vocabulary.{word_accessed, word_met, word_points, world_behind, zero_lengths, zero_scene_with}
+use Rattle.mk_laws.proofs.Vocabulary.{[], ◌*◌, ◌++◌, ◌==◌, ◌∙◌, ◌∷◌, ◌≡◌}
 use Rattle.mk_core.proofs.{PointedPages.pointed_within, RegisterAccesses.register_leaves, RegisterAccesses.tally_leaves}
 use Rattle.mk_laws.proofs.Basics.{Known, Meets, WorldBehind, at_first, changed_words, is_releasing_behind}
 use Rattle.mk_laws.proofs.Basics.{known_at_first, known_behind, known_left, mapped_stays, none_released}
@@ -129,9 +129,7 @@ by_kind c w seat _ b h z = z
 -- While no cell is released, marks say nothing.
 with_marks : (c : Config) (v : World) (old new : List ℕ) → OthersAreZero c (zero_scene_with false old v)
     → OthersAreZero c (zero_scene_with false new v)
-with_marks c v old new z =
-    changed_words c (zero_scene_with false old v) (zero_scene_with false new v) z (λ n ne. ne) (λ n m. OfMapped m)
-    (λ n some r. absurd (none_released c (zero_scene_with false old v) n refl r)) (λ n some f. OfFreedRun f)
+with_marks c v old new z = grind (arith, changed_words, none_released)
 
 -- One event, from the world before it.
 pub zeros_behind : (c : Config) (w : World) (e : Event) → IsWithinLimits c → AreOfPages c.pages w.now.words
@@ -174,12 +172,4 @@ zeros_stand_behind_lists c es limits on others =
 pub others_at_first : (c : Config) (e : Event) → IsWithinLimits c → is_heap_store e.step ≡ false
     → ZeroPremises c (first_world c) e
 unfolding left_from AreEnabledFrom layout.LayoutPremisesFrom
-others_at_first c e limits still = record {
-  laid_out = (histories_are_laid_out c [] limits tt tt).laid;
-  target = λ cell at. let none : None ≡ Some cell = sym (no_target e.seat) ∙ at in cc;
-  stored = λ s. absurd (true≢false (sym s ∙ still));
-}
-  where
-    no_target : (seat : Seat) → target c.pages (first_moment c).words (flight_of (first_moment c) seat) ≡ None
-    no_target (Caller k) = ap (target c.pages (first_moment c).words) (at_first c.callers k at_rest)
-    no_target _ = cc
+others_at_first c e limits still = grind (arith, histories_are_laid_out, at_first)

@@ -5,18 +5,18 @@ use Rattle.mk_laws.proofs.Vocabulary.{ItEmpties, ItFrees, ItGivesBack, ItTakes, 
 use Rattle.mk_laws.proofs.Vocabulary.{MayHold, None, OfFreedRun, OfMapped, OfReleased, Option, OthersAreZero, Page}
 use Rattle.mk_laws.proofs.Vocabulary.{PlacedAllocation, QuarantineStep, RunPages, Seat, ShowsPart, Some, Step, Storage}
 use Rattle.mk_laws.proofs.Vocabulary.{UsedStep, Words, World, ZeroScene, ℕ, address_of, all_below-at, and_from}
-use Rattle.mk_laws.proofs.Vocabulary.{and_parts, ap, arith, cases_Bool, cell_at, cell_freed, cell_of_allocation}
-use Rattle.mk_laws.proofs.Vocabulary.{cell_words, eqb-true, false, first_page_shows, first_word, flight_of, free_page}
-use Rattle.mk_laws.proofs.Vocabulary.{freed_cell, freed_leaves, freed_where_it_stands, frees, ground_of, has_bit}
-use Rattle.mk_laws.proofs.Vocabulary.{has_bit_without, head_page, head_page_under, header_at, header_in, header_of}
-use Rattle.mk_laws.proofs.Vocabulary.{header_on, if◌then◌else◌, inl, inr, is_mapped, is_phase, is_released_there}
-use Rattle.mk_laws.proofs.Vocabulary.{is_run_gone, is_run_unmapped, is_small_object, large_words, le-leb, leb-true}
-use Rattle.mk_laws.proofs.Vocabulary.{lt-ltb, ltb-true, map, nat_le, nat_lt, not, object_now, object_placed, or_else}
-use Rattle.mk_laws.proofs.Vocabulary.{page_at_address, pages_made, placed_at, pointed_cell, refl, run_begins}
-use Rattle.mk_laws.proofs.Vocabulary.{run_of_cell, set_by, shows_on, slice_index, slice_set, stands_in, storage_words}
-use Rattle.mk_laws.proofs.Vocabulary.{subst, sym, target, true, true≢false, typed_size, undecided_free, used_at}
-use Rattle.mk_laws.proofs.Vocabulary.{used_on, without, words_are_zero, words_under, zero_scene_with, ◌%◌, ◌&&◌, ◌*◌}
-use Rattle.mk_laws.proofs.Vocabulary.{◌+◌, ◌-◌, ◌/◌, ◌<◌, ◌==◌, ◌^◌, ◌∙◌, ◌≡◌, ◌≢◌, ◌≤◌, ◌⊎◌}
+use Rattle.mk_laws.proofs.Vocabulary.{and_parts, ap, arith, cases_Bool, cell_freed, cell_of_allocation, cell_words}
+use Rattle.mk_laws.proofs.Vocabulary.{eqb-true, false, first_page_shows, first_word, flight_of, free_page, freed_cell}
+use Rattle.mk_laws.proofs.Vocabulary.{freed_leaves, freed_where_it_stands, frees, ground_of, has_bit, has_bit_without}
+use Rattle.mk_laws.proofs.Vocabulary.{head_page, head_page_under, header_at, header_in, header_on, if◌then◌else◌, inl}
+use Rattle.mk_laws.proofs.Vocabulary.{inr, is_mapped, is_phase, is_released_there, is_run_gone, is_run_unmapped}
+use Rattle.mk_laws.proofs.Vocabulary.{is_small_object, large_words, le-leb, leb-true, lt-ltb, ltb-true, map, nat_le}
+use Rattle.mk_laws.proofs.Vocabulary.{nat_lt, not, object_now, object_placed, or_else, page_at_address, pages_made}
+use Rattle.mk_laws.proofs.Vocabulary.{placed_at, pointed_cell, refl, run_begins, run_of_cell, set_by, shows_on}
+use Rattle.mk_laws.proofs.Vocabulary.{slice_index, slice_set, stands_in, storage_words, subst, sym, target, true}
+use Rattle.mk_laws.proofs.Vocabulary.{typed_size, undecided_free, used_at, used_on, without, words_are_zero}
+use Rattle.mk_laws.proofs.Vocabulary.{words_under, zero_scene_with, ◌%◌, ◌&&◌, ◌*◌, ◌+◌, ◌-◌, ◌/◌, ◌<◌, ◌==◌, ◌^◌, ◌∙◌}
+use Rattle.mk_laws.proofs.Vocabulary.{◌≡◌, ◌≢◌, ◌≤◌, ◌⊎◌}
 use Rattle.mk_core.proofs.ChangedAllocations.{freed_storage}
 use Rattle.mk_core.proofs.{PageSteps.wiped_cell, PointedPages.pointed_head, WordBits.rest_bits}
 use Rattle.mk_laws.proofs.Basics.{IsStanding, Laid, Meets, changed_words, free_has_turn, mapped_stays, none_on_its_way}
@@ -33,22 +33,7 @@ kept_word : (c : Config) (old new : List Page) (is_gone : Cell → Bool) (n : �
     → header_on new r.cell.page ≡ header_on old r.cell.page → has_bit (used_on new r.cell.page) r.cell.index ≡ true
     → IsReleasedWord c new is_gone n
 unfolding pointed_cell
-kept_word c old new is_gone n r here there used =
-    let words : words_under (shows_on new r.cell.page) ≡ words_under (shows_on old r.cell.page) =
-    ap (λ h. words_under (header_of h)) there in
-    let first : first_word_on new r.cell ≡ first_word_on old r.cell =
-    ap (λ k. 64 * r.cell.page + r.cell.index * k) words in
-    let from = r.from in
-    let to = r.to in
-    record {
-      cell = r.cell;
-      small = r.small;
-      released = r.released;
-      used = used;
-      pointed = ap (λ h. cell_at c.pages h (address_of n)) here ∙ r.pointed;
-      from = omega arith;
-      to = omega arith;
-    }
+kept_word c old new is_gone n r here there used = grind (arith, here)
 
 -- a page with a cell is its own head
 own_head : (x : Option Header) (p k i : ℕ) → i < k + words_under x → k ≤ i → head_page_under x p ≡ p
@@ -138,16 +123,7 @@ dropped_word c w p f v n h r = record {
     bits = and_parts _ _ (sym (has_bit_without _ _ _) ∙ r.released)
 
     still : r.cell.page ≡ p → has_bit (without v (slice_index w.now.words.marks r.cell.page)) r.cell.index ≡ true
-    still e = has_bit_without v _ _ ∙ and_from _ _ kept bits.1
-      where
-        kept : has_bit v r.cell.index ≡ true
-        kept = elim (cases_Bool (has_bit v r.cell.index)) [
-          | inl in_it ↦ in_it
-          | inr out ↦
-              let gone = h.gone _
-              (ap (λ q. has_bit (slice_index w.now.words.snapshot q) r.cell.index) (sym e) ∙ bits.0) out in
-              absurd (true≢false (sym r.used ∙ ap (λ q. has_bit (used_at w.now.words q) r.cell.index) e ∙ gone.1))
-        ]
+    still e = grind (arith, has_bit_without, and_from, bits)
 
 -- Words of what a call frees: a run's become those of the run that it unmaps, and they are 0 once that is gone.
 

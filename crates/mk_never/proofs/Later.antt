@@ -1,6 +1,6 @@
 -- Allocations stay: their types, their sizes, and that they are freed.
-use Rattle.std.proofs.Common.{List, ℕ, ap, arith, get_or, length, length-append, length-set, refl, set, subst, true, []}
-use Rattle.std.proofs.Common.{◌<◌, ◌∙◌, ◌∷◌, ◌≡◌}
+use Rattle.std.proofs.Common.{List, ℕ, ap, arith, length, length-append, length-set, refl, set, subst, true, [], ◌<◌}
+use Rattle.std.proofs.Common.{◌∙◌, ◌∷◌, ◌≡◌}
 use Rattle.std.proofs.lemmas.List.{get_or_append_left}
 use Rattle.mk_never.proofs.Edits.{freed_exists, if_by, left_at_by, set_by}
 use Rattle.mk_never.specs.Laws.{Continues, FreedStays, TypeStays}
@@ -15,30 +15,13 @@ use Rattle.mk_never.specs.{declared.operations.Op.Op, declared.values.Target.Tar
 -- the same allocations, with other registers or globals
 same_allocations : (n m : NeverState) → m.types ≡ n.types → m.allocations ≡ n.allocations
     → length m.registers ≡ length n.registers → length m.globals ≡ length n.globals → Continues n m
-same_allocations n m types allocations registers globals = record {
-  types = types;
-  registers = registers;
-  globals = globals;
-  count = let same_count = ap length allocations in omega arith;
-  ty = λ number h. ap (λ xs. (get_or xs number no_allocation).ty) allocations;
-  size = λ number h. ap (λ xs. length (get_or xs number no_allocation).words) allocations;
-  freed = λ number h. ap (λ xs. (get_or xs number no_allocation).freed) allocations ∙ h;
-}
+same_allocations n m types allocations registers globals = grind arith
 
 pub same : (n : NeverState) → Continues n n
 same n = same_allocations n n refl refl refl refl
 
 pub join : (n m o : NeverState) → Continues n m → Continues m o → Continues n o
-join n m o first second = record {
-  types = second.types ∙ first.types;
-  registers = second.registers ∙ first.registers;
-  globals = second.globals ∙ first.globals;
-  count = omega arith;
-  ty = λ number h. let h' : number < length m.allocations = omega arith in second.ty number h' ∙ first.ty number h;
-  size = λ number h. let h' : number < length m.allocations = omega arith in second.size number h'
-      ∙ first.size number h;
-  freed = λ number h. second.freed number (first.freed number h);
-}
+join n m o first second = grind arith
 
 pub register_stays : (n : NeverState) (c r : ℕ) (v : Value) → Continues n (with_register n c r v)
 register_stays n c r v = same_allocations n _ refl refl (length-set _ _ _) refl
@@ -94,8 +77,7 @@ free_stays n (Ptr number ty offset) = freed_stays n number
 -- an access leaves the allocations where what it leaves at each word does
 access_stays : (n : NeverState) (t : Target) (refused : NeverState) (at : ℕ → ℕ → NeverState)
     → Continues n refused → ((number place : ℕ) → Continues n (at number place)) → Continues n (left_at t refused at)
-access_stays n t refused at kept reached =
-    left_at_by (λ m. Continues n m) t refused at kept (λ number place e. reached number place)
+access_stays n t refused at kept reached = grind (arith, left_at_by)
 
 pub op_stays : (n : NeverState) (c : ℕ) (op : Op) → Continues n (after_op n c op)
 op_stays n c (New d ty full) =
@@ -123,10 +105,7 @@ calls_stay n (x ∷ xs) =
 
 pub types_stay : (n : NeverState) (calls : List Call) (number : ℕ) → number < length n.allocations
     → TypeStays n (after_calls n calls) number
-types_stay n calls number there =
-    let stays : Continues n (after_calls n calls) =
-    calls_stay n calls in (stays.ty number there, stays.size number there)
+types_stay n calls number there = grind (arith, calls_stay)
 
 pub freed_stays_freed : (n : NeverState) (calls : List Call) (number : ℕ) → FreedStays n (after_calls n calls) number
-freed_stays_freed n calls number = let stays : Continues n (after_calls n calls) =
-    calls_stay n calls in stays.freed number
+freed_stays_freed n calls number = grind (arith, calls_stay)

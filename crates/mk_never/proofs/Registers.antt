@@ -3,8 +3,8 @@ use Rattle.std.proofs.Common.{List, ℕ, arith, get_or-set_other, refl, [], ◌*
 use Rattle.mk_never.proofs.Edits.{if_by, left_at_by}
 use Rattle.mk_never.specs.Admitted.{AreAdmitted, IsAdmitted, OperandsAreInRange}
 use Rattle.mk_never.specs.Laws.{AreByOthers, AreNotBy, DestinationIsInRange, KeepsRegisters}
-use Rattle.mk_never.specs.NeverHeap.{Call, NeverState, after_calls, after_free, after_op, is_same, left_at, register_at}
-use Rattle.mk_never.specs.NeverHeap.{with_new, with_register, word_at}
+use Rattle.mk_never.specs.NeverHeap.{Call, NeverState, after_calls, after_free, after_op, left_at, register_at}
+use Rattle.mk_never.specs.NeverHeap.{with_register}
 use Rattle.mk_never.specs.declared.operations.Op.TheVariants.{CasPtr, Clear, Free, GetGlobal, GetPtr, Lea, Move, New}
 use Rattle.mk_never.specs.declared.operations.Op.TheVariants.{SetNum, SetPtr}
 use Rattle.mk_never.specs.declared.values.Value.TheVariants.{Null, Num, Ptr}
@@ -24,26 +24,16 @@ free_keeps n caller (Ptr number ty offset) r below = refl
 access_keeps : (n : NeverState) (caller : ℕ) (t : Target) (refused : NeverState) (at : ℕ → ℕ → NeverState)
     → KeepsRegisters caller n refused → ((number place : ℕ) → KeepsRegisters caller n (at number place))
     → KeepsRegisters caller n (left_at t refused at)
-access_keeps n caller t refused at kept reached =
-    left_at_by (λ m. KeepsRegisters caller n m) t refused at kept (λ number place e. reached number place)
+access_keeps n caller t refused at kept reached = grind (arith, left_at_by)
 
 pub op_keeps : (n : NeverState) (caller c : ℕ) (op : Op) → c ≢ caller → DestinationIsInRange op
     → KeepsRegisters caller n (after_op n c op)
-op_keeps n caller c (New d ty full) other in_range =
-    if_by (λ m. KeepsRegisters caller n m) full _ _ (λ e r below. refl)
-    (λ e. other_register (with_new n ty) caller c d _ other in_range)
+op_keeps n caller c (New d ty full) other in_range = grind (arith, if_by, other_register)
 op_keeps n caller c (Free p) other in_range = free_keeps n caller (register_at n c p)
-op_keeps n caller c (SetNum q i m) other in_range =
-    access_keeps n caller _ n _ (λ r below. refl) (λ number place r below. refl)
-op_keeps n caller c (GetPtr d q i) other in_range =
-    access_keeps n caller _ _ _ (other_register n caller c d _ other in_range)
-    (λ number place. other_register n caller c d _ other in_range)
-op_keeps n caller c (SetPtr q i p) other in_range =
-    access_keeps n caller _ n _ (λ r below. refl) (λ number place r below. refl)
-op_keeps n caller c (CasPtr q i p r') other in_range =
-    access_keeps n caller _ n _ (λ r below. refl)
-    (λ number place. if_by (λ m. KeepsRegisters caller n m) (is_same (word_at n number place) (register_at n c p)) _ _
-    (λ e r below. refl) (λ e r below. refl))
+op_keeps n caller c (SetNum q i m) other in_range = grind (arith, access_keeps)
+op_keeps n caller c (GetPtr d q i) other in_range = grind (arith, access_keeps, other_register)
+op_keeps n caller c (SetPtr q i p) other in_range = grind (arith, access_keeps)
+op_keeps n caller c (CasPtr q i p r') other in_range = grind (arith, access_keeps, if_by)
 op_keeps n caller c (Lea d q i) other in_range = other_register n caller c d _ other in_range
 op_keeps n caller c (Move d q) other in_range = other_register n caller c d _ other in_range
 op_keeps n caller c (Clear d) other in_range = other_register n caller c d _ other in_range
@@ -81,5 +71,4 @@ by_others globals n caller (x ∷ xs) admitted others =
 pub admitted_keep : (globals : List ℕ) (n : NeverState) (caller : ℕ) (calls : List Call) → AreAdmitted globals n calls
     → AreNotBy caller calls
     → KeepsRegisters caller n (after_calls n calls)
-admitted_keep globals n caller calls admitted others =
-    calls_keep n caller calls (by_others globals n caller calls admitted others)
+admitted_keep globals n caller calls admitted others = grind (arith, calls_keep, by_others)

@@ -1,14 +1,12 @@
 -- Sound values stay sound, and suit the kinds that they are of.
-use Rattle.std.proofs.Common.{List, ℕ, arith, get_or, inl, inr, length, map, subst, suc, sym, zero, [], ◌+◌, ◌<◌, ◌∙◌}
-use Rattle.std.proofs.Common.{◌∷◌, ◌≡◌}
+use Rattle.std.proofs.Common.{List, ℕ, arith, get_or, inl, inr, length, map, suc, sym, zero, [], ◌<◌, ◌∷◌}
 use Rattle.std.proofs.lemmas.Bool.{false≢true}
 use Rattle.mk_never.specs.Admitted.{IsNumber, IsOfKind, IsPointer, Meets}
-use Rattle.mk_never.specs.NeverHeap.{Allocation, NeverState, allocation_at, moved_on, words_of}
+use Rattle.mk_never.specs.NeverHeap.{Allocation, NeverState, allocation_at, moved_on}
 use Rattle.mk_never.specs.Typed.{IsPlaceIn, IsSound, IsTypedAllocation, Suits}
-use Rattle.mk_never.specs.Types.{kinds_of, zero_of}
 use Rattle.mk_never.specs.declared.types.Kind.TheVariants.{Num as Number, To}
 use Rattle.mk_never.specs.declared.values.Value.TheVariants.{Null, Num, Ptr}
-use Rattle.mk_never.specs.{Laws.Continues, declared.types.Kind.Kind, declared.values.Value.Value}
+use Rattle.mk_never.specs.{Laws.Continues, Types.zero_of, declared.types.Kind.Kind, declared.values.Value.Value}
 
 -- In a type that has words, a place is one of them.
 pub place_is_inside : (kinds : List Kind) (offset : ℕ) → IsPlaceIn kinds offset → 0 < length kinds
@@ -19,11 +17,7 @@ place_is_inside kinds offset (inr inside) some = inside
 pub sound_kept : (n m : NeverState) → Continues n m → (v : Value) → IsSound n v → IsSound m v
 sound_kept n m stays Null sound = tt
 sound_kept n m stays (Num k) sound = sound
-sound_kept n m stays (Ptr number ty offset) sound = (
-  (let there : number < length n.allocations = sound.0 in omega (arith, stays.count)),
-  sound.1 ∙ sym (stays.ty number sound.0),
-  subst (λ types. IsPlaceIn (kinds_of types ty) offset) (sym stays.types) sound.2,
-)
+sound_kept n m stays (Ptr number ty offset) sound = grind arith
 
 pub suits_kept : (n m : NeverState) → Continues n m → (v : Value) (kind : Kind) → Suits n v kind → Suits m v kind
 suits_kept n m stays v Number suits = suits
@@ -31,13 +25,7 @@ suits_kept n m stays v (To ty offset) suits = (sound_kept n m stays v suits.0, s
 
 pub allocation_kept : (n m : NeverState) → Continues n m → (a : Allocation) → IsTypedAllocation n a
     → IsTypedAllocation m a
-allocation_kept n m stays a typed = record {
-  ty = subst (λ types. a.ty < length types) (sym stays.types) typed.ty;
-  size = subst (λ types. length a.words ≡ length (kinds_of types a.ty)) (sym stays.types) typed.size;
-  words = λ place h. subst
-      (λ types. Suits m (get_or a.words place Null) (get_or (kinds_of types a.ty) place Number)) (sym stays.types)
-      (suits_kept n m stays _ _ (typed.words place h));
-}
+allocation_kept n m stays a typed = grind (arith, suits_kept)
 
 pub number_suits : (n : NeverState) (m : ℕ) (kind : Kind) → IsNumber kind → Suits n (Num m) kind
 number_suits n m Number is = tt
@@ -67,8 +55,4 @@ pub moved_is_sound : (n : NeverState) (v : Value) (i : ℕ) (P : Kind → Type 0
     → IsSound n v → Meets n v i P → IsSound n (moved_on v i)
 moved_is_sound n Null i P typed sound meets = tt
 moved_is_sound n (Num m) i P typed sound meets = tt
-moved_is_sound n (Ptr number ty offset) i P typed sound meets =
-    let size = (typed number sound.0).size in
-    let inside : offset + i < length (words_of n number) = meets.0 in
-    let inside' : offset + i < length (kinds_of n.types (allocation_at n number).ty) = omega arith in
-    (sound.0, sound.1, inr (subst (λ ty. offset + i < length (kinds_of n.types ty)) (sym sound.1) inside'))
+moved_is_sound n (Ptr number ty offset) i P typed sound meets = grind arith

@@ -1,20 +1,18 @@
 -- Words change by stores alone, and a load gives what was last stored.
-use Rattle.std.proofs.Common.{List, ℕ, ap, arith, get_or, get_or-set_other, get_or-set_same, if◌then◌else◌, length}
-use Rattle.std.proofs.Common.{refl, subst, sym, true, [], ◌*◌, ◌+◌, ◌<◌, ◌∙◌, ◌∷◌, ◌≡◌, ◌≢◌}
+use Rattle.std.proofs.Common.{List, ℕ, ap, arith, get_or, get_or-set_other, get_or-set_same, length, refl, sym, [], ◌*◌}
+use Rattle.std.proofs.Common.{◌+◌, ◌<◌, ◌∙◌, ◌∷◌, ◌≡◌, ◌≢◌}
 use Rattle.std.proofs.lemmas.List.{get_or_append_left}
 use Rattle.mk_never.proofs.Edits.{exists, if_by, left_at_by, set_by}
 use Rattle.mk_never.proofs.{Later.op_stays, Sameness.equal_from_same, Sameness.same_from_equal}
 use Rattle.mk_never.specs.Laws.{Continues, LoadGivesStored, LoadsGive, Reaches, StoreIsInside, StoreLeaves, StoresTo}
-use Rattle.mk_never.specs.Laws.{UnstoredStays, stored_value}
-use Rattle.mk_never.specs.NeverHeap.{Call, NeverState, after_calls, after_free, after_op, allocation_at, is_same}
-use Rattle.mk_never.specs.NeverHeap.{is_unmapped, left_at, no_allocation, number_of, register_at, reply_at, target_of}
-use Rattle.mk_never.specs.NeverHeap.{with_freed, with_register, with_word, word_at, words_of}
-use Rattle.mk_never.specs.declared.operations.Op.{Op}
+use Rattle.mk_never.specs.Laws.{UnstoredStays}
+use Rattle.mk_never.specs.NeverHeap.{Call, NeverState, after_free, after_op, left_at, no_allocation, number_of}
+use Rattle.mk_never.specs.NeverHeap.{register_at, reply_at, with_freed, with_register, with_word, word_at, words_of}
 use Rattle.mk_never.specs.declared.operations.Op.TheVariants.{CasPtr, Free, GetPtr, New, SetNum, SetPtr}
 use Rattle.mk_never.specs.declared.operations.Reply.TheVariants.{Num as Number, Val}
-use Rattle.mk_never.specs.declared.values.Target.TheVariants.{Unmapped, WordOf}
+use Rattle.mk_never.specs.declared.values.Target.TheVariants.{WordOf}
 use Rattle.mk_never.specs.declared.values.Value.TheVariants.{Null, Num, Ptr}
-use Rattle.mk_never.specs.{Admitted.IsNumber, Admitted.IsPointer, Admitted.Meets, declared.operations.Reply.Reply}
+use Rattle.mk_never.specs.{Admitted.Meets, declared.operations.Op.Op, declared.operations.Reply.Reply}
 use Rattle.mk_never.specs.{declared.types.Kind.Kind, declared.values.Target.Target, declared.values.Value.Value}
 
 -- The word is as it was.
@@ -56,20 +54,10 @@ op_keeps n c (New d ty full) number place there none =
     if_by (λ m. WordStays number place n m) full _ _ (λ e. refl)
     (λ e. ap (λ a. get_or a.words place Null) (get_or_append_left n.allocations _ no_allocation number there))
 op_keeps n c (Free p) number place there none = free_keeps n (register_at n c p) number place
-op_keeps n c (SetNum q i m) number place there none =
-    left_at_by (λ m. WordStays number place n m) (target_of n (register_at n c q) i) n _ refl
-    (λ a w e. other_word n a w number place _ (λ e'. none (e ∙ e')))
-op_keeps n c (GetPtr d q i) number place there none =
-    left_at_by (λ m. WordStays number place n m) (target_of n (register_at n c q) i) _ _ refl (λ a w e. refl)
-op_keeps n c (SetPtr q i p) number place there none =
-    left_at_by (λ m. WordStays number place n m) (target_of n (register_at n c q) i) n _ refl
-    (λ a w e. other_word n a w number place _ (λ e'. none (e ∙ e')))
-op_keeps n c (CasPtr q i p r) number place there none =
-    left_at_by (λ m. WordStays number place n m) (target_of n (register_at n c q) i) n _ refl
-    (λ a w e. if_by (λ m. WordStays number place n m) (is_same (word_at n a w) (register_at n c p)) _ _
-    (λ same. let here : word_at n a w ≡ register_at n c p = equal_from_same _ _ same in other_word n a w number place _
-    (λ e'. none (e ∙ e', (cc))))
-    (λ differs. refl))
+op_keeps n c (SetNum q i m) number place there none = grind (arith, left_at_by, other_word)
+op_keeps n c (GetPtr d q i) number place there none = grind (arith, left_at_by)
+op_keeps n c (SetPtr q i p) number place there none = grind (arith, left_at_by, other_word)
+op_keeps n c (CasPtr q i p r) number place there none = grind (arith, left_at_by, if_by, equal_from_same, other_word)
 op_keeps n c _ number place there none = refl
 
 pub calls_keep : (n : NeverState) (calls : List Call) (number place : ℕ) → UnstoredStays n calls number place
@@ -95,15 +83,9 @@ stored_in n m number place v h e = ap (λ m. word_at m number place) e ∙ this_
 
 -- an operation that stores to a word leaves its value there
 pub store_leaves : (n : NeverState) (c : ℕ) (op : Op) (number place : ℕ) → StoreLeaves n c op number place
-store_leaves n c (SetNum q i m) number place h stores =
-    stored_in n _ number place _ h (left_reached _ n _ number place stores)
-store_leaves n c (SetPtr q i p) number place h stores =
-    stored_in n _ number place _ h (left_reached _ n _ number place stores)
-store_leaves n c (CasPtr q i p r) number place h stores =
-    let exchanges : is_same (word_at n number place) (register_at n c p) ≡ true = same_from_equal _ _ stores.1 in
-    stored_in n _ number place _ h
-    (left_reached _ n _ number place stores.0
-    ∙ ap (λ b. if b then with_word n number place (register_at n c r) else n) exchanges)
+store_leaves n c (SetNum q i m) number place h stores = grind (arith, stored_in, left_reached)
+store_leaves n c (SetPtr q i p) number place h stores = grind (arith, stored_in, left_reached)
+store_leaves n c (CasPtr q i p r) number place h stores = grind (arith, same_from_equal, stored_in, left_reached)
 store_leaves n c _ number place h stores = absurd stores
 
 -- a load from a word gives its value
@@ -123,11 +105,7 @@ loads_give n number place v is = record {
 pub load_gives_stored : (n : NeverState) (c : ℕ) (op : Op) (calls : List Call) (number place : ℕ)
     → LoadGivesStored n c op calls number place
 load_gives_stored n c op calls number place h stores none =
-    let stays : Continues n (after_op n c op) = op_stays n c op in
-    let there : number < length n.allocations = exists n number place h in
-    let there' : number < length (after_op n c op).allocations = omega (arith, stays.count) in
-    loads_give (after_calls (after_op n c op) calls) number place (stored_value n c op)
-    (calls_keep (after_op n c op) calls number place there' none ∙ store_leaves n c op number place h stores)
+    grind (arith, op_stays, exists, loads_give, calls_keep, store_leaves)
 
 -- an admitted access reaches a word that exists
 reached_is_inside : (n : NeverState) (v : Value) (i : ℕ) (P : Kind → Type 0) (number place : ℕ) → Meets n v i P
@@ -135,19 +113,10 @@ reached_is_inside : (n : NeverState) (v : Value) (i : ℕ) (P : Kind → Type 0)
     → place < length (words_of n number)
 reached_is_inside n Null i P number place meets reaches = cc
 reached_is_inside n (Num m) i P number place meets reaches = cc
-reached_is_inside n (Ptr a ty offset) i P number place meets reaches =
-    if_by (λ t. t ≡ WordOf number place → place < length (words_of n number)) (is_unmapped (allocation_at n a)) Unmapped
-    (WordOf a (offset + i))
-    (λ e reached. absurd (cc)) (λ e reached. let number_is : a ≡ number = cc in let place_is : offset + i
-    ≡ place = cc in
-    subst (λ k. k < length (words_of n number)) place_is
-    (subst (λ k. offset + i < length (words_of n k)) number_is meets.0)) reaches
+reached_is_inside n (Ptr a ty offset) i P number place meets reaches = grind (arith, if_by)
 
 pub store_is_inside : (n : NeverState) (c : ℕ) (op : Op) (number place : ℕ) → StoreIsInside n c op number place
-store_is_inside n c (SetNum q i m) number place access stores =
-    reached_is_inside n (register_at n c q) i IsNumber number place access stores
-store_is_inside n c (SetPtr q i p) number place access stores =
-    reached_is_inside n (register_at n c q) i IsPointer number place access stores
-store_is_inside n c (CasPtr q i p r) number place access stores =
-    reached_is_inside n (register_at n c q) i IsPointer number place access stores.0
+store_is_inside n c (SetNum q i m) number place access stores = grind (arith, reached_is_inside)
+store_is_inside n c (SetPtr q i p) number place access stores = grind (arith, reached_is_inside)
+store_is_inside n c (CasPtr q i p r) number place access stores = grind (arith, reached_is_inside)
 store_is_inside n c _ number place access stores = absurd stores

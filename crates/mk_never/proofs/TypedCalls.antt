@@ -4,15 +4,13 @@ use Rattle.std.proofs.Common.{subst, suc, sym, zero, [], ◌*◌, ◌+◌, ◌�
 use Rattle.mk_never.proofs.Soundness.{moved_is_sound, number_suits, pointer_suits, suited_is_sound}
 use Rattle.mk_never.proofs.{Edits.if_by, Typing.new_is_sound, Typing.typed_access, Typing.typed_free}
 use Rattle.mk_never.proofs.{Typing.typed_global, Typing.typed_new, Typing.typed_register, Typing.typed_word}
-use Rattle.mk_never.specs.NeverHeap.{Call, NeverState, after_op, allocation_at, is_same, register_at, start_of}
-use Rattle.mk_never.specs.NeverHeap.{with_new, word_at}
-use Rattle.mk_never.specs.Typed.{IsSound, IsTyped, IsTypedAllocation, KeepsTyped, StaysTyped, kind_in}
+use Rattle.mk_never.specs.Admitted.{AccessIsAdmitted, IsAdmitted, IsOfKind, OperandsAreInRange, StoreIsAdmitted}
+use Rattle.mk_never.specs.NeverHeap.{Call, NeverState, after_op, is_same, register_at, start_of, with_new, word_at}
+use Rattle.mk_never.specs.Typed.{IsSound, IsTyped, KeepsTyped, StaysTyped}
 use Rattle.mk_never.specs.declared.operations.Op.TheVariants.{CasPtr, Clear, Free, GetGlobal, GetPtr, Lea, Move, New}
 use Rattle.mk_never.specs.declared.operations.Op.TheVariants.{SetGlobal, SetNum, SetPtr}
-use Rattle.mk_never.specs.declared.values.Value.TheVariants.{Null, Num}
-use Rattle.mk_never.specs.{Admitted.AccessIsAdmitted, Admitted.IsAdmitted, Admitted.IsNumber, Admitted.IsOfKind}
-use Rattle.mk_never.specs.{Admitted.IsPointer, Admitted.OperandsAreInRange, Admitted.StoreIsAdmitted}
-use Rattle.mk_never.specs.{declared.operations.Op.Op, declared.types.Kind.Kind, declared.types.Kind.TheVariants.To}
+use Rattle.mk_never.specs.declared.types.Kind.TheVariants.{To}
+use Rattle.mk_never.specs.{declared.operations.Op.Op, declared.types.Kind.Kind, declared.values.Value.TheVariants.Null}
 
 module _ (listed : List ℕ) (n : NeverState) (c : ℕ) (typed : IsTyped listed n) where
   -- what an operation of these operands needs, and what it leaves
@@ -29,23 +27,13 @@ module _ (listed : List ℕ) (n : NeverState) (c : ℕ) (typed : IsTyped listed 
       (λ e. typed_register listed (with_new n ty) (typed_new listed n typed ty in_range.1) c d _ (new_is_sound n ty))
 
   set_num_keeps : (q i m : ℕ) → Keeps (SetNum q i m)
-  set_num_keeps q i m in_range access store =
-      typed_access listed n typed (register_at n c q) i IsNumber n _ access typed
-      (λ number place there inside is. typed_word listed n typed number place (Num m) there (number_suits n m _ is))
+  set_num_keeps q i m in_range access store = grind (arith, typed_access, typed_word, number_suits)
 
   get_ptr_keeps : (d q i : ℕ) → Keeps (GetPtr d q i)
-  get_ptr_keeps d q i in_range access store =
-      typed_access listed n typed (register_at n c q) i IsPointer _ _ access (typed_register listed n typed c d Null tt)
-      (λ number place there inside is. let a : IsTypedAllocation n (allocation_at n number) = typed.allocations number
-      there in
-      typed_register listed n typed c d _
-      (suited_is_sound n _ (kind_in n (allocation_at n number) place) is (a.words place inside)))
+  get_ptr_keeps d q i in_range access store = grind (arith, typed_access, typed_register, suited_is_sound)
 
   set_ptr_keeps : (q i p : ℕ) → Keeps (SetPtr q i p)
-  set_ptr_keeps q i p in_range access store =
-      typed_access listed n typed (register_at n c q) i (IsOfKind (register_at n c p)) n _ store typed
-      (λ number place there inside is. typed_word listed n typed number place _ there
-      (pointer_suits n _ _ (register_is_sound p) is))
+  set_ptr_keeps q i p in_range access store = grind (arith, typed_access, typed_word, pointer_suits, register_is_sound)
 
   cas_ptr_keeps : (q i p r : ℕ) → Keeps (CasPtr q i p r)
   cas_ptr_keeps q i p r in_range access store =
@@ -57,9 +45,7 @@ module _ (listed : List ℕ) (n : NeverState) (c : ℕ) (typed : IsTyped listed 
       (λ e. typed))
 
   lea_keeps : (d q i : ℕ) → Keeps (Lea d q i)
-  lea_keeps d q i in_range access store =
-      typed_register listed n typed c d _
-      (moved_is_sound n (register_at n c q) i (λ kind. Unit {0}) typed.allocations (register_is_sound q) access)
+  lea_keeps d q i in_range access store = grind (arith, typed_register, moved_is_sound, register_is_sound)
 
   pub op_keeps : (op : Op) → Keeps op
   op_keeps (New d ty full) = new_keeps d ty full
@@ -105,5 +91,4 @@ start_is_typed listed types callers =
 
 pub stays_typed : (listed : List ℕ) (types : List (List Kind)) (callers : ℕ) (calls : List Call)
     → StaysTyped listed types callers calls
-stays_typed listed types callers calls admitted =
-    calls_keep listed (start_of types callers) calls (start_is_typed listed types callers) admitted
+stays_typed listed types callers calls admitted = grind (arith, calls_keep, start_is_typed)

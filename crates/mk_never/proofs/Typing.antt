@@ -5,15 +5,12 @@ use Rattle.std.proofs.lemmas.List.{get_or_at, length-map}
 use Rattle.mk_never.proofs.Edits.{exists, if_by, push_by, set_by}
 use Rattle.mk_never.proofs.Later.{freed_stays, global_stays, new_stays, register_stays, word_stays}
 use Rattle.mk_never.proofs.Soundness.{allocation_kept, sound_kept, zero_suits}
-use Rattle.mk_never.specs.Admitted.{IsOfKind, Meets}
-use Rattle.mk_never.specs.NeverHeap.{Allocation, NeverState, after_free, allocation_at, is_unmapped, left_at}
-use Rattle.mk_never.specs.NeverHeap.{no_allocation, target_of, with_freed, with_global, with_new, with_register}
-use Rattle.mk_never.specs.NeverHeap.{with_word, words_of}
+use Rattle.mk_never.specs.NeverHeap.{Allocation, NeverState, after_free, allocation_at, left_at, no_allocation}
+use Rattle.mk_never.specs.NeverHeap.{target_of, with_freed, with_global, with_new, with_register, with_word, words_of}
 use Rattle.mk_never.specs.Typed.{IsSound, IsTyped, IsTypedAllocation, Suits, kind_in}
-use Rattle.mk_never.specs.declared.values.Target.TheVariants.{Unmapped, WordOf}
 use Rattle.mk_never.specs.declared.values.Value.TheVariants.{Null, Num, Ptr}
-use Rattle.mk_never.specs.{Laws.Continues, Types.kinds_of, Types.zero_words, declared.types.Kind.Kind}
-use Rattle.mk_never.specs.{declared.types.Kind.TheVariants.To, declared.values.Value.Value}
+use Rattle.mk_never.specs.{Admitted.IsOfKind, Admitted.Meets, Laws.Continues, Types.kinds_of, Types.zero_words}
+use Rattle.mk_never.specs.{declared.types.Kind.Kind, declared.types.Kind.TheVariants.To, declared.values.Value.Value}
 
 module _ (listed : List ℕ) (n : NeverState) (typed : IsTyped listed n) where
   pub typed_register : (c d : ℕ) (v : Value) → IsSound n v → IsTyped listed (with_register n c d v)
@@ -71,9 +68,7 @@ module _ (listed : List ℕ) (n : NeverState) (typed : IsTyped listed n) where
       }
 
   pub typed_freed : (number : ℕ) → number < length n.allocations → IsTyped listed (with_freed n number)
-  typed_freed number there =
-      let before = typed.allocations number there in
-      typed_edit number _ (freed_stays n number) record { ty = before.ty; size = before.size; words = before.words }
+  typed_freed number there = grind (arith, typed_edit, freed_stays)
 
   pub typed_new : (ty : ℕ) → ty < length n.types → IsTyped listed (with_new n ty)
   typed_new ty in_range =
@@ -103,10 +98,7 @@ module _ (listed : List ℕ) (n : NeverState) (typed : IsTyped listed n) where
       → IsTyped listed (left_at (target_of n v i) refused at)
   typed_access Null i Q refused at meets kept reached = kept
   typed_access (Num m) i Q refused at meets kept reached = kept
-  typed_access (Ptr number ty offset) i Q refused at meets kept reached =
-      if_by (λ t. IsTyped listed (left_at t refused at)) (is_unmapped (allocation_at n number)) Unmapped
-      (WordOf number (offset + i))
-      (λ e. kept) (λ e. reached number (offset + i) (exists n number (offset + i) meets.0) meets.0 meets.1)
+  typed_access (Ptr number ty offset) i Q refused at meets kept reached = grind (arith, if_by, exists)
 
 -- the pointer that a New gives
 pub new_is_sound : (n : NeverState) (ty : ℕ) → IsSound (with_new n ty) (Ptr (length n.allocations) ty 0)

@@ -3,19 +3,19 @@ use Rattle.std.proofs.Common.{Bool, IsTrue, List, ℕ, arith, false, get_or, inl
 use Rattle.std.proofs.Common.{refl, subst, suc, sym, true, zero, [], ◌&&◌, ◌*◌, ◌++◌, ◌+◌, ◌<◌, ◌∷◌, ◌≡◌, ◌⊎◌}
 use Rattle.std.proofs.lemmas.List.{get_or_past}
 use Rattle.mk_never.proofs.{Edits.if_by, Edits.left_at_by, Edits.set_by, Later.op_stays, Reached.reached_is_in}
-use Rattle.mk_never.specs.NeverHeap.{Call, NeverState, after_free, after_op, allocation_at, grants_object, is_same}
-use Rattle.mk_never.specs.NeverHeap.{is_unmapped, left_at, moved_on, no_allocation, register_at, target_of, with_freed}
-use Rattle.mk_never.specs.NeverHeap.{with_global, with_new, with_register, with_word, word_at, words_of}
+use Rattle.mk_never.specs.NeverHeap.{Call, NeverState, after_free, after_op, allocation_at, grants_object, is_unmapped}
+use Rattle.mk_never.specs.NeverHeap.{left_at, moved_on, no_allocation, register_at, with_freed, with_global, with_new}
+use Rattle.mk_never.specs.NeverHeap.{with_register, with_word, word_at, words_of}
 use Rattle.mk_never.specs.Reach.{AccessIsToReached, IsReachable, LeadsTo, ReachGrowsByGrants, UnreachedStays}
 use Rattle.mk_never.specs.Reach.{WordLeadsTo, by_global, by_register, by_word}
 use Rattle.mk_never.specs.Types.{kinds_of, zero_of, zero_words}
+use Rattle.mk_never.specs.declared.operations.Op.{Op}
 use Rattle.mk_never.specs.declared.operations.Op.TheVariants.{CasPtr, Clear, Free, GetGlobal, GetPtr, Lea, Move, New}
 use Rattle.mk_never.specs.declared.operations.Op.TheVariants.{SetGlobal, SetNum, SetPtr}
 use Rattle.mk_never.specs.declared.types.Kind.TheVariants.{Num as Number, To}
-use Rattle.mk_never.specs.declared.values.Target.TheVariants.{Unmapped, WordOf}
 use Rattle.mk_never.specs.declared.values.Value.TheVariants.{Null, Num, Ptr}
-use Rattle.mk_never.specs.{Laws.Continues, Laws.Reaches, declared.operations.Op.Op, declared.types.Kind.Kind}
-use Rattle.mk_never.specs.{declared.values.Target.Target, declared.values.Value.Value}
+use Rattle.mk_never.specs.{Laws.Continues, Laws.Reaches, declared.types.Kind.Kind, declared.values.Target.Target}
+use Rattle.mk_never.specs.{declared.values.Target.TheVariants.WordOf, declared.values.Value.Value}
 
 -- The value leads to what is reached alone.
 abbrev LeadsToReached : NeverState → Value → Type 0
@@ -45,13 +45,7 @@ target_leads : (n : NeverState) (v : Value) (i number place : ℕ) → Reaches n
     → LeadsTo v number × (is_unmapped (allocation_at n number) ≡ false)
 target_leads n Null i number place reaches = absurd (cc)
 target_leads n (Num m) i number place reaches = absurd (cc)
-target_leads n (Ptr a ty offset) i number place reaches =
-    if_by (λ t. t ≡ WordOf number place
-    → (a ≡ number) × (is_unmapped (allocation_at n number) ≡ false)) (is_unmapped (allocation_at n a)) Unmapped
-    (WordOf a (offset + i))
-    (λ e reached. absurd (cc))
-    (λ e reached. let number_is : a
-    ≡ number = cc in (number_is, subst (λ k. is_unmapped (allocation_at n k) ≡ false) number_is e)) reaches
+target_leads n (Ptr a ty offset) i number place reaches = grind (arith, if_by)
 
 -- a large allocation that was not unmapped before it was freed
 was_mapped : (freed large : Bool) → (true && large) ≡ false → (freed && large) ≡ false
@@ -151,10 +145,7 @@ module _ (n : NeverState) where
         old_word : (from place number : ℕ) → IsReachedOrNew from → WordLeadsTo n from place number
             → IsReachedOrNew number
         old_word from place number (inl reached) leads = inl (by_word from place number reached leads)
-        old_word from place number (inr new) leads =
-            absurd (subst (λ a. LeadsTo (get_or a.words place Null) number)
-            (get_or_past n.allocations (length n.allocations) no_allocation (omega arith))
-            (subst (λ k. LeadsTo (word_at n k place) number) new leads.1))
+        old_word from place number (inr new) leads = grind (arith, get_or_past)
 
 -- an access reaches no more where what it leaves at the word that it gets to doesn't
 access_adds_none : (n : NeverState) (t : Target) (refused : NeverState) (at : ℕ → ℕ → NeverState)
@@ -177,37 +168,25 @@ module _ (n : NeverState) (c : ℕ) where
   at_register r = register_leads n (8 * c + r)
 
   load_adds_none : (d q i : ℕ) → ReachesNoMore n (after_op n c (GetPtr d q i))
-  load_adds_none d q i =
-      access_adds_none n (target_of n (register_at n c q) i) _ _ (register_adds_none n c d Null (null_leads n))
-      (λ number place got. register_adds_none n c d (word_at n number place)
-      (word_leads n (register_at n c q) i number place (at_register q) got))
+  load_adds_none d q i = grind (arith, access_adds_none, register_adds_none, null_leads, word_leads, at_register)
 
   exchange_adds_none : (q i p r : ℕ) → ReachesNoMore n (after_op n c (CasPtr q i p r))
-  exchange_adds_none q i p r =
-      access_adds_none n (target_of n (register_at n c q) i) n _ (same_adds_none n)
-      (λ number place got. if_by (λ m. ReachesNoMore n m) (is_same (word_at n number place) (register_at n c p)) _ _
-      (λ e. word_adds_none n number place (register_at n c r) (at_register r)) (λ e. same_adds_none n))
+  exchange_adds_none q i p r = grind (arith, access_adds_none, same_adds_none, if_by, word_adds_none, at_register)
 
   new_grows : (d ty : ℕ) (full : Bool) (number : ℕ) → ReachGrowsByGrants n c (New d ty full) number
   new_grows d ty true number reached = inl reached
-  new_grows d ty false number reached = granted (new_adds_one n c d ty number reached) where
-    granted : IsReachedOrNew n number → IsReachable n number ⊎ ((true ≡ true) × (number ≡ length n.allocations))
-    granted (inl old) = inl old
-    granted (inr new) = inr (refl, new)
+  new_grows d ty false number reached = grind (arith, new_adds_one)
 
   pub reach_grows_by_grants : (op : Op) (number : ℕ) → ReachGrowsByGrants n c op number
   reach_grows_by_grants (New d ty full) number = new_grows d ty full number
   reach_grows_by_grants (Free p) number = λ reached. inl (free_adds_none n (register_at n c p) number reached)
   reach_grows_by_grants (SetNum q i m) number =
-      λ reached. inl (access_adds_none n (target_of n (register_at n c q) i) n _ (same_adds_none n)
-      (λ a w got. word_adds_none n a w (Num m) (num_leads n m)) number reached)
+      grind (arith, access_adds_none, same_adds_none, word_adds_none, num_leads)
   reach_grows_by_grants (GetPtr d q i) number = λ reached. inl (load_adds_none d q i number reached)
   reach_grows_by_grants (SetPtr q i p) number =
-      λ reached. inl (access_adds_none n (target_of n (register_at n c q) i) n _ (same_adds_none n)
-      (λ a w got. word_adds_none n a w (register_at n c p) (at_register p)) number reached)
+      grind (arith, access_adds_none, same_adds_none, word_adds_none, at_register)
   reach_grows_by_grants (CasPtr q i p r) number = λ reached. inl (exchange_adds_none q i p r number reached)
-  reach_grows_by_grants (Lea d q i) number =
-      λ reached. inl (register_adds_none n c d _ (moved_leads n (register_at n c q) i (at_register q)) number reached)
+  reach_grows_by_grants (Lea d q i) number = grind (arith, register_adds_none, moved_leads, at_register)
   reach_grows_by_grants (Move d q) number = λ reached. inl (register_adds_none n c d _ (at_register q) number reached)
   reach_grows_by_grants (Clear d) number = λ reached. inl (register_adds_none n c d Null (null_leads n) number reached)
   reach_grows_by_grants (GetGlobal d g) number =

@@ -9,7 +9,6 @@ pub mod Counted
 pub mod Reaching
 pub mod Looks
 pub mod JoinedLooks
-pub mod FilledBooks
 pub mod SoughtPlaces
 pub mod AdmittedNews
 pub mod Serves

@@ -1,5 +1,5 @@
 //! Placing the object of a New.
-ghost use Rattle.std.specs.Prelude.{◌≡◌, ◌==◌, true, false, length};
+ghost use Rattle.std.specs.Prelude.{◌≡◌, ◌==◌, true, false};
 ghost use Rattle.mk_core.specs.Calls.{d_of};
 ghost use Rattle.mk_core.specs.Words.{header_at, phase_of, used_at};
 ghost use Rattle.mk_words.specs.States.{call_of, now_of};
@@ -8,10 +8,9 @@ ghost use Rattle.mk_objects.specs.Placing.{GoesTo, HasCarved, HeldIsExact, MayTa
 ghost use Rattle.mk_objects.specs.Placing.{IsGranted, object_for};
 ghost use Rattle.mk_objects.specs.Shapes.{object_shaped};
 
-use crate::looking::{fill, is_marking, look_at};
+use crate::looking::{is_marking, look_at};
 use crate::objects::{Shape, shape_of};
 use crate::seeking::{seek, seek_cell};
-use mk_books::Book;
 use mk_core::{Tally, Word};
 use mk_geom::Place;
 use mk_never::Op;
@@ -136,29 +135,22 @@ fn serve_now(
 }
 
 /// Grants the object, which no block has a free cell for or which is large, at its place. Returns false where nothing
-/// fits; the book then has the words of all pages. It isn't inlined: an object that goes into a block needs few
-/// registers without it.
+/// fits. It isn't inlined: an object that goes into a block needs few registers without it.
 #[inline(never)]
-fn place_apart(words: &Words, turn: &mut Turn, register: u8, shape: Shape, book: &mut Book) -> bool
+fn place_apart(words: &Words, turn: &mut Turn, register: u8, shape: Shape) -> bool
     requires one_table { turn.old.pass.table ≡ words.now }
     requires register { register ≡ d_of (call_of turn.old.pass).op }
     requires shape { object_shaped shape ≡ object_for turn.old.pass }
     requires unplaced { IsUnplaced turn.old.pass }
     requires exact { HeldIsExact turn.old.pass }
-    requires book { length book.old ≡ turn.old.pass.table.config.pages }
     ensures op { turn.new.op ≡ turn.old.op }
-    ensures book { length book.new ≡ length book.old }
     ensures placed { result ≡ true → IsPlaced turn.old.pass turn.new.pass }
     ensures nowhere { result ≡ false → FitsNowhere turn.old.pass turn.new.pass }
-    ensures shows { result ≡ false → book.new ≡ (now_of turn.new.pass).words.pages }
     ensures reached { SweepsNothing turn.old.pass turn.new.pass }
 {
     turn.is_in_order();
     match seek(words, turn, shape) {
-        None => {
-            fill(words, turn, book);
-            false
-        }
+        None => false,
         Some(place) => {
             let page = turn.page(place.page);
             serve_now(
@@ -175,17 +167,16 @@ fn place_apart(words: &Words, turn: &mut Turn, register: u8, shape: Shape, book:
     }
 }
 
-/// Grants the object of a New at its place. Returns false where nothing fits; the book then has the words of all pages.
-pub fn place_object(words: &Words, turn: &mut Turn, book: &mut Book) -> bool
+/// Grants the object of a New at its place. Returns false where nothing fits. It is inlined, so that no registers are
+/// saved for it.
+#[inline(always)]
+pub fn place_object(words: &Words, turn: &mut Turn) -> bool
     requires one_table { turn.old.pass.table ≡ words.now }
     requires unplaced { IsUnplaced turn.old.pass }
     requires exact { HeldIsExact turn.old.pass }
-    requires book { length book.old ≡ turn.old.pass.table.config.pages }
     ensures op { turn.new.op ≡ turn.old.op }
-    ensures book { length book.new ≡ length book.old }
     ensures placed { result ≡ true → IsPlaced turn.old.pass turn.new.pass }
     ensures nowhere { result ≡ false → FitsNowhere turn.old.pass turn.new.pass }
-    ensures shows { result ≡ false → book.new ≡ (now_of turn.new.pass).words.pages }
     ensures reached { SweepsNothing turn.old.pass turn.new.pass }
 {
     turn.is_in_order();
@@ -195,7 +186,7 @@ pub fn place_object(words: &Words, turn: &mut Turn, book: &mut Book) -> bool
     };
     let shape = shape_of(words.types(), ty);
     match seek_cell(words, turn, shape) {
-        None => place_apart(words, turn, d, shape, book),
+        None => place_apart(words, turn, d, shape),
         Some(place) => {
             let used = turn.page(place.page).used;
             serve_now(words, turn, d, shape, place, used, false);

@@ -151,3 +151,21 @@ sorted_anew before after page class place earlier used leaf free known is low is
           ∙ sorted set is_set
           ∙ same_elsewhere set class leaf earlier used is_set (λ same. other (same ∙ sym is))
     ]
+
+-- and one that has a free cell with both used words, or with neither
+pub sorted_alike : (sets : List ℕ) (page class earlier used : ℕ) (leaf : Bool) → class < 8
+    → is_some (first_where not (bits_of (cells_of class) earlier))
+    ≡ is_some (first_where not (bits_of (cells_of class) used))
+    → IsInItsSets sets page (use_of_kind (Block class leaf) earlier)
+    → IsInItsSets sets page (use_of_kind (Block class leaf) used)
+sorted_alike sets page class earlier used leaf known alike sorted set is_set =
+    sorted set is_set
+    ∙ elim (cases_eq set (class_place class leaf)) [
+      | inl own ↦
+          ap (λ s. is_of_set s (use_of_kind (Block class leaf) earlier)) own
+          ∙ free_in_own_set class leaf earlier known
+          ∙ alike
+          ∙ sym (free_in_own_set class leaf used known)
+          ∙ ap (λ s. is_of_set s (use_of_kind (Block class leaf) used)) (sym own)
+      | inr other ↦ same_elsewhere set class leaf earlier used is_set other
+    ]

@@ -3,14 +3,13 @@ use Rattle.std.proofs.Common.{le-ltb, lt-ltb, ne_eqb, take_at, ◌&&◌, ◌/◌
 use Rattle.std.proofs.lemmas.Bool.{and_left, and_right}
 use Rattle.std.proofs.lemmas.List.{get_or-replicate, get_or_past, length-replicate}
 use Rattle.std.proofs.{lemmas.List.Sums.sum_by-cons, lemmas.Nat.Bits.bit_at-zero}
-use Rattle.mk_page_map.proofs.Vocabulary.{AreSets, FitPages, IsInItsSets, List, Nothing, OthersStay, Page, PageUse}
-use Rattle.mk_page_map.proofs.Vocabulary.{Shows, ℕ, ap, arith, bit_at, cases_eq, cases_lt, cond, drop, false, free_page}
-use Rattle.mk_page_map.proofs.Vocabulary.{get_or, inl, inr, is_member, is_of_set, is_resident_page, length, nat_eq}
-use Rattle.mk_page_map.proofs.Vocabulary.{nat_lt, not, page_at, refl, replicate, resident_pages, subst, suc, sym, take}
-use Rattle.mk_page_map.proofs.Vocabulary.{true, use_of_page, uses_of_pages, zero, ◌%◌, ◌*◌, ◌++◌, ◌+◌, ◌<◌, ◌∙◌, ◌≡◌}
-use Rattle.mk_page_map.proofs.Vocabulary.{◌≤◌}
-use Rattle.mk_page_map.proofs.BlockSets.{OtherSetsStay, each_set, nothing_of_set}
-use Rattle.mk_page_map.proofs.Showing.{known_by, member_at}
+use Rattle.mk_page_map.proofs.Vocabulary.{AreSets, FitPages, IsInItsSets, List, Nothing, Page, PageUse, Shows, ℕ, ap}
+use Rattle.mk_page_map.proofs.Vocabulary.{arith, bit_at, cases_eq, cases_lt, cond, drop, false, free_page, get_or, inl}
+use Rattle.mk_page_map.proofs.Vocabulary.{inr, is_member, is_of_set, is_resident_page, length, nat_eq, nat_lt, not}
+use Rattle.mk_page_map.proofs.Vocabulary.{page_at, refl, replicate, resident_pages, subst, suc, sym, take, use_of_page}
+use Rattle.mk_page_map.proofs.Vocabulary.{uses_of_pages, zero, ◌%◌, ◌*◌, ◌++◌, ◌+◌, ◌-◌, ◌<◌, ◌∙◌, ◌≡◌, ◌≤◌}
+use Rattle.mk_page_map.proofs.{BlockSets.each_set, BlockSets.nothing_of_set, Showing.known_by, Showing.member_at}
+use Rattle.mk_page_map.specs.PageSets.{OtherWordsStay, word_in_set}
 
 -- the first pages are in set 16, and nothing is in another
 abbrev pub HaveFree : List ℕ → ℕ → Type 0
@@ -38,40 +37,77 @@ zero_sets = record {
 pub none_in_zeros : (n set number : ℕ) → is_member (replicate n 0) set number ≡ false
 none_in_zeros n set number = zero_bit n (65 * set + 1 + number / 64) (number % 64)
 
-pub none_free : HaveFree (replicate 1300 0) 0
-none_free set number is_set few =
-    none_in_zeros 1300 set number ∙ sym (and_right (nat_eq set 16) (nat_lt number 0) (le-ltb number 0 (omega arith)))
+-- The first words of set 16 have those of this many pages that they have a bit for, and nothing else is in a set.
+abbrev pub HaveFreeBelow : List ℕ → ℕ → ℕ → Type 0
+HaveFreeBelow sets words pages =
+    (set number : ℕ) → set < 20 → number < 4096
+    → is_member sets set number ≡ (nat_eq set 16 && (nat_lt (number / 64) words && nat_lt number pages))
 
--- one page more
-pub one_free_more : (before after : List ℕ) (page : ℕ) → HaveFree before page → is_member after 16 page ≡ true
-    → OtherSetsStay before after page 16 → OthersStay before after page → HaveFree after (page + 1)
-one_free_more before after page free put sets pages set number is_set few = elim (cases_eq number page) [
-  | inl same ↦ elim (cases_eq set 16) [
-    | inl own ↦
-        ap (λ s. is_member after s number) own
-        ∙ ap (is_member after 16) same
-        ∙ put
-        ∙ sym (ap (λ s. nat_eq s 16 && nat_lt number (page + 1)) own
-        ∙ lt-ltb number (page + 1) (omega arith))
-    | inr other ↦
-        ap (is_member after set) same
-        ∙ sets set is_set other
-        ∙ ap (is_member before set) (sym same)
-        ∙ free set number is_set few
-        ∙ and_left (nat_eq set 16) (nat_lt number page) (ne_eqb set 16 other)
-        ∙ sym (and_left (nat_eq set 16) (nat_lt number (page + 1)) (ne_eqb set 16 other))
-  ]
-  | inr differ ↦
-      pages set number is_set few differ
-      ∙ free set number is_set few
-      ∙ ap (λ t. nat_eq set 16 && t) (later number page differ)
-]
+pub none_free : (pages : ℕ) → HaveFreeBelow (replicate 1300 0) 0 pages
+none_free pages set number is_set few =
+    none_in_zeros 1300 set number
+    ∙ sym (and_right (nat_eq set 16) (nat_lt (number / 64) 0 && nat_lt number pages)
+    (and_left (nat_lt (number / 64) 0) (nat_lt number pages) (le-ltb (number / 64) 0 (omega arith))))
+
+-- of a word the pages that there are
+in_word : (number words pages : ℕ) → number / 64 ≡ words
+    → nat_lt (number % 64) (pages - 64 * words) ≡ (nat_lt (number / 64) (words + 1) && nat_lt number pages)
+in_word number words pages here =
+    (elim (cases_lt number pages) [
+      | inl low ↦
+          lt-ltb (number % 64) (pages - 64 * words) (omega arith) ∙ sym (lt-ltb number pages low)
+      | inr high ↦
+          le-ltb (number % 64) (pages - 64 * words) (omega arith) ∙ sym (le-ltb number pages high)
+    ])
+    ∙ sym (ap (λ b. b && nat_lt number pages) (lt-ltb (number / 64) (words + 1) (omega arith)))
+
+-- one word more
+pub one_word_more : (before after : List ℕ) (words pages word : ℕ) → HaveFreeBelow before words pages
+    → word_in_set after 16 words ≡ word → OtherWordsStay before after 16 words
+    → ((place : ℕ) → place < 64 → nat_eq (bit_at word place) 1 ≡ nat_lt place (pages - 64 * words))
+    → HaveFreeBelow after (words + 1) pages
+one_word_more before after words pages word free is stay bits set number is_set few =
+    elim (cases_eq (number / 64) words) [
+      | inl here ↦ elim (cases_eq set 16) [
+        | inl own ↦
+            ap (λ s. is_member after s number) own
+            ∙ ap (λ w. nat_eq (bit_at (word_in_set after 16 w) (number % 64)) 1) here
+            ∙ ap (λ n. nat_eq (bit_at n (number % 64)) 1) is
+            ∙ bits (number % 64) (omega arith)
+            ∙ in_word number words pages here
+            ∙ sym (ap (λ s. nat_eq s 16 && (nat_lt (number / 64) (words + 1) && nat_lt number pages)) own)
+        | inr other ↦
+            ap (λ n. nat_eq (bit_at n (number % 64)) 1)
+            (stay set (number / 64) (omega arith) (λ same _. other same))
+            ∙ free set number is_set few
+            ∙ and_left (nat_eq set 16) (nat_lt (number / 64) words && nat_lt number pages) (ne_eqb set 16 other)
+            ∙ sym (and_left (nat_eq set 16) (nat_lt (number / 64) (words + 1) && nat_lt number pages)
+            (ne_eqb set 16 other))
+      ]
+      | inr differ ↦
+          ap (λ n. nat_eq (bit_at n (number % 64)) 1)
+          (stay set (number / 64) (omega arith) (λ _ same. differ same))
+          ∙ free set number is_set few
+          ∙ ap (λ t. nat_eq set 16 && (t && nat_lt number pages)) (later (number / 64) words differ)
+    ]
   where
     later : (n m : ℕ) → (n ≡ m → ⊥) → nat_lt n m ≡ nat_lt n (m + 1)
     later n m differ = elim (cases_lt n m) [
       | inl low ↦ lt-ltb n m low ∙ sym (lt-ltb n (m + 1) (omega arith))
       | inr high ↦ le-ltb n m high ∙ sym (le-ltb n (m + 1) (omega arith))
     ]
+
+-- all words that have a page
+pub all_free : (sets : List ℕ) (words pages : ℕ) → pages ≤ 64 * words → HaveFreeBelow sets words pages
+    → HaveFree sets pages
+all_free sets words pages enough free set number is_set few =
+    free set number is_set few
+    ∙ ap (λ t. nat_eq set 16 && t) (elim (cases_lt number pages) [
+      | inl low ↦ ap (λ b. b && nat_lt number pages) (lt-ltb (number / 64) words (omega arith))
+      | inr high ↦
+          and_right (nat_lt (number / 64) words) (nat_lt number pages) (le-ltb number pages high)
+          ∙ sym (le-ltb number pages high)
+    ])
 
 -- what a Vec holds after a write through its slice
 pub written : (new old : List ℕ) (n : ℕ) → length new ≡ n → take n (new ++ drop (length new) old) ≡ new

@@ -1,11 +1,14 @@
 -- The lowest 1 of a word, from a place on, and a word with one bit put.
 use Rattle.std.proofs.lemmas.Nat.Bits.{bit_at-lt, bit_at-pow_other, bit_at-pow_same, bit_at-zero, bit_at_and}
 use Rattle.std.proofs.lemmas.Nat.Bits.{bit_at_clear_other, bit_at_clear_same, bit_at_mask_below, bit_at_mask_inside}
+use Rattle.std.proofs.lemmas.Nat.Bits.{bit_at_ones, bit_at_ones_above}
 use Rattle.std.proofs.lemmas.Nat.Bits.{bit_at_set_other, bit_at_set_same, bit_at_xor, ones_shl}
-use Rattle.std.proofs.{Common.bit_and, Common.bit_or, Common.eq-eqb, Common.min, Common.◌^◌, Math.Pow.pow-lt}
+use Rattle.std.proofs.{Common.le-ltb, Common.lt-ltb, Common.bit_and, Common.bit_or, Common.eq-eqb, Common.min}
+use Rattle.std.proofs.{Common.◌^◌, Math.Pow.pow-lt}
 use Rattle.std.specs.{Int.bit_not, Int.Bits.bit_xor}
 use Rattle.mk_page_map.proofs.Vocabulary.{IsNext, None, Some, ℕ, ap, arith, bit_at, cases_lt, false, inl, inr, nat_eq}
-use Rattle.mk_page_map.proofs.Vocabulary.{not, refl, suc, sym, true, w64, zero, ◌%◌, ◌*◌, ◌+◌, ◌-◌, ◌<◌, ◌∙◌, ◌≡◌, ◌≤◌}
+use Rattle.mk_page_map.proofs.Vocabulary.{nat_lt, not, refl, suc, sym, true, w64, zero, ◌%◌, ◌*◌, ◌+◌, ◌-◌, ◌<◌, ◌∙◌}
+use Rattle.mk_page_map.proofs.Vocabulary.{◌≡◌, ◌≤◌}
 
 -- the word without its bits below a place, as the code computes it
 abbrev pub rest_from : ℕ → ℕ → ℕ
@@ -99,3 +102,16 @@ turned_bit_others word place k within other =
     ∙ (let none : bit_at (2 ^ place) k ≡ 0 = bit_at-pow_other place k other in
     let few = bit_at-lt word k in
     omega arith)
+
+-- a word whose lowest bits are 1, and one of which all are
+pub low_ones : (end k : ℕ) → nat_eq (bit_at (2 ^ end - 1) k) 1 ≡ nat_lt k end
+low_ones end k = elim (cases_lt k end) [
+  | inl below ↦ ap (λ n. nat_eq n 1) (bit_at_ones end k below) ∙ sym (lt-ltb k end below)
+  | inr above ↦ ap (λ n. nat_eq n 1) (bit_at_ones_above end k above) ∙ sym (le-ltb k end above)
+]
+
+pub ones_shifted : (end : ℕ) → end < 64 → 1 * 2 ^ end % 2 ^ 64 - 1 ≡ 2 ^ end - 1
+ones_shifted end within = ap (λ n. n - 1) (one_at end within)
+
+pub all_ones : (end k : ℕ) → 64 ≤ end → k < 64 → nat_eq (bit_at (2 ^ 64 - 1) k) 1 ≡ nat_lt k end
+all_ones end k long within = low_ones 64 k ∙ lt-ltb k 64 within ∙ sym (lt-ltb k end (omega arith))

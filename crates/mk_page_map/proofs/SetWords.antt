@@ -1,125 +1,132 @@
--- What a page put into a set, or taken out, makes of the words of the sets.
+-- What a store of a word, and a page put into a set or taken out, make of the sets.
 use Rattle.std.proofs.Common.{◌/◌}
-use Rattle.mk_page_map.proofs.Vocabulary.{AreSets, Bool, List, OthersStay, ℕ, ap, arith, bit_at, cases_eq, get_or}
-use Rattle.mk_page_map.proofs.Vocabulary.{get_or-set_other, get_or-set_same, inl, inr, is_member, length-set, nat_eq}
-use Rattle.mk_page_map.proofs.Vocabulary.{not, set, sym, ◌%◌, ◌*◌, ◌+◌, ◌<◌, ◌∙◌, ◌≡◌}
-use Rattle.mk_page_map.specs.PageSets.{summary_of, word_in_set}
+use Rattle.mk_page_map.proofs.Vocabulary.{AreSets, Bool, List, OthersStay, ℕ, ap, arith, bit_at, cases_eq, false}
+use Rattle.mk_page_map.proofs.Vocabulary.{get_or, get_or-set_other, get_or-set_same, inl, inr, is_member, length-set}
+use Rattle.mk_page_map.proofs.Vocabulary.{nat_eq, not, refl, set, sym, true, ◌%◌, ◌*◌, ◌+◌, ◌<◌, ◌∙◌, ◌≡◌}
+use Rattle.mk_page_map.specs.PageSets.{OtherWordsStay, summary_of, word_in_set}
+use mathlib.Core.Bool.{beq}
 
-abbrev pub after_put : List ℕ → ℕ → ℕ → ℕ → ℕ → List ℕ
-after_put sets s page word summary = set (set sets (65 * s + 1 + page / 64) word) (65 * s) summary
+-- two Booleans that don't differ
+pub same : (a b : Bool) → not (beq a b) ≡ false → a ≡ b
+same true true h = refl
+same true false h = cc
+same false true h = cc
+same false false h = refl
 
--- what is put: the page's word in the set and the set's summary, as they are then
-pub record Puts (sets : List ℕ) (s page : ℕ) (inside : Bool) (word summary : ℕ) : Type 0 where
+-- and of two that differ one is the other turned
+pub turned : (a b : Bool) → not (beq a b) ≡ true → not a ≡ b
+turned true true h = cc
+turned true false h = refl
+turned false true h = refl
+turned false false h = cc
+
+abbrev pub after_store : List ℕ → ℕ → ℕ → ℕ → ℕ → List ℕ
+after_store sets s word bits summary = set (set sets (65 * s + 1 + word) bits) (65 * s) summary
+
+-- a word of a set is stored, and the set's summary, as it is then
+pub record StoresWord (sets : List ℕ) (s word bits summary : ℕ) : Type 0 where
   pub are_sets : AreSets sets
   pub is_set : s < 20
-  pub is_page : page < 4096
-  pub bit : nat_eq (bit_at word (page % 64)) 1 ≡ inside
-  pub other_bits : (k : ℕ) → k < 64 → (k ≡ page % 64 → ⊥) → bit_at word k ≡ bit_at (word_in_set sets s (page / 64)) k
-  pub mark : nat_eq (bit_at summary (page / 64)) 1 ≡ not (nat_eq word 0)
-  pub other_marks : (k : ℕ) → k < 64 → (k ≡ page / 64 → ⊥) → bit_at summary k ≡ bit_at (summary_of sets s) k
+  pub is_word : word < 64
+  pub mark : nat_eq (bit_at summary word) 1 ≡ not (nat_eq bits 0)
+  pub other_marks : (k : ℕ) → k < 64 → (k ≡ word → ⊥) → bit_at summary k ≡ bit_at (summary_of sets s) k
 
-put_word : (sets : List ℕ) (s page : ℕ) (inside : Bool) (word summary : ℕ) → Puts sets s page inside word summary
-    → word_in_set (after_put sets s page word summary) s (page / 64) ≡ word
-put_word sets s page inside word summary puts =
-    get_or-set_other (set sets (65 * s + 1 + page / 64) word) (65 * s) (65 * s + 1 + page / 64) summary 0
+pub stored_word : (sets : List ℕ) (s word bits summary : ℕ) → StoresWord sets s word bits summary
+    → word_in_set (after_store sets s word bits summary) s word ≡ bits
+stored_word sets s word bits summary stores =
+    get_or-set_other (set sets (65 * s + 1 + word) bits) (65 * s) (65 * s + 1 + word) summary 0
     (λ same. absurd (omega arith))
-    ∙ get_or-set_same sets (65 * s + 1 + page / 64) word 0
-    (omega (arith, puts.are_sets.long, puts.is_set, puts.is_page))
+    ∙ get_or-set_same sets (65 * s + 1 + word) bits 0
+    (omega (arith, stores.are_sets.long, stores.is_set, stores.is_word))
 
-other_word : (sets : List ℕ) (s page word summary other w : ℕ) → w < 64 → page < 4096
-    → (other ≡ s → w ≡ page / 64 → ⊥)
-    → word_in_set (after_put sets s page word summary) other w ≡ word_in_set sets other w
-other_word sets s page word summary other w within is_page differ =
-    get_or-set_other (set sets (65 * s + 1 + page / 64) word) (65 * s) (65 * other + 1 + w) summary 0
+pub other_word : (sets : List ℕ) (s word bits summary : ℕ) → word < 64
+    → OtherWordsStay sets (after_store sets s word bits summary) s word
+other_word sets s word bits summary is_word other w within differ =
+    get_or-set_other (set sets (65 * s + 1 + word) bits) (65 * s) (65 * other + 1 + w) summary 0
     (λ same. absurd (omega arith))
-    ∙ get_or-set_other sets (65 * s + 1 + page / 64) (65 * other + 1 + w) word 0
+    ∙ get_or-set_other sets (65 * s + 1 + word) (65 * other + 1 + w) bits 0
     (λ same. differ (omega arith) (omega arith))
 
-put_summary : (sets : List ℕ) (s page : ℕ) (inside : Bool) (word summary : ℕ) → Puts sets s page inside word summary
-    → summary_of (after_put sets s page word summary) s ≡ summary
-put_summary sets s page inside word summary puts =
-    get_or-set_same (set sets (65 * s + 1 + page / 64) word) (65 * s) summary 0
-    (omega (arith, puts.are_sets.long, puts.is_set, length-set sets (65 * s + 1 + page / 64) word))
+stored_summary : (sets : List ℕ) (s word bits summary : ℕ) → StoresWord sets s word bits summary
+    → summary_of (after_store sets s word bits summary) s ≡ summary
+stored_summary sets s word bits summary stores =
+    get_or-set_same (set sets (65 * s + 1 + word) bits) (65 * s) summary 0
+    (omega (arith, stores.are_sets.long, stores.is_set, length-set sets (65 * s + 1 + word) bits))
 
-other_summary : (sets : List ℕ) (s page word summary other : ℕ) → page < 4096 → (other ≡ s → ⊥)
-    → summary_of (after_put sets s page word summary) other ≡ summary_of sets other
-other_summary sets s page word summary other is_page differ =
-    get_or-set_other (set sets (65 * s + 1 + page / 64) word) (65 * s) (65 * other) summary 0
+other_summary : (sets : List ℕ) (s word bits summary other : ℕ) → word < 64 → (other ≡ s → ⊥)
+    → summary_of (after_store sets s word bits summary) other ≡ summary_of sets other
+other_summary sets s word bits summary other is_word differ =
+    get_or-set_other (set sets (65 * s + 1 + word) bits) (65 * s) (65 * other) summary 0
     (λ same. differ (omega arith))
-    ∙ get_or-set_other sets (65 * s + 1 + page / 64) (65 * other) word 0 (λ same. absurd (omega arith))
+    ∙ get_or-set_other sets (65 * s + 1 + word) (65 * other) bits 0 (λ same. absurd (omega arith))
 
--- the summary that the code reads after it has stored the page's word
-pub summary_stays : (sets : List ℕ) (s page word : ℕ)
-    → get_or (set sets (65 * s + 1 + page / 64) word) (65 * s) 0 ≡ summary_of sets s
-summary_stays sets s page word = get_or-set_other sets (65 * s + 1 + page / 64) (65 * s) word 0
+-- the summary that the code reads after it has stored the word
+pub summary_stays : (sets : List ℕ) (s word bits : ℕ)
+    → get_or (set sets (65 * s + 1 + word) bits) (65 * s) 0 ≡ summary_of sets s
+summary_stays sets s word bits = get_or-set_other sets (65 * s + 1 + word) (65 * s) bits 0
     (λ same. absurd (omega arith))
 
-pub put_are_sets : (sets : List ℕ) (s page : ℕ) (inside : Bool) (word summary : ℕ)
-    → Puts sets s page inside word summary → AreSets (after_put sets s page word summary)
-put_are_sets sets s page inside word summary puts =
+pub stored_are_sets : (sets : List ℕ) (s word bits summary : ℕ) → StoresWord sets s word bits summary
+    → AreSets (after_store sets s word bits summary)
+stored_are_sets sets s word bits summary stores =
     record {
-      long = length-set (set sets (65 * s + 1 + page / 64) word) (65 * s) summary
-          ∙ length-set sets (65 * s + 1 + page / 64) word
-          ∙ puts.are_sets.long;
+      long = length-set (set sets (65 * s + 1 + word) bits) (65 * s) summary
+          ∙ length-set sets (65 * s + 1 + word) bits
+          ∙ stores.are_sets.long;
       summaries = λ other w is_set within. elim (cases_eq other s) [
-        | inl same ↦ elim (cases_eq w (page / 64)) [
+        | inl same ↦ elim (cases_eq w word) [
           | inl here ↦
-              ap (λ t. nat_eq (bit_at (summary_of (after_put sets s page word summary) t) w) 1) same
-              ∙ ap (λ n. nat_eq (bit_at n w) 1) (put_summary sets s page inside word summary puts)
+              ap (λ t. nat_eq (bit_at (summary_of (after_store sets s word bits summary) t) w) 1) same
+              ∙ ap (λ n. nat_eq (bit_at n w) 1) (stored_summary sets s word bits summary stores)
               ∙ ap (λ k. nat_eq (bit_at summary k) 1) here
-              ∙ puts.mark
-              ∙ sym (ap (λ t. not (nat_eq (word_in_set (after_put sets s page word summary) t w) 0)) same
-              ∙ ap (λ k. not (nat_eq (word_in_set (after_put sets s page word summary) s k) 0)) here
-              ∙ ap (λ n. not (nat_eq n 0)) (put_word sets s page inside word summary puts))
+              ∙ stores.mark
+              ∙ sym (ap (λ t. not (nat_eq (word_in_set (after_store sets s word bits summary) t w) 0)) same
+              ∙ ap (λ k. not (nat_eq (word_in_set (after_store sets s word bits summary) s k) 0)) here
+              ∙ ap (λ n. not (nat_eq n 0)) (stored_word sets s word bits summary stores))
           | inr there ↦
-              ap (λ t. nat_eq (bit_at (summary_of (after_put sets s page word summary) t) w) 1) same
-              ∙ ap (λ n. nat_eq (bit_at n w) 1) (put_summary sets s page inside word summary puts)
-              ∙ ap (λ b. nat_eq b 1) (puts.other_marks w within there)
-              ∙ puts.are_sets.summaries s w puts.is_set within
-              ∙ sym (ap (λ t. not (nat_eq (word_in_set (after_put sets s page word summary) t w) 0)) same
+              ap (λ t. nat_eq (bit_at (summary_of (after_store sets s word bits summary) t) w) 1) same
+              ∙ ap (λ n. nat_eq (bit_at n w) 1) (stored_summary sets s word bits summary stores)
+              ∙ ap (λ b. nat_eq b 1) (stores.other_marks w within there)
+              ∙ stores.are_sets.summaries s w stores.is_set within
+              ∙ sym (ap (λ t. not (nat_eq (word_in_set (after_store sets s word bits summary) t w) 0)) same
               ∙ ap (λ n. not (nat_eq n 0))
-              (other_word sets s page word summary s w within puts.is_page (λ _ here. there here)))
+              (other_word sets s word bits summary stores.is_word s w within (λ _ here. there here)))
         ]
         | inr differ ↦
-            ap (λ n. nat_eq (bit_at n w) 1) (other_summary sets s page word summary other puts.is_page differ)
-            ∙ puts.are_sets.summaries other w is_set within
+            ap (λ n. nat_eq (bit_at n w) 1) (other_summary sets s word bits summary other stores.is_word differ)
+            ∙ stores.are_sets.summaries other w is_set within
             ∙ sym (ap (λ n. not (nat_eq n 0))
-            (other_word sets s page word summary other w within puts.is_page (λ same _. differ same)))
+            (other_word sets s word bits summary stores.is_word other w within (λ same _. differ same)))
       ];
     }
 
-pub put_this : (sets : List ℕ) (s page : ℕ) (inside : Bool) (word summary : ℕ) → Puts sets s page inside word summary
-    → is_member (after_put sets s page word summary) s page ≡ inside
-put_this sets s page inside word summary puts =
-    ap (λ n. nat_eq (bit_at n (page % 64)) 1) (put_word sets s page inside word summary puts) ∙ puts.bit
+-- a page is put, by its word
 
-pub put_other_sets : (sets : List ℕ) (s page : ℕ) (inside : Bool) (word summary : ℕ)
-    → Puts sets s page inside word summary → (other : ℕ) → (other ≡ s → ⊥)
-    → is_member (after_put sets s page word summary) other page ≡ is_member sets other page
-put_other_sets sets s page inside word summary puts other differ =
-    let is_page : page < 4096 = puts.is_page in
-    ap (λ n. nat_eq (bit_at n (page % 64)) 1)
-    (other_word sets s page word summary other (page / 64) (omega arith) is_page (λ same _. differ same))
+pub put_other_set : (before after : List ℕ) (s page other : ℕ) → page < 4096
+    → OtherWordsStay before after s (page / 64) → (other ≡ s → ⊥)
+    → is_member after other page ≡ is_member before other page
+put_other_set before after s page other is_page stay differ =
+    ap (λ n. nat_eq (bit_at n (page % 64)) 1) (stay other (page / 64) (omega arith) (λ same _. differ same))
 
-pub put_other_pages : (sets : List ℕ) (s page : ℕ) (inside : Bool) (word summary : ℕ)
-    → Puts sets s page inside word summary → OthersStay sets (after_put sets s page word summary) page
-put_other_pages sets s page inside word summary puts other number is_set is_number differ =
+pub put_other_pages : (before after : List ℕ) (s page bits : ℕ) → page < 4096
+    → word_in_set after s (page / 64) ≡ bits → OtherWordsStay before after s (page / 64)
+    → ((k : ℕ) → (k ≡ page % 64 → ⊥) → bit_at bits k ≡ bit_at (word_in_set before s (page / 64)) k)
+    → OthersStay before after page
+put_other_pages before after s page bits is_page is stay others_stay other number is_set is_number differ =
     elim (cases_eq (number / 64) (page / 64)) [
       | inl one_word ↦ elim (cases_eq other s) [
         | inl same ↦
-            ap (λ t. is_member (after_put sets s page word summary) t number) same
-            ∙ ap (λ w. nat_eq (bit_at (word_in_set (after_put sets s page word summary) s w) (number % 64)) 1) one_word
-            ∙ ap (λ n. nat_eq (bit_at n (number % 64)) 1) (put_word sets s page inside word summary puts)
-            ∙ ap (λ b. nat_eq b 1)
-            (puts.other_bits (number % 64) (omega arith) (λ same_bit. differ (omega arith)))
-            ∙ ap (λ w. nat_eq (bit_at (word_in_set sets s w) (number % 64)) 1) (sym one_word)
-            ∙ ap (λ t. is_member sets t number) (sym same)
+            ap (λ t. is_member after t number) same
+            ∙ ap (λ w. nat_eq (bit_at (word_in_set after s w) (number % 64)) 1) one_word
+            ∙ ap (λ n. nat_eq (bit_at n (number % 64)) 1) is
+            ∙ ap (λ b. nat_eq b 1) (others_stay (number % 64) (λ same_bit. differ (omega arith)))
+            ∙ ap (λ w. nat_eq (bit_at (word_in_set before s w) (number % 64)) 1) (sym one_word)
+            ∙ ap (λ t. is_member before t number) (sym same)
         | inr others ↦
             ap (λ n. nat_eq (bit_at n (number % 64)) 1)
-            (other_word sets s page word summary other (number / 64) (omega arith) puts.is_page
-            (λ same _. others same))
+            (stay other (number / 64) (omega arith) (λ same _. others same))
       ]
       | inr words ↦
           ap (λ n. nat_eq (bit_at n (number % 64)) 1)
-          (other_word sets s page word summary other (number / 64) (omega arith) puts.is_page (λ _ here. words here))
+          (stay other (number / 64) (omega arith) (λ _ here. words here))
     ]

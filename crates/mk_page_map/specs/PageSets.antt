@@ -38,6 +38,12 @@ is_of_set set stands =
 abbrev pub IsInItsSets : List ℕ → ℕ → PageUse → Type 0
 IsInItsSets sets number stands = (set : ℕ) → set < 18 → is_member sets set number ≡ is_of_set set stands
 
+-- all other words of the sets are as they were
+abbrev pub OtherWordsStay : List ℕ → List ℕ → ℕ → ℕ → Type 0
+OtherWordsStay before after set word =
+    (other place : ℕ) → place < 64 → (other ≡ set → place ≡ word → ⊥)
+    → word_in_set after other place ≡ word_in_set before other place
+
 -- all other pages are in the sets that they were in
 abbrev pub OthersStay : List ℕ → List ℕ → ℕ → Type 0
 OthersStay before after page =

@@ -4,7 +4,7 @@ ghost use Rattle.mk_geom.specs.declared.pages.Page.{Page};
 ghost use Rattle.mk_page_map.specs.KnownPages.{Shows, is_uncleaned, with_header, with_used};
 ghost use Rattle.mk_page_map.specs.Members.{page_at};
 
-use crate::kinds::{is_resident, kind_of};
+use crate::kinds::kind_of;
 use crate::page_map::PageMap;
 use crate::sets::put;
 use crate::sorting::{UNCLEANED, sort_by_header, sort_by_quarantine, sort_by_used};
@@ -21,13 +21,16 @@ impl PageMap {
             → is_uncleaned self.new number ≡ is_uncleaned self.old number }
     {
         let place = page as usize;
-        let used = self.pages[place].used;
-        let before = kind_of(self.pages[place].header);
+        let Page {
+            header: found,
+            used,
+        } = self.pages[place];
+        let before = kind_of(found);
         let after = kind_of(header);
-        let was_resident = u64::from(is_resident(self.pages[place].header));
         self.pages[place] = Page { header, used };
         sort_by_header(&mut self.sets, page, before, after, used);
-        self.resident = self.resident + u64::from(is_resident(header)) - was_resident;
+        let was_resident = u64::from(before.is_resident());
+        self.resident = self.resident + u64::from(after.is_resident()) - was_resident;
     }
 
     /// A used word was stored.
@@ -38,9 +41,12 @@ impl PageMap {
         ensures uncleaned { (number : ℕ) → is_uncleaned self.new number ≡ is_uncleaned self.old number }
     {
         let place = page as usize;
-        let header = self.pages[place].header;
+        let Page {
+            header,
+            used: before,
+        } = self.pages[place];
         self.pages[place] = Page { header, used };
-        sort_by_used(&mut self.sets, page, kind_of(header), used);
+        sort_by_used(&mut self.sets, page, kind_of(header), before, used);
     }
 
     /// A quarantine word was stored, which has these freed cells.

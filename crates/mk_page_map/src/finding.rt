@@ -106,4 +106,12 @@ impl PageMap {
     {
         self.pages[page as usize]
     }
+
+    /// The header and used word of each page.
+    pub fn pages(&self) -> &[Page]
+        ensures { (pages : List Page) (freed : List ℕ) → Shows self.now pages freed
+            → result.now ≡ pages }
+    {
+        &self.pages
+    }
 }

@@ -36,16 +36,15 @@ impl PageKind {
     {
         matches!(self, PageKind::Free)
     }
-}
 
-/// Whether a page with this header word is resident.
-pub(crate) fn is_resident(header: u64) -> bool
-    ensures { (used : ℕ) → is_resident_page (use_under (header_of header) used) ≡ result }
-{
-    match decode(header) {
-        None | Some(Header::Free) => false,
-        Some(Header::Block(_) | Header::LeafBlock(_) | Header::LeafRun { .. }) => true,
-        Some(Header::Run { mapped, .. } | Header::Later { mapped, .. }) => mapped,
+    pub(crate) fn is_resident(self) -> bool
+        ensures { (used : ℕ) → is_resident_page (use_of_kind self used) ≡ result }
+    {
+        match self {
+            PageKind::Free => false,
+            PageKind::Block { .. } => true,
+            PageKind::Run { mapped } => mapped,
+        }
     }
 }
 

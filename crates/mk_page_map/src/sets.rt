@@ -1,9 +1,9 @@
 //! Sets of page numbers, as bits: 64 pages in a word, and 64 words in a set, after a summary of which of them aren't 0.
 //! So a set's next page is found by two words of it and the summary.
-ghost use Rattle.std.specs.Prelude.{◌≡◌, ℕ, ◌+◌, ◌*◌, ◌<◌, ◌==◌, not};
+ghost use Rattle.std.specs.Prelude.{◌≡◌, ℕ, ◌+◌, ◌*◌, ◌<◌, ◌==◌, nat_lt, not};
 ghost use Rattle.std.specs.Int.{bit_at};
 ghost use Rattle.mk_page_map.specs.Members.{IsNext};
-ghost use Rattle.mk_page_map.specs.PageSets.{AreSets, OthersStay, is_member};
+ghost use Rattle.mk_page_map.specs.PageSets.{AreSets, OtherWordsStay, OthersStay, is_member, word_in_set};
 
 /// A summary and 64 words.
 pub(crate) const SET_WORDS: usize = 65;
@@ -74,6 +74,28 @@ fn with_turned(word: u64, place: u64) -> u64
     word ^ (1u64 << place)
 }
 
+/// The word that has a 1 at each of its places below this one.
+pub(crate) fn ones_below(end: u64) -> u64
+    ensures { (place : ℕ) → place < 64 → (bit_at result place == 1) ≡ nat_lt place end }
+{
+    if end < 64 { (1 << end) - 1 } else { u64::MAX }
+}
+
+/// Stores these bits as a word of a set.
+#[inline(always)]
+pub(crate) fn store_word(sets: &mut [u64], set: usize, word: u64, bits: u64)
+    requires sets { AreSets sets.old }
+    requires set { set < 20 }
+    requires word { word < 64 }
+    ensures sets { AreSets sets.new }
+    ensures this { word_in_set sets.new set word ≡ bits }
+    ensures others { OtherWordsStay sets.old sets.new set word }
+{
+    let summary = SET_WORDS * set;
+    sets[summary + 1 + word as usize] = bits;
+    sets[summary] = with_bit(sets[summary], word, bits != 0);
+}
+
 /// Puts a page into a set, or takes it out.
 pub(crate) fn put(sets: &mut [u64], set: usize, page: u64, inside: bool)
     requires sets { AreSets sets.old }
@@ -85,13 +107,9 @@ pub(crate) fn put(sets: &mut [u64], set: usize, page: u64, inside: bool)
         → is_member sets.new other page ≡ is_member sets.old other page }
     ensures other_pages { OthersStay sets.old sets.new page }
 {
-    let summary = SET_WORDS * set;
-    let at = summary + 1 + (page / 64) as usize;
-    let found = sets[at];
-    if has_one(found, page % 64) == inside {
-        return;
+    let word = page / 64;
+    let bits = sets[SET_WORDS * set + 1 + word as usize];
+    if has_one(bits, page % 64) != inside {
+        store_word(sets, set, word, with_turned(bits, page % 64));
     }
-    let word = with_turned(found, page % 64);
-    sets[at] = word;
-    sets[summary] = with_bit(sets[summary], page / 64, word != 0);
 }

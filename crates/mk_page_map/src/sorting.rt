@@ -6,7 +6,7 @@ ghost use Rattle.mk_page_map.specs.PageSets.{AreSets, HasClass, IsInItsSets, Oth
 ghost use Rattle.mk_page_map.specs.PageSets.{use_of_kind};
 
 use crate::kinds::{PageKind, has_free_cell};
-use crate::sets::{SET_WORDS, put};
+use crate::sets::{SET_WORDS, ones_below, put, store_word};
 use std::alloc::{AllocError, Global};
 
 /// The set of the free pages. Sets 0 to 15 have the blocks with a free cell.
@@ -119,24 +119,22 @@ pub(crate) fn sort_by_header(
     }
 }
 
-/// Sorts a page anew whose used word has changed.
-pub(crate) fn sort_by_used(sets: &mut [u64], page: u64, kind: PageKind, used: u64)
+/// Sorts a page anew whose used word has changed. A block that has a free cell before and after stays where it is.
+pub(crate) fn sort_by_used(sets: &mut [u64], page: u64, kind: PageKind, before: u64, after: u64)
     requires sets { AreSets sets.old }
     requires page { page < 4096 }
     requires class { HasClass kind }
-    requires sorted { (before : ℕ) × IsInItsSets sets.old page (use_of_kind kind before) }
+    requires sorted { IsInItsSets sets.old page (use_of_kind kind before) }
     ensures sets { AreSets sets.new }
-    ensures sorted { IsInItsSets sets.new page (use_of_kind kind used) }
+    ensures sorted { IsInItsSets sets.new page (use_of_kind kind after) }
     ensures other_sets { (set : ℕ) → 18 ≤ set → set < 20 → is_member sets.new set page ≡ is_member sets.old set page }
     ensures other_pages { OthersStay sets.old sets.new page }
 {
     if let PageKind::Block { class, leaf } = kind {
-        put(
-            sets,
-            block_set(class, leaf),
-            page,
-            has_free_cell(class, used),
-        );
+        let is_open = has_free_cell(class, after);
+        if has_free_cell(class, before) != is_open {
+            put(sets, block_set(class, leaf), page, is_open);
+        }
     }
 }
 
@@ -161,8 +159,8 @@ pub(crate) fn free_sets(alloc: Global, pages: u64) -> Result<Vec<u64>, AllocErro
         → is_member sets.items set number ≡ (set == 16) && nat_lt number pages) }
 {
     let mut sets = vec![in alloc; 0; SETS * SET_WORDS]?;
-    for page in 0..pages {
-        put(&mut sets, FREE, page, true);
+    for word in 0..pages.div_ceil(64) {
+        store_word(&mut sets, FREE, word, ones_below(pages - 64 * word));
     }
     Ok(sets)
 }

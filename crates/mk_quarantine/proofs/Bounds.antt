@@ -2,8 +2,8 @@
 use Rattle.mk_quarantine.proofs.Vocabulary.{Bool, Caller, Config, Event, Host, HostBeginsLast, IsHistory, List, Seat}
 use Rattle.mk_quarantine.proofs.Vocabulary.{TurnsOfAreExact, ℕ, and_from, ap, append_assoc, arith}
 use Rattle.mk_quarantine.proofs.Vocabulary.{earlier_part_is_history, false, is_of_cycle, is_same_seat, left, list_any}
-use Rattle.mk_quarantine.proofs.Vocabulary.{list_any-append, or_parts, refl, subst, sym, true, true≢false, [], ⊎_elim}
-use Rattle.mk_quarantine.proofs.Vocabulary.{◌&&◌, ◌++◌, ◌∙◌, ◌∷◌, ◌≡◌}
+use Rattle.mk_quarantine.proofs.Vocabulary.{list_any-append, or_parts, subst, sym, true≢false, [], ⊎_elim, ◌&&◌, ◌++◌}
+use Rattle.mk_quarantine.proofs.Vocabulary.{◌∙◌, ◌∷◌, ◌≡◌}
 use Rattle.mk_core.specs.Growing.{AreOfOthers}
 use Rattle.mk_quarantine.proofs.HeldQuarters.{IsLate, quarter_or_late}
 use Rattle.mk_quarantine.proofs.Quarters.{begin_is_of_cycle, fresh_is_quarter, quarantine_is_quarter_and_kept}
@@ -48,20 +48,14 @@ quarter_in_turn on c es h exact free in_turn =
 
 none_at : (test : Event → Bool) (xs : List Event) (e : Event) (ys : List Event) → list_any test (xs ++ e ∷ ys) ≡ false
     → test e ≡ false
-none_at test xs e ys none =
-    let both = or_parts (list_any test xs) (list_any test (e ∷ ys)) (sym (list_any-append test xs (e ∷ ys)) ∙ none) in
-    (or_parts (test e) (list_any test ys) both.1).0
+none_at test xs e ys none = grind (arith, or_parts, list_any-append)
 
 abbrev is_hosts_cycle : Event → Bool
 is_hosts_cycle e = is_same_seat Host e.seat && is_of_cycle e.step
 
 pub idle_host_begins_last : (c : Config) (es : List Event) → list_any is_hosts_cycle es ≡ false → HostBeginsLast c es
 idle_host_begins_last c es none before e behind is begins host k lt =
-    let off = none_at is_hosts_cycle before e behind
-    (ap (λ (l : List Event). list_any is_hosts_cycle l) (sym is) ∙ none) in
-    absurd (true≢false
-    (sym (and_from (is_same_seat Host e.seat) (is_of_cycle e.step)
-    (subst (λ (s : Seat). is_same_seat Host s ≡ true) (sym host) refl) (begin_is_of_cycle e.step begins)) ∙ off))
+    grind (arith, none_at, is_hosts_cycle, and_from, begin_is_of_cycle)
 
 pub quarantines_are_bounded : QuarantinesAreBounded
 quarantines_are_bounded on c es h exact last = record {

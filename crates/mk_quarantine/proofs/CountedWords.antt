@@ -2,12 +2,12 @@
 use Rattle.std.proofs.{Common.filter, Common.sum_by, lemmas.List.Sums.sum_by-append, lemmas.List.Sums.sum_by-cons}
 use Rattle.mk_laws.proofs.Vocabulary.{address_of, is_large, is_left_unmarked, kinds_of, map, none_freed, pointed_cell}
 use Rattle.mk_quarantine.proofs.Vocabulary.{Bool, Cell, Config, Event, List, None, Option, PlacedAllocation, Seat, Some}
-use Rattle.mk_quarantine.proofs.Vocabulary.{Step, World, WorldBehind, ℕ, arith, cell_freed, decides_freed, false}
-use Rattle.mk_quarantine.proofs.Vocabulary.{first_world, flight_of, freed_where_it_stands, fresh_words_of, given_back}
-use Rattle.mk_quarantine.proofs.Vocabulary.{given_back_behind, granted, held_by_allocations, if◌then◌else◌, is_begin}
-use Rattle.mk_quarantine.proofs.Vocabulary.{is_mapped, is_release, is_some, is_some_and, left, not, refl, storage_words}
-use Rattle.mk_quarantine.proofs.Vocabulary.{subst, sym, true, true≢false, with_released, world_behind, [], ◌&&◌, ◌*◌}
-use Rattle.mk_quarantine.proofs.Vocabulary.{◌++◌, ◌+◌, ◌||◌, ◌∙◌, ◌∷◌, ◌≡◌, ◌≤◌}
+use Rattle.mk_quarantine.proofs.Vocabulary.{Step, World, WorldBehind, ℕ, arith, decides_freed, false, first_world}
+use Rattle.mk_quarantine.proofs.Vocabulary.{flight_of, freed_where_it_stands, fresh_words_of, given_back}
+use Rattle.mk_quarantine.proofs.Vocabulary.{given_back_behind, held_by_allocations, if◌then◌else◌, is_begin, is_mapped}
+use Rattle.mk_quarantine.proofs.Vocabulary.{is_release, is_some, is_some_and, left, not, refl, storage_words, true}
+use Rattle.mk_quarantine.proofs.Vocabulary.{true≢false, with_released, world_behind, [], ◌&&◌, ◌*◌, ◌++◌, ◌+◌, ◌||◌}
+use Rattle.mk_quarantine.proofs.Vocabulary.{◌∷◌, ◌≡◌, ◌≤◌}
 use Rattle.mk_core.specs.History.{left_from}
 use Rattle.mk_laws.proofs.FreshWords.{fresh_part, fresh_pushed, none_fresh}
 use Rattle.mk_objects.proofs.HeldFreed.{held_part, held_sum}
@@ -85,10 +85,7 @@ module _ (c : Config) (w : World) where
 
   held_released : held_by_allocations c (map released w.allocations) + words_given_back c w
       ≡ held_by_allocations c w.allocations
-  held_released =
-      let behind = held_sum c (map released w.allocations) in
-      let given = sum_filtered (storage_words c) (is_given_back c w) w.allocations in
-      omega (arith, sums_released w.allocations, behind, held_sum c w.allocations, given)
+  held_released = grind (arith, held_sum, released, sum_filtered, sums_released)
 
   sums_stale : (xs : List PlacedAllocation) → sum_by (fresh_part c) (map released xs) ≤ sum_by (fresh_part c) xs
   sums_stale [] = omega arith
@@ -123,12 +120,8 @@ frees_none c w (Some cell) none = absurd (true≢false none)
 pub quarter_stays : (c : Config) (w : World) (seat : Seat) (x : Step) (n : ℕ)
     → decides_freed c w.now (flight_of w.now seat) x ≡ false → IsQuarter c w n
     → IsQuarter c (WorldBehind c w seat x) (given_back_behind c w x n)
-quarter_stays c w seat Step.Grant n none quarter =
-    let a : PlacedAllocation = granted c w.now (flight_of w.now seat) in
-    omega (arith, held_pushed c w.allocations a, fresh_pushed c w.allocations a refl)
-quarter_stays c w seat (Step.Quar p v) n none quarter =
-    subst (λ (xs : List PlacedAllocation). 4 * fresh_words_of c xs ≤ held_by_allocations c xs + n) (sym (frees_none c w
-    _ none)) quarter
+quarter_stays c w seat Step.Grant n none quarter = grind (arith, held_pushed, fresh_pushed)
+quarter_stays c w seat (Step.Quar p v) n none quarter = grind (arith, frees_none)
 quarter_stays c w seat Step.Begin n none quarter = let fresh = none_fresh c w.allocations in omega arith
 quarter_stays c w seat Step.Release n none quarter = omega (arith, held_released c w, fresh_released c w)
 quarter_stays c w seat _ n none quarter = quarter
@@ -143,10 +136,8 @@ none_fresh_begun c w seat _ is = cc
 pub none_fresh_stays : (c : Config) (w : World) (seat : Seat) (x : Step)
     → decides_freed c w.now (flight_of w.now seat) x ≡ false → fresh_words_of c w.allocations ≡ 0
     → fresh_words_of c (WorldBehind c w seat x).allocations ≡ 0
-none_fresh_stays c w seat Step.Grant none stale =
-    fresh_pushed c w.allocations (granted c w.now (flight_of w.now seat)) refl ∙ stale
-none_fresh_stays c w seat (Step.Quar p v) none stale =
-    cc (frees_none c w (cell_freed c.pages w.now.words (flight_of w.now seat) p v) none, stale)
+none_fresh_stays c w seat Step.Grant none stale = grind (arith, fresh_pushed)
+none_fresh_stays c w seat (Step.Quar p v) none stale = grind (arith, frees_none)
 none_fresh_stays c w seat Step.Begin none stale = none_fresh c w.allocations
 none_fresh_stays c w seat Step.Release none stale = let fresh = fresh_released c w in omega arith
 none_fresh_stays c w seat _ none stale = stale

@@ -4,12 +4,12 @@ use Rattle.mk_alloc.proofs.Vocabulary.{RunsOneCycle}
 use Rattle.mk_quarantine.proofs.Vocabulary.{AsksPhase, At, Caller, CallIsExact, Config, EndsExactly, Event}
 use Rattle.mk_quarantine.proofs.Vocabulary.{FreshIsQuarterOfHeld, HoldsTurn, Host, HostBeginsLast, IsHistory, Lacks}
 use Rattle.mk_quarantine.proofs.Vocabulary.{List, Marker, Next, None, Op, Option, Seat, Some, Step, TurnOf, World, ℕ}
-use Rattle.mk_quarantine.proofs.Vocabulary.{ap, append_assoc, arith, at_no_take, before_it, comes_next}
-use Rattle.mk_quarantine.proofs.Vocabulary.{enabled_in_parts, eq-eqb, false, flight_of, fresh_after, has_step, inl, inr}
-use Rattle.mk_quarantine.proofs.Vocabulary.{is_begin, is_end, is_give, is_release, is_same_seat, known_left, lacks_at}
-use Rattle.mk_quarantine.proofs.Vocabulary.{left, ltb-true, or_from, or_parts, phase_behind, phase_of, refl}
-use Rattle.mk_quarantine.proofs.Vocabulary.{seat_exists, subst, sym, taken, through, true, true≢false, turn_of, view_of}
-use Rattle.mk_quarantine.proofs.Vocabulary.{world_behind, [], ⊎_elim, ◌++◌, ◌<◌, ◌∙◌, ◌∷◌, ◌≡◌, ◌⊎◌}
+use Rattle.mk_quarantine.proofs.Vocabulary.{append_assoc, arith, at_no_take, before_it, comes_next, enabled_in_parts}
+use Rattle.mk_quarantine.proofs.Vocabulary.{eq-eqb, false, flight_of, fresh_after, has_step, inl, inr, is_begin, is_end}
+use Rattle.mk_quarantine.proofs.Vocabulary.{is_give, is_release, is_same_seat, known_left, lacks_at, left, ltb-true}
+use Rattle.mk_quarantine.proofs.Vocabulary.{or_from, or_parts, phase_behind, phase_of, refl, subst, sym, taken, through}
+use Rattle.mk_quarantine.proofs.Vocabulary.{true, true≢false, turn_of, view_of, world_behind, [], ⊎_elim, ◌++◌, ◌<◌}
+use Rattle.mk_quarantine.proofs.Vocabulary.{◌∙◌, ◌∷◌, ◌≡◌, ◌⊎◌}
 use Rattle.mk_core.specs.Growing.{AreOfOthers}
 use Rattle.mk_laws.proofs.{CyclePhases.moves_phase, NextSteps.at_take}
 use Rattle.mk_alloc.proofs.ListParts.{lacks_second}
@@ -52,8 +52,7 @@ released_no_more : (c : Config) (es : List Event) (end : Event) (more : List Eve
     → is_end end.step ≡ true → Lacks is_begin more → Lacks is_release more
 released_no_more c es end more h ends none =
     let moves = moves_phase c (left c es) end more ((enabled_in_parts c es (end ∷ more)).0 h.enabled).1 in
-    let zero : phase_of (world_behind c (left c es) end).now.words ≡ 0 =
-    moves.1 ∙ ap (λ (x : Step). phase_behind x (phase_of (left c es).now.words)) (end_is end.step ends) in
+    let zero : phase_of (world_behind c (left c es) end).now.words ≡ 0 = grind (arith, phase_behind, end_is) in
     releases_none c (world_behind c (left c es) end) more moves.2 (inl zero) none
 
 -- Each event of these is of other seats, and so are all after it.
@@ -108,9 +107,7 @@ module _ (c : Config) (es : List Event) (h : IsHistory c es) (exact : CallersAre
   later = given.at.behind ++ l.release.event ∷ l.release.behind
 
   parts : b.behind ≡ given.at.before ++ given.at.event ∷ later
-  parts =
-      l.release.is ∙ ap (λ (xs : List Event). xs ++ l.release.event ∷ l.release.behind) given.at.is
-      ∙ append_assoc given.at.before (given.at.event ∷ given.at.behind) (l.release.event ∷ l.release.behind)
+  parts = grind (arith, given, append_assoc)
 
   abbrev next : Next is_give b.behind
   next = record {
@@ -131,13 +128,9 @@ module _ (c : Config) (es : List Event) (h : IsHistory c es) (exact : CallersAre
   no_release : At is_end given.at.before → ⊥
   no_release end =
       let tail : List Event = end.behind ++ given.at.event ∷ later in
-      let split : b.behind ≡ end.before ++ end.event ∷ tail =
-      cc (parts, end.is, append_assoc end.before (end.event ∷ end.behind) (given.at.event ∷ later)) in
-      let all : es ≡ (through b ++ end.before) ++ end.event ∷ tail =
-      cc (whole, split, append_assoc (through b) end.before (end.event ∷ tail)) in
-      let last : Lacks is_begin (end.event ∷ tail) =
-      lacks_second is_begin end.before (end.event ∷ tail)
-      (ap (λ (xs : List Event). has_step is_begin xs) (sym split) ∙ l.last) in
+      let split : b.behind ≡ end.before ++ end.event ∷ tail = grind (arith, parts, append_assoc, given, later) in
+      let all : es ≡ (through b ++ end.before) ++ end.event ∷ tail = grind (arith, whole, append_assoc) in
+      let last : Lacks is_begin (end.event ∷ tail) = grind (arith, lacks_second) in
       let none = released_no_more c (through b ++ end.before) end.event tail
       (subst (λ (xs : List Event). IsHistory c xs) all h) end.of_kind
       (or_parts (is_begin end.event.step) (has_step is_begin tail) last).1 in
@@ -157,8 +150,7 @@ module _ (c : Config) (es : List Event) (h : IsHistory c es) (exact : CallersAre
       let giver = first_giver c (through b) b.behind k (subst (λ (xs : List Event). IsHistory c xs) whole h) holds.0
       (kept ∙ turn) next in
       let front : List Event = b.before ++ b.event ∷ given.at.before in
-      let split : es ≡ front ++ given.at.event ∷ later =
-      cc (b.is, parts, append_assoc b.before (b.event ∷ given.at.before) (given.at.event ∷ later)) in
+      let split : es ≡ front ++ given.at.event ∷ later = grind (arith, parts, append_assoc, given, later) in
       let ends = exact k holds.0 front given.at.event later split giver.0 giver.1 in
       let at_front = (before_it c es front given.at.event later h split).0 in
       let i = begun_in_turn c k front
@@ -180,11 +172,9 @@ module _ (c : Config) (es : List Event) (h : IsHistory c es) (exact : CallersAre
       none_frees f =
           let w : World = left_from c (left c (through b)) f.before in
           let caller = caller_of w.now f.event.seat (freer_has_free c w f.event.seat f.event.step f.frees) in
-          let one : es ≡ (through b ++ f.before) ++ f.event ∷ f.behind =
-          cc (whole, f.is, append_assoc (through b) f.before (f.event ∷ f.behind)) in
+          let one : es ≡ (through b ++ f.before) ++ f.event ∷ f.behind = grind (arith, whole, append_assoc) in
           let meets = (before_it c es (through b ++ f.before) f.event f.behind h one).1 in
-          let lt : caller.0 < c.callers =
-          ltb-true caller.0 c.callers (subst (λ (s : Seat). seat_exists c s ≡ true) caller.1 meets.seat) in
+          let lt : caller.0 < c.callers = grind (arith, ltb-true) in
           let others = subst (λ (xs : List Event). AreOfOthers (Caller caller.0 ∷ []) xs) f.is
           (last b.before b.event b.behind b.is b.of_kind seat caller.0 lt) in
           let other = others_at (Caller caller.0 ∷ []) f.before f.event f.behind others in

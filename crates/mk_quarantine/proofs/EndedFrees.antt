@@ -5,9 +5,9 @@ use Rattle.mk_quarantine.proofs.Vocabulary.{Bool, Caller, CallIsExact, Config, E
 use Rattle.mk_quarantine.proofs.Vocabulary.{Host, IsHistory, List, Marker, Meets, Moment, Next, Op, Option, Seat, Some}
 use Rattle.mk_quarantine.proofs.Vocabulary.{Step, TurnOf, TurnsOfAreExact, ℕ, and-false, ap, append_assoc, arith}
 use Rattle.mk_quarantine.proofs.Vocabulary.{before_it, decides_freed, earlier_part_is_history, false, flight_of}
-use Rattle.mk_quarantine.proofs.Vocabulary.{free_has_turn, is_give, is_same_seat, is_undecided_free, known_left, left}
-use Rattle.mk_quarantine.proofs.Vocabulary.{list_any, ltb-true, or_from, own_give, refl, seat_exists, subst, sym, taken}
-use Rattle.mk_quarantine.proofs.Vocabulary.{true, turn_of, view_of, [], ◌&&◌, ◌++◌, ◌+◌, ◌<◌, ◌∙◌, ◌∷◌, ◌≡◌}
+use Rattle.mk_quarantine.proofs.Vocabulary.{free_has_turn, is_give, is_undecided_free, known_left, left, list_any}
+use Rattle.mk_quarantine.proofs.Vocabulary.{ltb-true, or_from, own_give, refl, seat_exists, subst, sym, taken, true}
+use Rattle.mk_quarantine.proofs.Vocabulary.{turn_of, view_of, [], ◌++◌, ◌+◌, ◌<◌, ◌∙◌, ◌∷◌, ◌≡◌}
 use Rattle.mk_alloc.proofs.OwnGives.{gives_append}
 use Rattle.mk_quarantine.proofs.HeldTurns.{IsSameTurn, first_giver, lacks_own, next_of, one_turn, turn_stays_held}
 use Rattle.mk_quarantine.proofs.OpenFrees.{FreesNoneFrom, OpenFree, freer_has_free, open_frees_have_turns}
@@ -103,9 +103,7 @@ module _ (on : Bool) (c : Config) (es before : List Event) (e : Event) (behind :
         (free_has_turn c (left c before).now (Caller k) exists undecided)
 
     not_given : own_give (Caller k) e ≡ false
-    not_given =
-        ap (λ (b : Bool). is_same_seat (Caller k) e.seat && b) (no_give c (left c before).now (flight_of (left c
-        before).now e.seat) e.step frees) ∙ and-false _
+    not_given = grind (arith, no_give, and-false)
 
     parts : es ≡ (before ++ e ∷ []) ++ behind
     parts = is ∙ sym (append_assoc before (e ∷ []) behind)
@@ -124,16 +122,14 @@ module _ (on : Bool) (c : Config) (es before : List Event) (e : Event) (behind :
         next_of is_give behind (λ lacks.
         let kept = turn_stays_held c (before ++ e ∷ []) behind k whole lt turn_behind
         (lacks_own (Caller k) behind lacks) in
-        let none : (left c ((before ++ e ∷ []) ++ behind)).now.words.turn ≡ 0 =
-        ap (λ (l : List Event). (left c l).now.words.turn) (sym parts) ∙ free in
+        let none : (left c ((before ++ e ∷ []) ++ behind)).now.words.turn ≡ 0 = grind (arith, parts) in
         omega arith)
 
     by_caller : EndedFree on c before e behind
     by_caller =
         let giver = first_giver c (before ++ e ∷ []) behind k whole lt turn_behind given in
         let split : es ≡ (before ++ e ∷ given.at.before) ++ given.at.event ∷ given.at.behind =
-        is ∙ ap (λ (l : List Event). before ++ e ∷ l) given.at.is
-        ∙ sym (append_assoc before (e ∷ given.at.before) (given.at.event ∷ given.at.behind)) in
+        grind (arith, given, append_assoc) in
         let f = flight_of (left c before).now (Caller k) in
         let open_free = open_frees_have_turns c before here.0 k lt (undecided_is_open f.stage f.op undecided) in
         ends_free c before k open_free e given.at.before

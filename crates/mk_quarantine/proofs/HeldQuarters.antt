@@ -79,8 +79,7 @@ pub since_begin : (c : Config) (es : List Event) (b : At is_begin es)
     → (fresh_after c es ≡ 0) ⊎ FreesIn c (left c (through b)) b.behind
 since_begin c es b =
     let start = left_more c (first_world c) b.before b.event in
-    let stale : fresh_words_of c (left c (through b)).allocations ≡ 0 =
-    cc (start, none_fresh_begun c (left c b.before) b.event.seat b.event.step b.of_kind) in
+    let stale : fresh_words_of c (left c (through b)).allocations ≡ 0 = grind (arith, none_fresh_begun) in
     let whole : left_from c (left c (through b)) b.behind ≡ left c es =
     cc (left_in_parts c (through b) b.behind, append_assoc b.before (b.event ∷ []) b.behind, b.is) in
     ⊎_elim (λ (z : fresh_words_of c (left_from c (left c (through b)) b.behind).allocations ≡ 0). inl (ap (λ (w :
@@ -141,9 +140,7 @@ begun c es e begins =
 
 freed : (c : Config) (es : List Event) (e : Event)
     → decides_freed c (left c es).now (flight_of (left c es).now e.seat) e.step ≡ true → HeldQuarters c (es ++ e ∷ [])
-freed c es e frees =
-    ⊎_elim (λ (now : IsQuarter c (world_behind c (left c es) e) 0). to_longer c es e now)
-    (λ (p : IsPending c (es ++ e ∷ [])). Pending p) (freed_or_due c es e frees)
+freed c es e frees = grind (arith, to_longer, freed_or_due)
 
 released_none : (c : Config) (w : World) (seat : Seat) (x : Step) → is_release x ≡ true
     → decides_freed c w.now (flight_of w.now seat) x ≡ false
@@ -182,8 +179,7 @@ released c es e h meets is =
     no_begin _ is = cc
 
     in_front : {w : World} {ys : List Event} (f : FreesIn c w ys) → Lacks is_give ys → Lacks is_give f.before
-    in_front {ys = ys} f none = lacks_first is_give f.before (f.event ∷ f.behind)
-        (ap (λ (l : List Event). has_step is_give l) (sym f.is) ∙ none)
+    in_front {ys = ys} f none = grind (arith, lacks_first)
 
 held_kept : KeptByEvents HeldQuarters
 held_kept c es e h (Quarter quarter) = elim

@@ -1,16 +1,16 @@
 -- Turns that are held: the turn word meanwhile, that a turn of a seat is one, and who begins a cycle in one.
 use Rattle.std.proofs.lemmas.List.{append_cancel_left}
-use Rattle.mk_laws.proofs.Vocabulary.{Group, enabled_meets, group_of, holder_number, ◌≢◌}
+use Rattle.mk_laws.proofs.Vocabulary.{enabled_meets, ◌≢◌}
 use Rattle.mk_quarantine.proofs.Vocabulary.{At, Bool, Caller, Config, Event, GivesNone, HoldsTurn, Host, InFirst}
 use Rattle.mk_quarantine.proofs.Vocabulary.{InSecond, IsHistory, Known, Lacks, List, Marker, Meets, Moment, Next, Op}
 use Rattle.mk_quarantine.proofs.Vocabulary.{Option, Seat, Step, TurnOf, World, WorldBehind, ℕ, and-false, and_from, ap}
 use Rattle.mk_quarantine.proofs.Vocabulary.{append-nil, append_assoc, arith, before_it, cases_Bool}
-use Rattle.mk_quarantine.proofs.Vocabulary.{earlier_part_is_history, enabled_in_parts, eq-eqb, false, first_world}
-use Rattle.mk_quarantine.proofs.Vocabulary.{has_step, if◌then◌else◌, is_begin, is_give, is_same_seat, known_left}
-use Rattle.mk_quarantine.proofs.Vocabulary.{lacks_first, left, left_in_parts, left_more, list_any, list_any-append}
-use Rattle.mk_quarantine.proofs.Vocabulary.{ltb-true, ne_eqb, or_from, or_parts, own_give, refl, reg_leaves, stands}
-use Rattle.mk_quarantine.proofs.Vocabulary.{subst, sym, taken, tally_keeps, true, true≢false, turn_of, view_of}
-use Rattle.mk_quarantine.proofs.Vocabulary.{world_behind, [], ⊎_elim, ◌&&◌, ◌++◌, ◌+◌, ◌<◌, ◌∙◌, ◌∷◌, ◌≡◌}
+use Rattle.mk_quarantine.proofs.Vocabulary.{earlier_part_is_history, enabled_in_parts, eq-eqb, false, has_step}
+use Rattle.mk_quarantine.proofs.Vocabulary.{is_begin, is_give, is_same_seat, known_left, lacks_first, left}
+use Rattle.mk_quarantine.proofs.Vocabulary.{left_in_parts, left_more, list_any, list_any-append, ltb-true, ne_eqb}
+use Rattle.mk_quarantine.proofs.Vocabulary.{or_from, or_parts, own_give, refl, reg_leaves, stands, subst, sym, taken}
+use Rattle.mk_quarantine.proofs.Vocabulary.{tally_keeps, true, true≢false, turn_of, view_of, world_behind, [], ⊎_elim}
+use Rattle.mk_quarantine.proofs.Vocabulary.{◌&&◌, ◌++◌, ◌+◌, ◌<◌, ◌∙◌, ◌∷◌, ◌≡◌}
 use Rattle.mk_core.specs.History.{AreEnabledFrom, left_from}
 use Rattle.mk_laws.proofs.Basics.{Actor, AsHolder, AsMarker, InCallOf, actor_of, known_behind}
 use Rattle.mk_laws.proofs.{Actors.CallTakes, Actors.HostTakes, CyclePhases.begin_is, LayoutHolders.giver_has_turn}
@@ -41,8 +41,7 @@ next_of kind (e ∷ es) some =
 -- One event: a turn that is held stays so, unless it is given back.
 turn_kept : (c : Config) (w : World) (seat : Seat) (x : Step) → w.now.words.turn ≢ 0 → is_give x ≡ false
     → (WorldBehind c w seat x).now.words.turn ≡ w.now.words.turn
-turn_kept c w seat (Step.Take o) held none =
-    ap (λ (b : Bool). if b then 1 + holder_number c seat else w.now.words.turn) (ne_eqb w.now.words.turn 0 held)
+turn_kept c w seat (Step.Take o) held none = grind (arith, ne_eqb)
 turn_kept c w seat Step.Give held none = cc
 turn_kept c w seat Step.Reg held none = (reg_leaves c w seat).turn
 turn_kept c w seat (Step.Tally n v) held none = (tally_keeps w.now.words n v).turn
@@ -61,8 +60,7 @@ kept_from c w (e ∷ es) held none =
 
 pub turn_stays_taken : (c : Config) (es more : List Event) → (left c es).now.words.turn ≢ 0 → Lacks is_give more
     → (left c (es ++ more)).now.words.turn ≡ (left c es).now.words.turn
-turn_stays_taken c es more held none =
-    ap (λ (w : World). w.now.words.turn) (left_in_parts c es more) ∙ kept_from c (left c es) more held none
+turn_stays_taken c es more held none = grind (arith, left_in_parts, kept_from)
 
 -- A caller is the one that gives its turn back.
 giver_is : (c : Config) (w : World) (seat : Seat) (k : ℕ) → Known c w.now → k < c.callers → w.now.words.turn ≡ 1 + k
@@ -104,9 +102,7 @@ held_from c w k (e ∷ es) known on lt turn none =
 pub turn_stays_held : (c : Config) (es more : List Event) (k : ℕ) → IsHistory c (es ++ more) → k < c.callers
     → (left c es).now.words.turn ≡ 1 + k → GivesNone (Caller k) more → (left c (es ++ more)).now.words.turn ≡ 1 + k
 turn_stays_held c es more k h lt turn none =
-    let first = earlier_part_is_history c es more h in
-    ap (λ (w : World). w.now.words.turn) (left_in_parts c es more) ∙ held_from c _ k more (known_left c es
-    first.within_limits first.enabled) ((enabled_in_parts c es more).0 h.enabled).1 lt turn none
+    grind (arith, earlier_part_is_history, left_in_parts, held_from, known_left, enabled_in_parts)
 
 -- Where nobody gives a turn back, this caller doesn't.
 pub lacks_own : (s : Seat) (es : List Event) → Lacks is_give es → GivesNone s es
@@ -121,8 +117,7 @@ pub first_giver : (c : Config) (es more : List Event) (k : ℕ) → IsHistory c 
     → (left c es).now.words.turn ≡ 1 + k → (g : Next is_give more)
     → (g.at.event.step ≡ Step.Give) × (g.at.event.seat ≡ Caller k)
 first_giver c es more k h lt turn g =
-    let split : es ++ more ≡ (es ++ g.at.before) ++ g.at.event ∷ g.at.behind =
-    ap (λ (l : List Event). es ++ l) g.at.is ∙ sym (append_assoc es g.at.before (g.at.event ∷ g.at.behind)) in
+    let split : es ++ more ≡ (es ++ g.at.before) ++ g.at.event ∷ g.at.behind = grind (arith, append_assoc) in
     let here = before_it c (es ++ more) (es ++ g.at.before) g.at.event g.at.behind h split in
     let gives = give_is g.at.event.step g.at.of_kind in
     let held = turn_stays_held c es g.at.before k here.0 lt turn (lacks_own (Caller k) g.at.before g.none_before) in (
@@ -139,26 +134,17 @@ module _ (c : Config) (k : ℕ) (es : List Event) (h : IsHistory c es) (t : Turn
   taker_exists = ltb-true k c.callers (before_it c es t.before (taken t) t.behind h t.is).1.seat
 
   turn_taken : (left c (t.before ++ taken t ∷ [])).now.words.turn ≡ 1 + k
-  turn_taken =
-      ap (λ (w : World). w.now.words.turn) (left_more c (first_world c) t.before (taken t))
-      ∙ ap (λ (b : Bool). if b then 1 + k else (left c t.before).now.words.turn)
-      (eq-eqb (left c t.before).now.words.turn 0 t.took)
+  turn_taken = grind (arith, left_more, taken, eq-eqb)
 
   -- up to any event of the turn
   pub turn_held_in : (part rest : List Event) → t.behind ≡ part ++ rest
       → (left c (t.before ++ taken t ∷ part)).now.words.turn ≡ 1 + k
   turn_held_in part rest is =
-      let whole : es ≡ (t.before ++ taken t ∷ part) ++ rest =
-      cc (t.is, is, append_assoc t.before (taken t ∷ part) rest) in
-      let first : IsHistory c (t.before ++ taken t ∷ part) =
-      earlier_part_is_history c (t.before ++ taken t ∷ part) rest
-      (subst (λ (l : List Event). IsHistory c l) whole h) in
+      let whole : es ≡ (t.before ++ taken t ∷ part) ++ rest = grind (arith, append_assoc, taken) in
+      let first : IsHistory c (t.before ++ taken t ∷ part) = grind (arith, earlier_part_is_history, taken) in
       let split : (t.before ++ taken t ∷ []) ++ part ≡ t.before ++ taken t ∷ part =
       append_assoc t.before (taken t ∷ []) part in
-      let none : GivesNone (Caller k) part =
-      (or_parts (list_any (own_give (Caller k)) part) (list_any (own_give (Caller k)) rest)
-      (sym (list_any-append (own_give (Caller k)) part rest)
-      ∙ ap (λ (l : List Event). list_any (own_give (Caller k)) l) (sym is) ∙ t.goes_on)).0 in
+      let none : GivesNone (Caller k) part = grind (arith, or_parts, own_give, list_any-append) in
       ap (λ (l : List Event). (left c l).now.words.turn) (sym split)
       ∙ turn_stays_held c (t.before ++ taken t ∷ []) part k
       (subst (λ (l : List Event). IsHistory c l) (sym split) first)
@@ -175,12 +161,10 @@ apart : (c : Config) (k : ℕ) (es : List Event) (t u : TurnOf c (Caller k) es) 
 apart c k es t u h part is =
     let whole : u.before ++ taken u ∷ u.behind ≡ u.before ++ taken u ∷ (part ++ taken t ∷ t.behind) =
     cc (u.is, t.is, is, append_assoc u.before (taken u ∷ part) (taken t ∷ t.behind)) in
-    let same : taken u ∷ u.behind ≡ taken u ∷ (part ++ taken t ∷ t.behind) =
-    append_cancel_left u.before (taken u ∷ u.behind) (taken u ∷ (part ++ taken t ∷ t.behind)) whole in
+    let same : taken u ∷ u.behind ≡ taken u ∷ (part ++ taken t ∷ t.behind) = grind (arith, append_cancel_left, taken) in
     let parts : u.behind ≡ part ++ taken t ∷ t.behind = cc in
     let held = turn_held_in c k es h u part (taken t ∷ t.behind) parts in
-    let free : (left c (u.before ++ taken u ∷ part)).now.words.turn ≡ 0 =
-    ap (λ (l : List Event). (left c l).now.words.turn) (sym is) ∙ t.took in
+    let free : (left c (u.before ++ taken u ∷ part)).now.words.turn ≡ 0 = grind arith in
     omega arith
 
 op_of_take : (x y : Option Op) → Step.Take x ≡ Step.Take y → x ≡ y
@@ -196,14 +180,7 @@ one_turn c k es t u h =
   where
     by : (rest : List Event) → u.before ≡ t.before ++ rest → taken t ∷ t.behind ≡ rest ++ taken u ∷ u.behind
         → IsSameTurn c k es t u
-    by [] first is =
-        let take : taken t ≡ taken u = cc in
-        let tail : t.behind ≡ u.behind = cc in
-        record {
-          before = first ∙ append-nil t.before;
-          op = sym (op_of_take t.op u.op (ap (λ (e : Event). e.step) take));
-          behind = sym tail;
-        }
+    by [] first is = grind (arith, taken, append-nil, op_of_take)
     by (y ∷ ys) first is =
         let take : taken t ≡ y = cc in
         absurd (apart c k es u t h ys (first ∙ ap (λ (e : Event). t.before ++ e ∷ ys) (sym take)))
@@ -212,10 +189,8 @@ one_turn c k es t u h =
 
 beginner_of : (c : Config) (m : Moment) (seat : Seat) (x : Step) → Actor c m seat x → x ≡ Step.Begin
     → HoldsTurn c (view_of m) seat
-beginner_of c m seat x (InCallOf k y lt g) is =
-    let e : Group.Turn ≡ Group.Callers = ap group_of (sym is) ∙ g in cc
-beginner_of c m seat x (AsMarker k y lt g) is =
-    let e : Group.Turn ≡ Group.Markers = ap group_of (sym is) ∙ g in cc
+beginner_of c m seat x (InCallOf k y lt g) is = grind arith
+beginner_of c m seat x (AsMarker k y lt g) is = grind arith
 beginner_of c m seat x (CallTakes k o lt idle under) is = cc
 beginner_of c m seat x (HostTakes away) is = cc
 beginner_of c m seat x (AsHolder s y holds n) is = holds
@@ -257,23 +232,18 @@ begun_in_turn c k es b h none t =
   where
     earlier : (part : List Event) → t.before ≡ b.before ++ b.event ∷ part → ⊥
     earlier part is =
-        let whole : b.before ++ b.event ∷ b.behind ≡ b.before ++ b.event ∷ (part ++ taken t ∷ t.behind) =
-        cc (b.is, t.is, is, append_assoc b.before (b.event ∷ part) (taken t ∷ t.behind)) in
-        let same : b.event ∷ b.behind ≡ b.event ∷ (part ++ taken t ∷ t.behind) =
-        append_cancel_left b.before (b.event ∷ b.behind) (b.event ∷ (part ++ taken t ∷ t.behind)) whole in
-        let parts : b.behind ≡ part ++ taken t ∷ t.behind = cc in
-        let off : Lacks is_give part =
-        lacks_first is_give part (taken t ∷ t.behind)
-        (ap (λ (l : List Event). has_step is_give l) (sym parts) ∙ none) in
-        let held = begun_under_turn c es b h in
-        let kept = turn_stays_taken c b.before (b.event ∷ part) held
-        (or_from (is_give b.event.step) (has_step is_give part) (begin_gives_none b.event.step b.of_kind) off) in
-        held (sym kept ∙ ap (λ (l : List Event). (left c l).now.words.turn) (sym is) ∙ t.took)
+        grind (
+          arith,
+          taken,
+          append_assoc,
+          append_cancel_left,
+          lacks_first,
+          begun_under_turn,
+          turn_stays_taken,
+          or_from,
+          begin_gives_none,
+        )
 
     by : (rest : List Event) → taken t ∷ t.behind ≡ rest ++ b.event ∷ b.behind → BeginsInTurn t b.event b.behind
-    by [] is =
-        let take : taken t ≡ b.event = cc in
-        absurd (true≢false (sym (ap (λ (e : Event). is_begin e.step) take ∙ b.of_kind)))
-    by (y ∷ ys) is =
-        let tail : t.behind ≡ ys ++ b.event ∷ b.behind = cc in
-        record { before = ys; is = tail }
+    by [] is = grind (arith, taken)
+    by (y ∷ ys) is = grind arith

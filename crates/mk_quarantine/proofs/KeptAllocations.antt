@@ -1,16 +1,15 @@
 -- What is in quarantine where no cycle is on: what was freed since the last `begin`, or what the last cycle kept.
-use Rattle.mk_laws.proofs.Vocabulary.{Words, not-true, stands_in}
+use Rattle.mk_laws.proofs.Vocabulary.{Words, not-true}
 use Rattle.mk_quarantine.proofs.Vocabulary.{AsksPhase, At, Bool, Cell, Config, Event, IsKeptByLastCycle, KeptByEvents}
 use Rattle.mk_quarantine.proofs.Vocabulary.{Lacks, List, Meets, Next, OfHistories, Option, PlacedAllocation, Seat, Step}
 use Rattle.mk_quarantine.proofs.Vocabulary.{World, WorldBehind, ℕ, and_parts, ap, arith, before_it, cases_Bool}
-use Rattle.mk_quarantine.proofs.Vocabulary.{cases_eq, cases_lt, cell_freed, changed_at, earlier_at, false, first_world}
-use Rattle.mk_quarantine.proofs.Vocabulary.{flight_of, freed_leaves, freed_where_it_stands, get_or_past, granted}
-use Rattle.mk_quarantine.proofs.Vocabulary.{holds_of_histories, if◌then◌else◌, inl, inr, is_begin, is_close, is_end}
-use Rattle.mk_quarantine.proofs.Vocabulary.{is_quarantined, is_release, is_some_and, lacks_append, lacks_one, left}
-use Rattle.mk_quarantine.proofs.Vocabulary.{left_more, length, length-append, longer_at, never_granted, no_longer_fresh}
-use Rattle.mk_quarantine.proofs.Vocabulary.{not, phase_asked, phase_behind, phase_of, placed_at, refl, subst, sym, true}
-use Rattle.mk_quarantine.proofs.Vocabulary.{true≢false, with_released, world_behind, [], ◌&&◌, ◌++◌, ◌||◌, ◌∙◌, ◌∷◌}
-use Rattle.mk_quarantine.proofs.Vocabulary.{◌≡◌, ◌⊎◌}
+use Rattle.mk_quarantine.proofs.Vocabulary.{cases_eq, cases_lt, changed_at, earlier_at, false, first_world, flight_of}
+use Rattle.mk_quarantine.proofs.Vocabulary.{freed_leaves, freed_where_it_stands, get_or_past, granted}
+use Rattle.mk_quarantine.proofs.Vocabulary.{holds_of_histories, inl, inr, is_begin, is_close, is_end, is_quarantined}
+use Rattle.mk_quarantine.proofs.Vocabulary.{is_release, lacks_append, lacks_one, left, left_more, length, length-append}
+use Rattle.mk_quarantine.proofs.Vocabulary.{longer_at, never_granted, not, phase_asked, phase_behind, phase_of}
+use Rattle.mk_quarantine.proofs.Vocabulary.{placed_at, refl, subst, sym, true, true≢false, world_behind, [], ◌&&◌, ◌++◌}
+use Rattle.mk_quarantine.proofs.Vocabulary.{◌||◌, ◌∙◌, ◌∷◌, ◌≡◌, ◌⊎◌}
 use Rattle.mk_core.{proofs.ChangedAllocations.granted_at, specs.History.left_from}
 use Rattle.mk_laws.proofs.{CyclePhases.phase_moves, Longer.longer_next, Longer.next_at_end}
 use Rattle.mk_quarantine.specs.KeptAllocations.{QuarantineIsFreshOrKept}
@@ -28,8 +27,7 @@ data CycleSoFar (phase : ℕ) (es : List Event) : Type 0 where
 -- an event that no cycle waits for
 quiet : (p : ℕ) (es : List Event) (e : Event) → is_close e.step ≡ false → is_release e.step ≡ false
     → is_end e.step ≡ false → CycleSoFar p es → CycleSoFar p (es ++ e ∷ [])
-quiet p es e close release end (Marks at none) =
-    Marks at (lacks_append is_close es (e ∷ []) none (lacks_one is_close e close))
+quiet p es e close release end (Marks at none) = grind (arith, lacks_append, lacks_one)
 quiet p es e close release end (Stops at k none) =
     Stops at (longer_next (e ∷ []) k)
     (lacks_append is_release k.at.behind (e ∷ []) none (lacks_one is_release e release))
@@ -43,8 +41,7 @@ quiet p es e close release end (Ended at k r x none) =
 -- the events that it waits for
 module _ (seat : Seat) (p : ℕ) (es : List Event) where
   wants : p ≡ 1 → CycleSoFar p es → CycleSoFar 2 (es ++ record { seat = seat; step = Step.Want } ∷ [])
-  wants asks (Marks at none) =
-      Marks (inr refl) (lacks_append is_close es (record { seat = seat; step = Step.Want } ∷ []) none refl)
+  wants asks (Marks at none) = grind (arith, lacks_append)
   wants asks (Stops at k none) = absurd (omega arith)
   wants asks (Releases at k r none) = absurd (omega arith)
   wants asks (Ended at k r x none) = absurd (grind arith)
@@ -120,11 +117,7 @@ stale_granted xs a i live h = elim (cases_lt i (length xs)) [
 
 stale_freed : (w : Words) (cell : Option Cell) (a : PlacedAllocation) → IsStale (freed_where_it_stands w cell a)
     → IsStale a
-stale_freed w cell a h = by (is_some_and (λ (x : Cell). stands_in w x a) cell) h
-  where
-    by : (b : Bool) → IsStale (if b then record a { freed = true; fresh = true } else a) → IsStale a
-    by true h = let s : true ≡ false = h.stale in absurd (true≢false s)
-    by false h = h
+stale_freed w cell a h = grind arith
 
 stale_released : (freed released more : Bool) → (freed && not (released || more)) ≡ true
     → (freed && not released) ≡ true
@@ -134,26 +127,15 @@ stale_was : (c : Config) (w : World) (seat : Seat) (x : Step) (i : ℕ) → is_b
     → IsStale (placed_at (WorldBehind c w seat x).allocations i) → IsStale (placed_at w.allocations i)
 stale_was c w seat Step.Begin i none h = cc
 stale_was c w seat Step.Grant i none h = stale_granted w.allocations (granted c w.now (flight_of w.now seat)) i refl h
-stale_was c w seat (Step.Quar p v) i none h =
-    let cell = cell_freed c.pages w.now.words (flight_of w.now seat) p v in
-    stale_freed w.now.words cell (placed_at w.allocations i)
-    (subst IsStale
-    (changed_at (freed_where_it_stands w.now.words cell) w.allocations i (freed_leaves w.now.words cell).none) h)
-stale_was c w seat Step.Release i none h =
-    let a : PlacedAllocation = placed_at w.allocations i in
-    let at = subst IsStale (changed_at (with_released c w.now.words) w.allocations i refl) h in
-    record {
-      quarantined = stale_released a.freed a.released _ at.quarantined;
-      stale = at.stale;
-    }
+stale_was c w seat (Step.Quar p v) i none h = grind (arith, stale_freed, changed_at, freed_leaves)
+stale_was c w seat Step.Release i none h = grind (arith, changed_at, stale_released)
 stale_was c w seat _ i none h = h
 
 -- at a `begin`
 stale_begun : (c : Config) (w : World) (seat : Seat) (x : Step) (i : ℕ) → is_begin x ≡ true
     → is_quarantined (placed_at (WorldBehind c w seat x).allocations i) ≡ true
     → is_quarantined (placed_at w.allocations i) ≡ true
-stale_begun c w seat Step.Begin i is h =
-    ap (λ (a : PlacedAllocation). is_quarantined a) (sym (changed_at no_longer_fresh w.allocations i refl)) ∙ h
+stale_begun c w seat Step.Begin i is h = grind (arith, changed_at)
 stale_begun c w seat _ i is h = cc
 
 -- After every history: no cycle was begun and all in quarantine is fresh, or what isn't fresh is in the snapshot of the

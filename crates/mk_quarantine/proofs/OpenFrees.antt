@@ -1,8 +1,8 @@
 -- A Free that isn't decided yet: its turn, in which nothing was freed so far.
 use Rattle.std.specs.Prelude.{⊤}
-use Rattle.mk_laws.proofs.Vocabulary.{Answer, Stage, at_rest, begun, eqb-true, found, freed_cell, get_or-set_other}
-use Rattle.mk_laws.proofs.Vocabulary.{get_or-set_same, is_free_at, onward, progress_freed, progress_p, progress_reg}
-use Rattle.mk_laws.proofs.Vocabulary.{set_past, slice_index_or, slice_set, still, ◌==◌}
+use Rattle.mk_laws.proofs.Vocabulary.{Stage, at_rest, begun, eqb-true, found, freed_cell, get_or-set_other}
+use Rattle.mk_laws.proofs.Vocabulary.{get_or-set_same, is_free_at, progress_freed, progress_p, progress_reg, set_past}
+use Rattle.mk_laws.proofs.Vocabulary.{slice_index_or, slice_set, still, ◌==◌}
 use Rattle.mk_quarantine.proofs.Vocabulary.{Bool, Caller, Cell, Config, Event, Flight, Holding, Host, IsHistory}
 use Rattle.mk_quarantine.proofs.Vocabulary.{KeptByEvents, Known, List, Marker, Meets, None, OfHistories, Op, Option}
 use Rattle.mk_quarantine.proofs.Vocabulary.{Seat, Some, Step, TurnOf, World, WorldBehind, ℕ, and_parts, ap, arith}
@@ -42,10 +42,7 @@ undecided_is_open Stage.Turn (Op.Free p) h = refl
 undecided_is_open _ _ h = cc
 
 call_not_open : (f : Flight) → standing f ≡ InCall → is_open_free f ≡ true → ⊥
-call_not_open f is waits = let e : InCall ≡ UnderTurn = sym is ∙ open_stands f.stage f.op waits in apart e
-  where
-    apart : InCall ≡ UnderTurn → ⊥
-    apart e = cc
+call_not_open f is waits = grind (arith, open_stands)
 
 give_not_open : (o : Op) → is_open_at Stage.Give o ≡ true → ⊥
 give_not_open o h = cc
@@ -85,11 +82,9 @@ came c v k n (Works f i t s) waits = by f i s waits
     by f i (Goes _ p q) waits = Stayed (own_call v.flights k (flight_in v k) (λ x. refl) waits)
     by f i (Loads _ at stands other) waits = Loaded at t.1
     by f i (Places _ was p q) waits = Stayed (own_call v.flights k (flight_in v k) (λ x. refl) waits)
-    by f i (Fills was p) waits =
-        Stayed (own_call v.flights k _ (λ x. absurd (give_not_open (flight_in v k).op x)) waits)
+    by f i (Fills was p) waits = grind (arith, own_call, give_not_open, flight_in)
     by f i (Grants was) waits = Stayed (own_call v.flights k _ (λ x. absurd (give_not_open (flight_in v k).op x)) waits)
-    by f i (Frees _ free p) waits =
-        Stayed (own_call v.flights k _ (λ x. absurd (give_not_open (flight_in v k).op x)) waits)
+    by f i (Frees _ free p) waits = grind (arith, own_call, give_not_open, flight_in)
 came c v k n _ waits = Stayed refl
 
 -- A free turn is taken by a `take` alone (as in `Undecided` of mk_laws).
@@ -103,8 +98,7 @@ taken_by_take : (c : Config) (w : World) (seat : Seat) (x : Step) (n : ℕ) → 
 taken_by_take c w seat (Step.Take o) n free now = record { op = o; is = refl }
 taken_by_take c w seat Step.Give n free now = absurd (omega arith)
 taken_by_take c w seat Step.Reg n free now = let same = (reg_leaves c w seat).turn in absurd (omega arith)
-taken_by_take c w seat (Step.Tally t v) n free now =
-    let same = (tally_keeps w.now.words t v).turn in absurd (omega arith)
+taken_by_take c w seat (Step.Tally t v) n free now = grind (arith, tally_keeps)
 taken_by_take c w seat _ n free now = absurd (omega arith)
 
 -- Where it comes from, by events.
@@ -125,15 +119,7 @@ load_by_reg o _ h = cc
 
 op_of_load : (f : Flight) (o : Op) (n : ℕ) → (progress_p f o n).flight.op ≡ f.op
 op_of_load f (Op.IsNull p) n = refl
-op_of_load f (Op.Free p) n = by (n == 0)
-  where
-    by : (b : Bool)
-        → (if b
-        then record { flight = record f { stage = Stage.Give; p = n }; answer = Some Answer.Done }
-        else onward (record f { p = n }) None).flight.op
-        ≡ f.op
-    by true = refl
-    by false = refl
+op_of_load f (Op.Free p) n = grind arith
 op_of_load f _ n = refl
 
 module _ (c : Config) (w : World) (k : ℕ) (known : Known c w.now) (lt : k < c.callers) where
@@ -172,16 +158,12 @@ module _ (c : Config) (w : World) (k : ℕ) (known : Known c w.now) (lt : k < c.
       (event_moves c w.now (Caller k) x known.orderly meets) waits)
     where
       by : Came (view_of w.now) k (view_of (WorldBehind c w (Caller k) x).now) → FreeCame c w (Caller k) x k
-      by (Stayed same) =
-          WasOpen (ap (λ (g : Flight). is_open_free g) (sym same) ∙ waits) (ap (λ (g : Flight). g.op) same)
+      by (Stayed same) = grind (arith, is_open_free)
       by (Took free now) =
           let take = taken_by_take c w (Caller k) x k free now in
           subst (λ (y : Step). FreeCame c w (Caller k) y k) (sym take.is)
           (taken_free take.op free (subst (λ (y : Step). Meets c w.now (Caller k) y) take.is meets))
-      by (Loaded at stands) =
-          let reg : x ≡ Step.Reg =
-          load_by_reg f.op x (subst (λ (s : Stage). comes_next s f.op x ≡ true) at meets.order) in
-          subst (λ (y : Step). FreeCame c w (Caller k) y k) (sym reg) (loaded at stands)
+      by (Loaded at stands) = grind (arith, load_by_reg, loaded)
 
 free_came : (c : Config) (w : World) (seat : Seat) (x : Step) (k : ℕ) → Known c w.now → Meets c w.now seat x
     → k < c.callers → HasOpen (WorldBehind c w seat x) k → FreeCame c w seat x k
@@ -200,13 +182,7 @@ free_came c w (Caller j) x k known meets lt waits = elim (cases_eq k j) [
 
 pub freer_has_free : (c : Config) (w : World) (seat : Seat) (x : Step)
     → decides_freed c w.now (flight_of w.now seat) x ≡ true → is_undecided_free (flight_of w.now seat) ≡ true
-freer_has_free c w seat (Step.Quar p v) h =
-    by (cell_freed c.pages w.now.words (flight_of w.now seat) p v) refl h
-  where
-    by : (cell : Option Cell) → cell_freed c.pages w.now.words (flight_of w.now seat) p v ≡ cell → is_some cell ≡ true
-        → is_undecided_free (flight_of w.now seat) ≡ true
-    by (Some cell) is h = (freed_cell c.pages w.now.words (flight_of w.now seat) p v cell is).free
-    by None is h = cc
+freer_has_free c w seat (Step.Quar p v) h = grind (arith, freed_cell)
 freer_has_free c w seat _ h = cc
 
 decided_gives : (c : Config) (w : World) (k : ℕ) (x : Step) → k < length w.now.seats.flights
@@ -228,9 +204,7 @@ frees_off : (c : Config) (w : World) (seat : Seat) (x : Step) (k : ℕ) → Know
 frees_off c w seat x k known meets lt was waits =
     false_from_ne_true (decides_freed c w.now (flight_of w.now seat) x) (λ frees.
     let holds = free_has_turn c w.now seat meets.seat (freer_has_free c w seat x frees) in
-    let same : seat ≡ Caller k =
-    same_holder c (view_of w.now) seat (Caller k) known.orderly holds
-    (lt, open_stands (flight_of w.now (Caller k)).stage (flight_of w.now (Caller k)).op was) in
+    let same : seat ≡ Caller k = grind (arith, same_holder, view_of, open_stands) in
     decided_gives c w k x (omega (arith, known.orderly.flights))
     (subst (λ (s : Seat). decides_freed c w.now (flight_of w.now s) x ≡ true) same frees)
     (subst (λ (s : Seat). HasOpen (WorldBehind c w s x) k) same waits))
@@ -247,8 +221,7 @@ gives_off c w (Caller j) x k known lt waits =
     by : (j : ℕ) (x : Step) → k ≡ j → is_give x ≡ true → HasOpen (WorldBehind c w (Caller j) x) k → ⊥
     by j Step.Give own is waits =
         let rests = get_or-set_same w.now.seats.flights k at_rest at_rest (omega (arith, known.orderly.flights)) in
-        let mine : HasOpen (WorldBehind c w (Caller k) Step.Give) k =
-        subst (λ i. HasOpen (WorldBehind c w (Caller i) Step.Give) k) (sym own) waits in
+        let mine : HasOpen (WorldBehind c w (Caller k) Step.Give) k = grind arith in
         true≢false (sym mine ∙ ap (λ (g : Flight). is_open_free g) rests)
     by j _ own is waits = cc
 
@@ -325,8 +298,7 @@ one_more c es e h all k lt waits =
 
 at_the_first : (c : Config) → OpenFreesHaveTurns c []
 unfolding left_from
-at_the_first c k lt waits =
-    absurd (true≢false (sym waits ∙ ap (λ (g : Flight). is_open_free g) (at_first c.callers k at_rest)))
+at_the_first c k lt waits = grind (arith, is_open_free, at_first)
 
 pub open_frees_have_turns : OfHistories OpenFreesHaveTurns
 open_frees_have_turns = holds_of_histories OpenFreesHaveTurns at_the_first one_more

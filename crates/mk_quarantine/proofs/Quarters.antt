@@ -2,13 +2,13 @@
 use Rattle.mk_alloc.proofs.Vocabulary.{FreesFirst, IsDue, IsDueIn, within_turn}
 use Rattle.mk_quarantine.proofs.Vocabulary.{Bool, Config, Event, Flight, InFirst, InSecond, IsHistory, KeptByEvents}
 use Rattle.mk_quarantine.proofs.Vocabulary.{Lacks, List, Moment, OfHistories, PlacedAllocation, Step, World, ℕ, ap}
-use Rattle.mk_quarantine.proofs.Vocabulary.{append_assoc, arith, cases_Bool, cases_lt, decides_freed, false}
-use Rattle.mk_quarantine.proofs.Vocabulary.{first_world, flight_of, fresh_words_of, given_back, given_back_behind}
-use Rattle.mk_quarantine.proofs.Vocabulary.{has_step, held_by_allocations, holds_of_histories, if◌then◌else◌, inl, inr}
-use Rattle.mk_quarantine.proofs.Vocabulary.{is_begin, is_mapped, is_of_cycle, lacks_append, lacks_at, lacks_first}
-use Rattle.mk_quarantine.proofs.Vocabulary.{lacks_one, left, left_in_parts, left_more, not, refl, stands, storage_words}
-use Rattle.mk_quarantine.proofs.Vocabulary.{subst, sym, taken, true, true≢false, world_behind, [], ⊎_elim, ◌&&◌, ◌*◌}
-use Rattle.mk_quarantine.proofs.Vocabulary.{◌++◌, ◌+◌, ◌<◌, ◌∙◌, ◌∷◌, ◌≡◌, ◌≤◌, ◌⊎◌}
+use Rattle.mk_quarantine.proofs.Vocabulary.{append_assoc, arith, cases_Bool, cases_lt, decides_freed, false, flight_of}
+use Rattle.mk_quarantine.proofs.Vocabulary.{fresh_words_of, given_back, given_back_behind, has_step}
+use Rattle.mk_quarantine.proofs.Vocabulary.{held_by_allocations, holds_of_histories, if◌then◌else◌, inl, inr, is_begin}
+use Rattle.mk_quarantine.proofs.Vocabulary.{is_mapped, is_of_cycle, lacks_append, lacks_at, lacks_first, lacks_one}
+use Rattle.mk_quarantine.proofs.Vocabulary.{left, left_in_parts, left_more, not, refl, stands, storage_words, subst}
+use Rattle.mk_quarantine.proofs.Vocabulary.{sym, taken, true, true≢false, world_behind, [], ⊎_elim, ◌&&◌, ◌*◌, ◌++◌}
+use Rattle.mk_quarantine.proofs.Vocabulary.{◌+◌, ◌<◌, ◌∙◌, ◌∷◌, ◌≡◌, ◌≤◌, ◌⊎◌}
 use Rattle.mk_core.specs.History.{left_from}
 use Rattle.mk_quarantine.proofs.CountedWords.{IsQuarter, filtered_in_parts, given_more, none_fresh_begun, quarter_stays}
 use Rattle.mk_quarantine.proofs.EndedFrees.{CallersAreExact, EndedFree, ended_free}
@@ -27,14 +27,7 @@ pub record IsPending (c : Config) (es : List Event) : Type 0 where
 
 pub pending_longer : (c : Config) (es : List Event) (e : Event) → is_begin e.step ≡ false → IsPending c es
     → IsPending c (es ++ e ∷ [])
-pending_longer c es e none p = record {
-  before = p.before;
-  event = p.event;
-  behind = p.behind ++ e ∷ [];
-  is = ap (λ (l : List Event). l ++ e ∷ []) p.is ∙ append_assoc p.before (p.event ∷ p.behind) (e ∷ []);
-  due = p.due;
-  none = lacks_append is_begin p.behind (e ∷ []) p.none (lacks_one is_begin e none);
-}
+pending_longer c es e none p = grind (arith, append_assoc, lacks_append, lacks_one)
 
 begins_free_none : (c : Config) (m : Moment) (f : Flight) (x : Step) → decides_freed c m f x ≡ true
     → is_begin x ≡ false
@@ -70,10 +63,7 @@ Quarters c es = IsQuarter c (left c es) (given_back c es) ⊎ IsPending c es
 to_longer : (c : Config) (es : List Event) (e : Event)
     → IsQuarter c (world_behind c (left c es) e) (given_back_behind c (left c es) e.step (given_back c es))
     → IsQuarter c (left c (es ++ e ∷ [])) (given_back c (es ++ e ∷ []))
-to_longer c es e quarter =
-    subst (λ n. IsQuarter c (left c (es ++ e ∷ [])) n) (sym (given_more c es e))
-    (subst (λ (w : World). IsQuarter c w (given_back_behind c (left c es) e.step (given_back c es)))
-    (sym (left_more c (first_world c) es e)) quarter)
+to_longer c es e quarter = grind (arith, given_more, left_more)
 
 quarters_kept : KeptByEvents Quarters
 unfolding Quarters

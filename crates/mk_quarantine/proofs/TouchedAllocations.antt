@@ -1,12 +1,11 @@
 -- What the last cycle kept is touched: released allocations stay so, so it was kept at the cycle's `release`.
-use Rattle.mk_laws.proofs.Vocabulary.{Releasing, before_release, freed_released, length-map, through_release}
-use Rattle.mk_quarantine.proofs.Vocabulary.{Bool, Config, Event, List, OfHistories, PlacedAllocation, Seat, Step, World}
-use Rattle.mk_quarantine.proofs.Vocabulary.{WorldBehind, ℕ, ap, append_assoc, arith, cases_lt, cell_freed, changed_at}
-use Rattle.mk_quarantine.proofs.Vocabulary.{earlier_at, false, false_from_ne_true, flight_of, freed_leaves}
-use Rattle.mk_quarantine.proofs.Vocabulary.{freed_where_it_stands, get_or_past, granted, inl, inr, is_quarantined, left}
-use Rattle.mk_quarantine.proofs.Vocabulary.{left_in_parts, length, length-append, never_granted, no_longer_fresh}
-use Rattle.mk_quarantine.proofs.Vocabulary.{placed_at, refl, subst, sym, true, true≢false, with_released, world_behind}
-use Rattle.mk_quarantine.proofs.Vocabulary.{[], ◌++◌, ◌<◌, ◌||◌, ◌∙◌, ◌∷◌, ◌≡◌}
+use Rattle.mk_laws.proofs.Vocabulary.{Releasing, freed_released, length-map, through_release}
+use Rattle.mk_quarantine.proofs.Vocabulary.{Bool, Config, Event, List, OfHistories, Seat, Step, World, WorldBehind, ℕ}
+use Rattle.mk_quarantine.proofs.Vocabulary.{ap, append_assoc, arith, cases_lt, cell_freed, changed_at, earlier_at}
+use Rattle.mk_quarantine.proofs.Vocabulary.{false_from_ne_true, flight_of, freed_leaves, freed_where_it_stands}
+use Rattle.mk_quarantine.proofs.Vocabulary.{get_or_past, granted, is_quarantined, left, left_in_parts, length}
+use Rattle.mk_quarantine.proofs.Vocabulary.{length-append, no_longer_fresh, placed_at, subst, sym, true, true≢false}
+use Rattle.mk_quarantine.proofs.Vocabulary.{with_released, world_behind, [], ◌++◌, ◌<◌, ◌||◌, ◌∙◌, ◌∷◌, ◌≡◌}
 use Rattle.mk_core.specs.{Cycles.before_begin, History.left_from}
 use Rattle.mk_laws.proofs.{PrecisionStopped.keeps_only_the_touched, Stretches.at_release}
 use Rattle.mk_quarantine.specs.KeptAllocations.{KeptAreTouched}
@@ -42,19 +41,10 @@ still_true a b is = grind arith
 
 released_behind : (c : Config) (w : World) (seat : Seat) (x : Step) (i : ℕ) → IsThere w i → IsReleased w i
     → IsReleased (WorldBehind c w seat x) i
-released_behind c w seat Step.Grant i there is =
-    ap (λ (a : PlacedAllocation). a.released)
-    (earlier_at w.allocations (granted c w.now (flight_of w.now seat)) i there) ∙ is
-released_behind c w seat (Step.Quar p v) i there is =
-    let cell = cell_freed c.pages w.now.words (flight_of w.now seat) p v in
-    ap (λ (a : PlacedAllocation). a.released)
-    (changed_at (freed_where_it_stands w.now.words cell) w.allocations i (freed_leaves w.now.words cell).none)
-    ∙ freed_released w.now.words cell (placed_at w.allocations i) ∙ is
-released_behind c w seat Step.Begin i there is =
-    ap (λ (a : PlacedAllocation). a.released) (changed_at no_longer_fresh w.allocations i refl) ∙ is
-released_behind c w seat Step.Release i there is =
-    ap (λ (a : PlacedAllocation). a.released) (changed_at (with_released c w.now.words) w.allocations i refl)
-    ∙ still_true (placed_at w.allocations i).released _ is
+released_behind c w seat Step.Grant i there is = grind (arith, earlier_at)
+released_behind c w seat (Step.Quar p v) i there is = grind (arith, changed_at, freed_leaves, freed_released)
+released_behind c w seat Step.Begin i there is = grind (arith, changed_at)
+released_behind c w seat Step.Release i there is = grind (arith, changed_at, still_true)
 released_behind c w seat _ i there is = is
 
 released_from : (c : Config) (w : World) (es : List Event) (i : ℕ) → IsThere w i → IsReleased w i
@@ -67,13 +57,7 @@ released_from c w (e ∷ es) i there is =
 
 -- What is in quarantine was granted.
 quarantined_is_there : (w : World) (i : ℕ) → is_quarantined (placed_at w.allocations i) ≡ true → IsThere w i
-quarantined_is_there w i h = elim (cases_lt i (length w.allocations)) [
-  | inl lt ↦ lt
-  | inr past ↦
-      let none : false ≡ true =
-      ap (λ (a : PlacedAllocation). is_quarantined a) (sym (get_or_past w.allocations i never_granted past)) ∙ h in
-      absurd (true≢false (sym none))
-]
+quarantined_is_there w i h = grind (arith, cases_lt, get_or_past)
 
 -- What comes up to a `release` begins with what came before the cycle.
 from_begin : {X : Type 0} (a p q s : List X) (x : X)
@@ -87,9 +71,7 @@ module _ (c : Config) {es : List Event} (r : Releasing es) (i : ℕ)
       let k = r.marking in
       let more : List Event =
       ((k.begin.event ∷ k.close.at.before) ++ k.close.at.event ∷ r.release.at.before) ++ r.release.at.event ∷ [] in
-      let split : through_release r ≡ k.begin.before ++ more =
-      from_begin k.begin.before k.close.at.before (k.close.at.event ∷ r.release.at.before) (r.release.at.event ∷ [])
-      k.begin.event in
+      let split : through_release r ≡ k.begin.before ++ more = grind (arith, from_begin) in
       subst (λ (w : World). IsThere w i)
       (sym (ap (λ (l : List Event). left c l) split ∙ left_in_parts c k.begin.before more))
       (there_from c (left c k.begin.before) more i (quarantined_is_there (left c k.begin.before) i snapshot))
@@ -97,8 +79,7 @@ module _ (c : Config) {es : List Event} (r : Releasing es) (i : ℕ)
   -- Released at the `release`, it is so in the end.
   released_in_the_end : IsReleased (left c (through_release r)) i → IsReleased (left c es) i
   released_in_the_end released =
-      let whole : es ≡ through_release r ++ r.release.at.behind =
-      at_release r ∙ sym (append_assoc (before_release r) (r.release.at.event ∷ []) r.release.at.behind) in
+      let whole : es ≡ through_release r ++ r.release.at.behind = grind (arith, at_release, append_assoc) in
       subst (λ (w : World). IsReleased w i) (sym (ap (λ (l : List Event). left c l) whole ∙ left_in_parts c _ _))
       (released_from c _ _ i there_at_release released)
 

@@ -4,10 +4,9 @@ use Rattle.mk_words.specs.States.{WordsState}
 use Rattle.mk_cycle.specs.declared.bench.Bench.{Bench}
 use Rattle.mk_run.specs.declared.benches.Benches.{Benches}
 
--- The engine of a bench is made for so many pages, and its book has as many.
+-- The engine of a bench is made for so many pages.
 pub record IsMadeFor {E : Type 0} (made_for : E → ℕ) (pages : ℕ) (bench : Bench E) : Type 0 where
   pub engine : made_for bench.engine ≡ pages
-  pub book : length bench.book ≡ pages
 
 -- There is a bench for each caller from k on, made for the pages of the heap.
 pub record AreBenchesFrom {E : Type 0} (made_for : E → ℕ) (w : WordsState) (k : ℕ) (benches : List (Bench E))

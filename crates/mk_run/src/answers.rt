@@ -1,5 +1,5 @@
 //! The operations of a script, each with its answer.
-ghost use Rattle.std.specs.Prelude.{◌≡◌, ◌<◌, ◌∷◌, [], length, IfOk, IfErr, OnErr, IfSome, IfNone, true, false, Bool};
+ghost use Rattle.std.specs.Prelude.{◌≡◌, ◌<◌, ◌∷◌, [], IfOk, IfErr, OnErr, IfSome, IfNone, true, false, Bool};
 ghost use Rattle.mk_core.specs.Calls.{is_under_turn};
 ghost use Rattle.mk_never.specs.declared.operations.Op.{Op};
 ghost use Rattle.mk_caller.specs.Causes.{FindsGateHeld, IsRefused};
@@ -132,10 +132,8 @@ fn answer_now<E: Engine, R: Threads + Wait + Sync>(
     requires alone { caller.old.pass.seats ≡ caller.old.pass.seat ∷ [] }
     requires admitted { IsAdmittedByOwnCalls caller.old.pass op }
     requires made_for { E.made_for bench.old.engine ≡ caller.old.pass.table.config.pages }
-    requires book { length bench.old.book ≡ caller.old.pass.table.config.pages }
     ensures home { caller.new.home ≡ true }
     ensures made_for { E.made_for bench.new.engine ≡ E.made_for bench.old.engine }
-    ensures book { length bench.new.book ≡ length bench.old.book }
     ensures answers { IfOk result (λ told. Answers E.on caller.old.pass op told caller.new.pass) }
     ensures held { OnErr result (IsHeldUp caller.old.pass op caller.new.pass) }
     ensures reached { E.sweeps ≡ false → SweepsNothing caller.old.pass caller.new.pass }
@@ -171,10 +169,8 @@ pub fn answer_to<E: Engine, R: Threads + Wait + Sync>(
     requires alone { caller.old.pass.seats ≡ caller.old.pass.seat ∷ [] }
     requires admitted { IsAdmittedByOwnCalls caller.old.pass op }
     requires made_for { E.made_for bench.old.engine ≡ caller.old.pass.table.config.pages }
-    requires book { length bench.old.book ≡ caller.old.pass.table.config.pages }
     ensures home { caller.new.home ≡ true }
     ensures made_for { E.made_for bench.new.engine ≡ E.made_for bench.old.engine }
-    ensures book { length bench.new.book ≡ length bench.old.book }
     ensures answers { Answers E.on caller.old.pass op result caller.new.pass }
     ensures reached { E.sweeps ≡ false → SweepsNothing caller.old.pass caller.new.pass }
     ensures begun { EachIsBegun E.begins caller.old.pass caller.new.pass }
@@ -240,10 +236,8 @@ pub(crate) fn answer_put_off<E: Engine, R: Threads + Wait + Sync>(
     requires asks { AsksFor feed.now op }
     requires admitted { IsAdmittedByOwnCalls caller.old.pass op }
     requires made_for { E.made_for bench.old.engine ≡ caller.old.pass.table.config.pages }
-    requires book { length bench.old.book ≡ caller.old.pass.table.config.pages }
     ensures home { caller.new.home ≡ true }
     ensures made_for { E.made_for bench.new.engine ≡ E.made_for bench.old.engine }
-    ensures book { length bench.new.book ≡ length bench.old.book }
     ensures answers { Answers E.on caller.old.pass op result caller.new.pass }
     ensures reached { E.sweeps ≡ false → SweepsNothing caller.old.pass caller.new.pass }
     ensures begun { EachIsBegun E.begins caller.old.pass caller.new.pass }

@@ -1,5 +1,5 @@
 //! The host's last turns, when the scripts are joined.
-ghost use Rattle.std.specs.Prelude.{◌≡◌, length, true, false};
+ghost use Rattle.std.specs.Prelude.{◌≡◌, true, false};
 ghost use Rattle.mk_core.specs.declared.events.Seat.TheVariants as seat;
 ghost use Rattle.mk_words.specs.Seats.{Has, HasCallers, has_over};
 ghost use Rattle.mk_turns.specs.Sweeping.{SweepsNothing};
@@ -22,7 +22,6 @@ fn cycle_and_over<E: Engine, R: Threads + Wait + Sync>(
 )
     requires one_table { host.old.pass.table ≡ heap.now }
     requires made_for { E.made_for bench.old.engine ≡ heap.now.config.pages }
-    requires book { length bench.old.book ≡ heap.now.config.pages }
     requires seat { host.old.pass.seat ≡ seat.Host }
     requires own { Has host.old.pass.seats seat.Host }
     requires joined { CallersAreJoined host.old }
@@ -50,7 +49,6 @@ pub(crate) fn take_last_turns<E: Engine, R: Threads + Wait + Sync>(
 )
     requires one_table { host.old.pass.table ≡ heap.now }
     requires made_for { E.made_for bench.old.engine ≡ heap.now.config.pages }
-    requires book { length bench.old.book ≡ heap.now.config.pages }
     requires seat { host.old.pass.seat ≡ seat.Host }
     requires own { Has host.old.pass.seats seat.Host }
     requires joined { CallersAreJoined host.old }

@@ -1,5 +1,5 @@
 //! The run of one script.
-ghost use Rattle.std.specs.Prelude.{◌≡◌, ℕ, List, ◌+◌, [], ◌∷◌, length, count_by, IfOk, OnOk, true, false};
+ghost use Rattle.std.specs.Prelude.{◌≡◌, ℕ, List, ◌+◌, [], ◌∷◌, count_by, IfOk, OnOk, true, false};
 ghost use Rattle.mk_core.specs.declared.events.Answer.{Answer};
 ghost use Rattle.mk_script.specs.declared.items.Item.{Item};
 ghost use Rattle.mk_check.specs.Declarations.{config_of};
@@ -100,7 +100,6 @@ pub fn run_script<E: Engine, P: Pace, R: Threads + Wait + Sync>(
     requires follows { FollowsScript E.on program.now k caller.old.pass.table.config caller.old.pass.seen }
     requires no_call { answers_in caller.old.pass.table.config k caller.old.pass.seen ≡ [] }
     requires made_for { E.made_for bench.old.engine ≡ caller.old.pass.table.config.pages }
-    requires book { length bench.old.book ≡ caller.old.pass.table.config.pages }
     ensures home { caller.new.home ≡ true }
     ensures pass { caller.new.pass ≡ record caller.old.pass { seen = caller.new.pass.seen } }
     ensures follows { FollowsScript E.on program.now k caller.new.pass.table.config caller.new.pass.seen }

@@ -2,6 +2,7 @@ pub mod CanonicalLines
 pub mod ClosedBlocks
 pub mod PrintedFields
 pub mod PrintedForms
+pub mod PrintedOperands
 pub mod LineWords
 pub mod LinesAgain
 pub mod PassedLines

@@ -5,9 +5,9 @@ use Rattle.mk_script.proofs.Vocabulary.{and_from, and_parts, ap, bytes_eq, codes
 use Rattle.mk_script.proofs.Vocabulary.{has_word_count, have_form, is_placed, is_twice, item_from, keyword_of, length}
 use Rattle.mk_script.proofs.Vocabulary.{line_of, nat_le, open_blocks, refl, subst, sym, true, type_names, words_of_item}
 use Rattle.mk_script.proofs.Vocabulary.{[], ◌&&◌, ◌+◌, ◌∙◌, ◌∷◌, ◌≡◌, ◌≤◌}
-use Rattle.mk_script.proofs.PrintedForms.{IsShort, Printed, no_item, read_number, said}
-use Rattle.mk_script.proofs.Said.{is_this, then_again, with_number}
-use Rattle.mk_script.proofs.{LineWords.AreWords, LineWords.is_word-decimal, PassedLines.passed}
+use Rattle.mk_script.proofs.PrintedForms.{IsShort, read_number, said}
+use Rattle.mk_script.proofs.{LineWords.AreWords, LineWords.is_word-decimal, PassedLines.passed, PrintedOperands.Printed}
+use Rattle.mk_script.proofs.{PrintedOperands.no_item, Said.is_this, Said.then_again, Said.with_number}
 use Rattle.mk_script.specs.Lines.{at_most, checked_item, heap_line, limit_fault, line_item, other_line, placed_item}
 use Rattle.mk_script.specs.declared.faults.Which.{Which}
 

@@ -20,7 +20,7 @@ use Rattle.mk_stack.proofs.NodeKinds.{IsStackState, gets_to, global_kind, node_l
 use Rattle.mk_stack.proofs.Replies.{Happens, from_called, from_turn}
 use Rattle.mk_stack.proofs.ReplyForms.{done_reply, double_reply, num_reply, word_reply}
 use Rattle.mk_stack.proofs.Heaps.{other_register, set_register}
-use Rattle.mk_stack.specs.Advancing.{IsReady}
+use Rattle.mk_stack.specs.Ready.{IsReady}
 
 -- The state at which an operation was decided
 pub place_state : {p q : PassState} {o : Op} {a : Answer} → HasStackTypes p.table.config → (h : Happens p o a q)

@@ -1,8 +1,10 @@
 -- Operations one after the other, from the point of a job where its caller was.
 use Rattle.mk_stack.proofs.Vocabulary.{Advances, CallerState, GoesToPoint, HasStackTypes, Leads, PassState, Point}
 use Rattle.mk_stack.proofs.Vocabulary.{Replied, Stays, caller_of_pass, replied_to}
-use Rattle.mk_laws.proofs.Vocabulary.{List, ap, append_assoc, refl, subst, sym, true, [], ◌++◌, ◌<◌, ◌∙◌, ◌∷◌, ◌≡◌}
-use Rattle.mk_stack.specs.Advancing.{IsReady}
+use Rattle.mk_laws.proofs.Vocabulary.{List, ℕ, ap, append_assoc, refl, subst, sym, true, [], ◌++◌, ◌<◌, ◌∙◌, ◌∷◌, ◌≡◌}
+use Rattle.mk_cycle.specs.declared.bench.Bench.{Bench}
+use Rattle.mk_run.specs.Benches.{IsMadeFor}
+use Rattle.mk_stack.specs.Ready.{IsReady, IsReadyForJobs}
 
 pub leads_through : (s : Point) (xs : List Replied) (t : Point) (ys : List Replied) (u : Point) → Leads s xs t
     → Leads t ys u → Leads s (xs ++ ys) u
@@ -35,11 +37,28 @@ goes_held {p} {q} r goes on =
     record { is = seen_then p q r goes.is on.is; all = goes.all; leads = goes.leads; did = on.did ∙ goes.did }
 
 -- A caller that has seen more is ready still.
-pub ready_on : (s t : CallerState) → IsReady s → t.home ≡ true → t.pass ≡ record s.pass { seen = t.pass.seen }
+
+pub ready_on : {s t : CallerState} → IsReady s → t.home ≡ true → t.pass ≡ record s.pass { seen = t.pass.seen }
     → IsReady t
-ready_on s t ready home is =
+ready_on ready home is =
     record {
       home = home;
       exists = subst (λ (q : PassState). caller_of_pass q < q.table.config.callers) (sym is) ready.exists;
       types = subst (λ (q : PassState). HasStackTypes q.table.config) (sym is) ready.types;
     }
+
+pub jobs_on : {E : Type 0} {made_for : E → ℕ} {s t : CallerState} {b : Bench E} (d : Bench E)
+    → IsReadyForJobs made_for s b
+    → t.home ≡ true → t.pass ≡ record s.pass { seen = t.pass.seen } → IsMadeFor made_for s.pass.table.config.pages d
+    → IsReadyForJobs made_for t d
+jobs_on {made_for} d ready home is made =
+    record {
+      ready = ready_on ready.ready home is;
+      alone = subst (λ (q : PassState). q.seats ≡ q.seat ∷ []) (sym is) ready.alone;
+      made = subst (λ (q : PassState). IsMadeFor made_for q.table.config.pages d) (sym is) made;
+    }
+
+-- After a turn the bench is made for the same pages.
+pub still_made : {E : Type 0} {made_for : E → ℕ} {pages : ℕ} {b : Bench E} (d : Bench E) → IsMadeFor made_for pages b
+    → made_for d.engine ≡ made_for b.engine → IsMadeFor made_for pages d
+still_made d made engine = record { engine = engine ∙ made.engine }

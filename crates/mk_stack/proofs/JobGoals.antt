@@ -1,9 +1,7 @@
 -- Where operations lead: from points of a job to points of that job.
 use Rattle.mk_stack.proofs.Vocabulary.{Asks, Done, Empty, Ended, Founded, Founding, Full, Job, Leads, NeverState, Op}
-use Rattle.mk_stack.proofs.Vocabulary.{Placing, Point, Pop, Popped, Push, Pushed, Replied, Reply, Starting, clear}
-use Rattle.mk_stack.proofs.Vocabulary.{done_without, fail, fill, find_no_room, follow, found, free, free_again, go_pop}
-use Rattle.mk_stack.proofs.Vocabulary.{go_push, lack, link, look, make, meet, miss, peek, place, pop_again, publish}
-use Rattle.mk_stack.proofs.Vocabulary.{push_again, read, start, unlink}
+use Rattle.mk_stack.proofs.Vocabulary.{Placing, Point, Pop, Popped, Push, Pushed, Replied, Reply, Starting}
+use Rattle.mk_stack.proofs.Vocabulary.{done_without, fail, find_no_room, found, lack, miss, place, publish, read}
 use Rattle.mk_laws.proofs.Vocabulary.{List, None, Option, Some, ℕ, refl, subst, sym, [], ◌∙◌, ◌∷◌, ◌≡◌}
 use Rattle.mk_stack.proofs.Invariant.{IsFreeing, IsPushing, Local}
 use Rattle.mk_stack.proofs.{Assembly.IsOfJob, Assembly.job_at, Roles.Role}
@@ -23,27 +21,7 @@ job_goes_on : {s : Point} {o : Op} {r : Reply} {next : Point} → Asks s o r nex
 job_goes_on found h = absurd h
 job_goes_on find_no_room h = absurd h
 job_goes_on place h = absurd h
-job_goes_on (start) h = tt
-job_goes_on (lack) h = tt
-job_goes_on (go_push {n = x}) h = tt
-job_goes_on go_pop h = tt
-job_goes_on (make {n = x}) h = tt
-job_goes_on (fail {n = x}) h = tt
-job_goes_on (fill {n = x}) h = tt
-job_goes_on (look {n = x} {v}) h = tt
-job_goes_on (link {n = x}) h = tt
-job_goes_on (publish {n = x}) h = tt
-job_goes_on (push_again {n = x}) h = tt
-job_goes_on (peek) h = tt
-job_goes_on miss h = tt
-job_goes_on meet h = tt
-job_goes_on (follow) h = tt
-job_goes_on unlink h = tt
-job_goes_on pop_again h = tt
-job_goes_on free h = tt
-job_goes_on free_again h = tt
-job_goes_on (read {n = x}) h = tt
-job_goes_on {r} (clear {d = y} {r = x} lt) h = tt
+job_goes_on _ h = tt
 
 -- A job doesn't found a stack.
 pub no_founding : (s : Point) (xs : List Replied) → IsOfJob s → Leads s xs Founded → ⊥
@@ -60,30 +38,12 @@ ended d u some none = none_some d (sym some ∙ none)
 pub same_job : {s : Point} {o : Op} {r : Reply} {next : Point} → Asks s o r next
     → (m : NeverState) (top : Option ℕ) (role : ℕ → Role) (k : ℕ) (u : Option Done) → Local m top role k next u
     → u ≡ None → job_at next ≡ job_at s
-same_job found m top role k u local none = refl
-same_job find_no_room m top role k u local none = refl
-same_job place m top role k u local none = refl
-same_job (start) m top role k u local none = refl
 same_job (lack) m top role k u local none = absurd (ended _ u local none)
-same_job (go_push {n = x}) m top role k u local none = refl
-same_job go_pop m top role k u local none = refl
-same_job (make {n = x}) m top role k u local none = refl
 same_job (fail {n = x}) m top role k u local none = absurd (ended _ u local none)
-same_job (fill {n = x}) m top role k u local none = refl
-same_job (look {n = x} {v}) m top role k u local none = refl
-same_job (link {n = x}) m top role k u local none = refl
 same_job (publish {n = x}) m top role k u local none = absurd (ended _ u local none)
-same_job (push_again {n = x}) m top role k u local none = refl
-same_job (peek) m top role k u local none = refl
 same_job miss m top role k u local none = absurd (ended _ u local none)
-same_job meet m top role k u local none = refl
-same_job (follow) m top role k u local none = refl
-same_job unlink m top role k u local none = refl
-same_job pop_again m top role k u local none = refl
-same_job free m top role k u local none = refl
-same_job free_again m top role k u local none = refl
 same_job (read {n = x}) m top role k u local none = absurd (ended _ u local none)
-same_job {r} (clear {d = y} {r = x} lt) m top role k u local none = refl
+same_job _ m top role k u local none = refl
 
 -- A job ends as it may.
 
@@ -96,30 +56,12 @@ fit_without (Push x) j' is = subst (λ (k : Job). IsFit k Full) is tt
 fit_without Pop j' is = subst (λ (k : Job). IsFit k Empty) is tt
 
 job_stays : {s : Point} {o : Op} {r : Reply} {next : Point} → Asks s o r next → (j : Job) → IsAtJob j s → IsAtJob j next
-job_stays found j is = is
-job_stays find_no_room j is = is
-job_stays place j is = is
-job_stays (start {j = i} {v}) j is = is
 job_stays (lack {j = i}) j is = fit_without i j is
-job_stays (go_push {n = x}) j is = is
-job_stays go_pop j is = is
-job_stays (make {n = x}) j is = is
 job_stays (fail {n = x}) j is = subst (λ (k : Job). IsFit k Full) is tt
-job_stays (fill {n = x}) j is = is
-job_stays (look {n = x} {v}) j is = is
-job_stays (link {n = x}) j is = is
 job_stays (publish {n = x}) j is = subst (λ (k : Job). IsFit k Pushed) is tt
-job_stays (push_again {n = x}) j is = is
-job_stays (peek) j is = is
 job_stays miss j is = subst (λ (k : Job). IsFit k Empty) is tt
-job_stays meet j is = is
-job_stays (follow) j is = is
-job_stays unlink j is = is
-job_stays pop_again j is = is
-job_stays free j is = is
-job_stays free_again j is = is
 job_stays (read {n = x}) j is = subst (λ (k : Job). IsFit k (Popped x)) is tt
-job_stays {r} (clear {d = y} {r = x} lt) j is = is
+job_stays _ j is = is
 
 leads_at_job : (s : Point) (xs : List Replied) (t : Point) (j : Job) → IsAtJob j s → Leads s xs t → IsAtJob j t
 leads_at_job s [] t j is leads = subst (IsAtJob j) leads is
@@ -164,3 +106,15 @@ fit_as {j} d ends is = subst (IsFit j) (same (sym ends.is ∙ is)) ends.fit
   where
     same : Ended ends.done ≡ Ended d → ends.done ≡ d
     same e = cc
+
+-- A push that isn't done was full, and a pop without a number found nothing.
+
+pub full_unless_pushed : (n : ℕ) (d : Done) → IsFit (Push n) d → (d ≡ Pushed → ⊥) → d ≡ Full
+full_unless_pushed n Pushed fit other = absurd (other refl)
+full_unless_pushed n Full fit other = refl
+full_unless_pushed n _ fit other = absurd fit
+
+pub empty_unless_popped : (d : Done) → IsFit Pop d → ((n : ℕ) → d ≡ Popped n → ⊥) → d ≡ Empty
+empty_unless_popped (Popped n) fit other = absurd (other n refl)
+empty_unless_popped Empty fit other = refl
+empty_unless_popped _ fit other = absurd fit

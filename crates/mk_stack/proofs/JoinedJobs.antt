@@ -1,18 +1,22 @@
 -- Callers that did their jobs, as the host joins them.
-use Rattle.std.proofs.Common.{Err, IfOk, IsOk, Ok, OnOk, Result, ⊎_elim}
+use Rattle.std.proofs.Common.{Err, IfOk, IsOk, Ok, OnOk, Result, slice_get, ⊎_elim}
+use Rattle.std.proofs.{lemmas.List.drop_more, lemmas.Option.slice_get-get_or}
 use Rattle.mk_stack.proofs.Vocabulary.{Caller, CallerState, Config, Decided, DoesJobs, Done, Dones, Event, Grows, Has}
-use Rattle.mk_stack.proofs.Vocabulary.{HasHandedOut, HaveDone, HaveWorked, Host, HostState, Job, Jobs, Joined}
-use Rattle.mk_stack.proofs.Vocabulary.{PassState, Replied, Seat, WordsState, after_calls, all_of, asked, at_home}
-use Rattle.mk_stack.proofs.Vocabulary.{caller_of_pass, calls, left, never_first, own_replied, pass_for, replied_in}
-use Rattle.mk_stack.proofs.Vocabulary.{replied_to, with_joined}
-use Rattle.mk_laws.proofs.Vocabulary.{List, ℕ, ap, append-nil, arith, cases_eq, inl, inr, length, refl, subst, sym, []}
-use Rattle.mk_laws.proofs.Vocabulary.{◌++◌, ◌+◌, ◌<◌, ◌∙◌, ◌∷◌, ◌≡◌, ◌≢◌, ◌≤◌, ◌⊎◌}
+use Rattle.mk_stack.proofs.Vocabulary.{HasHandedOut, HasStackTypes, HaveDone, HaveWorked, Host, HostState, Job, Jobs}
+use Rattle.mk_stack.proofs.Vocabulary.{Joined, PassState, Replied, Seat, WordsState, after_calls, all_of, asked}
+use Rattle.mk_stack.proofs.Vocabulary.{at_home, caller_of_pass, calls, left, never_first, own_replied, pass_for}
+use Rattle.mk_stack.proofs.Vocabulary.{replied_in, replied_to, with_joined}
+use Rattle.mk_laws.proofs.Vocabulary.{List, Some, ℕ, ap, append-nil, arith, cases_eq, drop, get_or, inl, inr, length}
+use Rattle.mk_laws.proofs.Vocabulary.{refl, subst, sym, true, [], ◌++◌, ◌+◌, ◌<◌, ◌∙◌, ◌∷◌, ◌≡◌, ◌≢◌, ◌≤◌, ◌⊎◌}
 use Rattle.mk_never.specs.declared.never_heap.NoMemory.{NoMemory}
 use Rattle.mk_core.{proofs.HistoryParts.calls_in_parts, specs.History.calls_from}
 use Rattle.mk_caller.specs.States.{IsIdleCaller}
+use Rattle.mk_cycle.specs.declared.bench.Bench.{Bench}
 use Rattle.mk_heap.specs.Hosts.{with_caller_made}
+use Rattle.mk_run.specs.Benches.{IsMadeFor}
 use Rattle.mk_stack.proofs.{OwnCalls.none_of, Replies.asked_in_two, Replies.none_replied, Replies.own_in_parts}
-use Rattle.mk_stack.specs.{JobLists.HasDone, Joining.HasWorked, Joining.IsBetweenJobs, declared.joining.Worked.Worked}
+use Rattle.mk_stack.specs.Joining.{HasWorked, IsBetweenJobs}
+use Rattle.mk_stack.specs.{JobLists.HasDone, Ready.IsReadyForJobs, declared.joining.Worked.Worked}
 use Rattle.mk_words.proofs.Seats.{has_first, has_left, has_right, others_own, without_keeps}
 use Rattle.mk_words.specs.Seats.{has_over}
 
@@ -228,17 +232,32 @@ has_worked {w} {k} {p} s {q} r jobs dones ready home is does same idle =
     subst (λ (x : PassState). HasWorked w (replied_to p) k jobs (record { pass = x; dones = dones })) (sym same)
     (record { ready = is_ready ready goes idle; done = all_done_by q jobs dones ready all })
 
--- What a caller's jobs ask for
+-- A caller between two jobs may do the next one.
+pub ready_between : {E : Type 0} {made_for : E → ℕ} {w : WordsState} {k : ℕ} {s : CallerState} {b : Bench E}
+    → s.home ≡ true → IsBetweenJobs w k s.pass → k < w.config.callers → HasStackTypes w.config
+    → IsMadeFor made_for w.config.pages b → IsReadyForJobs made_for s b
+ready_between {made_for} {w} {k} {s} {b} home ready lt types made =
+    let number : caller_of_pass s.pass ≡ k =
+    ap (λ (x : Seat). caller_of_pass (record s.pass { seat = x })) ready.seat in
+    let exists : caller_of_pass s.pass < w.config.callers = omega (arith, number, lt) in
+    record {
+      ready = record {
+        home = home;
+        exists = subst (λ (v : WordsState). caller_of_pass s.pass < v.config.callers) (sym ready.table) exists;
+        types = subst (λ (v : WordsState). HasStackTypes v.config) (sym ready.table) types;
+      };
+      alone = ready.alone ∙ ap (λ (x : Seat). x ∷ []) (sym ready.seat);
+      made = subst (λ (v : WordsState). IsMadeFor made_for v.config.pages b) (sym ready.table) made;
+    }
 
-pub ready_exists : {w : WordsState} {k : ℕ} {p : PassState} (s : CallerState) → IsBetweenJobs w k p → s ≡ at_home p
-    → k < w.config.callers → caller_of_pass s.pass < s.pass.table.config.callers
-ready_exists {w} {p} s ready home lt =
-    subst (λ (x : CallerState). caller_of_pass x.pass < x.pass.table.config.callers) (sym home)
-    (subst (λ (v : WordsState). caller_of_pass p < v.config.callers) (sym ready.table)
-    (subst (λ (x : Seat). caller_of_pass (record p { seat = x }) < w.config.callers) (sym ready.seat) lt))
+-- The list of a caller, and those of the callers after it
+pub record HasNext (lists : List Jobs) (k : ℕ) : Type 0 where
+  pub jobs : Jobs
+  pub there : slice_get lists k ≡ Some jobs
+  pub rest : drop k lists ≡ jobs ∷ drop (k + 1) lists
 
-pub ready_alone : {w : WordsState} {k : ℕ} {p : PassState} (s : CallerState) → IsBetweenJobs w k p → s ≡ at_home p
-    → s.pass.seats ≡ s.pass.seat ∷ []
-ready_alone s ready home =
-    subst (λ (x : CallerState). x.pass.seats ≡ x.pass.seat ∷ []) (sym home)
-    (ready.alone ∙ ap (λ (x : Seat). x ∷ []) (sym ready.seat))
+pub next_list : (lists : List Jobs) (k : ℕ) → k < length lists → HasNext lists k
+next_list [] k lt = absurd (omega (arith, lt))
+next_list (x ∷ xs) k lt =
+    let y : Jobs = get_or (x ∷ xs) k x in
+    record { jobs = y; there = slice_get-get_or (x ∷ xs) k x lt; rest = drop_more (x ∷ xs) k x lt }

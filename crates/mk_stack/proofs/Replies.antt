@@ -14,8 +14,7 @@ use Rattle.mk_core.proofs.{Histories.calls_more, HistoryParts.calls_in_parts}
 use Rattle.mk_laws.proofs.LastEvents.{comes_last, stands}
 use Rattle.mk_alloc.{proofs.Decisions.same_last, specs.TurnCalls.CalledInTurn}
 use Rattle.mk_caller.proofs.OwnSteps.{by_append, calls_by}
-use Rattle.mk_caller.specs.{Called.IsDecidedIn, Called.Says, Called.own_calls, Causes.FindsGateHeld, Causes.IsRefused}
-use Rattle.mk_caller.specs.{declared.refusals.Refusal.Refusal, declared.refusals.Refusal.TheVariants.Held}
+use Rattle.mk_caller.specs.{Called.IsDecidedIn, Called.Says, Called.own_calls, Causes.FindsGateHeld}
 use Rattle.mk_words.specs.States.{event_of}
 
 -- A caller's operations in two parts
@@ -235,9 +234,6 @@ stays_held {p} {q} {o} f =
         ∙ own_in_parts k (never_first c) (asked (calls c p.seen)) (asked later)
         ∙ ap (λ (l : List Replied). replied_to p ++ l) (none_replied k (never_behind c p.seen) later nothing)
         ∙ append-nil (replied_to p)
-
-pub stays_refused : {p q : PassState} (o : Op) (e : Refusal) → e ≡ Held → IsRefused p o e q → Stays p q
-stays_refused {p} {q} o e is refused = stays_held (subst (λ (x : Refusal). IsRefused p o x q) is refused)
 
 -- what was said, as the arm has it
 pub says_so : {p q : PassState} {o : Op} {said b : Bool} → said ≡ b → Says p o said q → Says p o b q

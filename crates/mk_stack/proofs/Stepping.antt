@@ -56,28 +56,6 @@ module _ {callers : ℕ} {n : NeverState} {top : Option ℕ} {role : ℕ → Rol
   -- No Free is answered Double.
   pub single : (s : Point) (o : Op) (r : Reply) (next : Point) → Asks s o r next → (u : Option Done)
       → Local n top role c s u → reply_of n c o ≡ r → reply_of n c o ≡ Reply.Double → ⊥
-  single s o r next found u local said double = cc
-  single s o r next find_no_room u local said double = cc
-  single s o r next place u local said double = cc
-  single s o r next (start {j} {v}) u local said double = cc
-  single s o r next (lack {j}) u local said double = cc
-  single s o r next (go_push {n = x}) u local said double = cc
-  single s o r next go_pop u local said double = cc
-  single s o r next (make {n = x}) u local said double = cc
-  single s o r next (fail {n = x}) u local said double = cc
-  single s o r next (fill {n = x}) u local said double = cc
-  single s o r next (look {n = x} {v}) u local said double = cc
-  single s o r next (link {n = x}) u local said double = cc
-  single s o r next (publish {n = x}) u local said double = cc
-  single s o r next (push_again {n = x}) u local said double = cc
-  single s o r next (peek {v}) u local said double = cc
-  single s o r next miss u local said double = cc
-  single s o r next meet u local said double = cc
-  single s o r next (follow {v}) u local said double = cc
-  single s o r next unlink u local said double = cc
-  single s o r next pop_again u local said double = cc
-  single s o r next free u local said double = cc
   single s o r next free_again u local said double =
       done_is_not_double (sym (free_replies inv c exists u local) ∙ double)
-  single s o r next (read {n = x}) u local said double = cc
-  single s o r next (clear {d = y} {r = x} lt) u local said double = cc
+  single s o r next _ u local said double = cc

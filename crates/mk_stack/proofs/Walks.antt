@@ -69,14 +69,8 @@ by_descending : (P : Op → Reply → WalkPoint → Type 0)
 by_descending P a (descend {v}) = a v
 
 not_from_end : {s : WalkPoint} {o : Op} {r : Reply} {t : WalkPoint} → Walks s o r t → s ≡ WalkPoint.Ended → ⊥
-not_from_end (start) e = cc
 not_from_end lack e = cc
-not_from_end go e = cc
-not_from_end (peek) e = cc
-not_from_end stop e = cc
-not_from_end meet e = cc
-not_from_end (read {n = x}) e = cc
-not_from_end (descend) e = cc
+not_from_end _ e = cc
 
 -- Behind its end a walk asks nothing.
 at_end : (k : ℕ) (m : NeverState) (os : List Op) (t : WalkPoint) → LeadsDown WalkPoint.Ended (each k m os) t
@@ -275,14 +269,8 @@ module _ (n : NeverState) (k : ℕ) where
 -- A walk changes nothing.
 
 is_look : {s : WalkPoint} {o : Op} {r : Reply} {t : WalkPoint} → Walks s o r t → IsLook o
-is_look (start) = tt
 is_look lack = tt
-is_look go = tt
-is_look (peek) = tt
-is_look stop = tt
-is_look meet = tt
-is_look (read {n = x}) = tt
-is_look (descend) = tt
+is_look _ = tt
 
 are_looks : (k : ℕ) (m : NeverState) (s t : WalkPoint) (xs : List Call) → LeadsDown s (each k m (ops_of xs)) t
     → AreLooks xs

@@ -1,5 +1,5 @@
 -- One operation of a job at a time: what its caller's registers hold at each point. Private functions alone cite this.
-use Rattle.std.specs.Prelude.{◌≡◌, ◌<◌, ℕ, ◌++◌, [], ◌∷◌, true}
+use Rattle.std.specs.Prelude.{◌≡◌, ℕ, ◌++◌, [], ◌∷◌}
 use Rattle.mk_never.specs.declared.operations.Op.{Op}
 use Rattle.mk_never.specs.declared.operations.Reply.{Reply}
 use Rattle.mk_never.specs.declared.types.Kind.TheVariants.{To}
@@ -8,7 +8,7 @@ use Rattle.mk_never.specs.declared.values.Value.TheVariants.{Ptr}
 use Rattle.mk_never.specs.Admitted.{IsOfKind}
 use Rattle.mk_never.specs.Laws.{KeepsRegisters}
 use Rattle.mk_words.specs.States.{PassState}
-use Rattle.mk_caller.specs.States.{CallerState, never_of, caller_of_pass, value_of}
+use Rattle.mk_caller.specs.States.{never_of, caller_of_pass, value_of}
 use Rattle.mk_stack.specs.declared.jobs.Job.{Job}
 use Rattle.mk_stack.specs.declared.jobs.Job.TheVariants.{Push, Pop}
 use Rattle.mk_stack.specs.declared.jobs.Done.{Done}
@@ -18,20 +18,7 @@ use Rattle.mk_stack.specs.declared.points.Point.TheVariants.{Founding, Placing, 
 use Rattle.mk_stack.specs.declared.points.Point.TheVariants.{Filling, Looking, Linking, Publishing, Peeking, Testing}
 use Rattle.mk_stack.specs.declared.points.Point.TheVariants.{Following, Taking, Freeing, Reading, Ended}
 use Rattle.mk_stack.specs.Jobs.{Asks}
-use Rattle.mk_stack.specs.Passes.{GoesToPoint, HasStackTypes, replied_to}
-
--- What each operation asks: its caller exists and has its pass home, and the heap has the types of a stack.
-pub record IsReady (s : CallerState) : Type 0 where
-  pub home : s.home ≡ true
-  pub exists : caller_of_pass s.pass < s.pass.table.config.callers
-  pub types : HasStackTypes s.pass.table.config
-
--- One under the turn asks besides that no other seat is in its pass, and that its bench is made for the heap's pages.
-pub record IsReadyForTurn (s : CallerState) (engine_pages book_pages : ℕ) : Type 0 where
-  pub ready : IsReady s
-  pub alone : s.pass.seats ≡ s.pass.seat ∷ []
-  pub made_for : engine_pages ≡ s.pass.table.config.pages
-  pub book : book_pages ≡ s.pass.table.config.pages
+use Rattle.mk_stack.specs.Passes.{GoesToPoint, replied_to}
 
 pub record IsPointerTo (ty : ℕ) (v : Value) : Type 0 where
   pub number : ℕ

@@ -3,6 +3,8 @@ pub mod Orders
 pub mod Interleavings
 pub mod Laws
 pub mod Passes
+pub mod Ready
+pub mod Benches
 pub mod Advancing
 pub mod Histories
 pub mod JobLists

@@ -1,14 +1,16 @@
-//! One operation of a job at a time, as the points of a job have it.
-ghost use Rattle.std.specs.Prelude.{◌≡◌, ◌<◌, length, IfOk, OnOk, OnErr, true};
-ghost use Rattle.mk_caller.specs.declared.refusals.Refusal.TheVariants as refusal;
+//! One operation of a job at a time, as the points of a job have it. Its registers point to nodes and a top, so that an
+//! access is refused where the gate is held, and never else.
+ghost use Rattle.std.specs.Prelude.{◌≡◌, ◌<◌, IfOk, OnOk, OnErr, true};
 ghost use Rattle.mk_stack.specs.declared.points.Point.TheVariants as point;
-ghost use Rattle.mk_stack.specs.Advancing.{Advances, IsAtPoint, IsGoal, IsReady, IsReadyForTurn, Stays, StaysEnded};
+ghost use Rattle.mk_run.specs.Benches.{IsMadeFor};
+ghost use Rattle.mk_stack.specs.Advancing.{Advances, IsAtPoint, IsGoal, Stays, StaysEnded};
 ghost use Rattle.mk_stack.specs.Jobs.{done_without};
+ghost use Rattle.mk_stack.specs.Ready.{IsReady, IsReadyForJobs};
 
 use crate::jobs::{Done, Job};
 use crate::points::Point;
 use mk_alloc::{free_object, new_object};
-use mk_caller::{Caller, Refusal};
+use mk_caller::Caller;
 use mk_cycle::{Bench, Engine};
 use mk_words::Held;
 use std::sync::Wait;
@@ -44,17 +46,6 @@ fn done_without(job: Job) -> Done
     match job {
         Job::Push(_) => Done::Full,
         Job::Pop => Done::Empty,
-    }
-}
-
-/// The one refusal of an access to a node or a top.
-pub(crate) fn held(cause: Refusal) -> Held
-    requires { cause ≡ refusal.Held }
-    ensures { cause ≡ refusal.Held }
-{
-    match cause {
-        Refusal::Held => Held,
-        Refusal::Fault | Refusal::Null => unreachable!(),
     }
 }
 
@@ -126,7 +117,7 @@ fn fill(caller: &mut Caller, n: u64) -> Result<Point, Held>
     caller.is_idle();
     match filled {
         Ok(()) => Ok(Point::Looking(n)),
-        Err(cause) => Err(held(cause)),
+        Err(_) => Err(Held),
     }
 }
 
@@ -143,7 +134,7 @@ fn look(caller: &mut Caller, n: u64) -> Result<Point, Held>
     caller.is_idle();
     match loaded {
         Ok(()) => Ok(Point::Linking(n)),
-        Err(cause) => Err(held(cause)),
+        Err(_) => Err(Held),
     }
 }
 
@@ -160,7 +151,7 @@ fn link(caller: &mut Caller, n: u64) -> Result<Point, Held>
     caller.is_idle();
     match linked {
         Ok(()) => Ok(Point::Publishing(n)),
-        Err(cause) => Err(held(cause)),
+        Err(_) => Err(Held),
     }
 }
 
@@ -178,7 +169,7 @@ fn publish(caller: &mut Caller, n: u64) -> Result<Point, Held>
     match exchanged {
         Ok(true) => Ok(Point::Ended(Done::Pushed)),
         Ok(false) => Ok(Point::Looking(n)),
-        Err(cause) => Err(held(cause)),
+        Err(_) => Err(Held),
     }
 }
 
@@ -195,7 +186,7 @@ pub(crate) fn peek(caller: &mut Caller) -> Result<Point, Held>
     caller.is_idle();
     match loaded {
         Ok(()) => Ok(Point::Testing),
-        Err(cause) => Err(held(cause)),
+        Err(_) => Err(Held),
     }
 }
 
@@ -230,7 +221,7 @@ fn follow(caller: &mut Caller) -> Result<Point, Held>
     caller.is_idle();
     match loaded {
         Ok(()) => Ok(Point::Taking),
-        Err(cause) => Err(held(cause)),
+        Err(_) => Err(Held),
     }
 }
 
@@ -248,7 +239,7 @@ fn unlink(caller: &mut Caller) -> Result<Point, Held>
     match exchanged {
         Ok(true) => Ok(Point::Freeing),
         Ok(false) => Ok(Point::Peeking),
-        Err(cause) => Err(held(cause)),
+        Err(_) => Err(Held),
     }
 }
 
@@ -265,7 +256,7 @@ fn read(caller: &mut Caller) -> Result<Point, Held>
     caller.is_idle();
     match read {
         Ok(n) => Ok(Point::Ended(Done::Popped(n))),
-        Err(cause) => Err(held(cause)),
+        Err(_) => Err(Held),
     }
 }
 
@@ -292,11 +283,10 @@ fn found<E: Engine, R: Threads + Wait + Sync>(
     caller: &mut Caller,
     bench: &mut Bench<E>,
 ) -> Point
-    requires ready { IsReadyForTurn caller.old (E.made_for bench.old.engine) (length bench.old.book) }
+    requires ready { IsReadyForJobs E.made_for caller.old bench.old }
     requires holds { IsAtPoint caller.old.pass point.Founding }
     ensures home { caller.new.home ≡ true }
-    ensures made_for { E.made_for bench.new.engine ≡ E.made_for bench.old.engine }
-    ensures book { length bench.new.book ≡ length bench.old.book }
+    ensures bench { IsMadeFor E.made_for caller.old.pass.table.config.pages bench.new }
     ensures advances { Advances caller.old.pass point.Founding caller.new.pass result }
 {
     let made = new_object(rt, caller, bench, TOP, TOP_TYPE);
@@ -314,11 +304,10 @@ fn make<E: Engine, R: Threads + Wait + Sync>(
     bench: &mut Bench<E>,
     n: u64,
 ) -> Point
-    requires ready { IsReadyForTurn caller.old (E.made_for bench.old.engine) (length bench.old.book) }
+    requires ready { IsReadyForJobs E.made_for caller.old bench.old }
     requires holds { IsAtPoint caller.old.pass (point.Making n) }
     ensures home { caller.new.home ≡ true }
-    ensures made_for { E.made_for bench.new.engine ≡ E.made_for bench.old.engine }
-    ensures book { length bench.new.book ≡ length bench.old.book }
+    ensures bench { IsMadeFor E.made_for caller.old.pass.table.config.pages bench.new }
     ensures advances { Advances caller.old.pass (point.Making n) caller.new.pass result }
 {
     let made = new_object(rt, caller, bench, NODE, NODE_TYPE);
@@ -335,11 +324,10 @@ fn free<E: Engine, R: Threads + Wait + Sync>(
     caller: &mut Caller,
     bench: &mut Bench<E>,
 ) -> Point
-    requires ready { IsReadyForTurn caller.old (E.made_for bench.old.engine) (length bench.old.book) }
+    requires ready { IsReadyForJobs E.made_for caller.old bench.old }
     requires holds { IsAtPoint caller.old.pass point.Freeing }
     ensures home { caller.new.home ≡ true }
-    ensures made_for { E.made_for bench.new.engine ≡ E.made_for bench.old.engine }
-    ensures book { length bench.new.book ≡ length bench.old.book }
+    ensures bench { IsMadeFor E.made_for caller.old.pass.table.config.pages bench.new }
     ensures advances { Advances caller.old.pass point.Freeing caller.new.pass result }
 {
     let freed = free_object(rt, caller, bench, UPPERMOST);
@@ -357,12 +345,11 @@ pub(crate) fn advance<E: Engine, R: Threads + Wait + Sync>(
     bench: &mut Bench<E>,
     point: Point,
 ) -> Result<Point, Held>
-    requires ready { IsReadyForTurn caller.old (E.made_for bench.old.engine) (length bench.old.book) }
+    requires ready { IsReadyForJobs E.made_for caller.old bench.old }
     requires holds { IsAtPoint caller.old.pass point }
     requires goes_on { IsGoal point → ⊥ }
     ensures home { caller.new.home ≡ true }
-    ensures made_for { E.made_for bench.new.engine ≡ E.made_for bench.old.engine }
-    ensures book { length bench.new.book ≡ length bench.old.book }
+    ensures bench { IsMadeFor E.made_for caller.old.pass.table.config.pages bench.new }
     ensures advances { IfOk result (Advances caller.old.pass point caller.new.pass) }
     ensures held { OnErr result (Stays caller.old.pass caller.new.pass) }
 {

@@ -1,8 +1,7 @@
 //! Lists of jobs, each done by a caller of its own.
-ghost use Rattle.std.specs.Prelude.{◌≡◌, ◌<◌, ◌∷◌, [], length, IfOk, true};
-ghost use Rattle.mk_caller.specs.States.{caller_of_pass};
+ghost use Rattle.std.specs.Prelude.{◌≡◌, IfOk};
 ghost use Rattle.mk_stack.specs.JobLists.{DoesJobs};
-ghost use Rattle.mk_stack.specs.Passes.{HasStackTypes};
+ghost use Rattle.mk_stack.specs.Ready.{IsReadyForJobs};
 
 use crate::jobs::{Done, Job};
 use crate::stacks::do_job;
@@ -36,13 +35,8 @@ pub fn run_jobs<E: Engine, P: Pace, R: Threads + Wait + Sync>(
     jobs: &[Job],
     pace: &P,
 ) -> Result<Dones, NoMemory>
-    requires home { caller.old.home ≡ true }
-    requires exists { caller_of_pass caller.old.pass < caller.old.pass.table.config.callers }
-    requires alone { caller.old.pass.seats ≡ caller.old.pass.seat ∷ [] }
-    requires types { HasStackTypes caller.old.pass.table.config }
-    requires made_for { E.made_for bench.old.engine ≡ caller.old.pass.table.config.pages }
-    requires book { length bench.old.book ≡ caller.old.pass.table.config.pages }
-    ensures home { caller.new.home ≡ true }
+    requires ready { IsReadyForJobs E.made_for caller.old bench.old }
+    ensures ready { IsReadyForJobs E.made_for caller.new bench.new }
     ensures pass { caller.new.pass ≡ record caller.old.pass { seen = caller.new.pass.seen } }
     ensures does { IfOk result (λ dones. DoesJobs caller.old.pass jobs.now dones.list.items caller.new.pass) }
 {

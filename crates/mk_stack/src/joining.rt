@@ -1,20 +1,22 @@
 //! Callers on threads of their own, and the host that joins them.
-ghost use Rattle.std.specs.Prelude.{◌≡◌, ◌+◌, ◌<◌, ◌≤◌, ◌∷◌, [], length, All, IfOk, IsOk, OnOk, List, ℕ};
+ghost use Rattle.std.specs.Prelude.{◌≡◌, ◌+◌, ◌<◌, ◌∷◌, [], drop, slice_get, IfOk, IfSome, IsOk, OnOk, List, ℕ};
 ghost use Rattle.std.specs.Thread.{IsSync};
 ghost use denote.Param.Send.{IsSend};
 ghost use Rattle.mk_caller.specs.States.{IsIdleCaller};
+ghost use Rattle.mk_run.specs.Benches.{IsMadeFor};
 ghost use Rattle.mk_stack.specs.Jobs.{Replied};
-ghost use Rattle.mk_stack.specs.Joining.{HasHandedOut, HasWorked, HaveWorked, IsBetweenJobs};
-ghost use Rattle.mk_stack.specs.Passes.{HasStackTypes, replied_to};
+ghost use Rattle.mk_stack.specs.Joining.{AreCallersFrom, HasHandedOut, HasWorked, HaveWorked, IsBetweenJobs};
+ghost use Rattle.mk_stack.specs.Passes.{replied_to};
 
+use crate::benches::CallerBenches;
 use crate::job_lists::{Dones, Jobs, run_jobs};
+use crate::shared::Run;
 use mk_caller::Caller;
 use mk_cycle::{Bench, Engine};
 use mk_heap::{Heap, Host};
 use mk_never::NoMemory;
 use mk_run::Pace;
 use mk_words::Pass;
-use std::alloc::Global;
 use std::sync::Wait;
 use std::thread;
 use std::thread::Threads;
@@ -33,27 +35,31 @@ pub(crate) struct Joined {
     pub(crate) dones: Result<Vec<Dones>, NoMemory>,
 }
 
+/// The callers that have not begun their jobs: the pass of the first of them, and a bench for each.
+#[derive(Drop)]
+pub(crate) struct Callers<E: Engine> {
+    pub(crate) pass: Pass,
+    pub(crate) benches: CallerBenches<E>,
+}
+
 /// The work of a caller's thread.
 fn work_alone<E: Engine, P: Pace, R: Threads + Wait + Sync>(
     rt: &R,
-    alloc: Global,
-    heap: &Heap,
-    pass: Pass,
-    bench: Bench<E>,
-    k: u64,
-    jobs: &Jobs,
+    run: &Run,
     pace: &P,
+    k: u64,
+    pass: Pass,
+    mut bench: Bench<E>,
 ) -> Worked
-    requires exists { k < heap.now.config.callers }
-    requires types { HasStackTypes heap.now.config }
-    requires pass { IsBetweenJobs heap.now k pass }
-    requires made_for { E.made_for bench.engine ≡ heap.now.config.pages }
-    requires book { length bench.book ≡ heap.now.config.pages }
-    ensures worked { HasWorked heap.now (replied_to pass) k jobs.now.list.items result }
+    requires exists { k < run.now.heap.now.config.callers }
+    requires pass { IsBetweenJobs run.now.heap.now k pass }
+    requires bench { IsMadeFor E.made_for run.now.heap.now.config.pages bench }
+    ensures worked { IfSome (slice_get run.now.lists.now k) (λ jobs.
+        HasWorked run.now.heap.now (replied_to pass) k jobs.list.items result) }
 {
-    let mut caller = Caller::new(heap.words(), pass);
-    let mut bench = bench;
-    let dones = run_jobs(rt, alloc, &mut caller, &mut bench, &jobs.list, pace);
+    let jobs = &run.lists[k as usize];
+    let mut caller = Caller::new(run.heap.words(), pass);
+    let dones = run_jobs(rt, run.alloc, &mut caller, &mut bench, &jobs.list, pace);
     caller.is_idle();
     Worked {
         pass: caller.finish(),
@@ -98,87 +104,57 @@ fn join_worked(heap: &Heap, worked: Worked, joined: Joined) -> Joined
     }
 }
 
-/// Has callers do their lists of jobs, from caller `k` on, whose pass is this: each on a thread of its own and with a
-/// bench of its own. It joins them. A caller whose thread can't be started works here.
+/// Has the callers from `k` on do their lists of jobs, each on a thread of its own and with a bench of its own. It
+/// joins them. A caller whose thread can't be started works here.
 pub(crate) fn run_from<E: Engine + Send, P: Pace + Sync, R: Threads + Wait + Sync>(
     rt: &R,
-    alloc: Global,
-    heap: &Heap,
-    lists: &[Jobs],
+    run: &Run,
     pace: &P,
     k: u64,
     mut host: Host,
-    pass: Pass,
-    bench: Bench<E>,
-    mut benches: Vec<Bench<E>>,
+    callers: Callers<E>,
 ) -> Joined
     requires shared { IsSync R.row × IsSync P.row × IsSend E.row }
-    requires types { HasStackTypes heap.now.config }
-    requires lists { k + length lists.now ≡ heap.now.config.callers }
-    requires few { heap.now.config.callers ≤ 16 }
-    requires benches { 1 + length benches.items ≡ length lists.now }
-    requires pass { IsBetweenJobs heap.now k pass }
-    requires host { HasHandedOut heap.now host.markers (k + 1) host }
-    requires made_for { E.made_for bench.engine ≡ heap.now.config.pages }
-    requires book { length bench.book ≡ heap.now.config.pages }
-    requires all_made_for { All (λ bench. E.made_for bench.engine ≡ heap.now.config.pages) benches.items }
-    requires books { All (λ bench. length bench.book ≡ heap.now.config.pages) benches.items }
-    ensures joined { HaveWorked heap.now host.markers (replied_to pass) k lists.now result }
+    requires callers { AreCallersFrom E.made_for run.now.heap.now k callers }
+    requires host { HasHandedOut run.now.heap.now host.markers (k + 1) host }
+    ensures joined { HaveWorked run.now.heap.now host.markers (replied_to callers.pass) k
+        (drop k run.now.lists.now) result }
 {
-    let Some((jobs, others)) = lists.split_first() else {
-        unreachable!()
+    let Callers { pass, benches } = callers;
+    let CallerBenches { first, mut others } = benches;
+    let Some(second) = others.pop() else {
+        let worked = work_alone(rt, run, pace, k, pass, first);
+        let joined = Joined {
+            host,
+            dones: Ok(Vec::new(run.alloc)),
+        };
+        return join_worked(run.heap, worked, joined);
     };
-    let Some(next_bench) = benches.pop() else {
-        let worked = work_alone(rt, alloc, heap, pass, bench, k, jobs, pace);
-        return join_worked(
-            heap,
-            worked,
-            Joined {
-                host,
-                dones: Ok(Vec::new(alloc)),
-            },
-        );
+    let next_pass = host.caller(run.heap).finish();
+    let next = Callers {
+        pass: next_pass,
+        benches: CallerBenches {
+            first: second,
+            others,
+        },
     };
-    let next = host.caller(heap).finish();
     let (worked, joined) = thread::join(
         rt,
         move || -> Worked
             requires shared { IsSync R.row × IsSync P.row × IsSend E.row }
-            requires exists { k < heap.now.config.callers }
-            requires types { HasStackTypes heap.now.config }
-            requires pass { IsBetweenJobs heap.now k pass }
-            requires made_for { E.made_for bench.engine ≡ heap.now.config.pages }
-            requires book { length bench.book ≡ heap.now.config.pages }
-            ensures worked { HasWorked heap.entry.now (replied_to pass) k jobs.entry.now.list.items result }
-        { work_alone(rt, alloc, heap, pass, bench, k, jobs, pace) },
+            requires exists { k < run.now.heap.now.config.callers }
+            requires pass { IsBetweenJobs run.now.heap.now k pass }
+            requires bench { IsMadeFor E.made_for run.now.heap.now.config.pages first }
+            ensures worked { IfSome (slice_get run.entry.now.lists.now k) (λ jobs.
+                HasWorked run.entry.now.heap.now (replied_to pass) k jobs.list.items result) }
+        { work_alone(rt, run, pace, k, pass, first) },
         move || -> Joined
             requires shared { IsSync R.row × IsSync P.row × IsSend E.row }
-            requires types { HasStackTypes heap.now.config }
-            requires lists { k + 1 + length others.now ≡ heap.now.config.callers }
-            requires few { heap.now.config.callers ≤ 16 }
-            requires benches { 1 + length benches.items ≡ length others.now }
-            requires pass { IsBetweenJobs heap.now (k + 1) next }
-            requires begun { replied_to next ≡ [] }
-            requires host { HasHandedOut heap.now host.markers (k + 1 + 1) host }
-            requires made_for { E.made_for next_bench.engine ≡ heap.now.config.pages }
-            requires book { length next_bench.book ≡ heap.now.config.pages }
-            requires all_made_for { All (λ bench. E.made_for bench.engine ≡ heap.now.config.pages) benches.items }
-            requires books { All (λ bench. length bench.book ≡ heap.now.config.pages) benches.items }
-            ensures joined { HaveWorked heap.entry.now host.markers (replied_to next) (k + 1) others.entry.now result }
-        {
-            run_from(
-                rt,
-                alloc,
-                heap,
-                others,
-                pace,
-                k + 1,
-                host,
-                next,
-                next_bench,
-                benches,
-            )
-        },
+            requires callers { AreCallersFrom E.made_for run.now.heap.now (k + 1) next }
+            requires host { HasHandedOut run.now.heap.now host.markers (k + 1 + 1) host }
+            ensures joined { HaveWorked run.entry.now.heap.now host.markers (replied_to next.pass) (k + 1)
+                (drop (k + 1) run.entry.now.lists.now) result }
+        { run_from(rt, run, pace, k + 1, host, next) },
     );
-    join_worked(heap, worked, joined)
+    join_worked(run.heap, worked, joined)
 }

@@ -5,6 +5,7 @@
 #![tactic(auto)]
 
 mod advancing;
+mod benches;
 mod job_lists;
 mod jobs;
 mod joining;
@@ -12,6 +13,7 @@ pub mod laws;
 mod marking;
 mod points;
 mod runs;
+mod shared;
 mod stacks;
 mod walking;
 mod working;

@@ -1,19 +1,20 @@
 //! Markers on threads of their own, beside the callers.
-ghost use Rattle.std.specs.Prelude.{◌≡◌, ◌+◌, ◌≤◌, ◌∷◌, [], length, All, List, ℕ};
+ghost use Rattle.std.specs.Prelude.{◌≡◌, ◌+◌, ◌∷◌, [], length, List, ℕ};
 ghost use Rattle.std.specs.Thread.{IsSync};
 ghost use denote.Param.Send.{IsSend};
 ghost use Rattle.mk_marker.specs.Markers.{IsMarkers, IsOut};
 ghost use Rattle.mk_run.specs.Marking.{IsMarkersPass};
+ghost use Rattle.mk_stack.specs.Benches.{AreBenchesOf};
 ghost use Rattle.mk_stack.specs.Joining.{HasHandedOut, HaveEnded};
-ghost use Rattle.mk_stack.specs.Passes.{HasStackTypes};
+ghost use Rattle.mk_stack.specs.declared.job_lists.Jobs.{Jobs};
 
-use crate::job_lists::Jobs;
+use crate::benches::Benches;
+use crate::shared::Run;
 use crate::working::{Ended, work};
-use mk_cycle::{Bench, Engine};
+use mk_cycle::Engine;
 use mk_heap::{Heap, Host};
 use mk_run::{Pace, mark_until_over};
 use mk_words::Pass;
-use std::alloc::Global;
 use std::sync::Wait;
 use std::thread;
 use std::thread::Threads;
@@ -42,36 +43,21 @@ fn join_marker(heap: &Heap, pass: Pass, ended: Ended) -> Ended
 /// thread can't be started finds that all is over.
 pub(crate) fn work_beside<E: Engine + Send, P: Pace + Sync, R: Threads + Wait + Sync>(
     rt: &R,
-    alloc: Global,
-    heap: &Heap,
-    lists: &[Jobs],
+    run: &Run,
     pace: &P,
     number: u64,
-    markers: u64,
     mut host: Host,
-    bench: Bench<E>,
-    others: Vec<Bench<E>>,
-    own: Bench<E>,
+    benches: Benches<E>,
 ) -> Ended
     requires shared { IsSync R.row × IsSync P.row × IsSend E.row }
-    requires types { HasStackTypes heap.now.config }
-    requires lists { length lists.now ≡ heap.now.config.callers }
-    requires few { heap.now.config.callers ≤ 16 }
-    requires few_markers { markers ≤ 8 }
-    requires markers { markers ≡ heap.now.config.markers }
-    requires benches { 1 + length others.items ≡ length lists.now }
-    requires host { HasHandedOut heap.now number 0 host }
-    requires made_for { E.made_for bench.engine ≡ heap.now.config.pages }
-    requires book { length bench.book ≡ heap.now.config.pages }
-    requires all_made_for { All (λ bench. E.made_for bench.engine ≡ heap.now.config.pages) others.items }
-    requires books { All (λ bench. length bench.book ≡ heap.now.config.pages) others.items }
-    requires own_made_for { E.made_for own.engine ≡ heap.now.config.pages }
-    requires own_book { length own.book ≡ heap.now.config.pages }
-    ensures ended { HaveEnded heap.now number lists.now result }
+    requires host { HasHandedOut run.now.heap.now number 0 host }
+    requires benches { AreBenchesOf E.made_for run.now.heap.now benches }
+    ensures ended { HaveEnded run.now.heap.now number run.now.lists.now result }
 {
-    if number >= markers {
-        return work(rt, alloc, heap, lists, pace, host, bench, others, own);
+    if number >= run.markers {
+        return work(rt, run, pace, host, benches);
     }
+    let heap = run.heap;
     let pass = host.marker(heap).finish();
     let (pass, ended) = thread::join(
         rt,
@@ -82,35 +68,10 @@ pub(crate) fn work_beside<E: Engine + Send, P: Pace + Sync, R: Threads + Wait + 
         { mark_until_over(rt, heap, pass, number, pace) },
         move || -> Ended
             requires shared { IsSync R.row × IsSync P.row × IsSend E.row }
-            requires types { HasStackTypes heap.now.config }
-            requires lists { length lists.now ≡ heap.now.config.callers }
-            requires few { heap.now.config.callers ≤ 16 }
-            requires few_markers { markers ≤ 8 }
-            requires markers { markers ≡ heap.now.config.markers }
-            requires benches { 1 + length others.items ≡ length lists.now }
-            requires host { HasHandedOut heap.now (number + 1) 0 host }
-            requires made_for { E.made_for bench.engine ≡ heap.now.config.pages }
-            requires book { length bench.book ≡ heap.now.config.pages }
-            requires all_made_for { All (λ bench. E.made_for bench.engine ≡ heap.now.config.pages) others.items }
-            requires books { All (λ bench. length bench.book ≡ heap.now.config.pages) others.items }
-            requires own_made_for { E.made_for own.engine ≡ heap.now.config.pages }
-            requires own_book { length own.book ≡ heap.now.config.pages }
-            ensures ended { HaveEnded heap.entry.now (number + 1) lists.entry.now result }
-        {
-            work_beside(
-                rt,
-                alloc,
-                heap,
-                lists,
-                pace,
-                number + 1,
-                markers,
-                host,
-                bench,
-                others,
-                own,
-            )
-        },
+            requires host { HasHandedOut run.now.heap.now (number + 1) 0 host }
+            requires benches { AreBenchesOf E.made_for run.now.heap.now benches }
+            ensures ended { HaveEnded run.entry.now.heap.now (number + 1) run.entry.now.lists.now result }
+        { work_beside(rt, run, pace, number + 1, host, benches) },
     );
     join_marker(heap, pass, ended)
 }

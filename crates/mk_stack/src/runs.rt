@@ -1,14 +1,16 @@
 //! A stack from first to last: callers do their jobs on it, each on a thread of its own.
-ghost use Rattle.std.specs.Prelude.{◌≡◌, ◌≤◌, length, All, IfOk};
+ghost use Rattle.std.specs.Prelude.{◌≡◌, ◌≤◌, length, IfOk};
 ghost use Rattle.mk_core.specs.Config.{IsBetween};
 ghost use Rattle.mk_heap.specs.Reports.{config_of, history_of, HasCounts, IsWhole};
 ghost use Rattle.mk_stack.specs.StackRuns.{IsStackRun, stack_config};
 
+use crate::benches::Benches;
 use crate::job_lists::{Dones, Jobs};
 use crate::marking::work_beside;
+use crate::shared::Run;
 use crate::working::Ended;
 use mk_core::{Config, GlobalTable};
-use mk_cycle::{Bench, Engine};
+use mk_cycle::Engine;
 use mk_heap::{Heap, Report};
 use mk_never::{Kind, NoMemory, TypeTable};
 use mk_run::Pace;
@@ -56,19 +58,6 @@ fn stack_config(
     })
 }
 
-/// This many benches for a heap of this many pages.
-fn benches<E: Engine>(alloc: Global, count: u64, pages: u64) -> Result<Vec<Bench<E>>, NoMemory>
-    ensures count { IfOk result (λ benches. length benches.items ≡ count) }
-    ensures made_for { IfOk result (λ benches. All (λ bench. E.made_for bench.engine ≡ pages) benches.items) }
-    ensures books { IfOk result (λ benches. All (λ bench. length bench.book ≡ pages) benches.items) }
-{
-    let mut benches = Vec::new(alloc);
-    for _bench in 0..count {
-        benches.push(Bench::new(alloc, pages)?)?;
-    }
-    Ok(benches)
-}
-
 /// Founds a stack on a heap of its own, has a caller for each list do its jobs, each on a thread of its own, with
 /// markers beside them, joins all, and reads what is left on the stack. A caller whose thread can't be started works
 /// here, and a marker whose thread can't be started does nothing. Where memory is refused to a caller, the others work
@@ -99,13 +88,15 @@ pub fn run_stack<E: Engine + Send, P: Pace + Sync, R: Threads + Wait + Sync>(
     let callers = lists.len() as u64;
     let config = stack_config(alloc, pages, resident, callers, markers)?;
     // No thread is started before all benches are made.
-    let own: Bench<E> = Bench::new(alloc, pages)?;
-    let first: Bench<E> = Bench::new(alloc, pages)?;
-    let others: Vec<Bench<E>> = benches(alloc, callers - 1, pages)?;
+    let benches: Benches<E> = Benches::new(alloc, callers - 1, pages)?;
     let (heap, host) = Heap::new(alloc, &config)?;
-    let Ended { host, dones, left } = work_beside(
-        rt, alloc, &heap, lists, pace, 0, markers, host, first, others, own,
-    );
+    let run = Run {
+        alloc,
+        heap: &heap,
+        lists,
+        markers,
+    };
+    let Ended { host, dones, left } = work_beside(rt, &run, pace, 0, host, benches);
     let report = heap.close(host);
     Ok(StackOutcome {
         done: dones?,

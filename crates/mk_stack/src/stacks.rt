@@ -1,8 +1,8 @@
 //! Numbers on a stack that callers share.
-ghost use Rattle.std.specs.Prelude.{◌≡◌, ◌<◌, ◌∷◌, [], length, OnOk, OnErr, true, false};
-ghost use Rattle.mk_caller.specs.States.{caller_of_pass};
+ghost use Rattle.std.specs.Prelude.{◌≡◌, ◌<◌, OnOk, OnErr, true, false};
 ghost use Rattle.mk_stack.specs.Advancing.{IsAtPoint, IsFit, IsGoal, StaysEnded};
-ghost use Rattle.mk_stack.specs.Passes.{DoesJob, GoesToPoint, HasStackTypes, popped};
+ghost use Rattle.mk_stack.specs.Passes.{DoesJob, GoesToPoint, popped};
+ghost use Rattle.mk_stack.specs.Ready.{IsReady, IsReadyForJobs};
 
 use crate::advancing::{BELOW, NODE, UPPERMOST, advance, clear};
 use crate::jobs::{Done, Job};
@@ -33,16 +33,9 @@ fn go<E: Engine, R: Threads + Wait + Sync>(
     bench: &mut Bench<E>,
     from: Point,
 ) -> Point
-    requires home { caller.old.home ≡ true }
-    requires exists { caller_of_pass caller.old.pass < caller.old.pass.table.config.callers }
-    requires alone { caller.old.pass.seats ≡ caller.old.pass.seat ∷ [] }
-    requires types { HasStackTypes caller.old.pass.table.config }
-    requires made_for { E.made_for bench.old.engine ≡ caller.old.pass.table.config.pages }
-    requires book { length bench.old.book ≡ caller.old.pass.table.config.pages }
+    requires ready { IsReadyForJobs E.made_for caller.old bench.old }
     requires holds { IsAtPoint caller.old.pass from }
-    ensures home { caller.new.home ≡ true }
-    ensures made_for { E.made_for bench.new.engine ≡ E.made_for bench.old.engine }
-    ensures book { length bench.new.book ≡ length bench.old.book }
+    ensures ready { IsReadyForJobs E.made_for caller.new bench.new }
     ensures goes { GoesToPoint caller.old.pass from caller.new.pass result }
     ensures goal { IsGoal result }
 {
@@ -67,15 +60,8 @@ pub fn found_stack<E: Engine, R: Threads + Wait + Sync>(
     caller: &mut Caller,
     bench: &mut Bench<E>,
 )
-    requires home { caller.old.home ≡ true }
-    requires exists { caller_of_pass caller.old.pass < caller.old.pass.table.config.callers }
-    requires alone { caller.old.pass.seats ≡ caller.old.pass.seat ∷ [] }
-    requires types { HasStackTypes caller.old.pass.table.config }
-    requires made_for { E.made_for bench.old.engine ≡ caller.old.pass.table.config.pages }
-    requires book { length bench.old.book ≡ caller.old.pass.table.config.pages }
-    ensures home { caller.new.home ≡ true }
-    ensures made_for { E.made_for bench.new.engine ≡ E.made_for bench.old.engine }
-    ensures book { length bench.new.book ≡ length bench.old.book }
+    requires ready { IsReadyForJobs E.made_for caller.old bench.old }
+    ensures ready { IsReadyForJobs E.made_for caller.new bench.new }
     ensures founds { GoesToPoint caller.old.pass Point.Founding caller.new.pass Point.Founded }
 {
     let _founded = go(rt, caller, bench, Point::Founding);
@@ -84,11 +70,9 @@ pub fn found_stack<E: Engine, R: Threads + Wait + Sync>(
 /// Sets a register to null, when the job has ended. As long as a register points to a freed node, the heap keeps that
 /// node, and all that it is linked to.
 fn forget<R: Wait>(rt: &R, caller: &mut Caller, register: u8)
-    requires home { caller.old.home ≡ true }
-    requires exists { caller_of_pass caller.old.pass < caller.old.pass.table.config.callers }
-    requires types { HasStackTypes caller.old.pass.table.config }
+    requires ready { IsReady caller.old }
     requires register { register < 8 }
-    ensures home { caller.new.home ≡ true }
+    ensures ready { IsReady caller.new }
     ensures pass { caller.new.pass ≡ record caller.old.pass { seen = caller.new.pass.seen } }
     ensures ended { StaysEnded caller.old.pass caller.new.pass }
 {
@@ -119,15 +103,8 @@ pub fn do_job<E: Engine, R: Threads + Wait + Sync>(
     bench: &mut Bench<E>,
     job: Job,
 ) -> Done
-    requires home { caller.old.home ≡ true }
-    requires exists { caller_of_pass caller.old.pass < caller.old.pass.table.config.callers }
-    requires alone { caller.old.pass.seats ≡ caller.old.pass.seat ∷ [] }
-    requires types { HasStackTypes caller.old.pass.table.config }
-    requires made_for { E.made_for bench.old.engine ≡ caller.old.pass.table.config.pages }
-    requires book { length bench.old.book ≡ caller.old.pass.table.config.pages }
-    ensures home { caller.new.home ≡ true }
-    ensures made_for { E.made_for bench.new.engine ≡ E.made_for bench.old.engine }
-    ensures book { length bench.new.book ≡ length bench.old.book }
+    requires ready { IsReadyForJobs E.made_for caller.old bench.old }
+    ensures ready { IsReadyForJobs E.made_for caller.new bench.new }
     ensures does { DoesJob caller.old.pass job result caller.new.pass }
     ensures fit { IsFit job result }
 {
@@ -146,23 +123,14 @@ pub fn push<E: Engine, R: Threads + Wait + Sync>(
     bench: &mut Bench<E>,
     n: u64,
 ) -> Result<(), Full>
-    requires home { caller.old.home ≡ true }
-    requires exists { caller_of_pass caller.old.pass < caller.old.pass.table.config.callers }
-    requires alone { caller.old.pass.seats ≡ caller.old.pass.seat ∷ [] }
-    requires types { HasStackTypes caller.old.pass.table.config }
-    requires made_for { E.made_for bench.old.engine ≡ caller.old.pass.table.config.pages }
-    requires book { length bench.old.book ≡ caller.old.pass.table.config.pages }
-    ensures home { caller.new.home ≡ true }
-    ensures made_for { E.made_for bench.new.engine ≡ E.made_for bench.old.engine }
-    ensures book { length bench.new.book ≡ length bench.old.book }
+    requires ready { IsReadyForJobs E.made_for caller.old bench.old }
+    ensures ready { IsReadyForJobs E.made_for caller.new bench.new }
     ensures pushed { OnOk result (DoesJob caller.old.pass (Job.Push n) Done.Pushed caller.new.pass) }
     ensures full { OnErr result (DoesJob caller.old.pass (Job.Push n) Done.Full caller.new.pass) }
 {
     match do_job(rt, caller, bench, Job::Push(n)) {
         Done::Pushed => Ok(()),
-        Done::Full => Err(Full),
-        Done::Popped(_) => unreachable!(),
-        Done::Empty => unreachable!(),
+        _ => Err(Full),
     }
 }
 
@@ -172,21 +140,12 @@ pub fn pop<E: Engine, R: Threads + Wait + Sync>(
     caller: &mut Caller,
     bench: &mut Bench<E>,
 ) -> Option<u64>
-    requires home { caller.old.home ≡ true }
-    requires exists { caller_of_pass caller.old.pass < caller.old.pass.table.config.callers }
-    requires alone { caller.old.pass.seats ≡ caller.old.pass.seat ∷ [] }
-    requires types { HasStackTypes caller.old.pass.table.config }
-    requires made_for { E.made_for bench.old.engine ≡ caller.old.pass.table.config.pages }
-    requires book { length bench.old.book ≡ caller.old.pass.table.config.pages }
-    ensures home { caller.new.home ≡ true }
-    ensures made_for { E.made_for bench.new.engine ≡ E.made_for bench.old.engine }
-    ensures book { length bench.new.book ≡ length bench.old.book }
+    requires ready { IsReadyForJobs E.made_for caller.old bench.old }
+    ensures ready { IsReadyForJobs E.made_for caller.new bench.new }
     ensures does { DoesJob caller.old.pass Job.Pop (popped result) caller.new.pass }
 {
     match do_job(rt, caller, bench, Job::Pop) {
         Done::Popped(n) => Some(n),
-        Done::Empty => None,
-        Done::Pushed => unreachable!(),
-        Done::Full => unreachable!(),
+        _ => None,
     }
 }

@@ -1,12 +1,11 @@
 //! A walk down the stack: a caller reads what is on it.
-ghost use Rattle.std.specs.Prelude.{◌≡◌, ◌<◌, [], IfOk, OnErr, true, false};
-ghost use Rattle.mk_caller.specs.States.{caller_of_pass};
+ghost use Rattle.std.specs.Prelude.{◌≡◌, [], IfOk, OnErr, true, false};
 ghost use Rattle.mk_stack.specs.declared.walking.WalkPoint.TheVariants as walk;
-ghost use Rattle.mk_stack.specs.Advancing.{IsReady, Stays};
-ghost use Rattle.mk_stack.specs.Passes.{HasStackTypes};
+ghost use Rattle.mk_stack.specs.Advancing.{Stays};
+ghost use Rattle.mk_stack.specs.Ready.{IsReady};
 ghost use Rattle.mk_stack.specs.Walks.{HasWalked, HoldsDown, StepsDown, next_of, numbers_found, walk_point};
 
-use crate::advancing::{LINK, NUMBER, UPPERMOST, check_top, held, load_top, peek, test};
+use crate::advancing::{LINK, NUMBER, UPPERMOST, check_top, load_top, peek, test};
 use crate::jobs::Job;
 use crate::points::Point;
 use crossbeam_utils::Backoff;
@@ -78,7 +77,7 @@ fn read_number(caller: &mut Caller) -> Result<Found, Held>
     caller.is_idle();
     match read {
         Ok(n) => Ok(Found::Number(n)),
-        Err(cause) => Err(held(cause)),
+        Err(_) => Err(Held),
     }
 }
 
@@ -96,7 +95,7 @@ fn descend(caller: &mut Caller) -> Result<Found, Held>
     caller.is_idle();
     match loaded {
         Ok(()) => Ok(Found::To(WalkPoint::Testing)),
-        Err(cause) => Err(held(cause)),
+        Err(_) => Err(Held),
     }
 }
 
@@ -135,10 +134,8 @@ pub(crate) fn read_stack<R: Wait>(
     alloc: Global,
     caller: &mut Caller,
 ) -> Result<Vec<u64>, NoMemory>
-    requires home { caller.old.home ≡ true }
-    requires exists { caller_of_pass caller.old.pass < caller.old.pass.table.config.callers }
-    requires types { HasStackTypes caller.old.pass.table.config }
-    ensures home { caller.new.home ≡ true }
+    requires ready { IsReady caller.old }
+    ensures ready { IsReady caller.new }
     ensures pass { caller.new.pass ≡ record caller.old.pass { seen = caller.new.pass.seen } }
     ensures walked { IfOk result (λ left. HasWalked caller.old.pass left.items caller.new.pass walk.Ended) }
 {

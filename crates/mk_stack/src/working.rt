@@ -1,21 +1,22 @@
 //! All that happens on a stack: it is founded, callers do their jobs, and what is left is read.
-ghost use Rattle.std.specs.Prelude.{◌≡◌, ◌+◌, ◌<◌, ◌≤◌, length, All, IfOk, false};
+ghost use Rattle.std.specs.Prelude.{◌≡◌, ◌<◌, IfOk, false};
 ghost use Rattle.std.specs.Thread.{IsSync};
 ghost use denote.Param.Send.{IsSend};
 ghost use Rattle.mk_core.specs.declared.events.Seat.TheVariants as seat;
 ghost use Rattle.mk_words.specs.Seats.{Has, has_over};
+ghost use Rattle.mk_stack.specs.Benches.{AreBenchesFrom, AreBenchesOf};
 ghost use Rattle.mk_stack.specs.Joining.{HasHandedOut, HaveEnded, HaveFoundedAndWorked, IsReader, ReadsStack};
-ghost use Rattle.mk_stack.specs.Passes.{HasStackTypes};
 
-use crate::job_lists::{Dones, Jobs};
-use crate::joining::{Joined, run_from};
+use crate::benches::{Benches, CallerBenches};
+use crate::job_lists::Dones;
+use crate::joining::{Callers, Joined, run_from};
+use crate::shared::Run;
 use crate::stacks::found_stack;
 use crate::walking::read_stack;
-use mk_cycle::{Bench, Engine};
-use mk_heap::{Heap, Host};
+use mk_cycle::Engine;
+use mk_heap::Host;
 use mk_never::NoMemory;
 use mk_run::Pace;
-use std::alloc::Global;
 use std::sync::Wait;
 use std::thread::Threads;
 
@@ -31,86 +32,60 @@ pub(crate) struct Ended {
 /// Founds the stack, and has callers do their jobs on it. It joins them.
 fn found_and_work<E: Engine + Send, P: Pace + Sync, R: Threads + Wait + Sync>(
     rt: &R,
-    alloc: Global,
-    heap: &Heap,
-    lists: &[Jobs],
+    run: &Run,
     pace: &P,
     mut host: Host,
-    mut bench: Bench<E>,
-    others: Vec<Bench<E>>,
+    mut benches: CallerBenches<E>,
 ) -> Joined
     requires shared { IsSync R.row × IsSync P.row × IsSend E.row }
-    requires types { HasStackTypes heap.now.config }
-    requires lists { length lists.now ≡ heap.now.config.callers }
-    requires few { heap.now.config.callers ≤ 16 }
-    requires benches { 1 + length others.items ≡ length lists.now }
-    requires host { HasHandedOut heap.now host.markers 0 host }
-    requires made_for { E.made_for bench.engine ≡ heap.now.config.pages }
-    requires book { length bench.book ≡ heap.now.config.pages }
-    requires all_made_for { All (λ bench. E.made_for bench.engine ≡ heap.now.config.pages) others.items }
-    requires books { All (λ bench. length bench.book ≡ heap.now.config.pages) others.items }
-    ensures worked { HaveFoundedAndWorked heap.now host.markers lists.now result }
+    requires host { HasHandedOut run.now.heap.now host.markers 0 host }
+    requires benches { AreBenchesFrom E.made_for run.now.heap.now 0 benches }
+    ensures worked { HaveFoundedAndWorked run.now.heap.now host.markers run.now.lists.now result }
 {
-    let mut first = host.caller(heap);
-    found_stack(rt, &mut first, &mut bench);
+    let mut first = host.caller(run.heap);
+    first.is_idle();
+    found_stack(rt, &mut first, &mut benches.first);
     first.is_idle();
     let pass = first.finish();
-    run_from(rt, alloc, heap, lists, pace, 0, host, pass, bench, others)
+    run_from(rt, run, pace, 0, host, Callers { pass, benches })
 }
 
 /// Has the first caller read what is left on the stack, when all callers are joined.
-fn read_left<R: Wait>(
-    rt: &R,
-    alloc: Global,
-    heap: &Heap,
-    host: &mut Host,
-) -> Result<Vec<u64>, NoMemory>
-    requires one_table { host.old.pass.table ≡ heap.now }
-    requires types { HasStackTypes heap.now.config }
-    requires some { 0 < heap.now.config.callers }
+fn read_left<R: Wait>(rt: &R, run: &Run, host: &mut Host) -> Result<Vec<u64>, NoMemory>
+    requires one_table { host.old.pass.table ≡ run.now.heap.now }
+    requires some { 0 < run.now.heap.now.config.callers }
     requires made { 0 < host.old.callers }
     requires joined { Has host.old.pass.seats (seat.Caller 0) }
     requires before_over { has_over host.old.pass.seen ≡ false }
     ensures reader { IsReader host.old host.new }
-    ensures reads { IfOk result (λ left. ReadsStack heap.now.config host.old left.items host.new) }
+    ensures reads { IfOk result (λ left. ReadsStack run.now.heap.now.config host.old left.items host.new) }
 {
-    let mut reader = host.caller_again(heap, 0);
-    let left = read_stack(rt, alloc, &mut reader);
-    host.join_caller(heap, reader.finish());
+    let mut reader = host.caller_again(run.heap, 0);
+    let left = read_stack(rt, run.alloc, &mut reader);
+    host.join_caller(run.heap, reader.finish());
     left
 }
 
 /// Has callers do their jobs on a stack, reads what they leave on it, and says to the markers that all is over.
 pub(crate) fn work<E: Engine + Send, P: Pace + Sync, R: Threads + Wait + Sync>(
     rt: &R,
-    alloc: Global,
-    heap: &Heap,
-    lists: &[Jobs],
+    run: &Run,
     pace: &P,
     host: Host,
-    bench: Bench<E>,
-    others: Vec<Bench<E>>,
-    mut own: Bench<E>,
+    benches: Benches<E>,
 ) -> Ended
     requires shared { IsSync R.row × IsSync P.row × IsSend E.row }
-    requires types { HasStackTypes heap.now.config }
-    requires lists { length lists.now ≡ heap.now.config.callers }
-    requires few { heap.now.config.callers ≤ 16 }
-    requires benches { 1 + length others.items ≡ length lists.now }
-    requires host { HasHandedOut heap.now host.markers 0 host }
-    requires made_for { E.made_for bench.engine ≡ heap.now.config.pages }
-    requires book { length bench.book ≡ heap.now.config.pages }
-    requires all_made_for { All (λ bench. E.made_for bench.engine ≡ heap.now.config.pages) others.items }
-    requires books { All (λ bench. length bench.book ≡ heap.now.config.pages) others.items }
-    requires own_made_for { E.made_for own.engine ≡ heap.now.config.pages }
-    requires own_book { length own.book ≡ heap.now.config.pages }
-    ensures ended { HaveEnded heap.now host.markers lists.now result }
+    requires host { HasHandedOut run.now.heap.now host.markers 0 host }
+    requires benches { AreBenchesOf E.made_for run.now.heap.now benches }
+    ensures ended { HaveEnded run.now.heap.now host.markers run.now.lists.now result }
 {
-    let Joined { mut host, dones } = found_and_work(
-        rt, alloc, heap, lists, pace, host, bench, others,
-    );
-    let left = read_left(rt, alloc, heap, &mut host);
-    host.over(rt, heap, &mut own);
+    let Benches {
+        callers,
+        host: mut own,
+    } = benches;
+    let Joined { mut host, dones } = found_and_work(rt, run, pace, host, callers);
+    let left = read_left(rt, run, &mut host);
+    host.over(rt, run.heap, &mut own);
     host.is_in_order();
     Ended { host, dones, left }
 }

@@ -1,5 +1,5 @@
 //! Whole cycles.
-ghost use Rattle.std.specs.Prelude.{◌≡◌, length};
+ghost use Rattle.std.specs.Prelude.{◌≡◌};
 ghost use Rattle.mk_cycle.specs.EngineLaw.{IsFreeForCycle, IsAtPhase};
 ghost use Rattle.mk_sweep.specs.SweepCycle.{HasMarkers, MakesWholeCycle, ReleasesUnswept};
 
@@ -19,14 +19,12 @@ pub fn sweep_cycle<R: Threads + Wait + Sync>(
 ) -> (Turn, Released)
     requires one_table { turn.pass.table ≡ words.now }
     requires made_for { ⟦<SweepEngine as Engine>⟧.made_for bench.old.engine ≡ words.now.config.pages }
-    requires book { length bench.old.book ≡ words.now.config.pages }
     requires phase { IsAtPhase turn.pass 0 }
     requires free { IsFreeForCycle turn.pass }
     requires markers { HasMarkers turn.pass.seats }
     ensures op { result.0.op ≡ turn.op }
     ensures made_for { ⟦<SweepEngine as Engine>⟧.made_for bench.new.engine
         ≡ ⟦<SweepEngine as Engine>⟧.made_for bench.old.engine }
-    ensures book { length bench.new.book ≡ length bench.old.book }
     ensures cycle { MakesWholeCycle turn.pass result.0.pass result.1 }
     ensures unswept { ReleasesUnswept turn.pass result.0.pass }
 {

@@ -1,5 +1,5 @@
 -- The operations of an event are admitted where all registers are null, and leave them so.
-use Rattle.std.proofs.Common.{IfSome, set, slice_get}
+use Rattle.std.proofs.Common.{set, slice_get}
 use Rattle.std.proofs.lemmas.List.FromFn.{get_or-range_with_len, length-range_with_len}
 use Rattle.std.proofs.{lemmas.List.Elements.All-get_or, lemmas.Option.slice_get-get_or}
 use Rattle.mk_trace.proofs.Vocabulary.{A, AreAdmitted, C, Config, Contents, Event, F, IsAdmitted, IsBetween, IsEventOf}
@@ -7,10 +7,10 @@ use Rattle.mk_trace.proofs.Vocabulary.{IsHistory, IsPlayable, IsSound, K, Kind, 
 use Rattle.mk_trace.proofs.Vocabulary.{TraceEvent, Value, W, after_calls, after_free, allocation_at, asked, calls}
 use Rattle.mk_trace.proofs.Vocabulary.{calls_of_caller, config_of, global_at, kinds_of, length-replicate, never_behind}
 use Rattle.mk_trace.proofs.Vocabulary.{never_first, ops_of, range_with_len, register_at, replicate, types_from}
-use Rattle.mk_laws.proofs.Vocabulary.{AccessIsAdmitted, Bool, IsNumber, IsPointer, IsTyped, IsTypedAllocation, List}
-use Rattle.mk_laws.proofs.Vocabulary.{Meets, Number as NumKind, Option, Some, ℕ, ap, arith, false, get_or}
-use Rattle.mk_laws.proofs.Vocabulary.{get_or-set_other, get_or-set_same, length, refl, subst, suc, sym, target_of, true}
-use Rattle.mk_laws.proofs.Vocabulary.{words_of, zero, [], ◌*◌, ◌+◌, ◌-◌, ◌<◌, ◌∙◌, ◌∷◌, ◌≡◌, ◌≢◌, ◌≤◌}
+use Rattle.mk_laws.proofs.Vocabulary.{AccessIsAdmitted, Bool, IsTyped, IsTypedAllocation, List, Meets}
+use Rattle.mk_laws.proofs.Vocabulary.{Number as NumKind, Some, ℕ, ap, arith, false, get_or, get_or-set_other}
+use Rattle.mk_laws.proofs.Vocabulary.{get_or-set_same, length, refl, subst, suc, sym, true, words_of, zero, [], ◌*◌}
+use Rattle.mk_laws.proofs.Vocabulary.{◌+◌, ◌-◌, ◌<◌, ◌∙◌, ◌∷◌, ◌≡◌, ◌≢◌, ◌≤◌}
 use Rattle.mk_never.proofs.Later.{calls_stay, op_stays}
 use Rattle.mk_never.proofs.{Edits.left_at_by, Fresh.new_adds, TypedCalls.op_keeps, TypedCalls.stays_typed}
 use Rattle.mk_never.specs.Admitted.{IsBase, IsCaller, IsOfKind, OperandsAreInRange, StoreIsAdmitted}
@@ -61,14 +61,7 @@ module _ (slots : List ℕ) where
     pub typed : IsTyped listed n
 
   pub stands_on : (n : NeverState) (o : Op) → Stands n → IsAdmitted listed n 0 o → Stands (after_op n 0 o)
-  stands_on n o s h =
-      let stays = op_stays n 0 o in
-      record {
-        types = stays.types ∙ s.types;
-        registers = stays.registers ∙ s.registers;
-        globals = stays.globals ∙ s.globals;
-        typed = op_keeps listed n 0 s.typed o h.in_range h.access h.store;
-      }
+  stands_on n o s h = grind (arith, op_stays, op_keeps, listed)
 
   -- The operations are admitted, and leave all registers null.
   pub record AreFine (n : NeverState) (ops : List Op) : Type 0 where
@@ -80,9 +73,7 @@ module _ (slots : List ℕ) where
 
   then_all : {n : NeverState} {o : Op} {ops : List Op} → Stands n → IsAdmitted listed n 0 o
       → (Stands (after_op n 0 o) → AreFine (after_op n 0 o) ops) → AreFine n (o ∷ ops)
-  then_all {n} {o} s first rest =
-      let later = rest (stands_on n o s first) in
-      record { admitted = (first, later.admitted); clear = later.clear }
+  then_all {n} {o} s first rest = grind (arith, stands_on)
 
   module _ (slot : ℕ) (within : slot < length slots) (few : length slots ≤ 64) where
     -- the register is null or points to an object of the slot
@@ -98,8 +89,7 @@ module _ (slots : List ℕ) where
         ∙ ap Some (get_or-range_with_len 0 (length slots) slot 0 within ∙ (omega arith))
 
     kinds_here : (n : NeverState) → Stands n → kinds_of n.types slot ≡ slot_type slot (get_or slots slot 0)
-    kinds_here n s = ap (λ (ts : List (List Kind)). kinds_of ts slot) s.types ∙ kinds_from 0 slot slots within
-        ∙ ap (λ (k : ℕ). slot_type k (get_or slots slot 0)) (omega arith)
+    kinds_here n s = grind (arith, kinds_from)
 
     -- a word of an object of the slot
     meets : (n : NeverState) → Stands n → (v : Value) → IsSound n v → IsOfKind v (To slot 0) → (i : ℕ)
@@ -123,8 +113,7 @@ module _ (slots : List ℕ) where
         )
 
     global_points : (n : NeverState) → Stands n → IsOfKind (global_at n slot) (To slot 0)
-    global_points n s =
-        subst (λ (o : Option ℕ). IfSome o (λ ty. IsOfKind (global_at n slot) (To ty 0))) listed_at (s.typed.listed slot)
+    global_points n s = grind (arith, listed_at)
 
     base_of_kind : (v : Value) → IsOfKind v (To slot 0) → IsBase v
     base_of_kind Null h = tt
@@ -135,48 +124,34 @@ module _ (slots : List ℕ) where
 
     admitted_by : (n : NeverState) (o : Op) → Stands n → OperandsAreInRange n o → AccessIsAdmitted n 0 o
         → StoreIsAdmitted listed n 0 o → IsAdmitted listed n 0 o
-    admitted_by n o s range access store =
-        record { of_a_caller = is_caller n s; in_range = range; access = access; store = store }
+    admitted_by n o s range access store = grind (arith, is_caller)
 
     new_admitted : (n : NeverState) (full : Bool) → Stands n → IsAdmitted listed n 0 (New 0 slot full)
-    new_admitted n full s =
-        let count = ap length s.types ∙ length-types_from 0 slots in
-        admitted_by n (New 0 slot full) s (omega arith, omega (arith, count, within)) tt tt
+    new_admitted n full s = grind (arith, length-types_from, admitted_by)
 
     clear_admitted : (n : NeverState) (d : ℕ) → d < 8 → Stands n → IsAdmitted listed n 0 (Clear d)
     clear_admitted n d below s = admitted_by n (Clear d) s below tt tt
 
     get_admitted : (n : NeverState) (d : ℕ) → d < 8 → Stands n → IsAdmitted listed n 0 (GetGlobal d slot)
-    get_admitted n d below s =
-        let count = s.globals in
-        admitted_by n (GetGlobal d slot) s (below, omega (arith, count, within, few)) tt tt
+    get_admitted n d below s = grind (arith, admitted_by)
 
     set_admitted : (n : NeverState) → Stands n → Points n 0 → IsAdmitted listed n 0 (SetGlobal slot 0)
-    set_admitted n s points =
-        let count = s.globals in
-        admitted_by n (SetGlobal slot 0) s (omega (arith, count, within, few), omega arith) tt
-        (subst (λ (o : Option ℕ). IfSome o (λ ty. IsOfKind (register_at n 0 0) (To ty 0))) (sym listed_at) points)
+    set_admitted n s points = grind (arith, admitted_by, listed_at)
 
     free_admitted : (n : NeverState) → Stands n → Points n 0 → IsAdmitted listed n 0 (Free 0)
     free_admitted n s points = admitted_by n (Free 0) s (omega arith) tt (base_of_kind (register_at n 0 0) points)
 
     at_register : (n : NeverState) → Stands n → Points n 0 → (i : ℕ) → i < get_or slots slot 0 → (P : Kind → Type 0)
         → P (get_or (slot_type slot (get_or slots slot 0)) i NumKind) → Meets n (register_at n 0 0) i P
-    at_register n s points i inside P p =
-        meets n s (register_at n 0 0) (s.typed.registers (8 * 0 + 0)) points i inside P p
+    at_register n s points i inside P p = grind (arith, meets)
 
     number_admitted : (n : NeverState) (index value : ℕ) → 1 ≤ index → index < get_or slots slot 0 → Stands n
         → Points n 0 → IsAdmitted listed n 0 (SetNum 0 index value)
-    number_admitted n index value least inside s points =
-        admitted_by n (SetNum 0 index value) s (omega arith)
-        (at_register n s points index inside IsNumber
-        (subst IsNumber (sym (number_at slot (get_or slots slot 0) index least)) refl)) tt
+    number_admitted n index value least inside s points = grind (arith, admitted_by, at_register, number_at)
 
     link_admitted : (n : NeverState) → 1 ≤ get_or slots slot 0 → Stands n → Points n 0 → Points n 1
         → IsAdmitted listed n 0 (SetPtr 0 0 1)
-    link_admitted n some s points linked =
-        admitted_by n _ s (omega arith, omega arith) (at_register n s points 0 (omega arith) IsPointer refl)
-        (at_register n s points 0 (omega arith) _ linked)
+    link_admitted n some s points linked = grind (arith, admitted_by, at_register)
 
     -- what they leave in registers
 
@@ -201,9 +176,7 @@ module _ (slots : List ℕ) where
 
     numbered_same : (n : NeverState) (index value r : ℕ)
         → register_at (after_op n 0 (SetNum 0 index value)) 0 r ≡ register_at n 0 r
-    numbered_same n index value r =
-        left_at_by (λ m. register_at m 0 r ≡ register_at n 0 r) (target_of n (register_at n 0 0) index) n _ refl
-        (λ number place e. refl)
+    numbered_same n index value r = grind (arith, left_at_by)
 
     freed_same : (n : NeverState) (v : Value) (r : ℕ) → register_at (after_free n v) 0 r ≡ register_at n 0 r
     freed_same n Null r = refl
@@ -228,10 +201,7 @@ module _ (slots : List ℕ) where
     clears_one n clear r above = set_null n.registers (8 * 0 + 0) (8 * 0 + r) (λ other. clear r (omega (arith, other)))
 
     clears_two : (n : NeverState) → ClearFrom n 2 → ClearFrom (after_op (after_op n 0 (Clear 0)) 0 (Clear 1)) 0
-    clears_two n clear r above =
-        let m = after_op n 0 (Clear 0) in
-        set_null m.registers (8 * 0 + 1) (8 * 0 + r)
-        (λ other. set_null n.registers (8 * 0 + 0) (8 * 0 + r) (λ another. clear r (omega (arith, other, another))))
+    clears_two n clear r above = grind (arith, set_null)
 
     -- so an event's operations
 

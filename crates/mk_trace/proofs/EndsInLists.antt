@@ -1,8 +1,7 @@
 -- What ends find in a list of events that has one cycle at most.
 use Rattle.mk_trace.proofs.Vocabulary.{AreEnabledFrom, Config, EndsNone, EndsOne, EndsTell, Event, FreesNone}
-use Rattle.mk_trace.proofs.Vocabulary.{IsBetweenCycles, LeavesAllocations, PlacedAllocation, ReleasesNone, Step, World}
-use Rattle.mk_trace.proofs.Vocabulary.{allocations_by, ends, first_world, flight_of, has_step, is_begin, is_end, left}
-use Rattle.mk_trace.proofs.Vocabulary.{moves_phase, none_at, phase_of, world_behind, ⊎_elim}
+use Rattle.mk_trace.proofs.Vocabulary.{IsBetweenCycles, LeavesAllocations, ReleasesNone, Step, World, ends, has_step}
+use Rattle.mk_trace.proofs.Vocabulary.{is_begin, is_end, left, moves_phase, none_at, phase_of, world_behind, ⊎_elim}
 use Rattle.mk_laws.proofs.Vocabulary.{At, Bool, List, ℕ, ap, append-nil, append_assoc, arith, cases_Bool, enabled_parts}
 use Rattle.mk_laws.proofs.Vocabulary.{false, inl, inr, left_append, left_in_parts, or_from, or_parts, refl, subst, sym}
 use Rattle.mk_laws.proofs.Vocabulary.{true, true≢false, [], ◌++◌, ◌+◌, ◌∙◌, ◌∷◌, ◌≡◌, ◌⊎◌}
@@ -10,7 +9,7 @@ use Rattle.mk_core.specs.{Cycles.Next, History.left_from}
 use Rattle.mk_laws.proofs.CyclePhases.{begin_is, phase_behind}
 use Rattle.mk_alloc.{proofs.ListParts.lacks_first, proofs.ListParts.lacks_second, specs.TurnCycles.RunsOneCycle}
 use Rattle.mk_quarantine.proofs.HeldTurns.{next_of}
-use Rattle.mk_trace.proofs.FoundByEnds.{EndsOnce, FreesNoneFrom, IsOn, Rests, ends-append, ends_once, found-append}
+use Rattle.mk_trace.proofs.FoundByEnds.{EndsOnce, FreesNoneFrom, Rests, ends-append, ends_once, found-append}
 use Rattle.mk_trace.proofs.FoundByEnds.{found-none, frees_behind, frees_second, grows_by, is_over, no_end-cons, rests}
 use Rattle.mk_trace.proofs.FlagSteps.{releases_then, same_releases}
 use Rattle.mk_trace.specs.Peaks.{found_by_ends_from}
@@ -28,10 +27,7 @@ pub first_at : (kind : Step → Bool) (es : List Event) → has_step kind es ≡
 first_at kind es some = next_of kind es (λ none. true≢false (sym some ∙ none))
 
 pub has_at : (kind : Step → Bool) (es : List Event) → At kind es → has_step kind es ≡ true
-has_at kind es at = elim (cases_Bool (has_step kind es)) [
-  | inl is ↦ is
-  | inr none ↦ absurd (none_at kind es none at)
-]
+has_at kind es at = grind (arith, none_at)
 
 begins_no_end : (s : Step) → is_begin s ≡ true → is_end s ≡ false
 begins_no_end Step.Begin h = refl
@@ -54,17 +50,10 @@ module _ (c : Config) (w : World) (xs : List Event) (b : Event) (ys : List Event
   resting = rests c w xs parts.0 idle none_before (lacks_first is_over xs (b ∷ ys) overs)
 
   marking : (phase_of begun.now.words ≡ 1) × AreEnabledFrom c begun ys
-  marking =
-      let moves = moves_phase c first b ys parts.1 in (
-        moves.1 ∙ ap (λ (s : Step). phase_behind s (phase_of first.now.words)) (begin_is b.step begins),
-        moves.2,
-      )
+  marking = grind (arith, moves_phase, first, parts, phase_behind, begin_is)
 
   later : FreesNoneFrom c begun ys → has_step is_end ys ≡ true → EndsOnce c begun ys
-  later frees ends_in =
-      ends_once c begun ys marking.1 (subst IsOn (sym marking.0) (record { least = omega arith; most = omega arith }))
-      none_behind (or_parts (is_over b.step) (has_step is_over ys) (lacks_second is_over xs (b ∷ ys) overs)).1
-      frees ends_in
+  later frees ends_in = grind (arith, ends_once, begun, marking, or_parts, is_over, lacks_second)
 
   left_is : left_from c w (xs ++ b ∷ ys) ≡ left_from c begun ys
   unfolding left_from
@@ -99,18 +88,10 @@ one_second xs ys one b =
 -- One part after another.
 
 none_twice : {c : Config} {es fs gs : List Event} → EndsNone c es fs → EndsNone c fs gs → EndsNone c es gs
-none_twice h g =
-    record { found = g.found ∙ h.found; count = g.count ∙ h.count; released = releases_then h.released g.released }
+none_twice h g = grind (arith, releases_then)
 
 one_behind_none : {c : Config} {es fs gs : List Event} → EndsNone c es fs → EndsOne c fs gs → EndsOne c es gs
-one_behind_none h g = record {
-  finds = g.finds;
-  found = g.found ∙ ap (λ (l : List (List PlacedAllocation)). l ++ g.finds ∷ []) h.found;
-  count = g.count ∙ ap (λ (n : ℕ). n + 1) h.count;
-  earlier = omega (arith, h.released.count, g.earlier);
-  freed = g.freed;
-  released = g.released;
-}
+one_behind_none h g = grind arith
 
 -- From one list to a longer one.
 
@@ -119,30 +100,17 @@ module _ (c : Config) (es more : List Event) where
   left_then = left_in_parts c es more
 
   pub none_then : Rests c (left c es) more → EndsNone c es (es ++ more)
-  none_then h = record {
-    found = cc (found-append c (first_world c) es more, h.found, append-nil (found_by_ends_from c (first_world c) es));
-    count = ends-append es more ∙ (omega (arith, h.count));
-    released = subst (λ (x : World). ReleasesNone (left c es).allocations x.allocations) (sym left_then) h.released;
-  }
+  none_then h = grind (arith, found-append, append-nil, ends-append, left_then)
 
   pub one_then : EndsOnce c (left c es) more → EndsOne c es (es ++ more)
-  one_then h = record {
-    finds = h.finds;
-    found = cc (found-append c (first_world c) es more, h.found);
-    count = ends-append es more ∙ (omega (arith, h.count));
-    earlier = h.earlier;
-    freed = subst (λ (x : World). FreesNone h.finds x.allocations) (sym left_then) h.freed;
-    released = subst (λ (x : World). ReleasesNone h.finds x.allocations) (sym left_then) h.released;
-  }
+  one_then h = grind (arith, found-append, ends-append, left_then)
 
   idle_then : phase_of (left_from c (left c es) more).now.words ≡ 0 → IsBetweenCycles c (es ++ more)
   idle_then h = ap (λ (x : World). phase_of x.now.words) left_then ∙ h
 
   module _ (on : AreEnabledFrom c (left c es) more) (overs : has_step is_over more ≡ false) where
     pub tells_none : has_step is_begin more ≡ false → EndsTell c es (es ++ more)
-    tells_none none idle =
-        let h = rests c (left c es) more on idle none overs in
-        (idle_then h.phase, inl (none_then h))
+    tells_none none idle = grind (arith, rests, idle_then, none_then)
 
     -- No call is a Free.
     pub tells_ends : RunsOneCycle more → FreesNoneFrom c (left c es) more → EndsTell c es (es ++ more)
@@ -169,9 +137,7 @@ module _ (c : Config) (es more : List Event) where
 module _ (c : Config) (es xs ys : List Event) (on : AreEnabledFrom c (left c es) (xs ++ ys))
     (overs : has_step is_over (xs ++ ys) ≡ false) (none : has_step is_begin xs ≡ false) where
   parts_on : AreEnabledFrom c (left c es) xs × AreEnabledFrom c (left c (es ++ xs)) ys
-  parts_on =
-      let parts = enabled_parts c (left c es) xs ys on in
-      (parts.0, subst (λ (w : World). AreEnabledFrom c w ys) (sym (left_in_parts c es xs)) parts.1)
+  parts_on = grind (arith, parts, enabled_parts, left_in_parts)
 
   pub tells_behind_none : RunsOneCycle (xs ++ ys) → FreesNoneFrom c (left c (es ++ xs)) ys
       → EndsTell c es (es ++ (xs ++ ys))
@@ -220,15 +186,7 @@ same_phase _ n h = refl
 
 same_allocations : (c : Config) (w : World) (e : Event) → changes e.step ≡ false
     → (world_behind c w e).allocations ≡ w.allocations
-same_allocations c w e none = by e.step none
-  where
-    by : (s : Step) → changes s ≡ false
-        → allocations_by c w.now (flight_of w.now e.seat) s w.allocations ≡ w.allocations
-    by Step.Grant h = cc
-    by (Step.Quar p v) h = cc
-    by Step.Begin h = cc
-    by Step.Release h = cc
-    by _ h = refl
+same_allocations c w e none = grind (arith, changes)
 
 leaves : (c : Config) (w : World) (es : List Event) → AreEnabledFrom c w es → has_step changes es ≡ false
     → Leaves c w es
@@ -247,34 +205,13 @@ leaves c w (e ∷ es) on none =
 
 pub leaves_then : (c : Config) (es more : List Event) → AreEnabledFrom c (left c es) more
     → has_step changes more ≡ false → LeavesAllocations c es (es ++ more)
-leaves_then c es more on none =
-    let h = leaves c (left c es) more on none in
-    let there = left_in_parts c es more in
-    record {
-      phase = ap (λ (x : World). phase_of x.now.words) there ∙ h.phase;
-      found =
-          cc (found-append c (first_world c) es more, h.found, append-nil (found_by_ends_from c (first_world c) es));
-      count = ends-append es more ∙ (omega (arith, h.count));
-      allocations = ap (λ (x : World). x.allocations) there ∙ h.allocations;
-    }
+leaves_then c es more on none = grind (arith, leaves, left_in_parts, found-append, append-nil, ends-append)
 
 -- One after the other.
 
 pub leaves_twice : {c : Config} {es fs gs : List Event} → LeavesAllocations c es fs → LeavesAllocations c fs gs
     → LeavesAllocations c es gs
-leaves_twice h g = record {
-  phase = g.phase ∙ h.phase;
-  found = g.found ∙ h.found;
-  count = g.count ∙ h.count;
-  allocations = g.allocations ∙ h.allocations;
-}
+leaves_twice h g = grind arith
 
 pub leaves_tell : {c : Config} {es fs : List Event} → LeavesAllocations c es fs → EndsTell c es fs
-leaves_tell {c} {es} h idle = (
-  h.phase ∙ idle,
-  inl (record {
-    found = h.found;
-    count = h.count;
-    released = subst (ReleasesNone (left c es).allocations) (sym h.allocations) (same_releases (left c es).allocations);
-  }),
-)
+leaves_tell {c} {es} h idle = grind (arith, same_releases)

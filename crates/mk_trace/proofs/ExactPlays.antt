@@ -23,8 +23,7 @@ abbrev of_cycle : Seat → Event → Bool
 of_cycle s e = is_same_seat s e.seat && is_of_cycle e.step
 
 no_cycle_append : (s : Seat) (xs ys : List Event) → MakesNoCycle s xs → MakesNoCycle s ys → MakesNoCycle s (xs ++ ys)
-no_cycle_append s xs ys one two =
-    list_any-append (of_cycle s) xs ys ∙ or_from (list_any (of_cycle s) xs) (list_any (of_cycle s) ys) one two
+no_cycle_append s xs ys one two = grind (arith, list_any-append, of_cycle, or_from)
 
 lacks_no_cycle : (s : Seat) (es : List Event) → has_step is_of_cycle es ≡ false → MakesNoCycle s es
 lacks_no_cycle s [] h = refl
@@ -49,12 +48,7 @@ nothing_given on c s [] e behind is give same = absurd cc
 nothing_given on c s (x ∷ xs) e behind is give same = absurd cc
 
 pub first_exact : (c : Config) (es : List Event) → es ≡ [] → AllTurnsAreExact c es
-first_exact c es none = record {
-  caller = subst (TurnsOfAreExact false c (Caller 0)) (sym none) (nothing_given false c (Caller 0));
-  host = ap (list_any (of_cycle Host)) none;
-  caller_unswept = first_sweeps c (Caller 0) es none;
-  host_unswept = first_sweeps c Host es none;
-}
+first_exact c es none = grind (arith, nothing_given, of_cycle, first_sweeps)
 
 -- The host looks: it takes the turn and gives it back.
 
@@ -130,15 +124,10 @@ exact_over c es0 es1 es2 es3 es4 before call looks more exact = more (looks (cal
 each_seat : (trace : Contents) {es : List Event} → IsHistory (config_of trace) es
     → AllTurnsAreExact (config_of trace) es → (s : Seat) → seat_exists (config_of trace) s ≡ true
     → SweepsNothingFrom (config_of trace) s (first_world (config_of trace)) es
-each_seat trace {es} history exact (Caller k) exists =
-    let lt = ltb-true k 1 exists in
-    subst (λ (j : ℕ). SweepsNothingFrom (config_of trace) (Caller j) (first_world (config_of trace)) es) (omega arith)
-    exact.caller_unswept
-each_seat trace {es} history exact (Marker j) exists =
-    markers_sweep (config_of trace) j (first_world (config_of trace)) es history.enabled
+each_seat trace {es} history exact (Caller k) exists = grind (arith, ltb-true)
+each_seat trace {es} history exact (Marker j) exists = grind (arith, markers_sweep)
 each_seat trace history exact Host exists = exact.host_unswept
 
 pub play_is_unswept : (trace : Contents) (es : List Event) → IsHistory (config_of trace) es
     → AllTurnsAreExact (config_of trace) es → IsUnswept (config_of trace) es
-play_is_unswept trace es history exact =
-    none_sweeps (config_of trace) (first_world (config_of trace)) es history.enabled (each_seat trace history exact)
+play_is_unswept trace es history exact = grind (arith, none_sweeps, each_seat)

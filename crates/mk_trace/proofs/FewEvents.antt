@@ -1,6 +1,5 @@
 -- A trace has few events, each has few operations, and so few cycles end.
 use Rattle.std.proofs.{Common.Result, lemmas.List.Splits.length-slice_split, lemmas.List.Sums.count_by-le-length}
-use Rattle.std.specs.List.{slice_split}
 use Rattle.mk_trace.proofs.Vocabulary.{A, C, Contents, Event, F, HeapPages, IsOfSomeTraceText, K, LinesSoFar, Ok, Op}
 use Rattle.mk_trace.proofs.Vocabulary.{TraceEvent, TraceStop, W, contents_of, ends, events_from, header_line_of}
 use Rattle.mk_trace.proofs.Vocabulary.{length-append, lines_of, nat_tests, nothing_written, ops_of, read_behind}
@@ -37,9 +36,7 @@ along_grows : {Line Given Whole Fault : Type 0} (told : ℕ → Fault → TraceS
     → (number : ℕ) (lines : List Line) (before after : Whole)
     → along told read add number lines before ≡ Ok after → measure after ≤ measure before + length lines
 unfolding along
-along_grows {Line} {Given} {Whole} told read add measure grows number [] before after h =
-    let same : before ≡ after = cc in
-    subst (λ (whole : Whole). measure whole ≤ measure before + 0) same (omega arith)
+along_grows {Line} {Given} {Whole} told read add measure grows number [] before after h = grind arith
 along_grows told read add measure grows number (line ∷ lines) before after h =
     let parts = gone_on (told number) (read before line) _ after h in
     let rest = along_grows told read add measure grows (number + 1) lines (add before parts.value) after parts.behind in
@@ -88,11 +85,7 @@ no_more (x ∷ []) = last_by (length x == 0) x
 no_more (x ∷ y ∷ lines) = let rest = no_more (y ∷ lines) in omega (arith, rest)
 
 few_lines : (text : List ℕ) → length (lines_of text) ≤ length text + 1
-few_lines text =
-    let parts = no_more (slice_split (λ byte. byte == 10) text) in
-    let count = length-slice_split (λ byte. byte == 10) text in
-    let newlines = count_by-le-length (λ byte. byte == 10) text in
-    omega (arith, parts, count, newlines)
+few_lines text = grind (arith, no_more, length-slice_split, count_by-le-length)
 
 pub few_events : (trace : Contents) → IsOfSomeTraceText trace → length trace.events ≤ 1048577
 few_events trace (text, h) =

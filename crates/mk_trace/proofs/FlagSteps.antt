@@ -1,17 +1,16 @@
 -- The flags of allocations: what stays of them, what one event does to them, and what a Free does.
 use Rattle.mk_trace.proofs.Vocabulary.{AreLater, Cell, Config, Event, Flight, FreesNone, IsHistory, Moment, NeverState}
 use Rattle.mk_trace.proofs.Vocabulary.{Null, Num, PlacedAllocation, Ptr, ReleasesNone, Step, Value, Words, World}
-use Rattle.mk_trace.proofs.Vocabulary.{address_of, after_free, allocation_at, allocations_by, cell_freed, decides_freed}
-use Rattle.mk_trace.proofs.Vocabulary.{flight_of, freed_where_it_stands, granted, has_step}
-use Rattle.mk_trace.proofs.Vocabulary.{histories_keep_the_invariant, is_left_unmarked, is_release, is_some_and, left}
-use Rattle.mk_trace.proofs.Vocabulary.{length-append, never_behind, never_granted, no_longer_fresh, placed_at}
-use Rattle.mk_trace.proofs.Vocabulary.{pointed_cell, unfreed, with_released, world_behind}
+use Rattle.mk_trace.proofs.Vocabulary.{after_free, allocation_at, allocations_by, cell_freed, decides_freed, flight_of}
+use Rattle.mk_trace.proofs.Vocabulary.{freed_where_it_stands, granted, has_step, histories_keep_the_invariant}
+use Rattle.mk_trace.proofs.Vocabulary.{is_release, left, length-append, never_behind, never_granted, no_longer_fresh}
+use Rattle.mk_trace.proofs.Vocabulary.{placed_at, unfreed, with_released, world_behind}
 use Rattle.mk_laws.proofs.Vocabulary.{Bool, LeavesPlaces, List, NeverAllocation as Allocation, None, Option, Some, ℕ}
 use Rattle.mk_laws.proofs.Vocabulary.{ap, arith, cases_eq, cases_lt, changed_at, false, freed_leaves, freed_released}
 use Rattle.mk_laws.proofs.Vocabulary.{fresh_leaves, get_or-set_other, get_or-set_same, get_or_past, if◌then◌else◌, inl}
 use Rattle.mk_laws.proofs.Vocabulary.{inr, is_some, length, length-map, length-set, map, no_allocation, none_freed}
 use Rattle.mk_laws.proofs.Vocabulary.{or_parts, refl, released_leaves, set_past, slice_index_or, subst, suc, sym, true}
-use Rattle.mk_laws.proofs.Vocabulary.{with_freed, zero, [], ◌++◌, ◌<◌, ◌||◌, ◌∙◌, ◌∷◌, ◌≡◌, ◌≤◌}
+use Rattle.mk_laws.proofs.Vocabulary.{with_freed, zero, [], ◌++◌, ◌<◌, ◌∙◌, ◌∷◌, ◌≡◌, ◌≤◌}
 use Rattle.mk_never.specs.Reach.{LeadsTo}
 use Rattle.mk_core.{proofs.ChangedAllocations.earlier_at, specs.History.left_from}
 use Rattle.mk_laws.specs.Images.{AreTwins}
@@ -26,20 +25,12 @@ pub later_same : (xs : List PlacedAllocation) → AreLater xs xs
 later_same xs = record { count = omega arith; base = λ i lt. refl; ty = λ i lt. refl; released = λ i lt is. is }
 
 pub later_then : {xs ys zs : List PlacedAllocation} → AreLater xs ys → AreLater ys zs → AreLater xs zs
-later_then {xs} {ys} one two =
-    let within : (i : ℕ) → i < length xs → i < length ys = λ i lt. omega (arith, lt, one.count) in
-    record {
-      count = omega (arith, one.count, two.count);
-      base = λ i lt. two.base i (within i lt) ∙ one.base i lt;
-      ty = λ i lt. two.ty i (within i lt) ∙ one.ty i lt;
-      released = λ i lt is. two.released i (within i lt) (one.released i lt is);
-    }
+later_then {xs} {ys} one two = grind arith
 
 changed : {change : PlacedAllocation → PlacedAllocation} (xs : List PlacedAllocation) → LeavesPlaces change
     → ((a : PlacedAllocation) → a.released ≡ true → (change a).released ≡ true) → AreLater xs (map change xs)
 changed {change} xs leaves keeps =
-    let at : (i : ℕ) → placed_at (map change xs) i ≡ change (placed_at xs i) =
-    λ i. changed_at change xs i leaves.none in
+    let at : (i : ℕ) → placed_at (map change xs) i ≡ change (placed_at xs i) = grind (arith, changed_at) in
     record {
       count = omega (arith, length-map xs change);
       base = λ i lt. ap (λ (a : PlacedAllocation). a.base) (at i) ∙ leaves.base (placed_at xs i);
@@ -57,8 +48,7 @@ more xs a = record {
 
 kept_release : (c : Config) (w : Words) (a : PlacedAllocation) → a.released ≡ true
     → (with_released c w a).released ≡ true
-kept_release c w a is =
-    ap (λ (b : Bool). b || is_some_and (is_left_unmarked w) (pointed_cell c.pages w.pages (address_of a.base))) is
+kept_release c w a is = grind arith
 
 step_later : (c : Config) (m : Moment) (f : Flight) (s : Step) (xs : List PlacedAllocation)
     → AreLater xs (allocations_by c m f s xs)
@@ -84,10 +74,7 @@ pub same_releases : (xs : List PlacedAllocation) → ReleasesNone xs xs
 same_releases xs = record { count = omega arith; released = λ n lt. refl }
 
 pub releases_then : {xs ys zs : List PlacedAllocation} → ReleasesNone xs ys → ReleasesNone ys zs → ReleasesNone xs zs
-releases_then h g = record {
-  count = omega (arith, h.count, g.count);
-  released = λ n lt. g.released n (omega (arith, lt, h.count)) ∙ h.released n lt;
-}
+releases_then h g = grind arith
 
 pub frees_then : (xs ys zs : List PlacedAllocation) → FreesNone xs ys → FreesNone ys zs → FreesNone xs zs
 frees_then xs ys zs h g n = g n ∙ h n
@@ -117,8 +104,7 @@ changed_releases change xs none keeps = record {
 changed_frees : (change : PlacedAllocation → PlacedAllocation) (xs : List PlacedAllocation)
     → change never_granted ≡ never_granted → ((a : PlacedAllocation) → (change a).freed ≡ a.freed)
     → FreesNone xs (map change xs)
-changed_frees change xs none keeps n =
-    ap (λ (a : PlacedAllocation). a.freed) (changed_at change xs n none) ∙ keeps (placed_at xs n)
+changed_frees change xs none keeps n = grind (arith, changed_at)
 
 -- one step
 
@@ -142,8 +128,7 @@ unfreed_all w (Some cell) xs none = cc
 pub frees_by : (c : Config) (m : Moment) (f : Flight) (s : Step) (xs : List PlacedAllocation)
     → decides_freed c m f s ≡ false → FreesNone xs (allocations_by c m f s xs)
 frees_by c m f Step.Grant xs none = more_frees xs (granted c m f) refl
-frees_by c m f (Step.Quar p v) xs none = λ n. ap (λ (l : List PlacedAllocation). (placed_at l n).freed)
-    (unfreed_all m.words (cell_freed c.pages m.words f p v) xs none)
+frees_by c m f (Step.Quar p v) xs none = grind (arith, unfreed_all)
 frees_by c m f Step.Begin xs none = changed_frees no_longer_fresh xs refl (λ a. refl)
 frees_by c m f Step.Release xs none = changed_frees (with_released c m.words) xs refl (λ a. refl)
 frees_by c m f _ xs none = λ n. refl
@@ -172,11 +157,7 @@ no_allocation_past n i le = ap (λ (a : Allocation). a.freed) (get_or_past n.all
 -- Whether it is freed, of any number.
 pub is_freed_there : {c : Config} {es : List Event} → IsHistory c es → (i : ℕ)
     → (placed_at (left c es).allocations i).freed ≡ (allocation_at (never_behind c es) i).freed
-is_freed_there {c} {es} history i = elim (cases_lt i (length (left c es).allocations)) [
-  | inl lt ↦ (twins history).freed i lt
-  | inr le ↦ none_past (left c es).allocations i le
-      ∙ sym (no_allocation_past (never_behind c es) i (omega (arith, le, (twins history).count)))
-]
+is_freed_there {c} {es} history i = grind (arith, cases_lt, twins, none_past, no_allocation_past)
 
 -- What a Free does to the flags.
 
@@ -192,9 +173,7 @@ points_there n (Ptr number ty offset) i is = (chosen (allocation_at n number).fr
 pub was_unfreed : (n : NeverState) (v : Value) (i : ℕ) → unfreed n v ≡ Some i → (allocation_at n i).freed ≡ false
 was_unfreed n Null i is = absurd cc
 was_unfreed n (Num m) i is = absurd cc
-was_unfreed n (Ptr number ty offset) i is =
-    let parts = chosen (allocation_at n number).freed number i is in
-    subst (λ (k : ℕ). (allocation_at n k).freed ≡ false) parts.1 parts.0
+was_unfreed n (Ptr number ty offset) i is = grind (arith, chosen)
 
 pub is_freed_behind : (n : NeverState) (v : Value) (i : ℕ) → unfreed n v ≡ Some i → i < length n.allocations
     → (allocation_at (after_free n v) i).freed ≡ true

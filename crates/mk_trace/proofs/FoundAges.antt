@@ -1,11 +1,11 @@
 -- The ages of allocations over a call: they are as they were, or one end has found them.
 use Rattle.mk_trace.proofs.Vocabulary.{AreAgesOf, AreFound, AreThose, Config, Event, FlagsBehind, FreesNone}
 use Rattle.mk_trace.proofs.Vocabulary.{PlacedAllocation, ReleasesNone, age_in_a_word, age_of, and-false, counted}
-use Rattle.mk_trace.proofs.Vocabulary.{filter, fold, in_a_word, left, never_granted, one_if, placed_at, times, with_one}
+use Rattle.mk_trace.proofs.Vocabulary.{filter, fold, left, never_granted, one_if, placed_at, times, with_one}
 use Rattle.mk_laws.proofs.Vocabulary.{Bool, List, Option, ℕ, and_from, and_parts, ap, arith, cases_lt, false}
-use Rattle.mk_laws.proofs.Vocabulary.{false_from_ne_true, get_or_past, if◌then◌else◌, inl, inr, length, list_any-append}
-use Rattle.mk_laws.proofs.Vocabulary.{map, map-append, not, not-true, or_parts, sym, true, true≢false, [], ◌&&◌, ◌++◌}
-use Rattle.mk_laws.proofs.Vocabulary.{◌+◌, ◌<◌, ◌||◌, ◌∙◌, ◌∷◌, ◌≡◌, ◌≤◌}
+use Rattle.mk_laws.proofs.Vocabulary.{false_from_ne_true, get_or_past, if◌then◌else◌, length, list_any-append, map}
+use Rattle.mk_laws.proofs.Vocabulary.{map-append, not, not-true, or_parts, sym, true, true≢false, [], ◌&&◌, ◌++◌, ◌+◌}
+use Rattle.mk_laws.proofs.Vocabulary.{◌<◌, ◌||◌, ◌∙◌, ◌∷◌, ◌≡◌, ◌≤◌}
 use Rattle.mk_trace.proofs.KeptObjects.{freed_before, maps_agree, unfreed_past, was_kept}
 use Rattle.mk_trace.proofs.{CountedAges.counted_more, NumberLists.stands_passes, NumberLists.those_filtered}
 use Rattle.mk_trace.specs.Ledgers.{is_found_gone, is_gone}
@@ -39,8 +39,7 @@ kept_by freed released k n kept same = grind arith
 age_where_kept : (number : ℕ) (found : List (List PlacedAllocation)) (finds : List PlacedAllocation)
     → is_found_gone found number ≡ false → (placed_at finds number).freed ≡ true
     → age_of number (found ++ finds ∷ []) ≡ age_of number found + 1
-age_where_kept number [] finds kept freed =
-    first_age (placed_at finds number).freed (placed_at finds number).released freed
+age_where_kept number [] finds kept freed = grind (arith, first_age)
 age_where_kept number (first ∷ found) finds kept freed =
     let parts = or_parts (is_gone (placed_at first number)) (is_found_gone found number) kept in
     kept_by (placed_at first number).freed (placed_at first number).released _ _ parts.0
@@ -78,8 +77,7 @@ module _ (c : Config) (es fs : List Event) (x : Option ℕ)
   stays_freed i freed = flags.kept i (λ is. true≢false (sym freed ∙ (flags.frees i is).before)) ∙ freed
 
   was_unfreed : (i : ℕ) → (placed_at ys i).freed ≡ false → (placed_at xs i).freed ≡ false
-  was_unfreed i unfreed =
-      false_from_ne_true (placed_at xs i).freed (λ is. true≢false (sym (stays_freed i is) ∙ unfreed))
+  was_unfreed i unfreed = grind (arith, false_from_ne_true, xs, stays_freed)
 
   -- What was released is as it was.
   same_freed : (i : ℕ) → (placed_at xs i).released ≡ true → (placed_at ys i).freed ≡ (placed_at xs i).freed
@@ -92,24 +90,14 @@ module _ (c : Config) (es fs : List Event) (x : Option ℕ)
   -- Nothing was released.
   module _ (same : (i : ℕ) → i < length xs → (placed_at ys i).released ≡ (placed_at xs i).released) where
     same_gone : (i : ℕ) → is_gone (placed_at xs i) ≡ is_gone (placed_at ys i)
-    same_gone i = elim (cases_lt i (length xs)) [
-      | inl lt ↦ both_same _ _ _ _ (same_freed i) (same i lt)
-      | inr le ↦ rw (past i le, unfreed_past c es fs x flags i le)
-    ]
+    same_gone i = grind (arith, cases_lt, xs, both_same, same_freed, past, unfreed_past)
 
     pub none_found : (found : List (List PlacedAllocation)) → AreFound found xs → AreFound found ys
-    none_found found h = record {
-      gone = λ i. h.gone i ∙ same_gone i;
-      unfreed = λ i unfreed. h.unfreed i (was_unfreed i unfreed);
-    }
+    none_found found h = grind (arith, same_gone, was_unfreed)
 
     pub none_ages : (found : List (List PlacedAllocation)) (pairs : List (ℕ × ℕ)) → AreAgesOf found xs pairs
         → AreAgesOf found ys pairs
-    none_ages found pairs h = record {
-      numbers = h.numbers;
-      are = h.are;
-      those = λ i. h.those i ∙ ap one_if (same_gone i);
-    }
+    none_ages found pairs h = grind (arith, same_gone)
 
   -- One end found these.
   module _ (found : List (List PlacedAllocation)) (finds : List PlacedAllocation) (same : FreesNone finds ys)
@@ -118,13 +106,7 @@ module _ (c : Config) (es fs : List Event) (x : Option ℕ)
     later = found ++ finds ∷ []
 
     finds_gone : (i : ℕ) → is_gone (placed_at finds i) ≡ is_gone (placed_at ys i)
-    finds_gone i = elim (cases_lt i (length finds)) [
-      | inl lt ↦ rw (same i, none.released i lt)
-      | inr le ↦
-          let unfreed : (placed_at finds i).freed ≡ false =
-          ap (λ (a : PlacedAllocation). a.freed) (get_or_past finds i never_granted le) in
-          rw (same i, unfreed)
-    ]
+    finds_gone i = grind (arith, cases_lt, get_or_past)
 
     gone_stays : (i : ℕ) → is_gone (placed_at xs i) ≡ true → is_gone (placed_at ys i) ≡ true
     gone_stays i gone =
@@ -134,28 +116,14 @@ module _ (c : Config) (es fs : List Event) (x : Option ℕ)
         (flags.later.released i (freed_before c es fs x flags i freed) parts.1)
 
     pub one_found : AreFound later ys
-    one_found = record {
-      gone = λ i. list_any-append (λ (l : List PlacedAllocation). is_gone (placed_at l i)) found (finds ∷ [])
-          ∙ rw (h.gone i, finds_gone i) (absorbs _ _ (gone_stays i));
-      unfreed = λ i unfreed.
-          age_where_unfreed i found finds (sym (same i) ∙ unfreed) ∙ h.unfreed i (was_unfreed i unfreed);
-    }
+    one_found = grind (arith, list_any-append, finds_gone, absorbs, gone_stays, age_where_unfreed, was_unfreed)
 
     pub kept_age : (i : ℕ) → was_kept c es fs x flags i ≡ true → age_of i later ≡ age_of i found + 1
-    kept_age i kept =
-        let parts = and_parts (placed_at ys i).freed (not (placed_at xs i).released) kept in
-        age_where_kept i found finds
-        (h.gone i ∙ ap (λ (b : Bool). (placed_at xs i).freed && b) (not-true (placed_at xs i).released parts.1)
-        ∙ and-false (placed_at xs i).freed) (sym (same i) ∙ parts.0)
+    kept_age i kept = grind (arith, and_parts, ys, xs, age_where_kept, not-true, and-false)
 
     one_those : (i : ℕ) → one_if (is_gone (placed_at xs i))
         + one_if ((placed_at ys i).released && was_kept c es fs x flags i) ≡ one_if (is_gone (placed_at ys i))
-    one_those i = elim (cases_lt i (length xs)) [
-      | inl lt ↦ sums (placed_at xs i).freed (placed_at xs i).released (placed_at ys i).freed (placed_at ys i).released
-          (λ gone. (same_freed i gone, flags.later.released i lt gone))
-      | inr le ↦ rw (past i le, unfreed_past c es fs x flags i le)
-          (sums_past (placed_at xs i).released (placed_at ys i).released)
-    ]
+    one_those i = grind (arith, cases_lt, xs, sums, ys, same_freed, past, unfreed_past, sums_past)
 
     -- The ages of those that it released are counted.
     pub one_ages : (pairs now : List (ℕ × ℕ)) (numbers : List ℕ) → AreAgesOf found xs pairs
@@ -166,9 +134,7 @@ module _ (c : Config) (es fs : List Event) (x : Option ℕ)
         let gone : ℕ → Bool = λ i. (placed_at ys i).released in
         let rest : List ℕ = filter gone numbers in
         let as_before : map (age_in_a_word found) ages.numbers ≡ map (age_in_a_word later) ages.numbers =
-        maps_agree (age_in_a_word found) (age_in_a_word later) ages.numbers
-        (λ i some. ap in_a_word (sym (age_where_gone i found finds
-        (h.gone i ∙ stands_passes (λ (j : ℕ). is_gone (placed_at xs j)) ages.numbers ages.those i some)))) in
+        grind (arith, maps_agree, later, age_where_gone, stands_passes, xs) in
         record {
           numbers = ages.numbers ++ rest;
           are =

@@ -1,10 +1,9 @@
 -- What ends find in a list of events that begins without a cycle, or in one.
-use Rattle.mk_trace.proofs.Vocabulary.{AreEnabledFrom, Config, Decided, Event, FreesNone, PlacedAllocation}
-use Rattle.mk_trace.proofs.Vocabulary.{ReleasesNone, Step, World, allocations_by, call_decided, calls_append}
-use Rattle.mk_trace.proofs.Vocabulary.{cell_freed, decides_freed, ends, flight_of, freed_where_it_stands, granted}
-use Rattle.mk_trace.proofs.Vocabulary.{has_step, is_begin, is_end, is_release, length-append, moves_phase}
-use Rattle.mk_trace.proofs.Vocabulary.{no_longer_fresh, phase_of, sum_by-append, sum_by-cons, with_released}
-use Rattle.mk_trace.proofs.Vocabulary.{world_behind, ⊎_elim}
+use Rattle.mk_trace.proofs.Vocabulary.{AreEnabledFrom, Config, Event, FreesNone, PlacedAllocation, ReleasesNone, Step}
+use Rattle.mk_trace.proofs.Vocabulary.{World, allocations_by, calls_append, cell_freed, decides_freed, ends, flight_of}
+use Rattle.mk_trace.proofs.Vocabulary.{freed_where_it_stands, granted, has_step, is_begin, is_end, is_release}
+use Rattle.mk_trace.proofs.Vocabulary.{length-append, moves_phase, no_longer_fresh, phase_of, sum_by-append}
+use Rattle.mk_trace.proofs.Vocabulary.{sum_by-cons, with_released, world_behind, ⊎_elim}
 use Rattle.mk_laws.proofs.Vocabulary.{Bool, List, ℕ, ap, arith, cases_Bool, cond, false, false_from_ne_true}
 use Rattle.mk_laws.proofs.Vocabulary.{if◌then◌else◌, length, length-map, list_any, list_any-append, or_parts, refl}
 use Rattle.mk_laws.proofs.Vocabulary.{subst, sym, true, true≢false, [], ◌++◌, ◌+◌, ◌||◌, ◌∙◌, ◌∷◌, ◌≡◌, ◌≤◌}
@@ -72,11 +71,7 @@ found-one c w e es is = rw is
 -- An `end` itself leaves all allocations.
 end_leaves : (c : Config) (w : World) (e : Event) → is_end e.step ≡ true
     → (world_behind c w e).allocations ≡ w.allocations
-end_leaves c w e is = by e.step is
-  where
-    by : (s : Step) → is_end s ≡ true → allocations_by c w.now (flight_of w.now e.seat) s w.allocations ≡ w.allocations
-    by Step.End h = refl
-    by _ h = cc
+end_leaves c w e is = grind arith
 
 one_releases_none : (c : Config) (w : World) (e : Event) → is_release e.step ≡ false
     → ReleasesNone w.allocations (world_behind c w e).allocations
@@ -89,15 +84,7 @@ FreesNoneFrom c w es = list_any is_free_call (calls_from c w es) ≡ false
 pub free_parts : (c : Config) (w : World) (e : Event) (es : List Event) → FreesNoneFrom c w (e ∷ es)
     → (decides_freed c w.now (flight_of w.now e.seat) e.step ≡ false) × FreesNoneFrom c (world_behind c w e) es
 unfolding calls_from
-free_parts c w e es none =
-    let first : List Decided = call_decided c w.now e in
-    let later : List Decided = calls_from c (world_behind c w e) es in
-    let parts = or_parts (list_any is_free_call first) (list_any is_free_call later)
-    (sym (list_any-append is_free_call first later) ∙ none) in (
-      false_from_ne_true (decides_freed c w.now (flight_of w.now e.seat) e.step)
-          (λ is. true≢false (sym (frees_decide c w.now e.seat e.step is) ∙ parts.0)),
-      parts.1,
-    )
+free_parts c w e es none = grind (arith, or_parts, is_free_call, list_any-append, false_from_ne_true, frees_decide)
 
 pub frees_behind : (c : Config) (w : World) (e : Event) (es : List Event) → FreesNoneFrom c w (e ∷ es)
     → FreesNoneFrom c (world_behind c w e) es
@@ -105,12 +92,7 @@ frees_behind c w e es none = (free_parts c w e es none).1
 
 pub frees_second : (c : Config) (w : World) (xs ys : List Event) → FreesNoneFrom c w (xs ++ ys)
     → FreesNoneFrom c (left_from c w xs) ys
-frees_second c w xs ys none =
-    let first : List Decided = calls_from c w xs in
-    let later : List Decided = calls_from c (left_from c w xs) ys in
-    (or_parts (list_any is_free_call first) (list_any is_free_call later)
-    (sym (list_any-append is_free_call first later)
-    ∙ sym (ap (list_any is_free_call) (calls_append c w xs ys)) ∙ none)).1
+frees_second c w xs ys none = grind (arith, or_parts, is_free_call, list_any-append, calls_append)
 
 pub none_freed_from : (c : Config) (w : World) (es : List Event) → FreesNoneFrom c w es
     → FreesNone w.allocations (left_from c w es).allocations
@@ -142,8 +124,7 @@ idle_step _ asks begin over = (refl, refl, refl)
 pub rests : (c : Config) (w : World) (es : List Event) → AreEnabledFrom c w es → phase_of w.now.words ≡ 0
     → has_step is_begin es ≡ false → has_step is_over es ≡ false → Rests c w es
 unfolding left_from found_by_ends_from
-rests c w [] on idle begins overs =
-    record { phase = idle; found = refl; count = refl; released = same_releases w.allocations }
+rests c w [] on idle begins overs = grind (arith, same_releases)
 rests c w (e ∷ es) on idle begins overs =
     let behind : World = world_behind c w e in
     let begin = or_parts (is_begin e.step) (has_step is_begin es) begins in
@@ -228,15 +209,7 @@ module _ (c : Config) (w : World) (e : Event) (es : List Event) (on : AreEnabled
 
   ends_later : is_end e.step ≡ false → EndsOnce c behind es → EndsOnce c w (e ∷ es)
   unfolding left_from
-  ends_later none rest = record {
-    finds = rest.finds;
-    phase = rest.phase;
-    found = found-none c w e es none ∙ rest.found;
-    count = no_end-cons e es none ∙ rest.count;
-    earlier = omega (arith, grows_by c w e, rest.earlier);
-    freed = rest.freed;
-    released = rest.released;
-  }
+  ends_later none rest = grind (arith, found-none, no_end-cons, grows_by)
 
 pub ends_once : (c : Config) (w : World) (es : List Event) → AreEnabledFrom c w es → IsOn (phase_of w.now.words)
     → has_step is_begin es ≡ false → has_step is_over es ≡ false → FreesNoneFrom c w es → has_step is_end es ≡ true

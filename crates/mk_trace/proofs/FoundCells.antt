@@ -1,9 +1,8 @@
 -- What looks between calls say of cells and of the objects in them.
 use Rattle.mk_trace.proofs.Vocabulary.{Cell, Config, Event, FreedObject, HostOnlyLooks, IsBetweenCycles, IsHistory}
-use Rattle.mk_trace.proofs.Vocabulary.{PlacedAllocation, Word, Words, cell_at, cell_of_allocation, cell_words}
-use Rattle.mk_trace.proofs.Vocabulary.{freed_object_of, global_at, header_at, histories_keep_the_invariant, is_freed}
-use Rattle.mk_trace.proofs.Vocabulary.{is_heap_address, large_words, left, never_behind, option_map, phase_of}
-use Rattle.mk_trace.proofs.Vocabulary.{placed_at, storage_words, unfreed}
+use Rattle.mk_trace.proofs.Vocabulary.{PlacedAllocation, Word, Words, cell_at, cell_words, freed_object_of, global_at}
+use Rattle.mk_trace.proofs.Vocabulary.{header_at, histories_keep_the_invariant, is_freed, is_heap_address, left}
+use Rattle.mk_trace.proofs.Vocabulary.{never_behind, option_map, phase_of, placed_at, unfreed}
 use Rattle.mk_laws.proofs.Vocabulary.{Bool, List, None, Option, Some, ℕ, ap, arith, false, get_or_past, has_bit}
 use Rattle.mk_laws.proofs.Vocabulary.{if◌then◌else◌, nat_le, no_bit, not, page_at_address, refl, slice_index, sym, true}
 use Rattle.mk_laws.proofs.Vocabulary.{◌%◌, ◌*◌, ◌+◌, ◌<◌, ◌∙◌, ◌≡◌, ◌≢◌, ◌≤◌}
@@ -70,9 +69,7 @@ module _ (c : Config) (es : List Event) (history : IsHistory c es) where
       ((histories_keep_the_invariant c es history).order.quarantined.small cell.page).0 is)
 
   pub none_freed_there : (cell : Cell) → c.pages ≤ cell.page → is_freed w cell ≡ false
-  none_freed_there cell past =
-      let lengths = (known_world c es history.within_limits history.enabled).lengths in
-      no_bit _ cell.index (get_or_past _ cell.page 0 (omega (arith, past, lengths.freed)))
+  none_freed_there cell past = grind (arith, known_world, no_bit, get_or_past)
 
   -- The object of a slot
 
@@ -112,16 +109,7 @@ module _ (c : Config) (es : List Event) (history : IsHistory c es) where
       same_object : (object : FreedObject) → object.cell ≡ cell → object.storage ≡ cell_words w cell
           → object.reserved ≡ (if not (nat_le object.storage 32) then object.storage else 0) → object.age ≡ 0
           → object ≡ freed_object_of c xs it.number
-      same_object object at words large young =
-          let storage : object.storage ≡ storage_words c a = words ∙ it.words in
-          let reserved : object.reserved ≡ large_words c a = cc (large, storage, it.large) in
-          ap (λ (x : Cell). record object { cell = x }) (at ∙ it.is_cell)
-          ∙ ap (λ (n : ℕ). record object { cell = cell_of_allocation c a; storage = n }) storage
-          ∙ ap (λ (n : ℕ). record object {
-            cell = cell_of_allocation c a;
-            storage = storage_words c a;
-            reserved = n;
-          }) reserved ∙ ap (λ (n : ℕ). record (freed_object_of c xs it.number) { age = n }) young
+      same_object object at words large young = grind (arith, it, xs)
 
       pub unfreed_object : (object : FreedObject) → false ≡ is_freed w cell → object.cell ≡ cell
           → object.storage ≡ cell_words w cell

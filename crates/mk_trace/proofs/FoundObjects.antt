@@ -65,15 +65,11 @@ module _ (c : Config) (es fs : List Event) (before : IsHistory c es) (behind : I
     (out : phase_of (left c fs).now.words ≢ 4) where
   was_unreleased : (j : ℕ) → j < length (left c es).allocations → (placed_at (left c fs).allocations j).released ≡ false
       → (placed_at (left c es).allocations j).released ≡ false
-  was_unreleased j lt unreleased =
-      false_from_ne_true (placed_at (left c es).allocations j).released (λ is.
-      true≢false (sym (later.released j lt is) ∙ unreleased))
+  was_unreleased j lt unreleased = grind (arith, false_from_ne_true)
 
   same_cell : (j : ℕ) → j < length (left c es).allocations → cell_of_allocation c (placed_at (left c fs).allocations j)
       ≡ cell_of_allocation c (placed_at (left c es).allocations j)
-  same_cell j lt =
-      cell_by c (placed_at (left c fs).allocations j) (placed_at (left c es).allocations j) (later.base j lt)
-      (later.ty j lt)
+  same_cell j lt = grind (arith, cell_by)
 
   pub bit_tells_released : (i : ℕ) → (placed_at (left c es).allocations i).released ≡ false
       → (placed_at (left c fs).allocations i).freed ≡ true
@@ -136,14 +132,8 @@ module _ (c : Config) (es : List Event) (history : IsHistory c es) (slot : ℕ) 
     as_many = cc (mirrors.types, type_is)
 
     within : IsPlaceIn (kinds_of n.types ty) offset → offset < storage_words c a
-    within (inl first) =
-        let holds = storage_holds c a history.within_limits stands.stands.typed in
-        let some = holds.1.0 in
-        omega arith
-    within (inr inside) =
-        let holds = storage_holds c a history.within_limits stands.stands.typed in
-        let least = holds.0 in
-        omega (arith, as_many)
+    within (inl first) = grind (arith, storage_holds, stands)
+    within (inr inside) = grind (arith, storage_holds, stands, as_many)
 
     is_word : IsWordOf (storage_of c a) (a.base + offset)
     is_word = let lt = within sound_pointer.2 in (omega arith, omega arith)
@@ -152,18 +142,13 @@ module _ (c : Config) (es : List Event) (history : IsHistory c es) (slot : ℕ) 
     image_is = cc (shows_image, points, get_or-map-default (λ (x : PlacedAllocation). x.base) xs number never_granted)
 
     pub points_into : pointed_cell c.pages w.pages (slice_index w.globals slot) ≡ Some (cell_of_allocation c a)
-    points_into =
-        cc (image_is, word_points c w a history.within_limits stands.stands stands.headers (a.base + offset) is_word)
+    points_into = grind (arith, image_is, word_points, stands, is_word)
 
     pub words_shown : cell_words w (cell_of_allocation c a) ≡ storage_words c a
     words_shown = (cells_begin c w a history.within_limits stands.stands stands.headers).1
 
     pub page_within : (cell_of_allocation c a).page < c.pages
-    page_within =
-        let holds = storage_holds c a history.within_limits stands.stands.typed in
-        let some = holds.1.0 in
-        let ends = stands.stands.within in
-        omega arith
+    page_within = grind (arith, storage_holds, stands)
 
     pub freed_shown : phase_of w ≢ 4 → is_freed w (cell_of_allocation c a) ≡ (allocation_at n number).freed
     freed_shown out =
@@ -192,9 +177,7 @@ module _ (c : Config) (es : List Event) (history : IsHistory c es) (slot : ℕ) 
 
   by_value : (v : Value) → global_at n slot ≡ v → (cell : Cell)
       → pointed_cell c.pages w.pages (slice_index w.globals slot) ≡ Some cell → PointsToCell cell
-  by_value Null is cell found =
-      let none = null_nowhere (shows_image ∙ ap (image_of (bases_of xs)) is) in
-      let both : None ≡ Some cell = sym none ∙ found in absurd cc
+  by_value Null is cell found = grind (arith, null_nowhere, shows_image, xs)
   by_value (Num m) is cell found = absurd (subst (IsSound n) is sound)
   by_value (Ptr number ty offset) is cell found =
       let both : Some (cell_of_allocation c (placed_at xs number)) ≡ Some cell =

@@ -1,15 +1,14 @@
 -- What is freed and quarantined over a call of the caller, and all that the call does.
-use Rattle.mk_trace.proofs.Vocabulary.{Answer, AreLater, CallerIsHome, Calls, Config, Decided, EndsTell, Event}
-use Rattle.mk_trace.proofs.Vocabulary.{FlagsBehind, FlagsBehindCall, HoldsMostAtEnd, HostState, IsHistory}
-use Rattle.mk_trace.proofs.Vocabulary.{IsMostWhereFreed, LeavesAllocations, NeverState, Op, PassState, PlacedAllocation}
-use Rattle.mk_trace.proofs.Vocabulary.{QuarantinesMostWhereFreed, Step, WordsState, World, after_calls, after_free}
-use Rattle.mk_trace.proofs.Vocabulary.{allocation_at, asked, calls_from, entry_of, exists_placed, first_world}
-use Rattle.mk_trace.proofs.Vocabulary.{freed_words, greatest, has_step, is_begin, is_of_cycle, is_release}
-use Rattle.mk_trace.proofs.Vocabulary.{is_under_turn, lacks_append, left, max, never_behind, none_at, number_freed}
-use Rattle.mk_trace.proofs.Vocabulary.{placed_at, reach_is_kept, register_at, reserved_words, unflagged, world_behind}
+use Rattle.mk_trace.proofs.Vocabulary.{Answer, AreLater, CallerIsHome, Calls, Config, EndsTell, Event, FlagsBehind}
+use Rattle.mk_trace.proofs.Vocabulary.{FlagsBehindCall, HoldsMostAtEnd, HostState, IsHistory, IsMostWhereFreed}
+use Rattle.mk_trace.proofs.Vocabulary.{LeavesAllocations, NeverState, Op, PassState, PlacedAllocation}
+use Rattle.mk_trace.proofs.Vocabulary.{QuarantinesMostWhereFreed, Step, WordsState, World, after_free, allocation_at}
+use Rattle.mk_trace.proofs.Vocabulary.{calls_from, entry_of, exists_placed, has_step, is_begin, is_of_cycle, is_release}
+use Rattle.mk_trace.proofs.Vocabulary.{is_under_turn, lacks_append, left, never_behind, none_at, number_freed}
+use Rattle.mk_trace.proofs.Vocabulary.{placed_at, reach_is_kept, register_at, unflagged, world_behind}
 use Rattle.mk_laws.proofs.Vocabulary.{Bool, List, Some, ℕ, ap, append_assoc, arith, cases_Bool, earlier_part_is_history}
-use Rattle.mk_laws.proofs.Vocabulary.{false, inl, inr, left_in_parts, length, list_any, never_in_parts, refl, subst}
-use Rattle.mk_laws.proofs.Vocabulary.{sym, true, true≢false, [], ◌*◌, ◌++◌, ◌+◌, ◌<◌, ◌||◌, ◌∙◌, ◌∷◌, ◌≡◌}
+use Rattle.mk_laws.proofs.Vocabulary.{false, inl, inr, left_in_parts, length, never_in_parts, refl, subst, sym, true}
+use Rattle.mk_laws.proofs.Vocabulary.{true≢false, [], ◌*◌, ◌++◌, ◌+◌, ◌<◌, ◌∙◌, ◌∷◌, ◌≡◌}
 use Rattle.mk_never.specs.Reach.IsReachable.{by_register}
 use Rattle.mk_alloc.specs.TurnCycles.{FreeIsExact, FreesFirst, IsDueIn}
 use Rattle.mk_trace.proofs.EndsInCalls.{beside_leaves, ends_told}
@@ -43,13 +42,8 @@ module _ (c : Config) (es more : List Event) (whole : IsHistory c (es ++ more)) 
 
   flags_of_other : (o : Op) (a : Answer) → is_free o ≡ false → calls_from c (left c es) more ≡ entry_of 0 o (Some a)
       → FlagsBehind xs ys (number_freed (never_behind c es) o)
-  flags_of_other o a other one = record {
-    later = later;
-    kept = λ i out. ap (λ (w : World). (placed_at w.allocations i).freed) (left_in_parts c es more)
-        ∙ none_freed_from c (left c es) more
-        (ap (list_any is_free_call) one ∙ ap (λ (b : Bool). b || false) (flagged_free o a ∙ other)) i;
-    frees = λ i is. absurd (none_by (never_behind c es) o other i is);
-  }
+  flags_of_other o a other one =
+      grind (arith, later, left_in_parts, es, none_freed_from, is_free_call, flagged_free, none_by)
 
   flags_of_free : (r : ℕ) (a : Answer) → calls_from c (left c es) more ≡ entry_of 0 (Op.Free r) (Some a)
       → FlagsBehind xs ys (number_freed (never_behind c es) (Op.Free r))
@@ -57,8 +51,7 @@ module _ (c : Config) (es more : List Event) (whole : IsHistory c (es ++ more)) 
       let n : NeverState = never_behind c es in
       let v = register_at n 0 r in
       let before = earlier_part_is_history c es more whole in
-      let never : never_behind c (es ++ more) ≡ after_free n v =
-      never_in_parts c es more ∙ ap (λ (l : List Decided). after_calls n (asked l)) one in
+      let never : never_behind c (es ++ more) ≡ after_free n v = grind (arith, never_in_parts, es) in
       let there : (i : ℕ) → (placed_at ys i).freed ≡ (allocation_at (after_free n v) i).freed =
       λ i. is_freed_there whole i ∙ ap (λ (m : NeverState). (allocation_at m i).freed) never in
       record {
@@ -147,18 +140,12 @@ greatest_alike c f g same w (e ∷ es) = cc (same w.allocations, greatest_alike 
 in_other_words : (c : Config) (measure : List PlacedAllocation → ℕ) (weight : ℕ → ℕ)
     → ((xs : List PlacedAllocation) → measure xs ≡ weighed weight xs) → (es : List Event) (o : Op) (fs : List Event)
     → MostWhereFreed weight c es o fs → IsMostWhereFreed c measure (λ (a : PlacedAllocation). weight a.ty) es o fs
-in_other_words c measure weight same es o fs most =
-    greatest_alike c measure (weighed weight) same _ fs ∙ most ∙ ap (λ (n : ℕ). max n (weighed weight (left c
-    es).allocations + freed_words c (λ (a : PlacedAllocation). weight a.ty) es o)) (sym (greatest_alike c measure
-    (weighed weight) same (first_world c) es)) ∙ ap (λ (n : ℕ). max (greatest c measure es) (n + freed_words c (λ (a :
-    PlacedAllocation). weight a.ty) es o)) (sym (same (left c es).allocations))
+in_other_words c measure weight same es o fs most = grind (arith, greatest_alike, weighed)
 
 quarantines_most : (c : Config) (es : List Event) (o : Op) (fs : List Event)
     → ((weight : ℕ → ℕ) → MostWhereFreed weight c es o fs) → QuarantinesMostWhereFreed c es o fs
-quarantines_most c es o fs most = record {
-  quarantined = in_other_words c _ (storage_weight c) (quarantined_is c) es o fs (most (storage_weight c));
-  reserved = in_other_words c (reserved_words c) (large_weight c) (reserved_is c) es o fs (most (large_weight c));
-}
+quarantines_most c es o fs most =
+    grind (arith, in_other_words, storage_weight, quarantined_is, large_weight, reserved_is)
 
 module _ {on : Bool} {h : HostState} {o : Op} {told : Answer} {q : PassState} {fs : List Event}
     (j : Joined on h o told q fs) where

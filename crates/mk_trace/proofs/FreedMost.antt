@@ -1,9 +1,9 @@
 -- The most words that were quarantined over a call.
 use Rattle.mk_trace.proofs.Vocabulary.{Answer, AreLater, Cell, Config, Decided, Event, Flight, IsHistory, Moment}
 use Rattle.mk_trace.proofs.Vocabulary.{NeverState, Op, PlacedAllocation, Step, Value, Words, World, after_calls}
-use Rattle.mk_trace.proofs.Vocabulary.{after_free, allocations_by, asked, call_decided, calls_append, cell_freed}
-use Rattle.mk_trace.proofs.Vocabulary.{decides_freed, entry_of, first_world, flight_of, freed_where_it_stands, granted}
-use Rattle.mk_trace.proofs.Vocabulary.{greatest, has_step, is_release, is_some_and, lacks_append, lacks_one, left, max}
+use Rattle.mk_trace.proofs.Vocabulary.{after_free, allocations_by, asked, call_decided, calls_append, decides_freed}
+use Rattle.mk_trace.proofs.Vocabulary.{entry_of, first_world, flight_of, freed_where_it_stands, granted, greatest}
+use Rattle.mk_trace.proofs.Vocabulary.{has_step, is_release, is_some_and, lacks_append, lacks_one, left, max}
 use Rattle.mk_trace.proofs.Vocabulary.{never_behind, no_longer_fresh, number_freed, register_at, stands_in}
 use Rattle.mk_trace.proofs.Vocabulary.{sum_by-append, sum_by-cons, unfreed, with_released, words_of_some, world_behind}
 use Rattle.mk_laws.proofs.Vocabulary.{Bool, List, None, Option, Some, ℕ, ap, append-nil, append_assoc, arith}
@@ -46,17 +46,14 @@ module _ (weight : ℕ → ℕ) where
 
   grant_adds_none : (c : Config) (m : Moment) (f : Flight) (xs : List PlacedAllocation)
       → weighed weight (xs ++ granted c m f ∷ []) ≡ weighed weight xs
-  grant_adds_none c m f xs =
-      omega (arith, sum_by-append (part weight) xs (granted c m f ∷ []), sum_by-cons (part weight) (granted c m f) [])
+  grant_adds_none c m f xs = grind (arith, sum_by-append, part, sum_by-cons)
 
   -- One step.
 
   step_falls : (c : Config) (m : Moment) (f : Flight) (s : Step) (xs : List PlacedAllocation)
       → decides_freed c m f s ≡ false → weighed weight (allocations_by c m f s xs) ≤ weighed weight xs
   step_falls c m f Step.Grant xs none = let same = grant_adds_none c m f xs in omega arith
-  step_falls c m f (Step.Quar p v) xs none =
-      let same = ap (weighed weight) (unfreed_all m.words (cell_freed c.pages m.words f p v) xs none) in
-      omega arith
+  step_falls c m f (Step.Quar p v) xs none = grind (arith, weighed, unfreed_all)
   step_falls c m f Step.Begin xs none = sum_falls (part weight) no_longer_fresh (λ a. omega arith) xs
   step_falls c m f Step.Release xs none = sum_falls (part weight) (with_released c m.words) (release_falls c m.words) xs
   step_falls c m f s xs none = omega arith
@@ -65,11 +62,8 @@ module _ (weight : ℕ → ℕ) where
       → weighed weight xs ≤ weighed weight (allocations_by c m f s xs)
   step_rises c m f Step.Release xs none = absurd (true≢false none)
   step_rises c m f Step.Grant xs none = let same = grant_adds_none c m f xs in omega arith
-  step_rises c m f (Step.Quar p v) xs none =
-      sum_rises (part weight) (freed_where_it_stands m.words (cell_freed c.pages m.words f p v))
-      (free_rises m.words (cell_freed c.pages m.words f p v)) xs
-  step_rises c m f Step.Begin xs none =
-      sum_rises (part weight) no_longer_fresh (λ (a : PlacedAllocation). omega arith) xs
+  step_rises c m f (Step.Quar p v) xs none = grind (arith, sum_rises, part, free_rises)
+  step_rises c m f Step.Begin xs none = grind (arith, sum_rises, part)
   step_rises c m f s xs none = omega arith
 
   -- Lists of events.
@@ -137,9 +131,7 @@ module _ (weight : ℕ → ℕ) (c : Config) (es more : List Event) (o : Op) (a 
       let last = last_below c (weighed weight) (first_world c) es in
       let falls = falls_without_free weight c (left c es) more
       (ap (list_any is_free_call) one ∙ ap (λ (b : Bool). b || false) (flagged_free o a ∙ other)) in
-      let none : freed_weight weight c es o ≡ 0 =
-      ap (words_of_some (λ (y : PlacedAllocation). weight y.ty) (left c es).allocations)
-      (frees_nothing (never_behind c es) o other) in
+      let none : freed_weight weight c es o ≡ 0 = grind (arith, frees_nothing) in
       omega arith
 
 -- and a Free that releases nothing.
@@ -167,8 +159,7 @@ module _ (weight : ℕ → ℕ) (c : Config) (es more : List Event) (r : ℕ) (a
       let parts = from-append c (weighed weight) (first_world c) es more in
       let rises = rises_without_release weight c (left c es) more none in
       let same : weighed weight (left c (es ++ more)).allocations
-      ≡ weighed weight (left_from c (left c es) more).allocations =
-      ap (λ (w : World). weighed weight w.allocations) (left_in_parts c es more) in
+      ≡ weighed weight (left_from c (left c es) more).allocations = grind (arith, weighed, left_in_parts) in
       let sum = adds none in
       omega arith
 
@@ -201,8 +192,7 @@ module _ (weight : ℕ → ℕ) (c : Config) (es more : List Event) (r : ℕ) (a
       ++ (call_decided c at.now f.event ++ calls_from c (world_behind c at f.event) f.behind)
       ≡ entry_of 0 (Op.Free r) (Some a)
   unfolding calls_from
-  split =
-      sym (calls_append c (left c es) f.before (f.event ∷ f.behind)) ∙ ap (calls_from c (left c es)) (sym f.is) ∙ one
+  split = grind (arith, calls_append)
 
   three : (calls_from c (left c es) f.before ≡ []) × (call_decided c at.now f.event ≡ entry_of 0 (Op.Free r) (Some a))
       × (calls_from c (world_behind c at f.event) f.behind ≡ [])
@@ -210,17 +200,10 @@ module _ (weight : ℕ → ℕ) (c : Config) (es more : List Event) (r : ℕ) (a
 
   first_decides : calls_from c (left c es) first ≡ entry_of 0 (Op.Free r) (Some a)
   unfolding calls_from
-  first_decides =
-      calls_append c (left c es) f.before (f.event ∷ [])
-      ∙ ap (λ (l : List Decided). l ++ (call_decided c at.now f.event ++ [])) three.0
-      ∙ append-nil (call_decided c at.now f.event) ∙ three.1
+  first_decides = grind (arith, calls_append, three, append-nil)
 
   first_releases_none : has_step is_release first ≡ false
-  first_releases_none =
-      lacks_append is_release f.before (f.event ∷ []) f.none_before
-      (lacks_one is_release f.event
-      (freeing_is is_release (λ p v. refl) c (left c (es ++ f.before)).now
-      (flight_of (left c (es ++ f.before)).now f.event.seat) f.event.step f.decides))
+  first_releases_none = grind (arith, lacks_append, lacks_one, freeing_is)
 
   in_parts : es ++ more ≡ (es ++ first) ++ f.behind
   in_parts = ap (λ (l : List Event). es ++ l) f.is ∙ simp append_assoc

@@ -4,17 +4,14 @@ use Rattle.mk_trace.proofs.Vocabulary.{A, C, Config, Event, F, IsHistory, K, Nev
 use Rattle.mk_trace.proofs.Vocabulary.{after_calls, calls_of_caller, drop_more, global_at, histories_keep_the_invariant}
 use Rattle.mk_trace.proofs.Vocabulary.{length-drop, never_behind, ops_of, register_at, take-append-drop}
 use Rattle.mk_laws.proofs.Vocabulary.{Bool, List, ℕ, ap, arith, drop, false, get_or, get_or-set_same, length, list_any}
-use Rattle.mk_laws.proofs.Vocabulary.{list_any-append, or_parts, refl, subst, sym, take, true≢false, [], ◌*◌, ◌++◌, ◌+◌}
-use Rattle.mk_laws.proofs.Vocabulary.{◌<◌, ◌||◌, ◌∙◌, ◌∷◌, ◌≡◌}
+use Rattle.mk_laws.proofs.Vocabulary.{list_any-append, or_parts, refl, subst, sym, take, [], ◌*◌, ◌++◌, ◌+◌, ◌<◌, ◌∙◌}
+use Rattle.mk_laws.proofs.Vocabulary.{◌∷◌, ◌≡◌}
 use Rattle.mk_trace.proofs.{FreeCalls.is_free, LaterOps.AreCalled, LaterOps.either_way, OneCaller.never_behind_all}
 use Rattle.mk_trace.specs.{Freeing.FreesItsSlot, Freeing.FreesSlot, Traces.slot_of}
 
 no_free : (ops before : List Op) (o : Op) (rest : List Op) (p : ℕ) → list_any is_free ops ≡ false
     → ops ≡ before ++ o ∷ rest → o ≡ Op.Free p → ⊥
-no_free ops before o rest p none split is =
-    let parts = or_parts (list_any is_free before) (is_free o || list_any is_free rest)
-    (sym (list_any-append is_free before (o ∷ rest)) ∙ sym (ap (list_any is_free) split) ∙ none) in
-    true≢false (sym (ap is_free is) ∙ (or_parts (is_free o) (list_any is_free rest) parts.1).0)
+no_free ops before o rest p none split is = grind (arith, or_parts, is_free, list_any-append)
 
 abbrev FreesNone : TraceEvent → Bool → Type 0
 FreesNone event full = list_any is_free (ops_of full event) ≡ false
@@ -30,11 +27,7 @@ module _ (n : NeverState) (count : length n.registers ≡ 8) (slot : ℕ) where
       → register_at (after_calls n (calls_of_caller before)) 0 p
       ≡ global_at (after_calls n (calls_of_caller before)) slot
   by_place [] o rest p split is = absurd cc
-  by_place (b ∷ []) o rest p split is =
-      let first : b ≡ Op.GetGlobal 0 slot = cc in
-      let at : Op.Free p ≡ Op.Free 0 = cc in
-      let zero_is : p ≡ 0 = cc in
-      loaded b p first zero_is
+  by_place (b ∷ []) o rest p split is = grind (arith, loaded)
   by_place (b ∷ d ∷ []) o rest p split is = absurd cc
   by_place (b ∷ d ∷ e ∷ []) o rest p split is = absurd cc
   by_place (b ∷ d ∷ e ∷ f ∷ before) o rest p split is = absurd cc
@@ -49,11 +42,7 @@ module _ (n : NeverState) (count : length n.registers ≡ 8) (slot : ℕ) where
   frees_event (W s index value) same full before o rest split p is =
       absurd (no_free (ops_of full (W s index value)) before o rest p
       (either_way (FreesNone (W s index value)) refl refl full) split is)
-  frees_event (F s) same full before o rest split p is =
-      by_place before o rest p
-      (ap (λ (k : ℕ). Op.GetGlobal 0 k ∷ Op.Free 0 ∷ Op.Clear 0 ∷ []) (sym same)
-      ∙ sym (either_way (λ b. ops_of b (F s) ≡ Op.GetGlobal 0 s ∷ Op.Free 0 ∷ Op.Clear 0 ∷ []) refl refl full)
-      ∙ split) is ∙ ap (global_at (after_calls n (calls_of_caller before))) (sym same)
+  frees_event (F s) same full before o rest split p is = grind (arith, by_place, either_way)
 
 pub frees_its_slot : {c : Config} {es : List Event} → c.callers ≡ 1 → IsHistory c es → (event : TraceEvent)
     → FreesItsSlot (never_behind c es) event

@@ -1,15 +1,14 @@
 -- The words of quarantined allocations, and of held ones, where a type says how many words one has.
 use Rattle.mk_trace.proofs.Vocabulary.{AreLater, Cell, Config, Event, Flight, IsHistory, Moment, NeverState}
-use Rattle.mk_trace.proofs.Vocabulary.{PlacedAllocation, Step, Value, Words, World, after_free, allocation_at}
-use Rattle.mk_trace.proofs.Vocabulary.{allocations_by, cell_freed, exists_placed, flight_of, freed_where_it_stands}
-use Rattle.mk_trace.proofs.Vocabulary.{granted, held_by_allocations, is_grant, is_large, is_quarantined, is_some_and}
-use Rattle.mk_trace.proofs.Vocabulary.{kinds_of, left, lets_go, never_behind, never_granted, no_longer_fresh, placed_at}
-use Rattle.mk_trace.proofs.Vocabulary.{quarantined_words, reach_is_kept, reserved_words, stands_in, storage_words}
-use Rattle.mk_trace.proofs.Vocabulary.{sum_by, sum_by-append, sum_by-cons, unfreed, with_released, words_of_some}
-use Rattle.mk_trace.proofs.Vocabulary.{world_behind}
-use Rattle.mk_laws.proofs.Vocabulary.{Bool, List, None, Option, Some, ℕ, ap, arith, cases_lt, false, get_or_past}
-use Rattle.mk_laws.proofs.Vocabulary.{if◌then◌else◌, inl, inr, length, map, not, refl, suc, sym, true, words_made, zero}
-use Rattle.mk_laws.proofs.Vocabulary.{[], ◌&&◌, ◌++◌, ◌+◌, ◌<◌, ◌||◌, ◌∙◌, ◌∷◌, ◌≡◌, ◌≢◌, ◌≤◌}
+use Rattle.mk_trace.proofs.Vocabulary.{PlacedAllocation, Step, Value, Words, World, after_free, allocations_by}
+use Rattle.mk_trace.proofs.Vocabulary.{exists_placed, flight_of, freed_where_it_stands, granted, held_by_allocations}
+use Rattle.mk_trace.proofs.Vocabulary.{is_grant, is_large, is_quarantined, is_some_and, kinds_of, left, lets_go}
+use Rattle.mk_trace.proofs.Vocabulary.{never_behind, never_granted, no_longer_fresh, placed_at, quarantined_words}
+use Rattle.mk_trace.proofs.Vocabulary.{reach_is_kept, reserved_words, stands_in, storage_words, sum_by, sum_by-append}
+use Rattle.mk_trace.proofs.Vocabulary.{sum_by-cons, unfreed, with_released, words_of_some, world_behind}
+use Rattle.mk_laws.proofs.Vocabulary.{Bool, List, None, Option, Some, ℕ, arith, cases_lt, false, get_or_past}
+use Rattle.mk_laws.proofs.Vocabulary.{if◌then◌else◌, length, map, not, refl, suc, sym, true, words_made, zero, [], ◌&&◌}
+use Rattle.mk_laws.proofs.Vocabulary.{◌++◌, ◌+◌, ◌||◌, ◌∙◌, ◌∷◌, ◌≡◌, ◌≢◌, ◌≤◌}
 use Rattle.mk_never.specs.Reach.{IsReachable}
 use Rattle.mk_core.specs.NewPlaces.{object_of}
 use Rattle.mk_objects.proofs.HeldFreed.{held_part, held_sum}
@@ -45,11 +44,7 @@ both_tests : (b large : Bool) (n : ℕ) → (if b && large then n else 0) ≡ (i
 both_tests b large n = grind arith
 
 pub reserved_is : (c : Config) (xs : List PlacedAllocation) → reserved_words c xs ≡ weighed (large_weight c) xs
-reserved_is c xs =
-    sum_filtered (λ (a : PlacedAllocation). storage_weight c a.ty)
-    (λ (a : PlacedAllocation). is_quarantined a && is_large (kinds_of c.types a.ty)) xs
-    ∙ sum_alike _ (part (large_weight c))
-    (λ a. both_tests (is_quarantined a) (is_large (kinds_of c.types a.ty)) (storage_weight c a.ty)) xs
+reserved_is c xs = grind (arith, sum_filtered, storage_weight, sum_alike, part, large_weight, both_tests)
 
 -- Lists of as many that add the same at each place, or at each but one.
 
@@ -126,11 +121,7 @@ module _ (c : Config) (es fs : List Event) (history : IsHistory c es) (whole : I
 
   module _ (weight : ℕ → ℕ) where
     part_kept : (i : ℕ) → (unfreed n v ≡ Some i → ⊥) → part weight (placed_at xs i) ≡ part weight (placed_at ys i)
-    part_kept i out = elim (cases_lt i (length xs)) [
-      | inl lt ↦
-          part_by weight (placed_at xs i) (placed_at ys i) (freed_kept i out) (sym (same i lt)) (sym (later.ty i lt))
-      | inr le ↦ ap (part weight) (past_both i le)
-    ]
+    part_kept i out = grind (arith, cases_lt, xs, part_by, ys, freed_kept, part, past_both)
 
     unreleased : (number : ℕ) → unfreed n v ≡ Some number → (placed_at xs number).released ≡ false
     unreleased number is = reach_is_kept c es history number (reached number is)
@@ -141,24 +132,12 @@ module _ (c : Config) (es fs : List Event) (history : IsHistory c es) (whole : I
     all_behind : (number : ℕ) → unfreed n v ≡ Some number
         → part weight (placed_at ys number) ≡ weight (placed_at xs number).ty
     all_behind number is =
-        let lt : number < length xs = exists_placed xs number (unreleased number is) in
-        let freed : (placed_at ys number).freed ≡ true =
-        is_freed_there whole number ∙ ap (λ (m : NeverState). (allocation_at m number).freed) never
-        ∙ is_freed_behind n v number is (omega (arith, lt, (twins history).count)) in
-        cc (freed, same number lt, unreleased number is, later.ty number lt)
+        grind (arith, xs, exists_placed, unreleased, ys, is_freed_there, is_freed_behind, twins, count)
 
     by_number : (x : Option ℕ) → unfreed n v ≡ x
         → weighed weight ys ≡ weighed weight xs + words_of_some (λ (a : PlacedAllocation). weight a.ty) xs x
-    by_number None is =
-        let sums : weighed weight xs ≡ weighed weight ys =
-        same_sums (part weight) xs ys count (λ i. part_kept i (λ some.
-        (let both : None ≡ Some i = sym is ∙ some in absurd cc))) in
-        omega (arith, sums)
-    by_number (Some number) is =
-        let sums = sums_but_one (part weight) number xs ys count (λ i ne. part_kept i (λ some.
-        (let both : Some number ≡ Some i = sym is ∙ some in
-        let equal : number ≡ i = cc in ne (sym equal)))) in
-        omega (arith, sums, none_before number is, all_behind number is)
+    by_number None is = grind (arith, weighed, xs, ys, same_sums, part, count, part_kept)
+    by_number (Some number) is = grind (arith, sums_but_one, part, xs, ys, count, part_kept, none_before, all_behind)
 
     pub freed_adds : weighed weight ys
         ≡ weighed weight xs + words_of_some (λ (a : PlacedAllocation). weight a.ty) xs (unfreed n v)
@@ -169,8 +148,7 @@ module _ (c : Config) (es fs : List Event) (history : IsHistory c es) (whole : I
 held_falls : (c : Config) (change : PlacedAllocation → PlacedAllocation)
     → ((a : PlacedAllocation) → held_part c (change a) ≤ held_part c a)
     → (xs : List PlacedAllocation) → held_by_allocations c (map change xs) ≤ held_by_allocations c xs
-held_falls c change falls xs =
-    omega (arith, held_sum c xs, held_sum c (map change xs), sum_falls (held_part c) change falls xs)
+held_falls c change falls xs = grind (arith, held_sum, sum_falls, held_part)
 
 freed_part : (n : ℕ) (released freed large : Bool)
     → (if not released && not (true && large) then n else 0) ≤ (if not released && not (freed && large) then n else 0)
@@ -201,8 +179,7 @@ more_rises c xs a = omega (arith, held_sum c xs, held_sum c (xs ++ a ∷ []), su
 step_falls : (c : Config) (m : Moment) (f : Flight) (s : Step) (xs : List PlacedAllocation) → is_grant s ≡ false
     → held_by_allocations c (allocations_by c m f s xs) ≤ held_by_allocations c xs
 step_falls c m f Step.Grant xs h = cc
-step_falls c m f (Step.Quar p v) xs h = held_falls c (freed_where_it_stands m.words (cell_freed c.pages m.words f p v))
-    (free_falls c m.words (cell_freed c.pages m.words f p v)) xs
+step_falls c m f (Step.Quar p v) xs h = grind (arith, held_falls, free_falls)
 step_falls c m f Step.Begin xs h = held_falls c no_longer_fresh (λ a. omega arith) xs
 step_falls c m f Step.Release xs h = held_falls c (with_released c m.words) (release_falls c m.words) xs
 step_falls c m f s xs h = omega arith
@@ -212,9 +189,7 @@ step_rises : (c : Config) (m : Moment) (f : Flight) (s : Step) (xs : List Placed
 step_rises c m f (Step.Quar p v) xs h = cc
 step_rises c m f Step.Release xs h = cc
 step_rises c m f Step.Grant xs h = more_rises c xs (granted c m f)
-step_rises c m f Step.Begin xs h =
-    let rises = sum_rises (held_part c) no_longer_fresh (λ a. omega arith) xs in
-    omega (arith, held_sum c xs, held_sum c (map no_longer_fresh xs), rises)
+step_rises c m f Step.Begin xs h = grind (arith, sum_rises, held_part, held_sum)
 step_rises c m f s xs h = omega arith
 
 -- One event.

@@ -2,12 +2,11 @@
 use Rattle.mk_trace.proofs.Vocabulary.{Answer, AreOfOthers, Caller, Calls, Config, Contents, Decided, Event, Grows}
 use Rattle.mk_trace.proofs.Vocabulary.{HoldsMostAtEnd, Host, HostState, IsHistory, Marker, Moment, Op, PassState, Seat}
 use Rattle.mk_trace.proofs.Vocabulary.{Stage, Step, WordsState, World, call_decided, config_of, entry_of, first_host}
-use Rattle.mk_trace.proofs.Vocabulary.{flagged, flight_of, has_step, in_a_word, is_grant, is_under_turn, most_held}
-use Rattle.mk_trace.proofs.Vocabulary.{none_at, object_made, pass_for, peaks_of, unflagged, without_seat, world_behind}
+use Rattle.mk_trace.proofs.Vocabulary.{flagged, has_step, is_grant, is_under_turn, most_held, none_at, object_made}
+use Rattle.mk_trace.proofs.Vocabulary.{pass_for, peaks_of, unflagged, without_seat, world_behind}
 use Rattle.mk_laws.proofs.Vocabulary.{Bool, IsEnabled, List, MeetsAll, Some, ℕ, ap, arith, comes_next, enabled_meets}
 use Rattle.mk_laws.proofs.Vocabulary.{false, false_from_ne_true, host_has_turn, list_any, list_any-append, or_from}
-use Rattle.mk_laws.proofs.Vocabulary.{or_parts, refl, subst, sym, true, true≢false, [], ◌&&◌, ◌++◌, ◌<◌, ◌||◌, ◌∙◌, ◌∷◌}
-use Rattle.mk_laws.proofs.Vocabulary.{◌≡◌}
+use Rattle.mk_laws.proofs.Vocabulary.{or_parts, refl, subst, sym, true, true≢false, [], ◌&&◌, ◌++◌, ◌<◌, ◌∙◌, ◌∷◌, ◌≡◌}
 use Rattle.mk_core.specs.History.{AreEnabledFrom, calls_from}
 use Rattle.mk_alloc.proofs.GrantParts.{LastIn, last_before, last_then}
 use Rattle.mk_alloc.specs.TurnCycles.{NewIsExact}
@@ -48,21 +47,13 @@ flagged_new o a = refl
 
 decides_new : {c : Config} {m : Moment} (seat : Seat) → MeetsAll c m (record { seat = seat; step = Step.Grant })
     → list_any is_new_call (call_decided c m (record { seat = seat; step = Step.Grant })) ≡ true
-decides_new {m} (Caller k) h =
-    ap (λ (b : Bool). b || false)
-    (flagged_new (flight_of m (Caller k)).op Answer.Done
-    ∙ grants_new (flight_of m (Caller k)).stage (flight_of m (Caller k)).op h.order)
+decides_new {m} (Caller k) h = grind (arith, flagged_new, grants_new)
 decides_new (Marker k) h = let none : false ≡ true = h.kind in cc
 decides_new {c} {m} Host h = absurd (never (host_has_turn c m) h.order)
 
 event_decides : (c : Config) (m : Moment) (seat : Seat) (s : Step) → IsEnabled c m (record { seat = seat; step = s })
     → is_grant s ≡ true → list_any is_new_call (call_decided c m (record { seat = seat; step = s })) ≡ true
-event_decides c m seat s on is =
-    subst (λ (x : Step). list_any is_new_call (call_decided c m (record { seat = seat; step = x })) ≡ true)
-    (sym (grant_is s is))
-    (decides_new seat
-    (subst (λ (x : Step). MeetsAll c m (record { seat = seat; step = x })) (grant_is s is)
-    (enabled_meets c m (record { seat = seat; step = s }) on)))
+event_decides c m seat s on is = grind (arith, is_new_call, grant_is, decides_new, enabled_meets)
 
 grants_decide : (c : Config) (w : World) (es : List Event) → AreEnabledFrom c w es
     → list_any is_new_call (calls_from c w es) ≡ false → has_step is_grant es ≡ false
@@ -81,8 +72,7 @@ grants_decide c w (e ∷ es) on none =
 -- Events in which one call was decided, which isn't a New, grant nothing.
 pub others_grant_none : (c : Config) (w : World) (more : List Event) (o : Op) (a : Answer) → AreEnabledFrom c w more
     → calls_from c w more ≡ entry_of 0 o (Some a) → is_new o ≡ false → has_step is_grant more ≡ false
-others_grant_none c w more o a on one other =
-    grants_decide c w more on (ap (list_any is_new_call) one ∙ ap (λ (b : Bool). b || false) (flagged_new o a ∙ other))
+others_grant_none c w more o a on one other = grind (arith, grants_decide, is_new_call, flagged_new)
 
 -- What is held over a call of the caller: no more than before, or than at its end.
 
@@ -118,8 +108,7 @@ nothing_seen : {c : Config} {es : List Event} → Grows (without_seat (Caller 0)
     → Grows (Caller 0 ∷ []) [] es → IsHistory c es → es ≡ []
 nothing_seen {c} {es} own came history =
     let elsewhere : List Seat = without_seat (Caller 0) (all_seats c) in
-    let mine : AreMine c elsewhere es =
-    are_mine c _ elsewhere es history.enabled (subst (AreOfOthers elsewhere) (sym own.is) own.of_others) in
+    let mine : AreMine c elsewhere es = grind (arith, are_mine) in
     none_of_others c elsewhere (Caller 0 ∷ []) es (all_again c (Caller 0) (all_seats c) (has_all c)) mine
     (subst (AreOfOthers (Caller 0 ∷ [])) (sym came.is) came.of_others)
 
@@ -130,8 +119,7 @@ pub opened_empty : (w : WordsState) (h made : HostState) (q : PassState) (k : Ho
 opened_empty w h made q k c first is own came pass config table history =
     let es : List Event = k.pass.seen in
     let from : made ≡ with_caller_made (first_host w) = is ∙ ap with_caller_made first in
-    let pass_is : q ≡ pass_for (first_host w) (Caller 0) =
-    pass ∙ ap (λ (x : HostState). pass_for x (Caller x.callers)) first in
+    let pass_is : q ≡ pass_for (first_host w) (Caller 0) = grind arith in
     nothing_seen (subst (λ (x : HostState). Grows x.pass.seats x.pass.seen es) from own)
     (subst (λ (x : PassState). Grows x.seats x.seen es) pass_is came)
     (subst (λ (x : WordsState). IsHistory x.config es) table history)
@@ -139,6 +127,4 @@ opened_empty w h made q k c first is own came pass config table history =
 -- The most that was held, where a word holds it.
 pub most_told : (trace : Contents) (d : Config) (es fs : List Event) (held : ℕ) → fs ≡ es → d ≡ config_of trace
     → held ≡ most_held d es → held < 18446744073709551616 → held ≡ (peaks_of (config_of trace) fs).held
-most_told trace d es fs held same config is few =
-    (let fits : held ≡ in_a_word held = omega (arith, few) in fits) ∙ ap in_a_word
-    (is ∙ ap (λ (c : Config). most_held c es) config ∙ ap (most_held (config_of trace)) (sym same))
+most_told trace d es fs held same config is few = grind arith

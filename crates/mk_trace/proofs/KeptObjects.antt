@@ -2,13 +2,12 @@
 -- those are let go that were released.
 use Rattle.mk_trace.proofs.Vocabulary.{AreFound, AreObjectsOf, AreThose, Config, Event, FlagsBehind, FreedObject}
 use Rattle.mk_trace.proofs.Vocabulary.{IsHistory, PlacedAllocation, Words, age_in_a_word, age_of, aged, and-false}
-use Rattle.mk_trace.proofs.Vocabulary.{cell_of_allocation, exists_placed, filter, freed_object_of, in_a_word, is_freed}
-use Rattle.mk_trace.proofs.Vocabulary.{is_quarantined, large_words, left, never_granted, one_if, option_map, phase_of}
-use Rattle.mk_trace.proofs.Vocabulary.{placed_at, storage_words, times}
-use Rattle.mk_laws.proofs.Vocabulary.{Bool, List, None, Option, Some, ℕ, and_parts, ap, append-nil, arith, cases_eq}
-use Rattle.mk_laws.proofs.Vocabulary.{cases_lt, false, get_or_past, if◌then◌else◌, inl, inr, length, map, map-append}
-use Rattle.mk_laws.proofs.Vocabulary.{not, not-true, refl, subst, sym, true, true≢false, [], ◌&&◌, ◌++◌, ◌+◌, ◌<◌, ◌==◌}
-use Rattle.mk_laws.proofs.Vocabulary.{◌∙◌, ◌∷◌, ◌≡◌, ◌≢◌, ◌≤◌}
+use Rattle.mk_trace.proofs.Vocabulary.{cell_of_allocation, exists_placed, filter, freed_object_of, is_freed}
+use Rattle.mk_trace.proofs.Vocabulary.{is_quarantined, left, never_granted, one_if, option_map, phase_of, placed_at}
+use Rattle.mk_trace.proofs.Vocabulary.{times}
+use Rattle.mk_laws.proofs.Vocabulary.{Bool, List, None, Option, Some, ℕ, and_parts, ap, append-nil, arith, cases_lt}
+use Rattle.mk_laws.proofs.Vocabulary.{false, get_or_past, if◌then◌else◌, length, map, map-append, not, not-true, refl}
+use Rattle.mk_laws.proofs.Vocabulary.{true, [], ◌&&◌, ◌++◌, ◌+◌, ◌<◌, ◌==◌, ◌∙◌, ◌∷◌, ◌≡◌, ◌≢◌, ◌≤◌}
 use Rattle.mk_trace.proofs.NumberLists.{equal_is, filters_agree, stands_passes, those_filtered, times_more, unequal_is}
 use Rattle.mk_trace.proofs.FoundObjects.{bit_tells_released, cell_by}
 use Rattle.mk_trace.specs.{Freeing.FreesFlag, Ledgers.aged_object, Ledgers.one_or_none}
@@ -19,8 +18,7 @@ pub maps_agree : {X : Type 0} (f g : ℕ → X) (numbers : List ℕ) → ((i : �
     → map f numbers ≡ map g numbers
 maps_agree f g [] agree = refl
 maps_agree {X} f g (x ∷ numbers) agree =
-    let first : 1 ≤ one_if (x == x) + times x numbers =
-    subst (λ (b : Bool). 1 ≤ one_if b + times x numbers) (sym (equal_is x)) (omega arith) in
+    let first : 1 ≤ one_if (x == x) + times x numbers = grind (arith, equal_is) in
     cc (agree x first, maps_agree f g numbers (λ i some. agree i (omega (arith, some))))
 
 filter_head : (f : ℕ → FreedObject) (x : ℕ) (xs : List FreedObject) (numbers : List ℕ) (b : Bool)
@@ -45,22 +43,12 @@ those_alike p q numbers same those i = those i ∙ ap one_if (same i)
 object_by : (c : Config) (found : List (List PlacedAllocation)) (xs ys : List PlacedAllocation) (i : ℕ)
     → (placed_at ys i).base ≡ (placed_at xs i).base → (placed_at ys i).ty ≡ (placed_at xs i).ty
     → aged_object c found xs i ≡ aged_object c found ys i
-object_by c found xs ys i base ty =
-    ap (λ (x : _). record (aged_object c found xs i) { cell = x })
-    (cell_by c (placed_at xs i) (placed_at ys i) (sym base) (sym ty))
-    ∙ ap (λ (n : ℕ). record {
-      cell = cell_of_allocation c (placed_at ys i);
-      storage = storage_words c (record (placed_at xs i) { ty = n });
-      reserved = large_words c (record (placed_at xs i) { ty = n });
-      age = age_in_a_word found i;
-    }) (sym ty)
+object_by c found xs ys i base ty = grind (arith, cell_by)
 
 -- after one end more
 aged_by : (c : Config) (found later : List (List PlacedAllocation)) (xs : List PlacedAllocation) (i : ℕ)
     → age_of i later ≡ age_of i found + 1 → aged (aged_object c found xs i) ≡ aged_object c later xs i
-aged_by c found later xs i one =
-    let same : in_a_word (age_in_a_word found i + 1) ≡ age_in_a_word later i = omega (arith, one) in
-    ap (λ (n : ℕ). record (aged_object c found xs i) { age = n }) same
+aged_by c found later xs i one = grind arith
 
 -- flags
 
@@ -88,23 +76,14 @@ module _ (c : Config) (es fs : List Event) (x : Option ℕ)
       ∙ ap (λ (a : PlacedAllocation). a.freed) (get_or_past xs i never_granted le)
 
   pub freed_before : (i : ℕ) → (placed_at ys i).freed ≡ true → i < length xs
-  freed_before i freed = elim (cases_lt i (length xs)) [
-    | inl lt ↦ lt
-    | inr le ↦ absurd (true≢false (sym freed ∙ unfreed_past i le))
-  ]
+  freed_before i freed = grind (arith, cases_lt, xs, unfreed_past)
 
   -- The call
 
   none_noted : (found : List (List PlacedAllocation)) (objects : List FreedObject) → x ≡ None
       → AreObjectsOf c found xs (λ (i : ℕ). is_quarantined (placed_at xs i)) objects
       → AreObjectsOf c found xs was_kept objects
-  none_noted found objects none kept = record {
-    numbers = kept.numbers;
-    are = kept.are;
-    those = those_alike (λ (i : ℕ). is_quarantined (placed_at xs i)) was_kept kept.numbers
-        (λ i. ap (λ (b : Bool). b && not (placed_at xs i).released)
-        (sym (flags.kept i (λ is. (let both : None ≡ Some i = sym none ∙ is in absurd cc))))) kept.those;
-  }
+  none_noted found objects none kept = grind (arith, those_alike, xs, was_kept)
 
   one_noted : (found : List (List PlacedAllocation)) (objects : List FreedObject) (k : ℕ) → x ≡ Some k
       → AreFound found xs → AreObjectsOf c found xs (λ (i : ℕ). is_quarantined (placed_at xs i)) objects
@@ -125,24 +104,15 @@ module _ (c : Config) (es fs : List Event) (x : Option ℕ)
       at_k = kept.those k ∙ ap (λ (b : Bool). one_if (b && not (placed_at xs k).released)) freed.before
 
       was : was_kept k ≡ true
-      was =
-          ap (λ (b : Bool). b && not (placed_at xs k).released) freed.behind ∙ ap (λ (b : Bool). not b) freed.unreleased
+      was = grind (arith, xs, freed)
 
       those : AreThose was_kept (kept.numbers ++ k ∷ [])
-      those i = elim (cases_eq k i) [
-        | inl same ↦ cc (same, times_more k kept.numbers k, at_k, equal_is k, was)
-        | inr ne ↦ times_more i kept.numbers k ∙ ap (λ (b : Bool). times i kept.numbers + one_if b) (unequal_is k i ne)
-            ∙ (let rest : times i kept.numbers ≡ one_if (was_kept i) =
-            kept.those i ∙ ap (λ (b : Bool). one_if (b && not (placed_at xs i).released))
-            (sym (flags.kept i (λ some. (let both : Some k ≡ Some i = sym is ∙ some in
-            let equal : k ≡ i = cc in ne equal)))) in omega (arith, rest))
-      ]
+      those i = grind (arith, times_more, at_k, equal_is, was, unequal_is, was_kept, xs)
 
   noted_by : (found : List (List PlacedAllocation)) (objects : List FreedObject) (y : Option ℕ) → x ≡ y
       → AreFound found xs → AreObjectsOf c found xs (λ (i : ℕ). is_quarantined (placed_at xs i)) objects
       → AreObjectsOf c found xs was_kept (objects ++ one_or_none (option_map (freed_object_of c xs) y))
-  noted_by found objects None is ends kept =
-      subst (AreObjectsOf c found xs was_kept) (sym (append-nil objects)) (none_noted found objects is kept)
+  noted_by found objects None is ends kept = grind (arith, xs, was_kept, append-nil, none_noted)
   noted_by found objects (Some k) is ends kept = one_noted found objects k is ends kept
 
   pub noted : (found : List (List PlacedAllocation)) (objects : List FreedObject) → AreFound found xs
@@ -154,33 +124,17 @@ module _ (c : Config) (es fs : List Event) (x : Option ℕ)
 
   exists : (numbers : List ℕ) → AreThose was_kept numbers → (i : ℕ) → 1 ≤ times i numbers
       → ((placed_at ys i).freed ≡ true) × ((placed_at xs i).released ≡ false) × (i < length xs)
-  exists numbers those i some =
-      let parts = and_parts (placed_at ys i).freed (not (placed_at xs i).released)
-      (stands_passes was_kept numbers those i some) in
-      let unreleased = not-true (placed_at xs i).released parts.1 in
-      (parts.0, unreleased, exists_placed xs i unreleased)
+  exists numbers those i some = grind (arith, and_parts, ys, xs, stands_passes, was_kept, not-true, exists_placed)
 
   same_objects : (found : List (List PlacedAllocation)) (numbers : List ℕ) → AreThose was_kept numbers
       → map (aged_object c found xs) numbers ≡ map (aged_object c found ys) numbers
-  same_objects found numbers those =
-      maps_agree (aged_object c found xs) (aged_object c found ys) numbers (λ i some.
-      (let lt = (exists numbers those i some).2 in
-      object_by c found xs ys i (flags.later.base i lt) (flags.later.ty i lt)))
+  same_objects found numbers those = grind (arith, maps_agree, xs, ys, exists, object_by)
 
   pub none_released : ((i : ℕ) → i < length xs → (placed_at ys i).released ≡ (placed_at xs i).released)
       → (found : List (List PlacedAllocation)) (objects : List FreedObject) → AreObjectsOf c found xs was_kept objects
       → AreObjectsOf c found ys (λ (i : ℕ). is_quarantined (placed_at ys i)) objects
-  none_released same found objects kept = record {
-    numbers = kept.numbers;
-    are = kept.are ∙ same_objects found kept.numbers kept.those;
-    those = those_alike was_kept (λ (i : ℕ). is_quarantined (placed_at ys i)) kept.numbers alike kept.those;
-  }
-    where
-      alike : (i : ℕ) → was_kept i ≡ is_quarantined (placed_at ys i)
-      alike i = elim (cases_lt i (length xs)) [
-        | inl lt ↦ ap (λ (b : Bool). (placed_at ys i).freed && not b) (sym (same i lt))
-        | inr le ↦ rw (unfreed_past i le)
-      ]
+  none_released same found objects kept =
+      grind (arith, same_objects, those_alike, was_kept, ys, cases_lt, xs, unfreed_past)
 
   module _ (before : IsHistory c es) (behind : IsHistory c fs) (out : phase_of (left c fs).now.words ≢ 4) where
     abbrev w : Words
@@ -188,16 +142,10 @@ module _ (c : Config) (es fs : List Event) (x : Option ℕ)
 
     tells : (numbers : List ℕ) → AreThose was_kept numbers → (i : ℕ) → 1 ≤ times i numbers
         → is_freed w (cell_of_allocation c (placed_at xs i)) ≡ not (placed_at ys i).released
-    tells numbers those i some =
-        let it = exists numbers those i some in
-        bit_tells_released c es fs before behind flags.later freed_before out i it.1 it.0
+    tells numbers those i some = grind (arith, exists, bit_tells_released, freed_before)
 
     left_alike : (i : ℕ) → (not (placed_at ys i).released && was_kept i) ≡ is_quarantined (placed_at ys i)
-    left_alike i = elim (cases_lt i (length xs)) [
-      | inl lt ↦ still_in (placed_at ys i).freed (placed_at xs i).released (placed_at ys i).released
-          (flags.later.released i lt)
-      | inr le ↦ rw (unfreed_past i le) (and-false (not (placed_at ys i).released))
-    ]
+    left_alike i = grind (arith, cases_lt, xs, still_in, ys, unfreed_past, and-false)
 
     -- One end was after what had been found.
     module _ (found later : List (List PlacedAllocation))

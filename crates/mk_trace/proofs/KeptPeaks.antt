@@ -9,8 +9,7 @@ use Rattle.mk_trace.proofs.Vocabulary.{number_freed, objects_kept, option_map, p
 use Rattle.mk_trace.proofs.Vocabulary.{reserved_words, still_kept, sum_by, sum_by-append, sum_by-cons, with_one}
 use Rattle.mk_trace.proofs.Vocabulary.{words_of_some}
 use Rattle.mk_laws.proofs.Vocabulary.{Bool, List, None, Option, Some, ℕ, ap, arith, eq-eqb, eqb-true, false, inl, inr}
-use Rattle.mk_laws.proofs.Vocabulary.{map, refl, subst, sym, true, true≢false, [], ◌++◌, ◌+◌, ◌<◌, ◌==◌, ◌∙◌, ◌∷◌, ◌≡◌}
-use Rattle.mk_laws.proofs.Vocabulary.{◌≢◌, ◌⊎◌}
+use Rattle.mk_laws.proofs.Vocabulary.{map, refl, subst, sym, true, [], ◌++◌, ◌+◌, ◌<◌, ◌==◌, ◌∙◌, ◌∷◌, ◌≡◌, ◌≢◌, ◌⊎◌}
 use Rattle.mk_trace.proofs.FoundAges.{kept_age, none_ages, none_found, one_ages, one_found}
 use Rattle.mk_trace.proofs.FreedWords.{large_weight, quarantined_is, reserved_is, storage_weight, sum_alike, weighed}
 use Rattle.mk_trace.proofs.KeptObjects.{ages_gone, let_go, none_released, noted, was_kept}
@@ -37,13 +36,10 @@ sum_noted words objects (Some object) = sum_by_push words objects object
 
 same_count : (before count kept : ℕ) → kept ≡ in_a_word before
     → (in_a_word count == kept) ≡ true → before < 18446744073709551615 → count ≡ before + 1 → ⊥
-same_count before count kept is same few more =
-    let equal : in_a_word count ≡ kept = eqb-true (in_a_word count) kept same in
-    omega (arith, equal, few, is, more)
+same_count before count kept is same few more = grind (arith, eqb-true)
 
 other_count : (before count kept : ℕ) → kept ≡ in_a_word before → (in_a_word count == kept) ≡ false → count ≡ before → ⊥
-other_count before count kept is other same =
-    true≢false (sym (eq-eqb (in_a_word count) kept (ap in_a_word same ∙ sym is)) ∙ other)
+other_count before count kept is other same = grind (arith, eq-eqb)
 
 -- One measure: that of these words of an object.
 module _ (c : Config) (measure : List PlacedAllocation → ℕ) (words : FreedObject → ℕ) (weight : ℕ → ℕ)
@@ -70,17 +66,10 @@ module _ (c : Config) (measure : List PlacedAllocation → ℕ) (words : FreedOb
     adds = ap (some_words words) is ∙ some_is (left c es).allocations (number_freed (never_behind c es) o)
 
     now_is : second.now ≡ in_a_word (measure (left c es).allocations + some_words words x)
-    now_is =
-        let at_first = peak.now in
-        ap (λ (p : Peak). p.now) rises ∙ (omega (arith, at_first))
+    now_is = grind arith
 
     most_is : second.most ≡ in_a_word (greatest c measure fs)
-    most_is =
-        let at_first = peak.now in
-        let before = peak.most in
-        let more = adds in
-        let all = most in
-        ap (λ (p : Peak). p.most) rises ∙ (omega (arith, at_first, before, more, all))
+    most_is = grind (arith, adds)
 
     -- Nothing was released.
     pub peak_stays : (found : List (List PlacedAllocation)) (objects : List FreedObject)
@@ -136,9 +125,7 @@ module _ (c : Config) (es fs : List Event) (o : Op) (before : IsHistory c es) (b
   out four = omega (arith, four, idle)
 
   with_freed : AreObjectsOf c found xs (was_kept c es fs x_number flags) (objects_kept first ++ one_or_none x)
-  with_freed =
-      subst (λ (y : Option FreedObject). AreObjectsOf c found xs (was_kept c es fs x_number flags) (objects_kept first
-      ++ one_or_none y)) (sym is) (noted c es fs x_number flags found _ keeps.found keeps.objects)
+  with_freed = grind (arith, found, xs, was_kept, x_number, noted)
 
   noted_objects : AreObjectsOf c found xs (was_kept c es fs x_number flags) (objects_kept second)
   noted_objects = subst (AreObjectsOf c found xs (was_kept c es fs x_number flags)) (sym notes.objects) with_freed

@@ -115,15 +115,9 @@ first_of : (o : Op) (a : Answer) (event : TraceEvent) → ops_of false event ≡
     → ops_of (is_full_answer a) event ≡ flagged o a ∷ drop 1 (ops_of (is_full_answer a) event)
 first_of o a (A slot) is = let same : o ≡ Op.New 0 slot false = cc in rw same (made_first slot a)
 first_of o a (K slot) is = let same : o ≡ Op.New 0 slot false = cc in rw same (linked_first slot a)
-first_of o a (F slot) is =
-    let same : o ≡ Op.GetGlobal 0 slot = cc in
-    rw same (either_way (BeginsWith (Op.GetGlobal 0 slot) (F slot)) refl refl (is_full_answer a))
-first_of o a (C slot) is =
-    let same : o ≡ Op.SetGlobal slot 0 = cc in
-    rw same (either_way (BeginsWith (Op.SetGlobal slot 0) (C slot)) refl refl (is_full_answer a))
-first_of o a (W slot index value) is =
-    let same : o ≡ Op.GetGlobal 0 slot = cc in
-    rw same (either_way (BeginsWith (Op.GetGlobal 0 slot) (W slot index value)) refl refl (is_full_answer a))
+first_of o a (F slot) is = grind (arith, either_way)
+first_of o a (C slot) is = grind (arith, either_way)
+first_of o a (W slot index value) is = grind (arith, either_way)
 
 -- The operation is noted as it is, whatever its answer.
 abbrev IsPlain : Op → Type 0
@@ -136,12 +130,7 @@ is_plain _ = true
 are_plain : (ops : List Op) (i : ℕ) (o : Op) → list_all is_plain ops ≡ true → i < length ops → o ≡ get_or ops i o
     → IsPlain o
 are_plain [] i o plain lt at = absurd (omega (arith, lt))
-are_plain (x ∷ ops) zero o plain lt at =
-    subst IsPlain (sym at) (by x (and_parts (is_plain x) (list_all is_plain ops) plain).0)
-  where
-    by : (x : Op) → is_plain x ≡ true → IsPlain x
-    by (Op.New d ty full) h = cc
-    by _ h = λ a. refl
+are_plain (x ∷ ops) zero o plain lt at = grind (arith, and_parts, is_plain)
 are_plain (x ∷ ops) (suc i) o plain lt at =
     are_plain ops i o (and_parts (is_plain x) (list_all is_plain ops) plain).1 (omega (arith, lt)) at
 
@@ -203,8 +192,7 @@ later_all {c} {es} {full} event i {refused} {fs} past h =
 pub first_all : {c : Config} {es : List Event} {full : Bool} (event : TraceEvent) (o : Op) {refused : Bool}
     {fs : List Event} → ops_of full event ≡ o ∷ drop 1 (ops_of full event)
     → CallsAll c es full (o ∷ []) refused fs → CallsAll c es full (take (0 + 1) (ops_of full event)) refused fs
-first_all {c} {es} {full} event o {refused} {fs} is h =
-    subst (λ (l : List Op). CallsAll c es full l refused fs) (sym (ap (take 1) is)) h
+first_all {c} {es} {full} event o {refused} {fs} is h = grind arith
 
 pub begun : {c : Config} {es : List Event} (event : TraceEvent) {o : Op} {told : Answer} {fs : List Event}
     → ops_of false event ≡ o ∷ drop 1 (ops_of false event) → Calls c es o told fs
@@ -218,12 +206,7 @@ begun event {o} {told} is g =
 -- What the calls of an event come to.
 pub plays_event : {c : Config} {es : List Event} (event : TraceEvent) {refused : Bool} {fs : List Event} {full : Bool}
     → CallsAll c es full (ops_of full event) refused fs → PlaysEvent c es event refused fs
-plays_event event h = record {
-  more = h.more;
-  is = h.is;
-  asks = h.asks ∙ ap (λ (b : Bool). calls_of_caller (ops_of b event)) (sym h.begins);
-  refuses = h.refuses;
-}
+plays_event event h = grind arith
 
 -- What the loop knows: the first operation was called, and this many of those after it.
 pub record AreCalled (c : Config) (es : List Event) (event : TraceEvent) (items : List Op) (i : ℕ) (refused : Bool)
@@ -249,13 +232,7 @@ module _ (c : Config) (es : List Event) (event : TraceEvent) (items : List Op) (
 
     pub called_one_more : (told : Answer) (gs : List Event) (now : Bool) → Calls c fs o told gs
         → now ≡ refused || is_refusal told → AreCalled c es event items (i + 1) now gs
-    called_one_more told gs now g is = record {
-      full = h.full;
-      items_are = h.items_are;
-      calls =
-          subst (λ (b : Bool). CallsAll c es h.full (take (i + 1 + 1) (ops_of h.full event)) b gs) (sym is)
-          (later_call c es h.full event i o inside_later here_later refused fs told gs h.calls g);
-    }
+    called_one_more told gs now g is = grind (arith, later_call, inside_later, here_later)
 
 pub called_all : {c : Config} {es : List Event} {event : TraceEvent} {items : List Op} {i : ℕ} {refused : Bool}
     {fs : List Event} → AreCalled c es event items i refused fs → length items ≤ i → PlaysEvent c es event refused fs
@@ -266,10 +243,4 @@ pub called_first : {c : Config} {es : List Event} (event : TraceEvent) {o : Op} 
     (full refused : Bool) (items : List Op)
     → ops_of false event ≡ o ∷ drop 1 (ops_of false event) → Calls c es o told fs → full ≡ is_full_answer told
     → refused ≡ is_refusal told → items ≡ drop 1 (ops_of full event) → AreCalled c es event items 0 refused fs
-called_first {c} {es} event {told} {fs} full refused items first g is_full is_refused are = record {
-  full = is_full_answer told;
-  items_are = are ∙ ap (λ (b : Bool). drop 1 (ops_of b event)) is_full;
-  calls =
-      subst (λ (b : Bool). CallsAll c es (is_full_answer told) (take (0 + 1) (ops_of (is_full_answer told) event)) b fs)
-      (sym is_refused) (begun event first g);
-}
+called_first {c} {es} event {told} {fs} full refused items first g is_full is_refused are = grind (arith, begun)

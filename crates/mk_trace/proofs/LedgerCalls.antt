@@ -1,12 +1,11 @@
 -- What the ledger keeps: before any event, over a call, and at the end.
-use Rattle.mk_trace.proofs.Vocabulary.{AreAgesOf, AreFound, AreObjectsOf, Config, Contents, Decided, EndsNone, EndsOne}
-use Rattle.mk_trace.proofs.Vocabulary.{EndsTell, Event, FlagsBehindCall, Freed, FreedObject, HoldsMostAtEnd}
-use Rattle.mk_trace.proofs.Vocabulary.{HostOnlyLooks, IsBetweenCycles, IsHistory, IsMostWhereFreed, Keeps}
-use Rattle.mk_trace.proofs.Vocabulary.{LeavesAllocations, Op, PlacedAllocation, QuarantinesMostWhereFreed, SettlesFreed}
-use Rattle.mk_trace.proofs.Vocabulary.{Words, after_calls, asked, config_of, ends, first_world, freed_object_of}
-use Rattle.mk_trace.proofs.Vocabulary.{freed_words, greatest, held_by_allocations, in_a_word, is_quarantined}
+use Rattle.mk_trace.proofs.Vocabulary.{AreAgesOf, Config, Contents, Decided, EndsNone, EndsOne, EndsTell, Event}
+use Rattle.mk_trace.proofs.Vocabulary.{FlagsBehindCall, Freed, FreedObject, HoldsMostAtEnd, HostOnlyLooks}
+use Rattle.mk_trace.proofs.Vocabulary.{IsBetweenCycles, IsHistory, IsMostWhereFreed, Keeps, LeavesAllocations, Op}
+use Rattle.mk_trace.proofs.Vocabulary.{PlacedAllocation, QuarantinesMostWhereFreed, SettlesFreed, after_calls, asked}
+use Rattle.mk_trace.proofs.Vocabulary.{config_of, ends, freed_object_of, freed_words, greatest, in_a_word}
 use Rattle.mk_trace.proofs.Vocabulary.{is_under_turn, large_words, left, most_held, never_behind, never_first}
-use Rattle.mk_trace.proofs.Vocabulary.{number_freed, objects_kept, option_map, peaks_of, placed_at, quarantined_words}
+use Rattle.mk_trace.proofs.Vocabulary.{number_freed, objects_kept, option_map, peaks_of, quarantined_words}
 use Rattle.mk_trace.proofs.Vocabulary.{reserved_words, storage_words}
 use Rattle.mk_laws.proofs.Vocabulary.{List, Option, ℕ, ap, arith, false, inl, inr, refl, subst, sym, [], ◌+◌, ◌<◌, ◌∙◌}
 use Rattle.mk_laws.proofs.Vocabulary.{◌≡◌, ◌≤◌, ◌⊎◌}
@@ -29,16 +28,7 @@ pub first_keeps : (c : Config) (es : List Event) (f : Freed) → es ≡ []
     → f.quarantined ≡ record { now = 0; most = 0 } → f.reserved ≡ record { now = 0; most = 0 }
     → objects_kept f ≡ [] → f.ages.items ≡ [] → f.ends ≡ 0 → Keeps c es f
 unfolding greatest_from left_from found_by_ends_from
-first_keeps c es f empty quarantined reserved objects ages ends =
-    subst (λ (l : List Event). Keeps c l f) (sym empty)
-    (record {
-      quarantined = record { now = ap (λ (p : Peak). p.now) quarantined; most = ap (λ (p : Peak). p.most) quarantined };
-      reserved = record { now = ap (λ (p : Peak). p.now) reserved; most = ap (λ (p : Peak). p.most) reserved };
-      objects = record { numbers = []; are = objects; those = λ i. refl };
-      ages = record { numbers = []; are = ages; those = λ i. refl };
-      found = record { gone = λ i. refl; unfreed = λ i unfreed. refl };
-      ends = ends;
-    })
+first_keeps c es f empty quarantined reserved objects ages ends = grind arith
 
 -- The most of a measure, where a word holds it.
 pub most_of : (trace : Contents) (c : Config) (measure : Config → List PlacedAllocation → ℕ) (es fs : List Event)
@@ -56,12 +46,7 @@ ages_of trace c es {pairs} same config history h =
 
 pub peaks_by : (p is : HistoryPeaks) → p.held ≡ is.held → p.quarantined ≡ is.quarantined → p.reserved ≡ is.reserved
     → p.cycles ≡ is.cycles → p.ages ≡ is.ages → p ≡ is
-peaks_by p is held quarantined reserved cycles ages =
-    ap (λ (n : ℕ). record p { held = n }) held
-    ∙ ap (λ (n : ℕ). record p { held = is.held; quarantined = n }) quarantined
-    ∙ ap (λ (n : ℕ). record p { held = is.held; quarantined = is.quarantined; reserved = n }) reserved
-    ∙ ap (λ (n : ℕ). record is { cycles = n; ages = p.ages }) cycles
-    ∙ ap (λ (l : List (ℕ × ℕ)). record is { ages = l }) ages
+peaks_by p is held quarantined reserved cycles ages = grind arith
 
 -- What the ledger keeps over a call, with the looks before it and after it.
 
@@ -70,32 +55,12 @@ peaks_by p is held quarantined reserved cycles ages =
 peak_left : {c : Config} {measure : List PlacedAllocation → ℕ} {es fs : List Event} {peak : Peak}
     → LeavesAllocations c es fs → greatest c measure fs ≡ greatest c measure es → IsPeakOf c measure es peak
     → IsPeakOf c measure fs peak
-peak_left {measure} leaves most h = record {
-  now = h.now ∙ ap (λ (l : List PlacedAllocation). in_a_word (measure l)) (sym leaves.allocations);
-  most = h.most ∙ ap in_a_word (sym most);
-}
+peak_left {measure} leaves most h = grind arith
 
 keeps_left : {c : Config} {es fs : List Event} {f : Freed} → LeavesAllocations c es fs
     → greatest c (quarantined_words c) fs ≡ greatest c (quarantined_words c) es
     → greatest c (reserved_words c) fs ≡ greatest c (reserved_words c) es → Keeps c es f → Keeps c fs f
-keeps_left {c} {es} {fs} {f} leaves quarantined reserved h = record {
-  quarantined = peak_left leaves quarantined h.quarantined;
-  reserved = peak_left leaves reserved h.reserved;
-  objects =
-      subst (λ (found : List (List PlacedAllocation)). AreObjectsOf c found (left c fs).allocations
-      (λ (i : ℕ). is_quarantined (placed_at (left c fs).allocations i)) (objects_kept f)) (sym leaves.found)
-      (subst (λ (xs : List PlacedAllocation). AreObjectsOf c (found_by_ends c es) xs
-      (λ (i : ℕ). is_quarantined (placed_at xs i)) (objects_kept f)) (sym leaves.allocations) h.objects);
-  ages =
-      subst (λ (found : List (List PlacedAllocation)). AreAgesOf found (left c fs).allocations f.ages.items)
-      (sym leaves.found)
-      (subst (λ (xs : List PlacedAllocation). AreAgesOf (found_by_ends c es) xs f.ages.items)
-      (sym leaves.allocations) h.ages);
-  found =
-      subst (λ (found : List (List PlacedAllocation)). AreFound found (left c fs).allocations) (sym leaves.found)
-      (subst (AreFound (found_by_ends c es)) (sym leaves.allocations) h.found);
-  ends = h.ends ∙ ap in_a_word (sym leaves.count);
-}
+keeps_left {c} {es} {fs} {f} leaves quarantined reserved h = grind (arith, peak_left)
 
 -- So does a look.
 keeps_looked : {c : Config} {es fs : List Event} {f : Freed} → HostOnlyLooks c es fs → Keeps c es f → Keeps c fs f
@@ -111,10 +76,7 @@ frees_nothing c words es o beside = refl
 most_beside : (c : Config) (measure : List PlacedAllocation → ℕ) (words : PlacedAllocation → ℕ) (es : List Event)
     (o : Op) (fs : List Event) → is_under_turn o ≡ false → IsMostWhereFreed c measure words es o fs
     → greatest c measure fs ≡ greatest c measure es
-most_beside c measure words es o fs beside most =
-    let none = frees_nothing c words es o beside in
-    let below = last_below c measure (first_world c) es in
-    omega (arith, most, none, below)
+most_beside c measure words es o fs beside most = grind (arith, frees_nothing, last_below)
 
 pub keeps_beside : {c : Config} {es : List Event} {o : Op} {fs : List Event} {f : Freed} → is_under_turn o ≡ false
     → LeavesAllocations c es fs → QuarantinesMostWhereFreed c es o fs → Keeps c es f → Keeps c fs f
@@ -125,10 +87,7 @@ keeps_beside {c} {es} {o} {fs} beside leaves most h =
 -- What was held at most stays too.
 pub held_beside : {c : Config} {es fs : List Event} (held : ℕ) → LeavesAllocations c es fs → HoldsMostAtEnd c es fs
     → held ≡ most_held c es → held ≡ most_held c fs
-held_beside {c} {es} held leaves most is =
-    let same = ap (held_by_allocations c) leaves.allocations in
-    let below = last_below c (held_by_allocations c) (first_world c) es in
-    omega (arith, most, is, same, below)
+held_beside {c} {es} held leaves most is = grind (arith, last_below)
 
 -- Looks before a call and after it
 
@@ -155,10 +114,7 @@ module _ (c : Config) (es0 es1 es2 es3 es4 : List Event) (o : Op) (first second 
   is_now = cc (is, before.table.allocations, never_looked before)
 
   settles_now : SettlesFreed (left c es2).now.words.freed (in_a_word (ends es2)) second third
-  settles_now =
-      subst (λ (count : ℕ). SettlesFreed (left c es2).now.words.freed (in_a_word count) second third) looks.leaves.count
-      (subst (λ (freed : List ℕ). SettlesFreed freed (in_a_word (ends es3)) second third)
-      (ap (λ (w : Words). w.freed) looks.table.words) settles)
+  settles_now = grind arith
 
   pub keeps_behind : Keeps c es4 third
   keeps_behind =

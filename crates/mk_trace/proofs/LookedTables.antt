@@ -20,10 +20,7 @@ pub word_left : {w v : World} → LeavesTable w v → (x : Word) → named_word 
 word_left {w} {v} leaves x = ap (λ (y : Words). named_word y x) leaves.words ∙ named_same w.now.words v.now.words.turn x
 
 pub leaves_then : (u v w : World) → LeavesTable u v → LeavesTable v w → LeavesTable u w
-leaves_then u v w one two = record {
-  allocations = two.allocations ∙ one.allocations;
-  words = two.words ∙ ap (λ (x : Words). record x { turn = w.now.words.turn }) one.words;
-}
+leaves_then u v w one two = grind arith
 
 step_leaves : (c : Config) (w : World) (seat : Seat) (s : Step) → is_no_look s ≡ false
     → LeavesTable w (world_behind c w (record { seat = seat; step = s }))
@@ -49,6 +46,5 @@ looks_measure c w measure [] looks = refl
 looks_measure c w measure (e ∷ es) looks =
     let parts = or_parts (is_no_look e.step) (has_step is_no_look es) looks in
     let rest = looks_measure c (world_behind c w e) measure es parts.1 in
-    let same : measure (world_behind c w e).allocations ≡ measure w.allocations =
-    ap measure (step_leaves c w e.seat e.step parts.0).allocations in
+    let same : measure (world_behind c w e).allocations ≡ measure w.allocations = grind (arith, step_leaves) in
     omega arith

@@ -2,10 +2,9 @@
 use Rattle.std.proofs.lemmas.List.Sums.{sum_by-set}
 use Rattle.mk_trace.proofs.Vocabulary.{AreThose, PlacedAllocation, and-false, exists_placed, filter, is_quarantined}
 use Rattle.mk_trace.proofs.Vocabulary.{nat_tests, never_granted, one_if, placed_at, sum_by, sum_by-cons, times}
-use Rattle.mk_laws.proofs.Vocabulary.{Bool, List, ℕ, and_parts, ap, arith, cases_eq, eq-eqb, eqb-true, false}
-use Rattle.mk_laws.proofs.Vocabulary.{false_from_ne_true, get_or-set_other, get_or-set_same, if◌then◌else◌, inl, inr}
-use Rattle.mk_laws.proofs.Vocabulary.{length, not-true, refl, slice_set, subst, suc, sym, true, [], ◌&&◌, ◌++◌, ◌+◌}
-use Rattle.mk_laws.proofs.Vocabulary.{◌<◌, ◌==◌, ◌∙◌, ◌∷◌, ◌≡◌, ◌≤◌}
+use Rattle.mk_laws.proofs.Vocabulary.{Bool, List, ℕ, and_parts, ap, arith, eq-eqb, eqb-true, false, false_from_ne_true}
+use Rattle.mk_laws.proofs.Vocabulary.{get_or-set_other, get_or-set_same, if◌then◌else◌, length, not-true, refl}
+use Rattle.mk_laws.proofs.Vocabulary.{slice_set, suc, sym, true, [], ◌&&◌, ◌++◌, ◌+◌, ◌<◌, ◌==◌, ◌∙◌, ◌∷◌, ◌≡◌, ◌≤◌}
 use Rattle.mk_trace.proofs.FreedWords.{part, sum_alike, weighed}
 use Rattle.mk_trace.specs.Numbers.{AreOfQuarantined}
 
@@ -45,25 +44,18 @@ pub filters_agree : (p q : ℕ → Bool) (numbers : List ℕ) → ((i : ℕ) →
     → filter p numbers ≡ filter q numbers
 filters_agree p q [] agree = refl
 filters_agree p q (x ∷ numbers) agree =
-    let first : 1 ≤ one_if (x == x) + times x numbers =
-    subst (λ (b : Bool). 1 ≤ one_if b + times x numbers) (sym (equal_is x)) (omega arith) in
+    let first : 1 ≤ one_if (x == x) + times x numbers = grind (arith, equal_is) in
     filters_head x (filter p numbers) (filter q numbers) (p x) (q x) (agree x first)
     (filters_agree p q numbers (λ i some. agree i (omega (arith, some))))
 
 -- Those that stand there pass.
 pub stands_passes : (test : ℕ → Bool) (numbers : List ℕ) → AreThose test numbers → (i : ℕ) → 1 ≤ times i numbers
     → test i ≡ true
-stands_passes test numbers those i some = passes (times i numbers) (test i) (those i) some
-  where
-    passes : (n : ℕ) (b : Bool) → n ≡ one_if b → 1 ≤ n → b ≡ true
-    passes n b is some = grind arith
+stands_passes test numbers those i some = grind arith
 
 pub those_filtered : (p test : ℕ → Bool) (numbers : List ℕ) → AreThose test numbers
     → AreThose (λ (i : ℕ). p i && test i) (filter p numbers)
-those_filtered p test numbers those i = times_filtered p i numbers ∙ both (times i numbers) (p i) (test i) (those i)
-  where
-    both : (n : ℕ) (b t : Bool) → n ≡ one_if t → (if b then n else 0) ≡ one_if (b && t)
-    both n b t is = grind arith
+those_filtered p test numbers those i = grind (arith, times_filtered)
 
 -- The words of the quarantined allocations are those of their numbers.
 
@@ -102,31 +94,17 @@ module _ (weight : ℕ → ℕ) (xs : List PlacedAllocation) (n : ℕ) (numbers 
   other_is i ne = get_or-set_other xs n i gone never_granted ne
 
   pub those_left : AreOfQuarantined ys numbers
-  those_left i = elim (cases_eq i n) [
-    | inl same ↦ cc (same, at_n.1, set_is, and-false (placed_at xs n).freed)
-    | inr ne ↦ cc (none_more (n == i) (times i numbers) (unequal_is n i (λ e. ne (sym e))), those i, other_is i ne)
-  ]
+  those_left i = grind (arith, at_n, set_is, and-false, none_more, unequal_is, other_is)
 
   pub types_left : (i : ℕ) → (placed_at ys i).ty ≡ (placed_at xs i).ty
-  types_left i = elim (cases_eq i n) [
-    | inl same ↦ ap (λ (k : ℕ). (placed_at ys k).ty) same ∙ ap (λ (a : PlacedAllocation). a.ty) set_is
-        ∙ ap (λ (k : ℕ). (placed_at xs k).ty) (sym same)
-    | inr ne ↦ ap (λ (a : PlacedAllocation). a.ty) (other_is i ne)
-  ]
+  types_left i = grind (arith, ys, set_is, other_is)
 
   pub words_left : weighed weight xs ≡ weight (placed_at xs n).ty + weighed weight ys
-  words_left =
-      let sums = sum_by-set (part weight) xs n gone never_granted exists in
-      let before : part weight (placed_at xs n) ≡ weight (placed_at xs n).ty =
-      ap (λ (b : Bool). if b then weight (placed_at xs n).ty else 0) at_n.0 in
-      let behind : part weight gone ≡ 0 =
-      ap (λ (b : Bool). if b then weight (placed_at xs n).ty else 0) (and-false (placed_at xs n).freed) in
-      omega (arith, sums, before, behind)
+  words_left = grind (arith, sum_by-set, part, gone, exists, at_n, and-false)
 
 pub words_of_numbers : (weight : ℕ → ℕ) (numbers : List ℕ) (xs : List PlacedAllocation) → AreOfQuarantined xs numbers
     → sum_by (λ (i : ℕ). weight (placed_at xs i).ty) numbers ≡ weighed weight xs
-words_of_numbers weight [] xs those =
-    sym (none_quarantined weight xs (λ i. no_one (is_quarantined (placed_at xs i)) (those i)))
+words_of_numbers weight [] xs those = grind (arith, none_quarantined, no_one)
 words_of_numbers weight (n ∷ numbers) xs those =
     let zs : List PlacedAllocation = ys weight xs n numbers those in
     let rest = words_of_numbers weight numbers zs (those_left weight xs n numbers those) in

@@ -1,12 +1,12 @@
 -- In a heap of one caller all calls are its own: what one call more makes of them.
-use Rattle.mk_trace.proofs.Vocabulary.{Answer, AreAdmitted, Call, Caller, CallerIsHome, CallerState, Calls, Config}
-use Rattle.mk_trace.proofs.Vocabulary.{Decided, Event, Grows, Has, HasAll, HostState, IsAdmitted, IsHistory, NeverState}
-use Rattle.mk_trace.proofs.Vocabulary.{Null, Op, PassState, Seat, WordsState, after_calls, answered, asked, begins_full}
-use Rattle.mk_trace.proofs.Vocabulary.{calls, calls_of_caller, entry_of, first_host, flagged, has_first, is_refusal}
-use Rattle.mk_trace.proofs.Vocabulary.{length-replicate, never_behind, never_first, pass_for, replicate, without_seat}
-use Rattle.mk_laws.proofs.Vocabulary.{Bool, List, Some, ℕ, ap, append_assoc, arith, eq-eqb, false, if◌then◌else◌}
-use Rattle.mk_laws.proofs.Vocabulary.{length, length-map, list_any, list_any-append, map-append, refl, subst, sym, true}
-use Rattle.mk_laws.proofs.Vocabulary.{[], ◌*◌, ◌++◌, ◌<◌, ◌==◌, ◌||◌, ◌∙◌, ◌∷◌, ◌≡◌, ◌≤◌}
+use Rattle.mk_trace.proofs.Vocabulary.{Answer, AreAdmitted, Caller, CallerIsHome, CallerState, Calls, Config, Decided}
+use Rattle.mk_trace.proofs.Vocabulary.{Event, Grows, Has, HasAll, HostState, IsAdmitted, IsHistory, NeverState, Op}
+use Rattle.mk_trace.proofs.Vocabulary.{PassState, Seat, WordsState, after_calls, answered, asked, begins_full, calls}
+use Rattle.mk_trace.proofs.Vocabulary.{calls_of_caller, first_host, flagged, has_first, is_refusal, never_behind}
+use Rattle.mk_trace.proofs.Vocabulary.{never_first, pass_for, without_seat}
+use Rattle.mk_laws.proofs.Vocabulary.{Bool, List, ℕ, ap, append_assoc, arith, eq-eqb, false, if◌then◌else◌, length}
+use Rattle.mk_laws.proofs.Vocabulary.{length-map, list_any, list_any-append, map-append, refl, subst, sym, true, []}
+use Rattle.mk_laws.proofs.Vocabulary.{◌++◌, ◌<◌, ◌==◌, ◌||◌, ◌∙◌, ◌∷◌, ◌≡◌, ◌≤◌}
 use Rattle.mk_never.proofs.{Later.op_stays, Parts.admitted_split, Parts.after_append}
 use Rattle.mk_never.specs.{Admitted.IsCaller, NeverHeap.after_op}
 use Rattle.mk_core.specs.Counts.{is_full_answer}
@@ -15,7 +15,7 @@ use Rattle.mk_caller.specs.States.{at_home, caller_of_pass}
 use Rattle.mk_heap.specs.Hosts.{AllAreJoined, with_caller_made, with_caller_out, with_joined, with_seen}
 use Rattle.mk_run.specs.Scripts.{IsAdmittedByOwnCalls, as_told}
 use Rattle.mk_trace.{proofs.OwnPieces.all_again, specs.Calls.CallsAll, specs.Calls.MayCome, specs.Calls.SameCalls}
-use Rattle.mk_words.{proofs.Seats.has_all, proofs.Seats.has_right, specs.Seats.all_seats, specs.Seats.has_over}
+use Rattle.mk_words.{proofs.Seats.has_all, proofs.Seats.has_right, specs.Seats.has_over}
 
 by_test : (x : Decided) (xs ys : List Decided) (b : Bool) → b ≡ true → ys ≡ xs → (if b then x ∷ ys else ys) ≡ x ∷ xs
 by_test x xs ys true is same = ap (λ (l : List Decided). x ∷ l) same
@@ -32,10 +32,7 @@ all_own globals n (x ∷ xs) count admitted =
 
 pub calls_are_own : {c : Config} {es : List Event} → c.callers ≡ 1 → IsHistory c es
     → calls_by 0 (calls c es) ≡ calls c es
-calls_are_own {c} {es} one history =
-    let count : length (replicate (8 * c.callers) Null) ≡ 8 = length-replicate (8 * c.callers) Null
-    ∙ (omega (arith, one)) in
-    all_own c.globals (never_first c) (calls c es) count history.admitted
+calls_are_own {c} {es} one history = grind (arith, all_own)
 
 -- The caller makes no call where others alone do something.
 
@@ -51,10 +48,7 @@ same_calls {c} one before later g = sym (calls_are_own one later) ∙ none_calle
 
 pub never_then_calls : (c : Config) (es fs : List Event) (more : List Decided) → calls c fs ≡ calls c es ++ more
     → never_behind c fs ≡ after_calls (never_behind c es) (asked more)
-never_then_calls c es fs more is =
-    ap (λ (l : List Decided). after_calls (never_first c) (asked l)) is ∙ ap (after_calls (never_first c))
-    (map-append (λ (x : Decided). record { caller = x.caller; op = x.op }) (calls c es) more)
-    ∙ after_append (never_first c) (asked (calls c es)) (asked more)
+never_then_calls c es fs more is = grind (arith, map-append, after_append)
 
 pub never_behind_all : {c : Config} {es : List Event} {full : Bool} {ops : List Op} {refused : Bool} {fs : List Event}
     → CallsAll c es full ops refused fs → never_behind c fs ≡ after_calls (never_behind c es) (calls_of_caller ops)
@@ -85,13 +79,7 @@ any_more xs told a is = cc (list_any-append is_refusal xs (a ∷ []), or_none (i
 -- the first call of all
 pub calls_first : {c : Config} {es : List Event} {o : Op} {told : Answer} {fs : List Event} → (g : Calls c es o told fs)
     → CallsAll c es (is_full_answer told) (flagged o g.answer ∷ []) (is_refusal told) fs
-calls_first {o} g = record {
-  more = entry_of 0 o (Some g.answer);
-  begins = sym (full_as_told g.answer) ∙ ap is_full_answer (sym g.is_told);
-  is = g.entry;
-  asks = refl;
-  refuses = or_none (is_refusal g.answer) ∙ sym (refused_as_told g.answer) ∙ ap is_refusal (sym g.is_told);
-}
+calls_first {o} g = grind (arith, full_as_told, or_none, refused_as_told)
 
 pub begins_alike : (answers more : List Answer) → 1 ≤ length answers
     → begins_full (answers ++ more) ≡ begins_full answers
@@ -102,20 +90,7 @@ begins_alike (a ∷ answers) more some = refl
 module _ (c : Config) (es : List Event) (full : Bool) (ops : List Op) (refused : Bool) (fs : List Event)
     (h : CallsAll c es full ops refused fs) (o : Op) (told : Answer) (gs : List Event) (g : Calls c fs o told gs) where
   pub calls_more : 1 ≤ length ops → CallsAll c es full (ops ++ flagged o g.answer ∷ []) (refused || is_refusal told) gs
-  calls_more some =
-      let entry : List Decided = entry_of 0 o (Some g.answer) in
-      record {
-        more = h.more ++ entry;
-        begins =
-            ap begins_full (map-append (λ (x : Decided). x.answer) h.more entry) ∙ begins_alike _ (answered entry)
-            (omega (arith, some, as_many h.more ops h.asks)) ∙ h.begins;
-        is = g.entry ∙ ap (λ (l : List Decided). l ++ entry) h.is ∙ append_assoc (calls c es) h.more entry;
-        asks = map-append (λ (x : Decided). record { caller = x.caller; op = x.op }) h.more entry
-            ∙ ap (λ (l : List Call). l ++ record { caller = 0; op = flagged o g.answer } ∷ []) h.asks
-            ∙ sym (map-append (λ (x : Op). record { caller = 0; op = x }) ops (flagged o g.answer ∷ []));
-        refuses = ap (list_any is_refusal) (map-append (λ (x : Decided). x.answer) h.more entry)
-            ∙ any_more (answered h.more) told g.answer g.is_told ∙ ap (λ (b : Bool). b || is_refusal told) h.refuses;
-      }
+  calls_more some = grind (arith, map-append, begins_alike, as_many, append_assoc, any_more)
 
 -- What comes next of operations that may come.
 pub next_may_come : {c : Config} {es : List Event} {full : Bool} {ops : List Op} {refused : Bool} {fs : List Event}
@@ -131,15 +106,7 @@ next_may_come {c} {es} {ops} o rest h admitted =
 
 pub told_home : {w : WordsState} {h : HostState} (g : HostState) → CallerIsHome w h → g ≡ with_seen h g.pass.seen
     → has_over g.pass.seen ≡ has_over h.pass.seen → CallerIsHome w g
-told_home {w} g home is overs = record {
-  table = ap (λ (x : HostState). x.pass.table) is ∙ home.table;
-  one = home.one;
-  callers = ap (λ (x : HostState). x.callers) is ∙ home.callers;
-  markers = ap (λ (x : HostState). x.markers) is ∙ home.markers;
-  joined = subst (λ (x : HostState). Has x.pass.seats (Caller 0)) (sym is) home.joined;
-  all = subst (λ (x : HostState). HasAll w.config x.pass.seats) (sym is) home.all;
-  before_over = overs ∙ home.before_over;
-}
+told_home {w} g home is overs = grind arith
 
 pub joined_home : {w : WordsState} {h : HostState} (out g : HostState) (q : PassState) → CallerIsHome w h
     → out ≡ with_caller_out h 0
@@ -186,9 +153,7 @@ module _ (w : WordsState) (h : HostState) (home : CallerIsHome w h) (s : CallerS
   made_alone = subst (λ (x : CallerState). x.pass.seats ≡ x.pass.seat ∷ []) (sym made) refl
 
   pub made_exists : caller_of_pass s.pass < s.pass.table.config.callers
-  made_exists =
-      let one = callers_at_home home in
-      subst (λ (x : CallerState). caller_of_pass x.pass < x.pass.table.config.callers) (sym made) (omega (arith, one))
+  made_exists = grind (arith, callers_at_home)
 
   pub made_admits : (o : Op) → MayCome w.config h.pass.seen o → IsHistory s.pass.table.config s.pass.seen
       → IsAdmittedByOwnCalls s.pass o
@@ -200,30 +165,8 @@ module _ (w : WordsState) (h : HostState) (home : CallerIsHome w h) (s : CallerS
 pub first_home : (w : WordsState) (h made joined : HostState) (q : PassState) → w.config.callers ≡ 1 → h ≡ first_host w
     → made ≡ with_caller_made h → joined ≡ with_joined made q joined.pass.seen → q.seats ≡ Caller 0 ∷ []
     → has_over joined.pass.seen ≡ has_over made.pass.seen → CallerIsHome w joined
-first_home w h made joined q one first is joins seats overs =
-    let all : made ≡ with_caller_made (first_host w) = is ∙ ap with_caller_made first in
-    record {
-      table = ap (λ (x : HostState). x.pass.table) joins ∙ ap (λ (x : HostState). x.pass.table) all;
-      one = one;
-      callers = ap (λ (x : HostState). x.callers) joins ∙ ap (λ (x : HostState). x.callers) all;
-      markers = ap (λ (x : HostState). x.markers) joins ∙ ap (λ (x : HostState). x.markers) all;
-      joined =
-          subst (λ (x : HostState). Has x.pass.seats (Caller 0)) (sym joins)
-          (has_right made.pass.seats q.seats (Caller 0)
-          (subst (λ (l : List Seat). Has l (Caller 0)) (sym seats) (has_first (Caller 0) [])));
-      all =
-          subst (λ (x : HostState). HasAll w.config x.pass.seats) (sym joins)
-          (subst (λ (x : HostState). HasAll w.config (x.pass.seats ++ q.seats)) (sym all)
-          (subst (λ (l : List Seat). HasAll w.config (without_seat (Caller 0) (all_seats w.config) ++ l)) (sym seats)
-          (all_again w.config (Caller 0) (all_seats w.config) (has_all w.config))));
-      before_over = overs ∙ ap (λ (x : HostState). has_over x.pass.seen) all;
-    }
+first_home w h made joined q one first is joins seats overs = grind (arith, has_right, has_first, all_again, has_all)
 
 -- All are joined then.
 pub home_joined : {w : WordsState} {h : HostState} → CallerIsHome w h → AllAreJoined h
-home_joined {h} home = record {
-  callers = λ k lt.
-      (let n = home.callers in
-      subst (λ (j : ℕ). Has h.pass.seats (Caller j)) (omega arith) home.joined);
-  markers = λ k lt. absurd (let n = home.markers in omega arith);
-}
+home_joined {h} home = grind arith

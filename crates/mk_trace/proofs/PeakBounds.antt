@@ -1,15 +1,13 @@
 -- The peaks bound what quarantine costs.
-use Rattle.mk_trace.proofs.Vocabulary.{Config, Event, IsHistory, PlacedAllocation, held_by_allocations, is_large}
-use Rattle.mk_trace.proofs.Vocabulary.{is_quarantined, kinds_of, left, peaks_of, quarantined_words, reserved_words}
-use Rattle.mk_trace.proofs.Vocabulary.{storage_words}
-use Rattle.mk_laws.proofs.Vocabulary.{Bool, List, ℕ, arith, earlier_part_is_history, false, if◌then◌else◌, is_mapped}
-use Rattle.mk_laws.proofs.Vocabulary.{not, refl, subst, true, ◌&&◌, ◌++◌, ◌+◌, ◌≡◌, ◌≤◌}
+use Rattle.mk_trace.proofs.Vocabulary.{Config, Event, IsHistory, PlacedAllocation, held_by_allocations, left, peaks_of}
+use Rattle.mk_trace.proofs.Vocabulary.{quarantined_words, reserved_words}
+use Rattle.mk_laws.proofs.Vocabulary.{Bool, List, ℕ, arith, earlier_part_is_history, false, if◌then◌else◌, not, refl}
+use Rattle.mk_laws.proofs.Vocabulary.{subst, true, ◌&&◌, ◌++◌, ◌+◌, ◌≡◌, ◌≤◌}
 use Rattle.mk_quarantine.proofs.CountedWords.{filtered_in_parts}
 use Rattle.mk_quarantine.proofs.{LittleHeld.held_is_little_where_free, Quarters.quarantined_is_fresh_or_kept}
 use Rattle.mk_quarantine.specs.{Bounds.QuarantineIsBounded, Bounds.held_after, KeptAllocations.quarantined_mapped}
 use Rattle.mk_trace.proofs.PeakParts.{is_greatest}
 use Rattle.mk_trace.specs.PeakBounds.{BoundsMeetPeaks, FreshIsQuarterOfPeak, QuarantineIsQuarterOfPeak}
-use Rattle.mk_trace.specs.Peaks.{is_reserved}
 
 -- What is quarantined is reserved, or mapped; and what is mapped is fresh, or was freed before the last `begin`.
 
@@ -24,9 +22,7 @@ reserved_or_mapped n false true false = omega arith
 
 quarantined_in_parts : (c : Config) (xs : List PlacedAllocation)
     → quarantined_words c xs ≤ reserved_words c xs + quarantined_mapped c xs
-quarantined_in_parts c xs =
-    filtered_in_parts (storage_words c) is_quarantined (is_reserved c) (λ a. is_mapped c a && a.freed)
-    (λ a. reserved_or_mapped (storage_words c a) a.released a.freed (is_large (kinds_of c.types a.ty))) xs
+quarantined_in_parts c xs = grind (arith, filtered_in_parts, reserved_or_mapped)
 
 module _ (c : Config) (es front more : List Event) (h : IsHistory c es) (bounded : QuarantineIsBounded false c es)
     (is : es ≡ front ++ more) (free : (left c front).now.words.turn ≡ 0) where
@@ -40,9 +36,7 @@ module _ (c : Config) (es front more : List Event) (h : IsHistory c es) (bounded
   fresh_below_peak = omega (arith, bounded.of_held refl front more is free, held_below_peak)
 
   quarantine_below_peak : QuarantineIsQuarterOfPeak (peaks_of c es) c front
-  quarantine_below_peak =
-      let mapped = quarantined_is_fresh_or_kept c (left c front).allocations in
-      omega (arith, fresh_below_peak, quarantined_in_parts c (left c front).allocations, mapped)
+  quarantine_below_peak = grind (arith, quarantined_is_fresh_or_kept, fresh_below_peak, quarantined_in_parts)
 
 pub bounds_meet_peaks : BoundsMeetPeaks
 bounds_meet_peaks c es h bounded = record {

@@ -46,9 +46,7 @@ module _ (c : Config) (measure : List PlacedAllocation → ℕ) where
       → nat_le later first ≡ at_first → first ≡ measure w.allocations → ReachedFrom (world_behind c w e) es later
       → ReachedFrom w (e ∷ es) (max first later)
   unfolding left_from
-  reached_first w e es first later true test is behind =
-      let below : later ≤ first = grind (arith, nat_tests, test) in
-      record { before = []; behind = e ∷ es; is = refl; same = omega (arith, below, is) }
+  reached_first w e es first later true test is behind = grind (arith, nat_tests)
   reached_first w e es first later false test is behind =
       let over : first ≤ later = grind (arith, nat_tests, test) in
       record {
@@ -165,6 +163,4 @@ module _ (c : Config) (measure : List PlacedAllocation → ℕ) where
     -- With more events that grant nothing it is the same.
     pub no_more : (es more : List Event) → has_step is_grant more ≡ false
         → greatest c measure (es ++ more) ≡ greatest c measure es
-    no_more es more none =
-        let parts = from-append c measure (first_world c) es more in
-        omega (arith, parts, falls (left c es) more none, last_below c measure (first_world c) es)
+    no_more es more none = grind (arith, from-append, falls, last_below)

@@ -4,7 +4,7 @@ use Rattle.std.proofs.lemmas.List.Elements.{All-append, All-cons, All-map, All-n
 use Rattle.std.proofs.{lemmas.List.FromFn.length-range_with_len, lemmas.List.Quantifiers.position-Some}
 use Rattle.std.specs.Str.{bytes_eq}
 use Rattle.mk_trace.proofs.Vocabulary.{A, All, C, Contents, F, HeapPages, IsBetween, IsEventOf, IsOfSomeTraceText}
-use Rattle.mk_trace.proofs.Vocabulary.{IsPlayable, IsWithinLimits, K, LinesSoFar, Ok, TraceEvent, W, Which, codes}
+use Rattle.mk_trace.proofs.Vocabulary.{IsPlayable, IsWithinLimits, K, LinesSoFar, Ok, TraceEvent, Which, codes}
 use Rattle.mk_trace.proofs.Vocabulary.{config_of, contents_of, events_from, header_line_of, length-append, lines_of}
 use Rattle.mk_trace.proofs.Vocabulary.{nat_tests, nothing_written, read_behind, slot_number, text_fault_at}
 use Rattle.mk_trace.proofs.Vocabulary.{trace_of_lines, type_fault_at, typed_event, types_from, with_event}
@@ -17,11 +17,10 @@ use Rattle.mk_script.specs.{Lines.at_most, Lines.heap_limit, Lines.within, Opera
 use Rattle.mk_trace.proofs.ReadLines.{along_keeps, bound, gone_on, passed_else, passed_then, then_next, unless_none}
 use Rattle.mk_trace.proofs.ReadLines.{within_none}
 use Rattle.mk_trace.proofs.SlotTypes.{length-types_from, range_below, types_among}
-use Rattle.mk_trace.specs.Traces.{contents_from, words_of_slots}
+use Rattle.mk_trace.specs.Lines.{checked_slot, event_line, heap_pages, slot_from, slot_limit, slot_line, trace_line_of}
 use Rattle.mk_trace.specs.Typing.{event_on, on_slot, typed_write, words_at}
 use Rattle.mk_trace.specs.declared.lines.Action.TheVariants.{Clear, Free, Link, New, Write}
-use Rattle.mk_trace.specs.{Lines.checked_slot, Lines.event_line, Lines.event_line_of, Lines.heap_pages, Lines.slot_from}
-use Rattle.mk_trace.specs.{Lines.slot_limit, Lines.slot_line, Lines.trace_line_of, declared.lines.Action.Action}
+use Rattle.mk_trace.specs.{Traces.contents_from, Traces.words_of_slots, declared.lines.Action.Action}
 use Rattle.mk_trace.specs.{declared.lines.EventLine.EventLine, declared.lines.Line.Line, declared.lines.Slot.Slot}
 
 -- The slots of lines are within their limits, and so is the heap of a header.
@@ -70,11 +69,7 @@ slot_line_more before (a ∷ b ∷ c ∷ rest) given h are = absurd cc
 event_line_more : (before : LinesSoFar) (word : List ℕ) (operands : List (List ℕ)) (given : Line)
     → event_line before word operands ≡ Ok given → AreWithin before.slots
     → AreWithin (with_trace_line before given).slots
-event_line_more before word operands given h are =
-    let placed = passed_else (length before.slots == 0) _ _ given h in
-    let found = bound (event_line_of word operands) _ given placed.1 in
-    let is : Line.Event found.value ≡ given = cc in
-    subst (λ (x : Line). AreWithin (with_trace_line before x).slots) is are
+event_line_more before word operands given h are = grind (arith, passed_else, bound)
 
 by_word : (is_slot : Bool) (before : LinesSoFar) (word : List ℕ) (operands : List (List ℕ)) (given : Line)
     → (if is_slot then slot_line before operands else event_line before word operands) ≡ Ok given
@@ -114,13 +109,7 @@ header_within (a ∷ b ∷ c ∷ d ∷ rest) heap h = absurd cc
 
 written : (slots : List ℕ) (slot words index value : ℕ) (event : TraceEvent) → slot < length slots
     → get_or slots slot 0 ≡ words → typed_write slot words index value ≡ Ok event → IsEventOf slots event
-written slots slot words index value event inside words_are h =
-    let below = passed_else (nat_le words index) _ _ event h in
-    let above = passed_else (index == 0) _ _ event below.1 in
-    let is : W slot index value ≡ event = cc in
-    let small : index < words = grind (arith, nat_tests, below.0) in
-    let some : 1 ≤ index = grind (arith, nat_tests, above.0) in
-    subst (IsEventOf slots) is (inside, some, omega (arith, words_are, small))
+written slots slot words index value event inside words_are h = grind (arith, passed_else, nat_tests)
 
 on : (slots : List ℕ) (slot words : ℕ) (action : Action) (event : TraceEvent) → slot < length slots
     → get_or slots slot 0 ≡ words → event_on slot words action ≡ Ok event → IsEventOf slots event

@@ -1,14 +1,12 @@
 -- What was played so far, with one event more, and at the end.
-use Rattle.std.proofs.lemmas.List.Elements.{All-get_or}
-use Rattle.mk_trace.proofs.Vocabulary.{A, All, AllTurnsAreExact, Answer, AreAdmitted, C, Call, Caller, CallerState}
-use Rattle.mk_trace.proofs.Vocabulary.{Config, Contents, Decided, Event, F, Grows, HostState, IsEventOf, IsHistory}
-use Rattle.mk_trace.proofs.Vocabulary.{IsPlayable, K, NeverState, Null, Op, PassState, TraceEvent, W, WordsState}
-use Rattle.mk_trace.proofs.Vocabulary.{after_calls, answered, asked, begins_full, calls, calls_of_caller, config_of}
-use Rattle.mk_trace.proofs.Vocabulary.{first_host, is_refusal, never_behind, never_first, one_if, ops_of, pass_for}
-use Rattle.mk_trace.proofs.Vocabulary.{refused_events, register_at, replicate, take_all, take_more}
+use Rattle.mk_trace.proofs.Vocabulary.{A, AllTurnsAreExact, Answer, C, Caller, CallerState, Config, Contents, Decided}
+use Rattle.mk_trace.proofs.Vocabulary.{Event, F, Grows, HostState, IsEventOf, IsHistory, IsPlayable, K, NeverState}
+use Rattle.mk_trace.proofs.Vocabulary.{Null, PassState, TraceEvent, W, WordsState, after_calls, answered, asked}
+use Rattle.mk_trace.proofs.Vocabulary.{begins_full, calls, calls_of_caller, config_of, first_host, is_refusal}
+use Rattle.mk_trace.proofs.Vocabulary.{never_behind, never_first, one_if, ops_of, pass_for, refused_events, register_at}
+use Rattle.mk_trace.proofs.Vocabulary.{take_all, take_more}
 use Rattle.mk_laws.proofs.Vocabulary.{Bool, List, ℕ, ap, arith, false, get_or, if◌then◌else◌, length, list_any}
-use Rattle.mk_laws.proofs.Vocabulary.{map-append, refl, subst, suc, sym, take, true, zero, [], ◌*◌, ◌++◌, ◌+◌, ◌<◌, ◌∙◌}
-use Rattle.mk_laws.proofs.Vocabulary.{◌∷◌, ◌≡◌, ◌≤◌}
+use Rattle.mk_laws.proofs.Vocabulary.{map-append, refl, subst, sym, take, true, [], ◌++◌, ◌+◌, ◌<◌, ◌∙◌, ◌∷◌, ◌≡◌, ◌≤◌}
 use Rattle.mk_core.specs.History.{calls_from}
 use Rattle.mk_laws.proofs.Promises.{histories_keep_all_promises}
 use Rattle.mk_caller.specs.States.{at_home}
@@ -24,12 +22,7 @@ use Rattle.mk_trace.specs.{Playing.IsPlayed, Playing.ops_played, Traces.slot_of}
 -- Before the first event.
 pub played_none : (trace : Contents) → HasPlayed trace [] 0 []
 unfolding calls_from
-played_none trace = record { ops = refl; refuses = refl; clear = λ r. null_at 8 (8 * 0 + r) }
-  where
-    null_at : (count k : ℕ) → get_or (replicate count Null) k Null ≡ Null
-    null_at zero k = refl
-    null_at (suc count) zero = refl
-    null_at (suc count) (suc k) = null_at count k
+played_none trace = grind arith
 
 module _ (trace : Contents) (events : List TraceEvent) (refused : ℕ) (es : List Event)
     (h : HasPlayed trace events refused es)
@@ -51,13 +44,7 @@ module _ (trace : Contents) (events : List TraceEvent) (refused : ℕ) (es : Lis
     count = as_many (calls c es) (ops_played events answers) h.ops
 
     ops : asked (calls c fs) ≡ calls_of_caller (ops_played (events ++ event ∷ []) (answered (calls c fs)))
-    ops =
-        ap asked p.is ∙ map-append (λ (x : Decided). record { caller = x.caller; op = x.op }) (calls c es) p.more
-        ∙ ap (λ (l : List Call). l ++ asked p.more) h.ops
-        ∙ ap (λ (l : List Call). calls_of_caller (ops_played events answers) ++ l) p.asks
-        ∙ sym (map-append (λ (o : Op). record { caller = 0; op = o }) (ops_played events answers)
-        (ops_of (begins_full more) event)) ∙ ap calls_of_caller (sym (ops-played_more event more events answers count))
-        ∙ ap (λ (l : List Answer). calls_of_caller (ops_played (events ++ event ∷ []) l)) (sym answered_more)
+    ops = grind (arith, map-append, answers, more, ops-played_more, count, answered_more)
 
     never_now : never_behind c fs ≡ after_calls (never_behind c es) (calls_of_caller (ops_of (begins_full more) event))
     never_now = never_then_calls c es fs p.more p.is ∙ ap (after_calls (never_behind c es)) p.asks
@@ -100,11 +87,7 @@ pub may_be_played : {trace : Contents} {c : Config} {es : List Event} (fs : List
     → IsPlayable trace → IsHistory c es → AreNull (never_behind c es) → IsEventOf trace.slots event → SameCalls c es fs
     → MayBePlayed c fs event
 may_be_played {trace} {c} {es} fs event config playable history null of_slots same full =
-    subst (λ (l : List Decided). AreAdmitted c.globals (after_calls (never_first c) (asked l))
-    (calls_of_caller (ops_of full event))) (sym same)
-    (subst (λ (d : Config). IsHistory d es → AreNull (never_behind d es)
-    → AreAdmitted d.globals (never_behind d es) (calls_of_caller (ops_of full event))) (sym config)
-    (λ h n. (events_are_admitted trace playable es h n event of_slots full).0) history null)
+    grind (arith, events_are_admitted)
 
 pub slot_within : (slots : List ℕ) (event : TraceEvent) → IsEventOf slots event → slot_of event < length slots
 slot_within slots (A slot) h = h
@@ -136,8 +119,7 @@ no_call_first {c} one history g = sym (calls_are_own one history) ∙ none_calle
 
 pub played_first : (trace : Contents) (c : Config) (events : List TraceEvent) (es : List Event) → c ≡ config_of trace
     → SameCalls c [] es → HasPlayed trace (take 0 events) 0 es
-played_first trace c events es config same =
-    played_same es (subst (λ (d : Config). SameCalls d [] es) config same) (played_none trace)
+played_first trace c events es config same = grind (arith, played_same, played_none)
 
 -- The next event of some was played.
 pub next_played : {trace : Contents} {c : Config} (events : List TraceEvent) (i : ℕ) {refused : ℕ} (count : ℕ)
@@ -148,11 +130,9 @@ pub next_played : {trace : Contents} {c : Config} (events : List TraceEvent) (i 
     → count ≡ refused + one_if is_refused → HasPlayed trace (take (i + 1) events) count fs
 next_played {trace} events i {refused} count {es} {fs} {event} {is_refused} config playable history within here of_slots
     h p is =
-    let plays : PlaysEvent (config_of trace) es event is_refused fs =
-    subst (λ (d : Config). PlaysEvent d es event is_refused fs) config p in
+    let plays : PlaysEvent (config_of trace) es event is_refused fs = grind arith in
     let of_trace : IsHistory (config_of trace) es = subst (λ (d : Config). IsHistory d es) config history in
-    let next : take (i + 1) events ≡ take i events ++ event ∷ [] =
-    take_more events i event within ∙ ap (λ (e : TraceEvent). take i events ++ e ∷ []) (sym here) in
+    let next : take (i + 1) events ≡ take i events ++ event ∷ [] = grind (arith, take_more) in
     subst (λ (l : List TraceEvent). HasPlayed trace l count fs) (sym next)
     (subst (λ (n : ℕ). HasPlayed trace (take i events ++ event ∷ []) n fs) (sym is)
     (played_more trace (take i events) refused es h event is_refused fs plays (events_are_admitted trace playable)
@@ -181,8 +161,7 @@ played_all {trace} events i {refused} {es} past is h =
 -- The pass that the host made first.
 first_pass : (w : WordsState) (h : HostState) (s : CallerState) (q : PassState) → h ≡ first_host w
     → s ≡ at_home (pass_for h (Caller h.callers)) → q ≡ s.pass → q ≡ pass_for (first_host w) (Caller 0)
-first_pass w h s q first made is =
-    is ∙ ap (λ (x : CallerState). x.pass) made ∙ ap (λ (x : HostState). pass_for x (Caller x.callers)) first
+first_pass w h s q first made is = grind arith
 
 pub first_seats : (w : WordsState) (h : HostState) (s : CallerState) (q : PassState) → h ≡ first_host w
     → s ≡ at_home (pass_for h (Caller h.callers)) → q ≡ s.pass → q.seats ≡ Caller 0 ∷ []
@@ -192,10 +171,7 @@ pub joined_first : (w : WordsState) (h : HostState) (s : CallerState) (q : PassS
     → h ≡ first_host w → s ≡ at_home (pass_for h (Caller h.callers)) → q ≡ s.pass
     → Grows q.seats q.seen k.pass.seen → w.config ≡ c → c.callers ≡ 1 → k.pass.table ≡ w
     → IsHistory k.pass.table.config k.pass.seen → SameCalls c [] k.pass.seen
-joined_first w h s q k c first made is came config one table history =
-    no_call_first one
-    (subst (λ (d : Config). IsHistory d k.pass.seen) (ap (λ (x : WordsState). x.config) table ∙ config) history)
-    (subst (λ (p : PassState). Grows p.seats p.seen k.pass.seen) (first_pass w h s q first made is) came)
+joined_first w h s q k c first made is came config one table history = grind (arith, no_call_first, first_pass)
 
 -- The heap is closed.
 pub closed : {trace : Contents} {refused : ℕ} {d : Config} {es fs : List Event} → fs ≡ es → d ≡ config_of trace
@@ -207,14 +183,9 @@ closed {trace} {refused} {fs} same config h whole exact =
 -- An event of the trace.
 pub event_at : (trace : Contents) (events : List TraceEvent) (i : ℕ) (event : TraceEvent) → IsPlayable trace
     → events ≡ trace.events → i < length events → event ≡ get_or events i event → IsEventOf trace.slots event
-event_at trace events i event playable is within here =
-    subst (IsEventOf trace.slots) (sym here)
-    (All-get_or (IsEventOf trace.slots) events i event within
-    (subst (All (IsEventOf trace.slots)) (sym is) playable.events))
+event_at trace events i event playable is within here = grind arith
 
 pub refused_at : {trace : Contents} {refused : ℕ} {es : List Event} (fs : List Event) → fs ≡ es
     → HasPlayed trace trace.events refused es
     → refused ≡ refused_events trace.events (answered (calls (config_of trace) fs))
-refused_at {trace} {refused} fs same h =
-    subst (λ (l : List Event). refused ≡ refused_events trace.events (answered (calls (config_of trace) l))) (sym same)
-    h.refuses
+refused_at {trace} {refused} fs same h = grind arith

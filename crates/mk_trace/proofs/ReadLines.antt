@@ -4,8 +4,8 @@ use Rattle.mk_trace.proofs.Vocabulary.{Contents, HeapPages, IsBetween, LinesSoFa
 use Rattle.mk_trace.proofs.Vocabulary.{contents_of, header_line_of, length-drop, lines_of, nat_tests, nothing_written}
 use Rattle.mk_trace.proofs.Vocabulary.{take_all, texts_of, trace_of_lines, words_of_line, written_from}
 use Rattle.mk_laws.proofs.Vocabulary.{Bool, List, None, Option, Some, ℕ, ap, append-nil, append_assoc, arith, cond-true}
-use Rattle.mk_laws.proofs.Vocabulary.{drop, false, get_or, if◌then◌else◌, le-leb, length, nat_le, refl, subst, sym}
-use Rattle.mk_laws.proofs.Vocabulary.{take, true, [], ◌&&◌, ◌++◌, ◌+◌, ◌-◌, ◌<◌, ◌∙◌, ◌∷◌, ◌≡◌, ◌≢◌, ◌≤◌}
+use Rattle.mk_laws.proofs.Vocabulary.{drop, false, get_or, if◌then◌else◌, le-leb, length, refl, subst, sym, take, true}
+use Rattle.mk_laws.proofs.Vocabulary.{[], ◌&&◌, ◌++◌, ◌+◌, ◌-◌, ◌<◌, ◌∙◌, ◌∷◌, ◌≡◌, ◌≢◌, ◌≤◌}
 use Rattle.mk_script.specs.{Lines.within, Operands.◌>>=◌, declared.faults.LineFault.LineFault}
 use Rattle.mk_script.specs.{declared.faults.LineFault.TheVariants.Text, declared.faults.TextKind.TheVariants.Word}
 use Rattle.mk_trace.specs.{Grammar.along, Grammar.go_on, Lines.event_line_of, Lines.ok_unless, Lines.slot_line}
@@ -58,9 +58,7 @@ both false b fault h = absurd cc
 
 pub within_none : (least found greatest : ℕ) (which : Which) → within least found greatest which ≡ None
     → IsBetween least greatest found
-within_none least found greatest which h =
-    let tests = both (nat_le least found) (nat_le found greatest) _ h in
-    (grind (arith, nat_tests, tests.0), grind (arith, nat_tests, tests.1))
+within_none least found greatest which h = grind (arith, both, nat_tests)
 
 -- what each line keeps, all keep
 pub along_keeps : {Line Given Whole Fault : Type 0} (told : ℕ → Fault → TraceStop)
@@ -131,5 +129,4 @@ stops_whole (Err stop) expected whole is told = λ memory. is ∙ told memory
 
 pub six_lines : {X : Type 0} (old a b c d e f t1 t2 t3 t4 t5 t6 : List X) → t1 ≡ old ++ a → t2 ≡ t1 ++ b → t3 ≡ t2 ++ c
     → t4 ≡ t3 ++ d → t5 ≡ t4 ++ e → t6 ≡ t5 ++ f → t6 ≡ old ++ (a ++ (b ++ (c ++ (d ++ (e ++ (f ++ []))))))
-six_lines old a b c d e f t1 t2 t3 t4 t5 t6 h1 h2 h3 h4 h5 h6 = rw (h6, h5, h4, h3, h2, h1)
-    (simp (append_assoc, append-nil))
+six_lines old a b c d e f t1 t2 t3 t4 t5 t6 h1 h2 h3 h4 h5 h6 = grind (arith, append_assoc, append-nil)

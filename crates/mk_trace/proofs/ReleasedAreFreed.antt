@@ -1,9 +1,8 @@
 -- Of the allocations of a history only freed ones are released, and which they are, as a list of numbers.
 use Rattle.mk_trace.proofs.Vocabulary.{AreAgesOf, Cell, Config, Event, IsHistory, PlacedAllocation, Step, Words, World}
-use Rattle.mk_trace.proofs.Vocabulary.{age_in_a_word, allocations_by, cell_freed, cell_of_allocation, counted}
-use Rattle.mk_trace.proofs.Vocabulary.{first_world, flight_of, freed_where_it_stands, histories_keep_the_invariant}
-use Rattle.mk_trace.proofs.Vocabulary.{is_some_and, left, length-append, moves_phase, nat_tests, never_granted}
-use Rattle.mk_trace.proofs.Vocabulary.{no_longer_fresh, one_if, phase_of, placed_at, stands_in, times, with_released}
+use Rattle.mk_trace.proofs.Vocabulary.{age_in_a_word, allocations_by, cell_of_allocation, counted, first_world}
+use Rattle.mk_trace.proofs.Vocabulary.{flight_of, histories_keep_the_invariant, left, length-append, moves_phase}
+use Rattle.mk_trace.proofs.Vocabulary.{nat_tests, never_granted, one_if, phase_of, placed_at, times, with_released}
 use Rattle.mk_laws.proofs.Vocabulary.{Bool, List, ℕ, and_parts, ap, append-nil, append_assoc, arith, cases_Bool}
 use Rattle.mk_laws.proofs.Vocabulary.{cases_lt, changed_at, earlier_part_is_history, enabled_in_parts, false}
 use Rattle.mk_laws.proofs.Vocabulary.{freed_leaves, freed_released, fresh_leaves, has_bit_without, if◌then◌else◌, inl}
@@ -80,12 +79,8 @@ module _ (c : Config) (front : List Event) (history : IsHistory c front) where
   step_freed : (e : Event) (s : Step) → e.step ≡ s → AsksPhase s (phase_of w) → AreFreed xs
       → AreFreed (allocations_by c (left c front).now (flight_of (left c front).now e.seat) s xs)
   step_freed e Step.Grant is asks h = more_freed xs _ refl h
-  step_freed e (Step.Quar p v) is asks h =
-      let cell = cell_freed c.pages w (flight_of (left c front).now e.seat) p v in
-      changed_freed (freed_where_it_stands w cell) xs (freed_leaves w cell).none (freed_released w cell)
-      (λ a freed. freed_by (is_some_and (λ (x : Cell). stands_in w x a) cell) a freed) h
-  step_freed e Step.Begin is asks h =
-      changed_freed no_longer_fresh xs fresh_leaves.none (λ a. refl) (λ a freed. freed) h
+  step_freed e (Step.Quar p v) is asks h = grind (arith, changed_freed, xs, freed_leaves, freed_released, freed_by)
+  step_freed e Step.Begin is asks h = grind (arith, changed_freed, xs, fresh_leaves)
   step_freed e Step.Release is asks h = released_freed asks h
   step_freed e s is asks h = h
 
@@ -101,8 +96,7 @@ one_freed c front e whole h =
 
 all_freed : {c : Config} (front rest : List Event) → IsHistory c (front ++ rest)
     → AreFreed (left c front).allocations → AreFreed (left c (front ++ rest)).allocations
-all_freed {c} front [] whole h =
-    subst (λ (es : List Event). AreFreed (left c es).allocations) (sym (append-nil front)) h
+all_freed {c} front [] whole h = grind (arith, append-nil)
 all_freed {c} front (e ∷ rest) whole h =
     let parts = append_assoc front (e ∷ []) rest in
     let same : IsHistory c ((front ++ e ∷ []) ++ rest) = subst (IsHistory c) (sym parts) whole in

@@ -1,6 +1,6 @@
 -- What is kept once what was released is let go.
 use Rattle.std.proofs.{lemmas.List.Elements.filter-append, lemmas.List.Sums.fold-append, lemmas.List.Sums.sum_by_more}
-use Rattle.mk_trace.proofs.Vocabulary.{Freed, FreedObject, SettlesFreed, aged, filter, fold, in_a_word, objects_kept}
+use Rattle.mk_trace.proofs.Vocabulary.{Freed, FreedObject, SettlesFreed, aged, fold, in_a_word, objects_kept}
 use Rattle.mk_trace.proofs.Vocabulary.{still_kept, sum_by, take_all, take_more, with_one}
 use Rattle.mk_laws.proofs.Vocabulary.{Bool, List, ℕ, ap, arith, false, get_or, if◌then◌else◌, length, map, map-append}
 use Rattle.mk_laws.proofs.Vocabulary.{not, refl, subst, sym, take, true, [], ◌++◌, ◌+◌, ◌<◌, ◌∙◌, ◌∷◌, ◌≡◌, ◌≤◌}
@@ -45,11 +45,7 @@ kept_all freed found i kept all is =
 
 let_go_one : (freed : List ℕ) (objects : List FreedObject) (x : FreedObject) → ages_let_go freed (objects ++ x ∷ [])
     ≡ ages_let_go freed objects ++ ages_let_go freed (x ∷ [])
-let_go_one freed objects x =
-    ap (map (λ (y : FreedObject). y.age))
-    (filter-append (λ (y : FreedObject). not (is_freed_among freed y.cell)) objects (x ∷ []))
-    ∙ map-append (λ (y : FreedObject). y.age) (filter (λ (y : FreedObject). not (is_freed_among freed y.cell)) objects)
-    (filter (λ (y : FreedObject). not (is_freed_among freed y.cell)) (x ∷ []))
+let_go_one freed objects x = grind (arith, filter-append, map-append)
 
 one_by : (pairs : List (ℕ × ℕ)) (x : FreedObject) (b : Bool) → (if b then pairs else with_one pairs x.age)
     ≡ fold with_one pairs (map (λ (y : FreedObject). y.age) (if not b then x ∷ [] else []))

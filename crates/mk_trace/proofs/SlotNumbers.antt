@@ -34,10 +34,7 @@ one_more old new slots i from d this inside next is put known name =
 
 pub all_put : {S : Type 0} (numbers : HashMap (Bor (List ℕ)) ℕ S) (slots : List Slot) (i : ℕ) → i ≡ 0
     → AreNumbersFrom numbers i (drop i slots) → AreSlotNumbers numbers slots
-all_put numbers slots i none known name =
-    subst (λ n. AreNumbersFrom numbers n (drop n slots)) none known name
-    ∙ sym (position_from-zero (λ (slot : Slot). bytes_eq name slot.name) slots)
+all_put numbers slots i none known name = grind (arith, position_from-zero)
 
 pub number_within : (slots : List Slot) (name : List ℕ) {i : ℕ} → slot_number slots name ≡ Some i → i < length slots
-number_within slots name {i} is =
-    (position-Some (λ (slot : Slot). bytes_eq name slot.name) slots i (record { name = []; words = 0 }) is).0
+number_within slots name {i} is = grind (arith, position-Some)

@@ -19,8 +19,7 @@ type_among : (types before behind : List (List Kind)) (words : ℕ)
 type_among types before behind words is within =
     let slot = length before in
     let size : length (slot_type slot words) ≡ words = omega (arith, within.0, length-replicate (words - 1) Num) in
-    let here : kinds_of types slot ≡ slot_type slot words =
-    ap (λ (ts : List (List Kind)). kinds_of ts slot) is ∙ get_or-append_seam before (slot_type slot words) behind [] in
+    let here : kinds_of types slot ≡ slot_type slot words = grind (arith, get_or-append_seam) in
     let inside : slot < length types = omega
     (arith, ap length is, length-append before (slot_type slot words ∷ behind)) in
     let points : 0 < length (kinds_of types slot) = omega (arith, ap length here) in (
@@ -54,10 +53,7 @@ range_below first (suc count) limit h =
 -- The first of numbers that are left, and the others.
 pub range_more : (first count : ℕ) → first < count
     → range_with_len first (count - first) ≡ first ∷ range_with_len (first + 1) (count - (first + 1))
-range_more first count below = ap (range_with_len first) (left_is (count - (first + 1)) (omega (arith, below)))
-  where
-    left_is : (n : ℕ) → count - first ≡ suc n → count - first ≡ suc n
-    left_is n h = h
+range_more first count below = grind arith
 
 -- The heap that a trace is played on, from its parts.
 pub config_is : (trace : Contents) (pages resident count : ℕ) (slots : List ℕ) (types : List (List Kind))

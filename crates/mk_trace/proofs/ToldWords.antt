@@ -20,9 +20,7 @@ use Rattle.mk_trace.specs.{Calls.held_behind, Looking.LeavesTable, Looking.word_
 -- With looks alone the most is as it was.
 most_looked : (c : Config) (measure : List PlacedAllocation → ℕ) (es more : List Event)
     → has_step is_no_look more ≡ false → greatest c measure (es ++ more) ≡ greatest c measure es
-most_looked c measure es more looks =
-    let parts = from-append c measure (first_world c) es more in
-    omega (arith, parts, last_below c measure (first_world c) es, looks_measure c (left c es) measure more looks)
+most_looked c measure es more looks = grind (arith, from-append, last_below, looks_measure)
 
 word_found : (r : PassState) (x : Word) (others : List Event) → others ≡ []
     → found r.table.config (left r.table.config (r.seen ++ others)).now (event_of r (Step.Look x))
@@ -44,8 +42,7 @@ module _ {p q : PassState} {x : Word} {n : ℕ} (l : Looked p x n q) where
 
   leaves_table : (es more : List Event) → es ≡ p.seen ++ more → has_step is_no_look more ≡ false
       → LeavesTable (left c p.seen) (left c es)
-  leaves_table es more is looks =
-      subst (LeavesTable (left c p.seen)) (sym (ap (left c) is ∙ left_in_parts c _ more)) (looks_leave c _ more looks)
+  leaves_table es more is looks = grind (arith, left_in_parts, looks_leave, looks)
 
   leaves_taken : LeavesTable (left c p.seen) (left c at)
   leaves_taken = leaves_table at (first l) (taken_seen l) (first_lacks l is_no_look no_look)

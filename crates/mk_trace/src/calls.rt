@@ -1,5 +1,5 @@
 //! The calls of the one caller of a heap. Between them the host has its seat, and so has seen all.
-ghost use Rattle.std.specs.Prelude.{◌≡◌, ◌+◌, ◌<◌, ◌≤◌, length, IfOk, false};
+ghost use Rattle.std.specs.Prelude.{◌≡◌, ◌+◌, ◌<◌, ◌≤◌, IfOk, false};
 ghost use Rattle.mk_core.specs.Calls.{is_under_turn};
 ghost use Rattle.mk_core.specs.Counts.{ends};
 ghost use Rattle.mk_core.specs.History.{never_behind};
@@ -37,10 +37,8 @@ fn call<E: Engine, R: Threads + Wait + Sync>(
     requires home { CallerIsHome heap.now host.old }
     requires admitted { MayCome heap.now.config host.old.pass.seen op }
     requires made_for { E.made_for bench.old.engine ≡ heap.now.config.pages }
-    requires book { length bench.old.book ≡ heap.now.config.pages }
     ensures home { CallerIsHome heap.now host.new }
     ensures made_for { E.made_for bench.new.engine ≡ E.made_for bench.old.engine }
-    ensures book { length bench.new.book ≡ length bench.old.book }
     ensures calls { Calls heap.now.config host.old.pass.seen op result host.new.pass.seen }
     ensures held { HoldsMostAtEnd heap.now.config host.old.pass.seen host.new.pass.seen }
     ensures ends { E.on ≡ false → EndsTell heap.now.config host.old.pass.seen host.new.pass.seen }
@@ -82,13 +80,11 @@ fn answer<E: Engine, R: Threads + Wait + Sync>(
     requires few { ends host.old.pass.seen < 18446744073709551615 }
     requires admitted { MayCome heap.now.config host.old.pass.seen op }
     requires made_for { E.made_for bench.old.engine ≡ heap.now.config.pages }
-    requires book { length bench.old.book ≡ heap.now.config.pages }
     requires held { ledger.old.held ≡ most_held heap.now.config host.old.pass.seen }
     requires keeps { Keeps heap.now.config host.old.pass.seen ledger.old.freed }
     ensures home { CallerIsHome heap.now host.new }
     ensures idle { IsBetweenCycles heap.now.config host.new.pass.seen }
     ensures made_for { E.made_for bench.new.engine ≡ E.made_for bench.old.engine }
-    ensures book { length bench.new.book ≡ length bench.old.book }
     ensures calls { IfOk result (λ told. Calls heap.now.config host.old.pass.seen op told host.new.pass.seen) }
     ensures held { IfOk result (λ told. ledger.new.held ≡ most_held heap.now.config host.new.pass.seen) }
     ensures ends { IfOk result (λ told. ends host.new.pass.seen ≤ ends host.old.pass.seen + 1) }
@@ -129,13 +125,11 @@ pub(crate) fn refuses<E: Engine, R: Threads + Wait + Sync>(
     requires admitted { MayBePlayed heap.now.config host.old.pass.seen event }
     requires frees { FreesItsSlot (never_behind heap.now.config host.old.pass.seen) event }
     requires made_for { E.made_for bench.old.engine ≡ heap.now.config.pages }
-    requires book { length bench.old.book ≡ heap.now.config.pages }
     requires held { ledger.old.held ≡ most_held heap.now.config host.old.pass.seen }
     requires keeps { Keeps heap.now.config host.old.pass.seen ledger.old.freed }
     ensures home { CallerIsHome heap.now host.new }
     ensures idle { IsBetweenCycles heap.now.config host.new.pass.seen }
     ensures made_for { E.made_for bench.new.engine ≡ E.made_for bench.old.engine }
-    ensures book { length bench.new.book ≡ length bench.old.book }
     ensures plays { IfOk result (λ refused.
         PlaysEvent heap.now.config host.old.pass.seen event refused host.new.pass.seen) }
     ensures held { IfOk result (λ refused. ledger.new.held ≡ most_held heap.now.config host.new.pass.seen) }

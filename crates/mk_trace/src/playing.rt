@@ -1,5 +1,5 @@
 //! Playing traces.
-ghost use Rattle.std.specs.Prelude.{◌≡◌, ◌+◌, ◌<◌, [], false, length, if◌then◌else◌, IfOk};
+ghost use Rattle.std.specs.Prelude.{◌≡◌, ◌+◌, ◌<◌, [], false, if◌then◌else◌, IfOk};
 ghost use Rattle.mk_core.specs.Config.{IsWithinLimits};
 ghost use Rattle.mk_core.specs.Counts.{ends};
 ghost use Rattle.mk_trace.specs.Calls.{CallerIsHome, SameCalls, HasPlayed, most_held};
@@ -65,7 +65,6 @@ fn play_events<E: Engine, R: Threads + Wait + Sync>(
     requires none_ended { ends host.old.pass.seen ≡ 0 }
     requires no_call { SameCalls heap.now.config [] host.old.pass.seen }
     requires made_for { E.made_for bench.old.engine ≡ heap.now.config.pages }
-    requires book { length bench.old.book ≡ heap.now.config.pages }
     requires held { ledger.old.held ≡ most_held heap.now.config host.old.pass.seen }
     requires keeps { Keeps heap.now.config host.old.pass.seen ledger.old.freed }
     ensures home { CallerIsHome heap.now host.new }

@@ -1,7 +1,7 @@
 -- The words of a cell that is scanned, which point well one after the other.
 use Rattle.mk_laws.proofs.Vocabulary.{Cell, Words, ℕ, ap, arith, cases_lt, cell_words, first_word, has_no_pointers}
-use Rattle.mk_laws.proofs.Vocabulary.{header_in, inl, inr, points_well, refl, slice_index, subst, sym, true, ◌*◌, ◌+◌}
-use Rattle.mk_laws.proofs.Vocabulary.{◌-◌, ◌<◌, ◌∙◌, ◌≡◌, ◌≤◌}
+use Rattle.mk_laws.proofs.Vocabulary.{header_in, inl, inr, points_well, refl, slice_index, subst, sym, true, ◌+◌, ◌-◌}
+use Rattle.mk_laws.proofs.Vocabulary.{◌<◌, ◌∙◌, ◌≡◌, ◌≤◌}
 use Rattle.mk_tracing.{proofs.Blackened.cell_kept, proofs.Blackened.gray_kept, proofs.MoreMarks.more_same}
 use Rattle.mk_tracing.{proofs.MoreMarks.more_then, proofs.MoreMarks.well_more, specs.Grays.IsDue, specs.Grays.MarksMore}
 
@@ -55,15 +55,15 @@ one_scanned pages v y x cell i value same more found well =
           (subst (λ u. points_well pages x u ≡ true) found well);
     }
 
--- A group of words.
-pub group_scanned : (pages : ℕ) (v x : Words) (cell : Cell) (group : ℕ) → MarksMore v x
-    → ((i : ℕ) → i < 8 → points_well pages x (slice_index v.heap (first_word v cell + (8 * group + i))) ≡ true)
-    → ScannedTo pages v x cell (8 * group) (8 * (group + 1))
-group_scanned pages v x cell group more well =
+-- The words from one on, up to another.
+pub words_scanned : (pages : ℕ) (v x : Words) (cell : Cell) (first n : ℕ) → MarksMore v x
+    → ((i : ℕ) → first + i < n → points_well pages x (slice_index v.heap (first_word v cell + (first + i))) ≡ true)
+    → ScannedTo pages v x cell first n
+words_scanned pages v x cell first n more well =
     record {
       more = more;
       well = λ k le lt.
-          let at : 8 * group + (k - 8 * group) ≡ k = omega arith in
+          let at : first + (k - first) ≡ k = omega arith in
           subst (λ j. points_well pages x (slice_index v.heap (first_word v cell + j)) ≡ true) at
-          (well (k - 8 * group) (omega arith));
+          (well (k - first) (omega arith));
     }

@@ -12,7 +12,7 @@ use crate::stepping::look_among;
 use crate::values::mark_white;
 use crate::worklist::Worklist;
 use mk_core::Word;
-use mk_geom::{Cell, PAGE_WORDS, WORD_BYTES, heap_page, lookup};
+use mk_geom::{Cell, HEAP_START, PAGE_WORDS, WORD_BYTES, heap_page, lookup};
 use mk_words::{Stopped, Words};
 
 /// The header words of blocks for objects with pointers are 1 to this one: 1, and the class.
@@ -159,7 +159,24 @@ pub(crate) fn mark_and_note(
 /// Marks what the hand points into, and puts what is noted of it into the list. It isn't inlined: it is for values that
 /// seldom are addresses of the heap.
 #[inline(never)]
-pub(crate) fn mark_apart(
+fn mark_apart(words: &Words, stop: &mut Stopped, work: &mut Worklist, pages: u64, value: u64)
+    requires one_table { stop.old.pass.table ≡ words.now }
+    requires pages { pages ≡ words.now.config.pages }
+    requires wanted { IsWanted stop.old.pass }
+    requires hand { value ≢ 0 → IsInHand stop.old.pass value }
+    ensures on { MarksOn stop.old stop.new }
+    ensures more { MarksMore (still_words stop.old.pass) (still_words stop.new.pass) }
+    ensures well { points_well words.now.config.pages (still_words stop.new.pass) value ≡ true }
+    ensures noted { AreNoted words.now.config.pages (still_words stop.old.pass) work.old
+        → AreNoted words.now.config.pages (still_words stop.new.pass) work.new }
+{
+    let noted = mark_value(words, stop, work, pages, value);
+    work.extend(noted);
+}
+
+/// The same, where most values are before the heap, as null is: they are passed over.
+#[inline(always)]
+pub(crate) fn mark_address(
     words: &Words,
     stop: &mut Stopped,
     work: &mut Worklist,
@@ -176,6 +193,8 @@ pub(crate) fn mark_apart(
     ensures noted { AreNoted words.now.config.pages (still_words stop.old.pass) work.old
         → AreNoted words.now.config.pages (still_words stop.new.pass) work.new }
 {
-    let noted = mark_value(words, stop, work, pages, value);
-    work.extend(noted);
+    if value < HEAP_START {
+        return;
+    }
+    mark_apart(words, stop, work, pages, value);
 }

@@ -7,7 +7,7 @@ ghost use Rattle.mk_tracing.specs.Grays.{GlobalIsWell, RegistersAreWell, MarksMo
 ghost use Rattle.mk_tracing.specs.Noted.{AreNoted};
 ghost use Rattle.mk_tracing.specs.Stops.{IsWanted, is_root, still_words};
 
-use crate::noting::mark_apart;
+use crate::noting::mark_address;
 use crate::stepping::look_at_root;
 use crate::worklist::Worklist;
 use mk_core::Word;
@@ -38,10 +38,7 @@ fn mark_root(words: &Words, stop: &mut Stopped, work: &mut Worklist, pages: u64,
         → AreNoted words.now.config.pages (still_words stop.new.pass) work.new }
 {
     let value = look_at_root(words, stop, pages, x);
-    if value < HEAP_START {
-        return;
-    }
-    mark_apart(words, stop, work, pages, value);
+    mark_address(words, stop, work, pages, value);
 }
 
 /// Marks what a caller's registers point into.

@@ -7,7 +7,7 @@ ghost use Rattle.mk_tracing.specs.Noted.{AreNoted, IsNoted};
 ghost use Rattle.mk_tracing.specs.Stops.{IsWanted, still_words};
 
 use crate::noted::Noted;
-use crate::noting::{mark_and_note, mark_value};
+use crate::noting::{mark_address, mark_and_note, mark_value};
 use crate::stepping::look_at_word;
 use crate::worklist::Worklist;
 use mk_geom::{Cell, HEAP_START, PAGE_WORDS};
@@ -50,8 +50,8 @@ fn are_before_heap(
     all < HEAP_START
 }
 
-/// Looks at the words of a gray cell from one on, up to another, which stand on this page of the cell, where a cell was
-/// noted before. What one points into is marked before the next. Returns what was noted last.
+/// Looks at the words of a gray cell that stands on one page, from this word on, where a cell was noted before. What
+/// one points into is marked before the next. Returns what was noted last.
 #[inline(always)]
 fn scan_rest(
     words: &Words,
@@ -60,78 +60,70 @@ fn scan_rest(
     pages: u64,
     cell: Cell,
     size: u64,
-    part: u64,
     from: u64,
-    to: u64,
     noted: Noted,
 ) -> Noted
     requires one_table { stop.old.pass.table ≡ words.now }
     requires pages { pages ≡ words.now.config.pages }
     requires wanted { IsWanted stop.old.pass }
     requires due { IsDue words.now.config.pages (still_words stop.old.pass) cell size }
-    requires to { to ≤ size }
-    requires part { (i : ℕ) → from ≤ i → i < to → part ≡ i / 64 }
+    requires few { size ≤ 64 }
     requires one { IsNoted words.now.config.pages (still_words stop.old.pass) noted }
     ensures on { MarksOn stop.old stop.new }
     ensures more { MarksMore (still_words stop.old.pass) (still_words stop.new.pass) }
-    ensures well { (i : ℕ) → from ≤ i → i < to
+    ensures well { (i : ℕ) → from ≤ i → i < size
         → WordIsWell words.now.config stop.old.pass stop.new.pass cell i }
     ensures last { IsNoted words.now.config.pages (still_words stop.new.pass) result }
     ensures noted { AreNoted words.now.config.pages (still_words stop.old.pass) work.old
         → AreNoted words.now.config.pages (still_words stop.new.pass) work.new }
 {
     let mut last = noted;
-    for i in from..to {
-        let value = look_at_word(words, stop, pages, cell, size, part, i);
+    for i in from..size {
+        let value = look_at_word(words, stop, pages, cell, size, 0, i);
         last = mark_and_note(words, stop, work, pages, value, last);
     }
     last
 }
 
-/// The same, where none was noted yet. The loop ends with the first cell that is noted, so that it carries none: most
-/// cells point into one such cell, or none.
+/// Looks at each word of a gray cell that stands on one page, and marks what it points into. The loop ends with the
+/// first cell that is noted, so that it carries none: most cells point into one such cell, or none. Returns what was
+/// noted last.
 #[inline(always)]
-fn scan_words(
+fn scan_few(
     words: &Words,
     stop: &mut Stopped,
     work: &mut Worklist,
     pages: u64,
     cell: Cell,
     size: u64,
-    part: u64,
-    from: u64,
-    to: u64,
 ) -> Option<Noted>
     requires one_table { stop.old.pass.table ≡ words.now }
     requires pages { pages ≡ words.now.config.pages }
     requires wanted { IsWanted stop.old.pass }
     requires due { IsDue words.now.config.pages (still_words stop.old.pass) cell size }
-    requires to { to ≤ size }
-    requires part { (i : ℕ) → from ≤ i → i < to → part ≡ i / 64 }
+    requires few { size ≤ 64 }
     ensures on { MarksOn stop.old stop.new }
     ensures more { MarksMore (still_words stop.old.pass) (still_words stop.new.pass) }
-    ensures well { (i : ℕ) → from ≤ i → i < to
-        → WordIsWell words.now.config stop.old.pass stop.new.pass cell i }
+    ensures well { (i : ℕ) → i < size → WordIsWell words.now.config stop.old.pass stop.new.pass cell i }
     ensures last { IfSome result (IsNoted words.now.config.pages (still_words stop.new.pass)) }
     ensures noted { AreNoted words.now.config.pages (still_words stop.old.pass) work.old
         → AreNoted words.now.config.pages (still_words stop.new.pass) work.new }
 {
-    for i in from..to {
-        let value = look_at_word(words, stop, pages, cell, size, part, i);
+    for i in 0..size {
+        let value = look_at_word(words, stop, pages, cell, size, 0, i);
         let noted = mark_value(words, stop, work, pages, value);
         if let Some(one) = noted {
-            let last = scan_rest(words, stop, work, pages, cell, size, part, i + 1, to, one);
+            let last = scan_rest(words, stop, work, pages, cell, size, i + 1, one);
             return Some(last);
         }
     }
     None
 }
 
-/// Looks at each word of a group of a gray cell, and marks what it points into. It isn't inlined, since few groups have
-/// a word that may be an address of the heap. It is told the group, and not its first word, so that the loop over
-/// groups steps through the heap words alone.
-#[inline(never)]
-fn scan_apart(
+/// Looks at so many words of a gray cell, from one on, which stand on this page of the cell, and marks what they point
+/// into.
+#[inline(always)]
+fn scan_from(
     words: &Words,
     stop: &mut Stopped,
     work: &mut Worklist,
@@ -139,34 +131,26 @@ fn scan_apart(
     cell: Cell,
     size: u64,
     part: u64,
-    group: u64,
+    first: u64,
+    count: u64,
 )
     requires one_table { stop.old.pass.table ≡ words.now }
     requires pages { pages ≡ words.now.config.pages }
     requires wanted { IsWanted stop.old.pass }
     requires due { IsDue words.now.config.pages (still_words stop.old.pass) cell size }
-    requires group { 8 * group + 8 ≤ size }
-    requires part { part ≡ group / 8 }
+    requires within { first + count ≤ size }
+    requires part { (i : ℕ) → i < count → part ≡ (first + i) / 64 }
     ensures on { MarksOn stop.old stop.new }
     ensures more { MarksMore (still_words stop.old.pass) (still_words stop.new.pass) }
-    ensures well { (i : ℕ) → i < 8
-        → WordIsWell words.now.config stop.old.pass stop.new.pass cell (8 * group + i) }
+    ensures well { (i : ℕ) → i < count
+        → WordIsWell words.now.config stop.old.pass stop.new.pass cell (first + i) }
     ensures noted { AreNoted words.now.config.pages (still_words stop.old.pass) work.old
         → AreNoted words.now.config.pages (still_words stop.new.pass) work.new }
 {
-    let first = GROUP * group;
-    let last = scan_words(
-        words,
-        stop,
-        work,
-        pages,
-        cell,
-        size,
-        part,
-        first,
-        first + GROUP,
-    );
-    work.extend(last);
+    for i in 0..count {
+        let value = look_at_word(words, stop, pages, cell, size, part, first + i);
+        mark_address(words, stop, work, pages, value);
+    }
 }
 
 /// Looks at the words of a group of a gray cell, which stand on this page of the cell, and marks what they point into.
@@ -194,10 +178,11 @@ fn scan_group(
     ensures noted { AreNoted words.now.config.pages (still_words stop.old.pass) work.old
         → AreNoted words.now.config.pages (still_words stop.new.pass) work.new }
 {
-    if are_before_heap(words, stop, pages, cell, size, part, GROUP * group) {
+    let first = GROUP * group;
+    if are_before_heap(words, stop, pages, cell, size, part, first) {
         return;
     }
-    scan_apart(words, stop, work, pages, cell, size, part, group);
+    scan_from(words, stop, work, pages, cell, size, part, first, GROUP);
 }
 
 /// Looks at each word of the groups of a gray cell that stand on one page of it, and marks what it points into.
@@ -231,7 +216,7 @@ fn scan_part(
 }
 
 /// Looks at each word of a gray cell of at least eight words, a page of it after the other, and marks what it points
-/// into. Returns what was noted last.
+/// into.
 #[inline(always)]
 fn scan_groups(
     words: &Words,
@@ -240,7 +225,7 @@ fn scan_groups(
     pages: u64,
     cell: Cell,
     size: u64,
-) -> Option<Noted>
+)
     requires one_table { stop.old.pass.table ≡ words.now }
     requires pages { pages ≡ words.now.config.pages }
     requires wanted { IsWanted stop.old.pass }
@@ -248,7 +233,6 @@ fn scan_groups(
     ensures on { MarksOn stop.old stop.new }
     ensures more { MarksMore (still_words stop.old.pass) (still_words stop.new.pass) }
     ensures well { words_point_well words.now.config.pages (still_words stop.new.pass) cell ≡ true }
-    ensures last { IfSome result (IsNoted words.now.config.pages (still_words stop.new.pass)) }
     ensures noted { AreNoted words.now.config.pages (still_words stop.old.pass) work.old
         → AreNoted words.now.config.pages (still_words stop.new.pass) work.new }
 {
@@ -257,7 +241,8 @@ fn scan_groups(
         scan_part(words, stop, work, pages, cell, size, part);
     }
     scan_part(words, stop, work, pages, cell, size, last);
-    scan_words(
+    let first = GROUP * (size / GROUP);
+    scan_from(
         words,
         stop,
         work,
@@ -265,9 +250,9 @@ fn scan_groups(
         cell,
         size,
         last,
-        GROUP * (size / GROUP),
-        size,
-    )
+        first,
+        size - first,
+    );
 }
 
 /// Looks at each word of a gray cell, of this many, and marks what it points into. Most cells have few words. Returns
@@ -293,7 +278,8 @@ pub(crate) fn scan(
         → AreNoted words.now.config.pages (still_words stop.new.pass) work.new }
 {
     if size < GROUP {
-        return scan_words(words, stop, work, pages, cell, size, 0, 0, size);
+        return scan_few(words, stop, work, pages, cell, size);
     }
-    scan_groups(words, stop, work, pages, cell, size)
+    scan_groups(words, stop, work, pages, cell, size);
+    None
 }

@@ -7,18 +7,7 @@ use crossbeam_utils::Backoff;
 use mk_words::Words;
 use std::marker::Model;
 use std::sync::Wait;
-use std::thread::yield_now;
 use std::time::Duration;
-
-/// How often one who waits for the turn spins before it yields: all in all for less than a turn lasts. To spin for
-/// longer takes the words of the turn away from a holder who wants it again at once.
-const SPINS_FOR_TURN: u32 = 4;
-
-/// How often one who waits for a gate or a phase spins: as often as `Backoff` spins for longer each time.
-const SPINS: u32 = 7;
-
-/// How often one yields before it sleeps.
-const YIELDS: u32 = 4;
 
 /// The first sleep, in microseconds. Linux ends a sleep up to 50 microseconds late, so none is shorter.
 const FIRST: u64 = 50;
@@ -26,13 +15,12 @@ const FIRST: u64 = 50;
 /// The longest sleep: less than a scheduler lets a thread run, so one who sleeps loses little by it.
 const LONGEST: u64 = 1000;
 
-/// One who waits: it spins a few times, each time twice as long as before, then leaves the processor to others a few
+/// One who waits: it pauses as `Backoff` does, which spins for longer each time and then yields the processor a few
 /// times, and then sleeps, each time twice as long as before. After a sleep it spins again, since one look alone may
 /// often come too early or too late. It is seen as its next sleep, in microseconds.
 #[derive(Drop)]
 pub struct Patience {
     backoff: Backoff,
-    pauses: u32,
     micros: u64,
 }
 
@@ -54,7 +42,6 @@ impl Patience {
     {
         Patience {
             backoff: Backoff::new(),
-            pauses: 0,
             micros: FIRST,
         }
     }
@@ -64,38 +51,30 @@ impl Patience {
         ensures { self.new ≡ first_sleep }
     {
         self.backoff.reset();
-        self.pauses = 0;
         self.micros = FIRST;
     }
 
     /// Spins or yields once, or returns how long to sleep.
-    fn pause(&mut self, spins: u32) -> Option<Duration>
-        requires few { spins ≤ 7 }
+    fn pause(&mut self) -> Option<Duration>
         ensures awake { IfNone result (self.new ≡ self.old) }
         ensures sleep { IfSome result (λ sleep. as_nanos sleep ≡ 1000 * self.old) }
         ensures longer { IfSome result (λ sleep. self.new ≡ sleep_after self.old) }
     {
-        if self.pauses >= spins + YIELDS {
-            let sleep = Duration::from_micros(self.micros);
-            self.micros = (2 * self.micros).min(LONGEST);
-            self.backoff.reset();
-            self.pauses = 0;
-            return Some(sleep);
+        if !self.backoff.is_completed() {
+            self.backoff.snooze();
+            return None;
         }
-        if self.pauses < spins {
-            self.backoff.spin();
-        } else {
-            yield_now();
-        }
-        self.pauses += 1;
-        None
+        let sleep = Duration::from_micros(self.micros);
+        self.micros = (2 * self.micros).min(LONGEST);
+        self.backoff.reset();
+        Some(sleep)
     }
 
     /// Pauses once, where another has the turn.
     pub fn pause_for_turn<R: Wait>(&mut self, rt: &R, words: &Words)
         ensures { PausesOnce self.old self.new }
     {
-        if let Some(sleep) = self.pause(SPINS_FOR_TURN) {
+        if let Some(sleep) = self.pause() {
             words.sleep_on_turn(rt, sleep);
         }
     }
@@ -104,7 +83,7 @@ impl Patience {
     pub fn pause_for_phase<R: Wait>(&mut self, rt: &R, words: &Words, phase: u64)
         ensures { PausesOnce self.old self.new }
     {
-        if let Some(sleep) = self.pause(SPINS) {
+        if let Some(sleep) = self.pause() {
             words.sleep_on_phase(rt, phase, sleep);
         }
     }
@@ -114,7 +93,7 @@ impl Patience {
         requires { caller < words.now.config.callers }
         ensures { PausesOnce self.old self.new }
     {
-        if let Some(sleep) = self.pause(SPINS) {
+        if let Some(sleep) = self.pause() {
             words.sleep_on_gate(rt, caller, sleep);
         }
     }

@@ -1,20 +1,16 @@
 -- How many entries of a table there are, and how large tables are.
 use Rattle.std.proofs.lemmas.List.Sums.{count_by-le-length, sum_by-cons, sum_by-set}
-use Rattle.std.proofs.Common.{count_by, min}
-use Rattle.mk_laws.proofs.Vocabulary.{Bool, List, None, Option, Some, ℕ, ap, arith, cond, eqb-true, false}
-use Rattle.mk_laws.proofs.Vocabulary.{if◌then◌else◌, is_some, length, length-set, refl, slice_index_or, slice_set, suc}
-use Rattle.mk_laws.proofs.Vocabulary.{sym, true, [], ◌*◌, ◌+◌, ◌<◌, ◌==◌, ◌∙◌, ◌∷◌, ◌≡◌, ◌≤◌}
+use Rattle.std.proofs.Common.{count_by}
+use Rattle.mk_laws.proofs.Vocabulary.{List, None, Option, Some, ℕ, ap, arith, cond, eqb-true, false, is_some, length}
+use Rattle.mk_laws.proofs.Vocabulary.{length-set, refl, slice_index_or, slice_set, suc, [], ◌*◌, ◌+◌, ◌<◌, ◌∷◌, ◌≡◌}
+use Rattle.mk_laws.proofs.Vocabulary.{◌≤◌}
 use Rattle.mk_why.specs.{Sizes.pages_for, States.WhyState}
 
 -- How many entries of a table there are, with one more, and with none.
 
 pub more_counted : {A : Type 0} → (xs : List (Option A)) (i : ℕ) (x : A) → i < length xs
     → is_some (slice_index_or xs i None) ≡ false → count_by is_some (slice_set xs i (Some x)) ≡ count_by is_some xs + 1
-more_counted {A} xs i x lt none =
-    let e : count_by is_some (slice_set xs i (Some x)) + cond {A = ℕ} (is_some (slice_index_or xs i None)) 1 0
-    ≡ count_by is_some xs + 1 = sum_by-set (λ (y : Option A). cond (is_some y) 1 0) xs i (Some x) None lt in
-    let zero_there : cond {A = ℕ} (is_some (slice_index_or xs i None)) 1 0 ≡ 0 = ap (λ b. cond {A = ℕ} b 1 0) none in
-    omega arith
+more_counted {A} xs i x lt none = grind (arith, sum_by-set)
 
 pub room_left : {A : Type 0} → (xs : List (Option A)) (i : ℕ) (x : A) → i < length xs
     → is_some (slice_index_or xs i None) ≡ false → count_by is_some xs < length xs
@@ -38,21 +34,10 @@ none_counted {A} (y ∷ ys) none =
 -- Tables that fit the inner engine.
 
 of_pages : (inner size n : ℕ) → pages_for inner size ≡ n → 1 ≤ n → n ≤ 4096 → (inner ≡ n) × (size ≡ 64 * n)
-of_pages inner size n is some few = by (size == 64 * min inner 4096) refl
-  where
-    by : (b : Bool) → (size == 64 * min inner 4096) ≡ b → (inner ≡ n) × (size ≡ 64 * n)
-    by true e =
-        let same : inner ≡ n = sym (ap (λ x. if x then inner else 0) e) ∙ is in
-        let fits = eqb-true size (64 * min inner 4096) e in
-        (same, omega arith)
-    by false e =
-        let none : 0 ≡ n = sym (ap (λ x. if x then inner else 0) e) ∙ is in
-        absurd (omega arith)
+of_pages inner size n is some few = grind (arith, eqb-true)
 
 -- the inner engine and the table of the fields, where what contracts see of them is made for this many pages
 pub of_state : {E : Type 0} (made_for : E → ℕ) (fields state : WhyState E) (n : ℕ) → fields ≡ state
     → pages_for (made_for state.inner) (length state.found) ≡ n → 1 ≤ n → n ≤ 4096
     → (made_for fields.inner ≡ n) × (length fields.found ≡ 64 * n)
-of_state {E} made_for fields state n same is =
-    of_pages (made_for fields.inner) (length fields.found) n
-    (ap (λ (s : WhyState E). pages_for (made_for s.inner) (length s.found)) same ∙ is)
+of_state {E} made_for fields state n same is = grind (arith, of_pages)

@@ -1,7 +1,7 @@
 -- Why objects are kept at the closes of two small cycles: by a register, by a chain of one link, and by no chain.
 use Rattle.mk_why.proofs.Vocabulary.{Config, Global, IsWhy, Register, Root, World, word_of_root}
 use Rattle.mk_laws.proofs.Vocabulary.{Bool, List, None, Some, ℕ, arith, false, false≢true, leb-true, ltb-true, refl}
-use Rattle.mk_laws.proofs.Vocabulary.{small, subst, true, zero, [], ◌*◌, ◌+◌, ◌∷◌, ◌≡◌}
+use Rattle.mk_laws.proofs.Vocabulary.{small, subst, true, zero, [], ◌∷◌, ◌≡◌}
 use Rattle.mk_core.proofs.ListTests.{list_all-at, numbered_all}
 use Rattle.mk_core.proofs.Schedules.{by, c0, host, pointer_page}
 use Rattle.mk_core.proofs.SmallCycles.{begun_in_stop, marked_in_stop, three_objects}
@@ -14,8 +14,7 @@ use Rattle.mk_why.specs.Chains.{IsChain, NoneIsShorter}
 module _ (c : Config) (w : World) (S : ℕ → Bool) (registers : all_into c w S w.now.words.registers ≡ true)
     (globals : all_into c w S w.now.words.globals ≡ true) where
   root_into : (root : Root) → is_into_members c w S (word_of_root w.now.words root) ≡ true
-  root_into (Register caller register) =
-      list_all-at (is_into_members c w S) w.now.words.registers 0 registers refl (8 * caller + register)
+  root_into (Register caller register) = grind (arith, list_all-at, is_into_members)
   root_into (Global global) = list_all-at (is_into_members c w S) w.now.words.globals 0 globals refl global
 
   begins_in : (root : Root) (links : List ℕ) (b : ℕ) (chain : IsChain c w root links b) → S chain.first ≡ true
@@ -38,33 +37,11 @@ globals_into_first = refl
 
 pub chain_to_first : IsChain small stopped (Register 0 0) [] 0
 unfolding left_from all_below pointed_cell begun_in_stop three_objects marked_in_stop
-chain_to_first =
-    record {
-      first = 0;
-      there = (ltb-true 0 1 refl, ltb-true 0 8 refl);
-      points = (refl, (leb-true 65536 65536 refl, (leb-true 0 0 refl, ltb-true 0 2 refl)));
-      leads = refl;
-    }
+chain_to_first = grind (arith, ltb-true, leb-true)
 
 chain_to_second : IsChain small stopped (Register 0 0) (65536 ∷ []) 1
 unfolding left_from all_below pointed_cell begun_in_stop three_objects marked_in_stop
-chain_to_second =
-    record {
-      first = 0;
-      there = (ltb-true 0 1 refl, ltb-true 0 8 refl);
-      points = (refl, (leb-true 65536 65536 refl, (leb-true 0 0 refl, ltb-true 0 2 refl)));
-      leads = (
-        1,
-        record {
-          word = 0;
-          address = refl;
-          scanned = refl;
-          of_the_one = (leb-true 0 0 refl, ltb-true 0 2 refl);
-          to_the_other = (refl, (leb-true 65536 65552 refl, (leb-true 2 2 refl, ltb-true 2 4 refl)));
-        },
-        refl,
-      );
-    }
+chain_to_second = grind (arith, ltb-true, leb-true)
 
 -- No root's word points into the second.
 none_is_shorter : NoneIsShorter small stopped 1 1

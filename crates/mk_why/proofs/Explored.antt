@@ -5,8 +5,8 @@ use Rattle.mk_why.proofs.Vocabulary.{IsSearch, IsSearched, IsWay, LinksLead, Poi
 use Rattle.mk_why.proofs.Vocabulary.{Tables, View, Words, base_at, entry_at, is_scanned_allocation, is_still_word}
 use Rattle.mk_why.proofs.Vocabulary.{is_word, links_in, links_of, named_word, placed_at, storage_of, word_of_root}
 use Rattle.mk_why.proofs.Vocabulary.{world_in}
-use Rattle.mk_laws.proofs.Vocabulary.{IsWordOf, List, Option, ℕ, and_from, ap, arith, length, lt-ltb, nat_lt, refl}
-use Rattle.mk_laws.proofs.Vocabulary.{slice_index, subst, sym, true, [], ◌*◌, ◌+◌, ◌<◌, ◌∙◌, ◌∷◌, ◌≡◌, ◌≤◌}
+use Rattle.mk_laws.proofs.Vocabulary.{IsWordOf, List, Option, ℕ, and_from, ap, arith, length, lt-ltb, refl, slice_index}
+use Rattle.mk_laws.proofs.Vocabulary.{subst, sym, true, [], ◌*◌, ◌+◌, ◌<◌, ◌∷◌, ◌≡◌, ◌≤◌}
 use Rattle.mk_why.proofs.Searches.{Stays, links_stay, noted_stays, same_links}
 use Rattle.mk_why.specs.Searching.{IsExplored, IsFoundAt, IsFoundWithin, IsOnward, PointsAtBase, root_word}
 use Rattle.mk_why.specs.Chains.{IsRoot}
@@ -23,41 +23,24 @@ pub onward_way : (c : Config) (v : View) {found : List (Option Found)} {base : �
     → HasScanned c v base n
     → IsFoundThrough found base links → (value : ℕ) → value ≡ slice_index v.words.heap n
     → PointsIntoAllocation c (world_in v) value b → IsOnward c v found (65536 + 8 * n) base (links + 1) b
-onward_way c v n b x through value is points =
-    record {
-      number = x.0;
-      begins = x.1;
-      onward = record {
-        word = n;
-        address = refl;
-        scanned = x.2;
-        of_the_one = x.3;
-        to_the_other = subst (λ u. PointsIntoAllocation c (world_in v) u b) is points;
-      };
-      before = through.entry;
-      there = through.there;
-      one_more = ap (λ k. k + 1) (sym through.through);
-    }
+onward_way c v n b x through value is points = grind arith
 
 -- A way to whatever a value points into leads to what begins at the base.
 pub found_by : {c : Config} {v : View} (found : List (Option Found)) {value base : ℕ} (f : Found)
     → PointsAtBase c v value base
     → ((b : ℕ) → PointsIntoAllocation c (world_in v) value b → IsWay c v found f.way f.links b)
     → IsFoundAt c v found base f
-found_by found f x way =
-    record { number = x.number; unreleased = x.points.0; is = x.is; way = way x.number x.points }
+found_by found f x way = grind arith
 
 -- Where that was found, so was whatever the value points into.
 pub noted_by : {c : Config} {v : View} {found : List (Option Found)} {value base limit : ℕ}
     → PointsAtBase c v value base → IsFoundWithin found base limit → IsNoted c v found value limit
-noted_by {v} {found} {limit} x within b points =
-    subst (λ n. IsFoundWithin found n limit) (sym (ap (base_at v) (x.only b points) ∙ x.is)) within
+noted_by {v} {found} {limit} x within b points = grind arith
 
 -- Roots as words that are looked at.
 
 pub root_is_word : (c : Config) (root : Root) → IsRoot c root → is_word c (root_word root) ≡ true
-root_is_word c (Register caller register) is =
-    and_from (nat_lt caller c.callers) (nat_lt register 8) (lt-ltb caller c.callers is.0) (lt-ltb register 8 is.1)
+root_is_word c (Register caller register) is = grind (arith, and_from, lt-ltb)
 root_is_word c (Global global) is = lt-ltb global 64 is
 
 pub root_is_still : (root : Root) → is_still_word (root_word root) ≡ true
@@ -109,9 +92,7 @@ module _ (c : Config) (v : View) (found : List (Option Found))
     (done : (base : ℕ) → IsFound found base → IsSearched c v found base) where
   leads_within : (links : List ℕ) (a b n : ℕ) → IsFoundWithin found (base_at v a) n → LinksLead c (world_in v) a links b
       → IsFoundWithin found (base_at v b) (n + length links)
-  leads_within [] a b n x leads =
-      let y : IsFoundWithin found (base_at v b) n = subst (λ k. IsFoundWithin found (base_at v k) n) leads x in
-      record { entry = y.entry; there = y.there; near = let low = y.near in omega arith }
+  leads_within [] a b n x leads = grind arith
   leads_within (link ∷ links) a b n x leads =
       let next = leads.0 in
       let y = done (base_at v a) (record { entry = x.entry; there = x.there }) a leads.1.word refl leads.1.scanned

@@ -2,12 +2,12 @@
 use Rattle.mk_why.proofs.Vocabulary.{AreOfKept, Cell, Config, IsHistory, IsListed, IsStill, ListsOn, PassState}
 use Rattle.mk_why.proofs.Vocabulary.{PlacedAllocation, Storage, Tables, View, WordsState, base_at, cell_of_allocation}
 use Rattle.mk_why.proofs.Vocabulary.{entry_at, first_word, has_bit, header_at, header_in, header_of, is_kept}
-use Rattle.mk_why.proofs.Vocabulary.{never_behind, now_of, object_placed, placed_at, storage_words, view_by}
-use Rattle.mk_why.proofs.Vocabulary.{words_under, world_in, world_of}
+use Rattle.mk_why.proofs.Vocabulary.{never_behind, now_of, placed_at, storage_words, view_by, words_under, world_in}
+use Rattle.mk_why.proofs.Vocabulary.{world_of}
 use Rattle.mk_laws.proofs.Vocabulary.{Bool, Invariant, List, None, Option, Some, ℕ, and_from, and_parts, ap, arith}
 use Rattle.mk_laws.proofs.Vocabulary.{cases_eq, cases_lt, cell_words, cells_begin, cells_under, false, get_or-set_other}
 use Rattle.mk_laws.proofs.Vocabulary.{get_or-set_same, inl, inr, is_cycling, is_marked, length, length-set, not}
-use Rattle.mk_laws.proofs.Vocabulary.{not-true, refl, slice_index, slice_set, subst, sym, true, true≢false, typed_size}
+use Rattle.mk_laws.proofs.Vocabulary.{not-true, refl, slice_index, slice_set, subst, sym, true, typed_size}
 use Rattle.mk_laws.proofs.Vocabulary.{words_within, ◌&&◌, ◌*◌, ◌+◌, ◌/◌, ◌<◌, ◌^◌, ◌∙◌, ◌≡◌, ◌≢◌}
 use Rattle.mk_core.proofs.{PointedAllocations.marked_where_its_cell_is, StandingAllocations.cell_is_known}
 use Rattle.mk_core.specs.ClosedMarks.{is_marked_allocation}
@@ -56,9 +56,7 @@ module _ (p : PassState) (history : IsHistory p.table.config p.seen) (still : Is
   marked_of : (b : ℕ) → (placed_at (world_of p).allocations b).released ≡ false
       → is_marked_allocation p.table.config (now_of p).words (placed_at (world_of p).allocations b)
       ≡ is_marked (now_of p).words (cell_of_allocation p.table.config (placed_at (world_of p).allocations b))
-  marked_of b u =
-      let st = stands b u in
-      marked_where_its_cell_is c (now_of p).words (a b) history.within_limits st.stands st.headers
+  marked_of b u = grind (arith, stands, marked_where_its_cell_is)
 
   pub kept_cell : (cell : Cell) → has_bit (slice_index (now_of p).words.snapshot cell.page) cell.index ≡ true
       → has_bit (slice_index (now_of p).words.marks cell.page) cell.index ≡ true
@@ -72,16 +70,12 @@ module _ (p : PassState) (history : IsHistory p.table.config p.seen) (still : Is
       let x : PlacedAllocation = a b in
       let st = stands b f.unreleased in
       let begins = cells_begin c (now_of p).words x history.within_limits st.stands st.headers in
-      let bit : (x.freed && not x.fresh) ≡ true = sym (snapshot_of b f.unreleased)
-      ∙ ap (λ (y : Cell). has_bit (slice_index (now_of p).words.snapshot y.page) y.index) f.cell ∙ in_snapshot in
+      let bit : (x.freed && not x.fresh) ≡ true = grind (arith, snapshot_of) in
       let parts = and_parts x.freed (not x.fresh) bit in
-      let of_cycle : is_in_snapshot_of_cycle x ≡ true = and_from (x.freed && not x.released) (not x.fresh)
-      (and_from x.freed (not x.released) parts.0 (ap not f.unreleased)) parts.1 in
-      let has_mark : is_marked_allocation c (now_of p).words x ≡ true = marked_of b f.unreleased
-      ∙ ap (is_marked (now_of p).words) f.cell ∙ marked in
+      let of_cycle : is_in_snapshot_of_cycle x ≡ true = grind (arith, and_from) in
+      let has_mark : is_marked_allocation c (now_of p).words x ≡ true = grind (arith, marked_of) in
       let is : x.base ≡ first_word (now_of p).words cell = sym begins.0 ∙ ap (first_word (now_of p).words) f.cell in
-      let words : cell_words (now_of p).words cell ≡ storage_words c x =
-      sym (ap (cell_words (now_of p).words) f.cell) ∙ begins.1 in
+      let words : cell_words (now_of p).words cell ≡ storage_words c x = grind arith in
       record {
         number = b;
         kept = and_from (is_in_snapshot_of_cycle x) (is_marked_allocation c (now_of p).words x) of_cycle has_mark;
@@ -92,12 +86,7 @@ module _ (p : PassState) (history : IsHistory p.table.config p.seen) (still : Is
     where
       begins_below : (b : ℕ) → (placed_at (world_of p).allocations b).released ≡ false
           → (placed_at (world_of p).allocations b).base < 64 * p.table.config.pages
-      begins_below b u =
-          let st = stands b u in
-          let some = (words_within (object_placed c (a b)) (typed_size c (a b) history.within_limits st.stands.typed)).0
-          in
-          let end = st.stands.within in
-          omega arith
+      begins_below b u = grind (arith, stands, words_within, typed_size)
 
   pub has_kept_cell : (b : ℕ) → is_kept p.table.config (world_in (view_by p)) b ≡ true
       → HasKeptCell p.table.config (view_by p) b
@@ -144,30 +133,12 @@ module _ (p : PassState) (history : IsHistory p.table.config p.seen) (still : Is
   has_kept_on : (b : ℕ) → is_kept p.table.config (world_in (view_by p)) b ≡ true
       → (cell_of_allocation p.table.config (placed_at (world_of p).allocations b)).page ≡ page
       → HasKeptCell p.table.config (view_by p) b page size (cells_under (header_of header)) snapshot marks
-  has_kept_on b kept at_page =
-      let on_page : (n : ℕ) → Type 0 = λ n. HasKeptCell p.table.config (view_by p) b n
-      (words_under (header_in (now_of p).words n)) (cells_under (header_in (now_of p).words n))
-      (slice_index (now_of p).words.snapshot n) (slice_index (now_of p).words.marks n) in
-      let x : on_page page = subst on_page at_page (has_kept_cell p history still b kept) in
-      record {
-        known = subst (λ h. (cell_of_allocation p.table.config (placed_at (world_of p).allocations b)).index
-            < cells_under (header_of h)) (sym shown) x.known;
-        in_snapshot = ap (λ n. has_bit n (cell_of_allocation p.table.config
-            (placed_at (world_of p).allocations b)).index) snapshots ∙ x.in_snapshot;
-        marked = ap (λ n. has_bit n (cell_of_allocation p.table.config (placed_at (world_of p).allocations b)).index)
-            bits ∙ x.marked;
-        is = x.is ∙ ap (λ n. 64 * page + (cell_of_allocation p.table.config
-            (placed_at (world_of p).allocations b)).index * n) (sym size_is);
-      }
+  has_kept_on b kept at_page = grind (arith, has_kept_cell, size_is)
 
   pub has_kept_at : (b : ℕ) → is_kept k.config (world_in (view_by p)) b ≡ true
       → (cell_of_allocation k.config (placed_at (view_by p).allocations b)).page ≡ page
       → HasKeptCell k.config (view_by p) b page size (cells_under (header_of header)) snapshot marks
-  has_kept_at b =
-      subst (λ (t : WordsState). is_kept t.config (world_in (view_by p)) b ≡ true
-      → (cell_of_allocation t.config (placed_at (view_by p).allocations b)).page ≡ page
-      → HasKeptCell t.config (view_by p) b page size (cells_under (header_of header)) snapshot marks) same
-      (has_kept_on b)
+  has_kept_at b = grind (arith, has_kept_on)
 
 -- One cell more.
 
@@ -175,13 +146,7 @@ pub lists_nothing : (c : Config) (v : View) (r : Tables) → AreOfKept c v r.kep
 lists_nothing c v r of_kept = record { size = refl; of_kept = of_kept; stays = λ base x. x; found = refl }
 
 pub lists_then : {c : Config} {v : View} {r s x : Tables} → ListsOn c v r s → ListsOn c v s x → ListsOn c v r x
-lists_then one two =
-    record {
-      size = two.size ∙ one.size;
-      of_kept = two.of_kept;
-      stays = λ base y. two.stays base (one.stays base y);
-      found = two.found ∙ one.found;
-    }
+lists_then one two = grind arith
 
 -- what is listed of a cell after it
 pub record ListsCell (c : Config) (v : View) (r s : Tables) (base : ℕ) (in_snapshot marked : Bool) : Type 0 where
@@ -255,16 +220,8 @@ pub lists_cell : (c : Config) (v : View) (r s : Tables) (cell : Cell) (size : �
 lists_cell c v r s cell size true true of_kept all kept found set outside unmarked =
     let x = kept refl refl in
     sets_cell c v r s cell size of_kept (let low = x.within in omega arith) x found (set refl refl)
-lists_cell c v r s cell size false marked of_kept all kept found set outside unmarked =
-    record {
-      on = subst (ListsOn c v r) (sym (outside refl)) (lists_nothing c v r of_kept);
-      listed = λ one two. absurd (true≢false (sym one));
-    }
-lists_cell c v r s cell size true false of_kept all kept found set outside unmarked =
-    record {
-      on = subst (ListsOn c v r) (sym (unmarked refl)) (lists_nothing c v r of_kept);
-      listed = λ one two. absurd (true≢false (sym two));
-    }
+lists_cell c v r s cell size false marked of_kept all kept found set outside unmarked = grind (arith, lists_nothing)
+lists_cell c v r s cell size true false of_kept all kept found set outside unmarked = grind (arith, lists_nothing)
 
 pub cells_more : {c : Config} {v : View} {r s : Tables} (page size count snapshot marks index : ℕ)
     {in_snapshot marked : Bool} → in_snapshot ≡ has_bit snapshot index → marked ≡ has_bit marks index
@@ -301,23 +258,7 @@ snapshot_read p history page n is =
 pub kept_page : (p : PassState) → IsHistory p.table.config p.seen → (k : WordsState) → p.table ≡ k → (b : ℕ)
     → is_kept k.config (world_in (view_by p)) b ≡ true
     → (cell_of_allocation k.config (placed_at (view_by p).allocations b)).page < k.config.pages
-kept_page p history k same b =
-    subst (λ (t : WordsState). is_kept t.config (world_in (view_by p)) b ≡ true
-    → (cell_of_allocation t.config (placed_at (view_by p).allocations b)).page < t.config.pages) same here
-  where
-    here : is_kept p.table.config (world_in (view_by p)) b ≡ true
-        → (cell_of_allocation p.table.config (placed_at (view_by p).allocations b)).page < p.table.config.pages
-    here kept =
-        let x : PlacedAllocation = placed_at (world_of p).allocations b in
-        let parts = and_parts (is_in_snapshot_of_cycle x) (is_marked_allocation p.table.config (now_of p).words x) kept
-        in
-        let cycle = and_parts (x.freed && not x.released) (not x.fresh) parts.0 in
-        let u : x.released ≡ false = not-true x.released (and_parts x.freed (not x.released) cycle.0).1 in
-        let st = allocations_stand p.table.config p.seen history b u in
-        let some = (words_within (object_placed p.table.config x)
-        (typed_size p.table.config x history.within_limits st.stands.typed)).0 in
-        let end = st.stands.within in
-        omega arith
+kept_page p history k same b = grind (arith, and_parts, not-true, allocations_stand, words_within, typed_size)
 
 pub none_listed : (c : Config) (v : View) (kept : List (Option Storage)) → ((base : ℕ) → entry_at kept base ≡ None)
     → AreOfKept c v kept
@@ -330,8 +271,4 @@ pub pages_more : {c : Config} {v : View} {r s : Tables} (page : ℕ) → ListsOn
     → IsListed s.kept.items (base_at v b))
     → (b : ℕ) → is_kept c (world_in v) b ≡ true → (cell_of_allocation c (placed_at v.allocations b)).page < page + 1
     → IsListed s.kept.items (base_at v b)
-pages_more {c} {v} page on before here b kept lt =
-    elim (cases_lt (cell_of_allocation c (placed_at v.allocations b)).page page) [
-      | inl low ↦ on.stays (base_at v b) (before b kept low)
-      | inr high ↦ here b kept (omega arith)
-    ]
+pages_more {c} {v} page on before here b kept lt = grind (arith, cases_lt)

@@ -4,7 +4,7 @@ use Rattle.std.proofs.{Common.count_by, lemmas.List.append_cancel_left}
 use Rattle.mk_why.proofs.Vocabulary.{Config, Event, IsHistory, IsStill, LooksOn, PassState, PlacedAllocation, TurnState}
 use Rattle.mk_why.proofs.Vocabulary.{View, Words, World, is_word, left, now_of, others_are_held, phase_of, view_by}
 use Rattle.mk_why.proofs.Vocabulary.{view_of}
-use Rattle.mk_laws.proofs.Vocabulary.{AreOfOthers, Bool, List, MarkerState, Moment, Steady, Step, TurnIsLeft, Word, ℕ}
+use Rattle.mk_laws.proofs.Vocabulary.{AreOfOthers, Bool, List, MarkerState, Moment, Step, TurnIsLeft, Word, ℕ}
 use Rattle.mk_laws.proofs.Vocabulary.{all_below, and_from, and_parts, ap, append_assoc, arith, cond, enabled_meets}
 use Rattle.mk_laws.proofs.Vocabulary.{eq-eqb, false, has_closed_page, is_attending, lt-ltb, none_attends, not, not-true}
 use Rattle.mk_laws.proofs.Vocabulary.{outside, page_at_address, refl, roots_point_well, slice_index_or, suc, sym, true}
@@ -24,8 +24,7 @@ use Rattle.mk_turns.proofs.{PointedCells.looked_for, Sweeping.does_sweep, Sweepi
 use Rattle.mk_turns.specs.{Doing.Does, Doing.are_of, Doing.count_done, Doing.done_in, Pointing.LooksForCell}
 use Rattle.mk_turns.specs.{Pointing.MayLookAtHeaders, Sweeping.HaveNoMark, Sweeping.SweepsNothing}
 use Rattle.mk_why.specs.Stops.{is_look}
-use Rattle.mk_words.proofs.Seats.{others_own}
-use Rattle.mk_words.specs.{States.event_of, Steps.IsAdmittedTo, Steps.IsEnabledTo, TurnSteps.Acts}
+use Rattle.mk_words.{proofs.Seats.others_own, specs.Steps.IsAdmittedTo, specs.Steps.IsEnabledTo, specs.TurnSteps.Acts}
 
 -- Looks leave the view as it is, and so does what others do in the stop.
 
@@ -34,9 +33,7 @@ view_from w xs = record { words = w; allocations = xs }
 
 pub view_left : {w v : World} → TurnIsLeft w v → written_of v ≡ written_of w → phase_of w.now.words ≡ 2
     → NoneAttends w.now → view_of v ≡ view_of w
-view_left {w} {v} turn written two none =
-    ap (λ (x : Words). view_from x v.allocations) (words_left turn written two none)
-    ∙ ap (λ (x : Steady). view_from (view_of w).words x.allocations) turn.steady
+view_left {w} {v} turn written two none = grind (arith, view_from, words_left)
 
 -- Any word may be looked at.
 module _ (p : PassState) (turn : InTurn p) (gates : others_are_held p.table.config.callers (now_of p).words p.seat
@@ -62,13 +59,7 @@ module _ (t u : TurnState) (x : Word) (a : Acts t.pass (Step.Look x) u.pass)
       calm_keeps t.pass (Step.Look x) u.pass a (in_turn_before a) a.makes.pass.history refl still.free but_phase refl
 
   still_behind : IsStill u.pass
-  still_behind =
-      record {
-        free = free_then t.pass u.pass keeps.call still.free;
-        wanted = ap (λ (w : World). phase_of w.now.words) a.world
-            ∙ phase_there t.pass u.pass (Step.Look x) a wanted (a.holds, gates);
-        none = none_after t.pass u.pass (Step.Look x) a wanted (a.holds, gates);
-      }
+  still_behind = grind (arith, free_then, keeps, wanted, phase_there, none_after)
 
   pub look_on : u.op ≡ t.op → LooksOn t u
   look_on same =
@@ -84,26 +75,10 @@ module _ (t u : TurnState) (x : Word) (a : Acts t.pass (Step.Look x) u.pass)
 -- Nothing is looked at, and one part is after the other.
 
 pub looks_at_nothing : (t : TurnState) → IsStill t.pass → LooksOn t t
-looks_at_nothing t still =
-    record {
-      table = refl;
-      op = refl;
-      does = does_nothing is_look t.pass;
-      keeps = keeps_at_once but_phase t.pass;
-      view = refl;
-      still = still;
-    }
+looks_at_nothing t still = grind (arith, does_nothing, keeps_at_once)
 
 pub looks_then : {t u v : TurnState} → LooksOn t u → LooksOn u v → LooksOn t v
-looks_then {t} {u} {v} one two =
-    record {
-      table = two.table ∙ one.table;
-      op = two.op ∙ one.op;
-      does = does_then is_look t.pass u.pass v.pass one.does two.does;
-      keeps = keeps_then but_phase t.pass u.pass v.pass one.keeps two.keeps;
-      view = two.view ∙ one.view;
-      still = two.still;
-    }
+looks_then {t} {u} {v} one two = grind (arith, does_then, keeps_then)
 
 -- The cell into which a value points is looked for.
 
@@ -142,22 +117,10 @@ record ClosesBy (c : Config) (m : Moment) (v : View) : Type 0 where
 
 closes_by : (p : PassState) → IsEnabledTo p Step.Close → ClosesBy p.table.config (now_of p) (view_by p)
 unfolding pages_close roots_close
-closes_by p on =
-    let c : Config = p.table.config in
-    let m : Moment = now_of p in
-    let met = (enabled_meets c m (event_of p Step.Close) on).holder in
-    let parts = and_parts (none_attends m.seats.markers && all_below c.pages (has_closed_page m.words))
-    (roots_point_well c.pages m.words) met in
-    let first = and_parts (none_attends m.seats.markers) (all_below c.pages (has_closed_page m.words)) parts.0 in
-    record { none = first.0; pages = first.1; roots = parts.1 }
+closes_by p on = grind (arith, enabled_meets, and_parts)
 
 pub still_closed : {p q : PassState} → ClosesMarks p q → IsFreeForCycle p → IsStill q
-still_closed {p} {q} law free =
-    record {
-      free = free_then p q law.keeps.call free;
-      wanted = law.phase;
-      none = each_not (now_of q).seats.markers (closes_by q law.close).none;
-    }
+still_closed {p} {q} law free = grind (arith, free_then, each_not, closes_by)
 
 may_close_by : (p : PassState) (turn : InTurn p)
     → others_are_held p.table.config.callers (now_of p).words p.seat ≡ true → IsStill p
@@ -193,8 +156,7 @@ none_wished (x ∷ xs) h =
     let all : count_by (λ (y : Finding). is_want y.event.step) (x ∷ xs)
     ≡ cond {A = ℕ} (is_want x.event.step) 1 0 + count_by (λ (y : Finding). is_want y.event.step) xs =
     sum_by-cons (λ (y : Finding). cond (is_want y.event.step) 1 0) x xs in
-    let first : cond {A = ℕ} (is_want x.event.step) 1 0 ≡ 0 =
-    ap (λ (b : Bool). cond {A = ℕ} b 1 0) (by x.event.step parts.0) in
+    let first : cond {A = ℕ} (is_want x.event.step) 1 0 ≡ 0 = grind arith in
     let rest : count_by (λ (y : Finding). is_want y.event.step) xs ≡ 0 = none_wished xs parts.1 in
     omega arith
   where
@@ -206,42 +168,15 @@ none_wished (x ∷ xs) h =
 counts_then : (kind : Step → Bool) {kinds more both : Step → Bool} {p q r : PassState} (d : Does kinds p q)
     (e : Does more q r)
     (f : Does both p r) → count_done kind f ≡ count_done kind d + count_done kind e
-counts_then kind {p} {r} d e f =
-    ap (λ (es : List Event). count_by test (done_in p es)) is ∙ ap (count_by test) (done_in_parts p d.more e.more)
-    ∙ sum_by-append (λ (x : Finding). cond (kind x.event.step) 1 0) (done_in p d.more)
-    (done_in (record p { seen = p.seen ++ d.more }) e.more)
-    ∙ ap (λ (x : PassState). count_done kind d + count_by test (done_in x e.more)) (sym d.is)
-  where
-    test : Finding → Bool
-    test x = kind x.event.step
-
-    whole : r ≡ record p { seen = p.seen ++ (d.more ++ e.more) }
-    whole =
-        e.is ∙ ap (λ (x : PassState). record x { seen = x.seen ++ e.more }) d.is
-        ∙ ap (λ (es : List Event). record p { seen = es }) (append_assoc p.seen d.more e.more)
-
-    is : f.more ≡ d.more ++ e.more
-    is = append_cancel_left p.seen f.more (d.more ++ e.more) (ap (λ (x : PassState). x.seen) (sym f.is ∙ whole))
+counts_then kind {p} {r} d e f = grind (arith, done_in_parts, sum_by-append, append_assoc, append_cancel_left)
 
 module _ (p : PassState) (t u : TurnState) (law : ClosesMarks p t.pass) (on : LooksOn t u) (turn : InTurn u.pass)
     (gates : others_are_held u.pass.table.config.callers (now_of u.pass).words u.pass.seat ≡ true) where
   close_now : IsEnabledTo u.pass Step.Close
-  close_now =
-      let was = closes_by t.pass law.close in
-      let pages : ℕ = t.pass.table.config.pages in
-      let same : u.pass.table.config.pages ≡ pages = ap (λ x. x.config.pages) on.table in
-      may_close_by u.pass turn gates on.still
-      (ap (λ n. pages_close n (view_by u.pass)) same ∙ ap (pages_close pages) on.view ∙ was.pages)
-      (ap (λ n. roots_close n (view_by u.pass)) same ∙ ap (roots_close pages) on.view ∙ was.roots)
+  close_now = grind (arith, closes_by, may_close_by, pages_close, roots_close)
 
   look_does : Does closes_marks t.pass u.pass
-  look_does =
-      record {
-        more = on.does.more;
-        is = on.does.is;
-        own_or_others = on.does.own_or_others;
-        of_kinds = look_closes (done_in t.pass on.does.more) on.does.of_kinds;
-      }
+  look_does = grind (arith, look_closes)
 
   pub law_kept : ClosesMarks p u.pass
   law_kept =

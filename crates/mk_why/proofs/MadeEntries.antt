@@ -4,16 +4,13 @@ use Rattle.std.proofs.lemmas.List.Elements.{Contains-append_left, Contains-push,
 use Rattle.std.proofs.{Common.length-append, Common.reverse, Math.ListN.get_or-append, Math.Seq.get_or-append_seam}
 use Rattle.std.specs.List.Sorted.{IsStrictlyIncreasing}
 use Rattle.mk_why.proofs.Vocabulary.{AreEntriesBelow, AreWays, BeginApart, Config, Found, IsLedBack, IsTold, IsWay}
-use Rattle.mk_why.proofs.Vocabulary.{IsWhy, Link, LinksLead, PlacedAllocation, Root, Start, Storage, View, base_at}
-use Rattle.mk_why.proofs.Vocabulary.{entry_at, is_kept, is_mapped, is_scanned_allocation, placed_at, storage_of}
-use Rattle.mk_why.proofs.Vocabulary.{world_in}
-use Rattle.mk_laws.proofs.Vocabulary.{Bool, List, None, Option, Some, ℕ, and_parts, ap, arith, cases_lt, false}
-use Rattle.mk_laws.proofs.Vocabulary.{if◌then◌else◌, inl, inr, is_some, length, length-map, lt-ltb, map, map-append}
-use Rattle.mk_laws.proofs.Vocabulary.{not, not-true, refl, slice_index, slice_index_or, subst, sym, true, true≢false}
-use Rattle.mk_laws.proofs.Vocabulary.{[], ◌&&◌, ◌*◌, ◌++◌, ◌+◌, ◌<◌, ◌∙◌, ◌∷◌, ◌≡◌}
-use Rattle.mk_core.specs.ClosedMarks.{is_marked_allocation}
+use Rattle.mk_why.proofs.Vocabulary.{IsWhy, Link, LinksLead, Root, Start, Storage, View, base_at, entry_at, is_kept}
+use Rattle.mk_why.proofs.Vocabulary.{is_scanned_allocation, placed_at, world_in}
+use Rattle.mk_laws.proofs.Vocabulary.{List, None, Option, Some, ℕ, and_parts, ap, arith, cases_lt, false, inl, inr}
+use Rattle.mk_laws.proofs.Vocabulary.{is_some, length, length-map, lt-ltb, map, map-append, not-true, refl, slice_index}
+use Rattle.mk_laws.proofs.Vocabulary.{slice_index_or, subst, sym, true, true≢false, [], ◌*◌, ◌++◌, ◌+◌, ◌<◌, ◌∙◌, ◌∷◌}
+use Rattle.mk_laws.proofs.Vocabulary.{◌≡◌}
 use Rattle.mk_laws.proofs.MappedWords.{mapped_stays}
-use Rattle.mk_cycle.specs.FinishCycle.{is_in_snapshot_of_cycle}
 use Rattle.mk_why.specs.Chains.{IsEntryOf}
 use Rattle.mk_why.specs.Entries.{IsLed, IsMadeOf, IsOneMore, IsToldWhy, IsWayOf, back_to, root_of, step_back}
 use Rattle.mk_why.specs.{Listing.IsKeptAt, Searching.IsOnward, declared.found.Way.Way, declared.kept.Kept.Kept}
@@ -27,9 +24,7 @@ read_at {A} xs i o is lt = get_or_read_under xs i (length xs) o None is lt refl
 
 some_back : (link links : ℕ) (o : Option Found) (before : Found) → o ≡ Some before → before.links < links
     → back_to link links o ≡ Some (link, before)
-some_back link links o before is less =
-    ap (back_to link links) is
-    ∙ ap (λ (b : Bool). if b then Some (link, before) else None) (lt-ltb before.links links less)
+some_back link links o before is less = grind (arith, lt-ltb)
 
 -- what a pair has
 
@@ -56,17 +51,14 @@ led_first c v found f b way = record { number = b; way = way; leads = refl; sum 
 module _ (c : Config) (v : View) (found : List (Option Found)) (ways : AreWays c v found) (apart : BeginApart v) where
   unreleased_of : (a : ℕ) → is_scanned_allocation c (placed_at v.allocations a) ≡ true
       → (placed_at v.allocations a).released ≡ false
-  unreleased_of a is =
-      mapped_stays c (placed_at v.allocations a)
-      (and_parts (is_mapped c (placed_at v.allocations a)) (not (storage_of c (placed_at v.allocations a)).leaf) is).0
+  unreleased_of a is = grind (arith, mapped_stays, and_parts)
 
   -- the allocation that has the link was found by its own way
   way_before : (link from links x : ℕ) (on : IsOnward c v found link from links x)
       → IsWay c v found on.before.way on.before.links on.number
   way_before link from links x on =
       let y = ways from on.before on.there in
-      let same : y.number ≡ on.number = apart y.number on.number y.unreleased
-      (unreleased_of on.number on.onward.scanned) (y.is ∙ sym on.begins) in
+      let same : y.number ≡ on.number = grind (arith, unreleased_of) in
       subst (λ n. IsWay c v found on.before.way on.before.links n) same y.way
 
   led_by : (way : Way) (links : ℕ) (pushed : List ℕ) (b count x : ℕ) → IsWay c v found way links x
@@ -93,8 +85,7 @@ module _ (c : Config) (v : View) (found : List (Option Found)) (ways : AreWays c
   pub led_more : (f : Found) (pushed : List ℕ) (b count : ℕ) → IsLedBack c v found f pushed b count
       → (link : ℕ) (before : Found) → step_back found f ≡ Some (link, before)
       → IsLedBack c v found before (pushed ++ link ∷ []) b count
-  led_more f pushed b count led link before is =
-      led_by f.way f.links pushed b count led.number led.way led.leads led.sum link before is
+  led_more f pushed b count led link before is = grind (arith, led_by)
 
   ends_by : (way : Way) (links : ℕ) (pushed : List ℕ) (b count x : ℕ) → IsWay c v found way links x
       → LinksLead c (world_in v) x (reverse pushed) b → length pushed + links ≡ count
@@ -106,10 +97,7 @@ module _ (c : Config) (v : View) (found : List (Option Found)) (ways : AreWays c
         chain = record { first = x; there = way.1; points = way.2; leads = leads };
         as_many = let none = way.0 in let size = length-reverse pushed in omega arith;
       }
-  ends_by (Link to from) links pushed b count x on leads sum is =
-      let less : on.before.links < links = let more = on.one_more in omega arith in
-      absurd (pair_is_some to on.before (back_to to links (entry_at found from))
-      (some_back to links (entry_at found from) on.before on.there less) is)
+  ends_by (Link to from) links pushed b count x on leads sum is = grind (arith, pair_is_some, some_back)
 
   pub led_to_root : (f : Found) (pushed : List ℕ) (b count : ℕ) → IsLedBack c v found f pushed b count
       → step_back found f ≡ None → IsLed c v b count (root_of f.way) (reverse pushed)
@@ -139,20 +127,13 @@ rising_more xs x rising below k lt =
 
 below_pushed : (xs : List ℕ) (x n : ℕ) → x < n → ((i : ℕ) → i < length xs → slice_index xs i < n) → (i : ℕ)
     → i < length xs + 1 → slice_index (xs ++ x ∷ []) i < n
-below_pushed xs x n small below i lt = elim (cases_lt i (length xs)) [
-  | inl before ↦ let low = below i before in let one = get_or-append xs (x ∷ []) 0 i before in omega arith
-  | inr past ↦ let two = pushed_at xs x i (omega arith) in omega arith
-]
+below_pushed xs x n small below i lt = grind (arith, cases_lt, get_or-append, pushed_at)
 
 -- What an entry tells is why.
 module _ (c : Config) (v : View) (found : List (Option Found)) (kept : List (Option Storage))
     (told : IsTold c found kept v) where
   unreleased_kept : (b : ℕ) → is_kept c (world_in v) b ≡ true → (placed_at v.allocations b).released ≡ false
-  unreleased_kept b kept_here =
-      let a : PlacedAllocation = placed_at v.allocations b in
-      let parts = and_parts (is_in_snapshot_of_cycle a) (is_marked_allocation c v.words a) kept_here in
-      let cycle = and_parts (a.freed && not a.released) (not a.fresh) parts.0 in
-      not-true a.released (and_parts a.freed (not a.released) cycle.0).1
+  unreleased_kept b kept_here = grind (arith, and_parts, not-true)
 
   why_by : (b : ℕ) (o : Option Found) → entry_at found (base_at v b) ≡ o → (root : Option Root) (links : List ℕ)
       → IsToldWhy c v b o root links → IsWhy c (world_in v) b root links
@@ -187,17 +168,7 @@ module _ (c : Config) (v : View) (found : List (Option Found)) (kept : List (Opt
   -- the entry that is made of what the tables have
   made_entry : (base : ℕ) (s : Storage) → (k : IsKeptAt c v base s) → (entry : Kept)
       → IsMadeOf found s (entry_at found base) entry → IsEntryOf c (world_in v) entry k.number
-  made_entry base s k entry made =
-      let b = k.number in
-      let u = unreleased_kept b k.storage.kept in
-      let is : entry_at found (base_at v b) ≡ entry_at found base = ap (entry_at found) k.is in
-      record {
-        kept = k.storage.kept;
-        address = made.address ∙ k.storage.address;
-        words = made.words ∙ k.storage.words;
-        why = why_by b (entry_at found base) is entry.root entry.links.items
-            (made.why c v b told.explored.ways told.apart (way_by b u (entry_at found base) is));
-      }
+  made_entry base s k entry made = grind (arith, unreleased_kept, why_by, way_by)
 
   pub entries_none : (base : ℕ) (es : List Kept) → entry_at kept base ≡ None → AreEntriesBelow c v base es
       → AreEntriesBelow c v (base + 1) es
@@ -238,8 +209,7 @@ module _ (c : Config) (v : View) (found : List (Option Found)) (kept : List (Opt
               (y.0, Contains-append_left es (more.entry ∷ []) y.0 y.1, y.2)
           | inr high ↦
               let e : base_at v b ≡ base = omega arith in
-              let same : k.number ≡ b = told.apart k.number b (unreleased_kept k.number k.storage.kept)
-              (unreleased_kept b kept_here) (k.is ∙ sym e) in
+              let same : k.number ≡ b = grind (arith, unreleased_kept) in
               (more.entry, Contains-push es more.entry, subst (λ n. IsEntryOf c (world_in v) more.entry n) same entry)
         ];
       })
@@ -271,13 +241,7 @@ module _ (c : Config) (v : View) (found : List (Option Found)) (kept : List (Opt
           (let size = length-map es address in let both = length-append es (more.entry ∷ []) in omega arith))
 
 pub no_entries : (c : Config) (v : View) → AreEntriesBelow c v 0 []
-no_entries c v =
-    record {
-      ascending = λ k lt. absurd (omega arith);
-      below = λ i lt. absurd (omega arith);
-      of_one = λ entry inside. let lt = inside.1 in absurd (omega arith);
-      each = λ b kept lt. absurd (omega arith);
-    }
+no_entries c v = grind arith
 
 pub entries_more : {c : Config} {v : View} {found : List (Option Found)} {kept : List (Option Storage)}
     → IsTold c found kept v → {base : ℕ} {es : List Kept} (fs : List Kept) → (entry_at kept base ≡ None → fs ≡ es)

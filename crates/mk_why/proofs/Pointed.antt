@@ -2,8 +2,8 @@
 use Rattle.mk_why.proofs.Vocabulary.{BeginApart, Cell, Config, IsFirstWord, IsHistory, IsStill, PassState}
 use Rattle.mk_why.proofs.Vocabulary.{PlacedAllocation, PointsIntoAllocation, WordsState, World, base_at}
 use Rattle.mk_why.proofs.Vocabulary.{cell_of_allocation, first_word, has_bit, header_at, header_in, header_of}
-use Rattle.mk_why.proofs.Vocabulary.{is_mapped, is_scanned_allocation, never_behind, now_of, object_placed, phase_of}
-use Rattle.mk_why.proofs.Vocabulary.{placed_at, storage_of, storage_words, used_at, view_by, words_under, world_of}
+use Rattle.mk_why.proofs.Vocabulary.{is_mapped, is_scanned_allocation, never_behind, now_of, object_placed, placed_at}
+use Rattle.mk_why.proofs.Vocabulary.{storage_of, storage_words, used_at, view_by, words_under, world_of}
 use Rattle.mk_laws.proofs.Vocabulary.{IsSettled, None, Option, Some, ℕ, and_parts, ap, arith, cells_begin, false}
 use Rattle.mk_laws.proofs.Vocabulary.{has_no_pointers, inr, ne_eqb, not, pointed_cell, subst, sym, true, true≢false}
 use Rattle.mk_laws.proofs.Vocabulary.{typed_size, words_within, ◌*◌, ◌+◌, ◌/◌, ◌<◌, ◌∙◌, ◌≡◌, ◌≤◌}
@@ -27,12 +27,7 @@ module _ (p : PassState) (history : IsHistory p.table.config p.seen) (still : Is
   a b = placed_at (world_of p).allocations b
 
   pub settled : IsSettled (world_of p)
-  settled =
-      record {
-        releasing = ne_eqb (phase_of (now_of p).words) 4 (λ e. let two = still.wanted in omega arith);
-        placing = still.free.unplaced;
-        unmapped = gone_is_unmapped (now_of p).words (now_of p).seats.holding.freed still.free.gone;
-      }
+  settled = grind (arith, ne_eqb, gone_is_unmapped)
 
   told : Told p.table.config (world_of p) (never_behind p.table.config p.seen)
   told =
@@ -109,16 +104,13 @@ module _ (p : PassState) (history : IsHistory p.table.config p.seen) (still : Is
         → (b : ℕ) → base_at (view_by p) b ≡ base
         → is_scanned_allocation p.table.config (placed_at (world_of p).allocations b) ≡ true
         → 0 ≡ storage_words p.table.config (placed_at (world_of p).allocations b)
-    bare_whole bare b at scanned =
-        absurd (true≢false (sym bare ∙ ap (λ n. has_no_pointers (header_in (now_of p).words (n / 64))) (sym at)
-        ∙ scanned_header b scanned))
+    bare_whole bare b at scanned = grind (arith, scanned_header)
 
     pub scanned_whole : (b : ℕ) → base_at (view_by p) b ≡ base
         → is_scanned_allocation p.table.config (placed_at (world_of p).allocations b) ≡ true
         → words_under (header_in (now_of p).words (base / 64))
         ≡ storage_words p.table.config (placed_at (world_of p).allocations b)
-    scanned_whole b at scanned =
-        ap (λ n. words_under (header_in (now_of p).words (n / 64))) (sym at) ∙ words_there b (unreleased_of b scanned)
+    scanned_whole b at scanned = grind (arith, words_there, unreleased_of)
 
     pub scanned_from : has_no_pointers (header_in (now_of p).words (base / 64)) ≡ false
         → AreScannedFrom p.table.config (view_by p) base (words_under (header_in (now_of p).words (base / 64)))
@@ -130,31 +122,17 @@ module _ (p : PassState) (history : IsHistory p.table.config p.seen) (still : Is
         let same : x.number ≡ b = unreleased_are_apart c p.seen
         (histories_keep_the_invariant c p.seen history).order.laid x.number b (unreleased_of x.number x.scanned)
         is.unreleased x.is in
-        let scanned : is_scanned_allocation c (a b) ≡ true =
-        subst (λ n. is_scanned_allocation c (a n) ≡ true) same x.scanned in
+        let scanned : is_scanned_allocation c (a b) ≡ true = grind arith in
         let whole : words_under (header_in (now_of p).words (base / 64)) ≡ storage_words c (a b) =
         scanned_whole b is.is scanned in
         let begins : (a b).base ≡ base = is.is in
         (b, is.is, scanned, (omega arith, omega arith))
 
     pub within_heap : base + words_under (header_in (now_of p).words (base / 64)) ≤ 64 * p.table.config.pages
-    within_heap =
-        let b = is.number in
-        let begins : (a b).base ≡ base = is.is in
-        let whole : words_under (header_in (now_of p).words (base / 64)) ≡ storage_words c (a b) =
-        ap (λ n. words_under (header_in (now_of p).words (n / 64))) (sym begins) ∙ words_there b is.unreleased in
-        let end = (stands b is.unreleased).stands.within in
-        omega arith
+    within_heap = grind (arith, words_there, stands)
 
     pub begins_within : base < 64 * p.table.config.pages
-    begins_within =
-        let b = is.number in
-        let begins : (a b).base ≡ base = is.is in
-        let st = stands b is.unreleased in
-        let some = (words_within (object_placed c (a b)) (typed_size c (a b) history.within_limits st.stands.typed)).0
-        in
-        let end = st.stands.within in
-        omega arith
+    begins_within = grind (arith, stands, words_within, typed_size)
 
   pub apart : BeginApart (view_by p)
   apart i j u v same =
@@ -169,32 +147,21 @@ module _ (p : PassState) (history : IsHistory p.table.config p.seen) (still : Is
     (same : p.table ≡ k) (value : ℕ) where
   pointed_here : (cell : Option Cell) → cell ≡ pointed_cell k.config.pages (view_by p).words.pages value
       → pointed_cell p.table.config.pages (now_of p).words.pages value ≡ cell
-  pointed_here cell is =
-      ap (λ (t : WordsState). pointed_cell t.config.pages (view_by p).words.pages value) same ∙ sym is
+  pointed_here cell is = grind arith
 
   pub none_at : None ≡ pointed_cell k.config.pages (view_by p).words.pages value
       → IsBasePointed k.config (view_by p) value None
-  none_at is =
-      subst (λ (t : WordsState). IsBasePointed t.config (view_by p) value None) same
-      (none_pointed p history still value (pointed_here None is))
+  none_at is = grind (arith, none_pointed, pointed_here)
 
   module _ (cell : Cell) (is : Some cell ≡ pointed_cell k.config.pages (view_by p).words.pages value) (used : ℕ)
       (found : used ≡ used_at (view_by p).words cell.page) where
     pub none_at_unused : has_bit used cell.index ≡ false → IsBasePointed k.config (view_by p) value None
-    none_at_unused unused =
-        subst (λ (t : WordsState). IsBasePointed t.config (view_by p) value None) same
-        (unused_pointed p history still value cell (pointed_here (Some cell) is)
-        (ap (λ n. has_bit n cell.index) (sym found) ∙ unused))
+    none_at_unused unused = grind (arith, unused_pointed, pointed_here)
 
     pub some_at_used : has_bit used cell.index ≡ true → (header size : ℕ)
         → header ≡ header_at (view_by p).words cell.page → size ≡ words_under (header_of header)
         → PointsAtBase k.config (view_by p) value (64 * cell.page + cell.index * size)
-    some_at_used has header size shown under =
-        subst (λ (t : WordsState). PointsAtBase t.config (view_by p) value (64 * cell.page + cell.index * size)) same
-        (subst (λ n. PointsAtBase p.table.config (view_by p) value (64 * cell.page + cell.index * n))
-        (sym (under ∙ ap (λ h. words_under (header_of h)) shown))
-        (used_pointed p history still value cell (pointed_here (Some cell) is)
-        (ap (λ n. has_bit n cell.index) (sym found) ∙ has)))
+    some_at_used has header size shown under = grind (arith, used_pointed, pointed_here)
 
 module _ (p : PassState) (history : IsHistory p.table.config p.seen) (still : IsStill p) (k : WordsState)
     (same : p.table ≡ k) (base : ℕ) (is : IsFirstWord (view_by p) base) where

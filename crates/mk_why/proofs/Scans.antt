@@ -1,13 +1,12 @@
 -- What scans find, and that what is said of a view is said of its world.
-use Rattle.std.proofs.{Common.count_by, lemmas.List.get_or_read_under, lemmas.List.Sums.count_by-le-length}
+use Rattle.std.proofs.{lemmas.List.get_or_read_under, lemmas.List.Sums.count_by-le-length}
 use Rattle.mk_why.proofs.Vocabulary.{AreEntriesBelow, Config, Found, Global, IsFirstWord, IsFoundThrough, IsNoted}
-use Rattle.mk_why.proofs.Vocabulary.{IsSearch, IsSearched, IsTold, IsWhy, LinksLead, PointsIntoAllocation, Register}
-use Rattle.mk_why.proofs.Vocabulary.{Root, Storage, Tables, View, Words, World, base_at, entry_at}
-use Rattle.mk_why.proofs.Vocabulary.{is_scanned_allocation, links_in, links_of, placed_at, storage_words, view_of}
-use Rattle.mk_why.proofs.Vocabulary.{word_of_root, world_in}
-use Rattle.mk_laws.proofs.Vocabulary.{List, None, Option, Some, ℕ, ap, arith, cases_lt, get_or_past, inl, inr, is_some}
-use Rattle.mk_laws.proofs.Vocabulary.{length, refl, slice_index, slice_index_or, subst, sym, true, [], ◌+◌, ◌-◌, ◌<◌}
-use Rattle.mk_laws.proofs.Vocabulary.{◌∙◌, ◌∷◌, ◌≡◌, ◌≤◌}
+use Rattle.mk_why.proofs.Vocabulary.{IsSearch, IsSearched, IsTold, IsWhy, LinksLead, Register, Root, Storage, Tables}
+use Rattle.mk_why.proofs.Vocabulary.{View, Words, World, base_at, entry_at, is_scanned_allocation, links_in, links_of}
+use Rattle.mk_why.proofs.Vocabulary.{placed_at, storage_words, view_of, word_of_root, world_in}
+use Rattle.mk_laws.proofs.Vocabulary.{List, None, Option, Some, ℕ, ap, arith, cases_lt, get_or_past, length, refl}
+use Rattle.mk_laws.proofs.Vocabulary.{slice_index, slice_index_or, subst, sym, true, [], ◌+◌, ◌-◌, ◌<◌, ◌∙◌, ◌∷◌, ◌≡◌}
+use Rattle.mk_laws.proofs.Vocabulary.{◌≤◌}
 use Rattle.mk_why.specs.{Chains.AreKept, Chains.IsChain, Chains.IsEntryOf, Chains.IsLink, declared.kept.Kept.Kept}
 
 -- What is done after the scan of an allocation's words.
@@ -15,10 +14,7 @@ use Rattle.mk_why.specs.{Chains.AreKept, Chains.IsChain, Chains.IsEntryOf, Chain
 -- What a table has stands in it.
 pub within_table : {A : Type 0} → (xs : List (Option A)) (i : ℕ) (x : A) → slice_index_or xs i None ≡ Some x
     → i < length xs
-within_table {A} xs i x is = elim (cases_lt i (length xs)) [
-  | inl lt ↦ lt
-  | inr past ↦ let none : slice_index_or xs i None ≡ None = get_or_past xs i None past in absurd cc
-]
+within_table {A} xs i x is = grind (arith, cases_lt, get_or_past)
 
 pub done_from : (c : Config) (v : View) {found : List (Option Found)} {base : ℕ} (size : ℕ) {links : ℕ}
     → IsFoundThrough found base links
@@ -41,9 +37,7 @@ module _ (c : Config) (v : View) (r : Tables) (place limit : ℕ) (search : IsSe
     (known : place < r.count)
   where
     pub queued_within : slice_index r.queue.items place < length r.found.items
-    queued_within =
-        let x = search.entries place known in
-        within_table r.found.items (slice_index r.queue.items place) x.entry x.there
+    queued_within = grind (arith, within_table)
 
     pub queued_base : IsFirstWord v (slice_index r.queue.items place)
     queued_base =
@@ -62,23 +56,16 @@ module _ (c : Config) (v : View) (r : Tables) (place limit : ℕ) (search : IsSe
 
 -- The queue has room for all that was found.
 pub count_fits : (r : Tables) → r.count ≤ length r.queue.items
-count_fits r =
-    let few : count_by is_some r.found.items ≤ length r.found.items = count_by-le-length is_some r.found.items in
-    let full = r.full in
-    let size = r.queues in
-    omega arith
+count_fits r = grind (arith, count_by-le-length)
 
 -- what is read there
 pub queue_read : (r : Tables) (place x : ℕ) → x ≡ slice_index_or r.queue.items place x → place < r.count
     → x ≡ slice_index r.queue.items place
-queue_read r place x is known =
-    let fits = count_fits r in
-    get_or_read_under r.queue.items place (length r.queue.items) x 0 is (omega arith) refl
+queue_read r place x is known = grind (arith, count_fits, get_or_read_under)
 
 pub entry_read : (r : Tables) (base : ℕ) (o : Option Found) (f : Found) → o ≡ slice_index_or r.found.items base o
     → base < length r.found.items → o ≡ Some f → entry_at r.found.items base ≡ Some f
-entry_read r base o f is lt some =
-    sym (get_or_read_under r.found.items base (length r.found.items) o None is lt refl) ∙ some
+entry_read r base o f is lt some = grind (arith, get_or_read_under)
 
 -- What is said of a view is said of its world.
 
@@ -88,24 +75,10 @@ same_root w (Global global) = refl
 
 module _ (c : Config) (w : World) where
   link_out : (a link b : ℕ) → IsLink c (world_in (view_of w)) a link b → IsLink c w a link b
-  link_out a link b x =
-      record {
-        word = x.word;
-        address = x.address;
-        scanned = x.scanned;
-        of_the_one = x.of_the_one;
-        to_the_other = x.to_the_other;
-      }
+  link_out a link b x = grind arith
 
   link_in : (a link b : ℕ) → IsLink c w a link b → IsLink c (world_in (view_of w)) a link b
-  link_in a link b x =
-      record {
-        word = x.word;
-        address = x.address;
-        scanned = x.scanned;
-        of_the_one = x.of_the_one;
-        to_the_other = x.to_the_other;
-      }
+  link_in a link b x = grind arith
 
   leads_out : (links : List ℕ) (a b : ℕ) → LinksLead c (world_in (view_of w)) a links b → LinksLead c w a links b
   leads_out [] a b x = x
@@ -117,31 +90,18 @@ module _ (c : Config) (w : World) where
 
   chain_out : (root : Root) (links : List ℕ) (b : ℕ) → IsChain c (world_in (view_of w)) root links b
       → IsChain c w root links b
-  chain_out root links b x =
-      record {
-        first = x.first;
-        there = x.there;
-        points = subst (λ u. PointsIntoAllocation c w u x.first) (same_root w.now.words root) x.points;
-        leads = leads_out links x.first b x.leads;
-      }
+  chain_out root links b x = grind (arith, same_root, leads_out)
 
   chain_in : (root : Root) (links : List ℕ) (b : ℕ) → IsChain c w root links b
       → IsChain c (world_in (view_of w)) root links b
-  chain_in root links b x =
-      record {
-        first = x.first;
-        there = x.there;
-        points = subst (λ u. PointsIntoAllocation c w u x.first) (sym (same_root w.now.words root)) x.points;
-        leads = leads_in links x.first b x.leads;
-      }
+  chain_in root links b x = grind (arith, same_root, leads_in)
 
   why_out : (b : ℕ) (o : Option Root) (links : List ℕ) → IsWhy c (world_in (view_of w)) b o links → IsWhy c w b o links
   why_out b (Some root) links x = (chain_out root links b x.0, λ r ls chain. x.1 r ls (chain_in r ls b chain))
   why_out b None links x = (x.0, λ r ls chain. x.1 r ls (chain_in r ls b chain))
 
   entry_out : (entry : Kept) (b : ℕ) → IsEntryOf c (world_in (view_of w)) entry b → IsEntryOf c w entry b
-  entry_out entry b x =
-      record { kept = x.kept; address = x.address; words = x.words; why = why_out b entry.root entry.links.items x.why }
+  entry_out entry b x = grind (arith, why_out)
 
   pub kept_of : (found : List (Option Found)) (kept : List (Option Storage)) (entries : List Kept)
       → IsTold c found kept (view_of w) → AreEntriesBelow c (view_of w) (length kept) entries → AreKept c w entries

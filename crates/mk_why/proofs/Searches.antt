@@ -30,18 +30,11 @@ way_stays c v found more stays (Link link from) links b way =
 
 found_stays : (c : Config) (v : View) (found more : List (Option Found)) → Stays found more → (base : ℕ) (f : Found)
     → IsFoundAt c v found base f → IsFoundAt c v more base f
-found_stays c v found more stays base f x =
-    record {
-      number = x.number;
-      unreleased = x.unreleased;
-      is = x.is;
-      way = way_stays c v found more stays f.way f.links x.number x.way;
-    }
+found_stays c v found more stays base f x = grind (arith, way_stays)
 
 pub within_stays : {found : List (Option Found)} (more : List (Option Found)) → Stays found more → {base limit : ℕ}
     → IsFoundWithin found base limit → IsFoundWithin more base limit
-within_stays more stays {base} x =
-    record { entry = x.entry; there = stays base x.entry x.there; near = x.near }
+within_stays more stays {base} x = grind arith
 
 pub noted_stays : (c : Config) (v : View) (found more : List (Option Found)) → Stays found more → (value limit : ℕ)
     → IsNoted c v found value limit → IsNoted c v more value limit
@@ -49,8 +42,7 @@ noted_stays c v found more stays value limit x b points = within_stays more stay
 
 pub through_stays : (found more : List (Option Found)) → Stays found more → (base links : ℕ)
     → IsFoundThrough found base links → IsFoundThrough more base links
-through_stays found more stays base links x =
-    record { entry = x.entry; there = stays base x.entry x.there; through = x.through }
+through_stays found more stays base links x = grind arith
 
 pub same_links : {found : List (Option Found)} (more : List (Option Found)) → Stays found more → {base : ℕ}
     → IsFound found base
@@ -59,8 +51,7 @@ same_links more stays {base} x = ap links_in (stays base x.entry x.there) ∙ sy
 
 pub links_stay : {r s : Tables} → FindsMore r s → (i : ℕ) → i < r.count
     → IsFound r.found.items (slice_index r.queue.items i) → links_of s i ≡ links_of r i
-links_stay {s} g i lt x =
-    ap (λ n. links_in (entry_at s.found.items n)) (g.same i lt) ∙ same_links s.found.items g.stays x
+links_stay {s} g i lt x = grind (arith, same_links)
 
 -- It grows by nothing, and by one part after another.
 
@@ -68,17 +59,11 @@ pub grows_nothing : (r : Tables) → FindsMore r r
 grows_nothing r = record { stays = λ base f h. h; same = λ i lt. refl; further = omega arith }
 
 pub grows_then : {r s x : Tables} → FindsMore r s → FindsMore s x → FindsMore r x
-grows_then one two =
-    record {
-      stays = λ base f h. two.stays base f (one.stays base f h);
-      same = λ i lt. two.same i (let more = one.further in omega arith) ∙ one.same i lt;
-      further = let a = one.further in let b = two.further in omega arith;
-    }
+grows_then one two = grind arith
 
 pub searches_nothing : {c : Config} (t : TurnState) {r : Tables} {limit : ℕ} → IsStill t.pass
     → IsSearch c (view_by t.pass) r limit → SearchesOn c t t r r limit
-searches_nothing t {r} still search =
-    record { on = looks_at_nothing t still; search = search; grows = grows_nothing r }
+searches_nothing t {r} still search = grind (arith, looks_at_nothing, grows_nothing)
 
 pub searches_then : {c : Config} {t u v : TurnState} {r s x : Tables} {limit : ℕ} → SearchesOn c t u r s limit
     → SearchesOn c u v s x limit → SearchesOn c t v r x limit
@@ -92,12 +77,7 @@ searches_then {c} {x} {limit} one two =
 -- Looks before a part leave it.
 pub looks_search : {c : Config} {t u v : TurnState} {r s : Tables} {limit : ℕ} → LooksOn t u
     → SearchesOn c u v r s limit → SearchesOn c t v r s limit
-looks_search {c} {s} {limit} on two =
-    record {
-      on = looks_then on two.on;
-      search = subst (λ (y : View). IsSearch c y s limit) on.view two.search;
-      grows = two.grows;
-    }
+looks_search {c} {s} {limit} on two = grind (arith, looks_then)
 
 pub view_search : {c : Config} {t u : TurnState} {r : Tables} {limit : ℕ} → LooksOn t u
     → IsSearch c (view_by t.pass) r limit → IsSearch c (view_by u.pass) r limit
@@ -119,16 +99,7 @@ more_noted c v found more stays value limit i before here =
 -- Another limit.
 pub limit_of : {c : Config} {v : View} {r : Tables} {limit : ℕ} (more : ℕ) → IsSearch c v r limit
     → ((i : ℕ) → i < r.count → links_of r i ≤ more) → IsSearch c v r more
-limit_of more search below =
-    record {
-      size = search.size;
-      ways = search.ways;
-      entries = search.entries;
-      queued = search.queued;
-      rising = search.rising;
-      below = below;
-      shallow = search.shallow;
-    }
+limit_of more search below = grind arith
 
 -- One note more.
 module _ (c : Config) (v : View) (r s : Tables) (base : ℕ) (f : Found) (search : IsSearch c v r f.links)
@@ -158,8 +129,7 @@ module _ (c : Config) (v : View) (r s : Tables) (base : ℕ) (f : Found) (search
       ∙ get_or-set_other r.queue.items r.count i base 0 (λ e. absurd (omega arith))
 
   pub note_grows : FindsMore r s
-  note_grows =
-      record { stays = λ k g h. elsewhere k (not_there k g h) ∙ h; same = earlier; further = omega arith }
+  note_grows = grind (arith, elsewhere, not_there, earlier)
 
   links_before : (i : ℕ) → i < r.count → links_of s i ≡ links_of r i
   links_before i few = links_stay note_grows i few (search.entries i few)
@@ -168,17 +138,11 @@ module _ (c : Config) (v : View) (r s : Tables) (base : ℕ) (f : Found) (search
   links_last = ap (λ n. links_in (entry_at s.found.items n)) last ∙ ap links_in there
 
   in_queue : (i : ℕ) → i < s.count → (i < r.count) ⊎ (i ≡ r.count)
-  in_queue i few = elim (cases_lt i r.count) [
-    | inl before ↦ inl before
-    | inr past ↦ inr (omega arith)
-  ]
+  in_queue i few = grind (arith, cases_lt)
 
   links_there : (i : ℕ) → i < s.count
       → ((i < r.count) × (links_of s i ≡ links_of r i)) ⊎ ((i ≡ r.count) × (links_of s i ≡ f.links))
-  links_there i few = elim (in_queue i few) [
-    | inl before ↦ inl (before, links_before i before)
-    | inr e ↦ inr (e, ap (λ n. links_of s n) e ∙ links_last)
-  ]
+  links_there i few = grind (arith, in_queue, links_before, links_last)
 
   note_search : f.links ≤ r.count → IsFoundAt c v r.found.items base f → IsSearch c v s f.links
   note_search shallow way =
@@ -233,30 +197,13 @@ module _ (c : Config) (v : View) (r s : Tables) (base : ℕ) (f : Found) (search
       ]
 
       rising : (i j : ℕ) → i ≤ j → j < s.count → links_of s i ≤ links_of s j
-      rising i j le few = elim (links_there j few) [
-        | inl y ↦
-            let first : i < r.count = let low = y.0 in omega arith in
-            let a = links_before i first in
-            let b = y.1 in
-            let c = search.rising i j le y.0 in
-            omega arith
-        | inr y ↦ elim (links_there i (let e = y.0 in omega arith)) [
-          | inl x ↦ let a = x.1 in let b = y.1 in let c = search.below i x.0 in omega arith
-          | inr x ↦ let a = x.1 in let b = y.1 in omega arith
-        ]
-      ]
+      rising i j le few = grind (arith, links_there, links_before)
 
       below : (i : ℕ) → i < s.count → links_of s i ≤ f.links
-      below i few = elim (links_there i few) [
-        | inl x ↦ let a = x.1 in let b = search.below i x.0 in omega arith
-        | inr x ↦ let a = x.1 in omega arith
-      ]
+      below i few = grind (arith, links_there)
 
       at_most : (i : ℕ) → i < s.count → links_of s i ≤ i
-      at_most i few = elim (links_there i few) [
-        | inl x ↦ let a = x.1 in let b = search.shallow i x.0 in omega arith
-        | inr x ↦ let a = x.1 in let e = x.0 in omega arith
-      ]
+      at_most i few = grind (arith, links_there)
 
 -- What a note leaves, whether the allocation was found before or not.
 pub record Notes (c : Config) (v : View) (r s : Tables) (base limit : ℕ) : Type 0 where
@@ -299,16 +246,4 @@ notes {c} {v} {r} s {base} {f} search lt known noted last more room shallow way 
 -- Before the first note.
 pub empty_search : (c : Config) (v : View) (r : Tables) → length r.found.items ≡ 64 * c.pages
     → ((base : ℕ) → entry_at r.found.items base ≡ None) → r.count ≡ 0 → IsSearch c v r 0
-empty_search c v r size none empty =
-    record {
-      size = size;
-      ways = λ base f h. absurd (unfound base f h);
-      entries = λ i lt. absurd (omega arith);
-      queued = λ base x. absurd (unfound base x.entry x.there);
-      rising = λ i j le lt. absurd (omega arith);
-      below = λ i lt. absurd (omega arith);
-      shallow = λ i lt. absurd (omega arith);
-    }
-  where
-    unfound : (base : ℕ) (f : Found) → entry_at r.found.items base ≡ Some f → ⊥
-    unfound base f h = let e = none base in cc
+empty_search c v r size none empty = grind arith

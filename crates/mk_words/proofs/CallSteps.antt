@@ -2,26 +2,49 @@
 use Rattle.mk_laws.proofs.Vocabulary.{Access, Answer, Bool, Caller, Config, Flight, Group, Host, List, Load, Marker}
 use Rattle.mk_laws.proofs.Vocabulary.{Moment, Named, None, Op, Progress, Seat, Some, Stage, Step, Store, Word, Words}
 use Rattle.mk_laws.proofs.Vocabulary.{World, ℕ, access, accessed, answer_decided, ap, arith, at_rest, begun}
-use Rattle.mk_laws.proofs.Vocabulary.{caller_number, eq-eqb, false, flight_of, found, get_or-set_other, get_or-set_same}
-use Rattle.mk_laws.proofs.Vocabulary.{group_of, histories_keep_lengths, if◌then◌else◌, is_open_to, is_under_turn}
-use Rattle.mk_laws.proofs.Vocabulary.{length, ltb-true, ne_eqb, not, one_if, onward, progress, progress_reg, refl}
-use Rattle.mk_laws.proofs.Vocabulary.{reg_access, register_met, register_word, seat_exists, slice_index, slice_set}
-use Rattle.mk_laws.proofs.Vocabulary.{still, subst, sym, true, word_accessed, ◌&&◌, ◌*◌, ◌++◌, ◌+◌, ◌<◌, ◌==◌, ◌∙◌, ◌≡◌}
-use Rattle.mk_laws.proofs.Vocabulary.{◌≢◌, ◌≤◌}
+use Rattle.mk_laws.proofs.Vocabulary.{caller_number, enabled_meets, eq-eqb, false, flight_of, found, get_or-set_other}
+use Rattle.mk_laws.proofs.Vocabulary.{get_or-set_same, group_of, histories_keep_lengths, host_has_turn, if◌then◌else◌}
+use Rattle.mk_laws.proofs.Vocabulary.{is_open_to, is_under_turn, length, ltb-true, ne_eqb, not, one_if, onward}
+use Rattle.mk_laws.proofs.Vocabulary.{progress, progress_reg, refl, reg_access, register_met, register_word}
+use Rattle.mk_laws.proofs.Vocabulary.{seat_exists, slice_index, slice_set, still, subst, sym, true, word_accessed, ◌&&◌}
+use Rattle.mk_laws.proofs.Vocabulary.{◌*◌, ◌++◌, ◌+◌, ◌<◌, ◌==◌, ◌∙◌, ◌≡◌, ◌≢◌, ◌≤◌}
 use Rattle.mk_core.specs.{Calls.progress_cas, Effects.begins_where_free, Effects.moment_behind, HeldGates.is_gate_held}
 use Rattle.mk_core.specs.{Layout.IsOfTable, Order.is_in_order, Readings.is_idle, Readings.is_in_call, Words.with_named}
 use Rattle.mk_core.specs.{Words.word_in, declared.accesses.TableWord.TableWord}
 use Rattle.mk_laws.proofs.{NextSteps.at_enter, ProtocolHeldGates.gates_tell_holds}
 use Rattle.mk_words.proofs.Made.{made}
 use Rattle.mk_words.specs.CallSteps.{FindsHeld, KeepsOtherRegisters, LeavesRegisters, register_of}
-use Rattle.mk_words.specs.Steps.{Finds, Goes, Makes, Tells, found_by, moment_of}
-use Rattle.mk_words.specs.{Rule.told_by, States.PassState, States.call_of, States.event_of, States.now_of}
+use Rattle.mk_words.specs.States.{PassState, call_of, event_of, now_of}
+use Rattle.mk_words.specs.Steps.{Finds, Goes, IsEnabledTo, Makes, Tells, found_by, moment_of}
+use Rattle.mk_words.specs.{Rule.told_by, Seats.is_caller}
 
 -- a step of a call is its caller's
 pub is_callers : (s : Seat) → is_open_to s Group.Callers ≡ true → (k : ℕ) × (s ≡ Caller k)
 is_callers (Caller k) h = (k, refl)
 is_callers (Marker k) h = cc
 is_callers Host h = cc
+
+-- Who may load the register of a call, or grant a New its object, is a caller.
+
+pub loads_to : (p : PassState) → IsEnabledTo p Step.Reg → is_caller p.seat ≡ true
+loads_to p enabled =
+    let (k, is) = is_callers p.seat (enabled_meets p.table.config (now_of p) (event_of p Step.Reg) enabled).kind in
+    ap is_caller is
+
+grants : (c : Config) (m : Moment) (s : Seat) → is_open_to s Group.Turn ≡ true → is_in_order c m s Step.Grant ≡ true
+    → is_caller s ≡ true
+grants c m (Caller k) opens order = refl
+grants c m (Marker k) opens order = cc
+grants c m Host opens order = no_host (host_has_turn c m) order
+  where
+    no_host : (held : Bool) → (held && false) ≡ true → false ≡ true
+    no_host true order = order
+    no_host false order = order
+
+pub grants_to : (p : PassState) → IsEnabledTo p Step.Grant → is_caller p.seat ≡ true
+grants_to p enabled =
+    let meets = enabled_meets p.table.config (now_of p) (event_of p Step.Grant) enabled in
+    grants p.table.config (now_of p) p.seat meets.kind meets.order
 
 call_behind : (c : Config) (m : Moment) (seat : Seat) (k : ℕ) (s : Step) → seat ≡ Caller k → k < length m.seats.flights
     → flight_of (moment_behind c m (record { seat = seat; step = s })) seat

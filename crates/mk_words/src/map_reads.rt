@@ -81,4 +81,11 @@ impl<G: Gates> TurnAt<G> {
     {
         self.carried.map.page(page)
     }
+
+    /// The header and used word of each page.
+    pub fn pages(&self) -> &[Page]
+        ensures { result.now ≡ (now_of self.now.pass).words.pages }
+    {
+        self.carried.map.pages()
+    }
 }

@@ -116,6 +116,18 @@ impl<S: Slots> TokenWith<S> {
         self.seat
     }
 
+    /// The number of the caller whose seat it is.
+    #[inline(always)]
+    pub(crate) fn caller(&self) -> u64
+        requires { is_caller self.now.seat ≡ true }
+        ensures { result ≡ caller_number self.now.seat }
+    {
+        match self.seat {
+            Seat::Caller(caller) => caller,
+            Seat::Marker(_) | Seat::Host => unreachable!(),
+        }
+    }
+
     /// What holds of every token. It does nothing.
     #[inline(always)]
     pub(crate) fn is_in_order(&self)
@@ -184,32 +196,5 @@ impl<S: Slots> TokenWith<S> {
         ensures told { Tells self.old step result self.new }
     {
         self.perform_among(words, words.config.pages, step, word, by)
-    }
-}
-
-impl SeatToken {
-    /// The number of the caller whose seat it is.
-    #[inline(always)]
-    pub(crate) fn caller(&self) -> u64
-        requires { is_caller self.now.seat ≡ true }
-        ensures { result ≡ caller_number self.now.seat }
-    {
-        match self.seat {
-            Seat::Caller(caller) => caller,
-            Seat::Marker(_) | Seat::Host => unreachable!(),
-        }
-    }
-}
-
-impl TurnToken {
-    /// The caller's number, and 0 where the seat is no caller's.
-    #[inline(always)]
-    pub(crate) fn caller(&self) -> u64
-        ensures { result ≡ caller_number self.now.seat }
-    {
-        match self.seat {
-            Seat::Caller(caller) => caller,
-            Seat::Marker(_) | Seat::Host => 0,
-        }
     }
 }

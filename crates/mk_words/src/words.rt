@@ -1,9 +1,11 @@
 //! The shared words, and the passes to them.
-ghost use Rattle.std.specs.Prelude.{◌≡◌, ◌≤◌, [], ◌∷◌, ◌++◌, IfOk, false, replicate, true};
+ghost use Rattle.std.specs.Prelude.{◌≡◌, ◌≤◌, [], ◌∷◌, ◌++◌, IfOk, All, false, length, replicate, true};
+ghost use Rattle.mk_geom.specs.Storages.{free_page};
 ghost use Rattle.mk_core.specs.declared.events.Seat.TheVariants.{Host};
 ghost use Rattle.mk_core.specs.Config.{IsWithinLimits};
 ghost use Rattle.mk_core.specs.Growing.{Grows, is_same_seat};
 ghost use Rattle.mk_core.specs.Moments.{marker_at, outside};
+ghost use Rattle.mk_page_map.specs.KnownPages.{Shows};
 ghost use Rattle.mk_words.specs.Seats.{Has, HasAll, all_seats, without_seat, is_caller, has_over};
 ghost use Rattle.mk_words.specs.States.{now_of};
 ghost use Rattle.mk_words.specs.Finals.{history_of, config_of, HasTallies};
@@ -58,6 +60,23 @@ fn zeros(count: usize) -> &'static [u64]
     &ZEROS[..count]
 }
 
+/// The slots of a new table. In the only one is the map of so many free pages. It is apart from the making of the
+/// table, so that LLVM sees there that the table's words are zeros, and fills it itself.
+fn first_slots(alloc: Global, pages: u64) -> Result<Vec<MapHome>, NoMemory>
+    requires { pages ≤ 4096 }
+    ensures one { IfOk result (λ slots. length slots.items ≡ 1) }
+    ensures shows { IfOk result (λ slots.
+        All (λ map. Shows map (replicate pages free_page) (replicate pages 0)) slots.items) }
+{
+    let map = PageMap::new(alloc, pages)?;
+    let carried = Box::new(alloc, Carried { map, op: None })?;
+    let mut slots = Vec::new(alloc);
+    slots.push(MapHome {
+        carried: Some(carried),
+    })?;
+    Ok(slots)
+}
+
 impl Words {
     /// How many pages there are.
     pub fn pages(&self) -> u64
@@ -104,16 +123,7 @@ impl Words {
     {
         let zeros = zeros(count_of_words(config.pages));
         let copy = config.try_clone(alloc)?;
-        let pages = PageMap::new(alloc, config.pages)?;
-        let first = Carried {
-            map: pages,
-            op: None,
-        };
-        let carried = Box::new(alloc, first)?;
-        let mut slots = Vec::new(alloc);
-        slots.push(MapHome {
-            carried: Some(carried),
-        })?;
+        let slots = first_slots(alloc, config.pages)?;
         match Table::new(alloc, zeros, slots, config) {
             Ok((table, token)) => Ok((
                 Words {

@@ -3,8 +3,7 @@ ghost use Rattle.std.specs.Prelude.{◌≡◌, ◌<◌};
 ghost use Rattle.mk_words_clients.specs.Clients.{IsCallers, PointsWell, StaysAdmitted};
 ghost use Rattle.mk_never.specs.declared.operations.Op.TheVariants as op;
 
-use mk_core::is_unmapped;
-use mk_geom::{HEAP_START, PAGE_WORDS, WORD_BYTES};
+use mk_geom::{HEAP_START, PAGE_WORDS, WORD_BYTES, is_unmapped};
 use mk_never::Op;
 use mk_words::{Held, Pass, Words};
 

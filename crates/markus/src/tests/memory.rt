@@ -1,7 +1,5 @@
 //! Calls that take memory and aren't made by the command, and readers and writers that fail.
 
-use mk_books::Book;
-use mk_geom::{FREE_PAGE, Page};
 use mk_io::{Failed, ReadStop, Sink, Source, StdinSource, StdoutSink, read_all, write_all};
 use mk_never::{Kind, NeverHeap, Op, Reply, TypeTable};
 use std::io::{self, ErrorKind, Read, Write};
@@ -27,11 +25,6 @@ fn never_reuses_in_memory(rt: HostRuntime) -> Result<(), Fail> {
     assert_eq!(rt; heap.apply(0, free).expect(&rt, "memory"), Reply::Done);
     assert_eq!(rt; heap.apply(0, load).expect(&rt, "memory"), Reply::Num(7));
     assert_eq!(rt; heap.apply(0, free).expect(&rt, "memory"), Reply::Double);
-
-    let page = Page { header: 8, used: 1 };
-    let mut book = Book::new(alloc, 3).expect(&rt, "memory");
-    book.set(1, page);
-    assert_eq!(rt; book.pages(), [FREE_PAGE, page, FREE_PAGE].as_slice());
     Ok(())
 }
 

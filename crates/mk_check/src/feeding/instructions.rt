@@ -99,12 +99,12 @@ pub enum Instruction {
 impl Instruction {
     ghost use Rattle.std.specs.Prelude.{◌≡◌, ℕ, List, is_some};
     ghost use Rattle.mk_core.specs.declared.events.Answer.{Answer};
-    ghost use Rattle.mk_check.specs.Steps.{is_print, is_show, is_silent, keeping_register, op_asked};
+    ghost use Rattle.mk_check.specs.Steps.{is_asking, is_print, is_show, is_silent, keeping_register};
 
     /// Whether it asks for an operation.
     #[inline(always)]
     pub fn asks(&self) -> bool
-        ensures { (numbers : List ℕ) → result ≡ is_some (op_asked numbers self.now) }
+        ensures { result ≡ is_asking self.now }
     {
         !matches!(
             self,

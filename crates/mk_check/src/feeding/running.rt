@@ -224,22 +224,11 @@ impl Running {
         ensures { OnOk result (self.new ≡ with_kept self.old (steps.after_line instruction (kept_in self.old))) }
     {
         match instruction {
-            Instruction::Const { number, value } => self.set(number, value),
-            Instruction::Add {
-                number,
-                left,
-                right,
-            } => self.set(number, self.number(left).wrapping_add(self.number(right))),
-            Instruction::Sub {
-                number,
-                left,
-                right,
-            } => self.set(number, self.number(left).wrapping_sub(self.number(right))),
             Instruction::Print { number } => {
                 self.print_number(alloc, self.number(number))?;
                 self.print(b"\n")?;
             }
-            _ => {}
+            _ => self.calculate(instruction),
         }
         Ok(())
     }

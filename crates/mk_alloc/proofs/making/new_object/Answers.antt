@@ -1,6 +1,6 @@
 use Rattle.mk_alloc.proofs.Vocabulary.{Answer, CalledInTurn, CallerState, EachIsBegun, IsAnsweredFull, Misfits, Op}
 use Rattle.mk_alloc.proofs.Vocabulary.{PassState, Some, SweepsNothing, begun_then, false, only_seen, subst, sym}
-use Rattle.mk_alloc.proofs.Vocabulary.{turn_stays, ◌∙◌}
+use Rattle.mk_alloc.proofs.Vocabulary.{turn_stays}
 use Rattle.mk_alloc.proofs.BegunTurns.{none_begun, turn_begun}
 use Rattle.mk_alloc.proofs.NewTurns.{NewGiven, census_told, given, is_answered_full, last_turn, new_called}
 use Rattle.mk_alloc.proofs.OneCycles.{none_runs_one, none_then_one, one_then_none}
@@ -147,7 +147,7 @@ returns-clause-full g c =
     (sym c.back-2.ensures)
     (is_answered_full m misfits c.answer_full.ensures.full g.E.Engine.on
     (census_told (last_turn m misfits c.answer_full.ensures.full) misfits.seeks.on.quiet
-    (c.pages.ensures ∙ c.make_room-turn.ensures.shows c.if-placed.false) c.census-census.ensures))
+    c.pages.ensures c.census-census.ensures))
 
 pub returns-clause-reached : goal.returns-clause-reached
 returns-clause-reached g c =

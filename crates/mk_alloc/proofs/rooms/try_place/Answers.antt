@@ -4,7 +4,7 @@ use Rattle.mk_alloc.proofs.SeekingTurns.{misfits_here, seeks_placed}
 use Rattle.mk_alloc.proofs.rooms.try_place.Goals as goal
 
 pub returns-clause-placed : goal.returns-clause-placed
-returns-clause-placed g c =
+returns-clause-placed c =
     let t = c.args.turn.now in
     let i = c.is_in_order.ensures in
     λ placed.
@@ -12,7 +12,7 @@ returns-clause-placed g c =
     c.requires.unplaced c.requires.quiet (c.place_object-placed.ensures.placed placed) c.is_in_order-2.ensures.history
 
 pub returns-clause-misfits : goal.returns-clause-misfits
-returns-clause-misfits g c =
+returns-clause-misfits c =
     let t = c.args.turn.now in
     let i = c.is_in_order.ensures in
     λ misfits.
@@ -20,7 +20,7 @@ returns-clause-misfits g c =
     c.requires.unplaced c.requires.quiet (c.place_object-placed.ensures.nowhere misfits) c.is_in_order-2.ensures.history
 
 pub returns-clause-begins : goal.returns-clause-begins
-returns-clause-begins g c =
+returns-clause-begins c =
     let t = c.args.turn.now in
     let i = c.is_in_order.ensures in
     let j = c.is_in_order-2.ensures in

@@ -4,18 +4,18 @@ use Rattle.mk_caller.proofs.steps.moved_on.Goals as goal
 
 pub overflow_mul-result : goal.overflow_mul-result
 overflow_mul-result c =
-    let within = moved_within c.args.pass.now c.requires.underway c.args.u c.args.i c.requires.stage c.requires.access
-    c.requires.loaded c.requires.some c.requires.value c.requires.offset in
+    let r = c.requires in
+    let within = moved_within r.underway r.stage r.access r.loaded r.some r.value r.offset in
     omega arith
 
 pub overflow_add-result : goal.overflow_add-result
 overflow_add-result c =
-    let within = moved_within c.args.pass.now c.requires.underway c.args.u c.args.i c.requires.stage c.requires.access
-    c.requires.loaded c.requires.some c.requires.value c.requires.offset in
+    let r = c.requires in
+    let within = moved_within r.underway r.stage r.access r.loaded r.some r.value r.offset in
     omega arith
 
 pub returns : goal.returns
 returns c =
-    let within = moved_within c.args.pass.now c.requires.underway c.args.u c.args.i c.requires.stage c.requires.access
-    c.requires.loaded c.requires.some c.requires.value c.requires.offset in
+    let r = c.requires in
+    let within = moved_within r.underway r.stage r.access r.loaded r.some r.value r.offset in
     omega arith

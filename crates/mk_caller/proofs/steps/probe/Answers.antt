@@ -1,74 +1,62 @@
 use Rattle.mk_laws.proofs.Vocabulary.{Stage, Step, arith, refl, sym, ◌∙◌}
-use Rattle.mk_core.specs.Effects.{progress_probe}
 use Rattle.mk_caller.proofs.Stepping.{may_reach, met, met_bounds, probe_passed, probe_refused}
 use Rattle.mk_caller.proofs.{Onward.moves, Onward.probe_next, Probing.probes_a_word, Probing.probes_unmapped}
-use Rattle.mk_words.specs.States.{call_of}
 use Rattle.mk_caller.proofs.steps.probe.Goals as goal
 
 pub overflow_sub-word : goal.overflow_sub-word
 overflow_sub-word c =
-    let p = c.args.pass.now in
-    let u = c.requires.underway in
-    let m = met p u Stage.Probe c.requires.stage c.requires.access refl refl refl in
-    let b = met_bounds p u c.args.u c.args.i c.requires.value c.requires.offset m in
-    b.0
+    let r = c.requires in
+    let m = met r.underway Stage.Probe r.stage r.access refl refl refl in
+    (met_bounds r.underway c.args.u c.args.i r.value r.offset m).0
 
 pub overflow_add-word : goal.overflow_add-word
 overflow_add-word c =
-    let p = c.args.pass.now in
-    let u = c.requires.underway in
-    let m = met p u Stage.Probe c.requires.stage c.requires.access refl refl refl in
-    let b = met_bounds p u c.args.u c.args.i c.requires.value c.requires.offset m in
-    let pages = u.pass.history.within_limits.pages in
-    let one = c.requires.one_table in
+    let r = c.requires in
+    let m = met r.underway Stage.Probe r.stage r.access refl refl refl in
+    let b = met_bounds r.underway c.args.u c.args.i r.value r.offset m in
+    let pages = r.underway.pass.history.within_limits.pages in
+    let one = r.one_table in
     omega (arith, b, pages)
 
 pub overflow_cast-word : goal.overflow_cast-word
 overflow_cast-word c =
-    let p = c.args.pass.now in
-    let u = c.requires.underway in
-    let m = met p u Stage.Probe c.requires.stage c.requires.access refl refl refl in
-    let b = met_bounds p u c.args.u c.args.i c.requires.value c.requires.offset m in
-    let pages = u.pass.history.within_limits.pages in
-    let one = c.requires.one_table in
+    let r = c.requires in
+    let m = met r.underway Stage.Probe r.stage r.access refl refl refl in
+    let b = met_bounds r.underway c.args.u c.args.i r.value r.offset m in
+    let pages = r.underway.pass.history.within_limits.pages in
+    let one = r.one_table in
     omega (arith, b, pages)
 
 pub probe-header-requires-clause-enabled : goal.probe-header-requires-clause-enabled
 probe-header-requires-clause-enabled c =
-    (may_reach c.args.pass.now c.requires.underway Stage.Probe c.requires.stage
-    c.requires.access refl refl refl Step.Probe refl refl refl).0
+    (may_reach c.requires.underway Stage.Probe c.requires.stage c.requires.access refl refl refl Step.Probe refl refl
+    refl).0
 
 pub probe-header-requires-clause-admitted : goal.probe-header-requires-clause-admitted
 probe-header-requires-clause-admitted c =
-    (may_reach c.args.pass.now c.requires.underway Stage.Probe c.requires.stage
-    c.requires.access refl refl refl Step.Probe refl refl refl).1
+    (may_reach c.requires.underway Stage.Probe c.requires.stage c.requires.access refl refl refl Step.Probe refl refl
+    refl).1
 
 pub returns-then-is_unmapped-clause-refused : goal.returns-then-is_unmapped-clause-refused
 returns-then-is_unmapped-clause-refused c =
-    let p = c.args.pass.now in
     let f = c.probe-header in
-    let m = moves p Step.Probe (progress_probe (call_of p) f.result) f.new.self c.requires.underway f.ensures.goes
-    (probe_next p.table.config (call_of p) f.result c.requires.stage) in
-    probe_refused p f.new.self f.result (sym c.is_unmapped.ensures ∙ c.if-is_unmapped.true) m
+    probe_refused f.result (sym c.is_unmapped.ensures ∙ c.if-is_unmapped.true)
+    (moves c.requires.underway f.ensures.goes (probe_next _ _ f.result c.requires.stage))
 
 pub returns-then-is_unmapped-clause-unmapped : goal.returns-then-is_unmapped-clause-unmapped
 returns-then-is_unmapped-clause-unmapped c =
     let f = c.probe-header in
     probes_unmapped c.args.pass.now f.new.self f.result c.requires.underway f.ensures.finds c.requires.stage
-    c.requires.access
-    (sym c.is_unmapped.ensures ∙ c.if-is_unmapped.true)
+    c.requires.access (sym c.is_unmapped.ensures ∙ c.if-is_unmapped.true)
 
 pub returns-else-is_unmapped-clause-moves : goal.returns-else-is_unmapped-clause-moves
 returns-else-is_unmapped-clause-moves c =
-    let p = c.args.pass.now in
     let f = c.probe-header in
-    let m = moves p Step.Probe (progress_probe (call_of p) f.result) f.new.self c.requires.underway f.ensures.goes
-    (probe_next p.table.config (call_of p) f.result c.requires.stage) in
-    probe_passed p f.new.self f.result (sym c.is_unmapped.ensures ∙ c.if-is_unmapped.false) m
+    probe_passed f.result (sym c.is_unmapped.ensures ∙ c.if-is_unmapped.false)
+    (moves c.requires.underway f.ensures.goes (probe_next _ _ f.result c.requires.stage))
 
 pub returns-else-is_unmapped-clause-reached : goal.returns-else-is_unmapped-clause-reached
 returns-else-is_unmapped-clause-reached c =
     let f = c.probe-header in
     probes_a_word c.args.pass.now f.new.self f.result c.requires.underway f.ensures.finds c.requires.stage
-    c.requires.access
-    (sym c.is_unmapped.ensures ∙ c.if-is_unmapped.false)
+    c.requires.access (sym c.is_unmapped.ensures ∙ c.if-is_unmapped.false)

@@ -1,17 +1,12 @@
-use Rattle.mk_laws.proofs.Vocabulary.{ℕ, ap, arith, refl, ◌<◌, ◌∙◌, ◌≡◌}
-use Rattle.mk_cycle.proofs.Vocabulary.{PassState, WordsState}
+use Rattle.mk_laws.proofs.Vocabulary.{ℕ, arith, ◌<◌, ◌∙◌, ◌≡◌}
+use Rattle.mk_cycle.proofs.Vocabulary.{PassState}
 use Rattle.mk_cycle.proofs.CleanedPages.{ready_more, ready_past}
 use Rattle.mk_cycle.proofs.CleaningSteps.{cleaned_table, cleans_nothing, cleans_then}
 use Rattle.mk_cycle.proofs.cleaning.clean_pages_in_use.Goals.{In_default}
 use Rattle.mk_cycle.proofs.cleaning.clean_pages_in_use.Goals as goal
 
 pub loop-page-init : goal.loop-page-init
-loop-page-init c = record {
-  op = refl;
-  begun = omega arith;
-  cleans = cleans_nothing c.args.turn.now.pass;
-  below = λ page lt. absurd (omega arith);
-}
+loop-page-init c = grind (arith, cleans_nothing)
 
 pub loop-page-preserved : goal.loop-page-preserved
 loop-page-preserved c =
@@ -22,8 +17,7 @@ loop-page-preserved c =
     let r : PassState = c.clean_page.new.turn.pass in
     let n : ℕ = c.in-Some.page in
     let next = c.in-Some.ensures.next in
-    let same_pages : q.table.config.pages ≡ c.args.words.now.config.pages =
-    ap (λ (w : WordsState). w.config.pages) (cleaned_table p q c.args.words.now i.cleans c.requires.one_table) in
+    let same_pages : q.table.config.pages ≡ c.args.words.now.config.pages = grind (arith, cleaned_table) in
     let within : n < q.table.config.pages = next.1 in
     record {
       op = x.op ∙ i.op;
@@ -36,10 +30,7 @@ loop-page-preserved c =
     }
 
 same_pages : (c : In_default) → c.loop-page.turn.pass.table.config.pages ≡ c.args.words.now.config.pages
-same_pages c =
-    ap (λ (w : WordsState). w.config.pages)
-    (cleaned_table c.args.turn.now.pass c.loop-page.turn.pass c.args.words.now c.loop-page.invariant.cleans
-    c.requires.one_table)
+same_pages c = grind (arith, cleaned_table)
 
 pub returns-clause-ready : goal.returns-clause-ready
 returns-clause-ready c =

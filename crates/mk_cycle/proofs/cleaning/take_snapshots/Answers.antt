@@ -1,16 +1,11 @@
-use Rattle.mk_laws.proofs.Vocabulary.{ℕ, ap, arith, refl, ◌<◌, ◌∙◌, ◌≡◌}
-use Rattle.mk_cycle.proofs.Vocabulary.{PassState, WordsState}
+use Rattle.mk_laws.proofs.Vocabulary.{ℕ, arith, ◌<◌, ◌∙◌, ◌≡◌}
+use Rattle.mk_cycle.proofs.Vocabulary.{PassState}
 use Rattle.mk_cycle.proofs.CleaningSteps.{cleaned_table, cleans_nothing, cleans_then}
 use Rattle.mk_cycle.proofs.{CleanedPages.taken_more, CleanedPages.taken_past, cleaning.take_snapshots.Goals.In_default}
 use Rattle.mk_cycle.proofs.cleaning.take_snapshots.Goals as goal
 
 pub loop-page-init : goal.loop-page-init
-loop-page-init c = record {
-  op = refl;
-  begun = omega arith;
-  cleans = cleans_nothing c.args.turn.now.pass;
-  below = λ page lt. absurd (omega arith);
-}
+loop-page-init c = grind (arith, cleans_nothing)
 
 pub loop-page-preserved : goal.loop-page-preserved
 loop-page-preserved c =
@@ -21,8 +16,7 @@ loop-page-preserved c =
     let r : PassState = c.copy_freed.new.turn.pass in
     let n : ℕ = c.in-Some.page in
     let next = c.in-Some.ensures.next in
-    let same_pages : q.table.config.pages ≡ c.args.words.now.config.pages =
-    ap (λ (w : WordsState). w.config.pages) (cleaned_table p q c.args.words.now i.cleans c.requires.one_table) in
+    let same_pages : q.table.config.pages ≡ c.args.words.now.config.pages = grind (arith, cleaned_table) in
     let within : n < q.table.config.pages = next.1 in
     record {
       op = x.op ∙ i.op;
@@ -33,10 +27,7 @@ loop-page-preserved c =
     }
 
 same_pages : (c : In_default) → c.loop-page.turn.pass.table.config.pages ≡ c.args.words.now.config.pages
-same_pages c =
-    ap (λ (w : WordsState). w.config.pages)
-    (cleaned_table c.args.turn.now.pass c.loop-page.turn.pass c.args.words.now c.loop-page.invariant.cleans
-    c.requires.one_table)
+same_pages c = grind (arith, cleaned_table)
 
 pub returns-clause-snapshot : goal.returns-clause-snapshot
 returns-clause-snapshot c =

@@ -3,8 +3,7 @@ use Rattle.mk_cycle.proofs.HoldingSteps.{all_held_below, holds_nothing, holds_th
 use Rattle.mk_cycle.proofs.holding.hold_gates.Goals as goal
 
 pub loop-caller-init : goal.loop-caller-init
-loop-caller-init g c =
-    record { op = refl; holds = holds_nothing c.args.turn.now.pass; held = λ j lt. absurd (omega arith) }
+loop-caller-init g c = grind (arith, holds_nothing)
 
 pub loop-caller-preserved : goal.loop-caller-preserved
 loop-caller-preserved g c =
@@ -17,7 +16,4 @@ loop-caller-preserved g c =
     }
 
 pub returns-clause-held : goal.returns-clause-held
-returns-clause-held g c =
-    let last = c.loop-caller-test.false in
-    all_held_below c.loop-caller.turn.pass c.args.words.now.config.callers
-    (λ j lt. c.loop-caller.invariant.held j (omega (arith, last, c.callers-caller-end.ensures)))
+returns-clause-held g c = grind (arith, all_held_below)

@@ -1,6 +1,5 @@
-use Rattle.mk_laws.proofs.Vocabulary.{Page, ℕ, ap, arith, header_in, header_of, in_a_word, refl, run_count, ◌+◌, ◌<◌}
-use Rattle.mk_laws.proofs.Vocabulary.{◌∙◌, ◌≡◌}
-use Rattle.mk_cycle.proofs.Vocabulary.{PassState, WordsState, now_of}
+use Rattle.mk_laws.proofs.Vocabulary.{Page, ℕ, ap, arith, header_in, in_a_word, refl, run_count, ◌+◌, ◌<◌, ◌∙◌, ◌≡◌}
+use Rattle.mk_cycle.proofs.Vocabulary.{PassState, now_of}
 use Rattle.mk_cycle.proofs.PageByPage.{AreSettledBelow, settled_more, settled_none, settled_to}
 use Rattle.mk_cycle.proofs.settling.settle_pages.Goals.{After-known_page-word, In_default}
 use Rattle.mk_cycle.proofs.FreeingSteps.{freed_table}
@@ -27,16 +26,14 @@ to_next c =
     let next = c.in-Some.ensures.next in
     let i = c.loop-page.invariant in
     let same_pages : c.loop-page.turn.pass.table.config.pages ≡ c.args.words.now.config.pages =
-    ap (λ (w : WordsState). w.config.pages)
-    (freed_table c.args.turn.now.pass c.loop-page.turn.pass c.args.words.now i.settled.frees c.requires.one_table) in
+    grind (arith, freed_table) in
     let within = next.1 in
     settled_to c.args.turn.now.pass c.loop-page.turn.pass c.in-Some.ensures.is c.loop-page.from c.in-Some.page
     c.loop-page.end c.args.words.now.config.pages next.0 (omega (arith, within, same_pages)) next.3
     c.loop-page.all c.loop-page.held i.settled
 
 pub settle_taken-here-requires-clause-settled : goal.settle_taken-here-requires-clause-settled
-settle_taken-here-requires-clause-settled c =
-    (to_next (goal.at.settle_taken-here-requires-clause-settled c).After-known_page-word).settled
+settle_taken-here-requires-clause-settled c = grind (arith, to_next)
 
 pub loop-page-preserved : goal.loop-page-preserved
 loop-page-preserved c =
@@ -48,12 +45,10 @@ loop-page-preserved c =
     let pages : ℕ = c.args.words.now.config.pages in
     let before = to_next (goal.at.loop-page-preserved c).After-known_page-word in
     let after = c.in-Some.ensures.next.0 in
-    let same_pages : q.table.config.pages ≡ pages =
-    ap (λ (w : WordsState). w.config.pages) (freed_table p q c.args.words.now i.settled.frees c.requires.one_table) in
+    let same_pages : q.table.config.pages ≡ pages = grind (arith, freed_table) in
     let within : n < q.table.config.pages = c.in-Some.ensures.next.1 in
     let known = c.of-header.ensures ∙ ap (λ (y : Page). y.header) c.known_page-word.ensures.page in
-    let end : c.run_end.result ≡ in_a_word (n + run_count (header_in (now_of q).words n)) =
-    c.run_end.ensures ∙ ap (λ (h : ℕ). in_a_word (n + run_count (header_of h))) known in
+    let end : c.run_end.result ≡ in_a_word (n + run_count (header_in (now_of q).words n)) = grind arith in
     let furthest = c.max-end.ensures in
     let limits = c.is_within_limits.ensures in
     record {
@@ -71,10 +66,7 @@ loop-page-preserved c =
     }
 
 same_pages : (c : In_default) → c.loop-page.turn.pass.table.config.pages ≡ c.args.words.now.config.pages
-same_pages c =
-    ap (λ (w : WordsState). w.config.pages)
-    (freed_table c.args.turn.now.pass c.loop-page.turn.pass c.args.words.now c.loop-page.invariant.settled.frees
-    c.requires.one_table)
+same_pages c = grind (arith, freed_table)
 
 -- and where there is none, up to the end
 to_end : (c : In_default)

@@ -20,7 +20,6 @@ fill_and_free-answers-requires-clause-first g c κs within =
           c.caller-first.ensures.caller;
       ty = subst (λ (d : Config). 0 < length d.types) (sym at) c.requires.ty;
       engine = c.in_ok-bench.ensures.engine ∙ sym (ap (λ (d : Config). d.pages) at);
-      pages = c.in_ok-bench.ensures.book ∙ sym (ap (λ (d : Config). d.pages) at);
     }
 
 pub fill_and_free-answers-requires-clause-second : goal.fill_and_free-answers-requires-clause-second

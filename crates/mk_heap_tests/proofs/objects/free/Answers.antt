@@ -17,16 +17,13 @@ free_object-requires-clause-base g c κs within = c.requires.may.ready.objects c
 pub free_object-requires-clause-made_for : goal.free_object-requires-clause-made_for
 free_object-requires-clause-made_for g c κs within = c.requires.may.engine
 
-pub free_object-requires-clause-book : goal.free_object-requires-clause-book
-free_object-requires-clause-book g c κs within = c.requires.may.pages
-
 pub returns-clause-may : goal.returns-clause-may
 returns-clause-may g c =
     let f = c.free_object in
     let made_for = g.E.Engine.made_for in
     let s = c.args.caller.now in
-    may_then (made_for c.args.bench.now.engine) (length c.args.bench.now.book) (made_for f.new.bench.engine)
-    (length f.new.bench.book) s f.new.caller c.requires.may f.ensures.made_for f.ensures.book
+    may_then (made_for c.args.bench.now.engine) (made_for f.new.bench.engine)
+    s f.new.caller c.requires.may f.ensures.made_for
     (same_free g.E.Engine.on c.args.p s f.new.caller f.result f.ensures.freed f.ensures.double)
     (ready_free g.E.Engine.on c.args.p s f.new.caller f.result c.requires.may.ready f.ensures.home f.ensures.freed
     f.ensures.double)

@@ -17,16 +17,13 @@ new_object-requires-clause-ty g c κs within = c.requires.may.ty
 pub new_object-requires-clause-made_for : goal.new_object-requires-clause-made_for
 new_object-requires-clause-made_for g c κs within = c.requires.may.engine
 
-pub new_object-requires-clause-book : goal.new_object-requires-clause-book
-new_object-requires-clause-book g c κs within = c.requires.may.pages
-
 pub returns-clause-may : goal.returns-clause-may
 returns-clause-may g c =
     let n = c.new_object in
     let made_for = g.E.Engine.made_for in
     let s = c.args.caller.now in
-    may_then (made_for c.args.bench.now.engine) (length c.args.bench.now.book) (made_for n.new.bench.engine)
-    (length n.new.bench.book) s n.new.caller c.requires.may n.ensures.made_for n.ensures.book
+    may_then (made_for c.args.bench.now.engine) (made_for n.new.bench.engine)
+    s n.new.caller c.requires.may n.ensures.made_for
     (same_new g.E.Engine.on c.args.d 0 s n.new.caller n.result n.ensures.made n.ensures.full)
     (ready_new g.E.Engine.on c.args.d 0 s n.new.caller n.result c.requires.may.ready c.requires.register n.ensures.home
     n.ensures.made

@@ -63,13 +63,15 @@ give-requires-clause-tidy g c =
     c.place_object-placed.new.turn.pass (c.place_object-placed.ensures.placed c.if-not-placed.false) k.history in
     s.on.quiet.tidy
 
-pub returns-clause-pass : goal.returns-clause-pass
-returns-clause-pass g c =
+pub returns : goal.returns
+returns g c =
     let t = c.take_turn-turn in
     let j = c.is_in_order-2.ensures in
     let k = c.is_in_order-3.ensures in
-    passed_back c.args.words.now 0 c.args.home c.requires.pass t.result.pass c.requires.exists c.is_in_order.ensures.own
-    t.ensures.takes t.ensures.fresh t.ensures.exact t.ensures.tidy
-    (in_turn t.result.pass t.result.op j.own j.turn j.history) j.before_over
-    c.place_object-placed.new.turn.pass (c.place_object-placed.ensures.placed c.if-not-placed.false) k.history
-    c.give.result c.give.ensures.acts.makes c.give.ensures.rests
+    record {
+      pass = passed_back c.args.words.now 0 c.args.home c.requires.pass t.result.pass c.requires.exists
+      c.is_in_order.ensures.own t.ensures.takes t.ensures.fresh t.ensures.exact t.ensures.tidy
+      (in_turn t.result.pass t.result.op j.own j.turn j.history) j.before_over
+      c.place_object-placed.new.turn.pass (c.place_object-placed.ensures.placed c.if-not-placed.false) k.history
+      c.give.result c.give.ensures.acts.makes c.give.ensures.rests;
+    }

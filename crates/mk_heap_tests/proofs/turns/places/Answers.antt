@@ -1,5 +1,4 @@
-use Rattle.std.proofs.lemmas.List.{length-replicate}
-use Rattle.mk_laws.proofs.Vocabulary.{Config, List, Page, ap, free_page, length, subst, sym, ◌<◌, ◌∙◌}
+use Rattle.mk_laws.proofs.Vocabulary.{Config, length, subst, sym, ◌<◌}
 use Rattle.mk_heap_tests.proofs.Vocabulary.{HostState, IsPassFor, WordsState}
 use Rattle.mk_heap_tests.proofs.JoinedHosts.{first_for, first_of}
 use Rattle.mk_heap_tests.proofs.turns.places.Goals as goal
@@ -22,10 +21,3 @@ pub place_all-requires-clause-ty : goal.place_all-requires-clause-ty
 place_all-requires-clause-ty g c =
     subst (λ (v : WordsState). 0 < length v.config.types) (sym c.words.ensures)
     (subst (λ (d : Config). 0 < length d.types) (sym c.in_ok-heap.ensures.config) c.requires.ty)
-
-pub place_all-requires-clause-book : goal.place_all-requires-clause-book
-place_all-requires-clause-book g c =
-    ap (λ (b : List Page). length b) c.in-Ok.ensures
-    ∙ length-replicate c.args.config.now.pages free_page
-    ∙ sym (ap (λ (d : Config). d.pages) c.in_ok-heap.ensures.config)
-    ∙ sym (ap (λ (v : WordsState). v.config.pages) c.words.ensures)

@@ -1,7 +1,7 @@
-use Rattle.mk_laws.proofs.Vocabulary.{List, None, Page, Some, ap, arith, histories_keep_lengths, length, place_on_pages}
-use Rattle.mk_laws.proofs.Vocabulary.{refl, sym, ◌∙◌, ◌≡◌}
+use Rattle.mk_laws.proofs.Vocabulary.{None, Some, arith, histories_keep_lengths, place_on_pages}
+use Rattle.mk_laws.proofs.Vocabulary.{refl, ◌∙◌, ◌≡◌}
 use Rattle.mk_objects.proofs.Vocabulary.{PassState, now_of, object_for}
-use Rattle.mk_objects.proofs.JoinedLooks.{granted_behind_looks, looks_nothing, looks_pages}
+use Rattle.mk_objects.proofs.JoinedLooks.{granted_behind_looks, looks_nothing}
 use Rattle.mk_objects.proofs.PlacedNews.{fit_found, fit_within, goes_behind, place_found}
 use Rattle.mk_objects.proofs.{UnsweptNews.looks_sweep, placing.place_apart.Goals.After-seek}
 use Rattle.mk_objects.proofs.placing.place_apart.Goals as goal
@@ -31,12 +31,6 @@ serve_now-requires-clause-goes c =
     goes_behind p p c.in-Some.place (looks_nothing p) c.requires.unplaced
     (fit x.After-seek ∙ c.in-Some.is)
 
-pub returns-in-None-clause-book : goal.returns-in-None-clause-book
-returns-in-None-clause-book c =
-    let p : PassState = c.args.turn.now.pass in
-    ap (λ (ps : List Page). length ps) c.fill.ensures.filled
-    ∙ (histories_keep_lengths p.table.config p.seen).pages ∙ sym c.requires.book
-
 pub returns-in-None-clause-nowhere : goal.returns-in-None-clause-nowhere
 returns-in-None-clause-nowhere c =
     let x = goal.at.returns-in-None-clause-nowhere c in
@@ -45,16 +39,12 @@ returns-in-None-clause-nowhere c =
       nowhere = place_found p c.args.turn.now.op None c.is_in_order.ensures.turn c.is_in_order.ensures.history
           c.requires.unplaced
           (fit x.After-seek ∙ c.in-None.is);
-      looks = c.fill.ensures.looks;
+      looks = looks_nothing p;
     }
 
-pub returns-in-None-clause-shows : goal.returns-in-None-clause-shows
-returns-in-None-clause-shows c =
-    let p : PassState = c.args.turn.now.pass in
-    λ h. c.fill.ensures.filled ∙ sym (looks_pages p c.fill.new.turn.pass c.fill.ensures.looks)
-
 pub returns-in-None-clause-reached : goal.returns-in-None-clause-reached
-returns-in-None-clause-reached c = looks_sweep c.args.turn.now.pass c.fill.new.turn.pass c.fill.ensures.looks
+returns-in-None-clause-reached c = looks_sweep c.args.turn.now.pass c.args.turn.now.pass
+    (looks_nothing c.args.turn.now.pass)
 
 pub returns-in-Some-clause-placed : goal.returns-in-Some-clause-placed
 returns-in-Some-clause-placed c =

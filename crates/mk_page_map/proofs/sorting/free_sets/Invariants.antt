@@ -1,9 +1,9 @@
 use Rattle.mk_page_map.proofs.Vocabulary.{AreSets}
-use Rattle.mk_page_map.proofs.FreeSets.{HaveFree}
+use Rattle.mk_page_map.proofs.FreeSets.{HaveFreeBelow}
 use Rattle.mk_page_map.proofs.sorting.free_sets.Given as goal
 
-abbrev pub invariant-loop-page : goal.invariant-loop-page
-invariant-loop-page l = record {
+abbrev pub invariant-loop-word : goal.invariant-loop-word
+invariant-loop-word l = record {
   are_sets : AreSets l.sets.items;
-  free : HaveFree l.sets.items l.page;
+  free : HaveFreeBelow l.sets.items l.word l.pages;
 }

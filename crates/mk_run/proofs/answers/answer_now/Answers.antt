@@ -41,7 +41,6 @@ returns-in-Ok-call g c =
     record {
       home = c.call.ensures.home;
       made_for = refl;
-      book = refl;
       answers = answers;
       held = tt;
       reached = λ off. calls_sweep_nothing p c.args.op called.answer q called.called;
@@ -58,7 +57,6 @@ returns-in-Err-call g c =
     record {
       home = c.call.ensures.home;
       made_for = refl;
-      book = refl;
       answers = tt;
       held = record { beside = entered; none = λ on. makes_none on p c.args.op q held };
       reached = λ off. sweep_nothing_where_held p c.args.op q c.is_idle.ensures.own held;

@@ -52,7 +52,6 @@ returns-in_default g c =
     record {
       home = c.answer_when_open.ensures.home;
       made_for = refl;
-      book = refl;
       answers = answers;
       reached = λ off. c.answer_when_open.ensures.reached;
       begun = beside_begun g.E.Engine.begins p q (answers.beside entered);

@@ -94,12 +94,6 @@ answer_put_off-answer-requires-clause-made_for g c κs within =
     c.instructions.invariant.made_for ∙ c.requires.made_for
     ∙ ap (λ (q : PassState). q.table.config.pages) (sym (put_off g x.In-None))
 
-pub answer_put_off-answer-requires-clause-book : goal.answer_put_off-answer-requires-clause-book
-answer_put_off-answer-requires-clause-book g c κs within =
-    let x = goal.at.answer_put_off-answer-requires-clause-book g c in
-    c.instructions.invariant.book ∙ c.requires.book
-    ∙ ap (λ (q : PassState). q.table.config.pages) (sym (put_off g x.In-None))
-
 pub instructions-smaller : goal.instructions-smaller
 instructions-smaller g c = omega (arith, c.in_ok-take_answer.ensures.ops, c.instructions-test.true)
 
@@ -124,11 +118,6 @@ instructions-preserved g c =
         | in-Some-answer_at_once w ↦ rw w.bench-is c.instructions.invariant.made_for
         | in-None w ↦ rw w.bench-is (w.answer_put_off-answer.ensures.made_for
             ∙ c.instructions.invariant.made_for)
-      ];
-      book = elim c.match-answer_at_once.branch [
-        | in-Some-answer_at_once w ↦ rw w.bench-is c.instructions.invariant.book
-        | in-None w ↦ rw w.bench-is (w.answer_put_off-answer.ensures.book
-            ∙ c.instructions.invariant.book)
       ];
       refused = refused_within program k (answers_in p.table.config k r.seen) after on.fed;
       reached = λ none. sweeps_then p q r run.is (c.instructions.invariant.reached none) (j.reached none);
@@ -188,7 +177,6 @@ instructions-init g c =
         fed = subst (λ (answers : List Answer). IsFedWith program k answers script) (sym c.requires.no_call) fed;
       };
       made_for = refl;
-      book = refl;
       refused = refused_within program k [] script fed;
       reached = λ none. nothing_sweeps p;
       begun = nothing_begun g.E.Engine.begins p;

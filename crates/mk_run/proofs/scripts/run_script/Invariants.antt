@@ -1,4 +1,4 @@
-use Rattle.mk_laws.proofs.Vocabulary.{false, length, true, ◌-◌, ◌≡◌, ◌≤◌}
+use Rattle.mk_laws.proofs.Vocabulary.{false, true, ◌-◌, ◌≡◌, ◌≤◌}
 use Rattle.mk_run.proofs.Vocabulary.{EachIsBegun, SweepsNothing}
 use Rattle.mk_run.specs.Scripts.{IsRunning, script_of}
 use Rattle.mk_run.proofs.scripts.run_script.Given as goal
@@ -8,7 +8,6 @@ invariant-instructions g l = record {
   home : l.caller.home ≡ true;
   running : IsRunning g.E.Engine.on l.fn.program l.fn.k l.fn.caller.pass l.caller.pass (script_of l.feed l.counts);
   made_for : g.E.Engine.made_for l.bench.engine ≡ g.E.Engine.made_for l.fn.bench.engine;
-  book : length l.bench.book ≡ length l.fn.bench.book;
   refused : l.counts.refused ≤ l.counts.ops;
   reached : g.E.Engine.sweeps ≡ false → SweepsNothing l.fn.caller.pass l.caller.pass;
   begun : EachIsBegun g.E.Engine.begins l.fn.caller.pass l.caller.pass;

@@ -1,16 +1,9 @@
-use Rattle.mk_stack.proofs.Vocabulary.{Op}
-use Rattle.mk_stack.proofs.Advances.{fill_advances, ready_state}
-use Rattle.mk_stack.proofs.{NodeKinds.may_fill, RefusedAccesses.fill_held, Replies.stays_refused}
+use Rattle.mk_stack.proofs.{Advances.fill_advances, Advances.ready_state, NodeKinds.may_fill, RefusedAccesses.fill_held}
 use Rattle.mk_stack.proofs.advancing.fill.Goals as goal
 
 pub set_num-filled-requires-clause-admitted : goal.set_num-filled-requires-clause-admitted
 set_num-filled-requires-clause-admitted c =
     may_fill (ready_state c.requires.ready c.is_idle.ensures.history) c.args.n c.requires.holds.1
-
-pub held-requires : goal.held-requires
-held-requires c =
-    fill_held _ _ c.requires.ready.types c.is_idle-2.ensures.history c.args.n c.in-Err.cause c.requires.holds.1
-    c.in-Err.ensures.refused
 
 pub returns-in-Ok-clause-advances : goal.returns-in-Ok-clause-advances
 returns-in-Ok-clause-advances c =
@@ -19,4 +12,5 @@ returns-in-Ok-clause-advances c =
 
 pub returns-in-Err-clause-held : goal.returns-in-Err-clause-held
 returns-in-Err-clause-held c =
-    stays_refused (Op.SetNum 1 0 c.args.n) c.in-Err.cause c.held.ensures c.in-Err.ensures.refused
+    fill_held _ _ c.requires.ready.types c.is_idle-2.ensures.history c.args.n c.in-Err.field-0 c.requires.holds.1
+    c.in-Err.ensures.refused

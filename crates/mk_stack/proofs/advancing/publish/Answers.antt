@@ -1,19 +1,12 @@
-use Rattle.mk_stack.proofs.Vocabulary.{Op}
 use Rattle.mk_laws.proofs.Vocabulary.{arith}
 use Rattle.mk_stack.proofs.Advances.{publish_advances, push_again_advances, ready_state}
-use Rattle.mk_stack.proofs.NodeKinds.{may_exchange, may_point}
-use Rattle.mk_stack.proofs.{RefusedAccesses.exchange_held, Replies.says_so, Replies.stays_refused}
+use Rattle.mk_stack.proofs.{NodeKinds.may_exchange, NodeKinds.may_point, RefusedAccesses.exchange_held, Replies.says_so}
 use Rattle.mk_stack.proofs.advancing.publish.Goals as goal
 
 pub cas_ptr-exchanged-requires-clause-admitted : goal.cas_ptr-exchanged-requires-clause-admitted
 cas_ptr-exchanged-requires-clause-admitted c =
     may_exchange (ready_state c.requires.ready c.is_idle.ensures.history) 1 (omega arith) c.requires.holds.0
     c.requires.holds.2 (may_point c.requires.holds.1)
-
-pub held-requires : goal.held-requires
-held-requires c =
-    exchange_held _ _ c.requires.ready.types c.is_idle-2.ensures.history 1 c.in-Err.cause c.requires.holds.0
-    c.in-Err.ensures.refused
 
 pub returns-in-Ok-true-clause-advances : goal.returns-in-Ok-true-clause-advances
 returns-in-Ok-true-clause-advances c =
@@ -26,4 +19,6 @@ returns-in-Ok-false-clause-advances c =
     (says_so c.in-Ok-false.field-0-test c.in-Ok-false.ensures.called)
 
 pub returns-in-Err-clause-held : goal.returns-in-Err-clause-held
-returns-in-Err-clause-held c = stays_refused (Op.CasPtr 0 0 2 1) c.in-Err.cause c.held.ensures c.in-Err.ensures.refused
+returns-in-Err-clause-held c =
+    exchange_held _ _ c.requires.ready.types c.is_idle-2.ensures.history 1 c.in-Err.field-0 c.requires.holds.0
+    c.in-Err.ensures.refused

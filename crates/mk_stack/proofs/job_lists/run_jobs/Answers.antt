@@ -1,5 +1,5 @@
 use Rattle.mk_stack.proofs.Vocabulary.{DoesJobs, Done}
-use Rattle.mk_laws.proofs.Vocabulary.{List, subst, sym, take, ◌+◌, ◌∙◌}
+use Rattle.mk_laws.proofs.Vocabulary.{List, subst, sym, take, ◌+◌}
 use Rattle.mk_stack.proofs.JobLists.{does_next}
 use Rattle.mk_stack.proofs.job_lists.run_jobs.Goals as goal
 
@@ -8,9 +8,7 @@ loop-index-preserved g c =
     let old = c.loop-index in
     let new = c.do_job-done.new.caller.pass in
     record {
-      home = c.do_job-done.ensures.home;
-      made_for = c.do_job-done.ensures.made_for ∙ old.invariant.made_for;
-      book = c.do_job-done.ensures.book ∙ old.invariant.book;
+      ready = c.do_job-done.ensures.ready;
       does =
           subst (λ (dones : List Done). DoesJobs c.args.caller.now.pass (take (old.index + 1) c.args.jobs.now) dones
           new) (sym c.in_ok-push.ensures.items)

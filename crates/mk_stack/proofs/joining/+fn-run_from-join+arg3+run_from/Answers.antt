@@ -1,106 +1,93 @@
-use Rattle.std.proofs.{Common.Ok, Common.rules, lemmas.List.Elements.All-pop}
+use Rattle.std.proofs.{Common.IfSome, Common.Ok, Common.length-drop, Common.rules, lemmas.List.Elements.All-pop}
 use Rattle.mk_stack.proofs.Vocabulary.{HasHandedOut, HaveWorked, HostState, Jobs, Joined, Replied, replied_to}
-use Rattle.mk_laws.proofs.Vocabulary.{List, Some, ap, arith, length, subst, sym, [], ◌+◌, ◌<◌, ◌∙◌, ◌≡◌}
-use Rattle.mk_stack.proofs.JoinedJobs.{next_made, next_ready, next_unasked, no_lists, none_joined}
-use Rattle.mk_stack.specs.Joining.{IsBetweenJobs}
-use denote.Exit.{no}
-use denote.Param.Send.{arg_send, param_send}
+use Rattle.mk_laws.proofs.Vocabulary.{List, Option, Some, ap, arith, drop, length, subst, sym, [], ◌+◌, ◌-◌, ◌<◌, ◌∙◌}
+use Rattle.mk_laws.proofs.Vocabulary.{◌≡◌}
+use Rattle.mk_run.specs.Benches.{IsMadeFor}
+use Rattle.mk_stack.proofs.JoinedJobs.{next_list, next_made, next_ready, next_unasked, no_lists, none_joined}
+use Rattle.mk_stack.specs.Joining.{AreCallersFrom, HasWorked, IsBetweenJobs}
 use Rattle.mk_stack.proofs.joining.+fn-run_from-join+arg3+run_from.Goals as goal
 
 pub join-worked-requires-after_bounds : goal.join-worked-requires-after_bounds
 join-worked-requires-after_bounds g t c κs within =
-    let w = c.args.heap.now in
+    let w = c.args.run.now.heap.now in
     let k = c.args.k in
     let rest = c.pop.new.self.items in
-    let parts = c.in-Some.ensures.cases in
+    let given = c.requires.callers in
     let next : HasHandedOut w c.args.host.markers (k + 1 + 1) c.caller.new.self =
     subst (HasHandedOut w c.args.host.markers (k + 1 + 1)) (sym c.caller.ensures.host) (next_made c.requires.host) in
-    let ready : IsBetweenJobs w (k + 1) c.finish-next.result =
-    subst (IsBetweenJobs w (k + 1)) (sym c.finish-next.ensures.pass)
-    (next_ready c.caller.result c.requires.host c.caller.ensures.caller c.finish-next.ensures.idle) in
-    let begun : replied_to c.finish-next.result ≡ [] =
-    ap replied_to c.finish-next.ensures.pass ∙ next_unasked c.caller.result c.requires.host c.caller.ensures.caller in
-    let longer = ap length parts.0 in
-    let all : k + 1 + length c.in-Some.others.now ≡ w.config.callers = omega (arith, longer, c.requires.lists) in
-    let exists : k < w.config.callers = omega (arith, all) in
-    let enough : 1 + length rest ≡ length c.in-Some.others.now =
-    omega (arith, longer, c.requires.benches, c.in-Some-pop.ensures.cases) in
-    let shorter : length c.in-Some.others.now < t = omega (arith, longer, c.decreases) in
-    let engines =
-    All-pop (λ bench. g.E.Engine.made_for bench.engine ≡ w.config.pages) c.args.benches.items rest
-    (Some c.in-Some-pop.next_bench) c.in-Some-pop.ensures.items c.requires.all_made_for in
-    let books = All-pop (λ bench. length bench.book ≡ w.config.pages) c.args.benches.items rest
-    (Some c.in-Some-pop.next_bench) c.in-Some-pop.ensures.items c.requires.books in
-    let shared = c.requires.shared in (
-      (
-        (
-          record { shared = shared.0.shared },
-          record { shared = shared.1.shared },
-          param_send 0 _ (arg_send _ no _ shared.2),
-        ),
-        (
-          exists,
-          (
-            c.requires.types,
-            (
-              c.requires.pass,
-              (
-                c.requires.made_for,
-                (
-                  c.requires.book,
-                  (
-                    param_send 0 _ (arg_send _ no _ shared.2),
-                    record { shared = shared.1.shared },
-                    record { shared = shared.0.shared },
-                  ),
-                ),
-              ),
-            ),
-          ),
-        ),
-      ),
-      search rules,
-    )
+    let ready : IsBetweenJobs w (k + 1) c.finish-next_pass.result =
+    subst (IsBetweenJobs w (k + 1)) (sym c.finish-next_pass.ensures.pass)
+    (next_ready c.caller.result c.requires.host c.caller.ensures.caller c.finish-next_pass.ensures.idle) in
+    let made =
+    All-pop (λ bench. IsMadeFor g.E.Engine.made_for w.config.pages bench) c.args.callers.benches.others.items rest
+    (Some c.in-Some.second) c.in-Some.ensures.items given.benches.others in
+    let callers : AreCallersFrom g.E.Engine.made_for w (k + 1) (record {
+      pass = c.finish-next_pass.result;
+      benches = record { first = c.in-Some.second; others = c.pop.new.self };
+    }) =
+    record {
+      pass = ready;
+      benches = record {
+        count = omega (arith, c.in-Some.ensures.cases, given.benches.count);
+        first = made.1;
+        others = made.0;
+      };
+    } in
+    let exists : k < w.config.callers = omega (arith, given.benches.count) in
+    let pass : IsBetweenJobs w k c.args.callers.pass = given.pass in
+    let first : IsMadeFor g.E.Engine.made_for w.config.pages c.args.callers.benches.first = given.benches.first in
+    let shorter : length rest < t = omega (arith, c.in-Some.ensures.cases, c.decreases) in
+    search rules
 
 pub returns : goal.returns
 returns g t c =
-    let w = c.args.heap.now in
+    let w = c.args.run.now.heap.now in
     let k = c.args.k in
-    let begun : replied_to c.finish-next.result ≡ [] =
-    ap replied_to c.finish-next.ensures.pass ∙ next_unasked c.caller.result c.requires.host c.caller.ensures.caller in
+    let lists = c.args.run.now.lists.now in
+    let first = replied_to c.args.callers.pass in
+    let others : List Jobs = drop (k + 1) lists in
+    let list = next_list lists k (omega (arith, c.args.run.now.one_each, c.requires.callers.benches.count)) in
+    let begun : replied_to c.finish-next_pass.result ≡ [] =
+    ap replied_to c.finish-next_pass.ensures.pass
+    ∙ next_unasked c.caller.result c.requires.host c.caller.ensures.caller in
     let markers = c.args.host.markers in
-    let joined : HaveWorked w markers (replied_to c.finish-next.result) (k + 1) c.in-Some.others.now
-    c.join-worked.result.1 =
-    subst (λ (h : HostState). HaveWorked w h.markers (replied_to c.finish-next.result) (k + 1) c.in-Some.others.now
+    let one : HasWorked w first k list.jobs.list.items c.join-worked.result.0 =
+    subst (λ (x : Option Jobs). IfSome x (λ jobs. HasWorked w first k jobs.list.items c.join-worked.result.0))
+    list.there c.join-worked.ensures.first in
+    let joined : HaveWorked w markers (replied_to c.finish-next_pass.result) (k + 1) others c.join-worked.result.1 =
+    subst (λ (h : HostState). HaveWorked w h.markers (replied_to c.finish-next_pass.result) (k + 1) others
     c.join-worked.result.1) c.caller.ensures.host c.join-worked.ensures.second in
     record {
       joined =
-          subst (λ (lists : List Jobs). HaveWorked w markers (replied_to c.args.pass) k lists c.join_worked-2.result)
-          (sym c.in-Some.ensures.cases.0)
-          (c.join_worked-2.ensures markers (replied_to c.args.pass) k c.in-Some.jobs.now c.in-Some.others.now
-          c.join-worked.ensures.first
-          (subst (λ (first : List Replied). HaveWorked w markers first (k + 1) c.in-Some.others.now
-          c.join-worked.result.1) begun joined));
+          subst (λ (all : List Jobs). HaveWorked w markers first k all c.join_worked-2.result) (sym list.rest)
+          (c.join_worked-2.ensures markers first k list.jobs others one
+          (subst (λ (before : List Replied). HaveWorked w markers before (k + 1) others c.join-worked.result.1) begun
+          joined));
     }
 
 -- the last caller
-pub returns-in_default-pop : goal.returns-in_default-pop
-returns-in_default-pop g t c =
-    let w = c.args.heap.now in
+pub returns-in_default : goal.returns-in_default
+returns-in_default g t c =
+    let w = c.args.run.now.heap.now in
     let k = c.args.k in
     let markers = c.args.host.markers in
-    let first = replied_to c.args.pass in
-    let parts = c.in-Some.ensures.cases in
-    let longer = ap length parts.0 in
-    let none : c.in-Some.others.now ≡ [] =
-    no_lists c.in-Some.others.now (omega (arith, longer, c.requires.benches, c.in_default-pop.ensures.cases)) in
+    let lists = c.args.run.now.lists.now in
+    let first = replied_to c.args.callers.pass in
+    let others : List Jobs = drop (k + 1) lists in
+    let count = c.requires.callers.benches.count in
+    let list = next_list lists k (omega (arith, c.args.run.now.one_each, count)) in
+    let left : length others ≡ length lists - (k + 1) = length-drop (k + 1) lists in
+    let none : others ≡ [] =
+    no_lists others (omega (arith, left, c.args.run.now.one_each, count, c.in_default.ensures.cases)) in
     let joined : Joined = record { host = c.args.host; dones = Ok c.new.result } in
-    let alone : HaveWorked w markers [] (k + 1) c.in-Some.others.now joined =
+    let alone : HaveWorked w markers [] (k + 1) others joined =
     subst (λ (l : List Jobs). HaveWorked w markers [] (k + 1) l joined) (sym none)
     (none_joined joined c.requires.host c.new.ensures.items) in
+    let one : HasWorked w first k list.jobs.list.items c.work_alone-worked.result =
+    subst (λ (x : Option Jobs). IfSome x (λ jobs. HasWorked w first k jobs.list.items c.work_alone-worked.result))
+    list.there c.work_alone-worked.ensures.worked in
     record {
       joined =
-          subst (λ (lists : List Jobs). HaveWorked w markers first k lists c.join_worked.result) (sym parts.0)
-          (c.join_worked.ensures markers first k c.in-Some.jobs.now c.in-Some.others.now
-          c.work_alone-worked.ensures.worked alone);
+          subst (λ (all : List Jobs). HaveWorked w markers first k all c.join_worked.result) (sym list.rest)
+          (c.join_worked.ensures markers first k list.jobs others one alone);
     }

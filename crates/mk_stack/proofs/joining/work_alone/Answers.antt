@@ -1,27 +1,36 @@
-use Rattle.std.proofs.Common.{IfOk}
-use Rattle.mk_stack.proofs.Vocabulary.{DoesJobs, Job}
-use Rattle.mk_laws.proofs.Vocabulary.{List, subst}
-use Rattle.mk_stack.proofs.JoinedJobs.{has_worked, ready_alone, ready_exists}
+use Rattle.std.proofs.{Common.IfOk, Common.IfSome, Common.slice_get, lemmas.Option.slice_get-get_or}
+use Rattle.mk_stack.proofs.Vocabulary.{CallerState, DoesJobs, Job, Jobs, replied_to}
+use Rattle.mk_laws.proofs.Vocabulary.{List, Option, Some, ap, arith, get_or, subst, sym, ◌≡◌}
+use Rattle.mk_stack.proofs.JoinedJobs.{has_worked, ready_between}
+use Rattle.mk_stack.specs.Joining.{HasWorked, IsBetweenJobs}
 use Rattle.mk_stack.proofs.joining.work_alone.Goals as goal
 
 pub new-caller-requires-clause-idle : goal.new-caller-requires-clause-idle
 new-caller-requires-clause-idle g c = c.requires.pass.idle
 
-pub run_jobs-dones-requires-clause-exists : goal.run_jobs-dones-requires-clause-exists
-run_jobs-dones-requires-clause-exists g c κs within =
-    ready_exists c.new-caller.result c.requires.pass c.new-caller.ensures c.requires.exists
-
-pub run_jobs-dones-requires-clause-alone : goal.run_jobs-dones-requires-clause-alone
-run_jobs-dones-requires-clause-alone g c κs within =
-    ready_alone c.new-caller.result c.requires.pass c.new-caller.ensures
+pub run_jobs-dones-requires-clause-ready : goal.run_jobs-dones-requires-clause-ready
+run_jobs-dones-requires-clause-ready g c κs within =
+    let w = c.args.run.now.heap.now in
+    let made = c.new-caller.ensures in
+    let pass : IsBetweenJobs w c.args.k c.new-caller.result.pass =
+    subst (IsBetweenJobs w c.args.k) (sym (ap (λ (s : CallerState). s.pass) made)) c.requires.pass in
+    ready_between (ap (λ (s : CallerState). s.home) made) pass c.requires.exists c.args.run.now.types c.requires.bench
 
 pub returns : goal.returns
-returns g c = record {
-  worked =
-      has_worked c.new-caller.result
-      c.finish.result c.args.jobs.now.list.items c.run_jobs-dones.result c.requires.pass c.new-caller.ensures
-      c.run_jobs-dones.ensures.pass
-      (subst (λ (jobs : List Job). IfOk c.run_jobs-dones.result (λ ds. DoesJobs c.new-caller.result.pass jobs
-      ds.list.items c.run_jobs-dones.new.caller.pass)) c.deref.ensures.value c.run_jobs-dones.ensures.does)
-      c.finish.ensures.pass c.finish.ensures.idle;
-}
+returns g c =
+    let w = c.args.run.now.heap.now in
+    let lists = c.args.run.now.lists.now in
+    let jobs : Jobs = get_or lists c.args.k c.index-run-k.result in
+    let there : slice_get lists c.args.k ≡ Some jobs =
+    slice_get-get_or lists c.args.k c.index-run-k.result (omega (arith, c.args.run.now.one_each, c.requires.exists)) in
+    record {
+      worked =
+          subst (λ (x : Option Jobs). IfSome x (λ jobs. HasWorked w (replied_to c.args.pass) c.args.k jobs.list.items
+          (record { pass = c.finish.result; dones = c.run_jobs-dones.result }))) (sym there)
+          (has_worked c.new-caller.result
+          c.finish.result jobs.list.items c.run_jobs-dones.result c.requires.pass c.new-caller.ensures
+          c.run_jobs-dones.ensures.pass
+          (subst (λ (jobs : List Job). IfOk c.run_jobs-dones.result (λ ds. DoesJobs c.new-caller.result.pass jobs
+          ds.list.items c.run_jobs-dones.new.caller.pass)) c.deref.ensures.value c.run_jobs-dones.ensures.does)
+          c.finish.ensures.pass c.finish.ensures.idle);
+    }

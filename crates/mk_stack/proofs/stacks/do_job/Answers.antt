@@ -1,6 +1,6 @@
 use Rattle.mk_stack.proofs.Vocabulary.{Done, GoesToPoint, PassState, Starting}
 use Rattle.mk_laws.proofs.Vocabulary.{subst}
-use Rattle.mk_stack.proofs.{Going.goes_through, JobGoals.fit_as, JobGoals.job_ends}
+use Rattle.mk_stack.proofs.{Going.goes_through, Going.jobs_on, Going.seen_then, JobGoals.fit_as, JobGoals.job_ends}
 use Rattle.mk_stack.proofs.stacks.do_job.Goals as goal
 
 pub unreachable-requires : goal.unreachable-requires
@@ -21,3 +21,10 @@ pub returns-clause-fit : goal.returns-clause-fit
 returns-clause-fit g c =
     let goes = c.go.ensures.goes in
     fit_as c.in-Ended.done (job_ends c.args.job goes.all c.go.result c.go.ensures.goal goes.leads) c.in-Ended.is
+
+pub returns-clause-ready : goal.returns-clause-ready
+returns-clause-ready g c =
+    let ready = c.go.ensures.ready in
+    jobs_on c.go.new.bench ready c.forget-2.ensures.ready.home
+    (seen_then c.go.new.caller.pass c.forget.new.caller.pass c.forget-2.new.caller.pass c.forget.ensures.pass
+    c.forget-2.ensures.pass) ready.made

@@ -12,16 +12,14 @@ returns-in-Ok-clause-pass g c =
 
 pub tries-preserved : goal.tries-preserved
 tries-preserved g c =
+    let held = c.in-Err.ensures.held in
     record {
-      home = c.clear.ensures.home;
-      ended = λ d. goes_held _ (c.tries.invariant.ended d) c.in-Err.ensures.held;
+      ready = ready_on c.tries.invariant.ready c.clear.ensures.home held.is;
+      ended = λ d. goes_held _ (c.tries.invariant.ended d) held;
       is =
-          seen_then c.args.caller.now.pass c.tries.caller.pass c.clear.new.caller.pass c.tries.invariant.is
-          c.in-Err.ensures.held.is;
+          seen_then c.args.caller.now.pass c.tries.caller.pass c.clear.new.caller.pass c.tries.invariant.is held.is;
     }
 
-pub clear-requires-clause-ready : goal.clear-requires-clause-ready
-clear-requires-clause-ready g c =
-    ready_on c.args.caller.now c.tries.caller
-    (record { home = c.requires.home; exists = c.requires.exists; types = c.requires.types })
-    c.tries.invariant.home c.tries.invariant.is
+pub returns-in-Ok-clause-ready : goal.returns-in-Ok-clause-ready
+returns-in-Ok-clause-ready g c =
+    ready_on c.tries.invariant.ready c.clear.ensures.home (c.in-Ok.ensures.ended Empty).is

@@ -1,6 +1,6 @@
 use Rattle.mk_stack.proofs.Vocabulary.{HasWalked, HoldsDown, PassState}
 use Rattle.mk_laws.proofs.Vocabulary.{List, ℕ, append-nil, subst, sym, [], ◌++◌, ◌∷◌}
-use Rattle.mk_stack.proofs.{Going.ready_on, WalkSteps.walked_more}
+use Rattle.mk_stack.proofs.{Going.ready_on, WalkSteps.down_held, WalkSteps.walked_held, WalkSteps.walked_more}
 use Rattle.mk_stack.specs.Walks.{StepsDown, next_of, numbers_found}
 use Rattle.mk_stack.specs.{declared.walking.Found.Found, declared.walking.WalkPoint.WalkPoint}
 use Rattle.mk_stack.proofs.walking.read_stack.Goals as goal
@@ -14,7 +14,7 @@ points-preserved-in-Ok-To g c =
     subst (λ (f : Found). StepsDown q c.points.point (numbers_found f) r (next_of f)) c.in-Ok-To.field-0-is
     c.in-Ok-To.ensures.steps in
     record {
-      home = c.go_down.ensures.home;
+      ready = ready_on c.points.invariant.ready c.go_down.ensures.home steps.is;
       walked =
           subst (HasWalked p c.points.left.items r) (sym c.in-Ok-To.next-is)
           (subst (λ (l : List ℕ). HasWalked p l r c.in-Ok-To.next) (append-nil c.points.left.items)
@@ -31,7 +31,7 @@ points-preserved-in-Ok-Number g c =
     subst (λ (f : Found). StepsDown q c.points.point (numbers_found f) r (next_of f)) c.in-Ok-Number.field-0-is
     c.in-Ok-Number.ensures.steps in
     record {
-      home = c.go_down.ensures.home;
+      ready = ready_on c.points.invariant.ready c.go_down.ensures.home steps.is;
       walked =
           subst (λ (l : List ℕ). HasWalked p l r WalkPoint.Descending) (sym c.in_ok-push-in-Ok-Number.ensures.items)
           (subst (λ (n : ℕ). HasWalked p (c.points.left.items
@@ -40,8 +40,12 @@ points-preserved-in-Ok-Number g c =
       holds = steps.holds;
     }
 
-pub go_down-requires-clause-ready : goal.go_down-requires-clause-ready
-go_down-requires-clause-ready g c =
-    ready_on c.args.caller.now c.points.caller
-    (record { home = c.requires.home; exists = c.requires.exists; types = c.requires.types })
-    c.points.invariant.home c.points.invariant.walked.is
+pub points-preserved : goal.points-preserved
+points-preserved g c =
+    let r : PassState = c.go_down.new.caller.pass in
+    let on = c.in-Err.ensures.held in
+    record {
+      ready = ready_on c.points.invariant.ready c.go_down.ensures.home on.is;
+      walked = walked_held r c.points.invariant.walked on;
+      holds = down_held c.points.caller.pass r on c.points.point c.points.invariant.holds;
+    }

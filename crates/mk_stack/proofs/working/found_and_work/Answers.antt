@@ -1,11 +1,40 @@
-use Rattle.mk_stack.proofs.Vocabulary.{HasHandedOut, HaveWorked, HostState, replied_to}
-use Rattle.mk_laws.proofs.Vocabulary.{subst, sym}
-use Rattle.mk_stack.proofs.{EndedRuns.founds_stack, JoinedJobs.next_made}
+use Rattle.mk_stack.proofs.Vocabulary.{CallerState, HasHandedOut, HaveWorked, HostState, WordsState, replied_to}
+use Rattle.mk_laws.proofs.Vocabulary.{ap, arith, subst, sym, ◌<◌}
+use Rattle.mk_run.specs.Benches.{IsMadeFor}
+use Rattle.mk_stack.{proofs.EndedRuns.founds_stack, proofs.JoinedJobs.is_ready, proofs.JoinedJobs.next_made}
+use Rattle.mk_stack.{proofs.JoinedJobs.next_ready, proofs.JoinedJobs.ready_between, specs.Joining.IsBetweenJobs}
 use Rattle.mk_stack.proofs.working.found_and_work.Goals as goal
+
+pub found_stack-requires-clause-ready : goal.found_stack-requires-clause-ready
+found_stack-requires-clause-ready g c κs within =
+    let made = c.caller-first.ensures.caller in
+    let lt : 0 < c.args.run.now.heap.now.config.callers = omega (arith, c.requires.benches.count) in
+    ready_between (ap (λ (s : CallerState). s.home) made)
+    (next_ready c.caller-first.result c.requires.host made c.is_idle.ensures.idle) lt c.args.run.now.types
+    c.requires.benches.first
+
+pub run_from-requires-clause-callers : goal.run_from-requires-clause-callers
+run_from-requires-clause-callers g c κs within =
+    let w = c.args.run.now.heap.now in
+    let founded = c.found_stack.new.caller in
+    let pass : IsBetweenJobs w 0 founded.pass =
+    is_ready
+    (next_ready c.caller-first.result c.requires.host c.caller-first.ensures.caller c.is_idle.ensures.idle)
+    c.found_stack.ensures.founds.is c.finish-pass.ensures.idle in
+    record {
+      pass = subst (IsBetweenJobs w 0) (sym c.finish-pass.ensures.pass) pass;
+      benches = record {
+        count = c.requires.benches.count;
+        first =
+            subst (λ (v : WordsState). IsMadeFor g.E.Engine.made_for v.config.pages c.found_stack.new.bench) pass.table
+            c.found_stack.ensures.ready.made;
+        others = c.requires.benches.others;
+      };
+    }
 
 pub run_from-requires-clause-host : goal.run_from-requires-clause-host
 run_from-requires-clause-host g c κs within =
-    subst (λ (h : HostState). HasHandedOut c.args.heap.now h.markers 1 h) (sym c.caller-first.ensures.host)
+    subst (λ (h : HostState). HasHandedOut c.args.run.now.heap.now h.markers 1 h) (sym c.caller-first.ensures.host)
     (next_made c.requires.host)
 
 pub returns : goal.returns
@@ -16,7 +45,7 @@ returns g c = record {
         founds_stack c.caller-first.result c.finish-pass.result c.requires.host c.caller-first.ensures.caller
         c.found_stack.ensures.founds c.finish-pass.ensures.pass;
     worked =
-        subst (λ (h : HostState). HaveWorked c.args.heap.now h.markers (replied_to c.finish-pass.result) 0
-        c.args.lists.now c.run_from.result) c.caller-first.ensures.host c.run_from.ensures.joined;
+        subst (λ (h : HostState). HaveWorked c.args.run.now.heap.now h.markers (replied_to c.finish-pass.result) 0
+        c.args.run.now.lists.now c.run_from.result) c.caller-first.ensures.host c.run_from.ensures.joined;
   };
 }

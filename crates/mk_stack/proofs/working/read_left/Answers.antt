@@ -12,7 +12,7 @@ returns-clause-reader g c =
 
 pub returns-clause-reads : goal.returns-clause-reads
 returns-clause-reads g c =
-    let w = c.args.heap.now in
+    let w = c.args.run.now.heap.now in
     let h = c.args.host.now in
     let s = c.caller_again-reader.result in
     let q = c.read_stack-left.new.caller.pass in

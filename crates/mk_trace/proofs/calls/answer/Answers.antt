@@ -24,16 +24,12 @@ returns-in_ok-settle-clause-ends g c =
     c.look-now.ensures.looks c.settle.ensures.looks
 
 pub returns-in_ok-settle-clause-exact : goal.returns-in_ok-settle-clause-exact
-returns-in_ok-settle-clause-exact g c =
-    exact_over _ _ c.object_to_free-freed.new.host.pass.seen c.call-told.new.host.pass.seen
-    c.look-now.new.host.pass.seen _ c.object_to_free-freed.ensures.looks.exact (c.call-told.ensures.exact c.requires.off
-    c.requires.unswept) c.look-now.ensures.looks.exact c.settle.ensures.looks.exact
+returns-in_ok-settle-clause-exact g c = grind (arith, exact_over)
 
 -- beside it
 
 pub returns-else-is_under_turn-clause-idle : goal.returns-else-is_under_turn-clause-idle
-returns-else-is_under_turn-clause-idle g c =
-    (c.call.ensures.beside (sym c.is_under_turn.ensures ∙ c.if-is_under_turn.false)).phase ∙ c.requires.idle
+returns-else-is_under_turn-clause-idle g c = grind arith
 
 pub returns-else-is_under_turn-clause-held : goal.returns-else-is_under_turn-clause-held
 returns-else-is_under_turn-clause-held g c =
@@ -41,9 +37,7 @@ returns-else-is_under_turn-clause-held g c =
     (c.call.ensures.beside (sym c.is_under_turn.ensures ∙ c.if-is_under_turn.false)) c.call.ensures.held c.requires.held
 
 pub returns-else-is_under_turn-clause-ends : goal.returns-else-is_under_turn-clause-ends
-returns-else-is_under_turn-clause-ends g c =
-    let same = (c.call.ensures.beside (sym c.is_under_turn.ensures ∙ c.if-is_under_turn.false)).count in
-    omega (arith, same)
+returns-else-is_under_turn-clause-ends g c = grind arith
 
 pub returns-else-is_under_turn-clause-exact : goal.returns-else-is_under_turn-clause-exact
 returns-else-is_under_turn-clause-exact g c = c.call.ensures.exact c.requires.off c.requires.unswept

@@ -12,7 +12,6 @@ loop-op-init g c = record {
   home = c.answer.ensures.home;
   idle = c.answer.ensures.idle;
   made_for = c.answer.ensures.made_for;
-  book = c.answer.ensures.book;
   held = c.in_ok-first.ensures.held;
   ends = (let first = c.in_ok-first.ensures.ends in omega (arith, first));
   keeps = c.in_ok-first.ensures.keeps;
@@ -67,7 +66,6 @@ loop-op-preserved g c =
       home = c.answer-in-loop-op.ensures.home;
       idle = c.answer-in-loop-op.ensures.idle;
       made_for = c.answer-in-loop-op.ensures.made_for ∙ c.loop-op.invariant.made_for;
-      book = c.answer-in-loop-op.ensures.book ∙ c.loop-op.invariant.book;
       held = c.in_ok-later.ensures.held;
       ends =
           (let so_far = c.loop-op.invariant.ends in

@@ -1,5 +1,5 @@
 use Rattle.mk_trace.proofs.Vocabulary.{CallerIsHome, IsBetweenCycles, Keeps, StayExact, ends, most_held}
-use Rattle.mk_laws.proofs.Vocabulary.{length, ◌+◌, ◌≡◌, ◌≤◌}
+use Rattle.mk_laws.proofs.Vocabulary.{◌+◌, ◌≡◌, ◌≤◌}
 use Rattle.mk_trace.proofs.LaterOps.{AreCalled}
 use Rattle.mk_trace.proofs.calls.refuses.Given as goal
 
@@ -9,7 +9,6 @@ invariant-loop-op g l = record {
   home : CallerIsHome l.heap l.host;
   idle : IsBetweenCycles l.heap.config l.host.pass.seen;
   made_for : g.E.Engine.made_for l.bench.engine ≡ g.E.Engine.made_for l.fn.bench.engine;
-  book : length l.bench.book ≡ length l.fn.bench.book;
   held : l.ledger.held ≡ most_held l.heap.config l.host.pass.seen;
   ends : ends l.host.pass.seen ≤ ends l.fn.host.pass.seen + 1 + l.op-index;
   keeps : Keeps l.heap.config l.host.pass.seen l.ledger.freed;

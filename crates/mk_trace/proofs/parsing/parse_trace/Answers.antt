@@ -14,9 +14,4 @@ at_end-requires c =
     )
 
 pub returns-clause-fault : goal.returns-clause-fault
-returns-clause-fault c =
-    let lines = c.as_slice.result.now in
-    let some : 0 < length lines = omega (arith, c.in-len1-up.len_at_least) in
-    stops_whole c.at_end.result _ _ (read_whole _ lines _ c.in_ok-heap.heap c.in_ok-draft.draft
-    c.if-bytes-gt-TEXT_LIMIT.false (ap texts_of c.as_slice.ensures.value ∙ c.in_ok-lines.ensures) some
-    c.in_ok-heap.ensures.heap c.in_ok-draft.ensures.draft) c.at_end.ensures.fault
+returns-clause-fault c = grind (arith, stops_whole, read_whole)

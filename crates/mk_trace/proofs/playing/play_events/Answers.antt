@@ -1,6 +1,6 @@
 use Rattle.std.proofs.lemmas.List.{get_or_default}
-use Rattle.mk_trace.proofs.Vocabulary.{A, IsEventOf, IsHistory, IsPlayable, WordsState}
-use Rattle.mk_laws.proofs.Vocabulary.{ap, arith, get_or, length, refl, subst, ◌∙◌}
+use Rattle.mk_trace.proofs.Vocabulary.{A, IsEventOf, IsHistory, IsPlayable}
+use Rattle.mk_laws.proofs.Vocabulary.{arith, get_or, refl, ◌∙◌}
 use Rattle.mk_trace.proofs.FreedSlots.{frees_its_slot}
 use Rattle.mk_trace.proofs.Played.{event_at, may_be_played, next_played, null_between, one_counted, played_all}
 use Rattle.mk_trace.proofs.Played.{played_first, slot_is_global, still_few}
@@ -21,15 +21,12 @@ here g c =
     c.loop-event-test.true (get_or_default events i (A 0) (get_or events i (A 0)) c.loop-event-test.true)
 
 before : (g : _) (c : After-is_in_order g) → IsHistory c.args.heap.now.config c.loop-event.host.pass.seen
-before g c =
-    subst (λ (x : WordsState). IsHistory x.config c.loop-event.host.pass.seen) c.loop-event.invariant.home.table
-    c.is_in_order.ensures.history
+before g c = grind arith
 
 pub loop-event-init : goal.loop-event-init
 loop-event-init g c = record {
   home = c.requires.home;
   made_for = c.requires.made_for;
-  book = c.requires.book;
   idle = c.requires.idle;
   keeps = c.requires.keeps;
   exact = λ before. before;
@@ -58,12 +55,7 @@ refuses-requires-clause-admitted g c κs within =
     (null_between c.args.heap.now.config c.requires.config c.loop-event.invariant.played) (here g x) refl
 
 pub refuses-requires-clause-few : goal.refuses-requires-clause-few
-refuses-requires-clause-few g c κs within =
-    let so_far = c.loop-event.invariant.ends in
-    let count = few_events c.args.trace.now c.events-events.ensures.of_some_text in
-    let same = ap length c.events-events.ensures.events in
-    let inside = c.loop-event-test.true in
-    omega (arith, so_far, count, same, inside)
+refuses-requires-clause-few g c κs within = grind (arith, few_events)
 
 pub loop-event-preserved : goal.loop-event-preserved
 loop-event-preserved g c =
@@ -75,7 +67,6 @@ loop-event-preserved g c =
     record {
       home = c.refuses.ensures.home;
       made_for = c.refuses.ensures.made_for ∙ c.loop-event.invariant.made_for;
-      book = c.refuses.ensures.book ∙ c.loop-event.invariant.book;
       idle = c.refuses.ensures.idle;
       keeps = c.in_ok-is_refused.ensures.keeps;
       exact = λ before'. c.in_ok-is_refused.ensures.exact (c.loop-event.invariant.exact before');

@@ -1,5 +1,5 @@
 use Rattle.mk_trace.proofs.Vocabulary.{CallerIsHome, IsBetweenCycles, Keeps, StayExact, ends, most_held}
-use Rattle.mk_laws.proofs.Vocabulary.{length, take, ◌*◌, ◌≡◌, ◌≤◌}
+use Rattle.mk_laws.proofs.Vocabulary.{take, ◌*◌, ◌≡◌, ◌≤◌}
 use Rattle.mk_trace.specs.Calls.{HasPlayed}
 use Rattle.mk_trace.proofs.playing.play_events.Given as goal
 
@@ -8,7 +8,6 @@ abbrev pub invariant-loop-event : goal.invariant-loop-event
 invariant-loop-event g l = record {
   home : CallerIsHome l.heap l.host;
   made_for : g.E.Engine.made_for l.bench.engine ≡ l.heap.config.pages;
-  book : length l.bench.book ≡ l.heap.config.pages;
   idle : IsBetweenCycles l.heap.config l.host.pass.seen;
   keeps : Keeps l.heap.config l.host.pass.seen l.ledger.freed;
   exact : StayExact l.heap.config l.fn.host.pass.seen l.host.pass.seen;

@@ -1,6 +1,6 @@
 use Rattle.mk_laws.proofs.Vocabulary.{ℕ, arith, subst, sym, ◌*◌, ◌+◌, ◌/◌, ◌<◌, ◌≡◌}
-use Rattle.mk_tracing.proofs.ScannedWords.{ScannedTo, due_kept, none_scanned_yet, scanned_then}
-use Rattle.mk_tracing.proofs.scanning.scan_groups.Goals.{After-scan_part-2, After-scan_words}
+use Rattle.mk_tracing.proofs.ScannedWords.{ScannedTo, due_kept, none_scanned_yet, scanned_then, words_scanned}
+use Rattle.mk_tracing.proofs.scanning.scan_groups.Goals.{After-scan_from, After-scan_part-2}
 use Rattle.mk_tracing.proofs.{Blackened.scan_done, StopSteps.on_from, StopSteps.on_then}
 use Rattle.mk_tracing.specs.Stops.{still_words}
 use Rattle.mk_tracing.proofs.scanning.scan_groups.Goals as goal
@@ -50,46 +50,48 @@ groups_scanned c =
     (still_words scan.new.stop.pass) c.args.cell 0 (64 * part) (8 * (c.args.size / 8)) before
     (record { more = scan.ensures.more; well = λ k le lt. scan.ensures.well k le (omega arith) lt })
 
-pub scan_words-requires-clause-due : goal.scan_words-requires-clause-due
-scan_words-requires-clause-due c =
+pub scan_from-requires-clause-due : goal.scan_from-requires-clause-due
+scan_from-requires-clause-due c =
     due_kept c.args.words.now.config.pages (still_words c.args.stop.now.pass)
     (still_words c.scan_part-2.new.stop.pass) c.args.cell c.args.size c.requires.due
-    (groups_scanned (goal.at.scan_words-requires-clause-due c).After-scan_part-2).more
+    (groups_scanned (goal.at.scan_from-requires-clause-due c).After-scan_part-2).more
 
-pub scan_words-requires-clause-part : goal.scan_words-requires-clause-part
-scan_words-requires-clause-part c i le lt = omega arith
+pub scan_from-requires-clause-part : goal.scan_from-requires-clause-part
+scan_from-requires-clause-part c i lt = omega arith
 
 -- and all words
-all_scanned : (c : After-scan_words)
+all_scanned : (c : After-scan_from)
     → ScannedTo c.args.words.now.config.pages (still_words c.args.stop.now.pass)
     (still_words c.scan_part-2.new.stop.pass) c.args.cell 0 (8 * (c.args.size / 8))
     → ScannedTo c.args.words.now.config.pages (still_words c.args.stop.now.pass)
-    (still_words c.scan_words.new.stop.pass) c.args.cell 0 c.args.size
+    (still_words c.scan_from.new.stop.pass) c.args.cell 0 c.args.size
 all_scanned c groups =
     scanned_then c.args.words.now.config.pages (still_words c.args.stop.now.pass)
-    (still_words c.scan_part-2.new.stop.pass) (still_words c.scan_words.new.stop.pass) c.args.cell 0
+    (still_words c.scan_part-2.new.stop.pass) (still_words c.scan_from.new.stop.pass) c.args.cell 0
     (8 * (c.args.size / 8)) c.args.size groups
-    (record { more = c.scan_words.ensures.more; well = c.scan_words.ensures.well })
+    (words_scanned c.args.words.now.config.pages (still_words c.scan_part-2.new.stop.pass)
+    (still_words c.scan_from.new.stop.pass) c.args.cell (8 * (c.args.size / 8)) c.args.size c.scan_from.ensures.more
+    (λ i lt. c.scan_from.ensures.well i (omega arith)))
 
 pub returns-clause-on : goal.returns-clause-on
 returns-clause-on c =
-    on_then c.args.stop.now c.scan_part-2.new.stop c.scan_words.new.stop
+    on_then c.args.stop.now c.scan_part-2.new.stop c.scan_from.new.stop
     (on_then c.args.stop.now c.loop-part.stop c.scan_part-2.new.stop c.loop-part.invariant.on c.scan_part-2.ensures.on)
-    c.scan_words.ensures.on
+    c.scan_from.ensures.on
 
 pub returns-clause-more : goal.returns-clause-more
 returns-clause-more c =
     let at = goal.at.returns-clause-more c in
-    (all_scanned at.After-scan_words (groups_scanned at.After-scan_part-2)).more
+    (all_scanned at.After-scan_from (groups_scanned at.After-scan_part-2)).more
 
 pub returns-clause-well : goal.returns-clause-well
 returns-clause-well c =
     let at = goal.at.returns-clause-well c in
-    let all = all_scanned at.After-scan_words (groups_scanned at.After-scan_part-2) in
+    let all = all_scanned at.After-scan_from (groups_scanned at.After-scan_part-2) in
     scan_done c.args.words.now.config.pages (still_words c.args.stop.now.pass)
-    (still_words c.scan_words.new.stop.pass) c.args.cell all.more
+    (still_words c.scan_from.new.stop.pass) c.args.cell all.more
     (λ j lt. all.well j (omega arith) (subst (λ n. j < n) (sym c.requires.due.words) lt))
 
 pub returns-clause-noted : goal.returns-clause-noted
 returns-clause-noted c noted =
-    c.scan_words.ensures.noted (c.scan_part-2.ensures.noted (c.loop-part.invariant.noted noted))
+    c.scan_from.ensures.noted (c.scan_part-2.ensures.noted (c.loop-part.invariant.noted noted))

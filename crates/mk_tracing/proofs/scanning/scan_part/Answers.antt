@@ -1,5 +1,5 @@
 use Rattle.mk_laws.proofs.Vocabulary.{ℕ, arith, ◌*◌, ◌+◌}
-use Rattle.mk_tracing.proofs.ScannedWords.{due_kept, group_scanned, none_scanned_yet, scanned_then}
+use Rattle.mk_tracing.proofs.ScannedWords.{due_kept, none_scanned_yet, scanned_then, words_scanned}
 use Rattle.mk_tracing.proofs.StopSteps.{on_from, on_then}
 use Rattle.mk_tracing.specs.Stops.{still_words}
 use Rattle.mk_tracing.proofs.scanning.scan_part.Goals as goal
@@ -29,7 +29,8 @@ loop-group-preserved c =
       scanned =
           scanned_then pages (still_words c.args.stop.now.pass) v x c.args.cell (8 * (8 * c.args.part)) (8 * group)
           (8 * (group + 1)) c.loop-group.invariant.scanned
-          (group_scanned pages v x c.args.cell group c.scan_group.ensures.more c.scan_group.ensures.well);
+          (words_scanned pages v x c.args.cell (8 * group) (8 * (group + 1)) c.scan_group.ensures.more
+          (λ i lt. c.scan_group.ensures.well i (omega arith)));
       noted = λ h. c.scan_group.ensures.noted (c.loop-group.invariant.noted h);
     }
 

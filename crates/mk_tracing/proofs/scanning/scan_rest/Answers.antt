@@ -51,4 +51,4 @@ returns-clause-well c i le lt =
     c.loop-i.invariant.scanned.well i le (let end = c.loop-i-test.false in omega arith)
 
 pub look_at_word-value-requires-clause-part : goal.look_at_word-value-requires-clause-part
-look_at_word-value-requires-clause-part c = c.requires.part c.loop-i.i (omega arith) (omega arith)
+look_at_word-value-requires-clause-part c = omega arith

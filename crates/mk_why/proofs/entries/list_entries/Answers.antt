@@ -1,13 +1,10 @@
 use Rattle.mk_why.proofs.Vocabulary.{AreEntriesBelow}
-use Rattle.mk_laws.proofs.Vocabulary.{ap, arith, length, subst, sym, ◌∙◌, ◌≡◌}
+use Rattle.mk_laws.proofs.Vocabulary.{ap, arith, length, subst, ◌∙◌, ◌≡◌}
 use Rattle.mk_why.proofs.MadeEntries.{entries_more, no_entries}
 use Rattle.mk_why.proofs.entries.list_entries.Goals as goal
 
 pub loop-base-init : goal.loop-base-init
-loop-base-init c = record {
-  below = λ k v told. subst (AreEntriesBelow k v 0) (sym c.new-entries.ensures.items) (no_entries k v);
-  none = λ none. c.new-entries.ensures.items;
-}
+loop-base-init c = grind (arith, no_entries)
 
 pub loop-base-preserved : goal.loop-base-preserved
 loop-base-preserved c = record {

@@ -8,10 +8,8 @@ returns-clause-more c s is =
     let found = c.args.tables.now.found.items in
     let kept = c.args.tables.now.kept.items in
     let low : c.args.base < length kept = let keeps = c.args.tables.now.keeps in let lt = c.requires in omega arith in
-    let read : c.index.result.now ≡ entry_at kept c.args.base =
-    read_at kept c.args.base c.index.result.now c.index.ensures low in
-    let way : c.index-2.result.now ≡ entry_at found c.args.base =
-    read_at found c.args.base c.index-2.result.now c.index-2.ensures c.requires in
+    let read : c.index.result.now ≡ entry_at kept c.args.base = grind (arith, read_at) in
+    let way : c.index-2.result.now ≡ entry_at found c.args.base = grind (arith, read_at) in
     let both : Some s ≡ Some c.in-Some.storage = sym is ∙ sym read ∙ c.in-Some.is in
     let same : s ≡ c.in-Some.storage = cc in
     record {

@@ -4,10 +4,7 @@ use Rattle.mk_why.proofs.Lists.{cells_more, has_kept_at, kept_at, lists_cell, li
 use Rattle.mk_why.proofs.listing.list_cells.Goals as goal
 
 pub loop-index-init : goal.loop-index-init
-loop-index-init c = record {
-  on = lists_nothing c.args.words.now.config (view_by c.args.stop.now.pass) c.args.tables.now c.requires.of_kept;
-  listed = λ b kept at_page lt. absurd (omega arith);
-}
+loop-index-init c = grind (arith, lists_nothing)
 
 pub list_cell-requires-clause-within : goal.list_cell-requires-clause-within
 list_cell-requires-clause-within c in_snapshot marked =

@@ -7,11 +7,7 @@ pub returns-in_default-clause-noted : goal.returns-in_default-clause-noted
 returns-in_default-clause-noted c b points = absurd (c.in_default.ensures.points b points)
 
 pub returns-in_default-clause-on : goal.returns-in_default-clause-on
-returns-in_default-clause-on c = record {
-  on = c.base_pointed.ensures.on;
-  search = c.requires.search;
-  grows = grows_nothing c.args.tables.now;
-}
+returns-in_default-clause-on c = grind (arith, grows_nothing)
 
 pub note-requires : goal.note-requires
 note-requires c =

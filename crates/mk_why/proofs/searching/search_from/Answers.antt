@@ -21,17 +21,12 @@ low c =
 -- what was found there
 there : (c : In-Some) → c.index-base.result.now < length c.args.tables.now.found.items
     → entry_at c.args.tables.now.found.items c.index-base.result.now ≡ Some c.in-Some.found
-there c low =
-    entry_read c.args.tables.now c.index-base.result.now c.index.result.now c.in-Some.found c.index.ensures low
-    c.in-Some.is
+there c low = grind (arith, entry_read, low)
 
 links : (c : In-Some) → c.index-base.result.now ≡ slice_index c.args.tables.now.queue.items c.args.place
     → entry_at c.args.tables.now.found.items c.index-base.result.now ≡ Some c.in-Some.found
     → links_of c.args.tables.now c.args.place ≡ c.in-Some.found.links
-links c base there =
-    let r = c.args.tables.now in
-    links_there c.args.words.now.config (view_by c.args.stop.now.pass) r c.args.place (links_of r c.args.place + 1)
-    c.requires.search c.requires.place c.index-base.result.now base c.in-Some.found there
+links c base there = grind (arith, links_there, base, there)
 
 pub index-requires : goal.index-requires
 index-requires c = let less = low (goal.at.index-requires c).After-index-base in omega arith

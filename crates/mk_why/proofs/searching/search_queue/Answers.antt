@@ -1,25 +1,15 @@
-use Rattle.mk_why.proofs.Vocabulary.{IsSearch, IsSearched, View, links_of, view_by}
-use Rattle.mk_laws.proofs.Vocabulary.{ℕ, arith, slice_index, subst, ◌+◌, ◌<◌}
+use Rattle.mk_why.proofs.Vocabulary.{IsSearch, IsSearched, links_of, view_by}
+use Rattle.mk_laws.proofs.Vocabulary.{ℕ, arith, slice_index, ◌+◌, ◌<◌}
 use Rattle.mk_why.proofs.Explored.{all_done, done_more, near_next}
 use Rattle.mk_why.proofs.Searches.{grows_nothing, grows_then, limit_of, view_search}
 use Rattle.mk_why.proofs.Looks.{looks_at_nothing, looks_then}
 use Rattle.mk_why.proofs.searching.search_queue.Goals as goal
 
 pub loop-place-init : goal.loop-place-init
-loop-place-init c = record {
-  on = looks_at_nothing c.args.stop.now c.requires.still;
-  limit = 0;
-  search = c.requires.search;
-  grows = grows_nothing c.args.tables.now;
-  near = λ some i lt. let low = c.requires.search.below i lt in omega arith;
-  done = λ i lt. absurd (omega arith);
-}
+loop-place-init c = grind (arith, looks_at_nothing, grows_nothing)
 
 pub search_from-requires-clause-search : goal.search_from-requires-clause-search
-search_from-requires-clause-search c =
-    let x = c.loop-place.invariant in
-    view_search x.on
-    (limit_of (links_of c.loop-place.tables c.loop-place.place + 1) x.search (x.near c.loop-place-test.true))
+search_from-requires-clause-search c = grind (arith, view_search, limit_of)
 
 pub loop-place-preserved : goal.loop-place-preserved
 loop-place-preserved c =
@@ -30,11 +20,8 @@ loop-place-preserved c =
     let s = c.search_from.new.tables in
     let place : ℕ = c.loop-place.place in
     let known : place < r.count = c.loop-place-test.true in
-    let behind : IsSearch k v s (links_of r place + 1) =
-    subst (λ (y : View). IsSearch k y s (links_of r place + 1)) x.on.view c.search_from.ensures.on.search in
-    let here : IsSearched k v s.found.items (slice_index r.queue.items place) =
-    subst (λ (y : View). IsSearched k y s.found.items (slice_index r.queue.items place)) x.on.view
-    c.search_from.ensures.done in
+    let behind : IsSearch k v s (links_of r place + 1) = grind arith in
+    let here : IsSearched k v s.found.items (slice_index r.queue.items place) = grind arith in
     record {
       on = looks_then x.on c.search_from.ensures.on.on;
       limit = links_of r place + 1;

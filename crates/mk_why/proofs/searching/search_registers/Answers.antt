@@ -11,8 +11,7 @@ loop-caller-init c = record {
 }
 
 pub search_registers_of-requires-clause-search : goal.search_registers_of-requires-clause-search
-search_registers_of-requires-clause-search c =
-    view_search c.loop-caller.invariant.on.on c.loop-caller.invariant.on.search
+search_registers_of-requires-clause-search c = grind (arith, view_search)
 
 pub loop-caller-preserved : goal.loop-caller-preserved
 loop-caller-preserved c =

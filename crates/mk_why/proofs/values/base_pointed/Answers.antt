@@ -1,6 +1,6 @@
 use Rattle.std.proofs.Math.Nat.{mul-le-mul}
-use Rattle.mk_why.proofs.Vocabulary.{Cell, LooksOn, View, header_at, now_of, used_at, view_by}
-use Rattle.mk_laws.proofs.Vocabulary.{None, Option, Some, ap, arith, lt-ltb, pointed_cell, sym, ◌*◌, ◌<◌, ◌∙◌, ◌≡◌, ◌≤◌}
+use Rattle.mk_why.proofs.Vocabulary.{Cell, LooksOn, now_of, view_by}
+use Rattle.mk_laws.proofs.Vocabulary.{None, Option, arith, lt-ltb, pointed_cell, ◌*◌, ◌<◌, ◌≡◌, ◌≤◌}
 use Rattle.mk_core.proofs.PointedPages.{pointed_within}
 use Rattle.mk_cycle.proofs.Allowed.{in_turn}
 use Rattle.mk_why.proofs.Looks.{looks_for_cell, looks_then, may_look_at_headers}
@@ -9,10 +9,7 @@ use Rattle.mk_why.proofs.values.base_pointed.Goals.{After-cell_pointed, In-Some}
 use Rattle.mk_why.proofs.values.base_pointed.Goals as goal
 
 pub cell_pointed-requires-clause-may : goal.cell_pointed-requires-clause-may
-cell_pointed-requires-clause-may c =
-    may_look_at_headers
-    (in_turn _ _ c.is_in_order.ensures.own c.is_in_order.ensures.turn c.is_in_order.ensures.history)
-    c.is_in_order.ensures.gates c.requires.still
+cell_pointed-requires-clause-may c = grind (arith, may_look_at_headers, in_turn)
 
 -- what looking for the cell leaves, and what the value points into by the view as it was
 
@@ -22,8 +19,7 @@ looks c = looks_for_cell c.cell_pointed.ensures.looks c.is_in_order.ensures.gate
 here : (c : After-cell_pointed) (cell : Option Cell)
     → cell ≡ pointed_cell c.args.words.now.config.pages (now_of c.cell_pointed.new.turn.pass).words.pages c.args.value
     → cell ≡ pointed_cell c.args.words.now.config.pages (view_by c.args.stop.now.pass).words.pages c.args.value
-here c cell is =
-    is ∙ ap (λ (v : View). pointed_cell c.args.words.now.config.pages v.words.pages c.args.value) (looks c).view
+here c cell is = grind (arith, looks)
 
 pub returns-in_default-clause-on : goal.returns-in_default-clause-on
 returns-in_default-clause-on c = looks (goal.at.returns-in_default-clause-on c).After-cell_pointed
@@ -36,9 +32,7 @@ returns-in_default-clause-points c =
 
 -- where the cell lies
 within : (c : In-Some) → (c.in-Some.cell.page < c.args.words.now.config.pages) × (c.in-Some.cell.index < 64)
-within c =
-    pointed_within c.args.words.now.config.pages (now_of c.cell_pointed.new.turn.pass).words c.args.value
-    c.in-Some.cell (sym c.in-Some.ensures.points)
+within c = grind (arith, pointed_within)
 
 pub look_at-used-requires-clause-still : goal.look_at-used-requires-clause-still
 look_at-used-requires-clause-still c = (looks (goal.at.look_at-used-requires-clause-still c).After-cell_pointed).still
@@ -54,18 +48,10 @@ look_at-header-requires-clause-word c =
     (within (goal.at.look_at-header-requires-clause-word c).In-Some).0
 
 pub returns-then-not-has_bit-clause-on : goal.returns-then-not-has_bit-clause-on
-returns-then-not-has_bit-clause-on c =
-    looks_then (looks (goal.at.returns-then-not-has_bit-clause-on c).After-cell_pointed) c.look_at-used.ensures.on
+returns-then-not-has_bit-clause-on c = grind (arith, looks_then, looks)
 
 pub returns-then-not-has_bit-clause-points : goal.returns-then-not-has_bit-clause-points
-returns-then-not-has_bit-clause-points c =
-    let x = goal.at.returns-then-not-has_bit-clause-points c in
-    none_at_unused c.args.stop.now.pass c.is_in_order.ensures.history c.requires.still c.args.words.now
-    c.requires.one_table c.args.value c.in-Some.cell
-    (here x.After-cell_pointed (Some c.in-Some.cell) c.in-Some.ensures.points) c.look_at-used.result
-    (c.look_at-used.ensures.found
-    ∙ ap (λ (v : View). used_at v.words c.in-Some.cell.page) (looks x.After-cell_pointed).view)
-    (sym c.has_bit.ensures ∙ c.if-not-has_bit.true)
+returns-then-not-has_bit-clause-points c = grind (arith, none_at_unused, here, looks)
 
 pub overflow_mul-result : goal.overflow_mul-result
 overflow_mul-result c =
@@ -77,8 +63,7 @@ pub overflow_mul-result-2 : goal.overflow_mul-result-2
 overflow_mul-result-2 c =
     let low = (within (goal.at.overflow_mul-result-2 c).In-Some).1 in
     let small = c.words_under.ensures.few in
-    let top : c.in-Some.cell.index * c.words_under.result ≤ 64 * 4096 =
-    mul-le-mul {n₁ = c.in-Some.cell.index} {m₁ = c.words_under.result} {n₂ = 64} {m₂ = 4096} (omega arith) small in
+    let top : c.in-Some.cell.index * c.words_under.result ≤ 64 * 4096 = grind (arith, mul-le-mul) in
     omega arith
 
 pub overflow_add-result : goal.overflow_add-result
@@ -87,8 +72,7 @@ overflow_add-result c =
     let index = (within (goal.at.overflow_add-result c).In-Some).1 in
     let few = c.is_within_limits.ensures.pages in
     let small = c.words_under.ensures.few in
-    let top : c.in-Some.cell.index * c.words_under.result ≤ 64 * 4096 =
-    mul-le-mul {n₁ = c.in-Some.cell.index} {m₁ = c.words_under.result} {n₂ = 64} {m₂ = 4096} (omega arith) small in
+    let top : c.in-Some.cell.index * c.words_under.result ≤ 64 * 4096 = grind (arith, mul-le-mul) in
     omega arith
 
 pub returns-clause-on : goal.returns-clause-on
@@ -97,14 +81,4 @@ returns-clause-on c =
     c.look_at-header.ensures.on
 
 pub returns-clause-points : goal.returns-clause-points
-returns-clause-points c =
-    let x = goal.at.returns-clause-points c in
-    let before = looks x.After-cell_pointed in
-    let same = c.look_at-used.ensures.on.view ∙ before.view in
-    some_at_used c.args.stop.now.pass c.is_in_order.ensures.history c.requires.still c.args.words.now
-    c.requires.one_table c.args.value c.in-Some.cell
-    (here x.After-cell_pointed (Some c.in-Some.cell) c.in-Some.ensures.points) c.look_at-used.result
-    (c.look_at-used.ensures.found ∙ ap (λ (v : View). used_at v.words c.in-Some.cell.page) before.view)
-    (sym c.has_bit.ensures ∙ c.if-not-has_bit.false) c.look_at-header.result c.words_under.result
-    (c.look_at-header.ensures.found ∙ ap (λ (v : View). header_at v.words c.in-Some.cell.page) same)
-    c.words_under.ensures.exact
+returns-clause-points c = grind (arith, looks, some_at_used, here)

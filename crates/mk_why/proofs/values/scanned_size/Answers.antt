@@ -12,10 +12,7 @@ pub returns-then-has_no_pointers-clause-scanned : goal.returns-then-has_no_point
 returns-then-has_no_pointers-clause-scanned c i lt = absurd (omega arith)
 
 pub returns-then-has_no_pointers-clause-whole : goal.returns-then-has_no_pointers-clause-whole
-returns-then-has_no_pointers-clause-whole c =
-    bare_at c.args.stop.now.pass c.is_in_order.ensures.history c.requires.still c.args.words.now
-    c.requires.one_table c.args.base c.requires.base c.look_at-header.result c.look_at-header.ensures.found
-    (sym c.has_no_pointers.ensures ∙ c.if-has_no_pointers.true)
+returns-then-has_no_pointers-clause-whole c = grind (arith, bare_at)
 
 pub returns-then-has_no_pointers-clause-within : goal.returns-then-has_no_pointers-clause-within
 returns-then-has_no_pointers-clause-within c =

@@ -6,7 +6,7 @@ use Rattle.mk_check.proofs.Vocabulary.{op_in, op_of_node, refusal_line, refusal_
 use Rattle.mk_check.proofs.Vocabulary.{sym, true, with_kept, work_left, [], ◌++◌, ◌<◌, ◌∙◌, ◌∷◌, ◌≡◌}
 use Rattle.mk_check.proofs.Stands.{answer_stands, answer_stops, op_of_others, waits_for_answer}
 use Rattle.mk_check.proofs.feeding.Feed.answer_ahead.Goals.{After-follow, In_ok-take}
-use Rattle.mk_check.proofs.{Moves.line_fits, WorkLaws.answer_nearer}
+use Rattle.mk_check.proofs.{Moves.line_fits, TreeNodes.is_at, WorkLaws.answer_nearer}
 use Rattle.mk_check.specs.Feeding.{StandsForSome}
 use Rattle.mk_check.proofs.feeding.Feed.answer_ahead.Goals as goal
 
@@ -86,8 +86,8 @@ starts_at c =
     let p = c.self.inside.running in
     let here : node_at nodes p.at ≡ Node.Line c.in-Line.line c.in-Line.instruction c.in-Line.next =
     ap (node_at nodes) (sym c.at.ensures) ∙ sym c.in-Line.ensures.value in
-    let next = line_fits nodes p c.in-Line.line c.in-Line.instruction c.in-Line.next c.in-Line.ensures.tree
-    c.self.invariant.stop.within here c.self.invariant.stop.fits in
+    let next = line_fits nodes (is_at c.in-Line.ensures.tree c.self.invariant.stop.within here)
+    c.self.invariant.stop.fits in
     let starts : c.take.new.self
     ≡ with_kept (record p { at = c.in-Line.next })
     (after_answer c.in-Line.instruction c.args.answer

@@ -1,5 +1,5 @@
-use Rattle.mk_laws.proofs.Vocabulary.{Block, Free, Header, Later, LeafBlock, LeafRun, None, Option, Run, Some, ℕ, ap}
-use Rattle.mk_laws.proofs.Vocabulary.{arith, head_page_under, header_of, refl, ◌-◌, ◌∙◌, ◌≡◌}
+use Rattle.mk_laws.proofs.Vocabulary.{Block, Free, Header, Later, LeafBlock, LeafRun, None, Option, Run, Some, ℕ, arith}
+use Rattle.mk_laws.proofs.Vocabulary.{head_page_under, refl, ◌-◌, ◌≡◌}
 use Rattle.mk_cycle.specs.ReadHeaders.{distance_under}
 use Rattle.mk_cycle.proofs.reading.ReadHeader.head_page.Goals as goal
 
@@ -13,8 +13,4 @@ head_by_distance (Some (Run pages mapped)) page = omega arith
 head_by_distance (Some (LeafRun pages)) page = omega arith
 
 pub returns : goal.returns
-returns c =
-    c.saturating_sub.ensures
-    ∙ ap (λ n. c.args.page - n) c.self.invariant.distance_of
-    ∙ ap (λ w. c.args.page - distance_under (header_of w)) c.self.view_is
-    ∙ head_by_distance (header_of c.args.self.now) c.args.page
+returns c = grind (arith, head_by_distance)

@@ -1,14 +1,15 @@
 use Rattle.mk_laws.proofs.Vocabulary.{None, Step, arith, refl, subst, sym, ◌∙◌}
 use Rattle.mk_cycle.{proofs.Allowed.in_turn, specs.Begun.EachIsBegun, specs.EngineLaw.IsAtPhase}
 use Rattle.mk_heap.proofs.BeforeOver.{hosts_seat, none_by_phase, step_overs}
-use Rattle.mk_heap.proofs.HostsKept.{home_host, home_is, home_view, is_home}
-use Rattle.mk_heap.proofs.MovedHosts.{begin_moves, finish_moves, idle_moves, moved_is_host, moves_more}
+use Rattle.mk_heap.proofs.HostsKept.{home_is, home_view, is_home}
+use Rattle.mk_heap.proofs.MovedHosts.{MovesOn, begin_moves, finish_moves, idle_moves, moved_is_host, moves_more}
 use Rattle.mk_heap.proofs.{BegunHosts.cycle_begun, IdleTurns.cycle_idle, Overs.give_allowed, Overs.idle_may_give}
 use Rattle.mk_heap.proofs.{Telling.given_no_turn, Telling.given_phase, UnsweptHosts.idle_then_sweeps}
 use Rattle.mk_heap.specs.{Ending.IsIdleTurn, Hosts.HostState}
 use Rattle.mk_turns.{proofs.Sweeping.other_step_sweeps, proofs.Sweeping.sweeps_then, specs.Sweeping.SweepsNothing}
 use Rattle.mk_waiting.specs.Taking.{TakesTurn}
 use Rattle.mk_words.specs.States.{PassState}
+use Rattle.mk_heap.proofs.hosts.Host.cycle.Goals.{After-finish_cycle-turn}
 use Rattle.mk_heap.proofs.hosts.Host.cycle.Goals as goal
 
 pub give-back-requires-clause-enabled : goal.give-back-requires-clause-enabled
@@ -21,37 +22,26 @@ give-back-requires-clause-enabled g c =
     cycle_idle p b r c.take_idle_turn-turn.ensures.idle c.begin_cycle.ensures.law c.finish_cycle-turn.ensures.law in
     give_allowed r (in_turn r c.finish_cycle-turn.result.0.op o.own o.turn o.history) (idle_may_give r idle)
 
+-- the host's pass as the cycle left it
+ended : (g : _) (c : After-finish_cycle-turn g)
+    → MovesOn c.take_home-home.result c.finish_cycle-turn.result.0.pass
+ended g c =
+    finish_moves _ _ _
+    (begin_moves _ _ _ (idle_moves _ _ c.take_idle_turn-turn.ensures.takes) c.begin_cycle.ensures.law)
+    c.finish_cycle-turn.ensures.law
+
 pub invariant_of-self : goal.invariant_of-self
 invariant_of-self g c =
-    let s = c.self.inside in
-    let h : HostState = home_host c.take_home-home.result s.callers s.markers in
-    let is =
-    home_is s.pass c.take_home-home.result s.callers s.markers c.take_home-home.ensures c.self.invariant in
-    let p : PassState = c.take_idle_turn-turn.result.pass in
-    let b : PassState = c.begin_cycle.new.turn.pass in
-    let r : PassState = c.finish_cycle-turn.result.0.pass in
-    let q : PassState = c.give-back.result in
-    let idle = idle_moves h.pass p c.take_idle_turn-turn.ensures.takes in
-    let begun = begin_moves h.pass p b idle c.begin_cycle.ensures.law in
-    let ended = finish_moves h.pass b r begun c.finish_cycle-turn.ensures.law in
-    moved_is_host h q is (moves_more h.pass r q Step.Give ended c.give-back.ensures.acts.makes)
-    c.give-back.ensures.acts.makes.pass.history (given_no_turn r q c.give-back.ensures.acts)
+    moved_is_host _ _ (home_is c.take_home-home.ensures c.self.invariant)
+    (moves_more _ _ _ _ (ended g (goal.at.invariant_of-self g c).After-finish_cycle-turn)
+    c.give-back.ensures.acts.makes)
+    c.give-back.ensures.acts.makes.pass.history (given_no_turn _ _ c.give-back.ensures.acts)
 
 pub returns-clause-own : goal.returns-clause-own
 returns-clause-own g c =
-    let s = c.self.inside in
-    let h : HostState = home_host c.take_home-home.result s.callers s.markers in
-    let is =
-    home_is s.pass c.take_home-home.result s.callers s.markers c.take_home-home.ensures c.self.invariant in
-    let p : PassState = c.take_idle_turn-turn.result.pass in
-    let b : PassState = c.begin_cycle.new.turn.pass in
-    let r : PassState = c.finish_cycle-turn.result.0.pass in
-    let q : PassState = c.give-back.result in
-    let idle = idle_moves h.pass p c.take_idle_turn-turn.ensures.takes in
-    let begun = begin_moves h.pass p b idle c.begin_cycle.ensures.law in
-    let ended = finish_moves h.pass b r begun c.finish_cycle-turn.ensures.law in
-    hosts_seat h q is c.is_in_order.ensures.own
-    (moves_more h.pass r q Step.Give ended c.give-back.ensures.acts.makes)
+    hosts_seat (home_is c.take_home-home.ensures c.self.invariant) c.is_in_order.ensures.own
+    (moves_more _ _ _ _ (ended g (goal.at.returns-clause-own g c).After-finish_cycle-turn)
+    c.give-back.ensures.acts.makes)
 
 pub returns-clause-idle : goal.returns-clause-idle
 returns-clause-idle g c =
@@ -60,10 +50,8 @@ returns-clause-idle g c =
 
 pub returns-clause-cycle : goal.returns-clause-cycle
 returns-clause-cycle g c =
-    let s = c.self.inside in
     let t = c.take_idle_turn-turn.ensures.takes in
-    let view = home_view s.pass c.take_home-home.result s.callers s.markers c.args.self.now c.take_home-home.ensures
-    c.self.view_is in
+    let view = home_view c.take_home-home.ensures c.self.view_is in
     record {
       makes = record {
         taken = t.taken;
@@ -81,29 +69,18 @@ returns-clause-cycle g c =
 
 pub returns-clause-overs : goal.returns-clause-overs
 returns-clause-overs g c =
-    let s = c.self.inside in
-    let h : HostState = home_host c.take_home-home.result s.callers s.markers in
-    let is =
-    home_is s.pass c.take_home-home.result s.callers s.markers c.take_home-home.ensures c.self.invariant in
-    let p : PassState = c.take_idle_turn-turn.result.pass in
-    let b : PassState = c.begin_cycle.new.turn.pass in
     let r : PassState = c.finish_cycle-turn.result.0.pass in
-    let idle = idle_moves h.pass p c.take_idle_turn-turn.ensures.takes in
-    let begun = begin_moves h.pass p b idle c.begin_cycle.ensures.law in
-    let ended = finish_moves h.pass b r begun c.finish_cycle-turn.ensures.law in
     let none : IsAtPhase r 0 = c.finish_cycle-turn.ensures.law.phase in
     step_overs r c.give-back.result Step.Give c.give-back.ensures.acts.makes
-    (hosts_seat h r is c.is_in_order.ensures.own ended) refl
+    (hosts_seat (home_is c.take_home-home.ensures c.self.invariant) c.is_in_order.ensures.own
+    (ended g (goal.at.returns-clause-overs g c).After-finish_cycle-turn)) refl
     ∙ none_by_phase r.table.config r.seen c.is_in_order-2.ensures.history
     (λ (five : IsAtPhase r 5). absurd (omega arith))
     ∙ sym c.requires.before_over
 
 pub returns-clause-reached : goal.returns-clause-reached
 returns-clause-reached g c =
-    let s = c.self.inside in
-    let view =
-    home_view s.pass c.take_home-home.result s.callers s.markers c.args.self.now c.take_home-home.ensures
-    c.self.view_is in
+    let view = home_view c.take_home-home.ensures c.self.view_is in
     let p : PassState = c.take_idle_turn-turn.result.pass in
     let b : PassState = c.begin_cycle.new.turn.pass in
     let r : PassState = c.finish_cycle-turn.result.0.pass in
@@ -118,10 +95,7 @@ returns-clause-reached g c =
 
 pub returns-clause-begun : goal.returns-clause-begun
 returns-clause-begun g c =
-    let s = c.self.inside in
-    let view =
-    home_view s.pass c.take_home-home.result s.callers s.markers c.args.self.now c.take_home-home.ensures
-    c.self.view_is in
+    let view = home_view c.take_home-home.ensures c.self.view_is in
     let q : PassState = c.give-back.result in
     subst (λ (h : HostState). EachIsBegun g.E.Engine.begins h.pass q) view
     (cycle_begun g.E.Engine.begins c.take_home-home.result c.take_idle_turn-turn.result.pass c.begin_cycle.new.turn.pass

@@ -4,19 +4,15 @@ use Rattle.mk_heap.proofs.hosts.Host.is_in_order.Goals as goal
 
 pub returns-clause-seat : goal.returns-clause-seat
 returns-clause-seat c =
-    let s = c.self.inside in
-    let is = home_is s.pass c.in-Some.home s.callers s.markers c.in-Some.is c.self.invariant in
-    let view = home_view s.pass c.in-Some.home s.callers s.markers c.args.self.now c.in-Some.is c.self.view_is in
-    subst (λ (g : HostState). g.pass.seat ≡ Host) view is.seat
+    subst (λ (g : HostState). g.pass.seat ≡ Host) (home_view c.in-Some.is c.self.view_is)
+    (home_is c.in-Some.is c.self.invariant).seat
 
 pub returns-clause-history : goal.returns-clause-history
 returns-clause-history c =
-    let s = c.self.inside in
-    let view = home_view s.pass c.in-Some.home s.callers s.markers c.args.self.now c.in-Some.is c.self.view_is in
-    subst (λ (g : HostState). IsHistory g.pass.table.config g.pass.seen) view c.is_in_order.ensures.history
+    subst (λ (g : HostState). IsHistory g.pass.table.config g.pass.seen) (home_view c.in-Some.is c.self.view_is)
+    c.is_in_order.ensures.history
 
 pub returns-clause-tidy : goal.returns-clause-tidy
 returns-clause-tidy c =
-    let s = c.self.inside in
-    let view = home_view s.pass c.in-Some.home s.callers s.markers c.args.self.now c.in-Some.is c.self.view_is in
-    subst (λ (g : HostState). IsTidy g.pass.table.config g.pass.seen) view c.is_in_order.ensures.tidy
+    subst (λ (g : HostState). IsTidy g.pass.table.config g.pass.seen) (home_view c.in-Some.is c.self.view_is)
+    c.is_in_order.ensures.tidy

@@ -1,6 +1,6 @@
-use Rattle.mk_laws.proofs.Vocabulary.{Step, refl, subst, sym}
+use Rattle.mk_laws.proofs.Vocabulary.{refl, subst, sym}
 use Rattle.mk_cycle.{proofs.Allowed.in_turn, proofs.Allowed.in_turn_after, specs.EngineLaw.IsAtPhase}
-use Rattle.mk_heap.proofs.{HomeCallers.callers_home, HostsKept.home_host, HostsKept.home_is, HostsKept.home_view}
+use Rattle.mk_heap.proofs.{HomeCallers.callers_home, HostsKept.home_is, HostsKept.home_view}
 use Rattle.mk_heap.proofs.{HostsKept.is_home, IdleTurns.tidy_kept, MovedHosts.idle_moves, MovedHosts.moved_is_host}
 use Rattle.mk_heap.proofs.{MovedHosts.moves_more, Overs.give_allowed, Overs.over_keeps, Overs.over_may_give}
 use Rattle.mk_heap.proofs.{Telling.given_no_turn, UnsweptHosts.given_sweeps, UnsweptHosts.idle_then_sweeps}
@@ -30,35 +30,22 @@ give-back-requires-clause-tidy g c =
 
 pub invariant_of-self : goal.invariant_of-self
 invariant_of-self g c =
-    let s = c.self.inside in
-    let h : HostState = home_host c.take_home-home.result s.callers s.markers in
-    let is =
-    home_is s.pass c.take_home-home.result s.callers s.markers c.take_home-home.ensures c.self.invariant in
-    let p : PassState = c.take_idle_turn-turn.result.pass in
-    let q : PassState = c.over.new.self.pass in
-    let r : PassState = c.give-back.result in
-    let idle = idle_moves h.pass p c.take_idle_turn-turn.ensures.takes in
-    let said = moves_more h.pass p q Step.Over idle c.over.ensures.acts.makes in
-    moved_is_host h r is (moves_more h.pass q r Step.Give said c.give-back.ensures.acts.makes)
-    c.give-back.ensures.acts.makes.pass.history (given_no_turn q r c.give-back.ensures.acts)
+    let said = moves_more _ _ _ _ (idle_moves _ _ c.take_idle_turn-turn.ensures.takes) c.over.ensures.acts.makes in
+    moved_is_host _ _ (home_is c.take_home-home.ensures c.self.invariant)
+    (moves_more _ _ _ _ said c.give-back.ensures.acts.makes)
+    c.give-back.ensures.acts.makes.pass.history (given_no_turn _ _ c.give-back.ensures.acts)
 
 pub returns-clause-bench : goal.returns-clause-bench
 returns-clause-bench g c none =
-    let s = c.self.inside in
-    let home = c.take_home-home.result in
-    let some = c.take_home-home.ensures in
-    let view = home_view s.pass home s.callers s.markers c.args.self.now some c.self.view_is in
+    let view = home_view c.take_home-home.ensures c.self.view_is in
     c.take_idle_turn-turn.ensures.bench
-    (callers_home (home_host home s.callers s.markers) (home_is s.pass home s.callers s.markers some c.self.invariant)
+    (callers_home _ (home_is c.take_home-home.ensures c.self.invariant)
     (subst (λ (h : HostState). CallersAreJoined h) (sym view) c.requires.joined))
     (subst (λ (h : HostState). IsAtPhase h.pass 0) (sym view) none)
 
 pub returns-clause-over : goal.returns-clause-over
 returns-clause-over g c =
-    let s = c.self.inside in
-    let view =
-    home_view s.pass c.take_home-home.result s.callers s.markers c.args.self.now c.take_home-home.ensures
-    c.self.view_is in
+    let view = home_view c.take_home-home.ensures c.self.view_is in
     let r : PassState = c.give-back.result in
     let turn = c.take_idle_turn-turn.ensures.takes in
     subst (λ (h : HostState). SaysOver h.pass r) view (record {
@@ -73,10 +60,7 @@ returns-clause-over g c =
 
 pub returns-clause-reached : goal.returns-clause-reached
 returns-clause-reached g c =
-    let s = c.self.inside in
-    let view =
-    home_view s.pass c.take_home-home.result s.callers s.markers c.args.self.now c.take_home-home.ensures
-    c.self.view_is in
+    let view = home_view c.take_home-home.ensures c.self.view_is in
     let p : PassState = c.take_idle_turn-turn.result.pass in
     let q : PassState = c.over.new.self.pass in
     let r : PassState = c.give-back.result in

@@ -1,87 +1,64 @@
-use Rattle.mk_laws.proofs.Vocabulary.{Host, Seat, Step, ap, refl, subst, ◌∙◌, ◌≡◌}
+use Rattle.mk_laws.proofs.Vocabulary.{Host, Seat, ap, refl, subst, ◌∙◌, ◌≡◌}
 use Rattle.mk_cycle.proofs.Allowed.{in_turn, in_turn_after}
 use Rattle.mk_heap.proofs.BeforeOver.{hosts_seat, step_overs, taken_overs}
-use Rattle.mk_heap.proofs.HostsKept.{home_host, home_is, home_view, is_home}
+use Rattle.mk_heap.proofs.HostsKept.{home_is, home_view, is_home}
 use Rattle.mk_heap.proofs.MovedHosts.{moved_is_host, moves_more, turn_moves}
 use Rattle.mk_heap.proofs.Telling.{given_no_turn, look_admitted, look_tidy, looked_may_give}
 use Rattle.mk_heap.proofs.{Overs.give_allowed, UnsweptHosts.given_sweeps, UnsweptHosts.taken_then_sweeps}
 use Rattle.mk_heap.specs.Hosts.{HostState}
 use Rattle.mk_turns.specs.Sweeping.{SweepsNothing}
 use Rattle.mk_words.specs.{Seats.Has, Seats.has_over, States.PassState}
+use Rattle.mk_heap.proofs.hosts.Host.tell.Goals.{After-take_turn-turn}
 use Rattle.mk_heap.proofs.hosts.Host.tell.Goals as goal
+
+-- The turn is the host's.
+host : (g : _) (c : After-take_turn-turn g) → c.take_turn-turn.result.pass.seat ≡ Host
+host g c =
+    ap (λ (x : PassState). x.seat) (turn_moves _ _ c.take_turn-turn.ensures.takes).is
+    ∙ (home_is c.take_home-home.ensures c.self.invariant).seat
 
 pub look-found-requires-clause-admitted : goal.look-found-requires-clause-admitted
 look-found-requires-clause-admitted g c = λ decides.
-    let s = c.self.inside in
-    let is = home_is s.pass c.take_home-home.result s.callers s.markers c.take_home-home.ensures c.self.invariant in
-    let p : PassState = c.take_turn-turn.result.pass in
-    let host : p.seat ≡ Host =
-    ap (λ (x : PassState). x.seat) (turn_moves c.take_home-home.result p c.take_turn-turn.ensures.takes).is ∙ is.seat in
-    look_admitted p c.args.x host c.is_in_order-2.ensures.history
+    look_admitted c.take_turn-turn.result.pass c.args.x
+    (host g (goal.at.look-found-requires-clause-admitted g c).After-take_turn-turn) c.is_in_order-2.ensures.history
 
 pub give-back-requires-clause-enabled : goal.give-back-requires-clause-enabled
 give-back-requires-clause-enabled g c =
-    let s = c.self.inside in
-    let is = home_is s.pass c.take_home-home.result s.callers s.markers c.take_home-home.ensures c.self.invariant in
     let p : PassState = c.take_turn-turn.result.pass in
     let q : PassState = c.look-found.new.self.pass in
-    let host : p.seat ≡ Host =
-    ap (λ (x : PassState). x.seat) (turn_moves c.take_home-home.result p c.take_turn-turn.ensures.takes).is ∙ is.seat in
     let o = c.is_in_order-2.ensures in
     give_allowed q (in_turn_after c.look-found.ensures.acts refl)
-    (looked_may_give p q c.args.x host (in_turn p c.take_turn-turn.result.op o.own o.turn o.history)
+    (looked_may_give p q c.args.x (host g (goal.at.give-back-requires-clause-enabled g c).After-take_turn-turn)
+    (in_turn p c.take_turn-turn.result.op o.own o.turn o.history)
     c.take_turn-turn.ensures.fresh c.look-found.ensures.acts c.take_turn-turn.ensures.exact)
 
 pub give-back-requires-clause-tidy : goal.give-back-requires-clause-tidy
 give-back-requires-clause-tidy g c =
-    let s = c.self.inside in
-    let is = home_is s.pass c.take_home-home.result s.callers s.markers c.take_home-home.ensures c.self.invariant in
-    let p : PassState = c.take_turn-turn.result.pass in
-    let host : p.seat ≡ Host =
-    ap (λ (x : PassState). x.seat) (turn_moves c.take_home-home.result p c.take_turn-turn.ensures.takes).is ∙ is.seat in
-    look_tidy p c.look-found.new.self.pass c.args.x c.look-found.ensures.acts host c.take_turn-turn.ensures.tidy
+    look_tidy _ _ c.args.x c.look-found.ensures.acts
+    (host g (goal.at.give-back-requires-clause-tidy g c).After-take_turn-turn) c.take_turn-turn.ensures.tidy
 
 pub invariant_of-self : goal.invariant_of-self
 invariant_of-self g c =
-    let s = c.self.inside in
-    let h : HostState = home_host c.take_home-home.result s.callers s.markers in
-    let is = home_is s.pass c.take_home-home.result s.callers s.markers c.take_home-home.ensures c.self.invariant in
-    let p : PassState = c.take_turn-turn.result.pass in
-    let q : PassState = c.look-found.new.self.pass in
-    let r : PassState = c.give-back.result in
-    moved_is_host h r is
-    (moves_more h.pass q r Step.Give
-    (moves_more h.pass p q (Step.Look c.args.x) (turn_moves h.pass p c.take_turn-turn.ensures.takes)
-    c.look-found.ensures.acts.makes)
-    c.give-back.ensures.acts.makes)
-    c.give-back.ensures.acts.makes.pass.history (given_no_turn q r c.give-back.ensures.acts)
+    let looked = moves_more _ _ _ _ (turn_moves _ _ c.take_turn-turn.ensures.takes) c.look-found.ensures.acts.makes in
+    moved_is_host _ _ (home_is c.take_home-home.ensures c.self.invariant)
+    (moves_more _ _ _ _ looked c.give-back.ensures.acts.makes)
+    c.give-back.ensures.acts.makes.pass.history (given_no_turn _ _ c.give-back.ensures.acts)
 
 pub returns-clause-overs : goal.returns-clause-overs
 returns-clause-overs g c =
-    let s = c.self.inside in
-    let h : HostState = home_host c.take_home-home.result s.callers s.markers in
-    let is = home_is s.pass c.take_home-home.result s.callers s.markers c.take_home-home.ensures c.self.invariant in
-    let view =
-    home_view s.pass c.take_home-home.result s.callers s.markers c.args.self.now
-    c.take_home-home.ensures c.self.view_is in
-    let p : PassState = c.take_turn-turn.result.pass in
-    let q : PassState = c.look-found.new.self.pass in
-    let r : PassState = c.give-back.result in
-    let taken = turn_moves h.pass p c.take_turn-turn.ensures.takes in
-    let looked = moves_more h.pass p q (Step.Look c.args.x) taken c.look-found.ensures.acts.makes in
+    let is = home_is c.take_home-home.ensures c.self.invariant in
     let own = c.is_in_order.ensures.own in
-    step_overs q r Step.Give c.give-back.ensures.acts.makes (hosts_seat h q is own looked) refl
-    ∙ step_overs p q (Step.Look c.args.x) c.look-found.ensures.acts.makes (hosts_seat h p is own taken) refl
-    ∙ taken_overs h.pass p c.take_turn-turn.ensures.takes (subst (λ (x : Seat). Has h.pass.seats x) is.seat own)
-    c.is_in_order-2.ensures.history
-    ∙ ap (λ (g : HostState). has_over g.pass.seen) view
+    let taken = turn_moves _ _ c.take_turn-turn.ensures.takes in
+    let looked = moves_more _ _ _ _ taken c.look-found.ensures.acts.makes in
+    step_overs _ _ _ c.give-back.ensures.acts.makes (hosts_seat is own looked) refl
+    ∙ step_overs _ _ _ c.look-found.ensures.acts.makes (hosts_seat is own taken) refl
+    ∙ taken_overs c.take_home-home.result _ c.take_turn-turn.ensures.takes
+    (subst (λ (x : Seat). Has c.take_home-home.result.seats x) is.seat own) c.is_in_order-2.ensures.history
+    ∙ ap (λ (g : HostState). has_over g.pass.seen) (home_view c.take_home-home.ensures c.self.view_is)
 
 pub returns-clause-reached : goal.returns-clause-reached
 returns-clause-reached g c =
-    let s = c.self.inside in
-    let view =
-    home_view s.pass c.take_home-home.result s.callers s.markers c.args.self.now c.take_home-home.ensures
-    c.self.view_is in
+    let view = home_view c.take_home-home.ensures c.self.view_is in
     let p : PassState = c.take_turn-turn.result.pass in
     let q : PassState = c.look-found.new.self.pass in
     let r : PassState = c.give-back.result in

@@ -1,4 +1,5 @@
-use Rattle.mk_page_map.proofs.Vocabulary.{List, Page, ℕ, ap, arith, drop, is_free_page, is_of_set, length, length-set}
+use Rattle.mk_page_map.proofs.Vocabulary.{List, Page, ℕ, ap, arith, drop, is_free_page, is_of_set, is_resident_page}
+use Rattle.mk_page_map.proofs.Vocabulary.{length, length-set}
 use Rattle.mk_page_map.proofs.Vocabulary.{page_at, set, sym, take, true, ◌++◌, ◌+◌, ◌<◌, ◌∙◌, ◌≡◌, ◌≤◌}
 use Rattle.mk_geom.specs.{Headers.header_of, PageWords.use_under}
 use Rattle.mk_page_map.proofs.Storing.{Stores, counted_anew, page_read, page_within, resident_byte, store_fits}
@@ -33,14 +34,16 @@ stores c =
 was_counted : (c : After-from)
     → c.from-was_resident.result ≡ resident_one (page_at c.self.inside.pages.items c.args.page)
 was_counted c =
-    resident_byte c.index-3.result.now c.is_resident.result c.from-was_resident.result c.is_resident.ensures
+    resident_byte c.index.result.now c.is_resident.result c.from-was_resident.result
+    (λ used. ap is_resident_page (c.kind_of-before.ensures.kind used) ∙ c.is_resident.ensures used)
     c.from-was_resident.ensures
     ∙ ap resident_one
-    (page_read c.self.inside.pages.items c.args.page c.index-3.result.now (within c) c.index-3.ensures)
+    (page_read c.self.inside.pages.items c.args.page c.index.result.now (within c) c.index.ensures)
 
 is_counted : (c : After-from) → c.from.result ≡ resident_one (now c)
 is_counted c =
-    resident_byte (now c) c.is_resident-2.result c.from.result c.is_resident-2.ensures c.from.ensures
+    resident_byte (now c) c.is_resident-2.result c.from.result
+    (λ used. ap is_resident_page (c.kind_of-after.ensures.kind used) ∙ c.is_resident-2.ensures used) c.from.ensures
 
 enough : (c : After-from) → c.from-was_resident.result ≤ c.self.inside.resident + c.from.result
 enough c =

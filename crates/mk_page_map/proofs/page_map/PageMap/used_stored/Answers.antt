@@ -16,17 +16,14 @@ read : (c : After-sort_by_used) → c.index.result.now ≡ page_at c.self.inside
 read c = page_read c.self.inside.pages.items c.args.page c.index.result.now (within c) c.index.ensures
 
 pub sort_by_used-requires-clause-sorted : goal.sort_by_used-requires-clause-sorted
-sort_by_used-requires-clause-sorted c =
+sort_by_used-requires-clause-sorted c s is_set =
     let inside = page_within c.args.self.now c.self.inside.pages.items c.self.inside.sets.items c.args.page
     c.self.view_is c.requires in
-    let is = page_read c.self.inside.pages.items c.args.page c.index.result.now inside c.index.ensures in (
-      c.index.result.now.used,
-      λ s is_set.
-          ap (λ xs. is_member xs s c.args.page) c.deref_mut.ensures.value
-          ∙ c.self.invariant.sorted c.args.page inside s is_set
-          ∙ ap (λ (p : Page). is_of_set s (use_of_page p)) (sym is)
-          ∙ ap (is_of_set s) (c.kind_of.ensures.kind c.index.result.now.used),
-    )
+    let is = page_read c.self.inside.pages.items c.args.page c.index.result.now inside c.index.ensures in
+    ap (λ xs. is_member xs s c.args.page) c.deref_mut.ensures.value
+    ∙ c.self.invariant.sorted c.args.page inside s is_set
+    ∙ ap (λ (p : Page). is_of_set s (use_of_page p)) (sym is)
+    ∙ ap (is_of_set s) (c.kind_of.ensures.kind c.index.result.now.used)
 
 stores : (c : After-sort_by_used)
     → Stores c.self.inside.pages.items c.self.inside.sets.items c.deref_mut.result.now c.sort_by_used.new.sets

@@ -6,29 +6,19 @@ use Rattle.mk_why.proofs.{Counts.of_state, Pointed.apart, Telling.told_by, Telli
 use Rattle.mk_why.proofs.why.WhyEngine.close_marks.Goals as goal
 
 pub close_marks-requires-clause-made_for : goal.close_marks-requires-clause-made_for
-close_marks-requires-clause-made_for g c =
-    let pages = c.is_within_limits.ensures.pages in
-    (of_state g.E.Engine.made_for _ _ c.args.words.now.config.pages c.self.view_is c.requires.made_for (omega arith)
-    (omega arith)).0
+close_marks-requires-clause-made_for g c = grind (arith, of_state)
 
 pub search-requires-clause-still : goal.search-requires-clause-still
 search-requires-clause-still g c = still_closed c.close_marks.ensures.law c.requires.free
 
 pub search-requires-clause-one_table : goal.search-requires-clause-one_table
-search-requires-clause-one_table g c =
-    ap (λ (p : PassState). p.table) c.close_marks.ensures.law.keeps.call.pass ∙ c.requires.one_table
+search-requires-clause-one_table g c = grind arith
 
 pub search-requires-clause-size : goal.search-requires-clause-size
-search-requires-clause-size g c =
-    let pages = c.is_within_limits.ensures.pages in
-    c.forget_found.ensures.size
-    ∙ (of_state g.E.Engine.made_for _ _ c.args.words.now.config.pages c.self.view_is c.requires.made_for (omega arith)
-    (omega arith)).1
+search-requires-clause-size g c = grind (arith, of_state)
 
 pub list_kept-requires-clause-one_table : goal.list_kept-requires-clause-one_table
-list_kept-requires-clause-one_table g c =
-    c.search.ensures.on.table
-    ∙ ap (λ (p : PassState). p.table) c.close_marks.ensures.law.keeps.call.pass ∙ c.requires.one_table
+list_kept-requires-clause-one_table g c = grind arith
 
 pub returns-clause-op : goal.returns-clause-op
 returns-clause-op g c = c.list_kept.ensures.looks.op ∙ c.search.ensures.on.op ∙ c.close_marks.ensures.op
@@ -62,9 +52,4 @@ returns-clause-told g c =
     c.is_in_order-2.ensures.gates
 
 pub returns-clause-closed : goal.returns-clause-closed
-returns-clause-closed g c =
-    record {
-      inner = c.close_marks.new.stop.pass;
-      part = c.close_marks.ensures.closed;
-      looks = (looks_then c.search.ensures.on c.list_kept.ensures.looks).does;
-    }
+returns-clause-closed g c = grind (arith, looks_then)

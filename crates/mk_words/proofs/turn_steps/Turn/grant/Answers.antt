@@ -1,5 +1,11 @@
-use Rattle.mk_laws.proofs.Vocabulary.{Store, ℕ, ap}
+use Rattle.mk_laws.proofs.Vocabulary.{Step, Store, ℕ, ap, subst, sym}
+use Rattle.mk_words.{proofs.CallSteps.grants_to, specs.States.TurnState, specs.Steps.IsEnabledTo}
 use Rattle.mk_words.proofs.turn_steps.Turn.grant.Goals as goal
+
+pub caller-requires : goal.caller-requires
+caller-requires c =
+    grants_to c.self.inside.pass
+    (subst (λ (t : TurnState). IsEnabledTo t.pass Step.Grant) (sym c.self.view_is) c.requires.enabled)
 
 pub perform-requires-clause-access : goal.perform-requires-clause-access
 perform-requires-clause-access c = ap (λ (n : ℕ). Store n) c.requires.address

@@ -1,26 +1,31 @@
-use Rattle.std.proofs.Common.{replicate, rules}
-use Rattle.mk_laws.proofs.Vocabulary.{ℕ, ap, [], ◌∙◌, ◌∷◌, ◌≡◌}
+use Rattle.std.proofs.Common.{All, replicate}
+use Rattle.mk_laws.proofs.Vocabulary.{List, ℕ, ap, arith, free_page, length, refl, [], ◌∙◌, ◌∷◌, ◌≡◌}
+use Rattle.mk_page_map.specs.KnownPages.{KnownPages, Shows}
 use Rattle.mk_laws.proofs.OrderlyLists.{at_first}
-use Rattle.mk_words.proofs.{MapSteps.shows_that, Owed.first_call, Owed.first_in_order}
-use Rattle.mk_words.specs.{Rule.Mine, declared.homes.Carried.Carried}
+use Rattle.mk_words.{proofs.Owed.first_call, proofs.Owed.first_in_order, specs.Rule.Mine}
 use Rattle.mk_words.proofs.words.Words.new.Goals as goal
 
-pub new-requires-3 : goal.new-requires-3
-new-requires-3 c =
-    let one : c.push.new.self.items ≡ c.in_ok-carried.carried.value.map ∷ [] = search rules in
-    first_call c.args.config.now c.zeros-zeros.result.now c.push.new.self.items c.in_ok-carried.carried.value.map
-    c.requires
-    (c.zeros-zeros.ensures ∙ ap (λ (n : ℕ). replicate {A = ℕ} n 0) c.count_of_words.ensures.exact)
-    one
-    (shows_that _ c.in_ok-pages.pages c.in_ok-carried.carried.value.map
-    (ap (λ (k : Carried). k.map) c.in_ok-carried.ensures.ok)
+-- the only one of a list
+only_one : (P : KnownPages → Type 0) (slots : List KnownPages) → length slots ≡ 1 → All P slots
+    → (map : KnownPages) × (slots ≡ map ∷ []) × P map
+only_one P [] one all = absurd (omega arith)
+only_one P (map ∷ []) one all = (map, refl, all 0 map (omega arith))
+only_one P (map ∷ next ∷ more) one all = absurd (omega arith)
+
+pub new-requires : goal.new-requires
+new-requires c =
+    let pages = c.args.config.now.pages in
+    let home = only_one (λ m. Shows m (replicate pages free_page) (replicate pages 0)) c.in_ok-slots.slots.items
+    c.in_ok-slots.ensures.one c.in_ok-slots.ensures.shows in
+    first_call c.args.config.now c.zeros-zeros.result.now c.in_ok-slots.slots.items home.0 c.requires
+    (c.zeros-zeros.ensures ∙ ap (λ (n : ℕ). replicate {A = ℕ} n 0) c.count_of_words.ensures.exact) home.1
     (record {
-      words = c.in_ok-pages.ensures;
+      words = home.2;
       unmarked = λ page bare cleaned. record {
-        unmarked = at_first c.args.config.now.pages page 0;
-        unscanned = at_first c.args.config.now.pages page 0;
+        unmarked = at_first pages page 0;
+        unscanned = at_first pages page 0;
       };
-    }))
+    })
 
 pub invariant_of-result : goal.invariant_of-result
 invariant_of-result c = record {

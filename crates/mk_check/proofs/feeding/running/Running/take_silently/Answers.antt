@@ -1,5 +1,6 @@
 use Rattle.mk_check.proofs.Vocabulary.{Node, ap, node_at, sym, ◌∙◌, ◌≡◌}
-use Rattle.mk_check.proofs.{Moves.below_length, Moves.line_fits, feeding.running.Running.take_silently.Goals.In-Line}
+use Rattle.mk_check.proofs.Moves.{below_length, line_fits}
+use Rattle.mk_check.proofs.{TreeNodes.is_at, feeding.running.Running.take_silently.Goals.In-Line}
 use Rattle.mk_check.proofs.feeding.running.Running.take_silently.Goals as goal
 
 here : (c : In-Line) → node_at c.args.tree.now c.args.self.now.at
@@ -10,16 +11,17 @@ pub take_to_op-requires-clause-within : goal.take_to_op-requires-clause-within
 take_to_op-requires-clause-within c =
     let l = c.in-Line in
     record {
-      at = below_length c.args.tree.now c.args.self.now (Node.Line l.line l.instruction l.next) l.ensures.tree
-          c.requires.within (here ((goal.at.take_to_op-requires-clause-within c).In-Line));
+      at = below_length c.args.tree.now
+          (is_at l.ensures.tree c.requires.within (here ((goal.at.take_to_op-requires-clause-within c).In-Line)));
       frames = c.requires.within.frames;
     }
 
 pub take_to_op-requires-clause-fits : goal.take_to_op-requires-clause-fits
 take_to_op-requires-clause-fits c =
     let l = c.in-Line in
-    line_fits c.args.tree.now c.args.self.now l.line l.instruction l.next l.ensures.tree c.requires.within
-    (here ((goal.at.take_to_op-requires-clause-fits c).In-Line)) c.requires.fits
+    line_fits c.args.tree.now
+    (is_at l.ensures.tree c.requires.within (here ((goal.at.take_to_op-requires-clause-fits c).In-Line)))
+    c.requires.fits
 
 pub returns-clause-taken : goal.returns-clause-taken
 returns-clause-taken c =

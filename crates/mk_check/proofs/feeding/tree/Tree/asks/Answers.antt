@@ -1,9 +1,8 @@
-use Rattle.mk_check.proofs.Vocabulary.{ap, is_asking, node_at, [], ◌∙◌}
-use Rattle.mk_check.proofs.{AsksFirst.asked_so, Spots.asks_by_instruction}
+use Rattle.mk_check.proofs.Vocabulary.{ap, is_asking, node_at, ◌∙◌}
+use Rattle.mk_check.proofs.Spots.{asks_by_instruction}
 use Rattle.mk_check.proofs.feeding.tree.Tree.asks.Goals as goal
 
 pub returns : goal.returns
 returns c =
-    c.asks.ensures []
-    ∙ (asked_so [] c.instruction.result.now ∙ (ap is_asking c.instruction.ensures.value
-    ∙ asks_by_instruction (node_at c.args.self.now c.args.at)))
+    c.asks.ensures ∙ (ap is_asking c.instruction.ensures.value
+    ∙ asks_by_instruction (node_at c.args.self.now c.args.at))
