@@ -70,8 +70,8 @@ returns g c =
     let k = c.is_in_order-3.ensures in
     record {
       pass = passed_back c.args.words.now 0 c.args.home c.requires.pass t.result.pass c.requires.exists
-      c.is_in_order.ensures.own t.ensures.takes t.ensures.fresh t.ensures.exact t.ensures.tidy
-      (in_turn t.result.pass t.result.op j.own j.turn j.history) j.before_over
-      c.place_object-placed.new.turn.pass (c.place_object-placed.ensures.placed c.if-not-placed.false) k.history
-      c.give.result c.give.ensures.acts.makes c.give.ensures.rests;
+          c.is_in_order.ensures.own t.ensures.takes t.ensures.fresh t.ensures.exact t.ensures.tidy
+          (in_turn t.result.pass t.result.op j.own j.turn j.history) j.before_over
+          c.place_object-placed.new.turn.pass (c.place_object-placed.ensures.placed c.if-not-placed.false) k.history
+          c.give.result c.give.ensures.acts.makes c.give.ensures.rests;
     }
