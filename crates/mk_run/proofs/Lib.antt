@@ -3,6 +3,7 @@ mod FedScripts
 mod HostTurns
 mod JoinedScripts
 mod LaterLists
+mod ReadyScripts
 pub mod MarkersBeside
 mod AskedOps
 mod NotedCalls

@@ -1,4 +1,4 @@
-pub mod Benches
+pub mod Ready
 pub mod Joining
 pub mod Marking
 pub mod Headline

@@ -6,18 +6,20 @@ ghost use denote.Param.Send.{IsSend};
 ghost use Rattle.mk_check.specs.Laws.{IsScript};
 ghost use Rattle.mk_run.specs.BegunSeats.{CyclesOfAreBegun, ScriptsBeginCycles};
 ghost use Rattle.mk_run.specs.Joining.{IsFirstPass, HasMade, HasRun, AreJoined};
-ghost use Rattle.mk_run.specs.Benches.{IsMadeFor, AreBenchesFrom};
+ghost use Rattle.mk_run.specs.Ready.{AreReadyFrom, IsReady};
 ghost use Rattle.mk_run.specs.UnsweptSeats.{ScriptsSweepNothing, SeatSweepsNothing};
 
 use crate::paces::Pace;
+use crate::ready::ReadyScript;
 use crate::runs::Run;
 use crate::scripts::run_script;
 use mk_caller::Caller;
 use mk_check::Text;
-use mk_cycle::{Bench, Engine};
+use mk_cycle::Engine;
 use mk_heap::Host;
 use mk_never::NoMemory;
 use mk_words::Pass;
+use std::collections::VecDeque;
 use std::sync::Wait;
 use std::thread;
 use std::thread::Threads;
@@ -43,18 +45,18 @@ fn run_alone<E: Engine, P: Pace, R: Threads + Wait + Sync>(
     pace: &P,
     k: u64,
     pass: Pass,
-    mut bench: Bench<E>,
+    ready: ReadyScript<E>,
 ) -> Ran
     requires script { IsScript run.now.program.now k }
     requires pass { IsFirstPass run.now.heap.now k pass }
-    requires bench { IsMadeFor E.made_for run.now.heap.now.config.pages bench }
+    requires ready { IsReady E.made_for run.now.program.now run.now.heap.now.config.pages k ready }
     ensures ran { HasRun E.on run.now.program.now run.now.heap.now k result }
     ensures reached { E.sweeps ≡ false
         → SeatSweepsNothing run.now.heap.now.config (seat.Caller k) result.pass.seen }
     ensures begun { CyclesOfAreBegun E.begins run.now.heap.now.config (seat.Caller k) result.pass.seen }
 {
     let mut caller = Caller::new(run.heap.words(), pass);
-    let text = run_script(rt, run.alloc, &mut caller, &mut bench, run.program, k, pace);
+    let text = run_script(rt, run.alloc, &mut caller, ready, run.program, k, pace);
     caller.is_idle();
     Ran {
         pass: caller.finish(),
@@ -77,24 +79,25 @@ fn with_first(
     Ok(texts)
 }
 
-/// Runs the scripts from `k` on, each on a thread of its own and with a bench of its own, and joins them. A script
-/// whose thread can't be started runs here.
+/// Runs the scripts from `k` on, each on a thread of its own, and joins them. A script whose thread can't be started
+/// runs here.
 pub(crate) fn run_from<E: Engine + Send, P: Pace + Sync, R: Threads + Wait + Sync>(
     rt: &R,
     run: &Run,
     pace: &P,
     k: u64,
     mut host: Host,
-    mut benches: Vec<Bench<E>>,
+    mut scripts: VecDeque<ReadyScript<E>>,
 ) -> Joined
+    requires shared { IsSync R.row × IsSync P.row × IsSend E.row }
     requires host { HasMade run.now.heap.now k host }
-    requires benches { AreBenchesFrom E.made_for run.now.heap.now k benches.items }
+    requires scripts { AreReadyFrom E.made_for run.now.program.now run.now.heap.now.config k scripts.items }
     ensures joined { AreJoined E.on run.now.program.now run.now.heap.now k host.markers result }
     ensures reached { E.sweeps ≡ false
         → ScriptsSweepNothing run.now.program.now k run.now.heap.now.config result.host.pass.seen }
     ensures begun { ScriptsBeginCycles E.begins run.now.program.now k run.now.heap.now.config result.host.pass.seen }
 {
-    let Some(bench) = benches.pop() else {
+    let Some(ready) = scripts.pop_front() else {
         return Joined {
             host,
             texts: Ok(Vec::new(run.alloc)),
@@ -107,23 +110,24 @@ pub(crate) fn run_from<E: Engine + Send, P: Pace + Sync, R: Threads + Wait + Syn
             requires shared { IsSync R.row × IsSync P.row × IsSend E.row }
             requires script { IsScript run.now.program.now k }
             requires pass { IsFirstPass run.now.heap.now k pass }
-            requires bench { IsMadeFor E.made_for run.now.heap.now.config.pages bench }
+            requires ready { IsReady E.made_for run.now.program.now run.now.heap.now.config.pages k ready }
             ensures ran { HasRun E.on run.entry.now.program.now run.entry.now.heap.now k result }
             ensures reached { E.sweeps ≡ false
                 → SeatSweepsNothing run.entry.now.heap.now.config (seat.Caller k) result.pass.seen }
             ensures begun { CyclesOfAreBegun E.begins run.entry.now.heap.now.config (seat.Caller k) result.pass.seen }
-        { run_alone(rt, run, pace, k, pass, bench) },
+        { run_alone(rt, run, pace, k, pass, ready) },
         move || -> Joined
             requires shared { IsSync R.row × IsSync P.row × IsSend E.row }
             requires host { HasMade run.now.heap.now (k + 1) host }
-            requires benches { AreBenchesFrom E.made_for run.now.heap.now (k + 1) benches.items }
+            requires scripts { AreReadyFrom E.made_for run.now.program.now run.now.heap.now.config (k + 1)
+                scripts.items }
             ensures joined { AreJoined E.on run.entry.now.program.now run.entry.now.heap.now (k + 1) host.markers
                 result }
             ensures reached { E.sweeps ≡ false → ScriptsSweepNothing run.entry.now.program.now (k + 1)
                 run.entry.now.heap.now.config result.host.pass.seen }
             ensures begun { ScriptsBeginCycles E.begins run.entry.now.program.now (k + 1)
                 run.entry.now.heap.now.config result.host.pass.seen }
-        { run_from(rt, run, pace, k + 1, host, benches) },
+        { run_from(rt, run, pace, k + 1, host, scripts) },
     );
     let Ran { pass, text } = ran;
     let Joined { mut host, texts } = joined;

@@ -5,13 +5,13 @@
 #![tactic(auto)]
 
 mod answers;
-mod benches;
 mod joining;
 mod last_turns;
 pub mod laws;
 mod marking;
 mod outcomes;
 mod paces;
+mod ready;
 mod running;
 mod runs;
 mod scripts;
@@ -21,6 +21,7 @@ pub use answers::answer_to;
 pub use marking::mark_until_over;
 pub use outcomes::Outcome;
 pub use paces::{NoPace, Pace};
+pub use ready::ReadyScript;
 pub use running::{run_all, run_with_cycle};
 pub use scripts::run_script;
 pub use why::run_why;

@@ -7,13 +7,13 @@ ghost use Rattle.mk_run.specs.BegunSeats.{ScriptsBeginCycles};
 ghost use Rattle.mk_run.specs.Joining.{HasMade};
 ghost use Rattle.mk_run.specs.LastTurns.{TakesLastTurns};
 ghost use Rattle.mk_run.specs.Marking.{IsMarkersPass, IsOver};
-ghost use Rattle.mk_run.specs.Benches.{AreBenchesOf};
+ghost use Rattle.mk_run.specs.Ready.{IsReadyRun};
 ghost use Rattle.mk_run.specs.UnsweptSeats.{ScriptsSweepNothing};
 
-use crate::benches::Benches;
 use crate::joining::{Joined, run_from};
 use crate::last_turns::take_last_turns;
 use crate::paces::Pace;
+use crate::ready::ReadyRun;
 use crate::runs::Run;
 use mk_core::Phase;
 use mk_cycle::{Bench, Engine};
@@ -92,10 +92,11 @@ fn run_scripts<E: Engine + Send, P: Pace + Sync, R: Threads + Wait + Sync>(
     run: &Run,
     pace: &P,
     host: Host,
-    benches: Benches<E>,
+    ready: ReadyRun<E>,
 ) -> Ended<E>
+    requires shared { IsSync R.row × IsSync P.row × IsSend E.row }
     requires host { HasMade run.now.heap.now 0 host }
-    requires benches { AreBenchesOf E.made_for run.now.heap.now benches }
+    requires ready { IsReadyRun E.made_for run.now.program.now run.now.heap.now.config ready }
     ensures over { IsOver E.on run.now.with_cycle run.now.program.now run.now.heap.now host.markers result.joined }
     ensures turns { run.now.with_cycle ≡ true
         → TakesLastTurns (E.tells result.bench.engine) run.now.heap.now result.joined.host.pass }
@@ -104,11 +105,11 @@ fn run_scripts<E: Engine + Send, P: Pace + Sync, R: Threads + Wait + Sync>(
     ensures begun { ScriptsBeginCycles E.begins run.now.program.now 0 run.now.heap.now.config
         result.joined.host.pass.seen }
 {
-    let Benches {
-        callers,
+    let ReadyRun {
+        scripts,
         host: mut bench,
-    } = benches;
-    let Joined { mut host, texts } = run_from(rt, run, pace, 0, host, callers);
+    } = ready;
+    let Joined { mut host, texts } = run_from(rt, run, pace, 0, host, scripts);
     take_last_turns(rt, run.heap, &mut host, &mut bench, run.with_cycle);
     Ended {
         joined: Joined { host, texts },
@@ -124,12 +125,12 @@ pub(crate) fn run_beside<E: Engine + Send, P: Pace + Sync, R: Threads + Wait + S
     pace: &P,
     number: u64,
     mut host: Host,
-    benches: Benches<E>,
+    ready: ReadyRun<E>,
 ) -> Ended<E>
     requires shared { IsSync R.row × IsSync P.row × IsSend E.row }
     requires host { HasMade run.now.heap.now 0 host }
     requires number { host.markers ≡ number }
-    requires benches { AreBenchesOf E.made_for run.now.heap.now benches }
+    requires ready { IsReadyRun E.made_for run.now.program.now run.now.heap.now.config ready }
     ensures over { IsOver E.on run.now.with_cycle run.now.program.now run.now.heap.now number result.joined }
     ensures turns { run.now.with_cycle ≡ true
         → TakesLastTurns (E.tells result.bench.engine) run.now.heap.now result.joined.host.pass }
@@ -139,7 +140,7 @@ pub(crate) fn run_beside<E: Engine + Send, P: Pace + Sync, R: Threads + Wait + S
         result.joined.host.pass.seen }
 {
     if number >= run.markers {
-        return run_scripts(rt, run, pace, host, benches);
+        return run_scripts(rt, run, pace, host, ready);
     }
     let heap = run.heap;
     let pass = host.marker(heap).finish();
@@ -154,7 +155,7 @@ pub(crate) fn run_beside<E: Engine + Send, P: Pace + Sync, R: Threads + Wait + S
             requires shared { IsSync R.row × IsSync P.row × IsSend E.row }
             requires host { HasMade run.now.heap.now 0 host }
             requires number { host.markers ≡ number + 1 }
-            requires benches { AreBenchesOf E.made_for run.now.heap.now benches }
+            requires ready { IsReadyRun E.made_for run.now.program.now run.now.heap.now.config ready }
             ensures over { IsOver E.on run.entry.now.with_cycle run.entry.now.program.now run.entry.now.heap.now
                 (number + 1) result.joined }
             ensures turns { run.entry.now.with_cycle ≡ true
@@ -163,7 +164,7 @@ pub(crate) fn run_beside<E: Engine + Send, P: Pace + Sync, R: Threads + Wait + S
                 run.entry.now.heap.now.config result.joined.host.pass.seen }
             ensures begun { ScriptsBeginCycles E.begins run.entry.now.program.now 0 run.entry.now.heap.now.config
                 result.joined.host.pass.seen }
-        { run_beside(rt, run, pace, number + 1, host, benches) },
+        { run_beside(rt, run, pace, number + 1, host, ready) },
     );
     let Ended { joined, bench } = ended;
     let Joined { mut host, texts } = joined;

@@ -7,11 +7,11 @@ ghost use Rattle.mk_run.specs.LastCycle.{EndsWithCycle};
 ghost use Rattle.mk_run.specs.Running.{IsRunOf};
 ghost use Rattle.mk_run.specs.Unswept.{IsUnswept};
 
-use crate::benches::Benches;
 use crate::joining::Joined;
 use crate::marking::{Ended, run_beside};
 use crate::outcomes::Outcome;
 use crate::paces::Pace;
+use crate::ready::ReadyRun;
 use crate::runs::Run;
 use mk_check::Checked;
 use mk_cycle::{Bench, Engine};
@@ -41,9 +41,9 @@ fn run_and_close<E: Engine + Send, P: Pace + Sync, R: Threads + Wait + Sync>(
     ensures begun { IfOk result (λ ran.
         CyclesAreBegun E.begins (config_of program.now markers) (history_of ran.0.report)) }
 {
-    // No thread is started before all benches are made.
+    // No thread is started before all is ready.
     let config = program.config(alloc, markers)?;
-    let benches: Benches<E> = Benches::new(alloc, config.callers, config.pages)?;
+    let ready: ReadyRun<E> = ReadyRun::new(alloc, program, &config)?;
     let (heap, host) = Heap::new(alloc, &config)?;
     let run = Run {
         alloc,
@@ -52,7 +52,7 @@ fn run_and_close<E: Engine + Send, P: Pace + Sync, R: Threads + Wait + Sync>(
         markers,
         with_cycle,
     };
-    let Ended { joined, bench } = run_beside(rt, &run, pace, 0, host, benches);
+    let Ended { joined, bench } = run_beside(rt, &run, pace, 0, host, ready);
     let Joined { host, texts } = joined;
     let report = heap.close(host);
     let outcome = Outcome {

@@ -9,15 +9,17 @@ ghost use Rattle.mk_check.specs.Laws.{IsScript};
 ghost use Rattle.mk_caller.specs.States.{caller_of_pass};
 ghost use Rattle.mk_turns.specs.Sweeping.{SweepsNothing};
 ghost use Rattle.mk_cycle.specs.Begun.{EachIsBegun};
+ghost use Rattle.mk_run.specs.Ready.{IsReady};
 ghost use Rattle.mk_run.specs.Running.{answers_in, FollowsScript, EndsScript, IsTextOf};
 ghost use Rattle.mk_run.specs.Scripts.{CountsHaveRoom, IsFedWith, ScriptTakesAnswer, script_of};
 
 use crate::answers::{answer_at_once, answer_put_off};
 use crate::paces::Pace;
+use crate::ready::ReadyScript;
 use mk_caller::Caller;
 use mk_check::{Checked, Feed, Text, is_refusal};
 use mk_core::Answer;
-use mk_cycle::{Bench, Engine};
+use mk_cycle::Engine;
 use mk_never::NoMemory;
 use std::alloc::Global;
 use std::sync::Wait;
@@ -87,7 +89,7 @@ pub fn run_script<E: Engine, P: Pace, R: Threads + Wait + Sync>(
     rt: &R,
     alloc: Global,
     caller: &mut Caller,
-    bench: &mut Bench<E>,
+    ready: ReadyScript<E>,
     program: &Checked,
     k: u64,
     pace: &P,
@@ -99,7 +101,7 @@ pub fn run_script<E: Engine, P: Pace, R: Threads + Wait + Sync>(
     requires config { caller.old.pass.table.config ≡ config_of program.now caller.old.pass.table.config.markers }
     requires follows { FollowsScript E.on program.now k caller.old.pass.table.config caller.old.pass.seen }
     requires no_call { answers_in caller.old.pass.table.config k caller.old.pass.seen ≡ [] }
-    requires made_for { E.made_for bench.old.engine ≡ caller.old.pass.table.config.pages }
+    requires ready { IsReady E.made_for program.now caller.old.pass.table.config.pages k ready }
     ensures home { caller.new.home ≡ true }
     ensures pass { caller.new.pass ≡ record caller.old.pass { seen = caller.new.pass.seen } }
     ensures follows { FollowsScript E.on program.now k caller.new.pass.table.config caller.new.pass.seen }
@@ -110,7 +112,10 @@ pub fn run_script<E: Engine, P: Pace, R: Threads + Wait + Sync>(
 {
     // The program is well typed, so its scripts ask for nothing that isn't admitted.
     let _well_typed = program.program();
-    let mut feed = Feed::start(alloc, program, k)?;
+    let ReadyScript {
+        mut feed,
+        mut bench,
+    } = ready;
     let mut counts = Counts { ops: 0, refused: 0 };
     'instructions: while counts.ops < u64::MAX {
         caller.is_idle();
@@ -121,7 +126,7 @@ pub fn run_script<E: Engine, P: Pace, R: Threads + Wait + Sync>(
         pace.before(k, instruction);
         let answer = match answer_at_once(caller, op) {
             Some(answer) => answer,
-            None => answer_put_off(rt, caller, bench, &feed, op),
+            None => answer_put_off(rt, caller, &mut bench, &feed, op),
         };
         pace.answered(k, instruction);
         take_answer(alloc, &mut feed, &mut counts, answer)?;

@@ -1,11 +1,13 @@
-use Rattle.std.proofs.lemmas.List.Elements.{All-pop}
-use Rattle.mk_laws.proofs.Vocabulary.{Caller, Config, Host, Some, ap, arith, length, subst, sym, ◌+◌, ◌<◌, ◌∙◌, ◌≡◌}
-use Rattle.mk_run.proofs.Vocabulary.{Grows, Has, HasJoined, HasMade, HostState, IsFirstPass, IsMadeFor, IsScript}
+use denote.Param.Send.{Quiet-if}
+use mir.Syntax.{of_param}
+use Rattle.mk_laws.proofs.Vocabulary.{Caller, Config, Host, ap, arith, length, subst, sym, ◌+◌, ◌<◌, ◌∙◌, ◌≡◌}
+use Rattle.mk_run.proofs.Vocabulary.{AreReadyFrom, Grows, Has, HasJoined, HasMade, HostState, IsFirstPass, IsReady, IsScript}
 use Rattle.mk_run.proofs.Vocabulary.{has_left, rules, script_names, with_joined}
+use Rattle.mk_run.proofs.ReadyScripts.{ready_first}
 use Rattle.mk_run.proofs.JoinedScripts.{first_pass, next_made, one_joined, texts_joined}
 use Rattle.mk_run.proofs.UnsweptScripts.{none_joined, script_joined, scripts_on}
 use Rattle.mk_run.proofs.{HostTurns.host_is_still, HostTurns.unseen_by_host, LaterLists.of_one}
-use Rattle.mk_run.specs.{Benches.AreBenchesFrom, Joining.AreJoined, Joining.HasRun}
+use Rattle.mk_run.specs.{Joining.AreJoined, Joining.HasRun}
 use Rattle.mk_run.proofs.BegunScripts as begun
 use Rattle.mk_run.proofs.joining.+fn-run_from-join+arg3+run_from.Goals as goal
 
@@ -13,24 +15,48 @@ pub join-ran-requires-after_bounds : goal.join-ran-requires-after_bounds
 join-ran-requires-after_bounds g t c κs within =
     let w = c.args.run.now.heap.now in
     let k = c.args.k in
-    let rest = c.pop.new.self.items in
+    let rest = c.pop_front.new.self.items in
     let host = c.args.host in
-    let shorter : length rest < length c.args.benches.items = omega (arith, c.in-Some.ensures.cases) in
+    let shorter : length rest < length c.args.scripts.items = omega (arith, c.in-Some.ensures.cases, c.args.scripts.ok, c.pop_front.new.self.ok) in
+    let made_for = g.E.Engine.made_for in
+    let program = c.args.run.now.program.now in
+    let made = ready_first made_for program w.config k c.in-Some.ready rest
+    (subst (λ scripts. AreReadyFrom made_for program w.config k scripts) c.in-Some.ensures.items c.requires.scripts) in
+    let ready : IsReady made_for program w.config.pages k c.in-Some.ready = made.0 in
+    let left : AreReadyFrom made_for program w.config (k + 1) rest = made.1 in
     let scripts = ap (λ (x : Config). x.callers) c.args.run.now.made_for in
     let script : IsScript c.args.run.now.program.now k =
-    omega (arith, c.in-Some.ensures.cases, c.requires.benches.count, scripts) in
+    omega (arith, c.in-Some.ensures.cases, c.args.scripts.ok, c.requires.scripts.count, scripts) in
     let first : IsFirstPass w k c.finish-pass.result =
     first_pass w k host c.caller.result c.finish-pass.result c.requires.host c.caller.ensures.caller
     c.finish-pass.ensures.pass c.finish-pass.ensures.idle in
     let next : HasMade w (k + 1) c.caller.new.self =
     subst (λ (h : HostState). HasMade w (k + 1) h) (sym c.caller.ensures.host) (next_made w k host c.requires.host) in
-    let made =
-    All-pop (λ bench. IsMadeFor g.E.Engine.made_for w.config.pages bench) c.args.benches.items rest
-    (Some c.in-Some.bench) c.in-Some.ensures.items c.requires.benches.made in
-    let benches : AreBenchesFrom g.E.Engine.made_for w (k + 1) rest =
-    record { count = omega (arith, c.in-Some.ensures.cases, c.requires.benches.count); made = made.0 } in
-    let bench : IsMadeFor g.E.Engine.made_for w.config.pages c.in-Some.bench = made.1 in
-    search rules
+    -- What the bounds of the type parameters say of the two closures: by hand, since a search doesn't look so far.
+    let shared = c.requires.shared in (
+      (
+        (
+          record { shared = shared.0.shared },
+          record { shared = shared.1.shared },
+          record { owned = shared.2.owned; leaving = λ k. Quiet-if (k (of_param 0)) _ _ (λ x w. tt) (λ x w. tt) },
+        ),
+        (
+          script,
+          (
+            first,
+            (
+              ready,
+              (
+                record { owned = shared.2.owned; leaving = λ k. Quiet-if (k (of_param 0)) _ _ (λ x w. tt) (λ x w. tt) },
+                record { shared = shared.1.shared },
+                record { shared = shared.0.shared },
+              ),
+            ),
+          ),
+        ),
+      ),
+      (search rules, (λ a is. is, (λ a is. is, (λ a is. is, (shared, (next, (left, (shared.2, shared.1, shared.0)))))))),
+    )
 
 pub returns-clause-joined : goal.returns-clause-joined
 returns-clause-joined g t c =
@@ -48,7 +74,7 @@ returns-clause-joined g t c =
     let own : Grows old.pass.seats old.pass.seen new.pass.seen = c.join_caller.ensures.own in
     let came : Grows pass.seats pass.seen new.pass.seen = c.join_caller.ensures.came in
     let scripts = ap (λ (x : Config). x.callers) c.args.run.now.made_for in
-    let few : IsScript program k = omega (arith, c.in-Some.ensures.cases, c.requires.benches.count, scripts) in
+    let few : IsScript program k = omega (arith, c.in-Some.ensures.cases, c.args.scripts.ok, c.requires.scripts.count, scripts) in
     record {
       is_host =
           subst (λ (h : HostState). HasJoined on program w k h) (sym is)
@@ -73,14 +99,14 @@ returns-in_default-clause-joined g t c =
     let without_host = unseen_by_host c.args.host.pass.seen c.requires.host.seen in
     let scripts = ap (λ (x : Config). x.callers) c.args.run.now.made_for in
     let all : c.args.k ≡ length (script_names c.args.run.now.program.now) =
-    omega (arith, c.in_default.ensures.cases, c.requires.benches.count, scripts) in
+    omega (arith, c.in_default.ensures.cases, c.args.scripts.ok, c.requires.scripts.count, scripts) in
     search rules
 
 pub returns-in_default-clause-reached : goal.returns-in_default-clause-reached
 returns-in_default-clause-reached g t c =
     let scripts = ap (λ (x : Config). x.callers) c.args.run.now.made_for in
     let all : c.args.k ≡ length (script_names c.args.run.now.program.now) =
-    omega (arith, c.in_default.ensures.cases, c.requires.benches.count, scripts) in
+    omega (arith, c.in_default.ensures.cases, c.args.scripts.ok, c.requires.scripts.count, scripts) in
     λ none.
     none_joined c.args.run.now.program.now c.args.k c.args.run.now.heap.now.config c.args.host.pass.seen
     c.requires.host.seen all
@@ -89,7 +115,7 @@ pub returns-in_default-clause-begun : goal.returns-in_default-clause-begun
 returns-in_default-clause-begun g t c =
     let scripts = ap (λ (x : Config). x.callers) c.args.run.now.made_for in
     let all : c.args.k ≡ length (script_names c.args.run.now.program.now) =
-    omega (arith, c.in_default.ensures.cases, c.requires.benches.count, scripts) in
+    omega (arith, c.in_default.ensures.cases, c.args.scripts.ok, c.requires.scripts.count, scripts) in
     begun.none_joined g.E.Engine.begins c.args.run.now.program.now c.args.k c.args.run.now.heap.now.config
     c.args.host.pass.seen c.requires.host.seen all
 

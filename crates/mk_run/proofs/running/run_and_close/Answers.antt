@@ -1,9 +1,8 @@
-use Rattle.std.proofs.Common.{All}
 use Rattle.mk_laws.proofs.Vocabulary.{Config, Event, List, ap, arith, subst, sym, ◌∙◌, ◌≡◌}
-use Rattle.mk_run.proofs.Vocabulary.{AreTextsFrom, IfOk, IsMadeFor, IsWhole, config_of}
+use Rattle.mk_run.proofs.Vocabulary.{AreTextsFrom, IfOk, IsWhole, config_of}
 use Rattle.mk_run.proofs.WholeRuns.{all_joined, is_run}
 use Rattle.mk_run.proofs.{BegunScripts.run_is_begun, LastOvers.run_ends_with_cycle, UnsweptScripts.run_is_unswept}
-use Rattle.mk_run.specs.{BegunSeats.ScriptsBeginCycles, UnsweptSeats.ScriptsSweepNothing}
+use Rattle.mk_run.specs.{BegunSeats.ScriptsBeginCycles, Ready.IsReadyRun, UnsweptSeats.ScriptsSweepNothing}
 use Rattle.mk_heap.specs.Reports as report
 use Rattle.mk_run.proofs.running.run_and_close.Goals as goal
 
@@ -68,19 +67,7 @@ returns-clause-begun g c =
     (subst (λ (d : Config). ScriptsBeginCycles begins program 0 d h.pass.seen) made
     c.run_beside-joined.ensures.begun))
 
-pub run_beside-joined-requires-clause-benches : goal.run_beside-joined-requires-clause-benches
-run_beside-joined-requires-clause-benches g c κs within =
-    let made = c.in_ok-benches.ensures in
-    let is = sym c.in_ok-heap.ensures.config in
-    let callers = ap (λ (x : Config). x.callers) is in
-    record {
-      callers = record {
-        count = omega (arith, made.count, callers);
-        made =
-            subst
-            (λ (x : Config). All (λ bench. IsMadeFor g.E.Engine.made_for x.pages bench)
-            c.in_ok-benches.benches.callers.items) is made.callers;
-      };
-      host =
-          subst (λ (x : Config). IsMadeFor g.E.Engine.made_for x.pages c.in_ok-benches.benches.host) is made.host;
-    }
+pub run_beside-joined-requires-clause-ready : goal.run_beside-joined-requires-clause-ready
+run_beside-joined-requires-clause-ready g c κs within =
+    subst (λ (x : Config). IsReadyRun g.E.Engine.made_for c.args.program.now x c.in_ok-ready.ready)
+    (sym c.in_ok-heap.ensures.config) c.in_ok-ready.ensures.ready

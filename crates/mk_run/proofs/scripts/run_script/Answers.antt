@@ -91,7 +91,7 @@ answer_put_off-answer-requires-clause-alone g c κs within =
 pub answer_put_off-answer-requires-clause-made_for : goal.answer_put_off-answer-requires-clause-made_for
 answer_put_off-answer-requires-clause-made_for g c κs within =
     let x = goal.at.answer_put_off-answer-requires-clause-made_for g c in
-    c.instructions.invariant.made_for ∙ c.requires.made_for
+    c.instructions.invariant.made_for ∙ c.requires.ready.bench.engine
     ∙ ap (λ (q : PassState). q.table.config.pages) (sym (put_off g x.In-None))
 
 pub instructions-smaller : goal.instructions-smaller
@@ -155,20 +155,14 @@ returns-in_err-take_answer-clause-begun g c =
     begun_then g.E.Engine.begins c.args.caller.now.pass c.instructions.caller.pass
     c.match-answer_at_once.caller.pass c.instructions.invariant.running.is c.instructions.invariant.begun j.begun
 
-pub returns-in_err-feed-clause-begun : goal.returns-in_err-feed-clause-begun
-returns-in_err-feed-clause-begun g c = nothing_begun g.E.Engine.begins c.args.caller.now.pass
-
-pub returns-in_err-feed-clause-reached : goal.returns-in_err-feed-clause-reached
-returns-in_err-feed-clause-reached g c = λ none. nothing_sweeps c.args.caller.now.pass
-
 pub instructions-init : goal.instructions-init
 instructions-init g c =
     let p : PassState = c.args.caller.now.pass in
     let program = c.args.program.now in
     let k = c.args.k in
-    let script = script_of c.in_ok-feed.feed (record { ops = 0; refused = 0 }) in
+    let script = script_of c.args.ready.feed (record { ops = 0; refused = 0 }) in
     let fed : IsFedWith program k [] script =
-    record { feed = c.in_ok-feed.ensures; ops = refl; refused = refl } in
+    record { feed = c.requires.ready.feed; ops = refl; refused = refl } in
     record {
       home = c.requires.home;
       running = record {

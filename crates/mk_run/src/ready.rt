@@ -1,0 +1,47 @@
+//! What a run has ready before its first thread starts.
+ghost use Rattle.std.specs.Prelude.{◌≡◌, length, IfOk};
+ghost use Rattle.mk_script.specs.Scopes.{script_names};
+ghost use Rattle.mk_run.specs.Ready.{IsReadyRun};
+
+use mk_check::{Checked, Feed};
+use mk_core::Config;
+use mk_cycle::{Bench, Engine};
+use mk_never::NoMemory;
+use std::alloc::Global;
+use std::collections::VecDeque;
+
+/// A script that is ready to run: at its first operation, with a bench for its turns. It is made before its thread
+/// starts: threads that all take memory when they start wait for each other in the system.
+#[derive(Drop)]
+pub struct ReadyScript<E: Engine> {
+    pub feed: Feed,
+    pub bench: Bench<E>,
+}
+
+/// All scripts of a run, in order, and a bench for the host.
+#[derive(Drop)]
+pub(crate) struct ReadyRun<E: Engine> {
+    pub(crate) scripts: VecDeque<ReadyScript<E>>,
+    pub(crate) host: Bench<E>,
+}
+
+impl<E: Engine> ReadyRun<E> {
+    /// The scripts of a program, and benches for a heap of these sizes.
+    pub(crate) fn new(
+        alloc: Global,
+        program: &Checked,
+        config: &Config,
+    ) -> Result<ReadyRun<E>, NoMemory>
+        requires scripts { config.now.callers ≡ length (script_names program.now) }
+        ensures ready { IfOk result (λ ready. IsReadyRun E.made_for program.now config.now ready) }
+    {
+        let host = Bench::new(alloc, config.pages)?;
+        let mut scripts = VecDeque::new(alloc);
+        for script in 0..config.callers {
+            let feed = Feed::start(alloc, program, script)?;
+            let bench = Bench::new(alloc, config.pages)?;
+            scripts.push_back(ReadyScript { feed, bench })?;
+        }
+        Ok(ReadyRun { scripts, host })
+    }
+}
