@@ -1,11 +1,11 @@
 -- What is promised of pages, and of words that nobody has, on the schedule of a large object, read off from the
 -- theorems.
-use Rattle.mk_laws.proofs.Vocabulary.{Bool, Event, HasAllocation, IsHistory, Step, ℕ, all_below, arith, by, c0, drop}
-use Rattle.mk_laws.proofs.Vocabulary.{earlier_part_is_history, false, large_freed, large_is_history, leb-true, left}
-use Rattle.mk_laws.proofs.Vocabulary.{left_from, list_any, list_any-append, ltb-true, may_turn_black, or_parts}
-use Rattle.mk_laws.proofs.Vocabulary.{pointed_cell, refl, register_word, slice_index, take, three_pages, true, ◌≡◌}
+use Rattle.mk_laws.proofs.Vocabulary.{Bool, Event, HasAllocation, Step, ℕ, all_below, arith, by, c0, false, large_freed}
+use Rattle.mk_laws.proofs.Vocabulary.{large_is_history, leb-true, left, left_from, list_any, list_any-append, ltb-true}
+use Rattle.mk_laws.proofs.Vocabulary.{may_turn_black, or_parts, pointed_cell, refl, register_word, slice_index, take}
+use Rattle.mk_laws.proofs.Vocabulary.{three_pages, true, ◌≡◌}
 use Rattle.mk_core.proofs.EventsAt.{events_from}
-use Rattle.mk_laws.proofs.{AppliedTheorems.unmapped_is_settled, Settled.unmapped_run}
+use Rattle.mk_laws.proofs.{AppliedTheorems.large_front, AppliedTheorems.unmapped_is_settled, Settled.unmapped_run}
 use Rattle.mk_laws.specs.{UnmappedRuns.IsOfUnmappedRun, UnmappedRuns.is_resident_in, UnsetWords.IsNeverSet}
 use Rattle.mk_laws.proofs.FreePages as pages
 use Rattle.mk_laws.proofs.UnmappedRuns as runs
@@ -13,24 +13,16 @@ use Rattle.mk_laws.proofs.UnsetWords as words
 
 -- The object's second page is marked dirty: the object stands there.
 
-marked_dirty : IsHistory three_pages (take 12 large_freed)
-unfolding by c0 large_freed
-marked_dirty = earlier_part_is_history three_pages (take 12 large_freed) (drop 12 large_freed) large_is_history
-
 pub object_is_there : HasAllocation three_pages (left three_pages (take 12 large_freed)) 1
 unfolding by c0 all_below pointed_cell three_pages large_freed left_from
-object_is_there = pages.dirty_pages_have_allocations three_pages (take 12 large_freed) marked_dirty 1
+object_is_there = pages.dirty_pages_have_allocations three_pages (take 12 large_freed) (large_front 12) 1
     (λ z. let no : ◌≡◌ {A = ℕ} 1 0 = z in absurd (omega arith))
 
 -- Both pages are given back in the cycle: the dirty word of the second is 0 then, as its header is.
 
-given_back : IsHistory three_pages (take 46 large_freed)
-unfolding by c0 large_freed
-given_back = earlier_part_is_history three_pages (take 46 large_freed) (drop 46 large_freed) large_is_history
-
 pub page_is_clean : slice_index (left three_pages (take 46 large_freed)).now.words.dirty 1 ≡ 0
 unfolding by c0 all_below pointed_cell may_turn_black three_pages large_freed left_from
-page_is_clean = (pages.free_pages_have_nothing three_pages (take 46 large_freed) given_back 1 refl).dirty
+page_is_clean = (pages.free_pages_have_nothing three_pages (take 46 large_freed) (large_front 46) 1 refl).dirty
 
 -- A third caller isn't there, and no global is stored to.
 
@@ -60,12 +52,8 @@ second_is_unmapped : IsOfUnmappedRun three_pages (left three_pages (take 19 larg
 unfolding by c0 all_below pointed_cell may_turn_black three_pages large_freed left_from
 second_is_unmapped = grind (arith, leb-true, ltb-true, unmapped_run, three_pages, large_freed, unmapped_is_settled)
 
-up_to_the_next : IsHistory three_pages (take 50 large_freed)
-unfolding by c0 large_freed
-up_to_the_next = earlier_part_is_history three_pages (take 50 large_freed) (drop 50 large_freed) large_is_history
-
 pub second_takes_no_memory : is_resident_in (left three_pages (take 50 large_freed)) 1 ≡ false
 unfolding by c0 large_freed events_from
 second_takes_no_memory =
-    runs.unmapped_runs_take_no_memory three_pages (take 50 large_freed) up_to_the_next (take 19 large_freed)
+    runs.unmapped_runs_take_no_memory three_pages (take 50 large_freed) (large_front 50) (take 19 large_freed)
     (events_from 19 31 large_freed) 1 refl second_is_unmapped refl

@@ -14,7 +14,7 @@ use Rattle.mk_core.proofs.EvaluatedHistories.{blackened_is_history, freed_is_his
 use Rattle.mk_core.proofs.Schedules.{blackened_before_the_move, freed_after_begin, host, m0, pointer_page}
 use Rattle.mk_core.proofs.{EventsAt.at_number, MoreSchedules.granted_while_marking, MoreSchedules.two_pages}
 use Rattle.mk_core.specs.{Cells.is_in_snapshot, Readings.SnapshotTells}
-use Rattle.mk_laws.proofs.FreeWords.{unmapped_words_are_zero}
+use Rattle.mk_laws.proofs.{AppliedTheorems.large_front, AppliedTheorems.stopped_front, FreeWords.unmapped_words_are_zero}
 use Rattle.mk_laws.proofs.Releases.{no_others_release, releases_are_exact, releases_none_reached}
 use Rattle.mk_laws.proofs.{ReadingsStands.headers_and_quarantine_tell, ReleasedCycles.releases_are_of_cycles}
 use Rattle.mk_laws.specs.{FreeWords.IsOfNoneMapped, Releases.allocation_behind}
@@ -34,17 +34,13 @@ wiped = left three_pages (take 20 large_freed)
 
 -- Headers and freed bits.
 
-run_is_made : IsHistory three_pages (take 4 large_freed)
-unfolding by c0 large_freed
-run_is_made = earlier_part_is_history three_pages (take 4 large_freed) (drop 4 large_freed) large_is_history
-
 -- The second page of a run of two says that the first is its head.
 pub later_page_has_its_head : (run : RunPages)
     × (run_headed (header_in (left three_pages (take 4 large_freed)).now.words 0) 0 ≡ Some run) × (1 < run.count)
     × (1 ≤ 1)
 unfolding by c0 all_below pointed_cell three_pages large_freed left_from
 later_page_has_its_head =
-    (headers_and_quarantine_tell three_pages (take 4 large_freed) run_is_made).later (λ e. eqb-false 0 4 refl e) 1 1
+    (headers_and_quarantine_tell three_pages (take 4 large_freed) (large_front 4)).later (λ e. eqb-false 0 4 refl e) 1 1
     true refl
 
 three_is_history : IsHistory small three_objects
@@ -67,17 +63,13 @@ freed_one_has_its_bit = (headers_and_quarantine_tell small three_objects three_i
 
 -- Before the `close` the third object's snapshot bit is set, and it is the one.
 
-marked_is_history : IsHistory small (take 47 stopped_cycle)
-unfolding begun_in_stop three_objects marked_in_stop
-marked_is_history = earlier_part_is_history small (take 47 stopped_cycle) (drop 47 stopped_cycle) stopped_is_history
-
 abbrev pub begun : At is_begin (take 47 stopped_cycle)
 unfolding begun_in_stop three_objects marked_in_stop event_number at_number
 begun = at_number is_begin 39 (take 47 stopped_cycle) refl refl
 
 told : SnapshotTells small begun
 unfolding begun_in_stop three_objects marked_in_stop event_number at_number
-told = snapshots.snapshots_tell small (take 47 stopped_cycle) marked_is_history begun refl
+told = snapshots.snapshots_tell small (take 47 stopped_cycle) (stopped_front 47) begun refl
 
 pub third_in_snapshot : is_in_snapshot marked.now.words
     (cell_of_allocation small (placed_at (left small begun.before).allocations 2)) ≡ true
@@ -162,10 +154,6 @@ free_page_is_zero =
 
 -- and, once its run is wiped, the word that was written to of a freed large object.
 
-wiped_is_history : IsHistory three_pages (take 20 large_freed)
-unfolding by c0 large_freed
-wiped_is_history = earlier_part_is_history three_pages (take 20 large_freed) (drop 20 large_freed) large_is_history
-
 none_is_mapped : (n : ℕ) → IsOfNoneMapped three_pages wiped.allocations n
 unfolding by c0 all_below pointed_cell three_pages large_freed left_from
 none_is_mapped n zero mapped word = false≢true mapped
@@ -174,5 +162,5 @@ none_is_mapped n (suc i) mapped word = false≢true mapped
 pub wiped_is_zero : slice_index wiped.now.words.heap 64 ≡ 0
 unfolding by c0 all_below pointed_cell three_pages large_freed left_from
 wiped_is_zero =
-    unmapped_words_are_zero three_pages (take 20 large_freed) wiped_is_history (λ e. eqb-false 0 4 refl e) refl 64
+    unmapped_words_are_zero three_pages (take 20 large_freed) (large_front 20) (λ e. eqb-false 0 4 refl e) refl 64
     (none_is_mapped 64)

@@ -1,6 +1,6 @@
 -- The theorems over all histories, applied to small schedules: what each says there, read off by computation.
-use Rattle.std.proofs.Common.{replicate}
-use Rattle.mk_laws.proofs.Vocabulary.{Answer, DirtyIsOwed, Event, IsGuarded, IsHeaderWord, IsHistory, IsSettled}
+use Rattle.std.proofs.Common.{replicate, take-append-drop}
+use Rattle.mk_laws.proofs.Vocabulary.{Answer, Config, DirtyIsOwed, Event, IsGuarded, IsHeaderWord, IsHistory, IsSettled}
 use Rattle.mk_laws.proofs.Vocabulary.{IsWordOf, KeepsTheInvariant, List, NeverState, None, Null, OwesDirty, PageIsDirty}
 use Rattle.mk_laws.proofs.Vocabulary.{PointsWell, Some, Value, WordOf, World, ℕ, all_below, answers_of, append_assoc}
 use Rattle.mk_laws.proofs.Vocabulary.{arith, asked, bases_of, begun_in_stop, by, c0, calls, calls_from}
@@ -26,6 +26,16 @@ use Rattle.mk_core.specs.{Allocations.place_among_allocations, Cells.is_used, Hi
 use Rattle.mk_laws.proofs.InvariantHistories.{events_keep_the_invariant, histories_keep_the_invariant}
 use Rattle.mk_laws.proofs.Quarantines as quarantines
 use Rattle.mk_laws.proofs.InvariantTheorems as theorems
+
+-- The first events of a history are one.
+pub first_events : (c : Config) (es : List Event) (n : ℕ) → IsHistory c es → IsHistory c (take n es)
+first_events c es n h = earlier_part_is_history c (take n es) (drop n es) (rw (take-append-drop n es) h)
+
+pub large_front : (n : ℕ) → IsHistory three_pages (take n large_freed)
+large_front n = first_events three_pages large_freed n large_is_history
+
+pub stopped_front : (n : ℕ) → IsHistory small (take n stopped_cycle)
+stopped_front n = first_events small stopped_cycle n stopped_is_history
 
 -- The invariant after the first of two lists goes on to the second by one event.
 pub invariant_by_one_event : KeepsTheInvariant pointer_page (before_the_sweep ++ sweeping_mark ∷ [])
@@ -118,10 +128,6 @@ no_place_told_by_words = sym (theorems.first_fit_finds_the_place one_page full_t
 abbrev pub unmapped : World
 unmapped = left three_pages (take 19 large_freed)
 
-unmapped_is_history : IsHistory three_pages (take 19 large_freed)
-unfolding by c0 large_freed
-unmapped_is_history = earlier_part_is_history three_pages (take 19 large_freed) (drop 19 large_freed) large_is_history
-
 pub not_wiped_yet : is_run_gone unmapped.now.words unmapped.now.seats.holding.freed ≡ false
 unfolding by c0 all_below pointed_cell three_pages large_freed left_from
 not_wiped_yet = refl
@@ -133,14 +139,14 @@ unmapped_is_settled = record { releasing = refl; placing = refl; unmapped = refl
 pub head_told_by_storage : words_of_storages (unreleased_storage three_pages unmapped.allocations) 0
     ≡ record { header = 43; used = 1 }
 unfolding by c0 all_below pointed_cell may_turn_black three_pages large_freed left_from
-head_told_by_storage = sym ((theorems.pages_show_the_storage three_pages (take 19 large_freed) unmapped_is_history
+head_told_by_storage = sym ((theorems.pages_show_the_storage three_pages (take 19 large_freed) (large_front 19)
     unmapped_is_settled).words 0 free_page (ltb-true 0 3 refl))
 
 pub place_behind_told_by_words : place_among_allocations three_pages 64 true unmapped.allocations
     ≡ Some (record { page = 2; index = 0; carve = true })
 unfolding by c0 all_below pointed_cell may_turn_black three_pages large_freed left_from
 place_behind_told_by_words =
-    sym (theorems.first_fit_finds_the_place three_pages (take 19 large_freed) unmapped_is_history
+    sym (theorems.first_fit_finds_the_place three_pages (take 19 large_freed) (large_front 19)
     (record { words = 64; leaf = true }) unmapped_is_settled)
 
 -- A word of a black object points to an unmarked one, and its page isn't dirty: so a call owes the page its dirty mark.
@@ -171,15 +177,11 @@ pub word_points_well_at_close : word_points_well small.pages (stopped 47).now.wo
 unfolding left_from all_below pointed_cell begun_in_stop three_objects marked_in_stop
 word_points_well_at_close = grind (arith, small, stopped_cycle, stopped_is_history, leb-true, ltb-true)
 
-closed_is_history : IsHistory small (take 48 stopped_cycle)
-unfolding begun_in_stop three_objects marked_in_stop
-closed_is_history = earlier_part_is_history small (take 48 stopped_cycle) (drop 48 stopped_cycle) stopped_is_history
-
 pub register_points_well_behind : points_well small.pages (stopped 48).now.words
     (slice_index (stopped 48).now.words.registers 0) ≡ true
 unfolding left_from all_below pointed_cell begun_in_stop three_objects marked_in_stop
 register_points_well_behind =
-    (theorems.marks_stay_closed small (take 48 stopped_cycle) closed_is_history refl).registers 0
+    (theorems.marks_stay_closed small (take 48 stopped_cycle) (stopped_front 48) refl).registers 0
 
 -- Header words, and how many pages are resident.
 
@@ -194,8 +196,7 @@ one_is_resident = quarantines.few_pages_are_resident one_page full_then_reused f
 -- freed after it, has none.
 
 begun_since : IsHistory one_page (take 31 freed_after_begin)
-unfolding by c0 host freed_after_begin
-begun_since = earlier_part_is_history one_page (take 31 freed_after_begin) (drop 31 freed_after_begin) freed_is_history
+begun_since = first_events one_page freed_after_begin 31 freed_is_history
 
 pub first_in_snapshot : has_bit_of one_page marking.now.words.snapshot (placed_at marking.allocations 0) ≡ true
 unfolding by c0 host all_below pointed_cell one_page freed_after_begin left_from event_number at_number

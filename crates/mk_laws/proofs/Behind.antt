@@ -83,7 +83,7 @@ layout_behind c w seat x b h laid =
     let v : World = WorldBehind c w seat x in
     let phase = phase_kind c w seat x h in
     let marked : HasLayout c (object_now c w.now) (is_phase v.now.words 4) v.now.words.marks (ground_of v) =
-    rw phase (marks (is_releasing_behind x (is_phase w.now.words 4)) refl (by_kind c w seat x b h laid)) in
+    rw phase (marks (is_releasing_behind x (is_phase w.now.words 4)) refl (by_kind c w seat b laid x h)) in
     elim (cases_Bool (has_place v.now.seats.holding.placing)) [
       | inl has ↦ rw (object_kind c w seat x b.known h has) marked
       | inr none ↦ (placeless c (object_now c w.now) (object_now c v.now) (is_phase v.now.words 4) v.now.words.marks

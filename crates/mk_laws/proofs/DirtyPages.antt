@@ -7,11 +7,11 @@ use Rattle.mk_laws.proofs.Vocabulary.{admitted_in_parts, all_below-at, and_parts
 use Rattle.mk_laws.proofs.Vocabulary.{begun, call_decided, calls_from, cases_eq, cases_lt, comes_next, decided}
 use Rattle.mk_laws.proofs.Vocabulary.{earlier_part_is_history, enabled_in_parts, eqb-true, false, flight_of, found}
 use Rattle.mk_laws.proofs.Vocabulary.{get_or-set_other, get_or-set_same, get_or_past, if◌then◌else◌, inl, inr}
-use Rattle.mk_laws.proofs.Vocabulary.{is_heap_store, is_release, left, left_from, left_more, length, ltb-true}
-use Rattle.mk_laws.proofs.Vocabulary.{never_behind, onward, page_met, phase_of, placed_at, progress, progress_freed}
-use Rattle.mk_laws.proofs.Vocabulary.{progress_p, progress_q, progress_read, progress_reg, refl, refused, set_past}
-use Rattle.mk_laws.proofs.Vocabulary.{slice_index, slice_set, stage_behind, stage_refused, steps_of, still, subst, sym}
-use Rattle.mk_laws.proofs.Vocabulary.{true, true≢false, word_met, [], ◌++◌, ◌==◌, ◌∙◌, ◌∷◌, ◌≡◌, ◌≢◌, ◌⊎◌}
+use Rattle.mk_laws.proofs.Vocabulary.{is_heap_store, is_release, left, left_from, left_more, ltb-true, never_behind}
+use Rattle.mk_laws.proofs.Vocabulary.{onward, page_met, phase_of, placed_at, progress, progress_freed, progress_p}
+use Rattle.mk_laws.proofs.Vocabulary.{progress_q, progress_read, progress_reg, refl, refused, set_by, slice_index}
+use Rattle.mk_laws.proofs.Vocabulary.{stage_behind, stage_refused, steps_of, still, subst, sym, true, true≢false}
+use Rattle.mk_laws.proofs.Vocabulary.{word_met, [], ◌++◌, ◌==◌, ◌∙◌, ◌∷◌, ◌≡◌, ◌≢◌, ◌⊎◌}
 use Rattle.mk_core.specs.Calls.{first_of}
 use Rattle.mk_laws.proofs.Basics.{Behind, InCall, KeptByEvents, Known, KnownWorld, Meets, Table, WorldBehind, at_first}
 use Rattle.mk_laws.proofs.Basics.{at_its_stage, at_reg, before_it, calls_stand, holds_of_histories, is_astray}
@@ -166,17 +166,11 @@ dirty_since c m seat Step.Reg p some =
     inl (λ z. some (ap (λ (t : Table). slice_index t.dirty p) (reg_table c m seat) ∙ z))
 dirty_since c m seat (Step.Tally n v) p some =
     inl (λ z. some (ap (λ (t : Table). slice_index t.dirty p) (tally_table m.words n v) ∙ z))
-dirty_since c m seat (Step.Undirty q) p some = inl (λ z. some (elim (cases_eq p q) [
-  | inr ne ↦ get_or-set_other m.words.dirty q p 0 0 ne ∙ z
-  | inl e ↦ elim (cases_lt q (length m.words.dirty)) [
-    | inl lt ↦ ap (slice_index (slice_set m.words.dirty q 0)) e ∙ get_or-set_same m.words.dirty q 0 0 lt
-    | inr past ↦ ap (λ (ys : List ℕ). slice_index ys p) (set_past m.words.dirty q 0 past) ∙ z
-  ]
-]))
-dirty_since c m seat Step.Dirty p some = elim (cases_eq p (page_met (flight_of m seat))) [
-  | inl e ↦ inr (refl, sym e)
-  | inr ne ↦ inl (λ z. some (get_or-set_other m.words.dirty _ p 1 0 ne ∙ z))
-]
+dirty_since c m seat (Step.Undirty q) p some = inl (set_by (λ v. v ≢ 0 → slice_index m.words.dirty p ≢ 0)
+    m.words.dirty q p 0 0 (λ e ne. absurd (ne refl)) (λ ne. ne) some)
+dirty_since c m seat Step.Dirty p some = set_by (λ v. v ≢ 0 → (slice_index m.words.dirty p ≢ 0)
+    ⊎ ((true ≡ true) × (page_met (flight_of m seat) ≡ p))) m.words.dirty (page_met (flight_of m seat)) p 1 0
+    (λ e ne. inr (refl, sym e)) (λ ne. inl ne) some
 dirty_since c m seat _ p some = inl some
 
 -- The step is of a caller that owes the mark.

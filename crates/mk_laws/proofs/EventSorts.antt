@@ -293,14 +293,6 @@ module _ (c : Config) (w : World) (n : NeverState) (known : KnownWorld c w) (mir
       let f = flight_of w.now (Caller k) in
       full_by c w n known mirrors others safe ready st k (ltb-true k c.callers h.seat) f.stage f.op f.q f.p f.r f.loaded
       refl h.order
-  caller_goes k Step.Attend h ad = absurd (false≢true h.kind)
-  caller_goes k Step.Quit h ad = absurd (false≢true h.kind)
-  caller_goes k (Step.Mlook x) h ad = absurd (false≢true h.kind)
-  caller_goes k (Step.Claim p i) h ad = absurd (false≢true h.kind)
-  caller_goes k Step.Mload h ad = absurd (false≢true h.kind)
-  caller_goes k Step.Mmark h ad = absurd (false≢true h.kind)
-  caller_goes k Step.Mblack h ad = absurd (false≢true h.kind)
-  caller_goes k Step.Over h ad = absurd (false≢true h.kind)
   caller_goes k x h ad = still_leads k _ (still_moves (Caller k) x refl h) refl
 
   host_goes : (x : Step) → MeetsOf c w Host x → Goes c w n safe (record { seat = Host; step = x })

@@ -1,15 +1,14 @@
 -- From `close` to `release` the marks stay closed: nothing changes but words that are wiped.
 use Rattle.mk_laws.proofs.Vocabulary.{Caller, CellsAreClosed, Config, Flight, Group, Host, Marker, Moment, Named, Seat}
-use Rattle.mk_laws.proofs.Vocabulary.{Stage, Step, Tally, Word, Words, ℕ, accessed, ap, arith, cases_eq, cases_lt}
-use Rattle.mk_laws.proofs.Vocabulary.{eqb-true, false, first_word, flight_of, get_or-set_other, get_or-set_same}
-use Rattle.mk_laws.proofs.Vocabulary.{group_of, header_at, inl, inr, is_open_to, length, ltb-true, or_cases, phase_of}
-use Rattle.mk_laws.proofs.Vocabulary.{points_well, refl, reg_access, set_past, slice_index, subst, sym, true}
+use Rattle.mk_laws.proofs.Vocabulary.{Stage, Step, Tally, Word, Words, ℕ, accessed, ap, arith, eqb-true, false}
+use Rattle.mk_laws.proofs.Vocabulary.{first_word, flight_of, group_of, header_at, inl, inr, is_open_to, ltb-true}
+use Rattle.mk_laws.proofs.Vocabulary.{or_cases, phase_of, points_well, refl, reg_access, slice_index, subst, sym, true}
 use Rattle.mk_laws.proofs.Vocabulary.{true≢false, word_points_well, ◌<◌, ◌==◌, ◌||◌, ◌∙◌, ◌≡◌, ◌⊎◌}
 use Rattle.mk_core.proofs.RegisterAccesses.{tally_leaves_registers}
 use Rattle.mk_laws.proofs.Basics.{Behind, Known, Meets, Table, at_its_stage, at_reg, calls_stand, either_phase}
 use Rattle.mk_laws.proofs.Basics.{headers_kind, is_call_stage, is_head, not_astray, reg_table, shows_at, tally_table}
 use Rattle.mk_laws.proofs.Basics.{view_of, wells_from}
-use Rattle.mk_laws.proofs.{IdleMarkers.work_attends, NextSteps.has_stage_of_its_own, NextSteps.stage_of}
+use Rattle.mk_laws.proofs.{Changes.wiped, IdleMarkers.work_attends, NextSteps.has_stage_of_its_own, NextSteps.stage_of}
 use Rattle.mk_laws.proofs.{Stages.is_reg_stage, Wells.bare_word_well, Wells.is_well, Wells.well_is}
 
 -- what leaves closed marks closed
@@ -88,13 +87,7 @@ heap_still c m seat (Step.Tally t v) known three h n =
     inl (ap (λ (t : Table). slice_index t.heap n) (tally_table m.words t v))
 heap_still c m seat Step.Write known three h n = absurd (no_step c m seat Step.Write known three h refl refl)
 heap_still c m seat Step.Cas known three h n = absurd (no_step c m seat Step.Cas known three h refl refl)
-heap_still c m seat (Step.Wipe i) known three h n = elim (cases_eq n i) [
-  | inl e ↦ elim (cases_lt i (length m.words.heap)) [
-    | inl lt ↦ inr (rw e (get_or-set_same m.words.heap i 0 0 lt))
-    | inr past ↦ inl (rw (set_past m.words.heap i 0 past))
-  ]
-  | inr ne ↦ inl (get_or-set_other m.words.heap i n 0 0 ne)
-]
+heap_still c m seat (Step.Wipe i) known three h n = wiped m.words.heap i n
 heap_still c m seat _ known three h n = inl refl
 
 -- marks: no marker attends

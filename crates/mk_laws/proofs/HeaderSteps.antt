@@ -3,8 +3,8 @@ use Rattle.mk_laws.proofs.Vocabulary.{Access, Caller, Config, List, Load, Moment
 use Rattle.mk_laws.proofs.Vocabulary.{Word, Words, ℕ, accessed, all_below-at, ap, arith, cases_eq, cases_lt, eqb-true}
 use Rattle.mk_laws.proofs.Vocabulary.{false, free_page, get_or-set_other, get_or-set_same, header_at, header_in}
 use Rattle.mk_laws.proofs.Vocabulary.{header_of, inl, inr, is_held, is_number_of, is_unmapped_header, length, not}
-use Rattle.mk_laws.proofs.Vocabulary.{not-true, or_cases, others_are_held, refl, set_past, slice_index, slice_index_or}
-use Rattle.mk_laws.proofs.Vocabulary.{slice_set, tally_word, true, used_at, ◌<◌, ◌||◌, ◌∙◌, ◌≡◌, ◌≢◌}
+use Rattle.mk_laws.proofs.Vocabulary.{not-true, or_cases, others_are_held, refl, set_by, set_past, slice_index}
+use Rattle.mk_laws.proofs.Vocabulary.{slice_index_or, slice_set, tally_word, true, used_at, ◌<◌, ◌||◌, ◌∙◌, ◌≡◌, ◌≢◌}
 use Rattle.mk_laws.proofs.Basics.{Behind, Meets}
 
 -- what becomes of the pages
@@ -62,10 +62,8 @@ page_set ps p q x P mine other = elim (cases_eq q p) [
 -- a header stays where only the used word changes
 pub used_set : (w : Words) (p q n : ℕ) → (P : ℕ → Type 0) → P (header_at w q)
     → P (slice_index_or (slice_set w.pages p (record { header = header_at w p; used = n })) q free_page).header
-used_set w p q n P is = elim (cases_eq q p) [
-  | inl e ↦ page_set w.pages p q (record { header = header_at w p; used = n }) P (λ lt. rw e at is) is
-  | inr ne ↦ rw (get_or-set_other w.pages p q (record { header = header_at w p; used = n }) free_page ne) is
-]
+used_set w p q n P is = set_by (λ (y : Page). P y.header) w.pages p q (record { header = header_at w p; used = n })
+    free_page (λ e. rw e at is) is
 
 pub stays_mapped : (w : Words) (ps : List Page) (q : ℕ) → HeaderStep w ps → is_unmapped_header (header_in w q) ≡ false
     → is_unmapped_header (header_of (slice_index_or ps q free_page).header) ≡ false

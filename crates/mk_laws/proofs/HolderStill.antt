@@ -1,17 +1,15 @@
 -- What a step of the turn's holder asks of the words still holds, whatever others did since.
 use Rattle.std.proofs.Common.{bit_and}
-use Rattle.mk_laws.proofs.Vocabulary.{Bool, Cell, Config, Flight, Holding, List, Object, Option, Page, Place, Seat}
-use Rattle.mk_laws.proofs.Vocabulary.{Steady, Step, TurnIsLeft, Words, World, Written, ℕ, all_below, and_parts, ap}
-use Rattle.mk_laws.proofs.Vocabulary.{arith, carves, empties, eqb-true, frees, gives_back, has_closed_page, has_gates}
-use Rattle.mk_laws.proofs.Vocabulary.{has_phase, header_at, header_made, held_by_pages, holder_may, if◌then◌else◌}
-use Rattle.mk_laws.proofs.Vocabulary.{is_decided, is_marked_first, is_next_header, is_phase, is_released_cell}
-use Rattle.mk_laws.proofs.Vocabulary.{is_run_gone, is_some_and, is_used_once, marks_place, may_answer_full, may_end}
-use Rattle.mk_laws.proofs.Vocabulary.{may_turn_black, none_attends, not, object_made, or_left, or_right}
-use Rattle.mk_laws.proofs.Vocabulary.{others_are_held, pages_made, phase_of, place_now, refl, roots_point_well, sym}
-use Rattle.mk_laws.proofs.Vocabulary.{takes_cell, target, true, unmaps, used_at, ◌&&◌, ◌+◌, ◌-◌, ◌==◌, ◌||◌, ◌∙◌, ◌≡◌}
-use Rattle.mk_laws.proofs.Vocabulary.{◌≢◌}
-use Rattle.mk_core.specs.StopConditions.{blackens, marks_by_hand, may_begin, may_black, may_close, may_mark}
-use Rattle.mk_core.specs.StopConditions.{may_unblack, may_undirty}
+use Rattle.mk_laws.proofs.Vocabulary.{Bool, Cell, Config, Flight, Holding, Object, Place, Seat, Steady, Step}
+use Rattle.mk_laws.proofs.Vocabulary.{TurnIsLeft, Words, World, Written, ℕ, all_below, and_parts, ap, arith, carves}
+use Rattle.mk_laws.proofs.Vocabulary.{empties, eqb-true, frees, gives_back, has_closed_page, has_gates, has_phase}
+use Rattle.mk_laws.proofs.Vocabulary.{header_made, held_by_pages, holder_may, if◌then◌else◌, is_decided}
+use Rattle.mk_laws.proofs.Vocabulary.{is_marked_first, is_next_header, is_phase, is_released_cell, is_run_gone}
+use Rattle.mk_laws.proofs.Vocabulary.{is_used_once, may_answer_full, may_end, may_turn_black, none_attends, not}
+use Rattle.mk_laws.proofs.Vocabulary.{object_made, or_left, or_right, others_are_held, pages_made, phase_of, place_now}
+use Rattle.mk_laws.proofs.Vocabulary.{refl, sym, takes_cell, target, true, unmaps, used_at, ◌&&◌, ◌+◌, ◌-◌, ◌==◌, ◌||◌}
+use Rattle.mk_laws.proofs.Vocabulary.{◌∙◌, ◌≡◌, ◌≢◌}
+use Rattle.mk_core.specs.StopConditions.{blackens, may_begin, may_black, may_close, may_mark, may_unblack, may_undirty}
 use Rattle.mk_core.specs.TurnConditions.{are_wiped, drops, is_in_gone_run, may_give, may_head, may_quarantine, may_use}
 use Rattle.mk_core.specs.TurnConditions.{may_wipe, takes_snapshot}
 use Rattle.mk_core.specs.{Cells.are_left_unmarked, Frames.written_of, MarkerConditions.may_end_all, NewPlaces.bits_made}
@@ -83,8 +81,7 @@ module _ (c : Config) (w v : World) (kept : TurnIsLeft w v) (own : v.now.seats.h
   gives_unmarked x p n = (bit_and n (used_at x p) == n) && are_left_unmarked x p (used_at x p - n)
 
   unmarked_same : (p n : ℕ) → b.marks ≡ a.marks → gives_unmarked b p n ≡ gives_unmarked a p n
-  unmarked_same p n marks = ap (λ (ms : List ℕ). gives_unmarked (record b { marks = ms }) p n) marks
-      ∙ ap (λ (s : Steady). gives_unmarked (record a { pages = s.pages; snapshot = s.snapshot }) p n) kept.steady
+  unmarked_same p n marks = rw (marks, pages, ap (λ (s : Steady). s.snapshot) kept.steady)
 
   takes_same : (f : Flight) (p n : ℕ) → takes_cell b (object_made c f.op) (place_now c v.now f) p n
       ≡ takes_cell a (object_made c f.op) (place_now c w.now f) p n
@@ -107,8 +104,7 @@ module _ (c : Config) (w v : World) (kept : TurnIsLeft w v) (own : v.now.seats.h
   drops_same p f n marks = grind (arith, pages)
 
   frees_same : (f : Flight) (p n : ℕ) → frees b (target c.pages b f) p n ≡ frees a (target c.pages a f) p n
-  frees_same f p n = ap (λ (s : Steady). frees (record a { pages = s.pages; freed = s.freed; snapshot = s.snapshot })
-      (target c.pages (record a { pages = s.pages; freed = s.freed; snapshot = s.snapshot }) f) p n) kept.steady
+  frees_same f p n = rw (pages, ap (λ (s : Steady). s.freed) kept.steady, ap (λ (s : Steady). s.snapshot) kept.steady)
 
   snapshot_same : (p n : ℕ) → takes_snapshot b p n ≡ takes_snapshot a p n
   snapshot_same p n = grind arith
@@ -119,14 +115,7 @@ module _ (c : Config) (w v : World) (kept : TurnIsLeft w v) (own : v.now.seats.h
   -- `mark`, `wipe`, `full`, `give`
 
   mark_same : (f : Flight) (p n : ℕ) → may_mark c v.now f p n ≡ may_mark c w.now f p n
-  mark_same f p n =
-      let o : Object = object_made c f.op in
-      ap (λ (x : Option Place). marks_by_hand c.pages b v.now.seats.holding.hand p n || marks_place b o x p n)
-      (place_same f)
-      ∙ ap (λ (h : Holding). marks_by_hand c.pages b h.hand p n || marks_place b o (place_now c w.now f) p n) own
-      ∙ ap (λ (s : Steady). marks_by_hand c.pages (record a { pages = s.pages }) w.now.seats.holding.hand p n
-      || is_some_and (λ (x : Place). (s.phase == 1) && (p == x.page) && (header_at (record a { pages = s.pages })
-      p == 0) && (n == bits_made o)) (place_now c w.now f)) kept.steady
+  mark_same f p n = rw (own, pages, phase)
 
   released_on : (cell : Cell) → is_released_cell a cell ≡ true → is_released_cell b cell ≡ true
   released_on cell h = grind (arith, and_parts, quiet_at_4)
@@ -175,28 +164,15 @@ module _ (c : Config) (w v : World) (kept : TurnIsLeft w v) (own : v.now.seats.h
       let parts = and_parts (none_attends w.now.seats.markers && all_below c.pages (has_closed_page a)) _ h in
       let none = (and_parts _ _ parts.0).0 in
       let q = stopped two none in
-      ap (λ (t : Bool). t && all_below c.pages (has_closed_page b) && roots_point_well c.pages b)
-      (none_on two none ∙ sym none)
-      ∙ ap (λ (ms : List ℕ). none_attends w.now.seats.markers && all_below c.pages (has_closed_page
-      (record b { marks = ms })) && roots_point_well c.pages (record b { marks = ms })) q.0 ∙ ap (λ (bs : List ℕ).
-      none_attends w.now.seats.markers && all_below c.pages
-      (has_closed_page (record b { marks = a.marks; blacks = bs })) && roots_point_well c.pages
-      (record b { marks = a.marks })) q.1 ∙ ap (λ (x : Written). none_attends w.now.seats.markers && all_below c.pages
-      (has_closed_page (record b { marks = a.marks; blacks = a.blacks; dirty = x.dirty }))
-      && roots_point_well c.pages (record b { marks = a.marks; registers = x.registers; globals = x.globals })) written
-      ∙ ap (λ (ps : List Page). may_close c (record w.now { words = record a { pages = ps } })) pages ∙ h
+      rw (none_on two none ∙ sym none, q.0, q.1, ap (λ (x : Written). x.dirty) written,
+      ap (λ (x : Written). x.registers) written, ap (λ (x : Written). x.globals) written, pages) h
 
   black_on : (p n : ℕ) → phase_of a ≡ 2 → written_of v ≡ written_of w → may_black c w.now p n ≡ true
       → may_black c v.now p n ≡ true
   unfolding may_turn_black
   black_on p n two written h =
       let none = (and_parts _ (not (all_below 32 (λ k. not (blackens c.pages a p n k)))) h).0 in
-      ap (λ (t : Bool). t && not (all_below 32 (λ k. not (blackens c.pages b p n k)))) (none_on two none ∙ sym none)
-      ∙ ap (λ (ms : List ℕ). none_attends w.now.seats.markers && not (all_below 32
-      (λ k. not (blackens c.pages (record b { marks = ms }) p n k)))) (stopped two none).0
-      ∙ ap (λ (x : Written). none_attends w.now.seats.markers && not (all_below 32
-      (λ k. not (blackens c.pages (record b { marks = a.marks; heap = x.heap }) p n k)))) written
-      ∙ ap (λ (ps : List Page). may_black c (record w.now { words = record a { pages = ps } }) p n) pages ∙ h
+      rw (none_on two none ∙ sym none, (stopped two none).0, ap (λ (x : Written). x.heap) written, pages) h
 
   undirty_on : (p : ℕ) → may_undirty w.now p ≡ true → may_undirty v.now p ≡ true
   undirty_on p h = grind (arith, or_left, phase_is, eqb-true, and_parts, or_right, none_on, stopped, pages)

@@ -1,11 +1,10 @@
 -- All that is known of a moment after an enabled list, of whatever calls.
 use Rattle.mk_laws.proofs.Vocabulary.{AreEnabled, AreEnabledFrom, Bool, Caller, Cell, Config, Event, Flight, Holds}
 use Rattle.mk_laws.proofs.Vocabulary.{IsEnabled, IsWithinLimits, List, Moment, None, Op, Option, Progress, Seat, Some}
-use Rattle.mk_laws.proofs.Vocabulary.{Stage, Step, World, ℕ, and_parts, ap, at_rest, cases_eq, cases_lt, d_of}
-use Rattle.mk_laws.proofs.Vocabulary.{enabled_meets, false, first_moment, first_world, found, g_of, get_or-set_other}
-use Rattle.mk_laws.proofs.Vocabulary.{get_or-set_same, has_operands, if◌then◌else◌, inl, inr, is_in_range, left}
-use Rattle.mk_laws.proofs.Vocabulary.{left_from, length, ltb-true, p_of, progress, progress_freed, progress_p}
-use Rattle.mk_laws.proofs.Vocabulary.{progress_q, progress_read, progress_reg, q_of, r_of, refl, register_met, set_past}
+use Rattle.mk_laws.proofs.Vocabulary.{Stage, Step, World, ℕ, and_parts, at_rest, d_of, enabled_meets, false}
+use Rattle.mk_laws.proofs.Vocabulary.{first_moment, first_world, found, g_of, has_operands, if◌then◌else◌, is_in_range}
+use Rattle.mk_laws.proofs.Vocabulary.{left, left_from, ltb-true, p_of, progress, progress_freed, progress_p, progress_q}
+use Rattle.mk_laws.proofs.Vocabulary.{progress_read, progress_reg, q_of, r_of, refl, register_met, set_by}
 use Rattle.mk_laws.proofs.Vocabulary.{slice_index_or, slice_set, true, world_behind, [], ◌<◌, ◌==◌, ◌∙◌, ◌∷◌, ◌≡◌, ◌≤◌}
 use Rattle.mk_core.specs.{Calls.has_type, Effects.moment_behind}
 use Rattle.mk_laws.proofs.OrderlyLists.{at_first, not_astray, orderly_at_first, orderly_behind}
@@ -71,14 +70,8 @@ checked c old new h (Checked x) = x
 
 set_operands : (c : Config) (fs : List Flight) (k : ℕ) (f : Flight) → HaveOperands c fs
     → OpStep c (slice_index_or fs k at_rest).op f.op → HaveOperands c (slice_set fs k f)
-set_operands c fs k f h s b = elim (cases_eq b k) [
-  | inl e ↦ elim (cases_lt k (length fs)) [
-    | inl lt ↦ rw (ap (λ j. slice_index_or (slice_set fs k f) j at_rest) e ∙ get_or-set_same fs k f at_rest lt)
-        (checked c _ f.op (h k) s)
-    | inr le ↦ rw (set_past fs k f le) (h b)
-  ]
-  | inr ne ↦ rw (get_or-set_other fs k b f at_rest ne) (h b)
-]
+set_operands c fs k f h s b =
+    set_by (λ (x : Flight). has_operands c x.op ≡ true) fs k b f at_rest (λ e. checked c _ f.op (h k) s) (h b)
 
 pub operands_behind : (c : Config) (m : Moment) (seat : Seat) (x : Step) → HaveOperands c m.seats.flights
     → Meets c m seat x → HaveOperands c (Behind c m seat x).seats.flights
