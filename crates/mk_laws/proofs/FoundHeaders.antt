@@ -63,36 +63,24 @@ unmapped_goes pages before after distance o large b a unmapped = record {
 unmaps_find : (c : Config) (w : Words) (freed : Option RunPages) (p n : ℕ)
     → ((run : RunPages) → freed ≡ Some run → RunHasObject w run) → Unmaps w freed p n → HeadFinds c.pages w p n
 unmaps_find c w freed p n runs u =
+    let o : RunHasObject w u.run = runs u.run u.there in
+    let near : p - u.run.page < u.run.count = u.next.near in
+    let within : p - u.run.page < pages_made o.object = rw o.count near in
+    let here : u.run.page + (p - u.run.page) ≡ p = let le = u.next.from in omega arith in
+    let before : ShowsPart o.object (p - u.run.page) (header_of (header_at w p)) =
+    header_shows o.object _ (header_at w p) o.sized within (rw here at (o.headers _ near)) in
+    let is : n ≡ unmapped_header (pages_made o.object) (p - u.run.page) =
+    u.next.is ∙ ap (λ (k : ℕ). unmapped_header k (p - u.run.page)) (sym o.count) in
+    let after : ShowsPart o.object (p - u.run.page) (header_of n) =
+    header_shows o.object _ n o.sized within (inr (o.large, is)) in
+    let unmapped : is_unmapped_header (header_of n) ≡ true =
+    rw is (unmapped_is_unmapped _ _ (large_count o.object o.sized o.large) within) in
     let distance : ℕ = p - u.run.page in
     Unmapped (part_not_free o.object distance n after)
     (unmapped_goes c.pages (header_at w p) n distance o.object o.large before after unmapped)
     (λ v y on is. run_cell_at c.pages (header_at w p) v distance o.object before o.large
     ∙ sym (run_cell_at c.pages n v distance o.object after o.large) ∙ is)
     (λ none. same_cells o.object distance (header_of n) (header_in w p) after before ∙ none)
-  where
-    o : RunHasObject w u.run
-    o = runs u.run u.there
-
-    near : p - u.run.page < u.run.count
-    near = u.next.near
-
-    within : p - u.run.page < pages_made o.object
-    within = rw o.count near
-
-    here : u.run.page + (p - u.run.page) ≡ p
-    here = let le = u.next.from in omega arith
-
-    before : ShowsPart o.object (p - u.run.page) (header_of (header_at w p))
-    before = header_shows o.object _ (header_at w p) o.sized within (rw here at (o.headers _ near))
-
-    is : n ≡ unmapped_header (pages_made o.object) (p - u.run.page)
-    is = u.next.is ∙ ap (λ (k : ℕ). unmapped_header k (p - u.run.page)) (sym o.count)
-
-    after : ShowsPart o.object (p - u.run.page) (header_of n)
-    after = header_shows o.object _ n o.sized within (inr (o.large, is))
-
-    unmapped : is_unmapped_header (header_of n) ≡ true
-    unmapped = rw is (unmapped_is_unmapped _ _ (large_count o.object o.sized o.large) within)
 
 -- Carving: the cells that the headers make are marked first.
 

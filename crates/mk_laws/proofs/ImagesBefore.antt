@@ -87,6 +87,7 @@ module _ (c : Config) (w : World) (n : NeverState) (known : KnownWorld c w) (mir
   pub shown_in_call : ImagePremises c w → Stands c w.now.words w.allocations → (k : ℕ) → k < c.callers
       → standing (flight_of w.now (Caller k)) ≡ InCall → PagesShow (header_at w.now.words) (image_scene_of w) n
   shown_in_call others st k lt in_call =
+      let freed : Option RunPages = w.now.seats.holding.freed in
       pages_show st (gone_shows c w known.limits others (elim (cases_Bool (is_run_gone w.now.words freed)) [
         | inl gone ↦ gone
         | inr there ↦
@@ -95,6 +96,3 @@ module _ (c : Config) (w : World) (n : NeverState) (known : KnownWorld c w) (mir
             let one = s.0 in
             absurd (omega arith)
       ]))
-    where
-      freed : Option RunPages
-      freed = w.now.seats.holding.freed

@@ -29,65 +29,39 @@ granted_points : (c : Config) (w : World) (n : NeverState) (k : ℕ) (after : Ne
     → Steps c w n (Caller k) Step.Grant after T
     → (placed_at (WorldBehind c w (Caller k) Step.Grant).allocations (length w.allocations)).released ≡ false
     → T (length w.allocations)
-granted_points c w n k after T s u = s.there.registers (8 * k + d) i (u, rw image into)
-  where
-    v : World
-    v = WorldBehind c w (Caller k) Step.Grant
-
-    i : ℕ
-    i = length w.allocations
-
-    a : PlacedAllocation
-    a = placed_at v.allocations i
-
-    f : Flight
-    f = flight_of w.now (Caller k)
-
-    d : ℕ
-    d = d_of f.op
-
-    d_small : d < 8
-    d_small = register_is_small c f Stage.Put (s.before.known.now.operands k)
-
-    there : k < c.callers
-    there = ltb-true k c.callers s.meets.seat
-
-    base : ℕ
-    base = granted_base c f w.now.seats.holding.placing
-
-    is : a ≡ granted c w.now f
-    is = granted_at w.allocations (granted c w.now f)
-
-    word : slice_index v.now.words.registers (8 * k + d) ≡ address_of base % 2 ^ 64
-    word =
-        let few = s.before.known.now.small in
-        let count = s.before.known.lengths.registers in
-        get_or-set_same w.now.words.registers (8 * k + d) _ 0 (omega (arith, there, d_small))
-
-    fits : address_of base % 2 ^ 64 ≡ address_of base
-    fits =
-        let within = (stands c v after s.behind i u).within in
-        let at : a.base ≡ base = rw is in
-        let pages = s.before.known.limits.pages in
-        omega arith
-
-    flight : flight_among v.now.seats.flights k ≡ record f { stage = Stage.Give }
-    flight = get_or-set_same w.now.seats.flights k (record f { stage = Stage.Give }) at_rest
-        (let count = s.before.known.now.orderly.flights in omega (arith, there))
-
-    image : image_of (bases_of v.allocations) (slice_index_or after.registers (8 * k + d) Null) ≡ address_of base
-    image =
-        let own : (8 * k + d) / 8 ≡ k = let lt = d_small in omega arith in
-        let stage : (flight_among v.now.seats.flights ((8 * k + d) / 8)).stage ≡ Stage.Give = rw own (rw flight) in
-        sym (s.behind.all.mirrors.images.registers (8 * k + d))
-        ∙ given (flight_among v.now.seats.flights ((8 * k + d) / 8)) d ((8 * k + d) % 8) _ stage ∙ word ∙ fits
-
-    into : PointsInto (address_of base) (storage_of c a)
-    into =
-        let some = (words_within (object_placed c a) (sized c v after s.behind i u)).0 in
-        let at : a.base ≡ base = rw is in
-        subst (λ y. PointsInto (address_of y) (storage_of c a)) at
-        ((address_points_into a.base (storage_of c a)).1 (omega arith, omega arith))
+granted_points c w n k after T s u =
+    let v : World = WorldBehind c w (Caller k) Step.Grant in
+    let i : ℕ = length w.allocations in
+    let a : PlacedAllocation = placed_at v.allocations i in
+    let f : Flight = flight_of w.now (Caller k) in
+    let d : ℕ = d_of f.op in
+    let d_small : d < 8 = register_is_small c f Stage.Put (s.before.known.now.operands k) in
+    let there : k < c.callers = ltb-true k c.callers s.meets.seat in
+    let base : ℕ = granted_base c f w.now.seats.holding.placing in
+    let is : a ≡ granted c w.now f = granted_at w.allocations (granted c w.now f) in
+    let word : slice_index v.now.words.registers (8 * k + d) ≡ address_of base % 2 ^ 64 =
+    let few = s.before.known.now.small in
+    let count = s.before.known.lengths.registers in
+    get_or-set_same w.now.words.registers (8 * k + d) _ 0 (omega (arith, there, d_small)) in
+    let fits : address_of base % 2 ^ 64 ≡ address_of base =
+    let within = (stands c v after s.behind i u).within in
+    let at : a.base ≡ base = rw is in
+    let pages = s.before.known.limits.pages in
+    omega arith in
+    let flight : flight_among v.now.seats.flights k ≡ record f { stage = Stage.Give } =
+    get_or-set_same w.now.seats.flights k (record f { stage = Stage.Give }) at_rest
+    (let count = s.before.known.now.orderly.flights in omega (arith, there)) in
+    let image : image_of (bases_of v.allocations) (slice_index_or after.registers (8 * k + d) Null) ≡ address_of base =
+    let own : (8 * k + d) / 8 ≡ k = let lt = d_small in omega arith in
+    let stage : (flight_among v.now.seats.flights ((8 * k + d) / 8)).stage ≡ Stage.Give = rw own (rw flight) in
+    sym (s.behind.all.mirrors.images.registers (8 * k + d))
+    ∙ given (flight_among v.now.seats.flights ((8 * k + d) / 8)) d ((8 * k + d) % 8) _ stage ∙ word ∙ fits in
+    let into : PointsInto (address_of base) (storage_of c a) =
+    let some = (words_within (object_placed c a) (sized c v after s.behind i u)).0 in
+    let at : a.base ≡ base = rw is in
+    subst (λ y. PointsInto (address_of y) (storage_of c a)) at
+    ((address_points_into a.base (storage_of c a)).1 (omega arith, omega arith)) in
+    s.there.registers (8 * k + d) i (u, rw image into)
 
 pub new_is_touched : (c : Config) (w : World) (n : NeverState) (seat : Seat) (x : Step) (after : NeverState)
     (T : ℕ → Type 0) (i : ℕ) → Steps c w n seat x after T → x ≡ Step.Grant → i ≡ length w.allocations
@@ -230,6 +204,8 @@ module _ (c : Config) (w : World) (n : NeverState) (T : ℕ → Type 0) (precise
   mmark_step : (j : ℕ) (after : NeverState) → MarkerStands c w.now (marker_of w.now j)
       → Steps c w n (Marker j) Step.Mmark after T → MarksTouched (Marker j) Step.Mmark
   mmark_step j after stand s b u bit =
+      let cell : Cell = cell_of_allocation c (placed_at w.allocations b) in
+      let y : Option Cell = cell_seen c (marker_of w.now j).seen (marker_of w.now j).hand in
       elim (more_bits w.now.words.marks (seen_page y) (seen_bit y) cell.page cell.index bit) [
         | inl old ↦ precise.marked b u old
         | inr new ↦
@@ -237,12 +213,6 @@ module _ (c : Config) (w : World) (n : NeverState) (T : ℕ → Type 0) (precise
             let at : pointed_cell c.pages w.now.words.pages m.value ≡ Some cell = m.cell ∙ rw (← new.0) in
             (precise.markers j).hand m.value m.there b (u, comes_back c w n s.before s.early b m.value u at)
       ]
-    where
-      cell : Cell
-      cell = cell_of_allocation c (placed_at w.allocations b)
-
-      y : Option Cell
-      y = cell_seen c (marker_of w.now j).seen (marker_of w.now j).hand
 
   marks_touched : (seat : Seat) (x : Step) (after : NeverState) → ((j : ℕ) → MarkerStands c w.now (marker_of w.now j))
       → Steps c w n seat x after T → MarksTouched seat x
