@@ -152,25 +152,21 @@ module _ (c : Config) (w v : World) (n : NeverState) (known : KnownWorld c w) (a
       true≢false (sym left ∙ ap (is_released_cell w.now.words) (sym cell)
       ∙ (told_to_images c w n known all).kept m.number u)
 
+  -- The cell's words are 0, where its bit is one of these.
+  abbrev wiped_in : Words → ℕ → ℕ → ℕ → Bool
+  wiped_in x p bits k = not (has_bit bits k)
+      || words_are_zero x (first_word w.now.words (record { page = p; index = k }))
+      (cell_words w.now.words (record { page = p; index = k }))
+
   pub wiped_still : (p value : ℕ) → is_phase w.now.words 4 ≡ true → gives_back w.now.words p value ≡ true
       → are_wiped v.now.words p (used_at v.now.words p - value) ≡ true
   wiped_still p value four back =
       let bits : ℕ = used_at w.now.words p - value in
-      ap (λ (ps : List Page). are_wiped (record v.now.words { pages = ps }) p
-      (used_at (record v.now.words { pages = ps }) p - value)) pages ∙ all_below_on 32
-      (λ k. not (has_bit bits k) || words_are_zero w.now.words (first_word w.now.words (record { page = p; index = k }))
-      (cell_words w.now.words (record { page = p; index = k }))) (λ k. not (has_bit bits k)
-      || words_are_zero (record v.now.words { pages = w.now.words.pages })
-      (first_word w.now.words (record { page = p; index = k }))
-      (cell_words w.now.words (record { page = p; index = k })))
-      (λ k lt e. by k e) (gives_back_is w.now.words p value back).wiped
+      rw pages (all_below_on 32 (wiped_in w.now.words p bits) (wiped_in v.now.words p bits) (λ k lt. by k)
+      (gives_back_is w.now.words p value back).wiped)
     where
-      by : (k : ℕ) → (not (has_bit (used_at w.now.words p - value) k)
-          || words_are_zero w.now.words (first_word w.now.words (record { page = p; index = k }))
-          (cell_words w.now.words (record { page = p; index = k }))) ≡ true
-          → (not (has_bit (used_at w.now.words p - value) k)
-          || words_are_zero v.now.words (first_word w.now.words (record { page = p; index = k }))
-          (cell_words w.now.words (record { page = p; index = k }))) ≡ true
+      by : (k : ℕ) → wiped_in w.now.words p (used_at w.now.words p - value) k ≡ true
+          → wiped_in v.now.words p (used_at w.now.words p - value) k ≡ true
       by k e = elim (cases_Bool (has_bit (used_at w.now.words p - value) k)) [
         | inr out ↦ or_left _ _ (ap not out)
         | inl bit ↦

@@ -75,25 +75,20 @@ module _ (c : Config) (w : World) (n : NeverState) (known : KnownWorld c w) (mir
       let cells : Some cell ≡ Some (cell_of_allocation c (placed a)) = sym points ∙ (pointer_cell a t x p sound is e) in
       let first : first_word w.now.words cell ≡ (placed a).base = ap (first_in w.now.words) cells ∙ st.first a u in
       let leaves = freed_leaves w.now.words (Some cell) in
+      let frees : PlacedAllocation → PlacedAllocation = freed_where_it_stands w.now.words (Some cell) in
+      let now : (i : ℕ) → placed_at (map frees w.allocations) i ≡ frees (placed i) =
+      λ i. changed_at frees w.allocations i leaves.none in
       let its : (placed a).freed ≡ false = elim (cases_Bool (placed a).freed) [
         | inl yes_freed ↦
             let y : false ≡ true = sym not_freed ∙ ap (is_freed_in w.now.words) cells
             ∙ others.shown a u yes_freed in absurd (cc)
         | inr z ↦ z
       ] in (
-        Frees k a f (map (freed_where_it_stands w.now.words (Some cell)) w.allocations) at
-            (same_places (freed_where_it_stands w.now.words (Some cell)) w.allocations leaves)
-            (λ b. ap (λ (y : PlacedAllocation). y.released)
-            (changed_at (freed_where_it_stands w.now.words (Some cell)) w.allocations b leaves.none)
-            ∙ freed_released w.now.words (Some cell) (placed b)) sound.0
-            (λ b ne2. ap (λ (y : PlacedAllocation). y.freed)
-            (changed_at (freed_where_it_stands w.now.words (Some cell)) w.allocations b leaves.none)
-            ∙ ap (λ t. (if t then record (placed b) { freed = true; fresh = true }
-            else placed b).freed) (apart_from b a cell u first ne2)) (ap (λ (y : PlacedAllocation). y.freed)
-            (changed_at (freed_where_it_stands w.now.words (Some cell)) w.allocations a leaves.none)
-            ∙ ap (λ t. (if t then record (placed a) { freed = true; fresh = true } else placed a).freed)
-            (and_from (not (placed a).released) ((placed a).base == first_word w.now.words cell) (ap not u)
-            (eq-eqb (placed a).base (first_word w.now.words cell) (sym first))))
+        Frees k a f (map frees w.allocations) at (same_places frees w.allocations leaves)
+            (λ b. rw (now b) (freed_released w.now.words (Some cell) (placed b))) sound.0
+            (λ b other. rw (now b) (rw (apart_from b a cell u first other))) (rw (now a) (rw (and_from
+            (not (placed a).released) ((placed a).base == first_word w.now.words cell) (ap not u)
+            (eq-eqb (placed a).base (first_word w.now.words cell) (sym first)))))
             (λ un. quiet (ap (is_run_cell w.now.words) cells
             ∙ st.run a u (ap (λ l. nat_lt 32 l) (sym (words_are c w n known mirrors a lt)) ∙ un))),
         ap (λ b. if b then Reply.Double else Reply.Done) (sym (mirrors.twins.freed a lt) ∙ its),
