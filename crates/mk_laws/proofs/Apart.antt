@@ -9,7 +9,7 @@ use Rattle.mk_laws.proofs.Vocabulary.{first_page_shows, get_or, header_in, inl, 
 use Rattle.mk_laws.proofs.Vocabulary.{mul-le, object_placed, pages_made, pages_some, placed_at, refl, small_pages}
 use Rattle.mk_laws.proofs.Vocabulary.{small_words, stands_on, storage_is_of, storage_of, storage_words, suc, sym, true}
 use Rattle.mk_laws.proofs.Vocabulary.{true≢false, unreleased_storage, words_within, zero, [], ◌%◌, ◌*◌, ◌+◌, ◌-◌, ◌/◌}
-use Rattle.mk_laws.proofs.Vocabulary.{◌<◌, ◌∙◌, ◌∷◌, ◌≡◌, ◌≢◌, ◌≤◌, ◌⊎◌}
+use Rattle.mk_laws.proofs.Vocabulary.{◌<◌, ◌∙◌, ◌∷◌, ◌≡◌, ◌≢◌, ◌≤◌}
 use Rattle.mk_geom.{proofs.Standing.stands_parts, specs.Storages.LieApart}
 use Rattle.mk_core.proofs.UnreleasedStorage.{released_front, unreleased_front}
 use Rattle.mk_core.proofs.{Sizes.words_are_small, StandingAllocations.placed_cell}

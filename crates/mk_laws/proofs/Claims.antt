@@ -3,7 +3,7 @@ use Rattle.mk_laws.proofs.Vocabulary.{Among, AreApart, Cell, Claim, Config, IsAt
 use Rattle.mk_laws.proofs.Vocabulary.{Option, PlacedAllocation, RunPages, ℕ, ap, cases_Bool, cell_of_allocation}
 use Rattle.mk_laws.proofs.Vocabulary.{changed_at, claim_of, claims_of, cond-false, cond-true, false, inl, inr, map}
 use Rattle.mk_laws.proofs.Vocabulary.{object_placed, placed_at, refl, subst, suc, sym, true, true≢false, zero, [], ◌∙◌}
-use Rattle.mk_laws.proofs.Vocabulary.{◌∷◌, ◌≡◌, ◌⊎◌}
+use Rattle.mk_laws.proofs.Vocabulary.{◌∷◌, ◌≡◌}
 
 -- the unreleased allocation whose claim it is
 pub record IsClaimOf (c : Config) (run : Option RunPages) (xs : List PlacedAllocation) (x : Claim) : Type 0 where

@@ -2,9 +2,9 @@
 use Rattle.std.proofs.lemmas.Nat.{div-mul-add}
 use Rattle.mk_laws.proofs.Vocabulary.{AreOfOthers, Block, Bool, Caller, Cell, Config, Event, Flight, Free, Header, Host}
 use Rattle.mk_laws.proofs.Vocabulary.{Invariant, IsEnabled, IsHistory, IsLeft, IsWordOfMapped, Later, LeafBlock}
-use Rattle.mk_laws.proofs.Vocabulary.{LeafRun, List, Marker, MeetsAll, Moment, NeverState, Op, Option, Page}
-use Rattle.mk_laws.proofs.Vocabulary.{PlacedAllocation, Run, Seat, Some, Step, Words, World, ℕ, address_of, and_from}
-use Rattle.mk_laws.proofs.Vocabulary.{ap, arith, cases_Bool, cases_eq, cell_ends, cell_words, cells_of, cells_under}
+use Rattle.mk_laws.proofs.Vocabulary.{LeafRun, List, Marker, MeetsAll, Moment, NeverState, Op, Option, PlacedAllocation}
+use Rattle.mk_laws.proofs.Vocabulary.{Run, Seat, Some, Step, Words, World, ℕ, address_of, and_from, ap, arith}
+use Rattle.mk_laws.proofs.Vocabulary.{cases_Bool, cases_eq, cell_ends, cell_words, cells_of, cells_under}
 use Rattle.mk_laws.proofs.Vocabulary.{class_words_of, comes_next, earlier_part_is_history, enabled_meets, eq-eqb}
 use Rattle.mk_laws.proofs.Vocabulary.{eqb-false, eqb-true, first_word, flight_of, gives_back, has_bit, has_bit_without}
 use Rattle.mk_laws.proofs.Vocabulary.{has_gates, has_phase, header_at, header_in, heads_run, holder_may, host_has_turn}

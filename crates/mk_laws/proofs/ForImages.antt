@@ -13,7 +13,6 @@ use Rattle.mk_laws.proofs.Vocabulary.{length, lt-ltb, mode_of, not, object_made,
 use Rattle.mk_laws.proofs.Vocabulary.{pages_some, phase_of, place_claim, placed_at, pointed_cell, refl}
 use Rattle.mk_laws.proofs.Vocabulary.{run_of_allocation, stands, subst, suc, sym, true, true≢false, typed_size}
 use Rattle.mk_laws.proofs.Vocabulary.{unmapped_header, zero, [], ◌&&◌, ◌+◌, ◌/◌, ◌<◌, ◌==◌, ◌∙◌, ◌∷◌, ◌≡◌, ◌≢◌, ◌≤◌}
-use Rattle.mk_laws.proofs.Vocabulary.{◌⊎◌}
 use Rattle.mk_core.{proofs.GrantedAllocations.placed_headers, proofs.GrantedAllocations.placed_stands}
 use Rattle.mk_core.{proofs.PointedAllocations.base_points, specs.NewPlaces.place_stands}
 use Rattle.mk_laws.proofs.Claims.{claim_among, claim_is, first_apart, rest_apart}
