@@ -3,8 +3,8 @@ use Rattle.mk_laws.proofs.Vocabulary.{Answer, AreEnabled, AreEnabledFrom, Bool, 
 use Rattle.mk_laws.proofs.Vocabulary.{Holds, IsEnabled, IsWithinLimits, List, Moment, None, Op, Option, Progress, Seat}
 use Rattle.mk_laws.proofs.Vocabulary.{Some, Stage, Step, World, ℕ, and_parts, at_rest, begun, d_of, enabled_meets}
 use Rattle.mk_laws.proofs.Vocabulary.{false, first_moment, first_world, flight_of, found, g_of, has_operands}
-use Rattle.mk_laws.proofs.Vocabulary.{if◌then◌else◌, is_heap_store, is_in_range, left, left_from, ltb-true, onward}
-use Rattle.mk_laws.proofs.Vocabulary.{p_of, progress, progress_freed, progress_p, progress_q, progress_read}
+use Rattle.mk_laws.proofs.Vocabulary.{if◌then◌else◌, inl, inr, is_heap_store, is_in_range, left, left_from, ltb-true}
+use Rattle.mk_laws.proofs.Vocabulary.{onward, p_of, progress, progress_freed, progress_p, progress_q, progress_read}
 use Rattle.mk_laws.proofs.Vocabulary.{progress_reg, q_of, r_of, refl, refused, register_met, set_by, slice_index_or}
 use Rattle.mk_laws.proofs.Vocabulary.{true, world_behind, [], ◌<◌, ◌==◌, ◌∙◌, ◌∷◌, ◌≡◌, ◌≢◌, ◌≤◌, ◌⊎◌}
 use Rattle.mk_core.specs.{Calls.has_type, Effects.moment_behind}
