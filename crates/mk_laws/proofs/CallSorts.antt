@@ -7,6 +7,7 @@ use Rattle.mk_laws.proofs.Vocabulary.{if◌then◌else◌, image_scene_of, is_pa
 use Rattle.mk_laws.proofs.Vocabulary.{ltb-true, onward, page_met, progress_read, refl, refused, reg_access}
 use Rattle.mk_laws.proofs.Vocabulary.{register_met, register_word, slice_index, slice_set, subst, sym, true, word_met}
 use Rattle.mk_laws.proofs.Vocabulary.{world_behind, ◌*◌, ◌+◌, ◌<◌, ◌==◌, ◌∙◌, ◌≡◌}
+use Rattle.mk_core.proofs.RegisterAccesses.{register_leaves}
 use Rattle.mk_core.specs.Effects.{begins_where_free, progress_probe}
 use Rattle.mk_laws.proofs.Basics.{KnownWorld, Leads, PagesShow, Ready, at_its_stage, at_reg, either_leads, flight}
 use Rattle.mk_laws.proofs.Basics.{goes_bare, is_astray, is_call_stage, not_astray, operands_of, standing, standing_at}
@@ -54,29 +55,15 @@ reg_registers : (w : Words) (k : ℕ) (f : Flight) (st : Stage)
 reg_registers w k f Stage.Store = refl
 reg_registers w k f _ = cc
 
-reg_globals : (w : Words) (k : ℕ) (f : Flight) (st : Stage)
-    → (accessed w (Named (Word.Reg k (register_met f st))) (reg_access f st)).globals ≡ w.globals
-reg_globals w k f Stage.Store = refl
-reg_globals w k f _ = cc
-
-reg_heap : (w : Words) (k : ℕ) (f : Flight) (st : Stage)
-    → (accessed w (Named (Word.Reg k (register_met f st))) (reg_access f st)).heap ≡ w.heap
-reg_heap w k f Stage.Store = refl
-reg_heap w k f _ = cc
-
 -- a begun call has loaded nothing
 begun_carries : (bs : List ℕ) (o : Op) (n : NeverState) (k : ℕ) → CarriesOwn bs n k (begun o)
 begun_carries bs (Op.New d ty full) n k =
     record { q = λ e. cc; some_q = λ e. cc; p = λ e. cc; some_p = λ e. cc; r = λ e. cc }
 begun_carries bs _ n k = record { q = λ e. cc; some_q = λ e. cc; p = λ e. cc; some_p = λ e. cc; r = λ e. cc }
 
-begun_unprobed : (o : Op) → is_past_probe (begun o).stage ≡ false
-begun_unprobed (Op.New d ty full) = refl
-begun_unprobed _ = refl
-
-begun_not_put : (o : Op) → is_put (begun o).stage ≡ false
-begun_not_put (Op.New d ty full) = refl
-begun_not_put _ = refl
+begun_plain : (o : Op) → (is_past_probe (begun o).stage ≡ false) × (is_put (begun o).stage ≡ false)
+begun_plain (Op.New d ty full) = (refl, refl)
+begun_plain _ = (refl, refl)
 
 module _ (c : Config) (w : World) (n : NeverState) (known : KnownWorld c w) (mirrors : Mirrors c w n) (safe : ℕ
     → Bool) (ready : Ready c.globals safe (image_scene_of w) n) where
@@ -101,8 +88,8 @@ module _ (c : Config) (w : World) (n : NeverState) (known : KnownWorld c w) (mir
   begins k o next x was = either_leads safe _ n k o (image_scene_of w) (x == 0) (record {
     flight = begun next;
     answer = None;
-  }) _ (λ z. flies_on safe _ n k o (begun next) was (begun_not_put next) (begun_carries _ next n k)
-      (λ past. let y : false ≡ true = sym (begun_unprobed next) ∙ past in cc))
+  }) _ (λ z. flies_on safe _ n k o (begun next) was (begun_plain next).1 (begun_carries _ next n k)
+      (λ past. let y : false ≡ true = sym (begun_plain next).0 ∙ past in cc))
       (λ z. flies_on safe _ n k o (flight_of w.now (Caller k)) was was (ready.images.carried k) (ready.images.probed k))
 
   -- a call that stays where it is
@@ -152,11 +139,11 @@ module _ (c : Config) (w : World) (n : NeverState) (known : KnownWorld c w) (mir
       let f = flight_of w.now (Caller k) in
       let lt = ltb-true k c.callers h.seat in
       let x = register_word w.now.words k (register_met f f.stage) in
-      rw (reg_registers w.now.words k f f.stage) (rw (reg_globals w.now.words k f f.stage)
-      (rw (reg_heap w.now.words k f f.stage) (reg_leads c.globals safe _ n k ready (there_is k lt) (own_registers k lt)
-      (own_words k lt) f.stage
+      let kept = register_leaves w.now.words k (register_met f f.stage) (reg_access f f.stage) in
+      rw (reg_registers w.now.words k f f.stage, kept.globals, kept.heap)
+      (reg_leads c.globals safe _ n k ready (there_is k lt) (own_registers k lt) (own_words k lt) f.stage
       f.op f.q f.p f.r f.loaded x refl (own_d k) (at_reg f.stage f.op h.order) (own_astray k lt)
-      (ready.images.carried k) (λ np. own_plain _ n ready.images k _ (register_small_here k f.stage) np) ad)))
+      (ready.images.carried k) (λ np. own_plain _ n ready.images k _ (register_small_here k f.stage) np) ad)
     where
       register_small_here : (k : ℕ) (s : Stage) → register_met (flight_of w.now (Caller k)) s < 8
       register_small_here k Stage.LoadQ = (ready.small k).0

@@ -1,12 +1,13 @@
 -- What each kind of step changes of what the guard reads.
-use Rattle.mk_laws.proofs.Vocabulary.{Access, AreOfPages, Bool, Caller, Config, DirtyIsOwed, Flight, Host, IsGuarded}
-use Rattle.mk_laws.proofs.Vocabulary.{IsMarking, List, Load, Marker, Moment, Named, OnlyGrow, Op, OwesDirty, Page, Seat}
-use Rattle.mk_laws.proofs.Vocabulary.{Stage, Step, Store, Tally, Word, Words, ℕ, accessed, and_parts, ap, arith}
-use Rattle.mk_laws.proofs.Vocabulary.{at_rest, cases_eq, comes_next, false, flight_of, found, free_page}
-use Rattle.mk_laws.proofs.Vocabulary.{get_or-set_other, get_or-set_same, has_bit, header_at, inl, inr, length, ltb-true}
-use Rattle.mk_laws.proofs.Vocabulary.{nat_le, nat_lt, no_bit, page_met, progress, refl, set_by, slice_index}
-use Rattle.mk_laws.proofs.Vocabulary.{slice_index_or, slice_set, stage_behind, steps_of, subst, sym, tally_word, true}
-use Rattle.mk_laws.proofs.Vocabulary.{true≢false, word_met, ◌*◌, ◌<◌, ◌∙◌, ◌≡◌, ◌⊎◌}
+use Rattle.mk_laws.proofs.Vocabulary.{Access, AreOfPages, Bool, Caller, Config, DirtyIsOwed, Flight, IsGuarded}
+use Rattle.mk_laws.proofs.Vocabulary.{IsMarking, List, Load, Moment, Named, OnlyGrow, Op, OwesDirty, Page, Seat, Stage}
+use Rattle.mk_laws.proofs.Vocabulary.{Step, Store, Tally, Word, Words, ℕ, accessed, and_parts, ap, arith, at_rest}
+use Rattle.mk_laws.proofs.Vocabulary.{cases_eq, comes_next, false, flight_of, found, free_page, get_or-set_other}
+use Rattle.mk_laws.proofs.Vocabulary.{get_or-set_same, has_bit, header_at, inl, inr, length, ltb-true, nat_le, nat_lt}
+use Rattle.mk_laws.proofs.Vocabulary.{no_bit, page_met, progress, refl, set_by, slice_index, slice_set, stage_behind}
+use Rattle.mk_laws.proofs.Vocabulary.{steps_of, subst, sym, tally_word, true, true≢false, word_met, ◌*◌, ◌<◌, ◌∙◌, ◌≡◌}
+use Rattle.mk_laws.proofs.Vocabulary.{◌⊎◌}
+use Rattle.mk_core.proofs.RegisterAccesses.{register_leaves, tally_leaves}
 use Rattle.mk_laws.proofs.Colours.{AddsMarks, ClearsMarks, Colours, ColourStep, MarksSeen, colour_step}
 use Rattle.mk_laws.proofs.Growth.{grows_more, grows_same}
 use Rattle.mk_laws.proofs.{Actors.Meets, Known.Known, NextSteps.at_its_stage, OrderlyLists.not_astray, SameWords.Behind}
@@ -96,10 +97,8 @@ heap_kind c m (Caller k) Step.Cas known h y =
     (progress c m (flight_of m (Caller k)) (found c m (record { seat = Caller k; step = Step.Cas })) Step.Cas).flight
     (omega (arith, lt, known.orderly.flights)) refl refl
     (ap (λ (s : Stage). stage_behind s (steps_of (flight_of m (Caller k)).op)) at ∙ swapped _ fine) refl
-heap_kind c m (Marker k) Step.Write known h y = let kind = h.kind in cc
-heap_kind c m Host Step.Write known h y = let kind = h.kind in cc
-heap_kind c m (Marker k) Step.Cas known h y = let kind = h.kind in cc
-heap_kind c m Host Step.Cas known h y = let kind = h.kind in cc
+heap_kind c m _ Step.Write known h y = let kind = h.kind in cc
+heap_kind c m _ Step.Cas known h y = let kind = h.kind in cc
 heap_kind c m seat (Step.Wipe n) known h y =
     elim (wiped m.words.heap n y) [ inl same ↦ inl same | inr bare ↦ inr (bare_guarded c _ y bare) ]
 heap_kind c m seat _ known h y = inl refl
@@ -162,10 +161,8 @@ is_head _ = false
 
 pub headers_kind : (c : Config) (m : Moment) (seat : Seat) (x : Step) → is_head x ≡ false → (p : ℕ)
     → header_at (Behind c m seat x).words p ≡ header_at m.words p
-headers_kind c m seat Step.Reg u p =
-    ap (λ (t : Table). (slice_index_or t.pages p free_page).header) (reg_table c m seat)
-headers_kind c m seat (Step.Tally n v) u p =
-    ap (λ (t : Table). (slice_index_or t.pages p free_page).header) (tally_table m.words n v)
+headers_kind c m seat Step.Reg u p = rw (register_leaves m.words _ _ _).pages
+headers_kind c m seat (Step.Tally n v) u p = rw (tally_leaves m.words n v).pages
 headers_kind c m seat (Step.Used q n) u p = set_by (λ (y : Page). y.header ≡ header_at m.words p) m.words.pages q p
     (record { header = header_at m.words q; used = n }) free_page (λ e. rw e) refl
 headers_kind c m seat _ u p = cc
@@ -191,10 +188,8 @@ is_blackening _ = false
 
 pub blacks_kind : (c : Config) (m : Moment) (seat : Seat) (x : Step) → is_blackening x ≡ false
     → OnlyGrow (Behind c m seat x).words.blacks m.words.blacks
-blacks_kind c m seat Step.Reg u = subst (λ (t : Table). OnlyGrow t.blacks m.words.blacks) (sym (reg_table c m seat))
-    (grows_same m.words.blacks)
-blacks_kind c m seat (Step.Tally n v) u =
-    subst (λ (t : Table). OnlyGrow t.blacks m.words.blacks) (sym (tally_table m.words n v)) (grows_same m.words.blacks)
+blacks_kind c m seat Step.Reg u = rw (register_leaves m.words _ _ _).blacks (grows_same m.words.blacks)
+blacks_kind c m seat (Step.Tally n v) u = rw (tally_leaves m.words n v).blacks (grows_same m.words.blacks)
 blacks_kind c m seat (Step.Black p n) u = cc
 blacks_kind c m seat Step.Mblack u = cc
 blacks_kind c m seat (Step.Unblack q) u =

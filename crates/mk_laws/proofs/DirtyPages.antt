@@ -1,13 +1,12 @@
 -- On a dirty page, and on one whose dirty mark a call owes, an unreleased allocation stands. Only a `release` could end
 -- that, and at a `release` no page is dirty and no mark is owed.
-use Rattle.mk_laws.proofs.Vocabulary.{Caller, Config, Event, Flight, HasAllocation, Host, IsHistory, IsWordOfMapped}
-use Rattle.mk_laws.proofs.Vocabulary.{List, Marker, Moment, OfHistories, Op, Seat, Stage, Step, World, ℕ, all_below-at}
-use Rattle.mk_laws.proofs.Vocabulary.{and_parts, ap, arith, at_rest, cases_eq, cases_lt, comes_next, eqb-true, false}
-use Rattle.mk_laws.proofs.Vocabulary.{flight_of, found, get_or-set_other, get_or-set_same, get_or_past, inl, inr}
-use Rattle.mk_laws.proofs.Vocabulary.{is_heap_store, is_release, left, left_from, ltb-true, page_met, phase_of}
-use Rattle.mk_laws.proofs.Vocabulary.{placed_at, progress, refl, set_by, slice_index, stage_behind, stage_refused}
-use Rattle.mk_laws.proofs.Vocabulary.{steps_of, subst, sym, true, true≢false, word_met, [], ◌++◌, ◌==◌, ◌∙◌, ◌∷◌, ◌≡◌}
-use Rattle.mk_laws.proofs.Vocabulary.{◌≢◌, ◌⊎◌}
+use Rattle.mk_laws.proofs.Vocabulary.{Caller, Config, Event, Flight, HasAllocation, IsHistory, IsWordOfMapped, List}
+use Rattle.mk_laws.proofs.Vocabulary.{Moment, OfHistories, Op, Seat, Stage, Step, World, ℕ, all_below-at, and_parts, ap}
+use Rattle.mk_laws.proofs.Vocabulary.{arith, at_rest, cases_eq, cases_lt, comes_next, eqb-true, false, flight_of, found}
+use Rattle.mk_laws.proofs.Vocabulary.{get_or-set_other, get_or-set_same, get_or_past, inl, inr, is_heap_store}
+use Rattle.mk_laws.proofs.Vocabulary.{is_release, left, left_from, ltb-true, page_met, phase_of, placed_at, progress}
+use Rattle.mk_laws.proofs.Vocabulary.{refl, set_by, slice_index, stage_behind, stage_refused, steps_of, subst, sym}
+use Rattle.mk_laws.proofs.Vocabulary.{true, true≢false, word_met, [], ◌++◌, ◌==◌, ◌∙◌, ◌∷◌, ◌≡◌, ◌≢◌, ◌⊎◌}
 use Rattle.mk_core.specs.Calls.{first_of}
 use Rattle.mk_laws.proofs.Basics.{Behind, InCall, KeptByEvents, Known, KnownWorld, Meets, Table, WorldBehind, at_first}
 use Rattle.mk_laws.proofs.Basics.{at_its_stage, calls_stand, holds_of_histories, is_astray, known_world, mapped_stays}
@@ -111,8 +110,7 @@ dirty_since c m seat _ p some = inl some
 owes_now : (c : Config) (m : Moment) (seat : Seat) (x : Step) → Meets c m seat x → is_dirty x ≡ true
     → (k : ℕ) × (seat ≡ Caller k) × ((flight_of m (Caller k)).stage ≡ Stage.Dirty)
 owes_now c m (Caller k) Step.Dirty h is = (k, refl, at_its_stage _ _ Step.Dirty refl h.order)
-owes_now c m (Marker k) Step.Dirty h is = let kind = h.kind in cc
-owes_now c m Host Step.Dirty h is = let kind = h.kind in cc
+owes_now c m _ Step.Dirty h is = let kind = h.kind in cc
 owes_now c m seat _ h is = cc
 
 -- A call that owes a mark after a step owed it before, or the step is its store.

@@ -1,21 +1,21 @@
 -- Each enabled and admitted event leads to what the images allow.
 use Rattle.mk_laws.proofs.Vocabulary.{AreAdmitted, Bool, Caller, Cell, Config, Event, Group, Host, ImagePremises}
 use Rattle.mk_laws.proofs.Vocabulary.{ImageScene, IsSafe, IsSafeSet, IsSound, IsTypedAllocation, Kind, List, Marker}
-use Rattle.mk_laws.proofs.Vocabulary.{MarksAreClosed, MeetsAll, Mirrors, Named, NeverState, None, Null, Num, Number}
-use Rattle.mk_laws.proofs.Vocabulary.{Option, PlacedAllocation, Ptr, Seat, Some, Stage, Step, Store, Suits, Tally, To}
-use Rattle.mk_laws.proofs.Vocabulary.{Value, World, ℕ, accessed, address_of, allocation_at, and_from, and_parts}
-use Rattle.mk_laws.proofs.Vocabulary.{and_right, answer_decided, ap, arith, asked, at_rest, bases_of, call_decided}
-use Rattle.mk_laws.proofs.Vocabulary.{caller_number, cases_Bool, cases_eq, cases_lt, cell_of_allocation, changed_at}
-use Rattle.mk_laws.proofs.Vocabulary.{eqb-true, false, false≢true, flight_among, flight_of, fresh_leaves, get_or_past}
-use Rattle.mk_laws.proofs.Vocabulary.{global_at, has_bit_without, if◌then◌else◌, image_of, image_scene_of, inl, inr}
-use Rattle.mk_laws.proofs.Vocabulary.{is_left_unmarked, is_marked, is_none_or, is_open_to, is_past_probe, is_put}
-use Rattle.mk_laws.proofs.Vocabulary.{is_run_cell, is_some_and, is_unmapped, kinds_of, length, ltb-true, map}
-use Rattle.mk_laws.proofs.Vocabulary.{no_longer_fresh, none_freed, not, or_cases, or_parts, others_are_held, placed_at}
-use Rattle.mk_laws.proofs.Vocabulary.{pointed_cell, points_well, refl, released_leaves, set-get_or, slice_index}
-use Rattle.mk_laws.proofs.Vocabulary.{slice_index_or, slice_set, storage_holds, storage_words, subst, sym, tally_word}
-use Rattle.mk_laws.proofs.Vocabulary.{target, true, with_released, word_at, words_of, world_behind, ◌%◌, ◌&&◌, ◌+◌, ◌/◌}
-use Rattle.mk_laws.proofs.Vocabulary.{◌<◌, ◌==◌, ◌||◌, ◌∙◌, ◌≡◌, ◌≢◌}
+use Rattle.mk_laws.proofs.Vocabulary.{MarksAreClosed, MeetsAll, Mirrors, NeverState, None, Null, Num, Number, Option}
+use Rattle.mk_laws.proofs.Vocabulary.{PlacedAllocation, Ptr, Seat, Some, Stage, Step, Suits, Tally, To, Value, World, ℕ}
+use Rattle.mk_laws.proofs.Vocabulary.{address_of, allocation_at, and_from, and_parts, and_right, answer_decided, ap}
+use Rattle.mk_laws.proofs.Vocabulary.{arith, asked, at_rest, bases_of, call_decided, caller_number, cases_Bool}
+use Rattle.mk_laws.proofs.Vocabulary.{cases_eq, cases_lt, cell_of_allocation, changed_at, eqb-true, false, false≢true}
+use Rattle.mk_laws.proofs.Vocabulary.{flight_among, flight_of, fresh_leaves, get_or_past, global_at, has_bit_without}
+use Rattle.mk_laws.proofs.Vocabulary.{if◌then◌else◌, image_of, image_scene_of, inl, inr, is_left_unmarked, is_marked}
+use Rattle.mk_laws.proofs.Vocabulary.{is_none_or, is_open_to, is_past_probe, is_put, is_run_cell, is_some_and}
+use Rattle.mk_laws.proofs.Vocabulary.{is_unmapped, kinds_of, length, ltb-true, map, no_longer_fresh, none_freed, not}
+use Rattle.mk_laws.proofs.Vocabulary.{or_cases, or_parts, others_are_held, placed_at, pointed_cell, points_well, refl}
+use Rattle.mk_laws.proofs.Vocabulary.{released_leaves, set-get_or, slice_index, slice_index_or, slice_set}
+use Rattle.mk_laws.proofs.Vocabulary.{storage_holds, storage_words, sym, target, true, with_released, word_at, words_of}
+use Rattle.mk_laws.proofs.Vocabulary.{world_behind, ◌%◌, ◌&&◌, ◌+◌, ◌/◌, ◌<◌, ◌==◌, ◌||◌, ◌∙◌, ◌≡◌, ◌≢◌}
 use Rattle.mk_never.specs.Types.{is_leaf, is_number}
+use Rattle.mk_core.proofs.RegisterAccesses.{tally_leaves, tally_leaves_registers}
 use Rattle.mk_core.proofs.ListTests.{list_all-at}
 use Rattle.mk_core.specs.ClosedMarks.{is_marked_allocation, is_scanned_allocation}
 use Rattle.mk_laws.proofs.Basics.{KnownWorld, Leads, Move, Ready, Releases, Renews, Stands, at_its_stage, at_no_take}
@@ -174,16 +174,6 @@ turn_plain _ h = refl
 idle_plain : (s : Stage) → s ≡ Stage.Idle → is_put s ≡ false
 idle_plain s e = ap is_put e
 
-tally_scene : (w : World) (t : Tally) (v : ℕ) → image_scene_of w ≡ record {
-  registers = (accessed w.now.words (Named (tally_word t)) (Store v)).registers;
-  globals = (accessed w.now.words (Named (tally_word t)) (Store v)).globals;
-  heap = (accessed w.now.words (Named (tally_word t)) (Store v)).heap;
-  flights = w.now.seats.flights;
-  allocations = w.allocations;
-}
-tally_scene w Tally.Held v = refl
-tally_scene w _ v = refl
-
 abbrev no_cell : Option Cell
 no_cell = None
 
@@ -221,7 +211,8 @@ module _ (c : Config) (w : World) (n : NeverState) (known : KnownWorld c w) (mir
   still_moves seat (Step.Quar p v) s h = absurd (false≢true s)
   still_moves seat Step.Grant s h = absurd (false≢true s)
   still_moves seat (Step.Tally t v) s h =
-      subst (λ (x : ImageScene). Move safe (image_scene_of w) n x n) (tally_scene w t v) Rests
+      let kept = tally_leaves w.now.words t v in
+      rw (tally_leaves_registers w.now.words t v, kept.globals, kept.heap) Rests
   still_moves seat (Step.Wipe x) s h = Wipes x (wiped_outside c w n known mirrors others st x (h.holder))
   still_moves seat Step.Begin s h =
       Renews (map no_longer_fresh w.allocations) (same_places no_longer_fresh _ fresh_leaves) (λ a. rw (changed_at

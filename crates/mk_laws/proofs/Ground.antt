@@ -1,14 +1,14 @@
 -- What an event may do to what stands on the pages and to the quarantine, by the conditions under which it does so.
-use Rattle.mk_laws.proofs.Vocabulary.{Access, Bool, Caller, Cell, Config, Flight, Granted, Ground, List, Load, Moment}
-use Rattle.mk_laws.proofs.Vocabulary.{Named, None, Op, Option, Page, Seat, Some, Stage, Step, Store, Tally, Unplaced}
-use Rattle.mk_laws.proofs.Vocabulary.{Word, Words, World, ℕ, accessed, and_parts, carves, cell_freed, chosen, empties}
-use Rattle.mk_laws.proofs.Vocabulary.{eqb-false, eqb-true, false, flight_of, freed_where_it_stands, frees, gives_back}
-use Rattle.mk_laws.proofs.Vocabulary.{granted, ground_of, header_at, if◌then◌else◌, inl, inr, is_phase}
-use Rattle.mk_laws.proofs.Vocabulary.{is_undecided_new, is_used_once, map, marks_place, no_longer_fresh, not, not-true}
-use Rattle.mk_laws.proofs.Vocabulary.{nothing_done, object_made, or_cases, or_else, phase_of, place_now, refl}
-use Rattle.mk_laws.proofs.Vocabulary.{run_of_cell, slice_set, taken, takes_cell, tally_word, target, true, unmaps}
-use Rattle.mk_laws.proofs.Vocabulary.{used_at, with_released, [], ◌%◌, ◌&&◌, ◌++◌, ◌/◌, ◌==◌, ◌^◌, ◌||◌, ◌∷◌, ◌≡◌, ◌≢◌}
-use Rattle.mk_laws.proofs.Vocabulary.{◌≤◌, ◌⊎◌}
+use Rattle.mk_laws.proofs.Vocabulary.{Bool, Caller, Cell, Config, Flight, Granted, Ground, List, Moment, None, Op}
+use Rattle.mk_laws.proofs.Vocabulary.{Option, Page, Seat, Some, Stage, Step, Tally, Unplaced, Words, World, ℕ}
+use Rattle.mk_laws.proofs.Vocabulary.{and_parts, carves, cell_freed, chosen, empties, eqb-false, eqb-true, false}
+use Rattle.mk_laws.proofs.Vocabulary.{flight_of, freed_where_it_stands, frees, gives_back, granted, ground_of}
+use Rattle.mk_laws.proofs.Vocabulary.{header_at, if◌then◌else◌, inl, inr, is_phase, is_undecided_new, is_used_once, map}
+use Rattle.mk_laws.proofs.Vocabulary.{marks_place, no_longer_fresh, not, not-true, nothing_done, object_made, or_cases}
+use Rattle.mk_laws.proofs.Vocabulary.{or_else, phase_of, place_now, refl, run_of_cell, slice_set, taken, takes_cell}
+use Rattle.mk_laws.proofs.Vocabulary.{target, true, unmaps, used_at, with_released, [], ◌%◌, ◌&&◌, ◌++◌, ◌/◌, ◌==◌, ◌^◌}
+use Rattle.mk_laws.proofs.Vocabulary.{◌||◌, ◌∷◌, ◌≡◌, ◌≢◌, ◌≤◌, ◌⊎◌}
+use Rattle.mk_core.proofs.RegisterAccesses.{LeavesTable, register_leaves, tally_leaves}
 use Rattle.mk_core.specs.TurnConditions.{drops, may_give, may_head, may_quarantine, may_use, takes_snapshot}
 use Rattle.mk_laws.proofs.Actors.{Meets, grants_new}
 use Rattle.mk_laws.proofs.{Asked.give_phase, NextSteps.at_no_take, NextSteps.at_take, OthersMoves.WorldBehind}
@@ -105,21 +105,7 @@ pub data GroundStep (c : Config) (w : World) (f : Flight) : Ground → Type 0 wh
   Releases : phase_of w.now.words ≡ 3
       → GroundStep c w f (record (ground_of w) { allocations = map (with_released c w.now.words) w.allocations })
 
--- the words of the ground are the same
-pub record KeepsGround (w x : Words) : Type 0 where
-  pub pages : x.pages ≡ w.pages
-  pub freed : x.freed ≡ w.freed
-  pub snapshot : x.snapshot ≡ w.snapshot
-
-pub tally_ground : (w : Words) (n : Tally) (v : ℕ) → KeepsGround w (accessed w (Named (tally_word n)) (Store v))
-tally_ground w Tally.Held v = record { pages = refl; freed = refl; snapshot = refl }
-tally_ground w _ v = record { pages = refl; freed = refl; snapshot = refl }
-
-pub reg_ground : (w : Words) (k r : ℕ) (a : Access) → KeepsGround w (accessed w (Named (Word.Reg k r)) a)
-reg_ground w k r Load = record { pages = refl; freed = refl; snapshot = refl }
-reg_ground w k r _ = record { pages = refl; freed = refl; snapshot = refl }
-
-rests : (c : Config) (w : World) (f : Flight) (x : Words) → KeepsGround w.now.words x
+rests : (c : Config) (w : World) (f : Flight) (x : Words) → LeavesTable w.now.words x
     → GroundStep c w f (record (ground_of w) { pages = x.pages; freed = x.freed; snapshot = x.snapshot })
 rests c w f x g = rw g.pages (rw g.freed (rw g.snapshot Rests))
 
@@ -203,8 +189,8 @@ pub ground_step : (c : Config) (w : World) (seat : Seat) (x : Step) → Meets c 
     → GroundStep c w (flight_of w.now seat) (ground_of (WorldBehind c w seat x))
 ground_step c w seat (Step.Take o) h = take_step c w (flight_of w.now seat) (taker_idle c w.now seat o h)
 ground_step c w seat Step.Give h = Gives h.holder (give_phase _ h.phase)
-ground_step c w seat Step.Reg h = rests c w (flight_of w.now seat) _ (reg_ground w.now.words _ _ _)
-ground_step c w seat (Step.Tally n v) h = rests c w (flight_of w.now seat) _ (tally_ground w.now.words n v)
+ground_step c w seat Step.Reg h = rests c w (flight_of w.now seat) _ (register_leaves w.now.words _ _ _)
+ground_step c w seat (Step.Tally n v) h = rests c w (flight_of w.now seat) _ (tally_leaves w.now.words n v)
 ground_step c w seat (Step.Head p n) h = head_step c w (flight_of w.now seat) p n h.holder
 ground_step c w seat (Step.Used p n) h = used_step c w (flight_of w.now seat) p n h.holder
 ground_step c w seat (Step.Quar p n) h = quar_step c w (flight_of w.now seat) p n h.holder

@@ -1,8 +1,8 @@
 -- From `close` to `release` the marks stay closed: nothing changes but words that are wiped.
-use Rattle.mk_laws.proofs.Vocabulary.{Caller, CellsAreClosed, Config, Flight, Group, Host, Marker, Moment, Named, Seat}
-use Rattle.mk_laws.proofs.Vocabulary.{Stage, Step, Tally, Word, Words, ℕ, accessed, ap, arith, eqb-true, false}
-use Rattle.mk_laws.proofs.Vocabulary.{first_word, flight_of, group_of, header_at, inl, inr, is_open_to, ltb-true}
-use Rattle.mk_laws.proofs.Vocabulary.{or_cases, phase_of, points_well, refl, reg_access, slice_index, subst, sym, true}
+use Rattle.mk_laws.proofs.Vocabulary.{Caller, CellsAreClosed, Config, Flight, Group, Marker, Moment, Named, Seat, Stage}
+use Rattle.mk_laws.proofs.Vocabulary.{Step, Tally, Word, Words, ℕ, accessed, ap, arith, eqb-true, false, first_word}
+use Rattle.mk_laws.proofs.Vocabulary.{flight_of, group_of, header_at, inl, inr, is_open_to, ltb-true, or_cases}
+use Rattle.mk_laws.proofs.Vocabulary.{phase_of, points_well, refl, reg_access, slice_index, subst, sym, true}
 use Rattle.mk_laws.proofs.Vocabulary.{true≢false, word_points_well, ◌<◌, ◌==◌, ◌||◌, ◌∙◌, ◌≡◌, ◌⊎◌}
 use Rattle.mk_core.proofs.RegisterAccesses.{tally_leaves_registers}
 use Rattle.mk_laws.proofs.Basics.{Behind, Known, Meets, Table, at_its_stage, at_reg, calls_stand, either_phase}
@@ -51,10 +51,8 @@ no_step : (c : Config) (m : Moment) (seat : Seat) (x : Step) → Known c m → p
 no_step c m (Caller k) x known three h own at =
     no_call c m k known three (ltb-true k c.callers h.seat) (subst (λ (s : Stage). is_call_stage s ≡ true)
     (sym (at_its_stage _ _ x own h.order)) at)
-no_step c m (Marker k) x known three h own at =
-    true≢false (sym (ap (λ (g : Group). is_open_to (Marker k) g) (sym (of_callers x own)) ∙ h.kind))
-no_step c m Host x known three h own at =
-    true≢false (sym (ap (λ (g : Group). is_open_to Host g) (sym (of_callers x own)) ∙ h.kind))
+no_step c m seat x known three h own at =
+    true≢false (sym (ap (λ (g : Group). is_open_to seat g) (sym (of_callers x own)) ∙ h.kind))
 
 -- `reg` only loads
 load_alone : (w : Words) (k r : ℕ) (f : Flight) (s : Stage) → is_reg_stage s ≡ true → is_call_stage s ≡ false

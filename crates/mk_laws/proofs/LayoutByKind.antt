@@ -13,14 +13,15 @@ use Rattle.mk_laws.proofs.Vocabulary.{none_freed, not, nothing_done, object_made
 use Rattle.mk_laws.proofs.Vocabulary.{placed_now, quarantine_step, refl, run_of_cell, seat_exists, slice_set, sym}
 use Rattle.mk_laws.proofs.Vocabulary.{taken, true, true≢false, undecided_free, undecided_new, used_step, [], ◌%◌, ◌++◌}
 use Rattle.mk_laws.proofs.Vocabulary.{◌/◌, ◌<◌, ◌==◌, ◌^◌, ◌∙◌, ◌∷◌, ◌≡◌, ◌≢◌}
+use Rattle.mk_core.proofs.RegisterAccesses.{LeavesTable}
 use Rattle.mk_laws.proofs.Basics.{Before, Laid, LeavesCells, Meets, WorldBehind, first_header, free_has_turn}
 use Rattle.mk_laws.proofs.Basics.{gone_terrain, grants_new, holding_object, made_sized, new_has_turn, no_run}
 use Rattle.mk_laws.proofs.Basics.{none_on_its_way, page_within, placed_undecided, reg_leaves_ground, tally_ground}
 use Rattle.mk_laws.proofs.Basics.{with_header_on, with_used_on}
+use Rattle.mk_laws.proofs.Dropped.{dropped, ended, refreed, unreleasing}
 use Rattle.mk_laws.proofs.LayoutHolders.{giver_has_turn, seat_operands}
 use Rattle.mk_laws.proofs.Serving.{head_carves, head_empties, head_unmaps, mark_places, used_gives_back, used_takes}
-use Rattle.mk_laws.proofs.{Claims.cells_behind, Dropped.dropped, Dropped.ended, Dropped.refreed, Dropped.unreleasing}
-use Rattle.mk_laws.proofs.{Freed.freed_terrain, Granted.granted_terrain, Ground.KeepsGround, Ground.with_quarantine}
+use Rattle.mk_laws.proofs.{Claims.cells_behind, Freed.freed_terrain, Granted.granted_terrain, Ground.with_quarantine}
 use Rattle.mk_laws.proofs.{LayoutBefore.LaidBehind, LayoutBefore.LaidNow, Released.released_terrain, Sorts.chosen_none}
 
 -- with another quarantine word of a page
@@ -242,7 +243,7 @@ module _ (c : Config) (w : World) (seat : Seat) (b : Before c w) (laid : LayoutS
       by true is = rw (b.known.orderly.free (eqb-true w.now.words.turn 0 is)) at laid
 
   -- words that leave the terrain
-  kept_ground : (x : Words) → KeepsGround w.now.words x
+  kept_ground : (x : Words) → LeavesTable w.now.words x
       → LaidNow c w (record (ground_of w) { pages = x.pages; freed = x.freed; snapshot = x.snapshot })
   kept_ground x g = rw g.pages (rw g.freed (rw g.snapshot laid))
 

@@ -1,5 +1,5 @@
 -- What a step marks is touched: what the holder's hand or a marker's points into, or a cell without an allocation.
-use Rattle.mk_laws.proofs.Vocabulary.{Bool, Caller, Cell, Config, Flight, Hand, Host, Marker, MarkerStands, MarkerState}
+use Rattle.mk_laws.proofs.Vocabulary.{Bool, Caller, Cell, Config, Flight, Hand, Marker, MarkerStands, MarkerState}
 use Rattle.mk_laws.proofs.Vocabulary.{Moment, NeverState, None, Null, Object, Option, Place, PlacedAllocation}
 use Rattle.mk_laws.proofs.Vocabulary.{PointsInto, Seat, SeenHeader, Some, Stage, Step, Words, World, ℕ, address_of}
 use Rattle.mk_laws.proofs.Vocabulary.{and_parts, ap, arith, at_rest, bases_of, bit, cases_Bool, cell_at}
@@ -218,8 +218,7 @@ module _ (c : Config) (w : World) (n : NeverState) (T : ℕ → Type 0) (precise
       → Steps c w n seat x after T → MarksTouched seat x
   marks_touched seat (Step.Mark p v) after stand s b u bit = mark_step seat p v after s b u bit
   marks_touched (Marker j) Step.Mmark after stand s b u bit = mmark_step j after (stand j) s b u bit
-  marks_touched (Caller j) Step.Mmark after stand s b u bit = let kind = s.meets.kind in cc
-  marks_touched Host Step.Mmark after stand s b u bit = let kind = s.meets.kind in cc
+  marks_touched _ Step.Mmark after stand s b u bit = let kind = s.meets.kind in cc
   marks_touched seat (Step.Clear p) after stand s b u bit =
       let zero = eqb-true _ 0 s.meets.phase in
       elim s.early [ inl e ↦ absurd (omega arith) | inr e ↦ absurd (omega arith) ]
