@@ -1,14 +1,14 @@
 -- While no cell is released, words that aren't 0 lie on the pages of unreleased allocations; on all others they are 0.
 use Rattle.mk_laws.proofs.Vocabulary.{Among, Claim, Config, HasZeros, IsClaimedRun, IsFreedWord, IsPlotShown, IsShown}
 use Rattle.mk_laws.proofs.Vocabulary.{IsWordOfMapped, MayHold, Object, OfFreedRun, OfMapped, OfReleased}
-use Rattle.mk_laws.proofs.Vocabulary.{PlacedAllocation, RunStands, ShowsPart, World, ℕ, and_parts, ap, arith, cases_eq}
-use Rattle.mk_laws.proofs.Vocabulary.{claim_of, claims_of, false, ground_of, head_on, header_made, header_of, header_on}
-use Rattle.mk_laws.proofs.Vocabulary.{inl, inr, is_phase, leb-true, ltb-true, made_shows, object_now, object_placed}
-use Rattle.mk_laws.proofs.Vocabulary.{pages_made, pages_some, part_head, placed_at, refl, shows_on, slice_index}
-use Rattle.mk_laws.proofs.Vocabulary.{storage_words, subst, sym, used_on, words_made, zero_scene_of, ◌+◌, ◌-◌, ◌/◌, ◌<◌}
-use Rattle.mk_laws.proofs.Vocabulary.{◌∙◌, ◌≡◌, ◌≢◌, ◌≤◌}
+use Rattle.mk_laws.proofs.Vocabulary.{PlacedAllocation, RunStands, ShowsPart, World, ℕ, and_parts, ap, arith, claim_of}
+use Rattle.mk_laws.proofs.Vocabulary.{claims_of, false, ground_of, head_on, header_made, header_of, header_on, inl, inr}
+use Rattle.mk_laws.proofs.Vocabulary.{is_phase, leb-true, ltb-true, made_shows, object_now, object_placed, pages_made}
+use Rattle.mk_laws.proofs.Vocabulary.{pages_some, part_head, placed_at, refl, shows_on, slice_index, storage_words}
+use Rattle.mk_laws.proofs.Vocabulary.{subst, sym, used_on, words_made, zero_scene_of, ◌+◌, ◌-◌, ◌/◌, ◌<◌, ◌∙◌, ◌≡◌, ◌≢◌}
+use Rattle.mk_laws.proofs.Vocabulary.{◌≤◌}
 use Rattle.mk_laws.proofs.Basics.{Laid, claim_among, claimed_some, ends_on_pages, mapped_stays, none_released, none_set}
-use Rattle.mk_laws.proofs.Basics.{own_claim}
+use Rattle.mk_laws.proofs.Basics.{own_claim, zero_unless}
 use Rattle.mk_laws.proofs.LayoutReadings.{claimed_head}
 
 -- a world in order, whose phase isn't releasing
@@ -67,13 +67,10 @@ on_allocation c w n q some = by (q.zeros n some)
 -- The words of a page are 0 that has no header,
 pub bare_page : (c : Config) (w : World) (p n : ℕ) → Unreleasing c w → header_on w.now.words.pages p ≡ 0 → n / 64 ≡ p
     → slice_index w.now.words.heap n ≡ 0
-bare_page c w p n q free at = elim (cases_eq (slice_index w.now.words.heap n) 0) [
-  | inl zero ↦ zero
-  | inr some ↦
-      let x = on_allocation c w n q some in
-      absurd (claimed_some w.now.words.pages x.claim x.distance (shown_there c w x.claim q x.among) x.near
-      (ap (λ i. header_on w.now.words.pages i) (x.at ∙ at) ∙ free))
-]
+bare_page c w p n q free at = zero_unless _ (λ some.
+    let x = on_allocation c w n q some in
+    claimed_some w.now.words.pages x.claim x.distance (shown_there c w x.claim q x.among) x.near
+    (ap (λ i. header_on w.now.words.pages i) (x.at ∙ at) ∙ free))
 
 -- and of one of a plot.
 pub plot_page : (c : Config) (w : World) (first : ℕ) (o : Object) (distance n : ℕ) → Unreleasing c w
@@ -81,10 +78,7 @@ pub plot_page : (c : Config) (w : World) (first : ℕ) (o : Object) (distance n 
     → distance < pages_made o → n / 64 ≡ first + distance → slice_index w.now.words.heap n ≡ 0
 plot_page c w first o distance n q plot lt at = elim (plot.headers distance lt) [
   | inl free ↦ bare_page c w (first + distance) n q free at
-  | inr made ↦ elim (cases_eq (slice_index w.now.words.heap n) 0) [
-    | inl zero ↦ zero
-    | inr some ↦ absurd (no_claim made (on_allocation c w n q some))
-  ]
+  | inr made ↦ zero_unless _ (λ some. no_claim made (on_allocation c w n q some))
 ]
   where
     no_claim : header_on w.now.words.pages (first + distance) ≡ header_made o distance → IsOnAllocation c w (n / 64) → ⊥

@@ -20,7 +20,7 @@ pub use Rattle.mk_laws.proofs.LayoutBefore.{Before, is_releasing_behind, page_wi
 pub use Rattle.mk_laws.proofs.LayoutHolders.{first_header, free_has_turn, holding_object, made_sized, new_has_turn}
 pub use Rattle.mk_laws.proofs.LayoutHolders.{no_run, none_on_its_way, placed_undecided}
 pub use Rattle.mk_laws.proofs.Serving.{apart_left, Laid, own_claim, placed_claim}
-pub use Rattle.mk_laws.proofs.LayoutReadings.{claimed, claimed_some, none_set, zero_where_none}
+pub use Rattle.mk_laws.proofs.LayoutReadings.{claimed, claimed_some, none_set, zero_unless, zero_where_none}
 pub use Rattle.mk_laws.proofs.MappedWords.{mapped_stays}
 pub use Rattle.mk_laws.proofs.NewPlace.{held_place, new_holds}
 pub use Rattle.mk_laws.proofs.NextSteps.{at_its_stage, at_no_take, at_reg}

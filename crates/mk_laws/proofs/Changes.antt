@@ -161,8 +161,10 @@ is_head _ = false
 
 pub headers_kind : (c : Config) (m : Moment) (seat : Seat) (x : Step) → is_head x ≡ false → (p : ℕ)
     → header_at (Behind c m seat x).words p ≡ header_at m.words p
-headers_kind c m seat Step.Reg u p = rw (register_leaves m.words _ _ _).pages
-headers_kind c m seat (Step.Tally n v) u p = rw (tally_leaves m.words n v).pages
+headers_kind c m seat Step.Reg u p =
+    ap (λ (t : Table). (slice_index_or t.pages p free_page).header) (reg_table c m seat)
+headers_kind c m seat (Step.Tally n v) u p =
+    ap (λ (t : Table). (slice_index_or t.pages p free_page).header) (tally_table m.words n v)
 headers_kind c m seat (Step.Used q n) u p = set_by (λ (y : Page). y.header ≡ header_at m.words p) m.words.pages q p
     (record { header = header_at m.words q; used = n }) free_page (λ e. rw e) refl
 headers_kind c m seat _ u p = cc

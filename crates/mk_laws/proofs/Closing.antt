@@ -14,27 +14,36 @@ use Rattle.mk_laws.proofs.Basics.{InCall, Known, Meets, calls_stand, is_astray, 
 use Rattle.mk_laws.proofs.Basics.{standing, standing_at, view_of}
 use Rattle.mk_laws.proofs.Changes.{at_owed}
 
--- where a `close` is enabled, no call owes a dirty word
-none_owes : (c : Config) (m : Moment) (seat : Seat) (j : ℕ) → Known c m → Meets c m seat Step.Close
-    → (flight_of m (Caller j)).stage ≡ Stage.Dirty → ⊥
-none_owes c m seat j known h at = elim (cases_lt j c.callers) [
+-- A call that owes a dirty mark is a caller's, outside the turn.
+pub owes_in_call : (c : Config) (m : Moment) (j : ℕ) → Known c m → (flight_of m (Caller j)).stage ≡ Stage.Dirty
+    → (j < c.callers) × (standing (flight_of m (Caller j)) ≡ InCall)
+owes_in_call c m j known at = elim (cases_lt j c.callers) [
   | inr past ↦
       let rest : flight_of m (Caller j) ≡ at_rest =
       get_or_past m.seats.flights j at_rest (omega (arith, known.orderly.flights)) in
       let bad : Stage.Idle ≡ Stage.Dirty = sym (rw rest) ∙ at in
-      true≢false (let y : true ≡ false = cc in y)
-  | inl lt ↦ elim (cases_eq (holder_number c seat) j) [
-    | inl e ↦ own seat e lt h
-    | inr ne ↦
-        let fine = subst (λ (s : Stage). is_astray (standing_at s (flight_of m (Caller j)).op) ≡ false) at
-        (not_astray c m known.orderly j lt) in
-        let stands : standing (flight_of m (Caller j)) ≡ InCall
-        = ap (λ (s : Stage). standing_at s (flight_of m (Caller j)).op) at ∙ calls_stand Stage.Dirty _ refl fine in
-        let two = others_held c m seat h.gates j lt ne in
-        absurd (omega (arith, (shows_at c (view_of m) j InCall known.orderly lt stands).0))
-  ]
+      absurd (true≢false (let y : true ≡ false = cc in y))
+  | inl lt ↦
+      let fine = subst (λ (s : Stage). is_astray (standing_at s (flight_of m (Caller j)).op) ≡ false) at
+      (not_astray c m known.orderly j lt) in (
+        lt,
+        ap (λ (s : Stage). standing_at s (flight_of m (Caller j)).op) at ∙ calls_stand Stage.Dirty _ refl fine,
+      )
+]
+
+-- where a `close` is enabled, no call owes a dirty word
+none_owes : (c : Config) (m : Moment) (seat : Seat) (j : ℕ) → Known c m → Meets c m seat Step.Close
+    → (flight_of m (Caller j)).stage ≡ Stage.Dirty → ⊥
+none_owes c m seat j known h at = elim (cases_eq (holder_number c seat) j) [
+  | inl e ↦ own seat e call.0 h
+  | inr ne ↦
+      let two = others_held c m seat h.gates j call.0 ne in
+      absurd (omega (arith, (shows_at c (view_of m) j InCall known.orderly call.0 call.1).0))
 ]
   where
+    call : (j < c.callers) × (standing (flight_of m (Caller j)) ≡ InCall)
+    call = owes_in_call c m j known at
+
     own : (seat : Seat) → holder_number c seat ≡ j → j < c.callers → Meets c m seat Step.Close → ⊥
     own (Caller k) e lt h = grind (arith, at_owed)
     own (Marker k) e lt h = absurd (omega arith)

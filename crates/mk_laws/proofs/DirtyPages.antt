@@ -9,12 +9,13 @@ use Rattle.mk_laws.proofs.Vocabulary.{refl, set_by, slice_index, stage_behind, s
 use Rattle.mk_laws.proofs.Vocabulary.{true, true≢false, word_met, [], ◌++◌, ◌==◌, ◌∙◌, ◌∷◌, ◌≡◌, ◌≢◌, ◌⊎◌}
 use Rattle.mk_core.specs.Calls.{first_of}
 use Rattle.mk_laws.proofs.Basics.{Behind, InCall, KeptByEvents, Known, KnownWorld, Meets, Table, WorldBehind, at_first}
-use Rattle.mk_laws.proofs.Basics.{at_its_stage, calls_stand, holds_of_histories, is_astray, known_world, mapped_stays}
-use Rattle.mk_laws.proofs.Basics.{not_astray, reg_table, shows_at, standing, standing_at, tally_table, view_of}
+use Rattle.mk_laws.proofs.Basics.{at_its_stage, holds_of_histories, known_world, mapped_stays, reg_table, shows_at}
+use Rattle.mk_laws.proofs.Basics.{tally_table, view_of, zero_unless}
+use Rattle.mk_laws.proofs.CyclePhases.{phase_asked, phase_behind, phase_moves}
 use Rattle.mk_laws.proofs.InvariantHistories.{comes_last, histories_keep_the_invariant}
+use Rattle.mk_laws.proofs.InvariantJoined.{told_to_zeros}
 use Rattle.mk_laws.proofs.Known.{Begins, CallStep, Comes, Ends, GoesOn, Refused, Stays, Stores, call_step}
-use Rattle.mk_laws.proofs.{Changes.is_dirty, CyclePhases.phase_asked, CyclePhases.phase_behind, CyclePhases.phase_moves}
-use Rattle.mk_laws.proofs.{InvariantJoined.told_to_zeros, Protocols.protocol_of, ReadingsKeptPlaces.put_step}
+use Rattle.mk_laws.proofs.{Changes.is_dirty, Closing.owes_in_call, Protocols.protocol_of, ReadingsKeptPlaces.put_step}
 use Rattle.mk_laws.specs.FreePages.{DirtyPagesHaveAllocations}
 
 -- Which steps bring a call to where it owes a dirty mark: a store and an exchange.
@@ -77,19 +78,10 @@ allocation_stays c w seat x p out a = grind (arith, put_step)
 -- While the marks are closed, up to the `release`, no call owes a mark.
 none_owes : (c : Config) (m : Moment) → Known c m → phase_of m.words ≡ 3 → (k : ℕ)
     → (flight_of m (Caller k)).stage ≡ Stage.Dirty → ⊥
-none_owes c m known three k at = elim (cases_lt k c.callers) [
-  | inr past ↦
-      let rest : flight_of m (Caller k) ≡ at_rest = get_or_past _ k at_rest (omega (arith, known.orderly.flights)) in
-      let bad : Stage.Idle ≡ Stage.Dirty = sym (ap (λ (f : Flight). f.stage) rest) ∙ at in
-      true≢false (let y : true ≡ false = cc in y)
-  | inl lt ↦
-      let fine = subst (λ (s : Stage). is_astray (standing_at s (flight_of m (Caller k)).op) ≡ false) at
-      (not_astray c m known.orderly k lt) in
-      let stands : standing (flight_of m (Caller k)) ≡ InCall
-      = ap (λ (s : Stage). standing_at s (flight_of m (Caller k)).op) at ∙ calls_stand Stage.Dirty _ refl fine in
-      let shows = shows_at c (view_of m) k InCall known.orderly lt stands in
-      absurd (omega (arith, shows.0, (protocol_of c m known).stopped three k lt shows.1))
-]
+none_owes c m known three k at =
+    let call = owes_in_call c m k known at in
+    let shows = shows_at c (view_of m) k InCall known.orderly call.0 call.1 in
+    absurd (omega (arith, shows.0, (protocol_of c m known).stopped three k call.0 shows.1))
 
 -- A page that is dirty after a step was so before, or the step is its dirty mark.
 dirty_since : (c : Config) (m : Moment) (seat : Seat) (x : Step) (p : ℕ)
@@ -154,17 +146,14 @@ module _ (c : Config) (w : World) (seat : Seat) (x : Step) (known : KnownWorld c
     (d : DirtyStands c w) where
   clean_behind : phase_of (WorldBehind c w seat x).now.words ≡ 3 → (p : ℕ)
       → slice_index (WorldBehind c w seat x).now.words.dirty p ≡ 0
-  clean_behind three p = elim (cases_eq (slice_index (WorldBehind c w seat x).now.words.dirty p) 0) [
-    | inl is ↦ is
-    | inr some ↦
-        let closed = sym (phase_moves c w.now seat x h) ∙ three in
-        elim (dirty_since c w.now seat x p some) [
-          | inl was ↦ absurd (was (was_clean c w seat x known h d closed p))
-          | inr marks ↦
-              let owes = owes_now c w.now seat x h marks.0 in
-              absurd (none_owes c w.now known.now (sym (not_closing x _ marks.0) ∙ closed) owes.0 owes.2)
-        ]
-  ]
+  clean_behind three p = zero_unless _ (λ some.
+      let closed = sym (phase_moves c w.now seat x h) ∙ three in
+      elim (dirty_since c w.now seat x p some) [
+        | inl was ↦ was (was_clean c w seat x known h d closed p)
+        | inr marks ↦
+            let owes = owes_now c w.now seat x h marks.0 in
+            none_owes c w.now known.now (sym (not_closing x _ marks.0) ∙ closed) owes.0 owes.2
+      ])
 
   stands_at_release : phase_of w.now.words ≡ 3 → is_dirty x ≡ false → is_heap_store x ≡ false
       → DirtyStands c (WorldBehind c w seat x)

@@ -2,13 +2,12 @@
 use Rattle.mk_laws.proofs.Vocabulary.{Config, Invariant, IsFreedWord, IsWordOf, IsWordOfMapped, Leaves, MayHold}
 use Rattle.mk_laws.proofs.Vocabulary.{NeverState, Object, OfFreedRun, OfHistories, OfMapped, OfReleased}
 use Rattle.mk_laws.proofs.Vocabulary.{PlacedAllocation, RunPages, Some, Words, World, ℕ, all_below-at, and_parts, ap}
-use Rattle.mk_laws.proofs.Vocabulary.{arith, cases_eq, eqb-true, false, inl, inr, is_run_gone, is_run_unmapped}
-use Rattle.mk_laws.proofs.Vocabulary.{large_words, leb-true, left, ltb-true, object_placed, pages_made, phase_of}
-use Rattle.mk_laws.proofs.Vocabulary.{placed_at, run_begins, run_of_allocation, slice_index, storage_of, sym, true}
-use Rattle.mk_laws.proofs.Vocabulary.{words_are_zero, zero_scene_of, ◌%◌, ◌*◌, ◌+◌, ◌-◌, ◌/◌, ◌<◌, ◌==◌, ◌∙◌, ◌≡◌, ◌≢◌}
-use Rattle.mk_laws.proofs.Vocabulary.{◌≤◌}
+use Rattle.mk_laws.proofs.Vocabulary.{arith, eqb-true, false, is_run_gone, is_run_unmapped, large_words, leb-true, left}
+use Rattle.mk_laws.proofs.Vocabulary.{ltb-true, object_placed, pages_made, phase_of, placed_at, run_begins}
+use Rattle.mk_laws.proofs.Vocabulary.{run_of_allocation, slice_index, storage_of, sym, true, words_are_zero}
+use Rattle.mk_laws.proofs.Vocabulary.{zero_scene_of, ◌%◌, ◌*◌, ◌+◌, ◌-◌, ◌/◌, ◌<◌, ◌==◌, ◌∙◌, ◌≡◌, ◌≢◌, ◌≤◌}
 use Rattle.mk_core.specs.Cells.{is_in_run}
-use Rattle.mk_laws.proofs.Basics.{KnownWorld, known_world, mapped_stays, none_released}
+use Rattle.mk_laws.proofs.Basics.{KnownWorld, known_world, mapped_stays, none_released, zero_unless}
 use Rattle.mk_laws.proofs.InvariantHistories.{histories_keep_the_invariant}
 use Rattle.mk_laws.proofs.{ForImages.standing, InvariantJoined.told_to_images, ReadingsStands.not_releasing}
 use Rattle.mk_laws.specs.FreeWords.{UnmappedWordsAreZero, WordsOfNoneAreZero}
@@ -79,16 +78,12 @@ module _ (c : Config) (w : World) (n : NeverState) (known : KnownWorld c w) (all
       by (OfFreedRun f) = grind (arith, gone_word)
 
   words_of_none : WordsOfNoneAreZero c w
-  words_of_none quiet x none = elim (cases_eq (slice_index w.now.words.heap x) 0) [
-    | inl is ↦ is
-    | inr some ↦ let one = of_one quiet x some in absurd (none one.number one.unreleased one.word)
-  ]
+  words_of_none quiet x none = zero_unless _ (λ some.
+      let one = of_one quiet x some in none one.number one.unreleased one.word)
 
   unmapped_words : UnmappedWordsAreZero c w
-  unmapped_words quiet gone x none = elim (cases_eq (slice_index w.now.words.heap x) 0) [
-    | inl is ↦ is
-    | inr some ↦ let one = of_one_mapped quiet gone x some in absurd (none one.number one.mapped one.word)
-  ]
+  unmapped_words quiet gone x none = zero_unless _ (λ some.
+      let one = of_one_mapped quiet gone x some in none one.number one.mapped one.word)
 
 -- Both of all histories; this is how the invariant is after each.
 pub of_worlds : {claim : Config → World → Type 0}

@@ -1,20 +1,16 @@
 -- The words of the place of a New are 0 when it is granted, and a wiped word is in no mapped allocation.
-use Rattle.mk_laws.proofs.Vocabulary.{Bool, Config, ImagePremises, IsPlaceOfNone, MayHoldWords, Mirrors, NeverState}
-use Rattle.mk_laws.proofs.Vocabulary.{None, Option, Place, PlacedAllocation, RunPages, Some, Words, World, ℕ}
-use Rattle.mk_laws.proofs.Vocabulary.{address_of, all_below-at, allocation_at, and_parts, ap, arith, base_made}
-use Rattle.mk_laws.proofs.Vocabulary.{cases_eq, cell_of_allocation, cells_begin, eqb-true, false, false≢true}
-use Rattle.mk_laws.proofs.Vocabulary.{first_word, header_in, inl, inr, is_left_unmarked, is_phase, is_released_cell}
+use Rattle.mk_laws.proofs.Vocabulary.{Config, ImagePremises, IsPlaceOfNone, Mirrors, NeverState, None, Option, Place}
+use Rattle.mk_laws.proofs.Vocabulary.{PlacedAllocation, RunPages, Some, Words, World, ℕ, address_of, all_below-at}
+use Rattle.mk_laws.proofs.Vocabulary.{allocation_at, and_parts, ap, arith, base_made, cell_of_allocation, cells_begin}
+use Rattle.mk_laws.proofs.Vocabulary.{eqb-true, false, false≢true, first_word, header_in, inl, inr, is_released_cell}
 use Rattle.mk_laws.proofs.Vocabulary.{is_run_unmapped, is_some_and, is_unmapped, is_unmapped_header, large_count}
-use Rattle.mk_laws.proofs.Vocabulary.{leb-true, length, ltb-true, nat_le, nat_lt, not, object_placed, or_cases}
-use Rattle.mk_laws.proofs.Vocabulary.{pages_made, phase_of, placed_at, pointed_cell, refl, slice_index, stands}
-use Rattle.mk_laws.proofs.Vocabulary.{storage_words, sym, true, true≢false, typed_size, unmapped_header}
-use Rattle.mk_laws.proofs.Vocabulary.{unmapped_is_unmapped, word_points, words_of, ◌&&◌, ◌*◌, ◌+◌, ◌-◌, ◌/◌, ◌<◌, ◌∙◌}
-use Rattle.mk_laws.proofs.Vocabulary.{◌≡◌, ◌≢◌, ◌≤◌}
+use Rattle.mk_laws.proofs.Vocabulary.{leb-true, length, ltb-true, nat_le, nat_lt, object_placed, or_cases, pages_made}
+use Rattle.mk_laws.proofs.Vocabulary.{phase_of, placed_at, pointed_cell, refl, slice_index, stands, storage_words, sym}
+use Rattle.mk_laws.proofs.Vocabulary.{true, true≢false, typed_size, unmapped_header, unmapped_is_unmapped, word_points}
+use Rattle.mk_laws.proofs.Vocabulary.{words_of, ◌*◌, ◌+◌, ◌-◌, ◌/◌, ◌<◌, ◌∙◌, ◌≡◌, ◌≢◌, ◌≤◌}
 use Rattle.mk_core.proofs.GrantedAllocations.{placed_headers, placed_stands}
 use Rattle.mk_core.specs.{Cells.is_in_run, TurnConditions.is_in_gone_run, TurnConditions.may_wipe}
-use Rattle.mk_laws.proofs.Basics.{KnownWorld, Stands, exists_placed, unmapped_is, words_fit}
-use Rattle.mk_laws.proofs.{ImagesBefore.first_in, ImagesStands.is_gone}
-use Rattle.mk_laws.specs.ImagePremises.{OfFreedRun, OfMapped, OfReleased}
+use Rattle.mk_laws.proofs.Basics.{KnownWorld, Stands, exists_placed, unmapped_is, words_fit, zero_unless}
 
 -- the cell of a place, by the allocation that is granted there
 pub record FillsCell (c : Config) (w : Words) (a : PlacedAllocation) : Type 0 where
@@ -42,27 +38,7 @@ module _ (c : Config) (w : World) (n : NeverState) (known : KnownWorld c w) (mir
       → phase_of w.now.words ≢ 4 → a.base ≡ base_made (object_placed c a) place
       → IsPlaceOfNone c w (object_placed c a) place → FillsCell c w.now.words a → (i : ℕ) → i < storage_words c a
       → slice_index w.now.words.heap (a.base + i) ≡ 0
-  place_is_zero a place no_run phase base h fills i lt = elim (cases_eq (slice_index w.now.words.heap (a.base + i)) 0) [
-    | inl z ↦ z
-    | inr ne ↦ absurd (by (others.zero_words (a.base + i) ne))
-  ]
-    where
-      by : MayHoldWords c w (a.base + i) → ⊥
-      by (OfMapped j m is) =
-          let x = placed_at w.allocations j in
-          let u = unreleased_of x.released (is_gone c x) m in
-          let low = is.0 in
-          let there : x.base + (a.base + i - x.base) ≡ a.base + i = omega arith in
-          let cells : Some (cell_of_allocation c x) ≡ Some (cell_of_allocation c a) =
-          sym (st.cell j (a.base + i - x.base) u (let high = is.1 in omega arith)) ∙ rw there (fills.cell i lt) in
-          h.alone j u (sym (st.first j u) ∙ ap (first_in w.now.words) cells ∙ fills.first ∙ base)
-        where
-          unreleased_of : (r g : Bool) → (not r && not g) ≡ true → r ≡ false
-          unreleased_of false g e = refl
-          unreleased_of true g e = cc
-      by (OfReleased cell p r) = phase (eqb-true (phase_of w.now.words) 4
-          (and_parts (is_phase w.now.words 4) (is_left_unmarked w.now.words cell) r).0)
-      by (OfFreedRun run e is) = no_run run e
+  place_is_zero a place no_run phase base h fills i lt = zero_unless _ (λ ne. by (others.zero_words (a.base + i) ne))
 
   -- a word that is wiped
   pub wiped_outside : (x : ℕ) → may_wipe c w.now x ≡ true → (a i : ℕ) → (placed_at w.allocations a).released ≡ false

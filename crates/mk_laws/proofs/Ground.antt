@@ -8,7 +8,8 @@ use Rattle.mk_laws.proofs.Vocabulary.{marks_place, no_longer_fresh, not, not-tru
 use Rattle.mk_laws.proofs.Vocabulary.{or_else, phase_of, place_now, refl, run_of_cell, slice_set, taken, takes_cell}
 use Rattle.mk_laws.proofs.Vocabulary.{target, true, unmaps, used_at, with_released, [], ◌%◌, ◌&&◌, ◌++◌, ◌/◌, ◌==◌, ◌^◌}
 use Rattle.mk_laws.proofs.Vocabulary.{◌||◌, ◌∷◌, ◌≡◌, ◌≢◌, ◌≤◌, ◌⊎◌}
-use Rattle.mk_core.proofs.RegisterAccesses.{LeavesTable, register_leaves, tally_leaves}
+use Rattle.mk_core.proofs.RegisterAccesses.{register_leaves, tally_leaves}
+pub use Rattle.mk_core.proofs.RegisterAccesses.{LeavesTable as KeepsGround}
 use Rattle.mk_core.specs.TurnConditions.{drops, may_give, may_head, may_quarantine, may_use, takes_snapshot}
 use Rattle.mk_laws.proofs.Actors.{Meets, grants_new}
 use Rattle.mk_laws.proofs.{Asked.give_phase, NextSteps.at_no_take, NextSteps.at_take, OthersMoves.WorldBehind}
@@ -105,7 +106,7 @@ pub data GroundStep (c : Config) (w : World) (f : Flight) : Ground → Type 0 wh
   Releases : phase_of w.now.words ≡ 3
       → GroundStep c w f (record (ground_of w) { allocations = map (with_released c w.now.words) w.allocations })
 
-rests : (c : Config) (w : World) (f : Flight) (x : Words) → LeavesTable w.now.words x
+rests : (c : Config) (w : World) (f : Flight) (x : Words) → KeepsGround w.now.words x
     → GroundStep c w f (record (ground_of w) { pages = x.pages; freed = x.freed; snapshot = x.snapshot })
 rests c w f x g = rw g.pages (rw g.freed (rw g.snapshot Rests))
 
