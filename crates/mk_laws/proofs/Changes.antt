@@ -4,9 +4,9 @@ use Rattle.mk_laws.proofs.Vocabulary.{IsMarking, List, Load, Moment, Named, Only
 use Rattle.mk_laws.proofs.Vocabulary.{Step, Store, Tally, Word, Words, ℕ, accessed, and_parts, ap, arith, at_rest}
 use Rattle.mk_laws.proofs.Vocabulary.{cases_eq, comes_next, false, flight_of, found, free_page, get_or-set_other}
 use Rattle.mk_laws.proofs.Vocabulary.{get_or-set_same, has_bit, header_at, inl, inr, length, ltb-true, nat_le, nat_lt}
-use Rattle.mk_laws.proofs.Vocabulary.{no_bit, page_met, progress, refl, set_by, slice_index, slice_set, stage_behind}
-use Rattle.mk_laws.proofs.Vocabulary.{steps_of, subst, sym, tally_word, true, true≢false, word_met, ◌*◌, ◌<◌, ◌∙◌, ◌≡◌}
-use Rattle.mk_laws.proofs.Vocabulary.{◌⊎◌}
+use Rattle.mk_laws.proofs.Vocabulary.{no_bit, page_met, progress, refl, set_by, slice_index, slice_index_or, slice_set}
+use Rattle.mk_laws.proofs.Vocabulary.{stage_behind, steps_of, subst, sym, tally_word, true, true≢false, word_met, ◌*◌}
+use Rattle.mk_laws.proofs.Vocabulary.{◌<◌, ◌∙◌, ◌≡◌, ◌⊎◌}
 use Rattle.mk_core.proofs.RegisterAccesses.{register_leaves, tally_leaves}
 use Rattle.mk_laws.proofs.Colours.{AddsMarks, ClearsMarks, Colours, ColourStep, MarksSeen, colour_step}
 use Rattle.mk_laws.proofs.Growth.{grows_more, grows_same}

@@ -39,6 +39,23 @@ module _ (c : Config) (w : World) (n : NeverState) (known : KnownWorld c w) (mir
       → IsPlaceOfNone c w (object_placed c a) place → FillsCell c w.now.words a → (i : ℕ) → i < storage_words c a
       → slice_index w.now.words.heap (a.base + i) ≡ 0
   place_is_zero a place no_run phase base h fills i lt = zero_unless _ (λ ne. by (others.zero_words (a.base + i) ne))
+    where
+      by : MayHoldWords c w (a.base + i) → ⊥
+      by (OfMapped j m is) =
+          let x = placed_at w.allocations j in
+          let u = unreleased_of x.released (is_gone c x) m in
+          let low = is.0 in
+          let there : x.base + (a.base + i - x.base) ≡ a.base + i = omega arith in
+          let cells : Some (cell_of_allocation c x) ≡ Some (cell_of_allocation c a) =
+          sym (st.cell j (a.base + i - x.base) u (let high = is.1 in omega arith)) ∙ rw there (fills.cell i lt) in
+          h.alone j u (sym (st.first j u) ∙ ap (first_in w.now.words) cells ∙ fills.first ∙ base)
+        where
+          unreleased_of : (r g : Bool) → (not r && not g) ≡ true → r ≡ false
+          unreleased_of false g e = refl
+          unreleased_of true g e = cc
+      by (OfReleased cell p r) = phase (eqb-true (phase_of w.now.words) 4
+          (and_parts (is_phase w.now.words 4) (is_left_unmarked w.now.words cell) r).0)
+      by (OfFreedRun run e is) = no_run run e
 
   -- a word that is wiped
   pub wiped_outside : (x : ℕ) → may_wipe c w.now x ≡ true → (a i : ℕ) → (placed_at w.allocations a).released ≡ false
