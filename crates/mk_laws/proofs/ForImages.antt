@@ -195,8 +195,12 @@ module _ (c : Config) (w : World) (known : KnownWorld c w) (laid : LayoutStands 
         pages = pages;
         stands = stand;
         alone = λ i u same. place_alone b place
-            (granted_type c w.now f new (seat_operands c w.now (Caller k) known.now)) refl (base ∙ rw (← e))
-            (rw e shown.known) (rw e pages) (rw e stand) is i u (same ∙ rw (← e));
+            (granted_type c w.now f new (seat_operands c w.now (Caller k) known.now)) refl (base
+            ∙ ap (λ (x : Object). base_made x place) (sym e))
+            (subst (λ (x : Object). place.index < cells_made x) (sym e) shown.known)
+            (subst (λ (x : Object). place.page + pages_made x ≤ c.pages) (sym e) pages)
+            (subst (λ (x : Object). place_stands w.now.words x place ≡ true) (sym e) stand) is i u (same
+            ∙ ap (λ (x : Object). base_made x place) (sym e));
       }
 
   pub say_to_images : IsQuarantined c w → HasZeros c w → HoldsRunGates c w

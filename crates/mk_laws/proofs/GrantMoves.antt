@@ -1,16 +1,20 @@
 -- The words of the place of a New are 0 when it is granted, and a wiped word is in no mapped allocation.
-use Rattle.mk_laws.proofs.Vocabulary.{Config, ImagePremises, IsPlaceOfNone, Mirrors, NeverState, None, Option, Place}
-use Rattle.mk_laws.proofs.Vocabulary.{PlacedAllocation, RunPages, Some, Words, World, ℕ, address_of, all_below-at}
-use Rattle.mk_laws.proofs.Vocabulary.{allocation_at, and_parts, ap, arith, base_made, cell_of_allocation, cells_begin}
-use Rattle.mk_laws.proofs.Vocabulary.{eqb-true, false, false≢true, first_word, header_in, inl, inr, is_released_cell}
+use Rattle.mk_laws.proofs.Vocabulary.{Bool, Config, ImagePremises, IsPlaceOfNone, MayHoldWords, Mirrors, NeverState}
+use Rattle.mk_laws.proofs.Vocabulary.{None, Option, Place, PlacedAllocation, RunPages, Some, Words, World, ℕ}
+use Rattle.mk_laws.proofs.Vocabulary.{address_of, all_below-at, allocation_at, and_parts, ap, arith, base_made}
+use Rattle.mk_laws.proofs.Vocabulary.{cell_of_allocation, cells_begin, eqb-true, false, false≢true, first_word}
+use Rattle.mk_laws.proofs.Vocabulary.{header_in, inl, inr, is_left_unmarked, is_phase, is_released_cell}
 use Rattle.mk_laws.proofs.Vocabulary.{is_run_unmapped, is_some_and, is_unmapped, is_unmapped_header, large_count}
-use Rattle.mk_laws.proofs.Vocabulary.{leb-true, length, ltb-true, nat_le, nat_lt, object_placed, or_cases, pages_made}
-use Rattle.mk_laws.proofs.Vocabulary.{phase_of, placed_at, pointed_cell, refl, slice_index, stands, storage_words, sym}
-use Rattle.mk_laws.proofs.Vocabulary.{true, true≢false, typed_size, unmapped_header, unmapped_is_unmapped, word_points}
-use Rattle.mk_laws.proofs.Vocabulary.{words_of, ◌*◌, ◌+◌, ◌-◌, ◌/◌, ◌<◌, ◌∙◌, ◌≡◌, ◌≢◌, ◌≤◌}
+use Rattle.mk_laws.proofs.Vocabulary.{leb-true, length, ltb-true, nat_le, nat_lt, not, object_placed, or_cases}
+use Rattle.mk_laws.proofs.Vocabulary.{pages_made, phase_of, placed_at, pointed_cell, refl, slice_index, stands}
+use Rattle.mk_laws.proofs.Vocabulary.{storage_words, sym, true, true≢false, typed_size, unmapped_header}
+use Rattle.mk_laws.proofs.Vocabulary.{unmapped_is_unmapped, word_points, words_of, ◌&&◌, ◌*◌, ◌+◌, ◌-◌, ◌/◌, ◌<◌, ◌∙◌}
+use Rattle.mk_laws.proofs.Vocabulary.{◌≡◌, ◌≢◌, ◌≤◌}
 use Rattle.mk_core.proofs.GrantedAllocations.{placed_headers, placed_stands}
 use Rattle.mk_core.specs.{Cells.is_in_run, TurnConditions.is_in_gone_run, TurnConditions.may_wipe}
 use Rattle.mk_laws.proofs.Basics.{KnownWorld, Stands, exists_placed, unmapped_is, words_fit, zero_unless}
+use Rattle.mk_laws.proofs.{ImagesBefore.first_in, ImagesStands.is_gone}
+use Rattle.mk_laws.specs.ImagePremises.{OfFreedRun, OfMapped, OfReleased}
 
 -- the cell of a place, by the allocation that is granted there
 pub record FillsCell (c : Config) (w : Words) (a : PlacedAllocation) : Type 0 where
