@@ -1,25 +1,31 @@
 -- What headers, snapshots, releases and free words tell on small schedules, read off from the theorems.
-use Rattle.mk_laws.proofs.Vocabulary.{At, Cell, IsHistory, IsTaken, Releasing, RunPages, Seat, Some, Step, World, ℕ}
-use Rattle.mk_laws.proofs.Vocabulary.{all_below, before_release, begun_in_stop, by, c0, calls_from, cell_of_allocation}
-use Rattle.mk_laws.proofs.Vocabulary.{drop, earlier_part_is_history, eqb-false, event_number, false, false≢true}
-use Rattle.mk_laws.proofs.Vocabulary.{header_in, is_begin, is_freed, is_quarantined, large_freed, large_is_history}
-use Rattle.mk_laws.proofs.Vocabulary.{leb-true, left, left_from, ltb-true, marked_in_stop, may_turn_black, one_page}
-use Rattle.mk_laws.proofs.Vocabulary.{placed_at, pointed_cell, refl, run_headed, slice_index, small, stands_in}
-use Rattle.mk_laws.proofs.Vocabulary.{stopped_cycle, stopped_is_history, suc, sym, take, three_objects, three_pages}
-use Rattle.mk_laws.proofs.Vocabulary.{true, words_are_zero, zero, ◌<◌, ◌≡◌, ◌≤◌}
+use Rattle.mk_laws.proofs.Vocabulary.{At, Bool, Cell, Event, HasAllocation, IsHistory, IsTaken, Releasing, RunPages}
+use Rattle.mk_laws.proofs.Vocabulary.{Seat, Some, Step, World, ℕ, all_below, arith, before_release, begun_in_stop, by}
+use Rattle.mk_laws.proofs.Vocabulary.{c0, calls_from, cell_of_allocation, drop, earlier_part_is_history, eqb-false}
+use Rattle.mk_laws.proofs.Vocabulary.{event_number, false, false≢true, header_in, is_begin, is_freed, is_quarantined}
+use Rattle.mk_laws.proofs.Vocabulary.{large_freed, large_is_history, leb-true, left, left_from, list_any}
+use Rattle.mk_laws.proofs.Vocabulary.{list_any-append, ltb-true, marked_in_stop, may_turn_black, one_page, or_parts}
+use Rattle.mk_laws.proofs.Vocabulary.{placed_at, pointed_cell, refl, register_word, run_headed, slice_index, small}
+use Rattle.mk_laws.proofs.Vocabulary.{stands_in, stopped_cycle, stopped_is_history, suc, sym, take, three_objects}
+use Rattle.mk_laws.proofs.Vocabulary.{three_pages, true, words_are_zero, zero, ◌<◌, ◌≡◌, ◌≤◌}
 use Rattle.mk_never.specs.Reach.{by_register, by_word}
 use Rattle.mk_core.proofs.EvaluatedCycles.{cycle_of_blackened, first_cycle, in_first_snapshot, not_in_first_snapshot}
-use Rattle.mk_core.proofs.EvaluatedFreed.{third_cell, third_is_freed}
 use Rattle.mk_core.proofs.EvaluatedHistories.{blackened_is_history, freed_is_history, marking_is_history}
 use Rattle.mk_core.proofs.Schedules.{blackened_before_the_move, freed_after_begin, host, m0, pointer_page}
-use Rattle.mk_core.proofs.{EventsAt.at_number, MoreSchedules.granted_while_marking, MoreSchedules.two_pages}
+use Rattle.mk_core.proofs.{EvaluatedFreed.third_cell, EvaluatedFreed.third_is_freed, EventsAt.at_number}
+use Rattle.mk_core.proofs.{EventsAt.events_from, MoreSchedules.granted_while_marking, MoreSchedules.two_pages}
 use Rattle.mk_core.specs.{Cells.is_in_snapshot, Readings.SnapshotTells}
-use Rattle.mk_laws.proofs.{AppliedTheorems.large_front, AppliedTheorems.stopped_front, FreeWords.unmapped_words_are_zero}
+use Rattle.mk_laws.proofs.AppliedTheorems.{large_front, stopped_front, unmapped_is_settled}
 use Rattle.mk_laws.proofs.Releases.{no_others_release, releases_are_exact, releases_none_reached}
-use Rattle.mk_laws.proofs.{ReadingsStands.headers_and_quarantine_tell, ReleasedCycles.releases_are_of_cycles}
-use Rattle.mk_laws.specs.{FreeWords.IsOfNoneMapped, Releases.allocation_behind}
+use Rattle.mk_laws.proofs.{FreeWords.unmapped_words_are_zero, ReadingsStands.headers_and_quarantine_tell}
+use Rattle.mk_laws.proofs.{ReleasedCycles.releases_are_of_cycles, Settled.unmapped_run}
+use Rattle.mk_laws.specs.UnmappedRuns.{IsOfUnmappedRun, is_resident_in}
+use Rattle.mk_laws.specs.{FreeWords.IsOfNoneMapped, Releases.allocation_behind, UnsetWords.IsNeverSet}
 use Rattle.mk_laws.proofs.FreeCells as cells
 use Rattle.mk_laws.proofs.Snapshots as snapshots
+use Rattle.mk_laws.proofs.FreePages as pages
+use Rattle.mk_laws.proofs.UnmappedRuns as runs
+use Rattle.mk_laws.proofs.UnsetWords as words
 
 -- what the lists leave that several theorems are applied to
 
@@ -164,3 +170,53 @@ unfolding by c0 all_below pointed_cell three_pages large_freed left_from
 wiped_is_zero =
     unmapped_words_are_zero three_pages (take 20 large_freed) (large_front 20) (λ e. eqb-false 0 4 refl e) refl 64
     (none_is_mapped 64)
+
+-- What is promised of pages, and of words that nobody has, on the schedule of a large object, read off from the
+-- theorems.
+
+-- The object's second page is marked dirty: the object stands there.
+
+pub object_is_there : HasAllocation three_pages (left three_pages (take 12 large_freed)) 1
+unfolding by c0 all_below pointed_cell three_pages large_freed left_from
+object_is_there = pages.dirty_pages_have_allocations three_pages (take 12 large_freed) (large_front 12) 1
+    (λ z. let no : ◌≡◌ {A = ℕ} 1 0 = z in absurd (omega arith))
+
+-- Both pages are given back in the cycle: the dirty word of the second is 0 then, as its header is.
+
+pub page_is_clean : slice_index (left three_pages (take 46 large_freed)).now.words.dirty 1 ≡ 0
+unfolding by c0 all_below pointed_cell may_turn_black three_pages large_freed left_from
+page_is_clean = (pages.free_pages_have_nothing three_pages (take 46 large_freed) (large_front 46) 1 refl).dirty
+
+-- A third caller isn't there, and no global is stored to.
+
+pub third_has_no_register : register_word (left three_pages large_freed).now.words 2 0 ≡ 0
+unfolding three_pages
+third_has_no_register =
+    words.registers_of_no_caller_are_zero three_pages large_freed large_is_history 2 0 (leb-true 2 2 refl)
+
+is_setg : Step → Bool
+is_setg Step.Setg = true
+is_setg _ = false
+
+none_is_set : list_any (λ (e : Event). is_setg e.step) large_freed ≡ false
+unfolding by c0 large_freed is_setg
+none_is_set = refl
+
+never_set : (g : ℕ) → IsNeverSet three_pages large_freed g
+unfolding is_setg
+never_set g front rest seat is set = grind (arith, list_any-append, is_setg, or_parts, none_is_set)
+
+pub global_is_zero : slice_index (left three_pages large_freed).now.words.globals 5 ≡ 0
+global_is_zero = words.unset_globals_are_zero three_pages large_freed large_is_history 5 (never_set 5)
+
+-- The object's second page takes no memory from the event that unmaps it on, up to the next New, which takes it again.
+
+second_is_unmapped : IsOfUnmappedRun three_pages (left three_pages (take 19 large_freed)) 1
+unfolding by c0 all_below pointed_cell may_turn_black three_pages large_freed left_from
+second_is_unmapped = grind (arith, leb-true, ltb-true, unmapped_run, three_pages, large_freed, unmapped_is_settled)
+
+pub second_takes_no_memory : is_resident_in (left three_pages (take 50 large_freed)) 1 ≡ false
+unfolding by c0 large_freed events_from
+second_takes_no_memory =
+    runs.unmapped_runs_take_no_memory three_pages (take 50 large_freed) (large_front 50) (take 19 large_freed)
+    (events_from 19 31 large_freed) 1 refl second_is_unmapped refl

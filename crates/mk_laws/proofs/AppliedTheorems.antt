@@ -2,16 +2,16 @@
 use Rattle.std.proofs.Common.{replicate, take-append-drop}
 use Rattle.mk_laws.proofs.Vocabulary.{Answer, Config, DirtyIsOwed, Event, IsGuarded, IsHeaderWord, IsHistory, IsSettled}
 use Rattle.mk_laws.proofs.Vocabulary.{IsWordOf, KeepsTheInvariant, List, NeverState, None, Null, OwesDirty, PageIsDirty}
-use Rattle.mk_laws.proofs.Vocabulary.{PointsWell, Some, Value, WordOf, World, ℕ, all_below, answers_of, append_assoc}
-use Rattle.mk_laws.proofs.Vocabulary.{arith, asked, bases_of, begun_in_stop, by, c0, calls, calls_from}
-use Rattle.mk_laws.proofs.Vocabulary.{cell_of_allocation, drop, earlier_part_is_history, eqb-false, event_number, false}
-use Rattle.mk_laws.proofs.Vocabulary.{false≢true, free_page, has_bit_of, header_at, inl, is_begin, is_run_gone}
-use Rattle.mk_laws.proofs.Vocabulary.{large_freed, large_is_history, leb-true, left, left_from, ltb-true}
-use Rattle.mk_laws.proofs.Vocabulary.{marked_in_stop, may_turn_black, never_behind, one_page, placed_at, pointed_cell}
-use Rattle.mk_laws.proofs.Vocabulary.{points_well, refl, register_at, replies_of, resident_pages, slice_index, small}
-use Rattle.mk_laws.proofs.Vocabulary.{stopped_cycle, stopped_is_history, storage_of, subst, sym, take, three_objects}
-use Rattle.mk_laws.proofs.Vocabulary.{three_pages, true, unreleased_storage, uses_of_pages, word_at, word_points_well}
-use Rattle.mk_laws.proofs.Vocabulary.{[], ◌++◌, ◌∙◌, ◌∷◌, ◌≡◌, ◌≤◌}
+use Rattle.mk_laws.proofs.Vocabulary.{Place, PointsWell, Some, TurnOf, Value, WordOf, World, ℕ, all_below, answers_of}
+use Rattle.mk_laws.proofs.Vocabulary.{append_assoc, arith, asked, base_made, bases_of, begun_in_stop, by, c0, calls}
+use Rattle.mk_laws.proofs.Vocabulary.{calls_from, cell_of_allocation, drop, earlier_part_is_history, eqb-false}
+use Rattle.mk_laws.proofs.Vocabulary.{event_number, false, false≢true, free_page, fresh_words_of, has_bit_of, header_at}
+use Rattle.mk_laws.proofs.Vocabulary.{in_a_word, inl, is_begin, is_run_gone, large_freed, large_is_history, leb-true}
+use Rattle.mk_laws.proofs.Vocabulary.{left, left_from, ltb-true, marked_in_stop, may_turn_black, never_behind, one_page}
+use Rattle.mk_laws.proofs.Vocabulary.{placed_at, pointed_cell, points_well, refl, register_at, replies_of}
+use Rattle.mk_laws.proofs.Vocabulary.{resident_pages, slice_index, small, stopped_cycle, stopped_is_history, storage_of}
+use Rattle.mk_laws.proofs.Vocabulary.{subst, sym, take, three_objects, three_pages, true, unreleased_storage}
+use Rattle.mk_laws.proofs.Vocabulary.{uses_of_pages, word_at, word_points_well, [], ◌++◌, ◌∙◌, ◌∷◌, ◌≡◌, ◌≤◌}
 use Rattle.mk_geom.specs.Storages.{words_of_storages}
 use Rattle.mk_never.specs.declared.values.Target.{Target}
 use Rattle.mk_core.proofs.EvaluatedGuards.{page_is_clean, written_points_badly}
@@ -22,8 +22,12 @@ use Rattle.mk_core.proofs.Schedules.{answers_freed, freed_after_begin, host, poi
 use Rattle.mk_core.proofs.SmallCycles.{marked_beside, page_dirtied, scanned_again, second_cleared, third_released}
 use Rattle.mk_core.proofs.SmallCycles.{written_beside}
 use Rattle.mk_core.proofs.{EventsAt.at_number, SmallHistories.beside_is_history}
-use Rattle.mk_core.specs.{Allocations.place_among_allocations, Cells.is_used, History.never_first}
+use Rattle.mk_core.specs.Allocations.{FitsAmongAllocations, held_by_allocations, place_among_allocations}
+use Rattle.mk_core.specs.Placement.{FindsNoPlace, StandsAtItsPlace, before_served, object_at, place_after}
+use Rattle.mk_core.specs.{Cells.is_used, Counts.TalliesAreExact, Cycles.BeginsAndEndsIn, History.never_first}
 use Rattle.mk_laws.proofs.InvariantHistories.{events_keep_the_invariant, histories_keep_the_invariant}
+use Rattle.mk_laws.proofs.Promises.{histories_keep_all_promises}
+use Rattle.mk_laws.specs.Promises.{KeepsAllPromises}
 use Rattle.mk_laws.proofs.Quarantines as quarantines
 use Rattle.mk_laws.proofs.InvariantTheorems as theorems
 
@@ -207,3 +211,60 @@ pub second_outside_snapshot : has_bit_of one_page marking.now.words.snapshot (pl
 unfolding by c0 host all_below pointed_cell one_page freed_after_begin left_from event_number at_number
 second_outside_snapshot = quarantines.snapshot_is_the_cycles one_page (take 31 freed_after_begin) begun_since
     (at_number is_begin 15 (take 31 freed_after_begin) refl refl) refl refl 1 refl
+
+-- The promises on placement and tallies, applied to a small schedule: what each says there, read off.
+
+kept : KeepsAllPromises one_page full_then_reused
+kept = histories_keep_all_promises one_page full_then_reused full_is_history
+
+-- The second object is granted at word 32: this is where first fit had its place before the first step that served it.
+
+second_grant : StandsAtItsPlace one_page (take 8 full_then_reused) c0
+unfolding by c0 event_number one_page full_then_reused
+second_grant = kept.placed (take 8 full_then_reused) (event_number 8 full_then_reused) (drop 9 full_then_reused) refl
+    refl
+
+pub record HadItsPlaceAt (base : ℕ) : Type 0 where
+  pub front : List Event
+  pub place : Place
+  pub fits : place_after one_page front (object_at one_page (take 8 full_then_reused) c0) ≡ Some place
+  pub is : base_made (object_at one_page (take 8 full_then_reused) c0) place ≡ base
+
+pub second_had_its_place : HadItsPlaceAt 32
+unfolding by c0 all_below pointed_cell may_turn_black one_page full_then_reused left_from
+second_had_its_place = record {
+  front = before_served second_grant.turn second_grant.first;
+  place = second_grant.place;
+  fits = second_grant.fits;
+  is = sym second_grant.base;
+}
+
+-- The third New is full: a cycle was begun and ended in its turn, and no place is left.
+
+third_full : FindsNoPlace one_page (take 31 full_then_reused) c0
+unfolding by c0 event_number one_page full_then_reused
+third_full = kept.full (take 31 full_then_reused) (event_number 31 full_then_reused) (drop 32 full_then_reused) refl
+    refl
+
+pub third_had_a_cycle : (t : TurnOf one_page c0 (take 31 full_then_reused)) × BeginsAndEndsIn t
+third_had_a_cycle = (third_full.turn, third_full.cycle)
+
+pub third_fits_nowhere : FitsAmongAllocations one_page 32 true (left one_page (take 31 full_then_reused)).allocations
+    → ⊥
+unfolding by c0 all_below pointed_cell may_turn_black one_page full_then_reused left_from
+third_fits_nowhere = third_full.no_fit
+
+-- After that cycle two objects are held and none is fresh, as the tallies have it at the `give`.
+
+third_give : TalliesAreExact one_page (take 33 full_then_reused)
+unfolding by c0 event_number one_page full_then_reused
+third_give = kept.tallies (take 33 full_then_reused) (event_number 33 full_then_reused) (drop 34 full_then_reused) refl
+    refl
+
+pub two_are_held : held_by_allocations one_page (left one_page (take 33 full_then_reused)).allocations ≡ 64
+unfolding by c0 all_below pointed_cell may_turn_black one_page full_then_reused left_from
+two_are_held = sym third_give.held
+
+pub none_is_fresh : in_a_word (fresh_words_of one_page (left one_page (take 33 full_then_reused)).allocations) ≡ 0
+unfolding by c0 all_below pointed_cell may_turn_black one_page full_then_reused left_from
+none_is_fresh = sym third_give.fresh

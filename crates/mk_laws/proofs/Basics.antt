@@ -7,7 +7,7 @@ pub use Rattle.mk_laws.proofs.Changes.{Table, headers_kind, is_head, reg_table, 
 pub use Rattle.mk_laws.proofs.Claims.{LeavesCells, claim_among, same_cell}
 pub use Rattle.mk_laws.proofs.Freed.{freeing_leaves, gone_terrain}
 pub use Rattle.mk_core.proofs.RegisterAccesses.{tally_leaves as tally_ground}
-pub use Rattle.mk_laws.proofs.Grown.{along_others}
+pub use Rattle.mk_laws.proofs.Induction.{along_others}
 pub use Rattle.mk_laws.proofs.ImagesBefore.{ready_of, unmapped_is, words_fit}
 pub use Rattle.mk_laws.proofs.HeapEdits.{base_at, exists_placed}
 pub use Rattle.mk_laws.proofs.ImagesMoves.{Frees, Grants, Move, Releases, Renews, Writes}

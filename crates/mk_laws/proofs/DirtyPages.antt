@@ -13,9 +13,9 @@ use Rattle.mk_laws.proofs.Basics.{at_its_stage, holds_of_histories, known_world,
 use Rattle.mk_laws.proofs.Basics.{tally_table, view_of, zero_unless}
 use Rattle.mk_laws.proofs.CyclePhases.{phase_asked, phase_behind, phase_moves}
 use Rattle.mk_laws.proofs.InvariantHistories.{comes_last, histories_keep_the_invariant}
-use Rattle.mk_laws.proofs.InvariantJoined.{told_to_zeros}
 use Rattle.mk_laws.proofs.Known.{Begins, CallStep, Comes, Ends, GoesOn, Refused, Stays, Stores, call_step}
-use Rattle.mk_laws.proofs.{Changes.is_dirty, Closing.owes_in_call, Protocols.protocol_of, ReadingsKeptPlaces.put_step}
+use Rattle.mk_laws.proofs.{Changes.is_dirty, GuardStopped.owes_in_call, InvariantJoined.told_to_zeros}
+use Rattle.mk_laws.proofs.{Protocols.protocol_of, ReadingsKeptPlaces.put_step}
 use Rattle.mk_laws.specs.FreePages.{DirtyPagesHaveAllocations}
 
 -- Which steps bring a call to where it owes a dirty mark: a store and an exchange.

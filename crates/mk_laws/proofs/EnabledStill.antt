@@ -19,10 +19,10 @@ use Rattle.mk_core.{proofs.PointedPages.found_under, specs.Order.is_in_order, sp
 use Rattle.mk_laws.proofs.Basics.{Behind, KnownWorld, Meets, actor_of, along_others, mapped_stays, reg_keeps}
 use Rattle.mk_laws.proofs.Basics.{tally_keeps}
 use Rattle.mk_laws.proofs.FramesHolders.{Asks, OfHolder, OfNone, asks, holds_is}
-use Rattle.mk_laws.proofs.GatesStill.{gates_on, pages_same, phase_same}
-use Rattle.mk_laws.proofs.ProtocolFrames.{other_seat, others_leave}
-use Rattle.mk_laws.proofs.{ForImages.laid_out, HolderStill.holder_on, InvariantJoined.told_to_images}
-use Rattle.mk_laws.proofs.{LastEvents.comes_last, LastEvents.stands, RunsStill.holder_finds, Tests.all_below_on}
+use Rattle.mk_laws.proofs.HolderStill.{gates_on, holder_on, pages_same, phase_same}
+use Rattle.mk_laws.proofs.LastEvents.{comes_last, stands}
+use Rattle.mk_laws.proofs.{ForImages.laid_out, InvariantJoined.told_to_images, ProtocolFrames.other_seat}
+use Rattle.mk_laws.proofs.{ProtocolFrames.others_leave, RunsStill.holder_finds, Tests.all_below_on}
 use Rattle.mk_laws.specs.WholeRuns.{RunsAreWhole}
 
 -- The words of released cells are in no mapped allocation: what is wiped stays so.

@@ -12,7 +12,7 @@ use Rattle.mk_geom.specs.StorageWords.{cell_of_storage}
 use Rattle.mk_core.proofs.{PointedAllocations.marked_where_its_cell_is, StandingAllocations.cell_is_known}
 use Rattle.mk_core.specs.ClosedMarks.{is_marked_allocation}
 use Rattle.mk_laws.proofs.Basics.{Known, known_at_first, known_behind, known_left}
-use Rattle.mk_laws.proofs.{Closing.closed, GuardOneEvent.marks_behind}
+use Rattle.mk_laws.proofs.{GuardOneEvent.marks_behind, GuardStopped.closed}
 use Rattle.mk_laws.specs.Kept.{CloseFindsMarksClosed, EventsKeepTheMarks, GuardPremisesAtFirst, MarkingGuards}
 use Rattle.mk_laws.specs.Kept.{MarksStandBehindLists, StandsMapped, StoppedMarksAreClosed}
 use Rattle.mk_laws.specs.Guard.{MarksStand}

@@ -1,26 +1,111 @@
 -- One event, whatever it is: what stands while a cycle marks and stops, stands after it.
-use Rattle.mk_laws.proofs.Vocabulary.{AreOfPages, BlackIsGuarded, Bool, Caller, Config, DirtyIsOwed, GuardPremises}
-use Rattle.mk_laws.proofs.Vocabulary.{Host, IsGuarded, IsMarking, IsWithinLimits, Marker, MarkerStands, MarkerState}
-use Rattle.mk_laws.proofs.Vocabulary.{Moment, None, Option, PageIsDirty, PointsWell, Scan, Seat, Some, Step, Words}
-use Rattle.mk_laws.proofs.Vocabulary.{World, ℕ, all_below, all_below-at, and_parts, arith, bit_or, cases_eq, cases_lt}
-use Rattle.mk_laws.proofs.Vocabulary.{cell_words, cells_under, eq-eqb, eqb-true, false, first_word, get_or-set_other}
+use Rattle.mk_laws.proofs.Vocabulary.{AreOfPages, BlackIsGuarded, Bool, Caller, Cell, Config, DirtyIsOwed}
+use Rattle.mk_laws.proofs.Vocabulary.{GuardPremises, Host, IsGuarded, IsMarking, IsWithinLimits, Marker, MarkerStands}
+use Rattle.mk_laws.proofs.Vocabulary.{MarkerState, Moment, None, Option, PageIsDirty, PointsWell, Scan, Seat}
+use Rattle.mk_laws.proofs.Vocabulary.{SeenHeader, Some, Step, Word, Words, World, ℕ, all_below, all_below-at, and_parts}
+use Rattle.mk_laws.proofs.Vocabulary.{arith, behind_mlook, bit_or, cases_eq, cases_lt, cell_at, cell_seen, cell_words}
+use Rattle.mk_laws.proofs.Vocabulary.{cells_under, eq-eqb, eqb-true, false, first_word, found, get_or-set_other}
 use Rattle.mk_laws.proofs.Vocabulary.{get_or_past, has_bit, has_clean_page, has_no_pointers, head_page, header_at}
-use Rattle.mk_laws.proofs.Vocabulary.{header_in, inl, inr, is_attending, is_none, is_phase, is_scanned, marker_of}
-use Rattle.mk_laws.proofs.Vocabulary.{may_turn_black, no_bit, none_attends, not, not-true, or_cases, phase_of, refl}
-use Rattle.mk_laws.proofs.Vocabulary.{scan_page, slice_index, slice_set, subst, suc, sym, true, true≢false}
-use Rattle.mk_laws.proofs.Vocabulary.{word_points_well, words_under, zero, ◌&&◌, ◌*◌, ◌+◌, ◌/◌, ◌<◌, ◌==◌, ◌^◌, ◌||◌}
-use Rattle.mk_laws.proofs.Vocabulary.{◌∙◌, ◌≡◌, ◌≢◌, ◌≤◌, ◌⊎◌}
-use Rattle.mk_core.proofs.WordBits.{bit_of_cell, bit_of_power, more_bits}
-use Rattle.mk_core.specs.{Accesses.scan_bit, Cells.words_point_well, StopConditions.blackens}
+use Rattle.mk_laws.proofs.Vocabulary.{header_in, if◌then◌else◌, inl, inr, is_attending, is_none, is_phase, is_scanned}
+use Rattle.mk_laws.proofs.Vocabulary.{is_some, marker_behind, marker_of, may_turn_black, no_bit, none_attends, not}
+use Rattle.mk_laws.proofs.Vocabulary.{not-true, or_cases, page_at_address, phase_of, refl, scan_page, slice_index}
+use Rattle.mk_laws.proofs.Vocabulary.{slice_set, subst, suc, sym, true, true≢false, word_points_well, words_under, zero}
+use Rattle.mk_laws.proofs.Vocabulary.{◌&&◌, ◌*◌, ◌+◌, ◌/◌, ◌<◌, ◌==◌, ◌^◌, ◌||◌, ◌∙◌, ◌≡◌, ◌≢◌, ◌≤◌, ◌⊎◌}
+use Rattle.mk_core.proofs.WordBits.{bit_for_has, bit_of_cell, bit_of_power, bits_added, more_bits}
+use Rattle.mk_core.proofs.PointedPages.{cell_within}
+use Rattle.mk_core.specs.{Accesses.scan_bit, Cells.words_point_well, MarkerConditions.is_markers_word}
+use Rattle.mk_core.specs.{StopConditions.blackens, declared.seats.Presence.TheVariants.Out}
+use Rattle.mk_laws.proofs.Basics.{Behind, Keeps, Known, Meets, either_phase, headers_kind, is_head, marker_set}
+use Rattle.mk_laws.proofs.Basics.{over_phase, wells_from}
 use Rattle.mk_laws.proofs.Changes.{blacks_kind, dirty_kind, heap_kind, is_blackening, is_undirty, marks_kind, owed_kind}
-use Rattle.mk_laws.proofs.KeptGuard.{NewCellsAreGuarded, black_kept, goes_equal}
-use Rattle.mk_laws.proofs.{Asked.none_at, Basics.Behind, Basics.Keeps, Basics.Known, Basics.Meets, Basics.either_phase}
-use Rattle.mk_laws.proofs.{Basics.headers_kind, Basics.is_head, Basics.over_phase, Basics.wells_from, Closing.closed}
-use Rattle.mk_laws.proofs.{CoveredWords.covered_word, FoundHeaders.head_finds, GuardMarkers.markers_stand}
-use Rattle.mk_laws.proofs.{GuardMarkers.nothing_is, GuardStopped.leaves_closed, GuardStopped.stays_closed}
-use Rattle.mk_laws.proofs.{Headers.HeadKeeps, Headers.head_keeps, Headers.no_new_cells, IdleMarkers.work_attends}
-use Rattle.mk_laws.proofs.{Phases.is_phase_step, Phases.phase_stays, Scans.scanned_guarded, Wells.bare_guarded}
+use Rattle.mk_laws.proofs.GuardStopped.{closed, leaves_closed, stays_closed}
+use Rattle.mk_laws.proofs.Headers.{HeadKeeps, head_keeps, no_new_cells}
+use Rattle.mk_laws.proofs.KeptGuard.{NewCellsAreGuarded, black_kept, goes_equal, marker_kept}
+use Rattle.mk_laws.proofs.Scans.{claim_stands, idle_stands, load_stands, look_stands, mark_stands, scanned_guarded}
+use Rattle.mk_laws.proofs.Scans.{seen_well, unscanning_stands, unseen_stands}
+use Rattle.mk_laws.proofs.{Asked.none_at, CoveredWords.covered_word, FoundHeaders.head_finds, IdleMarkers.work_attends}
+use Rattle.mk_laws.proofs.{Phases.is_phase_step, Phases.phase_stays, Wells.bare_guarded}
 use Rattle.mk_laws.specs.Guard.{Guard, MarksStand}
+
+-- What the markers are in the middle of stands after an event that keeps what is guarded.
+
+pub nothing_is : {A : Type 0} (x : Option A) → is_none x ≡ true → x ≡ None
+nothing_is None h = refl
+nothing_is (Some y) h = cc
+
+-- the cell that an `mmark` marks, and the value of the hand
+record Seen (c : Config) (x : MarkerState) : Type 0 where
+  value : ℕ
+  cell : Cell
+  hand : x.hand ≡ Some value
+  is : cell_seen c x.seen x.hand ≡ Some cell
+  page : cell.page < c.pages
+  index : cell.index < 64
+
+seen_cell : (c : Config) (x : MarkerState) → is_some (cell_seen c x.seen x.hand) ≡ true → Seen c x
+seen_cell c x own = by x.seen x.hand refl refl own
+  where
+    by : (seen : Option SeenHeader) (hand : Option ℕ) → x.seen ≡ seen → x.hand ≡ hand
+        → is_some (cell_seen c seen hand) ≡ true → Seen c x
+    by (Some q) (Some value) es eh own = at (q.page == page_at_address value) refl _ refl own
+      where
+        at : (b : Bool) → (q.page == page_at_address value) ≡ b → (y : Option Cell) → cell_at c.pages q.header value ≡ y
+            → is_some (if b then y else None) ≡ true → Seen c x
+        at false e y is own = cc
+        at true e None is own = cc
+        at true e (Some y) is own =
+            let n = cell_within c.pages q.header value y is in
+            let there : cell_seen c (Some q) (Some value) ≡ Some y = rw (e, is) in
+            record { value = value; cell = y; hand = eh; is = rw es (rw eh there); page = n.0; index = n.1 }
+    by _ _ es eh own = cc
+
+looks : (c : Config) (m : Moment) (x : Word) (y : MarkerState) (f : ℕ)
+    → ((p : ℕ) → x ≡ Word.Head p → f ≡ header_at m.words p) → MarkerStands c m y
+    → MarkerStands c m (behind_mlook c f x y)
+looks c m (Word.Head p) y f is h = rw (is p refl) (look_stands c m p y h)
+looks c m _ y f is h = unseen_stands c m y h
+
+-- a marker's own step
+own_marker : (c : Config) (m : Moment) (k : ℕ) (x : Step) → AreOfPages c.pages m.words → Meets c m (Marker k) x
+    → Keeps c m (Behind c m (Marker k) x)
+    → (is_attending (marker_of m k).presence ≡ true → MarkerStands c m (marker_of m k))
+    → is_attending (marker_behind c (found c m (record { seat = Marker k; step = x })) x (marker_of m k)).presence
+    ≡ true → MarkerStands c (Behind c m (Marker k) x)
+    (marker_behind c (found c m (record { seat = Marker k; step = x })) x (marker_of m k))
+own_marker c m k Step.Attend len h keeps before at = idle_stands c _ _
+own_marker c m k Step.Quit len h keeps before at = idle_stands c _ Out
+own_marker c m k (Step.Mlook x) len h keeps before at =
+    marker_kept c m _ _ keeps (looks c m x (marker_of m k) (found c m (record { seat = Marker k; step = Step.Mlook x }))
+    (λ p e. rw e) (before ((and_parts _ (is_markers_word x) h.marker).0)))
+own_marker c m k (Step.Claim p i) len h keeps before at =
+    marker_kept c m _ _ keeps (claim_stands c m (marker_of m k) p i (and_parts _ _ h.marker).1 (before at))
+own_marker c m k Step.Mload len h keeps before at =
+    marker_kept c m _ _ keeps (load_stands c m (marker_of m k) _ (and_parts _ _ h.marker).0
+    (nothing_is (marker_of m k).hand (and_parts _ _ h.marker).1) (λ y e. sym (rw e)) (before at))
+own_marker c m k Step.Mmark len h keeps before at =
+    let s = seen_cell c (marker_of m k) h.marker in
+    let n = Behind c m (Marker k) Step.Mmark in
+    let there : MarkerStands c n (marker_of m k) = marker_kept c m n (marker_of m k) keeps (before at) in
+    mark_stands c n (marker_of m k) s.value s.hand (seen_well c n (marker_of m k) s.cell s.value s.hand s.is there
+    (rw s.is (bits_added m.words.marks s.cell.page _ s.cell.index
+    (let lt = s.page in omega (arith, len.marks, lt)) (bit_for_has s.cell.index s.index)))) there
+own_marker c m k Step.Mblack len h keeps before at =
+    marker_kept c m _ _ keeps (unscanning_stands c m (marker_of m k) (before at))
+own_marker c m k _ len h keeps before at = let kind = h.kind in cc
+
+-- all markers
+pub markers_stand : (c : Config) (m : Moment) (seat : Seat) (x : Step) → AreOfPages c.pages m.words → Meets c m seat x
+    → Keeps c m (Behind c m seat x)
+    → ((k : ℕ) → is_attending (marker_of m k).presence ≡ true → MarkerStands c m (marker_of m k))
+    → (k : ℕ) → is_attending (marker_of (Behind c m seat x) k).presence ≡ true
+    → MarkerStands c (Behind c m seat x) (marker_of (Behind c m seat x) k)
+markers_stand c m (Caller k) x len h keeps before j at = marker_kept c m (Behind c m (Caller k) x) _ keeps (before j at)
+markers_stand c m Host x len h keeps before j at = marker_kept c m (Behind c m Host x) _ keeps (before j at)
+markers_stand c m (Marker k) x len h keeps before j at = marker_set m.seats.markers k j
+    (marker_behind c (found c m (record { seat = Marker k; step = x })) x (marker_of m k))
+    (λ (y : MarkerState). is_attending y.presence ≡ true → MarkerStands c (Behind c m (Marker k) x) y)
+    (λ lt own. own_marker c m k x len h keeps (before k) own)
+    (λ other. marker_kept c m (Behind c m (Marker k) x) (marker_of m j) keeps (before j other)) at
 
 -- The words of black cells stay guarded: cells that turn black, and pages that are made clean.
 

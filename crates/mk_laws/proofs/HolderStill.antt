@@ -1,20 +1,69 @@
 -- What a step of the turn's holder asks of the words still holds, whatever others did since.
 use Rattle.std.proofs.Common.{bit_and}
 use Rattle.mk_laws.proofs.Vocabulary.{Bool, Cell, Config, Flight, Holding, Object, Place, Seat, Steady, Step}
-use Rattle.mk_laws.proofs.Vocabulary.{TurnIsLeft, Words, World, Written, ℕ, all_below, and_parts, ap, arith, carves}
-use Rattle.mk_laws.proofs.Vocabulary.{empties, eqb-true, frees, gives_back, has_closed_page, has_gates, has_phase}
-use Rattle.mk_laws.proofs.Vocabulary.{header_made, held_by_pages, holder_may, if◌then◌else◌, is_decided}
-use Rattle.mk_laws.proofs.Vocabulary.{is_marked_first, is_next_header, is_phase, is_released_cell, is_run_gone}
-use Rattle.mk_laws.proofs.Vocabulary.{is_used_once, may_answer_full, may_end, may_turn_black, none_attends, not}
-use Rattle.mk_laws.proofs.Vocabulary.{object_made, or_left, or_right, others_are_held, pages_made, phase_of, place_now}
-use Rattle.mk_laws.proofs.Vocabulary.{refl, sym, takes_cell, target, true, unmaps, used_at, ◌&&◌, ◌+◌, ◌-◌, ◌==◌, ◌||◌}
-use Rattle.mk_laws.proofs.Vocabulary.{◌∙◌, ◌≡◌, ◌≢◌}
+use Rattle.mk_laws.proofs.Vocabulary.{TurnIsLeft, Word, Words, World, Written, ℕ, all_below, and_parts, ap, arith}
+use Rattle.mk_laws.proofs.Vocabulary.{carves, empties, eq-eqb, eqb-false, eqb-true, frees, gives_back, has_closed_page}
+use Rattle.mk_laws.proofs.Vocabulary.{has_gates, has_phase, header_made, held_by_pages, holder_may, if◌then◌else◌}
+use Rattle.mk_laws.proofs.Vocabulary.{is_decided, is_held, is_marked_first, is_next_header, is_number_of, is_phase}
+use Rattle.mk_laws.proofs.Vocabulary.{is_released_cell, is_run_cell, is_run_gone, is_used_once, may_answer_full}
+use Rattle.mk_laws.proofs.Vocabulary.{may_end, may_turn_black, ne_eqb, none_attends, not, not-true, object_made}
+use Rattle.mk_laws.proofs.Vocabulary.{or_left, or_right, others_are_held, pages_made, phase_of, place_now, refl, sym}
+use Rattle.mk_laws.proofs.Vocabulary.{takes_cell, target, true, unmaps, used_at, ◌&&◌, ◌+◌, ◌-◌, ◌==◌, ◌||◌, ◌∙◌, ◌≡◌}
+use Rattle.mk_laws.proofs.Vocabulary.{◌≢◌}
+use Rattle.mk_core.specs.Cells.{are_left_unmarked}
 use Rattle.mk_core.specs.StopConditions.{blackens, may_begin, may_black, may_close, may_mark, may_unblack, may_undirty}
 use Rattle.mk_core.specs.TurnConditions.{are_wiped, drops, is_in_gone_run, may_give, may_head, may_quarantine, may_use}
 use Rattle.mk_core.specs.TurnConditions.{may_wipe, takes_snapshot}
-use Rattle.mk_core.specs.{Cells.are_left_unmarked, Frames.written_of, MarkerConditions.may_end_all, NewPlaces.bits_made}
-use Rattle.mk_laws.proofs.Tests.{and_on, if_on, none_from, or_on, some_on, without_on}
-use Rattle.mk_laws.proofs.{Asked.none_at, GatesStill.pages_same, GatesStill.phase_same}
+use Rattle.mk_core.specs.{Frames.written_of, MarkerConditions.may_end_all, Moments.none_is_held, NewPlaces.bits_made}
+use Rattle.mk_laws.proofs.Tests.{all_below_on, and_on, if_on, none_from, or_on, some_on, without_on}
+use Rattle.mk_laws.proofs.Asked.{none_at}
+
+-- The gates that a step of the turn's holder asks for are as it asks, whatever others did since.
+
+module _ (c : Config) (w v : World) (kept : TurnIsLeft w v) where
+  pub phase_same : phase_of v.now.words ≡ phase_of w.now.words
+  phase_same = ap (λ (s : Steady). s.phase) kept.steady
+
+  pub pages_same : v.now.words.pages ≡ w.now.words.pages
+  pages_same = ap (λ (s : Steady). s.pages) kept.steady
+
+  held_on : (j : ℕ) → is_held w.now.words j ≡ true → is_held v.now.words j ≡ true
+  held_on j h = eq-eqb _ 2 (kept.held_gates j (eqb-true _ 2 h))
+
+  free_on : (j : ℕ) → not (is_held w.now.words j) ≡ true → not (is_held v.now.words j) ≡ true
+  free_on j h = ap not (ne_eqb _ 2 (kept.other_gates j (eqb-false _ 2 (not-true _ h))))
+
+  pub others_on : (s : Seat) → others_are_held c.callers w.now.words s ≡ true
+      → others_are_held c.callers v.now.words s ≡ true
+  others_on s h = all_below_on c.callers (λ j. is_number_of s j || is_held w.now.words j)
+      (λ j. is_number_of s j || is_held v.now.words j) (λ j lt. or_on _ _ (is_number_of s j) _ (λ e. e) (held_on j)) h
+
+  all_free_on : none_is_held c.callers w.now.words ≡ true → none_is_held c.callers v.now.words ≡ true
+  all_free_on h = all_below_on _ (λ j. not (is_held w.now.words j)) (λ j. not (is_held v.now.words j)) (λ j lt. free_on j) h
+
+  run_cell_same : (f : Flight) → is_run_cell v.now.words (target c.pages v.now.words f) ≡ is_run_cell w.now.words
+      (target c.pages w.now.words f)
+  run_cell_same f = rw pages_same
+
+  two_or : (s : Seat) → (not (is_phase w.now.words 2) || others_are_held c.callers w.now.words s) ≡ true
+      → (not (is_phase v.now.words 2) || others_are_held c.callers v.now.words s) ≡ true
+  two_or s h = or_on _ _ _ _ (λ e. rw phase_same e) (others_on s) h
+
+  pub gates_on : (s : Seat) (f : Flight) (x : Step) → has_gates c w.now.words s f x ≡ true
+      → has_gates c v.now.words s f x ≡ true
+  gates_on s f Step.Give h = all_free_on h
+  gates_on s f (Step.Look (Word.Reg j r)) h = or_on _ _ (is_number_of s j) _ (λ e. e) (held_on j) h
+  gates_on s f (Step.Head p n) h = or_on _ _ _ _ (λ e. e) (others_on s) h
+  gates_on s f (Step.Quar p n) h = or_on _ _ _ _ (λ e. ap not (run_cell_same f) ∙ e) (others_on s) h
+  gates_on s f (Step.Hold j) h = free_on j h
+  gates_on s f (Step.Open j) h = held_on j h
+  gates_on s f Step.Close h = others_on s h
+  gates_on s f Step.Release h = others_on s h
+  gates_on s f Step.Want h = others_on s h
+  gates_on s f (Step.Undirty p) h = two_or s h
+  gates_on s f (Step.Black p n) h = others_on s h
+  gates_on s f (Step.Unblack p) h = two_or s h
+  gates_on s f _ h = cc
 
 module _ (c : Config) (w v : World) (kept : TurnIsLeft w v) (own : v.now.seats.holding ≡ w.now.seats.holding) where
   abbrev a : Words
