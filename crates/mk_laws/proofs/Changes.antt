@@ -172,8 +172,7 @@ headers_kind c m seat _ u p = cc
 -- marks only grow while a cycle marks
 marks_grow : (c : Config) (m : Moment) (seat : Seat) (y : Colours) → IsMarking m.words → ColourStep c m seat y
     → OnlyGrow m.words.marks y.marks
-marks_grow c m seat y early (ClearsMarks p z) =
-    elim early [ inl e ↦ absurd (omega arith) | inr e ↦ absurd (omega arith) ]
+marks_grow c m seat y early (ClearsMarks p z) = absurd (omega arith)
 marks_grow c m seat y early (AddsMarks p bits e h) = grows_more m.words.marks p bits
 marks_grow c m seat y early (MarksSeen p bits s e f) = grows_more m.words.marks p bits
 marks_grow c m seat y early _ = grows_same m.words.marks

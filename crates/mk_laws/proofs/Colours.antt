@@ -104,7 +104,7 @@ colour_step c m seat _ h = Leaves
 -- While a marker attends, no mark and no black bit is cleared.
 quiet_ends : (m : Moment) (k : ℕ) → (phase_of m.words ≡ 1) ⊎ (phase_of m.words ≡ 2)
     → is_attending (marker_of m k).presence ≡ true → IsQuiet m → ⊥
-quiet_ends m k early a (inl z) = elim early [ inl e ↦ absurd (omega arith) | inr e ↦ absurd (omega arith) ]
+quiet_ends m k early a (inl z) = omega arith
 quiet_ends m k early a (inr none) = let f : true ≡ false = sym a ∙ none_at m.seats.markers k none.1 in cc
 
 pub attending_grows : (c : Config) (m : Moment) (seat : Seat) (y : Colours) (k : ℕ) → (phase_of m.words ≡ 1)

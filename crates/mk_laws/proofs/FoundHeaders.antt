@@ -124,21 +124,16 @@ made_cell pages o first distance value x sized lt on is = (page, index)
         let lies = lies_under under.0 (page_at_address value) (word_at_address value) x under.2 in
         elim lies.known [ inl none ↦ absurd (omega arith) | inr known ↦ omega arith ]
 
-    run_index : (b : Bool) → (if b then run_cell distance (page_at_address value) else None) ≡ Some x → x.index ≡ 0
-    run_index false e = cc
-    run_index true e = by (nat_le distance (page_at_address value)) e
-      where
-        by : (b : Bool) → (if b then Some (record { page = page_at_address value - distance; index = 0 }) else None)
-            ≡ Some x → x.index ≡ 0
-        by true e = let same : record { page = page_at_address value - distance; index = 0 } ≡ x =
-            cc in sym (ap (λ (y : Cell). y.index) same)
-        by false e = cc
+    run_index : (b d : Bool) (p : ℕ)
+        → (if b then if d then Some (record { page = p; index = 0 }) else None else None) ≡ Some x → x.index ≡ 0
+    run_index true true p e = let same : record { page = p; index = 0 } ≡ x = cc in sym (ap (λ (y : Cell). y.index) same)
+    run_index _ _ p e = cc
 
     index : x.index < cells_made o
     index = elim (cases_Bool (is_small_object o)) [
       | inl small ↦ small_index small
       | inr large ↦
-          let zero = run_index (is_heap_address pages value)
+          let zero = run_index (is_heap_address pages value) (nat_le distance (page_at_address value)) _
           (sym (run_cell_at pages (header_made o distance) value distance o part large) ∙ is) in
           omega (arith, large_cells o large)
     ]

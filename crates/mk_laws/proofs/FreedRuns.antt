@@ -8,8 +8,8 @@ use Rattle.mk_laws.proofs.Vocabulary.{cases_Bool, cases_eq, cases_lt, cell_freed
 use Rattle.mk_laws.proofs.Vocabulary.{false≢true, first_page_shows, flight_of, found, freed_cell, get_or-set_other}
 use Rattle.mk_laws.proofs.Vocabulary.{get_or-set_same, get_or_append_left, get_or_past, header_in, heads_run}
 use Rattle.mk_laws.proofs.Vocabulary.{if◌then◌else◌, image_of, image_scene_of, inl, inr, is_decided_free}
-use Rattle.mk_laws.proofs.Vocabulary.{is_decided_free_at, is_new_at, is_phase, is_small_object, is_undecided_free}
-use Rattle.mk_laws.proofs.Vocabulary.{is_undecided_new, length, length-map, ltb-true, not, nothing_done, object_placed}
+use Rattle.mk_laws.proofs.Vocabulary.{is_decided_free_at, is_new_at, is_small_object, is_undecided_free}
+use Rattle.mk_laws.proofs.Vocabulary.{is_undecided_new, length, length-map, ltb-true, nothing_done, object_placed}
 use Rattle.mk_laws.proofs.Vocabulary.{or_else, p_of, placed_at, pointed_cell, progress, progress_freed, refl}
 use Rattle.mk_laws.proofs.Vocabulary.{register_at, run_begins, run_headed, run_of_cell, sees_double, set_by}
 use Rattle.mk_laws.proofs.Vocabulary.{slice_index_or, slice_set, small_heads_none, still, subst, sym, true, typed_size}
@@ -322,27 +322,21 @@ module _ (c : Config) (w : World) (n : NeverState) (known : KnownWorld c w) (oth
     | inr ne ↦ other_new j k p v run ne h
   ]
 
-  host_owns : (x : Step) → GrowsBehind Host x → (run : RunPages) → WasFreed c w at_rest run x → (k : ℕ)
-      → OwnsBehind Host x run k
-  host_owns x grows run (Before old g) k free =
-      points_on (event_of Host x) k _ run grows refl (mirrors.freed_run run old k free)
-  host_owns x grows run (Now p v heads) k free = absurd (no_run w.now.words _ run heads)
+  -- Where no call is in flight, it was freed before.
+  was_before : {x : Step} (run : RunPages) → WasFreed c w at_rest run x → w.now.seats.holding.freed ≡ Some run
+  was_before run (Before old g) = old
+  was_before run (Now p v heads) = absurd (no_run w.now.words _ run heads)
 
   owns : (seat : Seat) (x : Step) → Meets c w.now seat x → GrowsBehind seat x
       → AreAdmitted c.globals n (asked (call_decided c w.now (event_of seat x)))
       → OwnsFreedRun (world_behind c w (event_of seat x)) (never_after c w n (event_of seat x))
   owns (Caller j) x h grows ad run e k free = caller_owns j x h grows ad run (was_freed c w (Caller j) _ x run e) k free
-  owns Host x h grows ad run e k free = host_owns x grows run (was_freed c w Host at_rest x run e) k free
+  owns Host x h grows ad run e k free =
+      let old = was_before run (was_freed c w Host at_rest x run e) in
+      points_on (event_of Host x) k _ run grows refl (mirrors.freed_run run old k free)
   owns (Marker j) x h grows ad run e k free =
-      points_on (event_of (Marker j) x) k _ run grows refl (mirrors.freed_run run (marker_freed x e) k free)
-    where
-      marker_freed : (x : Step) → freed_behind c w (Marker j) at_rest x ≡ Some run
-          → w.now.seats.holding.freed ≡ Some run
-      marker_freed x e = by x (was_freed c w (Marker j) at_rest x run e)
-        where
-          by : (x : Step) → WasFreed c w at_rest run x → w.now.seats.holding.freed ≡ Some run
-          by x (Before old g) = old
-          by x (Now p v heads) = absurd (no_run w.now.words (not (is_phase w.now.words 4)) run heads)
+      let old = was_before run (was_freed c w (Marker j) at_rest x run e) in
+      points_on (event_of (Marker j) x) k _ run grows refl (mirrors.freed_run run old k free)
 
 pub freed_run_stays : (c : Config) (w : World) (n : NeverState) (e : Event) → KnownWorld c w → ImagePremises c w
     → Mirrors c w n → Meets c w.now e.seat e.step

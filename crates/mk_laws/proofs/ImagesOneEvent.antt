@@ -172,9 +172,6 @@ twins_new xs n base ty h =
 
 pub twins_kept : (safe : ℕ → Bool) (s t : ImageScene) (n m : NeverState) → AreTwins s.allocations n → Move safe s n t m
     → AreTwins t.allocations m
-twins_kept safe s t n m h (Owes k f v a b c d e g i) = record { count = h.count; ty = h.ty; freed = h.freed }
-twins_kept safe s t n m h (Stores k d x f v a b c e g) = record { count = h.count; ty = h.ty; freed = h.freed }
-twins_kept safe s t n m h (Shares k g x f v a b c d e) = record { count = h.count; ty = h.ty; freed = h.freed }
 twins_kept safe s t n m h (Writes k a i x f v at u mm li inside is sv) = twins_changed s.allocations n a _ refl refl h
 twins_kept safe s t n m h (Grants k d base ty f at long ld z) = let g =
     twins_new s.allocations n base ty h in record { count = g.count; ty = g.ty; freed = g.freed }
@@ -182,7 +179,7 @@ twins_kept safe s t n m h (Frees k a f xs at places released there others is qui
     twins_freed s.allocations xs n a places there others is h
 twins_kept safe s t n m h (Renews xs places released freed) = twins_same s.allocations xs n places freed h
 twins_kept safe s t n m h (Releases xs places released freed kept cut) = twins_same s.allocations xs n places freed h
-twins_kept safe s t n m h _ = h
+twins_kept safe s t n m h _ = record { count = h.count; ty = h.ty; freed = h.freed }
 
 -- what an event leaves, and that what it decides is right, where more is granted later too
 pub record Follows (c : Config) (w : World) (n : NeverState) (e : Event) : Type 0 where

@@ -220,8 +220,7 @@ module _ (c : Config) (w : World) (n : NeverState) (T : ℕ → Type 0) (precise
   marks_touched (Marker j) Step.Mmark after stand s b u bit = mmark_step j after (stand j) s b u bit
   marks_touched _ Step.Mmark after stand s b u bit = let kind = s.meets.kind in cc
   marks_touched seat (Step.Clear p) after stand s b u bit =
-      let zero = eqb-true _ 0 s.meets.phase in
-      elim s.early [ inl e ↦ absurd (omega arith) | inr e ↦ absurd (omega arith) ]
+      let zero = eqb-true _ 0 s.meets.phase in absurd (omega arith)
   marks_touched seat x after stand s b u bit = rest x refl b u bit
     where
       rest : (x : Step) → is_of_marks x ≡ false → MarksTouched seat x
