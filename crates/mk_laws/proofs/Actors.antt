@@ -72,9 +72,6 @@ never : (b : Bool) → (b && false) ≡ true → ⊥
 never true e = cc
 never false e = cc
 
-over_holds : (c : Config) (m : Moment) → Meets c m Host Step.Over → host_has_turn c m ≡ true
-over_holds c m h = (and_parts _ _ h.holder).0
-
 host_may : (c : Config) (m : Moment) (x : Step) → group_of x ≡ Group.Turn → is_take x ≡ false
     → comes_next_to_host (host_has_turn c m) x ≡ true → host_has_turn c m ≡ true
 host_may c m (Step.Take o) g t h = cc
@@ -102,7 +99,7 @@ host_acts c m x h = by (group_of x) refl
       where
         over_alone : (x : Step) → group_of x ≡ Group.Host → Meets c m Host x → Actor c m Host x
         over_alone Step.Over g h =
-            AsHolder Host Step.Over (eqb-true m.words.turn (1 + c.callers) (over_holds c m h)) refl
+            AsHolder Host Step.Over (eqb-true m.words.turn (1 + c.callers) (and_parts _ _ h.holder).0) refl
         over_alone _ g h = cc
     by Group.Turn g = elim (cases_Bool (is_take x)) [
       | inl t ↦ host_takes c m x h t

@@ -106,10 +106,6 @@ module _ (c : Config) (w : World) (n : NeverState) (known : KnownWorld c w) (mir
       }) None
   bare_on k o f was bare = (goes_bare safe _ n k f was bare, λ more. refl)
 
-  stage_put : (k : ℕ) (st : Stage) → (flight_of w.now (Caller k)).stage ≡ st → is_put st ≡ false
-      → is_put (flight_of w.now (Caller k)).stage ≡ false
-  stage_put k st e h = ap is_put e ∙ h
-
   pub enter_leads : (k : ℕ) (o : Op) → Meets c w k (Step.Enter o) → LeadsAt c w n safe k (Step.Enter o)
   enter_leads k o h =
       let f = flight_of w.now (Caller k) in
@@ -117,7 +113,7 @@ module _ (c : Config) (w : World) (n : NeverState) (known : KnownWorld c w) (mir
 
   pub leave_leads : (k : ℕ) → Meets c w k Step.Leave → LeadsAt c w n safe k Step.Leave
   leave_leads k h = let f = flight_of w.now (Caller k) in bare_on k f.op at_rest
-      (stage_put k Stage.Leave (at_its_stage f.stage f.op Step.Leave refl h.order) refl) refl
+      (ap is_put (at_its_stage f.stage f.op Step.Leave refl h.order)) refl
 
   pub dirty_leads : (k : ℕ) → Meets c w k Step.Dirty → LeadsAt c w n safe k Step.Dirty
   dirty_leads k h =

@@ -37,11 +37,11 @@ freed_flags : (c : Config) (w : World) (cell : Cell) (n i : ℕ) → FreesHere c
 freed_flags c w cell n i x q u true is = grind (arith, false_from_ne_true, is_freed_before)
 freed_flags c w cell n i x q u false is = grind arith
 
-quar_flags : (c : Config) (w : World) (seat : Seat) (p n i : ℕ) → Before c w → Meets c w.now seat (Step.Quar p n)
-    → LayoutStands c w → IsQuarantined c w
-    → (placed_at (WorldBehind c w seat (Step.Quar p n)).allocations i).released ≡ false
-    → FlagsStep w (WorldBehind c w seat (Step.Quar p n)) i
-quar_flags c w seat p n i b h laid q u = by (cell_freed c.pages w.now.words (flight_of w.now seat) p n) refl
+flags_step : (c : Config) (w : World) (seat : Seat) (x : Step) (i : ℕ) → Before c w → Meets c w.now seat x
+    → LayoutStands c w → IsQuarantined c w → is_begin x ≡ false
+    → (placed_at (WorldBehind c w seat x).allocations i).released ≡ false → FlagsStep w (WorldBehind c w seat x) i
+flags_step c w seat (Step.Quar p n) i b h laid q out u =
+    by (cell_freed c.pages w.now.words (flight_of w.now seat) p n) refl
   where
     by : (cell : Option Cell) → cell_freed c.pages w.now.words (flight_of w.now seat) p n ≡ cell
         → FlagsStep w (WorldBehind c w seat (Step.Quar p n)) i
@@ -55,11 +55,6 @@ quar_flags c w seat p n i b h laid q u = by (cell_freed c.pages w.now.words (fli
         let frees = frees_here c w seat p n cell b h laid (freed_cell c.pages w.now.words _ p n cell is) in
         let x = before_change c _ w.allocations i (freeing_leaves w.now.words (Some cell)) (rw (← same) u) in
         Stays x.was (rw same (rw x.now (freed_flags c w cell n i frees q x.was _ refl)))
-
-flags_step : (c : Config) (w : World) (seat : Seat) (x : Step) (i : ℕ) → Before c w → Meets c w.now seat x
-    → LayoutStands c w → IsQuarantined c w → is_begin x ≡ false
-    → (placed_at (WorldBehind c w seat x).allocations i).released ≡ false → FlagsStep w (WorldBehind c w seat x) i
-flags_step c w seat (Step.Quar p n) i b h laid q out u = quar_flags c w seat p n i b h laid q u
 flags_step c w seat Step.Begin i b h laid q out u = absurd (true≢false out)
 flags_step c w seat Step.Grant i b h laid q out u = grind (arith, pushed_new)
 flags_step c w seat Step.Release i b h laid q out u =

@@ -19,8 +19,8 @@ use Rattle.mk_core.proofs.RegisterAccesses.{tally_leaves, tally_leaves_registers
 use Rattle.mk_core.proofs.ListTests.{list_all-at}
 use Rattle.mk_core.specs.ClosedMarks.{is_marked_allocation, is_scanned_allocation}
 use Rattle.mk_laws.proofs.Basics.{KnownWorld, Leads, Move, Ready, Releases, Renews, Stands, at_its_stage, at_no_take}
-use Rattle.mk_laws.proofs.Basics.{base_at, calls_stand, exists_placed, grants_new, is_astray, is_call_stage, not_astray}
-use Rattle.mk_laws.proofs.Basics.{others_held, pointed_word, standing, unmapped_is, view_of, words_fit}
+use Rattle.mk_laws.proofs.Basics.{base_at, calls_stand, exists_placed, grants_new, is_call_stage, not_astray}
+use Rattle.mk_laws.proofs.Basics.{others_held, pointed_word, unmapped_is, view_of, words_fit}
 use Rattle.mk_laws.proofs.CallSorts.{bare_on, begins, cas_leads_at, dirty_leads, enter_leads, getg_leads_at}
 use Rattle.mk_laws.proofs.CallSorts.{leave_leads, probe_leads_at, read_leads_at, reg_leads_at, setg_leads_at}
 use Rattle.mk_laws.proofs.CallSorts.{write_leads_at}
@@ -227,9 +227,6 @@ module _ (c : Config) (w : World) (n : NeverState) (known : KnownWorld c w) (mir
       (record t { flights = slice_set w.now.seats.flights k (flight_of w.now (Caller k)) }) None
   still_leads k t m e = (rw (e ∙ sym (set-get_or w.now.seats.flights k at_rest)) at m, λ more. refl)
 
-  astray_not : (k : ℕ) → k < c.callers → is_astray (standing (flight_of w.now (Caller k))) ≡ false
-  astray_not k lt = not_astray c w.now known.now.orderly k lt
-
   quiet_at : (k p v : ℕ) → MeetsOf c w (Caller k) (Step.Quar p v)
       → is_run_cell w.now.words (target c.pages w.now.words (flight_of w.now (Caller k))) ≡ true → (j : ℕ) → j ≢ k
       → is_past_probe (flight_among w.now.seats.flights j).stage ≡ false
@@ -253,7 +250,7 @@ module _ (c : Config) (w : World) (n : NeverState) (known : KnownWorld c w) (mir
       let f = flight_of w.now (Caller k) in
       let lt = ltb-true k c.callers h.seat in
       let in_call = calls_stand f.stage f.op (ap is_call_stage (at_its_stage f.stage f.op Step.Probe refl h.order))
-      (astray_not k lt) in
+      (not_astray c w.now known.now.orderly k lt) in
       probe_leads_at c w n known mirrors safe ready k
       (shown_in_call c w n known mirrors others st k lt in_call) h ad
   caller_goes k Step.Read h ad = read_leads_at c w n known mirrors safe ready k h ad

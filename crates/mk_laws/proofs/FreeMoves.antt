@@ -53,11 +53,6 @@ module _ (c : Config) (w : World) (n : NeverState) (known : KnownWorld c w) (mir
       ap (pointed_cell c.pages w.now.words.pages) (e ∙ ap (λ b. address_of (b + o)) (base_at w.allocations a))
       ∙ st.cell a o u (omega (arith, pointed_word c.globals safe (image_scene_of w) n ready a t o sound))
 
-  -- an allocation with the same first word is the same
-  same_first : (a b : ℕ) → (placed a).released ≡ false → (placed b).released ≡ false
-      → (placed b).base ≡ (placed a).base → b ≡ a
-  same_first a b ua ub e = elim (cases_eq b a) [ inl x ↦ x | inr ne ↦ absurd (st.apart b a ub ua ne e) ]
-
   pub free_by : (others : ImagePremises c w) (k : ℕ) (o : Op) (f : Flight) (p : ℕ) (cell : Cell) (v : Value)
       → Decides (image_scene_of w) n k f → IsSound n v → IsSafe safe v → p ≡ image_of (bases_of w.allocations) v → p ≢ 0
       → pointed_cell c.pages w.now.words.pages p ≡ Some cell → is_freed w.now.words cell ≡ false
@@ -131,7 +126,10 @@ module _ (c : Config) (w : World) (n : NeverState) (known : KnownWorld c w) (mir
     where
       its_own : (a b : ℕ) → (placed a).released ≡ false → (placed b).released ≡ false → (placed b).freed ≡ true
           → (placed b).base ≡ (placed a).base → (placed a).freed ≡ true
-      its_own a b ua ub fb e = ap (λ i. (placed i).freed) (sym (same_first a b ua ub e)) ∙ fb
+      its_own a b ua ub fb e = elim (cases_eq b a) [
+        | inl same ↦ ap (λ i. (placed i).freed) (sym same) ∙ fb
+        | inr ne ↦ absurd (st.apart b a ub ua ne e)
+      ]
 
       same_never : (a : ℕ) → (allocation_at n a).freed ≡ true → never_freed n a ≡ n
       same_never a h =

@@ -55,15 +55,12 @@ module _ (c : Config) (w : World) (n : NeverState) (known : KnownWorld c w) (all
         word = run_word a.base _ (pages_made o) x aligned (large_words o run.large) at.0 at.1;
       }
 
-  of_mapped : (x : ℕ) → IsWordOfMapped c w.allocations x → IsOfOne c w x
-  of_mapped x m = grind (arith, mapped_stays)
-
   -- A word that isn't 0 is one of an unreleased allocation,
   pub of_one : phase_of w.now.words ≢ 4 → (x : ℕ) → slice_index w.now.words.heap x ≢ 0 → IsOfOne c w x
   of_one quiet x some = by (all.zeros x some)
     where
       by : MayHold c (zero_scene_of w) x → IsOfOne c w x
-      by (OfMapped m) = of_mapped x m
+      by (OfMapped m) = grind (arith, mapped_stays)
       by (OfReleased r) = absurd (none_released c (zero_scene_of w) x (not_releasing w quiet) r)
       by (OfFreedRun f) = of_freed_run x f
 

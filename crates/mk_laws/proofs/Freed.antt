@@ -33,11 +33,6 @@ pub record Remodes (c : Config) (t : Ground) (run : Option RunPages) (g : Placed
       → HasHeader (claim_of c run (g (placed_at t.allocations i))).mode (object_placed c (placed_at t.allocations i)) d
       (header_on t.pages ((placed_at t.allocations i).base / 64 + d))
 
--- But for its mode, a claim is the same.
-same_claim : (c : Config) (old new : Option RunPages) (a b : PlacedAllocation) (m : Mode) → b.base ≡ a.base
-    → b.ty ≡ a.ty → record (claim_of c new b) { mode = m } ≡ record (claim_of c old a) { mode = m }
-same_claim c old new a b m base ty = rw base (rw ty)
-
 pub remoded : (c : Config) (o : Object) (releasing : Bool) (marks : List ℕ) (t : Ground) (run : Option RunPages)
     (g : PlacedAllocation → PlacedAllocation)
     → HasLayout c o releasing marks t → Remodes c t run g → RunStands (claims_of c run (map g t.allocations)) run
@@ -70,7 +65,7 @@ remoded c o releasing marks t run g st r stands = record {
         ≡ record (claim_of c t.run (placed_at t.allocations i)) { mode = m }
     same i m =
         let a : PlacedAllocation = placed_at t.allocations i in
-        same_claim c t.run run a (g a) m (r.leaves.places.base a) (r.leaves.places.ty a)
+        rw (r.leaves.places.base a) (rw (r.leaves.places.ty a))
 
     was : (y : Claim) → Among y (claims_of c run (map g t.allocations))
         → (m : Mode) × Among (record y { mode = m }) (claims_of c t.run t.allocations)

@@ -163,11 +163,6 @@ module _ (c : Config) (w : World) (n : NeverState) (known : KnownWorld c w) (oth
   ready : Ready c.globals mirrors.safe.0 (image_scene_of w) n
   ready = ready_of c w n known mirrors st mirrors.safe.0 mirrors.safe.1
 
-  -- who is in a decided Free holds the turn
-  holds : (k : ℕ) → k < c.callers → is_decided_free (flight_of w.now (Caller k)) ≡ true
-      → HoldsTurn c (view_of w.now) (Caller k)
-  holds k lt free = (lt, decided_free_stands _ _ free)
-
   -- what a register points at is there after the event
   points_on : (e : Event) (k r : ℕ) (run : RunPages)
       → IsLonger (bases_of w.allocations) (bases_of (world_behind c w e).allocations)
@@ -302,7 +297,7 @@ module _ (c : Config) (w : World) (n : NeverState) (known : KnownWorld c w) (oth
         turns_stand f.stage f.op (of_turn f.stage f.op (Step.Quar p v) refl refl h.order)
             (not_astray c w.now known.now.orderly j lj),
       ) in
-      let tk = turn_of c (view_of w.now) (Caller k) known.now.orderly (holds k lk was) in
+      let tk = turn_of c (view_of w.now) (Caller k) known.now.orderly (lk, decided_free_stands _ _ was) in
       absurd (ne (omega arith))
     where
       there : (k : ℕ) → is_decided_free (flight_of w.now (Caller k)) ≡ true → k < c.callers

@@ -67,23 +67,14 @@ pub data GroundStep (c : Config) (w : World) (f : Flight) : Ground → Type 0 wh
   Gives : may_give w.now f ≡ true → (phase_of w.now.words ≤ 1) ⊎ (phase_of w.now.words ≡ 5)
       → GroundStep c w f (record (ground_of w) { placing = Unplaced; run = None })
   Carves : (p n : ℕ) → carves w.now.words (object_made c f.op) (place_now c w.now f) p n ≡ true
-      → phase_of w.now.words ≢ 4 → GroundStep c w f (record (ground_of w) {
-        pages = with_header w.now.words p n;
-        placing = chosen w.now.seats.holding.placing (place_now c w.now f);
-      })
+      → phase_of w.now.words ≢ 4 → GroundStep c w f (headed c w f p n false)
   Unmaps : (p n : ℕ) → unmaps w.now.words w.now.seats.holding.freed p n ≡ true → phase_of w.now.words ≢ 4
-      → GroundStep c w f (record (ground_of w) {
-        pages = with_header w.now.words p n;
-        placing = chosen w.now.seats.holding.placing (place_now c w.now f);
-      })
+      → GroundStep c w f (headed c w f p n false)
   Empties : (p n : ℕ) → empties w.now.words p n ≡ true → phase_of w.now.words ≡ 4
       → GroundStep c w f (record (ground_of w) { pages = with_header w.now.words p n })
   TakesCell : (p n : ℕ) → is_used_once w.now.seats.holding.placing ≡ false
       → takes_cell w.now.words (object_made c f.op) (place_now c w.now f) p n ≡ true → phase_of w.now.words ≢ 4
-      → GroundStep c w f (record (ground_of w) {
-        pages = with_used w.now.words p n;
-        placing = taken w.now.seats.holding.placing (place_now c w.now f);
-      })
+      → GroundStep c w f (used_up c w f p n false)
   GivesBack : (p n : ℕ) → gives_back w.now.words p n ≡ true → phase_of w.now.words ≡ 4
       → GroundStep c w f (record (ground_of w) { pages = with_used w.now.words p n })
   Frees : (p n : ℕ) (cell : Option Cell) → cell_freed c.pages w.now.words f p n ≡ cell

@@ -5,16 +5,13 @@ use Rattle.mk_laws.proofs.Vocabulary.{TurnIsLeft, Word, Words, World, Written, �
 use Rattle.mk_laws.proofs.Vocabulary.{carves, empties, eq-eqb, eqb-false, eqb-true, frees, gives_back, has_closed_page}
 use Rattle.mk_laws.proofs.Vocabulary.{has_gates, has_phase, header_made, held_by_pages, holder_may, if◌then◌else◌}
 use Rattle.mk_laws.proofs.Vocabulary.{is_decided, is_held, is_marked_first, is_next_header, is_number_of, is_phase}
-use Rattle.mk_laws.proofs.Vocabulary.{is_released_cell, is_run_cell, is_run_gone, is_used_once, may_answer_full}
-use Rattle.mk_laws.proofs.Vocabulary.{may_end, may_turn_black, ne_eqb, none_attends, not, not-true, object_made}
-use Rattle.mk_laws.proofs.Vocabulary.{or_left, or_right, others_are_held, pages_made, phase_of, place_now, refl, sym}
-use Rattle.mk_laws.proofs.Vocabulary.{takes_cell, target, true, unmaps, used_at, ◌&&◌, ◌+◌, ◌-◌, ◌==◌, ◌||◌, ◌∙◌, ◌≡◌}
-use Rattle.mk_laws.proofs.Vocabulary.{◌≢◌}
-use Rattle.mk_core.specs.Cells.{are_left_unmarked}
-use Rattle.mk_core.specs.StopConditions.{blackens, may_begin, may_black, may_close, may_mark, may_unblack, may_undirty}
-use Rattle.mk_core.specs.TurnConditions.{are_wiped, drops, is_in_gone_run, may_give, may_head, may_quarantine, may_use}
-use Rattle.mk_core.specs.TurnConditions.{may_wipe, takes_snapshot}
-use Rattle.mk_core.specs.{Frames.written_of, MarkerConditions.may_end_all, Moments.none_is_held, NewPlaces.bits_made}
+use Rattle.mk_laws.proofs.Vocabulary.{is_released_cell, is_run_gone, is_used_once, may_turn_black, ne_eqb, none_attends}
+use Rattle.mk_laws.proofs.Vocabulary.{not, not-true, object_made, or_left, or_right, others_are_held, pages_made}
+use Rattle.mk_laws.proofs.Vocabulary.{phase_of, place_now, refl, sym, target, true, unmaps, used_at, ◌&&◌, ◌+◌, ◌-◌}
+use Rattle.mk_laws.proofs.Vocabulary.{◌==◌, ◌||◌, ◌∙◌, ◌≡◌, ◌≢◌}
+use Rattle.mk_core.specs.StopConditions.{blackens, may_black, may_close}
+use Rattle.mk_core.specs.TurnConditions.{are_wiped, drops, may_give, may_head, may_use, may_wipe, takes_snapshot}
+use Rattle.mk_core.specs.{Cells.are_left_unmarked, Frames.written_of, Moments.none_is_held, NewPlaces.bits_made}
 use Rattle.mk_laws.proofs.Tests.{all_below_on, and_on, if_on, none_from, or_on, some_on, without_on}
 use Rattle.mk_laws.proofs.Asked.{none_at}
 
@@ -41,10 +38,6 @@ module _ (c : Config) (w v : World) (kept : TurnIsLeft w v) where
   all_free_on : none_is_held c.callers w.now.words ≡ true → none_is_held c.callers v.now.words ≡ true
   all_free_on h = all_below_on _ (λ j. not (is_held w.now.words j)) (λ j. not (is_held v.now.words j)) (λ j lt. free_on j) h
 
-  run_cell_same : (f : Flight) → is_run_cell v.now.words (target c.pages v.now.words f) ≡ is_run_cell w.now.words
-      (target c.pages w.now.words f)
-  run_cell_same f = rw pages_same
-
   two_or : (s : Seat) → (not (is_phase w.now.words 2) || others_are_held c.callers w.now.words s) ≡ true
       → (not (is_phase v.now.words 2) || others_are_held c.callers v.now.words s) ≡ true
   two_or s h = or_on _ _ _ _ (λ e. rw phase_same e) (others_on s) h
@@ -54,7 +47,7 @@ module _ (c : Config) (w v : World) (kept : TurnIsLeft w v) where
   gates_on s f Step.Give h = all_free_on h
   gates_on s f (Step.Look (Word.Reg j r)) h = or_on _ _ (is_number_of s j) _ (λ e. e) (held_on j) h
   gates_on s f (Step.Head p n) h = or_on _ _ _ _ (λ e. e) (others_on s) h
-  gates_on s f (Step.Quar p n) h = or_on _ _ _ _ (λ e. ap not (run_cell_same f) ∙ e) (others_on s) h
+  gates_on s f (Step.Quar p n) h = or_on _ _ _ _ (λ e. rw pages_same e) (others_on s) h
   gates_on s f (Step.Hold j) h = free_on j h
   gates_on s f (Step.Open j) h = held_on j h
   gates_on s f Step.Close h = others_on s h
@@ -93,10 +86,6 @@ module _ (c : Config) (w v : World) (kept : TurnIsLeft w v) (own : v.now.seats.h
 
   -- `head`
 
-  next_on : (first count : ℕ) (wanted : ℕ → ℕ) (p n : ℕ) → is_next_header a first count wanted p n ≡ true
-      → is_next_header b first count wanted p n ≡ true
-  next_on first count wanted p n h = rw pages h
-
   marked_on : (o : Object) (place : Place) → is_marked_first a o place ≡ true → is_marked_first b o place ≡ true
   marked_on o place h = or_on _ _ (not (is_phase b 1)) _ (λ e. ap not (phase_is 1) ∙ e) (without_on (bits_made o) _
       _ (kept.marks_grow place.page)) h
@@ -109,10 +98,7 @@ module _ (c : Config) (w v : World) (kept : TurnIsLeft w v) (own : v.now.seats.h
       (some_on (λ (x : Place). is_next_header a x.page (pages_made o) (header_made o) p n && is_marked_first a o x)
       (λ (x : Place). is_next_header b x.page (pages_made o) (header_made o) p n
       && is_marked_first b o x) _ (λ x q. and_on _ _ _ _
-      (next_on x.page (pages_made o) (header_made o) p n) (marked_on o x) q) h)
-
-  unmaps_same : (p n : ℕ) → unmaps b v.now.seats.holding.freed p n ≡ unmaps a w.now.seats.holding.freed p n
-  unmaps_same p n = rw own (rw pages)
+      (λ e. rw pages e) (marked_on o x) q) h)
 
   empties_same : (p n : ℕ) → empties b p n ≡ empties a p n
   empties_same p n = grind (arith, pages)
@@ -122,7 +108,7 @@ module _ (c : Config) (w v : World) (kept : TurnIsLeft w v) (own : v.now.seats.h
       let o : Object = object_made c f.op in
       ap (λ i. if i == 4 then empties b p n else carves b o (place_now c v.now f) p n
       || unmaps b v.now.seats.holding.freed p n) phase ∙ if_on (is_phase a 4) (empties a p n) _ (empties b p n) _
-      (λ four e. empties_same p n ∙ e) (λ off e. or_on _ _ _ _ (carves_on f p n) (λ u. unmaps_same p n ∙ u) e) h
+      (λ four e. empties_same p n ∙ e) (λ off e. or_on _ _ _ _ (carves_on f p n) (λ u. rw own (rw pages u)) e) h
 
   -- `used`
 
@@ -131,10 +117,6 @@ module _ (c : Config) (w v : World) (kept : TurnIsLeft w v) (own : v.now.seats.h
 
   unmarked_same : (p n : ℕ) → b.marks ≡ a.marks → gives_unmarked b p n ≡ gives_unmarked a p n
   unmarked_same p n marks = rw (marks, pages, ap (λ (s : Steady). s.snapshot) kept.steady)
-
-  takes_same : (f : Flight) (p n : ℕ) → takes_cell b (object_made c f.op) (place_now c v.now f) p n
-      ≡ takes_cell a (object_made c f.op) (place_now c w.now f) p n
-  takes_same f p n = rw (place_same f) (rw pages)
 
   used_on : (f : Flight) (p n : ℕ)
       → (is_phase a 4 ≡ true → gives_back a p n ≡ true → are_wiped b p (used_at b p - n) ≡ true)
@@ -145,7 +127,7 @@ module _ (c : Config) (w v : World) (kept : TurnIsLeft w v) (own : v.now.seats.h
       rw phase (if_on (is_phase a 4) _ _ (gives_back b p n) _
       (λ four e. and_on (gives_unmarked a p n) _ (gives_unmarked b p n)
       _ (λ u. unmarked_same p n (quiet_at_4 four) ∙ u) (λ u. wiped four e) e) (λ off e. and_on first _ _ _
-      (λ u. rw own u) (λ u. takes_same f p n ∙ u) e) h)
+      (λ u. rw own u) (λ u. rw (place_same f) (rw pages u)) e) h)
 
   -- `quar`
 
@@ -158,27 +140,13 @@ module _ (c : Config) (w v : World) (kept : TurnIsLeft w v) (own : v.now.seats.h
   snapshot_same : (p n : ℕ) → takes_snapshot b p n ≡ takes_snapshot a p n
   snapshot_same p n = grind arith
 
-  quarantine_on : (f : Flight) (p n : ℕ) → may_quarantine c w.now f p n ≡ true → may_quarantine c v.now f p n ≡ true
-  quarantine_on f p n h = grind (arith, phase, if_on, drops_same, quiet_at_4, or_on, frees_same, snapshot_same)
-
   -- `mark`, `wipe`, `full`, `give`
-
-  mark_same : (f : Flight) (p n : ℕ) → may_mark c v.now f p n ≡ may_mark c w.now f p n
-  mark_same f p n = rw (own, pages, phase)
 
   released_on : (cell : Cell) → is_released_cell a cell ≡ true → is_released_cell b cell ≡ true
   released_on cell h = grind (arith, and_parts, quiet_at_4)
 
-  gone_run_same : (n : ℕ) → is_in_gone_run b v.now.seats.holding.freed n ≡ is_in_gone_run a w.now.seats.holding.freed n
-  gone_run_same n = rw own (rw pages)
-
   wipe_on : (n : ℕ) → may_wipe c w.now n ≡ true → may_wipe c v.now n ≡ true
-  wipe_on n h = or_on _ _ _ _ (λ e. rw pages (some_on _ _ _ released_on e)) (λ e. gone_run_same n ∙ e) h
-
-  full_same : (f : Flight) → may_answer_full c.resident b.pages (object_made c f.op)
-      v.now.seats.holding.placing v.now.seats.holding.cycle
-      ≡ may_answer_full c.resident a.pages (object_made c f.op) w.now.seats.holding.placing w.now.seats.holding.cycle
-  full_same f = rw pages (rw own)
+  wipe_on n h = or_on _ _ _ _ (λ e. rw pages (some_on _ _ _ released_on e)) (λ e. rw own (rw pages e)) h
 
   give_on : (f : Flight) → (is_run_gone a w.now.seats.holding.freed ≡ true
       → is_run_gone b w.now.seats.holding.freed ≡ true) → may_give w.now f ≡ true → may_give v.now f ≡ true
@@ -191,15 +159,6 @@ module _ (c : Config) (w v : World) (kept : TurnIsLeft w v) (own : v.now.seats.h
       (λ e. ap (λ (s : Steady). s.fresh == s.fresh_words) kept.steady ∙ e) h
 
   -- the phase's steps
-
-  begin_on : phase_of a ≡ 0 → may_begin c.pages a ≡ true → may_begin c.pages b ≡ true
-  begin_on zero h = grind (arith, quiet)
-
-  end_on : phase_of a ≡ 4 → may_end c.pages a ≡ true → may_end c.pages b ≡ true
-  end_on four h = grind (arith, quiet, pages)
-
-  over_on : may_end_all c w.now ≡ true → may_end_all c v.now ≡ true
-  over_on h = ap (λ (s : Steady). (s.turn == 1 + c.callers) && (s.phase == 0)) kept.steady ∙ h
 
   -- In the stop no marker begins to attend.
   none_on : phase_of a ≡ 2 → none_attends w.now.seats.markers ≡ true → none_attends v.now.seats.markers ≡ true
@@ -223,12 +182,6 @@ module _ (c : Config) (w v : World) (kept : TurnIsLeft w v) (own : v.now.seats.h
       let none = (and_parts _ (not (all_below 32 (λ k. not (blackens c.pages a p n k)))) h).0 in
       rw (none_on two none ∙ sym none, (stopped two none).0, ap (λ (x : Written). x.heap) written, pages) h
 
-  undirty_on : (p : ℕ) → may_undirty w.now p ≡ true → may_undirty v.now p ≡ true
-  undirty_on p h = grind (arith, or_left, phase_is, eqb-true, and_parts, or_right, none_on, stopped, pages)
-
-  unblack_on : may_unblack w.now ≡ true → may_unblack v.now ≡ true
-  unblack_on h = grind (arith, or_left, phase_is, or_right, none_on, eqb-true)
-
   -- all of them
   pub holder_on : (s : Seat) (f : Flight) (x : Step) → has_gates c a s f x ≡ true → has_phase (phase_of a) x ≡ true
       → (others_are_held c.callers a s ≡ true → written_of v ≡ written_of w)
@@ -238,18 +191,24 @@ module _ (c : Config) (w v : World) (kept : TurnIsLeft w v) (own : v.now.seats.h
   holder_on s f Step.Give gates at written gone wiped h = give_on f gone h
   holder_on s f (Step.Head p n) gates at written gone wiped h = head_on f p n h
   holder_on s f (Step.Used p n) gates at written gone wiped h = used_on f p n (wiped p n) h
-  holder_on s f (Step.Quar p n) gates at written gone wiped h = quarantine_on f p n h
+  holder_on s f (Step.Quar p n) gates at written gone wiped h =
+      grind (arith, phase, if_on, drops_same, quiet_at_4, or_on, frees_same, snapshot_same)
   holder_on s f Step.Grant gates at written gone wiped h = ap (λ (x : Holding). is_used_once x.placing) own ∙ h
   holder_on s f (Step.Open j) gates at written gone wiped h = ap (λ (x : Holding). is_run_gone b x.freed) own ∙ gone h
-  holder_on s f (Step.Mark p n) gates at written gone wiped h = mark_same f p n ∙ h
+  holder_on s f (Step.Mark p n) gates at written gone wiped h = rw (own, pages, phase) h
   holder_on s f (Step.Wipe n) gates at written gone wiped h = wipe_on n h
-  holder_on s f Step.Full gates at written gone wiped h = full_same f ∙ h
-  holder_on s f Step.Begin gates at written gone wiped h = begin_on (eqb-true (phase_of a) 0 at) h
+  holder_on s f Step.Full gates at written gone wiped h = rw pages (rw own h)
+  holder_on s f Step.Begin gates at written gone wiped h =
+      let zero = eqb-true (phase_of a) 0 at in grind (arith, quiet)
   holder_on s f Step.Close gates at written gone wiped h = close_on (eqb-true (phase_of a) 2 at) (written gates) h
-  holder_on s f Step.End gates at written gone wiped h = end_on (eqb-true (phase_of a) 4 at) h
-  holder_on s f (Step.Undirty p) gates at written gone wiped h = undirty_on p h
+  holder_on s f Step.End gates at written gone wiped h =
+      let four = eqb-true (phase_of a) 4 at in grind (arith, quiet, pages)
+  holder_on s f (Step.Undirty p) gates at written gone wiped h =
+      grind (arith, or_left, phase_is, eqb-true, and_parts, or_right, none_on, stopped, pages)
   holder_on s f (Step.Black p n) gates at written gone wiped h =
       black_on p n (eqb-true (phase_of a) 2 at) (written gates) h
-  holder_on s f (Step.Unblack p) gates at written gone wiped h = unblack_on h
-  holder_on s f Step.Over gates at written gone wiped h = over_on h
+  holder_on s f (Step.Unblack p) gates at written gone wiped h =
+      grind (arith, or_left, phase_is, or_right, none_on, eqb-true)
+  holder_on s f Step.Over gates at written gone wiped h =
+      ap (λ (s : Steady). (s.turn == 1 + c.callers) && (s.phase == 0)) kept.steady ∙ h
   holder_on s f _ gates at written gone wiped h = refl

@@ -110,13 +110,9 @@ pub say_along : (c : Config) (front rest : List Event) → ImagePremisesAlong c 
     → ImagePremisesAlong c front
 say_along c front rest others xs ys e = others xs (ys ++ rest) (sym (append_assoc xs ys rest) ∙ rw e)
 
--- A list is the last of its own fronts.
-others_behind : (c : Config) (es : List Event) → ImagePremisesAlong c es → ImagePremises c (left c es)
-others_behind c es others = others es [] (append-nil es)
-
 pub histories_tell : HistoriesTellOthers
 histories_tell c es h others = images_say c (left c es) _ (known_world c es h.within_limits h.enabled)
-    (others_behind c es others) (histories_mirror c es h others)
+    (others es [] (append-nil es)) (histories_mirror c es h others)
 
 -- What is reached is in a safe set.
 safe_leads : (safe : ℕ → Bool) (v : Value) (number : ℕ) → IsSafe safe v → LeadsTo v number → safe number ≡ true

@@ -87,17 +87,11 @@ others_probed fs k f n m there small own same meets h j = elim (cases_eq j k) [
       (meets j ne past _ _ (h j past)))
 ]
 
-meets_alike : (n m : NeverState) → AreAlike n m → (v : Value) (i : ℕ) → IsMet n v i → IsMet m v i
-meets_alike n m alike v i h = met_same n m v i (λ a. (alike a).0) (λ a u. (alike a).1 ∙ u) h
-
 -- another caller's register stays
 other_register : (n : NeverState) (k d j r : ℕ) (v : Value) → d < 8 → r < 8 → j ≢ k
     → register_at (with_register n k d v) j r ≡ register_at n j r
 other_register n k d j r v ld lr ne =
     get_or-set_other n.registers (8 * k + d) (8 * j + r) v Null (λ e. absurd (ne (omega arith)))
-
-put_past : (s : Stage) → s ≡ Stage.Put → is_past_probe s ≡ false
-put_past s e = ap is_past_probe e
 
 -- the registers of all, where the flight goes on with nothing owed
 plain_registers : (s : ImageScene) (n : NeverState) → AreImages s n → AreSmall s.flights → (k : ℕ) (f : Flight)
@@ -146,7 +140,7 @@ module _ (globals : List ℕ) (s : ImageScene) (n : NeverState) (h : AreImages s
     carried = others_carry _ _ s.flights k f n (with_register n k (d_of f.op) v) there small
         (λ a b d. put_carries _ f a b d put)
         (λ j r ne lr. ap (image_of bases) (other_register n k (d_of f.op) j r v ld lr ne)) h.carried;
-    probed = others_probed s.flights k f n (with_register n k (d_of f.op) v) there small (put_past f.stage put)
+    probed = others_probed s.flights k f n (with_register n k (d_of f.op) v) there small (ap is_past_probe put)
         (λ j r ne lr. other_register n k (d_of f.op) j r v ld lr ne)
         (λ j ne past v' i m. met_same n (with_register n k (d_of f.op) v) v' i (λ a. refl) (λ a u. u) m) h.probed;
   }
@@ -237,7 +231,7 @@ module _ (globals : List ℕ) (s : ImageScene) (n : NeverState) (h : AreImages s
         carried = others_carry _ _ s.flights k f n (with_word n a i v) at.there small
             (λ a b d. bare_carries _ f a b d at.bare) (λ j r ne lr. refl) h.carried;
         probed = others_probed s.flights k f n (with_word n a i v) at.there small (bare_unprobed f.stage at.bare)
-            (λ j r ne lr. refl) (λ j ne past v' i' m. meets_alike n (with_word n a i v) alike v' i' m) h.probed;
+            (λ j r ne lr. refl) (λ j ne past v' i' m. met_same n (with_word n a i v) v' i' (λ a. (alike a).0) (λ a u. (alike a).1 ∙ u) m) h.probed;
       }
   images_kept t m apart (Wipes x out) = record {
     registers = h.registers;

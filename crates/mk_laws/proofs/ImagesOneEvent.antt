@@ -60,15 +60,6 @@ module _ (safe : ℕ → Bool) (s : ImageScene) (n : NeverState) (h : IsSafeSet 
     unreleased = h.unreleased;
   }
 
-  of_freed : (a : ℕ) (xs : List PlacedAllocation)
-      → ((b : ℕ) → (placed_at xs b).released ≡ (placed_at s.allocations b).released)
-      → IsSafeSet safe xs (with_freed n a)
-  of_freed a xs same = grind (arith, freed_words, freed_was)
-
-  of_same : (xs : List PlacedAllocation) → ((b : ℕ) → (placed_at xs b).released ≡ (placed_at s.allocations b).released)
-      → IsSafeSet safe xs n
-  of_same xs same = grind arith
-
   of_new : (k d base ty : ℕ) → length s.allocations ≡ length n.allocations
       → IsSafeSet (λ a. safe a || (a == length n.allocations)) (s.allocations ++ fresh_one base ty ∷ [])
       (with_register (with_new n ty) k d (Ptr (length n.allocations) ty 0))
@@ -107,8 +98,8 @@ safe_kept safe s t n m h same (Writes k a i x f v at u mm li inside is sv) = (sa
 safe_kept safe s t n m h same (Grants k d base ty f at long ld z) =
     (λ a. safe a || (a == length n.allocations), of_new safe s n h k d base ty same)
 safe_kept safe s t n m h same (Frees k a f xs at places released there others is quiet) =
-    (safe, of_freed safe s n h a xs released)
-safe_kept safe s t n m h same (Renews xs places released freed) = (safe, of_same safe s n h xs released)
+    (safe, grind (arith, freed_words, freed_was))
+safe_kept safe s t n m h same (Renews xs places released freed) = (safe, grind arith)
 safe_kept safe s t n m h same (Releases xs places released freed kept cut) = (kept, cut)
 safe_kept safe s t n m h same _ = (safe, h)
 

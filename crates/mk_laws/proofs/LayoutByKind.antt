@@ -4,15 +4,14 @@ use Rattle.mk_laws.proofs.Vocabulary.{ItCarves, ItDrops, ItEmpties, ItFrees, ItG
 use Rattle.mk_laws.proofs.Vocabulary.{ItUnmaps, LayoutStands, List, None, Object, Op, Option, Place, PlacedAllocation}
 use Rattle.mk_laws.proofs.Vocabulary.{Placing, QuarantineStep, RunPages, Seat, Some, Step, Unplaced, Used, UsedStep}
 use Rattle.mk_laws.proofs.Vocabulary.{Words, World, ℕ, and_parts, and_right, ap, arith, cell_freed, chosen, claims_of}
-use Rattle.mk_laws.proofs.Vocabulary.{decided, eqb-true, false, false_from_ne_true, flight_of, freed_cell}
-use Rattle.mk_laws.proofs.Vocabulary.{freed_where_it_stands, fresh_leaves, granted, granted_base_is, granted_object}
-use Rattle.mk_laws.proofs.Vocabulary.{granted_type, ground_of, has_place, head_step, header_at, if◌then◌else◌}
-use Rattle.mk_laws.proofs.Vocabulary.{is_decided, is_phase, is_run_gone, is_run_unmapped, is_undecided_new}
-use Rattle.mk_laws.proofs.Vocabulary.{is_used_once, length, map, marks_is, marks_place, ne_eqb, no_longer_fresh}
-use Rattle.mk_laws.proofs.Vocabulary.{none_freed, not, nothing_done, object_made, object_now, or_else, place_now}
-use Rattle.mk_laws.proofs.Vocabulary.{placed_now, quarantine_step, refl, run_of_cell, seat_exists, slice_set, sym}
-use Rattle.mk_laws.proofs.Vocabulary.{taken, true, true≢false, undecided_free, undecided_new, used_step, [], ◌%◌, ◌++◌}
-use Rattle.mk_laws.proofs.Vocabulary.{◌/◌, ◌<◌, ◌==◌, ◌^◌, ◌∙◌, ◌∷◌, ◌≡◌, ◌≢◌}
+use Rattle.mk_laws.proofs.Vocabulary.{eqb-true, false, false_from_ne_true, flight_of, freed_cell, freed_where_it_stands}
+use Rattle.mk_laws.proofs.Vocabulary.{fresh_leaves, granted, granted_base_is, granted_object, granted_type, ground_of}
+use Rattle.mk_laws.proofs.Vocabulary.{has_place, head_step, header_at, if◌then◌else◌, is_decided, is_phase, is_run_gone}
+use Rattle.mk_laws.proofs.Vocabulary.{is_run_unmapped, is_undecided_new, is_used_once, length, map, marks_is}
+use Rattle.mk_laws.proofs.Vocabulary.{marks_place, ne_eqb, no_longer_fresh, none_freed, not, nothing_done, object_made}
+use Rattle.mk_laws.proofs.Vocabulary.{object_now, or_else, place_now, placed_now, quarantine_step, refl, run_of_cell}
+use Rattle.mk_laws.proofs.Vocabulary.{seat_exists, slice_set, sym, taken, true, true≢false, undecided_free}
+use Rattle.mk_laws.proofs.Vocabulary.{undecided_new, used_step, [], ◌%◌, ◌++◌, ◌/◌, ◌<◌, ◌==◌, ◌^◌, ◌∙◌, ◌∷◌, ◌≡◌, ◌≢◌}
 use Rattle.mk_core.proofs.RegisterAccesses.{LeavesTable}
 use Rattle.mk_laws.proofs.Basics.{Before, Laid, LeavesCells, Meets, WorldBehind, first_header, free_has_turn}
 use Rattle.mk_laws.proofs.Basics.{gone_terrain, grants_new, holding_object, made_sized, new_has_turn, no_run}
@@ -50,9 +49,6 @@ pub placeless : (c : Config) (o other : Object) (releasing : Bool) (marks : List
     → t.placing ≡ placing → has_place placing ≡ false → HasLayout c o releasing marks t
     → HasLayout c other releasing marks t × HasLayout c other releasing marks (record t { placing = Unplaced })
 placeless c o other releasing marks t placing is none st = grind arith
-
-undecided_waits : (f : Flight) → is_undecided_new f ≡ true → is_decided f.stage ≡ true → ⊥
-undecided_waits f new decided = true≢false (sym decided ∙ rw (undecided_new f new).stage)
 
 pub off_at : (w : World) (n : ℕ) → is_phase w.now.words n ≡ true → n ≢ 4 → is_phase w.now.words 4 ≡ false
 off_at w n at ne = let e = eqb-true _ n at in ne_eqb _ 4 (λ four. ne (sym e ∙ four))
@@ -225,7 +221,7 @@ module _ (c : Config) (w : World) (seat : Seat) (b : Before c w) (laid : LayoutS
       no_place : has_place w.now.seats.holding.placing ≡ true → ⊥
       no_place has =
           let turn = giver_has_turn c w.now seat b.known h in
-          undecided_waits f (placed_undecided c w.now seat b.known turn has) decides.0
+          true≢false (sym decides.0 ∙ rw (undecided_new f (placed_undecided c w.now seat b.known turn has)).stage)
 
       unmapped : (x : Option RunPages) {run : RunPages} → x ≡ Some run → is_run_gone w.now.words x ≡ true
           → is_run_unmapped w.now.words run ≡ true

@@ -148,16 +148,11 @@ look_precise c w n T y p f t is m = record {
         by true at = absurd (none-some _ at)
         by false at = at
 
-unseen_precise : (c : Config) (w : World) (T : ℕ → Type 0) (y : MarkerState)
-    → MarkerIsPrecise c (precision_scene_of w) T y
-    → MarkerIsPrecise c (precision_scene_of w) T (record y { seen = None })
-unseen_precise c w T y m = record { hand = m.hand; scan = m.scan; seen = λ s is. absurd (none-some _ is) }
-
 looks : (c : Config) (w : World) (n : NeverState) (T : ℕ → Type 0) (y : MarkerState) (x : Word) (f : ℕ) → Told c w n
     → ((p : ℕ) → x ≡ Word.Head p → f ≡ header_at w.now.words p) → MarkerIsPrecise c (precision_scene_of w) T y
     → MarkerIsPrecise c (precision_scene_of w) T (behind_mlook c f x y)
 looks c w n T y (Word.Head p) f t is m = look_precise c w n T y p f t (is p refl) m
-looks c w n T y _ f t is m = unseen_precise c w T y m
+looks c w n T y _ f t is m = record { hand = m.hand; scan = m.scan; seen = λ s e. absurd (none-some _ e) }
 
 -- `claim`: words are scanned only under a header that shows no leaf
 claim_precise : (c : Config) (w : World) (T : ℕ → Type 0) (y : MarkerState) (p k marks : ℕ)
