@@ -78,18 +78,6 @@ module _ (c : Config) (w : World) (known : KnownWorld c w) (laid : LayoutStands 
   pub standing : (i : ℕ) → (placed_at xs i).released ≡ false → IsStanding c w.now.words (placed_at xs i)
   standing i u = all_stand c _ _ w known.lengths.pages laid i u
 
-  bases_apart : (i j : ℕ) → (placed_at xs i).released ≡ false → (placed_at xs j).released ≡ false
-      → i ≢ j → (placed_at xs i).base ≢ (placed_at xs j).base
-  bases_apart i j u v ne same =
-      let si = standing i u in
-      let sj = standing j v in
-      let one = base_points c w.now.words _ known.limits si.stands si.headers in
-      let two = base_points c w.now.words _ known.limits sj.stands sj.headers in
-      let both = sym one ∙ ap (λ n. pointed_cell c.pages w.now.words.pages (address_of n)) same ∙ two in
-      let cells : cell_of_allocation c (placed_at xs i) ≡ cell_of_allocation c (placed_at xs j) = cc in
-      ne (numbers_apart c run xs i j (apart_left _ _ laid.scene.apart) u v
-      (ap (λ (x : Cell). x.page) cells, ap (λ (x : Cell). x.index) cells))
-
   -- The run that the call frees
 
   pub run_of : (r : RunPages) → run ≡ Some r → IsClaimedRun (claims_of c run xs) r
@@ -207,7 +195,15 @@ module _ (c : Config) (w : World) (known : KnownWorld c w) (laid : LayoutStands 
       → (phase_of w.now.words ≡ 3 → MarksAreClosed c w) → ImagePremises c w
   say_to_images q zeros gates marks = record {
     laid_out = laid_out;
-    apart = bases_apart;
+    apart = λ i j u v ne same.
+        let si = standing i u in
+        let sj = standing j v in
+        let one = base_points c w.now.words _ known.limits si.stands si.headers in
+        let two = base_points c w.now.words _ known.limits sj.stands sj.headers in
+        let both = sym one ∙ ap (λ n. pointed_cell c.pages w.now.words.pages (address_of n)) same ∙ two in
+        let cells : cell_of_allocation c (placed_at xs i) ≡ cell_of_allocation c (placed_at xs j) = cc in
+        ne (numbers_apart c run xs i j (apart_left _ _ laid.scene.apart) u v
+        (ap (λ (x : Cell). x.page) cells, ap (λ (x : Cell). x.index) cells));
     taken = taken;
     freed_run = freed_run;
     gates = gates;

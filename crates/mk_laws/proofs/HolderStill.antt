@@ -10,7 +10,7 @@ use Rattle.mk_laws.proofs.Vocabulary.{not, not-true, object_made, or_left, or_ri
 use Rattle.mk_laws.proofs.Vocabulary.{phase_of, place_now, refl, sym, target, true, unmaps, used_at, ◌&&◌, ◌+◌, ◌-◌}
 use Rattle.mk_laws.proofs.Vocabulary.{◌==◌, ◌||◌, ◌∙◌, ◌≡◌, ◌≢◌}
 use Rattle.mk_core.specs.StopConditions.{blackens, may_black, may_close}
-use Rattle.mk_core.specs.TurnConditions.{are_wiped, drops, may_give, may_head, may_use, may_wipe, takes_snapshot}
+use Rattle.mk_core.specs.TurnConditions.{are_wiped, drops, may_use, takes_snapshot}
 use Rattle.mk_core.specs.{Cells.are_left_unmarked, Frames.written_of, Moments.none_is_held, NewPlaces.bits_made}
 use Rattle.mk_laws.proofs.Tests.{all_below_on, and_on, if_on, none_from, or_on, some_on, without_on}
 use Rattle.mk_laws.proofs.Asked.{none_at}
@@ -103,13 +103,6 @@ module _ (c : Config) (w v : World) (kept : TurnIsLeft w v) (own : v.now.seats.h
   empties_same : (p n : ℕ) → empties b p n ≡ empties a p n
   empties_same p n = grind (arith, pages)
 
-  head_on : (f : Flight) (p n : ℕ) → may_head c w.now f p n ≡ true → may_head c v.now f p n ≡ true
-  head_on f p n h =
-      let o : Object = object_made c f.op in
-      ap (λ i. if i == 4 then empties b p n else carves b o (place_now c v.now f) p n
-      || unmaps b v.now.seats.holding.freed p n) phase ∙ if_on (is_phase a 4) (empties a p n) _ (empties b p n) _
-      (λ four e. empties_same p n ∙ e) (λ off e. or_on _ _ _ _ (carves_on f p n) (λ u. rw own (rw pages u)) e) h
-
   -- `used`
 
   abbrev gives_unmarked : Words → ℕ → ℕ → Bool
@@ -126,8 +119,8 @@ module _ (c : Config) (w v : World) (kept : TurnIsLeft w v) (own : v.now.seats.h
       let first : Bool = not (is_used_once w.now.seats.holding.placing) in
       rw phase (if_on (is_phase a 4) _ _ (gives_back b p n) _
       (λ four e. and_on (gives_unmarked a p n) _ (gives_unmarked b p n)
-      _ (λ u. unmarked_same p n (quiet_at_4 four) ∙ u) (λ u. wiped four e) e) (λ off e. and_on first _ _ _
-      (λ u. rw own u) (λ u. rw (place_same f) (rw pages u)) e) h)
+      _ (λ u. unmarked_same p n (quiet_at_4 four) ∙ u) (λ u. wiped four e) e) (λ off e. and_on first _ _
+      (takes_cell b o (place_now c v.now f) p n) (λ u. rw own u) (λ u. rw (place_same f) (rw pages u)) e) h)
 
   -- `quar`
 
@@ -144,19 +137,6 @@ module _ (c : Config) (w v : World) (kept : TurnIsLeft w v) (own : v.now.seats.h
 
   released_on : (cell : Cell) → is_released_cell a cell ≡ true → is_released_cell b cell ≡ true
   released_on cell h = grind (arith, and_parts, quiet_at_4)
-
-  wipe_on : (n : ℕ) → may_wipe c w.now n ≡ true → may_wipe c v.now n ≡ true
-  wipe_on n h = or_on _ _ _ _ (λ e. rw pages (some_on _ _ _ released_on e)) (λ e. rw own (rw pages e)) h
-
-  give_on : (f : Flight) → (is_run_gone a w.now.seats.holding.freed ≡ true
-      → is_run_gone b w.now.seats.holding.freed ≡ true) → may_give w.now f ≡ true → may_give v.now f ≡ true
-  give_on f gone h =
-      let run : Bool = is_run_gone a w.now.seats.holding.freed in
-      let run' : Bool = is_run_gone b v.now.seats.holding.freed in
-      and_on _ _ _ _ (λ e. and_on _ _ _ _ (λ d. and_on _ run (is_decided f.stage) run' (λ u. u)
-      (λ u. ap (λ (x : Holding). is_run_gone b x.freed) own ∙ gone u) d)
-      (λ u. ap (λ (s : Steady). s.held == held_by_pages (record a { pages = s.pages })) kept.steady ∙ u) e)
-      (λ e. ap (λ (s : Steady). s.fresh == s.fresh_words) kept.steady ∙ e) h
 
   -- the phase's steps
 
@@ -188,15 +168,26 @@ module _ (c : Config) (w v : World) (kept : TurnIsLeft w v) (own : v.now.seats.h
       → (is_run_gone a w.now.seats.holding.freed ≡ true → is_run_gone b w.now.seats.holding.freed ≡ true)
       → ((p n : ℕ) → is_phase a 4 ≡ true → gives_back a p n ≡ true → are_wiped b p (used_at b p - n) ≡ true)
       → holder_may c w.now f x ≡ true → holder_may c v.now f x ≡ true
-  holder_on s f Step.Give gates at written gone wiped h = give_on f gone h
-  holder_on s f (Step.Head p n) gates at written gone wiped h = head_on f p n h
+  holder_on s f Step.Give gates at written gone wiped h =
+      let run : Bool = is_run_gone a w.now.seats.holding.freed in
+      let run' : Bool = is_run_gone b v.now.seats.holding.freed in
+      and_on _ _ _ _ (λ e. and_on _ _ _ _ (λ d. and_on _ run (is_decided f.stage) run' (λ u. u)
+      (λ u. ap (λ (x : Holding). is_run_gone b x.freed) own ∙ gone u) d)
+      (λ u. ap (λ (s : Steady). s.held == held_by_pages (record a { pages = s.pages })) kept.steady ∙ u) e)
+      (λ e. ap (λ (s : Steady). s.fresh == s.fresh_words) kept.steady ∙ e) h
+  holder_on s f (Step.Head p n) gates at written gone wiped h =
+      let o : Object = object_made c f.op in
+      ap (λ i. if i == 4 then empties b p n else carves b o (place_now c v.now f) p n
+      || unmaps b v.now.seats.holding.freed p n) phase ∙ if_on (is_phase a 4) (empties a p n) _ (empties b p n) _
+      (λ four e. empties_same p n ∙ e) (λ off e. or_on _ _ _ _ (carves_on f p n) (λ u. rw own (rw pages u)) e) h
   holder_on s f (Step.Used p n) gates at written gone wiped h = used_on f p n (wiped p n) h
   holder_on s f (Step.Quar p n) gates at written gone wiped h =
       grind (arith, phase, if_on, drops_same, quiet_at_4, or_on, frees_same, snapshot_same)
   holder_on s f Step.Grant gates at written gone wiped h = ap (λ (x : Holding). is_used_once x.placing) own ∙ h
   holder_on s f (Step.Open j) gates at written gone wiped h = ap (λ (x : Holding). is_run_gone b x.freed) own ∙ gone h
   holder_on s f (Step.Mark p n) gates at written gone wiped h = rw (own, pages, phase) h
-  holder_on s f (Step.Wipe n) gates at written gone wiped h = wipe_on n h
+  holder_on s f (Step.Wipe n) gates at written gone wiped h = or_on _ _ _ (is_in_gone_run b v.now.seats.holding.freed n)
+      (λ e. rw pages (some_on _ _ _ released_on e)) (λ e. rw own (rw pages e)) h
   holder_on s f Step.Full gates at written gone wiped h = rw pages (rw own h)
   holder_on s f Step.Begin gates at written gone wiped h =
       let zero = eqb-true (phase_of a) 0 at in grind (arith, quiet)

@@ -195,17 +195,6 @@ module _ (c : Config) (w : World) (seat : Seat) (b : Before c w) (laid : LayoutS
           rw x.there (rw same
           (mark_places c o four w x.place (rw same at laid) size placed.placed free (first_header o size)))
 
-  -- `begin`
-  begin_kind : LaidNow c w (record (ground_of w) { allocations = map no_longer_fresh w.allocations })
-  begin_kind =
-      let same = sym (fresh_claims c w.now.seats.holding.freed w.allocations) in
-      record {
-        scene = rw same at laid.scene;
-        gone = rw same at laid.gone;
-        first = laid.first;
-        cells = cells_behind c no_longer_fresh w.allocations fresh_cells laid.cells;
-      }
-
   -- `give`: the seat has decided, so it has no place, and its run is gone
   give_kind : Meets c w.now seat Step.Give → LaidNow c w (record (ground_of w) { placing = Unplaced; run = None })
   give_kind h =
@@ -254,7 +243,14 @@ module _ (c : Config) (w : World) (seat : Seat) (b : Before c w) (laid : LayoutS
   by_kind (Step.Quar p n) h = quar_kind p n h
   by_kind Step.Grant h = grant_kind h
   by_kind (Step.Mark p n) h = mark_kind p n h
-  by_kind Step.Begin h = begin_kind
+  by_kind Step.Begin h =
+      let same = sym (fresh_claims c w.now.seats.holding.freed w.allocations) in
+      record {
+        scene = rw same at laid.scene;
+        gone = rw same at laid.gone;
+        first = laid.first;
+        cells = cells_behind c no_longer_fresh w.allocations fresh_cells laid.cells;
+      }
   by_kind Step.Release h =
       released_terrain c _ w b.limits b.lengths.pages (rw (off_at w 3 h.phase (λ e. absurd (omega arith))) at laid)
       (λ run is. and_right _ _ (ap not (b.others.marked h.phase run is)))

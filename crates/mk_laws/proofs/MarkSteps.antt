@@ -178,9 +178,9 @@ module _ (c : Config) (w : World) (n : NeverState) (T : ℕ → Type 0) (precise
       (cell_of_allocation c (placed_at w.allocations b)).page)
       (cell_of_allocation c (placed_at w.allocations b)).index ≡ true → T b
 
-  mark_step : (seat : Seat) (p v : ℕ) (after : NeverState) → Steps c w n seat (Step.Mark p v) after T
-      → MarksTouched seat (Step.Mark p v)
-  mark_step seat p v after s b u bit =
+  marks_touched : (seat : Seat) (x : Step) (after : NeverState) → ((j : ℕ) → MarkerStands c w.now (marker_of w.now j))
+      → Steps c w n seat x after T → MarksTouched seat x
+  marks_touched seat (Step.Mark p v) after stand s b u bit =
       let cell : Cell = cell_of_allocation c (placed_at w.allocations b) in
       let o : Object = object_made c (flight_of w.now seat).op in
       let place : Option Place = place_now c w.now (flight_of w.now seat) in
@@ -200,24 +200,16 @@ module _ (c : Config) (w : World) (n : NeverState) (T : ℕ → Type 0) (precise
               )
         ]
       ]
-
-  mmark_step : (j : ℕ) (after : NeverState) → MarkerStands c w.now (marker_of w.now j)
-      → Steps c w n (Marker j) Step.Mmark after T → MarksTouched (Marker j) Step.Mmark
-  mmark_step j after stand s b u bit =
+  marks_touched (Marker j) Step.Mmark after stand s b u bit =
       let cell : Cell = cell_of_allocation c (placed_at w.allocations b) in
       let y : Option Cell = cell_seen c (marker_of w.now j).seen (marker_of w.now j).hand in
       elim (more_bits w.now.words.marks (seen_page y) (seen_bit y) cell.page cell.index bit) [
         | inl old ↦ precise.marked b u old
         | inr new ↦
-            let m = seen_marks c w.now _ cell.index stand new.1 s.meets.marker in
+            let m = seen_marks c w.now _ cell.index (stand j) new.1 s.meets.marker in
             let at : pointed_cell c.pages w.now.words.pages m.value ≡ Some cell = m.cell ∙ rw (← new.0) in
             (precise.markers j).hand m.value m.there b (u, comes_back c w n s.before s.early b m.value u at)
       ]
-
-  marks_touched : (seat : Seat) (x : Step) (after : NeverState) → ((j : ℕ) → MarkerStands c w.now (marker_of w.now j))
-      → Steps c w n seat x after T → MarksTouched seat x
-  marks_touched seat (Step.Mark p v) after stand s b u bit = mark_step seat p v after s b u bit
-  marks_touched (Marker j) Step.Mmark after stand s b u bit = mmark_step j after (stand j) s b u bit
   marks_touched _ Step.Mmark after stand s b u bit = let kind = s.meets.kind in cc
   marks_touched seat (Step.Clear p) after stand s b u bit =
       let zero = eqb-true _ 0 s.meets.phase in absurd (omega arith)
