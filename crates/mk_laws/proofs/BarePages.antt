@@ -38,8 +38,7 @@ on_allocation c w n q some = by (q.zeros n some)
         let u = mapped_stays c a m.mapped in
         let x : Claim = claim_of c w.now.seats.holding.freed a in
         let i = claim_among c w.now.seats.holding.freed w.allocations m.number u in
-        let ends = ends_on_pages _ a.base (shown_there c w x q i).sized (q.laid.cells m.number u).begins
-        in
+        let ends = ends_on_pages _ a.base (shown_there c w x q i).sized (q.laid.cells m.number u).begins in
         let words : storage_words c a ≡ words_made (object_placed c a) = refl in
         let from : a.base ≤ n = m.word.0 in
         let to : n < a.base + storage_words c a = m.word.1 in
@@ -53,7 +52,8 @@ on_allocation c w n q some = by (q.zeros n some)
         let to = ltb-true _ f.run.count parts.1 in
         let page = x.page in
         let count = x.count in
-        record { claim = x.claim; among = x.among; distance = n / 64 - f.run.page; near = omega arith; at = omega arith }
+        let d : ℕ = n / 64 - f.run.page in
+        record { claim = x.claim; among = x.among; distance = d; near = omega arith; at = omega arith }
 
 -- The words of a page are 0 that has no header,
 pub bare_page : (c : Config) (w : World) (p n : ℕ) → Unreleasing c w → header_on w.now.words.pages p ≡ 0 → n / 64 ≡ p

@@ -126,7 +126,8 @@ made_cell pages o first distance value x sized lt on is = (page, index)
 
     run_index : (b d : Bool) (p : ℕ)
         → (if b then if d then Some (record { page = p; index = 0 }) else None else None) ≡ Some x → x.index ≡ 0
-    run_index true true p e = let same : record { page = p; index = 0 } ≡ x = cc in sym (ap (λ (y : Cell). y.index) same)
+    run_index true true p e =
+        let same : record { page = p; index = 0 } ≡ x = cc in sym (ap (λ (y : Cell). y.index) same)
     run_index _ _ p e = cc
 
     index : x.index < cells_made o

@@ -219,27 +219,21 @@ module _ (c : Config) (o : Object) (w : World) (cell : Cell) (limits : IsWithinL
       absurd (true≢false (sym small ∙ ap (λ (z : Claim). is_small_object z.object) (sym one) ∙ large)))) tt)
   by (inr large) =
       let run : RunPages = record { page = cell.page; count = pages_made (object_placed c a) } in
+      let s = stand own.number own.unreleased in
+      let in_cell : stands_in w.now.words cell a ≡ true =
+      rw (← own.is) (stands_in_its_cell c w.now.words a limits s.stands s.headers) in
+      let freed : PlacedAllocation = record a { freed = true; fresh = true } in
       rw (run_large _ _ cell.page part large) (remoded c o false w.now.words.marks (ground_of w) (Some run) frees st
       (modes (Some run) (λ i u h l. eq-eqb cell.page _
-      (sym (ap (λ (x : Cell). x.page) (cell_of i u h))))) (claimed_run run refl refl large))
-    where
-      claimed_run : (run : RunPages) → run.page ≡ cell.page → run.count ≡ pages_made (object_placed c a)
-          → is_small_object (object_placed c a) ≡ false
-          → IsClaimedRun (claims_of c (Some run) (map frees w.allocations)) run
-      claimed_run run at_page count large =
-          let s = stand own.number own.unreleased in
-          let in_cell : stands_in w.now.words cell a ≡ true =
-          rw (← own.is) (stands_in_its_cell c w.now.words a limits s.stands s.headers) in
-          let freed : PlacedAllocation = record a { freed = true; fresh = true } in
-          record {
-            claim = claim_of c (Some run) freed;
-            among = rw (cond-true _ freed a in_cell) at (changed_among c (Some run) frees w.allocations own.number
-                (freeing_leaves w.now.words (Some cell)) (stays_unreleased a own.unreleased));
-            page = page ∙ sym at_page;
-            count = sym count;
-            large = large;
-            mode = rw large (rw (eq-eqb run.page (a.base / 64) (at_page ∙ sym page)));
-          }
+      (sym (ap (λ (x : Cell). x.page) (cell_of i u h))))) (record {
+        claim = claim_of c (Some run) freed;
+        among = rw (cond-true _ freed a in_cell) at (changed_among c (Some run) frees w.allocations own.number
+            (freeing_leaves w.now.words (Some cell)) (stays_unreleased a own.unreleased));
+        page = page;
+        count = refl;
+        large = large;
+        mode = rw large (rw (eq-eqb cell.page (a.base / 64) (sym page)));
+      }))
 
   pub freed_terrain : Behind
   freed_terrain = by (cases_Bool (is_small_object (object_placed c a)))

@@ -257,18 +257,6 @@ nothing_there c w xs p r z s inside stands =
     let at : a.base / 64 + (p - a.base / 64) ≡ p = omega arith in
     claimed_some w.pages _ _ shown (omega arith) (ap (header_at w) at ∙ z)
 
-on_page : (c : Config) (w : Words) (xs : List PlacedAllocation) (p : ℕ) → Rests c w xs → IsOn (quiet_scene c w xs) p
-    → slice_index_or w.pages p free_page ≡ words_of_storages (unreleased_storage c xs) p
-on_page c w xs p r on =
-    let y = claim_is c None xs on.claim on.among in
-    let o : Object = object_placed c (placed_at xs y.number) in
-    let near : on.distance < pages_made o = rw y.is at on.near in
-    let at : (placed_at xs y.number).base / 64 + on.distance ≡ p = cc (y.is, on.at) in
-    elim (cases_Bool (is_small_object o)) [
-      | inl s ↦ let one = small_pages o s in block_words c w xs y.number p r y.unreleased s (omega arith)
-      | inr l ↦ run_words c w xs y.number p r y.unreleased on.distance l near at
-    ]
-
 pub pages_stand : (c : Config) (w : Words) (xs : List PlacedAllocation) → Rests c w xs
     → PagesStandFor w.pages (unreleased_storage c xs)
 pages_stand c w xs r = record {
@@ -277,6 +265,15 @@ pages_stand c w xs r = record {
     | inl z ↦ ap (λ h. record { header = h; used = used_at w p }) z
         ∙ rw (free_unused _ p r.laid z) (sym (words_free p _
         (λ s inside. false_from_ne_true (stands_on p s) (nothing_there c w xs p r z s inside))))
-    | inr some ↦ on_page c w xs p r (on_claim _ p r.laid refl refl some)
+    | inr some ↦
+        let on : IsOn (quiet_scene c w xs) p = on_claim _ p r.laid refl refl some in
+        let y = claim_is c None xs on.claim on.among in
+        let o : Object = object_placed c (placed_at xs y.number) in
+        let near : on.distance < pages_made o = rw y.is at on.near in
+        let at : (placed_at xs y.number).base / 64 + on.distance ≡ p = cc (y.is, on.at) in
+        elim (cases_Bool (is_small_object o)) [
+          | inl s ↦ let one = small_pages o s in block_words c w xs y.number p r y.unreleased s (omega arith)
+          | inr l ↦ run_words c w xs y.number p r y.unreleased on.distance l near at
+        ]
   ];
 }

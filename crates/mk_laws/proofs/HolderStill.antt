@@ -7,10 +7,10 @@ use Rattle.mk_laws.proofs.Vocabulary.{has_gates, has_phase, header_made, held_by
 use Rattle.mk_laws.proofs.Vocabulary.{is_decided, is_held, is_marked_first, is_next_header, is_number_of, is_phase}
 use Rattle.mk_laws.proofs.Vocabulary.{is_released_cell, is_run_gone, is_used_once, may_turn_black, ne_eqb, none_attends}
 use Rattle.mk_laws.proofs.Vocabulary.{not, not-true, object_made, or_left, or_right, others_are_held, pages_made}
-use Rattle.mk_laws.proofs.Vocabulary.{phase_of, place_now, refl, sym, target, true, unmaps, used_at, ◌&&◌, ◌+◌, ◌-◌}
-use Rattle.mk_laws.proofs.Vocabulary.{◌==◌, ◌||◌, ◌∙◌, ◌≡◌, ◌≢◌}
+use Rattle.mk_laws.proofs.Vocabulary.{phase_of, place_now, refl, sym, takes_cell, target, true, unmaps, used_at, ◌&&◌}
+use Rattle.mk_laws.proofs.Vocabulary.{◌+◌, ◌-◌, ◌==◌, ◌||◌, ◌∙◌, ◌≡◌, ◌≢◌}
 use Rattle.mk_core.specs.StopConditions.{blackens, may_black, may_close}
-use Rattle.mk_core.specs.TurnConditions.{are_wiped, drops, may_use, takes_snapshot}
+use Rattle.mk_core.specs.TurnConditions.{are_wiped, drops, is_in_gone_run, may_use, takes_snapshot}
 use Rattle.mk_core.specs.{Cells.are_left_unmarked, Frames.written_of, Moments.none_is_held, NewPlaces.bits_made}
 use Rattle.mk_laws.proofs.Tests.{all_below_on, and_on, if_on, none_from, or_on, some_on, without_on}
 use Rattle.mk_laws.proofs.Asked.{none_at}
@@ -36,7 +36,8 @@ module _ (c : Config) (w v : World) (kept : TurnIsLeft w v) where
       (λ j. is_number_of s j || is_held v.now.words j) (λ j lt. or_on _ _ (is_number_of s j) _ (λ e. e) (held_on j)) h
 
   all_free_on : none_is_held c.callers w.now.words ≡ true → none_is_held c.callers v.now.words ≡ true
-  all_free_on h = all_below_on _ (λ j. not (is_held w.now.words j)) (λ j. not (is_held v.now.words j)) (λ j lt. free_on j) h
+  all_free_on h =
+      all_below_on _ (λ j. not (is_held w.now.words j)) (λ j. not (is_held v.now.words j)) (λ j lt. free_on j) h
 
   two_or : (s : Seat) → (not (is_phase w.now.words 2) || others_are_held c.callers w.now.words s) ≡ true
       → (not (is_phase v.now.words 2) || others_are_held c.callers v.now.words s) ≡ true

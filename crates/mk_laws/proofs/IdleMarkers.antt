@@ -11,7 +11,8 @@ none_seen : (c : Config) (s : Option SeenHeader) → is_some (cell_seen c s None
 none_seen c (Some s) = refl
 none_seen c None = refl
 
-attends : (x : Marker) → IdlesOutside x → (b : Bool) → b ≡ true → (IsIdle x → b ≡ false) → is_attending x.presence ≡ true
+attends : (x : Marker) → IdlesOutside x → (b : Bool) → b ≡ true → (IsIdle x → b ≡ false)
+    → is_attending x.presence ≡ true
 attends x h b s none =
     elim (cases_Bool (is_attending x.presence)) [ inl e ↦ e | inr e ↦ let f = sym s ∙ none (h e) in cc ]
 

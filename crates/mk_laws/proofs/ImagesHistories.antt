@@ -13,7 +13,6 @@ use Rattle.mk_core.{proofs.Histories.enabled_more, specs.History.never_first}
 use Rattle.mk_laws.proofs.{Bases.IsLonger, Basics.KnownWorld, Basics.at_first, Basics.known_world}
 use Rattle.mk_laws.proofs.{ImagesOneEvent.Follows, ImagesOneEvent.one_event, Pairs.bare_carries, Saying.images_say}
 use Rattle.mk_laws.specs.Laws.{HistoriesMirrorNever, HistoriesRefineNever, HistoriesTellOthers, ReachedIsUnreleased}
-use Rattle.mk_laws.specs.SafeSets.{HasSafeSet}
 
 -- what events leave and decide, from a world on
 record FollowsAll (c : Config) (w : World) (n : NeverState) (es : List Event) : Type 0 where
@@ -63,17 +62,6 @@ follows_from c whole done (x ∷ es) w n limits is was on e others mirrors ad =
     }
 
 -- the first world
-first_safe : (c : Config) → HasSafeSet [] (never_first c)
-first_safe c = (
-  λ a. false,
-  record {
-    registers = λ k. rw (at_first (8 * c.callers) k Null) tt;
-    globals = λ g. rw (at_first 64 g Null) tt;
-    closed = λ a i s m. cc;
-    unreleased = λ a s. cc;
-  },
-)
-
 pub first_mirrors : (c : Config) → Mirrors c (first_world c) (never_first c)
 first_mirrors c = record {
   types = refl;
@@ -90,7 +78,15 @@ first_mirrors c = record {
     probed = λ j. rw (at_first c.callers j at_rest) (λ past. cc);
   };
   freed_run = λ run e. cc;
-  safe = first_safe c;
+  safe = (
+    λ a. false,
+    record {
+      registers = λ k. rw (at_first (8 * c.callers) k Null) tt;
+      globals = λ g. rw (at_first 64 g Null) tt;
+      closed = λ a i s m. cc;
+      unreleased = λ a s. cc;
+    },
+  );
 }
 
 all_follow : (c : Config) (es : List Event) → IsHistory c es → ImagePremisesAlong c es

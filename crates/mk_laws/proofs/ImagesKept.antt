@@ -231,7 +231,8 @@ module _ (globals : List ℕ) (s : ImageScene) (n : NeverState) (h : AreImages s
         carried = others_carry _ _ s.flights k f n (with_word n a i v) at.there small
             (λ a b d. bare_carries _ f a b d at.bare) (λ j r ne lr. refl) h.carried;
         probed = others_probed s.flights k f n (with_word n a i v) at.there small (bare_unprobed f.stage at.bare)
-            (λ j r ne lr. refl) (λ j ne past v' i' m. met_same n (with_word n a i v) v' i' (λ a. (alike a).0) (λ a u. (alike a).1 ∙ u) m) h.probed;
+            (λ j r ne lr. refl) (λ j ne past v' i' m. met_same n (with_word n a i v) v' i' (λ a. (alike a).0)
+            (λ a u. (alike a).1 ∙ u) m) h.probed;
       }
   images_kept t m apart (Wipes x out) = record {
     registers = h.registers;

@@ -10,14 +10,14 @@ use Rattle.mk_laws.proofs.Vocabulary.{is_unmarked, length, ltb-true, marker_of, 
 use Rattle.mk_laws.proofs.Vocabulary.{object_placed, page_at_address, part_not_free, place_now, placed_at, pointed_cell}
 use Rattle.mk_laws.proofs.Vocabulary.{refl, seen_bit, seen_page, shown, slice_index, slice_index_or, storage_of, subst}
 use Rattle.mk_laws.proofs.Vocabulary.{sym, true, words_within, zero, ◌%◌, ◌&&◌, ◌*◌, ◌+◌, ◌/◌, ◌<◌, ◌==◌, ◌^◌, ◌||◌}
-use Rattle.mk_laws.proofs.Vocabulary.{◌∙◌, ◌≡◌, ◌≢◌}
+use Rattle.mk_laws.proofs.Vocabulary.{◌∙◌, ◌≡◌}
 use Rattle.mk_geom.proofs.PointedCells.{address_points_into}
 use Rattle.mk_core.proofs.WordBits.{bit_of_cell, bit_of_power, more_bits}
 use Rattle.mk_core.proofs.{ChangedAllocations.granted_at, RegisterAccesses.register_is_small, ServingSteps.place_marked}
 use Rattle.mk_core.specs.StopConditions.{is_bit_of, marks_by_hand}
 use Rattle.mk_laws.proofs.Basics.{Behind, Came, IsNew, Stayed, Table, WorldBehind, reg_table, same_cell, tally_table}
 use Rattle.mk_laws.proofs.Precise.{IsPrecise, PointsOnlyInto, Steps, came_behind, points_before}
-use Rattle.mk_laws.proofs.Worlds.{Told, comes_back, headers, sized, stands}
+use Rattle.mk_laws.proofs.Worlds.{comes_back, headers, sized, stands}
 
 -- The allocation that a grant adds is touched: its caller's register points to it at the moment after.
 
@@ -91,13 +91,6 @@ pub marks_same : (c : Config) (m : Moment) (seat : Seat) (x : Step) → is_of_ma
 marks_same c m seat Step.Reg out = ap (λ (t : Table). t.marks) (reg_table c m seat)
 marks_same c m seat (Step.Tally n v) out = ap (λ (t : Table). t.marks) (tally_table m.words n v)
 marks_same c m seat _ out = cc
-
--- A cell of an unreleased allocation has a header on its page.
-has_header : (c : Config) (w : World) (n : NeverState) (b : ℕ) → Told c w n
-    → (placed_at w.allocations b).released ≡ false → header_at w.now.words ((placed_at w.allocations b).base / 64) ≢ 0
-has_header c w n b t u =
-    let a : PlacedAllocation = placed_at w.allocations b in
-    part_not_free _ 0 _ (first_page_shows c w.now.words a (sized c w n t b u) (headers c w n t b u))
 
 -- `mark` by the hand
 
@@ -188,7 +181,9 @@ module _ (c : Config) (w : World) (n : NeverState) (T : ℕ → Type 0) (precise
         | inl old ↦ precise.marked b u old
         | inr new ↦ elim (cases_Bool (marks_place w.now.words o place p v)) [
           | inl placed ↦
-              absurd (has_header c w n b s.before u (rw new.0 (place_is_free w.now.words o place p v placed)))
+              let part = first_page_shows c w.now.words (placed_at w.allocations b) (sized c w n s.before b u)
+              (headers c w n s.before b u) in
+              absurd (part_not_free _ 0 _ part (rw new.0 (place_is_free w.now.words o place p v placed)))
           | inr unplaced ↦
               let hand : Option Hand = w.now.seats.holding.hand in
               let h = hand_marks w.now.words c.pages hand p v (left_holds _ _ s.meets.holder unplaced)
