@@ -12,11 +12,6 @@ pub unreleasing : (c : Config) (o : Object) (marks other : List ℕ) (t : Ground
     → HasLayout c o false marks t → HasLayout c o false other (record t { freed = freed; snapshot = snapshot })
 unreleasing c o marks other t freed snapshot st = grind arith
 
--- The freed cells aren't read at all.
-pub refreed : (c : Config) (o : Object) (releasing : Bool) (marks : List ℕ) (t : Ground) (freed : List ℕ)
-    → HasLayout c o releasing marks t → HasLayout c o releasing marks (record t { freed = freed })
-refreed c o releasing marks t freed st = record { scene = st.scene; gone = st.gone; first = st.first; cells = st.cells }
-
 -- `quar` (c): released cells that aren't used are dropped
 pub dropped : (c : Config) (o : Object) (w : World) (p freed n : ℕ) → Laid c o true w (ground_of w)
     → Drops w.now.words p freed n

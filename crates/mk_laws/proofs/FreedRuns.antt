@@ -322,7 +322,7 @@ module _ (c : Config) (w : World) (n : NeverState) (known : KnownWorld c w) (oth
   was_before run (Before old g) = old
   was_before run (Now p v heads) = absurd (no_run w.now.words _ run heads)
 
-  owns : (seat : Seat) (x : Step) → Meets c w.now seat x → GrowsBehind seat x
+  pub owns : (seat : Seat) (x : Step) → Meets c w.now seat x → GrowsBehind seat x
       → AreAdmitted c.globals n (asked (call_decided c w.now (event_of seat x)))
       → OwnsFreedRun (world_behind c w (event_of seat x)) (never_after c w n (event_of seat x))
   owns (Caller j) x h grows ad run e k free = caller_owns j x h grows ad run (was_freed c w (Caller j) _ x run e) k free
@@ -332,9 +332,3 @@ module _ (c : Config) (w : World) (n : NeverState) (known : KnownWorld c w) (oth
   owns (Marker j) x h grows ad run e k free =
       let old = was_before run (was_freed c w (Marker j) at_rest x run e) in
       points_on (event_of (Marker j) x) k _ run grows refl (mirrors.freed_run run old k free)
-
-pub freed_run_stays : (c : Config) (w : World) (n : NeverState) (e : Event) → KnownWorld c w → ImagePremises c w
-    → Mirrors c w n → Meets c w.now e.seat e.step
-    → IsLonger (bases_of w.allocations) (bases_of (world_behind c w e).allocations)
-    → AreAdmitted c.globals n (asked (call_decided c w.now e)) → OwnsFreedRun (world_behind c w e) (never_after c w n e)
-freed_run_stays c w n e known others mirrors h grows ad = owns c w n known others mirrors e.seat e.step h grows ad

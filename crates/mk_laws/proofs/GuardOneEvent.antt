@@ -146,22 +146,6 @@ turned_words : (pages : ℕ) (w : Words) (p k : ℕ) → may_turn_black pages w 
 unfolding may_turn_black
 turned_words pages w p k h sc = grind (arith, and_parts, or_cases)
 
-pub black_kind : (c : Config) (m : Moment) (seat : Seat) (p value : ℕ)
-    → Keeps c m (Behind c m seat (Step.Black p value)) → NewCellsAreGuarded c m (Behind c m seat (Step.Black p value))
-    → Meets c m seat (Step.Black p value) → BlackIsGuarded c m → BlackIsGuarded c (Behind c m seat (Step.Black p value))
-black_kind c m seat p value keeps new h black =
-    let own = and_parts _ (not (all_below 32 (λ k. not (blackens c.pages m.words p value k)))) h.holder in
-    let t = turned m.words c.pages p value 32
-    (not-true (all_below 32 (λ k. not (blackens c.pages m.words p value k))) own.1) in
-    let a = and_parts _ (may_turn_black c.pages m.words (record { page = p; index = t.bit })) t.is in
-    blackened c m _ p value keeps new refl (λ k is i lt sc li.
-    let e = bit_of_power t.bit k (rw (eqb-true value (2 ^ t.bit) a.0) at is) in
-    let words = turned_words c.pages m.words p t.bit a.1 sc in
-    let at : word_points_well c.pages m.words (64 * p + t.bit * words_under (header_in m.words p) + i) ≡ true =
-    all_below-at (cell_words m.words (record { page = p; index = t.bit })) i
-    (λ j. word_points_well c.pages m.words (first_word m.words (record { page = p; index = t.bit }) + j)) words li in
-    rw e (PointsWell at)) black
-
 -- `mblack`: the marker's scan is at its end
 pub mblack_kind : (c : Config) (m : Moment) (seat : Seat) → Known c m → Keeps c m (Behind c m seat Step.Mblack)
     → NewCellsAreGuarded c m (Behind c m seat Step.Mblack) → Meets c m seat Step.Mblack → Guard c m
@@ -261,8 +245,21 @@ module _ (c : Config) (w : World) (seat : Seat) (limits : IsWithinLimits c) (kno
   black_behind (Step.Head p n) h = black_kept c w.now _ (keeps_head p n h) (head p n h).new
       (λ q k is. inl (blacks_kind c w.now seat (Step.Head p n) refl q k is)) g.black
   black_behind (Step.Undirty q) h = undirty_kind c w seat q len early say h g.black
-  black_behind (Step.Black p n) h = black_kind c w.now seat p n (keeps_of (Step.Black p n) h refl refl)
-      (no_new_cells c w.now seat (Step.Black p n) refl) h g.black
+  black_behind (Step.Black p n) h =
+      let own = and_parts _ (not (all_below 32 (λ k. not (blackens c.pages w.now.words p n k)))) h.holder in
+      let t = turned w.now.words c.pages p n 32
+      (not-true (all_below 32 (λ k. not (blackens c.pages w.now.words p n k))) own.1) in
+      let a = and_parts _ (may_turn_black c.pages w.now.words (record { page = p; index = t.bit })) t.is in
+      blackened c w.now _ p n (keeps_of (Step.Black p n) h refl refl)
+      (no_new_cells c w.now seat (Step.Black p n) refl) refl (λ k is i lt sc li.
+      let e = bit_of_power t.bit k (rw (eqb-true n (2 ^ t.bit) a.0) at is) in
+      let words = turned_words c.pages w.now.words p t.bit a.1 sc in
+      let at : word_points_well c.pages w.now.words (64 * p + t.bit * words_under (header_in w.now.words p) + i)
+      ≡ true =
+      all_below-at (cell_words w.now.words (record { page = p; index = t.bit })) i
+      (λ j. word_points_well c.pages w.now.words (first_word w.now.words (record { page = p; index = t.bit }) + j))
+      words li in
+      rw e (PointsWell at)) g.black
   black_behind Step.Mblack h = mblack_kind c w.now seat known (keeps_of Step.Mblack h refl refl)
       (no_new_cells c w.now seat Step.Mblack refl) h g
   black_behind x h = rest x h refl refl refl

@@ -16,7 +16,7 @@ use Rattle.mk_laws.proofs.Basics.{Frees, Grants, KnownWorld, Move, Releases, Ren
 use Rattle.mk_laws.proofs.HeapEdits.{freed_was, freed_words, fresh_one, new_never, new_words, old_never, old_placed}
 use Rattle.mk_laws.proofs.HeapEdits.{written_alike}
 use Rattle.mk_laws.proofs.ImagesMoves.{Owes, SamePlaces, Shares, Stores}
-use Rattle.mk_laws.proofs.{EventSorts.goes, FreedRuns.freed_run_stays, FreedRuns.never_after, ImagesKept.images_kept}
+use Rattle.mk_laws.proofs.{EventSorts.goes, FreedRuns.never_after, FreedRuns.owns, ImagesKept.images_kept}
 use Rattle.mk_laws.specs.{Images.AreTwins, SafeSets.HasSafeSet}
 
 -- There is a safe set after each move, and the two lists of allocations still go together.
@@ -185,7 +185,7 @@ one_event c w n e known others mirrors on ad =
         twins = twins_kept safe.0 _ _ n (never_after c w n e) mirrors.twins leads.0;
         images = images_kept c.globals (image_scene_of w) n mirrors.images ready.small mirrors.typed
             mirrors.twins.count safe.0 _ _ ready.apart leads.0;
-        freed_run = freed_run_stays c w n e known others mirrors (enabled_meets c w.now e on) grows ad;
+        freed_run = owns c w n known others mirrors e.seat e.step (enabled_meets c w.now e on) grows ad;
         safe = safe_kept safe.0 _ _ n (never_after c w n e) safe.1 mirrors.twins.count leads.0;
       };
       bases = grows;

@@ -17,7 +17,7 @@ use Rattle.mk_laws.proofs.Basics.{Before, Laid, LeavesCells, Meets, WorldBehind,
 use Rattle.mk_laws.proofs.Basics.{gone_terrain, grants_new, holding_object, made_sized, new_has_turn, no_run}
 use Rattle.mk_laws.proofs.Basics.{none_on_its_way, page_within, placed_undecided, reg_leaves_ground, tally_ground}
 use Rattle.mk_laws.proofs.Basics.{with_header_on, with_used_on}
-use Rattle.mk_laws.proofs.Dropped.{dropped, ended, refreed, unreleasing}
+use Rattle.mk_laws.proofs.Dropped.{dropped, ended, unreleasing}
 use Rattle.mk_laws.proofs.LayoutHolders.{giver_has_turn, seat_operands}
 use Rattle.mk_laws.proofs.Serving.{head_carves, head_empties, head_unmaps, mark_places, used_gives_back, used_takes}
 use Rattle.mk_laws.proofs.{Claims.cells_behind, Freed.freed_terrain, Granted.granted_terrain, Ground.with_quarantine}
@@ -128,9 +128,9 @@ module _ (c : Config) (w : World) (seat : Seat) (b : Before c w) (laid : LayoutS
       by : QuarantineStep c w.now f p n → LaidNow c w (with_halves w p n)
       by (ItFrees off x) = still off
       by (ItTakesSnapshot x) = still (ne_eqb _ 4 (λ e. absurd (omega (arith, eqb-true _ 0 x.phase))))
-      by (ItDrops on x) = rw on (refreed c _ true w.now.words.marks
-          (record (ground_of w) { snapshot = slice_set w.now.words.snapshot p (n / 2 ^ 32) })
-          _ (dropped c _ w p (n % 2 ^ 32) (n / 2 ^ 32) (rw on at laid) x))
+      by (ItDrops on x) =
+          let d = dropped c _ w p (n % 2 ^ 32) (n / 2 ^ 32) (rw on at laid) x in
+          rw on (record { scene = d.scene; gone = d.gone; first = d.first; cells = d.cells })
 
   quar_kind : (p n : ℕ) → Meets c w.now seat (Step.Quar p n)
       → LaidNow c w (ground_of (WorldBehind c w seat (Step.Quar p n)))

@@ -183,7 +183,8 @@ module _ (c : Config) (w : World) (n : NeverState) (T : ℕ → Type 0) (precise
           | inl placed ↦
               let part = first_page_shows c w.now.words (placed_at w.allocations b) (sized c w n s.before b u)
               (headers c w n s.before b u) in
-              absurd (part_not_free _ 0 _ part (rw new.0 (place_is_free w.now.words o place p v placed)))
+              absurd (part_not_free (object_placed c (placed_at w.allocations b)) 0
+              (header_at w.now.words cell.page) part (rw new.0 (place_is_free w.now.words o place p v placed)))
           | inr unplaced ↦
               let hand : Option Hand = w.now.seats.holding.hand in
               let h = hand_marks w.now.words c.pages hand p v (left_holds _ _ s.meets.holder unplaced)
