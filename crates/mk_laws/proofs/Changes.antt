@@ -134,8 +134,7 @@ pub owed_kind : (c : Config) (m : Moment) (seat : Seat) (x : Step) → AreOfPage
 owed_kind c m (Caller k) x len h j p owes = elim (cases_eq j k) [
   | inr ne ↦
       let is = get_or-set_other m.seats.flights k j
-      (progress c m (flight_of m (Caller k)) (found c m (record { seat = Caller k; step = x })) x).flight at_rest ne
-      in
+      (progress c m (flight_of m (Caller k)) (found c m (record { seat = Caller k; step = x })) x).flight at_rest ne in
       inl (rw is owes.0, rw is owes.1)
   | inl e ↦
       let own : (flight_of m (Caller k)).stage ≡ Stage.Dirty = rw e at owes.0 in

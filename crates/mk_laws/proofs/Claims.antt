@@ -106,9 +106,8 @@ first_apart c run a xs u apart i v same =
     both.0 _ (claim_among c run xs i v) same
 
 -- Claims stay apart,
-pub apart_behind : (c : Config) (old new : Option RunPages) (g : PlacedAllocation
-    → PlacedAllocation) (xs : List PlacedAllocation) → LeavesCells g
-    → AreApart (claims_of c old xs) → AreApart (claims_of c new (map g xs))
+pub apart_behind : (c : Config) (old new : Option RunPages) (g : PlacedAllocation → PlacedAllocation)
+    (xs : List PlacedAllocation) → LeavesCells g → AreApart (claims_of c old xs) → AreApart (claims_of c new (map g xs))
 apart_behind c old new g [] leaves apart = apart
 apart_behind c old new g (a ∷ xs) leaves apart =
     let rest = apart_behind c old new g xs leaves (rest_apart c old a xs apart) in

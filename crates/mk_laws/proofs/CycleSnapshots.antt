@@ -30,9 +30,8 @@ data FlagsStep (w v : World) (i : ℕ) : Type 0 where
 
 -- `quar` (a): what stands in the cell wasn't freed
 freed_flags : (c : Config) (w : World) (cell : Cell) (n i : ℕ) → FreesHere c w cell n → IsQuarantined c w
-    → (placed_at w.allocations i).released ≡ false → (b : Bool)
-    → stands_in w.now.words cell (placed_at w.allocations i) ≡ b
-    → is_freed_before (freed_where_it_stands w.now.words (Some cell) (placed_at w.allocations i))
+    → (placed_at w.allocations i).released ≡ false → (b : Bool) → stands_in w.now.words cell (placed_at w.allocations i)
+    ≡ b → is_freed_before (freed_where_it_stands w.now.words (Some cell) (placed_at w.allocations i))
     ≡ is_freed_before (placed_at w.allocations i)
 freed_flags c w cell n i x q u true is = grind (arith, false_from_ne_true, is_freed_before)
 freed_flags c w cell n i x q u false is = grind arith

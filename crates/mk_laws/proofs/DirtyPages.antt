@@ -20,8 +20,7 @@ use Rattle.mk_laws.specs.FreePages.{DirtyPagesHaveAllocations}
 
 -- Which steps bring a call to where it owes a dirty mark: a store and an exchange.
 
-behind_is_dirty : (o : Op) (s : Stage) → stage_behind s (steps_of o) ≡ Stage.Dirty
-    → (s ≡ Stage.Write) ⊎ (s ≡ Stage.Cas)
+behind_is_dirty : (o : Op) (s : Stage) → stage_behind s (steps_of o) ≡ Stage.Dirty → (s ≡ Stage.Write) ⊎ (s ≡ Stage.Cas)
 behind_is_dirty o Stage.Write h = inl refl
 behind_is_dirty o Stage.Cas h = inr refl
 behind_is_dirty (Op.New d ty full) s h = cc

@@ -28,9 +28,8 @@ use Rattle.mk_laws.specs.WholeRuns.{RunsAreWhole}
 -- The words of released cells are in no mapped allocation: what is wiped stays so.
 
 -- A word of a page points into what the page's header shows there.
-under_at : (count : ℕ) (w : Words) (n q : ℕ) (y : Cell) → n / 64 ≡ q
-    → pointed_cell count w.pages (address_of n) ≡ Some y
-    → (h : Header) × (header_in w q ≡ Some h) × (cell_under h q (n % 64) ≡ Some y)
+under_at : (count : ℕ) (w : Words) (n q : ℕ) (y : Cell) → n / 64 ≡ q → pointed_cell count w.pages (address_of n)
+    ≡ Some y → (h : Header) × (header_in w q ≡ Some h) × (cell_under h q (n % 64) ≡ Some y)
 unfolding pointed_cell
 under_at count w n q y at is =
     let u = found_under count (header_at w (page_at_address (address_of n))) (address_of n) y is in
@@ -129,8 +128,7 @@ module _ (c : Config) (w : World) (runs : RunsAreWhole c w) where
   word_cell _ p k i y shown lk li used is = absurd (omega arith)
 
 module _ (c : Config) (w v : World) (n : NeverState) (known : KnownWorld c w) (all : Invariant c w n)
-    (pages : v.now.words.pages ≡ w.now.words.pages)
-    (outside : (i : ℕ) → (IsWordOfMapped c w.allocations i → ⊥)
+    (pages : v.now.words.pages ≡ w.now.words.pages) (outside : (i : ℕ) → (IsWordOfMapped c w.allocations i → ⊥)
     → slice_index v.now.words.heap i ≡ slice_index w.now.words.heap i) where
   -- no word of a cell that is given back is one of a mapped allocation
   released_word : (p value k i : ℕ) → is_phase w.now.words 4 ≡ true → gives_back w.now.words p value ≡ true
@@ -195,8 +193,7 @@ host_stays_out : (c : Config) (es more : List Event) → IsHistory c (es ++ more
     → (left c es).now.words.turn ≢ 1 + c.callers → (left c (es ++ more)).now.words.turn ≢ 1 + c.callers
 host_stays_out c es more h others = along_others c (Host ∷ []) (λ xs ys. (left c xs).now.words.turn ≢ 1 + c.callers
     → (left c ys).now.words.turn ≢ 1 + c.callers) (λ xs out. out) (λ xs ys zs f g out. g (f out))
-    (λ xs e whole other out.
-    rw (comes_last c xs e whole).leaves (turn_after c (left c xs).now e.seat
+    (λ xs e whole other out. rw (comes_last c xs e whole).leaves (turn_after c (left c xs).now e.seat
     e.step (comes_last c xs e whole).meets (other_seat Host e.seat other) out)) es more h others
 
 -- the order of steps

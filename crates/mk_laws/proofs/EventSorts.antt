@@ -123,8 +123,7 @@ module _ (c : Config) (w : World) (n : NeverState) (known : KnownWorld c w) (mir
         and_parts (safe a) (is_marked w.now.words (cell_of_allocation c (placed a))) ka in word_cut
         a i parts.0 parts.1 mapped;
     unreleased = λ a ka.
-        let parts = and_parts (safe a) (is_marked w.now.words (cell_of_allocation c (placed a))) ka
-        in
+        let parts = and_parts (safe a) (is_marked w.now.words (cell_of_allocation c (placed a))) ka in
         let u = ready.set.unreleased a parts.0 in
         let x = placed a in
         let cell = cell_of_allocation c x in
@@ -241,72 +240,61 @@ module _ (c : Config) (w : World) (n : NeverState) (known : KnownWorld c w) (mir
   grant_phase : (p : ℕ) → ((p == 0) || (p == 1)) ≡ true → p ≢ 4
   grant_phase p h = grind (arith, or_cases, eqb-true)
 
-  caller_goes : (k : ℕ) (x : Step) → MeetsOf c w (Caller k) x → AdmittedOf c w n (record { seat = Caller k; step = x })
-      → Goes c w n safe (record { seat = Caller k; step = x })
-  caller_goes k (Step.Enter o) h ad = enter_leads c w n known mirrors safe ready k o h
-  caller_goes k Step.Leave h ad = leave_leads c w n known mirrors safe ready k h
-  caller_goes k Step.Reg h ad = reg_leads_at c w n known mirrors safe ready k h ad
-  caller_goes k Step.Probe h ad =
+  pub goes : (seat : Seat) (x : Step) → MeetsOf c w seat x → AdmittedOf c w n (record { seat = seat; step = x })
+      → Goes c w n safe (record { seat = seat; step = x })
+  goes (Caller k) (Step.Enter o) h ad = enter_leads c w n known mirrors safe ready k o h
+  goes (Caller k) Step.Leave h ad = leave_leads c w n known mirrors safe ready k h
+  goes (Caller k) Step.Reg h ad = reg_leads_at c w n known mirrors safe ready k h ad
+  goes (Caller k) Step.Probe h ad =
       let f = flight_of w.now (Caller k) in
       let lt = ltb-true k c.callers h.seat in
       let in_call = calls_stand f.stage f.op (ap is_call_stage (at_its_stage f.stage f.op Step.Probe refl h.order))
       (not_astray c w.now known.now.orderly k lt) in
-      probe_leads_at c w n known mirrors safe ready k
-      (shown_in_call c w n known mirrors others st k lt in_call) h ad
-  caller_goes k Step.Read h ad = read_leads_at c w n known mirrors safe ready k h ad
-  caller_goes k Step.Write h ad = write_leads_at c w n known mirrors safe ready k h ad
-  caller_goes k Step.Cas h ad = cas_leads_at c w n known mirrors safe ready k h ad
-  caller_goes k Step.Getg h ad = getg_leads_at c w n known mirrors safe ready k h
-  caller_goes k Step.Setg h ad = setg_leads_at c w n known mirrors safe ready k h
-  caller_goes k Step.Dirty h ad = dirty_leads c w n known mirrors safe ready k h
-  caller_goes k (Step.Take (Some o)) h ad =
+      probe_leads_at c w n known mirrors safe ready k (shown_in_call c w n known mirrors others st k lt in_call) h ad
+  goes (Caller k) Step.Read h ad = read_leads_at c w n known mirrors safe ready k h ad
+  goes (Caller k) Step.Write h ad = write_leads_at c w n known mirrors safe ready k h ad
+  goes (Caller k) Step.Cas h ad = cas_leads_at c w n known mirrors safe ready k h ad
+  goes (Caller k) Step.Getg h ad = getg_leads_at c w n known mirrors safe ready k h
+  goes (Caller k) Step.Setg h ad = setg_leads_at c w n known mirrors safe ready k h
+  goes (Caller k) Step.Dirty h ad = dirty_leads c w n known mirrors safe ready k h
+  goes (Caller k) (Step.Take (Some o)) h ad =
       let f = flight_of w.now (Caller k) in
       begins c w n known mirrors safe ready k f.op o _ (ap is_put (at_take f.stage f.op o h.order).0)
-  caller_goes k (Step.Take None) h ad = absurd (at_no_take _ _ h.order)
-  caller_goes k Step.Give h ad = let f =
+  goes (Caller k) (Step.Take None) h ad = absurd (at_no_take _ _ h.order)
+  goes (Caller k) Step.Give h ad = let f =
       flight_of w.now (Caller k) in bare_on c w n known mirrors safe ready k f.op at_rest
       (turn_plain f.stage (of_turn f.stage f.op Step.Give refl refl h.order)) refl
-  caller_goes k (Step.Look x) h ad = look_by c w n known mirrors others safe ready st k (ltb-true k c.callers h.seat)
+  goes (Caller k) (Step.Look x) h ad = look_by c w n known mirrors others safe ready st k (ltb-true k c.callers h.seat)
       _ x refl
-  caller_goes k (Step.Quar p v) h ad =
+  goes (Caller k) (Step.Quar p v) h ad =
       quar_by c w n known mirrors others safe ready st k (ltb-true k c.callers h.seat) _ p v
       _ refl refl (quiet_at k p v h)
-  caller_goes k Step.Grant h ad =
+  goes (Caller k) Step.Grant h ad =
       let f = flight_of w.now (Caller k) in
       let lt = ltb-true k c.callers h.seat in
       grant_by c w n known mirrors others safe ready st k lt f.stage f.op f.q f.p f.r f.loaded
       w.now.seats.holding.placing refl h.order (h.holder) refl
       (lt, new_stands f.stage f.op (grants_new c w.now (Caller k) h)) (grant_phase _ h.phase) (known.now.operands k)
-  caller_goes k Step.Full h ad =
+  goes (Caller k) Step.Full h ad =
       let f = flight_of w.now (Caller k) in
       full_by c w n known mirrors others safe ready st k (ltb-true k c.callers h.seat) f.stage f.op f.q f.p f.r f.loaded
       refl h.order
-  caller_goes k x h ad = still_leads k _ (still_moves (Caller k) x refl h) refl
-
-  host_goes : (x : Step) → MeetsOf c w Host x → Goes c w n safe (record { seat = Host; step = x })
-  host_goes Step.Reg h = absurd (false≢true h.kind)
-  host_goes Step.Write h = absurd (false≢true h.kind)
-  host_goes Step.Cas h = absurd (false≢true h.kind)
-  host_goes Step.Setg h = absurd (false≢true h.kind)
-  host_goes Step.Grant h = absurd (no_holder _ h.order)
+  goes (Caller k) x h ad = still_leads k _ (still_moves (Caller k) x refl h) refl
+  goes Host Step.Reg h ad = absurd (false≢true h.kind)
+  goes Host Step.Write h ad = absurd (false≢true h.kind)
+  goes Host Step.Cas h ad = absurd (false≢true h.kind)
+  goes Host Step.Setg h ad = absurd (false≢true h.kind)
+  goes Host Step.Grant h ad = absurd (no_holder _ h.order)
     where
       no_holder : (b : Bool) → (b && false) ≡ true → ⊥
       no_holder true e = false≢true e
       no_holder false e = false≢true e
-  host_goes (Step.Quar p v) h = (rw (none_target _) (rw (none_freed w.now.words w.allocations) Rests), λ more. refl)
-  host_goes x h = (still_moves Host x refl h, λ more. refl)
-
-  marker_goes : (k : ℕ) (x : Step) → MeetsOf c w (Marker k) x → Goes c w n safe (record { seat = Marker k; step = x })
-  marker_goes k Step.Reg h = absurd (false≢true h.kind)
-  marker_goes k Step.Write h = absurd (false≢true h.kind)
-  marker_goes k Step.Cas h = absurd (false≢true h.kind)
-  marker_goes k Step.Setg h = absurd (false≢true h.kind)
-  marker_goes k Step.Grant h = absurd (false≢true h.kind)
-  marker_goes k (Step.Quar p v) h = absurd (false≢true h.kind)
-  marker_goes k x h = (still_moves (Marker k) x refl h, λ more. refl)
-
-  pub goes : (seat : Seat) (x : Step) → MeetsOf c w seat x → AdmittedOf c w n (record { seat = seat; step = x })
-      → Goes c w n safe (record { seat = seat; step = x })
-  goes (Caller k) x h ad = caller_goes k x h ad
-  goes (Marker k) x h ad = marker_goes k x h
-  goes Host x h ad = host_goes x h
+  goes Host (Step.Quar p v) h ad = (rw (none_target _) (rw (none_freed w.now.words w.allocations) Rests), λ more. refl)
+  goes Host x h ad = (still_moves Host x refl h, λ more. refl)
+  goes (Marker k) Step.Reg h ad = absurd (false≢true h.kind)
+  goes (Marker k) Step.Write h ad = absurd (false≢true h.kind)
+  goes (Marker k) Step.Cas h ad = absurd (false≢true h.kind)
+  goes (Marker k) Step.Setg h ad = absurd (false≢true h.kind)
+  goes (Marker k) Step.Grant h ad = absurd (false≢true h.kind)
+  goes (Marker k) (Step.Quar p v) h ad = absurd (false≢true h.kind)
+  goes (Marker k) x h ad = (still_moves (Marker k) x refl h, λ more. refl)

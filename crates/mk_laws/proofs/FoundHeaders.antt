@@ -40,9 +40,8 @@ run_cell_under o distance page word x (OfLeafRun z l leaf) large = first_cell di
 run_cell_under o distance page word x (OfLater mapped some l) large = refl
 
 run_cell_at : (pages header value distance : ℕ) (o : Object) → ShowsPart o distance (header_of header)
-    → is_small_object o ≡ false
-    → cell_at pages header value ≡ (if is_heap_address pages value then run_cell distance (page_at_address value)
-    else None)
+    → is_small_object o ≡ false → cell_at pages header value
+    ≡ (if is_heap_address pages value then run_cell distance (page_at_address value) else None)
 run_cell_at pages header value distance o part large =
     ap (λ (x : Option Cell). if is_heap_address pages value then x else None)
     (run_cell_under o distance _ _ _ part large)

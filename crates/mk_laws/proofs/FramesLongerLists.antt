@@ -155,9 +155,8 @@ module _ (c : Config) (es more : List Event) (k : ℕ) (x : Step) (h : IsHistory
 
   -- The turn's holder sees the same freed bits and target.
 
-  sees_freed : (y : Word) → x ≡ Step.Look y
-      → sees_double v.now.words (target c.pages v.now.words f) y ≡ sees_double w.now.words
-      (target c.pages w.now.words f) y
+  sees_freed : (y : Word) → x ≡ Step.Look y → sees_double v.now.words (target c.pages v.now.words f) y
+      ≡ sees_double w.now.words (target c.pages w.now.words f) y
   sees_freed y is = ap (λ (s : Steady). sees_double (record w.now.words { pages = s.pages; freed = s.freed })
       (target c.pages (record w.now.words { pages = s.pages; freed = s.freed }) f) y)
       (kept.turn (holding (ap is_holders is))).0.steady

@@ -125,9 +125,8 @@ module _ (c : Config) (w : World) (n : NeverState) (known : KnownWorld c w) (all
   -- What has a word of a run begins where the run does.
   in_run : (o : Object) (base : ℕ) (cell : Cell) (i : ℕ) → OnPage w.now.words o base (first_word w.now.words cell + i)
       → cell.index < cells_under (header_in w.now.words cell.page) → i < cell_words w.now.words cell
-      → heads_run (header_in w.now.words cell.page) ≡ true → cell.index ≡ 0
-      → cell_words w.now.words cell ≡ 64 * run_count (header_in w.now.words cell.page)
-      → base ≡ first_word w.now.words cell
+      → heads_run (header_in w.now.words cell.page) ≡ true → cell.index ≡ 0 → cell_words w.now.words cell
+      ≡ 64 * run_count (header_in w.now.words cell.page) → base ≡ first_word w.now.words cell
   in_run o base cell i on lt near heads first_one words =
       let size : ℕ = words_under (header_in w.now.words cell.page) in
       let first : cell.index * size ≡ 0 * size = ap (λ k. k * size) first_one in

@@ -224,8 +224,7 @@ module _ (c : Config) (o : Object) (w : World) (cell : Cell) (limits : IsWithinL
       rw (← own.is) (stands_in_its_cell c w.now.words a limits s.stands s.headers) in
       let freed : PlacedAllocation = record a { freed = true; fresh = true } in
       rw (run_large _ _ cell.page part large) (remoded c o false w.now.words.marks (ground_of w) (Some run) frees st
-      (modes (Some run) (λ i u h l. eq-eqb cell.page _
-      (sym (ap (λ (x : Cell). x.page) (cell_of i u h))))) (record {
+      (modes (Some run) (λ i u h l. eq-eqb cell.page _ (sym (ap (λ (x : Cell). x.page) (cell_of i u h))))) (record {
         claim = claim_of c (Some run) freed;
         among = rw (cond-true _ freed a in_cell) at (changed_among c (Some run) frees w.allocations own.number
             (freeing_leaves w.now.words (Some cell)) (stays_unreleased a own.unreleased));

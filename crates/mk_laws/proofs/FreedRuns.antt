@@ -40,9 +40,8 @@ new_is_undecided : (s : Stage) (o : Op) → is_new_at s o ≡ true → is_decide
 new_is_undecided Stage.Give (Op.Free p) new free = cc
 new_is_undecided _ _ new free = cc
 
-pub frees_run : (c : Config) (m : Moment) (k : ℕ) (run : RunPages) → Orderly c (view_of m)
-    → HoldsTurn c (view_of m) (Caller k) → m.seats.holding.freed ≡ Some run
-    → is_decided_free (flight_of m (Caller k)) ≡ true
+pub frees_run : (c : Config) (m : Moment) (k : ℕ) (run : RunPages) → Orderly c (view_of m) → HoldsTurn c (view_of m)
+    (Caller k) → m.seats.holding.freed ≡ Some run → is_decided_free (flight_of m (Caller k)) ≡ true
 frees_run c m k run o hold e = rw (holders_flight c (view_of m) (Caller k) o hold) at (o.served.freed (rw e))
 
 -- While a New is undecided no run is freed.
@@ -164,10 +163,9 @@ module _ (c : Config) (w : World) (n : NeverState) (known : KnownWorld c w) (oth
   ready = ready_of c w n known mirrors st mirrors.safe.0 mirrors.safe.1
 
   -- what a register points at is there after the event
-  points_on : (e : Event) (k r : ℕ) (run : RunPages)
-      → IsLonger (bases_of w.allocations) (bases_of (world_behind c w e).allocations)
-      → register_at (never_after c w n e) k r ≡ register_at n k r → PointsAtRun w n k r run
-      → PointsAtRun (world_behind c w e) (never_after c w n e) k r run
+  points_on : (e : Event) (k r : ℕ) (run : RunPages) → IsLonger (bases_of w.allocations)
+      (bases_of (world_behind c w e).allocations) → register_at (never_after c w n e) k r ≡ register_at n k r
+      → PointsAtRun w n k r run → PointsAtRun (world_behind c w e) (never_after c w n e) k r run
   points_on e k r run grows same h =
       let sound : IsSound n (Ptr h.number h.ty h.offset) = rw h.is at (mirrors.typed.registers (8 * k + r)) in
       let there : h.number < length n.allocations = sound.0 in

@@ -47,9 +47,8 @@ module _ (c : Config) (w : World) (cell : Cell) (n : ℕ) (b : Before c w) (off 
   own = placed_at w.allocations x.own.number
 
   -- the others stay
-  others_count : (i : ℕ) → i ≢ x.own.number → (stand : Bool)
-      → stands_in w.now.words cell (placed_at w.allocations i) ≡ stand
-      → fresh_part c (if stand then freed_fresh (placed_at w.allocations i) else placed_at w.allocations i)
+  others_count : (i : ℕ) → i ≢ x.own.number → (stand : Bool) → stands_in w.now.words cell (placed_at w.allocations i)
+      ≡ stand → fresh_part c (if stand then freed_fresh (placed_at w.allocations i) else placed_at w.allocations i)
       ≡ fresh_part c (placed_at w.allocations i)
   others_count i ne false is = refl
   others_count i ne true is =

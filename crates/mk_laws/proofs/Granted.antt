@@ -20,9 +20,8 @@ pub pushed_any : (xs : List PlacedAllocation) (a : PlacedAllocation) (i : ℕ)
     → (placed_at (xs ++ a ∷ []) i ≡ placed_at xs i) ⊎ (placed_at (xs ++ a ∷ []) i ≡ a)
 pushed_any xs a i = elim (pushed_new xs a i) [ inl e ↦ inl e | inr e ↦ inr e.0 ]
 
-pub pushed_at : (xs : List PlacedAllocation) (a : PlacedAllocation) (i : ℕ)
-    → (placed_at (xs ++ a ∷ []) i).released ≡ false
-    → (((placed_at xs i).released ≡ false) × (placed_at (xs ++ a ∷ []) i ≡ placed_at xs i))
+pub pushed_at : (xs : List PlacedAllocation) (a : PlacedAllocation) (i : ℕ) → (placed_at (xs ++ a ∷ []) i).released
+    ≡ false → (((placed_at xs i).released ≡ false) × (placed_at (xs ++ a ∷ []) i ≡ placed_at xs i))
     ⊎ (placed_at (xs ++ a ∷ []) i ≡ a)
 pushed_at xs a i u = elim (pushed_any xs a i) [ inl e ↦ inl (rw (← e) u, e) | inr e ↦ inr e ]
 

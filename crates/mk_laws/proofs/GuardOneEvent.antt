@@ -280,8 +280,7 @@ module _ (c : Config) (w : World) (seat : Seat) (limits : IsWithinLimits c) (kno
     where
       rest : (x : Step) → Meets c w.now seat x → is_head x ≡ false → is_undirty x ≡ false
           → is_attending (marker_of (After x) j).presence ≡ true → MarkerStands c (After x) (marker_of (After x) j)
-      rest x h no_head no_clean at =
-          markers_stand c w.now seat x len h (keeps_of x h no_head no_clean) g.markers j at
+      rest x h no_head no_clean at = markers_stand c w.now seat x len h (keeps_of x h no_head no_clean) g.markers j at
 
   guard_behind : (x : Step) → Meets c w.now seat x → Guard c (After x)
   guard_behind x h = record { black = black_behind x h; markers = markers_behind x h }

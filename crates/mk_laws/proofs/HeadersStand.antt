@@ -94,9 +94,8 @@ alike_at c w xs i j p r u v small at page = elim (cases_Bool (is_small_object (o
 ]
 
 -- the header of a block's page
-block_shown : (c : Config) (w : Words) (xs : List PlacedAllocation) (i : ℕ) → Rests c w xs
-    → (placed_at xs i).released ≡ false → is_small_object (object_placed c (placed_at xs i)) ≡ true
-    → header_at w ((placed_at xs i).base / 64)
+block_shown : (c : Config) (w : Words) (xs : List PlacedAllocation) (i : ℕ) → Rests c w xs → (placed_at xs i).released
+    ≡ false → is_small_object (object_placed c (placed_at xs i)) ≡ true → header_at w ((placed_at xs i).base / 64)
     ≡ word_of (block_header (class_made (object_placed c (placed_at xs i))) (object_placed c (placed_at xs i)).leaf)
 block_shown c w xs i r u s =
     let a : PlacedAllocation = placed_at xs i in
@@ -168,8 +167,7 @@ module _ (c : Config) (w : Words) (xs : List PlacedAllocation) (i p : ℕ) (r : 
       let some : 1 ≤ storage_words c a = (words_within o sized).0 in
       let stands : stands_on p s ≡ true = stands_from p s (omega arith) (omega arith) in
       let same = class_of_words s class (class_known o sized small).0 (small_words o small) in
-      ap (λ h. record { header = h; used = used_at w p }) (ap (header_at w) (sym at)
-      ∙ block_shown c w xs i r u small)
+      ap (λ h. record { header = h; used = used_at w p }) (ap (header_at w) (sym at) ∙ block_shown c w xs i r u small)
       ∙ ap (λ v. record { header = word_of (block_header class o.leaf); used = v }) used
       ∙ ap (λ m. block_page m o.leaf (used_word (taken_cells (unreleased_storage c xs) p m))) (sym same)
       ∙ sym (words_by_small p (unreleased_storage c xs) s (small_is c a sized ∙ small))
@@ -184,9 +182,8 @@ module _ (c : Config) (w : Words) (xs : List PlacedAllocation) (i p : ℕ) (r : 
           ∙ cells_at_claim (quiet_scene c w xs) (claim_of c None a) (shown_of c w xs i r u) ∙ small_cells o small
 
       -- where a small object of the class begins
-      begins_at : (j : ℕ) → (v : (placed_at xs j).released ≡ false)
-          → is_small_object (object_placed c (placed_at xs j)) ≡ true
-          → class_made (object_placed c (placed_at xs j)) ≡ class → (placed_at xs j).base % 64
+      begins_at : (j : ℕ) → (v : (placed_at xs j).released ≡ false) → is_small_object (object_placed c (placed_at xs j))
+          ≡ true → class_made (object_placed c (placed_at xs j)) ≡ class → (placed_at xs j).base % 64
           ≡ (cell_of_allocation c (placed_at xs j)).index * class_words_of class
       begins_at j v s same =
           let b = (r.cells j v).begins in

@@ -118,8 +118,7 @@ safe_leads safe _ number is leads = absurd leads
 pub reached_is_unreleased : ReachedIsUnreleased
 reached_is_unreleased c es h others number reached =
     let set = (histories_mirror c es h others).safe in
-    set.1.unreleased number (reached_is_in _ (λ a. set.0 a ≡ true)
-    record {
+    set.1.unreleased number (reached_is_in _ (λ a. set.0 a ≡ true) record {
       registers = λ r a leads. safe_leads set.0 _ a (set.1.registers r) leads;
       globals = λ g a leads. safe_leads set.0 _ a (set.1.globals g) leads;
       words = λ from place a is leads. safe_leads set.0 _ a (set.1.closed from place is leads.0) leads.1;

@@ -95,9 +95,8 @@ other_register n k d j r v ld lr ne =
 
 -- the registers of all, where the flight goes on with nothing owed
 plain_registers : (s : ImageScene) (n : NeverState) → AreImages s n → AreSmall s.flights → (k : ℕ) (f : Flight)
-    → Decides s n k f → (i : ℕ)
-    → shown (flight_among (slice_set s.flights k f) (i / 8)) (i % 8) (slice_index s.registers i)
-    ≡ image_of (bases_of s.allocations) (slice_index_or n.registers i Null)
+    → Decides s n k f → (i : ℕ) → shown (flight_among (slice_set s.flights k f) (i / 8)) (i % 8)
+    (slice_index s.registers i) ≡ image_of (bases_of s.allocations) (slice_index_or n.registers i Null)
 plain_registers s n h small k f at = grind (arith, registers_from, shows_plain, bare_owes_nothing, own_plain)
 
 pub rebased : (s : ImageScene) (n : NeverState) → AreImages s n → (xs : List PlacedAllocation)
@@ -131,8 +130,7 @@ module _ (globals : List ℕ) (s : ImageScene) (n : NeverState) (h : AreImages s
           (shows_owed f _ put ∙ is ∙ ap (image_of bases)
           (sym (get_or-set_same n.registers (8 * k + d_of f.op) v Null (omega arith))))
       | inr ne ↦ shows_other f r _ put (λ e. ne (sym e)) ∙ own_plain s n h k r lr was ∙ ap (image_of bases)
-          (sym (get_or-set_other n.registers (8 * k + d_of f.op) (8 * k + r) v Null
-          (λ e. absurd (ne (omega arith)))))
+          (sym (get_or-set_other n.registers (8 * k + d_of f.op) (8 * k + r) v Null (λ e. absurd (ne (omega arith)))))
     ]) (λ i ne. h.registers i ∙ ap (image_of bases)
         (sym (get_or-set_other n.registers (8 * k + d_of f.op) i v Null (λ e. absurd (ne (omega arith))))));
     globals = h.globals;
@@ -196,8 +194,7 @@ module _ (globals : List ℕ) (s : ImageScene) (n : NeverState) (h : AreImages s
     carried = others_carry _ _ s.flights k f n (with_global n g v) at.there small
         (λ a b d. bare_carries _ f a b d at.bare) (λ j r ne lr. refl) h.carried;
     probed = others_probed s.flights k f n (with_global n g v) at.there small (bare_unprobed f.stage at.bare)
-        (λ j r ne lr. refl) (λ j ne past v' i m. met_same n (with_global n g v) v' i (λ a. refl) (λ a u. u) m)
-        h.probed;
+        (λ j r ne lr. refl) (λ j ne past v' i m. met_same n (with_global n g v) v' i (λ a. refl) (λ a u. u) m) h.probed;
   }
   images_kept t m apart (Writes k a i x f v at ua mapped li inside is safely) =
       let alike = written_alike n a i v in
@@ -303,6 +300,5 @@ module _ (globals : List ℕ) (s : ImageScene) (n : NeverState) (h : AreImages s
               | inr e ↦ met_same n (with_freed n a) v i (λ b. rw (freed_words n a b)) (λ b u. freed_is n a b e u) m
             ]) h.probed;
       }) xs places.bases (λ b u. sym (released b) ∙ u)
-  images_kept t m apart (Renews xs places released freed) =
-      rebased s n h xs places.bases (λ b u. sym (released b) ∙ u)
+  images_kept t m apart (Renews xs places released freed) = rebased s n h xs places.bases (λ b u. sym (released b) ∙ u)
   images_kept t m apart (Releases xs places released freed kept cut) = rebased s n h xs places.bases released

@@ -200,8 +200,7 @@ module _ (c : Config) (w : World) (seat : Seat) (b : Before c w) (laid : LayoutS
   give_kind h =
       (placeless c (object_now c w.now) (object_now c w.now) four w.now.words.marks
       (record (ground_of w) { run = None }) w.now.seats.holding.placing refl
-      (false_from_ne_true (has_place w.now.seats.holding.placing) no_place)
-      (gone_terrain c (object_now c w.now) four w
+      (false_from_ne_true (has_place w.now.seats.holding.placing) no_place) (gone_terrain c (object_now c w.now) four w
       (λ run is. unmapped w.now.seats.holding.freed is decides.1) laid)).1
     where
       decides : (is_decided f.stage ≡ true) × (is_run_gone w.now.words w.now.seats.holding.freed ≡ true)

@@ -140,9 +140,8 @@ seen_marks : (c : Config) (m : Moment) (x : MarkerState) (k : ℕ) → MarkerSta
 unfolding pointed_cell
 seen_marks c m x k stand bit own = by x.seen x.hand refl refl own bit
   where
-    by : (seen : Option SeenHeader) (hand : Option ℕ) → x.seen ≡ seen → x.hand ≡ hand
-        → is_some (cell_seen c seen hand) ≡ true
-        → has_bit (seen_bit (cell_seen c seen hand)) k ≡ true → MarksSeen c m.words x k
+    by : (seen : Option SeenHeader) (hand : Option ℕ) → x.seen ≡ seen → x.hand ≡ hand → is_some (cell_seen c seen hand)
+        ≡ true → has_bit (seen_bit (cell_seen c seen hand)) k ≡ true → MarksSeen c m.words x k
     by (Some q) (Some value) es eh own bit = at (q.page == page_at_address value) refl _ refl own bit
       where
         at : (b : Bool) → (q.page == page_at_address value) ≡ b → (y : Option Cell) → cell_at c.pages q.header value ≡ y

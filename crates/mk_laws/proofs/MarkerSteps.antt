@@ -60,15 +60,13 @@ scanned_head c w n p k x t known from to some = by (header_in w.now.words p) ref
 
     by : (o : Option Header) → header_in w.now.words p ≡ o → k < cells_under o → 64 * p + k * words_under o ≤ x
         → x < 64 * p + k * words_under o + words_under o → head_page w.now.words (x / 64) ≡ p
-    by None is lt lo hi = absurd (omega arith)
-    by (Some Free) is lt lo hi = absurd (omega arith)
-    by (Some (Later distance mapped)) is lt lo hi = absurd (omega arith)
     by (Some (Block class)) is lt lo hi =
         let ends = cell_ends k _ lt in here (Some (Block class)) is refl (omega arith)
     by (Some (LeafBlock class)) is lt lo hi =
         let ends = cell_ends k _ lt in here (Some (LeafBlock class)) is refl (omega arith)
     by (Some (Run count mapped)) is lt lo hi = on_run _ count is refl refl refl lt lo hi
     by (Some (LeafRun count)) is lt lo hi = on_run _ count is refl refl refl lt lo hi
+    by _ is lt lo hi = absurd (omega arith)
 
 -- What points somewhere is on a page with a header.
 pointed_some : (c : Config) (w : World) (v : ℕ) (y : Cell) → pointed_cell c.pages w.now.words.pages v ≡ Some y
@@ -202,8 +200,7 @@ loaded_points c w n seat x after T hand z s precise st less none b points =
     let o : IsHeld c w z.next = held c w n s.before s.early z.next (λ e. absurd (omega arith)) in
     let a : PlacedAllocation = placed_at w.allocations o.number in
     let same : cell_of_allocation c a ≡ cell_scanned z =
-    scanned_cell c w n z.page z.index z.next o.number s.before st.index st.start
-    (inside st.end) o.unreleased o.word in
+    scanned_cell c w n z.page z.index z.next o.number s.before st.index st.start (inside st.end) o.unreleased o.word in
     let touched : T o.number = precise.marked o.number o.unreleased
     (subst (λ (y : Cell). is_marked w.now.words y ≡ true) (sym same) st.marked) in
     let leaf : (storage_of c a).leaf ≡ false =
