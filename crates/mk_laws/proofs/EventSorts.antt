@@ -280,10 +280,10 @@ module _ (c : Config) (w : World) (n : NeverState) (known : KnownWorld c w) (mir
       full_by c w n known mirrors others safe ready st k (ltb-true k c.callers h.seat) f.stage f.op f.q f.p f.r f.loaded
       refl h.order
   goes (Caller k) x h ad = still_leads k _ (still_moves (Caller k) x refl h) refl
-  goes Host Step.Reg h ad = absurd (false≢true h.kind)
-  goes Host Step.Write h ad = absurd (false≢true h.kind)
-  goes Host Step.Cas h ad = absurd (false≢true h.kind)
-  goes Host Step.Setg h ad = absurd (false≢true h.kind)
+  goes _ Step.Reg h ad = absurd (false≢true h.kind)
+  goes _ Step.Write h ad = absurd (false≢true h.kind)
+  goes _ Step.Cas h ad = absurd (false≢true h.kind)
+  goes _ Step.Setg h ad = absurd (false≢true h.kind)
   goes Host Step.Grant h ad = absurd (no_holder _ h.order)
     where
       no_holder : (b : Bool) → (b && false) ≡ true → ⊥
@@ -291,10 +291,6 @@ module _ (c : Config) (w : World) (n : NeverState) (known : KnownWorld c w) (mir
       no_holder false e = false≢true e
   goes Host (Step.Quar p v) h ad = (rw (none_target _) (rw (none_freed w.now.words w.allocations) Rests), λ more. refl)
   goes Host x h ad = (still_moves Host x refl h, λ more. refl)
-  goes (Marker k) Step.Reg h ad = absurd (false≢true h.kind)
-  goes (Marker k) Step.Write h ad = absurd (false≢true h.kind)
-  goes (Marker k) Step.Cas h ad = absurd (false≢true h.kind)
-  goes (Marker k) Step.Setg h ad = absurd (false≢true h.kind)
   goes (Marker k) Step.Grant h ad = absurd (false≢true h.kind)
   goes (Marker k) (Step.Quar p v) h ad = absurd (false≢true h.kind)
   goes (Marker k) x h ad = (still_moves (Marker k) x refl h, λ more. refl)

@@ -45,7 +45,7 @@ module _ (c : Config) (w : World) (n : NeverState) (known : KnownWorld c w) (all
   of_one quiet x some = by (all.zeros x some)
     where
       by : MayHold c (zero_scene_of w) x → IsOfOne c w x
-      by (OfMapped m) = grind (arith, mapped_stays) steps 200000
+      by (OfMapped m) = grind (arith, mapped_stays)
       by (OfReleased r) = absurd (none_released c (zero_scene_of w) x (not_releasing w quiet) r)
       by (OfFreedRun f) =
           let run = (told_to_images c w n known all).freed_run f.run f.there in

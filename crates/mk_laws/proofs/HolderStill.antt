@@ -182,7 +182,7 @@ module _ (c : Config) (w v : World) (kept : TurnIsLeft w v) (own : v.now.seats.h
       (λ four e. empties_same p n ∙ e) (λ off e. or_on _ _ _ _ (carves_on f p n) (λ u. rw own (rw pages u)) e) h
   holder_on s f (Step.Used p n) gates at written gone wiped h = used_on f p n (wiped p n) h
   holder_on s f (Step.Quar p n) gates at written gone wiped h =
-      grind (arith, phase, if_on, drops_same, quiet_at_4, or_on, frees_same, snapshot_same) steps 200000
+      grind (arith, phase, if_on, drops_same, quiet_at_4, or_on, frees_same, snapshot_same)
   holder_on s f Step.Grant gates at written gone wiped h = ap (λ (x : Holding). is_used_once x.placing) own ∙ h
   holder_on s f (Step.Open j) gates at written gone wiped h = ap (λ (x : Holding). is_run_gone b x.freed) own ∙ gone h
   holder_on s f (Step.Mark p n) gates at written gone wiped h = rw (own, pages, phase) h
@@ -190,16 +190,16 @@ module _ (c : Config) (w v : World) (kept : TurnIsLeft w v) (own : v.now.seats.h
       (λ e. rw pages (some_on _ _ _ released_on e)) (λ e. rw own (rw pages e)) h
   holder_on s f Step.Full gates at written gone wiped h = rw pages (rw own h)
   holder_on s f Step.Begin gates at written gone wiped h =
-      let zero = eqb-true (phase_of a) 0 at in grind (arith, quiet) steps 200000
+      let zero = eqb-true (phase_of a) 0 at in grind (arith, quiet)
   holder_on s f Step.Close gates at written gone wiped h = close_on (eqb-true (phase_of a) 2 at) (written gates) h
   holder_on s f Step.End gates at written gone wiped h =
-      let four = eqb-true (phase_of a) 4 at in grind (arith, quiet, pages) steps 200000
+      let four = eqb-true (phase_of a) 4 at in grind (arith, quiet, pages)
   holder_on s f (Step.Undirty p) gates at written gone wiped h =
-      grind (arith, or_left, phase_is, eqb-true, and_parts, or_right, none_on, stopped, pages) steps 200000
+      grind (arith, or_left, phase_is, eqb-true, and_parts, or_right, none_on, stopped, pages)
   holder_on s f (Step.Black p n) gates at written gone wiped h =
       black_on p n (eqb-true (phase_of a) 2 at) (written gates) h
   holder_on s f (Step.Unblack p) gates at written gone wiped h =
-      grind (arith, or_left, phase_is, or_right, none_on, eqb-true) steps 200000
+      grind (arith, or_left, phase_is, or_right, none_on, eqb-true)
   holder_on s f Step.Over gates at written gone wiped h =
       ap (λ (s : Steady). (s.turn == 1 + c.callers) && (s.phase == 0)) kept.steady ∙ h
   holder_on s f _ gates at written gone wiped h = refl

@@ -98,8 +98,8 @@ safe_kept safe s t n m h same (Writes k a i x f v at u mm li inside is sv) = (sa
 safe_kept safe s t n m h same (Grants k d base ty f at long ld z) =
     (λ a. safe a || (a == length n.allocations), of_new safe s n h k d base ty same)
 safe_kept safe s t n m h same (Frees k a f xs at places released there others is quiet) =
-    (safe, grind (arith, freed_words, freed_was) steps 200000)
-safe_kept safe s t n m h same (Renews xs places released freed) = (safe, grind arith steps 200000)
+    (safe, grind (arith, freed_words, freed_was))
+safe_kept safe s t n m h same (Renews xs places released freed) = (safe, grind arith)
 safe_kept safe s t n m h same (Releases xs places released freed kept cut) = (kept, cut)
 safe_kept safe s t n m h same _ = (safe, h)
 

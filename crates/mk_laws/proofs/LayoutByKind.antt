@@ -1,7 +1,7 @@
 -- What each kind of event makes of the terrain.
 use Rattle.mk_laws.proofs.Vocabulary.{Bool, Cell, Config, Flight, Granted, Ground, HasLayout, HeadStep, IsSized}
 use Rattle.mk_laws.proofs.Vocabulary.{ItCarves, ItDrops, ItEmpties, ItFrees, ItGivesBack, ItTakes, ItTakesSnapshot}
-use Rattle.mk_laws.proofs.Vocabulary.{ItUnmaps, LayoutStands, List, None, Object, Op, Option, Place, PlacedAllocation}
+use Rattle.mk_laws.proofs.Vocabulary.{ItUnmaps, LayoutStands, List, None, Object, Option, Place, PlacedAllocation}
 use Rattle.mk_laws.proofs.Vocabulary.{Placing, QuarantineStep, RunPages, Seat, Some, Step, Unplaced, Used, UsedStep}
 use Rattle.mk_laws.proofs.Vocabulary.{Words, World, ℕ, and_parts, and_right, ap, arith, cell_freed, chosen, claims_of}
 use Rattle.mk_laws.proofs.Vocabulary.{eqb-true, false, false_from_ne_true, flight_of, freed_cell, freed_where_it_stands}
@@ -132,9 +132,43 @@ module _ (c : Config) (w : World) (seat : Seat) (b : Before c w) (laid : LayoutS
           let d = dropped c _ w p (n % 2 ^ 32) (n / 2 ^ 32) (rw on at laid) x in
           rw on (record { scene = d.scene; gone = d.gone; first = d.first; cells = d.cells })
 
-  quar_kind : (p n : ℕ) → Meets c w.now seat (Step.Quar p n)
-      → LaidNow c w (ground_of (WorldBehind c w seat (Step.Quar p n)))
-  quar_kind p n h = by (cell_freed c.pages w.now.words f p n) refl
+  -- words that leave the terrain
+  kept_ground : (x : Words) → LeavesTable w.now.words x
+      → LaidNow c w (record (ground_of w) { pages = x.pages; freed = x.freed; snapshot = x.snapshot })
+  kept_ground x g = rw g.pages (rw g.freed (rw g.snapshot laid))
+
+  -- each kind of event, whatever the seat
+  pub by_kind : (x : Step) → Meets c w.now seat x → LaidBehind c w x (ground_of (WorldBehind c w seat x))
+  by_kind (Step.Take x) h = by (w.now.words.turn == 0) refl
+    where
+      by : (t : Bool) → (w.now.words.turn == 0) ≡ t → LaidNow c w (record (ground_of w) {
+        placing = (if t then nothing_done else w.now.seats.holding).placing;
+        run = (if t then nothing_done else w.now.seats.holding).freed;
+      })
+      by false is = laid
+      by true is = rw (b.known.orderly.free (eqb-true w.now.words.turn 0 is)) at laid
+  by_kind Step.Give h =
+      (placeless c (object_now c w.now) (object_now c w.now) four w.now.words.marks
+      (record (ground_of w) { run = None }) w.now.seats.holding.placing refl
+      (false_from_ne_true (has_place w.now.seats.holding.placing) no_place) (gone_terrain c (object_now c w.now) four w
+      (λ run is. unmapped w.now.seats.holding.freed is decides.1) laid)).1
+    where
+      decides : (is_decided f.stage ≡ true) × (is_run_gone w.now.words w.now.seats.holding.freed ≡ true)
+      decides = grind (arith, and_parts)
+
+      no_place : has_place w.now.seats.holding.placing ≡ true → ⊥
+      no_place has =
+          let turn = giver_has_turn c w.now seat b.known h in
+          true≢false (sym decides.0 ∙ rw (undecided_new f (placed_undecided c w.now seat b.known turn has)).stage)
+
+      unmapped : (x : Option RunPages) {run : RunPages} → x ≡ Some run → is_run_gone w.now.words x ≡ true
+          → is_run_unmapped w.now.words run ≡ true
+      unmapped x {run} is k = grind (arith, and_parts)
+  by_kind Step.Reg h = kept_ground _ (reg_leaves_ground c w seat)
+  by_kind (Step.Tally n v) h = kept_ground _ (tally_ground w.now.words n v)
+  by_kind (Step.Head p n) h = head_by p n h.seat (page_within c w p b h.range) (head_step c w.now _ p n h.holder)
+  by_kind (Step.Used p n) h = used_by p n h.seat (page_within c w p b h.range) (used_step c w.now _ p n h.holder)
+  by_kind (Step.Quar p n) h = by (cell_freed c.pages w.now.words f p n) refl
     where
       by : (cell : Option Cell) → cell_freed c.pages w.now.words f p n ≡ cell → LaidNow c w (with_quarantine w p n cell)
       by None is = rw (none_freed w.now.words w.allocations) (left_by p n (quarantine_step c w.now f p n h.holder))
@@ -152,19 +186,13 @@ module _ (c : Config) (w : World) (seat : Seat) (b : Before c w) (laid : LayoutS
           rw frees.phase (rw (first_of_two (run_of_cell w.now.words (Some cell)) w.now.seats.holding.freed none) at
           (unreleasing c (object_now c w.now) w.now.words.marks w.now.words.marks t
           (slice_set w.now.words.freed p (n % 2 ^ 32)) (slice_set w.now.words.snapshot p (n / 2 ^ 32)) now))
-
-  -- `grant`
-  abbrev GrantBehind : Type 0
-  GrantBehind =
-      LaidNow c w (record (ground_of w) { placing = Granted; allocations = w.allocations ++ granted c w.now f ∷ [] })
-
-  grant_kind : Meets c w.now seat Step.Grant → GrantBehind
-  grant_kind h = by w.now.seats.holding.placing refl h.holder
+  by_kind Step.Grant h = by w.now.seats.holding.placing refl h.holder
     where
       new : is_undecided_new f ≡ true
       new = grants_new c w.now seat h
 
-      by : (placing : Placing) → w.now.seats.holding.placing ≡ placing → is_used_once placing ≡ true → GrantBehind
+      by : (placing : Placing) → w.now.seats.holding.placing ≡ placing → is_used_once placing ≡ true → LaidNow c w
+          (record (ground_of w) { placing = Granted; allocations = w.allocations ++ granted c w.now f ∷ [] })
       by (Used place) is k =
           let made = granted_object c w.now f new in
           let same = own h.seat new ∙ sym made in
@@ -176,11 +204,7 @@ module _ (c : Config) (w : World) (seat : Seat) (b : Before c w) (laid : LayoutS
             unreleased = refl;
           }) (rw same at laid))
       by _ is k = cc
-
-  -- `mark`
-  mark_kind : (p n : ℕ) → Meets c w.now seat (Step.Mark p n)
-      → LaidNow c w (ground_of (WorldBehind c w seat (Step.Mark p n)))
-  mark_kind p n h = by (marks_place w.now.words o found p n) refl
+  by_kind (Step.Mark p n) h = by (marks_place w.now.words o found p n) refl
     where
       by : (t : Bool) → marks_place w.now.words o found p n ≡ t → LaidNow c w (record (ground_of w) {
         placing = if t then chosen w.now.seats.holding.placing found else w.now.seats.holding.placing;
@@ -194,54 +218,6 @@ module _ (c : Config) (w : World) (seat : Seat) (b : Before c w) (laid : LayoutS
           let free = ap (header_at w.now.words) (sym x.marked.at) ∙ x.marked.free in
           rw x.there (rw same
           (mark_places c o four w x.place (rw same at laid) size placed.placed free (first_header o size)))
-
-  -- `give`: the seat has decided, so it has no place, and its run is gone
-  give_kind : Meets c w.now seat Step.Give → LaidNow c w (record (ground_of w) { placing = Unplaced; run = None })
-  give_kind h =
-      (placeless c (object_now c w.now) (object_now c w.now) four w.now.words.marks
-      (record (ground_of w) { run = None }) w.now.seats.holding.placing refl
-      (false_from_ne_true (has_place w.now.seats.holding.placing) no_place) (gone_terrain c (object_now c w.now) four w
-      (λ run is. unmapped w.now.seats.holding.freed is decides.1) laid)).1
-    where
-      decides : (is_decided f.stage ≡ true) × (is_run_gone w.now.words w.now.seats.holding.freed ≡ true)
-      decides = grind (arith, and_parts)
-
-      no_place : has_place w.now.seats.holding.placing ≡ true → ⊥
-      no_place has =
-          let turn = giver_has_turn c w.now seat b.known h in
-          true≢false (sym decides.0 ∙ rw (undecided_new f (placed_undecided c w.now seat b.known turn has)).stage)
-
-      unmapped : (x : Option RunPages) {run : RunPages} → x ≡ Some run → is_run_gone w.now.words x ≡ true
-          → is_run_unmapped w.now.words run ≡ true
-      unmapped x {run} is k = grind (arith, and_parts)
-
-  -- `take`: where the turn is free, nothing is on its way
-  take_kind : (x : Option Op) → LaidNow c w (ground_of (WorldBehind c w seat (Step.Take x)))
-  take_kind x = by (w.now.words.turn == 0) refl
-    where
-      by : (t : Bool) → (w.now.words.turn == 0) ≡ t → LaidNow c w (record (ground_of w) {
-        placing = (if t then nothing_done else w.now.seats.holding).placing;
-        run = (if t then nothing_done else w.now.seats.holding).freed;
-      })
-      by false is = laid
-      by true is = rw (b.known.orderly.free (eqb-true w.now.words.turn 0 is)) at laid
-
-  -- words that leave the terrain
-  kept_ground : (x : Words) → LeavesTable w.now.words x
-      → LaidNow c w (record (ground_of w) { pages = x.pages; freed = x.freed; snapshot = x.snapshot })
-  kept_ground x g = rw g.pages (rw g.freed (rw g.snapshot laid))
-
-  -- each kind of event, whatever the seat
-  pub by_kind : (x : Step) → Meets c w.now seat x → LaidBehind c w x (ground_of (WorldBehind c w seat x))
-  by_kind (Step.Take x) h = take_kind x
-  by_kind Step.Give h = give_kind h
-  by_kind Step.Reg h = kept_ground _ (reg_leaves_ground c w seat)
-  by_kind (Step.Tally n v) h = kept_ground _ (tally_ground w.now.words n v)
-  by_kind (Step.Head p n) h = head_by p n h.seat (page_within c w p b h.range) (head_step c w.now _ p n h.holder)
-  by_kind (Step.Used p n) h = used_by p n h.seat (page_within c w p b h.range) (used_step c w.now _ p n h.holder)
-  by_kind (Step.Quar p n) h = quar_kind p n h
-  by_kind Step.Grant h = grant_kind h
-  by_kind (Step.Mark p n) h = mark_kind p n h
   by_kind Step.Begin h =
       let same = sym (fresh_claims c w.now.seats.holding.freed w.allocations) in
       record {

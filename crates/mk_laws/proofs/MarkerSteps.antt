@@ -1,5 +1,5 @@
 -- What a marker holds is touched, and what it scans has no leaf, after each step.
-use Rattle.mk_laws.proofs.Vocabulary.{Block, Bool, Caller, Cell, Config, Free, Header, Host, IsIdle, IsWordOf, Later}
+use Rattle.mk_laws.proofs.Vocabulary.{Block, Bool, Caller, Cell, Config, Header, Host, IsIdle, IsWordOf, Later}
 use Rattle.mk_laws.proofs.Vocabulary.{LeafBlock, LeafRun, Marker, MarkerStands, MarkerState, NeverState, None, Option}
 use Rattle.mk_laws.proofs.Vocabulary.{PlacedAllocation, Run, Scan, ScanStands, Seat, SeenHeader, Some, Step, Word}
 use Rattle.mk_laws.proofs.Vocabulary.{World, ℕ, address_of, and_parts, ap, arith, behind_mlook, cases_eq, cases_lt}
@@ -123,11 +123,10 @@ marker_kept c w n seat x after T y s stand precise = record {
       (precise.seen z is some scanned);
 }
 
--- `mlook`
-look_precise : (c : Config) (w : World) (n : NeverState) (T : ℕ → Type 0) (y : MarkerState) (p f : ℕ) → Told c w n
-    → f ≡ header_at w.now.words p → MarkerIsPrecise c (precision_scene_of w) T y
-    → MarkerIsPrecise c (precision_scene_of w) T (behind_mlook c f (Word.Head p) y)
-look_precise c w n T y p f t is m = record {
+looks : (c : Config) (w : World) (n : NeverState) (T : ℕ → Type 0) (y : MarkerState) (x : Word) (f : ℕ) → Told c w n
+    → ((p : ℕ) → x ≡ Word.Head p → f ≡ header_at w.now.words p) → MarkerIsPrecise c (precision_scene_of w) T y
+    → MarkerIsPrecise c (precision_scene_of w) T (behind_mlook c f x y)
+looks c w n T y (Word.Head p) f t is m = record {
   hand = λ v at. m.hand v (kept y.hand v at);
   scan = m.scan;
   seen = λ z at some scanned.
@@ -135,7 +134,7 @@ look_precise c w n T y p f t is m = record {
       let page : p ≡ z.page = ap (λ (q : SeenHeader). q.page) e in
       let header : f ≡ z.header = ap (λ (q : SeenHeader). q.header) e in
       scanned_has_none c w n z.page t (ap (λ q. has_no_pointers (header_in w.now.words q)) (sym page)
-      ∙ ap (λ h. has_no_pointers (header_of h)) (sym is ∙ header) ∙ scanned);
+      ∙ ap (λ h. has_no_pointers (header_of h)) (sym (is p refl) ∙ header) ∙ scanned);
 }
   where
     kept : (hand : Option ℕ) (v : ℕ) → hand_behind_look c p f hand ≡ Some v → hand ≡ Some v
@@ -145,11 +144,6 @@ look_precise c w n T y p f t is m = record {
         by : (b : Bool) → (if b then None else Some u) ≡ Some v → Some u ≡ Some v
         by true at = absurd (none-some _ at)
         by false at = at
-
-looks : (c : Config) (w : World) (n : NeverState) (T : ℕ → Type 0) (y : MarkerState) (x : Word) (f : ℕ) → Told c w n
-    → ((p : ℕ) → x ≡ Word.Head p → f ≡ header_at w.now.words p) → MarkerIsPrecise c (precision_scene_of w) T y
-    → MarkerIsPrecise c (precision_scene_of w) T (behind_mlook c f x y)
-looks c w n T y (Word.Head p) f t is m = look_precise c w n T y p f t (is p refl) m
 looks c w n T y _ f t is m = record { hand = m.hand; scan = m.scan; seen = λ s e. absurd (none-some _ e) }
 
 -- `claim`: words are scanned only under a header that shows no leaf
