@@ -78,7 +78,8 @@ acts c m (Caller k) x a h = by (group_of x) refl
     by Group.Host g = let e : false ≡ true = ap (λ (y : Group). is_open_to (Caller k) y) (sym g) ∙ h.kind in cc
     by Group.Turn g = elim (cases_Bool (is_take x)) [
       | inl t ↦ caller_takes c m k x h t
-      | inr t ↦ AsHolder (Caller k) x (lt, turns_stand _ f.op (of_turn _ f.op x g t h.order) (a k lt)) (turns_kind x g t)
+      | inr t ↦
+          AsHolder (Caller k) x (lt, turns_stand _ f.op (of_turn _ f.op x g t h.order) (a k lt)) (turns_kind x g t)
     ]
 acts c m (Marker k) x a h = by (group_of x) refl
   where

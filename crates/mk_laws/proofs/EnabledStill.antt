@@ -2,7 +2,7 @@
 use Rattle.std.proofs.lemmas.Nat.{div-mul-add}
 use Rattle.mk_laws.proofs.Vocabulary.{AreOfOthers, Block, Bool, Caller, Cell, Config, Event, Flight, Free, Header, Host}
 use Rattle.mk_laws.proofs.Vocabulary.{Invariant, IsEnabled, IsHistory, IsLeft, IsWordOfMapped, Later, LeafBlock}
-use Rattle.mk_laws.proofs.Vocabulary.{LeafRun, List, Marker, MeetsAll, Moment, NeverState, Op, Option, PlacedAllocation}
+use Rattle.mk_laws.proofs.Vocabulary.{LeafRun, List, Marker, MeetsAll, Moment, NeverState, Option, PlacedAllocation}
 use Rattle.mk_laws.proofs.Vocabulary.{Run, Seat, Some, Step, Words, World, ℕ, address_of, and_from, ap, arith}
 use Rattle.mk_laws.proofs.Vocabulary.{cases_Bool, cases_eq, cell_ends, cell_words, cells_of, cells_under}
 use Rattle.mk_laws.proofs.Vocabulary.{class_words_of, comes_next, earlier_part_is_history, enabled_meets, eq-eqb}
@@ -178,15 +178,11 @@ module _ (c : Config) (w v : World) (n : NeverState) (known : KnownWorld c w) (a
 
 -- Nobody but the host takes the turn for the host.
 
-taken_turn : (c : Config) (m : Moment) (seat : Seat) (o : Option Op) → Meets c m seat (Step.Take o) → seat ≢ Host
-    → m.words.turn ≢ 1 + c.callers → (Behind c m seat (Step.Take o)).words.turn ≢ 1 + c.callers
-taken_turn c m (Caller k) o h ne out = grind (arith, ltb-true)
-taken_turn c m (Marker k) o h ne out = let kind = h.kind in cc
-taken_turn c m Host o h ne out = absurd (ne refl)
-
 turn_after : (c : Config) (m : Moment) (seat : Seat) (x : Step) → Meets c m seat x → seat ≢ Host
     → m.words.turn ≢ 1 + c.callers → (Behind c m seat x).words.turn ≢ 1 + c.callers
-turn_after c m seat (Step.Take o) h ne out = taken_turn c m seat o h ne out
+turn_after c m (Caller k) (Step.Take o) h ne out = grind (arith, ltb-true)
+turn_after c m (Marker k) (Step.Take o) h ne out = let kind = h.kind in cc
+turn_after c m Host (Step.Take o) h ne out = absurd (ne refl)
 turn_after c m seat x3 h ne out = grind (arith, reg_keeps, tally_keeps)
 
 host_stays_out : (c : Config) (es more : List Event) → IsHistory c (es ++ more) → AreOfOthers (Host ∷ []) more

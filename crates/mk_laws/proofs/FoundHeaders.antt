@@ -11,8 +11,8 @@ use Rattle.mk_laws.proofs.Vocabulary.{header_made, header_of, header_shows, if�
 use Rattle.mk_laws.proofs.Vocabulary.{is_marked_first, is_phase, is_small_object, is_undecided_new, is_unmapped_header}
 use Rattle.mk_laws.proofs.Vocabulary.{large_cells, large_count, large_words, later_cells, le-leb, ltb-true, made_shows}
 use Rattle.mk_laws.proofs.Vocabulary.{nat_le, not-true, object_made, or_cases, page_at_address, pages_made, part_cells}
-use Rattle.mk_laws.proofs.Vocabulary.{part_head, part_not_free, part_words, phase_of, place_now, placed_now, refl}
-use Rattle.mk_laws.proofs.Vocabulary.{slice_index, small_cells, small_pages, small_words, subst, sym, true, true≢false}
+use Rattle.mk_laws.proofs.Vocabulary.{part_head, part_not_free, part_words, phase_of, placed_now, refl, slice_index}
+use Rattle.mk_laws.proofs.Vocabulary.{small_cells, small_pages, small_words, subst, sym, true, true≢false}
 use Rattle.mk_laws.proofs.Vocabulary.{undecided_new, unmapped_header, unmapped_is_unmapped, words_made, words_under}
 use Rattle.mk_laws.proofs.Vocabulary.{◌*◌, ◌+◌, ◌-◌, ◌<◌, ◌==◌, ◌||◌, ◌∙◌, ◌≡◌, ◌⊎◌}
 use Rattle.mk_geom.{proofs.ClassTable.some_cells, specs.Addresses.cell_under, specs.Addresses.word_at_address}
@@ -226,15 +226,11 @@ head_finds c w seat p n limits known early say h = by (head_step c w.now (flight
     one : phase_of w.now.words ≡ 1
     one = marking_phase _ h.phase early
 
-    new_has : (place : Place) → place_now c w.now (flight_of w.now seat) ≡ Some place
-        → IsSized (object_made c (flight_of w.now seat).op)
-    new_has place now =
-        let new = (placed_now c w.now (flight_of w.now seat) place now).new in
-        let own = new_holds c w.now seat (Step.Head p n) h new in
-        new_sized c (flight_of w.now seat) limits (rw own.2 (known.operands own.0)) new
-
     by : HeadStep c w.now (flight_of w.now seat) p n → HeadFinds c.pages w.now.words p n
     by (ItCarves four k) =
-        carves_find c w.now.words _ _ p n (new_has k.place k.there) (eq-eqb _ 1 one) (say.place early seat) k
+        let new = (placed_now c w.now (flight_of w.now seat) k.place k.there).new in
+        let own = new_holds c w.now seat (Step.Head p n) h new in
+        let sized = new_sized c (flight_of w.now seat) limits (rw own.2 (known.operands own.0)) new in
+        carves_find c w.now.words _ _ p n sized (eq-eqb _ 1 one) (say.place early seat) k
     by (ItUnmaps four u) = unmaps_find c w.now.words w.now.seats.holding.freed p n (say.freed early) u
     by (ItEmpties four k) = let e = eqb-true _ 4 four in absurd (omega arith)

@@ -1,11 +1,10 @@
 -- What a step of a caller needs, from the groups.
 use Rattle.mk_laws.proofs.Vocabulary.{Bool, Caller, Cell, Config, ImagePremises, IsSafeSet, IsTypedAllocation, Mirrors}
-use Rattle.mk_laws.proofs.Vocabulary.{NeverState, None, Option, PlacedAllocation, RunPages, Some, Words, World, ℕ}
-use Rattle.mk_laws.proofs.Vocabulary.{address_of, allocation_at, ap, arith, cases_Bool, cell_of_allocation, false}
-use Rattle.mk_laws.proofs.Vocabulary.{first_word, flight_among, flight_of, header_at, header_in, image_scene_of, inl}
-use Rattle.mk_laws.proofs.Vocabulary.{inr, is_run_gone, is_unmapped, is_unmapped_header, kinds_of, length, placed_at}
-use Rattle.mk_laws.proofs.Vocabulary.{pointed_cell, storage_holds, storage_words, subst, sym, true, words_of, [], ◌+◌}
-use Rattle.mk_laws.proofs.Vocabulary.{◌/◌, ◌<◌, ◌∙◌, ◌≡◌, ◌≤◌}
+use Rattle.mk_laws.proofs.Vocabulary.{NeverState, None, Option, PlacedAllocation, Some, Words, World, ℕ, address_of}
+use Rattle.mk_laws.proofs.Vocabulary.{allocation_at, ap, arith, cases_Bool, cell_of_allocation, first_word}
+use Rattle.mk_laws.proofs.Vocabulary.{flight_among, flight_of, header_at, image_scene_of, inl, inr, is_run_gone}
+use Rattle.mk_laws.proofs.Vocabulary.{is_unmapped, kinds_of, length, placed_at, pointed_cell, storage_holds}
+use Rattle.mk_laws.proofs.Vocabulary.{storage_words, subst, sym, true, words_of, [], ◌<◌, ◌∙◌, ◌≡◌, ◌≤◌}
 use Rattle.mk_laws.proofs.ImagesStands.{Stands, gone_shows, is_gone}
 use Rattle.mk_laws.proofs.{HeapEdits.exists_placed, Known.operands_of, KnownWorlds.KnownWorld, Orderly.shows_at}
 use Rattle.mk_laws.proofs.{Reached.PagesShow, Ready.Ready, Standings.InCall, Standings.standing, Views.view_of}
@@ -59,29 +58,24 @@ module _ (c : Config) (w : World) (n : NeverState) (known : KnownWorld c w) (mir
     full = λ ty lt. rw mirrors.types (known.limits.types ty [] (rw mirrors.types at lt)).0.0;
   }
 
-  -- headers say what is unmapped
-  pub pages_show : Stands c w.now.words w.allocations
-      → ((a i : ℕ) → (placed a).released ≡ false → is_gone c (placed a) ≡ true → i < storage_words c (placed a)
-      → is_unmapped_header (header_in w.now.words (((placed a).base + i) / 64)) ≡ true)
-      → PagesShow (header_at w.now.words) (image_scene_of w) n
-  pages_show st un a i u li =
-      let lt = exists_placed w.allocations a u in
-      let f = words_fit a lt in
-      elim (cases_Bool (is_gone c (placed a))) [
-        | inl e ↦ un a i u e (omega arith) ∙ sym e ∙ sym (unmapped_is a lt)
-        | inr e ↦ st.mapped a i u e (omega arith) ∙ sym e ∙ sym (unmapped_is a lt)
-      ]
-
-  -- to who is in a call, since freed runs are gone then
+  -- Headers say to who is in a call what is unmapped, since freed runs are gone then.
   pub shown_in_call : ImagePremises c w → Stands c w.now.words w.allocations → (k : ℕ) → k < c.callers
       → standing (flight_of w.now (Caller k)) ≡ InCall → PagesShow (header_at w.now.words) (image_scene_of w) n
-  shown_in_call others st k lt in_call =
-      let freed : Option RunPages = w.now.seats.holding.freed in
-      pages_show st (gone_shows c w known.limits others (elim (cases_Bool (is_run_gone w.now.words freed)) [
+  shown_in_call others st k lt in_call a i u li =
+      let there = exists_placed w.allocations a u in
+      let f = words_fit a there in
+      elim (cases_Bool (is_gone c (placed a))) [
+        | inl e ↦
+            gone_shows c w known.limits others gone a i u e (omega arith) ∙ sym e ∙ sym (unmapped_is a there)
+        | inr e ↦ st.mapped a i u e (omega arith) ∙ sym e ∙ sym (unmapped_is a there)
+      ]
+    where
+      gone : is_run_gone w.now.words w.now.seats.holding.freed ≡ true
+      gone = elim (cases_Bool (is_run_gone w.now.words w.now.seats.holding.freed)) [
         | inl gone ↦ gone
         | inr there ↦
             let s = shows_at c (view_of w.now) k InCall known.now.orderly lt in_call in
             let g = others.gates there k lt s.1 in
             let one = s.0 in
             absurd (omega arith)
-      ]))
+      ]
