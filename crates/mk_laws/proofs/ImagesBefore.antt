@@ -62,17 +62,17 @@ module _ (c : Config) (w : World) (n : NeverState) (known : KnownWorld c w) (mir
   pub shown_in_call : ImagePremises c w → Stands c w.now.words w.allocations → (k : ℕ) → k < c.callers
       → standing (flight_of w.now (Caller k)) ≡ InCall → PagesShow (header_at w.now.words) (image_scene_of w) n
   shown_in_call others st k lt in_call a i u li =
-      let there = exists_placed w.allocations a u in
-      let f = words_fit a there in
+      let is_there = exists_placed w.allocations a u in
+      let f = words_fit a is_there in
       elim (cases_Bool (is_gone c (placed a))) [
         | inl e ↦
-            gone_shows c w known.limits others gone a i u e (omega arith) ∙ sym e ∙ sym (unmapped_is a there)
-        | inr e ↦ st.mapped a i u e (omega arith) ∙ sym e ∙ sym (unmapped_is a there)
+            gone_shows c w known.limits others gone a i u e (omega arith) ∙ sym e ∙ sym (unmapped_is a is_there)
+        | inr e ↦ st.mapped a i u e (omega arith) ∙ sym e ∙ sym (unmapped_is a is_there)
       ]
     where
       gone : is_run_gone w.now.words w.now.seats.holding.freed ≡ true
       gone = elim (cases_Bool (is_run_gone w.now.words w.now.seats.holding.freed)) [
-        | inl gone ↦ gone
+        | inl yes_gone ↦ yes_gone
         | inr there ↦
             let s = shows_at c (view_of w.now) k InCall known.now.orderly lt in_call in
             let g = others.gates there k lt s.1 in
