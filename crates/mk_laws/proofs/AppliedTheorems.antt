@@ -65,7 +65,7 @@ marking = left one_page (take 31 freed_after_begin)
 pub images_of_replies : answers_of (bases_of (left one_page freed_after_begin).allocations)
     (replies_of (never_first one_page) (asked (calls one_page freed_after_begin)))
     ≡ replicate 7 Answer.Done ++ Answer.Num 0 ∷ []
-images_of_replies = sym (theorems.histories_refine_never one_page freed_after_begin freed_is_history) ∙ answers_freed
+images_of_replies = sym (theorems.histories_refine_never _ _ freed_is_history) ∙ answers_freed
 
 -- An object that a register leads to is unreleased, and so is one that it leads to by a word.
 
@@ -73,10 +73,10 @@ begun_is_history : IsHistory small begun_in_stop
 begun_is_history = earlier_part_is_history small begun_in_stop _ stopped_is_history
 
 pub first_is_kept : (placed_at (left small begun_in_stop).allocations 0).released ≡ false
-first_is_kept = theorems.reach_is_kept small begun_in_stop begun_is_history 0 first_is_reached
+first_is_kept = theorems.reach_is_kept _ _ begun_is_history 0 first_is_reached
 
 pub second_is_kept : (placed_at (left small begun_in_stop).allocations 1).released ≡ false
-second_is_kept = theorems.reach_is_kept small begun_in_stop begun_is_history 1 second_is_reached
+second_is_kept = theorems.reach_is_kept _ _ begun_is_history 1 second_is_reached
 
 -- The first exchange is answered 1, so the values are equal; at the second they aren't, or it would be answered so too.
 
@@ -102,7 +102,7 @@ second_compares_unequal same =
 
 pub third_is_used : is_used full.now.words (cell_of_allocation one_page (placed_at full.allocations 2)) ≡ true
 unfolding by c0 all_below pointed_cell may_turn_black one_page full_then_reused left_from
-third_is_used = (theorems.allocations_stand one_page full_then_reused full_is_history 2 refl).used
+third_is_used = (theorems.allocations_stand _ _ full_is_history 2 refl).used
 
 pub word_of_the_first_alone : IsWordOf (storage_of one_page (placed_at full.allocations 2)) 10 → ⊥
 unfolding by c0 all_below pointed_cell may_turn_black one_page full_then_reused left_from
@@ -117,13 +117,12 @@ pub page_told_by_storage : words_of_storages (unreleased_storage one_page full.a
     ≡ record { header = 125; used = 3 }
 unfolding by c0 all_below pointed_cell may_turn_black one_page full_then_reused left_from
 page_told_by_storage =
-    sym ((theorems.pages_show_the_storage one_page full_then_reused full_is_history full_is_settled).words
-    0 free_page (ltb-true 0 1 refl))
+    sym ((theorems.pages_show_the_storage _ _ full_is_history full_is_settled).words 0 free_page (ltb-true 0 1 refl))
 
 -- and no place among them, told by the words.
 pub no_place_told_by_words : place_among_allocations one_page 32 true full.allocations ≡ None
 unfolding by c0 all_below pointed_cell may_turn_black one_page full_then_reused left_from
-no_place_told_by_words = sym (theorems.first_fit_finds_the_place one_page full_then_reused full_is_history
+no_place_told_by_words = sym (theorems.first_fit_finds_the_place _ _ full_is_history
     (record { words = 32; leaf = true }) full_is_settled)
 
 -- A large object's pages are unmapped and its words aren't wiped yet. Its run is shown as unmapped, and the next object
@@ -143,14 +142,14 @@ unmapped_is_settled = record { releasing = refl; placing = refl; unmapped = refl
 pub head_told_by_storage : words_of_storages (unreleased_storage three_pages unmapped.allocations) 0
     ≡ record { header = 43; used = 1 }
 unfolding by c0 all_below pointed_cell may_turn_black three_pages large_freed left_from
-head_told_by_storage = sym ((theorems.pages_show_the_storage three_pages (take 19 large_freed) (large_front 19)
+head_told_by_storage = sym ((theorems.pages_show_the_storage _ _ (large_front 19)
     unmapped_is_settled).words 0 free_page (ltb-true 0 3 refl))
 
 pub place_behind_told_by_words : place_among_allocations three_pages 64 true unmapped.allocations
     ≡ Some (record { page = 2; index = 0; carve = true })
 unfolding by c0 all_below pointed_cell may_turn_black three_pages large_freed left_from
 place_behind_told_by_words =
-    sym (theorems.first_fit_finds_the_place three_pages (take 19 large_freed) (large_front 19)
+    sym (theorems.first_fit_finds_the_place _ _ (large_front 19)
     (record { words = 64; leaf = true }) unmapped_is_settled)
 
 -- A word of a black object points to an unmarked one, and its page isn't dirty: so a call owes the page its dirty mark.
@@ -164,7 +163,7 @@ beside_begins =
 
 written_is_guarded : IsGuarded small beside.now 0
 unfolding left_from all_below pointed_cell written_beside three_objects
-written_is_guarded = theorems.black_cells_are_guarded small written_beside beside_begins (inl refl) 0 0 0
+written_is_guarded = theorems.black_cells_are_guarded _ _ beside_begins (inl refl) 0 0 0
     (ltb-true 0 32 refl) refl refl (ltb-true 0 2 refl)
 
 owed_by_one : IsGuarded small beside.now 0 → (k : ℕ) × OwesDirty beside.now k 0
@@ -184,17 +183,16 @@ word_points_well_at_close = grind (arith, small, stopped_cycle, stopped_is_histo
 pub register_points_well_behind : points_well small.pages (stopped 48).now.words
     (slice_index (stopped 48).now.words.registers 0) ≡ true
 unfolding left_from all_below pointed_cell begun_in_stop three_objects marked_in_stop
-register_points_well_behind =
-    (theorems.marks_stay_closed small (take 48 stopped_cycle) (stopped_front 48) refl).registers 0
+register_points_well_behind = (theorems.marks_stay_closed _ _ (stopped_front 48) refl).registers 0
 
 -- Header words, and how many pages are resident.
 
 pub head_of_a_run : IsHeaderWord (header_at (left three_pages large_freed).now.words 0)
-head_of_a_run = quarantines.pages_have_header_words three_pages large_freed large_is_history 0
+head_of_a_run = quarantines.pages_have_header_words _ _ large_is_history 0
 
 pub one_is_resident : resident_pages (uses_of_pages full.now.words.pages) ≤ 1
 unfolding one_page
-one_is_resident = quarantines.few_pages_are_resident one_page full_then_reused full_is_history
+one_is_resident = quarantines.few_pages_are_resident _ _ full_is_history
 
 -- Before the first `close` the first object, which was freed before the `begin`, has its snapshot bit; the second,
 -- freed after it, has none.
@@ -204,18 +202,18 @@ begun_since = first_events one_page freed_after_begin 31 freed_is_history
 
 pub first_in_snapshot : has_bit_of one_page marking.now.words.snapshot (placed_at marking.allocations 0) ≡ true
 unfolding by c0 host all_below pointed_cell one_page freed_after_begin left_from event_number at_number
-first_in_snapshot = quarantines.snapshot_is_the_cycles one_page (take 31 freed_after_begin) begun_since
+first_in_snapshot = quarantines.snapshot_is_the_cycles _ _ begun_since
     (at_number is_begin 15 (take 31 freed_after_begin) refl refl) refl refl 0 refl
 
 pub second_outside_snapshot : has_bit_of one_page marking.now.words.snapshot (placed_at marking.allocations 1) ≡ false
 unfolding by c0 host all_below pointed_cell one_page freed_after_begin left_from event_number at_number
-second_outside_snapshot = quarantines.snapshot_is_the_cycles one_page (take 31 freed_after_begin) begun_since
+second_outside_snapshot = quarantines.snapshot_is_the_cycles _ _ begun_since
     (at_number is_begin 15 (take 31 freed_after_begin) refl refl) refl refl 1 refl
 
 -- The promises on placement and tallies, applied to a small schedule: what each says there, read off.
 
 kept : KeepsAllPromises one_page full_then_reused
-kept = histories_keep_all_promises one_page full_then_reused full_is_history
+kept = histories_keep_all_promises _ _ full_is_history
 
 -- The second object is granted at word 32: this is where first fit had its place before the first step that served it.
 
