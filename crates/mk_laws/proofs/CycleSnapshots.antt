@@ -26,8 +26,6 @@ data FlagsStep (w v : World) (i : ℕ) : Type 0 where
       → is_freed_before (placed_at v.allocations i) ≡ is_freed_before (placed_at w.allocations i) → FlagsStep w v i
   IsNew : length w.allocations ≤ i → is_freed_before (placed_at v.allocations i) ≡ false → FlagsStep w v i
 
-
-
 -- `quar` (a): what stands in the cell wasn't freed
 freed_flags : (c : Config) (w : World) (cell : Cell) (n i : ℕ) → FreesHere c w cell n → IsQuarantined c w
     → (placed_at w.allocations i).released ≡ false → (b : Bool) → stands_in w.now.words cell (placed_at w.allocations i)
