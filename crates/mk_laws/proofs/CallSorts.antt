@@ -130,93 +130,86 @@ module _ (c : Config) (w : World) (n : NeverState) (known : KnownWorld c w) (mir
       dirty_by (Op.CasPtr q' i p' r') q p r l a was = bare_on k (Op.CasPtr q' i p' r') _ was refl
       dirty_by _ q p r l a was = cc
 
-  pub reg_leads_at : (k : ℕ) → Meets c w k Step.Reg → AdmittedAt c w n k Step.Reg → LeadsAt c w n safe k Step.Reg
-  reg_leads_at k h ad =
-      let f = flight_of w.now (Caller k) in
-      let lt = ltb-true k c.callers h.seat in
-      let x = register_word w.now.words k (register_met f f.stage) in
-      let kept = register_leaves w.now.words k (register_met f f.stage) (reg_access f f.stage) in
-      rw (reg_registers w.now.words k f f.stage, kept.globals, kept.heap)
-      (reg_leads c.globals safe _ n k ready (there_is k lt) (own_registers k lt) (own_words k lt) f.stage
-      f.op f.q f.p f.r f.loaded x refl (own_d k) (at_reg f.stage f.op h.order) (own_astray k lt)
-      (ready.images.carried k) (λ np. own_plain _ n ready.images k _ (register_small_here k f.stage) np) ad)
-    where
-      register_small_here : (k : ℕ) (s : Stage) → register_met (flight_of w.now (Caller k)) s < 8
-      register_small_here k Stage.LoadQ = (ready.small k).0
-      register_small_here k Stage.LoadP = (ready.small k).1
-      register_small_here k Stage.LoadR = (ready.small k).2
-      register_small_here k _ = (ready.small k).3
+  module _ (k : ℕ) where
+    abbrev f : Flight
+    f = flight_of w.now (Caller k)
 
-  pub probe_leads_at : (k : ℕ) → PagesShow (header_at w.now.words) (image_scene_of w) n → Meets c w k Step.Probe
-      → AdmittedAt c w n k Step.Probe → LeadsAt c w n safe k Step.Probe
-  probe_leads_at k show h ad =
-      let f = flight_of w.now (Caller k) in
-      let lt = ltb-true k c.callers h.seat in
-      let st = at_its_stage f.stage f.op Step.Probe refl h.order in
-      let e = literal f Stage.Probe st in
-      let out = call_outside f.op f.stage (ap is_call_stage st) (own_astray k lt) in
-      subst (λ (g : Flight). LeadsBy safe (image_scene_of w) n k g.op (image_scene_of w)
-      (progress_probe g (header_at w.now.words (page_met f)))) (sym e)
-      (probe_leads c.globals safe (image_scene_of w) n k ready (there_is k lt) (own_registers k lt)
-      (header_at w.now.words) show f.op f.q f.p f.r f.loaded (header_at w.now.words (page_met f)) e (own_d k)
-      (rw e at (own_astray k lt)) (rw e at (ready.images.carried k)) refl
-      (λ u. admitted_call c.globals n k f.op Answer.Fault out (subst (λ b. AreAdmitted c.globals n
-      (asked (entry_of k f.op (if b then refused f Answer.Fault else onward f None).answer))) u ad)))
+    lt : (s : Step) → Meets c w k s → k < c.callers
+    lt s h = ltb-true k c.callers h.seat
 
-  pub read_leads_at : (k : ℕ) → Meets c w k Step.Read → AdmittedAt c w n k Step.Read → LeadsAt c w n safe k Step.Read
-  read_leads_at k h ad =
-      let f = flight_of w.now (Caller k) in
-      let lt = ltb-true k c.callers h.seat in
-      let st = at_its_stage f.stage f.op Step.Read refl h.order in
-      let e = literal f Stage.Read st in
-      let out = call_outside f.op f.stage (ap is_call_stage st) (own_astray k lt) in
-      let x = slice_index w.now.words.heap (word_met f) in
-      subst (λ (g : Flight). LeadsBy safe (image_scene_of w) n k g.op (image_scene_of w) (progress_read g g.op x)) (sym
-      e) (read_leads _ safe _ n k ready (there_is k lt) (own_registers k lt) f.op f.q f.p f.r _ x e (own_d k) (rw e at
-      (own_astray k lt)) (rw e at (ready.images.carried k)) (rw e at (ready.images.probed k)) refl (read_admitted _ n k
-      f f.op x out ad))
+    pub reg_leads_at : Meets c w k Step.Reg → AdmittedAt c w n k Step.Reg → LeadsAt c w n safe k Step.Reg
+    reg_leads_at h ad =
+        let x = register_word w.now.words k (register_met f f.stage) in
+        let kept = register_leaves w.now.words k (register_met f f.stage) (reg_access f f.stage) in
+        rw (reg_registers w.now.words k f f.stage, kept.globals, kept.heap)
+        (reg_leads c.globals safe _ n k ready (there_is k (lt _ h)) (own_registers k (lt _ h)) (own_words k (lt _ h)) f.stage
+        f.op f.q f.p f.r f.loaded x refl (own_d k) (at_reg f.stage f.op h.order) (own_astray k (lt _ h))
+        (ready.images.carried k) (λ np. own_plain _ n ready.images k _ (register_small_here f.stage) np) ad)
+      where
+        register_small_here : (s : Stage) → register_met f s < 8
+        register_small_here Stage.LoadQ = (ready.small k).0
+        register_small_here Stage.LoadP = (ready.small k).1
+        register_small_here Stage.LoadR = (ready.small k).2
+        register_small_here _ = (ready.small k).3
 
-  pub write_leads_at : (k : ℕ) → Meets c w k Step.Write → AdmittedAt c w n k Step.Write
-      → LeadsAt c w n safe k Step.Write
-  write_leads_at k h ad =
-      let f = flight_of w.now (Caller k) in
-      let lt = ltb-true k c.callers h.seat in
-      let st = at_its_stage f.stage f.op Step.Write refl h.order in
-      let e = literal f Stage.Write st in
-      let out = call_outside f.op f.stage (ap is_call_stage st) (own_astray k lt) in
-      rw e (write_leads c.globals safe _ n k ready (there_is k lt)
-      (own_registers k lt) f.op f.q f.p f.r f.loaded e (rw e at (own_astray k lt)) (rw e at (ready.images.carried k))
-      (rw e at (ready.images.probed k)) (admitted_call c.globals n k f.op Answer.Done out ad))
+    pub probe_leads_at : PagesShow (header_at w.now.words) (image_scene_of w) n → Meets c w k Step.Probe
+        → AdmittedAt c w n k Step.Probe → LeadsAt c w n safe k Step.Probe
+    probe_leads_at show h ad =
+        let st = at_its_stage f.stage f.op Step.Probe refl h.order in
+        let e = literal f Stage.Probe st in
+        let out = call_outside f.op f.stage (ap is_call_stage st) (own_astray k (lt _ h)) in
+        subst (λ (g : Flight). LeadsBy safe (image_scene_of w) n k g.op (image_scene_of w)
+        (progress_probe g (header_at w.now.words (page_met f)))) (sym e)
+        (probe_leads c.globals safe (image_scene_of w) n k ready (there_is k (lt _ h)) (own_registers k (lt _ h))
+        (header_at w.now.words) show f.op f.q f.p f.r f.loaded (header_at w.now.words (page_met f)) e (own_d k)
+        (rw e at (own_astray k (lt _ h))) (rw e at (ready.images.carried k)) refl
+        (λ u. admitted_call c.globals n k f.op Answer.Fault out (subst (λ b. AreAdmitted c.globals n
+        (asked (entry_of k f.op (if b then refused f Answer.Fault else onward f None).answer))) u ad)))
 
-  pub cas_leads_at : (k : ℕ) → Meets c w k Step.Cas → AdmittedAt c w n k Step.Cas → LeadsAt c w n safe k Step.Cas
-  cas_leads_at k h ad =
-      let f = flight_of w.now (Caller k) in
-      let lt = ltb-true k c.callers h.seat in
-      let st = at_its_stage f.stage f.op Step.Cas refl h.order in
-      let e = literal f Stage.Cas st in
-      let out = call_outside f.op f.stage (ap is_call_stage st) (own_astray k lt) in
-      let x = slice_index w.now.words.heap (word_met f) in
-      rw e (cas_leads c.globals safe _ n k ready (there_is k lt)
-      (own_registers k lt) f.op f.q f.p f.r f.loaded x e (rw e at (own_astray k lt)) (rw e at (ready.images.carried k))
-      (rw e at (ready.images.probed k)) refl (admitted_call c.globals n k f.op _ out ad))
+    pub read_leads_at : Meets c w k Step.Read → AdmittedAt c w n k Step.Read → LeadsAt c w n safe k Step.Read
+    read_leads_at h ad =
+        let st = at_its_stage f.stage f.op Step.Read refl h.order in
+        let e = literal f Stage.Read st in
+        let out = call_outside f.op f.stage (ap is_call_stage st) (own_astray k (lt _ h)) in
+        let x = slice_index w.now.words.heap (word_met f) in
+        subst (λ (g : Flight). LeadsBy safe (image_scene_of w) n k g.op (image_scene_of w) (progress_read g g.op x)) (sym
+        e) (read_leads _ safe _ n k ready (there_is k (lt _ h)) (own_registers k (lt _ h)) f.op f.q f.p f.r _ x e (own_d k) (rw e at
+        (own_astray k (lt _ h))) (rw e at (ready.images.carried k)) (rw e at (ready.images.probed k)) refl (read_admitted _ n k
+        f f.op x out ad))
 
-  pub getg_leads_at : (k : ℕ) → Meets c w k Step.Getg → LeadsAt c w n safe k Step.Getg
-  getg_leads_at k h =
-      let f = flight_of w.now (Caller k) in
-      let lt = ltb-true k c.callers h.seat in
-      let e = literal f Stage.Getg (at_its_stage f.stage f.op Step.Getg refl h.order) in
-      let x = slice_index w.now.words.globals (g_of f.op) in
-      rw e (getg_leads c.globals safe _ n k ready (there_is k lt)
-      (own_registers k lt) f.op f.q f.p f.r f.loaded x e (own_d k) (rw e at (own_astray k lt)) refl)
+    pub write_leads_at : Meets c w k Step.Write → AdmittedAt c w n k Step.Write
+        → LeadsAt c w n safe k Step.Write
+    write_leads_at h ad =
+        let st = at_its_stage f.stage f.op Step.Write refl h.order in
+        let e = literal f Stage.Write st in
+        let out = call_outside f.op f.stage (ap is_call_stage st) (own_astray k (lt _ h)) in
+        rw e (write_leads c.globals safe _ n k ready (there_is k (lt _ h))
+        (own_registers k (lt _ h)) f.op f.q f.p f.r f.loaded e (rw e at (own_astray k (lt _ h))) (rw e at (ready.images.carried k))
+        (rw e at (ready.images.probed k)) (admitted_call c.globals n k f.op Answer.Done out ad))
 
-  pub setg_leads_at : (k : ℕ) → Meets c w k Step.Setg → LeadsAt c w n safe k Step.Setg
-  setg_leads_at k h =
-      let f = flight_of w.now (Caller k) in
-      let lt = ltb-true k c.callers h.seat in
-      let e = literal f Stage.Setg (at_its_stage f.stage f.op Step.Setg refl h.order) in
-      let small = (operands_of c f.op (known.now.operands k)).g in
-      let lg = known.lengths.globals in
-      let ln = mirrors.global_count in
-      rw e (setg_leads c.globals safe _ n k ready (there_is k lt)
-      (own_registers k lt) f.op f.q f.p f.r f.loaded e (rw e at (own_astray k lt)) (rw e at (ready.images.carried k))
-      (omega arith) (omega arith))
+    pub cas_leads_at : Meets c w k Step.Cas → AdmittedAt c w n k Step.Cas → LeadsAt c w n safe k Step.Cas
+    cas_leads_at h ad =
+        let st = at_its_stage f.stage f.op Step.Cas refl h.order in
+        let e = literal f Stage.Cas st in
+        let out = call_outside f.op f.stage (ap is_call_stage st) (own_astray k (lt _ h)) in
+        let x = slice_index w.now.words.heap (word_met f) in
+        rw e (cas_leads c.globals safe _ n k ready (there_is k (lt _ h))
+        (own_registers k (lt _ h)) f.op f.q f.p f.r f.loaded x e (rw e at (own_astray k (lt _ h))) (rw e at (ready.images.carried k))
+        (rw e at (ready.images.probed k)) refl (admitted_call c.globals n k f.op _ out ad))
+
+    pub getg_leads_at : Meets c w k Step.Getg → LeadsAt c w n safe k Step.Getg
+    getg_leads_at h =
+        let e = literal f Stage.Getg (at_its_stage f.stage f.op Step.Getg refl h.order) in
+        let x = slice_index w.now.words.globals (g_of f.op) in
+        rw e (getg_leads c.globals safe _ n k ready (there_is k (lt _ h))
+        (own_registers k (lt _ h)) f.op f.q f.p f.r f.loaded x e (own_d k) (rw e at (own_astray k (lt _ h))) refl)
+
+    pub setg_leads_at : Meets c w k Step.Setg → LeadsAt c w n safe k Step.Setg
+    setg_leads_at h =
+        let e = literal f Stage.Setg (at_its_stage f.stage f.op Step.Setg refl h.order) in
+        let small = (operands_of c f.op (known.now.operands k)).g in
+        let lg = known.lengths.globals in
+        let ln = mirrors.global_count in
+        rw e (setg_leads c.globals safe _ n k ready (there_is k (lt _ h))
+        (own_registers k (lt _ h)) f.op f.q f.p f.r f.loaded e (rw e at (own_astray k (lt _ h))) (rw e at (ready.images.carried k))
+        (omega arith) (omega arith))
