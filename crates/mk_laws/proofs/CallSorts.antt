@@ -134,16 +134,16 @@ module _ (c : Config) (w : World) (n : NeverState) (known : KnownWorld c w) (mir
     abbrev f : Flight
     f = flight_of w.now (Caller k)
 
-    lt : (s : Step) → Meets c w k s → k < c.callers
-    lt s h = ltb-true k c.callers h.seat
+    lt : {s : Step} → Meets c w k s → k < c.callers
+    lt h = ltb-true k c.callers h.seat
 
     pub reg_leads_at : Meets c w k Step.Reg → AdmittedAt c w n k Step.Reg → LeadsAt c w n safe k Step.Reg
     reg_leads_at h ad =
         let x = register_word w.now.words k (register_met f f.stage) in
         let kept = register_leaves w.now.words k (register_met f f.stage) (reg_access f f.stage) in
         rw (reg_registers w.now.words k f f.stage, kept.globals, kept.heap)
-        (reg_leads c.globals safe _ n k ready (there_is k (lt _ h)) (own_registers k (lt _ h)) (own_words k (lt _ h)) f.stage
-        f.op f.q f.p f.r f.loaded x refl (own_d k) (at_reg f.stage f.op h.order) (own_astray k (lt _ h))
+        (reg_leads c.globals safe _ n k ready (there_is k (lt h)) (own_registers k (lt h)) (own_words k (lt h)) f.stage
+        f.op f.q f.p f.r f.loaded x refl (own_d k) (at_reg f.stage f.op h.order) (own_astray k (lt h))
         (ready.images.carried k) (λ np. own_plain _ n ready.images k _ (register_small_here f.stage) np) ad)
       where
         register_small_here : (s : Stage) → register_met f s < 8
@@ -157,12 +157,12 @@ module _ (c : Config) (w : World) (n : NeverState) (known : KnownWorld c w) (mir
     probe_leads_at show h ad =
         let st = at_its_stage f.stage f.op Step.Probe refl h.order in
         let e = literal f Stage.Probe st in
-        let out = call_outside f.op f.stage (ap is_call_stage st) (own_astray k (lt _ h)) in
+        let out = call_outside f.op f.stage (ap is_call_stage st) (own_astray k (lt h)) in
         subst (λ (g : Flight). LeadsBy safe (image_scene_of w) n k g.op (image_scene_of w)
         (progress_probe g (header_at w.now.words (page_met f)))) (sym e)
-        (probe_leads c.globals safe (image_scene_of w) n k ready (there_is k (lt _ h)) (own_registers k (lt _ h))
+        (probe_leads c.globals safe (image_scene_of w) n k ready (there_is k (lt h)) (own_registers k (lt h))
         (header_at w.now.words) show f.op f.q f.p f.r f.loaded (header_at w.now.words (page_met f)) e (own_d k)
-        (rw e at (own_astray k (lt _ h))) (rw e at (ready.images.carried k)) refl
+        (rw e at (own_astray k (lt h))) (rw e at (ready.images.carried k)) refl
         (λ u. admitted_call c.globals n k f.op Answer.Fault out (subst (λ b. AreAdmitted c.globals n
         (asked (entry_of k f.op (if b then refused f Answer.Fault else onward f None).answer))) u ad)))
 
@@ -170,39 +170,38 @@ module _ (c : Config) (w : World) (n : NeverState) (known : KnownWorld c w) (mir
     read_leads_at h ad =
         let st = at_its_stage f.stage f.op Step.Read refl h.order in
         let e = literal f Stage.Read st in
-        let out = call_outside f.op f.stage (ap is_call_stage st) (own_astray k (lt _ h)) in
+        let out = call_outside f.op f.stage (ap is_call_stage st) (own_astray k (lt h)) in
         let x = slice_index w.now.words.heap (word_met f) in
-        subst (λ (g : Flight). LeadsBy safe (image_scene_of w) n k g.op (image_scene_of w) (progress_read g g.op x)) (sym
-        e) (read_leads _ safe _ n k ready (there_is k (lt _ h)) (own_registers k (lt _ h)) f.op f.q f.p f.r _ x e (own_d k) (rw e at
-        (own_astray k (lt _ h))) (rw e at (ready.images.carried k)) (rw e at (ready.images.probed k)) refl (read_admitted _ n k
-        f f.op x out ad))
+        subst (λ (g : Flight). LeadsBy safe (image_scene_of w) n k g.op (image_scene_of w) (progress_read g g.op x))
+        (sym e) (read_leads _ safe _ n k ready (there_is k (lt h)) (own_registers k (lt h)) f.op f.q f.p f.r _ x e
+        (own_d k) (rw e at (own_astray k (lt h))) (rw e at (ready.images.carried k)) (rw e at (ready.images.probed k))
+        refl (read_admitted _ n k f f.op x out ad))
 
-    pub write_leads_at : Meets c w k Step.Write → AdmittedAt c w n k Step.Write
-        → LeadsAt c w n safe k Step.Write
+    pub write_leads_at : Meets c w k Step.Write → AdmittedAt c w n k Step.Write → LeadsAt c w n safe k Step.Write
     write_leads_at h ad =
         let st = at_its_stage f.stage f.op Step.Write refl h.order in
         let e = literal f Stage.Write st in
-        let out = call_outside f.op f.stage (ap is_call_stage st) (own_astray k (lt _ h)) in
-        rw e (write_leads c.globals safe _ n k ready (there_is k (lt _ h))
-        (own_registers k (lt _ h)) f.op f.q f.p f.r f.loaded e (rw e at (own_astray k (lt _ h))) (rw e at (ready.images.carried k))
+        let out = call_outside f.op f.stage (ap is_call_stage st) (own_astray k (lt h)) in
+        rw e (write_leads c.globals safe _ n k ready (there_is k (lt h)) (own_registers k (lt h)) f.op f.q f.p f.r
+        f.loaded e (rw e at (own_astray k (lt h))) (rw e at (ready.images.carried k))
         (rw e at (ready.images.probed k)) (admitted_call c.globals n k f.op Answer.Done out ad))
 
     pub cas_leads_at : Meets c w k Step.Cas → AdmittedAt c w n k Step.Cas → LeadsAt c w n safe k Step.Cas
     cas_leads_at h ad =
         let st = at_its_stage f.stage f.op Step.Cas refl h.order in
         let e = literal f Stage.Cas st in
-        let out = call_outside f.op f.stage (ap is_call_stage st) (own_astray k (lt _ h)) in
+        let out = call_outside f.op f.stage (ap is_call_stage st) (own_astray k (lt h)) in
         let x = slice_index w.now.words.heap (word_met f) in
-        rw e (cas_leads c.globals safe _ n k ready (there_is k (lt _ h))
-        (own_registers k (lt _ h)) f.op f.q f.p f.r f.loaded x e (rw e at (own_astray k (lt _ h))) (rw e at (ready.images.carried k))
+        rw e (cas_leads c.globals safe _ n k ready (there_is k (lt h)) (own_registers k (lt h)) f.op f.q f.p f.r
+        f.loaded x e (rw e at (own_astray k (lt h))) (rw e at (ready.images.carried k))
         (rw e at (ready.images.probed k)) refl (admitted_call c.globals n k f.op _ out ad))
 
     pub getg_leads_at : Meets c w k Step.Getg → LeadsAt c w n safe k Step.Getg
     getg_leads_at h =
         let e = literal f Stage.Getg (at_its_stage f.stage f.op Step.Getg refl h.order) in
         let x = slice_index w.now.words.globals (g_of f.op) in
-        rw e (getg_leads c.globals safe _ n k ready (there_is k (lt _ h))
-        (own_registers k (lt _ h)) f.op f.q f.p f.r f.loaded x e (own_d k) (rw e at (own_astray k (lt _ h))) refl)
+        rw e (getg_leads c.globals safe _ n k ready (there_is k (lt h))
+        (own_registers k (lt h)) f.op f.q f.p f.r f.loaded x e (own_d k) (rw e at (own_astray k (lt h))) refl)
 
     pub setg_leads_at : Meets c w k Step.Setg → LeadsAt c w n safe k Step.Setg
     setg_leads_at h =
@@ -210,6 +209,5 @@ module _ (c : Config) (w : World) (n : NeverState) (known : KnownWorld c w) (mir
         let small = (operands_of c f.op (known.now.operands k)).g in
         let lg = known.lengths.globals in
         let ln = mirrors.global_count in
-        rw e (setg_leads c.globals safe _ n k ready (there_is k (lt _ h))
-        (own_registers k (lt _ h)) f.op f.q f.p f.r f.loaded e (rw e at (own_astray k (lt _ h))) (rw e at (ready.images.carried k))
-        (omega arith) (omega arith))
+        rw e (setg_leads c.globals safe _ n k ready (there_is k (lt h)) (own_registers k (lt h)) f.op f.q f.p f.r
+        f.loaded e (rw e at (own_astray k (lt h))) (rw e at (ready.images.carried k)) (omega arith) (omega arith))
