@@ -152,15 +152,10 @@ module _ (c : Config) (w v : World) (kept : TurnIsLeft w v) (own : v.now.seats.h
       let parts = and_parts (none_attends w.now.seats.markers && all_below c.pages (has_closed_page a)) _ h in
       let none = (and_parts _ _ parts.0).0 in
       let q = stopped two none in
-      rw (
-        none_on two none ∙ sym none,
-        q.0,
-        q.1,
-        ap (λ (x : Written). x.dirty) written,
-        ap (λ (x : Written). x.registers) written,
-        ap (λ (x : Written). x.globals) written,
-        pages,
-      ) h
+      let dirty = ap (λ (x : Written). x.dirty) written in
+      let registers = ap (λ (x : Written). x.registers) written in
+      let globals = ap (λ (x : Written). x.globals) written in
+      rw (none_on two none ∙ sym none, q.0, q.1, dirty, registers, globals, pages) h
 
   black_on : (p n : ℕ) → phase_of a ≡ 2 → written_of v ≡ written_of w → may_black c w.now p n ≡ true
       → may_black c v.now p n ≡ true
