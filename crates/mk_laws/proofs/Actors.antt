@@ -39,46 +39,14 @@ caller_takes c m k (Step.Take (Some o)) h t =
 caller_takes c m k (Step.Take None) h t = absurd (at_no_take _ _ h.order)
 caller_takes c m k _ h t = cc
 
-caller_acts : (c : Config) (m : Moment) (k : ℕ) (x : Step) → Meets c m (Caller k) x
-    → is_astray (standing (flight_of m (Caller k))) ≡ false → Actor c m (Caller k) x
-caller_acts c m k x h a = by (group_of x) refl
-  where
-    lt : k < c.callers
-    lt = ltb-true k c.callers h.seat
-
-    f : Flight
-    f = flight_of m (Caller k)
-
-    by : (g : Group) → group_of x ≡ g → Actor c m (Caller k) x
-    by Group.Callers g = InCallOf k x lt g
-    by Group.Markers g = let e : false ≡ true = ap (λ (y : Group). is_open_to (Caller k) y) (sym g) ∙ h.kind in cc
-    by Group.Host g = let e : false ≡ true = ap (λ (y : Group). is_open_to (Caller k) y) (sym g) ∙ h.kind in cc
-    by Group.Turn g = elim (cases_Bool (is_take x)) [
-      | inl t ↦ caller_takes c m k x h t
-      | inr t ↦ AsHolder (Caller k) x (lt, turns_stand _ f.op (of_turn _ f.op x g t h.order) a) (turns_kind x g t)
-    ]
-
-marker_acts : (c : Config) (m : Moment) (k : ℕ) (x : Step) → Meets c m (Marker k) x → Actor c m (Marker k) x
-marker_acts c m k x h = by (group_of x) refl
-  where
-    by : (g : Group) → group_of x ≡ g → Actor c m (Marker k) x
-    by Group.Markers g = AsMarker k x (ltb-true k 8 h.seat) g
-    by Group.Callers g = let e : false ≡ true = ap (λ (y : Group). is_open_to (Marker k) y) (sym g) ∙ h.kind in cc
-    by _ g = let e : false ≡ true = ap (λ (y : Group). is_open_to (Marker k) y) (sym g) ∙ h.kind in cc
-
 -- the host: `take` with no operation, `over`, and what any holder does
 
 never : (b : Bool) → (b && false) ≡ true → ⊥
 never true e = cc
 never false e = cc
 
-over_holds : (c : Config) (m : Moment) → Meets c m Host Step.Over → host_has_turn c m ≡ true
-over_holds c m h = (and_parts _ _ h.holder).0
-
 host_may : (c : Config) (m : Moment) (x : Step) → group_of x ≡ Group.Turn → is_take x ≡ false
     → comes_next_to_host (host_has_turn c m) x ≡ true → host_has_turn c m ≡ true
-host_may c m (Step.Take o) g t h = cc
-host_may c m Step.Over g t h = cc
 host_may c m x g t h = by x (host_has_turn c m) g t h
   where
     by : (x : Step) (b : Bool) → group_of x ≡ Group.Turn → is_take x ≡ false → comes_next_to_host b x ≡ true → b ≡ true
@@ -92,8 +60,34 @@ host_takes c m (Step.Take None) h t = HostTakes (eqb-false m.words.turn (1 + c.c
 host_takes c m (Step.Take (Some o)) h t = absurd (never _ h.order)
 host_takes c m _ h t = cc
 
-host_acts : (c : Config) (m : Moment) (x : Step) → Meets c m Host x → Actor c m Host x
-host_acts c m x h = by (group_of x) refl
+-- where no caller is astray, each event that meets the conditions is one of these
+pub acts : (c : Config) (m : Moment) (seat : Seat) (x : Step)
+    → ((k : ℕ) → k < c.callers → is_astray (standing (flight_of m (Caller k))) ≡ false)
+    → Meets c m seat x → Actor c m seat x
+acts c m (Caller k) x a h = by (group_of x) refl
+  where
+    lt : k < c.callers
+    lt = ltb-true k c.callers h.seat
+
+    f : Flight
+    f = flight_of m (Caller k)
+
+    by : (g : Group) → group_of x ≡ g → Actor c m (Caller k) x
+    by Group.Callers g = InCallOf k x lt g
+    by Group.Markers g = let e : false ≡ true = ap (λ (y : Group). is_open_to (Caller k) y) (sym g) ∙ h.kind in cc
+    by Group.Host g = let e : false ≡ true = ap (λ (y : Group). is_open_to (Caller k) y) (sym g) ∙ h.kind in cc
+    by Group.Turn g = elim (cases_Bool (is_take x)) [
+      | inl t ↦ caller_takes c m k x h t
+      | inr t ↦
+          AsHolder (Caller k) x (lt, turns_stand _ f.op (of_turn _ f.op x g t h.order) (a k lt)) (turns_kind x g t)
+    ]
+acts c m (Marker k) x a h = by (group_of x) refl
+  where
+    by : (g : Group) → group_of x ≡ g → Actor c m (Marker k) x
+    by Group.Markers g = AsMarker k x (ltb-true k 8 h.seat) g
+    by Group.Callers g = let e : false ≡ true = ap (λ (y : Group). is_open_to (Marker k) y) (sym g) ∙ h.kind in cc
+    by _ g = let e : false ≡ true = ap (λ (y : Group). is_open_to (Marker k) y) (sym g) ∙ h.kind in cc
+acts c m Host x a h = by (group_of x) refl
   where
     by : (g : Group) → group_of x ≡ g → Actor c m Host x
     by Group.Callers g = let e : false ≡ true = ap (λ (y : Group). is_open_to Host y) (sym g) ∙ h.kind in cc
@@ -102,20 +96,12 @@ host_acts c m x h = by (group_of x) refl
       where
         over_alone : (x : Step) → group_of x ≡ Group.Host → Meets c m Host x → Actor c m Host x
         over_alone Step.Over g h =
-            AsHolder Host Step.Over (eqb-true m.words.turn (1 + c.callers) (over_holds c m h)) refl
+            AsHolder Host Step.Over (eqb-true m.words.turn (1 + c.callers) (and_parts _ _ h.holder).0) refl
         over_alone _ g h = cc
     by Group.Turn g = elim (cases_Bool (is_take x)) [
       | inl t ↦ host_takes c m x h t
       | inr t ↦ AsHolder Host x (eqb-true m.words.turn (1 + c.callers) (host_may c m x g t h.order)) (turns_kind x g t)
     ]
-
--- where no caller is astray, each event that meets the conditions is one of these
-pub acts : (c : Config) (m : Moment) (seat : Seat) (x : Step)
-    → ((k : ℕ) → k < c.callers → is_astray (standing (flight_of m (Caller k))) ≡ false)
-    → Meets c m seat x → Actor c m seat x
-acts c m (Caller k) x a h = caller_acts c m k x h (a k (ltb-true k c.callers h.seat))
-acts c m (Marker k) x a h = marker_acts c m k x h
-acts c m Host x a h = host_acts c m x h
 
 -- a New is decided by its own caller alone
 

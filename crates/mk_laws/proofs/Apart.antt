@@ -9,12 +9,12 @@ use Rattle.mk_laws.proofs.Vocabulary.{first_page_shows, get_or, header_in, inl, 
 use Rattle.mk_laws.proofs.Vocabulary.{mul-le, object_placed, pages_made, pages_some, placed_at, refl, small_pages}
 use Rattle.mk_laws.proofs.Vocabulary.{small_words, stands_on, storage_is_of, storage_of, storage_words, suc, sym, true}
 use Rattle.mk_laws.proofs.Vocabulary.{true≢false, unreleased_storage, words_within, zero, [], ◌%◌, ◌*◌, ◌+◌, ◌-◌, ◌/◌}
-use Rattle.mk_laws.proofs.Vocabulary.{◌<◌, ◌∙◌, ◌∷◌, ◌≡◌, ◌≢◌, ◌≤◌, ◌⊎◌}
+use Rattle.mk_laws.proofs.Vocabulary.{◌<◌, ◌∙◌, ◌∷◌, ◌≡◌, ◌≢◌, ◌≤◌}
 use Rattle.mk_geom.{proofs.Standing.stands_parts, specs.Storages.LieApart}
 use Rattle.mk_core.proofs.UnreleasedStorage.{released_front, unreleased_front}
 use Rattle.mk_core.proofs.{Sizes.words_are_small, StandingAllocations.placed_cell}
 use Rattle.mk_laws.proofs.Basics.{IsStanding, claim_among, ends_on_pages}
-use Rattle.mk_laws.proofs.{Claims.front, Claims.gone_front, Released.stands_there, Unmapping.shares_run}
+use Rattle.mk_laws.proofs.{Claims.first_apart, Claims.rest_apart, Released.stands_there, Unmapping.shares_run}
 
 -- a scene in which nothing is on its way: no place, no run, no released cell
 abbrev pub quiet_scene : Config → Words → List PlacedAllocation → LayoutScene
@@ -195,25 +195,21 @@ pub lie_in_pairs : (c : Config) (xs : List PlacedAllocation) → AreApart (claim
 unfolding unreleased_storage
 lie_in_pairs c [] apart lie = λ i j d li lj ne. absurd (omega arith)
 lie_in_pairs c (x ∷ xs) apart lie =
-    by (cases_Bool x.released) (λ rest. lie_in_pairs c xs rest (λ i j. lie (suc i) (suc j)))
+    let rest = lie_in_pairs c xs (rest_apart c None x xs apart) (λ i j. lie (suc i) (suc j)) in
+    elim (cases_Bool x.released) [
+      | inl gone ↦ rw (released_front c x xs gone) rest
+      | inr u ↦ rw (unreleased_front c x xs u) (cons u rest)
+    ]
   where
-    beside : x.released ≡ false → AreApart (claim_of c None x ∷ claims_of c None xs) → (j : ℕ) (d : Storage)
-        → j < length (unreleased_storage c xs) → LieApart (storage_of c x) (get_or (unreleased_storage c xs) j d)
-    beside u ap2 j d lj =
+    beside : x.released ≡ false → (j : ℕ) (d : Storage) → j < length (unreleased_storage c xs)
+        → LieApart (storage_of c x) (get_or (unreleased_storage c xs) j d)
+    beside u j d lj =
         let h = storage_is_of c xs (get_or _ j d) (Contains-get_or (unreleased_storage c xs) j d lj) in
-        rw h.storage (lie 0 (suc h.number) u h.unreleased (ap2.0 _ (claim_among c None xs h.number h.unreleased)))
+        rw h.storage (lie 0 (suc h.number) u h.unreleased (first_apart c None x xs u apart h.number h.unreleased))
 
-    cons : x.released ≡ false → AreApart (claim_of c None x ∷ claims_of c None xs)
-        → LieInPairs (unreleased_storage c xs) → LieInPairs (storage_of c x ∷ unreleased_storage c xs)
-    cons u ap2 rest zero zero d li lj ne = absurd (ne refl)
-    cons u ap2 rest zero (suc j) d li lj ne = beside u ap2 j d (omega arith)
-    cons u ap2 rest (suc i) zero d li lj ne = swapped _ (get_or _ i d) (beside u ap2 i d (omega arith))
-    cons u ap2 rest (suc i) (suc j) d li lj ne = rest i j d (omega arith) (omega arith) (λ e. ne (rw e))
-
-    by : (x.released ≡ true) ⊎ (x.released ≡ false)
-        → (AreApart (claims_of c None xs) → LieInPairs (unreleased_storage c xs))
-        → LieInPairs (unreleased_storage c (x ∷ xs))
-    by (inl gone) rest = rw (released_front c x xs gone) (rest (rw (gone_front c None x xs gone) at apart))
-    by (inr u) rest =
-        let ap2 : AreApart (claim_of c None x ∷ claims_of c None xs) = rw (front c None x xs u) at apart in
-        rw (unreleased_front c x xs u) (cons u ap2 (rest ap2.1))
+    cons : x.released ≡ false → LieInPairs (unreleased_storage c xs)
+        → LieInPairs (storage_of c x ∷ unreleased_storage c xs)
+    cons u rest zero zero d li lj ne = absurd (ne refl)
+    cons u rest zero (suc j) d li lj ne = beside u j d (omega arith)
+    cons u rest (suc i) zero d li lj ne = swapped _ (get_or _ i d) (beside u i d (omega arith))
+    cons u rest (suc i) (suc j) d li lj ne = rest i j d (omega arith) (omega arith) (λ e. ne (rw e))

@@ -1,25 +1,31 @@
 -- What headers, snapshots, releases and free words tell on small schedules, read off from the theorems.
-use Rattle.mk_laws.proofs.Vocabulary.{At, Cell, IsHistory, IsTaken, Releasing, RunPages, Seat, Some, Step, World, ℕ}
-use Rattle.mk_laws.proofs.Vocabulary.{all_below, before_release, begun_in_stop, by, c0, calls_from, cell_of_allocation}
-use Rattle.mk_laws.proofs.Vocabulary.{drop, earlier_part_is_history, eqb-false, event_number, false, false≢true}
-use Rattle.mk_laws.proofs.Vocabulary.{header_in, is_begin, is_freed, is_quarantined, large_freed, large_is_history}
-use Rattle.mk_laws.proofs.Vocabulary.{leb-true, left, left_from, ltb-true, marked_in_stop, may_turn_black, one_page}
-use Rattle.mk_laws.proofs.Vocabulary.{placed_at, pointed_cell, refl, run_headed, slice_index, small, stands_in}
-use Rattle.mk_laws.proofs.Vocabulary.{stopped_cycle, stopped_is_history, suc, sym, take, three_objects, three_pages}
-use Rattle.mk_laws.proofs.Vocabulary.{true, words_are_zero, zero, ◌<◌, ◌≡◌, ◌≤◌}
+use Rattle.mk_laws.proofs.Vocabulary.{At, Bool, Cell, Event, HasAllocation, IsHistory, IsTaken, Releasing, RunPages}
+use Rattle.mk_laws.proofs.Vocabulary.{Seat, Some, Step, World, ℕ, all_below, arith, before_release, begun_in_stop, by}
+use Rattle.mk_laws.proofs.Vocabulary.{c0, calls_from, cell_of_allocation, drop, earlier_part_is_history, eqb-false}
+use Rattle.mk_laws.proofs.Vocabulary.{event_number, false, false≢true, header_in, is_begin, is_freed, is_quarantined}
+use Rattle.mk_laws.proofs.Vocabulary.{large_freed, large_is_history, leb-true, left, left_from, list_any}
+use Rattle.mk_laws.proofs.Vocabulary.{list_any-append, ltb-true, marked_in_stop, may_turn_black, one_page, or_parts}
+use Rattle.mk_laws.proofs.Vocabulary.{placed_at, pointed_cell, refl, register_word, run_headed, slice_index, small}
+use Rattle.mk_laws.proofs.Vocabulary.{stands_in, stopped_cycle, stopped_is_history, suc, sym, take, three_objects}
+use Rattle.mk_laws.proofs.Vocabulary.{three_pages, true, words_are_zero, zero, ◌<◌, ◌≡◌, ◌≤◌}
 use Rattle.mk_never.specs.Reach.{by_register, by_word}
 use Rattle.mk_core.proofs.EvaluatedCycles.{cycle_of_blackened, first_cycle, in_first_snapshot, not_in_first_snapshot}
-use Rattle.mk_core.proofs.EvaluatedFreed.{third_cell, third_is_freed}
 use Rattle.mk_core.proofs.EvaluatedHistories.{blackened_is_history, freed_is_history, marking_is_history}
 use Rattle.mk_core.proofs.Schedules.{blackened_before_the_move, freed_after_begin, host, m0, pointer_page}
-use Rattle.mk_core.proofs.{EventsAt.at_number, MoreSchedules.granted_while_marking, MoreSchedules.two_pages}
+use Rattle.mk_core.proofs.{EvaluatedFreed.third_cell, EvaluatedFreed.third_is_freed, EventsAt.at_number}
+use Rattle.mk_core.proofs.{EventsAt.events_from, MoreSchedules.granted_while_marking, MoreSchedules.two_pages}
 use Rattle.mk_core.specs.{Cells.is_in_snapshot, Readings.SnapshotTells}
-use Rattle.mk_laws.proofs.FreeWords.{unmapped_words_are_zero}
+use Rattle.mk_laws.proofs.AppliedTheorems.{large_front, stopped_front, unmapped_is_settled}
 use Rattle.mk_laws.proofs.Releases.{no_others_release, releases_are_exact, releases_none_reached}
-use Rattle.mk_laws.proofs.{ReadingsStands.headers_and_quarantine_tell, ReleasedCycles.releases_are_of_cycles}
-use Rattle.mk_laws.specs.{FreeWords.IsOfNoneMapped, Releases.allocation_behind}
+use Rattle.mk_laws.proofs.{FreeWords.unmapped_words_are_zero, ReadingsStands.headers_and_quarantine_tell}
+use Rattle.mk_laws.proofs.{ReleasedCycles.releases_are_of_cycles, Settled.unmapped_run}
+use Rattle.mk_laws.specs.UnmappedRuns.{IsOfUnmappedRun, is_resident_in}
+use Rattle.mk_laws.specs.{FreeWords.IsOfNoneMapped, Releases.allocation_behind, UnsetWords.IsNeverSet}
 use Rattle.mk_laws.proofs.FreeCells as cells
 use Rattle.mk_laws.proofs.Snapshots as snapshots
+use Rattle.mk_laws.proofs.FreePages as pages
+use Rattle.mk_laws.proofs.UnmappedRuns as runs
+use Rattle.mk_laws.proofs.UnsetWords as words
 
 -- what the lists leave that several theorems are applied to
 
@@ -34,18 +40,13 @@ wiped = left three_pages (take 20 large_freed)
 
 -- Headers and freed bits.
 
-run_is_made : IsHistory three_pages (take 4 large_freed)
-unfolding by c0 large_freed
-run_is_made = earlier_part_is_history three_pages (take 4 large_freed) (drop 4 large_freed) large_is_history
-
 -- The second page of a run of two says that the first is its head.
 pub later_page_has_its_head : (run : RunPages)
     × (run_headed (header_in (left three_pages (take 4 large_freed)).now.words 0) 0 ≡ Some run) × (1 < run.count)
     × (1 ≤ 1)
 unfolding by c0 all_below pointed_cell three_pages large_freed left_from
 later_page_has_its_head =
-    (headers_and_quarantine_tell three_pages (take 4 large_freed) run_is_made).later (λ e. eqb-false 0 4 refl e) 1 1
-    true refl
+    (headers_and_quarantine_tell _ _ (large_front 4)).later (λ e. eqb-false 0 4 refl e) 1 1 true refl
 
 three_is_history : IsHistory small three_objects
 unfolding begun_in_stop three_objects
@@ -56,20 +57,15 @@ pub freed_bit_is_of_a_freed_one : (a : IsTaken (left small three_objects) third_
     × ((placed_at (left small three_objects).allocations a.number).freed ≡ true)
 unfolding left_from all_below pointed_cell three_objects
 freed_bit_is_of_a_freed_one =
-    (headers_and_quarantine_tell small three_objects three_is_history).freed (λ e. eqb-false 0 4 refl e) third_cell
-    third_is_freed
+    (headers_and_quarantine_tell _ _ three_is_history).freed (λ e. eqb-false 0 4 refl e) third_cell third_is_freed
 
 -- which has it.
 pub freed_one_has_its_bit : is_freed (left small three_objects).now.words third_cell ≡ true
 unfolding left_from all_below pointed_cell three_objects
-freed_one_has_its_bit = (headers_and_quarantine_tell small three_objects three_is_history).quarantined third_cell
+freed_one_has_its_bit = (headers_and_quarantine_tell _ _ three_is_history).quarantined third_cell
     (record { number = 2; in_range = ltb-true 2 32 refl; stands = refl }) refl
 
 -- Before the `close` the third object's snapshot bit is set, and it is the one.
-
-marked_is_history : IsHistory small (take 47 stopped_cycle)
-unfolding begun_in_stop three_objects marked_in_stop
-marked_is_history = earlier_part_is_history small (take 47 stopped_cycle) (drop 47 stopped_cycle) stopped_is_history
 
 abbrev pub begun : At is_begin (take 47 stopped_cycle)
 unfolding begun_in_stop three_objects marked_in_stop event_number at_number
@@ -77,7 +73,7 @@ begun = at_number is_begin 39 (take 47 stopped_cycle) refl refl
 
 told : SnapshotTells small begun
 unfolding begun_in_stop three_objects marked_in_stop event_number at_number
-told = snapshots.snapshots_tell small (take 47 stopped_cycle) marked_is_history begun refl
+told = snapshots.snapshots_tell _ _ (stopped_front 47) begun refl
 
 pub third_in_snapshot : is_in_snapshot marked.now.words
     (cell_of_allocation small (placed_at (left small begun.before).allocations 2)) ≡ true
@@ -93,13 +89,13 @@ bit_is_of_a_quarantined_one = told.is third_cell refl
 
 pub first_is_released : (allocation_behind one_page first_cycle.releasing 0).released ≡ true
 unfolding by c0 host all_below pointed_cell one_page freed_after_begin left_from event_number at_number first_cycle
-first_is_released = (releases_are_exact one_page freed_after_begin freed_is_history first_cycle.releasing 0 refl).1
+first_is_released = (releases_are_exact _ _ freed_is_history first_cycle.releasing 0 refl).1
     (in_first_snapshot, refl)
 
 pub second_is_not_released : (allocation_behind one_page first_cycle.releasing 1).released ≡ true → ⊥
 unfolding by c0 host all_below pointed_cell one_page freed_after_begin left_from event_number at_number first_cycle
 second_is_not_released gone = not_in_first_snapshot
-    ((releases_are_exact one_page freed_after_begin freed_is_history first_cycle.releasing 1 refl).0 gone).0
+    ((releases_are_exact _ _ freed_is_history first_cycle.releasing 1 refl).0 gone).0
 
 -- The other schedule's keeps a freed object to which a word leads: it is marked, and it is reached.
 
@@ -107,26 +103,25 @@ pub marked_is_not_released : (allocation_behind pointer_page cycle_of_blackened.
 unfolding by c0 m0 host all_below pointed_cell may_turn_black pointer_page blackened_before_the_move left_from
     event_number at_number cycle_of_blackened
 marked_is_not_released gone = false≢true
-    (sym ((releases_are_exact pointer_page blackened_before_the_move blackened_is_history cycle_of_blackened.releasing 2
-    refl).0 gone).1)
+    (sym ((releases_are_exact _ _ blackened_is_history cycle_of_blackened.releasing 2 refl).0 gone).1)
 
 pub reached_is_not_released : (allocation_behind pointer_page cycle_of_blackened.releasing 2).released ≡ false
 unfolding by c0 m0 host all_below pointed_cell may_turn_black pointer_page blackened_before_the_move left_from
     calls_from event_number at_number cycle_of_blackened
 reached_is_not_released =
-    releases_none_reached pointer_page blackened_before_the_move blackened_is_history cycle_of_blackened.releasing 2
+    releases_none_reached _ _ blackened_is_history cycle_of_blackened.releasing 2
     (by_word 0 0 2 (by_register 0 0 refl) (refl, refl))
 
 -- The `begin` of that cycle releases none.
 pub begin_releases_none : (placed_at (left one_page (take 16 freed_after_begin)).allocations 0).released ≡ false
 unfolding by c0 host all_below pointed_cell one_page freed_after_begin left_from
-begin_releases_none = no_others_release one_page freed_after_begin freed_is_history (take 15 freed_after_begin)
+begin_releases_none = no_others_release _ _ freed_is_history (take 15 freed_after_begin)
     (drop 16 freed_after_begin) (record { seat = c0; step = Step.Begin }) refl refl 0 refl
 
 -- Each `release` has its cycle.
 pub release_has_its_cycle : (r : Releasing freed_after_begin) × (before_release r ≡ take 32 freed_after_begin)
 unfolding by c0 host freed_after_begin
-release_has_its_cycle = releases_are_of_cycles one_page freed_after_begin freed_is_history _ _ Seat.Host refl
+release_has_its_cycle = releases_are_of_cycles _ _ freed_is_history _ _ Seat.Host refl
 
 -- Words that are 0: those of the cell that was given back,
 
@@ -143,28 +138,22 @@ stands_there (suc (suc (suc n))) h = false≢true h
 pub given_back_is_zero : words_are_zero back.now.words 32 32 ≡ true
 unfolding by c0 host all_below pointed_cell one_page freed_after_begin left_from
 given_back_is_zero =
-    cells.free_cells_are_zero one_page freed_after_begin freed_is_history (λ e. eqb-false 0 4 refl e) second_cell
+    cells.free_cells_are_zero _ _ freed_is_history (λ e. eqb-false 0 4 refl e) second_cell
     (ltb-true 1 2 refl) (λ a. stands_there a.number a.stands)
 
 -- one of the four after ten cells of 6 words,
 pub behind_cells_is_zero : slice_index (left two_pages granted_while_marking).now.words.heap 126 ≡ 0
 unfolding by c0 all_below pointed_cell two_pages granted_while_marking left_from
 behind_cells_is_zero =
-    cells.words_behind_cells_are_zero two_pages granted_while_marking marking_is_history (λ e. eqb-false 1 4 refl e) 126
-    (leb-true 60 62 refl)
+    cells.words_behind_cells_are_zero _ _ marking_is_history (λ e. eqb-false 1 4 refl e) 126 (leb-true 60 62 refl)
 
 -- one of a free page,
 pub free_page_is_zero : slice_index (left three_pages large_freed).now.words.heap 150 ≡ 0
 unfolding by c0 all_below pointed_cell three_pages large_freed left_from
 free_page_is_zero =
-    cells.words_behind_cells_are_zero three_pages large_freed large_is_history (λ e. eqb-false 0 4 refl e) 150
-    (leb-true 0 22 refl)
+    cells.words_behind_cells_are_zero _ _ large_is_history (λ e. eqb-false 0 4 refl e) 150 (leb-true 0 22 refl)
 
 -- and, once its run is wiped, the word that was written to of a freed large object.
-
-wiped_is_history : IsHistory three_pages (take 20 large_freed)
-unfolding by c0 large_freed
-wiped_is_history = earlier_part_is_history three_pages (take 20 large_freed) (drop 20 large_freed) large_is_history
 
 none_is_mapped : (n : ℕ) → IsOfNoneMapped three_pages wiped.allocations n
 unfolding by c0 all_below pointed_cell three_pages large_freed left_from
@@ -174,5 +163,53 @@ none_is_mapped n (suc i) mapped word = false≢true mapped
 pub wiped_is_zero : slice_index wiped.now.words.heap 64 ≡ 0
 unfolding by c0 all_below pointed_cell three_pages large_freed left_from
 wiped_is_zero =
-    unmapped_words_are_zero three_pages (take 20 large_freed) wiped_is_history (λ e. eqb-false 0 4 refl e) refl 64
-    (none_is_mapped 64)
+    unmapped_words_are_zero _ _ (large_front 20) (λ e. eqb-false 0 4 refl e) refl 64 (none_is_mapped 64)
+
+-- What is promised of pages, and of words that nobody has, on the schedule of a large object, read off from the
+-- theorems.
+
+-- The object's second page is marked dirty: the object stands there.
+
+pub object_is_there : HasAllocation three_pages (left three_pages (take 12 large_freed)) 1
+unfolding by c0 all_below pointed_cell three_pages large_freed left_from
+object_is_there = pages.dirty_pages_have_allocations _ _ (large_front 12) 1
+    (λ z. let no : ◌≡◌ {A = ℕ} 1 0 = z in absurd (omega arith))
+
+-- Both pages are given back in the cycle: the dirty word of the second is 0 then, as its header is.
+
+pub page_is_clean : slice_index (left three_pages (take 46 large_freed)).now.words.dirty 1 ≡ 0
+unfolding by c0 all_below pointed_cell may_turn_black three_pages large_freed left_from
+page_is_clean = (pages.free_pages_have_nothing _ _ (large_front 46) 1 refl).dirty
+
+-- A third caller isn't there, and no global is stored to.
+
+pub third_has_no_register : register_word (left three_pages large_freed).now.words 2 0 ≡ 0
+unfolding three_pages
+third_has_no_register = words.registers_of_no_caller_are_zero _ _ large_is_history 2 0 (leb-true 2 2 refl)
+
+is_setg : Step → Bool
+is_setg Step.Setg = true
+is_setg _ = false
+
+none_is_set : list_any (λ (e : Event). is_setg e.step) large_freed ≡ false
+unfolding by c0 large_freed is_setg
+none_is_set = refl
+
+never_set : (g : ℕ) → IsNeverSet three_pages large_freed g
+unfolding is_setg
+never_set g front rest seat is set = grind (arith, list_any-append, is_setg, or_parts, none_is_set)
+
+pub global_is_zero : slice_index (left three_pages large_freed).now.words.globals 5 ≡ 0
+global_is_zero = words.unset_globals_are_zero _ _ large_is_history 5 (never_set 5)
+
+-- The object's second page takes no memory from the event that unmaps it on, up to the next New, which takes it again.
+
+second_is_unmapped : IsOfUnmappedRun three_pages (left three_pages (take 19 large_freed)) 1
+unfolding by c0 all_below pointed_cell may_turn_black three_pages large_freed left_from
+second_is_unmapped = grind (arith, leb-true, ltb-true, unmapped_run, three_pages, large_freed, unmapped_is_settled)
+
+pub second_takes_no_memory : is_resident_in (left three_pages (take 50 large_freed)) 1 ≡ false
+unfolding by c0 large_freed events_from
+second_takes_no_memory =
+    runs.unmapped_runs_take_no_memory _ _ (large_front 50) (take 19 large_freed)
+    (events_from 19 31 large_freed) 1 refl second_is_unmapped refl

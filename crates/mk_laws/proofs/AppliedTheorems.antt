@@ -1,17 +1,17 @@
 -- The theorems over all histories, applied to small schedules: what each says there, read off by computation.
-use Rattle.std.proofs.Common.{replicate}
-use Rattle.mk_laws.proofs.Vocabulary.{Answer, DirtyIsOwed, Event, IsGuarded, IsHeaderWord, IsHistory, IsSettled}
+use Rattle.std.proofs.Common.{replicate, take-append-drop}
+use Rattle.mk_laws.proofs.Vocabulary.{Answer, Config, DirtyIsOwed, Event, IsGuarded, IsHeaderWord, IsHistory, IsSettled}
 use Rattle.mk_laws.proofs.Vocabulary.{IsWordOf, KeepsTheInvariant, List, NeverState, None, Null, OwesDirty, PageIsDirty}
-use Rattle.mk_laws.proofs.Vocabulary.{PointsWell, Some, Value, WordOf, World, ℕ, all_below, answers_of, append_assoc}
-use Rattle.mk_laws.proofs.Vocabulary.{arith, asked, bases_of, begun_in_stop, by, c0, calls, calls_from}
-use Rattle.mk_laws.proofs.Vocabulary.{cell_of_allocation, drop, earlier_part_is_history, eqb-false, event_number, false}
-use Rattle.mk_laws.proofs.Vocabulary.{false≢true, free_page, has_bit_of, header_at, inl, is_begin, is_run_gone}
-use Rattle.mk_laws.proofs.Vocabulary.{large_freed, large_is_history, leb-true, left, left_from, ltb-true}
-use Rattle.mk_laws.proofs.Vocabulary.{marked_in_stop, may_turn_black, never_behind, one_page, placed_at, pointed_cell}
-use Rattle.mk_laws.proofs.Vocabulary.{points_well, refl, register_at, replies_of, resident_pages, slice_index, small}
-use Rattle.mk_laws.proofs.Vocabulary.{stopped_cycle, stopped_is_history, storage_of, subst, sym, take, three_objects}
-use Rattle.mk_laws.proofs.Vocabulary.{three_pages, true, unreleased_storage, uses_of_pages, word_at, word_points_well}
-use Rattle.mk_laws.proofs.Vocabulary.{[], ◌++◌, ◌∙◌, ◌∷◌, ◌≡◌, ◌≤◌}
+use Rattle.mk_laws.proofs.Vocabulary.{Place, PointsWell, Some, TurnOf, Value, WordOf, World, ℕ, all_below, answers_of}
+use Rattle.mk_laws.proofs.Vocabulary.{append_assoc, arith, asked, base_made, bases_of, begun_in_stop, by, c0, calls}
+use Rattle.mk_laws.proofs.Vocabulary.{calls_from, cell_of_allocation, drop, earlier_part_is_history, eqb-false}
+use Rattle.mk_laws.proofs.Vocabulary.{event_number, false, false≢true, free_page, fresh_words_of, has_bit_of, header_at}
+use Rattle.mk_laws.proofs.Vocabulary.{in_a_word, inl, is_begin, is_run_gone, large_freed, large_is_history, leb-true}
+use Rattle.mk_laws.proofs.Vocabulary.{left, left_from, ltb-true, marked_in_stop, may_turn_black, never_behind, one_page}
+use Rattle.mk_laws.proofs.Vocabulary.{placed_at, pointed_cell, points_well, refl, register_at, replies_of}
+use Rattle.mk_laws.proofs.Vocabulary.{resident_pages, slice_index, small, stopped_cycle, stopped_is_history, storage_of}
+use Rattle.mk_laws.proofs.Vocabulary.{subst, sym, take, three_objects, three_pages, true, unreleased_storage}
+use Rattle.mk_laws.proofs.Vocabulary.{uses_of_pages, word_at, word_points_well, [], ◌++◌, ◌∙◌, ◌∷◌, ◌≡◌, ◌≤◌}
 use Rattle.mk_geom.specs.Storages.{words_of_storages}
 use Rattle.mk_never.specs.declared.values.Target.{Target}
 use Rattle.mk_core.proofs.EvaluatedGuards.{page_is_clean, written_points_badly}
@@ -22,10 +22,24 @@ use Rattle.mk_core.proofs.Schedules.{answers_freed, freed_after_begin, host, poi
 use Rattle.mk_core.proofs.SmallCycles.{marked_beside, page_dirtied, scanned_again, second_cleared, third_released}
 use Rattle.mk_core.proofs.SmallCycles.{written_beside}
 use Rattle.mk_core.proofs.{EventsAt.at_number, SmallHistories.beside_is_history}
-use Rattle.mk_core.specs.{Allocations.place_among_allocations, Cells.is_used, History.never_first}
+use Rattle.mk_core.specs.Allocations.{FitsAmongAllocations, held_by_allocations, place_among_allocations}
+use Rattle.mk_core.specs.Placement.{FindsNoPlace, StandsAtItsPlace, before_served, object_at, place_after}
+use Rattle.mk_core.specs.{Cells.is_used, Counts.TalliesAreExact, Cycles.BeginsAndEndsIn, History.never_first}
 use Rattle.mk_laws.proofs.InvariantHistories.{events_keep_the_invariant, histories_keep_the_invariant}
+use Rattle.mk_laws.proofs.Promises.{histories_keep_all_promises}
+use Rattle.mk_laws.specs.Promises.{KeepsAllPromises}
 use Rattle.mk_laws.proofs.Quarantines as quarantines
 use Rattle.mk_laws.proofs.InvariantTheorems as theorems
+
+-- The first events of a history are one.
+pub first_events : (c : Config) (es : List Event) (n : ℕ) → IsHistory c es → IsHistory c (take n es)
+first_events c es n h = earlier_part_is_history c (take n es) (drop n es) (rw (take-append-drop n es) h)
+
+pub large_front : (n : ℕ) → IsHistory three_pages (take n large_freed)
+large_front n = first_events three_pages large_freed n large_is_history
+
+pub stopped_front : (n : ℕ) → IsHistory small (take n stopped_cycle)
+stopped_front n = first_events small stopped_cycle n stopped_is_history
 
 -- The invariant after the first of two lists goes on to the second by one event.
 pub invariant_by_one_event : KeepsTheInvariant pointer_page (before_the_sweep ++ sweeping_mark ∷ [])
@@ -51,7 +65,7 @@ marking = left one_page (take 31 freed_after_begin)
 pub images_of_replies : answers_of (bases_of (left one_page freed_after_begin).allocations)
     (replies_of (never_first one_page) (asked (calls one_page freed_after_begin)))
     ≡ replicate 7 Answer.Done ++ Answer.Num 0 ∷ []
-images_of_replies = sym (theorems.histories_refine_never one_page freed_after_begin freed_is_history) ∙ answers_freed
+images_of_replies = sym (theorems.histories_refine_never _ _ freed_is_history) ∙ answers_freed
 
 -- An object that a register leads to is unreleased, and so is one that it leads to by a word.
 
@@ -59,10 +73,10 @@ begun_is_history : IsHistory small begun_in_stop
 begun_is_history = earlier_part_is_history small begun_in_stop _ stopped_is_history
 
 pub first_is_kept : (placed_at (left small begun_in_stop).allocations 0).released ≡ false
-first_is_kept = theorems.reach_is_kept small begun_in_stop begun_is_history 0 first_is_reached
+first_is_kept = theorems.reach_is_kept _ _ begun_is_history 0 first_is_reached
 
 pub second_is_kept : (placed_at (left small begun_in_stop).allocations 1).released ≡ false
-second_is_kept = theorems.reach_is_kept small begun_in_stop begun_is_history 1 second_is_reached
+second_is_kept = theorems.reach_is_kept _ _ begun_is_history 1 second_is_reached
 
 -- The first exchange is answered 1, so the values are equal; at the second they aren't, or it would be answered so too.
 
@@ -88,7 +102,7 @@ second_compares_unequal same =
 
 pub third_is_used : is_used full.now.words (cell_of_allocation one_page (placed_at full.allocations 2)) ≡ true
 unfolding by c0 all_below pointed_cell may_turn_black one_page full_then_reused left_from
-third_is_used = (theorems.allocations_stand one_page full_then_reused full_is_history 2 refl).used
+third_is_used = (theorems.allocations_stand _ _ full_is_history 2 refl).used
 
 pub word_of_the_first_alone : IsWordOf (storage_of one_page (placed_at full.allocations 2)) 10 → ⊥
 unfolding by c0 all_below pointed_cell may_turn_black one_page full_then_reused left_from
@@ -103,13 +117,12 @@ pub page_told_by_storage : words_of_storages (unreleased_storage one_page full.a
     ≡ record { header = 125; used = 3 }
 unfolding by c0 all_below pointed_cell may_turn_black one_page full_then_reused left_from
 page_told_by_storage =
-    sym ((theorems.pages_show_the_storage one_page full_then_reused full_is_history full_is_settled).words
-    0 free_page (ltb-true 0 1 refl))
+    sym ((theorems.pages_show_the_storage _ _ full_is_history full_is_settled).words 0 free_page (ltb-true 0 1 refl))
 
 -- and no place among them, told by the words.
 pub no_place_told_by_words : place_among_allocations one_page 32 true full.allocations ≡ None
 unfolding by c0 all_below pointed_cell may_turn_black one_page full_then_reused left_from
-no_place_told_by_words = sym (theorems.first_fit_finds_the_place one_page full_then_reused full_is_history
+no_place_told_by_words = sym (theorems.first_fit_finds_the_place _ _ full_is_history
     (record { words = 32; leaf = true }) full_is_settled)
 
 -- A large object's pages are unmapped and its words aren't wiped yet. Its run is shown as unmapped, and the next object
@@ -117,10 +130,6 @@ no_place_told_by_words = sym (theorems.first_fit_finds_the_place one_page full_t
 
 abbrev pub unmapped : World
 unmapped = left three_pages (take 19 large_freed)
-
-unmapped_is_history : IsHistory three_pages (take 19 large_freed)
-unfolding by c0 large_freed
-unmapped_is_history = earlier_part_is_history three_pages (take 19 large_freed) (drop 19 large_freed) large_is_history
 
 pub not_wiped_yet : is_run_gone unmapped.now.words unmapped.now.seats.holding.freed ≡ false
 unfolding by c0 all_below pointed_cell three_pages large_freed left_from
@@ -133,14 +142,14 @@ unmapped_is_settled = record { releasing = refl; placing = refl; unmapped = refl
 pub head_told_by_storage : words_of_storages (unreleased_storage three_pages unmapped.allocations) 0
     ≡ record { header = 43; used = 1 }
 unfolding by c0 all_below pointed_cell may_turn_black three_pages large_freed left_from
-head_told_by_storage = sym ((theorems.pages_show_the_storage three_pages (take 19 large_freed) unmapped_is_history
+head_told_by_storage = sym ((theorems.pages_show_the_storage _ _ (large_front 19)
     unmapped_is_settled).words 0 free_page (ltb-true 0 3 refl))
 
 pub place_behind_told_by_words : place_among_allocations three_pages 64 true unmapped.allocations
     ≡ Some (record { page = 2; index = 0; carve = true })
 unfolding by c0 all_below pointed_cell may_turn_black three_pages large_freed left_from
 place_behind_told_by_words =
-    sym (theorems.first_fit_finds_the_place three_pages (take 19 large_freed) unmapped_is_history
+    sym (theorems.first_fit_finds_the_place _ _ (large_front 19)
     (record { words = 64; leaf = true }) unmapped_is_settled)
 
 -- A word of a black object points to an unmarked one, and its page isn't dirty: so a call owes the page its dirty mark.
@@ -154,7 +163,7 @@ beside_begins =
 
 written_is_guarded : IsGuarded small beside.now 0
 unfolding left_from all_below pointed_cell written_beside three_objects
-written_is_guarded = theorems.black_cells_are_guarded small written_beside beside_begins (inl refl) 0 0 0
+written_is_guarded = theorems.black_cells_are_guarded _ _ beside_begins (inl refl) 0 0 0
     (ltb-true 0 32 refl) refl refl (ltb-true 0 2 refl)
 
 owed_by_one : IsGuarded small beside.now 0 → (k : ℕ) × OwesDirty beside.now k 0
@@ -171,38 +180,89 @@ pub word_points_well_at_close : word_points_well small.pages (stopped 47).now.wo
 unfolding left_from all_below pointed_cell begun_in_stop three_objects marked_in_stop
 word_points_well_at_close = grind (arith, small, stopped_cycle, stopped_is_history, leb-true, ltb-true)
 
-closed_is_history : IsHistory small (take 48 stopped_cycle)
-unfolding begun_in_stop three_objects marked_in_stop
-closed_is_history = earlier_part_is_history small (take 48 stopped_cycle) (drop 48 stopped_cycle) stopped_is_history
-
 pub register_points_well_behind : points_well small.pages (stopped 48).now.words
     (slice_index (stopped 48).now.words.registers 0) ≡ true
 unfolding left_from all_below pointed_cell begun_in_stop three_objects marked_in_stop
-register_points_well_behind =
-    (theorems.marks_stay_closed small (take 48 stopped_cycle) closed_is_history refl).registers 0
+register_points_well_behind = (theorems.marks_stay_closed _ _ (stopped_front 48) refl).registers 0
 
 -- Header words, and how many pages are resident.
 
 pub head_of_a_run : IsHeaderWord (header_at (left three_pages large_freed).now.words 0)
-head_of_a_run = quarantines.pages_have_header_words three_pages large_freed large_is_history 0
+head_of_a_run = quarantines.pages_have_header_words _ _ large_is_history 0
 
 pub one_is_resident : resident_pages (uses_of_pages full.now.words.pages) ≤ 1
 unfolding one_page
-one_is_resident = quarantines.few_pages_are_resident one_page full_then_reused full_is_history
+one_is_resident = quarantines.few_pages_are_resident _ _ full_is_history
 
 -- Before the first `close` the first object, which was freed before the `begin`, has its snapshot bit; the second,
 -- freed after it, has none.
 
 begun_since : IsHistory one_page (take 31 freed_after_begin)
-unfolding by c0 host freed_after_begin
-begun_since = earlier_part_is_history one_page (take 31 freed_after_begin) (drop 31 freed_after_begin) freed_is_history
+begun_since = first_events one_page freed_after_begin 31 freed_is_history
 
 pub first_in_snapshot : has_bit_of one_page marking.now.words.snapshot (placed_at marking.allocations 0) ≡ true
 unfolding by c0 host all_below pointed_cell one_page freed_after_begin left_from event_number at_number
-first_in_snapshot = quarantines.snapshot_is_the_cycles one_page (take 31 freed_after_begin) begun_since
+first_in_snapshot = quarantines.snapshot_is_the_cycles _ _ begun_since
     (at_number is_begin 15 (take 31 freed_after_begin) refl refl) refl refl 0 refl
 
 pub second_outside_snapshot : has_bit_of one_page marking.now.words.snapshot (placed_at marking.allocations 1) ≡ false
 unfolding by c0 host all_below pointed_cell one_page freed_after_begin left_from event_number at_number
-second_outside_snapshot = quarantines.snapshot_is_the_cycles one_page (take 31 freed_after_begin) begun_since
+second_outside_snapshot = quarantines.snapshot_is_the_cycles _ _ begun_since
     (at_number is_begin 15 (take 31 freed_after_begin) refl refl) refl refl 1 refl
+
+-- The promises on placement and tallies, applied to a small schedule: what each says there, read off.
+
+kept : KeepsAllPromises one_page full_then_reused
+kept = histories_keep_all_promises _ _ full_is_history
+
+-- The second object is granted at word 32: this is where first fit had its place before the first step that served it.
+
+second_grant : StandsAtItsPlace one_page (take 8 full_then_reused) c0
+unfolding by c0 event_number one_page full_then_reused
+second_grant = kept.placed (take 8 full_then_reused) (event_number 8 full_then_reused) (drop 9 full_then_reused) refl
+    refl
+
+pub record HadItsPlaceAt (base : ℕ) : Type 0 where
+  pub front : List Event
+  pub place : Place
+  pub fits : place_after one_page front (object_at one_page (take 8 full_then_reused) c0) ≡ Some place
+  pub is : base_made (object_at one_page (take 8 full_then_reused) c0) place ≡ base
+
+pub second_had_its_place : HadItsPlaceAt 32
+unfolding by c0 all_below pointed_cell may_turn_black one_page full_then_reused left_from
+second_had_its_place = record {
+  front = before_served second_grant.turn second_grant.first;
+  place = second_grant.place;
+  fits = second_grant.fits;
+  is = sym second_grant.base;
+}
+
+-- The third New is full: a cycle was begun and ended in its turn, and no place is left.
+
+third_full : FindsNoPlace one_page (take 31 full_then_reused) c0
+unfolding by c0 event_number one_page full_then_reused
+third_full = kept.full (take 31 full_then_reused) (event_number 31 full_then_reused) (drop 32 full_then_reused) refl
+    refl
+
+pub third_had_a_cycle : (t : TurnOf one_page c0 (take 31 full_then_reused)) × BeginsAndEndsIn t
+third_had_a_cycle = (third_full.turn, third_full.cycle)
+
+pub third_fits_nowhere : FitsAmongAllocations one_page 32 true (left one_page (take 31 full_then_reused)).allocations
+    → ⊥
+unfolding by c0 all_below pointed_cell may_turn_black one_page full_then_reused left_from
+third_fits_nowhere = third_full.no_fit
+
+-- After that cycle two objects are held and none is fresh, as the tallies have it at the `give`.
+
+third_give : TalliesAreExact one_page (take 33 full_then_reused)
+unfolding by c0 event_number one_page full_then_reused
+third_give = kept.tallies (take 33 full_then_reused) (event_number 33 full_then_reused) (drop 34 full_then_reused) refl
+    refl
+
+pub two_are_held : held_by_allocations one_page (left one_page (take 33 full_then_reused)).allocations ≡ 64
+unfolding by c0 all_below pointed_cell may_turn_black one_page full_then_reused left_from
+two_are_held = sym third_give.held
+
+pub none_is_fresh : in_a_word (fresh_words_of one_page (left one_page (take 33 full_then_reused)).allocations) ≡ 0
+unfolding by c0 all_below pointed_cell may_turn_black one_page full_then_reused left_from
+none_is_fresh = sym third_give.fresh

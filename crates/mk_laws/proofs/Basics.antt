@@ -6,8 +6,8 @@ pub use Rattle.mk_laws.proofs.ChangedScenes.{changed_words, none_released}
 pub use Rattle.mk_laws.proofs.Changes.{Table, headers_kind, is_head, reg_table, tally_table}
 pub use Rattle.mk_laws.proofs.Claims.{LeavesCells, claim_among, same_cell}
 pub use Rattle.mk_laws.proofs.Freed.{freeing_leaves, gone_terrain}
-pub use Rattle.mk_laws.proofs.Ground.{tally_ground}
-pub use Rattle.mk_laws.proofs.Grown.{along_others}
+pub use Rattle.mk_core.proofs.RegisterAccesses.{tally_leaves as tally_ground}
+pub use Rattle.mk_laws.proofs.Induction.{along_others}
 pub use Rattle.mk_laws.proofs.ImagesBefore.{ready_of, unmapped_is, words_fit}
 pub use Rattle.mk_laws.proofs.HeapEdits.{base_at, exists_placed}
 pub use Rattle.mk_laws.proofs.ImagesMoves.{Frees, Grants, Move, Releases, Renews, Writes}
@@ -20,7 +20,7 @@ pub use Rattle.mk_laws.proofs.LayoutBefore.{Before, is_releasing_behind, page_wi
 pub use Rattle.mk_laws.proofs.LayoutHolders.{first_header, free_has_turn, holding_object, made_sized, new_has_turn}
 pub use Rattle.mk_laws.proofs.LayoutHolders.{no_run, none_on_its_way, placed_undecided}
 pub use Rattle.mk_laws.proofs.Serving.{apart_left, Laid, own_claim, placed_claim}
-pub use Rattle.mk_laws.proofs.LayoutReadings.{claimed, claimed_some, none_set, zero_where_none}
+pub use Rattle.mk_laws.proofs.LayoutReadings.{claimed, claimed_some, none_set, zero_unless, zero_where_none}
 pub use Rattle.mk_laws.proofs.MappedWords.{mapped_stays}
 pub use Rattle.mk_laws.proofs.NewPlace.{held_place, new_holds}
 pub use Rattle.mk_laws.proofs.NextSteps.{at_its_stage, at_no_take, at_reg}

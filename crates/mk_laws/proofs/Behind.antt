@@ -31,10 +31,9 @@ seen_attends c m _ known some = cc
 marks_stay : (c : Config) (m : Moment) (seat : Seat) (y : Colours) → Known c m → phase_of m.words ≡ 4
     → ColourStep c m seat y → y.marks ≡ m.words.marks
 marks_stay c m seat y known four (ClearsMarks p quiet) = absurd (omega arith)
-marks_stay c m seat y known four (AddsMarks p bits early may) =
-    elim early [ inl e ↦ absurd (omega arith) | inr e ↦ absurd (omega arith) ]
+marks_stay c m seat y known four (AddsMarks p bits early may) = absurd (omega arith)
 marks_stay c m seat y known four (MarksSeen p bits some at is) =
-    elim (seen_attends c m seat known some) [ inl e ↦ absurd (omega arith) | inr e ↦ absurd (omega arith) ]
+    let early = seen_attends c m seat known some in absurd (omega arith)
 marks_stay c m seat y known four _ = refl
 
 pub releasing_marks : (c : Config) (w : World) (seat : Seat) (x : Step) → Known c w.now → Meets c w.now seat x
@@ -42,13 +41,7 @@ pub releasing_marks : (c : Config) (w : World) (seat : Seat) (x : Step) → Know
     → (WorldBehind c w seat x).now.words.marks ≡ w.now.words.marks
 releasing_marks c w seat Step.Release known h on = refl
 releasing_marks c w seat Step.End known h on = refl
-releasing_marks c w seat x known h on = by x h on
-  where
-    by : (x : Step) → Meets c w.now seat x → is_releasing_behind x (is_phase w.now.words 4) ≡ true
-        → (WorldBehind c w seat x).now.words.marks ≡ w.now.words.marks
-    by Step.Release h on = refl
-    by Step.End h on = refl
-    by x h on = marks_stay c w.now seat _ known (eqb-true _ 4 on) (colour_step c w.now seat x h)
+releasing_marks c w seat x known h on = marks_stay c w.now seat _ known (eqb-true _ 4 on) (colour_step c w.now seat x h)
 
 -- Where there is a place after, the turn is the same,
 turn_kind : (c : Config) (w : World) (seat : Seat) (x : Step) → Meets c w.now seat x
@@ -83,7 +76,7 @@ layout_behind c w seat x b h laid =
     let v : World = WorldBehind c w seat x in
     let phase = phase_kind c w seat x h in
     let marked : HasLayout c (object_now c w.now) (is_phase v.now.words 4) v.now.words.marks (ground_of v) =
-    rw phase (marks (is_releasing_behind x (is_phase w.now.words 4)) refl (by_kind c w seat x b h laid)) in
+    rw phase (marks (is_releasing_behind x (is_phase w.now.words 4)) refl (by_kind c w seat b laid x h)) in
     elim (cases_Bool (has_place v.now.seats.holding.placing)) [
       | inl has ↦ rw (object_kind c w seat x b.known h has) marked
       | inr none ↦ (placeless c (object_now c w.now) (object_now c v.now) (is_phase v.now.words 4) v.now.words.marks

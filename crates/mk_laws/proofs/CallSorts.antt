@@ -7,6 +7,7 @@ use Rattle.mk_laws.proofs.Vocabulary.{if◌then◌else◌, image_scene_of, is_pa
 use Rattle.mk_laws.proofs.Vocabulary.{ltb-true, onward, page_met, progress_read, refl, refused, reg_access}
 use Rattle.mk_laws.proofs.Vocabulary.{register_met, register_word, slice_index, slice_set, subst, sym, true, word_met}
 use Rattle.mk_laws.proofs.Vocabulary.{world_behind, ◌*◌, ◌+◌, ◌<◌, ◌==◌, ◌∙◌, ◌≡◌}
+use Rattle.mk_core.proofs.RegisterAccesses.{register_leaves}
 use Rattle.mk_core.specs.Effects.{begins_where_free, progress_probe}
 use Rattle.mk_laws.proofs.Basics.{KnownWorld, Leads, PagesShow, Ready, at_its_stage, at_reg, either_leads, flight}
 use Rattle.mk_laws.proofs.Basics.{goes_bare, is_astray, is_call_stage, not_astray, operands_of, standing, standing_at}
@@ -54,29 +55,15 @@ reg_registers : (w : Words) (k : ℕ) (f : Flight) (st : Stage)
 reg_registers w k f Stage.Store = refl
 reg_registers w k f _ = cc
 
-reg_globals : (w : Words) (k : ℕ) (f : Flight) (st : Stage)
-    → (accessed w (Named (Word.Reg k (register_met f st))) (reg_access f st)).globals ≡ w.globals
-reg_globals w k f Stage.Store = refl
-reg_globals w k f _ = cc
-
-reg_heap : (w : Words) (k : ℕ) (f : Flight) (st : Stage)
-    → (accessed w (Named (Word.Reg k (register_met f st))) (reg_access f st)).heap ≡ w.heap
-reg_heap w k f Stage.Store = refl
-reg_heap w k f _ = cc
-
 -- a begun call has loaded nothing
 begun_carries : (bs : List ℕ) (o : Op) (n : NeverState) (k : ℕ) → CarriesOwn bs n k (begun o)
 begun_carries bs (Op.New d ty full) n k =
     record { q = λ e. cc; some_q = λ e. cc; p = λ e. cc; some_p = λ e. cc; r = λ e. cc }
 begun_carries bs _ n k = record { q = λ e. cc; some_q = λ e. cc; p = λ e. cc; some_p = λ e. cc; r = λ e. cc }
 
-begun_unprobed : (o : Op) → is_past_probe (begun o).stage ≡ false
-begun_unprobed (Op.New d ty full) = refl
-begun_unprobed _ = refl
-
-begun_not_put : (o : Op) → is_put (begun o).stage ≡ false
-begun_not_put (Op.New d ty full) = refl
-begun_not_put _ = refl
+begun_plain : (o : Op) → (is_past_probe (begun o).stage ≡ false) × (is_put (begun o).stage ≡ false)
+begun_plain (Op.New d ty full) = (refl, refl)
+begun_plain _ = (refl, refl)
 
 module _ (c : Config) (w : World) (n : NeverState) (known : KnownWorld c w) (mirrors : Mirrors c w n) (safe : ℕ
     → Bool) (ready : Ready c.globals safe (image_scene_of w) n) where
@@ -101,8 +88,8 @@ module _ (c : Config) (w : World) (n : NeverState) (known : KnownWorld c w) (mir
   begins k o next x was = either_leads safe _ n k o (image_scene_of w) (x == 0) (record {
     flight = begun next;
     answer = None;
-  }) _ (λ z. flies_on safe _ n k o (begun next) was (begun_not_put next) (begun_carries _ next n k)
-      (λ past. let y : false ≡ true = sym (begun_unprobed next) ∙ past in cc))
+  }) _ (λ z. flies_on safe _ n k o (begun next) was (begun_plain next).1 (begun_carries _ next n k)
+      (λ past. let y : false ≡ true = sym (begun_plain next).0 ∙ past in cc))
       (λ z. flies_on safe _ n k o (flight_of w.now (Caller k)) was was (ready.images.carried k) (ready.images.probed k))
 
   -- a call that stays where it is
@@ -119,10 +106,6 @@ module _ (c : Config) (w : World) (n : NeverState) (known : KnownWorld c w) (mir
       }) None
   bare_on k o f was bare = (goes_bare safe _ n k f was bare, λ more. refl)
 
-  stage_put : (k : ℕ) (st : Stage) → (flight_of w.now (Caller k)).stage ≡ st → is_put st ≡ false
-      → is_put (flight_of w.now (Caller k)).stage ≡ false
-  stage_put k st e h = ap is_put e ∙ h
-
   pub enter_leads : (k : ℕ) (o : Op) → Meets c w k (Step.Enter o) → LeadsAt c w n safe k (Step.Enter o)
   enter_leads k o h =
       let f = flight_of w.now (Caller k) in
@@ -130,7 +113,7 @@ module _ (c : Config) (w : World) (n : NeverState) (known : KnownWorld c w) (mir
 
   pub leave_leads : (k : ℕ) → Meets c w k Step.Leave → LeadsAt c w n safe k Step.Leave
   leave_leads k h = let f = flight_of w.now (Caller k) in bare_on k f.op at_rest
-      (stage_put k Stage.Leave (at_its_stage f.stage f.op Step.Leave refl h.order) refl) refl
+      (ap is_put (at_its_stage f.stage f.op Step.Leave refl h.order)) refl
 
   pub dirty_leads : (k : ℕ) → Meets c w k Step.Dirty → LeadsAt c w n safe k Step.Dirty
   dirty_leads k h =
@@ -147,93 +130,84 @@ module _ (c : Config) (w : World) (n : NeverState) (known : KnownWorld c w) (mir
       dirty_by (Op.CasPtr q' i p' r') q p r l a was = bare_on k (Op.CasPtr q' i p' r') _ was refl
       dirty_by _ q p r l a was = cc
 
-  pub reg_leads_at : (k : ℕ) → Meets c w k Step.Reg → AdmittedAt c w n k Step.Reg → LeadsAt c w n safe k Step.Reg
-  reg_leads_at k h ad =
-      let f = flight_of w.now (Caller k) in
-      let lt = ltb-true k c.callers h.seat in
-      let x = register_word w.now.words k (register_met f f.stage) in
-      rw (reg_registers w.now.words k f f.stage) (rw (reg_globals w.now.words k f f.stage)
-      (rw (reg_heap w.now.words k f f.stage) (reg_leads c.globals safe _ n k ready (there_is k lt) (own_registers k lt)
-      (own_words k lt) f.stage
-      f.op f.q f.p f.r f.loaded x refl (own_d k) (at_reg f.stage f.op h.order) (own_astray k lt)
-      (ready.images.carried k) (λ np. own_plain _ n ready.images k _ (register_small_here k f.stage) np) ad)))
-    where
-      register_small_here : (k : ℕ) (s : Stage) → register_met (flight_of w.now (Caller k)) s < 8
-      register_small_here k Stage.LoadQ = (ready.small k).0
-      register_small_here k Stage.LoadP = (ready.small k).1
-      register_small_here k Stage.LoadR = (ready.small k).2
-      register_small_here k _ = (ready.small k).3
+  module _ (k : ℕ) where
+    abbrev f : Flight
+    f = flight_of w.now (Caller k)
 
-  pub probe_leads_at : (k : ℕ) → PagesShow (header_at w.now.words) (image_scene_of w) n → Meets c w k Step.Probe
-      → AdmittedAt c w n k Step.Probe → LeadsAt c w n safe k Step.Probe
-  probe_leads_at k show h ad =
-      let f = flight_of w.now (Caller k) in
-      let lt = ltb-true k c.callers h.seat in
-      let st = at_its_stage f.stage f.op Step.Probe refl h.order in
-      let e = literal f Stage.Probe st in
-      let out = call_outside f.op f.stage (ap is_call_stage st) (own_astray k lt) in
-      subst (λ (g : Flight). LeadsBy safe (image_scene_of w) n k g.op (image_scene_of w)
-      (progress_probe g (header_at w.now.words (page_met f)))) (sym e)
-      (probe_leads c.globals safe (image_scene_of w) n k ready (there_is k lt) (own_registers k lt)
-      (header_at w.now.words) show f.op f.q f.p f.r f.loaded (header_at w.now.words (page_met f)) e (own_d k)
-      (rw e at (own_astray k lt)) (rw e at (ready.images.carried k)) refl
-      (λ u. admitted_call c.globals n k f.op Answer.Fault out (subst (λ b. AreAdmitted c.globals n
-      (asked (entry_of k f.op (if b then refused f Answer.Fault else onward f None).answer))) u ad)))
+    lt : {s : Step} → Meets c w k s → k < c.callers
+    lt h = ltb-true k c.callers h.seat
 
-  pub read_leads_at : (k : ℕ) → Meets c w k Step.Read → AdmittedAt c w n k Step.Read → LeadsAt c w n safe k Step.Read
-  read_leads_at k h ad =
-      let f = flight_of w.now (Caller k) in
-      let lt = ltb-true k c.callers h.seat in
-      let st = at_its_stage f.stage f.op Step.Read refl h.order in
-      let e = literal f Stage.Read st in
-      let out = call_outside f.op f.stage (ap is_call_stage st) (own_astray k lt) in
-      let x = slice_index w.now.words.heap (word_met f) in
-      subst (λ (g : Flight). LeadsBy safe (image_scene_of w) n k g.op (image_scene_of w) (progress_read g g.op x)) (sym
-      e) (read_leads _ safe _ n k ready (there_is k lt) (own_registers k lt) f.op f.q f.p f.r _ x e (own_d k) (rw e at
-      (own_astray k lt)) (rw e at (ready.images.carried k)) (rw e at (ready.images.probed k)) refl (read_admitted _ n k
-      f f.op x out ad))
+    pub reg_leads_at : Meets c w k Step.Reg → AdmittedAt c w n k Step.Reg → LeadsAt c w n safe k Step.Reg
+    reg_leads_at h ad =
+        let x = register_word w.now.words k (register_met f f.stage) in
+        let kept = register_leaves w.now.words k (register_met f f.stage) (reg_access f f.stage) in
+        rw (reg_registers w.now.words k f f.stage, kept.globals, kept.heap)
+        (reg_leads c.globals safe _ n k ready (there_is k (lt h)) (own_registers k (lt h)) (own_words k (lt h)) f.stage
+        f.op f.q f.p f.r f.loaded x refl (own_d k) (at_reg f.stage f.op h.order) (own_astray k (lt h))
+        (ready.images.carried k) (λ np. own_plain _ n ready.images k _ (register_small_here f.stage) np) ad)
+      where
+        register_small_here : (s : Stage) → register_met f s < 8
+        register_small_here Stage.LoadQ = (ready.small k).0
+        register_small_here Stage.LoadP = (ready.small k).1
+        register_small_here Stage.LoadR = (ready.small k).2
+        register_small_here _ = (ready.small k).3
 
-  pub write_leads_at : (k : ℕ) → Meets c w k Step.Write → AdmittedAt c w n k Step.Write
-      → LeadsAt c w n safe k Step.Write
-  write_leads_at k h ad =
-      let f = flight_of w.now (Caller k) in
-      let lt = ltb-true k c.callers h.seat in
-      let st = at_its_stage f.stage f.op Step.Write refl h.order in
-      let e = literal f Stage.Write st in
-      let out = call_outside f.op f.stage (ap is_call_stage st) (own_astray k lt) in
-      rw e (write_leads c.globals safe _ n k ready (there_is k lt)
-      (own_registers k lt) f.op f.q f.p f.r f.loaded e (rw e at (own_astray k lt)) (rw e at (ready.images.carried k))
-      (rw e at (ready.images.probed k)) (admitted_call c.globals n k f.op Answer.Done out ad))
+    pub probe_leads_at : PagesShow (header_at w.now.words) (image_scene_of w) n → Meets c w k Step.Probe
+        → AdmittedAt c w n k Step.Probe → LeadsAt c w n safe k Step.Probe
+    probe_leads_at show h ad =
+        let st = at_its_stage f.stage f.op Step.Probe refl h.order in
+        let e = literal f Stage.Probe st in
+        let out = call_outside f.op f.stage (ap is_call_stage st) (own_astray k (lt h)) in
+        subst (λ (g : Flight). LeadsBy safe (image_scene_of w) n k g.op (image_scene_of w)
+        (progress_probe g (header_at w.now.words (page_met f)))) (sym e)
+        (probe_leads c.globals safe (image_scene_of w) n k ready (there_is k (lt h)) (own_registers k (lt h))
+        (header_at w.now.words) show f.op f.q f.p f.r f.loaded (header_at w.now.words (page_met f)) e (own_d k)
+        (rw e at (own_astray k (lt h))) (rw e at (ready.images.carried k)) refl
+        (λ u. admitted_call c.globals n k f.op Answer.Fault out (subst (λ b. AreAdmitted c.globals n
+        (asked (entry_of k f.op (if b then refused f Answer.Fault else onward f None).answer))) u ad)))
 
-  pub cas_leads_at : (k : ℕ) → Meets c w k Step.Cas → AdmittedAt c w n k Step.Cas → LeadsAt c w n safe k Step.Cas
-  cas_leads_at k h ad =
-      let f = flight_of w.now (Caller k) in
-      let lt = ltb-true k c.callers h.seat in
-      let st = at_its_stage f.stage f.op Step.Cas refl h.order in
-      let e = literal f Stage.Cas st in
-      let out = call_outside f.op f.stage (ap is_call_stage st) (own_astray k lt) in
-      let x = slice_index w.now.words.heap (word_met f) in
-      rw e (cas_leads c.globals safe _ n k ready (there_is k lt)
-      (own_registers k lt) f.op f.q f.p f.r f.loaded x e (rw e at (own_astray k lt)) (rw e at (ready.images.carried k))
-      (rw e at (ready.images.probed k)) refl (admitted_call c.globals n k f.op _ out ad))
+    pub read_leads_at : Meets c w k Step.Read → AdmittedAt c w n k Step.Read → LeadsAt c w n safe k Step.Read
+    read_leads_at h ad =
+        let st = at_its_stage f.stage f.op Step.Read refl h.order in
+        let e = literal f Stage.Read st in
+        let out = call_outside f.op f.stage (ap is_call_stage st) (own_astray k (lt h)) in
+        let x = slice_index w.now.words.heap (word_met f) in
+        subst (λ (g : Flight). LeadsBy safe (image_scene_of w) n k g.op (image_scene_of w) (progress_read g g.op x))
+        (sym e) (read_leads _ safe _ n k ready (there_is k (lt h)) (own_registers k (lt h)) f.op f.q f.p f.r _ x e
+        (own_d k) (rw e at (own_astray k (lt h))) (rw e at (ready.images.carried k)) (rw e at (ready.images.probed k))
+        refl (read_admitted _ n k f f.op x out ad))
 
-  pub getg_leads_at : (k : ℕ) → Meets c w k Step.Getg → LeadsAt c w n safe k Step.Getg
-  getg_leads_at k h =
-      let f = flight_of w.now (Caller k) in
-      let lt = ltb-true k c.callers h.seat in
-      let e = literal f Stage.Getg (at_its_stage f.stage f.op Step.Getg refl h.order) in
-      let x = slice_index w.now.words.globals (g_of f.op) in
-      rw e (getg_leads c.globals safe _ n k ready (there_is k lt)
-      (own_registers k lt) f.op f.q f.p f.r f.loaded x e (own_d k) (rw e at (own_astray k lt)) refl)
+    pub write_leads_at : Meets c w k Step.Write → AdmittedAt c w n k Step.Write → LeadsAt c w n safe k Step.Write
+    write_leads_at h ad =
+        let st = at_its_stage f.stage f.op Step.Write refl h.order in
+        let e = literal f Stage.Write st in
+        let out = call_outside f.op f.stage (ap is_call_stage st) (own_astray k (lt h)) in
+        rw e (write_leads c.globals safe _ n k ready (there_is k (lt h)) (own_registers k (lt h)) f.op f.q f.p f.r
+        f.loaded e (rw e at (own_astray k (lt h))) (rw e at (ready.images.carried k))
+        (rw e at (ready.images.probed k)) (admitted_call c.globals n k f.op Answer.Done out ad))
 
-  pub setg_leads_at : (k : ℕ) → Meets c w k Step.Setg → LeadsAt c w n safe k Step.Setg
-  setg_leads_at k h =
-      let f = flight_of w.now (Caller k) in
-      let lt = ltb-true k c.callers h.seat in
-      let e = literal f Stage.Setg (at_its_stage f.stage f.op Step.Setg refl h.order) in
-      let small = (operands_of c f.op (known.now.operands k)).g in
-      let lg = known.lengths.globals in
-      let ln = mirrors.global_count in
-      rw e (setg_leads c.globals safe _ n k ready (there_is k lt)
-      (own_registers k lt) f.op f.q f.p f.r f.loaded e (rw e at (own_astray k lt)) (rw e at (ready.images.carried k))
-      (omega arith) (omega arith))
+    pub cas_leads_at : Meets c w k Step.Cas → AdmittedAt c w n k Step.Cas → LeadsAt c w n safe k Step.Cas
+    cas_leads_at h ad =
+        let st = at_its_stage f.stage f.op Step.Cas refl h.order in
+        let e = literal f Stage.Cas st in
+        let out = call_outside f.op f.stage (ap is_call_stage st) (own_astray k (lt h)) in
+        let x = slice_index w.now.words.heap (word_met f) in
+        rw e (cas_leads c.globals safe _ n k ready (there_is k (lt h)) (own_registers k (lt h)) f.op f.q f.p f.r
+        f.loaded x e (rw e at (own_astray k (lt h))) (rw e at (ready.images.carried k))
+        (rw e at (ready.images.probed k)) refl (admitted_call c.globals n k f.op _ out ad))
+
+    pub getg_leads_at : Meets c w k Step.Getg → LeadsAt c w n safe k Step.Getg
+    getg_leads_at h =
+        let e = literal f Stage.Getg (at_its_stage f.stage f.op Step.Getg refl h.order) in
+        let x = slice_index w.now.words.globals (g_of f.op) in
+        rw e (getg_leads c.globals safe _ n k ready (there_is k (lt h))
+        (own_registers k (lt h)) f.op f.q f.p f.r f.loaded x e (own_d k) (rw e at (own_astray k (lt h))) refl)
+
+    pub setg_leads_at : Meets c w k Step.Setg → LeadsAt c w n safe k Step.Setg
+    setg_leads_at h =
+        let e = literal f Stage.Setg (at_its_stage f.stage f.op Step.Setg refl h.order) in
+        let small = (operands_of c f.op (known.now.operands k)).g in
+        let lg = known.lengths.globals in
+        let ln = mirrors.global_count in
+        rw e (setg_leads c.globals safe _ n k ready (there_is k (lt h)) (own_registers k (lt h)) f.op f.q f.p f.r
+        f.loaded e (rw e at (own_astray k (lt h))) (rw e at (ready.images.carried k)) (omega arith) (omega arith))

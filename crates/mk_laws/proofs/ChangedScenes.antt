@@ -1,7 +1,7 @@
 -- What a change of the scene leaves to show, and steps that store to the heap.
 use Rattle.mk_laws.proofs.Vocabulary.{AreOfPages, Config, HasZeros, IsFreedWord, IsReleasedWord, IsWithinLimits}
-use Rattle.mk_laws.proofs.Vocabulary.{IsWordOfMapped, List, MayHold, OfFreedRun, OfMapped, OfReleased, OthersAreZero}
-use Rattle.mk_laws.proofs.Vocabulary.{Page, Seat, Step, Words, World, ZeroScene, ℕ, and_parts, false, has_bit, is_phase}
+use Rattle.mk_laws.proofs.Vocabulary.{IsWordOfMapped, MayHold, OfFreedRun, OfMapped, OfReleased, OthersAreZero, Seat}
+use Rattle.mk_laws.proofs.Vocabulary.{Step, Words, World, ZeroScene, ℕ, and_parts, false, has_bit, is_phase}
 use Rattle.mk_laws.proofs.Vocabulary.{is_released_there, placed_at, refl, set_by, slice_index, slice_set, subst, sym}
 use Rattle.mk_laws.proofs.Vocabulary.{true≢false, without, zero_scene_with, ◌∙◌, ◌≡◌, ◌≢◌}
 use Rattle.mk_core.proofs.RegisterAccesses.{LeavesTable}
@@ -74,8 +74,4 @@ wiped_words c s j z = changed_words c s (record s { heap = slice_set s.heap j 0 
 -- Registers and counts
 pub kept_heap : (c : Config) (w : World) (x : Words) → LeavesTable w.now.words x → HasZeros c w
     → OthersAreZero c (record (here w) { heap = x.heap; pages = x.pages; snapshot = x.snapshot })
-kept_heap c w x k z =
-    subst (λ (hs : List ℕ). OthersAreZero c (record (here w) { heap = hs; pages = x.pages; snapshot = x.snapshot }))
-    (sym k.heap)
-    (subst (λ (ps : List Page). OthersAreZero c (record (here w) { pages = ps; snapshot = x.snapshot })) (sym k.pages)
-    (subst (λ (ss : List ℕ). OthersAreZero c (record (here w) { snapshot = ss })) (sym k.snapshot) z))
+kept_heap c w x k z = rw (k.heap, k.pages, k.snapshot) z

@@ -1,12 +1,13 @@
 -- What each kind of step changes of what the guard reads.
-use Rattle.mk_laws.proofs.Vocabulary.{Access, AreOfPages, Bool, Caller, Config, DirtyIsOwed, Flight, Host, IsGuarded}
-use Rattle.mk_laws.proofs.Vocabulary.{IsMarking, List, Load, Marker, Moment, Named, OnlyGrow, Op, OwesDirty, Page, Seat}
-use Rattle.mk_laws.proofs.Vocabulary.{Stage, Step, Store, Tally, Word, Words, ℕ, accessed, and_parts, ap, arith}
-use Rattle.mk_laws.proofs.Vocabulary.{at_rest, cases_eq, cases_lt, comes_next, false, flight_of, found, free_page}
-use Rattle.mk_laws.proofs.Vocabulary.{get_or-set_other, get_or-set_same, header_at, inl, inr, length, ltb-true, nat_le}
-use Rattle.mk_laws.proofs.Vocabulary.{nat_lt, no_bit, page_met, progress, refl, set_past, slice_index, slice_index_or}
-use Rattle.mk_laws.proofs.Vocabulary.{slice_set, stage_behind, steps_of, subst, sym, tally_word, true, true≢false}
-use Rattle.mk_laws.proofs.Vocabulary.{word_met, ◌*◌, ◌<◌, ◌∙◌, ◌≡◌, ◌⊎◌}
+use Rattle.mk_laws.proofs.Vocabulary.{Access, AreOfPages, Bool, Caller, Config, DirtyIsOwed, Flight, IsGuarded}
+use Rattle.mk_laws.proofs.Vocabulary.{IsMarking, List, Load, Moment, Named, OnlyGrow, Op, OwesDirty, Page, Seat, Stage}
+use Rattle.mk_laws.proofs.Vocabulary.{Step, Store, Tally, Word, Words, ℕ, accessed, and_parts, ap, arith, at_rest}
+use Rattle.mk_laws.proofs.Vocabulary.{cases_eq, comes_next, false, flight_of, found, free_page, get_or-set_other}
+use Rattle.mk_laws.proofs.Vocabulary.{get_or-set_same, has_bit, header_at, inl, inr, length, ltb-true, nat_le, nat_lt}
+use Rattle.mk_laws.proofs.Vocabulary.{no_bit, page_met, progress, refl, set_by, slice_index, slice_index_or, slice_set}
+use Rattle.mk_laws.proofs.Vocabulary.{stage_behind, steps_of, subst, sym, tally_word, true, true≢false, word_met, ◌*◌}
+use Rattle.mk_laws.proofs.Vocabulary.{◌<◌, ◌∙◌, ◌≡◌, ◌⊎◌}
+use Rattle.mk_core.proofs.RegisterAccesses.{register_leaves, tally_leaves}
 use Rattle.mk_laws.proofs.Colours.{AddsMarks, ClearsMarks, Colours, ColourStep, MarksSeen, colour_step}
 use Rattle.mk_laws.proofs.Growth.{grows_more, grows_same}
 use Rattle.mk_laws.proofs.{Actors.Meets, Known.Known, NextSteps.at_its_stage, OrderlyLists.not_astray, SameWords.Behind}
@@ -70,6 +71,10 @@ stored c m k x n y f lt heap flights at same = elim (cases_eq y (word_met (fligh
   | inr ne ↦ inl (rw heap (get_or-set_other m.words.heap _ y n 0 ne))
 ]
 
+pub wiped : (xs : List ℕ) (n y : ℕ)
+    → (slice_index (slice_set xs n 0) y ≡ slice_index xs y) ⊎ (slice_index (slice_set xs n 0) y ≡ 0)
+wiped xs n y = set_by (λ v. (v ≡ slice_index xs y) ⊎ (v ≡ 0)) xs n y 0 0 (λ e. inr refl) (inl refl)
+
 pub heap_kind : (c : Config) (m : Moment) (seat : Seat) (x : Step) → Known c m → Meets c m seat x → (y : ℕ)
     → (slice_index (Behind c m seat x).words.heap y ≡ slice_index m.words.heap y) ⊎ IsGuarded c (Behind c m seat x) y
 heap_kind c m seat Step.Reg known h y = inl (ap (λ (t : Table). slice_index t.heap y) (reg_table c m seat))
@@ -92,19 +97,10 @@ heap_kind c m (Caller k) Step.Cas known h y =
     (progress c m (flight_of m (Caller k)) (found c m (record { seat = Caller k; step = Step.Cas })) Step.Cas).flight
     (omega (arith, lt, known.orderly.flights)) refl refl
     (ap (λ (s : Stage). stage_behind s (steps_of (flight_of m (Caller k)).op)) at ∙ swapped _ fine) refl
-heap_kind c m (Marker k) Step.Write known h y = let kind = h.kind in cc
-heap_kind c m Host Step.Write known h y = let kind = h.kind in cc
-heap_kind c m (Marker k) Step.Cas known h y = let kind = h.kind in cc
-heap_kind c m Host Step.Cas known h y = let kind = h.kind in cc
-heap_kind c m seat (Step.Wipe n) known h y = elim (cases_eq y n) [
-  | inl e ↦ elim (cases_lt n (length m.words.heap)) [
-    | inl lt ↦
-        let bare = ap (λ i. slice_index (slice_set m.words.heap n 0) i) e ∙ get_or-set_same m.words.heap n 0 0 lt in
-        inr (bare_guarded c _ y bare)
-    | inr past ↦ inl (rw (set_past m.words.heap n 0 past))
-  ]
-  | inr ne ↦ inl (get_or-set_other m.words.heap n y 0 0 ne)
-]
+heap_kind c m _ Step.Write known h y = let kind = h.kind in cc
+heap_kind c m _ Step.Cas known h y = let kind = h.kind in cc
+heap_kind c m seat (Step.Wipe n) known h y =
+    elim (wiped m.words.heap n y) [ inl same ↦ inl same | inr bare ↦ inr (bare_guarded c _ y bare) ]
 heap_kind c m seat _ known h y = inl refl
 
 -- dirty words
@@ -117,13 +113,8 @@ pub dirty_kind : (c : Config) (m : Moment) (seat : Seat) (x : Step) → is_undir
     → slice_index m.words.dirty p ≡ 1 → slice_index (Behind c m seat x).words.dirty p ≡ 1
 dirty_kind c m seat Step.Reg u p h = ap (λ (t : Table). slice_index t.dirty p) (reg_table c m seat) ∙ h
 dirty_kind c m seat (Step.Tally n v) u p h = ap (λ (t : Table). slice_index t.dirty p) (tally_table m.words n v) ∙ h
-dirty_kind c m seat Step.Dirty u p h = elim (cases_eq p (page_met (flight_of m seat))) [
-  | inl e ↦ elim (cases_lt (page_met (flight_of m seat)) (length m.words.dirty)) [
-    | inl lt ↦ rw e (get_or-set_same m.words.dirty _ 1 0 lt)
-    | inr past ↦ rw (set_past m.words.dirty _ 1 past) h
-  ]
-  | inr ne ↦ get_or-set_other m.words.dirty _ p 1 0 ne ∙ h
-]
+dirty_kind c m seat Step.Dirty u p h =
+    set_by (λ v. v ≡ 1) m.words.dirty (page_met (flight_of m seat)) p 1 0 (λ e. refl) h
 dirty_kind c m seat (Step.Undirty q) u p h = cc
 dirty_kind c m seat _ u p h = h
 
@@ -143,8 +134,7 @@ pub owed_kind : (c : Config) (m : Moment) (seat : Seat) (x : Step) → AreOfPage
 owed_kind c m (Caller k) x len h j p owes = elim (cases_eq j k) [
   | inr ne ↦
       let is = get_or-set_other m.seats.flights k j
-      (progress c m (flight_of m (Caller k)) (found c m (record { seat = Caller k; step = x })) x).flight at_rest ne
-      in
+      (progress c m (flight_of m (Caller k)) (found c m (record { seat = Caller k; step = x })) x).flight at_rest ne in
       inl (rw is owes.0, rw is owes.1)
   | inl e ↦
       let own : (flight_of m (Caller k)).stage ≡ Stage.Dirty = rw e at owes.0 in
@@ -174,22 +164,14 @@ headers_kind c m seat Step.Reg u p =
     ap (λ (t : Table). (slice_index_or t.pages p free_page).header) (reg_table c m seat)
 headers_kind c m seat (Step.Tally n v) u p =
     ap (λ (t : Table). (slice_index_or t.pages p free_page).header) (tally_table m.words n v)
-headers_kind c m seat (Step.Used q n) u p = elim (cases_eq p q) [
-  | inl e ↦ elim (cases_lt q (length m.words.pages)) [
-    | inl lt ↦ rw e (ap (λ (y : Page). y.header)
-        (get_or-set_same m.words.pages q (record { header = header_at m.words q; used = n }) free_page lt) ∙ rw (← e))
-    | inr past ↦ rw (set_past m.words.pages q (record { header = header_at m.words q; used = n }) past)
-  ]
-  | inr ne ↦ ap (λ (y : Page). y.header)
-      (get_or-set_other m.words.pages q p (record { header = header_at m.words q; used = n }) free_page ne)
-]
+headers_kind c m seat (Step.Used q n) u p = set_by (λ (y : Page). y.header ≡ header_at m.words p) m.words.pages q p
+    (record { header = header_at m.words q; used = n }) free_page (λ e. rw e) refl
 headers_kind c m seat _ u p = cc
 
 -- marks only grow while a cycle marks
 marks_grow : (c : Config) (m : Moment) (seat : Seat) (y : Colours) → IsMarking m.words → ColourStep c m seat y
     → OnlyGrow m.words.marks y.marks
-marks_grow c m seat y early (ClearsMarks p z) =
-    elim early [ inl e ↦ absurd (omega arith) | inr e ↦ absurd (omega arith) ]
+marks_grow c m seat y early (ClearsMarks p z) = absurd (omega arith)
 marks_grow c m seat y early (AddsMarks p bits e h) = grows_more m.words.marks p bits
 marks_grow c m seat y early (MarksSeen p bits s e f) = grows_more m.words.marks p bits
 marks_grow c m seat y early _ = grows_same m.words.marks
@@ -206,19 +188,11 @@ is_blackening _ = false
 
 pub blacks_kind : (c : Config) (m : Moment) (seat : Seat) (x : Step) → is_blackening x ≡ false
     → OnlyGrow (Behind c m seat x).words.blacks m.words.blacks
-blacks_kind c m seat Step.Reg u = subst (λ (t : Table). OnlyGrow t.blacks m.words.blacks) (sym (reg_table c m seat))
-    (grows_same m.words.blacks)
-blacks_kind c m seat (Step.Tally n v) u =
-    subst (λ (t : Table). OnlyGrow t.blacks m.words.blacks) (sym (tally_table m.words n v)) (grows_same m.words.blacks)
+blacks_kind c m seat Step.Reg u = rw (register_leaves m.words _ _ _).blacks (grows_same m.words.blacks)
+blacks_kind c m seat (Step.Tally n v) u = rw (tally_leaves m.words n v).blacks (grows_same m.words.blacks)
 blacks_kind c m seat (Step.Black p n) u = cc
 blacks_kind c m seat Step.Mblack u = cc
-blacks_kind c m seat (Step.Unblack q) u = λ p k is. elim (cases_eq p q) [
-  | inl e ↦ elim (cases_lt q (length m.words.blacks)) [
-    | inl lt ↦
-        let none = ap (λ i. slice_index (slice_set m.words.blacks q 0) i) e ∙ get_or-set_same m.words.blacks q 0 0 lt in
-        absurd (true≢false (sym is ∙ no_bit _ k none))
-    | inr past ↦ rw (set_past m.words.blacks q 0 past) at is
-  ]
-  | inr ne ↦ rw (get_or-set_other m.words.blacks q p 0 0 ne) at is
-]
+blacks_kind c m seat (Step.Unblack q) u =
+    λ p k. set_by (λ v. has_bit v k ≡ true → has_bit (slice_index m.words.blacks p) k ≡ true) m.words.blacks q p 0 0
+    (λ e is. absurd (true≢false (sym is ∙ no_bit 0 k refl))) (λ is. is)
 blacks_kind c m seat _ u = grows_same m.words.blacks

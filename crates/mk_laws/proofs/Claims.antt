@@ -3,7 +3,7 @@ use Rattle.mk_laws.proofs.Vocabulary.{Among, AreApart, Cell, Claim, Config, IsAt
 use Rattle.mk_laws.proofs.Vocabulary.{Option, PlacedAllocation, RunPages, ℕ, ap, cases_Bool, cell_of_allocation}
 use Rattle.mk_laws.proofs.Vocabulary.{changed_at, claim_of, claims_of, cond-false, cond-true, false, inl, inr, map}
 use Rattle.mk_laws.proofs.Vocabulary.{object_placed, placed_at, refl, subst, suc, sym, true, true≢false, zero, [], ◌∙◌}
-use Rattle.mk_laws.proofs.Vocabulary.{◌∷◌, ◌≡◌, ◌⊎◌}
+use Rattle.mk_laws.proofs.Vocabulary.{◌∷◌, ◌≡◌}
 
 -- the unreleased allocation whose claim it is
 pub record IsClaimOf (c : Config) (run : Option RunPages) (xs : List PlacedAllocation) (x : Claim) : Type 0 where
@@ -89,36 +89,43 @@ changed_among c run g xs i leaves u =
     subst (λ (a : PlacedAllocation). Among (claim_of c run a) (claims_of c run (map g xs))) at
     (claim_among c run (map g xs) i (ap (λ (a : PlacedAllocation). a.released) at ∙ u))
 
+-- Claims apart: those of the rest are so, and none of them has the first one's cell.
+
+pub rest_apart : (c : Config) (run : Option RunPages) (a : PlacedAllocation) (xs : List PlacedAllocation)
+    → AreApart (claims_of c run (a ∷ xs)) → AreApart (claims_of c run xs)
+rest_apart c run a xs apart = elim (cases_Bool a.released) [
+  | inl r ↦ rw (gone_front c run a xs r) at apart
+  | inr u ↦ let both : AreApart (claim_of c run a ∷ claims_of c run xs) = rw (front c run a xs u) at apart in both.1
+]
+
+pub first_apart : (c : Config) (run : Option RunPages) (a : PlacedAllocation) (xs : List PlacedAllocation)
+    → a.released ≡ false → AreApart (claims_of c run (a ∷ xs)) → (i : ℕ) → (placed_at xs i).released ≡ false
+    → IsOfOneCell (claim_of c run a) (claim_of c run (placed_at xs i)) → ⊥
+first_apart c run a xs u apart i v same =
+    let both : AreApart (claim_of c run a ∷ claims_of c run xs) = rw (front c run a xs u) at apart in
+    both.0 _ (claim_among c run xs i v) same
+
 -- Claims stay apart,
-pub apart_behind : (c : Config) (old new : Option RunPages) (g : PlacedAllocation
-    → PlacedAllocation) (xs : List PlacedAllocation) → LeavesCells g
-    → AreApart (claims_of c old xs) → AreApart (claims_of c new (map g xs))
+pub apart_behind : (c : Config) (old new : Option RunPages) (g : PlacedAllocation → PlacedAllocation)
+    (xs : List PlacedAllocation) → LeavesCells g → AreApart (claims_of c old xs) → AreApart (claims_of c new (map g xs))
 apart_behind c old new g [] leaves apart = apart
 apart_behind c old new g (a ∷ xs) leaves apart =
-    by (cases_Bool (g a).released) (cases_Bool a.released) (apart_behind c old new g xs leaves)
-  where
-    by : ((g a).released ≡ true) ⊎ ((g a).released ≡ false) → (a.released ≡ true) ⊎ (a.released ≡ false)
-        → (AreApart (claims_of c old xs) → AreApart (claims_of c new (map g xs)))
-        → AreApart (claims_of c new (map g (a ∷ xs)))
-    by (inl r) (inl s) rest = rw (gone_front c new (g a) (map g xs) r) (rest (rw (gone_front c old a xs s) at apart))
-    by (inl r) (inr v) rest =
-        let before : AreApart (claim_of c old a ∷ claims_of c old xs) = rw (front c old a xs v) at apart in
-        rw (gone_front c new (g a) (map g xs) r) (rest before.1)
-    by (inr u) (inl s) rest = absurd (true≢false (sym s ∙ leaves.released a u))
-    by (inr u) (inr v) rest =
-        let before : AreApart (claim_of c old a ∷ claims_of c old xs) = rw (front c old a xs v) at apart in
-        rw (front c new (g a) (map g xs) u) (
-          λ y i same.
-              let was = was_claim c new g xs y leaves i in
-              let b : PlacedAllocation = placed_at xs was.number in
-              let of_b = one_cell c old new b (g b) (leaves.places.base b) (leaves.places.ty b) in
-              let of_a = one_cell c old new a (g a) (leaves.places.base a) (leaves.places.ty a) in
-              before.0 _ (claim_among c old xs was.number was.was) (
-                sym of_a.0 ∙ same.0 ∙ ap (λ (x : Claim). x.page) was.is ∙ of_b.0,
-                sym of_a.1 ∙ same.1 ∙ ap (λ (x : Claim). x.index) was.is ∙ of_b.1,
-              ),
-          rest before.1,
-        )
+    let rest = apart_behind c old new g xs leaves (rest_apart c old a xs apart) in
+    elim (cases_Bool (g a).released) [
+      | inl r ↦ rw (gone_front c new (g a) (map g xs) r) rest
+      | inr u ↦ rw (front c new (g a) (map g xs) u) (
+        λ y i same.
+            let was = was_claim c new g xs y leaves i in
+            let b : PlacedAllocation = placed_at xs was.number in
+            let of_b = one_cell c old new b (g b) (leaves.places.base b) (leaves.places.ty b) in
+            let of_a = one_cell c old new a (g a) (leaves.places.base a) (leaves.places.ty a) in
+            first_apart c old a xs (leaves.released a u) apart was.number was.was (
+              sym of_a.0 ∙ same.0 ∙ ap (λ (x : Claim). x.page) was.is ∙ of_b.0,
+              sym of_a.1 ∙ same.1 ∙ ap (λ (x : Claim). x.index) was.is ∙ of_b.1,
+            ),
+        rest,
+      )
+    ]
 
 -- and allocations at their cells.
 pub at_cell : (c : Config) (a b : PlacedAllocation) → b.base ≡ a.base → b.ty ≡ a.ty → IsAtCell c a → IsAtCell c b

@@ -1,11 +1,11 @@
 -- What an event may do to marks, blacks and dirty words, and to the hand of the turn's holder.
-use Rattle.mk_laws.proofs.Vocabulary.{Access, Bool, Config, Hand, List, Load, Moment, Named, None, OnlyGrow, Option}
-use Rattle.mk_laws.proofs.Vocabulary.{Seat, Step, Store, Tally, Word, Words, ℕ, accessed, and_parts, arith, bit_or}
-use Rattle.mk_laws.proofs.Vocabulary.{cell_seen, eqb-true, false, flight_of, found, head_page, if◌then◌else◌, inl, inr}
-use Rattle.mk_laws.proofs.Vocabulary.{is_attending, is_phase, is_some, marker_at, marker_of, none_attends, not}
-use Rattle.mk_laws.proofs.Vocabulary.{not-true, nothing_done, or_cases, or_else, page_met, phase_of, refl, scan_page}
-use Rattle.mk_laws.proofs.Vocabulary.{seen_bit, seen_page, slice_index, slice_set, sym, tally_word, true, ◌&&◌, ◌==◌}
-use Rattle.mk_laws.proofs.Vocabulary.{◌||◌, ◌∙◌, ◌≡◌, ◌⊎◌}
+use Rattle.mk_laws.proofs.Vocabulary.{Bool, Config, Hand, List, Moment, None, OnlyGrow, Option, Seat, Step, Tally, Word}
+use Rattle.mk_laws.proofs.Vocabulary.{Words, ℕ, and_parts, arith, bit_or, cell_seen, eqb-true, false, flight_of, found}
+use Rattle.mk_laws.proofs.Vocabulary.{head_page, if◌then◌else◌, inl, inr, is_attending, is_phase, is_some, marker_at}
+use Rattle.mk_laws.proofs.Vocabulary.{marker_of, none_attends, not, not-true, nothing_done, or_cases, or_else, page_met}
+use Rattle.mk_laws.proofs.Vocabulary.{phase_of, refl, scan_page, seen_bit, seen_page, slice_index, slice_set, sym, true}
+use Rattle.mk_laws.proofs.Vocabulary.{◌&&◌, ◌==◌, ◌||◌, ◌∙◌, ◌≡◌, ◌⊎◌}
+use Rattle.mk_core.proofs.RegisterAccesses.{LeavesTable, register_leaves, tally_leaves}
 use Rattle.mk_core.specs.StopConditions.{may_black, may_mark, may_undirty}
 use Rattle.mk_core.specs.{Accesses.scan_bit, Effects.hand_given, MarkerConditions.may_mblack}
 use Rattle.mk_laws.proofs.{Actors.Meets, Asked.none_at, Growth.grows_more, Growth.grows_same, SameWords.Behind}
@@ -52,15 +52,10 @@ pub data ColourStep (c : Config) (m : Moment) (seat : Seat) : Colours → Type 0
       (or_else (hand_given c m seat x (found c m (record { seat = seat; step = Step.Look x }))) m.seats.holding.hand))
   DropsHand : ColourStep c m seat (record (colours_of m) { hand = None })
 
-pub reg_colours : (w : Words) (k r : ℕ) (a : Access) (hand : Option Hand)
-    → colours_with (accessed w (Named (Word.Reg k r)) a) hand ≡ colours_with w hand
-reg_colours w k r Load hand = refl
-reg_colours w k r _ hand = refl
-
-pub tally_colours : (w : Words) (n : Tally) (v : ℕ) (hand : Option Hand)
-    → colours_with (accessed w (Named (tally_word n)) (Store v)) hand ≡ colours_with w hand
-tally_colours w Tally.Held v hand = refl
-tally_colours w _ v hand = refl
+-- Words that leave the table leave the colours.
+table_left : (c : Config) (m : Moment) (seat : Seat) (w : Words) → LeavesTable m.words w
+    → ColourStep c m seat (colours_with w m.seats.holding.hand)
+table_left c m seat w t = rw (t.marks, t.blacks, t.dirty) Leaves
 
 marking : (n : ℕ) → ((n == 1) || (n == 2)) ≡ true → (n ≡ 1) ⊎ (n ≡ 2)
 marking n h = elim (or_cases (n == 1) (n == 2) h) [ inl e ↦ inl (eqb-true n 1 e) | inr e ↦ inr (eqb-true n 2 e) ]
@@ -89,10 +84,8 @@ takes_or_not c m seat false = Leaves
 -- all kinds, whatever the seat
 pub colour_step : (c : Config) (m : Moment) (seat : Seat) (x : Step) → Meets c m seat x
     → ColourStep c m seat (colours_of (Behind c m seat x))
-colour_step c m seat Step.Reg h =
-    let f = flight_of m seat in
-    rw (reg_colours m.words _ _ _ m.seats.holding.hand) Leaves
-colour_step c m seat (Step.Tally n v) h = rw (tally_colours m.words n v m.seats.holding.hand) Leaves
+colour_step c m seat Step.Reg h = table_left c m seat _ (register_leaves m.words _ _ _)
+colour_step c m seat (Step.Tally n v) h = table_left c m seat _ (tally_leaves m.words n v)
 colour_step c m seat (Step.Take o) h = takes_or_not c m seat _
 colour_step c m seat Step.Give h = DropsHand
 colour_step c m seat (Step.Look w) h = TakesHand w
@@ -111,7 +104,7 @@ colour_step c m seat _ h = Leaves
 -- While a marker attends, no mark and no black bit is cleared.
 quiet_ends : (m : Moment) (k : ℕ) → (phase_of m.words ≡ 1) ⊎ (phase_of m.words ≡ 2)
     → is_attending (marker_of m k).presence ≡ true → IsQuiet m → ⊥
-quiet_ends m k early a (inl z) = elim early [ inl e ↦ absurd (omega arith) | inr e ↦ absurd (omega arith) ]
+quiet_ends m k early a (inl z) = omega arith
 quiet_ends m k early a (inr none) = let f : true ≡ false = sym a ∙ none_at m.seats.markers k none.1 in cc
 
 pub attending_grows : (c : Config) (m : Moment) (seat : Seat) (y : Colours) (k : ℕ) → (phase_of m.words ≡ 1)

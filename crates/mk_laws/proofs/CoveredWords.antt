@@ -16,10 +16,11 @@ pub covered_word : (w : Words) (p k i : ℕ) → LaterPagesAreKnown w → k < ce
     → head_page w ((64 * p + k * words_under (header_in w p) + i) / 64) ≡ p
 covered_word w p k i later lk scanned li some = by (header_in w p) refl lk scanned li some
   where
-    in_run : (count : ℕ) → header_in w p ≡ Some (Run count true) → k < 1 → i < 64 * count
-        → slice_index w.heap (64 * p + k * (64 * count) + i) ≢ 0
-        → head_page w ((64 * p + k * (64 * count) + i) / 64) ≡ p
-    in_run count is lk li some =
+    by : (x : Option Header) → header_in w p ≡ x → k < cells_under x → has_no_pointers x ≡ false → i < words_under x
+        → slice_index w.heap (64 * p + k * words_under x + i) ≢ 0
+        → head_page w ((64 * p + k * words_under x + i) / 64) ≡ p
+    by (Some (Block class)) is lk scanned li some = grind (arith, cell_ends, own_head)
+    by (Some (Run count true)) is lk scanned li some =
         let zero : k ≡ 0 = omega arith in
         let at : 64 * p + k * (64 * count) + i ≡ 64 * p + i = rw zero (omega arith) in
         elim (cases_eq (i / 64) 0) [
@@ -33,12 +34,6 @@ covered_word w p k i later lk scanned li some = by (header_in w p) refl lk scann
                     absurd (some (rw word (bare (i % 64) (omega arith))))
               ]
         ]
-
-    by : (x : Option Header) → header_in w p ≡ x → k < cells_under x → has_no_pointers x ≡ false → i < words_under x
-        → slice_index w.heap (64 * p + k * words_under x + i) ≢ 0
-        → head_page w ((64 * p + k * words_under x + i) / 64) ≡ p
-    by (Some (Block class)) is lk scanned li some = grind (arith, cell_ends, own_head)
-    by (Some (Run count true)) is lk scanned li some = in_run count is lk li some
     by (Some Free) is lk scanned li some = absurd (omega arith)
     by (Some (Later d m)) is lk scanned li some = absurd (omega arith)
     by None is lk scanned li some = absurd (omega arith)

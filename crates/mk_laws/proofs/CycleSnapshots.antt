@@ -5,16 +5,15 @@ use Rattle.mk_laws.proofs.Vocabulary.{IsWithinLimits, LayoutPremisesFrom, Layout
 use Rattle.mk_laws.proofs.Vocabulary.{PlacedAllocation, Seat, Some, StandsInOrder, Step, World, ℕ, access}
 use Rattle.mk_laws.proofs.Vocabulary.{accessed_lengths, arith, cell_freed, enabled_meets, false, false_from_ne_true}
 use Rattle.mk_laws.proofs.Vocabulary.{first_world, flight_of, freed_cell, freed_where_it_stands, get_or_past, granted}
-use Rattle.mk_laws.proofs.Vocabulary.{inl, inr, is_begin, is_quarantined, left, left_append, left_from, length}
-use Rattle.mk_laws.proofs.Vocabulary.{length-map, list_any, map, never_granted, no_longer_fresh, none_freed, not}
-use Rattle.mk_laws.proofs.Vocabulary.{or_parts, placed_at, refl, stands_in, suc, sym, true, true≢false, with_released}
-use Rattle.mk_laws.proofs.Vocabulary.{word_accessed, world_behind, zero, zero_lengths, [], ◌&&◌, ◌++◌, ◌∙◌, ◌∷◌, ◌≡◌}
-use Rattle.mk_laws.proofs.Vocabulary.{◌≤◌, ◌⊎◌}
+use Rattle.mk_laws.proofs.Vocabulary.{is_begin, is_quarantined, left, left_append, left_from, length, length-map}
+use Rattle.mk_laws.proofs.Vocabulary.{list_any, map, never_granted, no_longer_fresh, none_freed, not, or_parts}
+use Rattle.mk_laws.proofs.Vocabulary.{placed_at, refl, stands_in, sym, true, true≢false, with_released, word_accessed}
+use Rattle.mk_laws.proofs.Vocabulary.{world_behind, zero_lengths, [], ◌&&◌, ◌++◌, ◌∙◌, ◌∷◌, ◌≡◌, ◌≤◌}
 use Rattle.mk_laws.proofs.Basics.{Before, Known, Meets, WorldBehind, begin_is, freeing_leaves, known_at_first}
 use Rattle.mk_laws.proofs.Basics.{known_behind, releasing_leaves}
 use Rattle.mk_laws.proofs.LayoutHistories.{in_order_at_first, known_before, order_behind}
 use Rattle.mk_laws.proofs.QuarantineChanges.{FreesHere, before_change}
-use Rattle.mk_laws.proofs.{LayoutByKind.fresh_cells, QuarantineByKind.frees_here}
+use Rattle.mk_laws.proofs.{Granted.pushed_new, LayoutByKind.fresh_cells, QuarantineByKind.frees_here}
 use Rattle.mk_laws.specs.Snapshots.{SnapshotsAreOfCycles}
 
 -- freed, and not after the last `begin`
@@ -27,27 +26,19 @@ data FlagsStep (w v : World) (i : ℕ) : Type 0 where
       → is_freed_before (placed_at v.allocations i) ≡ is_freed_before (placed_at w.allocations i) → FlagsStep w v i
   IsNew : length w.allocations ≤ i → is_freed_before (placed_at v.allocations i) ≡ false → FlagsStep w v i
 
-pushed_new : (xs : List PlacedAllocation) (a : PlacedAllocation) (i : ℕ)
-    → (placed_at (xs ++ a ∷ []) i ≡ placed_at xs i) ⊎ ((placed_at (xs ++ a ∷ []) i ≡ a) × (length xs ≤ i))
-pushed_new [] a zero = inr (refl, omega arith)
-pushed_new [] a (suc i) = inl refl
-pushed_new (x ∷ xs) a zero = inl refl
-pushed_new (x ∷ xs) a (suc i) = elim (pushed_new xs a i) [ inl e ↦ inl e | inr e ↦ inr (e.0, omega (arith, e.1)) ]
-
 -- `quar` (a): what stands in the cell wasn't freed
 freed_flags : (c : Config) (w : World) (cell : Cell) (n i : ℕ) → FreesHere c w cell n → IsQuarantined c w
-    → (placed_at w.allocations i).released ≡ false → (b : Bool)
-    → stands_in w.now.words cell (placed_at w.allocations i) ≡ b
-    → is_freed_before (freed_where_it_stands w.now.words (Some cell) (placed_at w.allocations i))
+    → (placed_at w.allocations i).released ≡ false → (b : Bool) → stands_in w.now.words cell (placed_at w.allocations i)
+    ≡ b → is_freed_before (freed_where_it_stands w.now.words (Some cell) (placed_at w.allocations i))
     ≡ is_freed_before (placed_at w.allocations i)
 freed_flags c w cell n i x q u true is = grind (arith, false_from_ne_true, is_freed_before)
 freed_flags c w cell n i x q u false is = grind arith
 
-quar_flags : (c : Config) (w : World) (seat : Seat) (p n i : ℕ) → Before c w → Meets c w.now seat (Step.Quar p n)
-    → LayoutStands c w → IsQuarantined c w
-    → (placed_at (WorldBehind c w seat (Step.Quar p n)).allocations i).released ≡ false
-    → FlagsStep w (WorldBehind c w seat (Step.Quar p n)) i
-quar_flags c w seat p n i b h laid q u = by (cell_freed c.pages w.now.words (flight_of w.now seat) p n) refl
+flags_step : (c : Config) (w : World) (seat : Seat) (x : Step) (i : ℕ) → Before c w → Meets c w.now seat x
+    → LayoutStands c w → IsQuarantined c w → is_begin x ≡ false
+    → (placed_at (WorldBehind c w seat x).allocations i).released ≡ false → FlagsStep w (WorldBehind c w seat x) i
+flags_step c w seat (Step.Quar p n) i b h laid q out u =
+    by (cell_freed c.pages w.now.words (flight_of w.now seat) p n) refl
   where
     by : (cell : Option Cell) → cell_freed c.pages w.now.words (flight_of w.now seat) p n ≡ cell
         → FlagsStep w (WorldBehind c w seat (Step.Quar p n)) i
@@ -61,11 +52,6 @@ quar_flags c w seat p n i b h laid q u = by (cell_freed c.pages w.now.words (fli
         let frees = frees_here c w seat p n cell b h laid (freed_cell c.pages w.now.words _ p n cell is) in
         let x = before_change c _ w.allocations i (freeing_leaves w.now.words (Some cell)) (rw (← same) u) in
         Stays x.was (rw same (rw x.now (freed_flags c w cell n i frees q x.was _ refl)))
-
-flags_step : (c : Config) (w : World) (seat : Seat) (x : Step) (i : ℕ) → Before c w → Meets c w.now seat x
-    → LayoutStands c w → IsQuarantined c w → is_begin x ≡ false
-    → (placed_at (WorldBehind c w seat x).allocations i).released ≡ false → FlagsStep w (WorldBehind c w seat x) i
-flags_step c w seat (Step.Quar p n) i b h laid q out u = quar_flags c w seat p n i b h laid q u
 flags_step c w seat Step.Begin i b h laid q out u = absurd (true≢false out)
 flags_step c w seat Step.Grant i b h laid q out u = grind (arith, pushed_new)
 flags_step c w seat Step.Release i b h laid q out u =

@@ -1,21 +1,16 @@
 -- `quar` (b) and (c), and `end`, on the terrain.
 use Rattle.mk_laws.proofs.Vocabulary.{Bool, Config, Drops, Ground, HasLayout, IsClaimed, List, Object, Words, World, ℕ}
-use Rattle.mk_laws.proofs.Vocabulary.{all_below-at, and_parts, arith, cases_Bool, cases_eq, cases_lt, claims_on}
-use Rattle.mk_laws.proofs.Vocabulary.{eqb-false, eqb-true, false, get_or-set_other, get_or-set_same, ground_of, has_bit}
-use Rattle.mk_laws.proofs.Vocabulary.{has_bit_without, head_page, header_at, inl, inr, is_released_in, length, may_end}
-use Rattle.mk_laws.proofs.Vocabulary.{no_bit, not, not-true, or_cases, set_past, slice_index, slice_set, sym, true}
-use Rattle.mk_laws.proofs.Vocabulary.{true≢false, used_at, ◌<◌, ◌==◌, ◌||◌, ◌∙◌, ◌≡◌, ◌≢◌, ◌⊎◌}
+use Rattle.mk_laws.proofs.Vocabulary.{all_below-at, and_parts, arith, cases_Bool, claims_on, eqb-false, eqb-true, false}
+use Rattle.mk_laws.proofs.Vocabulary.{ground_of, has_bit, has_bit_without, head_page, header_at, inl, inr}
+use Rattle.mk_laws.proofs.Vocabulary.{is_released_in, length, may_end, no_bit, not, not-true, or_cases, set_by}
+use Rattle.mk_laws.proofs.Vocabulary.{slice_index, slice_set, sym, true, true≢false, used_at, ◌<◌, ◌==◌, ◌||◌, ◌∙◌, ◌≡◌}
+use Rattle.mk_laws.proofs.Vocabulary.{◌≢◌, ◌⊎◌}
 use Rattle.mk_laws.proofs.{Releasing.layout_ended, Serving.Laid}
 
 -- While the phase isn't releasing, no cell is released, whatever the snapshot, the freed cells and the marks.
 pub unreleasing : (c : Config) (o : Object) (marks other : List ℕ) (t : Ground) (freed snapshot : List ℕ)
     → HasLayout c o false marks t → HasLayout c o false other (record t { freed = freed; snapshot = snapshot })
 unreleasing c o marks other t freed snapshot st = grind arith
-
--- The freed cells aren't read at all.
-pub refreed : (c : Config) (o : Object) (releasing : Bool) (marks : List ℕ) (t : Ground) (freed : List ℕ)
-    → HasLayout c o releasing marks t → HasLayout c o releasing marks (record t { freed = freed })
-refreed c o releasing marks t freed st = record { scene = st.scene; gone = st.gone; first = st.first; cells = st.cells }
 
 -- `quar` (c): released cells that aren't used are dropped
 pub dropped : (c : Config) (o : Object) (w : World) (p freed n : ℕ) → Laid c o true w (ground_of w)
@@ -39,21 +34,11 @@ dropped c o w p freed n st h =
   where
     stays : (q k : ℕ) → has_bit (used_at w.now.words q) k ≡ true → has_bit (slice_index w.now.words.snapshot q) k ≡ true
         → has_bit (slice_index (slice_set w.now.words.snapshot p n) q) k ≡ true
-    stays q k bit was = elim (cases_eq q p) [
-      | inr ne ↦ rw (get_or-set_other w.now.words.snapshot p q n 0 ne) was
-      | inl e ↦ elim (cases_lt p (length w.now.words.snapshot)) [
-        | inr past ↦ rw (set_past w.now.words.snapshot p n past) was
-        | inl lt ↦
-            let here : slice_index (slice_set w.now.words.snapshot p n) q ≡ n =
-            rw e (get_or-set_same w.now.words.snapshot p n 0 lt) in
-            rw here (elim (cases_Bool (has_bit n k)) [
-              | inl is ↦ is
-              | inr out ↦
-                  let lost = h.gone k (rw (← e) was) out in
-                  absurd (true≢false (sym bit ∙ rw e lost.1))
-            ])
-      ]
-    ]
+    stays q k bit was =
+        set_by (λ v. has_bit v k ≡ true) w.now.words.snapshot p q n 0 (λ e. elim (cases_Bool (has_bit n k)) [
+          | inl is ↦ is
+          | inr out ↦ let lost = h.gone k (rw (← e) was) out in absurd (true≢false (sym bit ∙ rw e lost.1))
+        ]) was
 
     by : (q k : ℕ) → has_bit (used_at w.now.words q) k ≡ true → IsClaimed (claims_on c o (ground_of w)) q k
         ⊎ (is_released_in true w.now.words.snapshot w.now.words.marks q k ≡ true)

@@ -2,9 +2,9 @@
 use Rattle.std.proofs.lemmas.Nat.{div-mul-add}
 use Rattle.mk_laws.proofs.Vocabulary.{AreOfOthers, Block, Bool, Caller, Cell, Config, Event, Flight, Free, Header, Host}
 use Rattle.mk_laws.proofs.Vocabulary.{Invariant, IsEnabled, IsHistory, IsLeft, IsWordOfMapped, Later, LeafBlock}
-use Rattle.mk_laws.proofs.Vocabulary.{LeafRun, List, Marker, MeetsAll, Moment, NeverState, Op, Option, Page}
-use Rattle.mk_laws.proofs.Vocabulary.{PlacedAllocation, Run, Seat, Some, Step, Words, World, ℕ, address_of, and_from}
-use Rattle.mk_laws.proofs.Vocabulary.{ap, arith, cases_Bool, cases_eq, cell_ends, cell_words, cells_of, cells_under}
+use Rattle.mk_laws.proofs.Vocabulary.{LeafRun, List, Marker, MeetsAll, Moment, NeverState, Option, PlacedAllocation}
+use Rattle.mk_laws.proofs.Vocabulary.{Run, Seat, Some, Step, Words, World, ℕ, address_of, and_from, ap, arith}
+use Rattle.mk_laws.proofs.Vocabulary.{cases_Bool, cases_eq, cell_ends, cell_words, cells_of, cells_under}
 use Rattle.mk_laws.proofs.Vocabulary.{class_words_of, comes_next, earlier_part_is_history, enabled_meets, eq-eqb}
 use Rattle.mk_laws.proofs.Vocabulary.{eqb-false, eqb-true, first_word, flight_of, gives_back, has_bit, has_bit_without}
 use Rattle.mk_laws.proofs.Vocabulary.{has_gates, has_phase, header_at, header_in, heads_run, holder_may, host_has_turn}
@@ -19,18 +19,17 @@ use Rattle.mk_core.{proofs.PointedPages.found_under, specs.Order.is_in_order, sp
 use Rattle.mk_laws.proofs.Basics.{Behind, KnownWorld, Meets, actor_of, along_others, mapped_stays, reg_keeps}
 use Rattle.mk_laws.proofs.Basics.{tally_keeps}
 use Rattle.mk_laws.proofs.FramesHolders.{Asks, OfHolder, OfNone, asks, holds_is}
-use Rattle.mk_laws.proofs.GatesStill.{gates_on, pages_same, phase_same}
-use Rattle.mk_laws.proofs.ProtocolFrames.{other_seat, others_leave}
-use Rattle.mk_laws.proofs.{ForImages.laid_out, HolderStill.holder_on, InvariantJoined.told_to_images}
-use Rattle.mk_laws.proofs.{LastEvents.comes_last, LastEvents.stands, RunsStill.holder_finds, Tests.all_below_on}
+use Rattle.mk_laws.proofs.HolderStill.{gates_on, holder_on, pages_same, phase_same}
+use Rattle.mk_laws.proofs.LastEvents.{comes_last, stands}
+use Rattle.mk_laws.proofs.{ForImages.laid_out, InvariantJoined.told_to_images, ProtocolFrames.other_seat}
+use Rattle.mk_laws.proofs.{ProtocolFrames.others_leave, RunsStill.holder_finds, Tests.all_below_on}
 use Rattle.mk_laws.specs.WholeRuns.{RunsAreWhole}
 
 -- The words of released cells are in no mapped allocation: what is wiped stays so.
 
 -- A word of a page points into what the page's header shows there.
-under_at : (count : ℕ) (w : Words) (n q : ℕ) (y : Cell) → n / 64 ≡ q
-    → pointed_cell count w.pages (address_of n) ≡ Some y
-    → (h : Header) × (header_in w q ≡ Some h) × (cell_under h q (n % 64) ≡ Some y)
+under_at : (count : ℕ) (w : Words) (n q : ℕ) (y : Cell) → n / 64 ≡ q → pointed_cell count w.pages (address_of n)
+    ≡ Some y → (h : Header) × (header_in w q ≡ Some h) × (cell_under h q (n % 64) ≡ Some y)
 unfolding pointed_cell
 under_at count w n q y at is =
     let u = found_under count (header_at w (page_at_address (address_of n))) (address_of n) y is in
@@ -129,8 +128,7 @@ module _ (c : Config) (w : World) (runs : RunsAreWhole c w) where
   word_cell _ p k i y shown lk li used is = absurd (omega arith)
 
 module _ (c : Config) (w v : World) (n : NeverState) (known : KnownWorld c w) (all : Invariant c w n)
-    (pages : v.now.words.pages ≡ w.now.words.pages)
-    (outside : (i : ℕ) → (IsWordOfMapped c w.allocations i → ⊥)
+    (pages : v.now.words.pages ≡ w.now.words.pages) (outside : (i : ℕ) → (IsWordOfMapped c w.allocations i → ⊥)
     → slice_index v.now.words.heap i ≡ slice_index w.now.words.heap i) where
   -- no word of a cell that is given back is one of a mapped allocation
   released_word : (p value k i : ℕ) → is_phase w.now.words 4 ≡ true → gives_back w.now.words p value ≡ true
@@ -152,25 +150,21 @@ module _ (c : Config) (w v : World) (n : NeverState) (known : KnownWorld c w) (a
       true≢false (sym left ∙ ap (is_released_cell w.now.words) (sym cell)
       ∙ (told_to_images c w n known all).kept m.number u)
 
+  -- The cell's words are 0, where its bit is one of these.
+  abbrev wiped_in : Words → ℕ → ℕ → ℕ → Bool
+  wiped_in x p bits k = not (has_bit bits k)
+      || words_are_zero x (first_word w.now.words (record { page = p; index = k }))
+      (cell_words w.now.words (record { page = p; index = k }))
+
   pub wiped_still : (p value : ℕ) → is_phase w.now.words 4 ≡ true → gives_back w.now.words p value ≡ true
       → are_wiped v.now.words p (used_at v.now.words p - value) ≡ true
   wiped_still p value four back =
       let bits : ℕ = used_at w.now.words p - value in
-      ap (λ (ps : List Page). are_wiped (record v.now.words { pages = ps }) p
-      (used_at (record v.now.words { pages = ps }) p - value)) pages ∙ all_below_on 32
-      (λ k. not (has_bit bits k) || words_are_zero w.now.words (first_word w.now.words (record { page = p; index = k }))
-      (cell_words w.now.words (record { page = p; index = k }))) (λ k. not (has_bit bits k)
-      || words_are_zero (record v.now.words { pages = w.now.words.pages })
-      (first_word w.now.words (record { page = p; index = k }))
-      (cell_words w.now.words (record { page = p; index = k })))
-      (λ k lt e. by k e) (gives_back_is w.now.words p value back).wiped
+      rw pages (all_below_on 32 (wiped_in w.now.words p bits) (wiped_in v.now.words p bits) (λ k lt. by k)
+      (gives_back_is w.now.words p value back).wiped)
     where
-      by : (k : ℕ) → (not (has_bit (used_at w.now.words p - value) k)
-          || words_are_zero w.now.words (first_word w.now.words (record { page = p; index = k }))
-          (cell_words w.now.words (record { page = p; index = k }))) ≡ true
-          → (not (has_bit (used_at w.now.words p - value) k)
-          || words_are_zero v.now.words (first_word w.now.words (record { page = p; index = k }))
-          (cell_words w.now.words (record { page = p; index = k }))) ≡ true
+      by : (k : ℕ) → wiped_in w.now.words p (used_at w.now.words p - value) k ≡ true
+          → wiped_in v.now.words p (used_at w.now.words p - value) k ≡ true
       by k e = elim (cases_Bool (has_bit (used_at w.now.words p - value) k)) [
         | inr out ↦ or_left _ _ (ap not out)
         | inl bit ↦
@@ -184,23 +178,18 @@ module _ (c : Config) (w v : World) (n : NeverState) (known : KnownWorld c w) (a
 
 -- Nobody but the host takes the turn for the host.
 
-taken_turn : (c : Config) (m : Moment) (seat : Seat) (o : Option Op) → Meets c m seat (Step.Take o) → seat ≢ Host
-    → m.words.turn ≢ 1 + c.callers → (Behind c m seat (Step.Take o)).words.turn ≢ 1 + c.callers
-taken_turn c m (Caller k) o h ne out = grind (arith, ltb-true)
-taken_turn c m (Marker k) o h ne out = let kind = h.kind in cc
-taken_turn c m Host o h ne out = absurd (ne refl)
-
 turn_after : (c : Config) (m : Moment) (seat : Seat) (x : Step) → Meets c m seat x → seat ≢ Host
     → m.words.turn ≢ 1 + c.callers → (Behind c m seat x).words.turn ≢ 1 + c.callers
-turn_after c m seat (Step.Take o) h ne out = taken_turn c m seat o h ne out
+turn_after c m (Caller k) (Step.Take o) h ne out = grind (arith, ltb-true)
+turn_after c m (Marker k) (Step.Take o) h ne out = let kind = h.kind in cc
+turn_after c m Host (Step.Take o) h ne out = absurd (ne refl)
 turn_after c m seat x3 h ne out = grind (arith, reg_keeps, tally_keeps)
 
 host_stays_out : (c : Config) (es more : List Event) → IsHistory c (es ++ more) → AreOfOthers (Host ∷ []) more
     → (left c es).now.words.turn ≢ 1 + c.callers → (left c (es ++ more)).now.words.turn ≢ 1 + c.callers
 host_stays_out c es more h others = along_others c (Host ∷ []) (λ xs ys. (left c xs).now.words.turn ≢ 1 + c.callers
     → (left c ys).now.words.turn ≢ 1 + c.callers) (λ xs out. out) (λ xs ys zs f g out. g (f out))
-    (λ xs e whole other out.
-    rw (comes_last c xs e whole).leaves (turn_after c (left c xs).now e.seat
+    (λ xs e whole other out. rw (comes_last c xs e whole).leaves (turn_after c (left c xs).now e.seat
     e.step (comes_last c xs e whole).meets (other_seat Host e.seat other) out)) es more h others
 
 -- the order of steps

@@ -1,26 +1,26 @@
 -- Each enabled and admitted event leads to what the images allow.
 use Rattle.mk_laws.proofs.Vocabulary.{AreAdmitted, Bool, Caller, Cell, Config, Event, Group, Host, ImagePremises}
 use Rattle.mk_laws.proofs.Vocabulary.{ImageScene, IsSafe, IsSafeSet, IsSound, IsTypedAllocation, Kind, List, Marker}
-use Rattle.mk_laws.proofs.Vocabulary.{MarksAreClosed, MeetsAll, Mirrors, Named, NeverState, None, Null, Num, Number}
-use Rattle.mk_laws.proofs.Vocabulary.{Option, PlacedAllocation, Ptr, Seat, Some, Stage, Step, Store, Suits, Tally, To}
-use Rattle.mk_laws.proofs.Vocabulary.{Value, World, ℕ, accessed, address_of, allocation_at, and_from, and_parts}
-use Rattle.mk_laws.proofs.Vocabulary.{and_right, answer_decided, ap, arith, asked, at_rest, bases_of, call_decided}
-use Rattle.mk_laws.proofs.Vocabulary.{caller_number, cases_Bool, cases_eq, cases_lt, cell_of_allocation, changed_at}
-use Rattle.mk_laws.proofs.Vocabulary.{eqb-true, false, false≢true, flight_among, flight_of, fresh_leaves, get_or_past}
-use Rattle.mk_laws.proofs.Vocabulary.{global_at, has_bit_without, if◌then◌else◌, image_of, image_scene_of, inl, inr}
-use Rattle.mk_laws.proofs.Vocabulary.{is_left_unmarked, is_marked, is_none_or, is_open_to, is_past_probe, is_put}
-use Rattle.mk_laws.proofs.Vocabulary.{is_run_cell, is_some_and, is_unmapped, kinds_of, length, ltb-true, map}
-use Rattle.mk_laws.proofs.Vocabulary.{no_longer_fresh, none_freed, not, or_cases, or_parts, others_are_held, placed_at}
-use Rattle.mk_laws.proofs.Vocabulary.{pointed_cell, points_well, refl, released_leaves, set-get_or, slice_index}
-use Rattle.mk_laws.proofs.Vocabulary.{slice_index_or, slice_set, storage_holds, storage_words, subst, sym, tally_word}
-use Rattle.mk_laws.proofs.Vocabulary.{target, true, with_released, word_at, words_of, world_behind, ◌%◌, ◌&&◌, ◌+◌, ◌/◌}
-use Rattle.mk_laws.proofs.Vocabulary.{◌<◌, ◌==◌, ◌||◌, ◌∙◌, ◌≡◌, ◌≢◌}
+use Rattle.mk_laws.proofs.Vocabulary.{MarksAreClosed, MeetsAll, Mirrors, NeverState, None, Null, Num, Number, Option}
+use Rattle.mk_laws.proofs.Vocabulary.{PlacedAllocation, Ptr, Seat, Some, Stage, Step, Suits, Tally, To, Value, World, ℕ}
+use Rattle.mk_laws.proofs.Vocabulary.{address_of, allocation_at, and_from, and_parts, and_right, answer_decided, ap}
+use Rattle.mk_laws.proofs.Vocabulary.{arith, asked, at_rest, bases_of, call_decided, caller_number, cases_Bool}
+use Rattle.mk_laws.proofs.Vocabulary.{cases_eq, cases_lt, cell_of_allocation, changed_at, eqb-true, false, false≢true}
+use Rattle.mk_laws.proofs.Vocabulary.{flight_among, flight_of, fresh_leaves, get_or_past, global_at, has_bit_without}
+use Rattle.mk_laws.proofs.Vocabulary.{if◌then◌else◌, image_of, image_scene_of, inl, inr, is_left_unmarked, is_marked}
+use Rattle.mk_laws.proofs.Vocabulary.{is_none_or, is_open_to, is_past_probe, is_put, is_run_cell, is_some_and}
+use Rattle.mk_laws.proofs.Vocabulary.{is_unmapped, kinds_of, length, ltb-true, map, no_longer_fresh, none_freed, not}
+use Rattle.mk_laws.proofs.Vocabulary.{or_cases, or_parts, others_are_held, placed_at, pointed_cell, points_well, refl}
+use Rattle.mk_laws.proofs.Vocabulary.{released_leaves, set-get_or, slice_index, slice_index_or, slice_set}
+use Rattle.mk_laws.proofs.Vocabulary.{storage_holds, storage_words, sym, target, true, with_released, word_at, words_of}
+use Rattle.mk_laws.proofs.Vocabulary.{world_behind, ◌%◌, ◌&&◌, ◌+◌, ◌/◌, ◌<◌, ◌==◌, ◌||◌, ◌∙◌, ◌≡◌, ◌≢◌}
 use Rattle.mk_never.specs.Types.{is_leaf, is_number}
+use Rattle.mk_core.proofs.RegisterAccesses.{tally_leaves, tally_leaves_registers}
 use Rattle.mk_core.proofs.ListTests.{list_all-at}
 use Rattle.mk_core.specs.ClosedMarks.{is_marked_allocation, is_scanned_allocation}
 use Rattle.mk_laws.proofs.Basics.{KnownWorld, Leads, Move, Ready, Releases, Renews, Stands, at_its_stage, at_no_take}
-use Rattle.mk_laws.proofs.Basics.{base_at, calls_stand, exists_placed, grants_new, is_astray, is_call_stage, not_astray}
-use Rattle.mk_laws.proofs.Basics.{others_held, pointed_word, standing, unmapped_is, view_of, words_fit}
+use Rattle.mk_laws.proofs.Basics.{base_at, calls_stand, exists_placed, grants_new, is_call_stage, not_astray}
+use Rattle.mk_laws.proofs.Basics.{others_held, pointed_word, unmapped_is, view_of, words_fit}
 use Rattle.mk_laws.proofs.CallSorts.{bare_on, begins, cas_leads_at, dirty_leads, enter_leads, getg_leads_at}
 use Rattle.mk_laws.proofs.CallSorts.{leave_leads, probe_leads_at, read_leads_at, reg_leads_at, setg_leads_at}
 use Rattle.mk_laws.proofs.CallSorts.{write_leads_at}
@@ -123,8 +123,7 @@ module _ (c : Config) (w : World) (n : NeverState) (known : KnownWorld c w) (mir
         and_parts (safe a) (is_marked w.now.words (cell_of_allocation c (placed a))) ka in word_cut
         a i parts.0 parts.1 mapped;
     unreleased = λ a ka.
-        let parts = and_parts (safe a) (is_marked w.now.words (cell_of_allocation c (placed a))) ka
-        in
+        let parts = and_parts (safe a) (is_marked w.now.words (cell_of_allocation c (placed a))) ka in
         let u = ready.set.unreleased a parts.0 in
         let x = placed a in
         let cell = cell_of_allocation c x in
@@ -174,16 +173,6 @@ turn_plain _ h = refl
 idle_plain : (s : Stage) → s ≡ Stage.Idle → is_put s ≡ false
 idle_plain s e = ap is_put e
 
-tally_scene : (w : World) (t : Tally) (v : ℕ) → image_scene_of w ≡ record {
-  registers = (accessed w.now.words (Named (tally_word t)) (Store v)).registers;
-  globals = (accessed w.now.words (Named (tally_word t)) (Store v)).globals;
-  heap = (accessed w.now.words (Named (tally_word t)) (Store v)).heap;
-  flights = w.now.seats.flights;
-  allocations = w.allocations;
-}
-tally_scene w Tally.Held v = refl
-tally_scene w _ v = refl
-
 abbrev no_cell : Option Cell
 no_cell = None
 
@@ -221,7 +210,8 @@ module _ (c : Config) (w : World) (n : NeverState) (known : KnownWorld c w) (mir
   still_moves seat (Step.Quar p v) s h = absurd (false≢true s)
   still_moves seat Step.Grant s h = absurd (false≢true s)
   still_moves seat (Step.Tally t v) s h =
-      subst (λ (x : ImageScene). Move safe (image_scene_of w) n x n) (tally_scene w t v) Rests
+      let kept = tally_leaves w.now.words t v in
+      rw (tally_leaves_registers w.now.words t v, kept.globals, kept.heap) Rests
   still_moves seat (Step.Wipe x) s h = Wipes x (wiped_outside c w n known mirrors others st x (h.holder))
   still_moves seat Step.Begin s h =
       Renews (map no_longer_fresh w.allocations) (same_places no_longer_fresh _ fresh_leaves) (λ a. rw (changed_at
@@ -235,9 +225,6 @@ module _ (c : Config) (w : World) (n : NeverState) (known : KnownWorld c w) (mir
       → Leads safe (image_scene_of w) n k (flight_of w.now (Caller k)).op
       (record t { flights = slice_set w.now.seats.flights k (flight_of w.now (Caller k)) }) None
   still_leads k t m e = (rw (e ∙ sym (set-get_or w.now.seats.flights k at_rest)) at m, λ more. refl)
-
-  astray_not : (k : ℕ) → k < c.callers → is_astray (standing (flight_of w.now (Caller k))) ≡ false
-  astray_not k lt = not_astray c w.now known.now.orderly k lt
 
   quiet_at : (k p v : ℕ) → MeetsOf c w (Caller k) (Step.Quar p v)
       → is_run_cell w.now.words (target c.pages w.now.words (flight_of w.now (Caller k))) ≡ true → (j : ℕ) → j ≢ k
@@ -253,80 +240,57 @@ module _ (c : Config) (w : World) (n : NeverState) (known : KnownWorld c w) (mir
   grant_phase : (p : ℕ) → ((p == 0) || (p == 1)) ≡ true → p ≢ 4
   grant_phase p h = grind (arith, or_cases, eqb-true)
 
-  caller_goes : (k : ℕ) (x : Step) → MeetsOf c w (Caller k) x → AdmittedOf c w n (record { seat = Caller k; step = x })
-      → Goes c w n safe (record { seat = Caller k; step = x })
-  caller_goes k (Step.Enter o) h ad = enter_leads c w n known mirrors safe ready k o h
-  caller_goes k Step.Leave h ad = leave_leads c w n known mirrors safe ready k h
-  caller_goes k Step.Reg h ad = reg_leads_at c w n known mirrors safe ready k h ad
-  caller_goes k Step.Probe h ad =
+  pub goes : (seat : Seat) (x : Step) → MeetsOf c w seat x → AdmittedOf c w n (record { seat = seat; step = x })
+      → Goes c w n safe (record { seat = seat; step = x })
+  goes (Caller k) (Step.Enter o) h ad = enter_leads c w n known mirrors safe ready k o h
+  goes (Caller k) Step.Leave h ad = leave_leads c w n known mirrors safe ready k h
+  goes (Caller k) Step.Reg h ad = reg_leads_at c w n known mirrors safe ready k h ad
+  goes (Caller k) Step.Probe h ad =
       let f = flight_of w.now (Caller k) in
       let lt = ltb-true k c.callers h.seat in
       let in_call = calls_stand f.stage f.op (ap is_call_stage (at_its_stage f.stage f.op Step.Probe refl h.order))
-      (astray_not k lt) in
-      probe_leads_at c w n known mirrors safe ready k
-      (shown_in_call c w n known mirrors others st k lt in_call) h ad
-  caller_goes k Step.Read h ad = read_leads_at c w n known mirrors safe ready k h ad
-  caller_goes k Step.Write h ad = write_leads_at c w n known mirrors safe ready k h ad
-  caller_goes k Step.Cas h ad = cas_leads_at c w n known mirrors safe ready k h ad
-  caller_goes k Step.Getg h ad = getg_leads_at c w n known mirrors safe ready k h
-  caller_goes k Step.Setg h ad = setg_leads_at c w n known mirrors safe ready k h
-  caller_goes k Step.Dirty h ad = dirty_leads c w n known mirrors safe ready k h
-  caller_goes k (Step.Take (Some o)) h ad =
+      (not_astray c w.now known.now.orderly k lt) in
+      probe_leads_at c w n known mirrors safe ready k (shown_in_call c w n known mirrors others st k lt in_call) h ad
+  goes (Caller k) Step.Read h ad = read_leads_at c w n known mirrors safe ready k h ad
+  goes (Caller k) Step.Write h ad = write_leads_at c w n known mirrors safe ready k h ad
+  goes (Caller k) Step.Cas h ad = cas_leads_at c w n known mirrors safe ready k h ad
+  goes (Caller k) Step.Getg h ad = getg_leads_at c w n known mirrors safe ready k h
+  goes (Caller k) Step.Setg h ad = setg_leads_at c w n known mirrors safe ready k h
+  goes (Caller k) Step.Dirty h ad = dirty_leads c w n known mirrors safe ready k h
+  goes (Caller k) (Step.Take (Some o)) h ad =
       let f = flight_of w.now (Caller k) in
       begins c w n known mirrors safe ready k f.op o _ (ap is_put (at_take f.stage f.op o h.order).0)
-  caller_goes k (Step.Take None) h ad = absurd (at_no_take _ _ h.order)
-  caller_goes k Step.Give h ad = let f =
+  goes (Caller k) (Step.Take None) h ad = absurd (at_no_take _ _ h.order)
+  goes (Caller k) Step.Give h ad = let f =
       flight_of w.now (Caller k) in bare_on c w n known mirrors safe ready k f.op at_rest
       (turn_plain f.stage (of_turn f.stage f.op Step.Give refl refl h.order)) refl
-  caller_goes k (Step.Look x) h ad = look_by c w n known mirrors others safe ready st k (ltb-true k c.callers h.seat)
+  goes (Caller k) (Step.Look x) h ad = look_by c w n known mirrors others safe ready st k (ltb-true k c.callers h.seat)
       _ x refl
-  caller_goes k (Step.Quar p v) h ad =
+  goes (Caller k) (Step.Quar p v) h ad =
       quar_by c w n known mirrors others safe ready st k (ltb-true k c.callers h.seat) _ p v
       _ refl refl (quiet_at k p v h)
-  caller_goes k Step.Grant h ad =
+  goes (Caller k) Step.Grant h ad =
       let f = flight_of w.now (Caller k) in
       let lt = ltb-true k c.callers h.seat in
       grant_by c w n known mirrors others safe ready st k lt f.stage f.op f.q f.p f.r f.loaded
       w.now.seats.holding.placing refl h.order (h.holder) refl
       (lt, new_stands f.stage f.op (grants_new c w.now (Caller k) h)) (grant_phase _ h.phase) (known.now.operands k)
-  caller_goes k Step.Full h ad =
+  goes (Caller k) Step.Full h ad =
       let f = flight_of w.now (Caller k) in
       full_by c w n known mirrors others safe ready st k (ltb-true k c.callers h.seat) f.stage f.op f.q f.p f.r f.loaded
       refl h.order
-  caller_goes k Step.Attend h ad = absurd (false≢true h.kind)
-  caller_goes k Step.Quit h ad = absurd (false≢true h.kind)
-  caller_goes k (Step.Mlook x) h ad = absurd (false≢true h.kind)
-  caller_goes k (Step.Claim p i) h ad = absurd (false≢true h.kind)
-  caller_goes k Step.Mload h ad = absurd (false≢true h.kind)
-  caller_goes k Step.Mmark h ad = absurd (false≢true h.kind)
-  caller_goes k Step.Mblack h ad = absurd (false≢true h.kind)
-  caller_goes k Step.Over h ad = absurd (false≢true h.kind)
-  caller_goes k x h ad = still_leads k _ (still_moves (Caller k) x refl h) refl
-
-  host_goes : (x : Step) → MeetsOf c w Host x → Goes c w n safe (record { seat = Host; step = x })
-  host_goes Step.Reg h = absurd (false≢true h.kind)
-  host_goes Step.Write h = absurd (false≢true h.kind)
-  host_goes Step.Cas h = absurd (false≢true h.kind)
-  host_goes Step.Setg h = absurd (false≢true h.kind)
-  host_goes Step.Grant h = absurd (no_holder _ h.order)
+  goes (Caller k) x h ad = still_leads k _ (still_moves (Caller k) x refl h) refl
+  goes _ Step.Reg h ad = absurd (false≢true h.kind)
+  goes _ Step.Write h ad = absurd (false≢true h.kind)
+  goes _ Step.Cas h ad = absurd (false≢true h.kind)
+  goes _ Step.Setg h ad = absurd (false≢true h.kind)
+  goes Host Step.Grant h ad = absurd (no_holder _ h.order)
     where
       no_holder : (b : Bool) → (b && false) ≡ true → ⊥
       no_holder true e = false≢true e
       no_holder false e = false≢true e
-  host_goes (Step.Quar p v) h = (rw (none_target _) (rw (none_freed w.now.words w.allocations) Rests), λ more. refl)
-  host_goes x h = (still_moves Host x refl h, λ more. refl)
-
-  marker_goes : (k : ℕ) (x : Step) → MeetsOf c w (Marker k) x → Goes c w n safe (record { seat = Marker k; step = x })
-  marker_goes k Step.Reg h = absurd (false≢true h.kind)
-  marker_goes k Step.Write h = absurd (false≢true h.kind)
-  marker_goes k Step.Cas h = absurd (false≢true h.kind)
-  marker_goes k Step.Setg h = absurd (false≢true h.kind)
-  marker_goes k Step.Grant h = absurd (false≢true h.kind)
-  marker_goes k (Step.Quar p v) h = absurd (false≢true h.kind)
-  marker_goes k x h = (still_moves (Marker k) x refl h, λ more. refl)
-
-  pub goes : (seat : Seat) (x : Step) → MeetsOf c w seat x → AdmittedOf c w n (record { seat = seat; step = x })
-      → Goes c w n safe (record { seat = seat; step = x })
-  goes (Caller k) x h ad = caller_goes k x h ad
-  goes (Marker k) x h ad = marker_goes k x h
-  goes Host x h ad = host_goes x h
+  goes Host (Step.Quar p v) h ad = (rw (none_target _) (rw (none_freed w.now.words w.allocations) Rests), λ more. refl)
+  goes Host x h ad = (still_moves Host x refl h, λ more. refl)
+  goes (Marker k) Step.Grant h ad = absurd (false≢true h.kind)
+  goes (Marker k) (Step.Quar p v) h ad = absurd (false≢true h.kind)
+  goes (Marker k) x h ad = (still_moves (Marker k) x refl h, λ more. refl)

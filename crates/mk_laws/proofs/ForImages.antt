@@ -13,10 +13,9 @@ use Rattle.mk_laws.proofs.Vocabulary.{length, lt-ltb, mode_of, not, object_made,
 use Rattle.mk_laws.proofs.Vocabulary.{pages_some, phase_of, place_claim, placed_at, pointed_cell, refl}
 use Rattle.mk_laws.proofs.Vocabulary.{run_of_allocation, stands, subst, suc, sym, true, true≢false, typed_size}
 use Rattle.mk_laws.proofs.Vocabulary.{unmapped_header, zero, [], ◌&&◌, ◌+◌, ◌/◌, ◌<◌, ◌==◌, ◌∙◌, ◌∷◌, ◌≡◌, ◌≢◌, ◌≤◌}
-use Rattle.mk_laws.proofs.Vocabulary.{◌⊎◌}
 use Rattle.mk_core.{proofs.GrantedAllocations.placed_headers, proofs.GrantedAllocations.placed_stands}
 use Rattle.mk_core.{proofs.PointedAllocations.base_points, specs.NewPlaces.place_stands}
-use Rattle.mk_laws.proofs.Claims.{claim_among, claim_is, front, gone_front}
+use Rattle.mk_laws.proofs.Claims.{claim_among, claim_is, first_apart, rest_apart}
 use Rattle.mk_laws.proofs.LayoutHolders.{holding_object, new_has_turn, seat_operands}
 use Rattle.mk_laws.proofs.Released.{IsStanding, all_stand, place_index}
 use Rattle.mk_laws.proofs.Serving.{apart_across, apart_left, own_claim, placed_claim}
@@ -31,26 +30,12 @@ pub numbers_apart : (c : Config) (run : Option RunPages) (xs : List PlacedAlloca
     → AreApart (claims_of c run xs) → (placed_at xs i).released ≡ false → (placed_at xs j).released ≡ false
     → IsOfOneCell (claim_of c run (placed_at xs i)) (claim_of c run (placed_at xs j)) → i ≡ j
 numbers_apart c run [] i j apart u v same = absurd (true≢false u)
-numbers_apart c run (x ∷ xs) i j apart u v same =
-    by (cases_Bool x.released) i j u v same (λ rest m n. numbers_apart c run xs m n rest)
-  where
-    by : (x.released ≡ true) ⊎ (x.released ≡ false) → (i j : ℕ) → (placed_at (x ∷ xs) i).released ≡ false
-        → (placed_at (x ∷ xs) j).released ≡ false
-        → IsOfOneCell (claim_of c run (placed_at (x ∷ xs) i)) (claim_of c run (placed_at (x ∷ xs) j))
-        → (AreApart (claims_of c run xs) → (m n : ℕ) → (placed_at xs m).released ≡ false
-        → (placed_at xs n).released ≡ false
-        → IsOfOneCell (claim_of c run (placed_at xs m)) (claim_of c run (placed_at xs n)) → m ≡ n) → i ≡ j
-    by gone zero zero u v same rest = refl
-    by (inl r) zero (suc n) u v same rest = absurd (true≢false (sym r ∙ u))
-    by (inl r) (suc m) zero u v same rest = absurd (true≢false (sym r ∙ v))
-    by (inl r) (suc m) (suc n) u v same rest = ap suc (rest (rw (gone_front c run x xs r) at apart) m n u v same)
-    by (inr t) zero (suc n) u v same rest =
-        let ap2 : AreApart (claim_of c run x ∷ claims_of c run xs) = rw (front c run x xs t) at apart in
-        absurd (ap2.0 _ (claim_among c run xs n v) same)
-    by (inr t) (suc m) zero u v same rest =
-        let ap2 : AreApart (claim_of c run x ∷ claims_of c run xs) = rw (front c run x xs t) at apart in
-        absurd (ap2.0 _ (claim_among c run xs m u) (sym same.0, sym same.1))
-    by (inr t) (suc m) (suc n) u v same rest = grind (arith, front)
+numbers_apart c run (x ∷ xs) zero zero apart u v same = refl
+numbers_apart c run (x ∷ xs) zero (suc n) apart u v same = absurd (first_apart c run x xs u apart n v same)
+numbers_apart c run (x ∷ xs) (suc m) zero apart u v same =
+    absurd (first_apart c run x xs v apart m u (sym same.0, sym same.1))
+numbers_apart c run (x ∷ xs) (suc m) (suc n) apart u v same =
+    ap suc (numbers_apart c run xs m n (rest_apart c run x xs apart) u v same)
 
 -- A large allocation that is freed isn't mapped.
 pub gone_is : (c : Config) (a : PlacedAllocation) → a.released ≡ false
@@ -92,18 +77,6 @@ module _ (c : Config) (w : World) (known : KnownWorld c w) (laid : LayoutStands 
 
   pub standing : (i : ℕ) → (placed_at xs i).released ≡ false → IsStanding c w.now.words (placed_at xs i)
   standing i u = all_stand c _ _ w known.lengths.pages laid i u
-
-  bases_apart : (i j : ℕ) → (placed_at xs i).released ≡ false → (placed_at xs j).released ≡ false
-      → i ≢ j → (placed_at xs i).base ≢ (placed_at xs j).base
-  bases_apart i j u v ne same =
-      let si = standing i u in
-      let sj = standing j v in
-      let one = base_points c w.now.words _ known.limits si.stands si.headers in
-      let two = base_points c w.now.words _ known.limits sj.stands sj.headers in
-      let both = sym one ∙ ap (λ n. pointed_cell c.pages w.now.words.pages (address_of n)) same ∙ two in
-      let cells : cell_of_allocation c (placed_at xs i) ≡ cell_of_allocation c (placed_at xs j) = cc in
-      ne (numbers_apart c run xs i j (apart_left _ _ laid.scene.apart) u v
-      (ap (λ (x : Cell). x.page) cells, ap (λ (x : Cell). x.index) cells))
 
   -- The run that the call frees
 
@@ -222,7 +195,15 @@ module _ (c : Config) (w : World) (known : KnownWorld c w) (laid : LayoutStands 
       → (phase_of w.now.words ≡ 3 → MarksAreClosed c w) → ImagePremises c w
   say_to_images q zeros gates marks = record {
     laid_out = laid_out;
-    apart = bases_apart;
+    apart = λ i j u v ne same.
+        let si = standing i u in
+        let sj = standing j v in
+        let one = base_points c w.now.words _ known.limits si.stands si.headers in
+        let two = base_points c w.now.words _ known.limits sj.stands sj.headers in
+        let both = sym one ∙ ap (λ n. pointed_cell c.pages w.now.words.pages (address_of n)) same ∙ two in
+        let cells : cell_of_allocation c (placed_at xs i) ≡ cell_of_allocation c (placed_at xs j) = cc in
+        ne (numbers_apart c run xs i j (apart_left _ _ laid.scene.apart) u v
+        (ap (λ (x : Cell). x.page) cells, ap (λ (x : Cell). x.index) cells));
     taken = taken;
     freed_run = freed_run;
     gates = gates;

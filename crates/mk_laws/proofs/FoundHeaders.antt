@@ -11,8 +11,8 @@ use Rattle.mk_laws.proofs.Vocabulary.{header_made, header_of, header_shows, if�
 use Rattle.mk_laws.proofs.Vocabulary.{is_marked_first, is_phase, is_small_object, is_undecided_new, is_unmapped_header}
 use Rattle.mk_laws.proofs.Vocabulary.{large_cells, large_count, large_words, later_cells, le-leb, ltb-true, made_shows}
 use Rattle.mk_laws.proofs.Vocabulary.{nat_le, not-true, object_made, or_cases, page_at_address, pages_made, part_cells}
-use Rattle.mk_laws.proofs.Vocabulary.{part_head, part_not_free, part_words, phase_of, place_now, placed_now, refl}
-use Rattle.mk_laws.proofs.Vocabulary.{slice_index, small_cells, small_pages, small_words, subst, sym, true, true≢false}
+use Rattle.mk_laws.proofs.Vocabulary.{part_head, part_not_free, part_words, phase_of, placed_now, refl, slice_index}
+use Rattle.mk_laws.proofs.Vocabulary.{small_cells, small_pages, small_words, subst, sym, true, true≢false}
 use Rattle.mk_laws.proofs.Vocabulary.{undecided_new, unmapped_header, unmapped_is_unmapped, words_made, words_under}
 use Rattle.mk_laws.proofs.Vocabulary.{◌*◌, ◌+◌, ◌-◌, ◌<◌, ◌==◌, ◌||◌, ◌∙◌, ◌≡◌, ◌⊎◌}
 use Rattle.mk_geom.{proofs.ClassTable.some_cells, specs.Addresses.cell_under, specs.Addresses.word_at_address}
@@ -40,9 +40,8 @@ run_cell_under o distance page word x (OfLeafRun z l leaf) large = first_cell di
 run_cell_under o distance page word x (OfLater mapped some l) large = refl
 
 run_cell_at : (pages header value distance : ℕ) (o : Object) → ShowsPart o distance (header_of header)
-    → is_small_object o ≡ false
-    → cell_at pages header value ≡ (if is_heap_address pages value then run_cell distance (page_at_address value)
-    else None)
+    → is_small_object o ≡ false → cell_at pages header value
+    ≡ (if is_heap_address pages value then run_cell distance (page_at_address value) else None)
 run_cell_at pages header value distance o part large =
     ap (λ (x : Option Cell). if is_heap_address pages value then x else None)
     (run_cell_under o distance _ _ _ part large)
@@ -63,36 +62,24 @@ unmapped_goes pages before after distance o large b a unmapped = record {
 unmaps_find : (c : Config) (w : Words) (freed : Option RunPages) (p n : ℕ)
     → ((run : RunPages) → freed ≡ Some run → RunHasObject w run) → Unmaps w freed p n → HeadFinds c.pages w p n
 unmaps_find c w freed p n runs u =
+    let o : RunHasObject w u.run = runs u.run u.there in
+    let near : p - u.run.page < u.run.count = u.next.near in
+    let within : p - u.run.page < pages_made o.object = rw o.count near in
+    let here : u.run.page + (p - u.run.page) ≡ p = let le = u.next.from in omega arith in
+    let before : ShowsPart o.object (p - u.run.page) (header_of (header_at w p)) =
+    header_shows o.object _ (header_at w p) o.sized within (rw here at (o.headers _ near)) in
+    let is : n ≡ unmapped_header (pages_made o.object) (p - u.run.page) =
+    u.next.is ∙ ap (λ (k : ℕ). unmapped_header k (p - u.run.page)) (sym o.count) in
+    let after : ShowsPart o.object (p - u.run.page) (header_of n) =
+    header_shows o.object _ n o.sized within (inr (o.large, is)) in
+    let unmapped : is_unmapped_header (header_of n) ≡ true =
+    rw is (unmapped_is_unmapped _ _ (large_count o.object o.sized o.large) within) in
     let distance : ℕ = p - u.run.page in
     Unmapped (part_not_free o.object distance n after)
     (unmapped_goes c.pages (header_at w p) n distance o.object o.large before after unmapped)
     (λ v y on is. run_cell_at c.pages (header_at w p) v distance o.object before o.large
     ∙ sym (run_cell_at c.pages n v distance o.object after o.large) ∙ is)
     (λ none. same_cells o.object distance (header_of n) (header_in w p) after before ∙ none)
-  where
-    o : RunHasObject w u.run
-    o = runs u.run u.there
-
-    near : p - u.run.page < u.run.count
-    near = u.next.near
-
-    within : p - u.run.page < pages_made o.object
-    within = rw o.count near
-
-    here : u.run.page + (p - u.run.page) ≡ p
-    here = let le = u.next.from in omega arith
-
-    before : ShowsPart o.object (p - u.run.page) (header_of (header_at w p))
-    before = header_shows o.object _ (header_at w p) o.sized within (rw here at (o.headers _ near))
-
-    is : n ≡ unmapped_header (pages_made o.object) (p - u.run.page)
-    is = u.next.is ∙ ap (λ (k : ℕ). unmapped_header k (p - u.run.page)) (sym o.count)
-
-    after : ShowsPart o.object (p - u.run.page) (header_of n)
-    after = header_shows o.object _ n o.sized within (inr (o.large, is))
-
-    unmapped : is_unmapped_header (header_of n) ≡ true
-    unmapped = rw is (unmapped_is_unmapped _ _ (large_count o.object o.sized o.large) within)
 
 -- Carving: the cells that the headers make are marked first.
 
@@ -136,21 +123,17 @@ made_cell pages o first distance value x sized lt on is = (page, index)
         let lies = lies_under under.0 (page_at_address value) (word_at_address value) x under.2 in
         elim lies.known [ inl none ↦ absurd (omega arith) | inr known ↦ omega arith ]
 
-    run_index : (b : Bool) → (if b then run_cell distance (page_at_address value) else None) ≡ Some x → x.index ≡ 0
-    run_index false e = cc
-    run_index true e = by (nat_le distance (page_at_address value)) e
-      where
-        by : (b : Bool) → (if b then Some (record { page = page_at_address value - distance; index = 0 }) else None)
-            ≡ Some x → x.index ≡ 0
-        by true e = let same : record { page = page_at_address value - distance; index = 0 } ≡ x =
-            cc in sym (ap (λ (y : Cell). y.index) same)
-        by false e = cc
+    run_index : (b d : Bool) (p : ℕ)
+        → (if b then if d then Some (record { page = p; index = 0 }) else None else None) ≡ Some x → x.index ≡ 0
+    run_index true true p e =
+        let same : record { page = p; index = 0 } ≡ x = cc in sym (ap (λ (y : Cell). y.index) same)
+    run_index _ _ p e = cc
 
     index : x.index < cells_made o
     index = elim (cases_Bool (is_small_object o)) [
       | inl small ↦ small_index small
       | inr large ↦
-          let zero = run_index (is_heap_address pages value)
+          let zero = run_index (is_heap_address pages value) (nat_le distance (page_at_address value)) _
           (sym (run_cell_at pages (header_made o distance) value distance o part large) ∙ is) in
           omega (arith, large_cells o large)
     ]
@@ -243,15 +226,11 @@ head_finds c w seat p n limits known early say h = by (head_step c w.now (flight
     one : phase_of w.now.words ≡ 1
     one = marking_phase _ h.phase early
 
-    new_has : (place : Place) → place_now c w.now (flight_of w.now seat) ≡ Some place
-        → IsSized (object_made c (flight_of w.now seat).op)
-    new_has place now =
-        let new = (placed_now c w.now (flight_of w.now seat) place now).new in
-        let own = new_holds c w.now seat (Step.Head p n) h new in
-        new_sized c (flight_of w.now seat) limits (rw own.2 (known.operands own.0)) new
-
     by : HeadStep c w.now (flight_of w.now seat) p n → HeadFinds c.pages w.now.words p n
     by (ItCarves four k) =
-        carves_find c w.now.words _ _ p n (new_has k.place k.there) (eq-eqb _ 1 one) (say.place early seat) k
+        let new = (placed_now c w.now (flight_of w.now seat) k.place k.there).new in
+        let own = new_holds c w.now seat (Step.Head p n) h new in
+        let sized = new_sized c (flight_of w.now seat) limits (rw own.2 (known.operands own.0)) new in
+        carves_find c w.now.words _ _ p n sized (eq-eqb _ 1 one) (say.place early seat) k
     by (ItUnmaps four u) = unmaps_find c w.now.words w.now.seats.holding.freed p n (say.freed early) u
     by (ItEmpties four k) = let e = eqb-true _ 4 four in absurd (omega arith)

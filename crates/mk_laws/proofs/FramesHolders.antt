@@ -39,28 +39,13 @@ pub record AsksNothing (c : Config) (m : Moment) (s : Seat) (f : Flight) (n : �
 
 call_asks_nothing : (c : Config) (m : Moment) (s : Seat) (f : Flight) (n : ℕ) (x : Step) → group_of x ≡ Group.Callers
     → AsksNothing c m s f n x
-call_asks_nothing c m s f n (Step.Enter o) g = record { gates = refl; phase = refl; holder = refl }
 call_asks_nothing c m s f n Step.Leave g = record { gates = refl; phase = refl; holder = refl }
-call_asks_nothing c m s f n Step.Reg g = record { gates = refl; phase = refl; holder = refl }
-call_asks_nothing c m s f n Step.Probe g = record { gates = refl; phase = refl; holder = refl }
-call_asks_nothing c m s f n Step.Read g = record { gates = refl; phase = refl; holder = refl }
-call_asks_nothing c m s f n Step.Write g = record { gates = refl; phase = refl; holder = refl }
-call_asks_nothing c m s f n Step.Cas g = record { gates = refl; phase = refl; holder = refl }
-call_asks_nothing c m s f n Step.Getg g = record { gates = refl; phase = refl; holder = refl }
-call_asks_nothing c m s f n Step.Setg g = record { gates = refl; phase = refl; holder = refl }
-call_asks_nothing c m s f n Step.Dirty g = record { gates = refl; phase = refl; holder = refl }
-call_asks_nothing c m s f n _ g = cc
+call_asks_nothing c m s f n _ g = record { gates = cc; phase = cc; holder = cc }
 
 marker_asks_nothing : (c : Config) (m : Moment) (s : Seat) (f : Flight) (n : ℕ) (x : Step) → group_of x ≡ Group.Markers
     → AsksNothing c m s f n x
 marker_asks_nothing c m s f n Step.Attend g = record { gates = refl; phase = refl; holder = refl }
-marker_asks_nothing c m s f n Step.Quit g = record { gates = refl; phase = refl; holder = refl }
-marker_asks_nothing c m s f n (Step.Mlook w) g = record { gates = refl; phase = refl; holder = refl }
-marker_asks_nothing c m s f n (Step.Claim p i) g = record { gates = refl; phase = refl; holder = refl }
-marker_asks_nothing c m s f n Step.Mload g = record { gates = refl; phase = refl; holder = refl }
-marker_asks_nothing c m s f n Step.Mmark g = record { gates = refl; phase = refl; holder = refl }
-marker_asks_nothing c m s f n Step.Mblack g = record { gates = refl; phase = refl; holder = refl }
-marker_asks_nothing c m s f n _ g = cc
+marker_asks_nothing c m s f n _ g = record { gates = cc; phase = cc; holder = cc }
 
 -- A step is its holder's, or nothing is asked for it, at whatever moment.
 pub data Asks (c : Config) (m : Moment) (s : Seat) (x : Step) : Type 0 where

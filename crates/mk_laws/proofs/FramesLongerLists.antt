@@ -9,8 +9,8 @@ use Rattle.mk_laws.proofs.Vocabulary.{ltb-true, never_behind, not, onward, page_
 use Rattle.mk_laws.proofs.Vocabulary.{progress_read, progress_reg, q_of, refl, refused, sees_double, still, subst, sym}
 use Rattle.mk_laws.proofs.Vocabulary.{target, true, word_accessed, [], ◌&&◌, ◌++◌, ◌<◌, ◌==◌, ◌∙◌, ◌∷◌, ◌≡◌}
 use Rattle.mk_core.specs.{Counts.releases, Effects.begins_where_free, Frames.CountsAreLeft, LongerLists.LongerListsGoOn}
-use Rattle.mk_laws.proofs.Basics.{InCall, Meets, actor_of, at_its_stage, calls_stand, in_call_told, is_call_stage}
-use Rattle.mk_laws.proofs.Basics.{is_holders, not_astray, operands_of, register_small, standing}
+use Rattle.mk_laws.proofs.Basics.{Meets, actor_of, at_its_stage, calls_stand, in_call_told, is_call_stage, is_holders}
+use Rattle.mk_laws.proofs.Basics.{not_astray, operands_of, register_small}
 use Rattle.mk_laws.proofs.LastEvents.{Stands, comes_last, goes_on_by, stands}
 use Rattle.mk_laws.proofs.{AdmittedStill.call_on, CallSorts.admitted_call, CallSorts.call_outside, EnabledStill.before}
 use Rattle.mk_laws.proofs.{EnabledStill.enabled_still, EnabledStill.left_to, FramesHolders.acts_as_holder}
@@ -127,11 +127,10 @@ module _ (c : Config) (es more : List Event) (k : ℕ) (x : Step) (h : IsHistory
   at_probe : x ≡ Step.Probe → f.stage ≡ Stage.Probe
   at_probe is = at_its_stage f.stage f.op Step.Probe refl (rw is at meets).order
 
-  in_call : x ≡ Step.Probe → standing f ≡ InCall
-  in_call is = calls_stand _ f.op (ap is_call_stage (at_probe is)) (not_astray c w.now here.known.now.orderly k lt)
-
   is_in : x ≡ Step.Probe → IsInCall w.now (Caller k)
-  is_in is = cc (in_call_told f.stage f.op (not_astray c w.now here.known.now.orderly k lt), in_call is)
+  is_in is =
+      let fine = not_astray c w.now here.known.now.orderly k lt in
+      cc (in_call_told f.stage f.op fine, calls_stand _ f.op (ap is_call_stage (at_probe is)) fine)
 
   pub probes_the_same : x ≡ Step.Probe → probed v.now.words f ≡ probed w.now.words f
   probes_the_same is = elim (cases_Bool (probed w.now.words f)) [
@@ -156,9 +155,8 @@ module _ (c : Config) (es more : List Event) (k : ℕ) (x : Step) (h : IsHistory
 
   -- The turn's holder sees the same freed bits and target.
 
-  sees_freed : (y : Word) → x ≡ Step.Look y
-      → sees_double v.now.words (target c.pages v.now.words f) y ≡ sees_double w.now.words
-      (target c.pages w.now.words f) y
+  sees_freed : (y : Word) → x ≡ Step.Look y → sees_double v.now.words (target c.pages v.now.words f) y
+      ≡ sees_double w.now.words (target c.pages w.now.words f) y
   sees_freed y is = ap (λ (s : Steady). sees_double (record w.now.words { pages = s.pages; freed = s.freed })
       (target c.pages (record w.now.words { pages = s.pages; freed = s.freed }) f) y)
       (kept.turn (holding (ap is_holders is))).0.steady

@@ -10,8 +10,8 @@ use Rattle.mk_laws.proofs.Vocabulary.{object_placed, pages_made, part_not_free, 
 use Rattle.mk_laws.proofs.Vocabulary.{run_begins, run_count, shown_later, slice_index, small_cells, small_words, subst}
 use Rattle.mk_laws.proofs.Vocabulary.{suc, sym, true, typed_size, words_are_zero, words_made, words_under, zero, ◌%◌}
 use Rattle.mk_laws.proofs.Vocabulary.{◌*◌, ◌+◌, ◌-◌, ◌/◌, ◌<◌, ◌==◌, ◌∙◌, ◌≡◌, ◌≢◌, ◌≤◌, ◌⊎◌}
-use Rattle.mk_laws.proofs.FreeWords.{IsOfOne, of_one, of_worlds}
-use Rattle.mk_laws.proofs.{Basics.KnownWorld, Basics.ends_on_pages, ForImages.standing}
+use Rattle.mk_laws.proofs.Basics.{KnownWorld, ends_on_pages, zero_unless}
+use Rattle.mk_laws.proofs.{ForImages.standing, FreeWords.IsOfOne, FreeWords.of_one, FreeWords.of_worlds}
 use Rattle.mk_laws.specs.FreeWords.{FreeCellsAreZero, WordsBehindCellsAreZero, words_in_cells}
 
 -- A number is in one of equal parts alone.
@@ -125,9 +125,8 @@ module _ (c : Config) (w : World) (n : NeverState) (known : KnownWorld c w) (all
   -- What has a word of a run begins where the run does.
   in_run : (o : Object) (base : ℕ) (cell : Cell) (i : ℕ) → OnPage w.now.words o base (first_word w.now.words cell + i)
       → cell.index < cells_under (header_in w.now.words cell.page) → i < cell_words w.now.words cell
-      → heads_run (header_in w.now.words cell.page) ≡ true → cell.index ≡ 0
-      → cell_words w.now.words cell ≡ 64 * run_count (header_in w.now.words cell.page)
-      → base ≡ first_word w.now.words cell
+      → heads_run (header_in w.now.words cell.page) ≡ true → cell.index ≡ 0 → cell_words w.now.words cell
+      ≡ 64 * run_count (header_in w.now.words cell.page) → base ≡ first_word w.now.words cell
   in_run o base cell i on lt near heads first_one words =
       let size : ℕ = words_under (header_in w.now.words cell.page) in
       let first : cell.index * size ≡ 0 * size = ap (λ k. k * size) first_one in
@@ -164,25 +163,19 @@ module _ (c : Config) (w : World) (n : NeverState) (known : KnownWorld c w) (all
       all_below_zero_is (λ i. slice_index w.now.words.heap (first_word w.now.words cell + i) == 0)
   cell_is_zero quiet cell lt free (suc count) le =
       let word : ℕ = slice_index w.now.words.heap (first_word w.now.words cell + count) in
-      let is : word ≡ 0 = elim (cases_eq word 0) [
-        | inl is ↦ is
-        | inr some ↦ absurd (free (cell_of_word quiet cell lt count (omega arith) some))
-      ] in
+      let is = zero_unless word (λ some. free (cell_of_word quiet cell lt count (omega arith) some)) in
       subst (λ k. words_are_zero w.now.words (first_word w.now.words cell) k ≡ true) (omega arith)
       (all_below_more_is count (λ i. slice_index w.now.words.heap (first_word w.now.words cell + i) == 0)
       (cell_is_zero quiet cell lt free count (omega arith)) (eq-eqb word 0 is))
 
   behind_is_zero : phase_of w.now.words ≢ 4 → (x : ℕ) → words_in_cells (header_in w.now.words (x / 64)) ≤ x % 64
       → slice_index w.now.words.heap x ≡ 0
-  behind_is_zero quiet x past = elim (cases_eq (slice_index w.now.words.heap x) 0) [
-    | inl is ↦ is
-    | inr some ↦
-        let one = of_one c w n known all quiet x some in
-        let a : PlacedAllocation = placed_at w.allocations one.number in
-        let on = on_page x one in
-        let shown : Option Header = header_in w.now.words (x / 64) in
-        absurd (omega (arith, within_cells _ on.distance a.base x shown on.part on.begins (sym on.page) on.to))
-  ]
+  behind_is_zero quiet x past = zero_unless _ (λ some.
+      let one = of_one c w n known all quiet x some in
+      let a : PlacedAllocation = placed_at w.allocations one.number in
+      let on = on_page x one in
+      let shown : Option Header = header_in w.now.words (x / 64) in
+      omega (arith, within_cells _ on.distance a.base x shown on.part on.begins (sym on.page) on.to))
 
   free_cells : FreeCellsAreZero c w
   free_cells quiet cell lt free = cell_is_zero quiet cell lt free _ (le_refl _)

@@ -53,11 +53,6 @@ module _ (c : Config) (w : World) (n : NeverState) (known : KnownWorld c w) (mir
       ap (pointed_cell c.pages w.now.words.pages) (e ∙ ap (λ b. address_of (b + o)) (base_at w.allocations a))
       ∙ st.cell a o u (omega (arith, pointed_word c.globals safe (image_scene_of w) n ready a t o sound))
 
-  -- an allocation with the same first word is the same
-  same_first : (a b : ℕ) → (placed a).released ≡ false → (placed b).released ≡ false
-      → (placed b).base ≡ (placed a).base → b ≡ a
-  same_first a b ua ub e = elim (cases_eq b a) [ inl x ↦ x | inr ne ↦ absurd (st.apart b a ub ua ne e) ]
-
   pub free_by : (others : ImagePremises c w) (k : ℕ) (o : Op) (f : Flight) (p : ℕ) (cell : Cell) (v : Value)
       → Decides (image_scene_of w) n k f → IsSound n v → IsSafe safe v → p ≡ image_of (bases_of w.allocations) v → p ≢ 0
       → pointed_cell c.pages w.now.words.pages p ≡ Some cell → is_freed w.now.words cell ≡ false
@@ -75,25 +70,20 @@ module _ (c : Config) (w : World) (n : NeverState) (known : KnownWorld c w) (mir
       let cells : Some cell ≡ Some (cell_of_allocation c (placed a)) = sym points ∙ (pointer_cell a t x p sound is e) in
       let first : first_word w.now.words cell ≡ (placed a).base = ap (first_in w.now.words) cells ∙ st.first a u in
       let leaves = freed_leaves w.now.words (Some cell) in
+      let frees : PlacedAllocation → PlacedAllocation = freed_where_it_stands w.now.words (Some cell) in
+      let now : (i : ℕ) → placed_at (map frees w.allocations) i ≡ frees (placed i) =
+      λ i. changed_at frees w.allocations i leaves.none in
       let its : (placed a).freed ≡ false = elim (cases_Bool (placed a).freed) [
         | inl yes_freed ↦
             let y : false ≡ true = sym not_freed ∙ ap (is_freed_in w.now.words) cells
             ∙ others.shown a u yes_freed in absurd (cc)
         | inr z ↦ z
       ] in (
-        Frees k a f (map (freed_where_it_stands w.now.words (Some cell)) w.allocations) at
-            (same_places (freed_where_it_stands w.now.words (Some cell)) w.allocations leaves)
-            (λ b. ap (λ (y : PlacedAllocation). y.released)
-            (changed_at (freed_where_it_stands w.now.words (Some cell)) w.allocations b leaves.none)
-            ∙ freed_released w.now.words (Some cell) (placed b)) sound.0
-            (λ b ne2. ap (λ (y : PlacedAllocation). y.freed)
-            (changed_at (freed_where_it_stands w.now.words (Some cell)) w.allocations b leaves.none)
-            ∙ ap (λ t. (if t then record (placed b) { freed = true; fresh = true }
-            else placed b).freed) (apart_from b a cell u first ne2)) (ap (λ (y : PlacedAllocation). y.freed)
-            (changed_at (freed_where_it_stands w.now.words (Some cell)) w.allocations a leaves.none)
-            ∙ ap (λ t. (if t then record (placed a) { freed = true; fresh = true } else placed a).freed)
-            (and_from (not (placed a).released) ((placed a).base == first_word w.now.words cell) (ap not u)
-            (eq-eqb (placed a).base (first_word w.now.words cell) (sym first))))
+        Frees k a f (map frees w.allocations) at (same_places frees w.allocations leaves)
+            (λ b. rw (now b) (freed_released w.now.words (Some cell) (placed b))) sound.0
+            (λ b other. rw (now b) (rw (apart_from b a cell u first other))) (rw (now a) (rw (and_from
+            (not (placed a).released) ((placed a).base == first_word w.now.words cell) (ap not u)
+            (eq-eqb (placed a).base (first_word w.now.words cell) (sym first)))))
             (λ un. quiet (ap (is_run_cell w.now.words) cells
             ∙ st.run a u (ap (λ l. nat_lt 32 l) (sym (words_are c w n known mirrors a lt)) ∙ un))),
         ap (λ b. if b then Reply.Double else Reply.Done) (sym (mirrors.twins.freed a lt) ∙ its),
@@ -136,7 +126,10 @@ module _ (c : Config) (w : World) (n : NeverState) (known : KnownWorld c w) (mir
     where
       its_own : (a b : ℕ) → (placed a).released ≡ false → (placed b).released ≡ false → (placed b).freed ≡ true
           → (placed b).base ≡ (placed a).base → (placed a).freed ≡ true
-      its_own a b ua ub fb e = ap (λ i. (placed i).freed) (sym (same_first a b ua ub e)) ∙ fb
+      its_own a b ua ub fb e = elim (cases_eq b a) [
+        | inl same ↦ ap (λ i. (placed i).freed) (sym same) ∙ fb
+        | inr ne ↦ absurd (st.apart b a ub ua ne e)
+      ]
 
       same_never : (a : ℕ) → (allocation_at n a).freed ≡ true → never_freed n a ≡ n
       same_never a h =

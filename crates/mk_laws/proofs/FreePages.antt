@@ -1,9 +1,9 @@
 -- A page without a header has nothing.
 use Rattle.mk_laws.proofs.Vocabulary.{Config, HasAllocation, Invariant, Leaves, NeverState, OfHistories}
-use Rattle.mk_laws.proofs.Vocabulary.{PlacedAllocation, World, ℕ, ap, arith, cases_eq, cells_under, has_bit, header_at}
-use Rattle.mk_laws.proofs.Vocabulary.{header_in, header_of, inl, inr, left, never_behind, object_placed, placed_at}
-use Rattle.mk_laws.proofs.Vocabulary.{refl, slice_index, storage_words, true, words_made, ◌+◌, ◌-◌, ◌/◌, ◌∙◌, ◌≡◌, ◌≢◌}
-use Rattle.mk_laws.proofs.Basics.{KnownWorld, claimed_some, ends_on_pages, known_world, zero_where_none}
+use Rattle.mk_laws.proofs.Vocabulary.{PlacedAllocation, World, ℕ, ap, arith, cells_under, has_bit, header_at, header_in}
+use Rattle.mk_laws.proofs.Vocabulary.{header_of, left, never_behind, object_placed, placed_at, refl, slice_index}
+use Rattle.mk_laws.proofs.Vocabulary.{storage_words, true, words_made, ◌+◌, ◌-◌, ◌/◌, ◌∙◌, ◌≡◌, ◌≢◌}
+use Rattle.mk_laws.proofs.Basics.{KnownWorld, claimed_some, ends_on_pages, known_world, zero_unless, zero_where_none}
 use Rattle.mk_laws.proofs.{DirtyPages.dirty_stands, ForImages.shown_claim, ForImages.standing}
 use Rattle.mk_laws.proofs.{InvariantHistories.histories_keep_the_invariant, LayoutReadings.free_unused}
 use Rattle.mk_laws.specs.FreePages.{DirtyPagesHaveAllocations, FreePagesHaveNothing, HasNothing}
@@ -33,10 +33,7 @@ module _ (c : Config) (w : World) (n : NeverState) (known : KnownWorld c w) (all
     used = free_unused _ p all.order.laid.scene z;
     freed = zero_where_none _ (none_freed p z);
     snapshot = zero_where_none _ (λ k bit. none_freed p z k (all.order.quarantined.within p k bit));
-    dirty = elim (cases_eq (slice_index w.now.words.dirty p) 0) [
-      | inl is ↦ is
-      | inr some ↦ absurd (allocation_shows p (dirty p some) z)
-    ];
+    dirty = zero_unless _ (λ some. allocation_shows p (dirty p some) z);
   }
 
 pub dirty_pages_have_allocations : OfHistories (Leaves DirtyPagesHaveAllocations)

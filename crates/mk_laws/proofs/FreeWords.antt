@@ -1,14 +1,13 @@
 -- While the phase isn't releasing, a word that isn't 0 is one of an unreleased allocation.
-use Rattle.mk_laws.proofs.Vocabulary.{Config, Invariant, IsFreedWord, IsWordOf, IsWordOfMapped, Leaves, MayHold}
-use Rattle.mk_laws.proofs.Vocabulary.{NeverState, Object, OfFreedRun, OfHistories, OfMapped, OfReleased}
-use Rattle.mk_laws.proofs.Vocabulary.{PlacedAllocation, RunPages, Some, Words, World, ℕ, all_below-at, and_parts, ap}
-use Rattle.mk_laws.proofs.Vocabulary.{arith, cases_eq, eqb-true, false, inl, inr, is_run_gone, is_run_unmapped}
-use Rattle.mk_laws.proofs.Vocabulary.{large_words, leb-true, left, ltb-true, object_placed, pages_made, phase_of}
-use Rattle.mk_laws.proofs.Vocabulary.{placed_at, run_begins, run_of_allocation, slice_index, storage_of, sym, true}
-use Rattle.mk_laws.proofs.Vocabulary.{words_are_zero, zero_scene_of, ◌%◌, ◌*◌, ◌+◌, ◌-◌, ◌/◌, ◌<◌, ◌==◌, ◌∙◌, ◌≡◌, ◌≢◌}
-use Rattle.mk_laws.proofs.Vocabulary.{◌≤◌}
+use Rattle.mk_laws.proofs.Vocabulary.{Config, Invariant, IsWordOf, IsWordOfMapped, Leaves, MayHold, NeverState, Object}
+use Rattle.mk_laws.proofs.Vocabulary.{OfFreedRun, OfHistories, OfMapped, OfReleased, PlacedAllocation, RunPages, Some}
+use Rattle.mk_laws.proofs.Vocabulary.{Words, World, ℕ, all_below-at, and_parts, ap, arith, eqb-true, false, is_run_gone}
+use Rattle.mk_laws.proofs.Vocabulary.{is_run_unmapped, large_words, leb-true, left, ltb-true, object_placed, pages_made}
+use Rattle.mk_laws.proofs.Vocabulary.{phase_of, placed_at, run_begins, run_of_allocation, slice_index, storage_of, sym}
+use Rattle.mk_laws.proofs.Vocabulary.{true, words_are_zero, zero_scene_of, ◌%◌, ◌*◌, ◌+◌, ◌-◌, ◌/◌, ◌<◌, ◌==◌, ◌∙◌, ◌≡◌}
+use Rattle.mk_laws.proofs.Vocabulary.{◌≢◌, ◌≤◌}
 use Rattle.mk_core.specs.Cells.{is_in_run}
-use Rattle.mk_laws.proofs.Basics.{KnownWorld, known_world, mapped_stays, none_released}
+use Rattle.mk_laws.proofs.Basics.{KnownWorld, known_world, mapped_stays, none_released, zero_unless}
 use Rattle.mk_laws.proofs.InvariantHistories.{histories_keep_the_invariant}
 use Rattle.mk_laws.proofs.{ForImages.standing, InvariantJoined.told_to_images, ReadingsStands.not_releasing}
 use Rattle.mk_laws.specs.FreeWords.{UnmappedWordsAreZero, WordsOfNoneAreZero}
@@ -41,32 +40,26 @@ gone_word w run x word gone =
     (omega arith))
 
 module _ (c : Config) (w : World) (n : NeverState) (known : KnownWorld c w) (all : Invariant c w n) where
-  of_freed_run : (x : ℕ) → IsFreedWord w.now.seats.holding.freed x → IsOfOne c w x
-  of_freed_run x f =
-      let run = (told_to_images c w n known all).freed_run f.run f.there in
-      let a : PlacedAllocation = placed_at w.allocations run.number in
-      let o : Object = object_placed c a in
-      let stands = (standing c w known all.order.laid run.number run.unreleased).stands in
-      let aligned = (run_begins o a.base run.large stands.begins).1 in
-      let word : is_in_run (run_of_allocation c a) x ≡ true = cc (run.is, f.word) in
-      let at = in_run _ x word in
-      record {
-        number = run.number;
-        unreleased = run.unreleased;
-        word = run_word a.base _ (pages_made o) x aligned (large_words o run.large) at.0 at.1;
-      }
-
-  of_mapped : (x : ℕ) → IsWordOfMapped c w.allocations x → IsOfOne c w x
-  of_mapped x m = grind (arith, mapped_stays)
-
   -- A word that isn't 0 is one of an unreleased allocation,
   pub of_one : phase_of w.now.words ≢ 4 → (x : ℕ) → slice_index w.now.words.heap x ≢ 0 → IsOfOne c w x
   of_one quiet x some = by (all.zeros x some)
     where
       by : MayHold c (zero_scene_of w) x → IsOfOne c w x
-      by (OfMapped m) = of_mapped x m
+      by (OfMapped m) = grind (arith, mapped_stays)
       by (OfReleased r) = absurd (none_released c (zero_scene_of w) x (not_releasing w quiet) r)
-      by (OfFreedRun f) = of_freed_run x f
+      by (OfFreedRun f) =
+          let run = (told_to_images c w n known all).freed_run f.run f.there in
+          let a : PlacedAllocation = placed_at w.allocations run.number in
+          let o : Object = object_placed c a in
+          let stands = (standing c w known all.order.laid run.number run.unreleased).stands in
+          let aligned = (run_begins o a.base run.large stands.begins).1 in
+          let word : is_in_run (run_of_allocation c a) x ≡ true = cc (run.is, f.word) in
+          let at = in_run _ x word in
+          record {
+            number = run.number;
+            unreleased = run.unreleased;
+            word = run_word a.base _ (pages_made o) x aligned (large_words o run.large) at.0 at.1;
+          }
 
   -- and of a mapped one, where the freed run is gone.
   pub of_one_mapped : phase_of w.now.words ≢ 4 → is_run_gone w.now.words w.now.seats.holding.freed ≡ true
@@ -79,16 +72,12 @@ module _ (c : Config) (w : World) (n : NeverState) (known : KnownWorld c w) (all
       by (OfFreedRun f) = grind (arith, gone_word)
 
   words_of_none : WordsOfNoneAreZero c w
-  words_of_none quiet x none = elim (cases_eq (slice_index w.now.words.heap x) 0) [
-    | inl is ↦ is
-    | inr some ↦ let one = of_one quiet x some in absurd (none one.number one.unreleased one.word)
-  ]
+  words_of_none quiet x none = zero_unless _ (λ some.
+      let one = of_one quiet x some in none one.number one.unreleased one.word)
 
   unmapped_words : UnmappedWordsAreZero c w
-  unmapped_words quiet gone x none = elim (cases_eq (slice_index w.now.words.heap x) 0) [
-    | inl is ↦ is
-    | inr some ↦ let one = of_one_mapped quiet gone x some in absurd (none one.number one.mapped one.word)
-  ]
+  unmapped_words quiet gone x none = zero_unless _ (λ some.
+      let one = of_one_mapped quiet gone x some in none one.number one.mapped one.word)
 
 -- Both of all histories; this is how the invariant is after each.
 pub of_worlds : {claim : Config → World → Type 0}

@@ -1,21 +1,104 @@
 -- `quar` (a) on the terrain: an object is freed, and the run that a call freed is gone.
 use Rattle.std.proofs.Common.{map-id}
-use Rattle.mk_laws.proofs.Vocabulary.{Among, Bool, Cell, Claim, Config, HasHeader, Header, IsClaimedRun, IsShown}
-use Rattle.mk_laws.proofs.Vocabulary.{IsSized, IsWithinLimits, None, Object, OfBlock, OfLater, OfLeafBlock, OfLeafRun}
-use Rattle.mk_laws.proofs.Vocabulary.{OfRun, Option, PlacedAllocation, RunPages, RunStands, ShowsPart, Some, Words}
-use Rattle.mk_laws.proofs.Vocabulary.{World, ℕ, all_below-at, ap, arith, cases_Bool, cell_of_allocation, cells_made}
-use Rattle.mk_laws.proofs.Vocabulary.{cells_under, claim_of, claims_of, claims_on, cond-true, eq-eqb, eqb-true, false}
-use Rattle.mk_laws.proofs.Vocabulary.{first_page_shows, freed_leaves, freed_released, freed_where_it_stands, ground_of}
-use Rattle.mk_laws.proofs.Vocabulary.{header_at, header_in, if◌then◌else◌, inl, inr, is_run_unmapped, is_small_object}
-use Rattle.mk_laws.proofs.Vocabulary.{is_unmapping, layout_scene_of, length, map, mode_of, not, not-true, object_placed}
-use Rattle.mk_laws.proofs.Vocabulary.{pages_made, pages_some, part_cells, placed_at, refl, run_headed, run_of_cell}
-use Rattle.mk_laws.proofs.Vocabulary.{small, stands, stands_in, stands_in_its_cell, subst, sym, true, true≢false}
-use Rattle.mk_laws.proofs.Vocabulary.{unmapped_header, ◌&&◌, ◌+◌, ◌/◌, ◌<◌, ◌==◌, ◌∙◌, ◌≡◌, ◌⊎◌}
+use Rattle.mk_laws.proofs.Vocabulary.{Among, Bool, Cell, Claim, Config, Ground, HasHeader, HasLayout, Header}
+use Rattle.mk_laws.proofs.Vocabulary.{IsClaimedRun, IsShown, IsSized, IsWithinLimits, List, Mode, None, Object, OfBlock}
+use Rattle.mk_laws.proofs.Vocabulary.{OfLater, OfLeafBlock, OfLeafRun, OfRun, Option, PlacedAllocation, RunPages}
+use Rattle.mk_laws.proofs.Vocabulary.{RunStands, ShowsPart, Some, Words, World, ℕ, all_below-at, ap, arith, cases_Bool}
+use Rattle.mk_laws.proofs.Vocabulary.{cell_of_allocation, cells_made, cells_under, claim_of, claims_of, claims_on}
+use Rattle.mk_laws.proofs.Vocabulary.{cond-true, eq-eqb, eqb-true, false, first_page_shows, freed_leaves}
+use Rattle.mk_laws.proofs.Vocabulary.{freed_released, freed_where_it_stands, ground_of, header_at, header_in, header_on}
+use Rattle.mk_laws.proofs.Vocabulary.{if◌then◌else◌, inl, inr, is_run_unmapped, is_small_object, is_unmapping}
+use Rattle.mk_laws.proofs.Vocabulary.{layout_scene_of, length, map, mode_of, not, not-true, object_placed, pages_made}
+use Rattle.mk_laws.proofs.Vocabulary.{pages_some, part_cells, placed_at, refl, run_headed, run_of_cell, small, stands}
+use Rattle.mk_laws.proofs.Vocabulary.{stands_in, stands_in_its_cell, subst, sym, true, true≢false, unmapped_header}
+use Rattle.mk_laws.proofs.Vocabulary.{◌&&◌, ◌+◌, ◌/◌, ◌<◌, ◌==◌, ◌∙◌, ◌≡◌, ◌⊎◌}
 use Rattle.mk_core.proofs.CellsOfAllocations.{stands_in_no_other}
-use Rattle.mk_laws.proofs.Claims.{LeavesCells, changed_among, claim_among}
-use Rattle.mk_laws.proofs.{LayoutReadings.one_claim, Modes.Remodes, Modes.remoded, Released.IsStanding}
-use Rattle.mk_laws.proofs.{Released.all_stand, Serving.Laid, Serving.own_claim, Unmapping.shares_run}
+use Rattle.mk_laws.proofs.Serving.{Laid, among_back, among_front, among_parts, apart_across, apart_joined, apart_left}
+use Rattle.mk_laws.proofs.Serving.{apart_right, own_claim, placed_claim}
+use Rattle.mk_laws.proofs.{Claims.LeavesCells, Claims.apart_behind, Claims.cells_behind, Claims.changed_among}
+use Rattle.mk_laws.proofs.{Claims.claim_among, Claims.claim_is, Claims.was_claim, LayoutReadings.one_claim}
+use Rattle.mk_laws.proofs.{Released.IsStanding, Released.all_stand, Unmapping.layout_changed, Unmapping.shares_run}
 use Rattle.mk_laws.specs.{LayoutScene.IsUnmappedHeaderOf, Terrain.IsCellOf}
+
+-- Allocations whose claims change at most how far they are unmapped.
+
+pub record Remodes (c : Config) (t : Ground) (run : Option RunPages) (g : PlacedAllocation
+    → PlacedAllocation) : Type 0 where
+  pub leaves : LeavesCells g
+  pub keeps : (a : PlacedAllocation) → a.released ≡ false → (g a).released ≡ false
+  pub headers : (i : ℕ) → (placed_at t.allocations i).released ≡ false → (d : ℕ)
+      → d < pages_made (object_placed c (placed_at t.allocations i))
+      → HasHeader (claim_of c t.run (placed_at t.allocations i)).mode (object_placed c (placed_at t.allocations i)) d
+      (header_on t.pages ((placed_at t.allocations i).base / 64 + d))
+      → HasHeader (claim_of c run (g (placed_at t.allocations i))).mode (object_placed c (placed_at t.allocations i)) d
+      (header_on t.pages ((placed_at t.allocations i).base / 64 + d))
+
+pub remoded : (c : Config) (o : Object) (releasing : Bool) (marks : List ℕ) (t : Ground) (run : Option RunPages)
+    (g : PlacedAllocation → PlacedAllocation)
+    → HasLayout c o releasing marks t → Remodes c t run g → RunStands (claims_of c run (map g t.allocations)) run
+    → HasLayout c o releasing marks (record t { run = run; allocations = map g t.allocations })
+remoded c o releasing marks t run g st r stands = record {
+  scene = layout_changed _ _ st.scene (record {
+    from = λ y i. elim (among_parts _ _ y i) [
+      | inl j ↦ let b = was y j in (b.0, own_claim c o t (record y { mode = b.0 }) b.1)
+      | inr j ↦ (y.mode, placed_claim c o t y j)
+    ];
+    to = λ x i. elim (among_parts _ _ x i) [
+      | inl j ↦ let b = now x j
+          in (b.0, among_front _ _ (record x { mode = b.0 }) b.1)
+      | inr j ↦ (x.mode, among_back _ _ x j)
+    ];
+    apart = apart_joined _ _ (apart_behind c t.run run g t.allocations r.leaves (apart_left _ _ st.scene.apart))
+        (apart_right _ _ st.scene.apart) (λ x y ix iy same.
+        apart_across _ _ (record x { mode = (was x ix).0 }) y st.scene.apart (was x ix).1 iy same);
+    headers = λ y i d lt. elim (among_parts _ _ y i) [
+      | inl j ↦ headers y j d lt
+      | inr j ↦ (st.scene.shown y (placed_claim c o t y j)).headers d lt
+    ];
+  });
+  gone = stands;
+  first = st.first;
+  cells = cells_behind c g t.allocations r.leaves st.cells;
+}
+  where
+    same : (i : ℕ) (m : Mode) → record (claim_of c run (g (placed_at t.allocations i))) { mode = m }
+        ≡ record (claim_of c t.run (placed_at t.allocations i)) { mode = m }
+    same i m =
+        let a : PlacedAllocation = placed_at t.allocations i in
+        rw (r.leaves.places.base a) (rw (r.leaves.places.ty a))
+
+    was : (y : Claim) → Among y (claims_of c run (map g t.allocations))
+        → (m : Mode) × Among (record y { mode = m }) (claims_of c t.run t.allocations)
+    was y j =
+        let n = was_claim c run g t.allocations y r.leaves j in
+        let m : Mode = (claim_of c t.run (placed_at t.allocations n.number)).mode in (
+          m,
+          rw (ap (λ (z : Claim). record z { mode = m }) n.is ∙ same n.number m)
+              (claim_among c t.run t.allocations n.number n.was),
+        )
+
+    now : (x : Claim) → Among x (claims_of c t.run t.allocations)
+        → (m : Mode) × Among (record x { mode = m }) (claims_of c run (map g t.allocations))
+    now x j =
+        let n = claim_is c t.run t.allocations x j in
+        let a : PlacedAllocation = placed_at t.allocations n.number in
+        let m : Mode = (claim_of c run (g a)).mode in (
+          m,
+          rw (ap (λ (z : Claim). record z { mode = m }) n.is ∙ sym (same n.number m))
+              (changed_among c run g t.allocations n.number r.leaves (r.keeps a n.unreleased)),
+        )
+
+    headers : (y : Claim) → Among y (claims_of c run (map g t.allocations)) → (d : ℕ) → d < pages_made y.object
+        → HasHeader y.mode y.object d (header_on t.pages (y.page + d))
+    headers y j d lt =
+        let n = was_claim c run g t.allocations y r.leaves j in
+        let a : PlacedAllocation = placed_at t.allocations n.number in
+        let x : Claim = claim_of c t.run a in
+        let m : Mode = (claim_of c run (g a)).mode in
+        let is : y ≡ record x { mode = m } = n.is ∙ same n.number m in
+        let near : d < pages_made (object_placed c a) = rw is at lt in
+        rw is (r.headers n.number n.was d near
+        ((st.scene.shown x (own_claim c o t x (claim_among c t.run t.allocations n.number n.was))).headers d near))
 
 -- the run that the header of an object's first page heads
 run_small : (o : Object) (x : Option Header) (p : ℕ) → ShowsPart o 0 x → is_small_object o ≡ true
@@ -100,8 +183,8 @@ module _ (c : Config) (o : Object) (w : World) (cell : Cell) (limits : IsWithinL
       → cell_of_allocation c (placed_at w.allocations i) ≡ cell
   cell_of = standing_cell c o w cell len own st
 
-  keeps : (b : PlacedAllocation) → b.released ≡ false → (frees b).released ≡ false
-  keeps b u = freed_released w.now.words (Some cell) b ∙ u
+  stays_unreleased : (b : PlacedAllocation) → b.released ≡ false → (frees b).released ≡ false
+  stays_unreleased b u = freed_released w.now.words (Some cell) b ∙ u
 
   modes : (run : Option RunPages) → ((i : ℕ) → (placed_at w.allocations i).released ≡ false
       → stands_in w.now.words cell (placed_at w.allocations i) ≡ true
@@ -109,7 +192,7 @@ module _ (c : Config) (o : Object) (w : World) (cell : Cell) (limits : IsWithinL
       → is_unmapping run ((placed_at w.allocations i).base / 64) ≡ true) → Remodes c (ground_of w) run frees
   modes run going = record {
     leaves = freeing_leaves w.now.words (Some cell);
-    keeps = keeps;
+    keeps = stays_unreleased;
     headers = λ i u d ld has.
         at (placed_at w.allocations i) d (header_at w.now.words ((placed_at w.allocations i).base / 64 + d))
         (stands_in w.now.words cell (placed_at w.allocations i)) refl (going i u) (rw none at has);
@@ -136,27 +219,20 @@ module _ (c : Config) (o : Object) (w : World) (cell : Cell) (limits : IsWithinL
       absurd (true≢false (sym small ∙ ap (λ (z : Claim). is_small_object z.object) (sym one) ∙ large)))) tt)
   by (inr large) =
       let run : RunPages = record { page = cell.page; count = pages_made (object_placed c a) } in
+      let s = stand own.number own.unreleased in
+      let in_cell : stands_in w.now.words cell a ≡ true =
+      rw (← own.is) (stands_in_its_cell c w.now.words a limits s.stands s.headers) in
+      let freed : PlacedAllocation = record a { freed = true; fresh = true } in
       rw (run_large _ _ cell.page part large) (remoded c o false w.now.words.marks (ground_of w) (Some run) frees st
-      (modes (Some run) (λ i u h l. eq-eqb cell.page _
-      (sym (ap (λ (x : Cell). x.page) (cell_of i u h))))) (claimed_run run refl refl large))
-    where
-      claimed_run : (run : RunPages) → run.page ≡ cell.page → run.count ≡ pages_made (object_placed c a)
-          → is_small_object (object_placed c a) ≡ false
-          → IsClaimedRun (claims_of c (Some run) (map frees w.allocations)) run
-      claimed_run run at_page count large =
-          let s = stand own.number own.unreleased in
-          let in_cell : stands_in w.now.words cell a ≡ true =
-          rw (← own.is) (stands_in_its_cell c w.now.words a limits s.stands s.headers) in
-          let freed : PlacedAllocation = record a { freed = true; fresh = true } in
-          record {
-            claim = claim_of c (Some run) freed;
-            among = rw (cond-true _ freed a in_cell) at (changed_among c (Some run) frees w.allocations own.number
-                (freeing_leaves w.now.words (Some cell)) (keeps a own.unreleased));
-            page = page ∙ sym at_page;
-            count = sym count;
-            large = large;
-            mode = rw large (rw (eq-eqb run.page (a.base / 64) (at_page ∙ sym page)));
-          }
+      (modes (Some run) (λ i u h l. eq-eqb cell.page _ (sym (ap (λ (x : Cell). x.page) (cell_of i u h))))) (record {
+        claim = claim_of c (Some run) freed;
+        among = rw (cond-true _ freed a in_cell) at (changed_among c (Some run) frees w.allocations own.number
+            (freeing_leaves w.now.words (Some cell)) (stays_unreleased a own.unreleased));
+        page = page;
+        count = refl;
+        large = large;
+        mode = rw large (rw (eq-eqb cell.page (a.base / 64) (sym page)));
+      }))
 
   pub freed_terrain : Behind
   freed_terrain = by (cases_Bool (is_small_object (object_placed c a)))

@@ -8,8 +8,8 @@ use Rattle.mk_laws.proofs.Vocabulary.{cases_Bool, cases_eq, cases_lt, cell_freed
 use Rattle.mk_laws.proofs.Vocabulary.{false≢true, first_page_shows, flight_of, found, freed_cell, get_or-set_other}
 use Rattle.mk_laws.proofs.Vocabulary.{get_or-set_same, get_or_append_left, get_or_past, header_in, heads_run}
 use Rattle.mk_laws.proofs.Vocabulary.{if◌then◌else◌, image_of, image_scene_of, inl, inr, is_decided_free}
-use Rattle.mk_laws.proofs.Vocabulary.{is_decided_free_at, is_new_at, is_phase, is_small_object, is_undecided_free}
-use Rattle.mk_laws.proofs.Vocabulary.{is_undecided_new, length, length-map, ltb-true, not, nothing_done, object_placed}
+use Rattle.mk_laws.proofs.Vocabulary.{is_decided_free_at, is_new_at, is_small_object, is_undecided_free}
+use Rattle.mk_laws.proofs.Vocabulary.{is_undecided_new, length, length-map, ltb-true, nothing_done, object_placed}
 use Rattle.mk_laws.proofs.Vocabulary.{or_else, p_of, placed_at, pointed_cell, progress, progress_freed, refl}
 use Rattle.mk_laws.proofs.Vocabulary.{register_at, run_begins, run_headed, run_of_cell, sees_double, set_by}
 use Rattle.mk_laws.proofs.Vocabulary.{slice_index_or, slice_set, small_heads_none, still, subst, sym, true, typed_size}
@@ -40,9 +40,8 @@ new_is_undecided : (s : Stage) (o : Op) → is_new_at s o ≡ true → is_decide
 new_is_undecided Stage.Give (Op.Free p) new free = cc
 new_is_undecided _ _ new free = cc
 
-pub frees_run : (c : Config) (m : Moment) (k : ℕ) (run : RunPages) → Orderly c (view_of m)
-    → HoldsTurn c (view_of m) (Caller k) → m.seats.holding.freed ≡ Some run
-    → is_decided_free (flight_of m (Caller k)) ≡ true
+pub frees_run : (c : Config) (m : Moment) (k : ℕ) (run : RunPages) → Orderly c (view_of m) → HoldsTurn c (view_of m)
+    (Caller k) → m.seats.holding.freed ≡ Some run → is_decided_free (flight_of m (Caller k)) ≡ true
 frees_run c m k run o hold e = rw (holders_flight c (view_of m) (Caller k) o hold) at (o.served.freed (rw e))
 
 -- While a New is undecided no run is freed.
@@ -163,16 +162,10 @@ module _ (c : Config) (w : World) (n : NeverState) (known : KnownWorld c w) (oth
   ready : Ready c.globals mirrors.safe.0 (image_scene_of w) n
   ready = ready_of c w n known mirrors st mirrors.safe.0 mirrors.safe.1
 
-  -- who is in a decided Free holds the turn
-  holds : (k : ℕ) → k < c.callers → is_decided_free (flight_of w.now (Caller k)) ≡ true
-      → HoldsTurn c (view_of w.now) (Caller k)
-  holds k lt free = (lt, decided_free_stands _ _ free)
-
   -- what a register points at is there after the event
-  points_on : (e : Event) (k r : ℕ) (run : RunPages)
-      → IsLonger (bases_of w.allocations) (bases_of (world_behind c w e).allocations)
-      → register_at (never_after c w n e) k r ≡ register_at n k r → PointsAtRun w n k r run
-      → PointsAtRun (world_behind c w e) (never_after c w n e) k r run
+  points_on : (e : Event) (k r : ℕ) (run : RunPages) → IsLonger (bases_of w.allocations)
+      (bases_of (world_behind c w e).allocations) → register_at (never_after c w n e) k r ≡ register_at n k r
+      → PointsAtRun w n k r run → PointsAtRun (world_behind c w e) (never_after c w n e) k r run
   points_on e k r run grows same h =
       let sound : IsSound n (Ptr h.number h.ty h.offset) = rw h.is at (mirrors.typed.registers (8 * k + r)) in
       let there : h.number < length n.allocations = sound.0 in
@@ -302,7 +295,7 @@ module _ (c : Config) (w : World) (n : NeverState) (known : KnownWorld c w) (oth
         turns_stand f.stage f.op (of_turn f.stage f.op (Step.Quar p v) refl refl h.order)
             (not_astray c w.now known.now.orderly j lj),
       ) in
-      let tk = turn_of c (view_of w.now) (Caller k) known.now.orderly (holds k lk was) in
+      let tk = turn_of c (view_of w.now) (Caller k) known.now.orderly (lk, decided_free_stands _ _ was) in
       absurd (ne (omega arith))
     where
       there : (k : ℕ) → is_decided_free (flight_of w.now (Caller k)) ≡ true → k < c.callers
@@ -322,30 +315,18 @@ module _ (c : Config) (w : World) (n : NeverState) (known : KnownWorld c w) (oth
     | inr ne ↦ other_new j k p v run ne h
   ]
 
-  host_owns : (x : Step) → GrowsBehind Host x → (run : RunPages) → WasFreed c w at_rest run x → (k : ℕ)
-      → OwnsBehind Host x run k
-  host_owns x grows run (Before old g) k free =
-      points_on (event_of Host x) k _ run grows refl (mirrors.freed_run run old k free)
-  host_owns x grows run (Now p v heads) k free = absurd (no_run w.now.words _ run heads)
+  -- Where no call is in flight, it was freed before.
+  was_before : {x : Step} (run : RunPages) → WasFreed c w at_rest run x → w.now.seats.holding.freed ≡ Some run
+  was_before run (Before old g) = old
+  was_before run (Now p v heads) = absurd (no_run w.now.words _ run heads)
 
-  owns : (seat : Seat) (x : Step) → Meets c w.now seat x → GrowsBehind seat x
+  pub owns : (seat : Seat) (x : Step) → Meets c w.now seat x → GrowsBehind seat x
       → AreAdmitted c.globals n (asked (call_decided c w.now (event_of seat x)))
       → OwnsFreedRun (world_behind c w (event_of seat x)) (never_after c w n (event_of seat x))
   owns (Caller j) x h grows ad run e k free = caller_owns j x h grows ad run (was_freed c w (Caller j) _ x run e) k free
-  owns Host x h grows ad run e k free = host_owns x grows run (was_freed c w Host at_rest x run e) k free
+  owns Host x h grows ad run e k free =
+      let old = was_before run (was_freed c w Host at_rest x run e) in
+      points_on (event_of Host x) k _ run grows refl (mirrors.freed_run run old k free)
   owns (Marker j) x h grows ad run e k free =
-      points_on (event_of (Marker j) x) k _ run grows refl (mirrors.freed_run run (marker_freed x e) k free)
-    where
-      marker_freed : (x : Step) → freed_behind c w (Marker j) at_rest x ≡ Some run
-          → w.now.seats.holding.freed ≡ Some run
-      marker_freed x e = by x (was_freed c w (Marker j) at_rest x run e)
-        where
-          by : (x : Step) → WasFreed c w at_rest run x → w.now.seats.holding.freed ≡ Some run
-          by x (Before old g) = old
-          by x (Now p v heads) = absurd (no_run w.now.words (not (is_phase w.now.words 4)) run heads)
-
-pub freed_run_stays : (c : Config) (w : World) (n : NeverState) (e : Event) → KnownWorld c w → ImagePremises c w
-    → Mirrors c w n → Meets c w.now e.seat e.step
-    → IsLonger (bases_of w.allocations) (bases_of (world_behind c w e).allocations)
-    → AreAdmitted c.globals n (asked (call_decided c w.now e)) → OwnsFreedRun (world_behind c w e) (never_after c w n e)
-freed_run_stays c w n e known others mirrors h grows ad = owns c w n known others mirrors e.seat e.step h grows ad
+      let old = was_before run (was_freed c w (Marker j) at_rest x run e) in
+      points_on (event_of (Marker j) x) k _ run grows refl (mirrors.freed_run run old k free)

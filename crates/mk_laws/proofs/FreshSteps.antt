@@ -1,15 +1,15 @@
 -- The count of fresh words that is kept beside the table is that of the allocations, after each kind of event.
 use Rattle.std.proofs.Common.{min}
-use Rattle.mk_laws.proofs.Vocabulary.{Bool, Cell, Config, Header, KeepsSnapshot, List, None, Object, Option}
-use Rattle.mk_laws.proofs.Vocabulary.{PlacedAllocation, Seat, ShowsPart, Some, StandsInOrder, Step, World, ℕ, and_parts}
-use Rattle.mk_laws.proofs.Vocabulary.{ap, arith, cases_lt, cell_freed, cell_of_allocation, changed_at, cond-true, false}
-use Rattle.mk_laws.proofs.Vocabulary.{false_from_ne_true, first_page_shows, flight_of, freed_cell}
-use Rattle.mk_laws.proofs.Vocabulary.{freed_where_it_stands, fresh_words_of, get_or_past, ground_of, header_in}
-use Rattle.mk_laws.proofs.Vocabulary.{heads_run, if◌then◌else◌, in_a_word, is_large, is_phase, is_small_object}
-use Rattle.mk_laws.proofs.Vocabulary.{kinds_of, large_is_not_small, length, map, none_freed, not, not-true, object_now}
-use Rattle.mk_laws.proofs.Vocabulary.{object_placed, part_words, placed_at, refl, released_leaves, small_heads_none}
-use Rattle.mk_laws.proofs.Vocabulary.{stands_in, subst, sym, true, true≢false, with_released, words_made, words_under}
-use Rattle.mk_laws.proofs.Vocabulary.{◌&&◌, ◌+◌, ◌-◌, ◌<◌, ◌^◌, ◌||◌, ◌∙◌, ◌≡◌, ◌≢◌}
+use Rattle.mk_laws.proofs.Vocabulary.{Bool, Cell, Config, Header, List, None, Object, Option, PlacedAllocation, Seat}
+use Rattle.mk_laws.proofs.Vocabulary.{ShowsPart, Some, StandsInOrder, Step, World, ℕ, and_parts, ap, arith, cases_lt}
+use Rattle.mk_laws.proofs.Vocabulary.{cell_freed, cell_of_allocation, changed_at, cond-true, false, false_from_ne_true}
+use Rattle.mk_laws.proofs.Vocabulary.{first_page_shows, flight_of, freed_cell, freed_where_it_stands, fresh_words_of}
+use Rattle.mk_laws.proofs.Vocabulary.{get_or_past, ground_of, header_in, heads_run, if◌then◌else◌, in_a_word, is_large}
+use Rattle.mk_laws.proofs.Vocabulary.{is_phase, is_small_object, kinds_of, large_is_not_small, length, map, none_freed}
+use Rattle.mk_laws.proofs.Vocabulary.{not, not-true, object_now, object_placed, part_words, placed_at, refl}
+use Rattle.mk_laws.proofs.Vocabulary.{released_leaves, small_heads_none, stands_in, subst, sym, true, true≢false}
+use Rattle.mk_laws.proofs.Vocabulary.{with_released, words_made, words_under, ◌&&◌, ◌+◌, ◌-◌, ◌<◌, ◌^◌, ◌||◌, ◌∙◌, ◌≡◌}
+use Rattle.mk_laws.proofs.Vocabulary.{◌≢◌}
 use Rattle.mk_core.{proofs.ObjectHeaders.part_heads_run, specs.Effects.words_freed}
 use Rattle.mk_laws.proofs.Basics.{Before, Laid, Meets, WorldBehind, all_stand, apart_left}
 use Rattle.mk_laws.proofs.FreshWords.{CountsAsBefore, fresh_kept, fresh_more, fresh_part, fresh_pushed, no_part}
@@ -47,9 +47,8 @@ module _ (c : Config) (w : World) (cell : Cell) (n : ℕ) (b : Before c w) (off 
   own = placed_at w.allocations x.own.number
 
   -- the others stay
-  others_count : (i : ℕ) → i ≢ x.own.number → (stand : Bool)
-      → stands_in w.now.words cell (placed_at w.allocations i) ≡ stand
-      → fresh_part c (if stand then freed_fresh (placed_at w.allocations i) else placed_at w.allocations i)
+  others_count : (i : ℕ) → i ≢ x.own.number → (stand : Bool) → stands_in w.now.words cell (placed_at w.allocations i)
+      ≡ stand → fresh_part c (if stand then freed_fresh (placed_at w.allocations i) else placed_at w.allocations i)
       ≡ fresh_part c (placed_at w.allocations i)
   others_count i ne false is = refl
   others_count i ne true is =
@@ -97,12 +96,11 @@ module _ (c : Config) (w : World) (cell : Cell) (n : ℕ) (b : Before c w) (off 
 none_added : (n s : ℕ) → n ≡ in_a_word s → min (n + 0) (2 ^ 64 - 1) ≡ in_a_word s
 none_added n s is = omega arith
 
-some_added : (n s d t : ℕ) → n ≡ in_a_word s → t ≡ s + d → min (n + d) (2 ^ 64 - 1) ≡ in_a_word t
-some_added n s d t is sum = omega arith
-
-quar_told : (c : Config) (w : World) (seat : Seat) (p n : ℕ) → Before c w → Meets c w.now seat (Step.Quar p n)
-    → StandsInOrder c w → FreshTold c w → FreshTold c (WorldBehind c w seat (Step.Quar p n))
-quar_told c w seat p n b h order told = by (cell_freed c.pages w.now.words (flight_of w.now seat) p n) refl
+-- each kind of event, whatever the seat
+pub fresh_told_behind : (c : Config) (w : World) (seat : Seat) (x : Step) → Before c w → Meets c w.now seat x
+    → StandsInOrder c w → FreshTold c w → FreshTold c (WorldBehind c w seat x)
+fresh_told_behind c w seat (Step.Quar p n) b h order told =
+    by (cell_freed c.pages w.now.words (flight_of w.now seat) p n) refl
   where
     by : (cell : Option Cell) → cell_freed c.pages w.now.words (flight_of w.now seat) p n ≡ cell
         → min (w.now.fresh_words + words_freed w.now.words cell) (2 ^ 64 - 1)
@@ -112,13 +110,11 @@ quar_told c w seat p n b h order told = by (cell_freed c.pages w.now.words (flig
     by (Some cell) is =
         let x = freed_cell c.pages w.now.words _ p n cell is in
         let sum = fresh_freed c w cell n b x.phase order (frees_here c w seat p n cell b h order.laid x) in
-        some_added _ _ _ _ told sum
-
--- `release`: what is fresh stays
-release_told : (c : Config) (w : World) (seat : Seat) → KeepsSnapshot c w
-    → KeepsSnapshot c (WorldBehind c w seat Step.Release) → FreshTold c w
-    → FreshTold c (WorldBehind c w seat Step.Release)
-release_told c w seat s now told = told ∙ ap in_a_word (sym (fresh_kept c _ w.allocations same))
+        omega arith
+fresh_told_behind c w seat Step.Begin b h order told = ap in_a_word (sym (none_fresh c w.allocations))
+fresh_told_behind c w seat Step.Grant b h order told = told ∙ ap in_a_word (sym (fresh_pushed c w.allocations _ refl))
+fresh_told_behind c w seat Step.Release b h order told =
+    told ∙ ap in_a_word (sym (fresh_kept c _ w.allocations same))
   where
     counted : (released left mapped fresh : Bool) (m : ℕ) → (fresh ≡ true → (released || left) ≡ released)
         → (if (not (released || left) && mapped) && fresh then m else 0)
@@ -126,21 +122,13 @@ release_told c w seat s now told = told ∙ ap in_a_word (sym (fresh_kept c _ w.
     counted released left mapped true m stays = ap (λ b. if (not b && mapped) && true then m else 0) (stays refl)
     counted released left mapped false m stays = no_part _ m ∙ sym (no_part _ m)
 
+    -- what is fresh stays
     same : (i : ℕ) → CountsAsBefore c (with_released c w.now.words) (placed_at w.allocations i)
     same i =
         let a : PlacedAllocation = placed_at w.allocations i in
         let at = changed_at _ w.allocations i (released_leaves c w.now.words).none in
+        let now = snapshot_behind c w seat Step.Release b h order.laid order.quarantined order.snapshot in
         counted a.released _ (not (a.freed && is_large (kinds_of c.types a.ty))) a.fresh _ (λ f.
         let behind = now.fresh i (ap (λ (y : PlacedAllocation). y.fresh) at ∙ f) in
-        ap (λ (y : PlacedAllocation). y.released) (sym at) ∙ behind.1 ∙ sym (s.fresh i f).1)
-
--- each kind of event, whatever the seat
-pub fresh_told_behind : (c : Config) (w : World) (seat : Seat) (x : Step) → Before c w → Meets c w.now seat x
-    → StandsInOrder c w → FreshTold c w → FreshTold c (WorldBehind c w seat x)
-fresh_told_behind c w seat (Step.Quar p n) b h order told = quar_told c w seat p n b h order told
-fresh_told_behind c w seat Step.Begin b h order told = ap in_a_word (sym (none_fresh c w.allocations))
-fresh_told_behind c w seat Step.Grant b h order told = told ∙ ap in_a_word (sym (fresh_pushed c w.allocations _ refl))
-fresh_told_behind c w seat Step.Release b h order told =
-    let behind = snapshot_behind c w seat Step.Release b h order.laid order.quarantined order.snapshot in
-    release_told c w seat order.snapshot behind told
+        ap (λ (y : PlacedAllocation). y.released) (sym at) ∙ behind.1 ∙ sym (order.snapshot.fresh i f).1)
 fresh_told_behind c w seat _ b h order told = told

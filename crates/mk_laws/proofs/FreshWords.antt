@@ -57,9 +57,8 @@ module _ (c : Config) (change : PlacedAllocation → PlacedAllocation) where
 
   -- where one of them counts so much more
   pub fresh_more : (xs : List PlacedAllocation) (j more : ℕ) → j < length xs
-      → ((i : ℕ) → i ≢ j → CountsAsBefore (placed_at xs i))
-      → fresh_part c (change (placed_at xs j)) ≡ fresh_part c (placed_at xs j) + more
-      → fresh_words_of c (map change xs) ≡ fresh_words_of c xs + more
+      → ((i : ℕ) → i ≢ j → CountsAsBefore (placed_at xs i)) → fresh_part c (change (placed_at xs j))
+      ≡ fresh_part c (placed_at xs j) + more → fresh_words_of c (map change xs) ≡ fresh_words_of c xs + more
   fresh_more [] j more lt same one = absurd (omega arith)
   fresh_more (a ∷ xs) zero more lt same one =
       let rest = fresh_kept xs (λ i. same (suc i) (λ e. omega arith)) in

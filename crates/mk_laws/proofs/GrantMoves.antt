@@ -2,8 +2,8 @@
 use Rattle.mk_laws.proofs.Vocabulary.{Bool, Config, ImagePremises, IsPlaceOfNone, MayHoldWords, Mirrors, NeverState}
 use Rattle.mk_laws.proofs.Vocabulary.{None, Option, Place, PlacedAllocation, RunPages, Some, Words, World, ℕ}
 use Rattle.mk_laws.proofs.Vocabulary.{address_of, all_below-at, allocation_at, and_parts, ap, arith, base_made}
-use Rattle.mk_laws.proofs.Vocabulary.{cases_eq, cell_of_allocation, cells_begin, eqb-true, false, false≢true}
-use Rattle.mk_laws.proofs.Vocabulary.{first_word, header_in, inl, inr, is_left_unmarked, is_phase, is_released_cell}
+use Rattle.mk_laws.proofs.Vocabulary.{cell_of_allocation, cells_begin, eqb-true, false, false≢true, first_word}
+use Rattle.mk_laws.proofs.Vocabulary.{header_in, inl, inr, is_left_unmarked, is_phase, is_released_cell}
 use Rattle.mk_laws.proofs.Vocabulary.{is_run_unmapped, is_some_and, is_unmapped, is_unmapped_header, large_count}
 use Rattle.mk_laws.proofs.Vocabulary.{leb-true, length, ltb-true, nat_le, nat_lt, not, object_placed, or_cases}
 use Rattle.mk_laws.proofs.Vocabulary.{pages_made, phase_of, placed_at, pointed_cell, refl, slice_index, stands}
@@ -12,7 +12,7 @@ use Rattle.mk_laws.proofs.Vocabulary.{unmapped_is_unmapped, word_points, words_o
 use Rattle.mk_laws.proofs.Vocabulary.{◌≡◌, ◌≢◌, ◌≤◌}
 use Rattle.mk_core.proofs.GrantedAllocations.{placed_headers, placed_stands}
 use Rattle.mk_core.specs.{Cells.is_in_run, TurnConditions.is_in_gone_run, TurnConditions.may_wipe}
-use Rattle.mk_laws.proofs.Basics.{KnownWorld, Stands, exists_placed, unmapped_is, words_fit}
+use Rattle.mk_laws.proofs.Basics.{KnownWorld, Stands, exists_placed, unmapped_is, words_fit, zero_unless}
 use Rattle.mk_laws.proofs.{ImagesBefore.first_in, ImagesStands.is_gone}
 use Rattle.mk_laws.specs.ImagePremises.{OfFreedRun, OfMapped, OfReleased}
 
@@ -42,10 +42,7 @@ module _ (c : Config) (w : World) (n : NeverState) (known : KnownWorld c w) (mir
       → phase_of w.now.words ≢ 4 → a.base ≡ base_made (object_placed c a) place
       → IsPlaceOfNone c w (object_placed c a) place → FillsCell c w.now.words a → (i : ℕ) → i < storage_words c a
       → slice_index w.now.words.heap (a.base + i) ≡ 0
-  place_is_zero a place no_run phase base h fills i lt = elim (cases_eq (slice_index w.now.words.heap (a.base + i)) 0) [
-    | inl z ↦ z
-    | inr ne ↦ absurd (by (others.zero_words (a.base + i) ne))
-  ]
+  place_is_zero a place no_run phase base h fills i lt = zero_unless _ (λ ne. by (others.zero_words (a.base + i) ne))
     where
       by : MayHoldWords c w (a.base + i) → ⊥
       by (OfMapped j m is) =

@@ -1,29 +1,29 @@
 -- `grant` on the terrain: what is granted is the claim of its place.
 use Rattle.mk_laws.proofs.Vocabulary.{BeginsAtCell, Bool, Config, Granted, Ground, HasLayout, IsLaidOn, IsShown, List}
 use Rattle.mk_laws.proofs.Vocabulary.{None, NoPlot, Option, Place, PlacedAllocation, RunPages, RunStands, Some, Used, ℕ}
-use Rattle.mk_laws.proofs.Vocabulary.{append-nil, base_made, cell_of_allocation, claim_of, claims_of, cond-false, false}
-use Rattle.mk_laws.proofs.Vocabulary.{if◌then◌else◌, inl, inr, layout_scene_of, length, object_placed, place_claim}
-use Rattle.mk_laws.proofs.Vocabulary.{placed_at, refl, suc, sym, true, true≢false, zero, [], ◌++◌, ◌/◌, ◌<◌, ◌∙◌, ◌∷◌}
-use Rattle.mk_laws.proofs.Vocabulary.{◌≡◌, ◌⊎◌}
+use Rattle.mk_laws.proofs.Vocabulary.{append-nil, arith, base_made, cell_of_allocation, claim_of, claims_of, cond-false}
+use Rattle.mk_laws.proofs.Vocabulary.{false, if◌then◌else◌, inl, inr, layout_scene_of, length, object_placed}
+use Rattle.mk_laws.proofs.Vocabulary.{place_claim, placed_at, refl, suc, sym, true, zero, [], ◌++◌, ◌/◌, ◌<◌, ◌∙◌, ◌∷◌}
+use Rattle.mk_laws.proofs.Vocabulary.{◌≡◌, ◌≤◌, ◌⊎◌}
 use Rattle.mk_core.proofs.StandingAllocations.{made_begins}
 use Rattle.mk_laws.proofs.{Released.place_index, Serving.among_back, Serving.among_front}
 
 -- An allocation after a `grant` is one from before, or the new one.
-pub pushed_at : (xs : List PlacedAllocation) (a : PlacedAllocation) (i : ℕ)
-    → (placed_at (xs ++ a ∷ []) i).released ≡ false
-    → (((placed_at xs i).released ≡ false) × (placed_at (xs ++ a ∷ []) i ≡ placed_at xs i))
-    ⊎ (placed_at (xs ++ a ∷ []) i ≡ a)
-pushed_at [] a zero u = inr refl
-pushed_at [] a (suc i) u = absurd (true≢false u)
-pushed_at (x ∷ xs) a zero u = inl (u, refl)
-pushed_at (x ∷ xs) a (suc i) u = pushed_at xs a i u
+pub pushed_new : (xs : List PlacedAllocation) (a : PlacedAllocation) (i : ℕ)
+    → (placed_at (xs ++ a ∷ []) i ≡ placed_at xs i) ⊎ ((placed_at (xs ++ a ∷ []) i ≡ a) × (length xs ≤ i))
+pushed_new [] a zero = inr (refl, omega arith)
+pushed_new [] a (suc i) = inl refl
+pushed_new (x ∷ xs) a zero = inl refl
+pushed_new (x ∷ xs) a (suc i) = elim (pushed_new xs a i) [ inl e ↦ inl e | inr e ↦ inr (e.0, omega (arith, e.1)) ]
 
 pub pushed_any : (xs : List PlacedAllocation) (a : PlacedAllocation) (i : ℕ)
     → (placed_at (xs ++ a ∷ []) i ≡ placed_at xs i) ⊎ (placed_at (xs ++ a ∷ []) i ≡ a)
-pushed_any [] a zero = inr refl
-pushed_any [] a (suc i) = inl refl
-pushed_any (x ∷ xs) a zero = inl refl
-pushed_any (x ∷ xs) a (suc i) = pushed_any xs a i
+pushed_any xs a i = elim (pushed_new xs a i) [ inl e ↦ inl e | inr e ↦ inr e.0 ]
+
+pub pushed_at : (xs : List PlacedAllocation) (a : PlacedAllocation) (i : ℕ) → (placed_at (xs ++ a ∷ []) i).released
+    ≡ false → (((placed_at xs i).released ≡ false) × (placed_at (xs ++ a ∷ []) i ≡ placed_at xs i))
+    ⊎ (placed_at (xs ++ a ∷ []) i ≡ a)
+pushed_at xs a i u = elim (pushed_any xs a i) [ inl e ↦ inl (rw (← e) u, e) | inr e ↦ inr e ]
 
 -- One that was there is.
 pub still_at : (xs : List PlacedAllocation) (a : PlacedAllocation) (i : ℕ) → (placed_at xs i).released ≡ false

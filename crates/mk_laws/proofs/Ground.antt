@@ -1,14 +1,15 @@
 -- What an event may do to what stands on the pages and to the quarantine, by the conditions under which it does so.
-use Rattle.mk_laws.proofs.Vocabulary.{Access, Bool, Caller, Cell, Config, Flight, Granted, Ground, List, Load, Moment}
-use Rattle.mk_laws.proofs.Vocabulary.{Named, None, Op, Option, Page, Seat, Some, Stage, Step, Store, Tally, Unplaced}
-use Rattle.mk_laws.proofs.Vocabulary.{Word, Words, World, ℕ, accessed, and_parts, carves, cell_freed, chosen, empties}
-use Rattle.mk_laws.proofs.Vocabulary.{eqb-false, eqb-true, false, flight_of, freed_where_it_stands, frees, gives_back}
-use Rattle.mk_laws.proofs.Vocabulary.{granted, ground_of, header_at, if◌then◌else◌, inl, inr, is_phase}
-use Rattle.mk_laws.proofs.Vocabulary.{is_undecided_new, is_used_once, map, marks_place, no_longer_fresh, not, not-true}
-use Rattle.mk_laws.proofs.Vocabulary.{nothing_done, object_made, or_cases, or_else, phase_of, place_now, refl}
-use Rattle.mk_laws.proofs.Vocabulary.{run_of_cell, slice_set, taken, takes_cell, tally_word, target, true, unmaps}
-use Rattle.mk_laws.proofs.Vocabulary.{used_at, with_released, [], ◌%◌, ◌&&◌, ◌++◌, ◌/◌, ◌==◌, ◌^◌, ◌||◌, ◌∷◌, ◌≡◌, ◌≢◌}
-use Rattle.mk_laws.proofs.Vocabulary.{◌≤◌, ◌⊎◌}
+use Rattle.mk_laws.proofs.Vocabulary.{Bool, Caller, Cell, Config, Flight, Granted, Ground, List, Moment, None, Op}
+use Rattle.mk_laws.proofs.Vocabulary.{Option, Page, Seat, Some, Stage, Step, Tally, Unplaced, Words, World, ℕ}
+use Rattle.mk_laws.proofs.Vocabulary.{and_parts, carves, cell_freed, chosen, empties, eqb-false, eqb-true, false}
+use Rattle.mk_laws.proofs.Vocabulary.{flight_of, freed_where_it_stands, frees, gives_back, granted, ground_of}
+use Rattle.mk_laws.proofs.Vocabulary.{header_at, if◌then◌else◌, inl, inr, is_phase, is_undecided_new, is_used_once, map}
+use Rattle.mk_laws.proofs.Vocabulary.{marks_place, no_longer_fresh, not, not-true, nothing_done, object_made, or_cases}
+use Rattle.mk_laws.proofs.Vocabulary.{or_else, phase_of, place_now, refl, run_of_cell, slice_set, taken, takes_cell}
+use Rattle.mk_laws.proofs.Vocabulary.{target, true, unmaps, used_at, with_released, [], ◌%◌, ◌&&◌, ◌++◌, ◌/◌, ◌==◌, ◌^◌}
+use Rattle.mk_laws.proofs.Vocabulary.{◌||◌, ◌∷◌, ◌≡◌, ◌≢◌, ◌≤◌, ◌⊎◌}
+use Rattle.mk_core.proofs.RegisterAccesses.{register_leaves, tally_leaves}
+pub use Rattle.mk_core.proofs.RegisterAccesses.{LeavesTable as KeepsGround}
 use Rattle.mk_core.specs.TurnConditions.{drops, may_give, may_head, may_quarantine, may_use, takes_snapshot}
 use Rattle.mk_laws.proofs.Actors.{Meets, grants_new}
 use Rattle.mk_laws.proofs.{Asked.give_phase, NextSteps.at_no_take, NextSteps.at_take, OthersMoves.WorldBehind}
@@ -66,23 +67,14 @@ pub data GroundStep (c : Config) (w : World) (f : Flight) : Ground → Type 0 wh
   Gives : may_give w.now f ≡ true → (phase_of w.now.words ≤ 1) ⊎ (phase_of w.now.words ≡ 5)
       → GroundStep c w f (record (ground_of w) { placing = Unplaced; run = None })
   Carves : (p n : ℕ) → carves w.now.words (object_made c f.op) (place_now c w.now f) p n ≡ true
-      → phase_of w.now.words ≢ 4 → GroundStep c w f (record (ground_of w) {
-        pages = with_header w.now.words p n;
-        placing = chosen w.now.seats.holding.placing (place_now c w.now f);
-      })
+      → phase_of w.now.words ≢ 4 → GroundStep c w f (headed c w f p n false)
   Unmaps : (p n : ℕ) → unmaps w.now.words w.now.seats.holding.freed p n ≡ true → phase_of w.now.words ≢ 4
-      → GroundStep c w f (record (ground_of w) {
-        pages = with_header w.now.words p n;
-        placing = chosen w.now.seats.holding.placing (place_now c w.now f);
-      })
+      → GroundStep c w f (headed c w f p n false)
   Empties : (p n : ℕ) → empties w.now.words p n ≡ true → phase_of w.now.words ≡ 4
       → GroundStep c w f (record (ground_of w) { pages = with_header w.now.words p n })
   TakesCell : (p n : ℕ) → is_used_once w.now.seats.holding.placing ≡ false
       → takes_cell w.now.words (object_made c f.op) (place_now c w.now f) p n ≡ true → phase_of w.now.words ≢ 4
-      → GroundStep c w f (record (ground_of w) {
-        pages = with_used w.now.words p n;
-        placing = taken w.now.seats.holding.placing (place_now c w.now f);
-      })
+      → GroundStep c w f (used_up c w f p n false)
   GivesBack : (p n : ℕ) → gives_back w.now.words p n ≡ true → phase_of w.now.words ≡ 4
       → GroundStep c w f (record (ground_of w) { pages = with_used w.now.words p n })
   Frees : (p n : ℕ) (cell : Option Cell) → cell_freed c.pages w.now.words f p n ≡ cell
@@ -105,111 +97,79 @@ pub data GroundStep (c : Config) (w : World) (f : Flight) : Ground → Type 0 wh
   Releases : phase_of w.now.words ≡ 3
       → GroundStep c w f (record (ground_of w) { allocations = map (with_released c w.now.words) w.allocations })
 
--- the words of the ground are the same
-pub record KeepsGround (w x : Words) : Type 0 where
-  pub pages : x.pages ≡ w.pages
-  pub freed : x.freed ≡ w.freed
-  pub snapshot : x.snapshot ≡ w.snapshot
-
-pub tally_ground : (w : Words) (n : Tally) (v : ℕ) → KeepsGround w (accessed w (Named (tally_word n)) (Store v))
-tally_ground w Tally.Held v = record { pages = refl; freed = refl; snapshot = refl }
-tally_ground w _ v = record { pages = refl; freed = refl; snapshot = refl }
-
-pub reg_ground : (w : Words) (k r : ℕ) (a : Access) → KeepsGround w (accessed w (Named (Word.Reg k r)) a)
-reg_ground w k r Load = record { pages = refl; freed = refl; snapshot = refl }
-reg_ground w k r _ = record { pages = refl; freed = refl; snapshot = refl }
-
-rests : (c : Config) (w : World) (f : Flight) (x : Words) → KeepsGround w.now.words x
-    → GroundStep c w f (record (ground_of w) { pages = x.pages; freed = x.freed; snapshot = x.snapshot })
-rests c w f x g = rw g.pages (rw g.freed (rw g.snapshot Rests))
-
--- the kinds that go by the phase
-
-head_step : (c : Config) (w : World) (f : Flight) (p n : ℕ) → may_head c w.now f p n ≡ true
-    → GroundStep c w f (headed c w f p n (is_phase w.now.words 4))
-head_step c w f p n h = by (is_phase w.now.words 4) refl h
-  where
-    carved : Bool
-    carved = carves w.now.words (object_made c f.op) (place_now c w.now f) p n
-
-    unmapped : Bool
-    unmapped = unmaps w.now.words w.now.seats.holding.freed p n
-
-    by : (b : Bool) → is_phase w.now.words 4 ≡ b → (if b then empties w.now.words p n else carved || unmapped) ≡ true
-        → GroundStep c w f (headed c w f p n b)
-    by true e k = Empties p n k (eqb-true _ 4 e)
-    by false e k = elim (or_cases carved unmapped k) [
-      | inl a ↦ Carves p n a (eqb-false _ 4 e)
-      | inr a ↦ Unmaps p n a (eqb-false _ 4 e)
-    ]
-
-used_step : (c : Config) (w : World) (f : Flight) (p n : ℕ) → may_use c w.now f p n ≡ true
-    → GroundStep c w f (used_up c w f p n (is_phase w.now.words 4))
-used_step c w f p n h = by (is_phase w.now.words 4) refl h
-  where
-    takes : Bool
-    takes = takes_cell w.now.words (object_made c f.op) (place_now c w.now f) p n
-
-    by : (b : Bool) → is_phase w.now.words 4 ≡ b
-        → (if b then gives_back w.now.words p n else not (is_used_once w.now.seats.holding.placing) && takes) ≡ true
-        → GroundStep c w f (used_up c w f p n b)
-    by true e k = GivesBack p n k (eqb-true _ 4 e)
-    by false e k = TakesCell p n (not-true _ (and_parts _ takes k).0) (and_parts _ takes k).1 (eqb-false _ 4 e)
-
-quar_step : (c : Config) (w : World) (f : Flight) (p n : ℕ) → may_quarantine c w.now f p n ≡ true
-    → GroundStep c w f (with_quarantine w p n (cell_freed c.pages w.now.words f p n))
-quar_step c w f p n h = by (is_phase w.now.words 4) refl h
-  where
-    frees_it : Bool
-    frees_it = frees w.now.words (target c.pages w.now.words f) p n
-
-    snaps : Bool
-    snaps = takes_snapshot w.now.words p n
-
-    by : (b : Bool) → is_phase w.now.words 4 ≡ b
-        → (if b then drops w.now.words p (n % 2 ^ 32) (n / 2 ^ 32) else frees_it || snaps) ≡ true
-        → GroundStep c w f (with_quarantine w p n (cell_freed c.pages w.now.words f p n))
-    by true e k = Drops p n (cell_freed c.pages w.now.words f p n) refl k (eqb-true _ 4 e)
-    by false e k = elim (or_cases frees_it snaps k) [
-      | inl a ↦ Frees p n (cell_freed c.pages w.now.words f p n) refl a (eqb-false _ 4 e)
-      | inr a ↦ Snapshots p n (cell_freed c.pages w.now.words f p n) refl a
-    ]
-
-mark_step : (c : Config) (w : World) (f : Flight) (p n : ℕ)
-    → GroundStep c w f (marked c w f (marks_place w.now.words (object_made c f.op) (place_now c w.now f) p n))
-mark_step c w f p n = by (marks_place w.now.words (object_made c f.op) (place_now c w.now f) p n) refl
-  where
-    by : (b : Bool) → marks_place w.now.words (object_made c f.op) (place_now c w.now f) p n ≡ b
-        → GroundStep c w f (marked c w f b)
-    by true e = Places p n e
-    by false e = Rests
-
-take_step : (c : Config) (w : World) (f : Flight) → f.stage ≡ Stage.Idle
-    → GroundStep c w f (begun_by w (w.now.words.turn == 0))
-take_step c w f idle = by (w.now.words.turn == 0) refl
-  where
-    by : (b : Bool) → (w.now.words.turn == 0) ≡ b → GroundStep c w f (begun_by w b)
-    by true e = Starts (eqb-true w.now.words.turn 0 e) idle
-    by false e = Rests
-
 taker_idle : (c : Config) (m : Moment) (seat : Seat) (o : Option Op) → Meets c m seat (Step.Take o)
     → (flight_of m seat).stage ≡ Stage.Idle
 taker_idle c m (Caller k) (Some o) h = (at_take _ _ o h.order).0
 taker_idle c m (Caller k) None h = absurd (at_no_take _ _ h.order)
 taker_idle c m _ o h = refl
 
--- all kinds, whatever the seat
-pub ground_step : (c : Config) (w : World) (seat : Seat) (x : Step) → Meets c w.now seat x
-    → GroundStep c w (flight_of w.now seat) (ground_of (WorldBehind c w seat x))
-ground_step c w seat (Step.Take o) h = take_step c w (flight_of w.now seat) (taker_idle c w.now seat o h)
-ground_step c w seat Step.Give h = Gives h.holder (give_phase _ h.phase)
-ground_step c w seat Step.Reg h = rests c w (flight_of w.now seat) _ (reg_ground w.now.words _ _ _)
-ground_step c w seat (Step.Tally n v) h = rests c w (flight_of w.now seat) _ (tally_ground w.now.words n v)
-ground_step c w seat (Step.Head p n) h = head_step c w (flight_of w.now seat) p n h.holder
-ground_step c w seat (Step.Used p n) h = used_step c w (flight_of w.now seat) p n h.holder
-ground_step c w seat (Step.Quar p n) h = quar_step c w (flight_of w.now seat) p n h.holder
-ground_step c w seat Step.Grant h = Grants (grants_new c w.now seat h) h.holder
-ground_step c w seat (Step.Mark p n) h = mark_step c w (flight_of w.now seat) p n
-ground_step c w seat Step.Begin h = Freshens (eqb-true _ 0 h.phase)
-ground_step c w seat Step.Release h = Releases (eqb-true _ 3 h.phase)
-ground_step c w seat _ h = Rests
+module _ (c : Config) (w : World) (seat : Seat) where
+  abbrev f : Flight
+  f = flight_of w.now seat
+
+  rests : (x : Words) → KeepsGround w.now.words x
+      → GroundStep c w f (record (ground_of w) { pages = x.pages; freed = x.freed; snapshot = x.snapshot })
+  rests x g = rw g.pages (rw g.freed (rw g.snapshot Rests))
+
+  -- all kinds, whatever the seat; some go by the phase
+  pub ground_step : (x : Step) → Meets c w.now seat x → GroundStep c w f (ground_of (WorldBehind c w seat x))
+  ground_step (Step.Take o) h = by (w.now.words.turn == 0) refl
+    where
+      by : (b : Bool) → (w.now.words.turn == 0) ≡ b → GroundStep c w f (begun_by w b)
+      by true e = Starts (eqb-true w.now.words.turn 0 e) (taker_idle c w.now seat o h)
+      by false e = Rests
+  ground_step Step.Give h = Gives h.holder (give_phase _ h.phase)
+  ground_step Step.Reg h = rests _ (register_leaves w.now.words _ _ _)
+  ground_step (Step.Tally n v) h = rests _ (tally_leaves w.now.words n v)
+  ground_step (Step.Head p n) h = by (is_phase w.now.words 4) refl h.holder
+    where
+      carved : Bool
+      carved = carves w.now.words (object_made c f.op) (place_now c w.now f) p n
+
+      unmapped : Bool
+      unmapped = unmaps w.now.words w.now.seats.holding.freed p n
+
+      by : (b : Bool) → is_phase w.now.words 4 ≡ b → (if b then empties w.now.words p n else carved || unmapped) ≡ true
+          → GroundStep c w f (headed c w f p n b)
+      by true e k = Empties p n k (eqb-true _ 4 e)
+      by false e k = elim (or_cases carved unmapped k) [
+        | inl a ↦ Carves p n a (eqb-false _ 4 e)
+        | inr a ↦ Unmaps p n a (eqb-false _ 4 e)
+      ]
+  ground_step (Step.Used p n) h = by (is_phase w.now.words 4) refl h.holder
+    where
+      takes : Bool
+      takes = takes_cell w.now.words (object_made c f.op) (place_now c w.now f) p n
+
+      by : (b : Bool) → is_phase w.now.words 4 ≡ b
+          → (if b then gives_back w.now.words p n else not (is_used_once w.now.seats.holding.placing) && takes) ≡ true
+          → GroundStep c w f (used_up c w f p n b)
+      by true e k = GivesBack p n k (eqb-true _ 4 e)
+      by false e k = TakesCell p n (not-true _ (and_parts _ takes k).0) (and_parts _ takes k).1 (eqb-false _ 4 e)
+  ground_step (Step.Quar p n) h = by (is_phase w.now.words 4) refl h.holder
+    where
+      frees_it : Bool
+      frees_it = frees w.now.words (target c.pages w.now.words f) p n
+
+      snaps : Bool
+      snaps = takes_snapshot w.now.words p n
+
+      by : (b : Bool) → is_phase w.now.words 4 ≡ b
+          → (if b then drops w.now.words p (n % 2 ^ 32) (n / 2 ^ 32) else frees_it || snaps) ≡ true
+          → GroundStep c w f (with_quarantine w p n (cell_freed c.pages w.now.words f p n))
+      by true e k = Drops p n (cell_freed c.pages w.now.words f p n) refl k (eqb-true _ 4 e)
+      by false e k = elim (or_cases frees_it snaps k) [
+        | inl a ↦ Frees p n (cell_freed c.pages w.now.words f p n) refl a (eqb-false _ 4 e)
+        | inr a ↦ Snapshots p n (cell_freed c.pages w.now.words f p n) refl a
+      ]
+  ground_step Step.Grant h = Grants (grants_new c w.now seat h) h.holder
+  ground_step (Step.Mark p n) h =
+      by (marks_place w.now.words (object_made c f.op) (place_now c w.now f) p n) refl
+    where
+      by : (b : Bool) → marks_place w.now.words (object_made c f.op) (place_now c w.now f) p n ≡ b
+          → GroundStep c w f (marked c w f b)
+      by true e = Places p n e
+      by false e = Rests
+  ground_step Step.Begin h = Freshens (eqb-true _ 0 h.phase)
+  ground_step Step.Release h = Releases (eqb-true _ 3 h.phase)
+  ground_step _ h = Rests

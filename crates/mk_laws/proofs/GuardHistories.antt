@@ -12,7 +12,7 @@ use Rattle.mk_geom.specs.StorageWords.{cell_of_storage}
 use Rattle.mk_core.proofs.{PointedAllocations.marked_where_its_cell_is, StandingAllocations.cell_is_known}
 use Rattle.mk_core.specs.ClosedMarks.{is_marked_allocation}
 use Rattle.mk_laws.proofs.Basics.{Known, known_at_first, known_behind, known_left}
-use Rattle.mk_laws.proofs.{Closing.closed, GuardOneEvent.marks_behind}
+use Rattle.mk_laws.proofs.{GuardOneEvent.marks_behind, GuardStopped.closed}
 use Rattle.mk_laws.specs.Kept.{CloseFindsMarksClosed, EventsKeepTheMarks, GuardPremisesAtFirst, MarkingGuards}
 use Rattle.mk_laws.specs.Kept.{MarksStandBehindLists, StandsMapped, StoppedMarksAreClosed}
 use Rattle.mk_laws.specs.Guard.{MarksStand}
@@ -56,7 +56,7 @@ closed_allocations c w limits stand closed = grind (arith, closed, and_parts, cl
 
 pub events_keep_the_marks : EventsKeepTheMarks
 events_keep_the_marks c es e limits on enabled say g =
-    marks_behind c (left c es) e.seat e.step limits (known_left c es limits on) (histories_keep_lengths c es) say
+    marks_behind c (left c es) e.seat limits (known_left c es limits on) (histories_keep_lengths c es) say e.step
     (enabled_meets c (left c es).now e enabled) g
 
 -- nothing stands at first: the phase is 0
@@ -71,7 +71,7 @@ marks_from c w [] limits len known on say g = g
 marks_from c w (e ∷ es) limits len known on say g = marks_from c (world_behind c w e) es limits
     (accessed_lengths c.pages w.now.words (word_accessed c w.now e) (access c w.now e) len)
     (known_behind c w.now e known on.0) on.1 say.1
-    (marks_behind c w e.seat e.step limits known len say.0 (enabled_meets c w.now e on.0) g)
+    (marks_behind c w e.seat limits known len say.0 e.step (enabled_meets c w.now e on.0) g)
 
 pub marks_stand_behind_lists : MarksStandBehindLists
 marks_stand_behind_lists c es limits on say =

@@ -1,26 +1,111 @@
 -- One event, whatever it is: what stands while a cycle marks and stops, stands after it.
-use Rattle.mk_laws.proofs.Vocabulary.{AreOfPages, BlackIsGuarded, Bool, Caller, Config, DirtyIsOwed, GuardPremises}
-use Rattle.mk_laws.proofs.Vocabulary.{Host, IsGuarded, IsMarking, IsWithinLimits, Marker, MarkerStands, MarkerState}
-use Rattle.mk_laws.proofs.Vocabulary.{Moment, None, Option, PageIsDirty, PointsWell, Scan, Seat, Some, Step, Words}
-use Rattle.mk_laws.proofs.Vocabulary.{World, ℕ, all_below, all_below-at, and_parts, arith, bit_or, cases_eq, cases_lt}
-use Rattle.mk_laws.proofs.Vocabulary.{cell_words, cells_under, eq-eqb, eqb-true, false, first_word, get_or-set_other}
+use Rattle.mk_laws.proofs.Vocabulary.{AreOfPages, BlackIsGuarded, Bool, Caller, Cell, Config, DirtyIsOwed}
+use Rattle.mk_laws.proofs.Vocabulary.{GuardPremises, Host, IsGuarded, IsMarking, IsWithinLimits, Marker, MarkerStands}
+use Rattle.mk_laws.proofs.Vocabulary.{MarkerState, Moment, None, Option, PageIsDirty, PointsWell, Scan, Seat}
+use Rattle.mk_laws.proofs.Vocabulary.{SeenHeader, Some, Step, Word, Words, World, ℕ, all_below, all_below-at, and_parts}
+use Rattle.mk_laws.proofs.Vocabulary.{arith, behind_mlook, bit_or, cases_eq, cases_lt, cell_at, cell_seen, cell_words}
+use Rattle.mk_laws.proofs.Vocabulary.{cells_under, eq-eqb, eqb-true, false, first_word, found, get_or-set_other}
 use Rattle.mk_laws.proofs.Vocabulary.{get_or_past, has_bit, has_clean_page, has_no_pointers, head_page, header_at}
-use Rattle.mk_laws.proofs.Vocabulary.{header_in, inl, inr, is_attending, is_none, is_phase, is_scanned, marker_of}
-use Rattle.mk_laws.proofs.Vocabulary.{may_turn_black, no_bit, none_attends, not, not-true, or_cases, phase_of, refl}
-use Rattle.mk_laws.proofs.Vocabulary.{scan_page, slice_index, slice_set, subst, suc, sym, true, true≢false}
-use Rattle.mk_laws.proofs.Vocabulary.{word_points_well, words_under, zero, ◌&&◌, ◌*◌, ◌+◌, ◌/◌, ◌<◌, ◌==◌, ◌^◌, ◌||◌}
-use Rattle.mk_laws.proofs.Vocabulary.{◌∙◌, ◌≡◌, ◌≢◌, ◌≤◌, ◌⊎◌}
-use Rattle.mk_core.proofs.WordBits.{bit_of_cell, bit_of_power, more_bits}
-use Rattle.mk_core.specs.{Accesses.scan_bit, Cells.words_point_well, StopConditions.blackens}
+use Rattle.mk_laws.proofs.Vocabulary.{header_in, if◌then◌else◌, inl, inr, is_attending, is_none, is_phase, is_scanned}
+use Rattle.mk_laws.proofs.Vocabulary.{is_some, marker_behind, marker_of, may_turn_black, no_bit, none_attends, not}
+use Rattle.mk_laws.proofs.Vocabulary.{not-true, or_cases, page_at_address, phase_of, refl, scan_page, slice_index}
+use Rattle.mk_laws.proofs.Vocabulary.{slice_set, subst, suc, sym, true, true≢false, word_points_well, words_under, zero}
+use Rattle.mk_laws.proofs.Vocabulary.{◌&&◌, ◌*◌, ◌+◌, ◌/◌, ◌<◌, ◌==◌, ◌^◌, ◌||◌, ◌∙◌, ◌≡◌, ◌≢◌, ◌≤◌, ◌⊎◌}
+use Rattle.mk_core.proofs.WordBits.{bit_for_has, bit_of_cell, bit_of_power, bits_added, more_bits}
+use Rattle.mk_core.proofs.PointedPages.{cell_within}
+use Rattle.mk_core.specs.{Accesses.scan_bit, Cells.words_point_well, MarkerConditions.is_markers_word}
+use Rattle.mk_core.specs.{StopConditions.blackens, declared.seats.Presence.TheVariants.Out}
+use Rattle.mk_laws.proofs.Basics.{Behind, Keeps, Known, Meets, either_phase, headers_kind, is_head, marker_set}
+use Rattle.mk_laws.proofs.Basics.{over_phase, wells_from}
 use Rattle.mk_laws.proofs.Changes.{blacks_kind, dirty_kind, heap_kind, is_blackening, is_undirty, marks_kind, owed_kind}
-use Rattle.mk_laws.proofs.GuardStopped.{leaves_closed, stays_closed}
-use Rattle.mk_laws.proofs.KeptGuard.{NewCellsAreGuarded, black_kept, goes_equal}
-use Rattle.mk_laws.proofs.{Asked.none_at, Basics.Behind, Basics.Keeps, Basics.Known, Basics.Meets, Basics.either_phase}
-use Rattle.mk_laws.proofs.{Basics.headers_kind, Basics.is_head, Basics.over_phase, Basics.wells_from, Closing.closed}
-use Rattle.mk_laws.proofs.{CoveredWords.covered_word, FoundHeaders.head_finds, GuardMarkers.markers_stand}
-use Rattle.mk_laws.proofs.{GuardMarkers.nothing_is, Headers.head_keeps, Headers.no_new_cells, IdleMarkers.work_attends}
-use Rattle.mk_laws.proofs.{Phases.is_phase_step, Phases.phase_stays, Scans.scanned_guarded, Wells.bare_guarded}
+use Rattle.mk_laws.proofs.GuardStopped.{closed, leaves_closed, stays_closed}
+use Rattle.mk_laws.proofs.Headers.{HeadKeeps, head_keeps, no_new_cells}
+use Rattle.mk_laws.proofs.KeptGuard.{NewCellsAreGuarded, black_kept, goes_equal, marker_kept}
+use Rattle.mk_laws.proofs.Scans.{claim_stands, idle_stands, load_stands, look_stands, mark_stands, scanned_guarded}
+use Rattle.mk_laws.proofs.Scans.{seen_well, unscanning_stands, unseen_stands}
+use Rattle.mk_laws.proofs.{Asked.none_at, CoveredWords.covered_word, FoundHeaders.head_finds, IdleMarkers.work_attends}
+use Rattle.mk_laws.proofs.{Phases.is_phase_step, Phases.phase_stays, Wells.bare_guarded}
 use Rattle.mk_laws.specs.Guard.{Guard, MarksStand}
+
+-- What the markers are in the middle of stands after an event that keeps what is guarded.
+
+pub nothing_is : {A : Type 0} (x : Option A) → is_none x ≡ true → x ≡ None
+nothing_is None h = refl
+nothing_is (Some y) h = cc
+
+-- the cell that an `mmark` marks, and the value of the hand
+record Seen (c : Config) (x : MarkerState) : Type 0 where
+  value : ℕ
+  cell : Cell
+  hand : x.hand ≡ Some value
+  is : cell_seen c x.seen x.hand ≡ Some cell
+  page : cell.page < c.pages
+  index : cell.index < 64
+
+seen_cell : (c : Config) (x : MarkerState) → is_some (cell_seen c x.seen x.hand) ≡ true → Seen c x
+seen_cell c x own = by x.seen x.hand refl refl own
+  where
+    by : (seen : Option SeenHeader) (hand : Option ℕ) → x.seen ≡ seen → x.hand ≡ hand
+        → is_some (cell_seen c seen hand) ≡ true → Seen c x
+    by (Some q) (Some value) es eh own = at (q.page == page_at_address value) refl _ refl own
+      where
+        at : (b : Bool) → (q.page == page_at_address value) ≡ b → (y : Option Cell) → cell_at c.pages q.header value ≡ y
+            → is_some (if b then y else None) ≡ true → Seen c x
+        at false e y is own = cc
+        at true e None is own = cc
+        at true e (Some y) is own =
+            let n = cell_within c.pages q.header value y is in
+            let there : cell_seen c (Some q) (Some value) ≡ Some y = rw (e, is) in
+            record { value = value; cell = y; hand = eh; is = rw es (rw eh there); page = n.0; index = n.1 }
+    by _ _ es eh own = cc
+
+looks : (c : Config) (m : Moment) (x : Word) (y : MarkerState) (f : ℕ)
+    → ((p : ℕ) → x ≡ Word.Head p → f ≡ header_at m.words p) → MarkerStands c m y
+    → MarkerStands c m (behind_mlook c f x y)
+looks c m (Word.Head p) y f is h = rw (is p refl) (look_stands c m p y h)
+looks c m _ y f is h = unseen_stands c m y h
+
+-- a marker's own step
+own_marker : (c : Config) (m : Moment) (k : ℕ) (x : Step) → AreOfPages c.pages m.words → Meets c m (Marker k) x
+    → Keeps c m (Behind c m (Marker k) x)
+    → (is_attending (marker_of m k).presence ≡ true → MarkerStands c m (marker_of m k))
+    → is_attending (marker_behind c (found c m (record { seat = Marker k; step = x })) x (marker_of m k)).presence
+    ≡ true → MarkerStands c (Behind c m (Marker k) x)
+    (marker_behind c (found c m (record { seat = Marker k; step = x })) x (marker_of m k))
+own_marker c m k Step.Attend len h keeps before at = idle_stands c _ _
+own_marker c m k Step.Quit len h keeps before at = idle_stands c _ Out
+own_marker c m k (Step.Mlook x) len h keeps before at =
+    marker_kept c m _ _ keeps (looks c m x (marker_of m k) (found c m (record { seat = Marker k; step = Step.Mlook x }))
+    (λ p e. rw e) (before ((and_parts _ (is_markers_word x) h.marker).0)))
+own_marker c m k (Step.Claim p i) len h keeps before at =
+    marker_kept c m _ _ keeps (claim_stands c m (marker_of m k) p i (and_parts _ _ h.marker).1 (before at))
+own_marker c m k Step.Mload len h keeps before at =
+    marker_kept c m _ _ keeps (load_stands c m (marker_of m k) _ (and_parts _ _ h.marker).0
+    (nothing_is (marker_of m k).hand (and_parts _ _ h.marker).1) (λ y e. sym (rw e)) (before at))
+own_marker c m k Step.Mmark len h keeps before at =
+    let s = seen_cell c (marker_of m k) h.marker in
+    let n = Behind c m (Marker k) Step.Mmark in
+    let there : MarkerStands c n (marker_of m k) = marker_kept c m n (marker_of m k) keeps (before at) in
+    mark_stands c n (marker_of m k) s.value s.hand (seen_well c n (marker_of m k) s.cell s.value s.hand s.is there
+    (rw s.is (bits_added m.words.marks s.cell.page _ s.cell.index
+    (let lt = s.page in omega (arith, len.marks, lt)) (bit_for_has s.cell.index s.index)))) there
+own_marker c m k Step.Mblack len h keeps before at =
+    marker_kept c m _ _ keeps (unscanning_stands c m (marker_of m k) (before at))
+own_marker c m k _ len h keeps before at = let kind = h.kind in cc
+
+-- all markers
+pub markers_stand : (c : Config) (m : Moment) (seat : Seat) (x : Step) → AreOfPages c.pages m.words → Meets c m seat x
+    → Keeps c m (Behind c m seat x)
+    → ((k : ℕ) → is_attending (marker_of m k).presence ≡ true → MarkerStands c m (marker_of m k))
+    → (k : ℕ) → is_attending (marker_of (Behind c m seat x) k).presence ≡ true
+    → MarkerStands c (Behind c m seat x) (marker_of (Behind c m seat x) k)
+markers_stand c m (Caller k) x len h keeps before j at = marker_kept c m (Behind c m (Caller k) x) _ keeps (before j at)
+markers_stand c m Host x len h keeps before j at = marker_kept c m (Behind c m Host x) _ keeps (before j at)
+markers_stand c m (Marker k) x len h keeps before j at = marker_set m.seats.markers k j
+    (marker_behind c (found c m (record { seat = Marker k; step = x })) x (marker_of m k))
+    (λ (y : MarkerState). is_attending y.presence ≡ true → MarkerStands c (Behind c m (Marker k) x) y)
+    (λ lt own. own_marker c m k x len h keeps (before k) own)
+    (λ other. marker_kept c m (Behind c m (Marker k) x) (marker_of m j) keeps (before j other)) at
 
 -- The words of black cells stay guarded: cells that turn black, and pages that are made clean.
 
@@ -61,27 +146,12 @@ turned_words : (pages : ℕ) (w : Words) (p k : ℕ) → may_turn_black pages w 
 unfolding may_turn_black
 turned_words pages w p k h sc = grind (arith, and_parts, or_cases)
 
-pub black_kind : (c : Config) (m : Moment) (seat : Seat) (p value : ℕ)
-    → Keeps c m (Behind c m seat (Step.Black p value)) → NewCellsAreGuarded c m (Behind c m seat (Step.Black p value))
-    → Meets c m seat (Step.Black p value) → BlackIsGuarded c m → BlackIsGuarded c (Behind c m seat (Step.Black p value))
-black_kind c m seat p value keeps new h black =
-    let own = and_parts _ (not (all_below 32 (λ k. not (blackens c.pages m.words p value k)))) h.holder in
-    let t = turned m.words c.pages p value 32
-    (not-true (all_below 32 (λ k. not (blackens c.pages m.words p value k))) own.1) in
-    let a = and_parts _ (may_turn_black c.pages m.words (record { page = p; index = t.bit })) t.is in
-    blackened c m _ p value keeps new refl (λ k is i lt sc li.
-    let e = bit_of_power t.bit k (rw (eqb-true value (2 ^ t.bit) a.0) at is) in
-    let words = turned_words c.pages m.words p t.bit a.1 sc in
-    let at : word_points_well c.pages m.words (64 * p + t.bit * words_under (header_in m.words p) + i) ≡ true =
-    all_below-at (cell_words m.words (record { page = p; index = t.bit })) i
-    (λ j. word_points_well c.pages m.words (first_word m.words (record { page = p; index = t.bit }) + j)) words li in
-    rw e (PointsWell at)) black
-
 -- `mblack`: the marker's scan is at its end
-pub mblack_kind : (c : Config) (m : Moment) (k : ℕ) → Known c m → Keeps c m (Behind c m (Marker k) Step.Mblack)
-    → NewCellsAreGuarded c m (Behind c m (Marker k) Step.Mblack)
-    → Meets c m (Marker k) Step.Mblack → Guard c m → BlackIsGuarded c (Behind c m (Marker k) Step.Mblack)
-mblack_kind c m k known keeps new h g = blackened c m _ _ _ keeps new refl (by (marker_of m k).scan refl own.0) g.black
+pub mblack_kind : (c : Config) (m : Moment) (seat : Seat) → Known c m → Keeps c m (Behind c m seat Step.Mblack)
+    → NewCellsAreGuarded c m (Behind c m seat Step.Mblack) → Meets c m seat Step.Mblack → Guard c m
+    → BlackIsGuarded c (Behind c m seat Step.Mblack)
+mblack_kind c m (Marker k) known keeps new h g =
+    blackened c m _ _ _ keeps new refl (by (marker_of m k).scan refl own.0) g.black
   where
     own : (is_scanned (marker_of m k).scan ≡ true) × (is_none (marker_of m k).hand ≡ true)
     own = and_parts _ _ h.marker
@@ -95,6 +165,7 @@ mblack_kind c m k known keeps new h g = blackened c m _ _ _ keeps new refl (by (
     by (Some y) e done j is i lt sc li =
         let st = (g.markers k (work_attends c _ Step.Mblack (known.orderly.idle k) h.marker refl)).scan y e in
         rw (bit_of_cell y.index j is) (scanned_guarded c m y (rw (nothing_is _ own.1) at st) done sc i li)
+mblack_kind c m _ known keeps new h g = let kind = h.kind in cc
 
 -- `undirty`: in the stop, nothing that is black has a word other than 0 there
 
@@ -133,89 +204,86 @@ undirty_kind c w seat q len early say h black p k i lt is scanned li =
       | inr d ↦ PageIsDirty d
     ]
 
--- what a step keeps of the guarded words
-
-keeps_of : (c : Config) (m : Moment) (seat : Seat) (x : Step) → Known c m → AreOfPages c.pages m.words
-    → IsMarking m.words → Meets c m seat x → is_head x ≡ false → is_undirty x ≡ false → Keeps c m (Behind c m seat x)
-keeps_of c m seat x known len early h no_head no_clean = record {
-  wells = wells_from c m.words (Behind c m seat x).words (headers_kind c m seat x no_head)
-      (marks_kind c m seat x early h);
-  heap = heap_kind c m seat x known h;
-  dirty = dirty_kind c m seat x no_clean;
-  owed = owed_kind c m seat x len h;
-  headers = λ p. goes_equal c.pages (header_at m.words p) (header_at (Behind c m seat x).words p)
-      (headers_kind c m seat x no_head p);
-  marks = marks_kind c m seat x early h;
-}
-
-keeps_head : (c : Config) (w : World) (seat : Seat) (p n : ℕ) → IsWithinLimits c → Known c w.now
-    → AreOfPages c.pages w.now.words → IsMarking w.now.words → GuardPremises c w → Meets c w.now seat (Step.Head p n)
-    → Keeps c w.now (Behind c w.now seat (Step.Head p n))
-keeps_head c w seat p n limits known len early say h =
-    let s = head_keeps c w.now seat p n len h (head_finds c w seat p n limits known early say h) in
-    record {
-      wells = s.wells;
-      heap = heap_kind c w.now seat (Step.Head p n) known h;
-      dirty = dirty_kind c w.now seat (Step.Head p n) refl;
-      owed = owed_kind c w.now seat (Step.Head p n) len h;
-      headers = s.headers;
-      marks = marks_kind c w.now seat (Step.Head p n) early h;
-    }
-
-black_behind : (c : Config) (w : World) (seat : Seat) (x : Step) → IsWithinLimits c → Known c w.now
-    → AreOfPages c.pages w.now.words → IsMarking w.now.words → GuardPremises c w → Meets c w.now seat x → Guard c w.now
-    → BlackIsGuarded c (Behind c w.now seat x)
-black_behind c w seat (Step.Head p n) limits known len early say h g =
-    black_kept c w.now _ (keeps_head c w seat p n limits known len early say h)
-    (head_keeps c w.now seat p n len h (head_finds c w seat p n limits known early say h)).new
-    (λ q k is. inl (blacks_kind c w.now seat (Step.Head p n) refl q k is)) g.black
-black_behind c w seat (Step.Undirty q) limits known len early say h g = undirty_kind c w seat q len early say h g.black
-black_behind c w seat (Step.Black p n) limits known len early say h g =
-    black_kind c w.now seat p n (keeps_of c w.now seat (Step.Black p n) known len early h refl refl)
-    (no_new_cells c w.now seat (Step.Black p n) refl) h g.black
-black_behind c w (Marker k) Step.Mblack limits known len early say h g =
-    mblack_kind c w.now k known (keeps_of c w.now (Marker k) Step.Mblack known len early h refl refl)
-    (no_new_cells c w.now (Marker k) Step.Mblack refl) h g
-black_behind c w (Caller k) Step.Mblack limits known len early say h g = let kind = h.kind in cc
-black_behind c w Host Step.Mblack limits known len early say h g = let kind = h.kind in cc
-black_behind c w seat x limits known len early say h g = rest x h refl refl refl
-  where
-    rest : (x : Step) → Meets c w.now seat x → is_head x ≡ false → is_undirty x ≡ false → is_blackening x ≡ false
-        → BlackIsGuarded c (Behind c w.now seat x)
-    rest x h no_head no_clean no_black =
-        black_kept c w.now _ (keeps_of c w.now seat x known len early h no_head no_clean)
-        (no_new_cells c w.now seat x no_head) (λ p k is. inl (blacks_kind c w.now seat x no_black p k is)) g.black
-
 same_markers : (c : Config) (m : Moment) (seat : Seat) (q j : ℕ) → Meets c m seat (Step.Undirty q)
     → marker_of (Behind c m seat (Step.Undirty q)) j ≡ marker_of m j
 same_markers c m (Marker k) q j h = let kind = h.kind in cc
 same_markers c m _ q j h = refl
 
-markers_behind : (c : Config) (w : World) (seat : Seat) (x : Step) → IsWithinLimits c → Known c w.now
-    → AreOfPages c.pages w.now.words → IsMarking w.now.words → GuardPremises c w → Meets c w.now seat x → Guard c w.now
-    → (j : ℕ) → is_attending (marker_of (Behind c w.now seat x) j).presence ≡ true
-    → MarkerStands c (Behind c w.now seat x) (marker_of (Behind c w.now seat x) j)
-markers_behind c w seat (Step.Head p n) limits known len early say h g j at =
-    markers_stand c w.now seat (Step.Head p n) len h (keeps_head c w seat p n limits known len early say h) g.markers j
-    at
-markers_behind c w seat (Step.Undirty q) limits known len early say h g j at = absurd (true≢false (sym
-    (subst (λ (y : MarkerState). is_attending y.presence ≡ true) (same_markers c w.now seat q j h) at)
-    ∙ none_at w.now.seats.markers j (undirties c w.now seat q early h).none))
-markers_behind c w seat x limits known len early say h g j at = rest x h refl refl at
-  where
-    rest : (x : Step) → Meets c w.now seat x → is_head x ≡ false → is_undirty x ≡ false
-        → is_attending (marker_of (Behind c w.now seat x) j).presence ≡ true
-        → MarkerStands c (Behind c w.now seat x) (marker_of (Behind c w.now seat x) j)
-    rest x h no_head no_clean at =
-        markers_stand c w.now seat x len h (keeps_of c w.now seat x known len early h no_head no_clean) g.markers j at
+-- what a step keeps of the guarded words
+module _ (c : Config) (w : World) (seat : Seat) (limits : IsWithinLimits c) (known : Known c w.now)
+    (len : AreOfPages c.pages w.now.words) (early : IsMarking w.now.words) (say : GuardPremises c w)
+    (g : Guard c w.now) where
+  abbrev After : Step → Moment
+  After x = Behind c w.now seat x
 
-guard_behind : (c : Config) (w : World) (seat : Seat) (x : Step) → IsWithinLimits c → Known c w.now
-    → AreOfPages c.pages w.now.words
-    → IsMarking w.now.words → GuardPremises c w → Meets c w.now seat x → Guard c w.now → Guard c (Behind c w.now seat x)
-guard_behind c w seat x limits known len early say h g = record {
-  black = black_behind c w seat x limits known len early say h g;
-  markers = markers_behind c w seat x limits known len early say h g;
-}
+  keeps_of : (x : Step) → Meets c w.now seat x → is_head x ≡ false → is_undirty x ≡ false → Keeps c w.now (After x)
+  keeps_of x h no_head no_clean = record {
+    wells = wells_from c w.now.words (After x).words (headers_kind c w.now seat x no_head)
+        (marks_kind c w.now seat x early h);
+    heap = heap_kind c w.now seat x known h;
+    dirty = dirty_kind c w.now seat x no_clean;
+    owed = owed_kind c w.now seat x len h;
+    headers = λ p. goes_equal c.pages (header_at w.now.words p) (header_at (After x).words p)
+        (headers_kind c w.now seat x no_head p);
+    marks = marks_kind c w.now seat x early h;
+  }
+
+  head : (p n : ℕ) → Meets c w.now seat (Step.Head p n) → HeadKeeps c w.now (After (Step.Head p n))
+  head p n h = head_keeps c w.now seat p n len h (head_finds c w seat p n limits known early say h)
+
+  keeps_head : (p n : ℕ) → Meets c w.now seat (Step.Head p n) → Keeps c w.now (After (Step.Head p n))
+  keeps_head p n h = record {
+    wells = (head p n h).wells;
+    heap = heap_kind c w.now seat (Step.Head p n) known h;
+    dirty = dirty_kind c w.now seat (Step.Head p n) refl;
+    owed = owed_kind c w.now seat (Step.Head p n) len h;
+    headers = (head p n h).headers;
+    marks = marks_kind c w.now seat (Step.Head p n) early h;
+  }
+
+  black_behind : (x : Step) → Meets c w.now seat x → BlackIsGuarded c (After x)
+  black_behind (Step.Head p n) h = black_kept c w.now _ (keeps_head p n h) (head p n h).new
+      (λ q k is. inl (blacks_kind c w.now seat (Step.Head p n) refl q k is)) g.black
+  black_behind (Step.Undirty q) h = undirty_kind c w seat q len early say h g.black
+  black_behind (Step.Black p n) h =
+      let own = and_parts _ (not (all_below 32 (λ k. not (blackens c.pages w.now.words p n k)))) h.holder in
+      let t = turned w.now.words c.pages p n 32
+      (not-true (all_below 32 (λ k. not (blackens c.pages w.now.words p n k))) own.1) in
+      let a = and_parts _ (may_turn_black c.pages w.now.words (record { page = p; index = t.bit })) t.is in
+      blackened c w.now _ p n (keeps_of (Step.Black p n) h refl refl)
+      (no_new_cells c w.now seat (Step.Black p n) refl) refl (λ k is i lt sc li.
+      let e = bit_of_power t.bit k (rw (eqb-true n (2 ^ t.bit) a.0) at is) in
+      let words = turned_words c.pages w.now.words p t.bit a.1 sc in
+      let at : word_points_well c.pages w.now.words (64 * p + t.bit * words_under (header_in w.now.words p) + i)
+      ≡ true =
+      all_below-at (cell_words w.now.words (record { page = p; index = t.bit })) i
+      (λ j. word_points_well c.pages w.now.words (first_word w.now.words (record { page = p; index = t.bit }) + j))
+      words li in
+      rw e (PointsWell at)) g.black
+  black_behind Step.Mblack h = mblack_kind c w.now seat known (keeps_of Step.Mblack h refl refl)
+      (no_new_cells c w.now seat Step.Mblack refl) h g
+  black_behind x h = rest x h refl refl refl
+    where
+      rest : (x : Step) → Meets c w.now seat x → is_head x ≡ false → is_undirty x ≡ false → is_blackening x ≡ false
+          → BlackIsGuarded c (After x)
+      rest x h no_head no_clean no_black = black_kept c w.now _ (keeps_of x h no_head no_clean)
+          (no_new_cells c w.now seat x no_head) (λ p k is. inl (blacks_kind c w.now seat x no_black p k is)) g.black
+
+  markers_behind : (x : Step) → Meets c w.now seat x → (j : ℕ)
+      → is_attending (marker_of (After x) j).presence ≡ true → MarkerStands c (After x) (marker_of (After x) j)
+  markers_behind (Step.Head p n) h j at =
+      markers_stand c w.now seat (Step.Head p n) len h (keeps_head p n h) g.markers j at
+  markers_behind (Step.Undirty q) h j at = absurd (true≢false (sym
+      (subst (λ (y : MarkerState). is_attending y.presence ≡ true) (same_markers c w.now seat q j h) at)
+      ∙ none_at w.now.seats.markers j (undirties c w.now seat q early h).none))
+  markers_behind x h j at = rest x h refl refl at
+    where
+      rest : (x : Step) → Meets c w.now seat x → is_head x ≡ false → is_undirty x ≡ false
+          → is_attending (marker_of (After x) j).presence ≡ true → MarkerStands c (After x) (marker_of (After x) j)
+      rest x h no_head no_clean at = markers_stand c w.now seat x len h (keeps_of x h no_head no_clean) g.markers j at
+
+  guard_behind : (x : Step) → Meets c w.now seat x → Guard c (After x)
+  guard_behind x h = record { black = black_behind x h; markers = markers_behind x h }
 
 -- `begin`: nothing is black, and no marker attends
 begun : (c : Config) (m : Moment) (seat : Seat) → Known c m → AreOfPages c.pages m.words → Meets c m seat Step.Begin
@@ -248,43 +316,38 @@ begun c m seat known len h = record {
 past : (c : Config) (m : Moment) (n : ℕ) → phase_of m.words ≡ n → (n ≡ 0) ⊎ (4 ≤ n) → MarksStand c m
 past c m n is out = grind (arith, closed)
 
-pub marks_behind : (c : Config) (w : World) (seat : Seat) (x : Step) → IsWithinLimits c → Known c w.now
-    → AreOfPages c.pages w.now.words
-    → GuardPremises c w → Meets c w.now seat x → MarksStand c w.now → MarksStand c (Behind c w.now seat x)
-marks_behind c w seat Step.Begin limits known len say h g =
-    let z = eqb-true _ 0 h.phase in
-    record { guarded = λ early. begun c w.now seat known len h; closed = λ three. absurd (omega arith) }
-marks_behind c w seat Step.Want limits known len say h g =
-    let one = eqb-true _ 1 h.phase in
-    record {
-      guarded = λ early. guard_behind c w seat Step.Want limits known len (inl one) say h (g.guarded (inl one));
-      closed = λ three. absurd (omega arith);
-    }
-marks_behind c w seat Step.Close limits known len say h g =
-    let two = eqb-true _ 2 h.phase in
-    record {
-      guarded = λ early. guard_behind c w seat Step.Close limits known len (inr two) say h (g.guarded (inr two));
-      closed = λ three. stays_closed c w.now.words _
-          (record { registers = refl; globals = refl; headers = λ p. refl; marks = refl; heap = λ n. inl refl })
-          (closed c w.now seat known len h (g.guarded (inr two)).black);
-    }
-marks_behind c w seat Step.Release limits known len say h g =
-    let three = eqb-true _ 3 h.phase in
-    past c _ 4 (omega arith) (inr (omega arith))
-marks_behind c w seat Step.End limits known len say h g = past c _ 0 (omega (arith, eqb-true _ 4 h.phase)) (inl refl)
-marks_behind c w seat Step.Over limits known len say h g =
-    let zero = over_phase c w.now seat h in
-    past c _ 5 (omega arith) (inr (omega arith))
-marks_behind c w seat x limits known len say h g = rest x h refl
-  where
-    rest : (x : Step) → Meets c w.now seat x → is_phase_step x ≡ false → MarksStand c (Behind c w.now seat x)
-    rest x h stays =
-        let same = phase_stays c w.now seat x stays in
-        record {
-          guarded = λ early.
-              let before : IsMarking w.now.words = rw same at early in
-              guard_behind c w seat x limits known len before say h (g.guarded before);
-          closed = λ three.
-              let before : phase_of w.now.words ≡ 3 = sym same ∙ three in
-              stays_closed c w.now.words _ (leaves_closed c w.now seat x known before h) (g.closed before);
-        }
+module _ (c : Config) (w : World) (seat : Seat) (limits : IsWithinLimits c) (known : Known c w.now)
+    (len : AreOfPages c.pages w.now.words) (say : GuardPremises c w) where
+  goes_on : (x : Step) → IsMarking w.now.words → Meets c w.now seat x → MarksStand c w.now
+      → Guard c (Behind c w.now seat x)
+  goes_on x early h g = guard_behind c w seat limits known len early say (g.guarded early) x h
+
+  pub marks_behind : (x : Step) → Meets c w.now seat x → MarksStand c w.now → MarksStand c (Behind c w.now seat x)
+  marks_behind Step.Begin h g =
+      let z = eqb-true _ 0 h.phase in
+      record { guarded = λ early. begun c w.now seat known len h; closed = λ three. absurd (omega arith) }
+  marks_behind Step.Want h g =
+      let early = eqb-true _ 1 h.phase in
+      record { guarded = λ any. goes_on Step.Want (inl early) h g; closed = λ three. absurd (omega arith) }
+  marks_behind Step.Close h g =
+      let two = eqb-true _ 2 h.phase in
+      record {
+        guarded = λ early. goes_on Step.Close (inr two) h g;
+        closed = λ three. stays_closed c w.now.words _
+            (record { registers = refl; globals = refl; headers = λ p. refl; marks = refl; heap = λ n. inl refl })
+            (closed c w.now seat known len h (g.guarded (inr two)).black);
+      }
+  marks_behind Step.Release h g = let three = eqb-true _ 3 h.phase in past c _ 4 (omega arith) (inr (omega arith))
+  marks_behind Step.End h g = past c _ 0 (omega (arith, eqb-true _ 4 h.phase)) (inl refl)
+  marks_behind Step.Over h g = let zero = over_phase c w.now seat h in past c _ 5 (omega arith) (inr (omega arith))
+  marks_behind x h g = rest x h refl
+    where
+      rest : (x : Step) → Meets c w.now seat x → is_phase_step x ≡ false → MarksStand c (Behind c w.now seat x)
+      rest x h stays =
+          let same = phase_stays c w.now seat x stays in
+          record {
+            guarded = λ early. goes_on x (rw same at early) h g;
+            closed = λ three.
+                let before : phase_of w.now.words ≡ 3 = sym same ∙ three in
+                stays_closed c w.now.words _ (leaves_closed c w.now seat x known before h) (g.closed before);
+          }

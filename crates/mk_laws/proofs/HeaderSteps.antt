@@ -1,10 +1,11 @@
 -- What an event may do to headers while a call of another seat is in flight outside the turn: it unmaps no page.
-use Rattle.mk_laws.proofs.Vocabulary.{Access, Caller, Config, List, Load, Moment, Named, Page, Seat, Step, Store, Tally}
-use Rattle.mk_laws.proofs.Vocabulary.{Word, Words, ℕ, accessed, all_below-at, ap, arith, cases_eq, cases_lt, eqb-true}
-use Rattle.mk_laws.proofs.Vocabulary.{false, free_page, get_or-set_other, get_or-set_same, header_at, header_in}
-use Rattle.mk_laws.proofs.Vocabulary.{header_of, inl, inr, is_held, is_number_of, is_unmapped_header, length, not}
-use Rattle.mk_laws.proofs.Vocabulary.{not-true, or_cases, others_are_held, refl, set_past, slice_index, slice_index_or}
-use Rattle.mk_laws.proofs.Vocabulary.{slice_set, tally_word, true, used_at, ◌<◌, ◌||◌, ◌∙◌, ◌≡◌, ◌≢◌}
+use Rattle.mk_laws.proofs.Vocabulary.{Caller, Config, List, Moment, Page, Seat, Step, Tally, Words, ℕ, all_below-at, ap}
+use Rattle.mk_laws.proofs.Vocabulary.{arith, cases_eq, cases_lt, eqb-true, false, free_page, get_or-set_other}
+use Rattle.mk_laws.proofs.Vocabulary.{get_or-set_same, header_at, header_in, header_of, inl, inr, is_held, is_number_of}
+use Rattle.mk_laws.proofs.Vocabulary.{is_unmapped_header, length, not, not-true, or_cases, others_are_held, set_by}
+use Rattle.mk_laws.proofs.Vocabulary.{set_past, slice_index, slice_index_or, slice_set, true, used_at, ◌<◌, ◌||◌, ◌∙◌}
+use Rattle.mk_laws.proofs.Vocabulary.{◌≡◌, ◌≢◌}
+use Rattle.mk_core.proofs.RegisterAccesses.{register_leaves, tally_leaves}
 use Rattle.mk_laws.proofs.Basics.{Behind, Meets}
 
 -- what becomes of the pages
@@ -13,14 +14,6 @@ pub data HeaderStep (w : Words) : List Page → Type 0 where
   SetsUsed : (p n : ℕ) → HeaderStep w (slice_set w.pages p (record { header = header_at w p; used = n }))
   SetsHeader : (p v : ℕ) → is_unmapped_header (header_of v) ≡ false
       → HeaderStep w (slice_set w.pages p (record { header = v; used = used_at w p }))
-
-pub tally_pages : (w : Words) (n : Tally) (v : ℕ) → (accessed w (Named (tally_word n)) (Store v)).pages ≡ w.pages
-tally_pages w Tally.Held v = refl
-tally_pages w _ v = refl
-
-pub reg_pages : (w : Words) (k r : ℕ) (a : Access) → (accessed w (Named (Word.Reg k r)) a).pages ≡ w.pages
-reg_pages w k r Load = refl
-reg_pages w k r _ = refl
 
 -- One of the other gates isn't held, so no page is unmapped.
 not_unmapped : (c : Config) (w : Words) (seat : Seat) (k v : ℕ) → k < c.callers → seat ≢ Caller k
@@ -43,8 +36,8 @@ pub header_step : (c : Config) (m : Moment) (seat : Seat) (x : Step) (k : ℕ) �
     → seat ≢ Caller k → slice_index m.words.gates k ≡ 1 → HeaderStep m.words (Behind c m seat x).words.pages
 header_step c m seat (Step.Head p v) k h lt ne one = SetsHeader p v (not_unmapped c m.words seat k v lt ne one h.gates)
 header_step c m seat (Step.Used p v) k h lt ne one = SetsUsed p v
-header_step c m seat (Step.Tally n v) k h lt ne one = rw (tally_pages m.words n v) KeepsPages
-header_step c m seat Step.Reg k h lt ne one = rw (reg_pages m.words _ _ _) KeepsPages
+header_step c m seat (Step.Tally n v) k h lt ne one = rw (tally_leaves m.words n v).pages KeepsPages
+header_step c m seat Step.Reg k h lt ne one = rw (register_leaves m.words _ _ _).pages KeepsPages
 header_step c m seat _ k h lt ne one = KeepsPages
 
 -- a page's header after a change of one page
@@ -62,10 +55,8 @@ page_set ps p q x P mine other = elim (cases_eq q p) [
 -- a header stays where only the used word changes
 pub used_set : (w : Words) (p q n : ℕ) → (P : ℕ → Type 0) → P (header_at w q)
     → P (slice_index_or (slice_set w.pages p (record { header = header_at w p; used = n })) q free_page).header
-used_set w p q n P is = elim (cases_eq q p) [
-  | inl e ↦ page_set w.pages p q (record { header = header_at w p; used = n }) P (λ lt. rw e at is) is
-  | inr ne ↦ rw (get_or-set_other w.pages p q (record { header = header_at w p; used = n }) free_page ne) is
-]
+used_set w p q n P is = set_by (λ (y : Page). P y.header) w.pages p q (record { header = header_at w p; used = n })
+    free_page (λ e. rw e at is) is
 
 pub stays_mapped : (w : Words) (ps : List Page) (q : ℕ) → HeaderStep w ps → is_unmapped_header (header_in w q) ≡ false
     → is_unmapped_header (header_of (slice_index_or ps q free_page).header) ≡ false

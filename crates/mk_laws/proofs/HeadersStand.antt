@@ -94,9 +94,8 @@ alike_at c w xs i j p r u v small at page = elim (cases_Bool (is_small_object (o
 ]
 
 -- the header of a block's page
-block_shown : (c : Config) (w : Words) (xs : List PlacedAllocation) (i : ℕ) → Rests c w xs
-    → (placed_at xs i).released ≡ false → is_small_object (object_placed c (placed_at xs i)) ≡ true
-    → header_at w ((placed_at xs i).base / 64)
+block_shown : (c : Config) (w : Words) (xs : List PlacedAllocation) (i : ℕ) → Rests c w xs → (placed_at xs i).released
+    ≡ false → is_small_object (object_placed c (placed_at xs i)) ≡ true → header_at w ((placed_at xs i).base / 64)
     ≡ word_of (block_header (class_made (object_placed c (placed_at xs i))) (object_placed c (placed_at xs i)).leaf)
 block_shown c w xs i r u s =
     let a : PlacedAllocation = placed_at xs i in
@@ -168,8 +167,7 @@ module _ (c : Config) (w : Words) (xs : List PlacedAllocation) (i p : ℕ) (r : 
       let some : 1 ≤ storage_words c a = (words_within o sized).0 in
       let stands : stands_on p s ≡ true = stands_from p s (omega arith) (omega arith) in
       let same = class_of_words s class (class_known o sized small).0 (small_words o small) in
-      ap (λ h. record { header = h; used = used_at w p }) (ap (header_at w) (sym at)
-      ∙ block_shown c w xs i r u small)
+      ap (λ h. record { header = h; used = used_at w p }) (ap (header_at w) (sym at) ∙ block_shown c w xs i r u small)
       ∙ ap (λ v. record { header = word_of (block_header class o.leaf); used = v }) used
       ∙ ap (λ m. block_page m o.leaf (used_word (taken_cells (unreleased_storage c xs) p m))) (sym same)
       ∙ sym (words_by_small p (unreleased_storage c xs) s (small_is c a sized ∙ small))
@@ -184,9 +182,8 @@ module _ (c : Config) (w : Words) (xs : List PlacedAllocation) (i p : ℕ) (r : 
           ∙ cells_at_claim (quiet_scene c w xs) (claim_of c None a) (shown_of c w xs i r u) ∙ small_cells o small
 
       -- where a small object of the class begins
-      begins_at : (j : ℕ) → (v : (placed_at xs j).released ≡ false)
-          → is_small_object (object_placed c (placed_at xs j)) ≡ true
-          → class_made (object_placed c (placed_at xs j)) ≡ class → (placed_at xs j).base % 64
+      begins_at : (j : ℕ) → (v : (placed_at xs j).released ≡ false) → is_small_object (object_placed c (placed_at xs j))
+          ≡ true → class_made (object_placed c (placed_at xs j)) ≡ class → (placed_at xs j).base % 64
           ≡ (cell_of_allocation c (placed_at xs j)).index * class_words_of class
       begins_at j v s same =
           let b = (r.cells j v).begins in
@@ -257,18 +254,6 @@ nothing_there c w xs p r z s inside stands =
     let at : a.base / 64 + (p - a.base / 64) ≡ p = omega arith in
     claimed_some w.pages _ _ shown (omega arith) (ap (header_at w) at ∙ z)
 
-on_page : (c : Config) (w : Words) (xs : List PlacedAllocation) (p : ℕ) → Rests c w xs → IsOn (quiet_scene c w xs) p
-    → slice_index_or w.pages p free_page ≡ words_of_storages (unreleased_storage c xs) p
-on_page c w xs p r on =
-    let y = claim_is c None xs on.claim on.among in
-    let o : Object = object_placed c (placed_at xs y.number) in
-    let near : on.distance < pages_made o = rw y.is at on.near in
-    let at : (placed_at xs y.number).base / 64 + on.distance ≡ p = cc (y.is, on.at) in
-    elim (cases_Bool (is_small_object o)) [
-      | inl s ↦ let one = small_pages o s in block_words c w xs y.number p r y.unreleased s (omega arith)
-      | inr l ↦ run_words c w xs y.number p r y.unreleased on.distance l near at
-    ]
-
 pub pages_stand : (c : Config) (w : Words) (xs : List PlacedAllocation) → Rests c w xs
     → PagesStandFor w.pages (unreleased_storage c xs)
 pages_stand c w xs r = record {
@@ -277,6 +262,15 @@ pages_stand c w xs r = record {
     | inl z ↦ ap (λ h. record { header = h; used = used_at w p }) z
         ∙ rw (free_unused _ p r.laid z) (sym (words_free p _
         (λ s inside. false_from_ne_true (stands_on p s) (nothing_there c w xs p r z s inside))))
-    | inr some ↦ on_page c w xs p r (on_claim _ p r.laid refl refl some)
+    | inr some ↦
+        let on : IsOn (quiet_scene c w xs) p = on_claim _ p r.laid refl refl some in
+        let y = claim_is c None xs on.claim on.among in
+        let o : Object = object_placed c (placed_at xs y.number) in
+        let near : on.distance < pages_made o = rw y.is at on.near in
+        let at : (placed_at xs y.number).base / 64 + on.distance ≡ p = cc (y.is, on.at) in
+        elim (cases_Bool (is_small_object o)) [
+          | inl s ↦ let one = small_pages o s in block_words c w xs y.number p r y.unreleased s (omega arith)
+          | inr l ↦ run_words c w xs y.number p r y.unreleased on.distance l near at
+        ]
   ];
 }

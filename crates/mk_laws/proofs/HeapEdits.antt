@@ -95,26 +95,23 @@ fresh_one base ty = record { base = base; ty = ty; freed = false; fresh = false;
 abbrev pub new_words : NeverState → ℕ → NeverAllocation
 new_words n ty = record { ty = ty; words = zero_words (kinds_of n.types ty); freed = false }
 
--- an allocation that isn't the new one
+-- what isn't the new one
+pushed_other : {A : Type 0} (xs : List A) (y d : A) (b : ℕ) → b ≢ length xs → get_or (xs ++ y ∷ []) b d ≡ get_or xs b d
+pushed_other xs y d b ne = elim (cases_lt b (length xs)) [
+  | inl lt ↦ get_or_append_left xs (y ∷ []) d b lt
+  | inr le ↦ get_or_past (xs ++ y ∷ []) b d (omega (arith, length-append xs (y ∷ []))) ∙ sym (get_or_past xs b d le)
+]
+
 pub old_never : (n : NeverState) (ty b : ℕ) → b ≢ length n.allocations
     → allocation_at (with_new n ty) b ≡ allocation_at n b
-old_never n ty b ne = elim (cases_lt b (length n.allocations)) [
-  | inl lt ↦ get_or_append_left n.allocations _ no_allocation b lt
-  | inr le ↦ get_or_past (n.allocations ++ new_words n ty ∷ []) b no_allocation
-      (omega (arith, length-append n.allocations (new_words n ty ∷ [])))
-      ∙ sym (get_or_past n.allocations b no_allocation le)
-]
+old_never n ty b ne = pushed_other n.allocations (new_words n ty) no_allocation b ne
 
 pub new_never : (n : NeverState) (ty : ℕ) → allocation_at (with_new n ty) (length n.allocations) ≡ new_words n ty
 new_never n ty = get_or_at n.allocations _ [] no_allocation (length n.allocations) refl
 
 pub old_placed : (xs : List PlacedAllocation) (y : PlacedAllocation) (b : ℕ) → b ≢ length xs
     → placed_at (xs ++ y ∷ []) b ≡ placed_at xs b
-old_placed xs y b ne = elim (cases_lt b (length xs)) [
-  | inl lt ↦ get_or_append_left xs (y ∷ []) never_granted b lt
-  | inr le ↦ get_or_past (xs ++ y ∷ []) b never_granted (omega (arith, length-append xs (y ∷ [])))
-      ∙ sym (get_or_past xs b never_granted le)
-]
+old_placed xs y b ne = pushed_other xs y never_granted b ne
 
 pub meets_new : (n : NeverState) (ty : ℕ) (v : Value) (i : ℕ) → IsMet n v i → IsMet (with_new n ty) v i
 meets_new n ty (Ptr a t o) i h = grind (arith, new_never, old_never)

@@ -1,36 +1,20 @@
 -- A marker that doesn't attend is in the middle of nothing, and stays so.
-use Rattle.mk_laws.proofs.Vocabulary.{Bool, Config, MarkerState as Marker, None, Option, SeenHeader, Some, Step, Word}
-use Rattle.mk_laws.proofs.Vocabulary.{ℕ, and_parts, ap, behind_mlook, cases_Bool, cell_seen, false, has_next_word, inl}
-use Rattle.mk_laws.proofs.Vocabulary.{inr, is_attending, is_scanned, is_some, marker_behind, marker_may, refl, sym}
+use Rattle.mk_laws.proofs.Vocabulary.{Bool, Config, IsIdle, MarkerState as Marker, None, Option, SeenHeader, Some, Step}
+use Rattle.mk_laws.proofs.Vocabulary.{Word, ℕ, and_parts, ap, behind_mlook, cases_Bool, cell_seen, false, has_next_word}
+use Rattle.mk_laws.proofs.Vocabulary.{inl, inr, is_attending, is_scanned, is_some, marker_behind, marker_may, refl, sym}
 use Rattle.mk_laws.proofs.Vocabulary.{true, ◌∙◌, ◌≡◌}
 use Rattle.mk_laws.proofs.ProtocolMoves.{IdlesOutside}
 
 -- what a marker has only while it attends
 
-next_attends : (x : Marker) → IdlesOutside x → has_next_word x.scan ≡ true → is_attending x.presence ≡ true
-next_attends x h s = elim (cases_Bool (is_attending x.presence)) [
-  | inl e ↦ e
-  | inr e ↦ let i = h e in let f : false ≡ true = ap has_next_word (sym i.scan) ∙ s in cc
-]
-
-scanned_attends : (x : Marker) → IdlesOutside x → is_scanned x.scan ≡ true → is_attending x.presence ≡ true
-scanned_attends x h s = elim (cases_Bool (is_attending x.presence)) [
-  | inl e ↦ e
-  | inr e ↦ let i = h e in let f : false ≡ true = ap is_scanned (sym i.scan) ∙ s in cc
-]
-
 none_seen : (c : Config) (s : Option SeenHeader) → is_some (cell_seen c s None) ≡ false
 none_seen c (Some s) = refl
 none_seen c None = refl
 
-seen_attends : (c : Config) (x : Marker) → IdlesOutside x → is_some (cell_seen c x.seen x.hand) ≡ true
+attends : (x : Marker) → IdlesOutside x → (b : Bool) → b ≡ true → (IsIdle x → b ≡ false)
     → is_attending x.presence ≡ true
-seen_attends c x h s = elim (cases_Bool (is_attending x.presence)) [
-  | inl e ↦ e
-  | inr e ↦
-      let f = sym (none_seen c x.seen) ∙ ap (λ (v : Option ℕ). is_some (cell_seen c x.seen v)) (sym (h e).hand) ∙ s in
-      cc
-]
+attends x h b s none =
+    elim (cases_Bool (is_attending x.presence)) [ inl e ↦ e | inr e ↦ let f = sym s ∙ none (h e) in cc ]
 
 -- Whoever looks, claims, loads, marks or blackens attends.
 abbrev pub is_work : Step → Bool
@@ -45,9 +29,10 @@ pub work_attends : (c : Config) (x : Marker) (s : Step) → IdlesOutside x → m
     → is_attending x.presence ≡ true
 work_attends c x (Step.Mlook w) h m k = (and_parts _ _ m).0
 work_attends c x (Step.Claim p i) h m k = (and_parts _ _ (and_parts _ _ m).0).0
-work_attends c x Step.Mload h m k = next_attends x h (and_parts _ _ m).0
-work_attends c x Step.Mmark h m k = seen_attends c x h m
-work_attends c x Step.Mblack h m k = scanned_attends x h (and_parts _ _ m).0
+work_attends c x Step.Mload h m k = attends x h _ (and_parts _ _ m).0 (λ i. ap has_next_word i.scan)
+work_attends c x Step.Mmark h m k =
+    attends x h _ m (λ i. ap (λ (v : Option ℕ). is_some (cell_seen c x.seen v)) i.hand ∙ none_seen c x.seen)
+work_attends c x Step.Mblack h m k = attends x h _ (and_parts _ _ m).0 (λ i. ap is_scanned i.scan)
 work_attends c x _ h m k = cc
 
 -- it keeps its presence, so all is said

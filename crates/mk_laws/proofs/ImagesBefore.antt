@@ -1,18 +1,13 @@
 -- What a step of a caller needs, from the groups.
-use Rattle.mk_laws.proofs.Vocabulary.{Bool, Caller, Cell, Config, Flight, ImagePremises, IsSafeSet, IsTypedAllocation}
-use Rattle.mk_laws.proofs.Vocabulary.{List, Mirrors, NeverState, None, Option, PlacedAllocation, RunPages, Some, Words}
-use Rattle.mk_laws.proofs.Vocabulary.{World, ℕ, address_of, allocation_at, ap, arith, cases_Bool, cell_of_allocation}
-use Rattle.mk_laws.proofs.Vocabulary.{false, first_word, flight_among, flight_of, header_at, header_in, image_scene_of}
-use Rattle.mk_laws.proofs.Vocabulary.{inl, inr, is_run_gone, is_unmapped, is_unmapped_header, kinds_of, length}
-use Rattle.mk_laws.proofs.Vocabulary.{placed_at, pointed_cell, storage_holds, storage_words, subst, sym, true, words_of}
-use Rattle.mk_laws.proofs.Vocabulary.{[], ◌+◌, ◌/◌, ◌<◌, ◌∙◌, ◌≡◌, ◌≢◌, ◌≤◌}
+use Rattle.mk_laws.proofs.Vocabulary.{Bool, Caller, Cell, Config, ImagePremises, IsSafeSet, IsTypedAllocation, Mirrors}
+use Rattle.mk_laws.proofs.Vocabulary.{NeverState, None, Option, PlacedAllocation, Some, Words, World, ℕ, address_of}
+use Rattle.mk_laws.proofs.Vocabulary.{allocation_at, ap, arith, cases_Bool, cell_of_allocation, first_word}
+use Rattle.mk_laws.proofs.Vocabulary.{flight_among, flight_of, header_at, image_scene_of, inl, inr, is_run_gone}
+use Rattle.mk_laws.proofs.Vocabulary.{is_unmapped, kinds_of, length, placed_at, pointed_cell, storage_holds}
+use Rattle.mk_laws.proofs.Vocabulary.{storage_words, subst, sym, true, words_of, [], ◌<◌, ◌∙◌, ◌≡◌, ◌≤◌}
 use Rattle.mk_laws.proofs.ImagesStands.{Stands, gone_shows, is_gone}
-use Rattle.mk_laws.proofs.{HeapEdits.exists_placed, ImagesKept.AreApart, ImagesKept.AreSmall, Known.HaveOperands}
-use Rattle.mk_laws.proofs.{Known.operands_of, KnownWorlds.KnownWorld, Orderly.shows_at, Reached.PagesShow, Ready.Ready}
-use Rattle.mk_laws.proofs.{Standings.InCall, Standings.standing, Views.view_of}
-
-pub small_operands : (c : Config) (fs : List Flight) → HaveOperands c fs → AreSmall fs
-small_operands c fs h j = let o = operands_of c (flight_among fs j).op (h j) in (o.q, o.p, o.r, o.d)
+use Rattle.mk_laws.proofs.{HeapEdits.exists_placed, Known.operands_of, KnownWorlds.KnownWorld, Orderly.shows_at}
+use Rattle.mk_laws.proofs.{Reached.PagesShow, Ready.Ready, Standings.InCall, Standings.standing, Views.view_of}
 
 abbrev pub first_in : Words → Option Cell → ℕ
 first_in w (Some cell) = first_word w cell
@@ -41,20 +36,6 @@ module _ (c : Config) (w : World) (n : NeverState) (known : KnownWorld c w) (mir
   pub unmapped_is : (a : ℕ) → a < length w.allocations → is_unmapped (allocation_at n a) ≡ is_gone c (placed a)
   unmapped_is a lt = rw (← (mirrors.twins.freed a lt)) (rw (words_are a lt))
 
-  pub storages_apart : Stands c w.now.words w.allocations → (a b i j : ℕ) → (placed a).released ≡ false
-      → (placed b).released ≡ false → i < storage_words c (placed a) → j < storage_words c (placed b) → a ≢ b
-      → (placed a).base + i ≢ (placed b).base + j
-  storages_apart st a b i j ua ub li lj ne e =
-      let cells : Some (cell_of_allocation c (placed a)) ≡ Some (cell_of_allocation c (placed b)) =
-      sym (st.cell a i ua li) ∙ ap (λ x. pointed_cell c.pages w.now.words.pages (address_of x)) e ∙ st.cell b j ub lj in
-      st.apart a b ua ub ne (sym (st.first a ua) ∙ ap (first_in w.now.words) cells ∙ st.first b ub)
-
-  pub are_apart : Stands c w.now.words w.allocations → AreApart w.allocations n
-  are_apart st a b i j ua ub li lj ne =
-      let fa = words_fit a (exists_placed w.allocations a ua) in
-      let fb = words_fit b (exists_placed w.allocations b ub) in
-      storages_apart st a b i j ua ub (omega arith) (omega arith) ne
-
   pub ready_of : Stands c w.now.words w.allocations → (safe : ℕ → Bool) → IsSafeSet safe w.allocations n
       → Ready c.globals safe (image_scene_of w) n
   ready_of st safe s = record {
@@ -62,39 +43,39 @@ module _ (c : Config) (w : World) (n : NeverState) (known : KnownWorld c w) (mir
     typed = mirrors.typed;
     set = s;
     count = mirrors.twins.count;
-    apart = are_apart st;
-    small = small_operands c w.now.seats.flights known.now.operands;
+    apart = λ a b i j ua ub li lj ne e.
+        let fa = words_fit a (exists_placed w.allocations a ua) in
+        let fb = words_fit b (exists_placed w.allocations b ub) in
+        let cells : Some (cell_of_allocation c (placed a)) ≡ Some (cell_of_allocation c (placed b)) =
+        sym (st.cell a i ua (omega arith)) ∙ ap (λ x. pointed_cell c.pages w.now.words.pages (address_of x)) e
+        ∙ st.cell b j ub (omega arith) in
+        st.apart a b ua ub ne (sym (st.first a ua) ∙ ap (first_in w.now.words) cells ∙ st.first b ub);
+    small = λ j. let o =
+        operands_of c (flight_among w.now.seats.flights j).op (known.now.operands j) in (o.q, o.p, o.r, o.d);
     bound = λ a i u li. let f = words_fit a (exists_placed w.allocations a u) in let b =
         st.inside a u in omega (arith, known.lengths.heap);
     room = let p = known.limits.pages.1 in omega (arith, known.lengths.heap);
     full = λ ty lt. rw mirrors.types (known.limits.types ty [] (rw mirrors.types at lt)).0.0;
   }
 
-  -- headers say what is unmapped
-  pub pages_show : Stands c w.now.words w.allocations
-      → ((a i : ℕ) → (placed a).released ≡ false → is_gone c (placed a) ≡ true → i < storage_words c (placed a)
-      → is_unmapped_header (header_in w.now.words (((placed a).base + i) / 64)) ≡ true)
-      → PagesShow (header_at w.now.words) (image_scene_of w) n
-  pages_show st un a i u li =
-      let lt = exists_placed w.allocations a u in
-      let f = words_fit a lt in
-      elim (cases_Bool (is_gone c (placed a))) [
-        | inl e ↦ un a i u e (omega arith) ∙ sym e ∙ sym (unmapped_is a lt)
-        | inr e ↦ st.mapped a i u e (omega arith) ∙ sym e ∙ sym (unmapped_is a lt)
-      ]
-
-  -- to who is in a call, since freed runs are gone then
+  -- Headers say to who is in a call what is unmapped, since freed runs are gone then.
   pub shown_in_call : ImagePremises c w → Stands c w.now.words w.allocations → (k : ℕ) → k < c.callers
       → standing (flight_of w.now (Caller k)) ≡ InCall → PagesShow (header_at w.now.words) (image_scene_of w) n
-  shown_in_call others st k lt in_call =
-      pages_show st (gone_shows c w known.limits others (elim (cases_Bool (is_run_gone w.now.words freed)) [
-        | inl gone ↦ gone
+  shown_in_call others st k lt in_call a i u li =
+      let is_there = exists_placed w.allocations a u in
+      let f = words_fit a is_there in
+      elim (cases_Bool (is_gone c (placed a))) [
+        | inl e ↦
+            gone_shows c w known.limits others gone a i u e (omega arith) ∙ sym e ∙ sym (unmapped_is a is_there)
+        | inr e ↦ st.mapped a i u e (omega arith) ∙ sym e ∙ sym (unmapped_is a is_there)
+      ]
+    where
+      gone : is_run_gone w.now.words w.now.seats.holding.freed ≡ true
+      gone = elim (cases_Bool (is_run_gone w.now.words w.now.seats.holding.freed)) [
+        | inl yes_gone ↦ yes_gone
         | inr there ↦
             let s = shows_at c (view_of w.now) k InCall known.now.orderly lt in_call in
             let g = others.gates there k lt s.1 in
             let one = s.0 in
             absurd (omega arith)
-      ]))
-    where
-      freed : Option RunPages
-      freed = w.now.seats.holding.freed
+      ]

@@ -43,11 +43,7 @@ pub record BehindProbe (s : Stage) (o : Op) : Type 0 where
 pub at_probe : (o : Op) → is_astray (standing_at Stage.Probe o) ≡ false
     → BehindProbe (stage_behind Stage.Probe (steps_of o)) o
 at_probe (Op.GetNum q i) h = record { access = refl; put = refl; p = refl; some_p = refl; r = refl }
-at_probe (Op.SetNum q i m) h = record { access = refl; put = refl; p = refl; some_p = refl; r = refl }
-at_probe (Op.GetPtr d q i) h = record { access = refl; put = refl; p = refl; some_p = refl; r = refl }
-at_probe (Op.SetPtr q i p) h = record { access = refl; put = refl; p = refl; some_p = refl; r = refl }
-at_probe (Op.CasPtr q i p r) h = record { access = refl; put = refl; p = refl; some_p = refl; r = refl }
-at_probe _ h = absurd (true≢false h)
+at_probe _ h = record { access = cc; put = cc; p = cc; some_p = cc; r = cc }
 
 module _ (listed : List ℕ) (safe : ℕ → Bool) (s : ImageScene) (n : NeverState) (k : ℕ) (h : Ready listed safe s n)
     (there : k < length s.flights) (long : 8 * k + 7 < length n.registers) where
@@ -61,10 +57,9 @@ module _ (listed : List ℕ) (safe : ℕ → Bool) (s : ImageScene) (n : NeverSt
   own_safe r = h.set.registers (8 * k + r)
 
   -- an access goes on where its page is mapped, and is refused where it isn't
-  pub probe_leads : (header : ℕ → ℕ) → PagesShow header s n → (o : Op) (q p r l x : ℕ)
-      → flight_among s.flights k ≡ flight Stage.Probe o q p r l → d_of o < 8
-      → is_astray (standing_at Stage.Probe o) ≡ false → CarriesOwn bases n k (flight Stage.Probe o q p r l)
-      → x ≡ header (((q - 65536) / 8 + i_of o) / 64)
+  pub probe_leads : (header : ℕ → ℕ) → PagesShow header s n → (o : Op) (q p r l x : ℕ) → flight_among s.flights k
+      ≡ flight Stage.Probe o q p r l → d_of o < 8 → is_astray (standing_at Stage.Probe o) ≡ false
+      → CarriesOwn bases n k (flight Stage.Probe o q p r l) → x ≡ header (((q - 65536) / 8 + i_of o) / 64)
       → (is_unmapped_header (header_of x) ≡ true → IsAdmitted listed n k o)
       → LeadsBy safe s n k o s (progress_probe (flight Stage.Probe o q p r l) x)
   probe_leads header show o q p r l x is ld a car e ad =

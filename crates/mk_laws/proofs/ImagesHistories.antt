@@ -13,7 +13,6 @@ use Rattle.mk_core.{proofs.Histories.enabled_more, specs.History.never_first}
 use Rattle.mk_laws.proofs.{Bases.IsLonger, Basics.KnownWorld, Basics.at_first, Basics.known_world}
 use Rattle.mk_laws.proofs.{ImagesOneEvent.Follows, ImagesOneEvent.one_event, Pairs.bare_carries, Saying.images_say}
 use Rattle.mk_laws.specs.Laws.{HistoriesMirrorNever, HistoriesRefineNever, HistoriesTellOthers, ReachedIsUnreleased}
-use Rattle.mk_laws.specs.SafeSets.{HasSafeSet}
 
 -- what events leave and decide, from a world on
 record FollowsAll (c : Config) (w : World) (n : NeverState) (es : List Event) : Type 0 where
@@ -63,17 +62,6 @@ follows_from c whole done (x ∷ es) w n limits is was on e others mirrors ad =
     }
 
 -- the first world
-first_safe : (c : Config) → HasSafeSet [] (never_first c)
-first_safe c = (
-  λ a. false,
-  record {
-    registers = λ k. rw (at_first (8 * c.callers) k Null) tt;
-    globals = λ g. rw (at_first 64 g Null) tt;
-    closed = λ a i s m. cc;
-    unreleased = λ a s. cc;
-  },
-)
-
 pub first_mirrors : (c : Config) → Mirrors c (first_world c) (never_first c)
 first_mirrors c = record {
   types = refl;
@@ -90,7 +78,15 @@ first_mirrors c = record {
     probed = λ j. rw (at_first c.callers j at_rest) (λ past. cc);
   };
   freed_run = λ run e. cc;
-  safe = first_safe c;
+  safe = (
+    λ a. false,
+    record {
+      registers = λ k. rw (at_first (8 * c.callers) k Null) tt;
+      globals = λ g. rw (at_first 64 g Null) tt;
+      closed = λ a i s m. cc;
+      unreleased = λ a s. cc;
+    },
+  );
 }
 
 all_follow : (c : Config) (es : List Event) → IsHistory c es → ImagePremisesAlong c es
@@ -110,13 +106,9 @@ pub say_along : (c : Config) (front rest : List Event) → ImagePremisesAlong c 
     → ImagePremisesAlong c front
 say_along c front rest others xs ys e = others xs (ys ++ rest) (sym (append_assoc xs ys rest) ∙ rw e)
 
--- A list is the last of its own fronts.
-others_behind : (c : Config) (es : List Event) → ImagePremisesAlong c es → ImagePremises c (left c es)
-others_behind c es others = others es [] (append-nil es)
-
 pub histories_tell : HistoriesTellOthers
 histories_tell c es h others = images_say c (left c es) _ (known_world c es h.within_limits h.enabled)
-    (others_behind c es others) (histories_mirror c es h others)
+    (others es [] (append-nil es)) (histories_mirror c es h others)
 
 -- What is reached is in a safe set.
 safe_leads : (safe : ℕ → Bool) (v : Value) (number : ℕ) → IsSafe safe v → LeadsTo v number → safe number ≡ true
@@ -126,8 +118,7 @@ safe_leads safe _ number is leads = absurd leads
 pub reached_is_unreleased : ReachedIsUnreleased
 reached_is_unreleased c es h others number reached =
     let set = (histories_mirror c es h others).safe in
-    set.1.unreleased number (reached_is_in _ (λ a. set.0 a ≡ true)
-    record {
+    set.1.unreleased number (reached_is_in _ (λ a. set.0 a ≡ true) record {
       registers = λ r a leads. safe_leads set.0 _ a (set.1.registers r) leads;
       globals = λ g a leads. safe_leads set.0 _ a (set.1.globals g) leads;
       words = λ from place a is leads. safe_leads set.0 _ a (set.1.closed from place is leads.0) leads.1;

@@ -87,48 +87,50 @@ others_probed fs k f n m there small own same meets h j = elim (cases_eq j k) [
       (meets j ne past _ _ (h j past)))
 ]
 
-meets_alike : (n m : NeverState) → AreAlike n m → (v : Value) (i : ℕ) → IsMet n v i → IsMet m v i
-meets_alike n m alike v i h = met_same n m v i (λ a. (alike a).0) (λ a u. (alike a).1 ∙ u) h
-
 -- another caller's register stays
 other_register : (n : NeverState) (k d j r : ℕ) (v : Value) → d < 8 → r < 8 → j ≢ k
     → register_at (with_register n k d v) j r ≡ register_at n j r
 other_register n k d j r v ld lr ne =
     get_or-set_other n.registers (8 * k + d) (8 * j + r) v Null (λ e. absurd (ne (omega arith)))
 
-put_past : (s : Stage) → s ≡ Stage.Put → is_past_probe s ≡ false
-put_past s e = ap is_past_probe e
+-- the registers of all, where the flight goes on with nothing owed
+plain_registers : (s : ImageScene) (n : NeverState) → AreImages s n → AreSmall s.flights → (k : ℕ) (f : Flight)
+    → Decides s n k f → (i : ℕ) → shown (flight_among (slice_set s.flights k f) (i / 8)) (i % 8)
+    (slice_index s.registers i) ≡ image_of (bases_of s.allocations) (slice_index_or n.registers i Null)
+plain_registers s n h small k f at = grind (arith, registers_from, shows_plain, bare_owes_nothing, own_plain)
 
-module _ (s : ImageScene) (n : NeverState) (h : AreImages s n) (small : AreSmall s.flights) where
+pub rebased : (s : ImageScene) (n : NeverState) → AreImages s n → (xs : List PlacedAllocation)
+    → bases_of xs ≡ bases_of s.allocations
+    → ((a : ℕ) → (placed_at xs a).released ≡ false → (placed_at s.allocations a).released ≡ false)
+    → AreImages (record s { allocations = xs }) n
+rebased s n h xs e u = grind (arith, same_base)
+
+-- each move
+module _ (globals : List ℕ) (s : ImageScene) (n : NeverState) (h : AreImages s n) (small : AreSmall s.flights)
+    (typed : IsTyped globals n) (same : length s.allocations ≡ length n.allocations) (safe : ℕ → Bool) where
   abbrev bases : List ℕ
   bases = bases_of s.allocations
 
-  flies : (k : ℕ) (f : Flight) → ((r x : ℕ) → shown f r x ≡ shown (flight_among s.flights k) r x)
-      → CarriesOwn bases n k f → ProbedOwn n k f → AreImages (record s { flights = slice_set s.flights k f }) n
-  flies k f same carries probed = record {
+  pub images_kept : (t : ImageScene) (m : NeverState) → AreApart s.allocations n → Move safe s n t m → AreImages t m
+  images_kept t m apart Rests = h
+  images_kept t m apart (Flies k f shows carries probes) = record {
     registers = λ i. set_by (λ (x : Flight). shown x (i % 8) (slice_index s.registers i)
         ≡ image_of bases (slice_index_or n.registers i Null)) s.flights k (i / 8) f at_rest
-        (λ e. same (i % 8) _ ∙ rw (← e) (h.registers i)) (h.registers i);
+        (λ e. shows (i % 8) _ ∙ rw (← e) (h.registers i)) (h.registers i);
     globals = h.globals;
     heap = h.heap;
     carried = λ j. set_by (λ (x : Flight). CarriesOwn bases n j x) s.flights k j f at_rest
         (λ e. rw e carries) (h.carried j);
-    probed = λ j. set_by (λ (x : Flight). ProbedOwn n j x) s.flights k j f at_rest (λ e. rw e probed) (h.probed j);
+    probed = λ j. set_by (λ (x : Flight). ProbedOwn n j x) s.flights k j f at_rest (λ e. rw e probes) (h.probed j);
   }
-
-  owes_one : (k : ℕ) (f : Flight) (v : Value) → k < length s.flights → 8 * k + 7 < length n.registers
-      → is_put (flight_among s.flights k).stage ≡ false → f.stage ≡ Stage.Put → d_of f.op < 8
-      → f.loaded ≡ image_of bases v
-      → AreImages (record s { flights = slice_set s.flights k f }) (with_register n k (d_of f.op) v)
-  owes_one k f v there long was put ld is = record {
+  images_kept t m apart (Owes k f v there long was put ld is safely) = record {
     registers = registers_from _ s.flights k f s.registers _ there (λ r lr. elim (cases_eq r (d_of f.op)) [
       | inl e ↦ subst (λ j. shown f j (slice_index s.registers (8 * k + j)) ≡ image_of bases
           (slice_index_or (slice_set n.registers (8 * k + d_of f.op) v) (8 * k + j) Null)) (sym e)
           (shows_owed f _ put ∙ is ∙ ap (image_of bases)
           (sym (get_or-set_same n.registers (8 * k + d_of f.op) v Null (omega arith))))
       | inr ne ↦ shows_other f r _ put (λ e. ne (sym e)) ∙ own_plain s n h k r lr was ∙ ap (image_of bases)
-          (sym (get_or-set_other n.registers (8 * k + d_of f.op) (8 * k + r) v Null
-          (λ e. absurd (ne (omega arith)))))
+          (sym (get_or-set_other n.registers (8 * k + d_of f.op) (8 * k + r) v Null (λ e. absurd (ne (omega arith)))))
     ]) (λ i ne. h.registers i ∙ ap (image_of bases)
         (sym (get_or-set_other n.registers (8 * k + d_of f.op) i v Null (λ e. absurd (ne (omega arith))))));
     globals = h.globals;
@@ -136,19 +138,11 @@ module _ (s : ImageScene) (n : NeverState) (h : AreImages s n) (small : AreSmall
     carried = others_carry _ _ s.flights k f n (with_register n k (d_of f.op) v) there small
         (λ a b d. put_carries _ f a b d put)
         (λ j r ne lr. ap (image_of bases) (other_register n k (d_of f.op) j r v ld lr ne)) h.carried;
-    probed = others_probed s.flights k f n (with_register n k (d_of f.op) v) there small (put_past f.stage put)
+    probed = others_probed s.flights k f n (with_register n k (d_of f.op) v) there small (ap is_past_probe put)
         (λ j r ne lr. other_register n k (d_of f.op) j r v ld lr ne)
         (λ j ne past v' i m. met_same n (with_register n k (d_of f.op) v) v' i (λ a. refl) (λ a u. u) m) h.probed;
   }
-
-  pays : (k : ℕ) (f : Flight) → k < length s.flights → 8 * k + 7 < length s.registers
-      → (flight_among s.flights k).stage ≡ Stage.Put → d_of (flight_among s.flights k).op < 8 → is_bare f.stage ≡ true
-      → AreImages (record s {
-        flights = slice_set s.flights k f;
-        registers = slice_set s.registers (8 * k + d_of (flight_among s.flights k).op)
-            (flight_among s.flights k).loaded;
-      }) n
-  pays k f there long put ld bare =
+  images_kept t m apart (Pays k f there long put ld bare) =
       let old = flight_among s.flights k in
       record {
         registers = registers_from _ s.flights k f _ n.registers there (λ r lr. elim (cases_eq r (d_of old.op)) [
@@ -172,12 +166,7 @@ module _ (s : ImageScene) (n : NeverState) (h : AreImages s n) (small : AreSmall
         probed = others_probed s.flights k f n n there small (bare_unprobed f.stage bare) (λ j r ne lr. refl)
             (λ j ne past v i m. m) h.probed;
       }
-
-  stores : (k d x : ℕ) (f : Flight) (v : Value) → Decides s n k f → 8 * k + 7 < length s.registers → d < 8
-      → x ≡ image_of bases v
-      → AreImages (record s { flights = slice_set s.flights k f; registers = slice_set s.registers (8 * k + d) x })
-      (with_register n k d v)
-  stores k d x f v at long ld is =
+  images_kept t m apart (Stores k d x f v at long ld is safely) =
       let long_n = at.registers in
       record {
         registers = registers_from _ s.flights k f _ _ at.there
@@ -197,49 +186,17 @@ module _ (s : ImageScene) (n : NeverState) (h : AreImages s n) (small : AreSmall
             (λ j r ne lr. other_register n k d j r v ld lr ne)
             (λ j ne past v' i m. met_same n (with_register n k d v) v' i (λ a. refl) (λ a u. u) m) h.probed;
       }
-
-  -- the registers of all, where the flight goes on with nothing owed
-  plain_registers : (k : ℕ) (f : Flight) → Decides s n k f → (i : ℕ)
-      → shown (flight_among (slice_set s.flights k f) (i / 8)) (i % 8) (slice_index s.registers i)
-      ≡ image_of bases (slice_index_or n.registers i Null)
-  plain_registers k f at = grind (arith, registers_from, shows_plain, bare_owes_nothing, own_plain)
-
-  shares : (k g x : ℕ) (f : Flight) (v : Value) → Decides s n k f → g < length s.globals → g < length n.globals
-      → x ≡ image_of bases v
-      → AreImages (record s { flights = slice_set s.flights k f; globals = slice_set s.globals g x })
-      (with_global n g v)
-  shares k g x f v at lg ln is = record {
-    registers = plain_registers k f at;
+  images_kept t m apart (Shares k g x f v at lg ln is safely) = record {
+    registers = plain_registers s n h small k f at;
     globals = λ i. set_both (λ y u. y ≡ image_of bases u) s.globals n.globals g i x 0 v Null lg
         ln (λ e. is) (λ ne. h.globals i);
     heap = h.heap;
     carried = others_carry _ _ s.flights k f n (with_global n g v) at.there small
         (λ a b d. bare_carries _ f a b d at.bare) (λ j r ne lr. refl) h.carried;
     probed = others_probed s.flights k f n (with_global n g v) at.there small (bare_unprobed f.stage at.bare)
-        (λ j r ne lr. refl) (λ j ne past v' i m. met_same n (with_global n g v) v' i (λ a. refl) (λ a u. u) m)
-        h.probed;
+        (λ j r ne lr. refl) (λ j ne past v' i m. met_same n (with_global n g v) v' i (λ a. refl) (λ a u. u) m) h.probed;
   }
-
-  wipes : (x : ℕ) → ((a i : ℕ) → (placed_at s.allocations a).released ≡ false → is_unmapped (allocation_at n a) ≡ false
-      → i < length (words_of n a) → (placed_at s.allocations a).base + i ≢ x)
-      → AreImages (record s { heap = slice_set s.heap x 0 }) n
-  wipes x out = record {
-    registers = h.registers;
-    globals = h.globals;
-    heap = λ a i u m lt. get_or-set_other s.heap x _ 0 0 (out a i u m lt) ∙ h.heap a i u m lt;
-    carried = h.carried;
-    probed = h.probed;
-  }
-
-module _ (s : ImageScene) (n : NeverState) (h : AreImages s n) (small : AreSmall s.flights) where
-  writes : AreApart s.allocations n → (k a i x : ℕ) (f : Flight) (v : Value) → Decides s n k f
-      → (placed_at s.allocations a).released ≡ false → i < length (words_of n a)
-      → (placed_at s.allocations a).base + i < length s.heap → x ≡ image_of (bases_of s.allocations) v
-      → AreImages (record s {
-        flights = slice_set s.flights k f;
-        heap = slice_set s.heap ((placed_at s.allocations a).base + i) x;
-      }) (with_word n a i v)
-  writes apart k a i x f v at ua li inside is =
+  images_kept t m apart (Writes k a i x f v at ua mapped li inside is safely) =
       let alike = written_alike n a i v in
       record {
         registers = plain_registers s n h small k f at;
@@ -253,67 +210,40 @@ module _ (s : ImageScene) (n : NeverState) (h : AreImages s n) (small : AreSmall
                     (ap (λ y. (placed_at s.allocations y).base + j) e
                     ∙ ap (λ y. (placed_at s.allocations a).base + y) e2)
                     ∙ get_or-set_same s.heap ((placed_at s.allocations a).base + i) x 0 inside ∙ is
-                    ∙ ap (image_of (bases_of s.allocations))
+                    ∙ ap (image_of bases)
                     (sym (ap (λ y. word_at (with_word n a i v) y j) e ∙ ap (word_at (with_word n a i v) a) e2
                     ∙ this_word n a i v li))
                 | inr ne2 ↦ get_or-set_other s.heap ((placed_at s.allocations a).base + i)
                     ((placed_at s.allocations b).base + j) x 0
                     (λ z. let y = ap (λ y. (placed_at s.allocations y).base) e in absurd (ne2 (omega (arith, y, z))))
-                    ∙ h.heap b j ub mb' lj' ∙ ap (image_of (bases_of s.allocations))
+                    ∙ h.heap b j ub mb' lj' ∙ ap (image_of bases)
                     (sym (ap (λ y. word_at (with_word n a i v) y j) e ∙ word_other n a i j v li ne2
                     ∙ ap (λ y. word_at n y j) (sym e)))
               ]
               | inr ne ↦
                   get_or-set_other s.heap ((placed_at s.allocations a).base + i) ((placed_at s.allocations b).base + j)
                   x 0 (apart b a j i ub ua lj' li ne)
-                  ∙ h.heap b j ub mb' lj' ∙ ap (image_of (bases_of s.allocations)) (sym (word_elsewhere n a i b j v ne))
+                  ∙ h.heap b j ub mb' lj' ∙ ap (image_of bases) (sym (word_elsewhere n a i b j v ne))
             ];
         carried = others_carry _ _ s.flights k f n (with_word n a i v) at.there small
             (λ a b d. bare_carries _ f a b d at.bare) (λ j r ne lr. refl) h.carried;
         probed = others_probed s.flights k f n (with_word n a i v) at.there small (bare_unprobed f.stage at.bare)
-            (λ j r ne lr. refl) (λ j ne past v' i' m. meets_alike n (with_word n a i v) alike v' i' m) h.probed;
+            (λ j r ne lr. refl) (λ j ne past v' i' m. met_same n (with_word n a i v) v' i' (λ a. (alike a).0)
+            (λ a u. (alike a).1 ∙ u) m) h.probed;
       }
-
-module _ (s : ImageScene) (n : NeverState) (h : AreImages s n) where
-  pub rebased : (xs : List PlacedAllocation) → bases_of xs ≡ bases_of s.allocations
-      → ((a : ℕ) → (placed_at xs a).released ≡ false → (placed_at s.allocations a).released ≡ false)
-      → AreImages (record s { allocations = xs }) n
-  rebased xs e u = grind (arith, same_base)
-
-module _ (s : ImageScene) (n : NeverState) (h : AreImages s n) (small : AreSmall s.flights) where
-  frees : (k a : ℕ) (f : Flight) → Decides s n k f
-      → (is_unmapped (record (allocation_at n a) { freed = true }) ≡ true → (j : ℕ) → j ≢ k
-      → is_past_probe (flight_among s.flights j).stage ≡ false)
-      → AreImages (record s { flights = slice_set s.flights k f }) (with_freed n a)
-  frees k a f at quiet = record {
-    registers = plain_registers s n h small k f at;
+  images_kept t m apart (Wipes x out) = record {
+    registers = h.registers;
     globals = h.globals;
-    heap = λ b j u m lt. h.heap b j u (freed_was n a b m) (rw (freed_words n a b) at lt)
-        ∙ rw (← (freed_words n a b));
-    carried = others_carry _ _ s.flights k f n (with_freed n a) at.there small
-        (λ a b d. bare_carries _ f a b d at.bare) (λ j r ne lr. refl) h.carried;
-    probed = others_probed s.flights k f n (with_freed n a) at.there small (bare_unprobed f.stage at.bare)
-        (λ j r ne lr. refl)
-        (λ j ne past v i m. elim (cases_Bool (is_unmapped (record (allocation_at n a) { freed = true }))) [
-          | inl e ↦ let x : false ≡ true = sym (quiet e j ne) ∙ past in cc
-          | inr e ↦ met_same n (with_freed n a) v i (λ b. rw (freed_words n a b)) (λ b u. freed_is n a b e u) m
-        ]) h.probed;
+    heap = λ a i u m lt. get_or-set_other s.heap x _ 0 0 (out a i u m lt) ∙ h.heap a i u m lt;
+    carried = h.carried;
+    probed = h.probed;
   }
-
-module _ (globals : List ℕ) (s : ImageScene) (n : NeverState) (h : AreImages s n) (small : AreSmall s.flights)
-    (typed : IsTyped globals n) (same : length s.allocations ≡ length n.allocations) where
-  grants : (k d base ty : ℕ) (f : Flight) → Decides s n k f → 8 * k + 7 < length s.registers → d < 8
-      → ((i : ℕ) → i < length (kinds_of n.types ty) → slice_index s.heap (base + i) ≡ 0) → AreImages (record s {
-        flights = slice_set s.flights k f;
-        registers = slice_set s.registers (8 * k + d) (address_of base);
-        allocations = s.allocations ++ fresh_one base ty ∷ [];
-      }) (with_register (with_new n ty) k d (Ptr (length n.allocations) ty 0))
-  grants k d base ty f at long ld zero_there =
+  images_kept t m apart (Grants k d base ty f at long ld zero_there) =
       let y = fresh_one base ty in
       let v = Ptr (length n.allocations) ty 0 in
       let bs = bases_of (s.allocations ++ y ∷ []) in
       let long_n = at.registers in
-      let grown : (w : Value) → IsSound n w → image_of bs w ≡ image_of (bases_of s.allocations) w =
+      let grown : (w : Value) → IsSound n w → image_of bs w ≡ image_of bases w =
       λ w sound. image_grown n s.allocations y w same sound in
       record {
         registers = registers_from bs s.flights k f _ _ at.there
@@ -346,7 +276,7 @@ module _ (globals : List ℕ) (s : ImageScene) (n : NeverState) (h : AreImages s
               ∙ sym (suits_grown n s.allocations y (word_at n b j) (kind_in n (allocation_at n b) j) same
               (t.words j lj')) ∙ ap (λ (x : NeverAllocation). image_of bs (slice_index_or x.words j Null)) (sym na))
         ];
-        carried = others_carry (bases_of s.allocations) bs s.flights k f n (with_register (with_new n ty) k d v)
+        carried = others_carry bases bs s.flights k f n (with_register (with_new n ty) k d v)
             at.there small (λ a b d. bare_carries _ f a b d at.bare)
             (λ j r ne lr. ap (image_of bs) (other_register (with_new n ty) k d j r v ld lr ne)
             ∙ grown _ (typed.registers (8 * j + r))) h.carried;
@@ -355,23 +285,20 @@ module _ (globals : List ℕ) (s : ImageScene) (n : NeverState) (h : AreImages s
             (λ j ne past w i m. met_same (with_new n ty) (with_register (with_new n ty) k d v) w i (λ a. refl)
             (λ a u. u) (meets_new n ty w i m)) h.probed;
       }
-
-  -- each move
-  pub images_kept : (safe : ℕ → Bool) (t : ImageScene) (m : NeverState) → AreApart s.allocations n → Move safe s n t m
-      → AreImages t m
-  images_kept safe t m apart Rests = h
-  images_kept safe t m apart (Flies k f e c p) = flies s n h small k f e c p
-  images_kept safe t m apart (Owes k f v a b c d e g i) = owes_one s n h small k f v a b c d e g
-  images_kept safe t m apart (Pays k f a b c d e) = pays s n h small k f a b c d e
-  images_kept safe t m apart (Stores k d x f v a b c e g) = stores s n h small k d x f v a b c e
-  images_kept safe t m apart (Shares k g x f v a b c d e) = shares s n h small k g x f v a b c d
-  images_kept safe t m apart (Writes k a i x f v at u mm li inside is sv) =
-      writes s n h small apart k a i x f v at u li inside is
-  images_kept safe t m apart (Wipes x out) = wipes s n h small x out
-  images_kept safe t m apart (Grants k d base ty f at long ld z) = grants k d base ty f at long ld z
-  images_kept safe t m apart (Frees k a f xs at places released there others is quiet) =
-      rebased (record s { flights = slice_set s.flights k f }) (with_freed n a) (frees s n h small k a f at quiet) xs
-      places.bases (λ b u. sym (released b) ∙ u)
-  images_kept safe t m apart (Renews xs places released freed) =
-      rebased s n h xs places.bases (λ b u. sym (released b) ∙ u)
-  images_kept safe t m apart (Releases xs places released freed kept cut) = rebased s n h xs places.bases released
+  images_kept t m apart (Frees k a f xs at places released there others is quiet) =
+      rebased (record s { flights = slice_set s.flights k f }) (with_freed n a) (record {
+        registers = plain_registers s n h small k f at;
+        globals = h.globals;
+        heap = λ b j u m lt. h.heap b j u (freed_was n a b m) (rw (freed_words n a b) at lt)
+            ∙ rw (← (freed_words n a b));
+        carried = others_carry _ _ s.flights k f n (with_freed n a) at.there small
+            (λ a b d. bare_carries _ f a b d at.bare) (λ j r ne lr. refl) h.carried;
+        probed = others_probed s.flights k f n (with_freed n a) at.there small (bare_unprobed f.stage at.bare)
+            (λ j r ne lr. refl)
+            (λ j ne past v i m. elim (cases_Bool (is_unmapped (record (allocation_at n a) { freed = true }))) [
+              | inl e ↦ let x : false ≡ true = sym (quiet e j ne) ∙ past in cc
+              | inr e ↦ met_same n (with_freed n a) v i (λ b. rw (freed_words n a b)) (λ b u. freed_is n a b e u) m
+            ]) h.probed;
+      }) xs places.bases (λ b u. sym (released b) ∙ u)
+  images_kept t m apart (Renews xs places released freed) = rebased s n h xs places.bases (λ b u. sym (released b) ∙ u)
+  images_kept t m apart (Releases xs places released freed kept cut) = rebased s n h xs places.bases released

@@ -8,7 +8,7 @@ use Rattle.mk_laws.proofs.Vocabulary.{eqb-true, get_or, get_or-set_other, get_or
 use Rattle.mk_laws.proofs.Vocabulary.{kinds_of, length, length-set, map, no_allocation, or_cases, or_left, or_right}
 use Rattle.mk_laws.proofs.Vocabulary.{placed_at, refl, replies_of, set_by, slice_index_or, slice_set, subst, suc, sym}
 use Rattle.mk_laws.proofs.Vocabulary.{true, with_freed, with_global, with_new, with_register, with_word, words_of}
-use Rattle.mk_laws.proofs.Vocabulary.{world_behind, zero, [], ◌*◌, ◌++◌, ◌+◌, ◌<◌, ◌==◌, ◌||◌, ◌∙◌, ◌∷◌, ◌≡◌, ◌≢◌}
+use Rattle.mk_laws.proofs.Vocabulary.{world_behind, zero, [], ◌*◌, ◌++◌, ◌+◌, ◌==◌, ◌||◌, ◌∙◌, ◌∷◌, ◌≡◌, ◌≢◌}
 use Rattle.mk_never.{proofs.Later.calls_stay, proofs.TypedCalls.calls_keep, specs.Types.zero_of}
 use Rattle.mk_core.proofs.ChangedAllocations.{granted_at}
 use Rattle.mk_laws.proofs.Bases.{IsLonger, bases_grow}
@@ -16,7 +16,7 @@ use Rattle.mk_laws.proofs.Basics.{Frees, Grants, KnownWorld, Move, Releases, Ren
 use Rattle.mk_laws.proofs.HeapEdits.{freed_was, freed_words, fresh_one, new_never, new_words, old_never, old_placed}
 use Rattle.mk_laws.proofs.HeapEdits.{written_alike}
 use Rattle.mk_laws.proofs.ImagesMoves.{Owes, SamePlaces, Shares, Stores}
-use Rattle.mk_laws.proofs.{EventSorts.goes, FreedRuns.freed_run_stays, FreedRuns.never_after, ImagesKept.images_kept}
+use Rattle.mk_laws.proofs.{EventSorts.goes, FreedRuns.never_after, FreedRuns.owns, ImagesKept.images_kept}
 use Rattle.mk_laws.specs.{Images.AreTwins, SafeSets.HasSafeSet}
 
 -- There is a safe set after each move, and the two lists of allocations still go together.
@@ -60,15 +60,6 @@ module _ (safe : ℕ → Bool) (s : ImageScene) (n : NeverState) (h : IsSafeSet 
     unreleased = h.unreleased;
   }
 
-  of_freed : (a : ℕ) (xs : List PlacedAllocation)
-      → ((b : ℕ) → (placed_at xs b).released ≡ (placed_at s.allocations b).released)
-      → IsSafeSet safe xs (with_freed n a)
-  of_freed a xs same = grind (arith, freed_words, freed_was)
-
-  of_same : (xs : List PlacedAllocation) → ((b : ℕ) → (placed_at xs b).released ≡ (placed_at s.allocations b).released)
-      → IsSafeSet safe xs n
-  of_same xs same = grind arith
-
   of_new : (k d base ty : ℕ) → length s.allocations ≡ length n.allocations
       → IsSafeSet (λ a. safe a || (a == length n.allocations)) (s.allocations ++ fresh_one base ty ∷ [])
       (with_register (with_new n ty) k d (Ptr (length n.allocations) ty 0))
@@ -107,82 +98,66 @@ safe_kept safe s t n m h same (Writes k a i x f v at u mm li inside is sv) = (sa
 safe_kept safe s t n m h same (Grants k d base ty f at long ld z) =
     (λ a. safe a || (a == length n.allocations), of_new safe s n h k d base ty same)
 safe_kept safe s t n m h same (Frees k a f xs at places released there others is quiet) =
-    (safe, of_freed safe s n h a xs released)
-safe_kept safe s t n m h same (Renews xs places released freed) = (safe, of_same safe s n h xs released)
+    (safe, grind (arith, freed_words, freed_was))
+safe_kept safe s t n m h same (Renews xs places released freed) = (safe, grind arith)
 safe_kept safe s t n m h same (Releases xs places released freed kept cut) = (kept, cut)
 safe_kept safe s t n m h same _ = (safe, h)
-
--- the two lists of allocations
-twins_changed : (xs : List PlacedAllocation) (n : NeverState) (a : ℕ) (x : NeverAllocation)
-    → x.ty ≡ (allocation_at n a).ty → x.freed ≡ (allocation_at n a).freed
-    → AreTwins xs n → AreTwins xs (record n { allocations = slice_set n.allocations a x })
-twins_changed xs n a x et ef h = record {
-  count = h.count ∙ sym (length-set n.allocations a x);
-  ty = λ b lt. h.ty b lt
-      ∙ set_by (λ (y : NeverAllocation). (allocation_at n b).ty ≡ y.ty) n.allocations a b x no_allocation
-      (λ e. rw e (sym et)) refl;
-  freed = λ b lt. h.freed b lt
-      ∙ set_by (λ (y : NeverAllocation). (allocation_at n b).freed ≡ y.freed) n.allocations a b x no_allocation
-      (λ e. rw e (sym ef)) refl;
-}
 
 twins_same : (xs ys : List PlacedAllocation) (n : NeverState) → SamePlaces xs ys
     → ((a : ℕ) → (placed_at ys a).freed ≡ (placed_at xs a).freed) → AreTwins xs n → AreTwins ys n
 twins_same xs ys n p f h = grind arith
 
-twins_freed : (xs ys : List PlacedAllocation) (n : NeverState) (a : ℕ) → SamePlaces xs ys → a < length n.allocations
-    → ((b : ℕ) → b ≢ a → (placed_at ys b).freed ≡ (placed_at xs b).freed) → (placed_at ys a).freed ≡ true
-    → AreTwins xs n → AreTwins ys (with_freed n a)
-twins_freed xs ys n a p la others is h =
+pub twins_kept : (safe : ℕ → Bool) (s t : ImageScene) (n m : NeverState) → AreTwins s.allocations n → Move safe s n t m
+    → AreTwins t.allocations m
+twins_kept safe s t n m h (Writes k a i x f v at u mm li inside is sv) =
+    let new = record (allocation_at n a) { words = slice_set (words_of n a) i v } in
+    record {
+      count = h.count ∙ sym (length-set n.allocations a new);
+      ty = λ b lt. h.ty b lt ∙ set_by (λ (y : NeverAllocation). (allocation_at n b).ty ≡ y.ty) n.allocations a b new
+          no_allocation (λ e. rw e) refl;
+      freed = λ b lt. h.freed b lt
+          ∙ set_by (λ (y : NeverAllocation). (allocation_at n b).freed ≡ y.freed) n.allocations a b new no_allocation
+          (λ e. rw e) refl;
+    }
+twins_kept safe s t n m h (Grants k d base ty f at long ld z) =
+    let y = fresh_one base ty in
+    let same = h.count in
+    let longer = length-append s.allocations (y ∷ []) in
+    let old : (b : ℕ) → b ≢ length s.allocations → allocation_at (with_new n ty) b ≡ allocation_at n b =
+    λ b ne. old_never n ty b (λ e. ne (e ∙ sym same)) in
+    let last : (b : ℕ) → b ≡ length s.allocations → (placed_at (s.allocations ++ y ∷ []) b ≡ y)
+    × (allocation_at (with_new n ty) b ≡ new_words n ty) = λ b e. (
+      ap (placed_at (s.allocations ++ y ∷ [])) e ∙ granted_at s.allocations y,
+      ap (allocation_at (with_new n ty)) (e ∙ same) ∙ new_never n ty,
+    ) in
+    record {
+      count = longer ∙ rw same (sym (length-append n.allocations (new_words n ty ∷ [])));
+      ty = λ b lt. elim (cases_eq b (length s.allocations)) [
+        | inl e ↦ rw (last b e).0 (rw (last b e).1)
+        | inr ne ↦ rw (old_placed s.allocations y b ne) (rw (old b ne) (h.ty b (omega arith)))
+      ];
+      freed = λ b lt. elim (cases_eq b (length s.allocations)) [
+        | inl e ↦ rw (last b e).0 (rw (last b e).1)
+        | inr ne ↦ rw (old_placed s.allocations y b ne) (rw (old b ne) (h.freed b (omega arith)))
+      ];
+    }
+twins_kept safe s t n m h (Frees k a f xs at places released there others is quiet) =
     let new = record (allocation_at n a) { freed = true } in
     record {
-      count = p.count ∙ h.count ∙ sym (length-set n.allocations a new);
-      ty = λ b lt. p.each b ∙ h.ty b (let e = p.count in omega (arith, e))
+      count = places.count ∙ h.count ∙ sym (length-set n.allocations a new);
+      ty = λ b lt. places.each b ∙ h.ty b (let e = places.count in omega (arith, e))
           ∙ set_by (λ (y : NeverAllocation). (allocation_at n b).ty ≡ y.ty) n.allocations a b new no_allocation
           (λ e. rw e) refl;
       freed = λ b lt. elim (cases_eq b a) [
-        | inl e ↦ ap (λ j. (placed_at ys j).freed) e ∙ is ∙ sym (ap (λ j. (allocation_at (with_freed n a) j).freed) e
-            ∙ rw (get_or-set_same n.allocations a new no_allocation la))
-        | inr ne ↦ others b ne ∙ h.freed b (let e = p.count in omega (arith, e))
+        | inl e ↦ ap (λ j. (placed_at xs j).freed) e ∙ is ∙ sym (ap (λ j. (allocation_at (with_freed n a) j).freed) e
+            ∙ rw (get_or-set_same n.allocations a new no_allocation there))
+        | inr ne ↦ others b ne ∙ h.freed b (let e = places.count in omega (arith, e))
             ∙ sym (rw (get_or-set_other n.allocations a b new no_allocation ne))
       ];
     }
-
-twins_new : (xs : List PlacedAllocation) (n : NeverState) (base ty : ℕ) → AreTwins xs n
-    → AreTwins (xs ++ fresh_one base ty ∷ []) (with_new n ty)
-twins_new xs n base ty h =
-    let y = fresh_one base ty in
-    let same = h.count in
-    let longer = length-append xs (y ∷ []) in
-    record {
-      count = length-append xs (y ∷ []) ∙ rw same (sym (length-append n.allocations (new_words n ty ∷ [])));
-      ty = λ b lt. elim (cases_eq b (length xs)) [
-        | inl e ↦ ap (λ (x : PlacedAllocation). x.ty) (ap (placed_at (xs ++ y ∷ [])) e ∙ granted_at xs y)
-            ∙ sym (rw (ap (allocation_at (with_new n ty)) (e ∙ same) ∙ new_never n ty))
-        | inr ne ↦ rw (old_placed xs y b ne) (h.ty b (omega arith)
-            ∙ sym (rw (old_never n ty b (λ e. ne (e ∙ sym same)))))
-      ];
-      freed = λ b lt. elim (cases_eq b (length xs)) [
-        | inl e ↦ ap (λ (x : PlacedAllocation). x.freed) (ap (placed_at (xs ++ y ∷ [])) e ∙ granted_at xs y)
-            ∙ sym (rw (ap (allocation_at (with_new n ty)) (e ∙ same) ∙ new_never n ty))
-        | inr ne ↦ rw (old_placed xs y b ne) (h.freed b (omega arith)
-            ∙ sym (rw (old_never n ty b (λ e. ne (e ∙ sym same)))))
-      ];
-    }
-
-pub twins_kept : (safe : ℕ → Bool) (s t : ImageScene) (n m : NeverState) → AreTwins s.allocations n → Move safe s n t m
-    → AreTwins t.allocations m
-twins_kept safe s t n m h (Owes k f v a b c d e g i) = record { count = h.count; ty = h.ty; freed = h.freed }
-twins_kept safe s t n m h (Stores k d x f v a b c e g) = record { count = h.count; ty = h.ty; freed = h.freed }
-twins_kept safe s t n m h (Shares k g x f v a b c d e) = record { count = h.count; ty = h.ty; freed = h.freed }
-twins_kept safe s t n m h (Writes k a i x f v at u mm li inside is sv) = twins_changed s.allocations n a _ refl refl h
-twins_kept safe s t n m h (Grants k d base ty f at long ld z) = let g =
-    twins_new s.allocations n base ty h in record { count = g.count; ty = g.ty; freed = g.freed }
-twins_kept safe s t n m h (Frees k a f xs at places released there others is quiet) =
-    twins_freed s.allocations xs n a places there others is h
 twins_kept safe s t n m h (Renews xs places released freed) = twins_same s.allocations xs n places freed h
 twins_kept safe s t n m h (Releases xs places released freed kept cut) = twins_same s.allocations xs n places freed h
-twins_kept safe s t n m h _ = h
+twins_kept safe s t n m h _ = record { count = h.count; ty = h.ty; freed = h.freed }
 
 -- what an event leaves, and that what it decides is right, where more is granted later too
 pub record Follows (c : Config) (w : World) (n : NeverState) (e : Event) : Type 0 where
@@ -210,7 +185,7 @@ one_event c w n e known others mirrors on ad =
         twins = twins_kept safe.0 _ _ n (never_after c w n e) mirrors.twins leads.0;
         images = images_kept c.globals (image_scene_of w) n mirrors.images ready.small mirrors.typed
             mirrors.twins.count safe.0 _ _ ready.apart leads.0;
-        freed_run = freed_run_stays c w n e known others mirrors (enabled_meets c w.now e on) grows ad;
+        freed_run = owns c w n known others mirrors e.seat e.step (enabled_meets c w.now e on) grows ad;
         safe = safe_kept safe.0 _ _ n (never_after c w n e) safe.1 mirrors.twins.count leads.0;
       };
       bases = grows;

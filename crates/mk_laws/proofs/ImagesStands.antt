@@ -114,9 +114,8 @@ gone_headers c w (Some run) a h un gone distance near =
     ]
 
 pub gone_shows : (c : Config) (w : World) → IsWithinLimits c → ImagePremises c w
-    → is_run_gone w.now.words w.now.seats.holding.freed ≡ true
-    → (a i : ℕ) → (placed_at w.allocations a).released ≡ false → is_gone c (placed_at w.allocations a) ≡ true
-    → i < storage_words c (placed_at w.allocations a)
+    → is_run_gone w.now.words w.now.seats.holding.freed ≡ true → (a i : ℕ) → (placed_at w.allocations a).released
+    ≡ false → is_gone c (placed_at w.allocations a) ≡ true → i < storage_words c (placed_at w.allocations a)
     → is_unmapped_header (header_in w.now.words (((placed_at w.allocations a).base + i) / 64)) ≡ true
 gone_shows c w limits others gone a i u un lt =
     let x = placed_at w.allocations a in

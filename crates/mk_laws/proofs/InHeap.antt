@@ -1,13 +1,13 @@
 -- Runs, places and scans lie in the heap, after every enabled list.
 use Rattle.mk_laws.proofs.Vocabulary.{AreEnabled, AreEnabledFrom, AreOfPages, Config, Event, IsWithinLimits, List}
-use Rattle.mk_laws.proofs.Vocabulary.{Marker, Moment, Seat, Step, Word, World, ℕ, access, accessed_lengths, and_parts}
-use Rattle.mk_laws.proofs.Vocabulary.{enabled_meets, first_moment, first_world, flight_of, found, free_page, ground_of}
-use Rattle.mk_laws.proofs.Vocabulary.{is_in_range, left, left_from, ltb-true, marker_behind, marker_of, nat_lt, outside}
-use Rattle.mk_laws.proofs.Vocabulary.{refl, true, word_accessed, world_behind, zero_lengths, [], ◌<◌, ◌∷◌, ◌≡◌}
+use Rattle.mk_laws.proofs.Vocabulary.{Marker, Moment, Seat, Step, World, ℕ, access, accessed_lengths, and_parts}
+use Rattle.mk_laws.proofs.Vocabulary.{enabled_meets, first_moment, first_world, free_page, ground_of, left, left_from}
+use Rattle.mk_laws.proofs.Vocabulary.{ltb-true, marker_of, nat_lt, outside, refl, word_accessed, world_behind}
+use Rattle.mk_laws.proofs.Vocabulary.{zero_lengths, [], ◌∷◌}
 use Rattle.mk_laws.proofs.Basics.{Known, Meets, WorldBehind, at_first, known_at_first, known_behind, marker_set}
 use Rattle.mk_laws.proofs.NewPlace.{PlacesFit, place_fits_now, places_behind}
 use Rattle.mk_laws.proofs.ScansInHeap.{MarkerFits, marker_fits_behind, nothing_fits}
-use Rattle.mk_laws.proofs.{Ground.ground_step, RunsInHeap.RunFits, RunsInHeap.RunsFit, RunsInHeap.runs_behind}
+use Rattle.mk_laws.proofs.{Ground.ground_step, RunsInHeap.RunsFit, RunsInHeap.runs_behind}
 
 pub record InHeap (c : Config) (m : Moment) : Type 0 where
   pub lengths : AreOfPages c.pages m.words
@@ -15,26 +15,12 @@ pub record InHeap (c : Config) (m : Moment) : Type 0 where
   pub places : PlacesFit c m
   pub markers : (k : ℕ) → MarkerFits c (marker_of m k)
 
-own_fits : (c : Config) (m : Moment) (k : ℕ) (x : Step) → Meets c m (Marker k) x → InHeap c m
-    → MarkerFits c (marker_behind c (found c m (record { seat = Marker k; step = x })) x (marker_of m k))
-own_fits c m k x h in_heap =
-    marker_fits_behind c (found c m (record { seat = Marker k; step = x })) x (marker_of m k) (looked x)
-    (claimed x h.range) h.marker (in_heap.markers k)
-  where
-    looked : (x : Step) (p : ℕ) → x ≡ Step.Mlook (Word.Head p)
-        → RunFits c p (found c m (record { seat = Marker k; step = x }))
-    looked x p e = rw e (in_heap.runs p)
-
-    claimed : (x : Step) → is_in_range c (Marker k) (flight_of m (Marker k)) x ≡ true → (p i : ℕ) → x ≡ Step.Claim p i
-        → p < c.pages
-    claimed x range p i e =
-        let r = rw e at range in
-        ltb-true p c.pages (and_parts _ (nat_lt i 32) r).0
-
 markers_fit : (c : Config) (w : World) (seat : Seat) (x : Step) → InHeap c w.now → Meets c w.now seat x → (k : ℕ)
     → MarkerFits c (marker_of (WorldBehind c w seat x).now k)
 markers_fit c w (Marker j) x in_heap h k =
-    marker_set w.now.seats.markers j k _ (MarkerFits c) (λ lt. own_fits c w.now j x h in_heap) (in_heap.markers k)
+    marker_set w.now.seats.markers j k _ (MarkerFits c) (λ lt. marker_fits_behind c _ x (marker_of w.now j)
+    (λ p e. rw e (in_heap.runs p)) (λ p i e. ltb-true p c.pages (and_parts _ (nat_lt i 32) (rw e at h.range)).0)
+    h.marker (in_heap.markers j)) (in_heap.markers k)
 markers_fit c w _ x in_heap h k = in_heap.markers k
 
 in_heap_behind : (c : Config) (w : World) (seat : Seat) (x : Step) → Known c w.now → InHeap c w.now

@@ -43,6 +43,6 @@ invariant_behind c w n e known all on admitted = record {
   run_gates = run_gates_behind c w known all.order.laid all.run_gates e.seat e.step (enabled_meets c w.now e on)
       (told_to_zeros c w n known all e on admitted).stored;
   mirrors = (one_event c w n e known (told_to_images c w n known all) all.mirrors on admitted).mirrors;
-  marks = marks_behind c w e.seat e.step known.limits known.now known.lengths (told_to_guard c w n known all)
+  marks = marks_behind c w e.seat known.limits known.now known.lengths (told_to_guard c w n known all) e.step
       (enabled_meets c w.now e on) all.marks;
 }

@@ -1,7 +1,7 @@
 -- What a change must leave for words to stay guarded, and for scans to stand.
-use Rattle.mk_laws.proofs.Vocabulary.{BlackIsGuarded, Cell, Config, DirtyIsOwed, HeaderGoesOn, IsGuarded, MarkerStands}
+use Rattle.mk_laws.proofs.Vocabulary.{BlackIsGuarded, Config, DirtyIsOwed, HeaderGoesOn, IsGuarded, MarkerStands}
 use Rattle.mk_laws.proofs.Vocabulary.{MarkerState as Marker, Moment, OnlyGrow, Option, OwesDirty, PageIsDirty}
-use Rattle.mk_laws.proofs.Vocabulary.{PointsWell, Scan, ScanStands, Some, Words, ℕ, arith, cases_eq, cells_under, false}
+use Rattle.mk_laws.proofs.Vocabulary.{PointsWell, Scan, ScanStands, Some, ℕ, arith, cases_eq, cells_under, false}
 use Rattle.mk_laws.proofs.Vocabulary.{false_from_ne_true, first_word, has_bit, has_no_pointers, header_at, header_in}
 use Rattle.mk_laws.proofs.Vocabulary.{header_of, inl, inr, refl, slice_index, sym, true, true≢false, words_under, ◌*◌}
 use Rattle.mk_laws.proofs.Vocabulary.{◌+◌, ◌/◌, ◌<◌, ◌∙◌, ◌≡◌, ◌≢◌, ◌⊎◌}
@@ -58,17 +58,12 @@ pub scanned_before : (pages a b : ℕ) → HeaderGoesOn pages a b → cells_unde
     → has_no_pointers (header_of b) ≡ false → has_no_pointers (header_of a) ≡ false
 scanned_before pages a b g some f = false_from_ne_true _ (λ t. true≢false (sym (g.unscanned some t) ∙ f))
 
-pub first_goes : (pages : ℕ) (w v : Words) (cell : Cell)
-    → HeaderGoesOn pages (header_at w cell.page) (header_at v cell.page)
-    → cells_under (header_in w cell.page) ≢ 0 → first_word v cell ≡ first_word w cell
-first_goes pages w v cell g some = rw (g.words some)
-
 pub scan_kept : (c : Config) (m n : Moment) (hand : Option ℕ) (x : Scan) → Keeps c m n → ScanStands c m hand x
     → ScanStands c n hand x
 scan_kept c m n hand x k h =
     let g = k.headers x.page in
     let some : cells_under (header_in m.words x.page) ≢ 0 = λ z. let lt = h.index in omega arith in
-    let first = first_goes c.pages m.words n.words (cell_scanned x) g some in
+    let first : first_word n.words (cell_scanned x) ≡ first_word m.words (cell_scanned x) = rw (g.words some) in
     record {
       index = rw (g.count some) h.index;
       marked = k.marks x.page x.index h.marked;

@@ -1,12 +1,12 @@
 -- All that is known of a moment after an enabled list, of whatever calls.
-use Rattle.mk_laws.proofs.Vocabulary.{AreEnabled, AreEnabledFrom, Bool, Caller, Cell, Config, Event, Flight, Holds}
-use Rattle.mk_laws.proofs.Vocabulary.{IsEnabled, IsWithinLimits, List, Moment, None, Op, Option, Progress, Seat, Some}
-use Rattle.mk_laws.proofs.Vocabulary.{Stage, Step, World, ℕ, and_parts, ap, at_rest, cases_eq, cases_lt, d_of}
-use Rattle.mk_laws.proofs.Vocabulary.{enabled_meets, false, first_moment, first_world, found, g_of, get_or-set_other}
-use Rattle.mk_laws.proofs.Vocabulary.{get_or-set_same, has_operands, if◌then◌else◌, inl, inr, is_in_range, left}
-use Rattle.mk_laws.proofs.Vocabulary.{left_from, length, ltb-true, p_of, progress, progress_freed, progress_p}
-use Rattle.mk_laws.proofs.Vocabulary.{progress_q, progress_read, progress_reg, q_of, r_of, refl, register_met, set_past}
-use Rattle.mk_laws.proofs.Vocabulary.{slice_index_or, slice_set, true, world_behind, [], ◌<◌, ◌==◌, ◌∙◌, ◌∷◌, ◌≡◌, ◌≤◌}
+use Rattle.mk_laws.proofs.Vocabulary.{Answer, AreEnabled, AreEnabledFrom, Bool, Caller, Cell, Config, Event, Flight}
+use Rattle.mk_laws.proofs.Vocabulary.{Holds, IsEnabled, IsWithinLimits, List, Moment, None, Op, Option, Progress, Seat}
+use Rattle.mk_laws.proofs.Vocabulary.{Some, Stage, Step, World, ℕ, and_parts, at_rest, begun, d_of, enabled_meets}
+use Rattle.mk_laws.proofs.Vocabulary.{false, first_moment, first_world, flight_of, found, g_of, has_operands}
+use Rattle.mk_laws.proofs.Vocabulary.{if◌then◌else◌, inl, inr, is_heap_store, is_in_range, left, left_from, ltb-true}
+use Rattle.mk_laws.proofs.Vocabulary.{onward, p_of, progress, progress_freed, progress_p, progress_q, progress_read}
+use Rattle.mk_laws.proofs.Vocabulary.{progress_reg, q_of, r_of, refl, refused, register_met, set_by, slice_index_or}
+use Rattle.mk_laws.proofs.Vocabulary.{true, world_behind, [], ◌<◌, ◌==◌, ◌∙◌, ◌∷◌, ◌≡◌, ◌≢◌, ◌≤◌, ◌⊎◌}
 use Rattle.mk_core.specs.{Calls.has_type, Effects.moment_behind}
 use Rattle.mk_laws.proofs.OrderlyLists.{at_first, not_astray, orderly_at_first, orderly_behind}
 use Rattle.mk_laws.proofs.Standings.{in_turn_told, under_turn_is}
@@ -14,76 +14,91 @@ use Rattle.mk_laws.proofs.{Actors.Meets, Orderly.Orderly, SameWords.Behind, View
 
 -- The operands of each call in flight are in range.
 
--- what a step makes of the operation in flight
-pub data OpStep (c : Config) (old : Op) : Op → Type 0 where
-  Same : OpStep c old old
-  Checked : {new : Op} → has_operands c new ≡ true → OpStep c old new
+-- what a step makes of the call in flight
+pub data CallStep (f : Flight) (x : Step) : Flight → Type 0 where
+  Stays : CallStep f x f
+  Begins : (o : Op) → (x ≡ Step.Enter o) ⊎ (x ≡ Step.Take (Some o)) → CallStep f x (begun o)
+  Ends : CallStep f x at_rest
+  GoesOn : (g : Flight) → g.stage ≡ f.stage → g.op ≡ f.op → is_heap_store x ≡ false
+      → CallStep f x (onward g None).flight
+  Stores : is_heap_store x ≡ true → CallStep f x (onward f None).flight
+  Refused : (g : Flight) (a : Answer) → g.op ≡ f.op → CallStep f x (refused g a).flight
+  Comes : (g : Flight) (s : Stage) → g.op ≡ f.op → s ≢ Stage.Dirty → CallStep f x (record g { stage = s })
 
-either_op : (c : Config) (old : Op) (b : Bool) (p q : Progress) → OpStep c old p.flight.op → OpStep c old q.flight.op
-    → OpStep c old (if b then p else q).flight.op
-either_op c old true p q hp hq = hp
-either_op c old false p q hp hq = hq
+either : (f : Flight) (x : Step) (b : Bool) (p q : Progress) → CallStep f x p.flight → CallStep f x q.flight
+    → CallStep f x (if b then p else q).flight
+either f x true p q hp hq = hp
+either f x false p q hp hq = hq
 
-q_op : (c : Config) (f : Flight) (o : Op) (x : ℕ) → OpStep c f.op (progress_q f o x).flight.op
-q_op c f (Op.Move d q) x = Same
-q_op c f (Op.Same p q) x = Same
-q_op c f _ x = either_op c f.op (x == 0) _ _ Same Same
+q_step : (f : Flight) (x : Step) (o : Op) (n : ℕ) → is_heap_store x ≡ false → CallStep f x (progress_q f o n).flight
+q_step f x (Op.Move d q) n off = GoesOn (record f { q = n }) refl refl off
+q_step f x (Op.Same p q) n off = GoesOn (record f { q = n }) refl refl off
+q_step f x _ n off = either f x (n == 0) _ _ (Refused (record f { q = n }) Answer.Null refl)
+    (GoesOn (record f { q = n }) refl refl off)
 
-p_op : (c : Config) (f : Flight) (o : Op) (x : ℕ) → OpStep c f.op (progress_p f o x).flight.op
-p_op c f (Op.IsNull p) x = Same
-p_op c f (Op.Free p) x = either_op c f.op (x == 0) _ _ Same Same
-p_op c f _ x = Same
+p_step : (f : Flight) (x : Step) (o : Op) (n : ℕ) → is_heap_store x ≡ false → CallStep f x (progress_p f o n).flight
+p_step f x (Op.IsNull p) n off = GoesOn (record f { p = n }) refl refl off
+p_step f x (Op.Free p) n off = either f x (n == 0) _ _ (Comes (record f { p = n }) Stage.Give refl (λ e. cc))
+    (GoesOn (record f { p = n }) refl refl off)
+p_step f x _ n off = GoesOn (record f { p = n }) refl refl off
 
-reg_op : (c : Config) (f : Flight) (s : Stage) (x : ℕ) → OpStep c f.op (progress_reg f s x).flight.op
-reg_op c f Stage.LoadQ x = q_op c f f.op x
-reg_op c f Stage.LoadP x = p_op c f f.op x
-reg_op c f _ x = Same
+reg_step : (f : Flight) (x : Step) (s : Stage) (n : ℕ) → is_heap_store x ≡ false
+    → CallStep f x (progress_reg f s n).flight
+reg_step f x Stage.LoadQ n off = q_step f x f.op n off
+reg_step f x Stage.LoadP n off = p_step f x f.op n off
+reg_step f x Stage.LoadR n off = GoesOn (record f { r = n }) refl refl off
+reg_step f x Stage.Store n off = GoesOn f refl refl off
+reg_step f x Stage.Put n off = Comes f Stage.Leave refl (λ e. cc)
+reg_step f x _ n off = Stays
 
-read_op : (c : Config) (f : Flight) (o : Op) (x : ℕ) → OpStep c f.op (progress_read f o x).flight.op
-read_op c f (Op.GetPtr d q i) x = Same
-read_op c f _ x = Same
+read_step : (f : Flight) (x : Step) (o : Op) (n : ℕ) → is_heap_store x ≡ false
+    → CallStep f x (progress_read f o n).flight
+read_step f x (Op.GetPtr d q i) n off = GoesOn (record f { loaded = n }) refl refl off
+read_step f x _ n off = GoesOn f refl refl off
 
-freed_op : (c : Config) (f : Flight) (x : Option Cell) → OpStep c f.op (progress_freed f x).flight.op
-freed_op c f (Some cell) = Same
-freed_op c f None = Same
+freed_step : (f : Flight) (x : Step) (cell : Option Cell) → CallStep f x (progress_freed f cell).flight
+freed_step f x (Some cell) = Comes f Stage.Give refl (λ e. cc)
+freed_step f x None = Stays
 
 -- all kinds
-op_step : (c : Config) (m : Moment) (seat : Seat) (f : Flight) (n : ℕ) (x : Step) → is_in_range c seat f x ≡ true
-    → OpStep c f.op (progress c m f n x).flight.op
-op_step c m seat f n (Step.Enter o) h = either_op c f.op (n == 0) _ _ (Checked h) Same
-op_step c m seat f n (Step.Take (Some o)) h = either_op c f.op (n == 0) _ _ (Checked h) Same
-op_step c m seat f n (Step.Take None) h = Same
-op_step c m seat f n Step.Leave h = Checked refl
-op_step c m seat f n Step.Give h = Checked refl
-op_step c m seat f n Step.Reg h = reg_op c f f.stage n
-op_step c m seat f n Step.Probe h = either_op c f.op _ _ _ Same Same
-op_step c m seat f n Step.Read h = read_op c f f.op n
-op_step c m seat f n (Step.Look x) h = either_op c f.op _ _ _ Same Same
-op_step c m seat f n (Step.Quar p v) h = freed_op c f _
-op_step c m seat f n _ h = Same
+pub call_step : (c : Config) (m : Moment) (f : Flight) (n : ℕ) (x : Step) → CallStep f x (progress c m f n x).flight
+call_step c m f n (Step.Enter o) = either f (Step.Enter o) (n == 0) _ _ (Begins o (inl refl)) Stays
+call_step c m f n (Step.Take (Some o)) = either f (Step.Take (Some o)) (n == 0) _ _ (Begins o (inr refl)) Stays
+call_step c m f n Step.Leave = Ends
+call_step c m f n Step.Give = Ends
+call_step c m f n Step.Reg = reg_step f Step.Reg f.stage n refl
+call_step c m f n Step.Probe = either f Step.Probe _ _ _ (Refused f Answer.Fault refl) (GoesOn f refl refl refl)
+call_step c m f n Step.Read = read_step f Step.Read f.op n refl
+call_step c m f n Step.Write = Stores refl
+call_step c m f n Step.Cas = Stores refl
+call_step c m f n Step.Getg = GoesOn (record f { loaded = n }) refl refl refl
+call_step c m f n Step.Setg = GoesOn f refl refl refl
+call_step c m f n Step.Dirty = GoesOn f refl refl refl
+call_step c m f n (Step.Look x) = either f (Step.Look x) _ _ _ (Comes f Stage.Give refl (λ e. cc)) Stays
+call_step c m f n (Step.Quar p v) = freed_step f (Step.Quar p v) _
+call_step c m f n Step.Grant = Comes f Stage.Give refl (λ e. cc)
+call_step c m f n Step.Full = Comes f Stage.Give refl (λ e. cc)
+call_step c m f n _ = Stays
 
 abbrev pub HaveOperands : Config → List Flight → Type 0
 HaveOperands c fs = (k : ℕ) → has_operands c (slice_index_or fs k at_rest).op ≡ true
 
-checked : (c : Config) (old new : Op) → has_operands c old ≡ true → OpStep c old new → has_operands c new ≡ true
-checked c old new h Same = h
-checked c old new h (Checked x) = x
-
-set_operands : (c : Config) (fs : List Flight) (k : ℕ) (f : Flight) → HaveOperands c fs
-    → OpStep c (slice_index_or fs k at_rest).op f.op → HaveOperands c (slice_set fs k f)
-set_operands c fs k f h s b = elim (cases_eq b k) [
-  | inl e ↦ elim (cases_lt k (length fs)) [
-    | inl lt ↦ rw (ap (λ j. slice_index_or (slice_set fs k f) j at_rest) e ∙ get_or-set_same fs k f at_rest lt)
-        (checked c _ f.op (h k) s)
-    | inr le ↦ rw (set_past fs k f le) (h b)
-  ]
-  | inr ne ↦ rw (get_or-set_other fs k b f at_rest ne) (h b)
-]
+operands_kept : (c : Config) (seat : Seat) (f : Flight) (x : Step) (g : Flight) → is_in_range c seat f x ≡ true
+    → has_operands c f.op ≡ true → CallStep f x g → has_operands c g.op ≡ true
+operands_kept c seat f x g range h Stays = h
+operands_kept c seat f x g range h (Begins o (inl e)) = rw e at range
+operands_kept c seat f x g range h (Begins o (inr e)) = rw e at range
+operands_kept c seat f x g range h Ends = refl
+operands_kept c seat f x g range h (GoesOn y at same off) = rw same h
+operands_kept c seat f x g range h (Stores on) = h
+operands_kept c seat f x g range h (Refused y a same) = rw same h
+operands_kept c seat f x g range h (Comes y s same ne) = rw same h
 
 pub operands_behind : (c : Config) (m : Moment) (seat : Seat) (x : Step) → HaveOperands c m.seats.flights
     → Meets c m seat x → HaveOperands c (Behind c m seat x).seats.flights
-operands_behind c m (Caller k) x h on = set_operands c m.seats.flights k _ h
-    (op_step c m (Caller k) _ (found c m (record { seat = Caller k; step = x })) x on.range)
+operands_behind c m (Caller k) x h on = λ b. set_by (λ (y : Flight). has_operands c y.op ≡ true) m.seats.flights k b
+    (progress c m (flight_of m (Caller k)) (found c m (record { seat = Caller k; step = x })) x).flight at_rest
+    (λ e. operands_kept c (Caller k) (flight_of m (Caller k)) x _ on.range (h k) (call_step c m _ _ x)) (h b)
 operands_behind c m _ x h on = h
 
 -- the registers and the global of a call

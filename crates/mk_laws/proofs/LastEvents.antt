@@ -5,6 +5,7 @@ use Rattle.mk_laws.proofs.Vocabulary.{calls_from, earlier_part_is_history, enabl
 use Rattle.mk_laws.proofs.Vocabulary.{left_from, left_in_parts, never_behind, never_in_parts, world_behind, [], ◌++◌}
 use Rattle.mk_laws.proofs.Vocabulary.{◌∙◌, ◌∷◌, ◌≡◌}
 use Rattle.mk_laws.proofs.Basics.{KnownWorld, known_world}
+pub use Rattle.mk_laws.proofs.InvariantHistories.{ComesLast, comes_last}
 use Rattle.mk_laws.proofs.{FreedRuns.never_after, InvariantHistories.histories_keep_the_invariant}
 
 -- A history with what is known of its world.
@@ -14,29 +15,6 @@ pub record Stands (c : Config) (es : List Event) : Type 0 where
 
 pub stands : (c : Config) (es : List Event) → IsHistory c es → Stands c es
 stands c es h = record { known = known_world c es h.within_limits h.enabled; all = histories_keep_the_invariant c es h }
-
-pub record ComesLast (c : Config) (es : List Event) (e : Event) : Type 0 where
-  pub before : IsHistory c es
-  pub on : IsEnabled c (left c es).now e
-  pub meets : MeetsAll c (left c es).now e
-  pub admitted : AreAdmitted c.globals (never_behind c es) (asked (call_decided c (left c es).now e))
-  pub leaves : left c (es ++ e ∷ []) ≡ world_behind c (left c es) e
-  pub never : never_behind c (es ++ e ∷ []) ≡ never_after c (left c es) (never_behind c es) e
-
-pub comes_last : (c : Config) (es : List Event) (e : Event) → IsHistory c (es ++ e ∷ []) → ComesLast c es e
-unfolding left_from AreEnabledFrom calls_from
-comes_last c es e h =
-    let xs : List Decided = call_decided c (left c es).now e ++ [] in
-    let one : asked xs ≡ asked (call_decided c (left c es).now e) = rw (append-nil _) in
-    let on = ((enabled_in_parts c es (e ∷ [])).0 h.enabled).1.0 in
-    record {
-      before = earlier_part_is_history c es (e ∷ []) h;
-      on = on;
-      meets = enabled_meets c (left c es).now e on;
-      admitted = rw one at ((admitted_in_parts c es (e ∷ [])).0 h.admitted).1;
-      leaves = left_in_parts c es (e ∷ []);
-      never = never_in_parts c es (e ∷ []) ∙ rw one;
-    }
 
 -- And the other way: a history goes on by an event that is enabled and admitted.
 pub goes_on_by : (c : Config) (es : List Event) (e : Event) → IsHistory c es → IsEnabled c (left c es).now e

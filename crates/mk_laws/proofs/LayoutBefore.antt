@@ -2,7 +2,7 @@
 use Rattle.mk_laws.proofs.Vocabulary.{Among, AreOfPages, Bool, Claim, Config, Ground, IsWithinLimits, LayoutPremises}
 use Rattle.mk_laws.proofs.Vocabulary.{Seat, Step, World, ℕ, arith, claims_on, false, ground_of, is_phase}
 use Rattle.mk_laws.proofs.Vocabulary.{is_released_in, length, ltb-true, nat_lt, object_now, true, ◌<◌, ◌≡◌}
-use Rattle.mk_laws.proofs.Ground.{KeepsGround, reg_ground}
+use Rattle.mk_core.proofs.RegisterAccesses.{LeavesTable, register_leaves}
 use Rattle.mk_laws.proofs.{Known.Known, OthersMoves.WorldBehind, SameWords.Keeps, SameWords.reg_keeps, Serving.Laid}
 
 -- all that is known of the world before
@@ -37,5 +37,5 @@ pub reg_leaves : (c : Config) (w : World) (seat : Seat) → Keeps w.now.words (W
 reg_leaves c w seat = grind (arith, reg_keeps)
 
 pub reg_leaves_ground : (c : Config) (w : World) (seat : Seat)
-    → KeepsGround w.now.words (WorldBehind c w seat Step.Reg).now.words
-reg_leaves_ground c w seat = grind (arith, reg_ground)
+    → LeavesTable w.now.words (WorldBehind c w seat Step.Reg).now.words
+reg_leaves_ground c w seat = register_leaves w.now.words _ _ _

@@ -89,14 +89,6 @@ known_by_kind c w seat (Step.Tally n v) b h on known =
     rw g.pages (rw g.freed known)
 known_by_kind c w seat _ b h on known = known
 
-pub cells_known_behind : (c : Config) (w : World) (seat : Seat) (x : Step) → Before c w → Meets c w.now seat x
-    → FreedCellsAreKnown w → LayoutStands c (WorldBehind c w seat x) → IsQuarantined c (WorldBehind c w seat x)
-    → FreedCellsAreKnown (WorldBehind c w seat x)
-cells_known_behind c w seat x b h known laid q = elim (cases_Bool (is_releasing_behind x (is_phase w.now.words 4))) [
-  | inl on ↦ known_by_kind c w seat x b h on known
-  | inr off ↦ known_quiet c (WorldBehind c w seat x) (phase_kind c w seat x h ∙ off) laid q
-]
-
 -- Each page has a header word, after each event.
 
 part_is : (o : Object) (d : ℕ) (x : Option Header) → ShowsPart o d x → IsSome x
@@ -176,7 +168,10 @@ order_behind c w e limits lengths known on others all =
     record {
       laid = laid;
       quarantined = quarantined;
-      known = cells_known_behind c w e.seat e.step b h all.known laid quarantined;
+      known = elim (cases_Bool (is_releasing_behind e.step (is_phase w.now.words 4))) [
+        | inl on ↦ known_by_kind c w e.seat e.step b h on all.known
+        | inr off ↦ known_quiet c (world_behind c w e) (phase_kind c w e.seat e.step h ∙ off) laid quarantined
+      ];
       snapshot = snapshot_behind c w e.seat e.step b h all.laid all.quarantined all.snapshot;
       runs = whole_behind c w e.seat e.step b h all.runs laid;
       words = words_behind c w e.seat e.step b h all.laid all.words;

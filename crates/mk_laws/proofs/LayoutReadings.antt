@@ -1,11 +1,14 @@
 -- What a laid out scene says of one page.
 use Rattle.mk_laws.proofs.Vocabulary.{Among, AreApart, Claim, HasHeader, IsHeaderOf, IsLaidOn, IsOfOneCell, IsShown}
 use Rattle.mk_laws.proofs.Vocabulary.{LayoutScene, List, Mapped, Mode, Object, Page, ShowsPart, Unmapping, ℕ, arith}
-use Rattle.mk_laws.proofs.Vocabulary.{cells_under, false_from_ne_true, has_bit, head_on, header_on, header_shows, inl}
-use Rattle.mk_laws.proofs.Vocabulary.{inr, no_bit, pages_made, part_head, part_not_free, shows_on, sym, true}
-use Rattle.mk_laws.proofs.Vocabulary.{true≢false, used_on, [], ◌+◌, ◌<◌, ◌∙◌, ◌∷◌, ◌≡◌, ◌≢◌}
+use Rattle.mk_laws.proofs.Vocabulary.{cases_eq, cells_under, false_from_ne_true, has_bit, head_on, header_on}
+use Rattle.mk_laws.proofs.Vocabulary.{header_shows, inl, inr, no_bit, pages_made, part_head, part_not_free, shows_on}
+use Rattle.mk_laws.proofs.Vocabulary.{sym, true, true≢false, used_on, [], ◌+◌, ◌<◌, ◌∙◌, ◌∷◌, ◌≡◌, ◌≢◌}
 use Rattle.mk_core.proofs.WordBits.{zero_from_bits}
 use Rattle.mk_laws.specs.LayoutScene.{Unmapped}
+
+pub zero_unless : (n : ℕ) → (n ≢ 0 → ⊥) → n ≡ 0
+zero_unless n h = elim (cases_eq n 0) [ inl is ↦ is | inr some ↦ absurd (h some) ]
 
 -- a word with no bit is 0, and 0 has none
 pub zero_where_none : (n : ℕ) → ((k : ℕ) → has_bit n k ≡ true → ⊥) → n ≡ 0

@@ -32,13 +32,11 @@ pub mod TurnFrame
 pub mod Views
 pub mod Vocabulary
 pub mod Changes
-pub mod Closing
 pub mod CoveredWords
 pub mod FoundHeaders
 pub mod Headers
 pub mod GuardHistories
 pub mod KeptGuard
-pub mod GuardMarkers
 pub mod GuardOneEvent
 pub mod OthersLeave
 pub mod Phases
@@ -79,7 +77,6 @@ pub mod Fits
 pub mod Serving
 pub mod Released
 pub mod Dropped
-pub mod Modes
 pub mod Freed
 pub mod Granted
 pub mod LayoutHolders
@@ -113,12 +110,10 @@ pub mod InvariantHistories
 pub mod Induction
 pub mod InvariantTheorems
 pub mod Quarantines
-pub mod Grown
 pub mod LastEvents
 pub mod OtherCalls
 pub mod Tests
 pub mod AdmittedStill
-pub mod GatesStill
 pub mod HolderStill
 pub mod RunsStill
 pub mod FramesHolders
@@ -151,7 +146,6 @@ pub mod PrecisionStopped
 pub mod OlderAllocations
 pub mod PrecisionFreeing
 pub mod EvaluatedPrecision
-pub mod AppliedPages
 pub mod AppliedReadings
 pub mod AppliedTheorems
 pub mod CyclePhases
@@ -166,6 +160,5 @@ pub mod Snapshots
 pub mod ReadingsStands
 pub mod UnmappedRuns
 pub mod UnsetWords
-pub mod AppliedPlacement
 pub mod Promises
 pub mod Basics

@@ -1,5 +1,5 @@
 -- What a step marks is touched: what the holder's hand or a marker's points into, or a cell without an allocation.
-use Rattle.mk_laws.proofs.Vocabulary.{Bool, Caller, Cell, Config, Flight, Hand, Host, Marker, MarkerStands, MarkerState}
+use Rattle.mk_laws.proofs.Vocabulary.{Bool, Caller, Cell, Config, Flight, Hand, Marker, MarkerStands, MarkerState}
 use Rattle.mk_laws.proofs.Vocabulary.{Moment, NeverState, None, Null, Object, Option, Place, PlacedAllocation}
 use Rattle.mk_laws.proofs.Vocabulary.{PointsInto, Seat, SeenHeader, Some, Stage, Step, Words, World, ℕ, address_of}
 use Rattle.mk_laws.proofs.Vocabulary.{and_parts, ap, arith, at_rest, bases_of, bit, cases_Bool, cell_at}
@@ -10,14 +10,14 @@ use Rattle.mk_laws.proofs.Vocabulary.{is_unmarked, length, ltb-true, marker_of, 
 use Rattle.mk_laws.proofs.Vocabulary.{object_placed, page_at_address, part_not_free, place_now, placed_at, pointed_cell}
 use Rattle.mk_laws.proofs.Vocabulary.{refl, seen_bit, seen_page, shown, slice_index, slice_index_or, storage_of, subst}
 use Rattle.mk_laws.proofs.Vocabulary.{sym, true, words_within, zero, ◌%◌, ◌&&◌, ◌*◌, ◌+◌, ◌/◌, ◌<◌, ◌==◌, ◌^◌, ◌||◌}
-use Rattle.mk_laws.proofs.Vocabulary.{◌∙◌, ◌≡◌, ◌≢◌}
+use Rattle.mk_laws.proofs.Vocabulary.{◌∙◌, ◌≡◌}
 use Rattle.mk_geom.proofs.PointedCells.{address_points_into}
 use Rattle.mk_core.proofs.WordBits.{bit_of_cell, bit_of_power, more_bits}
 use Rattle.mk_core.proofs.{ChangedAllocations.granted_at, RegisterAccesses.register_is_small, ServingSteps.place_marked}
 use Rattle.mk_core.specs.StopConditions.{is_bit_of, marks_by_hand}
 use Rattle.mk_laws.proofs.Basics.{Behind, Came, IsNew, Stayed, Table, WorldBehind, reg_table, same_cell, tally_table}
 use Rattle.mk_laws.proofs.Precise.{IsPrecise, PointsOnlyInto, Steps, came_behind, points_before}
-use Rattle.mk_laws.proofs.Worlds.{Told, comes_back, headers, sized, stands}
+use Rattle.mk_laws.proofs.Worlds.{comes_back, headers, sized, stands}
 
 -- The allocation that a grant adds is touched: its caller's register points to it at the moment after.
 
@@ -29,65 +29,39 @@ granted_points : (c : Config) (w : World) (n : NeverState) (k : ℕ) (after : Ne
     → Steps c w n (Caller k) Step.Grant after T
     → (placed_at (WorldBehind c w (Caller k) Step.Grant).allocations (length w.allocations)).released ≡ false
     → T (length w.allocations)
-granted_points c w n k after T s u = s.there.registers (8 * k + d) i (u, rw image into)
-  where
-    v : World
-    v = WorldBehind c w (Caller k) Step.Grant
-
-    i : ℕ
-    i = length w.allocations
-
-    a : PlacedAllocation
-    a = placed_at v.allocations i
-
-    f : Flight
-    f = flight_of w.now (Caller k)
-
-    d : ℕ
-    d = d_of f.op
-
-    d_small : d < 8
-    d_small = register_is_small c f Stage.Put (s.before.known.now.operands k)
-
-    there : k < c.callers
-    there = ltb-true k c.callers s.meets.seat
-
-    base : ℕ
-    base = granted_base c f w.now.seats.holding.placing
-
-    is : a ≡ granted c w.now f
-    is = granted_at w.allocations (granted c w.now f)
-
-    word : slice_index v.now.words.registers (8 * k + d) ≡ address_of base % 2 ^ 64
-    word =
-        let few = s.before.known.now.small in
-        let count = s.before.known.lengths.registers in
-        get_or-set_same w.now.words.registers (8 * k + d) _ 0 (omega (arith, there, d_small))
-
-    fits : address_of base % 2 ^ 64 ≡ address_of base
-    fits =
-        let within = (stands c v after s.behind i u).within in
-        let at : a.base ≡ base = rw is in
-        let pages = s.before.known.limits.pages in
-        omega arith
-
-    flight : flight_among v.now.seats.flights k ≡ record f { stage = Stage.Give }
-    flight = get_or-set_same w.now.seats.flights k (record f { stage = Stage.Give }) at_rest
-        (let count = s.before.known.now.orderly.flights in omega (arith, there))
-
-    image : image_of (bases_of v.allocations) (slice_index_or after.registers (8 * k + d) Null) ≡ address_of base
-    image =
-        let own : (8 * k + d) / 8 ≡ k = let lt = d_small in omega arith in
-        let stage : (flight_among v.now.seats.flights ((8 * k + d) / 8)).stage ≡ Stage.Give = rw own (rw flight) in
-        sym (s.behind.all.mirrors.images.registers (8 * k + d))
-        ∙ given (flight_among v.now.seats.flights ((8 * k + d) / 8)) d ((8 * k + d) % 8) _ stage ∙ word ∙ fits
-
-    into : PointsInto (address_of base) (storage_of c a)
-    into =
-        let some = (words_within (object_placed c a) (sized c v after s.behind i u)).0 in
-        let at : a.base ≡ base = rw is in
-        subst (λ y. PointsInto (address_of y) (storage_of c a)) at
-        ((address_points_into a.base (storage_of c a)).1 (omega arith, omega arith))
+granted_points c w n k after T s u =
+    let v : World = WorldBehind c w (Caller k) Step.Grant in
+    let i : ℕ = length w.allocations in
+    let a : PlacedAllocation = placed_at v.allocations i in
+    let f : Flight = flight_of w.now (Caller k) in
+    let d : ℕ = d_of f.op in
+    let d_small : d < 8 = register_is_small c f Stage.Put (s.before.known.now.operands k) in
+    let there : k < c.callers = ltb-true k c.callers s.meets.seat in
+    let base : ℕ = granted_base c f w.now.seats.holding.placing in
+    let is : a ≡ granted c w.now f = granted_at w.allocations (granted c w.now f) in
+    let word : slice_index v.now.words.registers (8 * k + d) ≡ address_of base % 2 ^ 64 =
+    let few = s.before.known.now.small in
+    let count = s.before.known.lengths.registers in
+    get_or-set_same w.now.words.registers (8 * k + d) _ 0 (omega (arith, there, d_small)) in
+    let fits : address_of base % 2 ^ 64 ≡ address_of base =
+    let within = (stands c v after s.behind i u).within in
+    let at : a.base ≡ base = rw is in
+    let pages = s.before.known.limits.pages in
+    omega arith in
+    let flight : flight_among v.now.seats.flights k ≡ record f { stage = Stage.Give } =
+    get_or-set_same w.now.seats.flights k (record f { stage = Stage.Give }) at_rest
+    (let count = s.before.known.now.orderly.flights in omega (arith, there)) in
+    let image : image_of (bases_of v.allocations) (slice_index_or after.registers (8 * k + d) Null) ≡ address_of base =
+    let own : (8 * k + d) / 8 ≡ k = let lt = d_small in omega arith in
+    let stage : (flight_among v.now.seats.flights ((8 * k + d) / 8)).stage ≡ Stage.Give = rw own (rw flight) in
+    sym (s.behind.all.mirrors.images.registers (8 * k + d))
+    ∙ given (flight_among v.now.seats.flights ((8 * k + d) / 8)) d ((8 * k + d) % 8) _ stage ∙ word ∙ fits in
+    let into : PointsInto (address_of base) (storage_of c a) =
+    let some = (words_within (object_placed c a) (sized c v after s.behind i u)).0 in
+    let at : a.base ≡ base = rw is in
+    subst (λ y. PointsInto (address_of y) (storage_of c a)) at
+    ((address_points_into a.base (storage_of c a)).1 (omega arith, omega arith)) in
+    s.there.registers (8 * k + d) i (u, rw image into)
 
 pub new_is_touched : (c : Config) (w : World) (n : NeverState) (seat : Seat) (x : Step) (after : NeverState)
     (T : ℕ → Type 0) (i : ℕ) → Steps c w n seat x after T → x ≡ Step.Grant → i ≡ length w.allocations
@@ -117,13 +91,6 @@ pub marks_same : (c : Config) (m : Moment) (seat : Seat) (x : Step) → is_of_ma
 marks_same c m seat Step.Reg out = ap (λ (t : Table). t.marks) (reg_table c m seat)
 marks_same c m seat (Step.Tally n v) out = ap (λ (t : Table). t.marks) (tally_table m.words n v)
 marks_same c m seat _ out = cc
-
--- A cell of an unreleased allocation has a header on its page.
-has_header : (c : Config) (w : World) (n : NeverState) (b : ℕ) → Told c w n
-    → (placed_at w.allocations b).released ≡ false → header_at w.now.words ((placed_at w.allocations b).base / 64) ≢ 0
-has_header c w n b t u =
-    let a : PlacedAllocation = placed_at w.allocations b in
-    part_not_free _ 0 _ (first_page_shows c w.now.words a (sized c w n t b u) (headers c w n t b u))
 
 -- `mark` by the hand
 
@@ -173,9 +140,8 @@ seen_marks : (c : Config) (m : Moment) (x : MarkerState) (k : ℕ) → MarkerSta
 unfolding pointed_cell
 seen_marks c m x k stand bit own = by x.seen x.hand refl refl own bit
   where
-    by : (seen : Option SeenHeader) (hand : Option ℕ) → x.seen ≡ seen → x.hand ≡ hand
-        → is_some (cell_seen c seen hand) ≡ true
-        → has_bit (seen_bit (cell_seen c seen hand)) k ≡ true → MarksSeen c m.words x k
+    by : (seen : Option SeenHeader) (hand : Option ℕ) → x.seen ≡ seen → x.hand ≡ hand → is_some (cell_seen c seen hand)
+        ≡ true → has_bit (seen_bit (cell_seen c seen hand)) k ≡ true → MarksSeen c m.words x k
     by (Some q) (Some value) es eh own bit = at (q.page == page_at_address value) refl _ refl own bit
       where
         at : (b : Bool) → (q.page == page_at_address value) ≡ b → (y : Option Cell) → cell_at c.pages q.header value ≡ y
@@ -204,9 +170,9 @@ module _ (c : Config) (w : World) (n : NeverState) (T : ℕ → Type 0) (precise
       (cell_of_allocation c (placed_at w.allocations b)).page)
       (cell_of_allocation c (placed_at w.allocations b)).index ≡ true → T b
 
-  mark_step : (seat : Seat) (p v : ℕ) (after : NeverState) → Steps c w n seat (Step.Mark p v) after T
-      → MarksTouched seat (Step.Mark p v)
-  mark_step seat p v after s b u bit =
+  marks_touched : (seat : Seat) (x : Step) (after : NeverState) → ((j : ℕ) → MarkerStands c w.now (marker_of w.now j))
+      → Steps c w n seat x after T → MarksTouched seat x
+  marks_touched seat (Step.Mark p v) after stand s b u bit =
       let cell : Cell = cell_of_allocation c (placed_at w.allocations b) in
       let o : Object = object_made c (flight_of w.now seat).op in
       let place : Option Place = place_now c w.now (flight_of w.now seat) in
@@ -214,7 +180,10 @@ module _ (c : Config) (w : World) (n : NeverState) (T : ℕ → Type 0) (precise
         | inl old ↦ precise.marked b u old
         | inr new ↦ elim (cases_Bool (marks_place w.now.words o place p v)) [
           | inl placed ↦
-              absurd (has_header c w n b s.before u (rw new.0 (place_is_free w.now.words o place p v placed)))
+              let part = first_page_shows c w.now.words (placed_at w.allocations b) (sized c w n s.before b u)
+              (headers c w n s.before b u) in
+              absurd (part_not_free (object_placed c (placed_at w.allocations b)) 0
+              (header_at w.now.words cell.page) part (rw new.0 (place_is_free w.now.words o place p v placed)))
           | inr unplaced ↦
               let hand : Option Hand = w.now.seats.holding.hand in
               let h = hand_marks w.now.words c.pages hand p v (left_holds _ _ s.meets.holder unplaced)
@@ -226,33 +195,19 @@ module _ (c : Config) (w : World) (n : NeverState) (T : ℕ → Type 0) (precise
               )
         ]
       ]
-
-  mmark_step : (j : ℕ) (after : NeverState) → MarkerStands c w.now (marker_of w.now j)
-      → Steps c w n (Marker j) Step.Mmark after T → MarksTouched (Marker j) Step.Mmark
-  mmark_step j after stand s b u bit =
+  marks_touched (Marker j) Step.Mmark after stand s b u bit =
+      let cell : Cell = cell_of_allocation c (placed_at w.allocations b) in
+      let y : Option Cell = cell_seen c (marker_of w.now j).seen (marker_of w.now j).hand in
       elim (more_bits w.now.words.marks (seen_page y) (seen_bit y) cell.page cell.index bit) [
         | inl old ↦ precise.marked b u old
         | inr new ↦
-            let m = seen_marks c w.now _ cell.index stand new.1 s.meets.marker in
+            let m = seen_marks c w.now _ cell.index (stand j) new.1 s.meets.marker in
             let at : pointed_cell c.pages w.now.words.pages m.value ≡ Some cell = m.cell ∙ rw (← new.0) in
             (precise.markers j).hand m.value m.there b (u, comes_back c w n s.before s.early b m.value u at)
       ]
-    where
-      cell : Cell
-      cell = cell_of_allocation c (placed_at w.allocations b)
-
-      y : Option Cell
-      y = cell_seen c (marker_of w.now j).seen (marker_of w.now j).hand
-
-  marks_touched : (seat : Seat) (x : Step) (after : NeverState) → ((j : ℕ) → MarkerStands c w.now (marker_of w.now j))
-      → Steps c w n seat x after T → MarksTouched seat x
-  marks_touched seat (Step.Mark p v) after stand s b u bit = mark_step seat p v after s b u bit
-  marks_touched (Marker j) Step.Mmark after stand s b u bit = mmark_step j after (stand j) s b u bit
-  marks_touched (Caller j) Step.Mmark after stand s b u bit = let kind = s.meets.kind in cc
-  marks_touched Host Step.Mmark after stand s b u bit = let kind = s.meets.kind in cc
+  marks_touched _ Step.Mmark after stand s b u bit = let kind = s.meets.kind in cc
   marks_touched seat (Step.Clear p) after stand s b u bit =
-      let zero = eqb-true _ 0 s.meets.phase in
-      elim s.early [ inl e ↦ absurd (omega arith) | inr e ↦ absurd (omega arith) ]
+      let zero = eqb-true _ 0 s.meets.phase in absurd (omega arith)
   marks_touched seat x after stand s b u bit = rest x refl b u bit
     where
       rest : (x : Step) → is_of_marks x ≡ false → MarksTouched seat x

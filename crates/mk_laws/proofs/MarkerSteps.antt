@@ -1,5 +1,5 @@
 -- What a marker holds is touched, and what it scans has no leaf, after each step.
-use Rattle.mk_laws.proofs.Vocabulary.{Block, Bool, Caller, Cell, Config, Free, Header, Host, IsIdle, IsWordOf, Later}
+use Rattle.mk_laws.proofs.Vocabulary.{Block, Bool, Caller, Cell, Config, Header, Host, IsIdle, IsWordOf, Later}
 use Rattle.mk_laws.proofs.Vocabulary.{LeafBlock, LeafRun, Marker, MarkerStands, MarkerState, NeverState, None, Option}
 use Rattle.mk_laws.proofs.Vocabulary.{PlacedAllocation, Run, Scan, ScanStands, Seat, SeenHeader, Some, Step, Word}
 use Rattle.mk_laws.proofs.Vocabulary.{World, ℕ, address_of, and_parts, ap, arith, behind_mlook, cases_eq, cases_lt}
@@ -60,15 +60,13 @@ scanned_head c w n p k x t known from to some = by (header_in w.now.words p) ref
 
     by : (o : Option Header) → header_in w.now.words p ≡ o → k < cells_under o → 64 * p + k * words_under o ≤ x
         → x < 64 * p + k * words_under o + words_under o → head_page w.now.words (x / 64) ≡ p
-    by None is lt lo hi = absurd (omega arith)
-    by (Some Free) is lt lo hi = absurd (omega arith)
-    by (Some (Later distance mapped)) is lt lo hi = absurd (omega arith)
     by (Some (Block class)) is lt lo hi =
         let ends = cell_ends k _ lt in here (Some (Block class)) is refl (omega arith)
     by (Some (LeafBlock class)) is lt lo hi =
         let ends = cell_ends k _ lt in here (Some (LeafBlock class)) is refl (omega arith)
     by (Some (Run count mapped)) is lt lo hi = on_run _ count is refl refl refl lt lo hi
     by (Some (LeafRun count)) is lt lo hi = on_run _ count is refl refl refl lt lo hi
+    by _ is lt lo hi = absurd (omega arith)
 
 -- What points somewhere is on a page with a header.
 pointed_some : (c : Config) (w : World) (v : ℕ) (y : Cell) → pointed_cell c.pages w.now.words.pages v ≡ Some y
@@ -82,39 +80,30 @@ pub scanned_cell : (c : Config) (w : World) (n : NeverState) (p k x a : ℕ) →
     → x < 64 * p + k * words_under (header_in w.now.words p) + words_under (header_in w.now.words p)
     → (placed_at w.allocations a).released ≡ false → IsWordOf (storage_of c (placed_at w.allocations a)) x
     → cell_of_allocation c (placed_at w.allocations a) ≡ record { page = p; index = k }
-scanned_cell c w n p k x i t known from to u word = ap (λ (q : ℕ). record { page = q; index = cell.index }) page
+scanned_cell c w n p k x i t known from to u word =
+    let a : PlacedAllocation = placed_at w.allocations i in
+    let cell : Cell = cell_of_allocation c a in
+    let points : pointed_cell c.pages w.now.words.pages (address_of x) ≡ Some cell =
+    word_points c w.now.words a t.known.limits (stands c w n t i u) (headers c w n t i u) x word in
+    let at : page_at_address (address_of x) ≡ x / 64 = omega arith in
+    let page : cell.page ≡ p =
+    pointed_head c.pages w.now.words (address_of x) cell points ∙ ap (λ q. head_page w.now.words q) at
+    ∙ scanned_head c w n p k x t known from to
+    (λ z. pointed_some c w (address_of x) cell points (ap (λ q. header_at w.now.words q) at ∙ z)) in
+    let index : k ≡ cell.index =
+    let begin = cells_begin c w.now.words a t.known.limits (stands c w n t i u) (headers c w n t i u) in
+    let size : words_under (header_in w.now.words p) ≡ storage_words c a =
+    ap (λ q. words_under (header_in w.now.words q)) (sym page) ∙ begin.1 in
+    let product : cell.index * words_under (header_in w.now.words cell.page) ≡ cell.index * words_under
+    (header_in w.now.words p) = ap (λ q. cell.index * words_under (header_in w.now.words q)) page in
+    let first : 64 * cell.page + cell.index * words_under (header_in w.now.words cell.page) ≡ a.base = begin.0 in
+    let there : cell.page ≡ p = page in
+    let low : a.base ≤ x = word.0 in
+    let high : x < a.base + storage_words c a = word.1 in
+    one_piece (words_under (header_in w.now.words p)) k cell.index (x - 64 * p) (omega arith) (omega arith)
+    (omega arith) (omega arith) in
+    ap (λ (q : ℕ). record { page = q; index = cell.index }) page
     ∙ ap (λ (j : ℕ). record { page = p; index = j }) (sym index)
-  where
-    a : PlacedAllocation
-    a = placed_at w.allocations i
-
-    cell : Cell
-    cell = cell_of_allocation c a
-
-    points : pointed_cell c.pages w.now.words.pages (address_of x) ≡ Some cell
-    points = word_points c w.now.words a t.known.limits (stands c w n t i u) (headers c w n t i u) x word
-
-    at : page_at_address (address_of x) ≡ x / 64
-    at = omega arith
-
-    page : cell.page ≡ p
-    page = pointed_head c.pages w.now.words (address_of x) cell points ∙ ap (λ q. head_page w.now.words q) at
-        ∙ scanned_head c w n p k x t known from to
-        (λ z. pointed_some c w (address_of x) cell points (ap (λ q. header_at w.now.words q) at ∙ z))
-
-    index : k ≡ cell.index
-    index =
-        let begin = cells_begin c w.now.words a t.known.limits (stands c w n t i u) (headers c w n t i u) in
-        let size : words_under (header_in w.now.words p) ≡ storage_words c a =
-        ap (λ q. words_under (header_in w.now.words q)) (sym page) ∙ begin.1 in
-        let product : cell.index * words_under (header_in w.now.words cell.page) ≡ cell.index * words_under
-        (header_in w.now.words p) = ap (λ q. cell.index * words_under (header_in w.now.words q)) page in
-        let first : 64 * cell.page + cell.index * words_under (header_in w.now.words cell.page) ≡ a.base = begin.0 in
-        let there : cell.page ≡ p = page in
-        let low : a.base ≤ x = word.0 in
-        let high : x < a.base + storage_words c a = word.1 in
-        one_piece (words_under (header_in w.now.words p)) k cell.index (x - 64 * p) (omega arith) (omega arith)
-        (omega arith) (omega arith)
 
 -- A marker that is in the middle of nothing holds and has seen nothing.
 pub idle_is_precise : (c : Config) (s : PrecisionScene) (T : ℕ → Type 0) (x : MarkerState) → IsIdle x
@@ -134,11 +123,10 @@ marker_kept c w n seat x after T y s stand precise = record {
       (precise.seen z is some scanned);
 }
 
--- `mlook`
-look_precise : (c : Config) (w : World) (n : NeverState) (T : ℕ → Type 0) (y : MarkerState) (p f : ℕ) → Told c w n
-    → f ≡ header_at w.now.words p → MarkerIsPrecise c (precision_scene_of w) T y
-    → MarkerIsPrecise c (precision_scene_of w) T (behind_mlook c f (Word.Head p) y)
-look_precise c w n T y p f t is m = record {
+looks : (c : Config) (w : World) (n : NeverState) (T : ℕ → Type 0) (y : MarkerState) (x : Word) (f : ℕ) → Told c w n
+    → ((p : ℕ) → x ≡ Word.Head p → f ≡ header_at w.now.words p) → MarkerIsPrecise c (precision_scene_of w) T y
+    → MarkerIsPrecise c (precision_scene_of w) T (behind_mlook c f x y)
+looks c w n T y (Word.Head p) f t is m = record {
   hand = λ v at. m.hand v (kept y.hand v at);
   scan = m.scan;
   seen = λ z at some scanned.
@@ -146,7 +134,7 @@ look_precise c w n T y p f t is m = record {
       let page : p ≡ z.page = ap (λ (q : SeenHeader). q.page) e in
       let header : f ≡ z.header = ap (λ (q : SeenHeader). q.header) e in
       scanned_has_none c w n z.page t (ap (λ q. has_no_pointers (header_in w.now.words q)) (sym page)
-      ∙ ap (λ h. has_no_pointers (header_of h)) (sym is ∙ header) ∙ scanned);
+      ∙ ap (λ h. has_no_pointers (header_of h)) (sym (is p refl) ∙ header) ∙ scanned);
 }
   where
     kept : (hand : Option ℕ) (v : ℕ) → hand_behind_look c p f hand ≡ Some v → hand ≡ Some v
@@ -156,17 +144,7 @@ look_precise c w n T y p f t is m = record {
         by : (b : Bool) → (if b then None else Some u) ≡ Some v → Some u ≡ Some v
         by true at = absurd (none-some _ at)
         by false at = at
-
-unseen_precise : (c : Config) (w : World) (T : ℕ → Type 0) (y : MarkerState)
-    → MarkerIsPrecise c (precision_scene_of w) T y
-    → MarkerIsPrecise c (precision_scene_of w) T (record y { seen = None })
-unseen_precise c w T y m = record { hand = m.hand; scan = m.scan; seen = λ s is. absurd (none-some _ is) }
-
-looks : (c : Config) (w : World) (n : NeverState) (T : ℕ → Type 0) (y : MarkerState) (x : Word) (f : ℕ) → Told c w n
-    → ((p : ℕ) → x ≡ Word.Head p → f ≡ header_at w.now.words p) → MarkerIsPrecise c (precision_scene_of w) T y
-    → MarkerIsPrecise c (precision_scene_of w) T (behind_mlook c f x y)
-looks c w n T y (Word.Head p) f t is m = look_precise c w n T y p f t (is p refl) m
-looks c w n T y _ f t is m = unseen_precise c w T y m
+looks c w n T y _ f t is m = record { hand = m.hand; scan = m.scan; seen = λ s e. absurd (none-some _ e) }
 
 -- `claim`: words are scanned only under a header that shows no leaf
 claim_precise : (c : Config) (w : World) (T : ℕ → Type 0) (y : MarkerState) (p k marks : ℕ)
@@ -212,32 +190,21 @@ loaded_points : (c : Config) (w : World) (n : NeverState) (seat : Seat) (x : Ste
     → Steps c w n seat x after T → IsPrecise c w T → ScanStands c w.now hand z → z.next < z.end
     → HasNoLeaf c (precision_scene_of w) z.page → PointsOnlyInto c w.allocations T (slice_index w.now.words.heap z.next)
 loaded_points c w n seat x after T hand z s precise st less none b points =
+    let low : 65536 ≤ slice_index w.now.words.heap z.next = points.1.0 in
+    let o : IsHeld c w z.next = held c w n s.before s.early z.next (λ e. absurd (omega arith)) in
+    let a : PlacedAllocation = placed_at w.allocations o.number in
+    let same : cell_of_allocation c a ≡ cell_scanned z =
+    scanned_cell c w n z.page z.index z.next o.number s.before st.index st.start (inside st.end) o.unreleased o.word in
+    let touched : T o.number = precise.marked o.number o.unreleased
+    (subst (λ (y : Cell). is_marked w.now.words y ≡ true) (sym same) st.marked) in
+    let leaf : (storage_of c a).leaf ≡ false =
+    none.allocations o.number o.unreleased (ap (λ (y : Cell). y.page) same) in
     s.here.words o.number z.next touched (o.unreleased, leaf, o.word) b points
   where
     inside : EndsItsCell w.now.words z
         → z.next < first_word w.now.words (cell_scanned z) + cell_words w.now.words (cell_scanned z)
     inside (inl e) = omega arith
     inside (inr e) = let start = st.start in let at = e.0 in absurd (omega arith)
-
-    low : 65536 ≤ slice_index w.now.words.heap z.next
-    low = points.1.0
-
-    o : IsHeld c w z.next
-    o = held c w n s.before s.early z.next (λ e. absurd (omega arith))
-
-    a : PlacedAllocation
-    a = placed_at w.allocations o.number
-
-    same : cell_of_allocation c a ≡ cell_scanned z
-    same = scanned_cell c w n z.page z.index z.next o.number s.before st.index st.start
-        (inside st.end) o.unreleased o.word
-
-    touched : T o.number
-    touched = precise.marked o.number o.unreleased
-        (subst (λ (y : Cell). is_marked w.now.words y ≡ true) (sym same) st.marked)
-
-    leaf : (storage_of c a).leaf ≡ false
-    leaf = none.allocations o.number o.unreleased (ap (λ (y : Cell). y.page) same)
 
 load_precise : (c : Config) (w : World) (n : NeverState) (seat : Seat) (x : Step) (after : NeverState)
     (T : ℕ → Type 0) (y : MarkerState)
