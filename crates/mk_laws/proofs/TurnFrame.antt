@@ -59,8 +59,9 @@ not_that gs k j le is e = absurd (omega (arith, le, ap (slice_index gs) e, is))
 call_leaves : (w : World) (k : ℕ) (f : Flight) (x : Words) → slice_index w.now.words.gates k ≤ 1
     → CallWrite k w.now.words x
     → TurnIsLeft w (with_words_seats w x (record w.now.seats { flights = slice_set w.now.seats.flights k f }))
-call_leaves w k f x le CallLoads = grind (arith, grows_same, not_that, get_or-set_other)
-call_leaves w k f x le _ = grind (arith, grows_same, not_that, get_or-set_other, held_set, free_set, dirty_set)
+call_leaves w k f x le (SetsGate v lv) = grind (arith, grows_same, not_that, get_or-set_other, held_set, free_set)
+call_leaves w k f x le (SetsDirty p) = grind (arith, grows_same, not_that, get_or-set_other, dirty_set)
+call_leaves w k f x le _ = grind (arith, grows_same, not_that, get_or-set_other)
 
 -- in the stop, once no marker attends, none begins to
 still_none : (m : Moment) (k : ℕ) (y : MarkerState)
@@ -73,7 +74,9 @@ still_none m k y own none j =
 mark_leaves : (c : Config) (w : World) (k : ℕ) (y : MarkerState) (x : Words) → Known c w.now → MarkerWrite k w.now y x
     → TurnIsLeft w (with_words_seats w x (record w.now.seats { markers = slice_set w.now.seats.markers k y }))
 mark_leaves c w k y x known (MarkerLoads s) = grind (arith, grows_same, still_none)
-mark_leaves c w k y x known _ = grind (arith, up, down, grows_same, grows_more, still_none)
+mark_leaves c w k y x known (ComesIn a) = grind (arith, up, grows_same, still_none)
+mark_leaves c w k y x known (GoesOut a le) = grind (arith, down, grows_same, still_none)
+mark_leaves c w k y x known _ = grind (arith, grows_same, grows_more, still_none)
 
 -- one event of another
 pub turn_after : (c : Config) (w : World) (seat : Seat) (v : World) → Known c w.now → OthersMove c w seat v
