@@ -4,8 +4,8 @@ use Rattle.mk_laws.proofs.Vocabulary.{LayoutScene, List, NoPlot, Option, Page, P
 use Rattle.mk_laws.proofs.Vocabulary.{arith, cases_Bool, cases_eq, cases_lt, cells_under, ends, false, free_page}
 use Rattle.mk_laws.proofs.Vocabulary.{get_or-set_other, get_or-set_same, get_or_past, has_bit, head_on, head_page_under}
 use Rattle.mk_laws.proofs.Vocabulary.{header_of, header_on, inl, inr, is_released_in, is_released_on, length}
-use Rattle.mk_laws.proofs.Vocabulary.{length-set, pages_made, refl, shows_on, slice_set, stands, sym, true, true≢false}
-use Rattle.mk_laws.proofs.Vocabulary.{used_on, ◌+◌, ◌-◌, ◌<◌, ◌∙◌, ◌≡◌, ◌≢◌, ◌⊎◌}
+use Rattle.mk_laws.proofs.Vocabulary.{length-set, pages_made, refl, set_by, shows_on, slice_set, stands, sym, true}
+use Rattle.mk_laws.proofs.Vocabulary.{true≢false, used_on, ◌+◌, ◌-◌, ◌<◌, ◌∙◌, ◌≡◌, ◌≢◌, ◌⊎◌}
 use Rattle.mk_laws.proofs.LayoutReadings.{cellless_unused, claimed_used, free_unused, none_set, zero_where_none}
 use Rattle.mk_laws.proofs.ProtocolKept.{kept}
 
@@ -27,13 +27,8 @@ headed_other pages p n q ne = ap (λ (x : Page). x.header)
 
 pub headed_used : (pages : List Page) (p n q : ℕ) → p < length pages
     → used_on (with_header_on pages p n) q ≡ used_on pages q
-headed_used pages p n q lt = elim (cases_eq q p) [
-  | inl e ↦ rw e
-      (ap (λ (x : Page). x.used) (get_or-set_same pages p (record { header = n; used = used_on pages p }) free_page lt)
-      ∙ rw (← e))
-  | inr ne ↦ ap (λ (x : Page). x.used)
-      (get_or-set_other pages p q (record { header = n; used = used_on pages p }) free_page ne)
-]
+headed_used pages p n q lt =
+    set_by (λ (x : Page). x.used ≡ used_on pages q) pages p q _ free_page (λ e. ap (used_on pages) (sym e)) refl
 
 pub used_here : (pages : List Page) (p n : ℕ) → p < length pages → used_on (with_used_on pages p n) p ≡ n
 used_here pages p n lt =
@@ -45,12 +40,8 @@ used_other pages p n q ne = ap (λ (x : Page). x.used)
 
 pub used_header : (pages : List Page) (p n q : ℕ) → p < length pages
     → header_on (with_used_on pages p n) q ≡ header_on pages q
-used_header pages p n q lt = elim (cases_eq q p) [
-  | inl e ↦ rw e (ap (λ (x : Page). x.header)
-      (get_or-set_same pages p (record { header = header_on pages p; used = n }) free_page lt) ∙ rw (← e))
-  | inr ne ↦ ap (λ (x : Page). x.header)
-      (get_or-set_other pages p q (record { header = header_on pages p; used = n }) free_page ne)
-]
+used_header pages p n q lt =
+    set_by (λ (x : Page). x.header ≡ header_on pages q) pages p q _ free_page (λ e. ap (header_on pages) (sym e)) refl
 
 -- a page with nothing on it is on no claim's pages
 unclaimed : (s : LayoutScene) (p : ℕ) → IsLaidOn s → used_on s.pages (head_on s.pages p) ≡ 0 → (x : Claim)

@@ -1,14 +1,13 @@
 -- A run that is unmapped and wiped stays so, up to the `give` of its call.
 use Rattle.mk_laws.proofs.Vocabulary.{Config, HeadStep, IsNextHeader, IsWordOfMapped, ItCarves, ItEmpties, ItUnmaps}
 use Rattle.mk_laws.proofs.Vocabulary.{LayoutStands, Option, Page, PlacedAllocation, RunPages, Seat, Some, Step, Words}
-use Rattle.mk_laws.proofs.Vocabulary.{World, ℕ, all_below-at, and_parts, ap, arith, cases_eq, cases_lt, eq-eqb}
-use Rattle.mk_laws.proofs.Vocabulary.{eqb-true, false, flight_of, free_page, get_or-set_other, get_or-set_same}
-use Rattle.mk_laws.proofs.Vocabulary.{ground_of, head_page, head_step, header_at, header_of, inl, inr, is_heap_store}
-use Rattle.mk_laws.proofs.Vocabulary.{is_run_gone, is_run_unmapped, is_unmapped_header, large_count, length}
-use Rattle.mk_laws.proofs.Vocabulary.{made_is_mapped, object_now, object_placed, pages_made, placed_at, placed_now}
-use Rattle.mk_laws.proofs.Vocabulary.{refl, set_past, slice_index, stands, subst, sym, true, true≢false, typed_size}
-use Rattle.mk_laws.proofs.Vocabulary.{undecided_new, unmapped_header, unmapped_is_unmapped, used_at, word_met}
-use Rattle.mk_laws.proofs.Vocabulary.{words_are_zero, ◌*◌, ◌+◌, ◌-◌, ◌/◌, ◌<◌, ◌∙◌, ◌≡◌, ◌≢◌}
+use Rattle.mk_laws.proofs.Vocabulary.{World, ℕ, all_below-at, and_parts, ap, arith, eq-eqb, eqb-true, false, flight_of}
+use Rattle.mk_laws.proofs.Vocabulary.{free_page, get_or-set_other, ground_of, head_page, head_step, header_at}
+use Rattle.mk_laws.proofs.Vocabulary.{header_of, is_heap_store, is_run_gone, is_run_unmapped, is_unmapped_header}
+use Rattle.mk_laws.proofs.Vocabulary.{large_count, made_is_mapped, object_now, object_placed, pages_made, placed_at}
+use Rattle.mk_laws.proofs.Vocabulary.{placed_now, refl, set_by, slice_index, stands, subst, sym, true, true≢false}
+use Rattle.mk_laws.proofs.Vocabulary.{typed_size, undecided_new, unmapped_header, unmapped_is_unmapped, used_at}
+use Rattle.mk_laws.proofs.Vocabulary.{word_met, words_are_zero, ◌*◌, ◌+◌, ◌-◌, ◌/◌, ◌<◌, ◌∙◌, ◌≡◌, ◌≢◌}
 use Rattle.mk_laws.proofs.Basics.{Behind, KnownWorld, Meets, Table, ends_on_pages, headers_kind, is_head, mapped_stays}
 use Rattle.mk_laws.proofs.Basics.{new_has_turn, no_run, own_claim, reg_table, tally_table}
 use Rattle.mk_laws.proofs.{ForImages.laid_out, ForImages.run_of, LayoutReadings.claimed_used, Tests.all_below_from}
@@ -100,13 +99,8 @@ module _ (c : Config) (w : World) (known : KnownWorld c w) (laid : LayoutStands 
       (λ e. not_mapped i lt (subst (λ n. IsWordOfMapped c w.allocations n) (sym e) (stored refl))) ∙ words_gone i lt
   words_behind seat Step.Cas h stored i lt = get_or-set_other w.now.words.heap _ _ _ 0
       (λ e. not_mapped i lt (subst (λ n. IsWordOfMapped c w.allocations n) (sym e) (stored refl))) ∙ words_gone i lt
-  words_behind seat (Step.Wipe n) h stored i lt = elim (cases_eq (64 * r.page + i) n) [
-    | inr ne ↦ get_or-set_other w.now.words.heap n _ 0 0 ne ∙ words_gone i lt
-    | inl e ↦ elim (cases_lt n (length w.now.words.heap)) [
-      | inl near ↦ cc (e, get_or-set_same w.now.words.heap n 0 0 near)
-      | inr past ↦ cc (set_past w.now.words.heap n 0 past, words_gone i lt)
-    ]
-  ]
+  words_behind seat (Step.Wipe n) h stored i lt =
+      set_by (λ y. y ≡ 0) w.now.words.heap n _ 0 0 (λ e. refl) (words_gone i lt)
   words_behind seat _ h stored i lt = words_gone i lt
 
   pub gone_behind : (seat : Seat) (x : Step) → Meets c w.now seat x

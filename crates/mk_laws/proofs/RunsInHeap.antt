@@ -1,14 +1,14 @@
 -- A mapped run that a header shows lies in the heap.
 use Rattle.std.proofs.Common.{unwrap_or}
 use Rattle.mk_laws.proofs.Vocabulary.{Bool, Config, Flight, Ground, List, None, Object, Option, Page, Place, Run}
-use Rattle.mk_laws.proofs.Vocabulary.{RunPages, Some, Words, World, ℕ, and_parts, arith, block_header, carves, cases_eq}
-use Rattle.mk_laws.proofs.Vocabulary.{empties, eqb-true, false, free_page, get_or-set_other, header_made, header_of}
-use Rattle.mk_laws.proofs.Vocabulary.{inl, inr, is_next_header, is_small_object, leb-true, object_made, pages_made}
-use Rattle.mk_laws.proofs.Vocabulary.{place_now, refl, run_header, run_pages_of, slice_index_or, slice_set, true}
-use Rattle.mk_laws.proofs.Vocabulary.{unmapped_header, unmaps, word_of, zero, ◌*◌, ◌+◌, ◌-◌, ◌<◌, ◌∙◌, ◌≡◌, ◌≢◌, ◌≤◌}
+use Rattle.mk_laws.proofs.Vocabulary.{RunPages, Some, Words, World, ℕ, and_parts, arith, block_header, carves, empties}
+use Rattle.mk_laws.proofs.Vocabulary.{eqb-true, false, free_page, header_made, header_of, is_next_header}
+use Rattle.mk_laws.proofs.Vocabulary.{is_small_object, leb-true, object_made, pages_made, place_now, refl, run_header}
+use Rattle.mk_laws.proofs.Vocabulary.{run_pages_of, set_by, slice_index_or, slice_set, true, unmapped_header, unmaps}
+use Rattle.mk_laws.proofs.Vocabulary.{word_of, zero, ◌*◌, ◌+◌, ◌-◌, ◌<◌, ◌∙◌, ◌≡◌, ◌≤◌}
 use Rattle.mk_geom.{proofs.ClassTable.class_for-some, proofs.HeaderLemmas.word_of-header_of, specs.Classes.class_for}
 use Rattle.mk_laws.proofs.Ground.{Carves, Empties, GivesBack, GroundStep, TakesCell, Unmaps}
-use Rattle.mk_laws.proofs.{HeaderSteps.page_set, HeaderSteps.used_set, NewPlace.PlaceFits}
+use Rattle.mk_laws.proofs.{HeaderSteps.used_set, NewPlace.PlaceFits}
 
 -- what a header word at a page shows ends in the heap
 abbrev pub RunFits : Config → ℕ → ℕ → Type 0
@@ -74,18 +74,8 @@ emptied_fits c w p n h = grind (arith, eqb-true, shown_word, and_parts)
 
 header_set : (c : Config) (ps : List Page) (p n u : ℕ) → RunFits c p n → RunsFit c ps
     → RunsFit c (slice_set ps p (record { header = n; used = u }))
-header_set c ps p n u fits all q = elim (cases_eq q p) [
-  | inl e ↦
-      let own : RunFits c p (slice_index_or (slice_set ps p (record { header = n; used = u })) q free_page).header =
-      page_set ps p q (record { header = n; used = u }) (RunFits c p) (λ lt. fits)
-      (λ count shows. rw e at (all q count shows)) in
-      λ count shows. rw e (own count shows)
-  | inr ne ↦ page_set_other ps p q (record { header = n; used = u }) ne (all q)
-]
-  where
-    page_set_other : (ps : List Page) (p q : ℕ) (x : Page) → q ≢ p → RunFits c q (slice_index_or ps q free_page).header
-        → RunFits c q (slice_index_or (slice_set ps p x) q free_page).header
-    page_set_other ps p q x ne h = rw (get_or-set_other ps p q x free_page ne) h
+header_set c ps p n u fits all q =
+    set_by (λ (x : Page). RunFits c q x.header) ps p q _ free_page (λ e count shows. rw e (fits count shows)) (all q)
 
 pub runs_behind : (c : Config) (w : World) (f : Flight) (g : Ground)
     → ((x : Place) → place_now c w.now f ≡ Some x → PlaceFits c f.op x)

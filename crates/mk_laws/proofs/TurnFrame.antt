@@ -61,6 +61,7 @@ call_leaves : (w : World) (k : ℕ) (f : Flight) (x : Words) → slice_index w.n
     → TurnIsLeft w (with_words_seats w x (record w.now.seats { flights = slice_set w.now.seats.flights k f }))
 call_leaves w k f x le (SetsGate v lv) = grind (arith, grows_same, not_that, get_or-set_other, held_set, free_set)
 call_leaves w k f x le (SetsDirty p) = grind (arith, grows_same, not_that, get_or-set_other, dirty_set)
+call_leaves w k f x le (SetsRegister r v lr) = grind (arith, grows_same, not_that, get_or-set_other)
 call_leaves w k f x le _ = grind (arith, grows_same, not_that, get_or-set_other)
 
 -- in the stop, once no marker attends, none begins to
@@ -76,7 +77,8 @@ mark_leaves : (c : Config) (w : World) (k : ℕ) (y : MarkerState) (x : Words) �
 mark_leaves c w k y x known (MarkerLoads s) = grind (arith, grows_same, still_none)
 mark_leaves c w k y x known (ComesIn a) = grind (arith, up, grows_same, still_none)
 mark_leaves c w k y x known (GoesOut a le) = grind (arith, down, grows_same, still_none)
-mark_leaves c w k y x known _ = grind (arith, grows_same, grows_more, still_none)
+mark_leaves c w k y x known (AddsMarks p bits a s) = grind (arith, grows_same, grows_more, still_none)
+mark_leaves c w k y x known (AddsBlacks p bits a s) = grind (arith, grows_same, grows_more, still_none)
 
 -- one event of another
 pub turn_after : (c : Config) (w : World) (seat : Seat) (v : World) → Known c w.now → OthersMove c w seat v
