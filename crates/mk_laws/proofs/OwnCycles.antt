@@ -66,7 +66,7 @@ cycle_step c w seat x3 h = grind (arith, reg_leaves, tally_keeps, eqb-true, over
 
 -- So what is said of the events is told with one more.
 module _ (es : List Event) (e : Event) (phase now : ℕ) where
-  on_way : MovesNothing e.step → now ≡ phase → UnderWay es phase → UnderWay (es ++ e ∷ []) now
+  pub on_way : MovesNothing e.step → now ≡ phase → UnderWay es phase → UnderWay (es ++ e ∷ []) now
   on_way off same (Marks at begin none) =
       Marks (elim at [ inl one ↦ inl (same ∙ one) | inr two ↦ inr (same ∙ two) ]) (longer_at (e ∷ []) begin)
       (none_more (λ (x : Event). is_close x.step) begin.behind e none off.close)
@@ -75,13 +75,13 @@ module _ (es : List Event) (e : Event) (phase now : ℕ) where
   on_way off same (Releases at k none) = Releases (same ∙ at) (longer_releasing (e ∷ []) k)
       (none_more (λ (x : Event). is_end x.step) k.release.at.behind e none off.end)
 
-  wants : is_close e.step ≡ false → phase ≡ 1 → now ≡ 2 → UnderWay es phase → UnderWay (es ++ e ∷ []) now
+  pub wants : is_close e.step ≡ false → phase ≡ 1 → now ≡ 2 → UnderWay es phase → UnderWay (es ++ e ∷ []) now
   wants off one two (Marks at begin none) =
       Marks (inr two) (longer_at (e ∷ []) begin) (none_more (λ (x : Event). is_close x.step) begin.behind e none off)
   wants off one two (Stops at k none) = absurd (omega arith)
   wants off one two (Releases at k none) = absurd (omega arith)
 
-  closes : is_close e.step ≡ true → phase ≡ 2 → now ≡ 3 → UnderWay es phase → UnderWay (es ++ e ∷ []) now
+  pub closes : is_close e.step ≡ true → phase ≡ 2 → now ≡ 3 → UnderWay es phase → UnderWay (es ++ e ∷ []) now
   closes is two three (Marks at begin none) =
       Stops three (record { begin = longer_at (e ∷ []) begin; close = next_at_end begin.behind e none is }) refl
   closes is two three (Stops at k none) = absurd (omega arith)

@@ -203,10 +203,7 @@ kept c v seat n small h (Gives t none at) =
       attends = h.attends;
       idle = h.idle;
     }
-kept c v seat n small h (Works f i t s) =
-    let turn = turn_of c v seat h t in
-    seats_kept c v _ v.gates i h (flights_kept c v seat f h) h.gates (works_shown c v seat f i h t s)
-    (works_served c v seat f i h t s) (λ e. absurd (omega arith)) h.stopped
+kept c v seat n small h (Works f i t s) = grind (arith, turn_of, length_with, works_shown, works_served)
 kept c v seat n small h (Holds j t lj ne was) =
     let turn = turn_of c v seat h t in
     seats_kept c v v.flights _ v.holding h h.flights (length-set v.gates j 2 ∙ h.gates)

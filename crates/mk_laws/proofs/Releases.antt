@@ -13,8 +13,8 @@ use Rattle.mk_core.specs.Allocations.{allocations_by}
 use Rattle.mk_laws.proofs.CyclePhases.{AsksPhase, IsMarking, IsUnreleased, begin_is, close_is, marking_goes_on}
 use Rattle.mk_laws.proofs.CyclePhases.{moves_phase, none_is_released, phase_behind, release_is}
 use Rattle.mk_laws.proofs.InvariantTheorems.{allocations_stand, reach_is_kept}
-use Rattle.mk_laws.proofs.Snapshots.{enabled_at, unreleased_cycles}
-use Rattle.mk_laws.proofs.{Quarantines.snapshot_is_the_cycles, ReadingsKeptPlaces.stays_put}
+use Rattle.mk_laws.proofs.{Quarantines.snapshot_is_the_cycles, ReadingsKeptPlaces.stays_put, Snapshots.enabled_at}
+use Rattle.mk_laws.proofs.{Snapshots.unreleased_cycles, Stretches.at_release, Stretches.history_through}
 use Rattle.mk_laws.specs.Releases.{NoOthersRelease, ReleasesAreExact, ReleasesNoneReached, allocation_before}
 use Rattle.mk_laws.specs.Releases.{allocation_behind}
 
@@ -22,11 +22,6 @@ use Rattle.mk_laws.specs.Releases.{allocation_behind}
 pub up_to_release : {X : Type 0} (xs ys zs : List X) (b x : X)
     → ((xs ++ b ∷ []) ++ ys) ++ x ∷ zs ≡ xs ++ b ∷ (ys ++ x ∷ zs)
 up_to_release xs ys zs b x = append_assoc (xs ++ b ∷ []) ys (x ∷ zs) ∙ append_assoc xs (b ∷ []) (ys ++ x ∷ zs)
-
-with_rest : {X : Type 0} (xs ys zs rest : List X) (b x : X)
-    → (((xs ++ b ∷ []) ++ ys) ++ x ∷ zs) ++ rest ≡ xs ++ b ∷ (ys ++ x ∷ (zs ++ rest))
-with_rest {X} xs ys zs rest b x = ap (λ (all : List X). all ++ rest) (up_to_release xs ys zs b x)
-    ∙ append_assoc xs (b ∷ (ys ++ x ∷ zs)) rest ∙ ap (λ (more : List X). xs ++ b ∷ more) (append_assoc ys (x ∷ zs) rest)
 
 -- No other cycle begins between a `begin` and its `release`.
 none_begins : (c : Config) (w : World) (b x : Event) (ys zs : List Event) → AreEnabledFrom c w (b ∷ (ys ++ x ∷ zs))
@@ -76,18 +71,14 @@ module _ (c : Config) (es : List Event) (h : IsHistory c es) (r : Releasing es) 
   abbrev w : World
   w = left c front
 
-  es_is : es ≡ front ++ last.event ∷ last.behind
-  es_is = grind (arith, begin, close, last, with_rest)
-
   whole : IsHistory c (front ++ last.event ∷ last.behind)
-  whole = subst (IsHistory c) es_is h
+  whole = subst (IsHistory c) (at_release r) h
 
   before_is_history : IsHistory c front
   before_is_history = earlier_part_is_history c front (last.event ∷ last.behind) whole
 
   behind_is_history : IsHistory c (front ++ last.event ∷ [])
-  behind_is_history = earlier_part_is_history c _ last.behind
-      (subst (IsHistory c) (sym (append_assoc front (last.event ∷ []) last.behind)) whole)
+  behind_is_history = history_through c es front last.behind last.event h (at_release r)
 
   -- the `begin`, in the list up to the `release`
   abbrev begin_at : At is_begin front

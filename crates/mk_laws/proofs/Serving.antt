@@ -11,7 +11,7 @@ use Rattle.mk_laws.proofs.Vocabulary.{unmapped_header, [], ◌++◌, ◌+◌, �
 use Rattle.mk_core.proofs.{PageSteps.Unmaps, ServingSteps.IsCellTaken, Sizes.cells_some}
 use Rattle.mk_laws.proofs.Placing.{layout_carved, layout_chosen, layout_taken}
 use Rattle.mk_laws.proofs.Releasing.{layout_emptied, layout_given_back, with_header_on, with_used_on}
-use Rattle.mk_laws.proofs.{Fits.FitsOnFreePages, Fits.fits, Unmapping.layout_page_unmapped}
+use Rattle.mk_laws.proofs.{Fits.FitsInBlock, Fits.FitsOnFreePages, Fits.fits, Unmapping.layout_page_unmapped}
 
 -- Lists of claims that are joined.
 
@@ -144,6 +144,42 @@ carved_on c o w place p n st next =
       cells = st.cells;
     }
 
+-- How the place of a New stands in a terrain: its pages are free, or it is chosen, or its headers stand.
+pub data PlacedFor (c : Config) (o : Object) (w : World) (place : Place) (placing : Placing) : Type 0 where
+  OnFree : placing ≡ Unplaced → FitsOnFreePages c.resident w.now.words.pages o place → PlacedFor c o w place placing
+  OnChosen : placing ≡ Chosen place → PlacedFor c o w place placing
+  Stands : ((d : ℕ) → d < pages_made o → header_at w.now.words (place.page + d) ≡ header_made o d)
+      → ((placing ≡ Unplaced) × FitsInBlock w.now.words.pages o place) ⊎ (placing ≡ Used place)
+      → PlacedFor c o w place placing
+
+pub placed_for : (c : Config) (o : Object) (releasing : Bool) (w : World) (place : Place)
+    → Laid c o releasing w (ground_of w) → IsSized o
+    → IsPlaced c.resident w.now.words.pages o place w.now.seats.holding.placing
+    → PlacedFor c o w place w.now.seats.holding.placing
+placed_for c o releasing w place st sized placed = by w.now.seats.holding.placing refl placed
+  where
+    by : (placing : Placing) → w.now.seats.holding.placing ≡ placing
+        → IsPlaced c.resident w.now.words.pages o place placing → PlacedFor c o w place placing
+    by Unplaced is (ByFit at) = elim (fits c.resident w.now.words.pages o place sized at) [
+      | inl fit ↦ OnFree refl fit
+      | inr fit ↦ Stands
+          (λ d lt. let first : d ≡ 0 = omega (arith, small_pages o fit.small) in
+          let here : place.page + 0 ≡ place.page = omega arith in rw first (rw here fit.header))
+          (inl (refl, fit))
+    ]
+    by (Chosen place) is AsChosen = OnChosen refl
+    by (Used place) is AsUsed = Stands (st.scene.shown (place_claim o place)
+        (placed_claim c o (ground_of w) _ (rw is (inl refl)))).headers (inr refl)
+    by Granted is out = elim out [ ]
+
+-- A page of it whose header stands doesn't get it again.
+pub not_again : (o : Object) (w : World) (place : Place) (p n : ℕ)
+    → ((d : ℕ) → d < pages_made o → header_at w.now.words (place.page + d) ≡ header_made o d)
+    → IsNextHeader w.now.words place.page (pages_made o) (header_made o) p n → ⊥
+not_again o w place p n headers next =
+    let there : place.page + (p - place.page) ≡ p = omega (arith, next.from) in
+    next.not_yet (ap (λ q. header_at w.now.words q) (sym there) ∙ headers _ next.near)
+
 -- `head` (a) and (b): a page of the place gets its header
 pub head_carves : (c : Config) (o : Object) (w : World) (place : Place) (p n : ℕ) → Laid c o false w (ground_of w)
     → IsSized o → IsPlaced c.resident w.now.words.pages o place w.now.seats.holding.placing
@@ -151,34 +187,11 @@ pub head_carves : (c : Config) (o : Object) (w : World) (place : Place) (p n : �
       pages = with_header_on w.now.words.pages p n;
       placing = chosen w.now.seats.holding.placing (Some place);
     })
-head_carves c o w place p n st sized placed next = by w.now.seats.holding.placing refl placed
-  where
-    by : (placing : Placing) → w.now.seats.holding.placing ≡ placing
-        → IsPlaced c.resident w.now.words.pages o place placing → Laid c o false w (record (ground_of w) {
-          pages = with_header_on w.now.words.pages p n;
-          placing = chosen placing (Some place);
-        })
-    by Unplaced is (ByFit at) = elim (fits c.resident w.now.words.pages o place sized at) [
-      | inl fit ↦ carved_on c o w place p n (chosen_free c o false w place st is sized fit) next
-      | inr fit ↦
-          let one = small_pages o fit.small in
-          let near = next.near in
-          let low = next.from in
-          let d : p - place.page ≡ 0 = omega arith in
-          let here : p ≡ place.page = omega arith in
-          absurd (next.not_yet (ap (λ q. header_at w.now.words q) here ∙ fit.header
-          ∙ ap (λ e. header_made o e) (sym d)))
-    ]
-    by (Chosen place) is AsChosen =
-        carved_on c o w place p n (placed_as c o false w (ground_of w) (Chosen place) is st) next
-    by (Used place) is AsUsed =
-        let own : Among (place_claim o place) (claims_placed o w.now.seats.holding.placing) =
-        subst (λ (x : Placing). Among (place_claim o place) (claims_placed o x)) (sym is) (inl refl) in
-        let shown = st.scene.shown (place_claim o place) (placed_claim c o (ground_of w) _ own) in
-        let low = next.from in
-        let there : place.page + (p - place.page) ≡ p = omega arith in
-        absurd (next.not_yet (ap (λ q. header_at w.now.words q) (sym there) ∙ shown.headers _ next.near))
-    by Granted is out = elim out [ ]
+head_carves c o w place p n st sized placed next = elim (placed_for c o false w place st sized placed) [
+  | OnFree is fit ↦ rw is (carved_on c o w place p n (chosen_free c o false w place st is sized fit) next)
+  | OnChosen is ↦ rw is (carved_on c o w place p n (placed_as c o false w (ground_of w) (Chosen place) is st) next)
+  | Stands headers _ ↦ absurd (not_again o w place p n headers next)
+]
 
 -- `mark` (b): the place is chosen before its first header is stored
 pub mark_places : (c : Config) (o : Object) (releasing : Bool) (w : World) (place : Place)
@@ -186,18 +199,13 @@ pub mark_places : (c : Config) (o : Object) (releasing : Bool) (w : World) (plac
     → IsPlaced c.resident w.now.words.pages o place w.now.seats.holding.placing → header_at w.now.words place.page ≡ 0
     → header_made o 0 ≢ 0
     → Laid c o releasing w (record (ground_of w) { placing = chosen w.now.seats.holding.placing (Some place) })
-mark_places c o releasing w place st sized placed free made = by w.now.seats.holding.placing refl placed
-  where
-    by : (placing : Placing) → w.now.seats.holding.placing ≡ placing
-        → IsPlaced c.resident w.now.words.pages o place placing
-        → Laid c o releasing w (record (ground_of w) { placing = chosen placing (Some place) })
-    by Unplaced is (ByFit at) = elim (fits c.resident w.now.words.pages o place sized at) [
-      | inl fit ↦ chosen_free c o releasing w place st is sized fit
-      | inr fit ↦ absurd (made (sym fit.header ∙ free))
-    ]
-    by (Chosen place) is AsChosen = placed_as c o releasing w (ground_of w) (Chosen place) is st
-    by (Used place) is AsUsed = placed_as c o releasing w (ground_of w) (Used place) is st
-    by Granted is out = elim out [ ]
+mark_places c o releasing w place st sized placed free made = elim (placed_for c o releasing w place st sized placed) [
+  | OnFree is fit ↦ rw is (chosen_free c o releasing w place st is sized fit)
+  | OnChosen is ↦ rw is (placed_as c o releasing w (ground_of w) (Chosen place) is st)
+  | Stands headers _ ↦
+      let here : place.page + 0 ≡ place.page = omega arith in
+      absurd (made (sym (headers 0 (pages_some o sized)) ∙ ap (λ q. header_at w.now.words q) here ∙ free))
+]
 
 -- `used` (a): the cell of the place is taken
 no_claims : (xs : List Claim) (x : Claim) → (xs ++ []) ++ x ∷ [] ≡ xs ++ x ∷ []
@@ -235,30 +243,22 @@ pub used_takes : (c : Config) (o : Object) (releasing : Bool) (w : World) (place
     → is_used_once w.now.seats.holding.placing ≡ false
     → IsPlaced c.resident w.now.words.pages o place w.now.seats.holding.placing → IsCellTaken w.now.words o place p n
     → Laid c o releasing w (record (ground_of w) { pages = with_used_on w.now.words.pages p n; placing = Used place })
-used_takes c o releasing w place p n st sized made once placed next = by w.now.seats.holding.placing refl once placed
-  where
-    by : (placing : Placing) → w.now.seats.holding.placing ≡ placing → is_used_once placing ≡ false
-        → IsPlaced c.resident w.now.words.pages o place placing → Laid c o releasing w
-        (record (ground_of w) { pages = with_used_on w.now.words.pages p n; placing = Used place })
-    by Unplaced is once (ByFit at) = elim (fits c.resident w.now.words.pages o place sized at) [
-      | inl fit ↦
-          let zero : place.page + 0 ≡ place.page = omega arith in
+used_takes c o releasing w place p n st sized made once placed next =
+    elim (placed_for c o releasing w place st sized placed) [
+      | OnFree is fit ↦
           let some = pages_some o sized in
           absurd (made (sym (next.headers 0 (omega arith)) ∙ fit.free 0 (omega arith)))
-      | inr fit ↦
-          let one = small_pages o fit.small in
-          let lt = fit.within in
+      | OnChosen is ↦
+          let here = placed_as c o releasing w (ground_of w) (Chosen place) is st in
+          let plot : IsPlotShown w.now.words.pages place.page o = here.scene.plot in
+          let first : place.index ≡ 0 = here.first in
+          taken_at c o releasing w (Chosen place) place p n here refl next sized (omega (arith, cells_some o sized))
+          plot.within (λ q i. i)
+      | Stands headers (inl (is, fit)) ↦
           taken_at c o releasing w Unplaced place p n (placed_as c o releasing w (ground_of w) Unplaced is st) refl next
-          sized fit.index (omega arith) (λ q out. absurd out)
+          sized fit.index (omega (arith, small_pages o fit.small, fit.within)) (λ q out. absurd out)
+      | Stands headers (inr is) ↦ let e : true ≡ false = ap is_used_once (sym is) ∙ once in cc
     ]
-    by (Chosen place) is once AsChosen =
-        let here = placed_as c o releasing w (ground_of w) (Chosen place) is st in
-        let plot : IsPlotShown w.now.words.pages place.page o = here.scene.plot in
-        let first : place.index ≡ 0 = here.first in
-        let some = cells_some o sized in
-        taken_at c o releasing w (Chosen place) place p n here refl next sized (omega arith) plot.within (λ q i. i)
-    by (Used place) is once AsUsed = cc
-    by Granted is once out = elim out [ ]
 
 -- `used` (b): released cells are given back
 pub used_gives_back : (c : Config) (o : Object) (w : World) (p n : ℕ) → p < length w.now.words.pages

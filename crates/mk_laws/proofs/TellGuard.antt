@@ -1,24 +1,22 @@
 -- What the layout and the zero words tell the guard.
-use Rattle.mk_laws.proofs.Vocabulary.{Among, AreOfPages, AsChosen, AsUsed, Bool, ByFit, Caller, Chosen, Claim, Config}
-use Rattle.mk_laws.proofs.Vocabulary.{Granted, GuardPremises, HasHeader, HasZeros, Header, InPlot, IsClaimed}
-use Rattle.mk_laws.proofs.Vocabulary.{IsClaimedRun, IsHeaderOf, IsMarking, IsPlaced, IsPlotShown, IsSized, LayoutStands}
-use Rattle.mk_laws.proofs.Vocabulary.{Mapped, Mode, Moment, NoPlot, Object, OfLeafRun, OfRun, Option, Place}
-use Rattle.mk_laws.proofs.Vocabulary.{PlacedAllocation, Placing, Plot, PlotStands, Plotted, Run, RunPages, RunStands}
-use Rattle.mk_laws.proofs.Vocabulary.{Seat, ShowsPart, Some, Unplaced, Used, World, ℕ, and_parts, ap, arith, cases_eq}
-use Rattle.mk_laws.proofs.Vocabulary.{cases_lt, cells_under, claims_of, claims_on, claims_placed, false, false≢true}
-use Rattle.mk_laws.proofs.Vocabulary.{flight_of, get_or_past, ground_of, head_on, head_page, head_page_under}
-use Rattle.mk_laws.proofs.Vocabulary.{header_made, header_of, header_on, heads_run, inl, inr, is_large, is_mapped}
-use Rattle.mk_laws.proofs.Vocabulary.{is_small_object, is_undecided_new, is_unmapping, kinds_of, large_is_not_small}
-use Rattle.mk_laws.proofs.Vocabulary.{left, lt-ltb, made_shows, mode_of, ne_eqb, not, not-true, object_now}
-use Rattle.mk_laws.proofs.Vocabulary.{object_placed, pages_made, pages_some, part_head, place_claim, placed_at}
-use Rattle.mk_laws.proofs.Vocabulary.{placed_now, plot_of, refl, run_count, seat_exists, shows_on, slice_index}
-use Rattle.mk_laws.proofs.Vocabulary.{small_pages, subst, sym, true, true≢false, used_on, ◌&&◌, ◌*◌, ◌+◌, ◌-◌, ◌/◌, ◌<◌}
-use Rattle.mk_laws.proofs.Vocabulary.{◌==◌, ◌∙◌, ◌≡◌, ◌≢◌, ◌≤◌, ◌⊎◌}
+use Rattle.mk_laws.proofs.Vocabulary.{AreOfPages, Bool, Caller, Claim, Config, GuardPremises, HasHeader, HasZeros}
+use Rattle.mk_laws.proofs.Vocabulary.{Header, InPlot, IsClaimed, IsClaimedRun, IsHeaderOf, IsMarking, IsPlaced}
+use Rattle.mk_laws.proofs.Vocabulary.{IsPlotShown, IsSized, LayoutStands, Mapped, Mode, Moment, NoPlot, Object}
+use Rattle.mk_laws.proofs.Vocabulary.{OfLeafRun, OfRun, Option, Place, PlacedAllocation, Placing, Plot, PlotStands}
+use Rattle.mk_laws.proofs.Vocabulary.{Plotted, Run, RunPages, RunStands, Seat, ShowsPart, Some, World, ℕ, and_parts, ap}
+use Rattle.mk_laws.proofs.Vocabulary.{arith, cases_eq, cases_lt, cells_under, claims_of, claims_on, false, false≢true}
+use Rattle.mk_laws.proofs.Vocabulary.{flight_of, get_or_past, ground_of, head_on, head_page, head_page_under, header_of}
+use Rattle.mk_laws.proofs.Vocabulary.{header_on, heads_run, inl, inr, is_large, is_mapped, is_small_object}
+use Rattle.mk_laws.proofs.Vocabulary.{is_undecided_new, is_unmapping, kinds_of, large_is_not_small, left, lt-ltb}
+use Rattle.mk_laws.proofs.Vocabulary.{made_shows, mode_of, ne_eqb, not, not-true, object_now, object_placed, pages_made}
+use Rattle.mk_laws.proofs.Vocabulary.{pages_some, part_head, placed_at, placed_now, plot_of, run_count, seat_exists}
+use Rattle.mk_laws.proofs.Vocabulary.{shows_on, slice_index, subst, sym, true, true≢false, used_on, ◌&&◌, ◌*◌, ◌+◌, ◌-◌}
+use Rattle.mk_laws.proofs.Vocabulary.{◌/◌, ◌<◌, ◌==◌, ◌∙◌, ◌≡◌, ◌≢◌, ◌≤◌, ◌⊎◌}
 use Rattle.mk_laws.proofs.BarePages.{Unreleasing, bare_page, plot_page, shown_there}
 use Rattle.mk_laws.proofs.Basics.{Known, KnownWorld, Laid, all_stand, claimed, first_header, holding_object}
-use Rattle.mk_laws.proofs.Basics.{known_world, made_sized, mapped_stays, new_has_turn, placed_claim, zero_where_none}
-use Rattle.mk_laws.proofs.LayoutReadings.{claimed_head, header_of_mode}
-use Rattle.mk_laws.proofs.{Fits.fits, QuarantineByKind.shown_at, WholeRuns.find_bit}
+use Rattle.mk_laws.proofs.Basics.{known_world, made_sized, mapped_stays, new_has_turn, zero_where_none}
+use Rattle.mk_laws.proofs.{LayoutReadings.claimed_head, LayoutReadings.header_of_mode, QuarantineByKind.shown_at}
+use Rattle.mk_laws.proofs.{Serving.OnChosen, Serving.OnFree, Serving.Stands, Serving.placed_for, WholeRuns.find_bit}
 use Rattle.mk_laws.specs.Kept.{LaterPagesAreKnown, PlaceIsBare, RunHasObject, StandsMapped}
 use Rattle.mk_laws.specs.ZerosTell.{ZerosTellTheGuard}
 
@@ -109,43 +107,26 @@ new_exists c m _ known new = absurd (false≢true new)
 bare_place : (c : Config) (w : World) (o : Object) (place : Place) → Unreleasing c w → Laid c o false w (ground_of w)
     → IsSized o
     → IsPlaced c.resident w.now.words.pages o place w.now.seats.holding.placing → PlaceIsBare w.now.words o place
-bare_place c w o place q st sized placed = by w.now.seats.holding.placing refl placed
-  where
-    zero : place.page + 0 ≡ place.page
-    zero = omega arith
-
-    by : (placing : Placing) → w.now.seats.holding.placing ≡ placing
-        → IsPlaced c.resident w.now.words.pages o place placing → PlaceIsBare w.now.words o place
-    by Unplaced is (ByFit at) = elim (fits c.resident w.now.words.pages o place sized at) [
-      | inl fit ↦ record {
-        headers = λ d lt. inl (fit.free d lt);
-        words = λ free i li. bare_page c w (place.page + i / 64) _ q (fit.free (i / 64) (omega arith)) (omega arith);
+bare_place c w o place q st sized placed = elim (placed_for c o false w place st sized placed) [
+  | OnFree is fit ↦ record {
+    headers = λ d lt. inl (fit.free d lt);
+    words = λ free i li. bare_page c w (place.page + i / 64) _ q (fit.free (i / 64) (omega arith)) (omega arith);
+  }
+  | OnChosen is ↦
+      let plot : IsPlotShown w.now.words.pages place.page o =
+      subst (λ (x : Placing). PlotStands w.now.words.pages (plot_of o x)) is st.scene.plot in
+      record {
+        headers = plot.headers;
+        words = λ free i li. plot_page c w place.page o (i / 64) _ q plot (omega arith) (omega arith);
       }
-      | inr fit ↦ record {
-        headers = λ d lt.
-            let first : d ≡ 0 = omega (arith, small_pages o fit.small) in
-            inr (ap (λ j. header_on w.now.words.pages (place.page + j)) first
-            ∙ ap (header_on w.now.words.pages) zero ∙ fit.header ∙ ap (header_made o) (sym first));
-        words = λ free i li. absurd (first_header o sized (sym fit.header ∙ free));
+  | Stands headers _ ↦
+      let zero : place.page + 0 ≡ place.page = omega arith in
+      record {
+        headers = λ d lt. inr (headers d lt);
+        words = λ free i li. absurd (first_header o sized (sym (headers 0 (pages_some o sized))
+            ∙ ap (header_on w.now.words.pages) zero ∙ free));
       }
-    ]
-    by (Chosen place) is AsChosen =
-        let plot : IsPlotShown w.now.words.pages place.page o =
-        subst (λ (x : Placing). PlotStands w.now.words.pages (plot_of o x)) is st.scene.plot in
-        record {
-          headers = plot.headers;
-          words = λ free i li. plot_page c w place.page o (i / 64) _ q plot (omega arith) (omega arith);
-        }
-    by (Used place) is AsUsed =
-        let own : Among (place_claim o place) (claims_placed o w.now.seats.holding.placing) =
-        subst (λ (x : Placing). Among (place_claim o place) (claims_placed o x)) (sym is) (inl refl) in
-        let shown = st.scene.shown (place_claim o place) (placed_claim c o (ground_of w) _ own) in
-        record {
-          headers = λ d lt. inr (shown.headers d lt);
-          words = λ free i li. absurd (first_header o sized (sym (shown.headers 0 (omega (arith, pages_some o sized)))
-              ∙ ap (header_on w.now.words.pages) zero ∙ free));
-        }
-    by Granted is out = elim out [ ]
+]
 
 -- The run that a call freed, and mapped allocations
 

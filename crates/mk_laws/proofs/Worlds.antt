@@ -1,19 +1,19 @@
 -- What is known of a world of a history, and what values and words in it point into.
 use Rattle.mk_laws.proofs.Vocabulary.{Block, Config, Free, HasItsHeaders, Header, Invariant, IsMarking, IsSized}
 use Rattle.mk_laws.proofs.Vocabulary.{IsStorage, IsWordOf, Later, LeafBlock, LeafRun, MayHoldWords, NeverState, Object}
-use Rattle.mk_laws.proofs.Vocabulary.{OfBlock, OfLater, OfLeafBlock, OfLeafRun, OfRun, Option, PlacedAllocation}
-use Rattle.mk_laws.proofs.Vocabulary.{PointsInto, Run, RunPages, ShowsPart, Some, StandsOnHeap, World, ℕ, and_parts, ap}
-use Rattle.mk_laws.proofs.Vocabulary.{arith, cell_of_allocation, eqb-true, false, first_page_shows, has_no_pointers}
-use Rattle.mk_laws.proofs.Vocabulary.{head_page_under, header_in, inl, inr, is_small_object, large_words, leb-true}
-use Rattle.mk_laws.proofs.Vocabulary.{ltb-true, nat_le, nat_lt, object_placed, or_parts, page_at_address, pages_made}
-use Rattle.mk_laws.proofs.Vocabulary.{part_has_no_pointers, phase_of, placed_at, pointed_cell, run_begins, run_count}
-use Rattle.mk_laws.proofs.Vocabulary.{shown, slice_index, small, standing_has_storage, stands_on, storage_of}
-use Rattle.mk_laws.proofs.Vocabulary.{storage_words, subst, sym, true, typed_size, ◌*◌, ◌-◌, ◌/◌, ◌<◌, ◌∙◌, ◌≡◌, ◌≢◌}
-use Rattle.mk_laws.proofs.Vocabulary.{◌⊎◌}
+use Rattle.mk_laws.proofs.Vocabulary.{Option, PlacedAllocation, PointsInto, Run, RunPages, ShowsPart, Some}
+use Rattle.mk_laws.proofs.Vocabulary.{StandsOnHeap, World, ℕ, and_parts, ap, arith, cell_of_allocation, eqb-true, false}
+use Rattle.mk_laws.proofs.Vocabulary.{first_page_shows, has_no_pointers, head_page_under, header_in, inl, inr}
+use Rattle.mk_laws.proofs.Vocabulary.{is_small_object, large_words, leb-true, ltb-true, nat_le, nat_lt, object_placed}
+use Rattle.mk_laws.proofs.Vocabulary.{or_parts, page_at_address, pages_made, part_has_no_pointers, phase_of, placed_at}
+use Rattle.mk_laws.proofs.Vocabulary.{pointed_cell, run_begins, run_count, shown, slice_index, standing_has_storage}
+use Rattle.mk_laws.proofs.Vocabulary.{stands_on, storage_of, storage_words, subst, sym, true, typed_size, ◌*◌, ◌-◌, ◌/◌}
+use Rattle.mk_laws.proofs.Vocabulary.{◌<◌, ◌∙◌, ◌≡◌, ◌≢◌, ◌⊎◌}
 use Rattle.mk_geom.proofs.Standing.{stands_at_first, stands_from}
 use Rattle.mk_core.proofs.PointedPages.{PointsTo, points_to}
 use Rattle.mk_core.proofs.{PointedAllocations.pointers_come_back, StandingAllocations.pointers_hit}
-use Rattle.mk_laws.proofs.{Basics.KnownWorld, Basics.mapped_stays, InvariantJoined.told_to_images}
+use Rattle.mk_laws.proofs.Basics.{KnownWorld, mapped_stays}
+use Rattle.mk_laws.proofs.{InvariantJoined.told_to_images, Unmapping.part_count, Unmapping.small_count}
 use Rattle.mk_laws.specs.ImagePremises.{OfFreedRun, OfMapped, OfReleased}
 use Rattle.mk_laws.specs.ImagePremises as images
 
@@ -33,13 +33,9 @@ not_four n (inl e) f = absurd (omega arith)
 not_four n (inr e) f = absurd (omega arith)
 
 -- a run's head shows the pages of its object
-part_count : (o : Object) (x : Option Header) (d : ℕ) → ShowsPart o 0 x → d < run_count x
+run_pages : (o : Object) (x : Option Header) (d : ℕ) → ShowsPart o 0 x → d < run_count x
     → (is_small_object o ≡ false) × (d < pages_made o)
-part_count o x d (OfBlock first small leaf) lt = absurd (omega arith)
-part_count o x d (OfLeafBlock first small leaf) lt = absurd (omega arith)
-part_count o x d (OfRun mapped first large leaf) lt = (large, lt)
-part_count o x d (OfLeafRun first large leaf) lt = (large, lt)
-part_count o x d (OfLater mapped some large) lt = absurd (omega arith)
+run_pages o x d part lt = grind (arith, part_count, small_count)
 
 module _ (c : Config) (w : World) (n : NeverState) (t : Told c w n) where
   abbrev placed : ℕ → PlacedAllocation
@@ -101,7 +97,7 @@ module _ (c : Config) (w : World) (n : NeverState) (t : Told c w n) where
             | inl lt ↦
                 let counted : distance < run_count (header_in w.now.words (a.base / 64)) =
                 subst (λ p. distance < run_count (header_in w.now.words p)) (sym head) lt in
-                let part = part_count (object_placed c a) (header_in w.now.words (a.base / 64)) distance
+                let part = run_pages (object_placed c a) (header_in w.now.words (a.base / 64)) distance
                 (first_part b u) counted in
                 let large = part.0 in
                 let near = part.1 in
