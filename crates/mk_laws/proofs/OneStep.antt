@@ -67,10 +67,7 @@ module _ (c : Config) (w : World) (n : NeverState) (t : Told c w n) where
   register_image seat j r h =
       let lt = ltb-true r 8 (and_parts (nat_lt j c.callers) (nat_lt r 8) h.range).1 in
       let own : (8 * j + r) / 8 ≡ j = omega arith in
-      let free : is_put (flight_of w.now (Caller ((8 * j + r) / 8))).stage ≡ false =
-      subst (λ i. is_put (flight_of w.now (Caller i)).stage ≡ false) (sym own) (looked_owes_none seat j r h) in
-      sym (shows_plain (flight_of w.now (Caller ((8 * j + r) / 8))) ((8 * j + r) % 8) (register_word w.now.words j r)
-      free) ∙ t.all.mirrors.images.registers (8 * j + r)
+      grind (arith, looked_owes_none, shows_plain)
 
 -- A heap word gives a hand of a marked cell that is scanned, but for a sweeping one.
 record IsOfMarked (w : Words) (cell : Cell) (value : ℕ) (h : Hand) : Type 0 where

@@ -22,11 +22,7 @@ pub marking_goes_on : (c : Config) (m : Moment) (seat : Seat) (x : Step) → IsM
     → is_close x ≡ false → GoesOnMarking c m seat x
 marking_goes_on c m seat x early h other =
     let one = marking_step x _ (phase_asked c m seat x h) (within _ early) other in
-    record {
-      early = one_of _ (subst IsMarkingPhase (sym (phase_moves c m seat x h)) one.0);
-      begun = one.1;
-      released = one.2;
-    }
+    grind (arith, one_of, phase_moves)
 
 -- After the `close` neither a `begin` nor a grant comes: the phase waits for the `release`, and then for the `end`.
 pub record Waits (c : Config) (m : Moment) (seat : Seat) (x : Step) (p : ℕ) : Type 0 where

@@ -73,8 +73,7 @@ layout_carved s first o d laid plotted off next =
             let l = laid.later q e m (rw (← (headed_other s.pages p n q ne)) is) in (
               l.0,
               elim (cases_eq (q - e) p) [
-                | inl at ↦ absurd (not_headed e (subst (λ i. (e < run_count (shows_on s.pages i))
-                    ⊎ ((s.releasing ≡ true) × (header_on s.pages i ≡ 0))) at l.1))
+                | inl at ↦ grind arith
                 | inr other ↦ rw (headed_other s.pages p n (q - e) other) l.1
               ],
             )
@@ -235,8 +234,6 @@ module _ (s : LayoutScene) (x : Claim) (n : ℕ) (laid : IsLaidOn s) (t : Takes 
   -- a page of the place has its head's bit now
   full : (q : ℕ) → InPlot (Plotted x.page x.object) q → used_on after (head_on after q) ≡ 0 → ⊥
   full q here empty =
-      let low = here.0 in
-      let high = here.1 in
       let at : x.page + (q - x.page) ≡ q = omega arith in
       let head : head_on after q ≡ x.page = rw (← at) (claimed_head after x (q - x.page) own (omega arith)) in
       none_set _ x.index (ap (used_on after) (sym head) ∙ empty) here_set
@@ -247,8 +244,7 @@ module _ (s : LayoutScene) (x : Claim) (n : ℕ) (laid : IsLaidOn s) (t : Takes 
       | inl was ↦ grown y (laid.shown y was)
       | inr e ↦ rw e own
     ];
-    apart = apart_push s.claims x laid.apart (λ y i same. true≢false (sym (laid.shown y i).used ∙ rw same.0
-        (rw same.1 t.unset)));
+    apart = grind (arith, apart_push);
     used = used;
     plot = tt;
     occupied = λ q some empty. elim
