@@ -108,11 +108,7 @@ same_access c m n seat x flight marker holding = grind (arith, is_grant, placing
 pub others_leave_accesses : OthersLeaveAccesses
 others_leave_accesses c es more e limits on others now =
     let l = (others_leave c es more e.seat limits on others).own in
-    record {
-      word = cc (l.flight, l.marker);
-      access = same_access c (left c es).now (left c (es ++ more)).now e.seat e.step l.flight l.marker
-          (λ g. (l.holding (granting e.step g (enabled_meets c (left c es).now e now))).1);
-    }
+    grind (arith, same_access, enabled_meets)
   where
     granting : (x : Step) → is_grant x ≡ true → Meets c (left c es).now e.seat x → Holds c (left c es).now e.seat
     granting Step.Grant g h = granter_holds c (left c es).now e.seat h
