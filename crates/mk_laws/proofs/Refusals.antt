@@ -47,8 +47,7 @@ pub owes_null : (safe : ℕ → Bool) (s : ImageScene) (n : NeverState) (k d : �
 owes_null safe s n k d o f a flag there long was put isd ld zero stays is = (
   rw (ap (after_op n k) flag ∙ stays ∙ ap (λ x. with_register n k x Null) (sym isd))
       (Owes k f Null there long was put (omega (arith, isd)) zero tt),
-  λ more. one_right _ a n k o (is _
-      ∙ ap (λ (x : Op). answer_of (bases_of s.allocations ++ more) (reply_of n k x)) (sym flag)),
+  λ more. one_right _ a n k o (grind arith),
 )
 
 refused_reply : (x t : Target) (at : ℕ → ℕ → Reply) → x ≡ t → is_word t ≡ false
@@ -82,8 +81,7 @@ refuses safe s n k (Op.SetPtr q' i p') q p r a t is there long was ld none e ans
     (refused_left _ t n (λ a w. with_word n a w (register_at n k p')) e none) (λ bs. answer bs ∙ ap (answer_of bs)
     (sym (refused_reply _ t (λ a w. Done) e none)))
 refuses safe s n k (Op.CasPtr q' i p' r') q p r a t is there long was ld none e answer =
-    decides_nothing safe s n k (Op.CasPtr q' i p' r') _ a refl was refl (refused_left _ t n
-    (λ a w. if is_same (word_at n a w) (register_at n k p') then with_word n a w (register_at n k r') else n) e none)
+    decides_nothing safe s n k (Op.CasPtr q' i p' r') _ a refl was refl (grind (arith, refused_left))
     (λ bs. answer bs ∙ ap (answer_of bs) (sym (refused_reply _ t
     (λ a w. Number (bit (is_same (word_at n a w) (register_at n k p')))) e none)))
 refuses safe s n k (Op.GetPtr d q' i) q p r a t is there long was ld none e answer =

@@ -145,13 +145,7 @@ module _ (listed : List ℕ) (safe : ℕ → Bool) (s : ImageScene) (n : NeverSt
         → x ≡ image_of bases (register_at n k (r_of o))
         → LeadsBy safe s n k o s (onward (record (flight Stage.LoadR o q p r l) { r = x }) None)
     reg_r (Op.CasPtr q' i p' r') q p r l x is a car e = flies_on safe s n k (Op.CasPtr q' i p' r') _ (rw is) refl
-        (record {
-          q = λ y. car.q refl;
-          some_q = λ y. car.some_q refl;
-          p = λ y. car.p refl;
-          some_p = λ y. cc;
-          r = λ y. e;
-        }) (λ y. cc)
+        (grind arith) (λ y. cc)
     reg_r _ q p r l x is a car e = cc
 
     reg_store : (o : Op) (q p r l : ℕ) → flight_among s.flights k ≡ flight Stage.Store o q p r l → d_of o < 8
@@ -169,12 +163,8 @@ module _ (listed : List ℕ) (safe : ℕ → Bool) (s : ImageScene) (n : NeverSt
               (ap (answer_of (bases_of s.allocations ++ more)) (sym lea.2)),
         )
     reg_store (Op.Move d q') q p r l is ld a car ad = (
-      Stores k d _ (flight Stage.Leave (Op.Move d q') q p r l) (register_at n k q') (record {
-        there = there;
-        registers = long;
-        was = rw is;
-        bare = refl;
-      }) longs ld (car.q refl) (h.set.registers (8 * k + q')),
+      Stores k d _ (flight Stage.Leave (Op.Move d q') q p r l) (register_at n k q')
+          (grind arith) longs ld (car.q refl) (h.set.registers (8 * k + q')),
       λ more. refl,
     )
     reg_store (Op.Clear d) q p r l is ld a car ad = (

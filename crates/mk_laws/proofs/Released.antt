@@ -39,10 +39,7 @@ stands_there c run w a len shown u at = record {
     typed = at.typed;
     unreleased = u;
     begins = at.begins;
-    within =
-        let inside : a.base / 64 + pages_made (object_placed c a) ≤ length w.pages = shown.within in
-        let words : storage_words c a ≡ words_made (object_placed c a) = refl in
-        omega (arith, ends_on_pages _ a.base shown.sized at.begins);
+    within = omega (arith, ends_on_pages _ a.base shown.sized at.begins);
   };
   headers = λ d lt. header_of_mode _ _ d _ (shown.headers d lt);
 }
@@ -94,7 +91,6 @@ pub released_terrain : (c : Config) (o : Object) (w : World) → IsWithinLimits 
     → is_released_in true w.now.words.snapshot w.now.words.marks run.page 0 ≡ false)
     → Laid c o true w (record (ground_of w) { allocations = map (with_released c w.now.words) w.allocations })
 released_terrain c o w limits len st kept =
-    let ys : List PlacedAllocation = map (with_released c w.now.words) w.allocations in
     let own : List Claim = claims_of c w.now.seats.holding.freed w.allocations in
     let placed : List Claim = claims_placed o w.now.seats.holding.placing in
     record {

@@ -65,12 +65,9 @@ so_far seat Step.Close p es asks k =
       begun = λ n. let most = n.most in absurd (omega arith);
       closed = λ e. closed_here es (record { seat = seat; step = Step.Close }) refl (k.begun m);
     }
-so_far seat Step.Release p es asks k =
-    record { begun = λ n. let most = n.most in absurd (omega arith); closed = λ e. absurd (omega arith) }
-so_far seat Step.End p es asks k =
-    record { begun = λ n. let least = n.least in absurd (omega arith); closed = λ e. absurd (omega arith) }
-so_far seat Step.Over p es asks k =
-    record { begun = λ n. let most = n.most in absurd (omega arith); closed = λ e. absurd (omega arith) }
+so_far seat Step.Release p es asks k = record { begun = λ n. absurd (omega arith); closed = λ e. absurd (omega arith) }
+so_far seat Step.End p es asks k = record { begun = λ n. absurd (omega arith); closed = λ e. absurd (omega arith) }
+so_far seat Step.Over p es asks k = record { begun = λ n. absurd (omega arith); closed = λ e. absurd (omega arith) }
 so_far seat _ p es asks k =
     record { begun = λ m. begun_longer es _ refl (k.begun m); closed = λ e. closed_longer es _ refl (k.closed e) }
 

@@ -63,8 +63,7 @@ pub shown_beside : (pages : List Page) (p n : ℕ) (x : Claim) → p < length pa
 shown_beside pages p n x lt shown apart = record {
   sized = shown.sized;
   known = shown.known;
-  within = let len = length-set pages p (record { header = n; used = used_on pages p }) in let w =
-      shown.within in omega arith;
+  within = let len = length-set pages p (record { header = n; used = used_on pages p }) in omega arith;
   headers = λ d ld. rw (headed_other pages p n (x.page + d) (apart d ld)) (shown.headers d ld);
   used = rw (headed_used pages p n x.page lt) shown.used;
 }
@@ -81,8 +80,7 @@ plot_emptied : (pages : List Page) (p : ℕ) (plot : Plot) → p < length pages 
 plot_emptied pages p NoPlot lt stands = stands
 plot_emptied pages p (Plotted first o) lt stands = record {
   sized = stands.sized;
-  within = let len = length-set pages p (record { header = 0; used = used_on pages p }) in let w =
-      stands.within in omega arith;
+  within = let len = length-set pages p (record { header = 0; used = used_on pages p }) in omega arith;
   headers = λ d ld. elim (cases_eq (first + d) p) [
     | inl e ↦ inl (rw e (headed_here pages p 0 lt))
     | inr ne ↦ rw (headed_other pages p 0 (first + d) ne) (stands.headers d ld)
@@ -160,8 +158,7 @@ layout_given_back s p n laid lt on gives kept = record {
 
     fewer : (q k : ℕ) → has_bit (used_on (with_used_on s.pages p n) q) k ≡ true → has_bit (used_on s.pages q) k ≡ true
     fewer q k h = elim (cases_eq q p) [
-      | inl e ↦ rw e (gives.fewer k (rw (← (used_here s.pages p n lt))
-          (ap (λ i. has_bit (used_on (with_used_on s.pages p n) i) k) (sym e) ∙ h)))
+      | inl e ↦ grind (arith, used_here, with_used_on)
       | inr ne ↦ rw (← (used_other s.pages p n q ne)) h
     ]
 
@@ -169,10 +166,7 @@ layout_given_back s p n laid lt on gives kept = record {
         → has_bit (used_on (with_used_on s.pages p n) x.page) x.index ≡ true
     bit x among was = elim (cases_eq x.page p) [
       | inr ne ↦ rw (used_other s.pages p n x.page ne) was
-      | inl e ↦ rw e (rw (used_here s.pages p n lt) (elim (cases_Bool (has_bit n x.index)) [
-        | inl stays ↦ stays
-        | inr goes ↦ absurd (true≢false (sym (gives.gone x.index (rw (← e) was) goes) ∙ rw (← e) (kept x among)))
-      ]))
+      | inl e ↦ rw e (grind (arith, used_here, kept))
     ]
 
     shown : (x : Claim) → Among x s.claims → IsShown s.pages x → IsShown (with_used_on s.pages p n) x

@@ -22,8 +22,7 @@ unfolding count_below
 count_fewer zero test other fewer = omega arith
 count_fewer (suc n) test other fewer =
     let rest = count_fewer n test other (λ p lt. fewer p (omega arith)) in
-    let last : (if test n then 1 else 0) ≤ (if other n then 1 else 0) = by (test n) (other n) (fewer n (omega arith)) in
-    omega arith
+    grind arith
   where
     by : (a b : Bool) → (a ≡ true → b ≡ true) → (if a then 1 else 0) ≤ (if b then 1 else 0)
     by true true h = omega arith
@@ -125,8 +124,7 @@ resident_used pages p n q h = elim (cases_eq q p) [
     | inl lt ↦
         let page : page_in (with_used_on pages p n) q ≡ record { header = header_on pages p; used = n } =
         rw e (get_or-set_same pages p (record { header = header_on pages p; used = n }) free_page lt) in
-        rw e (resident_use (shows_on pages p) (used_on pages p) n
-        ∙ ap (λ (x : Page). is_resident_page (use_of_page x)) (sym page) ∙ h)
+        grind (arith, resident_use)
     | inr past ↦ rw (← (set_past pages p (record { header = header_on pages p; used = n }) past)) h
   ]
 ]
@@ -162,6 +160,4 @@ resident_few c w len room =
     let plot : Plot = plot_of (object_now c w.now) w.now.seats.holding.placing in
     let less = count_fewer c.pages (is_resident pages) (is_taken_page pages plot)
     (λ q lt r. or_left (is_resident pages q) (in_plot plot q) r) in
-    let count : count_below c.pages (is_resident pages) ≡ resident_pages (uses_of_pages pages) =
-    rw (← len) (resident_count pages) in
-    omega arith
+    grind (arith, is_resident, resident_count)

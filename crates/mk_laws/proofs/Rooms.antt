@@ -24,10 +24,7 @@ chosen_room : (c : Config) (o : Object) (pages : List Page) (place : Place) → 
     → FitsOnFreePages c.resident pages o place → RoomOn c o pages (Chosen place)
 chosen_room c o pages place len fit =
     let range = count_range c.pages place.page (pages_made o) (is_resident pages) in
-    let count : count_below c.pages (is_resident pages) ≡ resident_pages (uses_of_pages pages) =
-    rw (← len) (resident_count pages) in
-    let room = fit.room in
-    omega arith
+    grind (arith, is_resident, resident_count)
 
 -- A page of the plot gets its header.
 carved_room : (c : Config) (o : Object) (w : World) (place : Place) (p n : ℕ)
@@ -38,12 +35,7 @@ carved_room c o w place p n next room =
     (λ q lt r. elim (cases_eq q p) [
       | inr ne ↦ or_left (is_resident w.now.words.pages q) (in_plot (Plotted place.page o) q)
           (resident_other w.now.words.pages p n q ne r)
-      | inl e ↦
-          let low = next.from in
-          let near = next.near in
-          or_right (is_resident w.now.words.pages q) (in_plot (Plotted place.page o) q)
-          (and_from (nat_le place.page q) (nat_lt q (place.page + pages_made o)) (le-leb place.page q (omega arith))
-          (lt-ltb q (place.page + pages_made o) (omega arith)))
+      | inl e ↦ grind (arith, or_right, is_resident, and_from, le-leb, lt-ltb)
     ]) room
 
 abbrev HeadRoom : Config → World → Seat → ℕ → ℕ → Bool → Type 0
@@ -74,14 +66,7 @@ head_room c w seat p n b there lt laid room (ItCarves off x) =
         → RoomOn c o (with_header_on w.now.words.pages p n) (chosen placing (Some x.place))
     by o sized own Unplaced is (ByFit at) next = elim (fits c.resident w.now.words.pages o x.place sized at) [
       | inl fit ↦ carved_room c o w x.place p n next (chosen_room c o w.now.words.pages x.place b.lengths.pages fit)
-      | inr fit ↦
-          let one = small_pages o fit.small in
-          let near = next.near in
-          let low = next.from in
-          let d : p - x.place.page ≡ 0 = omega arith in
-          let here : p ≡ x.place.page = omega arith in
-          absurd (next.not_yet (ap (λ q. header_at w.now.words q) here ∙ fit.header
-          ∙ ap (λ e. header_made o e) (sym d)))
+      | inr fit ↦ grind (arith, small_pages)
     ]
     by o sized own (Chosen place) is AsChosen next = grind (arith, carved_room)
     by o sized own (Used place) is AsUsed next =

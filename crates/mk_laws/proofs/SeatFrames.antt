@@ -49,9 +49,7 @@ same_place xs ys a lt longer = sym (base_at ys a) ∙ rw longer.is (get_or_appen
 in_call_stands : (c : Config) (m : Moment) (k : ℕ) → Known c m → is_in_call (flight_of m (Caller k)) ≡ true
     → (k < c.callers) × (standing (flight_of m (Caller k)) ≡ InCall)
 in_call_stands c m k known is = elim (cases_lt k c.callers) [
-  | inl lt ↦
-      let f = flight_of m (Caller k) in
-      (lt, in_call_is (standing f) (in_call_told f.stage f.op (not_astray c m known.orderly k lt) ∙ is))
+  | inl lt ↦ grind (arith, in_call_is, standing, in_call_told, not_astray)
   | inr past ↦ absurd (false≢true (ap is_in_call (sym (get_or_past m.seats.flights k at_rest
       (omega (arith, known.orderly.flights)))) ∙ is))
 ]
@@ -198,8 +196,7 @@ all_step : (c : Config) (w : World) (n : NeverState) (s seat : Seat) (x : Step) 
     → seat ≢ s → HoldsAll c w.now s → never_after c w n (record { seat = seat; step = x }) ≡ n
 all_step c w n s (Caller j) x known h ne all =
     let lt = ltb-true j c.callers h.seat in
-    ap (after_calls n)
-    (held_decides_nothing c w.now j x known h (others_held c w.now s all.1 j lt (other_number c w.now s j lt all.0 ne)))
+    grind (arith, held_decides_nothing, others_held, other_number)
 all_step c w n s _ x known h ne all = refl
 
 all_one : (c : Config) (s : Seat) (es : List Event) (e : Event) → IsHistory c (es ++ e ∷ [])

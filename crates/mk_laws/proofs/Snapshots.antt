@@ -61,8 +61,7 @@ module _ (c : Config) (es : List Event) (h : IsHistory c es) (begin : At is_begi
   unfolding left_from
   phase =
       let on = enabled_at c es is_begin begin h in
-      let begun = begun_world c _ begin.event begin.behind on begin.of_kind no_release in
-      subst (λ (v : World). IsUnreleased (phase_of v.now.words)) (sym since) begun.phase
+      grind (arith, begun_world, no_release, since)
 
   -- An allocation that was unreleased then is so, in its cell.
   put : (i : ℕ) → (placed_at olds i).released ≡ false → StaysPut (placed_at olds i) (placed_at w.allocations i)
