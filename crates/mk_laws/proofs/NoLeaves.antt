@@ -66,12 +66,7 @@ stored_no_leaf c w n seat p v t early h cells = by (head_step c w.now _ p v h.ho
         ]
     by (ItUnmaps four u) =
         let r = (told_to_guard c w n t.known t.all).freed early u.run u.there in
-        let range = large_count r.object r.sized r.large in
-        let low = range.0 in
-        let high = range.1 in
-        let count = r.count in
-        ap (λ y. is_leaf_header (header_of y)) u.next.is ∙ unmapped_no_leaf _
-        (unmapped_is_unmapped u.run.count (p - u.run.page) (omega arith, omega arith) u.next.near)
+        grind (arith, large_count, unmapped_no_leaf, unmapped_is_unmapped)
     by (ItEmpties four k) =
         let z = eqb-true _ 4 four in
         elim early [ inl e ↦ absurd (omega arith) | inr e ↦ absurd (omega arith) ]

@@ -9,7 +9,7 @@ use Rattle.mk_laws.proofs.Vocabulary.{has_no_pointers, header_in, if◌then◌el
 use Rattle.mk_laws.proofs.Vocabulary.{is_marked, is_number_of, is_put, is_unmarked, ltb-true, marker_of, nat_lt, no_bit}
 use Rattle.mk_laws.proofs.Vocabulary.{none-some, nothing_done, or_cases, or_else, placed_at, pointed_cell, refl}
 use Rattle.mk_laws.proofs.Vocabulary.{register_word, same_Some, slice_index, slice_index_or, subst, sym, true}
-use Rattle.mk_laws.proofs.Vocabulary.{true≢false, word_points, ◌%◌, ◌&&◌, ◌*◌, ◌+◌, ◌/◌, ◌∙◌, ◌≡◌, ◌≢◌, ◌≤◌, ◌⊎◌}
+use Rattle.mk_laws.proofs.Vocabulary.{true≢false, word_points, ◌&&◌, ◌*◌, ◌+◌, ◌/◌, ◌∙◌, ◌≡◌, ◌≢◌, ◌≤◌, ◌⊎◌}
 use Rattle.mk_core.specs.Effects.{hand_given, hand_of_cell, is_in_stop, is_mapped_cell}
 use Rattle.mk_core.specs.declared.seats.Source.TheVariants.{Marked, Root, Unmarked}
 use Rattle.mk_core.specs.Touched.{PointsIntoAllocation}
@@ -67,10 +67,7 @@ module _ (c : Config) (w : World) (n : NeverState) (t : Told c w n) where
   register_image seat j r h =
       let lt = ltb-true r 8 (and_parts (nat_lt j c.callers) (nat_lt r 8) h.range).1 in
       let own : (8 * j + r) / 8 ≡ j = omega arith in
-      let free : is_put (flight_of w.now (Caller ((8 * j + r) / 8))).stage ≡ false =
-      subst (λ i. is_put (flight_of w.now (Caller i)).stage ≡ false) (sym own) (looked_owes_none seat j r h) in
-      sym (shows_plain (flight_of w.now (Caller ((8 * j + r) / 8))) ((8 * j + r) % 8) (register_word w.now.words j r)
-      free) ∙ t.all.mirrors.images.registers (8 * j + r)
+      grind (arith, looked_owes_none, shows_plain)
 
 -- A heap word gives a hand of a marked cell that is scanned, but for a sweeping one.
 record IsOfMarked (w : Words) (cell : Cell) (value : ℕ) (h : Hand) : Type 0 where

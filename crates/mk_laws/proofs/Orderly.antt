@@ -154,8 +154,7 @@ pub holders_flight : (c : Config) (v : View) (seat : Seat) → Orderly c v → H
     → flight_in v (v.turn - 1) ≡ flight_at v.flights seat
 holders_flight c v (Caller k) h t = grind (arith, turn_of, flight_in)
 holders_flight c v (Marker k) h t = absurd t
-holders_flight c v Host h t =
-    get_or_past v.flights (v.turn - 1) at_rest (let e : v.turn ≡ 1 + c.callers = t in omega (arith, h.flights))
+holders_flight c v Host h t = get_or_past v.flights (v.turn - 1) at_rest (omega (arith, h.flights))
 
 -- what the holder shows after its step, where it goes on, where it gives the turn, and where it takes it
 

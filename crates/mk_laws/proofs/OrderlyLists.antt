@@ -49,9 +49,5 @@ orderly_at_first c small = record {
   stopped = λ e. absurd (omega arith);
   attends = λ k a. let e : false ≡ true = ap (λ (x : Marker). is_attending x.presence) (sym (at_first 8 k outside))
       ∙ a in cc;
-  idle = λ k a. record {
-    scan = rw (at_first 8 k outside);
-    hand = rw (at_first 8 k outside);
-    seen = rw (at_first 8 k outside);
-  };
+  idle = grind (arith, at_first);
 }

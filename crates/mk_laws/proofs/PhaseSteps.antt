@@ -1,6 +1,6 @@
 -- The phase along a cycle: it marks up to the `close`, and stays where it is up to the `release` and the `end`.
 use Rattle.mk_laws.proofs.Vocabulary.{Config, IsMarking, Moment, Seat, Step, ℕ, arith, cases_lt, false, inl, inr}
-use Rattle.mk_laws.proofs.Vocabulary.{is_begin, is_close, is_end, is_release, phase_of, refl, subst, sym, ◌≡◌, ◌≤◌, ◌⊎◌}
+use Rattle.mk_laws.proofs.Vocabulary.{is_begin, is_close, is_end, is_release, phase_of, refl, ◌≡◌, ◌≤◌, ◌⊎◌}
 use Rattle.mk_laws.proofs.CyclePhases.{AsksPhase, IsMarking as IsMarkingPhase, marking_step, phase_asked, phase_behind}
 use Rattle.mk_laws.proofs.CyclePhases.{phase_moves}
 use Rattle.mk_laws.proofs.Basics.{Behind, Meets, either_phase, is_grant}
@@ -22,11 +22,7 @@ pub marking_goes_on : (c : Config) (m : Moment) (seat : Seat) (x : Step) → IsM
     → is_close x ≡ false → GoesOnMarking c m seat x
 marking_goes_on c m seat x early h other =
     let one = marking_step x _ (phase_asked c m seat x h) (within _ early) other in
-    record {
-      early = one_of _ (subst IsMarkingPhase (sym (phase_moves c m seat x h)) one.0);
-      begun = one.1;
-      released = one.2;
-    }
+    grind (arith, one_of, phase_moves)
 
 -- After the `close` neither a `begin` nor a grant comes: the phase waits for the `release`, and then for the `end`.
 pub record Waits (c : Config) (m : Moment) (seat : Seat) (x : Step) (p : ℕ) : Type 0 where

@@ -4,9 +4,8 @@ use Rattle.mk_laws.proofs.Vocabulary.{IsOfOneCell, IsPlotShown, IsShown, IsSized
 use Rattle.mk_laws.proofs.Vocabulary.{NoPlot, Object, Page, Plotted, ShowsPart, Some, ℕ, ap, arith, cases_eq}
 use Rattle.mk_laws.proofs.Vocabulary.{cells_made, cells_under, false, has_bit, head_on, header_made, header_of}
 use Rattle.mk_laws.proofs.Vocabulary.{header_on, inl, inr, is_released_on, length, length-set, made_shows, pages_made}
-use Rattle.mk_laws.proofs.Vocabulary.{pages_some, part_cells, refl, run_count, shown_later, shows_on, stands, subst}
-use Rattle.mk_laws.proofs.Vocabulary.{sym, true, true≢false, used_on, [], ◌++◌, ◌+◌, ◌-◌, ◌<◌, ◌^◌, ◌∙◌, ◌∷◌, ◌≡◌, ◌≢◌}
-use Rattle.mk_laws.proofs.Vocabulary.{◌≤◌, ◌⊎◌}
+use Rattle.mk_laws.proofs.Vocabulary.{pages_some, part_cells, refl, run_count, shown_later, shows_on, stands, sym, true}
+use Rattle.mk_laws.proofs.Vocabulary.{true≢false, used_on, [], ◌++◌, ◌+◌, ◌-◌, ◌<◌, ◌^◌, ◌∙◌, ◌∷◌, ◌≡◌, ◌≢◌, ◌≤◌, ◌⊎◌}
 use Rattle.mk_core.proofs.WordBits.{added_here, added_other}
 use Rattle.mk_laws.proofs.LayoutReadings.{claimed_head, claimed_some, free_unused, none_set, zero_where_none}
 use Rattle.mk_laws.proofs.Releasing.{head_of_other, headed_here, headed_other, headed_used, shown_beside, used_header}
@@ -114,8 +113,7 @@ layout_carved s first o d laid plotted off next =
             let l = laid.later q e m (rw (← (headed_other s.pages p n q ne)) is) in (
               l.0,
               elim (cases_eq (q - e) p) [
-                | inl at ↦ absurd (not_headed e (subst (λ i. (e < run_count (shows_on s.pages i))
-                    ⊎ ((s.releasing ≡ true) × (header_on s.pages i ≡ 0))) at l.1))
+                | inl at ↦ grind arith
                 | inr other ↦ rw (headed_other s.pages p n (q - e) other) l.1
               ],
             )
@@ -250,8 +248,6 @@ module _ (s : LayoutScene) (x : Claim) (n : ℕ) (laid : IsLaidOn s) (t : Takes 
   -- a page of the place has its head's bit now
   full : (q : ℕ) → InPlot (Plotted x.page x.object) q → used_on after (head_on after q) ≡ 0 → ⊥
   full q here empty =
-      let low = here.0 in
-      let high = here.1 in
       let at : x.page + (q - x.page) ≡ q = omega arith in
       let head : head_on after q ≡ x.page = rw (← at) (claimed_head after x (q - x.page) own (omega arith)) in
       none_set _ x.index (ap (used_on after) (sym head) ∙ empty) here_set

@@ -32,7 +32,6 @@ module _ (ss : List Storage) (s : Storage) (some : 1 ≤ s.words) (run : is_smal
       let t : Storage = found.0 in
       let inside = found.1 in
       let first = eqb-true t.first _ found.2 in
-      let size = others t inside in
       apart t inside s.first (omega arith, omega arith) (omega arith, omega arith)
 
   -- a run's pages have no other's word
@@ -40,15 +39,8 @@ module _ (ss : List Storage) (s : Storage) (some : 1 ≤ s.words) (run : is_smal
       → stands_on page t ≡ true → ⊥
   none_stands page t large own inside stands =
       let r = run large in
-      let words = r.words in
-      let begins = r.first in
       let mine = stands_parts page s own in
       let its = stands_parts page t stands in
-      let from = mine.0 in
-      let to = mine.1 in
-      let low = its.0 in
-      let high = its.1 in
-      let size = others t inside in
       elim (cases_lt t.first (64 * page)) [
         | inl lt ↦ apart t inside (64 * page) (omega arith, omega arith) (omega arith, omega arith)
         | inr le ↦ apart t inside t.first (omega arith, omega arith) (omega arith, omega arith)
@@ -68,12 +60,7 @@ releasing_goes_on c start more e h other at =
     let m = one_more c (start ++ more) e h in
     let w : World = left c (start ++ more) in
     let waits = releasing_waits c w.now e.seat e.step at.phase m.meets other in
-    let left_is = sym m.left ∙ ap (left c) (append_assoc start more (e ∷ [])) in
-    record {
-      phase = subst (λ (v : World). phase_of v.now.words ≡ 4) left_is waits.phase;
-      older = subst (λ (v : World). AreOlder (left c start).allocations v.allocations) left_is
-          (older_joined _ w.allocations _ at.older (older_behind c w e.seat e.step waits.granted));
-    }
+    grind (arith, append_assoc, older_joined, older_behind)
 
 -- what the `release`, and what comes up to the `end`, leave of the allocations before
 record Released (c : Config) {es : List Event} (k : Cycle es) : Type 0 where
@@ -109,9 +96,7 @@ released c es k h at =
     record {
       release = subst (λ (y : World). AreOlder w.allocations y.allocations) left_is
           (older_behind c w e.seat Step.Release refl);
-      end = older_joined _ _ _ (subst (λ (xs : List Event). AreOlder (left c start).allocations (left c xs).allocations)
-          same along.older) (subst (λ (y : World). AreOlder v.allocations y.allocations) (sym last.left) (older_behind c
-          v _ _ (ap is_grant (end_is k.end.at.event.step k.end.at.of_kind))));
+      end = grind (arith, older_joined, older_behind, is_grant, end_is);
     }
 
 -- What is in the snapshot is unreleased up to the `release`.

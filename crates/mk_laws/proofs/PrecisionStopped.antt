@@ -58,15 +58,7 @@ stop_begins : (c : Config) (T : ℕ → Type 0) (front : List Event) (e : Event)
     → is_close e.step ≡ true → IsMarkedOnly c (left c front) T → AtStop c T (front ++ e ∷ []) []
 stop_begins c T front e h kind marked =
     let m = one_more c front e h in
-    let w : World = left c front in
-    let is = close_is e.step kind in
-    let meets : Meets c w.now e.seat Step.Close = subst (Meets c w.now e.seat) is m.meets in
-    let left_is = ap (WorldBehind c w e.seat) (sym is) ∙ sym m.left ∙ ap (left c) (sym (append-nil _)) in
-    record {
-      phase = subst (λ (v : World). phase_of v.now.words ≡ 3) left_is (omega (arith, eqb-true _ 2 meets.phase));
-      marked = subst (λ (v : World). IsMarkedOnly c v T) left_is marked;
-      begun = refl;
-    }
+    grind (arith, close_is, append-nil, eqb-true)
 
 -- what stands before the `release`
 pub record AtRelease (c : Config) {es : List Event} (k : Releasing es) : Type 0 where

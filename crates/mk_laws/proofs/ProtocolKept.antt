@@ -1,9 +1,9 @@
 -- Each move keeps all in order.
 use Rattle.mk_laws.proofs.Vocabulary.{Caller, Config, Flight, Holding, Host, List, Marker, MarkerState, Seat, ℕ, ap}
-use Rattle.mk_laws.proofs.Vocabulary.{arith, at_rest, cases_eq, false, get_or-set_other, get_or-set_same, holder_number}
-use Rattle.mk_laws.proofs.Vocabulary.{inl, inr, is_attending, length, length-set, nothing_done, outside, refl}
-use Rattle.mk_laws.proofs.Vocabulary.{slice_index, slice_index_or, slice_set, sym, true, ◌%◌, ◌*◌, ◌+◌, ◌-◌, ◌<◌, ◌∙◌}
-use Rattle.mk_laws.proofs.Vocabulary.{◌≡◌, ◌≢◌, ◌≤◌, ◌⊎◌}
+use Rattle.mk_laws.proofs.Vocabulary.{arith, at_rest, cases_eq, get_or-set_other, get_or-set_same, holder_number, inl}
+use Rattle.mk_laws.proofs.Vocabulary.{inr, is_attending, length, length-set, nothing_done, outside, refl, slice_index}
+use Rattle.mk_laws.proofs.Vocabulary.{slice_index_or, slice_set, sym, true, ◌%◌, ◌*◌, ◌+◌, ◌-◌, ◌<◌, ◌∙◌, ◌≡◌, ◌≢◌, ◌≤◌}
+use Rattle.mk_laws.proofs.Vocabulary.{◌⊎◌}
 use Rattle.mk_laws.proofs.Orderly.{AllShow, Orderly, all_but_both, all_but_flight, all_but_gate, all_but_seat, count_in}
 use Rattle.mk_laws.proofs.Orderly.{counted_less, counted_more, counted_same, down_eight, down_four, few_in, giver_shows}
 use Rattle.mk_laws.proofs.Orderly.{holder_shows, holders_flight, length_with, marker_set, shows_at, taker_number}
@@ -36,21 +36,10 @@ phase_kept c v seat p h t (Begins z) =
     (λ e. omega arith) (inl z)
 phase_kept c v seat p h t (Wants z) =
     let n = up_one v.phase _ (v.phase % 8) h.phase h.low (few_in c v h) (omega arith) in
-    record {
-      phase = omega (arith, n.0, n.1);
-      low = omega (arith, n.0);
-      stopped = λ e. absurd (omega (arith, n.0));
-      attends = λ k a. inr (omega (arith, n.0));
-    }
+    grind arith
 phase_kept c v seat p h t (Closes z held none) =
     let n = up_one v.phase _ (v.phase % 8) h.phase h.low (few_in c v h) (omega arith) in
-    let turn = turn_of c v seat h t in
-    record {
-      phase = omega (arith, n.0, n.1);
-      low = omega (arith, n.0);
-      stopped = λ e k lt ne. held k lt (λ is. ne (omega arith));
-      attends = λ k a. let f : true ≡ false = sym a ∙ none k in cc;
-    }
+    grind (arith, turn_of)
 phase_kept c v seat p h t (Releases z) =
     quiet c v p _ h (up_one v.phase _ (v.phase % 8) h.phase h.low (few_in c v h) (omega arith)) (omega arith)
     (λ e. omega arith) (inr (omega arith))
@@ -75,8 +64,7 @@ others_served c v k f h ne = elim (cases_eq v.turn 0) [
 works_served : (c : Config) (v : View) (seat : Seat) (f : Flight) (i : Holding) → Orderly c v → HoldsTurn c v seat
     → Service (flight_at v.flights seat) v.holding f i
     → Served (slice_index_or (flights_with v.flights seat f) (v.turn - 1) at_rest) i
-works_served c v seat f i h t s = rw (behind c v seat f i h t s) (served_on _ v.holding f i
-    (rw (holders_flight c v seat h t) at h.served) s)
+works_served c v seat f i h t s = rw (behind c v seat f i h t s) (grind (arith, served_on, holders_flight))
   where
     behind : (c : Config) (v : View) (seat : Seat) (f : Flight) (i : Holding) → Orderly c v → HoldsTurn c v seat
         → Service (flight_at v.flights seat) v.holding f i

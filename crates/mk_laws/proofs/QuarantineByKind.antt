@@ -50,8 +50,6 @@ quar_none : (c : Config) (w : World) (f : Flight) (p n : ℕ) → p < length w.n
 quar_none c w f p n lf ls none (ItFrees off x) q = absurd (frees_some c.pages w.now.words f p n off x none)
 quar_none c w f p n lf ls none (ItDrops on x) q = rw on (drop_kept c w p (n % 2 ^ 32) (n / 2 ^ 32) lf ls (rw on at q) x)
 quar_none c w f p n lf ls none (ItTakesSnapshot x) q =
-    let value = x.is in
-    let small = (q.small p).0 in
     let low : n % 2 ^ 32 ≡ slice_index w.now.words.freed p = omega arith in
     let high : n / 2 ^ 32 ≡ slice_index w.now.words.freed p = omega arith in
     let same : slice_set w.now.words.freed p (n % 2 ^ 32) ≡ w.now.words.freed = rw low (set-get_or _ p 0) in
@@ -73,7 +71,6 @@ frees_here c w seat p n cell b h laid x =
     let index : (cell_of_allocation c a).index ≡ cell.index = ap (λ (y : Cell). y.index) own.is in
     let page = x.page in
     let lt = ltb-true p c.pages h.range in
-    let f = b.lengths.freed in
     let g = b.lengths.snapshot in
     let turn = free_has_turn c w.now seat h.seat x.free in
     record {
@@ -148,9 +145,7 @@ none_left : (c : Config) (w : World) → Before c w → may_end c.pages w.now.wo
     → is_released_in true w.now.words.snapshot w.now.words.marks p k ≡ false
 none_left c w b own p k = elim (cases_lt p c.pages) [
   | inl lt ↦ (settled_page w.now.words c.pages p own lt).none k
-  | inr past ↦ false_from_ne_true _ (λ r.
-      let bits = released_bits w.now.words.snapshot w.now.words.marks p k r in
-      none_set _ k (get_or_past w.now.words.snapshot p 0 (let len = b.lengths.snapshot in omega arith)) bits.0)
+  | inr past ↦ grind (arith, false_from_ne_true, released_bits, none_set, get_or_past)
 ]
 
 -- each kind of event, whatever the seat

@@ -3,7 +3,7 @@ use Rattle.mk_laws.proofs.Vocabulary.{Caller, Config, Flight, Holds, Host, Marke
 use Rattle.mk_laws.proofs.Vocabulary.{Seat, Stage, Step, Tally, Word, ℕ, access, and_parts, arith, caller_number}
 use Rattle.mk_laws.proofs.Vocabulary.{enabled_meets, false, flight_of, is_new_at, is_number_of, is_under_turn, left}
 use Rattle.mk_laws.proofs.Vocabulary.{ltb-true, marker_at, nat_lt, not, outside, page_met, refl, seat_exists}
-use Rattle.mk_laws.proofs.Vocabulary.{tally_word, true, word_accessed, word_met, ◌&&◌, ◌*◌, ◌++◌, ◌<◌, ◌≡◌, ◌≤◌}
+use Rattle.mk_laws.proofs.Vocabulary.{tally_word, true, word_accessed, word_met, ◌&&◌, ◌*◌, ◌<◌, ◌≡◌, ◌≤◌}
 use Rattle.mk_core.specs.Layout.{IsOfTable, NamesWord}
 use Rattle.mk_core.specs.{Accesses.access_by, Ranges.is_word, Ranges.is_word_met, Readings.is_idle}
 use Rattle.mk_laws.proofs.Basics.{Known, Meets, grants_new, is_grant, known_left, new_holds, operands_of}
@@ -108,11 +108,7 @@ same_access c m n seat x flight marker holding = grind (arith, is_grant, placing
 pub others_leave_accesses : OthersLeaveAccesses
 others_leave_accesses c es more e limits on others now =
     let l = (others_leave c es more e.seat limits on others).own in
-    record {
-      word = cc (l.flight, l.marker);
-      access = same_access c (left c es).now (left c (es ++ more)).now e.seat e.step l.flight l.marker
-          (λ g. (l.holding (granting e.step g (enabled_meets c (left c es).now e now))).1);
-    }
+    grind (arith, same_access, enabled_meets)
   where
     granting : (x : Step) → is_grant x ≡ true → Meets c (left c es).now e.seat x → Holds c (left c es).now e.seat
     granting Step.Grant g h = granter_holds c (left c es).now e.seat h

@@ -161,12 +161,8 @@ module _ (listed : List ℕ) (safe : ℕ → Bool) (s : ImageScene) (n : NeverSt
               (ap (answer_of (bases_of s.allocations ++ more)) (sym lea.2)),
         )
     reg_store (Op.Move d q') q p r l is ld a car ad = (
-      Stores k d _ (flight Stage.Leave (Op.Move d q') q p r l) (register_at n k q') (record {
-        there = there;
-        registers = long;
-        was = rw is;
-        bare = refl;
-      }) longs ld (car.q refl) (h.set.registers (8 * k + q')),
+      Stores k d _ (flight Stage.Leave (Op.Move d q') q p r l) (register_at n k q')
+          (grind arith) longs ld (car.q refl) (h.set.registers (8 * k + q')),
       λ more. refl,
     )
     reg_store (Op.Clear d) q p r l is ld a car ad = (

@@ -1,11 +1,11 @@
 -- The steps that release: `release`, cells given back, pages freed in any order, and `end`.
 use Rattle.mk_laws.proofs.Vocabulary.{Among, AreApart, Bool, Claim, Header, IsClaimed, IsLaidOn, IsShown, Later}
 use Rattle.mk_laws.proofs.Vocabulary.{LayoutScene, List, NoPlot, Option, Page, Plot, PlotStands, Plotted, Some, ℕ, ap}
-use Rattle.mk_laws.proofs.Vocabulary.{arith, cases_Bool, cases_eq, cases_lt, cells_under, ends, false, free_page}
-use Rattle.mk_laws.proofs.Vocabulary.{get_or-set_other, get_or-set_same, get_or_past, has_bit, head_on, head_page_under}
-use Rattle.mk_laws.proofs.Vocabulary.{header_of, header_on, inl, inr, is_released_in, is_released_on, length}
-use Rattle.mk_laws.proofs.Vocabulary.{length-set, pages_made, refl, set_by, shows_on, slice_set, stands, sym, true}
-use Rattle.mk_laws.proofs.Vocabulary.{true≢false, used_on, ◌+◌, ◌-◌, ◌<◌, ◌∙◌, ◌≡◌, ◌≢◌, ◌⊎◌}
+use Rattle.mk_laws.proofs.Vocabulary.{arith, cases_eq, cases_lt, cells_under, ends, false, free_page, get_or-set_other}
+use Rattle.mk_laws.proofs.Vocabulary.{get_or-set_same, get_or_past, has_bit, head_on, head_page_under, header_of}
+use Rattle.mk_laws.proofs.Vocabulary.{header_on, inl, inr, is_released_in, is_released_on, length, length-set}
+use Rattle.mk_laws.proofs.Vocabulary.{pages_made, refl, set_by, shows_on, slice_set, stands, sym, true, true≢false}
+use Rattle.mk_laws.proofs.Vocabulary.{used_on, ◌+◌, ◌-◌, ◌<◌, ◌∙◌, ◌≡◌, ◌≢◌, ◌⊎◌}
 use Rattle.mk_laws.proofs.LayoutReadings.{cellless_unused, claimed_used, free_unused, none_set, zero_where_none}
 use Rattle.mk_laws.proofs.ProtocolKept.{kept}
 
@@ -54,8 +54,7 @@ pub shown_beside : (pages : List Page) (p n : ℕ) (x : Claim) → p < length pa
 shown_beside pages p n x lt shown apart = record {
   sized = shown.sized;
   known = shown.known;
-  within = let len = length-set pages p (record { header = n; used = used_on pages p }) in let w =
-      shown.within in omega arith;
+  within = let len = length-set pages p (record { header = n; used = used_on pages p }) in omega arith;
   headers = λ d ld. rw (headed_other pages p n (x.page + d) (apart d ld)) (shown.headers d ld);
   used = rw (headed_used pages p n x.page lt) shown.used;
 }
@@ -72,8 +71,7 @@ plot_emptied : (pages : List Page) (p : ℕ) (plot : Plot) → p < length pages 
 plot_emptied pages p NoPlot lt stands = stands
 plot_emptied pages p (Plotted first o) lt stands = record {
   sized = stands.sized;
-  within = let len = length-set pages p (record { header = 0; used = used_on pages p }) in let w =
-      stands.within in omega arith;
+  within = let len = length-set pages p (record { header = 0; used = used_on pages p }) in omega arith;
   headers = λ d ld. elim (cases_eq (first + d) p) [
     | inl e ↦ inl (rw e (headed_here pages p 0 lt))
     | inr ne ↦ rw (headed_other pages p 0 (first + d) ne) (stands.headers d ld)
@@ -151,8 +149,7 @@ layout_given_back s p n laid lt on gives kept = record {
 
     fewer : (q k : ℕ) → has_bit (used_on (with_used_on s.pages p n) q) k ≡ true → has_bit (used_on s.pages q) k ≡ true
     fewer q k h = elim (cases_eq q p) [
-      | inl e ↦ rw e (gives.fewer k (rw (← (used_here s.pages p n lt))
-          (ap (λ i. has_bit (used_on (with_used_on s.pages p n) i) k) (sym e) ∙ h)))
+      | inl e ↦ grind (arith, used_here, with_used_on)
       | inr ne ↦ rw (← (used_other s.pages p n q ne)) h
     ]
 
@@ -160,10 +157,7 @@ layout_given_back s p n laid lt on gives kept = record {
         → has_bit (used_on (with_used_on s.pages p n) x.page) x.index ≡ true
     bit x among was = elim (cases_eq x.page p) [
       | inr ne ↦ rw (used_other s.pages p n x.page ne) was
-      | inl e ↦ rw e (rw (used_here s.pages p n lt) (elim (cases_Bool (has_bit n x.index)) [
-        | inl stays ↦ stays
-        | inr goes ↦ absurd (true≢false (sym (gives.gone x.index (rw (← e) was) goes) ∙ rw (← e) (kept x among)))
-      ]))
+      | inl e ↦ rw e (grind (arith, used_here, kept))
     ]
 
     shown : (x : Claim) → Among x s.claims → IsShown s.pages x → IsShown (with_used_on s.pages p n) x

@@ -1,13 +1,12 @@
 -- How many pages are resident or in a plot, where few change.
 use Rattle.std.{proofs.Common.min, proofs.lemmas.List.Recursion.is_count_by, specs.List.count_by}
 use Rattle.mk_laws.proofs.Vocabulary.{Bool, Config, Free, Header, List, None, NoPlot, Object, Option, Page, Placing}
-use Rattle.mk_laws.proofs.Vocabulary.{Plot, Some, World, ℕ, ap, arith, cases_eq, cases_lt, cond, count_below, false}
+use Rattle.mk_laws.proofs.Vocabulary.{Plot, Some, World, ℕ, arith, cases_eq, cases_lt, cond, count_below, false}
 use Rattle.mk_laws.proofs.Vocabulary.{free_page, get_or-set_other, get_or-set_same, header_of, header_on, if◌then◌else◌}
 use Rattle.mk_laws.proofs.Vocabulary.{inl, inr, is_resident_page, is_unmapped_header, leb-true, length, ltb-true}
 use Rattle.mk_laws.proofs.Vocabulary.{nat_le, nat_lt, object_now, or_cases, or_left, or_right, plot_of, refl}
-use Rattle.mk_laws.proofs.Vocabulary.{resident_pages, set_past, shows_on, slice_index_or, suc, sym, true, true≢false}
-use Rattle.mk_laws.proofs.Vocabulary.{use_under, used_on, uses_of_pages, zero, ◌&&◌, ◌+◌, ◌-◌, ◌<◌, ◌||◌, ◌∙◌, ◌∷◌, ◌≡◌}
-use Rattle.mk_laws.proofs.Vocabulary.{◌≢◌, ◌≤◌}
+use Rattle.mk_laws.proofs.Vocabulary.{resident_pages, set_past, slice_index_or, suc, sym, true, true≢false, use_under}
+use Rattle.mk_laws.proofs.Vocabulary.{used_on, uses_of_pages, zero, ◌&&◌, ◌+◌, ◌-◌, ◌<◌, ◌||◌, ◌∙◌, ◌∷◌, ◌≡◌, ◌≢◌, ◌≤◌}
 use Rattle.mk_geom.specs.{PageWords.use_of_page, StorageWords.page_in}
 use Rattle.mk_books.proofs.PlaceLemmas.{count_by-map}
 use Rattle.mk_laws.proofs.Basics.{with_header_on, with_used_on}
@@ -22,8 +21,7 @@ unfolding count_below
 count_fewer zero test other fewer = omega arith
 count_fewer (suc n) test other fewer =
     let rest = count_fewer n test other (λ p lt. fewer p (omega arith)) in
-    let last : (if test n then 1 else 0) ≤ (if other n then 1 else 0) = by (test n) (other n) (fewer n (omega arith)) in
-    omega arith
+    grind arith
   where
     by : (a b : Bool) → (a ≡ true → b ≡ true) → (if a then 1 else 0) ≤ (if b then 1 else 0)
     by true true h = omega arith
@@ -125,8 +123,7 @@ resident_used pages p n q h = elim (cases_eq q p) [
     | inl lt ↦
         let page : page_in (with_used_on pages p n) q ≡ record { header = header_on pages p; used = n } =
         rw e (get_or-set_same pages p (record { header = header_on pages p; used = n }) free_page lt) in
-        rw e (resident_use (shows_on pages p) (used_on pages p) n
-        ∙ ap (λ (x : Page). is_resident_page (use_of_page x)) (sym page) ∙ h)
+        grind (arith, resident_use)
     | inr past ↦ rw (← (set_past pages p (record { header = header_on pages p; used = n }) past)) h
   ]
 ]
@@ -162,6 +159,4 @@ resident_few c w len room =
     let plot : Plot = plot_of (object_now c w.now) w.now.seats.holding.placing in
     let less = count_fewer c.pages (is_resident pages) (is_taken_page pages plot)
     (λ q lt r. or_left (is_resident pages q) (in_plot plot q) r) in
-    let count : count_below c.pages (is_resident pages) ≡ resident_pages (uses_of_pages pages) =
-    rw (← len) (resident_count pages) in
-    omega arith
+    grind (arith, is_resident, resident_count)

@@ -3,13 +3,12 @@ use Rattle.mk_laws.proofs.Vocabulary.{AsChosen, AsUsed, Bool, ByFit, Chosen, Con
 use Rattle.mk_laws.proofs.Vocabulary.{IsNextHeader, IsPlaced, IsSized, ItCarves, ItEmpties, ItUnmaps, LayoutStands}
 use Rattle.mk_laws.proofs.Vocabulary.{List, None, NoPlot, Object, Option, Page, Place, Placing, Plotted, RunPages}
 use Rattle.mk_laws.proofs.Vocabulary.{RunStands, Seat, Some, Step, Unplaced, Used, World, ℕ, and_from, ap, arith}
-use Rattle.mk_laws.proofs.Vocabulary.{cases_Bool, cases_eq, chosen, claims_of, count_below, false, flight_of, found}
-use Rattle.mk_laws.proofs.Vocabulary.{ground_of, has_place, head_step, header_at, header_made, header_of, if◌then◌else◌}
-use Rattle.mk_laws.proofs.Vocabulary.{inl, inr, is_phase, is_resident_page, is_unmapped_header, large_count, le-leb}
-use Rattle.mk_laws.proofs.Vocabulary.{length, lt-ltb, marks_is, marks_place, nat_le, nat_lt, object_made, object_now}
-use Rattle.mk_laws.proofs.Vocabulary.{or_left, or_right, pages_made, place_now, placed_now, plot_of, refl}
-use Rattle.mk_laws.proofs.Vocabulary.{resident_pages, seat_exists, subst, sym, taken, true, undecided_new}
-use Rattle.mk_laws.proofs.Vocabulary.{unmapped_is_unmapped, use_under, used_on, uses_of_pages, ◌+◌, ◌-◌, ◌<◌, ◌∙◌, ◌≡◌}
+use Rattle.mk_laws.proofs.Vocabulary.{cases_Bool, cases_eq, chosen, claims_of, false, flight_of, found, ground_of}
+use Rattle.mk_laws.proofs.Vocabulary.{has_place, head_step, header_at, header_made, header_of, if◌then◌else◌, inl, inr}
+use Rattle.mk_laws.proofs.Vocabulary.{is_phase, is_resident_page, is_unmapped_header, large_count, le-leb, length}
+use Rattle.mk_laws.proofs.Vocabulary.{lt-ltb, marks_is, marks_place, object_made, object_now, or_left, or_right}
+use Rattle.mk_laws.proofs.Vocabulary.{pages_made, place_now, placed_now, plot_of, refl, seat_exists, subst, sym, taken}
+use Rattle.mk_laws.proofs.Vocabulary.{true, undecided_new, unmapped_is_unmapped, use_under, used_on, ◌-◌, ◌<◌, ◌∙◌, ◌≡◌}
 use Rattle.mk_laws.proofs.Basics.{Before, Laid, Meets, WorldBehind, first_header, holding_object, made_sized}
 use Rattle.mk_laws.proofs.Basics.{new_has_turn, no_run, own_claim, page_within, reg_leaves_ground, tally_ground}
 use Rattle.mk_laws.proofs.Basics.{with_header_on, with_used_on}
@@ -24,10 +23,7 @@ chosen_room : (c : Config) (o : Object) (pages : List Page) (place : Place) → 
     → FitsOnFreePages c.resident pages o place → RoomOn c o pages (Chosen place)
 chosen_room c o pages place len fit =
     let range = count_range c.pages place.page (pages_made o) (is_resident pages) in
-    let count : count_below c.pages (is_resident pages) ≡ resident_pages (uses_of_pages pages) =
-    rw (← len) (resident_count pages) in
-    let room = fit.room in
-    omega arith
+    grind (arith, is_resident, resident_count)
 
 -- A page of the plot gets its header.
 carved_room : (c : Config) (o : Object) (w : World) (place : Place) (p n : ℕ)
@@ -38,12 +34,7 @@ carved_room c o w place p n next room =
     (λ q lt r. elim (cases_eq q p) [
       | inr ne ↦ or_left (is_resident w.now.words.pages q) (in_plot (Plotted place.page o) q)
           (resident_other w.now.words.pages p n q ne r)
-      | inl e ↦
-          let low = next.from in
-          let near = next.near in
-          or_right (is_resident w.now.words.pages q) (in_plot (Plotted place.page o) q)
-          (and_from (nat_le place.page q) (nat_lt q (place.page + pages_made o)) (le-leb place.page q (omega arith))
-          (lt-ltb q (place.page + pages_made o) (omega arith)))
+      | inl e ↦ grind (arith, or_right, is_resident, and_from, le-leb, lt-ltb)
     ]) room
 
 abbrev HeadRoom : Config → World → Seat → ℕ → ℕ → Bool → Type 0

@@ -61,7 +61,6 @@ module _ (c : Config) (w : World) (known : KnownWorld c w) (laid : LayoutStands 
       let l = laid_out c w known laid m.number (mapped_stays c a m.mapped) in
       let sized = typed_size c a known.limits l.stands.typed in
       let end = ends_on_pages _ a.base sized l.stands.begins in
-      let from = m.word.0 in
       let to = m.word.1 in
       let d : ℕ = r.page + i / 64 - a.base / 64 in
       let near : d < pages_made (object_placed c a) = omega arith in

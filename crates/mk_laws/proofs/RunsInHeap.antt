@@ -64,7 +64,6 @@ unmapped_fits c w None p n h = cc
 unmapped_fits c w (Some run) p n h = λ count shows.
     let next = next_is w run.page run.count (unmapped_header run.count) p n h in
     let made = run_shown run.count count (p - run.page) false false (shown_word n count shows ∙ next.is) in
-    let e : false ≡ true = made.0 in
     cc
 
 emptied_fits : (c : Config) (w : Words) (p n : ℕ) → empties w p n ≡ true → RunFits c p n

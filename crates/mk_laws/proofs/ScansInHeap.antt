@@ -26,8 +26,7 @@ scan_end c p i (Some (Block class)) lt li fits = omega (arith, cell_ends i _ li)
 scan_end c p i (Some (LeafBlock class)) lt li fits = omega (arith, cell_ends i _ li)
 scan_end c p i (Some (Run count true)) lt li fits =
     let room = fits count refl in
-    let z : i ≡ 0 = omega arith in
-    rw z (omega arith)
+    grind arith
 scan_end c p i (Some (Run count false)) lt li fits = grind arith
 scan_end c p i (Some (LeafRun count)) lt li fits = grind arith
 scan_end c p i _ lt li fits = absurd (omega arith)

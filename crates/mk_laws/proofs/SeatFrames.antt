@@ -2,13 +2,13 @@
 use Rattle.mk_laws.proofs.Vocabulary.{AreOfOthers, Caller, Config, Event, Flight, GuardPremisesFrom, Holds, Host}
 use Rattle.mk_laws.proofs.Vocabulary.{IsHistory, IsInCall, IsSound, KeepsRegisters, List, Marker, Moment, NeverState}
 use Rattle.mk_laws.proofs.Vocabulary.{None, Null, Num, Op, PlacedAllocation, Ptr, Seat, Some, Stage, Step, Value, World}
-use Rattle.mk_laws.proofs.Vocabulary.{Written, ℕ, admitted_keep, after_calls, and_from, and_parts, ap, append-nil}
-use Rattle.mk_laws.proofs.Vocabulary.{append_assoc, arith, asked, at_rest, bases_of, call_decided, cases_eq, cases_lt}
-use Rattle.mk_laws.proofs.Vocabulary.{comes_next, earlier_part_is_history, false, false≢true, flight_of, found}
-use Rattle.mk_laws.proofs.Vocabulary.{get_or_append_left, get_or_past, header_in, holder_number, image_scene_of, inl}
-use Rattle.mk_laws.proofs.Vocabulary.{inr, is_mapped, is_one_of, is_unmapped_header, left, length, length-map, ltb-true}
-use Rattle.mk_laws.proofs.Vocabulary.{never_behind, not, not-true, placed_at, progress, refl, register_at, slice_index}
-use Rattle.mk_laws.proofs.Vocabulary.{sym, true, [], ◌*◌, ◌++◌, ◌+◌, ◌/◌, ◌<◌, ◌∙◌, ◌∷◌, ◌≡◌, ◌≢◌}
+use Rattle.mk_laws.proofs.Vocabulary.{Written, ℕ, admitted_keep, and_from, and_parts, ap, append-nil, append_assoc}
+use Rattle.mk_laws.proofs.Vocabulary.{arith, asked, at_rest, bases_of, call_decided, cases_eq, cases_lt, comes_next}
+use Rattle.mk_laws.proofs.Vocabulary.{earlier_part_is_history, false, false≢true, flight_of, found, get_or_append_left}
+use Rattle.mk_laws.proofs.Vocabulary.{get_or_past, header_in, holder_number, image_scene_of, inl, inr, is_mapped}
+use Rattle.mk_laws.proofs.Vocabulary.{is_one_of, is_unmapped_header, left, length, length-map, ltb-true, never_behind}
+use Rattle.mk_laws.proofs.Vocabulary.{not, not-true, placed_at, progress, refl, register_at, slice_index, sym, true, []}
+use Rattle.mk_laws.proofs.Vocabulary.{◌*◌, ◌++◌, ◌+◌, ◌/◌, ◌<◌, ◌∙◌, ◌∷◌, ◌≡◌, ◌≢◌}
 use Rattle.mk_never.specs.Reach.{LeadsTo, by_register}
 use Rattle.mk_core.specs.Frames.{AdmittedOthersLeave, HeapIsLeft, HoldsAll, TargetsAreLeft}
 use Rattle.mk_core.specs.Readings.{is_in_call}
@@ -49,9 +49,7 @@ same_place xs ys a lt longer = sym (base_at ys a) ∙ rw longer.is (get_or_appen
 in_call_stands : (c : Config) (m : Moment) (k : ℕ) → Known c m → is_in_call (flight_of m (Caller k)) ≡ true
     → (k < c.callers) × (standing (flight_of m (Caller k)) ≡ InCall)
 in_call_stands c m k known is = elim (cases_lt k c.callers) [
-  | inl lt ↦
-      let f = flight_of m (Caller k) in
-      (lt, in_call_is (standing f) (in_call_told f.stage f.op (not_astray c m known.orderly k lt) ∙ is))
+  | inl lt ↦ grind (arith, in_call_is, standing, in_call_told, not_astray)
   | inr past ↦ absurd (false≢true (ap is_in_call (sym (get_or_past m.seats.flights k at_rest
       (omega (arith, known.orderly.flights)))) ∙ is))
 ]
@@ -198,8 +196,7 @@ all_step : (c : Config) (w : World) (n : NeverState) (s seat : Seat) (x : Step) 
     → seat ≢ s → HoldsAll c w.now s → never_after c w n (record { seat = seat; step = x }) ≡ n
 all_step c w n s (Caller j) x known h ne all =
     let lt = ltb-true j c.callers h.seat in
-    ap (after_calls n)
-    (held_decides_nothing c w.now j x known h (others_held c w.now s all.1 j lt (other_number c w.now s j lt all.0 ne)))
+    grind (arith, held_decides_nothing, others_held, other_number)
 all_step c w n s _ x known h ne all = refl
 
 all_one : (c : Config) (s : Seat) (es : List Event) (e : Event) → IsHistory c (es ++ e ∷ [])

@@ -53,9 +53,6 @@ head_unmaps c o releasing w p n st h =
     subst (λ (r : Option RunPages). RunStands (claims_of c w.now.seats.holding.freed w.allocations) r) h.there st.gone
     in
     let next = h.next in
-    let page = x.page in
-    let near = next.near in
-    let low = next.from in
     let at : x.claim.page + (p - h.run.page) ≡ p = omega arith in
     let value : unmapped_header (pages_made x.claim.object) (p - h.run.page) ≡ n = rw x.count (sym next.is) in
     record {
@@ -95,11 +92,7 @@ carved_on c o w place p n st next =
           (record (ground_of w) { pages = with_header_on w.now.words.pages q n; placing = Chosen place }))) at
           (rw next.is
           (layout_carved (layout_scene_of c o false w.now.words.marks (record (ground_of w) { placing = Chosen place }))
-          place.page o (p - place.page) st.scene refl refl (record {
-            within = next.near;
-            not_yet = λ e. next.not_yet (ap (λ q. header_at w.now.words q) (sym at) ∙ e);
-            before = next.before;
-          })));
+          place.page o (p - place.page) st.scene refl refl (grind arith)));
       gone = st.gone;
       first = st.first;
       cells = st.cells;

@@ -59,8 +59,7 @@ dropped_bits c w p f n i ls q d u = elim (bit_cases w.now.words.snapshot p n x.p
         absurd (true≢false (sym (ap (λ j. has_bit (slice_index w.now.words.snapshot j) x.index) at ∙ was) ∙ b))
     same at (inr a) (inl b) =
         let lost = d.gone x.index (rw (← at) b) a in
-        let released = and_both _ _ b (ap (λ j. has_bit (slice_index w.now.words.marks j) x.index) at ∙ lost.0) in
-        absurd (true≢false (sym released ∙ q.kept refl i u))
+        grind (arith, and_both)
 
 cycling_at : (w : World) (n : ℕ) → is_phase w.now.words n ≡ true → is_cycling n ≡ false
     → is_cycling (phase_of w.now.words) ≡ true → ⊥
@@ -122,12 +121,9 @@ quar_frees c w cell n x q s =
         ≡ ((freed_where_it_stands w.now.words (Some cell) (placed_at w.allocations i)).freed
         && not (freed_where_it_stands w.now.words (Some cell) (placed_at w.allocations i)).fresh)
     bit on i u true is =
-        let a : PlacedAllocation = placed_at w.allocations i in
         ap (λ (y : Cell). has_bit (slice_index w.now.words.snapshot y.page) y.index) (x.others i u is)
         ∙ unset_in_snapshot c false w.now.words.marks (ground_of w) cell.page cell.index q x.unset ∙ sym (rw is)
-    bit on i u false is =
-        let a : PlacedAllocation = placed_at w.allocations i in
-        s.quarantined on i u ∙ sym (rw is)
+    bit on i u false is = s.quarantined on i u ∙ sym (rw is)
 
 pub snapshot_of_quar : (c : Config) (w : World) (seat : Seat) (p n : ℕ) → Before c w
     → Meets c w.now seat (Step.Quar p n) → LayoutStands c w → IsQuarantined c w → KeepsSnapshot c w
@@ -196,12 +192,7 @@ grant_kind : (c : Config) (w : World) (seat : Seat) → Before c w → Meets c w
     → IsQuarantined c w → KeepsSnapshot c w → HasSnapshot c (is_cycling (phase_of w.now.words)) w.now.words.snapshot
     (w.allocations ++ granted c w.now (flight_of w.now seat) ∷ [])
 grant_kind c w seat b h laid q s = record {
-  fresh = λ i f. elim (pushed_any w.allocations a i) [
-    | inl old ↦
-        let was = s.fresh i (rw (← old) f) in
-        (rw old was.0, rw old was.1)
-    | inr new ↦ absurd (true≢false (sym f ∙ rw new))
-  ];
+  fresh = grind (arith, pushed_any);
   quarantined = λ on i u. elim (pushed_at w.allocations a i u) [
     | inl old ↦ ap (λ (x : PlacedAllocation). has_bit_of c w.now.words.snapshot x) old.1 ∙ s.quarantined on i old.0
         ∙ sym (ap (λ (x : PlacedAllocation). x.freed && not x.fresh) old.1)
@@ -247,9 +238,7 @@ release_kind c w b three laid s = record {
         rw (at i) (stays i was.0 was.1 (ap (λ (x : PlacedAllocation). x.fresh) (sym (at i)) ∙ f)),
       );
   quarantined = λ on i u.
-      let x = before_change c _ w.allocations i (releasing_leaves c w.now.words) u in
-      ap (λ (y : Cell). has_bit (slice_index w.now.words.snapshot y.page) y.index) x.cell ∙ s.quarantined on i x.was
-      ∙ sym (rw (at i));
+      grind (arith, before_change, releasing_leaves);
 }
   where
     at : (i : ℕ) → placed_at (map (with_released c w.now.words) w.allocations) i

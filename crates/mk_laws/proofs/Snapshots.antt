@@ -4,7 +4,7 @@ use Rattle.mk_laws.proofs.Vocabulary.{KeepsTheInvariant, List, OfHistories, Plac
 use Rattle.mk_laws.proofs.Vocabulary.{and_parts, ap, arith, cell_of_allocation, enabled_in_parts, false, has_bit_of}
 use Rattle.mk_laws.proofs.Vocabulary.{is_begin, is_cycling, is_quarantined, is_release, le-leb, left, left_from}
 use Rattle.mk_laws.proofs.Vocabulary.{left_in_parts, list_any, never_behind, not-true, or_parts, phase_of, placed_at}
-use Rattle.mk_laws.proofs.Vocabulary.{refl, subst, sym, true, world_behind, [], ◌||◌, ◌∙◌, ◌∷◌, ◌≡◌, ◌≢◌}
+use Rattle.mk_laws.proofs.Vocabulary.{refl, sym, true, world_behind, [], ◌||◌, ◌∙◌, ◌∷◌, ◌≡◌, ◌≢◌}
 use Rattle.mk_core.specs.{Cells.is_in_snapshot, Readings.SnapshotsTell, Readings.SnapshotTells}
 use Rattle.mk_laws.proofs.CyclePhases.{IsUnreleased, NoneIsReleased, begin_is, moves_phase, none_is_released}
 use Rattle.mk_laws.proofs.CyclePhases.{phase_behind}
@@ -61,8 +61,7 @@ module _ (c : Config) (es : List Event) (h : IsHistory c es) (begin : At is_begi
   unfolding left_from
   phase =
       let on = enabled_at c es is_begin begin h in
-      let begun = begun_world c _ begin.event begin.behind on begin.of_kind no_release in
-      subst (λ (v : World). IsUnreleased (phase_of v.now.words)) (sym since) begun.phase
+      grind (arith, begun_world, no_release, since)
 
   -- An allocation that was unreleased then is so, in its cell.
   put : (i : ℕ) → (placed_at olds i).released ≡ false → StaysPut (placed_at olds i) (placed_at w.allocations i)
