@@ -121,13 +121,7 @@ bare_place c w o place q st sized placed = by w.now.seats.holding.placing refl p
         headers = λ d lt. inl (fit.free d lt);
         words = λ free i li. bare_page c w (place.page + i / 64) _ q (fit.free (i / 64) (omega arith)) (omega arith);
       }
-      | inr fit ↦ record {
-        headers = λ d lt.
-            let first : d ≡ 0 = omega (arith, small_pages o fit.small) in
-            inr (ap (λ j. header_on w.now.words.pages (place.page + j)) first
-            ∙ ap (header_on w.now.words.pages) zero ∙ fit.header ∙ ap (header_made o) (sym first));
-        words = λ free i li. absurd (first_header o sized (sym fit.header ∙ free));
-      }
+      | inr fit ↦ grind (arith, small_pages, first_header)
     ]
     by (Chosen place) is AsChosen =
         let plot : IsPlotShown w.now.words.pages place.page o =
@@ -175,9 +169,7 @@ mapped_stands c w i lengths laid mapped =
     ap (λ b. mode_of (a.freed && b) going) (sym (large_is_not_small _)) ∙ ap (λ b. mode_of b going) unmapped in
     record {
       stands = (all_stand c _ _ w lengths.pages laid i (mapped_stays c a mapped)).stands;
-      headers = λ d lt. subst
-          (λ (x : Mode). HasHeader x (object_placed c a) d (header_on w.now.words.pages (a.base / 64 + d))) mode
-          ((shown_at c w i laid (mapped_stays c a mapped)).headers d lt);
+      headers = grind (arith, shown_at, mapped_stays);
     }
 
 -- All of it
