@@ -156,9 +156,7 @@ mapped_stands c w i lengths laid mapped =
     ap (λ b. mode_of (a.freed && b) going) (sym (large_is_not_small _)) ∙ ap (λ b. mode_of b going) unmapped in
     record {
       stands = (all_stand c _ _ w lengths.pages laid i (mapped_stays c a mapped)).stands;
-      headers = λ d lt. subst
-          (λ (x : Mode). HasHeader x (object_placed c a) d (header_on w.now.words.pages (a.base / 64 + d))) mode
-          ((shown_at c w i laid (mapped_stays c a mapped)).headers d lt);
+      headers = grind (arith, shown_at, mapped_stays);
     }
 
 -- All of it

@@ -44,9 +44,7 @@ gives_off c w (Caller j) x k known lt new = false_from_ne_true _
     by : (j : ℕ) (x : Step) → k ≡ j → is_give x ≡ true → HasNew (WorldBehind c w (Caller j) x) k → ⊥
     by j Step.Give own is new =
         let rests = get_or-set_same w.now.seats.flights k at_rest at_rest (omega (arith, known.orderly.flights)) in
-        let mine : HasNew (WorldBehind c w (Caller k) Step.Give) k =
-        subst (λ i. HasNew (WorldBehind c w (Caller i) Step.Give) k) (sym own) new in
-        true≢false (sym mine ∙ ap is_undecided_new rests)
+        grind arith
     by j _ own is new = cc
 gives_off c w _ x k known lt new = refl
 
@@ -87,14 +85,7 @@ module _ (c : Config) (es : List Event) (e : Event) (k : ℕ) (o : Object) (t : 
   fixes place is fits none =
       let here : left c (t.before ++ taken t ∷ t.behind) ≡ left c es = ap (left c) (sym t.is) in
       record {
-        first = record {
-          before = t.behind;
-          event = e;
-          behind = [];
-          is = refl;
-          none_before = none;
-          serves = ap (λ (w : World). event_serves c w e) here ∙ is;
-        };
+        first = grind arith;
         fits = ap (λ (w : World). place_among_allocations c o.words o.leaf w.allocations) here ∙ fits;
       }
 

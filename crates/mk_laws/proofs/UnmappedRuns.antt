@@ -79,7 +79,6 @@ module _ (c : Config) (w : World) (n : NeverState) (known : KnownWorld c w) (all
       let s = standing c w known all.order.laid x.number x.unreleased in
       let aligned = (run_begins o a.base large s.stands.begins).1 in
       let words : storage_words c a ≡ 64 * pages_made o = large_words o large in
-      let page = x.page in
       record { distance = p - a.base / 64; near = omega arith; there = omega arith }
 
   sized_shown : IsShown w.now.words.pages (claim_of c w.now.seats.holding.freed a)

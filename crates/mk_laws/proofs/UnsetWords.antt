@@ -12,11 +12,9 @@ no_caller : (c : Config) (w : World) (n : NeverState) → KnownWorld c w → Inv
     → RegistersOfNoCallerAreZero c w
 no_caller c w n known all k r past =
     let i : ℕ = 8 * k + r in
-    let flights = known.now.orderly.flights in
     let rest : flight_of w.now (Seat.Caller (i / 8)) ≡ at_rest =
     get_or_past w.now.seats.flights (i / 8) at_rest (omega arith) in
     let plain = ap (λ (f : Flight). shown f (i % 8) (slice_index w.now.words.registers i)) rest in
-    let count = all.mirrors.register_count in
     cc (plain, all.mirrors.images.registers i, get_or_past n.registers i Null (omega arith))
 
 pub registers_of_no_caller_are_zero : OfHistories (Leaves RegistersOfNoCallerAreZero)

@@ -125,8 +125,6 @@ plotted_run : (s : LayoutScene) (plot : Plot) (p : ℕ) → s.plot ≡ plot → 
     → heads_run (shows_on s.pages p) ≡ true → RunIsWhole s.pages s.releasing plot p
 plotted_run s NoPlot p is stands here h = absurd here
 plotted_run s (Plotted first o) p is stands here h =
-    let low = here.0 in
-    let high = here.1 in
     let at : first + (p - first) ≡ p = omega arith in
     by (subst (λ q. (header_on s.pages q ≡ 0) ⊎ (header_on s.pages q ≡ header_made o (p - first))) at
     (stands.headers (p - first) (omega arith)))
@@ -217,12 +215,7 @@ emptied w plot p n lt x whole q h = elim (cases_eq q p) [
         )
         page d (inl at) (inl is) =
             let head : head_page w p ≡ q = rw (← at) (rw is.1 (let back : q + d - d ≡ q = omega arith in back)) in
-            inr (
-              ap (header_on (with_header_on w.pages p n)) at ∙ headed_here _ p n lt ∙ x.is,
-              headed_used _ p n q lt ∙
-                  rw (← head) x.unused,
-              inl refl,
-            )
+            grind (arith, with_header_on, headed_here, headed_used)
 
 -- `used` (b)
 given_back : (w : Words) (plot : Plot) (p n : ℕ) → p < length w.pages → GivesBack w p n
