@@ -1,100 +1,30 @@
 -- What the layout and the zero words tell the guard.
-use Rattle.mk_laws.proofs.Vocabulary.{AreOfPages, Bool, Caller, Claim, Config, GuardPremises, HasHeader, HasZeros}
-use Rattle.mk_laws.proofs.Vocabulary.{Header, InPlot, IsClaimed, IsClaimedRun, IsHeaderOf, IsMarking, IsPlaced}
-use Rattle.mk_laws.proofs.Vocabulary.{IsPlotShown, IsSized, LayoutStands, Mapped, Mode, Moment, NoPlot, Object}
-use Rattle.mk_laws.proofs.Vocabulary.{OfLeafRun, OfRun, Option, Place, PlacedAllocation, Placing, Plot, PlotStands}
-use Rattle.mk_laws.proofs.Vocabulary.{Plotted, Run, RunPages, RunStands, Seat, ShowsPart, Some, World, ℕ, and_parts, ap}
-use Rattle.mk_laws.proofs.Vocabulary.{arith, cases_eq, cases_lt, cells_under, claims_of, claims_on, false, false≢true}
-use Rattle.mk_laws.proofs.Vocabulary.{flight_of, get_or_past, ground_of, head_on, head_page, head_page_under, header_of}
-use Rattle.mk_laws.proofs.Vocabulary.{header_on, heads_run, inl, inr, is_large, is_mapped, is_small_object}
-use Rattle.mk_laws.proofs.Vocabulary.{is_undecided_new, is_unmapping, kinds_of, large_is_not_small, left, lt-ltb}
-use Rattle.mk_laws.proofs.Vocabulary.{made_shows, mode_of, ne_eqb, not, not-true, object_now, object_placed, pages_made}
-use Rattle.mk_laws.proofs.Vocabulary.{pages_some, part_head, placed_at, placed_now, plot_of, run_count, seat_exists}
-use Rattle.mk_laws.proofs.Vocabulary.{shows_on, slice_index, subst, sym, true, true≢false, used_on, ◌&&◌, ◌*◌, ◌+◌, ◌-◌}
-use Rattle.mk_laws.proofs.Vocabulary.{◌/◌, ◌<◌, ◌==◌, ◌∙◌, ◌≡◌, ◌≢◌, ◌≤◌, ◌⊎◌}
+use Rattle.mk_laws.proofs.Vocabulary.{AreOfPages, Bool, Caller, Config, GuardPremises, HasZeros, IsClaimedRun}
+use Rattle.mk_laws.proofs.Vocabulary.{IsHeaderOf, IsMarking, IsPlaced, IsPlotShown, IsSized, LayoutStands, Mapped}
+use Rattle.mk_laws.proofs.Vocabulary.{Moment, Object, Place, PlacedAllocation, Placing, PlotStands, RunPages, RunStands}
+use Rattle.mk_laws.proofs.Vocabulary.{Seat, Some, World, ℕ, and_parts, ap, arith, cases_lt, claims_of, false}
+use Rattle.mk_laws.proofs.Vocabulary.{false≢true, flight_of, get_or_past, ground_of, head_page_under, header_on}
+use Rattle.mk_laws.proofs.Vocabulary.{heads_run, inl, inr, is_large, is_mapped, is_small_object, is_undecided_new}
+use Rattle.mk_laws.proofs.Vocabulary.{is_unmapping, kinds_of, large_is_not_small, left, lt-ltb, mode_of, ne_eqb, not}
+use Rattle.mk_laws.proofs.Vocabulary.{not-true, object_placed, pages_some, placed_at, placed_now, plot_of, refl}
+use Rattle.mk_laws.proofs.Vocabulary.{seat_exists, subst, sym, true, ◌&&◌, ◌*◌, ◌+◌, ◌-◌, ◌/◌, ◌==◌, ◌∙◌, ◌≡◌, ◌≢◌, ◌⊎◌}
 use Rattle.mk_laws.proofs.BarePages.{Unreleasing, bare_page, plot_page, shown_there}
-use Rattle.mk_laws.proofs.Basics.{Known, KnownWorld, Laid, all_stand, claimed, first_header, holding_object}
-use Rattle.mk_laws.proofs.Basics.{known_world, made_sized, mapped_stays, new_has_turn, zero_where_none}
-use Rattle.mk_laws.proofs.{LayoutReadings.claimed_head, LayoutReadings.header_of_mode, QuarantineByKind.shown_at}
-use Rattle.mk_laws.proofs.{Serving.OnChosen, Serving.OnFree, Serving.Stands, Serving.placed_for, WholeRuns.find_bit}
+use Rattle.mk_laws.proofs.Basics.{Known, KnownWorld, Laid, all_stand, first_header, holding_object, known_world}
+use Rattle.mk_laws.proofs.Basics.{made_sized, mapped_stays, new_has_turn}
+use Rattle.mk_laws.proofs.Serving.{OnChosen, OnFree, Stands, placed_for}
+use Rattle.mk_laws.proofs.{LayoutReadings.header_of_mode, QuarantineByKind.shown_at, WholeRuns.whole_quiet}
 use Rattle.mk_laws.specs.Kept.{LaterPagesAreKnown, PlaceIsBare, RunHasObject, StandsMapped}
 use Rattle.mk_laws.specs.ZerosTell.{ZerosTellTheGuard}
 
 -- The pages of a run after its head
 
--- what shows a run's head is the first page of its object, and has its pages
-run_part : (o : Object) (distance count : ℕ) (mapped : Bool) (x : Option Header) → ShowsPart o distance x
-    → x ≡ Some (Run count mapped) → (distance ≡ 0) × (count ≡ pages_made o)
-run_part o distance count mapped x (OfRun m first large leaf) is = (first, sym (ap run_count is))
-run_part o distance count mapped x (OfLeafRun first large leaf) is = (first, sym (ap run_count is))
-run_part o distance count mapped x _ is = absurd (false≢true (ap heads_run is))
-
 pub later_pages : (c : Config) (w : World) → Unreleasing c w → LaterPagesAreKnown w.now.words
 later_pages c w q p count distance is some lt =
-    let own : head_on w.now.words.pages p ≡ p = ap (λ (x : Option Header). head_page_under x p) is in
-    elim (cases_eq (used_on w.now.words.pages p) 0) [
-      | inl empty ↦ elim (q.laid.scene.occupied p headed (ap (used_on w.now.words.pages) own ∙ empty)) [
-        | inl on ↦ absurd (false≢true on)
-        | inr here ↦ by_plot (plot_of (object_now c w.now) w.now.seats.holding.placing) q.laid.scene.plot here
-      ]
-      | inr used ↦ elim (find_bit (used_on w.now.words.pages p) (cells_under (shows_on w.now.words.pages p))) [
-        | inr none ↦ absurd (used (zero_where_none (used_on w.now.words.pages p)
-            (λ k h. let t = q.laid.scene.used p k h in true≢false (sym h ∙ none k t.0))))
-        | inl (k, bit) ↦ elim ((q.laid.scene.used p k bit).1) [
-          | inl claimed ↦ inl (by_claim k claimed)
-          | inr released ↦ absurd (false≢true released)
-        ]
-      ]
+    let run = whole_quiet _ q.laid.scene refl p (ap heads_run is) in
+    elim (run.later distance some (rw is lt)) [
+      | inl later ↦ inl (ap (λ x. head_page_under x (p + distance)) later.1 ∙ omega arith)
+      | inr free ↦ inr (λ i li. bare_page c w (p + distance) (64 * (p + distance) + i) q free.0 (omega arith))
     ]
-  where
-    headed : header_on w.now.words.pages p ≢ 0
-    headed z = true≢false (sym (ap heads_run is) ∙ ap (λ h. heads_run (header_of h)) z)
-
-    by_claim : (k : ℕ) → IsClaimed (claims_on c (object_now c w.now) (ground_of w)) p k
-        → head_page w.now.words (p + distance) ≡ p
-    by_claim k o =
-        let x : Claim = o.claim in
-        let shown = q.laid.scene.shown x o.among in
-        let some = pages_some x.object shown.sized in
-        let first : x.page + 0 ≡ p = let page = o.page in omega arith in
-        let part : ShowsPart x.object 0 (shows_on w.now.words.pages p) =
-        subst (λ i. ShowsPart x.object 0 (shows_on w.now.words.pages i)) first (claimed _ x 0 shown (omega arith)) in
-        let pages = (run_part x.object 0 count true (shows_on w.now.words.pages p) part is).1 in
-        cc (o.page, claimed_head w.now.words.pages x distance shown (omega arith))
-
-    in_plot : (first : ℕ) (o : Object) → IsPlotShown w.now.words.pages first o → first ≤ p → p < first + pages_made o
-        → (head_page w.now.words (p + distance) ≡ p)
-        ⊎ ((i : ℕ) → i < 64 → slice_index w.now.words.heap (64 * (p + distance) + i) ≡ 0)
-    in_plot first o plot low high =
-        let at : first + (p - first) ≡ p = omega arith in
-        elim (plot.headers (p - first) (omega arith)) [
-          | inl free ↦ absurd (headed (ap (header_on w.now.words.pages) (sym at) ∙ free))
-          | inr made ↦
-              let part : ShowsPart o (p - first) (shows_on w.now.words.pages p) =
-              subst (λ h. ShowsPart o (p - first) (header_of h)) (sym (ap (header_on w.now.words.pages) (sym at)
-              ∙ made)) (made_shows o (p - first) plot.sized (omega arith)) in
-              let head = run_part o (p - first) count true (shows_on w.now.words.pages p) part is in
-              let zero = head.0 in
-              let pages = head.1 in
-              let same : first ≡ p = omega arith in
-              let near : distance < pages_made o = omega arith in
-              elim (plot.headers distance near) [
-                | inl free ↦ inr (λ i li. bare_page c w (p + distance) (64 * (p + distance) + i) q
-                    (ap (λ j. header_on w.now.words.pages (j + distance)) (sym same) ∙ free) (omega arith))
-                | inr later ↦
-                    let behind : ShowsPart o distance (shows_on w.now.words.pages (p + distance)) =
-                    subst (λ h. ShowsPart o distance (header_of h))
-                    (sym (ap (λ j. header_on w.now.words.pages (j + distance)) (sym same) ∙ later))
-                    (made_shows o distance plot.sized near) in
-                    inl (part_head o distance p (shows_on w.now.words.pages (p + distance)) behind)
-              ]
-        ]
-
-    by_plot : (plot : Plot) → PlotStands w.now.words.pages plot → InPlot plot p
-        → (head_page w.now.words (p + distance) ≡ p)
-        ⊎ ((i : ℕ) → i < 64 → slice_index w.now.words.heap (64 * (p + distance) + i) ≡ 0)
-    by_plot NoPlot st here = absurd here
-    by_plot (Plotted first o) st here = in_plot first o st here.0 here.1
 
 -- The place of a New
 

@@ -158,7 +158,7 @@ plotted_run s (Plotted first o) p is stands here h =
     by (inr e) = made e
 
 -- While the phase isn't releasing, they are whole in what is laid out.
-whole_quiet : (s : LayoutScene) → IsLaidOn s → s.releasing ≡ false → HaveWholeRuns s.pages s.releasing s.plot
+pub whole_quiet : (s : LayoutScene) → IsLaidOn s → s.releasing ≡ false → HaveWholeRuns s.pages s.releasing s.plot
 whole_quiet s laid off p h = elim (find_bit (used_on s.pages p) (cells_under (shows_on s.pages p))) [
   | inr none ↦
       let empty : used_on s.pages p ≡ 0 =

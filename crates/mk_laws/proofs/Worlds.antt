@@ -1,14 +1,13 @@
 -- What is known of a world of a history, and what values and words in it point into.
-use Rattle.mk_laws.proofs.Vocabulary.{Block, Config, Free, HasItsHeaders, Header, Invariant, IsMarking, IsSized}
-use Rattle.mk_laws.proofs.Vocabulary.{IsStorage, IsWordOf, Later, LeafBlock, LeafRun, MayHoldWords, NeverState, Object}
-use Rattle.mk_laws.proofs.Vocabulary.{Option, PlacedAllocation, PointsInto, Run, RunPages, ShowsPart, Some}
-use Rattle.mk_laws.proofs.Vocabulary.{StandsOnHeap, World, ℕ, and_parts, ap, arith, cell_of_allocation, eqb-true, false}
-use Rattle.mk_laws.proofs.Vocabulary.{first_page_shows, has_no_pointers, head_page_under, header_in, inl, inr}
-use Rattle.mk_laws.proofs.Vocabulary.{is_small_object, large_words, leb-true, ltb-true, nat_le, nat_lt, object_placed}
-use Rattle.mk_laws.proofs.Vocabulary.{or_parts, page_at_address, pages_made, part_has_no_pointers, phase_of, placed_at}
-use Rattle.mk_laws.proofs.Vocabulary.{pointed_cell, run_begins, run_count, shown, slice_index, standing_has_storage}
-use Rattle.mk_laws.proofs.Vocabulary.{stands_on, storage_of, storage_words, subst, sym, true, typed_size, ◌*◌, ◌-◌, ◌/◌}
-use Rattle.mk_laws.proofs.Vocabulary.{◌<◌, ◌∙◌, ◌≡◌, ◌≢◌, ◌⊎◌}
+use Rattle.mk_laws.proofs.Vocabulary.{Config, HasItsHeaders, Header, Invariant, IsMarking, IsSized, IsStorage, IsWordOf}
+use Rattle.mk_laws.proofs.Vocabulary.{Later, MayHoldWords, NeverState, Object, Option, PlacedAllocation, PointsInto}
+use Rattle.mk_laws.proofs.Vocabulary.{RunPages, ShowsPart, Some, StandsOnHeap, World, ℕ, and_parts, ap, arith}
+use Rattle.mk_laws.proofs.Vocabulary.{cell_of_allocation, eqb-true, false, first_page_shows, has_no_pointers}
+use Rattle.mk_laws.proofs.Vocabulary.{head_page_under, header_in, inl, inr, is_small_object, large_words, leb-true}
+use Rattle.mk_laws.proofs.Vocabulary.{ltb-true, nat_le, nat_lt, object_placed, or_parts, page_at_address, pages_made}
+use Rattle.mk_laws.proofs.Vocabulary.{part_has_no_pointers, phase_of, placed_at, pointed_cell, run_begins, run_count}
+use Rattle.mk_laws.proofs.Vocabulary.{shown, slice_index, standing_has_storage, stands_on, storage_of, storage_words}
+use Rattle.mk_laws.proofs.Vocabulary.{subst, sym, true, typed_size, ◌*◌, ◌-◌, ◌/◌, ◌<◌, ◌∙◌, ◌≡◌, ◌≢◌, ◌⊎◌}
 use Rattle.mk_geom.proofs.Standing.{stands_at_first, stands_from}
 use Rattle.mk_core.proofs.PointedPages.{PointsTo, points_to}
 use Rattle.mk_core.proofs.{PointedAllocations.pointers_come_back, StandingAllocations.pointers_hit}
@@ -84,11 +83,6 @@ module _ (c : Config) (w : World) (n : NeverState) (t : Told c w n) where
       by : (h : Header) → header_in w.now.words (page_at_address v) ≡ Some h
           → a.base / 64 ≡ head_page_under (Some h) (page_at_address v)
           → stands_on (page_at_address v) (storage_of c a) ≡ true
-      by Free shown head = on_first head
-      by (Block class) shown head = on_first head
-      by (LeafBlock class) shown head = on_first head
-      by (Run count mapped) shown head = on_first head
-      by (LeafRun count) shown head = on_first head
       by (Later distance mapped) shown head =
           let later = t.all.order.laid.scene.later (page_at_address v) distance mapped shown in
           let le = later.0 in
@@ -106,6 +100,7 @@ module _ (c : Config) (w : World) (n : NeverState) (t : Told c w n) where
                 let first = (run_begins (object_placed c a) a.base large (stands b u).begins).1 in
                 stands_from (page_at_address v) (storage_of c a) (omega arith) (omega arith)
           ]
+      by _ shown head = on_first head
 
   -- Where its page's header is scanned, an allocation isn't leaf.
   pub not_leaf : (a : ℕ) → (placed a).released ≡ false
