@@ -49,18 +49,21 @@ module _ (ss : List Storage) (s : Storage) (some : 1 ≤ s.words) (run : is_smal
   pub counts_as_free : CountsAsFree ss s
   counts_as_free = grind (arith, none_begins, find_cases, none_stands)
 
--- what stands this many events after the `release`
-record WhileReleasing (c : Config) (start more : List Event) : Type 0 where
-  phase : phase_of (left c (start ++ more)).now.words ≡ 4
-  older : AreOlder (left c start).allocations (left c (start ++ more)).allocations
+-- what stands after the `release`, up to the `end`
+record WhileReleasing (c : Config) (start es : List Event) : Type 0 where
+  phase : phase_of (left c es).now.words ≡ 4
+  older : AreOlder (left c start).allocations (left c es).allocations
 
-releasing_goes_on : (c : Config) (start more : List Event) (e : Event) → IsHistory c ((start ++ more) ++ e ∷ [])
-    → is_end e.step ≡ false → WhileReleasing c start more → WhileReleasing c start (more ++ e ∷ [])
-releasing_goes_on c start more e h other at =
-    let m = one_more c (start ++ more) e h in
-    let w : World = left c (start ++ more) in
+releasing_goes_on : (c : Config) (start es : List Event) (e : Event) → IsHistory c (es ++ e ∷ [])
+    → is_end e.step ≡ false → WhileReleasing c start es → WhileReleasing c start (es ++ e ∷ [])
+releasing_goes_on c start es e h other at =
+    let m = one_more c es e h in
+    let w : World = left c es in
     let waits = releasing_waits c w.now e.seat e.step at.phase m.meets other in
-    grind (arith, append_assoc, older_joined, older_behind)
+    record {
+      phase = rw m.left waits.phase;
+      older = rw m.left (older_joined _ w.allocations _ at.older (older_behind c w e.seat e.step waits.granted));
+    }
 
 -- what the `release`, and what comes up to the `end`, leave of the allocations before
 record Released (c : Config) {es : List Event} (k : Cycle es) : Type 0 where
@@ -84,13 +87,8 @@ released c es k h at =
     let ending = history_through c es (before_end k) k.end.at.behind k.end.at.event h (at_end k) in
     let whole : IsHistory c (start ++ more) = subst (IsHistory c) (sym same)
     (earlier_part_is_history c (before_end k) (k.end.at.event ∷ []) ending) in
-    let first : WhileReleasing c start [] = record {
-      phase = subst (λ (xs : List Event). phase_of (left c xs).now.words ≡ 4) (sym (append-nil start)) four;
-      older = subst (λ (xs : List Event). AreOlder (left c start).allocations (left c xs).allocations)
-          (sym (append-nil start)) (older_same _);
-    } in
-    let along = along_without c is_end (WhileReleasing c start) start [] more (λ xs d g other. releasing_goes_on c
-    start xs d g other) whole k.end.none_before first in
+    let along = along_without c is_end (WhileReleasing c start) start more (releasing_goes_on c start) whole
+    k.end.none_before (record { phase = four; older = older_same _ }) in
     let last = one_more c (before_end k) k.end.at.event ending in
     let v : World = left c (before_end k) in
     record {

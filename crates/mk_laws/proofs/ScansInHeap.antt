@@ -1,4 +1,5 @@
 -- What a marker scans lies in the heap.
+use Rattle.mk_laws.proofs.Vocabulary.{same_Some}
 use Rattle.mk_laws.proofs.Vocabulary.{Block, Bool, Cell, Config, Header, LeafBlock, LeafRun, MarkerState as Marker}
 use Rattle.mk_laws.proofs.Vocabulary.{None, Option, Run, Scan, SeenHeader, Some, Step, Word, ℕ, and_parts, arith}
 use Rattle.mk_laws.proofs.Vocabulary.{behind_mlook, cell_at, cell_ends, cell_seen, cells_under, eqb-true, false}
@@ -54,40 +55,26 @@ claims c p i marks x lt seen h = record {
       rw k.2 (scan_end c p i _ lt at.1 fits);
 }
 
+onwards : (P : Scan → Type 0) (o : Option Scan) → ((t : Scan) → o ≡ Some t → P (record t { next = t.next + 1 }))
+    → (s : Scan) → scan_onward o ≡ Some s → P s
+onwards P (Some t) k s e = subst P (same_Some _ _ e) (k t refl)
+onwards P None k s e = cc
+
 loads : (c : Config) (hand : Option ℕ) (x : Marker) → MarkerFits c x
     → MarkerFits c (record x { scan = scan_onward x.scan; hand = hand })
 loads c hand x h = record {
   seen = h.seen;
-  page = λ s e. by_page x.scan h.page s e;
-  end = λ s e. by_end x.scan h.end s e;
+  page = onwards (λ (y : Scan). y.page < c.pages) x.scan h.page;
+  end = onwards (λ (y : Scan). y.end ≤ 64 * c.pages) x.scan h.end;
 }
-  where
-    by_page : (o : Option Scan) → ((s : Scan) → o ≡ Some s → s.page < c.pages) → (s : Scan) → scan_onward o ≡ Some s
-        → s.page < c.pages
-    by_page (Some t) k s e = subst (λ (y : Scan). y.page < c.pages) (same _ s e) (k t refl)
-      where
-        same : (a b : Scan) → Some a ≡ Some b → a ≡ b
-        same a b e = cc
-    by_page None k s e = cc
-
-    by_end : (o : Option Scan) → ((s : Scan) → o ≡ Some s → s.end ≤ 64 * c.pages) → (s : Scan) → scan_onward o ≡ Some s
-        → s.end ≤ 64 * c.pages
-    by_end (Some t) k s e = subst (λ (y : Scan). y.end ≤ 64 * c.pages) (same _ s e) (k t refl)
-      where
-        same : (a b : Scan) → Some a ≡ Some b → a ≡ b
-        same a b e = cc
-    by_end None k s e = cc
 
 looks : (c : Config) (n : ℕ) (w : Word) (x : Marker) → ((p : ℕ) → w ≡ Word.Head p → RunFits c p n) → MarkerFits c x
     → MarkerFits c (behind_mlook c n w x)
 looks c n (Word.Head p) x fits h = record {
-  seen = λ s e. subst (λ (t : SeenHeader). RunFits c t.page t.header) (same _ s e) (fits p refl);
+  seen = λ s e. subst (λ (t : SeenHeader). RunFits c t.page t.header) (same_Some _ _ e) (fits p refl);
   page = h.page;
   end = h.end;
 }
-  where
-    same : (a b : SeenHeader) → Some a ≡ Some b → a ≡ b
-    same a b e = cc
 looks c n _ x fits h = record { seen = λ s e. cc; page = h.page; end = h.end }
 
 -- where a marker steps that finds n
