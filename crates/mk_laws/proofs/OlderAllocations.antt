@@ -1,7 +1,7 @@
 -- Allocations after events that grant none: what is unreleased was so before, and each keeps its place.
-use Rattle.mk_laws.proofs.Vocabulary.{Config, Event, IsHistory, List, PlacedAllocation, Seat, Step, World, ℕ, ap}
-use Rattle.mk_laws.proofs.Vocabulary.{append-nil, append_assoc, false, flight_of, is_release, left, length, placed_at}
-use Rattle.mk_laws.proofs.Vocabulary.{refl, subst, sym, true≢false, [], ◌++◌, ◌<◌, ◌∙◌, ◌∷◌, ◌≡◌}
+use Rattle.mk_laws.proofs.Vocabulary.{Config, Event, IsHistory, List, PlacedAllocation, Seat, Step, World, ℕ, ap, false}
+use Rattle.mk_laws.proofs.Vocabulary.{flight_of, is_release, left, length, placed_at, refl, sym, true≢false, [], ◌++◌}
+use Rattle.mk_laws.proofs.Vocabulary.{◌<◌, ◌∙◌, ◌∷◌, ◌≡◌}
 use Rattle.mk_laws.proofs.AllocationSteps.{AreOfOne, GoesOn, allocation_step, goes_on, of_one_joined}
 use Rattle.mk_laws.proofs.Basics.{Came, IsNew, Stayed, WorldBehind, is_grant}
 use Rattle.mk_laws.proofs.{Marking.one_more, Precise.came_behind, Stretches.None_of, Stretches.along_without}

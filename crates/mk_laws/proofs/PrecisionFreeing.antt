@@ -1,12 +1,12 @@
 -- After a cycle's `end` what its `release` released counts as free: no unreleased storage has a word of it.
 use Rattle.std.proofs.Common.{Contains}
 use Rattle.mk_laws.proofs.Vocabulary.{Config, Cycle, Event, IsHistory, IsStorage, IsWordOf, List, OfHistories}
-use Rattle.mk_laws.proofs.Vocabulary.{PlacedAllocation, Releasing, Step, Storage, World, ℕ, and_parts, ap, append-nil}
-use Rattle.mk_laws.proofs.Vocabulary.{append_assoc, arith, before_release, cases_lt, earlier_part_is_history, eqb-true}
-use Rattle.mk_laws.proofs.Vocabulary.{false, inl, inr, is_end, is_release, is_small, left, list_any, not, not-true}
-use Rattle.mk_laws.proofs.Vocabulary.{or_from, phase_of, placed_at, refl, standing_has_storage, stands_on}
-use Rattle.mk_laws.proofs.Vocabulary.{storage_is_of, storage_of, storage_words, subst, sym, through_release, true}
-use Rattle.mk_laws.proofs.Vocabulary.{true≢false, unreleased_storage, [], ◌%◌, ◌*◌, ◌++◌, ◌+◌, ◌==◌, ◌∙◌, ◌∷◌, ◌≡◌, ◌≤◌}
+use Rattle.mk_laws.proofs.Vocabulary.{PlacedAllocation, Releasing, Step, Storage, World, ℕ, and_parts, ap, append_assoc}
+use Rattle.mk_laws.proofs.Vocabulary.{arith, before_release, cases_lt, earlier_part_is_history, eqb-true, false, inl}
+use Rattle.mk_laws.proofs.Vocabulary.{inr, is_end, is_release, is_small, left, list_any, not, not-true, or_from}
+use Rattle.mk_laws.proofs.Vocabulary.{phase_of, placed_at, refl, standing_has_storage, stands_on, storage_is_of}
+use Rattle.mk_laws.proofs.Vocabulary.{storage_of, storage_words, subst, sym, through_release, true, true≢false}
+use Rattle.mk_laws.proofs.Vocabulary.{unreleased_storage, [], ◌%◌, ◌*◌, ◌++◌, ◌+◌, ◌==◌, ◌∙◌, ◌∷◌, ◌≡◌, ◌≤◌}
 use Rattle.mk_geom.proofs.Standing.{has_words, large_is_run, stands_parts}
 use Rattle.mk_geom.proofs.ListSearch.{find_cases, list_any_found}
 use Rattle.mk_geom.specs.Storages.{IsRun, is_cell_taken}

@@ -1,12 +1,11 @@
 -- What a marker scans lies in the heap.
-use Rattle.mk_laws.proofs.Vocabulary.{same_Some}
 use Rattle.mk_laws.proofs.Vocabulary.{Block, Bool, Cell, Config, Header, LeafBlock, LeafRun, MarkerState as Marker}
 use Rattle.mk_laws.proofs.Vocabulary.{None, Option, Run, Scan, SeenHeader, Some, Step, Word, ℕ, and_parts, arith}
 use Rattle.mk_laws.proofs.Vocabulary.{behind_mlook, cell_at, cell_ends, cell_seen, cells_under, eqb-true, false}
 use Rattle.mk_laws.proofs.Vocabulary.{has_next_word, has_no_pointers, has_seen_cell, header_of, if◌then◌else◌}
 use Rattle.mk_laws.proofs.Vocabulary.{is_scanned, is_some, ltb-true, marker_behind, marker_may, next_word}
-use Rattle.mk_laws.proofs.Vocabulary.{page_at_address, refl, scan_begun, scan_claimed, scan_onward, scan_page}
-use Rattle.mk_laws.proofs.Vocabulary.{seen_page, subst, true, words_under, ◌*◌, ◌+◌, ◌<◌, ◌==◌, ◌≡◌, ◌≤◌}
+use Rattle.mk_laws.proofs.Vocabulary.{page_at_address, refl, same_Some, scan_begun, scan_claimed, scan_onward}
+use Rattle.mk_laws.proofs.Vocabulary.{scan_page, seen_page, subst, true, words_under, ◌*◌, ◌+◌, ◌<◌, ◌==◌, ◌≡◌, ◌≤◌}
 use Rattle.mk_core.proofs.PointedPages.{cell_within}
 use Rattle.mk_laws.proofs.RunsInHeap.{RunFits}
 

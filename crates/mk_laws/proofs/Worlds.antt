@@ -1,31 +1,25 @@
 -- What is known of a world of a history, and what values and words in it point into.
-use Rattle.mk_laws.proofs.Vocabulary.{Config, HasItsHeaders, Header, Invariant, IsMarking, IsSized, IsStorage, IsWordOf}
-use Rattle.mk_laws.proofs.Vocabulary.{Later, MayHoldWords, NeverState, Object, Option, PlacedAllocation, PointsInto}
-use Rattle.mk_laws.proofs.Vocabulary.{RunPages, ShowsPart, Some, StandsOnHeap, World, ℕ, and_parts, ap, arith}
-use Rattle.mk_laws.proofs.Vocabulary.{cell_of_allocation, eqb-true, false, first_page_shows, has_no_pointers}
-use Rattle.mk_laws.proofs.Vocabulary.{head_page_under, header_in, inl, inr, is_small_object, large_words, leb-true}
-use Rattle.mk_laws.proofs.Vocabulary.{ltb-true, nat_le, nat_lt, object_placed, or_parts, page_at_address, pages_made}
-use Rattle.mk_laws.proofs.Vocabulary.{part_has_no_pointers, phase_of, placed_at, pointed_cell, run_begins, run_count}
-use Rattle.mk_laws.proofs.Vocabulary.{shown, slice_index, standing_has_storage, stands_on, storage_of, storage_words}
-use Rattle.mk_laws.proofs.Vocabulary.{subst, sym, true, typed_size, ◌*◌, ◌-◌, ◌/◌, ◌<◌, ◌∙◌, ◌≡◌, ◌≢◌, ◌⊎◌}
+use Rattle.mk_laws.proofs.Vocabulary.{Config, HasItsHeaders, Header, Invariant, IsMarking, IsSized, IsStorage, Later}
+use Rattle.mk_laws.proofs.Vocabulary.{NeverState, Object, Option, PlacedAllocation, PointsInto, ShowsPart, Some}
+use Rattle.mk_laws.proofs.Vocabulary.{StandsOnHeap, World, ℕ, arith, cell_of_allocation, eqb-true, false}
+use Rattle.mk_laws.proofs.Vocabulary.{first_page_shows, has_no_pointers, head_page_under, header_in, inl, inr}
+use Rattle.mk_laws.proofs.Vocabulary.{is_small_object, large_words, object_placed, or_parts, page_at_address}
+use Rattle.mk_laws.proofs.Vocabulary.{pages_made, part_has_no_pointers, phase_of, placed_at, pointed_cell, run_begins}
+use Rattle.mk_laws.proofs.Vocabulary.{run_count, shown, slice_index, standing_has_storage, stands_on, storage_of}
+use Rattle.mk_laws.proofs.Vocabulary.{storage_words, subst, sym, true, typed_size, ◌*◌, ◌-◌, ◌/◌, ◌<◌, ◌∙◌, ◌≡◌, ◌≢◌}
+use Rattle.mk_laws.proofs.Vocabulary.{◌⊎◌}
 use Rattle.mk_geom.proofs.Standing.{stands_at_first, stands_from}
 use Rattle.mk_core.proofs.PointedPages.{PointsTo, points_to}
 use Rattle.mk_core.proofs.{PointedAllocations.pointers_come_back, StandingAllocations.pointers_hit}
-use Rattle.mk_laws.proofs.Basics.{KnownWorld, mapped_stays}
-use Rattle.mk_laws.proofs.{InvariantJoined.told_to_images, Unmapping.part_count, Unmapping.small_count}
-use Rattle.mk_laws.specs.ImagePremises.{OfFreedRun, OfMapped, OfReleased}
+use Rattle.mk_laws.proofs.Unmapping.{part_count, small_count}
+use Rattle.mk_laws.proofs.{Basics.KnownWorld, FreeWords.of_one, InvariantJoined.told_to_images}
 use Rattle.mk_laws.specs.ImagePremises as images
+pub use Rattle.mk_laws.proofs.FreeWords.{IsOfOne as IsHeld}
 
 -- all that is known of it
 pub record Told (c : Config) (w : World) (n : NeverState) : Type 0 where
   pub known : KnownWorld c w
   pub all : Invariant c w n
-
--- A heap word is one of an unreleased allocation.
-pub record IsHeld (c : Config) (w : World) (x : ℕ) : Type 0 where
-  pub number : ℕ
-  pub unreleased : (placed_at w.allocations number).released ≡ false
-  pub word : IsWordOf (storage_of c (placed_at w.allocations number)) x
 
 not_four : (n : ℕ) → (n ≡ 1) ⊎ (n ≡ 2) → n ≡ 4 → ⊥
 not_four n (inl e) f = absurd (omega arith)
@@ -112,20 +106,4 @@ module _ (c : Config) (w : World) (n : NeverState) (t : Told c w n) where
 
   -- A word that isn't 0 is held, while a cycle marks.
   pub held : IsMarking w.now.words → (x : ℕ) → slice_index w.now.words.heap x ≢ 0 → IsHeld c w x
-  held early x some = by (others.zero_words x some)
-    where
-      by : MayHoldWords c w x → IsHeld c w x
-      by (OfMapped i mapped word) = record { number = i; unreleased = mapped_stays c (placed i) mapped; word = word }
-      by (OfReleased cell pointed released) = grind (arith, and_parts, not_four, eqb-true)
-      by (OfFreedRun run there inside) =
-          let f = others.freed_run run there in
-          let a : PlacedAllocation = placed f.number in
-          let page : run.page ≡ a.base / 64 = ap (λ (r : RunPages). r.page) f.is in
-          let count : run.count ≡ pages_made (object_placed c a) = ap (λ (r : RunPages). r.count) f.is in
-          let parts = and_parts (nat_le run.page (x / 64)) (nat_lt (x / 64 - run.page) run.count) inside in
-          let from = leb-true run.page (x / 64) parts.0 in
-          let to = ltb-true (x / 64 - run.page) run.count parts.1 in
-          let words : storage_words c a ≡ 64 * pages_made (object_placed c a) =
-          large_words (object_placed c a) f.large in
-          let first = (run_begins (object_placed c a) a.base f.large (stands f.number f.unreleased).begins).1 in
-          record { number = f.number; unreleased = f.unreleased; word = (omega arith, omega arith) }
+  held early = of_one c w n t.known t.all (not_four (phase_of w.now.words) early)
