@@ -4,24 +4,25 @@ use Rattle.mk_laws.proofs.Vocabulary.{AreEnabledFrom, AreOfOthers, Caller, Confi
 use Rattle.mk_laws.proofs.Vocabulary.{IsLeft, List, Marker, MarkerState, Moment, Named, OnlyGrow, Protocol, Seat, Stage}
 use Rattle.mk_laws.proofs.Vocabulary.{Steady, Step, Store, Tally, TurnIsLeft, Word, Words, World, ℕ, accessed, ap}
 use Rattle.mk_laws.proofs.Vocabulary.{arith, at_rest, calls_from, cases_lt, d_of, enabled_meets, enabled_parts, ends}
-use Rattle.mk_laws.proofs.Vocabulary.{eq-eqb, false, first_world, flight_of, get_or-set_other, get_or_past, header_in}
-use Rattle.mk_laws.proofs.Vocabulary.{inl, inr, is_attending, is_in, is_one_of, is_unmapped_header, left, left_append}
-use Rattle.mk_laws.proofs.Vocabulary.{left_from, marker_at, others_are_held, outside, refl, reg_access, register_met}
-use Rattle.mk_laws.proofs.Vocabulary.{slice_index, slice_set, sym, true, world_behind, [], ◌*◌, ◌++◌, ◌+◌, ◌/◌, ◌<◌}
-use Rattle.mk_laws.proofs.Vocabulary.{◌∙◌, ◌∷◌, ◌≡◌, ◌≢◌, ◌≤◌}
+use Rattle.mk_laws.proofs.Vocabulary.{eq-eqb, false, false≢true, first_world, flight_of, get_or-set_other, get_or_past}
+use Rattle.mk_laws.proofs.Vocabulary.{header_in, inl, inr, is_attending, is_in, is_one_of, is_unmapped_header, left}
+use Rattle.mk_laws.proofs.Vocabulary.{left_append, left_from, marker_at, others_are_held, outside, refl, reg_access}
+use Rattle.mk_laws.proofs.Vocabulary.{register_met, slice_index, slice_set, sym, true, world_behind, [], ◌*◌, ◌++◌, ◌+◌}
+use Rattle.mk_laws.proofs.Vocabulary.{◌/◌, ◌<◌, ◌∙◌, ◌∷◌, ◌≡◌, ◌≢◌, ◌≤◌}
 use Rattle.mk_core.proofs.{Histories.calls_append, RegisterAccesses.tally_leaves_registers}
 use Rattle.mk_core.specs.Frames.{Attends, CountsAreLeft, HoldsAll, IsIn, OthersLeave, OwnIsLeft, ScanIsLeft, written_of}
 use Rattle.mk_core.specs.{Growing.is_same_seat, Readings.is_in_call}
 use Rattle.mk_laws.proofs.Basics.{Behind, Known, Meets, WorldBehind, actor_of, grants_new, in_call_told, known_behind}
 use Rattle.mk_laws.proofs.Basics.{known_left, not_astray, operands_of, others_held, register_small, same_holder}
 use Rattle.mk_laws.proofs.Basics.{standing, turn_of, view_of}
+use Rattle.mk_laws.proofs.Colours.{attending_grows, colour_step}
+use Rattle.mk_laws.proofs.Known.{HaveOperands, Operands, holds_turn}
 use Rattle.mk_laws.proofs.OthersCounts.{counts_nothing, entry_fulls, fulls_append, fulls_of}
 use Rattle.mk_laws.proofs.OthersMoves.{Calls, ComesIn, MarkerWrite, Marks, OthersMove, Waits, gate_one, others_move}
 use Rattle.mk_laws.proofs.OthersMoves.{with_words_seats}
 use Rattle.mk_laws.proofs.TurnFrame.{holding_out, turn_after, turn_joined, turn_same}
-use Rattle.mk_laws.proofs.{Colours.attending_grows, Colours.colour_step, Growth.grows_joined, Growth.grows_same}
-use Rattle.mk_laws.proofs.{HeaderSteps.header_step, HeaderSteps.stays_mapped, Known.HaveOperands, Known.Operands}
-use Rattle.mk_laws.proofs.{Known.holds_turn, ProtocolReadings.in_counts, Protocols.protocol_of, Standings.in_call_is}
+use Rattle.mk_laws.proofs.{Growth.grows_joined, Growth.grows_same, HeaderSteps.header_step, HeaderSteps.stays_mapped}
+use Rattle.mk_laws.proofs.{ProtocolReadings.in_counts, Protocols.protocol_of, Standings.InCall, Standings.in_call_is}
 
 -- What an event may do to registers: each caller's are its own.
 
@@ -104,18 +105,19 @@ own_after c w seat s x known h ne = record {
       );
 }
 
--- a call in flight is that of a caller, whose gate is 1
+-- who is in a call
+pub in_call_stands : (c : Config) (m : Moment) (k : ℕ) → Known c m → is_in_call (flight_of m (Caller k)) ≡ true
+    → (k < c.callers) × (standing (flight_of m (Caller k)) ≡ InCall)
+in_call_stands c m k known is = elim (cases_lt k c.callers) [
+  | inl lt ↦ grind (arith, in_call_is, standing, in_call_told, not_astray)
+  | inr past ↦ absurd (false≢true (ap is_in_call (sym (get_or_past m.seats.flights k at_rest
+      (omega (arith, known.orderly.flights)))) ∙ is))
+]
+
+-- and whose gate is 1
 in_call_gate : (c : Config) (m : Moment) (k : ℕ) → Known c m → is_in_call (flight_of m (Caller k)) ≡ true
     → (k < c.callers) × (slice_index m.words.gates k ≡ 1)
-in_call_gate c m k known is = elim (cases_lt k c.callers) [
-  | inl lt ↦
-      let f = flight_of m (Caller k) in (
-        lt,
-        gate_one c m k known lt
-            (in_call_is (standing f) (in_call_told f.stage f.op (not_astray c m known.orderly k lt) ∙ is)),
-      )
-  | inr past ↦ grind (arith, get_or_past)
-]
+in_call_gate c m k known is = let s = in_call_stands c m k known is in (s.0, gate_one c m k known s.0 s.1)
 
 mapped_after : (c : Config) (w : World) (seat s : Seat) (x : Step) → Known c w.now → Meets c w.now seat x → seat ≢ s
     → IsInCall w.now s → (p : ℕ) → is_unmapped_header (header_in w.now.words p) ≡ false
