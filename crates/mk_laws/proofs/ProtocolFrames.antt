@@ -158,9 +158,6 @@ left_after c w seat s x known h ne = record {
   scan = scan_after c w seat s x known h;
 }
 
-pub left_same : (c : Config) (s : Seat) (w : World) → Left c s w w
-left_same c s w = grind (arith, turn_same, grows_same)
-
 -- what the seat is in the middle of, it still is
 
 still_calls : (c : Config) (s : Seat) (w u : World) → OwnIsLeft c s w u → IsInCall w.now s → IsInCall u.now s
@@ -204,7 +201,7 @@ other_seat s seat h e = grind (arith, same_seat)
 pub left_later : (c : Config) (s : Seat) (w : World) (es : List Event) → Known c w.now → AreEnabledFrom c w es
     → AreOfOthers (s ∷ []) es → Left c s w (left_from c w es)
 unfolding left_from AreEnabledFrom AreOfOthers
-left_later c s w [] k on others = left_same c s w
+left_later c s w [] k on others = grind (arith, turn_same, grows_same)
 left_later c s w (e ∷ es) k on others = left_joined c s w (world_behind c w e) (left_from c (world_behind c w e) es)
     (left_after c w e.seat s e.step k (enabled_meets c w.now e on.0) (other_seat s e.seat others.0))
     (left_later c s (world_behind c w e) es (known_behind c w.now e k on.0) on.1 others.1)

@@ -125,12 +125,6 @@ used_kept c w seat p n pages laid q (ItTakes off once x) =
 used_kept c w seat p n pages laid q (ItGivesBack on x) =
     rw on (replaced c true _ (ground_of w) pages _ _ (λ place e. e) (rw on at q))
 
--- `mark`
-mark_from : (t : Bool) (placing : Placing) (found : Option Place) (place : Place)
-    → (if t then chosen placing found else placing) ≡ Used place → placing ≡ Used place
-mark_from false placing found place e = e
-mark_from true placing found place e = chosen_used placing found place e
-
 -- words that leave the quarantine
 kept_ground : (c : Config) (w : World) (x : Words) → KeepsGround w.now.words x → IsQuarantined c w
     → QuarantinedNow c w (record (ground_of w) { pages = x.pages; freed = x.freed; snapshot = x.snapshot })
@@ -163,8 +157,7 @@ quarantine_by_kind c w seat (Step.Used p n) b h laid q =
 quarantine_by_kind c w seat (Step.Quar p n) b h laid q = quar_kept c w seat p n b h laid q
 quarantine_by_kind c w seat Step.Grant b h laid q =
     rw (grants_early w h.phase) (grant_kept c w.now.words.marks (ground_of w) _ refl (rw (grants_early w h.phase) at q))
-quarantine_by_kind c w seat (Step.Mark p n) b h laid q =
-    replaced c _ _ _ _ _ _ (λ place e. mark_from _ w.now.seats.holding.placing _ place e) q
+quarantine_by_kind c w seat (Step.Mark p n) b h laid q = grind (arith, replaced, chosen_used)
 quarantine_by_kind c w seat Step.Begin b h laid q = begin_kept c _ w.now.words.marks (ground_of w) q
 quarantine_by_kind c w seat Step.Release b h laid q =
     let off = off_at w 3 h.phase (λ e. absurd (omega arith)) in

@@ -99,15 +99,9 @@ index_small o k sized lt = elim (cases_Bool (is_small_object o)) [
   | inr large ↦ let one = large_cells o large in omega arith
 ]
 
--- `quar` (a): the freed bit of an unreleased allocation's cell
-freed_if : (b : Bool) (a : PlacedAllocation) → a.freed ≡ true
-    → (if b then record a { freed = true; fresh = true } else a).freed ≡ true
-freed_if true a f = refl
-freed_if false a f = f
-
 pub freed_stays : (w : Words) (cell : Cell) (a : PlacedAllocation) → a.freed ≡ true
     → (freed_where_it_stands w (Some cell) a).freed ≡ true
-freed_stays w cell a f = freed_if _ a f
+freed_stays w cell a f = grind arith
 
 freed_by : (b : Bool) (a : PlacedAllocation) → (if b then record a { freed = true; fresh = true } else a).freed ≡ true
     → (b ≡ true) ⊎ (a.freed ≡ true)
