@@ -112,6 +112,13 @@ seats_kept : (c : Config) (v : View) (fs : List Flight) (gs : List ℕ) (i : Hol
     → Orderly c (record v { flights = fs; gates = gs; holding = i })
 seats_kept c v fs gs i h flights gates each served free stopped = grind arith
 
+-- where the turn is taken or given
+turn_kept : (c : Config) (v : View) (fs : List Flight) (t : ℕ) → Orderly c v → length fs ≡ c.callers → t ≤ 1 + c.callers
+    → AllShow c.callers t v.gates fs → (2 ≤ v.phase % 8 → v.phase % 8 ≤ 4 → t ≢ 0)
+    → (v.phase % 8 ≡ 3 → (k : ℕ) → k < c.callers → t ≢ 1 + k → gate_in v k ≡ 2)
+    → Orderly c (record v { flights = fs; turn = t; holding = nothing_done })
+turn_kept c v fs t h flights turn each cycle stopped = grind (arith, nothing_served)
+
 -- where the markers change, and how many of them are in, but not how far the phase is
 markers_kept : (c : Config) (v : View) (k : ℕ) (x : MarkerState) (p : ℕ) → Orderly c v → p % 8 ≡ v.phase % 8
     → p ≡ v.phase % 8 + 8 * count_in (slice_set v.markers k x)
@@ -155,42 +162,19 @@ kept c v seat n small h (Leaves {k} lt was) =
     (all_but_both c.callers v.turn k 0 v.gates v.flights at_rest (omega (arith, h.gates)) (omega (arith, h.flights))
     (λ e. absurd (omega arith), omega arith, λ e. refl, s.1) h.each)
     (others_served c v k at_rest h s.1) h.free (λ e b lb ne. absurd (omega (arith, g, h.stopped e k lt s.1)))
-kept c v seat n small h (Takes f z may) = record {
-  flights = flights_kept c v seat f h;
-  gates = h.gates;
-  markers = h.markers;
-  turn = omega (arith, taker_number c v seat f may);
-  each = all_but_seat c (1 + holder_number c seat) seat v.gates v.flights f (taker_shows c v seat f h z may)
-      (λ b lb ne. shows_taken (gate_in v b) b (holder_number c seat) (standing (flight_in v b)) ne
-      (rw z at (h.each b lb)));
-  served = nothing_served _ _;
-  free = λ e. absurd (omega arith);
-  phase = h.phase;
-  low = h.low;
-  cycle = λ a b e. absurd (omega arith);
-  stopped = λ e. absurd (h.cycle (omega arith) (omega arith) z);
-  attends = h.attends;
-  idle = h.idle;
-}
+kept c v seat n small h (Takes f z may) = turn_kept c v _ _ h (flights_kept c v seat f h)
+    (omega (arith, taker_number c v seat f may))
+    (all_but_seat c (1 + holder_number c seat) seat v.gates v.flights f (taker_shows c v seat f h z may)
+    (λ b lb ne. shows_taken (gate_in v b) b (holder_number c seat) (standing (flight_in v b)) ne (rw z at (h.each b lb))))
+    (λ a b e. absurd (omega arith)) (λ e. absurd (h.cycle (omega arith) (omega arith) z))
 kept c v seat n small h (Gives t none at) =
     let turn = turn_of c v seat h t in
-    record {
-      flights = flights_kept c v seat at_rest h;
-      gates = h.gates;
-      markers = h.markers;
-      turn = omega arith;
-      each = all_but_seat c 0 seat v.gates v.flights at_rest (giver_shows c v seat h t)
-          (λ b lb ne. shows_given v.turn (gate_in v b) b (holder_number c seat) (standing (flight_in v b)) ne turn
-          (none b lb) (h.each b lb));
-      served = nothing_served _ _;
-      free = λ e. refl;
-      phase = h.phase;
-      low = h.low;
-      cycle = λ a b. elim at [ inl l ↦ absurd (omega arith) | inr l ↦ absurd (omega arith) ];
-      stopped = λ e. elim at [ inl l ↦ absurd (omega arith) | inr l ↦ absurd (omega arith) ];
-      attends = h.attends;
-      idle = h.idle;
-    }
+    turn_kept c v _ 0 h (flights_kept c v seat at_rest h) (omega arith)
+    (all_but_seat c 0 seat v.gates v.flights at_rest (giver_shows c v seat h t)
+    (λ b lb ne. shows_given v.turn (gate_in v b) b (holder_number c seat) (standing (flight_in v b)) ne turn
+    (none b lb) (h.each b lb)))
+    (λ a b. elim at [ inl l ↦ absurd (omega arith) | inr l ↦ absurd (omega arith) ])
+    (λ e. elim at [ inl l ↦ absurd (omega arith) | inr l ↦ absurd (omega arith) ])
 kept c v seat n small h (Works f i t s) = grind (arith, turn_of, length_with, works_shown, works_served)
 kept c v seat n small h (Holds j t lj ne was) =
     let turn = turn_of c v seat h t in

@@ -1,13 +1,13 @@
 -- The steps of a New and of a Free on the terrain: `head`, `used`, `mark`.
-use Rattle.mk_laws.proofs.Vocabulary.{Among, AreApart, AsChosen, AsUsed, Bool, ByFit, Chosen, Claim, Config, Empties}
-use Rattle.mk_laws.proofs.Vocabulary.{GivesBack, Granted, Ground, HasLayout, InPlot, IsClaimedRun, IsLaidOn}
-use Rattle.mk_laws.proofs.Vocabulary.{IsNextHeader, IsOfOneCell, IsPlaced, IsPlotShown, IsSized, LayoutScene, List}
-use Rattle.mk_laws.proofs.Vocabulary.{Object, Option, Place, Placing, Plotted, RunPages, RunStands, Some, Unplaced}
-use Rattle.mk_laws.proofs.Vocabulary.{Used, World, ℕ, ap, append-nil, arith, cells_made, chosen, claims_of, claims_on}
-use Rattle.mk_laws.proofs.Vocabulary.{claims_placed, false, fewer_bits, ground_of, header_at, header_made, inl, inr}
-use Rattle.mk_laws.proofs.Vocabulary.{is_released_in, is_used_once, layout_scene_of, length, not, pages_made}
-use Rattle.mk_laws.proofs.Vocabulary.{pages_some, place_claim, plot_of, refl, small_pages, subst, sym, true}
-use Rattle.mk_laws.proofs.Vocabulary.{unmapped_header, [], ◌++◌, ◌+◌, ◌-◌, ◌<◌, ◌∙◌, ◌∷◌, ◌≡◌, ◌≢◌, ◌≤◌, ◌⊎◌}
+use Rattle.mk_laws.proofs.Vocabulary.{Among, AsChosen, AsUsed, Bool, ByFit, Chosen, Claim, Config, Empties, GivesBack}
+use Rattle.mk_laws.proofs.Vocabulary.{Granted, Ground, HasLayout, InPlot, IsClaimedRun, IsLaidOn, IsNextHeader}
+use Rattle.mk_laws.proofs.Vocabulary.{IsPlaced, IsPlotShown, IsSized, LayoutScene, List, Object, Option, Place, Placing}
+use Rattle.mk_laws.proofs.Vocabulary.{Plotted, RunPages, RunStands, Some, Unplaced, Used, World, ℕ, ap, append-nil}
+use Rattle.mk_laws.proofs.Vocabulary.{arith, cells_made, chosen, claims_of, claims_on, claims_placed, false, fewer_bits}
+use Rattle.mk_laws.proofs.Vocabulary.{ground_of, header_at, header_made, inl, inr, is_released_in, is_used_once}
+use Rattle.mk_laws.proofs.Vocabulary.{layout_scene_of, length, not, pages_made, pages_some, place_claim, plot_of, refl}
+use Rattle.mk_laws.proofs.Vocabulary.{small_pages, subst, sym, true, unmapped_header, [], ◌++◌, ◌+◌, ◌-◌, ◌<◌, ◌∙◌, ◌∷◌}
+use Rattle.mk_laws.proofs.Vocabulary.{◌≡◌, ◌≢◌, ◌≤◌, ◌⊎◌}
 use Rattle.mk_core.proofs.{PageSteps.Unmaps, ServingSteps.IsCellTaken, Sizes.cells_some}
 use Rattle.mk_laws.proofs.Placing.{layout_carved, layout_chosen, layout_taken}
 use Rattle.mk_laws.proofs.Releasing.{layout_emptied, layout_given_back, with_header_on, with_used_on}
