@@ -97,8 +97,21 @@ module _ (c : Config) (w : World) (p f n : ℕ) (lf : p < length w.now.words.fre
   pub drop_kept : HasQuarantine c true w.now.words.marks
       (record (ground_of w) { freed = slice_set w.now.words.freed p f; snapshot = slice_set w.now.words.snapshot p n })
   drop_kept =
-      grind (arith, least_set, f_small, n_small, within, stays, bit_cases, false_from_ne_true, was_freed, released_bits,
-      and_both, was_snap, still_released)
+      grind (
+        arith,
+        least_set,
+        f_small,
+        n_small,
+        within,
+        stays,
+        bit_cases,
+        false_from_ne_true,
+        was_freed,
+        released_bits,
+        and_both,
+        was_snap,
+        still_released,
+      )
 
 -- `quar` (b): the freed cells are the snapshot
 pub snapshot_kept : (c : Config) (marks : List ℕ) (t : Ground) (p : ℕ) → p < length t.snapshot
