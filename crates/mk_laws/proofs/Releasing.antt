@@ -148,10 +148,9 @@ layout_given_back s p n laid lt on gives kept = record {
     len = length-set s.pages p (record { header = header_on s.pages p; used = n })
 
     fewer : (q k : ℕ) → has_bit (used_on (with_used_on s.pages p n) q) k ≡ true → has_bit (used_on s.pages q) k ≡ true
-    fewer q k h = elim (cases_eq q p) [
-      | inl e ↦ grind (arith, used_here, with_used_on)
-      | inr ne ↦ rw (← (used_other s.pages p n q ne)) h
-    ]
+    fewer q k =
+        set_by (λ (x : Page). has_bit x.used k ≡ true → has_bit (used_on s.pages q) k ≡ true) s.pages p q _ free_page
+        (λ e h. rw e (gives.fewer k h)) (λ h. h)
 
     bit : (x : Claim) → Among x s.claims → has_bit (used_on s.pages x.page) x.index ≡ true
         → has_bit (used_on (with_used_on s.pages p n) x.page) x.index ≡ true

@@ -3,17 +3,17 @@ use Rattle.mk_laws.proofs.Vocabulary.{Among, Bool, Claim, Config, Empties, Fligh
 use Rattle.mk_laws.proofs.Vocabulary.{IsClaimed, IsLaidOn, ItCarves, ItEmpties, ItGivesBack, ItTakes, ItUnmaps, Later}
 use Rattle.mk_laws.proofs.Vocabulary.{LayoutScene, LayoutStands, List, NoPlot, Object, Option, Page, Plot, PlotStands}
 use Rattle.mk_laws.proofs.Vocabulary.{Plotted, Run, Seat, ShowsPart, Some, Step, UsedStep, Words, World, ℕ, ap, arith}
-use Rattle.mk_laws.proofs.Vocabulary.{cases_Bool, cases_eq, cells_under, false, fewer_bits, flight_of, found, has_bit}
-use Rattle.mk_laws.proofs.Vocabulary.{head_on, head_page, head_page_under, head_step, header_made, header_on, heads_run}
-use Rattle.mk_laws.proofs.Vocabulary.{inl, inr, is_phase, is_released_on, is_small_object, length, length-set}
-use Rattle.mk_laws.proofs.Vocabulary.{made_shows, object_now, pages_made, pages_some, plot_of, refl, run_count}
-use Rattle.mk_laws.proofs.Vocabulary.{shows_on, small_heads_none, stands, subst, suc, sym, true, true≢false, used_on}
-use Rattle.mk_laws.proofs.Vocabulary.{used_step, zero, ◌+◌, ◌-◌, ◌<◌, ◌∙◌, ◌≡◌, ◌≢◌, ◌⊎◌}
+use Rattle.mk_laws.proofs.Vocabulary.{cases_Bool, cases_eq, cells_under, false, fewer_bits, flight_of, found, free_page}
+use Rattle.mk_laws.proofs.Vocabulary.{has_bit, head_on, head_page, head_page_under, head_step, header_made, header_on}
+use Rattle.mk_laws.proofs.Vocabulary.{heads_run, inl, inr, is_phase, is_released_on, is_small_object, length}
+use Rattle.mk_laws.proofs.Vocabulary.{length-set, made_shows, object_now, pages_made, pages_some, plot_of, refl}
+use Rattle.mk_laws.proofs.Vocabulary.{run_count, set_by, shows_on, small_heads_none, stands, subst, suc, sym, true}
+use Rattle.mk_laws.proofs.Vocabulary.{true≢false, used_on, used_step, zero, ◌+◌, ◌-◌, ◌<◌, ◌∙◌, ◌≡◌, ◌≢◌, ◌⊎◌}
 use Rattle.mk_core.proofs.ObjectHeaders.{later_part}
 use Rattle.mk_laws.proofs.Basics.{Before, Meets, WorldBehind, claimed, headed_other, is_releasing_behind, none_set}
 use Rattle.mk_laws.proofs.Basics.{page_within, reg_leaves_ground, tally_ground, used_header, with_header_on}
 use Rattle.mk_laws.proofs.Basics.{with_used_on, zero_where_none}
-use Rattle.mk_laws.proofs.Releasing.{headed_here, headed_used, used_here, used_other}
+use Rattle.mk_laws.proofs.Releasing.{headed_here, headed_used}
 use Rattle.mk_laws.proofs.{Behind.phase_kind, Unmapping.part_count, Unmapping.small_count}
 use Rattle.mk_laws.specs.WholeRuns.{HasLaterPage, HaveWholeRuns, RunIsWhole, RunsAreWhole}
 
@@ -229,11 +229,8 @@ given_back w plot p n lt x whole q h =
     record { within = omega arith; later = λ d some near. page d (r.later d some (omega arith)) }
   where
     still : used_on w.pages q ≡ 0 → used_on (with_used_on w.pages p n) q ≡ 0
-    still z = elim (cases_eq q p) [
-      | inr ne ↦ used_other w.pages p n q ne ∙ z
-      | inl e ↦ rw e (used_here w.pages p n lt ∙ zero_where_none n (λ k bit. none_set _ k (rw (← e)
-          z) (fewer_bits n _ k x.fewer bit)))
-    ]
+    still z = set_by (λ (y : Page). y.used ≡ 0) w.pages p q _ free_page
+        (λ e. zero_where_none n (λ k bit. none_set _ k (rw (← e) z) (fewer_bits n _ k x.fewer bit))) z
 
     page : (d : ℕ) → HasLaterPage w.pages true plot q d → HasLaterPage (with_used_on w.pages p n) true plot q d
     page d (inl is) = inl (is.0, rw (used_header w.pages p n (q + d) lt) is.1)
