@@ -2,10 +2,10 @@
 use Rattle.mk_laws.proofs.Vocabulary.{Among, AreApart, Bool, Claim, Header, IsClaimed, IsLaidOn, IsShown, Later}
 use Rattle.mk_laws.proofs.Vocabulary.{LayoutScene, List, NoPlot, Option, Page, Plot, PlotStands, Plotted, Some, ℕ, ap}
 use Rattle.mk_laws.proofs.Vocabulary.{arith, cases_eq, cases_lt, cells_under, ends, false, free_page, get_or-set_other}
-use Rattle.mk_laws.proofs.Vocabulary.{get_or-set_same, get_or_past, has_bit, head_on, head_page_under, header_of}
-use Rattle.mk_laws.proofs.Vocabulary.{header_on, inl, inr, is_released_in, is_released_on, length, length-set}
-use Rattle.mk_laws.proofs.Vocabulary.{pages_made, refl, set_by, shows_on, slice_set, stands, sym, true, true≢false}
-use Rattle.mk_laws.proofs.Vocabulary.{used_on, ◌+◌, ◌-◌, ◌<◌, ◌∙◌, ◌≡◌, ◌≢◌, ◌⊎◌}
+use Rattle.mk_laws.proofs.Vocabulary.{get_or-set_same, get_or_past, has_bit, head_on, head_page_under, header_made}
+use Rattle.mk_laws.proofs.Vocabulary.{header_of, header_on, inl, inr, is_released_in, is_released_on, length}
+use Rattle.mk_laws.proofs.Vocabulary.{length-set, pages_made, refl, run_count, set_by, shows_on, slice_set, stands, sym}
+use Rattle.mk_laws.proofs.Vocabulary.{true, true≢false, used_on, ◌+◌, ◌-◌, ◌<◌, ◌∙◌, ◌≡◌, ◌≢◌, ◌⊎◌}
 use Rattle.mk_laws.proofs.LayoutReadings.{cellless_unused, claimed_used, free_unused, none_set, zero_where_none}
 use Rattle.mk_laws.proofs.ProtocolKept.{kept}
 
@@ -72,10 +72,8 @@ plot_emptied pages p NoPlot lt stands = stands
 plot_emptied pages p (Plotted first o) lt stands = record {
   sized = stands.sized;
   within = let len = length-set pages p (record { header = 0; used = used_on pages p }) in omega arith;
-  headers = λ d ld. elim (cases_eq (first + d) p) [
-    | inl e ↦ inl (rw e (headed_here pages p 0 lt))
-    | inr ne ↦ rw (headed_other pages p 0 (first + d) ne) (stands.headers d ld)
-  ];
+  headers = λ d ld. set_by (λ (x : Page). (x.header ≡ 0) ⊎ (x.header ≡ header_made o d)) pages p (first + d) _ free_page
+      (λ e. inl refl) (stands.headers d ld);
   used = λ d ld. headed_used pages p 0 (first + d) lt ∙ stands.used d ld;
 }
 
@@ -85,26 +83,20 @@ pub layout_emptied : (s : LayoutScene) (p : ℕ) → IsLaidOn s → p < length s
 layout_emptied s p laid lt on z = record {
   shown = λ x among. shown_beside s.pages p 0 x lt (laid.shown x among) (unclaimed s p laid z x among);
   apart = laid.apart;
-  used = λ q k h. elim (cases_eq q p) [
-    | inl e ↦ absurd (none_set (used_on s.pages p) k (unused_by (shows_on s.pages p) refl z) (rw (← e) (old q k h)))
-    | inr ne ↦ let t = laid.used q k (old q k h) in (
-      rw (ap (λ h. cells_under (header_of h)) (sym (headed_other s.pages p 0 q ne))) at t.0,
-      t.1,
-    )
-  ];
+  used = λ q k h. let t = laid.used q k (old q k h) in (
+    set_by (λ (x : Page). k < cells_under (header_of x.header)) s.pages p q _ free_page
+        (λ e. absurd (none_set _ k (unused_by (shows_on s.pages p) refl z) (rw (← e) (old q k h)))) t.0,
+    t.1,
+  );
   plot = plot_emptied s.pages p s.plot lt laid.plot;
   occupied = λ q some empty. inl on;
-  later = λ q d m is. elim (cases_eq q p) [
-    | inl e ↦ absurd (not_later m d (ap (shows_on (with_header_on s.pages p 0)) (sym e) ∙ is))
-    | inr ne ↦
-        let l = laid.later q d m (rw (← (headed_other s.pages p 0 q ne)) is) in (
-          l.0,
-          elim (cases_eq (q - d) p) [
-            | inl e ↦ inr (on, rw e (headed_here s.pages p 0 lt))
-            | inr other ↦ rw (headed_other s.pages p 0 (q - d) other) l.1
-          ],
-        )
-  ];
+  later = λ q d m is.
+      let l = laid.later q d m (set_by (λ (x : Page). header_of x.header ≡ Some (Later d m)
+      → shows_on s.pages q ≡ Some (Later d m)) s.pages p q _ free_page (λ e x. cc) (λ x. x) is) in (
+        l.0,
+        set_by (λ (x : Page). (d < run_count (header_of x.header)) ⊎ ((s.releasing ≡ true) × (x.header ≡ 0))) s.pages p
+            (q - d) _ free_page (λ e. inr (on, refl)) l.1,
+      );
 }
   where
     old : (q k : ℕ) → has_bit (used_on (with_header_on s.pages p 0) q) k ≡ true → has_bit (used_on s.pages q) k ≡ true
@@ -115,10 +107,6 @@ layout_emptied s p laid lt on z = record {
         → used_on s.pages p ≡ 0
     unused_by (Some (Later d m)) is z = cellless_unused s p laid (ap cells_under is)
     unused_by _ is z = z
-
-    not_later : (m : Bool) (d : ℕ) → shows_on (with_header_on s.pages p 0) p ≡ Some (Later d m) → ⊥
-    not_later m d is = let e : header_of 0 ≡ Some (Later d m) = ap header_of (sym (headed_here s.pages p 0 lt))
-        ∙ is in true≢false (let y : true ≡ false = cc in y)
 
 -- `used` (b): bits of released cells go
 abbrev GivenBack : LayoutScene → ℕ → ℕ → LayoutScene

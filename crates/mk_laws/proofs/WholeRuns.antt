@@ -2,10 +2,10 @@
 use Rattle.mk_laws.proofs.Vocabulary.{Among, Bool, Claim, Config, Empties, Flight, GivesBack, Header, HeadStep, InPlot}
 use Rattle.mk_laws.proofs.Vocabulary.{IsClaimed, IsLaidOn, ItCarves, ItEmpties, ItGivesBack, ItTakes, ItUnmaps, Later}
 use Rattle.mk_laws.proofs.Vocabulary.{LayoutScene, LayoutStands, List, NoPlot, Object, Option, Page, Plot, PlotStands}
-use Rattle.mk_laws.proofs.Vocabulary.{Plotted, Run, Seat, ShowsPart, Some, Step, UsedStep, Words, World, ℕ, ap, arith}
+use Rattle.mk_laws.proofs.Vocabulary.{Plotted, Run, Seat, ShowsPart, Some, Step, UsedStep, Words, World, ℕ, arith}
 use Rattle.mk_laws.proofs.Vocabulary.{cases_Bool, cases_eq, cells_under, false, fewer_bits, flight_of, found, free_page}
-use Rattle.mk_laws.proofs.Vocabulary.{has_bit, head_on, head_page, head_page_under, head_step, header_made, header_on}
-use Rattle.mk_laws.proofs.Vocabulary.{heads_run, inl, inr, is_phase, is_released_on, is_small_object, length}
+use Rattle.mk_laws.proofs.Vocabulary.{has_bit, head_on, head_page, head_page_under, head_step, header_made, header_of}
+use Rattle.mk_laws.proofs.Vocabulary.{header_on, heads_run, inl, inr, is_phase, is_released_on, is_small_object, length}
 use Rattle.mk_laws.proofs.Vocabulary.{length-set, made_shows, object_now, pages_made, pages_some, plot_of, refl}
 use Rattle.mk_laws.proofs.Vocabulary.{run_count, set_by, shows_on, small_heads_none, stands, subst, suc, sym, true}
 use Rattle.mk_laws.proofs.Vocabulary.{true≢false, used_on, used_step, zero, ◌+◌, ◌-◌, ◌<◌, ◌∙◌, ◌≡◌, ◌≢◌, ◌⊎◌}
@@ -197,25 +197,20 @@ emptied w plot p n lt x whole q h = elim (cases_eq q p) [
         let within = r.within in
         record {
           within = omega arith;
-          later = λ d some near. page d (cases_eq (q + d) p) (r.later d some (omega arith));
+          later = λ d some near. page d (r.later d some (omega arith));
         }
       where
-        page : (d : ℕ) → (q + d ≡ p) ⊎ (q + d ≢ p) → HasLaterPage w.pages true plot q d
-            → HasLaterPage (with_header_on w.pages p n) true plot q d
-        page d (inr away) (inl is) = inl (is.0, rw (headed_other w.pages p n (q + d) away) is.1)
-        page d (inr away) (inr free) = inr (
-          headed_other w.pages p n (q + d) away ∙ free.0,
-          headed_used w.pages p n q lt ∙ free.1,
-          free.2,
-        )
-        page d (inl at) (inr free) = inr (
-          ap (header_on (with_header_on w.pages p n)) at ∙ headed_here w.pages p n lt ∙ x.is,
-          headed_used w.pages p n q lt ∙ free.1,
-          free.2,
-        )
-        page d (inl at) (inl is) =
+        unused : (d : ℕ) → q + d ≡ p → HasLaterPage w.pages true plot q d → used_on w.pages q ≡ 0
+        unused d at (inr free) = free.1
+        unused d at (inl is) =
             let head : head_page w p ≡ q = rw (← at) (rw is.1 (let back : q + d - d ≡ q = omega arith in back)) in
-            grind (arith, with_header_on, headed_here, headed_used)
+            rw (← head) x.unused
+
+        page : (d : ℕ) → HasLaterPage w.pages true plot q d → HasLaterPage (with_header_on w.pages p n) true plot q d
+        page d l = set_by (λ (y : Page). ((m : Bool) × (header_of y.header ≡ Some (Later d m))) ⊎ ((y.header ≡ 0)
+            × (used_on (with_header_on w.pages p n) q ≡ 0) × ((true ≡ true) ⊎ InPlot plot q))) w.pages p (q + d) _
+            free_page (λ at. inr (x.is, headed_used w.pages p n q lt ∙ unused d at l, inl refl))
+            (elim l [ inl is ↦ inl is | inr free ↦ inr (free.0, headed_used w.pages p n q lt ∙ free.1, free.2) ])
 
 -- `used` (b)
 given_back : (w : Words) (plot : Plot) (p n : ℕ) → p < length w.pages → GivesBack w p n
