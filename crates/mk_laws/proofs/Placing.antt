@@ -2,10 +2,11 @@
 use Rattle.mk_laws.proofs.Vocabulary.{Among, AreApart, Bool, Claim, HasItsHead, InPlot, IsClaimed, IsLaidOn}
 use Rattle.mk_laws.proofs.Vocabulary.{IsOfOneCell, IsPlotShown, IsShown, IsSized, Later, LayoutScene, List, Mapped}
 use Rattle.mk_laws.proofs.Vocabulary.{NoPlot, Object, Page, Plotted, ShowsPart, Some, ℕ, ap, arith, cases_eq}
-use Rattle.mk_laws.proofs.Vocabulary.{cells_made, cells_under, false, has_bit, head_on, header_made, header_of}
-use Rattle.mk_laws.proofs.Vocabulary.{header_on, inl, inr, is_released_on, length, length-set, made_shows, pages_made}
-use Rattle.mk_laws.proofs.Vocabulary.{pages_some, part_cells, refl, run_count, shown_later, shows_on, stands, sym, true}
-use Rattle.mk_laws.proofs.Vocabulary.{true≢false, used_on, [], ◌++◌, ◌+◌, ◌-◌, ◌<◌, ◌^◌, ◌∙◌, ◌∷◌, ◌≡◌, ◌≢◌, ◌≤◌, ◌⊎◌}
+use Rattle.mk_laws.proofs.Vocabulary.{cells_made, cells_under, false, free_page, has_bit, head_on, header_made}
+use Rattle.mk_laws.proofs.Vocabulary.{header_of, header_on, inl, inr, is_released_on, length, length-set, made_shows}
+use Rattle.mk_laws.proofs.Vocabulary.{pages_made, pages_some, part_cells, refl, run_count, set_by, shown_later}
+use Rattle.mk_laws.proofs.Vocabulary.{shows_on, stands, sym, true, true≢false, used_on, [], ◌++◌, ◌+◌, ◌-◌, ◌<◌, ◌^◌}
+use Rattle.mk_laws.proofs.Vocabulary.{◌∙◌, ◌∷◌, ◌≡◌, ◌≢◌, ◌≤◌, ◌⊎◌}
 use Rattle.mk_core.proofs.WordBits.{added_here, added_other}
 use Rattle.mk_laws.proofs.LayoutReadings.{claimed_head, claimed_some, free_unused, none_set, zero_where_none}
 use Rattle.mk_laws.proofs.Releasing.{head_of_other, headed_here, headed_other, headed_used, shown_beside, used_header}
@@ -81,21 +82,17 @@ layout_carved s first o d laid plotted off next =
       shown = λ x among. shown_beside s.pages p n x lt (laid.shown x among)
           (λ e le at. claimed_some s.pages x e (laid.shown x among) le (ap (header_on s.pages) at ∙ was));
       apart = laid.apart;
-      used = λ q k h. elim (cases_eq q p) [
-        | inl e ↦ absurd (none_set (used_on s.pages p) k (free_unused s p laid was) (rw (← e) (old q k h)))
-        | inr ne ↦ let t = laid.used q k (old q k h) in (
-          rw (ap (λ h. cells_under (header_of h)) (sym (headed_other s.pages p n q ne))) at t.0,
-          t.1,
-        )
-      ];
+      used = λ q k h. let t = laid.used q k (old q k h) in (
+        set_by (λ (y : Page). k < cells_under (header_of y.header)) s.pages p q _ free_page
+            (λ e. absurd (none_set _ k (free_unused s p laid was) (rw (← e) (old q k h)))) t.0,
+        t.1,
+      );
       plot = record {
         sized = plot.sized;
         within = let len = length-set s.pages p (record { header = n; used = used_on s.pages p }) in let w =
             plot.within in omega arith;
-        headers = λ e le. elim (cases_eq e d) [
-          | inl same ↦ inr (rw same (headed_here s.pages p n lt ∙ rw (← same)))
-          | inr other ↦ rw (headed_other s.pages p n (first + e) (λ x. other (omega arith))) (plot.headers e le)
-        ];
+        headers = λ e le. set_by (λ (y : Page). (y.header ≡ 0) ⊎ (y.header ≡ header_made o e)) s.pages p (first + e) _
+            free_page (λ at. inr (ap (header_made o) (let same : d ≡ e = omega arith in same))) (plot.headers e le);
         used = λ e le. headed_used s.pages p n (first + e) lt ∙ plot.used e le;
       };
       occupied = λ q some empty. elim (cases_eq q p) [
