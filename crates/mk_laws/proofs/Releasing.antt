@@ -220,9 +220,5 @@ layout_ended s laid ends = record {
     by p k h (inl o) = o
     by p k h (inr r) = absurd (true≢false (sym r ∙ ends.none p k (with_bit p k h)))
 
-    not_free : (d : ℕ) (m : Bool) (p : ℕ) → shows_on s.pages p ≡ Some (Later d m) → header_on s.pages p ≢ 0
-    not_free d m p is z = let e = ap header_of (sym z) ∙ is in true≢false (let y : true ≡ false = cc in y)
-
     headless : (p d : ℕ) (m : Bool) → shows_on s.pages p ≡ Some (Later d m) → header_on s.pages (p - d) ≡ 0 → ⊥
-    headless p d m is z =
-        ends.settled p (inside p (not_free d m p is)) (not_free d m p is) (rw is (free_unused s (p - d) laid z))
+    headless p d m is z = grind (arith, inside, free_unused)

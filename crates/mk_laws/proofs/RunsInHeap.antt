@@ -1,11 +1,11 @@
 -- A mapped run that a header shows lies in the heap.
 use Rattle.std.proofs.Common.{unwrap_or}
 use Rattle.mk_laws.proofs.Vocabulary.{Bool, Config, Flight, Ground, List, None, Object, Option, Page, Place, Run}
-use Rattle.mk_laws.proofs.Vocabulary.{RunPages, Some, Words, World, ℕ, and_parts, arith, block_header, carves, empties}
-use Rattle.mk_laws.proofs.Vocabulary.{eqb-true, false, free_page, header_made, header_of, is_next_header}
-use Rattle.mk_laws.proofs.Vocabulary.{is_small_object, leb-true, object_made, pages_made, place_now, refl, run_header}
-use Rattle.mk_laws.proofs.Vocabulary.{run_pages_of, set_by, slice_index_or, slice_set, true, unmapped_header, unmaps}
-use Rattle.mk_laws.proofs.Vocabulary.{word_of, zero, ◌*◌, ◌+◌, ◌-◌, ◌<◌, ◌∙◌, ◌≡◌, ◌≤◌}
+use Rattle.mk_laws.proofs.Vocabulary.{RunPages, Some, Words, World, ℕ, and_parts, arith, carves, empties, eqb-true}
+use Rattle.mk_laws.proofs.Vocabulary.{false, free_page, header_made, header_of, is_next_header, is_small_object}
+use Rattle.mk_laws.proofs.Vocabulary.{leb-true, object_made, pages_made, place_now, refl, run_header, run_pages_of}
+use Rattle.mk_laws.proofs.Vocabulary.{set_by, slice_index_or, slice_set, true, unmapped_header, unmaps, word_of, zero}
+use Rattle.mk_laws.proofs.Vocabulary.{◌*◌, ◌+◌, ◌-◌, ◌<◌, ◌∙◌, ◌≡◌, ◌≤◌}
 use Rattle.mk_geom.{proofs.ClassTable.class_for-some, proofs.HeaderLemmas.word_of-header_of, specs.Classes.class_for}
 use Rattle.mk_laws.proofs.Ground.{Carves, Empties, GivesBack, GroundStep, TakesCell, Unmaps}
 use Rattle.mk_laws.proofs.{HeaderSteps.used_set, NewPlace.PlaceFits}
@@ -26,10 +26,6 @@ shown_word word count h = (word_of-header_of word (Run count true) h).1
 class_small : (words : ℕ) → unwrap_or (class_for words) 0 < 8
 class_small words = grind (arith, class_for-some)
 
-block_apart : (class count : ℕ) (leaf : Bool) → class < 8 → 9 + 16 * count ≡ word_of (block_header class leaf) → ⊥
-block_apart class count true lt e = omega arith
-block_apart class count false lt e = omega arith
-
 run_shown : (pages count distance : ℕ) (mapped leaf : Bool)
     → 9 + 16 * count ≡ word_of (run_header pages mapped leaf distance)
     → (mapped ≡ true) × (distance ≡ 0) × (count ≡ pages)
@@ -38,7 +34,7 @@ run_shown pages count x2 x3 leaf e = grind arith
 
 made_shown : (o : Object) (distance count : ℕ) → 9 + 16 * count ≡ header_made o distance
     → (is_small_object o ≡ false) × (distance ≡ 0) × (count ≡ run_pages_of o.words)
-made_shown o distance count e = grind (arith, block_apart, class_small, run_shown)
+made_shown o distance count e = grind (arith, class_small, run_shown)
 
 -- the header that is stored next, and its page
 pub record Next (first page value : ℕ) (wanted : ℕ → ℕ) : Type 0 where

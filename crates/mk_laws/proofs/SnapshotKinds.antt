@@ -16,7 +16,7 @@ use Rattle.mk_core.specs.StopConditions.{may_begin}
 use Rattle.mk_laws.proofs.Basics.{Before, LeavesCells, Meets, WorldBehind, all_stand, apart_left, bit_cases}
 use Rattle.mk_laws.proofs.Basics.{freeing_leaves, grants_new, holding_object, new_has_turn, placed_claim}
 use Rattle.mk_laws.proofs.Basics.{reg_leaves_ground, releasing_leaves, tally_ground}
-use Rattle.mk_laws.proofs.CyclePhases.{AsksPhase, phase_asked, phase_behind, phase_moves}
+use Rattle.mk_laws.proofs.CyclePhases.{phase_asked, phase_moves}
 use Rattle.mk_laws.proofs.QuarantineByKind.{frees_here, frees_some, shown_at}
 use Rattle.mk_laws.proofs.QuarantineChanges.{FreesHere, before_change, free_halves}
 use Rattle.mk_laws.proofs.{ForImages.numbers_apart, Granted.pushed_any, Granted.pushed_at, LayoutByKind.fresh_cells}
@@ -61,16 +61,11 @@ dropped_bits c w p f n i ls q d u = elim (bit_cases w.now.words.snapshot p n x.p
         let lost = d.gone x.index (rw (← at) b) a in
         grind (arith, and_both)
 
-cycling_at : (w : World) (n : ℕ) → is_phase w.now.words n ≡ true → is_cycling n ≡ false
-    → is_cycling (phase_of w.now.words) ≡ true → ⊥
-cycling_at w n at none on = true≢false (sym on ∙ rw (eqb-true _ n at) none)
-
 quar_none : (c : Config) (w : World) (f : Flight) (p n : ℕ) → p < length w.now.words.snapshot
     → cell_freed c.pages w.now.words f p n ≡ None → QuarantineStep c w.now f p n → IsQuarantined c w → KeepsSnapshot c w
     → HasSnapshot c (is_cycling (phase_of w.now.words)) (slice_set w.now.words.snapshot p (n / 2 ^ 32)) w.allocations
 quar_none c w f p n ls none (ItFrees off x) q s = absurd (frees_some c.pages w.now.words f p n off x none)
-quar_none c w f p n ls none (ItTakesSnapshot x) q s =
-    record { fresh = s.fresh; quarantined = λ on. absurd (cycling_at w 0 x.phase refl on) }
+quar_none c w f p n ls none (ItTakesSnapshot x) q s = grind (arith, eqb-true)
 quar_none c w f p n ls none (ItDrops four x) q s = record {
   fresh = s.fresh;
   quarantined = λ on i u.
@@ -151,13 +146,9 @@ is_cycling_behind Step.Begin b = true
 is_cycling_behind Step.End b = false
 is_cycling_behind _ b = b
 
-cycling_step : (x : Step) (p : ℕ) → AsksPhase x p → is_cycling (phase_behind x p) ≡ is_cycling_behind x (is_cycling p)
-cycling_step Step.Begin p asks = refl
-cycling_step x0 p asks = cc
-
 pub cycle_kind : (c : Config) (w : World) (seat : Seat) (x : Step) → Meets c w.now seat x
     → is_cycling (phase_of (WorldBehind c w seat x).now.words) ≡ is_cycling_behind x (is_cycling (phase_of w.now.words))
-cycle_kind c w seat x h = ap is_cycling (phase_moves c w.now seat x h) ∙ cycling_step x _ (phase_asked c w.now seat x h)
+cycle_kind c w seat x h = grind (arith, phase_moves, phase_asked)
 
 -- `begin`: what is freed is in the snapshot, and nothing is fresh
 begin_kind : (c : Config) (w : World) → Before c w → is_phase w.now.words 0 ≡ true

@@ -14,10 +14,6 @@ use Rattle.mk_laws.proofs.{Basics.known_world, Quarantines.snapshot_is_the_cycle
 
 -- the events from a `begin` on, as a part of the list
 
-pub at_event : (c : Config) (es : List Event) (kind : Step → Bool) (at : At kind es)
-    → left c es ≡ left_from c (left c at.before) (at.event ∷ at.behind)
-at_event c es kind at = ap (left c) at.is ∙ left_in_parts c at.before (at.event ∷ at.behind)
-
 pub enabled_at : (c : Config) (es : List Event) (kind : Step → Bool) (at : At kind es) → IsHistory c es
     → AreEnabledFrom c (left c at.before) (at.event ∷ at.behind)
 enabled_at c es kind at h = grind (arith, enabled_in_parts)
@@ -55,17 +51,13 @@ module _ (c : Config) (es : List Event) (h : IsHistory c es) (begin : At is_begi
   no_release = (either_kind begin.behind none).1
 
   since : left c es ≡ left_from c (left c begin.before) (begin.event ∷ begin.behind)
-  since = at_event c es is_begin begin
+  since = grind (arith, left_in_parts)
 
   phase : IsUnreleased (phase_of w.now.words)
   unfolding left_from
   phase =
       let on = enabled_at c es is_begin begin h in
       grind (arith, begun_world, no_release, since)
-
-  -- An allocation that was unreleased then is so, in its cell.
-  put : (i : ℕ) → (placed_at olds i).released ≡ false → StaysPut (placed_at olds i) (placed_at w.allocations i)
-  put i u = grind (arith, begin_is, no_release, olds, since, stays_put)
 
   all : KeepsTheInvariant c es
   all = histories_keep_the_invariant c es h
@@ -76,7 +68,7 @@ module _ (c : Config) (es : List Event) (h : IsHistory c es) (begin : At is_begi
 
   put_quarantined : (i : ℕ) → is_quarantined (placed_at olds i) ≡ true
       → StaysPut (placed_at olds i) (placed_at w.allocations i)
-  put_quarantined i q = grind (arith, olds, put, not-true, and_parts)
+  put_quarantined i q = grind (arith, olds, not-true, and_parts, begin_is, no_release, since, stays_put)
 
   same_cell : (i : ℕ) → is_quarantined (placed_at olds i) ≡ true
       → cell_of_allocation c (placed_at w.allocations i) ≡ cell_of_allocation c (placed_at olds i)
