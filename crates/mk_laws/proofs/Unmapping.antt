@@ -3,11 +3,11 @@ use Rattle.mk_laws.proofs.Vocabulary.{Among, AreApart, Bool, Claim, HasHeader, H
 use Rattle.mk_laws.proofs.Vocabulary.{IsOfOneCell, IsPlotShown, IsShown, Later, LayoutScene, List, Mode, NoPlot, Object}
 use Rattle.mk_laws.proofs.Vocabulary.{OfBlock, OfLater, OfLeafBlock, OfLeafRun, OfRun, Option, Page, Plot, PlotStands}
 use Rattle.mk_laws.proofs.Vocabulary.{Plotted, ShowsPart, Some, Unmapping, ℕ, ap, arith, cases_eq, cells_made}
-use Rattle.mk_laws.proofs.Vocabulary.{cells_under, false, head_on, header_made, header_of, header_on, inl, inr}
-use Rattle.mk_laws.proofs.Vocabulary.{is_released_on, is_small_object, large_cells, length, length-set, made_shows}
-use Rattle.mk_laws.proofs.Vocabulary.{pages_made, pages_some, part_cells, part_head, refl, run_count, shown_later}
-use Rattle.mk_laws.proofs.Vocabulary.{shows_on, stands, sym, true, true≢false, unmapped_header, used_on, ◌+◌, ◌-◌, ◌<◌}
-use Rattle.mk_laws.proofs.Vocabulary.{◌∙◌, ◌≡◌, ◌≢◌, ◌≤◌, ◌⊎◌}
+use Rattle.mk_laws.proofs.Vocabulary.{cells_under, false, free_page, head_on, header_made, header_of, header_on, inl}
+use Rattle.mk_laws.proofs.Vocabulary.{inr, is_released_on, is_small_object, large_cells, length, length-set, made_shows}
+use Rattle.mk_laws.proofs.Vocabulary.{pages_made, pages_some, part_cells, part_head, refl, run_count, set_by}
+use Rattle.mk_laws.proofs.Vocabulary.{shown_later, shows_on, stands, sym, true, true≢false, unmapped_header, used_on}
+use Rattle.mk_laws.proofs.Vocabulary.{◌+◌, ◌-◌, ◌<◌, ◌∙◌, ◌≡◌, ◌≢◌, ◌≤◌, ◌⊎◌}
 use Rattle.mk_core.proofs.ObjectHeaders.{later_part, same_cells, unmapped_shows}
 use Rattle.mk_laws.proofs.Releasing.{head_of_other, headed_here, headed_other, headed_used, shown_beside}
 use Rattle.mk_laws.proofs.Releasing.{with_header_on}
@@ -126,16 +126,12 @@ module _ (s : LayoutScene) (x : Claim) (d : ℕ) (laid : IsLaidOn s) (ix : Among
   }
 
   cells : (q : ℕ) → cells_under (shows_on after q) ≡ cells_under (shows_on s.pages q)
-  cells q = elim (cases_eq q p) [
-    | inl e ↦ rw e (rw here (same_cells x.object d (header_of n) _ new old ∙ rw (← e)))
-    | inr ne ↦ rw (headed_other s.pages p n q ne)
-  ]
+  cells q = set_by (λ (y : Page). cells_under (header_of y.header) ≡ cells_under (shows_on s.pages q)) s.pages p q _
+      free_page (λ e. same_cells x.object d (header_of n) _ new old ∙ rw e) refl
 
   counts : (q : ℕ) → run_count (shows_on after q) ≡ run_count (shows_on s.pages q)
-  counts q = elim (cases_eq q p) [
-    | inl e ↦ rw e (rw here (same_count x.object d (header_of n) _ new old large ∙ rw (← e)))
-    | inr ne ↦ rw (headed_other s.pages p n q ne)
-  ]
+  counts q = set_by (λ (y : Page). run_count (header_of y.header) ≡ run_count (shows_on s.pages q)) s.pages p q _
+      free_page (λ e. same_count x.object d (header_of n) _ new old large ∙ rw e) refl
 
   head : (q : ℕ) → head_on after q ≡ head_on s.pages q
   head q = grind (arith, here, part_head, new, old, head_of_other)
