@@ -75,11 +75,6 @@ module _ (c : Config) (es : List Event) (e : Event) (k : ℕ) (o : Object) (t : 
   goes_on : (place : Place) → ServedFirst c (Caller k) t o place → ServedFirst c (Caller k) (longer_turn t e on) o place
   goes_on place served = record { first = longer_first t e on served.first; fits = served.fits }
 
-  stays : event_serves c (left c es) e ≡ false → (place : Option Place) → HasPlace c (Caller k) t o place
-      → HasPlace c (Caller k) (longer_turn t e on) o place
-  stays none None has = grind (arith, left_in_turn, none_serves_more)
-  stays none (Some place) has = goes_on place has
-
   fixes : (place : Place) → event_serves c (left c es) e ≡ true → place_after c es o ≡ Some place
       → HasPlace c (Caller k) t o None → ServedFirst c (Caller k) (longer_turn t e on) o place
   fixes place is fits none =
@@ -91,7 +86,7 @@ module _ (c : Config) (es : List Event) (e : Event) (k : ℕ) (o : Object) (t : 
 
   place_more : (was now : Option Place) → PlacingStep c (left c es).now o (event_serves c (left c es) e) was now
       → FitsHere c es o → HasPlace c (Caller k) t o was → HasPlace c (Caller k) (longer_turn t e on) o now
-  place_more was now (Stays none same) fit has = to_place now was same (stays none was has)
+  place_more was now (Stays none same) fit has = grind (arith, to_place, left_in_turn, none_serves_more, goes_on)
   place_more was now (Fixes place is off at found empty there) fit has = to_place now (Some place) there
       (fixes place is (fit place off at found) (subst (HasPlace c (Caller k) t o) empty has))
   place_more was now (GoesOn place here there) fit has = to_place now (Some place) there
