@@ -92,10 +92,7 @@ layout_carved s first o d laid plotted off next =
         sized = plot.sized;
         within = let len = length-set s.pages p (record { header = n; used = used_on s.pages p }) in let w =
             plot.within in omega arith;
-        headers = λ e le. elim (cases_eq e d) [
-          | inl same ↦ inr (rw same (headed_here s.pages p n lt ∙ rw (← same)))
-          | inr other ↦ rw (headed_other s.pages p n (first + e) (λ x. other (omega arith))) (plot.headers e le)
-        ];
+        headers = λ e le. grind (arith, headed_here, headed_other);
         used = λ e le. headed_used s.pages p n (first + e) lt ∙ plot.used e le;
       };
       occupied = λ q some empty. elim (cases_eq q p) [
@@ -249,8 +246,7 @@ module _ (s : LayoutScene) (x : Claim) (n : ℕ) (laid : IsLaidOn s) (t : Takes 
   full : (q : ℕ) → InPlot (Plotted x.page x.object) q → used_on after (head_on after q) ≡ 0 → ⊥
   full q here empty =
       let at : x.page + (q - x.page) ≡ q = omega arith in
-      let head : head_on after q ≡ x.page = rw (← at) (claimed_head after x (q - x.page) own (omega arith)) in
-      none_set _ x.index (ap (used_on after) (sym head) ∙ empty) here_set
+      grind (arith, after, claimed_head, own, none_set, here_set)
 
   new : (y z : Claim) → Among y s.claims → Among z (x ∷ []) → IsOfOneCell y z → ⊥
   new y z i (inl e) same =
