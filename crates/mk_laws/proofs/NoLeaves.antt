@@ -55,7 +55,6 @@ stored_no_leaf c w n seat p v t early h cells = by (head_step c w.now _ p v h.ho
 
     by : HeadStep c w.now (flight_of w.now seat) p v → is_leaf_header (header_of v) ≡ false
     by (ItCarves four k) =
-        let from = k.next.from in
         let here : k.place.page + (p - k.place.page) ≡ p = omega arith in
         let place = (told_to_guard c w n t.known t.all).place early seat k.place k.there in
         elim (place.headers _ k.next.near) [

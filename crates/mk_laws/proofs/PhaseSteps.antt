@@ -1,8 +1,7 @@
 -- The phase along a cycle: it marks up to the `close`, and stays where it is up to the `release` and the `end`.
 use Rattle.mk_laws.proofs.Vocabulary.{Config, IsMarking, Moment, Seat, Step, ℕ, arith, cases_lt, false, inl, inr}
 use Rattle.mk_laws.proofs.Vocabulary.{is_begin, is_close, is_end, is_release, phase_of, ◌≡◌, ◌≤◌, ◌⊎◌}
-use Rattle.mk_laws.proofs.CyclePhases.{AsksPhase, IsMarking as IsMarkingPhase, marking_step, phase_asked, phase_behind}
-use Rattle.mk_laws.proofs.CyclePhases.{phase_moves}
+use Rattle.mk_laws.proofs.CyclePhases.{AsksPhase, IsMarking as IsMarkingPhase, phase_asked, phase_behind, phase_moves}
 use Rattle.mk_laws.proofs.Basics.{Behind, Meets, either_phase, is_grant}
 
 pub record GoesOnMarking (c : Config) (m : Moment) (seat : Seat) (x : Step) : Type 0 where
@@ -20,9 +19,7 @@ one_of n m = elim (cases_lt n 2) [ inl lt ↦ inl (omega (arith, m.least)) | inr
 -- While it marks, what isn't a `close` leaves it marking.
 pub marking_goes_on : (c : Config) (m : Moment) (seat : Seat) (x : Step) → IsMarking m.words → Meets c m seat x
     → is_close x ≡ false → GoesOnMarking c m seat x
-marking_goes_on c m seat x early h other =
-    let one = marking_step x _ (phase_asked c m seat x h) (within _ early) other in
-    grind (arith, one_of, phase_moves)
+marking_goes_on c m seat x early h other = grind (arith, one_of, phase_moves)
 
 -- After the `close` neither a `begin` nor a grant comes: the phase waits for the `release`, and then for the `end`.
 pub record Waits (c : Config) (m : Moment) (seat : Seat) (x : Step) (p : ℕ) : Type 0 where

@@ -246,8 +246,7 @@ module _ (s : LayoutScene) (x : Claim) (n : ℕ) (laid : IsLaidOn s) (t : Takes 
   full : (q : ℕ) → InPlot (Plotted x.page x.object) q → used_on after (head_on after q) ≡ 0 → ⊥
   full q here empty =
       let at : x.page + (q - x.page) ≡ q = omega arith in
-      let head : head_on after q ≡ x.page = rw (← at) (claimed_head after x (q - x.page) own (omega arith)) in
-      none_set _ x.index (ap (used_on after) (sym head) ∙ empty) here_set
+      grind (arith, after, claimed_head, own, none_set, here_set)
 
   new : (y z : Claim) → Among y s.claims → Among z (x ∷ []) → IsOfOneCell y z → ⊥
   new y z i (inl e) same =

@@ -3,10 +3,10 @@ use Rattle.std.proofs.Common.{Contains}
 use Rattle.mk_laws.proofs.Vocabulary.{Config, Cycle, Event, IsHistory, IsStorage, IsWordOf, List, OfHistories}
 use Rattle.mk_laws.proofs.Vocabulary.{PlacedAllocation, Releasing, Step, Storage, World, ℕ, and_parts, ap, append_assoc}
 use Rattle.mk_laws.proofs.Vocabulary.{arith, before_release, cases_lt, earlier_part_is_history, eqb-true, false, inl}
-use Rattle.mk_laws.proofs.Vocabulary.{inr, is_end, is_release, is_small, left, list_any, not, not-true, or_from}
-use Rattle.mk_laws.proofs.Vocabulary.{phase_of, placed_at, refl, standing_has_storage, stands_on, storage_is_of}
-use Rattle.mk_laws.proofs.Vocabulary.{storage_of, storage_words, subst, sym, through_release, true, true≢false}
-use Rattle.mk_laws.proofs.Vocabulary.{unreleased_storage, [], ◌%◌, ◌*◌, ◌++◌, ◌+◌, ◌==◌, ◌∙◌, ◌∷◌, ◌≡◌, ◌≤◌}
+use Rattle.mk_laws.proofs.Vocabulary.{inr, is_end, is_small, left, not, not-true, or_from, phase_of, placed_at, refl}
+use Rattle.mk_laws.proofs.Vocabulary.{standing_has_storage, stands_on, storage_is_of, storage_of, storage_words, subst}
+use Rattle.mk_laws.proofs.Vocabulary.{sym, through_release, true, unreleased_storage, [], ◌%◌, ◌*◌, ◌++◌, ◌+◌, ◌==◌}
+use Rattle.mk_laws.proofs.Vocabulary.{◌∙◌, ◌∷◌, ◌≡◌, ◌≤◌}
 use Rattle.mk_geom.proofs.Standing.{has_words, large_is_run, stands_parts}
 use Rattle.mk_geom.proofs.ListSearch.{find_cases, list_any_found}
 use Rattle.mk_geom.specs.Storages.{IsRun, is_cell_taken}
@@ -60,10 +60,7 @@ releasing_goes_on c start es e h other at =
     let m = one_more c es e h in
     let w : World = left c es in
     let waits = releasing_waits c w.now e.seat e.step at.phase m.meets other in
-    record {
-      phase = rw m.left waits.phase;
-      older = rw m.left (older_joined _ w.allocations _ at.older (older_behind c w e.seat e.step waits.granted));
-    }
+    grind (arith, older_joined, older_behind)
 
 -- what the `release`, and what comes up to the `end`, leave of the allocations before
 record Released (c : Config) {es : List Event} (k : Cycle es) : Type 0 where
@@ -90,7 +87,6 @@ released c es k h at =
     let along = along_without c is_end (WhileReleasing c start) start more (releasing_goes_on c start) whole
     k.end.none_before (record { phase = four; older = older_same _ }) in
     let last = one_more c (before_end k) k.end.at.event ending in
-    let v : World = left c (before_end k) in
     record {
       release = subst (λ (y : World). AreOlder w.allocations y.allocations) left_is
           (older_behind c w e.seat Step.Release refl);
@@ -106,8 +102,7 @@ kept_to_release c es k i h at u =
     let e : Event = k.release.at.event in
     let whole = earlier_part_is_history c _ (e ∷ []) (history_through c es _ k.release.at.behind e h (at_release k)) in
     rw b.is (kept_along c b.before (b.event ∷ b.behind) i (rw b.is at whole)
-    (or_from _ (list_any (λ (x : Event). is_release x.step) b.behind)
-    (ap is_release (begin_is b.event.step b.of_kind)) at.released) (record { there = is_there _ i u; unreleased = u }))
+    (grind (arith, or_from, begin_is)) (record { there = is_there _ i u; unreleased = u }))
 
 pub frees_the_untouched : OfHistories FreesTheUntouched
 frees_the_untouched c es h k unswept i quarantined untouched =
@@ -187,5 +182,4 @@ frees_the_untouched c es h k unswept i quarantined untouched =
         let other = same_word c (placed_at xs j) (placed_at zs j) n (older.same j (is_there xs j u))
         (subst (λ (y : Storage). IsWordOf y n) o.storage its) in
         let same = allocations_are_disjoint c (before_release r) before i j n kept.unreleased u mine other in
-        let gone = releases_the_untouched c es h r unswept i quarantined untouched in
-        true≢false (sym gone ∙ ap (λ l. (placed_at ys l).released) same ∙ done.end.was j o.unreleased)
+        grind (arith, releases_the_untouched, ys, released, done)
