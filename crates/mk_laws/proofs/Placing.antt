@@ -10,7 +10,7 @@ use Rattle.mk_laws.proofs.Vocabulary.{◌∙◌, ◌∷◌, ◌≡◌, ◌≢◌
 use Rattle.mk_core.proofs.WordBits.{added_here, added_other}
 use Rattle.mk_laws.proofs.LayoutReadings.{claimed_head, claimed_some, free_unused, none_set, zero_where_none}
 use Rattle.mk_laws.proofs.Releasing.{head_of_other, headed_here, headed_other, headed_used, shown_beside, used_header}
-use Rattle.mk_laws.proofs.Releasing.{used_here, used_other, with_header_on, with_used_on}
+use Rattle.mk_laws.proofs.Releasing.{used_here, with_header_on, with_used_on}
 use Rattle.mk_laws.proofs.Unmapping.{part_count}
 use Rattle.mk_laws.specs.LayoutScene.{IsTakenCell}
 
@@ -190,10 +190,8 @@ module _ (s : LayoutScene) (x : Claim) (n : ℕ) (laid : IsLaidOn s) (t : Takes 
   here_set = rw (used_here s.pages x.page n lt ∙ t.value) (added_here _ x.index t.unset)
 
   same_bit : (q k : ℕ) → (q ≡ x.page → k ≢ x.index) → has_bit (used_on after q) k ≡ has_bit (used_on s.pages q) k
-  same_bit q k other = elim (cases_eq q x.page) [
-    | inr ne ↦ rw (used_other s.pages x.page n q ne)
-    | inl e ↦ rw e (rw (used_here s.pages x.page n lt ∙ t.value) (added_other _ x.index k t.unset (other e) ∙ rw (← e)))
-  ]
+  same_bit q k other = set_by (λ (y : Page). has_bit y.used k ≡ has_bit (used_on s.pages q) k) s.pages x.page q _
+      free_page (λ e. rw t.value (added_other _ x.index k t.unset (other e) ∙ rw e)) refl
 
   grow : (q k : ℕ) → has_bit (used_on s.pages q) k ≡ true → has_bit (used_on after q) k ≡ true
   grow q k h = same_bit q k (λ e ek. true≢false (sym h ∙ rw e (rw ek t.unset))) ∙ h
