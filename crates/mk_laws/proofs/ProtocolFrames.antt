@@ -4,11 +4,11 @@ use Rattle.mk_laws.proofs.Vocabulary.{AreEnabledFrom, AreOfOthers, Caller, Confi
 use Rattle.mk_laws.proofs.Vocabulary.{IsLeft, List, Marker, MarkerState, Moment, Named, OnlyGrow, Protocol, Seat, Stage}
 use Rattle.mk_laws.proofs.Vocabulary.{Steady, Step, Store, Tally, TurnIsLeft, Word, Words, World, ℕ, accessed, ap}
 use Rattle.mk_laws.proofs.Vocabulary.{arith, at_rest, calls_from, cases_lt, d_of, enabled_meets, enabled_parts, ends}
-use Rattle.mk_laws.proofs.Vocabulary.{eq-eqb, false, false≢true, first_world, flight_of, get_or-set_other, get_or_past}
-use Rattle.mk_laws.proofs.Vocabulary.{header_in, inl, inr, is_attending, is_in, is_one_of, is_unmapped_header, left}
-use Rattle.mk_laws.proofs.Vocabulary.{left_append, left_from, marker_at, others_are_held, outside, refl, reg_access}
-use Rattle.mk_laws.proofs.Vocabulary.{register_met, slice_index, slice_set, sym, true, world_behind, [], ◌*◌, ◌++◌, ◌+◌}
-use Rattle.mk_laws.proofs.Vocabulary.{◌/◌, ◌<◌, ◌∙◌, ◌∷◌, ◌≡◌, ◌≢◌, ◌≤◌}
+use Rattle.mk_laws.proofs.Vocabulary.{eq-eqb, false, first_world, flight_of, get_or-set_other, get_or_past, header_in}
+use Rattle.mk_laws.proofs.Vocabulary.{inl, inr, is_attending, is_in, is_one_of, is_unmapped_header, left, left_append}
+use Rattle.mk_laws.proofs.Vocabulary.{left_from, marker_at, others_are_held, outside, refl, reg_access, register_met}
+use Rattle.mk_laws.proofs.Vocabulary.{slice_index, slice_set, sym, true, world_behind, [], ◌*◌, ◌++◌, ◌+◌, ◌/◌, ◌<◌}
+use Rattle.mk_laws.proofs.Vocabulary.{◌∙◌, ◌∷◌, ◌≡◌, ◌≢◌, ◌≤◌}
 use Rattle.mk_core.proofs.{Histories.calls_append, RegisterAccesses.tally_leaves_registers}
 use Rattle.mk_core.specs.Frames.{Attends, CountsAreLeft, HoldsAll, IsIn, OthersLeave, OwnIsLeft, ScanIsLeft, written_of}
 use Rattle.mk_core.specs.{Growing.is_same_seat, Readings.is_in_call}
@@ -110,8 +110,7 @@ pub in_call_stands : (c : Config) (m : Moment) (k : ℕ) → Known c m → is_in
     → (k < c.callers) × (standing (flight_of m (Caller k)) ≡ InCall)
 in_call_stands c m k known is = elim (cases_lt k c.callers) [
   | inl lt ↦ grind (arith, in_call_is, standing, in_call_told, not_astray)
-  | inr past ↦ absurd (false≢true (ap is_in_call (sym (get_or_past m.seats.flights k at_rest
-      (omega (arith, known.orderly.flights)))) ∙ is))
+  | inr past ↦ grind (arith, get_or_past)
 ]
 
 -- and whose gate is 1
@@ -181,11 +180,7 @@ left_joined c s w u v a b = record {
   mapped = λ call p is. b.mapped (still_calls c s w u a.own call) p (a.mapped call p is);
   turn = λ holds. turn_joined w u v (a.turn holds) (b.turn (a.own.holding holds).0);
   stop = λ all. b.stop (still_stopped c s w u a all) ∙ a.stop all;
-  scan = λ att.
-      let y = b.scan (still_attends c s w u a.own att) in (
-        grows_joined w.now.words.marks u.now.words.marks v.now.words.marks (a.scan att).0 y.0,
-        grows_joined w.now.words.blacks u.now.words.blacks v.now.words.blacks (a.scan att).1 y.1,
-      );
+  scan = grind (arith, still_attends, grows_joined);
 }
 
 -- the list goes on with events of others

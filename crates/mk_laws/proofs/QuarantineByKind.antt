@@ -71,7 +71,6 @@ frees_here c w seat p n cell b h laid x =
     let index : (cell_of_allocation c a).index ≡ cell.index = ap (λ (y : Cell). y.index) own.is in
     let page = x.page in
     let lt = ltb-true p c.pages h.range in
-    let g = b.lengths.snapshot in
     let turn = free_has_turn c w.now seat h.seat x.free in
     record {
       page = omega arith;

@@ -44,8 +44,7 @@ release_kept c w limits stand q = record {
   within = q.within;
   owned = λ p k h. owned p k (q.owned p k h);
   shown = λ i u f.
-      let b = before_change c _ w.allocations i leaves u in
-      cc (b.cell, q.shown i b.was (ap (λ (x : PlacedAllocation). x.freed) (sym b.now) ∙ f));
+      grind (arith, before_change);
   taken = q.taken;
   kept = grind (arith, before_change, left_is);
 }
@@ -77,8 +76,7 @@ begin_kept c releasing marks t q = record {
       grind (arith, before_change, fresh_cells);
   taken = q.taken;
   kept = λ on i u.
-      let b = before_change c no_longer_fresh t.allocations i fresh_cells u in
-      ap (λ (x : Cell). is_released_in true t.snapshot marks x.page x.index) b.cell ∙ q.kept on i b.was;
+      grind (arith, before_change, fresh_cells);
 }
 
 -- `grant`
