@@ -120,7 +120,8 @@ pub new_from : (c : Config) (v : View) (seat : Seat) (n : View) (j : ℕ) → Mo
     ⊎ ((v.turn ≡ 0) × (n.turn ≡ 1 + holder_number c seat) × (held_place n.holding.placing ≡ None))
 new_from c v seat n j (Enters {k} f lt z was is) new =
     inl (set_new v.flights k j f (λ x. absurd (call_no_new f is x)) new)
-new_from c v seat n j (GoesOn {k} f lt was is) new = inl (set_new v.flights k j f (λ x. absurd (call_no_new f is x)) new)
+new_from c v seat n j (GoesOn {k} f lt was is) new =
+    inl (set_new v.flights k j f (λ x. absurd (call_no_new f is x)) new)
 new_from c v seat n j (Leaves {k} lt was) new = inl (set_new v.flights k j at_rest (λ x. cc) new)
 new_from c v seat n j (Takes f z may) new = inr (z, refl, refl)
 new_from c v seat n j (GivesTurn t none at) new = inl (set_call v.flights seat j at_rest (λ x. cc) new)

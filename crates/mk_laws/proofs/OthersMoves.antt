@@ -153,7 +153,8 @@ marker_out c w k Step.Mblack known lt g h =
 marker_out c w k _ known lt g h = cc
 
 -- any seat that doesn't hold the turn, and takes none that is free
-moves_out : (c : Config) (w : World) (seat : Seat) (x : Step) → Known c w.now → (is_take x ≡ true → w.now.words.turn ≢ 0)
+moves_out : (c : Config) (w : World) (seat : Seat) (x : Step) → Known c w.now
+    → (is_take x ≡ true → w.now.words.turn ≢ 0)
     → (HoldsTurn c (view_of w.now) seat → ⊥) → Meets c w.now seat x → OthersMove c w seat (WorldBehind c w seat x)
 moves_out c w seat x known held out h = by seat x (actor_of c w.now seat x known.orderly h) held out h
   where

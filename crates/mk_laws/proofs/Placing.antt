@@ -214,7 +214,7 @@ module _ (s : LayoutScene) (x : Claim) (n : ℕ) (laid : IsLaidOn s) (t : Takes 
         let cells = cells_here in (
           rw (ap (λ h. cells_under (header_of h)) (used_header s.pages x.page n p lt)
               ∙ ap (λ i. cells_under (shows_on s.pages i)) at.0 ∙ cells) (let e = at.1 in omega (arith, t.index)),
-          inl (record { claim = x; among = among_back s.claims (x ∷ []) x (inl refl); page = sym at.0; index = sym at.1 }),
+          inl (record { claim = x; among = among_back s.claims _ x (inl refl); page = sym at.0; index = sym at.1 }),
         )
     | inr other ↦
         let was = laid.used p k (sym (same_bit p k other) ∙ h) in (
@@ -233,7 +233,7 @@ module _ (s : LayoutScene) (x : Claim) (n : ℕ) (laid : IsLaidOn s) (t : Takes 
           → IsClaimed (s.claims ++ x ∷ []) p k ⊎ (is_released_on s p k ≡ true)
       owner p k (inr r) = inr r
       owner p k (inl o) = inl
-          (record { claim = o.claim; among = among_front s.claims (x ∷ []) o.claim o.among; page = o.page; index = o.index })
+          (record { claim = o.claim; among = among_front s.claims _ o.claim o.among; page = o.page; index = o.index })
 
   unused : (q : ℕ) → used_on after (head_on after q) ≡ 0 → used_on s.pages (head_on s.pages q) ≡ 0
   unused q empty =

@@ -165,7 +165,8 @@ kept c v seat n small h (Leaves {k} lt was) =
 kept c v seat n small h (Takes f z may) = turn_kept c v _ _ h (flights_kept c v seat f h)
     (omega (arith, taker_number c v seat f may))
     (all_but_seat c (1 + holder_number c seat) seat v.gates v.flights f (taker_shows c v seat f h z may)
-    (λ b lb ne. shows_taken (gate_in v b) b (holder_number c seat) (standing (flight_in v b)) ne (rw z at (h.each b lb))))
+    (λ b lb ne. shows_taken (gate_in v b) b (holder_number c seat) (standing (flight_in v b)) ne
+    (rw z at (h.each b lb))))
     (λ a b e. absurd (omega arith)) (λ e. absurd (h.cycle (omega arith) (omega arith) z))
 kept c v seat n small h (Gives t none at) =
     let turn = turn_of c v seat h t in

@@ -39,7 +39,8 @@ own_came : (c : Config) (w : World) (k : ℕ) (x : Step) → Known c w.now → M
     → HasNew (WorldBehind c w (Caller k) x) k → NewCame c w (Caller k) x k
 own_came c w k x known h new =
     let v : World = WorldBehind c w (Caller k) x in
-    elim (new_from c (view_of w.now) (Caller k) (view_of v.now) k (event_moves c w.now (Caller k) x known.orderly h) new) [
+    let move = event_moves c w.now (Caller k) x known.orderly h in
+    elim (new_from c (view_of w.now) (Caller k) (view_of v.now) k move new) [
       | inl same ↦ WasNew same
       | inr free ↦
           let take = taken_by_take c w (Caller k) x k free.0 free.1 in
