@@ -2,18 +2,18 @@
 use Rattle.std.proofs.Common.{leb-false}
 use Rattle.mk_laws.proofs.Vocabulary.{Bool, Caller, Chosen, Config, Flight, Granted, Ground, Holding, List, Moment}
 use Rattle.mk_laws.proofs.Vocabulary.{None, Object, Op, Option, Page, Place, Placing, Seat, Some, Stage, Step, Unplaced}
-use Rattle.mk_laws.proofs.Vocabulary.{Used, World, ℕ, ap, at_rest, cases_eq, cases_lt, chosen, false, flight_of}
-use Rattle.mk_laws.proofs.Vocabulary.{get_or-set_other, get_or-set_same, if◌then◌else◌, inl, inr, is_new_at}
-use Rattle.mk_laws.proofs.Vocabulary.{is_small_object, is_undecided_new, length, ltb-true, object_made}
-use Rattle.mk_laws.proofs.Vocabulary.{place_by_placing, place_now, place_on_pages, refl, run_pages_of, set_past}
-use Rattle.mk_laws.proofs.Vocabulary.{slice_index_or, slice_set, sym, taken, true, ◌+◌, ◌<◌, ◌∙◌, ◌≡◌, ◌≤◌, ◌⊎◌}
+use Rattle.mk_laws.proofs.Vocabulary.{Used, World, ℕ, ap, at_rest, chosen, false, flight_of, holder_number}
+use Rattle.mk_laws.proofs.Vocabulary.{if◌then◌else◌, inl, inr, is_new_at, is_small_object, is_undecided_new, length}
+use Rattle.mk_laws.proofs.Vocabulary.{ltb-true, none-some, object_made, place_by_placing, place_now, place_on_pages}
+use Rattle.mk_laws.proofs.Vocabulary.{refl, run_pages_of, set_by, slice_index_or, slice_set, sym, taken, true, ◌+◌, ◌<◌}
+use Rattle.mk_laws.proofs.Vocabulary.{◌∙◌, ◌≡◌, ◌≤◌, ◌⊎◌}
 use Rattle.mk_geom.proofs.FirstFit.{run_place_is}
 use Rattle.mk_laws.proofs.Ground.{Carves, Gives, Grants, GroundStep, Places, Starts, TakesCell, Unmaps, ground_step}
 use Rattle.mk_laws.proofs.OrderlyLists.{event_moves}
 use Rattle.mk_laws.proofs.ProtocolMoves.{Enters, Gives as GivesTurn, GoesOn, Leaves, Move, Takes, Works}
 use Rattle.mk_laws.proofs.Services.{Goes, Loads, Places as PlacesNew, Service}
 use Rattle.mk_laws.proofs.Standings.{InCall, UnderTurn, standing}
-use Rattle.mk_laws.proofs.Views.{HoldsTurn, View, flight_at, flight_in, flights_with, view_of}
+use Rattle.mk_laws.proofs.Views.{View, flight_at, flight_in, flights_with, view_of}
 use Rattle.mk_laws.proofs.{Actors.Meets, Known.Known, Orderly.same_holder, OthersMoves.WorldBehind, Stages.new_stands}
 
 abbrev pub held_place : Placing → Option Place
@@ -83,18 +83,13 @@ ground_place c w f g x _ h = inl h
 
 -- an undecided New is one that was there, or there is no place
 
-set_new : (fs : List Flight) (k j : ℕ) (f : Flight) → (is_undecided_new f ≡ true → f ≡ slice_index_or fs k at_rest)
+pub set_new : (fs : List Flight) (k j : ℕ) (f : Flight)
+    → (is_undecided_new f ≡ true → f ≡ slice_index_or fs k at_rest)
     → is_undecided_new (slice_index_or (slice_set fs k f) j at_rest) ≡ true
     → slice_index_or (slice_set fs k f) j at_rest ≡ slice_index_or fs j at_rest
-set_new fs k j f same new = elim (cases_eq j k) [
-  | inl e ↦ elim (cases_lt k (length fs)) [
-    | inl lt ↦
-        let now : slice_index_or (slice_set fs k f) j at_rest ≡ f = rw e (get_or-set_same fs k f at_rest lt) in
-        now ∙ same (rw (← now) new) ∙ ap (λ i. slice_index_or fs i at_rest) (sym e)
-    | inr past ↦ rw (set_past fs k f past)
-  ]
-  | inr ne ↦ get_or-set_other fs k j f at_rest ne
-]
+set_new fs k j f same =
+    set_by (λ (g : Flight). is_undecided_new g ≡ true → g ≡ slice_index_or fs j at_rest) fs k j f at_rest
+    (λ e new. same new ∙ ap (λ i. slice_index_or fs i at_rest) (sym e)) (λ new. refl)
 
 pub call_no_new : (f : Flight) → standing f ≡ InCall → is_undecided_new f ≡ true → ⊥
 call_no_new f is new = let e : InCall ≡ UnderTurn = sym is ∙ new_stands f.stage f.op new in absurd (apart e)
@@ -112,22 +107,31 @@ service_new f h g i (Loads _ at stands no_new) new = let e : true ≡ false = sy
 service_new f h g i (PlacesNew _ was p q) new = refl
 service_new f h g i _ new = absurd (give_no_new f.op new)
 
+-- the call of a seat is set, if it has one
+set_call : (fs : List Flight) (s : Seat) (j : ℕ) (f : Flight) → (is_undecided_new f ≡ true → f ≡ flight_at fs s)
+    → is_undecided_new (slice_index_or (flights_with fs s f) j at_rest) ≡ true
+    → slice_index_or (flights_with fs s f) j at_rest ≡ slice_index_or fs j at_rest
+set_call fs (Caller k) j f same new = set_new fs k j f same new
+set_call fs _ j f same new = refl
+
+-- it was so, or the turn was free and is taken
+pub new_from : (c : Config) (v : View) (seat : Seat) (n : View) (j : ℕ) → Move c v seat n
+    → is_undecided_new (flight_in n j) ≡ true → (flight_in n j ≡ flight_in v j)
+    ⊎ ((v.turn ≡ 0) × (n.turn ≡ 1 + holder_number c seat) × (held_place n.holding.placing ≡ None))
+new_from c v seat n j (Enters {k} f lt z was is) new =
+    inl (set_new v.flights k j f (λ x. absurd (call_no_new f is x)) new)
+new_from c v seat n j (GoesOn {k} f lt was is) new =
+    inl (set_new v.flights k j f (λ x. absurd (call_no_new f is x)) new)
+new_from c v seat n j (Leaves {k} lt was) new = inl (set_new v.flights k j at_rest (λ x. cc) new)
+new_from c v seat n j (Takes f z may) new = inr (z, refl, refl)
+new_from c v seat n j (GivesTurn t none at) new = inl (set_call v.flights seat j at_rest (λ x. cc) new)
+new_from c v seat n j (Works f i t s) new = inl (set_call v.flights seat j f (service_new _ v.holding f i s) new)
+new_from c v seat n j _ new = inl refl
+
 pub new_was : (c : Config) (v : View) (seat : Seat) (n : View) (j : ℕ) → Move c v seat n
     → is_undecided_new (flight_in n j) ≡ true → (flight_in n j ≡ flight_in v j) ⊎ (held_place n.holding.placing ≡ None)
-new_was c v seat n j (Enters {k} f lt z was is) new =
-    inl (set_new v.flights k j f (λ x. absurd (call_no_new f is x)) new)
-new_was c v seat n j (GoesOn {k} f lt was is) new = inl (set_new v.flights k j f (λ x. absurd (call_no_new f is x)) new)
-new_was c v seat n j (Leaves {k} lt was) new = inl (set_new v.flights k j at_rest (λ x. cc) new)
-new_was c v seat n j (Takes f z may) new = inr refl
-new_was c v seat n j (GivesTurn t none at) new = inr refl
-new_was c v seat n j (Works f i t s) new = inl (by seat t s new)
-  where
-    by : (s : Seat) → HoldsTurn c v s → Service (flight_at v.flights s) v.holding f i
-        → is_undecided_new (slice_index_or (flights_with v.flights s f) j at_rest) ≡ true
-        → slice_index_or (flights_with v.flights s f) j at_rest ≡ flight_in v j
-    by (Caller k) t s new = set_new _ k j f (service_new _ _ f i s) new
-    by _ t s new = cc
-new_was c v seat n j _ new = inl refl
+new_was c v seat n j move new =
+    elim (new_from c v seat n j move new) [ inl same ↦ inl same | inr taken ↦ inr taken.2 ]
 
 -- the seat of an undecided New holds the turn
 pub new_holds : (c : Config) (m : Moment) (seat : Seat) (x : Step) → Meets c m seat x
@@ -151,15 +155,12 @@ pub places_behind : (c : Config) (w : World) (seat : Seat) (x : Step) → Known 
 places_behind c w seat x known count fits h k lt new place held =
     elim (new_was c (view_of w.now) seat (view_of (WorldBehind c w seat x).now) k
     (event_moves c w.now seat x known.orderly h) new) [
-      | inr none ↦ let e : None ≡ Some place = sym none ∙ held in absurd (none_some e)
+      | inr none ↦ let e : None ≡ Some place = sym none ∙ held in absurd (none-some _ e)
       | inl same ↦
           let was : is_undecided_new (flight_of w.now (Caller k)) ≡ true = rw (← same) new in
           rw same (before was (ground_place c w (flight_of w.now seat) _ place (ground_step c w seat x h) held))
     ]
   where
-    none_some : None ≡ Some place → ⊥
-    none_some e = cc
-
     before : is_undecided_new (flight_of w.now (Caller k)) ≡ true
         → (held_place w.now.seats.holding.placing ≡ Some place)
         ⊎ (place_now c w.now (flight_of w.now seat) ≡ Some place) → PlaceFits c (flight_of w.now (Caller k)).op place

@@ -1,13 +1,12 @@
 -- Pages where no leaf begins, and that they stay so while they show cells.
 use Rattle.mk_laws.proofs.Vocabulary.{Config, Header, HeadStep, IsMarking, ItCarves, ItEmpties, ItUnmaps, LeafBlock}
 use Rattle.mk_laws.proofs.Vocabulary.{NeverState, Object, Option, Page, PlacedAllocation, Seat, Some, Step, World, ℕ}
-use Rattle.mk_laws.proofs.Vocabulary.{ap, arith, cases_eq, cells_under, eqb-true, false, first_page_shows, flight_of}
-use Rattle.mk_laws.proofs.Vocabulary.{free_page, get_or-set_other, get_or-set_same, has_no_pointers, head_step}
-use Rattle.mk_laws.proofs.Vocabulary.{header_at, header_in, header_made, header_of, inl, inr, is_leaf_header, is_mapped}
-use Rattle.mk_laws.proofs.Vocabulary.{is_unmapped_header, large_count, length, ltb-true, made_is_mapped, object_made}
-use Rattle.mk_laws.proofs.Vocabulary.{object_placed, or_parts, pages_some, part_has_no_pointers, placed_at, refl, shown}
-use Rattle.mk_laws.proofs.Vocabulary.{slice_index_or, slice_set, storage_of, subst, sym, true, unmapped_is_unmapped}
-use Rattle.mk_laws.proofs.Vocabulary.{used_at, ◌+◌, ◌-◌, ◌/◌, ◌∙◌, ◌≡◌, ◌≢◌}
+use Rattle.mk_laws.proofs.Vocabulary.{ap, arith, cells_under, eqb-true, false, first_page_shows, flight_of, free_page}
+use Rattle.mk_laws.proofs.Vocabulary.{has_no_pointers, head_step, header_at, header_in, header_made, header_of, inl}
+use Rattle.mk_laws.proofs.Vocabulary.{inr, is_leaf_header, is_mapped, is_unmapped_header, large_count, length}
+use Rattle.mk_laws.proofs.Vocabulary.{made_is_mapped, object_made, object_placed, or_parts, pages_some}
+use Rattle.mk_laws.proofs.Vocabulary.{part_has_no_pointers, placed_at, refl, set_by, shown, storage_of, subst, sym}
+use Rattle.mk_laws.proofs.Vocabulary.{true, unmapped_is_unmapped, ◌+◌, ◌-◌, ◌/◌, ◌∙◌, ◌≡◌, ◌≢◌}
 use Rattle.mk_core.proofs.ChangedAllocations.{granted_at}
 use Rattle.mk_laws.proofs.Basics.{Came, IsNew, Meets, Stayed, WorldBehind, headers_kind, is_head}
 use Rattle.mk_laws.proofs.Precise.{HasNoLeaf, Steps, came_behind, precision_scene_of, same_leaf}
@@ -56,7 +55,6 @@ stored_no_leaf c w n seat p v t early h cells = by (head_step c w.now _ p v h.ho
 
     by : HeadStep c w.now (flight_of w.now seat) p v → is_leaf_header (header_of v) ≡ false
     by (ItCarves four k) =
-        let from = k.next.from in
         let here : k.place.page + (p - k.place.page) ≡ p = omega arith in
         let place = (told_to_guard c w n t.known t.all).place early seat k.place k.there in
         elim (place.headers _ k.next.near) [
@@ -66,12 +64,7 @@ stored_no_leaf c w n seat p v t early h cells = by (head_step c w.now _ p v h.ho
         ]
     by (ItUnmaps four u) =
         let r = (told_to_guard c w n t.known t.all).freed early u.run u.there in
-        let range = large_count r.object r.sized r.large in
-        let low = range.0 in
-        let high = range.1 in
-        let count = r.count in
-        ap (λ y. is_leaf_header (header_of y)) u.next.is ∙ unmapped_no_leaf _
-        (unmapped_is_unmapped u.run.count (p - u.run.page) (omega arith, omega arith) u.next.near)
+        grind (arith, large_count, unmapped_no_leaf, unmapped_is_unmapped)
     by (ItEmpties four k) =
         let z = eqb-true _ 4 four in
         elim early [ inl e ↦ absurd (omega arith) | inr e ↦ absurd (omega arith) ]
@@ -82,21 +75,12 @@ module _ (c : Config) (w : World) (n : NeverState) (seat : Seat) (x : Step) (aft
       → is_leaf_header (header_in (WorldBehind c w seat x).now.words p) ≡ false
   header_behind p cells none = by x refl s.meets
     where
-      stored : ℕ → ℕ → Page
-      stored q v = record { header = v; used = used_at w.now.words q }
-
       by : (y : Step) → x ≡ y → Meets c w.now seat y
           → is_leaf_header (header_in (WorldBehind c w seat y).now.words p) ≡ false
-      by (Step.Head q v) is h = elim (cases_eq p q) [
-        | inl e ↦
-            let at : header_at (WorldBehind c w seat (Step.Head q v)).now.words p ≡ v =
-            ap (λ i. (slice_index_or (slice_set w.now.words.pages q (stored q v)) i free_page).header) e
-            ∙ ap (λ (y : Page). y.header) (get_or-set_same w.now.words.pages q (stored q v) free_page
-            (omega (arith, ltb-true q c.pages h.range, s.before.known.lengths.pages))) in
-            ap (λ y. is_leaf_header (header_of y)) at ∙ stored_no_leaf c w n seat q v s.before s.early h
-            (subst (λ i. cells_under (header_in w.now.words i) ≢ 0) e cells)
-        | inr ne ↦ cc (get_or-set_other w.now.words.pages q p (stored q v) free_page ne, none)
-      ]
+      by (Step.Head q v) is h =
+          set_by (λ (y : Page). is_leaf_header (header_of y.header) ≡ false) w.now.words.pages q p _ free_page
+          (λ e. stored_no_leaf c w n seat q v s.before s.early h
+          (subst (λ i. cells_under (header_in w.now.words i) ≢ 0) e cells)) none
       by y is h = rest y refl
         where
           rest : (y : Step) → is_head y ≡ false

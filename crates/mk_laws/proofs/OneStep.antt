@@ -1,15 +1,15 @@
 -- One step of a cycle, whatever it is: after `begin` nothing is marked or held, and each step keeps it touched.
 use Rattle.std.proofs.Common.{option_and_then}
 use Rattle.mk_laws.proofs.Vocabulary.{Bool, Caller, Cell, Config, Hand, Host, IsIdle, Marker, MarkerStands, MarkerState}
-use Rattle.mk_laws.proofs.Vocabulary.{Moment, NeverState, None, Null, Op, Option, PlacedAllocation, Placing, Seat, Some}
+use Rattle.mk_laws.proofs.Vocabulary.{Moment, NeverState, None, Null, Option, PlacedAllocation, Placing, Seat, Some}
 use Rattle.mk_laws.proofs.Vocabulary.{Stage, Step, Word, Words, World, ℕ, address_of, all_below, all_below-at}
 use Rattle.mk_laws.proofs.Vocabulary.{and_parts, ap, arith, bases_of, cases_Bool, cases_lt, cell_of_allocation}
-use Rattle.mk_laws.proofs.Vocabulary.{comes_next, eqb-true, false, flight_of, found, get_or_past, has_clean_page}
-use Rattle.mk_laws.proofs.Vocabulary.{has_no_pointers, header_in, if◌then◌else◌, image_of, inl, inr, is_attending}
-use Rattle.mk_laws.proofs.Vocabulary.{is_marked, is_number_of, is_put, is_unmarked, ltb-true, marker_of, nat_lt, no_bit}
-use Rattle.mk_laws.proofs.Vocabulary.{none-some, nothing_done, or_cases, or_else, placed_at, pointed_cell, refl}
-use Rattle.mk_laws.proofs.Vocabulary.{register_word, same_Some, slice_index, slice_index_or, subst, sym, true}
-use Rattle.mk_laws.proofs.Vocabulary.{true≢false, word_points, ◌%◌, ◌&&◌, ◌*◌, ◌+◌, ◌/◌, ◌∙◌, ◌≡◌, ◌≢◌, ◌≤◌, ◌⊎◌}
+use Rattle.mk_laws.proofs.Vocabulary.{eqb-true, false, flight_of, found, get_or_past, has_clean_page, has_no_pointers}
+use Rattle.mk_laws.proofs.Vocabulary.{header_in, if◌then◌else◌, image_of, inl, inr, is_attending, is_marked}
+use Rattle.mk_laws.proofs.Vocabulary.{is_number_of, is_put, is_unmarked, ltb-true, marker_of, nat_lt, no_bit, none-some}
+use Rattle.mk_laws.proofs.Vocabulary.{or_cases, or_else, placed_at, pointed_cell, refl, register_word, same_Some}
+use Rattle.mk_laws.proofs.Vocabulary.{slice_index, slice_index_or, subst, sym, true, true≢false, word_points, ◌&&◌, ◌*◌}
+use Rattle.mk_laws.proofs.Vocabulary.{◌+◌, ◌/◌, ◌∙◌, ◌≡◌, ◌≢◌, ◌≤◌, ◌⊎◌}
 use Rattle.mk_core.specs.Effects.{hand_given, hand_of_cell, is_in_stop, is_mapped_cell}
 use Rattle.mk_core.specs.declared.seats.Source.TheVariants.{Marked, Root, Unmarked}
 use Rattle.mk_core.specs.Touched.{PointsIntoAllocation}
@@ -28,21 +28,12 @@ abbrev pub is_look : Step → Bool
 is_look (Step.Look y) = true
 is_look _ = false
 
-take_drops : (m : Moment) (b : Bool) → ((if b then nothing_done else m.seats.holding).hand ≡ m.seats.holding.hand)
-    ⊎ ((if b then nothing_done else m.seats.holding).hand ≡ None)
-take_drops m true = inr refl
-take_drops m false = inl refl
-
 pub hand_kept : (c : Config) (m : Moment) (seat : Seat) (x : Step) → is_look x ≡ false
     → ((Behind c m seat x).seats.holding.hand ≡ m.seats.holding.hand) ⊎ ((Behind c m seat x).seats.holding.hand ≡ None)
 hand_kept c m seat (Step.Look y) out = cc
-hand_kept c m seat x3 out = grind (arith, take_drops)
+hand_kept c m seat x3 out = grind arith
 
 -- Registers that a look may reach are images: their caller owes out register.
-
-look_stage : (s : Stage) (o : Op) (y : Word) → comes_next s o (Step.Look y) ≡ true → is_put s ≡ false
-look_stage Stage.Put o y h = cc
-look_stage _ o y h = refl
 
 pub idle_owes_none : (s : Stage) → s ≡ Stage.Idle → is_put s ≡ false
 idle_owes_none s is = ap is_put is
@@ -59,7 +50,7 @@ module _ (c : Config) (w : World) (n : NeverState) (t : Told c w n) where
     where
       by : (seat : Seat) → is_number_of seat j ≡ true → Meets c w.now seat (Step.Look (Word.Reg j r))
           → is_put (flight_of w.now (Caller j)).stage ≡ false
-      by (Caller k) own h = grind (arith, eqb-true, look_stage)
+      by (Caller k) own h = grind (arith, eqb-true)
       by _ own h = cc
 
   register_image : (seat : Seat) (j r : ℕ) → Meets c w.now seat (Step.Look (Word.Reg j r))
@@ -67,10 +58,7 @@ module _ (c : Config) (w : World) (n : NeverState) (t : Told c w n) where
   register_image seat j r h =
       let lt = ltb-true r 8 (and_parts (nat_lt j c.callers) (nat_lt r 8) h.range).1 in
       let own : (8 * j + r) / 8 ≡ j = omega arith in
-      let free : is_put (flight_of w.now (Caller ((8 * j + r) / 8))).stage ≡ false =
-      subst (λ i. is_put (flight_of w.now (Caller i)).stage ≡ false) (sym own) (looked_owes_none seat j r h) in
-      sym (shows_plain (flight_of w.now (Caller ((8 * j + r) / 8))) ((8 * j + r) % 8) (register_word w.now.words j r)
-      free) ∙ t.all.mirrors.images.registers (8 * j + r)
+      grind (arith, looked_owes_none, shows_plain)
 
 -- A heap word gives a hand of a marked cell that is scanned, but for a sweeping one.
 record IsOfMarked (w : Words) (cell : Cell) (value : ℕ) (h : Hand) : Type 0 where

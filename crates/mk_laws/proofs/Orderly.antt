@@ -1,10 +1,10 @@
 -- All is in order: what each move keeps, by what the protocol reads.
 use Rattle.std.proofs.{Common.count_by, lemmas.List.Sums.count_by-le-length, lemmas.List.Sums.sum_by-set}
-use Rattle.mk_laws.proofs.Vocabulary.{Caller, Config, Flight, Host, List, Marker, MarkerState, Seat, ℕ, ap, arith}
-use Rattle.mk_laws.proofs.Vocabulary.{at_rest, cases_eq, cases_lt, cond, false, get_or-set_other, get_or-set_same}
-use Rattle.mk_laws.proofs.Vocabulary.{get_or_past, holder_number, inl, inr, is_attending, is_in, length, length-set}
-use Rattle.mk_laws.proofs.Vocabulary.{nothing_done, outside, refl, set_past, slice_index, slice_index_or, slice_set}
-use Rattle.mk_laws.proofs.Vocabulary.{sym, true, ◌%◌, ◌*◌, ◌+◌, ◌-◌, ◌<◌, ◌^◌, ◌∙◌, ◌≡◌, ◌≢◌, ◌≤◌, ◌⊎◌}
+use Rattle.mk_laws.proofs.Vocabulary.{Caller, Config, Flight, Host, List, Marker, MarkerState, Seat, ℕ, arith, at_rest}
+use Rattle.mk_laws.proofs.Vocabulary.{cases_eq, cases_lt, cond, false, get_or-set_other, get_or-set_same, get_or_past}
+use Rattle.mk_laws.proofs.Vocabulary.{holder_number, inl, inr, is_attending, is_in, length, length-set, nothing_done}
+use Rattle.mk_laws.proofs.Vocabulary.{outside, refl, set_by, set_past, slice_index, slice_index_or, slice_set, sym}
+use Rattle.mk_laws.proofs.Vocabulary.{true, ◌%◌, ◌*◌, ◌+◌, ◌-◌, ◌<◌, ◌^◌, ◌≡◌, ◌≢◌, ◌≤◌, ◌⊎◌}
 use Rattle.mk_laws.proofs.Standings.{Resting, Shows, Standing, UnderTurn, standing}
 use Rattle.mk_laws.proofs.Views.{HoldsTurn, View, flight_at, flight_in, flights_with, gate_in, marker_in}
 use Rattle.mk_laws.proofs.{ProtocolMoves.IdlesOutside, ProtocolMoves.MayTake, Services.Served}
@@ -40,13 +40,9 @@ count_in-at xs k lt is = let e = counted_less xs k outside lt is refl in omega a
 -- a marker after a change of one
 pub marker_set : (xs : List MarkerState) (k b : ℕ) (x : MarkerState) → (P : MarkerState → Type 0)
     → (k < length xs → P x) → P (slice_index_or xs b outside) → P (slice_index_or (slice_set xs k x) b outside)
-marker_set xs k b x P mine other = elim (cases_eq b k) [
-  | inl e ↦ elim (cases_lt k (length xs)) [
-    | inl lt ↦ rw (ap (λ j. slice_index_or (slice_set xs k x) j outside) e
-        ∙ get_or-set_same xs k x outside lt) (mine lt)
-    | inr le ↦ rw (set_past xs k x le) other
-  ]
-  | inr ne ↦ rw (get_or-set_other xs k b x outside ne) other
+marker_set xs k b x P mine other = elim (cases_lt k (length xs)) [
+  | inl lt ↦ set_by P xs k b x outside (λ e. mine lt) other
+  | inr le ↦ rw (set_past xs k x le) other
 ]
 
 -- the numbers of the phase word
@@ -158,8 +154,7 @@ pub holders_flight : (c : Config) (v : View) (seat : Seat) → Orderly c v → H
     → flight_in v (v.turn - 1) ≡ flight_at v.flights seat
 holders_flight c v (Caller k) h t = grind (arith, turn_of, flight_in)
 holders_flight c v (Marker k) h t = absurd t
-holders_flight c v Host h t =
-    get_or_past v.flights (v.turn - 1) at_rest (let e : v.turn ≡ 1 + c.callers = t in omega (arith, h.flights))
+holders_flight c v Host h t = get_or_past v.flights (v.turn - 1) at_rest (omega (arith, h.flights))
 
 -- what the holder shows after its step, where it goes on, where it gives the turn, and where it takes it
 

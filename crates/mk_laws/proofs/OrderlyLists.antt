@@ -2,8 +2,8 @@
 use Rattle.std.proofs.{Common.replicate, lemmas.List.get_or-replicate, lemmas.List.length-replicate}
 use Rattle.mk_laws.proofs.Vocabulary.{Caller, Config, MarkerState as Marker, Moment, Seat, Step, ℕ, ap, arith, at_rest}
 use Rattle.mk_laws.proofs.Vocabulary.{cases_lt, false, first_moment, flight_of, get_or_past, inl, inr, is_attending}
-use Rattle.mk_laws.proofs.Vocabulary.{outside, refl, slice_index_or, subst, sym, true, ◌<◌, ◌∙◌, ◌≡◌, ◌≤◌}
-use Rattle.mk_laws.proofs.Standings.{Resting, Shows, is_astray, shown_not_astray, standing}
+use Rattle.mk_laws.proofs.Vocabulary.{outside, refl, slice_index_or, sym, true, ◌<◌, ◌∙◌, ◌≡◌, ◌≤◌}
+use Rattle.mk_laws.proofs.Standings.{is_astray, shown_not_astray, standing}
 use Rattle.mk_laws.proofs.{Actors.Actor, Actors.Meets, Actors.acts, Orderly.Orderly, ProtocolKept.kept}
 use Rattle.mk_laws.proofs.{ProtocolMoves.Move, SameWords.Behind, Services.nothing_served, Sorts.moves, Views.view_of}
 
@@ -39,8 +39,7 @@ orderly_at_first c small = record {
   gates = refl;
   markers = refl;
   turn = omega arith;
-  each = λ k lt. rw (at_first c.callers k at_rest) (subst (λ (g : ℕ). Shows 0 g k Resting) (sym (at_first 16 k 0))
-      (λ e. absurd (omega arith), omega arith, λ e. refl, λ e. absurd (omega arith)));
+  each = grind (arith, at_first);
   served = nothing_served _ _;
   free = λ e. refl;
   phase = refl;
@@ -49,9 +48,5 @@ orderly_at_first c small = record {
   stopped = λ e. absurd (omega arith);
   attends = λ k a. let e : false ≡ true = ap (λ (x : Marker). is_attending x.presence) (sym (at_first 8 k outside))
       ∙ a in cc;
-  idle = λ k a. record {
-    scan = rw (at_first 8 k outside);
-    hand = rw (at_first 8 k outside);
-    seen = rw (at_first 8 k outside);
-  };
+  idle = grind (arith, at_first);
 }

@@ -3,8 +3,8 @@ use Rattle.mk_laws.proofs.Vocabulary.{Bool, Caller, Config, Flight, Group, Host,
 use Rattle.mk_laws.proofs.Vocabulary.{None, Op, Seat, Some, Stage, Step, Word, Words, World, ℕ, accessed, arith}
 use Rattle.mk_laws.proofs.Vocabulary.{at_rest, begun, bit_or, cases_eq, eq-eqb, false, flight_of, found, group_of}
 use Rattle.mk_laws.proofs.Vocabulary.{if◌then◌else◌, inl, inr, is_attending, is_in, marker_of, ne_eqb, outside, refl}
-use Rattle.mk_laws.proofs.Vocabulary.{reg_access, register_met, set-get_or, slice_index, slice_set, still, true}
-use Rattle.mk_laws.proofs.Vocabulary.{world_behind, ◌%◌, ◌*◌, ◌+◌, ◌-◌, ◌<◌, ◌^◌, ◌≡◌, ◌≢◌, ◌≤◌}
+use Rattle.mk_laws.proofs.Vocabulary.{reg_access, register_met, set-get_or, slice_index, slice_set, still, sym, true}
+use Rattle.mk_laws.proofs.Vocabulary.{true≢false, world_behind, ◌%◌, ◌*◌, ◌+◌, ◌-◌, ◌<◌, ◌^◌, ◌∙◌, ◌≡◌, ◌≢◌, ◌≤◌}
 use Rattle.mk_core.specs.Moments.{Seats}
 use Rattle.mk_laws.proofs.Actors.{Actor, AsHolder, AsMarker, CallTakes, HostTakes, InCallOf, Meets}
 use Rattle.mk_laws.proofs.Known.{Known, Operands, operands_of, register_small}
@@ -152,29 +152,26 @@ marker_out c w k Step.Mblack known lt g h =
     Marks _ lt (AddsBlacks _ _ (work_attends c _ Step.Mblack (known.orderly.idle k) h.marker refl) refl)
 marker_out c w k _ known lt g h = cc
 
--- any seat that doesn't hold the turn
+-- any seat that doesn't hold the turn, and takes none that is free
+moves_out : (c : Config) (w : World) (seat : Seat) (x : Step) → Known c w.now
+    → (is_take x ≡ true → w.now.words.turn ≢ 0)
+    → (HoldsTurn c (view_of w.now) seat → ⊥) → Meets c w.now seat x → OthersMove c w seat (WorldBehind c w seat x)
+moves_out c w seat x known held out h = by seat x (actor_of c w.now seat x known.orderly h) held out h
+  where
+    by : (seat : Seat) (x : Step) → Actor c w.now seat x → (is_take x ≡ true → w.now.words.turn ≢ 0)
+        → (HoldsTurn c (view_of w.now) seat → ⊥) → Meets c w.now seat x → Outs c w seat x
+    by seat x (InCallOf k _ lt g) held out h = call_out c w k x known out lt g h
+    by seat x (AsMarker k _ lt g) held out h = marker_out c w k x known lt g h
+    by seat x (CallTakes k o lt idle is) held out h = take_out c w k o (held refl)
+    by seat x (HostTakes free) held out h = host_take_out c w (held refl)
+    by seat x (AsHolder _ _ t n) held out h = absurd (out t)
+
 pub others_move : (c : Config) (w : World) (seat : Seat) (x : Step) → Known c w.now → w.now.words.turn ≢ 0
     → (HoldsTurn c (view_of w.now) seat → ⊥) → Meets c w.now seat x → OthersMove c w seat (WorldBehind c w seat x)
-others_move c w seat x known held out h = by seat x (actor_of c w.now seat x known.orderly h) out h
-  where
-    by : (seat : Seat) (x : Step) → Actor c w.now seat x → (HoldsTurn c (view_of w.now) seat → ⊥) → Meets c w.now seat x
-        → Outs c w seat x
-    by seat x (InCallOf k _ lt g) out h = call_out c w k x known out lt g h
-    by seat x (AsMarker k _ lt g) out h = marker_out c w k x known lt g h
-    by seat x (CallTakes k o lt idle is) out h = take_out c w k o held
-    by seat x (HostTakes free) out h = host_take_out c w held
-    by seat x (AsHolder _ _ t n) out h = absurd (out t)
+others_move c w seat x known held = moves_out c w seat x known (λ _. held)
 
 -- While nobody holds the turn: any step but a take.
 pub free_move : (c : Config) (w : World) (seat : Seat) (x : Step) → Known c w.now → w.now.words.turn ≡ 0
     → is_take x ≡ false → Meets c w.now seat x → OthersMove c w seat (WorldBehind c w seat x)
-free_move c w seat x known free takes h = by seat x (actor_of c w.now seat x known.orderly h) takes h
-  where
-    none : (seat : Seat) → HoldsTurn c (view_of w.now) seat → ⊥
-    none seat t = let is = turn_of c (view_of w.now) seat known.orderly t in absurd (omega arith)
-
-    by : (seat : Seat) (x : Step) → Actor c w.now seat x → is_take x ≡ false → Meets c w.now seat x → Outs c w seat x
-    by seat x (InCallOf k _ lt g) takes h = call_out c w k x known (none (Caller k)) lt g h
-    by seat x (AsMarker k _ lt g) takes h = marker_out c w k x known lt g h
-    by seat x (AsHolder _ _ t n) takes h = absurd (none seat t)
-    by seat x _ takes h = cc
+free_move c w seat x known free takes = moves_out c w seat x known (λ is. absurd (true≢false (sym is ∙ takes)))
+    (λ t. absurd (omega (arith, free, turn_of c (view_of w.now) seat known.orderly t)))

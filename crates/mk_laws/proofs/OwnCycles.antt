@@ -1,9 +1,9 @@
 -- The cycle that the turn's holder has begun, and how far it is.
 use Rattle.std.specs.Prelude.{⊤}
-use Rattle.mk_laws.proofs.Vocabulary.{At, Bool, Config, Cycle, Event, Holding, List, Marking, Op, Option, OwnCycle}
-use Rattle.mk_laws.proofs.Vocabulary.{Releasing, Seat, Step, World, ℕ, arith, eqb-true, false, if◌then◌else◌, inl, inr}
-use Rattle.mk_laws.proofs.Vocabulary.{is_begin, is_close, is_end, is_release, list_any, nothing_done, phase_of, refl}
-use Rattle.mk_laws.proofs.Vocabulary.{subst, sym, true, [], ◌++◌, ◌==◌, ◌∙◌, ◌∷◌, ◌≡◌, ◌⊎◌}
+use Rattle.mk_laws.proofs.Vocabulary.{At, Bool, Config, Cycle, Event, Holding, List, Marking, OwnCycle, Releasing, Seat}
+use Rattle.mk_laws.proofs.Vocabulary.{Step, World, ℕ, arith, eqb-true, false, if◌then◌else◌, inl, inr, is_begin}
+use Rattle.mk_laws.proofs.Vocabulary.{is_close, is_end, is_release, list_any, nothing_done, phase_of, refl, subst, sym}
+use Rattle.mk_laws.proofs.Vocabulary.{true, [], ◌++◌, ◌∙◌, ◌∷◌, ◌≡◌, ◌⊎◌}
 use Rattle.mk_core.specs.declared.seats.OwnCycle.TheVariants.{Begun, Ended, NotBegun}
 use Rattle.mk_core.specs.Effects.{cycle_ended}
 use Rattle.mk_laws.proofs.Longer.{longer_at, longer_cycle, longer_marking, longer_releasing, next_at_end, none_more}
@@ -54,19 +54,14 @@ begun_if w b =
     let holding : Holding = if b then nothing_done else w.now.seats.holding in
     record w { now = record w.now { seats = record w.now.seats { holding = holding } } }
 
-take_step : (c : Config) (w : World) (seat : Seat) (o : Option Op) (b : Bool)
-    → StepsAt c w seat (Step.Take o) (begun_if w b)
-take_step c w seat o true = Drops refl
-take_step c w seat o false = Stays (record { close = refl; release = refl; end = refl }) refl refl
-
 pub cycle_step : (c : Config) (w : World) (seat : Seat) (x : Step) → Meets c w.now seat x
     → StepsAt c w seat x (WorldBehind c w seat x)
-cycle_step c w seat (Step.Take o) h = take_step c w seat o (w.now.words.turn == 0)
+cycle_step c w seat (Step.Take o) h = grind arith
 cycle_step c w seat x3 h = grind (arith, reg_leaves, tally_keeps, eqb-true, over_phase)
 
 -- So what is said of the events is told with one more.
 module _ (es : List Event) (e : Event) (phase now : ℕ) where
-  on_way : MovesNothing e.step → now ≡ phase → UnderWay es phase → UnderWay (es ++ e ∷ []) now
+  pub on_way : MovesNothing e.step → now ≡ phase → UnderWay es phase → UnderWay (es ++ e ∷ []) now
   on_way off same (Marks at begin none) =
       Marks (elim at [ inl one ↦ inl (same ∙ one) | inr two ↦ inr (same ∙ two) ]) (longer_at (e ∷ []) begin)
       (none_more (λ (x : Event). is_close x.step) begin.behind e none off.close)
@@ -75,13 +70,13 @@ module _ (es : List Event) (e : Event) (phase now : ℕ) where
   on_way off same (Releases at k none) = Releases (same ∙ at) (longer_releasing (e ∷ []) k)
       (none_more (λ (x : Event). is_end x.step) k.release.at.behind e none off.end)
 
-  wants : is_close e.step ≡ false → phase ≡ 1 → now ≡ 2 → UnderWay es phase → UnderWay (es ++ e ∷ []) now
+  pub wants : is_close e.step ≡ false → phase ≡ 1 → now ≡ 2 → UnderWay es phase → UnderWay (es ++ e ∷ []) now
   wants off one two (Marks at begin none) =
       Marks (inr two) (longer_at (e ∷ []) begin) (none_more (λ (x : Event). is_close x.step) begin.behind e none off)
   wants off one two (Stops at k none) = absurd (omega arith)
   wants off one two (Releases at k none) = absurd (omega arith)
 
-  closes : is_close e.step ≡ true → phase ≡ 2 → now ≡ 3 → UnderWay es phase → UnderWay (es ++ e ∷ []) now
+  pub closes : is_close e.step ≡ true → phase ≡ 2 → now ≡ 3 → UnderWay es phase → UnderWay (es ++ e ∷ []) now
   closes is two three (Marks at begin none) =
       Stops three (record { begin = longer_at (e ∷ []) begin; close = next_at_end begin.behind e none is }) refl
   closes is two three (Stops at k none) = absurd (omega arith)
@@ -99,11 +94,6 @@ module _ (es : List Event) (e : Event) (phase now : ℕ) where
   ends is four (Stops at k none) = absurd (omega arith)
   ends is four (Releases at k none) =
       record { releasing = longer_releasing (e ∷ []) k; end = next_at_end k.release.at.behind e none is }
-
-  none_over : phase ≡ 0 → UnderWay es phase → ⊥
-  none_over zero (Marks at begin none) = elim at [ inl one ↦ omega arith | inr two ↦ omega arith ]
-  none_over zero (Stops at k none) = omega arith
-  none_over zero (Releases at k none) = omega arith
 
   -- where the holder's own cycle stays so far, or ends
 
@@ -132,4 +122,4 @@ module _ (es : List Event) (e : Event) (phase now : ℕ) where
   cycle_more cycle next (Closes is two to three) has = at next cycle to (kept cycle (closes is two three) has)
   cycle_more cycle next (Frees is three to four) has = at next cycle to (kept cycle (frees is three four) has)
   cycle_more cycle next (Ends is four to) has = at next _ to (ended cycle (ends is four) has)
-  cycle_more cycle next (Overs zero to) has = at next cycle to (kept cycle (λ way. absurd (none_over zero way)) has)
+  cycle_more cycle next (Overs zero to) has = grind (arith, kept)

@@ -1,8 +1,7 @@
 -- The phase along a cycle: it marks up to the `close`, and stays where it is up to the `release` and the `end`.
 use Rattle.mk_laws.proofs.Vocabulary.{Config, IsMarking, Moment, Seat, Step, ℕ, arith, cases_lt, false, inl, inr}
-use Rattle.mk_laws.proofs.Vocabulary.{is_begin, is_close, is_end, is_release, phase_of, refl, subst, sym, ◌≡◌, ◌≤◌, ◌⊎◌}
-use Rattle.mk_laws.proofs.CyclePhases.{AsksPhase, IsMarking as IsMarkingPhase, marking_step, phase_asked, phase_behind}
-use Rattle.mk_laws.proofs.CyclePhases.{phase_moves}
+use Rattle.mk_laws.proofs.Vocabulary.{is_begin, is_close, is_end, is_release, phase_of, ◌≡◌, ◌≤◌, ◌⊎◌}
+use Rattle.mk_laws.proofs.CyclePhases.{AsksPhase, IsMarking as IsMarkingPhase, phase_asked, phase_behind, phase_moves}
 use Rattle.mk_laws.proofs.Basics.{Behind, Meets, either_phase, is_grant}
 
 pub record GoesOnMarking (c : Config) (m : Moment) (seat : Seat) (x : Step) : Type 0 where
@@ -20,13 +19,7 @@ one_of n m = elim (cases_lt n 2) [ inl lt ↦ inl (omega (arith, m.least)) | inr
 -- While it marks, what isn't a `close` leaves it marking.
 pub marking_goes_on : (c : Config) (m : Moment) (seat : Seat) (x : Step) → IsMarking m.words → Meets c m seat x
     → is_close x ≡ false → GoesOnMarking c m seat x
-marking_goes_on c m seat x early h other =
-    let one = marking_step x _ (phase_asked c m seat x h) (within _ early) other in
-    record {
-      early = one_of _ (subst IsMarkingPhase (sym (phase_moves c m seat x h)) one.0);
-      begun = one.1;
-      released = one.2;
-    }
+marking_goes_on c m seat x early h other = grind (arith, one_of, phase_moves)
 
 -- After the `close` neither a `begin` nor a grant comes: the phase waits for the `release`, and then for the `end`.
 pub record Waits (c : Config) (m : Moment) (seat : Seat) (x : Step) (p : ℕ) : Type 0 where
@@ -39,15 +32,10 @@ waiting_step : (x : Step) (p : ℕ) → 3 ≤ p → AsksPhase x p → (p ≡ 3 �
 waiting_step Step.Begin p late asks out past = absurd (omega arith)
 waiting_step x0 p late asks out past = grind arith
 
-no_grant : (c : Config) (m : Moment) (seat : Seat) (x : Step) → 3 ≤ phase_of m.words → Meets c m seat x
-    → is_grant x ≡ false
-no_grant c m seat Step.Grant late h =
-    elim (either_phase (phase_of m.words) 0 1 h.phase) [ inl e ↦ absurd (omega arith) | inr e ↦ absurd (omega arith) ]
-no_grant c m seat _ late h = refl
-
 waits : (c : Config) (m : Moment) (seat : Seat) (x : Step) (p : ℕ) → 3 ≤ p → phase_of m.words ≡ p → Meets c m seat x
     → (p ≡ 3 → is_release x ≡ false) → (p ≡ 4 → is_end x ≡ false) → Waits c m seat x p
-waits c m seat x p late at h out past = grind (arith, waiting_step, phase_asked, phase_moves, phase_behind, no_grant)
+waits c m seat x p late at h out past =
+    grind (arith, waiting_step, phase_asked, phase_moves, phase_behind, either_phase)
 
 pub stopped_waits : (c : Config) (m : Moment) (seat : Seat) (x : Step) → phase_of m.words ≡ 3 → Meets c m seat x
     → is_release x ≡ false → Waits c m seat x 3

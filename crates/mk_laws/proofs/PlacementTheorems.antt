@@ -20,11 +20,7 @@ at_each : (c : Config) (x : Step) (claim : List Event → Seat → Type 0)
     → e.step ≡ x → claim before e.seat
 at_each c x claim news there es before e behind h is kind =
     let here = before_it c es before e behind h is in
-    let m : Moment = (left c before).now in
-    let meets : Meets c m e.seat x = subst (Meets c m e.seat) kind here.1 in
-    let own = new_holds c m e.seat x meets (news m e.seat meets) in
-    subst (claim before) (sym own.2) (there before own.0 here.0 own.1 (subst (λ (s : Seat). is_undecided_new (flight_of
-    m s) ≡ true) own.2 (news m _ meets)) (subst (λ (s : Seat). Meets c m s x) own.2 meets))
+    grind (arith, new_holds)
 
 -- `grant`
 

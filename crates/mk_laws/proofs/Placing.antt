@@ -2,17 +2,58 @@
 use Rattle.mk_laws.proofs.Vocabulary.{Among, AreApart, Bool, Claim, HasItsHead, InPlot, IsClaimed, IsLaidOn}
 use Rattle.mk_laws.proofs.Vocabulary.{IsOfOneCell, IsPlotShown, IsShown, IsSized, Later, LayoutScene, List, Mapped}
 use Rattle.mk_laws.proofs.Vocabulary.{NoPlot, Object, Page, Plotted, ShowsPart, Some, ℕ, ap, arith, cases_eq}
-use Rattle.mk_laws.proofs.Vocabulary.{cells_made, cells_under, false, has_bit, head_on, header_made, header_of}
-use Rattle.mk_laws.proofs.Vocabulary.{header_on, inl, inr, is_released_on, length, length-set, made_shows, pages_made}
-use Rattle.mk_laws.proofs.Vocabulary.{pages_some, part_cells, refl, run_count, shown_later, shows_on, stands, subst}
-use Rattle.mk_laws.proofs.Vocabulary.{sym, true, true≢false, used_on, [], ◌++◌, ◌+◌, ◌-◌, ◌<◌, ◌^◌, ◌∙◌, ◌∷◌, ◌≡◌, ◌≢◌}
-use Rattle.mk_laws.proofs.Vocabulary.{◌≤◌, ◌⊎◌}
+use Rattle.mk_laws.proofs.Vocabulary.{cells_made, cells_under, false, free_page, has_bit, head_on, header_made}
+use Rattle.mk_laws.proofs.Vocabulary.{header_of, header_on, inl, inr, is_released_on, length, length-set, made_shows}
+use Rattle.mk_laws.proofs.Vocabulary.{pages_made, pages_some, part_cells, refl, run_count, set_by, shown_later}
+use Rattle.mk_laws.proofs.Vocabulary.{shows_on, stands, sym, true, true≢false, used_on, [], ◌++◌, ◌+◌, ◌-◌, ◌<◌, ◌^◌}
+use Rattle.mk_laws.proofs.Vocabulary.{◌∙◌, ◌∷◌, ◌≡◌, ◌≢◌, ◌≤◌, ◌⊎◌}
 use Rattle.mk_core.proofs.WordBits.{added_here, added_other}
 use Rattle.mk_laws.proofs.LayoutReadings.{claimed_head, claimed_some, free_unused, none_set, zero_where_none}
 use Rattle.mk_laws.proofs.Releasing.{head_of_other, headed_here, headed_other, headed_used, shown_beside, used_header}
-use Rattle.mk_laws.proofs.Releasing.{used_here, used_other, with_header_on, with_used_on}
+use Rattle.mk_laws.proofs.Releasing.{used_here, with_header_on, with_used_on}
 use Rattle.mk_laws.proofs.Unmapping.{part_count}
 use Rattle.mk_laws.specs.LayoutScene.{IsTakenCell}
+
+-- Lists of claims that are joined.
+
+pub among_front : (xs ys : List Claim) (x : Claim) → Among x xs → Among x (xs ++ ys)
+among_front [] ys x i = absurd i
+among_front (z ∷ zs) ys x (inl e) = inl e
+among_front (z ∷ zs) ys x (inr i) = inr (among_front zs ys x i)
+
+pub among_back : (xs ys : List Claim) (x : Claim) → Among x ys → Among x (xs ++ ys)
+among_back [] ys x i = i
+among_back (z ∷ zs) ys x i = inr (among_back zs ys x i)
+
+pub among_parts : (xs ys : List Claim) (x : Claim) → Among x (xs ++ ys) → Among x xs ⊎ Among x ys
+among_parts [] ys x i = inr i
+among_parts (z ∷ zs) ys x (inl e) = inl (inl e)
+among_parts (z ∷ zs) ys x (inr i) = elim (among_parts zs ys x i) [ inl j ↦ inl (inr j) | inr j ↦ inr j ]
+
+pub apart_left : (xs ys : List Claim) → AreApart (xs ++ ys) → AreApart xs
+apart_left [] ys apart = tt
+apart_left (z ∷ zs) ys apart = (λ y i. apart.0 y (among_front zs ys y i), apart_left zs ys apart.1)
+
+pub apart_right : (xs ys : List Claim) → AreApart (xs ++ ys) → AreApart ys
+apart_right [] ys apart = apart
+apart_right (z ∷ zs) ys apart = apart_right zs ys apart.1
+
+pub apart_across : (xs ys : List Claim) (x y : Claim) → AreApart (xs ++ ys) → Among x xs → Among y ys → IsOfOneCell x y
+    → ⊥
+apart_across [] ys x y apart ix iy same = ix
+apart_across (z ∷ zs) ys x y apart (inl e) iy same = apart.0 y (among_back zs ys y iy) (
+  rw (← e) same.0,
+  rw (← e) same.1,
+)
+apart_across (z ∷ zs) ys x y apart (inr i) iy same = apart_across zs ys x y apart.1 i iy same
+
+pub apart_joined : (xs ys : List Claim) → AreApart xs → AreApart ys
+    → ((x y : Claim) → Among x xs → Among y ys → IsOfOneCell x y → ⊥) → AreApart (xs ++ ys)
+apart_joined [] ys ax ay across = ay
+apart_joined (z ∷ zs) ys ax ay across = (
+  λ y i same. elim (among_parts zs ys y i) [ inl j ↦ ax.0 y j same | inr j ↦ across z y (inl refl) j same ],
+  apart_joined zs ys ax.1 ay (λ x y ix. across x y (inr ix)),
+)
 
 -- the place is chosen: its pages are free
 abbrev pub ChosenAt : LayoutScene → ℕ → Object → LayoutScene
@@ -41,21 +82,17 @@ layout_carved s first o d laid plotted off next =
       shown = λ x among. shown_beside s.pages p n x lt (laid.shown x among)
           (λ e le at. claimed_some s.pages x e (laid.shown x among) le (ap (header_on s.pages) at ∙ was));
       apart = laid.apart;
-      used = λ q k h. elim (cases_eq q p) [
-        | inl e ↦ absurd (none_set (used_on s.pages p) k (free_unused s p laid was) (rw (← e) (old q k h)))
-        | inr ne ↦ let t = laid.used q k (old q k h) in (
-          rw (ap (λ h. cells_under (header_of h)) (sym (headed_other s.pages p n q ne))) at t.0,
-          t.1,
-        )
-      ];
+      used = λ q k h. let t = laid.used q k (old q k h) in (
+        set_by (λ (y : Page). k < cells_under (header_of y.header)) s.pages p q _ free_page
+            (λ e. absurd (none_set _ k (free_unused s p laid was) (rw (← e) (old q k h)))) t.0,
+        t.1,
+      );
       plot = record {
         sized = plot.sized;
         within = let len = length-set s.pages p (record { header = n; used = used_on s.pages p }) in let w =
             plot.within in omega arith;
-        headers = λ e le. elim (cases_eq e d) [
-          | inl same ↦ inr (rw same (headed_here s.pages p n lt ∙ rw (← same)))
-          | inr other ↦ rw (headed_other s.pages p n (first + e) (λ x. other (omega arith))) (plot.headers e le)
-        ];
+        headers = λ e le. set_by (λ (y : Page). (y.header ≡ 0) ⊎ (y.header ≡ header_made o e)) s.pages p (first + e) _
+            free_page (λ at. inr (ap (header_made o) (let same : d ≡ e = omega arith in same))) (plot.headers e le);
         used = λ e le. headed_used s.pages p n (first + e) lt ∙ plot.used e le;
       };
       occupied = λ q some empty. elim (cases_eq q p) [
@@ -73,8 +110,7 @@ layout_carved s first o d laid plotted off next =
             let l = laid.later q e m (rw (← (headed_other s.pages p n q ne)) is) in (
               l.0,
               elim (cases_eq (q - e) p) [
-                | inl at ↦ absurd (not_headed e (subst (λ i. (e < run_count (shows_on s.pages i))
-                    ⊎ ((s.releasing ≡ true) × (header_on s.pages i ≡ 0))) at l.1))
+                | inl at ↦ grind arith
                 | inr other ↦ rw (headed_other s.pages p n (q - e) other) l.1
               ],
             )
@@ -137,32 +173,6 @@ pub record Takes (s : LayoutScene) (x : Claim) (n : ℕ) : Type 0 where
   pub value : n ≡ used_on s.pages x.page + 2 ^ x.index
   pub plot : (q : ℕ) → InPlot s.plot q → InPlot (Plotted x.page x.object) q
 
-pub among_push : (xs : List Claim) (x y : Claim) → Among y (xs ++ x ∷ []) → Among y xs ⊎ (y ≡ x)
-among_push [] x y (inl e) = inr e
-among_push [] x y (inr out) = absurd out
-among_push (z ∷ zs) x y (inl e) = inl (inl e)
-among_push (z ∷ zs) x y (inr i) = elim (among_push zs x y i) [ inl j ↦ inl (inr j) | inr e ↦ inr e ]
-
-pub among_left : (xs : List Claim) (x y : Claim) → Among y xs → Among y (xs ++ x ∷ [])
-among_left [] x y i = absurd i
-among_left (z ∷ zs) x y (inl e) = inl e
-among_left (z ∷ zs) x y (inr i) = inr (among_left zs x y i)
-
-pub among_last : (xs : List Claim) (x : Claim) → Among x (xs ++ x ∷ [])
-among_last [] x = inl refl
-among_last (z ∷ zs) x = inr (among_last zs x)
-
-apart_push : (xs : List Claim) (x : Claim) → AreApart xs → ((y : Claim) → Among y xs → IsOfOneCell y x → ⊥)
-    → AreApart (xs ++ x ∷ [])
-apart_push [] x apart new = (λ y i. absurd i, tt)
-apart_push (z ∷ zs) x apart new = (
-  λ y i same. elim (among_push zs x y i) [
-    | inl j ↦ apart.0 y j same
-    | inr e ↦ new z (inl refl) (same.0 ∙ rw e, same.1 ∙ rw e)
-  ],
-  apart_push zs x apart.1 (λ y i. new y (inr i)),
-)
-
 module _ (s : LayoutScene) (x : Claim) (n : ℕ) (laid : IsLaidOn s) (t : Takes s x n) where
   abbrev after : List Page
   after = with_used_on s.pages x.page n
@@ -180,10 +190,8 @@ module _ (s : LayoutScene) (x : Claim) (n : ℕ) (laid : IsLaidOn s) (t : Takes 
   here_set = rw (used_here s.pages x.page n lt ∙ t.value) (added_here _ x.index t.unset)
 
   same_bit : (q k : ℕ) → (q ≡ x.page → k ≢ x.index) → has_bit (used_on after q) k ≡ has_bit (used_on s.pages q) k
-  same_bit q k other = elim (cases_eq q x.page) [
-    | inr ne ↦ rw (used_other s.pages x.page n q ne)
-    | inl e ↦ rw e (rw (used_here s.pages x.page n lt ∙ t.value) (added_other _ x.index k t.unset (other e) ∙ rw (← e)))
-  ]
+  same_bit q k other = set_by (λ (y : Page). has_bit y.used k ≡ has_bit (used_on s.pages q) k) s.pages x.page q _
+      free_page (λ e. rw t.value (added_other _ x.index k t.unset (other e) ∙ rw e)) refl
 
   grow : (q k : ℕ) → has_bit (used_on s.pages q) k ≡ true → has_bit (used_on after q) k ≡ true
   grow q k h = same_bit q k (λ e ek. true≢false (sym h ∙ rw e (rw ek t.unset))) ∙ h
@@ -206,7 +214,7 @@ module _ (s : LayoutScene) (x : Claim) (n : ℕ) (laid : IsLaidOn s) (t : Takes 
         let cells = cells_here in (
           rw (ap (λ h. cells_under (header_of h)) (used_header s.pages x.page n p lt)
               ∙ ap (λ i. cells_under (shows_on s.pages i)) at.0 ∙ cells) (let e = at.1 in omega (arith, t.index)),
-          inl (record { claim = x; among = among_last s.claims x; page = sym at.0; index = sym at.1 }),
+          inl (record { claim = x; among = among_back s.claims _ x (inl refl); page = sym at.0; index = sym at.1 }),
         )
     | inr other ↦
         let was = laid.used p k (sym (same_bit p k other) ∙ h) in (
@@ -225,7 +233,7 @@ module _ (s : LayoutScene) (x : Claim) (n : ℕ) (laid : IsLaidOn s) (t : Takes 
           → IsClaimed (s.claims ++ x ∷ []) p k ⊎ (is_released_on s p k ≡ true)
       owner p k (inr r) = inr r
       owner p k (inl o) = inl
-          (record { claim = o.claim; among = among_left s.claims x o.claim o.among; page = o.page; index = o.index })
+          (record { claim = o.claim; among = among_front s.claims _ o.claim o.among; page = o.page; index = o.index })
 
   unused : (q : ℕ) → used_on after (head_on after q) ≡ 0 → used_on s.pages (head_on s.pages q) ≡ 0
   unused q empty =
@@ -235,20 +243,23 @@ module _ (s : LayoutScene) (x : Claim) (n : ℕ) (laid : IsLaidOn s) (t : Takes 
   -- a page of the place has its head's bit now
   full : (q : ℕ) → InPlot (Plotted x.page x.object) q → used_on after (head_on after q) ≡ 0 → ⊥
   full q here empty =
-      let low = here.0 in
-      let high = here.1 in
       let at : x.page + (q - x.page) ≡ q = omega arith in
-      let head : head_on after q ≡ x.page = rw (← at) (claimed_head after x (q - x.page) own (omega arith)) in
-      none_set _ x.index (ap (used_on after) (sym head) ∙ empty) here_set
+      grind (arith, after, claimed_head, own, none_set, here_set)
+
+  new : (y z : Claim) → Among y s.claims → Among z (x ∷ []) → IsOfOneCell y z → ⊥
+  new y z i (inl e) same =
+      let at : IsOfOneCell y x = rw e at same in
+      true≢false (sym (laid.shown y i).used ∙ rw at.0 (rw at.1 t.unset))
+  new y z i (inr out) same = out
 
   pub layout_taken : IsLaidOn (Taken s x n)
   layout_taken = record {
-    shown = λ y among. elim (among_push s.claims x y among) [
+    shown = λ y among. elim (among_parts s.claims (x ∷ []) y among) [
       | inl was ↦ grown y (laid.shown y was)
-      | inr e ↦ rw e own
+      | inr (inl e) ↦ rw e own
+      | inr (inr out) ↦ absurd out
     ];
-    apart = apart_push s.claims x laid.apart (λ y i same. true≢false (sym (laid.shown y i).used ∙ rw same.0
-        (rw same.1 t.unset)));
+    apart = apart_joined s.claims (x ∷ []) laid.apart (λ y i. absurd i, tt) new;
     used = used;
     plot = tt;
     occupied = λ q some empty. elim

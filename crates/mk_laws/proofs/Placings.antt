@@ -2,8 +2,8 @@
 use Rattle.std.proofs.Math.Bool.{and-false}
 use Rattle.mk_laws.proofs.Vocabulary.{AsChosen, AsUsed, Bool, ByFit, Caller, Chosen, Config, Flight, Holding, Host}
 use Rattle.mk_laws.proofs.Vocabulary.{IsPlaced, Marker, Moment, None, Object, Option, Place, Placing, RunPages, Seat}
-use Rattle.mk_laws.proofs.Vocabulary.{Some, Stage, Step, Unplaced, Used, World, ℕ, and_parts, ap, arith, at_rest}
-use Rattle.mk_laws.proofs.Vocabulary.{carves, cases_eq, chosen, eqb-true, false, false_from_ne_true, flight_of, found}
+use Rattle.mk_laws.proofs.Vocabulary.{Some, Step, Unplaced, Used, World, ℕ, and_parts, ap, arith, at_rest, carves}
+use Rattle.mk_laws.proofs.Vocabulary.{cases_eq, chosen, eqb-true, false, false_from_ne_true, flight_of, found}
 use Rattle.mk_laws.proofs.Vocabulary.{get_or-set_same, if◌then◌else◌, inl, inr, is_phase, is_undecided_new}
 use Rattle.mk_laws.proofs.Vocabulary.{is_used_once, marks_is, marks_place, ne_eqb, not, object_made, or_cases, phase_of}
 use Rattle.mk_laws.proofs.Vocabulary.{place_now, place_on_pages, placed_now, progress, refl, subst, sym, taken}
@@ -109,9 +109,6 @@ mark_places c m f p n true is =
 
 -- each kind of step of a caller whose New is undecided, and stays so
 
-idle_no_new : (f : Flight) → f.stage ≡ Stage.Idle → is_undecided_new f ≡ true → ⊥
-idle_no_new f idle new = grind (arith, undecided_new)
-
 abbrev flight_behind : Config → World → ℕ → Step → Flight
 flight_behind c w k x =
     (progress c w.now (flight_of w.now (Caller k)) (found c w.now (record { seat = Caller k; step = x })) x).flight
@@ -119,7 +116,7 @@ flight_behind c w k x =
 own_places : (c : Config) (w : World) (k : ℕ) (x : Step) → Known c w.now → Meets c w.now (Caller k) x → HasNew w k
     → is_undecided_new (flight_behind c w k x) ≡ true
     → Placed c w.now (flight_of w.now (Caller k)) x (WorldBehind c w (Caller k) x).now.seats.holding.placing
-own_places c w k (Step.Take (Some o)) known h new stays = grind (arith, idle_no_new, at_take)
+own_places c w k (Step.Take (Some o)) known h new stays = grind (arith, at_take, undecided_new)
 own_places c w k (Step.Take None) known h new stays =
     absurd (at_no_take (flight_of w.now (Caller k)).stage (flight_of w.now (Caller k)).op h.order)
 own_places c w k Step.Give known h new stays = cc

@@ -1,12 +1,12 @@
 -- After a cycle's `end` what its `release` released counts as free: no unreleased storage has a word of it.
 use Rattle.std.proofs.Common.{Contains}
 use Rattle.mk_laws.proofs.Vocabulary.{Config, Cycle, Event, IsHistory, IsStorage, IsWordOf, List, OfHistories}
-use Rattle.mk_laws.proofs.Vocabulary.{PlacedAllocation, Releasing, Step, Storage, World, ℕ, and_parts, ap, append-nil}
-use Rattle.mk_laws.proofs.Vocabulary.{append_assoc, arith, before_release, cases_lt, earlier_part_is_history, eqb-true}
-use Rattle.mk_laws.proofs.Vocabulary.{false, inl, inr, is_end, is_release, is_small, left, list_any, not, not-true}
-use Rattle.mk_laws.proofs.Vocabulary.{or_from, phase_of, placed_at, refl, standing_has_storage, stands_on}
-use Rattle.mk_laws.proofs.Vocabulary.{storage_is_of, storage_of, storage_words, subst, sym, through_release, true}
-use Rattle.mk_laws.proofs.Vocabulary.{true≢false, unreleased_storage, [], ◌%◌, ◌*◌, ◌++◌, ◌+◌, ◌==◌, ◌∙◌, ◌∷◌, ◌≡◌, ◌≤◌}
+use Rattle.mk_laws.proofs.Vocabulary.{PlacedAllocation, Releasing, Step, Storage, World, ℕ, and_parts, ap, append_assoc}
+use Rattle.mk_laws.proofs.Vocabulary.{arith, before_release, cases_lt, earlier_part_is_history, eqb-true, false, inl}
+use Rattle.mk_laws.proofs.Vocabulary.{inr, is_end, is_small, left, not, not-true, or_from, phase_of, placed_at, refl}
+use Rattle.mk_laws.proofs.Vocabulary.{standing_has_storage, stands_on, storage_is_of, storage_of, storage_words, subst}
+use Rattle.mk_laws.proofs.Vocabulary.{sym, through_release, true, unreleased_storage, [], ◌%◌, ◌*◌, ◌++◌, ◌+◌, ◌==◌}
+use Rattle.mk_laws.proofs.Vocabulary.{◌∙◌, ◌∷◌, ◌≡◌, ◌≤◌}
 use Rattle.mk_geom.proofs.Standing.{has_words, large_is_run, stands_parts}
 use Rattle.mk_geom.proofs.ListSearch.{find_cases, list_any_found}
 use Rattle.mk_geom.specs.Storages.{IsRun, is_cell_taken}
@@ -32,7 +32,6 @@ module _ (ss : List Storage) (s : Storage) (some : 1 ≤ s.words) (run : is_smal
       let t : Storage = found.0 in
       let inside = found.1 in
       let first = eqb-true t.first _ found.2 in
-      let size = others t inside in
       apart t inside s.first (omega arith, omega arith) (omega arith, omega arith)
 
   -- a run's pages have no other's word
@@ -40,15 +39,8 @@ module _ (ss : List Storage) (s : Storage) (some : 1 ≤ s.words) (run : is_smal
       → stands_on page t ≡ true → ⊥
   none_stands page t large own inside stands =
       let r = run large in
-      let words = r.words in
-      let begins = r.first in
       let mine = stands_parts page s own in
       let its = stands_parts page t stands in
-      let from = mine.0 in
-      let to = mine.1 in
-      let low = its.0 in
-      let high = its.1 in
-      let size = others t inside in
       elim (cases_lt t.first (64 * page)) [
         | inl lt ↦ apart t inside (64 * page) (omega arith, omega arith) (omega arith, omega arith)
         | inr le ↦ apart t inside t.first (omega arith, omega arith) (omega arith, omega arith)
@@ -57,23 +49,18 @@ module _ (ss : List Storage) (s : Storage) (some : 1 ≤ s.words) (run : is_smal
   pub counts_as_free : CountsAsFree ss s
   counts_as_free = grind (arith, none_begins, find_cases, none_stands)
 
--- what stands this many events after the `release`
-record WhileReleasing (c : Config) (start more : List Event) : Type 0 where
-  phase : phase_of (left c (start ++ more)).now.words ≡ 4
-  older : AreOlder (left c start).allocations (left c (start ++ more)).allocations
+-- what stands after the `release`, up to the `end`
+record WhileReleasing (c : Config) (start es : List Event) : Type 0 where
+  phase : phase_of (left c es).now.words ≡ 4
+  older : AreOlder (left c start).allocations (left c es).allocations
 
-releasing_goes_on : (c : Config) (start more : List Event) (e : Event) → IsHistory c ((start ++ more) ++ e ∷ [])
-    → is_end e.step ≡ false → WhileReleasing c start more → WhileReleasing c start (more ++ e ∷ [])
-releasing_goes_on c start more e h other at =
-    let m = one_more c (start ++ more) e h in
-    let w : World = left c (start ++ more) in
+releasing_goes_on : (c : Config) (start es : List Event) (e : Event) → IsHistory c (es ++ e ∷ [])
+    → is_end e.step ≡ false → WhileReleasing c start es → WhileReleasing c start (es ++ e ∷ [])
+releasing_goes_on c start es e h other at =
+    let m = one_more c es e h in
+    let w : World = left c es in
     let waits = releasing_waits c w.now e.seat e.step at.phase m.meets other in
-    let left_is = sym m.left ∙ ap (left c) (append_assoc start more (e ∷ [])) in
-    record {
-      phase = subst (λ (v : World). phase_of v.now.words ≡ 4) left_is waits.phase;
-      older = subst (λ (v : World). AreOlder (left c start).allocations v.allocations) left_is
-          (older_joined _ w.allocations _ at.older (older_behind c w e.seat e.step waits.granted));
-    }
+    grind (arith, older_joined, older_behind)
 
 -- what the `release`, and what comes up to the `end`, leave of the allocations before
 record Released (c : Config) {es : List Event} (k : Cycle es) : Type 0 where
@@ -97,21 +84,13 @@ released c es k h at =
     let ending = history_through c es (before_end k) k.end.at.behind k.end.at.event h (at_end k) in
     let whole : IsHistory c (start ++ more) = subst (IsHistory c) (sym same)
     (earlier_part_is_history c (before_end k) (k.end.at.event ∷ []) ending) in
-    let first : WhileReleasing c start [] = record {
-      phase = subst (λ (xs : List Event). phase_of (left c xs).now.words ≡ 4) (sym (append-nil start)) four;
-      older = subst (λ (xs : List Event). AreOlder (left c start).allocations (left c xs).allocations)
-          (sym (append-nil start)) (older_same _);
-    } in
-    let along = along_without c is_end (WhileReleasing c start) start [] more (λ xs d g other. releasing_goes_on c
-    start xs d g other) whole k.end.none_before first in
+    let along = along_without c is_end (WhileReleasing c start) start more (releasing_goes_on c start) whole
+    k.end.none_before (record { phase = four; older = older_same _ }) in
     let last = one_more c (before_end k) k.end.at.event ending in
-    let v : World = left c (before_end k) in
     record {
       release = subst (λ (y : World). AreOlder w.allocations y.allocations) left_is
           (older_behind c w e.seat Step.Release refl);
-      end = older_joined _ _ _ (subst (λ (xs : List Event). AreOlder (left c start).allocations (left c xs).allocations)
-          same along.older) (subst (λ (y : World). AreOlder v.allocations y.allocations) (sym last.left) (older_behind c
-          v _ _ (ap is_grant (end_is k.end.at.event.step k.end.at.of_kind))));
+      end = grind (arith, older_joined, older_behind, is_grant, end_is);
     }
 
 -- What is in the snapshot is unreleased up to the `release`.
@@ -123,8 +102,7 @@ kept_to_release c es k i h at u =
     let e : Event = k.release.at.event in
     let whole = earlier_part_is_history c _ (e ∷ []) (history_through c es _ k.release.at.behind e h (at_release k)) in
     rw b.is (kept_along c b.before (b.event ∷ b.behind) i (rw b.is at whole)
-    (or_from _ (list_any (λ (x : Event). is_release x.step) b.behind)
-    (ap is_release (begin_is b.event.step b.of_kind)) at.released) (record { there = is_there _ i u; unreleased = u }))
+    (grind (arith, or_from, begin_is)) (record { there = is_there _ i u; unreleased = u }))
 
 pub frees_the_untouched : OfHistories FreesTheUntouched
 frees_the_untouched c es h k unswept i quarantined untouched =
@@ -204,5 +182,4 @@ frees_the_untouched c es h k unswept i quarantined untouched =
         let other = same_word c (placed_at xs j) (placed_at zs j) n (older.same j (is_there xs j u))
         (subst (λ (y : Storage). IsWordOf y n) o.storage its) in
         let same = allocations_are_disjoint c (before_release r) before i j n kept.unreleased u mine other in
-        let gone = releases_the_untouched c es h r unswept i quarantined untouched in
-        true≢false (sym gone ∙ ap (λ l. (placed_at ys l).released) same ∙ done.end.was j o.unreleased)
+        grind (arith, releases_the_untouched, ys, released, done)

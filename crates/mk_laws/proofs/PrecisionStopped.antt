@@ -1,19 +1,20 @@
 -- From a cycle's `close` to its `release` all that is marked is touched. The `release` releases the rest of the
 -- snapshot.
 use Rattle.mk_laws.proofs.Vocabulary.{At, Bool, Config, Event, IsHistory, List, OfHistories, PlacedAllocation}
-use Rattle.mk_laws.proofs.Vocabulary.{Releasing, Seat, Step, World, ℕ, ap, append-nil, append_assoc, arith}
-use Rattle.mk_laws.proofs.Vocabulary.{before_close, before_release, cell_of_allocation, changed_at}
-use Rattle.mk_laws.proofs.Vocabulary.{earlier_part_is_history, eqb-true, false, has_bit_of, has_bit_without, is_begin}
+use Rattle.mk_laws.proofs.Vocabulary.{Releasing, Seat, Step, World, ℕ, ap, append_assoc, arith, before_close}
+use Rattle.mk_laws.proofs.Vocabulary.{before_release, cell_of_allocation, changed_at, earlier_part_is_history}
+use Rattle.mk_laws.proofs.Vocabulary.{enabled_in_parts, eqb-true, false, has_bit_of, has_bit_without, is_begin}
 use Rattle.mk_laws.proofs.Vocabulary.{is_close, is_cycling, is_left_unmarked, is_marked, is_release, left, list_any}
-use Rattle.mk_laws.proofs.Vocabulary.{not, or_from, or_parts, phase_of, placed_at, refl, released_where_left, subst}
-use Rattle.mk_laws.proofs.Vocabulary.{sym, through, through_release, true, true≢false, with_released, world_behind, []}
-use Rattle.mk_laws.proofs.Vocabulary.{◌&&◌, ◌++◌, ◌∙◌, ◌∷◌, ◌≡◌}
+use Rattle.mk_laws.proofs.Vocabulary.{not, or_from, or_parts, phase_of, placed_at, refl, released_where_left, sym}
+use Rattle.mk_laws.proofs.Vocabulary.{through, through_release, true, true≢false, with_released, [], ◌&&◌, ◌++◌, ◌∙◌}
+use Rattle.mk_laws.proofs.Vocabulary.{◌∷◌, ◌≡◌}
 use Rattle.mk_core.specs.{Cycles.NoneSweeps, Touched.IsTouched}
 use Rattle.mk_laws.proofs.Basics.{Known, Meets, WorldBehind, is_grant, release_is, same_cell}
+use Rattle.mk_laws.proofs.Marking.{marked_at_close, one_more, told}
 use Rattle.mk_laws.proofs.Stretches.{None_of, along_without, at_close, at_release, history_through, none_joined}
-use Rattle.mk_laws.proofs.{GuardStopped.leaves_closed, Marking.marked_at_close, Marking.one_more, Marking.told}
-use Rattle.mk_laws.proofs.{PhaseSteps.stopped_waits, Precise.came_behind, ProtocolStepKinds.close_is}
-use Rattle.mk_laws.proofs.{Quarantines.snapshot_is_the_cycles, Worlds.headers, Worlds.stands}
+use Rattle.mk_laws.proofs.Worlds.{headers, stands}
+use Rattle.mk_laws.proofs.{CyclePhases.none_is_released, GuardStopped.leaves_closed, PhaseSteps.stopped_waits}
+use Rattle.mk_laws.proofs.{Precise.came_behind, ProtocolStepKinds.close_is, Quarantines.snapshot_is_the_cycles}
 use Rattle.mk_laws.specs.Precision.{KeepsOnlyTheTouched, ReleasesTheUntouched}
 
 -- All that is marked is of the set.
@@ -21,11 +22,10 @@ abbrev pub IsMarkedOnly : Config → World → (ℕ → Type 0) → Type 0
 IsMarkedOnly c w T = (b : ℕ) → (placed_at w.allocations b).released ≡ false → is_marked w.now.words
     (cell_of_allocation c (placed_at w.allocations b)) ≡ true → T b
 
--- what stands this many events after the `close`
-record AtStop (c : Config) (T : ℕ → Type 0) (start more : List Event) : Type 0 where
-  phase : phase_of (left c (start ++ more)).now.words ≡ 3
-  marked : IsMarkedOnly c (left c (start ++ more)) T
-  begun : None_of is_begin more
+-- what stands after the `close`, up to the `release`
+record AtStop (c : Config) (T : ℕ → Type 0) (es : List Event) : Type 0 where
+  phase : phase_of (left c es).now.words ≡ 3
+  marked : IsMarkedOnly c (left c es) T
 
 not_granted : (x : Step) → is_grant x ≡ false → x ≡ Step.Grant → ⊥
 not_granted x out is = true≢false (sym (ap is_grant is) ∙ out)
@@ -37,36 +37,23 @@ stop_behind : (c : Config) (w : World) (seat : Seat) (x : Step) (T : ℕ → Typ
 stop_behind c w seat x T known three h other marked b u is =
     grind (arith, came_behind, not_granted, stopped_waits, leaves_closed, same_cell)
 
-stop_goes_on : (c : Config) (T : ℕ → Type 0) (start more : List Event) (e : Event)
-    → IsHistory c ((start ++ more) ++ e ∷ []) → is_release e.step ≡ false
-    → AtStop c T start more → AtStop c T start (more ++ e ∷ [])
-stop_goes_on c T start more e h other at =
-    let m = one_more c (start ++ more) e h in
-    let w : World = left c (start ++ more) in
-    let waits = stopped_waits c w.now e.seat e.step at.phase m.meets other in
-    let left_is : world_behind c w e ≡ left c (start ++ (more ++ e ∷ [])) =
-    sym m.left ∙ ap (λ (xs : List Event). left c xs) (append_assoc start more (e ∷ [])) in
+stop_goes_on : (c : Config) (T : ℕ → Type 0) (es : List Event) (e : Event) → IsHistory c (es ++ e ∷ [])
+    → is_release e.step ≡ false → AtStop c T es → AtStop c T (es ++ e ∷ [])
+stop_goes_on c T es e h other at =
+    let m = one_more c es e h in
+    let w : World = left c es in
+    let known = (told c es m.history).known.now in
     record {
-      phase = subst (λ (v : World). phase_of v.now.words ≡ 3) left_is waits.phase;
-      marked = subst (λ (v : World). IsMarkedOnly c v T) left_is (stop_behind c w e.seat e.step T
-          (told c (start ++ more) m.history).known.now at.phase m.meets other at.marked);
-      begun = none_joined is_begin more (e ∷ []) at.begun (or_from _ false waits.begun refl);
+      phase = rw m.left (stopped_waits c w.now e.seat e.step at.phase m.meets other).phase;
+      marked = rw m.left (stop_behind c w e.seat e.step T known at.phase m.meets other at.marked);
     }
 
 -- after the `close`
 stop_begins : (c : Config) (T : ℕ → Type 0) (front : List Event) (e : Event) → IsHistory c (front ++ e ∷ [])
-    → is_close e.step ≡ true → IsMarkedOnly c (left c front) T → AtStop c T (front ++ e ∷ []) []
+    → is_close e.step ≡ true → IsMarkedOnly c (left c front) T → AtStop c T (front ++ e ∷ [])
 stop_begins c T front e h kind marked =
     let m = one_more c front e h in
-    let w : World = left c front in
-    let is = close_is e.step kind in
-    let meets : Meets c w.now e.seat Step.Close = subst (Meets c w.now e.seat) is m.meets in
-    let left_is = ap (WorldBehind c w e.seat) (sym is) ∙ sym m.left ∙ ap (left c) (sym (append-nil _)) in
-    record {
-      phase = subst (λ (v : World). phase_of v.now.words ≡ 3) left_is (omega (arith, eqb-true _ 2 meets.phase));
-      marked = subst (λ (v : World). IsMarkedOnly c v T) left_is marked;
-      begun = refl;
-    }
+    grind (arith, close_is, eqb-true)
 
 -- what stands before the `release`
 pub record AtRelease (c : Config) {es : List Event} (k : Releasing es) : Type 0 where
@@ -88,16 +75,20 @@ at_the_release c es k h unswept =
     let releasing = history_through c es _ k.release.at.behind k.release.at.event h (at_release k) in
     let whole : IsHistory c ((front ++ e ∷ []) ++ more) =
     rw same (earlier_part_is_history c _ (k.release.at.event ∷ []) releasing) in
-    let at : AtStop c T (front ++ e ∷ []) more =
-    along_without c is_release (λ (xs : List Event). AtStop c T (front ++ e ∷ []) xs) _ [] more
-    (λ xs d g other. stop_goes_on c T _ xs d g other) whole k.release.none_before
-    (stop_begins c T front e closing k.marking.close.at.of_kind marked.at.precise.marked) in
+    let first = stop_begins c T front e closing k.marking.close.at.of_kind marked.at.precise.marked in
+    let at : AtStop c T ((front ++ e ∷ []) ++ more) =
+    along_without c is_release (AtStop c T) (front ++ e ∷ []) more (stop_goes_on c T) whole k.release.none_before first
+    in
+    let on = ((enabled_in_parts c (front ++ e ∷ []) more).0 whole.enabled).1 in
+    let three = first.phase in
+    let begun = (none_is_released c _ more on (record { least = omega arith; most = omega arith })
+    k.release.none_before).none_begins in
     record {
       phase = rw same at at.phase;
       marked = rw same at at.marked;
       begun = none_joined is_begin k.marking.close.at.before (e ∷ more) marked.begun
           (or_from _ (list_any (λ (x : Event). is_begin x.step) more)
-          (ap is_begin (close_is e.step k.marking.close.at.of_kind)) at.begun);
+          (ap is_begin (close_is e.step k.marking.close.at.of_kind)) begun);
       released = none_joined is_release k.marking.close.at.before (e ∷ more) marked.released
           (or_from _ (list_any (λ (x : Event). is_release x.step) more)
           (ap is_release (close_is e.step k.marking.close.at.of_kind)) k.release.none_before);

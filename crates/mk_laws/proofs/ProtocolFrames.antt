@@ -2,11 +2,10 @@
 use Rattle.std.proofs.lemmas.List.Sums.{sum_by-append}
 use Rattle.mk_laws.proofs.Vocabulary.{AreEnabledFrom, AreOfOthers, Caller, Config, Event, Flight, Holds, Host, IsInCall}
 use Rattle.mk_laws.proofs.Vocabulary.{IsLeft, List, Marker, MarkerState, Moment, Named, OnlyGrow, Protocol, Seat, Stage}
-use Rattle.mk_laws.proofs.Vocabulary.{Steady, Step, Store, Tally, TurnIsLeft, Word, Words, World, ℕ, accessed}
-use Rattle.mk_laws.proofs.Vocabulary.{answer_decided, ap, arith, at_rest, call_decided, caller_number, calls_from}
-use Rattle.mk_laws.proofs.Vocabulary.{cases_lt, cond, d_of, enabled_meets, enabled_parts, ends, eq-eqb, false}
-use Rattle.mk_laws.proofs.Vocabulary.{first_world, flight_of, get_or-set_other, get_or_past, header_in, inl, inr}
-use Rattle.mk_laws.proofs.Vocabulary.{is_attending, is_end, is_in, is_one_of, is_unmapped_header, left, left_append}
+use Rattle.mk_laws.proofs.Vocabulary.{Steady, Step, Store, Tally, TurnIsLeft, Word, Words, World, ℕ, accessed, ap}
+use Rattle.mk_laws.proofs.Vocabulary.{arith, at_rest, calls_from, cases_lt, d_of, enabled_meets, enabled_parts, ends}
+use Rattle.mk_laws.proofs.Vocabulary.{eq-eqb, false, first_world, flight_of, get_or-set_other, get_or_past, header_in}
+use Rattle.mk_laws.proofs.Vocabulary.{inl, inr, is_attending, is_in, is_one_of, is_unmapped_header, left, left_append}
 use Rattle.mk_laws.proofs.Vocabulary.{left_from, marker_at, others_are_held, outside, refl, reg_access, register_met}
 use Rattle.mk_laws.proofs.Vocabulary.{slice_index, slice_set, sym, true, world_behind, [], ◌*◌, ◌++◌, ◌+◌, ◌/◌, ◌<◌}
 use Rattle.mk_laws.proofs.Vocabulary.{◌∙◌, ◌∷◌, ◌≡◌, ◌≢◌, ◌≤◌}
@@ -16,13 +15,14 @@ use Rattle.mk_core.specs.{Growing.is_same_seat, Readings.is_in_call}
 use Rattle.mk_laws.proofs.Basics.{Behind, Known, Meets, WorldBehind, actor_of, grants_new, in_call_told, known_behind}
 use Rattle.mk_laws.proofs.Basics.{known_left, not_astray, operands_of, others_held, register_small, same_holder}
 use Rattle.mk_laws.proofs.Basics.{standing, turn_of, view_of}
+use Rattle.mk_laws.proofs.Colours.{attending_grows, colour_step}
+use Rattle.mk_laws.proofs.Known.{HaveOperands, Operands, holds_turn}
 use Rattle.mk_laws.proofs.OthersCounts.{counts_nothing, entry_fulls, fulls_append, fulls_of}
 use Rattle.mk_laws.proofs.OthersMoves.{Calls, ComesIn, MarkerWrite, Marks, OthersMove, Waits, gate_one, others_move}
 use Rattle.mk_laws.proofs.OthersMoves.{with_words_seats}
 use Rattle.mk_laws.proofs.TurnFrame.{holding_out, turn_after, turn_joined, turn_same}
-use Rattle.mk_laws.proofs.{Colours.attending_grows, Colours.colour_step, Growth.grows_joined, Growth.grows_same}
-use Rattle.mk_laws.proofs.{HeaderSteps.header_step, HeaderSteps.stays_mapped, Known.HaveOperands, Known.Operands}
-use Rattle.mk_laws.proofs.{Known.holds_turn, ProtocolReadings.in_counts, Protocols.protocol_of, Standings.in_call_is}
+use Rattle.mk_laws.proofs.{Growth.grows_joined, Growth.grows_same, HeaderSteps.header_step, HeaderSteps.stays_mapped}
+use Rattle.mk_laws.proofs.{ProtocolReadings.in_counts, Protocols.protocol_of, Standings.InCall, Standings.in_call_is}
 
 -- What an event may do to registers: each caller's are its own.
 
@@ -71,8 +71,7 @@ others_out : (c : Config) (w : World) (seat s : Seat) (x : Step) → Known c w.n
     → Holds c w.now s → OthersMove c w seat (WorldBehind c w seat x)
 others_out c w seat s x known h ne holds =
     let t = holds_turn c w.now s known.orderly holds in
-    others_move c w seat x known (λ e. absurd (omega (arith, turn_of c (view_of w.now) s known.orderly t)))
-    (λ out. ne (same_holder c (view_of w.now) seat s known.orderly out t)) h
+    grind (arith, others_move, turn_of, view_of, same_holder)
 
 still_holds : (c : Config) (s : Seat) (w v : World) → flight_of v.now s ≡ flight_of w.now s
     → v.now.words.turn ≡ w.now.words.turn → Holds c w.now s → Holds c v.now s
@@ -106,21 +105,18 @@ own_after c w seat s x known h ne = record {
       );
 }
 
--- a call in flight is that of a caller, whose gate is 1
+-- who is in a call
+pub in_call_stands : (c : Config) (m : Moment) (k : ℕ) → Known c m → is_in_call (flight_of m (Caller k)) ≡ true
+    → (k < c.callers) × (standing (flight_of m (Caller k)) ≡ InCall)
+in_call_stands c m k known is = elim (cases_lt k c.callers) [
+  | inl lt ↦ grind (arith, in_call_is, standing, in_call_told, not_astray)
+  | inr past ↦ grind (arith, get_or_past)
+]
+
+-- and whose gate is 1
 in_call_gate : (c : Config) (m : Moment) (k : ℕ) → Known c m → is_in_call (flight_of m (Caller k)) ≡ true
     → (k < c.callers) × (slice_index m.words.gates k ≡ 1)
-in_call_gate c m k known is = elim (cases_lt k c.callers) [
-  | inl lt ↦
-      let f = flight_of m (Caller k) in (
-        lt,
-        gate_one c m k known lt
-            (in_call_is (standing f) (in_call_told f.stage f.op (not_astray c m known.orderly k lt) ∙ is)),
-      )
-  | inr past ↦
-      let f : false ≡ true = ap is_in_call
-      (sym (get_or_past m.seats.flights k at_rest (omega (arith, known.orderly.flights)))) ∙ is in
-      cc
-]
+in_call_gate c m k known is = let s = in_call_stands c m k known is in (s.0, gate_one c m k known s.0 s.1)
 
 mapped_after : (c : Config) (w : World) (seat s : Seat) (x : Step) → Known c w.now → Meets c w.now seat x → seat ≢ s
     → IsInCall w.now s → (p : ℕ) → is_unmapped_header (header_in w.now.words p) ≡ false
@@ -161,9 +157,6 @@ left_after c w seat s x known h ne = record {
   scan = scan_after c w seat s x known h;
 }
 
-pub left_same : (c : Config) (s : Seat) (w : World) → Left c s w w
-left_same c s w = grind (arith, turn_same, grows_same)
-
 -- what the seat is in the middle of, it still is
 
 still_calls : (c : Config) (s : Seat) (w u : World) → OwnIsLeft c s w u → IsInCall w.now s → IsInCall u.now s
@@ -183,20 +176,11 @@ still_stopped c s w u l all = grind arith
 
 pub left_joined : (c : Config) (s : Seat) (w u v : World) → Left c s w u → Left c s u v → Left c s w v
 left_joined c s w u v a b = record {
-  own = record {
-    flight = b.own.flight ∙ a.own.flight;
-    marker = b.own.marker ∙ a.own.marker;
-    registers = λ k r is lt. b.own.registers k r is lt ∙ a.own.registers k r is lt;
-    holding = λ holds. let x = a.own.holding holds in let y = b.own.holding x.0 in (y.0, y.1 ∙ x.1);
-  };
+  own = grind arith;
   mapped = λ call p is. b.mapped (still_calls c s w u a.own call) p (a.mapped call p is);
   turn = λ holds. turn_joined w u v (a.turn holds) (b.turn (a.own.holding holds).0);
   stop = λ all. b.stop (still_stopped c s w u a all) ∙ a.stop all;
-  scan = λ att.
-      let y = b.scan (still_attends c s w u a.own att) in (
-        grows_joined w.now.words.marks u.now.words.marks v.now.words.marks (a.scan att).0 y.0,
-        grows_joined w.now.words.blacks u.now.words.blacks v.now.words.blacks (a.scan att).1 y.1,
-      );
+  scan = grind (arith, still_attends, grows_joined);
 }
 
 -- the list goes on with events of others
@@ -212,7 +196,7 @@ other_seat s seat h e = grind (arith, same_seat)
 pub left_later : (c : Config) (s : Seat) (w : World) (es : List Event) → Known c w.now → AreEnabledFrom c w es
     → AreOfOthers (s ∷ []) es → Left c s w (left_from c w es)
 unfolding left_from AreEnabledFrom AreOfOthers
-left_later c s w [] k on others = left_same c s w
+left_later c s w [] k on others = grind (arith, turn_same, grows_same)
 left_later c s w (e ∷ es) k on others = left_joined c s w (world_behind c w e) (left_from c (world_behind c w e) es)
     (left_after c w e.seat s e.step k (enabled_meets c w.now e on.0) (other_seat s e.seat others.0))
     (left_later c s (world_behind c w e) es (known_behind c w.now e k on.0) on.1 others.1)
@@ -235,14 +219,7 @@ counts_later c s w (e ∷ es) k on others holds =
     (actor_of c w.now e.seat e.step k.orderly h) in
     let rest = counts_later c s (world_behind c w e) es (known_behind c w.now e k on.0) on.1 others.1
     ((left_after c w e.seat s e.step k h ne).own.holding holds).0 in
-    let first : cond {A = ℕ} (is_end e.step) 1 0 ≡ 0 = rw now.0 in
-    let entry = entry_fulls (caller_number e.seat) (flight_of w.now e.seat).op (answer_decided c w.now e) now.1 in
-    record {
-      none_ends = sum_by-append (λ (x : Event). cond {A = ℕ} (is_end x.step) 1 0) (e ∷ []) es
-          ∙ (let r = rest.none_ends in omega arith);
-      none_full = fulls_append (call_decided c w.now e) (calls_from c (world_behind c w e) es)
-          ∙ (let r = rest.none_full in omega arith);
-    }
+    grind (arith, entry_fulls, sum_by-append, fulls_append)
 
 counts_left : (c : Config) (es more : List Event) → CountsNothing c (left c es) more → CountsAreLeft c es (es ++ more)
 counts_left c es more h = grind (arith, sum_by-append, calls_append, fulls_append)

@@ -1,9 +1,9 @@
 -- Each move keeps all in order.
 use Rattle.mk_laws.proofs.Vocabulary.{Caller, Config, Flight, Holding, Host, List, Marker, MarkerState, Seat, ℕ, ap}
-use Rattle.mk_laws.proofs.Vocabulary.{arith, at_rest, cases_eq, false, get_or-set_other, get_or-set_same, holder_number}
-use Rattle.mk_laws.proofs.Vocabulary.{inl, inr, is_attending, length, length-set, nothing_done, outside, refl}
-use Rattle.mk_laws.proofs.Vocabulary.{slice_index, slice_index_or, slice_set, sym, true, ◌%◌, ◌*◌, ◌+◌, ◌-◌, ◌<◌, ◌∙◌}
-use Rattle.mk_laws.proofs.Vocabulary.{◌≡◌, ◌≢◌, ◌≤◌, ◌⊎◌}
+use Rattle.mk_laws.proofs.Vocabulary.{arith, at_rest, cases_eq, get_or-set_other, get_or-set_same, holder_number, inl}
+use Rattle.mk_laws.proofs.Vocabulary.{inr, is_attending, length, length-set, nothing_done, outside, refl, slice_index}
+use Rattle.mk_laws.proofs.Vocabulary.{slice_index_or, slice_set, sym, true, ◌%◌, ◌*◌, ◌+◌, ◌-◌, ◌<◌, ◌∙◌, ◌≡◌, ◌≢◌, ◌≤◌}
+use Rattle.mk_laws.proofs.Vocabulary.{◌⊎◌}
 use Rattle.mk_laws.proofs.Orderly.{AllShow, Orderly, all_but_both, all_but_flight, all_but_gate, all_but_seat, count_in}
 use Rattle.mk_laws.proofs.Orderly.{counted_less, counted_more, counted_same, down_eight, down_four, few_in, giver_shows}
 use Rattle.mk_laws.proofs.Orderly.{holder_shows, holders_flight, length_with, marker_set, shows_at, taker_number}
@@ -36,21 +36,10 @@ phase_kept c v seat p h t (Begins z) =
     (λ e. omega arith) (inl z)
 phase_kept c v seat p h t (Wants z) =
     let n = up_one v.phase _ (v.phase % 8) h.phase h.low (few_in c v h) (omega arith) in
-    record {
-      phase = omega (arith, n.0, n.1);
-      low = omega (arith, n.0);
-      stopped = λ e. absurd (omega (arith, n.0));
-      attends = λ k a. inr (omega (arith, n.0));
-    }
+    grind arith
 phase_kept c v seat p h t (Closes z held none) =
     let n = up_one v.phase _ (v.phase % 8) h.phase h.low (few_in c v h) (omega arith) in
-    let turn = turn_of c v seat h t in
-    record {
-      phase = omega (arith, n.0, n.1);
-      low = omega (arith, n.0);
-      stopped = λ e k lt ne. held k lt (λ is. ne (omega arith));
-      attends = λ k a. let f : true ≡ false = sym a ∙ none k in cc;
-    }
+    grind (arith, turn_of)
 phase_kept c v seat p h t (Releases z) =
     quiet c v p _ h (up_one v.phase _ (v.phase % 8) h.phase h.low (few_in c v h) (omega arith)) (omega arith)
     (λ e. omega arith) (inr (omega arith))
@@ -75,8 +64,7 @@ others_served c v k f h ne = elim (cases_eq v.turn 0) [
 works_served : (c : Config) (v : View) (seat : Seat) (f : Flight) (i : Holding) → Orderly c v → HoldsTurn c v seat
     → Service (flight_at v.flights seat) v.holding f i
     → Served (slice_index_or (flights_with v.flights seat f) (v.turn - 1) at_rest) i
-works_served c v seat f i h t s = rw (behind c v seat f i h t s) (served_on _ v.holding f i
-    (rw (holders_flight c v seat h t) at h.served) s)
+works_served c v seat f i h t s = rw (behind c v seat f i h t s) (grind (arith, served_on, holders_flight))
   where
     behind : (c : Config) (v : View) (seat : Seat) (f : Flight) (i : Holding) → Orderly c v → HoldsTurn c v seat
         → Service (flight_at v.flights seat) v.holding f i
@@ -124,6 +112,13 @@ seats_kept : (c : Config) (v : View) (fs : List Flight) (gs : List ℕ) (i : Hol
     → Orderly c (record v { flights = fs; gates = gs; holding = i })
 seats_kept c v fs gs i h flights gates each served free stopped = grind arith
 
+-- where the turn is taken or given
+turn_kept : (c : Config) (v : View) (fs : List Flight) (t : ℕ) → Orderly c v → length fs ≡ c.callers → t ≤ 1 + c.callers
+    → AllShow c.callers t v.gates fs → (2 ≤ v.phase % 8 → v.phase % 8 ≤ 4 → t ≢ 0)
+    → (v.phase % 8 ≡ 3 → (k : ℕ) → k < c.callers → t ≢ 1 + k → gate_in v k ≡ 2)
+    → Orderly c (record v { flights = fs; turn = t; holding = nothing_done })
+turn_kept c v fs t h flights turn each cycle stopped = grind (arith, nothing_served)
+
 -- where the markers change, and how many of them are in, but not how far the phase is
 markers_kept : (c : Config) (v : View) (k : ℕ) (x : MarkerState) (p : ℕ) → Orderly c v → p % 8 ≡ v.phase % 8
     → p ≡ v.phase % 8 + 8 * count_in (slice_set v.markers k x)
@@ -167,46 +162,21 @@ kept c v seat n small h (Leaves {k} lt was) =
     (all_but_both c.callers v.turn k 0 v.gates v.flights at_rest (omega (arith, h.gates)) (omega (arith, h.flights))
     (λ e. absurd (omega arith), omega arith, λ e. refl, s.1) h.each)
     (others_served c v k at_rest h s.1) h.free (λ e b lb ne. absurd (omega (arith, g, h.stopped e k lt s.1)))
-kept c v seat n small h (Takes f z may) = record {
-  flights = flights_kept c v seat f h;
-  gates = h.gates;
-  markers = h.markers;
-  turn = omega (arith, taker_number c v seat f may);
-  each = all_but_seat c (1 + holder_number c seat) seat v.gates v.flights f (taker_shows c v seat f h z may)
-      (λ b lb ne. shows_taken (gate_in v b) b (holder_number c seat) (standing (flight_in v b)) ne
-      (rw z at (h.each b lb)));
-  served = nothing_served _ _;
-  free = λ e. absurd (omega arith);
-  phase = h.phase;
-  low = h.low;
-  cycle = λ a b e. absurd (omega arith);
-  stopped = λ e. absurd (h.cycle (omega arith) (omega arith) z);
-  attends = h.attends;
-  idle = h.idle;
-}
+kept c v seat n small h (Takes f z may) = turn_kept c v _ _ h (flights_kept c v seat f h)
+    (omega (arith, taker_number c v seat f may))
+    (all_but_seat c (1 + holder_number c seat) seat v.gates v.flights f (taker_shows c v seat f h z may)
+    (λ b lb ne. shows_taken (gate_in v b) b (holder_number c seat) (standing (flight_in v b)) ne
+    (rw z at (h.each b lb))))
+    (λ a b e. absurd (omega arith)) (λ e. absurd (h.cycle (omega arith) (omega arith) z))
 kept c v seat n small h (Gives t none at) =
     let turn = turn_of c v seat h t in
-    record {
-      flights = flights_kept c v seat at_rest h;
-      gates = h.gates;
-      markers = h.markers;
-      turn = omega arith;
-      each = all_but_seat c 0 seat v.gates v.flights at_rest (giver_shows c v seat h t)
-          (λ b lb ne. shows_given v.turn (gate_in v b) b (holder_number c seat) (standing (flight_in v b)) ne turn
-          (none b lb) (h.each b lb));
-      served = nothing_served _ _;
-      free = λ e. refl;
-      phase = h.phase;
-      low = h.low;
-      cycle = λ a b. elim at [ inl l ↦ absurd (omega arith) | inr l ↦ absurd (omega arith) ];
-      stopped = λ e. elim at [ inl l ↦ absurd (omega arith) | inr l ↦ absurd (omega arith) ];
-      attends = h.attends;
-      idle = h.idle;
-    }
-kept c v seat n small h (Works f i t s) =
-    let turn = turn_of c v seat h t in
-    seats_kept c v _ v.gates i h (flights_kept c v seat f h) h.gates (works_shown c v seat f i h t s)
-    (works_served c v seat f i h t s) (λ e. absurd (omega arith)) h.stopped
+    turn_kept c v _ 0 h (flights_kept c v seat at_rest h) (omega arith)
+    (all_but_seat c 0 seat v.gates v.flights at_rest (giver_shows c v seat h t)
+    (λ b lb ne. shows_given v.turn (gate_in v b) b (holder_number c seat) (standing (flight_in v b)) ne turn
+    (none b lb) (h.each b lb)))
+    (λ a b. elim at [ inl l ↦ absurd (omega arith) | inr l ↦ absurd (omega arith) ])
+    (λ e. elim at [ inl l ↦ absurd (omega arith) | inr l ↦ absurd (omega arith) ])
+kept c v seat n small h (Works f i t s) = grind (arith, turn_of, length_with, works_shown, works_served)
 kept c v seat n small h (Holds j t lj ne was) =
     let turn = turn_of c v seat h t in
     seats_kept c v v.flights _ v.holding h h.flights (length-set v.gates j 2 ∙ h.gates)

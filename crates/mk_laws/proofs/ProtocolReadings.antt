@@ -51,8 +51,4 @@ gate_tells c es k p lt = grind (arith, gates_tell_holds)
 pub words_tell : WordsTell
 words_tell c es limits on =
     let p = lists_keep_the_protocol c es limits on in
-    record {
-      turn = turn_tells c (left c es).now p;
-      gates = λ k lt. gate_tells c es k p lt;
-      phase = phase_tells c (left c es).now p;
-    }
+    grind (arith, turn_tells, gate_tells, phase_tells)

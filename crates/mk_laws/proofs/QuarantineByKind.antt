@@ -50,8 +50,6 @@ quar_none : (c : Config) (w : World) (f : Flight) (p n : ℕ) → p < length w.n
 quar_none c w f p n lf ls none (ItFrees off x) q = absurd (frees_some c.pages w.now.words f p n off x none)
 quar_none c w f p n lf ls none (ItDrops on x) q = rw on (drop_kept c w p (n % 2 ^ 32) (n / 2 ^ 32) lf ls (rw on at q) x)
 quar_none c w f p n lf ls none (ItTakesSnapshot x) q =
-    let value = x.is in
-    let small = (q.small p).0 in
     let low : n % 2 ^ 32 ≡ slice_index w.now.words.freed p = omega arith in
     let high : n / 2 ^ 32 ≡ slice_index w.now.words.freed p = omega arith in
     let same : slice_set w.now.words.freed p (n % 2 ^ 32) ≡ w.now.words.freed = rw low (set-get_or _ p 0) in
@@ -73,8 +71,6 @@ frees_here c w seat p n cell b h laid x =
     let index : (cell_of_allocation c a).index ≡ cell.index = ap (λ (y : Cell). y.index) own.is in
     let page = x.page in
     let lt = ltb-true p c.pages h.range in
-    let f = b.lengths.freed in
-    let g = b.lengths.snapshot in
     let turn = free_has_turn c w.now seat h.seat x.free in
     record {
       page = omega arith;
@@ -128,12 +124,6 @@ used_kept c w seat p n pages laid q (ItTakes off once x) =
 used_kept c w seat p n pages laid q (ItGivesBack on x) =
     rw on (replaced c true _ (ground_of w) pages _ _ (λ place e. e) (rw on at q))
 
--- `mark`
-mark_from : (t : Bool) (placing : Placing) (found : Option Place) (place : Place)
-    → (if t then chosen placing found else placing) ≡ Used place → placing ≡ Used place
-mark_from false placing found place e = e
-mark_from true placing found place e = chosen_used placing found place e
-
 -- words that leave the quarantine
 kept_ground : (c : Config) (w : World) (x : Words) → KeepsGround w.now.words x → IsQuarantined c w
     → QuarantinedNow c w (record (ground_of w) { pages = x.pages; freed = x.freed; snapshot = x.snapshot })
@@ -148,9 +138,7 @@ none_left : (c : Config) (w : World) → Before c w → may_end c.pages w.now.wo
     → is_released_in true w.now.words.snapshot w.now.words.marks p k ≡ false
 none_left c w b own p k = elim (cases_lt p c.pages) [
   | inl lt ↦ (settled_page w.now.words c.pages p own lt).none k
-  | inr past ↦ false_from_ne_true _ (λ r.
-      let bits = released_bits w.now.words.snapshot w.now.words.marks p k r in
-      none_set _ k (get_or_past w.now.words.snapshot p 0 (let len = b.lengths.snapshot in omega arith)) bits.0)
+  | inr past ↦ grind (arith, false_from_ne_true, released_bits, none_set, get_or_past)
 ]
 
 -- each kind of event, whatever the seat
@@ -168,8 +156,7 @@ quarantine_by_kind c w seat (Step.Used p n) b h laid q =
 quarantine_by_kind c w seat (Step.Quar p n) b h laid q = quar_kept c w seat p n b h laid q
 quarantine_by_kind c w seat Step.Grant b h laid q =
     rw (grants_early w h.phase) (grant_kept c w.now.words.marks (ground_of w) _ refl (rw (grants_early w h.phase) at q))
-quarantine_by_kind c w seat (Step.Mark p n) b h laid q =
-    replaced c _ _ _ _ _ _ (λ place e. mark_from _ w.now.seats.holding.placing _ place e) q
+quarantine_by_kind c w seat (Step.Mark p n) b h laid q = grind (arith, replaced, chosen_used)
 quarantine_by_kind c w seat Step.Begin b h laid q = begin_kept c _ w.now.words.marks (ground_of w) q
 quarantine_by_kind c w seat Step.Release b h laid q =
     let off = off_at w 3 h.phase (λ e. absurd (omega arith)) in

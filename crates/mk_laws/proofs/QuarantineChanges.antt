@@ -2,8 +2,8 @@
 use Rattle.std.proofs.{Common.pow-suc, Math.Pow.pow_mono, lemmas.Nat.or_lt}
 use Rattle.mk_laws.proofs.Vocabulary.{Bool, Cell, Config, Granted, Ground, HasQuarantine, IsFreedCell, IsSized}
 use Rattle.mk_laws.proofs.Vocabulary.{IsWithinLimits, List, Object, Option, PlacedAllocation, Placing, RunPages, Some}
-use Rattle.mk_laws.proofs.Vocabulary.{Words, World, ℕ, ap, arith, cases_Bool, cases_eq, cell_ends, cell_of_allocation}
-use Rattle.mk_laws.proofs.Vocabulary.{cells_made, changed_at, class_known, class_made, class_words_of, cond-true, false}
+use Rattle.mk_laws.proofs.Vocabulary.{Words, World, ℕ, ap, arith, cases_Bool, cell_ends, cell_of_allocation, cells_made}
+use Rattle.mk_laws.proofs.Vocabulary.{changed_at, class_known, class_made, class_words_of, cond-true, false}
 use Rattle.mk_laws.proofs.Vocabulary.{freed_released, freed_where_it_stands, ground_of, has_bit, has_place}
 use Rattle.mk_laws.proofs.Vocabulary.{if◌then◌else◌, inl, inr, is_released_in, is_small_object, large_cells, length}
 use Rattle.mk_laws.proofs.Vocabulary.{map, mul-le, no_longer_fresh, placed_at, quarantine_word, refl, slice_index}
@@ -44,13 +44,9 @@ release_kept c w limits stand q = record {
   within = q.within;
   owned = λ p k h. owned p k (q.owned p k h);
   shown = λ i u f.
-      let b = before_change c _ w.allocations i leaves u in
-      cc (b.cell, q.shown i b.was (ap (λ (x : PlacedAllocation). x.freed) (sym b.now) ∙ f));
+      grind (arith, before_change);
   taken = q.taken;
-  kept = λ on i u.
-      let b = before_change c _ w.allocations i leaves u in
-      ap (λ (x : Cell). is_released_in true w.now.words.snapshot w.now.words.marks x.page x.index) b.cell
-      ∙ sym (left_is c w.now.words _ limits (stand i b.was)) ∙ b.unreleased;
+  kept = grind (arith, before_change, left_is);
 }
   where
     leaves : LeavesCells (with_released c w.now.words)
@@ -63,9 +59,7 @@ release_kept c w limits stand q = record {
     owned p k (inr r) = absurd (true≢false (sym r))
     owned p k (inl o) = elim (cases_Bool (with_released c w.now.words (placed_at w.allocations o.number)).released) [
       | inr u ↦ inl (freed_behind c (with_released c w.now.words) w.allocations p k leaves o u o.freed)
-      | inl r ↦
-          inr (ap (λ (x : Cell). is_released_in true w.now.words.snapshot w.now.words.marks x.page x.index) (sym o.cell)
-          ∙ sym (left_is c w.now.words _ limits (stand o.number o.unreleased)) ∙ r)
+      | inl r ↦ grind (arith, left_is)
     ]
 
 -- `begin`
@@ -79,12 +73,10 @@ begin_kept c releasing marks t q = record {
     | inr r ↦ inr r
   ];
   shown = λ i u f.
-      let b = before_change c no_longer_fresh t.allocations i fresh_cells u in
-      cc (b.cell, q.shown i b.was (ap (λ (x : PlacedAllocation). x.freed) (sym b.now) ∙ f));
+      grind (arith, before_change, fresh_cells);
   taken = q.taken;
   kept = λ on i u.
-      let b = before_change c no_longer_fresh t.allocations i fresh_cells u in
-      ap (λ (x : Cell). is_released_in true t.snapshot marks x.page x.index) b.cell ∙ q.kept on i b.was;
+      grind (arith, before_change, fresh_cells);
 }
 
 -- `grant`
@@ -105,15 +97,9 @@ index_small o k sized lt = elim (cases_Bool (is_small_object o)) [
   | inr large ↦ let one = large_cells o large in omega arith
 ]
 
--- `quar` (a): the freed bit of an unreleased allocation's cell
-freed_if : (b : Bool) (a : PlacedAllocation) → a.freed ≡ true
-    → (if b then record a { freed = true; fresh = true } else a).freed ≡ true
-freed_if true a f = refl
-freed_if false a f = f
-
 pub freed_stays : (w : Words) (cell : Cell) (a : PlacedAllocation) → a.freed ≡ true
     → (freed_where_it_stands w (Some cell) a).freed ≡ true
-freed_stays w cell a f = freed_if _ a f
+freed_stays w cell a f = grind arith
 
 freed_by : (b : Bool) (a : PlacedAllocation) → (if b then record a { freed = true; fresh = true } else a).freed ≡ true
     → (b ≡ true) ⊎ (a.freed ≡ true)
@@ -204,17 +190,13 @@ free_kept c w cell run n x q = record {
         → has_bit (slice_index (slice_set w.now.words.freed cell.page (n % 2 ^ 32)) i) k ≡ true
     grown i k h = elim (bit_cases w.now.words.freed cell.page (n % 2 ^ 32) i k x.page) [
       | inr other ↦ other.1 ∙ h
-      | inl here ↦ here.1 ∙ rw low (elim (cases_eq k cell.index) [
-        | inl e ↦ rw e (added_here (slice_index w.now.words.freed cell.page) cell.index x.unset)
-        | inr ne ↦ added_other (slice_index w.now.words.freed cell.page) cell.index k x.unset ne ∙ rw (← here.0) h
-      ])
+      | inl here ↦ grind (arith, low, added_here, added_other)
     ]
 
     still : (i k : ℕ) → IsFreedCell c w.allocations i k
         → IsFreedCell c (map (freed_where_it_stands w.now.words (Some cell)) w.allocations) i k
     still i k o = freed_behind c (freed_where_it_stands w.now.words (Some cell)) w.allocations i k leaves o
-        (freed_released w.now.words (Some cell) (placed_at w.allocations o.number)
-        ∙ o.unreleased) (freed_stays w.now.words cell (placed_at w.allocations o.number) o.freed)
+        (grind (arith, freed_released)) (freed_stays w.now.words cell (placed_at w.allocations o.number) o.freed)
 
     was : (i k : ℕ) → has_bit (slice_index w.now.words.freed i) k ≡ true
         → IsFreedCell c (map (freed_where_it_stands w.now.words (Some cell)) w.allocations) i k
@@ -228,10 +210,5 @@ free_kept c w cell run n x q = record {
         ⊎ (is_released_in false (slice_set w.now.words.snapshot cell.page (n / 2 ^ 32)) w.now.words.marks i k ≡ true)
     owned i k h = elim (bit_cases w.now.words.freed cell.page (n % 2 ^ 32) i k x.page) [
       | inr other ↦ inl (was i k (sym other.1 ∙ h))
-      | inl here ↦ elim (cases_eq k cell.index) [
-        | inl e ↦ inl (rw e (rw here.0 new))
-        | inr ne ↦
-            inl (was i k (rw here.0 (sym (added_other (slice_index w.now.words.freed cell.page) cell.index k x.unset ne)
-            ∙ rw (← low) (sym here.1 ∙ h))))
-      ]
+      | inl here ↦ grind (arith, new, was, added_other, low)
     ]

@@ -1,13 +1,13 @@
 -- The quarantine after each kind of step.
 use Rattle.std.proofs.Common.{bit_and, min}
 use Rattle.std.proofs.{lemmas.Nat.and_le_r, lemmas.Nat.Bits.bit_at_and, lemmas.Nat.Bits.same_from_bits}
-use Rattle.mk_laws.proofs.Vocabulary.{Among, Bool, Cell, Chosen, Claim, Config, Drops, Granted, Ground, HasQuarantine}
-use Rattle.mk_laws.proofs.Vocabulary.{IsFreedCell, List, Object, Option, Page, Place, Placing, RunPages, Unplaced, Used}
-use Rattle.mk_laws.proofs.Vocabulary.{World, ℕ, and_parts, and_right, ap, arith, bit_at, cases_eq, cell_of_allocation}
-use Rattle.mk_laws.proofs.Vocabulary.{claims_on, claims_placed, false, false_from_ne_true, fewer_bits, get_or-set_other}
+use Rattle.mk_laws.proofs.Vocabulary.{Among, Bool, Chosen, Claim, Config, Drops, Granted, Ground, HasQuarantine, List}
+use Rattle.mk_laws.proofs.Vocabulary.{Object, Option, Page, Place, Placing, RunPages, Unplaced, Used, World, ℕ}
+use Rattle.mk_laws.proofs.Vocabulary.{and_parts, and_right, ap, arith, bit_at, cases_eq, cell_of_allocation, claims_on}
+use Rattle.mk_laws.proofs.Vocabulary.{claims_placed, false, false_from_ne_true, fewer_bits, get_or-set_other}
 use Rattle.mk_laws.proofs.Vocabulary.{get_or-set_same, ground_of, has_bit, has_bit_without, inl, inr, is_released_in}
 use Rattle.mk_laws.proofs.Vocabulary.{length, not, not-true, placed_at, refl, slice_index, slice_set, sym, true}
-use Rattle.mk_laws.proofs.Vocabulary.{true≢false, used_on, without, ◌&&◌, ◌-◌, ◌<◌, ◌^◌, ◌∙◌, ◌≡◌, ◌≢◌, ◌≤◌, ◌⊎◌}
+use Rattle.mk_laws.proofs.Vocabulary.{used_on, without, ◌&&◌, ◌-◌, ◌<◌, ◌^◌, ◌∙◌, ◌≡◌, ◌≢◌, ◌≤◌, ◌⊎◌}
 use Rattle.mk_core.proofs.{PageSteps.left_bits, WordBits.rest_bits}
 use Rattle.mk_laws.proofs.{Claims.claim_is, Serving.among_parts}
 
@@ -60,12 +60,10 @@ module _ (c : Config) (w : World) (p f n : ℕ) (lf : p < length w.now.words.fre
   rest = slice_index w.now.words.snapshot p - n
 
   n_small : n < 2 ^ 32
-  n_small = let s = (q.small p).1 in let le = and_le_r n (slice_index w.now.words.snapshot p) in let is =
-      d.fewer in omega arith
+  n_small = let le = and_le_r n (slice_index w.now.words.snapshot p) in let is = d.fewer in omega arith
 
   f_small : f < 2 ^ 32
-  f_small = let s = (q.small p).0 in let is = d.is in let le =
-      without_le (slice_index w.now.words.freed p) rest in omega arith
+  f_small = omega arith
 
   f_bit : (k : ℕ) → has_bit f k ≡ (has_bit (slice_index w.now.words.freed p) k && not (has_bit rest k))
   f_bit k = rw d.is (has_bit_without _ rest k)
@@ -87,12 +85,7 @@ module _ (c : Config) (w : World) (p f n : ℕ) (lf : p < length w.now.words.fre
       → has_bit (slice_index (slice_set w.now.words.freed p f) i) k ≡ true
   stays i k x out = elim (bit_cases w.now.words.freed p f i k lf) [
     | inr other ↦ other.1 ∙ x
-    | inl here ↦
-        let was = ap (λ j. has_bit (slice_index w.now.words.freed j) k) (sym here.0) ∙ x in
-        let none = false_from_ne_true _ (λ r.
-        let bits = left_bits w.now.words p rest k d.left r in
-        true≢false (sym (and_both _ _ bits.0 bits.1) ∙ rw (← here.0) out)) in
-        here.1 ∙ f_bit k ∙ and_both _ _ was none
+    | inl here ↦ grind (arith, false_from_ne_true, left_bits, rest, and_both, f_bit)
   ]
 
   -- what is still freed and was released is released still
@@ -101,36 +94,24 @@ module _ (c : Config) (w : World) (p f n : ℕ) (lf : p < length w.now.words.fre
       → has_bit (slice_index (slice_set w.now.words.snapshot p n) i) k ≡ true
   still_released i k x was = grind (arith, bit_cases, and_parts, f_bit, rest_bits, not-true)
 
-  owned : (i k : ℕ) → has_bit (slice_index (slice_set w.now.words.freed p f) i) k ≡ true
-      → IsFreedCell c w.allocations i k
-      ⊎ (is_released_in true (slice_set w.now.words.snapshot p n) w.now.words.marks i k ≡ true)
-  owned i k x = grind (arith, bit_cases, was_freed, released_bits, and_both, still_released)
-
   pub drop_kept : HasQuarantine c true w.now.words.marks
       (record (ground_of w) { freed = slice_set w.now.words.freed p f; snapshot = slice_set w.now.words.snapshot p n })
-  drop_kept = record {
-    small = λ i. (
-      least_set w.now.words.freed p f i lf f_small (q.small i).0,
-      least_set w.now.words.snapshot p n i ls n_small (q.small i).1,
-    );
-    within = within;
-    owned = owned;
-    shown = λ i u x. stays (cell_of_allocation c (placed_at w.allocations i)).page
-        (cell_of_allocation c (placed_at w.allocations i)).index (q.shown i u x) (q.kept refl i u);
-    taken = λ place is. elim (bit_cases w.now.words.freed p f place.page place.index lf) [
-      | inl here ↦ here.1 ∙ false_from_ne_true (has_bit f place.index) (λ x.
-          true≢false (sym (was_freed place.index x) ∙ rw (← here.0) (q.taken place is)))
-      | inr other ↦ other.1 ∙ q.taken place is
-    ];
-    kept = λ on i u.
-        let x : Cell = cell_of_allocation c (placed_at w.allocations i) in
-        false_from_ne_true
-        (is_released_in true (slice_set w.now.words.snapshot p n) w.now.words.marks x.page x.index) (λ r.
-        let bits = released_bits (slice_set w.now.words.snapshot p n) w.now.words.marks x.page x.index r in
-        true≢false (sym (and_both (has_bit (slice_index w.now.words.snapshot x.page) x.index)
-        (has_bit (slice_index w.now.words.marks x.page) x.index) (was_snap x.page x.index bits.0) bits.1)
-        ∙ q.kept refl i u));
-  }
+  drop_kept =
+      grind (
+        arith,
+        least_set,
+        f_small,
+        n_small,
+        within,
+        stays,
+        bit_cases,
+        false_from_ne_true,
+        was_freed,
+        released_bits,
+        and_both,
+        was_snap,
+        still_released,
+      )
 
 -- `quar` (b): the freed cells are the snapshot
 pub snapshot_kept : (c : Config) (marks : List ℕ) (t : Ground) (p : ℕ) → p < length t.snapshot

@@ -1,11 +1,9 @@
 -- Which word an enabled event reaches, and how.
-use Rattle.mk_laws.proofs.Vocabulary.{Caller, Config, Flight, Holds, Host, Marker, MarkerState, Moment, Op, Placing}
-use Rattle.mk_laws.proofs.Vocabulary.{Seat, Stage, Step, Tally, Word, ℕ, access, and_parts, arith, caller_number}
-use Rattle.mk_laws.proofs.Vocabulary.{enabled_meets, false, flight_of, is_new_at, is_number_of, is_under_turn, left}
-use Rattle.mk_laws.proofs.Vocabulary.{ltb-true, marker_at, nat_lt, not, outside, page_met, refl, seat_exists}
-use Rattle.mk_laws.proofs.Vocabulary.{tally_word, true, word_accessed, word_met, ◌&&◌, ◌*◌, ◌++◌, ◌<◌, ◌≡◌, ◌≤◌}
-use Rattle.mk_core.specs.Layout.{IsOfTable, NamesWord}
-use Rattle.mk_core.specs.{Accesses.access_by, Ranges.is_word, Ranges.is_word_met, Readings.is_idle}
+use Rattle.mk_laws.proofs.Vocabulary.{Caller, Config, Flight, Holds, Host, Marker, Moment, Seat, Step, Tally, Word, ℕ}
+use Rattle.mk_laws.proofs.Vocabulary.{access, and_parts, arith, caller_number, enabled_meets, flight_of, is_number_of}
+use Rattle.mk_laws.proofs.Vocabulary.{left, ltb-true, marker_at, nat_lt, not, outside, page_met, refl, seat_exists}
+use Rattle.mk_laws.proofs.Vocabulary.{true, word_accessed, word_met, ◌&&◌, ◌*◌, ◌<◌, ◌≡◌, ◌≤◌}
+use Rattle.mk_core.specs.{Layout.IsOfTable, Layout.NamesWord, Ranges.is_word, Ranges.is_word_met}
 use Rattle.mk_laws.proofs.Basics.{Known, Meets, grants_new, is_grant, known_left, new_holds, operands_of}
 use Rattle.mk_laws.proofs.Basics.{register_small}
 use Rattle.mk_laws.proofs.ScansInHeap.{MarkerFits, next_in_heap, nothing_fits, scan_page_in_heap, seen_page_in_heap}
@@ -31,10 +29,6 @@ seat_marker c m _ h = nothing_fits c outside refl refl
 looked_at : (c : Config) (x : Word) → c.callers ≤ 16 → is_word c x ≡ true → NamesWord c.pages x
 looked_at c (Word.Gate j) small h = let lt = ltb-true j c.callers h in omega arith
 looked_at c x1 small h = grind (arith, and_parts, ltb-true)
-
-tallied : (pages : ℕ) (t : Tally) → NamesWord pages (tally_word t)
-tallied pages Tally.Held = tt
-tallied pages _ = tt
 
 -- the word that a call accesses
 met : (c : Config) (f : Flight) → is_word_met c f ≡ true → (word_met f < 64 * c.pages) × (page_met f < c.pages)
@@ -64,7 +58,7 @@ reaches c m seat (Step.Head p v) known heap h = ltb-true p c.pages h.range
 reaches c m seat (Step.Used p v) known heap h = ltb-true p c.pages h.range
 reaches c m seat (Step.Quar p v) known heap h = ltb-true p c.pages h.range
 reaches c m seat Step.Grant known heap h = (number_small c seat known.small h.seat, (seat_operands c m seat known).d)
-reaches c m seat (Step.Tally n v) known heap h = tallied c.pages n
+reaches c m seat (Step.Tally n v) known heap h = grind arith
 reaches c m seat (Step.Hold j) known heap h = other_gate c seat j known.small h.range
 reaches c m seat (Step.Open j) known heap h = other_gate c seat j known.small h.range
 reaches c m seat (Step.Clear p) known heap h = ltb-true p c.pages h.range
@@ -87,32 +81,18 @@ events_reach_the_table c es e limits on now =
 
 -- the access is the same where the call, the marker and a New's place are
 
-placing_apart : (c : Config) (n : ℕ) (f : Flight) (p q : Placing) (x : MarkerState) (s : Step) → is_grant s ≡ false
-    → access_by c n f p x s ≡ access_by c n f q x s
-placing_apart c n f p q x Step.Grant g = cc
-placing_apart c n f p q x _ g = refl
-
--- whoever is in a New holds the turn
-new_in_turn : (s : Stage) (o : Op) → is_new_at s o ≡ true → (not (is_idle s) && is_under_turn o) ≡ true
-new_in_turn Stage.Turn (Op.New d ty full) h = refl
-new_in_turn _ _ h = cc
-
 granter_holds : (c : Config) (m : Moment) (seat : Seat) → Meets c m seat Step.Grant → Holds c m seat
-granter_holds c m seat h = grind (arith, new_holds, grants_new, new_in_turn)
+granter_holds c m seat h = grind (arith, new_holds, grants_new)
 
 same_access : (c : Config) (m n : Moment) (seat : Seat) (x : Step) → flight_of n seat ≡ flight_of m seat
     → marker_at n seat ≡ marker_at m seat → (is_grant x ≡ true → n.seats.holding ≡ m.seats.holding)
     → access c n (record { seat = seat; step = x }) ≡ access c m (record { seat = seat; step = x })
-same_access c m n seat x flight marker holding = grind (arith, is_grant, placing_apart)
+same_access c m n seat x flight marker holding = grind (arith, is_grant)
 
 pub others_leave_accesses : OthersLeaveAccesses
 others_leave_accesses c es more e limits on others now =
     let l = (others_leave c es more e.seat limits on others).own in
-    record {
-      word = cc (l.flight, l.marker);
-      access = same_access c (left c es).now (left c (es ++ more)).now e.seat e.step l.flight l.marker
-          (λ g. (l.holding (granting e.step g (enabled_meets c (left c es).now e now))).1);
-    }
+    grind (arith, same_access, enabled_meets)
   where
     granting : (x : Step) → is_grant x ≡ true → Meets c (left c es).now e.seat x → Holds c (left c es).now e.seat
     granting Step.Grant g h = granter_holds c (left c es).now e.seat h

@@ -44,11 +44,7 @@ image_same listed safe s n h (Ptr a t o) (Ptr b u i) su sv fu fv e =
     let eb = base_at s.allocations b in
     let places : (placed_at s.allocations a).base + o ≡ (placed_at s.allocations b).base + i = omega arith in
     elim (cases_eq a b) [
-      | inl ab ↦
-          let bases : (placed_at s.allocations a).base ≡ (placed_at s.allocations b).base = rw ab in
-          let oi : o ≡ i = omega arith in
-          let tu : t ≡ u = su.1 ∙ rw ab (sym sv.1) in
-          cc
+      | inl ab ↦ grind arith
       | inr ne ↦ absurd (h.apart a b o i (h.set.unreleased a fu) (h.set.unreleased b fv)
           (pointed_word listed safe s n h a t o su) (pointed_word listed safe s n h b u i sv) ne places)
     ]
@@ -58,8 +54,7 @@ pub image_test : (listed : List ℕ) (safe : ℕ → Bool) (s : ImageScene) (n :
     → (image_of (bases_of s.allocations) u == image_of (bases_of s.allocations) v) ≡ is_same u v
 image_test listed safe s n h u v su sv fu fv = elim (cases_Bool (is_same u v)) [
   | inl e ↦ eq-eqb _ _ (ap (image_of (bases_of s.allocations)) (equal_from_same u v e)) ∙ sym e
-  | inr e ↦ ne_eqb _ _
-      (λ same. let x = sym (same_from_equal u v (image_same listed safe s n h u v su sv fu fv same)) ∙ e in cc) ∙ sym e
+  | inr e ↦ grind (arith, ne_eqb, same_from_equal, image_same)
 ]
 
 pub bit_is : (b : Bool) → one_if b ≡ bit b

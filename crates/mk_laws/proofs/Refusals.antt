@@ -1,9 +1,9 @@
 -- A call that is decided and changes nothing, or is refused.
 use Rattle.mk_laws.proofs.Vocabulary.{Answer, Bool, Done, Flight, ImageScene, List, NeverState, Null, Num, Op, Some}
-use Rattle.mk_laws.proofs.Vocabulary.{Stage, WordOf, ℕ, answer_of, ap, arith, bases_of, bit, d_of, false, flagged}
-use Rattle.mk_laws.proofs.Vocabulary.{flight_among, i_of, if◌then◌else◌, is_put, is_same, length, number_of, q_of, refl}
-use Rattle.mk_laws.proofs.Vocabulary.{register_at, slice_set, stage_refused, sym, target_of, true, with_register}
-use Rattle.mk_laws.proofs.Vocabulary.{with_word, word_at, ◌*◌, ◌++◌, ◌+◌, ◌<◌, ◌∙◌, ◌≡◌}
+use Rattle.mk_laws.proofs.Vocabulary.{Stage, WordOf, ℕ, answer_of, ap, arith, bit, d_of, false, flagged, flight_among}
+use Rattle.mk_laws.proofs.Vocabulary.{i_of, is_put, is_same, length, number_of, q_of, refl, register_at, slice_set}
+use Rattle.mk_laws.proofs.Vocabulary.{stage_refused, sym, target_of, true, with_register, with_word, word_at, ◌*◌, ◌+◌}
+use Rattle.mk_laws.proofs.Vocabulary.{◌<◌, ◌∙◌, ◌≡◌}
 use Rattle.mk_never.specs.NeverHeap.{after_op, left_at, reply_at, reply_of}
 use Rattle.mk_never.specs.declared.operations.Reply.TheVariants.{Num as Number, Val}
 use Rattle.mk_never.specs.{declared.operations.Reply.Reply, declared.values.Target.Target}
@@ -47,8 +47,7 @@ pub owes_null : (safe : ℕ → Bool) (s : ImageScene) (n : NeverState) (k d : �
 owes_null safe s n k d o f a flag there long was put isd ld zero stays is = (
   rw (ap (after_op n k) flag ∙ stays ∙ ap (λ x. with_register n k x Null) (sym isd))
       (Owes k f Null there long was put (omega (arith, isd)) zero tt),
-  λ more. one_right _ a n k o (is _
-      ∙ ap (λ (x : Op). answer_of (bases_of s.allocations ++ more) (reply_of n k x)) (sym flag)),
+  λ more. one_right _ a n k o (grind arith),
 )
 
 refused_reply : (x t : Target) (at : ℕ → ℕ → Reply) → x ≡ t → is_word t ≡ false
@@ -82,8 +81,7 @@ refuses safe s n k (Op.SetPtr q' i p') q p r a t is there long was ld none e ans
     (refused_left _ t n (λ a w. with_word n a w (register_at n k p')) e none) (λ bs. answer bs ∙ ap (answer_of bs)
     (sym (refused_reply _ t (λ a w. Done) e none)))
 refuses safe s n k (Op.CasPtr q' i p' r') q p r a t is there long was ld none e answer =
-    decides_nothing safe s n k (Op.CasPtr q' i p' r') _ a refl was refl (refused_left _ t n
-    (λ a w. if is_same (word_at n a w) (register_at n k p') then with_word n a w (register_at n k r') else n) e none)
+    decides_nothing safe s n k (Op.CasPtr q' i p' r') _ a refl was refl (grind (arith, refused_left))
     (λ bs. answer bs ∙ ap (answer_of bs) (sym (refused_reply _ t
     (λ a w. Number (bit (is_same (word_at n a w) (register_at n k p')))) e none)))
 refuses safe s n k (Op.GetPtr d q' i) q p r a t is there long was ld none e answer =

@@ -101,8 +101,8 @@ module _ (listed : List ℕ) (safe : ℕ → Bool) (s : ImageScene) (n : NeverSt
         (rw (null_at q' x e z)) (λ bs. ap (λ v. answer_of bs (lea_reply v)) (sym (null_at q' x e z))))
         (λ nz. flies_on safe s n k (Op.Lea d q' i) _ was refl
         (carries_q _ _ _ _ _ e (eqb-false x 0 nz) refl refl refl) (λ y. cc))
-    reg_q (Op.Move d q') q p r l x is ld a car e = flies_on safe s n k (Op.Move d q') _ (rw is) refl
-        (record { q = λ y. e; some_q = λ y. cc; p = λ y. cc; some_p = λ y. cc; r = λ y. cc }) (λ y. cc)
+    reg_q (Op.Move d q') q p r l x is ld a car e =
+        flies_on safe s n k (Op.Move d q') _ (rw is) refl (grind arith) (λ y. cc)
     reg_q (Op.Same p' q') q p r l x is ld a car e =
         let u = register_at n k p' in
         let v = register_at n k q' in
@@ -115,16 +115,14 @@ module _ (listed : List ℕ) (safe : ℕ → Bool) (s : ImageScene) (n : NeverSt
         → is_astray (standing_at Stage.LoadP o) ≡ false → CarriesOwn bases n k (flight Stage.LoadP o q p r l)
         → x ≡ image_of bases (register_at n k (p_of o))
         → LeadsBy safe s n k o s (progress_p (flight Stage.LoadP o q p r l) o x)
-    reg_p (Op.SetPtr q' i p') q p r l x is a car e = flies_on safe s n k (Op.SetPtr q' i p') _ (rw is) refl
-        (record { q = λ y. car.q refl; some_q = λ y. car.some_q refl; p = λ y. e; some_p = λ y. cc; r = λ y. cc })
-        (λ y. cc)
-    reg_p (Op.CasPtr q' i p' r') q p r l x is a car e = flies_on safe s n k (Op.CasPtr q' i p' r') _ (rw is) refl
-        (record { q = λ y. car.q refl; some_q = λ y. car.some_q refl; p = λ y. e; some_p = λ y. cc; r = λ y. cc })
-        (λ y. cc)
-    reg_p (Op.SetGlobal g p') q p r l x is a car e = flies_on safe s n k (Op.SetGlobal g p') _ (rw is) refl
-        (record { q = λ y. cc; some_q = λ y. cc; p = λ y. e; some_p = λ y. cc; r = λ y. cc }) (λ y. cc)
-    reg_p (Op.Same p' q') q p r l x is a car e = flies_on safe s n k (Op.Same p' q') _ (rw is) refl
-        (record { q = λ y. cc; some_q = λ y. cc; p = λ y. e; some_p = λ y. cc; r = λ y. cc }) (λ y. cc)
+    reg_p (Op.SetPtr q' i p') q p r l x is a car e =
+        flies_on safe s n k (Op.SetPtr q' i p') _ (rw is) refl (grind arith) (λ y. cc)
+    reg_p (Op.CasPtr q' i p' r') q p r l x is a car e =
+        flies_on safe s n k (Op.CasPtr q' i p' r') _ (rw is) refl (grind arith) (λ y. cc)
+    reg_p (Op.SetGlobal g p') q p r l x is a car e =
+        flies_on safe s n k (Op.SetGlobal g p') _ (rw is) refl (grind arith) (λ y. cc)
+    reg_p (Op.Same p' q') q p r l x is a car e =
+        flies_on safe s n k (Op.Same p' q') _ (rw is) refl (grind arith) (λ y. cc)
     reg_p (Op.IsNull p') q p r l x is a car e =
         let v = register_at n k p' in
         let tests : (x == 0) ≡ is_same v Null = rw e
@@ -144,14 +142,8 @@ module _ (listed : List ℕ) (safe : ℕ → Bool) (s : ImageScene) (n : NeverSt
         → is_astray (standing_at Stage.LoadR o) ≡ false → CarriesOwn bases n k (flight Stage.LoadR o q p r l)
         → x ≡ image_of bases (register_at n k (r_of o))
         → LeadsBy safe s n k o s (onward (record (flight Stage.LoadR o q p r l) { r = x }) None)
-    reg_r (Op.CasPtr q' i p' r') q p r l x is a car e = flies_on safe s n k (Op.CasPtr q' i p' r') _ (rw is) refl
-        (record {
-          q = λ y. car.q refl;
-          some_q = λ y. car.some_q refl;
-          p = λ y. car.p refl;
-          some_p = λ y. cc;
-          r = λ y. e;
-        }) (λ y. cc)
+    reg_r (Op.CasPtr q' i p' r') q p r l x is a car e =
+        flies_on safe s n k (Op.CasPtr q' i p' r') _ (rw is) refl (grind arith) (λ y. cc)
     reg_r _ q p r l x is a car e = cc
 
     reg_store : (o : Op) (q p r l : ℕ) → flight_among s.flights k ≡ flight Stage.Store o q p r l → d_of o < 8
@@ -169,12 +161,8 @@ module _ (listed : List ℕ) (safe : ℕ → Bool) (s : ImageScene) (n : NeverSt
               (ap (answer_of (bases_of s.allocations ++ more)) (sym lea.2)),
         )
     reg_store (Op.Move d q') q p r l is ld a car ad = (
-      Stores k d _ (flight Stage.Leave (Op.Move d q') q p r l) (register_at n k q') (record {
-        there = there;
-        registers = long;
-        was = rw is;
-        bare = refl;
-      }) longs ld (car.q refl) (h.set.registers (8 * k + q')),
+      Stores k d _ (flight Stage.Leave (Op.Move d q') q p r l) (register_at n k q')
+          (grind arith) longs ld (car.q refl) (h.set.registers (8 * k + q')),
       λ more. refl,
     )
     reg_store (Op.Clear d) q p r l is ld a car ad = (

@@ -6,8 +6,8 @@ use Rattle.mk_laws.proofs.Vocabulary.{cases_Bool, cell_of_allocation, cells_made
 use Rattle.mk_laws.proofs.Vocabulary.{false, ground_of, has_bit_without, inl, inr, is_released_in, is_small_object}
 use Rattle.mk_laws.proofs.Vocabulary.{large_cells, large_words, length, map, object_placed, or_parts, pages_made}
 use Rattle.mk_laws.proofs.Vocabulary.{placed_at, refl, released_leaves, released_where_left, run_begins, small}
-use Rattle.mk_laws.proofs.Vocabulary.{small_pages, storage_words, sym, true, true≢false, with_released, words_made, ◌*◌}
-use Rattle.mk_laws.proofs.Vocabulary.{◌+◌, ◌/◌, ◌<◌, ◌∙◌, ◌≡◌, ◌≤◌, ◌⊎◌}
+use Rattle.mk_laws.proofs.Vocabulary.{small_pages, sym, true, true≢false, with_released, words_made, ◌*◌, ◌+◌, ◌/◌, ◌<◌}
+use Rattle.mk_laws.proofs.Vocabulary.{◌∙◌, ◌≡◌, ◌≤◌, ◌⊎◌}
 use Rattle.mk_core.proofs.StandingAllocations.{cell_ends_within, made_begins, placed_cell, run_cell}
 use Rattle.mk_laws.proofs.Claims.{LeavesCells, apart_behind, cells_behind, changed_among, claim_among, claim_is}
 use Rattle.mk_laws.proofs.Claims.{was_claim}
@@ -39,10 +39,7 @@ stands_there c run w a len shown u at = record {
     typed = at.typed;
     unreleased = u;
     begins = at.begins;
-    within =
-        let inside : a.base / 64 + pages_made (object_placed c a) ≤ length w.pages = shown.within in
-        let words : storage_words c a ≡ words_made (object_placed c a) = refl in
-        omega (arith, ends_on_pages _ a.base shown.sized at.begins);
+    within = omega (arith, ends_on_pages _ a.base shown.sized at.begins);
   };
   headers = λ d lt. header_of_mode _ _ d _ (shown.headers d lt);
 }
@@ -94,7 +91,6 @@ pub released_terrain : (c : Config) (o : Object) (w : World) → IsWithinLimits 
     → is_released_in true w.now.words.snapshot w.now.words.marks run.page 0 ≡ false)
     → Laid c o true w (record (ground_of w) { allocations = map (with_released c w.now.words) w.allocations })
 released_terrain c o w limits len st kept =
-    let ys : List PlacedAllocation = map (with_released c w.now.words) w.allocations in
     let own : List Claim = claims_of c w.now.seats.holding.freed w.allocations in
     let placed : List Claim = claims_placed o w.now.seats.holding.placing in
     record {

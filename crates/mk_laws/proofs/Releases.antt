@@ -7,14 +7,14 @@ use Rattle.mk_laws.proofs.Vocabulary.{flight_of, has_bit_of, has_bit_without, is
 use Rattle.mk_laws.proofs.Vocabulary.{is_quarantined, is_release, left, left_from, left_in_parts, list_any}
 use Rattle.mk_laws.proofs.Vocabulary.{list_any-append, map, never_behind, never_in_parts, not, not-true, phase_of}
 use Rattle.mk_laws.proofs.Vocabulary.{placed_at, released_leaves, released_where_left, subst, sym, true, with_released}
-use Rattle.mk_laws.proofs.Vocabulary.{world_behind, [], ◌&&◌, ◌++◌, ◌||◌, ◌↔◌, ◌∙◌, ◌∷◌, ◌≡◌}
+use Rattle.mk_laws.proofs.Vocabulary.{[], ◌&&◌, ◌++◌, ◌↔◌, ◌∙◌, ◌∷◌, ◌≡◌}
 use Rattle.mk_never.specs.Reach.{IsReachable}
 use Rattle.mk_core.specs.Allocations.{allocations_by}
-use Rattle.mk_laws.proofs.CyclePhases.{AsksPhase, IsMarking, IsUnreleased, begin_is, close_is, marking_goes_on}
-use Rattle.mk_laws.proofs.CyclePhases.{moves_phase, none_is_released, phase_behind, release_is}
+use Rattle.mk_laws.proofs.CyclePhases.{AsksPhase, IsUnreleased, begin_is, close_is, marking_goes_on, moves_phase}
+use Rattle.mk_laws.proofs.CyclePhases.{none_is_released, phase_behind, release_is}
 use Rattle.mk_laws.proofs.InvariantTheorems.{allocations_stand, reach_is_kept}
-use Rattle.mk_laws.proofs.Snapshots.{enabled_at, unreleased_cycles}
-use Rattle.mk_laws.proofs.{Quarantines.snapshot_is_the_cycles, ReadingsKeptPlaces.stays_put}
+use Rattle.mk_laws.proofs.{Quarantines.snapshot_is_the_cycles, ReadingsKeptPlaces.stays_put, Snapshots.enabled_at}
+use Rattle.mk_laws.proofs.{Snapshots.unreleased_cycles, Stretches.at_release, Stretches.history_through}
 use Rattle.mk_laws.specs.Releases.{NoOthersRelease, ReleasesAreExact, ReleasesNoneReached, allocation_before}
 use Rattle.mk_laws.specs.Releases.{allocation_behind}
 
@@ -22,11 +22,6 @@ use Rattle.mk_laws.specs.Releases.{allocation_behind}
 pub up_to_release : {X : Type 0} (xs ys zs : List X) (b x : X)
     → ((xs ++ b ∷ []) ++ ys) ++ x ∷ zs ≡ xs ++ b ∷ (ys ++ x ∷ zs)
 up_to_release xs ys zs b x = append_assoc (xs ++ b ∷ []) ys (x ∷ zs) ∙ append_assoc xs (b ∷ []) (ys ++ x ∷ zs)
-
-with_rest : {X : Type 0} (xs ys zs rest : List X) (b x : X)
-    → (((xs ++ b ∷ []) ++ ys) ++ x ∷ zs) ++ rest ≡ xs ++ b ∷ (ys ++ x ∷ (zs ++ rest))
-with_rest {X} xs ys zs rest b x = ap (λ (all : List X). all ++ rest) (up_to_release xs ys zs b x)
-    ∙ append_assoc xs (b ∷ (ys ++ x ∷ zs)) rest ∙ ap (λ (more : List X). xs ++ b ∷ more) (append_assoc ys (x ∷ zs) rest)
 
 -- No other cycle begins between a `begin` and its `release`.
 none_begins : (c : Config) (w : World) (b x : Event) (ys zs : List Event) → AreEnabledFrom c w (b ∷ (ys ++ x ∷ zs))
@@ -37,18 +32,7 @@ none_begins c w b x ys zs on begins no_close closes no_release =
     let first = moves_phase c w b (ys ++ x ∷ zs) on in
     let one = first.1 ∙ ap (λ (s : Step). phase_behind s (phase_of w.now.words)) (begin_is b.step begins) in
     let parts = enabled_parts c _ ys (x ∷ zs) first.2 in
-    let begun : IsMarking (phase_of (world_behind c w b).now.words) =
-    record { least = omega arith; most = omega arith } in
-    let marking = marking_goes_on c _ ys parts.0 begun no_close in
-    let v : World = left_from c (world_behind c w b) ys in
-    let close = moves_phase c v x zs parts.1 in
-    let three = close.1 ∙ ap (λ (s : Step). phase_behind s (phase_of v.now.words)) (close_is x.step closes) in
-    let closed : IsUnreleased (phase_of (world_behind c v x).now.words) =
-    record { least = omega arith; most = omega arith } in
-    list_any-append (λ (e : Event). is_begin e.step) ys (x ∷ zs)
-    ∙ ap (λ b. b || list_any (λ (e : Event). is_begin e.step) (x ∷ zs)) marking.none_begins
-    ∙ ap (λ (s : Step). is_begin s || list_any (λ (e : Event). is_begin e.step) zs) (close_is x.step closes)
-    ∙ (none_is_released c _ zs close.2 closed no_release).none_begins
+    grind (arith, marking_goes_on, moves_phase, phase_behind, close_is, list_any-append, none_is_released)
 
 -- A `release` decides no call.
 none_decided : (c : Config) (m : Moment) (e : Event) → e.step ≡ Step.Release → call_decided c m e ≡ []
@@ -76,18 +60,14 @@ module _ (c : Config) (es : List Event) (h : IsHistory c es) (r : Releasing es) 
   abbrev w : World
   w = left c front
 
-  es_is : es ≡ front ++ last.event ∷ last.behind
-  es_is = grind (arith, begin, close, last, with_rest)
-
   whole : IsHistory c (front ++ last.event ∷ last.behind)
-  whole = subst (IsHistory c) es_is h
+  whole = subst (IsHistory c) (at_release r) h
 
   before_is_history : IsHistory c front
   before_is_history = earlier_part_is_history c front (last.event ∷ last.behind) whole
 
   behind_is_history : IsHistory c (front ++ last.event ∷ [])
-  behind_is_history = earlier_part_is_history c _ last.behind
-      (subst (IsHistory c) (sym (append_assoc front (last.event ∷ []) last.behind)) whole)
+  behind_is_history = history_through c es front last.behind last.event h (at_release r)
 
   -- the `begin`, in the list up to the `release`
   abbrev begin_at : At is_begin front
@@ -138,10 +118,7 @@ module _ (c : Config) (es : List Event) (h : IsHistory c es) (r : Releasing es) 
       ap (λ (x : Step). allocations_by c w.now (flight_of w.now last.event.seat) x w.allocations) releases in
       let changed : (left c (front ++ last.event ∷ [])).allocations ≡ map (with_released c w.now.words) w.allocations =
       ap (λ (v : World). v.allocations) (left_in_parts c front (last.event ∷ [])) ∙ by_kind in
-      ap (λ (xs : List PlacedAllocation). (placed_at xs i).released) changed
-      ∙ ap (λ (x : PlacedAllocation). x.released) (changed_at _ w.allocations i (released_leaves c w.now.words).none)
-      ∙ released_where_left c w.now.words a h.within_limits s.stands s.headers ∙ has_bit_without _ _
-      (cell_of_allocation c a).index ∙ ap (λ b. b && not (marked i)) (snapshot_is i u)
+      grind (arith, changed_at, released_leaves, released_where_left, has_bit_without, marked, snapshot_is)
 
   pub exact : (i : ℕ) → (allocation_before c r i).released ≡ false
       → ((allocation_behind c r i).released ≡ true) ↔ ((in_snapshot i ≡ true) × (marked i ≡ false))

@@ -1,11 +1,11 @@
 -- The steps that release: `release`, cells given back, pages freed in any order, and `end`.
 use Rattle.mk_laws.proofs.Vocabulary.{Among, AreApart, Bool, Claim, Header, IsClaimed, IsLaidOn, IsShown, Later}
 use Rattle.mk_laws.proofs.Vocabulary.{LayoutScene, List, NoPlot, Option, Page, Plot, PlotStands, Plotted, Some, ℕ, ap}
-use Rattle.mk_laws.proofs.Vocabulary.{arith, cases_Bool, cases_eq, cases_lt, cells_under, ends, false, free_page}
-use Rattle.mk_laws.proofs.Vocabulary.{get_or-set_other, get_or-set_same, get_or_past, has_bit, head_on, head_page_under}
+use Rattle.mk_laws.proofs.Vocabulary.{arith, cases_eq, cases_lt, cells_under, ends, false, free_page, get_or-set_other}
+use Rattle.mk_laws.proofs.Vocabulary.{get_or-set_same, get_or_past, has_bit, head_on, head_page_under, header_made}
 use Rattle.mk_laws.proofs.Vocabulary.{header_of, header_on, inl, inr, is_released_in, is_released_on, length}
-use Rattle.mk_laws.proofs.Vocabulary.{length-set, pages_made, refl, shows_on, slice_set, stands, sym, true, true≢false}
-use Rattle.mk_laws.proofs.Vocabulary.{used_on, ◌+◌, ◌-◌, ◌<◌, ◌∙◌, ◌≡◌, ◌≢◌, ◌⊎◌}
+use Rattle.mk_laws.proofs.Vocabulary.{length-set, pages_made, refl, run_count, set_by, shows_on, slice_set, stands, sym}
+use Rattle.mk_laws.proofs.Vocabulary.{true, true≢false, used_on, ◌+◌, ◌-◌, ◌<◌, ◌∙◌, ◌≡◌, ◌≢◌, ◌⊎◌}
 use Rattle.mk_laws.proofs.LayoutReadings.{cellless_unused, claimed_used, free_unused, none_set, zero_where_none}
 use Rattle.mk_laws.proofs.ProtocolKept.{kept}
 
@@ -27,13 +27,8 @@ headed_other pages p n q ne = ap (λ (x : Page). x.header)
 
 pub headed_used : (pages : List Page) (p n q : ℕ) → p < length pages
     → used_on (with_header_on pages p n) q ≡ used_on pages q
-headed_used pages p n q lt = elim (cases_eq q p) [
-  | inl e ↦ rw e
-      (ap (λ (x : Page). x.used) (get_or-set_same pages p (record { header = n; used = used_on pages p }) free_page lt)
-      ∙ rw (← e))
-  | inr ne ↦ ap (λ (x : Page). x.used)
-      (get_or-set_other pages p q (record { header = n; used = used_on pages p }) free_page ne)
-]
+headed_used pages p n q lt =
+    set_by (λ (x : Page). x.used ≡ used_on pages q) pages p q _ free_page (λ e. ap (used_on pages) (sym e)) refl
 
 pub used_here : (pages : List Page) (p n : ℕ) → p < length pages → used_on (with_used_on pages p n) p ≡ n
 used_here pages p n lt =
@@ -45,12 +40,8 @@ used_other pages p n q ne = ap (λ (x : Page). x.used)
 
 pub used_header : (pages : List Page) (p n q : ℕ) → p < length pages
     → header_on (with_used_on pages p n) q ≡ header_on pages q
-used_header pages p n q lt = elim (cases_eq q p) [
-  | inl e ↦ rw e (ap (λ (x : Page). x.header)
-      (get_or-set_same pages p (record { header = header_on pages p; used = n }) free_page lt) ∙ rw (← e))
-  | inr ne ↦ ap (λ (x : Page). x.header)
-      (get_or-set_other pages p q (record { header = header_on pages p; used = n }) free_page ne)
-]
+used_header pages p n q lt =
+    set_by (λ (x : Page). x.header ≡ header_on pages q) pages p q _ free_page (λ e. ap (header_on pages) (sym e)) refl
 
 -- a page with nothing on it is on no claim's pages
 unclaimed : (s : LayoutScene) (p : ℕ) → IsLaidOn s → used_on s.pages (head_on s.pages p) ≡ 0 → (x : Claim)
@@ -63,8 +54,7 @@ pub shown_beside : (pages : List Page) (p n : ℕ) (x : Claim) → p < length pa
 shown_beside pages p n x lt shown apart = record {
   sized = shown.sized;
   known = shown.known;
-  within = let len = length-set pages p (record { header = n; used = used_on pages p }) in let w =
-      shown.within in omega arith;
+  within = let len = length-set pages p (record { header = n; used = used_on pages p }) in omega arith;
   headers = λ d ld. rw (headed_other pages p n (x.page + d) (apart d ld)) (shown.headers d ld);
   used = rw (headed_used pages p n x.page lt) shown.used;
 }
@@ -81,12 +71,9 @@ plot_emptied : (pages : List Page) (p : ℕ) (plot : Plot) → p < length pages 
 plot_emptied pages p NoPlot lt stands = stands
 plot_emptied pages p (Plotted first o) lt stands = record {
   sized = stands.sized;
-  within = let len = length-set pages p (record { header = 0; used = used_on pages p }) in let w =
-      stands.within in omega arith;
-  headers = λ d ld. elim (cases_eq (first + d) p) [
-    | inl e ↦ inl (rw e (headed_here pages p 0 lt))
-    | inr ne ↦ rw (headed_other pages p 0 (first + d) ne) (stands.headers d ld)
-  ];
+  within = let len = length-set pages p (record { header = 0; used = used_on pages p }) in omega arith;
+  headers = λ d ld. set_by (λ (x : Page). (x.header ≡ 0) ⊎ (x.header ≡ header_made o d)) pages p (first + d) _ free_page
+      (λ e. inl refl) (stands.headers d ld);
   used = λ d ld. headed_used pages p 0 (first + d) lt ∙ stands.used d ld;
 }
 
@@ -96,26 +83,20 @@ pub layout_emptied : (s : LayoutScene) (p : ℕ) → IsLaidOn s → p < length s
 layout_emptied s p laid lt on z = record {
   shown = λ x among. shown_beside s.pages p 0 x lt (laid.shown x among) (unclaimed s p laid z x among);
   apart = laid.apart;
-  used = λ q k h. elim (cases_eq q p) [
-    | inl e ↦ absurd (none_set (used_on s.pages p) k (unused_by (shows_on s.pages p) refl z) (rw (← e) (old q k h)))
-    | inr ne ↦ let t = laid.used q k (old q k h) in (
-      rw (ap (λ h. cells_under (header_of h)) (sym (headed_other s.pages p 0 q ne))) at t.0,
-      t.1,
-    )
-  ];
+  used = λ q k h. let t = laid.used q k (old q k h) in (
+    set_by (λ (x : Page). k < cells_under (header_of x.header)) s.pages p q _ free_page
+        (λ e. absurd (none_set _ k (unused_by (shows_on s.pages p) refl z) (rw (← e) (old q k h)))) t.0,
+    t.1,
+  );
   plot = plot_emptied s.pages p s.plot lt laid.plot;
   occupied = λ q some empty. inl on;
-  later = λ q d m is. elim (cases_eq q p) [
-    | inl e ↦ absurd (not_later m d (ap (shows_on (with_header_on s.pages p 0)) (sym e) ∙ is))
-    | inr ne ↦
-        let l = laid.later q d m (rw (← (headed_other s.pages p 0 q ne)) is) in (
-          l.0,
-          elim (cases_eq (q - d) p) [
-            | inl e ↦ inr (on, rw e (headed_here s.pages p 0 lt))
-            | inr other ↦ rw (headed_other s.pages p 0 (q - d) other) l.1
-          ],
-        )
-  ];
+  later = λ q d m is.
+      let l = laid.later q d m (set_by (λ (x : Page). header_of x.header ≡ Some (Later d m)
+      → shows_on s.pages q ≡ Some (Later d m)) s.pages p q _ free_page (λ e x. cc) (λ x. x) is) in (
+        l.0,
+        set_by (λ (x : Page). (d < run_count (header_of x.header)) ⊎ ((s.releasing ≡ true) × (x.header ≡ 0))) s.pages p
+            (q - d) _ free_page (λ e. inr (on, refl)) l.1,
+      );
 }
   where
     old : (q k : ℕ) → has_bit (used_on (with_header_on s.pages p 0) q) k ≡ true → has_bit (used_on s.pages q) k ≡ true
@@ -126,10 +107,6 @@ layout_emptied s p laid lt on z = record {
         → used_on s.pages p ≡ 0
     unused_by (Some (Later d m)) is z = cellless_unused s p laid (ap cells_under is)
     unused_by _ is z = z
-
-    not_later : (m : Bool) (d : ℕ) → shows_on (with_header_on s.pages p 0) p ≡ Some (Later d m) → ⊥
-    not_later m d is = let e : header_of 0 ≡ Some (Later d m) = ap header_of (sym (headed_here s.pages p 0 lt))
-        ∙ is in true≢false (let y : true ≡ false = cc in y)
 
 -- `used` (b): bits of released cells go
 abbrev GivenBack : LayoutScene → ℕ → ℕ → LayoutScene
@@ -159,20 +136,15 @@ layout_given_back s p n laid lt on gives kept = record {
     len = length-set s.pages p (record { header = header_on s.pages p; used = n })
 
     fewer : (q k : ℕ) → has_bit (used_on (with_used_on s.pages p n) q) k ≡ true → has_bit (used_on s.pages q) k ≡ true
-    fewer q k h = elim (cases_eq q p) [
-      | inl e ↦ rw e (gives.fewer k (rw (← (used_here s.pages p n lt))
-          (ap (λ i. has_bit (used_on (with_used_on s.pages p n) i) k) (sym e) ∙ h)))
-      | inr ne ↦ rw (← (used_other s.pages p n q ne)) h
-    ]
+    fewer q k =
+        set_by (λ (x : Page). has_bit x.used k ≡ true → has_bit (used_on s.pages q) k ≡ true) s.pages p q _ free_page
+        (λ e h. rw e (gives.fewer k h)) (λ h. h)
 
     bit : (x : Claim) → Among x s.claims → has_bit (used_on s.pages x.page) x.index ≡ true
         → has_bit (used_on (with_used_on s.pages p n) x.page) x.index ≡ true
     bit x among was = elim (cases_eq x.page p) [
       | inr ne ↦ rw (used_other s.pages p n x.page ne) was
-      | inl e ↦ rw e (rw (used_here s.pages p n lt) (elim (cases_Bool (has_bit n x.index)) [
-        | inl stays ↦ stays
-        | inr goes ↦ absurd (true≢false (sym (gives.gone x.index (rw (← e) was) goes) ∙ rw (← e) (kept x among)))
-      ]))
+      | inl e ↦ rw e (grind (arith, used_here, kept))
     ]
 
     shown : (x : Claim) → Among x s.claims → IsShown s.pages x → IsShown (with_used_on s.pages p n) x
@@ -248,9 +220,5 @@ layout_ended s laid ends = record {
     by p k h (inl o) = o
     by p k h (inr r) = absurd (true≢false (sym r ∙ ends.none p k (with_bit p k h)))
 
-    not_free : (d : ℕ) (m : Bool) (p : ℕ) → shows_on s.pages p ≡ Some (Later d m) → header_on s.pages p ≢ 0
-    not_free d m p is z = let e = ap header_of (sym z) ∙ is in true≢false (let y : true ≡ false = cc in y)
-
     headless : (p d : ℕ) (m : Bool) → shows_on s.pages p ≡ Some (Later d m) → header_on s.pages (p - d) ≡ 0 → ⊥
-    headless p d m is z =
-        ends.settled p (inside p (not_free d m p is)) (not_free d m p is) (rw is (free_unused s (p - d) laid z))
+    headless p d m is z = grind (arith, inside, free_unused)

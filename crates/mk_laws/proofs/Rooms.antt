@@ -1,21 +1,20 @@
 -- No more pages are resident than may be, after each event.
-use Rattle.mk_laws.proofs.Vocabulary.{Among, AsChosen, AsUsed, Bool, ByFit, Chosen, Config, Granted, HeadStep}
-use Rattle.mk_laws.proofs.Vocabulary.{IsClaimedRun, IsNextHeader, IsPlaced, IsSized, ItCarves, ItEmpties, ItUnmaps}
-use Rattle.mk_laws.proofs.Vocabulary.{LayoutStands, List, None, NoPlot, Object, Option, Page, Place, Placing, Plotted}
-use Rattle.mk_laws.proofs.Vocabulary.{RunPages, RunStands, Seat, Some, Step, Unplaced, Used, World, ℕ, and_from, ap}
-use Rattle.mk_laws.proofs.Vocabulary.{arith, cases_Bool, cases_eq, chosen, claims_of, claims_placed, count_below, false}
-use Rattle.mk_laws.proofs.Vocabulary.{flight_of, found, ground_of, has_place, head_step, header_at, header_made}
-use Rattle.mk_laws.proofs.Vocabulary.{header_of, if◌then◌else◌, inl, inr, is_phase, is_resident_page}
-use Rattle.mk_laws.proofs.Vocabulary.{is_unmapped_header, large_count, le-leb, length, lt-ltb, marks_is, marks_place}
-use Rattle.mk_laws.proofs.Vocabulary.{nat_le, nat_lt, object_made, object_now, or_left, or_right, pages_made}
-use Rattle.mk_laws.proofs.Vocabulary.{place_claim, place_now, placed_now, plot_of, refl, resident_pages, seat_exists}
-use Rattle.mk_laws.proofs.Vocabulary.{small_pages, subst, sym, taken, true, undecided_new, unmapped_is_unmapped}
-use Rattle.mk_laws.proofs.Vocabulary.{use_under, used_on, uses_of_pages, ◌+◌, ◌-◌, ◌<◌, ◌∙◌, ◌≡◌}
+use Rattle.mk_laws.proofs.Vocabulary.{AsChosen, AsUsed, Bool, ByFit, Chosen, Config, Granted, HeadStep, IsClaimedRun}
+use Rattle.mk_laws.proofs.Vocabulary.{IsNextHeader, IsPlaced, IsSized, ItCarves, ItEmpties, ItUnmaps, LayoutStands}
+use Rattle.mk_laws.proofs.Vocabulary.{List, None, NoPlot, Object, Option, Page, Place, Placing, Plotted, RunPages}
+use Rattle.mk_laws.proofs.Vocabulary.{RunStands, Seat, Some, Step, Unplaced, Used, World, ℕ, and_from, ap, arith}
+use Rattle.mk_laws.proofs.Vocabulary.{cases_Bool, cases_eq, chosen, claims_of, false, flight_of, found, ground_of}
+use Rattle.mk_laws.proofs.Vocabulary.{has_place, head_step, header_at, header_made, header_of, if◌then◌else◌, inl, inr}
+use Rattle.mk_laws.proofs.Vocabulary.{is_phase, is_resident_page, is_unmapped_header, large_count, le-leb, length}
+use Rattle.mk_laws.proofs.Vocabulary.{lt-ltb, marks_is, marks_place, object_made, object_now, or_left, or_right}
+use Rattle.mk_laws.proofs.Vocabulary.{pages_made, place_now, placed_now, plot_of, refl, seat_exists, subst, sym, taken}
+use Rattle.mk_laws.proofs.Vocabulary.{true, undecided_new, unmapped_is_unmapped, use_under, used_on, ◌-◌, ◌<◌, ◌∙◌, ◌≡◌}
 use Rattle.mk_laws.proofs.Basics.{Before, Laid, Meets, WorldBehind, first_header, holding_object, made_sized}
-use Rattle.mk_laws.proofs.Basics.{new_has_turn, no_run, own_claim, page_within, placed_claim, reg_leaves_ground}
-use Rattle.mk_laws.proofs.Basics.{tally_ground, with_header_on, with_used_on}
+use Rattle.mk_laws.proofs.Basics.{new_has_turn, no_run, own_claim, page_within, reg_leaves_ground, tally_ground}
+use Rattle.mk_laws.proofs.Basics.{with_header_on, with_used_on}
 use Rattle.mk_laws.proofs.ResidentPages.{RoomOn, count_range, is_resident, resident_count, resident_gone}
 use Rattle.mk_laws.proofs.ResidentPages.{resident_other, resident_used, room_same, room_unplaced, unmapped_use}
+use Rattle.mk_laws.proofs.Serving.{OnChosen, OnFree, Stands, not_again, placed_for}
 use Rattle.mk_laws.proofs.{Behind.object_kind, Fits.FitsOnFreePages, Fits.fits, Sorts.chosen_none}
 use Rattle.mk_laws.specs.Room.{HasRoom, in_plot}
 
@@ -24,10 +23,7 @@ chosen_room : (c : Config) (o : Object) (pages : List Page) (place : Place) → 
     → FitsOnFreePages c.resident pages o place → RoomOn c o pages (Chosen place)
 chosen_room c o pages place len fit =
     let range = count_range c.pages place.page (pages_made o) (is_resident pages) in
-    let count : count_below c.pages (is_resident pages) ≡ resident_pages (uses_of_pages pages) =
-    rw (← len) (resident_count pages) in
-    let room = fit.room in
-    omega arith
+    grind (arith, is_resident, resident_count)
 
 -- A page of the plot gets its header.
 carved_room : (c : Config) (o : Object) (w : World) (place : Place) (p n : ℕ)
@@ -38,12 +34,7 @@ carved_room c o w place p n next room =
     (λ q lt r. elim (cases_eq q p) [
       | inr ne ↦ or_left (is_resident w.now.words.pages q) (in_plot (Plotted place.page o) q)
           (resident_other w.now.words.pages p n q ne r)
-      | inl e ↦
-          let low = next.from in
-          let near = next.near in
-          or_right (is_resident w.now.words.pages q) (in_plot (Plotted place.page o) q)
-          (and_from (nat_le place.page q) (nat_lt q (place.page + pages_made o)) (le-leb place.page q (omega arith))
-          (lt-ltb q (place.page + pages_made o) (omega arith)))
+      | inl e ↦ grind (arith, or_right, is_resident, and_from, le-leb, lt-ltb)
     ]) room
 
 abbrev HeadRoom : Config → World → Seat → ℕ → ℕ → Bool → Type 0
@@ -61,38 +52,13 @@ head_room c w seat p n b there lt laid room (ItCarves off x) =
     let own = holding_object c w.now seat b.known (new_has_turn c w.now seat there placed.new) in
     let o : Object = object_made c (flight_of w.now seat).op in
     let sized = made_sized c w.now seat b.limits b.known placed.new in
-    subst (λ four. HeadRoom c w seat p n four) (sym off)
-    (subst (λ (y : Option Place). RoomOn c (object_now c w.now) (with_header_on w.now.words.pages p n)
-    (chosen w.now.seats.holding.placing y)) (sym x.there)
-    (subst (λ (y : Object). RoomOn c y (with_header_on w.now.words.pages p n)
-    (chosen w.now.seats.holding.placing (Some x.place))) (sym own)
-    (by o sized own w.now.seats.holding.placing refl placed.placed x.next)))
-  where
-    by : (o : Object) → IsSized o → object_now c w.now ≡ o → (placing : Placing) → w.now.seats.holding.placing ≡ placing
-        → IsPlaced c.resident w.now.words.pages o x.place placing
-        → IsNextHeader w.now.words x.place.page (pages_made o) (header_made o) p n
-        → RoomOn c o (with_header_on w.now.words.pages p n) (chosen placing (Some x.place))
-    by o sized own Unplaced is (ByFit at) next = elim (fits c.resident w.now.words.pages o x.place sized at) [
-      | inl fit ↦ carved_room c o w x.place p n next (chosen_room c o w.now.words.pages x.place b.lengths.pages fit)
-      | inr fit ↦
-          let one = small_pages o fit.small in
-          let near = next.near in
-          let low = next.from in
-          let d : p - x.place.page ≡ 0 = omega arith in
-          let here : p ≡ x.place.page = omega arith in
-          absurd (next.not_yet (ap (λ q. header_at w.now.words q) here ∙ fit.header
-          ∙ ap (λ e. header_made o e) (sym d)))
-    ]
-    by o sized own (Chosen place) is AsChosen next = grind (arith, carved_room)
-    by o sized own (Used place) is AsUsed next =
-        let st = subst (λ (y : Object). Laid c y (is_phase w.now.words 4) w (ground_of w)) own laid in
-        let there : Among (place_claim o place) (claims_placed o w.now.seats.holding.placing) =
-        subst (λ (y : Placing). Among (place_claim o place) (claims_placed o y)) (sym is) (inl refl) in
-        let shown = st.scene.shown (place_claim o place) (placed_claim c o (ground_of w) (place_claim o place) there) in
-        let low = next.from in
-        let back : place.page + (p - place.page) ≡ p = omega arith in
-        absurd (next.not_yet (ap (λ q. header_at w.now.words q) (sym back) ∙ shown.headers (p - place.page) next.near))
-    by o sized own Granted is out next = elim out [ ]
+    let st : Laid c o false w (ground_of w) = rw own at (rw off at laid) in
+    rw off (rw x.there (rw own (elim (placed_for c o false w x.place st sized placed.placed) [
+      | OnFree is fit ↦
+          rw is (carved_room c o w x.place p n x.next (chosen_room c o w.now.words.pages x.place b.lengths.pages fit))
+      | OnChosen is ↦ rw is (carved_room c o w x.place p n x.next (rw is at (rw own at room)))
+      | Stands headers _ ↦ absurd (not_again o w x.place p n headers x.next)
+    ])))
 head_room c w seat p n b there lt laid room (ItUnmaps off x) =
     subst (λ four. HeadRoom c w seat p n four) (sym off) (by (place_now c w.now (flight_of w.now seat)) refl)
   where

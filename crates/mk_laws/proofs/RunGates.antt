@@ -1,10 +1,9 @@
 -- While a run isn't unmapped and wiped, the gates of all but the turn's holder are held: after one event.
 use Rattle.mk_laws.proofs.Vocabulary.{Bool, Caller, Cell, Config, Header, Host, IsWordOfMapped, LayoutStands, List}
 use Rattle.mk_laws.proofs.Vocabulary.{Marker, Moment, None, Option, Run, RunPages, Seat, Some, Stage, Step, Words}
-use Rattle.mk_laws.proofs.Vocabulary.{World, ℕ, ap, cases_Bool, cases_eq, cases_lt, cell_freed, false, flight_of}
-use Rattle.mk_laws.proofs.Vocabulary.{freed_cell, get_or-set_other, get_or-set_same, heads_run, holder_number}
-use Rattle.mk_laws.proofs.Vocabulary.{if◌then◌else◌, inl, inr, is_heap_store, is_run_cell, is_run_gone, length}
-use Rattle.mk_laws.proofs.Vocabulary.{nothing_done, or_else, refl, run_headed, run_of_cell, set_past, slice_index}
+use Rattle.mk_laws.proofs.Vocabulary.{World, ℕ, ap, cases_Bool, cell_freed, false, flight_of, freed_cell, heads_run}
+use Rattle.mk_laws.proofs.Vocabulary.{holder_number, if◌then◌else◌, inl, inr, is_heap_store, is_run_cell, is_run_gone}
+use Rattle.mk_laws.proofs.Vocabulary.{nothing_done, or_else, refl, run_headed, run_of_cell, set_by, slice_index}
 use Rattle.mk_laws.proofs.Vocabulary.{slice_set, subst, sym, target, true, true≢false, word_met, ◌+◌, ◌<◌, ◌==◌, ◌∙◌}
 use Rattle.mk_laws.proofs.Vocabulary.{◌≡◌, ◌≢◌}
 use Rattle.mk_core.proofs.ListTests.{implied}
@@ -24,13 +23,7 @@ abbrev pub OthersHeld : Config → Moment → Type 0
 OthersHeld c m = (k : ℕ) → k < c.callers → m.words.turn ≢ 1 + k → slice_index m.words.gates k ≡ 2
 
 set_gate : (gs : List ℕ) (j x k : ℕ) → slice_index gs k ≡ 2 → (k ≡ j → x ≡ 2) → slice_index (slice_set gs j x) k ≡ 2
-set_gate gs j x k held own = elim (cases_eq k j) [
-  | inr ne ↦ get_or-set_other gs j k x 0 ne ∙ held
-  | inl e ↦ elim (cases_lt j (length gs)) [
-    | inl lt ↦ ap (λ i. slice_index (slice_set gs j x) i) e ∙ get_or-set_same gs j x 0 lt ∙ own e
-    | inr past ↦ ap (λ (ys : List ℕ). slice_index ys k) (set_past gs j x past) ∙ held
-  ]
-]
+set_gate gs j x k held own = set_by (λ y. y ≡ 2) gs j k x 0 own held
 
 exchanged : (gs : List ℕ) (n j k : ℕ) → slice_index gs k ≡ 2 → k ≡ j
     → (if slice_index gs j == 0 then n else slice_index gs j) ≡ 2

@@ -1,21 +1,37 @@
 -- A run that is unmapped and wiped stays so, up to the `give` of its call.
-use Rattle.mk_laws.proofs.Vocabulary.{Config, HeadStep, IsNextHeader, IsWordOfMapped, ItCarves, ItEmpties, ItUnmaps}
-use Rattle.mk_laws.proofs.Vocabulary.{LayoutStands, Option, Page, PlacedAllocation, RunPages, Seat, Some, Step, Words}
-use Rattle.mk_laws.proofs.Vocabulary.{World, ℕ, all_below-at, and_parts, ap, arith, cases_eq, cases_lt, eq-eqb}
-use Rattle.mk_laws.proofs.Vocabulary.{eqb-true, false, flight_of, free_page, get_or-set_other, get_or-set_same}
-use Rattle.mk_laws.proofs.Vocabulary.{ground_of, head_page, head_step, header_at, header_of, inl, inr, is_heap_store}
-use Rattle.mk_laws.proofs.Vocabulary.{is_run_gone, is_run_unmapped, is_unmapped_header, large_count, length}
-use Rattle.mk_laws.proofs.Vocabulary.{made_is_mapped, object_now, object_placed, pages_made, placed_at, placed_now}
-use Rattle.mk_laws.proofs.Vocabulary.{refl, set_past, slice_index, stands, subst, sym, true, true≢false, typed_size}
-use Rattle.mk_laws.proofs.Vocabulary.{undecided_new, unmapped_header, unmapped_is_unmapped, used_at, word_met}
-use Rattle.mk_laws.proofs.Vocabulary.{words_are_zero, ◌*◌, ◌+◌, ◌-◌, ◌/◌, ◌<◌, ◌∙◌, ◌≡◌, ◌≢◌}
-use Rattle.mk_laws.proofs.Basics.{Behind, KnownWorld, Meets, Table, ends_on_pages, headers_kind, is_head, mapped_stays}
-use Rattle.mk_laws.proofs.Basics.{new_has_turn, no_run, own_claim, reg_table, tally_table}
+use Rattle.mk_laws.proofs.Vocabulary.{Bool, Config, HeadStep, IsNextHeader, IsWordOfMapped, ItCarves, ItEmpties}
+use Rattle.mk_laws.proofs.Vocabulary.{ItUnmaps, LayoutStands, Option, Page, PlacedAllocation, RunPages, Seat, Some}
+use Rattle.mk_laws.proofs.Vocabulary.{Step, Words, World, ℕ, all_below-at, and_parts, ap, arith, eq-eqb, eqb-true}
+use Rattle.mk_laws.proofs.Vocabulary.{false, flight_of, free_page, get_or-set_other, ground_of, head_page, head_step}
+use Rattle.mk_laws.proofs.Vocabulary.{header_at, header_of, is_heap_store, is_run_gone, is_run_unmapped}
+use Rattle.mk_laws.proofs.Vocabulary.{is_unmapped_header, large_count, made_is_mapped, object_now, object_placed}
+use Rattle.mk_laws.proofs.Vocabulary.{pages_made, placed_at, placed_now, refl, set_by, slice_index, stands, subst, sym}
+use Rattle.mk_laws.proofs.Vocabulary.{true, true≢false, typed_size, undecided_new, unmapped_header}
+use Rattle.mk_laws.proofs.Vocabulary.{unmapped_is_unmapped, used_at, word_met, words_are_zero, ◌*◌, ◌+◌, ◌-◌, ◌/◌, ◌<◌}
+use Rattle.mk_laws.proofs.Vocabulary.{◌∙◌, ◌≡◌, ◌≢◌}
+use Rattle.mk_laws.proofs.Basics.{Behind, KnownWorld, Meets, Table, WorldBehind, ends_on_pages, headers_kind, is_head}
+use Rattle.mk_laws.proofs.Basics.{mapped_stays, new_has_turn, no_run, own_claim, reg_table, tally_table}
 use Rattle.mk_laws.proofs.{ForImages.laid_out, ForImages.run_of, LayoutReadings.claimed_used, Tests.all_below_from}
 
 gone_from : (v : Words) (r : RunPages) → ((d : ℕ) → d < r.count → header_at v (r.page + d) ≡ unmapped_header r.count d)
     → ((i : ℕ) → i < 64 * r.count → slice_index v.heap (64 * r.page + i) ≡ 0) → is_run_gone v (Some r) ≡ true
 gone_from v r headers words = grind (arith, all_below_from, eq-eqb)
+
+abbrev pub is_wipe : Step → Bool
+is_wipe (Step.Wipe n) = true
+is_wipe _ = false
+
+-- A word of no mapped allocation is changed by the holder alone.
+pub heap_after : (c : Config) (w : World) (seat : Seat) (x : Step) → (is_wipe x ≡ false)
+    → (is_heap_store x ≡ true → IsWordOfMapped c w.allocations (word_met (flight_of w.now seat)))
+    → (n : ℕ) → (IsWordOfMapped c w.allocations n → ⊥)
+    → slice_index (WorldBehind c w seat x).now.words.heap n ≡ slice_index w.now.words.heap n
+heap_after c w seat Step.Reg no_wipe stored n none = ap (λ (t : Table). slice_index t.heap n) (reg_table c w.now seat)
+heap_after c w seat (Step.Tally t v) no_wipe stored n none =
+    ap (λ (t : Table). slice_index t.heap n) (tally_table w.now.words t v)
+heap_after c w seat Step.Write no_wipe stored n none = get_or-set_other _ _ n _ 0 (λ e. none (rw e (stored refl)))
+heap_after c w seat Step.Cas no_wipe stored n none = get_or-set_other _ _ n _ 0 (λ e. none (rw e (stored refl)))
+heap_after c w seat _ no_wipe stored n none = cc
 
 module _ (c : Config) (w : World) (known : KnownWorld c w) (laid : LayoutStands c w) (r : RunPages)
     (is : w.now.seats.holding.freed ≡ Some r)
@@ -62,7 +78,6 @@ module _ (c : Config) (w : World) (known : KnownWorld c w) (laid : LayoutStands 
       let l = laid_out c w known laid m.number (mapped_stays c a m.mapped) in
       let sized = typed_size c a known.limits l.stands.typed in
       let end = ends_on_pages _ a.base sized l.stands.begins in
-      let from = m.word.0 in
       let to = m.word.1 in
       let d : ℕ = r.page + i / 64 - a.base / 64 in
       let near : d < pages_made (object_placed c a) = omega arith in
@@ -92,22 +107,10 @@ module _ (c : Config) (w : World) (known : KnownWorld c w) (laid : LayoutStands 
   words_behind : (seat : Seat) (x : Step) → Meets c w.now seat x
       → (is_heap_store x ≡ true → IsWordOfMapped c w.allocations (word_met (flight_of w.now seat)))
       → (i : ℕ) → i < 64 * r.count → slice_index (Behind c w.now seat x).words.heap (64 * r.page + i) ≡ 0
-  words_behind seat Step.Reg h stored i lt =
-      ap (λ (t : Table). slice_index t.heap (64 * r.page + i)) (reg_table c w.now seat) ∙ words_gone i lt
-  words_behind seat (Step.Tally n v) h stored i lt =
-      ap (λ (t : Table). slice_index t.heap (64 * r.page + i)) (tally_table w.now.words n v) ∙ words_gone i lt
-  words_behind seat Step.Write h stored i lt = get_or-set_other w.now.words.heap _ _ _ 0
-      (λ e. not_mapped i lt (subst (λ n. IsWordOfMapped c w.allocations n) (sym e) (stored refl))) ∙ words_gone i lt
-  words_behind seat Step.Cas h stored i lt = get_or-set_other w.now.words.heap _ _ _ 0
-      (λ e. not_mapped i lt (subst (λ n. IsWordOfMapped c w.allocations n) (sym e) (stored refl))) ∙ words_gone i lt
-  words_behind seat (Step.Wipe n) h stored i lt = elim (cases_eq (64 * r.page + i) n) [
-    | inr ne ↦ get_or-set_other w.now.words.heap n _ 0 0 ne ∙ words_gone i lt
-    | inl e ↦ elim (cases_lt n (length w.now.words.heap)) [
-      | inl near ↦ cc (e, get_or-set_same w.now.words.heap n 0 0 near)
-      | inr past ↦ cc (set_past w.now.words.heap n 0 past, words_gone i lt)
-    ]
-  ]
-  words_behind seat _ h stored i lt = words_gone i lt
+  words_behind seat (Step.Wipe n) h stored i lt =
+      set_by (λ y. y ≡ 0) w.now.words.heap n _ 0 0 (λ e. refl) (words_gone i lt)
+  words_behind seat x h stored i lt =
+      heap_after c w seat x refl stored (64 * r.page + i) (not_mapped i lt) ∙ words_gone i lt
 
   pub gone_behind : (seat : Seat) (x : Step) → Meets c w.now seat x
       → (is_heap_store x ≡ true → IsWordOfMapped c w.allocations (word_met (flight_of w.now seat)))

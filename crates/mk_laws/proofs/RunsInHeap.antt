@@ -1,14 +1,14 @@
 -- A mapped run that a header shows lies in the heap.
 use Rattle.std.proofs.Common.{unwrap_or}
 use Rattle.mk_laws.proofs.Vocabulary.{Bool, Config, Flight, Ground, List, None, Object, Option, Page, Place, Run}
-use Rattle.mk_laws.proofs.Vocabulary.{RunPages, Some, Words, World, ℕ, and_parts, arith, block_header, carves, cases_eq}
-use Rattle.mk_laws.proofs.Vocabulary.{empties, eqb-true, false, free_page, get_or-set_other, header_made, header_of}
-use Rattle.mk_laws.proofs.Vocabulary.{inl, inr, is_next_header, is_small_object, leb-true, object_made, pages_made}
-use Rattle.mk_laws.proofs.Vocabulary.{place_now, refl, run_header, run_pages_of, slice_index_or, slice_set, true}
-use Rattle.mk_laws.proofs.Vocabulary.{unmapped_header, unmaps, word_of, zero, ◌*◌, ◌+◌, ◌-◌, ◌<◌, ◌∙◌, ◌≡◌, ◌≢◌, ◌≤◌}
+use Rattle.mk_laws.proofs.Vocabulary.{RunPages, Some, Words, World, ℕ, and_parts, arith, carves, empties, eqb-true}
+use Rattle.mk_laws.proofs.Vocabulary.{false, free_page, header_made, header_of, is_next_header, is_small_object}
+use Rattle.mk_laws.proofs.Vocabulary.{leb-true, object_made, pages_made, place_now, refl, run_header, run_pages_of}
+use Rattle.mk_laws.proofs.Vocabulary.{set_by, slice_index_or, slice_set, true, unmapped_header, unmaps, word_of, zero}
+use Rattle.mk_laws.proofs.Vocabulary.{◌*◌, ◌+◌, ◌-◌, ◌<◌, ◌∙◌, ◌≡◌, ◌≤◌}
 use Rattle.mk_geom.{proofs.ClassTable.class_for-some, proofs.HeaderLemmas.word_of-header_of, specs.Classes.class_for}
 use Rattle.mk_laws.proofs.Ground.{Carves, Empties, GivesBack, GroundStep, TakesCell, Unmaps}
-use Rattle.mk_laws.proofs.{HeaderSteps.page_set, HeaderSteps.used_set, NewPlace.PlaceFits}
+use Rattle.mk_laws.proofs.{HeaderSteps.used_set, NewPlace.PlaceFits}
 
 -- what a header word at a page shows ends in the heap
 abbrev pub RunFits : Config → ℕ → ℕ → Type 0
@@ -26,10 +26,6 @@ shown_word word count h = (word_of-header_of word (Run count true) h).1
 class_small : (words : ℕ) → unwrap_or (class_for words) 0 < 8
 class_small words = grind (arith, class_for-some)
 
-block_apart : (class count : ℕ) (leaf : Bool) → class < 8 → 9 + 16 * count ≡ word_of (block_header class leaf) → ⊥
-block_apart class count true lt e = omega arith
-block_apart class count false lt e = omega arith
-
 run_shown : (pages count distance : ℕ) (mapped leaf : Bool)
     → 9 + 16 * count ≡ word_of (run_header pages mapped leaf distance)
     → (mapped ≡ true) × (distance ≡ 0) × (count ≡ pages)
@@ -38,7 +34,7 @@ run_shown pages count x2 x3 leaf e = grind arith
 
 made_shown : (o : Object) (distance count : ℕ) → 9 + 16 * count ≡ header_made o distance
     → (is_small_object o ≡ false) × (distance ≡ 0) × (count ≡ run_pages_of o.words)
-made_shown o distance count e = grind (arith, block_apart, class_small, run_shown)
+made_shown o distance count e = grind (arith, class_small, run_shown)
 
 -- the header that is stored next, and its page
 pub record Next (first page value : ℕ) (wanted : ℕ → ℕ) : Type 0 where
@@ -64,7 +60,6 @@ unmapped_fits c w None p n h = cc
 unmapped_fits c w (Some run) p n h = λ count shows.
     let next = next_is w run.page run.count (unmapped_header run.count) p n h in
     let made = run_shown run.count count (p - run.page) false false (shown_word n count shows ∙ next.is) in
-    let e : false ≡ true = made.0 in
     cc
 
 emptied_fits : (c : Config) (w : Words) (p n : ℕ) → empties w p n ≡ true → RunFits c p n
@@ -74,18 +69,8 @@ emptied_fits c w p n h = grind (arith, eqb-true, shown_word, and_parts)
 
 header_set : (c : Config) (ps : List Page) (p n u : ℕ) → RunFits c p n → RunsFit c ps
     → RunsFit c (slice_set ps p (record { header = n; used = u }))
-header_set c ps p n u fits all q = elim (cases_eq q p) [
-  | inl e ↦
-      let own : RunFits c p (slice_index_or (slice_set ps p (record { header = n; used = u })) q free_page).header =
-      page_set ps p q (record { header = n; used = u }) (RunFits c p) (λ lt. fits)
-      (λ count shows. rw e at (all q count shows)) in
-      λ count shows. rw e (own count shows)
-  | inr ne ↦ page_set_other ps p q (record { header = n; used = u }) ne (all q)
-]
-  where
-    page_set_other : (ps : List Page) (p q : ℕ) (x : Page) → q ≢ p → RunFits c q (slice_index_or ps q free_page).header
-        → RunFits c q (slice_index_or (slice_set ps p x) q free_page).header
-    page_set_other ps p q x ne h = rw (get_or-set_other ps p q x free_page ne) h
+header_set c ps p n u fits all q =
+    set_by (λ (x : Page). RunFits c q x.header) ps p q _ free_page (λ e count shows. rw e (fits count shows)) (all q)
 
 pub runs_behind : (c : Config) (w : World) (f : Flight) (g : Ground)
     → ((x : Place) → place_now c w.now f ≡ Some x → PlaceFits c f.op x)

@@ -1,36 +1,19 @@
 -- What others leave to the turn's holder of the heap's words: those that lie in no mapped allocation, and the run that
 -- it has unmapped and wiped.
-use Rattle.mk_laws.proofs.Vocabulary.{AreOfOthers, Bool, Config, Event, Holding, Holds, IsHistory, IsWordOfMapped}
+use Rattle.mk_laws.proofs.Vocabulary.{AreOfOthers, Config, Event, Holding, Holds, IsHistory, IsWordOfMapped}
 use Rattle.mk_laws.proofs.Vocabulary.{LayoutStands, List, None, Option, RunPages, Seat, Some, Steady, Step, World, ℕ}
-use Rattle.mk_laws.proofs.Vocabulary.{ap, cases_Bool, false, flight_of, get_or-set_other, inl, inr, is_heap_store}
-use Rattle.mk_laws.proofs.Vocabulary.{is_one_of, is_run_gone, left, refl, slice_index, true, word_met, [], ◌++◌, ◌∙◌}
-use Rattle.mk_laws.proofs.Vocabulary.{◌∷◌, ◌≡◌}
-use Rattle.mk_laws.proofs.Basics.{HoldsTurn, KnownWorld, Meets, Table, WorldBehind, actor_of, along_others, is_holders}
-use Rattle.mk_laws.proofs.Basics.{reg_table, same_holder, tally_table, view_of}
-use Rattle.mk_laws.proofs.LastEvents.{comes_last, stands}
+use Rattle.mk_laws.proofs.Vocabulary.{ap, cases_Bool, false, flight_of, inl, inr, is_heap_store, is_one_of, is_run_gone}
+use Rattle.mk_laws.proofs.Vocabulary.{left, refl, slice_index, true, word_met, [], ◌++◌, ◌∙◌, ◌∷◌, ◌≡◌}
+use Rattle.mk_laws.proofs.Basics.{HoldsTurn, KnownWorld, Meets, WorldBehind, actor_of, along_others, is_holders}
+use Rattle.mk_laws.proofs.Basics.{same_holder, view_of}
 use Rattle.mk_laws.proofs.{FramesHolders.acts_as_holder, InvariantJoined.told_to_zeros, Known.holds_turn}
-use Rattle.mk_laws.proofs.{ProtocolFrames.left_after, ProtocolFrames.other_seat, RunWords.gone_behind}
-
-abbrev is_wipe : Step → Bool
-is_wipe (Step.Wipe n) = true
-is_wipe _ = false
+use Rattle.mk_laws.proofs.{LastEvents.comes_last, LastEvents.stands, ProtocolFrames.left_after}
+use Rattle.mk_laws.proofs.{ProtocolFrames.other_seat, RunWords.gone_behind, RunWords.heap_after, RunWords.is_wipe}
 
 -- Only the turn's holder wipes.
 wipe_is_holders : (x : Step) → is_wipe x ≡ true → is_holders x ≡ true
 wipe_is_holders (Step.Wipe n) w = refl
 wipe_is_holders _ w = cc
-
--- A word of no mapped allocation is changed by the holder alone.
-heap_after : (c : Config) (w : World) (seat : Seat) (x : Step) → (is_wipe x ≡ false)
-    → (is_heap_store x ≡ true → IsWordOfMapped c w.allocations (word_met (flight_of w.now seat)))
-    → (n : ℕ) → (IsWordOfMapped c w.allocations n → ⊥)
-    → slice_index (WorldBehind c w seat x).now.words.heap n ≡ slice_index w.now.words.heap n
-heap_after c w seat Step.Reg no_wipe stored n none = ap (λ (t : Table). slice_index t.heap n) (reg_table c w.now seat)
-heap_after c w seat (Step.Tally t v) no_wipe stored n none =
-    ap (λ (t : Table). slice_index t.heap n) (tally_table w.now.words t v)
-heap_after c w seat Step.Write no_wipe stored n none = get_or-set_other _ _ n _ 0 (λ e. none (rw e (stored refl)))
-heap_after c w seat Step.Cas no_wipe stored n none = get_or-set_other _ _ n _ 0 (λ e. none (rw e (stored refl)))
-heap_after c w seat _ no_wipe stored n none = cc
 
 gone_after : (c : Config) (w : World) (seat : Seat) (x : Step) (freed : Option RunPages) → KnownWorld c w
     → LayoutStands c w → w.now.seats.holding.freed ≡ freed

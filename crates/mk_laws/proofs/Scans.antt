@@ -47,8 +47,7 @@ look_passes c m p (Some value) n (inr e) =
         let there = ap (λ q. cell_at c.pages (header_at m.words q) value) (eqb-true p _ at) in
         let nothing : IsWell c m.words value = λ y is. absurd (none-some _ (sym none ∙ there ∙ is)) in
         inl (well_guarded c m n (rw (same_Some _ _ e) at nothing))
-    by false x at is = inr (let k : hand_behind_look c p (header_at m.words p) (Some value) ≡ Some value = rw at in k
-        ∙ e)
+    by false x at is = inr (grind arith)
     by true (Some y) at is =
         inr (let k : hand_behind_look c p (header_at m.words p) (Some value) ≡ Some value = rw (at, is) in k ∙ e)
 

@@ -4,8 +4,8 @@ use Rattle.mk_laws.proofs.Vocabulary.{None, Option, Run, Scan, SeenHeader, Some,
 use Rattle.mk_laws.proofs.Vocabulary.{behind_mlook, cell_at, cell_ends, cell_seen, cells_under, eqb-true, false}
 use Rattle.mk_laws.proofs.Vocabulary.{has_next_word, has_no_pointers, has_seen_cell, header_of, if◌then◌else◌}
 use Rattle.mk_laws.proofs.Vocabulary.{is_scanned, is_some, ltb-true, marker_behind, marker_may, next_word}
-use Rattle.mk_laws.proofs.Vocabulary.{page_at_address, refl, scan_begun, scan_claimed, scan_onward, scan_page}
-use Rattle.mk_laws.proofs.Vocabulary.{seen_page, subst, true, words_under, ◌*◌, ◌+◌, ◌<◌, ◌==◌, ◌≡◌, ◌≤◌}
+use Rattle.mk_laws.proofs.Vocabulary.{page_at_address, refl, same_Some, scan_begun, scan_claimed, scan_onward}
+use Rattle.mk_laws.proofs.Vocabulary.{scan_page, seen_page, subst, true, words_under, ◌*◌, ◌+◌, ◌<◌, ◌==◌, ◌≡◌, ◌≤◌}
 use Rattle.mk_core.proofs.PointedPages.{cell_within}
 use Rattle.mk_laws.proofs.RunsInHeap.{RunFits}
 
@@ -26,8 +26,7 @@ scan_end c p i (Some (Block class)) lt li fits = omega (arith, cell_ends i _ li)
 scan_end c p i (Some (LeafBlock class)) lt li fits = omega (arith, cell_ends i _ li)
 scan_end c p i (Some (Run count true)) lt li fits =
     let room = fits count refl in
-    let z : i ≡ 0 = omega arith in
-    rw z (omega arith)
+    grind arith
 scan_end c p i (Some (Run count false)) lt li fits = grind arith
 scan_end c p i (Some (LeafRun count)) lt li fits = grind arith
 scan_end c p i _ lt li fits = absurd (omega arith)
@@ -55,40 +54,26 @@ claims c p i marks x lt seen h = record {
       rw k.2 (scan_end c p i _ lt at.1 fits);
 }
 
+onwards : (P : Scan → Type 0) (o : Option Scan) → ((t : Scan) → o ≡ Some t → P (record t { next = t.next + 1 }))
+    → (s : Scan) → scan_onward o ≡ Some s → P s
+onwards P (Some t) k s e = subst P (same_Some _ _ e) (k t refl)
+onwards P None k s e = cc
+
 loads : (c : Config) (hand : Option ℕ) (x : Marker) → MarkerFits c x
     → MarkerFits c (record x { scan = scan_onward x.scan; hand = hand })
 loads c hand x h = record {
   seen = h.seen;
-  page = λ s e. by_page x.scan h.page s e;
-  end = λ s e. by_end x.scan h.end s e;
+  page = onwards (λ (y : Scan). y.page < c.pages) x.scan h.page;
+  end = onwards (λ (y : Scan). y.end ≤ 64 * c.pages) x.scan h.end;
 }
-  where
-    by_page : (o : Option Scan) → ((s : Scan) → o ≡ Some s → s.page < c.pages) → (s : Scan) → scan_onward o ≡ Some s
-        → s.page < c.pages
-    by_page (Some t) k s e = subst (λ (y : Scan). y.page < c.pages) (same _ s e) (k t refl)
-      where
-        same : (a b : Scan) → Some a ≡ Some b → a ≡ b
-        same a b e = cc
-    by_page None k s e = cc
-
-    by_end : (o : Option Scan) → ((s : Scan) → o ≡ Some s → s.end ≤ 64 * c.pages) → (s : Scan) → scan_onward o ≡ Some s
-        → s.end ≤ 64 * c.pages
-    by_end (Some t) k s e = subst (λ (y : Scan). y.end ≤ 64 * c.pages) (same _ s e) (k t refl)
-      where
-        same : (a b : Scan) → Some a ≡ Some b → a ≡ b
-        same a b e = cc
-    by_end None k s e = cc
 
 looks : (c : Config) (n : ℕ) (w : Word) (x : Marker) → ((p : ℕ) → w ≡ Word.Head p → RunFits c p n) → MarkerFits c x
     → MarkerFits c (behind_mlook c n w x)
 looks c n (Word.Head p) x fits h = record {
-  seen = λ s e. subst (λ (t : SeenHeader). RunFits c t.page t.header) (same _ s e) (fits p refl);
+  seen = λ s e. subst (λ (t : SeenHeader). RunFits c t.page t.header) (same_Some _ _ e) (fits p refl);
   page = h.page;
   end = h.end;
 }
-  where
-    same : (a b : SeenHeader) → Some a ≡ Some b → a ≡ b
-    same a b e = cc
 looks c n _ x fits h = record { seen = λ s e. cc; page = h.page; end = h.end }
 
 -- where a marker steps that finds n

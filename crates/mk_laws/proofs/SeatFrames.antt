@@ -2,26 +2,26 @@
 use Rattle.mk_laws.proofs.Vocabulary.{AreOfOthers, Caller, Config, Event, Flight, GuardPremisesFrom, Holds, Host}
 use Rattle.mk_laws.proofs.Vocabulary.{IsHistory, IsInCall, IsSound, KeepsRegisters, List, Marker, Moment, NeverState}
 use Rattle.mk_laws.proofs.Vocabulary.{None, Null, Num, Op, PlacedAllocation, Ptr, Seat, Some, Stage, Step, Value, World}
-use Rattle.mk_laws.proofs.Vocabulary.{Written, ℕ, admitted_keep, after_calls, and_from, and_parts, ap, append-nil}
-use Rattle.mk_laws.proofs.Vocabulary.{append_assoc, arith, asked, at_rest, bases_of, call_decided, cases_eq, cases_lt}
-use Rattle.mk_laws.proofs.Vocabulary.{comes_next, earlier_part_is_history, false, false≢true, flight_of, found}
-use Rattle.mk_laws.proofs.Vocabulary.{get_or_append_left, get_or_past, header_in, holder_number, image_scene_of, inl}
-use Rattle.mk_laws.proofs.Vocabulary.{inr, is_mapped, is_one_of, is_unmapped_header, left, length, length-map, ltb-true}
-use Rattle.mk_laws.proofs.Vocabulary.{never_behind, not, not-true, placed_at, progress, refl, register_at, slice_index}
-use Rattle.mk_laws.proofs.Vocabulary.{sym, true, [], ◌*◌, ◌++◌, ◌+◌, ◌/◌, ◌<◌, ◌∙◌, ◌∷◌, ◌≡◌, ◌≢◌}
+use Rattle.mk_laws.proofs.Vocabulary.{Written, ℕ, admitted_keep, and_from, and_parts, ap, append-nil, append_assoc}
+use Rattle.mk_laws.proofs.Vocabulary.{arith, asked, bases_of, call_decided, cases_eq, comes_next}
+use Rattle.mk_laws.proofs.Vocabulary.{earlier_part_is_history, false, flight_of, found, get_or_append_left, header_in}
+use Rattle.mk_laws.proofs.Vocabulary.{holder_number, image_scene_of, inl, inr, is_mapped, is_one_of, is_unmapped_header}
+use Rattle.mk_laws.proofs.Vocabulary.{left, length, length-map, ltb-true, never_behind, not, not-true, placed_at}
+use Rattle.mk_laws.proofs.Vocabulary.{progress, refl, register_at, slice_index, sym, true, [], ◌*◌, ◌++◌, ◌+◌, ◌/◌, ◌<◌}
+use Rattle.mk_laws.proofs.Vocabulary.{◌∙◌, ◌∷◌, ◌≡◌, ◌≢◌}
 use Rattle.mk_never.specs.Reach.{LeadsTo, by_register}
 use Rattle.mk_core.specs.Frames.{AdmittedOthersLeave, HeapIsLeft, HoldsAll, TargetsAreLeft}
 use Rattle.mk_core.specs.Readings.{is_in_call}
-use Rattle.mk_laws.proofs.Basics.{InCall, Known, Meets, along_others, base_at, exists_placed, in_call_told, not_astray}
-use Rattle.mk_laws.proofs.Basics.{others_held, pointed_word, standing, unmapped_is, view_of}
+use Rattle.mk_laws.proofs.Basics.{Known, Meets, along_others, base_at, exists_placed, others_held, pointed_word}
+use Rattle.mk_laws.proofs.Basics.{unmapped_is, view_of}
 use Rattle.mk_laws.proofs.InvariantJoined.{told_to_guard, told_to_images}
 use Rattle.mk_laws.proofs.LastEvents.{Stands, comes_last, stands}
 use Rattle.mk_laws.proofs.OtherCalls.{call_not_by, registers_are_left}
 use Rattle.mk_laws.proofs.OthersLeave.{others_leave_headers, others_leave_wells}
-use Rattle.mk_laws.proofs.ProtocolFrames.{left_after, other_seat, others_leave}
+use Rattle.mk_laws.proofs.ProtocolFrames.{in_call_stands, left_after, other_seat, others_leave}
 use Rattle.mk_laws.proofs.{Bases.IsLonger, FramesLongerLists.begins_nothing, FreedRuns.never_after}
 use Rattle.mk_laws.proofs.{ImagesHeldGates.held_idle, ImagesOneEvent.one_event, InvariantTheorems.reach_is_kept}
-use Rattle.mk_laws.proofs.{ProbesStill.pages_tell, ProbesStill.ready, RunsStill.holder_finds, Standings.in_call_is}
+use Rattle.mk_laws.proofs.{ProbesStill.pages_tell, ProbesStill.ready, RunsStill.holder_finds}
 
 -- An allocation to which a caller's register leads stays unreleased, where it is, and in a call of the caller mapped.
 
@@ -44,17 +44,6 @@ same_place : (xs ys : List PlacedAllocation) (a : ℕ) → a < length xs → IsL
     → (placed_at ys a).base ≡ (placed_at xs a).base
 same_place xs ys a lt longer = sym (base_at ys a) ∙ rw longer.is (get_or_append_left (bases_of xs) longer.more 0 a
     (omega (arith, length-map xs (λ (x : PlacedAllocation). x.base), lt)) ∙ base_at xs a)
-
--- who is in a call
-in_call_stands : (c : Config) (m : Moment) (k : ℕ) → Known c m → is_in_call (flight_of m (Caller k)) ≡ true
-    → (k < c.callers) × (standing (flight_of m (Caller k)) ≡ InCall)
-in_call_stands c m k known is = elim (cases_lt k c.callers) [
-  | inl lt ↦
-      let f = flight_of m (Caller k) in
-      (lt, in_call_is (standing f) (in_call_told f.stage f.op (not_astray c m known.orderly k lt) ∙ is))
-  | inr past ↦ absurd (false≢true (ap is_in_call (sym (get_or_past m.seats.flights k at_rest
-      (omega (arith, known.orderly.flights)))) ∙ is))
-]
 
 module _ (c : Config) (es more : List Event) (k : ℕ) (h : IsHistory c (es ++ more))
     (others : AreOfOthers (Caller k ∷ []) more) where
@@ -198,8 +187,7 @@ all_step : (c : Config) (w : World) (n : NeverState) (s seat : Seat) (x : Step) 
     → seat ≢ s → HoldsAll c w.now s → never_after c w n (record { seat = seat; step = x }) ≡ n
 all_step c w n s (Caller j) x known h ne all =
     let lt = ltb-true j c.callers h.seat in
-    ap (after_calls n)
-    (held_decides_nothing c w.now j x known h (others_held c w.now s all.1 j lt (other_number c w.now s j lt all.0 ne)))
+    grind (arith, held_decides_nothing, others_held, other_number)
 all_step c w n s _ x known h ne all = refl
 
 all_one : (c : Config) (s : Seat) (es : List Event) (e : Event) → IsHistory c (es ++ e ∷ [])

@@ -37,12 +37,9 @@ service_stands f h g i is _ = gives_stand f.stage f.op is
 pub service_rests : (f : Flight) (h : Holding) (g : Flight) (i : Holding) → f.stage ≡ Stage.Idle → Service f h g i
     → g ≡ f
 service_rests f h g i idle (Loads _ at stands no_new) = let e : Stage.Idle ≡ Stage.LoadP = sym idle ∙ at in cc
-service_rests f h g i idle (Fills new p) = let e : false ≡ true = ap (λ (s : Stage). is_new_at s f.op) (sym idle)
-    ∙ new in cc
-service_rests f h g i idle (Grants new) = let e : false ≡ true = ap (λ (s : Stage). is_new_at s f.op) (sym idle)
-    ∙ new in cc
-service_rests f h g i idle (Frees _ free p) = let e : false ≡ true = ap (λ (s : Stage). is_free_at s f.op) (sym idle)
-    ∙ free in cc
+service_rests f h g i idle (Fills new p) = cc
+service_rests f h g i idle (Grants new) = cc
+service_rests f h g i idle (Frees _ free p) = cc
 service_rests f h g i idle _ = refl
 
 -- what the stages exclude

@@ -1,58 +1,19 @@
 -- The steps of a New and of a Free on the terrain: `head`, `used`, `mark`.
-use Rattle.mk_laws.proofs.Vocabulary.{Among, AreApart, AsChosen, AsUsed, Bool, ByFit, Chosen, Claim, Config, Empties}
-use Rattle.mk_laws.proofs.Vocabulary.{GivesBack, Granted, Ground, HasLayout, InPlot, IsClaimedRun, IsLaidOn}
-use Rattle.mk_laws.proofs.Vocabulary.{IsNextHeader, IsOfOneCell, IsPlaced, IsPlotShown, IsSized, LayoutScene, List}
-use Rattle.mk_laws.proofs.Vocabulary.{Object, Option, Place, Placing, Plotted, RunPages, RunStands, Some, Unplaced}
-use Rattle.mk_laws.proofs.Vocabulary.{Used, World, ℕ, ap, append-nil, arith, cells_made, chosen, claims_of, claims_on}
-use Rattle.mk_laws.proofs.Vocabulary.{claims_placed, false, fewer_bits, ground_of, header_at, header_made, inl, inr}
-use Rattle.mk_laws.proofs.Vocabulary.{is_released_in, is_used_once, layout_scene_of, length, not, pages_made}
-use Rattle.mk_laws.proofs.Vocabulary.{pages_some, place_claim, plot_of, refl, small_pages, subst, sym, true}
-use Rattle.mk_laws.proofs.Vocabulary.{unmapped_header, [], ◌++◌, ◌+◌, ◌-◌, ◌<◌, ◌∙◌, ◌∷◌, ◌≡◌, ◌≢◌, ◌≤◌, ◌⊎◌}
+use Rattle.mk_laws.proofs.Vocabulary.{Among, AsChosen, AsUsed, Bool, ByFit, Chosen, Claim, Config, Empties, GivesBack}
+use Rattle.mk_laws.proofs.Vocabulary.{Granted, Ground, HasLayout, InPlot, IsClaimedRun, IsLaidOn, IsNextHeader}
+use Rattle.mk_laws.proofs.Vocabulary.{IsPlaced, IsPlotShown, IsSized, LayoutScene, List, Object, Option, Place, Placing}
+use Rattle.mk_laws.proofs.Vocabulary.{Plotted, RunPages, RunStands, Some, Unplaced, Used, World, ℕ, ap, append-nil}
+use Rattle.mk_laws.proofs.Vocabulary.{arith, cells_made, chosen, claims_of, claims_on, claims_placed, false, fewer_bits}
+use Rattle.mk_laws.proofs.Vocabulary.{ground_of, header_at, header_made, inl, inr, is_released_in, is_used_once}
+use Rattle.mk_laws.proofs.Vocabulary.{layout_scene_of, length, not, pages_made, pages_some, place_claim, plot_of, refl}
+use Rattle.mk_laws.proofs.Vocabulary.{small_pages, subst, sym, true, unmapped_header, [], ◌++◌, ◌+◌, ◌-◌, ◌<◌, ◌∙◌, ◌∷◌}
+use Rattle.mk_laws.proofs.Vocabulary.{◌≡◌, ◌≢◌, ◌≤◌, ◌⊎◌}
 use Rattle.mk_core.proofs.{PageSteps.Unmaps, ServingSteps.IsCellTaken, Sizes.cells_some}
 use Rattle.mk_laws.proofs.Placing.{layout_carved, layout_chosen, layout_taken}
 use Rattle.mk_laws.proofs.Releasing.{layout_emptied, layout_given_back, with_header_on, with_used_on}
-use Rattle.mk_laws.proofs.{Fits.FitsOnFreePages, Fits.fits, Unmapping.layout_page_unmapped}
-
--- Lists of claims that are joined.
-
-pub among_front : (xs ys : List Claim) (x : Claim) → Among x xs → Among x (xs ++ ys)
-among_front [] ys x i = absurd i
-among_front (z ∷ zs) ys x (inl e) = inl e
-among_front (z ∷ zs) ys x (inr i) = inr (among_front zs ys x i)
-
-pub among_back : (xs ys : List Claim) (x : Claim) → Among x ys → Among x (xs ++ ys)
-among_back [] ys x i = i
-among_back (z ∷ zs) ys x i = inr (among_back zs ys x i)
-
-pub among_parts : (xs ys : List Claim) (x : Claim) → Among x (xs ++ ys) → Among x xs ⊎ Among x ys
-among_parts [] ys x i = inr i
-among_parts (z ∷ zs) ys x (inl e) = inl (inl e)
-among_parts (z ∷ zs) ys x (inr i) = elim (among_parts zs ys x i) [ inl j ↦ inl (inr j) | inr j ↦ inr j ]
-
-pub apart_left : (xs ys : List Claim) → AreApart (xs ++ ys) → AreApart xs
-apart_left [] ys apart = tt
-apart_left (z ∷ zs) ys apart = (λ y i. apart.0 y (among_front zs ys y i), apart_left zs ys apart.1)
-
-pub apart_right : (xs ys : List Claim) → AreApart (xs ++ ys) → AreApart ys
-apart_right [] ys apart = apart
-apart_right (z ∷ zs) ys apart = apart_right zs ys apart.1
-
-pub apart_across : (xs ys : List Claim) (x y : Claim) → AreApart (xs ++ ys) → Among x xs → Among y ys → IsOfOneCell x y
-    → ⊥
-apart_across [] ys x y apart ix iy same = ix
-apart_across (z ∷ zs) ys x y apart (inl e) iy same = apart.0 y (among_back zs ys y iy) (
-  rw (← e) same.0,
-  rw (← e) same.1,
-)
-apart_across (z ∷ zs) ys x y apart (inr i) iy same = apart_across zs ys x y apart.1 i iy same
-
-pub apart_joined : (xs ys : List Claim) → AreApart xs → AreApart ys
-    → ((x y : Claim) → Among x xs → Among y ys → IsOfOneCell x y → ⊥) → AreApart (xs ++ ys)
-apart_joined [] ys ax ay across = ay
-apart_joined (z ∷ zs) ys ax ay across = (
-  λ y i same. elim (among_parts zs ys y i) [ inl j ↦ ax.0 y j same | inr j ↦ across z y (inl refl) j same ],
-  apart_joined zs ys ax.1 ay (λ x y ix. across x y (inr ix)),
-)
+use Rattle.mk_laws.proofs.{Fits.FitsInBlock, Fits.FitsOnFreePages, Fits.fits, Unmapping.layout_page_unmapped}
+pub use Rattle.mk_laws.proofs.Placing.{among_back, among_front, among_parts, apart_across, apart_joined}
+pub use Rattle.mk_laws.proofs.Placing.{apart_left, apart_right}
 
 -- a terrain that is laid out, with the marks of this world
 abbrev pub Laid : Config → Object → Bool → World → Ground → Type 0
@@ -92,9 +53,6 @@ head_unmaps c o releasing w p n st h =
     subst (λ (r : Option RunPages). RunStands (claims_of c w.now.seats.holding.freed w.allocations) r) h.there st.gone
     in
     let next = h.next in
-    let page = x.page in
-    let near = next.near in
-    let low = next.from in
     let at : x.claim.page + (p - h.run.page) ≡ p = omega arith in
     let value : unmapped_header (pages_made x.claim.object) (p - h.run.page) ≡ n = rw x.count (sym next.is) in
     record {
@@ -134,15 +92,47 @@ carved_on c o w place p n st next =
           (record (ground_of w) { pages = with_header_on w.now.words.pages q n; placing = Chosen place }))) at
           (rw next.is
           (layout_carved (layout_scene_of c o false w.now.words.marks (record (ground_of w) { placing = Chosen place }))
-          place.page o (p - place.page) st.scene refl refl (record {
-            within = next.near;
-            not_yet = λ e. next.not_yet (ap (λ q. header_at w.now.words q) (sym at) ∙ e);
-            before = next.before;
-          })));
+          place.page o (p - place.page) st.scene refl refl (grind arith)));
       gone = st.gone;
       first = st.first;
       cells = st.cells;
     }
+
+-- How the place of a New stands in a terrain: its pages are free, or it is chosen, or its headers stand.
+pub data PlacedFor (c : Config) (o : Object) (w : World) (place : Place) (placing : Placing) : Type 0 where
+  OnFree : placing ≡ Unplaced → FitsOnFreePages c.resident w.now.words.pages o place → PlacedFor c o w place placing
+  OnChosen : placing ≡ Chosen place → PlacedFor c o w place placing
+  Stands : ((d : ℕ) → d < pages_made o → header_at w.now.words (place.page + d) ≡ header_made o d)
+      → ((placing ≡ Unplaced) × FitsInBlock w.now.words.pages o place) ⊎ (placing ≡ Used place)
+      → PlacedFor c o w place placing
+
+pub placed_for : (c : Config) (o : Object) (releasing : Bool) (w : World) (place : Place)
+    → Laid c o releasing w (ground_of w) → IsSized o
+    → IsPlaced c.resident w.now.words.pages o place w.now.seats.holding.placing
+    → PlacedFor c o w place w.now.seats.holding.placing
+placed_for c o releasing w place st sized placed = by w.now.seats.holding.placing refl placed
+  where
+    by : (placing : Placing) → w.now.seats.holding.placing ≡ placing
+        → IsPlaced c.resident w.now.words.pages o place placing → PlacedFor c o w place placing
+    by Unplaced is (ByFit at) = elim (fits c.resident w.now.words.pages o place sized at) [
+      | inl fit ↦ OnFree refl fit
+      | inr fit ↦ Stands
+          (λ d lt. let first : d ≡ 0 = omega (arith, small_pages o fit.small) in
+          let here : place.page + 0 ≡ place.page = omega arith in rw first (rw here fit.header))
+          (inl (refl, fit))
+    ]
+    by (Chosen place) is AsChosen = OnChosen refl
+    by (Used place) is AsUsed = Stands (st.scene.shown (place_claim o place)
+        (placed_claim c o (ground_of w) _ (rw is (inl refl)))).headers (inr refl)
+    by Granted is out = elim out [ ]
+
+-- A page of it whose header stands doesn't get it again.
+pub not_again : (o : Object) (w : World) (place : Place) (p n : ℕ)
+    → ((d : ℕ) → d < pages_made o → header_at w.now.words (place.page + d) ≡ header_made o d)
+    → IsNextHeader w.now.words place.page (pages_made o) (header_made o) p n → ⊥
+not_again o w place p n headers next =
+    let there : place.page + (p - place.page) ≡ p = omega (arith, next.from) in
+    next.not_yet (ap (λ q. header_at w.now.words q) (sym there) ∙ headers _ next.near)
 
 -- `head` (a) and (b): a page of the place gets its header
 pub head_carves : (c : Config) (o : Object) (w : World) (place : Place) (p n : ℕ) → Laid c o false w (ground_of w)
@@ -151,34 +141,11 @@ pub head_carves : (c : Config) (o : Object) (w : World) (place : Place) (p n : �
       pages = with_header_on w.now.words.pages p n;
       placing = chosen w.now.seats.holding.placing (Some place);
     })
-head_carves c o w place p n st sized placed next = by w.now.seats.holding.placing refl placed
-  where
-    by : (placing : Placing) → w.now.seats.holding.placing ≡ placing
-        → IsPlaced c.resident w.now.words.pages o place placing → Laid c o false w (record (ground_of w) {
-          pages = with_header_on w.now.words.pages p n;
-          placing = chosen placing (Some place);
-        })
-    by Unplaced is (ByFit at) = elim (fits c.resident w.now.words.pages o place sized at) [
-      | inl fit ↦ carved_on c o w place p n (chosen_free c o false w place st is sized fit) next
-      | inr fit ↦
-          let one = small_pages o fit.small in
-          let near = next.near in
-          let low = next.from in
-          let d : p - place.page ≡ 0 = omega arith in
-          let here : p ≡ place.page = omega arith in
-          absurd (next.not_yet (ap (λ q. header_at w.now.words q) here ∙ fit.header
-          ∙ ap (λ e. header_made o e) (sym d)))
-    ]
-    by (Chosen place) is AsChosen =
-        carved_on c o w place p n (placed_as c o false w (ground_of w) (Chosen place) is st) next
-    by (Used place) is AsUsed =
-        let own : Among (place_claim o place) (claims_placed o w.now.seats.holding.placing) =
-        subst (λ (x : Placing). Among (place_claim o place) (claims_placed o x)) (sym is) (inl refl) in
-        let shown = st.scene.shown (place_claim o place) (placed_claim c o (ground_of w) _ own) in
-        let low = next.from in
-        let there : place.page + (p - place.page) ≡ p = omega arith in
-        absurd (next.not_yet (ap (λ q. header_at w.now.words q) (sym there) ∙ shown.headers _ next.near))
-    by Granted is out = elim out [ ]
+head_carves c o w place p n st sized placed next = elim (placed_for c o false w place st sized placed) [
+  | OnFree is fit ↦ rw is (carved_on c o w place p n (chosen_free c o false w place st is sized fit) next)
+  | OnChosen is ↦ rw is (carved_on c o w place p n (placed_as c o false w (ground_of w) (Chosen place) is st) next)
+  | Stands headers _ ↦ absurd (not_again o w place p n headers next)
+]
 
 -- `mark` (b): the place is chosen before its first header is stored
 pub mark_places : (c : Config) (o : Object) (releasing : Bool) (w : World) (place : Place)
@@ -186,18 +153,13 @@ pub mark_places : (c : Config) (o : Object) (releasing : Bool) (w : World) (plac
     → IsPlaced c.resident w.now.words.pages o place w.now.seats.holding.placing → header_at w.now.words place.page ≡ 0
     → header_made o 0 ≢ 0
     → Laid c o releasing w (record (ground_of w) { placing = chosen w.now.seats.holding.placing (Some place) })
-mark_places c o releasing w place st sized placed free made = by w.now.seats.holding.placing refl placed
-  where
-    by : (placing : Placing) → w.now.seats.holding.placing ≡ placing
-        → IsPlaced c.resident w.now.words.pages o place placing
-        → Laid c o releasing w (record (ground_of w) { placing = chosen placing (Some place) })
-    by Unplaced is (ByFit at) = elim (fits c.resident w.now.words.pages o place sized at) [
-      | inl fit ↦ chosen_free c o releasing w place st is sized fit
-      | inr fit ↦ absurd (made (sym fit.header ∙ free))
-    ]
-    by (Chosen place) is AsChosen = placed_as c o releasing w (ground_of w) (Chosen place) is st
-    by (Used place) is AsUsed = placed_as c o releasing w (ground_of w) (Used place) is st
-    by Granted is out = elim out [ ]
+mark_places c o releasing w place st sized placed free made = elim (placed_for c o releasing w place st sized placed) [
+  | OnFree is fit ↦ rw is (chosen_free c o releasing w place st is sized fit)
+  | OnChosen is ↦ rw is (placed_as c o releasing w (ground_of w) (Chosen place) is st)
+  | Stands headers _ ↦
+      let here : place.page + 0 ≡ place.page = omega arith in
+      absurd (made (sym (headers 0 (pages_some o sized)) ∙ ap (λ q. header_at w.now.words q) here ∙ free))
+]
 
 -- `used` (a): the cell of the place is taken
 no_claims : (xs : List Claim) (x : Claim) → (xs ++ []) ++ x ∷ [] ≡ xs ++ x ∷ []
@@ -235,30 +197,22 @@ pub used_takes : (c : Config) (o : Object) (releasing : Bool) (w : World) (place
     → is_used_once w.now.seats.holding.placing ≡ false
     → IsPlaced c.resident w.now.words.pages o place w.now.seats.holding.placing → IsCellTaken w.now.words o place p n
     → Laid c o releasing w (record (ground_of w) { pages = with_used_on w.now.words.pages p n; placing = Used place })
-used_takes c o releasing w place p n st sized made once placed next = by w.now.seats.holding.placing refl once placed
-  where
-    by : (placing : Placing) → w.now.seats.holding.placing ≡ placing → is_used_once placing ≡ false
-        → IsPlaced c.resident w.now.words.pages o place placing → Laid c o releasing w
-        (record (ground_of w) { pages = with_used_on w.now.words.pages p n; placing = Used place })
-    by Unplaced is once (ByFit at) = elim (fits c.resident w.now.words.pages o place sized at) [
-      | inl fit ↦
-          let zero : place.page + 0 ≡ place.page = omega arith in
+used_takes c o releasing w place p n st sized made once placed next =
+    elim (placed_for c o releasing w place st sized placed) [
+      | OnFree is fit ↦
           let some = pages_some o sized in
           absurd (made (sym (next.headers 0 (omega arith)) ∙ fit.free 0 (omega arith)))
-      | inr fit ↦
-          let one = small_pages o fit.small in
-          let lt = fit.within in
+      | OnChosen is ↦
+          let here = placed_as c o releasing w (ground_of w) (Chosen place) is st in
+          let plot : IsPlotShown w.now.words.pages place.page o = here.scene.plot in
+          let first : place.index ≡ 0 = here.first in
+          taken_at c o releasing w (Chosen place) place p n here refl next sized (omega (arith, cells_some o sized))
+          plot.within (λ q i. i)
+      | Stands headers (inl (is, fit)) ↦
           taken_at c o releasing w Unplaced place p n (placed_as c o releasing w (ground_of w) Unplaced is st) refl next
-          sized fit.index (omega arith) (λ q out. absurd out)
+          sized fit.index (omega (arith, small_pages o fit.small, fit.within)) (λ q out. absurd out)
+      | Stands headers (inr is) ↦ let e : true ≡ false = ap is_used_once (sym is) ∙ once in cc
     ]
-    by (Chosen place) is once AsChosen =
-        let here = placed_as c o releasing w (ground_of w) (Chosen place) is st in
-        let plot : IsPlotShown w.now.words.pages place.page o = here.scene.plot in
-        let first : place.index ≡ 0 = here.first in
-        let some = cells_some o sized in
-        taken_at c o releasing w (Chosen place) place p n here refl next sized (omega arith) plot.within (λ q i. i)
-    by (Used place) is once AsUsed = cc
-    by Granted is once out = elim out [ ]
 
 -- `used` (b): released cells are given back
 pub used_gives_back : (c : Config) (o : Object) (w : World) (p n : ℕ) → p < length w.now.words.pages

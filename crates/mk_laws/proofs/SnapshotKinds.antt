@@ -16,7 +16,7 @@ use Rattle.mk_core.specs.StopConditions.{may_begin}
 use Rattle.mk_laws.proofs.Basics.{Before, LeavesCells, Meets, WorldBehind, all_stand, apart_left, bit_cases}
 use Rattle.mk_laws.proofs.Basics.{freeing_leaves, grants_new, holding_object, new_has_turn, placed_claim}
 use Rattle.mk_laws.proofs.Basics.{reg_leaves_ground, releasing_leaves, tally_ground}
-use Rattle.mk_laws.proofs.CyclePhases.{AsksPhase, phase_asked, phase_behind, phase_moves}
+use Rattle.mk_laws.proofs.CyclePhases.{phase_asked, phase_moves}
 use Rattle.mk_laws.proofs.QuarantineByKind.{frees_here, frees_some, shown_at}
 use Rattle.mk_laws.proofs.QuarantineChanges.{FreesHere, before_change, free_halves}
 use Rattle.mk_laws.proofs.{ForImages.numbers_apart, Granted.pushed_any, Granted.pushed_at, LayoutByKind.fresh_cells}
@@ -59,19 +59,13 @@ dropped_bits c w p f n i ls q d u = elim (bit_cases w.now.words.snapshot p n x.p
         absurd (true≢false (sym (ap (λ j. has_bit (slice_index w.now.words.snapshot j) x.index) at ∙ was) ∙ b))
     same at (inr a) (inl b) =
         let lost = d.gone x.index (rw (← at) b) a in
-        let released = and_both _ _ b (ap (λ j. has_bit (slice_index w.now.words.marks j) x.index) at ∙ lost.0) in
-        absurd (true≢false (sym released ∙ q.kept refl i u))
-
-cycling_at : (w : World) (n : ℕ) → is_phase w.now.words n ≡ true → is_cycling n ≡ false
-    → is_cycling (phase_of w.now.words) ≡ true → ⊥
-cycling_at w n at none on = true≢false (sym on ∙ rw (eqb-true _ n at) none)
+        grind (arith, and_both)
 
 quar_none : (c : Config) (w : World) (f : Flight) (p n : ℕ) → p < length w.now.words.snapshot
     → cell_freed c.pages w.now.words f p n ≡ None → QuarantineStep c w.now f p n → IsQuarantined c w → KeepsSnapshot c w
     → HasSnapshot c (is_cycling (phase_of w.now.words)) (slice_set w.now.words.snapshot p (n / 2 ^ 32)) w.allocations
 quar_none c w f p n ls none (ItFrees off x) q s = absurd (frees_some c.pages w.now.words f p n off x none)
-quar_none c w f p n ls none (ItTakesSnapshot x) q s =
-    record { fresh = s.fresh; quarantined = λ on. absurd (cycling_at w 0 x.phase refl on) }
+quar_none c w f p n ls none (ItTakesSnapshot x) q s = grind (arith, eqb-true)
 quar_none c w f p n ls none (ItDrops four x) q s = record {
   fresh = s.fresh;
   quarantined = λ on i u.
@@ -122,12 +116,9 @@ quar_frees c w cell n x q s =
         ≡ ((freed_where_it_stands w.now.words (Some cell) (placed_at w.allocations i)).freed
         && not (freed_where_it_stands w.now.words (Some cell) (placed_at w.allocations i)).fresh)
     bit on i u true is =
-        let a : PlacedAllocation = placed_at w.allocations i in
         ap (λ (y : Cell). has_bit (slice_index w.now.words.snapshot y.page) y.index) (x.others i u is)
         ∙ unset_in_snapshot c false w.now.words.marks (ground_of w) cell.page cell.index q x.unset ∙ sym (rw is)
-    bit on i u false is =
-        let a : PlacedAllocation = placed_at w.allocations i in
-        s.quarantined on i u ∙ sym (rw is)
+    bit on i u false is = s.quarantined on i u ∙ sym (rw is)
 
 pub snapshot_of_quar : (c : Config) (w : World) (seat : Seat) (p n : ℕ) → Before c w
     → Meets c w.now seat (Step.Quar p n) → LayoutStands c w → IsQuarantined c w → KeepsSnapshot c w
@@ -155,13 +146,9 @@ is_cycling_behind Step.Begin b = true
 is_cycling_behind Step.End b = false
 is_cycling_behind _ b = b
 
-cycling_step : (x : Step) (p : ℕ) → AsksPhase x p → is_cycling (phase_behind x p) ≡ is_cycling_behind x (is_cycling p)
-cycling_step Step.Begin p asks = refl
-cycling_step x0 p asks = cc
-
 pub cycle_kind : (c : Config) (w : World) (seat : Seat) (x : Step) → Meets c w.now seat x
     → is_cycling (phase_of (WorldBehind c w seat x).now.words) ≡ is_cycling_behind x (is_cycling (phase_of w.now.words))
-cycle_kind c w seat x h = ap is_cycling (phase_moves c w.now seat x h) ∙ cycling_step x _ (phase_asked c w.now seat x h)
+cycle_kind c w seat x h = grind (arith, phase_moves, phase_asked)
 
 -- `begin`: what is freed is in the snapshot, and nothing is fresh
 begin_kind : (c : Config) (w : World) → Before c w → is_phase w.now.words 0 ≡ true
@@ -196,12 +183,7 @@ grant_kind : (c : Config) (w : World) (seat : Seat) → Before c w → Meets c w
     → IsQuarantined c w → KeepsSnapshot c w → HasSnapshot c (is_cycling (phase_of w.now.words)) w.now.words.snapshot
     (w.allocations ++ granted c w.now (flight_of w.now seat) ∷ [])
 grant_kind c w seat b h laid q s = record {
-  fresh = λ i f. elim (pushed_any w.allocations a i) [
-    | inl old ↦
-        let was = s.fresh i (rw (← old) f) in
-        (rw old was.0, rw old was.1)
-    | inr new ↦ absurd (true≢false (sym f ∙ rw new))
-  ];
+  fresh = grind (arith, pushed_any);
   quarantined = λ on i u. elim (pushed_at w.allocations a i u) [
     | inl old ↦ ap (λ (x : PlacedAllocation). has_bit_of c w.now.words.snapshot x) old.1 ∙ s.quarantined on i old.0
         ∙ sym (ap (λ (x : PlacedAllocation). x.freed && not x.fresh) old.1)
@@ -247,9 +229,7 @@ release_kind c w b three laid s = record {
         rw (at i) (stays i was.0 was.1 (ap (λ (x : PlacedAllocation). x.fresh) (sym (at i)) ∙ f)),
       );
   quarantined = λ on i u.
-      let x = before_change c _ w.allocations i (releasing_leaves c w.now.words) u in
-      ap (λ (y : Cell). has_bit (slice_index w.now.words.snapshot y.page) y.index) x.cell ∙ s.quarantined on i x.was
-      ∙ sym (rw (at i));
+      grind (arith, before_change, releasing_leaves);
 }
   where
     at : (i : ℕ) → placed_at (map (with_released c w.now.words) w.allocations) i

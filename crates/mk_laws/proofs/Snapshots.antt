@@ -4,7 +4,7 @@ use Rattle.mk_laws.proofs.Vocabulary.{KeepsTheInvariant, List, OfHistories, Plac
 use Rattle.mk_laws.proofs.Vocabulary.{and_parts, ap, arith, cell_of_allocation, enabled_in_parts, false, has_bit_of}
 use Rattle.mk_laws.proofs.Vocabulary.{is_begin, is_cycling, is_quarantined, is_release, le-leb, left, left_from}
 use Rattle.mk_laws.proofs.Vocabulary.{left_in_parts, list_any, never_behind, not-true, or_parts, phase_of, placed_at}
-use Rattle.mk_laws.proofs.Vocabulary.{refl, subst, sym, true, world_behind, [], ◌||◌, ◌∙◌, ◌∷◌, ◌≡◌, ◌≢◌}
+use Rattle.mk_laws.proofs.Vocabulary.{refl, sym, true, world_behind, [], ◌||◌, ◌∙◌, ◌∷◌, ◌≡◌, ◌≢◌}
 use Rattle.mk_core.specs.{Cells.is_in_snapshot, Readings.SnapshotsTell, Readings.SnapshotTells}
 use Rattle.mk_laws.proofs.CyclePhases.{IsUnreleased, NoneIsReleased, begin_is, moves_phase, none_is_released}
 use Rattle.mk_laws.proofs.CyclePhases.{phase_behind}
@@ -13,10 +13,6 @@ use Rattle.mk_laws.proofs.ReadingsKeptPlaces.{StaysPut, keeps_cell, stays_put}
 use Rattle.mk_laws.proofs.{Basics.known_world, Quarantines.snapshot_is_the_cycles, ReadingsStands.freed_cell}
 
 -- the events from a `begin` on, as a part of the list
-
-pub at_event : (c : Config) (es : List Event) (kind : Step → Bool) (at : At kind es)
-    → left c es ≡ left_from c (left c at.before) (at.event ∷ at.behind)
-at_event c es kind at = ap (left c) at.is ∙ left_in_parts c at.before (at.event ∷ at.behind)
 
 pub enabled_at : (c : Config) (es : List Event) (kind : Step → Bool) (at : At kind es) → IsHistory c es
     → AreEnabledFrom c (left c at.before) (at.event ∷ at.behind)
@@ -55,18 +51,13 @@ module _ (c : Config) (es : List Event) (h : IsHistory c es) (begin : At is_begi
   no_release = (either_kind begin.behind none).1
 
   since : left c es ≡ left_from c (left c begin.before) (begin.event ∷ begin.behind)
-  since = at_event c es is_begin begin
+  since = grind (arith, left_in_parts)
 
   phase : IsUnreleased (phase_of w.now.words)
   unfolding left_from
   phase =
       let on = enabled_at c es is_begin begin h in
-      let begun = begun_world c _ begin.event begin.behind on begin.of_kind no_release in
-      subst (λ (v : World). IsUnreleased (phase_of v.now.words)) (sym since) begun.phase
-
-  -- An allocation that was unreleased then is so, in its cell.
-  put : (i : ℕ) → (placed_at olds i).released ≡ false → StaysPut (placed_at olds i) (placed_at w.allocations i)
-  put i u = grind (arith, begin_is, no_release, olds, since, stays_put)
+      grind (arith, begun_world, no_release, since)
 
   all : KeepsTheInvariant c es
   all = histories_keep_the_invariant c es h
@@ -77,7 +68,7 @@ module _ (c : Config) (es : List Event) (h : IsHistory c es) (begin : At is_begi
 
   put_quarantined : (i : ℕ) → is_quarantined (placed_at olds i) ≡ true
       → StaysPut (placed_at olds i) (placed_at w.allocations i)
-  put_quarantined i q = grind (arith, olds, put, not-true, and_parts)
+  put_quarantined i q = grind (arith, olds, not-true, and_parts, begin_is, no_release, since, stays_put)
 
   same_cell : (i : ℕ) → is_quarantined (placed_at olds i) ≡ true
       → cell_of_allocation c (placed_at w.allocations i) ≡ cell_of_allocation c (placed_at olds i)

@@ -179,13 +179,16 @@ on c m k x h own is a =
     let f = flight_of m (Caller k) in
     calls_stand f.stage f.op (ap is_call_stage (at_its_stage f.stage f.op x own h.order) ∙ is) a
 
-onward_from : (c : Config) (m : Moment) (k : ℕ) (x : Step) → Meets c m (Caller k) x → has_stage_of_its_own x ≡ true
-    → goes_on (stage_of x) ≡ true → standing (flight_of m (Caller k)) ≡ InCall
-    → standing_at (stage_behind (flight_of m (Caller k)).stage (steps_of (flight_of m (Caller k)).op))
-    (flight_of m (Caller k)).op ≡ InCall
-onward_from c m k x h own is was =
+-- and so after them, but for `leave`
+goes : (c : Config) (m : Moment) (k : ℕ) (x : Step) → Meets c m (Caller k) x → has_stage_of_its_own x ≡ true
+    → is_call_stage (stage_of x) ≡ true → goes_on (stage_of x) ≡ true
+    → is_astray (standing (flight_of m (Caller k))) ≡ false → (standing (flight_of m (Caller k)) ≡ InCall)
+    × (standing_at (stage_behind (flight_of m (Caller k)).stage (steps_of (flight_of m (Caller k)).op))
+    (flight_of m (Caller k)).op ≡ InCall)
+goes c m k x h own is further a =
     let f = flight_of m (Caller k) in
-    onward_stands f.stage f.op was (ap goes_on (at_its_stage f.stage f.op x own h.order) ∙ is)
+    let was = on c m k x h own is a in
+    (was, onward_stands f.stage f.op was (ap goes_on (at_its_stage f.stage f.op x own h.order) ∙ further))
 
 pub call_moves : (c : Config) (m : Moment) (k : ℕ) (x : Step) → k < c.callers → group_of x ≡ Group.Callers
     → is_astray (standing (flight_of m (Caller k))) ≡ false → Meets c m (Caller k) x → Moves c m (Caller k) x
@@ -195,23 +198,16 @@ call_moves c m k Step.Leave lt g a h = Leaves lt (on c m k Step.Leave h refl ref
 call_moves c m k Step.Reg lt g a h = reg_move c m k lt (at_reg _ _ h.order) a
 call_moves c m k Step.Probe lt g a h =
     let f = flight_of m (Caller k) in
-    let was = on c m k Step.Probe h refl refl a in
-    GoesOn _ lt was (either_stands _ _
-    (onward f None) InCall (refused_stands f.stage f.op was) (onward_from c m k Step.Probe h refl refl was))
+    let s = goes c m k Step.Probe h refl refl refl a in
+    GoesOn _ lt s.0 (either_stands _ _ (onward f None) InCall (refused_stands f.stage f.op s.0) s.1)
 call_moves c m k Step.Read lt g a h =
-    let f = flight_of m (Caller k) in
-    let was = on c m k Step.Read h refl refl a in
-    GoesOn _ lt was (read_stands f f.op _ ∙ onward_from c m k Step.Read h refl refl was)
-call_moves c m k Step.Write lt g a h = let was =
-    on c m k Step.Write h refl refl a in GoesOn _ lt was (onward_from c m k Step.Write h refl refl was)
-call_moves c m k Step.Cas lt g a h = let was =
-    on c m k Step.Cas h refl refl a in GoesOn _ lt was (onward_from c m k Step.Cas h refl refl was)
-call_moves c m k Step.Getg lt g a h = let was =
-    on c m k Step.Getg h refl refl a in GoesOn _ lt was (onward_from c m k Step.Getg h refl refl was)
-call_moves c m k Step.Setg lt g a h = let was =
-    on c m k Step.Setg h refl refl a in GoesOn _ lt was (onward_from c m k Step.Setg h refl refl was)
-call_moves c m k Step.Dirty lt g a h = let was =
-    on c m k Step.Dirty h refl refl a in GoesOn _ lt was (onward_from c m k Step.Dirty h refl refl was)
+    let s = goes c m k Step.Read h refl refl refl a in
+    GoesOn _ lt s.0 (read_stands (flight_of m (Caller k)) _ _ ∙ s.1)
+call_moves c m k Step.Write lt g a h = let s = goes c m k Step.Write h refl refl refl a in GoesOn _ lt s.0 s.1
+call_moves c m k Step.Cas lt g a h = let s = goes c m k Step.Cas h refl refl refl a in GoesOn _ lt s.0 s.1
+call_moves c m k Step.Getg lt g a h = let s = goes c m k Step.Getg h refl refl refl a in GoesOn _ lt s.0 s.1
+call_moves c m k Step.Setg lt g a h = let s = goes c m k Step.Setg h refl refl refl a in GoesOn _ lt s.0 s.1
+call_moves c m k Step.Dirty lt g a h = let s = goes c m k Step.Dirty h refl refl refl a in GoesOn _ lt s.0 s.1
 call_moves c m k _ lt g a h = cc
 
 -- Each step of a marker's is a move.

@@ -45,32 +45,19 @@ shown_not_astray t g k _ h = refl
 
 -- what it says of the call
 
-in_call_by : (b u : Bool) → is_astray (standing_in b u) ≡ false
-    → is_standing_in_call (standing_in b u) ≡ (true && not u)
-in_call_by true true h = refl
-in_call_by _ _ h = cc
-
 pub in_call_told : (s : Stage) (o : Op) → is_astray (standing_at s o) ≡ false
     → is_standing_in_call (standing_at s o) ≡ (not (is_idle s) && not (is_under_turn o))
 in_call_told Stage.Idle o h = refl
-in_call_told s o h = in_call_by (has_stage o s) _ h
-
-in_turn_by : (b u : Bool) → is_astray (standing_in b u) ≡ false → is_standing_under_turn (standing_in b u) ≡ (true && u)
-in_turn_by true true h = refl
-in_turn_by _ _ h = cc
+in_call_told s o h = grind arith
 
 pub in_turn_told : (s : Stage) (o : Op) → is_astray (standing_at s o) ≡ false
     → is_standing_under_turn (standing_at s o) ≡ (not (is_idle s) && is_under_turn o)
 in_turn_told Stage.Idle o h = refl
-in_turn_told s o h = in_turn_by (has_stage o s) _ h
-
-stage_by : (b u : Bool) → is_astray (standing_in b u) ≡ false → b ≡ true
-stage_by true u h = refl
-stage_by false u h = cc
+in_turn_told s o h = grind arith
 
 pub stage_told : (s : Stage) (o : Op) → is_astray (standing_at s o) ≡ false → has_stage o s ≡ true
 stage_told Stage.Idle o h = refl
-stage_told s o h = stage_by (has_stage o s) _ h
+stage_told s o h = grind arith
 
 pub under_turn_is : (s : Standing) → is_standing_under_turn s ≡ true → s ≡ UnderTurn
 under_turn_is UnderTurn h = refl

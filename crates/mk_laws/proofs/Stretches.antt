@@ -38,15 +38,13 @@ pub history_through : (c : Config) (es xs ys : List Event) (e : Event) → IsHis
 history_through c es xs ys e h is = earlier_part_is_history c _ ys (rw (is ∙ sym (append_assoc xs (e ∷ []) ys)) at h)
 
 -- What each event that isn't of a kind keeps, stands after a list without one.
-pub along_without : (c : Config) (kind : Step → Bool) (P : List Event → Type 0) (start done rest : List Event)
-    → ((more : List Event) (e : Event) → IsHistory c ((start ++ more) ++ e ∷ []) → kind e.step ≡ false → P more → P
-    (more ++ e ∷ [])) → IsHistory c (start ++ (done ++ rest)) → None_of kind rest → P done → P (done ++ rest)
-along_without c kind P start done [] keeps h none at = subst P (sym (append-nil done)) at
-along_without c kind P start done (e ∷ rest) keeps h none at =
-    let split : done ++ e ∷ rest ≡ (done ++ e ∷ []) ++ rest = sym (append_assoc done (e ∷ []) rest) in
+pub along_without : (c : Config) (kind : Step → Bool) (P : List Event → Type 0) (start rest : List Event)
+    → ((es : List Event) (e : Event) → IsHistory c (es ++ e ∷ []) → kind e.step ≡ false → P es → P (es ++ e ∷ []))
+    → IsHistory c (start ++ rest) → None_of kind rest → P start → P (start ++ rest)
+along_without c kind P start [] keeps h none at = subst P (sym (append-nil start)) at
+along_without c kind P start (e ∷ rest) keeps h none at =
+    let split : start ++ e ∷ rest ≡ (start ++ e ∷ []) ++ rest = sym (append_assoc start (e ∷ []) rest) in
     let parts = or_parts (kind e.step) (list_any (λ (x : Event). kind x.step) rest) none in
-    let whole : IsHistory c (start ++ ((done ++ e ∷ []) ++ rest)) = rw split at h in
-    let next = history_through c (start ++ (done ++ e ∷ rest)) (start ++ done) rest e h
-    (sym (append_assoc start done (e ∷ rest))) in
-    subst P (sym split) (along_without c kind P start (done ++ e ∷ []) rest keeps whole parts.1
-    (keeps done e next parts.0 at))
+    let whole : IsHistory c ((start ++ e ∷ []) ++ rest) = rw split at h in
+    subst P (sym split) (along_without c kind P (start ++ e ∷ []) rest keeps whole parts.1
+    (keeps start e (earlier_part_is_history c _ rest whole) parts.0 at))

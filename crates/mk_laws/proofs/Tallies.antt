@@ -72,11 +72,7 @@ exact_at_give c es seat h meets =
           (λ has. decided_no_new f d.0 (placed_undecided c m seat known (giver_has_turn c m seat known meets) has));
       unmapped = gone_is_unmapped m.words m.seats.holding.freed d.1;
     } in
-    let shown = pages_show_the_storage c es h settled in
-    record {
-      held = eqb-true m.words.held _ b.1 ∙ pages_hold_mapped_words m.words.pages _ shown;
-      fresh = eqb-true m.words.fresh m.fresh_words (and_parts _ _ meets.holder).1 ∙ fresh_is_told c es h;
-    }
+    grind (arith, pages_show_the_storage, eqb-true, pages_hold_mapped_words, and_parts, fresh_is_told)
 
 pub tallies_are_exact_at_gives : OfHistories TalliesAreExactAtGives
 tallies_are_exact_at_gives c es h before e behind is gives =
@@ -142,8 +138,7 @@ told_behind c es e h meets tells (Leaves same) free =
 tells_kept : KeptByEvents TalliesTell
 tells_kept c es e h tells free =
     let here = before_it c (es ++ e ∷ []) es e [] h refl in
-    told_behind c es e here.0 here.1 tells (turn_step c (left c es) e.seat e.step)
-    (ap (λ (v : World). v.now.words.turn) (sym (left_more c (first_world c) es e)) ∙ free)
+    grind (arith, told_behind, turn_step, left_more)
 
 tells_at_first : (c : Config) → TalliesTell c []
 unfolding left_from calls_from unreleased_storage

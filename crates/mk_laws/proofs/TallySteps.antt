@@ -1,6 +1,6 @@
 -- What events leave to the tallies, and to the allocations that they count.
-use Rattle.mk_laws.proofs.Vocabulary.{Bool, Caller, Config, Event, Moment, Seat, Step, World, ℕ, answer_decided, ap}
-use Rattle.mk_laws.proofs.Vocabulary.{arith, false, group_of, is_end, is_of_turn, refl, true, world_behind, ◌≡◌, ◌≢◌}
+use Rattle.mk_laws.proofs.Vocabulary.{Bool, Config, Event, Moment, Seat, Step, World, ℕ, answer_decided, ap, arith}
+use Rattle.mk_laws.proofs.Vocabulary.{false, group_of, is_end, is_of_turn, refl, true, world_behind, ◌≡◌, ◌≢◌}
 use Rattle.mk_core.proofs.RegisterAccesses.{LeavesTallies, register_leaves_tallies}
 use Rattle.mk_laws.proofs.Basics.{Actor, AsHolder, AsMarker, HoldsTurn, InCallOf, Known, Meets, WorldBehind, actor_of}
 use Rattle.mk_laws.proofs.Basics.{reg_leaves, tally_keeps, turn_of, view_of}
@@ -48,11 +48,6 @@ outside_alike c m seat x out (AsMarker k y lt g) = of_no_turn y (ap is_of_turn g
 outside_alike c m seat x out (AsHolder s y holds n) = absurd (out holds)
 outside_alike c m seat x out _ = refl
 
-give_answers : (c : Config) (m : Moment) (seat : Seat)
-    → answers_full (answer_decided c m (record { seat = seat; step = Step.Give })) ≡ false
-give_answers c m (Caller k) = refl
-give_answers c m _ = cc
-
 -- the event counts nothing: no tally changes and no allocation, no cycle ends, and no call is answered Full
 pub record CountsNothing (c : Config) (w : World) (e : Event) : Type 0 where
   pub alike : CountsAlike w (world_behind c w e)
@@ -60,7 +55,7 @@ pub record CountsNothing (c : Config) (w : World) (e : Event) : Type 0 where
   pub no_full : answers_full (answer_decided c w.now e) ≡ false
 
 pub give_counts_nothing : (c : Config) (w : World) (e : Event) → e.step ≡ Step.Give → CountsNothing c w e
-give_counts_nothing c w e is = grind (arith, alike, counts_alike, give_answers)
+give_counts_nothing c w e is = grind (arith, alike, counts_alike)
 
 pub others_count_nothing : (c : Config) (w : World) (e : Event) → Known c w.now → Meets c w.now e.seat e.step
     → w.now.words.turn ≡ 0 → CountsNothing c w e

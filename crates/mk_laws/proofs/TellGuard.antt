@@ -1,102 +1,30 @@
 -- What the layout and the zero words tell the guard.
-use Rattle.mk_laws.proofs.Vocabulary.{Among, AreOfPages, AsChosen, AsUsed, Bool, ByFit, Caller, Chosen, Claim, Config}
-use Rattle.mk_laws.proofs.Vocabulary.{Granted, GuardPremises, HasHeader, HasZeros, Header, InPlot, IsClaimed}
-use Rattle.mk_laws.proofs.Vocabulary.{IsClaimedRun, IsHeaderOf, IsMarking, IsPlaced, IsPlotShown, IsSized, LayoutStands}
-use Rattle.mk_laws.proofs.Vocabulary.{Mapped, Mode, Moment, NoPlot, Object, OfLeafRun, OfRun, Option, Place}
-use Rattle.mk_laws.proofs.Vocabulary.{PlacedAllocation, Placing, Plot, PlotStands, Plotted, Run, RunPages, RunStands}
-use Rattle.mk_laws.proofs.Vocabulary.{Seat, ShowsPart, Some, Unplaced, Used, World, ℕ, and_parts, ap, arith, cases_eq}
-use Rattle.mk_laws.proofs.Vocabulary.{cases_lt, cells_under, claims_of, claims_on, claims_placed, false, false≢true}
-use Rattle.mk_laws.proofs.Vocabulary.{flight_of, get_or_past, ground_of, head_on, head_page, head_page_under}
-use Rattle.mk_laws.proofs.Vocabulary.{header_made, header_of, header_on, heads_run, inl, inr, is_large, is_mapped}
-use Rattle.mk_laws.proofs.Vocabulary.{is_small_object, is_undecided_new, is_unmapping, kinds_of, large_is_not_small}
-use Rattle.mk_laws.proofs.Vocabulary.{left, lt-ltb, made_shows, mode_of, ne_eqb, not, not-true, object_now}
-use Rattle.mk_laws.proofs.Vocabulary.{object_placed, pages_made, pages_some, part_head, place_claim, placed_at}
-use Rattle.mk_laws.proofs.Vocabulary.{placed_now, plot_of, refl, run_count, seat_exists, shows_on, slice_index}
-use Rattle.mk_laws.proofs.Vocabulary.{small_pages, subst, sym, true, true≢false, used_on, ◌&&◌, ◌*◌, ◌+◌, ◌-◌, ◌/◌, ◌<◌}
-use Rattle.mk_laws.proofs.Vocabulary.{◌==◌, ◌∙◌, ◌≡◌, ◌≢◌, ◌≤◌, ◌⊎◌}
+use Rattle.mk_laws.proofs.Vocabulary.{AreOfPages, Bool, Caller, Config, GuardPremises, HasZeros, IsClaimedRun}
+use Rattle.mk_laws.proofs.Vocabulary.{IsHeaderOf, IsMarking, IsPlaced, IsPlotShown, IsSized, LayoutStands, Mapped}
+use Rattle.mk_laws.proofs.Vocabulary.{Moment, Object, Place, PlacedAllocation, Placing, PlotStands, RunPages, RunStands}
+use Rattle.mk_laws.proofs.Vocabulary.{Seat, Some, World, ℕ, and_parts, ap, arith, cases_lt, claims_of, false}
+use Rattle.mk_laws.proofs.Vocabulary.{false≢true, flight_of, get_or_past, ground_of, head_page_under, header_on}
+use Rattle.mk_laws.proofs.Vocabulary.{heads_run, inl, inr, is_large, is_mapped, is_small_object, is_undecided_new}
+use Rattle.mk_laws.proofs.Vocabulary.{is_unmapping, kinds_of, large_is_not_small, left, lt-ltb, mode_of, ne_eqb, not}
+use Rattle.mk_laws.proofs.Vocabulary.{not-true, object_placed, pages_some, placed_at, placed_now, plot_of, refl}
+use Rattle.mk_laws.proofs.Vocabulary.{seat_exists, subst, sym, true, ◌&&◌, ◌*◌, ◌+◌, ◌-◌, ◌/◌, ◌==◌, ◌∙◌, ◌≡◌, ◌≢◌, ◌⊎◌}
 use Rattle.mk_laws.proofs.BarePages.{Unreleasing, bare_page, plot_page, shown_there}
-use Rattle.mk_laws.proofs.Basics.{Known, KnownWorld, Laid, all_stand, claimed, first_header, holding_object}
-use Rattle.mk_laws.proofs.Basics.{known_world, made_sized, mapped_stays, new_has_turn, placed_claim, zero_where_none}
-use Rattle.mk_laws.proofs.LayoutReadings.{claimed_head, header_of_mode}
-use Rattle.mk_laws.proofs.{Fits.fits, QuarantineByKind.shown_at, WholeRuns.find_bit}
+use Rattle.mk_laws.proofs.Basics.{Known, KnownWorld, Laid, all_stand, first_header, holding_object, known_world}
+use Rattle.mk_laws.proofs.Basics.{made_sized, mapped_stays, new_has_turn}
+use Rattle.mk_laws.proofs.Serving.{OnChosen, OnFree, Stands, placed_for}
+use Rattle.mk_laws.proofs.{LayoutReadings.header_of_mode, QuarantineByKind.shown_at, WholeRuns.whole_quiet}
 use Rattle.mk_laws.specs.Kept.{LaterPagesAreKnown, PlaceIsBare, RunHasObject, StandsMapped}
 use Rattle.mk_laws.specs.ZerosTell.{ZerosTellTheGuard}
 
 -- The pages of a run after its head
 
--- what shows a run's head is the first page of its object, and has its pages
-run_part : (o : Object) (distance count : ℕ) (mapped : Bool) (x : Option Header) → ShowsPart o distance x
-    → x ≡ Some (Run count mapped) → (distance ≡ 0) × (count ≡ pages_made o)
-run_part o distance count mapped x (OfRun m first large leaf) is = (first, sym (ap run_count is))
-run_part o distance count mapped x (OfLeafRun first large leaf) is = (first, sym (ap run_count is))
-run_part o distance count mapped x _ is = absurd (false≢true (ap heads_run is))
-
 pub later_pages : (c : Config) (w : World) → Unreleasing c w → LaterPagesAreKnown w.now.words
 later_pages c w q p count distance is some lt =
-    let own : head_on w.now.words.pages p ≡ p = ap (λ (x : Option Header). head_page_under x p) is in
-    elim (cases_eq (used_on w.now.words.pages p) 0) [
-      | inl empty ↦ elim (q.laid.scene.occupied p headed (ap (used_on w.now.words.pages) own ∙ empty)) [
-        | inl on ↦ absurd (false≢true on)
-        | inr here ↦ by_plot (plot_of (object_now c w.now) w.now.seats.holding.placing) q.laid.scene.plot here
-      ]
-      | inr used ↦ elim (find_bit (used_on w.now.words.pages p) (cells_under (shows_on w.now.words.pages p))) [
-        | inr none ↦ absurd (used (zero_where_none (used_on w.now.words.pages p)
-            (λ k h. let t = q.laid.scene.used p k h in true≢false (sym h ∙ none k t.0))))
-        | inl (k, bit) ↦ elim ((q.laid.scene.used p k bit).1) [
-          | inl claimed ↦ inl (by_claim k claimed)
-          | inr released ↦ absurd (false≢true released)
-        ]
-      ]
+    let run = whole_quiet _ q.laid.scene refl p (ap heads_run is) in
+    elim (run.later distance some (rw is lt)) [
+      | inl later ↦ inl (ap (λ x. head_page_under x (p + distance)) later.1 ∙ omega arith)
+      | inr free ↦ inr (λ i li. bare_page c w (p + distance) (64 * (p + distance) + i) q free.0 (omega arith))
     ]
-  where
-    headed : header_on w.now.words.pages p ≢ 0
-    headed z = true≢false (sym (ap heads_run is) ∙ ap (λ h. heads_run (header_of h)) z)
-
-    by_claim : (k : ℕ) → IsClaimed (claims_on c (object_now c w.now) (ground_of w)) p k
-        → head_page w.now.words (p + distance) ≡ p
-    by_claim k o =
-        let x : Claim = o.claim in
-        let shown = q.laid.scene.shown x o.among in
-        let some = pages_some x.object shown.sized in
-        let first : x.page + 0 ≡ p = let page = o.page in omega arith in
-        let part : ShowsPart x.object 0 (shows_on w.now.words.pages p) =
-        subst (λ i. ShowsPart x.object 0 (shows_on w.now.words.pages i)) first (claimed _ x 0 shown (omega arith)) in
-        let pages = (run_part x.object 0 count true (shows_on w.now.words.pages p) part is).1 in
-        cc (o.page, claimed_head w.now.words.pages x distance shown (omega arith))
-
-    in_plot : (first : ℕ) (o : Object) → IsPlotShown w.now.words.pages first o → first ≤ p → p < first + pages_made o
-        → (head_page w.now.words (p + distance) ≡ p)
-        ⊎ ((i : ℕ) → i < 64 → slice_index w.now.words.heap (64 * (p + distance) + i) ≡ 0)
-    in_plot first o plot low high =
-        let at : first + (p - first) ≡ p = omega arith in
-        elim (plot.headers (p - first) (omega arith)) [
-          | inl free ↦ absurd (headed (ap (header_on w.now.words.pages) (sym at) ∙ free))
-          | inr made ↦
-              let part : ShowsPart o (p - first) (shows_on w.now.words.pages p) =
-              subst (λ h. ShowsPart o (p - first) (header_of h)) (sym (ap (header_on w.now.words.pages) (sym at)
-              ∙ made)) (made_shows o (p - first) plot.sized (omega arith)) in
-              let head = run_part o (p - first) count true (shows_on w.now.words.pages p) part is in
-              let zero = head.0 in
-              let pages = head.1 in
-              let same : first ≡ p = omega arith in
-              let near : distance < pages_made o = omega arith in
-              elim (plot.headers distance near) [
-                | inl free ↦ inr (λ i li. bare_page c w (p + distance) (64 * (p + distance) + i) q
-                    (ap (λ j. header_on w.now.words.pages (j + distance)) (sym same) ∙ free) (omega arith))
-                | inr later ↦
-                    let behind : ShowsPart o distance (shows_on w.now.words.pages (p + distance)) =
-                    subst (λ h. ShowsPart o distance (header_of h))
-                    (sym (ap (λ j. header_on w.now.words.pages (j + distance)) (sym same) ∙ later))
-                    (made_shows o distance plot.sized near) in
-                    inl (part_head o distance p (shows_on w.now.words.pages (p + distance)) behind)
-              ]
-        ]
-
-    by_plot : (plot : Plot) → PlotStands w.now.words.pages plot → InPlot plot p
-        → (head_page w.now.words (p + distance) ≡ p)
-        ⊎ ((i : ℕ) → i < 64 → slice_index w.now.words.heap (64 * (p + distance) + i) ≡ 0)
-    by_plot NoPlot st here = absurd here
-    by_plot (Plotted first o) st here = in_plot first o st here.0 here.1
 
 -- The place of a New
 
@@ -109,43 +37,26 @@ new_exists c m _ known new = absurd (false≢true new)
 bare_place : (c : Config) (w : World) (o : Object) (place : Place) → Unreleasing c w → Laid c o false w (ground_of w)
     → IsSized o
     → IsPlaced c.resident w.now.words.pages o place w.now.seats.holding.placing → PlaceIsBare w.now.words o place
-bare_place c w o place q st sized placed = by w.now.seats.holding.placing refl placed
-  where
-    zero : place.page + 0 ≡ place.page
-    zero = omega arith
-
-    by : (placing : Placing) → w.now.seats.holding.placing ≡ placing
-        → IsPlaced c.resident w.now.words.pages o place placing → PlaceIsBare w.now.words o place
-    by Unplaced is (ByFit at) = elim (fits c.resident w.now.words.pages o place sized at) [
-      | inl fit ↦ record {
-        headers = λ d lt. inl (fit.free d lt);
-        words = λ free i li. bare_page c w (place.page + i / 64) _ q (fit.free (i / 64) (omega arith)) (omega arith);
+bare_place c w o place q st sized placed = elim (placed_for c o false w place st sized placed) [
+  | OnFree is fit ↦ record {
+    headers = λ d lt. inl (fit.free d lt);
+    words = λ free i li. bare_page c w (place.page + i / 64) _ q (fit.free (i / 64) (omega arith)) (omega arith);
+  }
+  | OnChosen is ↦
+      let plot : IsPlotShown w.now.words.pages place.page o =
+      subst (λ (x : Placing). PlotStands w.now.words.pages (plot_of o x)) is st.scene.plot in
+      record {
+        headers = plot.headers;
+        words = λ free i li. plot_page c w place.page o (i / 64) _ q plot (omega arith) (omega arith);
       }
-      | inr fit ↦ record {
-        headers = λ d lt.
-            let first : d ≡ 0 = omega (arith, small_pages o fit.small) in
-            inr (ap (λ j. header_on w.now.words.pages (place.page + j)) first
-            ∙ ap (header_on w.now.words.pages) zero ∙ fit.header ∙ ap (header_made o) (sym first));
-        words = λ free i li. absurd (first_header o sized (sym fit.header ∙ free));
+  | Stands headers _ ↦
+      let zero : place.page + 0 ≡ place.page = omega arith in
+      record {
+        headers = λ d lt. inr (headers d lt);
+        words = λ free i li. absurd (first_header o sized (sym (headers 0 (pages_some o sized))
+            ∙ ap (header_on w.now.words.pages) zero ∙ free));
       }
-    ]
-    by (Chosen place) is AsChosen =
-        let plot : IsPlotShown w.now.words.pages place.page o =
-        subst (λ (x : Placing). PlotStands w.now.words.pages (plot_of o x)) is st.scene.plot in
-        record {
-          headers = plot.headers;
-          words = λ free i li. plot_page c w place.page o (i / 64) _ q plot (omega arith) (omega arith);
-        }
-    by (Used place) is AsUsed =
-        let own : Among (place_claim o place) (claims_placed o w.now.seats.holding.placing) =
-        subst (λ (x : Placing). Among (place_claim o place) (claims_placed o x)) (sym is) (inl refl) in
-        let shown = st.scene.shown (place_claim o place) (placed_claim c o (ground_of w) _ own) in
-        record {
-          headers = λ d lt. inr (shown.headers d lt);
-          words = λ free i li. absurd (first_header o sized (sym (shown.headers 0 (omega (arith, pages_some o sized)))
-              ∙ ap (header_on w.now.words.pages) zero ∙ free));
-        }
-    by Granted is out = elim out [ ]
+]
 
 -- The run that a call freed, and mapped allocations
 
@@ -175,9 +86,7 @@ mapped_stands c w i lengths laid mapped =
     ap (λ b. mode_of (a.freed && b) going) (sym (large_is_not_small _)) ∙ ap (λ b. mode_of b going) unmapped in
     record {
       stands = (all_stand c _ _ w lengths.pages laid i (mapped_stays c a mapped)).stands;
-      headers = λ d lt. subst
-          (λ (x : Mode). HasHeader x (object_placed c a) d (header_on w.now.words.pages (a.base / 64 + d))) mode
-          ((shown_at c w i laid (mapped_stays c a mapped)).headers d lt);
+      headers = grind (arith, shown_at, mapped_stays);
     }
 
 -- All of it

@@ -1,7 +1,7 @@
 -- What the zero words tell the images, and the images them.
-use Rattle.mk_laws.proofs.Vocabulary.{AreAdmitted, Caller, Config, Host, ImagesSay, IsEnabled, IsWordOfMapped, Marker}
-use Rattle.mk_laws.proofs.Vocabulary.{MayHold, MayHoldWords, NeverState, OfFreedRun, OfMapped, OfReleased, Seat, Step}
-use Rattle.mk_laws.proofs.Vocabulary.{World, ℕ, asked, call_decided, enabled_meets, false≢true, flight_of, inl, inr}
+use Rattle.mk_laws.proofs.Vocabulary.{AreAdmitted, Caller, Config, ImagesSay, IsEnabled, IsWordOfMapped, MayHold}
+use Rattle.mk_laws.proofs.Vocabulary.{MayHoldWords, NeverState, OfFreedRun, OfMapped, OfReleased, Seat, Step, World, ℕ}
+use Rattle.mk_laws.proofs.Vocabulary.{asked, call_decided, enabled_meets, false≢true, flight_of, inl, inr}
 use Rattle.mk_laws.proofs.Vocabulary.{is_heap_store, refl, true, word_met, zero_scene_of, ◌≡◌}
 use Rattle.mk_laws.specs.ZerosTell.{ImagesTellTheZeros, ZerosTellTheImages}
 use Rattle.mk_laws.specs.ImagePremises as images
@@ -27,14 +27,10 @@ stored_by c w n (Caller k) Step.Write say on ad s =
     mapped_word c w _ (say.stored k Step.Write (record { step = inl refl; enabled = on; admitted = ad }))
 stored_by c w n (Caller k) Step.Cas say on ad s =
     mapped_word c w _ (say.stored k Step.Cas (record { step = inr refl; enabled = on; admitted = ad }))
-stored_by c w n (Marker k) Step.Write say on ad s =
-    absurd (false≢true (enabled_meets c w.now (record { seat = Marker k; step = Step.Write }) on).kind)
-stored_by c w n (Marker k) Step.Cas say on ad s =
-    absurd (false≢true (enabled_meets c w.now (record { seat = Marker k; step = Step.Cas }) on).kind)
-stored_by c w n Host Step.Write say on ad s =
-    absurd (false≢true (enabled_meets c w.now (record { seat = Host; step = Step.Write }) on).kind)
-stored_by c w n Host Step.Cas say on ad s =
-    absurd (false≢true (enabled_meets c w.now (record { seat = Host; step = Step.Cas }) on).kind)
+stored_by c w n seat Step.Write say on ad s =
+    absurd (false≢true (enabled_meets c w.now (record { seat = seat; step = Step.Write }) on).kind)
+stored_by c w n seat Step.Cas say on ad s =
+    absurd (false≢true (enabled_meets c w.now (record { seat = seat; step = Step.Cas }) on).kind)
 stored_by c w n _ _ say on ad s = absurd (false≢true s)
 
 pub images_tell_the_zeros : ImagesTellTheZeros

@@ -44,9 +44,7 @@ gives_off c w (Caller j) x k known lt new = false_from_ne_true _
     by : (j : ℕ) (x : Step) → k ≡ j → is_give x ≡ true → HasNew (WorldBehind c w (Caller j) x) k → ⊥
     by j Step.Give own is new =
         let rests = get_or-set_same w.now.seats.flights k at_rest at_rest (omega (arith, known.orderly.flights)) in
-        let mine : HasNew (WorldBehind c w (Caller k) Step.Give) k =
-        subst (λ i. HasNew (WorldBehind c w (Caller i) Step.Give) k) (sym own) new in
-        true≢false (sym mine ∙ ap is_undecided_new rests)
+        grind arith
     by j _ own is new = cc
 gives_off c w _ x k known lt new = refl
 
@@ -77,30 +75,18 @@ module _ (c : Config) (es : List Event) (e : Event) (k : ℕ) (o : Object) (t : 
   goes_on : (place : Place) → ServedFirst c (Caller k) t o place → ServedFirst c (Caller k) (longer_turn t e on) o place
   goes_on place served = record { first = longer_first t e on served.first; fits = served.fits }
 
-  stays : event_serves c (left c es) e ≡ false → (place : Option Place) → HasPlace c (Caller k) t o place
-      → HasPlace c (Caller k) (longer_turn t e on) o place
-  stays none None has = grind (arith, left_in_turn, none_serves_more)
-  stays none (Some place) has = goes_on place has
-
   fixes : (place : Place) → event_serves c (left c es) e ≡ true → place_after c es o ≡ Some place
       → HasPlace c (Caller k) t o None → ServedFirst c (Caller k) (longer_turn t e on) o place
   fixes place is fits none =
       let here : left c (t.before ++ taken t ∷ t.behind) ≡ left c es = ap (left c) (sym t.is) in
       record {
-        first = record {
-          before = t.behind;
-          event = e;
-          behind = [];
-          is = refl;
-          none_before = none;
-          serves = ap (λ (w : World). event_serves c w e) here ∙ is;
-        };
+        first = grind arith;
         fits = ap (λ (w : World). place_among_allocations c o.words o.leaf w.allocations) here ∙ fits;
       }
 
   place_more : (was now : Option Place) → PlacingStep c (left c es).now o (event_serves c (left c es) e) was now
       → FitsHere c es o → HasPlace c (Caller k) t o was → HasPlace c (Caller k) (longer_turn t e on) o now
-  place_more was now (Stays none same) fit has = to_place now was same (stays none was has)
+  place_more was now (Stays none same) fit has = grind (arith, to_place, left_in_turn, none_serves_more, goes_on)
   place_more was now (Fixes place is off at found empty there) fit has = to_place now (Some place) there
       (fixes place is (fit place off at found) (subst (HasPlace c (Caller k) t o) empty has))
   place_more was now (GoesOn place here there) fit has = to_place now (Some place) there

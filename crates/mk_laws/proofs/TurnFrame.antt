@@ -1,14 +1,12 @@
 -- What an event of another seat leaves to the turn's holder.
-use Rattle.mk_laws.proofs.Vocabulary.{Caller, Config, Flight, List, MarkerState, Moment, OnlyGrow, Seat, TurnIsLeft}
-use Rattle.mk_laws.proofs.Vocabulary.{Words, World, ℕ, ap, arith, at_rest, cases_Bool, cases_eq, cases_lt, false}
-use Rattle.mk_laws.proofs.Vocabulary.{flight_of, get_or-set_other, get_or-set_same, inl, inr, is_attending, length}
-use Rattle.mk_laws.proofs.Vocabulary.{marker_of, phase_of, refl, register_word, set_past, slice_index, slice_set, sym}
-use Rattle.mk_laws.proofs.Vocabulary.{true, ◌%◌, ◌*◌, ◌+◌, ◌-◌, ◌<◌, ◌^◌, ◌∙◌, ◌≡◌, ◌≢◌, ◌≤◌}
+use Rattle.mk_laws.proofs.Vocabulary.{Config, Flight, List, MarkerState, Moment, Seat, TurnIsLeft, Words, World, ℕ, ap}
+use Rattle.mk_laws.proofs.Vocabulary.{arith, false, get_or-set_other, is_attending, marker_of, outside, refl, set_by}
+use Rattle.mk_laws.proofs.Vocabulary.{slice_index, slice_index_or, slice_set, ◌%◌, ◌+◌, ◌-◌, ◌^◌, ◌≡◌, ◌≢◌, ◌≤◌}
 use Rattle.mk_core.specs.{Frames.steady_of, Readings.NoneAttends}
 use Rattle.mk_laws.proofs.OthersMoves.{AddsBlacks, AddsMarks, CallLoads, Calls, CallWrite, ComesIn, GoesOut}
 use Rattle.mk_laws.proofs.OthersMoves.{MarkerLoads, MarkerWrite, Marks, OthersMove, SetsDirty, SetsGate, SetsRegister}
 use Rattle.mk_laws.proofs.OthersMoves.{Waits, with_words_seats}
-use Rattle.mk_laws.proofs.{Basics.Known, Basics.marker_set, Growth.grows_joined, Growth.grows_more, Growth.grows_same}
+use Rattle.mk_laws.proofs.{Basics.Known, Growth.grows_joined, Growth.grows_more, Growth.grows_same}
 
 -- the phase
 up : (p : ℕ) → ((p + 8) % 2 ^ 64) % 8 ≡ p % 8
@@ -40,173 +38,54 @@ pub holding_out : (c : Config) (w : World) (seat : Seat) (v : World) → OthersM
 holding_out c w seat v Waits = refl
 holding_out c w seat v _ = refl
 
--- gates that are held, and those that aren't
+-- gates that are held, and those that aren't, and dirty words
 
 held_set : (gs : List ℕ) (k v j : ℕ) → slice_index gs k ≤ 1 → slice_index gs j ≡ 2
     → slice_index (slice_set gs k v) j ≡ 2
-held_set gs k v j le is = elim (cases_eq j k) [
-  | inl e ↦ let g : slice_index gs j ≡ slice_index gs k = rw e in absurd (omega arith)
-  | inr ne ↦ get_or-set_other gs k j v 0 ne ∙ is
-]
+held_set gs k v j le is =
+    set_by (λ x. x ≡ 2) gs k j v 0 (λ e. absurd (omega (arith, le, ap (slice_index gs) e, is))) is
 
 free_set : (gs : List ℕ) (k v j : ℕ) → v ≤ 1 → slice_index gs j ≢ 2 → slice_index (slice_set gs k v) j ≢ 2
-free_set gs k v j lv is = elim (cases_eq j k) [
-  | inl e ↦ elim (cases_lt k (length gs)) [
-    | inl lt ↦ let g : slice_index (slice_set gs k v) j ≡ v = rw e
-        (get_or-set_same gs k v 0 lt) in λ two. absurd (omega arith)
-    | inr past ↦ λ two. is (sym (rw (set_past gs k v past)) ∙ two)
-  ]
-  | inr ne ↦ λ two. is (sym (get_or-set_other gs k j v 0 ne) ∙ two)
-]
+free_set gs k v j lv is = set_by (λ x. x ≢ 2) gs k j v 0 (λ e two. absurd (omega arith)) is
 
-held_call : (k : ℕ) (w x : Words) (j : ℕ) → slice_index w.gates k ≤ 1 → CallWrite k w x → slice_index w.gates j ≡ 2
-    → slice_index x.gates j ≡ 2
-held_call k w x j le (SetsGate v lv) is = held_set w.gates k v j le is
-held_call k w x j le _ is = is
+dirty_set : (ds : List ℕ) (q p : ℕ) → slice_index ds p ≢ 0 → slice_index (slice_set ds q 1) p ≢ 0
+dirty_set ds q p is = set_by (λ x. x ≢ 0) ds q p 1 0 (λ e z. absurd (omega arith)) is
 
-free_call : (k : ℕ) (w x : Words) (j : ℕ) → CallWrite k w x → slice_index w.gates j ≢ 2 → slice_index x.gates j ≢ 2
-free_call k w x j (SetsGate v lv) is = free_set w.gates k v j lv is
-free_call k w x j _ is = is
-
--- what callers change in their calls, by words alone
-
-same_written : (m : Moment) (k : ℕ) (y : MarkerState) (x : Words) → MarkerWrite k m y x
-    → (x.gates ≡ m.words.gates) × (x.registers ≡ m.words.registers) × (x.globals ≡ m.words.globals)
-    × (x.dirty ≡ m.words.dirty) × (x.heap ≡ m.words.heap)
-same_written m k y x (ComesIn a) = (refl, refl, refl, refl, refl)
-same_written m k y x _ = (refl, refl, refl, refl, refl)
-
-held_out : (c : Config) (w : World) (seat : Seat) (v : World) → OthersMove c w seat v → (j : ℕ)
-    → slice_index w.now.words.gates j ≡ 2 → slice_index v.now.words.gates j ≡ 2
-held_out c w seat v Waits j is = is
-held_out c w seat v (Calls {k} f {x} lt le write) j is = held_call k w.now.words x j le write is
-held_out c w seat v (Marks {k} y {x} lt write) j is = rw (same_written w.now k y x write).0 is
-
-free_out : (c : Config) (w : World) (seat : Seat) (v : World) → OthersMove c w seat v → (j : ℕ)
-    → slice_index w.now.words.gates j ≢ 2 → slice_index v.now.words.gates j ≢ 2
-free_out c w seat v Waits j is = is
-free_out c w seat v (Calls {k} f {x} lt le write) j is = free_call k w.now.words x j write is
-free_out c w seat v (Marks {k} y {x} lt write) j is = λ two. is (rw (← (same_written w.now k y x write).0) two)
-
--- the call and the registers of a caller whose gate is held
-
+-- another than one whose gate is held
 not_that : (gs : List ℕ) (k j : ℕ) → slice_index gs k ≤ 1 → slice_index gs j ≡ 2 → j ≢ k
-not_that gs k j le is e = let g : slice_index gs j ≡ slice_index gs k = rw e in absurd (omega arith)
+not_that gs k j le is e = absurd (omega (arith, le, ap (slice_index gs) e, is))
 
-callers_out : (c : Config) (w : World) (seat : Seat) (v : World) → OthersMove c w seat v → (j : ℕ)
-    → slice_index w.now.words.gates j ≡ 2 → flight_of v.now (Caller j) ≡ flight_of w.now (Caller j)
-callers_out c w seat v (Calls {k} f {x} lt le write) j is = get_or-set_other _ k j f at_rest (not_that _ k j le is)
-callers_out c w seat v _ j is = refl
-
-registers_call : (k : ℕ) (w x : Words) (j r : ℕ) → CallWrite k w x → r < 8 → j ≢ k
-    → register_word x j r ≡ register_word w j r
-registers_call k w x j r (SetsRegister s v ls) lt ne =
-    get_or-set_other w.registers (8 * k + s) (8 * j + r) v 0 (λ e. ne (omega arith))
-registers_call k w x j r _ lt ne = refl
-
-registers_out : (c : Config) (w : World) (seat : Seat) (v : World) → OthersMove c w seat v → (j r : ℕ) → r < 8
-    → slice_index w.now.words.gates j ≡ 2 → register_word v.now.words j r ≡ register_word w.now.words j r
-registers_out c w seat v Waits j r lt is = refl
-registers_out c w seat v (Calls {k} f {x} lk le write) j r lt is =
-    registers_call k w.now.words x j r write lt (not_that w.now.words.gates k j le is)
-registers_out c w seat v (Marks {k} y {x} lk write) j r lt is = rw (same_written w.now k y x write).1
-
--- marks and blacks
-
-marked_call : (k : ℕ) (w x : Words) → CallWrite k w x → (x.marks ≡ w.marks) × (x.blacks ≡ w.blacks)
-marked_call k w x CallLoads = (refl, refl)
-marked_call k w x _ = (refl, refl)
-
--- a marker that attends is in the way
-marked_mark : (m : Moment) (k : ℕ) (y : MarkerState) (x : Words) → MarkerWrite k m y x
-    → (is_attending (marker_of m k).presence ≡ true → ⊥) → (x.marks ≡ m.words.marks) × (x.blacks ≡ m.words.blacks)
-marked_mark m k y x (AddsMarks p bits a s) none = absurd (none a)
-marked_mark m k y x (AddsBlacks p bits a s) none = absurd (none a)
-marked_mark m k y x _ none = (refl, refl)
-
-unmarked_out : (c : Config) (w : World) (seat : Seat) (v : World) → Known c w.now → OthersMove c w seat v
-    → phase_of w.now.words ≢ 1 → phase_of w.now.words ≢ 2
-    → (v.now.words.marks ≡ w.now.words.marks) × (v.now.words.blacks ≡ w.now.words.blacks)
-unmarked_out c w seat v known Waits n1 n2 = (refl, refl)
-unmarked_out c w seat v known (Calls {k} f {x} lt le write) n1 n2 = marked_call k w.now.words x write
-unmarked_out c w seat v known (Marks {k} y {x} lt write) n1 n2 =
-    marked_mark w.now k y x write (λ a. elim (known.orderly.attends k a) [ inl e ↦ n1 e | inr e ↦ n2 e ])
-
-grow_call : (k : ℕ) (w x : Words) → CallWrite k w x → OnlyGrow w.marks x.marks × OnlyGrow w.blacks x.blacks
-grow_call k w x CallLoads = (grows_same w.marks, grows_same w.blacks)
-grow_call k w x _ = (grows_same w.marks, grows_same w.blacks)
-
-grow_mark : (m : Moment) (k : ℕ) (y : MarkerState) (x : Words) → MarkerWrite k m y x
-    → OnlyGrow m.words.marks x.marks × OnlyGrow m.words.blacks x.blacks
-grow_mark m k y x (AddsMarks p bits a s) = (grows_more m.words.marks p bits, grows_same m.words.blacks)
-grow_mark m k y x (AddsBlacks p bits a s) = (grows_same m.words.marks, grows_more m.words.blacks p bits)
-grow_mark m k y x _ = (grows_same m.words.marks, grows_same m.words.blacks)
-
-grow_out : (c : Config) (w : World) (seat : Seat) (v : World) → OthersMove c w seat v
-    → OnlyGrow w.now.words.marks v.now.words.marks × OnlyGrow w.now.words.blacks v.now.words.blacks
-grow_out c w seat v Waits = (grows_same w.now.words.marks, grows_same w.now.words.blacks)
-grow_out c w seat v (Calls {k} f {x} lt le write) = grow_call k w.now.words x write
-grow_out c w seat v (Marks {k} y {x} lt write) = grow_mark w.now k y x write
+-- what a call outside the turn leaves
+call_leaves : (w : World) (k : ℕ) (f : Flight) (x : Words) → slice_index w.now.words.gates k ≤ 1
+    → CallWrite k w.now.words x
+    → TurnIsLeft w (with_words_seats w x (record w.now.seats { flights = slice_set w.now.seats.flights k f }))
+call_leaves w k f x le (SetsGate v lv) = grind (arith, grows_same, not_that, get_or-set_other, held_set, free_set)
+call_leaves w k f x le (SetsDirty p) = grind (arith, grows_same, not_that, get_or-set_other, dirty_set)
+call_leaves w k f x le (SetsRegister r v lr) = grind (arith, grows_same, not_that, get_or-set_other)
+call_leaves w k f x le _ = grind (arith, grows_same, not_that, get_or-set_other)
 
 -- in the stop, once no marker attends, none begins to
-none_mark : (m : Moment) (k : ℕ) (y : MarkerState) (x : Words) → MarkerWrite k m y x → m.words.phase % 8 ≡ 2
-    → is_attending (marker_of m k).presence ≡ false → is_attending y.presence ≡ false
-none_mark m k y x (MarkerLoads s) two none = ap is_attending s ∙ none
-none_mark m k y x (ComesIn a) two none =
-    elim (cases_Bool (is_attending y.presence)) [ inl e ↦ let one = a e in absurd (omega arith) | inr e ↦ e ]
-none_mark m k y x (GoesOut a le) two none = a
-none_mark m k y x (AddsMarks p bits a s) two none = ap is_attending s ∙ none
-none_mark m k y x (AddsBlacks p bits a s) two none = ap is_attending s ∙ none
+still_none : (m : Moment) (k : ℕ) (y : MarkerState)
+    → (is_attending (marker_of m k).presence ≡ false → is_attending y.presence ≡ false) → NoneAttends m → (j : ℕ)
+    → is_attending (slice_index_or (slice_set m.seats.markers k y) j outside).presence ≡ false
+still_none m k y own none j =
+    set_by (λ (z : MarkerState). is_attending z.presence ≡ false) _ k j y outside (λ e. own (none k)) (none j)
 
-stopped_out : (c : Config) (w : World) (seat : Seat) (v : World) → OthersMove c w seat v → phase_of w.now.words ≡ 2
-    → NoneAttends w.now
-    → NoneAttends v.now × (v.now.words.marks ≡ w.now.words.marks) × (v.now.words.blacks ≡ w.now.words.blacks)
-stopped_out c w seat v Waits two none = (none, refl, refl)
-stopped_out c w seat v (Calls {k} f {x} lt le write) two none = let m =
-    marked_call k w.now.words x write in (none, m.0, m.1)
-stopped_out c w seat v (Marks {k} y {x} lt write) two none =
-    let m = marked_mark w.now k y x write (λ a. let e : true ≡ false = sym a ∙ none k in cc) in (
-      λ j. marker_set w.now.seats.markers k j y (λ (z : MarkerState). is_attending z.presence ≡ false)
-          (λ lk. none_mark w.now k y x write two (none k)) (none j),
-      m.0,
-      m.1,
-    )
-
--- dirty words
-dirty_call : (k : ℕ) (w x : Words) (p : ℕ) → CallWrite k w x → slice_index w.dirty p ≢ 0 → slice_index x.dirty p ≢ 0
-dirty_call k w x p (SetsDirty q) is = elim (cases_eq p q) [
-  | inl e ↦ elim (cases_lt q (length w.dirty)) [
-    | inl lt ↦
-        let g : slice_index (slice_set w.dirty q 1) p ≡ 1 = rw e (get_or-set_same w.dirty q 1 0 lt) in
-        λ z. absurd (omega arith)
-    | inr past ↦ λ z. is (rw (← (set_past w.dirty q 1 past)) z)
-  ]
-  | inr ne ↦ λ z. is (sym (get_or-set_other w.dirty q p 1 0 ne) ∙ z)
-]
-dirty_call k w x p _ is = is
-
-dirty_out : (c : Config) (w : World) (seat : Seat) (v : World) → OthersMove c w seat v → (p : ℕ)
-    → slice_index w.now.words.dirty p ≢ 0 → slice_index v.now.words.dirty p ≢ 0
-dirty_out c w seat v Waits p is = is
-dirty_out c w seat v (Calls {k} f {x} lt le write) p is = dirty_call k w.now.words x p write is
-dirty_out c w seat v (Marks {k} y {x} lt write) p is = λ z. is (rw (← (same_written w.now k y x write).3) z)
+-- what a marker leaves: one that attends is in the way
+mark_leaves : (c : Config) (w : World) (k : ℕ) (y : MarkerState) (x : Words) → Known c w.now → MarkerWrite k w.now y x
+    → TurnIsLeft w (with_words_seats w x (record w.now.seats { markers = slice_set w.now.seats.markers k y }))
+mark_leaves c w k y x known (MarkerLoads s) = grind (arith, grows_same, still_none)
+mark_leaves c w k y x known (ComesIn a) = grind (arith, up, grows_same, still_none)
+mark_leaves c w k y x known (GoesOut a le) = grind (arith, down, grows_same, still_none)
+mark_leaves c w k y x known (AddsMarks p bits a s) = grind (arith, grows_same, grows_more, still_none)
+mark_leaves c w k y x known (AddsBlacks p bits a s) = grind (arith, grows_same, grows_more, still_none)
 
 -- one event of another
 pub turn_after : (c : Config) (w : World) (seat : Seat) (v : World) → Known c w.now → OthersMove c w seat v
     → TurnIsLeft w v
-turn_after c w seat v known move =
-    grind (
-      arith,
-      steady_out,
-      held_out,
-      free_out,
-      callers_out,
-      registers_out,
-      grow_out,
-      unmarked_out,
-      stopped_out,
-      dirty_out,
-    )
+turn_after c w seat v known Waits = grind (arith, grows_same)
+turn_after c w seat v known (Calls {k} f {x} lt le write) = call_leaves w k f x le write
+turn_after c w seat v known (Marks {k} y {x} lt write) = mark_leaves c w k y x known write
 
 pub turn_same : (w : World) → TurnIsLeft w w
 turn_same w = grind (arith, grows_same)

@@ -52,7 +52,6 @@ module _ (c : Config) (w : World) (n : NeverState) (known : KnownWorld c w) (mir
       let taken : IsPlaceOfNone c w o place = rw is at (others.taken place k placed lt new) in
       let fills = fills_cell c w a place known typed refl refl taken in
       let holds = (storage_holds c a known.limits typed).0 in
-      let inside = fills.inside in
       let pages = known.limits.pages.1 in
       let word : address_of (base_made o place) ≡ address_of (base_made o place) % 2 ^ 64 = omega arith in
       let zero_there = place_is_zero c w n known mirrors others st a place
@@ -104,8 +103,7 @@ module _ (c : Config) (w : World) (n : NeverState) (known : KnownWorld c w) (mir
         free.0,
         λ more. one_right (bases_of (map (freed_where_it_stands w.now.words (Some cell)) w.allocations) ++ more)
             Answer.Done n k (Op.Free p')
-            (ap (answer_of (bases_of (map (freed_where_it_stands w.now.words (Some cell)) w.allocations) ++ more))
-            (sym free.1)),
+            (grind arith),
       )
   freed_by _ _ q p r l cell is undecided points fresh quiet car = absurd (false≢true undecided)
 

@@ -5,10 +5,10 @@ use Rattle.mk_laws.proofs.Vocabulary.{Some, Step, World, ℕ, and_from, and_part
 use Rattle.mk_laws.proofs.Vocabulary.{claim_of, earlier_part_is_history, eq-eqb, eqb-true, false, false_from_ne_true}
 use Rattle.mk_laws.proofs.Vocabulary.{ground_of, header_at, header_of, inl, inr, is_phase, is_small_object}
 use Rattle.mk_laws.proofs.Vocabulary.{is_unmapped_header, is_unmapping, large_count, large_words, left, left_append}
-use Rattle.mk_laws.proofs.Vocabulary.{left_from, list_any, mode_of, ne_eqb, not, not-true, object_now, object_placed}
-use Rattle.mk_laws.proofs.Vocabulary.{or_parts, pages_made, placed_at, refl, run_begins, set_past, storage_words, subst}
-use Rattle.mk_laws.proofs.Vocabulary.{sym, true, true≢false, unmapped_header, unmapped_is_unmapped, world_behind, []}
-use Rattle.mk_laws.proofs.Vocabulary.{◌&&◌, ◌*◌, ◌+◌, ◌-◌, ◌/◌, ◌<◌, ◌∙◌, ◌∷◌, ◌≡◌}
+use Rattle.mk_laws.proofs.Vocabulary.{left_from, list_any, ne_eqb, not, not-true, object_now, object_placed, or_parts}
+use Rattle.mk_laws.proofs.Vocabulary.{pages_made, placed_at, refl, run_begins, set_past, storage_words, subst, sym}
+use Rattle.mk_laws.proofs.Vocabulary.{true, true≢false, unmapped_header, unmapped_is_unmapped, world_behind, [], ◌&&◌}
+use Rattle.mk_laws.proofs.Vocabulary.{◌*◌, ◌+◌, ◌-◌, ◌/◌, ◌<◌, ◌∙◌, ◌∷◌, ◌≡◌}
 use Rattle.mk_laws.proofs.Basics.{Behind, KnownWorld, Laid, Table, claim_among, gone_terrain, known_world, own_claim}
 use Rattle.mk_laws.proofs.Basics.{reg_table, tally_table}
 use Rattle.mk_laws.proofs.ForImages.{gone_is, shown_claim, standing}
@@ -45,11 +45,6 @@ stays_along c w (e ∷ es) p none out =
 
 -- The pages of the run have the headers of an unmapped one.
 
-unmapped_mode : (x going : Bool) (o : Object) (d h : ℕ) → x ≡ true → going ≡ false → HasHeader (mode_of x going) o d h
-    → h ≡ unmapped_header (pages_made o) d
-unmapped_mode true false o d h is out has = has.1
-unmapped_mode _ _ o d h is out has = cc
-
 not_false : (b : Bool) → not b ≡ false → b ≡ true
 not_false true h = refl
 not_false false h = cc
@@ -79,7 +74,6 @@ module _ (c : Config) (w : World) (n : NeverState) (known : KnownWorld c w) (all
       let s = standing c w known all.order.laid x.number x.unreleased in
       let aligned = (run_begins o a.base large s.stands.begins).1 in
       let words : storage_words c a ≡ 64 * pages_made o = large_words o large in
-      let page = x.page in
       record { distance = p - a.base / 64; near = omega arith; there = omega arith }
 
   sized_shown : IsShown w.now.words.pages (claim_of c w.now.seats.holding.freed a)
@@ -107,8 +101,7 @@ module _ (c : Config) (w : World) (n : NeverState) (known : KnownWorld c w) (all
       by : (freed : Option RunPages) → is_unmapping freed (a.base / 64) ≡ false → HasHeader (claim_of c freed a).mode
           o on_run.distance (header_at w.now.words (a.base / 64 + on_run.distance)) → header_at w.now.words p
           ≡ unmapped_header (pages_made o) on_run.distance
-      by freed other has = ap (header_at w.now.words) (sym on_run.there)
-          ∙ unmapped_mode (a.freed && not (is_small_object o)) _ o on_run.distance _ gone other has
+      by freed other has = grind (arith, on_run, gone)
 
   not_resident : is_resident_in w p ≡ false
   not_resident = unmapped_use _ _ (ap (λ h. is_unmapped_header (header_of h)) header_there

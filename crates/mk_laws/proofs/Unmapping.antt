@@ -3,11 +3,11 @@ use Rattle.mk_laws.proofs.Vocabulary.{Among, AreApart, Bool, Claim, HasHeader, H
 use Rattle.mk_laws.proofs.Vocabulary.{IsOfOneCell, IsPlotShown, IsShown, Later, LayoutScene, List, Mode, NoPlot, Object}
 use Rattle.mk_laws.proofs.Vocabulary.{OfBlock, OfLater, OfLeafBlock, OfLeafRun, OfRun, Option, Page, Plot, PlotStands}
 use Rattle.mk_laws.proofs.Vocabulary.{Plotted, ShowsPart, Some, Unmapping, ℕ, ap, arith, cases_eq, cells_made}
-use Rattle.mk_laws.proofs.Vocabulary.{cells_under, false, head_on, header_made, header_of, header_on, inl, inr}
-use Rattle.mk_laws.proofs.Vocabulary.{is_released_on, is_small_object, large_cells, length, length-set, made_shows}
-use Rattle.mk_laws.proofs.Vocabulary.{pages_made, pages_some, part_cells, part_head, refl, run_count, shown_later}
-use Rattle.mk_laws.proofs.Vocabulary.{shows_on, stands, sym, true, true≢false, unmapped_header, used_on, ◌+◌, ◌-◌, ◌<◌}
-use Rattle.mk_laws.proofs.Vocabulary.{◌∙◌, ◌≡◌, ◌≢◌, ◌≤◌, ◌⊎◌}
+use Rattle.mk_laws.proofs.Vocabulary.{cells_under, false, free_page, head_on, header_made, header_of, header_on, inl}
+use Rattle.mk_laws.proofs.Vocabulary.{inr, is_released_on, is_small_object, large_cells, length, length-set, made_shows}
+use Rattle.mk_laws.proofs.Vocabulary.{pages_made, pages_some, part_cells, part_head, refl, run_count, set_by}
+use Rattle.mk_laws.proofs.Vocabulary.{shown_later, shows_on, stands, sym, true, true≢false, unmapped_header, used_on}
+use Rattle.mk_laws.proofs.Vocabulary.{◌+◌, ◌-◌, ◌<◌, ◌∙◌, ◌≡◌, ◌≢◌, ◌≤◌, ◌⊎◌}
 use Rattle.mk_core.proofs.ObjectHeaders.{later_part, same_cells, unmapped_shows}
 use Rattle.mk_laws.proofs.Releasing.{head_of_other, headed_here, headed_other, headed_used, shown_beside}
 use Rattle.mk_laws.proofs.Releasing.{with_header_on}
@@ -55,10 +55,7 @@ shares_run s x y d e laid ix iy large ld le at =
     let sx = laid.shown x ix in
     let sy = laid.shown y iy in
     let page = sym (claimed_head s.pages y e sy le) ∙ ap (head_on s.pages) at ∙ claimed_head s.pages x d sx ld in
-    let cells_y : cells_under (shows_on s.pages x.page) ≡ cells_made y.object = rw (← page) (cells_at_claim s y sy) in
-    let iix = sx.known in
-    let iiy = sy.known in
-    one_claim s.claims y x laid.apart iy ix (page, omega (arith, large_cells x.object large, cells_at_claim s x sx))
+    grind (arith, cells_at_claim, one_claim, large_cells)
 
 -- and the page isn't one of a plot
 pub apart_of_plot : (s : LayoutScene) (x : Claim) (d first e : ℕ) (o : Object) → IsLaidOn s → Among x s.claims
@@ -75,8 +72,7 @@ apart_of_plot s x d first e o laid ix ld plot le at =
         let own : head_on s.pages (first + e) ≡ first =
         rw is (part_head o e first (header_of (header_made o e)) (made_shows o e plot.sized le)) in
         let zero : first + 0 ≡ first = omega arith in
-        none_set (used_on s.pages x.page) x.index (ap (used_on s.pages) (sym head ∙ own ∙ sym zero)
-        ∙ plot.used 0 (let some = pages_some o plot.sized in omega arith)) (laid.shown x ix).used
+        grind (arith, none_set, pages_some)
 
 -- `head` (c): a page of the run that is unmapping gets its header
 abbrev pub PageUnmapped : LayoutScene → Claim → ℕ → LayoutScene
@@ -130,16 +126,12 @@ module _ (s : LayoutScene) (x : Claim) (d : ℕ) (laid : IsLaidOn s) (ix : Among
   }
 
   cells : (q : ℕ) → cells_under (shows_on after q) ≡ cells_under (shows_on s.pages q)
-  cells q = elim (cases_eq q p) [
-    | inl e ↦ rw e (rw here (same_cells x.object d (header_of n) _ new old ∙ rw (← e)))
-    | inr ne ↦ rw (headed_other s.pages p n q ne)
-  ]
+  cells q = set_by (λ (y : Page). cells_under (header_of y.header) ≡ cells_under (shows_on s.pages q)) s.pages p q _
+      free_page (λ e. same_cells x.object d (header_of n) _ new old ∙ rw e) refl
 
   counts : (q : ℕ) → run_count (shows_on after q) ≡ run_count (shows_on s.pages q)
-  counts q = elim (cases_eq q p) [
-    | inl e ↦ rw e (rw here (same_count x.object d (header_of n) _ new old large ∙ rw (← e)))
-    | inr ne ↦ rw (headed_other s.pages p n q ne)
-  ]
+  counts q = set_by (λ (y : Page). run_count (header_of y.header) ≡ run_count (shows_on s.pages q)) s.pages p q _
+      free_page (λ e. same_count x.object d (header_of n) _ new old large ∙ rw e) refl
 
   head : (q : ℕ) → head_on after q ≡ head_on s.pages q
   head q = grind (arith, here, part_head, new, old, head_of_other)
@@ -173,8 +165,7 @@ module _ (s : LayoutScene) (x : Claim) (d : ℕ) (laid : IsLaidOn s) (ix : Among
   own_later : (q e : ℕ) (m : Bool) → q ≡ x.page + d → shows_on after q ≡ Some (Later e m)
       → HasItsHead after s.releasing q e
   own_later q e m same is =
-      let at = shown_later x.object d e m (header_of n) new (ap header_of (sym here) ∙ ap (λ i. shows_on after i)
-      (sym same) ∙ is) in
+      let at = shown_later x.object d e m (header_of n) new (grind (arith, here, after)) in
       let was = later_part x.object d _ old at.1 in
       kept q e m (laid.later q e was.0 (ap (λ i. shows_on s.pages i) same ∙ was.1
       ∙ ap (λ i. Some (Later i was.0)) (sym at.0)))

@@ -1,9 +1,9 @@
 -- Registers of no caller, and globals that nobody has stored to.
-use Rattle.mk_laws.proofs.Vocabulary.{Bool, Config, Event, Flight, Invariant, Leaves, List, Moment, NeverState, Null}
+use Rattle.mk_laws.proofs.Vocabulary.{Bool, Config, Event, Flight, Invariant, Leaves, List, NeverState, Null}
 use Rattle.mk_laws.proofs.Vocabulary.{OfHistories, Seat, Step, World, ℕ, ap, append_assoc, arith, at_rest, false}
 use Rattle.mk_laws.proofs.Vocabulary.{flight_of, g_of, get_or-set_other, get_or_past, left, left_from, left_more, refl}
 use Rattle.mk_laws.proofs.Vocabulary.{shown, slice_index, sym, true, [], ◌%◌, ◌*◌, ◌++◌, ◌+◌, ◌/◌, ◌∙◌, ◌∷◌, ◌≡◌}
-use Rattle.mk_laws.proofs.{Basics.Behind, Basics.KeptByEvents, Basics.KnownWorld, Basics.Table, Basics.at_first}
+use Rattle.mk_laws.proofs.{Basics.Behind, Basics.KeptByEvents, Basics.KnownWorld, Basics.at_first}
 use Rattle.mk_laws.proofs.{Basics.holds_of_histories, Basics.reg_table, Basics.tally_table, FreeWords.of_worlds}
 use Rattle.mk_laws.specs.UnsetWords.{IsNeverSet, RegistersOfNoCallerAreZero, UnsetGlobalsAreZero}
 
@@ -12,11 +12,9 @@ no_caller : (c : Config) (w : World) (n : NeverState) → KnownWorld c w → Inv
     → RegistersOfNoCallerAreZero c w
 no_caller c w n known all k r past =
     let i : ℕ = 8 * k + r in
-    let flights = known.now.orderly.flights in
     let rest : flight_of w.now (Seat.Caller (i / 8)) ≡ at_rest =
     get_or_past w.now.seats.flights (i / 8) at_rest (omega arith) in
     let plain = ap (λ (f : Flight). shown f (i % 8) (slice_index w.now.words.registers i)) rest in
-    let count = all.mirrors.register_count in
     cc (plain, all.mirrors.images.registers i, get_or_past n.registers i Null (omega arith))
 
 pub registers_of_no_caller_are_zero : OfHistories (Leaves RegistersOfNoCallerAreZero)
@@ -28,20 +26,13 @@ abbrev is_setg : Step → Bool
 is_setg Step.Setg = true
 is_setg _ = false
 
-globals_stay : (c : Config) (m : Moment) (seat : Seat) (x : Step) → is_setg x ≡ false
-    → (Behind c m seat x).words.globals ≡ m.words.globals
-globals_stay c m seat Step.Reg out = ap (λ (t : Table). t.globals) (reg_table c m seat)
-globals_stay c m seat (Step.Tally n v) out = ap (λ (t : Table). t.globals) (tally_table m.words n v)
-globals_stay c m seat _ out = cc
-
 one_more : (c : Config) (es : List Event) (seat : Seat) (x : Step) (g : ℕ)
     → IsNeverSet c (es ++ record { seat = seat; step = x } ∷ []) g → slice_index (left c es).now.words.globals g ≡ 0
     → slice_index (Behind c (left c es).now seat x).words.globals g ≡ 0
 one_more c es seat Step.Setg g never zero =
     let f = flight_of (left c es).now seat in
     get_or-set_other _ (g_of f.op) g f.p 0 (λ e. never es [] seat refl (sym e)) ∙ zero
-one_more c es seat x g never zero =
-    ap (λ (gs : List ℕ). slice_index gs g) (globals_stay c (left c es).now seat x refl) ∙ zero
+one_more c es seat x g never zero = grind (arith, reg_table, tally_table)
 
 first_unset : (c : Config) → UnsetGlobalsAreZero c []
 unfolding left_from

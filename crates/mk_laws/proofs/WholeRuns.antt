@@ -2,18 +2,18 @@
 use Rattle.mk_laws.proofs.Vocabulary.{Among, Bool, Claim, Config, Empties, Flight, GivesBack, Header, HeadStep, InPlot}
 use Rattle.mk_laws.proofs.Vocabulary.{IsClaimed, IsLaidOn, ItCarves, ItEmpties, ItGivesBack, ItTakes, ItUnmaps, Later}
 use Rattle.mk_laws.proofs.Vocabulary.{LayoutScene, LayoutStands, List, NoPlot, Object, Option, Page, Plot, PlotStands}
-use Rattle.mk_laws.proofs.Vocabulary.{Plotted, Run, Seat, ShowsPart, Some, Step, UsedStep, Words, World, ℕ, ap, arith}
-use Rattle.mk_laws.proofs.Vocabulary.{cases_Bool, cases_eq, cells_under, false, fewer_bits, flight_of, found, has_bit}
-use Rattle.mk_laws.proofs.Vocabulary.{head_on, head_page, head_page_under, head_step, header_made, header_on, heads_run}
-use Rattle.mk_laws.proofs.Vocabulary.{inl, inr, is_phase, is_released_on, is_small_object, length, length-set}
-use Rattle.mk_laws.proofs.Vocabulary.{made_shows, object_now, pages_made, pages_some, plot_of, refl, run_count}
-use Rattle.mk_laws.proofs.Vocabulary.{shows_on, small_heads_none, stands, subst, suc, sym, true, true≢false, used_on}
-use Rattle.mk_laws.proofs.Vocabulary.{used_step, zero, ◌+◌, ◌-◌, ◌<◌, ◌∙◌, ◌≡◌, ◌≢◌, ◌⊎◌}
+use Rattle.mk_laws.proofs.Vocabulary.{Plotted, Run, Seat, ShowsPart, Some, Step, UsedStep, Words, World, ℕ, arith}
+use Rattle.mk_laws.proofs.Vocabulary.{cases_Bool, cases_eq, cells_under, false, fewer_bits, flight_of, found, free_page}
+use Rattle.mk_laws.proofs.Vocabulary.{has_bit, head_on, head_page, head_page_under, head_step, header_made, header_of}
+use Rattle.mk_laws.proofs.Vocabulary.{header_on, heads_run, inl, inr, is_phase, is_released_on, is_small_object, length}
+use Rattle.mk_laws.proofs.Vocabulary.{length-set, made_shows, object_now, pages_made, pages_some, plot_of, refl}
+use Rattle.mk_laws.proofs.Vocabulary.{run_count, set_by, shows_on, small_heads_none, stands, subst, suc, sym, true}
+use Rattle.mk_laws.proofs.Vocabulary.{true≢false, used_on, used_step, zero, ◌+◌, ◌-◌, ◌<◌, ◌∙◌, ◌≡◌, ◌≢◌, ◌⊎◌}
 use Rattle.mk_core.proofs.ObjectHeaders.{later_part}
 use Rattle.mk_laws.proofs.Basics.{Before, Meets, WorldBehind, claimed, headed_other, is_releasing_behind, none_set}
 use Rattle.mk_laws.proofs.Basics.{page_within, reg_leaves_ground, tally_ground, used_header, with_header_on}
 use Rattle.mk_laws.proofs.Basics.{with_used_on, zero_where_none}
-use Rattle.mk_laws.proofs.Releasing.{headed_here, headed_used, used_here, used_other}
+use Rattle.mk_laws.proofs.Releasing.{headed_here, headed_used}
 use Rattle.mk_laws.proofs.{Behind.phase_kind, Unmapping.part_count, Unmapping.small_count}
 use Rattle.mk_laws.specs.WholeRuns.{HasLaterPage, HaveWholeRuns, RunIsWhole, RunsAreWhole}
 
@@ -125,8 +125,6 @@ plotted_run : (s : LayoutScene) (plot : Plot) (p : ℕ) → s.plot ≡ plot → 
     → heads_run (shows_on s.pages p) ≡ true → RunIsWhole s.pages s.releasing plot p
 plotted_run s NoPlot p is stands here h = absurd here
 plotted_run s (Plotted first o) p is stands here h =
-    let low = here.0 in
-    let high = here.1 in
     let at : first + (p - first) ≡ p = omega arith in
     by (subst (λ q. (header_on s.pages q ≡ 0) ⊎ (header_on s.pages q ≡ header_made o (p - first))) at
     (stands.headers (p - first) (omega arith)))
@@ -160,7 +158,7 @@ plotted_run s (Plotted first o) p is stands here h =
     by (inr e) = made e
 
 -- While the phase isn't releasing, they are whole in what is laid out.
-whole_quiet : (s : LayoutScene) → IsLaidOn s → s.releasing ≡ false → HaveWholeRuns s.pages s.releasing s.plot
+pub whole_quiet : (s : LayoutScene) → IsLaidOn s → s.releasing ≡ false → HaveWholeRuns s.pages s.releasing s.plot
 whole_quiet s laid off p h = elim (find_bit (used_on s.pages p) (cells_under (shows_on s.pages p))) [
   | inr none ↦
       let empty : used_on s.pages p ≡ 0 =
@@ -199,30 +197,20 @@ emptied w plot p n lt x whole q h = elim (cases_eq q p) [
         let within = r.within in
         record {
           within = omega arith;
-          later = λ d some near. page d (cases_eq (q + d) p) (r.later d some (omega arith));
+          later = λ d some near. page d (r.later d some (omega arith));
         }
       where
-        page : (d : ℕ) → (q + d ≡ p) ⊎ (q + d ≢ p) → HasLaterPage w.pages true plot q d
-            → HasLaterPage (with_header_on w.pages p n) true plot q d
-        page d (inr away) (inl is) = inl (is.0, rw (headed_other w.pages p n (q + d) away) is.1)
-        page d (inr away) (inr free) = inr (
-          headed_other w.pages p n (q + d) away ∙ free.0,
-          headed_used w.pages p n q lt ∙ free.1,
-          free.2,
-        )
-        page d (inl at) (inr free) = inr (
-          ap (header_on (with_header_on w.pages p n)) at ∙ headed_here w.pages p n lt ∙ x.is,
-          headed_used w.pages p n q lt ∙ free.1,
-          free.2,
-        )
-        page d (inl at) (inl is) =
+        unused : (d : ℕ) → q + d ≡ p → HasLaterPage w.pages true plot q d → used_on w.pages q ≡ 0
+        unused d at (inr free) = free.1
+        unused d at (inl is) =
             let head : head_page w p ≡ q = rw (← at) (rw is.1 (let back : q + d - d ≡ q = omega arith in back)) in
-            inr (
-              ap (header_on (with_header_on w.pages p n)) at ∙ headed_here _ p n lt ∙ x.is,
-              headed_used _ p n q lt ∙
-                  rw (← head) x.unused,
-              inl refl,
-            )
+            rw (← head) x.unused
+
+        page : (d : ℕ) → HasLaterPage w.pages true plot q d → HasLaterPage (with_header_on w.pages p n) true plot q d
+        page d l = set_by (λ (y : Page). ((m : Bool) × (header_of y.header ≡ Some (Later d m))) ⊎ ((y.header ≡ 0)
+            × (used_on (with_header_on w.pages p n) q ≡ 0) × ((true ≡ true) ⊎ InPlot plot q))) w.pages p (q + d) _
+            free_page (λ at. inr (x.is, headed_used w.pages p n q lt ∙ unused d at l, inl refl))
+            (elim l [ inl is ↦ inl is | inr free ↦ inr (free.0, headed_used w.pages p n q lt ∙ free.1, free.2) ])
 
 -- `used` (b)
 given_back : (w : Words) (plot : Plot) (p n : ℕ) → p < length w.pages → GivesBack w p n
@@ -236,11 +224,8 @@ given_back w plot p n lt x whole q h =
     record { within = omega arith; later = λ d some near. page d (r.later d some (omega arith)) }
   where
     still : used_on w.pages q ≡ 0 → used_on (with_used_on w.pages p n) q ≡ 0
-    still z = elim (cases_eq q p) [
-      | inr ne ↦ used_other w.pages p n q ne ∙ z
-      | inl e ↦ rw e (used_here w.pages p n lt ∙ zero_where_none n (λ k bit. none_set _ k (rw (← e)
-          z) (fewer_bits n _ k x.fewer bit)))
-    ]
+    still z = set_by (λ (y : Page). y.used ≡ 0) w.pages p q _ free_page
+        (λ e. zero_where_none n (λ k bit. none_set _ k (rw (← e) z) (fewer_bits n _ k x.fewer bit))) z
 
     page : (d : ℕ) → HasLaterPage w.pages true plot q d → HasLaterPage (with_used_on w.pages p n) true plot q d
     page d (inl is) = inl (is.0, rw (used_header w.pages p n (q + d) lt) is.1)

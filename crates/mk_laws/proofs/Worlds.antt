@@ -1,45 +1,34 @@
 -- What is known of a world of a history, and what values and words in it point into.
-use Rattle.mk_laws.proofs.Vocabulary.{Block, Config, Free, HasItsHeaders, Header, Invariant, IsMarking, IsSized}
-use Rattle.mk_laws.proofs.Vocabulary.{IsStorage, IsWordOf, Later, LeafBlock, LeafRun, MayHoldWords, NeverState, Object}
-use Rattle.mk_laws.proofs.Vocabulary.{OfBlock, OfLater, OfLeafBlock, OfLeafRun, OfRun, Option, PlacedAllocation}
-use Rattle.mk_laws.proofs.Vocabulary.{PointsInto, Run, RunPages, ShowsPart, Some, StandsOnHeap, World, ℕ, and_parts, ap}
-use Rattle.mk_laws.proofs.Vocabulary.{arith, cell_of_allocation, eqb-true, false, first_page_shows, has_no_pointers}
-use Rattle.mk_laws.proofs.Vocabulary.{head_page_under, header_in, inl, inr, is_small_object, large_words, leb-true}
-use Rattle.mk_laws.proofs.Vocabulary.{ltb-true, nat_le, nat_lt, object_placed, or_parts, page_at_address, pages_made}
-use Rattle.mk_laws.proofs.Vocabulary.{part_has_no_pointers, phase_of, placed_at, pointed_cell, run_begins, run_count}
-use Rattle.mk_laws.proofs.Vocabulary.{shown, slice_index, small, standing_has_storage, stands_on, storage_of}
+use Rattle.mk_laws.proofs.Vocabulary.{Config, HasItsHeaders, Header, Invariant, IsMarking, IsSized, IsStorage, Later}
+use Rattle.mk_laws.proofs.Vocabulary.{NeverState, Object, Option, PlacedAllocation, PointsInto, ShowsPart, Some}
+use Rattle.mk_laws.proofs.Vocabulary.{StandsOnHeap, World, ℕ, arith, cell_of_allocation, eqb-true, false}
+use Rattle.mk_laws.proofs.Vocabulary.{first_page_shows, has_no_pointers, head_page_under, header_in, inl, inr}
+use Rattle.mk_laws.proofs.Vocabulary.{is_small_object, large_words, object_placed, or_parts, page_at_address}
+use Rattle.mk_laws.proofs.Vocabulary.{pages_made, part_has_no_pointers, phase_of, placed_at, pointed_cell, run_begins}
+use Rattle.mk_laws.proofs.Vocabulary.{run_count, shown, slice_index, standing_has_storage, stands_on, storage_of}
 use Rattle.mk_laws.proofs.Vocabulary.{storage_words, subst, sym, true, typed_size, ◌*◌, ◌-◌, ◌/◌, ◌<◌, ◌∙◌, ◌≡◌, ◌≢◌}
 use Rattle.mk_laws.proofs.Vocabulary.{◌⊎◌}
 use Rattle.mk_geom.proofs.Standing.{stands_at_first, stands_from}
 use Rattle.mk_core.proofs.PointedPages.{PointsTo, points_to}
 use Rattle.mk_core.proofs.{PointedAllocations.pointers_come_back, StandingAllocations.pointers_hit}
-use Rattle.mk_laws.proofs.{Basics.KnownWorld, Basics.mapped_stays, InvariantJoined.told_to_images}
-use Rattle.mk_laws.specs.ImagePremises.{OfFreedRun, OfMapped, OfReleased}
+use Rattle.mk_laws.proofs.Unmapping.{part_count, small_count}
+use Rattle.mk_laws.proofs.{Basics.KnownWorld, FreeWords.of_one, InvariantJoined.told_to_images}
 use Rattle.mk_laws.specs.ImagePremises as images
+pub use Rattle.mk_laws.proofs.FreeWords.{IsOfOne as IsHeld}
 
 -- all that is known of it
 pub record Told (c : Config) (w : World) (n : NeverState) : Type 0 where
   pub known : KnownWorld c w
   pub all : Invariant c w n
 
--- A heap word is one of an unreleased allocation.
-pub record IsHeld (c : Config) (w : World) (x : ℕ) : Type 0 where
-  pub number : ℕ
-  pub unreleased : (placed_at w.allocations number).released ≡ false
-  pub word : IsWordOf (storage_of c (placed_at w.allocations number)) x
-
 not_four : (n : ℕ) → (n ≡ 1) ⊎ (n ≡ 2) → n ≡ 4 → ⊥
 not_four n (inl e) f = absurd (omega arith)
 not_four n (inr e) f = absurd (omega arith)
 
 -- a run's head shows the pages of its object
-part_count : (o : Object) (x : Option Header) (d : ℕ) → ShowsPart o 0 x → d < run_count x
+run_pages : (o : Object) (x : Option Header) (d : ℕ) → ShowsPart o 0 x → d < run_count x
     → (is_small_object o ≡ false) × (d < pages_made o)
-part_count o x d (OfBlock first small leaf) lt = absurd (omega arith)
-part_count o x d (OfLeafBlock first small leaf) lt = absurd (omega arith)
-part_count o x d (OfRun mapped first large leaf) lt = (large, lt)
-part_count o x d (OfLeafRun first large leaf) lt = (large, lt)
-part_count o x d (OfLater mapped some large) lt = absurd (omega arith)
+run_pages o x d part lt = grind (arith, part_count, small_count)
 
 module _ (c : Config) (w : World) (n : NeverState) (t : Told c w n) where
   abbrev placed : ℕ → PlacedAllocation
@@ -88,11 +77,6 @@ module _ (c : Config) (w : World) (n : NeverState) (t : Told c w n) where
       by : (h : Header) → header_in w.now.words (page_at_address v) ≡ Some h
           → a.base / 64 ≡ head_page_under (Some h) (page_at_address v)
           → stands_on (page_at_address v) (storage_of c a) ≡ true
-      by Free shown head = on_first head
-      by (Block class) shown head = on_first head
-      by (LeafBlock class) shown head = on_first head
-      by (Run count mapped) shown head = on_first head
-      by (LeafRun count) shown head = on_first head
       by (Later distance mapped) shown head =
           let later = t.all.order.laid.scene.later (page_at_address v) distance mapped shown in
           let le = later.0 in
@@ -101,7 +85,7 @@ module _ (c : Config) (w : World) (n : NeverState) (t : Told c w n) where
             | inl lt ↦
                 let counted : distance < run_count (header_in w.now.words (a.base / 64)) =
                 subst (λ p. distance < run_count (header_in w.now.words p)) (sym head) lt in
-                let part = part_count (object_placed c a) (header_in w.now.words (a.base / 64)) distance
+                let part = run_pages (object_placed c a) (header_in w.now.words (a.base / 64)) distance
                 (first_part b u) counted in
                 let large = part.0 in
                 let near = part.1 in
@@ -110,6 +94,7 @@ module _ (c : Config) (w : World) (n : NeverState) (t : Told c w n) where
                 let first = (run_begins (object_placed c a) a.base large (stands b u).begins).1 in
                 stands_from (page_at_address v) (storage_of c a) (omega arith) (omega arith)
           ]
+      by _ shown head = on_first head
 
   -- Where its page's header is scanned, an allocation isn't leaf.
   pub not_leaf : (a : ℕ) → (placed a).released ≡ false
@@ -121,20 +106,4 @@ module _ (c : Config) (w : World) (n : NeverState) (t : Told c w n) where
 
   -- A word that isn't 0 is held, while a cycle marks.
   pub held : IsMarking w.now.words → (x : ℕ) → slice_index w.now.words.heap x ≢ 0 → IsHeld c w x
-  held early x some = by (others.zero_words x some)
-    where
-      by : MayHoldWords c w x → IsHeld c w x
-      by (OfMapped i mapped word) = record { number = i; unreleased = mapped_stays c (placed i) mapped; word = word }
-      by (OfReleased cell pointed released) = grind (arith, and_parts, not_four, eqb-true)
-      by (OfFreedRun run there inside) =
-          let f = others.freed_run run there in
-          let a : PlacedAllocation = placed f.number in
-          let page : run.page ≡ a.base / 64 = ap (λ (r : RunPages). r.page) f.is in
-          let count : run.count ≡ pages_made (object_placed c a) = ap (λ (r : RunPages). r.count) f.is in
-          let parts = and_parts (nat_le run.page (x / 64)) (nat_lt (x / 64 - run.page) run.count) inside in
-          let from = leb-true run.page (x / 64) parts.0 in
-          let to = ltb-true (x / 64 - run.page) run.count parts.1 in
-          let words : storage_words c a ≡ 64 * pages_made (object_placed c a) =
-          large_words (object_placed c a) f.large in
-          let first = (run_begins (object_placed c a) a.base f.large (stands f.number f.unreleased).begins).1 in
-          record { number = f.number; unreleased = f.unreleased; word = (omega arith, omega arith) }
+  held early = of_one c w n t.known t.all (not_four (phase_of w.now.words) early)

@@ -184,8 +184,7 @@ word_of_freed c w cell n limits m st in_cell = by (stands_in w.now.words cell a)
     by : (b : Bool) → stands_in w.now.words cell a ≡ b
         → IsWordOfMapped c (map (freed_where_it_stands w.now.words (Some cell)) w.allocations) n
         ⊎ IsFreedWord (run_of_cell w.now.words (Some cell)) n
-    by false is = inl (changed (ap (λ b. is_mapped c (if b then record a { freed = true; fresh = true } else a)) is
-        ∙ m.mapped))
+    by false is = inl (grind (arith, changed))
     by true is = elim (cases_Bool (is_small_object (object_placed c a))) [
       | inl small ↦ inl (changed (ap (λ (s : Storage). s.mapped) (freed_storage c w.now.words (Some cell) a small)
           ∙ m.mapped))
