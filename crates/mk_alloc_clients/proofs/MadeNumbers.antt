@@ -17,12 +17,12 @@ acting p o turn u = acting_now p o turn (new_is_acting (call_of p) u.new)
 pub looked : (p q : PassState) (o : Option Op) (x : Word) → IsTurn p o → IsUnplaced p → is_steady_word x ≡ true
     → Acts p (Step.Look x) q → Has p.seats p.seat → IsHistory q.table.config q.seen → OnlyLooks p q
 looked p q o x turn u steady a own history =
-    look_reaches p q o x turn (new_is_acting (call_of p) u.new) (steady_is_plain x steady) a
+    look_reaches turn (new_is_acting (call_of p) u.new) (steady_is_plain x steady) a
 
 -- Looks leave what was seen.
 
 pub page_kept : (p q : PassState) → OnlyLooks p q → page_of (now_of p).words 0 ≡ page_of (now_of q).words 0
-page_kept p q a = ap (λ (ps : List Page). slice_index_or ps 0 free_page) (sym (looks_pages p q a))
+page_kept p q a = ap (λ (ps : List Page). slice_index_or ps 0 free_page) (sym (looks_pages a))
 
 pub held_kept : (p q : PassState) → OnlyLooks p q → (now_of p).words.held ≡ (now_of q).words.held
 held_kept p q a = sym (ap (λ (x : Steady). x.held) (looks_left p q a).steady)

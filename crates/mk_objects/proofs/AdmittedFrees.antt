@@ -36,10 +36,10 @@ asked_more c es e =
     ∙ map-append (λ (x : Decided). record { caller = x.caller; op = x.op }) (calls c es)
     (call_decided c (left c es).now e)
 
-pub free_admits : (c : Config) (es : List Event) (k r : ℕ) (x : Step) → IsHistory c es → k < c.callers → r < 8
+pub free_admits : {c : Config} {es : List Event} (k r : ℕ) (x : Step) → IsHistory c es → k < c.callers → r < 8
     → (flight_of (left c es).now (Caller k)).op ≡ Op.Free r → IsBase (register_at (never_behind c es) k r)
     → IsAdmittedBehind c es (record { seat = Caller k; step = x })
-free_admits c es k r x h lt small is base =
+free_admits {c} {es} k r x h lt small is base =
     let e : Event = record { seat = Caller k; step = x } in
     let a : Option Answer = answer_decided c (left c es).now e in
     subst (λ (xs : List Call). AreAdmitted c.globals (never_first c) xs) (sym (asked_more c es e))
@@ -51,19 +51,17 @@ free_admits c es k r x h lt small is base =
 
 -- A caller keeps its registers in the heap that never reuses storage over events of others and a step of its own that
 -- decides nothing.
-pub registers_kept : (c : Config) (es others : List Event) (k : ℕ) (x : Step)
-    → IsHistory c (es ++ others ++ record { seat = Caller k; step = x } ∷ [])
-    → AreOfOthers (Caller k ∷ []) others
-    → answer_decided c (left c (es ++ others)).now (record { seat = Caller k; step = x }) ≡ None
-    → (r : ℕ) → r < 8 → register_at (never_behind c (es ++ others ++ record { seat = Caller k; step = x } ∷ [])) k r
+pub registers_kept : {c : Config} (es others : List Event) (k : ℕ) (x : Step)
+    → IsHistory c (es ++ others ++ record { seat = Caller k; step = x } ∷ []) → AreOfOthers (Caller k ∷ []) others
+    → answer_decided c (left c (es ++ others)).now (record { seat = Caller k; step = x }) ≡ None → (r : ℕ) → r < 8
+    → register_at (never_behind c (es ++ others ++ record { seat = Caller k; step = x } ∷ [])) k r
     ≡ register_at (never_behind c es) k r
-registers_kept c es others k x whole of_others none r lt =
+registers_kept {c} es others k x whole of_others none r lt =
     let e : Event = record { seat = Caller k; step = x } in
     let before = earlier_part_is_history c (es ++ others) (e ∷ []) whole in
     let same : asked (calls c (es ++ others ++ e ∷ [])) ≡ asked (calls c (es ++ others)) =
-    asked_more c (es ++ others) e
-    ∙ ap (λ (a : Option Answer). asked (calls c (es ++ others))
-    ++ asked (entry_of k (flight_of (left c (es ++ others)).now (Caller k)).op a)) none
+    asked_more c (es ++ others) e ∙ ap (λ (a : Option Answer). asked (calls c (es ++ others)) ++ asked
+    (entry_of k (flight_of (left c (es ++ others)).now (Caller k)).op a)) none
     ∙ append-nil (asked (calls c (es ++ others))) in
     ap (λ (xs : List Call). register_at (after_calls (never_first c) xs) k r) same
     ∙ (admitted_others_leave c es others (Caller k) before of_others).registers k r refl lt

@@ -7,9 +7,9 @@ use Rattle.mk_objects.proofs.Vocabulary.{answers_full, calls_more}
 use Rattle.mk_core.specs.{Counts.full_answers, Frames.CountsAreLeft}
 use Rattle.mk_laws.proofs.OthersCounts.{entry_fulls, fulls_append, fulls_of}
 
-pub counts_then : (c : Config) (es fs gs : List Event) → CountsAreLeft c es fs → CountsAreLeft c fs gs
+pub counts_then : {c : Config} {es fs gs : List Event} → CountsAreLeft c es fs → CountsAreLeft c fs gs
     → CountsAreLeft c es gs
-counts_then c es fs gs a b = record { ends = b.ends ∙ a.ends; fulls = b.fulls ∙ a.fulls }
+counts_then a b = record { ends = b.ends ∙ a.ends; fulls = b.fulls ∙ a.fulls }
 
 pub counts_more : (c : Config) (es : List Event) (e : Event) → is_end e.step ≡ false
     → answers_full (answer_decided c (left c es).now e) ≡ false → CountsAreLeft c es (es ++ e ∷ [])

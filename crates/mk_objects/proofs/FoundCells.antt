@@ -28,8 +28,7 @@ pointed_in_heap pages header u cell is = elim (cases_Bool (is_heap_address pages
       let high = ltb-true u (65536 + 512 * pages) both.1 in
       record { from = low; page = omega arith }
   | inr outside ↦
-      let none : cell_at pages header u ≡ None =
-      cond-false (is_heap_address pages u)
+      let none : cell_at pages header u ≡ None = cond-false (is_heap_address pages u)
       (option_and_then (λ (h : Header). cell_under h (page_at_address u) (word_at_address u)) (header_of header))
       None outside in
       let clash : None ≡ Some cell = sym none ∙ is in cc
@@ -44,16 +43,14 @@ points_now p k is h undecided = by p.seat is undecided
         → PointsAt p.table.config (world_of p) (never_behind p.table.config p.seen) k (flight_of (now_of p) s)
     by s e free =
         subst (λ (x : Seat). PointsAt p.table.config (world_of p) (never_behind p.table.config p.seen) k
-        (flight_of (now_of p) x)) (sym e)
-        (free_points_at p.table.config p.seen k h (ap (λ (x : Seat). is_undecided_free (flight_of (now_of p) x)) (sym e)
-        ∙ free))
+        (flight_of (now_of p) x)) (sym e) (free_points_at k h (ap (λ (x : Seat). is_undecided_free
+        (flight_of (now_of p) x)) (sym e) ∙ free))
 
 -- what points into a cell by the words does so by its page's header
-pub pointed_by_header : (p : PassState) (u : ℕ) (x : Option Cell)
-    → pointed_cell p.table.config.pages (now_of p).words.pages u ≡ x
-    → cell_at p.table.config.pages (header_at (now_of p).words (page_at_address u)) u ≡ x
+pub pointed_by_header : (p : PassState) (u : ℕ) {x : Option Cell} → pointed_cell p.table.config.pages
+    (now_of p).words.pages u ≡ x → cell_at p.table.config.pages (header_at (now_of p).words (page_at_address u)) u ≡ x
 unfolding pointed_cell
-pointed_by_header p u x is = is
+pointed_by_header p u is = is
 
 -- The value that a Free has loaded points into this cell, by its page's header.
 pub record IsPointed (p : PassState) (u : ℕ) : Type 0 where
@@ -70,9 +67,9 @@ pub target_of : (pages : ℕ) (w : Words) (f : Flight) (cell : Cell) → is_unde
     → target pages w f ≡ Some cell
 target_of pages w f cell free is = rw free is
 
-cell_within : (c : Config) (w : World) (a : PlacedAllocation) → IsWithinLimits c → StandsUsed c w a
+cell_within : {c : Config} {w : World} {a : PlacedAllocation} → IsWithinLimits c → StandsUsed c w a
     → (cell_of_allocation c a).page < c.pages
-cell_within c w a limits s =
+cell_within {c} {a} limits s =
     let some = (words_within (object_placed c a) (typed_size c a limits s.stands.typed)).0 in
     let ends = s.stands.within in
     omega arith
@@ -87,9 +84,9 @@ cells_few o sized = elim (cases_Bool (is_small_object o)) [
   | inr large ↦ let is = large_cells o large in omega arith
 ]
 
-cell_index : (c : Config) (w : World) (a : PlacedAllocation) → IsWithinLimits c → StandsUsed c w a
+cell_index : {c : Config} {w : World} {a : PlacedAllocation} → IsWithinLimits c → StandsUsed c w a
     → (cell_of_allocation c a).index < 32
-cell_index c w a limits s =
+cell_index {c} {a} limits s =
     let sized = typed_size c a limits s.stands.typed in
     let is : (cell_of_allocation c a).index ≡ s.stands.begins.index =
     ap (λ (k : Cell). k.index) (placed_cell c a sized s.stands.begins) in
@@ -97,15 +94,15 @@ cell_index c w a limits s =
     let few = cells_few (object_placed c a) sized in
     omega arith
 
-pub pointed_now : (p : PassState) (u : ℕ) → IsHistory p.table.config p.seen → is_undecided_free (call_of p) ≡ true
+pub pointed_now : (p : PassState) {u : ℕ} → IsHistory p.table.config p.seen → is_undecided_free (call_of p) ≡ true
     → (call_of p).p ≡ u → IsPointed p u
-pointed_now p u h free is =
+pointed_now p {u} h free is =
     let caller = acting_caller p (free_is_acting (call_of p) free) in
     let t = points_now p caller.number caller.is h free in
     let cell : Cell = cell_of_allocation p.table.config (placed_at (world_of p).allocations t.number) in
     let pointed : pointed_cell p.table.config.pages (now_of p).words.pages u ≡ Some cell =
     ap (λ n. pointed_cell p.table.config.pages (now_of p).words.pages n) (sym is) ∙ t.cell in
-    let by_header = pointed_by_header p u (Some cell) pointed in
+    let by_header = pointed_by_header p u pointed in
     let heap = pointed_in_heap p.table.config.pages (header_at (now_of p).words (page_at_address u)) u cell by_header in
     record {
       cell = cell;
@@ -113,8 +110,6 @@ pointed_now p u h free is =
       page = heap.page;
       by_header = by_header;
       target = target_of p.table.config.pages (now_of p).words (call_of p) cell free t.cell;
-      within = cell_within p.table.config (world_of p) (placed_at (world_of p).allocations t.number) h.within_limits
-          (allocations_stand p.table.config p.seen h t.number t.unreleased);
-      index = cell_index p.table.config (world_of p) (placed_at (world_of p).allocations t.number) h.within_limits
-          (allocations_stand p.table.config p.seen h t.number t.unreleased);
+      within = cell_within h.within_limits (allocations_stand p.table.config p.seen h t.number t.unreleased);
+      index = cell_index h.within_limits (allocations_stand p.table.config p.seen h t.number t.unreleased);
     }

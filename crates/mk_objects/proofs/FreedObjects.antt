@@ -30,11 +30,11 @@ pub record IsObjectAt (p : PassState) (r : ℕ) (cell : Cell) : Type 0 where
   pub unreleased : (placed_at (world_of p).allocations number).released ≡ false
   pub is : cell_of_allocation p.table.config (placed_at (world_of p).allocations number) ≡ cell
 
-pub object_at : (p : PassState) (r u : ℕ) (cell : Cell) → IsHistory p.table.config p.seen
+pub object_at : {p : PassState} {r : ℕ} (u : ℕ) (cell : Cell) → IsHistory p.table.config p.seen
     → IsFreeAt p r (loaded_free r u) → (u == 0) ≡ false
     → target p.table.config.pages (now_of p).words (call_of p) ≡ Some cell → IsObjectAt p r cell
-object_at p r u cell h at some is =
-    let free = loaded_undecided p r u at some in
+object_at {p} {r} u cell h at some is =
+    let free = loaded_undecided u at some in
     let caller = acting_caller p (free_is_acting (call_of p) free) in
     let t = points_now p caller.number caller.is h free in
     let own : Cell = cell_of_allocation p.table.config (placed_at (world_of p).allocations t.number) in
@@ -73,7 +73,7 @@ module _ (p : PassState) (r : ℕ) (cell : Cell) (h : IsHistory p.table.config p
   pub its_freed : IsOutOfStop (now_of p) → is_freed (now_of p).words cell ≡ own.freed
   its_freed low =
       ap (λ (y : Cell). is_freed (now_of p).words y) (sym x.is)
-      ∙ freed_told p.table.config p.seen x.number h (off_four (now_of p) low) x.unreleased
+      ∙ freed_told x.number h (off_four (now_of p) low) x.unreleased
 
   pub its_words : words_under (header_in (now_of p).words cell.page) ≡ storage_words p.table.config own
   its_words =

@@ -23,15 +23,13 @@ marks_first w o place one free =
     (eq-eqb (header_at w place.page) 0 free))
     (eq-eqb (bits_made o) (bits_made o) refl)
 
-pub serving_marks : (c : Config) (s : Seat) (o : Object) (place : Place) (w v : World) → Serving c s o place w v
-    → phase_of v.now.words ≡ 1
-    → header_at v.now.words place.page ≡ 0
-    → marks_place v.now.words (object_made c (flight_of v.now s).op)
-    (place_now c v.now (flight_of v.now s)) place.page (bits_made o) ≡ true
-serving_marks c s o place w v at one free =
+pub serving_marks : {c : Config} {s : Seat} {o : Object} {place : Place} {w v : World} → Serving c s o place w v
+    → phase_of v.now.words ≡ 1 → header_at v.now.words place.page ≡ 0
+    → marks_place v.now.words (object_made c (flight_of v.now s).op) (place_now c v.now (flight_of v.now s)) place.page
+    (bits_made o) ≡ true
+serving_marks {c} {s} {o} {place} {v} at one free =
     ap (λ (x : Object). marks_place v.now.words x (place_now c v.now (flight_of v.now s)) place.page (bits_made o))
-    at.object
-    ∙ ap (λ (x : Option Place). marks_place v.now.words o x place.page (bits_made o)) at.placed
+    at.object ∙ ap (λ (x : Option Place). marks_place v.now.words o x place.page (bits_made o)) at.placed
     ∙ marks_first v.now.words o place one free
 
 all_marked : (bits : ℕ) (xs : List ℕ) (p : ℕ) → p < length xs
@@ -43,19 +41,17 @@ all_marked bits xs p lt =
     without_itself : (n : ℕ) → (without n n == 0) ≡ true
     without_itself n = eq-eqb (without n n) 0 (omega (arith, and_self n))
 
-pub carving_marked : (c : Config) (s : Seat) (o : Object) (place : Place) (w v : World) → Serving c s o place w v
-    → HasCall c v.now s
-    → is_undecided_new (flight_of v.now s) ≡ true → phase_of v.now.words ≡ 1
-    → ((d : ℕ) → d < pages_made o → header_at v.now.words (place.page + d) ≡ 0)
-    → 1 ≤ pages_made o → place.page < length v.now.words.marks
-    → Carving c s o place w (world_behind c v (record { seat = s; step = Step.Mark place.page (bits_made o) })) 0
-carving_marked c s o place w v at (OfCaller k lt) new one free some room =
+pub carving_marked : {c : Config} {s : Seat} {o : Object} {place : Place} {w v : World} → Serving c s o place w v
+    → HasCall c v.now s → is_undecided_new (flight_of v.now s) ≡ true → phase_of v.now.words ≡ 1
+    → ((d : ℕ) → d < pages_made o → header_at v.now.words (place.page + d) ≡ 0) → 1 ≤ pages_made o
+    → place.page < length v.now.words.marks → Carving c s o place w
+    (world_behind c v (record { seat = s; step = Step.Mark place.page (bits_made o) })) 0
+carving_marked {c} {s} {o} {place} {v} at (OfCaller k lt) new one free some room =
     let x = Step.Mark place.page (bits_made o) in
     let call = call_behind c v.now k x lt in
     let u : World = world_behind c v (record { seat = s; step = x }) in
     let zero : place.page + 0 ≡ place.page = omega arith in
-    let marks = serving_marks c (Caller k) o place w v at one (sym (ap (λ p. header_at v.now.words p) zero)
-    ∙ free 0 (omega arith)) in
+    let marks = serving_marks at one (sym (ap (λ p. header_at v.now.words p) zero) ∙ free 0 (omega arith)) in
     let fixed : u.now.seats.holding.placing ≡ Chosen place = rw marks
     (new_placed c v.now (flight_of v.now (Caller k)) place new at.placed at.once) in
     record {
@@ -74,10 +70,10 @@ carving_marked c s o place w v at (OfCaller k lt) new one free some room =
     }
 
 -- Outside of marking no mark is asked for.
-pub carving_unmarked : (c : Config) (s : Seat) (o : Object) (place : Place) (w v : World) → Serving c s o place w v
+pub carving_unmarked : {c : Config} {s : Seat} {o : Object} {place : Place} {w v : World} → Serving c s o place w v
     → phase_of v.now.words ≡ 0
     → ((d : ℕ) → d < pages_made o → header_at v.now.words (place.page + d) ≡ 0) → Carving c s o place w v 0
-carving_unmarked c s o place w v at none free =
+carving_unmarked {v} at none free =
     record {
       serving = at;
       stand = λ d lt. absurd (omega arith);
@@ -87,28 +83,28 @@ carving_unmarked c s o place w v at none free =
 
 -- the grant, the tally, and what others do after them
 
-pub granted_left : (c : Config) (s : Seat) (place : Place) (w u v : World) → d_of (flight_of w.now s).op < 8
-    → IsGrantedAt c s place w u
-    → IsAsLeft s u v → IsGrantedAt c s place w v
-granted_left c s place w u v small at left =
+pub granted_left : {c : Config} {s : Seat} {place : Place} {w u v : World} → d_of (flight_of w.now s).op < 8
+    → IsGrantedAt c s place w u → IsAsLeft s u v → IsGrantedAt c s place w v
+granted_left {c} {s} {place} {w} {u} {v} small at left =
     let pages : v.now.words.pages ≡ u.now.words.pages = ap (λ (x : Steady). x.pages) left.steady in
     let held : v.now.words.held ≡ u.now.words.held = ap (λ (x : Steady). x.held) left.steady in
     let xs = w.allocations ++ object_at_place c (flight_of w.now s) place ∷ [] in
     record {
       call = left.call ∙ at.call;
       placing = ap (λ (h : Holding). h.placing) left.holding ∙ at.placing;
-      steady = left.steady ∙ at.steady
-          ∙ ap (λ (ps : List Page). record (steady_of w) { pages = ps; held = u.now.words.held; allocations = xs })
-          (sym pages)
-          ∙ ap (λ n. record (steady_of w) { pages = v.now.words.pages; held = n; allocations = xs }) (sym held);
+      steady = left.steady ∙ at.steady ∙ ap (λ (ps : List Page). record (steady_of w) {
+        pages = ps;
+        held = u.now.words.held;
+        allocations = xs;
+      }) (sym pages) ∙ ap (λ n.
+          record (steady_of w) { pages = v.now.words.pages; held = n; allocations = xs }) (sym held);
       register = λ k is. left.registers k (d_of (flight_of w.now s).op) is small ∙ at.register k is;
     }
 
-pub granted_behind : (c : Config) (s : Seat) (o : Object) (place : Place) (w v : World) → IsTakenAt c s o place w v
-    → HasCall c v.now s
-    → ((k : ℕ) → s ≡ Caller k → 8 * k + d_of (flight_of w.now s).op < length v.now.words.registers)
+pub granted_behind : {c : Config} {s : Seat} {o : Object} {place : Place} {w v : World} → IsTakenAt c s o place w v
+    → HasCall c v.now s → ((k : ℕ) → s ≡ Caller k → 8 * k + d_of (flight_of w.now s).op < length v.now.words.registers)
     → IsGrantedAt c s place w (world_behind c v (record { seat = s; step = Step.Grant }))
-granted_behind c s o place w v at (OfCaller k lt) room =
+granted_behind {c} {place} {w} {v} at (OfCaller k lt) room =
     let call = call_behind c v.now k Step.Grant lt in
     let f : Flight = flight_of w.now (Caller k) in
     let base : granted_base c (flight_of v.now (Caller k)) v.now.seats.holding.placing
@@ -120,9 +116,7 @@ granted_behind c s o place w v at (OfCaller k lt) room =
       call = call ∙ ap (λ (g : Flight). record g { stage = Stage.Give }) at.call;
       placing = refl;
       steady =
-          ap (λ (x : Steady). record x { allocations = u.allocations }) at.steady
-          ∙ ap (λ n. record
-          (steady_of w) {
+          ap (λ (x : Steady). record x { allocations = u.allocations }) at.steady ∙ ap (λ n. record (steady_of w) {
             pages = v.now.words.pages;
             allocations = v.allocations ++
                 record {
@@ -132,28 +126,22 @@ granted_behind c s o place w v at (OfCaller k lt) room =
                   fresh = false;
                   released = false;
                 } ∷ [];
-          }) base
-          ∙ ap (λ (g : Flight). record
-          (steady_of w) {
+          }) base ∙ ap (λ (g : Flight). record (steady_of w) {
             pages = v.now.words.pages;
             allocations = v.allocations ++ record {
-              base = base_made
-                  (object_made c f.op) place;
+              base = base_made (object_made c f.op) place;
               ty = type_made g.op;
               freed = false;
               fresh = false;
               released = false;
             } ∷ [];
-          }) at.call
-          ∙ ap (λ (xs : List PlacedAllocation). record
-          (steady_of w) { pages = v.now.words.pages; allocations = xs ++ object_at_place c f place ∷ [] })
-          (ap (λ (x : Steady). x.allocations) at.steady)
-          ∙ ap (λ n. record
-          (steady_of w) {
+          }) at.call ∙ ap (λ (xs : List PlacedAllocation). record (steady_of w) {
+            pages = v.now.words.pages;
+            allocations = xs ++ object_at_place c f place ∷ [];
+          }) (ap (λ (x : Steady). x.allocations) at.steady) ∙ ap (λ n. record (steady_of w) {
             pages = v.now.words.pages;
             held = n;
-            allocations = w.allocations ++ object_at_place c f
-                place ∷ [];
+            allocations = w.allocations ++ object_at_place c f place ∷ [];
           }) (sym (ap (λ (x : Steady). x.held) at.steady));
       register = λ j is. granted_register j is;
     }
@@ -177,10 +165,10 @@ granted_behind c s o place w v at (OfCaller k lt) room =
         ∙ ap (λ (g : Flight). base_made (object_made c g.op) place) at.call)
 
 -- The tally of held words is set.
-pub tallied_behind : (c : Config) (s : Seat) (place : Place) (w v : World) (n : ℕ) → IsGrantedAt c s place w v
+pub tallied_behind : {c : Config} {s : Seat} {place : Place} {w v : World} (n : ℕ) → IsGrantedAt c s place w v
     → HasCall c v.now s
     → IsGrantedAt c s place w (world_behind c v (record { seat = s; step = Step.Tally Tally.Held n }))
-tallied_behind c s place w v n at (OfCaller k lt) =
+tallied_behind {c} {v} n at (OfCaller k lt) =
     record {
       call = call_behind c v.now k (Step.Tally Tally.Held n) lt ∙ at.call;
       placing = at.placing;

@@ -31,8 +31,8 @@ in_parts (a ∷ xs) more (y ∷ ys) x zs is =
     ]
 
 -- No element stands after a whole list,
-pub none_behind : {A : Type 0} (xs ys : List A) (x : A) (zs : List A) → xs ≡ xs ++ ys ++ x ∷ zs → ⊥
-none_behind xs ys x zs is =
+pub none_behind : {A : Type 0} {xs : List A} (ys : List A) (x : A) (zs : List A) → xs ≡ xs ++ ys ++ x ∷ zs → ⊥
+none_behind {xs} ys x zs is =
     let all : length xs ≡ length (xs ++ ys ++ x ∷ zs) = ap length is in
     let outer = length-append (xs ++ ys) (x ∷ zs) in
     let inner = length-append xs ys in

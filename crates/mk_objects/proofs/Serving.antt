@@ -22,9 +22,9 @@ place_same c u v f holding pages =
     ap (λ (h : Holding). place_now c (record v.now { seats = record v.now.seats { holding = h } }) f) holding
     ∙ ap (λ (ps : List Page). place_now c (record u.now { words = record u.now.words { pages = ps } }) f) pages
 
-pub serving_left : (c : Config) (s : Seat) (o : Object) (place : Place) (w u v : World) → Serving c s o place w u
+pub serving_left : {c : Config} {s : Seat} {o : Object} {place : Place} {w u v : World} → Serving c s o place w u
     → IsAsLeft s u v → Serving c s o place w v
-serving_left c s o place w u v at left =
+serving_left {c} {s} {place} {w} {u} {v} at left =
     let pages : v.now.words.pages ≡ u.now.words.pages = ap (λ (x : Steady). x.pages) left.steady in
     record {
       call = left.call ∙ at.call;
@@ -37,28 +37,25 @@ serving_left c s o place w u v at left =
       pages = ap (λ (ps : List Page). length ps) pages ∙ at.pages;
     }
 
-marked_left : (o : Object) (place : Place) (s : Seat) (u v : World) → IsAsLeft s u v
-    → is_marked_first u.now.words o place ≡ true
-    → is_marked_first v.now.words o place ≡ true
-marked_left o place s u v left h =
+marked_left : (o : Object) (place : Place) {s : Seat} {u v : World} → IsAsLeft s u v
+    → is_marked_first u.now.words o place ≡ true → is_marked_first v.now.words o place ≡ true
+marked_left o place {u} {v} left h =
     let phase : (v.now.words.phase % 8) ≡ (u.now.words.phase % 8) = ap (λ (x : Steady). x.phase) left.steady in
-    or_on (not (is_phase u.now.words 1)) _ (not (is_phase v.now.words 1)) _
-    (λ e. ap (λ n. not (n == 1)) phase ∙ e)
+    or_on (not (is_phase u.now.words 1)) _ (not (is_phase v.now.words 1)) _ (λ e. ap (λ n. not (n == 1)) phase ∙ e)
     (without_on (bits_made o) (slice_index u.now.words.marks place.page) (slice_index v.now.words.marks place.page)
     (left.marks place.page)) h
 
-pub carving_left : (c : Config) (s : Seat) (o : Object) (place : Place) (w u v : World) (n : ℕ)
-    → Carving c s o place w u n → IsAsLeft s u v
-    → Carving c s o place w v n
-carving_left c s o place w u v n at left =
+pub carving_left : {c : Config} {s : Seat} {o : Object} {place : Place} {w u v : World} {n : ℕ}
+    → Carving c s o place w u n → IsAsLeft s u v → Carving c s o place w v n
+carving_left {o} {place} {u} {v} at left =
     let pages : v.now.words.pages ≡ u.now.words.pages = ap (λ (x : Steady). x.pages) left.steady in
     let header : (p : ℕ) → header_at v.now.words p ≡ header_at u.now.words p = λ p. ap (λ (ps : List Page).
     (slice_index_or ps p free_page).header) pages in
     record {
-      serving = serving_left c s o place w u v at.serving left;
+      serving = serving_left at.serving left;
       stand = λ d lt. header (place.page + d) ∙ at.stand d lt;
       free = λ d le lt. header (place.page + d) ∙ at.free d le lt;
-      marked = marked_left o place s u v left at.marked;
+      marked = marked_left o place left at.marked;
     }
 
 -- The first step that serves fixes the place.
@@ -115,12 +112,11 @@ used_kept ps p q h = elim (cases_eq q p) [
 ]
 
 -- the next page gets its header
-pub carving_more : (c : Config) (s : Seat) (o : Object) (place : Place) (w v : World) (n : ℕ)
-    → Carving c s o place w v n → HasCall c v.now s
-    → is_undecided_new (flight_of v.now s) ≡ true → IsOutOfStop v.now → n < pages_made o → place.page + n < c.pages
-    → Carving c s o place w
+pub carving_more : {c : Config} {s : Seat} {o : Object} {place : Place} {w v : World} {n : ℕ}
+    → Carving c s o place w v n → HasCall c v.now s → is_undecided_new (flight_of v.now s) ≡ true → IsOutOfStop v.now
+    → n < pages_made o → place.page + n < c.pages → Carving c s o place w
     (world_behind c v (record { seat = s; step = Step.Head (place.page + n) (header_made o n) })) (n + 1)
-carving_more c s o place w v n at (OfCaller k lt) new low within room =
+carving_more {c} {s} {o} {place} {v} {n} at (OfCaller k lt) new low within room =
     let p = place.page + n in
     let call = call_behind c v.now k (Step.Head p (header_made o n)) lt in
     let there : p < length v.now.words.pages = omega (arith, at.serving.pages) in
@@ -162,53 +158,44 @@ next_is w first count wanted n near not_yet before =
     (all_below_from n (stands w first wanted) (λ d lt. eq-eqb (header_at w (first + d)) (wanted d) (before d lt))))
     (eq-eqb (wanted n) (wanted n) refl))
 
-pub carving_carves : (c : Config) (s : Seat) (o : Object) (place : Place) (w v : World) (n : ℕ) → IsSized o
-    → Carving c s o place w v n
-    → n < pages_made o
-    → carves v.now.words (object_made c (flight_of v.now s).op) (place_now c v.now (flight_of v.now s))
-    (place.page + n) (header_made o n) ≡ true
-carving_carves c s o place w v n sized at within =
+pub carving_carves : {c : Config} {s : Seat} {o : Object} {place : Place} {w v : World} {n : ℕ} → IsSized o
+    → Carving c s o place w v n → n < pages_made o → carves v.now.words (object_made c (flight_of v.now s).op)
+    (place_now c v.now (flight_of v.now s)) (place.page + n) (header_made o n) ≡ true
+carving_carves {c} {s} {o} {place} {v} {n} sized at within =
     ap (λ (x : Object). carves v.now.words x (place_now c v.now (flight_of v.now s)) (place.page + n) (header_made o n))
-    at.serving.object
-    ∙ ap (λ (x : Option Place). carves v.now.words o x (place.page + n) (header_made o n)) at.serving.placed
-    ∙ and_from _ _
-    (next_is v.now.words place.page (pages_made o) (header_made o) n within
+    at.serving.object ∙ ap (λ (x : Option Place). carves v.now.words o x (place.page + n) (header_made o n))
+    at.serving.placed ∙ and_from _ _ (next_is v.now.words place.page (pages_made o) (header_made o) n within
     (λ e. part_not_free o n (header_made o n) (made_shows o n sized within) (sym e ∙ at.free n (omega arith) within))
-    at.stand)
-    at.marked
+    at.stand) at.marked
 
-pub ready_left : (c : Config) (s : Seat) (o : Object) (place : Place) (w u v : World) → IsCellReady c s o place w u
-    → IsAsLeft s u v
-    → IsCellReady c s o place w v
-ready_left c s o place w u v at left =
+pub ready_left : {c : Config} {s : Seat} {o : Object} {place : Place} {w u v : World} → IsCellReady c s o place w u
+    → IsAsLeft s u v → IsCellReady c s o place w v
+ready_left {place} {u} {v} at left =
     let pages : v.now.words.pages ≡ u.now.words.pages = ap (λ (x : Steady). x.pages) left.steady in
     record {
-      serving = serving_left c s o place w u v at.serving left;
+      serving = serving_left at.serving left;
       stand = λ d lt. ap (λ (ps : List Page). (slice_index_or ps (place.page + d) free_page).header) pages
           ∙ at.stand d lt;
     }
 
-pub ready_carved : (c : Config) (s : Seat) (o : Object) (place : Place) (w v : World)
+pub ready_carved : {c : Config} {s : Seat} {o : Object} {place : Place} {w v : World}
     → Carving c s o place w v (pages_made o) → IsCellReady c s o place w v
-ready_carved c s o place w v at = record { serving = at.serving; stand = at.stand }
+ready_carved at = record { serving = at.serving; stand = at.stand }
 
-pub ready_takes : (c : Config) (s : Seat) (o : Object) (place : Place) (w v : World) (used : ℕ)
-    → IsCellReady c s o place w v
-    → used_at w.now.words place.page ≡ used → has_bit used place.index ≡ false
+pub ready_takes : {c : Config} {s : Seat} {o : Object} {place : Place} {w v : World} {used : ℕ}
+    → IsCellReady c s o place w v → used_at w.now.words place.page ≡ used → has_bit used place.index ≡ false
     → takes_cell v.now.words (object_made c (flight_of v.now s).op) (place_now c v.now (flight_of v.now s)) place.page
     (used + 2 ^ place.index) ≡ true
-ready_takes c s o place w v used at known unused =
+ready_takes {c} {s} {o} {place} {v} {used} at known unused =
     let same : used_at v.now.words place.page ≡ used = at.serving.used ∙ known in
     let value = used + 2 ^ place.index in
     ap (λ (x : Object). takes_cell v.now.words x (place_now c v.now (flight_of v.now s)) place.page value)
-    at.serving.object
-    ∙ ap (λ (x : Option Place). takes_cell v.now.words o x place.page value) at.serving.placed
-    ∙ and_from _ _
-    (and_from _ _ (and_from _ _ (eq-eqb place.page place.page refl)
+    at.serving.object ∙ ap (λ (x : Option Place). takes_cell v.now.words o x place.page value) at.serving.placed
+    ∙ and_from _ _ (and_from _ _ (and_from _ _ (eq-eqb place.page place.page refl)
     (all_below_from (pages_made o) (stands v.now.words place.page (header_made o))
     (λ d lt. eq-eqb (header_at v.now.words (place.page + d)) (header_made o d) (at.stand d lt))))
-    (ap (λ n. not (has_bit n place.index)) same ∙ ap not unused))
-    (eq-eqb value _ (ap (λ n. n + 2 ^ place.index) (sym same)))
+    (ap (λ n. not (has_bit n place.index)) same ∙ ap not unused)) (eq-eqb value _
+    (ap (λ n. n + 2 ^ place.index) (sym same)))
 
 -- and then it is.
 pub record IsTakenAt (c : Config) (s : Seat) (o : Object) (place : Place) (w v : World) : Type 0 where
@@ -217,10 +204,9 @@ pub record IsTakenAt (c : Config) (s : Seat) (o : Object) (place : Place) (w v :
   pub steady : steady_of v ≡ record (steady_of w) { pages = v.now.words.pages }
   pub placing : v.now.seats.holding.placing ≡ Used place
 
-pub taken_left : (c : Config) (s : Seat) (o : Object) (place : Place) (w u v : World) → IsTakenAt c s o place w u
-    → IsAsLeft s u v
-    → IsTakenAt c s o place w v
-taken_left c s o place w u v at left =
+pub taken_left : {c : Config} {s : Seat} {o : Object} {place : Place} {w u v : World} → IsTakenAt c s o place w u
+    → IsAsLeft s u v → IsTakenAt c s o place w v
+taken_left {c} {w} {u} {v} at left =
     let pages : v.now.words.pages ≡ u.now.words.pages = ap (λ (x : Steady). x.pages) left.steady in
     record {
       call = left.call ∙ at.call;
@@ -229,10 +215,10 @@ taken_left c s o place w u v at left =
       placing = ap (λ (h : Holding). h.placing) left.holding ∙ at.placing;
     }
 
-pub taken_behind : (c : Config) (s : Seat) (o : Object) (place : Place) (w v : World) (p value : ℕ)
+pub taken_behind : {c : Config} {s : Seat} {o : Object} {place : Place} {w v : World} (p value : ℕ)
     → Serving c s o place w v → HasCall c v.now s
     → IsOutOfStop v.now → IsTakenAt c s o place w (world_behind c v (record { seat = s; step = Step.Used p value }))
-taken_behind c s o place w v p value at (OfCaller k lt) low =
+taken_behind {c} {s} {place} {v} p value at (OfCaller k lt) low =
     let call = call_behind c v.now k (Step.Used p value) lt in
     let u : World = world_behind c v (record { seat = s; step = Step.Used p value }) in
     record {

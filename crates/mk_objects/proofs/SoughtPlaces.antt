@@ -15,12 +15,12 @@ use Rattle.mk_page_map.specs.{Laws.LowestBlockHasThePlace, Laws.free_cell_on, Me
 
 -- The cells of a page under the header word of the blocks that are sought,
 
-pub cells_under_wanted : (h u class : ℕ) (leaf : Bool) → class < 8 → h ≡ word_of (block_header class leaf)
+pub cells_under_wanted : {h : ℕ} (u class : ℕ) (leaf : Bool) → class < 8 → h ≡ word_of (block_header class leaf)
     → cells_taken class leaf (use_under (header_of h) u) ≡ bits_of (cells_of class) u
-cells_under_wanted h u class false known is =
+cells_under_wanted {h} u class false known is =
     cells_taken_alike (use_under (header_of h) u) class class false false u
     (ap (λ x. use_under x u) (ap header_of is ∙ header_of-word_of (Block class) known)) refl refl
-cells_under_wanted h u class true known is =
+cells_under_wanted {h} u class true known is =
     cells_taken_alike (use_under (header_of h) u) class class true true u
     (ap (λ x. use_under x u) (ap header_of is ∙ header_of-word_of (LeafBlock class) known)) refl refl
 
@@ -77,7 +77,7 @@ pub cells_of_block : (page : Page) (class : ℕ) (leaf : Bool) → class < 8
     → has_free_cell class leaf (use_of_page page) ≡ true
     → cells_taken class leaf (use_of_page page) ≡ bits_of (cells_of class) page.used
 cells_of_block page class leaf known free = elim (cases_eq page.header (word_of (block_header class leaf))) [
-  | inl is ↦ cells_under_wanted page.header page.used class leaf known is
+  | inl is ↦ cells_under_wanted page.used class leaf known is
   | inr other ↦
       let none =
       ap (λ cells. is_some (first_where not cells)) (cells_under_other page.header page.used class leaf other)
@@ -118,12 +118,11 @@ block_found (first ∷ pages) class leaf page is = elim (cases_Bool (has_free_ce
 ]
 
 -- its lowest free cell, by its used word
-pub cell_told : (pages : List Page) (page class used : ℕ) (leaf : Bool) (found : Option ℕ) → class < 8
-    → used ≡ (page_at pages page).used → has_free_cell class leaf (use_of_page (page_at pages page)) ≡ true
-    → found ≡ first_where not (bits_of (cells_of class) used)
-    → option_map (λ index. record { page = page; index = index; carve = false }) found
-    ≡ free_cell_on class leaf pages page
-cell_told pages page class used leaf found known is free by_word =
+pub cell_told : (pages : List Page) (page class : ℕ) {used : ℕ} (leaf : Bool) {found : Option ℕ} → class < 8 → used
+    ≡ (page_at pages page).used → has_free_cell class leaf (use_of_page (page_at pages page)) ≡ true → found
+    ≡ first_where not (bits_of (cells_of class) used) → option_map
+    (λ index. record { page = page; index = index; carve = false }) found ≡ free_cell_on class leaf pages page
+cell_told pages page class leaf known is free by_word =
     ap (option_map (λ index. record { page = page; index = index; carve = false }))
     (by_word ∙ ap (λ n. first_where not (bits_of (cells_of class) n)) is
     ∙ ap (first_where not) (sym (cells_of_block (page_at pages page) class leaf known free)))

@@ -1,7 +1,5 @@
 use Rattle.mk_alloc.proofs.Vocabulary.{CalledInTurn, CallerState, IsEnabledTo, PassState, Seeks, in_turn}
-use Rattle.mk_laws.proofs.Vocabulary.{Answer, Bool, Op, Some, Step, ap, false, refl, subst, sym, true}
-use Rattle.mk_core.specs.declared.seats.Flight.{Flight}
-use Rattle.mk_core.specs.Calls.{d_of}
+use Rattle.mk_laws.proofs.Vocabulary.{Answer, Bool, Flight, Op, Some, Step, ap, d_of, false, refl, subst, sym, true}
 use Rattle.mk_alloc.proofs.NewTurns.{begun_quiet, begun_unplaced, new_called}
 use Rattle.mk_alloc.proofs.OneCycles.{none_runs_one, placed_begins_none}
 use Rattle.mk_alloc.proofs.{CalledTurns.taken_turn, QuietTurns.give_allowed, SeekingTurns.seeks_placed}
@@ -36,8 +34,7 @@ place_number-requires-clause-unplaced c =
     begun_unplaced c.in-Ok.turn.pass c.args.d c.args.ty false (taken x.After-is_in_order).begins
 
 pub place_number-requires-clause-register : goal.place_number-requires-clause-register
-place_number-requires-clause-register c =
-    sym (ap (λ (f : Flight). d_of f.op) (c.in-Ok.ensures.fresh).call)
+place_number-requires-clause-register c = sym (ap (λ (f : Flight). d_of f.op) (c.in-Ok.ensures.fresh).call)
 
 -- The object was placed.
 seeks : (c : After-is_in_order-in-Ok) → TakenNew c.args.caller.now.pass c.args.d c.args.ty c.in-Ok.turn.pass

@@ -9,13 +9,12 @@ head-requires-clause-enabled c =
     let p : PassState = c.args.turn.now.pass in
     let q : PassState = c.mark_first.new.turn.pass in
     let i = c.is_in_order.ensures in
-    let k = knows_place p c.args.turn.now.op c.args.place i.turn i.history c.requires.goes in
+    let k = knows_place i.turn i.history c.requires.goes in
     let count : pages_made (object_for p) ≡ 1 = ap (λ (o : Object). pages_made o) c.requires.number in
     let first : c.args.place.page + 0 ≡ c.args.place.page = omega arith in
-    subst (λ n. IsEnabledTo q (Step.Head c.args.place.page n))
-    (ap (λ (o : Object). header_made o 0) c.requires.number ∙ sym c.block_word.ensures)
-    (subst (λ page. IsEnabledTo q (Step.Head page (header_made (object_for p) 0))) first
-    (head_may p c.args.place c.requires.goes k c.requires.free q 0 c.mark_first.ensures.carved (omega arith)))
+    subst (λ n. IsEnabledTo q (Step.Head c.args.place.page n)) (ap (λ (o : Object). header_made o 0) c.requires.number
+    ∙ sym c.block_word.ensures) (subst (λ page. IsEnabledTo q (Step.Head page (header_made (object_for p) 0))) first
+    (head_may c.requires.goes k c.requires.free c.mark_first.ensures.carved (omega arith)))
 
 pub returns-clause-ready : goal.returns-clause-ready
 returns-clause-ready c =
@@ -23,13 +22,12 @@ returns-clause-ready c =
     let q : PassState = c.mark_first.new.turn.pass in
     let r : PassState = c.head.new.self.pass in
     let i = c.is_in_order.ensures in
-    let k = knows_place p c.args.turn.now.op c.args.place i.turn i.history c.requires.goes in
+    let k = knows_place i.turn i.history c.requires.goes in
     let count : pages_made (object_for p) ≡ 1 = ap (λ (o : Object). pages_made o) c.requires.number in
     let first : c.args.place.page + 0 ≡ c.args.place.page = omega arith in
     let a : Acts q (Step.Head (c.args.place.page + 0) (header_made (object_for p) 0)) r =
     subst (λ page. Acts q (Step.Head page (header_made (object_for p) 0)) r) (sym first)
     (subst (λ n. Acts q (Step.Head c.args.place.page n) r)
     (c.block_word.ensures ∙ sym (ap (λ (o : Object). header_made o 0) c.requires.number)) c.head.ensures.acts) in
-    carved_all p c.args.place c.requires.goes k c.requires.free r
-    (subst (λ n. HasCarved p c.args.place n r) (sym count)
-    (heads_on p c.args.place c.requires.goes k c.requires.free q r 0 c.mark_first.ensures.carved (omega arith) a))
+    carved_all c.requires.goes k c.requires.free (subst (λ n. HasCarved p c.args.place n r) (sym count)
+    (heads_on c.requires.goes k c.requires.free c.mark_first.ensures.carved (omega arith) a))

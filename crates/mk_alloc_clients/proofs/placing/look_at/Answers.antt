@@ -6,7 +6,7 @@ use Rattle.mk_alloc_clients.proofs.placing.look_at.Goals as goal
 pub look-found-requires-clause-enabled : goal.look-found-requires-clause-enabled
 look-found-requires-clause-enabled c =
     let t = c.args.turn.now in
-    may_look t.pass.table.config _ t.pass.seat (acting t.pass t.op c.is_in_order.ensures.turn c.requires.unplaced)
+    may_look (acting t.pass t.op c.is_in_order.ensures.turn c.requires.unplaced)
     c.args.word c.requires.steady c.requires.in_range
 
 pub returns-clause-looks : goal.returns-clause-looks

@@ -10,25 +10,20 @@ page-page-requires c =
     (first_page c.args.turn.now.pass c.args.words.now c.requires.one_table c.is_within_limits.ensures)
 
 pub returns-clause-looks : goal.returns-clause-looks
-returns-clause-looks c =
-    looks_joined c.args.turn.now.pass c.look_at-held.new.turn.pass c.is_marking-marking.new.turn.pass
-    c.look_at-held.ensures.looks c.is_marking-marking.ensures.looks
+returns-clause-looks c = looks_joined c.look_at-held.ensures.looks c.is_marking-marking.ensures.looks
 
 pub returns-clause-page : goal.returns-clause-page
 returns-clause-page c =
     let p : PassState = c.args.turn.now.pass in
     let e : PassState = c.is_marking-marking.new.turn.pass in
-    c.page-page.ensures
-    ∙ page_kept p e
-    (looks_joined p c.look_at-held.new.turn.pass e c.look_at-held.ensures.looks c.is_marking-marking.ensures.looks)
+    c.page-page.ensures ∙ page_kept p e (looks_joined c.look_at-held.ensures.looks c.is_marking-marking.ensures.looks)
 
 pub returns-clause-held : goal.returns-clause-held
 returns-clause-held c =
     let p : PassState = c.args.turn.now.pass in
     let e : PassState = c.is_marking-marking.new.turn.pass in
-    c.look_at-held.ensures.finds
-    ∙ held_kept p e
-    (looks_joined p c.look_at-held.new.turn.pass e c.look_at-held.ensures.looks c.is_marking-marking.ensures.looks)
+    c.look_at-held.ensures.finds ∙ held_kept p e (looks_joined c.look_at-held.ensures.looks
+    c.is_marking-marking.ensures.looks)
 
 pub returns-clause-marking : goal.returns-clause-marking
 returns-clause-marking c =

@@ -10,58 +10,42 @@ quarantine-requires-clause-gates c = or_right _ _ (stopped_by c.args.turn.now.pa
 
 pub clear_run-requires-clause-held : goal.clear_run-requires-clause-held
 clear_run-requires-clause-held c =
-    let p : PassState = c.args.turn.now.pass in
     let q : PassState = c.quarantine.new.turn.pass in
-    let now = freed_now p q c.args.cell c.quarantine.ensures.freed in
+    let now = freed_now c.quarantine.ensures.freed in
     subst (λ (x : PassState). (j : ℕ) → j < x.table.config.callers → is_held (now_of q).words j ≡ all_others x.seat j)
-    (sym c.quarantine.ensures.freed.same)
-    (λ j lt. now.gates j ∙ c.requires.held j lt)
+    (sym c.quarantine.ensures.freed.same) (λ j lt. now.gates j ∙ c.requires.held j lt)
 
 pub clear_run-requires-clause-within : goal.clear_run-requires-clause-within
 clear_run-requires-clause-within c =
-    let p : PassState = c.args.turn.now.pass in
-    let run = run_is p c.args.register c.args.value c.args.cell c.args.count c.requires.may
-    c.is_in_order.ensures.history c.requires.run in
+    let run = run_is c.args.count c.requires.may c.is_in_order.ensures.history c.requires.run in
     subst (λ (x : PassState). c.args.cell.page + c.args.count ≤ x.table.config.pages)
     (sym c.quarantine.ensures.freed.same) run.within
 
 pub clear_run-requires-clause-mapped : goal.clear_run-requires-clause-mapped
 clear_run-requires-clause-mapped c =
-    run_mapped c.args.turn.now.pass c.args.register c.args.value c.args.cell c.args.count c.requires.may
-    c.is_in_order.ensures.history c.requires.run
-    c.quarantine.new.turn.pass c.quarantine.ensures.freed
+    run_mapped c.args.count c.requires.may c.is_in_order.ensures.history c.requires.run c.quarantine.ensures.freed
 
 pub overflow_sub-held : goal.overflow_sub-held
 overflow_sub-held c =
     let found : c.look_at.result ≡ (now_of c.args.turn.now.pass).words.held =
-    c.look_at.ensures.finds ∙ c.clear_run.ensures.clears.held
-    ∙ ap (λ (x : Steady). x.held) (freed_now c.args.turn.now.pass c.quarantine.new.turn.pass c.args.cell
-    c.quarantine.ensures.freed).steady in
-    let sum = held_then c.args.turn.now.pass c.args.register c.args.value c.args.cell c.args.count c.requires.may
-    c.is_in_order.ensures.history c.requires.run in
+    c.look_at.ensures.finds ∙ c.clear_run.ensures.clears.held ∙ ap (λ (x : Steady). x.held)
+    (freed_now c.quarantine.ensures.freed).steady in
+    let sum = held_then c.args.count c.requires.may c.is_in_order.ensures.history c.requires.run in
     omega arith
 
 pub returns-clause-frees : goal.returns-clause-frees
 returns-clause-frees c =
     let p : PassState = c.args.turn.now.pass in
     let found : c.look_at.result ≡ (now_of c.args.turn.now.pass).words.held =
-    c.look_at.ensures.finds ∙ c.clear_run.ensures.clears.held
-    ∙ ap (λ (x : Steady). x.held) (freed_now c.args.turn.now.pass c.quarantine.new.turn.pass c.args.cell
-    c.quarantine.ensures.freed).steady in
-    let sum = held_then p c.args.register c.args.value c.args.cell c.args.count c.requires.may
-    c.is_in_order.ensures.history c.requires.run in
+    c.look_at.ensures.finds ∙ c.clear_run.ensures.clears.held ∙ ap (λ (x : Steady). x.held)
+    (freed_now c.quarantine.ensures.freed).steady in
+    let sum = held_then c.args.count c.requires.may c.is_in_order.ensures.history c.requires.run in
     let taken : c.look_at.result - 64 * c.args.count + 64 * c.args.count ≡ (now_of p).words.held = omega arith in
     let fits : c.look_at.result - 64 * c.args.count < 2 ^ 64 = omega (arith, c.look_at.type_inv) in
     let fresh : c.look_at-fresh.result ≡ (now_of c.look_at-fresh.new.turn.pass).words.fresh =
-    c.look_at-fresh.ensures.finds
-    ∙ sym (ap (λ (x : Steady). x.fresh) (looks_left c.set_tally.new.turn.pass c.look_at-fresh.new.turn.pass
-    c.look_at-fresh.ensures.looks).steady) in
-    frees_large p c.args.register c.args.value c.args.cell c.args.count c.requires.may c.is_in_order.ensures.history
-    c.requires.run
-    c.quarantine.new.turn.pass c.quarantine.ensures.freed c.clear_run.new.turn.pass c.look_at.new.turn.pass
-    c.set_tally.new.turn.pass
-    c.look_at-fresh.new.turn.pass (c.look_at.result - 64 * c.args.count) c.clear_run.ensures.clears
-    c.look_at.ensures.looks c.set_tally.ensures.sets c.look_at-fresh.ensures.looks
-    c.due.result c.look_at-fresh.result c.quarantine.ensures.once c.is_in_order-2.ensures.turn.holds
-    c.is_in_order-3.ensures.turn.holds
+    c.look_at-fresh.ensures.finds ∙ sym (ap (λ (x : Steady). x.fresh)
+    (looks_left c.set_tally.new.turn.pass c.look_at-fresh.new.turn.pass c.look_at-fresh.ensures.looks).steady) in
+    frees_large c.args.count c.requires.may c.is_in_order.ensures.history c.requires.run c.quarantine.ensures.freed
+    c.clear_run.ensures.clears c.look_at.ensures.looks c.set_tally.ensures.sets c.look_at-fresh.ensures.looks
+    c.due.result c.quarantine.ensures.once c.is_in_order-2.ensures.turn.holds c.is_in_order-3.ensures.turn.holds
     c.is_in_order-4.ensures.history taken fresh fits c.due.ensures

@@ -1,7 +1,7 @@
 use Rattle.mk_laws.proofs.Vocabulary.{Seat, ap, arith, refl, sym, ◌+◌, ◌<◌, ◌∙◌}
 use Rattle.mk_objects.proofs.Vocabulary.{PassState, WordsState, all_others, held_from, is_settling}
-use Rattle.mk_objects.proofs.SetGates.{all_yet_held, opened_next, opened_so_far, opens_none, set_acting, set_held}
-use Rattle.mk_objects.proofs.SetGates.{set_phase, set_seat, set_there, sets_more, sets_named}
+use Rattle.mk_objects.proofs.SetGates.{all_yet_held, caller_within, opened_next, opened_so_far, opens_none, set_acting}
+use Rattle.mk_objects.proofs.SetGates.{set_held, set_phase, set_seat, set_there, sets_more, sets_named}
 use Rattle.mk_objects.specs.FreeParts.{no_gate}
 use Rattle.mk_objects.proofs.gates.open_gates.Goals as goal
 
@@ -13,30 +13,22 @@ loop-caller-init c = record {
 }
 
 pub open_other-requires-clause-acting : goal.open_other-requires-clause-acting
-open_other-requires-clause-acting c =
-    set_acting is_settling c.args.turn.now.pass _ _ c.loop-caller.invariant.sets c.requires.acting
+open_other-requires-clause-acting c = set_acting c.loop-caller.invariant.sets c.requires.acting
 
 pub open_other-requires-clause-phase : goal.open_other-requires-clause-phase
-open_other-requires-clause-phase c =
-    set_phase is_settling c.args.turn.now.pass _ _ c.loop-caller.invariant.sets c.requires.phase
+open_other-requires-clause-phase c = set_phase c.loop-caller.invariant.sets c.requires.phase
 
 pub open_other-requires-clause-within : goal.open_other-requires-clause-within
 open_other-requires-clause-within c =
-    let p : PassState = c.args.turn.now.pass in
-    let table = ap (λ (w : WordsState). w.config.callers) c.requires.one_table in
-    let here : c.loop-caller.caller < p.table.config.callers =
-    omega (arith, c.loop-caller-test.true, c.callers-caller-end.ensures) in
-    set_there is_settling p _ _ c.loop-caller.invariant.sets
-    (λ (x : PassState). c.loop-caller.caller < x.table.config.callers) here
+    set_there c.loop-caller.invariant.sets (λ (x : PassState). c.loop-caller.caller < x.table.config.callers)
+    (caller_within c.requires.one_table c.callers-caller-end.ensures c.loop-caller-test.true)
 
 pub open_other-requires-clause-held : goal.open_other-requires-clause-held
 open_other-requires-clause-held c =
-    let p : PassState = c.args.turn.now.pass in
     let n = c.loop-caller.caller in
-    let table = ap (λ (w : WordsState). w.config.callers) c.requires.one_table in
-    let here : n < p.table.config.callers = omega (arith, c.loop-caller-test.true, c.callers-caller-end.ensures) in
-    set_held is_settling p _ _ c.loop-caller.invariant.sets n here ∙ all_yet_held p.seat n
-    ∙ ap (λ (s : Seat). all_others s n) (sym (set_seat is_settling p _ _ c.loop-caller.invariant.sets))
+    set_held c.loop-caller.invariant.sets n (caller_within c.requires.one_table c.callers-caller-end.ensures
+    c.loop-caller-test.true) ∙ all_yet_held c.args.turn.now.pass.seat n
+    ∙ ap (λ (s : Seat). all_others s n) (sym (set_seat c.loop-caller.invariant.sets))
 
 pub loop-caller-preserved : goal.loop-caller-preserved
 loop-caller-preserved c =
@@ -55,7 +47,5 @@ pub returns-clause-sets : goal.returns-clause-sets
 returns-clause-sets c =
     let p : PassState = c.args.turn.now.pass in
     let table = ap (λ (w : WordsState). w.config.callers) c.requires.one_table in
-    sets_named is_settling p c.loop-caller.turn.pass (held_from p.seat c.loop-caller.caller) no_gate
-    c.loop-caller.invariant.sets
-    (λ j lt. opened_so_far p.seat c.loop-caller.caller j
+    sets_named no_gate c.loop-caller.invariant.sets (λ j lt. opened_so_far p.seat c.loop-caller.caller j
     (omega (arith, lt, table, c.loop-caller-test.false, c.callers-caller-end.ensures)))
