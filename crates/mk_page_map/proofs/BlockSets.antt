@@ -27,19 +27,12 @@ place_within class true known = omega arith
 place_within class false known = omega arith
 
 place_of_set : (set : ℕ) → set < 16 → class_place (set % 8) (nat_le 8 set) ≡ set
-place_of_set set block = elim (cases_lt set 8) [
-  | inl low ↦ ap (class_place (set % 8)) (lt-leb 8 set low) ∙ omega arith
-  | inr high ↦ ap (class_place (set % 8)) (le-leb 8 set high)
-      ∙ (let same : 8 + set % 8 ≡ set = omega arith in same)
-]
+place_of_set set block = grind (arith, cases_lt, lt-leb, le-leb)
 
 -- a block's own set
 pub of_own_set : (class : ℕ) (leaf : Bool) (use' : PageUse) → class < 8
     → is_of_set (class_place class leaf) use' ≡ has_free_cell class leaf use'
-of_own_set class leaf use' known =
-    of_block_set (class_place class leaf) use' (place_within class leaf known)
-    ∙ ap (λ c. has_free_cell c (nat_le 8 (class_place class leaf)) use') (class_of_place class leaf known)
-    ∙ ap (λ l. has_free_cell class l use') (sort_of_place class leaf known)
+of_own_set class leaf use' known = grind (arith, of_block_set, place_within, class_of_place, sort_of_place)
 
 pub free_in_own_set : (class : ℕ) (leaf : Bool) (used : ℕ) → class < 8
     → is_of_set (class_place class leaf) (Cells class leaf (bits_of (cells_of class) used))
@@ -57,16 +50,7 @@ same_sorts false b same = sym (not-true b same)
 pub of_other_set : (set class : ℕ) (leaf : Bool) (taken : List Bool) → set < 16 → (set ≡ class_place class leaf → ⊥)
     → is_of_set set (Cells class leaf taken) ≡ false
 of_other_set set class leaf taken block other =
-    let test = nat_eq (set % 8) class && is_same_sort (nat_le 8 set) leaf in
-    of_block_set set (Cells class leaf taken) block
-    ∙ elim (cases_Bool test) [
-      | inl same ↦
-          let parts = and_parts (nat_eq (set % 8) class) (is_same_sort (nat_le 8 set) leaf) same in
-          absurd (other (sym (place_of_set set block)
-          ∙ ap (λ c. class_place c (nat_le 8 set)) (eqb-true (set % 8) class parts.0)
-          ∙ ap (class_place class) (same_sorts (nat_le 8 set) leaf parts.1)))
-      | inr differ ↦ ap (λ cells. is_some (first_where not cells)) (cond-false test taken [] differ)
-    ]
+    grind (arith, of_block_set, and_parts, place_of_set, eqb-true, same_sorts, cond-false)
 
 -- a free page is in no set of blocks
 pub nothing_of_set : (set : ℕ) → set < 16 → is_of_set set Nothing ≡ false
@@ -113,13 +97,7 @@ joined_blocks before after page class place used leaf free known is is_free put 
 
 -- each set of the first 18
 pub each_set : (P : ℕ → Type 0) → ((set : ℕ) → set < 16 → P set) → P 16 → P 17 → (set : ℕ) → set < 18 → P set
-each_set P blocks free in_use set is_set = elim (cases_lt set 16) [
-  | inl block ↦ blocks set block
-  | inr above ↦ elim (cases_eq set 16) [
-    | inl same ↦ subst P (sym same) free
-    | inr other ↦ let last : set ≡ 17 = omega arith in subst P (sym last) in_use
-  ]
-]
+each_set P blocks free in_use set is_set = grind (arith, cases_lt)
 
 -- used words tell blocks of one class and sort apart in their own set alone
 same_elsewhere : (set class : ℕ) (leaf : Bool) (earlier used : ℕ) → set < 18 → (set ≡ class_place class leaf → ⊥)
@@ -159,13 +137,4 @@ pub sorted_alike : (sets : List ℕ) (page class earlier used : ℕ) (leaf : Boo
     → IsInItsSets sets page (use_of_kind (Block class leaf) earlier)
     → IsInItsSets sets page (use_of_kind (Block class leaf) used)
 sorted_alike sets page class earlier used leaf known alike sorted set is_set =
-    sorted set is_set
-    ∙ elim (cases_eq set (class_place class leaf)) [
-      | inl own ↦
-          ap (λ s. is_of_set s (use_of_kind (Block class leaf) earlier)) own
-          ∙ free_in_own_set class leaf earlier known
-          ∙ alike
-          ∙ sym (free_in_own_set class leaf used known)
-          ∙ ap (λ s. is_of_set s (use_of_kind (Block class leaf) used)) (sym own)
-      | inr other ↦ same_elsewhere set class leaf earlier used is_set other
-    ]
+    grind (arith, free_in_own_set, same_elsewhere)

@@ -52,14 +52,7 @@ none_free pages set number is_set few =
 -- of a word the pages that there are
 in_word : (number words pages : ℕ) → number / 64 ≡ words
     → nat_lt (number % 64) (pages - 64 * words) ≡ (nat_lt (number / 64) (words + 1) && nat_lt number pages)
-in_word number words pages here =
-    (elim (cases_lt number pages) [
-      | inl low ↦
-          lt-ltb (number % 64) (pages - 64 * words) (omega arith) ∙ sym (lt-ltb number pages low)
-      | inr high ↦
-          le-ltb (number % 64) (pages - 64 * words) (omega arith) ∙ sym (le-ltb number pages high)
-    ])
-    ∙ sym (ap (λ b. b && nat_lt number pages) (lt-ltb (number / 64) (words + 1) (omega arith)))
+in_word number words pages here = grind (arith, cases_lt, lt-ltb, le-ltb)
 
 -- one word more
 pub one_word_more : (before after : List ℕ) (words pages word : ℕ) → HaveFreeBelow before words pages
@@ -67,47 +60,12 @@ pub one_word_more : (before after : List ℕ) (words pages word : ℕ) → HaveF
     → ((place : ℕ) → place < 64 → nat_eq (bit_at word place) 1 ≡ nat_lt place (pages - 64 * words))
     → HaveFreeBelow after (words + 1) pages
 one_word_more before after words pages word free is stay bits set number is_set few =
-    elim (cases_eq (number / 64) words) [
-      | inl here ↦ elim (cases_eq set 16) [
-        | inl own ↦
-            ap (λ s. is_member after s number) own
-            ∙ ap (λ w. nat_eq (bit_at (word_in_set after 16 w) (number % 64)) 1) here
-            ∙ ap (λ n. nat_eq (bit_at n (number % 64)) 1) is
-            ∙ bits (number % 64) (omega arith)
-            ∙ in_word number words pages here
-            ∙ sym (ap (λ s. nat_eq s 16 && (nat_lt (number / 64) (words + 1) && nat_lt number pages)) own)
-        | inr other ↦
-            ap (λ n. nat_eq (bit_at n (number % 64)) 1)
-            (stay set (number / 64) (omega arith) (λ same _. other same))
-            ∙ free set number is_set few
-            ∙ and_left (nat_eq set 16) (nat_lt (number / 64) words && nat_lt number pages) (ne_eqb set 16 other)
-            ∙ sym (and_left (nat_eq set 16) (nat_lt (number / 64) (words + 1) && nat_lt number pages)
-            (ne_eqb set 16 other))
-      ]
-      | inr differ ↦
-          ap (λ n. nat_eq (bit_at n (number % 64)) 1)
-          (stay set (number / 64) (omega arith) (λ _ same. differ same))
-          ∙ free set number is_set few
-          ∙ ap (λ t. nat_eq set 16 && (t && nat_lt number pages)) (later (number / 64) words differ)
-    ]
-  where
-    later : (n m : ℕ) → (n ≡ m → ⊥) → nat_lt n m ≡ nat_lt n (m + 1)
-    later n m differ = elim (cases_lt n m) [
-      | inl low ↦ lt-ltb n m low ∙ sym (lt-ltb n (m + 1) (omega arith))
-      | inr high ↦ le-ltb n m high ∙ sym (le-ltb n (m + 1) (omega arith))
-    ]
+    grind (arith, in_word, and_left, ne_eqb, cases_lt, lt-ltb, le-ltb)
 
 -- all words that have a page
 pub all_free : (sets : List ℕ) (words pages : ℕ) → pages ≤ 64 * words → HaveFreeBelow sets words pages
     → HaveFree sets pages
-all_free sets words pages enough free set number is_set few =
-    free set number is_set few
-    ∙ ap (λ t. nat_eq set 16 && t) (elim (cases_lt number pages) [
-      | inl low ↦ ap (λ b. b && nat_lt number pages) (lt-ltb (number / 64) words (omega arith))
-      | inr high ↦
-          and_right (nat_lt (number / 64) words) (nat_lt number pages) (le-ltb number pages high)
-          ∙ sym (le-ltb number pages high)
-    ])
+all_free sets words pages enough free set number is_set few = grind (arith, cases_lt, lt-ltb, and_right, le-ltb)
 
 -- what a Vec holds after a write through its slice
 pub written : (new old : List ℕ) (n : ℕ) → length new ≡ n → take n (new ++ drop (length new) old) ≡ new

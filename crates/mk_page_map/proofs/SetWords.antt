@@ -105,28 +105,11 @@ stored_are_sets sets s word bits summary stores =
 pub put_other_set : (before after : List ℕ) (s page other : ℕ) → page < 4096
     → OtherWordsStay before after s (page / 64) → (other ≡ s → ⊥)
     → is_member after other page ≡ is_member before other page
-put_other_set before after s page other is_page stay differ =
-    ap (λ n. nat_eq (bit_at n (page % 64)) 1) (stay other (page / 64) (omega arith) (λ same _. differ same))
+put_other_set before after s page other is_page stay differ = grind (arith, same)
 
 pub put_other_pages : (before after : List ℕ) (s page bits : ℕ) → page < 4096
     → word_in_set after s (page / 64) ≡ bits → OtherWordsStay before after s (page / 64)
     → ((k : ℕ) → (k ≡ page % 64 → ⊥) → bit_at bits k ≡ bit_at (word_in_set before s (page / 64)) k)
     → OthersStay before after page
 put_other_pages before after s page bits is_page is stay others_stay other number is_set is_number differ =
-    elim (cases_eq (number / 64) (page / 64)) [
-      | inl one_word ↦ elim (cases_eq other s) [
-        | inl same ↦
-            ap (λ t. is_member after t number) same
-            ∙ ap (λ w. nat_eq (bit_at (word_in_set after s w) (number % 64)) 1) one_word
-            ∙ ap (λ n. nat_eq (bit_at n (number % 64)) 1) is
-            ∙ ap (λ b. nat_eq b 1) (others_stay (number % 64) (λ same_bit. differ (omega arith)))
-            ∙ ap (λ w. nat_eq (bit_at (word_in_set before s w) (number % 64)) 1) (sym one_word)
-            ∙ ap (λ t. is_member before t number) (sym same)
-        | inr others ↦
-            ap (λ n. nat_eq (bit_at n (number % 64)) 1)
-            (stay other (number / 64) (omega arith) (λ same _. others same))
-      ]
-      | inr words ↦
-          ap (λ n. nat_eq (bit_at n (number % 64)) 1)
-          (stay other (number / 64) (omega arith) (λ _ here. words here))
-    ]
+    grind (arith, same)

@@ -15,15 +15,12 @@ known_by pages sets =
 
 pub member_at : (sets : List ℕ) (s count number : ℕ) → number < count
     → get_or (members sets s count) number false ≡ is_member sets s number
-member_at sets s count number within =
-    get_or-map-range_with_len (is_member sets s) 0 count number number false within (omega arith)
+member_at sets s count number within = grind (arith, get_or-map-range_with_len)
 
 pub member_of_freed : (held pages : List Page) (sets freed : List ℕ)
     → Shows (known_by held sets) pages freed → (number : ℕ) → number < length pages
     → is_member sets 18 number ≡ has_freed_cells freed number
-member_of_freed held pages sets freed shows number within =
-    let long : length held ≡ length pages = ap length shows.page_by_page in
-    sym (member_at sets 18 (length held) number (omega arith)) ∙ shows.quarantined number within
+member_of_freed held pages sets freed shows number within = grind (arith, member_at)
 
 -- where a page's header or used word changes, and its quarantine stays
 pub changed_shows : (held pages : List Page) (sets after freed : List ℕ) (page : ℕ) (now : Page)
@@ -37,10 +34,7 @@ changed_shows held pages sets after freed page now few others same_sets shows =
     let pages_long : length (set pages page now) ≡ length pages = length-set pages page now in
     let stays : (s number : ℕ) → 18 ≤ s → s < 19 → number < length pages
     → is_member after s number ≡ is_member sets s number
-    = λ s number quarantine is_set within. elim (cases_eq number page) [
-      | inl same ↦ ap (is_member after s) same ∙ same_sets s quarantine is_set ∙ ap (is_member sets s) (sym same)
-      | inr differ ↦ others s number (omega arith) (omega arith) differ
-    ] in
+    = grind arith in
     record {
       page_by_page = ap (λ ps. set ps page now) shows.page_by_page;
       freed_words = shows.freed_words ∙ sym pages_long;

@@ -21,13 +21,7 @@ pub record Stores (held : List Page) (sets slice after : List ℕ) (resident pag
 
 changes_of : (held : List Page) (sets slice after : List ℕ) (resident page : ℕ) (now : Page)
     → Stores held sets slice after resident page now → Changes held sets after page now
-changes_of held sets slice after resident page now stores =
-    record {
-      within = stores.within;
-      are_sets = stores.are_sets;
-      sorted = stores.sorted;
-      others = subst (λ (xs : List ℕ). OthersStay xs after page) stores.is_slice stores.others;
-    }
+changes_of held sets slice after resident page now stores = grind arith
 
 pub store_fits : (held : List Page) (sets slice after vec : List ℕ) (resident count page : ℕ) (now : Page)
     → Stores held sets slice after resident page now → vec ≡ after
@@ -57,8 +51,7 @@ store_shows known held pages sets slice after vec freed resident page now stored
 -- a page of the map, and its words as they were read
 pub page_within : (known : KnownPages) (held : List Page) (sets : List ℕ) (page : ℕ) → known_by held sets ≡ known
     → page < length known.pages → page < length held
-page_within known held sets page view within =
-    subst (λ (k : KnownPages). page < length k.pages) (sym view) within
+page_within known held sets page view within = grind arith
 
 pub page_read : (held : List Page) (page : ℕ) (found : Page) → page < length held
     → found ≡ slice_index_or held page found → found ≡ page_at held page
@@ -72,8 +65,7 @@ byte_is false = refl
 pub resident_byte : (page : Page) (is_resident : Bool) (byte : ℕ)
     → ((used : ℕ) → is_resident_page (use_under (header_of page.header) used) ≡ is_resident)
     → byte ≡ from_bool is_resident → byte ≡ resident_one page
-resident_byte page is_resident byte resident is =
-    is ∙ byte_is is_resident ∙ ap (λ b. cond b 1 0) (sym (resident page.used))
+resident_byte page is_resident byte resident is = grind (arith, byte_is)
 
 -- one page more or less
 pub counted_anew : (held : List Page) (page resident was is : ℕ) (now : Page) → page < length held
@@ -93,9 +85,4 @@ pub same_count : (held : List Page) (resident page : ℕ) (found : Page) (used :
     → found ≡ page_at held page → ((n : ℕ) → use_under (header_of found.header) n ≡ use_of_kind kind n)
     → resident + resident_one (page_at held page)
     ≡ resident + resident_one (record { header = found.header; used = used })
-same_count held resident page found used kind is is_kind =
-    ap (λ p. resident + resident_one p) (sym is)
-    ∙ ap (λ b. resident + cond b 1 0)
-    (ap is_resident_page (is_kind found.used)
-    ∙ resident_by_kind kind found.used used
-    ∙ sym (ap is_resident_page (is_kind used)))
+same_count held resident page found used kind is is_kind = grind (arith, resident_one, resident_by_kind)

@@ -23,11 +23,7 @@ uncleaned_past held sets number past =
 pub uncleaned_alike : (held now : List Page) (sets after : List ℕ) (number : ℕ) → length now ≡ length held
     → (number < length held → is_member after 19 number ≡ is_member sets 19 number)
     → is_uncleaned (known_by now after) number ≡ is_uncleaned (known_by held sets) number
-uncleaned_alike held now sets after number long same = elim (cases_lt number (length held)) [
-  | inl within ↦
-      uncleaned_at now after number (omega arith) ∙ same within ∙ sym (uncleaned_at held sets number within)
-  | inr past ↦ uncleaned_past now after number (omega arith) ∙ sym (uncleaned_past held sets number past)
-]
+uncleaned_alike held now sets after number long same = grind (arith, cases_lt, uncleaned_at, uncleaned_past)
 
 pub uncleaned_others : (held now : List Page) (sets after : List ℕ) (page number : ℕ) → length now ≡ length held
     → length held ≤ 4096 → OthersStay sets after page → (number ≡ page → ⊥)
@@ -98,8 +94,7 @@ others_uncleaned known held sets slice after vec resident page number r written 
 
 pub this_uncleaned : (held : List Page) (after vec : List ℕ) (page : ℕ) (inside : Bool) → page < length held
     → vec ≡ after → is_member after 19 page ≡ inside → is_uncleaned (known_by held vec) page ≡ inside
-this_uncleaned held after vec page inside within written put =
-    ap (λ xs. is_uncleaned (known_by held xs) page) written ∙ uncleaned_at held after page within ∙ put
+this_uncleaned held after vec page inside within written put = grind (arith, known_by, uncleaned_at)
 
 -- a store of a word of a page: what the set has of other pages, and of this one where it stays there
 
@@ -137,8 +132,4 @@ pub next_of_uncleaned : (known : KnownPages) (held : List Page) (sets slice : Li
     (next : Option ℕ) → Reads known held sets slice resident count
     → IsNext (is_member slice 19) from count next → IsNext (is_uncleaned known) from (length known.pages) next
 next_of_uncleaned known held sets slice resident count from next reads found =
-    subst (λ (k : KnownPages). IsNext (is_uncleaned k) from (length k.pages) next) reads.view
-    (same_next (is_member slice 19) (is_uncleaned (known_by held sets)) from (length held) next
-    (λ number within.
-    ap (λ xs. is_member xs 19 number) reads.is_slice ∙ sym (uncleaned_at held sets number within))
-    (subst (λ (n : ℕ). IsNext (is_member slice 19) from n next) reads.is_count found))
+    grind (arith, same_next, known_by, uncleaned_at)

@@ -58,13 +58,4 @@ loop-number-preserved c =
     ]
 
 pub returns-then-resident-count : goal.returns-then-resident-count
-returns-then-resident-count c =
-    let before = c.loop-number.invariant in
-    let known : c.loop-number.first ≡ range_start c.args.count (uses_of_pages c.args.pages.now)
-    = sym (first-end c.loop-number.first c.loop-number.range c.args.count c.args.pages.now (omega arith)
-    (λ none. omega (arith, before.short none)))
-    ∙ before.first in
-    let resident : c.loop-number.resident ≡ resident_pages (uses_of_pages c.args.pages.now)
-    = omega (arith, before.resident, resident_from-end c.loop-number.number c.args.pages.now c.loop-number-test.false)
-    in
-    grind (arith, common_steps, known, resident)
+returns-then-resident-count c = grind (arith, first-end, resident_from-end, common_steps)

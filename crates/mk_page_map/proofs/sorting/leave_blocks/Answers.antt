@@ -11,5 +11,4 @@ returns-in-Block-clause-left c =
     (subst (λ (k : PageKind). IsInItsSets c.args.sets.now c.args.page (use_of_kind k used)) c.in-Block.is sorted)
 
 pub returns-in-Block-clause-other_sets : goal.returns-in-Block-clause-other_sets
-returns-in-Block-clause-other_sets c set above is_set =
-    c.put.ensures.other_sets set is_set (λ same. absurd (omega (arith, c.block_set.ensures.within)))
+returns-in-Block-clause-other_sets c set above is_set = grind arith

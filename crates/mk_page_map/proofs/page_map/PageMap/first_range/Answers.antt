@@ -8,10 +8,7 @@ use Rattle.mk_page_map.proofs.page_map.PageMap.first_range.Goals.{After-unwrap_o
 use Rattle.mk_page_map.proofs.page_map.PageMap.first_range.Goals as goal
 
 pub returns-then-count-eq1 : goal.returns-then-count-eq1
-returns-then-count-eq1 c pages freed shows =
-    c.first_free.ensures pages freed shows
-    ∙ lowest_page_is_range (uses_of_pages pages)
-    ∙ ap (λ n. range_start n (uses_of_pages pages)) (sym c.if-count-eq1.true)
+returns-then-count-eq1 c pages freed shows = grind (arith, lowest_page_is_range)
 
 pub next_page-requires-clause-no_others : goal.next_page-requires-clause-no_others
 next_page-requires-clause-no_others c =
@@ -75,11 +72,7 @@ range c =
 from_there : (c : After-unwrap_or-end)
     → range_start_from c.in-Some.start c.args.count c.self.inside.pages.items
     ≡ range_start c.args.count (uses_of_pages c.self.inside.pages.items)
-from_there c =
-    let within : c.in-Some.start < length c.self.inside.pages.items = (found c).1 in
-    sym (past_pages_in_use c.loop-start.from c.in-Some.start c.args.count c.self.inside.pages.items c.requires
-    (found c).0 (omega arith) (found c).3)
-    ∙ c.loop-start.invariant.rest
+from_there c = grind (arith, found, past_pages_in_use)
 
 pub returns-then-end-start : goal.returns-then-end-start
 returns-then-end-start c pages freed shows =
@@ -90,14 +83,7 @@ returns-then-end-start c pages freed shows =
     ∙ ap (λ ps. range_start c.args.count (uses_of_pages ps)) (ap (λ k. k.pages) c.self.view_is ∙ shows.page_by_page)
 
 pub loop-start-smaller : goal.loop-start-smaller
-loop-start-smaller c =
-    let x = (goal.at.loop-start-smaller c).After-unwrap_or-end in
-    let within : c.unwrap_or-end.result ≤ length c.self.inside.pages.items = (range x).within in
-    let after : c.in-Some.start < c.unwrap_or-end.result = (range x).ends_after in
-    let before : c.loop-start.from ≤ c.in-Some.start = (found x).0 in
-    let count : c.len-pages.result ≡ length c.self.inside.pages.items =
-    omega (arith, c.len-pages.ensures, c.self.inside.pages.ok.0) in
-    omega arith
+loop-start-smaller c = grind (arith, range, found)
 
 pub loop-start-preserved : goal.loop-start-preserved
 loop-start-preserved c =

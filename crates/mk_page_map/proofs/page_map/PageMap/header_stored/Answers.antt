@@ -12,38 +12,19 @@ abbrev now : After-from → Page
 now c = record { header = c.args.header; used = c.index.result.now.used }
 
 within : (c : After-from) → c.args.page < length c.self.inside.pages.items
-within c = page_within c.args.self.now c.self.inside.pages.items c.self.inside.sets.items c.args.page c.self.view_is
-    c.requires
+within c = grind (arith, page_within)
 
 stores : (c : After-from)
     → Stores c.self.inside.pages.items c.self.inside.sets.items c.deref_mut.result.now c.sort_by_header.new.sets
     c.self.inside.resident c.args.page (now c)
-stores c =
-    record {
-      fit = c.self.invariant;
-      within = within c;
-      is_slice = c.deref_mut.ensures.value;
-      are_sets = c.sort_by_header.ensures.sets;
-      sorted = λ s is_set.
-          c.sort_by_header.ensures.sorted s is_set
-          ∙ ap (is_of_set s) (sym (c.kind_of-after.ensures.kind c.index.result.now.used));
-      quarantine = c.sort_by_header.ensures.other_sets;
-      others = c.sort_by_header.ensures.other_pages;
-    }
+stores c = grind (arith, within)
 
 was_counted : (c : After-from)
     → c.from-was_resident.result ≡ resident_one (page_at c.self.inside.pages.items c.args.page)
-was_counted c =
-    resident_byte c.index.result.now c.is_resident.result c.from-was_resident.result
-    (λ used. ap is_resident_page (c.kind_of-before.ensures.kind used) ∙ c.is_resident.ensures used)
-    c.from-was_resident.ensures
-    ∙ ap resident_one
-    (page_read c.self.inside.pages.items c.args.page c.index.result.now (within c) c.index.ensures)
+was_counted c = grind (arith, resident_byte, resident_one, page_read, within)
 
 is_counted : (c : After-from) → c.from.result ≡ resident_one (now c)
-is_counted c =
-    resident_byte (now c) c.is_resident-2.result c.from.result
-    (λ used. ap is_resident_page (c.kind_of-after.ensures.kind used) ∙ c.is_resident-2.ensures used) c.from.ensures
+is_counted c = grind (arith, resident_byte, now)
 
 enough : (c : After-from) → c.from-was_resident.result ≤ c.self.inside.resident + c.from.result
 enough c =
@@ -57,14 +38,7 @@ same_sets : (c : After-from)
     → take c.self.inside.sets.len
     (c.sort_by_header.new.sets ++ drop (length c.sort_by_header.new.sets) c.self.inside.sets.items)
     ≡ c.sort_by_header.new.sets
-same_sets c =
-    written c.sort_by_header.new.sets c.self.inside.sets.items c.self.inside.sets.len
-    (omega (
-      arith,
-      c.sort_by_header.ensures.sets.long,
-      (c.self.invariant.are_sets (omega (arith, within c))).long,
-      c.self.inside.sets.ok.0,
-    ))
+same_sets c = grind (arith, written, within)
 
 pub invariant_of-self : goal.invariant_of-self
 invariant_of-self c =

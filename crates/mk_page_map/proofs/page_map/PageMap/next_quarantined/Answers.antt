@@ -16,16 +16,4 @@ next_page-requires-clause-no_others c =
     (omega arith)
 
 pub returns : goal.returns
-returns c pages freed shows =
-    next_of_quarantine c.args.self.now c.self.inside.pages.items pages c.self.inside.sets.items c.deref.result.now
-    freed c.self.inside.resident c.len.result 18 c.args.from (has_freed_cells freed) c.next_page.result
-    (record {
-      reads = record {
-        view = c.self.view_is;
-        fit = c.self.invariant;
-        is_slice = c.deref.ensures.value;
-        is_count = omega (arith, c.len.ensures, c.self.inside.pages.ok.0);
-      };
-      shows = shows;
-    })
-    (member_of_freed c.self.inside.pages.items pages c.self.inside.sets.items freed) c.next_page.ensures
+returns c pages freed shows = grind (arith, next_of_quarantine, member_of_freed)

@@ -15,13 +15,4 @@ next_page-requires-clause-no_others c =
     (omega arith)
 
 pub returns : goal.returns
-returns c =
-    next_of_uncleaned c.args.self.now c.self.inside.pages.items c.self.inside.sets.items c.deref.result.now
-    c.self.inside.resident c.len.result c.args.from c.next_page.result
-    (record {
-      view = c.self.view_is;
-      fit = c.self.invariant;
-      is_slice = c.deref.ensures.value;
-      is_count = omega (arith, c.len.ensures, c.self.inside.pages.ok.0);
-    })
-    c.next_page.ensures
+returns c = grind (arith, next_of_uncleaned)

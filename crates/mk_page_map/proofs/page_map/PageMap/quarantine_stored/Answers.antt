@@ -6,27 +6,17 @@ use Rattle.mk_page_map.proofs.{Fitting.fit_again, FreeSets.written, Storing.page
 use Rattle.mk_page_map.proofs.page_map.PageMap.quarantine_stored.Goals as goal
 
 within : (c : After-sort_by_quarantine) → c.args.page < length c.self.inside.pages.items
-within c = page_within c.args.self.now c.self.inside.pages.items c.self.inside.sets.items c.args.page c.self.view_is
-    c.requires
+within c = grind (arith, page_within)
 
 same_sets : (c : After-sort_by_quarantine)
     → take c.self.inside.sets.len
     (c.sort_by_quarantine.new.sets ++ drop (length c.sort_by_quarantine.new.sets) c.self.inside.sets.items)
     ≡ c.sort_by_quarantine.new.sets
-same_sets c =
-    written c.sort_by_quarantine.new.sets c.self.inside.sets.items c.self.inside.sets.len
-    (omega (
-      arith,
-      c.sort_by_quarantine.ensures.sets.long,
-      (c.self.invariant.are_sets (omega (arith, within c))).long,
-      c.self.inside.sets.ok.0,
-    ))
+same_sets c = grind (arith, written, within)
 
 others : (c : After-sort_by_quarantine)
     → OthersStay c.self.inside.sets.items c.sort_by_quarantine.new.sets c.args.page
-others c =
-    subst (λ (xs : List ℕ). OthersStay xs c.sort_by_quarantine.new.sets c.args.page) c.deref_mut.ensures.value
-    c.sort_by_quarantine.ensures.other_pages
+others c = grind arith
 
 pub invariant_of-self : goal.invariant_of-self
 invariant_of-self c =
@@ -50,9 +40,4 @@ returns-clause-shows c pages freed_words shows =
     c.sort_by_quarantine.ensures.quarantined before)
 
 pub returns-clause-uncleaned : goal.returns-clause-uncleaned
-returns-clause-uncleaned c number =
-    let x = (goal.at.returns-clause-uncleaned c).After-sort_by_quarantine in
-    all_kept c.args.self.now c.self.inside.pages.items c.self.inside.pages.items c.self.inside.sets.items
-    c.deref_mut.result.now c.sort_by_quarantine.new.sets _ c.args.page number c.self.view_is c.deref_mut.ensures.value
-    (same_sets x) refl c.self.invariant.few c.sort_by_quarantine.ensures.other_pages
-    c.sort_by_quarantine.ensures.uncleaned
+returns-clause-uncleaned c number = grind (arith, all_kept, same_sets)

@@ -9,50 +9,24 @@ abbrev now : After-sort_by_used → Page
 now c = record { header = c.index.result.now.header; used = c.args.used }
 
 within : (c : After-sort_by_used) → c.args.page < length c.self.inside.pages.items
-within c = page_within c.args.self.now c.self.inside.pages.items c.self.inside.sets.items c.args.page c.self.view_is
-    c.requires
+within c = grind (arith, page_within)
 
 read : (c : After-sort_by_used) → c.index.result.now ≡ page_at c.self.inside.pages.items c.args.page
 read c = page_read c.self.inside.pages.items c.args.page c.index.result.now (within c) c.index.ensures
 
 pub sort_by_used-requires-clause-sorted : goal.sort_by_used-requires-clause-sorted
-sort_by_used-requires-clause-sorted c s is_set =
-    let inside = page_within c.args.self.now c.self.inside.pages.items c.self.inside.sets.items c.args.page
-    c.self.view_is c.requires in
-    let is = page_read c.self.inside.pages.items c.args.page c.index.result.now inside c.index.ensures in
-    ap (λ xs. is_member xs s c.args.page) c.deref_mut.ensures.value
-    ∙ c.self.invariant.sorted c.args.page inside s is_set
-    ∙ ap (λ (p : Page). is_of_set s (use_of_page p)) (sym is)
-    ∙ ap (is_of_set s) (c.kind_of.ensures.kind c.index.result.now.used)
+sort_by_used-requires-clause-sorted c s is_set = grind (arith, page_within, page_read)
 
 stores : (c : After-sort_by_used)
     → Stores c.self.inside.pages.items c.self.inside.sets.items c.deref_mut.result.now c.sort_by_used.new.sets
     c.self.inside.resident c.args.page (now c)
-stores c =
-    record {
-      fit = c.self.invariant;
-      within = within c;
-      is_slice = c.deref_mut.ensures.value;
-      are_sets = c.sort_by_used.ensures.sets;
-      sorted = λ s is_set.
-          c.sort_by_used.ensures.sorted s is_set
-          ∙ ap (is_of_set s) (sym (c.kind_of.ensures.kind c.args.used));
-      quarantine = λ s low high. c.sort_by_used.ensures.other_sets s low (omega arith);
-      others = c.sort_by_used.ensures.other_pages;
-    }
+stores c = grind (arith, within)
 
 same_sets : (c : After-sort_by_used)
     → take c.self.inside.sets.len
     (c.sort_by_used.new.sets ++ drop (length c.sort_by_used.new.sets) c.self.inside.sets.items)
     ≡ c.sort_by_used.new.sets
-same_sets c =
-    written c.sort_by_used.new.sets c.self.inside.sets.items c.self.inside.sets.len
-    (omega (
-      arith,
-      c.sort_by_used.ensures.sets.long,
-      (c.self.invariant.are_sets (omega (arith, within c))).long,
-      c.self.inside.sets.ok.0,
-    ))
+same_sets c = grind (arith, written, within)
 
 pub invariant_of-self : goal.invariant_of-self
 invariant_of-self c =
