@@ -38,19 +38,7 @@ is_free c m seat f _ h = cc
 enabled_for : (c : Config) (m : Moment) (k : ℕ) (s : Step) → k < c.callers → group_of s ≡ Group.Callers
     → comes_next (flight_of m (Caller k)).stage (flight_of m (Caller k)).op s ≡ true
     → is_in_range c (Caller k) (flight_of m (Caller k)) s ≡ true → IsEnabled c m (record { seat = Caller k; step = s })
-enabled_for c m k s lt kind next range =
-    let free = is_free c m (Caller k) (flight_of m (Caller k)) s kind in
-    meets_enabled c m (record { seat = Caller k; step = s })
-    (record {
-      seat = lt-ltb k c.callers lt;
-      kind = subst (λ (g : Group). Rattle.mk_core.specs.Order.is_open_to (Caller k) g ≡ true) (sym kind) refl;
-      order = next;
-      range = range;
-      gates = free.gates;
-      phase = free.phase;
-      marker = free.marker;
-      holder = free.holder;
-    })
+enabled_for c m k s lt kind next range = grind (arith, is_free, meets_enabled, lt-ltb)
 
 -- The next step of a call is enabled, where its argument is in range.
 pub enabled : (p : PassState) (s : Step) (k : ℕ) → p.seat ≡ Caller k → k < p.table.config.callers
@@ -69,11 +57,7 @@ entry_admitted : (globals : List ℕ) (n : NeverState) (k : ℕ) (o : Op) (a : O
     → IsAdmitted globals n k o
     → AreAdmitted globals n (asked (entry_of k o a))
 entry_admitted globals n k o None h ad = tt
-entry_admitted globals n k o (Some a) h ad = (
-  subst (λ (y : Op). IsAdmitted globals n k y) (sym (flagged_same o a h))
-      ad,
-  tt,
-)
+entry_admitted globals n k o (Some a) h ad = grind (arith, flagged_same)
 
 pub admitted : (p : PassState) (s : Step) → IsHistory p.table.config p.seen → IsEnabledTo p s
     → is_under_turn (call_of p).op ≡ false
@@ -93,21 +77,13 @@ idly_admitted p s h on none =
 
 pub put_decides_nothing : (p : PassState) (k : ℕ) → p.seat ≡ Caller k → (call_of p).stage ≡ Stage.Put
     → answer_decided p.table.config (now_of p) (event_of p Step.Reg) ≡ None
-put_decides_nothing p k is put =
-    subst
-    (λ (t : Seat). (flight_of (now_of p) t).stage ≡ Stage.Put
-    → answer_decided p.table.config (now_of p) (record { seat = t; step = Step.Reg }) ≡ None) (sym is)
-    (λ (e : (flight_of (now_of p) (Caller k)).stage ≡ Stage.Put).
-    ap (λ (s : Stage). (progress_reg (flight_of (now_of p) (Caller k)) s
-    (found p.table.config (now_of p) (record { seat = Caller k; step = Step.Reg }))).answer) e) put
+put_decides_nothing p k is put = grind arith
 
 -- the operands
 
 six : (a b d e f g : Bool) → a ≡ true → b ≡ true → d ≡ true → e ≡ true → f ≡ true → g ≡ true
     → (a && b && d && e && f && g) ≡ true
-six a b d e f g ha hb hd he hf hg =
-    and_from (a && b && d && e && f) g (and_from (a && b && d && e) f
-    (and_from (a && b && d) e (and_from (a && b) d (and_from a b ha hb) hd) he) hf) hg
+six a b d e f g ha hb hd he hf hg = grind (arith, and_from)
 
 below : (x n : ℕ) → x < n → nat_lt x n ≡ true
 below x n lt = lt-ltb x n lt
@@ -116,23 +92,15 @@ operands : (c : Config) (n : NeverState) (o : Op) → length n.globals ≡ 64 �
     → OperandsAreInRange n o → has_operands c o ≡ true
 operands c n (Op.GetNum q i) g u h = six (nat_lt q 8) _ _ _ _ _ (below q 8 h) refl refl refl refl refl
 operands c n (Op.SetNum q i m) g u h = six (nat_lt q 8) _ _ _ _ _ (below q 8 h) refl refl refl refl refl
-operands c n (Op.GetPtr d q i) g u h = six (nat_lt q 8) _ _ (nat_lt d 8) _ _ (below q 8 h.1) refl refl (below d 8 h.0)
-    refl refl
-operands c n (Op.SetPtr q i p) g u h = six (nat_lt q 8) (nat_lt p 8) _ _ _ _ (below q 8 h.0) (below p 8 h.1) refl refl
-    refl refl
-operands c n (Op.CasPtr q i p r) g u h = six (nat_lt q 8) (nat_lt p 8) (nat_lt r 8) _ _ _ (below q 8 h.0)
-    (below p 8 h.1) (below r 8 h.2) refl refl refl
-operands c n (Op.Lea d q i) g u h = six (nat_lt q 8) _ _ (nat_lt d 8) _ _ (below q 8 h.1) refl refl (below d 8 h.0)
-    refl refl
-operands c n (Op.Move d q) g u h = six (nat_lt q 8) _ _ (nat_lt d 8) _ _ (below q 8 h.1) refl refl (below d 8 h.0)
-    refl refl
+operands c n (Op.GetPtr d q i) g u h = grind (arith, six, below)
+operands c n (Op.SetPtr q i p) g u h = grind (arith, six, below)
+operands c n (Op.CasPtr q i p r) g u h = grind (arith, six, below)
+operands c n (Op.Lea d q i) g u h = grind (arith, six, below)
+operands c n (Op.Move d q) g u h = grind (arith, six, below)
 operands c n (Op.Clear d) g u h = six _ _ _ (nat_lt d 8) _ _ refl refl refl (below d 8 h) refl refl
-operands c n (Op.GetGlobal d x) g u h = six _ _ _ (nat_lt d 8) (nat_lt x 64) _ refl refl refl (below d 8 h.0)
-    (below x 64 (omega arith)) refl
-operands c n (Op.SetGlobal x p) g u h = six _ (nat_lt p 8) _ _ (nat_lt x 64) _ refl (below p 8 h.1) refl refl
-    (below x 64 (omega arith)) refl
-operands c n (Op.Same p q) g u h = six (nat_lt q 8) (nat_lt p 8) _ _ _ _ (below q 8 h.1) (below p 8 h.0) refl refl
-    refl refl
+operands c n (Op.GetGlobal d x) g u h = grind (arith, six, below)
+operands c n (Op.SetGlobal x p) g u h = grind (arith, six, below)
+operands c n (Op.Same p q) g u h = grind (arith, six, below)
 operands c n (Op.IsNull p) g u h = six _ (nat_lt p 8) _ _ _ _ refl (below p 8 h) refl refl refl refl
 operands c n (Op.New d ty full) g u h = cc
 operands c n (Op.Free p) g u h = cc
@@ -140,8 +108,7 @@ operands c n (Op.Free p) g u h = cc
 pub caller_exists : (p : PassState) (o : Op) (k : ℕ) → IsHistory p.table.config p.seen → p.seat ≡ Caller k
     → Admits p o → k < p.table.config.callers
 caller_exists p o k h is ad =
-    let has : IsCaller (never_of p) k = subst (λ (j : ℕ). IsCaller (never_of p) j)
-    (ap (λ (s : Seat). caller_number s) is) ad.of_a_caller in
+    let has : IsCaller (never_of p) k = grind arith in
     let count = (stands p.table.config p.seen h).all.mirrors.register_count in
     omega arith
 
@@ -157,22 +124,8 @@ enter_enabled p o h ready =
 -- A register of the call in flight is one of the eight.
 pub met_is_small : (p : PassState) (s : Stage) → IsHistory p.table.config p.seen → register_met (call_of p) s < 8
 met_is_small p s h =
-    let has : has_operands p.table.config (call_of p).op ≡ true = seat_operands p.table.config (now_of p) p.seat
-    (stands p.table.config p.seen h).known.now in
+    let has : has_operands p.table.config (call_of p).op ≡ true = grind (arith, seat_operands, stands) in
     by (call_of p) s has
   where
     by : (f : Flight) (s : Stage) → has_operands p.table.config f.op ≡ true → register_met f s < 8
-    by f s has =
-        let types = and_parts _ (has_type p.table.config f.op) has in
-        let global = and_parts _ (nat_lt (g_of f.op) 64) types.0 in
-        let four = and_parts _ (nat_lt (d_of f.op) 8) global.0 in
-        let three = and_parts _ (nat_lt (r_of f.op) 8) four.0 in
-        let two = and_parts (nat_lt (q_of f.op) 8) (nat_lt (p_of f.op) 8) three.0 in
-        at s (ltb-true (q_of f.op) 8 two.0) (ltb-true (p_of f.op) 8 two.1) (ltb-true (r_of f.op) 8 three.1)
-        (ltb-true (d_of f.op) 8 four.1)
-      where
-        at : (s : Stage) → q_of f.op < 8 → p_of f.op < 8 → r_of f.op < 8 → d_of f.op < 8 → register_met f s < 8
-        at Stage.LoadQ q p r d = q
-        at Stage.LoadP q p r d = p
-        at Stage.LoadR q p r d = r
-        at _ q p r d = d
+    by f s has = grind (arith, and_parts, ltb-true)

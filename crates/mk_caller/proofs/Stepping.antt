@@ -34,78 +34,45 @@ module _ {p : PassState} (u : IsUnderway p) where
   admitted_step s undecided on = admitted p s u.pass.history on u.entered (u.admits undecided)
 
   pub may_load : loads_register (call_of p).stage ≡ true → IsAdmittedTo p Step.Reg
-  may_load is =
-      admitted_step Step.Reg (load_undecided (call_of p).stage is).0
-      (enabled_step Step.Reg refl (load_comes (call_of p).stage (call_of p).op is) refl)
+  may_load is = grind (arith, admitted_step, load_undecided, enabled_step, load_comes)
 
   pub may_store : stores_register (call_of p).stage ≡ true → IsAdmittedTo p Step.Reg
-  may_store is = by (call_of p).stage refl is
-    where
-      by : (s : Stage) → (call_of p).stage ≡ s → stores_register s ≡ true → IsAdmittedTo p Step.Reg
-      by Stage.Store e is =
-          admitted_step Step.Reg (ap (λ (s : Stage). is_past_decision s) e)
-          (enabled_step Step.Reg refl (ap (λ (s : Stage). comes_next s (call_of p).op Step.Reg) e) refl)
-      by Stage.Put e is =
-          idly_admitted p Step.Reg u.pass.history
-          (enabled_step Step.Reg refl (ap (λ (s : Stage). comes_next s (call_of p).op Step.Reg) e) refl)
-          (put_decides_nothing p u.caller u.seat e)
-      by _ e is = cc
+  may_store is = grind (arith, admitted_step, enabled_step, idly_admitted, put_decides_nothing)
 
   pub null_is : (r : ℕ) → loads_register (call_of p).stage ≡ true → r ≡ register_met (call_of p) (call_of p).stage
       → (register_of p r ≡ 0) ↔ (value_of p r ≡ Null)
-  null_is r is met =
-      null_tells p u.caller r u.seat u.pass.history
-      (subst (λ x. x < 8) (sym met) (met_is_small p (call_of p).stage u.pass.history))
-      (load_undecided (call_of p).stage is).1
+  null_is r is met = grind (arith, null_tells, met_is_small, load_undecided)
 
   -- a step that reaches the accessed word, or its page
   module _ (s : Stage) (at : (call_of p).stage ≡ s) (through : is_access (call_of p).op ≡ true)
       (undecided : is_past_decision s ≡ false)
       (has : has_q s (call_of p).op ≡ true) (some : has_some_q s (call_of p).op ≡ true) where
     pub met : is_word_met p.table.config (call_of p) ≡ true
-    met =
-        word_is_met p u.caller u.seat u.pass.history (ap (λ (x : Stage). has_q x (call_of p).op) at ∙ has)
-        (ap (λ (x : Stage). has_some_q x (call_of p).op) at ∙ some) through
-        (u.admits (ap (λ (x : Stage). is_past_decision x) at ∙ undecided))
+    met = grind (arith, word_is_met)
 
     pub may_reach : (x : Step) → group_of x ≡ Group.Callers → comes_next s (call_of p).op x ≡ true
         → is_in_range p.table.config p.seat (call_of p) x ≡ is_word_met p.table.config (call_of p)
         → IsEnabledTo p x × IsAdmittedTo p x
-    may_reach x kind next range =
-        let on = enabled_step x kind (ap (λ (y : Stage). comes_next y (call_of p).op x) at ∙ next) (range ∙ met) in
-        (on, admitted_step x (ap (λ (y : Stage). is_past_decision y) at ∙ undecided) on)
+    may_reach x kind next range = grind (arith, enabled_step, met, admitted_step)
 
   -- a step that reaches a global
   pub may_getg : (call_of p).stage ≡ Stage.Getg → IsAdmittedTo p Step.Getg
-  may_getg at =
-      admitted_step Step.Getg (ap (λ (x : Stage). is_past_decision x) at)
-      (enabled_step Step.Getg refl (ap (λ (x : Stage). comes_next x (call_of p).op Step.Getg) at) refl)
+  may_getg at = grind (arith, admitted_step, enabled_step)
 
   pub may_setg : (call_of p).stage ≡ Stage.Setg → IsAdmittedTo p Step.Setg
-  may_setg at =
-      admitted_step Step.Setg (ap (λ (x : Stage). is_past_decision x) at)
-      (enabled_step Step.Setg refl (ap (λ (x : Stage). comes_next x (call_of p).op Step.Setg) at) refl)
+  may_setg at = grind (arith, admitted_step, enabled_step)
 
   -- what the word is
   pub met_bounds : (value offset : ℕ) → value ≡ (call_of p).q → offset ≡ i_of (call_of p).op
       → is_word_met p.table.config (call_of p) ≡ true
       → (65536 ≤ value) × (word_met (call_of p) < 64 * p.table.config.pages) ×
       ((value - 65536) / 8 + offset ≡ word_met (call_of p))
-  met_bounds value offset v i is =
-      let parts = and_parts (nat_le 65536 (call_of p).q) (nat_lt (word_met (call_of p)) (64 * p.table.config.pages))
-      is in
-      let low = leb-true 65536 (call_of p).q parts.0 in (
-        omega arith,
-        ltb-true (word_met (call_of p)) (64 * p.table.config.pages) parts.1,
-        ap (λ x. (x - 65536) / 8 + offset) v ∙ ap (λ x. ((call_of p).q - 65536) / 8 + x) i,
-      )
+  met_bounds value offset v i is = grind (arith, and_parts, leb-true, ltb-true)
 
 probe_by : (p q : PassState) (n : ℕ) (b : Bool) → is_unmapped_header (header_of n) ≡ b
     → CallMoves p (call_of p).op Step.Probe (progress_probe (call_of p) n) q
     → CallMoves p (call_of p).op Step.Probe (if b then refused (call_of p) Answer.Fault else onward (call_of p) None) q
-probe_by p q n b is m =
-    subst (λ (x : Bool). CallMoves p (call_of p).op Step.Probe
-    (if x then refused (call_of p) Answer.Fault else onward (call_of p) None) q) is m
+probe_by p q n b is m = grind arith
 
 pub probe_refused : {p q : PassState} (n : ℕ) → is_unmapped_header (header_of n) ≡ true
     → CallMoves p (call_of p).op Step.Probe (progress_probe (call_of p) n) q

@@ -58,11 +58,7 @@ null_for c es k r h lt plain =
 pub null_tells : (p : PassState) (k r : ℕ) → p.seat ≡ Caller k → IsHistory p.table.config p.seen → r < 8
     → is_put (call_of p).stage ≡ false
     → (register_of p r ≡ 0) ↔ (value_of p r ≡ Null)
-null_tells p k r is h lt plain =
-    subst
-    (λ (t : Seat). is_put (flight_of (now_of p) t).stage ≡ false
-    → (register_word (now_of p).words (caller_number t) r ≡ 0) ↔ (register_at (never_of p) (caller_number t) r ≡ Null))
-    (sym is) (null_for p.table.config p.seen k r h lt) plain
+null_tells p k r is h lt plain = grind (arith, null_for)
 
 -- The word that is accessed through a value lies in the heap.
 word_for : (c : Config) (es : List Event) (k : ℕ) → IsHistory c es
@@ -106,12 +102,4 @@ pub word_is_met : (p : PassState) (k : ℕ) → p.seat ≡ Caller k → IsHistor
     → has_q (call_of p).stage (call_of p).op ≡ true
     → has_some_q (call_of p).stage (call_of p).op ≡ true → is_access (call_of p).op ≡ true → Admits p (call_of p).op
     → is_word_met p.table.config (call_of p) ≡ true
-word_is_met p k is h has some through ad =
-    subst
-    (λ (t : Seat). has_q (flight_of (now_of p) t).stage (flight_of (now_of p) t).op ≡ true
-    → has_some_q (flight_of (now_of p) t).stage (flight_of (now_of p) t).op ≡ true
-    → Meets (never_of p) (register_at (never_of p) (caller_number t) (q_of (flight_of (now_of p) t).op))
-    (i_of (flight_of (now_of p) t).op) (λ kind. Unit {0})
-    → is_word_met p.table.config (flight_of (now_of p) t) ≡ true)
-    (sym is) (word_for p.table.config p.seen k h) has some
-    (access_meets (never_of p) (caller_of_pass p) (call_of p).op through ad.access)
+word_is_met p k is h has some through ad = grind (arith, word_for, access_meets)

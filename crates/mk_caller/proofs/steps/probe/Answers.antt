@@ -10,22 +10,10 @@ overflow_sub-word c =
     (met_bounds r.underway c.args.u c.args.i r.value r.offset m).0
 
 pub overflow_add-word : goal.overflow_add-word
-overflow_add-word c =
-    let r = c.requires in
-    let m = met r.underway Stage.Probe r.stage r.access refl refl refl in
-    let b = met_bounds r.underway c.args.u c.args.i r.value r.offset m in
-    let pages = r.underway.pass.history.within_limits.pages in
-    let one = r.one_table in
-    omega (arith, b, pages)
+overflow_add-word c = grind (arith, met, met_bounds)
 
 pub overflow_cast-word : goal.overflow_cast-word
-overflow_cast-word c =
-    let r = c.requires in
-    let m = met r.underway Stage.Probe r.stage r.access refl refl refl in
-    let b = met_bounds r.underway c.args.u c.args.i r.value r.offset m in
-    let pages = r.underway.pass.history.within_limits.pages in
-    let one = r.one_table in
-    omega (arith, b, pages)
+overflow_cast-word c = grind (arith, met, met_bounds)
 
 pub probe-header-requires-clause-enabled : goal.probe-header-requires-clause-enabled
 probe-header-requires-clause-enabled c =
