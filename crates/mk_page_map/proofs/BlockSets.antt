@@ -137,4 +137,13 @@ pub sorted_alike : (sets : List ℕ) (page class earlier used : ℕ) (leaf : Boo
     → IsInItsSets sets page (use_of_kind (Block class leaf) earlier)
     → IsInItsSets sets page (use_of_kind (Block class leaf) used)
 sorted_alike sets page class earlier used leaf known alike sorted set is_set =
-    grind (arith, free_in_own_set, same_elsewhere)
+    sorted set is_set
+    ∙ elim (cases_eq set (class_place class leaf)) [
+      | inl own ↦
+          ap (λ s. is_of_set s (use_of_kind (Block class leaf) earlier)) own
+          ∙ free_in_own_set class leaf earlier known
+          ∙ alike
+          ∙ sym (free_in_own_set class leaf used known)
+          ∙ ap (λ s. is_of_set s (use_of_kind (Block class leaf) used)) (sym own)
+      | inr other ↦ same_elsewhere set class leaf earlier used is_set other
+    ]

@@ -60,7 +60,35 @@ pub one_word_more : (before after : List ℕ) (words pages word : ℕ) → HaveF
     → ((place : ℕ) → place < 64 → nat_eq (bit_at word place) 1 ≡ nat_lt place (pages - 64 * words))
     → HaveFreeBelow after (words + 1) pages
 one_word_more before after words pages word free is stay bits set number is_set few =
-    grind (arith, in_word, and_left, ne_eqb, cases_lt, lt-ltb, le-ltb)
+    elim (cases_eq (number / 64) words) [
+      | inl here ↦ elim (cases_eq set 16) [
+        | inl own ↦
+            ap (λ s. is_member after s number) own
+            ∙ ap (λ w. nat_eq (bit_at (word_in_set after 16 w) (number % 64)) 1) here
+            ∙ ap (λ n. nat_eq (bit_at n (number % 64)) 1) is
+            ∙ bits (number % 64) (omega arith)
+            ∙ in_word number words pages here
+            ∙ sym (ap (λ s. nat_eq s 16 && (nat_lt (number / 64) (words + 1) && nat_lt number pages)) own)
+        | inr other ↦
+            ap (λ n. nat_eq (bit_at n (number % 64)) 1)
+            (stay set (number / 64) (omega arith) (λ same _. other same))
+            ∙ free set number is_set few
+            ∙ and_left (nat_eq set 16) (nat_lt (number / 64) words && nat_lt number pages) (ne_eqb set 16 other)
+            ∙ sym (and_left (nat_eq set 16) (nat_lt (number / 64) (words + 1) && nat_lt number pages)
+            (ne_eqb set 16 other))
+      ]
+      | inr differ ↦
+          ap (λ n. nat_eq (bit_at n (number % 64)) 1)
+          (stay set (number / 64) (omega arith) (λ _ same. differ same))
+          ∙ free set number is_set few
+          ∙ ap (λ t. nat_eq set 16 && (t && nat_lt number pages)) (later (number / 64) words differ)
+    ]
+  where
+    later : (n m : ℕ) → (n ≡ m → ⊥) → nat_lt n m ≡ nat_lt n (m + 1)
+    later n m differ = elim (cases_lt n m) [
+      | inl low ↦ lt-ltb n m low ∙ sym (lt-ltb n (m + 1) (omega arith))
+      | inr high ↦ le-ltb n m high ∙ sym (le-ltb n (m + 1) (omega arith))
+    ]
 
 -- all words that have a page
 pub all_free : (sets : List ℕ) (words pages : ℕ) → pages ≤ 64 * words → HaveFreeBelow sets words pages
