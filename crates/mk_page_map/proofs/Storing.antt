@@ -19,33 +19,28 @@ pub record Stores (held : List Page) (sets slice after : List ℕ) (resident pag
   pub quarantine : (s : ℕ) → 18 ≤ s → s < 19 → is_member after s page ≡ is_member slice s page
   pub others : OthersStay slice after page
 
-changes_of : (held : List Page) (sets slice after : List ℕ) (resident page : ℕ) (now : Page)
+changes_of : {held : List Page} {sets slice after : List ℕ} {resident page : ℕ} {now : Page}
     → Stores held sets slice after resident page now → Changes held sets after page now
-changes_of held sets slice after resident page now stores = grind arith
+changes_of stores = grind arith
 
-pub store_fits : (held : List Page) (sets slice after vec : List ℕ) (resident count page : ℕ) (now : Page)
-    → Stores held sets slice after resident page now → vec ≡ after
-    → count + resident_one (page_at held page) ≡ resident + resident_one now
-    → FitPages (set held page now) vec count
-store_fits held sets slice after vec resident count page now stores written counted =
+pub store_fits : {held : List Page} {sets slice after : List ℕ} (vec : List ℕ) {resident : ℕ}
+    (count : ℕ) {page : ℕ} {now : Page} → Stores held sets slice after resident page now → vec ≡ after
+    → count + resident_one (page_at held page) ≡ resident + resident_one now → FitPages (set held page now) vec count
+store_fits {held} vec count {page} {now} stores written counted =
     subst (λ (xs : List ℕ). FitPages (set held page now) xs count) (sym written)
-    (fit_changed held sets after page now resident count stores.fit
-    (changes_of held sets slice after resident page now stores) counted)
+    (fit_changed count stores.fit (changes_of stores) counted)
 
-pub store_shows : (known : KnownPages) (held pages : List Page) (sets slice after vec freed : List ℕ)
-    (resident page : ℕ) (now stored : Page) → Stores held sets slice after resident page now → vec ≡ after
+pub store_shows : {known : KnownPages} {held pages : List Page} {sets slice after : List ℕ} (vec : List ℕ) {freed : List ℕ}
+    {resident page : ℕ} {now : Page} (stored : Page) → Stores held sets slice after resident page now → vec ≡ after
     → known_by held sets ≡ known → (held ≡ pages → now ≡ stored) → Shows known pages freed
     → Shows (known_by (set held page now) vec) (set pages page stored) freed
-store_shows known held pages sets slice after vec freed resident page now stored stores written view same shows
-    =
+store_shows {held} {pages} {sets} {after} vec {freed} {page} {now} stored stores written view same shows =
     let shows_before = subst (λ (k : KnownPages). Shows k pages freed) (sym view) shows in
-    let changes = changes_of held sets slice after resident page now stores in
+    let changes = changes_of stores in
     subst (λ (p : Page). Shows (known_by (set held page now) vec) (set pages page p) freed)
-    (same shows_before.page_by_page)
-    (subst (λ (xs : List ℕ). Shows (known_by (set held page now) xs) (set pages page now) freed) (sym written)
-    (changed_shows held pages sets after freed page now stores.fit.few changes.others
-    (λ s quarantine is_set.
-    stores.quarantine s quarantine is_set ∙ ap (λ xs. is_member xs s page) stores.is_slice)
+    (same shows_before.page_by_page) (subst (λ (xs : List ℕ). Shows (known_by (set held page now) xs)
+    (set pages page now) freed) (sym written) (changed_shows held sets after now stores.fit.few changes.others
+    (λ s quarantine is_set. stores.quarantine s quarantine is_set ∙ ap (λ xs. is_member xs s page) stores.is_slice)
     shows_before))
 
 -- a page of the map, and its words as they were read
@@ -71,8 +66,7 @@ resident_byte page is_resident byte resident is = grind (arith, byte_is)
 pub counted_anew : (held : List Page) (page resident was is : ℕ) (now : Page) → page < length held
     → was ≡ resident_one (page_at held page) → is ≡ resident_one now
     → resident ≡ resident_pages (uses_of_pages held) → was ≤ resident + is
-counted_anew held page resident was is now within old new counted =
-    omega (arith, resident_changed held page now within)
+counted_anew held page resident was is now within old new counted = omega (arith, resident_changed held page now within)
 
 -- a used word makes no page resident
 resident_by_kind : (kind : PageKind) (used other : ℕ)

@@ -1,6 +1,5 @@
-use Rattle.mk_page_map.proofs.Vocabulary.{List, Page, ℕ, ap, arith, drop, is_free_page, is_of_set, is_resident_page}
-use Rattle.mk_page_map.proofs.Vocabulary.{length, length-set}
-use Rattle.mk_page_map.proofs.Vocabulary.{page_at, set, sym, take, true, ◌++◌, ◌+◌, ◌<◌, ◌∙◌, ◌≡◌, ◌≤◌}
+use Rattle.mk_page_map.proofs.Vocabulary.{List, Page, ℕ, ap, arith, drop, is_free_page, length, length-set, page_at}
+use Rattle.mk_page_map.proofs.Vocabulary.{set, sym, take, true, ◌++◌, ◌+◌, ◌<◌, ◌∙◌, ◌≡◌, ◌≤◌}
 use Rattle.mk_geom.specs.{Headers.header_of, PageWords.use_under}
 use Rattle.mk_page_map.proofs.Storing.{Stores, counted_anew, page_read, page_within, resident_byte, store_fits}
 use Rattle.mk_page_map.proofs.Storing.{store_shows}
@@ -43,21 +42,15 @@ same_sets c = grind (arith, written, within)
 pub invariant_of-self : goal.invariant_of-self
 invariant_of-self c =
     let x = (goal.at.invariant_of-self c).After-from in
-    store_fits c.self.inside.pages.items c.self.inside.sets.items c.deref_mut.result.now c.sort_by_header.new.sets _
-    c.self.inside.resident _ c.args.page (now x) (stores x) (same_sets x)
-    (omega (arith, was_counted x, is_counted x, enough x))
+    store_fits _ _ (stores x) (same_sets x) (omega (arith, was_counted x, is_counted x, enough x))
 
 pub returns-clause-shows : goal.returns-clause-shows
 returns-clause-shows c pages freed shows =
     let x = (goal.at.returns-clause-shows c).After-from in
-    store_shows c.args.self.now c.self.inside.pages.items pages c.self.inside.sets.items c.deref_mut.result.now
-    c.sort_by_header.new.sets _ freed c.self.inside.resident c.args.page (now x) _ (stores x) (same_sets x)
-    c.self.view_is
-    (λ same. ap (λ (n : ℕ). record { header = c.args.header; used = n })
-    (ap (λ (p : Page). p.used)
+    store_shows _ _ (stores x) (same_sets x) c.self.view_is (λ same. ap
+    (λ (n : ℕ). record { header = c.args.header; used = n }) (ap (λ (p : Page). p.used)
     (page_read c.self.inside.pages.items c.args.page c.index.result.now (within x) c.index.ensures)
-    ∙ ap (λ (ps : List Page). (page_at ps c.args.page).used) same))
-    shows
+    ∙ ap (λ (ps : List Page). (page_at ps c.args.page).used) same)) shows
 
 pub returns-clause-freed : goal.returns-clause-freed
 returns-clause-freed c free =
@@ -72,6 +65,6 @@ pub returns-clause-others : goal.returns-clause-others
 returns-clause-others c number differ =
     let x = (goal.at.returns-clause-others c).After-from in
     others_kept c.args.self.now c.self.inside.pages.items (set c.self.inside.pages.items c.args.page (now x))
-    c.self.inside.sets.items c.deref_mut.result.now c.sort_by_header.new.sets _ c.args.page number c.self.view_is
+    c.self.inside.sets.items _ number c.self.view_is
     c.deref_mut.ensures.value (same_sets x) (length-set c.self.inside.pages.items c.args.page (now x))
     c.self.invariant.few c.sort_by_header.ensures.other_pages differ

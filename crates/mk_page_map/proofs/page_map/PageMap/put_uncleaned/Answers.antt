@@ -19,14 +19,12 @@ same_sets c = grind (arith, written, within)
 pub invariant_of-self : goal.invariant_of-self
 invariant_of-self c =
     let x = (goal.at.invariant_of-self c).After-put in
-    still_fits c.self.inside.pages.items c.self.inside.sets.items c.deref_mut.result.now c.put.new.sets _
-    c.self.inside.resident c.args.page (changes x) (same_sets x)
+    still_fits _ (changes x) (same_sets x)
 
 pub returns-clause-shows : goal.returns-clause-shows
 returns-clause-shows c pages freed shows =
     let x = (goal.at.returns-clause-shows c).After-put in
-    still_shows c.args.self.now c.self.inside.pages.items pages c.self.inside.sets.items c.deref_mut.result.now
-    c.put.new.sets _ freed c.self.inside.resident c.args.page (changes x) (same_sets x) c.self.view_is shows
+    still_shows _ (changes x) (same_sets x) c.self.view_is shows
 
 pub returns-clause-this : goal.returns-clause-this
 returns-clause-this c = grind (arith, this_uncleaned, within, same_sets)
@@ -34,5 +32,4 @@ returns-clause-this c = grind (arith, this_uncleaned, within, same_sets)
 pub returns-clause-others : goal.returns-clause-others
 returns-clause-others c number differ =
     let x = (goal.at.returns-clause-others c).After-put in
-    others_uncleaned c.args.self.now c.self.inside.pages.items c.self.inside.sets.items c.deref_mut.result.now
-    c.put.new.sets _ c.self.inside.resident c.args.page number (changes x) (same_sets x) c.self.view_is differ
+    others_uncleaned c.args.self.now _ number (changes x) (same_sets x) c.self.view_is differ

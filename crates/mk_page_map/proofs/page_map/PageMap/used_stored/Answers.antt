@@ -1,5 +1,5 @@
-use Rattle.mk_page_map.proofs.Vocabulary.{List, Page, ℕ, ap, arith, drop, is_member, is_of_set, length, length-set}
-use Rattle.mk_page_map.proofs.Vocabulary.{page_at, set, sym, take, use_of_page, ◌++◌, ◌<◌, ◌∙◌, ◌≡◌}
+use Rattle.mk_page_map.proofs.Vocabulary.{List, Page, ℕ, ap, arith, drop, length, length-set, page_at, set, take, ◌++◌}
+use Rattle.mk_page_map.proofs.Vocabulary.{◌<◌, ◌∙◌, ◌≡◌}
 use Rattle.mk_page_map.proofs.FreeSets.{written}
 use Rattle.mk_page_map.proofs.Storing.{Stores, page_read, page_within, same_count, store_fits, store_shows}
 use Rattle.mk_page_map.proofs.{Uncleaned.all_kept, page_map.PageMap.used_stored.Goals.After-sort_by_used}
@@ -31,27 +31,20 @@ same_sets c = grind (arith, written, within)
 pub invariant_of-self : goal.invariant_of-self
 invariant_of-self c =
     let x = (goal.at.invariant_of-self c).After-sort_by_used in
-    store_fits c.self.inside.pages.items c.self.inside.sets.items c.deref_mut.result.now c.sort_by_used.new.sets _
-    c.self.inside.resident c.self.inside.resident c.args.page (now x) (stores x) (same_sets x)
-    (same_count c.self.inside.pages.items c.self.inside.resident c.args.page c.index.result.now c.args.used
-    c.kind_of.result (read x) c.kind_of.ensures.kind)
+    store_fits _ c.self.inside.resident (stores x) (same_sets x) (same_count c.self.inside.pages.items
+    c.self.inside.resident c.args.page c.index.result.now c.args.used c.kind_of.result (read x) c.kind_of.ensures.kind)
 
 pub returns-clause-shows : goal.returns-clause-shows
 returns-clause-shows c pages freed shows =
     let x = (goal.at.returns-clause-shows c).After-sort_by_used in
-    store_shows c.args.self.now c.self.inside.pages.items pages c.self.inside.sets.items c.deref_mut.result.now
-    c.sort_by_used.new.sets _ freed c.self.inside.resident c.args.page (now x) _ (stores x)
-    (same_sets x) c.self.view_is
-    (λ same. ap (λ (n : ℕ). record { header = n; used = c.args.used })
-    (ap (λ (p : Page). p.header) (read x)
-    ∙ ap (λ (ps : List Page). (page_at ps c.args.page).header) same))
-    shows
+    store_shows _ _ (stores x) (same_sets x) c.self.view_is (λ same. ap
+    (λ (n : ℕ). record { header = n; used = c.args.used }) (ap (λ (p : Page). p.header) (read x)
+    ∙ ap (λ (ps : List Page). (page_at ps c.args.page).header) same)) shows
 
 pub returns-clause-uncleaned : goal.returns-clause-uncleaned
 returns-clause-uncleaned c number =
     let x = (goal.at.returns-clause-uncleaned c).After-sort_by_used in
     all_kept c.args.self.now c.self.inside.pages.items (set c.self.inside.pages.items c.args.page (now x))
-    c.self.inside.sets.items c.deref_mut.result.now c.sort_by_used.new.sets _ c.args.page number c.self.view_is
-    c.deref_mut.ensures.value (same_sets x) (length-set c.self.inside.pages.items c.args.page (now x))
-    c.self.invariant.few c.sort_by_used.ensures.other_pages
+    c.self.inside.sets.items _ number c.self.view_is c.deref_mut.ensures.value (same_sets x)
+    (length-set c.self.inside.pages.items c.args.page (now x)) c.self.invariant.few c.sort_by_used.ensures.other_pages
     (c.sort_by_used.ensures.other_sets 19 (omega arith) (omega arith))
