@@ -153,7 +153,8 @@ pub quarantine_reaches : {p q : PassState} (cell : Cell) {value : ℕ} {o : Opti
     → HasFreed p cell q
 quarantine_reaches {p} cell {value} turn free at clear low is small a =
     let caller = acting_caller p (free_is_acting (call_of p) free) in
-    reaches_on (λ w. w ≡ world_of p) (IsFreedAt p.table.config p.seat cell (world_of p)) (reaches_nothing is_freeing p (λ w. w ≡ world_of p) refl) a refl refl caller
+    reaches_on (λ w. w ≡ world_of p) (IsFreedAt p.table.config p.seat cell (world_of p))
+    (reaches_nothing is_freeing p (λ w. w ≡ world_of p) refl) a refl refl caller
     (λ w v first kept known pages.
     let kept : IsAsLeft p.seat (world_of p) v = subst (λ (x : World). IsAsLeft p.seat x v) first kept in
     let to = frees_at p cell value v known low caller.number caller.is kept turn.holds at clear is small in

@@ -44,7 +44,8 @@ frees_at_once : (c : Config) (seen : List Event) (xs : List PlacedAllocation) �
 frees_at_once c seen xs before e behind is frees = absurd (none_behind before e behind is)
 
 -- one event more
-frees_more : (c : Config) (seen : List Event) {es : List Event} {xs : List PlacedAllocation} (e : Event) → FreesOnly c seen xs es
+frees_more : (c : Config) (seen : List Event) {es : List Event} {xs : List PlacedAllocation} (e : Event)
+    → FreesOnly c seen xs es
     → (event_frees c es e ≡ true → (left c (es ++ e ∷ [])).allocations ≡ xs) → FreesOnly c seen xs (es ++ e ∷ [])
 frees_more c seen {es} e only last before x behind is frees =
     elim (in_parts es (e ∷ []) (seen ++ before) x behind is) [
@@ -94,7 +95,8 @@ none_frees : {kinds : Step → Bool} {p q : PassState} (xs : List PlacedAllocati
     → FreesOnly p.table.config p.seen xs q.seen
 none_frees {kinds} {p} xs not_one d h holds =
     along_turn p kinds (λ x kind. (and_parts _ _ (not_one x kind)).0) (FreesOnly p.table.config p.seen xs)
-    (none_kept p.table.config p.seat kinds p.seen xs (λ x kind. not-true _ (and_parts _ _ (not_one x kind)).1)) d h holds (frees_at_once p.table.config p.seen xs)
+    (none_kept p.table.config p.seat kinds p.seen xs (λ x kind. not-true _ (and_parts _ _
+    (not_one x kind)).1)) d h holds (frees_at_once p.table.config p.seen xs)
 
 -- The `quar` frees once,
 

@@ -47,5 +47,6 @@ pub still_gone : {p q : PassState} → Does is_settling p q → IsHistory q.tabl
     → Holds p.table.config (now_of p) p.seat
     → IsGoneIn (left p.table.config p.seen) → IsGoneIn (left p.table.config q.seen)
 still_gone {p} d h holds gone =
-    along_turn p is_settling (λ x kind. (and_parts _ _ (following_not x (settling_follows x kind))).0) (λ es. IsGoneIn (left p.table.config es))
+    along_turn p is_settling (λ x kind. (and_parts _ _ (following_not x (settling_follows x kind))).0)
+    (λ es. IsGoneIn (left p.table.config es))
     (gone_kept p.table.config p.seat) d h holds gone

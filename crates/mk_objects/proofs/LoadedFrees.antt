@@ -165,7 +165,8 @@ record LoadsTo (c : Config) (k r n : ℕ) (w v : World) : Type 0 where
   answer : answer_decided c v.now (record { seat = Caller k; step = Step.Reg })
       ≡ (if n == 0 then Some Answer.Done else None)
 
-load_steps : (c : Config) {k : ℕ} (r : ℕ) {n : ℕ} {w v : World} → k < length v.now.seats.flights → IsAsLeft (Caller k) w v
+load_steps : (c : Config) {k : ℕ} (r : ℕ) {n : ℕ} {w v : World} → k < length v.now.seats.flights
+    → IsAsLeft (Caller k) w v
     → flight_of w.now (Caller k) ≡ begun (Op.Free r) → r < 8 → n ≡ register_word w.now.words k r → LoadsTo c k r n w v
 load_steps c {k} r {n} {v} lt kept call small is =
     let e : Event = record { seat = Caller k; step = Step.Reg } in

@@ -124,7 +124,8 @@ sets_more kinds p q r gates then gate held a b others here =
     (λ v a b. gates_more p.seat p.table.config.callers gates then gate held (world_of p) _ v a b others here)
 
 -- the gates by other names
-pub sets_named : {kinds : Step → Bool} {p q : PassState} {gates : ℕ → Bool} (then : ℕ → Bool) → SetsGates kinds p gates q
+pub sets_named : {kinds : Step → Bool} {p q : PassState} {gates : ℕ → Bool} (then : ℕ → Bool)
+    → SetsGates kinds p gates q
     → ((j : ℕ) → j < p.table.config.callers → gates j ≡ then j) → SetsGates kinds p then q
 sets_named then a same = reaches_so a (λ x. record { but_gates = x.but_gates; held = λ j lt. x.held j lt ∙ same j lt })
 

@@ -98,7 +98,8 @@ wiped_left {run} at kept stop =
       zeros = λ i lt. ap (λ (x : Written). slice_index x.heap (64 * run.page + i)) stop ∙ at.zeros i lt;
     }
 
-wiped_seen : {c : Config} {s : Seat} {run : RunPages} {w v : World} {n : ℕ} (k : ℕ) → WipedTo s run w v n → HasCall c v.now s
+wiped_seen : {c : Config} {s : Seat} {run : RunPages} {w v : World} {n : ℕ} (k : ℕ) → WipedTo s run w v n
+    → HasCall c v.now s
     → ((value : ℕ) → hand_given c v.now s (Word.Heap k) value ≡ None)
     → WipedTo s run w (world_behind c v (record { seat = s; step = Step.Look (Word.Heap k) })) n
 wiped_seen {c} {v} k at (OfCaller j lt) none =

@@ -30,7 +30,8 @@ store_fits {held} vec count {page} {now} stores written counted =
     subst (λ (xs : List ℕ). FitPages (set held page now) xs count) (sym written)
     (fit_changed count stores.fit (changes_of stores) counted)
 
-pub store_shows : {known : KnownPages} {held pages : List Page} {sets slice after : List ℕ} (vec : List ℕ) {freed : List ℕ}
+pub store_shows : {known : KnownPages} {held pages : List Page} {sets slice after : List ℕ}
+    (vec : List ℕ) {freed : List ℕ}
     {resident page : ℕ} {now : Page} (stored : Page) → Stores held sets slice after resident page now → vec ≡ after
     → known_by held sets ≡ known → (held ≡ pages → now ≡ stored) → Shows known pages freed
     → Shows (known_by (set held page now) vec) (set pages page stored) freed

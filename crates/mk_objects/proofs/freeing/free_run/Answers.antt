@@ -4,5 +4,6 @@ use Rattle.mk_objects.proofs.freeing.free_run.Goals as goal
 
 pub returns-clause-frees : goal.returns-clause-frees
 returns-clause-frees g c =
-    frees_behind (gates_prepare c.hold_gates.ensures.sets) hold_frees holding_not c.is_in_order-2.ensures.history c.is_in_order.ensures.turn.holds
+    frees_behind (gates_prepare c.hold_gates.ensures.sets) hold_frees holding_not c.is_in_order-2.ensures.history
+    c.is_in_order.ensures.turn.holds
     c.free_stopped.ensures.frees

@@ -16,7 +16,8 @@ returns-clause-held c =
 
 pub returns-clause-sets : goal.returns-clause-sets
 returns-clause-sets c =
-    sets_hold c.try_hold.new.self.pass c.args.caller c.is_in_order.ensures.turn c.requires.acting c.try_hold.ensures.acts (returns-clause-held c)
+    sets_hold c.try_hold.new.self.pass c.args.caller c.is_in_order.ensures.turn c.requires.acting
+    c.try_hold.ensures.acts (returns-clause-held c)
 
 pub returns-clause-keeps : goal.returns-clause-keeps
 returns-clause-keeps c =

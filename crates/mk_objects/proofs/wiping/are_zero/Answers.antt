@@ -15,7 +15,8 @@ pub look_on_page-all-requires-clause-enabled : goal.look_on_page-all-requires-cl
 look_on_page-all-requires-clause-enabled c =
     let may = c.requires.may in
     let group = c.requires.group in
-    look_may c.args.run c.is_in_order.ensures.turn may.decided may.stopped (8 * c.args.group + c.loop-i.i) c.loop-i.invariant.still
+    look_may c.args.run c.is_in_order.ensures.turn may.decided may.stopped
+    (8 * c.args.group + c.loop-i.i) c.loop-i.invariant.still
     (omega (arith, group, c.loop-i-test.true)) may.within
 
 pub look_on_page-all-requires-clause-page : goal.look_on_page-all-requires-clause-page
@@ -32,7 +33,8 @@ loop-i-preserved c =
     let q : PassState = c.look_on_page-all.new.self.pass in
     let found : ℕ = c.look_on_page-all.result in
     let seen : (n : ℕ) → WipesTo p c.args.run n c.loop-i.turn.pass → WipesTo p c.args.run n q =
-    λ n reached. looks_then c.args.run c.is_in_order.ensures.turn may.decided may.stopped word reached (omega (arith, group, c.loop-i-test.true)) may.few may.unmapped
+    λ n reached. looks_then c.args.run c.is_in_order.ensures.turn may.decided may.stopped word reached (omega
+    (arith, group, c.loop-i-test.true)) may.few may.unmapped
     c.look_on_page-all.ensures.acts in
     record {
       op = c.look_on_page-all.ensures.op ∙ i.op;
@@ -42,7 +44,8 @@ loop-i-preserved c =
           let most = le_or_l c.loop-i.all found in omega (arith, most, none) in
           let here : found ≡ 0 = let most = le_or_r c.loop-i.all found in omega (arith, most, none) in
           subst (λ n. WipesTo p c.args.run n q) next
-          (found_wiped c.args.run c.is_in_order.ensures.turn may.decided may.stopped (seen word (i.zero before)) c.look_on_page-all.ensures.finds here);
+          (found_wiped c.args.run c.is_in_order.ensures.turn may.decided may.stopped (seen word
+          (i.zero before)) c.look_on_page-all.ensures.finds here);
     }
 
 pub returns-clause-zero : goal.returns-clause-zero

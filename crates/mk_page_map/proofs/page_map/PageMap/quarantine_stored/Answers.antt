@@ -32,7 +32,8 @@ returns-clause-shows c pages freed_words shows =
     let before = subst (λ (k : KnownPages). Shows k pages freed_words) (sym c.self.view_is) shows in
     subst (λ (xs : List ℕ). Shows (known_by c.self.inside.pages.items xs) pages
     (set freed_words c.args.page c.args.freed)) (sym (same_sets x))
-    (quarantine_shows c.self.inside.pages.items c.self.inside.sets.items c.sort_by_quarantine.new.sets c.args.freed c.self.invariant.few (within x) (others x)
+    (quarantine_shows c.self.inside.pages.items c.self.inside.sets.items c.sort_by_quarantine.new.sets c.args.freed
+    c.self.invariant.few (within x) (others x)
     c.sort_by_quarantine.ensures.quarantined before)
 
 pub returns-clause-uncleaned : goal.returns-clause-uncleaned
