@@ -1,8 +1,8 @@
 -- What a call leaves in its caller's registers.
-use Rattle.mk_laws.proofs.Vocabulary.{Answer, Bool, List, NeverState, Null, Num, Op, Ptr, Some, Unmapped, Value, WordOf}
-use Rattle.mk_laws.proofs.Vocabulary.{ℕ, after_free, ap, arith, false, get_or-set_other, get_or-set_same, if◌then◌else◌}
-use Rattle.mk_laws.proofs.Vocabulary.{is_same, never_behind, refl, register_at, slice_index_or, subst, sym, target_of}
-use Rattle.mk_laws.proofs.Vocabulary.{true, with_register, with_word, word_at, ◌*◌, ◌++◌, ◌+◌, ◌<◌, ◌∙◌, ◌≡◌, ◌≢◌}
+use Rattle.mk_laws.proofs.Vocabulary.{Answer, Bool, NeverState, Null, Num, Op, Ptr, Some, Unmapped, Value, WordOf, ℕ}
+use Rattle.mk_laws.proofs.Vocabulary.{after_free, ap, arith, false, get_or-set_other, get_or-set_same, if◌then◌else◌}
+use Rattle.mk_laws.proofs.Vocabulary.{is_same, never_behind, refl, register_at, target_of, true, with_register}
+use Rattle.mk_laws.proofs.Vocabulary.{with_word, word_at, ◌*◌, ◌++◌, ◌+◌, ◌<◌, ◌∙◌, ◌≡◌, ◌≢◌}
 use Rattle.mk_never.specs.NeverHeap.{after_op, left_at}
 use Rattle.mk_never.specs.{Admitted.IsCaller, declared.values.Target.Target, declared.values.Target.TheVariants.Nothing}
 use Rattle.mk_laws.proofs.OtherCalls.{never_continues}
@@ -76,7 +76,7 @@ pub value_left : {p q : PassState} {o : Op} {a : Answer} → (c : Called p o a q
     → value_of q r ≡ register_at (after_op (never_behind p.table.config (p.seen
     ++ c.decided.before)) (caller_of_pass p) o)
     (caller_of_pass p) r
-value_left {p} {q} c r lt = ap (λ (x : PassState). value_of x r) c.is ∙ c.decided.left_so r lt
+value_left c r lt = ap (λ (x : PassState). value_of x r) c.is ∙ c.decided.left_so r lt
 
 pub calls_leave_other_registers : CallsLeaveOtherRegisters
 calls_leave_other_registers p o a q r c lt ne = grind (arith, value_left, leaves)
@@ -84,9 +84,9 @@ calls_leave_other_registers p o a q r c lt ne = grind (arith, value_left, leaves
 -- A caller stays one.
 pub still_caller : {p q : PassState} {o : Op} {a : Answer} → (c : Called p o a q)
     → IsCaller (never_of p) (caller_of_pass p) → IsCaller (never_of q) (caller_of_pass q)
-still_caller {p} {q} c is = grind (arith, never_continues)
+still_caller c is = grind (arith, never_continues)
 
 pub caller_there : {p q : PassState} {o : Op} {a : Answer} → (c : Called p o a q)
     → IsCaller (never_of p) (caller_of_pass p)
     → IsCaller (never_behind p.table.config (p.seen ++ c.decided.before)) (caller_of_pass p)
-caller_there {p} c is = grind (arith, never_continues)
+caller_there c is = grind (arith, never_continues)

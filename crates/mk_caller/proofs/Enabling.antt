@@ -1,13 +1,12 @@
 -- When a step of a call is enabled and admitted.
 use Rattle.mk_laws.proofs.Vocabulary.{Answer, AreAdmitted, Bool, Caller, Config, Flight, Group, IsAdmitted, IsEnabled}
 use Rattle.mk_laws.proofs.Vocabulary.{IsHistory, List, Moment, NeverState, None, Op, Option, Seat, Some, Stage, Step, ℕ}
-use Rattle.mk_laws.proofs.Vocabulary.{and_from, and_parts, answer_decided, ap, arith, asked, caller_number, comes_next}
-use Rattle.mk_laws.proofs.Vocabulary.{d_of, entry_of, false, flight_of, found, g_of, group_of, has_gates, has_operands}
-use Rattle.mk_laws.proofs.Vocabulary.{has_phase, holder_may, is_in_range, is_under_turn, length, lt-ltb, ltb-true}
-use Rattle.mk_laws.proofs.Vocabulary.{marker_may, nat_lt, outside, p_of, phase_of, progress_reg, q_of, r_of, refl}
-use Rattle.mk_laws.proofs.Vocabulary.{register_met, subst, sym, true, ◌&&◌, ◌<◌, ◌≡◌}
+use Rattle.mk_laws.proofs.Vocabulary.{and_from, and_parts, answer_decided, ap, arith, asked, comes_next, entry_of}
+use Rattle.mk_laws.proofs.Vocabulary.{false, flight_of, group_of, has_gates, has_operands, has_phase, holder_may}
+use Rattle.mk_laws.proofs.Vocabulary.{is_in_range, is_under_turn, length, lt-ltb, ltb-true, marker_may, nat_lt, outside}
+use Rattle.mk_laws.proofs.Vocabulary.{phase_of, refl, register_met, subst, sym, true, ◌&&◌, ◌<◌, ◌≡◌}
 use Rattle.mk_never.specs.Admitted.{IsCaller, OperandsAreInRange}
-use Rattle.mk_core.{proofs.Conditions.meets_enabled, specs.Calls.has_type}
+use Rattle.mk_core.proofs.Conditions.{meets_enabled}
 use Rattle.mk_laws.proofs.{LastEvents.goes_on_by, LastEvents.stands, LayoutHolders.seat_operands}
 use Rattle.mk_caller.proofs.OneStep.{flagged_same}
 use Rattle.mk_caller.specs.{Moves.MayBeginCall, States.Admits, States.caller_of_pass, States.never_of}
@@ -53,19 +52,17 @@ enabled p s k is lt kind next range =
     (sym is) (enabled_for p.table.config (now_of p) k s lt kind) next range
 
 -- whatever it is answered
-entry_admitted : (globals : List ℕ) (n : NeverState) (k : ℕ) (o : Op) (a : Option Answer) → is_under_turn o ≡ false
-    → IsAdmitted globals n k o
-    → AreAdmitted globals n (asked (entry_of k o a))
-entry_admitted globals n k o None h ad = tt
-entry_admitted globals n k o (Some a) h ad = grind (arith, flagged_same)
+entry_admitted : {globals : List ℕ} {n : NeverState} {k : ℕ} {o : Op} (a : Option Answer) → is_under_turn o ≡ false
+    → IsAdmitted globals n k o → AreAdmitted globals n (asked (entry_of k o a))
+entry_admitted None h ad = tt
+entry_admitted (Some a) h ad = grind (arith, flagged_same)
 
 pub admitted : (p : PassState) (s : Step) → IsHistory p.table.config p.seen → IsEnabledTo p s
     → is_under_turn (call_of p).op ≡ false
     → Admits p (call_of p).op → IsAdmittedTo p s
 admitted p s h on entered ad =
-    (goes_on_by p.table.config p.seen (event_of p s) h on
-    (entry_admitted p.table.config.globals (never_of p) (caller_of_pass p) (call_of p).op
-    (answer_decided p.table.config (now_of p) (event_of p s)) entered ad)).admitted
+    (goes_on_by p.table.config p.seen (event_of p s) h on (entry_admitted (answer_decided p.table.config (now_of p)
+    (event_of p s)) entered ad)).admitted
 
 -- A step that decides nothing
 pub idly_admitted : (p : PassState) (s : Step) → IsHistory p.table.config p.seen → IsEnabledTo p s
@@ -105,18 +102,18 @@ operands c n (Op.IsNull p) g u h = six _ (nat_lt p 8) _ _ _ _ refl (below p 8 h)
 operands c n (Op.New d ty full) g u h = cc
 operands c n (Op.Free p) g u h = cc
 
-pub caller_exists : (p : PassState) (o : Op) (k : ℕ) → IsHistory p.table.config p.seen → p.seat ≡ Caller k
+pub caller_exists : (p : PassState) {o : Op} (k : ℕ) → IsHistory p.table.config p.seen → p.seat ≡ Caller k
     → Admits p o → k < p.table.config.callers
-caller_exists p o k h is ad =
+caller_exists p k h is ad =
     let has : IsCaller (never_of p) k = grind arith in
     let count = (stands p.table.config p.seen h).all.mirrors.register_count in
     omega arith
 
-pub enter_enabled : (p : PassState) (o : Op) → IsHistory p.table.config p.seen → MayBeginCall p o
+pub enter_enabled : {p : PassState} {o : Op} → IsHistory p.table.config p.seen → MayBeginCall p o
     → IsEnabledTo p (Step.Enter o)
-enter_enabled p o h ready =
+enter_enabled {p} {o} h ready =
     let st = stands p.table.config p.seen h in
-    enabled p (Step.Enter o) ready.caller ready.seat (caller_exists p o ready.caller h ready.seat ready.admits) refl
+    enabled p (Step.Enter o) ready.caller ready.seat (caller_exists p ready.caller h ready.seat ready.admits) refl
     (subst (λ (f : Flight). comes_next f.stage f.op (Step.Enter o) ≡ true) (sym ready.rest)
     (ap Rattle.std.specs.Prelude.not ready.entered))
     (operands p.table.config (never_of p) o st.all.mirrors.global_count ready.entered ready.admits.in_range)

@@ -1,9 +1,8 @@
 -- Each step of a call, from what is known of a call on its way: it may be made, and the call goes on.
-use Rattle.mk_laws.proofs.Vocabulary.{Answer, Bool, Group, None, Null, Op, Stage, Step, ℕ, and_parts, ap, arith}
-use Rattle.mk_laws.proofs.Vocabulary.{comes_next, false, group_of, header_of, i_of, if◌then◌else◌, is_in_range, is_put}
-use Rattle.mk_laws.proofs.Vocabulary.{is_unmapped_header, leb-true, ltb-true, nat_le, nat_lt, onward, refl, refused}
-use Rattle.mk_laws.proofs.Vocabulary.{register_met, subst, sym, true, word_met, ◌*◌, ◌+◌, ◌-◌, ◌/◌, ◌<◌, ◌^◌, ◌↔◌, ◌∙◌}
-use Rattle.mk_laws.proofs.Vocabulary.{◌≡◌, ◌≤◌}
+use Rattle.mk_laws.proofs.Vocabulary.{Answer, Bool, Group, None, Null, Op, Stage, Step, ℕ, and_parts, arith, comes_next}
+use Rattle.mk_laws.proofs.Vocabulary.{false, group_of, header_of, i_of, if◌then◌else◌, is_in_range, is_put}
+use Rattle.mk_laws.proofs.Vocabulary.{is_unmapped_header, leb-true, ltb-true, onward, refl, refused, register_met, true}
+use Rattle.mk_laws.proofs.Vocabulary.{word_met, ◌*◌, ◌+◌, ◌-◌, ◌/◌, ◌<◌, ◌^◌, ◌↔◌, ◌≡◌, ◌≤◌}
 use Rattle.mk_core.specs.{Effects.progress_probe, Ranges.is_word_met}
 use Rattle.mk_laws.specs.Images.{has_q, has_some_q}
 use Rattle.mk_caller.proofs.Enabling.{admitted, enabled, idly_admitted, met_is_small, put_decides_nothing}
@@ -69,20 +68,20 @@ module _ {p : PassState} (u : IsUnderway p) where
       ((value - 65536) / 8 + offset ≡ word_met (call_of p))
   met_bounds value offset v i is = grind (arith, and_parts, leb-true, ltb-true)
 
-probe_by : (p q : PassState) (n : ℕ) (b : Bool) → is_unmapped_header (header_of n) ≡ b
+probe_by : {p q : PassState} (n : ℕ) (b : Bool) → is_unmapped_header (header_of n) ≡ b
     → CallMoves p (call_of p).op Step.Probe (progress_probe (call_of p) n) q
     → CallMoves p (call_of p).op Step.Probe (if b then refused (call_of p) Answer.Fault else onward (call_of p) None) q
-probe_by p q n b is m = grind arith
+probe_by n b is m = grind arith
 
 pub probe_refused : {p q : PassState} (n : ℕ) → is_unmapped_header (header_of n) ≡ true
     → CallMoves p (call_of p).op Step.Probe (progress_probe (call_of p) n) q
     → CallMoves p (call_of p).op Step.Probe (refused (call_of p) Answer.Fault) q
-probe_refused {p} {q} n is m = probe_by p q n true is m
+probe_refused n is m = probe_by n true is m
 
 pub probe_passed : {p q : PassState} (n : ℕ) → is_unmapped_header (header_of n) ≡ false
     → CallMoves p (call_of p).op Step.Probe (progress_probe (call_of p) n) q
     → CallMoves p (call_of p).op Step.Probe (onward (call_of p) None) q
-probe_passed {p} {q} n is m = probe_by p q n false is m
+probe_passed n is m = probe_by n false is m
 
 -- A pointer that is moved on stays within its allocation.
 pub moved_within : {p : PassState} (u : IsUnderway p) {value offset : ℕ}

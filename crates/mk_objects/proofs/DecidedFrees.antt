@@ -147,10 +147,8 @@ decided_by {cell} {w} at =
       placing = ap (λ (h : Holding). h.placing) at.holding;
       cycle = ap (λ (h : Holding). h.cycle) at.holding;
       counted = ap counted at.steady
-          ∙ ap (λ (n : ℕ). record (counted (steady_of w)) {
-            releases =
-                n;
-          }) (freed_releases w.now.words cell w.allocations);
+          ∙ ap (λ (n : ℕ). record (counted (steady_of w)) { releases = n })
+          (freed_releases w.now.words cell w.allocations);
     }
 
 abbrev pub Decides : (Step → Bool) → PassState → Answer → PassState → Type 0

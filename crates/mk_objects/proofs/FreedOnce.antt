@@ -95,8 +95,8 @@ none_frees : {kinds : Step → Bool} {p q : PassState} (xs : List PlacedAllocati
     → FreesOnly p.table.config p.seen xs q.seen
 none_frees {kinds} {p} xs not_one d h holds =
     along_turn p kinds (λ x kind. (and_parts _ _ (not_one x kind)).0) (FreesOnly p.table.config p.seen xs)
-    (none_kept p.table.config p.seat kinds p.seen xs (λ x kind. not-true _ (and_parts _ _
-    (not_one x kind)).1)) d h holds (frees_at_once p.table.config p.seen xs)
+    (none_kept p.table.config p.seat kinds p.seen xs (λ x kind. not-true _ (and_parts _ _ (not_one x kind)).1))
+    d h holds (frees_at_once p.table.config p.seen xs)
 
 -- The `quar` frees once,
 

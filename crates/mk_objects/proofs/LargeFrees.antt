@@ -102,8 +102,8 @@ module _ {p : PassState} {reg u : ℕ} {cell : Cell} (count : ℕ) (may : MayFre
 
       none_held_now : (j : ℕ) → j < p.table.config.callers → is_held (now_of r).words j ≡ false
       none_held_now j lt =
-          changed.gates j ∙ clears.gates j (subst (λ (t : WordsState). j < t.config.callers) (sym
-          (reached_table freed)) lt)
+          changed.gates j ∙ clears.gates j
+          (subst (λ (t : WordsState). j < t.config.callers) (sym (reached_table freed)) lt)
 
       module _ (due : Bool) {fresh : ℕ} (once : FreesOnce p q) (holds : Holds q.table.config (now_of q) q.seat)
           (holds_then : Holds a.table.config (now_of a) a.seat)
