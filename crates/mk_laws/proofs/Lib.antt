@@ -167,5 +167,6 @@ pub mod ReadingsStands
 pub mod UnmappedRuns
 pub mod UnsetWords
 pub mod AppliedPlacement
+pub mod CallsBy
 pub mod Promises
 pub mod Basics
