@@ -21,30 +21,12 @@ pub record InHeap (pages u : ℕ) : Type 0 where
   pub page : page_at_address u < pages
 
 pub pointed_in_heap : (pages header u : ℕ) (cell : Cell) → cell_at pages header u ≡ Some cell → InHeap pages u
-pointed_in_heap pages header u cell is = elim (cases_Bool (is_heap_address pages u)) [
-  | inl inside ↦
-      let both = and_parts (nat_le 65536 u) (nat_lt u (65536 + 512 * pages)) inside in
-      let low = leb-true 65536 u both.0 in
-      let high = ltb-true u (65536 + 512 * pages) both.1 in
-      record { from = low; page = omega arith }
-  | inr outside ↦
-      let none : cell_at pages header u ≡ None = cond-false (is_heap_address pages u)
-      (option_and_then (λ (h : Header). cell_under h (page_at_address u) (word_at_address u)) (header_of header))
-      None outside in
-      let clash : None ≡ Some cell = sym none ∙ is in cc
-]
+pointed_in_heap pages header u cell is = grind (arith, and_parts, leb-true, ltb-true, cond-false)
 
 pub points_now : (p : PassState) (k : ℕ) → p.seat ≡ Caller k → IsHistory p.table.config p.seen
     → is_undecided_free (call_of p) ≡ true
     → PointsAt p.table.config (world_of p) (never_behind p.table.config p.seen) k (call_of p)
-points_now p k is h undecided = by p.seat is undecided
-  where
-    by : (s : Seat) → s ≡ Caller k → is_undecided_free (flight_of (now_of p) s) ≡ true
-        → PointsAt p.table.config (world_of p) (never_behind p.table.config p.seen) k (flight_of (now_of p) s)
-    by s e free =
-        subst (λ (x : Seat). PointsAt p.table.config (world_of p) (never_behind p.table.config p.seen) k
-        (flight_of (now_of p) x)) (sym e) (free_points_at k h (ap (λ (x : Seat). is_undecided_free
-        (flight_of (now_of p) x)) (sym e) ∙ free))
+points_now p k is h undecided = grind (arith, free_points_at)
 
 -- what points into a cell by the words does so by its page's header
 pub pointed_by_header : (p : PassState) (u : ℕ) {x : Option Cell} → pointed_cell p.table.config.pages
@@ -69,10 +51,7 @@ target_of pages w f cell free is = rw free is
 
 cell_within : {c : Config} {w : World} {a : PlacedAllocation} → IsWithinLimits c → StandsUsed c w a
     → (cell_of_allocation c a).page < c.pages
-cell_within {c} {a} limits s =
-    let some = (words_within (object_placed c a) (typed_size c a limits s.stands.typed)).0 in
-    let ends = s.stands.within in
-    omega arith
+cell_within {c} {a} limits s = grind (arith, words_within, typed_size)
 
 cells_few : (o : Object) → IsSized o → cells_made o ≤ 32
 cells_few o sized = elim (cases_Bool (is_small_object o)) [
@@ -100,8 +79,7 @@ pointed_now p {u} h free is =
     let caller = acting_caller p (free_is_acting (call_of p) free) in
     let t = points_now p caller.number caller.is h free in
     let cell : Cell = cell_of_allocation p.table.config (placed_at (world_of p).allocations t.number) in
-    let pointed : pointed_cell p.table.config.pages (now_of p).words.pages u ≡ Some cell =
-    ap (λ n. pointed_cell p.table.config.pages (now_of p).words.pages n) (sym is) ∙ t.cell in
+    let pointed : pointed_cell p.table.config.pages (now_of p).words.pages u ≡ Some cell = grind arith in
     let by_header = pointed_by_header p u pointed in
     let heap = pointed_in_heap p.table.config.pages (header_at (now_of p).words (page_at_address u)) u cell by_header in
     record {

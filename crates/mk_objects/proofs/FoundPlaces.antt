@@ -68,11 +68,7 @@ found_clear limit pages o place sized at some = elim (cases_Bool (is_small_objec
 
 -- No page holds more than its words.
 cells_hold : (class u : ℕ) (leaf : Bool) → held_by_use (PageUse.Cells class leaf (bits_of (cells_of class) u)) ≤ 64
-cells_hold class u leaf =
-    let few : count_by (λ cell. cell) (bits_of (cells_of class) u) ≤ cells_of class =
-    subst (λ n. count_by (λ cell. cell) (bits_of (cells_of class) u) ≤ n) (length-bits_of (cells_of class) u)
-    (count_by-le-length (λ cell. cell) (bits_of (cells_of class) u)) in
-    omega (arith, mul-le-mul_left (class_words_of class) few, mul-div-le 64 (class_words_of class))
+cells_hold class u leaf = grind (arith, length-bits_of, count_by-le-length, mul-le-mul_left, mul-div-le)
 
 page_holds : (x : Option Header) (u : ℕ) → held_by_use (use_under x u) ≤ 64
 page_holds (Some Free) u = omega arith

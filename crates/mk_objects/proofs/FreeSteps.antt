@@ -23,36 +23,18 @@ freed_word w cell = quarantine_word (slice_index w.freed cell.page + 2 ^ cell.in
 
 pub frees_it : (w : Words) (cell : Cell) → is_freed w cell ≡ false
     → frees w (Some cell) cell.page (freed_word w cell) ≡ true
-frees_it w cell clear =
-    and_from _ _ (and_from _ _ (eq-eqb cell.page cell.page refl) (ap not clear))
-    (eq-eqb (freed_word w cell) (freed_word w cell) refl)
+frees_it w cell clear = grind (arith, and_from, eq-eqb, freed_word)
 
 -- so it frees the target
 freed_target : (c : Config) (m : Moment) (f : Flight) (cell : Cell) {value : ℕ} → IsOutOfStop m
     → target c.pages m.words f ≡ Some cell → is_freed m.words cell ≡ false → value ≡ freed_word m.words cell
     → cell_freed c.pages m.words f cell.page value ≡ Some cell
-freed_target c m f cell {value} low at clear is =
-    ap (λ (x : Option Cell). if not (is_phase m.words 4) && frees m.words x cell.page value then x else None) at
-    ∙ ap (λ n. if not (is_phase m.words 4) && frees m.words (Some cell) cell.page n then Some cell else None) is
-    ∙ ap (λ b. if not b && frees m.words (Some cell) cell.page (freed_word m.words cell) then Some cell else None)
-    (off_four m low) ∙ ap (λ b. if b then Some cell else None) (frees_it m.words cell clear)
+freed_target c m f cell {value} low at clear is = grind (arith, freed_word, off_four, frees_it)
 
 freed_left : (c : Config) {s : Seat} (cell : Cell) {value : ℕ} {w v : World} → IsAsLeft s w v → IsOutOfStop v.now
     → target c.pages w.now.words (flight_of w.now s) ≡ Some cell → is_freed w.now.words cell ≡ false → value
     ≡ freed_word w.now.words cell → cell_freed c.pages v.now.words (flight_of v.now s) cell.page value ≡ Some cell
-freed_left c {s} cell {w} {v} kept low at clear is =
-    let pages : v.now.words.pages ≡ w.now.words.pages = ap (λ (x : Steady). x.pages) kept.steady in
-    let freeds : v.now.words.freed ≡ w.now.words.freed = ap (λ (x : Steady). x.freed) kept.steady in
-    let snapshots : v.now.words.snapshot ≡ w.now.words.snapshot = ap (λ (x : Steady). x.snapshot) kept.steady in
-    let there : target c.pages v.now.words (flight_of v.now s) ≡ Some cell =
-    ap (λ (g : Flight). target c.pages v.now.words g) kept.call
-    ∙ target_same c.pages w.now.words v.now.words (flight_of w.now s) pages ∙ at in
-    let word : freed_word w.now.words cell ≡ freed_word v.now.words cell =
-    sym (ap (λ (xs : List ℕ). quarantine_word (slice_index xs cell.page + 2 ^ cell.index)
-    (slice_index v.now.words.snapshot cell.page)) freeds ∙ ap (λ (xs : List ℕ). quarantine_word
-    (slice_index w.now.words.freed cell.page + 2 ^ cell.index) (slice_index xs cell.page)) snapshots) in
-    freed_target c v.now (flight_of v.now s) cell low there (freed_same w.now.words v.now.words cell freeds
-    ∙ clear) (is ∙ word)
+freed_left c {s} cell {w} {v} kept low at clear is = grind (arith, target_same, freed_word, freed_target, freed_same)
 
 -- Both halves of the word are apart.
 pub low_half : (f s : ℕ) → f < 2 ^ 32 → quarantine_word f s % 2 ^ 32 ≡ f
@@ -75,10 +57,7 @@ quar_behind c {k} cell {value} {w} {v} lt kept low at clear is small =
     let frees : cell_freed c.pages v.now.words f cell.page value ≡ Some cell = freed_left c cell kept low at clear is in
     let u : World = world_behind c v (record { seat = Caller k; step = Step.Quar cell.page value }) in
     let n : ℕ = slice_index w.now.words.freed cell.page + 2 ^ cell.index in
-    let freed : u.now.words.freed ≡ slice_set w.now.words.freed cell.page n =
-    ap (λ i. slice_set v.now.words.freed cell.page (i % 2 ^ 32)) is
-    ∙ ap (λ i. slice_set v.now.words.freed cell.page i) (low_half n (slice_index w.now.words.snapshot cell.page) small)
-    ∙ ap (λ (xs : List ℕ). slice_set xs cell.page n) freeds in
+    let freed : u.now.words.freed ≡ slice_set w.now.words.freed cell.page n = grind (arith, low_half) in
     let snapshot : u.now.words.snapshot ≡ w.now.words.snapshot =
     ap (λ i. slice_set v.now.words.snapshot cell.page (i / 2 ^ 32)) is
     ∙ ap (λ i. slice_set v.now.words.snapshot cell.page i) (high_half n (slice_index w.now.words.snapshot cell.page)
@@ -191,12 +170,7 @@ quarantine_may {p} cell {value} {o} turn free at clear low is within gates =
 -- the word that is made of both halves of the one that was found
 pub freed_word_made : (f s i : ℕ) → f < 2 ^ 32 → i < 32 → has_bit f i ≡ false → {quar : ℕ} → quar ≡ quarantine_word f s
     → 4294967296 * (quar / 4294967296) + bit_or (quar % 4294967296) (1 * 2 ^ i % 2 ^ 64) ≡ quarantine_word (f + 2 ^ i) s
-freed_word_made f s i lt near clear {quar} is =
-    let low : quar % 4294967296 ≡ f = omega arith in
-    let high : quar / 4294967296 ≡ s = omega arith in
-    let bit : bit_or (quar % 4294967296) (1 * 2 ^ i % 2 ^ 64) ≡ f + 2 ^ i =
-    ap (λ n. bit_or n (1 * 2 ^ i % 2 ^ 64)) low ∙ one_bit_more f i (omega arith) clear in
-    omega arith
+freed_word_made f s i lt near clear {quar} is = grind (arith, one_bit_more)
 
 pub freed_half : (f i : ℕ) → f < 2 ^ 32 → i < 32 → has_bit f i ≡ false → f + 2 ^ i < 2 ^ 32
 freed_half f i lt near clear =

@@ -115,8 +115,7 @@ frees_now {p} {q} {x} m h holds frees =
     let es : List Event = p.seen ++ m.others in
     let seen : q.seen ≡ es ++ e ∷ [] = ap (λ (y : PassState). y.seen) m.same in
     let whole : IsHistory c (es ++ e ∷ []) = subst (λ (y : PassState). IsHistory y.table.config y.seen) m.same h in
-    let left_now : (left c (es ++ e ∷ [])).allocations ≡ (world_of q).allocations =
-    ap (λ (y : PassState). (world_of y).allocations) (sym m.same) in
+    let left_now : (left c (es ++ e ∷ [])).allocations ≡ (world_of q).allocations = grind arith in
     let xs : List PlacedAllocation = (world_of q).allocations in
     let before : FreesOnly c p.seen xs es =
     along_others p none (λ y (no : none y ≡ true). absurd (true≢false (sym no))) (FreesOnly c p.seen xs)
@@ -163,13 +162,10 @@ once_behind {p} {q} {r} not d h holds o =
     by more seen none once =
         let c : Config = p.table.config in
         let there : OnceFrom c (p.seen ++ more) r = subst (λ (l : List Event). OnceFrom c l r) seen once in
-        let first : FreesOnly c p.seen (world_of r).allocations (p.seen ++ more) =
-        subst (λ (l : List Event). FreesOnly c p.seen (world_of r).allocations l) seen none in
+        let first : FreesOnly c p.seen (world_of r).allocations (p.seen ++ more) = grind (arith, none) in
         let rest : List Event = there.before ++ there.event ∷ there.behind in
-        let parts : (p.seen ++ more) ++ rest ≡ r.seen =
-        sym (append_assoc (p.seen ++ more) there.before (there.event ∷ there.behind)) ∙ sym there.is in
-        let joined : p.seen ++ (more ++ there.before) ≡ p.seen ++ more ++ there.before =
-        sym (append_assoc p.seen more there.before) in
+        let parts : (p.seen ++ more) ++ rest ≡ r.seen = grind (arith, append_assoc) in
+        let joined : p.seen ++ (more ++ there.before) ≡ p.seen ++ more ++ there.before = grind (arith, append_assoc) in
         record {
           before = more ++ there.before;
           event = there.event;
@@ -190,8 +186,7 @@ once_before {p} {q} {r} not o table d h holds same =
     let c : Config = p.table.config in
     let xs : List PlacedAllocation = (world_of r).allocations in
     let seen : r.seen ≡ q.seen ++ d.more = ap (λ (x : PassState). x.seen) d.is in
-    let was : q.seen ≡ p.seen ++ (o.before ++ o.event ∷ o.behind) = o.is
-    ∙ append_assoc p.seen o.before (o.event ∷ o.behind) in
+    let was : q.seen ≡ p.seen ++ (o.before ++ o.event ∷ o.behind) = grind (arith, append_assoc) in
     let second : FreesOnly c q.seen xs r.seen =
     subst (λ (t : WordsState). FreesOnly t.config q.seen xs r.seen) (sym table) (none_frees xs not d h holds) in
     record {
@@ -214,24 +209,12 @@ once_before {p} {q} {r} not o table d h holds same =
 
 pub due_since : {p q : PassState} → FreesOnce p q → IsOverQuarter p.table.config (world_of q).allocations
     → IsDueSince p q
-due_since {p} o quarter =
-    record {
-      before = o.before;
-      event = o.event;
-      behind = o.behind;
-      is = o.is;
-      due = record {
-        decides = o.frees;
-        quarter = subst (λ (xs : List PlacedAllocation). IsOverQuarter p.table.config xs) (sym o.leaves) quarter;
-      };
-    }
+due_since {p} o quarter = grind arith
 
 -- and only there.
 pub due_then : {p q : PassState} → FreesOnce p q → IsDueSince p q
     → IsOverQuarter p.table.config (world_of q).allocations
-due_then {p} o d =
-    subst (λ (xs : List PlacedAllocation). IsOverQuarter p.table.config xs)
-    (o.only d.before d.event d.behind d.is d.due.decides) d.due.quarter
+due_then {p} o d = grind arith
 
 -- Where none frees, none is due.
 

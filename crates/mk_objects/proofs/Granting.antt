@@ -18,19 +18,13 @@ use Rattle.mk_objects.proofs.Unchanged.{HasCall, OfCaller, call_behind}
 
 marks_first : (w : Words) (o : Object) (place : Place) → phase_of w ≡ 1 → header_at w place.page ≡ 0
     → marks_place w o (Some place) place.page (bits_made o) ≡ true
-marks_first w o place one free =
-    and_from _ _ (and_from _ _ (and_from _ _ (eq-eqb (phase_of w) 1 one) (eq-eqb place.page place.page refl))
-    (eq-eqb (header_at w place.page) 0 free))
-    (eq-eqb (bits_made o) (bits_made o) refl)
+marks_first w o place one free = grind (arith, and_from, eq-eqb)
 
 pub serving_marks : {c : Config} {s : Seat} {o : Object} {place : Place} {w v : World} → Serving c s o place w v
     → phase_of v.now.words ≡ 1 → header_at v.now.words place.page ≡ 0
     → marks_place v.now.words (object_made c (flight_of v.now s).op) (place_now c v.now (flight_of v.now s)) place.page
     (bits_made o) ≡ true
-serving_marks {c} {s} {o} {place} {v} at one free =
-    ap (λ (x : Object). marks_place v.now.words x (place_now c v.now (flight_of v.now s)) place.page (bits_made o))
-    at.object ∙ ap (λ (x : Option Place). marks_place v.now.words o x place.page (bits_made o)) at.placed
-    ∙ marks_first v.now.words o place one free
+serving_marks {c} {s} {o} {place} {v} at one free = grind (arith, marks_first)
 
 all_marked : (bits : ℕ) (xs : List ℕ) (p : ℕ) → p < length xs
     → (without bits (slice_index (slice_set xs p (bit_or (slice_index xs p) bits)) p) == 0) ≡ true
@@ -52,8 +46,7 @@ carving_marked {c} {s} {o} {place} {v} at (OfCaller k lt) new one free some room
     let u : World = world_behind c v (record { seat = s; step = x }) in
     let zero : place.page + 0 ≡ place.page = omega arith in
     let marks = serving_marks at one (sym (ap (λ p. header_at v.now.words p) zero) ∙ free 0 (omega arith)) in
-    let fixed : u.now.seats.holding.placing ≡ Chosen place = rw marks
-    (new_placed c v.now (flight_of v.now (Caller k)) place new at.placed at.once) in
+    let fixed : u.now.seats.holding.placing ≡ Chosen place = grind (arith, new_placed) in
     record {
       serving = record {
         call = call ∙ at.call;
@@ -73,33 +66,13 @@ carving_marked {c} {s} {o} {place} {v} at (OfCaller k lt) new one free some room
 pub carving_unmarked : {c : Config} {s : Seat} {o : Object} {place : Place} {w v : World} → Serving c s o place w v
     → phase_of v.now.words ≡ 0
     → ((d : ℕ) → d < pages_made o → header_at v.now.words (place.page + d) ≡ 0) → Carving c s o place w v 0
-carving_unmarked {v} at none free =
-    record {
-      serving = at;
-      stand = λ d lt. absurd (omega arith);
-      free = λ d le lt. free d lt;
-      marked = or_left (not (is_phase v.now.words 1)) _ (ap (λ n. not (n == 1)) none);
-    }
+carving_unmarked {v} at none free = grind (arith, or_left)
 
 -- the grant, the tally, and what others do after them
 
 pub granted_left : {c : Config} {s : Seat} {place : Place} {w u v : World} → d_of (flight_of w.now s).op < 8
     → IsGrantedAt c s place w u → IsAsLeft s u v → IsGrantedAt c s place w v
-granted_left {c} {s} {place} {w} {u} {v} small at left =
-    let pages : v.now.words.pages ≡ u.now.words.pages = ap (λ (x : Steady). x.pages) left.steady in
-    let held : v.now.words.held ≡ u.now.words.held = ap (λ (x : Steady). x.held) left.steady in
-    let xs = w.allocations ++ object_at_place c (flight_of w.now s) place ∷ [] in
-    record {
-      call = left.call ∙ at.call;
-      placing = ap (λ (h : Holding). h.placing) left.holding ∙ at.placing;
-      steady = left.steady ∙ at.steady ∙ ap (λ (ps : List Page). record (steady_of w) {
-        pages = ps;
-        held = u.now.words.held;
-        allocations = xs;
-      }) (sym pages) ∙ ap (λ n.
-          record (steady_of w) { pages = v.now.words.pages; held = n; allocations = xs }) (sym held);
-      register = λ k is. left.registers k (d_of (flight_of w.now s).op) is small ∙ at.register k is;
-    }
+granted_left {c} {s} {place} {w} {u} {v} small at left = grind arith
 
 pub granted_behind : {c : Config} {s : Seat} {o : Object} {place : Place} {w v : World} → IsTakenAt c s o place w v
     → HasCall c v.now s → ((k : ℕ) → s ≡ Caller k → 8 * k + d_of (flight_of w.now s).op < length v.now.words.registers)
@@ -108,9 +81,7 @@ granted_behind {c} {place} {w} {v} at (OfCaller k lt) room =
     let call = call_behind c v.now k Step.Grant lt in
     let f : Flight = flight_of w.now (Caller k) in
     let base : granted_base c (flight_of v.now (Caller k)) v.now.seats.holding.placing
-    ≡ base_made (object_made c f.op) place =
-    ap (λ (x : Placing). granted_base c (flight_of v.now (Caller k)) x) at.placing
-    ∙ ap (λ (g : Flight). base_made (object_made c g.op) place) at.call in
+    ≡ base_made (object_made c f.op) place = grind arith in
     let u : World = world_behind c v (record { seat = Caller k; step = Step.Grant }) in
     record {
       call = call ∙ ap (λ (g : Flight). record g { stage = Stage.Give }) at.call;
@@ -152,8 +123,7 @@ granted_behind {c} {place} {w} {v} at (OfCaller k lt) room =
         ≡ address_of (base_made (object_made c (flight_of w.now (Caller k)).op) place) % 2 ^ 64
     granted_register j is =
         let same : k ≡ j = cc in
-        let d : d_of (flight_of v.now (Caller k)).op ≡ d_of (flight_of w.now (Caller k)).op =
-        ap (λ (g : Flight). d_of g.op) at.call in
+        let d : d_of (flight_of v.now (Caller k)).op ≡ d_of (flight_of w.now (Caller k)).op = grind arith in
         let value = address_of (granted_base c (flight_of v.now (Caller k)) v.now.seats.holding.placing) % 2 ^ 64 in
         ap (λ i. slice_index (slice_set v.now.words.registers (8 * k + d_of (flight_of v.now (Caller k)).op) value)
         (8 * i + d_of (flight_of w.now (Caller k)).op)) (sym same)

@@ -16,13 +16,7 @@ words_mapped s = if s.mapped then s.words else 0
 pub held_one_more : (c : Config) (xs : List PlacedAllocation) (a : PlacedAllocation) → a.released ≡ false
     → a.freed ≡ false
     → held_by_allocations c (xs ++ a ∷ []) ≡ held_by_allocations c xs + storage_words c a
-held_one_more c xs a unreleased live =
-    ap held_by_storages (unreleased_more c xs a unreleased)
-    ∙ sum_by-append words_mapped (unreleased_storage c xs) (storage_of c a ∷ [])
-    ∙ ap (λ n. held_by_allocations c xs + n) (one ∙ rw (unreleased, live) refl)
-  where
-    one : sum_by words_mapped (storage_of c a ∷ []) ≡ words_mapped (storage_of c a)
-    one = sum_by-cons words_mapped (storage_of c a) [] ∙ omega arith
+held_one_more c xs a unreleased live = grind (arith, unreleased_more, sum_by-append, words_mapped, sum_by-cons)
 
 -- No more is held than the pages have.
 pub held_is_little : (c : Config) (es : List Event) → IsHistory c es → IsSettled (left c es)

@@ -23,16 +23,12 @@ pub record HeadsRun (x : Option Header) (count : ℕ) : Type 0 where
 same_count : (page n count : ℕ)
     → ◌≡◌ {A = Option RunPages} (Some (record { page = page; count = n }))
     (Some (record { page = page; count = count })) → n ≡ count
-same_count page n count is =
-    let one : ◌≡◌ {A = RunPages} (record { page = page; count = n }) (record { page = page; count = count }) =
-    cc is in ap (λ (x : RunPages). x.count) one
+same_count page n count is = grind arith
 
 heads_by : (x : Option Header) (page count : ℕ) → run_headed x page ≡ Some (record { page = page; count = count })
     → HeadsRun x count
-heads_by (Some (Run n mapped)) page count is =
-    record { heads = refl; words = ap (λ i. 64 * i) (same_count page n count is) }
-heads_by (Some (LeafRun n)) page count is =
-    record { heads = refl; words = ap (λ i. 64 * i) (same_count page n count is) }
+heads_by (Some (Run n mapped)) page count is = grind (arith, same_count)
+heads_by (Some (LeafRun n)) page count is = grind (arith, same_count)
 heads_by (Some Free) page count is = cc
 heads_by (Some (Block class)) page count is = cc
 heads_by (Some (LeafBlock class)) page count is = cc
@@ -77,14 +73,10 @@ module _ {p : PassState} {reg u : ℕ} {cell : Cell} (count : ℕ) (may : MayFre
     now = freed_now freed
 
     pub run_freed : (now_of q).seats.holding.freed ≡ Some (record { page = cell.page; count = count })
-    run_freed = ap (λ (h : Holding). h.freed) now.holding
-        ∙ ap (λ (x : Option RunPages). or_else x (now_of p).seats.holding.freed) run
+    run_freed = grind (arith, now)
 
     pub run_mapped : (d : ℕ) → d < count → IsStillMapped (now_of q).words (record { page = cell.page; count = count }) d
-    run_mapped d lt e =
-        run_is.mapped d lt
-        (ap (λ (ps : List Page). (slice_index_or ps (cell.page + d) free_page).header)
-        (sym (ap (λ (x : Steady). x.pages) now.steady)) ∙ e)
+    run_mapped d lt e = grind (arith, run_is, now)
 
     module _ {a b d r : PassState} {n : ℕ} (clears : ClearsRun q a) (looks : OnlyLooks a b)
         (tallied : SetsTally b Tally.Held n d) (looks_again : OnlyLooks d r) where
@@ -101,21 +93,14 @@ module _ {p : PassState} {reg u : ℕ} {cell : Cell} (count : ℕ) (may : MayFre
       changed = reached_world sets
 
       none_held_now : (j : ℕ) → j < p.table.config.callers → is_held (now_of r).words j ≡ false
-      none_held_now j lt =
-          changed.gates j ∙ clears.gates j
-          (subst (λ (t : WordsState). j < t.config.callers) (sym (reached_table freed)) lt)
+      none_held_now j lt = grind (arith, changed, reached_table)
 
       module _ (due : Bool) {fresh : ℕ} (once : FreesOnce p q) (holds : Holds q.table.config (now_of q) q.seat)
           (holds_then : Holds a.table.config (now_of a) a.seat)
           (behind : IsHistory r.table.config r.seen) (is : n + 64 * count ≡ (now_of p).words.held)
           (found : fresh ≡ (now_of r).words.fresh) (fits : n < 2 ^ 64) (is_due : IsTrue due ↔ (n < 4 * fresh)) where
         held_exact : n ≡ held_by_allocations p.table.config (world_of r).allocations
-        held_exact =
-            let sum = held_then in
-            let first : n ≡ held_by_allocations p.table.config (map (freed_where_it_stands (now_of p).words (Some cell))
-            (world_of p).allocations) = omega arith in
-            first ∙ ap (λ (xs : List PlacedAllocation). held_by_allocations p.table.config xs)
-            (sym (stays.allocations ∙ ap (λ (x : Steady). x.allocations) now.steady))
+        held_exact = grind (arith, held_then, stays, now)
 
         fresh_exact : (now_of r).words.fresh ≡ in_a_word (fresh_words_of p.table.config (world_of r).allocations)
         fresh_exact =

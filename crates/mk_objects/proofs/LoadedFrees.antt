@@ -21,16 +21,7 @@ use Rattle.mk_words.specs.{CallSteps.register_of, Steps.IsAdmittedTo}
 pub free_step_admits : {p : PassState} {r : ℕ} (x : Step) {f : Flight} → IsCallers p
     → Holds p.table.config (now_of p) p.seat
     → IsHistory p.table.config p.seen → IsFreeAt p r f → f.op ≡ Op.Free r → IsAdmittedTo p x
-free_step_admits {p} {r} x {f} caller holds h u is = by p.seat caller.is holds u.call u.base
-  where
-    by : (s : Seat) → s ≡ Caller caller.number → Holds p.table.config (now_of p) s → flight_of (now_of p) s ≡ f
-        → IsBase (register_at (never_behind p.table.config p.seen) (caller_number s) r)
-        → IsAdmittedBehind p.table.config p.seen (record { seat = s; step = x })
-    by s e there call base =
-        subst (λ (y : Seat). IsAdmittedBehind p.table.config p.seen (record { seat = y; step = x })) (sym e)
-        (free_admits caller.number r x h (subst (λ (y : Seat). Holds p.table.config (now_of p) y) e there).0 u.small
-        (ap (λ (y : Seat). (flight_of (now_of p) y).op) (sym e) ∙ ap (λ (g : Flight). g.op) call ∙ is)
-        (subst (λ (y : Seat). IsBase (register_at (never_behind p.table.config p.seen) (caller_number y) r)) e base))
+free_step_admits {p} {r} x {f} caller holds h u is = grind (arith, free_admits)
 
 -- Its register keeps its value over a step that decides nothing.
 pub value_kept : {p q : PassState} (r : ℕ) {x : Step} → IsCallers p → r < 8 → Acts p x q
@@ -49,40 +40,15 @@ value_kept {p} r {x} caller small a none =
         → register_at (never_behind p.table.config (p.seen ++ others ++ record { seat = s; step = x } ∷ []))
         (caller_number s) r
         ≡ register_at (never_behind p.table.config p.seen) (caller_number s) r
-    by others s e of_others answer whole =
-        subst (λ (y : Seat). AreOfOthers (y ∷ []) others → answer_decided p.table.config
-        (left p.table.config (p.seen ++ others)).now (record { seat = y; step = x }) ≡ None
-        → IsHistory p.table.config (p.seen ++ others ++ record { seat = y; step = x } ∷ [])
-        → register_at (never_behind p.table.config (p.seen ++ others ++ record { seat = y; step = x } ∷ []))
-        (caller_number y) r ≡ register_at (never_behind p.table.config p.seen) (caller_number y) r) (sym e)
-        (λ o n w. registers_kept p.seen others caller.number x w o n r small) of_others answer whole
+    by others s e of_others answer whole = grind (arith, registers_kept)
 
 -- It is a caller's.
 pub unloaded_caller : (p : PassState) (r : ℕ) → call_of p ≡ begun (Op.Free r) → IsCallers p
-unloaded_caller p r call = by p.seat refl call
-  where
-    loads : Stage → Bool
-    loads Stage.LoadP = true
-    loads _ = false
-
-    by : (s : Seat) → p.seat ≡ s → flight_of (now_of p) s ≡ begun (Op.Free r) → IsCallers p
-    by (Caller k) is c = record { number = k; is = is }
-    by (Marker k) is c = let e : false ≡ true = ap (λ (f : Flight). loads f.stage) c in cc
-    by Host is c = let e : false ≡ true = ap (λ (f : Flight). loads f.stage) c in cc
+unloaded_caller p r call = grind arith
 
 reg_enabled : (c : Config) (m : Moment) (k r : ℕ) → k < c.callers → flight_of m (Caller k) ≡ begun (Op.Free r)
     → IsEnabled c m (record { seat = Caller k; step = Step.Reg })
-reg_enabled c m k r lt call =
-    meets_enabled c m (record { seat = Caller k; step = Step.Reg }) (record {
-      seat = lt-ltb k c.callers lt;
-      kind = refl;
-      order = ap (λ (f : Flight). comes_next f.stage f.op Step.Reg) call;
-      range = refl;
-      gates = refl;
-      phase = refl;
-      marker = refl;
-      holder = refl;
-    })
+reg_enabled c m k r lt call = grind (arith, meets_enabled, lt-ltb)
 
 module _ {p : PassState} {r : ℕ} {o : Option Op} (turn : IsTurn p o) (h : IsHistory p.table.config p.seen)
     (u : IsUnloaded p r) where
@@ -96,14 +62,7 @@ module _ {p : PassState} {r : ℕ} {o : Option Op} (turn : IsTurn p o) (h : IsHi
   loads_within is holds = (subst (λ (x : Seat). Holds p.table.config (now_of p) x) is holds).0
 
   pub load_may : IsEnabledTo p Step.Reg
-  load_may = by p.seat loader.is turn.holds u.call
-    where
-      by : (s : Seat) → s ≡ Caller loading → Holds p.table.config (now_of p) s → flight_of (now_of p) s
-          ≡ begun (Op.Free r) → IsEnabled p.table.config (now_of p) (record { seat = s; step = Step.Reg })
-      by s is holds call =
-          subst (λ (x : Seat). IsEnabled p.table.config (now_of p) (record { seat = x; step = Step.Reg })) (sym is)
-          (reg_enabled p.table.config (now_of p) loading r (loads_within is holds)
-          (ap (λ (x : Seat). flight_of (now_of p) x) (sym is) ∙ call))
+  load_may = grind (arith, loader, loading, reg_enabled, loads_within)
 
   -- whether it decides the Free or not
   pub load_admits : IsAdmittedTo p Step.Reg
@@ -124,20 +83,11 @@ load_progress r n b =
     else record { flight = record (begun (Op.Free r)) { stage = Stage.Turn; p = n }; answer = None }
 
 loads_to : (r n : ℕ) → (progress_reg (begun (Op.Free r)) Stage.LoadP n).flight ≡ loaded_free r n
-loads_to r n = by (n == 0)
-  where
-    by : (b : Bool) → (load_progress r n b).flight
-        ≡ record (begun (Op.Free r)) { stage = if b then Stage.Give else Stage.Turn; p = n }
-    by true = refl
-    by false = refl
+loads_to r n = grind (arith, load_progress)
 
 loads_answer : (r n : ℕ)
     → (progress_reg (begun (Op.Free r)) Stage.LoadP n).answer ≡ (if n == 0 then Some Answer.Done else None)
-loads_answer r n = by (n == 0)
-  where
-    by : (b : Bool) → (load_progress r n b).answer ≡ (if b then Some Answer.Done else None)
-    by true = refl
-    by false = refl
+loads_answer r n = grind (arith, load_progress)
 
 loaded_entry : (k : ℕ) (o : Op) (b : Bool)
     → entry_of k o (if b then Some Answer.Done else None) ≡ (if b then entry_of k o (Some Answer.Done) else [])
@@ -155,10 +105,7 @@ loaded_found c m k r call = ap (λ (f : Flight). register_word m.words k (regist
 -- A load changes no word.
 loaded_words : (c : Config) (m : Moment) (k r : ℕ) → flight_of m (Caller k) ≡ begun (Op.Free r)
     → (moment_behind c m (record { seat = Caller k; step = Step.Reg })).words ≡ m.words
-loaded_words c m k r call =
-    ap (λ (f : Flight). accessed m.words
-    (Named (Word.Reg k (register_met (flight_of m (Caller k)) (flight_of m (Caller k)).stage)))
-    (reg_access f f.stage)) call
+loaded_words c m k r call = grind arith
 
 record LoadsTo (c : Config) (k r n : ℕ) (w v : World) : Type 0 where
   at : CallIsAt (Caller k) (loaded_free r n) w (world_behind c v (record { seat = Caller k; step = Step.Reg }))
@@ -208,8 +155,7 @@ pub load_reaches : {p q : PassState} {r n : ℕ} {o : Option Op} → r < 8 → I
     → n ≡ register_of p r → HasLoaded p r n q
 load_reaches {p} {r} {n} small turn u a is =
     let caller = unloaded_caller p r u.call in
-    let here : n ≡ register_word (now_of p).words caller.number r = is
-    ∙ ap (λ (x : Seat). register_word (now_of p).words (caller_number x) r) caller.is in
+    let here : n ≡ register_word (now_of p).words caller.number r = grind arith in
     reaches_on (λ w. w ≡ world_of p) (CallIsAt p.seat (loaded_free r n) (world_of p))
     (reaches_nothing is_loading p (λ w. w ≡ world_of p) refl) a refl refl caller (λ w v first kept known pages.
     let kept : IsAsLeft p.seat (world_of p) v = subst (λ (x : World). IsAsLeft p.seat x v) first kept in
@@ -229,17 +175,14 @@ pub load_keeps : {p q : PassState} {r n : ℕ} {o : Option Op} → r < 8 → IsT
     → n ≡ register_of p r → (n == 0) ≡ false → value_of q r ≡ value_of p r
 load_keeps {p} {r} {n} small turn u a is some =
     let caller = unloaded_caller p r u.call in
-    let here : n ≡ register_word (now_of p).words caller.number r = is
-    ∙ ap (λ (x : Seat). register_word (now_of p).words (caller_number x) r) caller.is in
+    let here : n ≡ register_word (now_of p).words caller.number r = grind arith in
     value_kept r caller small a (λ v kept known. (lands p r n v small known caller.number caller.is kept turn.holds
     u.call here).1 ∙ ap (λ (b : Bool). if b then Some Answer.Done else None) some)
 
 -- A Free that has loaded a pointer isn't decided.
 pub loaded_undecided : {p : PassState} {r : ℕ} (u : ℕ) → IsFreeAt p r (loaded_free r u) → (u == 0) ≡ false
     → is_undecided_free (call_of p) ≡ true
-loaded_undecided {p} {r} u at some =
-    ap (λ (f : Flight). is_undecided_free f) at.call ∙ ap (λ (b : Bool). is_undecided_free
-    (record (begun (Op.Free r)) { stage = if b then Stage.Give else Stage.Turn; p = u })) some
+loaded_undecided {p} {r} u at some = grind arith
 
 -- A register whose word is 0 is null.
 
@@ -255,25 +198,10 @@ null_at {c} {es} k r h small call base zero =
     let images = (histories_keep_the_invariant c es h).mirrors.images in
     let place : (8 * k + r) / 8 ≡ k = omega arith in
     let here : shown (flight_of (left c es).now (Caller ((8 * k + r) / 8))) ((8 * k + r) % 8)
-    (register_word (left c es).now.words k r) ≡ 0 =
-    ap (λ i. shown (flight_of (left c es).now (Caller i)) ((8 * k + r) % 8) (register_word (left c es).now.words k r))
-    place ∙ ap (λ (f : Flight). shown f ((8 * k + r) % 8) (register_word (left c es).now.words k r)) call ∙ zero in
+    (register_word (left c es).now.words k r) ≡ 0 = grind arith in
     null_by (bases_of (left c es).allocations) (register_at (never_behind c es) k r) base
     (sym (images.registers (8 * k + r)) ∙ here)
 
 pub load_null : {p : PassState} {r n : ℕ} → IsHistory p.table.config p.seen → IsUnloaded p r → n ≡ register_of p r
     → (n == 0) ≡ true → value_of p r ≡ Null
-load_null {p} {r} {n} h u is none =
-    let caller = unloaded_caller p r u.call in
-    by p.seat caller.is u.call u.base (sym is ∙ eqb-true n 0 none)
-  where
-    by : (s : Seat) → s ≡ Caller (unloaded_caller p r u.call).number → flight_of (now_of p) s ≡ begun (Op.Free r)
-        → IsBase (register_at (never_behind p.table.config p.seen) (caller_number s) r)
-        → register_word (now_of p).words (caller_number s) r ≡ 0
-        → register_at (never_behind p.table.config p.seen) (caller_number s) r ≡ Null
-    by s e call base zero =
-        subst (λ (x : Seat). flight_of (now_of p) x ≡ begun (Op.Free r)
-        → IsBase (register_at (never_behind p.table.config p.seen) (caller_number x) r)
-        → register_word (now_of p).words (caller_number x) r ≡ 0 → register_at (never_behind p.table.config p.seen)
-        (caller_number x) r ≡ Null) (sym e) (λ c b z. null_at (unloaded_caller p r u.call).number r h u.small c b z)
-        call base zero
+load_null {p} {r} {n} h u is none = grind (arith, unloaded_caller, eqb-true, null_at)

@@ -35,12 +35,7 @@ pub record KnowsPlace (p : PassState) (place : Place) : Type 0 where
 fit_of : (c : Config) (m : Moment) (f : Flight) (place : Place) → is_undecided_new f ≡ true
     → m.seats.holding.placing ≡ Unplaced
     → place_now c m f ≡ Some place → place_on_pages c.resident m.words.pages (object_made c f.op) ≡ Some place
-fit_of c m f place new at placed = sym (ap
-    (λ (x : Placing). place_by_placing c.resident m.words.pages (object_made c f.op) x) at) ∙ sym (under new) ∙ placed
-  where
-    under : is_undecided_new f ≡ true
-        → place_now c m f ≡ place_by_placing c.resident m.words.pages (object_made c f.op) m.seats.holding.placing
-    under is = rw is refl
+fit_of c m f place new at placed = grind arith
 
 within_of : (limit : ℕ) (pages : List Page) {o : Object} (place : Place) {n : ℕ} → IsSized o → length pages ≡ n
     → FitsOnFreePages limit pages o place ⊎ FitsInBlock pages o place → place.page < n
@@ -82,13 +77,7 @@ knows_place {p} {o} {place} turn h goes =
 -- Where its page has no header, all its pages have none.
 pub free_pages_of : {p : PassState} {place : Place} → KnowsPlace p place → header_at (now_of p).words place.page ≡ 0
     → FitsOnFreePages p.table.config.resident (now_of p).words.pages (object_for p) place
-free_pages_of {p} k z = elim k.fits [
-  | inl free ↦ free
-  | inr block ↦
-      let some = pages_some (object_for p) k.sized in
-      absurd (part_not_free (object_for p) 0 (header_made (object_for p) 0)
-      (made_shows (object_for p) 0 k.sized (omega arith)) (sym block.header ∙ z))
-]
+free_pages_of {p} k z = grind (arith, pages_some, part_not_free, made_shows)
 
 pub block_of : {p : PassState} {place : Place} → KnowsPlace p place → header_at (now_of p).words place.page ≢ 0
     → FitsInBlock (now_of p).words.pages (object_for p) place
@@ -103,10 +92,7 @@ block_of {p} {place} k some = elim k.fits [
 -- The cell of the place isn't used.
 pub place_unused : {p : PassState} {place : Place} → KnowsPlace p place
     → has_bit (used_at (now_of p).words place.page) place.index ≡ false
-place_unused {p} {place} k = elim (cases_eq (header_at (now_of p).words place.page) 0) [
-  | inl z ↦ no_bit (used_at (now_of p).words place.page) place.index (k.unused z)
-  | inr some ↦ found_clear p.table.config.resident (now_of p).words.pages (object_for p) place k.sized k.fit some
-]
+place_unused {p} {place} k = grind (arith, no_bit, found_clear)
 
 phase_kept : {s : Seat} {o : Object} {place : Place} {c : Config} {w u v : World} → Serving c s o place w u
     → IsAsLeft s u v → phase_of v.now.words ≡ phase_of w.now.words
@@ -132,13 +118,11 @@ module _ {p : PassState} {place : Place} (goes : GoesTo p place) (k : KnowsPlace
   frees = free_pages_of k free
 
   pub mark_may : phase_of (now_of p).words ≡ 1 → IsEnabledTo p (Step.Mark place.page (bits_made (object_for p)))
-  mark_may one =
-      may_mark_place k.acting place.page (bits_made (object_for p)) k.within one (serving_marks k.serving one free)
+  mark_may one = grind (arith, may_mark_place, serving_marks)
 
   free_now : {v : World} → IsAsLeft p.seat (world_of p) v → (d : ℕ) → d < pages_made (object_for p)
       → header_at v.now.words (place.page + d) ≡ 0
-  free_now kept d lt = ap (λ (x : Steady). (slice_index_or x.pages (place.page + d) free_page).header) kept.steady
-      ∙ frees.free d lt
+  free_now kept d lt = grind (arith, frees)
 
   pub marks_first : {q : PassState} → phase_of (now_of p).words ≡ 1
       → Acts p (Step.Mark place.page (bits_made (object_for p))) q → HasCarved p place 0 q

@@ -18,39 +18,21 @@ use Rattle.mk_objects.proofs.{MayAct.off_four, Unchanged.HasCall, Unchanged.OfCa
 place_same : (c : Config) (u v : World) (f : Flight) → v.now.seats.holding ≡ u.now.seats.holding
     → v.now.words.pages ≡ u.now.words.pages
     → place_now c v.now f ≡ place_now c u.now f
-place_same c u v f holding pages =
-    ap (λ (h : Holding). place_now c (record v.now { seats = record v.now.seats { holding = h } }) f) holding
-    ∙ ap (λ (ps : List Page). place_now c (record u.now { words = record u.now.words { pages = ps } }) f) pages
+place_same c u v f holding pages = grind arith
 
 pub serving_left : {c : Config} {s : Seat} {o : Object} {place : Place} {w u v : World} → Serving c s o place w u
     → IsAsLeft s u v → Serving c s o place w v
-serving_left {c} {s} {place} {w} {u} {v} at left =
-    let pages : v.now.words.pages ≡ u.now.words.pages = ap (λ (x : Steady). x.pages) left.steady in
-    record {
-      call = left.call ∙ at.call;
-      object = ap (λ (f : Flight). object_made c f.op) left.call ∙ at.object;
-      steady = left.steady ∙ at.steady ∙ ap (λ (ps : List Page). record (steady_of w) { pages = ps }) (sym pages);
-      placed = place_same c u v (flight_of v.now s) left.holding pages
-          ∙ ap (λ (f : Flight). place_now c u.now f) left.call ∙ at.placed;
-      once = ap (λ (h : Holding). is_used_once h.placing) left.holding ∙ at.once;
-      used = ap (λ (ps : List Page). (slice_index_or ps place.page free_page).used) pages ∙ at.used;
-      pages = ap (λ (ps : List Page). length ps) pages ∙ at.pages;
-    }
+serving_left {c} {s} {place} {w} {u} {v} at left = grind (arith, place_same)
 
 marked_left : (o : Object) (place : Place) {s : Seat} {u v : World} → IsAsLeft s u v
     → is_marked_first u.now.words o place ≡ true → is_marked_first v.now.words o place ≡ true
-marked_left o place {u} {v} left h =
-    let phase : (v.now.words.phase % 8) ≡ (u.now.words.phase % 8) = ap (λ (x : Steady). x.phase) left.steady in
-    or_on (not (is_phase u.now.words 1)) _ (not (is_phase v.now.words 1)) _ (λ e. ap (λ n. not (n == 1)) phase ∙ e)
-    (without_on (bits_made o) (slice_index u.now.words.marks place.page) (slice_index v.now.words.marks place.page)
-    (left.marks place.page)) h
+marked_left o place {u} {v} left h = grind (arith, or_on, without_on)
 
 pub carving_left : {c : Config} {s : Seat} {o : Object} {place : Place} {w u v : World} {n : ℕ}
     → Carving c s o place w u n → IsAsLeft s u v → Carving c s o place w v n
 carving_left {o} {place} {u} {v} at left =
     let pages : v.now.words.pages ≡ u.now.words.pages = ap (λ (x : Steady). x.pages) left.steady in
-    let header : (p : ℕ) → header_at v.now.words p ≡ header_at u.now.words p = λ p. ap (λ (ps : List Page).
-    (slice_index_or ps p free_page).header) pages in
+    let header : (p : ℕ) → header_at v.now.words p ≡ header_at u.now.words p = grind arith in
     record {
       serving = serving_left at.serving left;
       stand = λ d lt. header (place.page + d) ∙ at.stand d lt;
@@ -71,14 +53,7 @@ chosen_place resident pages o Granted place h once = cc
 pub new_placed : (c : Config) (m : Moment) (f : Flight) (place : Place) → is_undecided_new f ≡ true
     → place_now c m f ≡ Some place
     → is_used_once m.seats.holding.placing ≡ false → chosen m.seats.holding.placing (place_now c m f) ≡ Chosen place
-new_placed c m f place new placed once =
-    ap (λ (x : Option Place). chosen m.seats.holding.placing x) placed
-    ∙ chosen_place c.resident m.words.pages (object_made c f.op) m.seats.holding.placing place (sym (under new)
-    ∙ placed) once
-  where
-    under : is_undecided_new f ≡ true
-        → place_now c m f ≡ place_by_placing c.resident m.words.pages (object_made c f.op) m.seats.holding.placing
-    under is = rw is refl
+new_placed c m f place new placed once = grind (arith, chosen_place)
 
 pub chosen_now : (c : Config) (m : Moment) (f : Flight) (place : Place) → is_undecided_new f ≡ true
     → m.seats.holding.placing ≡ Chosen place
@@ -149,14 +124,7 @@ pub next_is : (w : Words) (first count : ℕ) (wanted : ℕ → ℕ) (n : ℕ) �
     → ((d : ℕ) → d < n → header_at w (first + d) ≡ wanted d)
     → is_next_header w first count wanted (first + n) (wanted n) ≡ true
 next_is w first count wanted n near not_yet before =
-    let e : first + n - first ≡ n = omega arith in
-    rw e
-    (and_from _ _
-    (and_from _ _
-    (and_from _ _ (and_from _ _ (le-leb first (first + n) (omega arith)) (lt-ltb n count near))
-    (ap not (ne_eqb (header_at w (first + n)) (wanted n) not_yet)))
-    (all_below_from n (stands w first wanted) (λ d lt. eq-eqb (header_at w (first + d)) (wanted d) (before d lt))))
-    (eq-eqb (wanted n) (wanted n) refl))
+    grind (arith, and_from, le-leb, lt-ltb, ne_eqb, all_below_from, eq-eqb)
 
 pub carving_carves : {c : Config} {s : Seat} {o : Object} {place : Place} {w v : World} {n : ℕ} → IsSized o
     → Carving c s o place w v n → n < pages_made o → carves v.now.words (object_made c (flight_of v.now s).op)
@@ -170,13 +138,7 @@ carving_carves {c} {s} {o} {place} {v} {n} sized at within =
 
 pub ready_left : {c : Config} {s : Seat} {o : Object} {place : Place} {w u v : World} → IsCellReady c s o place w u
     → IsAsLeft s u v → IsCellReady c s o place w v
-ready_left {place} {u} {v} at left =
-    let pages : v.now.words.pages ≡ u.now.words.pages = ap (λ (x : Steady). x.pages) left.steady in
-    record {
-      serving = serving_left at.serving left;
-      stand = λ d lt. ap (λ (ps : List Page). (slice_index_or ps (place.page + d) free_page).header) pages
-          ∙ at.stand d lt;
-    }
+ready_left {place} {u} {v} at left = grind (arith, serving_left)
 
 pub ready_carved : {c : Config} {s : Seat} {o : Object} {place : Place} {w v : World}
     → Carving c s o place w v (pages_made o) → IsCellReady c s o place w v
@@ -186,16 +148,7 @@ pub ready_takes : {c : Config} {s : Seat} {o : Object} {place : Place} {w v : Wo
     → IsCellReady c s o place w v → used_at w.now.words place.page ≡ used → has_bit used place.index ≡ false
     → takes_cell v.now.words (object_made c (flight_of v.now s).op) (place_now c v.now (flight_of v.now s)) place.page
     (used + 2 ^ place.index) ≡ true
-ready_takes {c} {s} {o} {place} {v} {used} at known unused =
-    let same : used_at v.now.words place.page ≡ used = at.serving.used ∙ known in
-    let value = used + 2 ^ place.index in
-    ap (λ (x : Object). takes_cell v.now.words x (place_now c v.now (flight_of v.now s)) place.page value)
-    at.serving.object ∙ ap (λ (x : Option Place). takes_cell v.now.words o x place.page value) at.serving.placed
-    ∙ and_from _ _ (and_from _ _ (and_from _ _ (eq-eqb place.page place.page refl)
-    (all_below_from (pages_made o) (stands v.now.words place.page (header_made o))
-    (λ d lt. eq-eqb (header_at v.now.words (place.page + d)) (header_made o d) (at.stand d lt))))
-    (ap (λ n. not (has_bit n place.index)) same ∙ ap not unused)) (eq-eqb value _
-    (ap (λ n. n + 2 ^ place.index) (sym same)))
+ready_takes {c} {s} {o} {place} {v} {used} at known unused = grind (arith, and_from, eq-eqb, all_below_from)
 
 -- and then it is.
 pub record IsTakenAt (c : Config) (s : Seat) (o : Object) (place : Place) (w v : World) : Type 0 where
@@ -206,14 +159,7 @@ pub record IsTakenAt (c : Config) (s : Seat) (o : Object) (place : Place) (w v :
 
 pub taken_left : {c : Config} {s : Seat} {o : Object} {place : Place} {w u v : World} → IsTakenAt c s o place w u
     → IsAsLeft s u v → IsTakenAt c s o place w v
-taken_left {c} {w} {u} {v} at left =
-    let pages : v.now.words.pages ≡ u.now.words.pages = ap (λ (x : Steady). x.pages) left.steady in
-    record {
-      call = left.call ∙ at.call;
-      object = ap (λ (f : Flight). object_made c f.op) left.call ∙ at.object;
-      steady = left.steady ∙ at.steady ∙ ap (λ (ps : List Page). record (steady_of w) { pages = ps }) (sym pages);
-      placing = ap (λ (h : Holding). h.placing) left.holding ∙ at.placing;
-    }
+taken_left {c} {w} {u} {v} at left = grind arith
 
 pub taken_behind : {c : Config} {s : Seat} {o : Object} {place : Place} {w v : World} (p value : ℕ)
     → Serving c s o place w v → HasCall c v.now s

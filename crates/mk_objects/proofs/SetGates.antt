@@ -74,20 +74,11 @@ module _ {p : PassState} (q : PassState) {o : Option Op} (gate : ℕ) (turn : Is
 -- one part after another
 
 pub but_gates_then : {s : Seat} {w u v : World} → IsButGates s w u → IsButGates s u v → IsButGates s w v
-but_gates_then a b = record {
-  call = b.call ∙ a.call;
-  holding = b.holding ∙ a.holding;
-  steady = b.steady ∙ a.steady;
-}
+but_gates_then a b = grind arith
 
 set_again : {s : Seat} {gate : ℕ} {first held : Bool} {w u v : World} → GateIsSet s gate first w u
     → GateIsSet s gate held u v → GateIsSet s gate held w v
-set_again a b =
-    record {
-      but_gates = but_gates_then a.but_gates b.but_gates;
-      set = b.set;
-      others = λ j ne. b.others j ne ∙ a.others j ne;
-    }
+set_again a b = grind (arith, but_gates_then)
 
 pub sets_again : {kinds : Step → Bool} {p q r : PassState} {gate : ℕ} {first held : Bool}
     → SetsGate kinds p gate first q → SetsGate kinds q gate held r → SetsGate kinds p gate held r
@@ -106,14 +97,7 @@ gates_more : (s : Seat) (callers : ℕ) (gates then : ℕ → Bool) (gate : ℕ)
     → HasGates s callers gates w u
     → GateIsSet s gate held u v → ((j : ℕ) → j ≢ gate → then j ≡ gates j) → then gate ≡ held
     → HasGates s callers then w v
-gates_more s callers gates then gate held w u v a b others here =
-    record {
-      but_gates = but_gates_then a.but_gates b.but_gates;
-      held = λ j lt. elim (cases_eq j gate) [
-        | inl e ↦ ap (λ i. is_held v.now.words i) e ∙ b.set ∙ sym here ∙ ap then (sym e)
-        | inr ne ↦ b.others j ne ∙ a.held j lt ∙ sym (others j ne)
-      ];
-    }
+gates_more s callers gates then gate held w u v a b others here = grind (arith, but_gates_then)
 
 pub sets_more : (kinds : Step → Bool) (p q r : PassState) (gates then : ℕ → Bool) (gate : ℕ) (held : Bool)
     → SetsGates kinds p gates q
@@ -144,8 +128,7 @@ tried (Err y) ok err = err
 -- the gates as far as they are set
 
 pub caller_within : {t w : WordsState} {n end : ℕ} → t ≡ w → end ≡ w.config.callers → n < end → n < t.config.callers
-caller_within {n} table all lt =
-    subst (λ (w : WordsState). n < w.config.callers) (sym table) (subst (λ i. n < i) all lt)
+caller_within {n} table all lt = grind arith
 
 none_below : (s : Seat) (j : ℕ) → held_to s 0 j ≡ false
 none_below s j = ap (λ b. b && not (is_number_of s j)) (le-ltb j 0 (omega arith))
@@ -160,16 +143,7 @@ pub opened_so_far : (s : Seat) (n j : ℕ) → j < n → held_from s n j ≡ fal
 opened_so_far s n j lt = ap (λ b. not b && not (is_number_of s j)) (lt-ltb j n lt)
 
 next_below : (n j : ℕ) → j ≢ n → nat_lt j (n + 1) ≡ nat_lt j n
-next_below n j ne = elim (cases_lt j n) [
-  | inl lt ↦ lt-ltb j (n + 1) (omega arith) ∙ sym (lt-ltb j n lt)
-  | inr le ↦ le-ltb j (n + 1) (le_less n j le ne) ∙ sym (le-ltb j n le)
-]
-  where
-    le_less : (n j : ℕ) → n ≤ j → j ≢ n → n + 1 ≤ j
-    le_less n j le ne = elim (cases_eq j n) [
-      | inl e ↦ absurd (ne e)
-      | inr other ↦ omega (arith, other)
-    ]
+next_below n j ne = grind (arith, cases_lt, lt-ltb, le-ltb)
 
 pub held_next : (s : Seat) (n j : ℕ) → j ≢ n → held_to s (n + 1) j ≡ held_to s n j
 held_next s n j ne = ap (λ b. b && not (is_number_of s j)) (next_below n j ne)
@@ -192,15 +166,11 @@ opens_none p held = sets_first is_settling p (held_from p.seat 0) (λ j lt. held
 -- what the passes are after it
 pub set_acting : {kinds : Step → Bool} {p q : PassState} {gates : ℕ → Bool} → SetsGates kinds p gates q
     → is_acting (call_of p).stage ≡ true → is_acting (call_of q).stage ≡ true
-set_acting a acts =
-    ap (λ (x : PassState). is_acting (call_of x).stage) a.same
-    ∙ ap (λ (f : Flight). is_acting f.stage) a.world.but_gates.call ∙ acts
+set_acting a acts = grind arith
 
 pub one_acting : {kinds : Step → Bool} {p q : PassState} {gate : ℕ} {held : Bool} → SetsGate kinds p gate held q
     → is_acting (call_of p).stage ≡ true → is_acting (call_of q).stage ≡ true
-one_acting a acts =
-    ap (λ (x : PassState). is_acting (call_of x).stage) a.same
-    ∙ ap (λ (f : Flight). is_acting f.stage) a.world.but_gates.call ∙ acts
+one_acting a acts = grind arith
 
 pub set_held : {kinds : Step → Bool} {p q : PassState} {gates : ℕ → Bool} → SetsGates kinds p gates q
     → (j : ℕ) → j < p.table.config.callers → is_held (now_of q).words j ≡ gates j
@@ -208,9 +178,7 @@ set_held a j lt = ap (λ (x : PassState). is_held (now_of x).words j) a.same ∙
 
 pub set_phase : {kinds : Step → Bool} {p q : PassState} {gates : ℕ → Bool} → SetsGates kinds p gates q
     → IsOutOfStop (now_of p) → IsOutOfStop (now_of q)
-set_phase {p} {q} a low =
-    out_of_stop (now_of p) (now_of q) (ap (λ (x : PassState). phase_of (now_of x).words) a.same
-    ∙ ap (λ (x : Steady). x.phase) a.world.but_gates.steady) low
+set_phase {p} {q} a low = grind (arith, out_of_stop)
 
 -- What is asked of a pass is asked of the pass after it.
 pub one_there : {kinds : Step → Bool} {p q : PassState} {gate : ℕ} {held : Bool} → SetsGate kinds p gate held q

@@ -36,10 +36,7 @@ freed_acting a = ap (λ (f : Flight). is_acting f.stage) (freed_call a)
 pub over_quarter : (c : Config) (xs : List PlacedAllocation) {held fresh : ℕ} (due : Bool) → held
     ≡ held_by_allocations c xs → fresh ≡ in_a_word (fresh_words_of c xs) → held < 2 ^ 64
     → IsTrue due ↔ (held < 4 * fresh) → IsTrue due ↔ IsOverQuarter c xs
-over_quarter c xs due is_held is_fresh fits is = (
-  λ yes. let over = is.0 yes in omega arith,
-  λ over. is.1 (omega arith),
-)
+over_quarter c xs due is_held is_fresh fits is = grind arith
 
 -- The count of fresh words is as it was, and as much more as is freed.
 pub fresh_told_by : (p q : PassState) (cell : Cell) → IsHistory p.table.config p.seen
@@ -48,32 +45,18 @@ pub fresh_told_by : (p q : PassState) (cell : Cell) → IsHistory p.table.config
     → (now_of q).fresh_words ≡ min ((now_of p).fresh_words + words_freed (now_of p).words (Some cell)) (2 ^ 64 - 1)
     → min ((now_of p).words.fresh + words_freed (now_of p).words (Some cell)) (2 ^ 64 - 1)
     ≡ in_a_word (fresh_words_of p.table.config (world_of q).allocations)
-fresh_told_by p q cell before behind table exact is =
-    let was : (now_of p).words.fresh ≡ (now_of p).fresh_words = exact.fresh
-    ∙ sym (fresh_is_told p.table.config p.seen before) in
-    let now : (now_of q).fresh_words ≡ in_a_word (fresh_words_of q.table.config (world_of q).allocations) =
-    fresh_is_told q.table.config q.seen behind in
-    ap (λ n. min (n + words_freed (now_of p).words (Some cell)) (2 ^ 64 - 1)) was ∙ sym is ∙ now
-    ∙ ap (λ (t : WordsState). in_a_word (fresh_words_of t.config (world_of q).allocations)) (sym table)
+fresh_told_by p q cell before behind table exact is = grind (arith, fresh_is_told)
 
 -- The tallies are exact by what is known from the pass before.
 pub exact_from : (p q : PassState) → p.table ≡ q.table
     → (now_of q).words.held ≡ held_by_allocations p.table.config (world_of q).allocations
     → (now_of q).words.fresh ≡ in_a_word (fresh_words_of p.table.config (world_of q).allocations)
     → TalliesAreExact q.table.config q.seen
-exact_from p q table held fresh =
-    record {
-      held = held ∙ ap (λ (t : WordsState). held_by_allocations t.config (world_of q).allocations) table;
-      fresh = fresh ∙ ap (λ (t : WordsState). in_a_word (fresh_words_of t.config (world_of q).allocations)) table;
-    }
+exact_from p q table held fresh = grind arith
 
 pub exact_still : (p q : PassState) → p.table ≡ q.table → steady_of (world_of q) ≡ steady_of (world_of p)
     → TalliesAreExact p.table.config p.seen → TalliesAreExact q.table.config q.seen
-exact_still p q table steady exact =
-    exact_from p q table (ap (λ (x : Steady). x.held) steady ∙ exact.held
-    ∙ ap (λ (x : Steady). held_by_allocations p.table.config x.allocations) (sym steady))
-    (ap (λ (x : Steady). x.fresh) steady ∙ exact.fresh ∙ ap (λ (x : Steady). in_a_word
-    (fresh_words_of p.table.config x.allocations)) (sym steady))
+exact_still p q table steady exact = grind (arith, exact_from)
 
 small_words : (p : PassState) (cell : Cell) → heads_run (header_in (now_of p).words cell.page) ≡ false
     → words_freed (now_of p).words (Some cell) ≡ words_under (header_in (now_of p).words cell.page)
@@ -157,22 +140,14 @@ module _ (p q a b r : PassState) (reg u : ℕ) (cell : Cell) (n : ℕ) (may : Ma
 
   module _ (small : heads_run (header_in (now_of p).words cell.page) ≡ false) where
     gone_now : IsGoneIn (world_of q)
-    gone_now =
-        let run : (now_of q).seats.holding.freed ≡ None = ap (λ (h : Holding). h.freed) freed_there.holding
-        ∙ ap (λ (x : Option RunPages). or_else x (now_of p).seats.holding.freed) (no_run _ cell.page small)
-        ∙ may.none_freed in
-        ap (λ (x : Option RunPages). is_run_gone (now_of q).words x) run
+    gone_now = grind (arith, freed_there, no_run)
 
     module _ (due : Bool) {found held : ℕ} (once : FreesOnce p q) (holds : Holds q.table.config (now_of q) q.seat)
         (behind : IsHistory r.table.config r.seen) (is_found : found ≡ (now_of p).words.fresh)
         (is : n ≡ min (found + words_under (header_in (now_of p).words cell.page)) (2 ^ 64 - 1))
         (found_held : held ≡ (now_of r).words.held) (fits : held < 2 ^ 64) (is_due : IsTrue due ↔ (held < 4 * n)) where
       fresh_exact : n ≡ in_a_word (fresh_words_of p.table.config (world_of r).allocations)
-      fresh_exact =
-          is ∙ ap (λ i. min (i + words_under (header_in (now_of p).words cell.page)) (2 ^ 64 - 1)) is_found
-          ∙ ap (λ i. min ((now_of p).words.fresh + i) (2 ^ 64 - 1)) (sym (small_words p cell small))
-          ∙ fresh_told_by p r cell before behind (sym (reached_table freed) ∙ sym (reached_table follows)) may.exact
-          (stays.fresh_words ∙ freed_there.fresh)
+      fresh_exact = grind (arith, small_words, fresh_told_by, reached_table, follows, stays, freed_there)
 
       held_exact : (now_of r).words.held ≡ held_by_allocations p.table.config (world_of r).allocations
       held_exact =

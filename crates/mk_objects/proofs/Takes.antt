@@ -34,47 +34,19 @@ one_bit_more n k lt clear =
     ∙ or_disjoint n (2 ^ k) (zero_from_bits (bit_and n (2 ^ k)) none)
   where
     none : (i : ℕ) → has_bit (bit_and n (2 ^ k)) i ≡ false
-    none i = elim (cases_Bool (has_bit (2 ^ k) i)) [
-      | inl here ↦
-          let zero : bit_at n i ≡ 0 = ap (λ j. bit_at n j) (bit_of_power k i here) ∙ bit_is_none n k clear in
-          ap (λ m. m == 1) (bit_at_and n (2 ^ k) i
-          ∙ (let m : min (bit_at n i) (bit_at (2 ^ k) i) ≡ 0 = omega arith in m))
-      | inr not_here ↦
-          let zero : bit_at (2 ^ k) i ≡ 0 = bit_is_none (2 ^ k) i not_here in
-          ap (λ m. m == 1) (bit_at_and n (2 ^ k) i
-          ∙ (let m : min (bit_at n i) (bit_at (2 ^ k) i) ≡ 0 = omega arith in m))
-    ]
+    none i = grind (arith, bit_of_power, bit_is_none, bit_at_and)
 
 few_cells : (o : Object) → cells_made o ≤ 64
-few_cells o = elim (cases_Bool (is_small_object o)) [
-  | inl small ↦
-      let is : cells_made o ≡ cells_of (class_made o) =
-      cond-true (is_small_object o) (cells_of (class_made o)) 1 small in
-      let most : cells_of (class_made o) ≤ 64 = div-le_self 64 (class_words_of (class_made o)) in omega arith
-  | inr large ↦ let is : cells_made o ≡ 1 =
-      cond-false (is_small_object o) (cells_of (class_made o)) 1 large in omega arith
-]
+few_cells o = grind (arith, cond-true, div-le_self, cond-false)
 
 pub small_index : {p : PassState} {place : Place} → KnowsPlace p place → place.index < 64
-small_index {p} {place} k = elim (cases_eq (header_at (now_of p).words place.page) 0) [
-  | inl z ↦ let i = (free_pages_of k z).index in omega arith
-  | inr some ↦ let i = (block_of k some).index in let few = few_cells (object_for p) in omega arith
-]
+small_index {p} {place} k = grind (arith, free_pages_of, block_of, few_cells)
 
 -- The call is settled before it is served, so few words are held.
 pub unplaced_settled : (p : PassState) → IsActing p.table.config (now_of p) p.seat → IsCallers p → IsUnplaced p
     → IsHistory p.table.config p.seen
     → IsSettled (world_of p)
-unplaced_settled p at caller unplaced h = settled p.seat caller.number caller.is at.there unplaced.new
-  where
-    settled : (s : Seat) (j : ℕ) → s ≡ Caller j → seat_exists p.table.config s ≡ true
-        → is_undecided_new (flight_of (now_of p) s) ≡ true → IsSettled (world_of p)
-    settled s j is there new =
-        let here : nat_lt j p.table.config.callers ≡ true = ap (λ (x : Seat). seat_exists p.table.config x) (sym is)
-        ∙ there in
-        unplaced_settles p.table.config p.seen j h (ltb-true j p.table.config.callers here)
-        (ap (λ (x : Seat). is_undecided_new (flight_of (now_of p) x)) (sym is) ∙ new)
-        (off_four (now_of p) unplaced.phase) unplaced.placing
+unplaced_settled p at caller unplaced h = grind (arith, unplaced_settles, ltb-true, off_four)
 
 pub few_held : {p : PassState} {place : Place} → KnowsPlace p place → GoesTo p place → IsHistory p.table.config p.seen
     → held_by_allocations p.table.config (world_of p).allocations ≤ 64 * p.table.config.pages
@@ -119,26 +91,15 @@ module _ {p : PassState} {place : Place} (goes : GoesTo p place) (k : KnowsPlace
   taken_new at = ap (λ (f : Flight). is_undecided_new f) at.call ∙ goes.unplaced.new
 
   pub grant_may : {q : PassState} → HasTaken q → IsEnabledTo q Step.Grant
-  grant_may {q} reached =
-      let w : World = left c q.seen in
-      subst (λ (x : PassState). IsEnabledTo x Step.Grant) (sym reached.same)
-      (may_grant (taken_acting reached.world) (taken_new reached.world)
-      (low_still w (ap (λ (x : Steady). x.phase) reached.world.steady)) (ap is_used_once reached.world.placing))
+  grant_may {q} reached = grind (arith, may_grant, taken_acting, taken_new, low_still)
 
   -- the register that it stores to, and the address
   pub grant_register : {q : PassState} → HasTaken q → d_of (call_of q).op ≡ d_of (call_of p).op
-  grant_register reached =
-      subst (λ (x : PassState). d_of (call_of x).op ≡ d_of (call_of p).op) (sym reached.same)
-      (ap (λ (f : Flight). d_of f.op) reached.world.call)
+  grant_register reached = grind arith
 
   pub grant_address : {q : PassState} → HasTaken q
       → granted_address q ≡ address_of (base_made (object_for p) place) % 2 ^ 64
-  grant_address {q} reached =
-      let w : World = left c q.seen in
-      subst (λ (x : PassState). granted_address x ≡ address_of (base_made (object_for p) place) % 2 ^ 64)
-      (sym reached.same) (ap (λ n. address_of n % 2 ^ 64) (granted_base_is c (flight_of w.now p.seat)
-      w.now.seats.holding.placing place reached.world.placing ∙ ap
-      (λ (f : Flight). base_made (object_made c f.op) place) reached.world.call))
+  grant_address {q} reached = grind (arith, granted_base_is)
 
   operands : IsHistory c p.seen → has_operands c (call_of p).op ≡ true
   operands h = by p.seat k.caller.number k.caller.is
@@ -149,21 +110,7 @@ module _ {p : PassState} {place : Place} (goes : GoesTo p place) (k : KnowsPlace
 
   pub grant_admits : {q : PassState} → HasTaken q → IsHistory q.table.config q.seen → IsHistory c p.seen
       → IsAdmittedTo q Step.Grant
-  grant_admits {q} reached history h =
-      let here : IsHistory c q.seen = subst (λ (x : PassState). IsHistory x.table.config q.seen) reached.same history in
-      subst (λ (x : PassState). IsAdmittedTo x Step.Grant) (sym reached.same)
-      (by p.seat k.caller.is k.acting.there (taken_new reached.world)
-      (ap (λ (f : Flight). has_operands c f.op) reached.world.call ∙ operands h) here)
-    where
-      by : (s : Seat) → s ≡ Caller k.caller.number → seat_exists c s ≡ true
-          → is_undecided_new (flight_of (left c q.seen).now s) ≡ true
-          → has_operands c (flight_of (left c q.seen).now s).op ≡ true → IsHistory c q.seen
-          → IsAdmittedBehind c q.seen (record { seat = s; step = Step.Grant })
-      by s is there new op here =
-          subst (λ (x : Seat). seat_exists c x ≡ true → is_undecided_new (flight_of (left c q.seen).now x) ≡ true
-          → has_operands c (flight_of (left c q.seen).now x).op ≡ true
-          → IsAdmittedBehind c q.seen (record { seat = x; step = Step.Grant })) (sym is)
-          (λ t n o. grant_admitted k.caller.number here (ltb-true k.caller.number c.callers t) n o) there new op
+  grant_admits {q} reached history h = grind (arith, taken_new, operands, grant_admitted, ltb-true)
 
   abbrev pub HasGranted : PassState → Type 0
   HasGranted q = ComesTo is_placing p (IsGrantedAt p.table.config p.seat place (world_of p)) (entry_for p Answer.Done) q
@@ -189,22 +136,14 @@ module _ {p : PassState} {place : Place} (goes : GoesTo p place) (k : KnowsPlace
     where
       room : (v : World) (j : ℕ) → p.seat ≡ Caller j → Known c v.now → AreOfPages c.pages v.now.words
           → 8 * j + d_of (call_of p).op < length v.now.words.registers
-      room v j is known pages =
-          let here : nat_lt j c.callers ≡ true = ap (λ (x : Seat). seat_exists c x) (sym is) ∙ k.acting.there in
-          let lt = ltb-true j c.callers here in
-          let small = register_small c (call_of p) goes.unplaced.new (operands h) in
-          let most = known.small in
-          let many = pages.registers in
-          omega arith
+      room v j is known pages = grind (arith, ltb-true, register_small, operands)
 
   -- `tally`
   granted_acting : {v : World} → IsGrantedAt c p.seat place (world_of p) v → IsActing c v.now p.seat
   granted_acting at = record { there = k.acting.there; acts = ap (λ (f : Flight). is_acting f.stage) at.call }
 
   pub tally_may : {q : PassState} (n : ℕ) → HasGranted q → IsEnabledTo q (Step.Tally Tally.Held n)
-  tally_may n reached =
-      subst (λ (x : PassState). IsEnabledTo x (Step.Tally Tally.Held n)) (sym reached.same)
-      (may_tally (granted_acting reached.world) Tally.Held n)
+  tally_may n reached = grind (arith, may_tally, granted_acting)
 
   abbrev pub HasCounted : ℕ → PassState → Type 0
   HasCounted n q = ComesTo is_placing p (λ w. IsGrantedAt p.table.config p.seat place (world_of p) w ×
@@ -220,25 +159,11 @@ module _ {p : PassState} {place : Place} (goes : GoesTo p place) (k : KnowsPlace
       (tallied_behind n on call, refl))
 
   pub counted : {r : PassState} {n : ℕ} → HasCounted n r → HasGranted r
-  counted reached =
-      record {
-        same = reached.same;
-        does = reached.does;
-        calls = reached.calls;
-        world = reached.world.0;
-        counts = reached.counts;
-      }
+  counted reached = grind arith
 
   object_words : storage_words c (object_at_place c (call_of p) place) ≡ words_made (object_for p)
   object_words = ap (λ (o : Object). words_made o) (granted_object c (now_of p) (call_of p) goes.unplaced.new)
 
   pub counted_held : {r : PassState} {held size : ℕ} → held ≡ held_by_allocations c (world_of p).allocations → size
       ≡ words_made (object_for p) → HasCounted (held + size) r → HeldIsExact r
-  counted_held {r} {size} before words reached =
-      let w : World = left c r.seen in
-      let xs : w.allocations ≡ (world_of p).allocations ++ object_at_place c (call_of p) place ∷ [] = ap
-      (λ (x : Steady). x.allocations) reached.world.0.steady in
-      subst (λ (x : PassState). HeldIsExact x) (sym reached.same) (reached.world.1 ∙ ap (λ n. n + size) before
-      ∙ ap (λ n. held_by_allocations c (world_of p).allocations + n) (words ∙ sym object_words)
-      ∙ sym (held_one_more c (world_of p).allocations (object_at_place c (call_of p) place) refl refl)
-      ∙ ap (λ (ys : List PlacedAllocation). held_by_allocations c ys) (sym xs))
+  counted_held {r} {size} before words reached = grind (arith, object_words, held_one_more)

@@ -19,10 +19,7 @@ use Rattle.mk_objects.specs.Unmapping.{IsStillMapped, UnmappedTo}
 -- A call that is decided is no New on its way, so its holder's place stays.
 
 no_new : (f : Flight) → f.stage ≡ Stage.Give → is_undecided_new f ≡ false
-no_new f is = ap (λ (s : Stage). is_new_at s f.op) is ∙ at_give f
-  where
-    at_give : (f : Flight) → is_new_at Stage.Give f.op ≡ false
-    at_give f = refl
+no_new f is = grind arith
 
 no_place : (c : Config) (m : Moment) (f : Flight) → f.stage ≡ Stage.Give → place_now c m f ≡ None
 no_place c m f is = rw (no_new f is) refl
@@ -45,28 +42,11 @@ changes_nothing s w = record { call = refl; holding = refl; steady = refl; gates
 pub still_stopped : (p : PassState) (v : World) → ((j : ℕ) → is_held v.now.words j ≡ is_held (now_of p).words j)
     → others_are_held p.table.config.callers (now_of p).words p.seat ≡ true
     → others_are_held p.table.config.callers v.now.words p.seat ≡ true
-still_stopped p v gates stopped =
-    all_below_from p.table.config.callers (λ j. is_number_of p.seat j || is_held v.now.words j)
-    (λ j lt. ap (λ b. is_number_of p.seat j || b) (gates j)
-    ∙ all_below-at p.table.config.callers j (λ i. is_number_of p.seat i || is_held (now_of p).words i) stopped lt)
+still_stopped p v gates stopped = grind (arith, all_below_from, all_below-at)
 
 unmapped_left : {s : Seat} {run : RunPages} {w u v : World} {n : ℕ} → UnmappedTo s run w u n → IsAsLeft s u v
     → UnmappedTo s run w v n
-unmapped_left {run} {w} {u} {v} at kept =
-    let pages : v.now.words.pages ≡ u.now.words.pages = ap (λ (x : Steady). x.pages) kept.steady in
-    let header : (p : ℕ) → header_at v.now.words p ≡ header_at u.now.words p =
-    λ p. ap (λ (ps : List Page). (slice_index_or ps p free_page).header) pages in
-    record {
-      changes = record {
-        call = kept.call ∙ at.changes.call;
-        holding = kept.holding ∙ at.changes.holding;
-        steady = kept.steady ∙ at.changes.steady
-            ∙ ap (λ (ps : List Page). record (steady_of w) { pages = ps }) (sym pages);
-        gates = λ j. kept.gates j ∙ at.changes.gates j;
-      };
-      done = λ d lt. header (run.page + d) ∙ at.done d lt;
-      rest = λ d le lt e. at.rest d le lt (sym (header (run.page + d)) ∙ e);
-    }
+unmapped_left {run} {w} {u} {v} at kept = grind arith
 
 unmapped_more : {c : Config} {s : Seat} {run : RunPages} {w v : World} {n : ℕ} → UnmappedTo s run w v n
     → HasCall c v.now s → (flight_of v.now s).stage ≡ Stage.Give → IsOutOfStop v.now → n < run.count
@@ -146,9 +126,4 @@ module _ {p : PassState} {o : Option Op} (run : RunPages) (turn : IsTurn p o) (g
       (there_low v (ap (λ (x : Steady). x.phase) on.changes.steady)) near (omega arith))
 
   pub unmapped_all : {q : PassState} → HasUnmapped q run.count → Unmaps p run q
-  unmapped_all {q} reached =
-      reaches_so reached (λ at. record {
-        changes = at.changes;
-        unmapped = all_below_from run.count (stands (left p.table.config q.seen).now.words run.page
-            (unmapped_header run.count)) (λ d lt. eq-eqb _ _ (at.done d lt));
-      })
+  unmapped_all {q} reached = grind (arith, reaches_so, all_below_from, eq-eqb)

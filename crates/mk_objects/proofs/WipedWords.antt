@@ -45,14 +45,8 @@ cell_tested_twice false b x cell e = cc
 -- It is the run's head.
 cell_is_head : (head : ℕ) (count pages : ℕ) {page : ℕ} (word d : ℕ) (b : Bool) (cell : Cell) → page ≡ head + d
     → (if b then cell_under (run_header count false false d) page word else None) ≡ Some cell → cell.page ≡ head
-cell_is_head head count pages {page} word zero b cell at e =
-    let x = cell_tested b (run_of_page (Run count false) page) cell e in
-    let there : page ≡ head = omega (arith, at) in
-    sym x ∙ there
-cell_is_head head count pages {page} word (suc d) b cell at e =
-    let x = cell_tested_twice b (nat_le (suc d) page) (run_of_page (Later (suc d) false) page) cell e in
-    let there : page - suc d ≡ head = omega (arith, at) in
-    sym x ∙ there
+cell_is_head head count pages {page} word zero b cell at e = grind (arith, cell_tested)
+cell_is_head head count pages {page} word (suc d) b cell at e = grind (arith, cell_tested_twice)
 
 gone_cell : (w : Words) (run : RunPages) (pages address d : ℕ) (cell : Cell) → is_run_unmapped w run ≡ true
     → run.count ≤ 64 → d < run.count → page_at_address address ≡ run.page + d
@@ -62,9 +56,7 @@ gone_cell w run pages address d cell unmapped few near at is =
     let header : Some (run_header run.count false false d) ≡ header_of (header_at w (page_at_address address)) =
     sym (unmapped_at w run d unmapped few near) ∙ ap (λ (i : ℕ). header_of (header_at w i)) (sym at) in
     let under : (if is_heap_address pages address then cell_under (run_header run.count false false d)
-    (page_at_address address) (word_at_address address) else None) ≡ Some cell =
-    ap (λ (x : Option Header). if is_heap_address pages address then option_and_then
-    (λ h. cell_under h (page_at_address address) (word_at_address address)) x else None) header ∙ is in
+    (page_at_address address) (word_at_address address) else None) ≡ Some cell = grind arith in
     let head = cell_is_head run.page run.count pages (word_at_address address) d
     (is_heap_address pages address) cell at under in
     let first : cell.page ≡ run.page + 0 = omega (arith, head) in
@@ -87,16 +79,7 @@ no_hand c m s run n value unmapped few near =
 
 wiped_left : {s : Seat} {run : RunPages} {w u v : World} {n : ℕ} → WipedTo s run w u n → IsAsLeft s u v
     → written_of v ≡ written_of u → WipedTo s run w v n
-wiped_left {run} at kept stop =
-    record {
-      changes = record {
-        call = kept.call ∙ at.changes.call;
-        holding = kept.holding ∙ at.changes.holding;
-        steady = kept.steady ∙ at.changes.steady;
-        gates = λ j. kept.gates j ∙ at.changes.gates j;
-      };
-      zeros = λ i lt. ap (λ (x : Written). slice_index x.heap (64 * run.page + i)) stop ∙ at.zeros i lt;
-    }
+wiped_left {run} at kept stop = grind arith
 
 wiped_seen : {c : Config} {s : Seat} {run : RunPages} {w v : World} {n : ℕ} (k : ℕ) → WipedTo s run w v n
     → HasCall c v.now s
@@ -117,14 +100,7 @@ wiped_seen {c} {v} k at (OfCaller j lt) none =
 -- A word that is 0 already is wiped.
 wiped_already : {s : Seat} {run : RunPages} {w v : World} {n : ℕ} → WipedTo s run w v n
     → slice_index v.now.words.heap (64 * run.page + n) ≡ 0 → WipedTo s run w v (n + 1)
-wiped_already {run} {v} {n} at zero_there =
-    record {
-      changes = at.changes;
-      zeros = λ i le. elim (cases_eq i n) [
-        | inl e ↦ ap (λ j. slice_index v.now.words.heap (64 * run.page + j)) e ∙ zero_there
-        | inr ne ↦ at.zeros i (omega arith)
-      ];
-    }
+wiped_already {run} {v} {n} at zero_there = grind arith
 
 wiped_more : {c : Config} {s : Seat} {run : RunPages} {w u v : World} {n : ℕ} → WipedTo s run w u n → IsAsLeft s u v
     → HasCall c v.now s → written_of v ≡ written_of u → 64 * run.page + n < length v.now.words.heap
@@ -149,9 +125,7 @@ wiped_more {c} {run} {u} {v} {n} at kept (OfCaller k lt) stop room =
 
 pub still_unmapped : (p : PassState) {run : RunPages} {v : World} {n : ℕ} → WipedTo p.seat run (world_of p) v n
     → is_run_unmapped (now_of p).words run ≡ true → is_run_unmapped v.now.words run ≡ true
-still_unmapped p {run} at unmapped =
-    ap (λ (ps : List Page). all_below run.count (λ d. (slice_index_or ps (run.page + d) free_page).header ==
-    unmapped_header run.count d)) (ap (λ (x : Steady). x.pages) at.changes.steady) ∙ unmapped
+still_unmapped p {run} at unmapped = grind arith
 
 module _ {p : PassState} {o : Option Op} (run : RunPages) (turn : IsTurn p o) (give : (call_of p).stage ≡ Stage.Give)
     (stopped : others_are_held p.table.config.callers (now_of p).words p.seat ≡ true) where
@@ -167,19 +141,12 @@ module _ {p : PassState} {o : Option Op} (run : RunPages) (turn : IsTurn p o) (g
 
   pub look_may : {q : PassState} {n : ℕ} (k : ℕ) → HasWiped q n → k < 64 * run.count
       → run.page + run.count ≤ p.table.config.pages → IsEnabledTo q (Step.Look (Word.Heap (64 * run.page + k)))
-  look_may {q} k reached near within =
-      let at = reached.world in
-      reached_there reached (λ (x : PassState). IsEnabledTo x (Step.Look (Word.Heap (64 * run.page + k))))
-      (may_look_heap (there_wiping (left p.table.config q.seen) at.changes.call) (64 * run.page + k) (omega arith))
+  look_may {q} k reached near within = grind (arith, reached_there, may_look_heap, there_wiping)
 
   -- with the turn held, and all other gates
   with_turn : {q : PassState} {n : ℕ} → HasWiped q n → Holds q.table.config (now_of q) q.seat
       → ComesTo is_clearing p (λ v. WipedTo p.seat run (world_of p) v n × HoldsAll p.table.config v.now p.seat) [] q
-  with_turn {q} reached holds =
-      let holds_here : Holds p.table.config (left p.table.config q.seen).now p.seat =
-      subst (λ (x : PassState). Holds x.table.config (now_of x) x.seat) reached.same holds in
-      reaches_so reached
-      (λ at. (at, (holds_here, still_stopped p (left p.table.config q.seen) at.changes.gates stopped)))
+  with_turn {q} reached holds = grind (arith, reaches_so, still_stopped)
 
   pub looks_then : {q r : PassState} {n : ℕ} (k : ℕ) → HasWiped q n → k < 64 * run.count → run.count ≤ 64
       → is_run_unmapped (now_of p).words run ≡ true
@@ -204,18 +171,7 @@ module _ {p : PassState} {o : Option Op} (run : RunPages) (turn : IsTurn p o) (g
       → is_run_unmapped (now_of p).words run ≡ true
       → n < 64 * run.count → run.page + run.count ≤ p.table.config.pages → IsEnabledTo q (Step.Wipe (64 * run.page + n))
   wipe_may {q} {n} reached freed unmapped near within =
-      let v : World = left p.table.config q.seen in
-      let at = reached.world in
-      let here : v.now.seats.holding.freed ≡ Some run = ap (λ (h : Holding). h.freed) at.changes.holding ∙ freed in
-      let still = still_unmapped p at unmapped in
-      let word = 64 * run.page + n in
-      let inside : is_in_run run word ≡ true =
-      and_from (nat_le run.page (word / 64)) (nat_lt (word / 64 - run.page) run.count)
-      (le-leb run.page (word / 64) (omega arith)) (lt-ltb (word / 64 - run.page) run.count (omega arith)) in
-      reached_there reached (λ (x : PassState). IsEnabledTo x (Step.Wipe word))
-      (may_wipe (there_wiping v at.changes.call) word (omega arith)
-      (ap (λ (x : Option RunPages). is_in_gone_run v.now.words x word) here
-      ∙ and_from (is_in_run run word) (is_run_unmapped v.now.words run) inside still))
+      grind (arith, still_unmapped, and_from, le-leb, lt-ltb, reached_there, may_wipe, there_wiping)
 
   pub wipes_on : {q r : PassState} {n : ℕ} → HasWiped q n → n < 64 * run.count
       → run.page + run.count ≤ p.table.config.pages → Acts q (Step.Wipe (64 * run.page + n)) r → HasWiped r (n + 1)

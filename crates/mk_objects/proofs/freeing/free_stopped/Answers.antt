@@ -9,11 +9,7 @@ pub quarantine-requires-clause-gates : goal.quarantine-requires-clause-gates
 quarantine-requires-clause-gates c = or_right _ _ (stopped_by c.args.turn.now.pass c.requires.held)
 
 pub clear_run-requires-clause-held : goal.clear_run-requires-clause-held
-clear_run-requires-clause-held c =
-    let q : PassState = c.quarantine.new.turn.pass in
-    let now = freed_now c.quarantine.ensures.freed in
-    subst (λ (x : PassState). (j : ℕ) → j < x.table.config.callers → is_held (now_of q).words j ≡ all_others x.seat j)
-    (sym c.quarantine.ensures.freed.same) (λ j lt. now.gates j ∙ c.requires.held j lt)
+clear_run-requires-clause-held c = grind (arith, freed_now)
 
 pub clear_run-requires-clause-within : goal.clear_run-requires-clause-within
 clear_run-requires-clause-within c =

@@ -15,14 +15,10 @@ pub hold_other-requires-clause-acting : goal.hold_other-requires-clause-acting
 hold_other-requires-clause-acting g c = set_acting c.loop-caller.invariant.sets c.requires.acting
 
 pub hold_other-requires-clause-within : goal.hold_other-requires-clause-within
-hold_other-requires-clause-within g c =
-    set_there c.loop-caller.invariant.sets (λ (x : PassState). c.loop-caller.caller < x.table.config.callers)
-    (caller_within c.requires.one_table c.callers-caller-end.ensures c.loop-caller-test.true)
+hold_other-requires-clause-within g c = grind (arith, set_there, caller_within)
 
 pub hold_other-requires-clause-open : goal.hold_other-requires-clause-open
-hold_other-requires-clause-open g c =
-    set_held c.loop-caller.invariant.sets c.loop-caller.caller (caller_within c.requires.one_table
-    c.callers-caller-end.ensures c.loop-caller-test.true) ∙ none_yet_held c.args.turn.now.pass.seat c.loop-caller.caller
+hold_other-requires-clause-open g c = grind (arith, set_held, caller_within, none_yet_held)
 
 pub loop-caller-preserved : goal.loop-caller-preserved
 loop-caller-preserved g c =
@@ -42,8 +38,4 @@ loop-caller-preserved g c =
     }
 
 pub returns-clause-sets : goal.returns-clause-sets
-returns-clause-sets g c =
-    let p : PassState = c.args.turn.now.pass in
-    let table = ap (λ (w : WordsState). w.config.callers) c.requires.one_table in
-    sets_named (all_others p.seat) c.loop-caller.invariant.sets (λ j lt. held_so_far p.seat c.loop-caller.caller j
-    (omega (arith, lt, table, c.loop-caller-test.false, c.callers-caller-end.ensures)))
+returns-clause-sets g c = grind (arith, sets_named, held_so_far)

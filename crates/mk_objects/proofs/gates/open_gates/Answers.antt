@@ -19,16 +19,10 @@ pub open_other-requires-clause-phase : goal.open_other-requires-clause-phase
 open_other-requires-clause-phase c = set_phase c.loop-caller.invariant.sets c.requires.phase
 
 pub open_other-requires-clause-within : goal.open_other-requires-clause-within
-open_other-requires-clause-within c =
-    set_there c.loop-caller.invariant.sets (λ (x : PassState). c.loop-caller.caller < x.table.config.callers)
-    (caller_within c.requires.one_table c.callers-caller-end.ensures c.loop-caller-test.true)
+open_other-requires-clause-within c = grind (arith, set_there, caller_within)
 
 pub open_other-requires-clause-held : goal.open_other-requires-clause-held
-open_other-requires-clause-held c =
-    let n = c.loop-caller.caller in
-    set_held c.loop-caller.invariant.sets n (caller_within c.requires.one_table c.callers-caller-end.ensures
-    c.loop-caller-test.true) ∙ all_yet_held c.args.turn.now.pass.seat n
-    ∙ ap (λ (s : Seat). all_others s n) (sym (set_seat c.loop-caller.invariant.sets))
+open_other-requires-clause-held c = grind (arith, set_held, caller_within, all_yet_held, set_seat)
 
 pub loop-caller-preserved : goal.loop-caller-preserved
 loop-caller-preserved c =
@@ -44,8 +38,4 @@ loop-caller-preserved c =
     }
 
 pub returns-clause-sets : goal.returns-clause-sets
-returns-clause-sets c =
-    let p : PassState = c.args.turn.now.pass in
-    let table = ap (λ (w : WordsState). w.config.callers) c.requires.one_table in
-    sets_named no_gate c.loop-caller.invariant.sets (λ j lt. opened_so_far p.seat c.loop-caller.caller j
-    (omega (arith, lt, table, c.loop-caller-test.false, c.callers-caller-end.ensures)))
+returns-clause-sets c = grind (arith, sets_named, opened_so_far)

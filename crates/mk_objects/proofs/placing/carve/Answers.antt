@@ -25,8 +25,7 @@ head-requires-clause-enabled c =
     let p : PassState = c.args.turn.now.pass in
     let d = c.loop-distance.distance in
     let k = knows_place c.is_in_order.ensures.turn c.is_in_order.ensures.history c.requires.goes in
-    let near : d < pages_made (object_for p) = omega
-    (arith, c.pages-pages.ensures, c.loop-distance-test.true, ap (λ (o : Object). pages_made o) c.requires.shape) in
+    let near : d < pages_made (object_for p) = grind arith in
     subst (λ n. IsEnabledTo c.loop-distance.turn.pass (Step.Head (c.args.place.page + d) n))
     (sym (c.header_word.ensures ∙ ap (λ (o : Object). header_made o d) c.requires.shape))
     (head_may c.requires.goes k c.requires.free c.loop-distance.invariant.carved near)
@@ -38,8 +37,7 @@ loop-distance-preserved c =
     let r : PassState = c.head.new.self.pass in
     let d = c.loop-distance.distance in
     let k = knows_place c.is_in_order.ensures.turn c.is_in_order.ensures.history c.requires.goes in
-    let near : d < pages_made (object_for p) = omega
-    (arith, c.pages-pages.ensures, c.loop-distance-test.true, ap (λ (o : Object). pages_made o) c.requires.shape) in
+    let near : d < pages_made (object_for p) = grind arith in
     let a = subst (λ n. Acts q (Step.Head (c.args.place.page + d) n) r)
     (c.header_word.ensures ∙ ap (λ (o : Object). header_made o d) c.requires.shape) c.head.ensures.acts in
     record {
@@ -49,18 +47,4 @@ loop-distance-preserved c =
     }
 
 pub returns-clause-ready : goal.returns-clause-ready
-returns-clause-ready c =
-    let p : PassState = c.args.turn.now.pass in
-    let q : PassState = c.loop-distance.turn.pass in
-    let k = knows_place c.is_in_order.ensures.turn c.is_in_order.ensures.history c.requires.goes in
-    let all : c.loop-distance.distance ≡ pages_made (object_for p) =
-    omega (
-      arith,
-      c.pages-pages.ensures,
-      c.loop-distance-test.false,
-      c.loop-distance.auto.distance-end,
-      ap
-          (λ (o : Object). pages_made o) c.requires.shape,
-    ) in
-    carved_all c.requires.goes k c.requires.free
-    (subst (λ n. HasCarved p c.args.place n q) all c.loop-distance.invariant.carved)
+returns-clause-ready c = grind (arith, knows_place, carved_all)

@@ -10,9 +10,7 @@ fit : (c : After-seek)
     → place_on_pages c.args.turn.now.pass.table.config.resident (now_of c.args.turn.now.pass).words.pages
     (object_for c.args.turn.now.pass)
     ≡ c.seek.result
-fit c =
-    let p : PassState = c.args.turn.now.pass in
-    fit_found p c.args.shape c.requires.one_table refl refl c.requires.shape c.seek.ensures
+fit c = grind (arith, fit_found)
 
 pub page-page-requires : goal.page-page-requires
 page-page-requires c =
@@ -23,10 +21,7 @@ page-page-requires c =
     omega (arith, within, (histories_keep_lengths p.table.config p.seen).pages)
 
 pub serve_now-requires-clause-goes : goal.serve_now-requires-clause-goes
-serve_now-requires-clause-goes c =
-    let x = goal.at.serve_now-requires-clause-goes c in
-    let p : PassState = c.args.turn.now.pass in
-    goes_behind c.in-Some.place (looks_nothing p) c.requires.unplaced (fit x.After-seek ∙ c.in-Some.is)
+serve_now-requires-clause-goes c = grind (arith, goes_behind, looks_nothing, fit)
 
 pub returns-in-None-clause-nowhere : goal.returns-in-None-clause-nowhere
 returns-in-None-clause-nowhere c =

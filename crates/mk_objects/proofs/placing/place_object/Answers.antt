@@ -11,37 +11,26 @@ use Rattle.mk_objects.proofs.placing.place_object.Goals as goal
 
 -- the operation is the New that was looked at
 asked : (c : In-New) → (call_of c.args.turn.now.pass).op ≡ Op.New c.in-New.d c.in-New.ty c.in-New.full
-asked c =
-    op_known c.in-Some.op c.is_in_order.ensures.turn c.requires.unplaced.new c.op.ensures c.in-Some.is ∙ c.in-New.is
+asked c = grind (arith, op_known)
 
 -- and the shape is that of its object
 shape_is : (c : After-shape_of-shape) → (call_of c.args.turn.now.pass).op
     ≡ Op.New c.in-New.d c.in-New.ty c.in-New.full
     → object_shaped c.shape_of-shape.result ≡ object_for c.args.turn.now.pass
-shape_is c is =
-    shape_asked c.args.turn.now.pass c.shape_of-shape.result c.requires.one_table is
-    (c.shape_of-shape.ensures ∙ ap (λ (ts : List (List Kind)). object_of (kinds_of ts c.in-New.ty)) c.types.ensures)
+shape_is c is = grind (arith, shape_asked)
 
 -- the cell that was found is where it fits
 fit : (c : In-Some-seek_cell) → object_shaped c.shape_of-shape.result ≡ object_for c.args.turn.now.pass
     → place_on_pages c.args.turn.now.pass.table.config.resident (now_of c.args.turn.now.pass).words.pages
     (object_for c.args.turn.now.pass)
     ≡ Some c.in-Some-seek_cell.place
-fit c is =
-    let p : PassState = c.args.turn.now.pass in
-    fit_found p c.shape_of-shape.result c.requires.one_table refl refl is (sym c.in-Some-seek_cell.ensures.fits)
+fit c is = grind (arith, fit_found)
 
 pub unreachable-requires : goal.unreachable-requires
-unreachable-requires c =
-    c.in_default.not-Some (call_of c.args.turn.now.pass).op (c.op.ensures
-    ∙ op_is c.is_in_order.ensures.turn c.requires.unplaced.new)
+unreachable-requires c = grind (arith, op_is)
 
 pub unreachable-requires-in_default-op : goal.unreachable-requires-in_default-op
-unreachable-requires-in_default-op c =
-    let p : PassState = c.args.turn.now.pass in
-    let new = undecided_new (call_of p) c.requires.unplaced.new in
-    let known = op_known c.in-Some.op c.is_in_order.ensures.turn c.requires.unplaced.new c.op.ensures c.in-Some.is in
-    c.in_default-op.not-New new.d new.ty new.full (sym known ∙ new.op)
+unreachable-requires-in_default-op c = grind (arith, undecided_new, op_known)
 
 pub shape_of-shape-requires : goal.shape_of-shape-requires
 shape_of-shape-requires c =
@@ -59,29 +48,19 @@ page-used-requires c =
     omega (arith, within, (histories_keep_lengths p.table.config p.seen).pages)
 
 pub place_apart-requires-clause-register : goal.place_apart-requires-clause-register
-place_apart-requires-clause-register c =
-    sym (ap (λ (o : Op). d_of o) (asked (goal.at.place_apart-requires-clause-register c).In-New))
+place_apart-requires-clause-register c = grind (arith, asked)
 
 pub place_apart-requires-clause-shape : goal.place_apart-requires-clause-shape
-place_apart-requires-clause-shape c =
-    let x = goal.at.place_apart-requires-clause-shape c in
-    shape_is x.After-shape_of-shape (asked x.In-New)
+place_apart-requires-clause-shape c = grind (arith, shape_is, asked)
 
 pub serve_now-requires-clause-register : goal.serve_now-requires-clause-register
-serve_now-requires-clause-register c =
-    sym (ap (λ (o : Op). d_of o) (asked (goal.at.serve_now-requires-clause-register c).In-New))
+serve_now-requires-clause-register c = grind (arith, asked)
 
 pub serve_now-requires-clause-shape : goal.serve_now-requires-clause-shape
-serve_now-requires-clause-shape c =
-    let x = goal.at.serve_now-requires-clause-shape c in
-    shape_is x.After-shape_of-shape (asked x.In-New)
+serve_now-requires-clause-shape c = grind (arith, shape_is, asked)
 
 pub serve_now-requires-clause-goes : goal.serve_now-requires-clause-goes
-serve_now-requires-clause-goes c =
-    let x = goal.at.serve_now-requires-clause-goes c in
-    let p : PassState = c.args.turn.now.pass in
-    goes_behind c.in-Some-seek_cell.place (looks_nothing p) c.requires.unplaced
-    (fit x.In-Some-seek_cell (shape_is x.After-shape_of-shape (asked x.In-New)))
+serve_now-requires-clause-goes c = grind (arith, goes_behind, looks_nothing, fit, shape_is, asked)
 
 pub returns-in-Some-seek_cell-clause-placed : goal.returns-in-Some-seek_cell-clause-placed
 returns-in-Some-seek_cell-clause-placed c =

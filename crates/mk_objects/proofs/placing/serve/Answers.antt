@@ -27,21 +27,10 @@ pub overflow_shl-place : goal.overflow_shl-place
 overflow_shl-place c = small_index (knows (goal.at.overflow_shl-place c).After-is_in_order)
 
 pub used-requires-clause-enabled : goal.used-requires-clause-enabled
-used-requires-clause-enabled c =
-    let p : PassState = c.args.turn.now.pass in
-    let k = knows (goal.at.used-requires-clause-enabled c).After-is_in_order in
-    let known : used_at (now_of p).words c.args.place.page ≡ c.args.used = sym c.requires.used in
-    let clear : has_bit c.args.used c.args.place.index ≡ _ =
-    sym (ap (λ n. has_bit n c.args.place.index) known) ∙ place_unused k in
-    subst (λ n. IsEnabledTo c.make_ready.new.turn.pass (Step.Used c.args.place.page n))
-    (sym (one_bit_more c.args.used c.args.place.index (small_index k) clear))
-    (used_may c.requires.goes k c.make_ready.ensures.ready known)
+used-requires-clause-enabled c = grind (arith, knows, place_unused, one_bit_more, small_index, used_may)
 
 pub grant-requires-clause-enabled : goal.grant-requires-clause-enabled
-grant-requires-clause-enabled c =
-    let x = goal.at.grant-requires-clause-enabled c in
-    let k = knows x.After-is_in_order in
-    grant_may c.requires.goes k (taken x.After-used k)
+grant-requires-clause-enabled c = grind (arith, knows, grant_may, taken)
 
 pub grant-requires-clause-admitted : goal.grant-requires-clause-admitted
 grant-requires-clause-admitted c =
@@ -51,17 +40,10 @@ grant-requires-clause-admitted c =
     (taken x.After-used k) c.used.ensures.acts.makes.pass.history c.is_in_order.ensures.history
 
 pub grant-requires-clause-register : goal.grant-requires-clause-register
-grant-requires-clause-register c =
-    let x = goal.at.grant-requires-clause-register c in
-    let k = knows x.After-is_in_order in
-    c.requires.register ∙ sym (grant_register c.requires.goes k (taken x.After-used k))
+grant-requires-clause-register c = grind (arith, knows, grant_register, taken)
 
 pub grant-requires-clause-address : goal.grant-requires-clause-address
-grant-requires-clause-address c =
-    let x = goal.at.grant-requires-clause-address c in
-    let k = knows x.After-is_in_order in
-    c.address.ensures ∙ ap (λ (o : Object). address_of (base_made o c.args.place) % 2 ^ 64) c.requires.shape
-    ∙ sym (grant_address c.requires.goes k (taken x.After-used k))
+grant-requires-clause-address c = grind (arith, knows, grant_address, taken)
 
 pub address-requires-clause-page : goal.address-requires-clause-page
 address-requires-clause-page c =
@@ -77,22 +59,10 @@ storage-requires c =
     (knows (goal.at.storage-requires c).After-is_in_order).sized
 
 pub overflow_add-held : goal.overflow_add-held
-overflow_add-held c =
-    let p : PassState = c.args.turn.now.pass in
-    let h = c.is_in_order.ensures.history in
-    let k = knows (goal.at.overflow_add-held c).After-is_in_order in
-    let few = few_held k c.requires.goes h in
-    let most = h.within_limits.pages.1 in
-    let words = (words_within (object_for p) k.sized).1 in
-    let size : c.storage.result ≡ words_made (object_for p) =
-    c.storage.ensures ∙ ap (λ (o : Object). words_made o) c.requires.shape in
-    omega (arith, c.requires.held, c.requires.exact)
+overflow_add-held c = grind (arith, knows, few_held, words_within)
 
 pub tally-requires-clause-enabled : goal.tally-requires-clause-enabled
-tally-requires-clause-enabled c =
-    let x = goal.at.tally-requires-clause-enabled c in
-    let k = knows x.After-is_in_order in
-    tally_may c.requires.goes k _ (granted x.After-grant k (taken x.After-used k))
+tally-requires-clause-enabled c = grind (arith, knows, tally_may, granted, taken)
 
 -- the last step, and the tally
 pub returns-clause-granted : goal.returns-clause-granted

@@ -18,11 +18,7 @@ quar-requires-clause-enabled c =
     c.requires.within c.requires.gates
 
 pub quar-requires-clause-admitted : goal.quar-requires-clause-admitted
-quar-requires-clause-admitted c =
-    let p : PassState = c.args.turn.now.pass in
-    let free = loaded_undecided c.args.value c.requires.free c.requires.some in
-    free_step_admits _ (acting_caller p (free_is_acting (call_of p) free)) c.is_in_order.ensures.turn.holds
-    c.is_in_order.ensures.history c.requires.free refl
+quar-requires-clause-admitted c = grind (arith, loaded_undecided, free_step_admits, acting_caller, free_is_acting)
 
 pub returns-clause-freed : goal.returns-clause-freed
 returns-clause-freed c =

@@ -31,8 +31,7 @@ loop-distance-preserved c =
 
 pub returns-clause-unmaps : goal.returns-clause-unmaps
 returns-clause-unmaps c =
-    let all : c.loop-distance.distance ≡ c.args.run.count =
-    omega (arith, c.loop-distance-test.false, c.loop-distance.auto.distance-end) in
+    let all : c.loop-distance.distance ≡ c.args.run.count = grind arith in
     unmapped_all c.args.run c.is_in_order.ensures.turn c.requires.decided c.requires.phase
     (subst (λ n. HasUnmapped c.args.run c.is_in_order.ensures.turn c.requires.decided
     c.requires.phase c.loop-distance.turn.pass n) all c.loop-distance.invariant.unmapped)

@@ -12,12 +12,7 @@ loop-i-init c =
     record { op = refl; still = none; zero = λ zero. subst (λ n. WipesTo p c.args.run n p) start none }
 
 pub look_on_page-all-requires-clause-enabled : goal.look_on_page-all-requires-clause-enabled
-look_on_page-all-requires-clause-enabled c =
-    let may = c.requires.may in
-    let group = c.requires.group in
-    look_may c.args.run c.is_in_order.ensures.turn may.decided may.stopped
-    (8 * c.args.group + c.loop-i.i) c.loop-i.invariant.still
-    (omega (arith, group, c.loop-i-test.true)) may.within
+look_on_page-all-requires-clause-enabled c = grind (arith, look_may)
 
 pub look_on_page-all-requires-clause-page : goal.look_on_page-all-requires-clause-page
 look_on_page-all-requires-clause-page c = omega (arith, c.requires.part, c.loop-i-test.true)
@@ -49,8 +44,4 @@ loop-i-preserved c =
     }
 
 pub returns-clause-zero : goal.returns-clause-zero
-returns-clause-zero c is =
-    let all : 8 * c.args.group + c.loop-i.i ≡ 8 * c.args.group + 8 =
-    omega (arith, c.loop-i-test.false, c.loop-i.auto.i-end) in
-    subst (λ n. WipesTo c.args.turn.now.pass c.args.run n c.loop-i.turn.pass) all
-    (c.loop-i.invariant.zero (eqb-true c.loop-i.all 0 is))
+returns-clause-zero c is = grind (arith, eqb-true)

@@ -5,15 +5,7 @@ use Rattle.mk_objects.specs.Unmapping.{MayWipe}
 use Rattle.mk_objects.proofs.wiping.wipe_run.Goals as goal
 
 may : (c : Start) → MayWipe c.args.turn.now.pass c.args.run
-may c =
-    record {
-      decided = c.requires.decided;
-      stopped = c.requires.stopped;
-      freed = c.requires.freed;
-      unmapped = c.requires.unmapped;
-      few = c.requires.few;
-      within = c.requires.within;
-    }
+may c = grind arith
 
 pub loop-part-init : goal.loop-part-init
 loop-part-init c =
@@ -23,8 +15,7 @@ loop-part-init c =
     }
 
 pub wipe_page-requires-clause-may : goal.wipe_page-requires-clause-may
-wipe_page-requires-clause-may c =
-    still_may c.loop-part.invariant.wiped (may (goal.at.wipe_page-requires-clause-may c).Start)
+wipe_page-requires-clause-may c = grind (arith, still_may, may)
 
 pub wipe_page-requires-clause-wiped : goal.wipe_page-requires-clause-wiped
 wipe_page-requires-clause-wiped c = wiped_now c.loop-part.invariant.wiped
@@ -37,6 +28,4 @@ loop-part-preserved c =
     }
 
 pub returns-clause-wipes : goal.returns-clause-wipes
-returns-clause-wipes c =
-    wiped_all (wipes_named c.loop-part.invariant.wiped
-    (omega (arith, c.loop-part-test.false, c.loop-part.auto.part-end)))
+returns-clause-wipes c = grind (arith, wiped_all, wipes_named)

@@ -13,9 +13,7 @@ loop-word-init c =
     }
 
 pub look_on_page-found-requires-clause-enabled : goal.look_on_page-found-requires-clause-enabled
-look_on_page-found-requires-clause-enabled c =
-    look_may c.args.run c.is_in_order.ensures.turn c.requires.may.decided c.requires.may.stopped c.loop-word.word
-    c.loop-word.invariant.wiped (omega (arith, c.requires.group, c.loop-word-test.true)) c.requires.may.within
+look_on_page-found-requires-clause-enabled c = grind (arith, look_may)
 
 pub look_on_page-found-requires-clause-page : goal.look_on_page-found-requires-clause-page
 look_on_page-found-requires-clause-page c = omega (arith, c.requires.part, c.loop-word-test.true)
@@ -54,7 +52,4 @@ loop-word-preserved c =
     ]
 
 pub returns-clause-wipes : goal.returns-clause-wipes
-returns-clause-wipes c =
-    let all : c.loop-word.word ≡ 8 * c.args.group + 8 =
-    omega (arith, c.loop-word-test.false, c.loop-word.auto.word-end) in
-    subst (λ n. WipesTo c.args.turn.now.pass c.args.run n c.loop-word.turn.pass) all c.loop-word.invariant.wiped
+returns-clause-wipes c = grind arith
