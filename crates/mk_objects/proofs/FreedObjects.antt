@@ -88,7 +88,13 @@ module _ (p : PassState) (r : ℕ) (cell : Cell) (h : IsHistory p.table.config p
 
   -- None but it stands in its cell.
   alone : (i : ℕ) → i ≢ x.number → stands_in (now_of p).words cell (placed_at (world_of p).allocations i) ≡ false
-  alone i ne = grind (arith, false_from_ne_true, and_parts, own, stands, others, not-true, eqb-true)
+  alone i ne = false_from_ne_true _ (λ there.
+      let a : PlacedAllocation = placed_at (world_of p).allocations i in
+      let one = and_parts (not a.released) (a.base == first_word (now_of p).words cell) there in
+      let two = and_parts (not own.released) (own.base == first_word (now_of p).words cell) stands in
+      others.apart i x.number (not-true a.released one.0) x.unreleased ne
+      (eqb-true a.base (first_word (now_of p).words cell) one.1
+      ∙ sym (eqb-true own.base (first_word (now_of p).words cell) two.1)))
 
   pub granted : x.number < length (world_of p).allocations
   granted = grind (arith, cases_lt, get_or_past)

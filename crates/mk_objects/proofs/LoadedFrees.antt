@@ -40,7 +40,13 @@ value_kept {p} r {x} caller small a none =
         → register_at (never_behind p.table.config (p.seen ++ others ++ record { seat = s; step = x } ∷ []))
         (caller_number s) r
         ≡ register_at (never_behind p.table.config p.seen) (caller_number s) r
-    by others s e of_others answer whole = grind (arith, registers_kept)
+    by others s e of_others answer whole =
+        subst (λ (y : Seat). AreOfOthers (y ∷ []) others → answer_decided p.table.config
+        (left p.table.config (p.seen ++ others)).now (record { seat = y; step = x }) ≡ None
+        → IsHistory p.table.config (p.seen ++ others ++ record { seat = y; step = x } ∷ [])
+        → register_at (never_behind p.table.config (p.seen ++ others ++ record { seat = y; step = x } ∷ []))
+        (caller_number y) r ≡ register_at (never_behind p.table.config p.seen) (caller_number y) r) (sym e)
+        (λ o n w. registers_kept p.seen others caller.number x w o n r small) of_others answer whole
 
 -- It is a caller's.
 pub unloaded_caller : (p : PassState) (r : ℕ) → call_of p ≡ begun (Op.Free r) → IsCallers p

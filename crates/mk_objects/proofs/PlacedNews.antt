@@ -53,7 +53,9 @@ pub place_found : {p : PassState} {x : Option Op} {found : Option Place} → IsT
     → IsUnplaced p
     → place_on_pages p.table.config.resident (now_of p).words.pages (object_for p) ≡ found → place_now_for p ≡ found
 place_found {p} {x} turn h u fit =
-    grind (arith, new_is_acting, first_fit_finds_the_place, unplaced_settled, acting_now, acting_caller)
+    let acts = new_is_acting (call_of p) u.new in
+    sym (first_fit_finds_the_place p.table.config p.seen h (object_for p)
+    (unplaced_settled p (acting_now p x turn acts) (acting_caller p acts) u h)) ∙ fit
 
 pub fit_within : {p : PassState} {x : Option Op} (place : Place) → IsTurn p x → IsHistory p.table.config p.seen
     → IsUnplaced p → place_on_pages p.table.config.resident (now_of p).words.pages (object_for p) ≡ Some place

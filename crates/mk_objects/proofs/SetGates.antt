@@ -97,7 +97,14 @@ gates_more : (s : Seat) (callers : ℕ) (gates then : ℕ → Bool) (gate : ℕ)
     → HasGates s callers gates w u
     → GateIsSet s gate held u v → ((j : ℕ) → j ≢ gate → then j ≡ gates j) → then gate ≡ held
     → HasGates s callers then w v
-gates_more s callers gates then gate held w u v a b others here = grind (arith, but_gates_then)
+gates_more s callers gates then gate held w u v a b others here =
+    record {
+      but_gates = but_gates_then a.but_gates b.but_gates;
+      held = λ j lt. elim (cases_eq j gate) [
+        | inl e ↦ ap (λ i. is_held v.now.words i) e ∙ b.set ∙ sym here ∙ ap then (sym e)
+        | inr ne ↦ b.others j ne ∙ a.held j lt ∙ sym (others j ne)
+      ];
+    }
 
 pub sets_more : (kinds : Step → Bool) (p q r : PassState) (gates then : ℕ → Bool) (gate : ℕ) (held : Bool)
     → SetsGates kinds p gates q

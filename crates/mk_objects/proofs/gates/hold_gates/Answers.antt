@@ -38,4 +38,8 @@ loop-caller-preserved g c =
     }
 
 pub returns-clause-sets : goal.returns-clause-sets
-returns-clause-sets g c = grind (arith, sets_named, held_so_far)
+returns-clause-sets g c =
+    let p : PassState = c.args.turn.now.pass in
+    let table = ap (λ (w : WordsState). w.config.callers) c.requires.one_table in
+    sets_named (all_others p.seat) c.loop-caller.invariant.sets (λ j lt. held_so_far p.seat c.loop-caller.caller j
+    (omega (arith, lt, table, c.loop-caller-test.false, c.callers-caller-end.ensures)))

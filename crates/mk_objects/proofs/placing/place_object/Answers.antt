@@ -30,7 +30,11 @@ pub unreachable-requires : goal.unreachable-requires
 unreachable-requires c = grind (arith, op_is)
 
 pub unreachable-requires-in_default-op : goal.unreachable-requires-in_default-op
-unreachable-requires-in_default-op c = grind (arith, undecided_new, op_known)
+unreachable-requires-in_default-op c =
+    let p : PassState = c.args.turn.now.pass in
+    let new = undecided_new (call_of p) c.requires.unplaced.new in
+    let known = op_known c.in-Some.op c.is_in_order.ensures.turn c.requires.unplaced.new c.op.ensures c.in-Some.is in
+    c.in_default-op.not-New new.d new.ty new.full (sym known ∙ new.op)
 
 pub shape_of-shape-requires : goal.shape_of-shape-requires
 shape_of-shape-requires c =
