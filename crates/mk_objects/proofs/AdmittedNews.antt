@@ -1,10 +1,9 @@
 -- A New is admitted wherever its call is.
 use Rattle.std.proofs.lemmas.List.{length-replicate}
-use Rattle.mk_laws.proofs.Vocabulary.{Answer, AreAdmitted, Bool, Call, Caller, Config, Decided, Event, Flight}
-use Rattle.mk_laws.proofs.Vocabulary.{IsAdmitted, IsHistory, List, Null, Op, Some, Step, Value, ℕ, after_calls}
-use Rattle.mk_laws.proofs.Vocabulary.{and_parts, ap, arith, asked, calls, d_of, entry_of, false, first_world, flight_of}
-use Rattle.mk_laws.proofs.Vocabulary.{has_operands, is_undecided_new, left, length, ltb-true, map-append, nat_lt, subst}
-use Rattle.mk_laws.proofs.Vocabulary.{sym, true, undecided_new, [], ◌&&◌, ◌*◌, ◌++◌, ◌<◌, ◌∙◌, ◌∷◌, ◌≡◌}
+use Rattle.mk_laws.proofs.Vocabulary.{AreAdmitted, Bool, Call, Caller, Config, Event, Flight, IsAdmitted, IsHistory}
+use Rattle.mk_laws.proofs.Vocabulary.{List, Null, Op, Step, Value, ℕ, after_calls, and_parts, arith, asked, calls, d_of}
+use Rattle.mk_laws.proofs.Vocabulary.{false, flight_of, has_operands, is_undecided_new, left, length, ltb-true}
+use Rattle.mk_laws.proofs.Vocabulary.{map-append, subst, sym, true, undecided_new, [], ◌*◌, ◌++◌, ◌<◌, ◌∷◌, ◌≡◌}
 use Rattle.mk_objects.proofs.Vocabulary.{IsAdmittedBehind, calls_more}
 use Rattle.mk_never.proofs.{Later.calls_stay, Parts.admitted_join}
 use Rattle.mk_core.specs.History.{never_first}

@@ -1,15 +1,14 @@
 -- The cell that the register of a Free points into, by a look at its page's header.
 use Rattle.std.proofs.Math.Nat.{div-le_of_le-mul}
-use Rattle.mk_laws.proofs.Vocabulary.{Caller, Cell, Config, Flight, Header, IsHistory, IsSized, IsWithinLimits, None}
-use Rattle.mk_laws.proofs.Vocabulary.{Object, Option, PlacedAllocation, Seat, Some, Words, World, ℕ, and_parts, ap}
-use Rattle.mk_laws.proofs.Vocabulary.{arith, cases_Bool, cell_at, cell_of_allocation, cells_made, cells_of, class_known}
-use Rattle.mk_laws.proofs.Vocabulary.{class_made, class_words_of, cond-false, flight_of, header_at, header_of, inl, inr}
-use Rattle.mk_laws.proofs.Vocabulary.{is_heap_address, is_small_object, is_undecided_free, large_cells, leb-true}
-use Rattle.mk_laws.proofs.Vocabulary.{ltb-true, nat_le, nat_lt, never_behind, object_placed, page_at_address, placed_at}
-use Rattle.mk_laws.proofs.Vocabulary.{small_cells, subst, sym, target, true, typed_size, words_within, ◌*◌, ◌+◌, ◌<◌}
-use Rattle.mk_laws.proofs.Vocabulary.{◌∙◌, ◌≡◌, ◌≤◌}
-use Rattle.mk_objects.proofs.Vocabulary.{PassState, call_of, now_of, option_and_then, world_of}
-use Rattle.mk_geom.{proofs.ClassTable.class_words_within, specs.Addresses.cell_under, specs.Addresses.word_at_address}
+use Rattle.mk_laws.proofs.Vocabulary.{Caller, Cell, Config, Flight, IsHistory, IsSized, IsWithinLimits, Object, Option}
+use Rattle.mk_laws.proofs.Vocabulary.{PlacedAllocation, Some, Words, World, ℕ, and_parts, ap, arith, cases_Bool}
+use Rattle.mk_laws.proofs.Vocabulary.{cell_at, cell_of_allocation, cells_made, cells_of, class_known, class_made}
+use Rattle.mk_laws.proofs.Vocabulary.{class_words_of, cond-false, header_at, inl, inr, is_small_object}
+use Rattle.mk_laws.proofs.Vocabulary.{is_undecided_free, large_cells, leb-true, ltb-true, never_behind, object_placed}
+use Rattle.mk_laws.proofs.Vocabulary.{page_at_address, placed_at, small_cells, target, true, typed_size, words_within}
+use Rattle.mk_laws.proofs.Vocabulary.{◌<◌, ◌≡◌, ◌≤◌}
+use Rattle.mk_objects.proofs.Vocabulary.{PassState, call_of, now_of, world_of}
+use Rattle.mk_geom.proofs.ClassTable.{class_words_within}
 use Rattle.mk_core.{proofs.StandingAllocations.placed_cell, specs.Cells.pointed_cell}
 use Rattle.mk_laws.{proofs.InvariantTheorems.allocations_stand, specs.SettledPages.StandsUsed}
 use Rattle.mk_objects.proofs.FreedCells.{PointsAt, free_points_at}
@@ -51,7 +50,7 @@ target_of pages w f cell free is = rw free is
 
 cell_within : {c : Config} {w : World} {a : PlacedAllocation} → IsWithinLimits c → StandsUsed c w a
     → (cell_of_allocation c a).page < c.pages
-cell_within {c} {a} limits s = grind (arith, words_within, typed_size)
+cell_within limits s = grind (arith, words_within, typed_size)
 
 cells_few : (o : Object) → IsSized o → cells_made o ≤ 32
 cells_few o sized = elim (cases_Bool (is_small_object o)) [

@@ -1,14 +1,13 @@
 -- The target of a Free is quarantined.
 use Rattle.std.proofs.{Math.Pow.pow-lt, lemmas.Nat.or_lt}
-use Rattle.mk_laws.proofs.Vocabulary.{Answer, Caller, Cell, Config, Flight, Holding, Holds, List, Moment, None, Op}
-use Rattle.mk_laws.proofs.Vocabulary.{Option, Page, PlacedAllocation, Seat, Some, Stage, Steady, Step, Words, World, ℕ}
+use Rattle.mk_laws.proofs.Vocabulary.{Answer, Caller, Cell, Config, Flight, Holding, Holds, List, Moment, Op, Option}
+use Rattle.mk_laws.proofs.Vocabulary.{Page, PlacedAllocation, Seat, Some, Stage, Steady, Step, Words, World, ℕ}
 use Rattle.mk_laws.proofs.Vocabulary.{and_from, answer_decided, ap, arith, bit_or, caller_number, cell_freed, entry_of}
 use Rattle.mk_laws.proofs.Vocabulary.{eq-eqb, false, flight_of, freed_where_it_stands, frees, has_bit, header_in}
-use Rattle.mk_laws.proofs.Vocabulary.{heads_run, if◌then◌else◌, is_freed, is_phase, is_run_cell, is_some}
-use Rattle.mk_laws.proofs.Vocabulary.{is_undecided_free, length, map, not, or_else, others_are_held, phase_of}
-use Rattle.mk_laws.proofs.Vocabulary.{progress_freed, quarantine_word, refl, run_of_cell, set-get_or, slice_index}
-use Rattle.mk_laws.proofs.Vocabulary.{slice_set, subst, sym, target, true, world_behind, ◌%◌, ◌&&◌, ◌*◌, ◌+◌, ◌-◌, ◌/◌}
-use Rattle.mk_laws.proofs.Vocabulary.{◌<◌, ◌^◌, ◌||◌, ◌∙◌, ◌≡◌}
+use Rattle.mk_laws.proofs.Vocabulary.{heads_run, is_freed, is_run_cell, is_some, is_undecided_free, length, map, not}
+use Rattle.mk_laws.proofs.Vocabulary.{or_else, others_are_held, phase_of, progress_freed, quarantine_word, refl}
+use Rattle.mk_laws.proofs.Vocabulary.{run_of_cell, set-get_or, slice_index, slice_set, subst, sym, target, true}
+use Rattle.mk_laws.proofs.Vocabulary.{world_behind, ◌%◌, ◌*◌, ◌+◌, ◌-◌, ◌/◌, ◌<◌, ◌^◌, ◌||◌, ◌∙◌, ◌≡◌}
 use Rattle.mk_objects.proofs.Vocabulary.{Acts, FreesOnce, HasFreed, IsAsLeft, IsEnabledTo, IsFreedAt, IsOutOfStop}
 use Rattle.mk_objects.proofs.Vocabulary.{IsTurn, Known, PassState, call_of, is_freeing, min, now_of, steady_of}
 use Rattle.mk_objects.proofs.Vocabulary.{words_freed, world_of}
@@ -29,12 +28,12 @@ frees_it w cell clear = grind (arith, and_from, eq-eqb, freed_word)
 freed_target : (c : Config) (m : Moment) (f : Flight) (cell : Cell) {value : ℕ} → IsOutOfStop m
     → target c.pages m.words f ≡ Some cell → is_freed m.words cell ≡ false → value ≡ freed_word m.words cell
     → cell_freed c.pages m.words f cell.page value ≡ Some cell
-freed_target c m f cell {value} low at clear is = grind (arith, freed_word, off_four, frees_it)
+freed_target c m f cell low at clear is = grind (arith, freed_word, off_four, frees_it)
 
 freed_left : (c : Config) {s : Seat} (cell : Cell) {value : ℕ} {w v : World} → IsAsLeft s w v → IsOutOfStop v.now
     → target c.pages w.now.words (flight_of w.now s) ≡ Some cell → is_freed w.now.words cell ≡ false → value
     ≡ freed_word w.now.words cell → cell_freed c.pages v.now.words (flight_of v.now s) cell.page value ≡ Some cell
-freed_left c {s} cell {w} {v} kept low at clear is = grind (arith, target_same, freed_word, freed_target, freed_same)
+freed_left c cell kept low at clear is = grind (arith, target_same, freed_word, freed_target, freed_same)
 
 -- Both halves of the word are apart.
 pub low_half : (f s : ℕ) → f < 2 ^ 32 → quarantine_word f s % 2 ^ 32 ≡ f
@@ -170,7 +169,7 @@ quarantine_may {p} cell {value} {o} turn free at clear low is within gates =
 -- the word that is made of both halves of the one that was found
 pub freed_word_made : (f s i : ℕ) → f < 2 ^ 32 → i < 32 → has_bit f i ≡ false → {quar : ℕ} → quar ≡ quarantine_word f s
     → 4294967296 * (quar / 4294967296) + bit_or (quar % 4294967296) (1 * 2 ^ i % 2 ^ 64) ≡ quarantine_word (f + 2 ^ i) s
-freed_word_made f s i lt near clear {quar} is = grind (arith, one_bit_more)
+freed_word_made f s i lt near clear is = grind (arith, one_bit_more)
 
 pub freed_half : (f i : ℕ) → f < 2 ^ 32 → i < 32 → has_bit f i ≡ false → f + 2 ^ i < 2 ^ 32
 freed_half f i lt near clear =

@@ -209,12 +209,12 @@ once_before {p} {q} {r} not o table d h holds same =
 
 pub due_since : {p q : PassState} → FreesOnce p q → IsOverQuarter p.table.config (world_of q).allocations
     → IsDueSince p q
-due_since {p} o quarter = grind arith
+due_since o quarter = grind arith
 
 -- and only there.
 pub due_then : {p q : PassState} → FreesOnce p q → IsDueSince p q
     → IsOverQuarter p.table.config (world_of q).allocations
-due_then {p} o d = grind arith
+due_then o d = grind arith
 
 -- Where none frees, none is due.
 

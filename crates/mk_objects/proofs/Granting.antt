@@ -1,13 +1,12 @@
 -- A New after its mark, its grant and its tally.
 use Rattle.std.specs.Int.Bits.{and_self}
-use Rattle.mk_laws.proofs.Vocabulary.{Caller, Chosen, Config, Flight, Holding, List, Object, Option, Page, Place}
-use Rattle.mk_laws.proofs.Vocabulary.{PlacedAllocation, Placing, Seat, Some, Stage, Steady, Step, Tally, Words, World}
-use Rattle.mk_laws.proofs.Vocabulary.{ℕ, address_of, and_from, ap, arith, base_made, bit_or, d_of, eq-eqb, false}
-use Rattle.mk_laws.proofs.Vocabulary.{flight_of, get_or-set_same, granted_base, header_at, is_phase, is_undecided_new}
-use Rattle.mk_laws.proofs.Vocabulary.{is_used_once, length, marks_place, not, object_made, or_left, or_right}
-use Rattle.mk_laws.proofs.Vocabulary.{pages_made, phase_of, place_now, refl, register_word, slice_index, slice_set, sym}
-use Rattle.mk_laws.proofs.Vocabulary.{true, without, world_behind, [], ◌%◌, ◌*◌, ◌++◌, ◌+◌, ◌<◌, ◌==◌, ◌^◌, ◌∙◌, ◌∷◌}
-use Rattle.mk_laws.proofs.Vocabulary.{◌≡◌, ◌≤◌}
+use Rattle.mk_laws.proofs.Vocabulary.{Caller, Chosen, Config, Flight, List, Object, Place, PlacedAllocation, Placing}
+use Rattle.mk_laws.proofs.Vocabulary.{Seat, Some, Stage, Steady, Step, Tally, Words, World, ℕ, address_of, and_from, ap}
+use Rattle.mk_laws.proofs.Vocabulary.{arith, base_made, bit_or, d_of, eq-eqb, false, flight_of, get_or-set_same}
+use Rattle.mk_laws.proofs.Vocabulary.{granted_base, header_at, is_phase, is_undecided_new, is_used_once, length}
+use Rattle.mk_laws.proofs.Vocabulary.{marks_place, not, object_made, or_left, or_right, pages_made, phase_of, place_now}
+use Rattle.mk_laws.proofs.Vocabulary.{refl, register_word, slice_index, slice_set, sym, true, without, world_behind, []}
+use Rattle.mk_laws.proofs.Vocabulary.{◌%◌, ◌*◌, ◌++◌, ◌+◌, ◌<◌, ◌==◌, ◌^◌, ◌∙◌, ◌∷◌, ◌≡◌, ◌≤◌}
 use Rattle.mk_objects.proofs.Vocabulary.{Carving, IsAsLeft, IsGrantedAt, Serving, bits_made, object_at_place, steady_of}
 use Rattle.mk_core.{proofs.WordBits.bits_added, specs.Allocations.type_made}
 use Rattle.mk_laws.proofs.Tests.{without_on}
@@ -24,7 +23,7 @@ pub serving_marks : {c : Config} {s : Seat} {o : Object} {place : Place} {w v : 
     → phase_of v.now.words ≡ 1 → header_at v.now.words place.page ≡ 0
     → marks_place v.now.words (object_made c (flight_of v.now s).op) (place_now c v.now (flight_of v.now s)) place.page
     (bits_made o) ≡ true
-serving_marks {c} {s} {o} {place} {v} at one free = grind (arith, marks_first)
+serving_marks at one free = grind (arith, marks_first)
 
 all_marked : (bits : ℕ) (xs : List ℕ) (p : ℕ) → p < length xs
     → (without bits (slice_index (slice_set xs p (bit_or (slice_index xs p) bits)) p) == 0) ≡ true
@@ -66,13 +65,13 @@ carving_marked {c} {s} {o} {place} {v} at (OfCaller k lt) new one free some room
 pub carving_unmarked : {c : Config} {s : Seat} {o : Object} {place : Place} {w v : World} → Serving c s o place w v
     → phase_of v.now.words ≡ 0
     → ((d : ℕ) → d < pages_made o → header_at v.now.words (place.page + d) ≡ 0) → Carving c s o place w v 0
-carving_unmarked {v} at none free = grind (arith, or_left)
+carving_unmarked at none free = grind (arith, or_left)
 
 -- the grant, the tally, and what others do after them
 
 pub granted_left : {c : Config} {s : Seat} {place : Place} {w u v : World} → d_of (flight_of w.now s).op < 8
     → IsGrantedAt c s place w u → IsAsLeft s u v → IsGrantedAt c s place w v
-granted_left {c} {s} {place} {w} {u} {v} small at left = grind arith
+granted_left small at left = grind arith
 
 pub granted_behind : {c : Config} {s : Seat} {o : Object} {place : Place} {w v : World} → IsTakenAt c s o place w v
     → HasCall c v.now s → ((k : ℕ) → s ≡ Caller k → 8 * k + d_of (flight_of w.now s).op < length v.now.words.registers)
@@ -128,11 +127,10 @@ granted_behind {c} {place} {w} {v} at (OfCaller k lt) room =
         ap (λ i. slice_index (slice_set v.now.words.registers (8 * k + d_of (flight_of v.now (Caller k)).op) value)
         (8 * i + d_of (flight_of w.now (Caller k)).op)) (sym same)
         ∙ ap (λ i. slice_index (slice_set v.now.words.registers (8 * k + i) value)
-        (8 * k + d_of (flight_of w.now (Caller k)).op)) d
-        ∙ get_or-set_same v.now.words.registers (8 * k + d_of (flight_of w.now (Caller k)).op) value 0 (room k refl)
-        ∙ ap (λ n. address_of n % 2 ^ 64)
-        (ap (λ (x : Placing). granted_base c (flight_of v.now (Caller k)) x) at.placing
-        ∙ ap (λ (g : Flight). base_made (object_made c g.op) place) at.call)
+        (8 * k + d_of (flight_of w.now (Caller k)).op)) d ∙ get_or-set_same v.now.words.registers
+        (8 * k + d_of (flight_of w.now (Caller k)).op) value 0 (room k refl)
+        ∙ ap (λ n. address_of n % 2 ^ 64) (ap (λ (x : Placing). granted_base c (flight_of v.now (Caller k)) x)
+        at.placing ∙ ap (λ (g : Flight). base_made (object_made c g.op) place) at.call)
 
 -- The tally of held words is set.
 pub tallied_behind : {c : Config} {s : Seat} {place : Place} {w v : World} (n : ℕ) → IsGrantedAt c s place w v

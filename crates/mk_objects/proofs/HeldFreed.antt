@@ -4,8 +4,8 @@ use Rattle.mk_laws.proofs.Vocabulary.{Bool, Cell, Config, List, PlacedAllocation
 use Rattle.mk_laws.proofs.Vocabulary.{cases_eq, changed_at, cond-false, cond-true, false, freed_leaves}
 use Rattle.mk_laws.proofs.Vocabulary.{freed_where_it_stands, get_or-set_other, get_or-set_same, if◌then◌else◌, inl, inr}
 use Rattle.mk_laws.proofs.Vocabulary.{is_large, is_mapped, kinds_of, length, length-map, length-set, map, never_granted}
-use Rattle.mk_laws.proofs.Vocabulary.{not, placed_at, refl, slice_set, stands_in, storage_of, storage_words, sym, true}
-use Rattle.mk_laws.proofs.Vocabulary.{[], ◌&&◌, ◌+◌, ◌<◌, ◌∙◌, ◌∷◌, ◌≡◌, ◌≢◌}
+use Rattle.mk_laws.proofs.Vocabulary.{placed_at, refl, slice_set, stands_in, storage_of, storage_words, sym, true, []}
+use Rattle.mk_laws.proofs.Vocabulary.{◌+◌, ◌<◌, ◌∙◌, ◌∷◌, ◌≡◌, ◌≢◌}
 use Rattle.mk_objects.proofs.Vocabulary.{freed_and_fresh, held_by_allocations, sum_by-cons}
 use Rattle.mk_geom.specs.StorageWords.{held_by_storages}
 use Rattle.mk_core.specs.Allocations.{unreleased_storage}

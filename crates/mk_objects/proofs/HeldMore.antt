@@ -1,10 +1,10 @@
 -- How many words are held before a grant, and after it.
-use Rattle.std.proofs.{Common.sum_by, lemmas.List.Sums.sum_by-append}
-use Rattle.mk_laws.proofs.Vocabulary.{Config, Event, IsHistory, IsSettled, List, PlacedAllocation, Storage, ℕ, ap}
-use Rattle.mk_laws.proofs.Vocabulary.{arith, false, histories_keep_lengths, if◌then◌else◌, left, refl, storage_of}
-use Rattle.mk_laws.proofs.Vocabulary.{storage_words, unreleased_storage, [], ◌*◌, ◌++◌, ◌+◌, ◌∙◌, ◌∷◌, ◌≡◌, ◌≤◌}
+use Rattle.std.proofs.lemmas.List.Sums.{sum_by-append}
+use Rattle.mk_laws.proofs.Vocabulary.{Config, Event, IsHistory, IsSettled, List, PlacedAllocation, Storage, ℕ, arith}
+use Rattle.mk_laws.proofs.Vocabulary.{false, histories_keep_lengths, if◌then◌else◌, left, storage_words}
+use Rattle.mk_laws.proofs.Vocabulary.{unreleased_storage, [], ◌*◌, ◌++◌, ◌+◌, ◌∷◌, ◌≡◌, ◌≤◌}
 use Rattle.mk_objects.proofs.Vocabulary.{held_by_allocations, sum_by-cons}
-use Rattle.mk_geom.{proofs.HeldWords.pages_hold_mapped_words, specs.StorageWords.held_by_storages}
+use Rattle.mk_geom.proofs.HeldWords.{pages_hold_mapped_words}
 use Rattle.mk_core.proofs.UnreleasedStorage.{unreleased_more}
 use Rattle.mk_laws.proofs.InvariantTheorems.{pages_show_the_storage}
 use Rattle.mk_objects.proofs.FoundPlaces.{pages_hold_few}

@@ -1,13 +1,12 @@
 -- A large object is freed and counted, while all others are stopped.
-use Rattle.mk_laws.proofs.Vocabulary.{Block, Bool, Cell, Free, Header, Holding, Holds, IsHistory, Later, LeafBlock}
-use Rattle.mk_laws.proofs.Vocabulary.{LeafRun, List, None, Option, Page, PlacedAllocation, Run, RunPages, Some, Steady}
-use Rattle.mk_laws.proofs.Vocabulary.{Tally, ℕ, ap, arith, false, free_page, freed_where_it_stands, fresh_words_of}
-use Rattle.mk_laws.proofs.Vocabulary.{header_in, heads_run, if◌then◌else◌, in_a_word, is_held, map, or_else, refl}
-use Rattle.mk_laws.proofs.Vocabulary.{run_headed, slice_index_or, subst, sym, true, words_under, ◌*◌, ◌+◌, ◌<◌, ◌^◌}
-use Rattle.mk_laws.proofs.Vocabulary.{◌↔◌, ◌∙◌, ◌≡◌}
+use Rattle.mk_laws.proofs.Vocabulary.{Block, Bool, Cell, Free, Header, Holds, IsHistory, Later, LeafBlock, LeafRun}
+use Rattle.mk_laws.proofs.Vocabulary.{None, Option, Run, RunPages, Some, Steady, Tally, ℕ, ap, arith, false}
+use Rattle.mk_laws.proofs.Vocabulary.{freed_where_it_stands, fresh_words_of, header_in, heads_run, if◌then◌else◌}
+use Rattle.mk_laws.proofs.Vocabulary.{in_a_word, is_held, map, refl, run_headed, subst, sym, true, words_under, ◌*◌}
+use Rattle.mk_laws.proofs.Vocabulary.{◌+◌, ◌<◌, ◌^◌, ◌↔◌, ◌∙◌, ◌≡◌}
 use Rattle.mk_objects.proofs.Vocabulary.{Changes, FreesCell, FreesOnce, HasFreed, IsFreedAt, IsTrue, MayFree, OnlyLooks}
-use Rattle.mk_objects.proofs.Vocabulary.{PassState, SetsTally, StaysSo, WordsState, held_by_allocations, is_following}
-use Rattle.mk_objects.proofs.Vocabulary.{now_of, with_tally, words_freed, world_of}
+use Rattle.mk_objects.proofs.Vocabulary.{PassState, SetsTally, StaysSo, held_by_allocations, is_following, now_of}
+use Rattle.mk_objects.proofs.Vocabulary.{with_tally, words_freed, world_of}
 use Rattle.mk_objects.proofs.DecidedFrees.{Stays, held_stays, settling_follows, stays_now, stays_then}
 use Rattle.mk_objects.proofs.FreedObjects.{HasRun, IsObjectAt, its_freed, its_run, large_held, object_at, own}
 use Rattle.mk_objects.proofs.ReachedParts.{reached_table, reached_world, same_kinds}

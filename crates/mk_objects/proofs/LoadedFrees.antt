@@ -1,16 +1,15 @@
 -- The register of a Free is loaded.
-use Rattle.mk_laws.proofs.Vocabulary.{Answer, AreOfOthers, Bool, Caller, Config, Event, Flight, Holds, Host, IsEnabled}
-use Rattle.mk_laws.proofs.Vocabulary.{IsHistory, List, Load, Marker, Moment, Named, None, Null, Num, Op, Option}
-use Rattle.mk_laws.proofs.Vocabulary.{Progress, Ptr, Seat, Some, Stage, Step, Value, Word, Words, World, ℕ, accessed}
-use Rattle.mk_laws.proofs.Vocabulary.{answer_decided, ap, arith, bases_of, begun, caller_number, comes_next, entry_of}
-use Rattle.mk_laws.proofs.Vocabulary.{eqb-true, false, flight_of, found, if◌then◌else◌, image_of, is_held}
-use Rattle.mk_laws.proofs.Vocabulary.{is_undecided_free, left, length, lt-ltb, never_behind, progress_reg, refl}
-use Rattle.mk_laws.proofs.Vocabulary.{reg_access, register_at, register_met, register_word, shown, subst, sym, true}
-use Rattle.mk_laws.proofs.Vocabulary.{world_behind, [], ◌%◌, ◌*◌, ◌++◌, ◌+◌, ◌/◌, ◌<◌, ◌==◌, ◌∙◌, ◌∷◌, ◌≡◌}
-use Rattle.mk_objects.proofs.Vocabulary.{Acts, CallIsAt, IsAdmittedBehind, IsAsLeft, IsBase, IsEnabledTo, IsFreeAt}
-use Rattle.mk_objects.proofs.Vocabulary.{IsTurn, Known, PassState, answers_full, call_of, event_of}
-use Rattle.mk_objects.proofs.Vocabulary.{histories_keep_the_invariant, is_loading, loaded_free, now_of, steady_of}
-use Rattle.mk_objects.proofs.Vocabulary.{value_of, world_of}
+use Rattle.mk_laws.proofs.Vocabulary.{Answer, AreOfOthers, Bool, Caller, Config, Event, Flight, Holds, IsEnabled}
+use Rattle.mk_laws.proofs.Vocabulary.{IsHistory, List, Load, Moment, None, Null, Num, Op, Option, Progress, Ptr, Seat}
+use Rattle.mk_laws.proofs.Vocabulary.{Some, Stage, Step, Value, Words, World, ℕ, answer_decided, ap, arith, bases_of}
+use Rattle.mk_laws.proofs.Vocabulary.{begun, caller_number, entry_of, eqb-true, false, flight_of, found, if◌then◌else◌}
+use Rattle.mk_laws.proofs.Vocabulary.{image_of, is_held, is_undecided_free, left, length, lt-ltb, never_behind}
+use Rattle.mk_laws.proofs.Vocabulary.{progress_reg, refl, reg_access, register_at, register_met, register_word, shown}
+use Rattle.mk_laws.proofs.Vocabulary.{subst, sym, true, world_behind, [], ◌%◌, ◌*◌, ◌++◌, ◌+◌, ◌/◌, ◌<◌, ◌==◌, ◌∙◌, ◌∷◌}
+use Rattle.mk_laws.proofs.Vocabulary.{◌≡◌}
+use Rattle.mk_objects.proofs.Vocabulary.{Acts, CallIsAt, IsAsLeft, IsBase, IsEnabledTo, IsFreeAt, IsTurn, Known}
+use Rattle.mk_objects.proofs.Vocabulary.{PassState, answers_full, call_of, event_of, histories_keep_the_invariant}
+use Rattle.mk_objects.proofs.Vocabulary.{is_loading, loaded_free, now_of, steady_of, value_of, world_of}
 use Rattle.mk_core.{proofs.Conditions.meets_enabled, specs.Effects.moment_behind}
 use Rattle.mk_objects.proofs.Reaching.{IsCallers, made_in, reaches_nothing, reaches_on}
 use Rattle.mk_objects.proofs.{AdmittedFrees.free_admits, AdmittedFrees.registers_kept, Unchanged.call_behind}
@@ -21,7 +20,7 @@ use Rattle.mk_words.specs.{CallSteps.register_of, Steps.IsAdmittedTo}
 pub free_step_admits : {p : PassState} {r : ℕ} (x : Step) {f : Flight} → IsCallers p
     → Holds p.table.config (now_of p) p.seat
     → IsHistory p.table.config p.seen → IsFreeAt p r f → f.op ≡ Op.Free r → IsAdmittedTo p x
-free_step_admits {p} {r} x {f} caller holds h u is = grind (arith, free_admits)
+free_step_admits x caller holds h u is = grind (arith, free_admits)
 
 -- Its register keeps its value over a step that decides nothing.
 pub value_kept : {p q : PassState} (r : ℕ) {x : Step} → IsCallers p → r < 8 → Acts p x q
@@ -188,7 +187,7 @@ load_keeps {p} {r} {n} small turn u a is some =
 -- A Free that has loaded a pointer isn't decided.
 pub loaded_undecided : {p : PassState} {r : ℕ} (u : ℕ) → IsFreeAt p r (loaded_free r u) → (u == 0) ≡ false
     → is_undecided_free (call_of p) ≡ true
-loaded_undecided {p} {r} u at some = grind arith
+loaded_undecided u at some = grind arith
 
 -- A register whose word is 0 is null.
 
@@ -210,4 +209,4 @@ null_at {c} {es} k r h small call base zero =
 
 pub load_null : {p : PassState} {r n : ℕ} → IsHistory p.table.config p.seen → IsUnloaded p r → n ≡ register_of p r
     → (n == 0) ≡ true → value_of p r ≡ Null
-load_null {p} {r} {n} h u is none = grind (arith, unloaded_caller, eqb-true, null_at)
+load_null h u is none = grind (arith, unloaded_caller, eqb-true, null_at)

@@ -1,8 +1,7 @@
 -- What is asked of a New, and where it goes, by what its turn says.
-use Rattle.mk_laws.proofs.Vocabulary.{Caller, Config, Host, IsHistory, List, Marker, Object, Op, Option, Page, Place}
-use Rattle.mk_laws.proofs.Vocabulary.{Seat, Some, ℕ, and_parts, ap, arith, d_of, flight_of, g_of, has_operands}
-use Rattle.mk_laws.proofs.Vocabulary.{is_undecided_new, length, nat_lt, object_made, p_of, place_on_pages, q_of, r_of}
-use Rattle.mk_laws.proofs.Vocabulary.{refl, sym, true, uses_of_pages, ◌&&◌, ◌<◌, ◌∙◌, ◌≡◌}
+use Rattle.mk_laws.proofs.Vocabulary.{Config, IsHistory, List, Op, Option, Page, Place, Some, ℕ, and_parts, arith}
+use Rattle.mk_laws.proofs.Vocabulary.{has_operands, is_undecided_new, length, object_made, place_on_pages, sym, true}
+use Rattle.mk_laws.proofs.Vocabulary.{uses_of_pages, ◌<◌, ◌∙◌, ◌≡◌}
 use Rattle.mk_objects.proofs.Vocabulary.{GoesTo, IsTurn, IsUnplaced, OnlyLooks, PassState, WordsState, call_of}
 use Rattle.mk_objects.proofs.Vocabulary.{known_left, now_of, object_for}
 use Rattle.mk_geom.specs.PageUses.{place_on_uses}
@@ -12,11 +11,10 @@ use Rattle.mk_objects.proofs.JoinedLooks.{goes_to, looks_object, looks_pages, lo
 use Rattle.mk_objects.proofs.Looks.{acting_caller, acting_now}
 use Rattle.mk_objects.proofs.{MayAct.new_is_acting, Serves.knows_place, Takes.unplaced_settled}
 use Rattle.mk_objects.specs.{Placing.place_now_for, Shapes.object_shaped, declared.objects.Shape.Shape}
-use Rattle.mk_words.specs.TurnSteps.{op_for}
 
 -- the operation of a turn that is for an undecided New
 pub op_is : {p : PassState} {x : Option Op} → IsTurn p x → is_undecided_new (call_of p) ≡ true → x ≡ Some (call_of p).op
-op_is {p} turn new = grind arith
+op_is turn new = grind arith
 
 type_of : (c : Config) (o : Op) → has_operands c o ≡ true → has_type c o ≡ true
 type_of c o h = grind (arith, and_parts)
@@ -24,29 +22,29 @@ type_of c o h = grind (arith, and_parts)
 -- It is known where it is looked at.
 pub op_known : {p : PassState} {x y : Option Op} (o : Op) → IsTurn p x → is_undecided_new (call_of p) ≡ true → y ≡ x
     → y ≡ Some o → (call_of p).op ≡ o
-op_known {p} o turn new same is = grind (arith, op_is)
+op_known o turn new same is = grind (arith, op_is)
 
 -- Its type exists,
 pub type_asked : (p : PassState) {w : WordsState} {o : Op} → p.table ≡ w → IsHistory p.table.config p.seen
     → (call_of p).op ≡ o → has_type w.config o ≡ true
-type_asked p {w} table h is = grind (arith, type_of, seat_operands, known_left)
+type_asked p table h is = grind (arith, type_of, seat_operands, known_left)
 
 -- and its shape is that of the object.
 pub shape_asked : (p : PassState) {w : WordsState} {o : Op} (shape : Shape) → p.table ≡ w → (call_of p).op ≡ o
     → object_shaped shape ≡ object_made w.config o → object_shaped shape ≡ object_for p
-shape_asked p {w} shape table is made = grind arith
+shape_asked p shape table is made = grind arith
 
 -- The first fit on pages that are filled is that on the words.
 pub fit_found : (p : PassState) {w : WordsState} {pages : List Page} {resident : ℕ} (shape : Shape) {x : Option Place}
     → p.table ≡ w → resident ≡ w.config.resident → pages ≡ (now_of p).words.pages → object_shaped shape ≡ object_for p
     → x ≡ place_on_uses resident shape.words shape.leaf (uses_of_pages pages)
     → place_on_pages p.table.config.resident (now_of p).words.pages (object_for p) ≡ x
-fit_found p {pages} {resident} shape table limit filled is found = grind arith
+fit_found p shape table limit filled is found = grind arith
 
 -- It is where the New goes, after looks too,
 pub goes_behind : {p q : PassState} (place : Place) → OnlyLooks p q → IsUnplaced p
     → place_on_pages p.table.config.resident (now_of p).words.pages (object_for p) ≡ Some place → GoesTo q place
-goes_behind {p} {q} place a u fit = grind (arith, goes_to, looks_unplaced, looks_table, looks_pages, looks_object)
+goes_behind place a u fit = grind (arith, goes_to, looks_unplaced, looks_table, looks_pages, looks_object)
 
 -- and the place among the allocations.
 pub place_found : {p : PassState} {x : Option Op} {found : Option Place} → IsTurn p x → IsHistory p.table.config p.seen

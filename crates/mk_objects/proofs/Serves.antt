@@ -1,12 +1,11 @@
 -- The turn's holder serves its New, step by step.
 use Rattle.mk_laws.proofs.Vocabulary.{Config, Flight, IsHistory, IsSized, List, Moment, Object, Op, Option, Page, Place}
-use Rattle.mk_laws.proofs.Vocabulary.{Placing, Seat, Some, Steady, Step, Unplaced, World, ℕ, ap, arith, cases_eq, false}
-use Rattle.mk_laws.proofs.Vocabulary.{flight_of, free_page, ground_of, has_bit, header_at, header_made}
-use Rattle.mk_laws.proofs.Vocabulary.{histories_keep_lengths, inl, inr, is_phase, is_undecided_new, is_used_once}
-use Rattle.mk_laws.proofs.Vocabulary.{layout_scene_of, left, length, made_is_mapped, made_shows, no_bit, object_made}
-use Rattle.mk_laws.proofs.Vocabulary.{object_now, pages_made, pages_some, part_not_free, phase_of, place_by_placing}
-use Rattle.mk_laws.proofs.Vocabulary.{place_now, place_on_pages, refl, slice_index_or, small_pages, subst, sym, true}
-use Rattle.mk_laws.proofs.Vocabulary.{used_at, ◌+◌, ◌<◌, ◌∙◌, ◌≡◌, ◌≢◌, ◌⊎◌}
+use Rattle.mk_laws.proofs.Vocabulary.{Seat, Some, Steady, Step, Unplaced, World, ℕ, ap, arith, false, flight_of}
+use Rattle.mk_laws.proofs.Vocabulary.{ground_of, has_bit, header_at, header_made, histories_keep_lengths, inl, inr}
+use Rattle.mk_laws.proofs.Vocabulary.{is_phase, is_undecided_new, is_used_once, layout_scene_of, left, length}
+use Rattle.mk_laws.proofs.Vocabulary.{made_is_mapped, made_shows, no_bit, object_made, object_now, pages_made}
+use Rattle.mk_laws.proofs.Vocabulary.{pages_some, part_not_free, phase_of, place_now, place_on_pages, refl, small_pages}
+use Rattle.mk_laws.proofs.Vocabulary.{subst, sym, true, used_at, ◌+◌, ◌<◌, ◌∙◌, ◌≡◌, ◌≢◌, ◌⊎◌}
 use Rattle.mk_objects.proofs.Vocabulary.{Acts, Carving, GoesTo, HasCarved, IsAsLeft, IsCellReady, IsEnabledTo}
 use Rattle.mk_objects.proofs.Vocabulary.{IsOutOfStop, IsTurn, MayTake, PassState, Serving, bits_made, call_of}
 use Rattle.mk_objects.proofs.Vocabulary.{histories_keep_the_invariant, is_placing, known_left, now_of, object_for}
@@ -77,7 +76,7 @@ knows_place {p} {o} {place} turn h goes =
 -- Where its page has no header, all its pages have none.
 pub free_pages_of : {p : PassState} {place : Place} → KnowsPlace p place → header_at (now_of p).words place.page ≡ 0
     → FitsOnFreePages p.table.config.resident (now_of p).words.pages (object_for p) place
-free_pages_of {p} k z = grind (arith, pages_some, part_not_free, made_shows)
+free_pages_of k z = grind (arith, pages_some, part_not_free, made_shows)
 
 pub block_of : {p : PassState} {place : Place} → KnowsPlace p place → header_at (now_of p).words place.page ≢ 0
     → FitsInBlock (now_of p).words.pages (object_for p) place
@@ -92,7 +91,7 @@ block_of {p} {place} k some = elim k.fits [
 -- The cell of the place isn't used.
 pub place_unused : {p : PassState} {place : Place} → KnowsPlace p place
     → has_bit (used_at (now_of p).words place.page) place.index ≡ false
-place_unused {p} {place} k = grind (arith, no_bit, found_clear)
+place_unused k = grind (arith, no_bit, found_clear)
 
 phase_kept : {s : Seat} {o : Object} {place : Place} {c : Config} {w u v : World} → Serving c s o place w u
     → IsAsLeft s u v → phase_of v.now.words ≡ phase_of w.now.words

@@ -1,15 +1,15 @@
 -- A New while it is served: how far its pages are, step by step.
-use Rattle.mk_laws.proofs.Vocabulary.{Chosen, Config, Flight, Granted, Holding, IsSized, List, Moment, Object, Option}
-use Rattle.mk_laws.proofs.Vocabulary.{Page, Place, Placing, Seat, Some, Steady, Step, Unplaced, Used, Words, World, ℕ}
+use Rattle.mk_laws.proofs.Vocabulary.{Chosen, Config, Flight, Granted, IsSized, List, Moment, Object, Option, Page}
+use Rattle.mk_laws.proofs.Vocabulary.{Place, Placing, Seat, Some, Steady, Step, Unplaced, Used, Words, World, ℕ}
 use Rattle.mk_laws.proofs.Vocabulary.{and_from, ap, arith, carves, cases_eq, cases_lt, chosen, eq-eqb, false, flight_of}
 use Rattle.mk_laws.proofs.Vocabulary.{free_page, get_or-set_other, get_or-set_same, has_bit, header_at, header_made}
-use Rattle.mk_laws.proofs.Vocabulary.{inl, inr, is_marked_first, is_next_header, is_phase, is_undecided_new}
-use Rattle.mk_laws.proofs.Vocabulary.{is_used_once, le-leb, length, length-set, lt-ltb, made_shows, ne_eqb, not}
-use Rattle.mk_laws.proofs.Vocabulary.{object_made, pages_made, part_not_free, place_by_placing, place_now, refl}
-use Rattle.mk_laws.proofs.Vocabulary.{set_past, slice_index, slice_index_or, slice_set, stands, sym, taken, takes_cell}
-use Rattle.mk_laws.proofs.Vocabulary.{true, used_at, world_behind, ◌%◌, ◌+◌, ◌-◌, ◌<◌, ◌==◌, ◌^◌, ◌∙◌, ◌≡◌, ◌≢◌}
+use Rattle.mk_laws.proofs.Vocabulary.{inl, inr, is_marked_first, is_next_header, is_undecided_new, is_used_once, le-leb}
+use Rattle.mk_laws.proofs.Vocabulary.{length, length-set, lt-ltb, made_shows, ne_eqb, object_made, pages_made}
+use Rattle.mk_laws.proofs.Vocabulary.{part_not_free, place_by_placing, place_now, refl, set_past, slice_index_or}
+use Rattle.mk_laws.proofs.Vocabulary.{slice_set, sym, taken, takes_cell, true, used_at, world_behind, ◌+◌, ◌-◌, ◌<◌}
+use Rattle.mk_laws.proofs.Vocabulary.{◌^◌, ◌∙◌, ◌≡◌, ◌≢◌}
 use Rattle.mk_objects.proofs.Vocabulary.{Carving, IsAsLeft, IsCellReady, IsOutOfStop, Serving, all_below_from}
-use Rattle.mk_objects.proofs.Vocabulary.{bits_made, steady_of}
+use Rattle.mk_objects.proofs.Vocabulary.{steady_of}
 use Rattle.mk_laws.proofs.Tests.{or_on, without_on}
 use Rattle.mk_objects.proofs.{MayAct.off_four, Unchanged.HasCall, Unchanged.OfCaller, Unchanged.call_behind}
 
@@ -22,11 +22,11 @@ place_same c u v f holding pages = grind arith
 
 pub serving_left : {c : Config} {s : Seat} {o : Object} {place : Place} {w u v : World} → Serving c s o place w u
     → IsAsLeft s u v → Serving c s o place w v
-serving_left {c} {s} {place} {w} {u} {v} at left = grind (arith, place_same)
+serving_left at left = grind (arith, place_same)
 
 marked_left : (o : Object) (place : Place) {s : Seat} {u v : World} → IsAsLeft s u v
     → is_marked_first u.now.words o place ≡ true → is_marked_first v.now.words o place ≡ true
-marked_left o place {u} {v} left h = grind (arith, or_on, without_on)
+marked_left o place left h = grind (arith, or_on, without_on)
 
 pub carving_left : {c : Config} {s : Seat} {o : Object} {place : Place} {w u v : World} {n : ℕ}
     → Carving c s o place w u n → IsAsLeft s u v → Carving c s o place w v n
@@ -138,7 +138,7 @@ carving_carves {c} {s} {o} {place} {v} {n} sized at within =
 
 pub ready_left : {c : Config} {s : Seat} {o : Object} {place : Place} {w u v : World} → IsCellReady c s o place w u
     → IsAsLeft s u v → IsCellReady c s o place w v
-ready_left {place} {u} {v} at left = grind (arith, serving_left)
+ready_left at left = grind (arith, serving_left)
 
 pub ready_carved : {c : Config} {s : Seat} {o : Object} {place : Place} {w v : World}
     → Carving c s o place w v (pages_made o) → IsCellReady c s o place w v
@@ -148,7 +148,7 @@ pub ready_takes : {c : Config} {s : Seat} {o : Object} {place : Place} {w v : Wo
     → IsCellReady c s o place w v → used_at w.now.words place.page ≡ used → has_bit used place.index ≡ false
     → takes_cell v.now.words (object_made c (flight_of v.now s).op) (place_now c v.now (flight_of v.now s)) place.page
     (used + 2 ^ place.index) ≡ true
-ready_takes {c} {s} {o} {place} {v} {used} at known unused = grind (arith, and_from, eq-eqb, all_below_from)
+ready_takes at known unused = grind (arith, and_from, eq-eqb, all_below_from)
 
 -- and then it is.
 pub record IsTakenAt (c : Config) (s : Seat) (o : Object) (place : Place) (w v : World) : Type 0 where
@@ -159,7 +159,7 @@ pub record IsTakenAt (c : Config) (s : Seat) (o : Object) (place : Place) (w v :
 
 pub taken_left : {c : Config} {s : Seat} {o : Object} {place : Place} {w u v : World} → IsTakenAt c s o place w u
     → IsAsLeft s u v → IsTakenAt c s o place w v
-taken_left {c} {w} {u} {v} at left = grind arith
+taken_left at left = grind arith
 
 pub taken_behind : {c : Config} {s : Seat} {o : Object} {place : Place} {w v : World} (p value : ℕ)
     → Serving c s o place w v → HasCall c v.now s

@@ -2,10 +2,10 @@
 use Rattle.std.proofs.Common.{OnErr, OnOk, is_ok, le-ltb}
 use Rattle.std.specs.declared.result.Result.TheVariants.{Err, Ok}
 use Rattle.std.specs.declared.result.Result.{Result}
-use Rattle.mk_laws.proofs.Vocabulary.{Bool, Config, Flight, Op, Option, Seat, Steady, Step, World, ℕ, all_below-at, ap}
-use Rattle.mk_laws.proofs.Vocabulary.{arith, cases_eq, cases_lt, false, get_or-set_other, get_or-set_same, inl, inr}
-use Rattle.mk_laws.proofs.Vocabulary.{is_held, is_number_of, length, lt-ltb, nat_lt, not, not-true, phase_of, refl}
-use Rattle.mk_laws.proofs.Vocabulary.{subst, sym, true, world_behind, ◌&&◌, ◌+◌, ◌<◌, ◌==◌, ◌∙◌, ◌≡◌, ◌≢◌, ◌≤◌}
+use Rattle.mk_laws.proofs.Vocabulary.{Bool, Config, Op, Option, Seat, Step, World, ℕ, all_below-at, ap, arith, cases_eq}
+use Rattle.mk_laws.proofs.Vocabulary.{cases_lt, false, get_or-set_other, get_or-set_same, inl, inr, is_held}
+use Rattle.mk_laws.proofs.Vocabulary.{is_number_of, length, lt-ltb, nat_lt, not, not-true, refl, subst, sym, true}
+use Rattle.mk_laws.proofs.Vocabulary.{world_behind, ◌&&◌, ◌+◌, ◌<◌, ◌==◌, ◌∙◌, ◌≡◌, ◌≢◌}
 use Rattle.mk_objects.proofs.Vocabulary.{Acts, HasGates, IsAsLeft, IsOutOfStop, IsTurn, PassState, SetsGate, SetsGates}
 use Rattle.mk_objects.proofs.Vocabulary.{WordsState, all_others, call_of, held_from, held_to, is_acting, is_holding}
 use Rattle.mk_objects.proofs.Vocabulary.{is_settling, none_is_held, now_of, world_of}
@@ -135,7 +135,7 @@ tried (Err y) ok err = err
 -- the gates as far as they are set
 
 pub caller_within : {t w : WordsState} {n end : ℕ} → t ≡ w → end ≡ w.config.callers → n < end → n < t.config.callers
-caller_within {n} table all lt = grind arith
+caller_within table all lt = grind arith
 
 none_below : (s : Seat) (j : ℕ) → held_to s 0 j ≡ false
 none_below s j = ap (λ b. b && not (is_number_of s j)) (le-ltb j 0 (omega arith))
@@ -185,7 +185,7 @@ set_held a j lt = ap (λ (x : PassState). is_held (now_of x).words j) a.same ∙
 
 pub set_phase : {kinds : Step → Bool} {p q : PassState} {gates : ℕ → Bool} → SetsGates kinds p gates q
     → IsOutOfStop (now_of p) → IsOutOfStop (now_of q)
-set_phase {p} {q} a low = grind (arith, out_of_stop)
+set_phase a low = grind (arith, out_of_stop)
 
 -- What is asked of a pass is asked of the pass after it.
 pub one_there : {kinds : Step → Bool} {p q : PassState} {gate : ℕ} {held : Bool} → SetsGate kinds p gate held q

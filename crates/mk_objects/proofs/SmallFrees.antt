@@ -1,11 +1,11 @@
 -- A small object is freed and counted.
-use Rattle.mk_laws.proofs.Vocabulary.{Bool, Cell, Config, Flight, Header, Holding, Holds, IsHistory, LeafRun, List}
-use Rattle.mk_laws.proofs.Vocabulary.{None, Option, PlacedAllocation, Run, RunPages, Some, Stage, Steady, Tally, ℕ}
-use Rattle.mk_laws.proofs.Vocabulary.{all_below-at, ap, arith, false, fresh_words_of, header_in, heads_run}
-use Rattle.mk_laws.proofs.Vocabulary.{if◌then◌else◌, in_a_word, is_held, is_run_gone, not, not-true, or_else, refl}
-use Rattle.mk_laws.proofs.Vocabulary.{run_headed, subst, sym, true, words_under, ◌*◌, ◌+◌, ◌-◌, ◌<◌, ◌^◌, ◌↔◌, ◌∙◌, ◌≡◌}
+use Rattle.mk_laws.proofs.Vocabulary.{Bool, Cell, Config, Flight, Header, Holds, IsHistory, LeafRun, List, None, Option}
+use Rattle.mk_laws.proofs.Vocabulary.{PlacedAllocation, Run, Some, Stage, Steady, Tally, ℕ, all_below-at, ap, arith}
+use Rattle.mk_laws.proofs.Vocabulary.{false, fresh_words_of, header_in, heads_run, if◌then◌else◌, in_a_word, is_held}
+use Rattle.mk_laws.proofs.Vocabulary.{not, not-true, refl, run_headed, subst, sym, true, words_under, ◌*◌, ◌+◌, ◌-◌}
+use Rattle.mk_laws.proofs.Vocabulary.{◌<◌, ◌^◌, ◌↔◌, ◌∙◌, ◌≡◌}
 use Rattle.mk_objects.proofs.Vocabulary.{Changes, FreesCell, FreesOnce, HasFreed, IsAsLeft, IsFreedAt, IsOverQuarter}
-use Rattle.mk_objects.proofs.Vocabulary.{IsTrue, MayFree, OnlyLooks, PassState, SetsTally, StaysSo, WordsState, call_of}
+use Rattle.mk_objects.proofs.Vocabulary.{IsTrue, MayFree, OnlyLooks, PassState, SetsTally, StaysSo, call_of}
 use Rattle.mk_objects.proofs.Vocabulary.{held_by_allocations, is_acting, is_following, is_settling, min, none_is_held}
 use Rattle.mk_objects.proofs.Vocabulary.{now_of, steady_of, with_tally, words_freed, world_of}
 use Rattle.mk_core.specs.Counts.{TalliesAreExact}

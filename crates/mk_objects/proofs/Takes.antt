@@ -1,18 +1,16 @@
 -- The turn's holder takes the cell of its New's place, grants the object and counts it.
 use Rattle.std.proofs.{Common.bit_and, Math.Nat.div-le_self, lemmas.Nat.or_disjoint, lemmas.Nat.Bits.bit_at_and}
-use Rattle.mk_laws.proofs.Vocabulary.{Answer, AreOfPages, Caller, Config, Flight, IsHistory, IsSettled, List, Object}
-use Rattle.mk_laws.proofs.Vocabulary.{Place, PlacedAllocation, Seat, Some, Steady, Step, Tally, World, ℕ, address_of}
-use Rattle.mk_laws.proofs.Vocabulary.{answer_decided, ap, arith, base_made, bit_at, bit_or, caller_number, cases_Bool}
-use Rattle.mk_laws.proofs.Vocabulary.{cases_eq, cells_made, cells_of, class_made, class_words_of, cond-false, cond-true}
-use Rattle.mk_laws.proofs.Vocabulary.{d_of, entry_of, false, flight_of, granted_base_is, granted_object, has_bit}
-use Rattle.mk_laws.proofs.Vocabulary.{has_operands, header_at, inl, inr, is_small_object, is_undecided_new}
-use Rattle.mk_laws.proofs.Vocabulary.{is_used_once, left, length, ltb-true, nat_lt, object_made, phase_of, refl}
-use Rattle.mk_laws.proofs.Vocabulary.{seat_exists, storage_words, subst, sym, true, used_at, words_made, [], ◌%◌, ◌*◌}
-use Rattle.mk_laws.proofs.Vocabulary.{◌++◌, ◌+◌, ◌<◌, ◌==◌, ◌^◌, ◌∙◌, ◌∷◌, ◌≡◌, ◌≤◌}
-use Rattle.mk_objects.proofs.Vocabulary.{Acts, ComesTo, GoesTo, IsAdmittedBehind, IsCellReady, IsEnabledTo, IsGrantedAt}
-use Rattle.mk_objects.proofs.Vocabulary.{IsOutOfStop, IsUnplaced, Known, MayTake, PassState, call_of, entry_for}
-use Rattle.mk_objects.proofs.Vocabulary.{held_by_allocations, is_acting, is_placing, known_left, min, now_of}
-use Rattle.mk_objects.proofs.Vocabulary.{object_at_place, object_for, world_of}
+use Rattle.mk_laws.proofs.Vocabulary.{Answer, AreOfPages, Caller, Config, Flight, IsHistory, IsSettled, Object, Place}
+use Rattle.mk_laws.proofs.Vocabulary.{Seat, Some, Steady, Step, Tally, World, ℕ, address_of, answer_decided, ap, arith}
+use Rattle.mk_laws.proofs.Vocabulary.{base_made, bit_or, caller_number, cells_made, cond-false, cond-true, d_of}
+use Rattle.mk_laws.proofs.Vocabulary.{entry_of, false, flight_of, granted_base_is, granted_object, has_bit}
+use Rattle.mk_laws.proofs.Vocabulary.{has_operands, is_undecided_new, left, length, ltb-true, phase_of, refl}
+use Rattle.mk_laws.proofs.Vocabulary.{storage_words, subst, sym, true, used_at, words_made, [], ◌%◌, ◌*◌, ◌+◌, ◌<◌, ◌^◌}
+use Rattle.mk_laws.proofs.Vocabulary.{◌∙◌, ◌≡◌, ◌≤◌}
+use Rattle.mk_objects.proofs.Vocabulary.{Acts, ComesTo, GoesTo, IsCellReady, IsEnabledTo, IsGrantedAt, IsOutOfStop}
+use Rattle.mk_objects.proofs.Vocabulary.{IsUnplaced, Known, MayTake, PassState, call_of, entry_for, held_by_allocations}
+use Rattle.mk_objects.proofs.Vocabulary.{is_acting, is_placing, known_left, now_of, object_at_place, object_for}
+use Rattle.mk_objects.proofs.Vocabulary.{world_of}
 use Rattle.mk_core.proofs.WordBits.{bit_for_small, bit_is_none, bit_of_power, zero_from_bits}
 use Rattle.mk_core.specs.Bits.{bit_for}
 use Rattle.mk_laws.proofs.Tracked.{unplaced_settles}
@@ -40,7 +38,7 @@ few_cells : (o : Object) → cells_made o ≤ 64
 few_cells o = grind (arith, cond-true, div-le_self, cond-false)
 
 pub small_index : {p : PassState} {place : Place} → KnowsPlace p place → place.index < 64
-small_index {p} {place} k = grind (arith, free_pages_of, block_of, few_cells)
+small_index k = grind (arith, free_pages_of, block_of, few_cells)
 
 -- The call is settled before it is served, so few words are held.
 pub unplaced_settled : (p : PassState) → IsActing p.table.config (now_of p) p.seat → IsCallers p → IsUnplaced p
@@ -91,7 +89,7 @@ module _ {p : PassState} {place : Place} (goes : GoesTo p place) (k : KnowsPlace
   taken_new at = ap (λ (f : Flight). is_undecided_new f) at.call ∙ goes.unplaced.new
 
   pub grant_may : {q : PassState} → HasTaken q → IsEnabledTo q Step.Grant
-  grant_may {q} reached = grind (arith, may_grant, taken_acting, taken_new, low_still)
+  grant_may reached = grind (arith, may_grant, taken_acting, taken_new, low_still)
 
   -- the register that it stores to, and the address
   pub grant_register : {q : PassState} → HasTaken q → d_of (call_of q).op ≡ d_of (call_of p).op
@@ -99,7 +97,7 @@ module _ {p : PassState} {place : Place} (goes : GoesTo p place) (k : KnowsPlace
 
   pub grant_address : {q : PassState} → HasTaken q
       → granted_address q ≡ address_of (base_made (object_for p) place) % 2 ^ 64
-  grant_address {q} reached = grind (arith, granted_base_is)
+  grant_address reached = grind (arith, granted_base_is)
 
   operands : IsHistory c p.seen → has_operands c (call_of p).op ≡ true
   operands h = by p.seat k.caller.number k.caller.is
@@ -110,7 +108,7 @@ module _ {p : PassState} {place : Place} (goes : GoesTo p place) (k : KnowsPlace
 
   pub grant_admits : {q : PassState} → HasTaken q → IsHistory q.table.config q.seen → IsHistory c p.seen
       → IsAdmittedTo q Step.Grant
-  grant_admits {q} reached history h = grind (arith, taken_new, operands, grant_admitted, ltb-true)
+  grant_admits reached history h = grind (arith, taken_new, operands, grant_admitted, ltb-true)
 
   abbrev pub HasGranted : PassState → Type 0
   HasGranted q = ComesTo is_placing p (IsGrantedAt p.table.config p.seat place (world_of p)) (entry_for p Answer.Done) q
@@ -166,4 +164,4 @@ module _ {p : PassState} {place : Place} (goes : GoesTo p place) (k : KnowsPlace
 
   pub counted_held : {r : PassState} {held size : ℕ} → held ≡ held_by_allocations c (world_of p).allocations → size
       ≡ words_made (object_for p) → HasCounted (held + size) r → HeldIsExact r
-  counted_held {r} {size} before words reached = grind (arith, object_words, held_one_more)
+  counted_held before words reached = grind (arith, object_words, held_one_more)

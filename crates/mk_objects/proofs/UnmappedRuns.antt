@@ -1,14 +1,12 @@
 -- The pages of a run are unmapped one after the other.
-use Rattle.mk_laws.proofs.Vocabulary.{Config, Flight, Holding, List, Moment, None, Op, Option, Page, Placing, RunPages}
-use Rattle.mk_laws.proofs.Vocabulary.{Seat, Some, Stage, Steady, Step, Unplaced, World, ℕ, all_below-at, ap, arith}
-use Rattle.mk_laws.proofs.Vocabulary.{cases_eq, chosen, eq-eqb, false, flight_of, free_page, header_at, if◌then◌else◌}
-use Rattle.mk_laws.proofs.Vocabulary.{inl, inr, is_held, is_new_at, is_number_of, is_phase, is_undecided_new, left}
-use Rattle.mk_laws.proofs.Vocabulary.{length, others_are_held, phase_of, place_now, refl, slice_index_or, stands, sym}
-use Rattle.mk_laws.proofs.Vocabulary.{true, unmapped_header, unmaps, world_behind, [], ◌+◌, ◌-◌, ◌<◌, ◌||◌, ◌∙◌, ◌≡◌}
-use Rattle.mk_laws.proofs.Vocabulary.{◌≤◌}
+use Rattle.mk_laws.proofs.Vocabulary.{Config, Flight, Holding, Moment, None, Op, Option, Placing, RunPages, Seat, Some}
+use Rattle.mk_laws.proofs.Vocabulary.{Stage, Steady, Step, Unplaced, World, ℕ, all_below-at, ap, arith, cases_eq}
+use Rattle.mk_laws.proofs.Vocabulary.{chosen, eq-eqb, false, flight_of, header_at, if◌then◌else◌, inl, inr, is_held}
+use Rattle.mk_laws.proofs.Vocabulary.{is_phase, is_undecided_new, left, length, others_are_held, phase_of, place_now}
+use Rattle.mk_laws.proofs.Vocabulary.{refl, sym, true, unmapped_header, unmaps, world_behind, [], ◌+◌, ◌-◌, ◌<◌, ◌∙◌}
+use Rattle.mk_laws.proofs.Vocabulary.{◌≡◌, ◌≤◌}
 use Rattle.mk_objects.proofs.Vocabulary.{Acts, Changes, ComesTo, IsAsLeft, IsEnabledTo, IsOutOfStop, IsTurn, PassState}
-use Rattle.mk_objects.proofs.Vocabulary.{Unmaps, all_below_from, call_of, is_acting, is_clearing, now_of, steady_of}
-use Rattle.mk_objects.proofs.Vocabulary.{world_of}
+use Rattle.mk_objects.proofs.Vocabulary.{Unmaps, all_below_from, call_of, is_acting, is_clearing, now_of, world_of}
 use Rattle.mk_objects.proofs.Looks.{acting_caller, acting_now, acts_there}
 use Rattle.mk_objects.proofs.Unchanged.{HasCall, OfCaller, acting_has_call, call_behind}
 use Rattle.mk_objects.proofs.{MayAct.IsActing, MayAct.may_unmap, MayAct.off_four, ReachedParts.reached_there}
@@ -46,7 +44,7 @@ still_stopped p v gates stopped = grind (arith, all_below_from, all_below-at)
 
 unmapped_left : {s : Seat} {run : RunPages} {w u v : World} {n : ℕ} → UnmappedTo s run w u n → IsAsLeft s u v
     → UnmappedTo s run w v n
-unmapped_left {run} {w} {u} {v} at kept = grind arith
+unmapped_left at kept = grind arith
 
 unmapped_more : {c : Config} {s : Seat} {run : RunPages} {w v : World} {n : ℕ} → UnmappedTo s run w v n
     → HasCall c v.now s → (flight_of v.now s).stage ≡ Stage.Give → IsOutOfStop v.now → n < run.count
@@ -126,4 +124,4 @@ module _ {p : PassState} {o : Option Op} (run : RunPages) (turn : IsTurn p o) (g
       (there_low v (ap (λ (x : Steady). x.phase) on.changes.steady)) near (omega arith))
 
   pub unmapped_all : {q : PassState} → HasUnmapped q run.count → Unmaps p run q
-  unmapped_all {q} reached = grind (arith, reaches_so, all_below_from, eq-eqb)
+  unmapped_all reached = grind (arith, reaches_so, all_below_from, eq-eqb)

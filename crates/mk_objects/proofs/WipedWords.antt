@@ -1,20 +1,18 @@
 -- The words of a run that is unmapped are wiped one after the other.
-use Rattle.mk_laws.proofs.Vocabulary.{Bool, Cell, Config, Hand, Header, Holding, Holds, Later, List, Moment, None, Op}
-use Rattle.mk_laws.proofs.Vocabulary.{Option, Page, Run, RunPages, Seat, Some, Stage, Steady, Step, Word, Words, World}
-use Rattle.mk_laws.proofs.Vocabulary.{Written, ℕ, address_of, all_below, all_below-at, and_from, ap, arith, cases_eq}
-use Rattle.mk_laws.proofs.Vocabulary.{eqb-true, false, flight_of, free_page, get_or-set_other, get_or-set_same}
-use Rattle.mk_laws.proofs.Vocabulary.{has_no_pointers, header_at, header_in, header_of, if◌then◌else◌, inl, inr}
-use Rattle.mk_laws.proofs.Vocabulary.{is_heap_address, is_run_unmapped, le-leb, left, length, lt-ltb, nat_le, nat_lt}
-use Rattle.mk_laws.proofs.Vocabulary.{or_else, others_are_held, page_at_address, refl, run_header, same_Some}
-use Rattle.mk_laws.proofs.Vocabulary.{slice_index, slice_index_or, slice_set, stands, subst, suc, sym, true}
-use Rattle.mk_laws.proofs.Vocabulary.{unmapped_header, world_behind, zero, [], ◌*◌, ◌+◌, ◌-◌, ◌/◌, ◌<◌, ◌==◌, ◌∙◌, ◌≡◌}
-use Rattle.mk_laws.proofs.Vocabulary.{◌≤◌}
+use Rattle.mk_laws.proofs.Vocabulary.{Bool, Cell, Config, Hand, Holds, List, Moment, None, Op, Option, RunPages, Seat}
+use Rattle.mk_laws.proofs.Vocabulary.{Some, Stage, Step, Word, Words, World, Written, ℕ, address_of, all_below-at}
+use Rattle.mk_laws.proofs.Vocabulary.{and_from, ap, arith, cases_eq, eqb-true, false, flight_of, get_or-set_other}
+use Rattle.mk_laws.proofs.Vocabulary.{get_or-set_same, has_no_pointers, header_at, header_in, header_of, if◌then◌else◌}
+use Rattle.mk_laws.proofs.Vocabulary.{inl, inr, is_heap_address, is_run_unmapped, le-leb, length, lt-ltb, or_else}
+use Rattle.mk_laws.proofs.Vocabulary.{others_are_held, page_at_address, refl, run_header, same_Some, slice_index}
+use Rattle.mk_laws.proofs.Vocabulary.{slice_set, stands, subst, suc, sym, true, unmapped_header, world_behind, zero, []}
+use Rattle.mk_laws.proofs.Vocabulary.{◌*◌, ◌+◌, ◌-◌, ◌/◌, ◌<◌, ◌∙◌, ◌≡◌, ◌≤◌}
 use Rattle.mk_objects.proofs.Vocabulary.{Acts, ComesTo, IsAsLeft, IsEnabledTo, IsTurn, PassState, WipesTo, call_of}
 use Rattle.mk_objects.proofs.Vocabulary.{is_clearing, now_of, option_and_then, world_of}
 use Rattle.mk_geom.proofs.{Bridge.run_in_range, HeaderLemmas.header_of-word_of}
-use Rattle.mk_geom.specs.Addresses.{cell_under, run_of_page, word_at_address}
-use Rattle.mk_core.specs.{Cells.is_in_run, Cells.pointed_cell, Effects.hand_given, Effects.hand_of_cell}
-use Rattle.mk_core.specs.{Effects.is_in_stop, Frames.HoldsAll, Frames.written_of, TurnConditions.is_in_gone_run}
+use Rattle.mk_geom.specs.Addresses.{cell_under, word_at_address}
+use Rattle.mk_core.specs.Effects.{hand_given, hand_of_cell, is_in_stop}
+use Rattle.mk_core.specs.{Cells.pointed_cell, Frames.HoldsAll, Frames.written_of}
 use Rattle.mk_objects.proofs.Looks.{acting_caller, acting_now, acts_there}
 use Rattle.mk_objects.proofs.MayAct.{IsActing, may_look_heap, may_wipe}
 use Rattle.mk_objects.proofs.ReachedParts.{reached_there, reaches_so}
@@ -45,8 +43,8 @@ cell_tested_twice false b x cell e = cc
 -- It is the run's head.
 cell_is_head : (head : ℕ) (count pages : ℕ) {page : ℕ} (word d : ℕ) (b : Bool) (cell : Cell) → page ≡ head + d
     → (if b then cell_under (run_header count false false d) page word else None) ≡ Some cell → cell.page ≡ head
-cell_is_head head count pages {page} word zero b cell at e = grind (arith, cell_tested)
-cell_is_head head count pages {page} word (suc d) b cell at e = grind (arith, cell_tested_twice)
+cell_is_head head count pages word zero b cell at e = grind (arith, cell_tested)
+cell_is_head head count pages word (suc d) b cell at e = grind (arith, cell_tested_twice)
 
 gone_cell : (w : Words) (run : RunPages) (pages address d : ℕ) (cell : Cell) → is_run_unmapped w run ≡ true
     → run.count ≤ 64 → d < run.count → page_at_address address ≡ run.page + d
@@ -79,7 +77,7 @@ no_hand c m s run n value unmapped few near =
 
 wiped_left : {s : Seat} {run : RunPages} {w u v : World} {n : ℕ} → WipedTo s run w u n → IsAsLeft s u v
     → written_of v ≡ written_of u → WipedTo s run w v n
-wiped_left {run} at kept stop = grind arith
+wiped_left at kept stop = grind arith
 
 wiped_seen : {c : Config} {s : Seat} {run : RunPages} {w v : World} {n : ℕ} (k : ℕ) → WipedTo s run w v n
     → HasCall c v.now s
@@ -100,7 +98,7 @@ wiped_seen {c} {v} k at (OfCaller j lt) none =
 -- A word that is 0 already is wiped.
 wiped_already : {s : Seat} {run : RunPages} {w v : World} {n : ℕ} → WipedTo s run w v n
     → slice_index v.now.words.heap (64 * run.page + n) ≡ 0 → WipedTo s run w v (n + 1)
-wiped_already {run} {v} {n} at zero_there = grind arith
+wiped_already at zero_there = grind arith
 
 wiped_more : {c : Config} {s : Seat} {run : RunPages} {w u v : World} {n : ℕ} → WipedTo s run w u n → IsAsLeft s u v
     → HasCall c v.now s → written_of v ≡ written_of u → 64 * run.page + n < length v.now.words.heap
@@ -125,7 +123,7 @@ wiped_more {c} {run} {u} {v} {n} at kept (OfCaller k lt) stop room =
 
 pub still_unmapped : (p : PassState) {run : RunPages} {v : World} {n : ℕ} → WipedTo p.seat run (world_of p) v n
     → is_run_unmapped (now_of p).words run ≡ true → is_run_unmapped v.now.words run ≡ true
-still_unmapped p {run} at unmapped = grind arith
+still_unmapped p at unmapped = grind arith
 
 module _ {p : PassState} {o : Option Op} (run : RunPages) (turn : IsTurn p o) (give : (call_of p).stage ≡ Stage.Give)
     (stopped : others_are_held p.table.config.callers (now_of p).words p.seat ≡ true) where
@@ -141,12 +139,12 @@ module _ {p : PassState} {o : Option Op} (run : RunPages) (turn : IsTurn p o) (g
 
   pub look_may : {q : PassState} {n : ℕ} (k : ℕ) → HasWiped q n → k < 64 * run.count
       → run.page + run.count ≤ p.table.config.pages → IsEnabledTo q (Step.Look (Word.Heap (64 * run.page + k)))
-  look_may {q} k reached near within = grind (arith, reached_there, may_look_heap, there_wiping)
+  look_may k reached near within = grind (arith, reached_there, may_look_heap, there_wiping)
 
   -- with the turn held, and all other gates
   with_turn : {q : PassState} {n : ℕ} → HasWiped q n → Holds q.table.config (now_of q) q.seat
       → ComesTo is_clearing p (λ v. WipedTo p.seat run (world_of p) v n × HoldsAll p.table.config v.now p.seat) [] q
-  with_turn {q} reached holds = grind (arith, reaches_so, still_stopped)
+  with_turn reached holds = grind (arith, reaches_so, still_stopped)
 
   pub looks_then : {q r : PassState} {n : ℕ} (k : ℕ) → HasWiped q n → k < 64 * run.count → run.count ≤ 64
       → is_run_unmapped (now_of p).words run ≡ true
@@ -170,7 +168,7 @@ module _ {p : PassState} {o : Option Op} (run : RunPages) (turn : IsTurn p o) (g
   pub wipe_may : {q : PassState} {n : ℕ} → HasWiped q n → (now_of p).seats.holding.freed ≡ Some run
       → is_run_unmapped (now_of p).words run ≡ true
       → n < 64 * run.count → run.page + run.count ≤ p.table.config.pages → IsEnabledTo q (Step.Wipe (64 * run.page + n))
-  wipe_may {q} {n} reached freed unmapped near within =
+  wipe_may reached freed unmapped near within =
       grind (arith, still_unmapped, and_from, le-leb, lt-ltb, reached_there, may_wipe, there_wiping)
 
   pub wipes_on : {q r : PassState} {n : ℕ} → HasWiped q n → n < 64 * run.count

@@ -1,4 +1,4 @@
-use Rattle.mk_laws.proofs.Vocabulary.{Seat, ap, arith, refl, subst, ◌+◌, ◌<◌, ◌∙◌}
+use Rattle.mk_laws.proofs.Vocabulary.{Seat, ap, arith, refl, subst, ◌+◌, ◌∙◌}
 use Rattle.mk_objects.proofs.Vocabulary.{PassState, SetsGate, WordsState, all_others, held_to, is_holding}
 use Rattle.mk_objects.proofs.SetGates.{caller_within, held_next, held_so_far, holds_none, none_yet_held, set_acting}
 use Rattle.mk_objects.proofs.SetGates.{set_held, set_seat, set_there, sets_more, sets_named}

@@ -1,8 +1,7 @@
-use Rattle.mk_laws.proofs.Vocabulary.{Seat, ap, arith, refl, sym, ◌+◌, ◌<◌, ◌∙◌}
-use Rattle.mk_objects.proofs.Vocabulary.{PassState, WordsState, all_others, held_from, is_settling}
+use Rattle.mk_laws.proofs.Vocabulary.{arith, refl, ◌+◌, ◌∙◌}
+use Rattle.mk_objects.proofs.Vocabulary.{PassState, held_from, is_settling}
 use Rattle.mk_objects.proofs.SetGates.{all_yet_held, caller_within, opened_next, opened_so_far, opens_none, set_acting}
 use Rattle.mk_objects.proofs.SetGates.{set_held, set_phase, set_seat, set_there, sets_more, sets_named}
-use Rattle.mk_objects.specs.FreeParts.{no_gate}
 use Rattle.mk_objects.proofs.gates.open_gates.Goals as goal
 
 pub loop-caller-init : goal.loop-caller-init

@@ -1,4 +1,4 @@
-use Rattle.mk_laws.proofs.Vocabulary.{arith, histories_keep_lengths, place_on_pages, refl, ◌∙◌, ◌≡◌}
+use Rattle.mk_laws.proofs.Vocabulary.{arith, histories_keep_lengths, place_on_pages, ◌∙◌, ◌≡◌}
 use Rattle.mk_objects.proofs.Vocabulary.{PassState, now_of, object_for}
 use Rattle.mk_objects.proofs.JoinedLooks.{granted_behind_looks, looks_nothing}
 use Rattle.mk_objects.proofs.PlacedNews.{fit_found, fit_within, goes_behind, place_found}

@@ -1,7 +1,6 @@
-use Rattle.mk_laws.proofs.Vocabulary.{Kind, List, Op, Some, ap, arith, d_of, histories_keep_lengths, kinds_of, length}
-use Rattle.mk_laws.proofs.Vocabulary.{ltb-true, place_on_pages, refl, subst, sym, undecided_new, ◌<◌, ◌∙◌, ◌≡◌}
+use Rattle.mk_laws.proofs.Vocabulary.{Kind, List, Op, Some, arith, histories_keep_lengths, length, ltb-true}
+use Rattle.mk_laws.proofs.Vocabulary.{place_on_pages, subst, sym, undecided_new, ◌<◌, ◌∙◌, ◌≡◌}
 use Rattle.mk_objects.proofs.Vocabulary.{PassState, call_of, now_of, object_for}
-use Rattle.mk_core.specs.NewPlaces.{object_of}
 use Rattle.mk_objects.proofs.PlacedNews.{fit_found, fit_within, goes_behind, op_is, op_known, place_found, shape_asked}
 use Rattle.mk_objects.proofs.PlacedNews.{type_asked}
 use Rattle.mk_objects.proofs.placing.place_object.Goals.{After-shape_of-shape, In-New, In-Some-seek_cell}

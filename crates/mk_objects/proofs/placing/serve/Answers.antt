@@ -1,6 +1,5 @@
-use Rattle.mk_laws.proofs.Vocabulary.{IsSized, Object, Step, address_of, ap, arith, base_made, has_bit, refl, subst}
-use Rattle.mk_laws.proofs.Vocabulary.{sym, used_at, words_made, words_within, ◌%◌, ◌^◌, ◌∙◌, ◌≡◌}
-use Rattle.mk_objects.proofs.Vocabulary.{IsEnabledTo, PassState, now_of, object_for}
+use Rattle.mk_laws.proofs.Vocabulary.{IsSized, Object, ap, arith, refl, subst, sym, words_made, words_within, ◌∙◌, ◌≡◌}
+use Rattle.mk_objects.proofs.Vocabulary.{PassState, object_for}
 use Rattle.mk_objects.proofs.Serves.{KnowsPlace, knows_place, place_unused}
 use Rattle.mk_objects.proofs.Takes.{HasGranted, HasTaken, counted, counted_held, few_held, grant_address, grant_admits}
 use Rattle.mk_objects.proofs.Takes.{grant_may, grant_on, grant_register, one_bit_more, small_index, tally_may, tally_on}

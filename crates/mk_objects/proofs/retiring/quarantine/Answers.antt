@@ -1,5 +1,5 @@
-use Rattle.mk_laws.proofs.Vocabulary.{ℕ, arith, refl, slice_index, ◌<◌, ◌^◌}
-use Rattle.mk_objects.proofs.Vocabulary.{PassState, call_of, histories_keep_the_invariant, now_of}
+use Rattle.mk_laws.proofs.Vocabulary.{ℕ, arith, slice_index, ◌<◌, ◌^◌}
+use Rattle.mk_objects.proofs.Vocabulary.{PassState, histories_keep_the_invariant, now_of}
 use Rattle.mk_objects.proofs.{FreeSteps.freed_half, FreeSteps.freed_word_made, FreeSteps.quarantine_may}
 use Rattle.mk_objects.proofs.{FreeSteps.quarantine_once, FreeSteps.quarantine_reaches, LoadedFrees.free_step_admits}
 use Rattle.mk_objects.proofs.{LoadedFrees.loaded_undecided, Looks.acting_caller, MayAct.free_is_acting}

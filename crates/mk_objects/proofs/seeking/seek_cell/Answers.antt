@@ -1,7 +1,5 @@
-use Rattle.mk_laws.proofs.Vocabulary.{Option, ap, arith, cond-true, header_at, histories_keep_lengths, le-leb, sym}
-use Rattle.mk_laws.proofs.Vocabulary.{true, uses_of_pages, ◌==◌, ◌∙◌, ◌≡◌}
-use Rattle.mk_objects.proofs.Vocabulary.{PassState, now_of, option_and_then}
-use Rattle.mk_geom.specs.{Classes.is_small_size, PageUses.small_place}
+use Rattle.mk_laws.proofs.Vocabulary.{ap, arith, cond-true, header_at, histories_keep_lengths, le-leb, sym, ◌==◌, ◌∙◌}
+use Rattle.mk_objects.proofs.Vocabulary.{PassState, now_of}
 use Rattle.mk_page_map.specs.Members.{page_at}
 use Rattle.mk_objects.proofs.SoughtPlaces.{IsBlock, block_found, block_has_header, place_in_block}
 use Rattle.mk_objects.proofs.seeking.seek_cell.Goals.{In-Some-first_block}
@@ -24,8 +22,7 @@ free_cell-requires-clause-within c =
     )
 
 pub free_cell-requires-clause-block : goal.free_cell-requires-clause-block
-free_cell-requires-clause-block c =
-    (block (goal.at.free_cell-requires-clause-block c).In-Some-first_block).free
+free_cell-requires-clause-block c = (block (goal.at.free_cell-requires-clause-block c).In-Some-first_block).free
 
 pub returns-clause-fits : goal.returns-clause-fits
 returns-clause-fits c = grind (arith, le-leb, cond-true, place_in_block)

@@ -1,4 +1,4 @@
-use Rattle.mk_laws.proofs.Vocabulary.{ap, arith, refl, subst, sym, ◌*◌, ◌+◌, ◌<◌, ◌∙◌, ◌≡◌}
+use Rattle.mk_laws.proofs.Vocabulary.{ap, arith, refl, subst, sym, ◌*◌, ◌+◌, ◌<◌, ◌∙◌}
 use Rattle.mk_objects.proofs.Vocabulary.{PassState, TurnState, WipesTo}
 use Rattle.mk_objects.proofs.WipedWords.{found_wiped, look_may, looks_then, wipe_may, wipes_on}
 use Rattle.mk_objects.proofs.wiping.wipe_words.Goals.{else-found-ne0, then-found-ne0}

@@ -1,4 +1,4 @@
-use Rattle.mk_laws.proofs.Vocabulary.{address_of, ap, arith, ◌%◌, ◌*◌, ◌+◌, ◌^◌, ◌∙◌, ◌≡◌}
+use Rattle.mk_laws.proofs.Vocabulary.{arith}
 use Rattle.mk_objects.proofs.objects.Shape.address.Goals as goal
 
 pub returns : goal.returns
