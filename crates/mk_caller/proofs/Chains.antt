@@ -2,10 +2,9 @@
 use Rattle.mk_laws.proofs.Vocabulary.{Answer, Bool, Event, Flight, KeepsRegisters, List, NeverState, None, Op, Option}
 use Rattle.mk_laws.proofs.Vocabulary.{Progress, Some, Stage, Step, Unmapped, Value, ℕ, ap, append_assoc, at_rest, begun}
 use Rattle.mk_laws.proofs.Vocabulary.{d_of, i_of, if◌then◌else◌, ne_eqb, never_behind, onward, progress_reg, q_of, refl}
-use Rattle.mk_laws.proofs.Vocabulary.{refused, stage_refused, steps_of, subst, sym, target_of, true, ◌++◌, ◌<◌, ◌==◌}
-use Rattle.mk_laws.proofs.Vocabulary.{◌∙◌, ◌∷◌, ◌≡◌, ◌≢◌}
+use Rattle.mk_laws.proofs.Vocabulary.{refused, stage_refused, subst, sym, target_of, true, ◌++◌, ◌<◌, ◌==◌, ◌∙◌, ◌∷◌}
+use Rattle.mk_laws.proofs.Vocabulary.{◌≡◌, ◌≢◌}
 use Rattle.mk_never.specs.{Admitted.OperandsAreInRange, declared.values.Target.Target}
-use Rattle.mk_core.specs.Calls.{first_of}
 use Rattle.mk_caller.proofs.Joined.{joined, joined_on}
 use Rattle.mk_caller.specs.{Called.Called, Called.steps_made, Causes.Probes, Causes.ProbesAWord, Moves.IsAtFlight}
 use Rattle.mk_caller.specs.{Moves.MakesSteps, Moves.MayBeginCall, Moves.is_access, Moves.loads, Moves.refused_register}
@@ -126,15 +125,6 @@ probes_from {p} {r} {o} {t} m lt probes =
 
 -- facts of operations
 
-pub access_begins : (o : Op) → is_access o ≡ true → first_of (steps_of o) ≡ Stage.LoadQ
-access_begins (Op.GetNum q i) h = refl
-access_begins (Op.SetNum q i n) h = refl
-access_begins (Op.GetPtr d q i) h = refl
-access_begins (Op.SetPtr q i p) h = refl
-access_begins (Op.CasPtr q i p r) h = refl
-access_begins (Op.Lea d q i) h = refl
-access_begins _ h = cc
-
 pub access_finds_null : (o : Op) → is_access o ≡ true → progress_reg (begun o) (begun o).stage 0 ≡ refused
     (record (begun o) { q = 0 }) Answer.Null
 access_finds_null (Op.GetNum q i) h = refl
@@ -167,11 +157,6 @@ pub refused_puts : (o : Op) (d : ℕ) → Some d ≡ refused_register o → (sta
 refused_puts (Op.GetPtr d q i) e h = (refl, cc)
 refused_puts (Op.Lea d q i) e h = (refl, cc)
 refused_puts _ e h = cc
-
-pub refused_leaves : (o : Op) → None ≡ refused_register o → stage_refused o ≡ Stage.Leave
-refused_leaves (Op.GetPtr d q i) h = cc
-refused_leaves (Op.Lea d q i) h = cc
-refused_leaves _ h = refl
 
 some_for : (o : Op) (u : ℕ) → u ≢ 0
     → (if u == 0 then refused (record (begun o) { q = u }) Answer.Null else onward (record (begun o) { q = u }) None)

@@ -2,10 +2,9 @@
 use Rattle.mk_laws.proofs.Vocabulary.{Answer, Bool, Cell, Config, Flight, Holding, List, PlacedAllocation, RunPages}
 use Rattle.mk_laws.proofs.Vocabulary.{Seat, Some, Steady, Step, Tally, Words, World, ℕ, ap, cond, flight_of}
 use Rattle.mk_laws.proofs.Vocabulary.{freed_released, freed_where_it_stands, map, refl, sym, [], ◌+◌, ◌∙◌, ◌∷◌, ◌≡◌}
-use Rattle.mk_objects.proofs.Vocabulary.{Changes, ComesTo, HasFreed, IsFreedAt, OnlyLooks, PassState, SetsGates}
-use Rattle.mk_objects.proofs.Vocabulary.{SetsTally, StaysSo, Unmaps, Wipes, entry_for, is_clearing, is_following}
-use Rattle.mk_objects.proofs.Vocabulary.{is_freeing, is_holding, is_loading, is_look, is_settling, steady_of}
-use Rattle.mk_objects.proofs.Vocabulary.{sum_by-cons, world_of}
+use Rattle.mk_objects.proofs.Vocabulary.{Changes, ComesTo, HasFreed, IsFreedAt, PassState, SetsGates, SetsTally}
+use Rattle.mk_objects.proofs.Vocabulary.{StaysSo, Unmaps, Wipes, entry_for, is_clearing, is_following, is_freeing}
+use Rattle.mk_objects.proofs.Vocabulary.{is_holding, is_loading, is_look, is_settling, steady_of, sum_by-cons, world_of}
 use Rattle.mk_core.specs.Counts.{releases}
 use Rattle.mk_objects.proofs.ReachedParts.{AreAmong, reached_world, reaches_after, reaches_answered, reaches_so}
 use Rattle.mk_objects.proofs.ReachedParts.{same_kinds}
@@ -80,9 +79,6 @@ stays_by s w v change call holding steady same fresh allocations =
       fresh_words = ap (λ (x : Steady). x.fresh_words) steady ∙ fresh;
       allocations = ap (λ (x : Steady). x.allocations) steady ∙ allocations;
     }
-
-pub looks_stay : {p q : PassState} → OnlyLooks p q → Stays is_look p q
-looks_stay a = reaches_so a (λ at. stays_by _ _ _ (λ x. x) at.call at.holding at.steady refl refl refl)
 
 pub gates_stay : {kinds : Step → Bool} {p q : PassState} {gates : ℕ → Bool} → SetsGates kinds p gates q
     → Stays kinds p q

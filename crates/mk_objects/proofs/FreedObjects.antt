@@ -3,13 +3,13 @@ use Rattle.mk_laws.proofs.Vocabulary.{Cell, Flight, ImagePremises, IsHistory, Is
 use Rattle.mk_laws.proofs.Vocabulary.{Seat, ShowsPart, Some, ℕ, and_parts, ap, arith, caller_number, cases_lt}
 use Rattle.mk_laws.proofs.Vocabulary.{cell_of_allocation, cells_begin, cond-false, eqb-true, false, false_from_ne_true}
 use Rattle.mk_laws.proofs.Vocabulary.{first_page_shows, first_word, freed_where_it_stands, get_or_past, header_at}
-use Rattle.mk_laws.proofs.Vocabulary.{header_in, header_made, header_of, heads_run, is_freed, is_large, is_mapped}
-use Rattle.mk_laws.proofs.Vocabulary.{is_small_object, is_unmapped_header, kinds_of, large_count, large_is_not_small}
-use Rattle.mk_laws.proofs.Vocabulary.{length, made_is_mapped, map, never_behind, not, not-true, object_placed, p_of}
-use Rattle.mk_laws.proofs.Vocabulary.{pages_made, placed_at, refl, register_at, run_begins, slice_set, small_heads_none}
-use Rattle.mk_laws.proofs.Vocabulary.{stands_in, stands_in_its_cell, storage_words, sym, target, true, true≢false}
-use Rattle.mk_laws.proofs.Vocabulary.{typed_size, unmapped_header, unmapped_is_unmapped, words_under, ◌*◌, ◌+◌, ◌/◌}
-use Rattle.mk_laws.proofs.Vocabulary.{◌<◌, ◌==◌, ◌∙◌, ◌≡◌, ◌≢◌, ◌≤◌}
+use Rattle.mk_laws.proofs.Vocabulary.{header_in, header_made, header_of, heads_run, is_freed, is_large, is_small_object}
+use Rattle.mk_laws.proofs.Vocabulary.{is_unmapped_header, kinds_of, large_count, large_is_not_small, length}
+use Rattle.mk_laws.proofs.Vocabulary.{made_is_mapped, map, never_behind, not, not-true, object_placed, p_of, pages_made}
+use Rattle.mk_laws.proofs.Vocabulary.{placed_at, register_at, run_begins, slice_set, small_heads_none, stands_in}
+use Rattle.mk_laws.proofs.Vocabulary.{stands_in_its_cell, storage_words, sym, target, true, true≢false, typed_size}
+use Rattle.mk_laws.proofs.Vocabulary.{unmapped_header, unmapped_is_unmapped, words_under, ◌*◌, ◌+◌, ◌/◌, ◌<◌, ◌==◌, ◌∙◌}
+use Rattle.mk_laws.proofs.Vocabulary.{◌≡◌, ◌≢◌, ◌≤◌}
 use Rattle.mk_objects.proofs.Vocabulary.{IsFreeAt, IsOutOfStop, PassState, call_of, freed_and_fresh}
 use Rattle.mk_objects.proofs.Vocabulary.{held_by_allocations, histories_keep_the_invariant, loaded_free, now_of}
 use Rattle.mk_objects.proofs.Vocabulary.{value_of, world_of}
@@ -156,6 +156,3 @@ module _ (p : PassState) (r : ℕ) (cell : Cell) (h : IsHistory p.table.config p
             true≢false (sym (unmapped_is_unmapped count d (omega arith, omega arith) lt)
             ∙ ap (λ (n : ℕ). is_unmapped_header (header_of n)) (sym e ∙ made) ∙ made_is_mapped object d sized near);
       }
-    where
-      live_mapped : (a : PlacedAllocation) → a.released ≡ false → a.freed ≡ false → is_mapped p.table.config a ≡ true
-      live_mapped a unreleased live = rw (unreleased, live) refl

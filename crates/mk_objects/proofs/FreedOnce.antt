@@ -209,7 +209,17 @@ once_before {p} {q} {r} not o table d h holds same =
 
 pub due_since : {p q : PassState} → FreesOnce p q → IsOverQuarter p.table.config (world_of q).allocations
     → IsDueSince p q
-due_since o quarter = grind arith
+due_since {p} o quarter =
+    record {
+      before = o.before;
+      event = o.event;
+      behind = o.behind;
+      is = o.is;
+      due = record {
+        decides = o.frees;
+        quarter = subst (λ (xs : List PlacedAllocation). IsOverQuarter p.table.config xs) (sym o.leaves) quarter;
+      };
+    }
 
 -- and only there.
 pub due_then : {p q : PassState} → FreesOnce p q → IsDueSince p q

@@ -4,8 +4,8 @@ use Rattle.mk_laws.proofs.Vocabulary.{Bool, Cell, Holds, IsHistory, List, Page, 
 use Rattle.mk_laws.proofs.Vocabulary.{all_below-at, ap, false, freed_where_it_stands, is_held, map, not, refl, subst}
 use Rattle.mk_laws.proofs.Vocabulary.{sym, true, [], ◌<◌, ◌↔◌, ◌∙◌, ◌≡◌}
 use Rattle.mk_objects.proofs.Vocabulary.{ComesTo, FreesCell, IsOverQuarter, IsTrue, OnlyLooks, PassState, SetsGates}
-use Rattle.mk_objects.proofs.Vocabulary.{WordsState, all_below_from, call_of, is_freeing, is_look, none_is_held, now_of}
-use Rattle.mk_objects.proofs.Vocabulary.{steady_of, world_of}
+use Rattle.mk_objects.proofs.Vocabulary.{WordsState, all_below_from, is_freeing, is_look, none_is_held, now_of}
+use Rattle.mk_objects.proofs.Vocabulary.{world_of}
 use Rattle.mk_objects.{proofs.DecidedFrees.Stays, proofs.DecidedFrees.decides_behind, proofs.DecidedFrees.stays_by}
 use Rattle.mk_objects.{proofs.FreedOnce.FreesNot, proofs.FreedOnce.once_behind, proofs.ReachedParts.AreAmong}
 use Rattle.mk_objects.{proofs.ReachedParts.reached_world, proofs.ReachedParts.reaches_so, specs.FreeParts.IsButGates}
@@ -29,12 +29,6 @@ module _ {kinds : Step → Bool} {p q : PassState} (a : Prepares kinds p q) wher
 
   pub prepared_table : p.table ≡ q.table
   prepared_table = sym (ap (λ (x : PassState). x.table) a.same)
-
-  pub prepared_call : call_of q ≡ call_of p
-  prepared_call = ap (λ (x : PassState). call_of x) a.same ∙ a.world.call
-
-  pub prepared_steady : steady_of (world_of q) ≡ steady_of (world_of p)
-  prepared_steady = now.steady
 
   so : Stays kinds p q
   so = reaches_so a (λ at. stays_by _ _ _ (λ x. x) at.call at.holding at.steady refl refl refl)

@@ -79,8 +79,5 @@ module _ {kinds : Step → Bool} {p q : PassState} {A : World → Type 0} {ds : 
     pub reached_table : q.table ≡ p.table
     reached_table = ap (λ (x : PassState). x.table) a.same
 
-    pub reached_seat : ◌≡◌ q.seat p.seat
-    reached_seat = ap (λ (x : PassState). x.seat) a.same
-
     pub reached_world : A (world_of q)
     reached_world = subst (λ (x : PassState). A (world_of x)) (sym a.same) a.world

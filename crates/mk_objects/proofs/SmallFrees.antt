@@ -1,13 +1,13 @@
 -- A small object is freed and counted.
-use Rattle.mk_laws.proofs.Vocabulary.{Bool, Cell, Config, Flight, Header, Holds, IsHistory, LeafRun, List, None, Option}
-use Rattle.mk_laws.proofs.Vocabulary.{PlacedAllocation, Run, Some, Stage, Steady, Tally, ℕ, all_below-at, ap, arith}
-use Rattle.mk_laws.proofs.Vocabulary.{false, fresh_words_of, header_in, heads_run, if◌then◌else◌, in_a_word, is_held}
-use Rattle.mk_laws.proofs.Vocabulary.{not, not-true, refl, run_headed, subst, sym, true, words_under, ◌*◌, ◌+◌, ◌-◌}
-use Rattle.mk_laws.proofs.Vocabulary.{◌<◌, ◌^◌, ◌↔◌, ◌∙◌, ◌≡◌}
+use Rattle.mk_laws.proofs.Vocabulary.{Bool, Cell, Config, Header, Holds, IsHistory, LeafRun, List, None, Option}
+use Rattle.mk_laws.proofs.Vocabulary.{PlacedAllocation, Run, Some, Steady, Tally, ℕ, all_below-at, ap, arith, false}
+use Rattle.mk_laws.proofs.Vocabulary.{fresh_words_of, header_in, heads_run, if◌then◌else◌, in_a_word, is_held, not}
+use Rattle.mk_laws.proofs.Vocabulary.{not-true, refl, run_headed, subst, sym, true, words_under, ◌*◌, ◌+◌, ◌-◌, ◌<◌}
+use Rattle.mk_laws.proofs.Vocabulary.{◌^◌, ◌↔◌, ◌∙◌, ◌≡◌}
 use Rattle.mk_objects.proofs.Vocabulary.{Changes, FreesCell, FreesOnce, HasFreed, IsAsLeft, IsFreedAt, IsOverQuarter}
-use Rattle.mk_objects.proofs.Vocabulary.{IsTrue, MayFree, OnlyLooks, PassState, SetsTally, StaysSo, call_of}
-use Rattle.mk_objects.proofs.Vocabulary.{held_by_allocations, is_acting, is_following, is_settling, min, none_is_held}
-use Rattle.mk_objects.proofs.Vocabulary.{now_of, steady_of, with_tally, words_freed, world_of}
+use Rattle.mk_objects.proofs.Vocabulary.{IsTrue, MayFree, OnlyLooks, PassState, SetsTally, StaysSo, held_by_allocations}
+use Rattle.mk_objects.proofs.Vocabulary.{is_following, is_settling, min, none_is_held, now_of, steady_of, with_tally}
+use Rattle.mk_objects.proofs.Vocabulary.{words_freed, world_of}
 use Rattle.mk_core.specs.Counts.{TalliesAreExact}
 use Rattle.mk_laws.proofs.Tallies.{fresh_is_told}
 use Rattle.mk_objects.proofs.DecidedFrees.{Stays, decides_before, following_not, freed_decides, fresh_stays}
@@ -20,16 +20,6 @@ use Rattle.mk_objects.proofs.{FreedOnce.once_before, GoneRuns.IsGoneIn, GoneRuns
 pub freed_now : {p q : PassState} {cell : Cell} → HasFreed p cell q
     → IsFreedAt p.table.config p.seat cell (world_of p) (world_of q)
 freed_now a = reached_world a
-
-pub freed_seat : {p q : PassState} {cell : Cell} → HasFreed p cell q → q.seat ≡ p.seat
-freed_seat a = ap (λ (x : PassState). x.seat) a.same
-
-pub freed_call : {p q : PassState} {cell : Cell} → HasFreed p cell q
-    → call_of q ≡ record (call_of p) { stage = Stage.Give }
-freed_call a = ap (λ (x : PassState). call_of x) a.same ∙ a.world.call
-
-pub freed_acting : {p q : PassState} {cell : Cell} → HasFreed p cell q → is_acting (call_of q).stage ≡ true
-freed_acting a = ap (λ (f : Flight). is_acting f.stage) (freed_call a)
 
 -- the tallies after it
 
