@@ -196,6 +196,22 @@ pub record AtBlock (pages : List Page) (i : ℕ) (counts : List ℕ) (class : �
   pub placed : place ≡ class_place class leaf
   pub added : count ≡ count_by not (bits_of (cells_of class) page.used)
 
+pub at_block : {pages : List Page} {i : ℕ} {counts : List ℕ} {class : ℕ} {leaf : Bool} {page : Page} {place count : ℕ}
+    → i < length pages → page ≡ get_or pages i page → class < 8
+    → use_of_page page ≡ Cells class leaf (bits_of (cells_of class) page.used)
+    → counts ≡ free_cells_by_class (uses_of_pages (take i pages)) → place ≡ class_place class leaf
+    → count ≡ count_by not (bits_of (cells_of class) page.used) → AtBlock pages i counts class leaf page place count
+at_block within here known stands counted placed added =
+    record {
+      within = within;
+      here = here;
+      known = known;
+      stands = stands;
+      counted = counted;
+      placed = placed;
+      added = added;
+    }
+
 -- the count of the class fits 64 bits, where the pages lie in memory
 pub room_for_block : (pages : List Page) (i : ℕ) (counts : List ℕ) (class : ℕ) (leaf : Bool) (page : Page)
     (place count : ℕ)

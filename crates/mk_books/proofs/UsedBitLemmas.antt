@@ -67,8 +67,18 @@ bit_is (suc n) bit = let none : n ≡ 0 = omega arith in rw none
 -- the bits of the word, as a mask has them
 masked : (count word k : ℕ) → bit_at (bit_and word (2 ^ count - 1)) k ≡ cond (get_or (bits_of count word) k false) 1 0
 masked count word k =
-    grind (arith, bit_at_and, cases_lt, bit_at_ones, bit_is, bit_at-lt, get_or-bits_of, bit_at_ones_above, get_or_past,
-    length-bits_of)
+    grind (
+      arith,
+      bit_at_and,
+      cases_lt,
+      bit_at_ones,
+      bit_is,
+      bit_at-lt,
+      get_or-bits_of,
+      bit_at_ones_above,
+      get_or_past,
+      length-bits_of,
+    )
 
 pub count_ones-masked : (count word : ℕ)
     → count_ones (bit_and word (2 ^ count - 1)) ≡ count_by (λ bit. bit) (bits_of count word)

@@ -2,13 +2,14 @@
 use Rattle.mk_laws.proofs.Vocabulary.{Answer, Bool, Event, Flight, KeepsRegisters, List, NeverState, None, Op, Option}
 use Rattle.mk_laws.proofs.Vocabulary.{Progress, Some, Stage, Step, Unmapped, Value, ℕ, ap, append_assoc, at_rest, begun}
 use Rattle.mk_laws.proofs.Vocabulary.{d_of, i_of, if◌then◌else◌, ne_eqb, never_behind, onward, progress_reg, q_of, refl}
-use Rattle.mk_laws.proofs.Vocabulary.{refused, stage_refused, subst, sym, target_of, true, ◌++◌, ◌<◌, ◌==◌, ◌∙◌, ◌∷◌}
-use Rattle.mk_laws.proofs.Vocabulary.{◌≡◌, ◌≢◌}
+use Rattle.mk_laws.proofs.Vocabulary.{refused, stage_refused, subst, sym, target_of, true, [], ◌++◌, ◌<◌, ◌==◌, ◌∙◌}
+use Rattle.mk_laws.proofs.Vocabulary.{◌∷◌, ◌≡◌, ◌≢◌}
 use Rattle.mk_never.specs.{Admitted.OperandsAreInRange, declared.values.Target.Target}
 use Rattle.mk_caller.proofs.Joined.{joined, joined_on}
-use Rattle.mk_caller.specs.{Called.Called, Called.steps_made, Causes.Probes, Causes.ProbesAWord, Moves.IsAtFlight}
-use Rattle.mk_caller.specs.{Moves.MakesSteps, Moves.MayBeginCall, Moves.is_access, Moves.loads, Moves.refused_register}
-use Rattle.mk_caller.specs.{Moves.refused_steps, States.caller_of_pass, States.never_of, States.value_of}
+use Rattle.mk_caller.specs.Moves.{CallGoesOn, IsAtFlight, MakesSteps, MayBeginCall, is_access, loads, passes}
+use Rattle.mk_caller.specs.Moves.{refused_register, refused_steps}
+use Rattle.mk_caller.specs.States.{caller_of_pass, never_of, value_of}
+use Rattle.mk_caller.specs.{Called.Called, Called.steps_made, Causes.Probes, Causes.ProbesAWord}
 use Rattle.mk_words.specs.States.{PassState, call_of, event_of}
 
 -- Further steps of a call that isn't decided; how they go on is said by the call before them.
@@ -27,6 +28,11 @@ go {q} {r} {o} {ts} {f} a X same b =
     }
 
 -- and of one that is
+-- a probe that finds the page mapped
+pub go_probed : {p q r : PassState} {o : Op} {ss : List Step} {f : Flight} → IsAtFlight p o ss None f q → f.op ≡ o
+    → CallGoesOn q Step.Probe passes r → IsAtFlight p o (ss ++ Step.Probe ∷ []) (passes f).answer (passes f).flight r
+go_probed at same probes = go at passes same probes
+
 pub go_on : {p q r : PassState} {o : Op} {ss ts : List Step} {a : Answer} {f : Flight} → IsAtFlight p o ss (Some a) f q
     → (X : Flight → Progress) → f.op ≡ o
     → (X f).answer ≡ None → IsAtFlight q (call_of q).op ts (X (call_of q)).answer (X (call_of q)).flight r
@@ -127,21 +133,11 @@ probes_from {p} {r} {o} {t} m lt probes =
 
 pub access_finds_null : (o : Op) → is_access o ≡ true → progress_reg (begun o) (begun o).stage 0 ≡ refused
     (record (begun o) { q = 0 }) Answer.Null
-access_finds_null (Op.GetNum q i) h = refl
-access_finds_null (Op.SetNum q i n) h = refl
-access_finds_null (Op.GetPtr d q i) h = refl
-access_finds_null (Op.SetPtr q i p) h = refl
-access_finds_null (Op.CasPtr q i p r) h = refl
-access_finds_null (Op.Lea d q i) h = refl
+access_finds_null (Op.GetNum q i) h = cc
 access_finds_null _ h = cc
 
 pub null_steps : (o : Op) → is_access o ≡ true → Step.Enter o ∷ Step.Reg ∷ refused_steps o ≡ steps_made o Answer.Null
-null_steps (Op.GetNum q i) h = refl
-null_steps (Op.SetNum q i n) h = refl
-null_steps (Op.GetPtr d q i) h = refl
-null_steps (Op.SetPtr q i p) h = refl
-null_steps (Op.CasPtr q i p r) h = refl
-null_steps (Op.Lea d q i) h = refl
+null_steps (Op.GetNum q i) h = cc
 null_steps _ h = cc
 
 pub access_is_small : (n : NeverState) (o : Op) → is_access o ≡ true → OperandsAreInRange n o → q_of o < 8

@@ -85,6 +85,21 @@ is_joined : (p r : PassState) (m1 m2 : List Event) → r ≡ record p { seen = (
     → r ≡ record p { seen = p.seen ++ (m1 ++ m2) }
 is_joined p r m1 m2 is = is ∙ ap (λ (l : List Event). record p { seen = l }) (append_assoc p.seen m1 m2)
 
+-- steps, and then others, by what they come to of the caller's calls, and of what is decided
+steps_then : {p : PassState} {o : Op} {ss ts : List Step} {a b : Option Answer} {r : PassState} (m1 : List Event)
+    → own_steps p m1 ≡ ss → (second : MakesSteps (seen_more p m1) o ts b r)
+    → own_calls p (p.seen ++ m1) ++ entry_of (caller_of_pass p) o b
+    ≡ own_calls p p.seen ++ entry_of (caller_of_pass p) o a
+    → IsDecidedAs p o a (m1 ++ second.more) → MakesSteps p o (ss ++ ts) a r
+steps_then {p} {ss = ss} {ts = ts} {r = r} m1 steps second entry decided =
+    record {
+      more = m1 ++ second.more;
+      is = is_joined p r m1 second.more second.is;
+      steps = steps_joined p m1 second.more ss ts steps second.steps;
+      entry = ap (λ (l : List Event). own_calls p l) (sym (append_assoc p.seen m1 second.more)) ∙ second.entry ∙ entry;
+      decided = decided;
+    }
+
 -- steps that decide nothing, and then others
 pub joined : {p : PassState} {o : Op} {ss ts : List Step} {a : Option Answer} {q r : PassState}
     → MakesSteps p o ss None q → MakesSteps q o ts a r → MakesSteps p o (ss ++ ts) a r
@@ -95,16 +110,8 @@ joined {p} {o} {ss} {ts} {a} {r} first second = by first.more first.steps first.
         → KeepsRegisters (caller_of_pass p) (never_of p) (never_behind p.table.config (p.seen ++ m1))
         → MakesSteps (seen_more p m1) o ts a r → MakesSteps p o (ss ++ ts) a r
     by m1 steps entry keeps second =
-        record {
-          more = m1 ++ second.more;
-          is = is_joined p r m1 second.more second.is;
-          steps = steps_joined p m1 second.more ss ts steps second.steps;
-          entry =
-              ap (λ (l : List Event). own_calls p l) (sym (append_assoc p.seen m1 second.more)) ∙ second.entry
-              ∙ ap (λ (l : List Decided). l ++ entry_of (caller_of_pass p) o a) (entry
-              ∙ append-nil (own_calls p p.seen));
-          decided = decided_as_later p o a m1 second.more keeps second.decided;
-        }
+        steps_then m1 steps second (ap (λ (l : List Decided). l ++ entry_of (caller_of_pass p) o a)
+        (entry ∙ append-nil (own_calls p p.seen))) (decided_as_later p o a m1 second.more keeps second.decided)
 
 -- steps that decide the call, and then others
 pub joined_on : {p : PassState} {o : Op} {ss ts : List Step} {a : Answer} {q r : PassState}
@@ -116,12 +123,5 @@ joined_on {p} {o} {ss} {ts} {a} {r} first second = by first.more first.steps fir
         (caller_of_pass p) o (Some a)
         → IsDecidedIn p o a m1 → MakesSteps (seen_more p m1) o ts None r → MakesSteps p o (ss ++ ts) (Some a) r
     by m1 steps entry decided second =
-        record {
-          more = m1 ++ second.more;
-          is = is_joined p r m1 second.more second.is;
-          steps = steps_joined p m1 second.more ss ts steps second.steps;
-          entry =
-              ap (λ (l : List Event). own_calls p l) (sym (append_assoc p.seen m1 second.more)) ∙ second.entry
-              ∙ append-nil (own_calls p (p.seen ++ m1)) ∙ entry;
-          decided = decided_before second.more decided second.decided;
-        }
+        steps_then m1 steps second (append-nil (own_calls p (p.seen ++ m1)) ∙ entry)
+        (decided_before second.more decided second.decided)

@@ -24,6 +24,14 @@ load_undecided Stage.LoadP h = (refl, refl)
 load_undecided Stage.LoadR h = (refl, refl)
 load_undecided _ h = cc
 
+-- the step by which a call accesses its word, at the stage of that
+abbrev pub accesses_at : Stage → Step → Bool
+accesses_at Stage.Probe Step.Probe = true
+accesses_at Stage.Read Step.Read = true
+accesses_at Stage.Write Step.Write = true
+accesses_at Stage.Cas Step.Cas = true
+accesses_at _ _ = false
+
 module _ {p : PassState} (u : IsUnderway p) where
   enabled_step : (s : Step) → group_of s ≡ Group.Callers → comes_next (call_of p).stage (call_of p).op s ≡ true
       → is_in_range p.table.config p.seat (call_of p) s ≡ true → IsEnabledTo p s
@@ -53,6 +61,19 @@ module _ {p : PassState} (u : IsUnderway p) where
         → is_in_range p.table.config p.seat (call_of p) x ≡ is_word_met p.table.config (call_of p)
         → IsEnabledTo p x × IsAdmittedTo p x
     may_reach x kind next range = grind (arith, enabled_step, met, admitted_step)
+
+  -- where it is at the stage of that step
+  pub may_access : (s : Stage) (x : Step) → (call_of p).stage ≡ s → accesses_at s x ≡ true
+      → is_access (call_of p).op ≡ true → IsEnabledTo p x × IsAdmittedTo p x
+  may_access Stage.Probe Step.Probe at h through =
+      may_reach Stage.Probe at through refl refl refl Step.Probe refl refl refl
+  may_access Stage.Read Step.Read at h through =
+      may_reach Stage.Read at through refl refl refl Step.Read refl refl refl
+  may_access Stage.Write Step.Write at h through =
+      may_reach Stage.Write at through refl refl refl Step.Write refl refl refl
+  may_access Stage.Cas Step.Cas at h through =
+      may_reach Stage.Cas at through refl refl refl Step.Cas refl refl refl
+  may_access _ _ at h through = cc
 
   -- a step that reaches a global
   pub may_getg : (call_of p).stage ≡ Stage.Getg → IsAdmittedTo p Step.Getg

@@ -8,16 +8,16 @@ use Rattle.mk_objects.proofs.Vocabulary.{IsAdmittedBehind, calls_more}
 use Rattle.mk_never.proofs.{Later.calls_stay, Parts.admitted_join}
 use Rattle.mk_core.specs.History.{never_first}
 
-new_in_range : (c : Config) {o : Op} (d ty : ℕ) (full : Bool) → o ≡ Op.New d ty full → has_operands c o ≡ true
+pub new_in_range : (c : Config) {o : Op} (d ty : ℕ) (full : Bool) → o ≡ Op.New d ty full → has_operands c o ≡ true
     → (d < 8) × (ty < length c.types)
 new_in_range c d ty full is h = grind (arith, and_parts, ltb-true)
 
 pub register_small : (c : Config) (f : Flight) → is_undecided_new f ≡ true → has_operands c f.op ≡ true → d_of f.op < 8
 register_small c f new h = grind (arith, undecided_new, new_in_range)
 
-new_admitted : (c : Config) (k d ty : ℕ) (xs : List Call) → k < c.callers → d < 8 → ty < length c.types
-    → IsAdmitted c.globals (after_calls (never_first c) xs) k (Op.New d ty false)
-new_admitted c k d ty xs lt small typed =
+pub new_admitted : (c : Config) (k d ty : ℕ) (full : Bool) (xs : List Call) → k < c.callers → d < 8
+    → ty < length c.types → IsAdmitted c.globals (after_calls (never_first c) xs) k (Op.New d ty full)
+new_admitted c k d ty full xs lt small typed =
     let stays = calls_stay (never_first c) xs in
     record {
       of_a_caller = let many = length-replicate {A = Value} (8 * c.callers) Null in let same =
@@ -40,4 +40,4 @@ grant_admitted {c} {es} k h lt new operands =
     (calls c es) ++ record { caller = k; op = Op.New n.d n.ty false } ∷ [] = grind (arith, calls_more, map-append) in
     subst (λ (xs : List Call). AreAdmitted c.globals (never_first c) xs) (sym more)
     (admitted_join c.globals (never_first c) (asked (calls c es)) (record { caller = k; op = Op.New n.d n.ty false }
-    ∷ []) (h.admitted, (new_admitted c k n.d n.ty (asked (calls c es)) lt ranges.0 ranges.1, tt)))
+    ∷ []) (h.admitted, (new_admitted c k n.d n.ty false (asked (calls c es)) lt ranges.0 ranges.1, tt)))

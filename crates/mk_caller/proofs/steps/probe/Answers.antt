@@ -1,5 +1,5 @@
 use Rattle.mk_laws.proofs.Vocabulary.{Stage, Step, arith, refl, sym, ◌∙◌}
-use Rattle.mk_caller.proofs.Stepping.{may_reach, met, met_bounds, probe_passed, probe_refused}
+use Rattle.mk_caller.proofs.Stepping.{may_access, met, met_bounds, probe_passed, probe_refused}
 use Rattle.mk_caller.proofs.{Onward.moves, Onward.probe_next, Probing.probes_a_word, Probing.probes_unmapped}
 use Rattle.mk_caller.proofs.steps.probe.Goals as goal
 
@@ -17,13 +17,11 @@ overflow_cast-word c = grind (arith, met, met_bounds)
 
 pub probe-header-requires-clause-enabled : goal.probe-header-requires-clause-enabled
 probe-header-requires-clause-enabled c =
-    (may_reach c.requires.underway Stage.Probe c.requires.stage c.requires.access refl refl refl Step.Probe refl refl
-    refl).0
+    (may_access c.requires.underway _ Step.Probe c.requires.stage refl c.requires.access).0
 
 pub probe-header-requires-clause-admitted : goal.probe-header-requires-clause-admitted
 probe-header-requires-clause-admitted c =
-    (may_reach c.requires.underway Stage.Probe c.requires.stage c.requires.access refl refl refl Step.Probe refl refl
-    refl).1
+    (may_access c.requires.underway _ Step.Probe c.requires.stage refl c.requires.access).1
 
 pub returns-then-is_unmapped-clause-refused : goal.returns-then-is_unmapped-clause-refused
 returns-then-is_unmapped-clause-refused c =
