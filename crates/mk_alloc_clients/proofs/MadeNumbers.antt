@@ -33,28 +33,12 @@ phase_kept p q a = sym (ap (λ (x : Steady). x.phase) (looks_left p q a).steady)
 -- There is a first page.
 pub first_page : (p : PassState) (w : WordsState) → p.table ≡ w → IsWithinLimits w.config
     → nat_lt 0 p.table.config.pages ≡ true
-first_page p w table limits =
-    let some = limits.pages.0 in
-    ap (λ (t : WordsState). nat_lt 0 t.config.pages) table ∙ lt-ltb 0 w.config.pages (omega arith)
+first_page p w table limits = grind (arith, lt-ltb)
 
 -- The type of one number exists,
 pub type_exists : (types : List (List Kind)) (ty : ℕ) → kinds_of types ty ≡ Number ∷ [] → ty < length types
-type_exists types ty is = elim (cases_Bool (nat_lt ty (length types))) [
-  | inl inside ↦ ltb-true ty (length types) inside
-  | inr outside ↦
-      let past : length types ≤ ty = ltb-false ty (length types) outside in
-      let none : [] ≡ Number ∷ [] = sym (get_or_past types ty [] past) ∙ is in
-      absurd (cc)
-]
+type_exists types ty is = grind (arith, ltb-true, ltb-false, get_or_past)
 
 -- A turn that is taken at once is taken.
 pub taken_at_once : (p q : PassState) (o : Option Op) → Finds p (Step.Take o) 0 q → TakesTurn p o q
-taken_at_once p q o f = record {
-  waited = p;
-  waits = record {
-    more = [];
-    is = ap (λ (l : List Event). record p { seen = l }) (sym (append-nil p.seen));
-    only = refl;
-  };
-  takes = f;
-}
+taken_at_once p q o f = grind (arith, append-nil)

@@ -35,8 +35,7 @@ keeps_by_other globals n k d c o owns other admitted =
     let there : owns.number < length n.allocations = exists n owns.number 0 owns.some in
     let stays = op_stays_alone n k owns.number owns.alone there c other o admitted.in_range in
     let on : Continues n m = op_stays n c o in
-    let pointer : register_at m k d ≡ Ptr owns.number owns.ty 0 =
-    op_keeps n k c o other (destination n o admitted.in_range) d owns.register ∙ owns.pointer in
+    let pointer : register_at m k d ≡ Ptr owns.number owns.ty 0 = grind (arith, op_keeps, destination) in
     record {
       owns = record {
         caller = subst (λ count. 8 * k + 7 < count) (sym on.registers) owns.caller;
@@ -71,16 +70,12 @@ keeps_by_others globals n k d (x ∷ xs) owns admitted others =
 -- An access by the register gets to the number.
 gets_to : (n : NeverState) (k d : ℕ) (owns : OwnsNumberIn n k d)
     → target_of n (register_at n k d) 0 ≡ WordOf owns.number 0
-gets_to n k d owns =
-    ap (λ (v : Value). target_of n v 0) owns.pointer
-    ∙ ap (λ (b : Bool). if b && is_large (words_of n owns.number) then Unmapped else WordOf owns.number 0) owns.unfreed
+gets_to n k d owns = grind arith
 
 -- So a load is answered by it,
 pub load_replies : (n : NeverState) (k d : ℕ) → OwnsNumberIn n k d
     → reply_of n k (Op.GetNum d 0) ≡ Reply.Num (number_behind n (register_at n k d))
-load_replies n k d owns =
-    ap (λ (t : Target). reply_at t (λ a w. Reply.Num (number_in (word_at n a w)))) (gets_to n k d owns)
-    ∙ ap Reply.Num (sym (number_is n k d owns.number owns.ty owns.pointer))
+load_replies n k d owns = grind (arith, gets_to, number_is)
 
 -- and a store is done,
 pub store_replies : (n : NeverState) (k d x : ℕ) → OwnsNumberIn n k d → reply_of n k (Op.SetNum d 0 x) ≡ Reply.Done
@@ -161,8 +156,7 @@ new_owns globals n k d ty typed caller lt kinds =
     let m : NeverState = after_op n k (Op.New d ty false) in
     let adds = new_adds n k d ty caller lt in
     let on : Continues n m = op_stays n k (Op.New d ty false) in
-    let words : words_of m a ≡ Num 0 ∷ [] = ap (λ (b : Allocation). b.words) adds.made
-    ∙ ap (λ (ks : List Kind). zero_words ks) kinds in
+    let words : words_of m a ≡ Num 0 ∷ [] = grind arith in
     record {
       owns = record {
         caller = subst (λ count. 8 * k + 7 < count) (sym on.registers) caller;

@@ -26,22 +26,10 @@ pub overflow_shl-place : goal.overflow_shl-place
 overflow_shl-place c = small_index (knows (goal.at.overflow_shl-place c).After-is_in_order)
 
 pub used-requires-clause-enabled : goal.used-requires-clause-enabled
-used-requires-clause-enabled c =
-    let p : PassState = c.args.turn.now.pass in
-    let k = knows (goal.at.used-requires-clause-enabled c).After-is_in_order in
-    let known : used_at (now_of p).words c.args.place.page ≡ c.args.seen.page.used =
-    sym (ap (λ (x : Page). x.used) c.requires.page) in
-    let clear : has_bit c.args.seen.page.used c.args.place.index ≡ _ =
-    sym (ap (λ n. has_bit n c.args.place.index) known) ∙ place_unused k in
-    subst (λ n. IsEnabledTo c.make_ready.new.turn.pass (Step.Used c.args.place.page n))
-    (sym (one_bit_more c.args.seen.page.used c.args.place.index (small_index k) clear))
-    (used_may c.requires.goes k c.make_ready.ensures.ready known)
+used-requires-clause-enabled c = grind (arith, knows, place_unused, one_bit_more, small_index, used_may)
 
 pub grant-requires-clause-enabled : goal.grant-requires-clause-enabled
-grant-requires-clause-enabled c =
-    let x = goal.at.grant-requires-clause-enabled c in
-    let k = knows x.After-is_in_order in
-    grant_may c.requires.goes k (taken x.After-used k)
+grant-requires-clause-enabled c = grind (arith, knows, grant_may, taken)
 
 pub grant-requires-clause-admitted : goal.grant-requires-clause-admitted
 grant-requires-clause-admitted c =
@@ -51,17 +39,10 @@ grant-requires-clause-admitted c =
     (taken x.After-used k) c.used.ensures.acts.makes.pass.history c.is_in_order.ensures.history
 
 pub grant-requires-clause-register : goal.grant-requires-clause-register
-grant-requires-clause-register c =
-    let x = goal.at.grant-requires-clause-register c in
-    let k = knows x.After-is_in_order in
-    c.requires.register ∙ sym (grant_register c.requires.goes k (taken x.After-used k))
+grant-requires-clause-register c = grind (arith, knows, grant_register, taken)
 
 pub grant-requires-clause-address : goal.grant-requires-clause-address
-grant-requires-clause-address c =
-    let x = goal.at.grant-requires-clause-address c in
-    let k = knows x.After-is_in_order in
-    c.address.ensures ∙ ap (λ (o : Object). address_of (base_made o c.args.place) % 2 ^ 64) (sym c.requires.number)
-    ∙ sym (grant_address c.requires.goes k (taken x.After-used k))
+grant-requires-clause-address c = grind (arith, knows, grant_address, taken)
 
 pub address-requires-clause-page : goal.address-requires-clause-page
 address-requires-clause-page c =
@@ -72,21 +53,10 @@ pub address-requires-clause-index : goal.address-requires-clause-index
 address-requires-clause-index c = small_index (knows (goal.at.address-requires-clause-index c).After-is_in_order)
 
 pub overflow_add-seen : goal.overflow_add-seen
-overflow_add-seen c =
-    let p : PassState = c.args.turn.now.pass in
-    let h = c.is_in_order.ensures.history in
-    let k = knows (goal.at.overflow_add-seen c).After-is_in_order in
-    let few = few_held k c.requires.goes h in
-    let most = h.within_limits.pages.1 in
-    let words = (words_within (object_for p) k.sized).1 in
-    let size : 2 ≡ words_made (object_for p) = sym (ap (λ (o : Object). words_made o) c.requires.number) in
-    omega (arith, c.requires.held, c.requires.exact)
+overflow_add-seen c = grind (arith, knows, few_held, words_within)
 
 pub tally-requires-clause-enabled : goal.tally-requires-clause-enabled
-tally-requires-clause-enabled c =
-    let x = goal.at.tally-requires-clause-enabled c in
-    let k = knows x.After-is_in_order in
-    tally_may c.requires.goes k _ (granted x.After-grant k (taken x.After-used k))
+tally-requires-clause-enabled c = grind (arith, knows, tally_may, granted, taken)
 
 -- the last step, and the tally
 pub returns-clause-granted : goal.returns-clause-granted
