@@ -49,7 +49,14 @@ cell_or_none false false index = refl
 pub block_place : (page : Page) → page.used < 2 ^ 64 → page.header ≢ 0 → page.header ≡ word_of (block_header 0 true)
     → then_some (nat_lt (trailing_ones w64 page.used) 32) (at_cell (trailing_ones w64 page.used)) ≡ place_on page
 block_place page fits some is =
-    grind (arith, cell_or_none, w64, at_cell, first_where-bits_of, place_by, cells_under_wanted, taken_under_other)
+    let resident = resident_pages (use_of_page page ∷ []) in
+    cell_or_none (nat_lt (trailing_ones w64 page.used) 32) (nat_lt resident 1) (trailing_ones w64 page.used)
+    ∙ sym (ap (λ (x : Option ℕ). or_else (or_else (option_map at_cell x) None)
+    (if nat_lt resident 1 then option_map carved None else None)) (first_where-bits_of 32 page.used (omega arith) fits))
+    ∙ sym (ap (λ (cells : List Bool). place_by cells false resident)
+    (cells_under_wanted page.used 0 true (omega arith) is)) ∙ sym (ap
+    (λ (free : Bool). place_by (cells_taken 0 true (use_of_page page)) free resident)
+    (taken_under_other page.header page.used some))
 
 only_page : (pages : List Page) → length pages ≡ 1 → pages ≡ slice_index_or pages 0 free_page ∷ []
 only_page [] one = absurd (omega arith)

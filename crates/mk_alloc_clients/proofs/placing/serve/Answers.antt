@@ -42,7 +42,11 @@ pub grant-requires-clause-register : goal.grant-requires-clause-register
 grant-requires-clause-register c = grind (arith, knows, grant_register, taken)
 
 pub grant-requires-clause-address : goal.grant-requires-clause-address
-grant-requires-clause-address c = grind (arith, knows, grant_address, taken)
+grant-requires-clause-address c =
+    let x = goal.at.grant-requires-clause-address c in
+    let k = knows x.After-is_in_order in
+    c.address.ensures ∙ ap (λ (o : Object). address_of (base_made o c.args.place) % 2 ^ 64) (sym c.requires.number)
+    ∙ sym (grant_address c.requires.goes k (taken x.After-used k))
 
 pub address-requires-clause-page : goal.address-requires-clause-page
 address-requires-clause-page c =
