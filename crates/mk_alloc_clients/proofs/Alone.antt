@@ -1,10 +1,10 @@
 -- What other callers' operations leave of an object that one caller alone knows of: all of it.
 use Rattle.mk_laws.proofs.Vocabulary.{Kind, List, NeverAllocation as Allocation, NeverState, Null, Num, Number, Op, Ptr}
-use Rattle.mk_laws.proofs.Vocabulary.{To, Unmapped, Value, WordOf, ℕ, after_free, allocation_at, arith, get_or}
-use Rattle.mk_laws.proofs.Vocabulary.{get_or-set_other, get_or_append_left, is_same, is_unmapped, kinds_of, length, map}
-use Rattle.mk_laws.proofs.Vocabulary.{no_allocation, refl, register_at, set_by, subst, suc, sym, target_of, with_freed}
-use Rattle.mk_laws.proofs.Vocabulary.{with_global, with_new, with_register, with_word, word_at, words_of, zero, [], ◌*◌}
-use Rattle.mk_laws.proofs.Vocabulary.{◌++◌, ◌+◌, ◌<◌, ◌∷◌, ◌≡◌, ◌≢◌}
+use Rattle.mk_laws.proofs.Vocabulary.{To, Value, WordOf, ℕ, after_free, allocation_at, arith, get_or, get_or-set_other}
+use Rattle.mk_laws.proofs.Vocabulary.{get_or_append_left, is_same, kinds_of, length, map, no_allocation, refl}
+use Rattle.mk_laws.proofs.Vocabulary.{register_at, set_by, suc, sym, target_of, with_freed, with_global, with_new}
+use Rattle.mk_laws.proofs.Vocabulary.{with_register, with_word, word_at, words_of, zero, [], ◌*◌, ◌++◌, ◌+◌, ◌<◌, ◌∷◌}
+use Rattle.mk_laws.proofs.Vocabulary.{◌≡◌, ◌≢◌}
 use Rattle.mk_never.proofs.Edits.{if_by, left_at_by}
 use Rattle.mk_never.specs.NeverHeap.{after_op, moved_on}
 use Rattle.mk_never.specs.declared.operations.Op.TheVariants.{CasPtr, Clear, Free, GetGlobal, GetNum, GetPtr, IsNull}

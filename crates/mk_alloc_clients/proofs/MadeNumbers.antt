@@ -1,9 +1,8 @@
 -- A turn that puts a number on the only page: what its looks say, and that its call is that of a New.
 use Rattle.std.proofs.Common.{ltb-false}
-use Rattle.mk_laws.proofs.Vocabulary.{Event, IsHistory, IsWithinLimits, Kind, List, Number, Op, Option, Page, Steady}
-use Rattle.mk_laws.proofs.Vocabulary.{Step, Word, ℕ, ap, append-nil, arith, cases_Bool, free_page, get_or_past, inl}
-use Rattle.mk_laws.proofs.Vocabulary.{inr, kinds_of, length, lt-ltb, ltb-true, nat_lt, phase_of, refl, slice_index_or}
-use Rattle.mk_laws.proofs.Vocabulary.{sym, true, [], ◌<◌, ◌∙◌, ◌∷◌, ◌≡◌, ◌≤◌}
+use Rattle.mk_laws.proofs.Vocabulary.{IsHistory, IsWithinLimits, Kind, List, Number, Op, Option, Page, Steady, Step}
+use Rattle.mk_laws.proofs.Vocabulary.{Word, ℕ, ap, append-nil, arith, free_page, get_or_past, kinds_of, length, lt-ltb}
+use Rattle.mk_laws.proofs.Vocabulary.{ltb-true, nat_lt, phase_of, slice_index_or, sym, true, [], ◌<◌, ◌∷◌, ◌≡◌}
 use Rattle.mk_alloc.proofs.Vocabulary.{Acts, Has, IsTurn, IsUnplaced, OnlyLooks, PassState, TakesTurn, call_of}
 use Rattle.mk_alloc.proofs.Vocabulary.{looks_left, new_is_acting, now_of}
 use Rattle.mk_core.specs.Words.{page_of}

@@ -1,6 +1,6 @@
-use Rattle.mk_laws.proofs.Vocabulary.{Object, Page, Step, address_of, ap, arith, base_made, has_bit, subst, sym}
-use Rattle.mk_laws.proofs.Vocabulary.{used_at, words_made, words_within, ◌%◌, ◌^◌, ◌∙◌, ◌≡◌}
-use Rattle.mk_alloc.proofs.Vocabulary.{IsEnabledTo, PassState, now_of, object_for}
+use Rattle.mk_laws.proofs.Vocabulary.{Object, address_of, ap, arith, base_made, sym, words_made, words_within, ◌%◌, ◌^◌}
+use Rattle.mk_laws.proofs.Vocabulary.{◌∙◌, ◌≡◌}
+use Rattle.mk_alloc.proofs.Vocabulary.{PassState, object_for}
 use Rattle.mk_alloc_clients.proofs.placing.serve.Goals.{After-grant, After-is_in_order, After-used}
 use Rattle.mk_objects.proofs.Takes.{HasGranted, HasTaken, counted, counted_held, few_held, grant_address, grant_admits}
 use Rattle.mk_objects.proofs.Takes.{grant_may, grant_on, grant_register, one_bit_more, small_index, tally_may, tally_on}

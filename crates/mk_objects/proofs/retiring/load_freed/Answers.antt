@@ -5,22 +5,18 @@ use Rattle.mk_objects.proofs.retiring.load_freed.Goals as goal
 
 pub reg_load-requires-clause-enabled : goal.reg_load-requires-clause-enabled
 reg_load-requires-clause-enabled c =
-    let p : PassState = c.args.turn.now.pass in
     load_may c.is_in_order.ensures.turn c.is_in_order.ensures.history c.requires.unloaded
 
 pub reg_load-requires-clause-admitted : goal.reg_load-requires-clause-admitted
 reg_load-requires-clause-admitted c =
-    let p : PassState = c.args.turn.now.pass in
     load_admits c.is_in_order.ensures.turn c.is_in_order.ensures.history c.requires.unloaded
 
 pub reg_load-requires-clause-register : goal.reg_load-requires-clause-register
 reg_load-requires-clause-register c =
-    let p : PassState = c.args.turn.now.pass in
     load_meets c.is_in_order.ensures.turn c.is_in_order.ensures.history c.requires.unloaded
 
 pub reg_load-requires-clause-loads : goal.reg_load-requires-clause-loads
 reg_load-requires-clause-loads c =
-    let p : PassState = c.args.turn.now.pass in
     load_loads c.is_in_order.ensures.turn c.is_in_order.ensures.history c.requires.unloaded
 
 pub returns-clause-loaded : goal.returns-clause-loaded
