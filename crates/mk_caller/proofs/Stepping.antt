@@ -75,6 +75,10 @@ module _ {p : PassState} (u : IsUnderway p) where
       may_reach Stage.Cas at through refl refl refl Step.Cas refl refl refl
   may_access _ _ at h through = cc
 
+  pub access_admitted : (s : Stage) (x : Step) → (call_of p).stage ≡ s → accesses_at s x ≡ true
+      → is_access (call_of p).op ≡ true → IsAdmittedTo p x
+  access_admitted s x at h through = (may_access s x at h through).1
+
   -- a step that reaches a global
   pub may_getg : (call_of p).stage ≡ Stage.Getg → IsAdmittedTo p Step.Getg
   may_getg at = grind (arith, admitted_step, enabled_step)

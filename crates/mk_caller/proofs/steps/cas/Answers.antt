@@ -7,10 +7,6 @@ pub cas-requires-clause-enabled : goal.cas-requires-clause-enabled
 cas-requires-clause-enabled c =
     (may_access c.requires.underway _ Step.Cas c.requires.stage refl c.requires.access).0
 
-pub cas-requires-clause-admitted : goal.cas-requires-clause-admitted
-cas-requires-clause-admitted c =
-    (may_access c.requires.underway _ Step.Cas c.requires.stage refl c.requires.access).1
-
 pub returns : goal.returns
 returns c = record {
   moves = moves c.requires.underway c.cas.ensures.goes

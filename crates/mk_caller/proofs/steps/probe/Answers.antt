@@ -19,10 +19,6 @@ pub probe-header-requires-clause-enabled : goal.probe-header-requires-clause-ena
 probe-header-requires-clause-enabled c =
     (may_access c.requires.underway _ Step.Probe c.requires.stage refl c.requires.access).0
 
-pub probe-header-requires-clause-admitted : goal.probe-header-requires-clause-admitted
-probe-header-requires-clause-admitted c =
-    (may_access c.requires.underway _ Step.Probe c.requires.stage refl c.requires.access).1
-
 pub returns-then-is_unmapped-clause-refused : goal.returns-then-is_unmapped-clause-refused
 returns-then-is_unmapped-clause-refused c =
     let f = c.probe-header in

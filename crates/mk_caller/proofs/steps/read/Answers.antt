@@ -6,9 +6,5 @@ pub read-requires-clause-enabled : goal.read-requires-clause-enabled
 read-requires-clause-enabled c =
     (may_access c.requires.underway _ Step.Read c.requires.stage refl c.requires.access).0
 
-pub read-requires-clause-admitted : goal.read-requires-clause-admitted
-read-requires-clause-admitted c =
-    (may_access c.requires.underway _ Step.Read c.requires.stage refl c.requires.access).1
-
 pub returns : goal.returns
 returns c = record { moves = moves c.requires.underway c.read.ensures.goes (read_next _ _ _ c.requires.stage) }

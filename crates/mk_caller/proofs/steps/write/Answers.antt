@@ -7,10 +7,6 @@ pub write-requires-clause-enabled : goal.write-requires-clause-enabled
 write-requires-clause-enabled c =
     (may_access c.requires.underway _ Step.Write c.requires.stage refl c.requires.access).0
 
-pub write-requires-clause-admitted : goal.write-requires-clause-admitted
-write-requires-clause-admitted c =
-    (may_access c.requires.underway _ Step.Write c.requires.stage refl c.requires.access).1
-
 pub returns : goal.returns
 returns c = record {
   moves = moves c.requires.underway c.write.ensures.goes
