@@ -134,49 +134,28 @@ frees_now {p} {q} {x} m h holds frees =
 
 -- with a part of the turn before it,
 
-record OnceFrom (c : Config) (seen : List Event) (r : PassState) : Type 0 where
-  before : List Event
-  event : Event
-  behind : List Event
-  is : r.seen ≡ seen ++ before ++ event ∷ behind
-  frees : event_frees c (seen ++ before) event ≡ true
-  leaves : (left c (seen ++ before ++ event ∷ [])).allocations ≡ (world_of r).allocations
-  only : FreesOnly c seen (world_of r).allocations r.seen
-
 pub once_behind : {kinds : Step → Bool} {p q r : PassState} → FreesNot kinds → Does kinds p q
     → IsHistory q.table.config q.seen → Holds p.table.config (now_of p) p.seat → FreesOnce q r → FreesOnce p r
 once_behind {p} {q} {r} not d h holds o =
-    by d.more (ap (λ (x : PassState). x.seen) d.is) (none_frees (world_of r).allocations not d h holds)
-    (subst (λ (x : PassState). OnceFrom x.table.config q.seen r) d.is (record {
-      before = o.before;
-      event = o.event;
-      behind = o.behind;
-      is = o.is;
-      frees = o.frees;
-      leaves = o.leaves;
-      only = o.only;
-    }))
-  where
-    by : (more : List Event) → q.seen ≡ p.seen ++ more → FreesOnly p.table.config p.seen (world_of r).allocations q.seen
-        → OnceFrom p.table.config q.seen r → FreesOnce p r
-    by more seen none once =
-        let c : Config = p.table.config in
-        let there : OnceFrom c (p.seen ++ more) r = subst (λ (l : List Event). OnceFrom c l r) seen once in
-        let first : FreesOnly c p.seen (world_of r).allocations (p.seen ++ more) = grind (arith, none) in
-        let rest : List Event = there.before ++ there.event ∷ there.behind in
-        let parts : (p.seen ++ more) ++ rest ≡ r.seen = grind (arith, append_assoc) in
-        let joined : p.seen ++ (more ++ there.before) ≡ p.seen ++ more ++ there.before = grind (arith, append_assoc) in
-        record {
-          before = more ++ there.before;
-          event = there.event;
-          behind = there.behind;
-          is = there.is ∙ ap (λ (l : List Event). l ++ there.event ∷ there.behind) (sym joined);
-          frees = ap (λ (l : List Event). event_frees c l there.event) joined ∙ there.frees;
-          leaves = ap (λ (l : List Event). (left c (l ++ there.event ∷ [])).allocations) joined ∙ there.leaves;
-          only = subst (λ (l : List Event). FreesOnly c p.seen (world_of r).allocations l) parts
-              (frees_then c p.seen more rest first (subst (λ (l : List Event). FreesOnly c (p.seen ++ more)
-              (world_of r).allocations l) (sym parts) there.only));
-        }
+    let c : Config = p.table.config in
+    let xs : List PlacedAllocation = (world_of r).allocations in
+    let more : List Event = d.more in
+    let there : FreesOnce (record p { seen = p.seen ++ more }) r = subst (λ (x : PassState). FreesOnce x r) d.is o in
+    let first : FreesOnly c p.seen xs (p.seen ++ more) = subst (λ (l : List Event). FreesOnly c p.seen xs l)
+    (ap (λ (x : PassState). x.seen) d.is) (none_frees xs not d h holds) in
+    let rest : List Event = there.before ++ there.event ∷ there.behind in
+    let parts : (p.seen ++ more) ++ rest ≡ r.seen = grind (arith, append_assoc) in
+    let joined : p.seen ++ (more ++ there.before) ≡ p.seen ++ more ++ there.before = grind (arith, append_assoc) in
+    record {
+      before = more ++ there.before;
+      event = there.event;
+      behind = there.behind;
+      is = there.is ∙ ap (λ (l : List Event). l ++ there.event ∷ there.behind) (sym joined);
+      frees = ap (λ (l : List Event). event_frees c l there.event) joined ∙ there.frees;
+      leaves = ap (λ (l : List Event). (left c (l ++ there.event ∷ [])).allocations) joined ∙ there.leaves;
+      only = subst (λ (l : List Event). FreesOnly c p.seen xs l) parts (frees_then c p.seen more rest first
+          (subst (λ (l : List Event). FreesOnly c (p.seen ++ more) xs l) (sym parts) there.only));
+    }
 
 -- and with one after it, which leaves the allocations.
 pub once_before : {kinds : Step → Bool} {p q r : PassState} → FreesNot kinds → FreesOnce p q → p.table ≡ q.table
