@@ -1,22 +1,12 @@
 -- A turn that puts a number on the only page: what its looks say, and that its call is that of a New.
 use Rattle.std.proofs.Common.{ltb-false}
-use Rattle.mk_laws.proofs.Vocabulary.{IsHistory, IsWithinLimits, Kind, List, Number, Op, Option, Page, Steady, Step}
-use Rattle.mk_laws.proofs.Vocabulary.{Word, ℕ, ap, append-nil, arith, free_page, get_or_past, kinds_of, length, lt-ltb}
-use Rattle.mk_laws.proofs.Vocabulary.{ltb-true, nat_lt, phase_of, slice_index_or, sym, true, [], ◌<◌, ◌∷◌, ◌≡◌}
-use Rattle.mk_alloc.proofs.Vocabulary.{Acts, Has, IsTurn, IsUnplaced, OnlyLooks, PassState, TakesTurn, call_of}
-use Rattle.mk_alloc.proofs.Vocabulary.{looks_left, new_is_acting, now_of}
+use Rattle.mk_laws.proofs.Vocabulary.{IsWithinLimits, Kind, List, Number, Op, Option, Page, Steady, Step, ℕ, ap}
+use Rattle.mk_laws.proofs.Vocabulary.{append-nil, arith, free_page, get_or_past, kinds_of, length, lt-ltb, ltb-true}
+use Rattle.mk_laws.proofs.Vocabulary.{nat_lt, phase_of, slice_index_or, sym, true, [], ◌<◌, ◌∷◌, ◌≡◌}
+use Rattle.mk_alloc.proofs.Vocabulary.{OnlyLooks, PassState, TakesTurn, looks_left, now_of}
 use Rattle.mk_core.specs.Words.{page_of}
-use Rattle.mk_objects.{proofs.JoinedLooks.looks_pages, proofs.Looks.acting_now, proofs.Looks.look_reaches}
-use Rattle.mk_objects.{proofs.MayAct.IsActing, proofs.Unchanged.steady_is_plain, specs.Looking.is_steady_word}
+use Rattle.mk_objects.proofs.JoinedLooks.{looks_pages}
 use Rattle.mk_words.specs.{States.WordsState, Steps.Finds}
-
-pub acting : (p : PassState) (o : Option Op) → IsTurn p o → IsUnplaced p → IsActing p.table.config (now_of p) p.seat
-acting p o turn u = acting_now p o turn (new_is_acting (call_of p) u.new)
-
-pub looked : (p q : PassState) (o : Option Op) (x : Word) → IsTurn p o → IsUnplaced p → is_steady_word x ≡ true
-    → Acts p (Step.Look x) q → Has p.seats p.seat → IsHistory q.table.config q.seen → OnlyLooks p q
-looked p q o x turn u steady a own history =
-    look_reaches turn (new_is_acting (call_of p) u.new) (steady_is_plain x steady) a
 
 -- Looks leave what was seen.
 

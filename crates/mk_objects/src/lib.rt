@@ -15,4 +15,5 @@ mod unmapping;
 mod wiping;
 
 pub use freeing::{Double, Freed, retire_object};
+pub use looking::{is_marking, look_at};
 pub use placing::place_object;
