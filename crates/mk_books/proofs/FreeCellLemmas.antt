@@ -1,8 +1,8 @@
 -- The free cells of each class, page by page.
-use Rattle.std.proofs.Common.{Bool, List, None, Option, Some, ℕ, add-zero, ap, arith, count_by, eq-eqb, false, get_or}
+use Rattle.std.proofs.Common.{Bool, List, None, Option, Some, ℕ, ap, arith, count_by, eq-eqb, false, get_or}
 use Rattle.std.proofs.Common.{get_or-set_other, get_or-set_same, if◌then◌else◌, inl, inr, length, length-set}
-use Rattle.std.proofs.Common.{length-take-le, map, nat_eq, ne_eqb, not, refl, set, suc, sym, take, true, zero, [], ◌&&◌}
-use Rattle.std.proofs.Common.{◌*◌, ◌++◌, ◌+◌, ◌-◌, ◌<◌, ◌^◌, ◌∙◌, ◌∷◌, ◌≡◌, ◌≢◌, ◌≤◌}
+use Rattle.std.proofs.Common.{length-take-le, map, nat_eq, ne_eqb, not, refl, set, suc, sym, take, true, zero, [], ◌*◌}
+use Rattle.std.proofs.Common.{◌++◌, ◌+◌, ◌-◌, ◌<◌, ◌^◌, ◌∙◌, ◌∷◌, ◌≡◌, ◌≢◌, ◌≤◌}
 use Rattle.std.proofs.lemmas.List.{get_or-append_right, get_or_append_left, map_more, same_lists, set-append_left}
 use Rattle.std.proofs.lemmas.List.{set-append_right}
 use Rattle.std.proofs.lemmas.List.FromFn.{get_or-map-range_with_len, length-map-range_with_len}
@@ -201,16 +201,7 @@ pub at_block : {pages : List Page} {i : ℕ} {counts : List ℕ} {class : ℕ} {
     → use_of_page page ≡ Cells class leaf (bits_of (cells_of class) page.used)
     → counts ≡ free_cells_by_class (uses_of_pages (take i pages)) → place ≡ class_place class leaf
     → count ≡ count_by not (bits_of (cells_of class) page.used) → AtBlock pages i counts class leaf page place count
-at_block within here known stands counted placed added =
-    record {
-      within = within;
-      here = here;
-      known = known;
-      stands = stands;
-      counted = counted;
-      placed = placed;
-      added = added;
-    }
+at_block within here known stands counted placed added = grind arith
 
 -- the count of the class fits 64 bits, where the pages lie in memory
 pub room_for_block : (pages : List Page) (i : ℕ) (counts : List ℕ) (class : ℕ) (leaf : Bool) (page : Page)

@@ -1,7 +1,7 @@
 -- Ranges of free pages, page by page.
 use Rattle.std.proofs.Common.{Bool, List, None, Option, Some, ℕ, ap, arith, drop, drop-drop, false, get_or}
-use Rattle.std.proofs.Common.{if◌then◌else◌, le-leb, length, length-drop, max, option_map, refl, suc, true, zero}
-use Rattle.std.proofs.Common.{zero-add, [], ◌+◌, ◌-◌, ◌<◌, ◌∙◌, ◌∷◌, ◌≡◌, ◌≤◌}
+use Rattle.std.proofs.Common.{if◌then◌else◌, le-leb, length, length-drop, max, option_map, refl, suc, true, zero, []}
+use Rattle.std.proofs.Common.{◌+◌, ◌-◌, ◌<◌, ◌∙◌, ◌∷◌, ◌≡◌, ◌≤◌}
 use Rattle.std.proofs.{lemmas.Bool.lt-leb, lemmas.List.at_drop_more, lemmas.List.drop-map, lemmas.List.length-map}
 use Rattle.std.specs.Option.{option_or}
 use Rattle.mk_geom.specs.PageUses.{PageUse, free_range, is_free_page, longest_free_range, range_start}

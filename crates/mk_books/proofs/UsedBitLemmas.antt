@@ -1,7 +1,7 @@
 -- The low bits of a used word.
 use Rattle.std.proofs.Common.{Bool, List, ℕ, ap, arith, bit_and, cond, count_by, count_ones, eq-eqb, false, get_or, inl}
-use Rattle.std.proofs.Common.{inr, le-ltb, length, lt-ltb, map-id, min, nat_eq, nat_lt, not, refl, suc, sym, true, w64}
-use Rattle.std.proofs.Common.{zero, [], ◌+◌, ◌-◌, ◌<◌, ◌^◌, ◌∙◌, ◌∷◌, ◌≡◌, ◌≤◌}
+use Rattle.std.proofs.Common.{inr, le-ltb, length, lt-ltb, map-id, min, nat_eq, nat_lt, not, refl, suc, sym, w64, zero}
+use Rattle.std.proofs.Common.{[], ◌+◌, ◌-◌, ◌<◌, ◌^◌, ◌∙◌, ◌∷◌, ◌≡◌, ◌≤◌}
 use Rattle.std.proofs.lemmas.List.FromFn.{get_or-map-range_with_len, length-map-range_with_len}
 use Rattle.std.proofs.lemmas.Nat.Bits.{bit_at-lt, bit_at-trailing_ones, bit_at_and, bit_at_ones, bit_at_ones_above}
 use Rattle.std.proofs.lemmas.Nat.Bits.{same_from_bits}

@@ -55,8 +55,7 @@ reg_enabled : (c : Config) (m : Moment) (k r : ℕ) → k < c.callers → flight
     → IsEnabled c m (record { seat = Caller k; step = Step.Reg })
 reg_enabled c m k r lt call = grind (arith, meets_enabled, lt-ltb)
 
-module _ {p : PassState} {r : ℕ} {o : Option Op} (turn : IsTurn p o) (h : IsHistory p.table.config p.seen)
-    (u : IsUnloaded p r) where
+module _ {p : PassState} {r : ℕ} (u : IsUnloaded p r) where
   loader : IsCallers p
   loader = unloaded_caller p r u.call
 
@@ -66,12 +65,12 @@ module _ {p : PassState} {r : ℕ} {o : Option Op} (turn : IsTurn p o) (h : IsHi
   loads_within : {s : Seat} → s ≡ Caller loading → Holds p.table.config (now_of p) s → loading < p.table.config.callers
   loads_within is holds = (subst (λ (x : Seat). Holds p.table.config (now_of p) x) is holds).0
 
-  pub load_may : IsEnabledTo p Step.Reg
-  load_may = grind (arith, loader, loading, reg_enabled, loads_within)
+  pub load_may : {o : Option Op} → IsTurn p o → IsEnabledTo p Step.Reg
+  load_may turn = grind (arith, loader, loading, reg_enabled, loads_within)
 
   -- whether it decides the Free or not
-  pub load_admits : IsAdmittedTo p Step.Reg
-  load_admits = free_step_admits Step.Reg loader turn.holds h u refl
+  pub load_admits : {o : Option Op} → IsTurn p o → IsHistory p.table.config p.seen → IsAdmittedTo p Step.Reg
+  load_admits turn h = free_step_admits Step.Reg loader turn.holds h u refl
 
   pub load_meets : r ≡ register_met (call_of p) (call_of p).stage
   load_meets = sym (ap (λ (f : Flight). register_met f f.stage) u.call)

@@ -1,5 +1,4 @@
-use Rattle.std.proofs.Common.{arith, sym, ◌∙◌}
-use Rattle.mk_geom.specs.PageWords.{uses_of_pages}
+use Rattle.std.proofs.Common.{arith}
 use Rattle.mk_books.proofs.FreeRangeLemmas.{longest_with-free, longest_with-start, longest_with-taken}
 use Rattle.mk_books.proofs.counting.longest_range.Goals.{else-is_free, then-is_free}
 use Rattle.mk_books.proofs.counting.longest_range.Goals as goal

@@ -1,5 +1,4 @@
-use Rattle.std.proofs.{Common.arith, Common.sym, Common.◌∙◌, Common.◌≡◌, lemmas.Grind.common_steps}
-use Rattle.mk_geom.specs.{PageUses.range_start, PageUses.resident_pages, PageWords.uses_of_pages}
+use Rattle.std.proofs.{Common.arith, Common.sym, Common.◌∙◌, lemmas.Grind.common_steps}
 use Rattle.mk_books.proofs.FreeRangeLemmas.{first-end, first-here, first-known, first-skip, free_range_from-free}
 use Rattle.mk_books.proofs.FreeRangeLemmas.{free_range_from-taken}
 use Rattle.mk_books.proofs.fitting.large_fit.Goals.{else-not-is_free+else-number-range}

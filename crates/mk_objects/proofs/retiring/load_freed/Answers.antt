@@ -1,23 +1,19 @@
-use Rattle.mk_objects.proofs.Vocabulary.{PassState}
 use Rattle.mk_objects.proofs.LoadedFrees.{load_admits, load_keeps, load_loads, load_may, load_meets, load_null}
 use Rattle.mk_objects.proofs.LoadedFrees.{load_reaches}
 use Rattle.mk_objects.proofs.retiring.load_freed.Goals as goal
 
 pub reg_load-requires-clause-enabled : goal.reg_load-requires-clause-enabled
-reg_load-requires-clause-enabled c =
-    load_may c.is_in_order.ensures.turn c.is_in_order.ensures.history c.requires.unloaded
+reg_load-requires-clause-enabled c = load_may c.requires.unloaded c.is_in_order.ensures.turn
 
 pub reg_load-requires-clause-admitted : goal.reg_load-requires-clause-admitted
 reg_load-requires-clause-admitted c =
-    load_admits c.is_in_order.ensures.turn c.is_in_order.ensures.history c.requires.unloaded
+    load_admits c.requires.unloaded c.is_in_order.ensures.turn c.is_in_order.ensures.history
 
 pub reg_load-requires-clause-register : goal.reg_load-requires-clause-register
-reg_load-requires-clause-register c =
-    load_meets c.is_in_order.ensures.turn c.is_in_order.ensures.history c.requires.unloaded
+reg_load-requires-clause-register c = load_meets c.requires.unloaded
 
 pub reg_load-requires-clause-loads : goal.reg_load-requires-clause-loads
-reg_load-requires-clause-loads c =
-    load_loads c.is_in_order.ensures.turn c.is_in_order.ensures.history c.requires.unloaded
+reg_load-requires-clause-loads c = load_loads c.requires.unloaded
 
 pub returns-clause-loaded : goal.returns-clause-loaded
 returns-clause-loaded c =
