@@ -54,8 +54,8 @@ block_place page fits some is =
     ∙ sym (ap (λ (x : Option ℕ). or_else (or_else (option_map at_cell x) None)
     (if nat_lt resident 1 then option_map carved None else None)) (first_where-bits_of 32 page.used (omega arith) fits))
     ∙ sym (ap (λ (cells : List Bool). place_by cells false resident)
-    (cells_under_wanted page.used 0 true (omega arith) is)) ∙ sym (ap
-    (λ (free : Bool). place_by (cells_taken 0 true (use_of_page page)) free resident)
+    (cells_under_wanted page.used 0 true (omega arith) is))
+    ∙ sym (ap (λ (free : Bool). place_by (cells_taken 0 true (use_of_page page)) free resident)
     (taken_under_other page.header page.used some))
 
 only_page : (pages : List Page) → length pages ≡ 1 → pages ≡ slice_index_or pages 0 free_page ∷ []

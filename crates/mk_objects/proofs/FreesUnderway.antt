@@ -133,9 +133,9 @@ module _ {kinds : Step → Bool} {p q : PassState} {f : Flight} (a : Answer)
 
   pub leaves_all : DecidesFree kinds a p q
   leaves_all =
-      decides_free (reaches_so at (λ x. decided_at x give same)) (ap
-      (λ (x : Option RunPages). is_run_gone (now_of q).words x) (ap (λ (h : Holding). h.freed)
-      (here.holding ∙ nothing))) (λ j lt. here.gates j ∙ none_held p gates j lt)
+      decides_free (reaches_so at (λ x. decided_at x give same))
+      (ap (λ (h : Holding). is_run_gone (now_of q).words h.freed) (here.holding ∙ nothing))
+      (λ j lt. here.gates j ∙ none_held p gates j lt)
       (exact_still p q (sym (reached_table at)) here.steady exact)
 
   pub same_allocations : (world_of q).allocations ≡ (world_of p).allocations

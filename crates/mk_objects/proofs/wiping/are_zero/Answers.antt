@@ -28,9 +28,8 @@ loop-i-preserved c =
     let q : PassState = c.look_on_page-all.new.self.pass in
     let found : ℕ = c.look_on_page-all.result in
     let seen : (n : ℕ) → WipesTo p c.args.run n c.loop-i.turn.pass → WipesTo p c.args.run n q =
-    λ n reached. looks_then c.args.run c.is_in_order.ensures.turn may.decided may.stopped word reached (omega
-    (arith, group, c.loop-i-test.true)) may.few may.unmapped
-    c.look_on_page-all.ensures.acts in
+    λ n reached. looks_then c.args.run c.is_in_order.ensures.turn may.decided may.stopped word reached
+    (omega (arith, group, c.loop-i-test.true)) may.few may.unmapped c.look_on_page-all.ensures.acts in
     record {
       op = c.look_on_page-all.ensures.op ∙ i.op;
       still = seen (8 * c.args.group) i.still;

@@ -47,10 +47,10 @@ invariant_of-self c =
 pub returns-clause-shows : goal.returns-clause-shows
 returns-clause-shows c pages freed shows =
     let x = (goal.at.returns-clause-shows c).After-from in
-    store_shows _ _ (stores x) (same_sets x) c.self.view_is (λ same. ap
-    (λ (n : ℕ). record { header = c.args.header; used = n }) (ap (λ (p : Page). p.used)
-    (page_read c.self.inside.pages.items c.args.page c.index.result.now (within x) c.index.ensures)
-    ∙ ap (λ (ps : List Page). (page_at ps c.args.page).used) same)) shows
+    let read = page_read c.self.inside.pages.items c.args.page c.index.result.now (within x) c.index.ensures in
+    store_shows _ _ (stores x) (same_sets x) c.self.view_is
+    (λ same. ap (λ (n : ℕ). record { header = c.args.header; used = n })
+    (ap (λ (p : Page). p.used) read ∙ ap (λ (ps : List Page). (page_at ps c.args.page).used) same)) shows
 
 pub returns-clause-freed : goal.returns-clause-freed
 returns-clause-freed c free =

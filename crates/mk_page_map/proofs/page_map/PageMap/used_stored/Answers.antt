@@ -37,9 +37,9 @@ invariant_of-self c =
 pub returns-clause-shows : goal.returns-clause-shows
 returns-clause-shows c pages freed shows =
     let x = (goal.at.returns-clause-shows c).After-sort_by_used in
-    store_shows _ _ (stores x) (same_sets x) c.self.view_is (λ same. ap
-    (λ (n : ℕ). record { header = n; used = c.args.used }) (ap (λ (p : Page). p.header) (read x)
-    ∙ ap (λ (ps : List Page). (page_at ps c.args.page).header) same)) shows
+    store_shows _ _ (stores x) (same_sets x) c.self.view_is
+    (λ same. ap (λ (n : ℕ). record { header = n; used = c.args.used })
+    (ap (λ (p : Page). p.header) (read x) ∙ ap (λ (ps : List Page). (page_at ps c.args.page).header) same)) shows
 
 pub returns-clause-uncleaned : goal.returns-clause-uncleaned
 returns-clause-uncleaned c number =
