@@ -1,20 +1,19 @@
 -- A New is answered Full: the tally is raised, and the call decided.
-use Rattle.std.proofs.lemmas.List.{length-replicate}
-use Rattle.mk_laws.proofs.Vocabulary.{AreAdmitted, Call, IsAdmitted, Null, OwnCycle, Unplaced, is_new_at, is_none}
-use Rattle.mk_laws.proofs.Vocabulary.{ltb-true, map-append, may_answer_full, place_on_pages, ◌*◌}
-use Rattle.mk_alloc.proofs.Vocabulary.{Answer, Bool, Caller, Config, Decided, Ended, Event, Flight, Holds, InTurn}
-use Rattle.mk_alloc.proofs.Vocabulary.{IsAtPhase, IsEnabled, IsEnabledTo, IsHistory, IsTurn, IsUnplaced, List, Moment}
-use Rattle.mk_alloc.proofs.Vocabulary.{None, Op, Option, PassState, Place, Placing, Seat, Some, Stage, Step, Value, ℕ}
-use Rattle.mk_alloc.proofs.Vocabulary.{acting_caller, after_calls, and_parts, ap, arith, asked, call_of, caller_of_pass}
-use Rattle.mk_alloc.proofs.Vocabulary.{calls, calls_more, comes_next, entry_of, eq-eqb, first_world, flight_of}
-use Rattle.mk_alloc.proofs.Vocabulary.{has_operands, is_undecided_new, known_left, left, length, lt-ltb, meets_enabled}
-use Rattle.mk_alloc.proofs.Vocabulary.{nat_lt, new_is_acting, now_of, object_for, object_made, op_for, phase_of}
-use Rattle.mk_alloc.proofs.Vocabulary.{place_now_for, refl, subst, sym, true, undecided_new, [], ◌&&◌, ◌++◌, ◌<◌, ◌∙◌}
-use Rattle.mk_alloc.proofs.Vocabulary.{◌∷◌, ◌≡◌}
-use Rattle.mk_never.proofs.{Later.calls_stay, Parts.admitted_join}
+use Rattle.mk_laws.proofs.Vocabulary.{AreAdmitted, Call, OwnCycle, Unplaced, is_new_at, is_none, map-append}
+use Rattle.mk_laws.proofs.Vocabulary.{may_answer_full, place_on_pages}
+use Rattle.mk_alloc.proofs.Vocabulary.{Answer, Caller, Config, Decided, Ended, Event, Flight, Holds, InTurn, IsAtPhase}
+use Rattle.mk_alloc.proofs.Vocabulary.{IsEnabled, IsEnabledTo, IsHistory, IsTurn, IsUnplaced, List, Moment, None, Op}
+use Rattle.mk_alloc.proofs.Vocabulary.{Option, PassState, Place, Placing, Seat, Some, Stage, Step, ℕ, acting_caller, ap}
+use Rattle.mk_alloc.proofs.Vocabulary.{asked, call_of, caller_of_pass, calls, calls_more, comes_next, entry_of, eq-eqb}
+use Rattle.mk_alloc.proofs.Vocabulary.{first_world, flight_of, has_operands, is_undecided_new, known_left, left, lt-ltb}
+use Rattle.mk_alloc.proofs.Vocabulary.{meets_enabled, new_is_acting, now_of, object_for, object_made, op_for, phase_of}
+use Rattle.mk_alloc.proofs.Vocabulary.{place_now_for, refl, subst, sym, true, undecided_new, [], ◌++◌, ◌<◌, ◌∙◌, ◌∷◌}
+use Rattle.mk_alloc.proofs.Vocabulary.{◌≡◌}
+use Rattle.mk_never.proofs.Parts.{admitted_join}
 use Rattle.mk_core.specs.History.{IsAdmittedBehind, never_first}
 use Rattle.mk_laws.proofs.{InvariantTheorems.first_fit_finds_the_place, LayoutHolders.seat_operands}
 use Rattle.mk_alloc.proofs.{Going.IsCallers, SeekingTurns.new_callers}
+use Rattle.mk_objects.proofs.AdmittedNews.{new_admitted, new_in_range}
 use Rattle.mk_objects.proofs.{Looks.acting_now, Takes.unplaced_settled}
 use Rattle.mk_words.specs.Steps.{IsAdmittedTo}
 
@@ -68,28 +67,6 @@ full_allowed p t u idle ended none =
 
 -- and admitted.
 
-new_in_range : (c : Config) (o : Op) (d ty : ℕ) (full : Bool) → o ≡ Op.New d ty full → has_operands c o ≡ true
-    → (d < 8) × (ty < length c.types)
-new_in_range c o d ty full is h =
-    let at : has_operands c (Op.New d ty full) ≡ true = ap (λ (x : Op). has_operands c x) (sym is) ∙ h in
-    let a = and_parts (nat_lt 0 8 && nat_lt 0 8 && nat_lt 0 8 && nat_lt d 8 && nat_lt 0 64)
-    (nat_lt ty (length c.types)) at in
-    let b = and_parts (nat_lt 0 8 && nat_lt 0 8 && nat_lt 0 8 && nat_lt d 8) (nat_lt 0 64) a.0 in
-    let e = and_parts (nat_lt 0 8 && nat_lt 0 8 && nat_lt 0 8) (nat_lt d 8) b.0 in
-    (ltb-true d 8 e.1, ltb-true ty (length c.types) a.1)
-
-full_new_admitted : (c : Config) (k d ty : ℕ) (xs : List Call) → k < c.callers → d < 8 → ty < length c.types
-    → IsAdmitted c.globals (after_calls (never_first c) xs) k (Op.New d ty true)
-full_new_admitted c k d ty xs lt small typed =
-    let stays = calls_stay (never_first c) xs in
-    record {
-      of_a_caller = let many = length-replicate {A = Value} (8 * c.callers) Null in let same =
-          stays.registers in omega arith;
-      in_range = (small, subst (λ (ts : _). ty < length ts) (sym stays.types) typed);
-      access = tt;
-      store = tt;
-    }
-
 admitted_for : (c : Config) (es : List Event) (k : ℕ) → IsHistory c es → k < c.callers
     → is_undecided_new (flight_of (left c es).now (Caller k)) ≡ true
     → has_operands c (flight_of (left c es).now (Caller k)).op ≡ true
@@ -97,7 +74,7 @@ admitted_for : (c : Config) (es : List Event) (k : ℕ) → IsHistory c es → k
 admitted_for c es k h lt new operands =
     let f : Flight = flight_of (left c es).now (Caller k) in
     let n = undecided_new f new in
-    let ranges = new_in_range c f.op n.d n.ty n.full n.op operands in
+    let ranges = new_in_range c n.d n.ty n.full n.op operands in
     let more : asked (calls c (es ++ record { seat = Caller k; step = Step.Full } ∷ [])) ≡ asked
     (calls c es) ++ record { caller = k; op = Op.New n.d n.ty true } ∷ [] =
     ap (λ (ds : List Decided). asked ds) (calls_more c (first_world c) es
@@ -108,7 +85,7 @@ admitted_for c es k h lt new operands =
     subst (λ (xs : List Call). AreAdmitted c.globals (never_first c) xs) (sym more)
     (admitted_join c.globals (never_first c) (asked (calls c es))
     (record { caller = k; op = Op.New n.d n.ty true } ∷ [])
-    (h.admitted, (full_new_admitted c k n.d n.ty (asked (calls c es)) lt ranges.0 ranges.1, tt)))
+    (h.admitted, (new_admitted c k n.d n.ty true (asked (calls c es)) lt ranges.0 ranges.1, tt)))
 
 pub full_admitted : (p : PassState) → InTurn p → IsUnplaced p → IsAdmittedTo p Step.Full
 full_admitted p t u =

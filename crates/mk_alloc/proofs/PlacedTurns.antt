@@ -67,7 +67,7 @@ module _ (p q : PassState) (t : InTurn p) (u : IsUnplaced p) (quiet : IsQuiet p)
       record {
         call = record {
           pass = looks.same;
-          call = looks_call p q looks;
+          call = looks_call looks;
           done = ap (λ (h : Holding). record { placing = h.placing; freed = h.freed; cycle = h.cycle }) l.holding;
           gone = λ gone. gone_beside p q t d history (none_freed_yet p t u.new);
         };
@@ -81,9 +81,9 @@ module _ (p q : PassState) (t : InTurn p) (u : IsUnplaced p) (quiet : IsQuiet p)
         does = does_wider is_look turn_stays (of_turn looks_of) p q looks.does;
         quiet = quiet_kept p q quiet kept (gates_beside p q t d history);
         entry = looks.calls;
-        op = ap (λ (f : Flight). f.op) (looks_call p q looks);
+        op = ap (λ (f : Flight). f.op) (looks_call looks);
         decided = λ some. cc;
-        undecided = λ none. looks_call p q looks;
+        undecided = λ none. looks_call looks;
       }
 
 -- where the object is granted

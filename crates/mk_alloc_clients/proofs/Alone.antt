@@ -1,10 +1,10 @@
 -- What other callers' operations leave of an object that one caller alone knows of: all of it.
 use Rattle.mk_laws.proofs.Vocabulary.{Kind, List, NeverAllocation as Allocation, NeverState, Null, Num, Number, Op, Ptr}
-use Rattle.mk_laws.proofs.Vocabulary.{To, Unmapped, Value, WordOf, ℕ, after_free, allocation_at, arith, get_or}
-use Rattle.mk_laws.proofs.Vocabulary.{get_or-set_other, get_or_append_left, is_same, is_unmapped, kinds_of, length, map}
-use Rattle.mk_laws.proofs.Vocabulary.{no_allocation, refl, register_at, set_by, subst, suc, sym, target_of, with_freed}
-use Rattle.mk_laws.proofs.Vocabulary.{with_global, with_new, with_register, with_word, word_at, words_of, zero, [], ◌*◌}
-use Rattle.mk_laws.proofs.Vocabulary.{◌++◌, ◌+◌, ◌<◌, ◌∷◌, ◌≡◌, ◌≢◌}
+use Rattle.mk_laws.proofs.Vocabulary.{To, Value, WordOf, ℕ, after_free, allocation_at, arith, get_or, get_or-set_other}
+use Rattle.mk_laws.proofs.Vocabulary.{get_or_append_left, is_same, kinds_of, length, map, no_allocation, refl}
+use Rattle.mk_laws.proofs.Vocabulary.{register_at, set_by, suc, sym, target_of, with_freed, with_global, with_new}
+use Rattle.mk_laws.proofs.Vocabulary.{with_register, with_word, word_at, words_of, zero, [], ◌*◌, ◌++◌, ◌+◌, ◌<◌, ◌∷◌}
+use Rattle.mk_laws.proofs.Vocabulary.{◌≡◌, ◌≢◌}
 use Rattle.mk_never.proofs.Edits.{if_by, left_at_by}
 use Rattle.mk_never.specs.NeverHeap.{after_op, moved_on}
 use Rattle.mk_never.specs.declared.operations.Op.TheVariants.{CasPtr, Clear, Free, GetGlobal, GetNum, GetPtr, IsNull}
@@ -33,9 +33,7 @@ target_leads : (n : NeverState) (v : Value) (i number place : ℕ) → target_of
     → LeadsTo v number
 target_leads n Null i number place reaches = absurd (cc)
 target_leads n (Num m) i number place reaches = absurd (cc)
-target_leads n (Ptr a ty offset) i number place reaches =
-    if_by (λ t. t ≡ WordOf number place → a ≡ number) (is_unmapped (allocation_at n a)) Unmapped (WordOf a (offset + i))
-    (λ e reached. absurd (cc)) (λ e reached. cc) reaches
+target_leads n (Ptr a ty offset) i number place reaches = grind (arith, if_by)
 
 -- After an operation only the caller knows of the allocation, and that is as it was.
 pub record StaysAlone (n : NeverState) (k number : ℕ) (m : NeverState) : Type 0 where
@@ -133,9 +131,7 @@ module _ (n : NeverState) (k number : ℕ) (own : IsKnownToAlone n k number) (th
 
     -- An access of another caller gets to other allocations.
     reached_other : (q i a w : ℕ) → q < 8 → target_of n (register_at n c q) i ≡ WordOf a w → a ≢ number
-    reached_other q i a w lt got same =
-        register_elsewhere q lt (subst (λ x. LeadsTo (register_at n c q) x) same
-        (target_leads n (register_at n c q) i a w got))
+    reached_other q i a w lt got same = grind (arith, register_elsewhere, target_leads)
 
     exchange_stays : (q i p r : ℕ) → q < 8 → r < 8 → Stays (after_op n c (CasPtr q i p r))
     exchange_stays q i p r lt lr =
@@ -151,15 +147,12 @@ module _ (n : NeverState) (k number : ℕ) (own : IsKnownToAlone n k number) (th
     op_stays_alone (SetNum q i m) h =
         left_at_by (λ m. Stays m) (target_of n (register_at n c q) i) n _ nothing_stays
         (λ a w got. word_stays a w (Num m) (reached_other q i a w h got) (λ leads. leads))
-    op_stays_alone (GetPtr d q i) h =
-        left_at_by (λ m. Stays m) (target_of n (register_at n c q) i) _ _ (register_stays c d Null (λ leads. leads))
-        (λ a w got. register_stays c d (word_at n a w) (own.words a w))
+    op_stays_alone (GetPtr d q i) h = grind (arith, left_at_by, register_stays)
     op_stays_alone (SetPtr q i p) h =
         left_at_by (λ m. Stays m) (target_of n (register_at n c q) i) n _ nothing_stays
         (λ a w got. word_stays a w (register_at n c p) (reached_other q i a w h.0 got) (register_elsewhere p h.1))
     op_stays_alone (CasPtr q i p r) h = exchange_stays q i p r h.0 h.2
-    op_stays_alone (Lea d q i) h =
-        register_stays c d _ (moved_elsewhere (register_at n c q) i (register_elsewhere q h.1))
+    op_stays_alone (Lea d q i) h = grind (arith, register_stays, moved_elsewhere, register_elsewhere)
     op_stays_alone (Move d q) h = register_stays c d _ (register_elsewhere q h.1)
     op_stays_alone (Clear d) h = register_stays c d Null (λ leads. leads)
     op_stays_alone (GetGlobal d g) h = register_stays c d _ (own.globals g)

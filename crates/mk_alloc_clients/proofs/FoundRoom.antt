@@ -18,22 +18,22 @@ module _ (p q : PassState) (x : Option Op) (page : Page) (found : Option Place) 
   fit = fit_on_page p page h one number (sees ∙ sym (page_kept p q looks)) ∙ sym is
 
   pub goes : (place : Place) → found ≡ Some place → GoesTo q place
-  goes place there = goes_behind p q place looks u (fit ∙ there)
+  goes place there = goes_behind place looks u (fit ∙ there)
 
   pub sees_page : (place : Place) → found ≡ Some place → page ≡ page_of (now_of q).words place.page
   sees_page place there =
-      let within = fit_within p x place turn h u (fit ∙ there) in
+      let within = fit_within place turn h u (fit ∙ there) in
       let lengths = (histories_keep_lengths p.table.config p.seen).pages in
       let first : 0 ≡ place.page = omega arith in
       sees ∙ ap (λ i. page_of (now_of q).words i) first
 
   pub nowhere : found ≡ None → FitsNowhere p q
-  nowhere none = record { nowhere = place_found p x None turn h u (fit ∙ none); looks = looks }
+  nowhere none = record { nowhere = place_found turn h u (fit ∙ none); looks = looks }
 
   pub placed : (r : PassState) (place : Place) → found ≡ Some place → IsGranted q place r → HeldIsExact r → IsPlaced p r
   placed r place there granted held = record {
     place = place;
-    fits = place_found p x (Some place) turn h u (fit ∙ there);
-    granted = granted_behind_looks p q r place looks granted;
+    fits = place_found turn h u (fit ∙ there);
+    granted = granted_behind_looks looks granted;
     held = held;
   }

@@ -43,6 +43,6 @@ module _ (p : PassState) (d ty : ℕ) (idle : IsIdleCaller p) (exists : caller_o
 -- It owns its number then.
 pub made_owns : {on : Bool} {p q : PassState} (d ty : ℕ) → CalledInTurn on p (Op.New d ty false) Answer.Done q
     → IsHistory q.table.config q.seen → kinds_of p.table.config.types ty ≡ Number ∷ [] → HasNumber q d 0
-made_owns {p = p} {q = q} d ty c h kinds =
+made_owns {p = p} d ty c h kinds =
     subst (λ (r : PassState). HasNumber r d 0) (sym c.is)
     (granted p d ty c.more (subst (λ (r : PassState). IsHistory r.table.config r.seen) c.is h) c.entry c.decided kinds)

@@ -1,28 +1,17 @@
 -- A turn that puts a number on the only page: what its looks say, and that its call is that of a New.
 use Rattle.std.proofs.Common.{ltb-false}
-use Rattle.mk_laws.proofs.Vocabulary.{Event, IsHistory, IsWithinLimits, Kind, List, Number, Op, Option, Page, Steady}
-use Rattle.mk_laws.proofs.Vocabulary.{Step, Word, ℕ, ap, append-nil, arith, cases_Bool, free_page, get_or_past, inl}
-use Rattle.mk_laws.proofs.Vocabulary.{inr, kinds_of, length, lt-ltb, ltb-true, nat_lt, phase_of, refl, slice_index_or}
-use Rattle.mk_laws.proofs.Vocabulary.{sym, true, [], ◌<◌, ◌∙◌, ◌∷◌, ◌≡◌, ◌≤◌}
-use Rattle.mk_alloc.proofs.Vocabulary.{Acts, Has, IsTurn, IsUnplaced, OnlyLooks, PassState, TakesTurn, call_of}
-use Rattle.mk_alloc.proofs.Vocabulary.{looks_left, new_is_acting, now_of}
+use Rattle.mk_laws.proofs.Vocabulary.{IsWithinLimits, Kind, List, Number, Op, Option, Page, Steady, Step, ℕ, ap}
+use Rattle.mk_laws.proofs.Vocabulary.{append-nil, arith, free_page, get_or_past, kinds_of, length, lt-ltb, ltb-true}
+use Rattle.mk_laws.proofs.Vocabulary.{nat_lt, phase_of, slice_index_or, sym, true, [], ◌<◌, ◌∷◌, ◌≡◌}
+use Rattle.mk_alloc.proofs.Vocabulary.{OnlyLooks, PassState, TakesTurn, looks_left, now_of}
 use Rattle.mk_core.specs.Words.{page_of}
-use Rattle.mk_objects.{proofs.JoinedLooks.looks_pages, proofs.Looks.acting_now, proofs.Looks.look_reaches}
-use Rattle.mk_objects.{proofs.MayAct.IsActing, proofs.Unchanged.steady_is_plain, specs.Looking.is_steady_word}
+use Rattle.mk_objects.proofs.JoinedLooks.{looks_pages}
 use Rattle.mk_words.specs.{States.WordsState, Steps.Finds}
-
-pub acting : (p : PassState) (o : Option Op) → IsTurn p o → IsUnplaced p → IsActing p.table.config (now_of p) p.seat
-acting p o turn u = acting_now p o turn (new_is_acting (call_of p) u.new)
-
-pub looked : (p q : PassState) (o : Option Op) (x : Word) → IsTurn p o → IsUnplaced p → is_steady_word x ≡ true
-    → Acts p (Step.Look x) q → Has p.seats p.seat → IsHistory q.table.config q.seen → OnlyLooks p q
-looked p q o x turn u steady a own history =
-    look_reaches p q o x turn (new_is_acting (call_of p) u.new) (steady_is_plain x steady) a
 
 -- Looks leave what was seen.
 
 pub page_kept : (p q : PassState) → OnlyLooks p q → page_of (now_of p).words 0 ≡ page_of (now_of q).words 0
-page_kept p q a = ap (λ (ps : List Page). slice_index_or ps 0 free_page) (sym (looks_pages p q a))
+page_kept p q a = ap (λ (ps : List Page). slice_index_or ps 0 free_page) (sym (looks_pages a))
 
 pub held_kept : (p q : PassState) → OnlyLooks p q → (now_of p).words.held ≡ (now_of q).words.held
 held_kept p q a = sym (ap (λ (x : Steady). x.held) (looks_left p q a).steady)
@@ -33,28 +22,12 @@ phase_kept p q a = sym (ap (λ (x : Steady). x.phase) (looks_left p q a).steady)
 -- There is a first page.
 pub first_page : (p : PassState) (w : WordsState) → p.table ≡ w → IsWithinLimits w.config
     → nat_lt 0 p.table.config.pages ≡ true
-first_page p w table limits =
-    let some = limits.pages.0 in
-    ap (λ (t : WordsState). nat_lt 0 t.config.pages) table ∙ lt-ltb 0 w.config.pages (omega arith)
+first_page p w table limits = grind (arith, lt-ltb)
 
 -- The type of one number exists,
 pub type_exists : (types : List (List Kind)) (ty : ℕ) → kinds_of types ty ≡ Number ∷ [] → ty < length types
-type_exists types ty is = elim (cases_Bool (nat_lt ty (length types))) [
-  | inl inside ↦ ltb-true ty (length types) inside
-  | inr outside ↦
-      let past : length types ≤ ty = ltb-false ty (length types) outside in
-      let none : [] ≡ Number ∷ [] = sym (get_or_past types ty [] past) ∙ is in
-      absurd (cc)
-]
+type_exists types ty is = grind (arith, ltb-true, ltb-false, get_or_past)
 
 -- A turn that is taken at once is taken.
 pub taken_at_once : (p q : PassState) (o : Option Op) → Finds p (Step.Take o) 0 q → TakesTurn p o q
-taken_at_once p q o f = record {
-  waited = p;
-  waits = record {
-    more = [];
-    is = ap (λ (l : List Event). record p { seen = l }) (sym (append-nil p.seen));
-    only = refl;
-  };
-  takes = f;
-}
+taken_at_once p q o f = grind (arith, append-nil)

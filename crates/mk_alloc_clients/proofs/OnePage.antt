@@ -37,13 +37,7 @@ none_behind false = refl
 -- one that is no block of numbers has no place,
 pub other_page_place : (page : Page) → page.header ≢ 0 → page.header ≢ word_of (block_header 0 true)
     → None ≡ place_on page
-other_page_place page some other =
-    none_behind (nat_lt (resident_pages (use_of_page page ∷ [])) 1)
-    ∙ sym (ap (λ (cells : List Bool). place_by cells false (resident_pages (use_of_page page ∷ [])))
-    (cells_under_other page.header page.used 0 true other))
-    ∙ sym (ap (λ (free : Bool). place_by (cells_taken 0 true (use_of_page page)) free
-    (resident_pages (use_of_page page ∷ [])))
-    (taken_under_other page.header page.used some))
+other_page_place page some other = grind (arith, none_behind, place_by, cells_under_other, taken_under_other)
 
 cell_or_none : (here few : Bool) (index : ℕ) → then_some here (at_cell index)
     ≡ or_else (or_else (option_map at_cell (then_some here index)) None) (if few then option_map carved None else None)
@@ -58,10 +52,9 @@ block_place page fits some is =
     let resident = resident_pages (use_of_page page ∷ []) in
     cell_or_none (nat_lt (trailing_ones w64 page.used) 32) (nat_lt resident 1) (trailing_ones w64 page.used)
     ∙ sym (ap (λ (x : Option ℕ). or_else (or_else (option_map at_cell x) None)
-    (if nat_lt resident 1 then option_map carved None else None))
-    (first_where-bits_of 32 page.used (omega arith) fits))
+    (if nat_lt resident 1 then option_map carved None else None)) (first_where-bits_of 32 page.used (omega arith) fits))
     ∙ sym (ap (λ (cells : List Bool). place_by cells false resident)
-    (cells_under_wanted page.header page.used 0 true (omega arith) is))
+    (cells_under_wanted page.used 0 true (omega arith) is))
     ∙ sym (ap (λ (free : Bool). place_by (cells_taken 0 true (use_of_page page)) free resident)
     (taken_under_other page.header page.used some))
 

@@ -1,16 +1,16 @@
 -- A number that a caller owns: what other callers leave of it, and what its own calls do.
 use Rattle.std.proofs.Common.{ltb-false, set}
-use Rattle.mk_laws.proofs.Vocabulary.{AreAdmitted, Bool, Call, Continues, IsAdmitted, IsNumber, IsSound, IsTyped, Kind}
-use Rattle.mk_laws.proofs.Vocabulary.{List, Meets, NeverAllocation as Allocation, NeverState, Null, Num, Number, Op}
-use Rattle.mk_laws.proofs.Vocabulary.{Ptr, Suits, To, Unmapped, Value, WordOf, ℕ, after_calls, allocation_at, ap, arith}
-use Rattle.mk_laws.proofs.Vocabulary.{cases_Bool, false, get_or, get_or-set_same, get_or_past, if◌then◌else◌, inl, inr}
-use Rattle.mk_laws.proofs.Vocabulary.{is_large, kinds_of, length, length-set, ltb-true, nat_lt, no_allocation}
-use Rattle.mk_laws.proofs.Vocabulary.{number_of as number_in, refl, register_at, set_by, subst, sym, target_of}
-use Rattle.mk_laws.proofs.Vocabulary.{with_word, word_at, words_of, [], ◌&&◌, ◌*◌, ◌+◌, ◌<◌, ◌∙◌, ◌∷◌, ◌≡◌, ◌≢◌}
+use Rattle.mk_laws.proofs.Vocabulary.{AreAdmitted, Call, Continues, IsAdmitted, IsNumber, IsSound, IsTyped, Kind, List}
+use Rattle.mk_laws.proofs.Vocabulary.{Meets, NeverAllocation as Allocation, NeverState, Null, Num, Number, Op, Ptr}
+use Rattle.mk_laws.proofs.Vocabulary.{Suits, To, Value, WordOf, ℕ, after_calls, allocation_at, ap, arith, cases_Bool}
+use Rattle.mk_laws.proofs.Vocabulary.{false, get_or, get_or-set_same, get_or_past, inl, inr, kinds_of, length}
+use Rattle.mk_laws.proofs.Vocabulary.{length-set, ltb-true, nat_lt, no_allocation, number_of as number_in, refl}
+use Rattle.mk_laws.proofs.Vocabulary.{register_at, set_by, subst, sym, target_of, with_word, word_at, words_of, [], ◌*◌}
+use Rattle.mk_laws.proofs.Vocabulary.{◌+◌, ◌<◌, ◌∙◌, ◌∷◌, ◌≡◌, ◌≢◌}
 use Rattle.mk_never.proofs.{Edits.exists, Fresh.new_adds, Later.op_stays, Registers.destination, Registers.op_keeps}
+use Rattle.mk_never.specs.Admitted.{IsCaller}
 use Rattle.mk_never.specs.NeverHeap.{after_op, left_at, reply_at, reply_of}
-use Rattle.mk_never.specs.{Admitted.IsCaller, Laws.AreNotBy, Reach.LeadsTo, Types.zero_words}
-use Rattle.mk_never.specs.{declared.operations.Reply.Reply, declared.values.Target.Target}
+use Rattle.mk_never.specs.{Laws.AreNotBy, Reach.LeadsTo, declared.operations.Reply.Reply, declared.values.Target.Target}
 use Rattle.mk_alloc_clients.proofs.Alone.{op_stays_alone, push_keeps, word_alone, zeros_lead_nowhere}
 use Rattle.mk_alloc_clients.specs.Owned.{IsRegisterOf, OwnsNumberIn, number_behind}
 
@@ -35,8 +35,7 @@ keeps_by_other globals n k d c o owns other admitted =
     let there : owns.number < length n.allocations = exists n owns.number 0 owns.some in
     let stays = op_stays_alone n k owns.number owns.alone there c other o admitted.in_range in
     let on : Continues n m = op_stays n c o in
-    let pointer : register_at m k d ≡ Ptr owns.number owns.ty 0 =
-    op_keeps n k c o other (destination n o admitted.in_range) d owns.register ∙ owns.pointer in
+    let pointer : register_at m k d ≡ Ptr owns.number owns.ty 0 = grind (arith, op_keeps, destination) in
     record {
       owns = record {
         caller = subst (λ count. 8 * k + 7 < count) (sym on.registers) owns.caller;
@@ -45,17 +44,15 @@ keeps_by_other globals n k d c o owns other admitted =
         ty = owns.ty;
         pointer = pointer;
         some = subst (λ (a : Allocation). 0 < length a.words) (sym stays.same) owns.some;
-        kind = subst
-            (λ (types : List (List Kind)). IsNumber (get_or (kinds_of types (allocation_at m owns.number).ty) 0 Number))
-            (sym on.types)
-            (subst (λ (a : Allocation). IsNumber (get_or (kinds_of n.types a.ty) 0 Number)) (sym stays.same) owns.kind);
+        kind = subst (λ (types : List (List Kind)). IsNumber (get_or (kinds_of types (allocation_at m owns.number).ty) 0
+            Number)) (sym on.types) (subst (λ (a : Allocation). IsNumber (get_or (kinds_of n.types a.ty) 0 Number))
+            (sym stays.same) owns.kind);
         unfreed = ap (λ (a : Allocation). a.freed) stays.same ∙ owns.unfreed;
         alone = stays.alone;
       };
       same =
-          number_is m k d owns.number owns.ty pointer
-          ∙ ap (λ (a : Allocation). number_in (get_or a.words 0 Null)) stays.same
-          ∙ sym (number_is n k d owns.number owns.ty owns.pointer);
+          number_is m k d owns.number owns.ty pointer ∙ ap (λ (a : Allocation). number_in (get_or a.words 0 Null))
+          stays.same ∙ sym (number_is n k d owns.number owns.ty owns.pointer);
     }
 
 -- and so do all that are of others.
@@ -71,16 +68,12 @@ keeps_by_others globals n k d (x ∷ xs) owns admitted others =
 -- An access by the register gets to the number.
 gets_to : (n : NeverState) (k d : ℕ) (owns : OwnsNumberIn n k d)
     → target_of n (register_at n k d) 0 ≡ WordOf owns.number 0
-gets_to n k d owns =
-    ap (λ (v : Value). target_of n v 0) owns.pointer
-    ∙ ap (λ (b : Bool). if b && is_large (words_of n owns.number) then Unmapped else WordOf owns.number 0) owns.unfreed
+gets_to n k d owns = grind arith
 
 -- So a load is answered by it,
 pub load_replies : (n : NeverState) (k d : ℕ) → OwnsNumberIn n k d
     → reply_of n k (Op.GetNum d 0) ≡ Reply.Num (number_behind n (register_at n k d))
-load_replies n k d owns =
-    ap (λ (t : Target). reply_at t (λ a w. Reply.Num (number_in (word_at n a w)))) (gets_to n k d owns)
-    ∙ ap Reply.Num (sym (number_is n k d owns.number owns.ty owns.pointer))
+load_replies n k d owns = grind (arith, gets_to, number_is)
 
 -- and a store is done,
 pub store_replies : (n : NeverState) (k d x : ℕ) → OwnsNumberIn n k d → reply_of n k (Op.SetNum d 0 x) ≡ Reply.Done
@@ -161,8 +154,7 @@ new_owns globals n k d ty typed caller lt kinds =
     let m : NeverState = after_op n k (Op.New d ty false) in
     let adds = new_adds n k d ty caller lt in
     let on : Continues n m = op_stays n k (Op.New d ty false) in
-    let words : words_of m a ≡ Num 0 ∷ [] = ap (λ (b : Allocation). b.words) adds.made
-    ∙ ap (λ (ks : List Kind). zero_words ks) kinds in
+    let words : words_of m a ≡ Num 0 ∷ [] = grind arith in
     record {
       owns = record {
         caller = subst (λ count. 8 * k + 7 < count) (sym on.registers) caller;
@@ -179,9 +171,8 @@ new_owns globals n k d ty typed caller lt kinds =
               (λ e leads. (omega arith, omega arith))
               (λ leads. absurd (let old = sound_leads n _ a (typed.registers j) leads in omega arith));
           globals = λ g leads. let old = sound_leads n _ a (typed.globals g) leads in omega arith;
-          words = λ from place.
-              push_keeps (λ (x : Allocation). LeadsTo (get_or x.words place Null) a → ⊥) n.allocations _ no_allocation
-              from (zeros_lead_nowhere (kinds_of n.types ty) place a)
+          words = λ from place. push_keeps (λ (x : Allocation). LeadsTo (get_or x.words place Null) a → ⊥) n.allocations
+              _ no_allocation from (zeros_lead_nowhere (kinds_of n.types ty) place a)
               (λ leads. let old = word_leads globals n typed from place a leads in omega arith);
         };
       };

@@ -66,10 +66,7 @@ module _ (p : PassState) (o : Op) (a : Answer) (more : List Event) (once : flagg
   through = before ++ decided.event ∷ []
 
   cut : p.seen ++ more ≡ through ++ decided.behind
-  cut =
-      ap (λ (l : List Event). p.seen ++ l) decided.is
-      ∙ sym (append_assoc p.seen decided.before (decided.event ∷ decided.behind))
-      ∙ sym (append_assoc before (decided.event ∷ []) decided.behind)
+  cut = grind (arith, append_assoc, before)
 
   whole : IsHistory c (through ++ decided.behind)
   whole = subst (λ (l : List Event). IsHistory c l) cut history
@@ -133,12 +130,7 @@ module _ (p : PassState) (o : Op) (a : Answer) (more : List Event) (once : flagg
     -- So it has the number that the operation leaves.
     pub number_left : (n : ℕ) → HasStored k d n (after_op (never_behind c before) k o)
         → HasNumber (record p { seen = p.seen ++ more }) d n
-    number_left n stored =
-        let here : HasStored k d n (never_behind c through) =
-        subst (λ (m : NeverState). HasStored k d n m) (sym never_through) stored in
-        let keeps = kept_later here.owns in
-        subst (λ (l : List Event). HasNumber (record p { seen = l }) d n) (sym cut)
-        (record { owns = keeps.owns; is = keeps.same ∙ here.stored })
+    number_left n stored = grind (arith, through, never_through, kept_later, cut)
 
 -- A store is done, and the number is that one;
 pub record IsStored (a : Answer) (q : PassState) (d n : ℕ) : Type 0 where
@@ -212,10 +204,7 @@ pub held_keeps : {p q : PassState} {o : Op} (d : ℕ) → OwnsNumber p d → IsH
 held_keeps {p} {q} {o} d owns h f =
     let more : List Event = f.finds.makes.others ++ event_of p (Step.Enter o) ∷ [] in
     let c : Config = p.table.config in
-    let is : q ≡ record p { seen = p.seen ++ more } =
-    f.finds.makes.is
-    ∙ ap (λ (l : List Event). record p { seen = l })
-    (append_assoc p.seen f.finds.makes.others (event_of p (Step.Enter o) ∷ [])) in
+    let is : q ≡ record p { seen = p.seen ++ more } = grind (arith, append_assoc) in
     let whole : IsHistory c (p.seen ++ more) = subst (λ (r : PassState). IsHistory r.table.config r.seen) is h in
     let none : calls_by (caller_of_pass p) (calls_from c (left c p.seen) more) ≡ [] =
     same_last (own_calls p p.seen) (calls_by (caller_of_pass p) (calls_from c (left c p.seen) more)) []
@@ -244,20 +233,10 @@ granted p d ty more history entry decided kinds =
 -- Its caller may store and load.
 
 pub may_store : (p : PassState) (d n : ℕ) → OwnsNumber p d → Admits p (Op.SetNum d 0 n)
-may_store p d n owns = record {
-  of_a_caller = owns.caller;
-  in_range = owns.register;
-  access = access_admitted (never_of p) (caller_of_pass p) d owns;
-  store = tt;
-}
+may_store p d n owns = grind (arith, access_admitted)
 
 pub may_load : (p : PassState) (d : ℕ) → OwnsNumber p d → Admits p (Op.GetNum d 0)
-may_load p d owns = record {
-  of_a_caller = owns.caller;
-  in_range = owns.register;
-  access = access_admitted (never_of p) (caller_of_pass p) d owns;
-  store = tt;
-}
+may_load p d owns = grind (arith, access_admitted)
 
 -- Events of others keep it.
 pub owned_numbers_stay : OwnedNumbersStay
@@ -287,21 +266,7 @@ pub both_done : (p b q : PassState) (d n : ℕ) (r : Result ℕ Held) → Called
     → IfOk r (λ x. x ≡ n) → IfOk r (λ x. Called b (Op.GetNum d 0) (Answer.Num x) q)
     → OnOk r (own_calls q q.seen ≡ own_calls p p.seen ++ store_then_load (caller_of_pass p) d n)
 both_done p b q d n (Err e) set is get = tt
-both_done p b q d n (Ok x) set is get =
-    entry_now b q get.more _ get.is get.entry
-    ∙ ap (λ (k : ℕ). own_calls b b.seen ++ record { caller = k; op = Op.GetNum d 0; answer = Answer.Num x } ∷ [])
-    (ap (λ (r : PassState). caller_of_pass r) set.is)
-    ∙ ap (λ (y : ℕ). own_calls b b.seen
-    ++ record { caller = caller_of_pass p; op = Op.GetNum d 0; answer = Answer.Num y } ∷ []) is
-    ∙ ap (λ (l : List Decided). l ++ record {
-      caller = caller_of_pass p;
-      op = Op.GetNum d 0;
-      answer = Answer.Num n;
-    } ∷ [])
-    (entry_now p b set.more _ set.is set.entry)
-    ∙ append_assoc (own_calls p p.seen)
-    (record { caller = caller_of_pass p; op = Op.SetNum d 0 n; answer = Answer.Done } ∷ [])
-    (record { caller = caller_of_pass p; op = Op.GetNum d 0; answer = Answer.Num n } ∷ [])
+both_done p b q d n (Ok x) set is get = grind (arith, entry_now, append_assoc)
 
 -- after what was done before
 pub done_behind : (l l1 l2 : List Decided) (x : Decided) (xs : List Decided) → l1 ≡ l ++ x ∷ [] → l2 ≡ l1 ++ xs

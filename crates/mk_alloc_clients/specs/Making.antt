@@ -22,15 +22,18 @@ use Rattle.mk_alloc_clients.specs.Owned.{OwnsNumber}
 abbrev pub one_number : Object
 one_number = record { words = 1; leaf = true }
 
--- The pass is that of a caller at rest, on a heap of one page. It has no other seat, and the type is that of one
--- number.
-pub record MayMakeNumber (p : PassState) (d ty : ℕ) : Type 0 where
-  pub idle : IsIdleCaller p
+-- The pass is that of a caller on a heap of one page. It has no other seat, and the type is that of one number.
+pub record SuitsNumber (p : PassState) (d ty : ℕ) : Type 0 where
   pub exists : caller_of_pass p < p.table.config.callers
   pub alone : p.seats ≡ p.seat ∷ []
   pub one_page : p.table.config.pages ≡ 1
   pub register : d < 8
   pub number : kinds_of p.table.config.types ty ≡ Number ∷ []
+
+-- Its caller is at rest.
+pub record MayMakeNumber (p : PassState) (d ty : ℕ) : Type 0 where
+  pub idle : IsIdleCaller p
+  pub suits : SuitsNumber p d ty
 
 -- The turn was taken for the operation, and first fit has no place: its holder has only looked.
 pub record FindsNoRoom (p : PassState) (o : Op) (t : TurnState) : Type 0 where

@@ -1,12 +1,9 @@
 //! An object of one number, made by the steps of a turn.
-ghost use Rattle.std.specs.Prelude.{◌≡◌, ◌<◌, ◌∷◌, [], Bool, OnOk, IfErr, true, false};
+ghost use Rattle.std.specs.Prelude.{◌≡◌, Bool, OnOk, IfErr, true, false};
 ghost use Rattle.mk_never.specs.declared.operations.Op.TheVariants as op;
-ghost use Rattle.mk_never.specs.declared.types.Kind.TheVariants as kind;
-ghost use Rattle.mk_never.specs.Types.{kinds_of};
 ghost use Rattle.mk_core.specs.declared.events.Answer.TheVariants as answer;
-ghost use Rattle.mk_caller.specs.States.{caller_of_pass};
 ghost use Rattle.mk_alloc.specs.TurnCalls.{CalledInTurn};
-ghost use Rattle.mk_alloc_clients.specs.Making.{IsUnmade};
+ghost use Rattle.mk_alloc_clients.specs.Making.{IsUnmade, SuitsNumber};
 ghost use Rattle.mk_alloc_clients.specs.Owned.{HasNumber};
 
 use crate::outcomes::Unmade;
@@ -17,11 +14,7 @@ use mk_never::Op;
 /// Creates an object of one number by the steps of a turn, in a heap of one page.
 pub fn make_number(caller: &mut Caller, d: u8, ty: u64) -> Result<(), Unmade>
     requires home { caller.old.home ≡ true }
-    requires exists { caller_of_pass caller.old.pass < caller.old.pass.table.config.callers }
-    requires alone { caller.old.pass.seats ≡ caller.old.pass.seat ∷ [] }
-    requires one_page { caller.old.pass.table.config.pages ≡ 1 }
-    requires register { d < 8 }
-    requires number { kinds_of caller.old.pass.table.config.types ty ≡ kind.Num ∷ [] }
+    requires suits { SuitsNumber caller.old.pass d ty }
     ensures home { OnOk result (caller.new.home ≡ true) }
     ensures made { OnOk result ((on : Bool) →
         CalledInTurn on caller.old.pass (op.New d ty false) answer.Done caller.new.pass) }

@@ -1,13 +1,11 @@
 //! A number that a caller owns: storing and loading it, whatever other threads do.
-ghost use Rattle.std.specs.Prelude.{◌≡◌, ◌<◌, ◌∷◌, ◌++◌, [], IfOk, OnOk, OnErr, IfErr, true};
+ghost use Rattle.std.specs.Prelude.{◌≡◌, ◌<◌, ◌++◌, IfOk, OnOk, OnErr, IfErr, true};
 ghost use Rattle.mk_never.specs.declared.operations.Op.TheVariants as op;
-ghost use Rattle.mk_never.specs.declared.types.Kind.TheVariants as kind;
-ghost use Rattle.mk_never.specs.Types.{kinds_of};
 ghost use Rattle.mk_core.specs.declared.events.Answer.TheVariants as answer;
 ghost use Rattle.mk_caller.specs.States.{caller_of_pass};
 ghost use Rattle.mk_caller.specs.Called.{Called, own_calls};
 ghost use Rattle.mk_caller.specs.Causes.{FindsGateHeld};
-ghost use Rattle.mk_alloc_clients.specs.Making.{EndsEarly, new_store_load, store_then_load};
+ghost use Rattle.mk_alloc_clients.specs.Making.{EndsEarly, SuitsNumber, new_store_load, store_then_load};
 ghost use Rattle.mk_alloc_clients.specs.Owned.{HasNumber, OwnsNumber, number_owned};
 
 use crate::making::make_number;
@@ -77,11 +75,7 @@ pub fn store_and_load(caller: &mut Caller, d: u8, n: u64) -> Result<u64, Held>
 /// did.
 pub fn number_in_new_object(caller: &mut Caller, d: u8, ty: u64, n: u64) -> Result<u64, Unfinished>
     requires home { caller.old.home ≡ true }
-    requires exists { caller_of_pass caller.old.pass < caller.old.pass.table.config.callers }
-    requires alone { caller.old.pass.seats ≡ caller.old.pass.seat ∷ [] }
-    requires one_page { caller.old.pass.table.config.pages ≡ 1 }
-    requires register { d < 8 }
-    requires number { kinds_of caller.old.pass.table.config.types ty ≡ kind.Num ∷ [] }
+    requires suits { SuitsNumber caller.old.pass d ty }
     ensures loaded { IfOk result (λ loaded. loaded ≡ n) }
     ensures did { OnOk result (own_calls caller.new.pass caller.new.pass.seen
         ≡ own_calls caller.old.pass caller.old.pass.seen ++ new_store_load (caller_of_pass caller.old.pass) d ty n) }

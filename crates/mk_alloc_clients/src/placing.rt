@@ -2,19 +2,18 @@
 ghost use Rattle.std.specs.Prelude.{◌≡◌, ◌<◌, ◌==◌, ◌%◌, ◌^◌, ◌∷◌, [], true, false};
 ghost use Rattle.mk_core.specs.Calls.{d_of};
 ghost use Rattle.mk_core.specs.NewPlaces.{base_made, header_made};
-ghost use Rattle.mk_core.specs.Ranges.{is_word};
-ghost use Rattle.mk_core.specs.Words.{header_at, named_word, page_of, phase_of};
+ghost use Rattle.mk_core.specs.Words.{header_at, page_of, phase_of};
 ghost use Rattle.mk_geom.specs.Addresses.{address_of};
 ghost use Rattle.mk_geom.specs.PageUses.{small_place};
 ghost use Rattle.mk_geom.specs.PageWords.{use_of_page};
 ghost use Rattle.mk_words.specs.States.{call_of, now_of};
-ghost use Rattle.mk_objects.specs.Looking.{is_steady_word};
 ghost use Rattle.mk_objects.specs.Placing.{FitsNowhere, GoesTo, HasCarved, HeldIsExact, IsGranted, IsPlaced};
 ghost use Rattle.mk_objects.specs.Placing.{IsUnplaced, MayTake, OnlyLooks, object_for};
 ghost use Rattle.mk_alloc_clients.specs.Making.{one_number};
 
-use mk_core::{Phase, Tally, Word};
+use mk_core::{Tally, Word};
 use mk_geom::{HEAP_START, Header, PAGE_WORDS, Page, Place, WORD_BYTES, encode};
+use mk_objects::{is_marking, look_at};
 use mk_words::{Turn, Words};
 
 /// The class of the cells of one number, how many a block has, their bits, and how many words each has.
@@ -32,35 +31,6 @@ struct Seen {
     page: Page,
     held: u64,
     marking: bool,
-}
-
-/// Looks at a word that none but the holder changes.
-fn look_at(words: &Words, turn: &mut Turn, word: Word) -> u64
-    requires one_table { turn.old.pass.table ≡ words.now }
-    requires unplaced { IsUnplaced turn.old.pass }
-    requires steady { is_steady_word word ≡ true }
-    requires in_range { is_word turn.old.pass.table.config word ≡ true }
-    ensures op { turn.new.op ≡ turn.old.op }
-    ensures looks { OnlyLooks turn.old.pass turn.new.pass }
-    ensures unplaced { IsUnplaced turn.new.pass }
-    ensures finds { result ≡ named_word (now_of turn.old.pass).words word }
-{
-    turn.is_in_order();
-    let found = turn.look(words, word);
-    found
-}
-
-/// Looks whether a cycle marks.
-fn is_marking(words: &Words, turn: &mut Turn) -> bool
-    requires one_table { turn.old.pass.table ≡ words.now }
-    requires unplaced { IsUnplaced turn.old.pass }
-    ensures op { turn.new.op ≡ turn.old.op }
-    ensures looks { OnlyLooks turn.old.pass turn.new.pass }
-    ensures finds { result ≡ (phase_of (now_of turn.old.pass).words == 1) }
-{
-    turn.is_in_order();
-    let found = turn.look(words, Word::Phase);
-    Phase::Marking.is_in(found)
 }
 
 /// Looks round.

@@ -1,8 +1,8 @@
 -- The free cells of each class, page by page.
-use Rattle.std.proofs.Common.{Bool, List, None, Option, Some, ℕ, add-zero, ap, arith, count_by, eq-eqb, false, get_or}
+use Rattle.std.proofs.Common.{Bool, List, None, Option, Some, ℕ, ap, arith, count_by, eq-eqb, false, get_or}
 use Rattle.std.proofs.Common.{get_or-set_other, get_or-set_same, if◌then◌else◌, inl, inr, length, length-set}
-use Rattle.std.proofs.Common.{length-take-le, map, nat_eq, ne_eqb, not, refl, set, suc, sym, take, true, zero, [], ◌&&◌}
-use Rattle.std.proofs.Common.{◌*◌, ◌++◌, ◌+◌, ◌-◌, ◌<◌, ◌^◌, ◌∙◌, ◌∷◌, ◌≡◌, ◌≢◌, ◌≤◌}
+use Rattle.std.proofs.Common.{length-take-le, map, nat_eq, ne_eqb, not, refl, set, suc, sym, take, true, zero, [], ◌*◌}
+use Rattle.std.proofs.Common.{◌++◌, ◌+◌, ◌-◌, ◌<◌, ◌^◌, ◌∙◌, ◌∷◌, ◌≡◌, ◌≢◌, ◌≤◌}
 use Rattle.std.proofs.lemmas.List.{get_or-append_right, get_or_append_left, map_more, same_lists, set-append_left}
 use Rattle.std.proofs.lemmas.List.{set-append_right}
 use Rattle.std.proofs.lemmas.List.FromFn.{get_or-map-range_with_len, length-map-range_with_len}
@@ -36,8 +36,7 @@ map_range-set f g n k y within here others =
 free_cells_among-push : (leaf : Bool) (pages : List PageUse) (page : PageUse) (class : ℕ)
     → free_cells_among leaf (pages ++ page ∷ []) class ≡ free_cells_among leaf pages class
     + count_by not (cells_taken class leaf page)
-free_cells_among-push leaf pages page class =
-    sum_by_push (λ page. count_by not (cells_taken class leaf page)) pages page
+free_cells_among-push leaf pages page class = grind (arith, sum_by_push)
 
 length-free_cells_of_sort : (leaf : Bool) (pages : List PageUse) → length (free_cells_of_sort leaf pages) ≡ 8
 length-free_cells_of_sort leaf pages = length-map-range_with_len (free_cells_among leaf pages) 0 8
@@ -73,38 +72,20 @@ same_flags false false same = refl
 pub cells_taken_alike : (page : PageUse) (class class' : ℕ) (leaf leaf' : Bool) (used : ℕ)
     → page ≡ Cells class' leaf' (bits_of (cells_of class') used) → class' ≡ class → leaf' ≡ leaf
     → cells_taken class leaf page ≡ bits_of (cells_of class) used
-cells_taken_alike page class class' leaf leaf' used stands same_class' same_sort' =
-    ap (cells_taken class leaf) (stands
-    ∙ λ i. Cells (same_class' i) (same_sort' i) (bits_of (cells_of (same_class' i)) used))
-    ∙ same_class leaf (bits_of (cells_of class) used) class
+cells_taken_alike page class class' leaf leaf' used stands same_class' same_sort' = grind (arith, same_class)
 
 -- one page more that has cells of the sort
 of_sort-push : (leaf : Bool) (pages : List PageUse) (class : ℕ) (taken : List Bool) → class < 8
     → free_cells_of_sort leaf (pages ++ Cells class leaf taken ∷ [])
     ≡ set (free_cells_of_sort leaf pages) class (get_or (free_cells_of_sort leaf pages) class 0 + count_by not taken)
 of_sort-push leaf pages class taken within =
-    let page = Cells class leaf taken in
-    map_range-set (free_cells_among leaf pages) (free_cells_among leaf (pages ++ page ∷ [])) 8 class
-    (get_or (free_cells_of_sort leaf pages) class 0 + count_by not taken) within
-    (free_cells_among-push leaf pages page class
-    ∙ ap (λ cells. free_cells_among leaf pages class + count_by not cells) (same_class leaf taken class)
-    ∙ ap (λ count. count + count_by not taken) (sym (get_or-free_cells_of_sort leaf pages class 0 within)))
-    (λ other differ.
-    free_cells_among-push leaf pages page other
-    ∙ ap (λ cells. free_cells_among leaf pages other + count_by not cells) (other_class leaf taken class other differ)
-    ∙ add-zero (free_cells_among leaf pages other))
+    grind (arith, map_range-set, free_cells_among-push, same_class, get_or-free_cells_of_sort, other_class)
 
 -- one page more that has none of the sort's cells
 of_sort-push_other : (leaf : Bool) (pages : List PageUse) (page : PageUse)
     → ((class : ℕ) → cells_taken class leaf page ≡ [])
     → free_cells_of_sort leaf (pages ++ page ∷ []) ≡ free_cells_of_sort leaf pages
-of_sort-push_other leaf pages page none =
-    let same : (class : ℕ) → free_cells_among leaf (pages ++ page ∷ []) class ≡ free_cells_among leaf pages class
-    = λ class.
-    free_cells_among-push leaf pages page class
-    ∙ ap (λ cells. free_cells_among leaf pages class + count_by not cells) (none class)
-    ∙ add-zero (free_cells_among leaf pages class) in
-    λ i. map (λ class. same class i) (range_with_len 0 8)
+of_sort-push_other leaf pages page none = grind (arith, free_cells_among-push)
 
 -- a list of two parts of 8, at a place of each
 back : (class : ℕ) → 8 + class - 8 ≡ class
@@ -113,8 +94,7 @@ back class = omega arith
 get_or-halves : (blocks leaves : List ℕ) (class : ℕ) (leaf : Bool) → length blocks ≡ 8 → class < 8
     → get_or (blocks ++ leaves) (class_place class leaf) 0 ≡ get_or (if leaf then leaves else blocks) class 0
 get_or-halves blocks leaves class false long within = get_or_append_left blocks leaves 0 class (omega arith)
-get_or-halves blocks leaves class true long within =
-    cc (get_or-append_right blocks leaves 8 (8 + class) 0 long (omega arith), back class)
+get_or-halves blocks leaves class true long within = grind (arith, get_or-append_right, back)
 
 set-halves : (blocks leaves : List ℕ) (class y : ℕ) (leaf : Bool) → length blocks ≡ 8 → class < 8
     → set (blocks ++ leaves) (class_place class leaf) y
@@ -152,11 +132,7 @@ by_class-push pages class true taken within =
 -- one page more, and no block
 by_class-push_other : (pages : List PageUse) (page : PageUse) → HasNoCells page
     → free_cells_by_class (pages ++ page ∷ []) ≡ free_cells_by_class pages
-by_class-push_other pages page none =
-    ap (λ rest. free_cells_of_sort false (pages ++ page ∷ []) ++ rest)
-    (of_sort-push_other true pages page (λ class. none class true))
-    ∙ ap (λ front. front ++ free_cells_of_sort true pages)
-    (of_sort-push_other false pages page (λ class. none class false))
+by_class-push_other pages page none = grind (arith, of_sort-push_other)
 
 get_or-by_class : (pages : List PageUse) (class : ℕ) (leaf : Bool) → class < 8
     → get_or (free_cells_by_class pages) (class_place class leaf) 0 ≡ free_cells_among leaf pages class
@@ -189,12 +165,10 @@ length-cells_taken-le : (class : ℕ) (leaf : Bool) (header : Option Header) (us
     → length (cells_taken class leaf (use_under header used)) ≤ 32
 length-cells_taken-le class leaf None used = omega arith
 length-cells_taken-le class leaf (Some Free) used = omega arith
-length-cells_taken-le class leaf (Some (Block other)) used =
-    cells_if (nat_eq class other && is_same_sort leaf false) (cells_of other) used (cells_of-le other)
+length-cells_taken-le class leaf (Some (Block other)) used = grind (arith, cells_if, cells_of-le)
 length-cells_taken-le class leaf (Some (Run pages mapped)) used = omega arith
 length-cells_taken-le class leaf (Some (Later distance mapped)) used = omega arith
-length-cells_taken-le class leaf (Some (LeafBlock other)) used =
-    cells_if (nat_eq class other && is_same_sort leaf true) (cells_of other) used (cells_of-le other)
+length-cells_taken-le class leaf (Some (LeafBlock other)) used = grind (arith, cells_if, cells_of-le)
 length-cells_taken-le class leaf (Some (LeafRun pages)) used = omega arith
 
 -- the free cells of one page more are at most 32
@@ -221,6 +195,13 @@ pub record AtBlock (pages : List Page) (i : ℕ) (counts : List ℕ) (class : �
   pub counted : counts ≡ free_cells_by_class (uses_of_pages (take i pages))
   pub placed : place ≡ class_place class leaf
   pub added : count ≡ count_by not (bits_of (cells_of class) page.used)
+
+pub at_block : {pages : List Page} {i : ℕ} {counts : List ℕ} {class : ℕ} {leaf : Bool} {page : Page} {place count : ℕ}
+    → i < length pages → page ≡ get_or pages i page → class < 8
+    → use_of_page page ≡ Cells class leaf (bits_of (cells_of class) page.used)
+    → counts ≡ free_cells_by_class (uses_of_pages (take i pages)) → place ≡ class_place class leaf
+    → count ≡ count_by not (bits_of (cells_of class) page.used) → AtBlock pages i counts class leaf page place count
+at_block within here known stands counted placed added = grind arith
 
 -- the count of the class fits 64 bits, where the pages lie in memory
 pub room_for_block : (pages : List Page) (i : ℕ) (counts : List ℕ) (class : ℕ) (leaf : Bool) (page : Page)

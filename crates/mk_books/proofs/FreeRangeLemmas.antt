@@ -1,7 +1,7 @@
 -- Ranges of free pages, page by page.
 use Rattle.std.proofs.Common.{Bool, List, None, Option, Some, ℕ, ap, arith, drop, drop-drop, false, get_or}
-use Rattle.std.proofs.Common.{if◌then◌else◌, le-leb, length, length-drop, max, option_map, refl, suc, true, zero}
-use Rattle.std.proofs.Common.{zero-add, [], ◌+◌, ◌-◌, ◌<◌, ◌∙◌, ◌∷◌, ◌≡◌, ◌≤◌}
+use Rattle.std.proofs.Common.{if◌then◌else◌, le-leb, length, length-drop, max, option_map, refl, suc, true, zero, []}
+use Rattle.std.proofs.Common.{◌+◌, ◌-◌, ◌<◌, ◌∙◌, ◌∷◌, ◌≡◌, ◌≤◌}
 use Rattle.std.proofs.{lemmas.Bool.lt-leb, lemmas.List.at_drop_more, lemmas.List.drop-map, lemmas.List.length-map}
 use Rattle.std.specs.Option.{option_or}
 use Rattle.mk_geom.specs.PageUses.{PageUse, free_range, is_free_page, longest_free_range, range_start}
@@ -119,8 +119,7 @@ range_start_from-skip range n count pages begun within ends short =
 
 range_start_from-here : (range count : ℕ) (pages : List Page) → 1 ≤ count → count ≤ free_range_from range pages
     → range_start_from range count pages ≡ Some range
-range_start_from-here range count pages some long =
-    cc (range_start-here count (uses_of_pages (drop range pages)) some long, zero-add range)
+range_start_from-here range count pages some long = grind (arith, range_start-here)
 
 range_start_from-end : (range count : ℕ) (pages : List Page) → range ≤ length pages → length pages < range + count
     → range_start_from range count pages ≡ None
@@ -134,8 +133,7 @@ range_start_from-end range count pages begun short =
 pub first-skip : (first : Option ℕ) (range n count : ℕ) (pages : List Page) → range ≤ n → n < length pages
     → free_range_from range pages + range ≡ n → (first ≡ None → n < range + count)
     → option_or first (range_start_from range count pages) ≡ option_or first (range_start_from (n + 1) count pages)
-first-skip None range n count pages begun within ends short =
-    range_start_from-skip range n count pages begun within ends (short refl)
+first-skip None range n count pages begun within ends short = grind (arith, range_start_from-skip)
 first-skip (Some first) range n count pages begun within ends short = refl
 
 pub first-here : (first : Option ℕ) (range count : ℕ) (pages : List Page) → 1 ≤ count

@@ -27,10 +27,7 @@ all_three a b c a_bit b_bit c_bit = (λ one. (omega arith, omega arith, omega ar
 
 pub freeable_cells-is : (used quar mark k : ℕ) → mark < 2 ^ 64 → k < 32
     → (bit_at (freeable_cells used quar mark) k ≡ 1) ↔ IsFreeable used quar mark k
-freeable_cells-is used quar mark k fits within =
-    rw (bit_at-freeable_cells used quar mark k fits (omega arith))
-    (all_three (bit_at used k) (bit_at quar (32 + k)) (bit_at mark k) (bit_at-lt used k) (bit_at-lt quar (32 + k))
-    (bit_at-lt mark k))
+freeable_cells-is used quar mark k fits within = grind (arith, bit_at-freeable_cells, all_three, bit_at-lt)
 
 pub freeable_cells-none : (used quar mark k : ℕ) → quar < 2 ^ 64 → 32 ≤ k → bit_at (freeable_cells used quar mark) k ≡ 0
 freeable_cells-none used quar mark k fits above =

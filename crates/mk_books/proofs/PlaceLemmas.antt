@@ -24,9 +24,7 @@ free_page_from n pages = option_map (λ page. page + n) (first_where is_free_pag
 place_behind-suc : (n : ℕ) (place : Option Place)
     → option_map (place_behind n) (option_map page_behind place) ≡ option_map (place_behind (n + 1)) place
 place_behind-suc n None = refl
-place_behind-suc n (Some place) =
-    let same : place.page + 1 + n ≡ place.page + (n + 1) = omega arith in
-    ap (λ page. Some (record place { page = page })) same
+place_behind-suc n (Some place) = grind arith
 
 behind-suc : (n : ℕ) (page : Option ℕ)
     → option_map (λ page. page + n) (option_map (λ page. page + 1) page) ≡ option_map (λ page. page + (n + 1)) page

@@ -1,7 +1,7 @@
 -- The low bits of a used word.
 use Rattle.std.proofs.Common.{Bool, List, ℕ, ap, arith, bit_and, cond, count_by, count_ones, eq-eqb, false, get_or, inl}
-use Rattle.std.proofs.Common.{inr, le-ltb, length, lt-ltb, map-id, min, nat_eq, nat_lt, not, refl, suc, sym, true, w64}
-use Rattle.std.proofs.Common.{zero, [], ◌+◌, ◌-◌, ◌<◌, ◌^◌, ◌∙◌, ◌∷◌, ◌≡◌, ◌≤◌}
+use Rattle.std.proofs.Common.{inr, le-ltb, length, lt-ltb, map-id, min, nat_eq, nat_lt, not, refl, suc, sym, w64, zero}
+use Rattle.std.proofs.Common.{[], ◌+◌, ◌-◌, ◌<◌, ◌^◌, ◌∙◌, ◌∷◌, ◌≡◌, ◌≤◌}
 use Rattle.std.proofs.lemmas.List.FromFn.{get_or-map-range_with_len, length-map-range_with_len}
 use Rattle.std.proofs.lemmas.Nat.Bits.{bit_at-lt, bit_at-trailing_ones, bit_at_and, bit_at_ones, bit_at_ones_above}
 use Rattle.std.proofs.lemmas.Nat.Bits.{same_from_bits}
@@ -17,8 +17,7 @@ pub length-bits_of : (count used : ℕ) → length (bits_of count used) ≡ coun
 length-bits_of count used = length-map-range_with_len (λ k. nat_eq (bit_at used k) 1) 0 count
 
 get_or-bits_of : (count used k : ℕ) (d : Bool) → k < count → get_or (bits_of count used) k d ≡ nat_eq (bit_at used k) 1
-get_or-bits_of count used k d within = get_or-map-range_with_len (λ k. nat_eq (bit_at used k) 1) 0 count k k d within
-    (omega arith)
+get_or-bits_of count used k d within = grind (arith, get_or-map-range_with_len)
 
 -- `trailing_ones` is the place of the lowest 0, if there is one
 record LowestZero (word place : ℕ) : Type 0 where
@@ -47,10 +46,7 @@ first_where-bits_of count word short fits =
     let lowest = trailing_ones_is word fits in
     let bits = bits_of count word in
     let taken : (k : ℕ) → k < place → k < count → not (get_or bits k false) ≡ false
-    = λ k lower within. rw (
-      get_or-bits_of count word k false within,
-      eq-eqb (bit_at word k) 1 (lowest.below k lower (omega arith)),
-    ) in
+    = grind (arith, get_or-bits_of, eq-eqb) in
     elim (cases_lt place count) [
       | inl within ↦
           rw (lt-ltb place count within)
@@ -71,18 +67,18 @@ bit_is (suc n) bit = let none : n ≡ 0 = omega arith in rw none
 -- the bits of the word, as a mask has them
 masked : (count word k : ℕ) → bit_at (bit_and word (2 ^ count - 1)) k ≡ cond (get_or (bits_of count word) k false) 1 0
 masked count word k =
-    bit_at_and word (2 ^ count - 1) k
-    ∙ elim (cases_lt k count) [
-      | inl within ↦
-          ap (min (bit_at word k)) (bit_at_ones count k within)
-          ∙ bit_is (bit_at word k) (bit_at-lt word k)
-          ∙ ap (λ b. cond b 1 0) (sym (get_or-bits_of count word k false within))
-      | inr past ↦
-          ap (min (bit_at word k)) (bit_at_ones_above count k past)
-          ∙ (let none : min (bit_at word k) 0 ≡ 0 = omega arith in none)
-          ∙ ap (λ b. cond b 1 0)
-          (sym (get_or_past (bits_of count word) k false (omega (arith, length-bits_of count word))))
-    ]
+    grind (
+      arith,
+      bit_at_and,
+      cases_lt,
+      bit_at_ones,
+      bit_is,
+      bit_at-lt,
+      get_or-bits_of,
+      bit_at_ones_above,
+      get_or_past,
+      length-bits_of,
+    )
 
 pub count_ones-masked : (count word : ℕ)
     → count_ones (bit_and word (2 ^ count - 1)) ≡ count_by (λ bit. bit) (bits_of count word)
@@ -96,8 +92,7 @@ count_ones-masked count word =
 count_by-others : (bits : List Bool) → count_by not bits + count_by (λ bit. bit) bits ≡ length bits
 count_by-others [] = refl
 count_by-others (bit ∷ bits) =
-    let here : cond (not bit) 1 0 + cond bit 1 0 ≡ 1 =
-    elim bit as (λ b. cond (not b) 1 0 + cond b 1 0 ≡ 1) [ true ↦ refl | false ↦ refl ] in
+    let here : cond (not bit) 1 0 + cond bit 1 0 ≡ 1 = grind arith in
     omega (
       arith,
       here,

@@ -33,21 +33,20 @@ pub refuses : {p q r : PassState} (d : ℕ) → (call_of p).stage ≡ stage_refu
     (progress_reg (call_of p) (call_of p).stage 0).flight q
     → IsAtFlight q (call_of q).op (Step.Leave ∷ []) None at_rest r
     → IsAtFlight p (call_of p).op (refused_steps (call_of p).op) None at_rest r
-refuses {p} {q} {r} d at is a b =
+refuses {p} {r} d at is a b =
     let put : stage_refused (call_of p).op ≡ Stage.Put = (refused_puts (call_of p).op d is).0 in
     let here : (call_of p).stage ≡ Stage.Put = at ∙ put in
     subst (λ (s : Stage). IsAtFlight p (call_of p).op (map step_at (refused_from s)) None at_rest r) (sym put)
-    (subst (λ (s : Stage). IsAtFlight p (call_of p).op (Step.Reg ∷ Step.Leave ∷ []) (progress_reg (call_of p) s
-    0).answer
-    at_rest r) here
-    (stores_and_leaves 0 (ap (λ (s : Stage). stores_register s) here) a b))
+    (subst (λ (s : Stage). IsAtFlight p (call_of p).op (Step.Reg ∷ Step.Leave ∷ [])
+    (progress_reg (call_of p) s 0).answer at_rest r) here (stores_and_leaves 0
+    (ap (λ (s : Stage). stores_register s) here) a b))
 
 loaded : {p q r : PassState} {o : Op} (u : ℕ) (x : Progress) → progress_reg (begun o) (begun o).stage u ≡ x
     → IsAtFlight p o (Step.Enter o ∷ []) None (begun o) q
     → IsAtFlight q (call_of q).op (Step.Reg ∷ []) (progress_reg (call_of q) (call_of q).stage u).answer
     (progress_reg (call_of q) (call_of q).stage u).flight r
     → IsAtFlight p o (Step.Enter o ∷ Step.Reg ∷ []) x.answer x.flight r
-loaded {p} {q} {r} {o} u x is a b =
+loaded {p} {r} {o} u x is a b =
     subst (λ (y : Progress). IsAtFlight p o (Step.Enter o ∷ Step.Reg ∷ []) y.answer y.flight r) is
     (go a (λ (f : Flight). progress_reg f f.stage u) refl b)
 
@@ -56,7 +55,7 @@ pub begins : {p q r : PassState} {o : Op} (u : ℕ) → is_access o ≡ true →
     → IsAtFlight q (call_of q).op (Step.Reg ∷ []) (progress_reg (call_of q) (call_of q).stage u).answer
     (progress_reg (call_of q) (call_of q).stage u).flight r
     → IsAtFlight p o (Step.Enter o ∷ Step.Reg ∷ []) None (behind_q o u) r
-begins {p} {q} {r} {o} u access ne a b = loaded u (onward (record (begun o) { q = u }) None)
+begins {q} {o} u access ne a b = loaded u (onward (record (begun o) { q = u }) None)
     (access_finds_some o u access ne) a b
 
 pub null_ends : {p q r s : PassState} {o : Op} (u : ℕ) → is_access o ≡ true → u ≡ 0
@@ -64,7 +63,7 @@ pub null_ends : {p q r s : PassState} {o : Op} (u : ℕ) → is_access o ≡ tru
     → IsAtFlight q (call_of q).op (Step.Reg ∷ []) (progress_reg (call_of q) (call_of q).stage u).answer
     (progress_reg (call_of q) (call_of q).stage u).flight r
     → IsAtFlight r (call_of r).op (refused_steps (call_of r).op) None at_rest s → Called p o Answer.Null s
-null_ends {p} {q} {r} {s} {o} u access zero a b e =
+null_ends {q} {r} {s} {o} u access zero a b e =
     let x = loaded u (refused (record (begun o) { q = 0 }) Answer.Null)
     (ap (λ n. progress_reg (begun o) (begun o).stage n) zero ∙ access_finds_null o access) a b in
     let same : (call_of r).op ≡ o = ap (λ (f : Flight). f.op) x.call in

@@ -1,8 +1,8 @@
 -- What a call leaves in its caller's registers.
-use Rattle.mk_laws.proofs.Vocabulary.{Answer, Bool, List, NeverState, Null, Num, Op, Ptr, Some, Unmapped, Value, WordOf}
-use Rattle.mk_laws.proofs.Vocabulary.{ℕ, after_free, ap, arith, false, get_or-set_other, get_or-set_same, if◌then◌else◌}
-use Rattle.mk_laws.proofs.Vocabulary.{is_same, never_behind, refl, register_at, slice_index_or, subst, sym, target_of}
-use Rattle.mk_laws.proofs.Vocabulary.{true, with_register, with_word, word_at, ◌*◌, ◌++◌, ◌+◌, ◌<◌, ◌∙◌, ◌≡◌, ◌≢◌}
+use Rattle.mk_laws.proofs.Vocabulary.{Answer, Bool, NeverState, Null, Num, Op, Ptr, Some, Unmapped, Value, WordOf, ℕ}
+use Rattle.mk_laws.proofs.Vocabulary.{after_free, ap, arith, false, get_or-set_other, get_or-set_same, if◌then◌else◌}
+use Rattle.mk_laws.proofs.Vocabulary.{is_same, never_behind, refl, register_at, target_of, true, with_register}
+use Rattle.mk_laws.proofs.Vocabulary.{with_word, word_at, ◌*◌, ◌++◌, ◌+◌, ◌<◌, ◌∙◌, ◌≡◌, ◌≢◌}
 use Rattle.mk_never.specs.NeverHeap.{after_op, left_at}
 use Rattle.mk_never.specs.{Admitted.IsCaller, declared.values.Target.Target, declared.values.Target.TheVariants.Nothing}
 use Rattle.mk_laws.proofs.OtherCalls.{never_continues}
@@ -52,8 +52,7 @@ read_leaves n k d r (WordOf a w) ne = set_other n k d r (word_at n a w) ne
 new_leaves : (n m : NeverState) (k d r : ℕ) (v : Value) (full : Bool) → m.registers ≡ n.registers → Some d ≢ Some r
     → register_at (if full then n else with_register m k d v) k r ≡ register_at n k r
 new_leaves n m k d r v true same ne = refl
-new_leaves n m k d r v false same ne = set_other m k d r v ne
-    ∙ ap (λ (xs : List Value). slice_index_or xs (8 * k + r) Null) same
+new_leaves n m k d r v false same ne = grind (arith, set_other)
 
 leaves : (n : NeverState) (k : ℕ) (o : Op) (r : ℕ) → destination o ≢ Some r
     → register_at (after_op n k o) k r ≡ register_at n k r
@@ -63,8 +62,7 @@ leaves n k (Op.GetNum q i) r ne = refl
 leaves n k (Op.SetNum q i m) r ne = write_leaves n k r (target_of n (register_at n k q) i) (λ a w. Num m)
 leaves n k (Op.GetPtr d q i) r ne = read_leaves n k d r (target_of n (register_at n k q) i) ne
 leaves n k (Op.SetPtr q i p) r ne = write_leaves n k r (target_of n (register_at n k q) i) (λ a w. register_at n k p)
-leaves n k (Op.CasPtr q i p x) r ne = cas_leaves n k r (target_of n (register_at n k q) i) (register_at n k p)
-    (register_at n k x)
+leaves n k (Op.CasPtr q i p x) r ne = grind (arith, cas_leaves)
 leaves n k (Op.Lea d q i) r ne = set_other n k d r _ ne
 leaves n k (Op.Move d q) r ne = set_other n k d r _ ne
 leaves n k (Op.Clear d) r ne = set_other n k d r _ ne
@@ -78,24 +76,17 @@ pub value_left : {p q : PassState} {o : Op} {a : Answer} → (c : Called p o a q
     → value_of q r ≡ register_at (after_op (never_behind p.table.config (p.seen
     ++ c.decided.before)) (caller_of_pass p) o)
     (caller_of_pass p) r
-value_left {p} {q} c r lt = ap (λ (x : PassState). value_of x r) c.is ∙ c.decided.left_so r lt
+value_left c r lt = ap (λ (x : PassState). value_of x r) c.is ∙ c.decided.left_so r lt
 
 pub calls_leave_other_registers : CallsLeaveOtherRegisters
-calls_leave_other_registers p o a q r c lt ne =
-    value_left c r lt ∙ leaves (never_behind p.table.config (p.seen ++ c.decided.before)) (caller_of_pass p) o r ne
-    ∙ c.decided.known r lt
+calls_leave_other_registers p o a q r c lt ne = grind (arith, value_left, leaves)
 
 -- A caller stays one.
 pub still_caller : {p q : PassState} {o : Op} {a : Answer} → (c : Called p o a q)
     → IsCaller (never_of p) (caller_of_pass p) → IsCaller (never_of q) (caller_of_pass q)
-still_caller {p} {q} c is =
-    let on = never_continues p.table.config p.seen c.more in
-    subst (λ (x : PassState). IsCaller (never_of x) (caller_of_pass x)) (sym c.is)
-    (subst (λ count. 8 * caller_of_pass p + 7 < count) (sym on.registers) is)
+still_caller c is = grind (arith, never_continues)
 
 pub caller_there : {p q : PassState} {o : Op} {a : Answer} → (c : Called p o a q)
     → IsCaller (never_of p) (caller_of_pass p)
     → IsCaller (never_behind p.table.config (p.seen ++ c.decided.before)) (caller_of_pass p)
-caller_there {p} c is =
-    let on = never_continues p.table.config p.seen c.decided.before in
-    subst (λ count. 8 * caller_of_pass p + 7 < count) (sym on.registers) is
+caller_there c is = grind (arith, never_continues)

@@ -2,14 +2,14 @@
 use Rattle.mk_laws.proofs.Vocabulary.{Answer, Bool, Event, Flight, KeepsRegisters, List, NeverState, None, Op, Option}
 use Rattle.mk_laws.proofs.Vocabulary.{Progress, Some, Stage, Step, Unmapped, Value, ℕ, ap, append_assoc, at_rest, begun}
 use Rattle.mk_laws.proofs.Vocabulary.{d_of, i_of, if◌then◌else◌, ne_eqb, never_behind, onward, progress_reg, q_of, refl}
-use Rattle.mk_laws.proofs.Vocabulary.{refused, stage_refused, steps_of, subst, sym, target_of, true, ◌++◌, ◌<◌, ◌==◌}
-use Rattle.mk_laws.proofs.Vocabulary.{◌∙◌, ◌∷◌, ◌≡◌, ◌≢◌}
+use Rattle.mk_laws.proofs.Vocabulary.{refused, stage_refused, subst, sym, target_of, true, [], ◌++◌, ◌<◌, ◌==◌, ◌∙◌}
+use Rattle.mk_laws.proofs.Vocabulary.{◌∷◌, ◌≡◌, ◌≢◌}
 use Rattle.mk_never.specs.{Admitted.OperandsAreInRange, declared.values.Target.Target}
-use Rattle.mk_core.specs.Calls.{first_of}
 use Rattle.mk_caller.proofs.Joined.{joined, joined_on}
-use Rattle.mk_caller.specs.{Called.Called, Called.steps_made, Causes.Probes, Causes.ProbesAWord, Moves.IsAtFlight}
-use Rattle.mk_caller.specs.{Moves.MakesSteps, Moves.MayBeginCall, Moves.is_access, Moves.loads, Moves.refused_register}
-use Rattle.mk_caller.specs.{Moves.refused_steps, States.caller_of_pass, States.never_of, States.value_of}
+use Rattle.mk_caller.specs.Moves.{CallGoesOn, IsAtFlight, MakesSteps, MayBeginCall, is_access, loads, passes}
+use Rattle.mk_caller.specs.Moves.{refused_register, refused_steps}
+use Rattle.mk_caller.specs.States.{caller_of_pass, never_of, value_of}
+use Rattle.mk_caller.specs.{Called.Called, Called.steps_made, Causes.Probes, Causes.ProbesAWord}
 use Rattle.mk_words.specs.States.{PassState, call_of, event_of}
 
 -- Further steps of a call that isn't decided; how they go on is said by the call before them.
@@ -18,28 +18,31 @@ pub go : {p q r : PassState} {o : Op} {ss ts : List Step} {f : Flight} → IsAtF
     → f.op ≡ o
     → IsAtFlight q (call_of q).op ts (X (call_of q)).answer (X (call_of q)).flight r
     → IsAtFlight p o (ss ++ ts) (X f).answer (X f).flight r
-go {p} {q} {r} {o} {ss} {ts} {f} a X same b =
-    let makes : MakesSteps q o ts (X f).answer r =
-    subst (λ (y : Op). MakesSteps q y ts (X f).answer r) same
+go {q} {r} {o} {ts} {f} a X same b =
+    let makes : MakesSteps q o ts (X f).answer r = subst (λ (y : Op). MakesSteps q y ts (X f).answer r) same
     (subst (λ (g : Flight). MakesSteps q g.op ts (X g).answer r) a.call b.makes) in
     record {
-      makes = joined p o ss ts (X f).answer q r a.makes makes;
+      makes = joined a.makes makes;
       call = b.call ∙ ap (λ (g : Flight). (X g).flight) a.call;
       underway = b.underway;
     }
 
 -- and of one that is
+-- a probe that finds the page mapped
+pub go_probed : {p q r : PassState} {o : Op} {ss : List Step} {f : Flight} → IsAtFlight p o ss None f q → f.op ≡ o
+    → CallGoesOn q Step.Probe passes r → IsAtFlight p o (ss ++ Step.Probe ∷ []) (passes f).answer (passes f).flight r
+go_probed at same probes = go at passes same probes
+
 pub go_on : {p q r : PassState} {o : Op} {ss ts : List Step} {a : Answer} {f : Flight} → IsAtFlight p o ss (Some a) f q
     → (X : Flight → Progress) → f.op ≡ o
     → (X f).answer ≡ None → IsAtFlight q (call_of q).op ts (X (call_of q)).answer (X (call_of q)).flight r
     → IsAtFlight p o (ss ++ ts) (Some a) (X f).flight r
-go_on {p} {q} {r} {o} {ss} {ts} {a} {f} before X same none b =
+go_on {q} {r} {o} {ts} {f} before X same none b =
     let makes : MakesSteps q o ts None r =
-    subst (λ (y : Option Answer). MakesSteps q o ts y r) none
-    (subst (λ (y : Op). MakesSteps q y ts (X f).answer r) same
+    subst (λ (y : Option Answer). MakesSteps q o ts y r) none (subst (λ (y : Op). MakesSteps q y ts (X f).answer r) same
     (subst (λ (g : Flight). MakesSteps q g.op ts (X g).answer r) before.call b.makes)) in
     record {
-      makes = joined_on p o ss ts a q r before.makes makes;
+      makes = joined_on before.makes makes;
       call = b.call ∙ ap (λ (g : Flight). (X g).flight) before.call;
       underway = b.underway;
     }
@@ -48,8 +51,8 @@ go_on {p} {q} {r} {o} {ss} {ts} {a} {f} before X same none b =
 pub to : {p q r : PassState} {o : Op} {ss ts : List Step} {a : Option Answer} {f g : Flight}
     → IsAtFlight p o ss None f q
     → IsAtFlight q o ts a g r → IsAtFlight p o (ss ++ ts) a g r
-to {p} {q} {r} {o} {ss} {ts} {a} x y = record {
-  makes = joined p o ss ts a q r x.makes y.makes;
+to x y = record {
+  makes = joined x.makes y.makes;
   call = y.call;
   underway = y.underway;
 }
@@ -58,8 +61,8 @@ pub on_to : {p q r : PassState} {o : Op} {ss ts : List Step} {a : Answer} {f g :
     → IsAtFlight p o ss (Some a) f q
     → IsAtFlight q o ts None g r
     → IsAtFlight p o (ss ++ ts) (Some a) g r
-on_to {p} {q} {r} {o} {ss} {ts} {a} x y = record {
-  makes = joined_on p o ss ts a q r x.makes y.makes;
+on_to x y = record {
+  makes = joined_on x.makes y.makes;
   call = y.call;
   underway = y.underway;
 }
@@ -74,7 +77,7 @@ either_to (Some a) x y = on_to x y
 -- the operation of the later part is that of the call in flight there
 pub of_same : {q r : PassState} {o : Op} {ts : List Step} {a : Option Answer} {g : Flight} → (call_of q).op ≡ o
     → IsAtFlight q (call_of q).op ts a g r → IsAtFlight q o ts a g r
-of_same {q} {r} {o} {ts} {a} {g} is x = subst (λ (y : Op). IsAtFlight q y ts a g r) is x
+of_same {q} {r} {ts} {a} {g} is x = subst (λ (y : Op). IsAtFlight q y ts a g r) is x
 
 -- by a store and the last step
 abbrev pub stores : ℕ → Flight → Progress
@@ -82,7 +85,7 @@ stores v f = record { flight = at_rest; answer = (loads v f).answer }
 
 pub called : {p r : PassState} {o : Op} {ss : List Step} {a : Answer} → IsAtFlight p o ss (Some a) at_rest r
     → ss ≡ steps_made o a → Called p o a r
-called {p} {r} {o} {ss} {a} at steps =
+called at steps =
     record {
       more = at.makes.more;
       is = at.makes.is;
@@ -95,19 +98,19 @@ called {p} {r} {o} {ss} {a} at steps =
 -- While nothing is decided the caller's registers keep their values.
 pub keeps : {p q : PassState} {o : Op} {ss : List Step} → MakesSteps p o ss None q
     → KeepsRegisters (caller_of_pass p) (never_of p) (never_of q)
-keeps {p} {q} m =
+keeps {p} m =
     subst (λ (x : PassState). KeepsRegisters (caller_of_pass p) (never_of p) (never_of x)) (sym m.is) m.decided
 
 pub value_kept : {p q : PassState} {o : Op} {ss : List Step} → MakesSteps p o ss None q → (r : ℕ) → r < 8
     → value_of q r ≡ value_of p r
-value_kept {p} {q} m r lt =
+value_kept {q} m r lt =
     ap (λ (x : PassState). Rattle.mk_never.specs.NeverHeap.register_at (never_of q) (caller_of_pass x) r) m.is
     ∙ keeps m r lt
 
 -- a probe of the later steps
 pub probes_from : {p q r : PassState} {o : Op} {ss : List Step} {t : Target} → MakesSteps p o ss None q → q_of o < 8
     → Probes q o r t → Probes p o r t
-probes_from {p} {q} {r} {o} {ss} {t} m lt probes =
+probes_from {p} {r} {o} {t} m lt probes =
     by m.more m.decided (subst (λ (x : PassState). Probes x o r t) m.is probes)
   where
     by : (m1 : List Event) → KeepsRegisters (caller_of_pass p) (never_of p) (never_behind p.table.config (p.seen ++ m1))
@@ -128,32 +131,13 @@ probes_from {p} {q} {r} {o} {ss} {t} m lt probes =
 
 -- facts of operations
 
-pub access_begins : (o : Op) → is_access o ≡ true → first_of (steps_of o) ≡ Stage.LoadQ
-access_begins (Op.GetNum q i) h = refl
-access_begins (Op.SetNum q i n) h = refl
-access_begins (Op.GetPtr d q i) h = refl
-access_begins (Op.SetPtr q i p) h = refl
-access_begins (Op.CasPtr q i p r) h = refl
-access_begins (Op.Lea d q i) h = refl
-access_begins _ h = cc
-
 pub access_finds_null : (o : Op) → is_access o ≡ true → progress_reg (begun o) (begun o).stage 0 ≡ refused
     (record (begun o) { q = 0 }) Answer.Null
-access_finds_null (Op.GetNum q i) h = refl
-access_finds_null (Op.SetNum q i n) h = refl
-access_finds_null (Op.GetPtr d q i) h = refl
-access_finds_null (Op.SetPtr q i p) h = refl
-access_finds_null (Op.CasPtr q i p r) h = refl
-access_finds_null (Op.Lea d q i) h = refl
+access_finds_null (Op.GetNum q i) h = cc
 access_finds_null _ h = cc
 
 pub null_steps : (o : Op) → is_access o ≡ true → Step.Enter o ∷ Step.Reg ∷ refused_steps o ≡ steps_made o Answer.Null
-null_steps (Op.GetNum q i) h = refl
-null_steps (Op.SetNum q i n) h = refl
-null_steps (Op.GetPtr d q i) h = refl
-null_steps (Op.SetPtr q i p) h = refl
-null_steps (Op.CasPtr q i p r) h = refl
-null_steps (Op.Lea d q i) h = refl
+null_steps (Op.GetNum q i) h = cc
 null_steps _ h = cc
 
 pub access_is_small : (n : NeverState) (o : Op) → is_access o ≡ true → OperandsAreInRange n o → q_of o < 8
@@ -169,11 +153,6 @@ pub refused_puts : (o : Op) (d : ℕ) → Some d ≡ refused_register o → (sta
 refused_puts (Op.GetPtr d q i) e h = (refl, cc)
 refused_puts (Op.Lea d q i) e h = (refl, cc)
 refused_puts _ e h = cc
-
-pub refused_leaves : (o : Op) → None ≡ refused_register o → stage_refused o ≡ Stage.Leave
-refused_leaves (Op.GetPtr d q i) h = cc
-refused_leaves (Op.Lea d q i) h = cc
-refused_leaves _ h = refl
 
 some_for : (o : Op) (u : ℕ) → u ≢ 0
     → (if u == 0 then refused (record (begun o) { q = u }) Answer.Null else onward (record (begun o) { q = u }) None)
@@ -212,7 +191,7 @@ sees_further {q} g x =
 
 -- a probe of earlier steps
 pub probes_on : {p q r : PassState} {o : Op} {t : Target} → Probes p o q t → SeesMore q r → Probes p o r t
-probes_on {p} {q} {r} {o} {t} x g =
+probes_on {p} x g =
     record {
       before = x.before;
       behind = x.behind ++ g.more;
@@ -225,7 +204,7 @@ probes_on {p} {q} {r} {o} {t} x g =
 pub reached : {p q s r : PassState} {o : Op} {ss : List Step} {f : Flight} → MayBeginCall p o → is_access o ≡ true
     → IsAtFlight p o ss None f q → f.op ≡ o
     → ProbesAWord q (call_of q).op s → SeesMore s r → ProbesAWord p o r
-reached {p} {q} {s} {r} {o} ready access a same x g =
+reached {p} {q} {s} {o} ready access a same x g =
     let y : ProbesAWord q o s = subst (λ (y : Op). ProbesAWord q y s) (ap (λ (f : Flight). f.op) a.call ∙ same) x in
     record {
       number = y.number;

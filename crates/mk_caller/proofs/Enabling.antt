@@ -1,13 +1,12 @@
 -- When a step of a call is enabled and admitted.
 use Rattle.mk_laws.proofs.Vocabulary.{Answer, AreAdmitted, Bool, Caller, Config, Flight, Group, IsAdmitted, IsEnabled}
 use Rattle.mk_laws.proofs.Vocabulary.{IsHistory, List, Moment, NeverState, None, Op, Option, Seat, Some, Stage, Step, ℕ}
-use Rattle.mk_laws.proofs.Vocabulary.{and_from, and_parts, answer_decided, ap, arith, asked, caller_number, comes_next}
-use Rattle.mk_laws.proofs.Vocabulary.{d_of, entry_of, false, flight_of, found, g_of, group_of, has_gates, has_operands}
-use Rattle.mk_laws.proofs.Vocabulary.{has_phase, holder_may, is_in_range, is_under_turn, length, lt-ltb, ltb-true}
-use Rattle.mk_laws.proofs.Vocabulary.{marker_may, nat_lt, outside, p_of, phase_of, progress_reg, q_of, r_of, refl}
-use Rattle.mk_laws.proofs.Vocabulary.{register_met, subst, sym, true, ◌&&◌, ◌<◌, ◌≡◌}
+use Rattle.mk_laws.proofs.Vocabulary.{and_from, and_parts, answer_decided, ap, arith, asked, comes_next, entry_of}
+use Rattle.mk_laws.proofs.Vocabulary.{false, flight_of, group_of, has_gates, has_operands, has_phase, holder_may}
+use Rattle.mk_laws.proofs.Vocabulary.{is_in_range, is_under_turn, length, lt-ltb, ltb-true, marker_may, nat_lt, outside}
+use Rattle.mk_laws.proofs.Vocabulary.{phase_of, refl, register_met, subst, sym, true, ◌&&◌, ◌<◌, ◌≡◌}
 use Rattle.mk_never.specs.Admitted.{IsCaller, OperandsAreInRange}
-use Rattle.mk_core.{proofs.Conditions.meets_enabled, specs.Calls.has_type}
+use Rattle.mk_core.proofs.Conditions.{meets_enabled}
 use Rattle.mk_laws.proofs.{LastEvents.goes_on_by, LastEvents.stands, LayoutHolders.seat_operands}
 use Rattle.mk_caller.proofs.OneStep.{flagged_same}
 use Rattle.mk_caller.specs.{Moves.MayBeginCall, States.Admits, States.caller_of_pass, States.never_of}
@@ -38,19 +37,7 @@ is_free c m seat f _ h = cc
 enabled_for : (c : Config) (m : Moment) (k : ℕ) (s : Step) → k < c.callers → group_of s ≡ Group.Callers
     → comes_next (flight_of m (Caller k)).stage (flight_of m (Caller k)).op s ≡ true
     → is_in_range c (Caller k) (flight_of m (Caller k)) s ≡ true → IsEnabled c m (record { seat = Caller k; step = s })
-enabled_for c m k s lt kind next range =
-    let free = is_free c m (Caller k) (flight_of m (Caller k)) s kind in
-    meets_enabled c m (record { seat = Caller k; step = s })
-    (record {
-      seat = lt-ltb k c.callers lt;
-      kind = subst (λ (g : Group). Rattle.mk_core.specs.Order.is_open_to (Caller k) g ≡ true) (sym kind) refl;
-      order = next;
-      range = range;
-      gates = free.gates;
-      phase = free.phase;
-      marker = free.marker;
-      holder = free.holder;
-    })
+enabled_for c m k s lt kind next range = grind (arith, is_free, meets_enabled, lt-ltb)
 
 -- The next step of a call is enabled, where its argument is in range.
 pub enabled : (p : PassState) (s : Step) (k : ℕ) → p.seat ≡ Caller k → k < p.table.config.callers
@@ -65,23 +52,17 @@ enabled p s k is lt kind next range =
     (sym is) (enabled_for p.table.config (now_of p) k s lt kind) next range
 
 -- whatever it is answered
-entry_admitted : (globals : List ℕ) (n : NeverState) (k : ℕ) (o : Op) (a : Option Answer) → is_under_turn o ≡ false
-    → IsAdmitted globals n k o
-    → AreAdmitted globals n (asked (entry_of k o a))
-entry_admitted globals n k o None h ad = tt
-entry_admitted globals n k o (Some a) h ad = (
-  subst (λ (y : Op). IsAdmitted globals n k y) (sym (flagged_same o a h))
-      ad,
-  tt,
-)
+entry_admitted : {globals : List ℕ} {n : NeverState} {k : ℕ} {o : Op} (a : Option Answer) → is_under_turn o ≡ false
+    → IsAdmitted globals n k o → AreAdmitted globals n (asked (entry_of k o a))
+entry_admitted None h ad = tt
+entry_admitted (Some a) h ad = grind (arith, flagged_same)
 
 pub admitted : (p : PassState) (s : Step) → IsHistory p.table.config p.seen → IsEnabledTo p s
     → is_under_turn (call_of p).op ≡ false
     → Admits p (call_of p).op → IsAdmittedTo p s
 admitted p s h on entered ad =
-    (goes_on_by p.table.config p.seen (event_of p s) h on
-    (entry_admitted p.table.config.globals (never_of p) (caller_of_pass p) (call_of p).op
-    (answer_decided p.table.config (now_of p) (event_of p s)) entered ad)).admitted
+    (goes_on_by p.table.config p.seen (event_of p s) h on (entry_admitted (answer_decided p.table.config (now_of p)
+    (event_of p s)) entered ad)).admitted
 
 -- A step that decides nothing
 pub idly_admitted : (p : PassState) (s : Step) → IsHistory p.table.config p.seen → IsEnabledTo p s
@@ -93,21 +74,13 @@ idly_admitted p s h on none =
 
 pub put_decides_nothing : (p : PassState) (k : ℕ) → p.seat ≡ Caller k → (call_of p).stage ≡ Stage.Put
     → answer_decided p.table.config (now_of p) (event_of p Step.Reg) ≡ None
-put_decides_nothing p k is put =
-    subst
-    (λ (t : Seat). (flight_of (now_of p) t).stage ≡ Stage.Put
-    → answer_decided p.table.config (now_of p) (record { seat = t; step = Step.Reg }) ≡ None) (sym is)
-    (λ (e : (flight_of (now_of p) (Caller k)).stage ≡ Stage.Put).
-    ap (λ (s : Stage). (progress_reg (flight_of (now_of p) (Caller k)) s
-    (found p.table.config (now_of p) (record { seat = Caller k; step = Step.Reg }))).answer) e) put
+put_decides_nothing p k is put = grind arith
 
 -- the operands
 
 six : (a b d e f g : Bool) → a ≡ true → b ≡ true → d ≡ true → e ≡ true → f ≡ true → g ≡ true
     → (a && b && d && e && f && g) ≡ true
-six a b d e f g ha hb hd he hf hg =
-    and_from (a && b && d && e && f) g (and_from (a && b && d && e) f
-    (and_from (a && b && d) e (and_from (a && b) d (and_from a b ha hb) hd) he) hf) hg
+six a b d e f g ha hb hd he hf hg = grind (arith, and_from)
 
 below : (x n : ℕ) → x < n → nat_lt x n ≡ true
 below x n lt = lt-ltb x n lt
@@ -116,40 +89,31 @@ operands : (c : Config) (n : NeverState) (o : Op) → length n.globals ≡ 64 �
     → OperandsAreInRange n o → has_operands c o ≡ true
 operands c n (Op.GetNum q i) g u h = six (nat_lt q 8) _ _ _ _ _ (below q 8 h) refl refl refl refl refl
 operands c n (Op.SetNum q i m) g u h = six (nat_lt q 8) _ _ _ _ _ (below q 8 h) refl refl refl refl refl
-operands c n (Op.GetPtr d q i) g u h = six (nat_lt q 8) _ _ (nat_lt d 8) _ _ (below q 8 h.1) refl refl (below d 8 h.0)
-    refl refl
-operands c n (Op.SetPtr q i p) g u h = six (nat_lt q 8) (nat_lt p 8) _ _ _ _ (below q 8 h.0) (below p 8 h.1) refl refl
-    refl refl
-operands c n (Op.CasPtr q i p r) g u h = six (nat_lt q 8) (nat_lt p 8) (nat_lt r 8) _ _ _ (below q 8 h.0)
-    (below p 8 h.1) (below r 8 h.2) refl refl refl
-operands c n (Op.Lea d q i) g u h = six (nat_lt q 8) _ _ (nat_lt d 8) _ _ (below q 8 h.1) refl refl (below d 8 h.0)
-    refl refl
-operands c n (Op.Move d q) g u h = six (nat_lt q 8) _ _ (nat_lt d 8) _ _ (below q 8 h.1) refl refl (below d 8 h.0)
-    refl refl
+operands c n (Op.GetPtr d q i) g u h = grind (arith, six, below)
+operands c n (Op.SetPtr q i p) g u h = grind (arith, six, below)
+operands c n (Op.CasPtr q i p r) g u h = grind (arith, six, below)
+operands c n (Op.Lea d q i) g u h = grind (arith, six, below)
+operands c n (Op.Move d q) g u h = grind (arith, six, below)
 operands c n (Op.Clear d) g u h = six _ _ _ (nat_lt d 8) _ _ refl refl refl (below d 8 h) refl refl
-operands c n (Op.GetGlobal d x) g u h = six _ _ _ (nat_lt d 8) (nat_lt x 64) _ refl refl refl (below d 8 h.0)
-    (below x 64 (omega arith)) refl
-operands c n (Op.SetGlobal x p) g u h = six _ (nat_lt p 8) _ _ (nat_lt x 64) _ refl (below p 8 h.1) refl refl
-    (below x 64 (omega arith)) refl
-operands c n (Op.Same p q) g u h = six (nat_lt q 8) (nat_lt p 8) _ _ _ _ (below q 8 h.1) (below p 8 h.0) refl refl
-    refl refl
+operands c n (Op.GetGlobal d x) g u h = grind (arith, six, below)
+operands c n (Op.SetGlobal x p) g u h = grind (arith, six, below)
+operands c n (Op.Same p q) g u h = grind (arith, six, below)
 operands c n (Op.IsNull p) g u h = six _ (nat_lt p 8) _ _ _ _ refl (below p 8 h) refl refl refl refl
 operands c n (Op.New d ty full) g u h = cc
 operands c n (Op.Free p) g u h = cc
 
-pub caller_exists : (p : PassState) (o : Op) (k : ℕ) → IsHistory p.table.config p.seen → p.seat ≡ Caller k
+pub caller_exists : (p : PassState) {o : Op} (k : ℕ) → IsHistory p.table.config p.seen → p.seat ≡ Caller k
     → Admits p o → k < p.table.config.callers
-caller_exists p o k h is ad =
-    let has : IsCaller (never_of p) k = subst (λ (j : ℕ). IsCaller (never_of p) j)
-    (ap (λ (s : Seat). caller_number s) is) ad.of_a_caller in
+caller_exists p k h is ad =
+    let has : IsCaller (never_of p) k = grind arith in
     let count = (stands p.table.config p.seen h).all.mirrors.register_count in
     omega arith
 
-pub enter_enabled : (p : PassState) (o : Op) → IsHistory p.table.config p.seen → MayBeginCall p o
+pub enter_enabled : {p : PassState} {o : Op} → IsHistory p.table.config p.seen → MayBeginCall p o
     → IsEnabledTo p (Step.Enter o)
-enter_enabled p o h ready =
+enter_enabled {p} {o} h ready =
     let st = stands p.table.config p.seen h in
-    enabled p (Step.Enter o) ready.caller ready.seat (caller_exists p o ready.caller h ready.seat ready.admits) refl
+    enabled p (Step.Enter o) ready.caller ready.seat (caller_exists p ready.caller h ready.seat ready.admits) refl
     (subst (λ (f : Flight). comes_next f.stage f.op (Step.Enter o) ≡ true) (sym ready.rest)
     (ap Rattle.std.specs.Prelude.not ready.entered))
     (operands p.table.config (never_of p) o st.all.mirrors.global_count ready.entered ready.admits.in_range)
@@ -157,22 +121,8 @@ enter_enabled p o h ready =
 -- A register of the call in flight is one of the eight.
 pub met_is_small : (p : PassState) (s : Stage) → IsHistory p.table.config p.seen → register_met (call_of p) s < 8
 met_is_small p s h =
-    let has : has_operands p.table.config (call_of p).op ≡ true = seat_operands p.table.config (now_of p) p.seat
-    (stands p.table.config p.seen h).known.now in
+    let has : has_operands p.table.config (call_of p).op ≡ true = grind (arith, seat_operands, stands) in
     by (call_of p) s has
   where
     by : (f : Flight) (s : Stage) → has_operands p.table.config f.op ≡ true → register_met f s < 8
-    by f s has =
-        let types = and_parts _ (has_type p.table.config f.op) has in
-        let global = and_parts _ (nat_lt (g_of f.op) 64) types.0 in
-        let four = and_parts _ (nat_lt (d_of f.op) 8) global.0 in
-        let three = and_parts _ (nat_lt (r_of f.op) 8) four.0 in
-        let two = and_parts (nat_lt (q_of f.op) 8) (nat_lt (p_of f.op) 8) three.0 in
-        at s (ltb-true (q_of f.op) 8 two.0) (ltb-true (p_of f.op) 8 two.1) (ltb-true (r_of f.op) 8 three.1)
-        (ltb-true (d_of f.op) 8 four.1)
-      where
-        at : (s : Stage) → q_of f.op < 8 → p_of f.op < 8 → r_of f.op < 8 → d_of f.op < 8 → register_met f s < 8
-        at Stage.LoadQ q p r d = q
-        at Stage.LoadP q p r d = p
-        at Stage.LoadR q p r d = r
-        at _ q p r d = d
+    by f s has = grind (arith, and_parts, ltb-true)

@@ -7,24 +7,20 @@ use Rattle.mk_caller.specs.{Called.own_calls, Causes.FindsGateHeld, States.calle
 use Rattle.mk_words.specs.States.{PassState, call_of}
 use Rattle.mk_words.specs.{CallSteps.FindsHeld, Steps.Goes, declared.call_steps.Held.Held}
 
-pub entered : (p : PassState) (o : Op) (q : PassState) (r : Result (Unit {0}) Held) → MayBeginCall p o
+pub entered : {p : PassState} {o : Op} (q : PassState) (r : Result (Unit {0}) Held) → MayBeginCall p o
     → OnOk r (Goes p (Step.Enter o) (record { flight = begun o; answer = None }) q)
     → OnOk r (CallMoves p o (Step.Enter o) (record { flight = begun o; answer = None }) q)
-entered p o q (Ok u) ready g = enters p o q ready g
-entered p o q (Err e) ready g = tt
+entered q (Ok u) ready g = enters ready g
+entered q (Err e) ready g = tt
 
-pub held : (p : PassState) (o : Op) (q : PassState) (r : Result (Unit {0}) Held) → MayBeginCall p o
-    → OnErr r (FindsHeld p o q)
-    → OnErr r (Goes p (Step.Enter o) (still (call_of p)) q)
-    → OnErr r (FindsGateHeld p o q)
-held p o q (Ok u) ready finds stays = tt
-held p o q (Err e) ready finds stays =
-    let m = one_step p o (Step.Enter o) (still (call_of p)) q ready.caller ready.seat stays ready.entered
-    refl in
+pub held : {p : PassState} {o : Op} (q : PassState) (r : Result (Unit {0}) Held) → MayBeginCall p o
+    → OnErr r (FindsHeld p o q) → OnErr r (Goes p (Step.Enter o) (still (call_of p)) q) → OnErr r (FindsGateHeld p o q)
+held q (Ok u) ready finds stays = tt
+held {p} {o} q (Err e) ready finds stays =
+    let m = one_step p o (Step.Enter o) (still (call_of p)) q ready.caller ready.seat stays ready.entered refl in
     record {
       finds = finds;
-      entries =
-          ap (λ (r : PassState). own_calls p r.seen) m.is ∙ m.entry ∙ append-nil (own_calls p p.seen);
+      entries = ap (λ (r : PassState). own_calls p r.seen) m.is ∙ m.entry ∙ append-nil (own_calls p p.seen);
       registers = subst (λ (r : PassState). Rattle.mk_never.specs.Laws.KeepsRegisters (caller_of_pass p) (never_of p)
           (never_of r)) (sym m.is) m.decided;
       rest = stays.call ∙ ready.rest;

@@ -7,5 +7,5 @@ pub idle : (w : WordsState) (k : ℕ) (x : Option PassState) (s : CallerState) �
     → s.home ≡ true → IsIdleCaller s.pass
 idle w k (Some p) s is whole home =
     subst (λ (y : CallerState). IsIdleCaller y.pass) is (record { caller = k; seat = whole.1; rest = whole.2 })
-idle w k None s is whole home = absurd (let e : Rattle.std.specs.Prelude.false ≡ true = ap
-    (λ (y : CallerState). y.home) is ∙ home in cc)
+idle w k None s is whole home =
+    absurd (let e : Rattle.std.specs.Prelude.false ≡ true = ap (λ (y : CallerState). y.home) is ∙ home in cc)

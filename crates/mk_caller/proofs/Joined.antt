@@ -24,10 +24,10 @@ steps_joined p m1 m2 ss ts a b =
     ∙ ap (λ (l : List Step). ss ++ l) b
 
 -- a decision of the later steps
-decided_later : (p : PassState) (o : Op) (a : Answer) (m1 m2 : List Event)
+decided_later : (p : PassState) {o : Op} {a : Answer} (m1 : List Event) {m2 : List Event}
     → KeepsRegisters (caller_of_pass p) (never_of p) (never_behind p.table.config (p.seen ++ m1))
     → IsDecidedIn (seen_more p m1) o a m2 → IsDecidedIn p o a (m1 ++ m2)
-decided_later p o a m1 m2 keeps d =
+decided_later p {o} {a} m1 {m2} keeps d =
     let c : Config = p.table.config in
     let join : (p.seen ++ m1) ++ d.before ≡ p.seen ++ (m1 ++ d.before) = append_assoc p.seen m1 d.before in
     record {
@@ -36,30 +36,24 @@ decided_later p o a m1 m2 keeps d =
       behind = d.behind;
       is = ap (λ (l : List Event). m1 ++ l) d.is ∙ sym (append_assoc m1 d.before (d.event ∷ d.behind));
       decides = subst (λ (l : List Event). call_decided c (left c l).now d.event
-          ≡ entry_of (caller_of_pass p) o (Some a))
-          join d.decides;
+          ≡ entry_of (caller_of_pass p) o (Some a)) join d.decides;
       reply = subst (λ (l : List Event). a ≡ answer_of (bases_of (left c (l ++ d.event ∷ [])).allocations)
           (reply_of (never_behind c l) (caller_of_pass p) o)) join d.reply;
       known = keeps_both (caller_of_pass p) (never_of p) (never_behind c (p.seen ++ m1))
-          (never_behind c (p.seen ++ (m1 ++ d.before))) keeps
-          (subst (λ (l : List Event). KeepsRegisters (caller_of_pass p) (never_behind c (p.seen
-          ++ m1)) (never_behind c l))
-          join d.known);
+          (never_behind c (p.seen ++ (m1 ++ d.before))) keeps (subst (λ (l : List Event). KeepsRegisters
+          (caller_of_pass p) (never_behind c (p.seen ++ m1)) (never_behind c l)) join d.known);
       left_so =
           subst (λ (l : List Event). KeepsRegisters (caller_of_pass p)
           (after_op (never_behind c (p.seen ++ (m1 ++ d.before))) (caller_of_pass p) o) (never_behind c l))
-          (append_assoc p.seen m1 m2)
-          (subst (λ (l : List Event). KeepsRegisters (caller_of_pass p) (after_op (never_behind c l)
-          (caller_of_pass p) o)
-          (never_behind c ((p.seen ++ m1) ++ m2))) join d.left_so);
+          (append_assoc p.seen m1 m2) (subst (λ (l : List Event). KeepsRegisters (caller_of_pass p)
+          (after_op (never_behind c l) (caller_of_pass p) o) (never_behind c ((p.seen ++ m1) ++ m2))) join d.left_so);
     }
 
 -- or of the earlier ones
-decided_before : (p : PassState) (o : Op) (a : Answer) (m1 m2 : List Event) → IsDecidedIn p o a m1
+decided_before : {p : PassState} {o : Op} {a : Answer} {m1 : List Event} (m2 : List Event) → IsDecidedIn p o a m1
     → KeepsRegisters (caller_of_pass p) (never_behind p.table.config (p.seen ++ m1))
-    (never_behind p.table.config ((p.seen ++ m1) ++ m2))
-    → IsDecidedIn p o a (m1 ++ m2)
-decided_before p o a m1 m2 d keeps =
+    (never_behind p.table.config ((p.seen ++ m1) ++ m2)) → IsDecidedIn p o a (m1 ++ m2)
+decided_before {p} {o} {m1} m2 d keeps =
     let c : Config = p.table.config in
     record {
       before = d.before;
@@ -85,51 +79,49 @@ decided_as_later p o None m1 m2 keeps d =
     (append_assoc p.seen m1 m2)
     (keeps_both (caller_of_pass p) (never_of p) (never_behind p.table.config (p.seen ++ m1))
     (never_behind p.table.config ((p.seen ++ m1) ++ m2)) keeps d)
-decided_as_later p o (Some a) m1 m2 keeps d = decided_later p o a m1 m2 keeps d
+decided_as_later p o (Some a) m1 m2 keeps d = decided_later p m1 keeps d
 
 is_joined : (p r : PassState) (m1 m2 : List Event) → r ≡ record p { seen = (p.seen ++ m1) ++ m2 }
     → r ≡ record p { seen = p.seen ++ (m1 ++ m2) }
 is_joined p r m1 m2 is = is ∙ ap (λ (l : List Event). record p { seen = l }) (append_assoc p.seen m1 m2)
 
+-- steps, and then others, by what they come to of the caller's calls, and of what is decided
+steps_then : {p : PassState} {o : Op} {ss ts : List Step} {a b : Option Answer} {r : PassState} (m1 : List Event)
+    → own_steps p m1 ≡ ss → (second : MakesSteps (seen_more p m1) o ts b r)
+    → own_calls p (p.seen ++ m1) ++ entry_of (caller_of_pass p) o b
+    ≡ own_calls p p.seen ++ entry_of (caller_of_pass p) o a
+    → IsDecidedAs p o a (m1 ++ second.more) → MakesSteps p o (ss ++ ts) a r
+steps_then {p} {ss = ss} {ts = ts} {r = r} m1 steps second entry decided =
+    record {
+      more = m1 ++ second.more;
+      is = is_joined p r m1 second.more second.is;
+      steps = steps_joined p m1 second.more ss ts steps second.steps;
+      entry = ap (λ (l : List Event). own_calls p l) (sym (append_assoc p.seen m1 second.more)) ∙ second.entry ∙ entry;
+      decided = decided;
+    }
+
 -- steps that decide nothing, and then others
-pub joined : (p : PassState) (o : Op) (ss ts : List Step) (a : Option Answer) (q r : PassState)
-    → MakesSteps p o ss None q
-    → MakesSteps q o ts a r → MakesSteps p o (ss ++ ts) a r
-joined p o ss ts a q r first second = by first.more first.steps first.entry first.decided
+pub joined : {p : PassState} {o : Op} {ss ts : List Step} {a : Option Answer} {q r : PassState}
+    → MakesSteps p o ss None q → MakesSteps q o ts a r → MakesSteps p o (ss ++ ts) a r
+joined {p} {o} {ss} {ts} {a} {r} first second = by first.more first.steps first.entry first.decided
     (subst (λ (x : PassState). MakesSteps x o ts a r) first.is second)
   where
     by : (m1 : List Event) → own_steps p m1 ≡ ss → own_calls p (p.seen ++ m1) ≡ own_calls p p.seen ++ []
         → KeepsRegisters (caller_of_pass p) (never_of p) (never_behind p.table.config (p.seen ++ m1))
         → MakesSteps (seen_more p m1) o ts a r → MakesSteps p o (ss ++ ts) a r
     by m1 steps entry keeps second =
-        record {
-          more = m1 ++ second.more;
-          is = is_joined p r m1 second.more second.is;
-          steps = steps_joined p m1 second.more ss ts steps second.steps;
-          entry =
-              ap (λ (l : List Event). own_calls p l) (sym (append_assoc p.seen m1 second.more)) ∙ second.entry
-              ∙ ap (λ (l : List Decided). l ++ entry_of (caller_of_pass p) o a) (entry
-              ∙ append-nil (own_calls p p.seen));
-          decided = decided_as_later p o a m1 second.more keeps second.decided;
-        }
+        steps_then m1 steps second (ap (λ (l : List Decided). l ++ entry_of (caller_of_pass p) o a)
+        (entry ∙ append-nil (own_calls p p.seen))) (decided_as_later p o a m1 second.more keeps second.decided)
 
 -- steps that decide the call, and then others
-pub joined_on : (p : PassState) (o : Op) (ss ts : List Step) (a : Answer) (q r : PassState)
-    → MakesSteps p o ss (Some a) q
-    → MakesSteps q o ts None r → MakesSteps p o (ss ++ ts) (Some a) r
-joined_on p o ss ts a q r first second = by first.more first.steps first.entry first.decided
+pub joined_on : {p : PassState} {o : Op} {ss ts : List Step} {a : Answer} {q r : PassState}
+    → MakesSteps p o ss (Some a) q → MakesSteps q o ts None r → MakesSteps p o (ss ++ ts) (Some a) r
+joined_on {p} {o} {ss} {ts} {a} {r} first second = by first.more first.steps first.entry first.decided
     (subst (λ (x : PassState). MakesSteps x o ts None r) first.is second)
   where
     by : (m1 : List Event) → own_steps p m1 ≡ ss → own_calls p (p.seen ++ m1) ≡ own_calls p p.seen ++ entry_of
         (caller_of_pass p) o (Some a)
         → IsDecidedIn p o a m1 → MakesSteps (seen_more p m1) o ts None r → MakesSteps p o (ss ++ ts) (Some a) r
     by m1 steps entry decided second =
-        record {
-          more = m1 ++ second.more;
-          is = is_joined p r m1 second.more second.is;
-          steps = steps_joined p m1 second.more ss ts steps second.steps;
-          entry =
-              ap (λ (l : List Event). own_calls p l) (sym (append_assoc p.seen m1 second.more)) ∙ second.entry
-              ∙ append-nil (own_calls p (p.seen ++ m1)) ∙ entry;
-          decided = decided_before p o a m1 second.more decided second.decided;
-        }
+        steps_then m1 steps second (append-nil (own_calls p (p.seen ++ m1)) ∙ entry)
+        (decided_before second.more decided second.decided)

@@ -41,9 +41,9 @@ off : (c : Config) (f : Flight) (x : Progress) → x.flight.op ≡ f.op → is_p
     → (x.flight.stage ≡ Stage.Dirty → ⊥) → Next c f x
 off c f x o d n = record { op = o; undecided = λ h. (let e : true ≡ false = sym d ∙ h in cc); page = λ h. absurd (n h) }
 
-either : (c : Config) (f : Flight) (b : Bool) (x y : Progress) → Next c f x → Next c f y → Next c f (if b then x else y)
-either c f true x y hx hy = hx
-either c f false x y hx hy = hy
+either : {c : Config} {f : Flight} (b : Bool) {x y : Progress} → Next c f x → Next c f y → Next c f (if b then x else y)
+either true hx hy = hx
+either false hx hy = hy
 
 refused_next : (c : Config) (s : Stage) (o : Op) (q p r l found : ℕ) (a : Answer)
     → Next c (flight s o q p r l) (refused (flight s o found p r l) a)
@@ -56,40 +56,40 @@ q_next : (c : Config) (o : Op) (q p r l found : ℕ) → Next c (flight Stage.Lo
 q_next c (Op.Move d x) q p r l found = on c _ _ refl refl refl (λ h. cc)
 q_next c (Op.Same x y) q p r l found = off c _ _ refl refl (λ h. cc)
 q_next c (Op.GetNum x i) q p r l found =
-    either c _ (found == 0) _ _ (refused_next c Stage.LoadQ (Op.GetNum x i) q p r l found Answer.Null)
+    either (found == 0) (refused_next c Stage.LoadQ (Op.GetNum x i) q p r l found Answer.Null)
     (on c _ _ refl refl refl (λ h. cc))
 q_next c (Op.SetNum x i n) q p r l found =
-    either c _ (found == 0) _ _ (refused_next c Stage.LoadQ (Op.SetNum x i n) q p r l found Answer.Null)
+    either (found == 0) (refused_next c Stage.LoadQ (Op.SetNum x i n) q p r l found Answer.Null)
     (on c _ _ refl refl refl (λ h. cc))
 q_next c (Op.GetPtr d x i) q p r l found =
-    either c _ (found == 0) _ _ (refused_next c Stage.LoadQ (Op.GetPtr d x i) q p r l found Answer.Null)
+    either (found == 0) (refused_next c Stage.LoadQ (Op.GetPtr d x i) q p r l found Answer.Null)
     (on c _ _ refl refl refl (λ h. cc))
 q_next c (Op.SetPtr x i y) q p r l found =
-    either c _ (found == 0) _ _ (refused_next c Stage.LoadQ (Op.SetPtr x i y) q p r l found Answer.Null)
+    either (found == 0) (refused_next c Stage.LoadQ (Op.SetPtr x i y) q p r l found Answer.Null)
     (on c _ _ refl refl refl (λ h. cc))
 q_next c (Op.CasPtr x i y z) q p r l found =
-    either c _ (found == 0) _ _ (refused_next c Stage.LoadQ (Op.CasPtr x i y z) q p r l found Answer.Null)
+    either (found == 0) (refused_next c Stage.LoadQ (Op.CasPtr x i y z) q p r l found Answer.Null)
     (on c _ _ refl refl refl (λ h. cc))
 q_next c (Op.Lea d x i) q p r l found =
-    either c _ (found == 0) _ _ (refused_next c Stage.LoadQ (Op.Lea d x i) q p r l found Answer.Null)
+    either (found == 0) (refused_next c Stage.LoadQ (Op.Lea d x i) q p r l found Answer.Null)
     (on c _ _ refl refl refl (λ h. cc))
 q_next c (Op.New d ty full) q p r l found =
-    either c _ (found == 0) _ _ (refused_next c Stage.LoadQ (Op.New d ty full) q p r l found Answer.Null)
+    either (found == 0) (refused_next c Stage.LoadQ (Op.New d ty full) q p r l found Answer.Null)
     (off c _ _ refl refl (λ h. cc))
 q_next c (Op.Free x) q p r l found =
-    either c _ (found == 0) _ _ (refused_next c Stage.LoadQ (Op.Free x) q p r l found Answer.Null)
+    either (found == 0) (refused_next c Stage.LoadQ (Op.Free x) q p r l found Answer.Null)
     (off c _ _ refl refl (λ h. cc))
 q_next c (Op.Clear d) q p r l found =
-    either c _ (found == 0) _ _ (refused_next c Stage.LoadQ (Op.Clear d) q p r l found Answer.Null)
+    either (found == 0) (refused_next c Stage.LoadQ (Op.Clear d) q p r l found Answer.Null)
     (off c _ _ refl refl (λ h. cc))
 q_next c (Op.GetGlobal d g) q p r l found =
-    either c _ (found == 0) _ _ (refused_next c Stage.LoadQ (Op.GetGlobal d g) q p r l found Answer.Null)
+    either (found == 0) (refused_next c Stage.LoadQ (Op.GetGlobal d g) q p r l found Answer.Null)
     (off c _ _ refl refl (λ h. cc))
 q_next c (Op.SetGlobal g x) q p r l found =
-    either c _ (found == 0) _ _ (refused_next c Stage.LoadQ (Op.SetGlobal g x) q p r l found Answer.Null)
+    either (found == 0) (refused_next c Stage.LoadQ (Op.SetGlobal g x) q p r l found Answer.Null)
     (off c _ _ refl refl (λ h. cc))
 q_next c (Op.IsNull x) q p r l found =
-    either c _ (found == 0) _ _ (refused_next c Stage.LoadQ (Op.IsNull x) q p r l found Answer.Null)
+    either (found == 0) (refused_next c Stage.LoadQ (Op.IsNull x) q p r l found Answer.Null)
     (off c _ _ refl refl (λ h. cc))
 
 p_next : (c : Config) (o : Op) (q p r l found : ℕ) → is_under_turn o ≡ false
@@ -188,9 +188,8 @@ at_stage f s e = ap (λ (x : Stage). flight x f.op f.q f.p f.r f.loaded) e
 pub probe_next : (c : Config) (f : Flight) (header : ℕ) → f.stage ≡ Stage.Probe → Next c f (progress_probe f header)
 probe_next c f header e =
     subst (λ (g : Flight). Next c g (progress_probe g header)) (sym (at_stage f Stage.Probe e))
-    (either c _ (is_unmapped_header (header_of header)) _ _
-    (refused_next c Stage.Probe f.op f.q f.p f.r f.loaded f.q Answer.Fault)
-    (probe_on c f.op f.q f.p f.r f.loaded))
+    (either (is_unmapped_header (header_of header)) (refused_next c Stage.Probe f.op f.q f.p f.r f.loaded f.q
+    Answer.Fault) (probe_on c f.op f.q f.p f.r f.loaded))
 
 pub read_next : (c : Config) (f : Flight) (found : ℕ) → f.stage ≡ Stage.Read → Next c f (progress_read f f.op found)
 read_next c f found e =
@@ -217,17 +216,16 @@ dirty_next c f e =
     (dirty_on c f.op f.q f.p f.r f.loaded)
 
 -- the last step
-pub leaves : (p : PassState) (q : PassState) → IsUnderway p
+pub leaves : {p : PassState} {q : PassState} → IsUnderway p
     → Goes p Step.Leave (record { flight = at_rest; answer = None }) q
     → CallMoves p (call_of p).op Step.Leave (record { flight = at_rest; answer = None }) q
-leaves p q u g =
+leaves {p} {q} u g =
     record {
       makes = one_step p (call_of p).op Step.Leave (record { flight = at_rest; answer = None }) q u.caller u.seat
           g u.entered refl;
       call = g.call;
       underway = goes_underway p (call_of p).op Step.Leave (record { flight = at_rest; answer = None }) q u.caller
-          u.seat g u.entered refl u.exists refl
-          (λ h. cc) (λ h. cc);
+          u.seat g u.entered refl u.exists refl (λ h. cc) (λ h. cc);
     }
 
 begins : (o : Op) → (begun o).stage ≡ Stage.Dirty → ⊥
@@ -235,16 +233,15 @@ begins (Op.Clear d) h = cc
 begins _ h = cc
 
 -- and the first
-pub enters : (p : PassState) (o : Op) (q : PassState) → MayBeginCall p o
+pub enters : {p : PassState} {o : Op} {q : PassState} → MayBeginCall p o
     → Goes p (Step.Enter o) (record { flight = begun o; answer = None }) q
     → CallMoves p o (Step.Enter o) (record { flight = begun o; answer = None }) q
-enters p o q ready g =
+enters {p} {o} {q} ready g =
     record {
       makes = one_step p o (Step.Enter o) (record { flight = begun o; answer = None }) q ready.caller ready.seat
           g ready.entered refl;
       call = g.call;
-      underway = goes_underway p o (Step.Enter o) (record { flight = begun o; answer = None }) q ready.caller
-          ready.seat g ready.entered refl
-          (caller_exists p o ready.caller (pass_before g.makes).history ready.seat ready.admits) ready.entered
-          (λ h. (refl, ready.admits)) (λ h. absurd (begins o h));
+      underway = goes_underway p o (Step.Enter o) (record { flight = begun o; answer = None }) q ready.caller ready.seat
+          g ready.entered refl (caller_exists p ready.caller (pass_before g.makes).history ready.seat ready.admits)
+          ready.entered (λ h. (refl, ready.admits)) (λ h. absurd (begins o h));
     }

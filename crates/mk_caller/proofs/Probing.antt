@@ -26,11 +26,11 @@ abbrev GetsTo : Bool → NeverState → Value → ℕ → Type 0
 GetsTo true n v i = target_of n v i ≡ Unmapped
 GetsTo false n v i = GetsToWord n v i
 
-mapped_word : (n : NeverState) (v : Value) (i : ℕ) → v ≢ Null → IsSound n v → Meets n v i (λ kind. Unit {0})
+mapped_word : {n : NeverState} (v : Value) {i : ℕ} → v ≢ Null → IsSound n v → Meets n v i (λ kind. Unit {0})
     → IsMet n v i → GetsToWord n v i
-mapped_word n Null i some sound meets met = absurd (some refl)
-mapped_word n (Num m) i some sound meets met = absurd sound
-mapped_word n (Ptr a t o) i some sound meets met =
+mapped_word Null some sound meets met = absurd (some refl)
+mapped_word (Num m) some sound meets met = absurd sound
+mapped_word (Ptr a t o) {i} some sound meets met =
     record { number = a; place = o + i; is = ap (λ (b : Bool). if b then Unmapped else WordOf a (o + i)) (met meets.0) }
 
 module _ (c : Config) (es : List Event) (k : ℕ) (h : IsHistory c es) (lt : k < c.callers)
@@ -78,30 +78,28 @@ module _ (c : Config) (es : List Event) (k : ℕ) (h : IsHistory c es) (lt : k <
       (car.q has) (car.some_q some) (st.all.mirrors.typed.registers (8 * k + q_of f.op))
       (st.all.mirrors.safe.1.registers (8 * k + q_of f.op)) meets u
   gets_to false u =
-      mapped_word n v (i_of f.op) not_null (st.all.mirrors.typed.registers (8 * k + q_of f.op)) meets
+      mapped_word v not_null (st.all.mirrors.typed.registers (8 * k + q_of f.op)) meets
       (mapped_met c.globals st.all.mirrors.safe.0 (image_scene_of w) n (ready c w n st.known st.all)
-      (header_at w.now.words)
-      (pages_tell c w n st.known st.all k lt in_call) v f.q (i_of f.op)
-      (car.q has) (car.some_q some) (st.all.mirrors.typed.registers (8 * k + q_of f.op))
+      (header_at w.now.words) (pages_tell c w n st.known st.all k lt in_call) v f.q (i_of f.op) (car.q has)
+      (car.some_q some) (st.all.mirrors.typed.registers (8 * k + q_of f.op))
       (st.all.mirrors.safe.1.registers (8 * k + q_of f.op)) u)
 
 -- a seat's, after what others did
-gets_to_for : (c : Config) (es : List Event) (t : Seat) (k : ℕ) → t ≡ Caller k → IsHistory c es → k < c.callers
+gets_to_for : {c : Config} {es : List Event} (t : Seat) (k : ℕ) → t ≡ Caller k → IsHistory c es → k < c.callers
     → (flight_of (left c es).now t).stage ≡ Stage.Probe
     → Meets (never_behind c es) (register_at (never_behind c es) (caller_number t)
     (q_of (flight_of (left c es).now t).op)) (i_of (flight_of (left c es).now t).op) (λ kind. Unit {0})
     → (b : Bool) → is_unmapped_header (header_in (left c es).now.words (page_met (flight_of (left c es).now t))) ≡ b
     → GetsTo b (never_behind c es) (register_at (never_behind c es) (caller_number t)
     (q_of (flight_of (left c es).now t).op)) (i_of (flight_of (left c es).now t).op)
-gets_to_for c es t k is h lt at meets b u =
-    subst
-    (λ (t : Seat). (flight_of (left c es).now t).stage ≡ Stage.Probe
+gets_to_for {c} {es} t k is h lt at meets b u =
+    subst (λ (t : Seat). (flight_of (left c es).now t).stage ≡ Stage.Probe
     → Meets (never_behind c es) (register_at (never_behind c es) (caller_number t)
     (q_of (flight_of (left c es).now t).op)) (i_of (flight_of (left c es).now t).op) (λ kind. Unit {0})
     → is_unmapped_header (header_in (left c es).now.words (page_met (flight_of (left c es).now t))) ≡ b
     → GetsTo b (never_behind c es) (register_at (never_behind c es) (caller_number t)
-    (q_of (flight_of (left c es).now t).op)) (i_of (flight_of (left c es).now t).op))
-    (sym is) (λ at' meets' u'. gets_to c es k h lt at' meets' b u') at meets u
+    (q_of (flight_of (left c es).now t).op)) (i_of (flight_of (left c es).now t).op)) (sym is)
+    (λ at' meets' u'. gets_to c es k h lt at' meets' b u') at meets u
 
 module _ (p : PassState) (q : PassState) (n : ℕ) (u : IsUnderway p)
     (finds : Finds p Step.Probe n q)
@@ -147,11 +145,10 @@ module _ (p : PassState) (q : PassState) (n : ℕ) (u : IsUnderway p)
       subst (λ (x : Value). GetsTo b (never_behind p.table.config es) x (i_of o)) (keeps (q_of o) small)
       (subst (λ (f : Flight). GetsTo b (never_behind p.table.config es)
       (register_at (never_behind p.table.config es) (caller_of_pass p) (q_of f.op)) (i_of f.op)) same
-      (gets_to_for p.table.config es p.seat u.caller u.seat d.history u.exists (ap (λ (f : Flight). f.stage) same ∙ at)
+      (gets_to_for p.seat u.caller u.seat d.history u.exists (ap (λ (f : Flight). f.stage) same ∙ at)
       (subst (λ (f : Flight). Meets (never_behind p.table.config es)
       (register_at (never_behind p.table.config es) (caller_of_pass p) (q_of f.op)) (i_of f.op) (λ kind. Unit {0}))
-      (sym same) meets)
-      b (sym finds_header ∙ is)))
+      (sym same) meets) b (sym finds_header ∙ is)))
 
   seen : q.seen ≡ p.seen ++ finds.makes.others ++ event_of p Step.Probe ∷ []
   seen = ap (λ (r : PassState). r.seen) finds.makes.is

@@ -1,15 +1,15 @@
 -- What the words that a call loads show of its registers' values, and the heap word that it accesses.
 use Rattle.mk_laws.proofs.Vocabulary.{AccessIsAdmitted, Caller, CarriesOwn, Config, Event, Flight, IsHistory, IsNumber}
 use Rattle.mk_laws.proofs.Vocabulary.{IsPointer, IsSafe, IsSound, Kind, List, Meets, NeverState, Null, Num, Op, Ptr}
-use Rattle.mk_laws.proofs.Vocabulary.{Seat, Value, World, ℕ, and_from, ap, arith, bases_of, caller_number, false}
-use Rattle.mk_laws.proofs.Vocabulary.{flight_among, flight_of, histories_keep_lengths, i_of, image_of, is_put, le-leb}
-use Rattle.mk_laws.proofs.Vocabulary.{left, lt-ltb, nat_le, nat_lt, never_behind, q_of, register_at, register_word}
-use Rattle.mk_laws.proofs.Vocabulary.{shown, subst, sym, true, word_met, ◌%◌, ◌*◌, ◌+◌, ◌/◌, ◌<◌, ◌↔◌, ◌∙◌, ◌≡◌}
+use Rattle.mk_laws.proofs.Vocabulary.{Value, World, ℕ, and_from, ap, arith, bases_of, false, flight_among, flight_of}
+use Rattle.mk_laws.proofs.Vocabulary.{histories_keep_lengths, i_of, image_of, is_put, le-leb, left, lt-ltb, nat_le}
+use Rattle.mk_laws.proofs.Vocabulary.{nat_lt, never_behind, q_of, register_at, register_word, shown, sym, true}
+use Rattle.mk_laws.proofs.Vocabulary.{word_met, ◌%◌, ◌*◌, ◌+◌, ◌/◌, ◌<◌, ◌↔◌, ◌∙◌, ◌≡◌}
 use Rattle.mk_core.specs.Ranges.{is_word_met}
 use Rattle.mk_laws.{proofs.ImagesKept.base_at, proofs.LastEvents.stands, proofs.Pairs.shows_plain}
 use Rattle.mk_laws.{proofs.ProbesStill.ready, proofs.Ready.image_zero, specs.Images.has_q, specs.Images.has_some_q}
-use Rattle.mk_caller.specs.{Moves.is_access, States.Admits, States.caller_of_pass, States.never_of, States.value_of}
-use Rattle.mk_words.specs.{CallSteps.register_of, States.PassState, States.call_of, States.now_of}
+use Rattle.mk_caller.specs.{Moves.is_access, States.Admits, States.value_of}
+use Rattle.mk_words.specs.{CallSteps.register_of, States.PassState, States.call_of}
 
 meets_some : (n : NeverState) (v : Value) (i : ℕ) (P : Kind → Type 0) → Meets n v i P → Meets n v i (λ kind. Unit {0})
 meets_some n Null i P h = tt
@@ -28,11 +28,10 @@ access_meets n k (Op.Lea d q i) a h = h
 access_meets n k _ a h = cc
 
 -- A register, where nothing is owed to it, is the image of its value.
-own_image : (c : Config) (es : List Event) (k r : ℕ) → IsHistory c es → r < 8
-    → is_put (flight_of (left c es).now (Caller k)).stage ≡ false
-    → register_word (left c es).now.words k r ≡ image_of (bases_of (left c es).allocations)
-    (register_at (never_behind c es) k r)
-own_image c es k r h lt plain =
+own_image : {c : Config} {es : List Event} (k r : ℕ) → IsHistory c es → r < 8
+    → is_put (flight_of (left c es).now (Caller k)).stage ≡ false → register_word (left c es).now.words k r
+    ≡ image_of (bases_of (left c es).allocations) (register_at (never_behind c es) k r)
+own_image {c} {es} k r h lt plain =
     let m = (stands c es h).all.mirrors.images.registers (8 * k + r) in
     let at : (8 * k + r) / 8 ≡ k = omega arith in
     let in_it : (8 * k + r) % 8 ≡ r = omega arith in
@@ -40,14 +39,13 @@ own_image c es k r h lt plain =
     sym (shows_plain f r (register_word (left c es).now.words k r) plain)
     ∙ ap (λ j. shown f j (register_word (left c es).now.words k r)) (sym in_it)
     ∙ ap (λ j. shown (flight_among (left c es).now.seats.flights j) ((8 * k + r) % 8)
-    (register_word (left c es).now.words k r)) (sym at)
-    ∙ m
+    (register_word (left c es).now.words k r)) (sym at) ∙ m
 
-null_for : (c : Config) (es : List Event) (k r : ℕ) → IsHistory c es → r < 8
+null_for : {c : Config} {es : List Event} (k r : ℕ) → IsHistory c es → r < 8
     → is_put (flight_of (left c es).now (Caller k)).stage ≡ false
     → (register_word (left c es).now.words k r ≡ 0) ↔ (register_at (never_behind c es) k r ≡ Null)
-null_for c es k r h lt plain =
-    let is = own_image c es k r h lt plain in
+null_for {c} {es} k r h lt plain =
+    let is = own_image k r h lt plain in
     let bases = bases_of (left c es).allocations in (
       λ zero. image_zero (never_behind c es) bases (register_at (never_behind c es) k r)
           ((stands c es h).all.mirrors.typed.registers (8 * k + r)) (sym is ∙ zero),
@@ -58,20 +56,16 @@ null_for c es k r h lt plain =
 pub null_tells : (p : PassState) (k r : ℕ) → p.seat ≡ Caller k → IsHistory p.table.config p.seen → r < 8
     → is_put (call_of p).stage ≡ false
     → (register_of p r ≡ 0) ↔ (value_of p r ≡ Null)
-null_tells p k r is h lt plain =
-    subst
-    (λ (t : Seat). is_put (flight_of (now_of p) t).stage ≡ false
-    → (register_word (now_of p).words (caller_number t) r ≡ 0) ↔ (register_at (never_of p) (caller_number t) r ≡ Null))
-    (sym is) (null_for p.table.config p.seen k r h lt) plain
+null_tells p k r is h lt plain = grind (arith, null_for)
 
 -- The word that is accessed through a value lies in the heap.
-word_for : (c : Config) (es : List Event) (k : ℕ) → IsHistory c es
+word_for : {c : Config} {es : List Event} (k : ℕ) → IsHistory c es
     → has_q (flight_of (left c es).now (Caller k)).stage (flight_of (left c es).now (Caller k)).op ≡ true
     → has_some_q (flight_of (left c es).now (Caller k)).stage (flight_of (left c es).now (Caller k)).op ≡ true
     → Meets (never_behind c es) (register_at (never_behind c es) k (q_of (flight_of (left c es).now (Caller k)).op))
     (i_of (flight_of (left c es).now (Caller k)).op) (λ kind. Unit {0})
     → is_word_met c (flight_of (left c es).now (Caller k)) ≡ true
-word_for c es k h has some meets = by (register_at n k (q_of f.op)) (car.q has)
+word_for {c} {es} k h has some meets = by (register_at n k (q_of f.op)) (car.q has)
     (st.all.mirrors.typed.registers (8 * k + q_of f.op)) (st.all.mirrors.safe.1.registers (8 * k + q_of f.op)) meets
   where
     f : Flight
@@ -106,12 +100,4 @@ pub word_is_met : (p : PassState) (k : ℕ) → p.seat ≡ Caller k → IsHistor
     → has_q (call_of p).stage (call_of p).op ≡ true
     → has_some_q (call_of p).stage (call_of p).op ≡ true → is_access (call_of p).op ≡ true → Admits p (call_of p).op
     → is_word_met p.table.config (call_of p) ≡ true
-word_is_met p k is h has some through ad =
-    subst
-    (λ (t : Seat). has_q (flight_of (now_of p) t).stage (flight_of (now_of p) t).op ≡ true
-    → has_some_q (flight_of (now_of p) t).stage (flight_of (now_of p) t).op ≡ true
-    → Meets (never_of p) (register_at (never_of p) (caller_number t) (q_of (flight_of (now_of p) t).op))
-    (i_of (flight_of (now_of p) t).op) (λ kind. Unit {0})
-    → is_word_met p.table.config (flight_of (now_of p) t) ≡ true)
-    (sym is) (word_for p.table.config p.seen k h) has some
-    (access_meets (never_of p) (caller_of_pass p) (call_of p).op through ad.access)
+word_is_met p k is h has some through ad = grind (arith, word_for, access_meets)

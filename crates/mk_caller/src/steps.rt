@@ -76,6 +76,7 @@ pub(crate) fn store(words: &Words, caller: u64, pass: &mut Pass, r: u8, v: u64)
 }
 
 /// Loads the word that the call accesses.
+#[tactic(auto, using(crate::proofs::Stepping::access_admitted))]
 #[inline(always)]
 pub(crate) fn read(words: &Words, pages: u64, pass: &mut Pass, word: u64) -> u64
     requires one_table { pass.old.table ≡ words.now }
@@ -90,6 +91,7 @@ pub(crate) fn read(words: &Words, pages: u64, pass: &mut Pass, word: u64) -> u64
 }
 
 /// Stores to the word that the call accesses.
+#[tactic(auto, using(crate::proofs::Stepping::access_admitted))]
 #[inline(always)]
 pub(crate) fn write(words: &Words, pages: u64, pass: &mut Pass, word: u64, v: u64)
     requires one_table { pass.old.table ≡ words.now }
@@ -105,6 +107,7 @@ pub(crate) fn write(words: &Words, pages: u64, pass: &mut Pass, word: u64, v: u6
 }
 
 /// Exchanges the word that the call accesses, where it is as expected.
+#[tactic(auto, using(crate::proofs::Stepping::access_admitted))]
 #[inline(always)]
 pub(crate) fn cas(
     words: &Words,
@@ -167,6 +170,7 @@ pub(crate) fn global_store(words: &Words, pass: &mut Pass, g: u8, v: u64)
 
 /// Loads the header of the page of the word that the call accesses, through the value `u` and `i` words on. Answers the
 /// word, and none where its page is unmapped.
+#[tactic(auto, using(crate::proofs::Stepping::access_admitted))]
 #[inline(always)]
 pub(crate) fn probe(words: &Words, pass: &mut Pass, u: u64, i: u64) -> Option<u64>
     requires one_table { pass.old.table ≡ words.now }

@@ -160,5 +160,7 @@ pub mod Snapshots
 pub mod ReadingsStands
 pub mod UnmappedRuns
 pub mod UnsetWords
+pub mod AppliedPlacement
+pub mod CallsBy
 pub mod Promises
 pub mod Basics

@@ -1,10 +1,10 @@
 -- A Free whose register is null or points to a first word is admitted, whatever its step.
 use Rattle.std.proofs.lemmas.List.{length-replicate}
-use Rattle.mk_laws.proofs.Vocabulary.{Answer, AreAdmitted, AreOfOthers, Call, Caller, Config, Decided, Event}
-use Rattle.mk_laws.proofs.Vocabulary.{IsAdmitted, IsHistory, List, None, Null, Op, Option, Some, Step, Value, ℕ}
-use Rattle.mk_laws.proofs.Vocabulary.{after_calls, answer_decided, ap, append-nil, arith, asked, call_decided, calls}
-use Rattle.mk_laws.proofs.Vocabulary.{earlier_part_is_history, entry_of, first_world, flight_of, left, map-append}
-use Rattle.mk_laws.proofs.Vocabulary.{never_behind, refl, register_at, subst, sym, [], ◌*◌, ◌++◌, ◌<◌, ◌∙◌, ◌∷◌, ◌≡◌}
+use Rattle.mk_laws.proofs.Vocabulary.{Answer, AreAdmitted, AreOfOthers, Call, Caller, Config, Event, IsAdmitted}
+use Rattle.mk_laws.proofs.Vocabulary.{IsHistory, List, None, Null, Op, Option, Some, Step, Value, ℕ, after_calls}
+use Rattle.mk_laws.proofs.Vocabulary.{answer_decided, ap, append-nil, arith, asked, call_decided, calls}
+use Rattle.mk_laws.proofs.Vocabulary.{earlier_part_is_history, entry_of, flight_of, left, map-append, never_behind}
+use Rattle.mk_laws.proofs.Vocabulary.{refl, register_at, [], ◌*◌, ◌++◌, ◌<◌, ◌∙◌, ◌∷◌, ◌≡◌}
 use Rattle.mk_objects.proofs.Vocabulary.{IsAdmittedBehind, IsBase, calls_more}
 use Rattle.mk_never.proofs.{Later.calls_stay, Parts.admitted_join}
 use Rattle.mk_core.specs.History.{never_first}
@@ -31,39 +31,24 @@ free_call c k r xs (Some a) lt small base = (free_admitted c k r xs lt small bas
 
 asked_more : (c : Config) (es : List Event) (e : Event)
     → asked (calls c (es ++ e ∷ [])) ≡ asked (calls c es) ++ asked (call_decided c (left c es).now e)
-asked_more c es e =
-    ap (λ (ds : List Decided). asked ds) (calls_more c (first_world c) es e)
-    ∙ map-append (λ (x : Decided). record { caller = x.caller; op = x.op }) (calls c es)
-    (call_decided c (left c es).now e)
+asked_more c es e = grind (arith, calls_more, map-append)
 
-pub free_admits : (c : Config) (es : List Event) (k r : ℕ) (x : Step) → IsHistory c es → k < c.callers → r < 8
+pub free_admits : {c : Config} {es : List Event} (k r : ℕ) (x : Step) → IsHistory c es → k < c.callers → r < 8
     → (flight_of (left c es).now (Caller k)).op ≡ Op.Free r → IsBase (register_at (never_behind c es) k r)
     → IsAdmittedBehind c es (record { seat = Caller k; step = x })
-free_admits c es k r x h lt small is base =
-    let e : Event = record { seat = Caller k; step = x } in
-    let a : Option Answer = answer_decided c (left c es).now e in
-    subst (λ (xs : List Call). AreAdmitted c.globals (never_first c) xs) (sym (asked_more c es e))
-    (admitted_join c.globals (never_first c) (asked (calls c es)) (asked (call_decided c (left c es).now e)) (
-      h.admitted,
-      subst (λ (o : Op). AreAdmitted c.globals (never_behind c es) (asked (entry_of k o a))) (sym is)
-          (free_call c k r (asked (calls c es)) a lt small base),
-    ))
+free_admits k r x h lt small is base = grind (arith, asked_more, admitted_join, free_call)
 
 -- A caller keeps its registers in the heap that never reuses storage over events of others and a step of its own that
 -- decides nothing.
-pub registers_kept : (c : Config) (es others : List Event) (k : ℕ) (x : Step)
-    → IsHistory c (es ++ others ++ record { seat = Caller k; step = x } ∷ [])
-    → AreOfOthers (Caller k ∷ []) others
-    → answer_decided c (left c (es ++ others)).now (record { seat = Caller k; step = x }) ≡ None
-    → (r : ℕ) → r < 8 → register_at (never_behind c (es ++ others ++ record { seat = Caller k; step = x } ∷ [])) k r
+pub registers_kept : {c : Config} (es others : List Event) (k : ℕ) (x : Step)
+    → IsHistory c (es ++ others ++ record { seat = Caller k; step = x } ∷ []) → AreOfOthers (Caller k ∷ []) others
+    → answer_decided c (left c (es ++ others)).now (record { seat = Caller k; step = x }) ≡ None → (r : ℕ) → r < 8
+    → register_at (never_behind c (es ++ others ++ record { seat = Caller k; step = x } ∷ [])) k r
     ≡ register_at (never_behind c es) k r
-registers_kept c es others k x whole of_others none r lt =
+registers_kept {c} es others k x whole of_others none r lt =
     let e : Event = record { seat = Caller k; step = x } in
     let before = earlier_part_is_history c (es ++ others) (e ∷ []) whole in
     let same : asked (calls c (es ++ others ++ e ∷ [])) ≡ asked (calls c (es ++ others)) =
-    asked_more c (es ++ others) e
-    ∙ ap (λ (a : Option Answer). asked (calls c (es ++ others))
-    ++ asked (entry_of k (flight_of (left c (es ++ others)).now (Caller k)).op a)) none
-    ∙ append-nil (asked (calls c (es ++ others))) in
+    grind (arith, asked_more, append-nil) in
     ap (λ (xs : List Call). register_at (after_calls (never_first c) xs) k r) same
     ∙ (admitted_others_leave c es others (Caller k) before of_others).registers k r refl lt

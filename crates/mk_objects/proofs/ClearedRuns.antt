@@ -1,9 +1,8 @@
 -- A run is unmapped and wiped, and then the gates are opened.
 use Rattle.mk_laws.proofs.Vocabulary.{Bool, RunPages, Steady, ℕ, ap, false, is_held, is_number_of, is_run_gone, not}
-use Rattle.mk_laws.proofs.Vocabulary.{others_are_held, refl, subst, sym, true, [], ◌<◌, ◌||◌, ◌∙◌, ◌≡◌}
-use Rattle.mk_objects.proofs.Vocabulary.{HasGates, PassState, RunIsUnmapped, RunIsWiped, SetsGates, Unmaps, Wipes}
-use Rattle.mk_objects.proofs.Vocabulary.{WordsState, all_below_from, all_others, is_clearing, is_following, is_settling}
-use Rattle.mk_objects.proofs.Vocabulary.{now_of, world_of}
+use Rattle.mk_laws.proofs.Vocabulary.{others_are_held, refl, subst, sym, true, ◌<◌, ◌||◌, ◌∙◌, ◌≡◌}
+use Rattle.mk_objects.proofs.Vocabulary.{PassState, RunIsUnmapped, RunIsWiped, SetsGates, Unmaps, Wipes, WordsState}
+use Rattle.mk_objects.proofs.Vocabulary.{all_below_from, all_others, is_clearing, is_settling, now_of, world_of}
 use Rattle.mk_objects.proofs.DecidedFrees.{Stays, clearing_follows, gates_stay, settling_follows, stays_then}
 use Rattle.mk_objects.proofs.DecidedFrees.{unmaps_stay, wipes_stay}
 use Rattle.mk_objects.proofs.ReachedParts.{reached_world, same_kinds}
@@ -23,34 +22,31 @@ stopped_by p held =
 
 -- what each part leaves
 
-unmapped_now : (p q : PassState) (run : RunPages) → Unmaps p run q → RunIsUnmapped p.seat run (world_of p) (world_of q)
-unmapped_now p q run a = reached_world is_clearing p q (RunIsUnmapped p.seat run (world_of p)) [] a
+unmapped_now : {p q : PassState} {run : RunPages} → Unmaps p run q → RunIsUnmapped p.seat run (world_of p) (world_of q)
+unmapped_now a = reached_world a
 
-wiped_now : (p q : PassState) (run : RunPages) → Wipes p run q → RunIsWiped p.seat run (world_of p) (world_of q)
-wiped_now p q run a = reached_world is_clearing p q (RunIsWiped p.seat run (world_of p)) [] a
+wiped_now : {p q : PassState} {run : RunPages} → Wipes p run q → RunIsWiped p.seat run (world_of p) (world_of q)
+wiped_now a = reached_world a
 
-pub unmapped_held : (p q : PassState) (run : RunPages) → Unmaps p run q
+pub unmapped_held : {p q : PassState} {run : RunPages} → Unmaps p run q
     → ((j : ℕ) → j < p.table.config.callers → is_held (now_of p).words j ≡ all_others p.seat j)
     → (j : ℕ) → j < q.table.config.callers → is_held (now_of q).words j ≡ all_others q.seat j
-unmapped_held p q run a held =
+unmapped_held {q} a held =
     subst (λ (x : PassState). (j : ℕ) → j < x.table.config.callers → is_held (now_of q).words j ≡ all_others x.seat j)
-    (sym a.same)
-    (λ j lt. (unmapped_now p q run a).changes.gates j ∙ held j lt)
+    (sym a.same) (λ j lt. (unmapped_now a).changes.gates j ∙ held j lt)
 
 -- and all
-pub clears : (p a b q : PassState) (run : RunPages) → Unmaps p run a → Wipes a run b → SetsGates is_settling b no_gate q
+pub clears : {p a b q : PassState} {run : RunPages} → Unmaps p run a → Wipes a run b → SetsGates is_settling b no_gate q
     → is_run_gone (now_of q).words (now_of q).seats.holding.freed ≡ true → ClearsRun p q
-clears p a b q run unmaps wipes opens gone =
-    let one = unmapped_now p a run unmaps in
-    let two = wiped_now a b run wipes in
-    let three = reached_world is_settling b q (HasGates b.seat b.table.config.callers no_gate (world_of b)) [] opens in
+clears {p} {b} {q} unmaps wipes opens gone =
+    let one = unmapped_now unmaps in
+    let two = wiped_now wipes in
+    let three = reached_world opens in
     let cleared : Stays is_clearing p b =
-    stays_then is_clearing is_clearing is_clearing (same_kinds is_clearing) (same_kinds is_clearing) p a b
-    (unmaps_stay p a run unmaps) (wipes_stay a b run wipes) in
+    stays_then (same_kinds is_clearing) (same_kinds is_clearing) (unmaps_stay unmaps) (wipes_stay wipes) in
     let table : b.table ≡ p.table = ap (λ (x : PassState). x.table) cleared.same in
     record {
-      stays = stays_then is_clearing is_settling is_following clearing_follows settling_follows p b q cleared
-          (gates_stay is_settling b q no_gate opens);
+      stays = stays_then clearing_follows settling_follows cleared (gates_stay opens);
       held = ap (λ (x : Steady). x.held) three.but_gates.steady ∙ ap (λ (x : Steady). x.held) two.changes.steady
           ∙ ap (λ (x : Steady). x.held) one.changes.steady;
       fresh = ap (λ (x : Steady). x.fresh) three.but_gates.steady ∙ ap (λ (x : Steady). x.fresh) two.changes.steady

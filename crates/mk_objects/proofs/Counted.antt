@@ -1,26 +1,15 @@
 -- What is counted of ended cycles and of Full answers, one event further and in parts.
 use Rattle.std.proofs.lemmas.List.Sums.{sum_by_push}
-use Rattle.mk_laws.proofs.Vocabulary.{Config, Decided, Event, List, ℕ, answer_decided, ap, arith, call_decided}
-use Rattle.mk_laws.proofs.Vocabulary.{caller_number, calls, cond, ends, false, first_world, flight_of, is_end, left, []}
-use Rattle.mk_laws.proofs.Vocabulary.{◌++◌, ◌+◌, ◌∙◌, ◌∷◌, ◌≡◌}
+use Rattle.mk_laws.proofs.Vocabulary.{Config, Event, List, answer_decided, arith, ends, false, is_end, left, [], ◌++◌}
+use Rattle.mk_laws.proofs.Vocabulary.{◌+◌, ◌∙◌, ◌∷◌, ◌≡◌}
 use Rattle.mk_objects.proofs.Vocabulary.{answers_full, calls_more}
-use Rattle.mk_core.specs.{Counts.full_answers, Frames.CountsAreLeft}
+use Rattle.mk_core.specs.Frames.{CountsAreLeft}
 use Rattle.mk_laws.proofs.OthersCounts.{entry_fulls, fulls_append, fulls_of}
 
-pub counts_then : (c : Config) (es fs gs : List Event) → CountsAreLeft c es fs → CountsAreLeft c fs gs
+pub counts_then : {c : Config} {es fs gs : List Event} → CountsAreLeft c es fs → CountsAreLeft c fs gs
     → CountsAreLeft c es gs
-counts_then c es fs gs a b = record { ends = b.ends ∙ a.ends; fulls = b.fulls ∙ a.fulls }
+counts_then a b = record { ends = b.ends ∙ a.ends; fulls = b.fulls ∙ a.fulls }
 
 pub counts_more : (c : Config) (es : List Event) (e : Event) → is_end e.step ≡ false
     → answers_full (answer_decided c (left c es).now e) ≡ false → CountsAreLeft c es (es ++ e ∷ [])
-counts_more c es e no_end no_full =
-    let ds : List Decided = call_decided c (left c es).now e in
-    let none : cond {A = ℕ} (is_end e.step) 1 0 ≡ 0 = ap (λ b. cond {A = ℕ} b 1 0) no_end in
-    let ended : ends (es ++ e ∷ []) ≡ ends es + cond {A = ℕ} (is_end e.step) 1 0 =
-    sum_by_push (λ (x : Event). cond {A = ℕ} (is_end x.step) 1 0) es e in
-    let empty : fulls_of ds ≡ 0 =
-    entry_fulls (caller_number e.seat) (flight_of (left c es).now e.seat).op (answer_decided c (left c es).now e)
-    no_full in
-    let filled : full_answers c (es ++ e ∷ []) ≡ full_answers c es + fulls_of ds =
-    ap (λ (xs : List Decided). fulls_of xs) (calls_more c (first_world c) es e) ∙ fulls_append (calls c es) ds in
-    record { ends = omega arith; fulls = omega arith }
+counts_more c es e no_end no_full = grind (arith, sum_by_push, fulls_of, entry_fulls, calls_more, fulls_append)

@@ -1,231 +1,125 @@
 -- A Free is decided, and parts of its turn come before that and after it.
-use Rattle.mk_laws.proofs.Vocabulary.{Answer, Bool, Cell, Config, Decided, Flight, Holding, List, PlacedAllocation}
-use Rattle.mk_laws.proofs.Vocabulary.{Seat, Some, Steady, Step, Tally, Words, World, ℕ, ap, caller_number, cond}
-use Rattle.mk_laws.proofs.Vocabulary.{entry_of, false, flight_of, freed_released, freed_where_it_stands, left, map}
-use Rattle.mk_laws.proofs.Vocabulary.{refl, subst, sym, true, [], ◌+◌, ◌∙◌, ◌∷◌, ◌≡◌}
-use Rattle.mk_objects.proofs.Vocabulary.{Changes, ComesTo, HasFreed, HasGates, IsAsLeft, IsFreedAt, OnlyLooks}
-use Rattle.mk_objects.proofs.Vocabulary.{PassState, RunIsUnmapped, RunIsWiped, SetsGates, SetsTally, StaysSo, Unmaps}
-use Rattle.mk_objects.proofs.Vocabulary.{Wipes, entry_for, is_clearing, is_following, is_freeing, is_holding}
-use Rattle.mk_objects.proofs.Vocabulary.{is_loading, is_look, is_settling, steady_of, sum_by-cons, turn_stays}
-use Rattle.mk_objects.proofs.Vocabulary.{with_tally, world_of}
+use Rattle.mk_laws.proofs.Vocabulary.{Answer, Bool, Cell, Config, Flight, Holding, List, PlacedAllocation, RunPages}
+use Rattle.mk_laws.proofs.Vocabulary.{Seat, Some, Steady, Step, Tally, Words, World, ℕ, ap, cond, flight_of}
+use Rattle.mk_laws.proofs.Vocabulary.{freed_released, freed_where_it_stands, map, refl, sym, [], ◌+◌, ◌∙◌, ◌∷◌, ◌≡◌}
+use Rattle.mk_objects.proofs.Vocabulary.{Changes, ComesTo, HasFreed, IsFreedAt, PassState, SetsGates, SetsTally}
+use Rattle.mk_objects.proofs.Vocabulary.{StaysSo, Unmaps, Wipes, entry_for, is_clearing, is_following, is_freeing}
+use Rattle.mk_objects.proofs.Vocabulary.{is_holding, is_loading, is_look, is_settling, steady_of, sum_by-cons, world_of}
 use Rattle.mk_core.specs.Counts.{releases}
-use Rattle.mk_objects.proofs.ReachedParts.{AreAmong, reached_world, reaches_after, reaches_so, reaches_then, same_kinds}
-use Rattle.mk_objects.proofs.{FreedOnce.FreesNot, FreedOnce.is_quar, JoinedLooks.does_wider}
-use Rattle.mk_objects.specs.Deciding.{IsDecidedAt}
+use Rattle.mk_objects.proofs.ReachedParts.{AreAmong, reached_world, reaches_after, reaches_answered, reaches_so}
+use Rattle.mk_objects.proofs.ReachedParts.{same_kinds}
+use Rattle.mk_objects.proofs.FreedOnce.{FreesNot}
+use Rattle.mk_objects.specs.Deciding.{IsDecidedAt, counted}
 
 -- kinds among others
 
 pub look_loads : AreAmong is_look is_loading
-look_loads (Step.Look x) h = refl
+look_loads (Step.Look x) h = cc
 look_loads _ h = cc
 
 pub load_frees : AreAmong is_loading is_freeing
-load_frees (Step.Look x) h = refl
-load_frees Step.Reg h = refl
+load_frees (Step.Look x) h = cc
 load_frees _ h = cc
 
 pub look_settles : AreAmong is_look is_settling
-look_settles (Step.Look x) h = refl
+look_settles (Step.Look x) h = cc
 look_settles _ h = cc
 
 pub settling_follows : AreAmong is_settling is_following
-settling_follows (Step.Look x) h = refl
-settling_follows (Step.Open j) h = refl
-settling_follows (Step.Tally n v) h = refl
+settling_follows (Step.Look x) h = cc
 settling_follows _ h = cc
 
 pub clearing_follows : AreAmong is_clearing is_following
-clearing_follows (Step.Look x) h = refl
-clearing_follows (Step.Head p v) h = refl
-clearing_follows (Step.Wipe n) h = refl
+clearing_follows (Step.Look x) h = cc
 clearing_follows _ h = cc
 
 pub following_frees : AreAmong is_following is_freeing
-following_frees (Step.Look x) h = refl
-following_frees (Step.Open j) h = refl
-following_frees (Step.Head p v) h = refl
-following_frees (Step.Wipe n) h = refl
-following_frees (Step.Tally n v) h = refl
+following_frees (Step.Look x) h = cc
 following_frees _ h = cc
 
 pub look_frees : AreAmong is_look is_freeing
-look_frees (Step.Look x) h = refl
-look_frees _ h = cc
+look_frees x h = load_frees x (look_loads x h)
 
 pub hold_frees : AreAmong is_holding is_freeing
-hold_frees (Step.Hold j) h = refl
+hold_frees (Step.Hold j) h = cc
 hold_frees _ h = cc
 
 -- None of them is a `quar`.
 
-loading_stays : (x : Step) → is_loading x ≡ true → turn_stays x ≡ true
-loading_stays (Step.Look x) h = refl
-loading_stays Step.Reg h = refl
-loading_stays _ h = cc
-
-loading_no_quar : (x : Step) → is_loading x ≡ true → is_quar x ≡ false
-loading_no_quar (Step.Look x) h = refl
-loading_no_quar Step.Reg h = refl
-loading_no_quar _ h = cc
-
 pub loading_not : FreesNot is_loading
-loading_not = record { stays = loading_stays; no_quar = loading_no_quar }
-
-holding_stays : (x : Step) → is_holding x ≡ true → turn_stays x ≡ true
-holding_stays (Step.Hold j) h = refl
-holding_stays _ h = cc
-
-holding_no_quar : (x : Step) → is_holding x ≡ true → is_quar x ≡ false
-holding_no_quar (Step.Hold j) h = refl
-holding_no_quar _ h = cc
+loading_not (Step.Look x) h = cc
+loading_not _ h = cc
 
 pub holding_not : FreesNot is_holding
-holding_not = record { stays = holding_stays; no_quar = holding_no_quar }
-
-look_stays : (x : Step) → is_look x ≡ true → turn_stays x ≡ true
-look_stays (Step.Look x) h = refl
-look_stays _ h = cc
-
-look_no_quar : (x : Step) → is_look x ≡ true → is_quar x ≡ false
-look_no_quar (Step.Look x) h = refl
-look_no_quar _ h = cc
+holding_not (Step.Hold j) h = cc
+holding_not _ h = cc
 
 pub look_not : FreesNot is_look
-look_not = record { stays = look_stays; no_quar = look_no_quar }
-
-following_stays : (x : Step) → is_following x ≡ true → turn_stays x ≡ true
-following_stays (Step.Look x) h = refl
-following_stays (Step.Open j) h = refl
-following_stays (Step.Head p v) h = refl
-following_stays (Step.Wipe n) h = refl
-following_stays (Step.Tally n v) h = refl
-following_stays _ h = cc
-
-following_no_quar : (x : Step) → is_following x ≡ true → is_quar x ≡ false
-following_no_quar (Step.Look x) h = refl
-following_no_quar (Step.Open j) h = refl
-following_no_quar (Step.Head p v) h = refl
-following_no_quar (Step.Wipe n) h = refl
-following_no_quar (Step.Tally n v) h = refl
-following_no_quar _ h = cc
+look_not x h = loading_not x (look_loads x h)
 
 pub following_not : FreesNot is_following
-following_not = record { stays = following_stays; no_quar = following_no_quar }
+following_not (Step.Look x) h = cc
+following_not _ h = cc
 
 -- What stays over each part.
 
 abbrev pub Stays : (Step → Bool) → PassState → PassState → Type 0
 Stays kinds p q = ComesTo kinds p (StaysSo p.seat (world_of p)) [] q
 
-so_by : (s : Seat) (w v : World) → flight_of v.now s ≡ flight_of w.now s → v.now.seats.holding ≡ w.now.seats.holding
-    → steady_of v ≡ steady_of w → StaysSo s w v
-so_by s w v call holding steady =
+-- what none but the holder changes was changed so, which leaves what is counted
+pub stays_by : (s : Seat) (w v : World) (change : Steady → Steady) → flight_of v.now s ≡ flight_of w.now s
+    → v.now.seats.holding ≡ w.now.seats.holding → steady_of v ≡ change (steady_of w) → counted (change (steady_of w))
+    ≡ counted (steady_of w) → (change (steady_of w)).fresh_words ≡ (steady_of w).fresh_words
+    → (change (steady_of w)).allocations ≡ (steady_of w).allocations → StaysSo s w v
+stays_by s w v change call holding steady same fresh allocations =
     record {
       call = call;
       holding = holding;
-      phase = ap (λ (x : Steady). x.phase) steady;
-      cycles = ap (λ (x : Steady). x.cycles) steady;
-      released = ap (λ (x : Steady). x.released) steady;
-      full = ap (λ (x : Steady). x.full) steady;
-      fresh_words = ap (λ (x : Steady). x.fresh_words) steady;
-      allocations = ap (λ (x : Steady). x.allocations) steady;
+      counted = ap counted steady ∙ same;
+      fresh_words = ap (λ (x : Steady). x.fresh_words) steady ∙ fresh;
+      allocations = ap (λ (x : Steady). x.allocations) steady ∙ allocations;
     }
 
-pub looks_stay : (p q : PassState) → OnlyLooks p q → Stays is_look p q
-looks_stay p q a =
-    reaches_so is_look p q (IsAsLeft p.seat (world_of p)) (StaysSo p.seat (world_of p)) [] a
-    (λ at. so_by p.seat (world_of p) (left p.table.config q.seen) at.call at.holding at.steady)
-
-pub gates_stay : (kinds : Step → Bool) (p q : PassState) (gates : ℕ → Bool) → SetsGates kinds p gates q
+pub gates_stay : {kinds : Step → Bool} {p q : PassState} {gates : ℕ → Bool} → SetsGates kinds p gates q
     → Stays kinds p q
-gates_stay kinds p q gates a =
-    reaches_so kinds p q (HasGates p.seat p.table.config.callers gates (world_of p)) (StaysSo p.seat (world_of p)) [] a
-    (λ at. so_by p.seat (world_of p) (left p.table.config q.seen) at.but_gates.call at.but_gates.holding
-    at.but_gates.steady)
+gates_stay a =
+    reaches_so a (λ at.
+    stays_by _ _ _ (λ x. x) at.but_gates.call at.but_gates.holding at.but_gates.steady refl refl refl)
 
-pub wipes_stay : (p q : PassState) (run : _) → Wipes p run q → Stays is_clearing p q
-wipes_stay p q run a =
-    reaches_so is_clearing p q (RunIsWiped p.seat run (world_of p)) (StaysSo p.seat (world_of p)) [] a
-    (λ at. so_by p.seat (world_of p) (left p.table.config q.seen) at.changes.call at.changes.holding at.changes.steady)
+changes_stay : {s : Seat} {w v : World} {change : Steady → Steady} → Changes s change w v
+    → counted (change (steady_of w)) ≡ counted (steady_of w) → (change (steady_of w)).fresh_words
+    ≡ (steady_of w).fresh_words → (change (steady_of w)).allocations ≡ (steady_of w).allocations → StaysSo s w v
+changes_stay {s} {w} {v} {change} at same fresh allocations =
+    stays_by s w v change at.call at.holding at.steady same fresh allocations
 
-pub unmaps_stay : (p q : PassState) (run : _) → Unmaps p run q → Stays is_clearing p q
-unmaps_stay p q run a =
-    reaches_so is_clearing p q (RunIsUnmapped p.seat run (world_of p)) (StaysSo p.seat (world_of p)) [] a
-    (λ at. record {
-      call = at.changes.call;
-      holding = at.changes.holding;
-      phase = ap (λ (x : Steady). x.phase) at.changes.steady;
-      cycles = ap (λ (x : Steady). x.cycles) at.changes.steady;
-      released = ap (λ (x : Steady). x.released) at.changes.steady;
-      full = ap (λ (x : Steady). x.full) at.changes.steady;
-      fresh_words = ap (λ (x : Steady). x.fresh_words) at.changes.steady;
-      allocations = ap (λ (x : Steady). x.allocations) at.changes.steady;
-    })
+pub wipes_stay : {p q : PassState} {run : RunPages} → Wipes p run q → Stays is_clearing p q
+wipes_stay a = reaches_so a (λ at. changes_stay at.changes refl refl refl)
 
-pub fresh_stays : (p q : PassState) (n : ℕ) → SetsTally p Tally.Fresh n q → Stays is_settling p q
-fresh_stays p q n a =
-    reaches_so is_settling p q (Changes p.seat (with_tally Tally.Fresh n) (world_of p)) (StaysSo p.seat (world_of p))
-    [] a
-    (λ at. record {
-      call = at.call;
-      holding = at.holding;
-      phase = ap (λ (x : Steady). x.phase) at.steady;
-      cycles = ap (λ (x : Steady). x.cycles) at.steady;
-      released = ap (λ (x : Steady). x.released) at.steady;
-      full = ap (λ (x : Steady). x.full) at.steady;
-      fresh_words = ap (λ (x : Steady). x.fresh_words) at.steady;
-      allocations = ap (λ (x : Steady). x.allocations) at.steady;
-    })
+pub unmaps_stay : {p q : PassState} {run : RunPages} → Unmaps p run q → Stays is_clearing p q
+unmaps_stay a = reaches_so a (λ at. changes_stay at.changes refl refl refl)
 
-pub held_stays : (p q : PassState) (n : ℕ) → SetsTally p Tally.Held n q → Stays is_settling p q
-held_stays p q n a =
-    reaches_so is_settling p q (Changes p.seat (with_tally Tally.Held n) (world_of p)) (StaysSo p.seat (world_of p))
-    [] a
-    (λ at. record {
-      call = at.call;
-      holding = at.holding;
-      phase = ap (λ (x : Steady). x.phase) at.steady;
-      cycles = ap (λ (x : Steady). x.cycles) at.steady;
-      released = ap (λ (x : Steady). x.released) at.steady;
-      full = ap (λ (x : Steady). x.full) at.steady;
-      fresh_words = ap (λ (x : Steady). x.fresh_words) at.steady;
-      allocations = ap (λ (x : Steady). x.allocations) at.steady;
-    })
+pub fresh_stays : {p q : PassState} {n : ℕ} → SetsTally p Tally.Fresh n q → Stays is_settling p q
+fresh_stays a = reaches_so a (λ at. changes_stay at refl refl refl)
 
-so_then : (s : Seat) (w u v : World) → StaysSo s w u → StaysSo s u v → StaysSo s w v
-so_then s w u v a b =
+pub held_stays : {p q : PassState} {n : ℕ} → SetsTally p Tally.Held n q → Stays is_settling p q
+held_stays a = reaches_so a (λ at. changes_stay at refl refl refl)
+
+so_then : {s : Seat} {w u v : World} → StaysSo s w u → StaysSo s u v → StaysSo s w v
+so_then a b =
     record {
       call = b.call ∙ a.call;
       holding = b.holding ∙ a.holding;
-      phase = b.phase ∙ a.phase;
-      cycles = b.cycles ∙ a.cycles;
-      released = b.released ∙ a.released;
-      full = b.full ∙ a.full;
+      counted = b.counted ∙ a.counted;
       fresh_words = b.fresh_words ∙ a.fresh_words;
       allocations = b.allocations ∙ a.allocations;
     }
 
-pub stays_then : (one two kinds : Step → Bool) → AreAmong one kinds → AreAmong two kinds → (p q r : PassState)
-    → Stays one p q → Stays two q r
-    → Stays kinds p r
-stays_then one two kinds ones twos p q r a b =
-    reaches_after one two kinds ones twos p q r (StaysSo p.seat (world_of p)) (λ x. StaysSo x.seat (world_of x))
-    (StaysSo p.seat (world_of p)) [] a b
-    (λ v a b. so_then p.seat (world_of p) _ v a b)
+pub stays_then : {one two kinds : Step → Bool} → AreAmong one kinds → AreAmong two kinds → {p q r : PassState}
+    → Stays one p q → Stays two q r → Stays kinds p r
+stays_then ones twos a b = reaches_after ones twos (λ x. StaysSo x.seat (world_of x)) a b (λ v a b. so_then a b)
 
-pub stays_wider : (narrow wide : Step → Bool) → AreAmong narrow wide → (p q : PassState) → Stays narrow p q
-    → Stays wide p q
-stays_wider narrow wide widens p q a =
-    record {
-      same = a.same;
-      does = does_wider narrow wide widens p q a.does;
-      calls = a.calls;
-      world = a.world;
-      counts = a.counts;
-    }
-
-pub stays_now : (kinds : Step → Bool) (p q : PassState) → Stays kinds p q → StaysSo p.seat (world_of p) (world_of q)
-stays_now kinds p q a = reached_world kinds p q (StaysSo p.seat (world_of p)) [] a
+pub stays_now : {kinds : Step → Bool} {p q : PassState} → Stays kinds p q → StaysSo p.seat (world_of p) (world_of q)
+stays_now a = reached_world a
 
 -- The `quar` decides,
 
@@ -241,75 +135,59 @@ freed_releases w cell (a ∷ xs) =
     ∙ ap (λ b. cond {A = ℕ} b 1 0 + releases xs) (freed_released w (Some cell) a)
     ∙ sym (one a xs)
 
-decided_by : (c : Config) (s : Seat) (cell : Cell) (w v : World) → IsFreedAt c s cell w v → IsDecidedAt s w v
-decided_by c s cell w v at =
+decided_by : {c : Config} {s : Seat} {cell : Cell} {w v : World} → IsFreedAt c s cell w v → IsDecidedAt s w v
+decided_by {cell} {w} at =
     record {
       stage = ap (λ (f : Flight). f.stage) at.call;
       op = ap (λ (f : Flight). f.op) at.call;
       placing = ap (λ (h : Holding). h.placing) at.holding;
       cycle = ap (λ (h : Holding). h.cycle) at.holding;
-      phase = ap (λ (x : Steady). x.phase) at.steady;
-      cycles = ap (λ (x : Steady). x.cycles) at.steady;
-      released = ap (λ (x : Steady). x.released) at.steady;
-      full = ap (λ (x : Steady). x.full) at.steady;
-      releases = ap (λ (x : Steady). releases x.allocations) at.steady ∙ freed_releases w.now.words cell w.allocations;
+      counted = ap counted at.steady
+          ∙ ap (λ (n : ℕ). record (counted (steady_of w)) { releases = n })
+          (freed_releases w.now.words cell w.allocations);
     }
 
 abbrev pub Decides : (Step → Bool) → PassState → Answer → PassState → Type 0
 Decides kinds p a q = ComesTo kinds p (IsDecidedAt p.seat (world_of p)) (entry_for p a) q
 
-pub freed_decides : (p q : PassState) (cell : Cell) → HasFreed p cell q → Decides is_freeing p Answer.Done q
-freed_decides p q cell a =
-    reaches_so is_freeing p q (IsFreedAt p.table.config p.seat cell (world_of p)) (IsDecidedAt p.seat (world_of p))
-    (entry_for p Answer.Done) a
-    (λ at. decided_by p.table.config p.seat cell (world_of p) (left p.table.config q.seen) at)
+pub freed_decides : {p q : PassState} {cell : Cell} → HasFreed p cell q → Decides is_freeing p Answer.Done q
+freed_decides a = reaches_so a (λ at. decided_by at)
 
 -- what follows leaves it decided,
 
-decided_then : (s : Seat) (w u v : World) → IsDecidedAt s w u → StaysSo s u v → IsDecidedAt s w v
-decided_then s w u v a b =
+decided_then : {s : Seat} {w u v : World} → IsDecidedAt s w u → StaysSo s u v → IsDecidedAt s w v
+decided_then a b =
     record {
       stage = ap (λ (f : Flight). f.stage) b.call ∙ a.stage;
       op = ap (λ (f : Flight). f.op) b.call ∙ a.op;
       placing = ap (λ (h : Holding). h.placing) b.holding ∙ a.placing;
       cycle = ap (λ (h : Holding). h.cycle) b.holding ∙ a.cycle;
-      phase = b.phase ∙ a.phase;
-      cycles = b.cycles ∙ a.cycles;
-      released = b.released ∙ a.released;
-      full = b.full ∙ a.full;
-      releases = ap (λ (xs : List PlacedAllocation). releases xs) b.allocations ∙ a.releases;
+      counted = b.counted ∙ a.counted;
     }
 
-pub decides_before : (p q r : PassState) (a : Answer) → Decides is_freeing p a q → Stays is_following q r
+pub decides_before : {p q r : PassState} {a : Answer} → Decides is_freeing p a q → Stays is_following q r
     → Decides is_freeing p a r
-decides_before p q r a d s =
-    reaches_after is_freeing is_following is_freeing (same_kinds is_freeing) following_frees p q r
-    (IsDecidedAt p.seat (world_of p))
-    (λ x. StaysSo x.seat (world_of x)) (IsDecidedAt p.seat (world_of p)) (entry_for p a) d s
-    (λ v one two. decided_then p.seat (world_of p) _ v one two)
+decides_before d s =
+    reaches_after (same_kinds is_freeing) following_frees (λ x. StaysSo x.seat (world_of x)) d s
+    (λ v one two. decided_then one two)
 
--- and so it is after a part that leaves the call as it was.
+-- and so it is after a part that leaves the call as it was, or one at this point of it.
 
-decided_behind : (s : Seat) (w u v : World) → StaysSo s w u → IsDecidedAt s u v → IsDecidedAt s w v
-decided_behind s w u v a b =
+pub decided_behind : {s : Seat} (w : World) {u v : World} → (flight_of u.now s).op ≡ (flight_of w.now s).op
+    → u.now.seats.holding ≡ w.now.seats.holding
+    → counted (steady_of u) ≡ counted (steady_of w) → IsDecidedAt s u v → IsDecidedAt s w v
+decided_behind w op holding same b =
     record {
       stage = b.stage;
-      op = b.op ∙ ap (λ (f : Flight). f.op) a.call;
-      placing = b.placing ∙ ap (λ (h : Holding). h.placing) a.holding;
-      cycle = b.cycle ∙ ap (λ (h : Holding). h.cycle) a.holding;
-      phase = b.phase ∙ a.phase;
-      cycles = b.cycles ∙ a.cycles;
-      released = b.released ∙ a.released;
-      full = b.full ∙ a.full;
-      releases = b.releases ∙ ap (λ (xs : List PlacedAllocation). releases xs) a.allocations;
+      op = b.op ∙ op;
+      placing = b.placing ∙ ap (λ (h : Holding). h.placing) holding;
+      cycle = b.cycle ∙ ap (λ (h : Holding). h.cycle) holding;
+      counted = b.counted ∙ same;
     }
 
-pub decides_behind : (kinds : Step → Bool) → AreAmong kinds is_freeing → (p q r : PassState) (a : Answer)
-    → Stays kinds p q → Decides is_freeing q a r
-    → Decides is_freeing p a r
-decides_behind kinds among p q r a s d =
-    subst (λ (l : List Decided). ComesTo is_freeing p (IsDecidedAt p.seat (world_of p)) l r)
-    (ap (λ (f : Flight). entry_of (caller_number p.seat) f.op (Some a)) s.world.call)
-    (reaches_then kinds is_freeing is_freeing among (same_kinds is_freeing) p q r (StaysSo p.seat (world_of p))
-    (λ x. IsDecidedAt x.seat (world_of x)) (IsDecidedAt p.seat (world_of p)) [] (λ x. entry_for x a) s d
-    (λ v one two. decided_behind p.seat (world_of p) _ v one two))
+pub decides_behind : {kinds : Step → Bool} → AreAmong kinds is_freeing → {p q r : PassState} {a : Answer}
+    → Stays kinds p q → Decides is_freeing q a r → Decides is_freeing p a r
+decides_behind among {p} {a} s d =
+    reaches_answered among (same_kinds is_freeing) (λ x. IsDecidedAt x.seat (world_of x)) a s
+    (ap (λ (f : Flight). f.op) s.world.call) d
+    (λ v one two. decided_behind (world_of p) (ap (λ (f : Flight). f.op) one.call) one.holding one.counted two)

@@ -1,12 +1,11 @@
 -- What the place that first fit finds says of its pages, and how many words are held.
-use Rattle.std.proofs.Common.{count_by, leb-false, slice_get}
-use Rattle.std.proofs.Math.Nat.{mul-div-le, mul-le-mul_left}
 use Rattle.std.proofs.lemmas.Option.{get_or_from_slice_get, slice_get_within}
+use Rattle.std.proofs.{Common.leb-false, Common.slice_get, Math.Nat.mul-div-le, Math.Nat.mul-le-mul_left}
 use Rattle.std.proofs.{lemmas.List.FromFn.get_or-map-range_with_len, lemmas.List.Sums.count_by-le-length}
 use Rattle.mk_laws.proofs.Vocabulary.{Block, Bool, Free, Header, IsSized, Later, LeafBlock, LeafRun, List, None, Object}
 use Rattle.mk_laws.proofs.Vocabulary.{Option, Page, Place, Run, Some, ℕ, ap, arith, bit_at, cases_Bool, cells_of}
-use Rattle.mk_laws.proofs.Vocabulary.{class_made, class_words_of, false, free_page, has_bit, header_of, header_on, inl}
-use Rattle.mk_laws.proofs.Vocabulary.{inr, is_small_object, leb-true, length, pages_some, place_on_pages, refl}
+use Rattle.mk_laws.proofs.Vocabulary.{class_made, false, free_page, has_bit, header_of, header_on, inl, inr}
+use Rattle.mk_laws.proofs.Vocabulary.{is_small_object, leb-true, length, pages_some, place_on_pages, refl}
 use Rattle.mk_laws.proofs.Vocabulary.{slice_index_or, subst, sym, true, use_under, used_on, uses_of_pages, [], ◌*◌, ◌<◌}
 use Rattle.mk_laws.proofs.Vocabulary.{◌==◌, ◌∙◌, ◌∷◌, ◌≡◌, ◌≢◌, ◌≤◌}
 use Rattle.mk_objects.proofs.Vocabulary.{sum_by-cons}
@@ -68,11 +67,7 @@ found_clear limit pages o place sized at some = elim (cases_Bool (is_small_objec
 
 -- No page holds more than its words.
 cells_hold : (class u : ℕ) (leaf : Bool) → held_by_use (PageUse.Cells class leaf (bits_of (cells_of class) u)) ≤ 64
-cells_hold class u leaf =
-    let few : count_by (λ cell. cell) (bits_of (cells_of class) u) ≤ cells_of class =
-    subst (λ n. count_by (λ cell. cell) (bits_of (cells_of class) u) ≤ n) (length-bits_of (cells_of class) u)
-    (count_by-le-length (λ cell. cell) (bits_of (cells_of class) u)) in
-    omega (arith, mul-le-mul_left (class_words_of class) few, mul-div-le 64 (class_words_of class))
+cells_hold class u leaf = grind (arith, length-bits_of, count_by-le-length, mul-le-mul_left, mul-div-le)
 
 page_holds : (x : Option Header) (u : ℕ) → held_by_use (use_under x u) ≤ 64
 page_holds (Some Free) u = omega arith

@@ -18,7 +18,7 @@ pub record PointsAt (c : Config) (w : World) (n : NeverState) (k : ℕ) (f : Fli
   pub unreleased : (placed_at w.allocations number).released ≡ false
   pub cell : pointed_cell c.pages w.now.words.pages f.p ≡ Some (cell_of_allocation c (placed_at w.allocations number))
 
-module _ (c : Config) (w : World) (n : NeverState) (known : KnownWorld c w) (others : ImagePremises c w)
+module _ {c : Config} {w : World} {n : NeverState} (known : KnownWorld c w) (others : ImagePremises c w)
     (mirrors : Mirrors c w n) where
   st : Stands c w.now.words w.allocations
   st = stands_of c w known.limits others
@@ -40,25 +40,23 @@ module _ (c : Config) (w : World) (n : NeverState) (known : KnownWorld c w) (oth
         cell = pointer_cell c w n known mirrors mirrors.safe.0 ready st a t o f.p sound safe e;
       }
 
-  points_by : (k : ℕ) (s : Stage) (o : Op) (q p r l : ℕ) → is_undecided_free (flight s o q p r l) ≡ true
+  points_by : {k : ℕ} (s : Stage) (o : Op) (q p r l : ℕ) → is_undecided_free (flight s o q p r l) ≡ true
       → CarriesOwn (bases_of w.allocations) n k (flight s o q p r l) → PointsAt c w n k (flight s o q p r l)
-  points_by k Stage.Turn (Op.Free p') q p r l undecided car =
+  points_by {k} Stage.Turn (Op.Free p') q p r l undecided car =
       by_value k (flight Stage.Turn (Op.Free p') q p r l) (register_at n k p') refl
-      (mirrors.typed.registers (8 * k + p'))
-      (mirrors.safe.1.registers (8 * k + p')) (car.p refl) (car.some_p refl)
-  points_by k _ _ q p r l undecided car = absurd (false≢true undecided)
+      (mirrors.typed.registers (8 * k + p')) (mirrors.safe.1.registers (8 * k + p')) (car.p refl) (car.some_p refl)
+  points_by _ _ q p r l undecided car = absurd (false≢true undecided)
 
   pub points_at : (k : ℕ) → is_undecided_free (flight_of w.now (Caller k)) ≡ true
       → PointsAt c w n k (flight_of w.now (Caller k))
   points_at k undecided =
       let f = flight_of w.now (Caller k) in
-      points_by k f.stage f.op f.q f.p f.r f.loaded undecided (ready.images.carried k)
+      points_by f.stage f.op f.q f.p f.r f.loaded undecided (ready.images.carried k)
 
-pub free_points_at : (c : Config) (es : List Event) (k : ℕ) → IsHistory c es
+pub free_points_at : {c : Config} {es : List Event} (k : ℕ) → IsHistory c es
     → is_undecided_free (flight_of (left c es).now (Caller k)) ≡ true
     → PointsAt c (left c es) (never_behind c es) k (flight_of (left c es).now (Caller k))
-free_points_at c es k h undecided =
+free_points_at {c} {es} k h undecided =
     let known = known_world c es h.within_limits h.enabled in
     let inv = histories_keep_the_invariant c es h in
-    points_at c (left c es) (never_behind c es) known (told_to_images c (left c es) (never_behind c es) known inv)
-    inv.mirrors k undecided
+    points_at known (told_to_images c (left c es) (never_behind c es) known inv) inv.mirrors k undecided

@@ -1,16 +1,15 @@
 -- The object of a Free: the allocation that its register points into, by what the layout and the images say of it.
-use Rattle.mk_laws.proofs.Vocabulary.{Cell, Flight, ImagePremises, IsHistory, IsSized, List, Object, PlacedAllocation}
-use Rattle.mk_laws.proofs.Vocabulary.{Ptr, Seat, ShowsPart, Some, ℕ, and_parts, ap, arith, caller_number, cases_Bool}
-use Rattle.mk_laws.proofs.Vocabulary.{cases_lt, cell_of_allocation, cells_begin, class_made, class_words_of, cond-false}
-use Rattle.mk_laws.proofs.Vocabulary.{eqb-true, false, false_from_ne_true, first_page_shows, first_word}
-use Rattle.mk_laws.proofs.Vocabulary.{freed_where_it_stands, get_or_past, header_at, header_in, header_made, header_of}
-use Rattle.mk_laws.proofs.Vocabulary.{heads_run, inl, inr, is_freed, is_large, is_mapped, is_small_object}
+use Rattle.mk_laws.proofs.Vocabulary.{Cell, Flight, ImagePremises, IsHistory, IsSized, Object, PlacedAllocation, Ptr}
+use Rattle.mk_laws.proofs.Vocabulary.{Seat, ShowsPart, Some, ℕ, and_parts, ap, arith, caller_number, cases_lt}
+use Rattle.mk_laws.proofs.Vocabulary.{cell_of_allocation, cells_begin, cond-false, eqb-true, false, false_from_ne_true}
+use Rattle.mk_laws.proofs.Vocabulary.{first_page_shows, first_word, freed_where_it_stands, get_or_past, header_at}
+use Rattle.mk_laws.proofs.Vocabulary.{header_in, header_made, header_of, heads_run, is_freed, is_large, is_small_object}
 use Rattle.mk_laws.proofs.Vocabulary.{is_unmapped_header, kinds_of, large_count, large_is_not_small, length}
-use Rattle.mk_laws.proofs.Vocabulary.{made_is_mapped, map, never_behind, never_granted, not, not-true, object_placed}
-use Rattle.mk_laws.proofs.Vocabulary.{p_of, pages_made, placed_at, refl, register_at, run_begins, slice_set}
-use Rattle.mk_laws.proofs.Vocabulary.{small_heads_none, stands_in, stands_in_its_cell, storage_words, subst, sym}
-use Rattle.mk_laws.proofs.Vocabulary.{target, true, true≢false, typed_size, unmapped_header, unmapped_is_unmapped}
-use Rattle.mk_laws.proofs.Vocabulary.{words_under, ◌*◌, ◌+◌, ◌/◌, ◌<◌, ◌==◌, ◌∙◌, ◌≡◌, ◌≢◌, ◌≤◌}
+use Rattle.mk_laws.proofs.Vocabulary.{made_is_mapped, map, never_behind, not, not-true, object_placed, p_of, pages_made}
+use Rattle.mk_laws.proofs.Vocabulary.{placed_at, register_at, run_begins, slice_set, small_heads_none, stands_in}
+use Rattle.mk_laws.proofs.Vocabulary.{stands_in_its_cell, storage_words, sym, target, true, true≢false, typed_size}
+use Rattle.mk_laws.proofs.Vocabulary.{unmapped_header, unmapped_is_unmapped, words_under, ◌*◌, ◌+◌, ◌/◌, ◌<◌, ◌==◌, ◌∙◌}
+use Rattle.mk_laws.proofs.Vocabulary.{◌≡◌, ◌≢◌, ◌≤◌}
 use Rattle.mk_objects.proofs.Vocabulary.{IsFreeAt, IsOutOfStop, PassState, call_of, freed_and_fresh}
 use Rattle.mk_objects.proofs.Vocabulary.{held_by_allocations, histories_keep_the_invariant, loaded_free, now_of}
 use Rattle.mk_objects.proofs.Vocabulary.{value_of, world_of}
@@ -30,16 +29,15 @@ pub record IsObjectAt (p : PassState) (r : ℕ) (cell : Cell) : Type 0 where
   pub unreleased : (placed_at (world_of p).allocations number).released ≡ false
   pub is : cell_of_allocation p.table.config (placed_at (world_of p).allocations number) ≡ cell
 
-pub object_at : (p : PassState) (r u : ℕ) (cell : Cell) → IsHistory p.table.config p.seen
+pub object_at : {p : PassState} {r : ℕ} (u : ℕ) (cell : Cell) → IsHistory p.table.config p.seen
     → IsFreeAt p r (loaded_free r u) → (u == 0) ≡ false
     → target p.table.config.pages (now_of p).words (call_of p) ≡ Some cell → IsObjectAt p r cell
-object_at p r u cell h at some is =
-    let free = loaded_undecided p r u at some in
+object_at {p} {r} u cell h at some is =
+    let free = loaded_undecided u at some in
     let caller = acting_caller p (free_is_acting (call_of p) free) in
     let t = points_now p caller.number caller.is h free in
     let own : Cell = cell_of_allocation p.table.config (placed_at (world_of p).allocations t.number) in
-    let there : Some own ≡ Some cell =
-    sym (target_of p.table.config.pages (now_of p).words (call_of p) own free t.cell) ∙ is in
+    let there : Some own ≡ Some cell = grind (arith, target_of) in
     record {
       number = t.number;
       ty = t.ty;
@@ -71,9 +69,7 @@ module _ (p : PassState) (r : ℕ) (cell : Cell) (h : IsHistory p.table.config p
   sized = typed_size p.table.config own h.within_limits laid.stands.typed
 
   pub its_freed : IsOutOfStop (now_of p) → is_freed (now_of p).words cell ≡ own.freed
-  its_freed low =
-      ap (λ (y : Cell). is_freed (now_of p).words y) (sym x.is)
-      ∙ freed_told p.table.config p.seen x.number h (off_four (now_of p) low) x.unreleased
+  its_freed low = grind (arith, freed_told, off_four)
 
   pub its_words : words_under (header_in (now_of p).words cell.page) ≡ storage_words p.table.config own
   its_words =
@@ -81,24 +77,13 @@ module _ (p : PassState) (r : ℕ) (cell : Cell) (h : IsHistory p.table.config p
       ∙ (cells_begin p.table.config (now_of p).words own h.within_limits laid.stands laid.headers).1
 
   part : ShowsPart object 0 (header_in (now_of p).words cell.page)
-  part =
-      subst (λ (y : Cell). ShowsPart object 0 (header_in (now_of p).words y.page)) x.is
-      (first_page_shows p.table.config (now_of p).words own sized laid.headers)
+  part = grind (arith, object, first_page_shows, own, sized, laid)
 
   pub its_size : heads_run (header_in (now_of p).words cell.page) ≡ is_large (kinds_of p.table.config.types own.ty)
-  its_size = elim (cases_Bool (is_small_object object)) [
-    | inl small ↦
-        (small_heads_none object 0 (header_in (now_of p).words cell.page) part small).0
-        ∙ sym (large_is_not_small (kinds_of p.table.config.types own.ty) ∙ ap not small)
-    | inr large ↦
-        part_heads_run object (header_in (now_of p).words cell.page) part large
-        ∙ sym (large_is_not_small (kinds_of p.table.config.types own.ty) ∙ ap not large)
-  ]
+  its_size = grind (arith, object, small_heads_none, part, large_is_not_small, own, part_heads_run)
 
   stands : stands_in (now_of p).words cell own ≡ true
-  stands =
-      ap (λ (y : Cell). stands_in (now_of p).words y own) (sym x.is)
-      ∙ stands_in_its_cell p.table.config (now_of p).words own h.within_limits laid.stands laid.headers
+  stands = grind (arith, own, stands_in_its_cell, laid)
 
   -- None but it stands in its cell.
   alone : (i : ℕ) → i ≢ x.number → stands_in (now_of p).words cell (placed_at (world_of p).allocations i) ≡ false
@@ -111,12 +96,7 @@ module _ (p : PassState) (r : ℕ) (cell : Cell) (h : IsHistory p.table.config p
       ∙ sym (eqb-true own.base (first_word (now_of p).words cell) two.1)))
 
   pub granted : x.number < length (world_of p).allocations
-  granted = elim (cases_lt x.number (length (world_of p).allocations)) [
-    | inl lt ↦ lt
-    | inr past ↦
-        let none = get_or_past (world_of p).allocations x.number never_granted past in
-        absurd (true≢false (ap (λ (y : PlacedAllocation). y.released) (sym none) ∙ x.unreleased))
-  ]
+  granted = grind (arith, cases_lt, get_or_past)
 
   pub it_is_freed : map (freed_where_it_stands (now_of p).words (Some cell)) (world_of p).allocations
       ≡ slice_set (world_of p).allocations x.number (freed_and_fresh own)
@@ -127,37 +107,25 @@ module _ (p : PassState) (r : ℕ) (cell : Cell) (h : IsHistory p.table.config p
   held_behind : held_by_allocations p.table.config (map (freed_where_it_stands (now_of p).words (Some cell))
       (world_of p).allocations) + held_part p.table.config own
       ≡ held_by_allocations p.table.config (world_of p).allocations + held_part p.table.config (freed_and_fresh own)
-  held_behind =
-      ap (λ (xs : List PlacedAllocation). held_by_allocations p.table.config xs + held_part p.table.config own)
-      it_is_freed
-      ∙ held_set p.table.config (world_of p).allocations x.number (freed_and_fresh own) granted
+  held_behind = grind (arith, held_part, own, it_is_freed, held_set, granted)
 
   pub small_held : heads_run (header_in (now_of p).words cell.page) ≡ false
       → held_by_allocations p.table.config (map (freed_where_it_stands (now_of p).words (Some cell))
       (world_of p).allocations)
       ≡ held_by_allocations p.table.config (world_of p).allocations
-  small_held small =
-      let same = small_part p.table.config own (sym its_size ∙ small) in
-      let behind = held_behind in
-      omega arith
+  small_held small = grind (arith, small_part, own, its_size, held_behind)
 
   pub large_held : heads_run (header_in (now_of p).words cell.page) ≡ true → own.freed ≡ false
       → held_by_allocations p.table.config (map (freed_where_it_stands (now_of p).words (Some cell))
       (world_of p).allocations)
       + words_under (header_in (now_of p).words cell.page)
       ≡ held_by_allocations p.table.config (world_of p).allocations
-  large_held large live =
-      let none = large_part p.table.config own (sym its_size ∙ large) in
-      let some = live_part p.table.config own x.unreleased live in
-      let size = its_words in
-      let behind = held_behind in
-      omega arith
+  large_held large live = grind (arith, large_part, own, its_size, live_part, its_words, held_behind)
 
   -- the pages of a large one
 
   not_small : heads_run (header_in (now_of p).words cell.page) ≡ true → is_small_object object ≡ false
-  not_small large = false_from_ne_true (is_small_object object) (λ small.
-      true≢false (sym large ∙ (small_heads_none object 0 (header_in (now_of p).words cell.page) part small).0))
+  not_small large = grind (arith, false_from_ne_true, object, small_heads_none, part)
 
   pub record HasRun (count : ℕ) : Type 0 where
     pub some : 1 ≤ count
@@ -169,8 +137,7 @@ module _ (p : PassState) (r : ℕ) (cell : Cell) (h : IsHistory p.table.config p
       → 64 * count ≡ words_under (header_in (now_of p).words cell.page) → HasRun count
   its_run count large live words =
       let small = not_small large in
-      let size : storage_words p.table.config own ≡ 64 * pages_made object =
-      cond-false (is_small_object object) (class_words_of (class_made object)) (64 * pages_made object) small in
+      let size : storage_words p.table.config own ≡ 64 * pages_made object = grind (arith, cond-false, object) in
       let all : count ≡ pages_made object = omega (arith, words, its_words, size) in
       let range = large_count object sized small in
       let begins = run_begins object own.base small laid.stands.begins in
@@ -185,12 +152,7 @@ module _ (p : PassState) (r : ℕ) (cell : Cell) (h : IsHistory p.table.config p
         within = omega arith;
         mapped = λ d lt e.
             let near : d < pages_made object = omega arith in
-            let made : header_at (now_of p).words (cell.page + d) ≡ header_made object d =
-            ap (λ i. header_at (now_of p).words (i + d)) (sym page)
-            ∙ laid.mapped (live_mapped own x.unreleased live) d near in
+            let made : header_at (now_of p).words (cell.page + d) ≡ header_made object d = grind (arith, laid, own) in
             true≢false (sym (unmapped_is_unmapped count d (omega arith, omega arith) lt)
             ∙ ap (λ (n : ℕ). is_unmapped_header (header_of n)) (sym e ∙ made) ∙ made_is_mapped object d sized near);
       }
-    where
-      live_mapped : (a : PlacedAllocation) → a.released ≡ false → a.freed ≡ false → is_mapped p.table.config a ≡ true
-      live_mapped a unreleased live = rw (unreleased, live) refl

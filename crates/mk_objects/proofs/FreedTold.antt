@@ -5,16 +5,13 @@ use Rattle.mk_laws.proofs.Vocabulary.{is_phase, is_released_in, left, placed_at,
 use Rattle.mk_objects.proofs.Vocabulary.{histories_keep_the_invariant}
 use Rattle.mk_laws.proofs.Settled.{unreleased_are_apart}
 
-pub freed_told : (c : Config) (es : List Event) (i : ℕ) → IsHistory c es → is_phase (left c es).now.words 4 ≡ false
-    → (placed_at (left c es).allocations i).released ≡ false
-    → is_freed (left c es).now.words (cell_of_allocation c (placed_at (left c es).allocations i))
-    ≡ (placed_at (left c es).allocations i).freed
-freed_told c es i h off u = elim (cases_Bool (placed_at (left c es).allocations i).freed) [
+pub freed_told : {c : Config} {es : List Event} (i : ℕ) → IsHistory c es → is_phase (left c es).now.words 4 ≡ false
+    → (placed_at (left c es).allocations i).released ≡ false → is_freed (left c es).now.words
+    (cell_of_allocation c (placed_at (left c es).allocations i)) ≡ (placed_at (left c es).allocations i).freed
+freed_told {c} {es} i h off u = elim (cases_Bool (placed_at (left c es).allocations i).freed) [
   | inl freed ↦ order.quarantined.shown i u freed ∙ sym freed
-  | inr live ↦
-      false_from_ne_true (is_freed w.now.words k)
-      (λ set. true≢false (sym (other (order.quarantined.owned k.page k.index set)) ∙ live))
-      ∙ sym live
+  | inr live ↦ false_from_ne_true (is_freed w.now.words k) (λ set. true≢false
+      (sym (other (order.quarantined.owned k.page k.index set)) ∙ live)) ∙ sym live
 ]
   where
     w : World

@@ -1,26 +1,19 @@
 -- A run that the call has unmapped and wiped stays so, while gates are opened and tallies set.
 use Rattle.mk_laws.proofs.Vocabulary.{Config, Event, Holding, Holds, IsHistory, List, None, Option, RunPages, Seat}
-use Rattle.mk_laws.proofs.Vocabulary.{Some, Step, World, ap, false, is_heap_store, is_run_gone, left, refl, subst, sym}
-use Rattle.mk_laws.proofs.Vocabulary.{true, true≢false, world_behind, [], ◌++◌, ◌∙◌, ◌∷◌, ◌≡◌}
-use Rattle.mk_objects.proofs.Vocabulary.{Does, PassState, is_settling, now_of, turn_stays}
+use Rattle.mk_laws.proofs.Vocabulary.{Some, Step, World, and_parts, ap, false, is_heap_store, is_run_gone, left, refl}
+use Rattle.mk_laws.proofs.Vocabulary.{subst, sym, true, true≢false, world_behind, [], ◌++◌, ◌∙◌, ◌∷◌, ◌≡◌}
+use Rattle.mk_objects.proofs.Vocabulary.{Does, PassState, is_settling, now_of}
 use Rattle.mk_core.specs.Growing.{AreOfOthers}
 use Rattle.mk_laws.proofs.LastEvents.{ComesLast, comes_last, stands}
 use Rattle.mk_laws.proofs.{RunWords.gone_behind, RunsStill.holder_finds}
 use Rattle.mk_objects.proofs.TurnEvents.{Another, KeptInTurn, Own, along_turn}
+use Rattle.mk_objects.proofs.DecidedFrees.{following_not, settling_follows}
 
 abbrev pub IsGoneIn : World → Type 0
 IsGoneIn w = is_run_gone w.now.words w.now.seats.holding.freed ≡ true
 
-settling_stays : (x : Step) → is_settling x ≡ true → turn_stays x ≡ true
-settling_stays (Step.Look x) h = refl
-settling_stays (Step.Open j) h = refl
-settling_stays (Step.Tally n v) h = refl
-settling_stays _ h = cc
-
 settling_stores_none : (x : Step) → is_settling x ≡ true → is_heap_store x ≡ false
-settling_stores_none (Step.Look x) h = refl
-settling_stores_none (Step.Open j) h = refl
-settling_stores_none (Step.Tally n v) h = refl
+settling_stores_none (Step.Look x) h = cc
 settling_stores_none _ h = cc
 
 same_run : (c : Config) (w : World) (s : Seat) (x : Step) → is_settling x ≡ true
@@ -30,11 +23,11 @@ same_run c w s (Step.Open j) h = refl
 same_run c w s (Step.Tally n v) h = refl
 same_run c w s _ h = cc
 
-gone_on : (c : Config) (es : List Event) (e : Event) → IsHistory c es → ComesLast c es e → is_settling e.step ≡ true
+gone_on : {c : Config} {es : List Event} {e : Event} → IsHistory c es → ComesLast c es e → is_settling e.step ≡ true
     → (freed : Option RunPages) → (left c es).now.seats.holding.freed ≡ freed → IsGoneIn (left c es)
     → is_run_gone (world_behind c (left c es) e).now.words freed ≡ true
-gone_on c es e h last kind None is gone = refl
-gone_on c es e h last kind (Some run) is gone =
+gone_on h last kind None is gone = refl
+gone_on {c} {es} {e} h last kind (Some run) is gone =
     let st = stands c es h in
     gone_behind c (left c es) st.known st.all.order.laid run is gone e.seat e.step last.meets
     (λ store. absurd (true≢false (sym store ∙ settling_stores_none e.step kind)))
@@ -43,17 +36,17 @@ gone_kept : (c : Config) (s : Seat) → KeptInTurn c s is_settling (λ es. IsGon
 unfolding AreOfOthers
 gone_kept c s es e h holds (Own same kind) gone =
     let last = comes_last c es e h in
-    subst (λ (w : World). IsGoneIn w) (sym last.leaves)
-    (ap (λ (freed : Option RunPages). is_run_gone (world_behind c (left c es) e).now.words freed)
-    (same_run c (left c es) e.seat e.step kind)
-    ∙ gone_on c es e last.before last kind (left c es).now.seats.holding.freed refl gone)
+    subst (λ (w : World). IsGoneIn w) (sym last.leaves) (ap (λ (freed : Option RunPages). is_run_gone
+    (world_behind c (left c es) e).now.words freed) (same_run c (left c es) e.seat e.step kind)
+    ∙ gone_on last.before last kind (left c es).now.seats.holding.freed refl gone)
 gone_kept c s es e h holds (Another other) gone =
     let found = holder_finds c s es (e ∷ []) h (other, tt) holds in
     ap (λ (y : Holding). is_run_gone (left c (es ++ e ∷ [])).now.words y.freed) found.holding ∙ found.gone gone
 
-pub still_gone : (p q : PassState) → Does is_settling p q → IsHistory q.table.config q.seen
+pub still_gone : {p q : PassState} → Does is_settling p q → IsHistory q.table.config q.seen
     → Holds p.table.config (now_of p) p.seat
     → IsGoneIn (left p.table.config p.seen) → IsGoneIn (left p.table.config q.seen)
-still_gone p q d h holds gone =
-    along_turn p is_settling settling_stays (λ es. IsGoneIn (left p.table.config es))
-    (gone_kept p.table.config p.seat) q d h holds gone
+still_gone {p} d h holds gone =
+    along_turn p is_settling (λ x kind. (and_parts _ _ (following_not x (settling_follows x kind))).0)
+    (λ es. IsGoneIn (left p.table.config es))
+    (gone_kept p.table.config p.seat) d h holds gone

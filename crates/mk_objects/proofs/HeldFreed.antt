@@ -4,8 +4,8 @@ use Rattle.mk_laws.proofs.Vocabulary.{Bool, Cell, Config, List, PlacedAllocation
 use Rattle.mk_laws.proofs.Vocabulary.{cases_eq, changed_at, cond-false, cond-true, false, freed_leaves}
 use Rattle.mk_laws.proofs.Vocabulary.{freed_where_it_stands, get_or-set_other, get_or-set_same, if◌then◌else◌, inl, inr}
 use Rattle.mk_laws.proofs.Vocabulary.{is_large, is_mapped, kinds_of, length, length-map, length-set, map, never_granted}
-use Rattle.mk_laws.proofs.Vocabulary.{not, placed_at, refl, slice_set, stands_in, storage_of, storage_words, sym, true}
-use Rattle.mk_laws.proofs.Vocabulary.{[], ◌&&◌, ◌+◌, ◌<◌, ◌∙◌, ◌∷◌, ◌≡◌, ◌≢◌}
+use Rattle.mk_laws.proofs.Vocabulary.{placed_at, refl, slice_set, stands_in, storage_of, storage_words, sym, true, []}
+use Rattle.mk_laws.proofs.Vocabulary.{◌+◌, ◌<◌, ◌∙◌, ◌∷◌, ◌≡◌, ◌≢◌}
 use Rattle.mk_objects.proofs.Vocabulary.{freed_and_fresh, held_by_allocations, sum_by-cons}
 use Rattle.mk_geom.specs.StorageWords.{held_by_storages}
 use Rattle.mk_core.specs.Allocations.{unreleased_storage}
@@ -20,9 +20,7 @@ words_mapped s = if s.mapped then s.words else 0
 held_first : (c : Config) (a : PlacedAllocation) (xs : List PlacedAllocation) (b : Bool) → a.released ≡ b
     → held_by_storages (if b then unreleased_storage c xs else storage_of c a ∷ unreleased_storage c xs) ≡ held_part c
     a + held_by_allocations c xs
-held_first c a xs true is =
-    let none : held_part c a ≡ 0 = ap (λ r. if not r && not
-    (a.freed && is_large (kinds_of c.types a.ty)) then storage_words c a else 0) is in omega arith
+held_first c a xs true is = grind (arith, held_part)
 held_first c a xs false is = sum_by-cons words_mapped (storage_of c a) (unreleased_storage c xs)
 
 pub held_sum : (c : Config) (xs : List PlacedAllocation) → held_by_allocations c xs ≡ sum_by (held_part c) xs
@@ -34,11 +32,7 @@ held_sum c (a ∷ xs) =
 
 pub held_set : (c : Config) (xs : List PlacedAllocation) (n : ℕ) (y : PlacedAllocation) → n < length xs
     → held_by_allocations c (slice_set xs n y) + held_part c (placed_at xs n) ≡ held_by_allocations c xs + held_part c y
-held_set c xs n y lt =
-    let one = sum_by-set (held_part c) xs n y never_granted lt in
-    let before = held_sum c xs in
-    let behind = held_sum c (slice_set xs n y) in
-    omega arith
+held_set c xs n y lt = grind (arith, sum_by-set, held_part, held_sum)
 
 -- A free changes the allocation that stands in the cell, and no other.
 pub freed_one : (w : Words) (cell : Cell) (xs : List PlacedAllocation) (n : ℕ) → n < length xs
@@ -66,22 +60,11 @@ freed_one w cell xs n lt stands others =
 -- A small object that is freed stays mapped, and a large one doesn't.
 pub small_part : (c : Config) (a : PlacedAllocation) → is_large (kinds_of c.types a.ty) ≡ false
     → held_part c (freed_and_fresh a) ≡ held_part c a
-small_part c a small = by a.released a.freed (is_large (kinds_of c.types a.ty)) small
-  where
-    by : (released freed large : Bool) → large ≡ false
-        → (if not released && not (true && large) then storage_words c a else 0) ≡ (if not released && not
-        (freed && large) then storage_words c a else 0)
-    by released true large is = refl
-    by released false large is = ap (λ b. if not released && not b then storage_words c a else 0) is
+small_part c a small = grind arith
 
 pub large_part : (c : Config) (a : PlacedAllocation) → is_large (kinds_of c.types a.ty) ≡ true
     → held_part c (freed_and_fresh a) ≡ 0
-large_part c a large =
-    ap (λ b. if not a.released && not b then storage_words c a else 0) large ∙ by a.released
-  where
-    by : (released : Bool) → (if not released && false then storage_words c a else 0) ≡ 0
-    by true = refl
-    by false = refl
+large_part c a large = grind arith
 
 pub live_part : (c : Config) (a : PlacedAllocation) → a.released ≡ false → a.freed ≡ false
     → held_part c a ≡ storage_words c a

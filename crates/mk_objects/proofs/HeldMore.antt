@@ -1,10 +1,10 @@
 -- How many words are held before a grant, and after it.
-use Rattle.std.proofs.{Common.sum_by, lemmas.List.Sums.sum_by-append}
-use Rattle.mk_laws.proofs.Vocabulary.{Config, Event, IsHistory, IsSettled, List, PlacedAllocation, Storage, ℕ, ap}
-use Rattle.mk_laws.proofs.Vocabulary.{arith, false, histories_keep_lengths, if◌then◌else◌, left, refl, storage_of}
-use Rattle.mk_laws.proofs.Vocabulary.{storage_words, unreleased_storage, [], ◌*◌, ◌++◌, ◌+◌, ◌∙◌, ◌∷◌, ◌≡◌, ◌≤◌}
+use Rattle.std.proofs.lemmas.List.Sums.{sum_by-append}
+use Rattle.mk_laws.proofs.Vocabulary.{Config, Event, IsHistory, IsSettled, List, PlacedAllocation, Storage, ℕ, arith}
+use Rattle.mk_laws.proofs.Vocabulary.{false, histories_keep_lengths, if◌then◌else◌, left, storage_words}
+use Rattle.mk_laws.proofs.Vocabulary.{unreleased_storage, [], ◌*◌, ◌++◌, ◌+◌, ◌∷◌, ◌≡◌, ◌≤◌}
 use Rattle.mk_objects.proofs.Vocabulary.{held_by_allocations, sum_by-cons}
-use Rattle.mk_geom.{proofs.HeldWords.pages_hold_mapped_words, specs.StorageWords.held_by_storages}
+use Rattle.mk_geom.proofs.HeldWords.{pages_hold_mapped_words}
 use Rattle.mk_core.proofs.UnreleasedStorage.{unreleased_more}
 use Rattle.mk_laws.proofs.InvariantTheorems.{pages_show_the_storage}
 use Rattle.mk_objects.proofs.FoundPlaces.{pages_hold_few}
@@ -16,13 +16,7 @@ words_mapped s = if s.mapped then s.words else 0
 pub held_one_more : (c : Config) (xs : List PlacedAllocation) (a : PlacedAllocation) → a.released ≡ false
     → a.freed ≡ false
     → held_by_allocations c (xs ++ a ∷ []) ≡ held_by_allocations c xs + storage_words c a
-held_one_more c xs a unreleased live =
-    ap held_by_storages (unreleased_more c xs a unreleased)
-    ∙ sum_by-append words_mapped (unreleased_storage c xs) (storage_of c a ∷ [])
-    ∙ ap (λ n. held_by_allocations c xs + n) (one ∙ rw (unreleased, live) refl)
-  where
-    one : sum_by words_mapped (storage_of c a ∷ []) ≡ words_mapped (storage_of c a)
-    one = sum_by-cons words_mapped (storage_of c a) [] ∙ omega arith
+held_one_more c xs a unreleased live = grind (arith, unreleased_more, sum_by-append, words_mapped, sum_by-cons)
 
 -- No more is held than the pages have.
 pub held_is_little : (c : Config) (es : List Event) → IsHistory c es → IsSettled (left c es)

@@ -44,14 +44,14 @@ looks_nothing p = reaches_nothing is_look p (IsAsLeft p.seat (world_of p)) (left
 pub looks_left : (p q : PassState) → OnlyLooks p q → IsAsLeft p.seat (world_of p) (world_of q)
 looks_left p q a = subst (λ (x : PassState). IsAsLeft p.seat (world_of p) (world_of x)) (sym a.same) a.world
 
-pub looks_call : (p q : PassState) → OnlyLooks p q → call_of q ≡ call_of p
-looks_call p q a = ap (λ (x : PassState). call_of x) a.same ∙ a.world.call
+pub looks_call : {p q : PassState} → OnlyLooks p q → call_of q ≡ call_of p
+looks_call a = ap (λ (x : PassState). call_of x) a.same ∙ a.world.call
 
-pub looks_table : (p q : PassState) → OnlyLooks p q → q.table ≡ p.table
-looks_table p q a = ap (λ (x : PassState). x.table) a.same
+pub looks_table : {p q : PassState} → OnlyLooks p q → q.table ≡ p.table
+looks_table a = ap (λ (x : PassState). x.table) a.same
 
-pub looks_joined : (p q r : PassState) → OnlyLooks p q → OnlyLooks q r → OnlyLooks p r
-looks_joined p q r a b = by (subst (λ (x : PassState). OnlyLooks x r) a.same b)
+pub looks_joined : {p q r : PassState} → OnlyLooks p q → OnlyLooks q r → OnlyLooks p r
+looks_joined {p} {q} {r} a b = by (subst (λ (x : PassState). OnlyLooks x r) a.same b)
   where
     by : OnlyLooks (seeing p q.seen) r → OnlyLooks p r
     by b =
@@ -59,38 +59,33 @@ looks_joined p q r a b = by (subst (λ (x : PassState). OnlyLooks x r) a.same b)
           same = b.same;
           does = does_then is_look p q r a.does (subst (λ (x : PassState). Does is_look x r) (sym a.same) b.does);
           calls = b.calls ∙ append-nil (own_calls p q.seen) ∙ a.calls;
-          world = left_joined p.seat (world_of p) _ _ a.world b.world;
-          counts = counts_then p.table.config p.seen q.seen r.seen a.counts b.counts;
+          world = left_joined a.world b.world;
+          counts = counts_then a.counts b.counts;
         }
 
 -- What is granted after looks is granted.
-granted_over : (c : Config) (s : Seat) (place : Place) (w u v : World) → IsAsLeft s w u → IsGrantedAt c s place u v
+granted_over : {c : Config} {s : Seat} {place : Place} {w u v : World} → IsAsLeft s w u → IsGrantedAt c s place u v
     → IsGrantedAt c s place w v
-granted_over c s place w u v a b =
+granted_over {c} {s} {place} {w} {u} {v} a b =
     record {
       call = b.call ∙ ap (λ (f : Flight). record f { stage = Stage.Give }) a.call;
       placing = b.placing;
-      steady = b.steady
-          ∙ ap (λ (x : Steady). record x {
-            pages = v.now.words.pages;
-            held = v.now.words.held;
-            allocations = x.allocations ++ object_at_place c (flight_of u.now s) place ∷ [];
-          }) a.steady
-          ∙ ap (λ (f : Flight). record
-          (steady_of w) {
-            pages = v.now.words.pages;
-            held = v.now.words.held;
-            allocations = w.allocations ++
-                object_at_place c f place ∷ [];
-          }) a.call;
-      register = λ k is.
-          ap (λ (f : Flight). register_word v.now.words k (d_of f.op)) (sym a.call) ∙ b.register k is
+      steady = b.steady ∙ ap (λ (x : Steady). record x {
+        pages = v.now.words.pages;
+        held = v.now.words.held;
+        allocations = x.allocations ++ object_at_place c (flight_of u.now s) place ∷ [];
+      }) a.steady ∙ ap (λ (f : Flight). record (steady_of w) {
+        pages = v.now.words.pages;
+        held = v.now.words.held;
+        allocations = w.allocations ++ object_at_place c f place ∷ [];
+      }) a.call;
+      register = λ k is. ap (λ (f : Flight). register_word v.now.words k (d_of f.op)) (sym a.call) ∙ b.register k is
           ∙ ap (λ (f : Flight). address_of (base_made (object_made c f.op) place) % 2 ^ 64) a.call;
     }
 
-pub granted_behind_looks : (p q r : PassState) (place : Place) → OnlyLooks p q → IsGranted q place r
+pub granted_behind_looks : {p q r : PassState} {place : Place} → OnlyLooks p q → IsGranted q place r
     → IsGranted p place r
-granted_behind_looks p q r place a b = by (subst (λ (x : PassState). IsGranted x place r) a.same b)
+granted_behind_looks {p} {q} {r} {place} a b = by (subst (λ (x : PassState). IsGranted x place r) a.same b)
   where
     by : IsGranted (seeing p q.seen) place r → IsGranted p place r
     by b =
@@ -98,12 +93,11 @@ granted_behind_looks p q r place a b = by (subst (λ (x : PassState). IsGranted 
           same = b.same;
           does = does_then is_placing p q r (does_wider is_look is_placing looks_place p q a.does)
               (subst (λ (x : PassState). Does is_placing x r) (sym a.same) b.does);
-          calls = b.calls ∙ ap (λ (l : List Decided). l ++ entry_for (seeing p q.seen) Answer.Done) (a.calls
-              ∙ append-nil (own_calls p p.seen))
-              ∙ ap (λ (f : Flight). own_calls p p.seen ++ entry_of (caller_number p.seat) f.op (Some Answer.Done))
-              a.world.call;
-          world = granted_over p.table.config p.seat place (world_of p) _ _ a.world b.world;
-          counts = counts_then p.table.config p.seen q.seen r.seen a.counts b.counts;
+          calls = b.calls ∙ ap (λ (l : List Decided). l ++ entry_for (seeing p q.seen) Answer.Done)
+              (a.calls ∙ append-nil (own_calls p p.seen)) ∙ ap (λ (f : Flight). own_calls p p.seen ++ entry_of
+              (caller_number p.seat) f.op (Some Answer.Done)) a.world.call;
+          world = granted_over a.world b.world;
+          counts = counts_then a.counts b.counts;
         }
 
 -- Looks leave a New unplaced, and the tally as it is.
@@ -111,7 +105,7 @@ pub looks_unplaced : (p q : PassState) → OnlyLooks p q → IsUnplaced p → Is
 looks_unplaced p q a u =
     let kept = looks_left p q a in
     record {
-      new = ap (λ (f : Flight). is_undecided_new f) (looks_call p q a) ∙ u.new;
+      new = ap (λ (f : Flight). is_undecided_new f) (looks_call a) ∙ u.new;
       placing = ap (λ (h : Holding). h.placing) kept.holding ∙ u.placing;
       phase = phase_same (ap (λ (x : Steady). x.phase) kept.steady) u.phase;
     }
@@ -120,29 +114,27 @@ looks_unplaced p q a u =
     phase_same e (inl none) = inl (e ∙ none)
     phase_same e (inr one) = inr (e ∙ one)
 
-pub looks_exact : (p q : PassState) → OnlyLooks p q → HeldIsExact p → HeldIsExact q
-looks_exact p q a exact =
+pub looks_exact : {p q : PassState} → OnlyLooks p q → HeldIsExact p → HeldIsExact q
+looks_exact {p} {q} a exact =
     let kept = looks_left p q a in
     ap (λ (x : Steady). x.held) kept.steady ∙ exact
     ∙ ap (λ (x : Steady). held_by_allocations p.table.config x.allocations) (sym kept.steady)
-    ∙ ap (λ (t : WordsState). held_by_allocations t.config (world_of q).allocations) (sym (looks_table p q a))
+    ∙ ap (λ (t : WordsState). held_by_allocations t.config (world_of q).allocations) (sym (looks_table a))
 
 pub looks_object : (p q : PassState) → OnlyLooks p q → object_for q ≡ object_for p
 looks_object p q a =
-    ap (λ (t : WordsState). object_made t.config (call_of q).op) (looks_table p q a)
-    ∙ ap (λ (f : Flight). object_made p.table.config f.op) (looks_call p q a)
+    ap (λ (t : WordsState). object_made t.config (call_of q).op) (looks_table a)
+    ∙ ap (λ (f : Flight). object_made p.table.config f.op) (looks_call a)
 
-pub looks_pages : (p q : PassState) → OnlyLooks p q → (now_of q).words.pages ≡ (now_of p).words.pages
-looks_pages p q a = ap (λ (x : Steady). x.pages) (looks_left p q a).steady
+pub looks_pages : {p q : PassState} → OnlyLooks p q → (now_of q).words.pages ≡ (now_of p).words.pages
+looks_pages {p} {q} a = ap (λ (x : Steady). x.pages) (looks_left p q a).steady
 
 -- the first fit on the pages is where an unplaced New goes
-pub goes_to : (p : PassState) (place : Place) → IsUnplaced p
-    → place_on_pages p.table.config.resident (now_of p).words.pages (object_for p) ≡ Some place
-    → GoesTo p place
-goes_to p place u fit =
+pub goes_to : {p : PassState} (place : Place) → IsUnplaced p → place_on_pages p.table.config.resident
+    (now_of p).words.pages (object_for p) ≡ Some place → GoesTo p place
+goes_to {p} place u fit =
     record {
       unplaced = u;
       goes = rw u.new (ap (λ (x : Placing). place_by_placing p.table.config.resident (now_of p).words.pages
-          (object_for p) x)
-          u.placing ∙ fit);
+          (object_for p) x) u.placing ∙ fit);
     }

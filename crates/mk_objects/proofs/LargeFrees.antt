@@ -1,19 +1,17 @@
 -- A large object is freed and counted, while all others are stopped.
-use Rattle.mk_laws.proofs.Vocabulary.{Answer, Block, Bool, Cell, Free, Header, Holding, Holds, IsHistory, Later}
-use Rattle.mk_laws.proofs.Vocabulary.{LeafBlock, LeafRun, List, None, Option, Page, PlacedAllocation, Run, RunPages}
-use Rattle.mk_laws.proofs.Vocabulary.{Some, Steady, Tally, ℕ, ap, arith, false, free_page, freed_where_it_stands}
-use Rattle.mk_laws.proofs.Vocabulary.{fresh_words_of, header_in, heads_run, if◌then◌else◌, in_a_word, is_held, map}
-use Rattle.mk_laws.proofs.Vocabulary.{or_else, refl, run_headed, slice_index_or, subst, sym, true, words_under, [], ◌*◌}
+use Rattle.mk_laws.proofs.Vocabulary.{Block, Bool, Cell, Free, Header, Holds, IsHistory, Later, LeafBlock, LeafRun}
+use Rattle.mk_laws.proofs.Vocabulary.{None, Option, Run, RunPages, Some, Steady, Tally, ℕ, ap, arith, false}
+use Rattle.mk_laws.proofs.Vocabulary.{freed_where_it_stands, fresh_words_of, header_in, heads_run, if◌then◌else◌}
+use Rattle.mk_laws.proofs.Vocabulary.{in_a_word, is_held, map, refl, run_headed, subst, sym, true, words_under, ◌*◌}
 use Rattle.mk_laws.proofs.Vocabulary.{◌+◌, ◌<◌, ◌^◌, ◌↔◌, ◌∙◌, ◌≡◌}
 use Rattle.mk_objects.proofs.Vocabulary.{Changes, FreesCell, FreesOnce, HasFreed, IsFreedAt, IsTrue, MayFree, OnlyLooks}
-use Rattle.mk_objects.proofs.Vocabulary.{PassState, SetsTally, StaysSo, WordsState, held_by_allocations, is_following}
-use Rattle.mk_objects.proofs.Vocabulary.{is_look, is_settling, now_of, steady_of, with_tally, words_freed, world_of}
-use Rattle.mk_objects.proofs.DecidedFrees.{Stays, decides_before, following_not, freed_decides, held_stays}
-use Rattle.mk_objects.proofs.DecidedFrees.{look_settles, looks_stay, settling_follows, stays_now, stays_then}
+use Rattle.mk_objects.proofs.Vocabulary.{PassState, SetsTally, StaysSo, held_by_allocations, is_following, now_of}
+use Rattle.mk_objects.proofs.Vocabulary.{with_tally, words_freed, world_of}
+use Rattle.mk_objects.proofs.DecidedFrees.{Stays, held_stays, settling_follows, stays_now, stays_then}
 use Rattle.mk_objects.proofs.FreedObjects.{HasRun, IsObjectAt, its_freed, its_run, large_held, object_at, own}
-use Rattle.mk_objects.proofs.ReachedParts.{reached_world, same_kinds}
-use Rattle.mk_objects.proofs.SmallFrees.{exact_from, freed_now, fresh_told_by, over_quarter}
-use Rattle.mk_objects.proofs.{FreedOnce.once_before, GoneRuns.IsGoneIn, GoneRuns.still_gone, JoinedLooks.looks_left}
+use Rattle.mk_objects.proofs.ReachedParts.{reached_table, reached_world, same_kinds}
+use Rattle.mk_objects.proofs.SmallFrees.{freed_now, frees_counted, fresh_told_by, tally_between}
+use Rattle.mk_objects.proofs.GoneRuns.{IsGoneIn, still_gone}
 use Rattle.mk_objects.specs.{Deciding.ClearsRun, Unmapping.IsStillMapped}
 
 -- what heads a run
@@ -24,16 +22,12 @@ pub record HeadsRun (x : Option Header) (count : ℕ) : Type 0 where
 same_count : (page n count : ℕ)
     → ◌≡◌ {A = Option RunPages} (Some (record { page = page; count = n }))
     (Some (record { page = page; count = count })) → n ≡ count
-same_count page n count is =
-    let one : ◌≡◌ {A = RunPages} (record { page = page; count = n }) (record { page = page; count = count }) =
-    cc is in ap (λ (x : RunPages). x.count) one
+same_count page n count is = grind arith
 
 heads_by : (x : Option Header) (page count : ℕ) → run_headed x page ≡ Some (record { page = page; count = count })
     → HeadsRun x count
-heads_by (Some (Run n mapped)) page count is =
-    record { heads = refl; words = ap (λ i. 64 * i) (same_count page n count is) }
-heads_by (Some (LeafRun n)) page count is =
-    record { heads = refl; words = ap (λ i. 64 * i) (same_count page n count is) }
+heads_by (Some (Run n mapped)) page count is = grind (arith, same_count)
+heads_by (Some (LeafRun n)) page count is = grind (arith, same_count)
 heads_by (Some Free) page count is = cc
 heads_by (Some (Block class)) page count is = cc
 heads_by (Some (LeafBlock class)) page count is = cc
@@ -46,12 +40,11 @@ heads_none (Some (Run n mapped)) page is = cc
 heads_none (Some (LeafRun n)) page is = cc
 heads_none _ page is = refl
 
-module _ (p : PassState) (reg u : ℕ) (cell : Cell) (count : ℕ) (may : MayFree p reg u cell)
-    (before : IsHistory p.table.config p.seen)
-    (run : run_headed (header_in (now_of p).words cell.page) cell.page ≡ Some
-    (record { page = cell.page; count = count })) where
+module _ {p : PassState} {reg u : ℕ} {cell : Cell} (count : ℕ) (may : MayFree p reg u cell)
+    (before : IsHistory p.table.config p.seen) (run : run_headed (header_in (now_of p).words cell.page) cell.page
+    ≡ Some (record { page = cell.page; count = count })) where
   abbrev pub object : IsObjectAt p reg cell
-  object = object_at p reg u cell before may.free may.some may.target
+  object = object_at u cell before may.free may.some may.target
 
   heads : HeadsRun (header_in (now_of p).words cell.page) count
   heads = heads_by (header_in (now_of p).words cell.page) cell.page count run
@@ -74,93 +67,52 @@ module _ (p : PassState) (reg u : ℕ) (cell : Cell) (count : ℕ) (may : MayFre
   no_words : words_freed (now_of p).words (Some cell) ≡ 0
   no_words = ap (λ b. if b then 0 else words_under (header_in (now_of p).words cell.page)) heads.heads
 
-  module _ (q : PassState) (freed : HasFreed p cell q) where
+  module _ {q : PassState} (freed : HasFreed p cell q) where
     now : IsFreedAt p.table.config p.seat cell (world_of p) (world_of q)
-    now = freed_now p q cell freed
+    now = freed_now freed
 
     pub run_freed : (now_of q).seats.holding.freed ≡ Some (record { page = cell.page; count = count })
-    run_freed = ap (λ (h : Holding). h.freed) now.holding
-        ∙ ap (λ (x : Option RunPages). or_else x (now_of p).seats.holding.freed) run
+    run_freed = grind (arith, now)
 
     pub run_mapped : (d : ℕ) → d < count → IsStillMapped (now_of q).words (record { page = cell.page; count = count }) d
-    run_mapped d lt e =
-        run_is.mapped d lt
-        (ap (λ (ps : List Page). (slice_index_or ps (cell.page + d) free_page).header)
-        (sym (ap (λ (x : Steady). x.pages) now.steady)) ∙ e)
+    run_mapped d lt e = grind (arith, run_is, now)
 
-    table : p.table ≡ q.table
-    table = sym (ap (λ (x : PassState). x.table) freed.same)
-
-    module _ (a b d r : PassState) (n : ℕ) (clears : ClearsRun q a) (looks : OnlyLooks a b)
-        (tallied : SetsTally b Tally.Held n d)
-        (looks_again : OnlyLooks d r) where
-      settles : Stays is_settling a r
-      settles =
-          stays_then is_settling is_look is_settling (same_kinds is_settling) look_settles a d r
-          (stays_then is_look is_settling is_settling look_settles (same_kinds is_settling) a b d
-          (looks_stay a b looks) (held_stays b d n tallied))
-          (looks_stay d r looks_again)
+    module _ {a b d r : PassState} {n : ℕ} (clears : ClearsRun q a) (looks : OnlyLooks a b)
+        (tallied : SetsTally b Tally.Held n d) (looks_again : OnlyLooks d r) where
+      sets : SetsTally a Tally.Held n r
+      sets = tally_between Tally.Held _ looks tallied looks_again
 
       follows : Stays is_following q r
-      follows = stays_then is_following is_settling is_following (same_kinds is_following) settling_follows q a r
-          clears.stays settles
+      follows = stays_then (same_kinds is_following) settling_follows clears.stays (held_stays sets)
 
       stays : StaysSo q.seat (world_of q) (world_of r)
-      stays = stays_now is_following q r follows
+      stays = stays_now follows
 
-      counted : Changes b.seat (with_tally Tally.Held n) (world_of b) (world_of d)
-      counted = reached_world is_settling b d (Changes b.seat (with_tally Tally.Held n) (world_of b)) [] tallied
+      changed : Changes a.seat (with_tally Tally.Held n) (world_of a) (world_of r)
+      changed = reached_world sets
 
-      steady : steady_of (world_of r) ≡ with_tally Tally.Held n (steady_of (world_of a))
-      steady =
-          (looks_left d r looks_again).steady ∙ counted.steady
-          ∙ ap (λ (x : Steady). with_tally Tally.Held n x) (looks_left a b looks).steady
+      none_held_now : (j : ℕ) → j < p.table.config.callers → is_held (now_of r).words j ≡ false
+      none_held_now j lt = grind (arith, changed, reached_table)
 
-      pub fresh_now : (now_of r).words.fresh ≡ (now_of p).words.fresh
-      fresh_now = ap (λ (x : Steady). x.fresh) steady ∙ clears.fresh ∙ ap (λ (x : Steady). x.fresh) now.steady
-
-      allocations_now : (world_of r).allocations ≡ map (freed_where_it_stands (now_of p).words (Some cell))
-          (world_of p).allocations
-      allocations_now = stays.allocations ∙ ap (λ (x : Steady). x.allocations) now.steady
-
-      gates_now : (j : ℕ) → j < p.table.config.callers → is_held (now_of r).words j ≡ false
-      gates_now j lt =
-          (looks_left d r looks_again).gates j ∙ counted.gates j ∙ (looks_left a b looks).gates j
-          ∙ clears.gates j (subst (λ (t : WordsState). j < t.config.callers) table lt)
-
-      table_then : p.table ≡ r.table
-      table_then = table ∙ sym (ap (λ (x : PassState). x.table) follows.same)
-
-      module _ (due : Bool) (fresh : ℕ) (once : FreesOnce p q) (holds : Holds q.table.config (now_of q) q.seat)
+      module _ (due : Bool) {fresh : ℕ} (once : FreesOnce p q) (holds : Holds q.table.config (now_of q) q.seat)
           (holds_then : Holds a.table.config (now_of a) a.seat)
           (behind : IsHistory r.table.config r.seen) (is : n + 64 * count ≡ (now_of p).words.held)
           (found : fresh ≡ (now_of r).words.fresh) (fits : n < 2 ^ 64) (is_due : IsTrue due ↔ (n < 4 * fresh)) where
         held_exact : n ≡ held_by_allocations p.table.config (world_of r).allocations
-        held_exact =
-            let sum = held_then in
-            let first : n ≡ held_by_allocations p.table.config (map (freed_where_it_stands (now_of p).words (Some cell))
-            (world_of p).allocations) = omega arith in
-            first ∙ ap (λ (xs : List PlacedAllocation). held_by_allocations p.table.config xs) (sym allocations_now)
+        held_exact = grind (arith, held_then, stays, now)
 
         fresh_exact : (now_of r).words.fresh ≡ in_a_word (fresh_words_of p.table.config (world_of r).allocations)
         fresh_exact =
-            let told = fresh_told_by p r cell before behind table_then may.exact (stays.fresh_words ∙ now.fresh) in
+            let told = fresh_told_by p r cell before behind (sym (reached_table freed) ∙ sym (reached_table follows))
+            may.exact (stays.fresh_words ∙ now.fresh) in
             let none = no_words in
-            let was = fresh_now in
+            let was : (now_of r).words.fresh ≡ (now_of p).words.fresh =
+            ap (λ (x : Steady). x.fresh) changed.steady ∙ clears.fresh ∙ ap (λ (x : Steady). x.fresh) now.steady in
             let exact = may.exact.fresh in
             omega arith
 
         pub frees_large : FreesCell p cell due r
         frees_large =
-            record {
-              reaches = decides_before p q r Answer.Done (freed_decides p q cell freed) follows;
-              allocations = allocations_now;
-              once = once_before is_following p q r following_not once table follows.does behind holds
-                  stays.allocations;
-              gone = subst (λ (x : PassState). IsGoneIn (world_of x)) (sym settles.same)
-                  (still_gone a r settles.does behind holds_then clears.gone);
-              gates = gates_now;
-              exact = exact_from p r table_then (ap (λ (x : Steady). x.held) steady ∙ held_exact) fresh_exact;
-              exactly = over_quarter p.table.config (world_of r).allocations n fresh due held_exact
-                  (found ∙ fresh_exact) fits is_due;
-            }
+            frees_counted due freed follows once holds behind (subst (λ (x : PassState). IsGoneIn (world_of x))
+            (sym sets.same) (still_gone sets.does behind holds_then clears.gone)) none_held_now
+            (sym (ap (λ (x : Steady). x.held) changed.steady)) found held_exact (found ∙ fresh_exact) fits is_due

@@ -30,6 +30,7 @@ pub mod ReachedParts
 pub mod GoneRuns
 pub mod SetGates
 pub mod UnmappedRuns
+pub mod WipedWords
 pub mod WipedRuns
 pub mod HeldFreed
 pub mod FreedObjects
@@ -39,5 +40,6 @@ pub mod SmallFrees
 pub mod ClearedRuns
 pub mod PreparedFrees
 pub mod LargeFrees
+pub mod FreesUnderway
 pub mod Retirements
 pub mod Vocabulary

@@ -15,9 +15,7 @@ pub record StandsBefore {A : Type 0} (xs : List A) (ys : List A) : Type 0 where
 pub in_parts : {A : Type 0} (xs more ys : List A) (x : A) (zs : List A) → xs ++ more ≡ ys ++ x ∷ zs
     → StandsIn xs ys x ⊎ StandsBefore xs ys
 in_parts [] more ys x zs is = inr (record { rest = ys; is = refl })
-in_parts (a ∷ xs) more [] x zs is =
-    let first : a ≡ x = cc in
-    inl (record { rest = xs; is = ap (λ b. b ∷ xs) first })
+in_parts (a ∷ xs) more [] x zs is = grind arith
 in_parts (a ∷ xs) more (y ∷ ys) x zs is =
     let first : a ≡ y = cc in
     let rest : xs ++ more ≡ ys ++ x ∷ zs = cc in
@@ -31,8 +29,8 @@ in_parts (a ∷ xs) more (y ∷ ys) x zs is =
     ]
 
 -- No element stands after a whole list,
-pub none_behind : {A : Type 0} (xs ys : List A) (x : A) (zs : List A) → xs ≡ xs ++ ys ++ x ∷ zs → ⊥
-none_behind xs ys x zs is =
+pub none_behind : {A : Type 0} {xs : List A} (ys : List A) (x : A) (zs : List A) → xs ≡ xs ++ ys ++ x ∷ zs → ⊥
+none_behind {xs} ys x zs is =
     let all : length xs ≡ length (xs ++ ys ++ x ∷ zs) = ap length is in
     let outer = length-append (xs ++ ys) (x ∷ zs) in
     let inner = length-append xs ys in
@@ -49,5 +47,4 @@ alone e (y ∷ ys) x zs is =
 pub one_behind : {A : Type 0} (xs : List A) (e : A) (ys : List A) (x : A) (zs : List A) → xs ++ e ∷ [] ≡ xs ++ ys
     ++ x ∷ zs
     → (ys ≡ []) × (e ≡ x)
-one_behind xs e ys x zs is = alone e ys x zs (append_cancel_left xs (e ∷ []) (ys ++ x ∷ zs)
-    (is ∙ append_assoc xs ys (x ∷ zs)))
+one_behind xs e ys x zs is = grind (arith, alone, append_cancel_left, append_assoc)

@@ -1,45 +1,33 @@
 -- The register of a Free is loaded.
-use Rattle.mk_laws.proofs.Vocabulary.{Answer, AreOfOthers, Bool, Caller, Config, Event, Flight, Holds, Host, IsEnabled}
-use Rattle.mk_laws.proofs.Vocabulary.{IsHistory, List, Load, Marker, Moment, Named, None, Null, Num, Op, Option}
-use Rattle.mk_laws.proofs.Vocabulary.{Progress, Ptr, Seat, Some, Stage, Step, Value, Word, Words, World, ℕ, accessed}
-use Rattle.mk_laws.proofs.Vocabulary.{answer_decided, ap, arith, bases_of, begun, caller_number, comes_next, entry_of}
-use Rattle.mk_laws.proofs.Vocabulary.{eqb-true, false, flight_of, found, if◌then◌else◌, image_of, is_held}
-use Rattle.mk_laws.proofs.Vocabulary.{is_undecided_free, left, length, lt-ltb, never_behind, progress_reg, refl}
-use Rattle.mk_laws.proofs.Vocabulary.{reg_access, register_at, register_met, register_word, shown, subst, sym, true}
-use Rattle.mk_laws.proofs.Vocabulary.{world_behind, [], ◌%◌, ◌*◌, ◌++◌, ◌+◌, ◌/◌, ◌<◌, ◌==◌, ◌∙◌, ◌∷◌, ◌≡◌}
-use Rattle.mk_objects.proofs.Vocabulary.{Acts, CallIsAt, IsAdmittedBehind, IsAsLeft, IsBase, IsEnabledTo, IsFreeAt}
-use Rattle.mk_objects.proofs.Vocabulary.{IsTurn, Known, PassState, answers_full, call_of, event_of}
-use Rattle.mk_objects.proofs.Vocabulary.{histories_keep_the_invariant, is_loading, loaded_free, now_of, steady_of}
-use Rattle.mk_objects.proofs.Vocabulary.{value_of, world_of}
+use Rattle.mk_laws.proofs.Vocabulary.{Answer, AreOfOthers, Bool, Caller, Config, Event, Flight, Holds, IsEnabled}
+use Rattle.mk_laws.proofs.Vocabulary.{IsHistory, List, Load, Moment, None, Null, Num, Op, Option, Progress, Ptr, Seat}
+use Rattle.mk_laws.proofs.Vocabulary.{Some, Stage, Step, Value, Words, World, ℕ, answer_decided, ap, arith, bases_of}
+use Rattle.mk_laws.proofs.Vocabulary.{begun, caller_number, entry_of, eqb-true, false, flight_of, found, if◌then◌else◌}
+use Rattle.mk_laws.proofs.Vocabulary.{image_of, is_held, is_undecided_free, left, length, lt-ltb, never_behind}
+use Rattle.mk_laws.proofs.Vocabulary.{progress_reg, refl, reg_access, register_at, register_met, register_word, shown}
+use Rattle.mk_laws.proofs.Vocabulary.{subst, sym, true, world_behind, [], ◌%◌, ◌*◌, ◌++◌, ◌+◌, ◌/◌, ◌<◌, ◌==◌, ◌∙◌, ◌∷◌}
+use Rattle.mk_laws.proofs.Vocabulary.{◌≡◌}
+use Rattle.mk_objects.proofs.Vocabulary.{Acts, CallIsAt, IsAsLeft, IsBase, IsEnabledTo, IsFreeAt, IsTurn, Known}
+use Rattle.mk_objects.proofs.Vocabulary.{PassState, answers_full, call_of, event_of, histories_keep_the_invariant}
+use Rattle.mk_objects.proofs.Vocabulary.{is_loading, loaded_free, now_of, steady_of, value_of, world_of}
 use Rattle.mk_core.{proofs.Conditions.meets_enabled, specs.Effects.moment_behind}
 use Rattle.mk_objects.proofs.Reaching.{IsCallers, made_in, reaches_nothing, reaches_on}
 use Rattle.mk_objects.proofs.{AdmittedFrees.free_admits, AdmittedFrees.registers_kept, Unchanged.call_behind}
-use Rattle.mk_objects.specs.Retiring.{HasLoaded, IsUnloaded, entry_loaded}
+use Rattle.mk_objects.specs.Retiring.{HasLoaded, IsUnloaded}
 use Rattle.mk_words.specs.{CallSteps.register_of, Steps.IsAdmittedTo}
 
 -- Any step of a Free is admitted.
-pub free_step_admits : (p : PassState) (r : ℕ) (x : Step) (f : Flight) → IsCallers p
+pub free_step_admits : {p : PassState} {r : ℕ} (x : Step) {f : Flight} → IsCallers p
     → Holds p.table.config (now_of p) p.seat
     → IsHistory p.table.config p.seen → IsFreeAt p r f → f.op ≡ Op.Free r → IsAdmittedTo p x
-free_step_admits p r x f caller holds h u is = by p.seat caller.is holds u.call u.base
-  where
-    by : (s : Seat) → s ≡ Caller caller.number → Holds p.table.config (now_of p) s → flight_of (now_of p) s ≡ f
-        → IsBase (register_at (never_behind p.table.config p.seen) (caller_number s) r)
-        → IsAdmittedBehind p.table.config p.seen (record { seat = s; step = x })
-    by s e there call base =
-        subst (λ (y : Seat). IsAdmittedBehind p.table.config p.seen (record { seat = y; step = x })) (sym e)
-        (free_admits p.table.config p.seen caller.number r x h
-        (subst (λ (y : Seat). Holds p.table.config (now_of p) y) e there).0 u.small
-        (ap (λ (y : Seat). (flight_of (now_of p) y).op) (sym e) ∙ ap (λ (g : Flight). g.op) call ∙ is)
-        (subst (λ (y : Seat). IsBase (register_at (never_behind p.table.config p.seen) (caller_number y) r)) e base))
+free_step_admits x caller holds h u is = grind (arith, free_admits)
 
 -- Its register keeps its value over a step that decides nothing.
-pub value_kept : (p q : PassState) (r : ℕ) (x : Step) → IsCallers p → r < 8 → Acts p x q
+pub value_kept : {p q : PassState} (r : ℕ) {x : Step} → IsCallers p → r < 8 → Acts p x q
     → ((v : World) → IsAsLeft p.seat (world_of p) v → Known p.table.config v.now
-    → answer_decided p.table.config v.now (event_of p x) ≡ None)
-    → value_of q r ≡ value_of p r
-value_kept p q r x caller small a none =
-    let m = made_in p p.seen x q a in
+    → answer_decided p.table.config v.now (event_of p x) ≡ None) → value_of q r ≡ value_of p r
+value_kept {p} r {x} caller small a none =
+    let m = made_in p p.seen a in
     ap (λ (y : PassState). value_of y r) m.same
     ∙ by m.others p.seat caller.is m.of_others (none (left p.table.config (p.seen ++ m.others)) m.kept m.known)
     (subst (λ (y : PassState). IsHistory y.table.config y.seen) m.same a.makes.pass.history)
@@ -52,69 +40,37 @@ value_kept p q r x caller small a none =
         (caller_number s) r
         ≡ register_at (never_behind p.table.config p.seen) (caller_number s) r
     by others s e of_others answer whole =
-        subst
-        (λ (y : Seat). AreOfOthers (y ∷ []) others
-        → answer_decided p.table.config (left p.table.config (p.seen ++ others)).now (record { seat = y; step = x })
-        ≡ None
+        subst (λ (y : Seat). AreOfOthers (y ∷ []) others → answer_decided p.table.config
+        (left p.table.config (p.seen ++ others)).now (record { seat = y; step = x }) ≡ None
         → IsHistory p.table.config (p.seen ++ others ++ record { seat = y; step = x } ∷ [])
         → register_at (never_behind p.table.config (p.seen ++ others ++ record { seat = y; step = x } ∷ []))
-        (caller_number y) r
-        ≡ register_at (never_behind p.table.config p.seen) (caller_number y) r)
-        (sym e) (λ o n w. registers_kept p.table.config p.seen others caller.number x w o n r small) of_others answer
-        whole
+        (caller_number y) r ≡ register_at (never_behind p.table.config p.seen) (caller_number y) r) (sym e)
+        (λ o n w. registers_kept p.seen others caller.number x w o n r small) of_others answer whole
 
 -- It is a caller's.
 pub unloaded_caller : (p : PassState) (r : ℕ) → call_of p ≡ begun (Op.Free r) → IsCallers p
-unloaded_caller p r call = by p.seat refl call
-  where
-    loads : Stage → Bool
-    loads Stage.LoadP = true
-    loads _ = false
-
-    by : (s : Seat) → p.seat ≡ s → flight_of (now_of p) s ≡ begun (Op.Free r) → IsCallers p
-    by (Caller k) is c = record { number = k; is = is }
-    by (Marker k) is c = let e : false ≡ true = ap (λ (f : Flight). loads f.stage) c in cc
-    by Host is c = let e : false ≡ true = ap (λ (f : Flight). loads f.stage) c in cc
+unloaded_caller p r call = grind arith
 
 reg_enabled : (c : Config) (m : Moment) (k r : ℕ) → k < c.callers → flight_of m (Caller k) ≡ begun (Op.Free r)
     → IsEnabled c m (record { seat = Caller k; step = Step.Reg })
-reg_enabled c m k r lt call =
-    meets_enabled c m (record { seat = Caller k; step = Step.Reg }) (record {
-      seat = lt-ltb k c.callers lt;
-      kind = refl;
-      order = ap (λ (f : Flight). comes_next f.stage f.op Step.Reg) call;
-      range = refl;
-      gates = refl;
-      phase = refl;
-      marker = refl;
-      holder = refl;
-    })
+reg_enabled c m k r lt call = grind (arith, meets_enabled, lt-ltb)
 
-module _ (p : PassState) (r : ℕ) (o : Option Op) (turn : IsTurn p o) (h : IsHistory p.table.config p.seen)
-    (u : IsUnloaded p r) where
-  caller : IsCallers p
-  caller = unloaded_caller p r u.call
+module _ {p : PassState} {r : ℕ} (u : IsUnloaded p r) where
+  loader : IsCallers p
+  loader = unloaded_caller p r u.call
 
-  abbrev number : ℕ
-  number = caller.number
+  abbrev loading : ℕ
+  loading = loader.number
 
-  within : (s : Seat) → s ≡ Caller number → Holds p.table.config (now_of p) s → number < p.table.config.callers
-  within s is holds = (subst (λ (x : Seat). Holds p.table.config (now_of p) x) is holds).0
+  loads_within : {s : Seat} → s ≡ Caller loading → Holds p.table.config (now_of p) s → loading < p.table.config.callers
+  loads_within is holds = (subst (λ (x : Seat). Holds p.table.config (now_of p) x) is holds).0
 
-  pub load_may : IsEnabledTo p Step.Reg
-  load_may = by p.seat caller.is turn.holds u.call
-    where
-      by : (s : Seat) → s ≡ Caller number → Holds p.table.config (now_of p) s
-          → flight_of (now_of p) s ≡ begun (Op.Free r)
-          → IsEnabled p.table.config (now_of p) (record { seat = s; step = Step.Reg })
-      by s is holds call =
-          subst (λ (x : Seat). IsEnabled p.table.config (now_of p) (record { seat = x; step = Step.Reg })) (sym is)
-          (reg_enabled p.table.config (now_of p) number r (within s is holds)
-          (ap (λ (x : Seat). flight_of (now_of p) x) (sym is) ∙ call))
+  pub load_may : {o : Option Op} → IsTurn p o → IsEnabledTo p Step.Reg
+  load_may turn = grind (arith, loader, loading, reg_enabled, loads_within)
 
   -- whether it decides the Free or not
-  pub load_admits : IsAdmittedTo p Step.Reg
-  load_admits = free_step_admits p r Step.Reg (begun (Op.Free r)) caller turn.holds h u refl
+  pub load_admits : {o : Option Op} → IsTurn p o → IsHistory p.table.config p.seen → IsAdmittedTo p Step.Reg
+  load_admits turn h = free_step_admits Step.Reg loader turn.holds h u refl
 
   pub load_meets : r ≡ register_met (call_of p) (call_of p).stage
   load_meets = sym (ap (λ (f : Flight). register_met f f.stage) u.call)
@@ -131,20 +87,11 @@ load_progress r n b =
     else record { flight = record (begun (Op.Free r)) { stage = Stage.Turn; p = n }; answer = None }
 
 loads_to : (r n : ℕ) → (progress_reg (begun (Op.Free r)) Stage.LoadP n).flight ≡ loaded_free r n
-loads_to r n = by (n == 0)
-  where
-    by : (b : Bool) → (load_progress r n b).flight
-        ≡ record (begun (Op.Free r)) { stage = if b then Stage.Give else Stage.Turn; p = n }
-    by true = refl
-    by false = refl
+loads_to r n = grind (arith, load_progress)
 
 loads_answer : (r n : ℕ)
     → (progress_reg (begun (Op.Free r)) Stage.LoadP n).answer ≡ (if n == 0 then Some Answer.Done else None)
-loads_answer r n = by (n == 0)
-  where
-    by : (b : Bool) → (load_progress r n b).answer ≡ (if b then Some Answer.Done else None)
-    by true = refl
-    by false = refl
+loads_answer r n = grind (arith, load_progress)
 
 loaded_entry : (k : ℕ) (o : Op) (b : Bool)
     → entry_of k o (if b then Some Answer.Done else None) ≡ (if b then entry_of k o (Some Answer.Done) else [])
@@ -162,19 +109,17 @@ loaded_found c m k r call = ap (λ (f : Flight). register_word m.words k (regist
 -- A load changes no word.
 loaded_words : (c : Config) (m : Moment) (k r : ℕ) → flight_of m (Caller k) ≡ begun (Op.Free r)
     → (moment_behind c m (record { seat = Caller k; step = Step.Reg })).words ≡ m.words
-loaded_words c m k r call =
-    ap (λ (f : Flight). accessed m.words
-    (Named (Word.Reg k (register_met (flight_of m (Caller k)) (flight_of m (Caller k)).stage)))
-    (reg_access f f.stage)) call
+loaded_words c m k r call = grind arith
 
 record LoadsTo (c : Config) (k r n : ℕ) (w v : World) : Type 0 where
   at : CallIsAt (Caller k) (loaded_free r n) w (world_behind c v (record { seat = Caller k; step = Step.Reg }))
   answer : answer_decided c v.now (record { seat = Caller k; step = Step.Reg })
       ≡ (if n == 0 then Some Answer.Done else None)
 
-load_steps : (c : Config) (k r n : ℕ) (w v : World) → k < length v.now.seats.flights → IsAsLeft (Caller k) w v
+load_steps : (c : Config) {k : ℕ} (r : ℕ) {n : ℕ} {w v : World} → k < length v.now.seats.flights
+    → IsAsLeft (Caller k) w v
     → flight_of w.now (Caller k) ≡ begun (Op.Free r) → r < 8 → n ≡ register_word w.now.words k r → LoadsTo c k r n w v
-load_steps c k r n w v lt kept call small is =
+load_steps c {k} r {n} {v} lt kept call small is =
     let e : Event = record { seat = Caller k; step = Step.Reg } in
     let here : flight_of v.now (Caller k) ≡ begun (Op.Free r) = kept.call ∙ call in
     let same : found c v.now e ≡ n = loaded_found c v.now k r here ∙ kept.registers k r refl small ∙ sym is in
@@ -201,59 +146,47 @@ module _ (p : PassState) (r n : ℕ) (v : World) (small : r < 8) (known : Known 
       × (answer_decided p.table.config v.now (record { seat = s; step = Step.Reg })
       ≡ (if n == 0 then Some Answer.Done else None))
 
-  lands : (s : Seat) (k : ℕ) → s ≡ Caller k → IsAsLeft s (world_of p) v → Holds p.table.config (now_of p) s
-      → flight_of (now_of p) s ≡ begun (Op.Free r)
-      → n ≡ register_word (now_of p).words k r → Lands s
-  lands s k e kept holds call is =
+  lands : {s : Seat} (k : ℕ) → s ≡ Caller k → IsAsLeft s (world_of p) v → Holds p.table.config (now_of p) s
+      → flight_of (now_of p) s ≡ begun (Op.Free r) → n ≡ register_word (now_of p).words k r → Lands s
+  lands k e kept holds call is =
       let lt : k < p.table.config.callers = (subst (λ (x : Seat). Holds p.table.config (now_of p) x) e holds).0 in
       let there : k < length v.now.seats.flights = subst (λ i. k < i) (sym known.orderly.flights) lt in
-      let to = load_steps p.table.config k r n (world_of p) v there
-      (subst (λ (x : Seat). IsAsLeft x (world_of p) v) e kept)
+      let to = load_steps p.table.config r there (subst (λ (x : Seat). IsAsLeft x (world_of p) v) e kept)
       (ap (λ (x : Seat). flight_of (now_of p) x) (sym e) ∙ call) small is in
       subst (λ (x : Seat). Lands x) (sym e) (to.at, to.answer)
 
-pub load_reaches : (p q : PassState) (r n : ℕ) (o : Option Op) → r < 8 → IsTurn p o → IsUnloaded p r → Acts p Step.Reg q
+pub load_reaches : {p q : PassState} {r n : ℕ} {o : Option Op} → r < 8 → IsTurn p o → IsUnloaded p r → Acts p Step.Reg q
     → n ≡ register_of p r → HasLoaded p r n q
-load_reaches p q r n o small turn u a is =
+load_reaches {p} {r} {n} small turn u a is =
     let caller = unloaded_caller p r u.call in
-    let here : n ≡ register_word (now_of p).words caller.number r = is
-    ∙ ap (λ (x : Seat). register_word (now_of p).words (caller_number x) r) caller.is in
-    reaches_on is_loading p p q (λ w. w ≡ world_of p) (CallIsAt p.seat (loaded_free r n) (world_of p)) []
-    (entry_loaded p n) Step.Reg
-    (reaches_nothing is_loading p (λ w. w ≡ world_of p) refl) a refl refl caller
-    (λ w v first kept known pages.
+    let here : n ≡ register_word (now_of p).words caller.number r = grind arith in
+    reaches_on (λ w. w ≡ world_of p) (CallIsAt p.seat (loaded_free r n) (world_of p))
+    (reaches_nothing is_loading p (λ w. w ≡ world_of p) refl) a refl refl caller (λ w v first kept known pages.
     let kept : IsAsLeft p.seat (world_of p) v = subst (λ (x : World). IsAsLeft p.seat x v) first kept in
-    let to = lands p r n v small known p.seat caller.number caller.is kept turn.holds u.call here in
+    let to = lands p r n v small known caller.number caller.is kept turn.holds u.call here in
     record {
       world = to.0;
       answer = if n == 0 then Some Answer.Done else None;
       decides = to.1;
       no_full = loaded_no_full (n == 0);
-      entry = λ k is.
-          ap (λ (f : Flight). entry_of k f.op (if n == 0 then Some Answer.Done else None)) kept.call
-          ∙ loaded_entry k (call_of p).op (n == 0)
-          ∙ ap (λ i. if n == 0 then entry_of i (call_of p).op (Some Answer.Done) else []) (sym (ap caller_number is));
+      entry = λ k is. ap (λ (f : Flight). entry_of k f.op (if n == 0 then Some Answer.Done else None)) kept.call
+          ∙ loaded_entry k (call_of p).op (n == 0) ∙ ap (λ i. if n == 0 then entry_of i (call_of p).op
+          (Some Answer.Done) else []) (sym (ap caller_number is));
     })
 
 -- A load that finds a pointer decides nothing.
-pub load_keeps : (p q : PassState) (r n : ℕ) (o : Option Op) → r < 8 → IsTurn p o → IsUnloaded p r → Acts p Step.Reg q
+pub load_keeps : {p q : PassState} {r n : ℕ} {o : Option Op} → r < 8 → IsTurn p o → IsUnloaded p r → Acts p Step.Reg q
     → n ≡ register_of p r → (n == 0) ≡ false → value_of q r ≡ value_of p r
-load_keeps p q r n o small turn u a is some =
+load_keeps {p} {r} {n} small turn u a is some =
     let caller = unloaded_caller p r u.call in
-    let here : n ≡ register_word (now_of p).words caller.number r = is
-    ∙ ap (λ (x : Seat). register_word (now_of p).words (caller_number x) r) caller.is in
-    value_kept p q r Step.Reg caller small a
-    (λ v kept known.
-    (lands p r n v small known p.seat caller.number caller.is kept turn.holds u.call here).1
-    ∙ ap (λ (b : Bool). if b then Some Answer.Done else None) some)
+    let here : n ≡ register_word (now_of p).words caller.number r = grind arith in
+    value_kept r caller small a (λ v kept known. (lands p r n v small known caller.number caller.is kept turn.holds
+    u.call here).1 ∙ ap (λ (b : Bool). if b then Some Answer.Done else None) some)
 
 -- A Free that has loaded a pointer isn't decided.
-pub loaded_undecided : (p : PassState) (r u : ℕ) → IsFreeAt p r (loaded_free r u) → (u == 0) ≡ false
+pub loaded_undecided : {p : PassState} {r : ℕ} (u : ℕ) → IsFreeAt p r (loaded_free r u) → (u == 0) ≡ false
     → is_undecided_free (call_of p) ≡ true
-loaded_undecided p r u at some =
-    ap (λ (f : Flight). is_undecided_free f) at.call
-    ∙ ap (λ (b : Bool). is_undecided_free
-    (record (begun (Op.Free r)) { stage = if b then Stage.Give else Stage.Turn; p = u })) some
+loaded_undecided u at some = grind arith
 
 -- A register whose word is 0 is null.
 
@@ -262,39 +195,17 @@ null_by bases Null base is = refl
 null_by bases (Num n) base is = absurd base
 null_by bases (Ptr number ty offset) base is = absurd (omega arith)
 
-null_at : (c : Config) (es : List Event) (k r : ℕ) → IsHistory c es → r < 8
-    → flight_of (left c es).now (Caller k) ≡ begun (Op.Free r)
-    → IsBase (register_at (never_behind c es) k r) → register_word (left c es).now.words k r ≡ 0
+null_at : {c : Config} {es : List Event} (k r : ℕ) → IsHistory c es → r < 8 → flight_of (left c es).now (Caller k)
+    ≡ begun (Op.Free r) → IsBase (register_at (never_behind c es) k r) → register_word (left c es).now.words k r ≡ 0
     → register_at (never_behind c es) k r ≡ Null
-null_at c es k r h small call base zero =
+null_at {c} {es} k r h small call base zero =
     let images = (histories_keep_the_invariant c es h).mirrors.images in
     let place : (8 * k + r) / 8 ≡ k = omega arith in
-    let rest : (8 * k + r) % 8 ≡ r = omega arith in
     let here : shown (flight_of (left c es).now (Caller ((8 * k + r) / 8))) ((8 * k + r) % 8)
-    (register_word (left c es).now.words k r) ≡ 0 =
-    ap (λ i. shown (flight_of (left c es).now (Caller i)) ((8 * k + r) % 8) (register_word (left c es).now.words k r))
-    place
-    ∙ ap (λ (f : Flight). shown f ((8 * k + r) % 8) (register_word (left c es).now.words k r)) call ∙ zero in
+    (register_word (left c es).now.words k r) ≡ 0 = grind arith in
     null_by (bases_of (left c es).allocations) (register_at (never_behind c es) k r) base
     (sym (images.registers (8 * k + r)) ∙ here)
 
-pub load_null : (p : PassState) (r n : ℕ) → IsHistory p.table.config p.seen → IsUnloaded p r → n ≡ register_of p r
-    → (n == 0) ≡ true
-    → value_of p r ≡ Null
-load_null p r n h u is none =
-    let caller = unloaded_caller p r u.call in
-    by p.seat caller.is u.call u.base (sym is ∙ eqb-true n 0 none)
-  where
-    by : (s : Seat) → s ≡ Caller (unloaded_caller p r u.call).number → flight_of (now_of p) s ≡ begun (Op.Free r)
-        → IsBase (register_at (never_behind p.table.config p.seen) (caller_number s) r)
-        → register_word (now_of p).words (caller_number s) r ≡ 0
-        → register_at (never_behind p.table.config p.seen) (caller_number s) r ≡ Null
-    by s e call base zero =
-        subst
-        (λ (x : Seat). flight_of (now_of p) x ≡ begun (Op.Free r)
-        → IsBase (register_at (never_behind p.table.config p.seen) (caller_number x) r)
-        → register_word (now_of p).words (caller_number x) r ≡ 0
-        → register_at (never_behind p.table.config p.seen) (caller_number x) r ≡ Null)
-        (sym e)
-        (λ c b z. null_at p.table.config p.seen (unloaded_caller p r u.call).number r h u.small c b z)
-        call base zero
+pub load_null : {p : PassState} {r n : ℕ} → IsHistory p.table.config p.seen → IsUnloaded p r → n ≡ register_of p r
+    → (n == 0) ≡ true → value_of p r ≡ Null
+load_null h u is none = grind (arith, unloaded_caller, eqb-true, null_at)

@@ -2,7 +2,7 @@
 use Rattle.mk_laws.proofs.Vocabulary.{Caller, Config, Flight, Holds, Host, Marker, Moment, Op, Option, Seat, Steady}
 use Rattle.mk_laws.proofs.Vocabulary.{Step, Word, World, ℕ, ap, false, flight_of, free_page, left, lt-ltb, phase_of}
 use Rattle.mk_laws.proofs.Vocabulary.{quarantine_word, refl, seat_exists, slice_index, slice_index_or, true}
-use Rattle.mk_laws.proofs.Vocabulary.{world_behind, [], ◌%◌, ◌++◌, ◌∙◌, ◌≡◌}
+use Rattle.mk_laws.proofs.Vocabulary.{world_behind, ◌%◌, ◌++◌, ◌∙◌, ◌≡◌}
 use Rattle.mk_objects.proofs.Vocabulary.{Acts, IsAsLeft, IsTurn, OnlyLooks, PassState, call_of, is_acting, is_look}
 use Rattle.mk_objects.proofs.Vocabulary.{is_steady_word, now_of, steady_of, world_of}
 use Rattle.mk_core.specs.Words.{named_word}
@@ -31,38 +31,36 @@ acting_caller p acts = by p.seat refl acts
     by (Marker k) is h = cc
     by Host is h = cc
 
--- where it is as it was left, it is acting still
-pub still_acting : (c : Config) (s : Seat) (w v : World) → IsActing c w.now s → IsAsLeft s w v → IsActing c v.now s
-still_acting c s w v at kept = record {
-  there = at.there;
-  acts = ap (λ (f : Flight). is_acting f.stage) kept.call
-      ∙ at.acts;
-}
+-- where its call is the same, it is acting still
+pub acts_there : {c : Config} {s : Seat} (w v : World) → IsActing c w.now s → flight_of v.now s ≡ flight_of w.now s
+    → IsActing c v.now s
+acts_there w v at call = record { there = at.there; acts = ap (λ (f : Flight). is_acting f.stage) call ∙ at.acts }
 
-pub looks_on : (p : PassState) (x : Word) → IsActing p.table.config (now_of p) p.seat → IsPlain x
+pub still_acting : {c : Config} {s : Seat} {w v : World} → IsActing c w.now s → IsAsLeft s w v → IsActing c v.now s
+still_acting {w} {v} at kept = acts_there w v at kept.call
+
+pub looks_on : (p : PassState) {x : Word} → IsActing p.table.config (now_of p) p.seat → IsPlain x
     → GoesOn p (IsAsLeft p.seat (world_of p)) (λ v. IsAsLeft p.seat (world_of p)
     (world_behind p.table.config v (record { seat = p.seat; step = Step.Look x })))
-looks_on p x at plain w v before kept known pages =
-    let here = left_joined p.seat (world_of p) w v before kept in
-    let call = acting_has_call p.table.config v.now p.seat known.orderly.flights
-    (still_acting p.table.config p.seat (world_of p) v at here) in
-    left_joined p.seat (world_of p) v _ here (look_leaves p.table.config v p.seat x call plain)
+looks_on p at plain w v before kept known pages =
+    let here = left_joined before kept in
+    let call = acting_has_call known.orderly.flights (still_acting at here) in
+    left_joined here (look_leaves v call plain)
 
 -- Such a look decides nothing.
-pub plain_is_idle : (x : Word) → IsPlain x → may_decide (Step.Look x) ≡ false
-plain_is_idle x (OfHead p) = refl
-plain_is_idle x (OfUsed p) = refl
-plain_is_idle x OfHeld = refl
-plain_is_idle x OfFresh = refl
-plain_is_idle x OfPhase = refl
+pub plain_is_idle : {x : Word} → IsPlain x → may_decide (Step.Look x) ≡ false
+plain_is_idle (OfHead p) = refl
+plain_is_idle (OfUsed p) = refl
+plain_is_idle OfHeld = refl
+plain_is_idle OfFresh = refl
+plain_is_idle OfPhase = refl
 
-pub look_reaches : (p q : PassState) (o : Option Op) (x : Word) → IsTurn p o → is_acting (call_of p).stage ≡ true
-    → IsPlain x → Acts p (Step.Look x) q
-    → OnlyLooks p q
-look_reaches p q o x turn acts plain a =
-    reaches_still is_look p p q (IsAsLeft p.seat (world_of p)) (IsAsLeft p.seat (world_of p)) [] (Step.Look x)
+pub look_reaches : {p q : PassState} {o : Option Op} {x : Word} → IsTurn p o → is_acting (call_of p).stage ≡ true
+    → IsPlain x → Acts p (Step.Look x) q → OnlyLooks p q
+look_reaches {p} {o} turn acts plain a =
+    reaches_still (IsAsLeft p.seat (world_of p)) (IsAsLeft p.seat (world_of p))
     (reaches_nothing is_look p (IsAsLeft p.seat (world_of p)) (left_same p.seat (world_of p))) a refl refl
-    (acting_caller p acts) (plain_is_idle x plain) (looks_on p x (acting_now p o turn acts) plain)
+    (acting_caller p acts) (plain_is_idle plain) (looks_on p (acting_now p o turn acts) plain)
 
 -- What it finds is what the word is for the holder.
 module _ (p q : PassState) (o : Option Op) (x : Word) (n : ℕ) (turn : IsTurn p o) (f : Finds p (Step.Look x) n q) where
@@ -79,14 +77,14 @@ module _ (p q : PassState) (o : Option Op) (x : Word) (n : ℕ) (turn : IsTurn p
       by Word.Fresh h = ap (λ (t : Steady). t.fresh) same
       by _ h = cc
 
-pub found_phase : (p q : PassState) (o : Option Op) (n : ℕ) → IsTurn p o → Finds p (Step.Look Word.Phase) n q
+pub found_phase : {p q : PassState} {o : Option Op} {n : ℕ} → IsTurn p o → Finds p (Step.Look Word.Phase) n q
     → n % 8 ≡ phase_of (now_of p).words
-found_phase p q o n turn f =
+found_phase {p} {q} turn f =
     ap (λ i. i % 8) f.finds ∙ ap (λ (t : Steady). t.phase)
     (((made p (Step.Look Word.Phase) q f.makes).frame.turn turn.holds).0).steady
 
-pub found_quarantine : (p q : PassState) (o : Option Op) (page n : ℕ) → IsTurn p o
+pub found_quarantine : {p q : PassState} {o : Option Op} {page n : ℕ} → IsTurn p o
     → Finds p (Step.Look (Word.Quar page)) n q → n ≡ named_word (now_of p).words (Word.Quar page)
-found_quarantine p q o page n turn f =
+found_quarantine {p} {q} {page} turn f =
     let same = (((made p (Step.Look (Word.Quar page)) q f.makes).frame.turn turn.holds).0).steady in
     f.finds ∙ ap (λ (t : Steady). quarantine_word (slice_index t.freed page) (slice_index t.snapshot page)) same

@@ -72,7 +72,7 @@ pub off_four : (m : Moment) → IsOutOfStop m → is_phase m.words 4 ≡ false
 off_four m (inl none) = ap (λ (n : ℕ). n == 4) none
 off_four m (inr one) = ap (λ (n : ℕ). n == 4) one
 
-module _ (c : Config) (m : Moment) (s : Seat) (at : IsActing c m s) where
+module _ {c : Config} {m : Moment} {s : Seat} (at : IsActing c m s) where
   may_by : (x : Step) → group_of x ≡ Group.Turn → is_in_order c m s x ≡ true → is_in_range c s (flight_of m s) x ≡ true
       → has_gates c m.words s (flight_of m s) x ≡ true → has_phase (phase_of m.words) x ≡ true
       → marker_may c (marker_at m s) x ≡ true

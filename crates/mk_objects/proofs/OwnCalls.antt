@@ -1,68 +1,21 @@
--- The own calls of a list in parts: events of others have none of them. As in mk_caller.
-use Rattle.std.proofs.{Common.filter, lemmas.List.Elements.filter-append}
-use Rattle.mk_laws.proofs.Vocabulary.{Answer, Bool, Caller, Config, Decided, Event, Host, List, Marker, None, Op}
-use Rattle.mk_laws.proofs.Vocabulary.{Option, Seat, Some, Step, World, ℕ, answer_decided, ap, append-nil, call_decided}
-use Rattle.mk_laws.proofs.Vocabulary.{calls, cond, entry_of, eq-eqb, first_world, flight_of, left, ne_eqb, refl}
-use Rattle.mk_laws.proofs.Vocabulary.{world_behind, [], ◌++◌, ◌==◌, ◌∙◌, ◌∷◌, ◌≡◌, ◌≢◌}
-use Rattle.mk_objects.proofs.Vocabulary.{calls_more}
-use Rattle.mk_core.{proofs.HistoryParts.calls_in_parts, specs.Growing.AreOfOthers, specs.History.calls_from}
-use Rattle.mk_laws.proofs.ProtocolFrames.{other_seat}
-
--- the calls of one caller among these
-abbrev pub calls_by : ℕ → List Decided → List Decided
-calls_by k xs = filter (λ (x : Decided). x.caller == k) xs
-
-by_append : (k : ℕ) (xs ys : List Decided) → calls_by k (xs ++ ys) ≡ calls_by k xs ++ calls_by k ys
-by_append k xs ys = filter-append (λ (x : Decided). x.caller == k) xs ys
-
-own_entry : (k : ℕ) (o : Op) (a : Option Answer) → calls_by k (entry_of k o a) ≡ entry_of k o a
-own_entry k o None = refl
-own_entry k o (Some a) = ap (λ (b : Bool). cond b (entry_of k o (Some a)) []) (eq-eqb k k refl)
-
-other_entry : (j k : ℕ) (o : Op) (a : Option Answer) → j ≢ k → calls_by k (entry_of j o a) ≡ []
-other_entry j k o None ne = refl
-other_entry j k o (Some a) ne = ap (λ (b : Bool). cond b (entry_of j o (Some a)) []) (ne_eqb j k ne)
-
-other_decided : (c : Config) (w : World) (seat : Seat) (x : Step) (k : ℕ) → seat ≢ Caller k
-    → calls_by k (call_decided c w.now (record { seat = seat; step = x })) ≡ []
-other_decided c w (Caller j) x k ne =
-    other_entry j k (flight_of w.now (Caller j)).op (answer_decided c w.now (record { seat = Caller j; step = x }))
-    (λ e. ne (ap (λ i. Caller i) e))
-other_decided c w (Marker j) x k ne = refl
-other_decided c w Host x k ne = refl
-
-calls_of_others : (c : Config) (k : ℕ) (w : World) (es : List Event) → AreOfOthers (Caller k ∷ []) es
-    → calls_by k (calls_from c w es) ≡ []
-unfolding calls_from AreOfOthers
-calls_of_others c k w [] others = refl
-calls_of_others c k w (e ∷ es) others =
-    by_append k (call_decided c w.now e) (calls_from c (world_behind c w e) es)
-    ∙ ap (λ (l : List Decided). l ++ calls_by k (calls_from c (world_behind c w e) es))
-    (other_decided c w e.seat e.step k (other_seat (Caller k) e.seat others.0))
-    ∙ calls_of_others c k (world_behind c w e) es others.1
-
-others_add_none : (c : Config) (k : ℕ) (es others : List Event) → AreOfOthers (Caller k ∷ []) others
-    → calls_by k (calls c (es ++ others)) ≡ calls_by k (calls c es)
-others_add_none c k es others of_others =
-    ap (λ (l : List Decided). calls_by k l) (calls_in_parts c es others)
-    ∙ by_append k (calls c es) (calls_from c (left c es) others)
-    ∙ ap (λ (l : List Decided). calls_by k (calls c es) ++ l) (calls_of_others c k (left c es) others of_others)
-    ∙ append-nil (calls_by k (calls c es))
-
 -- A caller's step after events of others adds the entry that it decides, if it decides one.
-pub own_step_adds : (c : Config) (k : ℕ) (es others : List Event) (x : Step) (o : Op) (a : Option Answer)
-    → AreOfOthers (Caller k ∷ []) others
-    → (flight_of (left c (es ++ others)).now (Caller k)).op ≡ o
+use Rattle.mk_laws.proofs.Vocabulary.{Answer, AreOfOthers, Caller, Config, Decided, Event, List, Op, Option, Step, ℕ}
+use Rattle.mk_laws.proofs.Vocabulary.{answer_decided, ap, call_decided, calls, entry_of, first_world, flight_of, left}
+use Rattle.mk_laws.proofs.Vocabulary.{[], ◌++◌, ◌∙◌, ◌∷◌, ◌≡◌}
+use Rattle.mk_objects.proofs.Vocabulary.{calls_more}
+use Rattle.mk_laws.proofs.CallsBy.{by_append, calls_by, others_add_none, own_entry}
+
+pub own_step_adds : (c : Config) (k : ℕ) (es others : List Event) (x : Step) {o : Op} {a : Option Answer}
+    → AreOfOthers (Caller k ∷ []) others → (flight_of (left c (es ++ others)).now (Caller k)).op ≡ o
     → answer_decided c (left c (es ++ others)).now (record { seat = Caller k; step = x }) ≡ a
     → calls_by k (calls c (es ++ others ++ record { seat = Caller k; step = x } ∷ []))
     ≡ calls_by k (calls c es) ++ entry_of k o a
-own_step_adds c k es others x o a of_others same decides =
+own_step_adds c k es others x {o} {a} of_others same decides =
     ap (λ (l : List Decided). calls_by k l) (calls_more c (first_world c) (es ++ others) e)
     ∙ by_append k (calls c (es ++ others)) (call_decided c (left c (es ++ others)).now e)
     ∙ ap (λ (l : List Decided). l ++ calls_by k (call_decided c (left c (es ++ others)).now e))
-    (others_add_none c k es others of_others)
-    ∙ ap (λ (y : Op). calls_by k (calls c es)
-    ++ calls_by k (entry_of k y (answer_decided c (left c (es ++ others)).now e))) same
+    (others_add_none c k es others of_others) ∙ ap (λ (y : Op). calls_by k (calls c es) ++ calls_by k
+    (entry_of k y (answer_decided c (left c (es ++ others)).now e))) same
     ∙ ap (λ (y : Option Answer). calls_by k (calls c es) ++ calls_by k (entry_of k o y)) decides
     ∙ ap (λ (l : List Decided). calls_by k (calls c es) ++ l) (own_entry k o a)
   where

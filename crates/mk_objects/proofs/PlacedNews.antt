@@ -1,8 +1,7 @@
 -- What is asked of a New, and where it goes, by what its turn says.
-use Rattle.mk_laws.proofs.Vocabulary.{Caller, Config, Host, IsHistory, List, Marker, Object, Op, Option, Page, Place}
-use Rattle.mk_laws.proofs.Vocabulary.{Seat, Some, ℕ, and_parts, ap, arith, d_of, flight_of, g_of, has_operands}
-use Rattle.mk_laws.proofs.Vocabulary.{is_undecided_new, length, nat_lt, object_made, p_of, place_on_pages, q_of, r_of}
-use Rattle.mk_laws.proofs.Vocabulary.{refl, sym, true, uses_of_pages, ◌&&◌, ◌<◌, ◌∙◌, ◌≡◌}
+use Rattle.mk_laws.proofs.Vocabulary.{Config, IsHistory, List, Op, Option, Page, Place, Some, ℕ, and_parts, arith}
+use Rattle.mk_laws.proofs.Vocabulary.{has_operands, is_undecided_new, length, object_made, place_on_pages, sym, true}
+use Rattle.mk_laws.proofs.Vocabulary.{uses_of_pages, ◌<◌, ◌∙◌, ◌≡◌}
 use Rattle.mk_objects.proofs.Vocabulary.{GoesTo, IsTurn, IsUnplaced, OnlyLooks, PassState, WordsState, call_of}
 use Rattle.mk_objects.proofs.Vocabulary.{known_left, now_of, object_for}
 use Rattle.mk_geom.specs.PageUses.{place_on_uses}
@@ -12,81 +11,55 @@ use Rattle.mk_objects.proofs.JoinedLooks.{goes_to, looks_object, looks_pages, lo
 use Rattle.mk_objects.proofs.Looks.{acting_caller, acting_now}
 use Rattle.mk_objects.proofs.{MayAct.new_is_acting, Serves.knows_place, Takes.unplaced_settled}
 use Rattle.mk_objects.specs.{Placing.place_now_for, Shapes.object_shaped, declared.objects.Shape.Shape}
-use Rattle.mk_words.specs.TurnSteps.{op_for}
 
 -- the operation of a turn that is for an undecided New
-pub op_is : (p : PassState) (x : Option Op) → IsTurn p x → is_undecided_new (call_of p) ≡ true → x ≡ Some (call_of p).op
-op_is p x turn new = turn.op ∙ by p.seat new
-  where
-    by : (s : Seat) → is_undecided_new (flight_of (now_of p) s) ≡ true
-        → op_for s (flight_of (now_of p) s) ≡ Some (flight_of (now_of p) s).op
-    by (Caller k) h = refl
-    by (Marker k) h = cc
-    by Host h = cc
+pub op_is : {p : PassState} {x : Option Op} → IsTurn p x → is_undecided_new (call_of p) ≡ true → x ≡ Some (call_of p).op
+op_is turn new = grind arith
 
 type_of : (c : Config) (o : Op) → has_operands c o ≡ true → has_type c o ≡ true
-type_of c o h = (and_parts
-    (nat_lt (q_of o) 8 && nat_lt (p_of o) 8 && nat_lt (r_of o) 8 && nat_lt (d_of o) 8 && nat_lt (g_of o) 64)
-    (has_type c o) h).1
+type_of c o h = grind (arith, and_parts)
 
 -- It is known where it is looked at.
-pub op_known : (p : PassState) (x y : Option Op) (o : Op) → IsTurn p x → is_undecided_new (call_of p) ≡ true → y ≡ x
+pub op_known : {p : PassState} {x y : Option Op} (o : Op) → IsTurn p x → is_undecided_new (call_of p) ≡ true → y ≡ x
     → y ≡ Some o → (call_of p).op ≡ o
-op_known p x y o turn new same is =
-    let e : Some (call_of p).op ≡ Some o = sym (op_is p x turn new) ∙ sym same ∙ is in cc e
+op_known o turn new same is = grind (arith, op_is)
 
 -- Its type exists,
-pub type_asked : (p : PassState) (w : WordsState) (o : Op) → p.table ≡ w → IsHistory p.table.config p.seen
+pub type_asked : (p : PassState) {w : WordsState} {o : Op} → p.table ≡ w → IsHistory p.table.config p.seen
     → (call_of p).op ≡ o → has_type w.config o ≡ true
-type_asked p w o table h is =
-    ap (λ (v : Op). has_type w.config v) (sym is)
-    ∙ ap (λ (t : WordsState). has_type t.config (call_of p).op) (sym table)
-    ∙ type_of p.table.config (call_of p).op (seat_operands p.table.config (now_of p) p.seat
-    (known_left p.table.config p.seen h.within_limits h.enabled))
+type_asked p table h is = grind (arith, type_of, seat_operands, known_left)
 
 -- and its shape is that of the object.
-pub shape_asked : (p : PassState) (w : WordsState) (o : Op) (shape : Shape) → p.table ≡ w → (call_of p).op ≡ o
+pub shape_asked : (p : PassState) {w : WordsState} {o : Op} (shape : Shape) → p.table ≡ w → (call_of p).op ≡ o
     → object_shaped shape ≡ object_made w.config o → object_shaped shape ≡ object_for p
-shape_asked p w o shape table is made =
-    made ∙ ap (λ (v : Op). object_made w.config v) (sym is)
-    ∙ ap (λ (t : WordsState). object_made t.config (call_of p).op) (sym table)
+shape_asked p shape table is made = grind arith
 
 -- The first fit on pages that are filled is that on the words.
-pub fit_found : (p : PassState) (w : WordsState) (pages : List Page) (resident : ℕ) (shape : Shape) (x : Option Place)
-    → p.table ≡ w
-    → resident ≡ w.config.resident → pages ≡ (now_of p).words.pages → object_shaped shape ≡ object_for p
+pub fit_found : (p : PassState) {w : WordsState} {pages : List Page} {resident : ℕ} (shape : Shape) {x : Option Place}
+    → p.table ≡ w → resident ≡ w.config.resident → pages ≡ (now_of p).words.pages → object_shaped shape ≡ object_for p
     → x ≡ place_on_uses resident shape.words shape.leaf (uses_of_pages pages)
     → place_on_pages p.table.config.resident (now_of p).words.pages (object_for p) ≡ x
-fit_found p w pages resident shape x table limit filled is found =
-    ap (λ n. place_on_pages n (now_of p).words.pages (object_for p)) (ap (λ (t : WordsState). t.config.resident) table
-    ∙ sym limit)
-    ∙ ap (λ (ps : List Page). place_on_pages resident ps (object_for p)) (sym filled)
-    ∙ ap (λ (o : Object). place_on_pages resident pages o) (sym is) ∙ sym found
+fit_found p shape table limit filled is found = grind arith
 
 -- It is where the New goes, after looks too,
-pub goes_behind : (p q : PassState) (place : Place) → OnlyLooks p q → IsUnplaced p
+pub goes_behind : {p q : PassState} (place : Place) → OnlyLooks p q → IsUnplaced p
     → place_on_pages p.table.config.resident (now_of p).words.pages (object_for p) ≡ Some place → GoesTo q place
-goes_behind p q place a u fit =
-    goes_to q place (looks_unplaced p q a u)
-    (ap (λ (t : WordsState). place_on_pages t.config.resident (now_of q).words.pages (object_for q)) (looks_table p q a)
-    ∙ ap (λ (ps : List Page). place_on_pages p.table.config.resident ps (object_for q)) (looks_pages p q a)
-    ∙ ap (λ (o : Object). place_on_pages p.table.config.resident (now_of p).words.pages o) (looks_object p q a) ∙ fit)
+goes_behind place a u fit = grind (arith, goes_to, looks_unplaced, looks_table, looks_pages, looks_object)
 
 -- and the place among the allocations.
-pub place_found : (p : PassState) (x : Option Op) (found : Option Place) → IsTurn p x → IsHistory p.table.config p.seen
+pub place_found : {p : PassState} {x : Option Op} {found : Option Place} → IsTurn p x → IsHistory p.table.config p.seen
     → IsUnplaced p
     → place_on_pages p.table.config.resident (now_of p).words.pages (object_for p) ≡ found → place_now_for p ≡ found
-place_found p x found turn h u fit =
+place_found {p} {x} turn h u fit =
     let acts = new_is_acting (call_of p) u.new in
     sym (first_fit_finds_the_place p.table.config p.seen h (object_for p)
     (unplaced_settled p (acting_now p x turn acts) (acting_caller p acts) u h)) ∙ fit
 
-pub fit_within : (p : PassState) (x : Option Op) (place : Place) → IsTurn p x → IsHistory p.table.config p.seen
-    → IsUnplaced p
-    → place_on_pages p.table.config.resident (now_of p).words.pages (object_for p) ≡ Some place
+pub fit_within : {p : PassState} {x : Option Op} (place : Place) → IsTurn p x → IsHistory p.table.config p.seen
+    → IsUnplaced p → place_on_pages p.table.config.resident (now_of p).words.pages (object_for p) ≡ Some place
     → place.page < length (now_of p).words.pages
-fit_within p x place turn h u fit =
-    let k = knows_place p x place turn h (goes_to p place u fit) in
+fit_within place turn h u fit =
+    let k = knows_place turn h (goes_to place u fit) in
     let within = k.within in
     let lengths = k.serving.pages in
     omega arith

@@ -1,14 +1,14 @@
 -- What comes before a Free's `quar` leaves its turn as it was, but for gates: what is asked stays so, and what is freed
 -- after it is freed.
-use Rattle.mk_laws.proofs.Vocabulary.{Answer, Bool, Cell, Holds, IsHistory, List, Page, PlacedAllocation, Some, Steady}
-use Rattle.mk_laws.proofs.Vocabulary.{Step, ℕ, all_below-at, ap, false, freed_where_it_stands, is_held, map, not, subst}
+use Rattle.mk_laws.proofs.Vocabulary.{Bool, Cell, Holds, IsHistory, List, Page, PlacedAllocation, Some, Steady, Step, ℕ}
+use Rattle.mk_laws.proofs.Vocabulary.{all_below-at, ap, false, freed_where_it_stands, is_held, map, not, refl, subst}
 use Rattle.mk_laws.proofs.Vocabulary.{sym, true, [], ◌<◌, ◌↔◌, ◌∙◌, ◌≡◌}
-use Rattle.mk_objects.proofs.Vocabulary.{ComesTo, FreesCell, HasGates, IsAsLeft, IsOverQuarter, IsTrue, OnlyLooks}
-use Rattle.mk_objects.proofs.Vocabulary.{PassState, SetsGates, StaysSo, WordsState, all_below_from, call_of, is_freeing}
-use Rattle.mk_objects.proofs.Vocabulary.{is_look, none_is_held, now_of, steady_of, world_of}
-use Rattle.mk_objects.{proofs.DecidedFrees.Stays, proofs.DecidedFrees.decides_behind, proofs.FreedOnce.FreesNot}
-use Rattle.mk_objects.{proofs.FreedOnce.once_behind, proofs.ReachedParts.AreAmong, proofs.ReachedParts.reached_world}
-use Rattle.mk_objects.{proofs.ReachedParts.reaches_so, specs.FreeParts.IsButGates}
+use Rattle.mk_objects.proofs.Vocabulary.{ComesTo, FreesCell, IsOverQuarter, IsTrue, OnlyLooks, PassState, SetsGates}
+use Rattle.mk_objects.proofs.Vocabulary.{WordsState, all_below_from, is_freeing, is_look, none_is_held, now_of}
+use Rattle.mk_objects.proofs.Vocabulary.{world_of}
+use Rattle.mk_objects.{proofs.DecidedFrees.Stays, proofs.DecidedFrees.decides_behind, proofs.DecidedFrees.stays_by}
+use Rattle.mk_objects.{proofs.FreedOnce.FreesNot, proofs.FreedOnce.once_behind, proofs.ReachedParts.AreAmong}
+use Rattle.mk_objects.{proofs.ReachedParts.reached_world, proofs.ReachedParts.reaches_so, specs.FreeParts.IsButGates}
 
 abbrev pub IsExactly : WordsState → Bool → List PlacedAllocation → Type 0
 IsExactly t due xs = IsTrue due ↔ IsOverQuarter t.config xs
@@ -16,56 +16,34 @@ IsExactly t due xs = IsTrue due ↔ IsOverQuarter t.config xs
 abbrev pub Prepares : (Step → Bool) → PassState → PassState → Type 0
 Prepares kinds p q = ComesTo kinds p (IsButGates p.seat (world_of p)) [] q
 
-pub gates_prepare : (kinds : Step → Bool) (p q : PassState) (gates : ℕ → Bool) → SetsGates kinds p gates q
+pub gates_prepare : {kinds : Step → Bool} {p q : PassState} {gates : ℕ → Bool} → SetsGates kinds p gates q
     → Prepares kinds p q
-gates_prepare kinds p q gates a =
-    reaches_so kinds p q (HasGates p.seat p.table.config.callers gates (world_of p)) (IsButGates p.seat (world_of p))
-    [] a (λ at. at.but_gates)
+gates_prepare a = reaches_so a (λ at. at.but_gates)
 
-pub looks_prepare : (p q : PassState) → OnlyLooks p q → Prepares is_look p q
-looks_prepare p q a =
-    reaches_so is_look p q (IsAsLeft p.seat (world_of p)) (IsButGates p.seat (world_of p)) [] a
-    (λ at. record { call = at.call; holding = at.holding; steady = at.steady })
+pub looks_prepare : {p q : PassState} → OnlyLooks p q → Prepares is_look p q
+looks_prepare a = reaches_so a (λ at. record { call = at.call; holding = at.holding; steady = at.steady })
 
-module _ (kinds : Step → Bool) (p q : PassState) (a : Prepares kinds p q) where
+module _ {kinds : Step → Bool} {p q : PassState} (a : Prepares kinds p q) where
   now : IsButGates p.seat (world_of p) (world_of q)
-  now = reached_world kinds p q (IsButGates p.seat (world_of p)) [] a
+  now = reached_world a
 
   pub prepared_table : p.table ≡ q.table
   prepared_table = sym (ap (λ (x : PassState). x.table) a.same)
 
-  pub prepared_call : call_of q ≡ call_of p
-  prepared_call = ap (λ (x : PassState). call_of x) a.same ∙ a.world.call
-
-  pub prepared_steady : steady_of (world_of q) ≡ steady_of (world_of p)
-  prepared_steady = now.steady
-
   so : Stays kinds p q
-  so = reaches_so kinds p q (IsButGates p.seat (world_of p)) (StaysSo p.seat (world_of p)) [] a
-      (λ at. record {
-        call = at.call;
-        holding = at.holding;
-        phase = ap (λ (x : Steady). x.phase) at.steady;
-        cycles = ap (λ (x : Steady). x.cycles) at.steady;
-        released = ap (λ (x : Steady). x.released) at.steady;
-        full = ap (λ (x : Steady). x.full) at.steady;
-        fresh_words = ap (λ (x : Steady). x.fresh_words) at.steady;
-        allocations = ap (λ (x : Steady). x.allocations) at.steady;
-      })
+  so = reaches_so a (λ at. stays_by _ _ _ (λ x. x) at.call at.holding at.steady refl refl refl)
 
-  pub frees_behind : (r : PassState) (cell : Cell) (due : Bool) → AreAmong kinds is_freeing → FreesNot kinds
+  pub frees_behind : {r : PassState} {cell : Cell} {due : Bool} → AreAmong kinds is_freeing → FreesNot kinds
       → IsHistory q.table.config q.seen
       → Holds p.table.config (now_of p) p.seat → FreesCell q cell due r → FreesCell p cell due r
-  frees_behind r cell due among not h holds f =
+  frees_behind {r} {cell} {due} among not h holds f =
       record {
-        reaches = decides_behind kinds among p q r Answer.Done so f.reaches;
-        allocations = f.allocations
-            ∙ ap (λ (ps : List Page). map (freed_where_it_stands (record (now_of q).words { pages = ps }) (Some cell))
-            (world_of q).allocations)
-            (ap (λ (x : Steady). x.pages) now.steady)
-            ∙ ap (λ (xs : List PlacedAllocation). map (freed_where_it_stands (now_of p).words (Some cell)) xs)
-            (ap (λ (x : Steady). x.allocations) now.steady);
-        once = once_behind kinds p q r not a.does h holds f.once;
+        reaches = decides_behind among so f.reaches;
+        allocations = f.allocations ∙ ap (λ (ps : List Page). map (freed_where_it_stands
+            (record (now_of q).words { pages = ps }) (Some cell)) (world_of q).allocations)
+            (ap (λ (x : Steady). x.pages) now.steady) ∙ ap (λ (xs : List PlacedAllocation). map
+            (freed_where_it_stands (now_of p).words (Some cell)) xs) (ap (λ (x : Steady). x.allocations) now.steady);
+        once = once_behind not a.does h holds f.once;
         gone = f.gone;
         gates = subst (λ (t : WordsState). (j : ℕ) → j < t.config.callers → is_held (now_of r).words j ≡ false)
             (sym prepared_table) f.gates;

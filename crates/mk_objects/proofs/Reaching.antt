@@ -15,8 +15,8 @@ use Rattle.mk_words.{proofs.Made.made, specs.Steps.may_decide, specs.TurnSteps.w
 abbrev pub seeing : PassState → List Event → PassState
 seeing p es = record p { seen = es }
 
-held_so : (a b : ℕ) → (a ≡ 2 → b ≡ 2) → (a ≢ 2 → b ≢ 2) → (b == 2) ≡ (a == 2)
-held_so a b held free = elim (cases_eq a 2) [
+held_so : {a : ℕ} (b : ℕ) → (a ≡ 2 → b ≡ 2) → (a ≢ 2 → b ≢ 2) → (b == 2) ≡ (a == 2)
+held_so {a} b held free = elim (cases_eq a 2) [
   | inl e ↦ eq-eqb b 2 (held e) ∙ sym (eq-eqb a 2 e)
   | inr ne ↦ ne_eqb b 2 (free ne) ∙ sym (ne_eqb a 2 ne)
 ]
@@ -35,26 +35,25 @@ pub record MadeIn (p : PassState) (es : List Event) (s : Step) (r : PassState) :
   pub does : (kinds : Step → Bool) → kinds s ≡ true → Does kinds (seeing p es) r
 
 -- what others had left it where it made its step
-pub kept_by : (p q : PassState) (s : Step) (a : Acts p s q) → IsAsLeft p.seat (world_of p) (world_at a.makes)
-kept_by p q s a =
+pub kept_by : {p q : PassState} {s : Step} (a : Acts p s q) → IsAsLeft p.seat (world_of p) (world_at a.makes)
+kept_by a =
     record {
       call = a.own.flight;
       holding = a.holding;
       steady = a.turn.steady;
       marks = a.turn.marks_grow;
       registers = a.own.registers;
-      gates = λ j. held_so _ _ (a.turn.held_gates j) (a.turn.other_gates j);
+      gates = λ j. held_so _ (a.turn.held_gates j) (a.turn.other_gates j);
     }
 
-pub made_in : (p : PassState) (es : List Event) (s : Step) (r : PassState) → Acts (seeing p es) s r
-    → MadeIn p es s r
-made_in p es s r a =
+pub made_in : (p : PassState) (es : List Event) {s : Step} {r : PassState} → Acts (seeing p es) s r → MadeIn p es s r
+made_in p es {s} {r} a =
     let d = made (seeing p es) s r a.makes in
     record {
       others = a.makes.others;
       of_others = d.others;
       same = a.makes.is;
-      kept = kept_by (seeing p es) r s a;
+      kept = kept_by a;
       stop = a.stop;
       counts = a.counts;
       behind = a.world;
@@ -85,24 +84,18 @@ pub record IsCallers (p : PassState) : Type 0 where
   pub number : ℕ
   pub is : p.seat ≡ Caller number
 
-own_adds : (p : PassState) (k : ℕ) → p.seat ≡ Caller k → (seen others : List Event) (s : Step) (es : List Decided)
+own_adds : (p : PassState) (k : ℕ) → p.seat ≡ Caller k → (seen others : List Event) (s : Step) {es : List Decided}
     → AreOfOthers (p.seat ∷ []) others
-    → (a : Option Answer) → answer_decided p.table.config (left p.table.config (seen ++ others)).now (event_of p s) ≡ a
+    → {a : Option Answer} → answer_decided p.table.config (left p.table.config (seen ++ others)).now (event_of p s) ≡ a
     → entry_of k (flight_of (left p.table.config (seen ++ others)).now p.seat).op a ≡ es
     → own_calls p (seen ++ others ++ event_of p s ∷ []) ≡ own_calls p seen ++ es
-own_adds p k is seen others s es of_others a answer entry =
-    subst
-    (λ (x : Seat). AreOfOthers (x ∷ []) others
-    → answer_decided p.table.config (left p.table.config (seen ++ others)).now (record { seat = x; step = s }) ≡ a
+own_adds p k is seen others s {es} of_others {a} answer entry =
+    subst (λ (x : Seat). AreOfOthers (x ∷ []) others → answer_decided p.table.config
+    (left p.table.config (seen ++ others)).now (record { seat = x; step = s }) ≡ a
     → entry_of k (flight_of (left p.table.config (seen ++ others)).now x).op a ≡ es
-    → own_calls (record p { seat = x }) (seen ++ others ++ record { seat = x; step = s } ∷ []) ≡ own_calls
-    (record p { seat = x }) seen ++ es)
-    (sym is)
-    (λ o d e.
-    own_step_adds p.table.config k seen others s (flight_of (left p.table.config (seen ++ others)).now (Caller k)).op a
-    o refl d
-    ∙ ap (λ (l : List Decided). own_calls (record p { seat = Caller k }) seen ++ l) e)
-    of_others answer entry
+    → own_calls (record p { seat = x }) (seen ++ others ++ record { seat = x; step = s } ∷ [])
+    ≡ own_calls (record p { seat = x }) seen ++ es) (sym is) (λ o d e. own_step_adds p.table.config k seen others s o
+    refl d ∙ ap (λ (l : List Decided). own_calls (record p { seat = Caller k }) seen ++ l) e) of_others answer entry
 
 -- what is known of the world in which the holder makes a step, where it had come to such a one
 abbrev pub GoesOn : (p : PassState) (A : World → Type 0) (C : World → Type 0) → Type 0
@@ -117,16 +110,12 @@ GoesOnInStop p A C =
     → Known p.table.config v.now → AreOfPages p.table.config.pages v.now.words → C v
 
 -- One step further.
-pub reaches_in_stop : (kinds : Step → Bool) (p q r : PassState) (A B : World → Type 0) (ds es : List Decided) (s : Step)
-    → ComesTo kinds p A ds q
-    → Acts q s r → kinds s ≡ true → is_end s ≡ false
-    → IsCallers p
-    → GoesOnInStop p A (StepsTo p s B es)
-    → ComesTo kinds p B (ds ++ es) r
-reaches_in_stop kinds p q r A B ds es s reached acts allowed no_end caller next =
+pub reaches_in_stop : {kinds : Step → Bool} {p q r : PassState} (A B : World → Type 0) {ds es : List Decided} {s : Step}
+    → ComesTo kinds p A ds q → Acts q s r → kinds s ≡ true → is_end s ≡ false → IsCallers p
+    → GoesOnInStop p A (StepsTo p s B es) → ComesTo kinds p B (ds ++ es) r
+reaches_in_stop {kinds} {p} {q} {r} A B {ds} {es} {s} reached acts allowed no_end caller next =
     let c : Config = p.table.config in
-    let m : MadeIn p q.seen s r =
-    made_in p q.seen s r (subst (λ (x : PassState). Acts x s r) reached.same acts) in
+    let m : MadeIn p q.seen s r = made_in p q.seen (subst (λ (x : PassState). Acts x s r) reached.same acts) in
     let v : World = left c (q.seen ++ m.others) in
     let on : StepsTo p s B es v =
     next (left c q.seen) v reached.world m.kept m.stop m.known (histories_keep_lengths c (q.seen ++ m.others)) in
@@ -136,26 +125,20 @@ reaches_in_stop kinds p q r A B ds es s reached acts allowed no_end caller next 
       same = m.same ∙ ap (λ (l : List Event). seeing p l) (sym seen);
       does = does_then kinds p q r reached.does
           (subst (λ (x : PassState). Does kinds x r) (sym reached.same) (m.does kinds allowed));
-      calls = ap (λ (l : List Event). own_calls p l) seen
-          ∙ own_adds p caller.number caller.is q.seen m.others s es m.of_others on.answer on.decides
-          (on.entry caller.number caller.is)
-          ∙ ap (λ (l : List Decided). l ++ es) reached.calls ∙ append_assoc (own_calls p p.seen) ds es;
+      calls = ap (λ (l : List Event). own_calls p l) seen ∙ own_adds p caller.number caller.is q.seen m.others s
+          m.of_others on.decides (on.entry caller.number caller.is) ∙ ap (λ (l : List Decided). l ++ es) reached.calls
+          ∙ append_assoc (own_calls p p.seen) ds es;
       world = subst B (sym m.behind ∙ ap (λ (x : PassState). world_of x) m.same
           ∙ ap (λ (l : List Event). left c l) (sym seen)) on.world;
       counts = subst (λ (l : List Event). CountsAreLeft c p.seen l) (sym seen)
-          (counts_then c p.seen (q.seen ++ m.others) (q.seen ++ m.others ++ event_of p s ∷ [])
-          (counts_then c p.seen q.seen (q.seen ++ m.others) reached.counts m.counts) one);
+          (counts_then (counts_then reached.counts m.counts) one);
     }
 
-pub reaches_on : (kinds : Step → Bool) (p q r : PassState) (A B : World → Type 0) (ds es : List Decided) (s : Step)
-    → ComesTo kinds p A ds q
-    → Acts q s r → kinds s ≡ true → is_end s ≡ false
-    → IsCallers p
-    → GoesOn p A (StepsTo p s B es)
-    → ComesTo kinds p B (ds ++ es) r
-reaches_on kinds p q r A B ds es s reached acts allowed no_end caller next =
-    reaches_in_stop kinds p q r A B ds es s reached acts allowed no_end caller
-    (λ w v a kept stop known pages. next w v a kept known pages)
+pub reaches_on : {kinds : Step → Bool} {p q r : PassState} (A B : World → Type 0) {ds es : List Decided} {s : Step}
+    → ComesTo kinds p A ds q → Acts q s r → kinds s ≡ true → is_end s ≡ false → IsCallers p
+    → GoesOn p A (StepsTo p s B es) → ComesTo kinds p B (ds ++ es) r
+reaches_on A B reached acts allowed no_end caller next =
+    reaches_in_stop A B reached acts allowed no_end caller (λ w v a kept stop known pages. next w v a kept known pages)
 
 -- a step that decides nothing
 
@@ -170,24 +153,29 @@ idle_steps p s B v idle there =
       entry = λ k is. refl;
     }
 
-pub reaches_still_in_stop : (kinds : Step → Bool) (p q r : PassState) (A B : World
-    → Type 0) (ds : List Decided) (s : Step)
-    → ComesTo kinds p A ds q
-    → Acts q s r → kinds s ≡ true → is_end s ≡ false
-    → IsCallers p
-    → may_decide s ≡ false
-    → GoesOnInStop p A (λ v. B (world_behind p.table.config v (event_of p s))) → ComesTo kinds p B ds r
-reaches_still_in_stop kinds p q r A B ds s reached acts allowed no_end caller idle next =
+pub reaches_still_in_stop : {kinds : Step → Bool} {p q r : PassState}
+    (A B : World → Type 0) {ds : List Decided} {s : Step} → ComesTo kinds p A ds q → Acts q s r → kinds s ≡ true
+    → is_end s ≡ false → IsCallers p → may_decide s ≡ false → GoesOnInStop p A
+    (λ v. B (world_behind p.table.config v (event_of p s))) → ComesTo kinds p B ds r
+reaches_still_in_stop {kinds} {p} {r} A B {ds} {s} reached acts allowed no_end caller idle next =
     subst (λ (l : List Decided). ComesTo kinds p B l r) (append-nil ds)
-    (reaches_in_stop kinds p q r A B ds [] s reached acts allowed no_end caller
+    (reaches_in_stop A B reached acts allowed no_end caller
     (λ w v a kept stop known pages. idle_steps p s B v idle (next w v a kept stop known pages)))
 
-pub reaches_still : (kinds : Step → Bool) (p q r : PassState) (A B : World → Type 0) (ds : List Decided) (s : Step)
-    → ComesTo kinds p A ds q
-    → Acts q s r → kinds s ≡ true → is_end s ≡ false
-    → IsCallers p
-    → may_decide s ≡ false
+pub reaches_still : {kinds : Step → Bool} {p q r : PassState} (A B : World → Type 0) {ds : List Decided} {s : Step}
+    → ComesTo kinds p A ds q → Acts q s r → kinds s ≡ true → is_end s ≡ false → IsCallers p → may_decide s ≡ false
     → GoesOn p A (λ v. B (world_behind p.table.config v (event_of p s))) → ComesTo kinds p B ds r
-reaches_still kinds p q r A B ds s reached acts allowed no_end caller idle next =
-    reaches_still_in_stop kinds p q r A B ds s reached acts allowed no_end caller idle
+reaches_still A B reached acts allowed no_end caller idle next =
+    reaches_still_in_stop A B reached acts allowed no_end caller idle
     (λ w v a kept stop known pages. next w v a kept known pages)
+
+-- the first step of a part
+pub reaches_first : {kinds : Step → Bool} {p r : PassState} (B : World → Type 0) {s : Step} → Acts p s r
+    → kinds s ≡ true → is_end s ≡ false → IsCallers p → may_decide s ≡ false
+    → ((v : World) → IsAsLeft p.seat (world_of p) v → Known p.table.config v.now
+    → AreOfPages p.table.config.pages v.now.words → B (world_behind p.table.config v (event_of p s)))
+    → ComesTo kinds p B [] r
+reaches_first {kinds} {p} B acts allowed no_end caller idle next =
+    reaches_still (λ w. w ≡ world_of p) B (reaches_nothing kinds p (λ w. w ≡ world_of p) refl) acts
+    allowed no_end caller idle
+    (λ w v first kept known pages. next v (subst (λ (x : World). IsAsLeft p.seat x v) first kept) known pages)

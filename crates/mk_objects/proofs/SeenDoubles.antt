@@ -8,7 +8,7 @@ use Rattle.mk_objects.proofs.Vocabulary.{Acts, CallIsAt, IsAsLeft, IsTurn, Known
 use Rattle.mk_objects.proofs.Vocabulary.{is_loading, now_of, value_of, world_of}
 use Rattle.mk_objects.proofs.Reaching.{reaches_nothing, reaches_on}
 use Rattle.mk_objects.proofs.{LoadedFrees.value_kept, Looks.acting_caller, MayAct.free_is_acting, Unchanged.call_behind}
-use Rattle.mk_objects.specs.Retiring.{HasSeen, answer_seen, entry_seen, seen_free}
+use Rattle.mk_objects.specs.Retiring.{HasSeen, answer_seen, seen_free}
 
 pub target_same : (pages : ℕ) (w v : Words) (f : Flight) → v.pages ≡ w.pages → target pages v f ≡ target pages w f
 target_same pages w v f same = ap (λ (ps : List Page). if is_undecided_free f then pointed_cell pages ps f.p
@@ -21,15 +21,14 @@ pub freed_same : (w v : Words) (cell : Cell) → v.freed ≡ w.freed → is_free
 freed_same w v cell same = ap (λ (xs : List ℕ). has_bit (slice_index xs cell.page) cell.index) same
 
 -- what is seen of the target in a world that is as it was left
-seen_now : (c : Config) (k : ℕ) (cell : Cell) (w v : World) → IsAsLeft (Caller k) w v
+seen_now : (c : Config) {k : ℕ} (cell : Cell) {w v : World} → IsAsLeft (Caller k) w v
     → target c.pages w.now.words (flight_of w.now (Caller k)) ≡ Some cell
     → sees_double v.now.words (target c.pages v.now.words (flight_of v.now (Caller k))) (Word.Quar cell.page)
     ≡ is_freed w.now.words cell
-seen_now c k cell w v kept at =
+seen_now c {k} cell {w} {v} kept at =
     let there : target c.pages v.now.words (flight_of v.now (Caller k)) ≡ Some cell =
-    ap (λ (f : Flight). target c.pages v.now.words f) kept.call
-    ∙ target_same c.pages w.now.words v.now.words (flight_of w.now (Caller k))
-    (ap (λ (x : Steady). x.pages) kept.steady) ∙ at in
+    ap (λ (f : Flight). target c.pages v.now.words f) kept.call ∙ target_same c.pages w.now.words v.now.words
+    (flight_of w.now (Caller k)) (ap (λ (x : Steady). x.pages) kept.steady) ∙ at in
     ap (λ (x : Option Cell). sees_double v.now.words x (Word.Quar cell.page)) there ∙ seen_at v.now.words cell
     ∙ freed_same w.now.words v.now.words cell (ap (λ (x : Steady). x.freed) kept.steady)
 
@@ -51,11 +50,11 @@ pub record SeesBy (c : Config) (k : ℕ) (cell : Cell) (w v : World) : Type 0 wh
   pub answer : answer_decided c v.now (record { seat = Caller k; step = Step.Look (Word.Quar cell.page) })
       ≡ answer_seen (is_freed w.now.words cell)
 
-pub sees_by : (c : Config) (k : ℕ) (cell : Cell) (w v : World) → k < length v.now.seats.flights
+pub sees_by : (c : Config) {k : ℕ} (cell : Cell) {w v : World} → k < length v.now.seats.flights
     → IsAsLeft (Caller k) w v
     → target c.pages w.now.words (flight_of w.now (Caller k)) ≡ Some cell → SeesBy c k cell w v
-sees_by c k cell w v lt kept at =
-    let seen = seen_now c k cell w v kept at in
+sees_by c {k} cell {w} {v} lt kept at =
+    let seen = seen_now c cell kept at in
     record {
       at = record {
         call = call_behind c v.now k (Step.Look (Word.Quar cell.page)) lt
@@ -89,29 +88,25 @@ module _ (p : PassState) (cell : Cell) (v : World) (known : Known p.table.config
       × (answer_decided p.table.config v.now (record { seat = s; step = Step.Look (Word.Quar cell.page) })
       ≡ answer_seen (is_freed (now_of p).words cell))
 
-  sees : (s : Seat) (k : ℕ) → s ≡ Caller k → IsAsLeft s (world_of p) v → Holds p.table.config (now_of p) s
+  sees : {s : Seat} (k : ℕ) → s ≡ Caller k → IsAsLeft s (world_of p) v → Holds p.table.config (now_of p) s
       → target p.table.config.pages (now_of p).words (flight_of (now_of p) s) ≡ Some cell → Sees s
-  sees s k e kept holds at =
+  sees k e kept holds at =
       let lt : k < p.table.config.callers = (subst (λ (x : Seat). Holds p.table.config (now_of p) x) e holds).0 in
       let there : k < length v.now.seats.flights = subst (λ i. k < i) (sym known.orderly.flights) lt in
-      let by = sees_by p.table.config k cell (world_of p) v there
-      (subst (λ (x : Seat). IsAsLeft x (world_of p) v) e kept)
+      let by = sees_by p.table.config cell there (subst (λ (x : Seat). IsAsLeft x (world_of p) v) e kept)
       (ap (λ (x : Seat). target p.table.config.pages (now_of p).words (flight_of (now_of p) x)) (sym e) ∙ at) in
       subst (λ (x : Seat). Sees x) (sym e) (by.at, by.answer)
 
-pub see_reaches : (p q : PassState) (cell : Cell) (o : Option Op) → IsTurn p o → is_undecided_free (call_of p) ≡ true
+pub see_reaches : {p q : PassState} (cell : Cell) {o : Option Op} → IsTurn p o → is_undecided_free (call_of p) ≡ true
     → target p.table.config.pages (now_of p).words (call_of p) ≡ Some cell → Acts p (Step.Look (Word.Quar cell.page)) q
     → HasSeen p cell q
-see_reaches p q cell o turn free at a =
+see_reaches {p} cell turn free at a =
     let caller = acting_caller p (free_is_acting (call_of p) free) in
     let double : Bool = is_freed (now_of p).words cell in
-    reaches_on is_loading p p q (λ w. w ≡ world_of p) (CallIsAt p.seat (seen_free (call_of p) double) (world_of p)) []
-    (entry_seen p double)
-    (Step.Look (Word.Quar cell.page)) (reaches_nothing is_loading p (λ w. w ≡ world_of p) refl) a refl refl
-    caller
-    (λ w v first kept known pages.
+    reaches_on (λ w. w ≡ world_of p) (CallIsAt p.seat (seen_free (call_of p) double) (world_of p))
+    (reaches_nothing is_loading p (λ w. w ≡ world_of p) refl) a refl refl caller (λ w v first kept known pages.
     let kept : IsAsLeft p.seat (world_of p) v = subst (λ (x : World). IsAsLeft p.seat x v) first kept in
-    let to = sees p cell v known p.seat caller.number caller.is kept turn.holds at in
+    let to = sees p cell v known caller.number caller.is kept turn.holds at in
     record {
       world = to.0;
       answer = answer_seen double;
@@ -123,11 +118,10 @@ see_reaches p q cell o turn free at a =
     })
 
 -- A look that finds its target unfreed decides nothing.
-pub see_keeps : (p q : PassState) (r : ℕ) (cell : Cell) (o : Option Op) → r < 8 → IsTurn p o
-    → is_undecided_free (call_of p) ≡ true
-    → target p.table.config.pages (now_of p).words (call_of p) ≡ Some cell → is_freed (now_of p).words cell ≡ false
-    → Acts p (Step.Look (Word.Quar cell.page)) q → value_of q r ≡ value_of p r
-see_keeps p q r cell o small turn free at live a =
+pub see_keeps : {p q : PassState} (r : ℕ) (cell : Cell) {o : Option Op} → r < 8 → IsTurn p o
+    → is_undecided_free (call_of p) ≡ true → target p.table.config.pages (now_of p).words (call_of p) ≡ Some cell
+    → is_freed (now_of p).words cell ≡ false → Acts p (Step.Look (Word.Quar cell.page)) q → value_of q r ≡ value_of p r
+see_keeps {p} r cell small turn free at live a =
     let caller = acting_caller p (free_is_acting (call_of p) free) in
-    value_kept p q r (Step.Look (Word.Quar cell.page)) caller small a
-    (λ v kept known. (sees p cell v known p.seat caller.number caller.is kept turn.holds at).1 ∙ ap answer_seen live)
+    value_kept r caller small a
+    (λ v kept known. (sees p cell v known caller.number caller.is kept turn.holds at).1 ∙ ap answer_seen live)

@@ -1,23 +1,23 @@
 -- The turn's holder serves its New, step by step.
 use Rattle.mk_laws.proofs.Vocabulary.{Config, Flight, IsHistory, IsSized, List, Moment, Object, Op, Option, Page, Place}
-use Rattle.mk_laws.proofs.Vocabulary.{Placing, Seat, Some, Steady, Step, Unplaced, World, ℕ, ap, arith, cases_eq, false}
-use Rattle.mk_laws.proofs.Vocabulary.{flight_of, free_page, ground_of, has_bit, header_at, header_made}
-use Rattle.mk_laws.proofs.Vocabulary.{histories_keep_lengths, inl, inr, is_phase, is_undecided_new, is_used_once}
-use Rattle.mk_laws.proofs.Vocabulary.{layout_scene_of, left, length, made_is_mapped, made_shows, no_bit, object_made}
-use Rattle.mk_laws.proofs.Vocabulary.{object_now, pages_made, pages_some, part_not_free, phase_of, place_by_placing}
-use Rattle.mk_laws.proofs.Vocabulary.{place_now, place_on_pages, refl, slice_index_or, small_pages, subst, sym, true}
-use Rattle.mk_laws.proofs.Vocabulary.{used_at, [], ◌+◌, ◌<◌, ◌∙◌, ◌≡◌, ◌≢◌, ◌⊎◌}
+use Rattle.mk_laws.proofs.Vocabulary.{Seat, Some, Steady, Step, Unplaced, World, ℕ, ap, arith, false, flight_of}
+use Rattle.mk_laws.proofs.Vocabulary.{ground_of, has_bit, header_at, header_made, histories_keep_lengths, inl, inr}
+use Rattle.mk_laws.proofs.Vocabulary.{is_phase, is_undecided_new, is_used_once, layout_scene_of, left, length}
+use Rattle.mk_laws.proofs.Vocabulary.{made_is_mapped, made_shows, no_bit, object_made, object_now, pages_made}
+use Rattle.mk_laws.proofs.Vocabulary.{pages_some, part_not_free, phase_of, place_now, place_on_pages, refl, small_pages}
+use Rattle.mk_laws.proofs.Vocabulary.{subst, sym, true, used_at, ◌+◌, ◌<◌, ◌∙◌, ◌≡◌, ◌≢◌, ◌⊎◌}
 use Rattle.mk_objects.proofs.Vocabulary.{Acts, Carving, GoesTo, HasCarved, IsAsLeft, IsCellReady, IsEnabledTo}
 use Rattle.mk_objects.proofs.Vocabulary.{IsOutOfStop, IsTurn, MayTake, PassState, Serving, bits_made, call_of}
-use Rattle.mk_objects.proofs.Vocabulary.{histories_keep_the_invariant, is_acting, is_placing, known_left, now_of}
-use Rattle.mk_objects.proofs.Vocabulary.{object_for, world_of}
+use Rattle.mk_objects.proofs.Vocabulary.{histories_keep_the_invariant, is_placing, known_left, now_of, object_for}
+use Rattle.mk_objects.proofs.Vocabulary.{world_of}
 use Rattle.mk_laws.proofs.Fits.{FitsInBlock, FitsOnFreePages, fits}
 use Rattle.mk_laws.proofs.{LayoutHolders.made_sized, LayoutReadings.free_unused}
 use Rattle.mk_objects.proofs.Granting.{carving_marked, carving_unmarked, serving_marks}
+use Rattle.mk_objects.proofs.Looks.{acting_caller, acting_now, acts_there}
 use Rattle.mk_objects.proofs.MayAct.{IsActing, may_carve, may_mark_place, new_is_acting}
-use Rattle.mk_objects.proofs.Reaching.{IsCallers, reaches_nothing, reaches_still}
+use Rattle.mk_objects.proofs.Reaching.{IsCallers, reaches_first, reaches_nothing, reaches_still}
 use Rattle.mk_objects.proofs.Serving.{carving_carves, carving_left, carving_more, ready_carved, serving_left}
-use Rattle.mk_objects.proofs.{FoundPlaces.found_clear, Looks.acting_caller, Looks.acting_now, Unchanged.acting_has_call}
+use Rattle.mk_objects.proofs.{FoundPlaces.found_clear, Unchanged.acting_has_call}
 
 -- What is known of the place before the first step that serves.
 pub record KnowsPlace (p : PassState) (place : Place) : Type 0 where
@@ -34,21 +34,16 @@ pub record KnowsPlace (p : PassState) (place : Place) : Type 0 where
 fit_of : (c : Config) (m : Moment) (f : Flight) (place : Place) → is_undecided_new f ≡ true
     → m.seats.holding.placing ≡ Unplaced
     → place_now c m f ≡ Some place → place_on_pages c.resident m.words.pages (object_made c f.op) ≡ Some place
-fit_of c m f place new at placed = sym (ap
-    (λ (x : Placing). place_by_placing c.resident m.words.pages (object_made c f.op) x) at) ∙ sym (under new) ∙ placed
-  where
-    under : is_undecided_new f ≡ true
-        → place_now c m f ≡ place_by_placing c.resident m.words.pages (object_made c f.op) m.seats.holding.placing
-    under is = rw is refl
+fit_of c m f place new at placed = grind arith
 
-within_of : (limit : ℕ) (pages : List Page) (o : Object) (place : Place) (n : ℕ) → IsSized o → length pages ≡ n
+within_of : (limit : ℕ) (pages : List Page) {o : Object} (place : Place) {n : ℕ} → IsSized o → length pages ≡ n
     → FitsOnFreePages limit pages o place ⊎ FitsInBlock pages o place → place.page < n
-within_of limit pages o place n sized len (inl f) = let some = pages_some o sized in let w = f.within in omega arith
-within_of limit pages o place n sized len (inr b) = let w = b.within in omega arith
+within_of limit pages {o} place sized len (inl f) = let some = pages_some o sized in let w = f.within in omega arith
+within_of limit pages place sized len (inr b) = let w = b.within in omega arith
 
-pub knows_place : (p : PassState) (o : Option Op) (place : Place) → IsTurn p o → IsHistory p.table.config p.seen
+pub knows_place : {p : PassState} {o : Option Op} {place : Place} → IsTurn p o → IsHistory p.table.config p.seen
     → GoesTo p place → KnowsPlace p place
-knows_place p o place turn h goes =
+knows_place {p} {o} {place} turn h goes =
     let c : Config = p.table.config in
     let known = known_left c p.seen h.within_limits h.enabled in
     let new = goes.unplaced.new in
@@ -72,27 +67,20 @@ knows_place p o place turn h goes =
         pages = lengths;
       };
       fit = fit;
-      unused = λ z.
-          free_unused (layout_scene_of c (object_now c (now_of p)) (is_phase (now_of p).words 4) (now_of p).words.marks
-          (ground_of (world_of p))) place.page order.laid.scene z;
-      within = within_of c.resident (now_of p).words.pages (object_for p) place c.pages sized lengths found;
+      unused = λ z. free_unused (layout_scene_of c (object_now c (now_of p)) (is_phase (now_of p).words 4)
+          (now_of p).words.marks (ground_of (world_of p))) place.page order.laid.scene z;
+      within = within_of c.resident (now_of p).words.pages place sized lengths found;
       fits = found;
     }
 
 -- Where its page has no header, all its pages have none.
-pub free_pages_of : (p : PassState) (place : Place) → KnowsPlace p place → header_at (now_of p).words place.page ≡ 0
+pub free_pages_of : {p : PassState} {place : Place} → KnowsPlace p place → header_at (now_of p).words place.page ≡ 0
     → FitsOnFreePages p.table.config.resident (now_of p).words.pages (object_for p) place
-free_pages_of p place k z = elim k.fits [
-  | inl free ↦ free
-  | inr block ↦
-      let some = pages_some (object_for p) k.sized in
-      absurd (part_not_free (object_for p) 0 (header_made (object_for p) 0)
-      (made_shows (object_for p) 0 k.sized (omega arith)) (sym block.header ∙ z))
-]
+free_pages_of k z = grind (arith, pages_some, part_not_free, made_shows)
 
-pub block_of : (p : PassState) (place : Place) → KnowsPlace p place → header_at (now_of p).words place.page ≢ 0
+pub block_of : {p : PassState} {place : Place} → KnowsPlace p place → header_at (now_of p).words place.page ≢ 0
     → FitsInBlock (now_of p).words.pages (object_for p) place
-block_of p place k some = elim k.fits [
+block_of {p} {place} k some = elim k.fits [
   | inl free ↦
       let many = pages_some (object_for p) k.sized in
       let zero : place.page + 0 ≡ place.page = omega arith in
@@ -101,134 +89,106 @@ block_of p place k some = elim k.fits [
 ]
 
 -- The cell of the place isn't used.
-pub place_unused : (p : PassState) (place : Place) → KnowsPlace p place
+pub place_unused : {p : PassState} {place : Place} → KnowsPlace p place
     → has_bit (used_at (now_of p).words place.page) place.index ≡ false
-place_unused p place k = elim (cases_eq (header_at (now_of p).words place.page) 0) [
-  | inl z ↦ no_bit (used_at (now_of p).words place.page) place.index (k.unused z)
-  | inr some ↦ found_clear p.table.config.resident (now_of p).words.pages (object_for p) place k.sized k.fit some
-]
+place_unused k = grind (arith, no_bit, found_clear)
 
-phase_kept : (s : Seat) (o : Object) (place : Place) (c : Config) (w u v : World) → Serving c s o place w u
+phase_kept : {s : Seat} {o : Object} {place : Place} {c : Config} {w u v : World} → Serving c s o place w u
     → IsAsLeft s u v → phase_of v.now.words ≡ phase_of w.now.words
-phase_kept s o place c w u v at kept = ap (λ (x : Steady). x.phase) kept.steady ∙ ap (λ (x : Steady). x.phase) at.steady
+phase_kept at kept = ap (λ (x : Steady). x.phase) kept.steady ∙ ap (λ (x : Steady). x.phase) at.steady
 
 pub out_of_stop : (m n : Moment) → phase_of n.words ≡ phase_of m.words → IsOutOfStop m → IsOutOfStop n
 out_of_stop m n same (inl none) = inl (same ∙ none)
 out_of_stop m n same (inr one) = inr (same ∙ one)
 
-pub served_acting : (p : PassState) (place : Place) (v : World) → KnowsPlace p place
-    → Serving p.table.config p.seat (object_for p) place (world_of p) v
-    → IsActing p.table.config v.now p.seat
-served_acting p place v k at = record {
-  there = k.acting.there;
-  acts = ap (λ (f : Flight). is_acting f.stage) at.call
-      ∙ k.acting.acts;
-}
+pub served_acting : {p : PassState} {place : Place} {v : World} → KnowsPlace p place
+    → Serving p.table.config p.seat (object_for p) place (world_of p) v → IsActing p.table.config v.now p.seat
+served_acting {p} {v} k at = acts_there (world_of p) v k.acting at.call
 
-pub served_new : (p : PassState) (place : Place) (v : World) → GoesTo p place
+pub served_new : {p : PassState} {place : Place} {v : World} → GoesTo p place
     → Serving p.table.config p.seat (object_for p) place (world_of p) v
     → is_undecided_new (flight_of v.now p.seat) ≡ true
-served_new p place v goes at = ap (λ (f : Flight). is_undecided_new f) at.call ∙ goes.unplaced.new
+served_new goes at = ap (λ (f : Flight). is_undecided_new f) at.call ∙ goes.unplaced.new
 
 -- `mark`
-module _ (p : PassState) (place : Place) (goes : GoesTo p place) (k : KnowsPlace p place)
+module _ {p : PassState} {place : Place} (goes : GoesTo p place) (k : KnowsPlace p place)
     (free : header_at (now_of p).words place.page ≡ 0) where
   frees : FitsOnFreePages p.table.config.resident (now_of p).words.pages (object_for p) place
-  frees = free_pages_of p place k free
+  frees = free_pages_of k free
 
   pub mark_may : phase_of (now_of p).words ≡ 1 → IsEnabledTo p (Step.Mark place.page (bits_made (object_for p)))
-  mark_may one =
-      may_mark_place p.table.config (now_of p) p.seat k.acting place.page (bits_made (object_for p)) k.within one
-      (serving_marks p.table.config p.seat (object_for p) place (world_of p) (world_of p) k.serving one free)
+  mark_may one = grind (arith, may_mark_place, serving_marks)
 
-  free_now : (w v : World) → IsAsLeft p.seat (world_of p) v → (d : ℕ) → d < pages_made (object_for p)
+  free_now : {v : World} → IsAsLeft p.seat (world_of p) v → (d : ℕ) → d < pages_made (object_for p)
       → header_at v.now.words (place.page + d) ≡ 0
-  free_now w v kept d lt = ap (λ (x : Steady). (slice_index_or x.pages (place.page + d) free_page).header) kept.steady
-      ∙ frees.free d lt
+  free_now kept d lt = grind (arith, frees)
 
-  pub marks_first : (q : PassState) → phase_of (now_of p).words ≡ 1
+  pub marks_first : {q : PassState} → phase_of (now_of p).words ≡ 1
       → Acts p (Step.Mark place.page (bits_made (object_for p))) q → HasCarved p place 0 q
-  marks_first q one a =
-      reaches_still is_placing p p q (λ w. w ≡ world_of p)
-      (λ w. Carving p.table.config p.seat (object_for p) place (world_of p) w 0) []
-      (Step.Mark place.page (bits_made (object_for p)))
-      (reaches_nothing is_placing p (λ w. w ≡ world_of p) refl) a refl refl k.caller refl
-      (λ w v here kept known pages.
-      let kept : IsAsLeft p.seat (world_of p) v = subst (λ (x : World). IsAsLeft p.seat x v) here kept in
-      let serving = serving_left p.table.config p.seat (object_for p) place (world_of p) (world_of p) v k.serving kept
+  marks_first one a =
+      reaches_first (λ w. Carving p.table.config p.seat (object_for p) place (world_of p) w 0) a refl refl k.caller refl
+      (λ v kept known pages.
+      let serving = serving_left k.serving kept
       in
-      let call = acting_has_call p.table.config v.now p.seat known.orderly.flights (served_acting p place v k serving)
+      let call = acting_has_call known.orderly.flights (served_acting k serving)
       in
       let some = pages_some (object_for p) k.sized in
-      carving_marked p.table.config p.seat (object_for p) place (world_of p) v serving call
-      (served_new p place v goes serving)
-      (ap (λ (x : Steady). x.phase) kept.steady ∙ one) (free_now w v kept) some
-      (let marks = pages.marks in let within = k.within in omega arith))
+      carving_marked serving call (served_new goes serving) (ap (λ (x : Steady). x.phase) kept.steady ∙ one)
+      (free_now kept) some (let marks = pages.marks in let within = k.within in omega arith))
 
   pub marks_none : phase_of (now_of p).words ≢ 1 → HasCarved p place 0 p
   marks_none other =
       reaches_nothing is_placing p (λ w. Carving p.table.config p.seat (object_for p) place (world_of p) w 0)
-      (carving_unmarked p.table.config p.seat (object_for p) place (world_of p) (world_of p) k.serving
-      (none goes.unplaced.phase)
-      (λ d lt. frees.free d lt))
+      (carving_unmarked k.serving (none goes.unplaced.phase) (λ d lt. frees.free d lt))
     where
       none : IsOutOfStop (now_of p) → phase_of (now_of p).words ≡ 0
       none (inl zero) = zero
       none (inr one) = absurd (other one)
 
   -- `head`
-  pub head_may : (q : PassState) (n : ℕ) → HasCarved p place n q → n < pages_made (object_for p)
+  pub head_may : {q : PassState} {n : ℕ} → HasCarved p place n q → n < pages_made (object_for p)
       → IsEnabledTo q (Step.Head (place.page + n) (header_made (object_for p) n))
-  head_may q n reached lt =
+  head_may {q} {n} reached lt =
       let w : World = left p.table.config q.seen in
       let ends = frees.within in
       let lengths = k.serving.pages in
       subst (λ (x : PassState). IsEnabledTo x (Step.Head (place.page + n) (header_made (object_for p) n)))
-      (sym reached.same)
-      (may_carve p.table.config w.now p.seat (served_acting p place w k reached.world.serving) (place.page + n)
-      (header_made (object_for p) n)
-      (omega arith)
-      (out_of_stop (now_of p) w.now (ap (λ (x : Steady). x.phase) reached.world.serving.steady) goes.unplaced.phase)
-      (made_is_mapped (object_for p) n k.sized lt)
-      (carving_carves p.table.config p.seat (object_for p) place (world_of p) w n k.sized reached.world lt))
+      (sym reached.same) (may_carve (served_acting k reached.world.serving) (place.page + n)
+      (header_made (object_for p) n) (omega arith) (out_of_stop (now_of p) w.now
+      (ap (λ (x : Steady). x.phase) reached.world.serving.steady) goes.unplaced.phase)
+      (made_is_mapped (object_for p) n k.sized lt) (carving_carves k.sized reached.world lt))
 
-  pub heads_on : (q r : PassState) (n : ℕ) → HasCarved p place n q → n < pages_made (object_for p)
+  pub heads_on : {q r : PassState} {n : ℕ} → HasCarved p place n q → n < pages_made (object_for p)
       → Acts q (Step.Head (place.page + n) (header_made (object_for p) n)) r → HasCarved p place (n + 1) r
-  heads_on q r n reached lt a =
+  heads_on {n} reached lt a =
       let ends = frees.within in
       let lengths = k.serving.pages in
-      reaches_still is_placing p q r (λ w. Carving p.table.config p.seat (object_for p) place (world_of p) w n)
-      (λ w. Carving p.table.config p.seat (object_for p) place (world_of p) w (n + 1)) []
-      (Step.Head (place.page + n) (header_made (object_for p) n))
-      reached a refl refl k.caller refl
+      reaches_still (λ w. Carving p.table.config p.seat (object_for p) place (world_of p) w n)
+      (λ w. Carving p.table.config p.seat (object_for p) place (world_of p) w (n + 1)) reached a refl refl k.caller refl
       (λ w v here kept known pages.
-      let on = carving_left p.table.config p.seat (object_for p) place (world_of p) w v n here kept in
-      let call = acting_has_call p.table.config v.now p.seat known.orderly.flights
-      (served_acting p place v k on.serving) in
-      carving_more p.table.config p.seat (object_for p) place (world_of p) v n on call
-      (served_new p place v goes on.serving)
-      (out_of_stop (now_of p) v.now (ap (λ (x : Steady). x.phase) on.serving.steady) goes.unplaced.phase) lt
-      (omega arith))
+      let on = carving_left here kept in
+      let call = acting_has_call known.orderly.flights (served_acting k on.serving) in
+      carving_more on call (served_new goes on.serving) (out_of_stop (now_of p) v.now
+      (ap (λ (x : Steady). x.phase) on.serving.steady) goes.unplaced.phase) lt (omega arith))
 
-  pub carved_all : (q : PassState) → HasCarved p place (pages_made (object_for p)) q → MayTake p place q
-  carved_all q reached =
+  pub carved_all : {q : PassState} → HasCarved p place (pages_made (object_for p)) q → MayTake p place q
+  carved_all reached =
       record {
         same = reached.same;
         does = reached.does;
         calls = reached.calls;
-        world = ready_carved p.table.config p.seat (object_for p) place (world_of p) (left p.table.config q.seen)
-            reached.world;
+        world = ready_carved reached.world;
         counts = reached.counts;
       }
 
 -- A block is ready.
-pub block_ready : (p : PassState) (place : Place) → KnowsPlace p place → header_at (now_of p).words place.page ≢ 0
+pub block_ready : {p : PassState} {place : Place} → KnowsPlace p place → header_at (now_of p).words place.page ≢ 0
     → MayTake p place p
-block_ready p place k some =
+block_ready {p} {place} k some =
     reaches_nothing is_placing p (IsCellReady p.table.config p.seat (object_for p) place (world_of p)) (record {
       serving = k.serving;
       stand = λ d lt.
-          let block = block_of p place k some in
+          let block = block_of k some in
           let one = small_pages (object_for p) block.small in
           let here : place.page + d ≡ place.page = omega arith in
           let zero : 0 ≡ d = omega arith in

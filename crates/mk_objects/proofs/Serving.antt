@@ -1,15 +1,15 @@
 -- A New while it is served: how far its pages are, step by step.
-use Rattle.mk_laws.proofs.Vocabulary.{Chosen, Config, Flight, Granted, Holding, IsSized, List, Moment, Object, Option}
-use Rattle.mk_laws.proofs.Vocabulary.{Page, Place, Placing, Seat, Some, Steady, Step, Unplaced, Used, Words, World, ℕ}
+use Rattle.mk_laws.proofs.Vocabulary.{Chosen, Config, Flight, Granted, IsSized, List, Moment, Object, Option, Page}
+use Rattle.mk_laws.proofs.Vocabulary.{Place, Placing, Seat, Some, Steady, Step, Unplaced, Used, Words, World, ℕ}
 use Rattle.mk_laws.proofs.Vocabulary.{and_from, ap, arith, carves, cases_eq, cases_lt, chosen, eq-eqb, false, flight_of}
 use Rattle.mk_laws.proofs.Vocabulary.{free_page, get_or-set_other, get_or-set_same, has_bit, header_at, header_made}
-use Rattle.mk_laws.proofs.Vocabulary.{inl, inr, is_marked_first, is_next_header, is_phase, is_undecided_new}
-use Rattle.mk_laws.proofs.Vocabulary.{is_used_once, le-leb, length, length-set, lt-ltb, made_shows, ne_eqb, not}
-use Rattle.mk_laws.proofs.Vocabulary.{object_made, pages_made, part_not_free, place_by_placing, place_now, refl}
-use Rattle.mk_laws.proofs.Vocabulary.{set_past, slice_index, slice_index_or, slice_set, stands, sym, taken, takes_cell}
-use Rattle.mk_laws.proofs.Vocabulary.{true, used_at, world_behind, ◌%◌, ◌+◌, ◌-◌, ◌<◌, ◌==◌, ◌^◌, ◌∙◌, ◌≡◌, ◌≢◌}
+use Rattle.mk_laws.proofs.Vocabulary.{inl, inr, is_marked_first, is_next_header, is_undecided_new, is_used_once, le-leb}
+use Rattle.mk_laws.proofs.Vocabulary.{length, length-set, lt-ltb, made_shows, ne_eqb, object_made, pages_made}
+use Rattle.mk_laws.proofs.Vocabulary.{part_not_free, place_by_placing, place_now, refl, set_past, slice_index_or}
+use Rattle.mk_laws.proofs.Vocabulary.{slice_set, sym, taken, takes_cell, true, used_at, world_behind, ◌+◌, ◌-◌, ◌<◌}
+use Rattle.mk_laws.proofs.Vocabulary.{◌^◌, ◌∙◌, ◌≡◌, ◌≢◌}
 use Rattle.mk_objects.proofs.Vocabulary.{Carving, IsAsLeft, IsCellReady, IsOutOfStop, Serving, all_below_from}
-use Rattle.mk_objects.proofs.Vocabulary.{bits_made, steady_of}
+use Rattle.mk_objects.proofs.Vocabulary.{steady_of}
 use Rattle.mk_laws.proofs.Tests.{or_on, without_on}
 use Rattle.mk_objects.proofs.{MayAct.off_four, Unchanged.HasCall, Unchanged.OfCaller, Unchanged.call_behind}
 
@@ -18,47 +18,26 @@ use Rattle.mk_objects.proofs.{MayAct.off_four, Unchanged.HasCall, Unchanged.OfCa
 place_same : (c : Config) (u v : World) (f : Flight) → v.now.seats.holding ≡ u.now.seats.holding
     → v.now.words.pages ≡ u.now.words.pages
     → place_now c v.now f ≡ place_now c u.now f
-place_same c u v f holding pages =
-    ap (λ (h : Holding). place_now c (record v.now { seats = record v.now.seats { holding = h } }) f) holding
-    ∙ ap (λ (ps : List Page). place_now c (record u.now { words = record u.now.words { pages = ps } }) f) pages
+place_same c u v f holding pages = grind arith
 
-pub serving_left : (c : Config) (s : Seat) (o : Object) (place : Place) (w u v : World) → Serving c s o place w u
+pub serving_left : {c : Config} {s : Seat} {o : Object} {place : Place} {w u v : World} → Serving c s o place w u
     → IsAsLeft s u v → Serving c s o place w v
-serving_left c s o place w u v at left =
-    let pages : v.now.words.pages ≡ u.now.words.pages = ap (λ (x : Steady). x.pages) left.steady in
-    record {
-      call = left.call ∙ at.call;
-      object = ap (λ (f : Flight). object_made c f.op) left.call ∙ at.object;
-      steady = left.steady ∙ at.steady ∙ ap (λ (ps : List Page). record (steady_of w) { pages = ps }) (sym pages);
-      placed = place_same c u v (flight_of v.now s) left.holding pages
-          ∙ ap (λ (f : Flight). place_now c u.now f) left.call ∙ at.placed;
-      once = ap (λ (h : Holding). is_used_once h.placing) left.holding ∙ at.once;
-      used = ap (λ (ps : List Page). (slice_index_or ps place.page free_page).used) pages ∙ at.used;
-      pages = ap (λ (ps : List Page). length ps) pages ∙ at.pages;
-    }
+serving_left at left = grind (arith, place_same)
 
-marked_left : (o : Object) (place : Place) (s : Seat) (u v : World) → IsAsLeft s u v
-    → is_marked_first u.now.words o place ≡ true
-    → is_marked_first v.now.words o place ≡ true
-marked_left o place s u v left h =
-    let phase : (v.now.words.phase % 8) ≡ (u.now.words.phase % 8) = ap (λ (x : Steady). x.phase) left.steady in
-    or_on (not (is_phase u.now.words 1)) _ (not (is_phase v.now.words 1)) _
-    (λ e. ap (λ n. not (n == 1)) phase ∙ e)
-    (without_on (bits_made o) (slice_index u.now.words.marks place.page) (slice_index v.now.words.marks place.page)
-    (left.marks place.page)) h
+marked_left : (o : Object) (place : Place) {s : Seat} {u v : World} → IsAsLeft s u v
+    → is_marked_first u.now.words o place ≡ true → is_marked_first v.now.words o place ≡ true
+marked_left o place left h = grind (arith, or_on, without_on)
 
-pub carving_left : (c : Config) (s : Seat) (o : Object) (place : Place) (w u v : World) (n : ℕ)
-    → Carving c s o place w u n → IsAsLeft s u v
-    → Carving c s o place w v n
-carving_left c s o place w u v n at left =
+pub carving_left : {c : Config} {s : Seat} {o : Object} {place : Place} {w u v : World} {n : ℕ}
+    → Carving c s o place w u n → IsAsLeft s u v → Carving c s o place w v n
+carving_left {o} {place} {u} {v} at left =
     let pages : v.now.words.pages ≡ u.now.words.pages = ap (λ (x : Steady). x.pages) left.steady in
-    let header : (p : ℕ) → header_at v.now.words p ≡ header_at u.now.words p = λ p. ap (λ (ps : List Page).
-    (slice_index_or ps p free_page).header) pages in
+    let header : (p : ℕ) → header_at v.now.words p ≡ header_at u.now.words p = grind arith in
     record {
-      serving = serving_left c s o place w u v at.serving left;
+      serving = serving_left at.serving left;
       stand = λ d lt. header (place.page + d) ∙ at.stand d lt;
       free = λ d le lt. header (place.page + d) ∙ at.free d le lt;
-      marked = marked_left o place s u v left at.marked;
+      marked = marked_left o place left at.marked;
     }
 
 -- The first step that serves fixes the place.
@@ -74,14 +53,7 @@ chosen_place resident pages o Granted place h once = cc
 pub new_placed : (c : Config) (m : Moment) (f : Flight) (place : Place) → is_undecided_new f ≡ true
     → place_now c m f ≡ Some place
     → is_used_once m.seats.holding.placing ≡ false → chosen m.seats.holding.placing (place_now c m f) ≡ Chosen place
-new_placed c m f place new placed once =
-    ap (λ (x : Option Place). chosen m.seats.holding.placing x) placed
-    ∙ chosen_place c.resident m.words.pages (object_made c f.op) m.seats.holding.placing place (sym (under new)
-    ∙ placed) once
-  where
-    under : is_undecided_new f ≡ true
-        → place_now c m f ≡ place_by_placing c.resident m.words.pages (object_made c f.op) m.seats.holding.placing
-    under is = rw is refl
+new_placed c m f place new placed once = grind (arith, chosen_place)
 
 pub chosen_now : (c : Config) (m : Moment) (f : Flight) (place : Place) → is_undecided_new f ≡ true
     → m.seats.holding.placing ≡ Chosen place
@@ -115,12 +87,11 @@ used_kept ps p q h = elim (cases_eq q p) [
 ]
 
 -- the next page gets its header
-pub carving_more : (c : Config) (s : Seat) (o : Object) (place : Place) (w v : World) (n : ℕ)
-    → Carving c s o place w v n → HasCall c v.now s
-    → is_undecided_new (flight_of v.now s) ≡ true → IsOutOfStop v.now → n < pages_made o → place.page + n < c.pages
-    → Carving c s o place w
+pub carving_more : {c : Config} {s : Seat} {o : Object} {place : Place} {w v : World} {n : ℕ}
+    → Carving c s o place w v n → HasCall c v.now s → is_undecided_new (flight_of v.now s) ≡ true → IsOutOfStop v.now
+    → n < pages_made o → place.page + n < c.pages → Carving c s o place w
     (world_behind c v (record { seat = s; step = Step.Head (place.page + n) (header_made o n) })) (n + 1)
-carving_more c s o place w v n at (OfCaller k lt) new low within room =
+carving_more {c} {s} {o} {place} {v} {n} at (OfCaller k lt) new low within room =
     let p = place.page + n in
     let call = call_behind c v.now k (Step.Head p (header_made o n)) lt in
     let there : p < length v.now.words.pages = omega (arith, at.serving.pages) in
@@ -153,62 +124,31 @@ pub next_is : (w : Words) (first count : ℕ) (wanted : ℕ → ℕ) (n : ℕ) �
     → ((d : ℕ) → d < n → header_at w (first + d) ≡ wanted d)
     → is_next_header w first count wanted (first + n) (wanted n) ≡ true
 next_is w first count wanted n near not_yet before =
-    let e : first + n - first ≡ n = omega arith in
-    rw e
-    (and_from _ _
-    (and_from _ _
-    (and_from _ _ (and_from _ _ (le-leb first (first + n) (omega arith)) (lt-ltb n count near))
-    (ap not (ne_eqb (header_at w (first + n)) (wanted n) not_yet)))
-    (all_below_from n (stands w first wanted) (λ d lt. eq-eqb (header_at w (first + d)) (wanted d) (before d lt))))
-    (eq-eqb (wanted n) (wanted n) refl))
+    grind (arith, and_from, le-leb, lt-ltb, ne_eqb, all_below_from, eq-eqb)
 
-pub carving_carves : (c : Config) (s : Seat) (o : Object) (place : Place) (w v : World) (n : ℕ) → IsSized o
-    → Carving c s o place w v n
-    → n < pages_made o
-    → carves v.now.words (object_made c (flight_of v.now s).op) (place_now c v.now (flight_of v.now s))
-    (place.page + n) (header_made o n) ≡ true
-carving_carves c s o place w v n sized at within =
+pub carving_carves : {c : Config} {s : Seat} {o : Object} {place : Place} {w v : World} {n : ℕ} → IsSized o
+    → Carving c s o place w v n → n < pages_made o → carves v.now.words (object_made c (flight_of v.now s).op)
+    (place_now c v.now (flight_of v.now s)) (place.page + n) (header_made o n) ≡ true
+carving_carves {c} {s} {o} {place} {v} {n} sized at within =
     ap (λ (x : Object). carves v.now.words x (place_now c v.now (flight_of v.now s)) (place.page + n) (header_made o n))
-    at.serving.object
-    ∙ ap (λ (x : Option Place). carves v.now.words o x (place.page + n) (header_made o n)) at.serving.placed
-    ∙ and_from _ _
-    (next_is v.now.words place.page (pages_made o) (header_made o) n within
+    at.serving.object ∙ ap (λ (x : Option Place). carves v.now.words o x (place.page + n) (header_made o n))
+    at.serving.placed ∙ and_from _ _ (next_is v.now.words place.page (pages_made o) (header_made o) n within
     (λ e. part_not_free o n (header_made o n) (made_shows o n sized within) (sym e ∙ at.free n (omega arith) within))
-    at.stand)
-    at.marked
+    at.stand) at.marked
 
-pub ready_left : (c : Config) (s : Seat) (o : Object) (place : Place) (w u v : World) → IsCellReady c s o place w u
-    → IsAsLeft s u v
-    → IsCellReady c s o place w v
-ready_left c s o place w u v at left =
-    let pages : v.now.words.pages ≡ u.now.words.pages = ap (λ (x : Steady). x.pages) left.steady in
-    record {
-      serving = serving_left c s o place w u v at.serving left;
-      stand = λ d lt. ap (λ (ps : List Page). (slice_index_or ps (place.page + d) free_page).header) pages
-          ∙ at.stand d lt;
-    }
+pub ready_left : {c : Config} {s : Seat} {o : Object} {place : Place} {w u v : World} → IsCellReady c s o place w u
+    → IsAsLeft s u v → IsCellReady c s o place w v
+ready_left at left = grind (arith, serving_left)
 
-pub ready_carved : (c : Config) (s : Seat) (o : Object) (place : Place) (w v : World)
+pub ready_carved : {c : Config} {s : Seat} {o : Object} {place : Place} {w v : World}
     → Carving c s o place w v (pages_made o) → IsCellReady c s o place w v
-ready_carved c s o place w v at = record { serving = at.serving; stand = at.stand }
+ready_carved at = record { serving = at.serving; stand = at.stand }
 
-pub ready_takes : (c : Config) (s : Seat) (o : Object) (place : Place) (w v : World) (used : ℕ)
-    → IsCellReady c s o place w v
-    → used_at w.now.words place.page ≡ used → has_bit used place.index ≡ false
+pub ready_takes : {c : Config} {s : Seat} {o : Object} {place : Place} {w v : World} {used : ℕ}
+    → IsCellReady c s o place w v → used_at w.now.words place.page ≡ used → has_bit used place.index ≡ false
     → takes_cell v.now.words (object_made c (flight_of v.now s).op) (place_now c v.now (flight_of v.now s)) place.page
     (used + 2 ^ place.index) ≡ true
-ready_takes c s o place w v used at known unused =
-    let same : used_at v.now.words place.page ≡ used = at.serving.used ∙ known in
-    let value = used + 2 ^ place.index in
-    ap (λ (x : Object). takes_cell v.now.words x (place_now c v.now (flight_of v.now s)) place.page value)
-    at.serving.object
-    ∙ ap (λ (x : Option Place). takes_cell v.now.words o x place.page value) at.serving.placed
-    ∙ and_from _ _
-    (and_from _ _ (and_from _ _ (eq-eqb place.page place.page refl)
-    (all_below_from (pages_made o) (stands v.now.words place.page (header_made o))
-    (λ d lt. eq-eqb (header_at v.now.words (place.page + d)) (header_made o d) (at.stand d lt))))
-    (ap (λ n. not (has_bit n place.index)) same ∙ ap not unused))
-    (eq-eqb value _ (ap (λ n. n + 2 ^ place.index) (sym same)))
+ready_takes at known unused = grind (arith, and_from, eq-eqb, all_below_from)
 
 -- and then it is.
 pub record IsTakenAt (c : Config) (s : Seat) (o : Object) (place : Place) (w v : World) : Type 0 where
@@ -217,22 +157,14 @@ pub record IsTakenAt (c : Config) (s : Seat) (o : Object) (place : Place) (w v :
   pub steady : steady_of v ≡ record (steady_of w) { pages = v.now.words.pages }
   pub placing : v.now.seats.holding.placing ≡ Used place
 
-pub taken_left : (c : Config) (s : Seat) (o : Object) (place : Place) (w u v : World) → IsTakenAt c s o place w u
-    → IsAsLeft s u v
-    → IsTakenAt c s o place w v
-taken_left c s o place w u v at left =
-    let pages : v.now.words.pages ≡ u.now.words.pages = ap (λ (x : Steady). x.pages) left.steady in
-    record {
-      call = left.call ∙ at.call;
-      object = ap (λ (f : Flight). object_made c f.op) left.call ∙ at.object;
-      steady = left.steady ∙ at.steady ∙ ap (λ (ps : List Page). record (steady_of w) { pages = ps }) (sym pages);
-      placing = ap (λ (h : Holding). h.placing) left.holding ∙ at.placing;
-    }
+pub taken_left : {c : Config} {s : Seat} {o : Object} {place : Place} {w u v : World} → IsTakenAt c s o place w u
+    → IsAsLeft s u v → IsTakenAt c s o place w v
+taken_left at left = grind arith
 
-pub taken_behind : (c : Config) (s : Seat) (o : Object) (place : Place) (w v : World) (p value : ℕ)
+pub taken_behind : {c : Config} {s : Seat} {o : Object} {place : Place} {w v : World} (p value : ℕ)
     → Serving c s o place w v → HasCall c v.now s
     → IsOutOfStop v.now → IsTakenAt c s o place w (world_behind c v (record { seat = s; step = Step.Used p value }))
-taken_behind c s o place w v p value at (OfCaller k lt) low =
+taken_behind {c} {s} {place} {v} p value at (OfCaller k lt) low =
     let call = call_behind c v.now k (Step.Used p value) lt in
     let u : World = world_behind c v (record { seat = s; step = Step.Used p value }) in
     record {

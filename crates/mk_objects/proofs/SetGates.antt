@@ -2,17 +2,17 @@
 use Rattle.std.proofs.Common.{OnErr, OnOk, is_ok, le-ltb}
 use Rattle.std.specs.declared.result.Result.TheVariants.{Err, Ok}
 use Rattle.std.specs.declared.result.Result.{Result}
-use Rattle.mk_laws.proofs.Vocabulary.{Bool, Config, Flight, Op, Option, Seat, Steady, Step, World, ℕ, all_below-at, ap}
-use Rattle.mk_laws.proofs.Vocabulary.{arith, cases_eq, cases_lt, false, get_or-set_other, get_or-set_same, inl, inr}
-use Rattle.mk_laws.proofs.Vocabulary.{is_held, is_number_of, length, lt-ltb, nat_lt, not, not-true, phase_of, refl}
-use Rattle.mk_laws.proofs.Vocabulary.{subst, sym, true, world_behind, [], ◌&&◌, ◌+◌, ◌<◌, ◌==◌, ◌∙◌, ◌≡◌, ◌≢◌, ◌≤◌}
+use Rattle.mk_laws.proofs.Vocabulary.{Bool, Config, Op, Option, Seat, Step, World, ℕ, all_below-at, ap, arith, cases_eq}
+use Rattle.mk_laws.proofs.Vocabulary.{cases_lt, false, get_or-set_other, get_or-set_same, inl, inr, is_held}
+use Rattle.mk_laws.proofs.Vocabulary.{is_number_of, length, lt-ltb, nat_lt, not, not-true, refl, subst, sym, true}
+use Rattle.mk_laws.proofs.Vocabulary.{world_behind, ◌&&◌, ◌+◌, ◌<◌, ◌==◌, ◌∙◌, ◌≡◌, ◌≢◌}
 use Rattle.mk_objects.proofs.Vocabulary.{Acts, HasGates, IsAsLeft, IsOutOfStop, IsTurn, PassState, SetsGate, SetsGates}
-use Rattle.mk_objects.proofs.Vocabulary.{all_others, call_of, held_from, held_to, is_acting, is_holding, is_settling}
-use Rattle.mk_objects.proofs.Vocabulary.{none_is_held, now_of, world_of}
+use Rattle.mk_objects.proofs.Vocabulary.{WordsState, all_others, call_of, held_from, held_to, is_acting, is_holding}
+use Rattle.mk_objects.proofs.Vocabulary.{is_settling, none_is_held, now_of, world_of}
 use Rattle.mk_objects.proofs.Looks.{acting_caller, acting_now, still_acting}
 use Rattle.mk_objects.proofs.ReachedParts.{reaches_after, reaches_so, same_kinds}
 use Rattle.mk_objects.proofs.Unchanged.{HasCall, OfCaller, acting_has_call, call_behind}
-use Rattle.mk_objects.proofs.{Reaching.reaches_nothing, Reaching.reaches_still, Reaching.seeing, Serves.out_of_stop}
+use Rattle.mk_objects.proofs.{Reaching.reaches_first, Reaching.reaches_nothing, Reaching.seeing, Serves.out_of_stop}
 use Rattle.mk_objects.specs.FreeParts.{GateIsSet, IsButGates}
 
 -- One gate may have changed.
@@ -20,9 +20,9 @@ record AllButOne (s : Seat) (gate : ℕ) (w v : World) : Type 0 where
   but_gates : IsButGates s w v
   others : (j : ℕ) → j ≢ gate → is_held v.now.words j ≡ is_held w.now.words j
 
-hold_behind : (c : Config) (s : Seat) (w v : World) (gate : ℕ) → IsAsLeft s w v → HasCall c v.now s
+hold_behind : {c : Config} {s : Seat} {w v : World} (gate : ℕ) → IsAsLeft s w v → HasCall c v.now s
     → AllButOne s gate w (world_behind c v (record { seat = s; step = Step.Hold gate }))
-hold_behind c s w v gate kept (OfCaller k lt) =
+hold_behind {c} {v} gate kept (OfCaller k lt) =
     record {
       but_gates = record {
         call = call_behind c v.now k (Step.Hold gate) lt ∙ kept.call;
@@ -32,10 +32,10 @@ hold_behind c s w v gate kept (OfCaller k lt) =
       others = λ j ne. ap (λ (n : ℕ). n == 2) (get_or-set_other v.now.words.gates gate j _ 0 ne) ∙ kept.gates j;
     }
 
-open_behind : (c : Config) (s : Seat) (w v : World) (gate : ℕ) → IsAsLeft s w v → HasCall c v.now s
+open_behind : {c : Config} {s : Seat} {w v : World} (gate : ℕ) → IsAsLeft s w v → HasCall c v.now s
     → gate < length v.now.words.gates
     → GateIsSet s gate false w (world_behind c v (record { seat = s; step = Step.Open gate }))
-open_behind c s w v gate kept (OfCaller k lt) room =
+open_behind {c} {v} gate kept (OfCaller k lt) room =
     record {
       but_gates = record {
         call = call_behind c v.now k (Step.Open gate) lt ∙ kept.call;
@@ -46,25 +46,18 @@ open_behind c s w v gate kept (OfCaller k lt) room =
       others = λ j ne. ap (λ (n : ℕ). n == 2) (get_or-set_other v.now.words.gates gate j 0 0 ne) ∙ kept.gates j;
     }
 
-module _ (p q : PassState) (o : Option Op) (gate : ℕ) (turn : IsTurn p o)
+module _ {p : PassState} (q : PassState) {o : Option Op} (gate : ℕ) (turn : IsTurn p o)
     (acts : is_acting (call_of p).stage ≡ true) where
-  has_call : (v : World) → IsAsLeft p.seat (world_of p) v → length v.now.seats.flights ≡ p.table.config.callers
+  has_call : {v : World} → IsAsLeft p.seat (world_of p) v → length v.now.seats.flights ≡ p.table.config.callers
       → HasCall p.table.config v.now p.seat
-  has_call v kept count =
-      acting_has_call p.table.config v.now p.seat count (still_acting p.table.config p.seat (world_of p) v
-      (acting_now p o turn acts) kept)
+  has_call kept count = acting_has_call count (still_acting (acting_now p o turn acts) kept)
 
-  pub sets_hold : (held : Bool) → Acts p (Step.Hold gate) q → is_held (now_of q).words gate ≡ held
+  pub sets_hold : {held : Bool} → Acts p (Step.Hold gate) q → is_held (now_of q).words gate ≡ held
       → SetsGate is_holding p gate held q
-  sets_hold held a is =
-      let step = reaches_still is_holding p p q (λ w. w ≡ world_of p) (AllButOne p.seat gate (world_of p)) []
-      (Step.Hold gate)
-      (reaches_nothing is_holding p (λ w. w ≡ world_of p) refl) a refl refl (acting_caller p acts) refl
-      (λ w v first kept known pages.
-      let kept : IsAsLeft p.seat (world_of p) v = subst (λ (x : World). IsAsLeft p.seat x v) first kept in
-      hold_behind p.table.config p.seat (world_of p) v gate kept (has_call v kept known.orderly.flights)) in
-      reaches_so is_holding p q (AllButOne p.seat gate (world_of p)) (GateIsSet p.seat gate held (world_of p)) [] step
-      (λ all. record {
+  sets_hold a is =
+      let step = reaches_first (AllButOne p.seat gate (world_of p)) a refl refl (acting_caller p acts) refl
+      (λ v kept known pages. hold_behind gate kept (has_call kept known.orderly.flights)) in
+      reaches_so step (λ all. record {
         but_gates = all.but_gates;
         set = ap (λ (x : PassState). is_held (now_of x).words gate) (sym step.same) ∙ is;
         others = all.others;
@@ -72,47 +65,31 @@ module _ (p q : PassState) (o : Option Op) (gate : ℕ) (turn : IsTurn p o)
 
   pub sets_open : Acts p (Step.Open gate) q → gate < p.table.config.callers → SetsGate is_settling p gate false q
   sets_open a within =
-      reaches_still is_settling p p q (λ w. w ≡ world_of p) (GateIsSet p.seat gate false (world_of p)) []
-      (Step.Open gate)
-      (reaches_nothing is_settling p (λ w. w ≡ world_of p) refl) a refl refl (acting_caller p acts) refl
-      (λ w v first kept known pages.
-      let kept : IsAsLeft p.seat (world_of p) v = subst (λ (x : World). IsAsLeft p.seat x v) first kept in
+      reaches_first (GateIsSet p.seat gate false (world_of p)) a refl refl (acting_caller p acts) refl
+      (λ v kept known pages.
       let few = known.small in
       let many = pages.gates in
-      open_behind p.table.config p.seat (world_of p) v gate kept (has_call v kept known.orderly.flights) (omega arith))
+      open_behind gate kept (has_call kept known.orderly.flights) (omega arith))
 
 -- one part after another
 
-pub but_gates_then : (s : Seat) (w u v : World) → IsButGates s w u → IsButGates s u v → IsButGates s w v
-but_gates_then s w u v a b = record {
-  call = b.call ∙ a.call;
-  holding = b.holding ∙ a.holding;
-  steady = b.steady
-      ∙ a.steady;
-}
+pub but_gates_then : {s : Seat} {w u v : World} → IsButGates s w u → IsButGates s u v → IsButGates s w v
+but_gates_then a b = grind arith
 
-set_again : (s : Seat) (gate : ℕ) (first held : Bool) (w u v : World) → GateIsSet s gate first w u
+set_again : {s : Seat} {gate : ℕ} {first held : Bool} {w u v : World} → GateIsSet s gate first w u
     → GateIsSet s gate held u v → GateIsSet s gate held w v
-set_again s gate first held w u v a b =
-    record {
-      but_gates = but_gates_then s w u v a.but_gates b.but_gates;
-      set = b.set;
-      others = λ j ne. b.others j ne ∙ a.others j ne;
-    }
+set_again a b = grind (arith, but_gates_then)
 
-pub sets_again : (kinds : Step → Bool) (p q r : PassState) (gate : ℕ) (first held : Bool)
-    → SetsGate kinds p gate first q → SetsGate kinds q gate held r
-    → SetsGate kinds p gate held r
-sets_again kinds p q r gate first held a b =
-    reaches_after kinds kinds kinds (same_kinds kinds) (same_kinds kinds) p q r
-    (GateIsSet p.seat gate first (world_of p))
-    (λ x. GateIsSet x.seat gate held (world_of x)) (GateIsSet p.seat gate held (world_of p)) [] a b
-    (λ v a b. set_again p.seat gate first held (world_of p) _ v a b)
+pub sets_again : {kinds : Step → Bool} {p q r : PassState} {gate : ℕ} {first held : Bool}
+    → SetsGate kinds p gate first q → SetsGate kinds q gate held r → SetsGate kinds p gate held r
+sets_again {kinds} {gate} {held} a b =
+    reaches_after (same_kinds kinds) (same_kinds kinds) (λ x. GateIsSet x.seat gate held (world_of x)) a b
+    (λ v a b. set_again a b)
 
 -- A gate that isn't held is set so.
-pub set_nothing : (kinds : Step → Bool) (p : PassState) (gate : ℕ) (held : Bool)
+pub set_nothing : (kinds : Step → Bool) (p : PassState) (gate : ℕ) {held : Bool}
     → is_held (now_of p).words gate ≡ held → SetsGate kinds p gate held p
-set_nothing kinds p gate held is =
+set_nothing kinds p gate {held} is =
     reaches_nothing kinds p (GateIsSet p.seat gate held (world_of p))
     (record { but_gates = record { call = refl; holding = refl; steady = refl }; set = is; others = λ j ne. refl })
 
@@ -122,7 +99,7 @@ gates_more : (s : Seat) (callers : ℕ) (gates then : ℕ → Bool) (gate : ℕ)
     → HasGates s callers then w v
 gates_more s callers gates then gate held w u v a b others here =
     record {
-      but_gates = but_gates_then s w u v a.but_gates b.but_gates;
+      but_gates = but_gates_then a.but_gates b.but_gates;
       held = λ j lt. elim (cases_eq j gate) [
         | inl e ↦ ap (λ i. is_held v.now.words i) e ∙ b.set ∙ sym here ∙ ap then (sym e)
         | inr ne ↦ b.others j ne ∙ a.held j lt ∙ sym (others j ne)
@@ -134,18 +111,14 @@ pub sets_more : (kinds : Step → Bool) (p q r : PassState) (gates then : ℕ �
     → SetsGate kinds q gate held r → ((j : ℕ) → j ≢ gate → then j ≡ gates j) → then gate ≡ held
     → SetsGates kinds p then r
 sets_more kinds p q r gates then gate held a b others here =
-    reaches_after kinds kinds kinds (same_kinds kinds) (same_kinds kinds) p q r
-    (HasGates p.seat p.table.config.callers gates (world_of p))
-    (λ x. GateIsSet x.seat gate held (world_of x)) (HasGates p.seat p.table.config.callers then (world_of p)) [] a b
+    reaches_after (same_kinds kinds) (same_kinds kinds) (λ x. GateIsSet x.seat gate held (world_of x)) a b
     (λ v a b. gates_more p.seat p.table.config.callers gates then gate held (world_of p) _ v a b others here)
 
 -- the gates by other names
-pub sets_named : (kinds : Step → Bool) (p q : PassState) (gates then : ℕ → Bool) → SetsGates kinds p gates q
+pub sets_named : {kinds : Step → Bool} {p q : PassState} {gates : ℕ → Bool} (then : ℕ → Bool)
+    → SetsGates kinds p gates q
     → ((j : ℕ) → j < p.table.config.callers → gates j ≡ then j) → SetsGates kinds p then q
-sets_named kinds p q gates then a same =
-    reaches_so kinds p q (HasGates p.seat p.table.config.callers gates (world_of p))
-    (HasGates p.seat p.table.config.callers then (world_of p)) [] a
-    (λ x. record { but_gates = x.but_gates; held = λ j lt. x.held j lt ∙ same j lt })
+sets_named then a same = reaches_so a (λ x. record { but_gates = x.but_gates; held = λ j lt. x.held j lt ∙ same j lt })
 
 pub sets_first : (kinds : Step → Bool) (p : PassState) (gates : ℕ → Bool)
     → ((j : ℕ) → j < p.table.config.callers → is_held (now_of p).words j ≡ gates j) → SetsGates kinds p gates p
@@ -154,12 +127,15 @@ sets_first kinds p gates here =
     (record { but_gates = record { call = refl; holding = refl; steady = refl }; held = here })
 
 -- The answer of a try says whether the gate is held.
-pub tried : {T E : Type 0} (x : Result T E) (held : Bool) → OnOk x (held ≡ true) → OnErr x (held ≡ false)
+pub tried : {T E : Type 0} (x : Result T E) {held : Bool} → OnOk x (held ≡ true) → OnErr x (held ≡ false)
     → held ≡ is_ok x
-tried (Ok y) held ok err = ok
-tried (Err y) held ok err = err
+tried (Ok y) ok err = ok
+tried (Err y) ok err = err
 
 -- the gates as far as they are set
+
+pub caller_within : {t w : WordsState} {n end : ℕ} → t ≡ w → end ≡ w.config.callers → n < end → n < t.config.callers
+caller_within table all lt = grind arith
 
 none_below : (s : Seat) (j : ℕ) → held_to s 0 j ≡ false
 none_below s j = ap (λ b. b && not (is_number_of s j)) (le-ltb j 0 (omega arith))
@@ -174,16 +150,7 @@ pub opened_so_far : (s : Seat) (n j : ℕ) → j < n → held_from s n j ≡ fal
 opened_so_far s n j lt = ap (λ b. not b && not (is_number_of s j)) (lt-ltb j n lt)
 
 next_below : (n j : ℕ) → j ≢ n → nat_lt j (n + 1) ≡ nat_lt j n
-next_below n j ne = elim (cases_lt j n) [
-  | inl lt ↦ lt-ltb j (n + 1) (omega arith) ∙ sym (lt-ltb j n lt)
-  | inr le ↦ le-ltb j (n + 1) (le_less n j le ne) ∙ sym (le-ltb j n le)
-]
-  where
-    le_less : (n j : ℕ) → n ≤ j → j ≢ n → n + 1 ≤ j
-    le_less n j le ne = elim (cases_eq j n) [
-      | inl e ↦ absurd (ne e)
-      | inr other ↦ omega (arith, other)
-    ]
+next_below n j ne = grind (arith, cases_lt, lt-ltb, le-ltb)
 
 pub held_next : (s : Seat) (n j : ℕ) → j ≢ n → held_to s (n + 1) j ≡ held_to s n j
 held_next s n j ne = ap (λ b. b && not (is_number_of s j)) (next_below n j ne)
@@ -204,45 +171,34 @@ pub opens_none : (p : PassState)
 opens_none p held = sets_first is_settling p (held_from p.seat 0) (λ j lt. held j lt ∙ sym (all_from p.seat j))
 
 -- what the passes are after it
-pub set_acting : (kinds : Step → Bool) (p q : PassState) (gates : ℕ → Bool) → SetsGates kinds p gates q
-    → is_acting (call_of p).stage ≡ true
-    → is_acting (call_of q).stage ≡ true
-set_acting kinds p q gates a acts =
-    ap (λ (x : PassState). is_acting (call_of x).stage) a.same
-    ∙ ap (λ (f : Flight). is_acting f.stage) a.world.but_gates.call ∙ acts
+pub set_acting : {kinds : Step → Bool} {p q : PassState} {gates : ℕ → Bool} → SetsGates kinds p gates q
+    → is_acting (call_of p).stage ≡ true → is_acting (call_of q).stage ≡ true
+set_acting a acts = grind arith
 
-pub one_acting : (kinds : Step → Bool) (p q : PassState) (gate : ℕ) (held : Bool) → SetsGate kinds p gate held q
-    → is_acting (call_of p).stage ≡ true
-    → is_acting (call_of q).stage ≡ true
-one_acting kinds p q gate held a acts =
-    ap (λ (x : PassState). is_acting (call_of x).stage) a.same
-    ∙ ap (λ (f : Flight). is_acting f.stage) a.world.but_gates.call ∙ acts
+pub one_acting : {kinds : Step → Bool} {p q : PassState} {gate : ℕ} {held : Bool} → SetsGate kinds p gate held q
+    → is_acting (call_of p).stage ≡ true → is_acting (call_of q).stage ≡ true
+one_acting a acts = grind arith
 
-pub set_held : (kinds : Step → Bool) (p q : PassState) (gates : ℕ → Bool) → SetsGates kinds p gates q
+pub set_held : {kinds : Step → Bool} {p q : PassState} {gates : ℕ → Bool} → SetsGates kinds p gates q
     → (j : ℕ) → j < p.table.config.callers → is_held (now_of q).words j ≡ gates j
-set_held kinds p q gates a j lt = ap (λ (x : PassState). is_held (now_of x).words j) a.same ∙ a.world.held j lt
+set_held a j lt = ap (λ (x : PassState). is_held (now_of x).words j) a.same ∙ a.world.held j lt
 
-pub set_phase : (kinds : Step → Bool) (p q : PassState) (gates : ℕ → Bool) → SetsGates kinds p gates q
+pub set_phase : {kinds : Step → Bool} {p q : PassState} {gates : ℕ → Bool} → SetsGates kinds p gates q
     → IsOutOfStop (now_of p) → IsOutOfStop (now_of q)
-set_phase kinds p q gates a low =
-    out_of_stop (now_of p) (now_of q)
-    (ap (λ (x : PassState). phase_of (now_of x).words) a.same ∙ ap (λ (x : Steady). x.phase) a.world.but_gates.steady)
-    low
+set_phase a low = grind (arith, out_of_stop)
 
 -- What is asked of a pass is asked of the pass after it.
-pub one_there : (kinds : Step → Bool) (p q : PassState) (gate : ℕ) (held : Bool) → SetsGate kinds p gate held q
-    → (claim : PassState → Type 0)
-    → claim (seeing p q.seen) → claim q
-one_there kinds p q gate held a claim there = subst claim (sym a.same) there
+pub one_there : {kinds : Step → Bool} {p q : PassState} {gate : ℕ} {held : Bool} → SetsGate kinds p gate held q
+    → (claim : PassState → Type 0) → claim (seeing p q.seen) → claim q
+one_there a claim there = subst claim (sym a.same) there
 
-pub set_there : (kinds : Step → Bool) (p q : PassState) (gates : ℕ → Bool) → SetsGates kinds p gates q
-    → (claim : PassState → Type 0)
-    → claim (seeing p q.seen) → claim q
-set_there kinds p q gates a claim there = subst claim (sym a.same) there
+pub set_there : {kinds : Step → Bool} {p q : PassState} {gates : ℕ → Bool} → SetsGates kinds p gates q
+    → (claim : PassState → Type 0) → claim (seeing p q.seen) → claim q
+set_there a claim there = subst claim (sym a.same) there
 
-pub set_seat : (kinds : Step → Bool) (p q : PassState) (gates : ℕ → Bool) → SetsGates kinds p gates q
+pub set_seat : {kinds : Step → Bool} {p q : PassState} {gates : ℕ → Bool} → SetsGates kinds p gates q
     → ◌≡◌ {A = Seat} q.seat p.seat
-set_seat kinds p q gates a = ap (λ (x : PassState). x.seat) a.same
+set_seat a = ap (λ (x : PassState). x.seat) a.same
 
 pub none_yet_held : (s : Seat) (n : ℕ) → held_to s n n ≡ false
 none_yet_held s n = ap (λ b. b && not (is_number_of s n)) (le-ltb n n (omega arith))

@@ -1,46 +1,32 @@
 -- What the answers of the page map say of an object's place.
-use Rattle.std.proofs.{Common.add-one, Common.nat_eq, lemmas.List.Sums.count_by-le-length}
+use Rattle.std.proofs.{Common.add-one, lemmas.List.Sums.count_by-le-length}
 use Rattle.mk_laws.proofs.Vocabulary.{Block, Bool, Free, Header, Later, LeafBlock, LeafRun, List, None, Option, Page}
-use Rattle.mk_laws.proofs.Vocabulary.{Place, Run, Some, ℕ, ap, arith, block_header, cases_Bool, cases_eq, cells_of}
-use Rattle.mk_laws.proofs.Vocabulary.{cond-false, cond-true, false, header_of, if◌then◌else◌, inl, inr}
-use Rattle.mk_laws.proofs.Vocabulary.{is_resident_page, is_some, length, length-map, nat_lt, ne_eqb, none-some, not}
-use Rattle.mk_laws.proofs.Vocabulary.{or_else, refl, resident_pages, same_Some, sym, true, use_under, uses_of_pages}
-use Rattle.mk_laws.proofs.Vocabulary.{word_of, [], ◌&&◌, ◌+◌, ◌<◌, ◌==◌, ◌∙◌, ◌∷◌, ◌≡◌, ◌≢◌, ◌≤◌}
-use Rattle.mk_objects.proofs.Vocabulary.{option_and_then, option_map}
+use Rattle.mk_laws.proofs.Vocabulary.{Place, Run, Some, ℕ, ap, arith, block_header, cases_Bool, cells_of, cond-false}
+use Rattle.mk_laws.proofs.Vocabulary.{cond-true, false, header_of, inl, inr, is_some, length, length-map, ne_eqb}
+use Rattle.mk_laws.proofs.Vocabulary.{none-some, not, or_else, refl, resident_pages, same_Some, sym, true, use_under}
+use Rattle.mk_laws.proofs.Vocabulary.{uses_of_pages, word_of, [], ◌+◌, ◌<◌, ◌==◌, ◌∙◌, ◌∷◌, ◌≡◌, ◌≢◌, ◌≤◌}
+use Rattle.mk_objects.proofs.Vocabulary.{option_map}
 use Rattle.mk_geom.proofs.HeaderLemmas.{header_of-word_of, word_of-header_of}
-use Rattle.mk_geom.specs.PageUses.{Cells, carved, cells_taken, first_where, is_free_page, is_same_sort, small_place}
+use Rattle.mk_geom.specs.PageUses.{Cells, cells_taken, first_where, is_free_page, small_place}
 use Rattle.mk_geom.specs.PageWords.{bits_of, use_of_page}
 use Rattle.mk_books.proofs.FreeCellLemmas.{cells_taken_alike}
 use Rattle.mk_page_map.specs.{Laws.LowestBlockHasThePlace, Laws.free_cell_on, Members.has_free_cell, Members.page_at}
 
 -- The cells of a page under the header word of the blocks that are sought,
 
-pub cells_under_wanted : (h u class : ℕ) (leaf : Bool) → class < 8 → h ≡ word_of (block_header class leaf)
+pub cells_under_wanted : {h : ℕ} (u class : ℕ) (leaf : Bool) → class < 8 → h ≡ word_of (block_header class leaf)
     → cells_taken class leaf (use_under (header_of h) u) ≡ bits_of (cells_of class) u
-cells_under_wanted h u class false known is =
+cells_under_wanted {h} u class false known is =
     cells_taken_alike (use_under (header_of h) u) class class false false u
     (ap (λ x. use_under x u) (ap header_of is ∙ header_of-word_of (Block class) known)) refl refl
-cells_under_wanted h u class true known is =
+cells_under_wanted {h} u class true known is =
     cells_taken_alike (use_under (header_of h) u) class class true true u
     (ap (λ x. use_under x u) (ap header_of is ∙ header_of-word_of (LeafBlock class) known)) refl refl
 
 -- and those of another, which are none.
 other_cells : (class k : ℕ) (leaf sort : Bool) (cells : List Bool) → ((class ≡ k) → leaf ≡ sort → ⊥)
     → cells_taken class leaf (Cells k sort cells) ≡ []
-other_cells class k leaf sort cells differ = elim (cases_eq class k) [
-  | inl e ↦ by leaf sort (differ e)
-  | inr ne ↦ ap (λ b. if b && is_same_sort leaf sort then cells else []) (ne_eqb class k ne)
-]
-  where
-    none : (t : Bool) → (if t && false then cells else []) ≡ []
-    none true = refl
-    none false = refl
-
-    by : (a b : Bool) → (a ≡ b → ⊥) → (if nat_eq class k && is_same_sort a b then cells else []) ≡ []
-    by true true ne = absurd (ne refl)
-    by false false ne = absurd (ne refl)
-    by true false ne = none (nat_eq class k)
-    by false true ne = none (nat_eq class k)
+other_cells class k leaf sort cells differ = grind (arith, ne_eqb)
 
 pub cells_under_other : (h u class : ℕ) (leaf : Bool) → h ≢ word_of (block_header class leaf)
     → cells_taken class leaf (use_under (header_of h) u) ≡ []
@@ -76,15 +62,7 @@ taken_under_other h u some = by (header_of h) refl
 pub cells_of_block : (page : Page) (class : ℕ) (leaf : Bool) → class < 8
     → has_free_cell class leaf (use_of_page page) ≡ true
     → cells_taken class leaf (use_of_page page) ≡ bits_of (cells_of class) page.used
-cells_of_block page class leaf known free = elim (cases_eq page.header (word_of (block_header class leaf))) [
-  | inl is ↦ cells_under_wanted page.header page.used class leaf known is
-  | inr other ↦
-      let none =
-      ap (λ cells. is_some (first_where not cells)) (cells_under_other page.header page.used class leaf other)
-      in
-      let clash : true ≡ false = sym free ∙ none in
-      cc
-]
+cells_of_block page class leaf known free = grind (arith, cells_under_wanted, cells_under_other)
 
 -- A found block: where it stands, and that it has a free cell.
 pub record IsBlock (pages : List Page) (class : ℕ) (leaf : Bool) (page : ℕ) : Type 0 where
@@ -118,26 +96,16 @@ block_found (first ∷ pages) class leaf page is = elim (cases_Bool (has_free_ce
 ]
 
 -- its lowest free cell, by its used word
-pub cell_told : (pages : List Page) (page class used : ℕ) (leaf : Bool) (found : Option ℕ) → class < 8
-    → used ≡ (page_at pages page).used → has_free_cell class leaf (use_of_page (page_at pages page)) ≡ true
-    → found ≡ first_where not (bits_of (cells_of class) used)
-    → option_map (λ index. record { page = page; index = index; carve = false }) found
-    ≡ free_cell_on class leaf pages page
-cell_told pages page class used leaf found known is free by_word =
-    ap (option_map (λ index. record { page = page; index = index; carve = false }))
-    (by_word ∙ ap (λ n. first_where not (bits_of (cells_of class) n)) is
-    ∙ ap (first_where not) (sym (cells_of_block (page_at pages page) class leaf known free)))
+pub cell_told : (pages : List Page) (page class : ℕ) {used : ℕ} (leaf : Bool) {found : Option ℕ} → class < 8 → used
+    ≡ (page_at pages page).used → has_free_cell class leaf (use_of_page (page_at pages page)) ≡ true → found
+    ≡ first_where not (bits_of (cells_of class) used) → option_map
+    (λ index. record { page = page; index = index; carve = false }) found ≡ free_cell_on class leaf pages page
+cell_told pages page class leaf known is free by_word = grind (arith, cells_of_block)
 
 -- Such a page has a header.
 pub block_has_header : (page : Page) (class : ℕ) (leaf : Bool) → has_free_cell class leaf (use_of_page page) ≡ true
     → (page.header == 0) ≡ false
-block_has_header page class leaf free = ne_eqb page.header 0 (λ zero. none zero)
-  where
-    none : page.header ≢ 0
-    none zero =
-        let clash : false ≡ true = ap (λ h. has_free_cell class leaf (use_under (header_of h) page.used)) (sym zero)
-        ∙ free in
-        cc
+block_has_header page class leaf free = grind (arith, ne_eqb)
 
 -- It has one.
 
@@ -169,19 +137,10 @@ or_first None other some = cc
 pub place_in_block : LowestBlockHasThePlace → (limit class page : ℕ) (leaf : Bool) (pages : List Page)
     → first_where (has_free_cell class leaf) (uses_of_pages pages) ≡ Some page
     → free_cell_on class leaf pages page ≡ small_place limit class leaf (uses_of_pages pages)
-place_in_block law limit class page leaf pages found =
-    let carve : Option Place = if nat_lt (resident_pages (uses_of_pages pages)) limit
-    then option_map carved (first_where is_free_page (uses_of_pages pages)) else None in
-    sym (or_first (free_cell_on class leaf pages page) carve
-    (mapped_some (λ index. record { page = page; index = index; carve = false })
-    (first_where not (cells_taken class leaf (use_of_page (page_at pages page))))
-    ∙ (block_found pages class leaf page found).free))
-    ∙ ap (λ block. or_else (option_and_then (free_cell_on class leaf pages) block) carve) (sym found)
-    ∙ sym (law limit class leaf pages)
+place_in_block law limit class page leaf pages found = grind (arith, or_first, mapped_some, block_found)
 
 -- no more pages are resident than there are
 pub resident_few : (pages : List Page) → resident_pages (uses_of_pages pages) ≤ length pages
 resident_few pages =
-    let few : resident_pages (uses_of_pages pages) ≤ length (uses_of_pages pages) =
-    count_by-le-length is_resident_page (uses_of_pages pages) in
+    let few : resident_pages (uses_of_pages pages) ≤ length (uses_of_pages pages) = grind (arith, count_by-le-length) in
     omega (arith, few, length-map pages use_of_page)

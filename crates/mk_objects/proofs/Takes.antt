@@ -1,28 +1,26 @@
 -- The turn's holder takes the cell of its New's place, grants the object and counts it.
 use Rattle.std.proofs.{Common.bit_and, Math.Nat.div-le_self, lemmas.Nat.or_disjoint, lemmas.Nat.Bits.bit_at_and}
-use Rattle.mk_laws.proofs.Vocabulary.{Answer, AreOfPages, Caller, Config, Flight, IsHistory, IsSettled, List, Object}
-use Rattle.mk_laws.proofs.Vocabulary.{Place, PlacedAllocation, Seat, Some, Steady, Step, Tally, World, ℕ, address_of}
-use Rattle.mk_laws.proofs.Vocabulary.{answer_decided, ap, arith, base_made, bit_at, bit_or, caller_number, cases_Bool}
-use Rattle.mk_laws.proofs.Vocabulary.{cases_eq, cells_made, cells_of, class_made, class_words_of, cond-false, cond-true}
-use Rattle.mk_laws.proofs.Vocabulary.{d_of, entry_of, false, flight_of, granted_base_is, granted_object, has_bit}
-use Rattle.mk_laws.proofs.Vocabulary.{has_operands, header_at, inl, inr, is_small_object, is_undecided_new}
-use Rattle.mk_laws.proofs.Vocabulary.{is_used_once, left, length, ltb-true, nat_lt, object_made, phase_of, refl}
-use Rattle.mk_laws.proofs.Vocabulary.{seat_exists, storage_words, subst, sym, true, used_at, words_made, [], ◌%◌, ◌*◌}
-use Rattle.mk_laws.proofs.Vocabulary.{◌++◌, ◌+◌, ◌<◌, ◌==◌, ◌^◌, ◌∙◌, ◌∷◌, ◌≡◌, ◌≤◌}
-use Rattle.mk_objects.proofs.Vocabulary.{Acts, ComesTo, GoesTo, IsAdmittedBehind, IsCellReady, IsEnabledTo, IsGrantedAt}
-use Rattle.mk_objects.proofs.Vocabulary.{IsOutOfStop, IsUnplaced, Known, MayTake, PassState, call_of, entry_for}
-use Rattle.mk_objects.proofs.Vocabulary.{held_by_allocations, is_acting, is_placing, known_left, min, now_of}
-use Rattle.mk_objects.proofs.Vocabulary.{object_at_place, object_for, world_of}
+use Rattle.mk_laws.proofs.Vocabulary.{Answer, AreOfPages, Caller, Config, Flight, IsHistory, IsSettled, Object, Place}
+use Rattle.mk_laws.proofs.Vocabulary.{Seat, Some, Steady, Step, Tally, World, ℕ, address_of, answer_decided, ap, arith}
+use Rattle.mk_laws.proofs.Vocabulary.{base_made, bit_or, caller_number, cells_made, cond-false, cond-true, d_of}
+use Rattle.mk_laws.proofs.Vocabulary.{entry_of, false, flight_of, granted_base_is, granted_object, has_bit}
+use Rattle.mk_laws.proofs.Vocabulary.{has_operands, is_undecided_new, left, length, ltb-true, phase_of, refl}
+use Rattle.mk_laws.proofs.Vocabulary.{storage_words, subst, sym, true, used_at, words_made, [], ◌%◌, ◌*◌, ◌+◌, ◌<◌, ◌^◌}
+use Rattle.mk_laws.proofs.Vocabulary.{◌∙◌, ◌≡◌, ◌≤◌}
+use Rattle.mk_objects.proofs.Vocabulary.{Acts, ComesTo, GoesTo, IsCellReady, IsEnabledTo, IsGrantedAt, IsOutOfStop}
+use Rattle.mk_objects.proofs.Vocabulary.{IsUnplaced, Known, MayTake, PassState, call_of, entry_for, held_by_allocations}
+use Rattle.mk_objects.proofs.Vocabulary.{is_acting, is_placing, known_left, now_of, object_at_place, object_for}
+use Rattle.mk_objects.proofs.Vocabulary.{world_of}
 use Rattle.mk_core.proofs.WordBits.{bit_for_small, bit_is_none, bit_of_power, zero_from_bits}
 use Rattle.mk_core.specs.Bits.{bit_for}
 use Rattle.mk_laws.proofs.Tracked.{unplaced_settles}
-use Rattle.mk_objects.proofs.AdmittedNews.{grant_admitted, register_small}
 use Rattle.mk_objects.proofs.Granting.{granted_behind, granted_left, tallied_behind}
 use Rattle.mk_objects.proofs.MayAct.{IsActing, may_grant, may_take, may_tally, off_four}
 use Rattle.mk_objects.proofs.Reaching.{IsCallers, reaches_on, reaches_still}
 use Rattle.mk_objects.proofs.Serves.{KnowsPlace, block_of, free_pages_of, out_of_stop, place_unused, served_acting}
 use Rattle.mk_objects.proofs.Serving.{IsTakenAt, ready_left, ready_takes, taken_behind, taken_left}
-use Rattle.mk_objects.proofs.{HeldMore.held_is_little, HeldMore.held_one_more, Unchanged.acting_has_call}
+use Rattle.mk_objects.proofs.{AdmittedNews.grant_admitted, AdmittedNews.register_small, HeldMore.held_is_little}
+use Rattle.mk_objects.proofs.{HeldMore.held_one_more, Looks.acts_there, Unchanged.acting_has_call}
 use Rattle.mk_objects.specs.Placing.{HeldIsExact}
 use Rattle.mk_words.specs.{Steps.IsAdmittedTo, TurnSteps.granted_address}
 
@@ -34,54 +32,25 @@ one_bit_more n k lt clear =
     ∙ or_disjoint n (2 ^ k) (zero_from_bits (bit_and n (2 ^ k)) none)
   where
     none : (i : ℕ) → has_bit (bit_and n (2 ^ k)) i ≡ false
-    none i = elim (cases_Bool (has_bit (2 ^ k) i)) [
-      | inl here ↦
-          let zero : bit_at n i ≡ 0 = ap (λ j. bit_at n j) (bit_of_power k i here) ∙ bit_is_none n k clear in
-          ap (λ m. m == 1) (bit_at_and n (2 ^ k) i
-          ∙ (let m : min (bit_at n i) (bit_at (2 ^ k) i) ≡ 0 = omega arith in m))
-      | inr not_here ↦
-          let zero : bit_at (2 ^ k) i ≡ 0 = bit_is_none (2 ^ k) i not_here in
-          ap (λ m. m == 1) (bit_at_and n (2 ^ k) i
-          ∙ (let m : min (bit_at n i) (bit_at (2 ^ k) i) ≡ 0 = omega arith in m))
-    ]
+    none i = grind (arith, bit_of_power, bit_is_none, bit_at_and)
 
 few_cells : (o : Object) → cells_made o ≤ 64
-few_cells o = elim (cases_Bool (is_small_object o)) [
-  | inl small ↦
-      let is : cells_made o ≡ cells_of (class_made o) =
-      cond-true (is_small_object o) (cells_of (class_made o)) 1 small in
-      let most : cells_of (class_made o) ≤ 64 = div-le_self 64 (class_words_of (class_made o)) in omega arith
-  | inr large ↦ let is : cells_made o ≡ 1 =
-      cond-false (is_small_object o) (cells_of (class_made o)) 1 large in omega arith
-]
+few_cells o = grind (arith, cond-true, div-le_self, cond-false)
 
-pub small_index : (p : PassState) (place : Place) → KnowsPlace p place → place.index < 64
-small_index p place k = elim (cases_eq (header_at (now_of p).words place.page) 0) [
-  | inl z ↦ let i = (free_pages_of p place k z).index in omega arith
-  | inr some ↦ let i = (block_of p place k some).index in let few = few_cells (object_for p) in omega arith
-]
+pub small_index : {p : PassState} {place : Place} → KnowsPlace p place → place.index < 64
+small_index k = grind (arith, free_pages_of, block_of, few_cells)
 
 -- The call is settled before it is served, so few words are held.
 pub unplaced_settled : (p : PassState) → IsActing p.table.config (now_of p) p.seat → IsCallers p → IsUnplaced p
     → IsHistory p.table.config p.seen
     → IsSettled (world_of p)
-unplaced_settled p at caller unplaced h = settled p.seat caller.number caller.is at.there unplaced.new
-  where
-    settled : (s : Seat) (j : ℕ) → s ≡ Caller j → seat_exists p.table.config s ≡ true
-        → is_undecided_new (flight_of (now_of p) s) ≡ true → IsSettled (world_of p)
-    settled s j is there new =
-        let here : nat_lt j p.table.config.callers ≡ true = ap (λ (x : Seat). seat_exists p.table.config x) (sym is)
-        ∙ there in
-        unplaced_settles p.table.config p.seen j h (ltb-true j p.table.config.callers here)
-        (ap (λ (x : Seat). is_undecided_new (flight_of (now_of p) x)) (sym is) ∙ new)
-        (off_four (now_of p) unplaced.phase) unplaced.placing
+unplaced_settled p at caller unplaced h = grind (arith, unplaced_settles, ltb-true, off_four)
 
-pub few_held : (p : PassState) (place : Place) → KnowsPlace p place → GoesTo p place → IsHistory p.table.config p.seen
+pub few_held : {p : PassState} {place : Place} → KnowsPlace p place → GoesTo p place → IsHistory p.table.config p.seen
     → held_by_allocations p.table.config (world_of p).allocations ≤ 64 * p.table.config.pages
-few_held p place k goes h =
-    held_is_little p.table.config p.seen h (unplaced_settled p k.acting k.caller goes.unplaced h)
+few_held {p} k goes h = held_is_little p.table.config p.seen h (unplaced_settled p k.acting k.caller goes.unplaced h)
 
-module _ (p : PassState) (place : Place) (goes : GoesTo p place) (k : KnowsPlace p place) where
+module _ {p : PassState} {place : Place} (goes : GoesTo p place) (k : KnowsPlace p place) where
   abbrev pub c : Config
   c = p.table.config
 
@@ -92,64 +61,43 @@ module _ (p : PassState) (place : Place) (goes : GoesTo p place) (k : KnowsPlace
   abbrev pub HasTaken : PassState → Type 0
   HasTaken q = ComesTo is_placing p (IsTakenAt p.table.config p.seat (object_for p) place (world_of p)) [] q
 
-  pub used_may : (q : PassState) (used : ℕ) → MayTake p place q → used_at (now_of p).words place.page ≡ used
+  pub used_may : {q : PassState} {used : ℕ} → MayTake p place q → used_at (now_of p).words place.page ≡ used
       → IsEnabledTo q (Step.Used place.page (used + 2 ^ place.index))
-  used_may q used reached known =
+  used_may {q} {used} reached known =
       let w : World = left c q.seen in
-      let unused : has_bit used place.index ≡ false = sym (ap (λ n. has_bit n place.index) known)
-      ∙ place_unused p place k in
+      let unused : has_bit used place.index ≡ false = sym (ap (λ n. has_bit n place.index) known) ∙ place_unused k in
       subst (λ (x : PassState). IsEnabledTo x (Step.Used place.page (used + 2 ^ place.index))) (sym reached.same)
-      (may_take c w.now p.seat (served_acting p place w k reached.world.serving) place.page (used + 2 ^ place.index)
-      k.within
+      (may_take (served_acting k reached.world.serving) place.page (used + 2 ^ place.index) k.within
       (low_still w (ap (λ (x : Steady). x.phase) reached.world.serving.steady)) reached.world.serving.once
-      (ready_takes c p.seat (object_for p) place (world_of p) w used reached.world known unused))
+      (ready_takes reached.world known unused))
 
-  pub used_on : (q r : PassState) (value : ℕ) → MayTake p place q → Acts q (Step.Used place.page value) r
-      → HasTaken r
-  used_on q r value reached a =
-      reaches_still is_placing p q r (IsCellReady c p.seat (object_for p) place (world_of p))
-      (IsTakenAt c p.seat (object_for p) place (world_of p)) []
-      (Step.Used place.page value) reached a refl refl k.caller refl
+  pub used_on : {q r : PassState} {value : ℕ} → MayTake p place q → Acts q (Step.Used place.page value) r → HasTaken r
+  used_on {value} reached a =
+      reaches_still (IsCellReady c p.seat (object_for p) place (world_of p))
+      (IsTakenAt c p.seat (object_for p) place (world_of p)) reached a refl refl k.caller refl
       (λ w v here kept known pages.
-      let on = ready_left c p.seat (object_for p) place (world_of p) w v here kept in
-      let call = acting_has_call c v.now p.seat known.orderly.flights (served_acting p place v k on.serving) in
-      taken_behind c p.seat (object_for p) place (world_of p) v place.page value on.serving call
-      (low_still v (ap (λ (x : Steady). x.phase) on.serving.steady)))
+      let on = ready_left here kept in
+      let call = acting_has_call known.orderly.flights (served_acting k on.serving) in
+      taken_behind place.page value on.serving call (low_still v (ap (λ (x : Steady). x.phase) on.serving.steady)))
 
   -- `grant`
-  taken_acting : (v : World) → IsTakenAt c p.seat (object_for p) place (world_of p) v → IsActing c v.now p.seat
-  taken_acting v at = record {
-    there = k.acting.there;
-    acts = ap (λ (f : Flight). is_acting f.stage) at.call
-        ∙ k.acting.acts;
-  }
+  taken_acting : {v : World} → IsTakenAt c p.seat (object_for p) place (world_of p) v → IsActing c v.now p.seat
+  taken_acting {v} at = acts_there (world_of p) v k.acting at.call
 
-  taken_new : (v : World) → IsTakenAt c p.seat (object_for p) place (world_of p) v
+  taken_new : {v : World} → IsTakenAt c p.seat (object_for p) place (world_of p) v
       → is_undecided_new (flight_of v.now p.seat) ≡ true
-  taken_new v at = ap (λ (f : Flight). is_undecided_new f) at.call ∙ goes.unplaced.new
+  taken_new at = ap (λ (f : Flight). is_undecided_new f) at.call ∙ goes.unplaced.new
 
-  pub grant_may : (q : PassState) → HasTaken q → IsEnabledTo q Step.Grant
-  grant_may q reached =
-      let w : World = left c q.seen in
-      subst (λ (x : PassState). IsEnabledTo x Step.Grant) (sym reached.same)
-      (may_grant c w.now p.seat (taken_acting w reached.world) (taken_new w reached.world)
-      (low_still w (ap (λ (x : Steady). x.phase) reached.world.steady)) (ap is_used_once reached.world.placing))
+  pub grant_may : {q : PassState} → HasTaken q → IsEnabledTo q Step.Grant
+  grant_may reached = grind (arith, may_grant, taken_acting, taken_new, low_still)
 
   -- the register that it stores to, and the address
-  pub grant_register : (q : PassState) → HasTaken q → d_of (call_of q).op ≡ d_of (call_of p).op
-  grant_register q reached =
-      subst (λ (x : PassState). d_of (call_of x).op ≡ d_of (call_of p).op) (sym reached.same)
-      (ap (λ (f : Flight). d_of f.op) reached.world.call)
+  pub grant_register : {q : PassState} → HasTaken q → d_of (call_of q).op ≡ d_of (call_of p).op
+  grant_register reached = grind arith
 
-  pub grant_address : (q : PassState) → HasTaken q
+  pub grant_address : {q : PassState} → HasTaken q
       → granted_address q ≡ address_of (base_made (object_for p) place) % 2 ^ 64
-  grant_address q reached =
-      let w : World = left c q.seen in
-      subst (λ (x : PassState). granted_address x ≡ address_of (base_made (object_for p) place) % 2 ^ 64)
-      (sym reached.same)
-      (ap (λ n. address_of n % 2 ^ 64)
-      (granted_base_is c (flight_of w.now p.seat) w.now.seats.holding.placing place reached.world.placing
-      ∙ ap (λ (f : Flight). base_made (object_made c f.op) place) reached.world.call))
+  grant_address reached = grind (arith, granted_base_is)
 
   operands : IsHistory c p.seen → has_operands c (call_of p).op ≡ true
   operands h = by p.seat k.caller.number k.caller.is
@@ -158,112 +106,62 @@ module _ (p : PassState) (place : Place) (goes : GoesTo p place) (k : KnowsPlace
       by s j is = subst (λ (x : Seat). has_operands c (flight_of (now_of p) x).op ≡ true) (sym is)
           ((known_left c p.seen h.within_limits h.enabled).operands j)
 
-  pub grant_admits : (q : PassState) → HasTaken q → IsHistory q.table.config q.seen → IsHistory c p.seen
+  pub grant_admits : {q : PassState} → HasTaken q → IsHistory q.table.config q.seen → IsHistory c p.seen
       → IsAdmittedTo q Step.Grant
-  grant_admits q reached history h =
-      let w : World = left c q.seen in
-      let here : IsHistory c q.seen = subst (λ (x : PassState). IsHistory x.table.config q.seen) reached.same history in
-      subst (λ (x : PassState). IsAdmittedTo x Step.Grant) (sym reached.same)
-      (by p.seat k.caller.is k.acting.there (taken_new w reached.world)
-      (ap (λ (f : Flight). has_operands c f.op) reached.world.call ∙ operands h) here)
-    where
-      by : (s : Seat) → s ≡ Caller k.caller.number → seat_exists c s ≡ true
-          → is_undecided_new (flight_of (left c q.seen).now s) ≡ true
-          → has_operands c (flight_of (left c q.seen).now s).op ≡ true → IsHistory c q.seen
-          → IsAdmittedBehind c q.seen (record { seat = s; step = Step.Grant })
-      by s is there new op here =
-          subst
-          (λ (x : Seat). seat_exists c x ≡ true → is_undecided_new (flight_of (left c q.seen).now x) ≡ true
-          → has_operands c (flight_of (left c q.seen).now x).op ≡ true
-          → IsAdmittedBehind c q.seen (record { seat = x; step = Step.Grant }))
-          (sym is)
-          (λ t n o. grant_admitted c q.seen k.caller.number here (ltb-true k.caller.number c.callers t) n o)
-          there new op
+  grant_admits reached history h = grind (arith, taken_new, operands, grant_admitted, ltb-true)
 
   abbrev pub HasGranted : PassState → Type 0
   HasGranted q = ComesTo is_placing p (IsGrantedAt p.table.config p.seat place (world_of p)) (entry_for p Answer.Done) q
 
-  grant_decides : (v : World) (s : Seat) (j : ℕ) → s ≡ Caller j
+  grant_decides : (v : World) {s : Seat} (j : ℕ) → s ≡ Caller j
       → answer_decided c v.now (record { seat = s; step = Step.Grant }) ≡ Some Answer.Done
-  grant_decides v s j is = ap (λ (x : Seat). answer_decided c v.now (record { seat = x; step = Step.Grant })) is
+  grant_decides v j is = ap (λ (x : Seat). answer_decided c v.now (record { seat = x; step = Step.Grant })) is
 
-  pub grant_on : (q r : PassState) → HasTaken q → Acts q Step.Grant r → IsHistory c p.seen
-      → HasGranted r
-  grant_on q r reached a h =
-      reaches_on is_placing p q r (IsTakenAt c p.seat (object_for p) place (world_of p))
-      (IsGrantedAt c p.seat place (world_of p)) []
-      (entry_for p Answer.Done) Step.Grant reached a refl refl k.caller
-      (λ w v here kept known pages.
-      let on = taken_left c p.seat (object_for p) place (world_of p) w v here kept in
-      let call = acting_has_call c v.now p.seat known.orderly.flights (taken_acting v on) in
+  pub grant_on : {q r : PassState} → HasTaken q → Acts q Step.Grant r → IsHistory c p.seen → HasGranted r
+  grant_on reached a h =
+      reaches_on (IsTakenAt c p.seat (object_for p) place (world_of p)) (IsGrantedAt c p.seat place (world_of p))
+      reached a refl refl k.caller (λ w v here kept known pages.
+      let on = taken_left here kept in
+      let call = acting_has_call known.orderly.flights (taken_acting on) in
       record {
-        world = granted_behind c p.seat (object_for p) place (world_of p) v on call (λ j is. room v j is known pages);
+        world = granted_behind on call (λ j is. room v j is known pages);
         answer = Some Answer.Done;
-        decides = grant_decides v p.seat k.caller.number k.caller.is;
+        decides = grant_decides v k.caller.number k.caller.is;
         no_full = refl;
-        entry = λ j is.
-            ap (λ (f : Flight). entry_of j f.op (Some Answer.Done)) on.call
+        entry = λ j is. ap (λ (f : Flight). entry_of j f.op (Some Answer.Done)) on.call
             ∙ ap (λ n. entry_of n (call_of p).op (Some Answer.Done)) (sym (ap (λ (x : Seat). caller_number x) is));
       })
     where
       room : (v : World) (j : ℕ) → p.seat ≡ Caller j → Known c v.now → AreOfPages c.pages v.now.words
           → 8 * j + d_of (call_of p).op < length v.now.words.registers
-      room v j is known pages =
-          let here : nat_lt j c.callers ≡ true = ap (λ (x : Seat). seat_exists c x) (sym is) ∙ k.acting.there in
-          let lt = ltb-true j c.callers here in
-          let small = register_small c (call_of p) goes.unplaced.new (operands h) in
-          let most = known.small in
-          let many = pages.registers in
-          omega arith
+      room v j is known pages = grind (arith, ltb-true, register_small, operands)
 
   -- `tally`
-  granted_acting : (v : World) → IsGrantedAt c p.seat place (world_of p) v → IsActing c v.now p.seat
-  granted_acting v at = record { there = k.acting.there; acts = ap (λ (f : Flight). is_acting f.stage) at.call }
+  granted_acting : {v : World} → IsGrantedAt c p.seat place (world_of p) v → IsActing c v.now p.seat
+  granted_acting at = record { there = k.acting.there; acts = ap (λ (f : Flight). is_acting f.stage) at.call }
 
-  pub tally_may : (q : PassState) (n : ℕ) → HasGranted q → IsEnabledTo q (Step.Tally Tally.Held n)
-  tally_may q n reached =
-      let w : World = left c q.seen in
-      subst (λ (x : PassState). IsEnabledTo x (Step.Tally Tally.Held n)) (sym reached.same)
-      (may_tally c w.now p.seat (granted_acting w reached.world) Tally.Held n)
+  pub tally_may : {q : PassState} (n : ℕ) → HasGranted q → IsEnabledTo q (Step.Tally Tally.Held n)
+  tally_may n reached = grind (arith, may_tally, granted_acting)
 
   abbrev pub HasCounted : ℕ → PassState → Type 0
   HasCounted n q = ComesTo is_placing p (λ w. IsGrantedAt p.table.config p.seat place (world_of p) w ×
       (w.now.words.held ≡ n)) (entry_for p Answer.Done) q
 
-  pub tally_on : (q r : PassState) (n : ℕ) → HasGranted q → Acts q (Step.Tally Tally.Held n) r
+  pub tally_on : {q r : PassState} {n : ℕ} → HasGranted q → Acts q (Step.Tally Tally.Held n) r
       → IsHistory c p.seen → HasCounted n r
-  tally_on q r n reached a h =
-      reaches_still is_placing p q r (IsGrantedAt c p.seat place (world_of p))
-      (λ w. IsGrantedAt c p.seat place (world_of p) w × (w.now.words.held ≡ n))
-      (entry_for p Answer.Done) (Step.Tally Tally.Held n) reached a refl refl k.caller refl
-      (λ w v here kept known pages.
-      let on = granted_left c p.seat place (world_of p) w v
-      (register_small c (call_of p) goes.unplaced.new (operands h)) here kept in
-      let call = acting_has_call c v.now p.seat known.orderly.flights (granted_acting v on) in
-      (tallied_behind c p.seat place (world_of p) v n on call, refl))
+  tally_on {n} reached a h =
+      reaches_still (IsGrantedAt c p.seat place (world_of p)) (λ w. IsGrantedAt c p.seat place (world_of p) w
+      × (w.now.words.held ≡ n)) reached a refl refl k.caller refl (λ w v here kept known pages.
+      let on = granted_left (register_small c (call_of p) goes.unplaced.new (operands h)) here kept in
+      let call = acting_has_call known.orderly.flights (granted_acting on) in
+      (tallied_behind n on call, refl))
 
-  pub counted : (r : PassState) (n : ℕ) → HasCounted n r → HasGranted r
-  counted r n reached =
-      record {
-        same = reached.same;
-        does = reached.does;
-        calls = reached.calls;
-        world = reached.world.0;
-        counts = reached.counts;
-      }
+  pub counted : {r : PassState} {n : ℕ} → HasCounted n r → HasGranted r
+  counted reached = grind arith
 
   object_words : storage_words c (object_at_place c (call_of p) place) ≡ words_made (object_for p)
   object_words = ap (λ (o : Object). words_made o) (granted_object c (now_of p) (call_of p) goes.unplaced.new)
 
-  pub counted_held : (r : PassState) (held size : ℕ) → held ≡ held_by_allocations c (world_of p).allocations
-      → size ≡ words_made (object_for p)
-      → HasCounted (held + size) r → HeldIsExact r
-  counted_held r held size before words reached =
-      let w : World = left c r.seen in
-      let xs : w.allocations ≡ (world_of p).allocations ++ object_at_place c (call_of p) place ∷ [] = ap
-      (λ (x : Steady). x.allocations) reached.world.0.steady in
-      subst (λ (x : PassState). HeldIsExact x) (sym reached.same)
-      (reached.world.1 ∙ ap (λ n. n + size) before
-      ∙ ap (λ n. held_by_allocations c (world_of p).allocations + n) (words ∙ sym object_words)
-      ∙ sym (held_one_more c (world_of p).allocations (object_at_place c (call_of p) place) refl refl)
-      ∙ ap (λ (ys : List PlacedAllocation). held_by_allocations c ys) (sym xs))
+  pub counted_held : {r : PassState} {held size : ℕ} → held ≡ held_by_allocations c (world_of p).allocations → size
+      ≡ words_made (object_for p) → HasCounted (held + size) r → HeldIsExact r
+  counted_held before words reached = grind (arith, object_words, held_one_more)

@@ -37,14 +37,13 @@ module _ (p : PassState) (kinds : Step → Bool) (stays : (x : Step) → kinds x
   abbrev seeing : List Event → PassState
   seeing es = record p { seats = p.seat ∷ []; seen = es }
 
-  holds_more : (es : List Event) (e : Event) → IsHistory c (es ++ e ∷ []) → Holds c (left c es).now p.seat
-      → ComesBy p.seat kinds e
-      → Holds c (left c (es ++ e ∷ [])).now p.seat
+  holds_more : (es : List Event) {e : Event} → IsHistory c (es ++ e ∷ []) → Holds c (left c es).now p.seat
+      → ComesBy p.seat kinds e → Holds c (left c (es ++ e ∷ [])).now p.seat
   unfolding AreOfOthers
-  holds_more es e h holds (Another other) =
+  holds_more es {e} h holds (Another other) =
       let before = earlier_part_is_history c es (e ∷ []) h in
       ((others_leave c es (e ∷ []) p.seat before.within_limits h.enabled (other, tt)).own.holding holds).0
-  holds_more es e h holds (Own same of_kind) =
+  holds_more es {e} h holds (Own same of_kind) =
       let it : event_of p e.step ≡ e = ap (λ (s : Seat). record { seat = s; step = e.step }) (sym same) in
       let makes : Makes (seeing es) e.step (seeing (es ++ event_of p e.step ∷ [])) =
       record {
@@ -57,8 +56,7 @@ module _ (p : PassState) (kinds : Step → Bool) (stays : (x : Step) → kinds x
         };
       } in
       subst (λ (x : Event). Holds c (left c (es ++ x ∷ [])).now p.seat) it
-      (still_turn (seeing es) e.step (seeing (es ++ event_of p e.step ∷ [])) makes
-      (op_for p.seat (call_of (seeing es)))
+      (still_turn (seeing es) e.step (seeing (es ++ event_of p e.step ∷ [])) makes (op_for p.seat (call_of (seeing es)))
       (stays e.step of_kind) (record { holds = holds; op = refl })).holds
 
   comes_by : (e : Event) → (is_same_seat p.seat e.seat ≡ true → kinds e.step ≡ true) → ComesBy p.seat kinds e
@@ -84,12 +82,12 @@ module _ (p : PassState) (kinds : Step → Bool) (stays : (x : Step) → kinds x
       let rest : are_of kinds (own_from c p.seat (left c (es ++ e ∷ [])) more) ≡ true =
       ap (λ (w : World). are_of kinds (own_from c p.seat w more)) (left_more c (first_world c) es e) ∙ kinds_of.1 in
       subst (λ (xs : List Event). claim xs) split
-      (along (es ++ e ∷ []) more whole (holds_more es e first holds comes) rest (kept es e first holds comes there))
+      (along (es ++ e ∷ []) more whole (holds_more es first holds comes) rest (kept es e first holds comes there))
 
   -- from what the pass had seen to what it has seen now
-  pub along_turn : (q : PassState) → Does kinds p q → IsHistory q.table.config q.seen → Holds c (now_of p) p.seat
+  pub along_turn : {q : PassState} → Does kinds p q → IsHistory q.table.config q.seen → Holds c (now_of p) p.seat
       → claim p.seen → claim q.seen
-  along_turn q d h holds there =
+  along_turn d h holds there =
       subst (λ (x : PassState). claim x.seen) (sym d.is)
       (along p.seen d.more (subst (λ (x : PassState). IsHistory x.table.config x.seen) d.is h) holds d.of_kinds there)
 

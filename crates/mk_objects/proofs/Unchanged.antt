@@ -1,8 +1,9 @@
 -- What stays as it was: after looks, and one part after the other.
-use Rattle.mk_laws.proofs.Vocabulary.{Caller, Config, Host, Marker, Moment, Seat, Step, Word, World, ℕ, at_rest}
-use Rattle.mk_laws.proofs.Vocabulary.{flight_of, found, get_or-set_same, length, ltb-true, progress, refl, seat_exists}
-use Rattle.mk_laws.proofs.Vocabulary.{subst, sym, true, world_behind, ◌<◌, ◌∙◌, ◌≡◌}
-use Rattle.mk_objects.proofs.Vocabulary.{IsAsLeft, is_acting, is_steady_word}
+use Rattle.mk_laws.proofs.Vocabulary.{Caller, Config, Host, Marker, Moment, OnlyGrow, Seat, Step, Word, Words, World, ℕ}
+use Rattle.mk_laws.proofs.Vocabulary.{ap, at_rest, flight_of, found, get_or-set_same, is_held, length, ltb-true}
+use Rattle.mk_laws.proofs.Vocabulary.{progress, refl, register_word, seat_exists, subst, sym, true, world_behind, ◌<◌}
+use Rattle.mk_laws.proofs.Vocabulary.{◌∙◌, ◌≡◌}
+use Rattle.mk_objects.proofs.Vocabulary.{IsAsLeft, is_acting, is_steady_word, steady_of}
 use Rattle.mk_core.specs.Effects.{moment_behind}
 use Rattle.mk_laws.proofs.Growth.{grows_joined, grows_same}
 use Rattle.mk_objects.proofs.MayAct.{IsActing}
@@ -17,8 +18,8 @@ left_same s w = record {
   gates = λ j. refl;
 }
 
-pub left_joined : (s : Seat) (w u v : World) → IsAsLeft s w u → IsAsLeft s u v → IsAsLeft s w v
-left_joined s w u v a b =
+pub left_joined : {s : Seat} {w u v : World} → IsAsLeft s w u → IsAsLeft s u v → IsAsLeft s w v
+left_joined {w} {u} {v} a b =
     record {
       call = b.call ∙ a.call;
       holding = b.holding ∙ a.holding;
@@ -39,9 +40,9 @@ call_behind c m k x lt = get_or-set_same m.seats.flights k
 pub data HasCall (c : Config) (m : Moment) : Seat → Type 0 where
   OfCaller : (k : ℕ) → k < length m.seats.flights → HasCall c m (Caller k)
 
-pub acting_has_call : (c : Config) (m : Moment) (s : Seat) → length m.seats.flights ≡ c.callers → IsActing c m s
+pub acting_has_call : {c : Config} {m : Moment} {s : Seat} → length m.seats.flights ≡ c.callers → IsActing c m s
     → HasCall c m s
-acting_has_call c m s all at = by s at.there at.acts
+acting_has_call {c} {m} {s} all at = by s at.there at.acts
   where
     by : (s : Seat) → seat_exists c s ≡ true → is_acting (flight_of m s).stage ≡ true → HasCall c m s
     by (Caller k) there acts = OfCaller k (subst (λ n. k < n) (sym all) (ltb-true k c.callers there))
@@ -64,55 +65,23 @@ steady_is_plain Word.Held h = OfHeld
 steady_is_plain Word.Fresh h = OfFresh
 steady_is_plain _ h = cc
 
-pub look_leaves : (c : Config) (w : World) (s : Seat) (x : Word) → HasCall c w.now s → IsPlain x
+-- all words are as they were
+left_by : {s : Seat} {w v : World} → flight_of v.now s ≡ flight_of w.now s → v.now.seats.holding ≡ w.now.seats.holding
+    → steady_of v ≡ steady_of w → v.now.words ≡ w.now.words → IsAsLeft s w v
+left_by {w = w} call holding steady words =
+    record {
+      call = call;
+      holding = holding;
+      steady = steady;
+      marks = subst (λ (x : Words). OnlyGrow w.now.words.marks x.marks) (sym words) (grows_same w.now.words.marks);
+      registers = λ k r is lt. ap (λ (x : Words). register_word x k r) words;
+      gates = λ j. ap (λ (x : Words). is_held x j) words;
+    }
+
+pub look_leaves : {c : Config} (w : World) {s : Seat} {x : Word} → HasCall c w.now s → IsPlain x
     → IsAsLeft s w (world_behind c w (record { seat = s; step = Step.Look x }))
-look_leaves c w s x (OfCaller k lt) (OfHead p) =
-    record {
-      call = call_behind c w.now k (Step.Look
-          (Word.Head p)) lt;
-      holding = refl;
-      steady = refl;
-      marks = grows_same w.now.words.marks;
-      registers = λ j r is lt. refl;
-      gates = λ j. refl;
-    }
-look_leaves c w s x (OfCaller k lt) (OfUsed p) =
-    record {
-      call = call_behind c w.now k (Step.Look
-          (Word.Used p)) lt;
-      holding = refl;
-      steady = refl;
-      marks = grows_same w.now.words.marks;
-      registers = λ j r is lt. refl;
-      gates = λ j. refl;
-    }
-look_leaves c w s x (OfCaller k lt) OfHeld =
-    record {
-      call = call_behind c w.now k
-          (Step.Look Word.Held) lt;
-      holding = refl;
-      steady = refl;
-      marks = grows_same w.now.words.marks;
-      registers = λ j r is lt. refl;
-      gates = λ j. refl;
-    }
-look_leaves c w s x (OfCaller k lt) OfFresh =
-    record {
-      call = call_behind c w.now k
-          (Step.Look Word.Fresh) lt;
-      holding = refl;
-      steady = refl;
-      marks = grows_same w.now.words.marks;
-      registers = λ j r is lt. refl;
-      gates = λ j. refl;
-    }
-look_leaves c w s x (OfCaller k lt) OfPhase =
-    record {
-      call = call_behind c w.now k
-          (Step.Look Word.Phase) lt;
-      holding = refl;
-      steady = refl;
-      marks = grows_same w.now.words.marks;
-      registers = λ j r is lt. refl;
-      gates = λ j. refl;
-    }
+look_leaves {c} w {x} (OfCaller k lt) (OfHead p) = left_by (call_behind c w.now k (Step.Look x) lt) refl refl refl
+look_leaves {c} w {x} (OfCaller k lt) (OfUsed p) = left_by (call_behind c w.now k (Step.Look x) lt) refl refl refl
+look_leaves {c} w {x} (OfCaller k lt) OfHeld = left_by (call_behind c w.now k (Step.Look x) lt) refl refl refl
+look_leaves {c} w {x} (OfCaller k lt) OfFresh = left_by (call_behind c w.now k (Step.Look x) lt) refl refl refl
+look_leaves {c} w {x} (OfCaller k lt) OfPhase = left_by (call_behind c w.now k (Step.Look x) lt) refl refl refl

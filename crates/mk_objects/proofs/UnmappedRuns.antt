@@ -1,39 +1,23 @@
--- The pages of a run are unmapped one after the other, and then its words are wiped.
-use Rattle.mk_laws.proofs.Vocabulary.{Bool, Cell, Config, Flight, Hand, Header, Holding, Holds, Later, List, Moment}
-use Rattle.mk_laws.proofs.Vocabulary.{None, Op, Option, Page, Placing, Run, RunPages, Seat, Some, Stage, Steady, Step}
-use Rattle.mk_laws.proofs.Vocabulary.{Unplaced, Word, Words, World, Written, ℕ, address_of, all_below, all_below-at}
-use Rattle.mk_laws.proofs.Vocabulary.{and_from, ap, arith, cases_eq, chosen, eq-eqb, eqb-true, false, flight_of}
-use Rattle.mk_laws.proofs.Vocabulary.{free_page, get_or-set_other, get_or-set_same, has_no_pointers, header_at}
-use Rattle.mk_laws.proofs.Vocabulary.{header_in, header_of, if◌then◌else◌, inl, inr, is_heap_address, is_held}
-use Rattle.mk_laws.proofs.Vocabulary.{is_new_at, is_number_of, is_phase, is_run_unmapped, is_undecided_new, le-leb}
-use Rattle.mk_laws.proofs.Vocabulary.{left, length, lt-ltb, nat_le, nat_lt, or_else, others_are_held, page_at_address}
-use Rattle.mk_laws.proofs.Vocabulary.{phase_of, place_now, refl, run_header, same_Some, slice_index, slice_index_or}
-use Rattle.mk_laws.proofs.Vocabulary.{slice_set, stands, subst, suc, sym, true, unmapped_header, unmaps, world_behind}
-use Rattle.mk_laws.proofs.Vocabulary.{zero, [], ◌*◌, ◌+◌, ◌-◌, ◌/◌, ◌<◌, ◌==◌, ◌||◌, ◌∙◌, ◌≡◌, ◌≤◌}
+-- The pages of a run are unmapped one after the other.
+use Rattle.mk_laws.proofs.Vocabulary.{Config, Flight, Holding, Moment, None, Op, Option, Placing, RunPages, Seat, Some}
+use Rattle.mk_laws.proofs.Vocabulary.{Stage, Steady, Step, Unplaced, World, ℕ, all_below-at, ap, arith, cases_eq}
+use Rattle.mk_laws.proofs.Vocabulary.{chosen, eq-eqb, false, flight_of, header_at, if◌then◌else◌, inl, inr, is_held}
+use Rattle.mk_laws.proofs.Vocabulary.{is_phase, is_undecided_new, left, length, others_are_held, phase_of, place_now}
+use Rattle.mk_laws.proofs.Vocabulary.{refl, sym, true, unmapped_header, unmaps, world_behind, [], ◌+◌, ◌-◌, ◌<◌, ◌∙◌}
+use Rattle.mk_laws.proofs.Vocabulary.{◌≡◌, ◌≤◌}
 use Rattle.mk_objects.proofs.Vocabulary.{Acts, Changes, ComesTo, IsAsLeft, IsEnabledTo, IsOutOfStop, IsTurn, PassState}
-use Rattle.mk_objects.proofs.Vocabulary.{RunIsUnmapped, Unmaps, WipesTo, all_below_from, call_of, is_acting}
-use Rattle.mk_objects.proofs.Vocabulary.{is_clearing, now_of, option_and_then, steady_of, world_of}
-use Rattle.mk_geom.proofs.{Bridge.run_in_range, HeaderLemmas.header_of-word_of}
-use Rattle.mk_geom.specs.Addresses.{cell_under, run_of_page, word_at_address}
-use Rattle.mk_core.specs.{Cells.is_in_run, Cells.pointed_cell, Effects.hand_given, Effects.hand_of_cell}
-use Rattle.mk_core.specs.{Effects.is_in_stop, Frames.HoldsAll, Frames.written_of, TurnConditions.is_in_gone_run}
-use Rattle.mk_objects.proofs.Looks.{acting_caller, acting_now}
-use Rattle.mk_objects.proofs.MayAct.{IsActing, may_look_heap, may_unmap, may_wipe, off_four}
-use Rattle.mk_objects.proofs.Reaching.{reaches_nothing, reaches_still, reaches_still_in_stop}
-use Rattle.mk_objects.proofs.Serving.{header_here, header_set, next_is}
+use Rattle.mk_objects.proofs.Vocabulary.{Unmaps, all_below_from, call_of, is_acting, is_clearing, now_of, world_of}
+use Rattle.mk_objects.proofs.Looks.{acting_caller, acting_now, acts_there}
 use Rattle.mk_objects.proofs.Unchanged.{HasCall, OfCaller, acting_has_call, call_behind}
-use Rattle.mk_objects.proofs.{ReachedParts.reached_there, ReachedParts.reaches_so, Serves.out_of_stop}
-use Rattle.mk_objects.specs.Unmapping.{IsStillMapped, UnmappedTo, WipedTo}
-use Rattle.mk_turns.proofs.PointedCells.{found_there}
-use Rattle.mk_words.specs.Steps.{Finds}
+use Rattle.mk_objects.proofs.{MayAct.IsActing, MayAct.may_unmap, MayAct.off_four, ReachedParts.reached_there}
+use Rattle.mk_objects.proofs.{ReachedParts.reaches_so, Reaching.reaches_nothing, Reaching.reaches_still}
+use Rattle.mk_objects.proofs.{Serves.out_of_stop, Serving.header_here, Serving.header_set, Serving.next_is}
+use Rattle.mk_objects.specs.Unmapping.{IsStillMapped, UnmappedTo}
 
 -- A call that is decided is no New on its way, so its holder's place stays.
 
 no_new : (f : Flight) → f.stage ≡ Stage.Give → is_undecided_new f ≡ false
-no_new f is = ap (λ (s : Stage). is_new_at s f.op) is ∙ at_give f
-  where
-    at_give : (f : Flight) → is_new_at Stage.Give f.op ≡ false
-    at_give f = refl
+no_new f is = grind arith
 
 no_place : (c : Config) (m : Moment) (f : Flight) → f.stage ≡ Stage.Give → place_now c m f ≡ None
 no_place c m f is = rw (no_new f is) refl
@@ -56,38 +40,19 @@ changes_nothing s w = record { call = refl; holding = refl; steady = refl; gates
 pub still_stopped : (p : PassState) (v : World) → ((j : ℕ) → is_held v.now.words j ≡ is_held (now_of p).words j)
     → others_are_held p.table.config.callers (now_of p).words p.seat ≡ true
     → others_are_held p.table.config.callers v.now.words p.seat ≡ true
-still_stopped p v gates stopped =
-    all_below_from p.table.config.callers (λ j. is_number_of p.seat j || is_held v.now.words j)
-    (λ j lt. ap (λ b. is_number_of p.seat j || b) (gates j)
-    ∙ all_below-at p.table.config.callers j (λ i. is_number_of p.seat i || is_held (now_of p).words i) stopped lt)
+still_stopped p v gates stopped = grind (arith, all_below_from, all_below-at)
 
-unmapped_left : (s : Seat) (run : RunPages) (w u v : World) (n : ℕ) → UnmappedTo s run w u n → IsAsLeft s u v
+unmapped_left : {s : Seat} {run : RunPages} {w u v : World} {n : ℕ} → UnmappedTo s run w u n → IsAsLeft s u v
     → UnmappedTo s run w v n
-unmapped_left s run w u v n at kept =
-    let pages : v.now.words.pages ≡ u.now.words.pages = ap (λ (x : Steady). x.pages) kept.steady in
-    let header : (p : ℕ) → header_at v.now.words p ≡ header_at u.now.words p =
-    λ p. ap (λ (ps : List Page). (slice_index_or ps p free_page).header) pages in
-    record {
-      changes = record {
-        call = kept.call ∙ at.changes.call;
-        holding = kept.holding ∙ at.changes.holding;
-        steady = kept.steady ∙ at.changes.steady
-            ∙ ap (λ (ps : List Page). record (steady_of w) { pages = ps }) (sym pages);
-        gates = λ j. kept.gates j ∙ at.changes.gates j;
-      };
-      done = λ d lt. header (run.page + d) ∙ at.done d lt;
-      rest = λ d le lt e. at.rest d le lt (sym (header (run.page + d)) ∙ e);
-    }
+unmapped_left at kept = grind arith
 
-unmapped_more : (c : Config) (s : Seat) (run : RunPages) (w v : World) (n : ℕ) → UnmappedTo s run w v n
-    → HasCall c v.now s
-    → (flight_of v.now s).stage ≡ Stage.Give → IsOutOfStop v.now → n < run.count
-    → run.page + n < length v.now.words.pages
-    → UnmappedTo s run w (world_behind c v (record {
+unmapped_more : {c : Config} {s : Seat} {run : RunPages} {w v : World} {n : ℕ} → UnmappedTo s run w v n
+    → HasCall c v.now s → (flight_of v.now s).stage ≡ Stage.Give → IsOutOfStop v.now → n < run.count
+    → run.page + n < length v.now.words.pages → UnmappedTo s run w (world_behind c v (record {
       seat = s;
       step = Step.Head (run.page + n) (unmapped_header run.count n);
     })) (n + 1)
-unmapped_more c s run w v n at (OfCaller k lt) give low near room =
+unmapped_more {c} {s} {run} {v} {n} at (OfCaller k lt) give low near room =
     let p = run.page + n in
     let x = Step.Head p (unmapped_header run.count n) in
     let u : World = world_behind c v (record { seat = s; step = x }) in
@@ -108,7 +73,7 @@ unmapped_more c s run w v n at (OfCaller k lt) give low near room =
           (header_set v.now.words.pages p (run.page + d) _ (λ i. absurd (omega arith))) ∙ e);
     }
 
-module _ (p : PassState) (o : Option Op) (run : RunPages) (turn : IsTurn p o) (give : (call_of p).stage ≡ Stage.Give)
+module _ {p : PassState} {o : Option Op} (run : RunPages) (turn : IsTurn p o) (give : (call_of p).stage ≡ Stage.Give)
     (low : IsOutOfStop (now_of p)) where
   abbrev pub HasUnmapped : PassState → ℕ → Type 0
   HasUnmapped q n = ComesTo is_clearing p (λ v. UnmappedTo p.seat run (world_of p) v n) [] q
@@ -126,285 +91,37 @@ module _ (p : PassState) (o : Option Op) (run : RunPages) (turn : IsTurn p o) (g
 
   there_acting : (v : World) → flight_of v.now p.seat ≡ flight_of (now_of p) p.seat
       → IsActing p.table.config v.now p.seat
-  there_acting v same = record {
-    there = acting.there;
-    acts = ap (λ (f : Flight). is_acting f.stage) same
-        ∙ acting.acts;
-  }
+  there_acting v same = acts_there (world_of p) v acting same
 
   there_low : (v : World) → phase_of v.now.words ≡ phase_of (now_of p).words → IsOutOfStop v.now
   there_low v same = out_of_stop (now_of p) v.now same low
 
-  pub unmap_may : (q : PassState) (n : ℕ) → HasUnmapped q n
+  pub unmap_may : {q : PassState} {n : ℕ} → HasUnmapped q n
       → others_are_held p.table.config.callers (now_of p).words p.seat ≡ true
       → (now_of p).seats.holding.freed ≡ Some run → n < run.count → run.page + run.count ≤ p.table.config.pages
       → IsEnabledTo q (Step.Head (run.page + n) (unmapped_header run.count n))
-  unmap_may q n reached stopped freed near within =
+  unmap_may {q} {n} reached stopped freed near within =
       let v : World = left p.table.config q.seen in
       let at = reached.world in
       let here : v.now.seats.holding.freed ≡ Some run = ap (λ (h : Holding). h.freed) at.changes.holding ∙ freed in
-      reached_there is_clearing p q _ [] reached (λ (x : PassState). IsEnabledTo x
-      (Step.Head (run.page + n) (unmapped_header run.count n)))
-      (may_unmap p.table.config v.now p.seat (there_acting v at.changes.call) (run.page + n)
-      (unmapped_header run.count n) (omega arith)
+      reached_there reached (λ (x : PassState). IsEnabledTo x (Step.Head (run.page + n) (unmapped_header run.count n)))
+      (may_unmap (there_acting v at.changes.call) (run.page + n) (unmapped_header run.count n) (omega arith)
       (there_low v (ap (λ (x : Steady). x.phase) at.changes.steady)) (still_stopped p v at.changes.gates stopped)
       (ap (λ (x : Option RunPages). unmaps v.now.words x (run.page + n) (unmapped_header run.count n)) here
       ∙ next_is v.now.words run.page run.count (unmapped_header run.count) n near (at.rest n (omega arith) near)
       at.done))
 
-  pub unmaps_on : (q r : PassState) (n : ℕ) → HasUnmapped q n → n < run.count
+  pub unmaps_on : {q r : PassState} {n : ℕ} → HasUnmapped q n → n < run.count
       → run.page + run.count ≤ p.table.config.pages
       → Acts q (Step.Head (run.page + n) (unmapped_header run.count n)) r → HasUnmapped r (n + 1)
-  unmaps_on q r n reached near within a =
-      reaches_still is_clearing p q r (λ v. UnmappedTo p.seat run (world_of p) v n)
-      (λ v. UnmappedTo p.seat run (world_of p) v (n + 1)) []
-      (Step.Head (run.page + n) (unmapped_header run.count n)) reached a refl refl
-      (acting_caller p (give_acts (call_of p) give)) refl
-      (λ w v here kept known pages.
-      let on = unmapped_left p.seat run (world_of p) w v n here kept in
-      let call = acting_has_call p.table.config v.now p.seat known.orderly.flights (there_acting v on.changes.call) in
+  unmaps_on {n} reached near within a =
+      reaches_still (λ v. UnmappedTo p.seat run (world_of p) v n) (λ v. UnmappedTo p.seat run (world_of p) v (n + 1))
+      reached a refl refl (acting_caller p (give_acts (call_of p) give)) refl (λ w v here kept known pages.
+      let on = unmapped_left here kept in
+      let call = acting_has_call known.orderly.flights (there_acting v on.changes.call) in
       let room = pages.pages in
-      unmapped_more p.table.config p.seat run (world_of p) v n on call
-      (ap (λ (f : Flight). f.stage) on.changes.call ∙ give)
+      unmapped_more on call (ap (λ (f : Flight). f.stage) on.changes.call ∙ give)
       (there_low v (ap (λ (x : Steady). x.phase) on.changes.steady)) near (omega arith))
 
-  pub unmapped_all : (q : PassState) → HasUnmapped q run.count → Unmaps p run q
-  unmapped_all q reached =
-      reaches_so is_clearing p q (λ v. UnmappedTo p.seat run (world_of p) v run.count)
-      (RunIsUnmapped p.seat run (world_of p)) [] reached
-      (λ at. record {
-        changes = at.changes;
-        unmapped = all_below_from run.count (stands (left p.table.config q.seen).now.words run.page
-            (unmapped_header run.count)) (λ d lt. eq-eqb _ _ (at.done d lt));
-      })
-
--- the words
-
--- What the address of a word of an unmapped run points into has no pointers.
-
-unmapped_at : (w : Words) (run : RunPages) (d : ℕ) → is_run_unmapped w run ≡ true → run.count ≤ 64 → d < run.count
-    → header_of (header_at w (run.page + d)) ≡ Some (run_header run.count false false d)
-unmapped_at w run d unmapped few lt =
-    ap header_of (eqb-true _ _ (all_below-at run.count d (stands w run.page (unmapped_header run.count)) unmapped lt))
-    ∙ header_of-word_of (run_header run.count false false d)
-    (run_in_range run.count false false d (omega (arith, lt)) few (omega (arith, lt, few)))
-
-cell_tested : (b : Bool) (x cell : Cell) → (if b then Some x else None) ≡ Some cell → x.page ≡ cell.page
-cell_tested true x cell e = ap (λ (y : Cell). y.page) (same_Some _ _ e)
-cell_tested false x cell e = cc
-
-cell_tested_twice : (a b : Bool) (x cell : Cell) → (if a then (if b then Some x else None) else None) ≡ Some cell
-    → x.page ≡ cell.page
-cell_tested_twice true b x cell e = cell_tested b x cell e
-cell_tested_twice false b x cell e = cc
-
--- It is the run's head.
-cell_is_head : (head : ℕ) (count pages page word d : ℕ) (b : Bool) (cell : Cell) → page ≡ head + d
-    → (if b then cell_under (run_header count false false d) page word else None) ≡ Some cell → cell.page ≡ head
-cell_is_head head count pages page word zero b cell at e =
-    let x = cell_tested b (run_of_page (Run count false) page) cell e in
-    let there : page ≡ head = omega (arith, at) in
-    sym x ∙ there
-cell_is_head head count pages page word (suc d) b cell at e =
-    let x = cell_tested_twice b (nat_le (suc d) page) (run_of_page (Later (suc d) false) page) cell e in
-    let there : page - suc d ≡ head = omega (arith, at) in
-    sym x ∙ there
-
-gone_cell : (w : Words) (run : RunPages) (pages address d : ℕ) (cell : Cell) → is_run_unmapped w run ≡ true
-    → run.count ≤ 64 → d < run.count → page_at_address address ≡ run.page + d
-    → pointed_cell pages w.pages address ≡ Some cell → has_no_pointers (header_in w cell.page) ≡ true
-unfolding pointed_cell
-gone_cell w run pages address d cell unmapped few near at is =
-    let header : Some (run_header run.count false false d) ≡ header_of (header_at w (page_at_address address)) =
-    sym (unmapped_at w run d unmapped few near) ∙ ap (λ (i : ℕ). header_of (header_at w i)) (sym at) in
-    let under : (if is_heap_address pages address
-    then cell_under (run_header run.count false false d) (page_at_address address) (word_at_address address) else None)
-    ≡ Some cell =
-    ap (λ (x : Option Header). if is_heap_address pages address
-    then option_and_then (λ h. cell_under h (page_at_address address) (word_at_address address)) x else None) header
-    ∙ is in
-    let head = cell_is_head run.page run.count pages (page_at_address address) (word_at_address address) d
-    (is_heap_address pages address) cell at under in
-    let first : cell.page ≡ run.page + 0 = omega (arith, head) in
-    ap (λ (i : ℕ). has_no_pointers (header_of (header_at w i))) first
-    ∙ ap has_no_pointers (unmapped_at w run 0 unmapped few (omega (arith, near)))
-
--- A look at such a word gives no hand.
-no_hand : (c : Config) (m : Moment) (s : Seat) (run : RunPages) (n value : ℕ) → is_run_unmapped m.words run ≡ true
-    → run.count ≤ 64 → n < 64 * run.count → hand_given c m s (Word.Heap (64 * run.page + n)) value ≡ None
-no_hand c m s run n value unmapped few near =
-    by (pointed_cell c.pages m.words.pages (address_of (64 * run.page + n)))
-    (λ cell is. gone_cell m.words run c.pages (address_of (64 * run.page + n)) (n / 64) cell unmapped few
-    (omega (arith, near))
-    (omega arith) is)
-  where
-    by : (x : Option Cell) → ((cell : Cell) → x ≡ Some cell → has_no_pointers (header_in m.words cell.page) ≡ true)
-        → option_and_then (λ (cell : Cell). hand_of_cell m.words (is_in_stop c.callers m.words s)
-        m.seats.holding.placing
-        cell value) x ≡ None
-    by None none = refl
-    by (Some cell) none = rw (none cell refl) refl
-
-wiped_left : (s : Seat) (run : RunPages) (w u v : World) (n : ℕ) → WipedTo s run w u n → IsAsLeft s u v
-    → written_of v ≡ written_of u → WipedTo s run w v n
-wiped_left s run w u v n at kept stop =
-    record {
-      changes = record {
-        call = kept.call ∙ at.changes.call;
-        holding = kept.holding ∙ at.changes.holding;
-        steady = kept.steady ∙ at.changes.steady;
-        gates = λ j. kept.gates j ∙ at.changes.gates j;
-      };
-      zeros = λ i lt. ap (λ (x : Written). slice_index x.heap (64 * run.page + i)) stop ∙ at.zeros i lt;
-    }
-
-wiped_seen : (c : Config) (s : Seat) (run : RunPages) (w v : World) (n k : ℕ) → WipedTo s run w v n → HasCall c v.now s
-    → ((value : ℕ) → hand_given c v.now s (Word.Heap k) value ≡ None)
-    → WipedTo s run w (world_behind c v (record { seat = s; step = Step.Look (Word.Heap k) })) n
-wiped_seen c s run w v n k at (OfCaller j lt) none =
-    record {
-      changes = record {
-        call = call_behind c v.now j (Step.Look (Word.Heap k)) lt ∙ at.changes.call;
-        holding = ap (λ (x : Option Hand). record v.now.seats.holding { hand = or_else x v.now.seats.holding.hand })
-            (none _) ∙ at.changes.holding;
-        steady = at.changes.steady;
-        gates = at.changes.gates;
-      };
-      zeros = at.zeros;
-    }
-
--- A word that is 0 already is wiped.
-wiped_already : (s : Seat) (run : RunPages) (w v : World) (n : ℕ) → WipedTo s run w v n
-    → slice_index v.now.words.heap (64 * run.page + n) ≡ 0 → WipedTo s run w v (n + 1)
-wiped_already s run w v n at zero_there =
-    record {
-      changes = at.changes;
-      zeros = λ i le. elim (cases_eq i n) [
-        | inl e ↦ ap (λ j. slice_index v.now.words.heap (64 * run.page + j)) e ∙ zero_there
-        | inr ne ↦ at.zeros i (omega arith)
-      ];
-    }
-
-wiped_more : (c : Config) (s : Seat) (run : RunPages) (w u v : World) (n : ℕ) → WipedTo s run w u n → IsAsLeft s u v
-    → HasCall c v.now s
-    → written_of v ≡ written_of u → 64 * run.page + n < length v.now.words.heap
-    → WipedTo s run w (world_behind c v (record { seat = s; step = Step.Wipe (64 * run.page + n) })) (n + 1)
-wiped_more c s run w u v n at kept (OfCaller k lt) stop room =
-    let heap : v.now.words.heap ≡ u.now.words.heap = ap (λ (x : Written). x.heap) stop in
-    let p = 64 * run.page + n in
-    record {
-      changes = record {
-        call = call_behind c v.now k (Step.Wipe p) lt ∙ kept.call ∙ at.changes.call;
-        holding = kept.holding ∙ at.changes.holding;
-        steady = kept.steady ∙ at.changes.steady;
-        gates = λ j. kept.gates j ∙ at.changes.gates j;
-      };
-      zeros = λ i le. elim (cases_eq i n) [
-        | inl e ↦ ap (λ j. slice_index (slice_set v.now.words.heap p 0) (64 * run.page + j)) e
-            ∙ get_or-set_same v.now.words.heap p 0 0 room
-        | inr ne ↦ get_or-set_other v.now.words.heap p (64 * run.page + i) 0 0 (λ e. ne (omega arith))
-            ∙ ap (λ (xs : List ℕ). slice_index xs (64 * run.page + i)) heap ∙ at.zeros i (omega arith)
-      ];
-    }
-
-pub still_unmapped : (p : PassState) (run : RunPages) (v : World) (n : ℕ) → WipedTo p.seat run (world_of p) v n
-    → is_run_unmapped (now_of p).words run ≡ true → is_run_unmapped v.now.words run ≡ true
-still_unmapped p run v n at unmapped =
-    ap (λ (ps : List Page). all_below run.count (λ d. (slice_index_or ps (run.page + d) free_page).header ==
-    unmapped_header run.count d)) (ap (λ (x : Steady). x.pages) at.changes.steady) ∙ unmapped
-
-module _ (p : PassState) (o : Option Op) (run : RunPages) (turn : IsTurn p o) (give : (call_of p).stage ≡ Stage.Give)
-    (stopped : others_are_held p.table.config.callers (now_of p).words p.seat ≡ true) where
-  abbrev pub HasWiped : PassState → ℕ → Type 0
-  HasWiped q n = WipesTo p run n q
-
-  wiping : IsActing p.table.config (now_of p) p.seat
-  wiping = acting_now p o turn (give_acts (call_of p) give)
-
-  there_wiping : (v : World) → flight_of v.now p.seat ≡ flight_of (now_of p) p.seat
-      → IsActing p.table.config v.now p.seat
-  there_wiping v same = record {
-    there = wiping.there;
-    acts = ap (λ (f : Flight). is_acting f.stage) same
-        ∙ wiping.acts;
-  }
-
-  pub look_may : (q : PassState) (n k : ℕ) → HasWiped q n → k < 64 * run.count
-      → run.page + run.count ≤ p.table.config.pages
-      → IsEnabledTo q (Step.Look (Word.Heap (64 * run.page + k)))
-  look_may q n k reached near within =
-      let at = reached.world in
-      reached_there is_clearing p q _ [] reached
-      (λ (x : PassState). IsEnabledTo x (Step.Look (Word.Heap (64 * run.page + k))))
-      (may_look_heap p.table.config (left p.table.config q.seen).now p.seat
-      (there_wiping (left p.table.config q.seen) at.changes.call)
-      (64 * run.page + k) (omega arith))
-
-  -- with the turn held, and all other gates
-  with_turn : (q : PassState) (n : ℕ) → HasWiped q n → Holds q.table.config (now_of q) q.seat
-      → ComesTo is_clearing p (λ v. WipedTo p.seat run (world_of p) v n × HoldsAll p.table.config v.now p.seat) [] q
-  with_turn q n reached holds =
-      let holds_here : Holds p.table.config (left p.table.config q.seen).now p.seat =
-      subst (λ (x : PassState). Holds x.table.config (now_of x) x.seat) reached.same holds in
-      reaches_so is_clearing p q (λ v. WipedTo p.seat run (world_of p) v n)
-      (λ v. WipedTo p.seat run (world_of p) v n × HoldsAll p.table.config v.now p.seat) [] reached
-      (λ at. (at, (holds_here, still_stopped p (left p.table.config q.seen) at.changes.gates stopped)))
-
-  pub looks_then : (q r : PassState) (n k : ℕ) → HasWiped q n → k < 64 * run.count → run.count ≤ 64
-      → is_run_unmapped (now_of p).words run ≡ true
-      → Acts q (Step.Look (Word.Heap (64 * run.page + k))) r → HasWiped r n
-  looks_then q r n k reached near few unmapped a =
-      reaches_still_in_stop is_clearing p q r (λ v. WipedTo p.seat run (world_of p) v n
-      × HoldsAll p.table.config v.now p.seat)
-      (λ v. WipedTo p.seat run (world_of p) v n) []
-      (Step.Look (Word.Heap (64 * run.page + k))) (with_turn q n reached a.holds) a refl refl
-      (acting_caller p (give_acts (call_of p) give)) refl
-      (λ w v here kept stop known pages.
-      let on = wiped_left p.seat run (world_of p) w v n here.0 kept (stop here.1) in
-      let call = acting_has_call p.table.config v.now p.seat known.orderly.flights (there_wiping v on.changes.call) in
-      wiped_seen p.table.config p.seat run (world_of p) v n (64 * run.page + k) on call
-      (λ value. no_hand p.table.config v.now p.seat run k value (still_unmapped p run v n on unmapped) few near))
-
-  -- The word was found to be 0.
-  pub found_wiped : (q r : PassState) (n value : ℕ) → HasWiped r n
-      → Finds q (Step.Look (Word.Heap (64 * run.page + n))) value r → value ≡ 0 → HasWiped r (n + 1)
-  found_wiped q r n value reached f none =
-      reaches_so is_clearing p r (λ v. WipedTo p.seat run (world_of p) v n)
-      (λ v. WipedTo p.seat run (world_of p) v (n + 1)) [] reached
-      (λ at. wiped_already p.seat run (world_of p) (left p.table.config r.seen) n at
-      (subst (λ (x : PassState). slice_index (now_of x).words.heap (64 * run.page + n) ≡ 0) reached.same
-      (found_there q r (Word.Heap (64 * run.page + n)) value f ∙ none)))
-
-  pub wipe_may : (q : PassState) (n : ℕ) → HasWiped q n → (now_of p).seats.holding.freed ≡ Some run
-      → is_run_unmapped (now_of p).words run ≡ true
-      → n < 64 * run.count → run.page + run.count ≤ p.table.config.pages → IsEnabledTo q (Step.Wipe (64 * run.page + n))
-  wipe_may q n reached freed unmapped near within =
-      let v : World = left p.table.config q.seen in
-      let at = reached.world in
-      let here : v.now.seats.holding.freed ≡ Some run = ap (λ (h : Holding). h.freed) at.changes.holding ∙ freed in
-      let still = still_unmapped p run v n at unmapped in
-      let word = 64 * run.page + n in
-      let inside : is_in_run run word ≡ true =
-      and_from (nat_le run.page (word / 64)) (nat_lt (word / 64 - run.page) run.count)
-      (le-leb run.page (word / 64) (omega arith))
-      (lt-ltb (word / 64 - run.page) run.count (omega arith)) in
-      reached_there is_clearing p q _ [] reached (λ (x : PassState). IsEnabledTo x (Step.Wipe word))
-      (may_wipe p.table.config v.now p.seat (there_wiping v at.changes.call) word (omega arith)
-      (ap (λ (x : Option RunPages). is_in_gone_run v.now.words x word) here
-      ∙ and_from (is_in_run run word) (is_run_unmapped v.now.words run) inside still))
-
-  pub wipes_on : (q r : PassState) (n : ℕ) → HasWiped q n → n < 64 * run.count
-      → run.page + run.count ≤ p.table.config.pages
-      → Acts q (Step.Wipe (64 * run.page + n)) r → HasWiped r (n + 1)
-  wipes_on q r n reached near within a =
-      reaches_still_in_stop is_clearing p q r (λ v. WipedTo p.seat run (world_of p) v n
-      × HoldsAll p.table.config v.now p.seat)
-      (λ v. WipedTo p.seat run (world_of p) v (n + 1)) []
-      (Step.Wipe (64 * run.page + n)) (with_turn q n reached a.holds) a refl refl
-      (acting_caller p (give_acts (call_of p) give))
-      refl
-      (λ w v here kept stop known pages.
-      let call = acting_has_call p.table.config v.now p.seat known.orderly.flights
-      (there_wiping v (kept.call ∙ here.0.changes.call)) in
-      let room = pages.heap in
-      wiped_more p.table.config p.seat run (world_of p) w v n here.0 kept call (stop here.1) (omega arith))
+  pub unmapped_all : {q : PassState} → HasUnmapped q run.count → Unmaps p run q
+  unmapped_all reached = grind (arith, reaches_so, all_below_from, eq-eqb)

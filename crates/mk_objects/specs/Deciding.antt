@@ -8,11 +8,11 @@ use Rattle.mk_core.specs.declared.events.Step.TheVariants as step
 use Rattle.mk_core.specs.declared.seats.Stage.TheVariants as stage
 use Rattle.mk_core.specs.Allocations.{freed_where_it_stands}
 use Rattle.mk_core.specs.Counts.{TalliesAreExact, releases}
+use Rattle.mk_core.specs.Frames.{Steady, steady_of}
 use Rattle.mk_core.specs.History.{World}
 use Rattle.mk_core.specs.Cells.{is_freed}
 use Rattle.mk_core.specs.Moments.{flight_of, is_held}
 use Rattle.mk_core.specs.NewPlaces.{is_run_gone, target}
-use Rattle.mk_core.specs.Words.{phase_of}
 use Rattle.mk_words.specs.States.{PassState, call_of, now_of, world_of}
 use Rattle.mk_objects.specs.Dues.{FreesOnce, IsOverQuarter}
 use Rattle.mk_objects.specs.Placing.{IsOutOfStop, ComesTo, entry_for}
@@ -27,27 +27,36 @@ is_following (step.Wipe n) = true
 is_following (step.Tally n v) = true
 is_following _ = false
 
--- The call is decided. Its turn has the same place and cycle, the phase is the same, and all that is counted but held
--- and fresh words.
+-- the phase, and all that is counted but held and fresh words
+pub record Counted : Type 0 where
+  pub phase : ℕ
+  pub cycles : ℕ
+  pub released : ℕ
+  pub full : ℕ
+  pub releases : ℕ
+
+abbrev pub counted : Steady → Counted
+counted x = record {
+  phase = x.phase;
+  cycles = x.cycles;
+  released = x.released;
+  full = x.full;
+  releases = releases x.allocations;
+}
+
+-- The call is decided. Its turn has the same place and cycle, and these counts are the same.
 pub record IsDecidedAt (s : Seat) (w v : World) : Type 0 where
   pub stage : (flight_of v.now s).stage ≡ stage.Give
   pub op : (flight_of v.now s).op ≡ (flight_of w.now s).op
   pub placing : v.now.seats.holding.placing ≡ w.now.seats.holding.placing
   pub cycle : v.now.seats.holding.cycle ≡ w.now.seats.holding.cycle
-  pub phase : phase_of v.now.words ≡ phase_of w.now.words
-  pub cycles : v.now.words.cycles ≡ w.now.words.cycles
-  pub released : v.now.words.released ≡ w.now.words.released
-  pub full : v.now.words.full ≡ w.now.words.full
-  pub releases : releases v.allocations ≡ releases w.allocations
+  pub counted : counted (steady_of v) ≡ counted (steady_of w)
 
--- The call stays where it is, with all of that, and the allocations.
+-- The call stays where it is, with these counts, and the allocations.
 pub record StaysSo (s : Seat) (w v : World) : Type 0 where
   pub call : flight_of v.now s ≡ flight_of w.now s
   pub holding : v.now.seats.holding ≡ w.now.seats.holding
-  pub phase : phase_of v.now.words ≡ phase_of w.now.words
-  pub cycles : v.now.words.cycles ≡ w.now.words.cycles
-  pub released : v.now.words.released ≡ w.now.words.released
-  pub full : v.now.words.full ≡ w.now.words.full
+  pub counted : counted (steady_of v) ≡ counted (steady_of w)
   pub fresh_words : v.now.fresh_words ≡ w.now.fresh_words
   pub allocations : v.allocations ≡ w.allocations
 

@@ -12,7 +12,7 @@ use mk_words::{Turn, Words};
 
 /// Looks at a word that none but the holder changes.
 #[inline(always)]
-pub(crate) fn look_at(words: &Words, turn: &mut Turn, word: Word) -> u64
+pub fn look_at(words: &Words, turn: &mut Turn, word: Word) -> u64
     requires one_table { turn.old.pass.table ≡ words.now }
     requires acting { is_acting (call_of turn.old.pass).stage ≡ true }
     requires steady { is_steady_word word ≡ true }
@@ -27,7 +27,7 @@ pub(crate) fn look_at(words: &Words, turn: &mut Turn, word: Word) -> u64
 }
 
 /// Looks whether a cycle marks.
-pub(crate) fn is_marking(words: &Words, turn: &mut Turn) -> bool
+pub fn is_marking(words: &Words, turn: &mut Turn) -> bool
     requires one_table { turn.old.pass.table ≡ words.now }
     requires acting { is_acting (call_of turn.old.pass).stage ≡ true }
     ensures op { turn.new.op ≡ turn.old.op }

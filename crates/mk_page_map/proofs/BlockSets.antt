@@ -1,10 +1,9 @@
 -- The sets of blocks, by class and sort.
-use Rattle.std.proofs.lemmas.Bool.{and_parts, cases_Bool, cond-false, cond-true, lt-leb, not-true}
-use Rattle.std.proofs.{Common.eqb-true, Common.le-leb, Common.lt-ltb, Common.nat_le, Common.◌&&◌, Math.Nat.div-le_self}
+use Rattle.std.proofs.lemmas.Bool.{and_parts, cond-false, cond-true, lt-leb, not-true}
+use Rattle.std.proofs.{Common.eqb-true, Common.le-leb, Common.lt-ltb, Common.nat_le, Math.Nat.div-le_self}
 use Rattle.mk_page_map.proofs.Vocabulary.{Bool, IsInItsSets, List, Nothing, PageUse, ℕ, ap, arith, cases_eq, cases_lt}
 use Rattle.mk_page_map.proofs.Vocabulary.{false, first_where, has_free_cell, inl, inr, is_member, is_of_set, is_some}
-use Rattle.mk_page_map.proofs.Vocabulary.{nat_eq, nat_lt, not, refl, subst, sym, true, use_of_kind, [], ◌%◌, ◌+◌, ◌<◌}
-use Rattle.mk_page_map.proofs.Vocabulary.{◌∙◌, ◌≡◌, ◌≤◌}
+use Rattle.mk_page_map.proofs.Vocabulary.{nat_lt, not, refl, sym, true, use_of_kind, ◌%◌, ◌+◌, ◌<◌, ◌∙◌, ◌≡◌, ◌≤◌}
 use Rattle.mk_geom.specs.Classes.{cells_of, class_words_of}
 use Rattle.mk_geom.specs.{PageUses.Cells, PageUses.is_same_sort, PageWords.bits_of}
 use Rattle.mk_books.{proofs.FreeCellLemmas.cells_taken_alike, specs.FreeCells.class_place}
@@ -27,19 +26,12 @@ place_within class true known = omega arith
 place_within class false known = omega arith
 
 place_of_set : (set : ℕ) → set < 16 → class_place (set % 8) (nat_le 8 set) ≡ set
-place_of_set set block = elim (cases_lt set 8) [
-  | inl low ↦ ap (class_place (set % 8)) (lt-leb 8 set low) ∙ omega arith
-  | inr high ↦ ap (class_place (set % 8)) (le-leb 8 set high)
-      ∙ (let same : 8 + set % 8 ≡ set = omega arith in same)
-]
+place_of_set set block = grind (arith, cases_lt, lt-leb, le-leb)
 
 -- a block's own set
 pub of_own_set : (class : ℕ) (leaf : Bool) (use' : PageUse) → class < 8
     → is_of_set (class_place class leaf) use' ≡ has_free_cell class leaf use'
-of_own_set class leaf use' known =
-    of_block_set (class_place class leaf) use' (place_within class leaf known)
-    ∙ ap (λ c. has_free_cell c (nat_le 8 (class_place class leaf)) use') (class_of_place class leaf known)
-    ∙ ap (λ l. has_free_cell class l use') (sort_of_place class leaf known)
+of_own_set class leaf use' known = grind (arith, of_block_set, place_within, class_of_place, sort_of_place)
 
 pub free_in_own_set : (class : ℕ) (leaf : Bool) (used : ℕ) → class < 8
     → is_of_set (class_place class leaf) (Cells class leaf (bits_of (cells_of class) used))
@@ -57,16 +49,7 @@ same_sorts false b same = sym (not-true b same)
 pub of_other_set : (set class : ℕ) (leaf : Bool) (taken : List Bool) → set < 16 → (set ≡ class_place class leaf → ⊥)
     → is_of_set set (Cells class leaf taken) ≡ false
 of_other_set set class leaf taken block other =
-    let test = nat_eq (set % 8) class && is_same_sort (nat_le 8 set) leaf in
-    of_block_set set (Cells class leaf taken) block
-    ∙ elim (cases_Bool test) [
-      | inl same ↦
-          let parts = and_parts (nat_eq (set % 8) class) (is_same_sort (nat_le 8 set) leaf) same in
-          absurd (other (sym (place_of_set set block)
-          ∙ ap (λ c. class_place c (nat_le 8 set)) (eqb-true (set % 8) class parts.0)
-          ∙ ap (class_place class) (same_sorts (nat_le 8 set) leaf parts.1)))
-      | inr differ ↦ ap (λ cells. is_some (first_where not cells)) (cond-false test taken [] differ)
-    ]
+    grind (arith, of_block_set, and_parts, place_of_set, eqb-true, same_sorts, cond-false)
 
 -- a free page is in no set of blocks
 pub nothing_of_set : (set : ℕ) → set < 16 → is_of_set set Nothing ≡ false
@@ -80,46 +63,32 @@ abbrev pub OtherSetsStay : List ℕ → List ℕ → ℕ → ℕ → Type 0
 OtherSetsStay before after page place =
     (other : ℕ) → other < 20 → (other ≡ place → ⊥) → is_member after other page ≡ is_member before other page
 
-pub left_blocks : (before after : List ℕ) (page class place used : ℕ) (leaf : Bool) → class < 8
+pub left_blocks : (before after : List ℕ) (page class : ℕ) {place : ℕ} (used : ℕ) (leaf : Bool) → class < 8
     → place ≡ class_place class leaf → is_member after place page ≡ false → OtherSetsStay before after page place
     → IsInItsSets before page (use_of_kind (Block class leaf) used) → (set : ℕ) → set < 16
     → is_member after set page ≡ false
-left_blocks before after page class place used leaf known is out stay sorted set block = elim (cases_eq set place) [
+left_blocks before after page class {place} used leaf known is out stay sorted set block = elim (cases_eq set place) [
   | inl same ↦ ap (λ s. is_member after s page) same ∙ out
-  | inr other ↦
-      stay set (omega arith) other
-      ∙ sorted set (omega arith)
+  | inr other ↦ stay set (omega arith) other ∙ sorted set (omega arith)
       ∙ of_other_set set class leaf (bits_of (cells_of class) used) block (λ same. other (same ∙ sym is))
 ]
 
-pub joined_blocks : (before after : List ℕ) (page class place used : ℕ) (leaf free : Bool) → class < 8
+pub joined_blocks : (before after : List ℕ) (page class : ℕ) {place : ℕ} (used : ℕ) (leaf free : Bool) → class < 8
     → place ≡ class_place class leaf → free ≡ is_some (first_where not (bits_of (cells_of class) used))
     → is_member after place page ≡ free → OtherSetsStay before after page place
     → ((set : ℕ) → set < 16 → is_member before set page ≡ false) → (set : ℕ) → set < 16
     → is_member after set page ≡ is_of_set set (use_of_kind (Block class leaf) used)
-joined_blocks before after page class place used leaf free known is is_free put stay out set block =
+joined_blocks before after page class {place} used leaf free known is is_free put stay out set block =
     elim (cases_eq set place) [
-      | inl same ↦
-          ap (λ s. is_member after s page) same
-          ∙ put
-          ∙ is_free
-          ∙ sym (free_in_own_set class leaf used known)
+      | inl same ↦ ap (λ s. is_member after s page) same ∙ put ∙ is_free ∙ sym (free_in_own_set class leaf used known)
           ∙ ap (λ s. is_of_set s (use_of_kind (Block class leaf) used)) (sym is ∙ sym same)
-      | inr other ↦
-          stay set (omega arith) other
-          ∙ out set block
-          ∙ sym (of_other_set set class leaf (bits_of (cells_of class) used) block (λ same. other (same ∙ sym is)))
+      | inr other ↦ stay set (omega arith) other ∙ out set block ∙ sym
+          (of_other_set set class leaf (bits_of (cells_of class) used) block (λ same. other (same ∙ sym is)))
     ]
 
 -- each set of the first 18
 pub each_set : (P : ℕ → Type 0) → ((set : ℕ) → set < 16 → P set) → P 16 → P 17 → (set : ℕ) → set < 18 → P set
-each_set P blocks free in_use set is_set = elim (cases_lt set 16) [
-  | inl block ↦ blocks set block
-  | inr above ↦ elim (cases_eq set 16) [
-    | inl same ↦ subst P (sym same) free
-    | inr other ↦ let last : set ≡ 17 = omega arith in subst P (sym last) in_use
-  ]
-]
+each_set P blocks free in_use set is_set = grind (arith, cases_lt)
 
 -- used words tell blocks of one class and sort apart in their own set alone
 same_elsewhere : (set class : ℕ) (leaf : Bool) (earlier used : ℕ) → set < 18 → (set ≡ class_place class leaf → ⊥)
@@ -133,22 +102,16 @@ same_elsewhere set class leaf earlier used is_set other =
     (λ _. refl) (λ _. refl) set is_set other
 
 -- a block whose used word changes
-pub sorted_anew : (before after : List ℕ) (page class place earlier used : ℕ) (leaf free : Bool) → class < 8
+pub sorted_anew : (before after : List ℕ) (page class : ℕ) {place : ℕ} (earlier used : ℕ) (leaf free : Bool) → class < 8
     → place ≡ class_place class leaf → place < 16 → free ≡ is_some (first_where not (bits_of (cells_of class) used))
     → is_member after place page ≡ free → OtherSetsStay before after page place
     → IsInItsSets before page (use_of_kind (Block class leaf) earlier)
     → IsInItsSets after page (use_of_kind (Block class leaf) used)
-sorted_anew before after page class place earlier used leaf free known is low is_free put stay sorted set is_set =
+sorted_anew before after page class {place} earlier used leaf free known is low is_free put stay sorted set is_set =
     elim (cases_eq set place) [
-      | inl same ↦
-          ap (λ s. is_member after s page) same
-          ∙ put
-          ∙ is_free
-          ∙ sym (free_in_own_set class leaf used known)
+      | inl same ↦ ap (λ s. is_member after s page) same ∙ put ∙ is_free ∙ sym (free_in_own_set class leaf used known)
           ∙ ap (λ s. is_of_set s (use_of_kind (Block class leaf) used)) (sym is ∙ sym same)
-      | inr other ↦
-          stay set (omega arith) other
-          ∙ sorted set is_set
+      | inr other ↦ stay set (omega arith) other ∙ sorted set is_set
           ∙ same_elsewhere set class leaf earlier used is_set (λ same. other (same ∙ sym is))
     ]
 

@@ -29,49 +29,39 @@ resident_changed pages page now within =
     (map-set use_of_page pages page now)
     ∙ sum_by-set one (uses_of_pages pages) page (use_of_page now) Nothing long
 
-pub fit_changed : (pages : List Page) (sets after : List ℕ) (page : ℕ) (now : Page) (resident count : ℕ)
-    → FitPages pages sets resident → Changes pages sets after page now
-    → count + resident_one (page_at pages page) ≡ resident + resident_one now
-    → FitPages (set pages page now) after count
-fit_changed pages sets after page now resident count fit changes counted =
+pub fit_changed : {pages : List Page} {sets after : List ℕ} {page : ℕ} {now : Page} {resident : ℕ} (count : ℕ)
+    → FitPages pages sets resident → Changes pages sets after page now → count + resident_one (page_at pages page)
+    ≡ resident + resident_one now → FitPages (set pages page now) after count
+fit_changed {pages} {sets} {after} {page} {now} count fit changes counted =
     let long : length (set pages page now) ≡ length pages = length-set pages page now in
     record {
       few = omega (arith, fit.few);
       are_sets = λ some. changes.are_sets;
       sorted = λ number within. elim (cases_eq number page) [
-        | inl same ↦
-            subst (λ (k : ℕ). IsInItsSets after k (use_of_page (page_at (set pages page now) k))) (sym same)
+        | inl same ↦ subst (λ (k : ℕ). IsInItsSets after k (use_of_page (page_at (set pages page now) k))) (sym same)
             (subst (λ (p : Page). IsInItsSets after page (use_of_page p))
             (sym (get_or-set_same pages page now free_page changes.within)) changes.sorted)
-        | inr differ ↦
-            λ s is_set.
-            changes.others s number (omega arith) (omega (arith, fit.few)) differ
+        | inr differ ↦ λ s is_set. changes.others s number (omega arith) (omega (arith, fit.few)) differ
             ∙ subst (λ (p : Page). IsInItsSets sets number (use_of_page p))
             (sym (get_or-set_other pages page number now free_page differ)) (fit.sorted number (omega arith)) s is_set
       ];
-      no_others = λ s number is_set past few.
-          changes.others s number is_set few (λ same. absurd (omega (arith, changes.within)))
-          ∙ fit.no_others s number is_set (omega arith) few;
+      no_others = λ s number is_set past few. changes.others s number is_set few
+          (λ same. absurd (omega (arith, changes.within))) ∙ fit.no_others s number is_set (omega arith) few;
       counted = omega (arith, fit.counted, resident_changed pages page now changes.within);
     }
 
 -- where a page stays in the sets that tell what stands on it
-pub fit_again : (pages : List Page) (sets after : List ℕ) (page resident : ℕ) → FitPages pages sets resident
-    → AreSets after → page < length pages
-    → ((s : ℕ) → s < 18 → is_member after s page ≡ is_member sets s page) → OthersStay sets after page
-    → FitPages pages after resident
-fit_again pages sets after page resident fit are_sets within stays others =
+pub fit_again : {pages : List Page} {sets after : List ℕ} {page resident : ℕ} → FitPages pages sets resident
+    → AreSets after → page < length pages → ((s : ℕ) → s < 18 → is_member after s page ≡ is_member sets s page)
+    → OthersStay sets after page → FitPages pages after resident
+fit_again {sets} {after} {page} fit are_sets within stays others =
     record {
       few = fit.few;
       are_sets = λ some. are_sets;
       sorted = λ number inside s is_set. elim (cases_eq number page) [
-        | inl same ↦
-            ap (is_member after s) same
-            ∙ stays s is_set
-            ∙ ap (is_member sets s) (sym same)
+        | inl same ↦ ap (is_member after s) same ∙ stays s is_set ∙ ap (is_member sets s) (sym same)
             ∙ fit.sorted number inside s is_set
-        | inr differ ↦
-            others s number (omega arith) (omega (arith, fit.few)) differ ∙ fit.sorted number inside s is_set
+        | inr differ ↦ others s number (omega arith) (omega (arith, fit.few)) differ ∙ fit.sorted number inside s is_set
       ];
       no_others = λ s number is_set past few.
           others s number is_set few (λ same. absurd (omega arith)) ∙ fit.no_others s number is_set past few;

@@ -71,64 +71,40 @@ pub record IsRange (pages : List Page) (start end : ℕ) : Type 0 where
   pub free : (number : ℕ) → start ≤ number → number < end → is_free_at pages number ≡ true
   pub ends : end < length pages → is_free_at pages end ≡ false
 
-pub range_is_long : (start end count : ℕ) (pages : List Page) → 1 ≤ count → IsRange pages start end
+pub range_is_long : {start end : ℕ} (count : ℕ) {pages : List Page} → 1 ≤ count → IsRange pages start end
     → count ≤ end - start → range_start_from start count pages ≡ Some start
-range_is_long start end count pages some range long =
+range_is_long {start} {end} count {pages} some range long =
     let same : start + (end - start) ≡ end = omega (arith, range.ends_after) in
     let is : free_range_from start pages ≡ end - start =
-    range_of (end - start) start pages (omega (arith, range.within))
-    (λ k low high. range.free k low (omega arith))
+    range_of (end - start) start pages (omega (arith, range.within)) (λ k low high. range.free k low (omega arith))
     (λ more. ap (is_free_at pages) same ∙ range.ends (omega arith)) in
     first-here None start count pages some (omega arith)
 
-pub range_is_short : (start end count : ℕ) (pages : List Page) → 1 ≤ count → IsRange pages start end
+pub range_is_short : {start end : ℕ} (count : ℕ) {pages : List Page} → 1 ≤ count → IsRange pages start end
     → end - start < count → range_start_from start count pages ≡ range_start_from end count pages
-range_is_short start end count pages some range short =
+range_is_short {start} {end} count {pages} some range short =
     let same : start + (end - start) ≡ end = omega (arith, range.ends_after) in
     let is : free_range_from start pages ≡ end - start =
-    range_of (end - start) start pages (omega (arith, range.within))
-    (λ k low high. range.free k low (omega arith))
+    range_of (end - start) start pages (omega (arith, range.within)) (λ k low high. range.free k low (omega arith))
     (λ more. ap (is_free_at pages) same ∙ range.ends (omega arith)) in
     elim (cases_lt end (length pages)) [
       | inl more ↦
-          let taken : free_range_from end pages ≡ 0 = free_range_from-taken end pages free_page more
-          (range.ends more) in
+          let taken : free_range_from end pages ≡ 0 = grind (arith, free_range_from-taken) in
           first-skip None start end count pages (omega (arith, range.ends_after)) more
           (omega (arith, range.ends_after)) (λ _. omega (arith, range.ends_after))
           ∙ sym (first-skip None end end count pages (omega arith) more (omega arith) (λ _. omega arith))
-      | inr all ↦
-          first-end None start count pages (omega (arith, range.ends_after, range.within))
-          (λ _. omega (arith, range.ends_after))
-          ∙ sym (first-end None end count pages range.within (λ _. omega arith))
+      | inr all ↦ first-end None start count pages (omega (arith, range.ends_after, range.within))
+          (λ _. omega (arith, range.ends_after)) ∙ sym (first-end None end count pages range.within (λ _. omega arith))
     ]
 
 -- the range that begins at a free page
-pub range_from : (pages : List Page) (start : ℕ) (next : Option ℕ) → start < length pages
-    → is_free_at pages start ≡ true → IsNext (is_in_use pages) start (length pages) next
-    → IsRange pages start (unwrap_or next (length pages))
-range_from pages start None within free next =
-    record {
-      ends_after = within;
-      within = omega arith;
-      free = λ k low high. not-false (is_free_at pages k) (next k low high);
-      ends = λ more. absurd (omega arith);
-    }
-range_from pages start (Some end) within free next =
-    record {
-      ends_after = elim (cases_lt start end) [
-        | inl after ↦ after
-        | inr before ↦ absurd
-            (both_ways (is_free_at pages start)
-            (ap (is_free_at pages) (let same : start ≡ end = omega (arith, next.0) in same)
-            ∙ not-true (is_free_at pages end) next.2) free)
-      ];
-      within = omega (arith, next.1);
-      free = λ k low high. not-false (is_free_at pages k) (next.3 k low high);
-      ends = λ more. not-true (is_free_at pages end) next.2;
-    }
+pub range_from : (pages : List Page) {start : ℕ} (next : Option ℕ) → start < length pages → is_free_at pages start
+    ≡ true → IsNext (is_in_use pages) start (length pages) next → IsRange pages start (unwrap_or next (length pages))
+range_from pages None within free next = grind (arith, not-false, is_free_at)
+range_from pages (Some end) within free next = grind (arith, cases_lt, both_ways, is_free_at, not-true, not-false)
 
-pub no_range : (from count : ℕ) (pages : List Page) → 1 ≤ count → from ≤ length pages
+pub no_range : {from : ℕ} (count : ℕ) (pages : List Page) → 1 ≤ count → from ≤ length pages
     → IsNext (is_free_at pages) from (length pages) None → range_start_from from count pages ≡ None
-no_range from count pages some within none =
+no_range {from} count pages some within none =
     past_pages_in_use from (length pages) count pages some within (omega arith) none
     ∙ first-end None (length pages) count pages (omega arith) (λ _. omega arith)

@@ -52,43 +52,29 @@ none_free pages set number is_set few =
 -- of a word the pages that there are
 in_word : (number words pages : ℕ) → number / 64 ≡ words
     → nat_lt (number % 64) (pages - 64 * words) ≡ (nat_lt (number / 64) (words + 1) && nat_lt number pages)
-in_word number words pages here =
-    (elim (cases_lt number pages) [
-      | inl low ↦
-          lt-ltb (number % 64) (pages - 64 * words) (omega arith) ∙ sym (lt-ltb number pages low)
-      | inr high ↦
-          le-ltb (number % 64) (pages - 64 * words) (omega arith) ∙ sym (le-ltb number pages high)
-    ])
-    ∙ sym (ap (λ b. b && nat_lt number pages) (lt-ltb (number / 64) (words + 1) (omega arith)))
+in_word number words pages here = grind (arith, cases_lt, lt-ltb, le-ltb)
 
 -- one word more
-pub one_word_more : (before after : List ℕ) (words pages word : ℕ) → HaveFreeBelow before words pages
+pub one_word_more : (before after : List ℕ) {words : ℕ} (pages word : ℕ) → HaveFreeBelow before words pages
     → word_in_set after 16 words ≡ word → OtherWordsStay before after 16 words
     → ((place : ℕ) → place < 64 → nat_eq (bit_at word place) 1 ≡ nat_lt place (pages - 64 * words))
     → HaveFreeBelow after (words + 1) pages
-one_word_more before after words pages word free is stay bits set number is_set few =
+one_word_more before after {words} pages word free is stay bits set number is_set few =
     elim (cases_eq (number / 64) words) [
       | inl here ↦ elim (cases_eq set 16) [
-        | inl own ↦
-            ap (λ s. is_member after s number) own
-            ∙ ap (λ w. nat_eq (bit_at (word_in_set after 16 w) (number % 64)) 1) here
-            ∙ ap (λ n. nat_eq (bit_at n (number % 64)) 1) is
-            ∙ bits (number % 64) (omega arith)
-            ∙ in_word number words pages here
+        | inl own ↦ ap (λ s. is_member after s number) own ∙ ap (λ w. nat_eq
+            (bit_at (word_in_set after 16 w) (number % 64)) 1) here ∙ ap (λ n. nat_eq (bit_at n (number % 64)) 1) is
+            ∙ bits (number % 64) (omega arith) ∙ in_word number words pages here
             ∙ sym (ap (λ s. nat_eq s 16 && (nat_lt (number / 64) (words + 1) && nat_lt number pages)) own)
-        | inr other ↦
-            ap (λ n. nat_eq (bit_at n (number % 64)) 1)
-            (stay set (number / 64) (omega arith) (λ same _. other same))
-            ∙ free set number is_set few
-            ∙ and_left (nat_eq set 16) (nat_lt (number / 64) words && nat_lt number pages) (ne_eqb set 16 other)
+        | inr other ↦ ap (λ n. nat_eq (bit_at n (number % 64)) 1) (stay set (number / 64) (omega arith)
+            (λ same _. other same)) ∙ free set number is_set few ∙ and_left (nat_eq set 16)
+            (nat_lt (number / 64) words && nat_lt number pages) (ne_eqb set 16 other)
             ∙ sym (and_left (nat_eq set 16) (nat_lt (number / 64) (words + 1) && nat_lt number pages)
             (ne_eqb set 16 other))
       ]
-      | inr differ ↦
-          ap (λ n. nat_eq (bit_at n (number % 64)) 1)
-          (stay set (number / 64) (omega arith) (λ _ same. differ same))
-          ∙ free set number is_set few
-          ∙ ap (λ t. nat_eq set 16 && (t && nat_lt number pages)) (later (number / 64) words differ)
+      | inr differ ↦ ap (λ n. nat_eq (bit_at n (number % 64)) 1) (stay set (number / 64) (omega arith)
+          (λ _ same. differ same)) ∙ free set number is_set few ∙ ap (λ t. nat_eq set 16 && (t && nat_lt number pages))
+          (later (number / 64) words differ)
     ]
   where
     later : (n m : ℕ) → (n ≡ m → ⊥) → nat_lt n m ≡ nat_lt n (m + 1)
@@ -98,16 +84,9 @@ one_word_more before after words pages word free is stay bits set number is_set 
     ]
 
 -- all words that have a page
-pub all_free : (sets : List ℕ) (words pages : ℕ) → pages ≤ 64 * words → HaveFreeBelow sets words pages
+pub all_free : (sets : List ℕ) (words : ℕ) {pages : ℕ} → pages ≤ 64 * words → HaveFreeBelow sets words pages
     → HaveFree sets pages
-all_free sets words pages enough free set number is_set few =
-    free set number is_set few
-    ∙ ap (λ t. nat_eq set 16 && t) (elim (cases_lt number pages) [
-      | inl low ↦ ap (λ b. b && nat_lt number pages) (lt-ltb (number / 64) words (omega arith))
-      | inr high ↦
-          and_right (nat_lt (number / 64) words) (nat_lt number pages) (le-ltb number pages high)
-          ∙ sym (le-ltb number pages high)
-    ])
+all_free sets words enough free set number is_set few = grind (arith, cases_lt, lt-ltb, and_right, le-ltb)
 
 -- what a Vec holds after a write through its slice
 pub written : (new old : List ℕ) (n : ℕ) → length new ≡ n → take n (new ++ drop (length new) old) ≡ new
@@ -128,20 +107,17 @@ none_resident (suc n) =
 free_at : (n number : ℕ) → number < n → page_at (replicate n free_page) number ≡ free_page
 free_at n number within = get_or-replicate n number free_page free_page within
 
-pub free_fits : (n : ℕ) (sets : List ℕ) → n ≤ 4096 → AreSets sets → HaveFree sets n
+pub free_fits : {n : ℕ} {sets : List ℕ} → n ≤ 4096 → AreSets sets → HaveFree sets n
     → FitPages (replicate n free_page) sets 0
-free_fits n sets few are_sets free =
+free_fits {n} {sets} few are_sets free =
     let long : length (replicate n free_page) ≡ n = length-replicate n free_page in
     record {
       few = omega arith;
       are_sets = λ some. are_sets;
-      sorted = λ number within.
-          subst (λ (p : Page). IsInItsSets sets number (use_of_page p)) (sym (free_at n number (omega arith)))
-          (each_set (λ s. is_member sets s number ≡ is_of_set s Nothing)
-          (λ s block.
-          free s number (omega arith) (omega arith)
-          ∙ and_left (nat_eq s 16) (nat_lt number n) (ne_eqb s 16 (λ same. absurd (omega arith)))
-          ∙ sym (nothing_of_set s block))
+      sorted = λ number within. subst (λ (p : Page). IsInItsSets sets number (use_of_page p))
+          (sym (free_at n number (omega arith))) (each_set (λ s. is_member sets s number ≡ is_of_set s Nothing)
+          (λ s block. free s number (omega arith) (omega arith) ∙ and_left (nat_eq s 16) (nat_lt number n)
+          (ne_eqb s 16 (λ same. absurd (omega arith))) ∙ sym (nothing_of_set s block))
           (free 16 number (omega arith) (omega arith) ∙ lt-ltb number n (omega arith))
           (free 17 number (omega arith) (omega arith)));
       no_others = λ s number is_set past short.
@@ -149,16 +125,14 @@ free_fits n sets few are_sets free =
       counted = none_resident n;
     }
 
-pub free_shows : (n : ℕ) (sets : List ℕ) → n ≤ 4096 → HaveFree sets n
+pub free_shows : {n : ℕ} (sets : List ℕ) → n ≤ 4096 → HaveFree sets n
     → Shows (known_by (replicate n free_page) sets) (replicate n free_page) (replicate n 0)
-free_shows n sets few free =
+free_shows {n} sets few free =
     let long : length (replicate n free_page) ≡ n = length-replicate n free_page in
     let zeros : length (replicate {A = ℕ} n 0) ≡ n = length-replicate {A = ℕ} n 0 in
     record {
       page_by_page = refl;
       freed_words = zeros ∙ sym long;
-      quarantined = λ number within.
-          member_at sets 18 (length (replicate n free_page)) number within
-          ∙ free 18 number (omega arith) (omega arith)
-          ∙ sym (ap (λ m. not (nat_eq m 0)) (zero_at n number));
+      quarantined = λ number within. member_at sets 18 (length (replicate n free_page)) number within
+          ∙ free 18 number (omega arith) (omega arith) ∙ sym (ap (λ m. not (nat_eq m 0)) (zero_at n number));
     }

@@ -1,14 +1,13 @@
 -- The lowest 1 of a word, from a place on, and a word with one bit put.
+use Rattle.std.proofs.Common.{bit_and, bit_or, eq-eqb, le-ltb, lt-ltb, min, ◌^◌}
 use Rattle.std.proofs.lemmas.Nat.Bits.{bit_at-lt, bit_at-pow_other, bit_at-pow_same, bit_at-zero, bit_at_and}
 use Rattle.std.proofs.lemmas.Nat.Bits.{bit_at_clear_other, bit_at_clear_same, bit_at_mask_below, bit_at_mask_inside}
-use Rattle.std.proofs.lemmas.Nat.Bits.{bit_at_ones, bit_at_ones_above}
-use Rattle.std.proofs.lemmas.Nat.Bits.{bit_at_set_other, bit_at_set_same, bit_at_xor, ones_shl}
-use Rattle.std.proofs.{Common.le-ltb, Common.lt-ltb, Common.bit_and, Common.bit_or, Common.eq-eqb, Common.min}
-use Rattle.std.proofs.{Common.◌^◌, Math.Pow.pow-lt}
+use Rattle.std.proofs.lemmas.Nat.Bits.{bit_at_ones, bit_at_ones_above, bit_at_set_other, bit_at_set_same, bit_at_xor}
+use Rattle.std.proofs.lemmas.Nat.Bits.{ones_shl}
+use Rattle.std.proofs.Math.Pow.{pow-lt}
 use Rattle.std.specs.{Int.bit_not, Int.Bits.bit_xor}
-use Rattle.mk_page_map.proofs.Vocabulary.{IsNext, None, Some, ℕ, ap, arith, bit_at, cases_lt, false, inl, inr, nat_eq}
-use Rattle.mk_page_map.proofs.Vocabulary.{nat_lt, not, refl, suc, sym, true, w64, zero, ◌%◌, ◌*◌, ◌+◌, ◌-◌, ◌<◌, ◌∙◌}
-use Rattle.mk_page_map.proofs.Vocabulary.{◌≡◌, ◌≤◌}
+use Rattle.mk_page_map.proofs.Vocabulary.{IsNext, None, Some, ℕ, ap, arith, bit_at, cases_lt, false, nat_eq, nat_lt}
+use Rattle.mk_page_map.proofs.Vocabulary.{not, refl, suc, sym, true, w64, zero, ◌%◌, ◌*◌, ◌+◌, ◌-◌, ◌<◌, ◌∙◌, ◌≡◌, ◌≤◌}
 
 -- the word without its bits below a place, as the code computes it
 abbrev pub rest_from : ℕ → ℕ → ℕ
@@ -37,15 +36,7 @@ pub lowest_is_next : (word from place : ℕ) → from < 64 → place < 64 → bi
     → ((below : ℕ) → below < place → bit_at (rest_from word from) below ≡ 0)
     → IsNext (λ k. nat_eq (bit_at word k) 1) from 64 (Some place)
 lowest_is_next word from place begun within one lowest =
-    let above : from ≤ place = elim (cases_lt place from) [
-      | inl below ↦ absurd (omega (arith, rest_dropped word from place (omega arith) below))
-      | inr above ↦ above
-    ] in (
-      above,
-      within,
-      eq-eqb (bit_at word place) 1 (sym (rest_kept word from place above within) ∙ one),
-      λ k low high. zero_is_no_one (bit_at word k) (sym (rest_kept word from k low (omega arith)) ∙ lowest k high),
-    )
+    grind (arith, cases_lt, rest_dropped, eq-eqb, rest_kept, zero_is_no_one)
 
 pub none_is_next : (word from : ℕ) → rest_from word from ≡ 0 → IsNext (λ k. nat_eq (bit_at word k) 1) from 64 None
 none_is_next word from none k low high =
@@ -80,8 +71,7 @@ one_at : (place : ℕ) → place < 64 → 1 * 2 ^ place % 2 ^ 64 ≡ 2 ^ place
 one_at place within = let small : 2 ^ place < 2 ^ 64 = pow-lt within in omega (arith, small)
 
 turned : (word place k : ℕ) → place < 64 → bit_at (with_other word place) k ≡ (bit_at word k + bit_at (2 ^ place) k) % 2
-turned word place k within =
-    bit_at_xor word (1 * 2 ^ place % 2 ^ 64) k ∙ ap (λ n. (bit_at word k + bit_at n k) % 2) (one_at place within)
+turned word place k within = grind (arith, bit_at_xor, one_at)
 
 other_bit : (bit : ℕ) → bit < 2 → nat_eq ((bit + 1) % 2) 1 ≡ not (nat_eq bit 1)
 other_bit zero few = refl
@@ -90,25 +80,15 @@ other_bit (suc (suc bit)) few = absurd (omega arith)
 
 pub turned_bit_is : (word place : ℕ) → place < 64
     → nat_eq (bit_at (with_other word place) place) 1 ≡ not (nat_eq (bit_at word place) 1)
-turned_bit_is word place within =
-    ap (λ n. nat_eq n 1)
-    (turned word place place within ∙ ap (λ n. (bit_at word place + n) % 2) (bit_at-pow_same place))
-    ∙ other_bit (bit_at word place) (bit_at-lt word place)
+turned_bit_is word place within = grind (arith, turned, bit_at-pow_same, other_bit, bit_at-lt)
 
 pub turned_bit_others : (word place k : ℕ) → place < 64 → (k ≡ place → ⊥)
     → bit_at (with_other word place) k ≡ bit_at word k
-turned_bit_others word place k within other =
-    turned word place k within
-    ∙ (let none : bit_at (2 ^ place) k ≡ 0 = bit_at-pow_other place k other in
-    let few = bit_at-lt word k in
-    omega arith)
+turned_bit_others word place k within other = grind (arith, turned, bit_at-pow_other, bit_at-lt)
 
 -- a word whose lowest bits are 1, and one of which all are
 pub low_ones : (end k : ℕ) → nat_eq (bit_at (2 ^ end - 1) k) 1 ≡ nat_lt k end
-low_ones end k = elim (cases_lt k end) [
-  | inl below ↦ ap (λ n. nat_eq n 1) (bit_at_ones end k below) ∙ sym (lt-ltb k end below)
-  | inr above ↦ ap (λ n. nat_eq n 1) (bit_at_ones_above end k above) ∙ sym (le-ltb k end above)
-]
+low_ones end k = grind (arith, cases_lt, bit_at_ones, lt-ltb, bit_at_ones_above, le-ltb)
 
 pub ones_shifted : (end : ℕ) → end < 64 → 1 * 2 ^ end % 2 ^ 64 - 1 ≡ 2 ^ end - 1
 ones_shifted end within = ap (λ n. n - 1) (one_at end within)

@@ -4,24 +4,16 @@ use Rattle.mk_page_map.proofs.Vocabulary.{sym, ◌<◌, ◌∙◌, ◌≡◌}
 use Rattle.mk_books.proofs.FirstWhereLemmas.{first_where_at, first_where_nowhere}
 
 -- by another test that says the same
-pub same_next : (passes others : ℕ → Bool) (from count : ℕ) (next : Option ℕ)
+pub same_next : {passes : ℕ → Bool} (others : ℕ → Bool) (from : ℕ) {count : ℕ} (next : Option ℕ)
     → ((number : ℕ) → number < count → passes number ≡ others number)
     → IsNext passes from count next → IsNext others from count next
-same_next passes others from count (Some number) same next = (
-  next.0,
-  next.1,
-  sym (same number next.1) ∙ next.2,
-  λ k low high. sym (same k (omega (arith, next.1))) ∙ next.3 k low high,
-)
-same_next passes others from count None same next = λ k low high. sym (same k high) ∙ next k low high
+same_next others from (Some number) same next = grind arith
+same_next others from None same next = λ k low high. sym (same k high) ∙ next k low high
 
 -- the first of a list is the next one from its start
-pub first_is_next : {A : Type 0} (p : A → Bool) (xs : List A) (d : A) (passes : ℕ → Bool) (next : Option ℕ)
+pub first_is_next : {A : Type 0} (p : A → Bool) (xs : List A) (d : A) {passes : ℕ → Bool} (next : Option ℕ)
     → ((number : ℕ) → number < length xs → passes number ≡ p (get_or xs number d))
     → IsNext passes 0 (length xs) next → next ≡ first_where p xs
-first_is_next p xs d passes (Some number) same next =
-    sym (first_where_at p xs number d next.1
-    (λ k below. sym (same k (omega (arith, next.1))) ∙ next.3 k (omega arith) below)
-    (sym (same number next.1) ∙ next.2))
-first_is_next p xs d passes None same next =
+first_is_next p xs d (Some number) same next = grind (arith, first_where_at)
+first_is_next p xs d None same next =
     sym (first_where_nowhere p xs d (λ k within. sym (same k within) ∙ next k (omega arith) within))

@@ -13,98 +13,70 @@ pub record Reads (known : KnownPages) (held : List Page) (sets slice : List ℕ)
   pub is_slice : slice ≡ sets
   pub is_count : count ≡ length held
 
+pub reads_by : {known : KnownPages} {held : List Page} {sets slice : List ℕ} {resident count : ℕ}
+    → known_by held sets ≡ known → FitPages held sets resident → slice ≡ sets → count ≡ length held
+    → Reads known held sets slice resident count
+reads_by view fit is_slice is_count = record { view = view; fit = fit; is_slice = is_slice; is_count = is_count }
+
 -- and pages that it shows
 pub record Shown (known : KnownPages) (held pages : List Page) (sets slice freed : List ℕ) (resident count : ℕ)
     : Type 0 where
   pub reads : Reads known held sets slice resident count
   pub shows : Shows known pages freed
 
-pub no_others_there : (known : KnownPages) (held : List Page) (sets slice : List ℕ) (resident count set : ℕ)
+pub no_others_there : {known : KnownPages} {held : List Page} {sets slice : List ℕ} {resident count : ℕ} (set : ℕ)
     → Reads known held sets slice resident count → set < 20 → (number : ℕ) → count ≤ number → number < 4096
     → is_member slice set number ≡ false
-no_others_there known held sets slice resident count set reads is_set number past few =
-    ap (λ xs. is_member xs set number) reads.is_slice
-    ∙ reads.fit.no_others set number is_set (omega (arith, reads.is_count)) few
+no_others_there set reads is_set number past few = grind arith
 
-pub shown_pages : (known : KnownPages) (held pages : List Page) (sets slice freed : List ℕ)
-    (resident count : ℕ) → Shown known held pages sets slice freed resident count → held ≡ pages
-shown_pages known held pages sets slice freed resident count shown =
-    ap (λ k. k.pages) shown.reads.view ∙ shown.shows.page_by_page
+pub shown_pages : {known : KnownPages} {held pages : List Page} {sets slice freed : List ℕ}
+    {resident count : ℕ} → Shown known held pages sets slice freed resident count → held ≡ pages
+shown_pages shown = grind arith
 
-shows_held : (known : KnownPages) (held pages : List Page) (sets slice freed : List ℕ)
-    (resident count : ℕ) → Shown known held pages sets slice freed resident count
-    → Shows (known_by held sets) pages freed
-shows_held known held pages sets slice freed resident count shown =
-    subst (λ (k : KnownPages). Shows k pages freed) (sym shown.reads.view) shown.shows
+shows_held : {known : KnownPages} {held pages : List Page} {sets slice freed : List ℕ} {resident count : ℕ}
+    → Shown known held pages sets slice freed resident count → Shows (known_by held sets) pages freed
+shows_held shown = grind arith
 
 -- a page's places in the sets
-in_set : (known : KnownPages) (held pages : List Page) (sets slice freed : List ℕ)
-    (resident count set number : ℕ) → Shown known held pages sets slice freed resident count → set < 18
+in_set : {known : KnownPages} {held pages : List Page} {sets slice freed : List ℕ}
+    {resident count : ℕ} (set number : ℕ) → Shown known held pages sets slice freed resident count → set < 18
     → number < length pages → is_member slice set number ≡ is_of_set set (use_of_page (page_at pages number))
-in_set known held pages sets slice freed resident count set number shown is_set within =
-    let same = shown_pages known held pages sets slice freed resident count shown in
-    let long : length held ≡ length pages = ap length same in
-    ap (λ xs. is_member xs set number) shown.reads.is_slice
-    ∙ shown.reads.fit.sorted number (omega arith) set is_set
-    ∙ ap (λ ps. is_of_set set (use_of_page (page_at ps number))) same
+in_set set number shown is_set within = grind (arith, shown_pages)
 
-pub count_of_shown : (known : KnownPages) (held pages : List Page) (sets slice freed : List ℕ)
-    (resident count : ℕ) → Shown known held pages sets slice freed resident count → count ≡ length pages
-count_of_shown known held pages sets slice freed resident count shown =
-    shown.reads.is_count ∙ ap length (shown_pages known held pages sets slice freed resident count shown)
+pub count_of_shown : {known : KnownPages} {held pages : List Page} {sets slice freed : List ℕ}
+    {resident count : ℕ} → Shown known held pages sets slice freed resident count → count ≡ length pages
+count_of_shown shown = grind (arith, shown_pages)
 
 -- the first page of a set
-pub first_of_set : (known : KnownPages) (held pages : List Page) (sets slice freed : List ℕ)
-    (resident count set : ℕ) (passes : PageUse → Bool) (next : Option ℕ)
-    → Shown known held pages sets slice freed resident count → set < 18
-    → ((stands : PageUse) → is_of_set set stands ≡ passes stands)
-    → IsNext (is_member slice set) 0 count next → next ≡ first_where passes (uses_of_pages pages)
-first_of_set known held pages sets slice freed resident count set passes next shown is_set same found =
-    let counted = count_of_shown known held pages sets slice freed resident count shown in
+pub first_of_set : {known : KnownPages} {held pages : List Page} {sets slice freed : List ℕ} {resident count : ℕ}
+    (set : ℕ) (passes : PageUse → Bool) {next : Option ℕ} → Shown known held pages sets slice freed resident count
+    → set < 18 → ((stands : PageUse) → is_of_set set stands ≡ passes stands) → IsNext (is_member slice set) 0 count next
+    → next ≡ first_where passes (uses_of_pages pages)
+first_of_set {pages} {slice} set passes {next} shown is_set same found =
+    let counted = count_of_shown shown in
     let long : length (uses_of_pages pages) ≡ length pages = length-map pages use_of_page in
-    first_is_next passes (uses_of_pages pages) Nothing (is_member slice set) next
-    (λ number within.
-    in_set known held pages sets slice freed resident count set number shown is_set (omega arith)
-    ∙ same (use_of_page (page_at pages number))
-    ∙ ap passes (sym (get_or-map use_of_page pages number free_page Nothing (omega arith))))
+    first_is_next passes (uses_of_pages pages) Nothing next (λ number within. in_set set number shown is_set
+    (omega arith) ∙ same (use_of_page (page_at pages number)) ∙ ap passes
+    (sym (get_or-map use_of_page pages number free_page Nothing (omega arith))))
     (subst (λ (n : ℕ). IsNext (is_member slice set) 0 n next) (counted ∙ sym long) found)
 
 -- the next page of a set
-pub next_of_set : (known : KnownPages) (held pages : List Page) (sets slice freed : List ℕ)
-    (resident count set from : ℕ) (passes : ℕ → Bool) (next : Option ℕ)
-    → Shown known held pages sets slice freed resident count → set < 18
-    → ((number : ℕ) → is_of_set set (use_of_page (page_at pages number)) ≡ passes number)
+pub next_of_set : {known : KnownPages} {held pages : List Page} {sets slice freed : List ℕ} {resident count : ℕ}
+    (set from : ℕ) (passes : ℕ → Bool) (next : Option ℕ) → Shown known held pages sets slice freed resident count
+    → set < 18 → ((number : ℕ) → is_of_set set (use_of_page (page_at pages number)) ≡ passes number)
     → IsNext (is_member slice set) from count next → IsNext passes from (length pages) next
-next_of_set known held pages sets slice freed resident count set from passes next shown is_set same found =
-    same_next (is_member slice set) passes from (length pages) next
-    (λ number within.
-    in_set known held pages sets slice freed resident count set number shown is_set within
-    ∙ same number)
-    (subst (λ (n : ℕ). IsNext (is_member slice set) from n next)
-    (count_of_shown known held pages sets slice freed resident count shown) found)
+next_of_set set from passes next shown is_set same found = grind (arith, same_next, in_set, count_of_shown)
 
 -- the next page by its quarantine word
-pub next_of_quarantine : (known : KnownPages) (held pages : List Page) (sets slice freed : List ℕ)
-    (resident count set from : ℕ) (passes : ℕ → Bool) (next : Option ℕ)
-    → Shown known held pages sets slice freed resident count
-    → (Shows (known_by held sets) pages freed → (number : ℕ) → number < length pages
-    → is_member sets set number ≡ passes number)
-    → IsNext (is_member slice set) from count next → IsNext passes from (length pages) next
-next_of_quarantine known held pages sets slice freed resident count set from passes next shown same found =
-    same_next (is_member slice set) passes from (length pages) next
-    (λ number within.
-    ap (λ xs. is_member xs set number) shown.reads.is_slice
-    ∙ same (shows_held known held pages sets slice freed resident count shown) number within)
-    (subst (λ (n : ℕ). IsNext (is_member slice set) from n next)
-    (count_of_shown known held pages sets slice freed resident count shown) found)
+pub next_of_quarantine : {known : KnownPages} {held pages : List Page} {sets slice freed : List ℕ} {resident count : ℕ}
+    (set from : ℕ) (passes : ℕ → Bool) (next : Option ℕ) → Shown known held pages sets slice freed resident count
+    → (Shows (known_by held sets) pages freed → (number : ℕ) → number < length pages → is_member sets set number
+    ≡ passes number) → IsNext (is_member slice set) from count next → IsNext passes from (length pages) next
+next_of_quarantine set from passes next shown same found = grind (arith, same_next, shows_held, count_of_shown)
 
 -- the next page of a set, by the pages as they are held
-pub next_of_held : (known : KnownPages) (held : List Page) (sets slice : List ℕ) (resident count set from : ℕ)
+pub next_of_held : {known : KnownPages} {held : List Page} {sets slice : List ℕ} {resident count : ℕ} (set from : ℕ)
     (passes : ℕ → Bool) (next : Option ℕ) → Reads known held sets slice resident count → set < 18
     → ((number : ℕ) → is_of_set set (use_of_page (page_at held number)) ≡ passes number)
     → IsNext (is_member slice set) from count next → IsNext passes from (length held) next
-next_of_held known held sets slice resident count set from passes next reads is_set same found =
-    same_next (is_member slice set) passes from (length held) next
-    (λ number within.
-    ap (λ xs. is_member xs set number) reads.is_slice ∙ reads.fit.sorted number within set is_set ∙ same number)
-    (subst (λ (n : ℕ). IsNext (is_member slice set) from n next) reads.is_count found)
+next_of_held set from passes next reads is_set same found = grind (arith, same_next)

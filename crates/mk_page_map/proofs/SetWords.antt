@@ -31,12 +31,11 @@ pub record StoresWord (sets : List ℕ) (s word bits summary : ℕ) : Type 0 whe
   pub mark : nat_eq (bit_at summary word) 1 ≡ not (nat_eq bits 0)
   pub other_marks : (k : ℕ) → k < 64 → (k ≡ word → ⊥) → bit_at summary k ≡ bit_at (summary_of sets s) k
 
-pub stored_word : (sets : List ℕ) (s word bits summary : ℕ) → StoresWord sets s word bits summary
+pub stored_word : {sets : List ℕ} {s word bits summary : ℕ} → StoresWord sets s word bits summary
     → word_in_set (after_store sets s word bits summary) s word ≡ bits
-stored_word sets s word bits summary stores =
+stored_word {sets} {s} {word} {bits} {summary} stores =
     get_or-set_other (set sets (65 * s + 1 + word) bits) (65 * s) (65 * s + 1 + word) summary 0
-    (λ same. absurd (omega arith))
-    ∙ get_or-set_same sets (65 * s + 1 + word) bits 0
+    (λ same. absurd (omega arith)) ∙ get_or-set_same sets (65 * s + 1 + word) bits 0
     (omega (arith, stores.are_sets.long, stores.is_set, stores.is_word))
 
 pub other_word : (sets : List ℕ) (s word bits summary : ℕ) → word < 64
@@ -47,9 +46,9 @@ other_word sets s word bits summary is_word other w within differ =
     ∙ get_or-set_other sets (65 * s + 1 + word) (65 * other + 1 + w) bits 0
     (λ same. differ (omega arith) (omega arith))
 
-stored_summary : (sets : List ℕ) (s word bits summary : ℕ) → StoresWord sets s word bits summary
+stored_summary : {sets : List ℕ} {s word bits summary : ℕ} → StoresWord sets s word bits summary
     → summary_of (after_store sets s word bits summary) s ≡ summary
-stored_summary sets s word bits summary stores =
+stored_summary {sets} {s} {word} {bits} {summary} stores =
     get_or-set_same (set sets (65 * s + 1 + word) bits) (65 * s) summary 0
     (omega (arith, stores.are_sets.long, stores.is_set, length-set sets (65 * s + 1 + word) bits))
 
@@ -66,67 +65,43 @@ pub summary_stays : (sets : List ℕ) (s word bits : ℕ)
 summary_stays sets s word bits = get_or-set_other sets (65 * s + 1 + word) (65 * s) bits 0
     (λ same. absurd (omega arith))
 
-pub stored_are_sets : (sets : List ℕ) (s word bits summary : ℕ) → StoresWord sets s word bits summary
+pub stored_are_sets : {sets : List ℕ} {s word bits summary : ℕ} → StoresWord sets s word bits summary
     → AreSets (after_store sets s word bits summary)
-stored_are_sets sets s word bits summary stores =
+stored_are_sets {sets} {s} {word} {bits} {summary} stores =
     record {
-      long = length-set (set sets (65 * s + 1 + word) bits) (65 * s) summary
-          ∙ length-set sets (65 * s + 1 + word) bits
+      long = length-set (set sets (65 * s + 1 + word) bits) (65 * s) summary ∙ length-set sets (65 * s + 1 + word) bits
           ∙ stores.are_sets.long;
       summaries = λ other w is_set within. elim (cases_eq other s) [
         | inl same ↦ elim (cases_eq w word) [
-          | inl here ↦
-              ap (λ t. nat_eq (bit_at (summary_of (after_store sets s word bits summary) t) w) 1) same
-              ∙ ap (λ n. nat_eq (bit_at n w) 1) (stored_summary sets s word bits summary stores)
-              ∙ ap (λ k. nat_eq (bit_at summary k) 1) here
-              ∙ stores.mark
-              ∙ sym (ap (λ t. not (nat_eq (word_in_set (after_store sets s word bits summary) t w) 0)) same
-              ∙ ap (λ k. not (nat_eq (word_in_set (after_store sets s word bits summary) s k) 0)) here
-              ∙ ap (λ n. not (nat_eq n 0)) (stored_word sets s word bits summary stores))
-          | inr there ↦
-              ap (λ t. nat_eq (bit_at (summary_of (after_store sets s word bits summary) t) w) 1) same
-              ∙ ap (λ n. nat_eq (bit_at n w) 1) (stored_summary sets s word bits summary stores)
+          | inl here ↦ ap (λ t. nat_eq (bit_at (summary_of (after_store sets s word bits summary) t) w) 1) same
+              ∙ ap (λ n. nat_eq (bit_at n w) 1) (stored_summary stores) ∙ ap (λ k. nat_eq (bit_at summary k) 1) here
+              ∙ stores.mark ∙ sym (ap (λ t. not (nat_eq (word_in_set (after_store sets s word bits summary) t w) 0))
+              same ∙ ap (λ k. not (nat_eq (word_in_set (after_store sets s word bits summary) s k) 0)) here
+              ∙ ap (λ n. not (nat_eq n 0)) (stored_word stores))
+          | inr there ↦ ap (λ t. nat_eq (bit_at (summary_of (after_store sets s word bits summary) t) w) 1) same
+              ∙ ap (λ n. nat_eq (bit_at n w) 1) (stored_summary stores)
               ∙ ap (λ b. nat_eq b 1) (stores.other_marks w within there)
               ∙ stores.are_sets.summaries s w stores.is_set within
               ∙ sym (ap (λ t. not (nat_eq (word_in_set (after_store sets s word bits summary) t w) 0)) same
-              ∙ ap (λ n. not (nat_eq n 0))
-              (other_word sets s word bits summary stores.is_word s w within (λ _ here. there here)))
+              ∙ ap (λ n. not (nat_eq n 0)) (other_word sets s word bits summary stores.is_word s w within
+              (λ _ here. there here)))
         ]
-        | inr differ ↦
-            ap (λ n. nat_eq (bit_at n w) 1) (other_summary sets s word bits summary other stores.is_word differ)
-            ∙ stores.are_sets.summaries other w is_set within
-            ∙ sym (ap (λ n. not (nat_eq n 0))
-            (other_word sets s word bits summary stores.is_word other w within (λ same _. differ same)))
+        | inr differ ↦ ap (λ n. nat_eq (bit_at n w) 1) (other_summary sets s word bits summary other stores.is_word
+            differ) ∙ stores.are_sets.summaries other w is_set within
+            ∙ sym (ap (λ n. not (nat_eq n 0)) (other_word sets s word bits summary stores.is_word other w within
+            (λ same _. differ same)))
       ];
     }
 
 -- a page is put, by its word
 
-pub put_other_set : (before after : List ℕ) (s page other : ℕ) → page < 4096
+pub put_other_set : (before after : List ℕ) {s : ℕ} (page other : ℕ) → page < 4096
     → OtherWordsStay before after s (page / 64) → (other ≡ s → ⊥)
     → is_member after other page ≡ is_member before other page
-put_other_set before after s page other is_page stay differ =
-    ap (λ n. nat_eq (bit_at n (page % 64)) 1) (stay other (page / 64) (omega arith) (λ same _. differ same))
+put_other_set before after page other is_page stay differ = grind (arith, same)
 
-pub put_other_pages : (before after : List ℕ) (s page bits : ℕ) → page < 4096
-    → word_in_set after s (page / 64) ≡ bits → OtherWordsStay before after s (page / 64)
-    → ((k : ℕ) → (k ≡ page % 64 → ⊥) → bit_at bits k ≡ bit_at (word_in_set before s (page / 64)) k)
-    → OthersStay before after page
-put_other_pages before after s page bits is_page is stay others_stay other number is_set is_number differ =
-    elim (cases_eq (number / 64) (page / 64)) [
-      | inl one_word ↦ elim (cases_eq other s) [
-        | inl same ↦
-            ap (λ t. is_member after t number) same
-            ∙ ap (λ w. nat_eq (bit_at (word_in_set after s w) (number % 64)) 1) one_word
-            ∙ ap (λ n. nat_eq (bit_at n (number % 64)) 1) is
-            ∙ ap (λ b. nat_eq b 1) (others_stay (number % 64) (λ same_bit. differ (omega arith)))
-            ∙ ap (λ w. nat_eq (bit_at (word_in_set before s w) (number % 64)) 1) (sym one_word)
-            ∙ ap (λ t. is_member before t number) (sym same)
-        | inr others ↦
-            ap (λ n. nat_eq (bit_at n (number % 64)) 1)
-            (stay other (number / 64) (omega arith) (λ same _. others same))
-      ]
-      | inr words ↦
-          ap (λ n. nat_eq (bit_at n (number % 64)) 1)
-          (stay other (number / 64) (omega arith) (λ _ here. words here))
-    ]
+pub put_other_pages : (before after : List ℕ) {s : ℕ} (page bits : ℕ) → page < 4096 → word_in_set after s (page / 64)
+    ≡ bits → OtherWordsStay before after s (page / 64) → ((k : ℕ) → (k ≡ page % 64 → ⊥) → bit_at bits k
+    ≡ bit_at (word_in_set before s (page / 64)) k) → OthersStay before after page
+put_other_pages before after page bits is_page is stay others_stay other number is_set is_number differ =
+    grind (arith, same)

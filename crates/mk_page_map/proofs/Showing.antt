@@ -15,64 +15,50 @@ known_by pages sets =
 
 pub member_at : (sets : List ℕ) (s count number : ℕ) → number < count
     → get_or (members sets s count) number false ≡ is_member sets s number
-member_at sets s count number within =
-    get_or-map-range_with_len (is_member sets s) 0 count number number false within (omega arith)
+member_at sets s count number within = grind (arith, get_or-map-range_with_len)
 
-pub member_of_freed : (held pages : List Page) (sets freed : List ℕ)
+pub member_of_freed : (held : List Page) {pages : List Page} (sets : List ℕ) {freed : List ℕ}
     → Shows (known_by held sets) pages freed → (number : ℕ) → number < length pages
     → is_member sets 18 number ≡ has_freed_cells freed number
-member_of_freed held pages sets freed shows number within =
-    let long : length held ≡ length pages = ap length shows.page_by_page in
-    sym (member_at sets 18 (length held) number (omega arith)) ∙ shows.quarantined number within
+member_of_freed held sets shows number within = grind (arith, member_at)
 
 -- where a page's header or used word changes, and its quarantine stays
-pub changed_shows : (held pages : List Page) (sets after freed : List ℕ) (page : ℕ) (now : Page)
-    → length held ≤ 4096 → OthersStay sets after page
+pub changed_shows : (held : List Page) {pages : List Page} (sets after : List ℕ) {freed : List ℕ} {page : ℕ}
+    (now : Page) → length held ≤ 4096 → OthersStay sets after page
     → ((s : ℕ) → 18 ≤ s → s < 19 → is_member after s page ≡ is_member sets s page)
-    → Shows (known_by held sets) pages freed
-    → Shows (known_by (set held page now) after) (set pages page now) freed
-changed_shows held pages sets after freed page now few others same_sets shows =
+    → Shows (known_by held sets) pages freed → Shows (known_by (set held page now) after) (set pages page now) freed
+changed_shows held {pages} sets after {page} now few others same_sets shows =
     let long : length held ≡ length pages = ap length shows.page_by_page in
     let held_long : length (set held page now) ≡ length held = length-set held page now in
     let pages_long : length (set pages page now) ≡ length pages = length-set pages page now in
-    let stays : (s number : ℕ) → 18 ≤ s → s < 19 → number < length pages
-    → is_member after s number ≡ is_member sets s number
-    = λ s number quarantine is_set within. elim (cases_eq number page) [
-      | inl same ↦ ap (is_member after s) same ∙ same_sets s quarantine is_set ∙ ap (is_member sets s) (sym same)
-      | inr differ ↦ others s number (omega arith) (omega arith) differ
-    ] in
+    let stays : (s number : ℕ) → 18 ≤ s → s < 19 → number < length pages → is_member after s number
+    ≡ is_member sets s number = grind arith in
     record {
       page_by_page = ap (λ ps. set ps page now) shows.page_by_page;
       freed_words = shows.freed_words ∙ sym pages_long;
-      quarantined = λ number within.
-          member_at after 18 (length (set held page now)) number (omega arith)
+      quarantined = λ number within. member_at after 18 (length (set held page now)) number (omega arith)
           ∙ stays 18 number (omega arith) (omega arith) (omega arith)
-          ∙ member_of_freed held pages sets freed shows number (omega arith);
+          ∙ member_of_freed held sets shows number (omega arith);
     }
 
 -- where a page's quarantine word changes
-pub quarantine_shows : (held pages : List Page) (sets after freed : List ℕ) (page cells : ℕ)
-    → length held ≤ 4096 → page < length held → OthersStay sets after page
-    → is_member after 18 page ≡ not (nat_eq cells 0)
-    → Shows (known_by held sets) pages freed
+pub quarantine_shows : (held : List Page) {pages : List Page} (sets after : List ℕ) {freed : List ℕ} {page : ℕ}
+    (cells : ℕ) → length held ≤ 4096 → page < length held → OthersStay sets after page → is_member after 18 page
+    ≡ not (nat_eq cells 0) → Shows (known_by held sets) pages freed
     → Shows (known_by held after) pages (set freed page cells)
-quarantine_shows held pages sets after freed page cells few inside stay quarantined shows =
+quarantine_shows held {pages} sets after {freed} {page} cells few inside stay quarantined shows =
     let long : length held ≡ length pages = ap length shows.page_by_page in
     let freed_here : get_or (set freed page cells) page 0 ≡ cells =
     get_or-set_same freed page cells 0 (omega (arith, shows.freed_words)) in
     record {
       page_by_page = shows.page_by_page;
       freed_words = length-set freed page cells ∙ shows.freed_words;
-      quarantined = λ number within.
-          member_at after 18 (length held) number (omega arith)
+      quarantined = λ number within. member_at after 18 (length held) number (omega arith)
           ∙ elim (cases_eq number page) [
-            | inl same ↦
-                ap (is_member after 18) same
-                ∙ quarantined
+            | inl same ↦ ap (is_member after 18) same ∙ quarantined
                 ∙ sym (ap (has_freed_cells (set freed page cells)) same ∙ ap (λ n. not (nat_eq n 0)) freed_here)
-            | inr differ ↦
-                stay 18 number (omega arith) (omega arith) differ
-                ∙ member_of_freed held pages sets freed shows number within
-                ∙ sym (ap (λ n. not (nat_eq n 0)) (get_or-set_other freed page number cells 0 differ))
+            | inr differ ↦ stay 18 number (omega arith) (omega arith) differ
+                ∙ member_of_freed held sets shows number within ∙ sym
+                (ap (λ n. not (nat_eq n 0)) (get_or-set_other freed page number cells 0 differ))
           ];
     }

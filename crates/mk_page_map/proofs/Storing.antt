@@ -19,46 +19,35 @@ pub record Stores (held : List Page) (sets slice after : List ℕ) (resident pag
   pub quarantine : (s : ℕ) → 18 ≤ s → s < 19 → is_member after s page ≡ is_member slice s page
   pub others : OthersStay slice after page
 
-changes_of : (held : List Page) (sets slice after : List ℕ) (resident page : ℕ) (now : Page)
+changes_of : {held : List Page} {sets slice after : List ℕ} {resident page : ℕ} {now : Page}
     → Stores held sets slice after resident page now → Changes held sets after page now
-changes_of held sets slice after resident page now stores =
-    record {
-      within = stores.within;
-      are_sets = stores.are_sets;
-      sorted = stores.sorted;
-      others = subst (λ (xs : List ℕ). OthersStay xs after page) stores.is_slice stores.others;
-    }
+changes_of stores = grind arith
 
-pub store_fits : (held : List Page) (sets slice after vec : List ℕ) (resident count page : ℕ) (now : Page)
-    → Stores held sets slice after resident page now → vec ≡ after
-    → count + resident_one (page_at held page) ≡ resident + resident_one now
-    → FitPages (set held page now) vec count
-store_fits held sets slice after vec resident count page now stores written counted =
+pub store_fits : {held : List Page} {sets slice after : List ℕ} (vec : List ℕ) {resident : ℕ}
+    (count : ℕ) {page : ℕ} {now : Page} → Stores held sets slice after resident page now → vec ≡ after
+    → count + resident_one (page_at held page) ≡ resident + resident_one now → FitPages (set held page now) vec count
+store_fits {held} vec count {page} {now} stores written counted =
     subst (λ (xs : List ℕ). FitPages (set held page now) xs count) (sym written)
-    (fit_changed held sets after page now resident count stores.fit
-    (changes_of held sets slice after resident page now stores) counted)
+    (fit_changed count stores.fit (changes_of stores) counted)
 
-pub store_shows : (known : KnownPages) (held pages : List Page) (sets slice after vec freed : List ℕ)
-    (resident page : ℕ) (now stored : Page) → Stores held sets slice after resident page now → vec ≡ after
+pub store_shows : {known : KnownPages} {held pages : List Page} {sets slice after : List ℕ}
+    (vec : List ℕ) {freed : List ℕ}
+    {resident page : ℕ} {now : Page} (stored : Page) → Stores held sets slice after resident page now → vec ≡ after
     → known_by held sets ≡ known → (held ≡ pages → now ≡ stored) → Shows known pages freed
     → Shows (known_by (set held page now) vec) (set pages page stored) freed
-store_shows known held pages sets slice after vec freed resident page now stored stores written view same shows
-    =
+store_shows {held} {pages} {sets} {after} vec {freed} {page} {now} stored stores written view same shows =
     let shows_before = subst (λ (k : KnownPages). Shows k pages freed) (sym view) shows in
-    let changes = changes_of held sets slice after resident page now stores in
+    let changes = changes_of stores in
     subst (λ (p : Page). Shows (known_by (set held page now) vec) (set pages page p) freed)
-    (same shows_before.page_by_page)
-    (subst (λ (xs : List ℕ). Shows (known_by (set held page now) xs) (set pages page now) freed) (sym written)
-    (changed_shows held pages sets after freed page now stores.fit.few changes.others
-    (λ s quarantine is_set.
-    stores.quarantine s quarantine is_set ∙ ap (λ xs. is_member xs s page) stores.is_slice)
+    (same shows_before.page_by_page) (subst (λ (xs : List ℕ). Shows (known_by (set held page now) xs)
+    (set pages page now) freed) (sym written) (changed_shows held sets after now stores.fit.few changes.others
+    (λ s quarantine is_set. stores.quarantine s quarantine is_set ∙ ap (λ xs. is_member xs s page) stores.is_slice)
     shows_before))
 
 -- a page of the map, and its words as they were read
 pub page_within : (known : KnownPages) (held : List Page) (sets : List ℕ) (page : ℕ) → known_by held sets ≡ known
     → page < length known.pages → page < length held
-page_within known held sets page view within =
-    subst (λ (k : KnownPages). page < length k.pages) (sym view) within
+page_within known held sets page view within = grind arith
 
 pub page_read : (held : List Page) (page : ℕ) (found : Page) → page < length held
     → found ≡ slice_index_or held page found → found ≡ page_at held page
@@ -72,15 +61,13 @@ byte_is false = refl
 pub resident_byte : (page : Page) (is_resident : Bool) (byte : ℕ)
     → ((used : ℕ) → is_resident_page (use_under (header_of page.header) used) ≡ is_resident)
     → byte ≡ from_bool is_resident → byte ≡ resident_one page
-resident_byte page is_resident byte resident is =
-    is ∙ byte_is is_resident ∙ ap (λ b. cond b 1 0) (sym (resident page.used))
+resident_byte page is_resident byte resident is = grind (arith, byte_is)
 
 -- one page more or less
 pub counted_anew : (held : List Page) (page resident was is : ℕ) (now : Page) → page < length held
     → was ≡ resident_one (page_at held page) → is ≡ resident_one now
     → resident ≡ resident_pages (uses_of_pages held) → was ≤ resident + is
-counted_anew held page resident was is now within old new counted =
-    omega (arith, resident_changed held page now within)
+counted_anew held page resident was is now within old new counted = omega (arith, resident_changed held page now within)
 
 -- a used word makes no page resident
 resident_by_kind : (kind : PageKind) (used other : ℕ)
@@ -93,9 +80,4 @@ pub same_count : (held : List Page) (resident page : ℕ) (found : Page) (used :
     → found ≡ page_at held page → ((n : ℕ) → use_under (header_of found.header) n ≡ use_of_kind kind n)
     → resident + resident_one (page_at held page)
     ≡ resident + resident_one (record { header = found.header; used = used })
-same_count held resident page found used kind is is_kind =
-    ap (λ p. resident + resident_one p) (sym is)
-    ∙ ap (λ b. resident + cond b 1 0)
-    (ap is_resident_page (is_kind found.used)
-    ∙ resident_by_kind kind found.used used
-    ∙ sym (ap is_resident_page (is_kind used)))
+same_count held resident page found used kind is is_kind = grind (arith, resident_one, resident_by_kind)

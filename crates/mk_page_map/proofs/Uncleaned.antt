@@ -23,18 +23,13 @@ uncleaned_past held sets number past =
 pub uncleaned_alike : (held now : List Page) (sets after : List ℕ) (number : ℕ) → length now ≡ length held
     → (number < length held → is_member after 19 number ≡ is_member sets 19 number)
     → is_uncleaned (known_by now after) number ≡ is_uncleaned (known_by held sets) number
-uncleaned_alike held now sets after number long same = elim (cases_lt number (length held)) [
-  | inl within ↦
-      uncleaned_at now after number (omega arith) ∙ same within ∙ sym (uncleaned_at held sets number within)
-  | inr past ↦ uncleaned_past now after number (omega arith) ∙ sym (uncleaned_past held sets number past)
-]
+uncleaned_alike held now sets after number long same = grind (arith, cases_lt, uncleaned_at, uncleaned_past)
 
-pub uncleaned_others : (held now : List Page) (sets after : List ℕ) (page number : ℕ) → length now ≡ length held
+pub uncleaned_others : (held now : List Page) (sets after : List ℕ) {page : ℕ} (number : ℕ) → length now ≡ length held
     → length held ≤ 4096 → OthersStay sets after page → (number ≡ page → ⊥)
     → is_uncleaned (known_by now after) number ≡ is_uncleaned (known_by held sets) number
-uncleaned_others held now sets after page number long few others differ =
-    uncleaned_alike held now sets after number long
-    (λ within. others 19 number (omega arith) (omega arith) differ)
+uncleaned_others held now sets after number long few others differ =
+    uncleaned_alike held now sets after number long (λ within. others 19 number (omega arith) (omega arith) differ)
 
 -- where all else of a page stays in the sets
 pub record ChangesUncleaned (held : List Page) (sets slice after : List ℕ) (resident page : ℕ) : Type 0 where
@@ -45,100 +40,78 @@ pub record ChangesUncleaned (held : List Page) (sets slice after : List ℕ) (re
   pub other_sets : (s : ℕ) → s < 20 → (s ≡ 19 → ⊥) → is_member after s page ≡ is_member slice s page
   pub others : OthersStay slice after page
 
-same_sets : (held : List Page) (sets slice after : List ℕ) (resident page : ℕ)
+same_sets : {held : List Page} {sets slice after : List ℕ} {resident page : ℕ}
     → ChangesUncleaned held sets slice after resident page
     → (s number : ℕ) → s < 19 → number < length held → is_member after s number ≡ is_member sets s number
-same_sets held sets slice after resident page r s number is_set within =
+same_sets {sets} {after} {page} r s number is_set within =
     elim (cases_eq number page) [
-      | inl same ↦
-          ap (is_member after s) same
-          ∙ r.other_sets s (omega arith) (λ e. absurd (omega arith))
-          ∙ ap (λ xs. is_member xs s page) r.is_slice
-          ∙ ap (is_member sets s) (sym same)
-      | inr differ ↦
-          r.others s number (omega arith) (omega (arith, r.fit.few)) differ
+      | inl same ↦ ap (is_member after s) same ∙ r.other_sets s (omega arith) (λ e. absurd (omega arith))
+          ∙ ap (λ xs. is_member xs s page) r.is_slice ∙ ap (is_member sets s) (sym same)
+      | inr differ ↦ r.others s number (omega arith) (omega (arith, r.fit.few)) differ
           ∙ ap (λ xs. is_member xs s number) r.is_slice
     ]
 
-pub still_fits : (held : List Page) (sets slice after vec : List ℕ) (resident page : ℕ)
+pub still_fits : {held : List Page} {sets slice after : List ℕ} (vec : List ℕ) {resident page : ℕ}
     → ChangesUncleaned held sets slice after resident page → vec ≡ after → FitPages held vec resident
-still_fits held sets slice after vec resident page r written =
+still_fits {held} {after} vec {resident} {page} r written =
     subst (λ (xs : List ℕ). FitPages held xs resident) (sym written)
-    (fit_again held sets after page resident r.fit r.are_sets r.within
-    (λ s is_set. same_sets held sets slice after resident page r s page (omega arith) r.within)
+    (fit_again r.fit r.are_sets r.within (λ s is_set. same_sets r s page (omega arith) r.within)
     (subst (λ (xs : List ℕ). OthersStay xs after page) r.is_slice r.others))
 
-pub still_shows : (known : KnownPages) (held pages : List Page) (sets slice after vec freed : List ℕ)
-    (resident page : ℕ) → ChangesUncleaned held sets slice after resident page → vec ≡ after → known_by held sets
-    ≡ known
-    → Shows known pages freed → Shows (known_by held vec) pages freed
-still_shows known held pages sets slice after vec freed resident page r written view shows =
+pub still_shows : {known : KnownPages} {held pages : List Page} {sets slice after : List ℕ}
+    (vec : List ℕ) {freed : List ℕ} {resident page : ℕ} → ChangesUncleaned held sets slice after resident page → vec
+    ≡ after → known_by held sets ≡ known → Shows known pages freed → Shows (known_by held vec) pages freed
+still_shows {held} {pages} {sets} {after} vec {freed} r written view shows =
     let before = subst (λ (k : KnownPages). Shows k pages freed) (sym view) shows in
     let long : length held ≡ length pages = ap length before.page_by_page in
-    let stays = same_sets held sets slice after resident page r in
-    subst (λ (xs : List ℕ). Shows (known_by held xs) pages freed) (sym written)
-    (record {
+    let stays = same_sets r in
+    subst (λ (xs : List ℕ). Shows (known_by held xs) pages freed) (sym written) (record {
       page_by_page = before.page_by_page;
       freed_words = before.freed_words;
-      quarantined = λ number within.
-          member_at after 18 (length held) number (omega arith)
-          ∙ stays 18 number (omega arith) (omega arith)
-          ∙ member_of_freed held pages sets freed before number within;
+      quarantined = λ number within. member_at after 18 (length held) number (omega arith)
+          ∙ stays 18 number (omega arith) (omega arith) ∙ member_of_freed held sets before number within;
     })
 
-pub others_uncleaned : (known : KnownPages) (held : List Page) (sets slice after vec : List ℕ)
-    (resident page number : ℕ) → ChangesUncleaned held sets slice after resident page → vec ≡ after
+pub others_uncleaned : (known : KnownPages) {held : List Page} {sets slice after : List ℕ} (vec : List ℕ)
+    {resident page : ℕ} (number : ℕ) → ChangesUncleaned held sets slice after resident page → vec ≡ after
     → known_by held sets ≡ known → (number ≡ page → ⊥)
     → is_uncleaned (known_by held vec) number ≡ is_uncleaned known number
-others_uncleaned known held sets slice after vec resident page number r written view differ =
-    ap (λ xs. is_uncleaned (known_by held xs) number) written
-    ∙ uncleaned_others held held sets after page number refl r.fit.few
-    (subst (λ (xs : List ℕ). OthersStay xs after page) r.is_slice r.others) differ
+others_uncleaned known {held} {sets} {after} vec {page} number r written view differ =
+    ap (λ xs. is_uncleaned (known_by held xs) number) written ∙ uncleaned_others held held sets after number refl
+    r.fit.few (subst (λ (xs : List ℕ). OthersStay xs after page) r.is_slice r.others) differ
     ∙ ap (λ k. is_uncleaned k number) view
 
 pub this_uncleaned : (held : List Page) (after vec : List ℕ) (page : ℕ) (inside : Bool) → page < length held
     → vec ≡ after → is_member after 19 page ≡ inside → is_uncleaned (known_by held vec) page ≡ inside
-this_uncleaned held after vec page inside within written put =
-    ap (λ xs. is_uncleaned (known_by held xs) page) written ∙ uncleaned_at held after page within ∙ put
+this_uncleaned held after vec page inside within written put = grind (arith, known_by, uncleaned_at)
 
 -- a store of a word of a page: what the set has of other pages, and of this one where it stays there
 
-pub others_kept : (known : KnownPages) (held now : List Page) (sets slice after vec : List ℕ) (page number : ℕ)
+pub others_kept : (known : KnownPages) (held now : List Page) (sets : List ℕ) {slice after : List ℕ}
+    (vec : List ℕ) {page : ℕ} (number : ℕ)
     → known_by held sets ≡ known → slice ≡ sets → vec ≡ after → length now ≡ length held → length held ≤ 4096
     → OthersStay slice after page → (number ≡ page → ⊥)
     → is_uncleaned (known_by now vec) number ≡ is_uncleaned known number
-others_kept known held now sets slice after vec page number view is_slice written long few others differ =
-    ap (λ xs. is_uncleaned (known_by now xs) number) written
-    ∙ uncleaned_others held now sets after page number long few
-    (subst (λ (xs : List ℕ). OthersStay xs after page) is_slice others) differ
-    ∙ ap (λ k. is_uncleaned k number) view
+others_kept known held now sets {after} vec {page} number view is_slice written long few others differ =
+    ap (λ xs. is_uncleaned (known_by now xs) number) written ∙ uncleaned_others held now sets after number long few
+    (subst (λ (xs : List ℕ). OthersStay xs after page) is_slice others) differ ∙ ap (λ k. is_uncleaned k number) view
 
-pub all_kept : (known : KnownPages) (held now : List Page) (sets slice after vec : List ℕ) (page number : ℕ)
+pub all_kept : (known : KnownPages) (held now : List Page) (sets : List ℕ) {slice after : List ℕ}
+    (vec : List ℕ) {page : ℕ} (number : ℕ)
     → known_by held sets ≡ known → slice ≡ sets → vec ≡ after → length now ≡ length held → length held ≤ 4096
     → OthersStay slice after page → is_member after 19 page ≡ is_member slice 19 page
     → is_uncleaned (known_by now vec) number ≡ is_uncleaned known number
-all_kept known held now sets slice after vec page number view is_slice written long few others same =
+all_kept known held now sets {after} vec {page} number view is_slice written long few others same =
     elim (cases_eq number page) [
-      | inr differ ↦
-          others_kept known held now sets slice after vec page number view is_slice written long few others differ
-      | inl here ↦
-          ap (λ xs. is_uncleaned (known_by now xs) number) written
-          ∙ uncleaned_alike held now sets after number long
-          (λ within.
-          ap (is_member after 19) here
-          ∙ same
-          ∙ ap (λ xs. is_member xs 19 page) is_slice
-          ∙ ap (is_member sets 19) (sym here))
+      | inr differ ↦ others_kept known held now sets vec number view is_slice written long few others differ
+      | inl here ↦ ap (λ xs. is_uncleaned (known_by now xs) number) written
+          ∙ uncleaned_alike held now sets after number long (λ within. ap (is_member after 19) here ∙ same
+          ∙ ap (λ xs. is_member xs 19 page) is_slice ∙ ap (is_member sets 19) (sym here))
           ∙ ap (λ k. is_uncleaned k number) view
     ]
 
 -- the next page of the set
-pub next_of_uncleaned : (known : KnownPages) (held : List Page) (sets slice : List ℕ) (resident count from : ℕ)
+pub next_of_uncleaned : {known : KnownPages} {held : List Page} {sets slice : List ℕ} {resident count : ℕ} (from : ℕ)
     (next : Option ℕ) → Reads known held sets slice resident count
     → IsNext (is_member slice 19) from count next → IsNext (is_uncleaned known) from (length known.pages) next
-next_of_uncleaned known held sets slice resident count from next reads found =
-    subst (λ (k : KnownPages). IsNext (is_uncleaned k) from (length k.pages) next) reads.view
-    (same_next (is_member slice 19) (is_uncleaned (known_by held sets)) from (length held) next
-    (λ number within.
-    ap (λ xs. is_member xs 19 number) reads.is_slice ∙ sym (uncleaned_at held sets number within))
-    (subst (λ (n : ℕ). IsNext (is_member slice 19) from n next) reads.is_count found))
+next_of_uncleaned from next reads found = grind (arith, same_next, known_by, uncleaned_at)

@@ -1,7 +1,5 @@
 use Rattle.mk_alloc.proofs.Vocabulary.{CalledInTurn, CallerState, IsEnabledTo, PassState, Seeks, in_turn}
-use Rattle.mk_laws.proofs.Vocabulary.{Answer, Bool, Op, Some, Step, ap, false, refl, subst, sym, true}
-use Rattle.mk_core.specs.declared.seats.Flight.{Flight}
-use Rattle.mk_core.specs.Calls.{d_of}
+use Rattle.mk_laws.proofs.Vocabulary.{Answer, Bool, Flight, Op, Some, Step, ap, d_of, false, refl, subst, sym, true}
 use Rattle.mk_alloc.proofs.NewTurns.{begun_quiet, begun_unplaced, new_called}
 use Rattle.mk_alloc.proofs.OneCycles.{none_runs_one, placed_begins_none}
 use Rattle.mk_alloc.proofs.{CalledTurns.taken_turn, QuietTurns.give_allowed, SeekingTurns.seeks_placed}
@@ -17,7 +15,7 @@ try_take-requires-clause-enabled c =
     let p : PassState = c.args.caller.now.pass in
     subst (λ (x : PassState). IsEnabledTo x (Step.Take (Some (Op.New c.args.d c.args.ty false))))
     (sym c.lend-home.ensures.pass)
-    (may_take p c.args.d c.args.ty c.is_idle.ensures.idle c.requires.exists c.requires.register c.requires.number)
+    (may_take p c.args.d c.args.ty c.is_idle.ensures.idle c.requires.suits.exists c.requires.suits.register c.requires.suits.number)
 
 -- the turn, as it was taken
 taken : (c : After-is_in_order) → TakenNew c.args.caller.now.pass c.args.d c.args.ty c.in-Ok.turn.pass
@@ -25,7 +23,7 @@ taken c =
     let p : PassState = c.args.caller.now.pass in
     let e = c.in-Ok.ensures in
     let i = c.is_in_order.ensures in
-    taken_new p c.args.d c.args.ty c.is_idle.ensures.idle c.requires.exists c.in-Ok.turn.pass c.requires.alone
+    taken_new p c.args.d c.args.ty c.is_idle.ensures.idle c.requires.suits.exists c.in-Ok.turn.pass c.requires.suits.alone
     (subst (λ (x : PassState). Finds x (Step.Take (Some (Op.New c.args.d c.args.ty false))) 0 c.in-Ok.turn.pass)
     c.lend-home.ensures.pass e.made)
     e.fresh e.exact e.tidy i.before_over
@@ -36,8 +34,7 @@ place_number-requires-clause-unplaced c =
     begun_unplaced c.in-Ok.turn.pass c.args.d c.args.ty false (taken x.After-is_in_order).begins
 
 pub place_number-requires-clause-register : goal.place_number-requires-clause-register
-place_number-requires-clause-register c =
-    sym (ap (λ (f : Flight). d_of f.op) (c.in-Ok.ensures.fresh).call)
+place_number-requires-clause-register c = sym (ap (λ (f : Flight). d_of f.op) (c.in-Ok.ensures.fresh).call)
 
 -- The object was placed.
 seeks : (c : After-is_in_order-in-Ok) → TakenNew c.args.caller.now.pass c.args.d c.args.ty c.in-Ok.turn.pass
@@ -95,4 +92,4 @@ returns-else-not-place_number-clause-owned c =
     let t = taken x.After-is_in_order in
     subst (λ (x : CallerState). HasNumber x.pass c.args.d 0) (sym c.back-in-Ok.ensures)
     (made_owns c.args.d c.args.ty (called x.After-give-home t (seeks x.After-is_in_order-in-Ok t) true)
-    c.give-home.ensures.acts.makes.pass.history c.requires.number)
+    c.give-home.ensures.acts.makes.pass.history c.requires.suits.number)

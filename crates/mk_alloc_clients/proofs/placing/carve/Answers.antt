@@ -1,35 +1,38 @@
 use Rattle.mk_laws.proofs.Vocabulary.{Object, Step, ap, arith, header_made, pages_made, subst, sym, ◌+◌, ◌∙◌, ◌≡◌}
 use Rattle.mk_alloc.proofs.Vocabulary.{Acts, IsEnabledTo, PassState, object_for}
-use Rattle.mk_objects.proofs.Serves.{carved_all, head_may, heads_on, knows_place}
+use Rattle.mk_alloc_clients.{proofs.placing.carve.Goals.After-is_in_order, specs.Making.one_number}
+use Rattle.mk_objects.proofs.Serves.{KnowsPlace, carved_all, head_may, heads_on, knows_place}
 use Rattle.mk_objects.specs.Placing.{HasCarved}
 use Rattle.mk_alloc_clients.proofs.placing.carve.Goals as goal
+
+-- what is known of the place
+knows : (c : After-is_in_order) → KnowsPlace c.args.turn.now.pass c.args.place
+knows c = knows_place c.is_in_order.ensures.turn c.is_in_order.ensures.history c.requires.goes
+
+-- The object has one page.
+one_page : {o : Object} → o ≡ one_number → pages_made o ≡ 1
+one_page is = ap (λ (o : Object). pages_made o) is
 
 pub head-requires-clause-enabled : goal.head-requires-clause-enabled
 head-requires-clause-enabled c =
     let p : PassState = c.args.turn.now.pass in
     let q : PassState = c.mark_first.new.turn.pass in
-    let i = c.is_in_order.ensures in
-    let k = knows_place p c.args.turn.now.op c.args.place i.turn i.history c.requires.goes in
-    let count : pages_made (object_for p) ≡ 1 = ap (λ (o : Object). pages_made o) c.requires.number in
+    let k = knows (goal.at.head-requires-clause-enabled c).After-is_in_order in
+    let count = one_page c.requires.number in
     let first : c.args.place.page + 0 ≡ c.args.place.page = omega arith in
-    subst (λ n. IsEnabledTo q (Step.Head c.args.place.page n))
-    (ap (λ (o : Object). header_made o 0) c.requires.number ∙ sym c.block_word.ensures)
-    (subst (λ page. IsEnabledTo q (Step.Head page (header_made (object_for p) 0))) first
-    (head_may p c.args.place c.requires.goes k c.requires.free q 0 c.mark_first.ensures.carved (omega arith)))
+    subst (λ n. IsEnabledTo q (Step.Head c.args.place.page n)) (ap (λ (o : Object). header_made o 0) c.requires.number
+    ∙ sym c.block_word.ensures) (subst (λ page. IsEnabledTo q (Step.Head page (header_made (object_for p) 0))) first
+    (head_may c.requires.goes k c.requires.free c.mark_first.ensures.carved (omega arith)))
 
 pub returns-clause-ready : goal.returns-clause-ready
 returns-clause-ready c =
     let p : PassState = c.args.turn.now.pass in
-    let q : PassState = c.mark_first.new.turn.pass in
     let r : PassState = c.head.new.self.pass in
-    let i = c.is_in_order.ensures in
-    let k = knows_place p c.args.turn.now.op c.args.place i.turn i.history c.requires.goes in
-    let count : pages_made (object_for p) ≡ 1 = ap (λ (o : Object). pages_made o) c.requires.number in
-    let first : c.args.place.page + 0 ≡ c.args.place.page = omega arith in
-    let a : Acts q (Step.Head (c.args.place.page + 0) (header_made (object_for p) 0)) r =
-    subst (λ page. Acts q (Step.Head page (header_made (object_for p) 0)) r) (sym first)
-    (subst (λ n. Acts q (Step.Head c.args.place.page n) r)
+    let count = one_page c.requires.number in
+    let first : c.args.place.page ≡ c.args.place.page + 0 = omega arith in
+    let k = knows (goal.at.returns-clause-ready c).After-is_in_order in
+    let a = subst (λ page. Acts c.mark_first.new.turn.pass (Step.Head page (header_made (object_for p) 0)) r) first
+    (subst (λ n. Acts c.mark_first.new.turn.pass (Step.Head c.args.place.page n) r)
     (c.block_word.ensures ∙ sym (ap (λ (o : Object). header_made o 0) c.requires.number)) c.head.ensures.acts) in
-    carved_all p c.args.place c.requires.goes k c.requires.free r
-    (subst (λ n. HasCarved p c.args.place n r) (sym count)
-    (heads_on p c.args.place c.requires.goes k c.requires.free q r 0 c.mark_first.ensures.carved (omega arith) a))
+    carved_all c.requires.goes k c.requires.free (subst (λ n. HasCarved p c.args.place n r) (sym count)
+    (heads_on c.requires.goes k c.requires.free c.mark_first.ensures.carved (omega arith) a))

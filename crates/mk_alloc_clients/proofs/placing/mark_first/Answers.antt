@@ -8,26 +8,26 @@ pub mark-requires-clause-enabled : goal.mark-requires-clause-enabled
 mark-requires-clause-enabled c =
     let p : PassState = c.args.turn.now.pass in
     let i = c.is_in_order.ensures in
-    let k = knows_place p c.args.turn.now.op c.args.place i.turn i.history c.requires.goes in
+    let k = knows_place i.turn i.history c.requires.goes in
     let one = eqb-true (phase_of (now_of p).words) 1 (sym c.requires.marking ∙ c.if-marking.true) in
     subst (λ n. IsEnabledTo p (Step.Mark c.args.place.page n)) (ap (λ (o : Object). bits_made o) c.requires.number)
-    (mark_may p c.args.place c.requires.goes k c.requires.free one)
+    (mark_may c.requires.goes k c.requires.free one)
 
 pub returns-then-marking-clause-carved : goal.returns-then-marking-clause-carved
 returns-then-marking-clause-carved c =
     let p : PassState = c.args.turn.now.pass in
     let q : PassState = c.mark.new.self.pass in
     let i = c.is_in_order.ensures in
-    let k = knows_place p c.args.turn.now.op c.args.place i.turn i.history c.requires.goes in
+    let k = knows_place i.turn i.history c.requires.goes in
     let one = eqb-true (phase_of (now_of p).words) 1 (sym c.requires.marking ∙ c.if-marking.true) in
     let a = subst (λ n. Acts p (Step.Mark c.args.place.page n) q)
     (sym (ap (λ (o : Object). bits_made o) c.requires.number)) c.mark.ensures.acts in
-    marks_first p c.args.place c.requires.goes k c.requires.free q one a
+    marks_first c.requires.goes k c.requires.free one a
 
 pub returns-else-marking-clause-carved : goal.returns-else-marking-clause-carved
 returns-else-marking-clause-carved c =
     let p : PassState = c.args.turn.now.pass in
     let i = c.is_in_order.ensures in
-    let k = knows_place p c.args.turn.now.op c.args.place i.turn i.history c.requires.goes in
-    marks_none p c.args.place c.requires.goes k c.requires.free
+    let k = knows_place i.turn i.history c.requires.goes in
+    marks_none c.requires.goes k c.requires.free
     (eqb-false (phase_of (now_of p).words) 1 (sym c.requires.marking ∙ c.if-marking.false))

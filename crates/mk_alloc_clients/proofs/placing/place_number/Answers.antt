@@ -1,6 +1,4 @@
-use Rattle.mk_laws.proofs.Vocabulary.{None, Some, ap, refl, sym, ◌∙◌}
-use Rattle.mk_core.specs.declared.seats.Flight.{Flight}
-use Rattle.mk_core.specs.Calls.{d_of}
+use Rattle.mk_laws.proofs.Vocabulary.{Flight, None, Some, ap, d_of, refl, sym, ◌∙◌}
 use Rattle.mk_alloc.proofs.Vocabulary.{PassState}
 use Rattle.mk_alloc_clients.proofs.FoundRoom.{goes, nowhere, placed, sees_page}
 use Rattle.mk_objects.proofs.JoinedLooks.{looks_call, looks_exact, looks_object}
@@ -9,9 +7,7 @@ use Rattle.mk_alloc_clients.proofs.placing.place_number.Goals as goal
 
 pub serve-requires-clause-register : goal.serve-requires-clause-register
 serve-requires-clause-register c =
-    c.requires.register
-    ∙ sym (ap (λ (f : Flight). d_of f.op)
-    (looks_call c.args.turn.now.pass c.see-seen.new.turn.pass c.see-seen.ensures.looks))
+    c.requires.register ∙ sym (ap (λ (f : Flight). d_of f.op) (looks_call c.see-seen.ensures.looks))
 
 pub serve-requires-clause-number : goal.serve-requires-clause-number
 serve-requires-clause-number c =
@@ -35,8 +31,7 @@ serve-requires-clause-page c =
     c.requires.number c.see-seen.ensures.looks c.see-seen.ensures.page c.in-Some.ensures c.in-Some.place refl
 
 pub serve-requires-clause-exact : goal.serve-requires-clause-exact
-serve-requires-clause-exact c =
-    looks_exact c.args.turn.now.pass c.see-seen.new.turn.pass c.see-seen.ensures.looks c.requires.exact
+serve-requires-clause-exact c = looks_exact c.see-seen.ensures.looks c.requires.exact
 
 pub returns-in-None-clause-nowhere : goal.returns-in-None-clause-nowhere
 returns-in-None-clause-nowhere c =

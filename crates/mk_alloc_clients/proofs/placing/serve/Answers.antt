@@ -1,82 +1,52 @@
-use Rattle.mk_laws.proofs.Vocabulary.{Object, Page, Step, ap, arith, has_bit, subst, sym, used_at, words_made}
-use Rattle.mk_laws.proofs.Vocabulary.{words_within, ◌+◌, ◌∙◌, ◌≡◌}
-use Rattle.mk_alloc.proofs.Vocabulary.{IsEnabledTo, PassState, now_of, object_for}
+use Rattle.mk_laws.proofs.Vocabulary.{Object, address_of, ap, arith, base_made, sym, words_made, words_within, ◌%◌, ◌^◌}
+use Rattle.mk_laws.proofs.Vocabulary.{◌∙◌, ◌≡◌}
+use Rattle.mk_alloc.proofs.Vocabulary.{PassState, object_for}
 use Rattle.mk_alloc_clients.proofs.placing.serve.Goals.{After-grant, After-is_in_order, After-used}
-use Rattle.mk_objects.proofs.Takes.{HasGranted, HasTaken, counted, counted_held, few_held, grant_admits, grant_may}
-use Rattle.mk_objects.proofs.Takes.{grant_on, one_bit_more, small_index, tally_may, tally_on, used_may, used_on}
+use Rattle.mk_objects.proofs.Takes.{HasGranted, HasTaken, counted, counted_held, few_held, grant_address, grant_admits}
+use Rattle.mk_objects.proofs.Takes.{grant_may, grant_on, grant_register, one_bit_more, small_index, tally_may, tally_on}
+use Rattle.mk_objects.proofs.Takes.{used_may, used_on}
 use Rattle.mk_objects.proofs.Serves.{KnowsPlace, knows_place, place_unused}
-use Rattle.mk_objects.proofs.Takes.{grant_address, grant_register}
-use Rattle.std.specs.Prelude.{◌%◌, ◌^◌}
-use Rattle.mk_geom.specs.Addresses.{address_of}
-use Rattle.mk_core.specs.NewPlaces.{base_made}
 use Rattle.mk_alloc_clients.proofs.placing.serve.Goals as goal
 
 -- what is known of the place
 knows : (c : After-is_in_order) → KnowsPlace c.args.turn.now.pass c.args.place
-knows c =
-    knows_place c.args.turn.now.pass c.args.turn.now.op c.args.place c.is_in_order.ensures.turn
-    c.is_in_order.ensures.history c.requires.goes
+knows c = knows_place c.is_in_order.ensures.turn c.is_in_order.ensures.history c.requires.goes
 
 -- its cell is taken
 taken : (c : After-used) (k : KnowsPlace c.args.turn.now.pass c.args.place)
-    → HasTaken c.args.turn.now.pass c.args.place c.requires.goes k c.used.new.self.pass
-taken c k =
-    used_on c.args.turn.now.pass c.args.place c.requires.goes k c.make_ready.new.turn.pass c.used.new.self.pass _
-    c.make_ready.ensures.ready c.used.ensures.acts
+    → HasTaken c.requires.goes k c.used.new.self.pass
+taken c k = used_on c.requires.goes k c.make_ready.ensures.ready c.used.ensures.acts
 
 -- and the object is granted
 granted : (c : After-grant) (k : KnowsPlace c.args.turn.now.pass c.args.place)
-    → HasTaken c.args.turn.now.pass c.args.place c.requires.goes k c.used.new.self.pass
-    → HasGranted c.args.turn.now.pass c.args.place c.requires.goes k c.grant.new.self.pass
-granted c k taken =
-    grant_on c.args.turn.now.pass c.args.place c.requires.goes k c.used.new.self.pass c.grant.new.self.pass taken
-    c.grant.ensures.acts c.is_in_order.ensures.history
+    → HasTaken c.requires.goes k c.used.new.self.pass → HasGranted c.requires.goes k c.grant.new.self.pass
+granted c k taken = grant_on c.requires.goes k taken c.grant.ensures.acts c.is_in_order.ensures.history
 
 pub overflow_shl-place : goal.overflow_shl-place
-overflow_shl-place c =
-    small_index c.args.turn.now.pass c.args.place (knows (goal.at.overflow_shl-place c).After-is_in_order)
+overflow_shl-place c = small_index (knows (goal.at.overflow_shl-place c).After-is_in_order)
 
 pub used-requires-clause-enabled : goal.used-requires-clause-enabled
-used-requires-clause-enabled c =
-    let p : PassState = c.args.turn.now.pass in
-    let k = knows (goal.at.used-requires-clause-enabled c).After-is_in_order in
-    let known : used_at (now_of p).words c.args.place.page ≡ c.args.seen.page.used =
-    sym (ap (λ (x : Page). x.used) c.requires.page) in
-    let clear : has_bit c.args.seen.page.used c.args.place.index ≡ _ =
-    sym (ap (λ n. has_bit n c.args.place.index) known) ∙ place_unused p c.args.place k in
-    subst (λ n. IsEnabledTo c.make_ready.new.turn.pass (Step.Used c.args.place.page n))
-    (sym (one_bit_more c.args.seen.page.used c.args.place.index (small_index p c.args.place k) clear))
-    (used_may p c.args.place c.requires.goes k c.make_ready.new.turn.pass c.args.seen.page.used
-    c.make_ready.ensures.ready known)
+used-requires-clause-enabled c = grind (arith, knows, place_unused, one_bit_more, small_index, used_may)
 
 pub grant-requires-clause-enabled : goal.grant-requires-clause-enabled
-grant-requires-clause-enabled c =
-    let x = goal.at.grant-requires-clause-enabled c in
-    let k = knows x.After-is_in_order in
-    grant_may c.args.turn.now.pass c.args.place c.requires.goes k c.used.new.self.pass (taken x.After-used k)
+grant-requires-clause-enabled c = grind (arith, knows, grant_may, taken)
 
 pub grant-requires-clause-admitted : goal.grant-requires-clause-admitted
 grant-requires-clause-admitted c =
     let x = goal.at.grant-requires-clause-admitted c in
     let k = knows x.After-is_in_order in
-    grant_admits c.args.turn.now.pass c.args.place c.requires.goes k c.used.new.self.pass
+    grant_admits c.requires.goes k
     (taken x.After-used k) c.used.ensures.acts.makes.pass.history c.is_in_order.ensures.history
 
 pub grant-requires-clause-register : goal.grant-requires-clause-register
-grant-requires-clause-register c =
-    let x = goal.at.grant-requires-clause-register c in
-    let k = knows x.After-is_in_order in
-    c.requires.register
-    ∙ sym (grant_register c.args.turn.now.pass c.args.place c.requires.goes k c.used.new.self.pass
-    (taken x.After-used k))
+grant-requires-clause-register c = grind (arith, knows, grant_register, taken)
 
 pub grant-requires-clause-address : goal.grant-requires-clause-address
 grant-requires-clause-address c =
     let x = goal.at.grant-requires-clause-address c in
     let k = knows x.After-is_in_order in
     c.address.ensures ∙ ap (λ (o : Object). address_of (base_made o c.args.place) % 2 ^ 64) (sym c.requires.number)
-    ∙ sym (grant_address c.args.turn.now.pass c.args.place c.requires.goes k c.used.new.self.pass
-    (taken x.After-used k))
+    ∙ sym (grant_address c.requires.goes k (taken x.After-used k))
 
 pub address-requires-clause-page : goal.address-requires-clause-page
 address-requires-clause-page c =
@@ -84,37 +54,20 @@ address-requires-clause-page c =
     omega (arith, k.within, c.is_in_order.ensures.history.within_limits.pages.1)
 
 pub address-requires-clause-index : goal.address-requires-clause-index
-address-requires-clause-index c =
-    small_index c.args.turn.now.pass c.args.place (knows (goal.at.address-requires-clause-index c).After-is_in_order)
+address-requires-clause-index c = small_index (knows (goal.at.address-requires-clause-index c).After-is_in_order)
 
 pub overflow_add-seen : goal.overflow_add-seen
-overflow_add-seen c =
-    let p : PassState = c.args.turn.now.pass in
-    let h = c.is_in_order.ensures.history in
-    let k = knows (goal.at.overflow_add-seen c).After-is_in_order in
-    let few = few_held p c.args.place k c.requires.goes h in
-    let most = h.within_limits.pages.1 in
-    let words = (words_within (object_for p) k.sized).1 in
-    let size : 2 ≡ words_made (object_for p) = sym (ap (λ (o : Object). words_made o) c.requires.number) in
-    omega (arith, c.requires.held, c.requires.exact)
+overflow_add-seen c = grind (arith, knows, few_held, words_within)
 
 pub tally-requires-clause-enabled : goal.tally-requires-clause-enabled
-tally-requires-clause-enabled c =
-    let x = goal.at.tally-requires-clause-enabled c in
-    let k = knows x.After-is_in_order in
-    tally_may c.args.turn.now.pass c.args.place c.requires.goes k c.grant.new.self.pass _
-    (granted x.After-grant k (taken x.After-used k))
+tally-requires-clause-enabled c = grind (arith, knows, tally_may, granted, taken)
 
 -- the last step, and the tally
 pub returns-clause-granted : goal.returns-clause-granted
 returns-clause-granted c =
     let x = goal.at.returns-clause-granted c in
-    let p : PassState = c.args.turn.now.pass in
     let k = knows x.After-is_in_order in
-    let n = c.args.seen.held + 2 in
-    counted p c.args.place c.requires.goes k c.tally.new.self.pass n
-    (tally_on p c.args.place c.requires.goes k c.grant.new.self.pass c.tally.new.self.pass n
-    (granted x.After-grant k (taken x.After-used k))
+    counted c.requires.goes k (tally_on c.requires.goes k (granted x.After-grant k (taken x.After-used k))
     c.tally.ensures.acts c.is_in_order.ensures.history)
 
 pub returns-clause-held : goal.returns-clause-held
@@ -122,10 +75,7 @@ returns-clause-held c =
     let x = goal.at.returns-clause-held c in
     let p : PassState = c.args.turn.now.pass in
     let k = knows x.After-is_in_order in
-    let n = c.args.seen.held + 2 in
     let size : 2 ≡ words_made (object_for p) = sym (ap (λ (o : Object). words_made o) c.requires.number) in
-    counted_held p c.args.place c.requires.goes k c.tally.new.self.pass c.args.seen.held 2
-    (c.requires.held ∙ c.requires.exact) size
-    (tally_on p c.args.place c.requires.goes k c.grant.new.self.pass c.tally.new.self.pass n
-    (granted x.After-grant k (taken x.After-used k))
-    c.tally.ensures.acts c.is_in_order.ensures.history)
+    counted_held c.requires.goes k (c.requires.held ∙ c.requires.exact) size
+    (tally_on c.requires.goes k (granted x.After-grant k (taken x.After-used k)) c.tally.ensures.acts
+    c.is_in_order.ensures.history)

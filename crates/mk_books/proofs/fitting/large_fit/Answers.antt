@@ -1,5 +1,4 @@
-use Rattle.std.proofs.{Common.arith, Common.sym, Common.◌∙◌, Common.◌≡◌, lemmas.Grind.common_steps}
-use Rattle.mk_geom.specs.{PageUses.range_start, PageUses.resident_pages, PageWords.uses_of_pages}
+use Rattle.std.proofs.{Common.arith, Common.sym, Common.◌∙◌, lemmas.Grind.common_steps}
 use Rattle.mk_books.proofs.FreeRangeLemmas.{first-end, first-here, first-known, first-skip, free_range_from-free}
 use Rattle.mk_books.proofs.FreeRangeLemmas.{free_range_from-taken}
 use Rattle.mk_books.proofs.fitting.large_fit.Goals.{else-not-is_free+else-number-range}
@@ -58,13 +57,4 @@ loop-number-preserved c =
     ]
 
 pub returns-then-resident-count : goal.returns-then-resident-count
-returns-then-resident-count c =
-    let before = c.loop-number.invariant in
-    let known : c.loop-number.first ≡ range_start c.args.count (uses_of_pages c.args.pages.now)
-    = sym (first-end c.loop-number.first c.loop-number.range c.args.count c.args.pages.now (omega arith)
-    (λ none. omega (arith, before.short none)))
-    ∙ before.first in
-    let resident : c.loop-number.resident ≡ resident_pages (uses_of_pages c.args.pages.now)
-    = omega (arith, before.resident, resident_from-end c.loop-number.number c.args.pages.now c.loop-number-test.false)
-    in
-    grind (arith, common_steps, known, resident)
+returns-then-resident-count c = grind (arith, first-end, resident_from-end, common_steps)

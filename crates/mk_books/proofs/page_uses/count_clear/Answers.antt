@@ -1,4 +1,3 @@
-use Rattle.std.proofs.Common.{ap, sym, ◌-◌, ◌∙◌}
 use Rattle.mk_books.proofs.UsedBitLemmas.{count_clear_bits}
 use Rattle.mk_books.proofs.page_uses.count_clear.Goals as goal
 

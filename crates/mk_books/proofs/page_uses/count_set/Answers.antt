@@ -1,13 +1,10 @@
-use Rattle.std.proofs.Common.{ap, arith, bit_and, count_ones, ◌%◌, ◌*◌, ◌-◌, ◌^◌, ◌∙◌, ◌≡◌}
-use Rattle.std.proofs.{lemmas.Grind.common_steps, lemmas.List.Sums.count_by-le-length}
+use Rattle.std.proofs.{Common.arith, Common.◌-◌, lemmas.Grind.common_steps, lemmas.List.Sums.count_by-le-length}
 use Rattle.mk_geom.specs.PageWords.{bits_of}
 use Rattle.mk_books.proofs.UsedBitLemmas.{count_ones-masked, length-bits_of}
 use Rattle.mk_books.proofs.page_uses.count_set.Goals as goal
 
 pub returns-clause-exact : goal.returns-clause-exact
-returns-clause-exact c =
-    let shifted : 1 * 2 ^ c.args.bits % 2 ^ 64 ≡ 2 ^ c.args.bits = grind (arith, common_steps) in
-    cc (c.from.ensures, shifted, count_ones-masked c.args.bits c.args.word)
+returns-clause-exact c = grind (arith, common_steps, count_ones-masked)
 
 pub returns-clause-few : goal.returns-clause-few
 returns-clause-few c =

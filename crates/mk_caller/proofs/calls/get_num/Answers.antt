@@ -1,17 +1,17 @@
 use Rattle.mk_laws.proofs.Vocabulary.{refl}
-use Rattle.mk_caller.proofs.Chains.{called, faults, go, go_on, reached, sees_further, sees_more}
-use Rattle.mk_caller.specs.Moves.{call_ends, passes, reads}
+use Rattle.mk_caller.proofs.Chains.{called, faults, go, go_on, go_probed, reached, sees_further, sees_more}
+use Rattle.mk_caller.specs.Moves.{call_ends, reads}
 use Rattle.mk_caller.proofs.calls.get_num.Goals as goal
 
 pub returns-in_default-clause-refused : goal.returns-in_default-clause-refused
 returns-in_default-clause-refused c =
-    let d = c.in_default.ensures in
-    faults c.requires.ready refl c.in_ok-u.ensures.begun refl refl d.refused d.unmapped
+    faults c.requires.ready refl c.in_ok-u.ensures.begun refl refl c.in_default.ensures.refused
+    c.in_default.ensures.unmapped
 
 pub returns-clause-called : goal.returns-clause-called
 returns-clause-called c =
-    let probed = go c.in_ok-u.ensures.begun passes refl c.in-Some.ensures.moves in
-    let read = go probed (reads c.read-n.result) refl c.read-n.ensures.moves in
+    let read = go (go_probed c.in_ok-u.ensures.begun refl c.in-Some.ensures.moves) (reads c.read-n.result) refl
+    c.read-n.ensures.moves in
     called (go_on read call_ends refl refl c.leave.ensures.moves) refl
 
 pub returns-clause-reached : goal.returns-clause-reached

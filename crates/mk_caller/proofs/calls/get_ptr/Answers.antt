@@ -1,21 +1,20 @@
 use Rattle.mk_laws.proofs.Vocabulary.{refl}
-use Rattle.mk_caller.proofs.Chains.{called, faults, go, go_on, reached, sees_further, sees_more, stores}
-use Rattle.mk_caller.specs.Moves.{passes, reads}
+use Rattle.mk_caller.proofs.Chains.{called, faults, go, go_on, go_probed, reached, sees_further, sees_more, stores}
+use Rattle.mk_caller.specs.Moves.{reads}
 use Rattle.mk_caller.proofs.calls.get_ptr.Goals as goal
 
 pub returns-in_default-clause-refused : goal.returns-in_default-clause-refused
 returns-in_default-clause-refused c =
-    let d = c.in_default.ensures in
-    faults c.requires.ready refl c.in_ok-u.ensures.begun refl refl d.refused d.unmapped
+    faults c.requires.ready refl c.in_ok-u.ensures.begun refl refl c.in_default.ensures.refused
+    c.in_default.ensures.unmapped
 
 pub returns-clause-called : goal.returns-clause-called
 returns-clause-called c =
-    let probed = go c.in_ok-u.ensures.begun passes refl c.in-Some.ensures.moves in
-    let read = go probed (reads c.read-value.result) refl c.read-value.ensures.moves in
+    let read = go (go_probed c.in_ok-u.ensures.begun refl c.in-Some.ensures.moves) (reads c.read-value.result) refl
+    c.read-value.ensures.moves in
     record {
       word = c.read-value.result;
-      called = called
-          (go_on read (stores c.read-value.result) refl refl c.store_and_leave.ensures) refl;
+      called = called (go_on read (stores c.read-value.result) refl refl c.store_and_leave.ensures) refl;
     }
 
 pub returns-clause-reached : goal.returns-clause-reached

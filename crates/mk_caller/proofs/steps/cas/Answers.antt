@@ -1,17 +1,11 @@
 use Rattle.mk_laws.proofs.Vocabulary.{Stage, Step, ap, refl}
-use Rattle.mk_caller.proofs.{Onward.moves, Onward.write_next, Stepping.may_reach, Stepping.met}
+use Rattle.mk_caller.proofs.{Onward.moves, Onward.write_next, Stepping.may_access, Stepping.met}
 use Rattle.mk_caller.specs.Moves.{is_written}
 use Rattle.mk_caller.proofs.steps.cas.Goals as goal
 
 pub cas-requires-clause-enabled : goal.cas-requires-clause-enabled
 cas-requires-clause-enabled c =
-    (may_reach c.requires.underway Stage.Cas c.requires.stage c.requires.access refl refl refl
-    Step.Cas refl refl refl).0
-
-pub cas-requires-clause-admitted : goal.cas-requires-clause-admitted
-cas-requires-clause-admitted c =
-    (may_reach c.requires.underway Stage.Cas c.requires.stage c.requires.access refl refl refl
-    Step.Cas refl refl refl).1
+    (may_access c.requires.underway _ Step.Cas c.requires.stage refl c.requires.access).0
 
 pub returns : goal.returns
 returns c = record {

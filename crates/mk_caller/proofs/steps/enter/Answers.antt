@@ -2,14 +2,14 @@ use Rattle.mk_caller.proofs.{Enabling.enter_enabled, Entering.entered, Entering.
 use Rattle.mk_caller.proofs.steps.enter.Goals as goal
 
 pub enter-requires-clause-enabled : goal.enter-requires-clause-enabled
-enter-requires-clause-enabled c = enter_enabled c.args.pass.now c.args.op c.is_in_order.ensures.history c.requires.ready
+enter-requires-clause-enabled c = enter_enabled c.is_in_order.ensures.history c.requires.ready
 
 pub returns-clause-moves : goal.returns-clause-moves
 returns-clause-moves c =
     let e = c.enter in
-    entered c.args.pass.now c.args.op e.new.self e.result c.requires.ready e.ensures.goes
+    entered e.new.self e.result c.requires.ready e.ensures.goes
 
 pub returns-clause-held : goal.returns-clause-held
 returns-clause-held c =
     let e = c.enter in
-    held c.args.pass.now c.args.op e.new.self e.result c.requires.ready e.ensures.held e.ensures.stays
+    held e.new.self e.result c.requires.ready e.ensures.held e.ensures.stays

@@ -4,5 +4,5 @@ use Rattle.mk_caller.proofs.steps.leave.Goals as goal
 pub returns : goal.returns
 returns c =
     record {
-      moves = leaves c.args.pass.now c.leave.new.self c.requires.underway c.leave.ensures.goes;
+      moves = leaves c.requires.underway c.leave.ensures.goes;
     }

@@ -1,5 +1,5 @@
 use Rattle.mk_laws.proofs.Vocabulary.{Stage, Step, arith, refl, sym, ◌∙◌}
-use Rattle.mk_caller.proofs.Stepping.{may_reach, met, met_bounds, probe_passed, probe_refused}
+use Rattle.mk_caller.proofs.Stepping.{may_access, met, met_bounds, probe_passed, probe_refused}
 use Rattle.mk_caller.proofs.{Onward.moves, Onward.probe_next, Probing.probes_a_word, Probing.probes_unmapped}
 use Rattle.mk_caller.proofs.steps.probe.Goals as goal
 
@@ -10,32 +10,14 @@ overflow_sub-word c =
     (met_bounds r.underway c.args.u c.args.i r.value r.offset m).0
 
 pub overflow_add-word : goal.overflow_add-word
-overflow_add-word c =
-    let r = c.requires in
-    let m = met r.underway Stage.Probe r.stage r.access refl refl refl in
-    let b = met_bounds r.underway c.args.u c.args.i r.value r.offset m in
-    let pages = r.underway.pass.history.within_limits.pages in
-    let one = r.one_table in
-    omega (arith, b, pages)
+overflow_add-word c = grind (arith, met, met_bounds)
 
 pub overflow_cast-word : goal.overflow_cast-word
-overflow_cast-word c =
-    let r = c.requires in
-    let m = met r.underway Stage.Probe r.stage r.access refl refl refl in
-    let b = met_bounds r.underway c.args.u c.args.i r.value r.offset m in
-    let pages = r.underway.pass.history.within_limits.pages in
-    let one = r.one_table in
-    omega (arith, b, pages)
+overflow_cast-word c = grind (arith, met, met_bounds)
 
 pub probe-header-requires-clause-enabled : goal.probe-header-requires-clause-enabled
 probe-header-requires-clause-enabled c =
-    (may_reach c.requires.underway Stage.Probe c.requires.stage c.requires.access refl refl refl Step.Probe refl refl
-    refl).0
-
-pub probe-header-requires-clause-admitted : goal.probe-header-requires-clause-admitted
-probe-header-requires-clause-admitted c =
-    (may_reach c.requires.underway Stage.Probe c.requires.stage c.requires.access refl refl refl Step.Probe refl refl
-    refl).1
+    (may_access c.requires.underway _ Step.Probe c.requires.stage refl c.requires.access).0
 
 pub returns-then-is_unmapped-clause-refused : goal.returns-then-is_unmapped-clause-refused
 returns-then-is_unmapped-clause-refused c =

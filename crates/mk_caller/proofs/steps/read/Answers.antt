@@ -1,16 +1,10 @@
-use Rattle.mk_laws.proofs.Vocabulary.{Stage, Step, refl}
-use Rattle.mk_caller.proofs.{Onward.moves, Onward.read_next, Stepping.may_reach}
+use Rattle.mk_laws.proofs.Vocabulary.{Step, refl}
+use Rattle.mk_caller.proofs.{Onward.moves, Onward.read_next, Stepping.may_access}
 use Rattle.mk_caller.proofs.steps.read.Goals as goal
 
 pub read-requires-clause-enabled : goal.read-requires-clause-enabled
 read-requires-clause-enabled c =
-    (may_reach c.requires.underway Stage.Read c.requires.stage c.requires.access refl refl refl
-    Step.Read refl refl refl).0
-
-pub read-requires-clause-admitted : goal.read-requires-clause-admitted
-read-requires-clause-admitted c =
-    (may_reach c.requires.underway Stage.Read c.requires.stage c.requires.access refl refl refl
-    Step.Read refl refl refl).1
+    (may_access c.requires.underway _ Step.Read c.requires.stage refl c.requires.access).0
 
 pub returns : goal.returns
 returns c = record { moves = moves c.requires.underway c.read.ensures.goes (read_next _ _ _ c.requires.stage) }

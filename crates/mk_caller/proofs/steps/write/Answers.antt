@@ -1,17 +1,11 @@
 use Rattle.mk_laws.proofs.Vocabulary.{Stage, Step, ap, refl}
-use Rattle.mk_caller.proofs.{Onward.moves, Onward.write_next, Stepping.may_reach, Stepping.met}
+use Rattle.mk_caller.proofs.{Onward.moves, Onward.write_next, Stepping.may_access, Stepping.met}
 use Rattle.mk_caller.specs.Moves.{is_written}
 use Rattle.mk_caller.proofs.steps.write.Goals as goal
 
 pub write-requires-clause-enabled : goal.write-requires-clause-enabled
 write-requires-clause-enabled c =
-    (may_reach c.requires.underway Stage.Write c.requires.stage c.requires.access refl refl refl
-    Step.Write refl refl refl).0
-
-pub write-requires-clause-admitted : goal.write-requires-clause-admitted
-write-requires-clause-admitted c =
-    (may_reach c.requires.underway Stage.Write c.requires.stage c.requires.access refl refl refl
-    Step.Write refl refl refl).1
+    (may_access c.requires.underway _ Step.Write c.requires.stage refl c.requires.access).0
 
 pub returns : goal.returns
 returns c = record {

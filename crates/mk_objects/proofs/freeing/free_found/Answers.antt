@@ -1,6 +1,6 @@
 use Rattle.mk_laws.proofs.Vocabulary.{Option, Steady, ℕ, ap, free_page, header_at, header_of, heads_run, slice_index_or}
 use Rattle.mk_laws.proofs.Vocabulary.{sym, ◌∙◌, ◌≡◌}
-use Rattle.mk_objects.proofs.Vocabulary.{PassState, is_look, now_of, option_map}
+use Rattle.mk_objects.proofs.Vocabulary.{PassState, now_of, option_map}
 use Rattle.mk_objects.proofs.DecidedFrees.{look_frees, look_not}
 use Rattle.mk_objects.proofs.PreparedFrees.{frees_behind, looks_prepare, still_open}
 use Rattle.mk_objects.proofs.{JoinedLooks.looks_left, JoinedLooks.looks_table, LargeFrees.heads_none}
@@ -10,7 +10,7 @@ pub free_small-requires-clause-gates : goal.free_small-requires-clause-gates
 free_small-requires-clause-gates g c =
     let p : PassState = c.args.turn.now.pass in
     let q : PassState = c.look_at-header.new.turn.pass in
-    still_open p q (sym (looks_table p q c.look_at-header.ensures.looks))
+    still_open p q (sym (looks_table c.look_at-header.ensures.looks))
     (looks_left p q c.look_at-header.ensures.looks).gates c.requires.gates
 
 pub free_small-requires-clause-small : goal.free_small-requires-clause-small
@@ -27,16 +27,10 @@ free_small-requires-clause-small g c =
 
 pub returns-in-Some-clause-frees : goal.returns-in-Some-clause-frees
 returns-in-Some-clause-frees g c =
-    let p : PassState = c.args.turn.now.pass in
-    let q : PassState = c.look_at-header.new.turn.pass in
-    frees_behind is_look p q (looks_prepare p q c.look_at-header.ensures.looks) c.free_run.new.turn.pass c.args.cell
-    c.free_run.result look_frees look_not
+    frees_behind (looks_prepare c.look_at-header.ensures.looks) look_frees look_not
     c.is_in_order-2.ensures.history c.is_in_order.ensures.turn.holds c.free_run.ensures.frees
 
 pub returns-in-None-clause-frees : goal.returns-in-None-clause-frees
 returns-in-None-clause-frees g c =
-    let p : PassState = c.args.turn.now.pass in
-    let q : PassState = c.look_at-header.new.turn.pass in
-    frees_behind is_look p q (looks_prepare p q c.look_at-header.ensures.looks) c.free_small.new.turn.pass c.args.cell
-    c.free_small.result look_frees look_not
+    frees_behind (looks_prepare c.look_at-header.ensures.looks) look_frees look_not
     c.is_in_order-2.ensures.history c.is_in_order.ensures.turn.holds c.free_small.ensures.frees

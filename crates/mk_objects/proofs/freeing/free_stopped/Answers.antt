@@ -1,6 +1,5 @@
-use Rattle.mk_laws.proofs.Vocabulary.{Steady, ℕ, ap, arith, is_held, or_right, subst, sym, ◌*◌, ◌+◌, ◌-◌, ◌<◌, ◌^◌, ◌∙◌}
-use Rattle.mk_laws.proofs.Vocabulary.{◌≡◌, ◌≤◌}
-use Rattle.mk_objects.proofs.Vocabulary.{PassState, all_others, now_of}
+use Rattle.mk_laws.proofs.Vocabulary.{Steady, ap, arith, or_right, subst, sym, ◌*◌, ◌+◌, ◌-◌, ◌<◌, ◌^◌, ◌∙◌, ◌≡◌, ◌≤◌}
+use Rattle.mk_objects.proofs.Vocabulary.{PassState, now_of}
 use Rattle.mk_objects.proofs.LargeFrees.{frees_large, held_then, run_is, run_mapped}
 use Rattle.mk_objects.proofs.{ClearedRuns.stopped_by, JoinedLooks.looks_left, SmallFrees.freed_now}
 use Rattle.mk_objects.proofs.freeing.free_stopped.Goals as goal
@@ -9,59 +8,39 @@ pub quarantine-requires-clause-gates : goal.quarantine-requires-clause-gates
 quarantine-requires-clause-gates c = or_right _ _ (stopped_by c.args.turn.now.pass c.requires.held)
 
 pub clear_run-requires-clause-held : goal.clear_run-requires-clause-held
-clear_run-requires-clause-held c =
-    let p : PassState = c.args.turn.now.pass in
-    let q : PassState = c.quarantine.new.turn.pass in
-    let now = freed_now p q c.args.cell c.quarantine.ensures.freed in
-    subst (λ (x : PassState). (j : ℕ) → j < x.table.config.callers → is_held (now_of q).words j ≡ all_others x.seat j)
-    (sym c.quarantine.ensures.freed.same)
-    (λ j lt. now.gates j ∙ c.requires.held j lt)
+clear_run-requires-clause-held c = grind (arith, freed_now)
 
 pub clear_run-requires-clause-within : goal.clear_run-requires-clause-within
 clear_run-requires-clause-within c =
-    let p : PassState = c.args.turn.now.pass in
-    let run = run_is p c.args.register c.args.value c.args.cell c.args.count c.requires.may
-    c.is_in_order.ensures.history c.requires.run in
+    let run = run_is c.args.count c.requires.may c.is_in_order.ensures.history c.requires.run in
     subst (λ (x : PassState). c.args.cell.page + c.args.count ≤ x.table.config.pages)
     (sym c.quarantine.ensures.freed.same) run.within
 
 pub clear_run-requires-clause-mapped : goal.clear_run-requires-clause-mapped
 clear_run-requires-clause-mapped c =
-    run_mapped c.args.turn.now.pass c.args.register c.args.value c.args.cell c.args.count c.requires.may
-    c.is_in_order.ensures.history c.requires.run
-    c.quarantine.new.turn.pass c.quarantine.ensures.freed
+    run_mapped c.args.count c.requires.may c.is_in_order.ensures.history c.requires.run c.quarantine.ensures.freed
 
 pub overflow_sub-held : goal.overflow_sub-held
 overflow_sub-held c =
     let found : c.look_at.result ≡ (now_of c.args.turn.now.pass).words.held =
-    c.look_at.ensures.finds ∙ c.clear_run.ensures.clears.held
-    ∙ ap (λ (x : Steady). x.held) (freed_now c.args.turn.now.pass c.quarantine.new.turn.pass c.args.cell
-    c.quarantine.ensures.freed).steady in
-    let sum = held_then c.args.turn.now.pass c.args.register c.args.value c.args.cell c.args.count c.requires.may
-    c.is_in_order.ensures.history c.requires.run in
+    c.look_at.ensures.finds ∙ c.clear_run.ensures.clears.held ∙ ap (λ (x : Steady). x.held)
+    (freed_now c.quarantine.ensures.freed).steady in
+    let sum = held_then c.args.count c.requires.may c.is_in_order.ensures.history c.requires.run in
     omega arith
 
 pub returns-clause-frees : goal.returns-clause-frees
 returns-clause-frees c =
     let p : PassState = c.args.turn.now.pass in
     let found : c.look_at.result ≡ (now_of c.args.turn.now.pass).words.held =
-    c.look_at.ensures.finds ∙ c.clear_run.ensures.clears.held
-    ∙ ap (λ (x : Steady). x.held) (freed_now c.args.turn.now.pass c.quarantine.new.turn.pass c.args.cell
-    c.quarantine.ensures.freed).steady in
-    let sum = held_then p c.args.register c.args.value c.args.cell c.args.count c.requires.may
-    c.is_in_order.ensures.history c.requires.run in
+    c.look_at.ensures.finds ∙ c.clear_run.ensures.clears.held ∙ ap (λ (x : Steady). x.held)
+    (freed_now c.quarantine.ensures.freed).steady in
+    let sum = held_then c.args.count c.requires.may c.is_in_order.ensures.history c.requires.run in
     let taken : c.look_at.result - 64 * c.args.count + 64 * c.args.count ≡ (now_of p).words.held = omega arith in
     let fits : c.look_at.result - 64 * c.args.count < 2 ^ 64 = omega (arith, c.look_at.type_inv) in
     let fresh : c.look_at-fresh.result ≡ (now_of c.look_at-fresh.new.turn.pass).words.fresh =
-    c.look_at-fresh.ensures.finds
-    ∙ sym (ap (λ (x : Steady). x.fresh) (looks_left c.set_tally.new.turn.pass c.look_at-fresh.new.turn.pass
-    c.look_at-fresh.ensures.looks).steady) in
-    frees_large p c.args.register c.args.value c.args.cell c.args.count c.requires.may c.is_in_order.ensures.history
-    c.requires.run
-    c.quarantine.new.turn.pass c.quarantine.ensures.freed c.clear_run.new.turn.pass c.look_at.new.turn.pass
-    c.set_tally.new.turn.pass
-    c.look_at-fresh.new.turn.pass (c.look_at.result - 64 * c.args.count) c.clear_run.ensures.clears
-    c.look_at.ensures.looks c.set_tally.ensures.sets c.look_at-fresh.ensures.looks
-    c.due.result c.look_at-fresh.result c.quarantine.ensures.once c.is_in_order-2.ensures.turn.holds
-    c.is_in_order-3.ensures.turn.holds
+    c.look_at-fresh.ensures.finds ∙ sym (ap (λ (x : Steady). x.fresh)
+    (looks_left c.set_tally.new.turn.pass c.look_at-fresh.new.turn.pass c.look_at-fresh.ensures.looks).steady) in
+    frees_large c.args.count c.requires.may c.is_in_order.ensures.history c.requires.run c.quarantine.ensures.freed
+    c.clear_run.ensures.clears c.look_at.ensures.looks c.set_tally.ensures.sets c.look_at-fresh.ensures.looks
+    c.due.result c.quarantine.ensures.once c.is_in_order-2.ensures.turn.holds c.is_in_order-3.ensures.turn.holds
     c.is_in_order-4.ensures.history taken fresh fits c.due.ensures

@@ -1,19 +1,18 @@
 -- The whole of a Free: its register is loaded, its cell found, and the quarantine word of that looked at.
 use Rattle.mk_laws.proofs.Vocabulary.{Cell, ℕ, eq-eqb, false, is_freed, ne_eqb, sym, ◌∙◌, ◌≡◌}
 use Rattle.mk_objects.proofs.Vocabulary.{MayFree, PassState, loaded_free, now_of}
-use Rattle.mk_objects.proofs.Retirements.{IsFound, comes_seeing, finds_freed, found_so, freed_by_word, is_never_freed}
-use Rattle.mk_objects.proofs.Retirements.{may_free, none_held_there, object_found, retires, retires_null}
+use Rattle.mk_objects.proofs.Retirements.{IsFound, finds_freed, found_so, freed_by_word, is_never_freed, may_free}
+use Rattle.mk_objects.proofs.Retirements.{none_held_there, object_found, retires, retires_null}
 use Rattle.mk_objects.proofs.freeing.retire_object.Goals.{After-is_freed, After-is_in_order-3}
+use Rattle.mk_objects.proofs.FreesUnderway.{comes_seeing}
 use Rattle.mk_objects.proofs.freeing.retire_object.Goals as goal
 
 pub returns-then-value-eq0-clause-freed : goal.returns-then-value-eq0-clause-freed
 returns-then-value-eq0-clause-freed g c =
     let none = eq-eqb c.load_freed-value.result 0 c.if-value-eq0.true in
-    retires_null c.args.turn.now.pass c.load_freed-value.new.turn.pass c.args.p c.load_freed-value.result
-    c.requires.unloaded
-    c.load_freed-value.ensures.loaded none (c.load_freed-value.ensures.null none) c.requires.nothing_done
-    c.requires.gates c.requires.exact
-    c.is_in_order-2.ensures.history c.is_in_order.ensures.turn.holds
+    retires_null c.requires.unloaded c.load_freed-value.ensures.loaded none (c.load_freed-value.ensures.null none)
+    c.requires.nothing_done c.requires.gates c.requires.exact c.is_in_order-2.ensures.history
+    c.is_in_order.ensures.turn.holds
 
 -- what the register points into
 found : (g : _) (c : After-is_in_order-3 g)
@@ -22,8 +21,7 @@ found : (g : _) (c : After-is_in_order-3 g)
 found g c =
     let u : ℕ = c.load_freed-value.result in
     let some = ne_eqb u 0 c.if-value-eq0.false in
-    found_so c.args.turn.now.pass c.load_freed-value.new.turn.pass c.find_cell-cell.new.turn.pass c.args.p u
-    c.find_cell-cell.result c.load_freed-value.ensures.loaded some (c.load_freed-value.ensures.keeps some)
+    found_so c.find_cell-cell.result c.load_freed-value.ensures.loaded some (c.load_freed-value.ensures.keeps some)
     c.find_cell-cell.ensures.looks (c.find_cell-cell.ensures.keeps c.args.p c.requires.unloaded.small)
     c.find_cell-cell.ensures.cell c.find_cell-cell.ensures.within c.find_cell-cell.ensures.index
 
@@ -31,9 +29,8 @@ found g c =
 by_word : (g : _) (c : After-is_freed g)
     → is_freed (now_of c.find_cell-cell.new.turn.pass).words c.find_cell-cell.result ≡ c.is_freed.result
 by_word g c =
-    sym (freed_by_word c.find_cell-cell.new.turn.pass c.find_cell-cell.result c.look_at_quarantine-quar.result
-    c.is_in_order-3.ensures.history c.look_at_quarantine-quar.ensures.finds)
-    ∙ sym c.is_freed.ensures
+    sym (freed_by_word c.find_cell-cell.new.turn.pass c.find_cell-cell.result c.is_in_order-3.ensures.history
+    c.look_at_quarantine-quar.ensures.finds) ∙ sym c.is_freed.ensures
 
 pub returns-then-is_freed-clause-double : goal.returns-then-is_freed-clause-double
 returns-then-is_freed-clause-double g c =
@@ -44,12 +41,10 @@ returns-then-is_freed-clause-double g c =
     let u : ℕ = c.load_freed-value.result in
     let found = found g x.After-is_in_order-3 in
     let bit = by_word g x.After-is_freed ∙ c.if-is_freed.true in
-    finds_freed p q c.look_at_quarantine-quar.new.turn.pass c.args.p u cell c.requires.unloaded found.come
-    c.look_at_quarantine-quar.ensures.seen bit c.requires.nothing_done c.requires.gates c.requires.exact
-    (is_never_freed p q c.args.p (loaded_free c.args.p u) cell found.come c.is_in_order.ensures.history
-    c.is_in_order-3.ensures.history
-    (object_found p q c.args.p u cell c.requires.unloaded found c.is_in_order-3.ensures.history) found.keeps
-    c.requires.phase bit)
+    finds_freed u cell c.requires.unloaded found.come c.look_at_quarantine-quar.ensures.seen bit c.requires.nothing_done
+    c.requires.gates c.requires.exact (is_never_freed p q c.args.p (loaded_free c.args.p u) cell found.come
+    c.is_in_order.ensures.history c.is_in_order-3.ensures.history (object_found c.requires.unloaded found
+    c.is_in_order-3.ensures.history) found.keeps c.requires.phase bit)
 
 -- It isn't.
 may : (g : _) (c : After-is_freed g)
@@ -58,9 +53,7 @@ may : (g : _) (c : After-is_freed g)
     → is_freed (now_of c.find_cell-cell.new.turn.pass).words c.find_cell-cell.result ≡ false
     → MayFree c.look_at_quarantine-quar.new.turn.pass c.args.p c.load_freed-value.result c.find_cell-cell.result
 may g c found bit =
-    may_free c.args.turn.now.pass c.find_cell-cell.new.turn.pass c.args.p c.load_freed-value.result
-    c.find_cell-cell.result c.requires.unloaded found c.look_at_quarantine-quar.new.turn.pass
-    c.look_at_quarantine-quar.ensures.seen
+    may_free c.requires.unloaded found c.look_at_quarantine-quar.ensures.seen
     (c.look_at_quarantine-quar.ensures.keeps bit c.args.p c.requires.unloaded.small) bit c.requires.phase
     c.requires.nothing_done c.requires.exact
 
@@ -72,28 +65,16 @@ free_found-due-requires-clause-may g c =
 pub free_found-due-requires-clause-gates : goal.free_found-due-requires-clause-gates
 free_found-due-requires-clause-gates g c =
     let x = goal.at.free_found-due-requires-clause-gates g c in
-    let p : PassState = c.args.turn.now.pass in
-    let s : PassState = c.look_at_quarantine-quar.new.turn.pass in
-    let free = loaded_free c.args.p c.load_freed-value.result in
-    none_held_there p s free
-    (comes_seeing p c.find_cell-cell.new.turn.pass s free c.find_cell-cell.result
-    (found g x.After-is_in_order-3).come c.look_at_quarantine-quar.ensures.seen
-    (by_word g x.After-is_freed ∙ c.if-is_freed.false))
-    c.requires.gates
+    none_held_there (comes_seeing c.find_cell-cell.result (found g x.After-is_in_order-3).come
+    c.look_at_quarantine-quar.ensures.seen (by_word g x.After-is_freed ∙ c.if-is_freed.false)) c.requires.gates
 
 pub returns-clause-freed : goal.returns-clause-freed
 returns-clause-freed g c =
     let x = goal.at.returns-clause-freed g c in
-    let p : PassState = c.args.turn.now.pass in
-    let s : PassState = c.look_at_quarantine-quar.new.turn.pass in
     let cell : Cell = c.find_cell-cell.result in
-    let u : ℕ = c.load_freed-value.result in
     let found = found g x.After-is_in_order-3 in
     let bit = by_word g x.After-is_freed ∙ c.if-is_freed.false in
-    retires p s c.free_found-due.new.turn.pass c.args.p u cell c.free_found-due.result c.requires.unloaded
-    (comes_seeing p c.find_cell-cell.new.turn.pass s (loaded_free c.args.p u) cell found.come
-    c.look_at_quarantine-quar.ensures.seen bit)
-    (may g x.After-is_freed found bit)
-    (c.look_at_quarantine-quar.ensures.keeps bit c.args.p c.requires.unloaded.small ∙ found.keeps) c.requires.phase
-    c.free_found-due.ensures.frees c.is_in_order.ensures.history c.is_in_order-4.ensures.history
-    c.is_in_order.ensures.turn.holds
+    retires c.requires.unloaded (comes_seeing cell found.come c.look_at_quarantine-quar.ensures.seen bit)
+    (may g x.After-is_freed found bit) (c.look_at_quarantine-quar.ensures.keeps bit c.args.p c.requires.unloaded.small
+    ∙ found.keeps) c.requires.phase c.free_found-due.ensures.frees c.is_in_order.ensures.history
+    c.is_in_order-4.ensures.history c.is_in_order.ensures.turn.holds

@@ -1,15 +1,11 @@
-use Rattle.mk_objects.proofs.Vocabulary.{PassState, now_of}
+use Rattle.mk_objects.proofs.Vocabulary.{PassState}
 use Rattle.mk_objects.proofs.{Looks.acting_now, MayAct.may_tally, SetTallies.sets_tally}
 use Rattle.mk_objects.proofs.freeing.set_tally.Goals as goal
 
 pub tally-requires-clause-enabled : goal.tally-requires-clause-enabled
 tally-requires-clause-enabled c =
     let p : PassState = c.args.turn.now.pass in
-    may_tally p.table.config (now_of p) p.seat (acting_now p c.args.turn.now.op c.is_in_order.ensures.turn
-    c.requires.acting) c.args.tally c.args.value
+    may_tally (acting_now p c.args.turn.now.op c.is_in_order.ensures.turn c.requires.acting) c.args.tally c.args.value
 
 pub returns-clause-sets : goal.returns-clause-sets
-returns-clause-sets c =
-    let p : PassState = c.args.turn.now.pass in
-    sets_tally p c.tally.new.self.pass c.args.turn.now.op c.args.tally c.args.value c.is_in_order.ensures.turn
-    c.requires.acting c.tally.ensures.acts
+returns-clause-sets c = sets_tally c.is_in_order.ensures.turn c.requires.acting c.tally.ensures.acts

@@ -6,28 +6,24 @@ use Rattle.mk_objects.proofs.gates.hold_gate.Goals as goal
 pub trying-init : goal.trying-init
 trying-init g c = record {
   op = refl;
-  sets = set_nothing is_holding c.args.turn.now.pass c.args.caller _ c.requires.open;
+  sets = set_nothing is_holding c.args.turn.now.pass c.args.caller c.requires.open;
   keeps = λ r lt. refl;
 }
 
 pub try_hold-requires-clause-acting : goal.try_hold-requires-clause-acting
-try_hold-requires-clause-acting g c =
-    one_acting is_holding c.args.turn.now.pass _ _ _ c.trying.invariant.sets c.requires.acting
+try_hold-requires-clause-acting g c = one_acting c.trying.invariant.sets c.requires.acting
 
 pub try_hold-requires-clause-within : goal.try_hold-requires-clause-within
 try_hold-requires-clause-within g c =
-    one_there is_holding _ _ _ _ c.trying.invariant.sets (λ (x : PassState). c.args.caller < x.table.config.callers)
-    c.requires.within
+    one_there c.trying.invariant.sets (λ (x : PassState). c.args.caller < x.table.config.callers) c.requires.within
 
 pub try_hold-requires-clause-another : goal.try_hold-requires-clause-another
 try_hold-requires-clause-another g c =
-    one_there is_holding _ _ _ _ c.trying.invariant.sets
-    (λ (x : PassState). is_number_of x.seat c.args.caller ≡ false) c.requires.another
+    one_there c.trying.invariant.sets (λ (x : PassState). is_number_of x.seat c.args.caller ≡ false) c.requires.another
 
 pub try_hold-requires-clause-open : goal.try_hold-requires-clause-open
 try_hold-requires-clause-open g c =
-    one_there is_holding _ _ _ _ c.trying.invariant.sets
-    (λ (x : PassState). is_held (now_of x).words c.args.caller ≡ false)
+    one_there c.trying.invariant.sets (λ (x : PassState). is_held (now_of x).words c.args.caller ≡ false)
     c.trying.invariant.sets.world.set
 
 pub returns-then-try_hold-clause-sets : goal.returns-then-try_hold-clause-sets
@@ -35,8 +31,7 @@ returns-then-try_hold-clause-sets g c =
     let tried : SetsGate is_holding c.trying.turn.pass c.args.caller _ c.try_hold.new.turn.pass =
     subst (λ b. SetsGate is_holding c.trying.turn.pass c.args.caller b c.try_hold.new.turn.pass) c.if-try_hold.true
     c.try_hold.ensures.sets in
-    sets_again is_holding c.args.turn.now.pass c.trying.turn.pass c.try_hold.new.turn.pass c.args.caller _ _
-    c.trying.invariant.sets tried
+    sets_again c.trying.invariant.sets tried
 
 pub trying-preserved : goal.trying-preserved
 trying-preserved g c =
@@ -45,7 +40,6 @@ trying-preserved g c =
     c.try_hold.ensures.sets in
     record {
       op = c.try_hold.ensures.op ∙ c.trying.invariant.op;
-      sets = sets_again is_holding c.args.turn.now.pass c.trying.turn.pass c.try_hold.new.turn.pass c.args.caller _ _
-          c.trying.invariant.sets tried;
+      sets = sets_again c.trying.invariant.sets tried;
       keeps = λ r lt. c.try_hold.ensures.keeps r lt ∙ c.trying.invariant.keeps r lt;
     }

@@ -1,7 +1,7 @@
-use Rattle.mk_laws.proofs.Vocabulary.{Seat, ap, arith, refl, subst, ◌+◌, ◌<◌, ◌∙◌}
+use Rattle.mk_laws.proofs.Vocabulary.{Seat, ap, arith, refl, subst, ◌+◌, ◌∙◌}
 use Rattle.mk_objects.proofs.Vocabulary.{PassState, SetsGate, WordsState, all_others, held_to, is_holding}
-use Rattle.mk_objects.proofs.SetGates.{held_next, held_so_far, holds_none, none_yet_held, set_acting, set_held}
-use Rattle.mk_objects.proofs.SetGates.{set_seat, set_there, sets_more, sets_named}
+use Rattle.mk_objects.proofs.SetGates.{caller_within, held_next, held_so_far, holds_none, none_yet_held, set_acting}
+use Rattle.mk_objects.proofs.SetGates.{set_held, set_seat, set_there, sets_more, sets_named}
 use Rattle.mk_objects.proofs.gates.hold_gates.Goals as goal
 
 pub loop-caller-init : goal.loop-caller-init
@@ -12,41 +12,27 @@ loop-caller-init g c = record {
 }
 
 pub hold_other-requires-clause-acting : goal.hold_other-requires-clause-acting
-hold_other-requires-clause-acting g c =
-    set_acting is_holding c.args.turn.now.pass _ _ c.loop-caller.invariant.sets c.requires.acting
+hold_other-requires-clause-acting g c = set_acting c.loop-caller.invariant.sets c.requires.acting
 
 pub hold_other-requires-clause-within : goal.hold_other-requires-clause-within
-hold_other-requires-clause-within g c =
-    let p : PassState = c.args.turn.now.pass in
-    let table = ap (λ (w : WordsState). w.config.callers) c.requires.one_table in
-    let here : c.loop-caller.caller < p.table.config.callers =
-    omega (arith, c.loop-caller-test.true, c.callers-caller-end.ensures) in
-    set_there is_holding p _ _ c.loop-caller.invariant.sets
-    (λ (x : PassState). c.loop-caller.caller < x.table.config.callers) here
+hold_other-requires-clause-within g c = grind (arith, set_there, caller_within)
 
 pub hold_other-requires-clause-open : goal.hold_other-requires-clause-open
-hold_other-requires-clause-open g c =
-    let p : PassState = c.args.turn.now.pass in
-    let table = ap (λ (w : WordsState). w.config.callers) c.requires.one_table in
-    let here : c.loop-caller.caller < p.table.config.callers =
-    omega (arith, c.loop-caller-test.true, c.callers-caller-end.ensures) in
-    set_held is_holding p _ _ c.loop-caller.invariant.sets c.loop-caller.caller here
-    ∙ none_yet_held p.seat c.loop-caller.caller
+hold_other-requires-clause-open g c = grind (arith, set_held, caller_within, none_yet_held)
 
 pub loop-caller-preserved : goal.loop-caller-preserved
 loop-caller-preserved g c =
     let p : PassState = c.args.turn.now.pass in
     let q : PassState = c.loop-caller.turn.pass in
     let n = c.loop-caller.caller in
-    let seat = set_seat is_holding p q _ c.loop-caller.invariant.sets in
+    let seat = set_seat c.loop-caller.invariant.sets in
     let one : SetsGate is_holding q n (all_others p.seat n) c.hold_other.new.turn.pass =
     subst (λ (s : Seat). SetsGate is_holding q n (all_others s n) c.hold_other.new.turn.pass) seat
     c.hold_other.ensures.sets in
     record {
       op = c.hold_other.ensures.op ∙ c.loop-caller.invariant.op;
       sets = sets_more is_holding p q c.hold_other.new.turn.pass (held_to p.seat n) (held_to p.seat (n + 1)) n
-          (all_others p.seat n)
-          c.loop-caller.invariant.sets one (λ j ne. held_next p.seat n j ne)
+          (all_others p.seat n) c.loop-caller.invariant.sets one (λ j ne. held_next p.seat n j ne)
           (held_so_far p.seat (n + 1) n (omega arith));
       keeps = λ r lt. c.hold_other.ensures.keeps r lt ∙ c.loop-caller.invariant.keeps r lt;
     }
@@ -55,7 +41,5 @@ pub returns-clause-sets : goal.returns-clause-sets
 returns-clause-sets g c =
     let p : PassState = c.args.turn.now.pass in
     let table = ap (λ (w : WordsState). w.config.callers) c.requires.one_table in
-    sets_named is_holding p c.loop-caller.turn.pass (held_to p.seat c.loop-caller.caller) (all_others p.seat)
-    c.loop-caller.invariant.sets
-    (λ j lt. held_so_far p.seat c.loop-caller.caller j (omega
-    (arith, lt, table, c.loop-caller-test.false, c.callers-caller-end.ensures)))
+    sets_named (all_others p.seat) c.loop-caller.invariant.sets (λ j lt. held_so_far p.seat c.loop-caller.caller j
+    (omega (arith, lt, table, c.loop-caller-test.false, c.callers-caller-end.ensures)))

@@ -1,21 +1,19 @@
-use Rattle.mk_laws.proofs.Vocabulary.{Bool, Seat, ap, false, is_number_of, not, subst, sym, true, ◌∙◌, ◌≡◌}
-use Rattle.mk_objects.proofs.Vocabulary.{PassState, SetsGate, all_others, is_holding}
-use Rattle.mk_objects.proofs.SetGates.{set_nothing}
+use Rattle.mk_laws.proofs.Vocabulary.{Bool, Seat, ap, false, not, subst, sym, true, ◌∙◌, ◌≡◌}
+use Rattle.mk_objects.proofs.Vocabulary.{SetsGate, all_others, is_holding}
+use Rattle.mk_objects.proofs.{SetGates.set_nothing, gates.hold_other.Goals.After-is_own}
 use Rattle.mk_objects.proofs.gates.hold_other.Goals as goal
+
+-- The gate is another's where it isn't the holder's own.
+others_gate : (g : _) (c : After-is_own g) → all_others c.args.turn.now.pass.seat c.args.caller ≡ not c.is_own.result
+others_gate g c = ap (λ (s : Seat). all_others s c.args.caller) (sym c.seat.ensures) ∙ ap not (sym c.is_own.ensures)
 
 pub returns-then-not-is_own-clause-sets : goal.returns-then-not-is_own-clause-sets
 returns-then-not-is_own-clause-sets g c =
-    let p : PassState = c.args.turn.now.pass in
-    let another : is_number_of p.seat c.args.caller ≡ false =
-    ap (λ (s : Seat). is_number_of s c.args.caller) (sym c.seat.ensures) ∙ sym c.is_own.ensures
-    ∙ c.if-not-is_own.true in
-    subst (λ (b : Bool). SetsGate is_holding p c.args.caller b c.hold_gate.new.turn.pass) (sym (ap not another))
+    subst (λ (b : Bool). SetsGate is_holding c.args.turn.now.pass c.args.caller b c.hold_gate.new.turn.pass)
+    (sym (others_gate g (goal.at.returns-then-not-is_own-clause-sets g c).After-is_own ∙ ap not c.if-not-is_own.true))
     c.hold_gate.ensures.sets
 
 pub returns-else-not-is_own-clause-sets : goal.returns-else-not-is_own-clause-sets
 returns-else-not-is_own-clause-sets g c =
-    let p : PassState = c.args.turn.now.pass in
-    let own : is_number_of p.seat c.args.caller ≡ true =
-    ap (λ (s : Seat). is_number_of s c.args.caller) (sym c.seat.ensures) ∙ sym c.is_own.ensures
-    ∙ c.if-not-is_own.false in
-    set_nothing is_holding p c.args.caller (all_others p.seat c.args.caller) (c.requires.open ∙ sym (ap not own))
+    set_nothing is_holding c.args.turn.now.pass c.args.caller (c.requires.open
+    ∙ sym (others_gate g (goal.at.returns-else-not-is_own-clause-sets g c).After-is_own ∙ ap not c.if-not-is_own.false))

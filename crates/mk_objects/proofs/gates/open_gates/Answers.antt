@@ -1,8 +1,7 @@
-use Rattle.mk_laws.proofs.Vocabulary.{Seat, ap, arith, refl, sym, ◌+◌, ◌<◌, ◌∙◌}
-use Rattle.mk_objects.proofs.Vocabulary.{PassState, WordsState, all_others, held_from, is_settling}
-use Rattle.mk_objects.proofs.SetGates.{all_yet_held, opened_next, opened_so_far, opens_none, set_acting, set_held}
-use Rattle.mk_objects.proofs.SetGates.{set_phase, set_seat, set_there, sets_more, sets_named}
-use Rattle.mk_objects.specs.FreeParts.{no_gate}
+use Rattle.mk_laws.proofs.Vocabulary.{arith, refl, ◌+◌, ◌∙◌}
+use Rattle.mk_objects.proofs.Vocabulary.{PassState, held_from, is_settling}
+use Rattle.mk_objects.proofs.SetGates.{all_yet_held, caller_within, opened_next, opened_so_far, opens_none, set_acting}
+use Rattle.mk_objects.proofs.SetGates.{set_held, set_phase, set_seat, set_there, sets_more, sets_named}
 use Rattle.mk_objects.proofs.gates.open_gates.Goals as goal
 
 pub loop-caller-init : goal.loop-caller-init
@@ -13,30 +12,16 @@ loop-caller-init c = record {
 }
 
 pub open_other-requires-clause-acting : goal.open_other-requires-clause-acting
-open_other-requires-clause-acting c =
-    set_acting is_settling c.args.turn.now.pass _ _ c.loop-caller.invariant.sets c.requires.acting
+open_other-requires-clause-acting c = set_acting c.loop-caller.invariant.sets c.requires.acting
 
 pub open_other-requires-clause-phase : goal.open_other-requires-clause-phase
-open_other-requires-clause-phase c =
-    set_phase is_settling c.args.turn.now.pass _ _ c.loop-caller.invariant.sets c.requires.phase
+open_other-requires-clause-phase c = set_phase c.loop-caller.invariant.sets c.requires.phase
 
 pub open_other-requires-clause-within : goal.open_other-requires-clause-within
-open_other-requires-clause-within c =
-    let p : PassState = c.args.turn.now.pass in
-    let table = ap (λ (w : WordsState). w.config.callers) c.requires.one_table in
-    let here : c.loop-caller.caller < p.table.config.callers =
-    omega (arith, c.loop-caller-test.true, c.callers-caller-end.ensures) in
-    set_there is_settling p _ _ c.loop-caller.invariant.sets
-    (λ (x : PassState). c.loop-caller.caller < x.table.config.callers) here
+open_other-requires-clause-within c = grind (arith, set_there, caller_within)
 
 pub open_other-requires-clause-held : goal.open_other-requires-clause-held
-open_other-requires-clause-held c =
-    let p : PassState = c.args.turn.now.pass in
-    let n = c.loop-caller.caller in
-    let table = ap (λ (w : WordsState). w.config.callers) c.requires.one_table in
-    let here : n < p.table.config.callers = omega (arith, c.loop-caller-test.true, c.callers-caller-end.ensures) in
-    set_held is_settling p _ _ c.loop-caller.invariant.sets n here ∙ all_yet_held p.seat n
-    ∙ ap (λ (s : Seat). all_others s n) (sym (set_seat is_settling p _ _ c.loop-caller.invariant.sets))
+open_other-requires-clause-held c = grind (arith, set_held, caller_within, all_yet_held, set_seat)
 
 pub loop-caller-preserved : goal.loop-caller-preserved
 loop-caller-preserved c =
@@ -52,10 +37,4 @@ loop-caller-preserved c =
     }
 
 pub returns-clause-sets : goal.returns-clause-sets
-returns-clause-sets c =
-    let p : PassState = c.args.turn.now.pass in
-    let table = ap (λ (w : WordsState). w.config.callers) c.requires.one_table in
-    sets_named is_settling p c.loop-caller.turn.pass (held_from p.seat c.loop-caller.caller) no_gate
-    c.loop-caller.invariant.sets
-    (λ j lt. opened_so_far p.seat c.loop-caller.caller j
-    (omega (arith, lt, table, c.loop-caller-test.false, c.callers-caller-end.ensures)))
+returns-clause-sets c = grind (arith, sets_named, opened_so_far)

@@ -1,5 +1,5 @@
-use Rattle.mk_laws.proofs.Vocabulary.{Step, is_held, refl, sym, ◌∙◌}
-use Rattle.mk_objects.proofs.Vocabulary.{PassState, decides_nothing, now_of}
+use Rattle.mk_laws.proofs.Vocabulary.{Step, refl, sym, ◌∙◌}
+use Rattle.mk_objects.proofs.Vocabulary.{PassState, decides_nothing}
 use Rattle.mk_objects.proofs.Looks.{acting_caller, acting_now}
 use Rattle.mk_objects.proofs.{LoadedFrees.value_kept, MayAct.may_hold, SetGates.sets_hold, SetGates.tried}
 use Rattle.mk_objects.proofs.gates.try_hold.Goals as goal
@@ -7,25 +7,20 @@ use Rattle.mk_objects.proofs.gates.try_hold.Goals as goal
 pub try_hold-requires-clause-enabled : goal.try_hold-requires-clause-enabled
 try_hold-requires-clause-enabled c =
     let p : PassState = c.args.turn.now.pass in
-    may_hold p.table.config (now_of p) p.seat (acting_now p c.args.turn.now.op c.is_in_order.ensures.turn
-    c.requires.acting) c.args.caller
+    may_hold (acting_now p c.args.turn.now.op c.is_in_order.ensures.turn c.requires.acting) c.args.caller
     c.requires.within c.requires.another c.requires.open
 
 pub returns-clause-held : goal.returns-clause-held
 returns-clause-held c =
-    tried c.try_hold.result (is_held (now_of c.try_hold.new.self.pass).words c.args.caller) c.try_hold.ensures.held
-    c.try_hold.ensures.not_held ∙ sym c.is_ok.ensures.value
+    tried c.try_hold.result c.try_hold.ensures.held c.try_hold.ensures.not_held ∙ sym c.is_ok.ensures.value
 
 pub returns-clause-sets : goal.returns-clause-sets
 returns-clause-sets c =
-    let p : PassState = c.args.turn.now.pass in
-    sets_hold p c.try_hold.new.self.pass c.args.turn.now.op c.args.caller c.is_in_order.ensures.turn c.requires.acting
-    c.is_ok.result c.try_hold.ensures.acts (returns-clause-held c)
+    sets_hold c.try_hold.new.self.pass c.args.caller c.is_in_order.ensures.turn c.requires.acting
+    c.try_hold.ensures.acts (returns-clause-held c)
 
 pub returns-clause-keeps : goal.returns-clause-keeps
 returns-clause-keeps c =
     let p : PassState = c.args.turn.now.pass in
-    λ r lt.
-    value_kept p c.try_hold.new.self.pass r (Step.Hold c.args.caller) (acting_caller p c.requires.acting) lt
-    c.try_hold.ensures.acts
+    λ r lt. value_kept r (acting_caller p c.requires.acting) lt c.try_hold.ensures.acts
     (λ v kept known. decides_nothing p.table.config v.now p.seat (Step.Hold c.args.caller) refl)

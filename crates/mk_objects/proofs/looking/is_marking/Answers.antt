@@ -1,4 +1,4 @@
-use Rattle.mk_laws.proofs.Vocabulary.{Word, ℕ, ap, ◌==◌, ◌∙◌}
+use Rattle.mk_laws.proofs.Vocabulary.{ℕ, ap, ◌==◌, ◌∙◌}
 use Rattle.mk_objects.proofs.Looks.{acting_now, found_phase, look_reaches}
 use Rattle.mk_objects.proofs.{MayAct.may_look_phase, Unchanged.OfPhase}
 use Rattle.mk_objects.proofs.looking.is_marking.Goals as goal
@@ -6,19 +6,11 @@ use Rattle.mk_objects.proofs.looking.is_marking.Goals as goal
 pub look-found-requires-clause-enabled : goal.look-found-requires-clause-enabled
 look-found-requires-clause-enabled c =
     let t = c.args.turn.now in
-    may_look_phase t.pass.table.config _ t.pass.seat
-    (acting_now t.pass t.op c.is_in_order.ensures.turn c.requires.acting)
+    may_look_phase (acting_now t.pass t.op c.is_in_order.ensures.turn c.requires.acting)
 
 pub returns-clause-looks : goal.returns-clause-looks
-returns-clause-looks c =
-    let t = c.args.turn.now in
-    look_reaches t.pass c.look-found.new.self.pass t.op Word.Phase c.is_in_order.ensures.turn c.requires.acting OfPhase
-    c.look-found.ensures.acts
+returns-clause-looks c = look_reaches c.is_in_order.ensures.turn c.requires.acting OfPhase c.look-found.ensures.acts
 
 pub returns-clause-finds : goal.returns-clause-finds
 returns-clause-finds c =
-    let t = c.args.turn.now in
-    c.is_in.ensures
-    ∙ ap (λ (n : ℕ). n == 1)
-    (found_phase t.pass c.look-found.new.self.pass t.op c.look-found.result c.is_in_order.ensures.turn
-    c.look-found.ensures.finds)
+    c.is_in.ensures ∙ ap (λ (n : ℕ). n == 1) (found_phase c.is_in_order.ensures.turn c.look-found.ensures.finds)

@@ -7,15 +7,12 @@ use Rattle.mk_objects.proofs.looking.look_at.Goals as goal
 pub look-requires-clause-enabled : goal.look-requires-clause-enabled
 look-requires-clause-enabled c =
     let t = c.args.turn.now in
-    may_look t.pass.table.config _ t.pass.seat
-    (acting_now t.pass t.op c.is_in_order.ensures.turn c.requires.acting) c.args.word c.requires.steady
+    may_look (acting_now t.pass t.op c.is_in_order.ensures.turn c.requires.acting) c.args.word c.requires.steady
     c.requires.in_range
 
 pub returns-clause-looks : goal.returns-clause-looks
 returns-clause-looks c =
-    let t = c.args.turn.now in
-    look_reaches t.pass c.look.new.self.pass t.op c.args.word c.is_in_order.ensures.turn c.requires.acting
-    (steady_is_plain c.args.word c.requires.steady)
+    look_reaches c.is_in_order.ensures.turn c.requires.acting (steady_is_plain c.args.word c.requires.steady)
     c.look.ensures.acts
 
 pub returns-clause-finds : goal.returns-clause-finds
@@ -27,8 +24,6 @@ returns-clause-finds c =
 pub returns-clause-keeps : goal.returns-clause-keeps
 returns-clause-keeps c =
     let t = c.args.turn.now in
-    λ r lt.
-    value_kept t.pass c.look.new.self.pass r (Step.Look c.args.word) (acting_caller t.pass c.requires.acting) lt
-    c.look.ensures.acts
+    λ r lt. value_kept r (acting_caller t.pass c.requires.acting) lt c.look.ensures.acts
     (λ v kept known. decides_nothing t.pass.table.config v.now t.pass.seat (Step.Look c.args.word)
-    (plain_is_idle c.args.word (steady_is_plain c.args.word c.requires.steady)))
+    (plain_is_idle (steady_is_plain c.args.word c.requires.steady)))

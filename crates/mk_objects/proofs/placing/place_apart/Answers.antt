@@ -1,5 +1,4 @@
-use Rattle.mk_laws.proofs.Vocabulary.{None, Some, arith, histories_keep_lengths, place_on_pages}
-use Rattle.mk_laws.proofs.Vocabulary.{refl, ◌∙◌, ◌≡◌}
+use Rattle.mk_laws.proofs.Vocabulary.{arith, histories_keep_lengths, place_on_pages, ◌∙◌, ◌≡◌}
 use Rattle.mk_objects.proofs.Vocabulary.{PassState, now_of, object_for}
 use Rattle.mk_objects.proofs.JoinedLooks.{granted_behind_looks, looks_nothing}
 use Rattle.mk_objects.proofs.PlacedNews.{fit_found, fit_within, goes_behind, place_found}
@@ -11,40 +10,31 @@ fit : (c : After-seek)
     → place_on_pages c.args.turn.now.pass.table.config.resident (now_of c.args.turn.now.pass).words.pages
     (object_for c.args.turn.now.pass)
     ≡ c.seek.result
-fit c =
-    let p : PassState = c.args.turn.now.pass in
-    fit_found p c.args.words.now (now_of p).words.pages c.args.words.now.config.resident c.args.shape
-    c.seek.result c.requires.one_table refl refl c.requires.shape c.seek.ensures
+fit c = grind (arith, fit_found)
 
 pub page-page-requires : goal.page-page-requires
 page-page-requires c =
     let x = goal.at.page-page-requires c in
     let p : PassState = c.args.turn.now.pass in
-    let within = fit_within p c.args.turn.now.op c.in-Some.place c.is_in_order.ensures.turn
+    let within = fit_within c.in-Some.place c.is_in_order.ensures.turn
     c.is_in_order.ensures.history c.requires.unplaced (fit x.After-seek ∙ c.in-Some.is) in
     omega (arith, within, (histories_keep_lengths p.table.config p.seen).pages)
 
 pub serve_now-requires-clause-goes : goal.serve_now-requires-clause-goes
-serve_now-requires-clause-goes c =
-    let x = goal.at.serve_now-requires-clause-goes c in
-    let p : PassState = c.args.turn.now.pass in
-    goes_behind p p c.in-Some.place (looks_nothing p) c.requires.unplaced
-    (fit x.After-seek ∙ c.in-Some.is)
+serve_now-requires-clause-goes c = grind (arith, goes_behind, looks_nothing, fit)
 
 pub returns-in-None-clause-nowhere : goal.returns-in-None-clause-nowhere
 returns-in-None-clause-nowhere c =
     let x = goal.at.returns-in-None-clause-nowhere c in
     let p : PassState = c.args.turn.now.pass in
     λ h. record {
-      nowhere = place_found p c.args.turn.now.op None c.is_in_order.ensures.turn c.is_in_order.ensures.history
-          c.requires.unplaced
+      nowhere = place_found c.is_in_order.ensures.turn c.is_in_order.ensures.history c.requires.unplaced
           (fit x.After-seek ∙ c.in-None.is);
       looks = looks_nothing p;
     }
 
 pub returns-in-None-clause-reached : goal.returns-in-None-clause-reached
-returns-in-None-clause-reached c = looks_sweep c.args.turn.now.pass c.args.turn.now.pass
-    (looks_nothing c.args.turn.now.pass)
+returns-in-None-clause-reached c = looks_sweep (looks_nothing c.args.turn.now.pass)
 
 pub returns-in-Some-clause-placed : goal.returns-in-Some-clause-placed
 returns-in-Some-clause-placed c =
@@ -52,10 +42,8 @@ returns-in-Some-clause-placed c =
     let p : PassState = c.args.turn.now.pass in
     λ h. record {
       place = c.in-Some.place;
-      fits = place_found p c.args.turn.now.op (Some c.in-Some.place) c.is_in_order.ensures.turn
-          c.is_in_order.ensures.history c.requires.unplaced
+      fits = place_found c.is_in_order.ensures.turn c.is_in_order.ensures.history c.requires.unplaced
           (fit x.After-seek ∙ c.in-Some.is);
-      granted = granted_behind_looks p p c.serve_now.new.turn.pass c.in-Some.place (looks_nothing p)
-          c.serve_now.ensures.granted;
+      granted = granted_behind_looks (looks_nothing p) c.serve_now.ensures.granted;
       held = c.serve_now.ensures.held;
     }

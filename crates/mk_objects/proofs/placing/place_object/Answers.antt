@@ -1,7 +1,6 @@
-use Rattle.mk_laws.proofs.Vocabulary.{Kind, List, Op, Some, ap, arith, d_of, histories_keep_lengths, kinds_of, length}
-use Rattle.mk_laws.proofs.Vocabulary.{ltb-true, place_on_pages, refl, subst, sym, undecided_new, ◌<◌, ◌∙◌, ◌≡◌}
+use Rattle.mk_laws.proofs.Vocabulary.{Kind, List, Op, Some, arith, histories_keep_lengths, length, ltb-true}
+use Rattle.mk_laws.proofs.Vocabulary.{place_on_pages, subst, sym, undecided_new, ◌<◌, ◌∙◌, ◌≡◌}
 use Rattle.mk_objects.proofs.Vocabulary.{PassState, call_of, now_of, object_for}
-use Rattle.mk_core.specs.NewPlaces.{object_of}
 use Rattle.mk_objects.proofs.PlacedNews.{fit_found, fit_within, goes_behind, op_is, op_known, place_found, shape_asked}
 use Rattle.mk_objects.proofs.PlacedNews.{type_asked}
 use Rattle.mk_objects.proofs.placing.place_object.Goals.{After-shape_of-shape, In-New, In-Some-seek_cell}
@@ -11,48 +10,34 @@ use Rattle.mk_objects.proofs.placing.place_object.Goals as goal
 
 -- the operation is the New that was looked at
 asked : (c : In-New) → (call_of c.args.turn.now.pass).op ≡ Op.New c.in-New.d c.in-New.ty c.in-New.full
-asked c =
-    op_known c.args.turn.now.pass c.args.turn.now.op c.op.result c.in-Some.op c.is_in_order.ensures.turn
-    c.requires.unplaced.new c.op.ensures c.in-Some.is ∙ c.in-New.is
+asked c = grind (arith, op_known)
 
 -- and the shape is that of its object
 shape_is : (c : After-shape_of-shape) → (call_of c.args.turn.now.pass).op
     ≡ Op.New c.in-New.d c.in-New.ty c.in-New.full
     → object_shaped c.shape_of-shape.result ≡ object_for c.args.turn.now.pass
-shape_is c is =
-    shape_asked c.args.turn.now.pass c.args.words.now
-    (Op.New c.in-New.d c.in-New.ty c.in-New.full) c.shape_of-shape.result c.requires.one_table is
-    (c.shape_of-shape.ensures
-    ∙ ap (λ (ts : List (List Kind)). object_of (kinds_of ts c.in-New.ty)) c.types.ensures)
+shape_is c is = grind (arith, shape_asked)
 
 -- the cell that was found is where it fits
 fit : (c : In-Some-seek_cell) → object_shaped c.shape_of-shape.result ≡ object_for c.args.turn.now.pass
     → place_on_pages c.args.turn.now.pass.table.config.resident (now_of c.args.turn.now.pass).words.pages
     (object_for c.args.turn.now.pass)
     ≡ Some c.in-Some-seek_cell.place
-fit c is =
-    let p : PassState = c.args.turn.now.pass in
-    fit_found p c.args.words.now (now_of p).words.pages c.args.words.now.config.resident c.shape_of-shape.result
-    (Some c.in-Some-seek_cell.place) c.requires.one_table refl refl is (sym c.in-Some-seek_cell.ensures.fits)
+fit c is = grind (arith, fit_found)
 
 pub unreachable-requires : goal.unreachable-requires
-unreachable-requires c =
-    c.in_default.not-Some (call_of c.args.turn.now.pass).op
-    (c.op.ensures
-    ∙ op_is c.args.turn.now.pass c.args.turn.now.op c.is_in_order.ensures.turn c.requires.unplaced.new)
+unreachable-requires c = grind (arith, op_is)
 
 pub unreachable-requires-in_default-op : goal.unreachable-requires-in_default-op
 unreachable-requires-in_default-op c =
     let p : PassState = c.args.turn.now.pass in
     let new = undecided_new (call_of p) c.requires.unplaced.new in
-    let known = op_known p c.args.turn.now.op c.op.result c.in-Some.op c.is_in_order.ensures.turn
-    c.requires.unplaced.new c.op.ensures c.in-Some.is in
+    let known = op_known c.in-Some.op c.is_in_order.ensures.turn c.requires.unplaced.new c.op.ensures c.in-Some.is in
     c.in_default-op.not-New new.d new.ty new.full (sym known ∙ new.op)
 
 pub shape_of-shape-requires : goal.shape_of-shape-requires
 shape_of-shape-requires c =
-    let has = type_asked c.args.turn.now.pass c.args.words.now
-    (Op.New c.in-New.d c.in-New.ty c.in-New.full) c.requires.one_table c.is_in_order.ensures.history
+    let has = type_asked c.args.turn.now.pass c.requires.one_table c.is_in_order.ensures.history
     (asked (goal.at.shape_of-shape-requires c).In-New) in
     subst (λ (ts : List (List Kind)). c.in-New.ty < length ts) (sym c.types.ensures)
     (ltb-true c.in-New.ty (length c.args.words.now.config.types) has)
@@ -61,35 +46,24 @@ pub page-used-requires : goal.page-used-requires
 page-used-requires c =
     let x = goal.at.page-used-requires c in
     let p : PassState = c.args.turn.now.pass in
-    let within = fit_within p c.args.turn.now.op c.in-Some-seek_cell.place c.is_in_order.ensures.turn
-    c.is_in_order.ensures.history c.requires.unplaced
-    (fit x.In-Some-seek_cell (shape_is x.After-shape_of-shape (asked x.In-New))) in
+    let within = fit_within c.in-Some-seek_cell.place c.is_in_order.ensures.turn c.is_in_order.ensures.history
+    c.requires.unplaced (fit x.In-Some-seek_cell (shape_is x.After-shape_of-shape (asked x.In-New))) in
     omega (arith, within, (histories_keep_lengths p.table.config p.seen).pages)
 
 pub place_apart-requires-clause-register : goal.place_apart-requires-clause-register
-place_apart-requires-clause-register c =
-    sym (ap (λ (o : Op). d_of o) (asked (goal.at.place_apart-requires-clause-register c).In-New))
+place_apart-requires-clause-register c = grind (arith, asked)
 
 pub place_apart-requires-clause-shape : goal.place_apart-requires-clause-shape
-place_apart-requires-clause-shape c =
-    let x = goal.at.place_apart-requires-clause-shape c in
-    shape_is x.After-shape_of-shape (asked x.In-New)
+place_apart-requires-clause-shape c = grind (arith, shape_is, asked)
 
 pub serve_now-requires-clause-register : goal.serve_now-requires-clause-register
-serve_now-requires-clause-register c =
-    sym (ap (λ (o : Op). d_of o) (asked (goal.at.serve_now-requires-clause-register c).In-New))
+serve_now-requires-clause-register c = grind (arith, asked)
 
 pub serve_now-requires-clause-shape : goal.serve_now-requires-clause-shape
-serve_now-requires-clause-shape c =
-    let x = goal.at.serve_now-requires-clause-shape c in
-    shape_is x.After-shape_of-shape (asked x.In-New)
+serve_now-requires-clause-shape c = grind (arith, shape_is, asked)
 
 pub serve_now-requires-clause-goes : goal.serve_now-requires-clause-goes
-serve_now-requires-clause-goes c =
-    let x = goal.at.serve_now-requires-clause-goes c in
-    let p : PassState = c.args.turn.now.pass in
-    goes_behind p p c.in-Some-seek_cell.place (looks_nothing p) c.requires.unplaced
-    (fit x.In-Some-seek_cell (shape_is x.After-shape_of-shape (asked x.In-New)))
+serve_now-requires-clause-goes c = grind (arith, goes_behind, looks_nothing, fit, shape_is, asked)
 
 pub returns-in-Some-seek_cell-clause-placed : goal.returns-in-Some-seek_cell-clause-placed
 returns-in-Some-seek_cell-clause-placed c =
@@ -97,10 +71,8 @@ returns-in-Some-seek_cell-clause-placed c =
     let p : PassState = c.args.turn.now.pass in
     λ h. record {
       place = c.in-Some-seek_cell.place;
-      fits = place_found p c.args.turn.now.op (Some c.in-Some-seek_cell.place) c.is_in_order.ensures.turn
-          c.is_in_order.ensures.history c.requires.unplaced
+      fits = place_found c.is_in_order.ensures.turn c.is_in_order.ensures.history c.requires.unplaced
           (fit x.In-Some-seek_cell (shape_is x.After-shape_of-shape (asked x.In-New)));
-      granted = granted_behind_looks p p c.serve_now.new.turn.pass c.in-Some-seek_cell.place (looks_nothing p)
-          c.serve_now.ensures.granted;
+      granted = granted_behind_looks (looks_nothing p) c.serve_now.ensures.granted;
       held = c.serve_now.ensures.held;
     }

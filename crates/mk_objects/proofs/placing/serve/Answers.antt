@@ -1,6 +1,5 @@
-use Rattle.mk_laws.proofs.Vocabulary.{IsSized, Object, Step, address_of, ap, arith, base_made, has_bit, refl, subst}
-use Rattle.mk_laws.proofs.Vocabulary.{sym, used_at, words_made, words_within, ◌%◌, ◌+◌, ◌^◌, ◌∙◌, ◌≡◌}
-use Rattle.mk_objects.proofs.Vocabulary.{IsEnabledTo, PassState, now_of, object_for}
+use Rattle.mk_laws.proofs.Vocabulary.{IsSized, Object, ap, arith, refl, subst, sym, words_made, words_within, ◌∙◌, ◌≡◌}
+use Rattle.mk_objects.proofs.Vocabulary.{PassState, object_for}
 use Rattle.mk_objects.proofs.Serves.{KnowsPlace, knows_place, place_unused}
 use Rattle.mk_objects.proofs.Takes.{HasGranted, HasTaken, counted, counted_held, few_held, grant_address, grant_admits}
 use Rattle.mk_objects.proofs.Takes.{grant_may, grant_on, grant_register, one_bit_more, small_index, tally_may, tally_on}
@@ -11,70 +10,39 @@ use Rattle.mk_objects.proofs.placing.serve.Goals as goal
 
 -- what is known of the place
 knows : (c : After-is_in_order) → KnowsPlace c.args.turn.now.pass c.args.place
-knows c =
-    knows_place c.args.turn.now.pass c.args.turn.now.op c.args.place c.is_in_order.ensures.turn
-    c.is_in_order.ensures.history c.requires.goes
+knows c = knows_place c.is_in_order.ensures.turn c.is_in_order.ensures.history c.requires.goes
 
 -- its cell is taken
 taken : (c : After-used) (k : KnowsPlace c.args.turn.now.pass c.args.place)
-    → HasTaken c.args.turn.now.pass c.args.place c.requires.goes k c.used.new.self.pass
-taken c k =
-    used_on c.args.turn.now.pass c.args.place c.requires.goes k c.make_ready.new.turn.pass c.used.new.self.pass _
-    c.make_ready.ensures.ready c.used.ensures.acts
+    → HasTaken c.requires.goes k c.used.new.self.pass
+taken c k = used_on c.requires.goes k c.make_ready.ensures.ready c.used.ensures.acts
 
 -- and the object is granted
 granted : (c : After-grant) (k : KnowsPlace c.args.turn.now.pass c.args.place)
-    → HasTaken c.args.turn.now.pass c.args.place c.requires.goes k c.used.new.self.pass
-    → HasGranted c.args.turn.now.pass c.args.place c.requires.goes k c.grant.new.self.pass
-granted c k taken =
-    grant_on c.args.turn.now.pass c.args.place c.requires.goes k c.used.new.self.pass c.grant.new.self.pass taken
-    c.grant.ensures.acts c.is_in_order.ensures.history
+    → HasTaken c.requires.goes k c.used.new.self.pass → HasGranted c.requires.goes k c.grant.new.self.pass
+granted c k taken = grant_on c.requires.goes k taken c.grant.ensures.acts c.is_in_order.ensures.history
 
 pub overflow_shl-place : goal.overflow_shl-place
-overflow_shl-place c =
-    small_index c.args.turn.now.pass c.args.place (knows (goal.at.overflow_shl-place c).After-is_in_order)
+overflow_shl-place c = small_index (knows (goal.at.overflow_shl-place c).After-is_in_order)
 
 pub used-requires-clause-enabled : goal.used-requires-clause-enabled
-used-requires-clause-enabled c =
-    let p : PassState = c.args.turn.now.pass in
-    let k = knows (goal.at.used-requires-clause-enabled c).After-is_in_order in
-    let known : used_at (now_of p).words c.args.place.page ≡ c.args.used =
-    sym c.requires.used in
-    let clear : has_bit c.args.used c.args.place.index ≡ _ =
-    sym (ap (λ n. has_bit n c.args.place.index) known) ∙ place_unused p c.args.place k in
-    subst (λ n. IsEnabledTo c.make_ready.new.turn.pass (Step.Used c.args.place.page n))
-    (sym (one_bit_more c.args.used c.args.place.index (small_index p c.args.place k) clear))
-    (used_may p c.args.place c.requires.goes k c.make_ready.new.turn.pass c.args.used
-    c.make_ready.ensures.ready known)
+used-requires-clause-enabled c = grind (arith, knows, place_unused, one_bit_more, small_index, used_may)
 
 pub grant-requires-clause-enabled : goal.grant-requires-clause-enabled
-grant-requires-clause-enabled c =
-    let x = goal.at.grant-requires-clause-enabled c in
-    let k = knows x.After-is_in_order in
-    grant_may c.args.turn.now.pass c.args.place c.requires.goes k c.used.new.self.pass (taken x.After-used k)
+grant-requires-clause-enabled c = grind (arith, knows, grant_may, taken)
 
 pub grant-requires-clause-admitted : goal.grant-requires-clause-admitted
 grant-requires-clause-admitted c =
     let x = goal.at.grant-requires-clause-admitted c in
     let k = knows x.After-is_in_order in
-    grant_admits c.args.turn.now.pass c.args.place c.requires.goes k c.used.new.self.pass
+    grant_admits c.requires.goes k
     (taken x.After-used k) c.used.ensures.acts.makes.pass.history c.is_in_order.ensures.history
 
 pub grant-requires-clause-register : goal.grant-requires-clause-register
-grant-requires-clause-register c =
-    let x = goal.at.grant-requires-clause-register c in
-    let k = knows x.After-is_in_order in
-    c.requires.register
-    ∙ sym (grant_register c.args.turn.now.pass c.args.place c.requires.goes k c.used.new.self.pass
-    (taken x.After-used k))
+grant-requires-clause-register c = grind (arith, knows, grant_register, taken)
 
 pub grant-requires-clause-address : goal.grant-requires-clause-address
-grant-requires-clause-address c =
-    let x = goal.at.grant-requires-clause-address c in
-    let k = knows x.After-is_in_order in
-    c.address.ensures ∙ ap (λ (o : Object). address_of (base_made o c.args.place) % 2 ^ 64) c.requires.shape
-    ∙ sym (grant_address c.args.turn.now.pass c.args.place c.requires.goes k c.used.new.self.pass
-    (taken x.After-used k))
+grant-requires-clause-address c = grind (arith, knows, grant_address, taken)
 
 pub address-requires-clause-page : goal.address-requires-clause-page
 address-requires-clause-page c =
@@ -82,8 +50,7 @@ address-requires-clause-page c =
     omega (arith, k.within, c.is_in_order.ensures.history.within_limits.pages.1)
 
 pub address-requires-clause-index : goal.address-requires-clause-index
-address-requires-clause-index c =
-    small_index c.args.turn.now.pass c.args.place (knows (goal.at.address-requires-clause-index c).After-is_in_order)
+address-requires-clause-index c = small_index (knows (goal.at.address-requires-clause-index c).After-is_in_order)
 
 pub storage-requires : goal.storage-requires
 storage-requires c =
@@ -91,34 +58,17 @@ storage-requires c =
     (knows (goal.at.storage-requires c).After-is_in_order).sized
 
 pub overflow_add-held : goal.overflow_add-held
-overflow_add-held c =
-    let p : PassState = c.args.turn.now.pass in
-    let h = c.is_in_order.ensures.history in
-    let k = knows (goal.at.overflow_add-held c).After-is_in_order in
-    let few = few_held p c.args.place k c.requires.goes h in
-    let most = h.within_limits.pages.1 in
-    let words = (words_within (object_for p) k.sized).1 in
-    let size : c.storage.result ≡ words_made (object_for p) =
-    c.storage.ensures ∙ ap (λ (o : Object). words_made o) c.requires.shape in
-    omega (arith, c.requires.held, c.requires.exact)
+overflow_add-held c = grind (arith, knows, few_held, words_within)
 
 pub tally-requires-clause-enabled : goal.tally-requires-clause-enabled
-tally-requires-clause-enabled c =
-    let x = goal.at.tally-requires-clause-enabled c in
-    let k = knows x.After-is_in_order in
-    tally_may c.args.turn.now.pass c.args.place c.requires.goes k c.grant.new.self.pass _
-    (granted x.After-grant k (taken x.After-used k))
+tally-requires-clause-enabled c = grind (arith, knows, tally_may, granted, taken)
 
 -- the last step, and the tally
 pub returns-clause-granted : goal.returns-clause-granted
 returns-clause-granted c =
     let x = goal.at.returns-clause-granted c in
-    let p : PassState = c.args.turn.now.pass in
     let k = knows x.After-is_in_order in
-    let n = c.args.held + c.storage.result in
-    counted p c.args.place c.requires.goes k c.tally.new.self.pass n
-    (tally_on p c.args.place c.requires.goes k c.grant.new.self.pass c.tally.new.self.pass n
-    (granted x.After-grant k (taken x.After-used k))
+    counted c.requires.goes k (tally_on c.requires.goes k (granted x.After-grant k (taken x.After-used k))
     c.tally.ensures.acts c.is_in_order.ensures.history)
 
 pub returns-clause-held : goal.returns-clause-held
@@ -126,17 +76,13 @@ returns-clause-held c =
     let x = goal.at.returns-clause-held c in
     let p : PassState = c.args.turn.now.pass in
     let k = knows x.After-is_in_order in
-    let n = c.args.held + c.storage.result in
     let size : c.storage.result ≡ words_made (object_for p) =
     c.storage.ensures ∙ ap (λ (o : Object). words_made o) c.requires.shape in
-    counted_held p c.args.place c.requires.goes k c.tally.new.self.pass c.args.held c.storage.result
-    (c.requires.held ∙ c.requires.exact) size
-    (tally_on p c.args.place c.requires.goes k c.grant.new.self.pass c.tally.new.self.pass n
-    (granted x.After-grant k (taken x.After-used k))
-    c.tally.ensures.acts c.is_in_order.ensures.history)
+    counted_held c.requires.goes k (c.requires.held ∙ c.requires.exact) size
+    (tally_on c.requires.goes k (granted x.After-grant k (taken x.After-used k)) c.tally.ensures.acts
+    c.is_in_order.ensures.history)
 
 pub returns-clause-reached : goal.returns-clause-reached
 returns-clause-reached c =
-    serving_sweeps c.args.turn.now.pass c.make_ready.new.turn.pass c.used.new.self.pass c.grant.new.self.pass
-    c.tally.new.self.pass c.args.place _ _ _ c.make_ready.ensures.ready c.make_ready.ensures.reached c.used.ensures.acts
+    serving_sweeps c.make_ready.ensures.ready c.make_ready.ensures.reached c.used.ensures.acts
     c.grant.ensures.acts c.tally.ensures.acts refl refl refl

@@ -1,51 +1,29 @@
-use Rattle.mk_objects.proofs.Vocabulary.{PassState}
 use Rattle.mk_objects.proofs.LoadedFrees.{load_admits, load_keeps, load_loads, load_may, load_meets, load_null}
 use Rattle.mk_objects.proofs.LoadedFrees.{load_reaches}
 use Rattle.mk_objects.proofs.retiring.load_freed.Goals as goal
 
 pub reg_load-requires-clause-enabled : goal.reg_load-requires-clause-enabled
-reg_load-requires-clause-enabled c =
-    let p : PassState = c.args.turn.now.pass in
-    load_may p c.args.register c.args.turn.now.op c.is_in_order.ensures.turn c.is_in_order.ensures.history
-    c.requires.unloaded
+reg_load-requires-clause-enabled c = load_may c.requires.unloaded c.is_in_order.ensures.turn
 
 pub reg_load-requires-clause-admitted : goal.reg_load-requires-clause-admitted
 reg_load-requires-clause-admitted c =
-    let p : PassState = c.args.turn.now.pass in
-    load_admits p c.args.register c.args.turn.now.op c.is_in_order.ensures.turn c.is_in_order.ensures.history
-    c.requires.unloaded
+    load_admits c.requires.unloaded c.is_in_order.ensures.turn c.is_in_order.ensures.history
 
 pub reg_load-requires-clause-register : goal.reg_load-requires-clause-register
-reg_load-requires-clause-register c =
-    let p : PassState = c.args.turn.now.pass in
-    load_meets p c.args.register c.args.turn.now.op c.is_in_order.ensures.turn c.is_in_order.ensures.history
-    c.requires.unloaded
+reg_load-requires-clause-register c = load_meets c.requires.unloaded
 
 pub reg_load-requires-clause-loads : goal.reg_load-requires-clause-loads
-reg_load-requires-clause-loads c =
-    let p : PassState = c.args.turn.now.pass in
-    load_loads p c.args.register c.args.turn.now.op c.is_in_order.ensures.turn c.is_in_order.ensures.history
-    c.requires.unloaded
+reg_load-requires-clause-loads c = load_loads c.requires.unloaded
 
 pub returns-clause-loaded : goal.returns-clause-loaded
 returns-clause-loaded c =
-    let p : PassState = c.args.turn.now.pass in
-    load_reaches p c.reg_load.new.self.pass c.args.register c.reg_load.result c.args.turn.now.op
-    c.requires.unloaded.small c.is_in_order.ensures.turn
-    c.requires.unloaded c.reg_load.ensures.acts
+    load_reaches c.requires.unloaded.small c.is_in_order.ensures.turn c.requires.unloaded c.reg_load.ensures.acts
     c.reg_load.ensures.own
 
 pub returns-clause-keeps : goal.returns-clause-keeps
 returns-clause-keeps c =
-    let p : PassState = c.args.turn.now.pass in
-    λ some.
-    load_keeps p c.reg_load.new.self.pass c.args.register c.reg_load.result c.args.turn.now.op
-    c.requires.unloaded.small c.is_in_order.ensures.turn
-    c.requires.unloaded c.reg_load.ensures.acts
+    λ some. load_keeps c.requires.unloaded.small c.is_in_order.ensures.turn c.requires.unloaded c.reg_load.ensures.acts
     c.reg_load.ensures.own some
 
 pub returns-clause-null : goal.returns-clause-null
-returns-clause-null c =
-    let p : PassState = c.args.turn.now.pass in
-    λ none. load_null p c.args.register c.reg_load.result c.is_in_order.ensures.history c.requires.unloaded
-    c.reg_load.ensures.own none
+returns-clause-null c = λ none. load_null c.is_in_order.ensures.history c.requires.unloaded c.reg_load.ensures.own none

@@ -1,5 +1,5 @@
 use Rattle.mk_laws.proofs.Vocabulary.{Step, Word, refl}
-use Rattle.mk_objects.proofs.Vocabulary.{PassState, call_of, loaded_free, now_of}
+use Rattle.mk_objects.proofs.Vocabulary.{PassState, call_of}
 use Rattle.mk_objects.proofs.Looks.{acting_caller, acting_now, found_quarantine}
 use Rattle.mk_objects.proofs.{LoadedFrees.free_step_admits, LoadedFrees.loaded_undecided, MayAct.free_is_acting}
 use Rattle.mk_objects.proofs.{MayAct.may_look_quarantine, SeenDoubles.see_keeps, SeenDoubles.see_reaches}
@@ -8,38 +8,27 @@ use Rattle.mk_objects.proofs.retiring.look_at_quarantine.Goals as goal
 pub look-requires-clause-enabled : goal.look-requires-clause-enabled
 look-requires-clause-enabled c =
     let p : PassState = c.args.turn.now.pass in
-    let free = loaded_undecided p c.args.register c.args.value c.requires.free c.requires.some in
-    may_look_quarantine p.table.config (now_of p) p.seat
-    (acting_now p c.args.turn.now.op c.is_in_order.ensures.turn (free_is_acting (call_of p) free)) c.args.cell.page
-    c.requires.within
+    let free = loaded_undecided c.args.value c.requires.free c.requires.some in
+    may_look_quarantine (acting_now p c.args.turn.now.op c.is_in_order.ensures.turn (free_is_acting (call_of p) free))
+    c.args.cell.page c.requires.within
 
 pub look-requires-clause-admitted : goal.look-requires-clause-admitted
 look-requires-clause-admitted c =
     let p : PassState = c.args.turn.now.pass in
-    let free = loaded_undecided p c.args.register c.args.value c.requires.free c.requires.some in
-    λ decides.
-    free_step_admits p c.args.register (Step.Look (Word.Quar c.args.cell.page))
-    (loaded_free c.args.register c.args.value)
+    let free = loaded_undecided c.args.value c.requires.free c.requires.some in
+    λ decides. free_step_admits (Step.Look (Word.Quar c.args.cell.page))
     (acting_caller p (free_is_acting (call_of p) free)) c.is_in_order.ensures.turn.holds c.is_in_order.ensures.history
     c.requires.free refl
 
 pub returns-clause-seen : goal.returns-clause-seen
 returns-clause-seen c =
-    let p : PassState = c.args.turn.now.pass in
-    let free = loaded_undecided p c.args.register c.args.value c.requires.free c.requires.some in
-    see_reaches p c.look.new.self.pass c.args.cell c.args.turn.now.op c.is_in_order.ensures.turn free
-    c.requires.cell c.look.ensures.acts
+    let free = loaded_undecided c.args.value c.requires.free c.requires.some in
+    see_reaches c.args.cell c.is_in_order.ensures.turn free c.requires.cell c.look.ensures.acts
 
 pub returns-clause-finds : goal.returns-clause-finds
-returns-clause-finds c =
-    let p : PassState = c.args.turn.now.pass in
-    found_quarantine p c.look.new.self.pass c.args.turn.now.op c.args.cell.page c.look.result
-    c.is_in_order.ensures.turn c.look.ensures.finds
+returns-clause-finds c = found_quarantine c.is_in_order.ensures.turn c.look.ensures.finds
 
 pub returns-clause-keeps : goal.returns-clause-keeps
 returns-clause-keeps c =
-    let p : PassState = c.args.turn.now.pass in
-    let free = loaded_undecided p c.args.register c.args.value c.requires.free c.requires.some in
-    λ live r lt.
-    see_keeps p c.look.new.self.pass r c.args.cell c.args.turn.now.op lt c.is_in_order.ensures.turn free
-    c.requires.cell live c.look.ensures.acts
+    let free = loaded_undecided c.args.value c.requires.free c.requires.some in
+    λ live r lt. see_keeps r c.args.cell lt c.is_in_order.ensures.turn free c.requires.cell live c.look.ensures.acts

@@ -1,7 +1,5 @@
-use Rattle.mk_laws.proofs.Vocabulary.{Option, ap, arith, cond-true, header_at, histories_keep_lengths, le-leb, sym}
-use Rattle.mk_laws.proofs.Vocabulary.{true, uses_of_pages, ◌==◌, ◌∙◌, ◌≡◌}
-use Rattle.mk_objects.proofs.Vocabulary.{PassState, now_of, option_and_then}
-use Rattle.mk_geom.specs.{Classes.is_small_size, PageUses.small_place}
+use Rattle.mk_laws.proofs.Vocabulary.{ap, arith, cond-true, header_at, histories_keep_lengths, le-leb, sym, ◌==◌, ◌∙◌}
+use Rattle.mk_objects.proofs.Vocabulary.{PassState, now_of}
 use Rattle.mk_page_map.specs.Members.{page_at}
 use Rattle.mk_objects.proofs.SoughtPlaces.{IsBlock, block_found, block_has_header, place_in_block}
 use Rattle.mk_objects.proofs.seeking.seek_cell.Goals.{In-Some-first_block}
@@ -24,22 +22,10 @@ free_cell-requires-clause-within c =
     )
 
 pub free_cell-requires-clause-block : goal.free_cell-requires-clause-block
-free_cell-requires-clause-block c =
-    (block (goal.at.free_cell-requires-clause-block c).In-Some-first_block).free
+free_cell-requires-clause-block c = (block (goal.at.free_cell-requires-clause-block c).In-Some-first_block).free
 
 pub returns-clause-fits : goal.returns-clause-fits
-returns-clause-fits c =
-    let p : PassState = c.args.turn.now.pass in
-    let limit = c.args.words.now.config.resident in
-    let small : is_small_size c.args.shape.words ≡ true = le-leb c.args.shape.words 32 (omega
-    (arith, c.if-shape-gt-SMALL_WORDS.false)) in
-    cond-true (is_small_size c.args.shape.words) _ _ small
-    ∙ ap (λ (class : Option _). option_and_then
-    (λ k. small_place limit k c.args.shape.leaf (uses_of_pages (now_of p).words.pages)) class)
-    (sym c.class_of.ensures.exact ∙ c.in-Some.is)
-    ∙ sym (place_in_block c.the_lowest_block_has_the_place.ensures limit c.in-Some.class c.in-Some-first_block.page
-    c.args.shape.leaf (now_of p).words.pages (sym c.first_block.ensures ∙ c.in-Some-first_block.is))
-    ∙ c.free_cell.ensures.cell
+returns-clause-fits c = grind (arith, le-leb, cond-true, place_in_block)
 
 pub returns-clause-block : goal.returns-clause-block
 returns-clause-block c =

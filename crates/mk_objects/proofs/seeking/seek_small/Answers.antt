@@ -11,12 +11,7 @@ free_cell-requires-clause-within c =
     omega (arith, block.within, (histories_keep_lengths p.table.config p.seen).pages)
 
 pub free_cell-requires-clause-block : goal.free_cell-requires-clause-block
-free_cell-requires-clause-block c =
-    (block_found (now_of c.args.turn.now.pass).words.pages c.args.class c.args.leaf c.in-Some.page
-    (sym c.first_block.ensures ∙ c.in-Some.is)).free
+free_cell-requires-clause-block c = grind (arith, block_found)
 
 pub returns-in-Some : goal.returns-in-Some
-returns-in-Some c =
-    sym c.free_cell.ensures.cell
-    ∙ place_in_block c.the_lowest_block_has_the_place.ensures c.args.words.now.config.resident c.args.class
-    c.in-Some.page c.args.leaf (now_of c.args.turn.now.pass).words.pages (sym c.first_block.ensures ∙ c.in-Some.is)
+returns-in-Some c = grind (arith, place_in_block)

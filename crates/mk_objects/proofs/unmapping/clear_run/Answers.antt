@@ -1,4 +1,3 @@
-use Rattle.mk_objects.proofs.Vocabulary.{PassState}
 use Rattle.mk_objects.proofs.ClearedRuns.{clears, stopped_by, unmapped_held}
 use Rattle.mk_objects.proofs.unmapping.clear_run.Goals as goal
 
@@ -7,12 +6,8 @@ unmap_run-requires-clause-stopped c = stopped_by c.args.turn.now.pass c.requires
 
 pub wipe_run-requires-clause-stopped : goal.wipe_run-requires-clause-stopped
 wipe_run-requires-clause-stopped c =
-    stopped_by c.unmap_run.new.turn.pass
-    (unmapped_held c.args.turn.now.pass c.unmap_run.new.turn.pass c.args.run c.unmap_run.ensures.unmaps c.requires.held)
+    stopped_by c.unmap_run.new.turn.pass (unmapped_held c.unmap_run.ensures.unmaps c.requires.held)
 
 pub returns-clause-clears : goal.returns-clause-clears
 returns-clause-clears c =
-    let p : PassState = c.args.turn.now.pass in
-    clears p c.unmap_run.new.turn.pass c.wipe_run.new.turn.pass c.open_gates.new.turn.pass c.args.run
-    c.unmap_run.ensures.unmaps c.wipe_run.ensures.wipes
-    c.open_gates.ensures.sets c.open_gates.ensures.gone
+    clears c.unmap_run.ensures.unmaps c.wipe_run.ensures.wipes c.open_gates.ensures.sets c.open_gates.ensures.gone

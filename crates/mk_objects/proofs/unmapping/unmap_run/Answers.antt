@@ -1,5 +1,5 @@
 use Rattle.mk_laws.proofs.Vocabulary.{Step, arith, refl, subst, sym, ◌+◌, ◌∙◌, ◌≡◌}
-use Rattle.mk_objects.proofs.Vocabulary.{Acts, IsEnabledTo, PassState}
+use Rattle.mk_objects.proofs.Vocabulary.{Acts, IsEnabledTo}
 use Rattle.mk_objects.proofs.UnmappedRuns.{HasUnmapped, unmap_may, unmapped_all, unmapped_none, unmaps_on}
 use Rattle.mk_objects.proofs.unmapping.unmap_run.Goals as goal
 
@@ -7,40 +7,31 @@ pub loop-distance-init : goal.loop-distance-init
 loop-distance-init c =
     record {
       op = refl;
-      unmapped = unmapped_none c.args.turn.now.pass c.args.turn.now.op c.args.run c.is_in_order.ensures.turn
+      unmapped = unmapped_none c.args.run c.is_in_order.ensures.turn
           c.requires.decided c.requires.phase c.requires.mapped;
     }
 
 pub head-requires-clause-enabled : goal.head-requires-clause-enabled
 head-requires-clause-enabled c =
-    let p : PassState = c.args.turn.now.pass in
     let d = c.loop-distance.distance in
     subst (λ n. IsEnabledTo c.loop-distance.turn.pass (Step.Head (c.args.run.page + d) n))
-    (sym c.unmapped_header.ensures)
-    (unmap_may p c.args.turn.now.op c.args.run c.is_in_order.ensures.turn c.requires.decided c.requires.phase
-    c.loop-distance.turn.pass d
+    (sym c.unmapped_header.ensures) (unmap_may c.args.run c.is_in_order.ensures.turn c.requires.decided c.requires.phase
     c.loop-distance.invariant.unmapped c.requires.stopped c.requires.freed c.loop-distance-test.true c.requires.within)
 
 pub loop-distance-preserved : goal.loop-distance-preserved
 loop-distance-preserved c =
-    let p : PassState = c.args.turn.now.pass in
     let d = c.loop-distance.distance in
     let a = subst (λ n. Acts c.loop-distance.turn.pass (Step.Head (c.args.run.page + d) n) c.head.new.self.pass)
     c.unmapped_header.ensures c.head.ensures.acts in
     record {
       op = c.head.ensures.op ∙ c.loop-distance.invariant.op;
-      unmapped = unmaps_on p c.args.turn.now.op c.args.run c.is_in_order.ensures.turn c.requires.decided
-          c.requires.phase
-          c.loop-distance.turn.pass c.head.new.self.pass d c.loop-distance.invariant.unmapped
-          c.loop-distance-test.true c.requires.within a;
+      unmapped = unmaps_on c.args.run c.is_in_order.ensures.turn c.requires.decided c.requires.phase
+          c.loop-distance.invariant.unmapped c.loop-distance-test.true c.requires.within a;
     }
 
 pub returns-clause-unmaps : goal.returns-clause-unmaps
 returns-clause-unmaps c =
-    let p : PassState = c.args.turn.now.pass in
-    let all : c.loop-distance.distance ≡ c.args.run.count =
-    omega (arith, c.loop-distance-test.false, c.loop-distance.auto.distance-end) in
-    unmapped_all p c.args.turn.now.op c.args.run c.is_in_order.ensures.turn c.requires.decided c.requires.phase
-    c.loop-distance.turn.pass
-    (subst (λ n. HasUnmapped p c.args.turn.now.op c.args.run c.is_in_order.ensures.turn c.requires.decided
+    let all : c.loop-distance.distance ≡ c.args.run.count = grind arith in
+    unmapped_all c.args.run c.is_in_order.ensures.turn c.requires.decided c.requires.phase
+    (subst (λ n. HasUnmapped c.args.run c.is_in_order.ensures.turn c.requires.decided
     c.requires.phase c.loop-distance.turn.pass n) all c.loop-distance.invariant.unmapped)

@@ -1,24 +1,18 @@
 use Rattle.std.proofs.lemmas.Nat.{le_or_l, le_or_r}
 use Rattle.mk_laws.proofs.Vocabulary.{ℕ, arith, eqb-true, refl, subst, ◌*◌, ◌+◌, ◌∙◌, ◌≡◌}
 use Rattle.mk_objects.proofs.Vocabulary.{PassState, WipesTo}
-use Rattle.mk_objects.proofs.UnmappedRuns.{found_wiped, look_may, looks_then}
-use Rattle.mk_objects.proofs.WipedRuns.{wiped_from}
+use Rattle.mk_objects.proofs.{WipedRuns.wiped_from, WipedWords.found_wiped, WipedWords.look_may, WipedWords.looks_then}
 use Rattle.mk_objects.proofs.wiping.are_zero.Goals as goal
 
 pub loop-i-init : goal.loop-i-init
 loop-i-init c =
     let p : PassState = c.args.turn.now.pass in
-    let none = wiped_from p c.args.run (8 * c.args.group) c.requires.wiped in
+    let none = wiped_from p c.requires.wiped in
     let start : 8 * c.args.group ≡ 8 * c.args.group + 0 = omega arith in
     record { op = refl; still = none; zero = λ zero. subst (λ n. WipesTo p c.args.run n p) start none }
 
 pub look_on_page-all-requires-clause-enabled : goal.look_on_page-all-requires-clause-enabled
-look_on_page-all-requires-clause-enabled c =
-    let may = c.requires.may in
-    let group = c.requires.group in
-    look_may c.args.turn.now.pass c.args.turn.now.op c.args.run c.is_in_order.ensures.turn may.decided may.stopped
-    c.loop-i.turn.pass (8 * c.args.group) (8 * c.args.group + c.loop-i.i) c.loop-i.invariant.still
-    (omega (arith, group, c.loop-i-test.true)) may.within
+look_on_page-all-requires-clause-enabled c = grind (arith, look_may)
 
 pub look_on_page-all-requires-clause-page : goal.look_on_page-all-requires-clause-page
 look_on_page-all-requires-clause-page c = omega (arith, c.requires.part, c.loop-i-test.true)
@@ -34,9 +28,8 @@ loop-i-preserved c =
     let q : PassState = c.look_on_page-all.new.self.pass in
     let found : ℕ = c.look_on_page-all.result in
     let seen : (n : ℕ) → WipesTo p c.args.run n c.loop-i.turn.pass → WipesTo p c.args.run n q =
-    λ n reached. looks_then p c.args.turn.now.op c.args.run c.is_in_order.ensures.turn may.decided may.stopped
-    c.loop-i.turn.pass q n word reached (omega (arith, group, c.loop-i-test.true)) may.few may.unmapped
-    c.look_on_page-all.ensures.acts in
+    λ n reached. looks_then c.args.run c.is_in_order.ensures.turn may.decided may.stopped word reached
+    (omega (arith, group, c.loop-i-test.true)) may.few may.unmapped c.look_on_page-all.ensures.acts in
     record {
       op = c.look_on_page-all.ensures.op ∙ i.op;
       still = seen (8 * c.args.group) i.still;
@@ -45,13 +38,9 @@ loop-i-preserved c =
           let most = le_or_l c.loop-i.all found in omega (arith, most, none) in
           let here : found ≡ 0 = let most = le_or_r c.loop-i.all found in omega (arith, most, none) in
           subst (λ n. WipesTo p c.args.run n q) next
-          (found_wiped p c.args.turn.now.op c.args.run c.is_in_order.ensures.turn may.decided may.stopped
-          c.loop-i.turn.pass q word found (seen word (i.zero before)) c.look_on_page-all.ensures.finds here);
+          (found_wiped c.args.run c.is_in_order.ensures.turn may.decided may.stopped (seen word
+          (i.zero before)) c.look_on_page-all.ensures.finds here);
     }
 
 pub returns-clause-zero : goal.returns-clause-zero
-returns-clause-zero c is =
-    let all : 8 * c.args.group + c.loop-i.i ≡ 8 * c.args.group + 8 =
-    omega (arith, c.loop-i-test.false, c.loop-i.auto.i-end) in
-    subst (λ n. WipesTo c.args.turn.now.pass c.args.run n c.loop-i.turn.pass) all
-    (c.loop-i.invariant.zero (eqb-true c.loop-i.all 0 is))
+returns-clause-zero c is = grind (arith, eqb-true)

@@ -1,6 +1,6 @@
-use Rattle.mk_laws.proofs.Vocabulary.{arith, refl, subst, ◌*◌, ◌+◌, ◌∙◌, ◌≡◌}
-use Rattle.mk_objects.proofs.Vocabulary.{WipesTo, now_of}
-use Rattle.mk_objects.proofs.WipedRuns.{still_may, wiped_from, wiped_now, wipes_then}
+use Rattle.mk_laws.proofs.Vocabulary.{arith, refl, subst, ◌*◌, ◌∙◌, ◌≡◌}
+use Rattle.mk_objects.proofs.Vocabulary.{now_of}
+use Rattle.mk_objects.proofs.WipedRuns.{still_may, wiped_from, wiped_now, wipes_named, wipes_then}
 use Rattle.mk_objects.specs.Unmapping.{AreWiped}
 use Rattle.mk_objects.proofs.wiping.wipe_page.Goals as goal
 
@@ -9,29 +9,23 @@ loop-group-init c =
     let start : 64 * c.args.part ≡ 8 * (8 * c.args.part) = omega arith in
     record {
       op = refl;
-      wiped = wiped_from c.args.turn.now.pass c.args.run (8 * (8 * c.args.part))
+      wiped = wiped_from c.args.turn.now.pass
           (subst (λ n. AreWiped (now_of c.args.turn.now.pass).words c.args.run n) start c.requires.wiped);
     }
 
 pub wipe_group-requires-clause-may : goal.wipe_group-requires-clause-may
-wipe_group-requires-clause-may c =
-    still_may _ _ c.args.run (8 * c.loop-group.group) c.loop-group.invariant.wiped c.requires.may
+wipe_group-requires-clause-may c = still_may c.loop-group.invariant.wiped c.requires.may
 
 pub wipe_group-requires-clause-wiped : goal.wipe_group-requires-clause-wiped
-wipe_group-requires-clause-wiped c = wiped_now _ _ c.args.run (8 * c.loop-group.group) c.loop-group.invariant.wiped
+wipe_group-requires-clause-wiped c = wiped_now c.loop-group.invariant.wiped
 
 pub loop-group-preserved : goal.loop-group-preserved
 loop-group-preserved c =
-    let next : 8 * c.loop-group.group + 8 ≡ 8 * (c.loop-group.group + 1) = omega arith in
     record {
       op = c.wipe_group.ensures.op ∙ c.loop-group.invariant.op;
-      wiped = subst (λ n. WipesTo c.args.turn.now.pass c.args.run n c.wipe_group.new.turn.pass) next
-          (wipes_then _ _ _ c.args.run (8 * c.loop-group.group) _ c.loop-group.invariant.wiped
-          c.wipe_group.ensures.wipes);
+      wiped = wipes_named (wipes_then c.loop-group.invariant.wiped c.wipe_group.ensures.wipes) (omega arith);
     }
 
 pub returns-clause-wipes : goal.returns-clause-wipes
 returns-clause-wipes c =
-    let all : 8 * c.loop-group.group ≡ 64 * c.args.part + 64 =
-    omega (arith, c.loop-group-test.false, c.loop-group.auto.group-end) in
-    subst (λ n. WipesTo c.args.turn.now.pass c.args.run n c.loop-group.turn.pass) all c.loop-group.invariant.wiped
+    wipes_named c.loop-group.invariant.wiped (omega (arith, c.loop-group-test.false, c.loop-group.auto.group-end))

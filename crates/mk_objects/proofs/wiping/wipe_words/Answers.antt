@@ -1,6 +1,6 @@
-use Rattle.mk_laws.proofs.Vocabulary.{ap, arith, refl, subst, sym, ◌*◌, ◌+◌, ◌<◌, ◌∙◌, ◌≡◌}
+use Rattle.mk_laws.proofs.Vocabulary.{ap, arith, refl, subst, sym, ◌*◌, ◌+◌, ◌<◌, ◌∙◌}
 use Rattle.mk_objects.proofs.Vocabulary.{PassState, TurnState, WipesTo}
-use Rattle.mk_objects.proofs.UnmappedRuns.{found_wiped, look_may, looks_then, wipe_may, wipes_on}
+use Rattle.mk_objects.proofs.WipedWords.{found_wiped, look_may, looks_then, wipe_may, wipes_on}
 use Rattle.mk_objects.proofs.wiping.wipe_words.Goals.{else-found-ne0, then-found-ne0}
 use Rattle.mk_objects.proofs.WipedRuns.{wiped_from}
 use Rattle.mk_objects.proofs.wiping.wipe_words.Goals as goal
@@ -9,29 +9,21 @@ pub loop-word-init : goal.loop-word-init
 loop-word-init c =
     record {
       op = refl;
-      wiped = wiped_from c.args.turn.now.pass c.args.run (8 * c.args.group) c.requires.wiped;
+      wiped = wiped_from c.args.turn.now.pass c.requires.wiped;
     }
 
 pub look_on_page-found-requires-clause-enabled : goal.look_on_page-found-requires-clause-enabled
-look_on_page-found-requires-clause-enabled c =
-    look_may c.args.turn.now.pass c.args.turn.now.op c.args.run c.is_in_order.ensures.turn c.requires.may.decided
-    c.requires.may.stopped c.loop-word.turn.pass c.loop-word.word c.loop-word.word c.loop-word.invariant.wiped
-    (omega (arith, c.requires.group, c.loop-word-test.true)) c.requires.may.within
+look_on_page-found-requires-clause-enabled c = grind (arith, look_may)
 
 pub look_on_page-found-requires-clause-page : goal.look_on_page-found-requires-clause-page
 look_on_page-found-requires-clause-page c = omega (arith, c.requires.part, c.loop-word-test.true)
 
 pub wipe-requires-clause-enabled : goal.wipe-requires-clause-enabled
 wipe-requires-clause-enabled c =
-    let p : PassState = c.args.turn.now.pass in
-    wipe_may p c.args.turn.now.op c.args.run c.is_in_order.ensures.turn c.requires.may.decided c.requires.may.stopped
-    c.look_on_page-found.new.self.pass c.loop-word.word
-    (looks_then p c.args.turn.now.op c.args.run c.is_in_order.ensures.turn c.requires.may.decided c.requires.may.stopped
-    c.loop-word.turn.pass c.look_on_page-found.new.self.pass c.loop-word.word c.loop-word.word
-    c.loop-word.invariant.wiped
-    (omega (arith, c.requires.group, c.loop-word-test.true)) c.requires.may.few c.requires.may.unmapped
-    c.look_on_page-found.ensures.acts)
-    c.requires.may.freed c.requires.may.unmapped
+    wipe_may c.args.run c.is_in_order.ensures.turn c.requires.may.decided c.requires.may.stopped
+    (looks_then c.args.run c.is_in_order.ensures.turn c.requires.may.decided c.requires.may.stopped c.loop-word.word
+    c.loop-word.invariant.wiped (omega (arith, c.requires.group, c.loop-word-test.true)) c.requires.may.few
+    c.requires.may.unmapped c.look_on_page-found.ensures.acts) c.requires.may.freed c.requires.may.unmapped
     (omega (arith, c.requires.group, c.loop-word-test.true)) c.requires.may.within
 
 pub loop-word-preserved : goal.loop-word-preserved
@@ -39,33 +31,25 @@ loop-word-preserved c =
     let p : PassState = c.args.turn.now.pass in
     let i = c.loop-word.invariant in
     let n = c.loop-word.word in
-    let q : PassState = c.look_on_page-found.new.self.pass in
     let near : n < 64 * c.args.run.count = omega (arith, c.requires.group, c.loop-word-test.true) in
-    let seen = looks_then p c.args.turn.now.op c.args.run c.is_in_order.ensures.turn c.requires.may.decided
-    c.requires.may.stopped c.loop-word.turn.pass q n n i.wiped near c.requires.may.few
-    c.requires.may.unmapped c.look_on_page-found.ensures.acts in
+    let seen = looks_then c.args.run c.is_in_order.ensures.turn c.requires.may.decided c.requires.may.stopped n i.wiped
+    near c.requires.may.few c.requires.may.unmapped c.look_on_page-found.ensures.acts in
     elim c.if-found-ne0.branch [
       | then-found-ne0 w ↦
           record {
             op = ap (λ (t : TurnState). t.op) w.turn-is ∙ w.wipe.ensures.op ∙ c.look_on_page-found.ensures.op ∙ i.op;
             wiped = subst (λ (t : TurnState). WipesTo p c.args.run (n + 1) t.pass) (sym w.turn-is)
-                (wipes_on p c.args.turn.now.op c.args.run c.is_in_order.ensures.turn c.requires.may.decided
-                c.requires.may.stopped q w.wipe.new.self.pass n seen near c.requires.may.within
-                w.wipe.ensures.acts);
+                (wipes_on c.args.run c.is_in_order.ensures.turn c.requires.may.decided c.requires.may.stopped seen near
+                c.requires.may.within w.wipe.ensures.acts);
           }
       | else-found-ne0 w ↦
           record {
             op = ap (λ (t : TurnState). t.op) w.turn-is ∙ c.look_on_page-found.ensures.op ∙ i.op;
             wiped = subst (λ (t : TurnState). WipesTo p c.args.run (n + 1) t.pass) (sym w.turn-is)
-                (found_wiped p c.args.turn.now.op c.args.run c.is_in_order.ensures.turn c.requires.may.decided
-                c.requires.may.stopped c.loop-word.turn.pass q n c.look_on_page-found.result seen
-                c.look_on_page-found.ensures.finds
-                w.if-found-ne0.false);
+                (found_wiped c.args.run c.is_in_order.ensures.turn c.requires.may.decided c.requires.may.stopped seen
+                c.look_on_page-found.ensures.finds w.if-found-ne0.false);
           }
     ]
 
 pub returns-clause-wipes : goal.returns-clause-wipes
-returns-clause-wipes c =
-    let all : c.loop-word.word ≡ 8 * c.args.group + 8 =
-    omega (arith, c.loop-word-test.false, c.loop-word.auto.word-end) in
-    subst (λ n. WipesTo c.args.turn.now.pass c.args.run n c.loop-word.turn.pass) all c.loop-word.invariant.wiped
+returns-clause-wipes c = grind arith

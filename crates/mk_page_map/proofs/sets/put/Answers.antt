@@ -11,12 +11,12 @@ returns-then-has_one-inside-clause-this c =
 
 pub returns-then-has_one-inside-clause-other_sets : goal.returns-then-has_one-inside-clause-other_sets
 returns-then-has_one-inside-clause-other_sets c other is_set differ =
-    put_other_set c.args.sets.now c.store_word.new.sets c.args.set c.args.page other c.requires.page
+    put_other_set c.args.sets.now c.store_word.new.sets c.args.page other c.requires.page
     c.store_word.ensures.others differ
 
 pub returns-then-has_one-inside-clause-other_pages : goal.returns-then-has_one-inside-clause-other_pages
 returns-then-has_one-inside-clause-other_pages c =
-    put_other_pages c.args.sets.now c.store_word.new.sets c.args.set c.args.page c.with_turned.result c.requires.page
+    put_other_pages c.args.sets.now c.store_word.new.sets c.args.page c.with_turned.result c.requires.page
     c.store_word.ensures.this c.store_word.ensures.others c.with_turned.ensures.others
 
 -- the page is as it is to be, so nothing changes

@@ -15,10 +15,10 @@ stores c = record {
 }
 
 pub returns-clause-sets : goal.returns-clause-sets
-returns-clause-sets c = stored_are_sets _ _ _ _ _ (stores c)
+returns-clause-sets c = stored_are_sets (stores c)
 
 pub returns-clause-this : goal.returns-clause-this
-returns-clause-this c = stored_word _ _ _ _ _ (stores c)
+returns-clause-this c = stored_word (stores c)
 
 pub returns-clause-others : goal.returns-clause-others
 returns-clause-others c = other_word _ _ _ _ _ c.requires.word

@@ -15,8 +15,7 @@ loop-word-init c =
 pub loop-word-preserved : goal.loop-word-preserved
 loop-word-preserved c =
     let held = c.loop-word.sets.items in
-    let is = written c.store_word.new.sets held c.loop-word.sets.len
-    (omega (
+    let is = written c.store_word.new.sets held c.loop-word.sets.len (omega (
       arith,
       c.store_word.ensures.sets.long,
       c.loop-word.invariant.are_sets.long,
@@ -27,16 +26,14 @@ loop-word-preserved c =
     record {
       are_sets = subst AreSets (sym is) c.store_word.ensures.sets;
       free = subst (λ (xs : List ℕ). HaveFreeBelow xs (c.loop-word.word + 1) c.args.pages) (sym is)
-          (one_word_more c.deref_mut.result.now c.store_word.new.sets c.loop-word.word c.args.pages
+          (one_word_more c.deref_mut.result.now c.store_word.new.sets c.args.pages
           c.ones_below.result before c.store_word.ensures.this c.store_word.ensures.others c.ones_below.ensures);
     }
 
 pub returns-clause-members : goal.returns-clause-members
 returns-clause-members c =
-    all_free c.loop-word.sets.items c.loop-word.word c.args.pages
-    (omega (
+    all_free c.loop-word.sets.items c.loop-word.word (omega (
       arith,
       c.div_ceil-word-end.ensures,
-      div_ceil_times c.args.pages 64
-          (omega arith),
+      div_ceil_times c.args.pages 64 (omega arith),
     )) c.loop-word.invariant.free

@@ -12,13 +12,7 @@ returns-clause-in_use c =
     c.put-3.ensures.other_sets 17 (omega arith) (λ same. absurd (omega arith)) ∙ c.put-2.ensures.this
 
 pub returns-clause-other_sets : goal.returns-clause-other_sets
-returns-clause-other_sets c s is_set not_free not_in_use =
-    c.put-3.ensures.other_sets s (omega arith) (λ same. absurd (omega arith))
-    ∙ c.put-2.ensures.other_sets s (omega arith) not_in_use
-    ∙ c.put.ensures.other_sets s (omega arith) not_free
+returns-clause-other_sets c s is_set not_free not_in_use = grind arith
 
 pub returns-clause-other_pages : goal.returns-clause-other_pages
-returns-clause-other_pages c s number is_set few differ =
-    c.put-3.ensures.other_pages s number is_set few differ
-    ∙ c.put-2.ensures.other_pages s number is_set few differ
-    ∙ c.put.ensures.other_pages s number is_set few differ
+returns-clause-other_pages c s number is_set few differ = grind arith

@@ -16,16 +16,10 @@ returns-then-is_free-clause-sorted c =
     (c.put_free.ensures.in_use ∙ ap not free)
 
 pub returns-then-is_free-clause-other_sets : goal.returns-then-is_free-clause-other_sets
-returns-then-is_free-clause-other_sets c s above is_set =
-    c.put_free.ensures.other_sets s (omega arith) (λ same. absurd (omega arith)) (λ same. absurd (omega arith))
-    ∙ c.join_blocks.ensures.other_sets s (omega arith) (omega arith)
-    ∙ c.leave_blocks.ensures.other_sets s (omega arith) (omega arith)
+returns-then-is_free-clause-other_sets c s above is_set = grind arith
 
 pub returns-then-is_free-clause-other_pages : goal.returns-then-is_free-clause-other_pages
-returns-then-is_free-clause-other_pages c s number is_set few differ =
-    c.put_free.ensures.other_pages s number is_set few differ
-    ∙ c.join_blocks.ensures.other_pages s number is_set few differ
-    ∙ c.leave_blocks.ensures.other_pages s number is_set few differ
+returns-then-is_free-clause-other_pages c s number is_set few differ = grind arith
 
 -- and one that is so no more
 
@@ -42,33 +36,20 @@ returns-then-was_free-clause-sorted c =
     (c.put_free-then-was_free.ensures.in_use ∙ ap not free)
 
 pub returns-then-was_free-clause-other_sets : goal.returns-then-was_free-clause-other_sets
-returns-then-was_free-clause-other_sets c s above is_set =
-    c.put_free-then-was_free.ensures.other_sets s (omega arith) (λ same. absurd (omega arith))
-    (λ same. absurd (omega arith))
-    ∙ c.join_blocks.ensures.other_sets s (omega arith) (omega arith)
-    ∙ c.leave_blocks.ensures.other_sets s (omega arith) (omega arith)
+returns-then-was_free-clause-other_sets c s above is_set = grind arith
 
 pub returns-then-was_free-clause-other_pages : goal.returns-then-was_free-clause-other_pages
-returns-then-was_free-clause-other_pages c s number is_set few differ =
-    c.put_free-then-was_free.ensures.other_pages s number is_set few differ
-    ∙ c.join_blocks.ensures.other_pages s number is_set few differ
-    ∙ c.leave_blocks.ensures.other_pages s number is_set few differ
+returns-then-was_free-clause-other_pages c s number is_set few differ = grind arith
 
 -- a page that stays in use
 
 in_use : (c : goal.Else-was_free) → is_free_page (use_of_kind c.args.before c.args.used)
     ≡ is_free_page (use_of_kind c.args.after c.args.used)
-in_use c =
-    c.is_free-was_free.ensures c.args.used
-    ∙ c.if-was_free.false
-    ∙ sym (c.is_free-is_free.ensures c.args.used ∙ c.if-is_free.false)
+in_use c = grind arith
 
 stays : (c : goal.Else-was_free) (s : ℕ) → 16 ≤ s → s < 18
     → is_member c.join_blocks.new.sets s c.args.page ≡ is_of_set s (use_of_kind c.args.before c.args.used)
-stays c s above is_set =
-    c.join_blocks.ensures.other_sets s above (omega arith)
-    ∙ c.leave_blocks.ensures.other_sets s above (omega arith)
-    ∙ c.requires.sorted s is_set
+stays c s above is_set = grind arith
 
 pub returns-else-was_free-clause-sorted : goal.returns-else-was_free-clause-sorted
 returns-else-was_free-clause-sorted c =

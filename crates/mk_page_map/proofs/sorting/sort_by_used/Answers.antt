@@ -13,7 +13,7 @@ sorted_before c =
 pub returns-then-has_free_cell-is_open-clause-sorted : goal.returns-then-has_free_cell-is_open-clause-sorted
 returns-then-has_free_cell-is_open-clause-sorted c =
     subst (λ (k : PageKind). IsInItsSets c.put.new.sets c.args.page (use_of_kind k c.args.after)) (sym c.in-Block.is)
-    (sorted_anew c.args.sets.now c.put.new.sets c.args.page c.in-Block.class c.block_set.result c.args.before
+    (sorted_anew c.args.sets.now c.put.new.sets c.args.page c.in-Block.class c.args.before
     c.args.after c.in-Block.leaf c.has_free_cell-is_open.result (subst HasClass c.in-Block.is c.requires.class)
     c.block_set.ensures.place c.block_set.ensures.within c.has_free_cell-is_open.ensures c.put.ensures.this
     c.put.ensures.other_sets (sorted_before (goal.at.returns-then-has_free_cell-is_open-clause-sorted c).In-Block))

@@ -6,14 +6,10 @@ use Rattle.mk_objects.proofs.objects.Shape.first_word.Goals as goal
 
 -- a cell begins within the page
 within : (c : After-class_words) → c.args.index * c.class_words.result ≤ 64 * 32
-within c =
-    let most = (class_words_within c.class.result c.class.ensures.known).1 in
-    mul-le-mul {n₁ = c.args.index} {m₁ = c.class_words.result} {n₂ = 64} {m₂ = 32} (omega arith)
-    (omega (arith, most, c.class_words.ensures))
+within c = grind (arith, class_words_within, mul-le-mul)
 
 pub overflow_mul-result : goal.overflow_mul-result
 overflow_mul-result c = let w = within (goal.at.overflow_mul-result c).After-class_words in omega arith
 
 pub returns-then-is_small-clause-few : goal.returns-then-is_small-clause-few
-returns-then-is_small-clause-few c =
-    let w = within (goal.at.returns-then-is_small-clause-few c).After-class_words in omega arith
+returns-then-is_small-clause-few c = grind (arith, within)

@@ -1,30 +1,11 @@
-use Rattle.mk_page_map.proofs.Vocabulary.{arith, is_free_page, refl}
-use Rattle.mk_page_map.proofs.Reading.{first_of_set, no_others_there}
+use Rattle.mk_page_map.proofs.Vocabulary.{arith, ◌∙◌}
+use Rattle.mk_page_map.proofs.Reading.{first_of_set, no_others_there, reads_by}
 use Rattle.mk_page_map.proofs.page_map.PageMap.first_free.Goals as goal
 
 pub next_page-requires-clause-no_others : goal.next_page-requires-clause-no_others
 next_page-requires-clause-no_others c =
-    no_others_there c.args.self.now c.self.inside.pages.items c.self.inside.sets.items c.deref.result.now
-    c.self.inside.resident c.len.result 16
-    (record {
-      view = c.self.view_is;
-      fit = c.self.invariant;
-      is_slice = c.deref.ensures.value;
-      is_count = omega (arith, c.len.ensures, c.self.inside.pages.ok.0);
-    })
-    (omega arith)
+    no_others_there 16 (reads_by c.self.view_is c.self.invariant c.deref.ensures.value
+    (c.len.ensures ∙ c.self.inside.pages.ok.0)) (omega arith)
 
 pub returns : goal.returns
-returns c pages freed shows =
-    first_of_set c.args.self.now c.self.inside.pages.items pages c.self.inside.sets.items c.deref.result.now
-    freed c.self.inside.resident c.len.result 16 is_free_page c.next_page.result
-    (record {
-      reads = record {
-        view = c.self.view_is;
-        fit = c.self.invariant;
-        is_slice = c.deref.ensures.value;
-        is_count = omega (arith, c.len.ensures, c.self.inside.pages.ok.0);
-      };
-      shows = shows;
-    })
-    (omega arith) (λ stands. refl) c.next_page.ensures
+returns c pages freed shows = grind (arith, first_of_set)

@@ -1,6 +1,5 @@
-use Rattle.mk_page_map.proofs.Vocabulary.{List, Page, ℕ, ap, arith, drop, is_free_page, is_of_set, is_resident_page}
-use Rattle.mk_page_map.proofs.Vocabulary.{length, length-set}
-use Rattle.mk_page_map.proofs.Vocabulary.{page_at, set, sym, take, true, ◌++◌, ◌+◌, ◌<◌, ◌∙◌, ◌≡◌, ◌≤◌}
+use Rattle.mk_page_map.proofs.Vocabulary.{List, Page, ℕ, ap, arith, drop, is_free_page, length, length-set, page_at}
+use Rattle.mk_page_map.proofs.Vocabulary.{set, sym, take, true, ◌++◌, ◌+◌, ◌<◌, ◌∙◌, ◌≡◌, ◌≤◌}
 use Rattle.mk_geom.specs.{Headers.header_of, PageWords.use_under}
 use Rattle.mk_page_map.proofs.Storing.{Stores, counted_anew, page_read, page_within, resident_byte, store_fits}
 use Rattle.mk_page_map.proofs.Storing.{store_shows}
@@ -12,38 +11,19 @@ abbrev now : After-from → Page
 now c = record { header = c.args.header; used = c.index.result.now.used }
 
 within : (c : After-from) → c.args.page < length c.self.inside.pages.items
-within c = page_within c.args.self.now c.self.inside.pages.items c.self.inside.sets.items c.args.page c.self.view_is
-    c.requires
+within c = grind (arith, page_within)
 
 stores : (c : After-from)
     → Stores c.self.inside.pages.items c.self.inside.sets.items c.deref_mut.result.now c.sort_by_header.new.sets
     c.self.inside.resident c.args.page (now c)
-stores c =
-    record {
-      fit = c.self.invariant;
-      within = within c;
-      is_slice = c.deref_mut.ensures.value;
-      are_sets = c.sort_by_header.ensures.sets;
-      sorted = λ s is_set.
-          c.sort_by_header.ensures.sorted s is_set
-          ∙ ap (is_of_set s) (sym (c.kind_of-after.ensures.kind c.index.result.now.used));
-      quarantine = c.sort_by_header.ensures.other_sets;
-      others = c.sort_by_header.ensures.other_pages;
-    }
+stores c = grind (arith, within)
 
 was_counted : (c : After-from)
     → c.from-was_resident.result ≡ resident_one (page_at c.self.inside.pages.items c.args.page)
-was_counted c =
-    resident_byte c.index.result.now c.is_resident.result c.from-was_resident.result
-    (λ used. ap is_resident_page (c.kind_of-before.ensures.kind used) ∙ c.is_resident.ensures used)
-    c.from-was_resident.ensures
-    ∙ ap resident_one
-    (page_read c.self.inside.pages.items c.args.page c.index.result.now (within c) c.index.ensures)
+was_counted c = grind (arith, resident_byte, resident_one, page_read, within)
 
 is_counted : (c : After-from) → c.from.result ≡ resident_one (now c)
-is_counted c =
-    resident_byte (now c) c.is_resident-2.result c.from.result
-    (λ used. ap is_resident_page (c.kind_of-after.ensures.kind used) ∙ c.is_resident-2.ensures used) c.from.ensures
+is_counted c = grind (arith, resident_byte, now)
 
 enough : (c : After-from) → c.from-was_resident.result ≤ c.self.inside.resident + c.from.result
 enough c =
@@ -57,33 +37,20 @@ same_sets : (c : After-from)
     → take c.self.inside.sets.len
     (c.sort_by_header.new.sets ++ drop (length c.sort_by_header.new.sets) c.self.inside.sets.items)
     ≡ c.sort_by_header.new.sets
-same_sets c =
-    written c.sort_by_header.new.sets c.self.inside.sets.items c.self.inside.sets.len
-    (omega (
-      arith,
-      c.sort_by_header.ensures.sets.long,
-      (c.self.invariant.are_sets (omega (arith, within c))).long,
-      c.self.inside.sets.ok.0,
-    ))
+same_sets c = grind (arith, written, within)
 
 pub invariant_of-self : goal.invariant_of-self
 invariant_of-self c =
     let x = (goal.at.invariant_of-self c).After-from in
-    store_fits c.self.inside.pages.items c.self.inside.sets.items c.deref_mut.result.now c.sort_by_header.new.sets _
-    c.self.inside.resident _ c.args.page (now x) (stores x) (same_sets x)
-    (omega (arith, was_counted x, is_counted x, enough x))
+    store_fits _ _ (stores x) (same_sets x) (omega (arith, was_counted x, is_counted x, enough x))
 
 pub returns-clause-shows : goal.returns-clause-shows
 returns-clause-shows c pages freed shows =
     let x = (goal.at.returns-clause-shows c).After-from in
-    store_shows c.args.self.now c.self.inside.pages.items pages c.self.inside.sets.items c.deref_mut.result.now
-    c.sort_by_header.new.sets _ freed c.self.inside.resident c.args.page (now x) _ (stores x) (same_sets x)
-    c.self.view_is
+    let read = page_read c.self.inside.pages.items c.args.page c.index.result.now (within x) c.index.ensures in
+    store_shows _ _ (stores x) (same_sets x) c.self.view_is
     (λ same. ap (λ (n : ℕ). record { header = c.args.header; used = n })
-    (ap (λ (p : Page). p.used)
-    (page_read c.self.inside.pages.items c.args.page c.index.result.now (within x) c.index.ensures)
-    ∙ ap (λ (ps : List Page). (page_at ps c.args.page).used) same))
-    shows
+    (ap (λ (p : Page). p.used) read ∙ ap (λ (ps : List Page). (page_at ps c.args.page).used) same)) shows
 
 pub returns-clause-freed : goal.returns-clause-freed
 returns-clause-freed c free =
@@ -98,6 +65,6 @@ pub returns-clause-others : goal.returns-clause-others
 returns-clause-others c number differ =
     let x = (goal.at.returns-clause-others c).After-from in
     others_kept c.args.self.now c.self.inside.pages.items (set c.self.inside.pages.items c.args.page (now x))
-    c.self.inside.sets.items c.deref_mut.result.now c.sort_by_header.new.sets _ c.args.page number c.self.view_is
+    c.self.inside.sets.items _ number c.self.view_is
     c.deref_mut.ensures.value (same_sets x) (length-set c.self.inside.pages.items c.args.page (now x))
     c.self.invariant.few c.sort_by_header.ensures.other_pages differ

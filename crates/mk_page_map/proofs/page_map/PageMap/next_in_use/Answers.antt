@@ -1,30 +1,11 @@
-use Rattle.mk_page_map.proofs.Vocabulary.{arith, is_in_use, refl}
-use Rattle.mk_page_map.proofs.Reading.{next_of_set, no_others_there}
+use Rattle.mk_page_map.proofs.Vocabulary.{arith, ◌∙◌}
+use Rattle.mk_page_map.proofs.Reading.{next_of_set, no_others_there, reads_by}
 use Rattle.mk_page_map.proofs.page_map.PageMap.next_in_use.Goals as goal
 
 pub next_page-requires-clause-no_others : goal.next_page-requires-clause-no_others
 next_page-requires-clause-no_others c =
-    no_others_there c.args.self.now c.self.inside.pages.items c.self.inside.sets.items c.deref.result.now
-    c.self.inside.resident c.len.result 17
-    (record {
-      view = c.self.view_is;
-      fit = c.self.invariant;
-      is_slice = c.deref.ensures.value;
-      is_count = omega (arith, c.len.ensures, c.self.inside.pages.ok.0);
-    })
-    (omega arith)
+    no_others_there 17 (reads_by c.self.view_is c.self.invariant c.deref.ensures.value
+    (c.len.ensures ∙ c.self.inside.pages.ok.0)) (omega arith)
 
 pub returns : goal.returns
-returns c pages freed shows =
-    next_of_set c.args.self.now c.self.inside.pages.items pages c.self.inside.sets.items c.deref.result.now
-    freed c.self.inside.resident c.len.result 17 c.args.from (is_in_use pages) c.next_page.result
-    (record {
-      reads = record {
-        view = c.self.view_is;
-        fit = c.self.invariant;
-        is_slice = c.deref.ensures.value;
-        is_count = omega (arith, c.len.ensures, c.self.inside.pages.ok.0);
-      };
-      shows = shows;
-    })
-    (omega arith) (λ number. refl) c.next_page.ensures
+returns c pages freed shows = grind (arith, next_of_set)

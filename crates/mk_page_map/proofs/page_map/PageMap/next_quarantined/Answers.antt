@@ -1,31 +1,12 @@
-use Rattle.mk_page_map.proofs.Vocabulary.{arith}
-use Rattle.mk_page_map.proofs.{Reading.next_of_quarantine, Reading.no_others_there, Showing.member_of_freed}
-use Rattle.mk_page_map.specs.Members.{has_freed_cells}
+use Rattle.mk_page_map.proofs.Vocabulary.{arith, ◌∙◌}
+use Rattle.mk_page_map.proofs.Reading.{next_of_quarantine, no_others_there, reads_by}
+use Rattle.mk_page_map.proofs.Showing.{member_of_freed}
 use Rattle.mk_page_map.proofs.page_map.PageMap.next_quarantined.Goals as goal
 
 pub next_page-requires-clause-no_others : goal.next_page-requires-clause-no_others
 next_page-requires-clause-no_others c =
-    no_others_there c.args.self.now c.self.inside.pages.items c.self.inside.sets.items c.deref.result.now
-    c.self.inside.resident c.len.result 18
-    (record {
-      view = c.self.view_is;
-      fit = c.self.invariant;
-      is_slice = c.deref.ensures.value;
-      is_count = omega (arith, c.len.ensures, c.self.inside.pages.ok.0);
-    })
-    (omega arith)
+    no_others_there 18 (reads_by c.self.view_is c.self.invariant c.deref.ensures.value
+    (c.len.ensures ∙ c.self.inside.pages.ok.0)) (omega arith)
 
 pub returns : goal.returns
-returns c pages freed shows =
-    next_of_quarantine c.args.self.now c.self.inside.pages.items pages c.self.inside.sets.items c.deref.result.now
-    freed c.self.inside.resident c.len.result 18 c.args.from (has_freed_cells freed) c.next_page.result
-    (record {
-      reads = record {
-        view = c.self.view_is;
-        fit = c.self.invariant;
-        is_slice = c.deref.ensures.value;
-        is_count = omega (arith, c.len.ensures, c.self.inside.pages.ok.0);
-      };
-      shows = shows;
-    })
-    (member_of_freed c.self.inside.pages.items pages c.self.inside.sets.items freed) c.next_page.ensures
+returns c pages freed shows = grind (arith, next_of_quarantine, member_of_freed)

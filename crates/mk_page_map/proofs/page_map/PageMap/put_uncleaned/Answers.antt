@@ -4,54 +4,32 @@ use Rattle.mk_page_map.proofs.{FreeSets.written, Storing.page_within, page_map.P
 use Rattle.mk_page_map.proofs.page_map.PageMap.put_uncleaned.Goals as goal
 
 within : (c : After-put) → c.args.page < length c.self.inside.pages.items
-within c = page_within c.args.self.now c.self.inside.pages.items c.self.inside.sets.items c.args.page c.self.view_is
-    c.requires
+within c = grind (arith, page_within)
 
 changes : (c : After-put)
     → ChangesUncleaned c.self.inside.pages.items c.self.inside.sets.items c.deref_mut.result.now c.put.new.sets
     c.self.inside.resident c.args.page
-changes c =
-    record {
-      fit = c.self.invariant;
-      within = within c;
-      is_slice = c.deref_mut.ensures.value;
-      are_sets = c.put.ensures.sets;
-      other_sets = c.put.ensures.other_sets;
-      others = c.put.ensures.other_pages;
-    }
+changes c = grind (arith, within)
 
 same_sets : (c : After-put)
     → take c.self.inside.sets.len (c.put.new.sets ++ drop (length c.put.new.sets) c.self.inside.sets.items)
     ≡ c.put.new.sets
-same_sets c =
-    written c.put.new.sets c.self.inside.sets.items c.self.inside.sets.len
-    (omega (
-      arith,
-      c.put.ensures.sets.long,
-      (c.self.invariant.are_sets (omega (arith, within c))).long,
-      c.self.inside.sets.ok.0,
-    ))
+same_sets c = grind (arith, written, within)
 
 pub invariant_of-self : goal.invariant_of-self
 invariant_of-self c =
     let x = (goal.at.invariant_of-self c).After-put in
-    still_fits c.self.inside.pages.items c.self.inside.sets.items c.deref_mut.result.now c.put.new.sets _
-    c.self.inside.resident c.args.page (changes x) (same_sets x)
+    still_fits _ (changes x) (same_sets x)
 
 pub returns-clause-shows : goal.returns-clause-shows
 returns-clause-shows c pages freed shows =
     let x = (goal.at.returns-clause-shows c).After-put in
-    still_shows c.args.self.now c.self.inside.pages.items pages c.self.inside.sets.items c.deref_mut.result.now
-    c.put.new.sets _ freed c.self.inside.resident c.args.page (changes x) (same_sets x) c.self.view_is shows
+    still_shows _ (changes x) (same_sets x) c.self.view_is shows
 
 pub returns-clause-this : goal.returns-clause-this
-returns-clause-this c =
-    let x = (goal.at.returns-clause-this c).After-put in
-    this_uncleaned c.self.inside.pages.items c.put.new.sets _ c.args.page c.args.inside (within x) (same_sets x)
-    c.put.ensures.this
+returns-clause-this c = grind (arith, this_uncleaned, within, same_sets)
 
 pub returns-clause-others : goal.returns-clause-others
 returns-clause-others c number differ =
     let x = (goal.at.returns-clause-others c).After-put in
-    others_uncleaned c.args.self.now c.self.inside.pages.items c.self.inside.sets.items c.deref_mut.result.now
-    c.put.new.sets _ c.self.inside.resident c.args.page number (changes x) (same_sets x) c.self.view_is differ
+    others_uncleaned c.args.self.now _ number (changes x) (same_sets x) c.self.view_is differ

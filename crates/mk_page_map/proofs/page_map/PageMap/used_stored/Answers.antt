@@ -1,5 +1,5 @@
-use Rattle.mk_page_map.proofs.Vocabulary.{List, Page, ℕ, ap, arith, drop, is_member, is_of_set, length, length-set}
-use Rattle.mk_page_map.proofs.Vocabulary.{page_at, set, sym, take, use_of_page, ◌++◌, ◌<◌, ◌∙◌, ◌≡◌}
+use Rattle.mk_page_map.proofs.Vocabulary.{List, Page, ℕ, ap, arith, drop, length, length-set, page_at, set, take, ◌++◌}
+use Rattle.mk_page_map.proofs.Vocabulary.{◌<◌, ◌∙◌, ◌≡◌}
 use Rattle.mk_page_map.proofs.FreeSets.{written}
 use Rattle.mk_page_map.proofs.Storing.{Stores, page_read, page_within, same_count, store_fits, store_shows}
 use Rattle.mk_page_map.proofs.{Uncleaned.all_kept, page_map.PageMap.used_stored.Goals.After-sort_by_used}
@@ -9,75 +9,42 @@ abbrev now : After-sort_by_used → Page
 now c = record { header = c.index.result.now.header; used = c.args.used }
 
 within : (c : After-sort_by_used) → c.args.page < length c.self.inside.pages.items
-within c = page_within c.args.self.now c.self.inside.pages.items c.self.inside.sets.items c.args.page c.self.view_is
-    c.requires
+within c = grind (arith, page_within)
 
 read : (c : After-sort_by_used) → c.index.result.now ≡ page_at c.self.inside.pages.items c.args.page
 read c = page_read c.self.inside.pages.items c.args.page c.index.result.now (within c) c.index.ensures
 
 pub sort_by_used-requires-clause-sorted : goal.sort_by_used-requires-clause-sorted
-sort_by_used-requires-clause-sorted c s is_set =
-    let inside = page_within c.args.self.now c.self.inside.pages.items c.self.inside.sets.items c.args.page
-    c.self.view_is c.requires in
-    let is = page_read c.self.inside.pages.items c.args.page c.index.result.now inside c.index.ensures in
-    ap (λ xs. is_member xs s c.args.page) c.deref_mut.ensures.value
-    ∙ c.self.invariant.sorted c.args.page inside s is_set
-    ∙ ap (λ (p : Page). is_of_set s (use_of_page p)) (sym is)
-    ∙ ap (is_of_set s) (c.kind_of.ensures.kind c.index.result.now.used)
+sort_by_used-requires-clause-sorted c s is_set = grind (arith, page_within, page_read)
 
 stores : (c : After-sort_by_used)
     → Stores c.self.inside.pages.items c.self.inside.sets.items c.deref_mut.result.now c.sort_by_used.new.sets
     c.self.inside.resident c.args.page (now c)
-stores c =
-    record {
-      fit = c.self.invariant;
-      within = within c;
-      is_slice = c.deref_mut.ensures.value;
-      are_sets = c.sort_by_used.ensures.sets;
-      sorted = λ s is_set.
-          c.sort_by_used.ensures.sorted s is_set
-          ∙ ap (is_of_set s) (sym (c.kind_of.ensures.kind c.args.used));
-      quarantine = λ s low high. c.sort_by_used.ensures.other_sets s low (omega arith);
-      others = c.sort_by_used.ensures.other_pages;
-    }
+stores c = grind (arith, within)
 
 same_sets : (c : After-sort_by_used)
     → take c.self.inside.sets.len
     (c.sort_by_used.new.sets ++ drop (length c.sort_by_used.new.sets) c.self.inside.sets.items)
     ≡ c.sort_by_used.new.sets
-same_sets c =
-    written c.sort_by_used.new.sets c.self.inside.sets.items c.self.inside.sets.len
-    (omega (
-      arith,
-      c.sort_by_used.ensures.sets.long,
-      (c.self.invariant.are_sets (omega (arith, within c))).long,
-      c.self.inside.sets.ok.0,
-    ))
+same_sets c = grind (arith, written, within)
 
 pub invariant_of-self : goal.invariant_of-self
 invariant_of-self c =
     let x = (goal.at.invariant_of-self c).After-sort_by_used in
-    store_fits c.self.inside.pages.items c.self.inside.sets.items c.deref_mut.result.now c.sort_by_used.new.sets _
-    c.self.inside.resident c.self.inside.resident c.args.page (now x) (stores x) (same_sets x)
-    (same_count c.self.inside.pages.items c.self.inside.resident c.args.page c.index.result.now c.args.used
-    c.kind_of.result (read x) c.kind_of.ensures.kind)
+    store_fits _ c.self.inside.resident (stores x) (same_sets x) (same_count c.self.inside.pages.items
+    c.self.inside.resident c.args.page c.index.result.now c.args.used c.kind_of.result (read x) c.kind_of.ensures.kind)
 
 pub returns-clause-shows : goal.returns-clause-shows
 returns-clause-shows c pages freed shows =
     let x = (goal.at.returns-clause-shows c).After-sort_by_used in
-    store_shows c.args.self.now c.self.inside.pages.items pages c.self.inside.sets.items c.deref_mut.result.now
-    c.sort_by_used.new.sets _ freed c.self.inside.resident c.args.page (now x) _ (stores x)
-    (same_sets x) c.self.view_is
+    store_shows _ _ (stores x) (same_sets x) c.self.view_is
     (λ same. ap (λ (n : ℕ). record { header = n; used = c.args.used })
-    (ap (λ (p : Page). p.header) (read x)
-    ∙ ap (λ (ps : List Page). (page_at ps c.args.page).header) same))
-    shows
+    (ap (λ (p : Page). p.header) (read x) ∙ ap (λ (ps : List Page). (page_at ps c.args.page).header) same)) shows
 
 pub returns-clause-uncleaned : goal.returns-clause-uncleaned
 returns-clause-uncleaned c number =
     let x = (goal.at.returns-clause-uncleaned c).After-sort_by_used in
     all_kept c.args.self.now c.self.inside.pages.items (set c.self.inside.pages.items c.args.page (now x))
-    c.self.inside.sets.items c.deref_mut.result.now c.sort_by_used.new.sets _ c.args.page number c.self.view_is
-    c.deref_mut.ensures.value (same_sets x) (length-set c.self.inside.pages.items c.args.page (now x))
-    c.self.invariant.few c.sort_by_used.ensures.other_pages
+    c.self.inside.sets.items _ number c.self.view_is c.deref_mut.ensures.value (same_sets x)
+    (length-set c.self.inside.pages.items c.args.page (now x)) c.self.invariant.few c.sort_by_used.ensures.other_pages
     (c.sort_by_used.ensures.other_sets 19 (omega arith) (omega arith))
