@@ -109,7 +109,8 @@ told_so {p} {q} {o} {told} history answers called = by (is_under_turn o) refl
               (from_called c.called (flag_is o c.answer e) history);
         }
 
-pub advances : {on : Bool} {p q : PassState} (s : Point) {t : Point} {o : Op} {told : Answer} → t ≡ next_point s told → HasStackTypes p.table.config
+pub advances : {on : Bool} {p q : PassState} (s : Point) {t : Point} {o : Op} {told : Answer} → t
+    ≡ next_point s told → HasStackTypes p.table.config
     → IsHistory q.table.config q.seen → op_at s ≡ Some o → HoldsAt (value_of p) s → Answers on p o told q
     → (is_under_turn o ≡ false → IsCalled p o told q) → Advances p s q t
 advances {p} {q} s {told} leads types history is holds answers called =

@@ -108,10 +108,10 @@ founding_ends xs (Ended d) goal leads = absurd (leads_founding Founding xs (Ende
 founding_ends xs _ goal leads = absurd goal
 
 pub fit_as : {j : Job} {t : Point} (d : Done) → EndsAs j t → t ≡ Ended d → IsFit j d
-fit_as {j} d ends is = subst (IsFit j) (same (sym ends.is ∙ is)) ends.fit
-  where
-    same : Ended ends.done ≡ Ended d → ends.done ≡ d
-    same e = cc
+fit_as {j} d ends is =
+    let same : Ended ends.done ≡ Ended d = sym ends.is ∙ is in
+    let done : ends.done ≡ d = cc in
+    subst (IsFit j) done ends.fit
 
 -- A push that isn't done was full, and a pop without a number found nothing.
 

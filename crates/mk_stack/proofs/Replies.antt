@@ -41,10 +41,7 @@ none_replied k n (x ∷ xs) h =
     by : (b : Bool) (own : List Decided) (rest : List Replied) → (if b then x ∷ own else own) ≡ []
         → (own ≡ [] → rest ≡ [])
         → (if b then record { op = x.op; reply = reply_of n x.caller x.op } ∷ rest else rest) ≡ []
-    by true own rest is next = absurd (cons_nil x own is)
-      where
-        cons_nil : (y : Decided) (ys : List Decided) → y ∷ ys ≡ [] → ⊥
-        cons_nil y ys e = cc
+    by true own rest is next = let some : x ∷ own ≡ [] = is in absurd (cc)
     by false own rest is next = next is
 
 pub asked_in_two : (xs ys : List Decided) → asked (xs ++ ys) ≡ asked xs ++ asked ys

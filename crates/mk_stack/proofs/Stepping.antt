@@ -28,8 +28,7 @@ module _ {callers : ℕ} {n : NeverState} {top : Option ℕ} {role : ℕ → Rol
       → Local n top role c s u → Held s → reply_of n c o ≡ r → Goal s u o next rest (after_op n c o)
   steps s o r next found u rest local held said = found_steps inv c exists u rest local held
   steps s o r next find_no_room u rest local held said =
-      by_nothing inv c Founding u (Op.New 0 1 true) Founded rest u None tt
-      (idle inv c exists n Founding Founded (λ p. p) (λ f. f) held) refl nothing (λ b. refl)
+      by_nothing inv c u None tt (idle inv c exists held (λ p. p) (λ f. f)) refl nothing (λ b. refl)
   steps s o r next place u rest local held said = place_steps inv c exists u rest local held
   steps s o r next (start {j} {v}) u rest local held said = start_steps inv c exists j u rest local held
   steps s o r next (lack {j}) u rest local held said = lack_steps inv c exists j u rest local held said

@@ -1,18 +1,22 @@
 -- Each call of a walk is its next operation, and what its caller's registers hold after it.
 use Rattle.std.proofs.Common.{IfSome}
 use Rattle.mk_stack.proofs.Vocabulary.{Answer, HasStackTypes, HasWalked, HoldsAt, IsHistory, LeadsDown, NeverState, Op}
-use Rattle.mk_stack.proofs.Vocabulary.{PassState, Point, Pop, CallerState, Replied, Reply, after_op, answer_of, numbers_read}
+use Rattle.mk_stack.proofs.Vocabulary.{PassState, Point, Pop, CallerState, Replied, Reply, after_op, answer_of}
+use Rattle.mk_stack.proofs.Vocabulary.{numbers_read}
 use Rattle.mk_stack.proofs.Vocabulary.{global_at, register_at, replied_to, reply_of, value_of}
-use Rattle.mk_laws.proofs.Vocabulary.{IsAdmitted, List, Some, ℕ, ap, append-nil, append_assoc, arith, false, is_under_turn, refl, subst, sym, [], ◌++◌}
+use Rattle.mk_laws.proofs.Vocabulary.{IsAdmitted, List, Some, ℕ, ap, append-nil, append_assoc, arith, false}
+use Rattle.mk_laws.proofs.Vocabulary.{is_under_turn, refl, subst, sym, [], ◌++◌}
 use Rattle.mk_laws.proofs.Vocabulary.{◌∙◌, ◌∷◌, ◌≡◌}
 use Rattle.mk_laws.proofs.CallSorts.{flag_is}
 use Rattle.mk_caller.specs.States.{Admits}
 use Rattle.mk_run.specs.Scripts.{IsCalled, as_told}
 use Rattle.mk_stack.proofs.Advances.{Steps, of_asked, place_state, ready_state, steps_so}
 use Rattle.mk_stack.proofs.AtPoints.{holds_still}
-use Rattle.mk_stack.proofs.{Going.seen_then, NodeKinds.IsStackState, NodeKinds.global_kind, Replies.Stays, Replies.from_called}
+use Rattle.mk_stack.proofs.{Going.seen_then, NodeKinds.IsStackState, NodeKinds.global_kind, Replies.Stays}
+use Rattle.mk_stack.proofs.{Replies.from_called}
 use Rattle.mk_stack.proofs.PointSteps.{admits, kept, loads_link, loads_number, loads_top, may_follow, now_may, tested}
-use Rattle.mk_stack.specs.Walks.{Walks, descend, found_down, go, lack, meet, number_read, op_down, peek, read, start, stop}
+use Rattle.mk_stack.specs.Walks.{Walks, descend, found_down, go, lack, meet, number_read, op_down, peek, read, start}
+use Rattle.mk_stack.specs.Walks.{stop}
 use Rattle.mk_stack.specs.{Ready.IsReady, declared.walking.Found.Found, declared.walking.WalkPoint.WalkPoint}
 
 -- what the registers hold at a point is what they hold at this one of a pop
@@ -119,9 +123,6 @@ reads_more [] y = append-nil (number_read y.op y.reply)
 reads_more (x ∷ xs) y =
     ap (λ (l : List ℕ). number_read x.op x.reply ++ l) (reads_more xs y)
     ∙ sym (append_assoc (number_read x.op x.reply) (numbers_read xs) (number_read y.op y.reply))
-
-pub walked_nowhere : (p : PassState) → HasWalked p [] p WalkPoint.Starting
-walked_nowhere p = record { is = refl; all = []; leads = refl; reads = refl; did = sym (append-nil (replied_to p)) }
 
 pub walked_more : {p q r : PassState} {numbers : List ℕ} {s : WalkPoint} {f : Found} → HasWalked p numbers q s
     → StepsDown q s r f → HasWalked p (numbers ++ numbers_found f) r (next_of f)

@@ -1,7 +1,8 @@
 use Rattle.mk_stack.proofs.Vocabulary.{HasWalked}
 use Rattle.mk_laws.proofs.Vocabulary.{List, ℕ, append-nil, subst, sym, ◌∙◌}
 use Rattle.mk_stack.proofs.WalkSteps.{StepsDown, may_go_down, steps_down, walked_held, walked_more}
-use Rattle.mk_stack.proofs.{AtPoints.holds_still, Going.ready_on, Replies.stays_held, WalkSteps.as_pop, WalkSteps.beside_turns}
+use Rattle.mk_stack.proofs.{AtPoints.holds_still, Going.ready_on, Replies.stays_held, WalkSteps.as_pop}
+use Rattle.mk_stack.proofs.{WalkSteps.beside_turns}
 use Rattle.mk_stack.specs.declared.walking.{Found.Found, WalkPoint.WalkPoint}
 use Rattle.mk_stack.proofs.walking.read_stack.Goals as goal
 
@@ -10,7 +11,8 @@ call-answer-requires-clause-entered g c = beside_turns c.points.point (sym c.op_
 
 pub call-answer-requires-clause-admitted : goal.call-answer-requires-clause-admitted
 call-answer-requires-clause-admitted g c =
-    may_go_down c.points.point c.points.invariant.ready c.is_idle.ensures.history (sym c.op_down.ensures ∙ c.in-Some-op_down.is)
+    may_go_down c.points.point c.points.invariant.ready c.is_idle.ensures.history (sym c.op_down.ensures
+    ∙ c.in-Some-op_down.is)
     c.points.invariant.holds
 
 pub points-preserved-in-To : goal.points-preserved-in-To
@@ -19,7 +21,8 @@ points-preserved-in-To g c =
     let r = c.call-answer.new.caller.pass in
     let steps : StepsDown c.points.caller.pass c.points.point r (Found.To c.in-To.next) =
     subst (StepsDown c.points.caller.pass c.points.point r) (sym c.found_down.ensures ∙ c.in-To.is)
-    (steps_down c.points.point before.ready.types c.is_idle-in-points.ensures.history (sym c.op_down.ensures ∙ c.in-Some-op_down.is) before.holds
+    (steps_down c.points.point before.ready.types c.is_idle-in-points.ensures.history (sym c.op_down.ensures
+    ∙ c.in-Some-op_down.is) before.holds
     c.in-Ok.ensures.called) in
     record {
       ready = ready_on before.ready c.call-answer.ensures.home steps.is;
@@ -34,7 +37,8 @@ points-preserved-in-Number g c =
     let r = c.call-answer.new.caller.pass in
     let steps : StepsDown c.points.caller.pass c.points.point r (Found.Number c.in-Number.n) =
     subst (StepsDown c.points.caller.pass c.points.point r) (sym c.found_down.ensures ∙ c.in-Number.is)
-    (steps_down c.points.point before.ready.types c.is_idle-in-points.ensures.history (sym c.op_down.ensures ∙ c.in-Some-op_down.is) before.holds
+    (steps_down c.points.point before.ready.types c.is_idle-in-points.ensures.history (sym c.op_down.ensures
+    ∙ c.in-Some-op_down.is) before.holds
     c.in-Ok.ensures.called) in
     record {
       ready = ready_on before.ready c.call-answer.ensures.home steps.is;
