@@ -44,16 +44,22 @@ none_replied k n (x ∷ xs) h =
     by true own rest is next = let some : x ∷ own ≡ [] = is in absurd (cc)
     by false own rest is next = next is
 
-pub asked_in_two : (xs ys : List Decided) → asked (xs ++ ys) ≡ asked xs ++ asked ys
+asked_in_two : (xs ys : List Decided) → asked (xs ++ ys) ≡ asked xs ++ asked ys
 asked_in_two xs ys = map-append (λ (x : Decided). record { caller = x.caller; op = x.op }) xs ys
+
+-- What is asked in a list that goes on
+pub asked_grown : (c : Config) (es more : List Event) {fs : List Event} → fs ≡ es ++ more
+    → asked (calls c fs) ≡ asked (calls c es) ++ asked (calls_from c (left c es) more)
+asked_grown c es more is =
+    ap (λ (l : List Event). asked (calls c l)) is ∙ ap asked (calls_in_parts c es more)
+    ∙ asked_in_two (calls c es) (calls_from c (left c es) more)
 
 -- Events that decide no call of the caller leave what it was replied.
 pub same_replied : (c : Config) (k : ℕ) (es more : List Event) → calls_by k (calls_from c (left c es) more) ≡ []
     → replied_in c k (es ++ more) ≡ replied_in c k es
 same_replied c k es more none =
     let later : List Decided = calls_from c (left c es) more in
-    ap (λ (l : List Decided). own_replied k (never_first c) (asked l)) (calls_in_parts c es more)
-    ∙ ap (own_replied k (never_first c)) (asked_in_two (calls c es) later)
+    ap (own_replied k (never_first c)) (asked_grown c es more refl)
     ∙ own_in_parts k (never_first c) (asked (calls c es)) (asked later)
     ∙ ap (λ (l : List Replied). replied_in c k es ++ l) (none_replied k (never_behind c es) later none)
     ∙ append-nil (replied_in c k es)

@@ -1,20 +1,17 @@
 -- Each call of a walk is its next operation, and what its caller's registers hold after it.
 use Rattle.std.proofs.Common.{IfSome}
-use Rattle.mk_stack.proofs.Vocabulary.{Answer, HasStackTypes, HasWalked, HoldsAt, IsHistory, LeadsDown, NeverState, Op}
-use Rattle.mk_stack.proofs.Vocabulary.{PassState, Point, Pop, CallerState, Replied, Reply, after_op, answer_of}
-use Rattle.mk_stack.proofs.Vocabulary.{numbers_read}
-use Rattle.mk_stack.proofs.Vocabulary.{global_at, register_at, replied_to, reply_of, value_of}
+use Rattle.mk_stack.proofs.Vocabulary.{Answer, CallerState, HasStackTypes, HasWalked, HoldsAt, IsHistory, LeadsDown}
+use Rattle.mk_stack.proofs.Vocabulary.{NeverState, Op, PassState, Point, Pop, Replied, Reply, after_op, answer_of}
+use Rattle.mk_stack.proofs.Vocabulary.{global_at, numbers_read, register_at, replied_to, reply_of, value_of}
 use Rattle.mk_laws.proofs.Vocabulary.{IsAdmitted, List, Some, ℕ, ap, append-nil, append_assoc, arith, false}
-use Rattle.mk_laws.proofs.Vocabulary.{is_under_turn, refl, subst, sym, [], ◌++◌}
-use Rattle.mk_laws.proofs.Vocabulary.{◌∙◌, ◌∷◌, ◌≡◌}
+use Rattle.mk_laws.proofs.Vocabulary.{is_under_turn, refl, subst, sym, [], ◌++◌, ◌∙◌, ◌∷◌, ◌≡◌}
 use Rattle.mk_laws.proofs.CallSorts.{flag_is}
 use Rattle.mk_caller.specs.States.{Admits}
 use Rattle.mk_run.specs.Scripts.{IsCalled, as_told}
 use Rattle.mk_stack.proofs.Advances.{Steps, of_asked, place_state, ready_state, steps_so}
-use Rattle.mk_stack.proofs.AtPoints.{holds_still}
-use Rattle.mk_stack.proofs.{Going.seen_then, NodeKinds.IsStackState, NodeKinds.global_kind, Replies.Stays}
-use Rattle.mk_stack.proofs.{Replies.from_called}
+use Rattle.mk_stack.proofs.NodeKinds.{IsStackState, global_kind}
 use Rattle.mk_stack.proofs.PointSteps.{admits, kept, loads_link, loads_number, loads_top, may_follow, now_may, tested}
+use Rattle.mk_stack.proofs.{AtPoints.holds_still, Going.seen_then, Replies.Stays, Replies.from_called}
 use Rattle.mk_stack.specs.Walks.{Walks, descend, found_down, go, lack, meet, number_read, op_down, peek, read, start}
 use Rattle.mk_stack.specs.Walks.{stop}
 use Rattle.mk_stack.specs.{Ready.IsReady, declared.walking.Found.Found, declared.walking.WalkPoint.WalkPoint}
@@ -101,13 +98,13 @@ pub may_go_down : {s : CallerState} (t : WalkPoint) {o : Op} → IsReady s → I
     → op_down t ≡ Some o → HoldsAt (value_of s.pass) (as_pop t) → Admits s.pass o
 may_go_down {s} t ready history is holds = of_asked (Admits s.pass) is (admits_down (ready_state ready history) t holds)
 
-pub steps_down : {p q : PassState} (s : WalkPoint) {o : Op} {told : Answer} → HasStackTypes p.table.config
-    → IsHistory q.table.config q.seen → op_down s ≡ Some o → HoldsAt (value_of p) (as_pop s) → IsCalled p o told q
-    → StepsDown p s q (found_down s told)
-steps_down {p} {q} s {o} {told} types history is holds called =
+pub steps_down : {p q : PassState} (s : WalkPoint) {f : Found} {o : Op} {told : Answer} → f ≡ found_down s told
+    → HasStackTypes p.table.config → IsHistory q.table.config q.seen → op_down s ≡ Some o
+    → HoldsAt (value_of p) (as_pop s) → IsCalled p o told q → StepsDown p s q f
+steps_down {p} {q} s {o} leads types history is holds called =
     let h = from_called called.called (flag_is o called.answer (beside_turns s is)) history in
     let next = of_asked _ is (goes_down (place_state types h) s (holds_still h.before (as_pop s) holds)) in
-    subst (λ (x : Answer). StepsDown p s q (found_down s x)) (sym called.is_told)
+    subst (StepsDown p s q) (ap (found_down s) (sym called.is_told) ∙ sym leads)
     (steps_so h (next called.answer h.bases h.image))
 
 -- One operation more

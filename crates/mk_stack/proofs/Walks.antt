@@ -178,12 +178,6 @@ module _ (n : NeverState) (k : ℕ) where
 
   loads : (v : Value) (nodes : List ℕ) → AreLinked n (uppermost n v) nodes → (m : NeverState) (os : List Op)
       → HasTop m v → (w : Value) → Asked m os (numbers_in n nodes) (Op.GetPtr 2 0 0) (Reply.Val w) WalkPoint.Testing
-  loads Null nodes linked m os top w said rest =
-      absurd (null_is_no_val w (sym (ap (λ (u : Value). reply_at (target_of m u 0) (λ a i. Reply.Val (word_at m a i)))
-      top.2) ∙ said))
-  loads (Num x) nodes linked m os top w said rest =
-      absurd (null_is_no_val w (sym (ap (λ (u : Value). reply_at (target_of m u 0) (λ a i. Reply.Val (word_at m a i)))
-      top.2) ∙ said))
   loads (Ptr t ty i) nodes linked m os top w said rest =
       let at : ℕ → ℕ → Reply = λ a j. Reply.Val (word_at m a j) in
       let there = mapped m t ty i 0 at (Reply.Val w)
@@ -198,6 +192,9 @@ module _ (n : NeverState) (k : ℕ) where
         omega (arith, top.1, length-set m.registers (8 * k + 2) (word_at m t (i + 0))),
         set_register m k 2 (word_at m t (i + 0)) (omega (arith, top.1)) ∙ same,
       )) rest
+  loads _ nodes linked m os top w said rest =
+      absurd (null_is_no_val w (sym (ap (λ (u : Value). reply_at (target_of m u 0) (λ a i. Reply.Val (word_at m a i)))
+      top.2) ∙ said))
 
   peeks : (v : Value) (nodes : List ℕ) → AreLinked n (uppermost n v) nodes → (m : NeverState) (os : List Op)
       → HasTop m v → LeadsDown WalkPoint.Peeking (each k m os) WalkPoint.Ended
@@ -210,10 +207,7 @@ module _ (n : NeverState) (k : ℕ) where
       → HasTop m v → Asked m os (numbers_in n nodes) (Op.IsNull 0) (Reply.Num 1) WalkPoint.Ended
   lacks Null [] linked m os top said rest = at_end k m os WalkPoint.Ended rest
   lacks Null (a ∷ nodes) linked m os top said rest = absurd (null_is_no_pointer a linked.0)
-  lacks (Num x) nodes linked m os top said rest =
-      absurd (differ 0 1 (omega arith) (says_null m k 0 1 (Num x) top.2 said))
-  lacks (Ptr t ty i) nodes linked m os top said rest =
-      absurd (differ 0 1 (omega arith) (says_null m k 0 1 (Ptr t ty i) top.2 said))
+  lacks _ nodes linked m os top said rest = absurd (differ 0 1 (omega arith) (says_null m k 0 1 _ top.2 said))
 
   checks : (v : Value) (nodes : List ℕ) → AreLinked n (uppermost n v) nodes → (m : NeverState) (os : List Op)
       → HasTop m v → LeadsDown WalkPoint.Checking (each k m os) WalkPoint.Ended

@@ -1,9 +1,8 @@
 use Rattle.mk_stack.proofs.Vocabulary.{HasWalked}
 use Rattle.mk_laws.proofs.Vocabulary.{List, ℕ, append-nil, subst, sym, ◌∙◌}
-use Rattle.mk_stack.proofs.WalkSteps.{StepsDown, may_go_down, steps_down, walked_held, walked_more}
-use Rattle.mk_stack.proofs.{AtPoints.holds_still, Going.ready_on, Replies.stays_held, WalkSteps.as_pop}
-use Rattle.mk_stack.proofs.{WalkSteps.beside_turns}
-use Rattle.mk_stack.specs.declared.walking.{Found.Found, WalkPoint.WalkPoint}
+use Rattle.mk_stack.proofs.WalkSteps.{as_pop, beside_turns, may_go_down, steps_down, walked_held, walked_more}
+use Rattle.mk_stack.proofs.{AtPoints.holds_still, Going.ready_on, Replies.stays_held}
+use Rattle.mk_stack.specs.declared.walking.WalkPoint.{WalkPoint}
 use Rattle.mk_stack.proofs.walking.read_stack.Goals as goal
 
 pub call-answer-requires-clause-entered : goal.call-answer-requires-clause-entered
@@ -18,15 +17,13 @@ call-answer-requires-clause-admitted g c =
 pub points-preserved-in-To : goal.points-preserved-in-To
 points-preserved-in-To g c =
     let before = c.points.invariant in
-    let r = c.call-answer.new.caller.pass in
-    let steps : StepsDown c.points.caller.pass c.points.point r (Found.To c.in-To.next) =
-    subst (StepsDown c.points.caller.pass c.points.point r) (sym c.found_down.ensures ∙ c.in-To.is)
-    (steps_down c.points.point before.ready.types c.is_idle-in-points.ensures.history (sym c.op_down.ensures
-    ∙ c.in-Some-op_down.is) before.holds
-    c.in-Ok.ensures.called) in
+    let steps =
+    steps_down c.points.point (sym c.in-To.is ∙ c.found_down.ensures) before.ready.types
+    c.is_idle-in-points.ensures.history (sym c.op_down.ensures ∙ c.in-Some-op_down.is) before.holds
+    c.in-Ok.ensures.called in
     record {
       ready = ready_on before.ready c.call-answer.ensures.home steps.is;
-      walked = subst (λ (l : List ℕ). HasWalked c.args.caller.now.pass l r c.in-To.next)
+      walked = subst (λ (l : List ℕ). HasWalked c.args.caller.now.pass l c.call-answer.new.caller.pass c.in-To.next)
           (append-nil c.points.left.items) (walked_more before.walked steps);
       holds = steps.holds;
     }
@@ -34,16 +31,14 @@ points-preserved-in-To g c =
 pub points-preserved-in-Number : goal.points-preserved-in-Number
 points-preserved-in-Number g c =
     let before = c.points.invariant in
-    let r = c.call-answer.new.caller.pass in
-    let steps : StepsDown c.points.caller.pass c.points.point r (Found.Number c.in-Number.n) =
-    subst (StepsDown c.points.caller.pass c.points.point r) (sym c.found_down.ensures ∙ c.in-Number.is)
-    (steps_down c.points.point before.ready.types c.is_idle-in-points.ensures.history (sym c.op_down.ensures
-    ∙ c.in-Some-op_down.is) before.holds
-    c.in-Ok.ensures.called) in
+    let steps =
+    steps_down c.points.point (sym c.in-Number.is ∙ c.found_down.ensures) before.ready.types
+    c.is_idle-in-points.ensures.history (sym c.op_down.ensures ∙ c.in-Some-op_down.is) before.holds
+    c.in-Ok.ensures.called in
     record {
       ready = ready_on before.ready c.call-answer.ensures.home steps.is;
-      walked = subst (λ (l : List ℕ). HasWalked c.args.caller.now.pass l r WalkPoint.Descending)
-          (sym c.in_ok-push-in-Number.ensures.items) (walked_more before.walked steps);
+      walked = subst (λ (l : List ℕ). HasWalked c.args.caller.now.pass l c.call-answer.new.caller.pass
+          WalkPoint.Descending) (sym c.in_ok-push-in-Number.ensures.items) (walked_more before.walked steps);
       holds = steps.holds;
     }
 
