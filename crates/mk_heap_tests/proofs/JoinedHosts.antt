@@ -1,15 +1,15 @@
 -- The host's callers and markers before their first call, and after their last.
-use Rattle.mk_laws.proofs.Vocabulary.{Caller, Event, List, Marker, Seat, ℕ, all_below-at, ap, arith, false}
-use Rattle.mk_laws.proofs.Vocabulary.{host_has_turn, inl, inr, is_held, left, not, not-true, refl, subst, suc, sym}
-use Rattle.mk_laws.proofs.Vocabulary.{true, zero, [], ◌++◌, ◌<◌, ◌∙◌, ◌∷◌, ◌≡◌, ◌⊎◌}
+use Rattle.mk_laws.proofs.Vocabulary.{Caller, Config, Event, Host, List, Seat, ℕ, all_below-at, ap, arith, false}
+use Rattle.mk_laws.proofs.Vocabulary.{host_has_turn, inl, inr, is_held, left, lt-ltb, not, not-true, refl, subst, suc}
+use Rattle.mk_laws.proofs.Vocabulary.{sym, true, zero, [], ◌++◌, ◌<◌, ◌∙◌, ◌∷◌, ◌≡◌, ◌⊎◌}
 use Rattle.mk_heap_tests.proofs.Vocabulary.{CallerState, Has, HoldsNull, HostState, IsIdleCaller, IsPassFor, PassState}
-use Rattle.mk_heap_tests.proofs.Vocabulary.{WordsState, at_home, now_of, pass_for}
+use Rattle.mk_heap_tests.proofs.Vocabulary.{WordsState, at_home, has_all, now_of, pass_for}
 use Rattle.mk_core.specs.Moments.{none_is_held}
 use Rattle.mk_heap.proofs.HostsKept.{first_is_host}
-use Rattle.mk_heap.specs.Hosts.{AllAreJoined, IsHost, first_host, with_caller_made, with_joined, with_seen}
+use Rattle.mk_heap.specs.Hosts.{AllAreJoined, IsHost, first_host, with_caller_made, with_joined}
 use Rattle.mk_heap.specs.{Clients.IsPassOf, Ending.CallersAreJoined}
 use Rattle.mk_heap_tests.{proofs.Registers.null_at_first, specs.Passes.HasJoinedOne, specs.Passes.IsFirstPass}
-use Rattle.mk_words.proofs.Seats.{has_first, has_left, has_right}
+use Rattle.mk_words.{proofs.Seats.has_first, proofs.Seats.has_left, proofs.Seats.has_right, specs.Seats.all_seats}
 
 pub holds_null : (w : WordsState) (k : ℕ) (p : PassState) → IsFirstPass w k p → k < w.config.callers → HoldsNull p
 holds_null w k p first lt =
@@ -118,44 +118,53 @@ pub callers_are_joined : (w : WordsState) (h : HostState) → HasJoinedOne w h �
 callers_are_joined w h run =
     λ k lt. subst (λ (i : ℕ). Has h.pass.seats (Caller i)) (sym (only_zero k h.callers run.callers lt)) run.joined
 
-pub all_are_joined : (w : WordsState) (h g j : HostState) (m : PassState) → HasJoinedOne w h
-    → g ≡ with_seen h g.pass.seen → j ≡ with_joined g m j.pass.seen → m.seats ≡ Marker 0 ∷ [] → AllAreJoined j
-all_are_joined w h g j m run is_g is_j alone =
-    let seats : j.pass.seats ≡ h.pass.seats ++ m.seats =
-    ap (λ (x : HostState). x.pass.seats) is_j ∙ ap (λ (x : HostState). x.pass.seats ++ m.seats) is_g in
-    let callers : j.callers ≡ 1 =
-    ap (λ (x : HostState). x.callers) is_j ∙ ap (λ (x : HostState). x.callers) is_g ∙ run.callers in
-    let markers : j.markers ≡ 1 =
-    ap (λ (x : HostState). x.markers) is_j ∙ ap (λ (x : HostState). x.markers) is_g ∙ run.markers in
-    record {
-      callers = λ k lt.
-          subst (λ (i : ℕ). Has j.pass.seats (Caller i)) (sym (only_zero k j.callers callers lt))
-          (subst (λ (l : List Seat). Has l (Caller 0)) (sym seats)
-          (has_left h.pass.seats m.seats (Caller 0) run.joined));
-      markers = λ k lt.
-          subst (λ (i : ℕ). Has j.pass.seats (Marker i)) (sym (only_zero k j.markers markers lt))
-          (subst (λ (l : List Seat). Has l (Marker 0)) (sym seats)
-          (has_joined h.pass.seats m.seats (Marker 0) alone));
-    }
+-- The host's pass of a table that nobody has used. Passes may have been split off it.
+pub record IsUnused (w : WordsState) (h : PassState) : Type 0 where
+  pub table : h.table ≡ w
+  pub seat : h.seat ≡ Host
+  pub seen : h.seen ≡ []
 
--- The host of a table that nobody has used hasn't the turn, and the passes that it splits off for callers are idle.
+pub unused : {w : WordsState} {h : PassState} {seats : List Seat}
+    → h ≡ record { table = w; seat = Host; seats = seats; seen = [] } → IsUnused w h
+unused is = record {
+  table = ap (λ (p : PassState). p.table) is;
+  seat = ap (λ (p : PassState). p.seat) is;
+  seen = ap (λ (p : PassState). p.seen) is;
+}
 
-pub free_at_first : (w : WordsState) (h : PassState) → h.table ≡ w → h.seen ≡ []
-    → host_has_turn h.table.config (now_of h) ≡ false
-free_at_first w h table seen =
-    subst (λ (v : WordsState). host_has_turn v.config (left v.config h.seen).now ≡ false) (sym table)
-    (subst (λ (es : List Event). host_has_turn w.config (left w.config es).now ≡ false) (sym seen)
+pub still_unused : {w : WordsState} {h g : PassState} {seats : List Seat} → IsUnused w h
+    → g ≡ record h { seats = seats } → IsUnused w g
+still_unused u is = record {
+  table = ap (λ (p : PassState). p.table) is ∙ u.table;
+  seat = ap (λ (p : PassState). p.seat) is ∙ u.seat;
+  seen = ap (λ (p : PassState). p.seen) is ∙ u.seen;
+}
+
+-- It has the seat of each caller at first,
+pub caller_is_home : {w : WordsState} {h : PassState} (c : Config) (k : ℕ) → k < c.callers
+    → h ≡ record { table = w; seat = Host; seats = all_seats c; seen = [] } → Has h.seats (Caller k)
+caller_is_home c k lt is =
+    subst (λ (p : PassState). Has p.seats (Caller k)) (sym is) (has_all c (Caller k) (lt-ltb k c.callers lt))
+
+-- hasn't the turn, and the passes that it splits off for callers are idle.
+
+pub free_at_first : (w : WordsState) (h : PassState) → IsUnused w h → host_has_turn h.table.config (now_of h) ≡ false
+free_at_first w h u =
+    subst (λ (v : WordsState). host_has_turn v.config (left v.config h.seen).now ≡ false) (sym u.table)
+    (subst (λ (es : List Event). host_has_turn w.config (left w.config es).now ≡ false) (sym u.seen)
     (first_is_host w).no_turn)
 
-pub first_split : (w : WordsState) (k : ℕ) (h p : PassState) → h.table ≡ w → h.seen ≡ [] → k < w.config.callers
+pub split_is : (w : WordsState) (h p : PassState) (s : Seat) → IsUnused w h → p ≡ record h { seat = s; seats = s ∷ [] }
+    → p ≡ record { table = w; seat = s; seats = s ∷ []; seen = [] }
+split_is w h p s u is =
+    is ∙ ap (λ (v : WordsState). record { table = v; seat = s; seats = s ∷ []; seen = h.seen }) u.table
+    ∙ ap (λ (es : List Event). record { table = w; seat = s; seats = s ∷ []; seen = es }) u.seen
+
+pub first_split : (w : WordsState) (k : ℕ) (h p : PassState) → IsUnused w h → k < w.config.callers
     → p ≡ record h { seat = Caller k; seats = Caller k ∷ [] } → IsFirstPass w k p
-first_split w k h p table seen some is =
+first_split w k h p u some is =
     let host : IsHost (first_host w) = first_is_host w in
-    let first : p ≡ pass_for (first_host w) (Caller k) =
-    is
-    ∙ ap (λ (v : WordsState). record { table = v; seat = Caller k; seats = Caller k ∷ []; seen = h.seen }) table
-    ∙ ap (λ (es : List Event). record { table = w; seat = Caller k; seats = Caller k ∷ []; seen = es }) seen in
-    subst (λ (q : PassState). IsFirstPass w k q) (sym first)
+    subst (λ (q : PassState). IsFirstPass w k q) (sym (split_is w h p (Caller k) u is))
     (record {
       table = refl;
       seat = refl;
@@ -168,9 +177,9 @@ first_split w k h p table seen some is =
       };
     })
 
-pub split_at_first : (w : WordsState) (k : ℕ) (h p : PassState) → h.table ≡ w → h.seen ≡ [] → k < w.config.callers
+pub split_at_first : (w : WordsState) (k : ℕ) (h p : PassState) → IsUnused w h → k < w.config.callers
     → p ≡ record h { seat = Caller k; seats = Caller k ∷ [] } → IsPassFor w k p
-split_at_first w k h p table seen some is = first_for w k p (first_split w k h p table seen some is)
+split_at_first w k h p u some is = first_for w k p (first_split w k h p u some is)
 
 -- the caller's pass, as its calls ask for it
 pub pass_of : (w : WordsState) (k : ℕ) (p : PassState) (s : CallerState) → IsPassFor w k p → k < w.config.callers

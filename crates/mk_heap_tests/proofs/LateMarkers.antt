@@ -1,9 +1,9 @@
 -- A marker that is out, or comes in, the host's turn and cycle beside it, and the caller that was joined.
 use Rattle.std.specs.Result.{is_err}
-use Rattle.mk_laws.proofs.Vocabulary.{Caller, Config, Event, Host, IsEnabled, IsHistory, List, Marker, MarkerState}
-use Rattle.mk_laws.proofs.Vocabulary.{None, Presence, Seat, Steady, Step, TalliesAreTidy, Word, ℕ, ap, arith, eq-eqb}
-use Rattle.mk_laws.proofs.Vocabulary.{false, is_attending, is_held, is_number_of, marker_at, others_are_held, outside}
-use Rattle.mk_laws.proofs.Vocabulary.{phase_of, refl, subst, sym, true, [], ◌%◌, ◌<◌, ◌∙◌, ◌∷◌, ◌≡◌}
+use Rattle.mk_laws.proofs.Vocabulary.{Caller, Config, Event, IsEnabled, List, Marker, MarkerState, None, Presence, Seat}
+use Rattle.mk_laws.proofs.Vocabulary.{Steady, Step, TalliesAreTidy, Word, ℕ, ap, arith, eq-eqb, false, is_attending}
+use Rattle.mk_laws.proofs.Vocabulary.{is_held, is_number_of, marker_at, others_are_held, outside, phase_of, refl, subst}
+use Rattle.mk_laws.proofs.Vocabulary.{sym, true, [], ◌%◌, ◌<◌, ◌∙◌, ◌∷◌, ◌≡◌}
 use Rattle.mk_heap_tests.proofs.Vocabulary.{CallerState, Err, Has, HostState, InTurn, IsEnabledTo, IsFresh, Ok, OnOk}
 use Rattle.mk_heap_tests.proofs.Vocabulary.{PassState, Result, TakesTurn, TalliesAreExact, WordsState, at_home, has_all}
 use Rattle.mk_heap_tests.proofs.Vocabulary.{now_of, pass_for}
@@ -16,7 +16,7 @@ use Rattle.mk_heap.proofs.IdleTurns.{begun_free, fresh_free, look_keeps, looked_
 use Rattle.mk_heap.proofs.{HostsKept.first_is_host, Joining.host_may_take, MovedHosts.turn_moves}
 use Rattle.mk_heap.specs.Hosts.{IsHost, first_host, with_caller_made, with_joined, with_marker_made}
 use Rattle.mk_heap.specs.Ending.{IsIdleTurn}
-use Rattle.mk_heap_tests.proofs.JoinedHosts.{free_at_first, has_joined, none_is_held_at, only_zero}
+use Rattle.mk_heap_tests.proofs.JoinedHosts.{IsUnused, free_at_first, has_joined, none_is_held_at, only_zero, split_is}
 use Rattle.mk_heap_tests.specs.Passes.{HasJoinedOne, HostIsMarking, IsHostsPass, IsMarkerOut}
 use Rattle.mk_marker.specs.Markers.{IsOut, attends}
 use Rattle.mk_words.{proofs.Seats.without_keeps, specs.Markers.marker_in, specs.Seats.all_seats, specs.Seats.has_over}
@@ -45,30 +45,9 @@ out_at_first w p is =
           (host.rests (Marker 0) (host.markers 0 (omega arith) (omega arith))).out;
     })
 
-pub marker_at_first : (w : WordsState) (f : HostState) (m : PassState) → f ≡ first_host w
-    → m ≡ pass_for f (Marker f.markers) → IsMarkerOut w m
-marker_at_first w f m first is = out_at_first w m (is ∙ ap (λ (x : HostState). pass_for x (Marker x.markers)) first)
-
-pub marker_split : (w : WordsState) (h m : PassState) → h.table ≡ w → h.seen ≡ []
+pub marker_split : (w : WordsState) (h m : PassState) → IsUnused w h
     → m ≡ record h { seat = Marker 0; seats = Marker 0 ∷ [] } → IsMarkerOut w m
-marker_split w h m table seen is =
-    out_at_first w m
-    (is
-    ∙ ap (λ (v : WordsState). record { table = v; seat = Marker 0; seats = Marker 0 ∷ []; seen = h.seen }) table
-    ∙ ap (λ (es : List Event). record { table = w; seat = Marker 0; seats = Marker 0 ∷ []; seen = es }) seen)
-
--- It is that one still where it has seen more.
-pub still_out : (w : WordsState) (m a q : PassState) → IsMarkerOut w m → a ≡ record m { seen = a.seen } → q ≡ a
-    → IsOut q
-    → IsMarkerOut w q
-still_out w m a q first is_a is out =
-    let on : q ≡ record m { seen = a.seen } = is ∙ is_a in
-    record {
-      table = ap (λ (p : PassState). p.table) on ∙ first.table;
-      seat = ap (λ (p : PassState). p.seat) on ∙ first.seat;
-      alone = ap (λ (p : PassState). p.seats) on ∙ first.alone;
-      out = out;
-    }
+marker_split w h m u is = out_at_first w m (split_is w h m (Marker 0) u is)
 
 -- The host of a table that nobody has used, which split off its first caller and then its first marker.
 
@@ -87,14 +66,9 @@ marker_is_home c h g first less =
     (without_keeps (Caller 0) h.seats (Marker 0) refl
     (subst (λ (xs : List Seat). Has xs (Marker 0)) (sym first) (has_all c (Marker 0) refl)))
 
-pub host_at_first : (w : WordsState) (p : PassState) → p.table ≡ w → p.seat ≡ Host → p.seen ≡ [] → IsHostsPass w p
-host_at_first w p table seat seen =
-    record {
-      table = table;
-      seat = seat;
-      without = free_at_first w p table seen;
-      before_over = ap has_over seen;
-    }
+pub host_at_first : (w : WordsState) (p : PassState) → IsUnused w p → IsHostsPass w p
+host_at_first w p u =
+    record { table = u.table; seat = u.seat; without = free_at_first w p u; before_over = ap has_over u.seen }
 
 pub host_may : (w : WordsState) (p : PassState) → IsHostsPass w p → IsEnabledTo p (Step.Take None)
 host_may w p host =

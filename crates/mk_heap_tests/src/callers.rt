@@ -120,27 +120,15 @@ pub(crate) fn two_at_once<R: Threads + Sync>(
 #[cfg(test)]
 mod tests {
     use super::two_at_once;
-    use mk_core::{Config, GlobalTable};
-    use mk_never::{Kind, TypeTable};
+    use crate::configs::one_page;
+    use mk_never::Kind;
     use std::test::Fail;
 
     /// Nobody holds a gate, so no call is refused for that.
     #[test]
     fn two_callers_make_their_calls_at_once(rt: HostRuntime) -> Result<(), Fail> {
-        let mut types = TypeTable::new(rt.alloc());
-        types
-            .add([Kind::Num].to_vec(rt.alloc())?)
-            .expect(&rt, "memory");
-        let mut globals = GlobalTable::new(rt.alloc());
-        globals.add(0).expect(&rt, "memory");
-        let config = Config {
-            pages: 1,
-            resident: 1,
-            callers: 2,
-            markers: 0,
-            types,
-            globals,
-        };
+        let mut config = one_page(rt.alloc(), 2, 0, &[Kind::Num]).expect(&rt, "memory");
+        config.globals.add(0).expect(&rt, "memory");
         let (report, fine) = two_at_once(&rt, rt.alloc(), &config).expect(&rt, "memory");
         assert!(rt; fine);
         assert_eq!(rt; (report.held, report.fresh, report.quarantined), (0, 0, 0));

@@ -73,20 +73,13 @@ pub(crate) fn hold_a_gate(alloc: Global, config: &Config) -> Result<Option<Made>
 #[cfg(test)]
 mod tests {
     use super::{Made, hold_a_gate};
-    use mk_core::{Config, GlobalTable};
-    use mk_never::TypeTable;
+    use crate::configs::one_page;
+    use mk_never::Kind;
     use std::test::Fail;
 
     #[test]
     fn a_gate_that_is_held_refuses_its_caller(rt: HostRuntime) -> Result<(), Fail> {
-        let config = Config {
-            pages: 1,
-            resident: 1,
-            callers: 2,
-            markers: 0,
-            types: TypeTable::new(rt.alloc()),
-            globals: GlobalTable::new(rt.alloc()),
-        };
+        let config = one_page(rt.alloc(), 2, 0, &[Kind::Num]).expect(&rt, "memory");
         let expected = Made {
             before: true,
             held: false,

@@ -162,27 +162,22 @@ pub(crate) fn come_when_over<E: Engine, R: Threads + Wait + Sync>(
 #[cfg(test)]
 mod tests {
     use super::{come_to_a_cycle, come_when_over};
-    use mk_core::{Config, GlobalTable};
+    use crate::configs::one_page;
     use mk_engines::MostlyEngine;
     use mk_marker::Work;
-    use mk_never::{Kind, TypeTable};
+    use mk_never::Kind;
     use std::test::Fail;
 
     /// At the `begin` the engine marks the object that the register points to, and that one alone is scanned.
     #[test]
     fn a_marker_comes_to_a_cycle_and_is_told_to_go(rt: HostRuntime) -> Result<(), Fail> {
-        let mut types = TypeTable::new(rt.alloc());
-        types
-            .add([Kind::To { ty: 0, offset: 0 }, Kind::Num].to_vec(rt.alloc())?)
-            .expect(&rt, "memory");
-        let config = Config {
-            pages: 1,
-            resident: 1,
-            callers: 1,
-            markers: 1,
-            types,
-            globals: GlobalTable::new(rt.alloc()),
-        };
+        let config = one_page(
+            rt.alloc(),
+            1,
+            1,
+            &[Kind::To { ty: 0, offset: 0 }, Kind::Num],
+        )
+        .expect(&rt, "memory");
         let told = come_to_a_cycle::<MostlyEngine, HostRuntime>(&rt, rt.alloc(), &config).expect(
             &rt, "memory",
         );
@@ -192,14 +187,7 @@ mod tests {
 
     #[test]
     fn a_marker_that_comes_when_all_is_over_finds_that(rt: HostRuntime) -> Result<(), Fail> {
-        let config = Config {
-            pages: 1,
-            resident: 1,
-            callers: 1,
-            markers: 1,
-            types: TypeTable::new(rt.alloc()),
-            globals: GlobalTable::new(rt.alloc()),
-        };
+        let config = one_page(rt.alloc(), 1, 1, &[Kind::Num]).expect(&rt, "memory");
         let report = come_when_over::<MostlyEngine, HostRuntime>(&rt, rt.alloc(), &config).expect(
             &rt, "memory",
         );

@@ -4,6 +4,8 @@
 #[cfg(test)]
 mod callers;
 #[cfg(test)]
+mod configs;
+#[cfg(test)]
 mod cores;
 #[cfg(test)]
 mod frees;

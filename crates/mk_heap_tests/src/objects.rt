@@ -162,9 +162,9 @@ pub(crate) fn fill_a_page<E: Engine, R: Threads + Wait + Sync>(
 #[cfg(test)]
 mod tests {
     use super::{Answers, fill_a_page};
-    use mk_core::{Config, GlobalTable};
+    use crate::configs::one_page;
     use mk_engines::StopEngine;
-    use mk_never::{Kind, TypeTable};
+    use mk_never::Kind;
     use std::test::Fail;
 
     /// A 33rd object doesn't fit, after a cycle that releases nothing. Of 64 words 16 are a quarter, so that the
@@ -172,18 +172,7 @@ mod tests {
     /// register.
     #[test]
     fn the_ninth_of_32_is_due(rt: HostRuntime) -> Result<(), Fail> {
-        let mut types = TypeTable::new(rt.alloc());
-        types
-            .add([Kind::Num, Kind::Num].to_vec(rt.alloc())?)
-            .expect(&rt, "memory");
-        let config = Config {
-            pages: 1,
-            resident: 1,
-            callers: 2,
-            markers: 0,
-            types,
-            globals: GlobalTable::new(rt.alloc()),
-        };
+        let config = one_page(rt.alloc(), 2, 0, &[Kind::Num, Kind::Num]).expect(&rt, "memory");
         let expected = Answers {
             all_fit: true,
             one_more_fits: false,

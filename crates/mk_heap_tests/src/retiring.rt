@@ -125,27 +125,16 @@ pub(crate) fn fill_and_retire<E: Engine, R: Threads + Wait + Sync>(
 #[cfg(test)]
 mod tests {
     use super::{Answers, fill_and_retire};
+    use crate::configs::one_page;
     use mk_alloc::{Double, Freed};
-    use mk_core::{Config, GlobalTable};
     use mk_engines::StopEngine;
-    use mk_never::{Kind, TypeTable};
+    use mk_never::Kind;
     use std::test::Fail;
 
     /// Of 64 words 16 are a quarter, so that the eighth free isn't due and the ninth is.
     #[test]
     fn the_ninth_that_is_retired_is_due(rt: HostRuntime) -> Result<(), Fail> {
-        let mut types = TypeTable::new(rt.alloc());
-        types
-            .add([Kind::Num, Kind::Num].to_vec(rt.alloc())?)
-            .expect(&rt, "memory");
-        let config = Config {
-            pages: 1,
-            resident: 1,
-            callers: 2,
-            markers: 0,
-            types,
-            globals: GlobalTable::new(rt.alloc()),
-        };
+        let config = one_page(rt.alloc(), 2, 0, &[Kind::Num, Kind::Num]).expect(&rt, "memory");
         let answers = fill_and_retire::<StopEngine, HostRuntime>(&rt, rt.alloc(), &config).expect(
             &rt, "memory",
         );

@@ -156,25 +156,14 @@ pub(crate) fn caller_holds_before_host(
 #[cfg(test)]
 mod tests {
     use super::{caller_holds, caller_holds_before_host, host_holds, places};
-    use mk_core::{Config, GlobalTable};
-    use mk_never::{Kind, TypeTable};
+    use crate::configs::one_page;
+    use mk_never::Kind;
     use std::test::Fail;
 
     /// A page has 64 words, and so 32 cells of two.
     #[test]
     fn a_page_has_places_for_32_objects_of_two_words(rt: HostRuntime) -> Result<(), Fail> {
-        let mut types = TypeTable::new(rt.alloc());
-        types
-            .add([Kind::Num, Kind::Num].to_vec(rt.alloc())?)
-            .expect(&rt, "memory");
-        let config = Config {
-            pages: 1,
-            resident: 1,
-            callers: 1,
-            markers: 0,
-            types,
-            globals: GlobalTable::new(rt.alloc()),
-        };
+        let config = one_page(rt.alloc(), 1, 0, &[Kind::Num, Kind::Num]).expect(&rt, "memory");
         let found = places(&rt, rt.alloc(), &config).expect(&rt, "memory");
         assert_eq!(rt; found, 32);
         Ok(())
@@ -182,14 +171,7 @@ mod tests {
 
     #[test]
     fn a_turn_that_is_taken_names_its_holder(rt: HostRuntime) -> Result<(), Fail> {
-        let config = Config {
-            pages: 1,
-            resident: 1,
-            callers: 2,
-            markers: 0,
-            types: TypeTable::new(rt.alloc()),
-            globals: GlobalTable::new(rt.alloc()),
-        };
+        let config = one_page(rt.alloc(), 2, 0, &[Kind::Num]).expect(&rt, "memory");
         let of_caller = caller_holds(rt.alloc(), &config).expect(&rt, "memory");
         assert_eq!(rt; of_caller, Some(1));
         let of_host = host_holds(rt.alloc(), &config).expect(&rt, "memory");

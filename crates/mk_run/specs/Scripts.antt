@@ -63,11 +63,6 @@ pub record MakesNoCall (on : Bool) (p q : PassState) : Type 0 where
   pub exact : OwnAreExact on p → OwnAreExact on q
   pub beside : StaysBeside p q
 
--- The caller found its gate held at this operation, which takes no turn, and made no call.
-pub record IsHeldUp (p : PassState) (o : Op) (q : PassState) : Type 0 where
-  pub beside : is_under_turn o ≡ false
-  pub none : (on : Bool) → MakesNoCall on p q
-
 -- The caller wasn't answered: a New or a Free is not begun, and of another operation the gate was held.
 pub record IsPutOff (p : PassState) (o : Op) (q : PassState) : Type 0 where
   pub turn : is_under_turn o ≡ true → q ≡ p

@@ -7,7 +7,7 @@ ghost use Rattle.mk_caller.specs.Moves.{is_access};
 ghost use Rattle.mk_caller.specs.States.{caller_of_pass, Admits};
 ghost use Rattle.mk_turns.specs.Sweeping.{SweepsNothing};
 ghost use Rattle.mk_cycle.specs.Begun.{EachIsBegun};
-ghost use Rattle.mk_run.specs.Scripts.{IsCalled, IsAdmittedByOwnCalls, IsHeldUp, Answers};
+ghost use Rattle.mk_run.specs.Scripts.{IsCalled, IsAdmittedByOwnCalls, Answers};
 ghost use Rattle.mk_run.specs.Scripts.{AsksFor, AsksBesideTurns, IsPutOff, StaysBeside};
 
 use mk_alloc::{free_object, new_object};
@@ -54,9 +54,9 @@ fn access(caller: &mut Caller, op: Op) -> Result<Answer, Refusal>
     }
 }
 
-/// An operation on registers and globals, or an access.
+/// An operation that takes no turn: one on registers and globals, or an access. Which pointer was loaded isn't reported.
 #[inline(always)]
-fn call(caller: &mut Caller, op: Op) -> Result<Answer, Held>
+pub fn call(caller: &mut Caller, op: Op) -> Result<Answer, Held>
     requires home { caller.old.home ≡ true }
     requires entered { is_under_turn op ≡ false }
     requires admitted { Admits caller.old.pass op }
@@ -121,7 +121,7 @@ fn call_until_open<R: Wait>(rt: &R, caller: &mut Caller, op: Op) -> Answer
 /// Carries out an operation, and returns its answer; none where its gate is held. Which pointer was loaded isn't
 /// reported.
 #[inline(always)]
-fn answer_now<E: Engine, R: Threads + Wait + Sync>(
+pub fn answer_now<E: Engine, R: Threads + Wait + Sync>(
     rt: &R,
     caller: &mut Caller,
     bench: &mut Bench<E>,
@@ -130,12 +130,14 @@ fn answer_now<E: Engine, R: Threads + Wait + Sync>(
     requires home { caller.old.home ≡ true }
     requires exists { caller_of_pass caller.old.pass < caller.old.pass.table.config.callers }
     requires alone { caller.old.pass.seats ≡ caller.old.pass.seat ∷ [] }
-    requires admitted { IsAdmittedByOwnCalls caller.old.pass op }
+    requires admitted { Admits caller.old.pass op }
     requires made_for { E.made_for bench.old.engine ≡ caller.old.pass.table.config.pages }
     ensures home { caller.new.home ≡ true }
     ensures made_for { E.made_for bench.new.engine ≡ E.made_for bench.old.engine }
     ensures answers { IfOk result (λ told. Answers E.on caller.old.pass op told caller.new.pass) }
-    ensures held { OnErr result (IsHeldUp caller.old.pass op caller.new.pass) }
+    ensures called { IfOk result (λ told. is_under_turn op ≡ false → IsCalled caller.old.pass op told caller.new.pass) }
+    ensures beside { OnErr result (is_under_turn op ≡ false) }
+    ensures held { OnErr result (FindsGateHeld caller.old.pass op caller.new.pass) }
     ensures reached { E.sweeps ≡ false → SweepsNothing caller.old.pass caller.new.pass }
     ensures begun { EachIsBegun E.begins caller.old.pass caller.new.pass }
 {
@@ -175,6 +177,7 @@ pub fn answer_to<E: Engine, R: Threads + Wait + Sync>(
     ensures reached { E.sweeps ≡ false → SweepsNothing caller.old.pass caller.new.pass }
     ensures begun { EachIsBegun E.begins caller.old.pass caller.new.pass }
 {
+    caller.is_idle();
     match answer_now(rt, caller, bench, op) {
         Ok(told) => told,
         Err(_) => call_until_open(rt, caller, op),

@@ -17,7 +17,7 @@ mod runs;
 mod scripts;
 mod why;
 
-pub use answers::answer_to;
+pub use answers::{answer_now, answer_to, call};
 pub use marking::mark_until_over;
 pub use outcomes::Outcome;
 pub use paces::{NoPace, Pace};

@@ -75,6 +75,9 @@ held_stays m held before registers =
       freeing = λ e. let old = held.freeing (before.freeing e) in (old.0, registers 2 (omega arith) ∙ old.1);
     }
 
+pub same_before : (k : ℕ) (r : Role) → HeldBefore k r r
+same_before k r = record { pushing = λ e. e; freeing = λ e. e }
+
 module _ {callers : ℕ} {n : NeverState} {top : Option ℕ} {role : ℕ → Role} {nodes : List ℕ} {W : ℕ → Work}
     (inv : Inv callers n top role nodes W) (c : ℕ) where
   pub assemble : (m : NeverState) (top' : Option ℕ) (role' : ℕ → Role) (nodes' : List ℕ) (w : Work)
@@ -90,6 +93,26 @@ module _ {callers : ℕ} {n : NeverState} {top : Option ℕ} {role : ℕ → Rol
             (λ j other. held_stays m (inv.held j a) (before j a other) (leaves j other).registers) k;
       }
 
+  -- A step that changes no role
+  pub same_roles : (m : NeverState) (top' : Option ℕ) {s : Point} {u : Option Done} {o : Op} {next : Point}
+      {rest : List Replied} (u' : Option Done) (d : Option Ordered) → Core callers m top' role nodes
+      → ((k : ℕ) → k ≢ c → Leaves n top role m top' role k) → Local m top' role c next u'
+      → ((a : ℕ) → IsHeld m (role a) c a next) → IsLeft d (numbers_in n nodes) (numbers_in m nodes) → Decides c s u d u'
+      → ((a : ℕ) → freed_by a n c o ≡ 0) → Stepped callers n role nodes W c s u o next rest m
+  same_roles m top' {next} {rest} u' d core leaves local held left decides frees =
+      record {
+        top_now = top';
+        role_now = role;
+        nodes_now = nodes;
+        decided = u';
+        decision = d;
+        inv = assemble m top' role nodes (moved (W c) next u' rest) core leaves
+            (λ k a other. same_before k (role a)) local held;
+        left = left;
+        decides = decides;
+        frees = λ a. omega (arith, frees a);
+      }
+
 -- Where no role changes, nothing is freed,
 pub none_freed : (role : ℕ → Role) (a : ℕ) → bit (is_gone (role a)) ≡ bit (is_gone (role a)) + 0
 none_freed role a = sym (add-zero (bit (is_gone (role a))))
@@ -100,6 +123,3 @@ pub none_freed_there : (role : ℕ → Role) (b : ℕ) (r : Role) → is_gone r 
 none_freed_there role b r same =
     put_by (λ (a : ℕ) (x : Role). bit (is_gone x) ≡ bit (is_gone (role a)) + 0) role b r
     (ap bit same ∙ none_freed role b) (λ a other. none_freed role a)
-
-pub same_before : (k : ℕ) (r : Role) → HeldBefore k r r
-same_before k r = record { pushing = λ e. e; freeing = λ e. e }

@@ -40,8 +40,7 @@ module _ {callers : ℕ} {n : NeverState} {top : Option ℕ} {role : ℕ → Rol
   found_steps u rest local held =
       let a = length n.allocations in
       let m : NeverState = with_register (with_new n 1) c 0 (Ptr a 1 0) in
-      by_grant inv c 0 1 Base (omega arith) base_fits Founding u (Op.New 0 1 false) Placing
-      rest (
+      by_grant inv c 0 1 Base (omega arith) base_fits (
         local.0,
         local.1,
         record {
@@ -55,15 +54,15 @@ module _ {callers : ℕ} {n : NeverState} {top : Option ℕ} {role : ℕ → Rol
       )
       (put_held inv c exists m a Base Placing
       (record { pushing = λ e. absurd (base_private c e); freeing = λ e. absurd (base_taken c e) })
-      (idle inv c exists m Founding Placing (λ p. p) (λ f. f) held)) (λ b. refl)
+      (idle inv c exists held (λ p. p) (λ f. f))) (λ b. refl)
 
   pub place_steps : (u : Option Done) (rest : List Replied) → Local n top role c Placing u → Held Placing
       → Goal Placing u (Op.SetGlobal 0 0) Founded rest (after_op n c (Op.SetGlobal 0 0))
   place_steps u rest local held =
       let base : HasBase n role c = local.2 in
       subst (λ (v : Value). Goal Placing u (Op.SetGlobal 0 0) Founded rest (with_global n 0 v)) (sym base.register)
-      (by_global inv c local.0 base.t local.1 base.has base.word Placing u (Op.SetGlobal 0 0) Founded rest tt
-      (idle inv c exists (with_global n 0 (Ptr base.t 1 0)) Placing Founded (λ p. p) (λ f. f) held) (λ b. refl))
+      (by_global inv c local.0 base.t local.1 base.has base.word tt
+      (idle inv c exists held (λ p. p) (λ f. f)) (λ b. refl))
 
   -- A job begins.
 
@@ -74,29 +73,23 @@ module _ {callers : ℕ} {n : NeverState} {top : Option ℕ} {role : ℕ → Rol
       by : (x : Option ℕ) → top ≡ x → HasChain n x role nodes
           → Goal (Starting j) u (Op.GetGlobal 0 0) (Checking j) rest (with_register n c 0 (global_at n 0))
       by None is chain =
-          by_register inv c 0 (global_at n 0) (omega arith) (Starting j) u
-          (Op.GetGlobal 0 0) (Checking j) rest (Some (done_without j))
+          by_register inv c 0 (global_at n 0) (omega arith) (Some (done_without j))
           (Some (record { caller = c; job = j; done = done_without j }))
           (inl (register_set inv c exists 0 (global_at n 0) (omega arith) ∙ chain.0, refl))
-          (idle inv c exists (with_register n c 0 (global_at n 0)) (Starting j) (Checking j) (λ p. p) (λ f. f) held)
+          (idle inv c exists held (λ p. p) (λ f. f))
           (without_left inv c exists j (numbers_in n nodes) (ap (λ (l : List ℕ). numbers_in n l) chain.1))
           (undecided inv c exists (Starting j) u _ (done_without j) local (settles tt)) (λ b. refl)
       by (Some t) is chain =
-          by_register inv c 0 (global_at n 0) (omega arith) (Starting j) u (Op.GetGlobal 0 0) (Checking j) rest u None
-          (inr (
+          by_register inv c 0 (global_at n 0) (omega arith) u None (inr (
             local,
             record { t = t; is = is; register = register_set inv c exists 0 (global_at n 0) (omega arith) ∙ chain.0 },
-          ))
-          (idle inv c exists (with_register n c 0 (global_at n 0)) (Starting j)
-          (Checking j) (λ p. p) (λ f. f) held) refl nothing (λ b. refl)
+          )) (idle inv c exists held (λ p. p) (λ f. f)) refl nothing (λ b. refl)
 
   pub lack_steps : (j : Job) (u : Option Done) (rest : List Replied) → Local n top role c (Checking j) u
       → Held (Checking j) → reply_of n c (Op.IsNull 0) ≡ Reply.Num 1
       → Goal (Checking j) u (Op.IsNull 0) (Ended (done_without j)) rest n
   lack_steps j u rest local held said =
-      by_nothing inv c (Checking j) u (Op.IsNull 0) (Ended (done_without j)) rest u None
-      (by local) (idle inv c exists n (Checking j) (Ended (done_without j)) (λ p. p)
-      (λ f. f) held) refl nothing (λ b. refl)
+      by_nothing inv c u None (by local) (idle inv c exists held (λ p. p) (λ f. f)) refl nothing (λ b. refl)
     where
       by : ((register_at n c 0 ≡ Null) × (u ≡ Some (done_without j))) ⊎ ((u ≡ None) × HasTop n top c)
           → u ≡ Some (done_without j)
@@ -112,20 +105,19 @@ module _ {callers : ℕ} {n : NeverState} {top : Option ℕ} {role : ℕ → Rol
       → Held (Checking (Push x)) → reply_of n c (Op.IsNull 0) ≡ Reply.Num 0
       → Goal (Checking (Push x)) u (Op.IsNull 0) (Making x) rest n
   go_push_steps x u rest local held said =
-      by_nothing inv c (Checking (Push x)) u (Op.IsNull 0) (Making x) rest u None (has_top (Push x) u local said)
-      (idle inv c exists n (Checking (Push x)) (Making x) (λ p. p) (λ f. f) held) refl nothing (λ b. refl)
+      by_nothing inv c u None (has_top (Push x) u local said)
+      (idle inv c exists held (λ p. p) (λ f. f)) refl nothing (λ b. refl)
 
   pub go_pop_steps : (u : Option Done) (rest : List Replied) → Local n top role c (Checking Pop) u
       → Held (Checking Pop) → reply_of n c (Op.IsNull 0) ≡ Reply.Num 0
       → Goal (Checking Pop) u (Op.IsNull 0) Peeking rest n
   go_pop_steps u rest local held said =
-      by_nothing inv c (Checking Pop) u (Op.IsNull 0) Peeking rest u None (has_top Pop u local said)
-      (idle inv c exists n (Checking Pop) Peeking (λ p. p) (λ f. f) held) refl nothing (λ b. refl)
+      by_nothing inv c u None (has_top Pop u local said)
+      (idle inv c exists held (λ p. p) (λ f. f)) refl nothing (λ b. refl)
 
   -- A caller whose job has ended sets a register to null.
   pub clear_steps : (d : Done) (r : ℕ) → r < 8 → (u : Option Done) (rest : List Replied)
       → Local n top role c (Ended d) u → Held (Ended d)
       → Goal (Ended d) u (Op.Clear r) (Ended d) rest (after_op n c (Op.Clear r))
   clear_steps d r lt u rest local held =
-      by_register inv c r Null lt (Ended d) u (Op.Clear r) (Ended d) rest u None local
-      (idle inv c exists (with_register n c r Null) (Ended d) (Ended d) (λ p. p) (λ f. f) held) refl nothing (λ b. refl)
+      by_register inv c r Null lt u None local (idle inv c exists held (λ p. p) (λ f. f)) refl nothing (λ b. refl)

@@ -1,5 +1,5 @@
 -- All that happened on a stack: the founding, the jobs, the reading, and the end, with markers beside them.
-use Rattle.std.proofs.Common.{Err, IfOk, Ok, Result, ⊎_elim}
+use Rattle.std.proofs.{Common.Err, Common.IfOk, Common.Ok, Common.Result, Common.⊎_elim, lemmas.Result.IfOk-weaker}
 use Rattle.mk_stack.proofs.Vocabulary.{AreOfOthers, Caller, CallerState, Dones, Founded, Founding, GoesToPoint, Grows}
 use Rattle.mk_stack.proofs.Vocabulary.{Has, HasHandedOut, HasStackTypes, HaveDone, Host, HostState, IsHistory, Jobs}
 use Rattle.mk_stack.proofs.Vocabulary.{Joined, Leads, PassState, ReadsStack, Replied, Seat, WordsState, at_home}
@@ -31,9 +31,8 @@ both_ok P Q R (Err e) y f p q = tt
 
 still_ok : {V U : Type 0} (R S : V → U → Type 0) (x : Result V NoMemory) (y : Result U NoMemory)
     → ((v : V) (u : U) → R v u → S v u) → IfOk x (λ v. IfOk y (λ u. R v u)) → IfOk x (λ v. IfOk y (λ u. S v u))
-still_ok R S (Ok v) (Ok u) f r = f v u r
-still_ok R S (Ok v) (Err e) f r = tt
-still_ok R S (Err e) y f r = tt
+still_ok R S x y f =
+    IfOk-weaker x (λ v. IfOk y (R v)) (λ v. IfOk y (S v)) (λ v. IfOk-weaker y (R v) (S v) (f v))
 
 -- The jobs were done, the first caller read what is left, and the host said that all is over.
 module _ (w : WordsState) (markers : ℕ) (lists : List Jobs) (joined : Joined) (g i : HostState)

@@ -74,13 +74,10 @@ module _ {callers : ℕ} {n : NeverState} {top : Option ℕ} {role : ℕ → Rol
         registers = λ x lt. refl;
         same_top = λ x e. e;
         none = λ first e. e;
-        base = λ first e b h. absurd (none_some (sym e ∙ is));
+        base = λ first e b h. let some : None ≡ Some t = sym e ∙ is in absurd (cc);
         roles = λ b. roles_put role a r k (λ x. words_of m x ≡ words_of n x) (keeps_here k other)
             (λ x ne. keeps_there k x) b;
       }
-    where
-      none_some : None ≡ Some t → ⊥
-      none_some e = cc
 
   before : (k b : ℕ) → k ≢ c → HeldBefore k (role b) (now b)
   before k b other = by nodelike

@@ -114,11 +114,8 @@ module _ {callers : ℕ} {n : NeverState} {top : Option ℕ} {role : ℕ → Rol
             (λ e. absurd (freed_taken c e)) (λ z ne e. absurd (ne (same_node z ((held z).freeing e).1))) b;
       }
     where
-      same : (z b : ℕ) → Ptr z 0 0 ≡ Ptr b 0 0 → z ≡ b
-      same z b h = cc
-
       same_node : (z : ℕ) → register_at n c 2 ≡ Ptr z 0 0 → z ≡ a
-      same_node z e = same z a (sym e ∙ own.register)
+      same_node z e = let same : Ptr z 0 0 ≡ Ptr a 0 0 = sym e ∙ own.register in cc
 
   -- It is freed by this.
   pub by_free : (o : Op) (rest : List Replied) → freed_by a n c o ≡ 1 → ((b : ℕ) → b ≢ a → freed_by b n c o ≡ 0)

@@ -1,10 +1,10 @@
 -- Operations one after the other, from the point of a job where its caller was.
-use Rattle.mk_stack.proofs.Vocabulary.{Advances, CallerState, GoesToPoint, HasStackTypes, Leads, PassState, Point}
-use Rattle.mk_stack.proofs.Vocabulary.{Replied, Stays, caller_of_pass, replied_to}
+use Rattle.mk_stack.proofs.Vocabulary.{CallerState, GoesToPoint, HasStackTypes, Leads, PassState, Point, Replied}
+use Rattle.mk_stack.proofs.Vocabulary.{caller_of_pass, replied_to}
 use Rattle.mk_laws.proofs.Vocabulary.{List, ℕ, ap, append_assoc, refl, subst, sym, true, [], ◌++◌, ◌<◌, ◌∙◌, ◌∷◌, ◌≡◌}
 use Rattle.mk_cycle.specs.declared.bench.Bench.{Bench}
 use Rattle.mk_run.specs.Benches.{IsMadeFor}
-use Rattle.mk_stack.specs.Ready.{IsReady, IsReadyForJobs}
+use Rattle.mk_stack.{proofs.Advances.Advances, proofs.Replies.Stays, specs.Ready.IsReady, specs.Ready.IsReadyForJobs}
 
 pub leads_through : (s : Point) (xs : List Replied) (t : Point) (ys : List Replied) (u : Point) → Leads s xs t
     → Leads t ys u → Leads s (xs ++ ys) u
@@ -25,9 +25,9 @@ goes_through {p} {q} {r} {s} {t} {u} goes on =
           on.did ∙ ap (λ (l : List Replied). l ++ on.all) goes.did ∙ append_assoc (replied_to p) goes.all on.all;
     }
 
-pub goes_once : {p q : PassState} {s t : Point} → Advances p s q t → GoesToPoint p s q t
+goes_once : {p q : PassState} {s t : Point} → Advances p s q t → GoesToPoint p s q t
 goes_once {t} on =
-    record { is = on.is; all = record { op = on.op; reply = on.reply } ∷ []; leads = (t, on.asks, refl); did = on.did }
+    record { is = on.is; all = record { op = on.op; reply = on.reply } ∷ []; leads = (t, on.asked, refl); did = on.did }
 
 pub goes_more : {p q r : PassState} {s t u : Point} → GoesToPoint p s q t → Advances q t r u → GoesToPoint p s r u
 goes_more goes on = goes_through goes (goes_once on)

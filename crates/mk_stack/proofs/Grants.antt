@@ -105,10 +105,10 @@ module _ {callers : ℕ} {n : NeverState} {top : Option ℕ} {role : ℕ → Rol
         chain = grant_chain;
       }
 
-  pub by_grant : (s : Point) (u : Option Done) (o : Op) (next : Point) (rest : List Replied)
+  pub by_grant : {s : Point} {u : Option Done} {o : Op} {next : Point} {rest : List Replied}
       → Local m top now c next u → ((b : ℕ) → IsHeld m (now b) c b next) → ((b : ℕ) → freed_by b n c o ≡ 0)
       → Stepped callers n role nodes W c s u o next rest m
-  by_grant s u o next rest local held frees =
+  by_grant {u} {next} {rest} local held frees =
       record {
         top_now = top;
         role_now = now;

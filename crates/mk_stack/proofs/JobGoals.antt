@@ -1,7 +1,7 @@
 -- Where operations lead: from points of a job to points of that job.
 use Rattle.mk_stack.proofs.Vocabulary.{Asks, Done, Empty, Ended, Founded, Founding, Full, Job, Leads, NeverState, Op}
 use Rattle.mk_stack.proofs.Vocabulary.{Placing, Point, Pop, Popped, Push, Pushed, Replied, Reply, Starting}
-use Rattle.mk_stack.proofs.Vocabulary.{done_without, fail, find_no_room, found, lack, miss, place, publish, read}
+use Rattle.mk_stack.proofs.Vocabulary.{done_without, fail, find_no_room, found, lack, miss, op_at, place, publish, read}
 use Rattle.mk_laws.proofs.Vocabulary.{List, None, Option, Some, ℕ, refl, subst, sym, [], ◌∙◌, ◌∷◌, ◌≡◌}
 use Rattle.mk_stack.proofs.Invariant.{IsFreeing, IsPushing, Local}
 use Rattle.mk_stack.proofs.{Assembly.IsOfJob, Assembly.job_at, Roles.Role}
@@ -16,6 +16,12 @@ pub goal_frees_nothing : (g : Point) → IsGoal g → IsFreeing g → ⊥
 goal_frees_nothing Founded h p = p
 goal_frees_nothing (Ended d) h p = p
 goal_frees_nothing _ h p = absurd h
+
+-- Where nothing is asked any more
+pub is_goal : (t : Point) → ((o : Op) → op_at t ≡ Some o → ⊥) → IsGoal t
+is_goal Founded none = tt
+is_goal (Ended d) none = tt
+is_goal _ none = absurd (none _ refl)
 
 job_goes_on : {s : Point} {o : Op} {r : Reply} {next : Point} → Asks s o r next → IsOfJob s → IsOfJob next
 job_goes_on found h = absurd h
@@ -102,10 +108,10 @@ founding_ends xs (Ended d) goal leads = absurd (leads_founding Founding xs (Ende
 founding_ends xs _ goal leads = absurd goal
 
 pub fit_as : {j : Job} {t : Point} (d : Done) → EndsAs j t → t ≡ Ended d → IsFit j d
-fit_as {j} d ends is = subst (IsFit j) (same (sym ends.is ∙ is)) ends.fit
-  where
-    same : Ended ends.done ≡ Ended d → ends.done ≡ d
-    same e = cc
+fit_as {j} d ends is =
+    let same : Ended ends.done ≡ Ended d = sym ends.is ∙ is in
+    let done : ends.done ≡ d = cc in
+    subst (IsFit j) done ends.fit
 
 -- A push that isn't done was full, and a pop without a number found nothing.
 

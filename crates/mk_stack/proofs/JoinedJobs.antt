@@ -1,20 +1,19 @@
 -- Callers that did their jobs, as the host joins them.
 use Rattle.std.proofs.Common.{Err, IfOk, IsOk, Ok, OnOk, Result, slice_get, ⊎_elim}
 use Rattle.std.proofs.{lemmas.List.drop_more, lemmas.Option.slice_get-get_or}
-use Rattle.mk_stack.proofs.Vocabulary.{Caller, CallerState, Config, Decided, DoesJobs, Done, Dones, Event, Grows, Has}
+use Rattle.mk_stack.proofs.Vocabulary.{Caller, CallerState, Config, DoesJobs, Done, Dones, Event, Grows, Has}
 use Rattle.mk_stack.proofs.Vocabulary.{HasHandedOut, HasStackTypes, HaveDone, HaveWorked, Host, HostState, Job, Jobs}
-use Rattle.mk_stack.proofs.Vocabulary.{Joined, PassState, Replied, Seat, WordsState, after_calls, all_of, asked}
-use Rattle.mk_stack.proofs.Vocabulary.{at_home, caller_of_pass, calls, left, never_first, own_replied, pass_for}
-use Rattle.mk_stack.proofs.Vocabulary.{replied_in, replied_to, with_joined}
-use Rattle.mk_laws.proofs.Vocabulary.{List, Some, ℕ, ap, append-nil, arith, cases_eq, drop, get_or, inl, inr, length}
-use Rattle.mk_laws.proofs.Vocabulary.{refl, subst, sym, true, [], ◌++◌, ◌+◌, ◌<◌, ◌∙◌, ◌∷◌, ◌≡◌, ◌≢◌, ◌≤◌, ◌⊎◌}
+use Rattle.mk_stack.proofs.Vocabulary.{Joined, PassState, Replied, Seat, WordsState, all_of, at_home, caller_of_pass}
+use Rattle.mk_stack.proofs.Vocabulary.{pass_for, replied_in, replied_to, with_joined}
+use Rattle.mk_laws.proofs.Vocabulary.{List, Some, ℕ, ap, arith, cases_eq, drop, get_or, inl, inr, length, refl, subst}
+use Rattle.mk_laws.proofs.Vocabulary.{sym, true, [], ◌++◌, ◌+◌, ◌<◌, ◌∙◌, ◌∷◌, ◌≡◌, ◌≢◌, ◌≤◌, ◌⊎◌}
 use Rattle.mk_never.specs.declared.never_heap.NoMemory.{NoMemory}
-use Rattle.mk_core.{proofs.HistoryParts.calls_in_parts, specs.History.calls_from}
+use Rattle.mk_core.specs.History.{calls_from}
 use Rattle.mk_caller.specs.States.{IsIdleCaller}
 use Rattle.mk_cycle.specs.declared.bench.Bench.{Bench}
 use Rattle.mk_heap.specs.Hosts.{with_caller_made}
 use Rattle.mk_run.specs.Benches.{IsMadeFor}
-use Rattle.mk_stack.proofs.{OwnCalls.none_of, Replies.asked_in_two, Replies.none_replied, Replies.own_in_parts}
+use Rattle.mk_stack.proofs.{OwnCalls.none_of, Replies.same_replied}
 use Rattle.mk_stack.specs.Joining.{HasWorked, IsBetweenJobs}
 use Rattle.mk_stack.specs.{JobLists.HasDone, Ready.IsReadyForJobs, declared.joining.Worked.Worked}
 use Rattle.mk_words.proofs.Seats.{has_first, has_left, has_right, others_own, without_keeps}
@@ -25,14 +24,7 @@ use Rattle.mk_words.specs.Seats.{has_over}
 pub still_replied : (c : Config) (k : ℕ) {es fs : List Event} → Grows (Caller k ∷ []) es fs
     → replied_in c k fs ≡ replied_in c k es
 still_replied c k {es} g =
-    let n = never_first c in
-    let xs = calls c es in
-    let later = calls_from c (left c es) g.more in
-    ap (replied_in c k) g.is ∙ ap (λ (l : List Decided). own_replied k n (asked l)) (calls_in_parts c es g.more)
-    ∙ ap (λ l. own_replied k n l) (asked_in_two xs later) ∙ own_in_parts k n (asked xs) (asked later)
-    ∙ ap (λ (l : List Replied). own_replied k n (asked xs) ++ l)
-    (none_replied k (after_calls n (asked xs)) later (none_of c k es g.more g.of_others))
-    ∙ append-nil (own_replied k n (asked xs))
+    ap (replied_in c k) g.is ∙ same_replied c k es g.more (none_of c k es g.more g.of_others)
 
 still_done : {c : Config} {es fs : List Event} {first : List Replied} {k : ℕ} {jobs : List Job} {dones : List Done}
     → Grows (Caller k ∷ []) es fs → HasDone c es first k jobs dones → HasDone c fs first k jobs dones

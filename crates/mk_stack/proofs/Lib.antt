@@ -23,10 +23,9 @@ pub mod Running
 pub mod Linearizable
 pub mod Replies
 pub mod NodeKinds
-pub mod ReplyForms
 pub mod AtPoints
+pub mod PointSteps
 pub mod Advances
-pub mod RefusedAccesses
 pub mod Going
 pub mod StackHistories
 pub mod JobLists

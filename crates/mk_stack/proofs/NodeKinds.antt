@@ -1,12 +1,11 @@
 -- What the registers and words of a stack's heap point to, and what its callers may ask.
 use Rattle.std.proofs.Common.{IfSome, slice_get, zero-add}
-use Rattle.mk_stack.proofs.Vocabulary.{IsPointerTo, IsTyped, Kind, MayPointTo, NeverState, Null, Num, Number, Op, Ptr}
-use Rattle.mk_stack.proofs.Vocabulary.{To, Value, WordOf, allocation_at, global_at, kinds_of, node_kinds, register_at}
+use Rattle.mk_stack.proofs.Vocabulary.{IsPointerTo, IsTyped, Kind, MayPointTo, NeverState, Null, Num, Number, Ptr, To}
+use Rattle.mk_stack.proofs.Vocabulary.{Value, WordOf, allocation_at, global_at, kinds_of, node_kinds, register_at}
 use Rattle.mk_stack.proofs.Vocabulary.{target_of, top_kinds, word_at, words_of}
-use Rattle.mk_laws.proofs.Vocabulary.{AccessIsAdmitted, IsAdmitted, IsNumber, IsPointer, IsSound, List, Meets, Option}
-use Rattle.mk_laws.proofs.Vocabulary.{Some, Suits, ℕ, ap, arith, get_or, length, refl, subst, sym, ◌*◌, ◌+◌, ◌<◌, ◌∙◌}
-use Rattle.mk_laws.proofs.Vocabulary.{◌≡◌, ◌≤◌}
-use Rattle.mk_never.specs.Admitted.{IsCaller, IsOfKind, OperandsAreInRange, StoreIsAdmitted}
+use Rattle.mk_laws.proofs.Vocabulary.{IsSound, List, Meets, Option, Some, Suits, ℕ, ap, arith, get_or, length, refl}
+use Rattle.mk_laws.proofs.Vocabulary.{subst, sym, ◌*◌, ◌+◌, ◌<◌, ◌∙◌, ◌≡◌, ◌≤◌}
+use Rattle.mk_never.specs.Admitted.{IsCaller, IsOfKind}
 use Rattle.mk_stack.proofs.Heaps.{reaches}
 
 -- a state of such a heap, and one of its callers
@@ -68,61 +67,6 @@ module _ {globals : List ℕ} {n : NeverState} {k : ℕ} (state : IsStackState g
   global_kind =
       let P : Option ℕ → Type 0 = λ x. IfSome x (λ ty. IsOfKind (global_at n 0) (To ty 0)) in
       subst P state.global (state.typed.listed 0)
-
-  -- What may be asked
-
-  admitted : (o : Op) → OperandsAreInRange n o → AccessIsAdmitted n k o → StoreIsAdmitted globals n k o
-      → IsAdmitted globals n k o
-  admitted o range access store =
-      record { of_a_caller = state.caller; in_range = range; access = access; store = store }
-
-  pub may_load_global : IsAdmitted globals n k (Op.GetGlobal 0 0)
-  may_load_global = admitted (Op.GetGlobal 0 0) (omega arith, omega (arith, state.count)) tt tt
-
-  pub may_clear : (r : ℕ) → r < 8 → IsAdmitted globals n k (Op.Clear r)
-  may_clear r lt = admitted (Op.Clear r) lt tt tt
-
-  pub may_look : (r : ℕ) → r < 8 → IsAdmitted globals n k (Op.IsNull r)
-  may_look r lt = admitted (Op.IsNull r) lt tt tt
-
-  pub may_place : IsPointerTo 1 (register_at n k 0) → IsAdmitted globals n k (Op.SetGlobal 0 0)
-  may_place h =
-      let P : Option ℕ → Type 0 = λ x. IfSome x (λ ty. IsOfKind (register_at n k 0) (To ty 0)) in
-      admitted (Op.SetGlobal 0 0) (omega (arith, state.count), omega arith) tt
-      (subst P (sym state.global) (subst (λ (v : Value). IsOfKind v (To 1 0)) (sym h.is) (refl, refl)))
-
-  pub may_fill : (x : ℕ) → IsPointerTo 0 (register_at n k 1) → IsAdmitted globals n k (Op.SetNum 1 0 x)
-  may_fill x h =
-      admitted (Op.SetNum 1 0 x) (omega arith) (meets IsNumber 0 1 0 node_kinds state.node h (omega arith) refl) tt
-
-  pub may_load_top : IsPointerTo 1 (register_at n k 0) → IsAdmitted globals n k (Op.GetPtr 2 0 0)
-  may_load_top h =
-      admitted (Op.GetPtr 2 0 0) (omega arith, omega arith)
-      (meets IsPointer 1 0 0 top_kinds state.top h (omega arith) refl) tt
-
-  pub may_link : IsPointerTo 0 (register_at n k 1) → MayPointTo 0 (register_at n k 2)
-      → IsAdmitted globals n k (Op.SetPtr 1 1 2)
-  may_link h link =
-      admitted (Op.SetPtr 1 1 2) (omega arith, omega arith)
-      (meets IsPointer 0 1 1 node_kinds state.node h (omega arith) refl)
-      (meets (IsOfKind (register_at n k 2)) 0 1 1 node_kinds state.node h (omega arith) link)
-
-  pub may_exchange : (r : ℕ) → r < 8 → IsPointerTo 1 (register_at n k 0) → MayPointTo 0 (register_at n k 2)
-      → MayPointTo 0 (register_at n k r) → IsAdmitted globals n k (Op.CasPtr 0 0 2 r)
-  may_exchange r lt h was now =
-      admitted (Op.CasPtr 0 0 2 r) (omega arith, omega arith, lt)
-      (meets IsPointer 1 0 0 top_kinds state.top h (omega arith) refl)
-      (meets (λ (kind : Kind). IsOfKind (register_at n k 2) kind × IsOfKind (register_at n k r) kind) 1 0 0 top_kinds
-      state.top h (omega arith) (was, now))
-
-  -- a load of a node's link, into any register
-  pub may_follow : (d : ℕ) → d < 8 → IsPointerTo 0 (register_at n k 2) → IsAdmitted globals n k (Op.GetPtr d 2 1)
-  may_follow d lt h =
-      admitted (Op.GetPtr d 2 1) (lt, omega arith) (meets IsPointer 0 2 1 node_kinds state.node h (omega arith) refl) tt
-
-  pub may_read : IsPointerTo 0 (register_at n k 2) → IsAdmitted globals n k (Op.GetNum 2 0)
-  may_read h =
-      admitted (Op.GetNum 2 0) (omega arith) (meets IsNumber 0 2 0 node_kinds state.node h (omega arith) refl) tt
 
 pub may_point : {ty : ℕ} {v : Value} → IsPointerTo ty v → MayPointTo ty v
 may_point {ty} h = subst (λ (x : Value). IsOfKind x (To ty 0)) (sym h.is) (refl, refl)

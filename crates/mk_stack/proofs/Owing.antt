@@ -78,22 +78,14 @@ settled n top role k s u _ goal is local = absurd goal
 -- A job has an operation.
 pub begins : (r : JobRun) → IsJobRun r → r.all ≡ [] → ⊥
 begins r run none =
-    let same : Starting r.job ≡ Ended r.done = subst (λ (xs : List Replied). Leads (Starting r.job) xs
-    (Ended r.done)) none run in starts same
-  where
-    starts : Starting r.job ≡ Ended r.done → ⊥
-    starts e = cc
+    let same : Starting r.job ≡ Ended r.done =
+    subst (λ (xs : List Replied). Leads (Starting r.job) xs (Ended r.done)) none run in
+    cc
 
 pub nothing_left : (xs ys : List Replied) → [] ≡ xs ++ ys → (xs ≡ []) × (ys ≡ [])
 nothing_left [] [] e = (refl, refl)
-nothing_left [] (y ∷ ys) e = absurd (cons_is_not_nil y ys e)
-  where
-    cons_is_not_nil : (y : Replied) (ys : List Replied) → [] ≡ y ∷ ys → ⊥
-    cons_is_not_nil y ys e = cc
-nothing_left (x ∷ xs) ys e = absurd (cons_is_not_nil x (xs ++ ys) e)
-  where
-    cons_is_not_nil : (y : Replied) (ys : List Replied) → [] ≡ y ∷ ys → ⊥
-    cons_is_not_nil y ys e = cc
+nothing_left [] (y ∷ ys) e = absurd (cc)
+nothing_left (x ∷ xs) ys e = let same : [] ≡ x ∷ (xs ++ ys) = e in absurd (cc)
 
 pub no_jobs_left : (rs : List JobRun) → AreJobRuns rs → all_of rs ≡ [] → rs ≡ []
 no_jobs_left [] runs e = refl
@@ -184,10 +176,6 @@ pub record IsOnceMore (c : ℕ) (s : Point) (u : Option Done) (d : Option Ordere
     (Option Ordered)) : Type 0 where
   pub agrees : Agrees u g
   pub first : order_of (d ∷ ds) ≡ owed c s u g
-
-pub agrees_none : (g : Point) → Agrees None g
-agrees_none (Ended d) = tt
-agrees_none _ = tt
 
 pub once_more : (c : ℕ) (s next : Point) (u : Option Done) (d : Option Ordered) (u' : Option Done) (g : Point)
     (ds : List (Option Ordered)) → Decides c s u d u' → (u' ≡ None → job_at next ≡ job_at s)

@@ -7,15 +7,20 @@ use Rattle.mk_laws.proofs.Vocabulary.{refl, sym, true, [], ◌++◌, ◌<◌, �
 use Rattle.mk_core.proofs.HistoryParts.{calls_in_parts}
 use Rattle.mk_caller.proofs.OwnSteps.{by_append, calls_by, others_add_none}
 
--- Events of others decide no call of a caller.
-pub none_of : (c : Config) (k : ℕ) (es more : List Event) → AreOfOthers (Caller k ∷ []) more
+-- Events that add none to a caller's calls decide none of them.
+pub none_since : (c : Config) (k : ℕ) (es more : List Event) → calls_by k (calls c (es ++ more)) ≡ calls_by k (calls c es)
     → calls_by k (calls_from c (left c es) more) ≡ []
-none_of c k es more others =
+none_since c k es more same =
     let xs = calls c es in
     let later = calls_from c (left c es) more in
     append_cancel_left (calls_by k xs) (calls_by k later) []
-    (sym (by_append k xs later) ∙ ap (calls_by k) (sym (calls_in_parts c es more)) ∙ others_add_none c k es more others
+    (sym (by_append k xs later) ∙ ap (calls_by k) (sym (calls_in_parts c es more)) ∙ same
     ∙ sym (append-nil (calls_by k xs)))
+
+-- So do events of others.
+pub none_of : (c : Config) (k : ℕ) (es more : List Event) → AreOfOthers (Caller k ∷ []) more
+    → calls_by k (calls_from c (left c es) more) ≡ []
+none_of c k es more others = none_since c k es more (others_add_none c k es more others)
 
 cons_is_not_nil : (x : Decided) (xs : List Decided) → x ∷ xs ≡ [] → ⊥
 cons_is_not_nil x xs e = cc

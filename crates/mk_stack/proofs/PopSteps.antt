@@ -39,17 +39,14 @@ module _ {callers : ℕ} {n : NeverState} {top : Option ℕ} {role : ℕ → Rol
       by : (l : List ℕ) → nodes ≡ l → IsChain n role (word_at n local.1.t 0) l
           → Goal Peeking u (Op.GetPtr 2 0 0) Testing rest (with_register n c 2 (word_at n local.1.t 0))
       by [] e chain =
-          by_register inv c 2 (word_at n local.1.t 0) (omega arith) Peeking u
-          (Op.GetPtr 2 0 0) Testing rest (Some Empty) (Some (record { caller = c; job = Pop; done = Empty })) (
+          by_register inv c 2 (word_at n local.1.t 0) (omega arith) (Some Empty) (Some (record { caller = c; job = Pop; done = Empty })) (
             keeps_top inv c exists (with_register n c 2 (word_at n local.1.t 0))
                 (other_register n c 2 0 (word_at n local.1.t 0) (omega arith)) local.1,
             inl (register_set inv c exists 2 (word_at n local.1.t 0) (omega arith) ∙ chain, refl),
-          ) (idle inv c exists (with_register n c 2 (word_at n local.1.t 0)) Peeking Testing (λ p. p) (λ f. f) held)
-          (empty_left (numbers_in n nodes) (ap (numbers_in n) e))
+          ) (idle inv c exists held (λ p. p) (λ f. f)) (empty_left (numbers_in n nodes) (ap (numbers_in n) e))
           (undecided inv c exists Peeking u _ Empty local.0 (settles tt)) (λ b. refl)
       by (a ∷ l) e chain =
-          by_register inv c 2 (word_at n local.1.t 0) (omega arith) Peeking u
-          (Op.GetPtr 2 0 0) Testing rest u None (
+          by_register inv c 2 (word_at n local.1.t 0) (omega arith) u None (
             keeps_top inv c exists (with_register n c 2 (word_at n local.1.t 0))
                 (other_register n c 2 0 (word_at n local.1.t 0) (omega arith)) local.1,
             inr (
@@ -60,9 +57,7 @@ module _ {callers : ℕ} {n : NeverState} {top : Option ℕ} {role : ℕ → Rol
                 has = subst IsPublished (sym chain.1) tt;
               },
             ),
-          )
-          (idle inv c exists (with_register n c 2
-          (word_at n local.1.t 0)) Peeking Testing (λ p. p) (λ f. f) held) refl nothing (λ b. refl)
+          ) (idle inv c exists held (λ p. p) (λ f. f)) refl nothing (λ b. refl)
 
   pub missed : (u : Option Done) → ((register_at n c 2 ≡ Null) × (u ≡ Some Empty)) ⊎ ((u ≡ None) × HasSeen n role c)
       → reply_of n c (Op.IsNull 2) ≡ Reply.Num 1 → u ≡ Some Empty
@@ -77,16 +72,15 @@ module _ {callers : ℕ} {n : NeverState} {top : Option ℕ} {role : ℕ → Rol
   pub miss_steps : (u : Option Done) (rest : List Replied) → Local n top role c Testing u → Held Testing
       → reply_of n c (Op.IsNull 2) ≡ Reply.Num 1 → Goal Testing u (Op.IsNull 2) (Ended Empty) rest n
   miss_steps u rest local held said =
-      by_nothing inv c Testing u (Op.IsNull 2) (Ended Empty) rest u None
-      (missed u local.1 said) (idle inv c exists n Testing (Ended Empty) (λ p. p)
-      (λ f. f) held) refl nothing (λ b. refl)
+      by_nothing inv c u None
+      (missed u local.1 said) (idle inv c exists held (λ p. p) (λ f. f)) refl nothing (λ b. refl)
 
   pub meet_steps : (u : Option Done) (rest : List Replied) → Local n top role c Testing u → Held Testing
       → reply_of n c (Op.IsNull 2) ≡ Reply.Num 0 → Goal Testing u (Op.IsNull 2) Following rest n
   meet_steps u rest local held said =
       let seen = met u local.1 said in
-      by_nothing inv c Testing u (Op.IsNull 2) Following rest u None (seen.0, local.0, seen.1)
-      (idle inv c exists n Testing Following (λ p. p) (λ f. f) held) refl nothing (λ b. refl)
+      by_nothing inv c u None (seen.0, local.0, seen.1)
+      (idle inv c exists held (λ p. p) (λ f. f)) refl nothing (λ b. refl)
 
   pub follow_steps : (u : Option Done) (rest : List Replied) → Local n top role c Following u → Held Following
       → Goal Following u (Op.GetPtr 3 2 1) Taking rest (after_op n c (Op.GetPtr 3 2 1))
@@ -96,9 +90,7 @@ module _ {callers : ℕ} {n : NeverState} {top : Option ℕ} {role : ℕ → Rol
       let m : NeverState = with_register n c 3 v in
       subst (Goal Following u (Op.GetPtr 3 2 1) Taking rest)
       (sym (ap (λ (t : Target). left_at t (with_register n c 3 Null) (λ a w. with_register n c 3 (word_at n a w)))
-      (gets inv c exists 2 seen.a 0 1 seen.register)))
-      (by_register inv c 3 v (omega arith) Following u
-      (Op.GetPtr 3 2 1) Taking rest u None (
+      (gets inv c exists 2 seen.a 0 1 seen.register))) (by_register inv c 3 v (omega arith) u None (
         local.0,
         keeps_top inv c exists m (other_register n c 3 0 v (omega arith)) local.1,
         record {
@@ -107,7 +99,7 @@ module _ {callers : ℕ} {n : NeverState} {top : Option ℕ} {role : ℕ → Rol
           has = seen.has;
           next = register_set inv c exists 3 v (omega arith);
         },
-      ) (idle inv c exists m Following Taking (λ p. p) (λ f. f) held) refl nothing (λ b. refl))
+      ) (idle inv c exists held (λ p. p) (λ f. f)) refl nothing (λ b. refl))
 
   pub unlink_steps : (u : Option Done) (rest : List Replied) → Local n top role c Taking u → Held Taking
       → reply_of n c (Op.CasPtr 0 0 2 3) ≡ Reply.Num 1
@@ -139,8 +131,7 @@ module _ {callers : ℕ} {n : NeverState} {top : Option ℕ} {role : ℕ → Rol
       → Goal Taking u (Op.CasPtr 0 0 2 3) Peeking rest (after_op n c (Op.CasPtr 0 0 2 3))
   pop_again_steps u rest local held said =
       subst (Goal Taking u (Op.CasPtr 0 0 2 3) Peeking rest) (sym (leaves_all inv c exists local.1 3 said))
-      (by_nothing inv c Taking u (Op.CasPtr 0 0 2 3) Peeking rest u None
-      (local.0, local.1) (idle inv c exists n Taking Peeking (λ p. p) (λ f. f) held) refl nothing (λ b. refl))
+      (by_nothing inv c u None (local.0, local.1) (idle inv c exists held (λ p. p) (λ f. f)) refl nothing (λ b. refl))
 
   -- The Free of a node that was taken is done: no one else frees it.
   module _ (u : Option Done) (own : HasTaken n role c u) where
@@ -174,6 +165,5 @@ module _ {callers : ℕ} {n : NeverState} {top : Option ℕ} {role : ℕ → Rol
       num_is _ x
       (sym (ap (λ (t : Target). reply_at t (λ a w. Reply.Num (number_of (word_at n a w))))
       (gets inv c exists 2 local.a 0 0 local.register)) ∙ said) in
-      by_nothing inv c Reading u (Op.GetNum 2 0) (Ended (Popped x)) rest u None
-      (local.owes ∙ ap (λ (y : ℕ). Some (Popped y)) number)
-      (idle inv c exists n Reading (Ended (Popped x)) (λ p. p) (λ f. f) held) refl nothing (λ b. refl)
+      by_nothing inv c u None (local.owes ∙ ap (λ (y : ℕ). Some (Popped y)) number)
+      (idle inv c exists held (λ p. p) (λ f. f)) refl nothing (λ b. refl)

@@ -44,22 +44,20 @@ module _ {callers : ℕ} {n : NeverState} {top : Option ℕ} {role : ℕ → Rol
       let m : NeverState = with_register (with_new n 0) c 1 (Ptr a 0 0) in
       let set : register_at m c 1 ≡ Ptr a 0 0 = set_register (with_new n 0) c 1 (Ptr a 0 0)
       (there inv c exists 1 (omega arith)) in
-      by_grant inv c 1 0 (Private c) (omega arith) node_fits (Making x) u
-      (Op.New 1 0 false) (Filling x) rest (
+      by_grant inv c 1 0 (Private c) (omega arith) node_fits (
         local.0,
         keeps_top inv c exists m (other_register (with_new n 0) c 1 0 (Ptr a 0 0) (omega arith)) local.1,
         record { a = a; register = set; has = put_same role a (Private c) },
       )
       (put_held inv c exists m a (Private c) (Filling x)
       (record { pushing = λ e. (tt, set); freeing = λ e. absurd (private_taken c c e) })
-      (idle inv c exists m (Making x) (Filling x) (λ p. p) (λ f. f) held)) (λ b. refl)
+      (idle inv c exists held (λ p. p) (λ f. f))) (λ b. refl)
 
   pub fail_steps : (x : ℕ) (u : Option Done) (rest : List Replied) → Local n top role c (Making x) u → Held (Making x)
       → Goal (Making x) u (Op.New 1 0 true) (Ended Full) rest n
   fail_steps x u rest local held =
-      by_nothing inv c (Making x) u (Op.New 1 0 true) (Ended Full) rest (Some Full)
-      (Some (record { caller = c; job = Push x; done = Full })) refl
-      (idle inv c exists n (Making x) (Ended Full) (λ p. p) (λ f. f) held) refl
+      by_nothing inv c (Some Full) (Some (record { caller = c; job = Push x; done = Full })) refl
+      (idle inv c exists held (λ p. p) (λ f. f)) refl
       (undecided inv c exists (Making x) u _ Full local.0 (settles tt)) (λ b. refl)
 
   -- a node of the caller's own was granted, and has two words
@@ -81,9 +79,7 @@ module _ {callers : ℕ} {n : NeverState} {top : Option ℕ} {role : ℕ → Rol
       let m : NeverState = with_word n own.a 0 (Num x) in
       subst (Goal (Filling x) u (Op.SetNum 1 0 x) (Looking x) rest)
       (sym (ap (λ (t : Target). left_at t n (λ a w. with_word n a w (Num x)))
-      (gets inv c exists 1 own.a 0 0 own.register)))
-      (by_write inv c own.a 0 (Num x) own.has (Filling x) u (Op.SetNum 1 0 x) (Looking x)
-      rest (
+      (gets inv c exists 1 own.a 0 0 own.register))) (by_write inv c own.a 0 (Num x) own.has (
         local.0,
         keeps_top inv c exists m refl local.1,
         record {
@@ -104,9 +100,7 @@ module _ {callers : ℕ} {n : NeverState} {top : Option ℕ} {role : ℕ → Rol
       let m : NeverState = with_register n c 2 v in
       subst (Goal (Looking x) u (Op.GetPtr 2 0 0) (Linking x) rest)
       (sym (ap (λ (t : Target). left_at t (with_register n c 2 Null) (λ a w. with_register n c 2 (word_at n a w)))
-      (gets inv c exists 0 h.t 1 0 h.register)))
-      (by_register inv c 2 v (omega arith) (Looking x) u (Op.GetPtr 2 0 0) (Linking x) rest
-      u None (
+      (gets inv c exists 0 h.t 1 0 h.register))) (by_register inv c 2 v (omega arith) u None (
         local.0,
         keeps_top inv c exists m (other_register n c 2 0 v (omega arith)) h,
         record {
@@ -126,9 +120,7 @@ module _ {callers : ℕ} {n : NeverState} {top : Option ℕ} {role : ℕ → Rol
       let m : NeverState = with_word n own.a 1 v in
       subst (Goal (Linking x) u (Op.SetPtr 1 1 2) (Publishing x) rest)
       (sym (ap (λ (t : Target). left_at t n (λ a w. with_word n a w (register_at n c 2)))
-      (gets inv c exists 1 own.a 0 1 own.register)))
-      (by_write inv c own.a 1 v own.has (Linking x) u (Op.SetPtr 1 1 2) (Publishing x)
-      rest (
+      (gets inv c exists 1 own.a 0 1 own.register))) (by_write inv c own.a 1 v own.has (
         local.0,
         keeps_top inv c exists m refl local.1,
         record {
@@ -159,6 +151,6 @@ module _ {callers : ℕ} {n : NeverState} {top : Option ℕ} {role : ℕ → Rol
   push_again_steps x u rest local held said =
       let own : HasLinked n role c x = local.2 in
       subst (Goal (Publishing x) u (Op.CasPtr 0 0 2 1) (Looking x) rest) (sym (leaves_all inv c exists local.1 1 said))
-      (by_nothing inv c (Publishing x) u (Op.CasPtr 0 0 2 1) (Looking x) rest u None
+      (by_nothing inv c u None
       (local.0, local.1, record { a = own.a; register = own.register; has = own.has; number = own.number })
       (on_push n (Publishing x) (Looking x) tt (λ f. f) refl held) refl nothing (λ b. refl))

@@ -81,10 +81,7 @@ module _ {callers : ℕ} {n : NeverState} {top : Option ℕ} {role : ℕ → Rol
       }
     where
       same_node : (y : ℕ) → register_at n c 1 ≡ Ptr y 0 0 → y ≡ a
-      same_node y e = same (sym e ∙ own.register)
-        where
-          same : Ptr y 0 0 ≡ Ptr own.a 0 0 → y ≡ own.a
-          same h = cc
+      same_node y e = let same : Ptr y 0 0 ≡ Ptr own.a 0 0 = sym e ∙ own.register in cc
 
   pub by_push : (o : Op) (rest : List Replied) → ((b : ℕ) → freed_by b n c o ≡ 0)
       → Stepped callers n role nodes W c (Publishing x) None o (Ended Pushed) rest m

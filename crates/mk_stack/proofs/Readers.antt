@@ -1,15 +1,14 @@
 -- The first caller reads what is left on the stack, when all callers are joined, and is joined again.
 use Rattle.std.proofs.{Common.⊎_elim, lemmas.List.append_cancel_left}
-use Rattle.mk_stack.proofs.Vocabulary.{AreAllBy, AreBelow, Caller, CallerState, Config, Decided, Event, Grows, Has}
-use Rattle.mk_stack.proofs.Vocabulary.{HasWalked, Host, HostState, IsHistory, PassState, ReadsStack, Seat, WordsState}
-use Rattle.mk_stack.proofs.Vocabulary.{asked, at_home, caller_of_pass, calls, calls_from, left, never_behind}
-use Rattle.mk_stack.proofs.Vocabulary.{never_first, own_replied, pass_for, replied_in, with_joined}
+use Rattle.mk_stack.proofs.Vocabulary.{AreAllBy, AreBelow, Caller, CallerState, Config, Decided, Grows, Has, HasWalked}
+use Rattle.mk_stack.proofs.Vocabulary.{Host, HostState, IsHistory, PassState, ReadsStack, Seat, WordsState, asked}
+use Rattle.mk_stack.proofs.Vocabulary.{at_home, caller_of_pass, calls, calls_from, left, never_behind, never_first}
+use Rattle.mk_stack.proofs.Vocabulary.{own_replied, pass_for, replied_in, with_joined}
 use Rattle.mk_laws.proofs.Vocabulary.{List, ℕ, ap, cases_eq, ne_eqb, refl, subst, sym, [], ◌++◌, ◌<◌, ◌∙◌, ◌∷◌, ◌≡◌}
 use Rattle.mk_laws.proofs.Vocabulary.{◌≢◌}
-use Rattle.mk_core.proofs.HistoryParts.{calls_in_parts}
 use Rattle.mk_heap.specs.Hosts.{with_caller_out}
 use Rattle.mk_stack.proofs.{JoinedJobs.still_replied, OwnCalls.all_by, OwnCalls.below_later, OwnCalls.none_of}
-use Rattle.mk_stack.proofs.{Replies.asked_in_two, Replies.own_in_parts, StackHistories.callers_are_below}
+use Rattle.mk_stack.proofs.{Replies.asked_grown, Replies.own_in_parts, StackHistories.callers_are_below}
 use Rattle.mk_stack.specs.{Joining.IsReader, declared.walking.WalkPoint.WalkPoint}
 use Rattle.mk_words.proofs.Seats.{has_first, has_left, has_right, others_own, without_keeps}
 use Rattle.mk_words.specs.Seats.{has_over, without_seat}
@@ -101,9 +100,7 @@ module _ (h g : HostState) (reader : IsReader h g) where
     later = calls_from c (left c h.pass.seen) reader.own.more
 
     split : asked (calls c g.pass.seen) ≡ asked (calls c h.pass.seen) ++ asked later
-    split =
-        ap (λ (l : List Event). asked (calls c l)) reader.own.is
-        ∙ ap asked (calls_in_parts c h.pass.seen reader.own.more) ∙ asked_in_two (calls c h.pass.seen) later
+    split = asked_grown c h.pass.seen reader.own.more reader.own.is
 
     pub by_reader : AreAllBy 0 (asked later)
     by_reader =

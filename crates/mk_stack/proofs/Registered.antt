@@ -3,7 +3,7 @@ use Rattle.mk_stack.proofs.Vocabulary.{Done, NeverState, Null, Op, Ordered, Poin
 use Rattle.mk_stack.proofs.Vocabulary.{numbers_in, with_global, with_register, word_at}
 use Rattle.mk_laws.proofs.Vocabulary.{List, None, Option, Some, ℕ, arith, get_or-set_same, length, length-set, refl}
 use Rattle.mk_laws.proofs.Vocabulary.{subst, sym, [], ◌*◌, ◌+◌, ◌<◌, ◌∙◌, ◌≡◌, ◌≢◌}
-use Rattle.mk_stack.proofs.Assembly.{Decides, IsLeft, Stepped, assemble, moved, nothing, same_before}
+use Rattle.mk_stack.proofs.Assembly.{Decides, IsLeft, Stepped, nothing, same_roles}
 use Rattle.mk_stack.proofs.Invariant.{Core, HasChain, Inv, IsChain, IsHeld, Local, Work}
 use Rattle.mk_stack.proofs.Roles.{Base, Role, same_role}
 use Rattle.mk_stack.proofs.{Chains.all_numbers_stay, Chains.has_chain_stays, Frames.Leaves, Heaps.register_of_other}
@@ -24,23 +24,12 @@ module _ {callers : ℕ} {n : NeverState} {top : Option ℕ} {role : ℕ → Rol
       }
 
   -- A step that leaves the heap as it was
-  pub by_nothing : (s : Point) (u : Option Done) (o : Op) (next : Point) (rest : List Replied) (u' : Option Done)
+  pub by_nothing : {s : Point} {u : Option Done} {o : Op} {next : Point} {rest : List Replied} (u' : Option Done)
       (d : Option Ordered) → Local n top role c next u' → ((a : ℕ) → IsHeld n (role a) c a next)
       → IsLeft d (numbers_in n nodes) (numbers_in n nodes) → Decides c s u d u' → ((a : ℕ) → freed_by a n c o ≡ 0)
       → Stepped callers n role nodes W c s u o next rest n
-  by_nothing s u o next rest u' d local held left decides frees =
-      record {
-        top_now = top;
-        role_now = role;
-        nodes_now = nodes;
-        decided = u';
-        decision = d;
-        inv = assemble inv c n top role nodes (moved (W c) next u' rest) inv.core
-            (λ k other. nothing_leaves k) (λ k a other. same_before k (role a)) local held;
-        left = left;
-        decides = decides;
-        frees = λ a. omega (arith, frees a);
-      }
+  by_nothing u' d local held left decides frees =
+      same_roles inv c n top u' d inv.core (λ k other. nothing_leaves k) local held left decides frees
 
   -- A register that is set
   module _ (d : ℕ) (v : Value) (below : d < 8) where
@@ -82,23 +71,13 @@ module _ {callers : ℕ} {n : NeverState} {top : Option ℕ} {role : ℕ → Rol
     register_numbers : numbers_in m nodes ≡ numbers_in n nodes
     register_numbers = all_numbers_stay n m top role nodes (λ a e. refl) inv.core.chain
 
-    pub by_register : (s : Point) (u : Option Done) (o : Op) (next : Point) (rest : List Replied) (u' : Option Done)
+    pub by_register : {s : Point} {u : Option Done} {o : Op} {next : Point} {rest : List Replied} (u' : Option Done)
         (e : Option Ordered) → Local m top role c next u' → ((a : ℕ) → IsHeld m (role a) c a next)
         → IsLeft e (numbers_in n nodes) (numbers_in n nodes) → Decides c s u e u' → ((a : ℕ) → freed_by a n c o ≡ 0)
         → Stepped callers n role nodes W c s u o next rest m
-    by_register s u o next rest u' e local held left decides frees =
-        record {
-          top_now = top;
-          role_now = role;
-          nodes_now = nodes;
-          decided = u';
-          decision = e;
-          inv = assemble inv c m top role nodes (moved (W c) next u' rest) register_core
-              register_leaves (λ k a other. same_before k (role a)) local held;
-          left = subst (IsLeft e (numbers_in n nodes)) (sym register_numbers) left;
-          decides = decides;
-          frees = λ a. omega (arith, frees a);
-        }
+    by_register u' e local held left decides frees =
+        same_roles inv c m top u' e register_core register_leaves local held
+        (subst (IsLeft e (numbers_in n nodes)) (sym register_numbers) left) decides frees
 
   -- The first caller stores the top in global 0.
   module _ (first : c ≡ 0) (t : ℕ) (none : top ≡ None) (is_base : role t ≡ Base) (empty : word_at n t 0 ≡ Null) where
@@ -142,19 +121,9 @@ module _ {callers : ℕ} {n : NeverState} {top : Option ℕ} {role : ℕ → Rol
           );
         }
 
-    pub by_global : (s : Point) (u : Option Done) (o : Op) (next : Point) (rest : List Replied)
+    pub by_global : {s : Point} {u : Option Done} {o : Op} {next : Point} {rest : List Replied}
         → Local g (Some t) role c next u → ((a : ℕ) → IsHeld g (role a) c a next) → ((a : ℕ) → freed_by a n c o ≡ 0)
         → Stepped callers n role nodes W c s u o next rest g
-    by_global s u o next rest local held frees =
-        record {
-          top_now = Some t;
-          role_now = role;
-          nodes_now = nodes;
-          decided = u;
-          decision = None;
-          inv = assemble inv c g (Some t) role nodes (moved (W c) next u rest) global_core
-              global_leaves (λ k a other. same_before k (role a)) local held;
-          left = all_numbers_stay n g top role nodes (λ a e. refl) inv.core.chain;
-          decides = nothing;
-          frees = λ a. omega (arith, frees a);
-        }
+    by_global {u} local held frees =
+        same_roles inv c g (Some t) u None global_core global_leaves local held
+        (all_numbers_stay n g top role nodes (λ a e. refl) inv.core.chain) nothing frees

@@ -1,10 +1,9 @@
 -- One call of a caller, as one more operation with its reply.
 use Rattle.std.proofs.Common.{length-append}
 use Rattle.mk_stack.proofs.Vocabulary.{Answer, AreAdmitted, Call, Called, Config, Decided, Event, IsHistory, IsTyped}
-use Rattle.mk_stack.proofs.Vocabulary.{NeverState, Op, PassState, Replied, Stays, after_calls, after_op, answer_of}
-use Rattle.mk_stack.proofs.Vocabulary.{asked, caller_of_pass, calls, calls_from, flagged, left, never_behind}
-use Rattle.mk_stack.proofs.Vocabulary.{never_first, never_of, own_replied, register_at, replied_in, replied_to}
-use Rattle.mk_stack.proofs.Vocabulary.{reply_of, value_of}
+use Rattle.mk_stack.proofs.Vocabulary.{NeverState, Op, PassState, Replied, after_calls, after_op, answer_of, asked}
+use Rattle.mk_stack.proofs.Vocabulary.{caller_of_pass, calls, calls_from, flagged, left, never_behind, never_first}
+use Rattle.mk_stack.proofs.Vocabulary.{never_of, own_replied, register_at, replied_in, replied_to, reply_of, value_of}
 use Rattle.mk_laws.proofs.Vocabulary.{Bool, KeepsRegisters, List, Step, ℕ, ap, append-nil, append_assoc, arith}
 use Rattle.mk_laws.proofs.Vocabulary.{bases_of, call_decided, earlier_part_is_history, eq-eqb, false, first_world}
 use Rattle.mk_laws.proofs.Vocabulary.{if◌then◌else◌, length, map-append, refl, subst, sym, true, [], ◌++◌, ◌<◌, ◌==◌}
@@ -12,9 +11,10 @@ use Rattle.mk_laws.proofs.Vocabulary.{◌∙◌, ◌∷◌, ◌≡◌}
 use Rattle.mk_never.specs.Admitted.{IsCaller}
 use Rattle.mk_core.proofs.{Histories.calls_more, HistoryParts.calls_in_parts}
 use Rattle.mk_laws.proofs.LastEvents.{comes_last, stands}
-use Rattle.mk_alloc.{proofs.Decisions.same_last, specs.TurnCalls.CalledInTurn}
+use Rattle.mk_alloc.specs.TurnCalls.{CalledInTurn}
 use Rattle.mk_caller.proofs.OwnSteps.{by_append, calls_by}
-use Rattle.mk_caller.specs.{Called.IsDecidedIn, Called.Says, Called.own_calls, Causes.FindsGateHeld}
+use Rattle.mk_caller.specs.{Called.IsDecidedIn, Called.own_calls, Causes.FindsGateHeld}
+use Rattle.mk_stack.proofs.OwnCalls.{none_since}
 use Rattle.mk_words.specs.States.{event_of}
 
 -- A caller's operations in two parts
@@ -32,7 +32,7 @@ own_in_parts k n (x ∷ xs) ys =
     by false r all these those is = is
 
 -- Calls among which the caller has none
-pub none_replied : (k : ℕ) (n : NeverState) (xs : List Decided) → calls_by k xs ≡ [] → own_replied k n (asked xs) ≡ []
+none_replied : (k : ℕ) (n : NeverState) (xs : List Decided) → calls_by k xs ≡ [] → own_replied k n (asked xs) ≡ []
 none_replied k n [] h = refl
 none_replied k n (x ∷ xs) h =
     by (x.caller == k) (calls_by k xs) (own_replied k (after_op n x.caller x.op) (asked xs)) h
@@ -41,14 +41,28 @@ none_replied k n (x ∷ xs) h =
     by : (b : Bool) (own : List Decided) (rest : List Replied) → (if b then x ∷ own else own) ≡ []
         → (own ≡ [] → rest ≡ [])
         → (if b then record { op = x.op; reply = reply_of n x.caller x.op } ∷ rest else rest) ≡ []
-    by true own rest is next = absurd (cons_nil x own is)
-      where
-        cons_nil : (y : Decided) (ys : List Decided) → y ∷ ys ≡ [] → ⊥
-        cons_nil y ys e = cc
+    by true own rest is next = let some : x ∷ own ≡ [] = is in absurd (cc)
     by false own rest is next = next is
 
-pub asked_in_two : (xs ys : List Decided) → asked (xs ++ ys) ≡ asked xs ++ asked ys
+asked_in_two : (xs ys : List Decided) → asked (xs ++ ys) ≡ asked xs ++ asked ys
 asked_in_two xs ys = map-append (λ (x : Decided). record { caller = x.caller; op = x.op }) xs ys
+
+-- What is asked in a list that goes on
+pub asked_grown : (c : Config) (es more : List Event) {fs : List Event} → fs ≡ es ++ more
+    → asked (calls c fs) ≡ asked (calls c es) ++ asked (calls_from c (left c es) more)
+asked_grown c es more is =
+    ap (λ (l : List Event). asked (calls c l)) is ∙ ap asked (calls_in_parts c es more)
+    ∙ asked_in_two (calls c es) (calls_from c (left c es) more)
+
+-- Events that decide no call of the caller leave what it was replied.
+pub same_replied : (c : Config) (k : ℕ) (es more : List Event) → calls_by k (calls_from c (left c es) more) ≡ []
+    → replied_in c k (es ++ more) ≡ replied_in c k es
+same_replied c k es more none =
+    let later : List Decided = calls_from c (left c es) more in
+    ap (own_replied k (never_first c)) (asked_grown c es more refl)
+    ∙ own_in_parts k (never_first c) (asked (calls c es)) (asked later)
+    ∙ ap (λ (l : List Replied). replied_in c k es ++ l) (none_replied k (never_behind c es) later none)
+    ∙ append-nil (replied_in c k es)
 
 -- What is known of the place at which an operation was decided: the heap that never reuses storage there, in which the
 -- caller's registers are those before the call, and leave those after it.
@@ -145,33 +159,24 @@ module _ (p : PassState) (o : Op) (a : Answer) (more : List Event) (once : flagg
       ∙ sym (by_append k (calls c p.seen ++ earlier) (x ∷ [])))
       ∙ sym (by_append k ((calls c p.seen ++ earlier) ++ x ∷ []) later) ∙ ap (calls_by k) (sym calls_all) ∙ entry)
 
-  own_before : replied_in c k before ≡ replied_in c k p.seen
-  own_before =
-      ap (λ (l : List Decided). own_replied k n0 (asked l)) calls_before
-      ∙ ap (own_replied k n0) (asked_in_two (calls c p.seen) earlier)
-      ∙ own_in_parts k n0 (asked (calls c p.seen)) (asked earlier)
-      ∙ ap (λ (l : List Replied). replied_in c k p.seen ++ l) (none_replied k (never_behind c p.seen) earlier none.0)
-      ∙ append-nil (replied_in c k p.seen)
-
   abbrev here : Replied
   here = record { op = o; reply = reply_of (never_behind c before) k o }
 
   own_one : own_replied k (never_behind c before) (asked (x ∷ [])) ≡ here ∷ []
   own_one = ap (λ (b : Bool). if b then here ∷ [] else []) (eq-eqb k k refl)
 
-  own_all : replied_in c k (p.seen ++ more) ≡ replied_in c k p.seen ++ here ∷ []
-  own_all =
-      ap (λ (l : List Decided). own_replied k n0 (asked l)) calls_all
-      ∙ ap (λ (l : List Decided). own_replied k n0 (asked ((l ++ x ∷ []) ++ later))) (sym calls_before)
-      ∙ ap (own_replied k n0) (asked_in_two (calls c before ++ x ∷ []) later)
-      ∙ own_in_parts k n0 (asked (calls c before ++ x ∷ [])) (asked later)
-      ∙ ap (λ (l : List Replied). own_replied k n0 (asked (calls c before ++ x ∷ [])) ++ l)
-      (none_replied k (after_calls n0 (asked (calls c before ++ x ∷ []))) later none.1)
-      ∙ append-nil (own_replied k n0 (asked (calls c before ++ x ∷ [])))
+  own_through : replied_in c k through ≡ replied_in c k before ++ here ∷ []
+  own_through =
+      ap (λ (l : List Decided). own_replied k n0 (asked l)) (calls_more c (first_world c) before decided.event
+      ∙ ap (λ (l : List Decided). calls c before ++ l) decides)
       ∙ ap (own_replied k n0) (asked_in_two (calls c before) (x ∷ []))
       ∙ own_in_parts k n0 (asked (calls c before)) (asked (x ∷ []))
       ∙ ap (λ (l : List Replied). replied_in c k before ++ l) own_one
-      ∙ ap (λ (l : List Replied). l ++ here ∷ []) own_before
+
+  own_all : replied_in c k (p.seen ++ more) ≡ replied_in c k p.seen ++ here ∷ []
+  own_all =
+      ap (replied_in c k) cut ∙ same_replied c k through decided.behind none.1 ∙ own_through
+      ∙ ap (λ (l : List Replied). l ++ here ∷ []) (same_replied c k p.seen decided.before none.0)
 
   pub happens : Happens p o a (record p { seen = p.seen ++ more })
   happens =
@@ -198,43 +203,36 @@ from_called {p} {q} {o} {a} h once history =
     (h.entry ∙ ap (λ (y : Op). own_calls p p.seen
     ++ record { caller = caller_of_pass p; op = y; answer = a } ∷ []) once) h.decided)
 
+flagged_once : (o : Op) (a : Answer) → flagged (flagged o a) a ≡ flagged o a
+flagged_once (Op.New d ty full) Answer.Full = refl
+flagged_once (Op.New d ty full) _ = refl
+flagged_once _ a = refl
+
 pub from_turn : {on : Bool} {p q : PassState} {o : Op} {a : Answer} → CalledInTurn on p o a q
-    → flagged (flagged o a) a ≡ flagged o a → IsHistory q.table.config q.seen → Happens p (flagged o a) a q
-from_turn {on} {p} {q} {o} {a} h once history =
+    → IsHistory q.table.config q.seen → Happens p (flagged o a) a q
+from_turn {on} {p} {q} {o} {a} h history =
     subst (Happens p (flagged o a) a) (sym h.is)
-    (happens p (flagged o a) a h.more once (subst (λ (r : PassState). IsHistory r.table.config r.seen) h.is history)
+    (happens p (flagged o a) a h.more (flagged_once o a) (subst (λ (r : PassState). IsHistory r.table.config r.seen) h.is history)
     h.entry h.decided)
 
--- A caller that found its gate held asked nothing.
+-- The caller found its gate held, and asked nothing.
+pub record Stays (p q : PassState) : Type 0 where
+  pub is : q ≡ record p { seen = q.seen }
+  pub did : replied_to q ≡ replied_to p
+  pub registers : (r : ℕ) → r < 8 → value_of q r ≡ value_of p r
+
 pub stays_held : {p q : PassState} {o : Op} → FindsGateHeld p o q → Stays p q
 stays_held {p} {q} {o} f =
     let more : List Event = f.finds.makes.others ++ event_of p (Step.Enter o) ∷ [] in
     let is : q ≡ record p { seen = p.seen ++ more } =
     f.finds.makes.is ∙ ap (λ (l : List Event). record p { seen = l })
     (append_assoc p.seen f.finds.makes.others (event_of p (Step.Enter o) ∷ [])) in
+    let seen : q ≡ record p { seen = q.seen } = is ∙ ap (λ (r : PassState). record p { seen = r.seen }) (sym is) in
     record {
-      is = is ∙ ap (λ (r : PassState). record p { seen = r.seen }) (sym is);
-      did = subst (λ (r : PassState). replied_to r ≡ replied_to p) (sym is) (held_did more
-          (ap (λ (r : PassState). own_calls p r.seen) (sym is) ∙ f.entries));
-      registers = f.registers;
+      is = seen;
+      did = subst (λ (r : PassState). replied_to r ≡ replied_to p) (sym is)
+          (same_replied p.table.config (caller_of_pass p) p.seen more
+          (none_since p.table.config (caller_of_pass p) p.seen more
+          (ap (λ (r : PassState). own_calls p r.seen) (sym is) ∙ f.entries)));
+      registers = λ r lt. ap (λ (s : PassState). register_at (never_of q) (caller_of_pass s) r) seen ∙ f.registers r lt;
     }
-  where
-    held_did : (more : List Event) → own_calls p (p.seen ++ more) ≡ own_calls p p.seen
-        → replied_in p.table.config (caller_of_pass p) (p.seen ++ more) ≡ replied_to p
-    held_did more same =
-        let c : Config = p.table.config in
-        let k : ℕ = caller_of_pass p in
-        let later : List Decided = calls_from c (left c p.seen) more in
-        let nothing : calls_by k later ≡ [] =
-        same_last (own_calls p p.seen) (calls_by k later) []
-        (sym (by_append k (calls c p.seen) later) ∙ ap (calls_by k) (sym (calls_in_parts c p.seen more))
-        ∙ same ∙ sym (append-nil (own_calls p p.seen))) in
-        ap (λ (l : List Decided). own_replied k (never_first c) (asked l)) (calls_in_parts c p.seen more)
-        ∙ ap (own_replied k (never_first c)) (asked_in_two (calls c p.seen) later)
-        ∙ own_in_parts k (never_first c) (asked (calls c p.seen)) (asked later)
-        ∙ ap (λ (l : List Replied). replied_to p ++ l) (none_replied k (never_behind c p.seen) later nothing)
-        ∙ append-nil (replied_to p)
-
--- what was said, as the arm has it
-pub says_so : {p q : PassState} {o : Op} {said b : Bool} → said ≡ b → Says p o said q → Says p o b q
-says_so {p} {q} {o} is says = subst (λ (x : Bool). Says p o x q) is says

@@ -223,10 +223,9 @@ none_is_asked : (c : ℕ) (o : Op) (n : NeverState) (xs : List Call) (rest : Lis
 none_is_asked c o n xs rest later nil none own =
     let empty : own_replied c n (record { caller = c; op = o } ∷ xs) ≡ [] =
     own ∙ ap (λ (l : List Replied). l ++ all_of later) nil ∙ ap all_of none in
-    cons_nil _ (own_replied c (after_op n c o) xs) (sym (mine c o n xs) ∙ empty)
-  where
-    cons_nil : (y : Replied) (ys : List Replied) → y ∷ ys ≡ [] → ⊥
-    cons_nil y ys e = cc
+    let some : record { op = o; reply = reply_of n c o } ∷ own_replied c (after_op n c o) xs ≡ [] =
+    sym (mine c o n xs) ∙ empty in
+    cc
 
 -- The first operation of a list, where all later ones are known
 run_more : {callers : ℕ} {n : NeverState} {top : Option ℕ} {role : ℕ → Role} {nodes : List ℕ} {W : ℕ → Work}

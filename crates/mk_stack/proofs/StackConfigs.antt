@@ -1,7 +1,7 @@
 -- The heap of a stack is within the limits, and has the types of a stack.
 use Rattle.std.proofs.lemmas.List.Elements.{All-cons, All-nil}
-use Rattle.mk_stack.proofs.Vocabulary.{HasStackTypes, Kind, Number, To, node_kinds, top_kinds}
-use Rattle.mk_laws.proofs.Vocabulary.{IsWithinLimits, List, ℕ, arith, length, refl, [], ◌<◌, ◌∷◌, ◌≤◌}
+use Rattle.mk_stack.proofs.Vocabulary.{Kind, Number, To, node_kinds, top_kinds}
+use Rattle.mk_laws.proofs.Vocabulary.{IsWithinLimits, List, ℕ, arith, length, [], ◌<◌, ◌∷◌, ◌≤◌}
 use Rattle.mk_core.specs.Config.{IsAmong, IsBetween, IsTypeAmong}
 use Rattle.mk_stack.specs.StackRuns.{stack_config}
 
@@ -30,6 +30,3 @@ is_within_limits pages resident callers markers p r c m =
           ) (All-nil (IsTypeAmong both)));
       globals = All-cons (λ (ty : ℕ). ty < length both) 1 [] (omega arith) (All-nil (λ (ty : ℕ). ty < length both));
     }
-
-pub has_stack_types : (pages resident callers markers : ℕ) → HasStackTypes (stack_config pages resident callers markers)
-has_stack_types pages resident callers markers = record { node = refl; top = refl; global = refl }

@@ -8,11 +8,10 @@ use Rattle.mk_stack.proofs.Vocabulary.{replied_in, reply_of}
 use Rattle.mk_laws.proofs.Vocabulary.{Bool, List, Some, ℕ, ap, append-nil, arith, earlier_part_is_history, false}
 use Rattle.mk_laws.proofs.Vocabulary.{if◌then◌else◌, length, ne_eqb, refl, subst, suc, sym, true, zero, [], ◌*◌, ◌++◌}
 use Rattle.mk_laws.proofs.Vocabulary.{◌+◌, ◌<◌, ◌==◌, ◌∙◌, ◌∷◌, ◌≡◌, ◌≤◌}
-use Rattle.mk_core.proofs.HistoryParts.{calls_in_parts}
 use Rattle.mk_laws.proofs.LastEvents.{stands}
 use Rattle.mk_stack.proofs.Linearizable.{stacks_are_linearizable}
 use Rattle.mk_stack.proofs.OwnCalls.{below_later, no_calls, none_of}
-use Rattle.mk_stack.proofs.{Replies.asked_in_two, StackHistories.callers_are_below, Walks.walks_read_the_stack}
+use Rattle.mk_stack.proofs.{Replies.asked_grown, StackHistories.callers_are_below, Walks.walks_read_the_stack}
 use Rattle.mk_stack.specs.{Interleavings.IsInterleaved, Interleavings.jobs_of_first, Laws.IsExplained}
 use Rattle.mk_stack.specs.{StackRuns.AreRunsOf, StackRuns.IsStackRun, declared.walking.WalkPoint.WalkPoint}
 
@@ -132,9 +131,7 @@ is_stack_run {c} es more founding lists all left_on walked is history types foun
       runs = runs;
       jobs = asked (calls c es);
       looks = later;
-      all_calls =
-          ap (λ (l : List Event). asked (calls c l)) is ∙ ap asked (calls_in_parts c es more)
-          ∙ asked_in_two (calls c es) (calls_from c (left c es) more);
+      all_calls = asked_grown c es more is;
       only_looks = read.0;
       one_each = as_many c es founding 0 lists all h;
       are = same_at c es founding 0 lists all h;
@@ -150,9 +147,7 @@ pub run_stands : {c : Config} {es : List Event} (more : List Event) {fs : List E
     → IsStackRun c es lists all left_on → IsStackRun c fs lists all left_on
 run_stands {c} {es} more {fs} is history others run =
     let later : List Decided = calls_from c (left c es) more in
-    let split : asked (calls c fs) ≡ asked (calls c es) ++ asked later =
-    ap (λ (l : List Event). asked (calls c l)) is ∙ ap asked (calls_in_parts c es more)
-    ∙ asked_in_two (calls c es) later in
+    let split : asked (calls c fs) ≡ asked (calls c es) ++ asked later = asked_grown c es more is in
     let below : AreBelow c.callers (asked later) =
     below_later c.callers (asked (calls c es)) (asked later)
     (subst (AreBelow c.callers) split (callers_are_below history)) in

@@ -25,9 +25,6 @@ bit_is_zero false e = refl
 pub num_is : (a b : ℕ) → Reply.Num a ≡ Reply.Num b → a ≡ b
 num_is a b e = cc
 
-pub val_is : (v w : Value) → Reply.Val v ≡ Reply.Val w → v ≡ w
-val_is v w e = cc
-
 pub done_is_not_double : Reply.Done ≡ Reply.Double → ⊥
 done_is_not_double e = cc
 
@@ -65,9 +62,10 @@ module _ {callers : ℕ} {n : NeverState} {top : Option ℕ} {role : ℕ → Rol
   register_set d v lt = set_register n c d v (there d lt)
 
   -- Where a caller has no node of its own, before and after
-  pub idle : (m : NeverState) (s next : Point) → (IsPushing s → ⊥) → (IsFreeing s → ⊥) → Held s
+  pub idle : {m : NeverState} {s next : Point} → Held s → (IsPushing s → ⊥) → (IsFreeing s → ⊥)
       → (a : ℕ) → IsHeld m (role a) c a next
-  idle m s next pushes frees held a = held_on m next (held a) (λ p. absurd (pushes p)) (λ f. absurd (frees f))
+  idle {m} {next} held pushes frees a =
+      held_on m next (held a) (λ p. absurd (pushes p)) (λ f. absurd (frees f))
 
   pub top_role : (t : ℕ) → top ≡ Some t → HasChain n (Some t) role nodes
   top_role t is = subst (λ (x : Option ℕ). HasChain n x role nodes) is inv.core.chain

@@ -1,9 +1,9 @@
 -- Each operation of a caller keeps the invariant, and decides its job where it should.
-use Rattle.mk_stack.proofs.Vocabulary.{Asks, Done, Founded, Founding, NeverState, Op, Point, Replied, Reply, after_op}
-use Rattle.mk_stack.proofs.Vocabulary.{clear, fail, fill, find_no_room, follow, found, free, free_again, go_pop}
-use Rattle.mk_stack.proofs.Vocabulary.{go_push, lack, link, look, make, meet, miss, peek, place, pop_again, publish}
-use Rattle.mk_stack.proofs.Vocabulary.{push_again, read, reply_of, start, unlink}
-use Rattle.mk_laws.proofs.Vocabulary.{List, None, Option, ℕ, refl, sym, true, ◌<◌, ◌∙◌, ◌≡◌}
+use Rattle.mk_stack.proofs.Vocabulary.{Asks, Done, NeverState, Op, Point, Replied, Reply, after_op, clear, fail, fill}
+use Rattle.mk_stack.proofs.Vocabulary.{find_no_room, follow, found, free, free_again, go_pop, go_push, lack, link, look}
+use Rattle.mk_stack.proofs.Vocabulary.{make, meet, miss, peek, place, pop_again, publish, push_again, read, reply_of}
+use Rattle.mk_stack.proofs.Vocabulary.{start, unlink}
+use Rattle.mk_laws.proofs.Vocabulary.{List, None, Option, ℕ, refl, sym, ◌<◌, ◌∙◌, ◌≡◌}
 use Rattle.mk_stack.proofs.Assembly.{Stepped, nothing}
 use Rattle.mk_stack.proofs.BeginSteps.{clear_steps, found_steps, go_pop_steps, go_push_steps, lack_steps, place_steps}
 use Rattle.mk_stack.proofs.BeginSteps.{start_steps}
@@ -28,8 +28,7 @@ module _ {callers : ℕ} {n : NeverState} {top : Option ℕ} {role : ℕ → Rol
       → Local n top role c s u → Held s → reply_of n c o ≡ r → Goal s u o next rest (after_op n c o)
   steps s o r next found u rest local held said = found_steps inv c exists u rest local held
   steps s o r next find_no_room u rest local held said =
-      by_nothing inv c Founding u (Op.New 0 1 true) Founded rest u None tt
-      (idle inv c exists n Founding Founded (λ p. p) (λ f. f) held) refl nothing (λ b. refl)
+      by_nothing inv c u None tt (idle inv c exists held (λ p. p) (λ f. f)) refl nothing (λ b. refl)
   steps s o r next place u rest local held said = place_steps inv c exists u rest local held
   steps s o r next (start {j} {v}) u rest local held said = start_steps inv c exists j u rest local held
   steps s o r next (lack {j}) u rest local held said = lack_steps inv c exists j u rest local held said

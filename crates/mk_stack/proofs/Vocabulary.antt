@@ -15,7 +15,7 @@ pub use Rattle.mk_never.specs.NeverHeap.{Allocation, after_op, left_at, reply_at
 pub use Rattle.mk_never.specs.Types.{zero_words}
 pub use Rattle.mk_never.specs.declared.operations.Reply.{Reply}
 pub use Rattle.mk_never.specs.declared.values.Target.{Target}
-pub use Rattle.mk_stack.specs.Advancing.{Advances, IsAtPoint, IsPointerTo, MayPointTo, Stays}
+pub use Rattle.mk_stack.specs.Advancing.{HoldsAt, IsPointerTo, MayPointTo, next_point, op_at}
 pub use Rattle.mk_stack.specs.Interleavings.{AreBelow, AreDecidedOnce, AreJobRuns, order_of, own_decisions, own_replied}
 pub use Rattle.mk_stack.specs.JobLists.{DoesJobs, HaveDone}
 pub use Rattle.mk_stack.specs.Jobs.{Asks, JobRun, Leads, Replied, all_of, clear, done_without, fail, fill, find_no_room}
@@ -26,7 +26,7 @@ pub use Rattle.mk_stack.specs.Joining.{HasHandedOut, HaveWorked, ReadsStack}
 pub use Rattle.mk_stack.specs.Laws.{IsOneOf, freed_by, numbers_in}
 pub use Rattle.mk_stack.specs.Orders.{Ordered, left_by}
 pub use Rattle.mk_stack.specs.Passes.{GoesToPoint, HasStackTypes, replied_in, replied_to}
-pub use Rattle.mk_stack.specs.Walks.{AreAllBy, HasWalked, HoldsDown, LeadsDown, numbers_read}
+pub use Rattle.mk_stack.specs.Walks.{AreAllBy, HasWalked, LeadsDown, numbers_read}
 pub use Rattle.mk_stack.specs.declared.job_lists.Dones.{Dones}
 pub use Rattle.mk_stack.specs.declared.job_lists.Jobs.{Jobs}
 pub use Rattle.mk_stack.specs.declared.jobs.Done.{Done}

@@ -1,117 +1,111 @@
 -- Each call of a walk is its next operation, and what its caller's registers hold after it.
-use Rattle.mk_stack.proofs.Vocabulary.{Advances, Answer, Asks, Called, HasStackTypes, HasWalked, HoldsDown, IsAtPoint}
-use Rattle.mk_stack.proofs.Vocabulary.{IsHistory, LeadsDown, Op, PassState, Point, Pop, Replied, Reply, Stays}
-use Rattle.mk_stack.proofs.Vocabulary.{caller_of_pass, node_kinds, numbers_read, replied_to, reply_of, value_of}
-use Rattle.mk_laws.proofs.Vocabulary.{List, ℕ, ap, append-nil, append_assoc, arith, refl, subst, sym, [], ◌++◌, ◌+◌}
-use Rattle.mk_laws.proofs.Vocabulary.{◌∙◌, ◌∷◌, ◌≡◌}
-use Rattle.mk_caller.specs.Called.{IsAnswered}
-use Rattle.mk_stack.proofs.AtPoints.{holds_held, holds_on, other_on, points_on}
-use Rattle.mk_stack.proofs.ReplyForms.{num_reply, word_reply}
-use Rattle.mk_stack.proofs.{Advances.loaded, Going.seen_then, NodeKinds.node_link, Replies.from_called}
-use Rattle.mk_stack.specs.Walks.{StepsDown, Walks, descend, go, lack, meet, next_of, number_read, numbers_found, peek}
-use Rattle.mk_stack.specs.Walks.{read, start, stop, walk_point}
-use Rattle.mk_stack.specs.{declared.walking.Found.Found, declared.walking.WalkPoint.WalkPoint}
-use Rattle.mk_stack.specs.Jobs as asked
+use Rattle.std.proofs.Common.{IfSome}
+use Rattle.mk_stack.proofs.Vocabulary.{Answer, CallerState, HasStackTypes, HasWalked, HoldsAt, IsHistory, LeadsDown}
+use Rattle.mk_stack.proofs.Vocabulary.{NeverState, Op, PassState, Point, Pop, Replied, Reply, after_op, answer_of}
+use Rattle.mk_stack.proofs.Vocabulary.{global_at, numbers_read, register_at, replied_to, reply_of, value_of}
+use Rattle.mk_laws.proofs.Vocabulary.{IsAdmitted, List, Some, ℕ, ap, append-nil, append_assoc, arith, false}
+use Rattle.mk_laws.proofs.Vocabulary.{is_under_turn, refl, subst, sym, [], ◌++◌, ◌∙◌, ◌∷◌, ◌≡◌}
+use Rattle.mk_laws.proofs.CallSorts.{flag_is}
+use Rattle.mk_caller.specs.States.{Admits}
+use Rattle.mk_run.specs.Scripts.{IsCalled, as_told}
+use Rattle.mk_stack.proofs.Advances.{Steps, of_asked, place_state, ready_state, steps_so}
+use Rattle.mk_stack.proofs.NodeKinds.{IsStackState, global_kind}
+use Rattle.mk_stack.proofs.PointSteps.{admits, kept, loads_link, loads_number, loads_top, may_follow, now_may, tested}
+use Rattle.mk_stack.proofs.{AtPoints.holds_still, Going.seen_then, Replies.Stays, Replies.from_called}
+use Rattle.mk_stack.specs.Walks.{Walks, descend, found_down, go, lack, meet, number_read, op_down, peek, read, start}
+use Rattle.mk_stack.specs.Walks.{stop}
+use Rattle.mk_stack.specs.{Ready.IsReady, declared.walking.Found.Found, declared.walking.WalkPoint.WalkPoint}
 
--- It begins as a pop does.
+-- what the registers hold at a point is what they hold at this one of a pop
+abbrev pub as_pop : WalkPoint → Point
+as_pop WalkPoint.Starting = Point.Starting Pop
+as_pop WalkPoint.Checking = Point.Checking Pop
+as_pop WalkPoint.Peeking = Point.Peeking
+as_pop WalkPoint.Testing = Point.Testing
+as_pop WalkPoint.Reading = Point.Following
+as_pop WalkPoint.Descending = Point.Following
+as_pop WalkPoint.Ended = Point.Founded
 
-module _ (p q : PassState) where
-  -- what a pop asks at this point is what a walk asks there, and loads no number
-  abbrev AsPop : WalkPoint → Op → Reply → Point → Type 0
-  AsPop s o r t = IsAtPoint q t → (Walks s o r (walk_point t)) × (number_read o r ≡ []) × HoldsDown q (walk_point t)
+-- where the walk is after what it finds, and the numbers among that
 
-  steps_so : (s : WalkPoint) (u t : Point) → ((o : Op) (r : Reply) (x : Point) → Asks u o r x → AsPop s o r x)
-      → Advances p u q t → StepsDown p s [] q (walk_point t)
-  steps_so s u t alike on =
-      let so = alike on.op on.reply t on.asks on.holds in
-      record {
-        is = on.is;
-        op = on.op;
-        reply = on.reply;
-        walks = so.0;
-        reads = so.1;
-        did = on.did;
-        holds = so.2;
-      }
+abbrev pub next_of : Found → WalkPoint
+next_of (Found.To t) = t
+next_of (Found.Number n) = WalkPoint.Descending
 
-  pub starts_walk : (t : Point) → Advances p (Point.Starting Pop) q t
-      → StepsDown p WalkPoint.Starting [] q (walk_point t)
-  starts_walk t on = steps_so WalkPoint.Starting (Point.Starting Pop) t by on
-    where
-      by : (o : Op) (r : Reply) (x : Point) → Asks (Point.Starting Pop) o r x → AsPop WalkPoint.Starting o r x
-      by o r x (asked.start {v = v}) = λ holds. (start, refl, holds)
+abbrev pub numbers_found : Found → List ℕ
+numbers_found (Found.To t) = []
+numbers_found (Found.Number n) = n ∷ []
 
-  pub checks_walk : (t : Point) → Advances p (Point.Checking Pop) q t
-      → StepsDown p WalkPoint.Checking [] q (walk_point t)
-  checks_walk t on = steps_so WalkPoint.Checking (Point.Checking Pop) t by on
-    where
-      by : (o : Op) (r : Reply) (x : Point) → Asks (Point.Checking Pop) o r x → AsPop WalkPoint.Checking o r x
-      by o r x asked.lack = λ holds. (lack, refl, tt)
-      by o r x asked.go_pop = λ holds. (go, refl, holds)
+-- The operation leads down from s, and reads the numbers that it finds.
+abbrev Down : WalkPoint → Op → Reply → Found → Type 0
+Down s o r f = Walks s o r (next_of f) × (number_read o r ≡ numbers_found f)
 
-  pub peeks_walk : (t : Point) → Advances p Point.Peeking q t → StepsDown p WalkPoint.Peeking [] q (walk_point t)
-  peeks_walk t on = steps_so WalkPoint.Peeking Point.Peeking t by on
-    where
-      by : (o : Op) (r : Reply) (x : Point) → Asks Point.Peeking o r x → AsPop WalkPoint.Peeking o r x
-      by o r x (asked.peek {v = v}) = λ holds. (peek, refl, holds)
+abbrev after : Found → Point
+after f = as_pop (next_of f)
 
-  pub tests_walk : (t : Point) → Advances p Point.Testing q t → StepsDown p WalkPoint.Testing [] q (walk_point t)
-  tests_walk t on = steps_so WalkPoint.Testing Point.Testing t by on
-    where
-      by : (o : Op) (r : Reply) (x : Point) → Asks Point.Testing o r x → AsPop WalkPoint.Testing o r x
-      by o r x asked.miss = λ holds. (stop, refl, tt)
-      by o r x asked.meet = λ holds. (meet, refl, holds)
+abbrev pub StepsDown : PassState → WalkPoint → PassState → Found → Type 0
+StepsDown p s q f = Steps (Down s) after p q f
 
--- what it finds there
-pub went_on : {p q : PassState} {s : WalkPoint} (u : WalkPoint) {t : WalkPoint} (f : Found) → u ≡ s → next_of f ≡ t
-    → numbers_found f ≡ []
-    → StepsDown p s [] q t → StepsDown p u (numbers_found f) q (next_of f)
-went_on {p} {q} {s} u {t} f here next numbers steps =
-    subst (λ (x : WalkPoint). StepsDown p x (numbers_found f) q (next_of f)) (sym here)
-    (subst (StepsDown p s (numbers_found f) q) (sym next)
-    (subst (λ (l : List ℕ). StepsDown p s l q t) (sym numbers) steps))
+module _ {globals : List ℕ} {n : NeverState} {k : ℕ} (state : IsStackState globals n k) where
+  abbrev At : WalkPoint → Type 0
+  At s = HoldsAt (register_at n k) (as_pop s)
 
--- Then it reads the number of a node, and loads the node below.
+  pub admits_down : (s : WalkPoint) → At s → IfSome (op_down s) (IsAdmitted globals n k)
+  admits_down WalkPoint.Starting h = admits state (Point.Starting Pop) h
+  admits_down WalkPoint.Checking h = admits state (Point.Checking Pop) h
+  admits_down WalkPoint.Peeking h = admits state Point.Peeking h
+  admits_down WalkPoint.Testing h = admits state Point.Testing h
+  admits_down WalkPoint.Reading h = admits state Point.Reading h.1
+  admits_down WalkPoint.Descending h = may_follow state 2 (omega arith) h.1
+  admits_down WalkPoint.Ended h = tt
 
-module _ (p q : PassState) (types : HasStackTypes p.table.config) (history : IsHistory q.table.config q.seen) where
-  abbrev k : ℕ
-  k = caller_of_pass p
+  abbrev Step : WalkPoint → Op → Answer → List ℕ → Reply → NeverState → Type 0
+  Step s o a bases r m =
+      a ≡ answer_of bases r
+      → Down s o r (found_down s (as_told a)) × HoldsAt (register_at m k) (after (found_down s (as_told a)))
 
-  pub reads_number : (x : ℕ) → HoldsDown p WalkPoint.Reading → Called p (Op.GetNum 2 0) (Answer.Num x) q
-      → StepsDown p WalkPoint.Reading (x ∷ []) q WalkPoint.Descending
-  reads_number x holds called =
-      let h = from_called called refl history in
-      let replied : reply_of h.n k (Op.GetNum 2 0) ≡ Reply.Num x = num_reply h.bases x _ h.image in
-      record {
-        is = h.is;
-        op = Op.GetNum 2 0;
-        reply = reply_of h.n k (Op.GetNum 2 0);
-        walks =
-            subst (λ (r : Reply). Walks WalkPoint.Reading (Op.GetNum 2 0) r WalkPoint.Descending) (sym replied) read;
-        reads = ap (number_read (Op.GetNum 2 0)) replied;
-        did = h.did;
-        holds = holds_on called refl Point.Following holds;
-      }
+  pub goes_down : (s : WalkPoint) → At s → IfSome (op_down s) (λ o. (a : Answer) (bases : List ℕ)
+      → Step s o a bases (reply_of n k o) (after_op n k o))
+  goes_down WalkPoint.Starting h = λ a bases image.
+      ((start, refl), now_may state 1 0 (global_at n 0) (omega arith) (global_kind state))
+  goes_down WalkPoint.Checking h = λ a bases.
+      tested state (λ o r f. Down WalkPoint.Checking o r f × HoldsAt (register_at n k) (after f)) 0 1 a bases h
+      ((lack, refl), tt) (λ p. ((go, refl), p))
+  goes_down WalkPoint.Peeking h = λ a bases.
+      loads_top state (Step WalkPoint.Peeking (Op.GetPtr 2 0 0) a bases) h
+      (λ v may image. ((peek, refl), (kept state 2 0 v (omega arith) h, now_may state 0 2 v (omega arith) may)))
+  goes_down WalkPoint.Testing h = λ a bases.
+      tested state (λ o r f. Down WalkPoint.Testing o r f × HoldsAt (register_at n k) (after f)) 2 0 a bases h.1
+      ((stop, refl), tt) (λ p. ((meet, refl), (h.0, p)))
+  goes_down WalkPoint.Reading h = λ a bases.
+      loads_number state (λ r. Step WalkPoint.Reading (Op.GetNum 2 0) a bases r n) h.1
+      (λ x image. subst (λ (y : Answer). Down WalkPoint.Reading (Op.GetNum 2 0) (Reply.Num x)
+      (found_down WalkPoint.Reading (as_told y)) × At WalkPoint.Reading) (sym image) ((read, refl), h))
+  goes_down WalkPoint.Descending h = λ a bases.
+      loads_link state 2 (Step WalkPoint.Descending (Op.GetPtr 2 2 1) a bases) h.1
+      (λ v may image. ((descend, refl), (kept state 2 0 v (omega arith) h.0, now_may state 0 2 v (omega arith) may)))
+  goes_down WalkPoint.Ended h = tt
 
-  pub descends_walk : HoldsDown p WalkPoint.Descending → IsAnswered p (Op.GetPtr 2 2 1) q
-      → StepsDown p WalkPoint.Descending [] q WalkPoint.Testing
-  descends_walk holds called =
-      let h = from_called called.called refl history in
-      let v = word_reply h.bases called.word _ h.image in
-      record {
-        is = h.is;
-        op = Op.GetPtr 2 2 1;
-        reply = reply_of h.n k (Op.GetPtr 2 2 1);
-        walks =
-            subst (λ (r : Reply). Walks WalkPoint.Descending (Op.GetPtr 2 2 1) r WalkPoint.Testing) (sym v.is) descend;
-        reads = refl;
-        did = h.did;
-        holds = (
-          points_on (value_of q 0) (other_on called.called 2 0 refl (omega arith) (omega arith)) holds.0,
-          loaded p q types history 2 2 0 1 node_kinds (omega arith) (omega arith) (omega arith) (λ n state. state.node)
-              (λ n state there. node_link state 2 there) holds.1 called,
-        );
-      }
+-- No operation of a walk takes a turn.
+pub beside_turns : (s : WalkPoint) {o : Op} → op_down s ≡ Some o → is_under_turn o ≡ false
+beside_turns s is = of_asked (λ o. is_under_turn o ≡ false) is (by s)
+  where
+    by : (t : WalkPoint) → IfSome (op_down t) (λ o. is_under_turn o ≡ false)
+    by WalkPoint.Ended = tt
+    by _ = refl
+
+pub may_go_down : {s : CallerState} (t : WalkPoint) {o : Op} → IsReady s → IsHistory s.pass.table.config s.pass.seen
+    → op_down t ≡ Some o → HoldsAt (value_of s.pass) (as_pop t) → Admits s.pass o
+may_go_down {s} t ready history is holds = of_asked (Admits s.pass) is (admits_down (ready_state ready history) t holds)
+
+pub steps_down : {p q : PassState} (s : WalkPoint) {f : Found} {o : Op} {told : Answer} → f ≡ found_down s told
+    → HasStackTypes p.table.config → IsHistory q.table.config q.seen → op_down s ≡ Some o
+    → HoldsAt (value_of p) (as_pop s) → IsCalled p o told q → StepsDown p s q f
+steps_down {p} {q} s {o} leads types history is holds called =
+    let h = from_called called.called (flag_is o called.answer (beside_turns s is)) history in
+    let next = of_asked _ is (goes_down (place_state types h) s (holds_still h.before (as_pop s) holds)) in
+    subst (StepsDown p s q) (ap (found_down s) (sym called.is_told) ∙ sym leads)
+    (steps_so h (next called.answer h.bases h.image))
 
 -- One operation more
 
@@ -127,20 +121,17 @@ reads_more (x ∷ xs) y =
     ap (λ (l : List ℕ). number_read x.op x.reply ++ l) (reads_more xs y)
     ∙ sym (append_assoc (number_read x.op x.reply) (numbers_read xs) (number_read y.op y.reply))
 
-pub walked_nowhere : (p : PassState) → HasWalked p [] p WalkPoint.Starting
-walked_nowhere p = record { is = refl; all = []; leads = refl; reads = refl; did = sym (append-nil (replied_to p)) }
-
-pub walked_more : {p q r : PassState} {numbers more : List ℕ} {s t : WalkPoint} → HasWalked p numbers q s
-    → StepsDown q s more r t → HasWalked p (numbers ++ more) r t
+pub walked_more : {p q r : PassState} {numbers : List ℕ} {s : WalkPoint} {f : Found} → HasWalked p numbers q s
+    → StepsDown q s r f → HasWalked p (numbers ++ numbers_found f) r (next_of f)
 walked_more {p} {q} {r} {numbers} walked steps =
     let y : Replied = record { op = steps.op; reply = steps.reply } in
     record {
       is = seen_then p q r walked.is steps.is;
       all = walked.all ++ y ∷ [];
-      leads = leads_more WalkPoint.Starting walked.all y walked.leads steps.walks;
+      leads = leads_more WalkPoint.Starting walked.all y walked.leads steps.asked.0;
       reads =
           reads_more walked.all y ∙ ap (λ (l : List ℕ). l ++ number_read steps.op steps.reply) walked.reads
-          ∙ ap (λ (l : List ℕ). numbers ++ l) steps.reads;
+          ∙ ap (λ (l : List ℕ). numbers ++ l) steps.asked.1;
       did =
           steps.did ∙ ap (λ (l : List Replied). l ++ y ∷ []) walked.did
           ∙ append_assoc (replied_to p) walked.all (y ∷ []);
@@ -157,12 +148,3 @@ walked_held {p} {q} r walked on =
       reads = walked.reads;
       did = on.did ∙ walked.did;
     }
-
-pub down_held : (q r : PassState) → Stays q r → (t : WalkPoint) → HoldsDown q t → HoldsDown r t
-down_held q r on WalkPoint.Starting h = tt
-down_held q r on WalkPoint.Checking h = holds_held q r on (Point.Checking Pop) h
-down_held q r on WalkPoint.Peeking h = holds_held q r on Point.Peeking h
-down_held q r on WalkPoint.Testing h = holds_held q r on Point.Testing h
-down_held q r on WalkPoint.Reading h = holds_held q r on Point.Following h
-down_held q r on WalkPoint.Descending h = holds_held q r on Point.Following h
-down_held q r on WalkPoint.Ended h = tt

@@ -34,49 +34,34 @@ own_is_each k n (x ∷ xs) all =
     by_one k x.caller n x.op xs all.0 ∙ ap (λ (l : List Replied). record { op = x.op; reply = reply_of n k x.op } ∷ l)
     (own_is_each k (after_op n k x.op) xs all.1)
 
--- What is asked at each point
+-- What is to be shown at a point, for each answer to what is asked there
+abbrev Each : (Op → Reply → WalkPoint → Type 0) → WalkPoint → Type 0
+Each P WalkPoint.Starting = (v : Value) → P (Op.GetGlobal 0 0) (Reply.Val v) WalkPoint.Checking
+Each P WalkPoint.Checking =
+    P (Op.IsNull 0) (Reply.Num 1) WalkPoint.Ended × P (Op.IsNull 0) (Reply.Num 0) WalkPoint.Peeking
+Each P WalkPoint.Peeking = (v : Value) → P (Op.GetPtr 2 0 0) (Reply.Val v) WalkPoint.Testing
+Each P WalkPoint.Testing =
+    P (Op.IsNull 2) (Reply.Num 1) WalkPoint.Ended × P (Op.IsNull 2) (Reply.Num 0) WalkPoint.Reading
+Each P WalkPoint.Reading = (x : ℕ) → P (Op.GetNum 2 0) (Reply.Num x) WalkPoint.Descending
+Each P WalkPoint.Descending = (v : Value) → P (Op.GetPtr 2 2 1) (Reply.Val v) WalkPoint.Testing
+Each P WalkPoint.Ended = Unit {0}
 
-by_starting : (P : Op → Reply → WalkPoint → Type 0)
-    → ((v : Value) → P (Op.GetGlobal 0 0) (Reply.Val v) WalkPoint.Checking)
-    → {o : Op} {r : Reply} {t : WalkPoint} → Walks WalkPoint.Starting o r t → P o r t
-by_starting P a (start {v}) = a v
-
-by_checking : (P : Op → Reply → WalkPoint → Type 0) → P (Op.IsNull 0) (Reply.Num 1) WalkPoint.Ended
-    → P (Op.IsNull 0) (Reply.Num 0) WalkPoint.Peeking → {o : Op} {r : Reply} {t : WalkPoint}
-    → Walks WalkPoint.Checking o r t
-    → P o r t
-by_checking P a b lack = a
-by_checking P a b go = b
-
-by_peeking : (P : Op → Reply → WalkPoint → Type 0) → ((v : Value) → P (Op.GetPtr 2 0 0) (Reply.Val v) WalkPoint.Testing)
-    → {o : Op} {r : Reply} {t : WalkPoint} → Walks WalkPoint.Peeking o r t → P o r t
-by_peeking P a (peek {v}) = a v
-
-by_testing : (P : Op → Reply → WalkPoint → Type 0) → P (Op.IsNull 2) (Reply.Num 1) WalkPoint.Ended
-    → P (Op.IsNull 2) (Reply.Num 0) WalkPoint.Reading → {o : Op} {r : Reply} {t : WalkPoint}
-    → Walks WalkPoint.Testing o r t
-    → P o r t
-by_testing P a b stop = a
-by_testing P a b meet = b
-
-by_reading : (P : Op → Reply → WalkPoint → Type 0) → ((x : ℕ) → P (Op.GetNum 2 0) (Reply.Num x) WalkPoint.Descending)
-    → {o : Op} {r : Reply} {t : WalkPoint} → Walks WalkPoint.Reading o r t → P o r t
-by_reading P a (read {n = x}) = a x
-
-by_descending : (P : Op → Reply → WalkPoint → Type 0)
-    → ((v : Value) → P (Op.GetPtr 2 2 1) (Reply.Val v) WalkPoint.Testing)
-    → {o : Op} {r : Reply} {t : WalkPoint} → Walks WalkPoint.Descending o r t → P o r t
-by_descending P a (descend {v}) = a v
-
-not_from_end : {s : WalkPoint} {o : Op} {r : Reply} {t : WalkPoint} → Walks s o r t → s ≡ WalkPoint.Ended → ⊥
-not_from_end lack e = cc
-not_from_end _ e = cc
+by_point : (P : Op → Reply → WalkPoint → Type 0) {s : WalkPoint} {o : Op} {r : Reply} {t : WalkPoint} → Walks s o r t
+    → Each P s → P o r t
+by_point P (start {v}) h = h v
+by_point P lack h = h.0
+by_point P go h = h.1
+by_point P (peek {v}) h = h v
+by_point P stop h = h.0
+by_point P meet h = h.1
+by_point P (read {n = x}) h = h x
+by_point P (descend {v}) h = h v
 
 -- Behind its end a walk asks nothing.
 at_end : (k : ℕ) (m : NeverState) (os : List Op) (t : WalkPoint) → LeadsDown WalkPoint.Ended (each k m os) t
     → numbers_read (each k m os) ≡ []
 at_end k m [] t leads = refl
-at_end k m (o ∷ os) t leads = absurd (not_from_end leads.1 refl)
+at_end k m (o ∷ os) t leads = absurd (by_point (λ o r t. ⊥) leads.1 tt)
 
 -- A load that was answered found its word.
 
@@ -145,27 +130,21 @@ module _ (n : NeverState) (k : ℕ) where
   descends : (a : ℕ) (nodes : List ℕ) → Goes (word_at n a 1) nodes → (m : NeverState) (os : List Op)
       → Ready m (Ptr a 0 0) → is_unmapped (allocation_at m a) ≡ false
       → LeadsDown WalkPoint.Descending (each k m os) WalkPoint.Ended → numbers_read (each k m os) ≡ numbers_in n nodes
-  descends a nodes goes m [] ready there leads = absurd (none leads)
-    where
-      none : WalkPoint.Descending ≡ WalkPoint.Ended → ⊥
-      none e = cc
+  descends a nodes goes m [] ready there leads = let e : WalkPoint.Descending ≡ WalkPoint.Ended = leads in cc
   descends a nodes goes m (o ∷ os) ready there leads =
-      by_descending (Asked m os (numbers_in n nodes)) (λ v said rest. goes (after_op m k (Op.GetPtr 2 2 1)) os
+      by_point (Asked m os (numbers_in n nodes)) leads.1 (λ v said rest. goes (after_op m k (Op.GetPtr 2 2 1)) os
       (subst (λ (s : NeverState). Ready s (word_at n a 1)) (sym (next_register m a ready.1 ready.2 there)) (
         ready.0,
         omega (arith, ready.1, length-set m.registers (8 * k + 2) (word_at m a 1)),
         set_register m k 2 (word_at m a 1) (omega (arith, ready.1)) ∙ same_word n m a 1 ready.0,
-      )) rest) leads.1 refl leads.2
+      )) rest) refl leads.2
 
   reads : (a : ℕ) (nodes : List ℕ) → Goes (word_at n a 1) nodes → (m : NeverState) (os : List Op)
       → Ready m (Ptr a 0 0) → LeadsDown WalkPoint.Reading (each k m os) WalkPoint.Ended
       → numbers_read (each k m os) ≡ number_of (word_at n a 0) ∷ numbers_in n nodes
-  reads a nodes goes m [] ready leads = absurd (none leads)
-    where
-      none : WalkPoint.Reading ≡ WalkPoint.Ended → ⊥
-      none e = cc
+  reads a nodes goes m [] ready leads = let e : WalkPoint.Reading ≡ WalkPoint.Ended = leads in cc
   reads a nodes goes m (o ∷ os) ready leads =
-      by_reading (Asked m os (number_of (word_at n a 0) ∷ numbers_in n nodes)) (λ x said rest.
+      by_point (Asked m os (number_of (word_at n a 0) ∷ numbers_in n nodes)) leads.1 (λ x said rest.
       let at : ℕ → ℕ → Reply = λ b w. Reply.Num (number_of (word_at m b w)) in
       let told : reply_at (target_of m (Ptr a 0 0) 0) at ≡ Reply.Num x =
       ap (λ (v : Value). reply_at (target_of m v 0) at) (sym ready.2) ∙ said in
@@ -175,23 +154,22 @@ module _ (n : NeverState) (k : ℕ) where
       (sym (ap (λ (t : Target). reply_at t at) (target m a 0 0 0 there)) ∙ told) in
       ap (λ (r : Reply). number_told r ++ numbers_read (each k m os)) said
       ∙ ap (λ (y : ℕ). y ∷ numbers_read (each k m os)) (sym number)
-      ∙ ap (λ (l : List ℕ). number_of (word_at n a 0) ∷ l) (descends a nodes goes m os ready there rest)) leads.1 refl
+      ∙ ap (λ (l : List ℕ). number_of (word_at n a 0) ∷ l) (descends a nodes goes m os ready there rest)) refl
       leads.2
 
   down : (v : Value) (nodes : List ℕ) → AreLinked n v nodes → Goes v nodes
-  down v nodes linked m [] ready leads = absurd (none leads)
-    where
-      none : WalkPoint.Testing ≡ WalkPoint.Ended → ⊥
-      none e = cc
+  down v nodes linked m [] ready leads = let e : WalkPoint.Testing ≡ WalkPoint.Ended = leads in cc
   down v [] linked m (o ∷ os) ready leads =
-      by_testing (Asked m os []) (λ said rest. at_end k m os WalkPoint.Ended rest)
-      (λ said rest. absurd (differ 0 1 (omega arith) (sym (says_null m k 2 0 Null (ready.2 ∙ linked) said)))) leads.1
-      refl leads.2
+      by_point (Asked m os []) leads.1 (
+        λ said rest. at_end k m os WalkPoint.Ended rest,
+        λ said rest. absurd (differ 0 1 (omega arith) (sym (says_null m k 2 0 Null (ready.2 ∙ linked) said))),
+      ) refl leads.2
   down v (a ∷ nodes) linked m (o ∷ os) ready leads =
-      by_testing (Asked m os (numbers_in n (a ∷ nodes)))
-      (λ said rest. absurd (differ 0 1 (omega arith) (says_null m k 2 1 (Ptr a 0 0) (ready.2 ∙ linked.0) said)))
-      (λ said rest. reads a nodes (down (word_at n a 1) nodes linked.1) m os
-      (ready.0, ready.1, ready.2 ∙ linked.0) rest) leads.1 refl leads.2
+      by_point (Asked m os (numbers_in n (a ∷ nodes))) leads.1 (
+        λ said rest. absurd (differ 0 1 (omega arith) (says_null m k 2 1 (Ptr a 0 0) (ready.2 ∙ linked.0) said)),
+        λ said rest. reads a nodes (down (word_at n a 1) nodes linked.1) m os
+            (ready.0, ready.1, ready.2 ∙ linked.0) rest,
+      ) refl leads.2
 
   -- the first part of a walk, if this is the top, or null
 
@@ -200,12 +178,6 @@ module _ (n : NeverState) (k : ℕ) where
 
   loads : (v : Value) (nodes : List ℕ) → AreLinked n (uppermost n v) nodes → (m : NeverState) (os : List Op)
       → HasTop m v → (w : Value) → Asked m os (numbers_in n nodes) (Op.GetPtr 2 0 0) (Reply.Val w) WalkPoint.Testing
-  loads Null nodes linked m os top w said rest =
-      absurd (null_is_no_val w (sym (ap (λ (u : Value). reply_at (target_of m u 0) (λ a i. Reply.Val (word_at m a i)))
-      top.2) ∙ said))
-  loads (Num x) nodes linked m os top w said rest =
-      absurd (null_is_no_val w (sym (ap (λ (u : Value). reply_at (target_of m u 0) (λ a i. Reply.Val (word_at m a i)))
-      top.2) ∙ said))
   loads (Ptr t ty i) nodes linked m os top w said rest =
       let at : ℕ → ℕ → Reply = λ a j. Reply.Val (word_at m a j) in
       let there = mapped m t ty i 0 at (Reply.Val w)
@@ -220,51 +192,42 @@ module _ (n : NeverState) (k : ℕ) where
         omega (arith, top.1, length-set m.registers (8 * k + 2) (word_at m t (i + 0))),
         set_register m k 2 (word_at m t (i + 0)) (omega (arith, top.1)) ∙ same,
       )) rest
+  loads _ nodes linked m os top w said rest =
+      absurd (null_is_no_val w (sym (ap (λ (u : Value). reply_at (target_of m u 0) (λ a i. Reply.Val (word_at m a i)))
+      top.2) ∙ said))
 
   peeks : (v : Value) (nodes : List ℕ) → AreLinked n (uppermost n v) nodes → (m : NeverState) (os : List Op)
       → HasTop m v → LeadsDown WalkPoint.Peeking (each k m os) WalkPoint.Ended
       → numbers_read (each k m os) ≡ numbers_in n nodes
-  peeks v nodes linked m [] top leads = absurd (none leads)
-    where
-      none : WalkPoint.Peeking ≡ WalkPoint.Ended → ⊥
-      none e = cc
+  peeks v nodes linked m [] top leads = let e : WalkPoint.Peeking ≡ WalkPoint.Ended = leads in cc
   peeks v nodes linked m (o ∷ os) top leads =
-      by_peeking (Asked m os (numbers_in n nodes)) (loads v nodes linked m os top) leads.1 refl leads.2
+      by_point (Asked m os (numbers_in n nodes)) leads.1 (loads v nodes linked m os top) refl leads.2
 
   lacks : (v : Value) (nodes : List ℕ) → AreLinked n (uppermost n v) nodes → (m : NeverState) (os : List Op)
       → HasTop m v → Asked m os (numbers_in n nodes) (Op.IsNull 0) (Reply.Num 1) WalkPoint.Ended
   lacks Null [] linked m os top said rest = at_end k m os WalkPoint.Ended rest
   lacks Null (a ∷ nodes) linked m os top said rest = absurd (null_is_no_pointer a linked.0)
-  lacks (Num x) nodes linked m os top said rest =
-      absurd (differ 0 1 (omega arith) (says_null m k 0 1 (Num x) top.2 said))
-  lacks (Ptr t ty i) nodes linked m os top said rest =
-      absurd (differ 0 1 (omega arith) (says_null m k 0 1 (Ptr t ty i) top.2 said))
+  lacks _ nodes linked m os top said rest = absurd (differ 0 1 (omega arith) (says_null m k 0 1 _ top.2 said))
 
   checks : (v : Value) (nodes : List ℕ) → AreLinked n (uppermost n v) nodes → (m : NeverState) (os : List Op)
       → HasTop m v → LeadsDown WalkPoint.Checking (each k m os) WalkPoint.Ended
       → numbers_read (each k m os) ≡ numbers_in n nodes
-  checks v nodes linked m [] top leads = absurd (none leads)
-    where
-      none : WalkPoint.Checking ≡ WalkPoint.Ended → ⊥
-      none e = cc
+  checks v nodes linked m [] top leads = let e : WalkPoint.Checking ≡ WalkPoint.Ended = leads in cc
   checks v nodes linked m (o ∷ os) top leads =
-      by_checking (Asked m os (numbers_in n nodes)) (lacks v nodes linked m os top)
-      (λ said rest. peeks v nodes linked m os top rest) leads.1 refl leads.2
+      by_point (Asked m os (numbers_in n nodes)) leads.1
+      (lacks v nodes linked m os top, λ said rest. peeks v nodes linked m os top rest) refl leads.2
 
   starts : (nodes : List ℕ) → AreLinked n (uppermost n (global_at n 0)) nodes → 8 * k + 7 < length n.registers
       → (os : List Op) → LeadsDown WalkPoint.Starting (each k n os) WalkPoint.Ended
       → numbers_read (each k n os) ≡ numbers_in n nodes
-  starts nodes linked room [] leads = absurd (none leads)
-    where
-      none : WalkPoint.Starting ≡ WalkPoint.Ended → ⊥
-      none e = cc
+  starts nodes linked room [] leads = let e : WalkPoint.Starting ≡ WalkPoint.Ended = leads in cc
   starts nodes linked room (o ∷ os) leads =
-      by_starting (Asked n os (numbers_in n nodes)) (λ v said rest.
+      by_point (Asked n os (numbers_in n nodes)) leads.1 (λ v said rest.
       checks (global_at n 0) nodes linked (with_register n k 0 (global_at n 0)) os (
         refl,
         omega (arith, room, length-set n.registers (8 * k + 0) (global_at n 0)),
         set_register n k 0 (global_at n 0) (omega (arith, room)),
-      ) rest) leads.1 refl leads.2
+      ) rest) refl leads.2
 
 -- A walk changes nothing.
 

@@ -1,9 +1,9 @@
 -- A caller writes to a node of its own.
 use Rattle.mk_stack.proofs.Vocabulary.{Done, NeverState, Null, Op, Point, Replied, Value, freed_by, with_word, word_at}
 use Rattle.mk_stack.proofs.Vocabulary.{words_of}
-use Rattle.mk_laws.proofs.Vocabulary.{List, None, Option, ℕ, ap, arith, cases_eq, cases_lt, get_or, inl, inr, length}
+use Rattle.mk_laws.proofs.Vocabulary.{List, None, Option, ℕ, ap, cases_eq, cases_lt, get_or, inl, inr, length}
 use Rattle.mk_laws.proofs.Vocabulary.{length-set, refl, subst, sym, ◌<◌, ◌∙◌, ◌≡◌, ◌≢◌, ◌≤◌, ◌⊎◌}
-use Rattle.mk_stack.proofs.Assembly.{Stepped, assemble, moved, nothing, same_before}
+use Rattle.mk_stack.proofs.Assembly.{Stepped, nothing, same_roles}
 use Rattle.mk_stack.proofs.Heaps.{other_words, written_flag, written_size, written_type}
 use Rattle.mk_stack.proofs.Invariant.{Core, HasChain, Inv, IsHeld, Local, Work}
 use Rattle.mk_stack.proofs.Roles.{Base, Private, Role, RoleKeeps, Stacked, Taken, Unborn, same_role}
@@ -113,20 +113,10 @@ module _ {callers : ℕ} {n : NeverState} {top : Option ℕ} {role : ℕ → Rol
         chain = write_chain;
       }
 
-  pub by_write : (s : Point) (u : Option Done) (o : Op) (next : Point) (rest : List Replied)
+  pub by_write : {s : Point} {u : Option Done} {o : Op} {next : Point} {rest : List Replied}
       → Local m top role c next u → ((b : ℕ) → IsHeld m (role b) c b next) → ((b : ℕ) → freed_by b n c o ≡ 0)
       → Stepped callers n role nodes W c s u o next rest m
-  by_write s u o next rest local held frees =
-      record {
-        top_now = top;
-        role_now = role;
-        nodes_now = nodes;
-        decided = u;
-        decision = None;
-        inv = assemble inv c m top role nodes (moved (W c) next u rest) write_core
-            write_leaves (λ k b other. same_before k (role b)) local held;
-        left = all_numbers_stay n m top role nodes
-            (λ b e. word_stays b 0 Stacked e (λ same. private_stacked c (sym same))) inv.core.chain;
-        decides = nothing;
-        frees = λ b. omega (arith, frees b);
-      }
+  by_write {u} local held frees =
+      same_roles inv c m top u None write_core write_leaves local held
+      (all_numbers_stay n m top role nodes (λ b e. word_stays b 0 Stacked e (λ same. private_stacked c (sym same)))
+      inv.core.chain) nothing frees

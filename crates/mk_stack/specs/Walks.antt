@@ -1,5 +1,6 @@
 -- A walk: a caller goes down the stack, and reads the number of each node. Private functions alone cite these words.
-use Rattle.std.specs.Prelude.{◌≡◌, ◌+◌, ◌*◌, ◌<◌, ℕ, List, [], ◌∷◌, ◌++◌, length}
+use Rattle.std.specs.Prelude.{◌≡◌, ◌+◌, ◌*◌, ◌<◌, ℕ, List, [], ◌∷◌, ◌++◌, length, Option, Some, None, if◌then◌else◌}
+use Rattle.mk_core.specs.declared.events.Answer.{Answer}
 use Rattle.mk_never.specs.declared.values.Value.{Value}
 use Rattle.mk_never.specs.declared.operations.Op.{Op}
 use Rattle.mk_never.specs.declared.operations.Op.TheVariants as op
@@ -7,14 +8,11 @@ use Rattle.mk_never.specs.declared.operations.Reply.{Reply}
 use Rattle.mk_never.specs.declared.operations.Reply.TheVariants as reply
 use Rattle.mk_never.specs.NeverHeap.{NeverState, Call, global_at}
 use Rattle.mk_words.specs.States.{PassState}
-use Rattle.mk_caller.specs.States.{value_of}
-use Rattle.mk_stack.specs.declared.points.Point.{Point}
-use Rattle.mk_stack.specs.declared.points.Point.TheVariants as point
 use Rattle.mk_stack.specs.declared.walking.Found.{Found}
 use Rattle.mk_stack.specs.declared.walking.Found.TheVariants as found
 use Rattle.mk_stack.specs.declared.walking.WalkPoint.{WalkPoint}
 use Rattle.mk_stack.specs.declared.walking.WalkPoint.TheVariants as walk
-use Rattle.mk_stack.specs.Advancing.{IsPointerTo, MayPointTo}
+use Rattle.mk_stack.specs.Advancing.{number_answered, says_yes}
 use Rattle.mk_stack.specs.Interleavings.{own_replied}
 use Rattle.mk_stack.specs.Jobs.{Replied}
 use Rattle.mk_stack.specs.Laws.{AreLinked, uppermost, numbers_in}
@@ -63,43 +61,25 @@ WalksReadTheStack =
     → LeadsDown walk.Starting (own_replied k n calls) walk.Ended
     → AreLooks calls × (numbers_read (own_replied k n calls) ≡ numbers_in n nodes)
 
--- the point of a walk, by that of the pop as which it begins
-abbrev pub walk_point : Point → WalkPoint
-walk_point (point.Checking j) = walk.Checking
-walk_point point.Peeking = walk.Peeking
-walk_point point.Testing = walk.Testing
-walk_point point.Following = walk.Reading
-walk_point _ = walk.Ended
+-- the operation that is asked at a point of a walk, until it has ended
+abbrev pub op_down : WalkPoint → Option Op
+op_down walk.Starting = Some (op.GetGlobal 0 0)
+op_down walk.Checking = Some (op.IsNull 0)
+op_down walk.Peeking = Some (op.GetPtr 2 0 0)
+op_down walk.Testing = Some (op.IsNull 2)
+op_down walk.Reading = Some (op.GetNum 2 0)
+op_down walk.Descending = Some (op.GetPtr 2 2 1)
+op_down walk.Ended = None
 
--- where the walk is after what it finds, and the numbers among that
-
-abbrev pub next_of : Found → WalkPoint
-next_of (found.To t) = t
-next_of (found.Number n) = walk.Descending
-
-abbrev pub numbers_found : Found → List ℕ
-numbers_found (found.To t) = []
-numbers_found (found.Number n) = n ∷ []
-
--- what the caller's registers hold at each point: 0 has the top, and 2 a node
-abbrev pub HoldsDown : PassState → WalkPoint → Type 0
-HoldsDown p walk.Starting = Unit {0}
-HoldsDown p walk.Checking = MayPointTo 1 (value_of p 0)
-HoldsDown p walk.Peeking = IsPointerTo 1 (value_of p 0)
-HoldsDown p walk.Testing = IsPointerTo 1 (value_of p 0) × MayPointTo 0 (value_of p 2)
-HoldsDown p walk.Reading = IsPointerTo 1 (value_of p 0) × IsPointerTo 0 (value_of p 2)
-HoldsDown p walk.Descending = IsPointerTo 1 (value_of p 0) × IsPointerTo 0 (value_of p 2)
-HoldsDown p walk.Ended = Unit {0}
-
--- One operation leads from point s to point t, and reads these numbers.
-pub record StepsDown (p : PassState) (s : WalkPoint) (numbers : List ℕ) (q : PassState) (t : WalkPoint) : Type 0 where
-  pub is : q ≡ record p { seen = q.seen }
-  pub op : Op
-  pub reply : Reply
-  pub walks : Walks s op reply t
-  pub reads : number_read op reply ≡ numbers
-  pub did : replied_to q ≡ replied_to p ++ record { op = op; reply = reply } ∷ []
-  pub holds : HoldsDown q t
+-- what the answer tells of the stack
+abbrev pub found_down : WalkPoint → Answer → Found
+found_down walk.Starting told = found.To walk.Checking
+found_down walk.Checking told = if says_yes told then found.To walk.Ended else found.To walk.Peeking
+found_down walk.Peeking told = found.To walk.Testing
+found_down walk.Testing told = if says_yes told then found.To walk.Ended else found.To walk.Reading
+found_down walk.Reading told = found.Number (number_answered told)
+found_down walk.Descending told = found.To walk.Testing
+found_down walk.Ended told = found.To walk.Ended
 
 -- The pass has seen more, in which its caller walked down to point t, and read these numbers.
 pub record HasWalked (p : PassState) (numbers : List ℕ) (q : PassState) (t : WalkPoint) : Type 0 where

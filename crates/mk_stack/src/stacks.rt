@@ -1,15 +1,17 @@
 //! Numbers on a stack that callers share.
-ghost use Rattle.std.specs.Prelude.{◌≡◌, ◌<◌, OnOk, OnErr, true, false};
-ghost use Rattle.mk_stack.specs.Advancing.{IsAtPoint, IsFit, IsGoal, StaysEnded};
+ghost use Rattle.std.specs.Prelude.{◌≡◌, ◌<◌, OnOk, OnErr};
+ghost use Rattle.mk_caller.specs.States.{value_of};
+ghost use Rattle.mk_stack.specs.Advancing.{HoldsAt, IsFit, IsGoal, StaysEnded};
 ghost use Rattle.mk_stack.specs.Passes.{DoesJob, GoesToPoint, popped};
 ghost use Rattle.mk_stack.specs.Ready.{IsReady, IsReadyForJobs};
 
-use crate::advancing::{BELOW, NODE, UPPERMOST, advance, clear};
+use crate::advancing::{BELOW, NODE, UPPERMOST, next_point, op_at};
 use crate::jobs::{Done, Job};
 use crate::points::Point;
 use crossbeam_utils::Backoff;
 use mk_caller::Caller;
 use mk_cycle::{Bench, Engine};
+use mk_run::answer_now;
 use mk_words::Held;
 use std::sync::Wait;
 use std::thread::Threads;
@@ -17,14 +19,6 @@ use std::thread::Threads;
 /// No node could be made, and the stack is as it was.
 #[derive(Clone, Copy, Debug, PartialEq, Eq)]
 pub struct Full;
-
-/// Whether a caller has ended its job, or the founding of the stack.
-fn is_goal(point: Point) -> bool
-    ensures goal { result ≡ true → IsGoal point }
-    ensures goes_on { result ≡ false → IsGoal point → ⊥ }
-{
-    matches!(point, Point::Founded | Point::Ended(_))
-}
 
 /// Carries out the operations from a point to the end of the job. One that finds its gate held is tried again.
 fn go<E: Engine, R: Threads + Wait + Sync>(
@@ -34,7 +28,7 @@ fn go<E: Engine, R: Threads + Wait + Sync>(
     from: Point,
 ) -> Point
     requires ready { IsReadyForJobs E.made_for caller.old bench.old }
-    requires holds { IsAtPoint caller.old.pass from }
+    requires holds { HoldsAt (value_of caller.old.pass) from }
     ensures ready { IsReadyForJobs E.made_for caller.new bench.new }
     ensures goes { GoesToPoint caller.old.pass from caller.new.pass result }
     ensures goal { IsGoal result }
@@ -42,11 +36,14 @@ fn go<E: Engine, R: Threads + Wait + Sync>(
     let backoff = Backoff::new();
     let mut point = from;
     'points: for _ in rt.forever() {
-        if is_goal(point) {
+        let Some(op) = op_at(point) else {
             return point;
-        }
-        match advance(rt, caller, bench, point) {
-            Ok(next) => point = next,
+        };
+        caller.is_idle();
+        let answer = answer_now(rt, caller, bench, op);
+        caller.is_idle();
+        match answer {
+            Ok(told) => point = next_point(point, told),
             Err(Held) => backoff.snooze(),
         }
     }
@@ -78,7 +75,10 @@ fn forget<R: Wait>(rt: &R, caller: &mut Caller, register: u8)
 {
     let backoff = Backoff::new();
     'tries: for _ in rt.forever() {
-        match clear(caller, register) {
+        caller.is_idle();
+        let cleared = caller.clear(register);
+        caller.is_idle();
+        match cleared {
             Ok(()) => return,
             Err(Held) => backoff.snooze(),
         }

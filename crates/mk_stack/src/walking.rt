@@ -1,16 +1,17 @@
 //! A walk down the stack: a caller reads what is on it.
-ghost use Rattle.std.specs.Prelude.{◌≡◌, [], IfOk, OnErr, true, false};
+ghost use Rattle.std.specs.Prelude.{◌≡◌, IfOk};
 ghost use Rattle.mk_stack.specs.declared.walking.WalkPoint.TheVariants as walk;
-ghost use Rattle.mk_stack.specs.Advancing.{Stays};
 ghost use Rattle.mk_stack.specs.Ready.{IsReady};
-ghost use Rattle.mk_stack.specs.Walks.{HasWalked, HoldsDown, StepsDown, next_of, numbers_found, walk_point};
+ghost use Rattle.mk_stack.specs.Walks.{HasWalked, found_down, op_down};
 
-use crate::advancing::{LINK, NUMBER, UPPERMOST, check_top, load_top, peek, test};
-use crate::jobs::Job;
-use crate::points::Point;
+use crate::advancing::{
+    FIRST, LINK, STACK, TOP, UPPERMOST, load, load_number, number_answered, says_yes,
+};
 use crossbeam_utils::Backoff;
 use mk_caller::Caller;
-use mk_never::NoMemory;
+use mk_core::Answer;
+use mk_never::{NoMemory, Op};
+use mk_run::call;
 use mk_words::Held;
 use std::alloc::Global;
 use std::sync::Wait;
@@ -42,89 +43,34 @@ pub(crate) enum Found {
     Number(u64),
 }
 
-/// Whether a walk has ended.
-fn has_ended(point: WalkPoint) -> bool
-    ensures ended { result ≡ true → point ≡ walk.Ended }
-    ensures goes_on { result ≡ false → point ≡ walk.Ended → ⊥ }
-{
-    matches!(point, WalkPoint::Ended)
-}
-
-/// A walk begins as a pop does: this is the point of the walk, by that of the pop.
-fn walk_point(point: Point) -> WalkPoint
-    ensures { result ≡ walk_point point }
+/// The operation that is asked at a point of a walk, until it has ended.
+fn op_down(point: WalkPoint) -> Option<Op>
+    ensures { result ≡ op_down point }
 {
     match point {
-        Point::Checking(_) => WalkPoint::Checking,
-        Point::Peeking => WalkPoint::Peeking,
-        Point::Testing => WalkPoint::Testing,
-        Point::Following => WalkPoint::Reading,
-        _ => WalkPoint::Ended,
+        WalkPoint::Starting => Some(Op::GetGlobal { d: TOP, g: STACK }),
+        WalkPoint::Checking => Some(Op::IsNull { p: TOP }),
+        WalkPoint::Peeking => Some(load(UPPERMOST, TOP, FIRST)),
+        WalkPoint::Testing => Some(Op::IsNull { p: UPPERMOST }),
+        WalkPoint::Reading => Some(load_number(UPPERMOST)),
+        WalkPoint::Descending => Some(load(UPPERMOST, UPPERMOST, LINK)),
+        WalkPoint::Ended => None,
     }
 }
 
-/// Loads the number of a node, which stays on the stack.
-fn read_number(caller: &mut Caller) -> Result<Found, Held>
-    requires ready { IsReady caller.old }
-    requires holds { HoldsDown caller.old.pass walk.Reading }
-    ensures home { caller.new.home ≡ true }
-    ensures steps { IfOk result (λ found.
-        StepsDown caller.old.pass walk.Reading (numbers_found found) caller.new.pass (next_of found)) }
-    ensures held { OnErr result (Stays caller.old.pass caller.new.pass) }
-{
-    caller.is_idle();
-    let read = caller.get_num(UPPERMOST, NUMBER);
-    caller.is_idle();
-    match read {
-        Ok(n) => Ok(Found::Number(n)),
-        Err(_) => Err(Held),
-    }
-}
-
-/// Loads the node below in place of the node.
-fn descend(caller: &mut Caller) -> Result<Found, Held>
-    requires ready { IsReady caller.old }
-    requires holds { HoldsDown caller.old.pass walk.Descending }
-    ensures home { caller.new.home ≡ true }
-    ensures steps { IfOk result (λ found.
-        StepsDown caller.old.pass walk.Descending (numbers_found found) caller.new.pass (next_of found)) }
-    ensures held { OnErr result (Stays caller.old.pass caller.new.pass) }
-{
-    caller.is_idle();
-    let loaded = caller.get_ptr(UPPERMOST, UPPERMOST, LINK);
-    caller.is_idle();
-    match loaded {
-        Ok(()) => Ok(Found::To(WalkPoint::Testing)),
-        Err(_) => Err(Held),
-    }
-}
-
-/// What a walk finds that goes on as a pop does.
-fn go_on(next: Point) -> Found
-    ensures next { next_of result ≡ walk_point next }
-    ensures numbers { numbers_found result ≡ [] }
-{
-    Found::To(walk_point(next))
-}
-
-/// The operation of a point of a walk, and what it finds; or the gate was held, and nothing was asked.
-fn go_down(caller: &mut Caller, point: WalkPoint) -> Result<Found, Held>
-    requires ready { IsReady caller.old }
-    requires holds { HoldsDown caller.old.pass point }
-    requires goes_on { point ≡ walk.Ended → ⊥ }
-    ensures home { caller.new.home ≡ true }
-    ensures steps { IfOk result (λ found.
-        StepsDown caller.old.pass point (numbers_found found) caller.new.pass (next_of found)) }
-    ensures held { OnErr result (Stays caller.old.pass caller.new.pass) }
+/// What the answer tells of the stack.
+fn found_down(point: WalkPoint, told: Answer) -> Found
+    ensures { result ≡ found_down point told }
 {
     match point {
-        WalkPoint::Starting => Ok(go_on(load_top(caller, Job::Pop)?)),
-        WalkPoint::Checking => Ok(go_on(check_top(caller, Job::Pop)?)),
-        WalkPoint::Peeking => Ok(go_on(peek(caller)?)),
-        WalkPoint::Testing => Ok(go_on(test(caller)?)),
-        WalkPoint::Reading => read_number(caller),
-        WalkPoint::Descending => descend(caller),
-        WalkPoint::Ended => unreachable!(),
+        WalkPoint::Starting => Found::To(WalkPoint::Checking),
+        WalkPoint::Checking if says_yes(told) => Found::To(WalkPoint::Ended),
+        WalkPoint::Checking => Found::To(WalkPoint::Peeking),
+        WalkPoint::Peeking | WalkPoint::Descending => Found::To(WalkPoint::Testing),
+        WalkPoint::Testing if says_yes(told) => Found::To(WalkPoint::Ended),
+        WalkPoint::Testing => Found::To(WalkPoint::Reading),
+        WalkPoint::Reading => Found::Number(number_answered(told)),
+        WalkPoint::Ended => Found::To(WalkPoint::Ended),
     }
 }
 
@@ -143,15 +89,20 @@ pub(crate) fn read_stack<R: Wait>(
     let mut left = Vec::new(alloc);
     let mut point = WalkPoint::Starting;
     'points: for _ in rt.forever() {
-        if has_ended(point) {
+        let Some(op) = op_down(point) else {
             return Ok(left);
-        }
-        match go_down(caller, point) {
-            Ok(Found::To(next)) => point = next,
-            Ok(Found::Number(n)) => {
-                left.push(n)?;
-                point = WalkPoint::Descending;
-            }
+        };
+        caller.is_idle();
+        let answer = call(caller, op);
+        caller.is_idle();
+        match answer {
+            Ok(told) => match found_down(point, told) {
+                Found::To(next) => point = next,
+                Found::Number(n) => {
+                    left.push(n)?;
+                    point = WalkPoint::Descending;
+                }
+            },
             Err(Held) => backoff.snooze(),
         }
     }

@@ -1,8 +1,8 @@
 use Rattle.mk_laws.proofs.Vocabulary.{Step, ap, is_held, subst, sym, true, ◌∙◌, ◌≡◌}
 use Rattle.mk_heap_tests.proofs.Vocabulary.{IsEnabledTo, in_turn, now_of}
 use Rattle.mk_heap_tests.proofs.LateMarkers.{HasHeld, all_held, may_hold, may_want, on_ok, stop_table}
-use Rattle.mk_words.specs.States.{TurnState}
 use Rattle.mk_heap_tests.proofs.late_markers.want_close.Goals.{After-is_in_order-2}
+use Rattle.mk_words.specs.States.{TurnState}
 use Rattle.mk_heap_tests.proofs.late_markers.want_close.Goals as goal
 
 pub try_hold-requires-clause-one_table : goal.try_hold-requires-clause-one_table

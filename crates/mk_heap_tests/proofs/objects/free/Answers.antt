@@ -1,4 +1,3 @@
-use Rattle.mk_laws.proofs.Vocabulary.{length}
 use Rattle.mk_heap_tests.proofs.HeldObjects.{is_alone, may_then, number_is, ready_free, same_free}
 use Rattle.mk_heap_tests.proofs.objects.free.Goals as goal
 

@@ -1,4 +1,3 @@
-use Rattle.mk_laws.proofs.Vocabulary.{length}
 use Rattle.mk_heap_tests.proofs.HeldObjects.{is_alone, may_then, number_is, ready_new, same_new}
 use Rattle.mk_heap_tests.proofs.objects.make.Goals as goal
 

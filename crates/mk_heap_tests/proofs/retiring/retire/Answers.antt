@@ -1,9 +1,10 @@
-use Rattle.mk_laws.proofs.Vocabulary.{subst}
+use Rattle.mk_laws.proofs.Vocabulary.{Op, subst}
 use Rattle.mk_heap_tests.proofs.Vocabulary.{in_turn}
-use Rattle.mk_heap_tests.proofs.RetiringTurns.{IsTaken, double_back, double_may_give, freed_back, freed_may_give}
-use Rattle.mk_heap_tests.proofs.RetiringTurns.{is_unloaded, may_retire, phase, taken_table}
-use Rattle.mk_objects.specs.Retired.{Retires}
+use Rattle.mk_heap_tests.proofs.NewTurns.{IsTaken, phase, taken_table}
+use Rattle.mk_heap_tests.proofs.RetiringTurns.{double_back, double_may_give, freed_back, freed_may_give, is_unloaded}
+use Rattle.mk_heap_tests.proofs.RetiringTurns.{may_retire}
 use Rattle.mk_heap_tests.proofs.retiring.retire.Goals.{After-is_in_order-2}
+use Rattle.mk_objects.specs.Retired.{Retires}
 use Rattle.mk_heap_tests.proofs.retiring.retire.Goals as goal
 
 pub take_turn-turn-requires-clause-enabled : goal.take_turn-turn-requires-clause-enabled
@@ -12,14 +13,13 @@ take_turn-turn-requires-clause-enabled g c =
     c.requires.register
 
 taken : (g : _) (c : After-is_in_order-2 g)
-    → IsTaken c.args.words.now c.args.number c.args.p c.args.home c.take_turn-turn.result.pass
+    → IsTaken c.args.words.now c.args.number (Op.Free c.args.p) c.args.home c.take_turn-turn.result.pass
 taken g c =
     let t = c.take_turn-turn in
     let j = c.is_in_order-2.ensures in
     record {
-      is = c.requires.pass;
+      is = c.requires.pass.pass;
       few = c.requires.exists;
-      small = c.requires.register;
       own = c.is_in_order.ensures.own;
       takes = t.ensures.takes;
       fresh = t.ensures.fresh;
@@ -35,7 +35,8 @@ retire_object-requires-clause-one_table g c κs within =
 
 pub retire_object-requires-clause-unloaded : goal.retire_object-requires-clause-unloaded
 retire_object-requires-clause-unloaded g c κs within =
-    is_unloaded (taken g (goal.at.retire_object-requires-clause-unloaded g c).After-is_in_order-2)
+    is_unloaded (taken g (goal.at.retire_object-requires-clause-unloaded g c).After-is_in_order-2) c.requires.register
+    c.requires.pass.objects
 
 pub retire_object-requires-clause-phase : goal.retire_object-requires-clause-phase
 retire_object-requires-clause-phase g c κs within =
@@ -55,7 +56,7 @@ returns-else-freed g c =
     let k = c.is_in_order-in-Ok.ensures in
     freed_back (taken g (goal.at.returns-else-freed g c).After-is_in_order-2)
     (subst (λ b. Retires c.take_turn-turn.result.pass c.args.p b d.pass) c.if-freed.false c.in-Ok.ensures.freed)
-    (in_turn d.pass d.op k.own k.turn k.history)
+    (in_turn d.pass d.op k.own k.turn k.history) c.requires.pass.objects
     c.give-back.result c.give-back.ensures.acts.makes c.give-back.ensures.rests
     c.is_in_order-in-Ok-2.ensures.history
 
@@ -71,6 +72,6 @@ returns-in-Err g c =
     let d = c.retire_object.new.turn in
     let k = c.is_in_order-in-Err.ensures in
     double_back (taken g (goal.at.returns-in-Err g c).After-is_in_order-2) c.in-Err.ensures.double
-    (in_turn d.pass d.op k.own k.turn k.history)
+    (in_turn d.pass d.op k.own k.turn k.history) c.requires.pass.objects
     c.give-back-in-Err.result c.give-back-in-Err.ensures.acts.makes c.give-back-in-Err.ensures.rests
     c.is_in_order-in-Err-2.ensures.history

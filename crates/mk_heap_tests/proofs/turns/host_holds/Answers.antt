@@ -1,28 +1,19 @@
-use Rattle.mk_laws.proofs.Vocabulary.{Caller, Config, ap, arith, lt-ltb, subst, sym, ◌<◌, ◌∙◌}
-use Rattle.mk_heap_tests.proofs.Vocabulary.{Has, PassState, has_all}
-use Rattle.mk_heap_tests.proofs.JoinedHosts.{free_at_first, split_at_first}
+use Rattle.mk_laws.proofs.Vocabulary.{Config, ap, subst, sym, ◌<◌, ◌∙◌}
+use Rattle.mk_heap_tests.proofs.JoinedHosts.{caller_is_home, free_at_first, split_at_first, still_unused, unused}
 use Rattle.mk_heap_tests.proofs.turns.host_holds.Goals as goal
 
 pub split-caller-requires-clause-here : goal.split-caller-requires-clause-here
 split-caller-requires-clause-here c =
-    let d : Config = c.args.config.now in
-    let some = c.requires.limits.callers in
-    subst (λ (x : PassState). Has x.seats (Caller 0)) (sym c.in_ok-words.ensures.pass)
-    (has_all d (Caller 0) (lt-ltb 0 d.callers (omega arith)))
+    caller_is_home c.args.config.now 0 c.requires.limits.callers.0 c.in_ok-words.ensures.pass
 
 pub host_told-requires-clause-without : goal.host_told-requires-clause-without
 host_told-requires-clause-without c =
-    let first = c.in_ok-words.ensures.pass in
-    let split = c.split-caller.ensures.pass in
     free_at_first c.in_ok-words.words c.split-caller.new.pass
-    (ap (λ (p : PassState). p.table) split ∙ ap (λ (p : PassState). p.table) first)
-    (ap (λ (p : PassState). p.seen) split ∙ ap (λ (p : PassState). p.seen) first)
+    (still_unused (unused c.in_ok-words.ensures.pass) c.split-caller.ensures.pass)
 
 pub host_told-requires-clause-caller : goal.host_told-requires-clause-caller
 host_told-requires-clause-caller c =
-    let first = c.in_ok-words.ensures.pass in
-    split_at_first c.in_ok-words.words 0 c.in_ok-words.host c.split-caller.result
-    (ap (λ (p : PassState). p.table) first) (ap (λ (p : PassState). p.seen) first)
+    split_at_first c.in_ok-words.words 0 c.in_ok-words.host c.split-caller.result (unused c.in_ok-words.ensures.pass)
     (subst (λ (d : Config). 0 < d.callers) (sym c.in_ok-words.ensures.config) c.requires.limits.callers.0)
     c.split-caller.ensures.made
 

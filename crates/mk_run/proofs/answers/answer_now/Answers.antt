@@ -6,9 +6,7 @@ use Rattle.mk_run.proofs.answers.answer_now.Goals as goal
 
 pub new_object-requires-clause-ty : goal.new_object-requires-clause-ty
 new_object-requires-clause-ty g c κs within =
-    let p = c.args.caller.now.pass in
-    type_exists p c.args.op c.in-New.d c.in-New.ty c.in-New.full c.in-New.is
-    (c.requires.admitted p.seen c.is_idle.ensures.history refl)
+    type_exists c.args.caller.now.pass c.args.op c.in-New.d c.in-New.ty c.in-New.full c.in-New.is c.requires.admitted
 
 pub returns-in-Ok-clause-answers : goal.returns-in-Ok-clause-answers
 returns-in-Ok-clause-answers g c =
@@ -42,6 +40,8 @@ returns-in-Ok-call g c =
       home = c.call.ensures.home;
       made_for = refl;
       answers = answers;
+      called = λ beside. called;
+      beside = tt;
       held = tt;
       reached = λ off. calls_sweep_nothing p c.args.op called.answer q called.called;
       begun = beside_begun g.E.Engine.begins p q (answers.beside entered);
@@ -58,7 +58,9 @@ returns-in-Err-call g c =
       home = c.call.ensures.home;
       made_for = refl;
       answers = tt;
-      held = record { beside = entered; none = λ on. makes_none on p c.args.op q held };
+      called = tt;
+      beside = entered;
+      held = held;
       reached = λ off. sweep_nothing_where_held p c.args.op q c.is_idle.ensures.own held;
       begun = beside_begun g.E.Engine.begins p q none.beside;
     }

@@ -1,40 +1,42 @@
-use Rattle.mk_laws.proofs.Vocabulary.{subst, sym, true, ◌<◌}
+use Rattle.mk_laws.proofs.Vocabulary.{refl, subst, sym, true, ◌<◌}
 use Rattle.mk_run.proofs.Vocabulary.{PassState, sweeps_then}
 use Rattle.mk_caller.specs.States.{caller_of_pass}
-use Rattle.mk_run.proofs.{BegunScripts.beside_begun, ScriptCalls.none_then_answers, ScriptCalls.stays_admitted_after}
+use Rattle.mk_run.proofs.ScriptCalls.{makes_none, none_then_answers, stays_admitted_after}
+use Rattle.mk_run.proofs.BegunScripts.{beside_begun}
 use Rattle.mk_run.proofs.answers.answer_to.Goals as goal
+
+pub answer_now-requires-clause-admitted : goal.answer_now-requires-clause-admitted
+answer_now-requires-clause-admitted g c κs within =
+    c.requires.admitted c.args.caller.now.pass.seen c.is_idle.ensures.history refl
 
 pub call_until_open-requires : goal.call_until_open-requires
 call_until_open-requires g c =
     let p = c.args.caller.now.pass in
-    let held = c.in-Err.ensures.held in
-    let none = held.none true in
+    let none = makes_none true p c.args.op c.answer_now.new.caller.pass c.in-Err.ensures.held in
     record {
       home = c.answer_now.ensures.home;
       exists = subst (λ (q : PassState). caller_of_pass q < q.table.config.callers) (sym none.is) c.requires.exists;
-      entered = held.beside;
+      entered = c.in-Err.ensures.beside;
       admitted = stays_admitted_after true p c.args.op c.answer_now.new.caller.pass c.requires.admitted none;
     }
 
 pub returns-in-Err-clause-answers : goal.returns-in-Err-clause-answers
 returns-in-Err-clause-answers g c =
-    let held = c.in-Err.ensures.held in
-    none_then_answers g.E.Engine.on c.args.caller.now.pass c.answer_now.new.caller.pass c.args.op
-    c.call_until_open.result c.call_until_open.new.caller.pass (held.none g.E.Engine.on) held.beside
+    let p = c.args.caller.now.pass in
+    let q = c.answer_now.new.caller.pass in
+    none_then_answers g.E.Engine.on p q c.args.op c.call_until_open.result c.call_until_open.new.caller.pass
+    (makes_none g.E.Engine.on p c.args.op q c.in-Err.ensures.held) c.in-Err.ensures.beside
     (c.call_until_open.ensures.answers g.E.Engine.on)
 
 pub returns-in-Err-clause-reached : goal.returns-in-Err-clause-reached
 returns-in-Err-clause-reached g c =
-    let none = c.in-Err.ensures.held.none g.E.Engine.on in
-    λ off. sweeps_then c.args.caller.now.pass c.answer_now.new.caller.pass c.call_until_open.new.caller.pass none.is
+    let p = c.args.caller.now.pass in
+    let q = c.answer_now.new.caller.pass in
+    λ off. sweeps_then p q c.call_until_open.new.caller.pass
+    (makes_none g.E.Engine.on p c.args.op q c.in-Err.ensures.held).is
     (c.answer_now.ensures.reached off) c.call_until_open.ensures.reached
 
 pub returns-in-Err-clause-begun : goal.returns-in-Err-clause-begun
 returns-in-Err-clause-begun g c =
-    let held = c.in-Err.ensures.held in
-    let answers =
-    none_then_answers g.E.Engine.on c.args.caller.now.pass c.answer_now.new.caller.pass c.args.op
-    c.call_until_open.result c.call_until_open.new.caller.pass (held.none g.E.Engine.on) held.beside
-    (c.call_until_open.ensures.answers g.E.Engine.on) in
     beside_begun g.E.Engine.begins c.args.caller.now.pass c.call_until_open.new.caller.pass
-    (answers.beside held.beside)
+    ((returns-in-Err-clause-answers g c).beside c.in-Err.ensures.beside)

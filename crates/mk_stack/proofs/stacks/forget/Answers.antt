@@ -1,25 +1,28 @@
 use Rattle.mk_stack.proofs.Vocabulary.{Empty}
 use Rattle.mk_stack.proofs.Going.{goes_held, goes_through, ready_on, seen_then}
+use Rattle.mk_stack.proofs.{Advances.clears, Advances.ready_state, PointSteps.may_clear, Replies.stays_held}
 use Rattle.mk_stack.proofs.stacks.forget.Goals as goal
 
-pub returns-in-Ok-clause-ended : goal.returns-in-Ok-clause-ended
-returns-in-Ok-clause-ended g c d = goes_through (c.tries.invariant.ended d) (c.in-Ok.ensures.ended d)
+pub clear-cleared-requires-clause-admitted : goal.clear-cleared-requires-clause-admitted
+clear-cleared-requires-clause-admitted g c =
+    may_clear (ready_state c.tries.invariant.ready c.is_idle.ensures.history) c.args.register c.requires.register
 
-pub returns-in-Ok-clause-pass : goal.returns-in-Ok-clause-pass
-returns-in-Ok-clause-pass g c =
-    seen_then c.args.caller.now.pass c.tries.caller.pass c.clear.new.caller.pass c.tries.invariant.is
-    (c.in-Ok.ensures.ended Empty).is
+pub returns-in-Ok : goal.returns-in-Ok
+returns-in-Ok g c =
+    let before = c.tries.invariant in
+    let on = clears c.args.register c.requires.register c.is_idle-in-tries.ensures.history c.in-Ok.ensures.called in
+    record {
+      ready = ready_on before.ready c.clear-cleared.ensures.home (on Empty).is;
+      pass = seen_then c.args.caller.now.pass c.tries.caller.pass c.clear-cleared.new.self.pass before.is (on Empty).is;
+      ended = λ d. goes_through (before.ended d) (on d);
+    }
 
 pub tries-preserved : goal.tries-preserved
 tries-preserved g c =
-    let held = c.in-Err.ensures.held in
+    let before = c.tries.invariant in
+    let held = stays_held c.in-Err.ensures.held in
     record {
-      ready = ready_on c.tries.invariant.ready c.clear.ensures.home held.is;
-      ended = λ d. goes_held _ (c.tries.invariant.ended d) held;
-      is =
-          seen_then c.args.caller.now.pass c.tries.caller.pass c.clear.new.caller.pass c.tries.invariant.is held.is;
+      ready = ready_on before.ready c.clear-cleared.ensures.home held.is;
+      ended = λ d. goes_held _ (before.ended d) held;
+      is = seen_then c.args.caller.now.pass c.tries.caller.pass c.clear-cleared.new.self.pass before.is held.is;
     }
-
-pub returns-in-Ok-clause-ready : goal.returns-in-Ok-clause-ready
-returns-in-Ok-clause-ready g c =
-    ready_on c.tries.invariant.ready c.clear.ensures.home (c.in-Ok.ensures.ended Empty).is

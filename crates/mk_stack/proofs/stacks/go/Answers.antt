@@ -1,22 +1,37 @@
-use Rattle.mk_stack.proofs.{AtPoints.holds_held, Going.goes_held, Going.goes_more, Going.jobs_on}
+use Rattle.mk_laws.proofs.Vocabulary.{sym, ◌∙◌}
+use Rattle.mk_stack.proofs.{Advances.advances, Advances.may_ask, AtPoints.holds_still, Going.goes_held, Going.goes_more}
+use Rattle.mk_stack.proofs.{Going.jobs_on, Going.still_made, JobGoals.is_goal, Replies.stays_held}
 use Rattle.mk_stack.proofs.stacks.go.Goals as goal
+
+pub answer_now-answer-requires-clause-admitted : goal.answer_now-answer-requires-clause-admitted
+answer_now-answer-requires-clause-admitted g c κs within =
+    may_ask c.points.point c.points.invariant.ready.ready c.is_idle.ensures.history (sym c.op_at.ensures ∙ c.in-Some-op_at.is)
+    c.points.invariant.holds
+
+pub returns-in_default-clause-goal : goal.returns-in_default-clause-goal
+returns-in_default-clause-goal g c =
+    is_goal c.points.point (λ o e. c.in_default.not-Some o (c.op_at.ensures ∙ e))
 
 pub points-preserved-in-Ok : goal.points-preserved-in-Ok
 points-preserved-in-Ok g c =
-    let on = c.in-Ok.ensures.advances in
+    let before = c.points.invariant in
+    let on =
+    advances c.points.point c.next_point-point.ensures before.ready.ready.types c.is_idle-in-points.ensures.history (sym c.op_at.ensures ∙ c.in-Some-op_at.is) before.holds
+    c.in-Ok.ensures.answers c.in-Ok.ensures.called in
     record {
-      ready =
-          jobs_on c.advance.new.bench c.points.invariant.ready c.advance.ensures.home on.is c.advance.ensures.bench;
-      goes = goes_more c.points.invariant.goes on;
+      ready = jobs_on c.answer_now-answer.new.bench before.ready c.answer_now-answer.ensures.home on.is
+          (still_made c.answer_now-answer.new.bench before.ready.made c.answer_now-answer.ensures.made_for);
+      goes = goes_more before.goes on;
       holds = on.holds;
     }
 
 pub points-preserved : goal.points-preserved
 points-preserved g c =
-    let on = c.in-Err.ensures.held in
+    let before = c.points.invariant in
+    let on = stays_held c.in-Err.ensures.held in
     record {
-      ready =
-          jobs_on c.advance.new.bench c.points.invariant.ready c.advance.ensures.home on.is c.advance.ensures.bench;
-      goes = goes_held c.advance.new.caller.pass c.points.invariant.goes on;
-      holds = holds_held c.points.caller.pass c.advance.new.caller.pass on c.points.point c.points.invariant.holds;
+      ready = jobs_on c.answer_now-answer.new.bench before.ready c.answer_now-answer.ensures.home on.is
+          (still_made c.answer_now-answer.new.bench before.ready.made c.answer_now-answer.ensures.made_for);
+      goes = goes_held c.answer_now-answer.new.caller.pass before.goes on;
+      holds = holds_still on.registers c.points.point before.holds;
     }

@@ -1,51 +1,53 @@
-use Rattle.mk_stack.proofs.Vocabulary.{HasWalked, HoldsDown, PassState}
-use Rattle.mk_laws.proofs.Vocabulary.{List, ℕ, append-nil, subst, sym, [], ◌++◌, ◌∷◌}
-use Rattle.mk_stack.proofs.{Going.ready_on, WalkSteps.down_held, WalkSteps.walked_held, WalkSteps.walked_more}
-use Rattle.mk_stack.specs.Walks.{StepsDown, next_of, numbers_found}
-use Rattle.mk_stack.specs.{declared.walking.Found.Found, declared.walking.WalkPoint.WalkPoint}
+use Rattle.mk_stack.proofs.Vocabulary.{HasWalked}
+use Rattle.mk_laws.proofs.Vocabulary.{List, ℕ, append-nil, subst, sym, ◌∙◌}
+use Rattle.mk_stack.proofs.WalkSteps.{as_pop, beside_turns, may_go_down, steps_down, walked_held, walked_more}
+use Rattle.mk_stack.proofs.{AtPoints.holds_still, Going.ready_on, Replies.stays_held}
+use Rattle.mk_stack.specs.declared.walking.WalkPoint.{WalkPoint}
 use Rattle.mk_stack.proofs.walking.read_stack.Goals as goal
 
-pub points-preserved-in-Ok-To : goal.points-preserved-in-Ok-To
-points-preserved-in-Ok-To g c =
-    let p : PassState = c.args.caller.now.pass in
-    let q : PassState = c.points.caller.pass in
-    let r : PassState = c.go_down.new.caller.pass in
-    let steps : StepsDown q c.points.point [] r c.in-Ok-To.next =
-    subst (λ (f : Found). StepsDown q c.points.point (numbers_found f) r (next_of f)) c.in-Ok-To.field-0-is
-    c.in-Ok-To.ensures.steps in
+pub call-answer-requires-clause-entered : goal.call-answer-requires-clause-entered
+call-answer-requires-clause-entered g c = beside_turns c.points.point (sym c.op_down.ensures ∙ c.in-Some-op_down.is)
+
+pub call-answer-requires-clause-admitted : goal.call-answer-requires-clause-admitted
+call-answer-requires-clause-admitted g c =
+    may_go_down c.points.point c.points.invariant.ready c.is_idle.ensures.history (sym c.op_down.ensures
+    ∙ c.in-Some-op_down.is)
+    c.points.invariant.holds
+
+pub points-preserved-in-To : goal.points-preserved-in-To
+points-preserved-in-To g c =
+    let before = c.points.invariant in
+    let steps =
+    steps_down c.points.point (sym c.in-To.is ∙ c.found_down.ensures) before.ready.types
+    c.is_idle-in-points.ensures.history (sym c.op_down.ensures ∙ c.in-Some-op_down.is) before.holds
+    c.in-Ok.ensures.called in
     record {
-      ready = ready_on c.points.invariant.ready c.go_down.ensures.home steps.is;
-      walked =
-          subst (HasWalked p c.points.left.items r) (sym c.in-Ok-To.next-is)
-          (subst (λ (l : List ℕ). HasWalked p l r c.in-Ok-To.next) (append-nil c.points.left.items)
-          (walked_more c.points.invariant.walked steps));
-      holds = subst (HoldsDown r) (sym c.in-Ok-To.next-is) steps.holds;
+      ready = ready_on before.ready c.call-answer.ensures.home steps.is;
+      walked = subst (λ (l : List ℕ). HasWalked c.args.caller.now.pass l c.call-answer.new.caller.pass c.in-To.next)
+          (append-nil c.points.left.items) (walked_more before.walked steps);
+      holds = steps.holds;
     }
 
-pub points-preserved-in-Ok-Number : goal.points-preserved-in-Ok-Number
-points-preserved-in-Ok-Number g c =
-    let p : PassState = c.args.caller.now.pass in
-    let q : PassState = c.points.caller.pass in
-    let r : PassState = c.go_down.new.caller.pass in
-    let steps : StepsDown q c.points.point (c.in-Ok-Number.n ∷ []) r WalkPoint.Descending =
-    subst (λ (f : Found). StepsDown q c.points.point (numbers_found f) r (next_of f)) c.in-Ok-Number.field-0-is
-    c.in-Ok-Number.ensures.steps in
+pub points-preserved-in-Number : goal.points-preserved-in-Number
+points-preserved-in-Number g c =
+    let before = c.points.invariant in
+    let steps =
+    steps_down c.points.point (sym c.in-Number.is ∙ c.found_down.ensures) before.ready.types
+    c.is_idle-in-points.ensures.history (sym c.op_down.ensures ∙ c.in-Some-op_down.is) before.holds
+    c.in-Ok.ensures.called in
     record {
-      ready = ready_on c.points.invariant.ready c.go_down.ensures.home steps.is;
-      walked =
-          subst (λ (l : List ℕ). HasWalked p l r WalkPoint.Descending) (sym c.in_ok-push-in-Ok-Number.ensures.items)
-          (subst (λ (n : ℕ). HasWalked p (c.points.left.items
-          ++ n ∷ []) r WalkPoint.Descending) (sym c.in-Ok-Number.n-is)
-          (walked_more c.points.invariant.walked steps));
+      ready = ready_on before.ready c.call-answer.ensures.home steps.is;
+      walked = subst (λ (l : List ℕ). HasWalked c.args.caller.now.pass l c.call-answer.new.caller.pass
+          WalkPoint.Descending) (sym c.in_ok-push-in-Number.ensures.items) (walked_more before.walked steps);
       holds = steps.holds;
     }
 
 pub points-preserved : goal.points-preserved
 points-preserved g c =
-    let r : PassState = c.go_down.new.caller.pass in
-    let on = c.in-Err.ensures.held in
+    let before = c.points.invariant in
+    let on = stays_held c.in-Err.ensures.held in
     record {
-      ready = ready_on c.points.invariant.ready c.go_down.ensures.home on.is;
-      walked = walked_held r c.points.invariant.walked on;
-      holds = down_held c.points.caller.pass r on c.points.point c.points.invariant.holds;
+      ready = ready_on before.ready c.call-answer.ensures.home on.is;
+      walked = walked_held c.call-answer.new.caller.pass before.walked on;
+      holds = holds_still on.registers (as_pop c.points.point) before.holds;
     }
