@@ -1,16 +1,15 @@
 -- What the steps of a caller's call find and leave.
-use Rattle.mk_laws.proofs.Vocabulary.{Access, Answer, Bool, Caller, Config, Flight, Group, Host, List, Load, Marker}
-use Rattle.mk_laws.proofs.Vocabulary.{Moment, Named, None, Op, Progress, Seat, Some, Stage, Step, Store, Word, Words}
-use Rattle.mk_laws.proofs.Vocabulary.{World, ℕ, access, accessed, answer_decided, ap, arith, at_rest, begun}
-use Rattle.mk_laws.proofs.Vocabulary.{caller_number, enabled_meets, eq-eqb, false, flight_of, found, get_or-set_other}
-use Rattle.mk_laws.proofs.Vocabulary.{get_or-set_same, group_of, histories_keep_lengths, host_has_turn, if◌then◌else◌}
-use Rattle.mk_laws.proofs.Vocabulary.{is_open_to, is_under_turn, length, ltb-true, ne_eqb, not, one_if, onward}
-use Rattle.mk_laws.proofs.Vocabulary.{progress, progress_reg, refl, reg_access, register_met, register_word}
-use Rattle.mk_laws.proofs.Vocabulary.{seat_exists, slice_index, slice_set, still, subst, sym, true, word_accessed, ◌&&◌}
-use Rattle.mk_laws.proofs.Vocabulary.{◌*◌, ◌++◌, ◌+◌, ◌<◌, ◌==◌, ◌∙◌, ◌≡◌, ◌≢◌, ◌≤◌}
-use Rattle.mk_core.specs.{Calls.progress_cas, Effects.begins_where_free, Effects.moment_behind, HeldGates.is_gate_held}
-use Rattle.mk_core.specs.{Layout.IsOfTable, Order.is_in_order, Readings.is_idle, Readings.is_in_call, Words.with_named}
-use Rattle.mk_core.specs.{Words.word_in, declared.accesses.TableWord.TableWord}
+use Rattle.mk_laws.proofs.Vocabulary.{Access, Answer, Caller, Config, Flight, Group, Host, List, Load, Marker, Moment}
+use Rattle.mk_laws.proofs.Vocabulary.{Named, None, Op, Progress, Seat, Some, Stage, Step, Store, Word, Words, World, ℕ}
+use Rattle.mk_laws.proofs.Vocabulary.{access, accessed, answer_decided, ap, arith, at_rest, begun, caller_number}
+use Rattle.mk_laws.proofs.Vocabulary.{enabled_meets, eq-eqb, flight_of, found, get_or-set_other, get_or-set_same}
+use Rattle.mk_laws.proofs.Vocabulary.{group_of, histories_keep_lengths, is_open_to, length, ltb-true, ne_eqb, one_if}
+use Rattle.mk_laws.proofs.Vocabulary.{onward, progress, progress_reg, refl, reg_access, register_met, register_word}
+use Rattle.mk_laws.proofs.Vocabulary.{seat_exists, slice_index, slice_set, still, subst, sym, true, word_accessed, ◌*◌}
+use Rattle.mk_laws.proofs.Vocabulary.{◌++◌, ◌+◌, ◌<◌, ◌==◌, ◌∙◌, ◌≡◌, ◌≢◌, ◌≤◌}
+use Rattle.mk_core.specs.Effects.{begins_where_free, moment_behind}
+use Rattle.mk_core.specs.{Calls.progress_cas, HeldGates.is_gate_held, Layout.IsOfTable, Order.is_in_order}
+use Rattle.mk_core.specs.{Words.with_named, Words.word_in, declared.accesses.TableWord.TableWord}
 use Rattle.mk_laws.proofs.{NextSteps.at_enter, ProtocolHeldGates.gates_tell_holds}
 use Rattle.mk_words.proofs.Made.{made}
 use Rattle.mk_words.specs.CallSteps.{FindsHeld, KeepsOtherRegisters, LeavesRegisters, register_of}
@@ -27,24 +26,16 @@ is_callers Host h = cc
 -- Who may load the register of a call, or grant a New its object, is a caller.
 
 pub loads_to : (p : PassState) → IsEnabledTo p Step.Reg → is_caller p.seat ≡ true
-loads_to p enabled =
-    let (k, is) = is_callers p.seat (enabled_meets p.table.config (now_of p) (event_of p Step.Reg) enabled).kind in
-    ap is_caller is
+loads_to p enabled = grind (arith, is_callers, enabled_meets)
 
 grants : (c : Config) (m : Moment) (s : Seat) → is_open_to s Group.Turn ≡ true → is_in_order c m s Step.Grant ≡ true
     → is_caller s ≡ true
 grants c m (Caller k) opens order = refl
 grants c m (Marker k) opens order = cc
-grants c m Host opens order = no_host (host_has_turn c m) order
-  where
-    no_host : (held : Bool) → (held && false) ≡ true → false ≡ true
-    no_host true order = order
-    no_host false order = order
+grants c m Host opens order = grind arith
 
 pub grants_to : (p : PassState) → IsEnabledTo p Step.Grant → is_caller p.seat ≡ true
-grants_to p enabled =
-    let meets = enabled_meets p.table.config (now_of p) (event_of p Step.Grant) enabled in
-    grants p.table.config (now_of p) p.seat meets.kind meets.order
+grants_to p enabled = grind (arith, enabled_meets, grants)
 
 call_behind : (c : Config) (m : Moment) (seat : Seat) (k : ℕ) (s : Step) → seat ≡ Caller k → k < length m.seats.flights
     → flight_of (moment_behind c m (record { seat = seat; step = s })) seat
@@ -73,8 +64,7 @@ goes p s q m k is =
     let d = made p s q m in
     let n : Moment = moment_of m in
     let same : flight_of n p.seat ≡ call_of p = d.frame.own.flight in
-    let lt : k < length n.seats.flights =
-    subst (λ (i : ℕ). k < i) (sym d.protocol.callers) (caller_exists c p.seat k is d.meets.seat) in
+    let lt : k < length n.seats.flights = grind (arith, caller_exists) in
     record {
       makes = m;
       call =
@@ -162,8 +152,7 @@ reg_access_is p q m a same is = ap (λ (f : Flight). reg_access f f.stage) same 
 reg_reaches : (p : PassState) (q : PassState) (m : Makes p Step.Reg q) (r : ℕ)
     → flight_of (moment_of m) p.seat ≡ call_of p → r ≡ register_met (call_of p) (call_of p).stage
     → word_accessed p.table.config (moment_of m) (event_of p Step.Reg) ≡ Named (Word.Reg (caller_number p.seat) r)
-reg_reaches p q m r same is = ap (λ (f : Flight). Named (Word.Reg (caller_number p.seat) (register_met f f.stage))) same
-    ∙ ap (λ (i : ℕ). Named (Word.Reg (caller_number p.seat) i)) (sym is)
+reg_reaches p q m r same is = grind arith
 
 reg_goes : (p : PassState) (q : PassState) (m : Makes p Step.Reg q) (n : ℕ) → n ≡ found_by m
     → progress p.table.config (moment_of m) (call_of p) (found_by m) Step.Reg
@@ -207,11 +196,7 @@ module _ (p : PassState) (n : ℕ) (q : PassState) (t : Tells p Step.Reg n q)
   module _ (v : ℕ) (stores : reg_access (call_of p) (call_of p).stage ≡ Store v) where
     words_now : (moment_behind p.table.config (moment_of t.makes) (event_of p Step.Reg)).words
         ≡ with_named (moment_of t.makes).words (Word.Reg (caller_number p.seat) r) v
-    words_now =
-        ap (λ (a : Access). accessed (moment_of t.makes).words
-        (word_accessed p.table.config (moment_of t.makes) (event_of p Step.Reg)) a)
-        (reg_access_is p q t.makes (Store v) same stores)
-        ∙ ap (λ (x : TableWord). accessed (moment_of t.makes).words x (Store v)) reaches
+    words_now = grind (arith, reg_access_is, same, reaches)
 
     register_set : (x : ℕ)
         → register_of q x ≡ slice_index (slice_set (moment_of t.makes).words.registers (8 * caller_number p.seat + r) v)
@@ -248,19 +233,16 @@ module _ (p : PassState) (n : ℕ) (q : PassState) (t : Tells p Step.Reg n q)
 -- `cas`
 pub cas_goes : (f : Flight) (n found expected : ℕ) → n ≡ found → expected ≡ f.p
     → progress_cas f found ≡ onward f (Some (Answer.Num (one_if (n == expected))))
-cas_goes f n found expected is old =
-    ap (λ (i : ℕ). progress_cas f i) (sym is) ∙ ap (λ (i : ℕ). onward f (Some (Answer.Num (one_if (n == i))))) (sym old)
+cas_goes f n found expected is old = grind arith
 
 -- `enter`
 
 pub begins : (f : Flight) (o : Op) (n found : ℕ) → n ≡ found → n ≡ 0
     → begins_where_free f o found ≡ record { flight = begun o; answer = None }
-begins f o n found is free = ap (λ (b : Bool). if b then record { flight = begun o; answer = None } else still f)
-    (eq-eqb found 0 (sym is ∙ free))
+begins f o n found is free = grind (arith, eq-eqb)
 
 pub waits : (f : Flight) (o : Op) (n found : ℕ) → n ≡ found → n ≢ 0 → begins_where_free f o found ≡ still f
-waits f o n found is held = ap (λ (b : Bool). if b then record { flight = begun o; answer = None } else still f)
-    (ne_eqb found 0 (λ z. held (is ∙ z)))
+waits f o n found is held = grind (arith, ne_eqb)
 
 module _ (p : PassState) (o : Op) (n : ℕ) (q : PassState) (t : Tells p (Step.Enter o) n q) where
   pub enter_goes : n ≡ 0 → Goes p (Step.Enter o) (record { flight = begun o; answer = None }) q
@@ -282,16 +264,11 @@ module _ (p : PassState) (o : Op) (n : ℕ) (q : PassState) (t : Tells p (Step.E
       let m : Moment = moment_of t.makes in
       let within : k.0 < c.callers = caller_exists c p.seat k.0 k.1 d.meets.seat in
       let number : caller_number p.seat ≡ k.0 = number_is p.seat k.0 k.1 in
-      let order : is_in_order c m (Caller k.0) (Step.Enter o) ≡ true =
-      subst (λ (s : Seat). is_in_order c m s (Step.Enter o) ≡ true) k.1 d.meets.order in
+      let order : is_in_order c m (Caller k.0) (Step.Enter o) ≡ true = grind arith in
       let idle = (at_enter (flight_of m (Caller k.0)).stage (flight_of m (Caller k.0)).op o order).0 in
       let gate : ℕ = slice_index m.words.gates k.0 in
       let is : n ≡ gate = t.tells ∙ ap (λ (i : ℕ). slice_index m.words.gates i) number in
-      let not_one : gate ≢ 1 = λ one.
-      let calls = (d.protocol.in_call k.0 within).0 one in
-      let rests : is_in_call (flight_of m (Caller k.0)) ≡ false =
-      ap (λ (s : Stage). not (is_idle s) && not (is_under_turn (flight_of m (Caller k.0)).op)) idle in
-      cc in
+      let not_one : gate ≢ 1 = grind arith in
       let least : gate ≤ 2 = d.protocol.gate k.0 within in
       let two : gate ≡ 2 = omega arith in
       record {

@@ -1,5 +1,5 @@
 -- What is known of a table that has ended.
-use Rattle.std.proofs.{Common.add-one, Common.count_ones, Math.Nat.add-mul-mod_self_left}
+use Rattle.std.proofs.{Common.count_ones, Math.Nat.add-mul-mod_self_left}
 use Rattle.mk_laws.proofs.Vocabulary.{AreOfPages, Config, Event, List, Named, Word, Words, ℕ, ap, arith}
 use Rattle.mk_laws.proofs.Vocabulary.{histories_keep_lengths, left, refl, slice_index, subst, suc, sym, zero, [], ◌%◌}
 use Rattle.mk_laws.proofs.Vocabulary.{◌+◌, ◌<◌, ◌^◌, ◌∙◌, ◌∷◌, ◌≡◌, ◌≤◌}
@@ -21,10 +21,7 @@ found_at (x ∷ l) (suc i) n e = found_at l i n e
 pub one_page_more : (ws : List ℕ) (pages page freed found : ℕ) → freed ≡ freed_bits_in ws pages page
     → found ≡ slice_index ws (index_of_named pages (Word.Quar page))
     → freed + count_ones (found % 2 ^ 32) ≡ freed_bits_in ws pages (page + 1)
-one_page_more ws pages page freed found counted is =
-    ap (λ (n : ℕ). n + count_ones (found % 2 ^ 32)) counted
-    ∙ ap (λ (x : ℕ). freed_bits_in ws pages page + count_ones (x % 2 ^ 32)) is
-    ∙ sym (ap (λ (n : ℕ). freed_bits_in ws pages n) (add-one page))
+one_page_more ws pages page freed found counted is = grind arith
 
 -- the freed bits by the list, and by the words
 
@@ -43,9 +40,7 @@ freed_are pages w (suc n) of le =
 tally_at : (pages : ℕ) (w : Words) (ws : List ℕ) (x : TableWord) (n : ℕ) → AreOfPages pages w → IsOfTable pages x
     → ws ≡ in_order w
     → n ≡ slice_index ws (index_of pages x) → n ≡ word_in w x
-tally_at pages w ws x n of table is at =
-    at ∙ ap (λ (l : List ℕ). slice_index l (index_of pages x)) is
-    ∙ words_stand pages w x of table
+tally_at pages w ws x n of table is at = grind (arith, words_stand)
 
 -- a tally, of which every table has one at the same index
 abbrev last_of : List ℕ → Word → ℕ
@@ -67,17 +62,7 @@ pub tallies_are : (c : Config) (es : List Event) (ws : List ℕ) (held fresh qua
       memory = memory;
     })
 tallies_are c es ws held fresh quarantined cycles released full memory is a b q d e f =
-    let w : Words = (left c es).now.words in
-    let of = histories_keep_lengths c es in
-    record {
-      held = tally_at c.pages w ws (Named Word.Held) held of tt is a;
-      fresh = tally_at c.pages w ws (Named Word.Fresh) fresh of tt is b;
-      quarantined = q ∙ ap (λ (l : List ℕ). freed_bits_in l c.pages c.pages) is
-          ∙ freed_are c.pages w c.pages of (omega arith);
-      cycles = tally_at c.pages w ws (Named Word.Cycles) cycles of tt is d;
-      released = tally_at c.pages w ws (Named Word.Released) released of tt is e;
-      full = tally_at c.pages w ws (Named Word.Full) full of tt is f;
-    }
+    grind (arith, histories_keep_lengths, tally_at, freed_are)
 
 -- The same, where a call names the configuration and the list in its own way.
 pub tallies_told : (c of_pass of_words : Config) (es seen : List Event) (ws : List ℕ)
