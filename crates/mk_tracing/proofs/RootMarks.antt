@@ -14,7 +14,7 @@ use Rattle.mk_turns.proofs.PointedCells.{outside_none}
 use Rattle.mk_words.specs.States.{PassState, now_of}
 
 -- Each value below one points well, and so does the next.
-pub values_then : (pages : ℕ) (v x : Words) (value : ℕ → ℕ) (i : ℕ) → MarksMore v x
+values_then : (pages : ℕ) (v x : Words) (value : ℕ → ℕ) (i : ℕ) → MarksMore v x
     → ((k : ℕ) → k < i → points_well pages v (value k) ≡ true)
     → points_well pages x (value i) ≡ true → (k : ℕ) → k < i + 1 → points_well pages x (value k) ≡ true
 values_then pages v x value i more before here k lt = elim (cases_lt k i) [
@@ -23,13 +23,23 @@ values_then pages v x value i more before here k lt = elim (cases_lt k i) [
 ]
 
 -- A root is the same after marks.
-pub root_kept : (w v : Words) (x : Word) → is_root x ≡ true → MarksMore w v → named_word v x ≡ named_word w x
+root_kept : (w v : Words) (x : Word) → is_root x ≡ true → MarksMore w v → named_word v x ≡ named_word w x
 root_kept w v x root more = ap (λ (y : Words). named_word y x) more.is ∙ by x root
   where
     by : (y : Word) → is_root y ≡ true → named_word (marked_as w v.marks) y ≡ named_word w y
     by (Word.Reg j r) h = refl
     by (Word.Global g) h = refl
     by _ h = cc
+
+-- Each root below one points well, and so does the next, which was looked at after marks.
+pub roots_then : (pages : ℕ) (root : ℕ → Word) (i : ℕ) {w v x : Words} → ((k : ℕ) → is_root (root k) ≡ true)
+    → MarksMore w v → MarksMore v x
+    → ((k : ℕ) → k < i → points_well pages v (named_word w (root k)) ≡ true)
+    → points_well pages x (named_word v (root i)) ≡ true
+    → (k : ℕ) → k < i + 1 → points_well pages x (named_word w (root k)) ≡ true
+roots_then pages root i {w} {v} {x} are old more before here =
+    values_then pages v x (λ k. named_word w (root k)) i more before
+    (subst (λ n. points_well pages x n ≡ true) (root_kept w v (root i) (are i) old) here)
 
 -- A value before the heap points well.
 pub before_well : (pages : ℕ) (w : Words) (u : ℕ) → u < 65536 → points_well pages w u ≡ true
