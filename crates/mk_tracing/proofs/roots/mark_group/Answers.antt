@@ -1,6 +1,6 @@
-use Rattle.mk_laws.proofs.Vocabulary.{Word, arith, refl, ◌+◌}
-use Rattle.mk_tracing.proofs.RootMarks.{before_well, roots_then}
-use Rattle.mk_tracing.{proofs.ScannedWords.looks_alone, proofs.ScannedWords.notes_then, specs.Stops.still_words}
+use Rattle.mk_laws.proofs.Vocabulary.{refl}
+use Rattle.mk_tracing.proofs.RootMarks.{before_well, next_root_noted, no_root_noted}
+use Rattle.mk_tracing.{proofs.ScannedWords.looks_alone, specs.Stops.still_words}
 use Rattle.mk_tracing.proofs.roots.mark_group.Goals as goal
 
 pub returns-then-are_before_heap-clause-marks : goal.returns-then-are_before_heap-clause-marks
@@ -12,16 +12,8 @@ returns-then-are_before_heap-clause-well c i lt =
     (c.are_before_heap.ensures.before c.if-are_before_heap.true i lt)
 
 pub loop-i-init : goal.loop-i-init
-loop-i-init c =
-    let look = c.are_before_heap.ensures in
-    record { marks = looks_alone look.on look.words; well = λ j lt. absurd (omega arith) }
+loop-i-init c = let look = c.are_before_heap.ensures in no_root_noted (looks_alone look.on look.words)
 
 pub loop-i-preserved : goal.loop-i-preserved
 loop-i-preserved c =
-    let before = c.loop-i.invariant in
-    let mark = c.mark_root.ensures in
-    record {
-      marks = notes_then before.marks mark.marks;
-      well = roots_then _ (λ j. Word.Global (c.args.first + j)) c.loop-i.i (λ j. refl) before.marks.more mark.marks.more
-          before.well mark.well;
-    }
+    next_root_noted (λ j. refl) c.loop-i.invariant c.mark_root.ensures.marks c.mark_root.ensures.well

@@ -1,5 +1,5 @@
 use Rattle.mk_laws.proofs.Vocabulary.{Word, arith, refl}
-use Rattle.mk_tracing.proofs.{RootMarks.roots_then, ScannedWords.marks_nothing, ScannedWords.notes_then}
+use Rattle.mk_tracing.proofs.{RootMarks.next_root, ScannedWords.marks_nothing, ScannedWords.notes_then}
 use Rattle.mk_tracing.proofs.roots.mark_registers.Goals as goal
 
 pub loop-caller-init : goal.loop-caller-init
@@ -11,6 +11,7 @@ loop-caller-preserved c =
     let mark = c.mark_registers_of.ensures in
     record {
       marks = notes_then before.marks mark.marks;
-      well = λ k lt r few. roots_then _ (λ j. Word.Reg j r) c.loop-caller.caller (λ j. refl) before.marks.more
-          mark.marks.more (λ j below. before.well j below r few) (mark.well r few) k lt;
+      well = λ k lt r few. (next_root {root = λ j. Word.Reg j r} (λ j. refl)
+          (record { more = before.marks.more; well = λ j below. before.well j below r few }) mark.marks.more
+          (mark.well r few)).well k lt;
     }
