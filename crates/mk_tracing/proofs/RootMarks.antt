@@ -71,6 +71,14 @@ next_root_noted are before marks here =
     let roots = next_root are (record { more = before.marks.more; well = before.well }) marks.more here in
     record { marks = notes_then before.marks marks; well = roots.well }
 
+-- Each register of the callers below one points well, and so do those of the next.
+pub registers_then : (c : Config) (p q r : PassState) {k : ℕ} → MarksMore (still_words p) (still_words q)
+    → MarksMore (still_words q) (still_words r) → ((j : ℕ) → j < k → RegistersAreWell c p q j)
+    → RegistersAreWell c q r k → (j : ℕ) → j < k + 1 → RegistersAreWell c p r j
+registers_then c p q r {k} one two before here j lt n few =
+    (next_root {pages = c.pages} {w = still_words p} {v = still_words q} {root = λ i. Word.Reg i n} {i = k} (λ i. refl)
+    (record { more = one; well = λ i below. before i below n few }) two (here n few)).well j lt
+
 -- A value before the heap points well.
 pub before_well : (pages : ℕ) (w : Words) (u : ℕ) → u < 65536 → points_well pages w u ≡ true
 before_well pages w u before = well_none pages w u (outside_none pages w.pages u (by (cases_Bool (nat_le 65536 u))))

@@ -1,10 +1,6 @@
-use Rattle.mk_sweep.proofs.Vocabulary.{SweepsOn, still_words}
-use Rattle.mk_laws.proofs.Vocabulary.{Word, []}
-use Rattle.mk_tracing.proofs.RootMarks.{RootsMarked}
+use Rattle.mk_laws.proofs.Vocabulary.{Word}
+use Rattle.mk_sweep.proofs.RootSteps.{RootsSwept}
 use Rattle.mk_sweep.proofs.roots.mark_globals.Given as goal
 
 abbrev pub invariant-loop-global : goal.invariant-loop-global
-invariant-loop-global l = record {
-  on : SweepsOn l.fn.stop l.stop [];
-  roots : RootsMarked l.words.config.pages (still_words l.fn.stop.pass) (still_words l.stop.pass) Word.Global l.global;
-}
+invariant-loop-global l = RootsSwept l.words.config.pages l.fn.stop l.stop Word.Global l.global

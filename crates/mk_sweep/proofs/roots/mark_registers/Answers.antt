@@ -1,6 +1,6 @@
-use Rattle.mk_laws.proofs.Vocabulary.{Word, arith, refl}
+use Rattle.mk_laws.proofs.Vocabulary.{arith, refl}
 use Rattle.mk_sweep.proofs.SweepSteps.{quiet_then, sweeps_from}
-use Rattle.mk_tracing.proofs.{MoreMarks.more_same, MoreMarks.more_then, RootMarks.next_root}
+use Rattle.mk_tracing.proofs.{MoreMarks.more_same, MoreMarks.more_then, RootMarks.registers_then}
 use Rattle.mk_sweep.proofs.roots.mark_registers.Goals as goal
 
 pub loop-caller-init : goal.loop-caller-init
@@ -14,11 +14,10 @@ loop-caller-init c =
 pub loop-caller-preserved : goal.loop-caller-preserved
 loop-caller-preserved c =
     let before = c.loop-caller.invariant in
-    let mark = c.mark_registers_of.ensures in
+    let mark = c.mark_registers_of in
     record {
-      on = quiet_then before.on mark.on;
-      more = more_then _ _ _ before.more mark.more;
-      well = λ k lt r few. (next_root {root = λ j. Word.Reg j r} (λ j. refl)
-          (record { more = before.more; well = λ j below. before.well j below r few }) mark.more
-          (mark.well r few)).well k lt;
+      on = quiet_then before.on mark.ensures.on;
+      more = more_then _ _ _ before.more mark.ensures.more;
+      well = registers_then c.args.words.now.config c.args.stop.now.pass c.loop-caller.stop.pass mark.new.stop.pass
+          before.more mark.ensures.more before.well mark.ensures.well;
     }

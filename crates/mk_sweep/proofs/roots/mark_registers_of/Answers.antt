@@ -1,17 +1,10 @@
 use Rattle.mk_laws.proofs.Vocabulary.{refl}
-use Rattle.mk_sweep.proofs.SweepSteps.{quiet_then, sweeps_from}
-use Rattle.mk_tracing.proofs.{MoreMarks.more_same, RootMarks.next_root, RootMarks.no_root_yet}
+use Rattle.mk_sweep.proofs.RootSteps.{next_root_swept, no_root_swept}
 use Rattle.mk_sweep.proofs.roots.mark_registers_of.Goals as goal
 
 pub loop-register-init : goal.loop-register-init
-loop-register-init c =
-    record { on = sweeps_from c.args.stop.now c.requires.sweeping; roots = no_root_yet (more_same _ _ refl) }
+loop-register-init c = no_root_swept c.requires.sweeping
 
 pub loop-register-preserved : goal.loop-register-preserved
 loop-register-preserved c =
-    let before = c.loop-register.invariant in
-    let mark = c.mark_root.ensures in
-    record {
-      on = quiet_then before.on mark.on;
-      roots = next_root (λ r. refl) before.roots mark.more mark.well;
-    }
+    let mark = c.mark_root.ensures in next_root_swept (λ r. refl) c.loop-register.invariant mark.on mark.more mark.well

@@ -1,5 +1,5 @@
-use Rattle.mk_laws.proofs.Vocabulary.{Word, arith, refl}
-use Rattle.mk_tracing.proofs.{RootMarks.next_root, ScannedWords.marks_nothing, ScannedWords.notes_then}
+use Rattle.mk_laws.proofs.Vocabulary.{arith}
+use Rattle.mk_tracing.proofs.{RootMarks.registers_then, ScannedWords.marks_nothing, ScannedWords.notes_then}
 use Rattle.mk_tracing.proofs.roots.mark_registers.Goals as goal
 
 pub loop-caller-init : goal.loop-caller-init
@@ -8,10 +8,9 @@ loop-caller-init c = record { marks = marks_nothing c.requires.wanted; well = λ
 pub loop-caller-preserved : goal.loop-caller-preserved
 loop-caller-preserved c =
     let before = c.loop-caller.invariant in
-    let mark = c.mark_registers_of.ensures in
+    let mark = c.mark_registers_of in
     record {
-      marks = notes_then before.marks mark.marks;
-      well = λ k lt r few. (next_root {root = λ j. Word.Reg j r} (λ j. refl)
-          (record { more = before.marks.more; well = λ j below. before.well j below r few }) mark.marks.more
-          (mark.well r few)).well k lt;
+      marks = notes_then before.marks mark.ensures.marks;
+      well = registers_then c.args.words.now.config c.args.stop.now.pass c.loop-caller.stop.pass mark.new.stop.pass
+          before.marks.more mark.ensures.marks.more before.well mark.ensures.well;
     }
