@@ -1,9 +1,9 @@
 -- What is marked beside others, in parts.
-use Rattle.std.{proofs.lemmas.List.Folds.list_all-append, specs.List.list_all}
-use Rattle.mk_laws.proofs.Vocabulary.{Bool, Config, Event, List, Steady, Step, Word, Words, ℕ, and_from, and_parts, ap}
+use Rattle.std.{proofs.Common.below_more, proofs.lemmas.List.Folds.list_all-append, specs.List.list_all}
+use Rattle.mk_laws.proofs.Vocabulary.{Bool, Config, Event, List, Steady, Step, Word, Words, ℕ, and_from, and_parts, ap, arith}
 use Rattle.mk_laws.proofs.Vocabulary.{cases_eq, eq-eqb, false, inl, inr, is_held, is_number_of, list_any}
 use Rattle.mk_laws.proofs.Vocabulary.{list_any-append, ltb-true, nat_lt, not, or_right, points_well, refl, subst, sym}
-use Rattle.mk_laws.proofs.Vocabulary.{true, [], ◌++◌, ◌<◌, ◌==◌, ◌||◌, ◌∙◌, ◌∷◌, ◌≡◌}
+use Rattle.mk_laws.proofs.Vocabulary.{true, [], ◌++◌, ◌+◌, ◌<◌, ◌==◌, ◌||◌, ◌∙◌, ◌∷◌, ◌≡◌}
 use Rattle.mk_core.specs.{Growing.Finding, Ranges.is_word}
 use Rattle.mk_cycle.proofs.KeptInParts.{free_then, gates_then, keeps_at_once, keeps_then, same_config}
 use Rattle.mk_cycle.specs.TurnKeeps.{KeepsGates, LeavesTurn, unchanged}
@@ -265,3 +265,23 @@ looked_on x t u v a b here = looked_then x t.pass u.pass v.pass a.marks.does b.m
 pub on_looked : (x : Word) (t u v : TurnState) → GoesBeside t u → GoesBeside u v → LooksAt x u.pass v.pass
     → LooksAt x t.pass v.pass
 on_looked x t u v a b here = then_looked x t.pass u.pass v.pass a.marks.does b.marks.does here
+
+-- The roots below one are looked at, one after the other.
+pub record RootsLooked (t u : TurnState) (root : ℕ → Word) (n : ℕ) : Type 0 where
+  pub on : GoesBeside t u
+  pub gates : KeepsGates t.pass u.pass
+  pub looked : (k : ℕ) → k < n → LooksAt (root k) t.pass u.pass
+
+pub no_root_yet : {t : TurnState} {root : ℕ → Word} → IsBeside t.pass → RootsLooked t t root 0
+no_root_yet {t} beside =
+    record { on = goes_nowhere t beside; gates = gates_at_once t.pass; looked = λ k lt. absurd (omega arith) }
+
+pub next_root : {t u v : TurnState} {root : ℕ → Word} {i : ℕ} → RootsLooked t u root i → GoesBeside u v
+    → KeepsGates u.pass v.pass → LooksAt (root i) u.pass v.pass → RootsLooked t v root (i + 1)
+next_root {t} {u} {v} {root} {i} before on gates here =
+    record {
+      on = goes_then t u v before.on on;
+      gates = gates_on t u v before.on before.gates gates;
+      looked = below_more _ _ (λ k lt. looked_on (root k) t u v before.on on (before.looked k lt))
+          (on_looked (root i) t u v before.on on here);
+    }

@@ -1,4 +1,4 @@
--- Tracing in the stop meets the law of engines.
+-- Tracing in the stop meets the law of engines. Most of it holds of each engine that marks in the stop alone.
 use Rattle.std.proofs.{Common.count_by, lemmas.List.Sums.sum_by-cons}
 use Rattle.mk_laws.proofs.Vocabulary.{Bool, Caller, Config, Flight, Holds, Host, IsHistory, List, Marker}
 use Rattle.mk_laws.proofs.Vocabulary.{MarksAreClosed, Moment, Op, Protocol, Seat, Stage, Steady, Step, Words, ℕ, ap}
@@ -45,7 +45,7 @@ ready_of p history holds free =
 
 -- Its kinds are those of the law.
 
-closing_kind : (s : Step) → is_tracing s ≡ true → closes_marks s ≡ true
+pub closing_kind : (s : Step) → is_tracing s ≡ true → closes_marks s ≡ true
 closing_kind Step.Want h = refl
 closing_kind (Step.Look x) h = refl
 closing_kind (Step.Mark p v) h = refl
@@ -73,7 +73,7 @@ same_wish : (s : Step) → is_wish s ≡ is_want s
 same_wish Step.Want = refl
 same_wish _ = refl
 
-same_count : (xs : List Finding)
+pub same_count : (xs : List Finding)
     → count_by (λ (x : Finding). is_wish x.event.step) xs ≡ count_by (λ (x : Finding). is_want x.event.step) xs
 same_count [] = refl
 same_count (x ∷ xs) =

@@ -94,7 +94,7 @@ settled_kept p q pass same two settled =
     record {
       releasing = ne_eqb (phase_of (now_of q).words) 4 (λ e. omega arith);
       placing = ap (λ (x : Untouched). has_place x.placing) same ∙ settled.placing;
-      unmapped = unmapped_kept p q pass same settled.unmapped;
+      unmapped = unmapped_kept p q same settled.unmapped;
     }
 
 module _ (t u : TurnState) (sweeping : IsSweeping t.pass)

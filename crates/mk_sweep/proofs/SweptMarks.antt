@@ -15,42 +15,14 @@ use Rattle.mk_cycle.{specs.EngineLaw.IsFreeForCycle, specs.Kinds.begins_marking,
 use Rattle.mk_cycle.{specs.Kinds.is_want as is_wish, specs.TurnKeeps.unchanged as all_of_it}
 use Rattle.mk_sweep.proofs.EachOnce.{as_many, looked_at_once, never_twice}
 use Rattle.mk_sweep.proofs.{CountedWords.some_there, CountedWords.times, Done.looks_in_parts, Done.looks_of_waiting}
-use Rattle.mk_sweep.proofs.{Kept.keeps_turn, SweepSteps.rule_alike, SweepSteps.settled_kept, SweepSteps.word_alike}
+use Rattle.mk_engines.proofs.TracedMarks.{closing_kind, keeps_turn, same_count}
+use Rattle.mk_sweep.proofs.{SweepSteps.rule_alike, SweepSteps.settled_kept, SweepSteps.word_alike}
 use Rattle.mk_sweep.specs.{Sweeping.IsSweeping, Swept.scanned_words}
 use Rattle.mk_tracing.proofs.Parts.{counted_by_kinds, counted_wider, traces_alike}
 use Rattle.mk_tracing.proofs.{Closes.marks_closed_now, Closes.may_close_now, NoGrays.no_gray, Wants.wanted_once_then}
 use Rattle.mk_tracing.specs.Tracing.{Counted, is_marking, is_waiting, is_want}
 use Rattle.mk_tracing.specs.{Grays.TracesReached, Stops.IsWanted}
 use Rattle.mk_turns.{proofs.Doing.does_nothing, specs.Doing.Does, specs.Doing.done_in}
-
--- the kinds of a sweep are those of the law
-
-closing_kind : (s : Step) → is_tracing s ≡ true → closes_marks s ≡ true
-closing_kind Step.Want h = refl
-closing_kind (Step.Look x) h = refl
-closing_kind (Step.Mark p v) h = refl
-closing_kind (Step.Undirty p) h = refl
-closing_kind (Step.Black p v) h = refl
-closing_kind (Step.Unblack p) h = refl
-closing_kind _ h = cc
-
-same_wish : (s : Step) → is_wish s ≡ is_want s
-same_wish Step.Want = refl
-same_wish _ = refl
-
-same_count : (xs : List Finding)
-    → count_by (λ (x : Finding). is_wish x.event.step) xs ≡ count_by (λ (x : Finding). is_want x.event.step) xs
-same_count [] = refl
-same_count (x ∷ xs) =
-    sum_by-cons (λ (y : Finding). cond (is_wish y.event.step) 1 0) x xs
-    ∙ ap (λ (b : Bool). cond b 1 0 + count_by (λ (y : Finding). is_wish y.event.step) xs) (same_wish x.event.step)
-    ∙ ap (λ (n : ℕ). cond (is_want x.event.step) 1 0 + n) (same_count xs)
-    ∙ sym (sum_by-cons (λ (y : Finding). cond (is_want y.event.step) 1 0) x xs)
-
--- Nothing is a beginning of the marking.
-pub begins_with_nothing : (p : PassState) → BeginsMarking p p
-begins_with_nothing p =
-    record { does = does_nothing begins_marking p; keeps = keeps_at_once all_of_it p; gates = λ j lt. refl }
 
 -- Waiting keeps to the rule of every sweep.
 waits : (w : World) (c : Config) (m : Moment) (s : Step) → is_waiting s ≡ true → SweepsBy w c m s

@@ -8,13 +8,16 @@ use Rattle.mk_laws.proofs.Vocabulary.{shown, slice_index, slice_index_or, subst,
 use Rattle.mk_laws.proofs.Vocabulary.{◌/◌, ◌<◌, ◌∙◌, ◌≡◌, ◌≤◌, ◌⊎◌}
 use Rattle.mk_core.specs.Words.{named_word}
 use Rattle.mk_laws.proofs.{InvariantHistories.histories_keep_the_invariant, Protocols.lists_keep_the_protocol}
-use Rattle.mk_tracing.proofs.MoreMarks.{marked_as, well_more, well_none, zero_none}
-use Rattle.mk_tracing.specs.{Grays.MarksMore, Grays.RootsPointWell, Stops.is_root}
+use Rattle.mk_tracing.proofs.MoreMarks.{marked_as, more_then, well_more, well_none, zero_none}
+use Rattle.mk_tracing.specs.Grays.{GlobalIsWell, MarksMore, RegistersAreWell, RootsPointWell}
+use Rattle.mk_tracing.specs.Stops.{is_root, still_words}
 use Rattle.mk_turns.proofs.PointedCells.{outside_none}
-use Rattle.mk_words.specs.States.{PassState, now_of}
+use Rattle.mk_tracing.specs.{Scans.MarksAndNotes, declared.worklist.Worklist.Worklist}
+use Rattle.mk_tracing.proofs.ScannedWords.{notes_then}
+use Rattle.mk_words.specs.States.{PassState, TurnState, WordsState, now_of}
 
 -- Each value below one points well, and so does the next.
-pub values_then : (pages : ℕ) (v x : Words) (value : ℕ → ℕ) (i : ℕ) → MarksMore v x
+values_then : (pages : ℕ) (v x : Words) (value : ℕ → ℕ) (i : ℕ) → MarksMore v x
     → ((k : ℕ) → k < i → points_well pages v (value k) ≡ true)
     → points_well pages x (value i) ≡ true → (k : ℕ) → k < i + 1 → points_well pages x (value k) ≡ true
 values_then pages v x value i more before here k lt = elim (cases_lt k i) [
@@ -23,13 +26,58 @@ values_then pages v x value i more before here k lt = elim (cases_lt k i) [
 ]
 
 -- A root is the same after marks.
-pub root_kept : (w v : Words) (x : Word) → is_root x ≡ true → MarksMore w v → named_word v x ≡ named_word w x
+root_kept : (w v : Words) (x : Word) → is_root x ≡ true → MarksMore w v → named_word v x ≡ named_word w x
 root_kept w v x root more = ap (λ (y : Words). named_word y x) more.is ∙ by x root
   where
     by : (y : Word) → is_root y ≡ true → named_word (marked_as w v.marks) y ≡ named_word w y
     by (Word.Reg j r) h = refl
     by (Word.Global g) h = refl
     by _ h = cc
+
+-- Marks were added, and what each root below one pointed into is marked.
+pub record RootsMarked (pages : ℕ) (w v : Words) (root : ℕ → Word) (n : ℕ) : Type 0 where
+  pub more : MarksMore w v
+  pub well : (k : ℕ) → k < n → points_well pages v (named_word w (root k)) ≡ true
+
+pub no_root_yet : {pages : ℕ} {w v : Words} {root : ℕ → Word} → MarksMore w v → RootsMarked pages w v root 0
+no_root_yet more = record { more = more; well = λ k lt. absurd (omega arith) }
+
+-- And the next, which was looked at after them.
+pub next_root : {pages : ℕ} {w v x : Words} {root : ℕ → Word} {i : ℕ} → ((k : ℕ) → is_root (root k) ≡ true)
+    → RootsMarked pages w v root i → MarksMore v x → points_well pages x (named_word v (root i)) ≡ true
+    → RootsMarked pages w x root (i + 1)
+next_root {pages} {w} {v} {x} {root} {i} are before more here =
+    record {
+      more = more_then w v x before.more more;
+      well = values_then pages v x (λ k. named_word w (root k)) i more before.well
+          (subst (λ n. points_well pages x n ≡ true) (root_kept w v (root i) (are i) before.more) here);
+    }
+
+-- The same in a stop with a list of what is noted.
+pub record RootsNoted (pages : ℕ) (t : TurnState) (had : Worklist) (u : TurnState) (has : Worklist) (root : ℕ → Word)
+    (n : ℕ) : Type 0 where
+  pub marks : MarksAndNotes pages t had u has
+  pub well : (k : ℕ) → k < n → points_well pages (still_words u.pass) (named_word (still_words t.pass) (root k)) ≡ true
+
+pub no_root_noted : {pages : ℕ} {t u : TurnState} {a b : Worklist} {root : ℕ → Word} → MarksAndNotes pages t a u b
+    → RootsNoted pages t a u b root 0
+no_root_noted marks = record { marks = marks; well = λ k lt. absurd (omega arith) }
+
+pub next_root_noted : {pages : ℕ} {t u v : TurnState} {a b c : Worklist} {root : ℕ → Word} {i : ℕ}
+    → ((k : ℕ) → is_root (root k) ≡ true) → RootsNoted pages t a u b root i → MarksAndNotes pages u b v c
+    → points_well pages (still_words v.pass) (named_word (still_words u.pass) (root i)) ≡ true
+    → RootsNoted pages t a v c root (i + 1)
+next_root_noted are before marks here =
+    let roots = next_root are (record { more = before.marks.more; well = before.well }) marks.more here in
+    record { marks = notes_then before.marks marks; well = roots.well }
+
+-- Each register of the callers below one points well, and so do those of the next.
+pub registers_then : (c : Config) (p q r : PassState) {k : ℕ} → MarksMore (still_words p) (still_words q)
+    → MarksMore (still_words q) (still_words r) → ((j : ℕ) → j < k → RegistersAreWell c p q j)
+    → RegistersAreWell c q r k → (j : ℕ) → j < k + 1 → RegistersAreWell c p r j
+registers_then c p q r {k} one two before here j lt n few =
+    (next_root {pages = c.pages} {w = still_words p} {v = still_words q} {root = λ i. Word.Reg i n} {i = k} (λ i. refl)
+    (record { more = one; well = λ i below. before i below n few }) two (here n few)).well j lt
 
 -- A value before the heap points well.
 pub before_well : (pages : ℕ) (w : Words) (u : ℕ) → u < 65536 → points_well pages w u ≡ true
@@ -79,7 +127,7 @@ register_past c es i h past =
     ∙ all.mirrors.images.registers i
     ∙ ap (λ (v : Value). image_of (bases_of (left c es).allocations) v) null
 
-pub roots_well : (p : PassState) (pages : ℕ) (w : Words) → IsHistory p.table.config p.seen
+roots_well : (p : PassState) (pages : ℕ) (w : Words) → IsHistory p.table.config p.seen
     → pages ≡ p.table.config.pages
     → w.registers ≡ (now_of p).words.registers → w.globals ≡ (now_of p).words.globals
     → ((k r : ℕ) → k < p.table.config.callers → r < 8 → points_well pages w (register_word (now_of p).words k r) ≡ true)
@@ -110,3 +158,18 @@ roots_well p pages w h same registers globals rs gs =
           (get_or_past (now_of p).words.globals g 0 (let long =
           (histories_keep_lengths p.table.config p.seen).globals in omega arith))
     ]
+
+-- The registers point well after the first marks, and the globals after more.
+pub all_roots_well : (p q r : PassState) {t : WordsState} → p.table ≡ t → IsHistory p.table.config p.seen
+    → MarksMore (still_words p) (still_words q) → MarksMore (still_words q) (still_words r)
+    → ((k : ℕ) → k < t.config.callers → RegistersAreWell t.config p q k)
+    → ((g : ℕ) → g < 64 → GlobalIsWell t.config q r g) → RootsPointWell t.config.pages (still_words r)
+all_roots_well p q r {t} table h one two registers globals =
+    let x = still_words r in
+    let more = more_then (still_words p) (still_words q) x one two in
+    roots_well p t.config.pages x h (sym (ap (λ (y : WordsState). y.config.pages) table))
+    (ap (λ (y : Words). y.registers) more.is) (ap (λ (y : Words). y.globals) more.is)
+    (λ k n lk ln. well_more t.config.pages (still_words q) x (register_word (still_words p) k n) two
+    (registers k (subst (λ (y : WordsState). k < y.config.callers) table lk) n ln))
+    (λ g lg. subst (λ (y : Words). points_well t.config.pages x (slice_index y.globals g) ≡ true) one.is
+    (globals g lg))

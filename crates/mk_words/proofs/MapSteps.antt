@@ -1,20 +1,22 @@
 -- The page map of a turn is kept in step with what its holder stores.
 use Rattle.mk_laws.proofs.Vocabulary.{Access, Bool, Config, IsHistory, List, Load, Moment, Named, None, Op, Option}
 use Rattle.mk_laws.proofs.Vocabulary.{Page, Seat, Some, Step, Store, Tally, Word, Words, World, ℕ, accessed, ap, arith}
-use Rattle.mk_laws.proofs.Vocabulary.{cases_eq, earlier_part_is_history, enabled_meets, false, free_page}
-use Rattle.mk_laws.proofs.Vocabulary.{get_or-set_other, get_or-set_same, header_at, histories_keep_lengths, inl, inr}
-use Rattle.mk_laws.proofs.Vocabulary.{length, ltb-true, refl, slice_set, subst, sym, tally_word, true, [], ◌%◌, ◌++◌}
-use Rattle.mk_laws.proofs.Vocabulary.{◌<◌, ◌^◌, ◌∙◌, ◌∷◌, ◌≡◌, ◌≢◌}
+use Rattle.mk_laws.proofs.Vocabulary.{caller_number, cases_eq, earlier_part_is_history, enabled_meets, false, flight_of}
+use Rattle.mk_laws.proofs.Vocabulary.{free_page, get_or-set_other, get_or-set_same, header_at, histories_keep_lengths}
+use Rattle.mk_laws.proofs.Vocabulary.{inl, inr, length, ltb-true, nat_lt, refl, reg_access, register_met, slice_index}
+use Rattle.mk_laws.proofs.Vocabulary.{slice_set, subst, sym, tally_word, true, [], ◌%◌, ◌++◌, ◌<◌, ◌^◌, ◌∙◌, ◌∷◌, ◌≡◌}
+use Rattle.mk_laws.proofs.Vocabulary.{◌≢◌}
 use Rattle.mk_page_map.specs.KnownPages.{KnownPages, Shows, is_uncleaned, with_header, with_used}
 use Rattle.mk_page_map.specs.Members.{IsNext, page_at}
+use Rattle.mk_core.specs.Ranges.{is_in_range}
 use Rattle.mk_laws.proofs.SameWords.{Behind}
 use Rattle.mk_words.proofs.FreeTurns.{map_left, map_stays, page_words}
-use Rattle.mk_words.proofs.TurnSteps.{gates_still, still_turn, turn_stays_too}
+use Rattle.mk_words.proofs.TurnSteps.{acts, gates_still, still_turn, turn_stays_too}
 use Rattle.mk_words.proofs.{Made.own_before, Seats.others_own, Unmarked.is_mark, Unmarked.stays_unmarked}
 use Rattle.mk_words.specs.PageMaps.{HasNoMarks, IsMapOf, IsNextUncleaned, is_told}
-use Rattle.mk_words.specs.States.{PassState, event_of, now_of}
+use Rattle.mk_words.specs.States.{PassState, TurnState, call_of, event_of, now_of}
 use Rattle.mk_words.specs.TurnSteps.{Acts, GatesAre, IsTurnWithMap, gates_stay, turn_stays, world_at}
-use Rattle.mk_words.specs.{Steps.IsEnabledTo, declared.homes.Carried.Carried}
+use Rattle.mk_words.specs.{Steps.IsEnabledTo, Steps.Makes, declared.homes.Carried.Carried}
 
 no_mark : (s : Step) → is_told s ≡ false → is_mark s ≡ false
 no_mark (Step.Mark p v) untold = cc
@@ -234,6 +236,19 @@ turn_still {held} p s q a o old new stays shows turn =
     turn_with_map p s q a o old new (turn_stays_too s stays)
     (gates_still held (record { pass = p; op = o }) s (record { pass = q; op = o }) a stays turn.gates) shows turn
 
+-- A step of which the map is told, and which leaves the gates.
+pub told_turn : {held : Bool} (p : PassState) (s : Step) (q : PassState) (o : Option Op) (old new : KnownPages)
+    → gates_stay s ≡ true → Makes p s q → IsTurnWithMap held p o old → (Acts p s q → IsMapOf new (now_of q).words)
+    → IsTurnWithMap held q o new
+told_turn p s q o old new stays makes turn shows =
+    let a = acts p s q makes turn.turn.holds in turn_still p s q a o old new stays (shows a) turn
+
+-- What was done in a turn, by another name of it.
+pub acted : {held : Bool} {t v : TurnState} {s : Step} {q : PassState} {o : Option Op} {map : KnownPages} → t ≡ v
+    → IsTurnWithMap held t.pass o map → Makes t.pass s q → Acts v.pass s q
+acted {t = t} {s = s} {q = q} is turn makes =
+    subst (λ (x : TurnState). Acts x.pass s q) is (acts t.pass s q makes turn.turn.holds)
+
 -- The map has all pages of the heap.
 
 pub page_known : (p : PassState) (page : ℕ) (map : KnownPages) → page < p.table.config.pages
@@ -244,29 +259,17 @@ page_known p page map lt shows =
     let same : length map.pages ≡ length (now_of p).words.pages = grind arith in
     omega arith
 
-pub head_known : (p : PassState) (page v : ℕ) (map : KnownPages) → IsEnabledTo p (Step.Head page v)
-    → IsMapOf map (now_of p).words → page < length map.pages
-head_known p page v map on = page_known p page map
-    (ltb-true page p.table.config.pages
-    (enabled_meets p.table.config (now_of p) (event_of p (Step.Head page v)) on).range)
-
-pub used_known : (p : PassState) (page v : ℕ) (map : KnownPages) → IsEnabledTo p (Step.Used page v)
-    → IsMapOf map (now_of p).words → page < length map.pages
-used_known p page v map on = page_known p page map
-    (ltb-true page p.table.config.pages
-    (enabled_meets p.table.config (now_of p) (event_of p (Step.Used page v)) on).range)
-
-pub quar_known : (p : PassState) (page v : ℕ) (map : KnownPages) → IsEnabledTo p (Step.Quar page v)
-    → IsMapOf map (now_of p).words → page < length map.pages
-quar_known p page v map on = page_known p page map
-    (ltb-true page p.table.config.pages
-    (enabled_meets p.table.config (now_of p) (event_of p (Step.Quar page v)) on).range)
-
-pub mark_known : (p : PassState) (page v : ℕ) (map : KnownPages) → IsEnabledTo p (Step.Mark page v)
-    → IsMapOf map (now_of p).words → page < length map.pages
-mark_known p page v map on = page_known p page map
-    (ltb-true page p.table.config.pages
-    (enabled_meets p.table.config (now_of p) (event_of p (Step.Mark page v)) on).range)
+-- So has a page that a step of the turn may name.
+pub told_page : {held : Bool} {t v : TurnState} {carried same : Carried} (s : Step) (page : ℕ)
+    → is_in_range t.pass.table.config t.pass.seat (call_of t.pass) s ≡ nat_lt page t.pass.table.config.pages → t ≡ v
+    → IsEnabledTo v.pass s → same ≡ carried → IsTurnWithMap held t.pass carried.op carried.map
+    → page < length same.map.pages
+told_page {t = t} s page names is on same turn =
+    let here = subst (λ (x : TurnState). IsEnabledTo x.pass s) (sym is) on in
+    page_known t.pass page _
+    (ltb-true page t.pass.table.config.pages
+    (sym names ∙ (enabled_meets t.pass.table.config (now_of t.pass) (event_of t.pass s) here).range))
+    (as_carried t.pass _ _ same turn).shows
 
 -- The next page of those that the map has is the next of the heap's.
 pub next_known : (p : PassState) (passes : ℕ → Bool) (from : ℕ) (next : Option ℕ)

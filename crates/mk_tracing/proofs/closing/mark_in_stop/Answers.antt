@@ -6,13 +6,13 @@ pub returns-clause-on : goal.returns-clause-on
 returns-clause-on c =
     on_then c.args.stop.now c.mark_roots.new.stop c.trace.new.stop
     (on_then c.args.stop.now c.clean_dirty.new.stop c.mark_roots.new.stop c.clean_dirty.ensures.on
-    c.mark_roots.ensures.on)
+    c.mark_roots.ensures.marks.on)
     c.trace.ensures.on
 
 pub returns-clause-clean : goal.returns-clause-clean
 returns-clause-clean c p lt =
     ap (λ (w : Words). slice_index w.dirty p) c.trace.ensures.more.is
-    ∙ ap (λ (w : Words). slice_index w.dirty p) c.mark_roots.ensures.more.is
+    ∙ ap (λ (w : Words). slice_index w.dirty p) c.mark_roots.ensures.marks.more.is
     ∙ c.clean_dirty.ensures.clean p lt
 
 pub returns-clause-roots : goal.returns-clause-roots
@@ -22,5 +22,5 @@ returns-clause-roots c =
 
 pub trace-requires-clause-noted : goal.trace-requires-clause-noted
 trace-requires-clause-noted c =
-    c.mark_roots.ensures.noted
+    c.mark_roots.ensures.marks.noted
     (c.forget.ensures.none c.args.words.now.config.pages (still_words c.clean_dirty.new.stop.pass))

@@ -11,21 +11,21 @@ blacken_cell-requires-clause-index c =
 
 pub returns-clause-on : goal.returns-clause-on
 returns-clause-on c =
-    on_then c.args.stop.now c.scan_if_due-last.new.stop c.blacken_cell.new.stop c.scan_if_due-last.ensures.on
+    on_then c.args.stop.now c.scan_if_due-last.new.stop c.blacken_cell.new.stop c.scan_if_due-last.ensures.marks.on
     c.blacken_cell.ensures.on
 
 pub returns-clause-one : goal.returns-clause-one
 returns-clause-one c =
     blackens_one (still_words c.args.stop.now.pass) (still_words c.scan_if_due-last.new.stop.pass)
     (still_words c.blacken_cell.new.stop.pass) c.args.gray.cell
-    c.scan_if_due-last.ensures.more c.blacken_cell.ensures.words
+    c.scan_if_due-last.ensures.marks.more c.blacken_cell.ensures.words
 
 pub returns-clause-noted : goal.returns-clause-noted
 returns-clause-noted c noted =
     noted_black c.args.words.now.config.pages c.args.gray.cell.page (2 ^ c.args.gray.cell.index)
     (still_words c.scan_if_due-last.new.stop.pass)
     (still_words c.blacken_cell.new.stop.pass) c.scan_if_due-last.new.work
-    c.blacken_cell.ensures.words (c.scan_if_due-last.ensures.noted noted)
+    c.blacken_cell.ensures.words (c.scan_if_due-last.ensures.marks.noted noted)
 
 pub returns-clause-last : goal.returns-clause-last
 returns-clause-last c =

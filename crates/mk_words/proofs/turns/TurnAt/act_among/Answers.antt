@@ -1,5 +1,6 @@
 use Rattle.mk_laws.proofs.Vocabulary.{subst}
-use Rattle.mk_words.proofs.{FreeTurns.hands_none, MapSteps.shows_still, MapSteps.turn_with_map, TurnSteps.acts}
+use Rattle.mk_words.proofs.{FreeTurns.hands_none, MapSteps.acted, MapSteps.shows_still, MapSteps.turn_with_map}
+use Rattle.mk_words.proofs.TurnSteps.{acts}
 use Rattle.mk_words.specs.{States.TurnState, TurnSteps.Acts}
 use Rattle.mk_words.proofs.turns.TurnAt.act_among.Goals as goal
 
@@ -18,8 +19,4 @@ invariant_of-self g c =
     c.self.invariant
 
 pub returns-clause-acts : goal.returns-clause-acts
-returns-clause-acts g c =
-    let f = c.perform_among in
-    let t = c.self.inside in
-    subst (λ (v : TurnState). Acts v.pass c.args.step f.new.self) c.self.view_is
-    (acts t.pass c.args.step f.new.self f.ensures.told.makes c.self.invariant.turn.holds)
+returns-clause-acts g c = acted c.self.view_is c.self.invariant c.perform_among.ensures.told.makes
