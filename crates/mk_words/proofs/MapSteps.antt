@@ -1,14 +1,12 @@
 -- The page map of a turn is kept in step with what its holder stores.
 use Rattle.mk_laws.proofs.Vocabulary.{Access, Bool, Config, IsHistory, List, Load, Moment, Named, None, Op, Option}
 use Rattle.mk_laws.proofs.Vocabulary.{Page, Seat, Some, Step, Store, Tally, Word, Words, World, ℕ, accessed, ap, arith}
-use Rattle.mk_laws.proofs.Vocabulary.{caller_number, cases_eq, earlier_part_is_history, enabled_meets, false, flight_of}
-use Rattle.mk_laws.proofs.Vocabulary.{free_page, get_or-set_other, get_or-set_same, header_at, histories_keep_lengths}
-use Rattle.mk_laws.proofs.Vocabulary.{inl, inr, length, ltb-true, nat_lt, refl, reg_access, register_met, slice_index}
-use Rattle.mk_laws.proofs.Vocabulary.{slice_set, subst, sym, tally_word, true, [], ◌%◌, ◌++◌, ◌<◌, ◌^◌, ◌∙◌, ◌∷◌, ◌≡◌}
-use Rattle.mk_laws.proofs.Vocabulary.{◌≢◌}
+use Rattle.mk_laws.proofs.Vocabulary.{cases_eq, earlier_part_is_history, enabled_meets, false, free_page}
+use Rattle.mk_laws.proofs.Vocabulary.{get_or-set_other, get_or-set_same, header_at, histories_keep_lengths, inl, inr}
+use Rattle.mk_laws.proofs.Vocabulary.{is_in_range, length, ltb-true, nat_lt, refl, slice_set, subst, sym, tally_word}
+use Rattle.mk_laws.proofs.Vocabulary.{true, [], ◌%◌, ◌++◌, ◌<◌, ◌^◌, ◌∙◌, ◌∷◌, ◌≡◌, ◌≢◌}
 use Rattle.mk_page_map.specs.KnownPages.{KnownPages, Shows, is_uncleaned, with_header, with_used}
 use Rattle.mk_page_map.specs.Members.{IsNext, page_at}
-use Rattle.mk_core.specs.Ranges.{is_in_range}
 use Rattle.mk_laws.proofs.SameWords.{Behind}
 use Rattle.mk_words.proofs.FreeTurns.{map_left, map_stays, page_words}
 use Rattle.mk_words.proofs.TurnSteps.{acts, gates_still, still_turn, turn_stays_too}

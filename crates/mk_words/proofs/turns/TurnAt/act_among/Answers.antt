@@ -1,7 +1,6 @@
 use Rattle.mk_laws.proofs.Vocabulary.{subst}
-use Rattle.mk_words.proofs.{FreeTurns.hands_none, MapSteps.acted, MapSteps.shows_still, MapSteps.turn_with_map}
-use Rattle.mk_words.proofs.TurnSteps.{acts}
-use Rattle.mk_words.specs.{States.TurnState, TurnSteps.Acts}
+use Rattle.mk_words.{proofs.FreeTurns.hands_none, proofs.MapSteps.acted, proofs.MapSteps.shows_still}
+use Rattle.mk_words.{proofs.MapSteps.turn_with_map, proofs.TurnSteps.acts, specs.States.TurnState, specs.TurnSteps.Acts}
 use Rattle.mk_words.proofs.turns.TurnAt.act_among.Goals as goal
 
 pub perform_among-requires-clause-hands_none : goal.perform_among-requires-clause-hands_none
