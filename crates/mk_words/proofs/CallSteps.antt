@@ -104,8 +104,7 @@ keeps_registers p s q m k is same r lt =
     ∙ sym (ap (λ (j : ℕ). register_word (now_of p).words j r) (number_is p.seat k is))
 
 -- The same, from what a call says.
-module _ (p : PassState) (s : Step) (n : ℕ) (q : PassState) (t : Tells p s n q)
-    (kind : group_of s ≡ Group.Callers) where
+module _ {p : PassState} {s : Step} {n : ℕ} {q : PassState} (t : Tells p s n q) (kind : group_of s ≡ Group.Callers) where
   pub caller_is : (k : ℕ) × (p.seat ≡ Caller k)
   caller_is =
       is_callers p.seat
@@ -159,10 +158,10 @@ reg_goes : (p : PassState) (q : PassState) (m : Makes p Step.Reg q) (n : ℕ) �
     ≡ progress_reg (call_of p) (call_of p).stage n
 reg_goes p q m n is = ap (λ (i : ℕ). progress_reg (call_of p) (call_of p).stage i) (sym is)
 
-module _ (p : PassState) (n : ℕ) (q : PassState) (t : Tells p Step.Reg n q)
-    (r : ℕ) (met : r ≡ register_met (call_of p) (call_of p).stage) where
+module _ {p : PassState} {n : ℕ} {q : PassState} (t : Tells p Step.Reg n q) (r : ℕ)
+    (met : r ≡ register_met (call_of p) (call_of p).stage) where
   same : flight_of (moment_of t.makes) p.seat ≡ call_of p
-  same = same_call p Step.Reg n q t refl
+  same = same_call t refl
 
   reaches : word_accessed p.table.config (moment_of t.makes) (event_of p Step.Reg)
       ≡ Named (Word.Reg (caller_number p.seat) r)
@@ -180,18 +179,17 @@ module _ (p : PassState) (n : ℕ) (q : PassState) (t : Tells p Step.Reg n q)
     load_finds = record { makes = t.makes; finds = found_is }
 
     pub load_goes : Goes p Step.Reg (progress_reg (call_of p) (call_of p).stage n) q
-    load_goes = goes_on p Step.Reg n q t refl _ (reg_goes p q t.makes n found_is)
+    load_goes = goes_on t refl _ (reg_goes p q t.makes n found_is)
 
     pub load_keeps : LeavesRegisters p q
     load_keeps =
-        keeps p Step.Reg n q t refl
-        (ap (λ (a : Access).
+        keeps t refl (ap (λ (a : Access).
         (accessed (moment_of t.makes).words (word_accessed p.table.config (moment_of t.makes) (event_of p Step.Reg))
         a).registers) (reg_access_is p q t.makes Load same loads))
 
     pub load_own : n ≡ register_of p r
     load_own = found_is ∙ ap (λ (x : TableWord). word_in (moment_of t.makes).words x) reaches
-        ∙ same_register p Step.Reg n q t refl r small
+        ∙ same_register t refl r small
 
   module _ (v : ℕ) (stores : reg_access (call_of p) (call_of p).stage ≡ Store v) where
     words_now : (moment_behind p.table.config (moment_of t.makes) (event_of p Step.Reg)).words
@@ -202,12 +200,12 @@ module _ (p : PassState) (n : ℕ) (q : PassState) (t : Tells p Step.Reg n q)
         → register_of q x ≡ slice_index (slice_set (moment_of t.makes).words.registers (8 * caller_number p.seat + r) v)
         (8 * caller_number p.seat + x)
     register_set x =
-        register_now p Step.Reg n q t refl x
+        register_now t refl x
         ∙ ap (λ (w : Words). register_word w (caller_number p.seat) x) words_now
 
     pub store_goes : Goes p Step.Reg (progress_reg (call_of p) (call_of p).stage v) q
     store_goes =
-        goes_on p Step.Reg n q t refl _
+        goes_on t refl _
         (unread (call_of p) (call_of p).stage v (found_by t.makes) stores)
 
     pub store_keeps : KeepsOtherRegisters r p q
@@ -215,14 +213,14 @@ module _ (p : PassState) (n : ℕ) (q : PassState) (t : Tells p Step.Reg n q)
         register_set x
         ∙ get_or-set_other (moment_of t.makes).words.registers (8 * caller_number p.seat + r)
         (8 * caller_number p.seat + x) v 0 (λ e. ne (omega arith))
-        ∙ same_register p Step.Reg n q t refl x lt
+        ∙ same_register t refl x lt
 
     pub store_stored : register_of q r ≡ v
     store_stored =
         register_set r
         ∙ get_or-set_same (moment_of t.makes).words.registers (8 * caller_number p.seat + r) v 0
         (let long = (histories_keep_lengths p.table.config (p.seen ++ t.makes.others)).registers in
-        let k = caller_is p Step.Reg n q t refl in
+        let k = caller_is t refl in
         let number : caller_number p.seat ≡ k.0 = number_is p.seat k.0 k.1 in
         let d = made p Step.Reg q t.makes in
         let within = caller_exists p.table.config p.seat k.0 k.1 d.meets.seat in
@@ -244,23 +242,23 @@ begins f o n found is free = grind (arith, eq-eqb)
 pub waits : (f : Flight) (o : Op) (n found : ℕ) → n ≡ found → n ≢ 0 → begins_where_free f o found ≡ still f
 waits f o n found is held = grind (arith, ne_eqb)
 
-module _ (p : PassState) (o : Op) (n : ℕ) (q : PassState) (t : Tells p (Step.Enter o) n q) where
+module _ {p : PassState} {o : Op} {n : ℕ} {q : PassState} (t : Tells p (Step.Enter o) n q) where
   pub enter_goes : n ≡ 0 → Goes p (Step.Enter o) (record { flight = begun o; answer = None }) q
-  enter_goes free = goes_on p (Step.Enter o) n q t refl _
+  enter_goes free = goes_on t refl _
       (begins (call_of p) o n (found_by t.makes) t.tells free)
 
   pub enter_waits : n ≢ 0 → Goes p (Step.Enter o) (still (call_of p)) q
-  enter_waits held = goes_on p (Step.Enter o) n q t refl _
+  enter_waits held = goes_on t refl _
       (waits (call_of p) o n (found_by t.makes) t.tells held)
 
   pub enter_keeps : LeavesRegisters p q
-  enter_keeps = keeps p (Step.Enter o) n q t refl refl
+  enter_keeps = keeps t refl refl
 
   pub enter_held : n ≢ 0 → FindsHeld p o q
   enter_held held =
       let c : Config = p.table.config in
       let d = made p (Step.Enter o) q t.makes in
-      let k = caller_is p (Step.Enter o) n q t refl in
+      let k = caller_is t refl in
       let m : Moment = moment_of t.makes in
       let within : k.0 < c.callers = caller_exists c p.seat k.0 k.1 d.meets.seat in
       let number : caller_number p.seat ≡ k.0 = number_is p.seat k.0 k.1 in
