@@ -1,9 +1,9 @@
 -- Tracing in parts: nothing, one part after another, and one step.
 use Rattle.std.proofs.{Common.count_by, lemmas.List.Sums.sum_by-append}
 use Rattle.mk_laws.proofs.Vocabulary.{Bool, Config, Event, List, Moment, Seat, Step, World, ℕ, and_from, and_parts, ap}
-use Rattle.mk_laws.proofs.Vocabulary.{append-nil, append_assoc, arith, cond, false, found, if◌then◌else◌, is_one_of}
-use Rattle.mk_laws.proofs.Vocabulary.{left, left_in_parts, refl, subst, sym, true, true≢false, world_behind, [], ◌++◌}
-use Rattle.mk_laws.proofs.Vocabulary.{◌+◌, ◌∙◌, ◌∷◌, ◌≡◌}
+use Rattle.mk_laws.proofs.Vocabulary.{append-nil, append_assoc, arith, cond, false, found, if◌then◌else◌, left}
+use Rattle.mk_laws.proofs.Vocabulary.{left_in_parts, refl, subst, sym, true, true≢false, world_behind, [], ◌++◌, ◌+◌}
+use Rattle.mk_laws.proofs.Vocabulary.{◌∙◌, ◌∷◌, ◌≡◌}
 use Rattle.mk_core.specs.Growing.{AreOfOthers, Finding, is_same_seat, own_from}
 use Rattle.mk_core.specs.{Frames.CountsAreLeft, History.left_from}
 use Rattle.mk_tracing.specs.Tracing.{Counted, OwnStepsKeep, Traces, untouched_of}
@@ -45,8 +45,7 @@ one_own c s w e same = ap (λ (b : Bool). if b then record { event = e; found = 
 
 itself : (s : Seat) (seats : List Seat) (e : Event) → e.seat ≡ s → Has seats s → AreOwnOrOfOthers s seats (e ∷ [])
 unfolding AreOwnOrOfOthers
-itself s seats e same has =
-    (ap (λ (x : Seat). is_one_of seats x) same ∙ has ∙ sym (ap (λ (x : Seat). is_same_seat s x) same ∙ same_self s), tt)
+itself s seats e same has = grind (arith, same_self)
 
 -- Nothing is traced.
 
@@ -90,10 +89,7 @@ count_in_parts test xs ys = sum_by-append (λ (x : Finding). cond (test x) 1 0) 
 
 count_first : (test : Finding → Bool) (x : Finding) (xs : List Finding) → test x ≡ false
     → count_by test (x ∷ xs) ≡ count_by test xs
-count_first test x xs unlike =
-    let one : count_by test (x ∷ []) ≡ 0 = ap (λ (b : Bool). 0 + cond b 1 0) unlike in
-    let both : count_by test (x ∷ xs) ≡ count_by test (x ∷ []) + count_by test xs = count_in_parts test (x ∷ []) xs in
-    omega arith
+count_first test x xs unlike = grind (arith, count_in_parts)
 
 module _ (kinds : Step → Bool) (rule : Config → Moment → Step → Type 0) (kind : Step → Bool) where
   then_at : (p : PassState) (xs : List Event) → AreOwnOrOfOthers p.seat p.seats xs → are_of kinds (done_in p xs) ≡ true
@@ -233,8 +229,7 @@ kinds_keep kinds rule c s w (e ∷ es) follows of_kinds =
         → are_of kinds (if b then record { event = e; found = found c w.now e } ∷ own_from c s (world_behind c w e) es
         else own_from c s (world_behind c w e) es) ≡ true
         → is_same_seat s e.seat ≡ true → rule c w.now e.step
-    here true is h same =
-        follows w.now e.step (and_parts (kinds e.step) (are_of kinds (own_from c s (world_behind c w e) es)) h).0
+    here true is h same = grind (arith, and_parts)
     here false is h same = absurd (true≢false (sym same ∙ is))
 
     behind : (b : Bool)
@@ -276,11 +271,7 @@ module _ (kinds : Step → Bool) (rule : Config → Moment → Step → Type 0) 
   pub done_by_one : Has p.seats p.seat
       → done_in p (m.others ++ event_of p s ∷ [])
       ≡ record { event = event_of p s; found = found p.table.config (world_at m).now (event_of p s) } ∷ []
-  done_by_one has =
-      done_in_parts p m.others (event_of p s ∷ [])
-      ∙ ap (λ (zs : List Finding). zs ++ done_in (record p { seen = p.seen ++ m.others }) (event_of p s ∷ []))
-      (none_own p.table.config p.seats p.seat (left p.table.config p.seen) m.others has m.of_others)
-      ∙ one_own p.table.config p.seat (world_at m) (event_of p s) (same_self p.seat)
+  done_by_one has = grind (arith, done_in_parts, none_own, one_own, same_self)
 
   pub traces_step : (n : ℕ) → Has p.seats p.seat → kinds s ≡ true → rule p.table.config (world_at m).now s
       → untouched_of (world_of q) ≡ untouched_of (world_of p) → CountsAreLeft p.table.config p.seen q.seen

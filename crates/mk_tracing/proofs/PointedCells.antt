@@ -15,34 +15,22 @@ use Rattle.mk_words.specs.States.{PassState, WordsState}
 pub hand_points : (p : PassState) (t : WordsState) (value : ℕ) (cell : Cell) → p.table ≡ t
     → (value ≢ 0 → IsInHand p value) → pointed_cell t.config.pages (still_words p).pages value ≡ Some cell
     → HandPointsInto p cell
-hand_points p t value cell table hand points = record {
-  value = value;
-  in_hand = hand (some_not_zero t.config.pages (still_words p).pages value cell points);
-  points = ap (λ (x : WordsState). pointed_cell x.config.pages (still_words p).pages value) table ∙ points;
-}
+hand_points p t value cell table hand points = grind (arith, some_not_zero)
 
 -- It goes on doing so through looks that leave the hand and the words.
 pub points_on : (p q : PassState) (cell : Cell) → q.table ≡ p.table → still_words q ≡ still_words p
     → hand_of q ≡ hand_of p → HandPointsInto p cell → HandPointsInto q cell
-points_on p q cell table words hand r = record {
-  value = r.value;
-  in_hand = hand_kept p q r.value hand r.in_hand;
-  points =
-      ap (λ (t : WordsState). pointed_cell t.config.pages (still_words q).pages r.value) table
-      ∙ ap (λ (w : Words). pointed_cell p.table.config.pages w.pages r.value) words ∙ r.points;
-}
+points_on p q cell table words hand r = grind (arith, hand_kept)
 
 -- A value that points into a cell that is marked after marks points well, and one that points into nothing.
 
 pub well_marked : (pages : ℕ) (w x : Words) (u : ℕ) (cell : Cell) → MarksMore w x
     → pointed_cell pages w.pages u ≡ Some cell → is_marked x cell ≡ true → points_well pages x u ≡ true
-well_marked pages w x u cell more points marked =
-    well_some pages x u cell (ap (λ (y : Words). pointed_cell pages y.pages u) more.is ∙ points) marked
+well_marked pages w x u cell more points marked = grind (arith, well_some)
 
 pub well_nowhere : (pages : ℕ) (w x : Words) (u : ℕ) → x ≡ w → pointed_cell pages w.pages u ≡ None
     → points_well pages x u ≡ true
-well_nowhere pages w x u same none =
-    well_none pages x u (ap (λ (y : Words). pointed_cell pages y.pages u) same ∙ none)
+well_nowhere pages w x u same none = grind (arith, well_none)
 
 -- What a value points into by the header word that is there.
 pub pointed_under : (pages : ℕ) (w : Words) (u header : ℕ) → header ≡ header_at w (page_at_address u)

@@ -1,38 +1,28 @@
 -- Roots that point well, one after the other.
 use Rattle.std.proofs.lemmas.Nat.{le_or_l, le_or_r}
-use Rattle.mk_laws.proofs.Vocabulary.{Bool, Config, Event, Flight, IsHistory, List, Null, Value, Word, Words, ℕ, ap}
-use Rattle.mk_laws.proofs.Vocabulary.{arith, at_rest, bases_of, bit_or, cases_Bool, cases_lt, false, flight_among}
-use Rattle.mk_laws.proofs.Vocabulary.{get_or_past, histories_keep_lengths, image_of, inl, inr, is_heap_address}
-use Rattle.mk_laws.proofs.Vocabulary.{leb-true, left, nat_le, nat_lt, never_behind, points_well, refl, register_word}
-use Rattle.mk_laws.proofs.Vocabulary.{shown, slice_index, slice_index_or, subst, sym, true, ◌%◌, ◌&&◌, ◌*◌, ◌+◌, ◌-◌}
-use Rattle.mk_laws.proofs.Vocabulary.{◌/◌, ◌<◌, ◌∙◌, ◌≡◌, ◌≤◌, ◌⊎◌}
+use Rattle.mk_laws.proofs.Vocabulary.{Config, Event, Flight, IsHistory, List, Null, Value, Word, Words, ℕ, ap, arith}
+use Rattle.mk_laws.proofs.Vocabulary.{at_rest, bases_of, bit_or, cases_lt, flight_among, get_or_past}
+use Rattle.mk_laws.proofs.Vocabulary.{histories_keep_lengths, image_of, inl, inr, leb-true, left, never_behind}
+use Rattle.mk_laws.proofs.Vocabulary.{points_well, register_word, shown, slice_index, slice_index_or, subst, sym, true}
+use Rattle.mk_laws.proofs.Vocabulary.{◌%◌, ◌*◌, ◌+◌, ◌-◌, ◌/◌, ◌<◌, ◌∙◌, ◌≡◌, ◌≤◌}
 use Rattle.mk_core.specs.Words.{named_word}
 use Rattle.mk_laws.proofs.{InvariantHistories.histories_keep_the_invariant, Protocols.lists_keep_the_protocol}
 use Rattle.mk_tracing.proofs.MoreMarks.{marked_as, more_then, well_more, well_none, zero_none}
-use Rattle.mk_tracing.specs.Grays.{GlobalIsWell, MarksMore, RegistersAreWell, RootsPointWell}
-use Rattle.mk_tracing.specs.Stops.{is_root, still_words}
-use Rattle.mk_turns.proofs.PointedCells.{outside_none}
-use Rattle.mk_tracing.specs.{Scans.MarksAndNotes, declared.worklist.Worklist.Worklist}
 use Rattle.mk_tracing.proofs.ScannedWords.{notes_then}
+use Rattle.mk_tracing.specs.Grays.{GlobalIsWell, MarksMore, RegistersAreWell, RootsPointWell}
+use Rattle.mk_tracing.specs.{Scans.MarksAndNotes, Stops.is_root, Stops.still_words, declared.worklist.Worklist.Worklist}
+use Rattle.mk_turns.proofs.PointedCells.{outside_none}
 use Rattle.mk_words.specs.States.{PassState, TurnState, WordsState, now_of}
 
 -- Each value below one points well, and so does the next.
 values_then : (pages : ℕ) (v x : Words) (value : ℕ → ℕ) (i : ℕ) → MarksMore v x
     → ((k : ℕ) → k < i → points_well pages v (value k) ≡ true)
     → points_well pages x (value i) ≡ true → (k : ℕ) → k < i + 1 → points_well pages x (value k) ≡ true
-values_then pages v x value i more before here k lt = elim (cases_lt k i) [
-  | inl below ↦ well_more pages v x (value k) more (before k below)
-  | inr past ↦ let at : k ≡ i = omega arith in ap (λ j. points_well pages x (value j)) at ∙ here
-]
+values_then pages v x value i more before here k lt = grind (arith, cases_lt, well_more)
 
 -- A root is the same after marks.
 root_kept : (w v : Words) (x : Word) → is_root x ≡ true → MarksMore w v → named_word v x ≡ named_word w x
-root_kept w v x root more = ap (λ (y : Words). named_word y x) more.is ∙ by x root
-  where
-    by : (y : Word) → is_root y ≡ true → named_word (marked_as w v.marks) y ≡ named_word w y
-    by (Word.Reg j r) h = refl
-    by (Word.Global g) h = refl
-    by _ h = cc
+root_kept w v x root more = grind (arith, marked_as)
 
 -- Marks were added, and what each root below one pointed into is marked.
 pub record RootsMarked (pages : ℕ) (w v : Words) (root : ℕ → Word) (n : ℕ) : Type 0 where
@@ -75,42 +65,23 @@ next_root_noted are before marks here =
 pub registers_then : (c : Config) (p q r : PassState) {k : ℕ} → MarksMore (still_words p) (still_words q)
     → MarksMore (still_words q) (still_words r) → ((j : ℕ) → j < k → RegistersAreWell c p q j)
     → RegistersAreWell c q r k → (j : ℕ) → j < k + 1 → RegistersAreWell c p r j
-registers_then c p q r {k} one two before here j lt n few =
-    (next_root {pages = c.pages} {w = still_words p} {v = still_words q} {root = λ i. Word.Reg i n} {i = k} (λ i. refl)
-    (record { more = one; well = λ i below. before i below n few }) two (here n few)).well j lt
+registers_then c p q r {k} one two before here j lt n few = grind (arith, next_root)
 
 -- A value before the heap points well.
 pub before_well : (pages : ℕ) (w : Words) (u : ℕ) → u < 65536 → points_well pages w u ≡ true
-before_well pages w u before = well_none pages w u (outside_none pages w.pages u (by (cases_Bool (nat_le 65536 u))))
-  where
-    by : (nat_le 65536 u ≡ true) ⊎ (nat_le 65536 u ≡ false) → is_heap_address pages u ≡ false
-    by (inl far) = let le = leb-true 65536 u far in absurd (omega arith)
-    by (inr near) = ap (λ (b : Bool). b && nat_lt u (65536 + 512 * pages)) near
+before_well pages w u before = grind (arith, well_none, outside_none, leb-true)
 
 -- Each value below one is at most what all of them come to, bit by bit.
 pub most_then : (value : ℕ → ℕ) (all next i : ℕ) → ((j : ℕ) → j < i → value j ≤ all) → next ≡ value i
     → (j : ℕ) → j < i + 1 → value j ≤ bit_or all next
-most_then value all next i before is j lt = elim (cases_lt j i) [
-  | inl below ↦ let old = before j below in let more = le_or_l all next in omega arith
-  | inr past ↦
-      let at : j ≡ i = omega arith in
-      subst (λ (k : ℕ). value k ≤ bit_or all next) (sym at)
-      (subst (λ (n : ℕ). n ≤ bit_or all next) is (le_or_r all next))
-]
+most_then value all next i before is j lt = grind (arith, cases_lt, le_or_l, le_or_r)
 
 -- Each global of the groups below one points well, and so do those of the next.
 pub groups_then : (pages : ℕ) (w v x : Words) (group : ℕ) → MarksMore w v → MarksMore v x
     → ((g : ℕ) → g < 8 * group → points_well pages v (slice_index w.globals g) ≡ true)
     → ((i : ℕ) → i < 8 → points_well pages x (slice_index v.globals (8 * group + i)) ≡ true)
     → (g : ℕ) → g < 8 * (group + 1) → points_well pages x (slice_index w.globals g) ≡ true
-groups_then pages w v x group old more before here g lt = elim (cases_lt g (8 * group)) [
-  | inl below ↦ well_more pages v x (slice_index w.globals g) more (before g below)
-  | inr past ↦
-      let at : 8 * group + (g - 8 * group) ≡ g = omega arith in
-      subst (λ (n : ℕ). points_well pages x n ≡ true) (root_kept w v (Word.Global g) refl old)
-      (subst (λ (j : ℕ). points_well pages x (slice_index v.globals j) ≡ true) at
-      (here (g - 8 * group) (omega arith)))
-]
+groups_then pages w v x group old more before here g lt = grind (arith, cases_lt, well_more, root_kept)
 
 -- A register after those of the callers is 0.
 pub register_past : (c : Config) (es : List Event) (i : ℕ) → IsHistory c es → 8 * c.callers ≤ i
@@ -119,10 +90,8 @@ register_past c es i h past =
     let all = histories_keep_the_invariant c es h in
     let count = (lists_keep_the_protocol c es h.within_limits h.enabled).callers in
     let some = all.mirrors.register_count in
-    let idle : flight_among (left c es).now.seats.flights (i / 8) ≡ at_rest = get_or_past (left c es).now.seats.flights
-    (i / 8) at_rest (omega arith) in
-    let null : slice_index_or (never_behind c es).registers i Null ≡ Null = get_or_past
-    (never_behind c es).registers i Null (omega arith) in
+    let idle : flight_among (left c es).now.seats.flights (i / 8) ≡ at_rest = grind (arith, get_or_past) in
+    let null : slice_index_or (never_behind c es).registers i Null ≡ Null = grind (arith, get_or_past) in
     ap (λ (f : Flight). shown f (i % 8) (slice_index (left c es).now.words.registers i)) (sym idle)
     ∙ all.mirrors.images.registers i
     ∙ ap (λ (v : Value). image_of (bases_of (left c es).allocations) v) null
@@ -164,12 +133,4 @@ pub all_roots_well : (p q r : PassState) {t : WordsState} → p.table ≡ t → 
     → MarksMore (still_words p) (still_words q) → MarksMore (still_words q) (still_words r)
     → ((k : ℕ) → k < t.config.callers → RegistersAreWell t.config p q k)
     → ((g : ℕ) → g < 64 → GlobalIsWell t.config q r g) → RootsPointWell t.config.pages (still_words r)
-all_roots_well p q r {t} table h one two registers globals =
-    let x = still_words r in
-    let more = more_then (still_words p) (still_words q) x one two in
-    roots_well p t.config.pages x h (sym (ap (λ (y : WordsState). y.config.pages) table))
-    (ap (λ (y : Words). y.registers) more.is) (ap (λ (y : Words). y.globals) more.is)
-    (λ k n lk ln. well_more t.config.pages (still_words q) x (register_word (still_words p) k n) two
-    (registers k (subst (λ (y : WordsState). k < y.config.callers) table lk) n ln))
-    (λ g lg. subst (λ (y : Words). points_well t.config.pages x (slice_index y.globals g) ≡ true) one.is
-    (globals g lg))
+all_roots_well p q r {t} table h one two registers globals = grind (arith, more_then, roots_well, well_more)

@@ -1,11 +1,10 @@
 -- The words of a cell that is scanned, which point well one after the other.
-use Rattle.mk_laws.proofs.Vocabulary.{Cell, Words, ℕ, ap, arith, cases_lt, cell_words, first_word, has_no_pointers}
-use Rattle.mk_laws.proofs.Vocabulary.{header_in, inl, inr, points_well, refl, slice_index, subst, sym, true, ◌+◌}
-use Rattle.mk_laws.proofs.Vocabulary.{◌<◌, ◌∙◌, ◌≡◌, ◌≤◌}
+use Rattle.mk_laws.proofs.Vocabulary.{Cell, Words, ℕ, arith, cases_lt, first_word, inl, inr, points_well, refl}
+use Rattle.mk_laws.proofs.Vocabulary.{slice_index, subst, sym, true, ◌+◌, ◌<◌, ◌≡◌, ◌≤◌}
 use Rattle.mk_core.specs.Cells.{words_point_well}
-use Rattle.mk_tracing.proofs.{Blackened.cell_kept, Blackened.gray_kept, Blackened.scan_done, MoreMarks.more_same}
-use Rattle.mk_tracing.proofs.{MoreMarks.more_then, MoreMarks.well_more, NotedCells.noted_more, StopSteps.on_from}
-use Rattle.mk_tracing.proofs.StopSteps.{on_then}
+use Rattle.mk_tracing.proofs.Blackened.{cell_kept, gray_kept, scan_done}
+use Rattle.mk_tracing.proofs.MoreMarks.{more_same, more_then, well_more}
+use Rattle.mk_tracing.proofs.{NotedCells.noted_more, StopSteps.on_from, StopSteps.on_then}
 use Rattle.mk_tracing.specs.{Grays.IsDue, Grays.MarksMore, Grays.MarksOn, Scans.MarksAndNotes, Scans.Scans}
 use Rattle.mk_tracing.specs.{Stops.IsWanted, Stops.still_words, declared.worklist.Worklist.Worklist}
 use Rattle.mk_words.specs.States.{TurnState}
@@ -18,12 +17,7 @@ due_same pages w v cell size due same = subst (λ (y : Words). IsDue pages y cel
 
 pub due_kept : {pages : ℕ} {w v : Words} {cell : Cell} {size : ℕ} → IsDue pages w cell size → MarksMore w v
     → IsDue pages v cell size
-due_kept {pages} {w} {v} {cell} due more =
-    record {
-      gray = gray_kept pages w v cell due.gray more;
-      scanned = ap (λ (y : Words). has_no_pointers (header_in y cell.page)) more.is ∙ due.scanned;
-      words = due.words ∙ sym (ap (λ (y : Words). cell_words y cell) more.is);
-    }
+due_kept {pages} {w} {v} {cell} due more = grind (arith, gray_kept)
 
 -- Marks one after the other, where nothing is noted in the list, a look alone, and nothing at all.
 

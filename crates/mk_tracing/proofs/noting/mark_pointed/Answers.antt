@@ -1,8 +1,8 @@
-use Rattle.mk_laws.proofs.Vocabulary.{None, Some, Words, ℕ, arith, pointed_cell, subst, sym, ◌<◌, ◌∙◌, ◌≡◌}
+use Rattle.mk_laws.proofs.Vocabulary.{None, Some, Words, arith, pointed_cell, subst, sym, ◌∙◌, ◌≡◌}
 use Rattle.mk_tracing.proofs.PointedCells.{hand_points, pointed_here, points_on, well_marked, well_nowhere}
 use Rattle.mk_tracing.proofs.ScannedWords.{looks_alone, marks_alone, notes_then}
 use Rattle.mk_tracing.proofs.{FirstBits.if_told, NotedCells.noted_marked, noting.mark_pointed.Goals.In-Some}
-use Rattle.mk_tracing.specs.{Grays.MarksMore, Noted.IsNoted, Stops.still_words}
+use Rattle.mk_tracing.specs.{Grays.MarksMore, Stops.still_words}
 use Rattle.mk_tracing.proofs.noting.mark_pointed.Goals as goal
 
 pub returns-then-header-eq0-clause-marks : goal.returns-then-header-eq0-clause-marks
@@ -52,13 +52,4 @@ returns-clause-well c =
     (points (goal.at.returns-clause-well c).In-Some) c.mark_white.ensures.marked
 
 pub returns-clause-one : goal.returns-clause-one
-returns-clause-one c =
-    let pages : ℕ = c.args.words.now.config.pages in
-    let w = still_words c.args.stop.now.pass in
-    let look = c.look_among-header in
-    let v = still_words look.new.stop.pass in
-    let x = still_words c.mark_white.new.stop.pass in
-    if_told (IsNoted pages x) c.mark_white.result c.in-Some.noted c.then_some.result c.then_some.ensures
-    (λ white. noted_marked pages w v x c.in-Some.noted c.args.page look.result look.ensures.words
-    c.mark_white.ensures.more c.in-Some.ensures.page c.in-Some.ensures.known c.in-Some.ensures.words (omega arith)
-    look.ensures.found (subst (λ n. c.args.page < n) c.requires.pages c.requires.within) c.mark_white.ensures.marked)
+returns-clause-one c = grind (arith, if_told, noted_marked)

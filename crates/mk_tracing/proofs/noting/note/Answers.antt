@@ -1,5 +1,5 @@
 use Rattle.mk_laws.proofs.Vocabulary.{ℕ}
-use Rattle.mk_tracing.{proofs.MoreMarks.more_same, proofs.NotedCells.noted_cell, proofs.NotedCells.noted_same}
+use Rattle.mk_tracing.proofs.{MoreMarks.more_same, NotedCells.noted_cell, NotedCells.noted_same}
 use Rattle.mk_tracing.specs.Stops.{still_words}
 use Rattle.mk_tracing.proofs.noting.note.Goals as goal
 

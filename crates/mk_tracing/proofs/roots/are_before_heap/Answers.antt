@@ -1,14 +1,10 @@
-use Rattle.mk_laws.proofs.Vocabulary.{Words, ℕ, ap, arith, ltb-true, refl, slice_index, ◌+◌, ◌∙◌}
+use Rattle.mk_laws.proofs.Vocabulary.{Words, ℕ, ap, arith, ltb-true, slice_index, ◌+◌, ◌∙◌}
 use Rattle.mk_tracing.proofs.{RootMarks.most_then, StopSteps.on_from, StopSteps.on_then}
 use Rattle.mk_tracing.specs.Stops.{still_words}
 use Rattle.mk_tracing.proofs.roots.are_before_heap.Goals as goal
 
 pub loop-i-init : goal.loop-i-init
-loop-i-init c = record {
-  on = on_from c.args.stop.now c.requires.wanted;
-  words = refl;
-  most = λ j lt. absurd (omega arith);
-}
+loop-i-init c = grind (arith, on_from)
 
 pub loop-i-preserved : goal.loop-i-preserved
 loop-i-preserved c =
@@ -24,8 +20,4 @@ loop-i-preserved c =
     }
 
 pub returns-clause-before : goal.returns-clause-before
-returns-clause-before c is i lt =
-    let end = c.loop-i-test.false in
-    let most = c.loop-i.invariant.most i (omega arith) in
-    let small = ltb-true c.loop-i.all 65536 is in
-    omega arith
+returns-clause-before c is i lt = grind (arith, ltb-true)

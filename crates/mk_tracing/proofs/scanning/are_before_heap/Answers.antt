@@ -1,19 +1,13 @@
-use Rattle.mk_laws.proofs.Vocabulary.{Words, ℕ, ap, arith, first_word, ltb-true, refl, slice_index, ◌+◌, ◌∙◌}
+use Rattle.mk_laws.proofs.Vocabulary.{Words, ℕ, ap, arith, first_word, ltb-true, slice_index, ◌+◌, ◌∙◌}
 use Rattle.mk_tracing.proofs.{RootMarks.most_then, ScannedWords.due_same, StopSteps.on_from, StopSteps.on_then}
 use Rattle.mk_tracing.specs.Stops.{still_words}
 use Rattle.mk_tracing.proofs.scanning.are_before_heap.Goals as goal
 
 pub loop-i-init : goal.loop-i-init
-loop-i-init c = record {
-  on = on_from c.args.stop.now c.requires.wanted;
-  words = refl;
-  most = λ j lt. absurd (omega arith);
-}
+loop-i-init c = grind (arith, on_from)
 
 pub look_at_word-all-requires-clause-due : goal.look_at_word-all-requires-clause-due
-look_at_word-all-requires-clause-due c =
-    due_same c.args.words.now.config.pages (still_words c.args.stop.now.pass) (still_words c.loop-i.stop.pass)
-    c.args.cell c.args.size c.requires.due c.loop-i.invariant.words
+look_at_word-all-requires-clause-due c = grind (arith, due_same)
 
 pub loop-i-preserved : goal.loop-i-preserved
 loop-i-preserved c =
@@ -30,11 +24,7 @@ loop-i-preserved c =
     }
 
 pub returns-clause-before : goal.returns-clause-before
-returns-clause-before c is i lt =
-    let end = c.loop-i-test.false in
-    let most = c.loop-i.invariant.most i (omega arith) in
-    let small = ltb-true c.loop-i.all 65536 is in
-    omega arith
+returns-clause-before c is i lt = grind (arith, ltb-true)
 
 pub look_at_word-all-requires-clause-part : goal.look_at_word-all-requires-clause-part
 look_at_word-all-requires-clause-part c = c.requires.part c.loop-i.i (omega arith)

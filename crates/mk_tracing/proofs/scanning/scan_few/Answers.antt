@@ -25,8 +25,7 @@ pub loop-i-preserved : goal.loop-i-preserved
 loop-i-preserved c = scanned (goal.at.loop-i-preserved c).After-mark_value-noted
 
 pub scan_rest-last-requires-clause-due : goal.scan_rest-last-requires-clause-due
-scan_rest-last-requires-clause-due c =
-    due_kept c.requires.due (scanned (goal.at.scan_rest-last-requires-clause-due c).After-mark_value-noted).marks.more
+scan_rest-last-requires-clause-due c = grind (arith, due_kept, scanned)
 
 pub returns-in-Some-clause-scans : goal.returns-in-Some-clause-scans
 returns-in-Some-clause-scans c =

@@ -1,6 +1,6 @@
 use Rattle.mk_laws.proofs.Vocabulary.{ℕ, arith, first_word, slice_index, subst, ◌*◌, ◌+◌, ◌-◌, ◌<◌, ◌≡◌}
-use Rattle.mk_tracing.proofs.ScannedWords.{due_same, looks_alone, none_scanned, scans_then}
-use Rattle.mk_tracing.{proofs.RootMarks.before_well, specs.Stops.still_words}
+use Rattle.mk_tracing.{proofs.RootMarks.before_well, proofs.ScannedWords.due_same, proofs.ScannedWords.looks_alone}
+use Rattle.mk_tracing.{proofs.ScannedWords.none_scanned, proofs.ScannedWords.scans_then, specs.Stops.still_words}
 use Rattle.mk_tracing.proofs.scanning.scan_group.Goals as goal
 
 pub are_before_heap-requires-clause-part : goal.are_before_heap-requires-clause-part
@@ -21,9 +21,7 @@ returns-then-are_before_heap c =
     }
 
 pub scan_from-requires-clause-due : goal.scan_from-requires-clause-due
-scan_from-requires-clause-due c =
-    due_same c.args.words.now.config.pages (still_words c.args.stop.now.pass)
-    (still_words c.are_before_heap.new.stop.pass) c.args.cell c.args.size c.requires.due c.are_before_heap.ensures.words
+scan_from-requires-clause-due c = grind (arith, due_same)
 
 pub scan_from-requires-clause-part : goal.scan_from-requires-clause-part
 scan_from-requires-clause-part c i lt = let part = c.requires.part in omega arith

@@ -29,8 +29,7 @@ groups_scanned c =
     (scans_then (scans_to (64 * last) whole c.loop-part.invariant) c.scan_part-2.ensures)
 
 pub scan_from-requires-clause-due : goal.scan_from-requires-clause-due
-scan_from-requires-clause-due c =
-    due_kept c.requires.due (groups_scanned (goal.at.scan_from-requires-clause-due c).After-scan_part-2).marks.more
+scan_from-requires-clause-due c = grind (arith, due_kept, groups_scanned)
 
 pub scan_from-requires-clause-part : goal.scan_from-requires-clause-part
 scan_from-requires-clause-part c i lt = omega arith

@@ -1,6 +1,6 @@
 use Rattle.mk_laws.proofs.Vocabulary.{arith}
 use Rattle.mk_tracing.proofs.ScannedWords.{due_kept, marks_nothing, none_scanned, one_scanned, scans_then, scans_to}
-use Rattle.mk_tracing.{proofs.NotedCells.one_same, specs.Stops.still_words}
+use Rattle.mk_tracing.proofs.NotedCells.{one_same}
 use Rattle.mk_tracing.proofs.scanning.scan_rest.Goals as goal
 
 pub loop-i-init : goal.loop-i-init
@@ -16,10 +16,7 @@ pub look_at_word-value-requires-clause-part : goal.look_at_word-value-requires-c
 look_at_word-value-requires-clause-part c = omega arith
 
 pub mark_and_note-last-requires-clause-last : goal.mark_and_note-last-requires-clause-last
-mark_and_note-last-requires-clause-last c =
-    one_same c.args.words.now.config.pages (still_words c.loop-i.stop.pass)
-    (still_words c.look_at_word-value.new.stop.pass) c.loop-i.last c.look_at_word-value.ensures.words
-    c.loop-i.invariant.last
+mark_and_note-last-requires-clause-last c = grind (arith, one_same)
 
 pub loop-i-preserved : goal.loop-i-preserved
 loop-i-preserved c =
