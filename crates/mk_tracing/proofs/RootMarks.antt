@@ -3,14 +3,15 @@ use Rattle.std.proofs.lemmas.Nat.{le_or_l, le_or_r}
 use Rattle.mk_laws.proofs.Vocabulary.{Config, Event, Flight, IsHistory, List, Null, Value, Word, Words, ℕ, ap, arith}
 use Rattle.mk_laws.proofs.Vocabulary.{at_rest, bases_of, bit_or, cases_lt, flight_among, get_or_past}
 use Rattle.mk_laws.proofs.Vocabulary.{histories_keep_lengths, image_of, inl, inr, leb-true, left, never_behind}
-use Rattle.mk_laws.proofs.Vocabulary.{points_well, register_word, shown, slice_index, slice_index_or, subst, sym, true}
+use Rattle.mk_laws.proofs.Vocabulary.{points_well, refl, register_word, shown, slice_index, slice_index_or, subst, sym, true}
 use Rattle.mk_laws.proofs.Vocabulary.{◌%◌, ◌*◌, ◌+◌, ◌-◌, ◌/◌, ◌<◌, ◌∙◌, ◌≡◌, ◌≤◌}
 use Rattle.mk_core.specs.Words.{named_word}
 use Rattle.mk_laws.proofs.{InvariantHistories.histories_keep_the_invariant, Protocols.lists_keep_the_protocol}
 use Rattle.mk_tracing.proofs.MoreMarks.{marked_as, more_then, well_more, well_none, zero_none}
-use Rattle.mk_tracing.proofs.ScannedWords.{notes_then}
-use Rattle.mk_tracing.specs.Grays.{GlobalIsWell, MarksMore, RegistersAreWell, RootsPointWell}
-use Rattle.mk_tracing.specs.{Scans.MarksAndNotes, Stops.is_root, Stops.still_words, declared.worklist.Worklist.Worklist}
+use Rattle.mk_tracing.proofs.{ScannedWords.notes_then, StopSteps.on_from, StopSteps.on_then}
+use Rattle.mk_tracing.specs.Grays.{GlobalIsWell, MarksMore, MarksOn, RegistersAreWell, RootsPointWell}
+use Rattle.mk_tracing.specs.{Scans.MarksAndNotes, Stops.IsWanted, Stops.is_root, Stops.still_words}
+use Rattle.mk_tracing.specs.declared.worklist.Worklist.{Worklist}
 use Rattle.mk_turns.proofs.PointedCells.{outside_none}
 use Rattle.mk_words.specs.States.{PassState, TurnState, WordsState, now_of}
 
@@ -72,9 +73,29 @@ pub before_well : (pages : ℕ) (w : Words) (u : ℕ) → u < 65536 → points_w
 before_well pages w u before = grind (arith, well_none, outside_none, leb-true)
 
 -- Each value below one is at most what all of them come to, bit by bit.
-pub most_then : (value : ℕ → ℕ) (all next i : ℕ) → ((j : ℕ) → j < i → value j ≤ all) → next ≡ value i
+most_then : (value : ℕ → ℕ) (all next i : ℕ) → ((j : ℕ) → j < i → value j ≤ all) → next ≡ value i
     → (j : ℕ) → j < i + 1 → value j ≤ bit_or all next
 most_then value all next i before is j lt = grind (arith, cases_lt, le_or_l, le_or_r)
+
+-- Words that are looked at, one after the other: each is at most what all come to.
+pub record LooksAtMost (t u : TurnState) (value : Words → ℕ → ℕ) (all n : ℕ) : Type 0 where
+  pub on : MarksOn t u
+  pub words : still_words u.pass ≡ still_words t.pass
+  pub most : (j : ℕ) → j < n → value (still_words t.pass) j ≤ all
+
+pub no_look_yet : {t : TurnState} {value : Words → ℕ → ℕ} → IsWanted t.pass → LooksAtMost t t value 0 0
+no_look_yet wanted = record { on = on_from _ wanted; words = refl; most = λ j lt. absurd (omega arith) }
+
+pub next_look : {t u v : TurnState} {value : Words → ℕ → ℕ} {all next i : ℕ} → LooksAtMost t u value all i
+    → MarksOn u v → still_words v.pass ≡ still_words u.pass → next ≡ value (still_words u.pass) i
+    → LooksAtMost t v value (bit_or all next) (i + 1)
+next_look {t} {value = value} {all} {next} {i} before on words found =
+    record {
+      on = on_then _ _ _ before.on on;
+      words = words ∙ before.words;
+      most = most_then (value (still_words t.pass)) all next i before.most
+          (found ∙ ap (λ (w : Words). value w i) before.words);
+    }
 
 -- Each global of the groups below one points well, and so do those of the next.
 pub groups_then : (pages : ℕ) (w v x : Words) (group : ℕ) → MarksMore w v → MarksMore v x
