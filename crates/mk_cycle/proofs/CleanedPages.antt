@@ -1,8 +1,7 @@
 -- Pages are cleaned one by one, and others are passed over: what is known of those before goes on.
 use Rattle.mk_laws.proofs.Vocabulary.{Steady, ℕ, ap, arith, cases_lt, false, header_at, refl, sym, ◌+◌, ◌<◌, ◌∙◌, ◌≡◌}
 use Rattle.mk_laws.proofs.Vocabulary.{◌≤◌}
-use Rattle.mk_cycle.proofs.Vocabulary.{Cleans, InTurn, IsClean, PassState, WasUndirty, WordsState}
-use Rattle.mk_cycle.proofs.Vocabulary.{below_more, now_of}
+use Rattle.mk_cycle.proofs.Vocabulary.{Cleans, InTurn, IsClean, PassState, WasUndirty, WordsState, below_more, now_of}
 use Rattle.mk_page_map.specs.Members.{has_freed_cells, is_in_use, page_at}
 use Rattle.mk_laws.proofs.FreePages.{free_pages_have_nothing}
 use Rattle.mk_cycle.proofs.CleaningSteps.{cleaned_table, cleans_nothing, cleans_then}

@@ -1,11 +1,11 @@
 -- A stop in which the marks are closed, and what they leave unmarked is released.
 use Rattle.mk_laws.proofs.Vocabulary.{Config, Steady, Step, ℕ, ap, refl, subst, sym, ◌∙◌, ◌≡◌}
 use Rattle.mk_cycle.proofs.Vocabulary.{Acts, HasFreeCells, HasReleased, HoldsFewer, InTurn, IsAtPhase, IsFreeForCycle}
-use Rattle.mk_cycle.proofs.Vocabulary.{IsOccupied, LeavesTurn, PassState, WordsState, held_below, now_of, released_below}
-use Rattle.mk_cycle.proofs.Vocabulary.{world_of}
-use Rattle.mk_cycle.proofs.{Allowed.in_turn_after, HeldReleased.held_alike, HeldReleased.release_holds}
-use Rattle.mk_cycle.proofs.{KeptInParts.free_then, KeptInParts.same_config, ReleaseSteps.close_leaves}
-use Rattle.mk_cycle.proofs.{ReleaseSteps.releases_unmarked, ReleasedCells.cells_are_free}
+use Rattle.mk_cycle.proofs.Vocabulary.{IsOccupied, LeavesTurn, PassState, WordsState, held_below, now_of}
+use Rattle.mk_cycle.proofs.Vocabulary.{released_below, world_of}
+use Rattle.mk_cycle.proofs.HeldReleased.{held_alike, release_holds}
+use Rattle.mk_cycle.proofs.{Allowed.in_turn_after, KeptInParts.free_then, KeptInParts.same_config}
+use Rattle.mk_cycle.proofs.{ReleaseSteps.close_leaves, ReleaseSteps.releases_unmarked, ReleasedCells.cells_are_free}
 use Rattle.mk_cycle.proofs.{ReleasedCells.pages_are_occupied, ReleasedCounts.release_tells, ReleasedCounts.told_from}
 use Rattle.mk_cycle.specs.{EngineLaw.ClosesMarks, Releasing.ReleasesUnmarked, TurnKeeps.but_phase}
 

@@ -160,46 +160,36 @@ none_counted kinds kind (x ∷ xs) none h =
     count_first (λ (y : Finding). kind y.event.step) x xs (none x.event.step parts.0)
     ∙ none_counted kinds kind xs none parts.1
 
+wider_traces : (kinds more : Step → Bool) (rule : Config → Moment → Step → Type 0) (p q : PassState)
+    → ((s : Step) → kinds s ≡ true → more s ≡ true) → Traces kinds rule p q → Traces more rule p q
+wider_traces kinds more rule p q wider t =
+    let d = t.does in
+    record {
+      does = record {
+        more = d.more;
+        is = d.is;
+        own_or_others = d.own_or_others;
+        of_kinds = wider_kinds kinds more (done_in p d.more) wider d.of_kinds;
+      };
+      keeps = t.keeps;
+      untouched = t.untouched;
+      counts = t.counts;
+    }
+
 pub traces_wider : (kinds more kind : Step → Bool) (rule : Config → Moment → Step → Type 0) (p q : PassState)
     → ((s : Step) → kinds s ≡ true → more s ≡ true) → ((s : Step) → kinds s ≡ true → kind s ≡ false)
     → Traces kinds rule p q → Counted more rule kind p q 0
 traces_wider kinds more kind rule p q wider none t =
-    let d = t.does in
     record {
-      traces = record {
-        does = record {
-          more = d.more;
-          is = d.is;
-          own_or_others = d.own_or_others;
-          of_kinds = wider_kinds kinds more (done_in p d.more) wider d.of_kinds;
-        };
-        keeps = t.keeps;
-        untouched = t.untouched;
-        counts = t.counts;
-      };
-      count = none_counted kinds kind (done_in p d.more) none d.of_kinds;
+      traces = wider_traces kinds more rule p q wider t;
+      count = none_counted kinds kind (done_in p t.does.more) none t.does.of_kinds;
     }
 
 pub counted_wider : (kinds more : Step → Bool) (rule : Config → Moment → Step → Type 0) (kind : Step → Bool)
     (p q : PassState) (n : ℕ) → ((s : Step) → kinds s ≡ true → more s ≡ true)
     → Counted kinds rule kind p q n → Counted more rule kind p q n
 counted_wider kinds more rule kind p q n wider one =
-    let t = one.traces in
-    let d = t.does in
-    record {
-      traces = record {
-        does = record {
-          more = d.more;
-          is = d.is;
-          own_or_others = d.own_or_others;
-          of_kinds = wider_kinds kinds more (done_in p d.more) wider d.of_kinds;
-        };
-        keeps = t.keeps;
-        untouched = t.untouched;
-        counts = t.counts;
-      };
-      count = one.count;
-    }
+    record { traces = wider_traces kinds more rule p q wider one.traces; count = one.count }
 
 -- Another rule may be kept to: one that follows from the first, or that all steps of the allowed kinds keep to.
 

@@ -3,15 +3,15 @@ use Rattle.std.proofs.lemmas.Nat.{le_or_l, le_or_r}
 use Rattle.mk_laws.proofs.Vocabulary.{Config, Event, Flight, IsHistory, List, Null, Value, Word, Words, ℕ, ap, arith}
 use Rattle.mk_laws.proofs.Vocabulary.{at_rest, bases_of, bit_or, cases_lt, flight_among, get_or_past}
 use Rattle.mk_laws.proofs.Vocabulary.{histories_keep_lengths, image_of, inl, inr, leb-true, left, never_behind}
-use Rattle.mk_laws.proofs.Vocabulary.{points_well, refl, register_word, shown, slice_index, slice_index_or, subst, sym, true}
-use Rattle.mk_laws.proofs.Vocabulary.{◌%◌, ◌*◌, ◌+◌, ◌-◌, ◌/◌, ◌<◌, ◌∙◌, ◌≡◌, ◌≤◌}
+use Rattle.mk_laws.proofs.Vocabulary.{points_well, refl, register_word, shown, slice_index, slice_index_or, subst, sym}
+use Rattle.mk_laws.proofs.Vocabulary.{true, ◌%◌, ◌*◌, ◌+◌, ◌-◌, ◌/◌, ◌<◌, ◌∙◌, ◌≡◌, ◌≤◌}
 use Rattle.mk_core.specs.Words.{named_word}
 use Rattle.mk_laws.proofs.{InvariantHistories.histories_keep_the_invariant, Protocols.lists_keep_the_protocol}
 use Rattle.mk_tracing.proofs.MoreMarks.{marked_as, more_then, well_more, well_none, zero_none}
 use Rattle.mk_tracing.proofs.{ScannedWords.notes_then, StopSteps.on_from, StopSteps.on_then}
 use Rattle.mk_tracing.specs.Grays.{GlobalIsWell, MarksMore, MarksOn, RegistersAreWell, RootsPointWell}
-use Rattle.mk_tracing.specs.{Scans.MarksAndNotes, Stops.IsWanted, Stops.is_root, Stops.still_words}
-use Rattle.mk_tracing.specs.declared.worklist.Worklist.{Worklist}
+use Rattle.mk_tracing.specs.Stops.{IsWanted, is_root, still_words}
+use Rattle.mk_tracing.specs.{Scans.MarksAndNotes, declared.worklist.Worklist.Worklist}
 use Rattle.mk_turns.proofs.PointedCells.{outside_none}
 use Rattle.mk_words.specs.States.{PassState, TurnState, WordsState, now_of}
 

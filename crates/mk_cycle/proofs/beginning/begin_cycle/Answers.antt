@@ -1,11 +1,11 @@
 use Rattle.mk_laws.proofs.Vocabulary.{Step, World, ap, refl, subst, ◌<◌}
-use Rattle.mk_cycle.proofs.Vocabulary.{Cleans, WordsState, clears, does_sweep, only_seen_by, other_step_sweeps, sweeps_then}
-use Rattle.mk_cycle.proofs.BeginSteps.{begins_cycle, begun_free}
+use Rattle.mk_cycle.proofs.Vocabulary.{Cleans, WordsState, clears, does_sweep, only_seen_by, other_step_sweeps}
+use Rattle.mk_cycle.proofs.Vocabulary.{sweeps_then}
 use Rattle.mk_cycle.proofs.Begun.{begin_begun, begun_then, clearing_begins_none, does_begin_none}
 use Rattle.mk_cycle.proofs.CleaningSteps.{clean_stays, cleaned_free, cleaned_phase, cleaned_table, cleans_then, tallied}
 use Rattle.mk_cycle.proofs.CleaningSteps.{then_cleans}
-use Rattle.mk_cycle.proofs.beginning.begin_cycle.Goals.{After-tally}
-use Rattle.mk_cycle.proofs.{Sweepless.clearing_marks_nothing, Undirty.undirty_later}
+use Rattle.mk_cycle.proofs.{BeginSteps.begins_cycle, BeginSteps.begun_free, Sweepless.clearing_marks_nothing}
+use Rattle.mk_cycle.proofs.{Undirty.undirty_later, beginning.begin_cycle.Goals.After-tally}
 use Rattle.mk_cycle.proofs.beginning.begin_cycle.Goals as goal
 
 -- All words are cleaned, and nothing is fresh.

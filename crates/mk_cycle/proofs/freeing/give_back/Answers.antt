@@ -4,8 +4,8 @@ use Rattle.mk_cycle.proofs.Vocabulary.{Acts, GivesNothingBack, drops, now_of}
 use Rattle.mk_cycle.proofs.GiveBack.{GivesCells, drops_here, free_d, gives_all, gives_here, gone_too}
 use Rattle.mk_cycle.proofs.GivingSteps.{look_frees, none_then}
 use Rattle.mk_cycle.proofs.PageSteps.{same_header, same_left, same_used}
-use Rattle.mk_cycle.proofs.{Allowed.on_table, FreeingSteps.freed_free, SettledPages.free_cells_stay}
 use Rattle.mk_cycle.proofs.freeing.give_back.Goals.{After-give_cells, After-look_among-used, After-wipe_released}
+use Rattle.mk_cycle.proofs.{Allowed.on_table, FreeingSteps.freed_free, SettledPages.free_cells_stay}
 use Rattle.mk_cycle.proofs.freeing.give_back.Goals as goal
 
 -- The look gives nothing back, nor does the wiping.

@@ -1,11 +1,11 @@
 use Rattle.mk_laws.proofs.Vocabulary.{ap, head_page, subst, sym, ◌<◌, ◌∙◌}
-use Rattle.mk_cycle.proofs.Vocabulary.{Frees, HoldsGates, PassState, WordsState, does_sweep, holds_gates, is_giving_back}
-use Rattle.mk_cycle.proofs.Vocabulary.{now_of, sweeps_then}
+use Rattle.mk_cycle.proofs.Vocabulary.{Frees, HoldsGates, PassState, WordsState, does_sweep, holds_gates}
+use Rattle.mk_cycle.proofs.Vocabulary.{is_giving_back, now_of, sweeps_then}
+use Rattle.mk_cycle.proofs.ClosedBy.{closed_later, closed_when_held}
 use Rattle.mk_cycle.proofs.GivingAll.{all_held, all_told, gives_all_back}
-use Rattle.mk_cycle.proofs.{ClosedBy.closed_later, ClosedBy.closed_when_held, FreeingSteps.frees_then}
-use Rattle.mk_cycle.proofs.{SettledPages.free_cells_stay, SettledPages.same_occupied, Sweepless.giving_marks_nothing}
-use Rattle.mk_cycle.proofs.{Sweepless.holding_marks_nothing, Told.told_earlier, Told.told_later}
-use Rattle.mk_cycle.proofs.giving.give_all_back.Goals.{After-settle_pages-settled}
+use Rattle.mk_cycle.proofs.SettledPages.{free_cells_stay, same_occupied}
+use Rattle.mk_cycle.proofs.{FreeingSteps.frees_then, Sweepless.giving_marks_nothing, Sweepless.holding_marks_nothing}
+use Rattle.mk_cycle.proofs.{Told.told_earlier, Told.told_later, giving.give_all_back.Goals.After-settle_pages-settled}
 use Rattle.mk_words.specs.States.{TurnState}
 use Rattle.mk_cycle.proofs.giving.give_all_back.Goals as goal
 
