@@ -153,7 +153,7 @@ abbrev pub made_of : TableId → Config → WordsState
 made_of tid config = record { id = tid; config = config }
 
 -- The same for the calls, over what contracts see: the words w and the pass p, and what these are made of.
-module _ (w : WordsState) (p : PassState) (tid pid : TableId) (config key : Config) (me : Mine) (seat : Seat)
+module _ {w : WordsState} {p : PassState} {tid pid : TableId} {config : Config} (me : Mine) (seat : Seat)
     (w_is : made_of tid config ≡ w) (p_is : state_of pid me seat ≡ p) (one_table : p.table ≡ w) where
   same_table : (state_of pid me seat).table ≡ made_of tid config
   same_table = ap (λ (q : PassState). q.table) p_is ∙ one_table ∙ sym w_is
@@ -168,6 +168,8 @@ module _ (w : WordsState) (p : PassState) (tid pid : TableId) (config key : Conf
       → x ≡ word_accessed p.table.config (now_of p) (event_of p s) → IsOfTable config.pages x
   names_word s x order may x_is = grind (arith, word_of_table, same_config)
 
+module _ (w : WordsState) (p : PassState) (tid pid : TableId) (config key : Config) (me : Mine) (seat : Seat)
+    (w_is : made_of tid config ≡ w) (p_is : state_of pid me seat ≡ p) (one_table : p.table ≡ w) where
   pub owed_call : (words slots id : ℕ) (s : Step) (i : ℕ) (x : TableWord) (a : Access) (picked : Event)
       (then : Event → ℕ → Mine → Type 0)
       → IsInOrder me seat → key ≡ config
@@ -181,7 +183,8 @@ module _ (w : WordsState) (p : PassState) (tid pid : TableId) (config key : Conf
   owed_call words slots id s i x a picked then order key_is words_are picked_is may x_is a_is i_is owed =
       let back : p ≡ state_of pid me seat = sym p_is in
       let mine : May (state_of pid me seat) s = subst (λ (r : PassState). May r s) back may in
-      owed_as config key pid words slots id me seat s i x a picked then order same_config key_is words_are
+      owed_as config key pid words slots id me seat s i x a picked then order
+      (same_config me seat w_is p_is one_table) key_is words_are
       (picked_is ∙ ap (λ (r : PassState). event_of r s) back)
       mine
       (x_is ∙ ap (λ (r : PassState). word_accessed r.table.config (now_of r) (event_of r s)) back)

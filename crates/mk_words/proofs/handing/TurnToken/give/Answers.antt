@@ -12,8 +12,7 @@ exchange-empty-requires c =
     let p = c.self.inside in
     let w = c.words.inside in
     let slot = c.self.invariant.slots in (
-      same_id c.args.words.now c.args.self w.table.shared.table_id p.token.table_id w.config w.table.shared.key
-          p.token.me p.seat c.words.view_is c.self.view_is c.requires.one_table,
+      same_id p.token.me p.seat c.words.view_is c.self.view_is c.requires.one_table,
       (slot.0, took p.token.me.1 [] slot.0 slot.1),
     )
 

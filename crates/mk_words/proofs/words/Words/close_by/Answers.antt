@@ -9,8 +9,7 @@ pub split_seat-memory-requires : goal.split_seat-memory-requires
 split_seat-memory-requires c =
     let w = c.words.inside in
     let p = c.own.inside in
-    let id = same_id c.args.words c.args.own w.table.shared.table_id p.token.table_id w.config w.table.shared.key
-    p.token.me p.seat c.words.view_is c.own.view_is c.requires.one_table in
+    let id = same_id p.token.me p.seat c.words.view_is c.own.view_is c.requires.one_table in
     let t = copy_call w.config w.table.shared.key w.table.shared.table_id.words p.token.id p.token.me
     c.words.invariant.key c.words.invariant.words in
     (id, t.0, t.1)
