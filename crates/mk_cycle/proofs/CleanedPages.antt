@@ -56,8 +56,7 @@ free_bare_past p from n before more page lt bare = grind (arith, cases_lt)
 
 pub free_bare_more : (p q : PassState) (n : ℕ) → Cleans p q → FreeAreBare p n → HasNoMarks (now_of q).words n
     → FreeAreBare q (n + 1)
-free_bare_more p q n k before here =
-    below_more _ _ (free_stay_bare p q n k before) (λ bare. here)
+free_bare_more p q n k before here = below_more _ _ (free_stay_bare p q n k before) (λ bare. here)
 
 -- Pages below this one are ready.
 abbrev pub AreReady : PassState → PassState → ℕ → Type 0

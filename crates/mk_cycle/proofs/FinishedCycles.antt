@@ -100,9 +100,7 @@ module _ (p g e q : PassState) (r : Released) (gives : GivesAllBack p g) (free :
   exact_q x = grind (arith, same_config, pass_q, steady_e, tallies_g, held_alike, pass_g, same_g, steady_q, fresh_same)
 
   ends_q : ends q.seen ≡ ends p.seen + 1
-  ends_q =
-      sets.counts.ends ∙ one_more_end g e t gives.phase u a
-      ∙ ap (λ (n : ℕ). n + 1) (gives_counts p g gives).ends
+  ends_q = cc (sets.counts.ends, one_more_end g e t gives.phase u a, (gives_counts p g gives).ends)
 
   fulls_q : full_answers q.table.config q.seen ≡ full_answers c p.seen
   fulls_q = grind (arith, same_config, pass_e, as_many_fulls, pass_g, gives_counts)

@@ -117,9 +117,9 @@ module _ {p b d : PassState} {page used gone quarantine : ℕ} (x : GivesCells p
         frees = page_then page p b q (page_at_once page p b x.wiped) (page_then page b d q gives_page last);
         header = ap (λ (y : PageState). y.page.header) state ∙ ap (λ (y : PageState). y.page.header) state_d;
         none_left =
-            ap (λ (y : PageState). without y.snapshot (slice_index (now_of q).words.marks page)) state
-            ∙ ap (λ (n : ℕ). without n (slice_index (now_of q).words.marks page))
-            (high_part (without (quarantine % 2 ^ 32) gone) (quarantine / 2 ^ 32 - gone) freed_small)
-            ∙ ap (λ (ms : List ℕ). without (quarantine / 2 ^ 32 - gone) (slice_index ms page)) last.frees.marks
-            ∙ none_is_left (quarantine / 2 ^ 32) (slice_index (now_of d).words.marks page) gone gone_there;
+            ap (λ (y : PageState). without y.snapshot (slice_index (now_of q).words.marks page)) state ∙ ap
+            (λ (n : ℕ). without n (slice_index (now_of q).words.marks page))
+            (high_part (without (quarantine % 2 ^ 32) gone) (quarantine / 2 ^ 32 - gone) freed_small) ∙ ap
+            (λ (ms : List ℕ). without (quarantine / 2 ^ 32 - gone) (slice_index ms page)) last.frees.marks
+            ∙ none_is_left (quarantine / 2 ^ 32) _ gone gone_there;
       }

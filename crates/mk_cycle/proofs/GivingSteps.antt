@@ -39,11 +39,10 @@ module _ (p q : PassState) (t : InTurn p) (u : InTurn q) (free : IsFreeForCycle 
       → ((r : ℕ) → state_in (world_behind p.table.config (world_at a.makes) (event_of p s)).now.words r
       ≡ state_in (world_at a.makes).now.words r)
       → GivesNothingBack p q
-  leaves_pages s a frees left =
-      record {
-        frees = frees;
-        same = λ r. ap (λ (w : World). state_in w.now.words r) a.world ∙ left r ∙ state_there _ _ a.turn.steady r;
-      }
+  leaves_pages s a frees left = record {
+    frees = frees;
+    same = λ r. ap (λ (w : World). state_in w.now.words r) a.world ∙ left r ∙ state_there _ _ a.turn.steady r;
+  }
 
   pub look_frees : (x : Word) → Acts p (Step.Look x) q → GivesNothingBack p q
   look_frees x a =
@@ -139,11 +138,10 @@ pub none_at_once : (p : PassState) → GivesNothingBack p p
 none_at_once p = record { frees = frees_nothing p; same = λ i. refl }
 
 pub still_unmapped_word : (p q : PassState) (n : ℕ) → Frees p q → IsUnmappedWord p n → IsUnmappedWord q n
-still_unmapped_word p q n k h =
-    record {
-      within = subst (λ (c : Config). n < 64 * c.pages) (sym (same_config p q k.keeps.call.pass)) h.within;
-      unmapped = still_unmapped p q n k.keeps h.unmapped;
-    }
+still_unmapped_word p q n k h = record {
+  within = subst (λ (c : Config). n < 64 * c.pages) (sym (same_config p q k.keeps.call.pass)) h.within;
+  unmapped = still_unmapped p q n k.keeps h.unmapped;
+}
 
 -- the word is 0 after its wipe
 pub wiped : (p q : PassState) → InTurn p → InTurn q → (n : ℕ) → Acts p (Step.Wipe n) q → IsZero q n
@@ -176,17 +174,12 @@ quar_set : (w : Words) (page freed snapshot : ℕ) → page < length w.freed →
     → state_in (with_quar w page freed snapshot) page
     ≡ record (state_in w page) { freed = freed; snapshot = snapshot }
 quar_set w page freed snapshot long longer =
-    ap (λ (n : ℕ). record (state_in (with_quar w page freed snapshot) page) { freed = n })
-    (get_or-set_same w.freed page freed 0 long)
-    ∙ ap (λ (n : ℕ). record (state_in w page) { freed = freed; snapshot = n })
-    (get_or-set_same w.snapshot page snapshot 0 longer)
+    cc (get_or-set_same w.freed page freed 0 long, get_or-set_same w.snapshot page snapshot 0 longer)
 
 quar_set_other : (w : Words) (page freed snapshot r : ℕ) → r ≢ page
     → state_in (with_quar w page freed snapshot) r ≡ state_in w r
 quar_set_other w page freed snapshot r ne =
-    ap (λ (n : ℕ). record (state_in (with_quar w page freed snapshot) r) { freed = n })
-    (get_or-set_other w.freed page r freed 0 ne)
-    ∙ ap (λ (n : ℕ). record (state_in w r) { snapshot = n }) (get_or-set_other w.snapshot page r snapshot 0 ne)
+    cc (get_or-set_other w.freed page r freed 0 ne, get_or-set_other w.snapshot page r snapshot 0 ne)
 
 -- A step that stores the words of one page.
 module _ {p q : PassState} (s : Step) (a : Acts p s q) (page : ℕ) where
@@ -197,12 +190,11 @@ module _ {p q : PassState} (s : Step) (a : Acts p s q) (page : ℕ) where
   behind = (world_behind p.table.config (world_at a.makes) (event_of p s)).now.words
 
   frees_one : Frees p q → ((r : ℕ) → r ≢ page → state_in behind r ≡ state_in there r) → FreesPage page p q
-  frees_one frees others =
-      record {
-        frees = frees;
-        others = λ r ne. ap (λ (w : World). state_in w.now.words r) a.world ∙ others r ne
-            ∙ state_there _ _ a.turn.steady r;
-      }
+  frees_one frees others = record {
+    frees = frees;
+    others = λ r ne. ap (λ (w : World). state_in w.now.words r) a.world ∙ others r ne
+        ∙ state_there _ _ a.turn.steady r;
+  }
 
   state_now : (f : PageState → PageState)
       → (AreOfPages p.table.config.pages there → state_in behind page ≡ f (state_in there page))

@@ -24,8 +24,7 @@ phase_at p s q a t u phase at small = grind (arith, made, protocol, count_by-le-
 pub release_allowed : (p : PassState) → InTurn p → IsFreeForCycle p → IsAtPhase p 3
     → others_are_held p.table.config.callers (now_of p).words p.seat ≡ true → IsEnabledTo p Step.Release
 release_allowed p t free at held =
-    may_act p Step.Release (protocol p t free) t.holds free.decided refl refl held
-    (eq-eqb (phase_of (now_of p).words) 3 at) refl
+    may_act p Step.Release (protocol p t free) t.holds free.decided refl refl held (eq-eqb _ 3 at) refl
 
 pub close_leaves : (p q : PassState) → InTurn p → IsFreeForCycle p → IsAtPhase p 2 → Acts p Step.Close q → InTurn q
     → LeavesTurn but_phase p q × IsAtPhase q 3

@@ -206,7 +206,6 @@ module _ (d q : PassState) (t : InTurn d) (u : InTurn q) (at : IsAtPhase d 3) (a
             | inl releasing ↦ absurd (true≢false (sym releasing ∙ not_releasing))
             | inr within ↦ absurd (no_plot _ w.now.seats.holding.placing unplaced within)
           ]
-          | inr used ↦ or_right (header_at w.now.words page == 0) _
-              (ap not (ne_eqb (used_at w.now.words (head_page w.now.words page)) 0 used))
+          | inr used ↦ or_right _ _ (ap not (ne_eqb (used_at w.now.words (head_page w.now.words page)) 0 used))
         ]
       ]

@@ -33,16 +33,12 @@ returns-clause-law g c =
     let all = cleans_then _ _ _ first next in
     let p = c.args.turn.now.pass in
     let b = c.tally.new.turn.pass in
-    begins_cycle p b c.begin.new.turn.pass c.begin-2.new.turn.pass all c.begin.ensures.was (cleaned_free _ _ next free)
-    (cleaned_phase _ _ next none)
-    (λ page lt. clean_stays _ _ page next
-    (c.clean_pages.ensures.clean page
-    (subst (λ (w : WordsState). page < w.config.pages) (cleaned_table p b c.args.words.now all c.requires.one_table)
-    lt)))
+    begins_cycle p b _ c.begin-2.new.turn.pass all c.begin.ensures.was (cleaned_free _ _ next free)
+    (cleaned_phase _ _ next none) (λ page lt. clean_stays _ _ page next (c.clean_pages.ensures.clean page (subst
+    (λ (w : WordsState). page < w.config.pages) (cleaned_table p b c.args.words.now all c.requires.one_table) lt)))
     (λ page lt. undirty_later _ _ _ page
-    (c.clean_pages.ensures.undirty page
-    (subst (λ (w : WordsState). page < w.config.pages) c.requires.one_table lt)) next)
-    (ap (λ (w : World). w.now.words.fresh) c.tally.ensures.acts.world) c.begin.ensures.acts c.begin.ensures.is
+    (c.clean_pages.ensures.undirty page (subst (λ (w : WordsState). page < w.config.pages) c.requires.one_table lt))
+    next) (ap (λ (w : World). w.now.words.fresh) c.tally.ensures.acts.world) c.begin.ensures.acts c.begin.ensures.is
     c.begin-2.ensures.law
 
 pub returns-clause-reached : goal.returns-clause-reached

@@ -14,8 +14,7 @@ loop-page-preserved c =
     let n = c.in-Some.page in
     record {
       pages = cleans_past c.requires.one_table i.pages next.1 x.op x.cleans;
-      below = free_bare_more q c.clean_free.new.turn.pass n x.cleans
-          (free_bare_past q c.loop-page.from n i.below next.2) x.bare;
+      below = free_bare_more q _ n x.cleans (free_bare_past q c.loop-page.from n i.below next.2) x.bare;
     }
 
 pub returns-clause-bare : goal.returns-clause-bare

@@ -26,6 +26,5 @@ pub returns-clause-ready : goal.returns-clause-ready
 returns-clause-ready c =
     let i = c.loop-page.invariant in
     let same = same_pages c.requires.one_table i.pages in
-    ready_past c.args.turn.now.pass c.loop-page.turn.pass c.loop-page.from c.args.words.now.config.pages
-    c.args.words.now.config.pages c.in_default.ensures.is i.pages.cleans c.requires.bare (omega arith) i.below
-    (λ page low high. c.in_default.ensures.next page low (omega arith))
+    ready_past _ c.loop-page.turn.pass c.loop-page.from _ _ c.in_default.ensures.is i.pages.cleans c.requires.bare
+    (omega arith) i.below (λ page low high. c.in_default.ensures.next page low (omega arith))

@@ -1,6 +1,6 @@
 use Rattle.mk_laws.proofs.Vocabulary.{Step, ℕ, ap, gives_back, has_bit, header_of, quarantine_word, subst, sym}
-use Rattle.mk_laws.proofs.Vocabulary.{words_under, ◌%◌, ◌-◌, ◌/◌, ◌^◌, ◌∙◌}
-use Rattle.mk_cycle.proofs.Vocabulary.{Acts, GivesNothingBack, drops, now_of}
+use Rattle.mk_laws.proofs.Vocabulary.{words_under, ◌-◌, ◌/◌, ◌^◌, ◌∙◌}
+use Rattle.mk_cycle.proofs.Vocabulary.{Acts, GivesNothingBack, now_of}
 use Rattle.mk_cycle.proofs.GiveBack.{GivesCells, drops_here, free_d, gives_all, gives_here, gone_too}
 use Rattle.mk_cycle.proofs.GivingSteps.{look_frees, none_then}
 use Rattle.mk_cycle.proofs.PageSteps.{same_header, same_left, same_used}
@@ -26,8 +26,7 @@ given : (c : After-give_cells)
 given c =
     let p = c.args.turn.now.pass in
     let look = c.look_among-used in
-    let first =
-    look_frees _ _ look.ensures.was look.ensures.is c.requires.free c.requires.phase _ look.ensures.acts in
+    let first = look_frees _ _ look.ensures.was look.ensures.is c.requires.free c.requires.phase _ look.ensures.acts in
     record {
       begun = look.ensures.was;
       wiped = none_then _ _ _ first c.wipe_released.ensures.frees;
@@ -76,21 +75,17 @@ give_cells-requires-clause-gives c =
     let first = looked at.After-look_among-used in
     let p = c.args.turn.now.pass in
     let b = c.wipe_released.new.turn.pass in
-    ap (λ (n : ℕ). gives_back (now_of b).words c.args.page n) c.without.ensures
-    ∙ gives_here p b c.args.page c.look_among-used.result c.args.gone (words_under (header_of c.args.header.now))
-    (wiped at.After-wipe_released)
-    (c.look_among-used.ensures.reads ∙ same_used p c.look_among-used.new.turn.pass c.args.page (first.same c.args.page))
-    c.requires.gone (ap (λ (n : ℕ). words_under (header_of n)) c.requires.header) c.wipe_released.ensures.zeros
+    ap (λ (n : ℕ). gives_back (now_of b).words c.args.page n) c.without.ensures ∙ gives_here p b _
+    c.look_among-used.result c.args.gone _ (wiped at.After-wipe_released)
+    (c.look_among-used.ensures.reads ∙ same_used p c.look_among-used.new.turn.pass _ (first.same _)) c.requires.gone
+    (ap (λ (n : ℕ). words_under (header_of n)) c.requires.header) c.wipe_released.ensures.zeros
 
 pub drop_cells-requires-clause-free : goal.drop_cells-requires-clause-free
 drop_cells-requires-clause-free c = free_d (given (goal.at.drop_cells-requires-clause-free c).After-give_cells)
 
 pub drop_cells-requires-clause-drops : goal.drop_cells-requires-clause-drops
 drop_cells-requires-clause-drops c =
-    ap (λ (n : ℕ). drops (now_of c.give_cells.new.turn.pass).words c.args.page
-    (quarantine_word n (c.args.quarantine / 2 ^ 32 - c.args.gone) % 2 ^ 32)
-    (quarantine_word n (c.args.quarantine / 2 ^ 32 - c.args.gone) / 2 ^ 32)) c.without-freed.ensures
-    ∙ drops_here (given (goal.at.drop_cells-requires-clause-drops c).After-give_cells)
+    cc (c.without-freed.ensures, drops_here (given (goal.at.drop_cells-requires-clause-drops c).After-give_cells))
 
 pub returns-clause-gives : goal.returns-clause-gives
 returns-clause-gives c =

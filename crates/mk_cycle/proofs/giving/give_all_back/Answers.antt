@@ -35,10 +35,9 @@ pub returns-clause-gives : goal.returns-clause-gives
 returns-clause-gives g c =
     let p = c.args.turn.pass in
     let holds = holds_gates_at g (goal.at.returns-clause-gives g c).After-settle_pages-settled in
-    gives_all_back p c.stopped-stop.result.pass c.release_unmarked.new.stop.pass c.open_gates-turn.result.pass
-    c.settle_pages-settled.new.turn.pass holds c.release_unmarked.ensures.releases c.open_gates-turn.ensures.opens
-    c.settle_pages-settled.ensures.frees c.open_gates-turn.ensures.gates
-    (λ page lt. c.settle_pages-settled.ensures.settled page
+    gives_all_back p c.stopped-stop.result.pass _ c.open_gates-turn.result.pass c.settle_pages-settled.new.turn.pass
+    holds c.release_unmarked.ensures.releases c.open_gates-turn.ensures.opens c.settle_pages-settled.ensures.frees
+    c.open_gates-turn.ensures.gates (λ page lt. c.settle_pages-settled.ensures.settled page
     (subst (λ (w : WordsState). page < w.config.pages) c.requires.one_table lt))
 
 pub returns-clause-told : goal.returns-clause-told
