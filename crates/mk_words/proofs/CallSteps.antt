@@ -1,15 +1,14 @@
 -- What the steps of a caller's call find and leave.
-use Rattle.mk_laws.proofs.Vocabulary.{Access, Answer, Caller, Config, Flight, Group, Host, List, Load, Marker, Moment}
-use Rattle.mk_laws.proofs.Vocabulary.{Named, None, Op, Progress, Seat, Some, Stage, Step, Store, Word, Words, World, ℕ}
-use Rattle.mk_laws.proofs.Vocabulary.{access, accessed, answer_decided, ap, arith, at_rest, begun, caller_number}
-use Rattle.mk_laws.proofs.Vocabulary.{enabled_meets, eq-eqb, flight_of, found, get_or-set_other, get_or-set_same}
-use Rattle.mk_laws.proofs.Vocabulary.{group_of, histories_keep_lengths, is_open_to, length, ltb-true, ne_eqb, one_if}
-use Rattle.mk_laws.proofs.Vocabulary.{onward, progress, progress_reg, refl, reg_access, register_met, register_word}
+use Rattle.mk_laws.proofs.Vocabulary.{Access, Answer, Caller, Config, Flight, Group, Host, Load, Marker, Moment, Named}
+use Rattle.mk_laws.proofs.Vocabulary.{None, Op, Progress, Seat, Some, Stage, Step, Store, Word, ℕ, access, accessed}
+use Rattle.mk_laws.proofs.Vocabulary.{answer_decided, ap, arith, at_rest, begun, caller_number, enabled_meets, eq-eqb}
+use Rattle.mk_laws.proofs.Vocabulary.{flight_of, found, get_or-set_other, get_or-set_same, group_of}
+use Rattle.mk_laws.proofs.Vocabulary.{histories_keep_lengths, is_open_to, length, ltb-true, ne_eqb, one_if, onward}
+use Rattle.mk_laws.proofs.Vocabulary.{progress, progress_reg, refl, reg_access, register_met, register_word}
 use Rattle.mk_laws.proofs.Vocabulary.{seat_exists, slice_index, slice_set, still, subst, sym, true, word_accessed, ◌*◌}
 use Rattle.mk_laws.proofs.Vocabulary.{◌++◌, ◌+◌, ◌<◌, ◌==◌, ◌∙◌, ◌≡◌, ◌≢◌, ◌≤◌}
-use Rattle.mk_core.specs.Effects.{begins_where_free, moment_behind}
-use Rattle.mk_core.specs.{Calls.progress_cas, HeldGates.is_gate_held, Layout.IsOfTable, Order.is_in_order}
-use Rattle.mk_core.specs.{Words.with_named, Words.word_in, declared.accesses.TableWord.TableWord}
+use Rattle.mk_core.specs.{Calls.progress_cas, Effects.begins_where_free, Effects.moment_behind, Layout.IsOfTable}
+use Rattle.mk_core.specs.{Order.is_in_order, Words.with_named, declared.accesses.TableWord.TableWord}
 use Rattle.mk_laws.proofs.{NextSteps.at_enter, ProtocolHeldGates.gates_tell_holds}
 use Rattle.mk_words.proofs.Made.{made}
 use Rattle.mk_words.specs.CallSteps.{FindsHeld, KeepsOtherRegisters, LeavesRegisters, register_of}
@@ -67,11 +66,7 @@ goes p s q m k is =
     let lt : k < length n.seats.flights = grind (arith, caller_exists) in
     record {
       makes = m;
-      call =
-          ap (λ (t : Seat). flight_of (now_of q) t) d.seat
-          ∙ ap (λ (w : World). flight_of w.now p.seat) d.world
-          ∙ call_behind c n p.seat k s is lt
-          ∙ ap (λ (f : Flight). (progress c n f (found_by m) s).flight) same;
+      call = cc (d.seat, d.world, call_behind c n p.seat k s is lt, same);
       answer = answer_behind c n p.seat k s is ∙ ap (λ (f : Flight). (progress c n f (found_by m) s).answer) same;
     }
 
@@ -89,26 +84,19 @@ pub register_behind : (p : PassState) (s : Step) (q : PassState) (m : Makes p s 
     (caller_number p.seat) r
 register_behind p s q m r =
     let d = made p s q m in
-    ap (λ (t : Seat). register_word (now_of q).words (caller_number t) r) d.seat
-    ∙ ap (λ (w : World). register_word w.now.words (caller_number p.seat) r) d.world
+    cc (d.seat, d.world)
 
 -- A step whose access leaves the registers alone leaves those of its seat as the pass knew them.
 pub keeps_registers : (p : PassState) (s : Step) (q : PassState) (m : Makes p s q) → (k : ℕ) → p.seat ≡ Caller k
     → (moment_behind p.table.config (moment_of m) (event_of p s)).words.registers ≡ (moment_of m).words.registers
     → LeavesRegisters p q
 keeps_registers p s q m k is same r lt =
-    register_behind p s q m r
-    ∙ ap (λ (xs : List ℕ). slice_index xs (8 * caller_number p.seat + r)) same
-    ∙ ap (λ (j : ℕ). register_word (moment_of m).words j r) (number_is p.seat k is)
-    ∙ registers_before p s q m k is r lt
-    ∙ sym (ap (λ (j : ℕ). register_word (now_of p).words j r) (number_is p.seat k is))
+    cc (register_behind p s q m r, number_is p.seat k is, registers_before p s q m k is r lt)
 
 -- The same, from what a call says.
 module _ {p : PassState} {s : Step} {n : ℕ} {q : PassState} (t : Tells p s n q) (kind : group_of s ≡ Group.Callers) where
   pub caller_is : (k : ℕ) × (p.seat ≡ Caller k)
-  caller_is =
-      is_callers p.seat
-      (subst (λ (g : Group). is_open_to p.seat g ≡ true) kind (made p s q t.makes).meets.kind)
+  caller_is = is_callers _ (subst (λ (g : Group). is_open_to p.seat g ≡ true) kind (made p s q t.makes).meets.kind)
 
   pub goes_on : (x : Progress) → progress p.table.config (moment_of t.makes) (call_of p) (found_by t.makes) s ≡ x
       → Goes p s x q
@@ -125,9 +113,7 @@ module _ {p : PassState} {s : Step} {n : ℕ} {q : PassState} (t : Tells p s n q
       → register_word (moment_of t.makes).words (caller_number p.seat) r ≡ register_of p r
   same_register r lt =
       let k = caller_is in
-      ap (λ (j : ℕ). register_word (moment_of t.makes).words j r) (number_is p.seat k.0 k.1)
-      ∙ registers_before p s q t.makes k.0 k.1 r lt
-      ∙ sym (ap (λ (j : ℕ). register_word (now_of p).words j r) (number_is p.seat k.0 k.1))
+      cc (number_is p.seat k.0 k.1, registers_before p s q t.makes k.0 k.1 r lt)
 
   pub register_now : (r : ℕ)
       → register_of q r ≡ register_word (moment_behind p.table.config (moment_of t.makes) (event_of p s)).words
@@ -188,8 +174,7 @@ module _ {p : PassState} {n : ℕ} {q : PassState} (t : Tells p Step.Reg n q) (r
         a).registers) (reg_access_is p q t.makes Load same loads))
 
     pub load_own : n ≡ register_of p r
-    load_own = found_is ∙ ap (λ (x : TableWord). word_in (moment_of t.makes).words x) reaches
-        ∙ same_register t refl r small
+    load_own = cc (found_is, reaches, same_register t refl r small)
 
   module _ (v : ℕ) (stores : reg_access (call_of p) (call_of p).stage ≡ Store v) where
     words_now : (moment_behind p.table.config (moment_of t.makes) (event_of p Step.Reg)).words
@@ -199,14 +184,10 @@ module _ {p : PassState} {n : ℕ} {q : PassState} (t : Tells p Step.Reg n q) (r
     register_set : (x : ℕ)
         → register_of q x ≡ slice_index (slice_set (moment_of t.makes).words.registers (8 * caller_number p.seat + r) v)
         (8 * caller_number p.seat + x)
-    register_set x =
-        register_now t refl x
-        ∙ ap (λ (w : Words). register_word w (caller_number p.seat) x) words_now
+    register_set x = cc (register_now t refl x, words_now)
 
     pub store_goes : Goes p Step.Reg (progress_reg (call_of p) (call_of p).stage v) q
-    store_goes =
-        goes_on t refl _
-        (unread (call_of p) (call_of p).stage v (found_by t.makes) stores)
+    store_goes = goes_on t refl _ (unread _ (call_of p).stage v _ stores)
 
     pub store_keeps : KeepsOtherRegisters r p q
     store_keeps x lt ne =
@@ -244,12 +225,10 @@ waits f o n found is held = grind (arith, ne_eqb)
 
 module _ {p : PassState} {o : Op} {n : ℕ} {q : PassState} (t : Tells p (Step.Enter o) n q) where
   pub enter_goes : n ≡ 0 → Goes p (Step.Enter o) (record { flight = begun o; answer = None }) q
-  enter_goes free = goes_on t refl _
-      (begins (call_of p) o n (found_by t.makes) t.tells free)
+  enter_goes free = goes_on t refl _ (begins _ o n _ t.tells free)
 
   pub enter_waits : n ≢ 0 → Goes p (Step.Enter o) (still (call_of p)) q
-  enter_waits held = goes_on t refl _
-      (waits (call_of p) o n (found_by t.makes) t.tells held)
+  enter_waits held = goes_on t refl _ (waits _ o n _ t.tells held)
 
   pub enter_keeps : LeavesRegisters p q
   enter_keeps = keeps t refl refl
@@ -272,6 +251,5 @@ module _ {p : PassState} {o : Op} {n : ℕ} {q : PassState} (t : Tells p (Step.E
       record {
         makes = t.makes;
         found = ap (λ (i : ℕ). slice_index m.words.gates i) number ∙ two;
-        held = subst (λ (i : ℕ). is_gate_held c i (p.seen ++ t.makes.others) ≡ true) (sym number)
-            ((gates_tell_holds c (p.seen ++ t.makes.others) k.0).0 two);
+        held = cc (number, (gates_tell_holds c (p.seen ++ t.makes.others) k.0).0 two);
       }

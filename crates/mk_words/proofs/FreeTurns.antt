@@ -32,14 +32,13 @@ pub map_stays : (c : Config) (es : List Event) (e : Event) (map : KnownPages) �
     → is_mark e.step ≡ false
     → page_words (Behind c (left c es).now e.seat e.step).words ≡ page_words (left c es).now.words
     → IsMapOf map (left c es).now.words → IsMapOf map (Behind c (left c es).now e.seat e.step).words
-map_stays c es e map h unmarks pages m =
-    record {
-      words = shows_same map (left c es).now.words (Behind c (left c es).now e.seat e.step).words (sym pages) m.words;
-      unmarked = λ page bare cleaned.
-          let was : header_at (left c es).now.words page ≡ 0 =
-          ap (λ (x : PageWords). (page_at x.0 page).header) (sym pages) ∙ bare in
-          stays_bare c es e h unmarks page was (m.unmarked page was cleaned);
-    }
+map_stays c es e map h unmarks pages m = record {
+  words = shows_same map (left c es).now.words (Behind c (left c es).now e.seat e.step).words (sym pages) m.words;
+  unmarked = λ page bare cleaned.
+      let was : header_at (left c es).now.words page ≡ 0 =
+      ap (λ (x : PageWords). (page_at x.0 page).header) (sym pages) ∙ bare in
+      stays_bare c es e h unmarks page was (m.unmarked page was cleaned);
+}
 
 pub map_there : (c : Config) (es : List Event) (e : Event) (map : KnownPages) → IsHistory c (es ++ e ∷ [])
     → is_mark e.step ≡ false

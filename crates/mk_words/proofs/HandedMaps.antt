@@ -108,9 +108,7 @@ gives_at id me seat map st alone has may tidy holds carried shows stored s k lon
     let still = map_left c me.0.own.seen sees.more seat map
     (subst (λ (l : List Event). IsHistory c l) sees.is k.history) others holds shows in
     let homes : List (Maybe KnownPages) = put_back s.homes me.1 in
-    let there : get_elem? homes 0 ≡ some (some map) =
-    ap (λ (l : List (ℕ × KnownPages)). get_elem? (put_back s.homes l) 0) carried
-    ∙ set_here s.homes 0 (some map) (omega arith) in
+    let there : get_elem? homes 0 ≡ some (some map) = cc (carried, set_here s.homes 0 (some map) (omega arith)) in
     let t = steps_at id me e alone has may (λ g. tidy) none_over s k at homes
     (λ es is h z. (
       map,

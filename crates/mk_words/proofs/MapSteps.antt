@@ -141,19 +141,18 @@ told_used w page v old new told within m =
 
 told_mark : (c : Config) (m : Moment) (seat : Seat) (page v : ℕ) (old new : KnownPages) → MarkIsTold old page new
     → IsMapOf old m.words → IsMapOf new (Behind c m seat (Step.Mark page v)).words
-told_mark c m seat page v old new told shows =
-    record {
-      words = told.shows m.words.pages m.words.freed shows.words;
-      unmarked = λ number bare cleaned. elim (cases_eq number page) [
-        | inl here ↦
-            let free : (page_at old.pages page).header ≡ 0 = grind arith in
-            both (is_uncleaned new page) (told.marked free) (ap (is_uncleaned new) (sym here) ∙ cleaned)
-        | inr ne ↦
-            stays_unmarked c m seat (Step.Mark page v) number
-            (λ p is same. (let e : page ≡ p = cc in ne (same ∙ sym e)))
-            (shows.unmarked number bare (sym (told.others number ne) ∙ cleaned))
-      ];
-    }
+told_mark c m seat page v old new told shows = record {
+  words = told.shows m.words.pages m.words.freed shows.words;
+  unmarked = λ number bare cleaned. elim (cases_eq number page) [
+    | inl here ↦
+        let free : (page_at old.pages page).header ≡ 0 = grind arith in
+        both (is_uncleaned new page) (told.marked free) (ap (is_uncleaned new) (sym here) ∙ cleaned)
+    | inr ne ↦
+        stays_unmarked c m seat (Step.Mark page v) number
+        (λ p is same. (let e : page ≡ p = cc in ne (same ∙ sym e)))
+        (shows.unmarked number bare (sym (told.others number ne) ∙ cleaned))
+  ];
+}
 
 -- A page that has no marks may be cleaned.
 pub map_cleaned : (w : Words) (page : ℕ) (old new : KnownPages)

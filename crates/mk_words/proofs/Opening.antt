@@ -139,7 +139,7 @@ still_may p q k a j other on =
     let meets = open_elsewhere c m p.seat j (slice_set m.words.gates k 0) (get_or-set_other m.words.gates k j 0 0 other)
     (enabled_meets c m e then_on) in
     let now : IsEnabled c (moment_behind c m (event_of p (Step.Open k))) e =
-        grind (arith, behind_open, meets_enabled) in
+    grind (arith, behind_open, meets_enabled) in
     let there : IsEnabled c (now_of q) e = subst (λ (w : World). IsEnabled c w.now e) (sym a.world) now in
     subst (λ (r : PassState). IsEnabled r.table.config (now_of q) (event_of r (Step.Open j))) (sym a.makes.is) there
 
@@ -170,8 +170,7 @@ opened_then p q k j a h = by (cases_eq j k)
         let free_now : is_held (now_of p).words j ≡ false =
         ⊎_elim (λ (t : is_held (now_of p).words j ≡ false). t) (λ (t : j ≡ k). absurd (other t)) h in
         let free = a.turn.other_gates j (not_held (now_of p).words.gates j free_now) in
-        ap (λ (xs : List ℕ). slice_index xs j == 2) (gates_behind p q k a)
-        ∙ ap (λ (n : ℕ). n == 2) (get_or-set_other gs k j 0 0 other) ∙ ne_eqb (slice_index gs j) 2 free
+        cc (gates_behind p q k a, get_or-set_other gs k j 0 0 other, ne_eqb (slice_index gs j) 2 free)
 
 -- one round, where the gate is opened or the holder's own
 

@@ -91,9 +91,7 @@ event_learnt tid me n seat s a answer picked picked_is a_is order found on_picke
           is = ap (λ (w : View). state_of tid (w, []) seat) on.1.is;
           pass = record { own = then.own; history = then.history };
         };
-        tells = answer_is ∙ ap (λ (d : Access). told_by d found) a_is
-            ∙ ap (λ (k : ℕ). told_by
-            (access me.0.config (now_of (state_of tid me seat)) (event_of (state_of tid me seat) s)) k) on.1.finds;
+        tells = cc (answer_is, a_is, on.1.finds);
       };
       order = then;
     }
@@ -279,8 +277,7 @@ joined_as tid me from n seat slots answer order on =
       came = s.came;
       order = record {
         settled = ap (λ (w : View). w.came) s.is;
-        own = subst (λ (w : View). Has w.own.seats seat) (sym s.is)
-            (has_left me.0.own.seats from.0.own.seats seat order.own);
+        own = subst (λ (w : View). Has w.own.seats seat) (sym s.is) (has_left _ from.0.own.seats seat order.own);
         history = subst (λ (w : View). IsHistory w.config w.own.seen) (sym s.is) s.history;
         tidy = subst (λ (w : View). IsTidy w.config w.own.seen) (sym s.is) s.tidy;
         before_over = subst (λ (w : View). CallersAreBeforeOver w.config w.own.seats w.own.seen)

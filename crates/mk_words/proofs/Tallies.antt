@@ -35,22 +35,20 @@ module _ (c : Config) (es : List Event) (e : Event) (nothing : CountsNothing c (
   same_fulls = grind (arith, fulls_of, entry_fulls, calls_more, fulls_append)
 
   pub exact_more : TalliesAreExact c es → TalliesAreExact c (es ++ e ∷ [])
-  exact_more exact =
-      record {
-        held = tally (λ (w : Words). w.held) _ nothing.alike.tallies.held exact.held
-            ∙ ap (λ (xs : List PlacedAllocation). held_by_allocations c xs) same_allocations;
-        fresh = tally (λ (w : Words). w.fresh) _ nothing.alike.tallies.fresh exact.fresh
-            ∙ ap (λ (xs : List PlacedAllocation). in_a_word (fresh_words_of c xs)) same_allocations;
-      }
+  exact_more exact = record {
+    held = tally (λ (w : Words). w.held) _ nothing.alike.tallies.held exact.held
+        ∙ ap (λ (xs : List PlacedAllocation). held_by_allocations c xs) same_allocations;
+    fresh = tally (λ (w : Words). w.fresh) _ nothing.alike.tallies.fresh exact.fresh
+        ∙ ap (λ (xs : List PlacedAllocation). in_a_word (fresh_words_of c xs)) same_allocations;
+  }
 
   pub counts_tidy_more : TalliesAreTidy c es → TalliesAreTidy c (es ++ e ∷ [])
-  counts_tidy_more tidy =
-      record {
-        cycles = tally (λ (w : Words). w.cycles) _ nothing.alike.tallies.cycles tidy.cycles ∙ ap in_a_word same_ends;
-        released = tally (λ (w : Words). w.released) _ nothing.alike.tallies.released tidy.released
-            ∙ ap (λ (xs : List PlacedAllocation). in_a_word (releases xs)) same_allocations;
-        full = tally (λ (w : Words). w.full) _ nothing.alike.tallies.full tidy.full ∙ ap in_a_word same_fulls;
-      }
+  counts_tidy_more tidy = record {
+    cycles = tally (λ (w : Words). w.cycles) _ nothing.alike.tallies.cycles tidy.cycles ∙ ap in_a_word same_ends;
+    released = tally (λ (w : Words). w.released) _ nothing.alike.tallies.released tidy.released
+        ∙ ap (λ (xs : List PlacedAllocation). in_a_word (releases xs)) same_allocations;
+    full = tally (λ (w : Words). w.full) _ nothing.alike.tallies.full tidy.full ∙ ap in_a_word same_fulls;
+  }
 
 -- The fresh count of the moment is that of the allocations (as there, too).
 

@@ -141,9 +141,7 @@ module _ (p : PassState) (s : Step) (q : PassState) (m : Makes p s q) where
       ∙ holds_named c (moment_of m) p.seat d.protocol (holds_then t.holds) in
       let holds : Holds c (world_of q).now p.seat = grind (arith, named_holds, protocol_now, holder_is_no_marker) in
       let same : op_for p.seat (call_of p) ≡ op_for p.seat (flight_of (world_of q).now p.seat) =
-      sym (ap (λ (w : World). op_for p.seat (flight_of w.now p.seat)) d.world
-      ∙ op_behind c (moment_of m) p.seat s d.protocol d.meets.seat stays
-      ∙ ap (λ (f : Flight). op_for p.seat f) d.frame.own.flight) in
+      cc (d.world, op_behind c (moment_of m) p.seat s d.protocol d.meets.seat stays, d.frame.own.flight) in
       record {
         holds = subst (λ (r : PassState). Holds r.table.config (world_of q).now r.seat) (sym m.is) holds;
         op = t.op ∙ same ∙ ap (λ (t : Seat). op_for t (flight_of (world_of q).now t)) (sym d.seat);
@@ -216,11 +214,9 @@ hold_misses p j n q t some =
     let least = d.protocol.gate j lt in
     let two : slice_index gs j ≢ 2 = eqb-false (slice_index gs j) 2 (not-true (slice_index gs j == 2) d.meets.gates) in
     let zero_not : slice_index gs j ≢ 0 = λ z. some (t.tells ∙ z) in
-    ap (λ (w : World). is_held w.now.words j) d.world
-    ∙ ap (λ (x : ℕ). x == 2)
+    ap (λ (w : World). is_held w.now.words j) d.world ∙ ap (λ (x : ℕ). x == 2)
     (get_or-set_same gs j (if slice_index gs j == 0 then 2 else slice_index gs j) 0 (omega arith)
-    ∙ ap (λ (b : Bool). if b then 2 else slice_index gs j) (ne_eqb (slice_index gs j) 0 zero_not))
-    ∙ ne_eqb (slice_index gs j) 2 two
+    ∙ ap (λ (b : Bool). if b then 2 else slice_index gs j) (ne_eqb (slice_index gs j) 0 zero_not)) ∙ ne_eqb _ 2 two
 
 -- `take`
 

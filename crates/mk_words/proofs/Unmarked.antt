@@ -95,8 +95,7 @@ cell_has_header w page word cell (Later distance mapped) later shown is bare =
     let run = later distance mapped shown in
     let free : header_in w (page - distance) ≡ Some Free =
     ap (λ q. header_in w q) (sym lies.head) ∙ ap (λ n. header_of n) bare in
-    let none : None ≡ Some run.0 =
-    ap (λ o. run_headed o (page - distance)) (sym free) ∙ run.1 in
+    let none : None ≡ Some run.0 = ap (λ o. run_headed o (page - distance)) (sym free) ∙ run.1 in
     cc
 cell_has_header w page word cell (Block class) later shown is bare =
     let e : Some Free ≡ Some (Block class) =
@@ -230,6 +229,5 @@ pub stays_bare : (c : Config) (es : List Event) (e : Event) → IsHistory c (es 
 stays_bare c es e h unmarks q bare none =
     let before = earlier_part_is_history c es (e ∷ []) h in
     let meets = enabled_meets c (left c es).now e (last_enabled c (first_world c) es e h.enabled) in
-    stays_unmarked c (left c es).now e.seat e.step q
-    (λ p is same. coloured_has_header c es before e.seat e.step p meets unmarks is
-    (ap (λ r. header_at (left c es).now.words r) (sym same) ∙ bare)) none
+    stays_unmarked c (left c es).now _ _ q (λ p is same. coloured_has_header c es before e.seat e.step p meets unmarks
+    is (ap (λ r. header_at (left c es).now.words r) (sym same) ∙ bare)) none

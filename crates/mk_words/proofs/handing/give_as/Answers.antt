@@ -18,5 +18,4 @@ store-requires g c =
 
 pub returns-clause-told : goal.returns-clause-told
 returns-clause-told g c =
-    gives_own c.args.token.now.me c.store.new.seat.me g.J.Making.event (give_event c.args.seat) c.requires.picked
-    c.store.ensures.2
+    gives_own c.args.token.now.me c.store.new.seat.me _ (give_event _) c.requires.picked c.store.ensures.2

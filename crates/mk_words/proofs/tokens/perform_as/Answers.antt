@@ -12,8 +12,7 @@ pages_told u v pages same number = number ∙ ap (λ (w : WordsState). w.config.
 
 index_told : (u v : WordsState) (pages index : ℕ) (word : TableWord) → u ≡ v → pages ≡ v.config.pages
     → index ≡ index_of pages word → index ≡ index_of u.config.pages word
-index_told u v pages index word same number is =
-    is ∙ ap (λ (n : ℕ). index_of n word) (pages_told u v pages same number)
+index_told u v pages index word same number is = is ∙ ap (λ (n : ℕ). index_of n word) (pages_told u v pages same number)
 
 pub index_near-index-requires-clause-names : goal.index_near-index-requires-clause-names
 index_near-index-requires-clause-names g c =
