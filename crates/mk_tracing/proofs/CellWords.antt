@@ -157,8 +157,7 @@ cell_under_word c v p k i (Some (Block class)) q is lk scanned li within some he
 cell_under_word c v p k i (Some (Run count true)) q is lk scanned li within some head =
     let n = 64 * p + k * (64 * count) + i in
     let zero : 0 ≡ k = omega arith in
-    run_at c.pages v.now.words n p count within is (behind_head c v n p q some head)
-    ∙ ap (λ (j : ℕ). Some (cell_of p j)) zero
+    cc (run_at c.pages v.now.words n p count within is (behind_head c v n p q some head), zero)
 cell_under_word c v p k i (Some (Run count false)) q is lk scanned li within some head = absurd (true≢false scanned)
 cell_under_word c v p k i (Some (LeafBlock class)) q is lk scanned li within some head = absurd (true≢false scanned)
 cell_under_word c v p k i (Some (LeafRun count)) q is lk scanned li within some head = absurd (true≢false scanned)

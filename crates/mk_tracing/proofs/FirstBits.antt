@@ -2,8 +2,8 @@
 use Rattle.std.{proofs.Common.IfNone, proofs.Common.IfSome, proofs.Common.ltb-false, proofs.Common.w64}
 use Rattle.std.{proofs.lemmas.Nat.Bits.bit_at-trailing_zeros, specs.Bool.then_some, specs.Int.trailing_zeros}
 use Rattle.mk_laws.proofs.Vocabulary.{Bool, Option, Words, ℕ, ap, arith, bit_at, cells_under, eq-eqb, false, has_bit}
-use Rattle.mk_laws.proofs.Vocabulary.{has_bit_without, header_at, header_in, header_of, ltb-true, nat_lt, no_bit}
-use Rattle.mk_laws.proofs.Vocabulary.{slice_index, subst, sym, true, true≢false, without, ◌<◌, ◌==◌, ◌^◌, ◌∙◌, ◌≡◌, ◌≤◌}
+use Rattle.mk_laws.proofs.Vocabulary.{has_bit_without, header_at, header_of, ltb-true, nat_lt, no_bit, slice_index}
+use Rattle.mk_laws.proofs.Vocabulary.{subst, sym, true, true≢false, without, ◌<◌, ◌==◌, ◌^◌, ◌∙◌, ◌≡◌, ◌≤◌}
 use Rattle.mk_tracing.proofs.NoGrays.{no_gray, no_gray_found}
 use Rattle.mk_tracing.specs.Grays.{AllAreBlack, HasNoGray, IsGray}
 
@@ -24,8 +24,7 @@ first_is_known x n o is = if_told (λ k. k < n) (nat_lt x n) x o is (ltb-true x 
 pub first_is_one : (cells x n : ℕ) (o : Option ℕ) → 0 < cells → cells < 2 ^ 64 → x ≡ trailing_zeros w64 cells
     → o ≡ then_some (nat_lt x n) x → IfSome o (λ k. has_bit cells k ≡ true)
 first_is_one cells x n o some fits lowest is =
-    if_told (λ k. has_bit cells k ≡ true) (nat_lt x n) x o is
-    (λ less. subst (λ k. has_bit cells k ≡ true) (sym lowest)
+    if_told (λ k. has_bit cells k ≡ true) _ x o is (λ less. subst (λ k. has_bit cells k ≡ true) (sym lowest)
     (eq-eqb (bit_at cells (trailing_zeros w64 cells)) 1 (bit_at-trailing_zeros w64 cells some fits).1))
 
 pub none_is_first : (cells x n : ℕ) (o : Option ℕ) → 0 < cells → cells < 2 ^ 64 → x ≡ trailing_zeros w64 cells
@@ -59,8 +58,7 @@ gray_is_not_black marks blacks k one = grind (arith, has_bit_without)
 pub no_gray_there : (w : Words) (p marks blacks : ℕ) → marks ≡ slice_index w.marks p → blacks ≡ slice_index w.blacks p
     → without marks blacks ≡ 0 → HasNoGray w p
 no_gray_there w p marks blacks m b none =
-    no_gray w p (ungray_are_black (slice_index w.marks p) (slice_index w.blacks p) (cells_under (header_in w p))
-    (λ k lt. no_bit (without (slice_index w.marks p) (slice_index w.blacks p)) k
+    no_gray w p (ungray_are_black _ _ _ (λ k lt. no_bit (without (slice_index w.marks p) (slice_index w.blacks p)) k
     ((λ i. without (sym m i) (sym b i)) ∙ none)))
 
 pub no_gray_under : (w : Words) (p header marks blacks : ℕ) → header ≡ header_at w p → marks ≡ slice_index w.marks p

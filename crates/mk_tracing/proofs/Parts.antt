@@ -64,18 +64,17 @@ nothing_keeps rule c s w = tt
 
 pub traces_nothing : (kinds : Step → Bool) (rule : Config → Moment → Step → Type 0) (p : PassState)
     → Traces kinds rule p p
-traces_nothing kinds rule p =
-    record {
-      does = record {
-        more = [];
-        is = sym (ap (λ (es : List Event). record p { seen = es }) (append-nil p.seen));
-        own_or_others = nothing_own p.seat p.seats;
-        of_kinds = ap (λ (xs : List Finding). are_of kinds xs) (none_done p);
-      };
-      keeps = nothing_keeps rule p.table.config p.seat (world_of p);
-      untouched = refl;
-      counts = record { ends = refl; fulls = refl };
-    }
+traces_nothing kinds rule p = record {
+  does = record {
+    more = [];
+    is = sym (ap (λ (es : List Event). record p { seen = es }) (append-nil p.seen));
+    own_or_others = nothing_own p.seat p.seats;
+    of_kinds = ap (λ (xs : List Finding). are_of kinds xs) (none_done p);
+  };
+  keeps = nothing_keeps rule p.table.config p.seat (world_of p);
+  untouched = refl;
+  counts = record { ends = refl; fulls = refl };
+}
 
 -- One part is traced after another, and what is done of a kind adds up.
 
@@ -114,9 +113,8 @@ module _ (kinds : Step → Bool) (rule : Config → Moment → Step → Type 0) 
                 d.of_kinds;
           };
           keeps =
-              keep_in_parts rule p.table.config p.seat (world_of p) xs d.more keeps
-              (subst (λ (w : World). OwnStepsKeep rule p.table.config p.seat w d.more)
-              (left_in_parts p.table.config p.seen xs) on.traces.keeps);
+              keep_in_parts rule _ _ _ xs d.more keeps (subst
+              (λ (w : World). OwnStepsKeep rule p.table.config p.seat w d.more) (left_in_parts _ _ xs) on.traces.keeps);
           untouched = on.traces.untouched ∙ untouched;
           counts = counts_then p.table.config p.seen (p.seen ++ xs) r.seen counts on.traces.counts;
         };
@@ -157,10 +155,9 @@ none_counted : (kinds kind : Step → Bool) (xs : List Finding) → ((s : Step) 
 none_counted kinds kind [] none h = refl
 none_counted kinds kind (x ∷ xs) none h =
     let parts = and_parts (kinds x.event.step) (are_of kinds xs) h in
-    count_first (λ (y : Finding). kind y.event.step) x xs (none x.event.step parts.0)
-    ∙ none_counted kinds kind xs none parts.1
+    count_first (λ (y : Finding). kind y.event.step) x xs (none _ parts.0) ∙ none_counted kinds kind xs none parts.1
 
-wider_traces : (kinds more : Step → Bool) (rule : Config → Moment → Step → Type 0) (p q : PassState)
+abbrev wider_traces : (kinds more : Step → Bool) (rule : Config → Moment → Step → Type 0) (p q : PassState)
     → ((s : Step) → kinds s ≡ true → more s ≡ true) → Traces kinds rule p q → Traces more rule p q
 wider_traces kinds more rule p q wider t =
     let d = t.does in
@@ -232,13 +229,12 @@ kinds_keep kinds rule c s w (e ∷ es) follows of_kinds =
 pub traces_alike : (kinds : Step → Bool) (rule other : Config → Moment → Step → Type 0) (p q : PassState)
     → ((m : Moment) (x : Step) → rule p.table.config m x → other p.table.config m x)
     → Traces kinds rule p q → Traces kinds other p q
-traces_alike kinds rule other p q follows t =
-    record {
-      does = t.does;
-      keeps = keep_alike rule other p.table.config p.seat (world_of p) t.does.more follows t.keeps;
-      untouched = t.untouched;
-      counts = t.counts;
-    }
+traces_alike kinds rule other p q follows t = record {
+  does = t.does;
+  keeps = keep_alike rule other p.table.config p.seat (world_of p) t.does.more follows t.keeps;
+  untouched = t.untouched;
+  counts = t.counts;
+}
 
 pub counted_by_kinds : (kinds : Step → Bool) (rule other : Config → Moment → Step → Type 0) (kind : Step → Bool)
     (p q : PassState) (n : ℕ) → ((m : Moment) (x : Step) → kinds x ≡ true → other p.table.config m x)

@@ -1,9 +1,9 @@
 -- The cell into which the hand points, and its marks.
 use Rattle.std.proofs.Common.{option_and_then}
-use Rattle.mk_laws.proofs.Vocabulary.{Block, Bool, Cell, Header, None, Option, Some, Words, ℕ, and_parts, ap, arith}
-use Rattle.mk_laws.proofs.Vocabulary.{cell_at, header_at, header_of, if◌then◌else◌, is_heap_address, is_marked}
-use Rattle.mk_laws.proofs.Vocabulary.{leb-true, nat_le, nat_lt, page_at_address, pointed_cell, points_well, sym, true}
-use Rattle.mk_laws.proofs.Vocabulary.{◌%◌, ◌*◌, ◌+◌, ◌-◌, ◌/◌, ◌<◌, ◌∙◌, ◌≡◌, ◌≢◌, ◌≤◌}
+use Rattle.mk_laws.proofs.Vocabulary.{Block, Cell, Header, None, Option, Some, Words, ℕ, and_parts, ap, arith, cell_at}
+use Rattle.mk_laws.proofs.Vocabulary.{header_at, header_of, is_heap_address, is_marked, leb-true, nat_le, nat_lt}
+use Rattle.mk_laws.proofs.Vocabulary.{page_at_address, pointed_cell, points_well, true, ◌%◌, ◌*◌, ◌+◌, ◌-◌, ◌/◌, ◌<◌}
+use Rattle.mk_laws.proofs.Vocabulary.{◌∙◌, ◌≡◌, ◌≢◌, ◌≤◌}
 use Rattle.mk_geom.proofs.HeaderLemmas.{header_of-word_of}
 use Rattle.mk_geom.specs.Addresses.{cell_of_block, cell_under, word_at_address}
 use Rattle.mk_tracing.proofs.MoreMarks.{hand_kept, some_not_zero, well_none, well_some}
@@ -53,10 +53,7 @@ pointed_in_block pages w u class known inside is =
     (λ h. cell_under h (page_at_address u) (word_at_address u)) o in
     let far = inside_far pages u inside in
     let word : u / 8 % 64 ≡ word_at_address u = omega arith in
-    ap (λ n. cell_of_block class (page_at_address u) n) word
-    ∙ sym (ap (λ (b : Bool). if b then find (header_of (1 + class)) else None) inside
-    ∙ ap find (block_header class known))
-    ∙ pointed_under pages w u (1 + class) is
+    cc (word, inside, block_header class known, pointed_under pages w u (1 + class) is)
 
 -- The same, by the page and its header word as they were found.
 pub pointed_here : (pages : ℕ) (w : Words) (u page header : ℕ) → page ≡ page_at_address u
@@ -64,5 +61,4 @@ pub pointed_here : (pages : ℕ) (w : Words) (u page header : ℕ) → page ≡ 
     → cell_of_block (header - 1) page (u / 8 % 64) ≡ pointed_cell pages w.pages u
 pointed_here pages w u page header at inside is some few =
     let word : 1 + (header - 1) ≡ header = omega arith in
-    ap (λ n. cell_of_block (header - 1) n (u / 8 % 64)) at
-    ∙ pointed_in_block pages w u (header - 1) (omega arith) inside (word ∙ is ∙ ap (λ n. header_at w n) at)
+    cc (at, pointed_in_block pages w u (header - 1) (omega arith) inside (word ∙ is ∙ ap (λ n. header_at w n) at))

@@ -1,10 +1,9 @@
 -- Roots that point well, one after the other.
 use Rattle.std.proofs.lemmas.Nat.{le_or_l, le_or_r}
-use Rattle.mk_laws.proofs.Vocabulary.{Config, Event, Flight, IsHistory, List, Null, Value, Word, Words, ℕ, ap, arith}
-use Rattle.mk_laws.proofs.Vocabulary.{at_rest, bases_of, bit_or, cases_lt, flight_among, get_or_past}
-use Rattle.mk_laws.proofs.Vocabulary.{histories_keep_lengths, image_of, inl, inr, leb-true, left, never_behind}
-use Rattle.mk_laws.proofs.Vocabulary.{points_well, refl, register_word, shown, slice_index, slice_index_or, subst, sym}
-use Rattle.mk_laws.proofs.Vocabulary.{true, ◌%◌, ◌*◌, ◌+◌, ◌-◌, ◌/◌, ◌<◌, ◌∙◌, ◌≡◌, ◌≤◌}
+use Rattle.mk_laws.proofs.Vocabulary.{Config, Event, IsHistory, List, Null, Word, Words, ℕ, ap, arith, at_rest, bit_or}
+use Rattle.mk_laws.proofs.Vocabulary.{cases_lt, flight_among, get_or_past, histories_keep_lengths, inl, inr, leb-true}
+use Rattle.mk_laws.proofs.Vocabulary.{left, never_behind, points_well, refl, register_word, slice_index, slice_index_or}
+use Rattle.mk_laws.proofs.Vocabulary.{subst, true, ◌%◌, ◌*◌, ◌+◌, ◌-◌, ◌/◌, ◌<◌, ◌∙◌, ◌≡◌, ◌≤◌}
 use Rattle.mk_core.specs.Words.{named_word}
 use Rattle.mk_laws.proofs.{InvariantHistories.histories_keep_the_invariant, Protocols.lists_keep_the_protocol}
 use Rattle.mk_tracing.proofs.MoreMarks.{marked_as, more_then, well_more, well_none, zero_none}
@@ -37,12 +36,11 @@ no_root_yet more = record { more = more; well = λ k lt. absurd (omega arith) }
 pub next_root : {pages : ℕ} {w v x : Words} {root : ℕ → Word} {i : ℕ} → ((k : ℕ) → is_root (root k) ≡ true)
     → RootsMarked pages w v root i → MarksMore v x → points_well pages x (named_word v (root i)) ≡ true
     → RootsMarked pages w x root (i + 1)
-next_root {pages} {w} {v} {x} {root} {i} are before more here =
-    record {
-      more = more_then w v x before.more more;
-      well = values_then pages v x (λ k. named_word w (root k)) i more before.well
-          (subst (λ n. points_well pages x n ≡ true) (root_kept w v (root i) (are i) before.more) here);
-    }
+next_root {pages} {w} {v} {x} {root} {i} are before more here = record {
+  more = more_then w v x before.more more;
+  well = values_then pages v x (λ k. named_word w (root k)) i more before.well
+      (subst (λ n. points_well pages x n ≡ true) (root_kept w v (root i) (are i) before.more) here);
+}
 
 -- The same in a stop with a list of what is noted.
 pub record RootsNoted (pages : ℕ) (t : TurnState) (had : Worklist) (u : TurnState) (has : Worklist) (root : ℕ → Word)
@@ -89,13 +87,11 @@ no_look_yet wanted = record { on = on_from _ wanted; words = refl; most = λ j l
 pub next_look : {t u v : TurnState} {value : Words → ℕ → ℕ} {all next i : ℕ} → LooksAtMost t u value all i
     → MarksOn u v → still_words v.pass ≡ still_words u.pass → next ≡ value (still_words u.pass) i
     → LooksAtMost t v value (bit_or all next) (i + 1)
-next_look {t} {value = value} {all} {next} {i} before on words found =
-    record {
-      on = on_then _ _ _ before.on on;
-      words = words ∙ before.words;
-      most = most_then (value (still_words t.pass)) all next i before.most
-          (found ∙ ap (λ (w : Words). value w i) before.words);
-    }
+next_look {t} {value = value} {all} {next} {i} before on words found = record {
+  on = on_then _ _ _ before.on on;
+  words = words ∙ before.words;
+  most = most_then (value _) all next i before.most (found ∙ ap (λ (w : Words). value w i) before.words);
+}
 
 -- Each global of the groups below one points well, and so do those of the next.
 pub groups_then : (pages : ℕ) (w v x : Words) (group : ℕ) → MarksMore w v → MarksMore v x
@@ -113,20 +109,17 @@ register_past c es i h past =
     let some = all.mirrors.register_count in
     let idle : flight_among (left c es).now.seats.flights (i / 8) ≡ at_rest = grind (arith, get_or_past) in
     let null : slice_index_or (never_behind c es).registers i Null ≡ Null = grind (arith, get_or_past) in
-    ap (λ (f : Flight). shown f (i % 8) (slice_index (left c es).now.words.registers i)) (sym idle)
-    ∙ all.mirrors.images.registers i
-    ∙ ap (λ (v : Value). image_of (bases_of (left c es).allocations) v) null
+    cc (idle, all.mirrors.images.registers i, null)
 
 roots_well : (p : PassState) (pages : ℕ) (w : Words) → IsHistory p.table.config p.seen
     → pages ≡ p.table.config.pages
     → w.registers ≡ (now_of p).words.registers → w.globals ≡ (now_of p).words.globals
     → ((k r : ℕ) → k < p.table.config.callers → r < 8 → points_well pages w (register_word (now_of p).words k r) ≡ true)
     → ((g : ℕ) → g < 64 → points_well pages w (slice_index (now_of p).words.globals g) ≡ true) → RootsPointWell pages w
-roots_well p pages w h same registers globals rs gs =
-    record {
-      registers = λ i. ap (λ (xs : List ℕ). points_well pages w (slice_index xs i)) registers ∙ register i;
-      globals = λ g. ap (λ (xs : List ℕ). points_well pages w (slice_index xs g)) globals ∙ global g;
-    }
+roots_well p pages w h same registers globals rs gs = record {
+  registers = λ i. ap (λ (xs : List ℕ). points_well pages w (slice_index xs i)) registers ∙ register i;
+  globals = λ g. ap (λ (xs : List ℕ). points_well pages w (slice_index xs g)) globals ∙ global g;
+}
   where
     null : (n : ℕ) → n ≡ 0 → points_well pages w n ≡ true
     null n z = ap (λ u. points_well pages w u) z ∙ well_none pages w 0 (zero_none pages w.pages)
@@ -135,8 +128,7 @@ roots_well p pages w h same registers globals rs gs =
     register i = elim (cases_lt i (8 * p.table.config.callers)) [
       | inl lt ↦
           let at : 8 * (i / 8) + i % 8 ≡ i = omega arith in
-          subst (λ j. points_well pages w (slice_index (now_of p).words.registers j) ≡ true) at
-          (rs (i / 8) (i % 8) (omega arith) (omega arith))
+          cc (at, rs (i / 8) (i % 8) (omega arith) (omega arith))
       | inr past ↦ null (slice_index (now_of p).words.registers i) (register_past p.table.config p.seen i h past)
     ]
 

@@ -23,12 +23,11 @@ due_kept {pages} {w} {v} {cell} due more = grind (arith, gray_kept)
 
 pub notes_then : {pages : ℕ} {t u v : TurnState} {a b c : Worklist} → MarksAndNotes pages t a u b
     → MarksAndNotes pages u b v c → MarksAndNotes pages t a v c
-notes_then one two =
-    record {
-      on = on_then _ _ _ one.on two.on;
-      more = more_then _ _ _ one.more two.more;
-      noted = λ h. two.noted (one.noted h);
-    }
+notes_then one two = record {
+  on = on_then _ _ _ one.on two.on;
+  more = more_then _ _ _ one.more two.more;
+  noted = λ h. two.noted (one.noted h);
+}
 
 pub marks_alone : {pages : ℕ} {t u : TurnState} {work : Worklist} → MarksOn t u
     → MarksMore (still_words t.pass) (still_words u.pass) → MarksAndNotes pages t work u work
@@ -50,16 +49,14 @@ none_scanned none marks = record { marks = marks; well = λ k le lt. absurd (ome
 
 pub scans_then : {pages : ℕ} {t u v : TurnState} {a b c : Worklist} {cell : Cell} {from i end : ℕ}
     → Scans pages t a u b cell from i → Scans pages u b v c cell i end → Scans pages t a v c cell from end
-scans_then {pages} {t} {u} {v} {cell = cell} {i = i} one two =
-    record {
-      marks = notes_then one.marks two.marks;
-      well = λ k le lt. elim (cases_lt k i) [
-        | inl below ↦ well_more pages (still_words u.pass) (still_words v.pass) _ two.marks.more (one.well k le below)
-        | inr past ↦
-            subst (λ n. points_well pages (still_words v.pass) n ≡ true)
-            (cell_kept (still_words t.pass) (still_words u.pass) cell k one.marks.more) (two.well k past lt)
-      ];
-    }
+scans_then {pages} {t} {u} {v} {cell = cell} {i = i} one two = record {
+  marks = notes_then one.marks two.marks;
+  well = λ k le lt. elim (cases_lt k i) [
+    | inl below ↦ well_more pages (still_words u.pass) (still_words v.pass) _ two.marks.more (one.well k le below)
+    | inr past ↦
+        cc (cell_kept (still_words t.pass) (still_words u.pass) cell k one.marks.more, two.well k past lt)
+  ];
+}
 
 pub scans_to : {pages : ℕ} {t u : TurnState} {a b : Worklist} {cell : Cell} {from end : ℕ} (n : ℕ) → n ≤ end
     → Scans pages t a u b cell from end → Scans pages t a u b cell from n
@@ -71,20 +68,16 @@ pub one_scanned : {pages : ℕ} {t u v : TurnState} {a b : Worklist} {cell : Cel
     → value ≡ slice_index (still_words t.pass).heap (first_word (still_words t.pass) cell + i)
     → MarksAndNotes pages u a v b → points_well pages (still_words v.pass) value ≡ true
     → Scans pages t a v b cell i (i + 1)
-one_scanned {pages} {t} {u} {v} {cell = cell} {i = i} on same found marks well =
-    record {
-      marks = notes_then (looks_alone on same) marks;
-      well = λ k le lt.
-          let at : i ≡ k = omega arith in
-          subst (λ j. points_well pages (still_words v.pass)
-          (slice_index (still_words t.pass).heap (first_word (still_words t.pass) cell + j)) ≡ true) at
-          (subst (λ n. points_well pages (still_words v.pass) n ≡ true) found well);
-    }
+one_scanned {pages} {t} {u} {v} {cell = cell} {i = i} on same found marks well = record {
+  marks = notes_then (looks_alone on same) marks;
+  well = λ k le lt.
+      let at : i ≡ k = omega arith in
+      cc (at, found, well);
+}
 
 -- All words of a cell.
 pub all_scanned : {pages : ℕ} {t u : TurnState} {a b : Worklist} {cell : Cell} {size : ℕ}
     → IsDue pages (still_words t.pass) cell size → Scans pages t a u b cell 0 size
     → words_point_well pages (still_words u.pass) cell ≡ true
 all_scanned {pages} {t} {u} {cell = cell} due all =
-    scan_done pages (still_words t.pass) (still_words u.pass) cell all.marks.more
-    (λ j lt. all.well j (omega arith) (subst (λ n. j < n) (sym due.words) lt))
+    scan_done pages _ _ cell all.marks.more (λ j lt. all.well j (omega arith) (subst (λ n. j < n) (sym due.words) lt))

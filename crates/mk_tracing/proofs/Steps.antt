@@ -6,8 +6,8 @@ use Rattle.mk_laws.proofs.Vocabulary.{Word, Words, World, Written, ℕ, and_from
 use Rattle.mk_laws.proofs.Vocabulary.{at_rest, calls, comes_next, ends, eq-eqb, false, flight_of, group_of, has_gates}
 use Rattle.mk_laws.proofs.Vocabulary.{has_phase, holder_may, is_end, is_in_range, is_of_turn, is_open_to, is_phase}
 use Rattle.mk_laws.proofs.Vocabulary.{left, lt-ltb, marker_at, marker_may, marks_place, not, not-true, outside}
-use Rattle.mk_laws.proofs.Vocabulary.{phase_of, progress, refl, seat_exists, sees_double, set-get_or, slice_set, still}
-use Rattle.mk_laws.proofs.Vocabulary.{subst, sym, true, world_behind, [], ◌++◌, ◌+◌, ◌∙◌, ◌∷◌, ◌≡◌}
+use Rattle.mk_laws.proofs.Vocabulary.{phase_of, progress, refl, seat_exists, sees_double, set-get_or, still, subst, sym}
+use Rattle.mk_laws.proofs.Vocabulary.{true, world_behind, [], ◌++◌, ◌+◌, ◌∙◌, ◌∷◌, ◌≡◌}
 use Rattle.mk_core.proofs.{Conditions.meets_enabled, Histories.calls_more}
 use Rattle.mk_core.specs.Order.{comes_next_to_host, is_in_order, is_of_any_holder, may_decide_new}
 use Rattle.mk_core.specs.{Effects.flights_behind, Frames.CountsAreLeft, Frames.HoldsAll}
@@ -19,28 +19,27 @@ use Rattle.mk_words.specs.{Steps.Makes, Steps.may_decide as may_decide_call, Tur
 
 -- what tracing doesn't touch, from what the frame law speaks of
 abbrev untouched_by : Steady → Written → Holding → Untouched
-untouched_by s y h =
-    record {
-      turn = s.turn;
-      held = s.held;
-      fresh = s.fresh;
-      cycles = s.cycles;
-      released = s.released;
-      full = s.full;
-      gates = y.gates;
-      registers = y.registers;
-      globals = y.globals;
-      pages = s.pages;
-      freed = s.freed;
-      snapshot = s.snapshot;
-      heap = y.heap;
-      flights = y.flights;
-      placing = h.placing;
-      freed_run = h.freed;
-      cycle = h.cycle;
-      fresh_words = s.fresh_words;
-      allocations = s.allocations;
-    }
+untouched_by s y h = record {
+  turn = s.turn;
+  held = s.held;
+  fresh = s.fresh;
+  cycles = s.cycles;
+  released = s.released;
+  full = s.full;
+  gates = y.gates;
+  registers = y.registers;
+  globals = y.globals;
+  pages = s.pages;
+  freed = s.freed;
+  snapshot = s.snapshot;
+  heap = y.heap;
+  flights = y.flights;
+  placing = h.placing;
+  freed_run = h.freed;
+  cycle = h.cycle;
+  fresh_words = s.fresh_words;
+  allocations = s.allocations;
+}
 
 pub others_leave_untouched : (p q : PassState) (s : Step) (a : Acts p s q) → HoldsAll p.table.config (now_of p) p.seat
     → untouched_of (world_at a.makes) ≡ untouched_of (world_of p)
@@ -108,9 +107,7 @@ may_step p s ready holds any range gates phase marker own =
 
 flights_stay : (c : Config) (m : Moment) (seat : Seat) (n : ℕ) (s : Step)
     → ((f : Flight) → (progress c m f n s).flight ≡ f) → flights_behind c m seat n s ≡ m.seats.flights
-flights_stay c m (Caller k) n s still =
-    ap (λ (f : Flight). slice_set m.seats.flights k f) (still (flight_of m (Caller k)))
-    ∙ set-get_or m.seats.flights k at_rest
+flights_stay c m (Caller k) n s still = cc (still (flight_of m (Caller k)), set-get_or m.seats.flights k at_rest)
 flights_stay c m (Marker k) n s still = refl
 flights_stay c m Host n s still = refl
 

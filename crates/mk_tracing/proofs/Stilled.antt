@@ -18,26 +18,25 @@ use Rattle.mk_words.specs.States.{PassState, event_of, now_of, world_of}
 use Rattle.mk_words.specs.{Seats.Has, Steps.Finds, TurnSteps.Acts, TurnSteps.world_at}
 
 abbrev words_by : Steady → Written → List ℕ → List ℕ → Words
-words_by s y marks blacks =
-    record {
-      phase = 0;
-      turn = s.turn;
-      held = s.held;
-      fresh = s.fresh;
-      cycles = s.cycles;
-      released = s.released;
-      full = s.full;
-      gates = y.gates;
-      registers = y.registers;
-      globals = y.globals;
-      pages = s.pages;
-      freed = s.freed;
-      snapshot = s.snapshot;
-      marks = marks;
-      blacks = blacks;
-      dirty = y.dirty;
-      heap = y.heap;
-    }
+words_by s y marks blacks = record {
+  phase = 0;
+  turn = s.turn;
+  held = s.held;
+  fresh = s.fresh;
+  cycles = s.cycles;
+  released = s.released;
+  full = s.full;
+  gates = y.gates;
+  registers = y.registers;
+  globals = y.globals;
+  pages = s.pages;
+  freed = s.freed;
+  snapshot = s.snapshot;
+  marks = marks;
+  blacks = blacks;
+  dirty = y.dirty;
+  heap = y.heap;
+}
 
 abbrev pub but_phase : Words → Words
 but_phase w = record w { phase = 0 }
@@ -126,14 +125,13 @@ module _ (p q : PassState) (wanted : IsWanted p) (all : HoldsAll p.table.config 
       → ((w : World) → but_phase w.now.words ≡ still_words p → w.now.seats.holding ≡ (now_of p).seats.holding
       → TracesReached p.table.config w.now s)
       → MarksOn (record { pass = p; op = o }) (record { pass = q; op = o' })
-  marks_on own s a stopped o o' same ruled =
-      record {
-        table = ap (λ (x : PassState). x.table) a.makes.is;
-        op = same;
-        wanted = still_wanted p q s a wanted all stopped;
-        traces = stopped_traces p q s a wanted all stopped own TracesReached (marking s stopped)
-            (ruled (world_at a.makes) (words_there p q s a wanted all) a.holding);
-      }
+  marks_on own s a stopped o o' same ruled = record {
+    table = ap (λ (x : PassState). x.table) a.makes.is;
+    op = same;
+    wanted = still_wanted p q s a wanted all stopped;
+    traces = stopped_traces p q s a wanted all stopped own TracesReached (marking s stopped)
+        (ruled (world_at a.makes) (words_there p q s a wanted all) a.holding);
+  }
     where
       marking : (x : Step) → is_stopped_step x ≡ true → is_marking x ≡ true
       marking (Step.Look (Word.Quar pg)) h = cc
@@ -150,9 +148,7 @@ still_name w _ h = refl
 module _ (p q : PassState) (wanted : IsWanted p) (all : HoldsAll p.table.config (now_of p) p.seat) (x : Word)
     (a : Acts p (Step.Look x) q) (n : ℕ) (finds : Finds p (Step.Look x) n q) where
   pub look_finds : is_still_word x ≡ true → n ≡ named_word (still_words p) x
-  look_finds name =
-      sym (found_there p q x n finds) ∙ sym (still_name (now_of q).words x name) ∙ ap (λ (w : Words). named_word w x)
-      (look_words p q wanted all x a)
+  look_finds name = cc (found_there p q x n finds, still_name (now_of q).words x name, look_words p q wanted all x a)
 
   pub found_now : found p.table.config (world_at a.makes).now (event_of p (Step.Look x)) ≡ n
   found_now = ap (λ (w : World). named_word w.now.words x) (sym a.world) ∙ found_there p q x n finds
@@ -174,17 +170,15 @@ pub marked_hand : (p q : PassState) → IsWanted p → HoldsAll p.table.config (
     → pointed_cell p.table.config.pages (still_words p).pages (address_of i) ≡ Some cell
     → is_marked (still_words p) cell ≡ true → has_no_pointers (header_in (still_words p) cell.page) ≡ false
     → IsInHand q n
-marked_hand p q wanted all i a n finds cell pointed marked scanned =
-    record {
-      hand = record { value = n; source = Marked };
-      is = hand_now p q wanted all (Word.Heap i) a n finds
-          ∙ ap (λ (o : Option Hand). or_else o (hand_of p)) (given
-          (found p.table.config (world_at a.makes).now (event_of p (Step.Look (Word.Heap i)))))
-          ∙ ap (λ (v : ℕ). Some (record { value = v; source = Marked }))
-          (found_now p q wanted all (Word.Heap i) a n finds);
-      value = refl;
-      reached = refl;
-    }
+marked_hand p q wanted all i a n finds cell pointed marked scanned = record {
+  hand = record { value = n; source = Marked };
+  is = hand_now p q wanted all (Word.Heap i) a n finds
+      ∙ ap (λ (o : Option Hand). or_else o (hand_of p))
+      (given (found p.table.config (world_at a.makes).now (event_of p (Step.Look (Word.Heap i)))))
+      ∙ ap (λ (v : ℕ). Some (record { value = v; source = Marked })) (found_now p q wanted all (Word.Heap i) a n finds);
+  value = refl;
+  reached = refl;
+}
   where
     m' : Moment
     m' = (world_at a.makes).now

@@ -19,13 +19,12 @@ pub on_from : (t : TurnState) → IsWanted t.pass → MarksOn t t
 on_from t wanted = grind (arith, traces_nothing)
 
 pub on_then : (t u v : TurnState) → MarksOn t u → MarksOn u v → MarksOn t v
-on_then t u v one two =
-    record {
-      table = two.table ∙ one.table;
-      op = two.op ∙ one.op;
-      wanted = two.wanted;
-      traces = traces_then is_marking TracesReached t.pass u.pass v.pass one.traces two.traces;
-    }
+on_then t u v one two = record {
+  table = two.table ∙ one.table;
+  op = two.op ∙ one.op;
+  wanted = two.wanted;
+  traces = traces_then is_marking TracesReached t.pass u.pass v.pass one.traces two.traces;
+}
 
 -- what each step keeps to
 
@@ -81,8 +80,7 @@ module _ (t u : TurnState) (wanted : IsWanted t.pass) (all : HoldsAll t.pass.tab
       (λ w e h. reached_there t.pass w cell e h reached)
 
   pub on_black : (page value : ℕ) → Acts t.pass (Step.Black page value) u.pass → MarksOn t u
-  on_black page value a = marks_on t.pass u.pass wanted all own (Step.Black page value) a refl t.op u.op same
-      (λ w e h. tt)
+  on_black page value a = marks_on _ _ wanted all own (Step.Black page value) a refl t.op u.op same (λ w e h. tt)
 
   pub on_unblack : (page : ℕ) → Acts t.pass (Step.Unblack page) u.pass → HasDirtyPart (still_words t.pass) page
       → MarksOn t u
@@ -126,17 +124,14 @@ module _ (p : PassState) (history : IsHistory p.table.config p.seen) (t : WordsS
       (a : Acts p (Step.Look (Word.Heap (64 * cell.page + cell.index * size + i))) q)
       (finds : Finds p (Step.Look (Word.Heap (64 * cell.page + cell.index * size + i))) v q) where
     pub word_found : v ≡ slice_index (still_words p).heap (first_word (still_words p) cell + i)
-    word_found =
-        look_finds p q wanted all (Word.Heap n) a v finds refl
-        ∙ ap (λ k. slice_index (still_words p).heap k) same_word
+    word_found = cc (look_finds p q wanted all (Word.Heap n) a v finds refl, same_word)
 
     pub word_hand : v ≢ 0 → IsInHand q v
     word_hand some =
         marked_hand p q wanted all n a v finds cell
-        (ap (λ k. pointed_cell p.table.config.pages (still_words p).pages (address_of k)) same_word
-        ∙ cell_of_word p.table.config p.seen cell i history wanted.phase gray.page gray.index due.scanned within
-        (λ z. some (word_found ∙ z)))
-        gray.marked due.scanned
+        (ap (λ k. pointed_cell p.table.config.pages (still_words p).pages (address_of k)) same_word ∙ cell_of_word _ _
+        cell i history wanted.phase gray.page gray.index due.scanned within (λ z. some (word_found ∙ z))) gray.marked
+        due.scanned
 
 -- The cell into which the hand points lies in the heap.
 pub reached_within : (p : PassState) (cell : Cell) → HandPointsInto p cell

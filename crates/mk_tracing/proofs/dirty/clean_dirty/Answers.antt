@@ -12,8 +12,7 @@ loop-page-preserved c =
     let x = still_words c.clean_if_dirty.new.stop.pass in
     let found = c.in-Some.ensures in
     record {
-      on = on_then c.args.stop.now c.loop-page.stop c.clean_if_dirty.new.stop c.loop-page.invariant.on
-          c.clean_if_dirty.ensures.on;
+      on = on_then _ c.loop-page.stop c.clean_if_dirty.new.stop c.loop-page.invariant.on c.clean_if_dirty.ensures.on;
       clean = pages_then (λ p. slice_index v.dirty p ≡ 0) (λ p. slice_index x.dirty p ≡ 0) c.in-Some.page
           c.clean_if_dirty.ensures.fewer
           (clean_past c.loop-page.stop.pass found.history c.loop-page.from c.in-Some.page c.loop-page.invariant.clean

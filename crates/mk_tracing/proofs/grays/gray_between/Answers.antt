@@ -13,14 +13,12 @@ loop-page-init c = grind (arith, on_from)
 
 pub returns-then-page-to-clause-none : goal.returns-then-page-to-clause-none
 returns-then-page-to-clause-none c p low high =
-    none_past (still_words c.args.stop.now.pass) (still_words c.loop-page.stop.pass) c.args.from c.loop-page.next
-    c.in-Some.page c.loop-page.invariant.words c.loop-page.invariant.none c.in-Some.ensures.next.3 p low
-    (omega (arith, high, c.if-page-to.true))
+    none_past _ _ c.args.from c.loop-page.next c.in-Some.page c.loop-page.invariant.words c.loop-page.invariant.none
+    c.in-Some.ensures.next.3 p low (omega (arith, high, c.if-page-to.true))
 
 pub returns-in-Some-found-clause-on : goal.returns-in-Some-found-clause-on
 returns-in-Some-found-clause-on c =
-    on_then c.args.stop.now c.loop-page.stop c.gray_on-found.new.stop c.loop-page.invariant.on
-    c.gray_on-found.ensures.on
+    on_then _ c.loop-page.stop c.gray_on-found.new.stop c.loop-page.invariant.on c.gray_on-found.ensures.on
 
 pub loop-page-preserved : goal.loop-page-preserved
 loop-page-preserved c =

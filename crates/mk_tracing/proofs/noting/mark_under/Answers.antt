@@ -21,8 +21,7 @@ points : (c : In-Some)
     ≡ Some c.in-Some.cell
 points c =
     let w = still_words c.args.stop.now.pass in
-    subst (λ n. pointed_cell n w.pages c.args.value ≡ Some c.in-Some.cell) c.requires.pages
-    (sym (pointed_under c.args.pages w c.args.value c.args.header c.requires.header) ∙ sym c.in-Some.ensures)
+    cc (c.requires.pages, pointed_under c.args.pages w c.args.value c.args.header c.requires.header, c.in-Some.ensures)
 
 pub mark_white-requires-clause-reached : goal.mark_white-requires-clause-reached
 mark_white-requires-clause-reached c =
@@ -37,15 +36,13 @@ pub returns-then-mark_white-clause-well : goal.returns-then-mark_white-clause-we
 returns-then-mark_white-clause-well c =
     let pages : ℕ = c.args.words.now.config.pages in
     subst (λ (y : Words). points_well pages y c.args.value ≡ true) (sym c.note.ensures.words)
-    (well_marked pages (still_words c.args.stop.now.pass) (still_words c.mark_white.new.stop.pass) c.args.value
-    c.in-Some.cell c.mark_white.ensures.more (points (goal.at.returns-then-mark_white-clause-well c).In-Some)
-    c.mark_white.ensures.marked)
+    (well_marked pages _ _ c.args.value c.in-Some.cell c.mark_white.ensures.more
+    (points (goal.at.returns-then-mark_white-clause-well c).In-Some) c.mark_white.ensures.marked)
 
 pub returns-else-mark_white-clause-marks : goal.returns-else-mark_white-clause-marks
 returns-else-mark_white-clause-marks c = marks_alone c.mark_white.ensures.on c.mark_white.ensures.more
 
 pub returns-else-mark_white-clause-well : goal.returns-else-mark_white-clause-well
 returns-else-mark_white-clause-well c =
-    well_marked c.args.words.now.config.pages (still_words c.args.stop.now.pass)
-    (still_words c.mark_white.new.stop.pass) c.args.value c.in-Some.cell c.mark_white.ensures.more
+    well_marked _ _ _ c.args.value c.in-Some.cell c.mark_white.ensures.more
     (points (goal.at.returns-else-mark_white-clause-well c).In-Some) c.mark_white.ensures.marked

@@ -10,6 +10,5 @@ pub returns-in_default-clause-well : goal.returns-in_default-clause-well
 returns-in_default-clause-well c =
     let pages : ℕ = c.args.words.now.config.pages in
     let w = still_words c.args.stop.now.pass in
-    well_none pages w c.args.value
-    (outside_none pages w.pages c.args.value
+    well_none pages w c.args.value (outside_none pages _ c.args.value
     (subst (λ n. is_heap_address n c.args.value ≡ false) c.requires.pages c.in_default.ensures.outside))

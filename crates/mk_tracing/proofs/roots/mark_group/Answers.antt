@@ -15,5 +15,4 @@ pub loop-i-init : goal.loop-i-init
 loop-i-init c = let look = c.are_before_heap.ensures in no_root_noted (looks_alone look.on look.words)
 
 pub loop-i-preserved : goal.loop-i-preserved
-loop-i-preserved c =
-    next_root_noted (λ j. refl) c.loop-i.invariant c.mark_root.ensures.marks c.mark_root.ensures.well
+loop-i-preserved c = next_root_noted (λ j. refl) c.loop-i.invariant c.mark_root.ensures.marks c.mark_root.ensures.well

@@ -23,8 +23,7 @@ loop-i-preserved c =
     let look = c.look_at_word-value.ensures in
     let mark = c.mark_and_note-last.ensures in
     record {
-      scans =
-          scans_then c.loop-i.invariant.scans (one_scanned look.on look.words look.found mark.marks mark.well);
+      scans = scans_then c.loop-i.invariant.scans (one_scanned look.on look.words look.found mark.marks mark.well);
       last = mark.last;
     }
 

@@ -37,14 +37,12 @@ returns-clause-on c =
 
 pub returns-clause-found : goal.returns-clause-found
 returns-clause-found c =
-    word_found c.args.stop.now.pass c.is_in_order.ensures.history _ c.requires.one_table c.args.cell c.args.size
-    c.args.i c.requires.due c.requires.within c.look_on_page.new.self.pass c.requires.wanted
-    (c.is_in_order.ensures.turn.holds, c.is_in_order.ensures.gates) c.look_on_page.result c.look_on_page.ensures.acts
-    c.look_on_page.ensures.finds
+    word_found _ c.is_in_order.ensures.history _ c.requires.one_table c.args.cell c.args.size c.args.i c.requires.due
+    c.requires.within _ c.requires.wanted (c.is_in_order.ensures.turn.holds, c.is_in_order.ensures.gates)
+    c.look_on_page.result c.look_on_page.ensures.acts c.look_on_page.ensures.finds
 
 pub returns-clause-hand : goal.returns-clause-hand
 returns-clause-hand c =
-    word_hand c.args.stop.now.pass c.is_in_order.ensures.history _ c.requires.one_table c.args.cell c.args.size
-    c.args.i c.requires.due c.requires.within c.look_on_page.new.self.pass c.requires.wanted
-    (c.is_in_order.ensures.turn.holds, c.is_in_order.ensures.gates) c.look_on_page.result c.look_on_page.ensures.acts
-    c.look_on_page.ensures.finds
+    word_hand _ c.is_in_order.ensures.history _ c.requires.one_table c.args.cell c.args.size c.args.i c.requires.due
+    c.requires.within _ c.requires.wanted (c.is_in_order.ensures.turn.holds, c.is_in_order.ensures.gates)
+    c.look_on_page.result c.look_on_page.ensures.acts c.look_on_page.ensures.finds

@@ -29,5 +29,4 @@ returns-then-gray-eq0-clause-turns c =
 
 pub returns-clause-turns : goal.returns-clause-turns
 returns-clause-turns c =
-    gray_turns c.args.words.now.config.pages (still_words c.args.stop.now.pass) (still_words c.scan.new.stop.pass)
-    c.args.gray.cell c.requires.gray.gray c.scan.ensures.marks.more (inr c.scan.ensures.well)
+    gray_turns _ _ _ c.args.gray.cell c.requires.gray.gray c.scan.ensures.marks.more (inr c.scan.ensures.well)
