@@ -1,28 +1,25 @@
 -- A sweep meets the law of engines, and makes what it promises.
-use Rattle.std.proofs.{Common.count_by, lemmas.List.Sums.sum_by-cons}
 use Rattle.mk_sweep.proofs.Vocabulary.{CellsAreClosed, Config, InGlobal, InRegister, InWord, IsHistory, IsScannedWord}
 use Rattle.mk_sweep.proofs.Vocabulary.{IsSwept, IsSweptValue, Moment, PageIsBlack, PassState, PlacedAllocation}
 use Rattle.mk_sweep.proofs.Vocabulary.{PointWell, Step, Sweeps, SweepsBy, SweepsOn, TurnState, Untouched, WordsState}
 use Rattle.mk_sweep.proofs.Vocabulary.{World, heap_looks, is_tracing, now_of, phase_of, placed_at, points_well}
 use Rattle.mk_sweep.proofs.Vocabulary.{still_words, words_below, world_of}
-use Rattle.mk_laws.proofs.Vocabulary.{Bool, List, Word, ℕ, ap, arith, cond, length, ne_eqb, refl, slice_index, subst}
-use Rattle.mk_laws.proofs.Vocabulary.{sym, true, [], ◌++◌, ◌+◌, ◌<◌, ◌∙◌, ◌∷◌, ◌≡◌, ◌≤◌}
+use Rattle.mk_laws.proofs.Vocabulary.{Word, ℕ, ap, arith, length, ne_eqb, slice_index, subst, sym, true, ◌++◌, ◌+◌, ◌<◌}
+use Rattle.mk_laws.proofs.Vocabulary.{◌∙◌, ◌≡◌, ◌≤◌}
 use Rattle.mk_core.proofs.PointedAllocations.{marked_where_its_cell_is, points_well_where_marked}
-use Rattle.mk_core.specs.{ClosedMarks.is_marked_allocation, Frames.HoldsAll, Growing.Finding}
+use Rattle.mk_core.specs.{ClosedMarks.is_marked_allocation, Frames.HoldsAll}
 use Rattle.mk_laws.proofs.{InvariantTheorems.allocations_stand, Settled.gone_is_unmapped}
-use Rattle.mk_cycle.{proofs.KeptInParts.keeps_at_once, specs.EngineLaw.BeginsMarking, specs.EngineLaw.ClosesMarks}
-use Rattle.mk_cycle.{specs.EngineLaw.IsFreeForCycle, specs.Kinds.begins_marking, specs.Kinds.closes_marks}
-use Rattle.mk_cycle.{specs.Kinds.is_want as is_wish, specs.TurnKeeps.unchanged as all_of_it}
-use Rattle.mk_sweep.proofs.EachOnce.{as_many, looked_at_once, never_twice}
-use Rattle.mk_sweep.proofs.{CountedWords.some_there, CountedWords.times, Done.looks_in_parts, Done.looks_of_waiting}
+use Rattle.mk_cycle.specs.{EngineLaw.ClosesMarks, EngineLaw.IsFreeForCycle, Kinds.closes_marks}
 use Rattle.mk_engines.proofs.TracedMarks.{closing_kind, keeps_turn, same_count}
-use Rattle.mk_sweep.proofs.{SweepSteps.rule_alike, SweepSteps.settled_kept, SweepSteps.word_alike}
+use Rattle.mk_sweep.proofs.EachOnce.{as_many, looked_at_once, never_twice}
+use Rattle.mk_sweep.proofs.SweepSteps.{rule_alike, settled_kept, word_alike}
+use Rattle.mk_sweep.proofs.{CountedWords.some_there, CountedWords.times, Done.looks_in_parts, Done.looks_of_waiting}
 use Rattle.mk_sweep.specs.{Sweeping.IsSweeping, Swept.scanned_words}
 use Rattle.mk_tracing.proofs.Parts.{counted_by_kinds, counted_wider, traces_alike}
 use Rattle.mk_tracing.proofs.{Closes.marks_closed_now, Closes.may_close_now, NoGrays.no_gray, Wants.wanted_once_then}
 use Rattle.mk_tracing.specs.Tracing.{Counted, is_marking, is_waiting, is_want}
 use Rattle.mk_tracing.specs.{Grays.TracesReached, Stops.IsWanted}
-use Rattle.mk_turns.{proofs.Doing.does_nothing, specs.Doing.Does, specs.Doing.done_in}
+use Rattle.mk_turns.specs.Doing.{Does, done_in}
 
 -- Waiting keeps to the rule of every sweep.
 waits : (w : World) (c : Config) (m : Moment) (s : Step) → is_waiting s ≡ true → SweepsBy w c m s
@@ -35,17 +32,7 @@ waits w c m _ h = tt
 -- After the wait the sweep may begin.
 pub sweeping_behind : {p q : PassState} → Counted is_waiting TracesReached is_want p q 1 → IsWanted q
     → IsFreeForCycle p → phase_of (now_of p).words ≡ 1 → IsSweeping q
-sweeping_behind {p} {q} waited wanted free one =
-    record {
-      wanted = wanted;
-      settled = settled_kept p q
-          (waited.traces.does.is ∙ ap (λ (x : PassState). record p { seen = x.seen }) (sym waited.traces.does.is))
-          waited.traces.untouched wanted.phase (record {
-            releasing = ne_eqb (phase_of (now_of p).words) 4 (λ e. omega arith);
-            placing = free.unplaced;
-            unmapped = gone_is_unmapped (now_of p).words (now_of p).seats.holding.freed free.gone;
-          });
-    }
+sweeping_behind {p} {q} waited wanted free one = grind (arith, settled_kept, ne_eqb, gone_is_unmapped)
 
 module _ (p : PassState) (t u : TurnState) (n : ℕ) (waited : Counted is_waiting TracesReached is_want p t.pass 1)
     (sweeping : IsSweeping t.pass) (early : IsHistory t.pass.table.config t.pass.seen)
@@ -72,15 +59,11 @@ module _ (p : PassState) (t u : TurnState) (n : ℕ) (waited : Counted is_waitin
 
   scanned_there : (k : ℕ) → IsScannedWord p.table.config (world_of p).allocations k
       → IsScannedWord t.pass.table.config (world_of t.pass).allocations k
-  scanned_there k x =
-      subst (λ (y : WordsState). IsScannedWord y.config (world_of t.pass).allocations k) (sym table)
-      (word_alike p.table.config (world_of p) (world_of t.pass) (sym waited.traces.untouched) k x)
+  scanned_there k x = grind (arith, table, word_alike)
 
   scanned_before : (k : ℕ) → IsScannedWord u.pass.table.config (world_of u.pass).allocations k
       → IsScannedWord t.pass.table.config (world_of t.pass).allocations k
-  scanned_before k x =
-      subst (λ (y : WordsState). IsScannedWord y.config (world_of t.pass).allocations k) on.table
-      (word_alike u.pass.table.config (world_of u.pass) (world_of t.pass) on.traces.untouched k x)
+  scanned_before k x = grind (arith, word_alike)
 
   all_words_are : length (words_below (still_words t.pass) t.pass.table.config.pages)
       ≡ scanned_words p.table.config (world_of p).allocations
@@ -91,10 +74,8 @@ module _ (p : PassState) (t u : TurnState) (n : ℕ) (waited : Counted is_waitin
 
   value_well : (v : ℕ) → IsSweptValue u.pass.table.config (world_of u.pass) v
       → points_well u.pass.table.config.pages (now_of u.pass).words v ≡ true
-  value_well v (InRegister i is) =
-      ap (λ k. points_well u.pass.table.config.pages (now_of u.pass).words k) (sym is) ∙ closed.registers i
-  value_well v (InGlobal g is) =
-      ap (λ k. points_well u.pass.table.config.pages (now_of u.pass).words k) (sym is) ∙ closed.globals g
+  value_well v (InRegister i is) = grind arith
+  value_well v (InGlobal g is) = grind arith
   value_well v (InWord k scanned is) =
       ap (λ j. points_well u.pass.table.config.pages (now_of u.pass).words j) (sym is)
       ∙ well k (some_there (words_below (still_words t.pass) t.pass.table.config.pages) k (λ z.

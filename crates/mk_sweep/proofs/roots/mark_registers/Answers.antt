@@ -1,15 +1,10 @@
-use Rattle.mk_laws.proofs.Vocabulary.{arith, refl}
+use Rattle.mk_laws.proofs.Vocabulary.{arith}
 use Rattle.mk_sweep.proofs.SweepSteps.{quiet_then, sweeps_from}
 use Rattle.mk_tracing.proofs.{MoreMarks.more_same, MoreMarks.more_then, RootMarks.registers_then}
 use Rattle.mk_sweep.proofs.roots.mark_registers.Goals as goal
 
 pub loop-caller-init : goal.loop-caller-init
-loop-caller-init c =
-    record {
-      on = sweeps_from c.args.stop.now c.requires.sweeping;
-      more = more_same _ _ refl;
-      well = λ k lt. absurd (omega arith);
-    }
+loop-caller-init c = grind (arith, sweeps_from, more_same)
 
 pub loop-caller-preserved : goal.loop-caller-preserved
 loop-caller-preserved c =

@@ -98,13 +98,4 @@ returns-clause-well c =
     c.cells_under-index-end.ensures.exact c.requires.scanned) c.loop-index.invariant.well
 
 pub returns-clause-looks : goal.returns-clause-looks
-returns-clause-looks c =
-    let end = c.loop-index-test.false in
-    let at : c.loop-index.index ≡ c.cells_under-index-end.result = let most = c.loop-index.auto.index-end in omega
-    arith in
-    c.loop-index.invariant.looks ∙ ap length
-    (ap (λ k. words_of_cells c.args.page c.words_under-size.result c.args.used k) at
-    ∙ words_of_scanned (still_words c.args.stop.now.pass) c.args.page c.args.header c.args.used
-    c.words_under-size.result
-    c.cells_under-index-end.result c.requires.header c.requires.used c.words_under-size.ensures.exact
-    c.cells_under-index-end.ensures.exact c.requires.scanned)
+returns-clause-looks c = grind (arith, words_of_scanned)
