@@ -31,12 +31,11 @@ module _ (c : Config) (es : List Event) (h : IsHistory c es) (settled : IsSettle
   zero_well n z = ap (λ u. points_well c.pages w u) z ∙ well_none c.pages w 0 (zero_none c.pages w.pages)
 
   pub cells_closed : RootsPointWell c.pages (left c es).now.words → CellsAreClosed c (left c es).now.words
-  cells_closed roots =
-      record {
-        registers = roots.registers;
-        globals = roots.globals;
-        words = λ cell i known marked scanned lt. by cell i known scanned lt (is_used w cell) refl;
-      }
+  cells_closed roots = record {
+    registers = roots.registers;
+    globals = roots.globals;
+    words = λ cell i known marked scanned lt. by cell i known scanned lt (is_used w cell) refl;
+  }
     where
       by : (cell : Cell) (i : ℕ) → cell.index < cells_under (header_in w cell.page)
           → has_no_pointers (header_in w cell.page) ≡ false → i < cell_words w cell → (b : Bool) → is_used w cell ≡ b
@@ -44,9 +43,7 @@ module _ (c : Config) (es : List Event) (h : IsHistory c es) (settled : IsSettle
       by cell i known scanned lt true used =
           scanned_well (first_word w cell + i) (used_word c es h settled cell.page cell.index i used scanned lt)
       by cell i known scanned lt false none =
-          zero_well (first_word w cell + i)
-          (eqb-true (slice_index w.heap (first_word w cell + i)) 0
-          (all_below-at (cell_words w cell) i (λ j. slice_index w.heap (first_word w cell + j) == 0)
+          zero_well _ (eqb-true _ 0 (all_below-at _ i (λ j. slice_index w.heap (first_word w cell + j) == 0)
           (unused_is_zero c es h settled cell known none) lt))
 
 -- The phase is another.

@@ -125,9 +125,7 @@ cells_once page size used (suc k) n x =
     elim (cases_eq x.index k) [
       | inl last ↦
           let here : times n (words_if (has_bit used k) (64 * page + k * size) size) ≡ 1 =
-          subst (λ j. times n (words_if (has_bit used j) (64 * page + j * size) size) ≡ 1) last
-          (ap (λ (b : Bool). times n (words_if b (64 * page + x.index * size) size)) x.bit
-          ∙ range_inside (64 * page + x.index * size) size n x.from x.to) in
+          cc (last, x.bit, range_inside (64 * page + x.index * size) size n x.from x.to) in
           let before : times n (words_of_cells page size used k) ≡ 0 = none_before last in
           omega arith
       | inr early ↦
@@ -265,8 +263,7 @@ module _ {X : Type 0} (t : X → Bool) (first words : X → ℕ) where
   pub length_of_all : (xs : List X) → length (all_words xs) ≡ sum_by words (filter t xs)
   length_of_all [] = refl
   length_of_all (x ∷ xs) =
-      length-append (words_if (t x) (first x) (words x)) (all_words xs)
-      ∙ ap (λ k. length (words_if (t x) (first x) (words x)) + k) (length_of_all xs) ∙ by (t x)
+      cc (length-append (words_if (t x) (first x) (words x)) (all_words xs), length_of_all xs, by (t x))
     where
       by : (b : Bool) → length (words_if b (first x) (words x)) + sum_by words (filter t xs)
           ≡ sum_by words (if b then x ∷ filter t xs else filter t xs)

@@ -131,9 +131,7 @@ module _ (c : Config) (es : List Event) (h : IsHistory c es) (settled : IsSettle
       let some = pages_some o (sized i u) in
       let has : HasHeader Unmapped o 0 (header_on w.now.words.pages (a.base / 64 + 0)) = grind (arith, shown) in
       let here : a.base / 64 + 0 ≡ a.base / 64 = omega arith in
-      ap (λ p. is_unmapped_header (header_in w.now.words p)) (sym here)
-      ∙ ap (λ n. is_unmapped_header (header_of n)) has.1
-      ∙ unmapped_is_unmapped (pages_made o) 0 (large_count o (sized i u) has.0) (omega arith)
+      cc (here, has.1, unmapped_is_unmapped (pages_made o) 0 (large_count o (sized i u) has.0) (omega arith))
 
   mapped_where_shown : (i : ℕ) → (placed_at (left c es).allocations i).released ≡ false
       → is_unmapped_header (header_in (left c es).now.words ((placed_at (left c es).allocations i).base / 64)) ≡ false
@@ -196,9 +194,8 @@ module _ (c : Config) (es : List Event) (h : IsHistory c es) (settled : IsSettle
         index = cell_is_known c w.now.words a (sized i u) st.stands.begins st.headers;
         used = st.used;
         scanned =
-            part_has_no_pointers o (header_in w.now.words (a.base / 64)) (first_part i u)
-            ∙ ap (λ b. b || is_unmapped_header (header_in w.now.words (a.base / 64))) (not-true (storage_of c
-            a).leaf parts.1)
+            part_has_no_pointers o _ (first_part i u) ∙ ap (λ b. b || is_unmapped_header
+            (header_in w.now.words (a.base / 64))) (not-true (storage_of c a).leaf parts.1)
             ∙ ap (λ n. is_unmapped_header (header_of n)) made ∙ made_is_mapped o 0 (sized i u) (omega arith);
         first = cells.0;
         words = cells.1;
@@ -240,8 +237,7 @@ module _ (c : Config) (es : List Event) (h : IsHistory c es) (settled : IsSettle
       by u mapped true e true f =
           let kept = (and_parts (not a.released) (not (a.freed && is_large (kinds_of c.types a.ty))) mapped).1 in
           let small : is_large (kinds_of c.types a.ty) ≡ false =
-          ap (λ b. b && is_large (kinds_of c.types a.ty)) (sym (freed_there u f))
-          ∙ not-true (a.freed && is_large (kinds_of c.types a.ty)) kept in
+          cc (freed_there u f, not-true (a.freed && is_large (kinds_of c.types a.ty)) kept) in
           let none = (small_heads_none (object_placed c a) 0 (header_in w.now.words (a.base / 64)) (first_part i u)
           (is_small (is_small_object (object_placed c a)) (sym (large_is_not_small (kinds_of c.types a.ty)) ∙
           small))).0 in

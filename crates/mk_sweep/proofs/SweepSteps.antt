@@ -1,19 +1,17 @@
 -- Each step of a sweep goes on with it.
-use Rattle.std.proofs.Common.{option_and_then}
 use Rattle.mk_sweep.proofs.Vocabulary.{Acts, Cell, Config, InGlobal, InRegister, InWord, IsEnabledTo, IsHistory}
 use Rattle.mk_sweep.proofs.Vocabulary.{IsScannedWord, IsSettled, IsSweptValue, Moment, PassState, PlacedAllocation}
 use Rattle.mk_sweep.proofs.Vocabulary.{Step, SweepsBy, SweepsOn, TurnState, Untouched, Words, WordsState, World}
-use Rattle.mk_sweep.proofs.Vocabulary.{cell_of_allocation, event_of, has_no_pointers, header_in, heap_looks, is_marked}
-use Rattle.mk_sweep.proofs.Vocabulary.{is_phase, now_of, others_are_held, phase_of, placed_at, pointed_cell}
-use Rattle.mk_sweep.proofs.Vocabulary.{still_words, untouched_of, world_of}
+use Rattle.mk_sweep.proofs.Vocabulary.{cell_of_allocation, event_of, has_no_pointers, header_in, is_marked, now_of}
+use Rattle.mk_sweep.proofs.Vocabulary.{others_are_held, phase_of, placed_at, pointed_cell, still_words, untouched_of}
+use Rattle.mk_sweep.proofs.Vocabulary.{world_of}
 use Rattle.mk_laws.proofs.Vocabulary.{Bool, Hand, Holding, List, None, Option, Some, Word, ℕ, address_of, and_from}
 use Rattle.mk_laws.proofs.Vocabulary.{and_parts, ap, append-nil, arith, eq-eqb, false, found, if◌then◌else◌, lt-ltb}
 use Rattle.mk_laws.proofs.Vocabulary.{ne_eqb, or_else, page_at_address, refl, slice_index, subst, sym, true}
 use Rattle.mk_laws.proofs.Vocabulary.{word_points, [], ◌&&◌, ◌*◌, ◌++◌, ◌+◌, ◌<◌, ◌^◌, ◌∙◌, ◌∷◌, ◌≡◌}
-use Rattle.mk_core.proofs.PointedPages.{pointed_within}
-use Rattle.mk_core.specs.Effects.{hand_given, hand_of_cell, is_in_stop, is_mapped_cell}
-use Rattle.mk_core.specs.declared.seats.Source.TheVariants.{Marked, Unmarked}
-use Rattle.mk_core.specs.{Frames.HoldsAll, Ranges.is_word, Words.named_word}
+use Rattle.mk_core.{proofs.PointedPages.pointed_within, specs.Effects.hand_given, specs.Effects.is_in_stop}
+use Rattle.mk_core.{specs.Effects.is_mapped_cell, specs.Frames.HoldsAll, specs.Ranges.is_word, specs.Words.named_word}
+use Rattle.mk_core.{specs.declared.seats.Source.TheVariants.Marked, specs.declared.seats.Source.TheVariants.Unmarked}
 use Rattle.mk_laws.proofs.{InvariantTheorems.allocations_stand, MappedWords.mapped_stays}
 use Rattle.mk_sweep.proofs.Done.{looks_in_parts, looks_of_nothing, looks_of_step}
 use Rattle.mk_sweep.proofs.{Kept.unmapped_kept, ScannedCells.mapped_cell, ScannedCells.scanned_stands}
@@ -41,12 +39,11 @@ module _ (c : Config) (v w : World) (same : untouched_of v ≡ untouched_of w) w
       InWord n (word_alike n scanned) (sym (ap (λ (x : Untouched). slice_index x.heap n) same) ∙ is)
 
   pub cell_alike : (cell : Cell) → IsSweptCell c v cell → IsSweptCell c w cell
-  cell_alike cell s =
-      record {
-        value = s.value;
-        found = value_alike s.value s.found;
-        points = sym (ap (λ (x : Untouched). pointed_cell c.pages x.pages s.value) same) ∙ s.points;
-      }
+  cell_alike cell s = record {
+    value = s.value;
+    found = value_alike s.value s.found;
+    points = sym (ap (λ (x : Untouched). pointed_cell c.pages x.pages s.value) same) ∙ s.points;
+  }
 
   pub rule_alike : (m : Moment) (s : Step) → SweepsBy v c m s → SweepsBy w c m s
   rule_alike m (Step.Look (Word.Heap n)) r = word_alike n r
@@ -63,17 +60,14 @@ sweeps_from t sweeping =
 pub sweeps_then : {t u v : TurnState} {ns ms : List ℕ} → SweepsOn t u ns → SweepsOn u v ms → SweepsOn t v (ns ++ ms)
 sweeps_then {t} {u} {v} {ns} one two =
     let next : Traces is_marking (SweepsBy (world_of t.pass)) u.pass v.pass =
-    traces_alike is_marking (SweepsBy (world_of u.pass)) (SweepsBy (world_of t.pass)) u.pass v.pass
-    (rule_alike u.pass.table.config (world_of u.pass) (world_of t.pass) one.traces.untouched) two.traces in
+    traces_alike is_marking _ _ _ _ (rule_alike _ _ _ one.traces.untouched) two.traces in
     let traces = traces_then is_marking (SweepsBy (world_of t.pass)) t.pass u.pass v.pass one.traces next in
     record {
       table = two.table ∙ one.table;
       op = two.op ∙ one.op;
       sweeping = two.sweeping;
       traces = traces;
-      looked =
-          looks_in_parts one.traces.does two.traces.does traces.does
-          ∙ ap (λ xs. xs ++ heap_looks two.traces.does) one.looked ∙ ap (λ xs. ns ++ xs) two.looked;
+      looked = cc (looks_in_parts one.traces.does two.traces.does traces.does, one.looked, two.looked);
     }
 
 -- A part that looks at no heap word, before or after.
@@ -166,15 +160,13 @@ module _ {value : ℕ} {t u : TurnState} (l : LooksForCell value t u) (sweeping 
 -- The hand stays, through looks that leave it.
 pub hand_kept : {t u : TurnState} {ns : List ℕ} {n : ℕ} → SweepsOn t u ns → hand_of u.pass ≡ hand_of t.pass
     → HasInHand t.pass n → HasInHand u.pass n
-hand_kept {t} {u} {n} on same h =
-    record {
-      hand = h.hand;
-      is = same ∙ h.is;
-      value = h.value;
-      found = subst (λ (x : Config). IsSweptValue x (world_of u.pass) n) (sym (ap (λ (x : WordsState). x.config)
-          on.table))
-          (value_alike t.pass.table.config (world_of t.pass) (world_of u.pass) (sym on.traces.untouched) n h.found);
-    }
+hand_kept {t} {u} {n} on same h = record {
+  hand = h.hand;
+  is = same ∙ h.is;
+  value = h.value;
+  found = subst (λ (x : Config). IsSweptValue x (world_of u.pass) n) (sym (ap (λ (x : WordsState). x.config)
+      on.table)) (value_alike _ _ _ (sym on.traces.untouched) n h.found);
+}
 
 pub reached_within : {p : PassState} {cell : Cell} → IsReachedCell p cell
     → (cell.page < p.table.config.pages) × (cell.index < 64)
@@ -183,9 +175,8 @@ reached_within {p} {cell} r = pointed_within p.table.config.pages (still_words p
 pub may_mark_reached : {p : PassState} {cell : Cell} → IsWanted p → HoldsAll p.table.config (now_of p) p.seat
     → IsReachedCell p cell → IsEnabledTo p (Step.Mark cell.page (2 ^ cell.index))
 may_mark_reached {p} {cell} wanted all r =
-    may_mark_by_hand p wanted all cell
-    (marks_by p.table.config.pages (now_of p).words (hand_of p) r.value cell r.in_hand.hand r.in_hand.is r.in_hand.value
-    r.points) (reached_within r).0
+    may_mark_by_hand p wanted all cell (marks_by _ (now_of p).words _ r.value cell r.in_hand.hand r.in_hand.is
+    r.in_hand.value r.points) (reached_within r).0
 
 -- what a look at a root gives, and one at a scanned word
 
@@ -240,14 +231,11 @@ module _ (p q : PassState) (sweeping : IsSweeping p) (all : HoldsAll p.table.con
         && is_mapped_cell (world_at acts.makes).now.words (world_at acts.makes).now.seats.holding.placing
         (cell_of_allocation p.table.config (placed_at (world_of p).allocations scanned.number))) ≡ true
     mapped_now =
-        and_from (is_in_stop p.table.config.callers m.words p.seat) (is_mapped_cell m.words m.seats.holding.placing
-        cell)
-        (and_from (is_phase m.words 2) (others_are_held p.table.config.callers m.words p.seat)
-        (eq-eqb (phase_of m.words) 2 (phase_there p q (Step.Look (Word.Heap n)) acts sweeping.wanted all))
+        and_from _ _ (and_from _ _ (eq-eqb _ 2 (phase_there p q (Step.Look (Word.Heap n)) acts sweeping.wanted all))
         (ap (λ (w : Words). others_are_held p.table.config.callers w p.seat) still ∙ all.1))
         (ap (λ (w : Words). is_mapped_cell w m.seats.holding.placing cell) still
-        ∙ ap (λ (x : Holding). is_mapped_cell (now_of p).words x.placing cell) acts.holding
-        ∙ mapped_cell p.table.config p.seen history sweeping.settled scanned.number scanned.scanned)
+        ∙ ap (λ (x : Holding). is_mapped_cell (now_of p).words x.placing cell) acts.holding ∙ mapped_cell _ _ history
+        sweeping.settled scanned.number scanned.scanned)
 
     -- some hand, whether the cell is marked or not
     given : (value : ℕ) → (h : Hand) × (hand_given p.table.config (world_at acts.makes).now p.seat (Word.Heap n) value
@@ -256,12 +244,7 @@ module _ (p q : PassState) (sweeping : IsSweeping p) (all : HoldsAll p.table.con
       where
         to_cell : hand_given p.table.config (world_at acts.makes).now p.seat (Word.Heap n) value
             ≡ gives false (is_marked m.words cell) true value
-        to_cell =
-            ap (option_and_then (λ (x : Cell). hand_of_cell m.words
-            (is_in_stop p.table.config.callers m.words p.seat) m.seats.holding.placing x value)) pointed_now
-            ∙ ap (λ (b : Bool). gives b (is_marked m.words cell) (is_in_stop p.table.config.callers m.words p.seat
-            && is_mapped_cell m.words m.seats.holding.placing cell) value) bare_now
-            ∙ ap (λ (b : Bool). gives false (is_marked m.words cell) b value) mapped_now
+        to_cell = cc (pointed_now, bare_now, mapped_now)
 
         by : (b : Bool) → is_marked m.words cell ≡ b
             → (h : Hand) × (hand_given p.table.config (world_at acts.makes).now p.seat (Word.Heap n) value ≡ Some h)

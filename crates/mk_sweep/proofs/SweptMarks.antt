@@ -43,11 +43,8 @@ module _ (p : PassState) (t u : TurnState) (n : ℕ) (waited : Counted is_waitin
     (words_below (still_words t.pass) t.pass.table.config.pages)) where
   pub whole : Counted is_tracing (SweepsBy (world_of p)) is_want p u.pass 1
   whole =
-      wanted_once_then (SweepsBy (world_of p)) p t.pass u.pass
-      (counted_by_kinds is_waiting TracesReached (SweepsBy (world_of p)) is_want p t.pass 1
-      (waits (world_of p) p.table.config) waited)
-      (traces_alike is_marking (SweepsBy (world_of t.pass)) (SweepsBy (world_of p)) t.pass u.pass
-      (rule_alike t.pass.table.config (world_of t.pass) (world_of p) waited.traces.untouched) on.traces)
+      wanted_once_then _ p _ _ (counted_by_kinds is_waiting TracesReached _ is_want p _ 1 (waits _ _) waited)
+      (traces_alike is_marking _ _ _ _ (rule_alike _ _ _ waited.traces.untouched) on.traces)
 
   words_of_all : heap_looks whole.traces.does ≡ words_below (still_words t.pass) t.pass.table.config.pages
   words_of_all =
@@ -94,17 +91,16 @@ module _ (p : PassState) (t u : TurnState) (n : ℕ) (waited : Counted is_waitin
       x.points.1) ∙ value_well x.value x.found
 
   pub sweeps : n ≡ length (words_below (still_words t.pass) t.pass.table.config.pages) → Sweeps p u.pass n
-  sweeps is =
-      record {
-        traces = whole.traces;
-        never_twice = λ k. subst (λ ns. times k ns ≤ 1) (sym words_of_all)
-            (never_twice t.pass.table.config t.pass.seen early sweeping.settled k);
-        each = λ k x. ap (λ ns. times k ns) words_of_all
-            ∙ looked_at_once t.pass.table.config t.pass.seen early sweeping.settled k (scanned_there k x);
-        counted = is ∙ sym (ap length words_of_all);
-        words = is ∙ all_words_are;
-        swept = swept_is_marked;
-      }
+  sweeps is = record {
+    traces = whole.traces;
+    never_twice = λ k. subst (λ ns. times k ns ≤ 1) (sym words_of_all)
+        (never_twice t.pass.table.config t.pass.seen early sweeping.settled k);
+    each = λ k x. ap (λ ns. times k ns) words_of_all
+        ∙ looked_at_once t.pass.table.config t.pass.seen early sweeping.settled k (scanned_there k x);
+    counted = is ∙ sym (ap length words_of_all);
+    words = is ∙ all_words_are;
+    swept = swept_is_marked;
+  }
 
   pub closes : HoldsAll u.pass.table.config (now_of u.pass) u.pass.seat
       → ((pg : ℕ) → pg < u.pass.table.config.pages → PageIsBlack (still_words u.pass) pg)

@@ -2,8 +2,8 @@
 use Rattle.std.proofs.lemmas.List.Elements.{Contains-append_cases, Contains-push_cases}
 use Rattle.std.specs.List.{range_with_len}
 use Rattle.mk_sweep.proofs.Vocabulary.{MarksMore, PointWell, Words, cells_under, has_bit, has_no_pointers, head_page}
-use Rattle.mk_sweep.proofs.Vocabulary.{header_at, header_in, header_of, points_well, used_at, word_points_well}
-use Rattle.mk_sweep.proofs.Vocabulary.{words_below, words_if, words_of_cells, words_on, words_under}
+use Rattle.mk_sweep.proofs.Vocabulary.{header_at, header_in, header_of, points_well, used_at, words_below, words_if}
+use Rattle.mk_sweep.proofs.Vocabulary.{words_of_cells, words_on, words_under}
 use Rattle.mk_laws.proofs.Vocabulary.{Header, Later, List, Option, Some, ℕ, ap, arith, false, head_page_under, inl, inr}
 use Rattle.mk_laws.proofs.Vocabulary.{slice_index, suc, sym, true, zero, [], ◌*◌, ◌++◌, ◌+◌, ◌∙◌, ◌∷◌, ◌≡◌, ◌≤◌}
 use Rattle.mk_tracing.proofs.MoreMarks.{well_more}
@@ -69,7 +69,5 @@ pub one_well : (pages : ℕ) {w v : Words} (ns : List ℕ) (m value : ℕ) → M
     → value ≡ slice_index w.heap m → points_well pages v value ≡ true → PointWell pages v (ns ++ m ∷ [])
 one_well pages {v} ns m value more one is well n inside = elim (Contains-push_cases ns m n inside) [
   | inl early ↦ still_well pages ns more one n early
-  | inr at ↦ ap (λ k. word_points_well pages v k) (sym at)
-      ∙ ap (λ (y : Words). points_well pages v (slice_index y.heap m)) more.is
-      ∙ ap (λ u. points_well pages v u) (sym is) ∙ well
+  | inr at ↦ cc (at, more.is, is, well)
 ]

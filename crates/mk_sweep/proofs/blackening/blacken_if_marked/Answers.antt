@@ -31,9 +31,7 @@ blackened : (c : After-black)
 blackened c = grind (arith, black_words)
 
 pub returns-clause-more : goal.returns-clause-more
-returns-clause-more c =
-    blacks_added (still_words c.args.stop.now.pass) (still_words c.black.new.self.pass) c.args.cell.page _
-    (blackened (goal.at.returns-clause-more c).After-black)
+returns-clause-more c = blacks_added _ _ _ _ (blackened (goal.at.returns-clause-more c).After-black)
 
 pub returns-clause-black : goal.returns-clause-black
 returns-clause-black c marked =

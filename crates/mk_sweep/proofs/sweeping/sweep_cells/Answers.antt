@@ -59,9 +59,8 @@ loop-index-preserved c =
       on = subst (λ ns. SweepsOn c.args.stop.now c.sweep_if_used-looks.new.stop ns) more
           (sweeps_then c.loop-index.invariant.on on);
       more = more_then w v x c.loop-index.invariant.more c.sweep_if_used-looks.ensures.more;
-      well = subst (λ ns. PointWell c.args.words.now.config.pages x ns) more
-          (both_well c.args.words.now.config.pages before here c.sweep_if_used-looks.ensures.more
-          c.loop-index.invariant.well well);
+      well = subst (λ ns. PointWell c.args.words.now.config.pages x ns) more (both_well _ before here
+          c.sweep_if_used-looks.ensures.more c.loop-index.invariant.well well);
       looks =
           ap (λ k. k + c.sweep_if_used-looks.result) c.loop-index.invariant.looks ∙ ap (λ k. length before + k)
           (c.sweep_if_used-looks.ensures.looks ∙ ap (λ (b : Bool). length (if_used b)) c.has_bit.ensures)

@@ -22,13 +22,10 @@ loop-page-preserved c =
           (sweeps_then c.loop-page.invariant.on
           (subst (λ ns. SweepsOn c.loop-page.stop c.sweep_page-looks.new.stop ns) same c.sweep_page-looks.ensures.on));
       more = more_then w v x c.loop-page.invariant.more c.sweep_page-looks.ensures.more;
-      well = subst (λ ns. PointWell c.args.words.now.config.pages x ns) more
-          (both_well c.args.words.now.config.pages before here c.sweep_page-looks.ensures.more
-          c.loop-page.invariant.well
-          (subst (λ ns. PointWell c.args.words.now.config.pages x ns) same c.sweep_page-looks.ensures.well));
-      looks =
-          ap (λ k. k + c.sweep_page-looks.result) c.loop-page.invariant.looks ∙ ap (λ k. length before + k)
-          (c.sweep_page-looks.ensures.looks ∙ ap length same) ∙ sym (length-append before here) ∙ ap length more;
+      well = subst (λ ns. PointWell c.args.words.now.config.pages x ns) more (both_well _ before here
+          c.sweep_page-looks.ensures.more c.loop-page.invariant.well (subst (λ ns. PointWell
+          c.args.words.now.config.pages x ns) same c.sweep_page-looks.ensures.well));
+      looks = cc (c.loop-page.invariant.looks, c.sweep_page-looks.ensures.looks, same, length-append before here, more);
       few =
           let so_far = c.loop-page.invariant.few in
           let here_few = c.sweep_page-looks.ensures.few in
