@@ -34,25 +34,30 @@ pub sweeping_behind : {p q : PassState} → Counted is_waiting TracesReached is_
     → IsFreeForCycle p → phase_of (now_of p).words ≡ 1 → IsSweeping q
 sweeping_behind {p} {q} waited wanted free one = grind (arith, settled_kept, ne_eqb, gone_is_unmapped)
 
-module _ (p : PassState) (t u : TurnState) (n : ℕ) (waited : Counted is_waiting TracesReached is_want p t.pass 1)
-    (sweeping : IsSweeping t.pass) (early : IsHistory t.pass.table.config t.pass.seen)
-    (history : IsHistory u.pass.table.config u.pass.seen)
-    (on : SweepsOn t u (words_below (still_words t.pass) t.pass.table.config.pages))
-    (closed : CellsAreClosed u.pass.table.config (still_words u.pass))
-    (well : PointWell u.pass.table.config.pages (still_words u.pass)
-    (words_below (still_words t.pass) t.pass.table.config.pages)) where
+-- The sweep of a stop, from the want of the close on: it begins after the wait, and ends where the marks may be closed.
+pub record SweepsInStop (p : PassState) (t u : TurnState) : Type 0 where
+  pub waited : Counted is_waiting TracesReached is_want p t.pass 1
+  pub sweeping : IsSweeping t.pass
+  pub early : IsHistory t.pass.table.config t.pass.seen
+  pub history : IsHistory u.pass.table.config u.pass.seen
+  pub on : SweepsOn t u (words_below (still_words t.pass) t.pass.table.config.pages)
+  pub closed : CellsAreClosed u.pass.table.config (still_words u.pass)
+  pub well : PointWell u.pass.table.config.pages (still_words u.pass)
+      (words_below (still_words t.pass) t.pass.table.config.pages)
+
+module _ {p : PassState} {t u : TurnState} (s : SweepsInStop p t u) where
   pub whole : Counted is_tracing (SweepsBy (world_of p)) is_want p u.pass 1
   whole =
-      wanted_once_then _ p _ _ (counted_by_kinds is_waiting TracesReached _ is_want p _ 1 (waits _ _) waited)
-      (traces_alike is_marking _ _ _ _ (rule_alike _ _ _ waited.traces.untouched) on.traces)
+      wanted_once_then _ p _ _ (counted_by_kinds is_waiting TracesReached _ is_want p _ 1 (waits _ _) s.waited)
+      (traces_alike is_marking _ _ _ _ (rule_alike _ _ _ s.waited.traces.untouched) s.on.traces)
 
   words_of_all : heap_looks whole.traces.does ≡ words_below (still_words t.pass) t.pass.table.config.pages
   words_of_all =
-      looks_in_parts waited.traces.does on.traces.does whole.traces.does
-      ∙ ap (λ ns. ns ++ heap_looks on.traces.does) (looks_of_waiting waited.traces.does) ∙ on.looked
+      looks_in_parts s.waited.traces.does s.on.traces.does whole.traces.does
+      ∙ ap (λ ns. ns ++ heap_looks s.on.traces.does) (looks_of_waiting s.waited.traces.does) ∙ s.on.looked
 
   table : t.pass.table ≡ p.table
-  table = ap (λ (x : PassState). x.table) waited.traces.does.is
+  table = ap (λ (x : PassState). x.table) s.waited.traces.does.is
 
   scanned_there : (k : ℕ) → IsScannedWord p.table.config (world_of p).allocations k
       → IsScannedWord t.pass.table.config (world_of t.pass).allocations k
@@ -65,9 +70,9 @@ module _ (p : PassState) (t u : TurnState) (n : ℕ) (waited : Counted is_waitin
   all_words_are : length (words_below (still_words t.pass) t.pass.table.config.pages)
       ≡ scanned_words p.table.config (world_of p).allocations
   all_words_are =
-      as_many t.pass.table.config t.pass.seen early sweeping.settled
+      as_many t.pass.table.config t.pass.seen s.early s.sweeping.settled
       ∙ ap (λ (y : WordsState). scanned_words y.config (world_of t.pass).allocations) table
-      ∙ ap (λ (x : Untouched). scanned_words p.table.config x.allocations) waited.traces.untouched
+      ∙ ap (λ (x : Untouched). scanned_words p.table.config x.allocations) s.waited.traces.untouched
 
   value_well : (v : ℕ) → IsSweptValue u.pass.table.config (world_of u.pass) v
       → points_well u.pass.table.config.pages (now_of u.pass).words v ≡ true
@@ -75,8 +80,8 @@ module _ (p : PassState) (t u : TurnState) (n : ℕ) (waited : Counted is_waitin
   value_well v (InGlobal g is) = grind arith
   value_well v (InWord k scanned is) =
       ap (λ j. points_well u.pass.table.config.pages (now_of u.pass).words j) (sym is)
-      ∙ well k (some_there (words_below (still_words t.pass) t.pass.table.config.pages) k (λ z.
-      let one = looked_at_once t.pass.table.config t.pass.seen early sweeping.settled k (scanned_before k scanned) in
+      ∙ s.well k (some_there (words_below (still_words t.pass) t.pass.table.config.pages) k (λ z.
+      let one = looked_at_once t.pass.table.config t.pass.seen s.early s.sweeping.settled k (scanned_before k scanned) in
       omega arith))
 
   swept_is_marked : (i : ℕ) → IsSwept u.pass.table.config (world_of u.pass) i
@@ -85,18 +90,18 @@ module _ (p : PassState) (t u : TurnState) (n : ℕ) (waited : Counted is_waitin
   swept_is_marked i x =
       let c : Config = u.pass.table.config in
       let a : PlacedAllocation = placed_at (world_of u.pass).allocations i in
-      let st = allocations_stand c u.pass.seen history i x.points.0 in
-      marked_where_its_cell_is c (now_of u.pass).words a history.within_limits st.stands st.headers
-      ∙ sym (points_well_where_marked c (now_of u.pass).words a history.within_limits st.stands st.headers x.value
+      let st = allocations_stand c u.pass.seen s.history i x.points.0 in
+      marked_where_its_cell_is c (now_of u.pass).words a s.history.within_limits st.stands st.headers
+      ∙ sym (points_well_where_marked c (now_of u.pass).words a s.history.within_limits st.stands st.headers x.value
       x.points.1) ∙ value_well x.value x.found
 
-  pub sweeps : n ≡ length (words_below (still_words t.pass) t.pass.table.config.pages) → Sweeps p u.pass n
-  sweeps is = record {
+  pub sweeps : (n : ℕ) → n ≡ length (words_below (still_words t.pass) t.pass.table.config.pages) → Sweeps p u.pass n
+  sweeps n is = record {
     traces = whole.traces;
     never_twice = λ k. subst (λ ns. times k ns ≤ 1) (sym words_of_all)
-        (never_twice t.pass.table.config t.pass.seen early sweeping.settled k);
+        (never_twice t.pass.table.config t.pass.seen s.early s.sweeping.settled k);
     each = λ k x. ap (λ ns. times k ns) words_of_all
-        ∙ looked_at_once t.pass.table.config t.pass.seen early sweeping.settled k (scanned_there k x);
+        ∙ looked_at_once t.pass.table.config t.pass.seen s.early s.sweeping.settled k (scanned_there k x);
     counted = is ∙ sym (ap length words_of_all);
     words = is ∙ all_words_are;
     swept = swept_is_marked;
@@ -109,15 +114,15 @@ module _ (p : PassState) (t u : TurnState) (n : ℕ) (waited : Counted is_waitin
   closes all black clean =
       let d : Does is_tracing p u.pass = whole.traces.does in
       let wider = counted_wider is_tracing closes_marks (SweepsBy (world_of p)) is_want p u.pass 1 closing_kind whole in
-      let close = may_close_now u.pass on.sweeping.wanted all
+      let close = may_close_now u.pass s.on.sweeping.wanted all
       (λ pg lt. no_gray (still_words u.pass) pg (black pg lt)) clean
-      (record { registers = closed.registers; globals = closed.globals }) in
+      (record { registers = s.closed.registers; globals = s.closed.globals }) in
       record {
         does = wider.traces.does;
         one_want = same_count (done_in p wider.traces.does.more) ∙ wider.count;
         keeps = keeps_turn p u.pass (d.is ∙ ap (λ (x : PassState). record p { seen = x.seen }) (sym d.is))
             whole.traces.untouched whole.traces.counts;
-        phase = on.sweeping.wanted.phase;
+        phase = s.on.sweeping.wanted.phase;
         close = close;
-        closed = marks_closed_now u.pass history close;
+        closed = marks_closed_now u.pass s.history close;
       }
