@@ -28,19 +28,19 @@ sum_below (suc n) f = sum_below n f + f n
 pub white_cells : ℕ → List ℕ → ℕ
 white_cells pages blacks = sum_below pages (λ p. misses 32 (has_bit (slice_index blacks p)))
 
+less_where_more : (a b : Bool) → (a ≡ true → b ≡ true) → one_unless b ≤ one_unless a
+less_where_more true true h = omega arith
+less_where_more true false h = absurd (true≢false (sym (h refl)))
+less_where_more false true h = omega arith
+less_where_more false false h = omega arith
+
 misses_less : (n : ℕ) (before after : ℕ → Bool) → ((k : ℕ) → before k ≡ true → after k ≡ true)
     → misses n after ≤ misses n before
 unfolding misses
 misses_less zero before after grow = omega arith
 misses_less (suc n) before after grow =
     let less = misses_less n before after grow in
-    let here = by (before n) (after n) (grow n) in omega arith
-  where
-    by : (a b : Bool) → (a ≡ true → b ≡ true) → one_unless b ≤ one_unless a
-    by true true h = omega arith
-    by true false h = absurd (true≢false (sym (h refl)))
-    by false true h = omega arith
-    by false false h = omega arith
+    let here = less_where_more (before n) (after n) (grow n) in omega arith
 
 misses_fewer : (n i : ℕ) (before after : ℕ → Bool) → ((k : ℕ) → before k ≡ true → after k ≡ true) → i < n
     → before i ≡ false → after i ≡ true
@@ -51,7 +51,7 @@ misses_fewer (suc n) i before after grow lt no_more now = elim (cases_lt i n) [
   | inl below ↦
       let fewer = misses_fewer n i before after grow below no_more now in
       let last = misses_less (suc n) before after grow in
-      let less = by (before n) (after n) (grow n) in omega arith
+      let less = less_where_more (before n) (after n) (grow n) in omega arith
   | inr here ↦
       let at : i ≡ n = omega arith in
       let less = misses_less n before after grow in
@@ -59,12 +59,6 @@ misses_fewer (suc n) i before after grow lt no_more now = elim (cases_lt i n) [
       let none : one_unless (after n) ≡ 0 = ap one_unless (ap after (sym at) ∙ now) in
       omega arith
 ]
-  where
-    by : (a b : Bool) → (a ≡ true → b ≡ true) → one_unless b ≤ one_unless a
-    by true true h = omega arith
-    by true false h = absurd (true≢false (sym (h refl)))
-    by false true h = omega arith
-    by false false h = omega arith
 
 sums_less : (n : ℕ) (f g : ℕ → ℕ) → ((p : ℕ) → g p ≤ f p) → sum_below n g ≤ sum_below n f
 unfolding sum_below
