@@ -5,13 +5,13 @@ use Rattle.mk_laws.proofs.Vocabulary.{Option, Place, Placing, Some, Steady, Step
 use Rattle.mk_laws.proofs.Vocabulary.{and_parts, ap, arith, cases_lt, cells_under, chosen, eqb-true, false}
 use Rattle.mk_laws.proofs.Vocabulary.{false_from_ne_true, flight_of, found, get_or-set_other, get_or-set_same}
 use Rattle.mk_laws.proofs.Vocabulary.{get_or_past, has_gates, header_at, header_of, histories_keep_lengths}
-use Rattle.mk_laws.proofs.Vocabulary.{if◌then◌else◌, inl, inr, is_held, is_marked, is_number_of, is_phase, is_some_and}
+use Rattle.mk_laws.proofs.Vocabulary.{if◌then◌else◌, inl, inr, is_held, is_marked, is_number_of, is_some_and}
 use Rattle.mk_laws.proofs.Vocabulary.{is_unmarked, length, lt-ltb, marks_place, nat_lt, not, object_made, or_else}
 use Rattle.mk_laws.proofs.Vocabulary.{page_at_address, phase_of, place_now, pointed_cell, points_well, refl, set_past}
-use Rattle.mk_laws.proofs.Vocabulary.{slice_index, slice_set, subst, sym, true, world_behind, [], ◌&&◌, ◌++◌, ◌<◌, ◌==◌}
-use Rattle.mk_laws.proofs.Vocabulary.{◌^◌, ◌||◌, ◌∙◌, ◌∷◌, ◌≡◌, ◌≢◌}
+use Rattle.mk_laws.proofs.Vocabulary.{slice_index, slice_set, subst, sym, true, world_behind, [], ◌++◌, ◌<◌, ◌==◌, ◌^◌}
+use Rattle.mk_laws.proofs.Vocabulary.{◌||◌, ◌∙◌, ◌∷◌, ◌≡◌, ◌≢◌}
 use Rattle.mk_core.proofs.PointedPages.{pointed_within}
-use Rattle.mk_core.specs.{Effects.hand_given, Frames.steady_of, Growing.Finding, NewPlaces.bits_made, Ranges.is_word}
+use Rattle.mk_core.specs.{Effects.hand_given, Frames.steady_of, Growing.Finding, Ranges.is_word}
 use Rattle.mk_core.specs.{StopConditions.marks_by_hand, Words.named_word, declared.seats.Source.TheVariants.Root}
 use Rattle.mk_laws.proofs.Changes.{headers_kind, is_head, marks_kind}
 use Rattle.mk_laws.proofs.{LastEvents.stands, Wells.is_well, Wells.well_is, Wells.wells_from}
@@ -78,9 +78,7 @@ module _ (p : PassState) (t : InTurn p) (b : IsBeside p) where
 
   hand_marks : (cell : Cell) (r : HandPointsInto p cell)
       → marks_by_hand p.table.config.pages (now_of p).words (hand_of p) cell.page (2 ^ cell.index) ≡ true
-  hand_marks cell r =
-      marks_by p.table.config.pages (now_of p).words
-      (hand_of p) r.value cell r.in_hand.hand r.in_hand.is r.in_hand.value r.points
+  hand_marks cell r = grind (arith, marks_by)
 
   pub may_mark_beside : (cell : Cell) → HandPointsInto p cell → IsEnabledTo p (Step.Mark cell.page (2 ^ cell.index))
   may_mark_beside cell r =
@@ -174,10 +172,7 @@ module _ (t u : TurnState) (b : IsBeside t.pass) (same : u.op ≡ t.op) where
 module _ (p q : PassState) (x : Word) (a : Acts p (Step.Look x) q) where
   hand_now : hand_of q ≡ or_else (hand_given p.table.config (world_at a.makes).now p.seat x
       (found p.table.config (world_at a.makes).now (event_of p (Step.Look x)))) (hand_of p)
-  hand_now =
-      ap (λ (w : World). w.now.seats.holding.hand) a.world
-      ∙ ap (λ (h : Holding). or_else (hand_given p.table.config (world_at a.makes).now p.seat x
-      (found p.table.config (world_at a.makes).now (event_of p (Step.Look x)))) h.hand) a.holding
+  hand_now = grind arith
 
   pub root_hand : (n : ℕ) → Finds p (Step.Look x) n q → is_root x ≡ true → IsInHand q n
   root_hand n f root =
@@ -207,9 +202,7 @@ module _ {value : ℕ} {t u : TurnState} (l : LooksForCell value t u) where
       (λ a. goes_look t u b l.op (Word.Head (page_at_address value)) a refl)
 
   pub gates_for_cell : KeepsGates t.pass u.pass
-  gates_for_cell =
-      looked_for (λ (v : TurnState). KeepsGates t.pass v.pass) l (gates_at_once t.pass)
-      (λ a. gates_behind t.pass (Step.Look (Word.Head (page_at_address value))) u.pass a refl)
+  gates_for_cell = grind (arith, looked_for, gates_at_once, gates_behind)
 
 -- A mark by the hand: the cell's page has a header, so it isn't the place of a New.
 
@@ -219,11 +212,7 @@ no_header n z = ap (λ (i : ℕ). cells_under (header_of i)) z
 no_place : (w : Words) (o : Object) (place : Option Place) (page value : ℕ) → header_at w page ≢ 0
     → marks_place w o place page value ≡ false
 no_place w o None page value ne = refl
-no_place w o (Some x) page value ne =
-    false_from_ne_true (marks_place w o (Some x) page value) (λ h.
-    let parts = and_parts (is_phase w 1 && (page == x.page) && (header_at w page == 0)) (value == bits_made o) h in
-    let two = and_parts (is_phase w 1 && (page == x.page)) (header_at w page == 0) parts.0 in
-    ne (eqb-true (header_at w page) 0 two.1))
+no_place w o (Some x) page value ne = grind (arith, false_from_ne_true, and_parts, eqb-true)
 
 module _ (t u : TurnState) (b : IsBeside t.pass) (same : u.op ≡ t.op)
     (cell : Cell) (a : Acts t.pass (Step.Mark cell.page (2 ^ cell.index)) u.pass) (r : HandPointsInto t.pass cell) where
@@ -304,10 +293,7 @@ module _ (p : PassState) (s : Step) (q : PassState) (a : Acts p s q) where
   others_behind : (caller : ℕ) → ((j : ℕ) → j ≢ caller
       → slice_index (world_behind p.table.config (world_at a.makes) (event_of p s)).now.words.gates j
       ≡ slice_index (world_at a.makes).now.words.gates j) → KeepsOtherGates caller p q
-  others_behind caller same j lt ne =
-      ap (λ (w : World). is_held w.now.words j) a.world
-      ∙ ap (λ (n : ℕ). n == 2) (same j ne)
-      ∙ held_so _ _ (a.turn.held_gates j) (a.turn.other_gates j)
+  others_behind caller same j lt ne = grind (arith, held_so)
 
 pub hold_others : (p : PassState) (caller : ℕ) (q : PassState) → Acts p (Step.Hold caller) q
     → KeepsOtherGates caller p q
@@ -323,5 +309,4 @@ open_others p caller q a =
 
 pub opened : (p : PassState) (caller : ℕ) (q : PassState) → Acts p (Step.Open caller) q
     → is_held (now_of q).words caller ≡ false
-opened p caller q a =
-    ap (λ (w : World). is_held w.now.words caller) a.world ∙ open_at (world_at a.makes).now.words.gates caller
+opened p caller q a = grind (arith, open_at)
