@@ -98,9 +98,7 @@ module _ (p : PassState) (xs : List Event) (r : PassState) where
   looked_first x d here =
       let q : PassState = record p { seen = p.seen ++ xs } in
       let test : Finding → Bool = λ (f : Finding). looks_at x f.event.step in
-      ap (λ (fs : List Finding). list_any test fs) (done_then p xs r d.more d.is)
-      ∙ list_any-append test (done_since p q) (done_since q r)
-      ∙ ap (λ (b : Bool). b || list_any test (done_since q r)) here
+      cc (done_then p xs r d.more d.is, list_any-append test (done_since p q) (done_since q r), here)
 
   looked_second : (x : Word) → Does begins_marking (record p { seen = p.seen ++ xs }) r
       → LooksAt x (record p { seen = p.seen ++ xs }) r → LooksAt x p r
@@ -119,13 +117,12 @@ beside_then p q r a b =
     (two_parts p a.does.more r) a b
 
 pub goes_then : (t u v : TurnState) → GoesBeside t u → GoesBeside u v → GoesBeside t v
-goes_then t u v a b =
-    record {
-      table = b.table ∙ a.table;
-      op = b.op ∙ a.op;
-      beside = b.beside;
-      marks = beside_then t.pass u.pass v.pass a.marks b.marks;
-    }
+goes_then t u v a b = record {
+  table = b.table ∙ a.table;
+  op = b.op ∙ a.op;
+  beside = b.beside;
+  marks = beside_then t.pass u.pass v.pass a.marks b.marks;
+}
 
 -- A root was looked at in the first part, or in the second.
 
@@ -169,7 +166,7 @@ module _ (x : Word) (n : ℕ) (t u v : TurnState) (beside : IsBeside t.pass) (f 
 
   pub root_looked : is_root x ≡ true → LooksAt x t.pass v.pass
   root_looked root =
-      looked_then x t.pass u.pass v.pass f.does b.marks.does
+      looked_then x _ _ _ f.does b.marks.does
       (ap (λ (fs : List Finding). list_any (λ (g : Finding). looks_at x g.event.step) fs) f.done
       ∙ ap (λ (c : Bool). c || false) (same_root x root))
 
@@ -246,10 +243,9 @@ no_root_yet {t} beside = grind (arith, goes_nowhere, gates_at_once)
 
 pub next_root : {t u v : TurnState} {root : ℕ → Word} {i : ℕ} → RootsLooked t u root i → GoesBeside u v
     → KeepsGates u.pass v.pass → LooksAt (root i) u.pass v.pass → RootsLooked t v root (i + 1)
-next_root {t} {u} {v} {root} {i} before on gates here =
-    record {
-      on = goes_then t u v before.on on;
-      gates = gates_on t u v before.on before.gates gates;
-      looked = below_more _ _ (λ k lt. looked_on (root k) t u v before.on on (before.looked k lt))
-          (on_looked (root i) t u v before.on on here);
-    }
+next_root {t} {u} {v} {root} {i} before on gates here = record {
+  on = goes_then t u v before.on on;
+  gates = gates_on t u v before.on before.gates gates;
+  looked = below_more _ _ (λ k lt. looked_on (root k) t u v before.on on (before.looked k lt))
+      (on_looked (root i) t u v before.on on here);
+}
