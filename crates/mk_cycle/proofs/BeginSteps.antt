@@ -1,10 +1,10 @@
 -- The `begin` of a cycle, and the calls around it.
 use Rattle.std.proofs.Common.{filter}
-use Rattle.mk_laws.proofs.Vocabulary.{Bool, Config, List, PlacedAllocation, Steady, Step, Storage, TalliesAreTidy}
-use Rattle.mk_laws.proofs.Vocabulary.{World, ℕ, all_below, all_below_more_is, all_below_zero_is, and_from, ap, arith}
-use Rattle.mk_laws.proofs.Vocabulary.{eq-eqb, false, has_clean_page, if◌then◌else◌, is_mapped, length, map}
-use Rattle.mk_laws.proofs.Vocabulary.{no_longer_fresh, refl, slice_index, storage_of, subst, suc, sym, true, zero, []}
-use Rattle.mk_laws.proofs.Vocabulary.{◌%◌, ◌&&◌, ◌+◌, ◌/◌, ◌<◌, ◌==◌, ◌^◌, ◌∙◌, ◌∷◌, ◌≡◌, ◌≤◌}
+use Rattle.mk_laws.proofs.Vocabulary.{Bool, Config, List, PlacedAllocation, Step, Storage, TalliesAreTidy, World, ℕ}
+use Rattle.mk_laws.proofs.Vocabulary.{all_below, all_below_more_is, all_below_zero_is, and_from, ap, arith, eq-eqb}
+use Rattle.mk_laws.proofs.Vocabulary.{false, has_clean_page, if◌then◌else◌, is_mapped, length, map, no_longer_fresh}
+use Rattle.mk_laws.proofs.Vocabulary.{refl, slice_index, storage_of, subst, suc, sym, true, zero, [], ◌%◌, ◌&&◌, ◌+◌}
+use Rattle.mk_laws.proofs.Vocabulary.{◌/◌, ◌<◌, ◌==◌, ◌^◌, ◌∙◌, ◌∷◌, ◌≡◌, ◌≤◌}
 use Rattle.mk_cycle.proofs.Vocabulary.{Acts, Cleans, CountsAreLeft, InTurn, IsAtPhase, IsClean, IsEnabledTo}
 use Rattle.mk_cycle.proofs.Vocabulary.{IsFreeForCycle, IsGone, KeepsGates, PassState, WasUndirty, call_of}
 use Rattle.mk_cycle.proofs.Vocabulary.{count_by-le-length, done_of, held_by_allocations, made, now_of, releases, stands}
@@ -108,9 +108,6 @@ module _ (p q : PassState) (t : InTurn p) (free : IsFreeForCycle p) (none : IsAt
 
   pub begun_free : IsFreeForCycle q
   begun_free = grind (arith, begun_call, begun_done, begun_gone)
-
-  pub begun_at_one : IsAtPhase q 1
-  begun_at_one = ap (λ (s : Steady). s.phase) steady_begun
 
 snapshot_is : (b : PassState) → InTurn b → ((page : ℕ) → page < b.table.config.pages → IsClean b page)
     → (now_of b).words.snapshot ≡ (now_of b).words.freed

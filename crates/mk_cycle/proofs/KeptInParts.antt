@@ -2,7 +2,7 @@
 use Rattle.mk_laws.proofs.Vocabulary.{Config, Steady, Step, World, ℕ, ap, cases_eq, eq-eqb, has_place, inl, inr}
 use Rattle.mk_laws.proofs.Vocabulary.{is_held, ne_eqb, refl, slice_index, subst, sym, world_behind, ◌<◌, ◌==◌, ◌∙◌, ◌≡◌}
 use Rattle.mk_laws.proofs.Vocabulary.{◌≢◌}
-use Rattle.mk_cycle.proofs.Vocabulary.{Acts, Done, Has, IsFreeForCycle, KeepsCall, KeepsGates, LeavesTurn, PassState}
+use Rattle.mk_cycle.proofs.Vocabulary.{Acts, Done, IsFreeForCycle, KeepsCall, KeepsGates, LeavesTurn, PassState}
 use Rattle.mk_cycle.proofs.Vocabulary.{event_of, is_pending_free, world_at}
 
 pub calls_then : (p q r : PassState) → KeepsCall p q → KeepsCall q r → KeepsCall p r
@@ -56,9 +56,6 @@ gates_behind p s q a same j lt =
     ap (λ (w : World). is_held w.now.words j) a.world
     ∙ ap (λ gs. slice_index gs j == 2) same
     ∙ held_so _ _ (a.turn.held_gates j) (a.turn.other_gates j)
-
-pub own_then : (p q : PassState) → q ≡ record p { seen = q.seen } → Has p.seats p.seat → Has q.seats q.seat
-own_then p q is h = subst (λ (x : PassState). Has x.seats x.seat) (sym is) h
 
 pub free_then : (p q : PassState) → KeepsCall p q → IsFreeForCycle p → IsFreeForCycle q
 free_then p q k free = record {

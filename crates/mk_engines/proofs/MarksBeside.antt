@@ -9,9 +9,8 @@ use Rattle.mk_cycle.proofs.KeptInParts.{free_then, gates_then, keeps_at_once, ke
 use Rattle.mk_cycle.specs.TurnKeeps.{KeepsGates, LeavesTurn, unchanged}
 use Rattle.mk_cycle.specs.{Holding.IsHeldOrOwn, Kinds.begins_marking}
 use Rattle.mk_engines.proofs.Since.{done_then, nothing_done, nothing_keeps, rule_then}
-use Rattle.mk_engines.specs.Beside.{FindsInRoot, GoesBeside, IsBeside, IsOpenToLook, KeepsOtherGates, LooksAt}
-use Rattle.mk_engines.specs.Beside.{MarksBeside, MarksReachedAlone, StaysWell, done_since, found_well, is_same_root}
-use Rattle.mk_engines.specs.Beside.{looks_at}
+use Rattle.mk_engines.specs.Beside.{FindsInRoot, GoesBeside, IsBeside, KeepsOtherGates, LooksAt, MarksBeside}
+use Rattle.mk_engines.specs.Beside.{MarksReachedAlone, StaysWell, done_since, found_well, is_same_root, looks_at}
 use Rattle.mk_tracing.specs.{Grays.TracesReached, Stops.is_root}
 use Rattle.mk_turns.{proofs.Doing.does_nothing, proofs.Doing.does_then, specs.Doing.Does}
 use Rattle.mk_words.specs.States.{PassState, TurnState, event_of, now_of}
@@ -183,36 +182,11 @@ pub others_on : (caller : ℕ) (t u v : TurnState) → GoesBeside t u → KeepsO
     → KeepsOtherGates caller u.pass v.pass → KeepsOtherGates caller t.pass v.pass
 others_on caller t u v on a b j lt ne = grind (arith, same_config)
 
-pub gates_others : (caller : ℕ) (p q : PassState) → KeepsGates p q → KeepsOtherGates caller p q
-gates_others caller p q k j lt ne = k j lt
-
--- All but one gate is as it was, and so is the one.
-pub gates_back : (caller : ℕ) (p q : PassState) → KeepsOtherGates caller p q
-    → is_held (now_of q).words caller ≡ is_held (now_of p).words caller → KeepsGates p q
-gates_back caller p q others same j lt = grind arith
-
-pub still_own : (t u : TurnState) (caller : ℕ) → GoesBeside t u → is_number_of t.pass.seat caller ≡ false
-    → is_number_of u.pass.seat caller ≡ false
-still_own t u caller on other = grind arith
-
--- A gate that was held, or the own one, is so still.
-pub still_held : (t u : TurnState) (caller : ℕ) → GoesBeside t u → KeepsGates t.pass u.pass
-    → caller < t.pass.table.config.callers
-    → IsHeldOrOwn t.pass caller → IsHeldOrOwn u.pass caller
-still_held t u caller on gates lt h = grind arith
-
 pub held_is : (p : PassState) (caller : ℕ) → is_held (now_of p).words caller ≡ true → IsHeldOrOwn p caller
 held_is p caller h = or_right (is_number_of p.seat caller) (is_held (now_of p).words caller) h
 
 pub own_is : (p : PassState) (caller : ℕ) → is_number_of p.seat caller ≡ true → IsHeldOrOwn p caller
 own_is p caller h = ap (λ (b : Bool). b || is_held (now_of p).words caller) h
-
-pub open_register : (p : PassState) (caller register : ℕ) → IsHeldOrOwn p caller
-    → IsOpenToLook p (Word.Reg caller register)
-open_register p caller register h k r e = grind arith
-
-pub open_global : (p : PassState) (g : ℕ) → IsOpenToLook p (Word.Global g)
-open_global p g k r e = cc
 
 -- Each root was looked at.
 pub all_looked : (p q : PassState) → ((k r : ℕ) → k < p.table.config.callers → r < 8 → LooksAt (Word.Reg k r) p q)

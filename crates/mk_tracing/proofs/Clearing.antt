@@ -65,9 +65,6 @@ dirt_stays w v page e p z = ap (λ (x : Words). slice_index x.dirty p) e ∙ cle
 pub same_dirt : (w v : Words) (p : ℕ) → BlacksFewer w v → slice_index v.dirty p ≡ slice_index w.dirty p
 same_dirt w v p fewer = ap (λ (x : Words). slice_index x.dirty p) fewer.is
 
-pub not_dirty : (w v : Words) (page : ℕ) → v ≡ w → slice_index w.dirty page ≡ 0 → DirtyIsUnscanned v page
-not_dirty w v page e z = grind arith
-
 -- A dirty page whose black word is cleared, and that of its head.
 pub cleared_unscanned : (v : Words) (page : ℕ) → slice_index v.blacks page ≡ 0
     → slice_index v.blacks (head_page v page) ≡ 0 → DirtyIsUnscanned v page

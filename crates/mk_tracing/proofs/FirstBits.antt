@@ -3,7 +3,7 @@ use Rattle.std.{proofs.Common.IfNone, proofs.Common.IfSome, proofs.Common.ltb-fa
 use Rattle.std.{proofs.lemmas.Nat.Bits.bit_at-trailing_zeros, specs.Bool.then_some, specs.Int.trailing_zeros}
 use Rattle.mk_laws.proofs.Vocabulary.{Bool, Option, Words, ℕ, ap, arith, bit_at, cells_under, eq-eqb, false, has_bit}
 use Rattle.mk_laws.proofs.Vocabulary.{has_bit_without, header_at, header_of, ltb-true, nat_lt, no_bit, slice_index}
-use Rattle.mk_laws.proofs.Vocabulary.{subst, sym, true, true≢false, without, ◌<◌, ◌==◌, ◌^◌, ◌∙◌, ◌≡◌, ◌≤◌}
+use Rattle.mk_laws.proofs.Vocabulary.{subst, sym, true, without, ◌<◌, ◌==◌, ◌^◌, ◌∙◌, ◌≡◌, ◌≤◌}
 use Rattle.mk_tracing.proofs.NoGrays.{no_gray, no_gray_found}
 use Rattle.mk_tracing.specs.Grays.{AllAreBlack, HasNoGray, IsGray}
 
@@ -37,9 +37,6 @@ none_is_first cells x n o some fits lowest is =
     ap (λ b. b == 1) none)
 
 -- Each marked cell is black where no cell is marked, or none that isn't black.
-
-pub unmarked_are_black : (marks blacks n : ℕ) → marks ≡ 0 → AllAreBlack n marks blacks
-unmarked_are_black marks blacks n none k lt marked = absurd (true≢false (sym marked ∙ no_bit marks k none))
 
 pub ungray_are_black : (marks blacks n : ℕ) → ((k : ℕ) → k < n → has_bit (without marks blacks) k ≡ false)
     → AllAreBlack n marks blacks

@@ -288,11 +288,3 @@ module _ (kinds : Step → Bool) (rule : Config → Moment → Step → Type 0) 
       }
 
 -- The table, the seat and its seats stay.
-
-pub traces_table : (kinds : Step → Bool) (rule : Config → Moment → Step → Type 0) (p q : PassState)
-    → Traces kinds rule p q → q.table ≡ p.table
-traces_table kinds rule p q t = ap (λ (x : PassState). x.table) t.does.is
-
-pub traces_seat : (kinds : Step → Bool) (rule : Config → Moment → Step → Type 0) (p q : PassState)
-    → Traces kinds rule p q → q.seat ≡ p.seat
-traces_seat kinds rule p q t = ap (λ (x : PassState). x.seat) t.does.is

@@ -11,7 +11,7 @@ use Rattle.mk_tracing.proofs.Steps.{is_late, is_quiet, step_counts, step_untouch
 use Rattle.mk_tracing.proofs.Parts.{traces_step}
 use Rattle.mk_tracing.specs.Grays.{IsInHand, MarksOn, TracesReached, with_blacks, with_marks, without_blacks}
 use Rattle.mk_tracing.specs.Grays.{without_dirty}
-use Rattle.mk_tracing.specs.Stops.{IsWanted, hand_of, is_page_word, is_root, is_still_word, still_words}
+use Rattle.mk_tracing.specs.Stops.{IsWanted, hand_of, is_root, is_still_word, still_words}
 use Rattle.mk_tracing.specs.Tracing.{Traces, is_marking, untouched_of}
 use Rattle.mk_turns.proofs.PointedCells.{found_there}
 use Rattle.mk_words.specs.States.{PassState, event_of, now_of, world_of}
@@ -156,9 +156,6 @@ module _ (p q : PassState) (wanted : IsWanted p) (all : HoldsAll p.table.config 
   pub hand_now : hand_of q ≡ or_else (hand_given p.table.config (world_at a.makes).now p.seat x
       (found p.table.config (world_at a.makes).now (event_of p (Step.Look x)))) (hand_of p)
   hand_now = grind arith
-
-  pub plain_hand : is_page_word x ≡ true → hand_of q ≡ hand_of p
-  plain_hand plain = grind (arith, hand_now)
 
   pub root_hand : is_root x ≡ true → IsInHand q n
   root_hand root = grind (arith, hand_now, found_now)
