@@ -21,9 +21,7 @@ at_probe o to value = record (at_load o to) { stage = Probe; p = value }
 
 entered : (c : After-is_in_order) → let o =
     Op.SetPtr c.args.q c.args.i c.args.p in IsMidCall c.enter.new.self o (begun o)
-entered c =
-    enters c.args.pass.now c.enter.new.self (Op.SetPtr c.args.q c.args.i c.args.p) c.requires.callers
-    c.requires.admitted c.in_ok-enter.ensures.goes
+entered c = grind (arith, enters)
 
 -- the pointer that it goes through
 own : (c : After-is_in_order-2) → c.reg_load-to.result ≡ register_of c.args.pass.now c.args.q
