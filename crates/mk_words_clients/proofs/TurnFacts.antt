@@ -116,8 +116,7 @@ open_leaves p q j a h i lt two = elim (cases_eq i j) [
 pub miss_leaves : (p q : PassState) (j : ℕ) → Acts p (Step.Hold j) q → is_held (now_of q).words j ≡ false → NoneHeld p
     → NoneHeld q
 miss_leaves p q j a not_held h i lt two = elim (cases_eq i j) [
-  | inl same ↦ eqb-false (slice_index (now_of q).words.gates j) 2 not_held
-      (sym (ap (λ (k : ℕ). slice_index (now_of q).words.gates k) same) ∙ two)
+  | inl same ↦ eqb-false _ 2 not_held (sym (ap (λ (k : ℕ). slice_index (now_of q).words.gates k) same) ∙ two)
   | inr other ↦ hold_leaves p q j a h i lt other two
 ]
 
@@ -153,11 +152,8 @@ tidy_kept p q s a host h t =
     let fs : List Event = p.seen ++ a.makes.others in
     let e : Event = record { seat = Host; step = s } in
     let behind : TalliesAreTidy c (fs ++ e ∷ []) =
-    counts_tidy_more c fs e (counts_nothing c (left c fs) s h) (tidy_behind_others c p.seen fs a.turn.steady a.counts t)
-    in
-    let seen_is : q.seen ≡ fs ++ e ∷ [] =
-    ap (λ (r : PassState). r.seen) a.makes.is
-    ∙ ap (λ (x : Seat). fs ++ record { seat = x; step = s } ∷ []) host in
+    counts_tidy_more c fs e (counts_nothing c _ s h) (tidy_behind_others c _ fs a.turn.steady a.counts t) in
+    let seen_is : q.seen ≡ fs ++ e ∷ [] = cc (a.makes.is, host) in
     subst (λ (d : Config). TalliesAreTidy d q.seen) (sym (config_kept p q s a))
     (subst (λ (es : List Event). TalliesAreTidy c es) (sym seen_is) behind)
 
@@ -207,30 +203,28 @@ open_elsewhere p q j a i other =
 
 pub holds_one_more : (p q : PassState) (j : ℕ) → HoldsBelow p j → Acts p (Step.Hold j) q
     → is_held (now_of q).words j ≡ true → HoldsBelow q (j + 1)
-holds_one_more p q j h a now =
-    record {
-      held = λ i lt. elim (cases_eq i j) [
-        | inl same ↦ subst (λ (k : ℕ). is_held (now_of q).words k ≡ true) (sym same) now
-        | inr other ↦ stays_held p q (Step.Hold j) a i (hold_elsewhere p q j a i other) (h.held i (omega arith))
-      ];
-      free = λ i le lt two. (let other : i ≢ j = λ e. omega arith in
-          a.turn.other_gates i (h.free i (omega arith) (within p q (Step.Hold j) a i lt))
-          (sym (hold_elsewhere p q j a i other) ∙ two));
-    }
+holds_one_more p q j h a now = record {
+  held = λ i lt. elim (cases_eq i j) [
+    | inl same ↦ subst (λ (k : ℕ). is_held (now_of q).words k ≡ true) (sym same) now
+    | inr other ↦ stays_held p q (Step.Hold j) a i (hold_elsewhere p q j a i other) (h.held i (omega arith))
+  ];
+  free = λ i le lt two. (let other : i ≢ j = λ e. omega arith in
+      a.turn.other_gates i (h.free i (omega arith) (within p q (Step.Hold j) a i lt))
+      (sym (hold_elsewhere p q j a i other) ∙ two));
+}
 
 pub opens_last : (p q : PassState) (j : ℕ) → HoldsBelow p (j + 1) → Acts p (Step.Open j) q → HoldsBelow q j
-opens_last p q j h a =
-    record {
-      held = λ i lt. (let other : i ≢ j = λ e. omega arith in
-          stays_held p q (Step.Open j) a i (open_elsewhere p q j a i other) (h.held i (omega arith)));
-      free = λ i le lt two. elim (cases_eq i j) [
-        | inl same ↦ zero_there (world_at a.makes).now.words.gates j
-            (sym (ap (λ (k : ℕ). slice_index (slice_set (world_at a.makes).now.words.gates j 0) k) same)
-            ∙ sym (ap (λ (w : World). slice_index w.now.words.gates i) a.world) ∙ two)
-        | inr other ↦ a.turn.other_gates i (h.free i (omega arith) (within p q (Step.Open j) a i lt))
-            (sym (open_elsewhere p q j a i other) ∙ two)
-      ];
-    }
+opens_last p q j h a = record {
+  held = λ i lt. (let other : i ≢ j = λ e. omega arith in
+      stays_held p q (Step.Open j) a i (open_elsewhere p q j a i other) (h.held i (omega arith)));
+  free = λ i le lt two. elim (cases_eq i j) [
+    | inl same ↦ zero_there (world_at a.makes).now.words.gates j
+        (sym (ap (λ (k : ℕ). slice_index (slice_set (world_at a.makes).now.words.gates j 0) k) same)
+        ∙ sym (ap (λ (w : World). slice_index w.now.words.gates i) a.world) ∙ two)
+    | inr other ↦ a.turn.other_gates i (h.free i (omega arith) (within p q (Step.Open j) a i lt))
+        (sym (open_elsewhere p q j a i other) ∙ two)
+  ];
+}
 
 pub holds_none : (p : PassState) → none_is_held p.table.config.callers (now_of p).words ≡ true → HoldsBelow p 0
 holds_none p h = record { held = λ i lt. absurd (omega arith); free = λ i le lt. none_held_is p h i lt }

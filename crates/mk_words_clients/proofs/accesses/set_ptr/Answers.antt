@@ -82,11 +82,9 @@ met : (c : After-is_in_order-4) (t : WordsState) → c.reg_load-to.result ≡ re
 met c t is same =
     let n : ℕ = c.reg_load-to.result in
     let least = c.requires.points.least in
-    and_from (nat_le 65536 n) (nat_lt (heap_word_at n + c.args.i) (64 * t.config.pages)) (le-leb 65536 n (omega arith))
-    (lt-ltb (heap_word_at n + c.args.i) (64 * t.config.pages)
-    (subst (λ (x : WordsState). heap_word_at n + c.args.i < 64 * x.config.pages) (sym same)
-    (subst (λ (x : ℕ). heap_word_at x + c.args.i < 64 * c.args.pass.now.table.config.pages) (sym is)
-    c.requires.points.word)))
+    and_from _ _ (le-leb 65536 n (omega arith)) (lt-ltb _ (64 * t.config.pages)
+    (subst (λ (x : WordsState). heap_word_at n + c.args.i < 64 * x.config.pages) (sym same) (subst
+    (λ (x : ℕ). heap_word_at x + c.args.i < 64 * c.args.pass.now.table.config.pages) (sym is) c.requires.points.word)))
 
 probed_table : (c : After-is_in_order-4) → c.probe-header.new.self.table ≡ c.args.pass.now.table
 probed_table c =
