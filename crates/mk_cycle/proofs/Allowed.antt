@@ -51,19 +51,13 @@ module _ (p : PassState) (t : InTurn p) (free : IsFreeForCycle p) where
 
     pub unblack_allowed : IsEnabledTo p (Step.Unblack page)
     unblack_allowed =
-        may_act p (Step.Unblack page) protocol t.holds free.decided refl range
-        (or_left (not (is_phase (now_of p).words 2)) (others_are_held p.table.config.callers (now_of p).words p.seat)
-        (ap not not_two))
-        (or_left (phase_of (now_of p).words == 0) (phase_of (now_of p).words == 2) at_zero)
-        (or_left (not (is_phase (now_of p).words 2)) _ (ap not not_two))
+        may_act p (Step.Unblack page) protocol t.holds free.decided refl range (or_left (not _) _ (ap not not_two))
+        (or_left _ _ at_zero) (or_left (not _) _ (ap not not_two))
 
     pub undirty_allowed : IsEnabledTo p (Step.Undirty page)
     undirty_allowed =
-        may_act p (Step.Undirty page) protocol t.holds free.decided refl range
-        (or_left (not (is_phase (now_of p).words 2)) (others_are_held p.table.config.callers (now_of p).words p.seat)
-        (ap not not_two))
-        (or_left (phase_of (now_of p).words == 0) (phase_of (now_of p).words == 2) at_zero)
-        (or_left (not (is_phase (now_of p).words 2)) _ (ap not not_two))
+        may_act p (Step.Undirty page) protocol t.holds free.decided refl range (or_left (not _) _ (ap not not_two))
+        (or_left _ _ at_zero) (or_left (not _) _ (ap not not_two))
 
     pub snapshot_allowed : (v : ℕ)
         → v ≡ quarantine_word (slice_index (now_of p).words.freed page) (slice_index (now_of p).words.freed page)
@@ -74,12 +68,9 @@ module _ (p : PassState) (t : InTurn p) (free : IsFreeForCycle p) where
         let none_freed : target p.table.config.pages w f ≡ None = no_target p.table.config.pages w f free.decided in
         may_act p (Step.Quar page v) protocol t.holds free.decided refl range
         (ap (λ (cell : Option Cell). not (is_run_cell w cell) || others_are_held p.table.config.callers w p.seat)
-        none_freed)
-        (or_left ((phase_of w == 0) || (phase_of w == 1)) (phase_of w == 4)
-        (or_left (phase_of w == 0) (phase_of w == 1) at_zero))
+        none_freed) (or_left ((phase_of w == 0) || (phase_of w == 1)) _ (or_left _ _ at_zero))
         (ap (λ (n : ℕ). if n == 4 then drops w page (v % 2 ^ 32) (v / 2 ^ 32)
-        else (frees w (target p.table.config.pages w f) page v || takes_snapshot w page v)) none
-        ∙ or_true (frees w (target p.table.config.pages w f) page v) (takes_snapshot w page v)
+        else (frees w (target p.table.config.pages w f) page v || takes_snapshot w page v)) none ∙ or_true _ _
         (ap (λ (b : Bool). b && (v == quarantine_word (slice_index w.freed page) (slice_index w.freed page))) at_zero
         ∙ eq-eqb v _ is))
 
@@ -94,8 +85,7 @@ in_turn_before a = record { own = own_before a.makes; holds = a.holds; history =
 
 -- after a step of the turn that isn't its last
 pub in_turn_after : {p : PassState} {s : Step} {q : PassState} → Acts p s q → turn_stays s ≡ true → InTurn q
-in_turn_after a stays =
-    record { own = a.makes.pass.own; holds = holds_after a stays; history = a.makes.pass.history }
+in_turn_after a stays = record { own = a.makes.pass.own; holds = holds_after a stays; history = a.makes.pass.history }
 
 pub on_table : (p : PassState) (w : WordsState) → p.table ≡ w → (page : ℕ) → page < w.config.pages
     → page < p.table.config.pages

@@ -1,11 +1,11 @@
 -- The `begin` of a cycle, and the calls around it.
 use Rattle.std.proofs.Common.{filter}
-use Rattle.mk_laws.proofs.Vocabulary.{Bool, Config, List, PlacedAllocation, Steady, Step, Storage, TalliesAreTidy}
-use Rattle.mk_laws.proofs.Vocabulary.{World, ℕ, all_below, all_below_more_is, all_below_zero_is, and_from, ap, arith}
-use Rattle.mk_laws.proofs.Vocabulary.{eq-eqb, false, has_clean_page, if◌then◌else◌, is_mapped, length, map}
-use Rattle.mk_laws.proofs.Vocabulary.{no_longer_fresh, phase_of, refl, slice_index, storage_of, subst, suc, sym, true}
-use Rattle.mk_laws.proofs.Vocabulary.{zero, [], ◌%◌, ◌&&◌, ◌+◌, ◌/◌, ◌<◌, ◌==◌, ◌^◌, ◌∙◌, ◌∷◌, ◌≡◌, ◌≤◌}
-use Rattle.mk_cycle.proofs.Vocabulary.{Acts, Cleans, CountsAreLeft, Done, InTurn, IsAtPhase, IsClean, IsEnabledTo}
+use Rattle.mk_laws.proofs.Vocabulary.{Bool, Config, List, PlacedAllocation, Step, Storage, TalliesAreTidy, World, ℕ}
+use Rattle.mk_laws.proofs.Vocabulary.{all_below, all_below_more_is, all_below_zero_is, and_from, ap, arith, eq-eqb}
+use Rattle.mk_laws.proofs.Vocabulary.{false, has_clean_page, if◌then◌else◌, is_mapped, length, map, no_longer_fresh}
+use Rattle.mk_laws.proofs.Vocabulary.{refl, slice_index, storage_of, subst, suc, sym, true, zero, [], ◌%◌, ◌&&◌, ◌+◌}
+use Rattle.mk_laws.proofs.Vocabulary.{◌/◌, ◌<◌, ◌==◌, ◌^◌, ◌∙◌, ◌∷◌, ◌≡◌, ◌≤◌}
+use Rattle.mk_cycle.proofs.Vocabulary.{Acts, Cleans, CountsAreLeft, InTurn, IsAtPhase, IsClean, IsEnabledTo}
 use Rattle.mk_cycle.proofs.Vocabulary.{IsFreeForCycle, IsGone, KeepsGates, PassState, WasUndirty, call_of}
 use Rattle.mk_cycle.proofs.Vocabulary.{count_by-le-length, done_of, held_by_allocations, made, now_of, releases, stands}
 use Rattle.mk_cycle.proofs.Vocabulary.{steady_of, world_at, world_of}
@@ -31,10 +31,8 @@ pub begin_allowed : (p : PassState) → InTurn p → IsFreeForCycle p → IsAtPh
     → ((page : ℕ) → page < p.table.config.pages → IsClean p page) → (now_of p).words.fresh ≡ 0
     → IsEnabledTo p Step.Begin
 begin_allowed p t free none clean fresh =
-    may_act p Step.Begin (protocol p t free) t.holds free.decided refl refl refl
-    (eq-eqb (phase_of (now_of p).words) 0 none)
-    (and_from (all_below p.table.config.pages (has_clean_page (now_of p).words)) ((now_of p).words.fresh == 0)
-    (all_from p.table.config.pages (has_clean_page (now_of p).words) (λ page lt. clean_page p page (clean page lt)))
+    may_act p Step.Begin (protocol p t free) t.holds free.decided refl refl refl (eq-eqb _ 0 none)
+    (and_from _ ((now_of p).words.fresh == 0) (all_from _ _ (λ page lt. clean_page p page (clean page lt)))
     (eq-eqb (now_of p).words.fresh 0 fresh))
 
 -- The phase word has the phase and the count of markers, which is small.
@@ -72,12 +70,7 @@ never_both false = refl
 none_fresh : (c : Config) (xs : List PlacedAllocation)
     → filter (λ (a : PlacedAllocation). is_mapped c a && a.fresh) (map no_longer_fresh xs) ≡ []
 none_fresh c [] = refl
-none_fresh c (a ∷ xs) =
-    ap (λ (b : Bool). if b then no_longer_fresh a ∷ filter (λ (x : PlacedAllocation). is_mapped c x && x.fresh)
-    (map no_longer_fresh xs)
-    else filter (λ (x : PlacedAllocation). is_mapped c x && x.fresh) (map no_longer_fresh xs))
-    (never_both (is_mapped c a))
-    ∙ none_fresh c xs
+none_fresh c (a ∷ xs) = cc (never_both (is_mapped c a), none_fresh c xs)
 
 pub stale_releases : (xs : List PlacedAllocation) → releases (map no_longer_fresh xs) ≡ releases xs
 stale_releases xs = count_by-map (λ (a : PlacedAllocation). a.released) no_longer_fresh xs
@@ -115,9 +108,6 @@ module _ (p q : PassState) (t : InTurn p) (free : IsFreeForCycle p) (none : IsAt
 
   pub begun_free : IsFreeForCycle q
   begun_free = grind (arith, begun_call, begun_done, begun_gone)
-
-  pub begun_at_one : IsAtPhase q 1
-  begun_at_one = ap (λ (s : Steady). s.phase) steady_begun
 
 snapshot_is : (b : PassState) → InTurn b → ((page : ℕ) → page < b.table.config.pages → IsClean b page)
     → (now_of b).words.snapshot ≡ (now_of b).words.freed
@@ -175,8 +165,7 @@ begins_cycle p b d q k t free none clean undirty fresh a u law =
       };
       pass = pass;
       call = law.keeps.call.call ∙ begun_call b d t free none u a ∙ k.keeps.call.call;
-      done = law.keeps.call.done ∙ begun_done b d t free none u a
-          ∙ ap (λ (x : Done). record x { cycle = Begun }) k.keeps.call.done;
+      done = cc (law.keeps.call.done, begun_done b d t free none u a, k.keeps.call.done);
       steady = steady;
       counts = counts;
       gates = gates_then p b q first k.gates

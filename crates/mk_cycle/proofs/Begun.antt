@@ -122,14 +122,13 @@ module _ (begins : Config → Seat → List Event → List Event → Type 0) whe
   -- when more was seen after it
   later : (c : Config) (s : Seat) (es xs ys : List Event) → IsBegunFirst begins c s es xs
       → IsBegunFirst begins c s es (xs ++ ys)
-  later c s es xs ys b =
-      record {
-        first = b.first;
-        rest = b.rest ++ ys;
-        is = ap (λ (l : List Event). l ++ ys) b.is ∙ append_assoc b.first b.rest ys;
-        part = b.part;
-        in_turn = b.in_turn;
-      }
+  later c s es xs ys b = record {
+    first = b.first;
+    rest = b.rest ++ ys;
+    is = ap (λ (l : List Event). l ++ ys) b.is ∙ append_assoc b.first b.rest ys;
+    part = b.part;
+    in_turn = b.in_turn;
+  }
 
   -- two parts
   pub begun_append : (c : Config) (s : Seat) (es xs ys : List Event) → AreBegunFirst begins c s es xs
@@ -150,24 +149,22 @@ module _ (begins : Config → Seat → List Event → List Event → Type 0) whe
 
   pub begun_then : (p q r : PassState) → q ≡ record p { seen = q.seen } → EachIsBegun begins p q
       → EachIsBegun begins q r → EachIsBegun begins p r
-  begun_then p q r same one two =
-      record {
-        more = one.more ++ two.more;
-        is = two.is ∙ ap (λ (l : List Event). l ++ two.more) one.is ∙ append_assoc p.seen one.more two.more;
-        each = begun_append p.table.config p.seat p.seen one.more two.more one.each
-            (subst (λ (l : List Event). AreBegunFirst begins p.table.config p.seat l two.more) one.is
-            (subst (λ (x : PassState). AreBegunFirst begins x.table.config x.seat q.seen two.more) same two.each));
-      }
+  begun_then p q r same one two = record {
+    more = one.more ++ two.more;
+    is = two.is ∙ ap (λ (l : List Event). l ++ two.more) one.is ∙ append_assoc p.seen one.more two.more;
+    each = begun_append p.table.config p.seat p.seen one.more two.more one.each
+        (subst (λ (l : List Event). AreBegunFirst begins p.table.config p.seat l two.more) one.is
+        (subst (λ (x : PassState). AreBegunFirst begins x.table.config x.seat q.seen two.more) same two.each));
+  }
 
   -- nothing, and steps of other kinds
 
   pub nothing_begun : (p : PassState) → EachIsBegun begins p p
-  nothing_begun p =
-      record {
-        more = [];
-        is = sym (append-nil p.seen);
-        each = λ b own. absurd (nowhere b.before b.event b.behind b.is);
-      }
+  nothing_begun p = record {
+    more = [];
+    is = sym (append-nil p.seen);
+    each = λ b own. absurd (nowhere b.before b.event b.behind b.is);
+  }
     where
       nowhere : (before : List Event) (e : Event) (behind : List Event) → [] ≡ before ++ e ∷ behind → ⊥
       nowhere [] e behind is = cc
@@ -175,13 +172,12 @@ module _ (begins : Config → Seat → List Event → List Event → Type 0) whe
 
   pub does_begin_none : (kinds : Step → Bool) (p q : PassState) → HaveNoBegin kinds → Does kinds p q
       → EachIsBegun begins p q
-  does_begin_none kinds p q none d =
-      record {
-        more = d.more;
-        is = ap (λ (x : PassState). x.seen) d.is;
-        each = λ b own. absurd (kinds_begin_none kinds p.table.config p.seat (left p.table.config p.seen) d.more none
-            d.of_kinds b own);
-      }
+  does_begin_none kinds p q none d = record {
+    more = d.more;
+    is = ap (λ (x : PassState). x.seen) d.is;
+    each = λ b own. absurd (kinds_begin_none kinds p.table.config p.seat (left p.table.config p.seen) d.more none
+        d.of_kinds b own);
+  }
 
   -- The `begin`, and what the engine does after it.
   module _ (p d q : PassState) (own : Has p.seats p.seat) (m : Makes p Step.Begin d)
@@ -193,8 +189,7 @@ module _ (begins : Config → Seat → List Event → List Event → Type 0) whe
     e = event_of p Step.Begin
 
     same_more : does.more ≡ part.more
-    same_more =
-        append_cancel_left d.seen does.more part.more (sym (ap (λ (x : PassState). x.seen) does.is) ∙ part.is)
+    same_more = append_cancel_left d.seen does.more part.more (sym (ap (λ (x : PassState). x.seen) does.is) ∙ part.is)
 
     seat_is : d.seat ≡ p.seat
     seat_is = ap (λ (x : PassState). x.seat) m.is
@@ -219,9 +214,7 @@ module _ (begins : Config → Seat → List Event → List Event → Type 0) whe
         subst (λ (l : List Event). list_any (λ (x : Event). is_same_seat p.seat x.seat && is_give x.step) l ≡ false)
         same_more
         (subst (λ (s : Seat). list_any (λ (x : Event). is_same_seat s x.seat && is_give x.step) does.more ≡ false)
-        seat_is
-        (kinds_give_none begins_marking d.table.config d.seat (left d.table.config d.seen) does.more marking_gives_none
-        does.of_kinds))
+        seat_is (kinds_give_none begins_marking _ _ _ does.more marking_gives_none does.of_kinds))
 
     done : begins c p.seat (p.seen ++ (m.others ++ e ∷ [])) part.more
     done =
@@ -244,20 +237,18 @@ module _ (begins : Config → Seat → List Event → List Event → Type 0) whe
         absurd (no_more (record { before = ys; event = x; behind = behind; is = tail; of_kind = of_kind }) is)
 
     pub begin_begun : EachIsBegun begins p q
-    begin_begun =
-        record {
-          more = m.others ++ e ∷ part.more;
-          is = part.is
-              ∙ ap (λ (x : PassState). x.seen ++ part.more) m.is
-              ∙ append_assoc (p.seen ++ m.others) (e ∷ []) part.more
-              ∙ append_assoc p.seen m.others (e ∷ part.more);
-          each = λ b own_event. ⊎_elim
-              (λ (t : InFirst m.others (e ∷ part.more) b.before b.event b.behind).
-              absurd (others_begin_none p.seats p.seat m.others own m.of_others b.before b.event t.rest t.is own_event))
-              (λ (t : InSecond m.others (e ∷ part.more) b.before b.event b.behind).
-              here b.event b.before t.rest b.behind b.of_kind own_event t.first t.is)
-              (in_parts m.others (e ∷ part.more) b.before b.event b.behind b.is);
-        }
+    begin_begun = record {
+      more = m.others ++ e ∷ part.more;
+      is = part.is
+          ∙ ap (λ (x : PassState). x.seen ++ part.more) m.is
+          ∙ append_assoc (p.seen ++ m.others) (e ∷ []) part.more
+          ∙ append_assoc p.seen m.others (e ∷ part.more);
+      each = λ b own_event. ⊎_elim
+          (λ (t : InFirst m.others (e ∷ part.more) b.before b.event b.behind). absurd
+          (others_begin_none p.seats p.seat m.others own m.of_others b.before b.event t.rest t.is own_event))
+          (λ (t : InSecond m.others (e ∷ part.more) b.before b.event b.behind). here b.event b.before t.rest b.behind
+          b.of_kind own_event t.first t.is) (in_parts m.others (e ∷ part.more) b.before b.event b.behind b.is);
+    }
 
   -- one step of another kind
 

@@ -1,8 +1,8 @@
 -- Steps of the turn's holder that go on with its call and with what it has done in its turn as they were.
-use Rattle.mk_laws.proofs.Vocabulary.{Answer, Bool, Cell, Config, Flight, Holding, Moment, None, Op, Option, Seat}
-use Rattle.mk_laws.proofs.Vocabulary.{Stage, Step, Word, Words, ℕ, ap, cell_freed, decided, false, frees, if◌then◌else◌}
-use Rattle.mk_laws.proofs.Vocabulary.{is_free_at, is_phase, not, or_else, pointed_cell, progress, progress_freed, refl}
-use Rattle.mk_laws.proofs.Vocabulary.{run_of_cell, sees_double, still, target, true, ◌&&◌, ◌∙◌, ◌≡◌}
+use Rattle.mk_laws.proofs.Vocabulary.{Bool, Cell, Config, Flight, Holding, Moment, None, Op, Option, Seat, Stage, Step}
+use Rattle.mk_laws.proofs.Vocabulary.{Word, Words, ℕ, ap, cell_freed, false, if◌then◌else◌, is_free_at, is_phase, not}
+use Rattle.mk_laws.proofs.Vocabulary.{or_else, pointed_cell, progress, progress_freed, refl, run_of_cell, sees_double}
+use Rattle.mk_laws.proofs.Vocabulary.{still, target, true, ◌&&◌, ◌≡◌}
 use Rattle.mk_cycle.proofs.Vocabulary.{holding_behind, is_pending_free}
 use Rattle.mk_core.specs.Effects.{progress_look}
 use Rattle.mk_cycle.{proofs.OwnSteps.done_in, specs.EngineLaw.is_pending_free_at}
@@ -42,10 +42,7 @@ sees_none w x = refl
 
 pub look_still : (c : Config) (w : Words) (f : Flight) (x : Word) → is_pending_free f ≡ false
     → progress_look c w f x ≡ still f
-look_still c w f x h =
-    ap (λ (cell : Option Cell). if sees_double w cell x then decided f Answer.Double else still f)
-    (no_target c.pages w f h)
-    ∙ ap (λ (b : Bool). if b then decided f Answer.Double else still f) (sees_none w x)
+look_still c w f x h = cc (no_target c.pages w f h, sees_none w x)
 
 none_either_way : (b : Bool) → (if b then None else None) ≡ (let n : Option Cell = None in n)
 none_either_way true = refl
@@ -53,9 +50,7 @@ none_either_way false = refl
 
 pub frees_none : (pages : ℕ) (w : Words) (f : Flight) (p v : ℕ) → is_pending_free f ≡ false
     → cell_freed pages w f p v ≡ None
-frees_none pages w f p v h =
-    ap (λ (cell : Option Cell). if not (is_phase w 4) && frees w cell p v then cell else None) (no_target pages w f h)
-    ∙ none_either_way (not (is_phase w 4) && false)
+frees_none pages w f p v h = cc (no_target pages w f h, none_either_way (not (is_phase w 4) && false))
 
 pub calm_still : (c : Config) (m : Moment) (f : Flight) (n : ℕ) (s : Step) → is_calm s ≡ true
     → is_pending_free f ≡ false

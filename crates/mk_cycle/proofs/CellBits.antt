@@ -81,9 +81,6 @@ taken_away a g = let le = and_le_l a g in omega arith
 pub rest_away : (a g : ℕ) → a - (a - without a g) ≡ without a g
 rest_away a g = let le = and_le_l a g in omega arith
 
-pub rest_both : (a g : ℕ) → a - without a g ≡ bit_and a g
-rest_both a g = taken_away a g
-
 pub low_part : (f s : ℕ) → f < 2 ^ 32 → quarantine_word f s % 2 ^ 32 ≡ f
 low_part f s lt = omega arith
 

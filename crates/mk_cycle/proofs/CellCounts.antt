@@ -133,10 +133,9 @@ module _ (c : Config) (es : List Event) (h : IsHistory c es) (quiet : phase_of (
       ≡ sum_by (λ a. cond (chosen a) (weight (cell_of_allocation c a).page) 0) xs
   unfolding on_page
   cells_weigh_as_much weight =
-      sym (weighed_by_key never_granted chosen (λ a. (cell_of_allocation c a).page) weight c.pages xs
-      (λ i lt here. (allocation_in_range i here).0)
-      ∙ sum_same c.pages (λ p. count_by (on_page p) xs * weight p) (λ p. count_ones (bits p) * weight p)
-      (λ p lt. ap (λ (n : ℕ). n * weight p) (counted_on_page p)))
+      sym (weighed_by_key never_granted chosen (λ a. (cell_of_allocation c a).page) weight _ xs
+      (λ i lt here. (allocation_in_range i here).0) ∙ sum_same _ (λ p. count_by (on_page p) xs * weight p)
+      (λ p. count_ones (bits p) * weight p) (λ p lt. ap (λ (n : ℕ). n * weight p) (counted_on_page p)))
 
   pub cells_are_as_many : sum_below c.pages (λ p. count_ones (bits p)) ≡ count_by chosen xs
   unfolding on_page

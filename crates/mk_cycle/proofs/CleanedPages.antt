@@ -1,12 +1,37 @@
 -- Pages are cleaned one by one, and others are passed over: what is known of those before goes on.
-use Rattle.mk_laws.proofs.Vocabulary.{Steady, ℕ, ap, arith, cases_lt, false, header_at, sym, ◌+◌, ◌<◌, ◌∙◌, ◌≡◌, ◌≤◌}
-use Rattle.mk_cycle.proofs.Vocabulary.{Cleans, InTurn, IsClean, PassState, WasUndirty, below_more, now_of}
+use Rattle.mk_laws.proofs.Vocabulary.{Steady, ℕ, ap, arith, cases_lt, false, header_at, refl, sym, ◌+◌, ◌<◌, ◌∙◌, ◌≡◌}
+use Rattle.mk_laws.proofs.Vocabulary.{◌≤◌}
+use Rattle.mk_cycle.proofs.Vocabulary.{Cleans, InTurn, IsClean, PassState, WasUndirty, WordsState, below_more, now_of}
 use Rattle.mk_page_map.specs.Members.{has_freed_cells, is_in_use, page_at}
 use Rattle.mk_laws.proofs.FreePages.{free_pages_have_nothing}
+use Rattle.mk_cycle.proofs.CleaningSteps.{cleaned_table, cleans_nothing, cleans_then}
 use Rattle.mk_cycle.proofs.Undirty.{undirty_earlier, undirty_later, undirty_now}
 use Rattle.mk_cycle.proofs.{PageByPage.no_header, SettledPages.no_cells, SettledPages.no_snapshot}
 use Rattle.mk_cycle.specs.Cleaning.{HasTakenSnapshot, IsCleanedPage}
-use Rattle.mk_words.specs.PageMaps.{HasNoMarks}
+use Rattle.mk_words.specs.{PageMaps.HasNoMarks, States.TurnState}
+
+-- The pages below one are looked through, before a cycle begins.
+pub record CleansTo (pages : ℕ) (t u : TurnState) (from : ℕ) : Type 0 where
+  pub op : u.op ≡ t.op
+  pub begun : from ≤ pages
+  pub cleans : Cleans t.pass u.pass
+
+pub cleans_to_none : {pages : ℕ} {t : TurnState} → CleansTo pages t t 0
+cleans_to_none = record { op = refl; begun = omega arith; cleans = cleans_nothing _ }
+
+-- The table stays, and its pages.
+pub same_pages : {w : WordsState} {pages from : ℕ} {t u : TurnState} → t.pass.table ≡ w → CleansTo pages t u from
+    → u.pass.table.config.pages ≡ w.config.pages
+same_pages {w} {t = t} {u = u} is to =
+    ap (λ (x : WordsState). x.config.pages) (cleaned_table t.pass u.pass w to.cleans is)
+
+-- One of the pages, from there on, is cleaned.
+pub cleans_past : {w : WordsState} {t u v : TurnState} {from n : ℕ} → t.pass.table ≡ w
+    → CleansTo w.config.pages t u from → n < u.pass.table.config.pages → v.op ≡ u.op → Cleans u.pass v.pass
+    → CleansTo w.config.pages t v (n + 1)
+cleans_past is to within op cleans =
+    let same = same_pages is to in
+    record { op = op ∙ to.op; begun = omega arith; cleans = cleans_then _ _ _ to.cleans cleans }
 
 pub bare_stays : (p q : PassState) (page : ℕ) → Cleans p q → HasNoMarks (now_of p).words page
     → HasNoMarks (now_of q).words page
@@ -31,8 +56,7 @@ free_bare_past p from n before more page lt bare = grind (arith, cases_lt)
 
 pub free_bare_more : (p q : PassState) (n : ℕ) → Cleans p q → FreeAreBare p n → HasNoMarks (now_of q).words n
     → FreeAreBare q (n + 1)
-free_bare_more p q n k before here =
-    below_more _ _ (free_stay_bare p q n k before) (λ bare. here)
+free_bare_more p q n k before here = below_more _ _ (free_stay_bare p q n k before) (λ bare. here)
 
 -- Pages below this one are ready.
 abbrev pub AreReady : PassState → PassState → ℕ → Type 0

@@ -17,15 +17,14 @@ pub cleans_nothing : (p : PassState) → Cleans p p
 cleans_nothing p = grind (arith, does_nothing, keeps_at_once)
 
 pub cleans_then : (p q r : PassState) → Cleans p q → Cleans q r → Cleans p r
-cleans_then p q r a b =
-    record {
-      does = does_then clears p q r a.does b.does;
-      keeps = keeps_then but_cleaned p q r a.keeps b.keeps;
-      gates = gates_then p q r a.keeps.call.pass a.gates b.gates;
-      unmarked = λ page h. b.unmarked page (a.unmarked page h);
-      unscanned = λ page h. b.unscanned page (a.unscanned page h);
-      snapshot = λ page h. b.snapshot page (a.snapshot page h);
-    }
+cleans_then p q r a b = record {
+  does = does_then clears p q r a.does b.does;
+  keeps = keeps_then but_cleaned p q r a.keeps b.keeps;
+  gates = gates_then p q r a.keeps.call.pass a.gates b.gates;
+  unmarked = λ page h. b.unmarked page (a.unmarked page h);
+  unscanned = λ page h. b.unscanned page (a.unscanned page h);
+  snapshot = λ page h. b.snapshot page (a.snapshot page h);
+}
 
 -- A word that is 0 stays so where 0 is stored to one of the list.
 pub zero_stays : (xs : List ℕ) (i r : ℕ) → slice_index xs r ≡ 0 → slice_index (slice_set xs i 0) r ≡ 0
@@ -89,23 +88,22 @@ module _ (p : PassState) (s : Step) (q : PassState) (a : Acts p s q) (t : InTurn
 
   pub cleans_step : CleansAt (world_at a.makes) (world_behind p.table.config (world_at a.makes) (event_of p s))
       → Cleans p q
-  cleans_step x =
-      record {
-        does = does_step clears p q s a.makes cleans;
-        keeps = calm_keeps p s q a t history kind free but_cleaned x.steady;
-        gates = gates_behind p s q a x.gates;
-        unmarked = λ r h.
-            ap (λ (w : World). slice_index w.now.words.marks r) a.world
-            ∙ x.unmarked r (ap (λ (ms : List ℕ). slice_index ms r) same_colours.0 ∙ h);
-        unscanned = λ r h.
-            ap (λ (w : World). slice_index w.now.words.blacks r) a.world
-            ∙ x.unscanned r (ap (λ (ms : List ℕ). slice_index ms r) same_colours.1 ∙ h);
-        snapshot = λ r h.
-            ap (λ (w : World). slice_index w.now.words.snapshot r) a.world
-            ∙ x.snapshot r (ap (λ (y : Steady). slice_index y.snapshot r) a.turn.steady ∙ h
-            ∙ sym (ap (λ (y : Steady). slice_index y.freed r) a.turn.steady))
-            ∙ sym (ap (λ (w : World). slice_index w.now.words.freed r) a.world);
-      }
+  cleans_step x = record {
+    does = does_step clears p q s a.makes cleans;
+    keeps = calm_keeps p s q a t history kind free but_cleaned x.steady;
+    gates = gates_behind p s q a x.gates;
+    unmarked = λ r h.
+        ap (λ (w : World). slice_index w.now.words.marks r) a.world
+        ∙ x.unmarked r (ap (λ (ms : List ℕ). slice_index ms r) same_colours.0 ∙ h);
+    unscanned = λ r h.
+        ap (λ (w : World). slice_index w.now.words.blacks r) a.world
+        ∙ x.unscanned r (ap (λ (ms : List ℕ). slice_index ms r) same_colours.1 ∙ h);
+    snapshot = λ r h.
+        ap (λ (w : World). slice_index w.now.words.snapshot r) a.world
+        ∙ x.snapshot r (ap (λ (y : Steady). slice_index y.snapshot r) a.turn.steady ∙ h
+        ∙ sym (ap (λ (y : Steady). slice_index y.freed r) a.turn.steady))
+        ∙ sym (ap (λ (w : World). slice_index w.now.words.freed r) a.world);
+  }
 
 -- by kind
 
@@ -137,9 +135,7 @@ copied : (fs ss : List ℕ) (p r : ℕ) → p < length ss → slice_index ss r �
     → slice_index (slice_set ss p (slice_index fs p)) r ≡ slice_index fs r
 copied fs ss p r lt h = elim (cases_eq r p) [
   | inr ne ↦ get_or-set_other ss p r (slice_index fs p) 0 ne ∙ h
-  | inl e ↦ ap (λ (k : ℕ). slice_index (slice_set ss p (slice_index fs p)) k) e
-      ∙ get_or-set_same ss p (slice_index fs p) 0 lt
-      ∙ ap (λ (k : ℕ). slice_index fs k) (sym e)
+  | inl e ↦ cc (e, get_or-set_same ss p (slice_index fs p) 0 lt)
 ]
 
 none_freed : (w : Words) (xs : List PlacedAllocation) → map (freed_where_it_stands w None) xs ≡ xs

@@ -1,19 +1,18 @@
 -- The `end` of a cycle.
 use Rattle.std.proofs.lemmas.List.Sums.{sum_by-append}
-use Rattle.mk_laws.proofs.Vocabulary.{Step, World, ℕ, ap, arith, ends, eq-eqb, phase_of, refl, [], ◌%◌, ◌++◌, ◌+◌, ◌-◌}
-use Rattle.mk_laws.proofs.Vocabulary.{◌/◌, ◌<◌, ◌^◌, ◌∷◌, ◌≡◌, ◌≤◌}
+use Rattle.mk_laws.proofs.Vocabulary.{Step, World, ℕ, ap, arith, ends, eq-eqb, refl, [], ◌%◌, ◌++◌, ◌+◌, ◌-◌, ◌/◌, ◌<◌}
+use Rattle.mk_laws.proofs.Vocabulary.{◌^◌, ◌∷◌, ◌≡◌, ◌≤◌}
 use Rattle.mk_cycle.proofs.Vocabulary.{Acts, InTurn, IsAtPhase, IsEnabledTo, IsFreeForCycle, IsGone, IsSettledPage}
 use Rattle.mk_cycle.proofs.Vocabulary.{KeepsGates, PassState, call_of, count_by-le-length, done_of, event_of}
 use Rattle.mk_cycle.proofs.Vocabulary.{full_answers, made, now_of, steady_of, world_at, world_of}
-use Rattle.mk_core.specs.{Effects.cycle_ended, StopConditions.has_settled_page}
+use Rattle.mk_core.specs.Effects.{cycle_ended}
 use Rattle.mk_cycle.proofs.OwnSteps.{done_in, no_more_calls, same_call, still_gone, undecided}
 use Rattle.mk_cycle.proofs.{Allowed.protocol, BeginSteps.all_from, KeptInParts.gates_behind, MayAct.may_act}
 
 pub end_allowed : (p : PassState) → InTurn p → IsFreeForCycle p → IsAtPhase p 4
     → ((page : ℕ) → page < p.table.config.pages → IsSettledPage p page) → IsEnabledTo p Step.End
 end_allowed p t free at settled =
-    may_act p Step.End (protocol p t free) t.holds free.decided refl refl refl (eq-eqb (phase_of (now_of p).words) 4 at)
-    (all_from p.table.config.pages (has_settled_page (now_of p).words) settled)
+    may_act p Step.End (protocol p t free) t.holds free.decided refl refl refl (eq-eqb _ 4 at) (all_from _ _ settled)
 
 ended_phase : (n markers : ℕ) → n % 8 ≡ 4 → n / 8 ≡ markers → markers ≤ 8 → (n + (2 ^ 64 - 4)) % 2 ^ 64 % 8 ≡ 0
 ended_phase n markers now high few = omega arith

@@ -11,8 +11,8 @@ use Rattle.mk_cycle.proofs.KeptInParts.{calls_then, free_then, gates_then, same_
 use Rattle.mk_cycle.proofs.{EndSteps.as_many_fulls, EndSteps.ended_call, EndSteps.ended_done, EndSteps.ended_gates}
 use Rattle.mk_cycle.proofs.{EndSteps.ended_gone, EndSteps.one_more_end, EndSteps.steady_ended, HeldReleased.held_alike}
 use Rattle.mk_cycle.proofs.{NewlyReleased.newly_added, OwnSteps.same_pass, ReleasedCounts.told_to}
-use Rattle.mk_cycle.specs.{BeginCycle.BeginsCycle, FinishCycle.FinishesCycle, GivingAll.GivesAllBack}
-use Rattle.mk_cycle.specs.{Releasing.words_released, Tallying.Sets, Tallying.with_cycle_counted}
+use Rattle.mk_cycle.specs.Tallying.{Sets, with_cycle_counted}
+use Rattle.mk_cycle.specs.{FinishCycle.FinishesCycle, GivingAll.GivesAllBack, Releasing.words_released}
 
 pub gives_call : (p g : PassState) → GivesAllBack p g → KeepsCall p g
 gives_call p g x = grind (arith, calls_then)
@@ -100,9 +100,7 @@ module _ (p g e q : PassState) (r : Released) (gives : GivesAllBack p g) (free :
   exact_q x = grind (arith, same_config, pass_q, steady_e, tallies_g, held_alike, pass_g, same_g, steady_q, fresh_same)
 
   ends_q : ends q.seen ≡ ends p.seen + 1
-  ends_q =
-      sets.counts.ends ∙ one_more_end g e t gives.phase u a
-      ∙ ap (λ (n : ℕ). n + 1) (gives_counts p g gives).ends
+  ends_q = cc (sets.counts.ends, one_more_end g e t gives.phase u a, (gives_counts p g gives).ends)
 
   fulls_q : full_answers q.table.config q.seen ≡ full_answers c p.seen
   fulls_q = grind (arith, same_config, pass_e, as_many_fulls, pass_g, gives_counts)
@@ -155,9 +153,3 @@ module _ (p g e q : PassState) (r : Released) (gives : GivesAllBack p g) (free :
   has_released = told_q
 
 -- So the turn is free for a cycle after a finish, as it is after a begin.
-
-pub finished_free : (p q : PassState) → FinishesCycle p q → IsFreeForCycle p → IsFreeForCycle q
-finished_free p q k free = grind arith
-
-pub begun_cycle_free : (p q : PassState) → BeginsCycle p q → IsFreeForCycle p → IsFreeForCycle q
-begun_cycle_free p q k free = grind arith

@@ -28,14 +28,13 @@ pub still_unmapped : (p q : PassState) (n : ℕ) → LeavesTurn but_pages p q �
 still_unmapped p q n k h m = grind (arith, same_config, same_allocations)
 
 pub frees_then : (p q r : PassState) → Frees p q → Frees q r → Frees p r
-frees_then p q r a b =
-    record {
-      does = does_then is_giving_back p q r a.does b.does;
-      keeps = keeps_then but_pages p q r a.keeps b.keeps;
-      marks = b.marks ∙ a.marks;
-      gates = λ j h. b.gates j (a.gates j h);
-      zeros = λ n u h. b.zeros n (still_unmapped p q n a.keeps u) (a.zeros n u h);
-    }
+frees_then p q r a b = record {
+  does = does_then is_giving_back p q r a.does b.does;
+  keeps = keeps_then but_pages p q r a.keeps b.keeps;
+  marks = b.marks ∙ a.marks;
+  gates = λ j h. b.gates j (a.gates j h);
+  zeros = λ n u h. b.zeros n (still_unmapped p q n a.keeps u) (a.zeros n u h);
+}
 
 pub freed_free : (p q : PassState) → Frees p q → IsFreeForCycle p → IsFreeForCycle q
 freed_free p q k free = free_then p q k.keeps.call free
@@ -108,8 +107,7 @@ module _ (p : PassState) (s : Step) (q : PassState) (a : Acts p s q) (t : InTurn
           steady = ap (λ (y : World). but_pages (steady_of y)) a.world ∙ x.steady ∙ ap but_pages a.turn.steady;
           counts = keeps_counts p s q a t.own t.holds u.history st (frees_ends s kind);
         };
-        marks = ap (λ (y : World). y.now.words.marks) a.world ∙ x.marks
-            ∙ (a.turn.unmarked (λ e. absurd (omega arith)) (λ e. absurd (omega arith))).0;
+        marks = cc (a.world, x.marks, (a.turn.unmarked (λ e. absurd (omega arith)) (λ e. absurd (omega arith))).0);
         gates = open_stays p q (λ j ne.
             subst (λ (y : World). slice_index y.now.words.gates j ≢ 2) (sym a.world)
             (x.gates j (a.turn.other_gates j ne)));
@@ -137,22 +135,20 @@ head_gives c w seat p v = record { steady = refl; marks = refl; gates = λ j h. 
 
 pub quar_gives : (c : Config) (w : World) (seat : Seat) (p v : ℕ) → is_pending_free (flight_of w.now seat) ≡ false
     → FreesAt w (world_behind c w (record { seat = seat; step = Step.Quar p v }))
-quar_gives c w seat p v free =
-    record {
-      steady = ap (λ (xs : List PlacedAllocation). record (but_pages (steady_of w)) { allocations = xs })
-          (quar_frees_none c w seat p v free);
-      marks = refl;
-      gates = λ j h. h;
-      zeros = λ n h. h;
-    }
+quar_gives c w seat p v free = record {
+  steady = ap (λ (xs : List PlacedAllocation). record (but_pages (steady_of w)) { allocations = xs })
+      (quar_frees_none c w seat p v free);
+  marks = refl;
+  gates = λ j h. h;
+  zeros = λ n h. h;
+}
 
 still_open : (gs : List ℕ) (i j : ℕ) → slice_index gs j ≢ 2 → slice_index (slice_set gs i 0) j ≢ 2
 still_open gs i j h two = elim (cases_eq j i) [
   | inr ne ↦ h (sym (get_or-set_other gs i j 0 0 ne) ∙ two)
   | inl e ↦ elim (cases_lt i (length gs)) [
     | inl near ↦
-        let zero : slice_index (slice_set gs i 0) j ≡ 0 = ap (λ (k : ℕ). slice_index (slice_set gs i 0) k) e
-        ∙ get_or-set_same gs i 0 0 near in
+        let zero : slice_index (slice_set gs i 0) j ≡ 0 = cc (e, get_or-set_same gs i 0 0 near) in
         absurd (omega arith)
     | inr past ↦ h (sym (ap (λ (ys : List ℕ). slice_index ys j) (set_past gs i 0 past)) ∙ two)
   ]

@@ -42,46 +42,55 @@ pub gives_here : (p b : PassState) (page used gone size : ℕ) → GivesNothingB
 gives_here p b page used gone size k is_used is_gone is_size zeros =
     grind (arith, gives_ok, same_used, same_left, same_header)
 
-module _ (p b d q : PassState) (t : InTurn p) (k : GivesNothingBack p b) (tb : InTurn b) (free : IsFreeForCycle p)
-    (at : IsAtPhase p 4)
-    (page used gone quarantine : ℕ) (lt : page < p.table.config.pages)
-    (is_used : used ≡ used_at (now_of p).words page) (is_gone : gone ≡ left_unmarked (now_of p).words page)
-    (word : IsQuarantineWord p page quarantine)
-    (g : Acts b (Step.Used page (without used gone)) d) (td : InTurn d) where
+-- The cells of a page that are used and gone are given back, by its used word.
+pub record GivesCells (p b d : PassState) (page used gone quarantine : ℕ) : Type 0 where
+  pub begun : InTurn p
+  pub wiped : GivesNothingBack p b
+  pub giving : InTurn b
+  pub free : IsFreeForCycle p
+  pub phase : IsAtPhase p 4
+  pub within : page < p.table.config.pages
+  pub is_used : used ≡ used_at (now_of p).words page
+  pub is_gone : gone ≡ left_unmarked (now_of p).words page
+  pub word : IsQuarantineWord p page quarantine
+  pub gives : Acts b (Step.Used page (without used gone)) d
+  pub given : InTurn d
+
+module _ {p b d : PassState} {page used gone quarantine : ℕ} (x : GivesCells p b d page used gone quarantine) where
   free_b : IsFreeForCycle b
-  free_b = freed_free p b k.frees free
+  free_b = freed_free p b x.wiped.frees x.free
 
   at_b : IsAtPhase b 4
-  at_b = freed_phase p b k.frees at
+  at_b = freed_phase p b x.wiped.frees x.phase
 
   lt_b : page < b.table.config.pages
-  lt_b = subst (λ (c : Config). page < c.pages) (sym (same_config p b k.frees.keeps.call.pass)) lt
+  lt_b = subst (λ (c : Config). page < c.pages) (sym (same_config p b x.wiped.frees.keeps.call.pass)) x.within
 
-  gives : FreesPage page b d
-  gives = used_frees b d tb td free_b at_b page (without used gone) g lt_b
+  gives_page : FreesPage page b d
+  gives_page = used_frees b d x.giving x.given free_b at_b page (without used gone) x.gives lt_b
 
   pub free_d : IsFreeForCycle d
-  free_d = freed_free b d gives.frees free_b
+  free_d = freed_free b d gives_page.frees free_b
 
   pub at_d : IsAtPhase d 4
-  at_d = freed_phase b d gives.frees at_b
+  at_d = freed_phase b d gives_page.frees at_b
 
   lt_d : page < d.table.config.pages
-  lt_d = subst (λ (c : Config). page < c.pages) (sym (same_config b d gives.frees.keeps.call.pass)) lt_b
+  lt_d = subst (λ (c : Config). page < c.pages) (sym (same_config b d gives_page.frees.keeps.call.pass)) lt_b
 
   state_d : page_state d page
       ≡ record (page_state p page)
       { page = record { header = header_at (now_of p).words page; used = without used gone } }
   state_d =
-      used_state b d tb td free_b at_b page (without used gone) g lt_b
-      ∙ ap (λ (x : PageState). record x { page = record { header = x.page.header; used = without used gone } })
-      (k.same page)
+      used_state b d x.giving x.given free_b at_b page (without used gone) x.gives lt_b
+      ∙ ap (λ (y : PageState). record y { page = record { header = y.page.header; used = without used gone } })
+      (x.wiped.same page)
 
   half : Halves p page quarantine
-  half = halves p page quarantine t word
+  half = halves p page quarantine x.begun x.word
 
   marks_d : slice_index (now_of d).words.marks page ≡ slice_index (now_of p).words.marks page
-  marks_d = ap (λ (ms : List ℕ). slice_index ms page) (gives.frees.marks ∙ k.frees.marks)
+  marks_d = ap (λ (ms : List ℕ). slice_index ms page) (gives_page.frees.marks ∙ x.wiped.frees.marks)
 
   gone_there : gone ≡ without (quarantine / 2 ^ 32) (slice_index (now_of d).words.marks page)
   gone_there = grind (arith, half, marks_d)
@@ -97,20 +106,20 @@ module _ (p b d q : PassState) (t : InTurn p) (k : GivesNothingBack p b) (tb : I
       (quarantine_word (without (quarantine % 2 ^ 32) gone) (quarantine / 2 ^ 32 - gone) / 2 ^ 32) ≡ true
   drops_here = grind (arith, low_part, freed_small, high_part, drops_ok, state_d, half, gone_there, none_in_both)
 
-  pub gives_all : Acts d
-      (Step.Quar page (quarantine_word (without (quarantine % 2 ^ 32) gone) (quarantine / 2 ^ 32 - gone))) q → InTurn q
-      → GivesBack page p q
-  gives_all a tq =
+  pub gives_all : (q : PassState)
+      → Acts d (Step.Quar page (quarantine_word (without (quarantine % 2 ^ 32) gone) (quarantine / 2 ^ 32 - gone))) q
+      → InTurn q → GivesBack page p q
+  gives_all q a tq =
       let v : ℕ = quarantine_word (without (quarantine % 2 ^ 32) gone) (quarantine / 2 ^ 32 - gone) in
-      let last : FreesPage page d q = quar_frees d q td tq free_d at_d page v a lt_d in
-      let state = quar_state d q td tq free_d at_d page v a lt_d in
+      let last : FreesPage page d q = quar_frees d q x.given tq free_d at_d page v a lt_d in
+      let state = quar_state d q x.given tq free_d at_d page v a lt_d in
       record {
-        frees = page_then page p b q (page_at_once page p b k) (page_then page b d q gives last);
-        header = ap (λ (x : PageState). x.page.header) state ∙ ap (λ (x : PageState). x.page.header) state_d;
+        frees = page_then page p b q (page_at_once page p b x.wiped) (page_then page b d q gives_page last);
+        header = ap (λ (y : PageState). y.page.header) state ∙ ap (λ (y : PageState). y.page.header) state_d;
         none_left =
-            ap (λ (x : PageState). without x.snapshot (slice_index (now_of q).words.marks page)) state
-            ∙ ap (λ (n : ℕ). without n (slice_index (now_of q).words.marks page))
-            (high_part (without (quarantine % 2 ^ 32) gone) (quarantine / 2 ^ 32 - gone) freed_small)
-            ∙ ap (λ (ms : List ℕ). without (quarantine / 2 ^ 32 - gone) (slice_index ms page)) last.frees.marks
-            ∙ none_is_left (quarantine / 2 ^ 32) (slice_index (now_of d).words.marks page) gone gone_there;
+            ap (λ (y : PageState). without y.snapshot (slice_index (now_of q).words.marks page)) state ∙ ap
+            (λ (n : ℕ). without n (slice_index (now_of q).words.marks page))
+            (high_part (without (quarantine % 2 ^ 32) gone) (quarantine / 2 ^ 32 - gone) freed_small) ∙ ap
+            (λ (ms : List ℕ). without (quarantine / 2 ^ 32 - gone) (slice_index ms page)) last.frees.marks
+            ∙ none_is_left (quarantine / 2 ^ 32) _ gone gone_there;
       }

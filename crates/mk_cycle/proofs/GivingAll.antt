@@ -2,12 +2,11 @@
 use Rattle.mk_laws.proofs.Vocabulary.{Config, Steady, ℕ, all_below-at, ap, arith, is_held, not, not-true, subst, true}
 use Rattle.mk_laws.proofs.Vocabulary.{◌<◌, ◌∙◌, ◌≡◌}
 use Rattle.mk_cycle.proofs.Vocabulary.{Frees, GivesNothingBack, HasReleased, HoldsFewer, HoldsGates, IsAtPhase}
-use Rattle.mk_cycle.proofs.Vocabulary.{IsFreeForCycle, IsSettledPage, PassState, Released, WordsState, held_below}
-use Rattle.mk_cycle.proofs.Vocabulary.{now_of, released_below}
+use Rattle.mk_cycle.proofs.Vocabulary.{IsSettledPage, PassState, Released, held_below, now_of, released_below}
 use Rattle.mk_core.specs.Moments.{none_is_held}
-use Rattle.mk_cycle.proofs.{BeginSteps.all_from, CountedPages.held_alike_below, CountedPages.told_alike_below}
-use Rattle.mk_cycle.proofs.{FreeingSteps.freed_phase, FreeingSteps.frees_then, HeldReleased.held_alike}
-use Rattle.mk_cycle.proofs.{KeptInParts.free_then, ReleasedCounts.told_from, ReleasedCounts.told_to}
+use Rattle.mk_cycle.proofs.CountedPages.{held_alike_below, told_alike_below}
+use Rattle.mk_cycle.proofs.{BeginSteps.all_from, FreeingSteps.freed_phase, FreeingSteps.frees_then}
+use Rattle.mk_cycle.proofs.{HeldReleased.held_alike, ReleasedCounts.told_from, ReleasedCounts.told_to}
 use Rattle.mk_cycle.specs.{GivingAll.GivesAllBack, Releasing.ReleasesUnmarked}
 
 pub held_phase : (p q : PassState) (n : ℕ) → HoldsGates p q → IsAtPhase p n → IsAtPhase q n
@@ -15,12 +14,6 @@ held_phase p q n k at = ap (λ (s : Steady). s.phase) k.keeps.steady ∙ at
 
 pub released_phase : (p q : PassState) → ReleasesUnmarked p q → IsAtPhase q 4
 released_phase p q r = ap (λ (s : Steady). s.phase) r.steady
-
-pub released_free : (p q : PassState) → ReleasesUnmarked p q → IsFreeForCycle p → IsFreeForCycle q
-released_free p q r free = free_then p q r.call free
-
-pub released_table : (p q : PassState) (w : WordsState) → ReleasesUnmarked p q → p.table ≡ w → q.table ≡ w
-released_table p q w r is = ap (λ (x : PassState). x.table) r.call.pass ∙ is
 
 none_held_then : (callers : ℕ) (p q : PassState) → Frees p q → none_is_held callers (now_of p).words ≡ true
     → none_is_held callers (now_of q).words ≡ true

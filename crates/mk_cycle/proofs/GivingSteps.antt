@@ -1,17 +1,18 @@
 -- What the steps that give back make of a page's words.
-use Rattle.mk_laws.proofs.Vocabulary.{Bool, Cell, Config, Flight, List, MayHold, None, OfFreedRun, OfMapped, OfReleased}
-use Rattle.mk_laws.proofs.Vocabulary.{Option, Page, RunPages, Some, Steady, Step, Word, Words, World, ℕ, address_of}
-use Rattle.mk_laws.proofs.Vocabulary.{all_below-at, and_parts, ap, arith, carves, cases_lt, empties, eq-eqb, eqb-true}
-use Rattle.mk_laws.proofs.Vocabulary.{free_page, frees, get_or-set_other, get_or-set_same, get_or_past, gives_back}
-use Rattle.mk_laws.proofs.Vocabulary.{header_at, if◌then◌else◌, inl, inr, is_released_cell, is_run_cell, is_run_gone}
-use Rattle.mk_laws.proofs.Vocabulary.{is_run_unmapped, is_some_and, is_used_once, leb-true, length, lt-ltb, ltb-true}
-use Rattle.mk_laws.proofs.Vocabulary.{nat_le, nat_lt, not, object_made, others_are_held, phase_of, place_now}
+use Rattle.mk_laws.proofs.Vocabulary.{AreOfPages, Bool, Cell, Config, Flight, List, MayHold, None, OfFreedRun, OfMapped}
+use Rattle.mk_laws.proofs.Vocabulary.{OfReleased, Option, Page, RunPages, Some, Steady, Step, Word, Words, World, ℕ}
+use Rattle.mk_laws.proofs.Vocabulary.{address_of, all_below-at, and_parts, ap, arith, carves, cases_lt, empties, eq-eqb}
+use Rattle.mk_laws.proofs.Vocabulary.{eqb-true, free_page, frees, get_or-set_other, get_or-set_same, get_or_past}
+use Rattle.mk_laws.proofs.Vocabulary.{gives_back, header_at, if◌then◌else◌, inl, inr, is_released_cell, is_run_cell}
+use Rattle.mk_laws.proofs.Vocabulary.{is_run_gone, is_run_unmapped, is_some_and, is_used_once, leb-true, length, lt-ltb}
+use Rattle.mk_laws.proofs.Vocabulary.{ltb-true, nat_le, nat_lt, not, object_made, others_are_held, phase_of, place_now}
 use Rattle.mk_laws.proofs.Vocabulary.{pointed_cell, refl, set_past, slice_index, slice_index_or, slice_set, subst, sym}
-use Rattle.mk_laws.proofs.Vocabulary.{takes_cell, target, true, unmaps, used_at, words_are_zero, zero_scene_of, ◌%◌}
-use Rattle.mk_laws.proofs.Vocabulary.{◌&&◌, ◌*◌, ◌++◌, ◌+◌, ◌-◌, ◌/◌, ◌<◌, ◌==◌, ◌^◌, ◌||◌, ◌∙◌, ◌≡◌}
+use Rattle.mk_laws.proofs.Vocabulary.{takes_cell, target, true, unmaps, used_at, words_are_zero, world_behind}
+use Rattle.mk_laws.proofs.Vocabulary.{zero_scene_of, ◌%◌, ◌&&◌, ◌*◌, ◌++◌, ◌+◌, ◌-◌, ◌/◌, ◌<◌, ◌==◌, ◌^◌, ◌||◌, ◌∙◌}
+use Rattle.mk_laws.proofs.Vocabulary.{◌≡◌, ◌≢◌}
 use Rattle.mk_cycle.proofs.Vocabulary.{Acts, Frees, FreesPage, GivesNothingBack, InTurn, IsAtPhase, IsEnabledTo}
 use Rattle.mk_cycle.proofs.Vocabulary.{IsFreeForCycle, IsUnmappedWord, IsZero, PageState, PassState, call_of, drops}
-use Rattle.mk_cycle.proofs.Vocabulary.{is_pending_free, made, now_of, page_state, stands, world_at, world_of}
+use Rattle.mk_cycle.proofs.Vocabulary.{event_of, is_pending_free, made, now_of, page_state, stands, world_at, world_of}
 use Rattle.mk_core.specs.{Cells.is_in_run, TurnConditions.is_in_gone_run, TurnConditions.takes_snapshot, Words.page_of}
 use Rattle.mk_cycle.proofs.FreeingSteps.{frees_nothing, frees_step, frees_then, head_gives, look_gives, quar_gives}
 use Rattle.mk_cycle.proofs.FreeingSteps.{still_unmapped, used_gives, wipe_gives}
@@ -19,57 +20,41 @@ use Rattle.mk_cycle.proofs.{Allowed.or_true, Allowed.protocol, Calm.no_target, K
 use Rattle.mk_cycle.specs.Freeing.{IsUnmapped}
 
 -- where the step is made, a page's words are as the holder knows them
-state_at : World → ℕ → PageState
-state_at w r = record {
-  page = page_of w.now.words r;
-  freed = slice_index w.now.words.freed r;
-  snapshot = slice_index w.now.words.snapshot r;
+abbrev state_in : Words → ℕ → PageState
+state_in w r = record { page = page_of w r; freed = slice_index w.freed r; snapshot = slice_index w.snapshot r }
+
+abbrev state_of : Steady → ℕ → PageState
+state_of s r = record {
+  page = slice_index_or s.pages r free_page;
+  freed = slice_index s.freed r;
+  snapshot = slice_index s.snapshot r;
 }
 
-pub state_there : (p q : PassState) (w : World) (s t : Steady) → s ≡ t → (r : ℕ)
-    → record {
-      page = slice_index_or s.pages r free_page;
-      freed = slice_index s.freed r;
-      snapshot = slice_index s.snapshot r;
-    }
-    ≡ (let x : PageState = record {
-      page = slice_index_or t.pages r free_page;
-      freed = slice_index t.freed r;
-      snapshot = slice_index t.snapshot r;
-    } in x)
-state_there p q w s t e r =
-    ap (λ (y : Steady). record {
-      page = slice_index_or y.pages r free_page;
-      freed = slice_index y.freed r;
-      snapshot = slice_index y.snapshot r;
-    }) e
+pub state_there : (s t : Steady) → s ≡ t → (r : ℕ) → state_of s r ≡ state_of t r
+state_there s t e r = ap (λ (y : Steady). state_of y r) e
 
 module _ (p q : PassState) (t : InTurn p) (u : InTurn q) (free : IsFreeForCycle p) (at : IsAtPhase p 4) where
+  -- a step that leaves the words of pages
+  leaves_pages : (s : Step) (a : Acts p s q) → Frees p q
+      → ((r : ℕ) → state_in (world_behind p.table.config (world_at a.makes) (event_of p s)).now.words r
+      ≡ state_in (world_at a.makes).now.words r)
+      → GivesNothingBack p q
+  leaves_pages s a frees left = record {
+    frees = frees;
+    same = λ r. ap (λ (w : World). state_in w.now.words r) a.world ∙ left r ∙ state_there _ _ a.turn.steady r;
+  }
+
   pub look_frees : (x : Word) → Acts p (Step.Look x) q → GivesNothingBack p q
   look_frees x a =
-      record {
-        frees = frees_step p (Step.Look x) q a t u refl refl free at
-            (look_gives p.table.config (world_at a.makes) p.seat x);
-        same = λ r. ap (λ (w : World). record {
-          page = page_of w.now.words r;
-          freed = slice_index w.now.words.freed r;
-          snapshot = slice_index w.now.words.snapshot r;
-        }) a.world
-            ∙ state_there p q (world_of p) _ _ a.turn.steady r;
-      }
+      leaves_pages (Step.Look x) a
+      (frees_step p (Step.Look x) q a t u refl refl free at (look_gives p.table.config (world_at a.makes) p.seat x))
+      (λ r. refl)
 
   pub wipe_frees : (n : ℕ) → Acts p (Step.Wipe n) q → GivesNothingBack p q
   wipe_frees n a =
-      record {
-        frees = frees_step p (Step.Wipe n) q a t u refl refl free at
-            (wipe_gives p.table.config (world_at a.makes) p.seat n);
-        same = λ r. ap (λ (w : World). record {
-          page = page_of w.now.words r;
-          freed = slice_index w.now.words.freed r;
-          snapshot = slice_index w.now.words.snapshot r;
-        }) a.world
-            ∙ state_there p q (world_of p) _ _ a.turn.steady r;
-      }
+      leaves_pages (Step.Wipe n) a
+      (frees_step p (Step.Wipe n) q a t u refl refl free at (wipe_gives p.table.config (world_at a.makes) p.seat n))
+      (λ r. refl)
 
 four_or : (a b : Bool) (n : ℕ) → n ≡ 4 → (a || b || (n == 4)) ≡ true
 four_or a b n h = or_true (a || b) (n == 4) (eq-eqb n 4 h)
@@ -153,11 +138,10 @@ pub none_at_once : (p : PassState) → GivesNothingBack p p
 none_at_once p = record { frees = frees_nothing p; same = λ i. refl }
 
 pub still_unmapped_word : (p q : PassState) (n : ℕ) → Frees p q → IsUnmappedWord p n → IsUnmappedWord q n
-still_unmapped_word p q n k h =
-    record {
-      within = subst (λ (c : Config). n < 64 * c.pages) (sym (same_config p q k.keeps.call.pass)) h.within;
-      unmapped = still_unmapped p q n k.keeps h.unmapped;
-    }
+still_unmapped_word p q n k h = record {
+  within = subst (λ (c : Config). n < 64 * c.pages) (sym (same_config p q k.keeps.call.pass)) h.within;
+  unmapped = still_unmapped p q n k.keeps h.unmapped;
+}
 
 -- the word is 0 after its wipe
 pub wiped : (p q : PassState) → InTurn p → InTurn q → (n : ℕ) → Acts p (Step.Wipe n) q → IsZero q n
@@ -170,142 +154,98 @@ wiped p q t u n a =
       | inr past ↦ ap (λ (ys : List ℕ). slice_index ys i) (set_past xs i 0 past) ∙ get_or_past xs i 0 past
     ]
 
--- the words of pages after steps that store them
+-- the words of a page where a word of one is stored
 
-abbrev with_pages : World → ℕ → List Page → PageState
-with_pages w r pages = record {
-  page = slice_index_or pages r free_page;
-  freed = slice_index w.now.words.freed r;
-  snapshot = slice_index w.now.words.snapshot r;
-}
+page_set : (w : Words) (page : ℕ) (x : Page) → page < length w.pages
+    → state_in (record w { pages = slice_set w.pages page x }) page ≡ record (state_in w page) { page = x }
+page_set w page x long = ap (λ (y : Page). record (state_in w page) { page = y })
+    (get_or-set_same w.pages page x free_page long)
 
-state_behind : (p q : PassState) (v : World) → world_of q ≡ v → (r : ℕ) → page_state q r ≡ state_at v r
-unfolding state_at
-state_behind p q v is r =
-    ap (λ (x : World). record {
-      page = page_of x.now.words r;
-      freed = slice_index x.now.words.freed r;
-      snapshot = slice_index x.now.words.snapshot r;
-    }) is
+page_set_other : (w : Words) (page : ℕ) (x : Page) (r : ℕ) → r ≢ page
+    → state_in (record w { pages = slice_set w.pages page x }) r ≡ state_in w r
+page_set_other w page x r ne = ap (λ (y : Page). record (state_in w r) { page = y })
+    (get_or-set_other w.pages page r x free_page ne)
+
+abbrev with_quar : Words → ℕ → ℕ → ℕ → Words
+with_quar w page freed snapshot =
+    record w { freed = slice_set w.freed page freed; snapshot = slice_set w.snapshot page snapshot }
+
+quar_set : (w : Words) (page freed snapshot : ℕ) → page < length w.freed → page < length w.snapshot
+    → state_in (with_quar w page freed snapshot) page
+    ≡ record (state_in w page) { freed = freed; snapshot = snapshot }
+quar_set w page freed snapshot long longer =
+    cc (get_or-set_same w.freed page freed 0 long, get_or-set_same w.snapshot page snapshot 0 longer)
+
+quar_set_other : (w : Words) (page freed snapshot r : ℕ) → r ≢ page
+    → state_in (with_quar w page freed snapshot) r ≡ state_in w r
+quar_set_other w page freed snapshot r ne =
+    cc (get_or-set_other w.freed page r freed 0 ne, get_or-set_other w.snapshot page r snapshot 0 ne)
+
+-- A step that stores the words of one page.
+module _ {p q : PassState} (s : Step) (a : Acts p s q) (page : ℕ) where
+  abbrev there : Words
+  there = (world_at a.makes).now.words
+
+  abbrev behind : Words
+  behind = (world_behind p.table.config (world_at a.makes) (event_of p s)).now.words
+
+  frees_one : Frees p q → ((r : ℕ) → r ≢ page → state_in behind r ≡ state_in there r) → FreesPage page p q
+  frees_one frees others = record {
+    frees = frees;
+    others = λ r ne. ap (λ (w : World). state_in w.now.words r) a.world ∙ others r ne
+        ∙ state_there _ _ a.turn.steady r;
+  }
+
+  state_now : (f : PageState → PageState)
+      → (AreOfPages p.table.config.pages there → state_in behind page ≡ f (state_in there page))
+      → page_state q page ≡ f (page_state p page)
+  state_now f stored =
+      ap (λ (w : World). state_in w.now.words page) a.world
+      ∙ stored (stands p.table.config (p.seen ++ a.makes.others) (made p s q a.makes).history).known.lengths
+      ∙ ap f (state_there _ _ a.turn.steady page)
 
 module _ (p q : PassState) (t : InTurn p) (u : InTurn q) (free : IsFreeForCycle p) (at : IsAtPhase p 4) where
   module _ (page v : ℕ) (a : Acts p (Step.Used page v) q) (lt : page < p.table.config.pages) where
     pub used_frees : FreesPage page p q
-    unfolding state_at
     used_frees =
-        let w : World = world_at a.makes in
-        record {
-          frees = frees_step p (Step.Used page v) q a t u refl refl free at (used_gives p.table.config w p.seat page v);
-          others = λ r ne.
-              state_behind p q _ a.world r
-              ∙ ap (λ (x : Page). record {
-                page = x;
-                freed = slice_index w.now.words.freed r;
-                snapshot = slice_index w.now.words.snapshot r;
-              })
-              (get_or-set_other w.now.words.pages page r (record { header = header_at w.now.words page; used = v })
-              free_page ne)
-              ∙ state_there p q w _ _ a.turn.steady r;
-        }
+        frees_one (Step.Used page v) a page
+        (frees_step p (Step.Used page v) q a t u refl refl free at
+        (used_gives p.table.config (world_at a.makes) p.seat page v))
+        (λ r ne. page_set_other (world_at a.makes).now.words page _ r ne)
 
     pub used_state : page_state q page
         ≡ record (page_state p page) { page = record { header = header_at (now_of p).words page; used = v } }
-    unfolding state_at
     used_state =
-        let w : World = world_at a.makes in
-        let known = stands p.table.config (p.seen ++ a.makes.others)
-        (made p (Step.Used page v) q a.makes).history in
-        let long : page < length w.now.words.pages = subst (λ (n : ℕ). page < n) (sym known.known.lengths.pages) lt in
-        state_behind p q _ a.world page
-        ∙ ap (λ (x : Page). record {
-          page = x;
-          freed = slice_index w.now.words.freed page;
-          snapshot = slice_index w.now.words.snapshot page;
-        })
-        (get_or-set_same w.now.words.pages page (record { header = header_at w.now.words page; used = v }) free_page
-        long)
-        ∙ ap (λ (x : PageState). record x { page = record { header = x.page.header; used = v } })
-        (state_there p q w _ _ a.turn.steady page)
+        state_now (Step.Used page v) a page
+        (λ x. record x { page = record { header = x.page.header; used = v } })
+        (λ of. page_set (world_at a.makes).now.words page _ (subst (λ (n : ℕ). page < n) (sym of.pages) lt))
 
   module _ (page : ℕ) (a : Acts p (Step.Head page 0) q) (lt : page < p.table.config.pages) where
     pub head_frees : FreesPage page p q
-    unfolding state_at
     head_frees =
-        let w : World = world_at a.makes in
-        record {
-          frees = frees_step p (Step.Head page 0) q a t u refl refl free at (head_gives p.table.config w p.seat page 0);
-          others = λ r ne.
-              state_behind p q _ a.world r
-              ∙ ap (λ (x : Page). record {
-                page = x;
-                freed = slice_index w.now.words.freed r;
-                snapshot = slice_index w.now.words.snapshot r;
-              })
-              (get_or-set_other w.now.words.pages page r (record { header = 0; used = used_at w.now.words page })
-              free_page ne)
-              ∙ state_there p q w _ _ a.turn.steady r;
-        }
+        frees_one (Step.Head page 0) a page
+        (frees_step p (Step.Head page 0) q a t u refl refl free at
+        (head_gives p.table.config (world_at a.makes) p.seat page 0))
+        (λ r ne. page_set_other (world_at a.makes).now.words page _ r ne)
 
     pub head_state : page_state q page
         ≡ record (page_state p page) { page = record { header = 0; used = used_at (now_of p).words page } }
-    unfolding state_at
     head_state =
-        let w : World = world_at a.makes in
-        let known = stands p.table.config (p.seen ++ a.makes.others)
-        (made p (Step.Head page 0) q a.makes).history in
-        let long : page < length w.now.words.pages = subst (λ (n : ℕ). page < n) (sym known.known.lengths.pages) lt in
-        state_behind p q _ a.world page
-        ∙ ap (λ (x : Page). record {
-          page = x;
-          freed = slice_index w.now.words.freed page;
-          snapshot = slice_index w.now.words.snapshot page;
-        })
-        (get_or-set_same w.now.words.pages page (record { header = 0; used = used_at w.now.words page }) free_page long)
-        ∙ ap (λ (x : PageState). record x { page = record { header = 0; used = x.page.used } })
-        (state_there p q w _ _ a.turn.steady page)
+        state_now (Step.Head page 0) a page
+        (λ x. record x { page = record { header = 0; used = x.page.used } })
+        (λ of. page_set (world_at a.makes).now.words page _ (subst (λ (n : ℕ). page < n) (sym of.pages) lt))
 
   module _ (page v : ℕ) (a : Acts p (Step.Quar page v) q) (lt : page < p.table.config.pages) where
     pub quar_frees : FreesPage page p q
-    unfolding state_at
     quar_frees =
-        let w : World = world_at a.makes in
-        record {
-          frees = frees_step p (Step.Quar page v) q a t u refl refl free at
-              (quar_gives p.table.config w p.seat page v (ap is_pending_free a.own.flight ∙ free.decided));
-          others = λ r ne.
-              state_behind p q _ a.world r
-              ∙ ap (λ (n : ℕ). record {
-                page = page_of w.now.words r;
-                freed = n;
-                snapshot = slice_index (slice_set w.now.words.snapshot page (v / 2 ^ 32)) r;
-              })
-              (get_or-set_other w.now.words.freed page r (v % 2 ^ 32) 0 ne)
-              ∙ ap (λ (n : ℕ). record {
-                page = page_of w.now.words r;
-                freed = slice_index w.now.words.freed r;
-                snapshot = n;
-              })
-              (get_or-set_other w.now.words.snapshot page r (v / 2 ^ 32) 0 ne)
-              ∙ state_there p q w _ _ a.turn.steady r;
-        }
+        frees_one (Step.Quar page v) a page
+        (frees_step p (Step.Quar page v) q a t u refl refl free at
+        (quar_gives p.table.config (world_at a.makes) p.seat page v
+        (ap is_pending_free a.own.flight ∙ free.decided)))
+        (λ r ne. quar_set_other (world_at a.makes).now.words page _ _ r ne)
 
     pub quar_state : page_state q page ≡ record (page_state p page) { freed = v % 2 ^ 32; snapshot = v / 2 ^ 32 }
-    unfolding state_at
     quar_state =
-        let w : World = world_at a.makes in
-        let known = stands p.table.config (p.seen ++ a.makes.others)
-        (made p (Step.Quar page v) q a.makes).history in
-        let long : page < length w.now.words.freed = subst (λ (n : ℕ). page < n) (sym known.known.lengths.freed) lt in
-        let long' : page < length w.now.words.snapshot =
-        subst (λ (n : ℕ). page < n) (sym known.known.lengths.snapshot) lt in
-        state_behind p q _ a.world page
-        ∙ ap (λ (n : ℕ). record {
-          page = page_of w.now.words page;
-          freed = n;
-          snapshot = slice_index (slice_set w.now.words.snapshot page (v / 2 ^ 32)) page;
-        })
-        (get_or-set_same w.now.words.freed page (v % 2 ^ 32) 0 long)
-        ∙ ap (λ (n : ℕ). record { page = page_of w.now.words page; freed = v % 2 ^ 32; snapshot = n })
-        (get_or-set_same w.now.words.snapshot page (v / 2 ^ 32) 0 long')
-        ∙ ap (λ (x : PageState). record x { freed = v % 2 ^ 32; snapshot = v / 2 ^ 32 })
-        (state_there p q w _ _ a.turn.steady page)
+        state_now (Step.Quar page v) a page (λ x. record x { freed = v % 2 ^ 32; snapshot = v / 2 ^ 32 })
+        (λ of. quar_set (world_at a.makes).now.words page _ _ (subst (λ (n : ℕ). page < n) (sym of.freed) lt)
+        (subst (λ (n : ℕ). page < n) (sym of.snapshot) lt))

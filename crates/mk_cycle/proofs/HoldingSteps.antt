@@ -1,7 +1,7 @@
 -- Gates are held one after the other.
 use Rattle.mk_laws.proofs.Vocabulary.{Bool, List, Step, Word, World, ℕ, and_from, ap, arith, cases_eq, cases_lt, eq-eqb}
 use Rattle.mk_laws.proofs.Vocabulary.{eqb-true, false, get_or-set_other, get_or-set_same, if◌then◌else◌, inl, inr}
-use Rattle.mk_laws.proofs.Vocabulary.{is_held, is_number_of, length, lt-ltb, nat_lt, ne_eqb, not, others_are_held, refl}
+use Rattle.mk_laws.proofs.Vocabulary.{is_held, is_number_of, length, lt-ltb, ne_eqb, not, others_are_held, refl}
 use Rattle.mk_laws.proofs.Vocabulary.{set_past, slice_index, slice_set, sym, true, ◌<◌, ◌==◌, ◌||◌, ◌∙◌, ◌≡◌}
 use Rattle.mk_cycle.proofs.Vocabulary.{Acts, HoldsGates, InTurn, IsEnabledTo, IsFreeForCycle, PassState, WordsState}
 use Rattle.mk_cycle.proofs.Vocabulary.{does_nothing, does_step, does_then, holds_gates, now_of, world_at}
@@ -13,12 +13,11 @@ pub holds_nothing : (p : PassState) → HoldsGates p p
 holds_nothing p = record { does = does_nothing holds_gates p; keeps = keeps_at_once unchanged p; held = λ j h. h }
 
 pub holds_then : (p q r : PassState) → HoldsGates p q → HoldsGates q r → HoldsGates p r
-holds_then p q r a b =
-    record {
-      does = does_then holds_gates p q r a.does b.does;
-      keeps = keeps_then unchanged p q r a.keeps b.keeps;
-      held = λ j h. b.held j (a.held j h);
-    }
+holds_then p q r a b = record {
+  does = does_then holds_gates p q r a.does b.does;
+  keeps = keeps_then unchanged p q r a.keeps b.keeps;
+  held = λ j h. b.held j (a.held j h);
+}
 
 pub held_free : (p q : PassState) → HoldsGates p q → IsFreeForCycle p → IsFreeForCycle q
 held_free p q k free = free_then p q k.keeps.call free
@@ -34,9 +33,7 @@ pub hold_allowed : (p : PassState) → InTurn p → IsFreeForCycle p → (j : �
     → is_held (now_of p).words j ≡ false → IsEnabledTo p (Step.Hold j)
 hold_allowed p t free j lt other none =
     may_act p (Step.Hold j) (protocol p t free) t.holds free.decided refl
-    (and_from (nat_lt j p.table.config.callers) (not (is_number_of p.seat j)) (lt-ltb j p.table.config.callers lt)
-    (ap not other))
-    (ap not none) refl refl
+    (and_from _ (not _) (lt-ltb j _ lt) (ap not other)) (ap not none) refl refl
 
 -- A gate that is held stays so where one that was found open is held.
 stays_held : (gs : List ℕ) (i j : ℕ) → slice_index gs j ≡ 2
@@ -56,23 +53,21 @@ stays_held gs i j two = elim (cases_eq j i) [
 
 module _ (p q : PassState) (t : InTurn p) (free : IsFreeForCycle p) (u : InTurn q) where
   pub look_holds : (j : ℕ) → Acts p (Step.Look (Word.Gate j)) q → HoldsGates p q
-  look_holds j a =
-      record {
-        does = does_step holds_gates p q (Step.Look (Word.Gate j)) a.makes refl;
-        keeps = calm_keeps p (Step.Look (Word.Gate j)) q a t u.history refl free unchanged refl;
-        held = λ i h. eq-eqb _ 2 (ap (λ (w : World). slice_index w.now.words.gates i) a.world
-            ∙ a.turn.held_gates i (eqb-true _ 2 h));
-      }
+  look_holds j a = record {
+    does = does_step holds_gates p q (Step.Look (Word.Gate j)) a.makes refl;
+    keeps = calm_keeps p (Step.Look (Word.Gate j)) q a t u.history refl free unchanged refl;
+    held = λ i h. eq-eqb _ 2 (ap (λ (w : World). slice_index w.now.words.gates i) a.world
+        ∙ a.turn.held_gates i (eqb-true _ 2 h));
+  }
 
   pub hold_holds : (j : ℕ) → Acts p (Step.Hold j) q → HoldsGates p q
-  hold_holds j a =
-      record {
-        does = does_step holds_gates p q (Step.Hold j) a.makes refl;
-        keeps = calm_keeps p (Step.Hold j) q a t u.history refl free unchanged refl;
-        held = λ i h. eq-eqb _ 2
-            (ap (λ (w : World). slice_index w.now.words.gates i) a.world
-            ∙ stays_held (world_at a.makes).now.words.gates j i (a.turn.held_gates i (eqb-true _ 2 h)));
-      }
+  hold_holds j a = record {
+    does = does_step holds_gates p q (Step.Hold j) a.makes refl;
+    keeps = calm_keeps p (Step.Hold j) q a t u.history refl free unchanged refl;
+    held = λ i h. eq-eqb _ 2
+        (ap (λ (w : World). slice_index w.now.words.gates i) a.world
+        ∙ stays_held (world_at a.makes).now.words.gates j i (a.turn.held_gates i (eqb-true _ 2 h)));
+  }
 
 pub all_held_below : (p : PassState) (callers : ℕ) → ((j : ℕ) → j < callers → IsHeldOrOwn p j)
     → others_are_held callers (now_of p).words p.seat ≡ true

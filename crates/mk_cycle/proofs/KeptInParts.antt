@@ -2,43 +2,37 @@
 use Rattle.mk_laws.proofs.Vocabulary.{Config, Steady, Step, World, ℕ, ap, cases_eq, eq-eqb, has_place, inl, inr}
 use Rattle.mk_laws.proofs.Vocabulary.{is_held, ne_eqb, refl, slice_index, subst, sym, world_behind, ◌<◌, ◌==◌, ◌∙◌, ◌≡◌}
 use Rattle.mk_laws.proofs.Vocabulary.{◌≢◌}
-use Rattle.mk_cycle.proofs.Vocabulary.{Acts, Done, Has, IsFreeForCycle, KeepsCall, KeepsGates, LeavesTurn, PassState}
-use Rattle.mk_cycle.proofs.Vocabulary.{event_of, full_answers, is_pending_free, world_at}
+use Rattle.mk_cycle.proofs.Vocabulary.{Acts, Done, IsFreeForCycle, KeepsCall, KeepsGates, LeavesTurn, PassState}
+use Rattle.mk_cycle.proofs.Vocabulary.{event_of, is_pending_free, world_at}
 
 pub calls_then : (p q r : PassState) → KeepsCall p q → KeepsCall q r → KeepsCall p r
-calls_then p q r a b =
-    record {
-      pass = b.pass ∙ ap (λ (x : PassState). record x { seen = r.seen }) a.pass;
-      call = b.call ∙ a.call;
-      done = b.done ∙ a.done;
-      gone = λ g. b.gone (a.gone g);
-    }
+calls_then p q r a b = record {
+  pass = b.pass ∙ ap (λ (x : PassState). record x { seen = r.seen }) a.pass;
+  call = b.call ∙ a.call;
+  done = b.done ∙ a.done;
+  gone = λ g. b.gone (a.gone g);
+}
 
 pub same_config : (p q : PassState) → q ≡ record p { seen = q.seen } → q.table.config ≡ p.table.config
 same_config p q is = ap (λ (x : PassState). x.table.config) is
 
 pub keeps_at_once : (view : Steady → Steady) (p : PassState) → LeavesTurn view p p
-keeps_at_once view p =
-    record {
-      call = record { pass = refl; call = refl; done = refl; gone = λ g. g };
-      steady = refl;
-      counts = record { ends = refl; fulls = refl };
-    }
+keeps_at_once view p = record {
+  call = record { pass = refl; call = refl; done = refl; gone = λ g. g };
+  steady = refl;
+  counts = record { ends = refl; fulls = refl };
+}
 
 pub keeps_then : (view : Steady → Steady) (p q r : PassState) → LeavesTurn view p q → LeavesTurn view q r
     → LeavesTurn view p r
-keeps_then view p q r a b =
-    record {
-      call = calls_then p q r a.call b.call;
-      steady = b.steady ∙ a.steady;
-      counts =
-          record {
-            ends = b.counts.ends ∙ a.counts.ends;
-            fulls = subst (λ (c : Config). full_answers c r.seen
-                ≡ full_answers c q.seen) (same_config p q a.call.pass) b.counts.fulls
-                ∙ a.counts.fulls;
-          };
-    }
+keeps_then view p q r a b = record {
+  call = calls_then p q r a.call b.call;
+  steady = b.steady ∙ a.steady;
+  counts = record {
+    ends = b.counts.ends ∙ a.counts.ends;
+    fulls = cc (same_config p q a.call.pass, b.counts.fulls, a.counts.fulls);
+  };
+}
 
 -- Less is seen by another view of the view.
 pub keeps_less : (view more : Steady → Steady) (p q : PassState) → LeavesTurn view p q
@@ -46,8 +40,7 @@ pub keeps_less : (view more : Steady → Steady) (p q : PassState) → LeavesTur
 keeps_less view more p q a = record { call = a.call; steady = ap more a.steady; counts = a.counts }
 
 pub gates_then : (p q r : PassState) → q ≡ record p { seen = q.seen } → KeepsGates p q → KeepsGates q r → KeepsGates p r
-gates_then p q r is a b j lt =
-    b j (subst (λ (c : Config). j < c.callers) (sym (same_config p q is)) lt) ∙ a j lt
+gates_then p q r is a b j lt = b j (subst (λ (c : Config). j < c.callers) (sym (same_config p q is)) lt) ∙ a j lt
 
 pub held_so : (a b : ℕ) → (a ≡ 2 → b ≡ 2) → (a ≢ 2 → b ≢ 2) → (b == 2) ≡ (a == 2)
 held_so a b held free = elim (cases_eq a 2) [
@@ -64,13 +57,9 @@ gates_behind p s q a same j lt =
     ∙ ap (λ gs. slice_index gs j == 2) same
     ∙ held_so _ _ (a.turn.held_gates j) (a.turn.other_gates j)
 
-pub own_then : (p q : PassState) → q ≡ record p { seen = q.seen } → Has p.seats p.seat → Has q.seats q.seat
-own_then p q is h = subst (λ (x : PassState). Has x.seats x.seat) (sym is) h
-
 pub free_then : (p q : PassState) → KeepsCall p q → IsFreeForCycle p → IsFreeForCycle q
-free_then p q k free =
-    record {
-      decided = ap is_pending_free k.call ∙ free.decided;
-      unplaced = ap (λ (x : Done). has_place x.placing) k.done ∙ free.unplaced;
-      gone = k.gone free.gone;
-    }
+free_then p q k free = record {
+  decided = ap is_pending_free k.call ∙ free.decided;
+  unplaced = ap (λ (x : Done). has_place x.placing) k.done ∙ free.unplaced;
+  gone = k.gone free.gone;
+}

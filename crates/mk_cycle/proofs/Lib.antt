@@ -35,3 +35,4 @@ pub mod Begun
 pub mod Undirty
 pub mod CleanedPages
 pub mod Vocabulary
+pub mod ReleasedStops

@@ -87,8 +87,7 @@ may_act p s protocol holds pending any range gates phase holder =
     meets_enabled p.table.config (now_of p) (event_of p s)
     (record {
       seat = exists p.table.config (now_of p) p.seat holds;
-      kind = ap (λ (g : Group). is_open_to p.seat g) (is_turn (group_of s) (any_is s any))
-          ∙ opens p.table.config (now_of p) p.seat holds;
+      kind = cc (is_turn (group_of s) (any_is s any), opens p.table.config (now_of p) p.seat holds);
       order = orders p.table.config (now_of p) p.seat s protocol holds pending any;
       range = range;
       gates = gates;

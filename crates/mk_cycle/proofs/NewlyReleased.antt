@@ -1,8 +1,7 @@
 -- Lists of allocations after a `release`: what is new there, counted and weighed.
 use Rattle.std.proofs.Common.{filter}
 use Rattle.mk_laws.proofs.Vocabulary.{Bool, List, PlacedAllocation, ℕ, ap, arith, cond, false, get_or, if◌then◌else◌}
-use Rattle.mk_laws.proofs.Vocabulary.{length, map, not, refl, suc, sym, true, true≢false, zero, [], ◌&&◌, ◌+◌, ◌∙◌, ◌∷◌}
-use Rattle.mk_laws.proofs.Vocabulary.{◌≡◌}
+use Rattle.mk_laws.proofs.Vocabulary.{length, map, not, refl, suc, sym, true, true≢false, zero, [], ◌&&◌, ◌+◌, ◌∷◌, ◌≡◌}
 use Rattle.mk_cycle.proofs.Vocabulary.{count_by, newly_released, releases, sum_by, sum_by-cons}
 use Rattle.mk_cycle.specs.FinishCycle.{is_newly_released}
 
@@ -93,10 +92,5 @@ module _ (f : PlacedAllocation → PlacedAllocation) where
       by : (b : Bool) → t a ≡ b → filter t (map f ys) ≡ filter t ys
           → (if t (f a) then f a ∷ filter t (map f ys) else filter t (map f ys))
           ≡ (if t a then a ∷ filter t ys else filter t ys)
-      by true is rest =
-          ap (λ (x : PlacedAllocation). if t x then x ∷ filter t (map f ys) else filter t (map f ys)) (left zero is)
-          ∙ ap (λ (zs : List PlacedAllocation). if t a then a ∷ zs else zs) rest
-      by false is rest =
-          ap (λ (b : Bool). if b then f a ∷ filter t (map f ys) else filter t (map f ys)) (none zero is)
-          ∙ rest
-          ∙ sym (ap (λ (b : Bool). if b then a ∷ filter t ys else filter t ys) is)
+      by true is rest = cc (left zero is)
+      by false is rest = cc (none zero is)

@@ -1,10 +1,10 @@
 -- The gates are opened after a `release`.
 use Rattle.mk_laws.proofs.Vocabulary.{Bool, Config, Event, IsHistory, List, Seat, Step, Words, World, ℕ, all_below-at}
 use Rattle.mk_laws.proofs.Vocabulary.{and_from, ap, append-nil, append_assoc, earlier_part_is_history, false, inl, inr}
-use Rattle.mk_laws.proofs.Vocabulary.{is_held, is_number_of, is_one_of, lt-ltb, nat_lt, not, others_are_held, refl}
-use Rattle.mk_laws.proofs.Vocabulary.{slice_index, subst, sym, true, [], ◌++◌, ◌==◌, ◌||◌, ◌∙◌, ◌∷◌, ◌≡◌}
+use Rattle.mk_laws.proofs.Vocabulary.{is_held, is_number_of, is_one_of, lt-ltb, not, others_are_held, refl, slice_index}
+use Rattle.mk_laws.proofs.Vocabulary.{subst, sym, true, [], ◌++◌, ◌==◌, ◌||◌, ◌∙◌, ◌∷◌, ◌≡◌}
 use Rattle.mk_cycle.proofs.Vocabulary.{GivesNothingBack, InTurn, IsAtPhase, IsFreeForCycle, Makes, PassState, call_of}
-use Rattle.mk_cycle.proofs.Vocabulary.{event_of, now_of, stands, world_at, world_of}
+use Rattle.mk_cycle.proofs.Vocabulary.{event_of, now_of, stands, world_at}
 use Rattle.mk_core.specs.{Growing.AreOfOthers, Words.page_of}
 use Rattle.mk_laws.proofs.{Actors.is_holders, FramesHolders.acts_as_holder, Known.holds_turn, LastEvents.comes_last}
 use Rattle.mk_laws.proofs.{Orderly.same_holder, OrderlyLists.actor_of, ProtocolFrames.others_leave, Views.view_of}
@@ -50,7 +50,7 @@ by_another p e t at h other =
     record {
       none = record {
         frees = others_free p (e ∷ []) t others h at;
-        same = λ r. state_there p (behind p (e ∷ [])) (world_of p) _ _ (frame.turn t.holds).0.steady r;
+        same = λ r. state_there _ _ (frame.turn t.holds).0.steady r;
       };
       turn = record { own = t.own; holds = (frame.own.holding t.holds).0; history = h };
     }
@@ -82,7 +82,7 @@ by_itself p j t free at h =
               freed = slice_index w.now.words.freed r;
               snapshot = slice_index w.now.words.snapshot r;
             }) a.world
-            ∙ state_there p q (world_of p) _ _ a.turn.steady r;
+            ∙ state_there _ _ a.turn.steady r;
       };
       turn = next;
     }
@@ -133,7 +133,5 @@ others_may_open p t free at held j le lt other =
     let w : Words = (now_of p).words in
     let all = all_below-at p.table.config.callers j (λ i. is_number_of p.seat i || is_held w i) held lt in
     may_act p (Step.Open j) (protocol p t free) t.holds free.decided refl
-    (and_from (nat_lt j p.table.config.callers) (not (is_number_of p.seat j)) (lt-ltb j p.table.config.callers lt)
-    (ap not other))
-    (sym (ap (λ (b : Bool). b || is_held w j) other) ∙ all)
+    (and_from _ (not _) (lt-ltb j _ lt) (ap not other)) (sym (ap (λ (b : Bool). b || is_held w j) other) ∙ all)
     (ap (λ (n : ℕ). not (n == 3)) at) free.gone

@@ -2,12 +2,12 @@
 -- those still to come, goes on.
 use Rattle.std.proofs.Common.{le-ltb, ltb-false}
 use Rattle.mk_laws.proofs.Vocabulary.{Block, Free, Header, Later, LeafBlock, LeafRun, None, Option, Run, Some, Words, ℕ}
-use Rattle.mk_laws.proofs.Vocabulary.{and_from, ap, arith, cases_lt, eq-eqb, false, head_page, header_at, header_in}
-use Rattle.mk_laws.proofs.Vocabulary.{header_of, inl, inr, lt-ltb, nat_lt, not, or_parts, refl, run_count, slice_index}
-use Rattle.mk_laws.proofs.Vocabulary.{sym, use_under, used_at, ◌+◌, ◌<◌, ◌∙◌, ◌≡◌, ◌≤◌}
+use Rattle.mk_laws.proofs.Vocabulary.{and_from, ap, arith, cases_lt, eq-eqb, false, header_at, header_in, header_of}
+use Rattle.mk_laws.proofs.Vocabulary.{inl, inr, lt-ltb, nat_lt, not, or_parts, refl, run_count, slice_index, sym}
+use Rattle.mk_laws.proofs.Vocabulary.{use_under, used_at, ◌+◌, ◌<◌, ◌∙◌, ◌≡◌, ◌≤◌}
 use Rattle.mk_cycle.proofs.Vocabulary.{Frees, FreesPage, HasFreeCells, InTurn, IsOccupied, IsSettledPage, PassState}
-use Rattle.mk_cycle.proofs.Vocabulary.{Released, SamePage, below_more, cells_unmarked, held_below, held_unmarked}
-use Rattle.mk_cycle.proofs.Vocabulary.{now_of, released_below, released_on, words_unmarked}
+use Rattle.mk_cycle.proofs.Vocabulary.{Released, SamePage, below_more, held_below, held_unmarked, now_of}
+use Rattle.mk_cycle.proofs.Vocabulary.{released_below, released_on}
 use Rattle.mk_geom.{proofs.HeaderLemmas.word_of-header_of, specs.PageUses.is_free_page}
 use Rattle.mk_page_map.specs.Members.{IsNext, has_freed_cells, is_in_use}
 use Rattle.mk_cycle.proofs.CountedPages.{counted_more, held_more, held_same, none_held, nothing_on, same_released}
@@ -15,7 +15,7 @@ use Rattle.mk_cycle.proofs.CountedPages.{told_same}
 use Rattle.mk_cycle.proofs.SettledPages.{free_cells_stay, head_elsewhere, no_cells, no_snapshot, none_left}
 use Rattle.mk_cycle.proofs.SettledPages.{same_occupied, still_settled}
 use Rattle.mk_cycle.proofs.{FreeingSteps.frees_nothing, FreeingSteps.frees_then, SumsBelow.sum_past}
-use Rattle.mk_cycle.specs.{Freeing.may_be_unsettled, ReleasedPages.cells_marked}
+use Rattle.mk_cycle.specs.Freeing.{may_be_unsettled}
 
 -- The pages below this one are settled and counted, and the others are as they were; those that also aren't before the
 -- end of a run are occupied.
@@ -31,16 +31,15 @@ pub record AreSettledBelow (p q : PassState) (pages n end : ℕ) (all : Released
 pub settled_none : (p : PassState) (pages : ℕ) → ((r : ℕ) → r < pages → HasFreeCells p r)
     → ((r : ℕ) → IsOccupied p r)
     → AreSettledBelow p p pages 0 0 (record { count = 0; words = 0; kept = 0 }) 0
-settled_none p pages cells occupied =
-    record {
-      frees = frees_nothing p;
-      settled = λ r lt. absurd (omega arith);
-      cells = λ r le lt. cells r lt;
-      same = λ r le. refl;
-      occupied = λ r le past lt. occupied r;
-      counted = refl;
-      holds = refl;
-    }
+settled_none p pages cells occupied = record {
+  frees = frees_nothing p;
+  settled = λ r lt. absurd (omega arith);
+  cells = λ r le lt. cells r lt;
+  same = λ r le. refl;
+  occupied = λ r le past lt. occupied r;
+  counted = refl;
+  holds = refl;
+}
 
 -- one page more
 module _ (p q r : PassState) (n pages : ℕ) (page : FreesPage n q r) where
@@ -64,8 +63,7 @@ module _ (p q r : PassState) (n pages : ℕ) (page : FreesPage n q r) where
       let was = before s (omega (arith, after)) (omega (arith, le, far)) few in
       let lt : n < s = omega (arith, after) in
       same_occupied q r s (page.others s (λ e. absurd (omega (arith, e, after))))
-      (page.others (head_page (now_of q).words s) (head_elsewhere q t n s lt (past s far lt few) was))
-      ∙ was
+      (page.others _ (head_elsewhere q t n s lt (past s far lt few) was)) ∙ was
 
   pub settled_more : InTurn q → (end now : ℕ) → end ≤ now
       → ((s : ℕ) → now ≤ s → n < s → s < pages → n + run_count (header_in (now_of q).words n) ≤ s)
@@ -75,18 +73,17 @@ module _ (p q r : PassState) (n pages : ℕ) (page : FreesPage n q r) where
       → AreSettledBelow p r pages (n + 1) now
       (record { count = all.count + here.count; words = all.words + here.words; kept = all.kept + here.kept })
       (held + more)
-  settled_more t end now le past all here held more before settled counted is_held =
-      record {
-        frees = frees_then p q r before.frees page.frees;
-        settled = settled_on before.settled settled;
-        cells = cells_on before.cells;
-        same = same_on before.same;
-        occupied = occupied_on t end now le past before.occupied;
-        counted = counted_more (now_of p).words n all here before.counted
-            (counted ∙ told_same p q n before.frees.marks (before.same n (omega arith)));
-        holds = held_more (now_of p).words n held more before.holds
-            (is_held ∙ held_same p q n before.frees.marks (before.same n (omega arith)));
-      }
+  settled_more t end now le past all here held more before settled counted is_held = record {
+    frees = frees_then p q r before.frees page.frees;
+    settled = settled_on before.settled settled;
+    cells = cells_on before.cells;
+    same = same_on before.same;
+    occupied = occupied_on t end now le past before.occupied;
+    counted = counted_more (now_of p).words n all here before.counted
+        (counted ∙ told_same p q n before.frees.marks (before.same n (omega arith)));
+    holds = held_more (now_of p).words n held more before.holds
+        (is_held ∙ held_same p q n before.frees.marks (before.same n (omega arith)));
+  }
 
 -- A page that isn't in use has no header.
 
@@ -142,26 +139,22 @@ module _ (p q : PassState) (t : InTurn q) (n m end pages : ℕ) (le : n ≤ m) (
       let none : (r : ℕ) → n ≤ r → r < m
       → ◌≡◌ {A = Released} (record { count = 0; words = 0; kept = 0 }) (released_on w r) =
       λ r after lt. nothing_released q t r (bare_there r after lt) p (same r after) in
-      same_released (released_below w n) (released_below w m)
-      (sym (sum_past n m (cells_unmarked w) le (λ r after lt. sym (ap (λ (x : Released). x.count) (none r after lt)))))
-      (sym (sum_past n m (words_unmarked w) le (λ r after lt. sym (ap (λ (x : Released). x.words) (none r after lt)))))
-      (sym (sum_past n m (cells_marked w) le (λ r after lt. sym (ap (λ (x : Released). x.kept) (none r after lt)))))
+      same_released _ _ (sym (sum_past n m _ le (λ r after lt. sym (ap (λ (x : Released). x.count) (none r after lt)))))
+      (sym (sum_past n m _ le (λ r after lt. sym (ap (λ (x : Released). x.words) (none r after lt)))))
+      (sym (sum_past n m _ le (λ r after lt. sym (ap (λ (x : Released). x.kept) (none r after lt)))))
 
   pub settled_to : (all : Released) (held : ℕ) → AreSettledBelow p q pages n end all held
       → AreSettledBelow p q pages m end all held
-  settled_to all held before =
-      record {
-        frees = before.frees;
-        settled = settled_past before.settled before.occupied;
-        cells = λ r after lt. before.cells r (omega (arith, le, after)) lt;
-        same = λ r after. before.same r (omega (arith, le, after));
-        occupied = λ r after far lt. before.occupied r (omega (arith, le, after)) far lt;
-        counted = before.counted ∙ counted_past before.same;
-        holds = before.holds
-            ∙ sym (sum_past n m (held_unmarked (now_of p).words) le
-            (λ r after lt. sym (none_held (now_of p).words r
-            (nothing_released q t r (bare_there r after lt) p (before.same r after)))));
-      }
+  settled_to all held before = record {
+    frees = before.frees;
+    settled = settled_past before.settled before.occupied;
+    cells = λ r after lt. before.cells r (omega (arith, le, after)) lt;
+    same = λ r after. before.same r (omega (arith, le, after));
+    occupied = λ r after far lt. before.occupied r (omega (arith, le, after)) far lt;
+    counted = before.counted ∙ counted_past before.same;
+    holds = before.holds ∙ sym (sum_past n m _ le (λ r after lt. sym (none_held (now_of p).words r (nothing_released
+        q t r (bare_there r after lt) p (before.same r after)))));
+  }
 
 -- the next page that may be unsettled: the first, up to the end of a run, and after it the next that has freed cells
 

@@ -44,8 +44,7 @@ pub gives_ok : (w : Words) (page used gone size : ℕ) → used_at w page ≡ us
     → slice_index w.heap (64 * page + k * size + i) ≡ 0)
     → gives_back w page (without used gone) ≡ true
 gives_ok w page used gone size is_used is_gone is_size zeros =
-    let cells : used_at w page - without used gone ≡ bit_and used gone = ap (λ (n : ℕ). n - without used gone) is_used
-    ∙ taken_away used gone in
+    let cells : used_at w page - without used gone ≡ bit_and used gone = cc (is_used, taken_away used gone) in
     and_from _ _
     (and_from _ _
     (eq-eqb _ _ (ap (λ (n : ℕ). bit_and (without used gone) n) is_used ∙ left_within used gone))
@@ -66,8 +65,7 @@ drops_ok w page freed snapshot gone is_freed is_snapshot is_gone unused =
     let m : ℕ = slice_index w.marks page in
     let kept : snapshot - gone ≡ bit_and snapshot m = ap (λ (n : ℕ). snapshot - n) is_gone ∙ taken_away snapshot m in
     let away : slice_index w.snapshot page - (snapshot - gone) ≡ gone =
-    ap (λ (n : ℕ). n - (snapshot - gone)) is_snapshot ∙ ap (λ (n : ℕ). snapshot - (snapshot - n)) is_gone
-    ∙ rest_away snapshot m ∙ sym is_gone in
+    cc (is_snapshot, is_gone, rest_away snapshot m) in
     let left : left_unmarked w page ≡ gone = ap (λ (n : ℕ). without n m) is_snapshot ∙ sym is_gone in
     and_from _ _
     (and_from _ _
@@ -82,6 +80,4 @@ drops_ok w page freed snapshot gone is_freed is_snapshot is_gone unused =
 
 -- Then none is left.
 pub none_is_left : (snapshot marks gone : ℕ) → gone ≡ without snapshot marks → without (snapshot - gone) marks ≡ 0
-none_is_left snapshot marks gone is =
-    ap (λ (n : ℕ). without n marks) (ap (λ (n : ℕ). snapshot - n) is ∙ taken_away snapshot marks)
-    ∙ none_beyond snapshot marks
+none_is_left snapshot marks gone is = cc (taken_away snapshot marks, none_beyond snapshot marks)

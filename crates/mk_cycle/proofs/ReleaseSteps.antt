@@ -1,12 +1,10 @@
 -- The `close` and the `release` of a cycle.
-use Rattle.mk_laws.proofs.Vocabulary.{Config, Steady, Step, Words, World, ℕ, ap, arith, eq-eqb, fresh_words_of, map}
-use Rattle.mk_laws.proofs.Vocabulary.{others_are_held, phase_of, refl, subst, true, with_released, [], ◌%◌, ◌+◌, ◌/◌}
-use Rattle.mk_laws.proofs.Vocabulary.{◌<◌, ◌^◌, ◌∙◌, ◌≡◌, ◌≤◌}
-use Rattle.mk_cycle.proofs.Vocabulary.{Acts, InTurn, IsAtPhase, IsEnabledTo, IsFreeForCycle, LeavesTurn, PassState}
-use Rattle.mk_cycle.proofs.Vocabulary.{count_by-le-length, made, now_of, steady_of, world_at, world_of}
-use Rattle.mk_cycle.proofs.BeginSteps.{counts_then}
-use Rattle.mk_cycle.proofs.KeptInParts.{calls_then, free_then, same_config}
-use Rattle.mk_cycle.proofs.{Allowed.protocol, CleaningSteps.calm_keeps, MayAct.may_act, ReleasedCounts.fresh_words_stay}
+use Rattle.mk_laws.proofs.Vocabulary.{Config, Steady, Step, Words, World, ℕ, ap, arith, fresh_words_of, map, phase_of}
+use Rattle.mk_laws.proofs.Vocabulary.{refl, subst, with_released, [], ◌%◌, ◌+◌, ◌/◌, ◌<◌, ◌^◌, ◌∙◌, ◌≡◌, ◌≤◌}
+use Rattle.mk_cycle.proofs.Vocabulary.{Acts, InTurn, IsAtPhase, IsFreeForCycle, LeavesTurn, PassState}
+use Rattle.mk_cycle.proofs.Vocabulary.{count_by-le-length, made, steady_of, world_at, world_of}
+use Rattle.mk_cycle.proofs.{Allowed.protocol, BeginSteps.counts_then, CleaningSteps.calm_keeps, KeptInParts.calls_then}
+use Rattle.mk_cycle.proofs.{KeptInParts.free_then, KeptInParts.same_config, ReleasedCounts.fresh_words_stay}
 use Rattle.mk_cycle.specs.{EngineLaw.ClosesMarks, Releasing.ReleasesUnmarked, TurnKeeps.but_phase}
 use Rattle.mk_words.specs.Steps.{moment_of}
 
@@ -20,12 +18,6 @@ pub phase_at : (p : PassState) (s : Step) (q : PassState) (a : Acts p s q) → I
     → IsAtPhase p phase → phase < 7
     → ((world_at a.makes).now.words.phase + 1) % 2 ^ 64 % 8 ≡ phase + 1
 phase_at p s q a t u phase at small = grind (arith, made, protocol, count_by-le-length, phase_more)
-
-pub release_allowed : (p : PassState) → InTurn p → IsFreeForCycle p → IsAtPhase p 3
-    → others_are_held p.table.config.callers (now_of p).words p.seat ≡ true → IsEnabledTo p Step.Release
-release_allowed p t free at held =
-    may_act p Step.Release (protocol p t free) t.holds free.decided refl refl held
-    (eq-eqb (phase_of (now_of p).words) 3 at) refl
 
 pub close_leaves : (p q : PassState) → InTurn p → IsFreeForCycle p → IsAtPhase p 2 → Acts p Step.Close q → InTurn q
     → LeavesTurn but_phase p q × IsAtPhase q 3

@@ -84,10 +84,6 @@ module _ (d q : PassState) (t : InTurn d) (u : InTurn q) (at : IsAtPhase d 3) (a
       true≢false (sym gone
       ∙ ap (λ (i : ℕ). (with_released c w.now.words (placed_at w.allocations i)).released) (sym number) ∙ kept)
     where
-      not_so : (b : Bool) → not b ≡ true → b ≡ false
-      not_so true h = cc
-      not_so false h = refl
-
       first_of_or : (b e : Bool) → (b || e) ≡ false → b ≡ false
       first_of_or true e h = cc
       first_of_or false e h = refl
@@ -206,7 +202,6 @@ module _ (d q : PassState) (t : InTurn d) (u : InTurn q) (at : IsAtPhase d 3) (a
             | inl releasing ↦ absurd (true≢false (sym releasing ∙ not_releasing))
             | inr within ↦ absurd (no_plot _ w.now.seats.holding.placing unplaced within)
           ]
-          | inr used ↦ or_right (header_at w.now.words page == 0) _
-              (ap not (ne_eqb (used_at w.now.words (head_page w.now.words page)) 0 used))
+          | inr used ↦ or_right _ _ (ap not (ne_eqb (used_at w.now.words (head_page w.now.words page)) 0 used))
         ]
       ]

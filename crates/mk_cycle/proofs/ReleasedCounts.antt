@@ -1,12 +1,11 @@
 -- The words of the pages after a `release` say what it released.
 use Rattle.mk_laws.proofs.Vocabulary.{Bool, Cell, Config, Event, IsHistory, List, PlacedAllocation, Steady, Step, Words}
-use Rattle.mk_laws.proofs.Vocabulary.{World, ℕ, address_of, and_from, and_parts, ap, arith, cell_of_allocation}
-use Rattle.mk_laws.proofs.Vocabulary.{cells_begin, cond, false, fresh_words_of, has_bit, has_bit_of, has_bit_without}
-use Rattle.mk_laws.proofs.Vocabulary.{header_in, is_cycling, is_large, is_left_unmarked, is_mapped, is_quarantined}
-use Rattle.mk_laws.proofs.Vocabulary.{is_some_and, kinds_of, left, length, map, never_granted, not, not-true, phase_of}
-use Rattle.mk_laws.proofs.Vocabulary.{placed_at, pointed_cell, refl, released_where_left, slice_index, storage_words}
-use Rattle.mk_laws.proofs.Vocabulary.{sym, true, true≢false, with_released, words_under, ◌&&◌, ◌++◌, ◌+◌, ◌||◌, ◌∙◌}
-use Rattle.mk_laws.proofs.Vocabulary.{◌≡◌, ◌≢◌}
+use Rattle.mk_laws.proofs.Vocabulary.{World, ℕ, and_from, and_parts, ap, arith, cell_of_allocation, cells_begin, cond}
+use Rattle.mk_laws.proofs.Vocabulary.{false, fresh_words_of, has_bit, has_bit_of, has_bit_without, header_in}
+use Rattle.mk_laws.proofs.Vocabulary.{is_cycling, is_large, is_mapped, is_quarantined, kinds_of, left, length, map}
+use Rattle.mk_laws.proofs.Vocabulary.{never_granted, not, not-true, phase_of, placed_at, refl, released_where_left}
+use Rattle.mk_laws.proofs.Vocabulary.{slice_index, storage_words, sym, true, true≢false, with_released, words_under}
+use Rattle.mk_laws.proofs.Vocabulary.{◌&&◌, ◌++◌, ◌+◌, ◌||◌, ◌∙◌, ◌≡◌, ◌≢◌}
 use Rattle.mk_cycle.proofs.Vocabulary.{Acts, HasReleased, InTurn, IsAtPhase, PassState, Released, allocations_stand}
 use Rattle.mk_cycle.proofs.Vocabulary.{and_le_l, cells_unmarked, count_by, left_unmarked, made, newly_released, now_of}
 use Rattle.mk_cycle.proofs.Vocabulary.{released_below, stands, sum_below, sum_by, words_unmarked, world_at, world_of}
@@ -69,21 +68,20 @@ module _ (c : Config) (es : List Event) (h : IsHistory c es) (at : phase_of (lef
       and_from (is_quarantined a) (not a.fresh) (and_from a.freed (not a.released) both.0 parts.0) both.1
 
   pub unmarked_are : AreTheirBits c es (is_new f) (left_unmarked w)
-  unmarked_are =
-      record {
-        none = refl;
-        small = λ p.
-            let least = ((stands c es h).all.order.quarantined.small p).1 in
-            omega arith;
-        within = λ p k has. within_freed p k (left_parts p k has);
-        quarantined = λ i new.
-            let a : PlacedAllocation = placed_at xs i in
-            let both = and_parts (is_quarantined a) (not a.fresh) (new_is_in_snapshot i new) in
-            let parts = and_parts a.freed (not a.released) both.0 in
-            (not-true a.released parts.1, parts.0);
-        same = λ i u freed.
-            ap (λ b. not b && (f (placed_at xs i)).released) u ∙ left_where i u;
-      }
+  unmarked_are = record {
+    none = refl;
+    small = λ p.
+        let least = ((stands c es h).all.order.quarantined.small p).1 in
+        omega arith;
+    within = λ p k has. within_freed p k (left_parts p k has);
+    quarantined = λ i new.
+        let a : PlacedAllocation = placed_at xs i in
+        let both = and_parts (is_quarantined a) (not a.fresh) (new_is_in_snapshot i new) in
+        let parts = and_parts a.freed (not a.released) both.0 in
+        (not-true a.released parts.1, parts.0);
+    same = λ i u freed.
+        ap (λ b. not b && (f (placed_at xs i)).released) u ∙ left_where i u;
+  }
 
   abbrev is_kept : PlacedAllocation → Bool
   is_kept a = is_in_snapshot_of_cycle a && not (f a).released
@@ -94,31 +92,29 @@ module _ (c : Config) (es : List Event) (h : IsHistory c es) (at : phase_of (lef
   rest_is a b m u freed snapshot gone = grind (arith, marked_rest)
 
   marked_are : AreTheirBits c es is_kept (left_marked w)
-  marked_are =
-      record {
-        none = refl;
-        small = λ p.
-            let least = ((stands c es h).all.order.quarantined.small p).1 in
-            let fewer = and_le_l (slice_index w.snapshot p) (slice_index w.marks p) in
-            omega arith;
-        within = λ p k has.
-            within_freed p k (and_parts (has_bit (slice_index w.snapshot p) k) (has_bit (slice_index w.marks p) k)
-            (sym (has_bit_and (slice_index w.snapshot p) (slice_index w.marks p) k) ∙ has)).0;
-        quarantined = λ i kept.
-            let a : PlacedAllocation = placed_at xs i in
-            let in_it = (and_parts (is_in_snapshot_of_cycle a) (not (f a).released) kept).0 in
-            let both = (and_parts (is_quarantined a) (not a.fresh) in_it).0 in
-            let parts = and_parts a.freed (not a.released) both in
-            (not-true a.released parts.1, parts.0);
-        same = λ i u freed.
-            let a : PlacedAllocation = placed_at xs i in
-            let cell : Cell = cell_of_allocation c a in
-            let s : ℕ = slice_index w.snapshot cell.page in
-            let m : ℕ = slice_index w.marks cell.page in
-            rest_is a (has_bit s cell.index) (has_bit m cell.index) u freed (in_snapshot i u)
-            (left_where i u ∙ has_bit_without s m cell.index)
-            ∙ sym (has_bit_and s m cell.index);
-      }
+  marked_are = record {
+    none = refl;
+    small = λ p.
+        let least = ((stands c es h).all.order.quarantined.small p).1 in
+        let fewer = and_le_l (slice_index w.snapshot p) (slice_index w.marks p) in
+        omega arith;
+    within = λ p k has.
+        within_freed p k (and_parts (has_bit (slice_index w.snapshot p) k) (has_bit (slice_index w.marks p) k)
+        (sym (has_bit_and (slice_index w.snapshot p) (slice_index w.marks p) k) ∙ has)).0;
+    quarantined = λ i kept.
+        let a : PlacedAllocation = placed_at xs i in
+        let in_it = (and_parts (is_in_snapshot_of_cycle a) (not (f a).released) kept).0 in
+        let both = (and_parts (is_quarantined a) (not a.fresh) in_it).0 in
+        let parts = and_parts a.freed (not a.released) both in
+        (not-true a.released parts.1, parts.0);
+    same = λ i u freed.
+        let a : PlacedAllocation = placed_at xs i in
+        let cell : Cell = cell_of_allocation c a in
+        let s : ℕ = slice_index w.snapshot cell.page in
+        let m : ℕ = slice_index w.marks cell.page in
+        rest_is a _ _ u freed (in_snapshot i u) (left_where i u ∙ has_bit_without s m cell.index) ∙ sym
+        (has_bit_and s m cell.index);
+  }
 
   storage_is : (i : ℕ) → cond (is_new f (placed_at xs i))
       (words_under (header_in w (cell_of_allocation c (placed_at xs i)).page)) 0
@@ -143,10 +139,9 @@ module _ (c : Config) (es : List Event) (h : IsHistory c es) (at : phase_of (lef
 
   pub words_told : sum_below c.pages (words_unmarked w) ≡ sum_by (storage_words c) (newly_released xs (map f xs))
   words_told =
-      cells_weigh_as_much c es h quiet (is_new f) (left_unmarked w) unmarked_are (λ p. words_under (header_in w p))
-      ∙ same_at_each never_granted (λ a. cond (is_new f a) (words_under (header_in w (cell_of_allocation c a).page)) 0)
-      (λ a. cond (is_new f a) (storage_words c a) 0) xs storage_is
-      ∙ sym (newly_weighed f (storage_words c) (λ a. refl) xs)
+      cells_weigh_as_much c es h quiet (is_new f) _ unmarked_are (λ p. words_under (header_in w p)) ∙ same_at_each
+      never_granted (λ a. cond (is_new f a) (words_under (header_in w (cell_of_allocation c a).page)) 0)
+      (λ a. cond (is_new f a) (storage_words c a) 0) xs storage_is ∙ sym (newly_weighed f _ (λ a. refl) xs)
 
   pub kept_told : count_by is_in_snapshot_of_cycle xs
       ≡ sum_below c.pages (cells_marked w) + sum_below c.pages (cells_unmarked w)
@@ -192,9 +187,7 @@ module _ (c : Config) (es : List Event) (h : IsHistory c es) (at : phase_of (lef
       by false false mapped fresh isnt = isnt
 
       none : (a : PlacedAllocation) → is_counted_fresh a ≡ false → is_counted_fresh (f a) ≡ false
-      none a isnt =
-          by a.released (is_some_and (is_left_unmarked w) (pointed_cell c.pages w.pages (address_of a.base)))
-          (not (a.freed && is_large (kinds_of c.types a.ty))) a.fresh isnt
+      none a isnt = by a.released _ (not (a.freed && is_large (kinds_of c.types a.ty))) a.fresh isnt
 
 -- A pass that made the `release` knows it so.
 module _ (d q : PassState) (t : InTurn d) (u : InTurn q) (at : IsAtPhase d 3) (a : Acts d Step.Release q) where
@@ -223,13 +216,9 @@ module _ (d q : PassState) (t : InTurn d) (u : InTurn q) (at : IsAtPhase d 3) (a
       let words : released_below (now_of q).words c.pages ≡ released_below (world_at a.makes).now.words c.pages =
       ap (λ (x : World). released_below x.now.words c.pages) a.world in
       record {
-        count = ap (λ (r : Released). r.count) words ∙ count_told c es there phase_there
-            ∙ sym (ap (λ (xs : List PlacedAllocation). length xs) newly);
-        words = ap (λ (r : Released). r.words) words ∙ words_told c es there phase_there
-            ∙ sym (ap (λ (xs : List PlacedAllocation). sum_by (storage_words c) xs) newly);
-        kept = ap (λ (xs : List PlacedAllocation). count_by is_in_snapshot_of_cycle xs) (sym same_before)
-            ∙ kept_told c es there phase_there
-            ∙ sym (ap (λ (r : Released). r.kept + r.count) words);
+        count = cc (words, count_told c es there phase_there, newly);
+        words = cc (words, words_told c es there phase_there, newly);
+        kept = cc (same_before, kept_told c es there phase_there, words);
       }
 
   pub fresh_words_stay : fresh_words_of d.table.config (world_of q).allocations

@@ -38,5 +38,4 @@ fewer_left n k lt has =
     kept : bit_and n (2 ^ k) ≡ 0 → has_bit n k ≡ false
     kept none =
         let same : without n (2 ^ k) ≡ n = omega arith in
-        ap (λ (m : ℕ). has_bit m k) (sym same) ∙ has_bit_without n (2 ^ k) k
-        ∙ not_both (has_bit n k) (has_bit (2 ^ k) k) (power_has k lt)
+        cc (same, has_bit_without n (2 ^ k) k, not_both (has_bit n k) (has_bit (2 ^ k) k) (power_has k lt))

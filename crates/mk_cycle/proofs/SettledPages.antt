@@ -35,12 +35,11 @@ free_cells_stay p q page k same cells =
     }
 
 pub gives_then : (page : ℕ) (p b q : PassState) → GivesNothingBack p b → GivesBack page b q → GivesBack page p q
-gives_then page p b q k g =
-    record {
-      frees = page_then page p b q (page_at_once page p b k) g.frees;
-      header = g.header ∙ same_header p b page (k.same page);
-      none_left = g.none_left;
-    }
+gives_then page p b q k g = record {
+  frees = page_then page p b q (page_at_once page p b k) g.frees;
+  header = g.header ∙ same_header p b page (k.same page);
+  none_left = g.none_left;
+}
 
 pub gives_none : (page : ℕ) (p b : PassState) → GivesNothingBack p b → left_unmarked (now_of b).words page ≡ 0
     → GivesBack page p b
@@ -63,9 +62,7 @@ unused_freed p t at h unused none k =
         (not (has_bit (slice_index (now_of p).words.marks h) k)) r in
         let first = and_parts (is_phase (now_of p).words 4) (has_bit (slice_index (now_of p).words.snapshot h) k)
         parts.0 in
-        true≢false (sym (has_bit_without (slice_index (now_of p).words.snapshot h)
-        (slice_index (now_of p).words.marks h) k ∙ and_from _ _ first.1 parts.1)
-        ∙ no_bit (left_unmarked (now_of p).words h) k none)
+        true≢false (sym (has_bit_without _ _ k ∙ and_from _ _ first.1 parts.1) ∙ no_bit _ k none)
 
 pub empties_here : (p : PassState) → InTurn p → IsAtPhase p 4 → (page h : ℕ) → h ≡ head_page (now_of p).words page
     → used_at (now_of p).words h ≡ 0 → left_unmarked (now_of p).words h ≡ 0 → empties (now_of p).words page 0 ≡ true
@@ -74,8 +71,8 @@ empties_here p t at page h is unused none =
     let freed : slice_index w.freed h ≡ 0 =
     zero_from_bits (slice_index w.freed h) (unused_freed p t at h unused none) in
     let snapshot : slice_index w.snapshot h ≡ 0 =
-    zero_from_bits (slice_index w.snapshot h) (λ k. false_from_ne_true (has_bit (slice_index w.snapshot h) k) (λ has.
-    true≢false (sym ((stands p.table.config p.seen t.history).all.order.quarantined.within h k has)
+    zero_from_bits _ (λ k. false_from_ne_true (has_bit (slice_index w.snapshot h) k)
+    (λ has. true≢false (sym ((stands p.table.config p.seen t.history).all.order.quarantined.within h k has)
     ∙ unused_freed p t at h unused none k))) in
     subst (λ (n : ℕ). ((0 == 0) && (used_at w n == 0) && (slice_index w.freed n == 0)
     && (slice_index w.snapshot n == 0)) ≡ true) is
@@ -87,9 +84,8 @@ pub no_snapshot : (p : PassState) → InTurn p → (page : ℕ) → slice_index 
 no_snapshot p t page none =
     let w : Words = (now_of p).words in
     let order = (stands p.table.config p.seen t.history).all.order in
-    zero_from_bits (slice_index w.snapshot page)
-    (λ k. false_from_ne_true (has_bit (slice_index w.snapshot page) k) (λ has.
-    true≢false (sym (order.quarantined.within page k has) ∙ no_bit (slice_index w.freed page) k none)))
+    zero_from_bits _ (λ k. false_from_ne_true (has_bit (slice_index w.snapshot page) k)
+    (λ has. true≢false (sym (order.quarantined.within page k has) ∙ no_bit (slice_index w.freed page) k none)))
 
 pub no_cells : (f : ℕ) → not (f == 0) ≡ false → f ≡ 0
 no_cells f h = grind (arith, ne_eqb)

@@ -160,6 +160,5 @@ module _ {X : Type 0} (d : X) where
       → count_by u xs ≡ sum_below (length xs) (λ i. cond (u (get_or xs i d)) 1 0)
   counted_by_place u [] = refl
   counted_by_place u (x ∷ xs) =
-      sum_by-cons (λ y. cond (u y) 1 0) x xs
-      ∙ ap (λ (n : ℕ). cond (u x) 1 0 + n) (counted_by_place u xs)
-      ∙ sym (sum_from_first (length xs) (λ i. cond (u (get_or (x ∷ xs) i d)) 1 0))
+      sum_by-cons (λ y. cond (u y) 1 0) x xs ∙ ap (λ (n : ℕ). cond (u x) 1 0 + n) (counted_by_place u xs) ∙ sym
+      (sum_from_first _ (λ i. cond (u (get_or (x ∷ xs) i d)) 1 0))

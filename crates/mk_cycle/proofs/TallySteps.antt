@@ -1,6 +1,6 @@
 -- Looks and tallies after an `end`.
 use Rattle.mk_laws.proofs.Vocabulary.{Config, Steady, Step, Tally, Word, Words, World, ℕ, ap, in_a_word, refl, subst}
-use Rattle.mk_laws.proofs.Vocabulary.{sym, tally_word, world_behind, ◌+◌, ◌-◌, ◌∙◌, ◌≡◌}
+use Rattle.mk_laws.proofs.Vocabulary.{tally_word, world_behind, ◌+◌, ◌-◌, ◌∙◌, ◌≡◌}
 use Rattle.mk_cycle.proofs.Vocabulary.{Acts, InTurn, IsFreeForCycle, PassState, does_step, does_then, event_of, now_of}
 use Rattle.mk_cycle.proofs.Vocabulary.{sets_tallies, steady_of, world_at, world_of}
 use Rattle.mk_core.specs.Words.{named_word}
@@ -59,9 +59,7 @@ module _ (p q : PassState) (t : InTurn p) (free : IsFreeForCycle p) (u : InTurn 
       record {
         does = does_step sets_tallies p q (Step.Tally n v) a.makes refl;
         call = k.call;
-        steady = ap (λ (x : World). steady_of x) a.world
-            ∙ tally_behind p.table.config (world_at a.makes) p n v
-            ∙ ap (λ (s : Steady). with_tally n v s) a.turn.steady;
+        steady = cc (a.world, tally_behind p.table.config (world_at a.makes) p n v, a.turn.steady);
         counts = k.counts;
         gates = gates_behind p (Step.Tally n v) q a (tally_gates p.table.config (world_at a.makes) p n v);
       }
@@ -80,9 +78,7 @@ pub set_by : (p a q : PassState) (n : Tally) (x : Word) (becomes : ℕ → ℕ) 
     → Sets unchanged p a → found ≡ named_word (now_of a).words x → to ≡ becomes found → Sets (with_tally n to) a q
     → Sets (with_tally n (becomes (named_word (now_of p).words x))) p q
 set_by p a q n x becomes found to is looks finds sum sets =
-    let same : named_word (now_of a).words x ≡ named_word (now_of p).words x =
-    ap (λ (y : Word). named_word (now_of a).words y) is ∙ same_tally p a n looks.steady
-    ∙ ap (λ (y : Word). named_word (now_of p).words y) (sym is) in
+    let same : named_word (now_of a).words x ≡ named_word (now_of p).words x = cc (is, same_tally p a n looks.steady) in
     subst (λ (v : ℕ). Sets (with_tally n v) p q) (sum ∙ ap becomes (finds ∙ same))
     (sets_then unchanged (with_tally n to) p a q looks sets)
 

@@ -1,7 +1,7 @@
 -- A dirty word was 0 at a moment, from wider parts of a turn.
 use Rattle.mk_laws.proofs.Vocabulary.{Event, List, Step, World, ℕ, ap, append-nil, append_assoc, cases_lt}
-use Rattle.mk_laws.proofs.Vocabulary.{get_or-set_same, get_or_past, inl, inr, left, length, set_past, slice_index}
-use Rattle.mk_laws.proofs.Vocabulary.{slice_set, subst, sym, [], ◌++◌, ◌∙◌, ◌≡◌}
+use Rattle.mk_laws.proofs.Vocabulary.{get_or-set_same, get_or_past, inl, inr, length, set_past, slice_index, slice_set}
+use Rattle.mk_laws.proofs.Vocabulary.{subst, sym, [], ◌++◌, ◌∙◌, ◌≡◌}
 use Rattle.mk_cycle.proofs.Vocabulary.{Acts, Cleans, PassState, WasUndirty, now_of, world_at}
 
 -- where it is 0 now
@@ -19,29 +19,24 @@ undirty_now p q page k zero =
 -- when more is cleaned after it, or was before
 
 pub undirty_later : (p q r : PassState) (page : ℕ) → WasUndirty page p q → Cleans q r → WasUndirty page p r
-undirty_later p q r page u k =
-    record {
-      before = u.before;
-      behind = u.behind ++ k.does.more;
-      is = ap (λ (x : PassState). x.seen) k.does.is
-          ∙ ap (λ (l : List Event). l ++ k.does.more) u.is
-          ∙ append_assoc p.seen (u.before ++ u.behind) k.does.more
-          ∙ ap (λ (l : List Event). p.seen ++ l) (append_assoc u.before u.behind k.does.more);
-      zero = u.zero;
-    }
+undirty_later p q r page u k = record {
+  before = u.before;
+  behind = u.behind ++ k.does.more;
+  is = ap (λ (x : PassState). x.seen) k.does.is
+      ∙ ap (λ (l : List Event). l ++ k.does.more) u.is
+      ∙ append_assoc p.seen (u.before ++ u.behind) k.does.more
+      ∙ ap (λ (l : List Event). p.seen ++ l) (append_assoc u.before u.behind k.does.more);
+  zero = u.zero;
+}
 
 undirty_at : (o : PassState) (more : List Event) (q : PassState) (page : ℕ)
     → WasUndirty page (record o { seen = o.seen ++ more }) q → WasUndirty page o q
-undirty_at o more q page u =
-    record {
-      before = more ++ u.before;
-      behind = u.behind;
-      is = u.is
-          ∙ append_assoc o.seen more (u.before ++ u.behind)
-          ∙ ap (λ (l : List Event). o.seen ++ l) (sym (append_assoc more u.before u.behind));
-      zero = subst (λ (l : List Event). slice_index (left o.table.config l).now.words.dirty page ≡ 0)
-          (append_assoc o.seen more u.before) u.zero;
-    }
+undirty_at o more q page u = record {
+  before = more ++ u.before;
+  behind = u.behind;
+  is = cc (u.is, append_assoc o.seen more (u.before ++ u.behind), append_assoc more u.before u.behind);
+  zero = cc (append_assoc o.seen more u.before, u.zero);
+}
 
 pub undirty_earlier : (o p q : PassState) (page : ℕ) → Cleans o p → WasUndirty page p q → WasUndirty page o q
 undirty_earlier o p q page k u =

@@ -1,17 +1,16 @@
 -- Each step of the turn's holder while a cycle marks beside others.
 use Rattle.std.specs.List.{list_all}
-use Rattle.mk_laws.proofs.Vocabulary.{Bool, Cell, Config, Flight, Hand, Holding, IsMarking, List, Moment, None, Object}
+use Rattle.mk_laws.proofs.Vocabulary.{Bool, Cell, Config, Flight, Holding, IsMarking, List, Moment, None, Object}
 use Rattle.mk_laws.proofs.Vocabulary.{Option, Place, Placing, Some, Steady, Step, Word, Words, World, ℕ, and_from}
 use Rattle.mk_laws.proofs.Vocabulary.{and_parts, ap, arith, cases_lt, cells_under, chosen, eqb-true, false}
 use Rattle.mk_laws.proofs.Vocabulary.{false_from_ne_true, flight_of, found, get_or-set_other, get_or-set_same}
 use Rattle.mk_laws.proofs.Vocabulary.{get_or_past, has_gates, header_at, header_of, histories_keep_lengths}
-use Rattle.mk_laws.proofs.Vocabulary.{if◌then◌else◌, inl, inr, is_held, is_marked, is_number_of, is_phase, is_some_and}
-use Rattle.mk_laws.proofs.Vocabulary.{is_unmarked, length, lt-ltb, marks_place, nat_lt, not, object_made, or_else}
-use Rattle.mk_laws.proofs.Vocabulary.{page_at_address, phase_of, place_now, pointed_cell, points_well, refl, set_past}
-use Rattle.mk_laws.proofs.Vocabulary.{slice_index, slice_set, subst, sym, true, world_behind, [], ◌&&◌, ◌++◌, ◌<◌, ◌==◌}
-use Rattle.mk_laws.proofs.Vocabulary.{◌^◌, ◌||◌, ◌∙◌, ◌∷◌, ◌≡◌, ◌≢◌}
+use Rattle.mk_laws.proofs.Vocabulary.{if◌then◌else◌, inl, inr, is_held, is_marked, is_number_of, length, lt-ltb}
+use Rattle.mk_laws.proofs.Vocabulary.{marks_place, not, object_made, or_else, page_at_address, phase_of, place_now}
+use Rattle.mk_laws.proofs.Vocabulary.{pointed_cell, points_well, refl, set_past, slice_index, slice_set, subst, sym}
+use Rattle.mk_laws.proofs.Vocabulary.{true, world_behind, ◌++◌, ◌<◌, ◌==◌, ◌^◌, ◌||◌, ◌∙◌, ◌≡◌, ◌≢◌}
 use Rattle.mk_core.proofs.PointedPages.{pointed_within}
-use Rattle.mk_core.specs.{Effects.hand_given, Frames.steady_of, Growing.Finding, NewPlaces.bits_made, Ranges.is_word}
+use Rattle.mk_core.specs.{Effects.hand_given, Frames.steady_of, Growing.Finding, Ranges.is_word}
 use Rattle.mk_core.specs.{StopConditions.marks_by_hand, Words.named_word, declared.seats.Source.TheVariants.Root}
 use Rattle.mk_laws.proofs.Changes.{headers_kind, is_head, marks_kind}
 use Rattle.mk_laws.proofs.{LastEvents.stands, Wells.is_well, Wells.well_is, Wells.wells_from}
@@ -72,25 +71,19 @@ module _ (p : PassState) (t : InTurn p) (b : IsBeside p) where
       → IsEnabledTo p (Step.Open j)
   may_open j lt other held =
       may_act p (Step.Open j) (protocol p t b.free) t.holds b.free.decided refl
-      (and_from (nat_lt j p.table.config.callers) (not (is_number_of p.seat j))
-      (lt-ltb j p.table.config.callers lt) (ap not other))
-      held (ap (λ (n : ℕ). not (n == 3)) b.marking) b.free.gone
+      (and_from _ (not _) (lt-ltb j _ lt) (ap not other)) held (ap (λ (n : ℕ). not (n == 3)) b.marking) b.free.gone
 
   hand_marks : (cell : Cell) (r : HandPointsInto p cell)
       → marks_by_hand p.table.config.pages (now_of p).words (hand_of p) cell.page (2 ^ cell.index) ≡ true
-  hand_marks cell r =
-      marks_by p.table.config.pages (now_of p).words
-      (hand_of p) r.value cell r.in_hand.hand r.in_hand.is r.in_hand.value r.points
+  hand_marks cell r = grind (arith, marks_by)
 
   pub may_mark_beside : (cell : Cell) → HandPointsInto p cell → IsEnabledTo p (Step.Mark cell.page (2 ^ cell.index))
   may_mark_beside cell r =
       let within = pointed_within p.table.config.pages (now_of p).words r.value cell r.points in
       may_act p (Step.Mark cell.page (2 ^ cell.index)) (protocol p t b.free) t.holds b.free.decided refl
-      (lt-ltb cell.page p.table.config.pages within.0) refl
-      (ap (λ (n : ℕ). (n == 1) || (n == 2)) b.marking)
+      (lt-ltb cell.page _ within.0) refl (ap (λ (n : ℕ). (n == 1) || (n == 2)) b.marking)
       (ap (λ (x : Bool). x || marks_place (now_of p).words (object_made p.table.config (call_of p).op)
-      (place_now p.table.config (now_of p) (call_of p)) cell.page (2 ^ cell.index))
-      (hand_marks cell r))
+      (place_now p.table.config (now_of p) (call_of p)) cell.page (2 ^ cell.index)) (hand_marks cell r))
 
 -- One step.
 module _ (t u : TurnState) (s : Step) (a : Acts t.pass s u.pass) (b : IsBeside t.pass) (same : u.op ≡ t.op) where
@@ -105,33 +98,30 @@ module _ (t u : TurnState) (s : Step) (a : Acts t.pass s u.pass) (b : IsBeside t
       let d = stands_behind_others t.pass u.pass s a.makes in
       let early : IsMarking (world_at a.makes).now.words = inl phase_there in
       let others = (d.admitted.turn a.holds).well (inl b.marking) v h in
-      ap (λ (w : World). points_well c.pages w.now.words v) a.world
-      ∙ well_is c (world_behind c (world_at a.makes) (event_of t.pass s)).now.words v
-      (wells_from c (world_at a.makes).now.words (world_behind c (world_at a.makes) (event_of t.pass s)).now.words
-      (headers_kind c (world_at a.makes).now t.pass.seat s none)
-      (marks_kind c (world_at a.makes).now t.pass.seat s early d.meets) v
-      (is_well c (world_at a.makes).now.words v others))
+      ap (λ (w : World). points_well c.pages w.now.words v) a.world ∙ well_is c
+      (world_behind c (world_at a.makes) (event_of t.pass s)).now.words v (wells_from c (world_at a.makes).now.words
+      (world_behind c (world_at a.makes) (event_of t.pass s)).now.words (headers_kind c (world_at a.makes).now _ s none)
+      (marks_kind c (world_at a.makes).now _ s early d.meets) v (is_well c (world_at a.makes).now.words v others))
 
   pub goes_step : begins_marking s ≡ true → is_head s ≡ false → looks_at_root s ≡ false
       → LeavesTurn unchanged t.pass u.pass
       → TracesReached c (world_at a.makes).now s → GoesBeside t u
-  goes_step kind none plain keeps rule =
-      record {
-        table = ap (λ (x : PassState). x.table) a.makes.is;
-        op = same;
-        beside = still_beside t.pass u.pass b keeps;
-        marks = record {
-          does = does_step begins_marking t.pass u.pass s a.makes kind;
-          keeps = keeps;
-          reached = keeps_step t.pass s u.pass a.makes TracesReached (own_before a.makes) rule;
-          found =
-              ap (λ (xs : List Finding). list_all (found_well c.pages (now_of u.pass).words) xs)
-              (done_step t.pass s u.pass a.makes (own_before a.makes))
-              ∙ and_from (not (looks_at_root s) || points_well c.pages (now_of u.pass).words (found_by a.makes)) true
-              (ap (λ (x : Bool). not x || points_well c.pages (now_of u.pass).words (found_by a.makes)) plain) refl;
-          well = stays_well none;
-        };
-      }
+  goes_step kind none plain keeps rule = record {
+    table = ap (λ (x : PassState). x.table) a.makes.is;
+    op = same;
+    beside = still_beside t.pass u.pass b keeps;
+    marks = record {
+      does = does_step begins_marking t.pass u.pass s a.makes kind;
+      keeps = keeps;
+      reached = keeps_step t.pass s u.pass a.makes TracesReached (own_before a.makes) rule;
+      found =
+          ap (λ (xs : List Finding). list_all (found_well c.pages (now_of u.pass).words) xs)
+          (done_step t.pass s u.pass a.makes (own_before a.makes))
+          ∙ and_from (not (looks_at_root s) || points_well c.pages (now_of u.pass).words (found_by a.makes)) true
+          (ap (λ (x : Bool). not x || points_well c.pages (now_of u.pass).words (found_by a.makes)) plain) refl;
+      well = stays_well none;
+    };
+  }
 
 module _ (t u : TurnState) (b : IsBeside t.pass) (same : u.op ≡ t.op) where
   pub goes_look : (x : Word) → Acts t.pass (Step.Look x) u.pass → gives_no_hand x ≡ true → GoesBeside t u
@@ -164,8 +154,7 @@ module _ (t u : TurnState) (b : IsBeside t.pass) (same : u.op ≡ t.op) where
         keeps = keeps;
         reached = keeps_step t.pass (Step.Look x) u.pass a.makes TracesReached (own_before a.makes)
             (root_is_no_heap_word t.pass.table.config (world_at a.makes).now x root);
-        done = done_step t.pass (Step.Look x) u.pass f.makes (own_before a.makes)
-            ∙ ap (λ (v : ℕ). record { event = event_of t.pass (Step.Look x); found = v } ∷ []) (sym f.finds);
+        done = cc (done_step t.pass (Step.Look x) u.pass f.makes (own_before a.makes), f.finds);
         well = stays_well t u (Step.Look x) a b same refl;
       }
 
@@ -174,19 +163,15 @@ module _ (t u : TurnState) (b : IsBeside t.pass) (same : u.op ≡ t.op) where
 module _ (p q : PassState) (x : Word) (a : Acts p (Step.Look x) q) where
   hand_now : hand_of q ≡ or_else (hand_given p.table.config (world_at a.makes).now p.seat x
       (found p.table.config (world_at a.makes).now (event_of p (Step.Look x)))) (hand_of p)
-  hand_now =
-      ap (λ (w : World). w.now.seats.holding.hand) a.world
-      ∙ ap (λ (h : Holding). or_else (hand_given p.table.config (world_at a.makes).now p.seat x
-      (found p.table.config (world_at a.makes).now (event_of p (Step.Look x)))) h.hand) a.holding
+  hand_now = grind arith
 
   pub root_hand : (n : ℕ) → Finds p (Step.Look x) n q → is_root x ≡ true → IsInHand q n
-  root_hand n f root =
-      record {
-        hand = record { value = found p.table.config (world_at a.makes).now (event_of p (Step.Look x)); source = Root };
-        is = hand_now ∙ by x (found p.table.config (world_at a.makes).now (event_of p (Step.Look x))) root;
-        value = ap (λ (w : World). named_word w.now.words x) (sym a.world) ∙ found_there p q x n f;
-        reached = refl;
-      }
+  root_hand n f root = record {
+    hand = record { value = found p.table.config (world_at a.makes).now (event_of p (Step.Look x)); source = Root };
+    is = hand_now ∙ by x (found p.table.config (world_at a.makes).now (event_of p (Step.Look x))) root;
+    value = ap (λ (w : World). named_word w.now.words x) (sym a.world) ∙ found_there p q x n f;
+    reached = refl;
+  }
     where
       by : (y : Word) (value : ℕ) → is_root y ≡ true
           → or_else (hand_given p.table.config (world_at a.makes).now p.seat y value) (hand_of p)
@@ -207,9 +192,7 @@ module _ {value : ℕ} {t u : TurnState} (l : LooksForCell value t u) where
       (λ a. goes_look t u b l.op (Word.Head (page_at_address value)) a refl)
 
   pub gates_for_cell : KeepsGates t.pass u.pass
-  gates_for_cell =
-      looked_for (λ (v : TurnState). KeepsGates t.pass v.pass) l (gates_at_once t.pass)
-      (λ a. gates_behind t.pass (Step.Look (Word.Head (page_at_address value))) u.pass a refl)
+  gates_for_cell = grind (arith, looked_for, gates_at_once, gates_behind)
 
 -- A mark by the hand: the cell's page has a header, so it isn't the place of a New.
 
@@ -219,11 +202,7 @@ no_header n z = ap (λ (i : ℕ). cells_under (header_of i)) z
 no_place : (w : Words) (o : Object) (place : Option Place) (page value : ℕ) → header_at w page ≢ 0
     → marks_place w o place page value ≡ false
 no_place w o None page value ne = refl
-no_place w o (Some x) page value ne =
-    false_from_ne_true (marks_place w o (Some x) page value) (λ h.
-    let parts = and_parts (is_phase w 1 && (page == x.page) && (header_at w page == 0)) (value == bits_made o) h in
-    let two = and_parts (is_phase w 1 && (page == x.page)) (header_at w page == 0) parts.0 in
-    ne (eqb-true (header_at w page) 0 two.1))
+no_place w o (Some x) page value ne = grind (arith, false_from_ne_true, and_parts, eqb-true)
 
 module _ (t u : TurnState) (b : IsBeside t.pass) (same : u.op ≡ t.op)
     (cell : Cell) (a : Acts t.pass (Step.Mark cell.page (2 ^ cell.index)) u.pass) (r : HandPointsInto t.pass cell) where
@@ -258,8 +237,7 @@ module _ (t u : TurnState) (b : IsBeside t.pass) (same : u.op ≡ t.op)
             refl;
         steady = ap (λ (x : World). steady_of x) a.world ∙ a.turn.steady;
         counts =
-            keeps_counts t.pass (Step.Mark cell.page (2 ^ cell.index)) u.pass a (own_before a.makes) a.holds
-            a.makes.pass.history
+            keeps_counts _ (Step.Mark cell.page (2 ^ cell.index)) _ a (own_before a.makes) a.holds a.makes.pass.history
             (λ n. refl) refl;
       }
 
@@ -267,18 +245,15 @@ module _ (t u : TurnState) (b : IsBeside t.pass) (same : u.op ≡ t.op)
   hand_there = ap (λ (h : Holding). h.hand) a.holding ∙ r.in_hand.is
 
   marks_reached : MarksReached t.pass.table.config (world_at a.makes).now cell.page (2 ^ cell.index)
-  marks_reached =
-      record {
-        by_hand =
-            marks_by t.pass.table.config.pages (world_at a.makes).now.words (world_at a.makes).now.seats.holding.hand
-            r.value cell r.in_hand.hand hand_there r.in_hand.value points_there;
-        reached = ap (λ (o : Option Hand). is_some_and (λ (h : Hand). is_unmarked h.source) o) hand_there
-            ∙ r.in_hand.reached;
-      }
+  marks_reached = record {
+    by_hand =
+        marks_by t.pass.table.config.pages (world_at a.makes).now.words (world_at a.makes).now.seats.holding.hand
+        r.value cell r.in_hand.hand hand_there r.in_hand.value points_there;
+    reached = cc (hand_there, r.in_hand.reached);
+  }
 
   pub goes_mark : GoesBeside t u
-  goes_mark =
-      goes_step t u (Step.Mark cell.page (2 ^ cell.index)) a b same refl refl refl mark_keeps marks_reached
+  goes_mark = goes_step t u (Step.Mark cell.page (2 ^ cell.index)) a b same refl refl refl mark_keeps marks_reached
 
   pub marked_there : is_marked (now_of u.pass).words cell ≡ true
   marked_there =
@@ -296,18 +271,14 @@ module _ (t u : TurnState) (b : IsBeside t.pass) (same : u.op ≡ t.op)
 open_at : (gs : List ℕ) (j : ℕ) → (slice_index (slice_set gs j 0) j == 2) ≡ false
 open_at gs j = elim (cases_lt j (length gs)) [
   | inl near ↦ ap (λ (n : ℕ). n == 2) (get_or-set_same gs j 0 0 near)
-  | inr past ↦ ap (λ (ys : List ℕ). slice_index ys j == 2) (set_past gs j 0 past)
-      ∙ ap (λ (n : ℕ). n == 2) (get_or_past gs j 0 past)
+  | inr past ↦ cc (set_past gs j 0 past, get_or_past gs j 0 past)
 ]
 
 module _ (p : PassState) (s : Step) (q : PassState) (a : Acts p s q) where
   others_behind : (caller : ℕ) → ((j : ℕ) → j ≢ caller
       → slice_index (world_behind p.table.config (world_at a.makes) (event_of p s)).now.words.gates j
       ≡ slice_index (world_at a.makes).now.words.gates j) → KeepsOtherGates caller p q
-  others_behind caller same j lt ne =
-      ap (λ (w : World). is_held w.now.words j) a.world
-      ∙ ap (λ (n : ℕ). n == 2) (same j ne)
-      ∙ held_so _ _ (a.turn.held_gates j) (a.turn.other_gates j)
+  others_behind caller same j lt ne = grind (arith, held_so)
 
 pub hold_others : (p : PassState) (caller : ℕ) (q : PassState) → Acts p (Step.Hold caller) q
     → KeepsOtherGates caller p q
@@ -323,5 +294,4 @@ open_others p caller q a =
 
 pub opened : (p : PassState) (caller : ℕ) (q : PassState) → Acts p (Step.Open caller) q
     → is_held (now_of q).words caller ≡ false
-opened p caller q a =
-    ap (λ (w : World). is_held w.now.words caller) a.world ∙ open_at (world_at a.makes).now.words.gates caller
+opened p caller q a = grind (arith, open_at)

@@ -1,13 +1,12 @@
 -- All roots are marked in what was seen since.
-use Rattle.std.specs.List.{list_all}
 use Rattle.mk_laws.proofs.Vocabulary.{Event, List, Word, ap, list_any, subst, true, ◌≡◌}
 use Rattle.mk_core.specs.{Growing.Finding, Ranges.is_word}
 use Rattle.mk_cycle.specs.Begun.{IsBegun}
 use Rattle.mk_engines.proofs.Since.{since_is}
-use Rattle.mk_engines.specs.{Beside.LooksAt, Beside.MarksBeside, Beside.found_well, Beside.looks_at, Roots.MarksRoots}
+use Rattle.mk_engines.specs.{Beside.LooksAt, Beside.MarksBeside, Beside.looks_at, Roots.MarksRoots}
 use Rattle.mk_tracing.specs.{Grays.TracesReached, Stops.is_root, Tracing.OwnStepsKeep}
 use Rattle.mk_turns.specs.Doing.{done_in}
-use Rattle.mk_words.specs.States.{PassState, now_of, world_of}
+use Rattle.mk_words.specs.States.{PassState, world_of}
 
 pub marks_roots : (p q : PassState) → MarksBeside p q
     → ((x : Word) → is_root x ≡ true → is_word p.table.config x ≡ true → LooksAt x p q) → IsBegun MarksRoots p q
@@ -21,11 +20,7 @@ marks_roots p q marks looked =
         looked = λ x root named.
             subst (λ (es : List Event). list_any (λ (f : Finding). looks_at x f.event.step) (done_in p es) ≡ true) since
             (looked x root named);
-        found =
-            subst (λ (x : PassState). list_all (found_well p.table.config.pages (now_of x).words) (done_in p d.more)
-            ≡ true) d.is
-            (subst (λ (es : List Event). list_all (found_well p.table.config.pages (now_of q).words) (done_in p es)
-            ≡ true) since marks.found);
+        found = cc (d.is, since, marks.found);
         reached = subst (λ (es : List Event). OwnStepsKeep TracesReached p.table.config p.seat (world_of p) es) since
             marks.reached;
       };

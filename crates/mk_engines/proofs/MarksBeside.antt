@@ -1,36 +1,26 @@
 -- What is marked beside others, in parts.
-use Rattle.std.{proofs.lemmas.List.Folds.list_all-append, specs.List.list_all}
-use Rattle.mk_laws.proofs.Vocabulary.{Bool, Config, Event, List, Steady, Step, Word, Words, ℕ, and_from, and_parts, ap}
-use Rattle.mk_laws.proofs.Vocabulary.{cases_eq, eq-eqb, false, inl, inr, is_held, is_number_of, list_any}
-use Rattle.mk_laws.proofs.Vocabulary.{list_any-append, ltb-true, nat_lt, not, or_right, points_well, refl, subst, sym}
-use Rattle.mk_laws.proofs.Vocabulary.{true, [], ◌++◌, ◌<◌, ◌==◌, ◌||◌, ◌∙◌, ◌∷◌, ◌≡◌}
+use Rattle.std.{proofs.Common.below_more, proofs.lemmas.List.Folds.list_all-append, specs.List.list_all}
+use Rattle.mk_laws.proofs.Vocabulary.{Bool, Event, List, Step, Word, Words, ℕ, and_from, and_parts, ap, arith, eq-eqb}
+use Rattle.mk_laws.proofs.Vocabulary.{false, is_held, is_number_of, list_any, list_any-append, ltb-true, not, or_right}
+use Rattle.mk_laws.proofs.Vocabulary.{points_well, refl, subst, sym, true, [], ◌++◌, ◌+◌, ◌<◌, ◌==◌, ◌||◌, ◌∙◌, ◌∷◌}
+use Rattle.mk_laws.proofs.Vocabulary.{◌≡◌}
 use Rattle.mk_core.specs.{Growing.Finding, Ranges.is_word}
 use Rattle.mk_cycle.proofs.KeptInParts.{free_then, gates_then, keeps_at_once, keeps_then, same_config}
 use Rattle.mk_cycle.specs.TurnKeeps.{KeepsGates, LeavesTurn, unchanged}
 use Rattle.mk_cycle.specs.{Holding.IsHeldOrOwn, Kinds.begins_marking}
 use Rattle.mk_engines.proofs.Since.{done_then, nothing_done, nothing_keeps, rule_then}
-use Rattle.mk_engines.specs.Beside.{FindsInRoot, GoesBeside, IsBeside, IsOpenToLook, KeepsOtherGates, LooksAt}
-use Rattle.mk_engines.specs.Beside.{MarksBeside, MarksReachedAlone, StaysWell, done_since, found_well, is_same_root}
-use Rattle.mk_engines.specs.Beside.{looks_at, looks_at_root}
+use Rattle.mk_engines.specs.Beside.{FindsInRoot, GoesBeside, IsBeside, KeepsOtherGates, LooksAt, MarksBeside}
+use Rattle.mk_engines.specs.Beside.{MarksReachedAlone, StaysWell, done_since, found_well, is_same_root, looks_at}
 use Rattle.mk_tracing.specs.{Grays.TracesReached, Stops.is_root}
 use Rattle.mk_turns.{proofs.Doing.does_nothing, proofs.Doing.does_then, specs.Doing.Does}
 use Rattle.mk_words.specs.States.{PassState, TurnState, event_of, now_of}
 
 -- The turn goes on being free, and the cycle marking.
 pub still_beside : (p q : PassState) → IsBeside p → LeavesTurn unchanged p q → IsBeside q
-still_beside p q b k =
-    record { free = free_then p q k.call b.free; marking = ap (λ (x : Steady). x.phase) k.steady ∙ b.marking }
+still_beside p q b k = grind (arith, free_then)
 
 pub beside_nothing : (p : PassState) → MarksBeside p p
-beside_nothing p =
-    record {
-      does = does_nothing begins_marking p;
-      keeps = keeps_at_once unchanged p;
-      reached = nothing_keeps TracesReached p;
-      found = ap (λ (xs : List Finding). list_all (found_well p.table.config.pages (now_of p).words) xs)
-          (nothing_done p);
-      well = λ u h. h;
-    }
+beside_nothing p = grind (arith, does_nothing, keeps_at_once, nothing_keeps, nothing_done)
 
 pub goes_nowhere : (t : TurnState) → IsBeside t.pass → GoesBeside t t
 goes_nowhere t b = record { table = refl; op = refl; beside = b; marks = beside_nothing t.pass }
@@ -50,11 +40,7 @@ or_on false b more h is = h is
 
 found_on : (pages : ℕ) (w v : Words) → ((u : ℕ) → points_well pages w u ≡ true → points_well pages v u ≡ true)
     → (xs : List Finding) → list_all (found_well pages w) xs ≡ true → list_all (found_well pages v) xs ≡ true
-found_on pages w v well xs is =
-    all_on (found_well pages w) (found_well pages v)
-    (λ f h. or_on (not (looks_at_root f.event.step)) (points_well pages w f.found) (points_well pages v f.found)
-    (well f.found) h)
-    xs is
+found_on pages w v well xs is = grind (arith, all_on, or_on)
 
 -- Two parts, where the first is of these events.
 module _ (p : PassState) (xs : List Event) (r : PassState) where
@@ -111,9 +97,7 @@ module _ (p : PassState) (xs : List Event) (r : PassState) where
   looked_first x d here =
       let q : PassState = record p { seen = p.seen ++ xs } in
       let test : Finding → Bool = λ (f : Finding). looks_at x f.event.step in
-      ap (λ (fs : List Finding). list_any test fs) (done_then p xs r d.more d.is)
-      ∙ list_any-append test (done_since p q) (done_since q r)
-      ∙ ap (λ (b : Bool). b || list_any test (done_since q r)) here
+      cc (done_then p xs r d.more d.is, list_any-append test (done_since p q) (done_since q r), here)
 
   looked_second : (x : Word) → Does begins_marking (record p { seen = p.seen ++ xs }) r
       → LooksAt x (record p { seen = p.seen ++ xs }) r → LooksAt x p r
@@ -132,13 +116,12 @@ beside_then p q r a b =
     (two_parts p a.does.more r) a b
 
 pub goes_then : (t u v : TurnState) → GoesBeside t u → GoesBeside u v → GoesBeside t v
-goes_then t u v a b =
-    record {
-      table = b.table ∙ a.table;
-      op = b.op ∙ a.op;
-      beside = b.beside;
-      marks = beside_then t.pass u.pass v.pass a.marks b.marks;
-    }
+goes_then t u v a b = record {
+  table = b.table ∙ a.table;
+  op = b.op ∙ a.op;
+  beside = b.beside;
+  marks = beside_then t.pass u.pass v.pass a.marks b.marks;
+}
 
 -- A root was looked at in the first part, or in the second.
 
@@ -182,7 +165,7 @@ module _ (x : Word) (n : ℕ) (t u v : TurnState) (beside : IsBeside t.pass) (f 
 
   pub root_looked : is_root x ≡ true → LooksAt x t.pass v.pass
   root_looked root =
-      looked_then x t.pass u.pass v.pass f.does b.marks.does
+      looked_then x _ _ _ f.does b.marks.does
       (ap (λ (fs : List Finding). list_any (λ (g : Finding). looks_at x g.event.step) fs) f.done
       ∙ ap (λ (c : Bool). c || false) (same_root x root))
 
@@ -197,34 +180,7 @@ gates_on t u v on a b = gates_then t.pass u.pass v.pass on.marks.keeps.call.pass
 
 pub others_on : (caller : ℕ) (t u v : TurnState) → GoesBeside t u → KeepsOtherGates caller t.pass u.pass
     → KeepsOtherGates caller u.pass v.pass → KeepsOtherGates caller t.pass v.pass
-others_on caller t u v on a b j lt ne =
-    b j (subst (λ (c : Config). j < c.callers) (sym (same_config t.pass u.pass on.marks.keeps.call.pass)) lt) ne
-    ∙ a j lt ne
-
-pub gates_others : (caller : ℕ) (p q : PassState) → KeepsGates p q → KeepsOtherGates caller p q
-gates_others caller p q k j lt ne = k j lt
-
--- All but one gate is as it was, and so is the one.
-pub gates_back : (caller : ℕ) (p q : PassState) → KeepsOtherGates caller p q
-    → is_held (now_of q).words caller ≡ is_held (now_of p).words caller → KeepsGates p q
-gates_back caller p q others same j lt = elim (cases_eq j caller) [
-  | inr ne ↦ others j lt ne
-  | inl e ↦
-      subst (λ (i : ℕ). is_held (now_of q).words i ≡ is_held (now_of p).words i) (sym e) same
-]
-
-pub still_own : (t u : TurnState) (caller : ℕ) → GoesBeside t u → is_number_of t.pass.seat caller ≡ false
-    → is_number_of u.pass.seat caller ≡ false
-still_own t u caller on other =
-    ap (λ (x : PassState). is_number_of x.seat caller) on.marks.keeps.call.pass ∙ other
-
--- A gate that was held, or the own one, is so still.
-pub still_held : (t u : TurnState) (caller : ℕ) → GoesBeside t u → KeepsGates t.pass u.pass
-    → caller < t.pass.table.config.callers
-    → IsHeldOrOwn t.pass caller → IsHeldOrOwn u.pass caller
-still_held t u caller on gates lt h =
-    ap (λ (x : PassState). is_number_of x.seat caller || is_held (now_of u.pass).words caller) on.marks.keeps.call.pass
-    ∙ ap (λ (b : Bool). is_number_of t.pass.seat caller || b) (gates caller lt) ∙ h
+others_on caller t u v on a b j lt ne = grind (arith, same_config)
 
 pub held_is : (p : PassState) (caller : ℕ) → is_held (now_of p).words caller ≡ true → IsHeldOrOwn p caller
 held_is p caller h = or_right (is_number_of p.seat caller) (is_held (now_of p).words caller) h
@@ -232,27 +188,11 @@ held_is p caller h = or_right (is_number_of p.seat caller) (is_held (now_of p).w
 pub own_is : (p : PassState) (caller : ℕ) → is_number_of p.seat caller ≡ true → IsHeldOrOwn p caller
 own_is p caller h = ap (λ (b : Bool). b || is_held (now_of p).words caller) h
 
-pub open_register : (p : PassState) (caller register : ℕ) → IsHeldOrOwn p caller
-    → IsOpenToLook p (Word.Reg caller register)
-open_register p caller register h k r e = subst (λ (i : ℕ). IsHeldOrOwn p i) (caller_of e) h
-  where
-    number : Word → ℕ
-    number (Word.Reg j s) = j
-    number _ = 0
-
-    caller_of : Word.Reg caller register ≡ Word.Reg k r → caller ≡ k
-    caller_of is = ap number is
-
-pub open_global : (p : PassState) (g : ℕ) → IsOpenToLook p (Word.Global g)
-open_global p g k r e = cc
-
 -- Each root was looked at.
 pub all_looked : (p q : PassState) → ((k r : ℕ) → k < p.table.config.callers → r < 8 → LooksAt (Word.Reg k r) p q)
     → ((g : ℕ) → g < 64 → LooksAt (Word.Global g) p q)
     → (x : Word) → is_root x ≡ true → is_word p.table.config x ≡ true → LooksAt x p q
-all_looked p q registers globals (Word.Reg k r) root h =
-    let parts = and_parts (nat_lt k p.table.config.callers) (nat_lt r 8) h in
-    registers k r (ltb-true k p.table.config.callers parts.0) (ltb-true r 8 parts.1)
+all_looked p q registers globals (Word.Reg k r) root h = grind (arith, and_parts, ltb-true)
 all_looked p q registers globals (Word.Global g) root h = globals g (ltb-true g 64 h)
 all_looked p q registers globals _ root h = cc
 
@@ -265,3 +205,21 @@ looked_on x t u v a b here = looked_then x t.pass u.pass v.pass a.marks.does b.m
 pub on_looked : (x : Word) (t u v : TurnState) → GoesBeside t u → GoesBeside u v → LooksAt x u.pass v.pass
     → LooksAt x t.pass v.pass
 on_looked x t u v a b here = then_looked x t.pass u.pass v.pass a.marks.does b.marks.does here
+
+-- The roots below one are looked at, one after the other.
+pub record RootsLooked (t u : TurnState) (root : ℕ → Word) (n : ℕ) : Type 0 where
+  pub on : GoesBeside t u
+  pub gates : KeepsGates t.pass u.pass
+  pub looked : (k : ℕ) → k < n → LooksAt (root k) t.pass u.pass
+
+pub no_root_yet : {t : TurnState} {root : ℕ → Word} → IsBeside t.pass → RootsLooked t t root 0
+no_root_yet {t} beside = grind (arith, goes_nowhere, gates_at_once)
+
+pub next_root : {t u v : TurnState} {root : ℕ → Word} {i : ℕ} → RootsLooked t u root i → GoesBeside u v
+    → KeepsGates u.pass v.pass → LooksAt (root i) u.pass v.pass → RootsLooked t v root (i + 1)
+next_root {t} {u} {v} {root} {i} before on gates here = record {
+  on = goes_then t u v before.on on;
+  gates = gates_on t u v before.on before.gates gates;
+  looked = below_more _ _ (λ k lt. looked_on (root k) t u v before.on on (before.looked k lt))
+      (on_looked (root i) t u v before.on on here);
+}

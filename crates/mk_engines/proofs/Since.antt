@@ -29,14 +29,7 @@ module _ (p : PassState) (xs : List Event) (r : PassState) (ys : List Event)
 
   pub done_then : done_since p r
       ≡ done_since p (record p { seen = p.seen ++ xs }) ++ done_since (record p { seen = p.seen ++ xs }) r
-  done_then =
-      ap (λ (es : List Event). done_in p es) since_both
-      ∙ done_in_parts p xs ys
-      ∙ ap (λ (es : List Event). done_in p es ++ done_in (record p { seen = p.seen ++ xs }) ys)
-      (sym (since_behind p xs))
-      ∙ ap (λ (es : List Event). done_since p (record p { seen = p.seen ++ xs }) ++ done_in
-      (record p { seen = p.seen ++ xs }) es)
-      (sym since_second)
+  done_then = cc (since_both, done_in_parts p xs ys, since_behind p xs, since_second)
 
   pub rule_then : (rule : Config → Moment → Step → Type 0)
       → OwnStepsKeep rule p.table.config p.seat (world_of p) (seen_since p (record p { seen = p.seen ++ xs }))
@@ -45,10 +38,9 @@ module _ (p : PassState) (xs : List Event) (r : PassState) (ys : List Event)
       → OwnStepsKeep rule p.table.config p.seat (world_of p) (seen_since p r)
   rule_then rule one two =
       let c : Config = p.table.config in
-      subst (λ (es : List Event). OwnStepsKeep rule c p.seat (world_of p) es) (sym since_both)
-      (keep_in_parts rule c p.seat (world_of p) xs ys
-      (subst (λ (es : List Event). OwnStepsKeep rule c p.seat (world_of p) es) (since_behind p xs) one)
-      (subst (λ (w : World). OwnStepsKeep rule c p.seat w ys) (left_in_parts c p.seen xs)
+      subst (λ (es : List Event). OwnStepsKeep rule c p.seat (world_of p) es) (sym since_both) (keep_in_parts rule c _ _
+      xs ys (subst (λ (es : List Event). OwnStepsKeep rule c p.seat (world_of p) es) (since_behind p xs) one)
+      (subst (λ (w : World). OwnStepsKeep rule c p.seat w ys) (left_in_parts c _ xs)
       (subst (λ (es : List Event). OwnStepsKeep rule c p.seat (left c (p.seen ++ xs)) es) since_second two)))
 
 -- one step

@@ -18,12 +18,11 @@ sweepless_from c s w (e ∷ es) keep = (
 
 pub sweepless_rule : (p q : PassState) (more : List Event) → q ≡ record p { seen = p.seen ++ more }
     → OwnStepsKeep TracesReached p.table.config p.seat (world_of p) more → SweepsNothing p q
-sweepless_rule p q more is keep =
-    record {
-      more = more;
-      is = ap (λ (x : PassState). x.seen) is;
-      none = sweepless_from p.table.config p.seat (world_of p) more keep;
-    }
+sweepless_rule p q more is keep = record {
+  more = more;
+  is = ap (λ (x : PassState). x.seen) is;
+  none = sweepless_from p.table.config p.seat (world_of p) more keep;
+}
 
 pub sweepless_beside : (kinds : Step → Bool) (p q : PassState) → Does kinds p q → MarksReachedAlone p q
     → SweepsNothing p q

@@ -1,4 +1,4 @@
--- Tracing in the stop meets the law of engines.
+-- Tracing in the stop meets the law of engines. Most of it holds of each engine that marks in the stop alone.
 use Rattle.std.proofs.{Common.count_by, lemmas.List.Sums.sum_by-cons}
 use Rattle.mk_laws.proofs.Vocabulary.{Bool, Caller, Config, Flight, Holds, Host, IsHistory, List, Marker}
 use Rattle.mk_laws.proofs.Vocabulary.{MarksAreClosed, Moment, Op, Protocol, Seat, Stage, Steady, Step, Words, ℕ, ap}
@@ -45,7 +45,7 @@ ready_of p history holds free =
 
 -- Its kinds are those of the law.
 
-closing_kind : (s : Step) → is_tracing s ≡ true → closes_marks s ≡ true
+pub closing_kind : (s : Step) → is_tracing s ≡ true → closes_marks s ≡ true
 closing_kind Step.Want h = refl
 closing_kind (Step.Look x) h = refl
 closing_kind (Step.Mark p v) h = refl
@@ -66,14 +66,13 @@ closing_kinds : (xs : List Finding) → are_of is_tracing xs ≡ true → are_of
 closing_kinds [] h = refl
 closing_kinds (x ∷ xs) h =
     let parts = both_parts (is_tracing x.event.step) (are_of is_tracing xs) h in
-    and_true (closes_marks x.event.step) (are_of closes_marks xs) (closing_kind x.event.step parts.0)
-    (closing_kinds xs parts.1)
+    and_true _ _ (closing_kind _ parts.0) (closing_kinds xs parts.1)
 
 same_wish : (s : Step) → is_wish s ≡ is_want s
 same_wish Step.Want = refl
 same_wish _ = refl
 
-same_count : (xs : List Finding)
+pub same_count : (xs : List Finding)
     → count_by (λ (x : Finding). is_wish x.event.step) xs ≡ count_by (λ (x : Finding). is_want x.event.step) xs
 same_count [] = refl
 same_count (x ∷ xs) =
@@ -107,30 +106,28 @@ module _ (p q : PassState) (pass : q ≡ record p { seen = q.seen })
 
   pub keeps_call : KeepsCall p q
   unfolding done_as
-  keeps_call =
-      record {
-        pass = pass;
-        call = ap (λ (x : PassState). flight_of (now_of q) x.seat) pass ∙ same_flight p.seat;
-        done = ap done_as same;
-        gone = λ g. same_gone ∙ g;
-      }
+  keeps_call = record {
+    pass = pass;
+    call = ap (λ (x : PassState). flight_of (now_of q) x.seat) pass ∙ same_flight p.seat;
+    done = ap done_as same;
+    gone = λ g. same_gone ∙ g;
+  }
 
   steady_as : Untouched → Steady
-  steady_as x =
-      record {
-        turn = x.turn;
-        phase = 0;
-        held = x.held;
-        fresh = x.fresh;
-        cycles = x.cycles;
-        released = x.released;
-        full = x.full;
-        pages = x.pages;
-        freed = x.freed;
-        snapshot = x.snapshot;
-        fresh_words = x.fresh_words;
-        allocations = x.allocations;
-      }
+  steady_as x = record {
+    turn = x.turn;
+    phase = 0;
+    held = x.held;
+    fresh = x.fresh;
+    cycles = x.cycles;
+    released = x.released;
+    full = x.full;
+    pages = x.pages;
+    freed = x.freed;
+    snapshot = x.snapshot;
+    fresh_words = x.fresh_words;
+    allocations = x.allocations;
+  }
 
   pub keeps_turn : CountsAreLeft p.table.config p.seen q.seen → LeavesTurn but_phase p q
   unfolding steady_as

@@ -66,9 +66,7 @@ one_beside c s seats w e markers known on holds out other =
     let meets = enabled_meets c w.now e on in
     let t = holds_turn c w.now s known.orderly holds in
     let turn = turn_of c (view_of w.now) s known.orderly t in
-    let free : HoldsTurn c (view_of w.now) e.seat → ⊥ =
-    λ h. true≢false (sym (subst (λ (x : Seat). is_same_seat s x ≡ true)
-    (sym (same_holder c (view_of w.now) e.seat s known.orderly h t)) (same_self s)) ∙ other) in
+    let free : HoldsTurn c (view_of w.now) e.seat → ⊥ = grind (arith, same_holder, view_of, same_self) in
     let move = others_move c w e.seat e.step known (λ z. absurd (omega arith)) free meets in
     record {
       marks = move_marks move

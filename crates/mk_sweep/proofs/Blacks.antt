@@ -1,10 +1,9 @@
 -- Marked cells are blackened, one after the other.
 use Rattle.mk_sweep.proofs.Vocabulary.{BlacksMore, Cell, CellsAreClosed, Config, PageIsBlack, PassState, Words}
-use Rattle.mk_sweep.proofs.Vocabulary.{cell_words, cells_under, first_word, has_bit, has_no_pointers, header_in}
-use Rattle.mk_sweep.proofs.Vocabulary.{is_marked, still_words, word_points_well}
-use Rattle.mk_laws.proofs.Vocabulary.{Bool, List, ℕ, and_from, ap, arith, cases_lt, false, histories_keep_lengths, inl}
-use Rattle.mk_laws.proofs.Vocabulary.{inr, length, lt-ltb, nat_lt, refl, slice_index, subst, sym, true, ◌&&◌, ◌+◌, ◌<◌}
-use Rattle.mk_laws.proofs.Vocabulary.{◌^◌, ◌||◌, ◌∙◌, ◌≡◌}
+use Rattle.mk_sweep.proofs.Vocabulary.{cells_under, has_bit, has_no_pointers, header_in, is_marked, still_words}
+use Rattle.mk_laws.proofs.Vocabulary.{Bool, List, ℕ, and_from, ap, arith, cases_lt, false, histories_keep_lengths}
+use Rattle.mk_laws.proofs.Vocabulary.{length, lt-ltb, nat_lt, refl, subst, sym, true, ◌&&◌, ◌+◌, ◌<◌, ◌^◌, ◌||◌, ◌∙◌}
+use Rattle.mk_laws.proofs.Vocabulary.{◌≡◌}
 use Rattle.mk_core.proofs.WordBits.{bit_for_has, bit_for_small, bits_added, bits_stay}
 use Rattle.mk_core.specs.{Cells.words_point_well, StopConditions.may_turn_black}
 use Rattle.mk_laws.proofs.Tests.{all_below_from}
@@ -18,15 +17,10 @@ pub blacks_same : (w v : Words) → v ≡ w → BlacksMore w v
 blacks_same w v e = subst (BlacksMore w) (sym e) (record { is = refl; grow = λ p k h. h })
 
 pub blacks_then : {u v w : Words} → BlacksMore u v → BlacksMore v w → BlacksMore u w
-blacks_then {w} one two =
-    record {
-      is = two.is ∙ ap (λ (x : Words). blackened_as x w.blacks) one.is;
-      grow = λ p k h. two.grow p k (one.grow p k h);
-    }
+blacks_then {w} one two = grind (arith, blackened_as)
 
 pub blacks_added : (w v : Words) (page bits : ℕ) → v ≡ with_blacks page bits w → BlacksMore w v
-blacks_added w v page bits e =
-    subst (BlacksMore w) (sym e) (record { is = refl; grow = λ p k h. bits_stay w.blacks page bits p k h })
+blacks_added w v page bits e = grind (arith, bits_stay)
 
 pub blacks_length : (p : PassState) → length (still_words p).blacks ≡ p.table.config.pages
 blacks_length p = (histories_keep_lengths p.table.config p.seen).blacks
@@ -48,9 +42,7 @@ closed_kept {c} more closed =
     })
 
 pub page_stays_black : {w v : Words} (p : ℕ) → BlacksMore w v → PageIsBlack w p → PageIsBlack v p
-page_stays_black p more black k lt marked =
-    more.grow p k (black k (subst (λ n. k < n) (ap (λ (x : Words). cells_under (header_in x p)) more.is) lt)
-    (sym (ap (λ (x : Words). has_bit (slice_index x.marks p) k) more.is) ∙ marked))
+page_stays_black p more black k lt marked = grind arith
 
 -- A marked cell may turn black where the marks are closed.
 pub may_turn : {c : Config} {w : Words} (cell : Cell) → CellsAreClosed c w
@@ -65,15 +57,9 @@ may_turn {c} {w} cell closed known marked =
     by : (b : Bool) → has_no_pointers (header_in w cell.page) ≡ b
         → (has_no_pointers (header_in w cell.page) || words_point_well c.pages w cell) ≡ true
     by true bare = ap (λ x. x || words_point_well c.pages w cell) bare
-    by false scanned =
-        ap (λ x. x || words_point_well c.pages w cell) scanned
-        ∙ all_below_from (cell_words w cell) (λ i. word_points_well c.pages w (first_word w cell + i))
-        (λ i lt. closed.words cell i known marked scanned lt)
+    by false scanned = grind (arith, all_below_from)
 
 -- one cell more of a page, and one page more
 pub cells_then : (P Q : ℕ → Type 0) (i : ℕ) → ((k : ℕ) → P k → Q k) → ((k : ℕ) → k < i → P k) → Q i
     → (k : ℕ) → k < i + 1 → Q k
-cells_then P Q i on before here k lt = elim (cases_lt k i) [
-  | inl below ↦ on k (before k below)
-  | inr past ↦ let at : i ≡ k = omega arith in subst Q at here
-]
+cells_then P Q i on before here k lt = grind (arith, cases_lt)

@@ -12,13 +12,7 @@ use Rattle.mk_tracing.proofs.MoreMarks.{well_more, well_none, zero_none}
 use Rattle.mk_tracing.specs.Grays.{RootsPointWell}
 
 pub roots_stay : {pages : ℕ} {w v : Words} → MarksMore w v → RootsPointWell pages w → RootsPointWell pages v
-roots_stay {pages} {w} {v} more roots =
-    record {
-      registers = λ i. ap (λ (y : Words). points_well pages v (slice_index y.registers i)) more.is
-          ∙ well_more pages w v (slice_index w.registers i) more (roots.registers i);
-      globals = λ g. ap (λ (y : Words). points_well pages v (slice_index y.globals g)) more.is
-          ∙ well_more pages w v (slice_index w.globals g) more (roots.globals g);
-    }
+roots_stay {pages} {w} {v} more roots = grind (arith, well_more)
 
 module _ (c : Config) (es : List Event) (h : IsHistory c es) (settled : IsSettled (left c es))
     (well : PointWell c.pages (left c es).now.words (words_below (left c es).now.words c.pages)) where
@@ -37,12 +31,11 @@ module _ (c : Config) (es : List Event) (h : IsHistory c es) (settled : IsSettle
   zero_well n z = ap (λ u. points_well c.pages w u) z ∙ well_none c.pages w 0 (zero_none c.pages w.pages)
 
   pub cells_closed : RootsPointWell c.pages (left c es).now.words → CellsAreClosed c (left c es).now.words
-  cells_closed roots =
-      record {
-        registers = roots.registers;
-        globals = roots.globals;
-        words = λ cell i known marked scanned lt. by cell i known scanned lt (is_used w cell) refl;
-      }
+  cells_closed roots = record {
+    registers = roots.registers;
+    globals = roots.globals;
+    words = λ cell i known marked scanned lt. by cell i known scanned lt (is_used w cell) refl;
+  }
     where
       by : (cell : Cell) (i : ℕ) → cell.index < cells_under (header_in w cell.page)
           → has_no_pointers (header_in w cell.page) ≡ false → i < cell_words w cell → (b : Bool) → is_used w cell ≡ b
@@ -50,16 +43,13 @@ module _ (c : Config) (es : List Event) (h : IsHistory c es) (settled : IsSettle
       by cell i known scanned lt true used =
           scanned_well (first_word w cell + i) (used_word c es h settled cell.page cell.index i used scanned lt)
       by cell i known scanned lt false none =
-          zero_well (first_word w cell + i)
-          (eqb-true (slice_index w.heap (first_word w cell + i)) 0
-          (all_below-at (cell_words w cell) i (λ j. slice_index w.heap (first_word w cell + j) == 0)
+          zero_well _ (eqb-true _ 0 (all_below-at _ i (λ j. slice_index w.heap (first_word w cell + j) == 0)
           (unused_is_zero c es h settled cell known none) lt))
 
 -- The phase is another.
 
 pub closed_still : {c : Config} {w : Words} → CellsAreClosed c w → CellsAreClosed c (record w { phase = 0 })
-closed_still closed =
-    record { registers = closed.registers; globals = closed.globals; words = closed.words }
+closed_still closed = grind arith
 
 pub roots_now : (pages : ℕ) (w : Words) → RootsPointWell pages (record w { phase = 0 }) → RootsPointWell pages w
 roots_now pages w roots = record { registers = roots.registers; globals = roots.globals }
@@ -71,14 +61,9 @@ pub closed_behind : (words : WordsState) (t u : TurnState) → words ≡ u.pass.
     → CellsAreClosed words.config (still_words u.pass)
 closed_behind words t u table history settled more roots well =
     let w : Words = (now_of u.pass).words in
-    let same : words_below (still_words t.pass) words.config.pages ≡ words_below w words.config.pages =
-    sym (ap (λ (y : Words). words_below y words.config.pages) more.is) in
-    let well_there : PointWell u.pass.table.config.pages w (words_below w u.pass.table.config.pages) =
-    subst (λ (x : WordsState). PointWell x.config.pages w (words_below w x.config.pages)) table
-    (subst (λ ns. PointWell words.config.pages w ns) same well) in
-    let roots_there : RootsPointWell u.pass.table.config.pages w =
-    subst (λ (x : WordsState). RootsPointWell x.config.pages w) table
-    (roots_now words.config.pages w (roots_stay more roots)) in
+    let same : words_below (still_words t.pass) words.config.pages ≡ words_below w words.config.pages = grind arith in
+    let well_there : PointWell u.pass.table.config.pages w (words_below w u.pass.table.config.pages) = grind arith in
+    let roots_there : RootsPointWell u.pass.table.config.pages w = grind (arith, roots_now, roots_stay) in
     subst (λ (x : WordsState). CellsAreClosed x.config (still_words u.pass)) (sym table)
     (closed_still (cells_closed u.pass.table.config u.pass.seen history settled well_there roots_there))
 

@@ -1,5 +1,5 @@
 -- How often a number stands in the words of cells and pages.
-use Rattle.std.proofs.Common.{count_by, filter, le_refl, length-append, sum_by}
+use Rattle.std.proofs.Common.{count_by, filter, length-append, sum_by}
 use Rattle.std.proofs.lemmas.List.Sums.{sum_by-append, sum_by-cons}
 use Rattle.std.proofs.{lemmas.Bool.cases_order, lemmas.List.FromFn.length-range_with_len}
 use Rattle.std.specs.List.{Contains, range_with_len}
@@ -86,11 +86,7 @@ if_found false a len n some = absurd (some refl)
 
 -- A number is in one of equal parts alone.
 one_part : (size i j n : ℕ) → i * size ≤ n → n < i * size + size → j * size ≤ n → n < j * size + size → i ≡ j
-one_part size i j n from to low high = elim (cases_order i j) [
-  | inl is ↦ is
-  | inr (inl below) ↦ absurd (omega (arith, mul-le (suc i) size j size below (le_refl size)))
-  | inr (inr above) ↦ absurd (omega (arith, mul-le (suc j) size i size above (le_refl size)))
-]
+one_part size i j n from to low high = grind (arith, cases_order, mul-le)
 
 -- a used cell of a page, of this many words, that has the word
 pub record HasInCell (page size used cells n : ℕ) : Type 0 where
@@ -118,8 +114,7 @@ cells_found page size used (suc k) n some =
 
 same_cell : (page size i j n : ℕ) → 64 * page + i * size ≤ n → n < 64 * page + i * size + size
     → 64 * page + j * size ≤ n → n < 64 * page + j * size + size → i ≡ j
-same_cell page size i j n from to low high =
-    one_part size i j (n - 64 * page) (omega arith) (omega arith) (omega arith) (omega arith)
+same_cell page size i j n from to low high = grind (arith, one_part)
 
 pub cells_once : (page size used cells n : ℕ) → HasInCell page size used cells n
     → times n (words_of_cells page size used cells) ≡ 1
@@ -130,9 +125,7 @@ cells_once page size used (suc k) n x =
     elim (cases_eq x.index k) [
       | inl last ↦
           let here : times n (words_if (has_bit used k) (64 * page + k * size) size) ≡ 1 =
-          subst (λ j. times n (words_if (has_bit used j) (64 * page + j * size) size) ≡ 1) last
-          (ap (λ (b : Bool). times n (words_if b (64 * page + x.index * size) size)) x.bit
-          ∙ range_inside (64 * page + x.index * size) size n x.from x.to) in
+          cc (last, x.bit, range_inside (64 * page + x.index * size) size n x.from x.to) in
           let before : times n (words_of_cells page size used k) ≡ 0 = none_before last in
           omega arith
       | inr early ↦
@@ -176,12 +169,7 @@ page_found w page n some = by (has_no_pointers (header_in w page)) refl
 
     by : (b : Bool) → has_no_pointers (header_in w page) ≡ b → HasOnPage w page n
     by true bare = absurd (some (ap (λ (b : Bool). times n (on b)) bare))
-    by false scanned =
-        record {
-          scanned = scanned;
-          cell = cells_found page (words_under (header_in w page)) (used_at w page) (cells_under (header_in w page)) n
-              (λ z. some (ap (λ (b : Bool). times n (on b)) scanned ∙ z));
-        }
+    by false scanned = grind (arith, cells_found, times, on)
 
 pub page_once : {w : Words} {page n : ℕ} → HasOnPage w page n → times n (words_on w page) ≡ 1
 page_once {w} {page} {n} x =
@@ -229,10 +217,7 @@ pages_once {w} (suc k) {page} {n} lt x alone =
     ]
 
     none_here : page ≢ k → times n (words_on w k) ≡ 0
-    none_here early = elim (cases_eq (times n (words_on w k)) 0) [
-      | inl none ↦ none
-      | inr some ↦ absurd (early (sym (alone k (page_found w k n some))))
-    ]
+    none_here early = grind (arith, times, page_found)
 
 -- Neighbouring numbers are counted where they are.
 
@@ -243,9 +228,7 @@ pub in_range_from : (a len n : ℕ) → a ≤ n → n < a + len → is_in_range 
 in_range_from a len n low high = and_from (nat_le a n) (nat_lt n (a + len)) (le-leb a n low) (lt-ltb n (a + len) high)
 
 pub in_range_is : (a len n : ℕ) → is_in_range a len n ≡ true → (a ≤ n) × (n < a + len)
-in_range_is a len n h =
-    let parts = and_parts (nat_le a n) (nat_lt n (a + len)) h in
-    (leb-true a n parts.0, ltb-true n (a + len) parts.1)
+in_range_is a len n h = grind (arith, and_parts, leb-true, ltb-true)
 
 times_in_range : (a len n : ℕ) → times n (range_with_len a len) ≡ cond (is_in_range a len n) 1 0
 times_in_range a len n = by (is_in_range a len n) refl
@@ -280,14 +263,11 @@ module _ {X : Type 0} (t : X → Bool) (first words : X → ℕ) where
   pub length_of_all : (xs : List X) → length (all_words xs) ≡ sum_by words (filter t xs)
   length_of_all [] = refl
   length_of_all (x ∷ xs) =
-      length-append (words_if (t x) (first x) (words x)) (all_words xs)
-      ∙ ap (λ k. length (words_if (t x) (first x) (words x)) + k) (length_of_all xs) ∙ by (t x)
+      cc (length-append (words_if (t x) (first x) (words x)) (all_words xs), length_of_all xs, by (t x))
     where
       by : (b : Bool) → length (words_if b (first x) (words x)) + sum_by words (filter t xs)
           ≡ sum_by words (if b then x ∷ filter t xs else filter t xs)
-      by true =
-          ap (λ k. k + sum_by words (filter t xs)) (length-range_with_len (first x) (words x))
-          ∙ sym (sum_by-cons words x (filter t xs))
+      by true = grind (arith, length-range_with_len, sum_by-cons)
       by false = let e : 0 + sum_by words (filter t xs) ≡ sum_by words (filter t xs) = omega arith in e
 
 -- Lists in which each number stands as often are as long.

@@ -24,13 +24,12 @@ value_alike {c} v registers globals heap allocations (InWord n scanned is) =
 pub swept_alike : {c : Config} {w : World} (v : World) {i : ℕ} → v.now.words.registers ≡ w.now.words.registers
     → v.now.words.globals ≡ w.now.words.globals → v.now.words.heap ≡ w.now.words.heap
     → v.allocations ≡ w.allocations → IsSwept c w i → IsSwept c v i
-swept_alike {c} {w} v {i} registers globals heap allocations x =
-    record {
-      value = x.value;
-      found = value_alike v registers globals heap allocations x.found;
-      points = subst (λ (xs : List PlacedAllocation). PointsIntoAllocation c (record w { allocations = xs }) x.value i)
-          (sym allocations) x.points;
-    }
+swept_alike {c} {w} v {i} registers globals heap allocations x = record {
+  value = x.value;
+  found = value_alike v registers globals heap allocations x.found;
+  points = subst (λ (xs : List PlacedAllocation). PointsIntoAllocation c (record w { allocations = xs }) x.value i)
+      (sym allocations) x.points;
+}
 
 -- the kinds of the parts of the turn
 

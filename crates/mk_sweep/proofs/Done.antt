@@ -12,8 +12,7 @@ use Rattle.mk_words.specs.Steps.{Makes}
 looked_at_in_parts : (xs ys : List Finding) → words_looked_at (xs ++ ys) ≡ words_looked_at xs ++ words_looked_at ys
 looked_at_in_parts [] ys = refl
 looked_at_in_parts (x ∷ xs) ys =
-    ap (λ ns. word_looked_at x.event.step ++ ns) (looked_at_in_parts xs ys)
-    ∙ sym (append_assoc (word_looked_at x.event.step) (words_looked_at xs) (words_looked_at ys))
+    cc (looked_at_in_parts xs ys, append_assoc (word_looked_at x.event.step) (words_looked_at xs) (words_looked_at ys))
 
 -- what is done from one pass to another is one list of events, whichever kinds are allowed
 done_is : {kinds : Step → Bool} {p q : PassState} (d : Does kinds p q) (es : List Event)
@@ -26,8 +25,7 @@ none_done p = refl
 
 pub looks_of_nothing : {kinds : Step → Bool} {p : PassState} (d : Does kinds p p) → heap_looks d ≡ []
 looks_of_nothing {p} d =
-    ap (λ (es : List Event). words_looked_at (done_in p es))
-    (done_is d [] (sym (ap (λ (es : List Event). record p { seen = es }) (append-nil p.seen)))) ∙ none_done p
+    cc (done_is d [] (sym (ap (λ (es : List Event). record p { seen = es }) (append-nil p.seen))), none_done p)
 
 pub looks_in_parts : {kinds more both : Step → Bool} {p q r : PassState} (d : Does kinds p q) (e : Does more q r)
     (f : Does both p r) → heap_looks f ≡ heap_looks d ++ heap_looks e
@@ -38,9 +36,7 @@ looks_in_parts {p} {r} d e f =
     ∙ ap (λ (x : PassState). heap_looks d ++ words_looked_at (done_in x e.more)) (sym d.is)
   where
     whole : r ≡ record p { seen = p.seen ++ (d.more ++ e.more) }
-    whole =
-        e.is ∙ ap (λ (x : PassState). record x { seen = x.seen ++ e.more }) d.is
-        ∙ ap (λ (es : List Event). record p { seen = es }) (append_assoc p.seen d.more e.more)
+    whole = cc (e.is, d.is, append_assoc p.seen d.more e.more)
 
 no_rule : Config → Moment → Step → Type 0
 no_rule c m s = ⊥

@@ -2,11 +2,11 @@
 -- and at no other word.
 use Rattle.std.proofs.Common.{count_by}
 use Rattle.mk_sweep.proofs.Vocabulary.{Cell, Config, Event, IsHistory, IsScannedWord, IsSettled, PlacedAllocation}
-use Rattle.mk_sweep.proofs.Vocabulary.{Words, cell_of_allocation, cell_words, first_word, header_in, is_mapped, left}
-use Rattle.mk_sweep.proofs.Vocabulary.{placed_at, storage_of, storage_words, words_below, words_under}
+use Rattle.mk_sweep.proofs.Vocabulary.{Words, cell_of_allocation, cell_words, first_word, header_in, left, placed_at}
+use Rattle.mk_sweep.proofs.Vocabulary.{storage_words, words_below, words_under}
 use Rattle.mk_laws.proofs.Vocabulary.{Bool, List, ℕ, and_from, and_parts, ap, arith, cases_eq, false, inl, inr, length}
-use Rattle.mk_laws.proofs.Vocabulary.{never_granted, not, refl, sym, true, true≢false, ◌&&◌, ◌*◌, ◌+◌, ◌<◌, ◌∙◌, ◌≡◌}
-use Rattle.mk_laws.proofs.Vocabulary.{◌≢◌, ◌≤◌}
+use Rattle.mk_laws.proofs.Vocabulary.{never_granted, refl, sym, true, true≢false, ◌&&◌, ◌*◌, ◌+◌, ◌<◌, ◌∙◌, ◌≡◌, ◌≢◌}
+use Rattle.mk_laws.proofs.Vocabulary.{◌≤◌}
 use Rattle.mk_core.specs.ClosedMarks.{is_scanned_allocation}
 use Rattle.mk_laws.proofs.InvariantTheorems.{allocations_are_disjoint, allocations_stand}
 use Rattle.mk_laws.proofs.MappedWords.{mapped_stays}
@@ -25,9 +25,7 @@ module _ (c : Config) (es : List Event) (h : IsHistory c es) (settled : IsSettle
 
   unreleased : (i : ℕ) → is_scanned_allocation c (placed_at (left c es).allocations i) ≡ true
       → (placed_at (left c es).allocations i).released ≡ false
-  unreleased i is =
-      let a : PlacedAllocation = placed_at xs i in
-      mapped_stays c a (and_parts (is_mapped c a) (not (storage_of c a).leaf) is).0
+  unreleased i is = grind (arith, xs, mapped_stays, and_parts)
 
   -- the allocation of a scanned word, where its page's cells show the word
   pub of_page : (page n : ℕ) → HasOnPage (left c es).now.words page n → (x : IsScannedWord c (left c es).allocations n)
@@ -47,23 +45,7 @@ module _ (c : Config) (es : List Event) (h : IsHistory c es) (settled : IsSettle
 
   on_page : (n : ℕ) → (x : IsScannedWord c (left c es).allocations n)
       → HasOnPage (left c es).now.words (cell_of_allocation c (placed_at (left c es).allocations x.number)).page n
-  on_page n x =
-      let a : PlacedAllocation = placed_at xs x.number in
-      let st = scanned_stands c es h settled x.number x.scanned in
-      let first = st.first in
-      let words = st.words in
-      let low = x.word.0 in
-      let high = x.word.1 in
-      record {
-        scanned = st.scanned;
-        cell = record {
-          index = (cell_of_allocation c a).index;
-          known = st.index;
-          bit = st.used;
-          from = omega arith;
-          to = omega arith;
-        };
-      }
+  on_page n x = grind (arith, xs, scanned_stands)
 
   one_allocation : (n : ℕ) → (x y : IsScannedWord c (left c es).allocations n) → x.number ≡ y.number
   one_allocation n x y =
@@ -103,10 +85,7 @@ module _ (c : Config) (es : List Event) (h : IsHistory c es) (settled : IsSettle
   scanned_word : (n i : ℕ) → (is_scanned_allocation c (placed_at (left c es).allocations i)
       && is_in_range (placed_at (left c es).allocations i).base (storage_words c (placed_at (left c es).allocations
       i)) n) ≡ true → IsScannedWord c (left c es).allocations n
-  scanned_word n i is =
-      let a : PlacedAllocation = placed_at xs i in
-      let parts = and_parts (is_scanned_allocation c a) (is_in_range a.base (storage_words c a) n) is in
-      record { number = i; scanned = parts.0; word = in_range_is a.base (storage_words c a) n parts.1 }
+  scanned_word n i is = grind (arith, xs, and_parts, is_in_range, in_range_is)
 
   counted : (n : ℕ) → times n (words_below (left c es).now.words c.pages)
       ≡ count_by (λ a. is_scanned_allocation c a && is_in_range a.base (storage_words c a) n) (left c es).allocations
@@ -131,7 +110,6 @@ module _ (c : Config) (es : List Event) (h : IsHistory c es) (settled : IsSettle
 
   pub as_many : length (words_below (left c es).now.words c.pages) ≡ scanned_words c (left c es).allocations
   as_many =
-      same_length (64 * c.pages) (words_below w c.pages)
-      (all_words (is_scanned_allocation c) (λ a. a.base) (storage_words c) xs) within
+      same_length (64 * c.pages) _ (all_words _ (λ a. a.base) _ xs) within
       (λ n. counted n ∙ sym (times_in_all (is_scanned_allocation c) (λ a. a.base) (storage_words c) n xs))
-      ∙ length_of_all (is_scanned_allocation c) (λ a. a.base) (storage_words c) xs
+      ∙ length_of_all _ (λ a. a.base) _ xs

@@ -38,9 +38,7 @@ module _ (c : Config) (w : World) (S : ℕ → Bool) (h : all_are_into c w S ≡
   value_into : (u : ℕ) → IsSweptValue c w u → is_into_members c w S u ≡ true
   value_into u (InRegister i is) = subst (λ (v : ℕ). is_into_members c w S v ≡ true) is (register_into i)
   value_into u (InGlobal g is) = subst (λ (v : ℕ). is_into_members c w S v ≡ true) is (global_into g)
-  value_into u (InWord n scanned is) =
-      subst (λ (v : ℕ). is_into_members c w S v ≡ true) is
-      (list_all-at (is_into_members c w S) w.now.words.heap 0 outer.1 refl n)
+  value_into u (InWord n scanned is) = cc (is, list_all-at (is_into_members c w S) w.now.words.heap 0 outer.1 refl n)
 
   pub swept_by_test : (b : ℕ) → IsSwept c w b → S b ≡ true
   swept_by_test b swept = points_into c w S swept.value b (value_into swept.value swept.found) swept.points
@@ -52,21 +50,19 @@ stopped = left small (begun_in_stop ++ by_host (Step.Begin ∷ []) ++ marked_in_
 
 pub first_is_swept : IsSwept small stopped 0
 unfolding left_from all_below pointed_cell begun_in_stop three_objects marked_in_stop
-first_is_swept =
-    record {
-      value = 65536;
-      found = InRegister 0 refl;
-      points = (refl, (leb-true 65536 65536 refl, (leb-true 0 0 refl, ltb-true 0 2 refl)));
-    }
+first_is_swept = record {
+  value = 65536;
+  found = InRegister 0 refl;
+  points = (refl, (leb-true 65536 65536 refl, (leb-true 0 0 refl, ltb-true 0 2 refl)));
+}
 
 pub second_is_swept : IsSwept small stopped 1
 unfolding left_from all_below pointed_cell begun_in_stop three_objects marked_in_stop
-second_is_swept =
-    record {
-      value = 65552;
-      found = InWord 0 (record { number = 0; scanned = refl; word = (leb-true 0 0 refl, ltb-true 0 2 refl) }) refl;
-      points = (refl, (leb-true 65536 65552 refl, (leb-true 2 2 refl, ltb-true 2 4 refl)));
-    }
+second_is_swept = record {
+  value = 65552;
+  found = InWord 0 (record { number = 0; scanned = refl; word = (leb-true 0 0 refl, ltb-true 0 2 refl) }) refl;
+  points = (refl, (leb-true 65536 65552 refl, (leb-true 2 2 refl, ltb-true 2 4 refl)));
+}
 
 pub stopped_into_two : all_are_into small stopped below_two ≡ true
 unfolding left_from all_below pointed_cell numbered_all begun_in_stop three_objects marked_in_stop
@@ -111,12 +107,11 @@ is_second _ = false
 
 pub second_is_swept_unreached : IsSwept pointer_page unreached 1
 unfolding left_from by c0 host all_below pointed_cell pointer_page exchanged two_unreached swept_in_stop
-second_is_swept_unreached =
-    record {
-      value = 65552;
-      found = InWord 0 (record { number = 0; scanned = refl; word = (leb-true 0 0 refl, ltb-true 0 2 refl) }) refl;
-      points = (refl, (leb-true 65536 65552 refl, (leb-true 2 2 refl, ltb-true 2 4 refl)));
-    }
+second_is_swept_unreached = record {
+  value = 65552;
+  found = InWord 0 (record { number = 0; scanned = refl; word = (leb-true 0 0 refl, ltb-true 0 2 refl) }) refl;
+  points = (refl, (leb-true 65536 65552 refl, (leb-true 2 2 refl, ltb-true 2 4 refl)));
+}
 
 pub unreached_into_second : all_are_into pointer_page unreached is_second ≡ true
 unfolding left_from by c0 host all_below pointed_cell numbered_all pointer_page exchanged two_unreached swept_in_stop

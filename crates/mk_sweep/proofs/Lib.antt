@@ -16,3 +16,4 @@ pub mod BesideTurn
 pub mod CycleParts
 pub mod SweepCycles
 pub mod WholeCycles
+pub mod RootSteps

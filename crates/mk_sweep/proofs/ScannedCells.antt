@@ -4,15 +4,15 @@ use Rattle.mk_sweep.proofs.Vocabulary.{World, cell_of_allocation, cell_words, ce
 use Rattle.mk_sweep.proofs.Vocabulary.{has_no_pointers, header_at, header_in, header_of, is_mapped, is_phase, left}
 use Rattle.mk_sweep.proofs.Vocabulary.{never_behind, phase_of, placed_at, storage_of, storage_words, used_at}
 use Rattle.mk_laws.proofs.Vocabulary.{Among, Bool, Chosen, Claim, Granted, HasHeader, Invariant, IsClaimed, IsShown}
-use Rattle.mk_laws.proofs.Vocabulary.{IsSized, IsWordOf, List, Mode, None, Object, Placing, ShowsPart, Unplaced, Used}
-use Rattle.mk_laws.proofs.Vocabulary.{ℕ, and_from, and_parts, ap, append-nil, arith, cells_begin, claim_of, claims_of}
+use Rattle.mk_laws.proofs.Vocabulary.{IsSized, IsWordOf, List, None, Object, Placing, ShowsPart, Unplaced, Used, ℕ}
+use Rattle.mk_laws.proofs.Vocabulary.{and_from, and_parts, ap, append-nil, arith, cells_begin, claim_of, claims_of}
 use Rattle.mk_laws.proofs.Vocabulary.{claims_on, claims_placed, eq-eqb, false, first_page_shows, ground_of, has_place}
 use Rattle.mk_laws.proofs.Vocabulary.{header_made, header_on, heads_run, inl, inr, is_freed, is_large, is_released_in}
 use Rattle.mk_laws.proofs.Vocabulary.{is_small_object, is_unmapped_header, kinds_of, large_count, large_is_not_small}
-use Rattle.mk_laws.proofs.Vocabulary.{made_is_mapped, mode_of, not, not-true, object_now, object_placed, pages_made}
-use Rattle.mk_laws.proofs.Vocabulary.{pages_some, part_has_no_pointers, refl, small_heads_none, subst, sym, true}
-use Rattle.mk_laws.proofs.Vocabulary.{true≢false, typed_size, unmapped_is_unmapped, words_are_zero, words_within, ◌&&◌}
-use Rattle.mk_laws.proofs.Vocabulary.{◌++◌, ◌+◌, ◌/◌, ◌<◌, ◌==◌, ◌||◌, ◌∙◌, ◌≡◌, ◌≢◌, ◌⊎◌}
+use Rattle.mk_laws.proofs.Vocabulary.{made_is_mapped, not, not-true, object_now, object_placed, pages_made, pages_some}
+use Rattle.mk_laws.proofs.Vocabulary.{part_has_no_pointers, refl, small_heads_none, subst, sym, true, true≢false}
+use Rattle.mk_laws.proofs.Vocabulary.{typed_size, unmapped_is_unmapped, words_are_zero, words_within, ◌&&◌, ◌++◌, ◌+◌}
+use Rattle.mk_laws.proofs.Vocabulary.{◌/◌, ◌<◌, ◌==◌, ◌||◌, ◌∙◌, ◌≡◌, ◌≢◌, ◌⊎◌}
 use Rattle.mk_core.{proofs.PointedAllocations.cell_word_is_its_own, proofs.PointedAllocations.taken_cell_is}
 use Rattle.mk_core.{proofs.StandingAllocations.cell_is_known, specs.Cells.is_used}
 use Rattle.mk_core.{specs.ClosedMarks.is_scanned_allocation, specs.Effects.is_mapped_cell, specs.Effects.is_ungranted}
@@ -92,9 +92,7 @@ module _ (c : Config) (es : List Event) (h : IsHistory c es) (settled : IsSettle
                 ∙ ap (λ (i : ℕ). record { page = i; index = o.claim.index }) o.page
                 ∙ ap (λ (i : ℕ). record { page = p; index = i }) o.index;
           }
-      by (inr r) =
-          absurd (true≢false (sym r ∙ ap (λ b. is_released_in b w.now.words.snapshot w.now.words.marks p k)
-          settled.releasing))
+      by (inr r) = grind arith
 
   stands : (i : ℕ) → (placed_at (left c es).allocations i).released ≡ false
       → StandsUsed c (left c es) (placed_at (left c es).allocations i)
@@ -131,27 +129,14 @@ module _ (c : Config) (es : List Event) (h : IsHistory c es) (settled : IsSettle
       let a : PlacedAllocation = placed_at xs i in
       let o : Object = object_placed c a in
       let some = pages_some o (sized i u) in
-      let has : HasHeader Unmapped o 0 (header_on w.now.words.pages (a.base / 64 + 0)) =
-      subst (λ (m : Mode). HasHeader m o 0 (header_on w.now.words.pages (a.base / 64 + 0)))
-      (ap (λ b. mode_of b false) gone) ((shown i u).headers 0 (omega arith)) in
+      let has : HasHeader Unmapped o 0 (header_on w.now.words.pages (a.base / 64 + 0)) = grind (arith, shown) in
       let here : a.base / 64 + 0 ≡ a.base / 64 = omega arith in
-      ap (λ p. is_unmapped_header (header_in w.now.words p)) (sym here)
-      ∙ ap (λ n. is_unmapped_header (header_of n)) has.1
-      ∙ unmapped_is_unmapped (pages_made o) 0 (large_count o (sized i u) has.0) (omega arith)
+      cc (here, has.1, unmapped_is_unmapped (pages_made o) 0 (large_count o (sized i u) has.0) (omega arith))
 
   mapped_where_shown : (i : ℕ) → (placed_at (left c es).allocations i).released ≡ false
       → is_unmapped_header (header_in (left c es).now.words ((placed_at (left c es).allocations i).base / 64)) ≡ false
       → is_mapped c (placed_at (left c es).allocations i) ≡ true
-  mapped_where_shown i u mapped =
-      let a : PlacedAllocation = placed_at xs i in
-      and_from (not a.released) (not (a.freed && is_large (kinds_of c.types a.ty))) (ap not u)
-      (ap (λ b. not (a.freed && b)) (large_is_not_small (kinds_of c.types a.ty))
-      ∙ by (a.freed && not (is_small_object (object_placed c a))) refl)
-    where
-      by : (b : Bool) → ((placed_at xs i).freed && not (is_small_object (object_placed c (placed_at xs i)))) ≡ b
-          → not ((placed_at xs i).freed && not (is_small_object (object_placed c (placed_at xs i)))) ≡ true
-      by true gone = absurd (true≢false (sym (freed_is_unmapped i u gone) ∙ mapped))
-      by false stays = ap not stays
+  mapped_where_shown i u mapped = grind (arith, xs, and_from, large_is_not_small, freed_is_unmapped)
 
   -- So the used cell of a scanned page is that of a mapped allocation that isn't leaf,
   pub used_cell : (p k : ℕ) → has_bit (used_at (left c es).now.words p) k ≡ true
@@ -201,8 +186,7 @@ module _ (c : Config) (es : List Event) (h : IsHistory c es) (settled : IsSettle
       let m = (guard_in c w known all.order.laid all.zeros).mapped i parts.0 in
       let some = pages_some o (sized i u) in
       let here : a.base / 64 + 0 ≡ a.base / 64 = omega arith in
-      let made : header_at w.now.words (a.base / 64) ≡ header_made o 0 =
-      subst (λ p. header_at w.now.words p ≡ header_made o 0) here (m.headers 0 (omega arith)) in
+      let made : header_at w.now.words (a.base / 64) ≡ header_made o 0 = grind arith in
       let cells = cells_begin c w.now.words a h.within_limits st.stands st.headers in
       let size = words_within o (sized i u) in
       record {
@@ -210,9 +194,8 @@ module _ (c : Config) (es : List Event) (h : IsHistory c es) (settled : IsSettle
         index = cell_is_known c w.now.words a (sized i u) st.stands.begins st.headers;
         used = st.used;
         scanned =
-            part_has_no_pointers o (header_in w.now.words (a.base / 64)) (first_part i u)
-            ∙ ap (λ b. b || is_unmapped_header (header_in w.now.words (a.base / 64))) (not-true (storage_of c
-            a).leaf parts.1)
+            part_has_no_pointers o _ (first_part i u) ∙ ap (λ b. b || is_unmapped_header
+            (header_in w.now.words (a.base / 64))) (not-true (storage_of c a).leaf parts.1)
             ∙ ap (λ n. is_unmapped_header (header_of n)) made ∙ made_is_mapped o 0 (sized i u) (omega arith);
         first = cells.0;
         words = cells.1;
@@ -254,8 +237,7 @@ module _ (c : Config) (es : List Event) (h : IsHistory c es) (settled : IsSettle
       by u mapped true e true f =
           let kept = (and_parts (not a.released) (not (a.freed && is_large (kinds_of c.types a.ty))) mapped).1 in
           let small : is_large (kinds_of c.types a.ty) ≡ false =
-          ap (λ b. b && is_large (kinds_of c.types a.ty)) (sym (freed_there u f))
-          ∙ not-true (a.freed && is_large (kinds_of c.types a.ty)) kept in
+          cc (freed_there u f, not-true (a.freed && is_large (kinds_of c.types a.ty)) kept) in
           let none = (small_heads_none (object_placed c a) 0 (header_in w.now.words (a.base / 64)) (first_part i u)
           (is_small (is_small_object (object_placed c a)) (sym (large_is_not_small (kinds_of c.types a.ty)) ∙
           small))).0 in

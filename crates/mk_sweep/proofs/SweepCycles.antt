@@ -144,15 +144,14 @@ module _ (p : PassState) (looks : ℕ) (es : List Event) (has : Has p.seats p.se
   part : (kinds : Step → Bool) (xs more : List Event) → IsHistory c (xs ++ more) → Holds c (left c xs).now s
       → AreOwnOrOfOthers s p.seats more → OwnStepsKeep (IsOf kinds) c s (left c xs) more
       → PartOfTurn kinds c s p.seats (left c xs) more
-  part kinds xs more h holds of_seats own =
-      record {
-        markers = markers;
-        known = known xs (earlier_part_is_history c xs more h);
-        holds = holds;
-        on = ((enabled_in_parts c xs more).0 h.enabled).1;
-        of_seats = of_seats;
-        own = own;
-      }
+  part kinds xs more h holds of_seats own = record {
+    markers = markers;
+    known = known xs (earlier_part_is_history c xs more h);
+    holds = holds;
+    on = ((enabled_in_parts c xs more).0 h.enabled).1;
+    of_seats = of_seats;
+    own = own;
+  }
 
   holding_part : PartOfTurn holds_gates c s p.seats (left c start) holding
   holding_part =
@@ -170,8 +169,7 @@ module _ (p : PassState) (looks : ℕ) (es : List Event) (has : Has p.seats p.se
   sweeping_part : PartOfTurn is_tracing c s p.seats (left c k.held) sweeping
   sweeping_part =
       part is_tracing k.held sweeping sweeping_history held_holds k.sweeps.traces.does.own_or_others
-      (kinds_keep is_tracing (IsOf is_tracing) c s (left c k.held) sweeping (λ m x is. is)
-      k.sweeps.traces.does.of_kinds)
+      (kinds_keep is_tracing (IsOf is_tracing) c s _ sweeping (λ m x is. is) k.sweeps.traces.does.of_kinds)
 
   swept_holds : Holds c (left c k.swept).now s
   swept_holds =
@@ -211,14 +209,11 @@ module _ (p : PassState) (looks : ℕ) (es : List Event) (has : Has p.seats p.se
 
   pub closes_none : None_of is_close marking
   closes_none =
-      none_joined is_close holding (sweeping ++ k.waited)
-      (none_of_kind holds_gates holding_leaves_turn c s p.seats is_close close_of_holder holding_closes_none
-      (left c start) holding holding_part)
-      (none_joined is_close sweeping k.waited
-      (none_of_kind is_tracing tracing_leaves_turn c s p.seats is_close close_of_holder tracing_closes_none
-      (left c k.held) sweeping sweeping_part)
-      (none_of_kind no_kind nothing_leaves_turn c s p.seats is_close close_of_holder (λ x is. cc)
-      (left c k.swept) k.waited waiting_part))
+      none_joined is_close holding (sweeping ++ k.waited) (none_of_kind holds_gates holding_leaves_turn c s _ is_close
+      close_of_holder holding_closes_none (left c start) holding holding_part)
+      (none_joined is_close sweeping k.waited (none_of_kind is_tracing tracing_leaves_turn c s _ is_close
+      close_of_holder tracing_closes_none _ sweeping sweeping_part)
+      (none_of_kind no_kind nothing_leaves_turn c s _ is_close close_of_holder (λ x is. cc) _ k.waited waiting_part))
 
   pub releases_none : None_of is_release k.stopped
   releases_none =
@@ -247,41 +242,38 @@ module _ (p : PassState) (looks : ℕ) (es : List Event) (has : Has p.seats p.se
       ∙ append_assoc k.front (begin ∷ []) (marking ++ close ∷ (k.stopped ++ release ∷ k.rest))
 
   abbrev pub cycle : Releasing es
-  cycle =
-      record {
-        marking = record {
-          begin = record {
-            before = k.front;
-            event = begin;
-            behind = marking ++ close ∷ (k.stopped ++ release ∷ k.rest);
-            is = begin_is;
-            of_kind = refl;
-          };
-          close = record {
-            at = record {
-              before = marking;
-              event = close;
-              behind = k.stopped ++ release ∷ k.rest;
-              is = refl;
-              of_kind = refl;
-            };
-            none_before = closes_none;
-          };
+  cycle = record {
+    marking = record {
+      begin = record {
+        before = k.front;
+        event = begin;
+        behind = marking ++ close ∷ (k.stopped ++ release ∷ k.rest);
+        is = begin_is;
+        of_kind = refl;
+      };
+      close = record {
+        at = record {
+          before = marking;
+          event = close;
+          behind = k.stopped ++ release ∷ k.rest;
+          is = refl;
+          of_kind = refl;
         };
-        release = record {
-          at = record { before = k.stopped; event = release; behind = k.rest; is = refl; of_kind = refl };
-          none_before = releases_none;
-        };
-      }
+        none_before = closes_none;
+      };
+    };
+    release = record {
+      at = record { before = k.stopped; event = release; behind = k.rest; is = refl; of_kind = refl };
+      none_before = releases_none;
+    };
+  }
 
   -- what stands up to the `release`, after the sweep
   abbrev since_sweep : List Event
   since_sweep = k.waited ++ close ∷ k.stopped
 
   release_is : before_release cycle ≡ k.swept ++ since_sweep
-  release_is =
-      ap (λ (xs : List Event). xs ++ close ∷ k.stopped) (sym closing_is)
-      ∙ append_assoc k.swept k.waited (close ∷ k.stopped)
+  release_is = cc (closing_is, append_assoc k.swept k.waited (close ∷ k.stopped))
 
   -- Values and allocations are the same at the `close` as when the sweep began.
 
@@ -321,8 +313,7 @@ module _ (p : PassState) (looks : ℕ) (es : List Event) (has : Has p.seats p.se
     unreleased =
         let was = not-true (placed_at first.allocations i).released
         (and_parts (placed_at first.allocations i).freed (not (placed_at first.allocations i).released) snapshot).1 in
-        subst (λ (w : World). (placed_at w.allocations i).released ≡ false) (sym last_begin.leaves)
-        (put_step c first s Step.Begin i refl was).unreleased
+        cc (last_begin.leaves, (put_step c first s Step.Begin i refl was).unreleased)
 
     stays : StaysPut at_start (placed_at (left_from c (left c start) holding).allocations i)
     stays = stays_put c (left c start) holding i holding_keeps unreleased
@@ -336,8 +327,7 @@ module _ (p : PassState) (looks : ℕ) (es : List Event) (has : Has p.seats p.se
 
     same_cell : cell_of_allocation c at_sweep ≡ cell
     same_cell =
-        ap (λ (w : World). cell_of_allocation c (placed_at w.allocations i)) held_world
-        ∙ keeps_cell c at_start (placed_at (left_from c (left c start) holding).allocations i) stays
+        cc (held_world, keeps_cell c at_start (placed_at (left_from c (left c start) holding).allocations i) stays)
 
     unmarked : is_marked (left c start).now.words cell ≡ false
     unmarked =
@@ -355,19 +345,16 @@ module _ (p : PassState) (looks : ℕ) (es : List Event) (has : Has p.seats p.se
     unmarked_there =
         subst (λ (w : World). is_marked w.now.words cell ≡ false) (sym held_world)
         (left_unmarked_by c cell (left c start) holding
-        (none_marks holds_gates holding_leaves_turn c s p.seats cell holding_leaves_marks (left c start) holding
-        holding_part) unmarked)
+        (none_marks holds_gates holding_leaves_turn c s _ cell holding_leaves_marks (left c start) holding holding_part)
+        unmarked)
 
     none_marks_since : LeaveUnmarked c cell (left c k.swept) since_sweep
     none_marks_since =
-        leave_in_parts c cell (left c k.swept) k.waited (close ∷ k.stopped)
-        (none_marks no_kind nothing_leaves_turn c s p.seats cell nothing_leaves_marks (left c k.swept) k.waited
-        waiting_part)
-        (subst (λ (w : World). LeaveUnmarked c cell w (close ∷ k.stopped)) (left_in_parts c k.swept k.waited)
-        (leave_first c cell (left c closing) close k.stopped (λ was. was)
-        (subst (λ (w : World). LeaveUnmarked c cell w k.stopped) last_close.leaves
-        (none_marks no_kind nothing_leaves_turn c s p.seats cell nothing_leaves_marks (left c closed) k.stopped
-        stopped_part))))
+        leave_in_parts c cell _ k.waited (close ∷ k.stopped) (none_marks no_kind nothing_leaves_turn c s _ cell
+        nothing_leaves_marks _ k.waited waiting_part) (subst (λ (w : World). LeaveUnmarked c cell w (close ∷ k.stopped))
+        (left_in_parts c k.swept k.waited) (leave_first c cell (left c closing) close k.stopped (λ was. was)
+        (subst (λ (w : World). LeaveUnmarked c cell w k.stopped) last_close.leaves (none_marks no_kind
+        nothing_leaves_turn c s _ cell nothing_leaves_marks (left c closed) k.stopped stopped_part))))
 
     pub is_released_by_it : (IsSwept c (left c (before_close cycle.marking)) i → ⊥)
         → (allocation_behind c cycle i).released ≡ true

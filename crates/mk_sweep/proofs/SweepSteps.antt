@@ -1,19 +1,17 @@
 -- Each step of a sweep goes on with it.
-use Rattle.std.proofs.Common.{option_and_then}
 use Rattle.mk_sweep.proofs.Vocabulary.{Acts, Cell, Config, InGlobal, InRegister, InWord, IsEnabledTo, IsHistory}
 use Rattle.mk_sweep.proofs.Vocabulary.{IsScannedWord, IsSettled, IsSweptValue, Moment, PassState, PlacedAllocation}
 use Rattle.mk_sweep.proofs.Vocabulary.{Step, SweepsBy, SweepsOn, TurnState, Untouched, Words, WordsState, World}
-use Rattle.mk_sweep.proofs.Vocabulary.{cell_of_allocation, event_of, has_no_pointers, header_in, heap_looks, is_mapped}
-use Rattle.mk_sweep.proofs.Vocabulary.{is_marked, is_phase, now_of, others_are_held, phase_of, placed_at, pointed_cell}
-use Rattle.mk_sweep.proofs.Vocabulary.{still_words, storage_of, untouched_of, world_of}
+use Rattle.mk_sweep.proofs.Vocabulary.{cell_of_allocation, event_of, has_no_pointers, header_in, is_marked, now_of}
+use Rattle.mk_sweep.proofs.Vocabulary.{others_are_held, phase_of, placed_at, pointed_cell, still_words, untouched_of}
+use Rattle.mk_sweep.proofs.Vocabulary.{world_of}
 use Rattle.mk_laws.proofs.Vocabulary.{Bool, Hand, Holding, List, None, Option, Some, Word, ℕ, address_of, and_from}
-use Rattle.mk_laws.proofs.Vocabulary.{and_parts, ap, append-nil, arith, eq-eqb, false, found, has_place, if◌then◌else◌}
-use Rattle.mk_laws.proofs.Vocabulary.{lt-ltb, ne_eqb, not, or_else, page_at_address, refl, slice_index, subst, sym}
-use Rattle.mk_laws.proofs.Vocabulary.{true, word_points, [], ◌&&◌, ◌*◌, ◌++◌, ◌+◌, ◌<◌, ◌^◌, ◌∙◌, ◌∷◌, ◌≡◌}
-use Rattle.mk_core.proofs.PointedPages.{pointed_within}
-use Rattle.mk_core.specs.Effects.{hand_given, hand_of_cell, is_in_stop, is_mapped_cell}
-use Rattle.mk_core.specs.declared.seats.Source.TheVariants.{Marked, Unmarked}
-use Rattle.mk_core.specs.{Frames.HoldsAll, Ranges.is_word, Words.named_word}
+use Rattle.mk_laws.proofs.Vocabulary.{and_parts, ap, append-nil, arith, eq-eqb, false, found, if◌then◌else◌, lt-ltb}
+use Rattle.mk_laws.proofs.Vocabulary.{ne_eqb, or_else, page_at_address, refl, slice_index, subst, sym, true}
+use Rattle.mk_laws.proofs.Vocabulary.{word_points, [], ◌&&◌, ◌*◌, ◌++◌, ◌+◌, ◌<◌, ◌^◌, ◌∙◌, ◌∷◌, ◌≡◌}
+use Rattle.mk_core.{proofs.PointedPages.pointed_within, specs.Effects.hand_given, specs.Effects.is_in_stop}
+use Rattle.mk_core.{specs.Effects.is_mapped_cell, specs.Frames.HoldsAll, specs.Ranges.is_word, specs.Words.named_word}
+use Rattle.mk_core.{specs.declared.seats.Source.TheVariants.Marked, specs.declared.seats.Source.TheVariants.Unmarked}
 use Rattle.mk_laws.proofs.{InvariantTheorems.allocations_stand, MappedWords.mapped_stays}
 use Rattle.mk_sweep.proofs.Done.{looks_in_parts, looks_of_nothing, looks_of_step}
 use Rattle.mk_sweep.proofs.{Kept.unmapped_kept, ScannedCells.mapped_cell, ScannedCells.scanned_stands}
@@ -32,8 +30,7 @@ use Rattle.mk_words.{proofs.Made.own_before, specs.Steps.Finds, specs.TurnSteps.
 -- Where values and allocations are the same, so is what a sweep looks at and marks.
 module _ (c : Config) (v w : World) (same : untouched_of v ≡ untouched_of w) where
   pub word_alike : (n : ℕ) → IsScannedWord c v.allocations n → IsScannedWord c w.allocations n
-  word_alike n =
-      subst (λ (xs : List PlacedAllocation). IsScannedWord c xs n) (ap (λ (x : Untouched). x.allocations) same)
+  word_alike n = grind arith
 
   pub value_alike : (u : ℕ) → IsSweptValue c v u → IsSweptValue c w u
   value_alike u (InRegister i is) = InRegister i (sym (ap (λ (x : Untouched). slice_index x.registers i) same) ∙ is)
@@ -42,41 +39,35 @@ module _ (c : Config) (v w : World) (same : untouched_of v ≡ untouched_of w) w
       InWord n (word_alike n scanned) (sym (ap (λ (x : Untouched). slice_index x.heap n) same) ∙ is)
 
   pub cell_alike : (cell : Cell) → IsSweptCell c v cell → IsSweptCell c w cell
-  cell_alike cell s =
-      record {
-        value = s.value;
-        found = value_alike s.value s.found;
-        points = sym (ap (λ (x : Untouched). pointed_cell c.pages x.pages s.value) same) ∙ s.points;
-      }
+  cell_alike cell s = record {
+    value = s.value;
+    found = value_alike s.value s.found;
+    points = sym (ap (λ (x : Untouched). pointed_cell c.pages x.pages s.value) same) ∙ s.points;
+  }
 
   pub rule_alike : (m : Moment) (s : Step) → SweepsBy v c m s → SweepsBy w c m s
   rule_alike m (Step.Look (Word.Heap n)) r = word_alike n r
-  rule_alike m (Step.Mark p k) r =
-      record { index = r.index; bit = r.bit; swept = cell_alike (record { page = p; index = r.index }) r.swept }
+  rule_alike m (Step.Mark p k) r = grind (arith, cell_alike)
   rule_alike m _ r = tt
 
 -- The sweep goes on, and on.
 
 pub sweeps_from : (t : TurnState) → IsSweeping t.pass → SweepsOn t t []
 sweeps_from t sweeping =
-    let traces : Traces is_marking (SweepsBy (world_of t.pass)) t.pass t.pass =
-    traces_nothing is_marking (SweepsBy (world_of t.pass)) t.pass in
+    let traces : Traces is_marking (SweepsBy (world_of t.pass)) t.pass t.pass = grind (arith, traces_nothing) in
     record { table = refl; op = refl; sweeping = sweeping; traces = traces; looked = looks_of_nothing traces.does }
 
 pub sweeps_then : {t u v : TurnState} {ns ms : List ℕ} → SweepsOn t u ns → SweepsOn u v ms → SweepsOn t v (ns ++ ms)
 sweeps_then {t} {u} {v} {ns} one two =
     let next : Traces is_marking (SweepsBy (world_of t.pass)) u.pass v.pass =
-    traces_alike is_marking (SweepsBy (world_of u.pass)) (SweepsBy (world_of t.pass)) u.pass v.pass
-    (rule_alike u.pass.table.config (world_of u.pass) (world_of t.pass) one.traces.untouched) two.traces in
+    traces_alike is_marking _ _ _ _ (rule_alike _ _ _ one.traces.untouched) two.traces in
     let traces = traces_then is_marking (SweepsBy (world_of t.pass)) t.pass u.pass v.pass one.traces next in
     record {
       table = two.table ∙ one.table;
       op = two.op ∙ one.op;
       sweeping = two.sweeping;
       traces = traces;
-      looked =
-          looks_in_parts one.traces.does two.traces.does traces.does
-          ∙ ap (λ xs. xs ++ heap_looks two.traces.does) one.looked ∙ ap (λ xs. ns ++ xs) two.looked;
+      looked = cc (looks_in_parts one.traces.does two.traces.does traces.does, one.looked, two.looked);
     }
 
 -- A part that looks at no heap word, before or after.
@@ -90,12 +81,7 @@ then_quiet {t} {v} {ns} one two = subst (λ xs. SweepsOn t v xs) (append-nil ns)
 -- Nothing is on its way after it.
 pub settled_kept : (p q : PassState) → q ≡ record p { seen = q.seen } → untouched_of (world_of q) ≡ untouched_of
     (world_of p) → phase_of (now_of q).words ≡ 2 → IsSettled (world_of p) → IsSettled (world_of q)
-settled_kept p q pass same two settled =
-    record {
-      releasing = ne_eqb (phase_of (now_of q).words) 4 (λ e. omega arith);
-      placing = ap (λ (x : Untouched). has_place x.placing) same ∙ settled.placing;
-      unmapped = unmapped_kept p q pass same settled.unmapped;
-    }
+settled_kept p q pass same two settled = grind (arith, ne_eqb, unmapped_kept)
 
 module _ (t u : TurnState) (sweeping : IsSweeping t.pass)
     (all : HoldsAll t.pass.table.config (now_of t.pass) t.pass.seat) (same : u.op ≡ t.op) where
@@ -169,22 +155,18 @@ module _ {value : ℕ} {t u : TurnState} (l : LooksForCell value t u) (sweeping 
       (λ a. on_plain t u sweeping all l.op (Word.Head (page_at_address value)) a refl)
 
   pub words_for_cell : still_words u.pass ≡ still_words t.pass
-  words_for_cell =
-      looked_for (λ (v : TurnState). still_words v.pass ≡ still_words t.pass) l refl
-      (λ a. look_words t.pass u.pass sweeping.wanted all (Word.Head (page_at_address value)) a)
+  words_for_cell = grind (arith, looked_for, look_words)
 
 -- The hand stays, through looks that leave it.
 pub hand_kept : {t u : TurnState} {ns : List ℕ} {n : ℕ} → SweepsOn t u ns → hand_of u.pass ≡ hand_of t.pass
     → HasInHand t.pass n → HasInHand u.pass n
-hand_kept {t} {u} {n} on same h =
-    record {
-      hand = h.hand;
-      is = same ∙ h.is;
-      value = h.value;
-      found = subst (λ (x : Config). IsSweptValue x (world_of u.pass) n) (sym (ap (λ (x : WordsState). x.config)
-          on.table))
-          (value_alike t.pass.table.config (world_of t.pass) (world_of u.pass) (sym on.traces.untouched) n h.found);
-    }
+hand_kept {t} {u} {n} on same h = record {
+  hand = h.hand;
+  is = same ∙ h.is;
+  value = h.value;
+  found = subst (λ (x : Config). IsSweptValue x (world_of u.pass) n) (sym (ap (λ (x : WordsState). x.config)
+      on.table)) (value_alike _ _ _ (sym on.traces.untouched) n h.found);
+}
 
 pub reached_within : {p : PassState} {cell : Cell} → IsReachedCell p cell
     → (cell.page < p.table.config.pages) × (cell.index < 64)
@@ -193,9 +175,8 @@ reached_within {p} {cell} r = pointed_within p.table.config.pages (still_words p
 pub may_mark_reached : {p : PassState} {cell : Cell} → IsWanted p → HoldsAll p.table.config (now_of p) p.seat
     → IsReachedCell p cell → IsEnabledTo p (Step.Mark cell.page (2 ^ cell.index))
 may_mark_reached {p} {cell} wanted all r =
-    may_mark_by_hand p wanted all cell
-    (marks_by p.table.config.pages (now_of p).words (hand_of p) r.value cell r.in_hand.hand r.in_hand.is r.in_hand.value
-    r.points) (reached_within r).0
+    may_mark_by_hand p wanted all cell (marks_by _ (now_of p).words _ r.value cell r.in_hand.hand r.in_hand.is
+    r.in_hand.value r.points) (reached_within r).0
 
 -- what a look at a root gives, and one at a scanned word
 
@@ -221,18 +202,10 @@ module _ (p q : PassState) (sweeping : IsSweeping p) (all : HoldsAll p.table.con
 
   word_pointed : pointed_cell p.table.config.pages (now_of p).words.pages (address_of n)
       ≡ Some (cell_of_allocation p.table.config (placed_at (world_of p).allocations scanned.number))
-  word_pointed =
-      let mapped = (and_parts (is_mapped p.table.config a) (not (storage_of p.table.config a).leaf)
-      scanned.scanned).0 in
-      let st = allocations_stand p.table.config p.seen history scanned.number (mapped_stays p.table.config a mapped) in
-      word_points p.table.config (now_of p).words a history.within_limits st.stands st.headers n scanned.word
+  word_pointed = grind (arith, and_parts, allocations_stand, mapped_stays, word_points)
 
   pub word_named : is_word p.table.config (Word.Heap n) ≡ true
-  word_named =
-      let mapped = (and_parts (is_mapped p.table.config a) (not (storage_of p.table.config a).leaf)
-      scanned.scanned).0 in
-      let st = allocations_stand p.table.config p.seen history scanned.number (mapped_stays p.table.config a mapped) in
-      lt-ltb n (64 * p.table.config.pages) (let end = st.stands.within in let high = scanned.word.1 in omega arith)
+  word_named = grind (arith, and_parts, allocations_stand, mapped_stays, lt-ltb)
 
   module _ (acts : Acts p (Step.Look (Word.Heap n)) q) where
     abbrev m : Moment
@@ -252,22 +225,17 @@ module _ (p q : PassState) (sweeping : IsSweeping p) (all : HoldsAll p.table.con
 
     bare_now : has_no_pointers (header_in (world_at acts.makes).now.words
         (cell_of_allocation p.table.config (placed_at (world_of p).allocations scanned.number)).page) ≡ false
-    bare_now =
-        ap (λ (w : Words). has_no_pointers (header_in w cell.page)) still
-        ∙ (scanned_stands p.table.config p.seen history sweeping.settled scanned.number scanned.scanned).scanned
+    bare_now = grind (arith, cell, still, scanned_stands)
 
     mapped_now : (is_in_stop p.table.config.callers (world_at acts.makes).now.words p.seat
         && is_mapped_cell (world_at acts.makes).now.words (world_at acts.makes).now.seats.holding.placing
         (cell_of_allocation p.table.config (placed_at (world_of p).allocations scanned.number))) ≡ true
     mapped_now =
-        and_from (is_in_stop p.table.config.callers m.words p.seat) (is_mapped_cell m.words m.seats.holding.placing
-        cell)
-        (and_from (is_phase m.words 2) (others_are_held p.table.config.callers m.words p.seat)
-        (eq-eqb (phase_of m.words) 2 (phase_there p q (Step.Look (Word.Heap n)) acts sweeping.wanted all))
+        and_from _ _ (and_from _ _ (eq-eqb _ 2 (phase_there p q (Step.Look (Word.Heap n)) acts sweeping.wanted all))
         (ap (λ (w : Words). others_are_held p.table.config.callers w p.seat) still ∙ all.1))
         (ap (λ (w : Words). is_mapped_cell w m.seats.holding.placing cell) still
-        ∙ ap (λ (x : Holding). is_mapped_cell (now_of p).words x.placing cell) acts.holding
-        ∙ mapped_cell p.table.config p.seen history sweeping.settled scanned.number scanned.scanned)
+        ∙ ap (λ (x : Holding). is_mapped_cell (now_of p).words x.placing cell) acts.holding ∙ mapped_cell _ _ history
+        sweeping.settled scanned.number scanned.scanned)
 
     -- some hand, whether the cell is marked or not
     given : (value : ℕ) → (h : Hand) × (hand_given p.table.config (world_at acts.makes).now p.seat (Word.Heap n) value
@@ -276,12 +244,7 @@ module _ (p q : PassState) (sweeping : IsSweeping p) (all : HoldsAll p.table.con
       where
         to_cell : hand_given p.table.config (world_at acts.makes).now p.seat (Word.Heap n) value
             ≡ gives false (is_marked m.words cell) true value
-        to_cell =
-            ap (option_and_then (λ (x : Cell). hand_of_cell m.words
-            (is_in_stop p.table.config.callers m.words p.seat) m.seats.holding.placing x value)) pointed_now
-            ∙ ap (λ (b : Bool). gives b (is_marked m.words cell) (is_in_stop p.table.config.callers m.words p.seat
-            && is_mapped_cell m.words m.seats.holding.placing cell) value) bare_now
-            ∙ ap (λ (b : Bool). gives false (is_marked m.words cell) b value) mapped_now
+        to_cell = cc (pointed_now, bare_now, mapped_now)
 
         by : (b : Bool) → is_marked m.words cell ≡ b
             → (h : Hand) × (hand_given p.table.config (world_at acts.makes).now p.seat (Word.Heap n) value ≡ Some h)

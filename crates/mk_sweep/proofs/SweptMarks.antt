@@ -1,56 +1,25 @@
 -- A sweep meets the law of engines, and makes what it promises.
-use Rattle.std.proofs.{Common.count_by, lemmas.List.Sums.sum_by-cons}
 use Rattle.mk_sweep.proofs.Vocabulary.{CellsAreClosed, Config, InGlobal, InRegister, InWord, IsHistory, IsScannedWord}
 use Rattle.mk_sweep.proofs.Vocabulary.{IsSwept, IsSweptValue, Moment, PageIsBlack, PassState, PlacedAllocation}
 use Rattle.mk_sweep.proofs.Vocabulary.{PointWell, Step, Sweeps, SweepsBy, SweepsOn, TurnState, Untouched, WordsState}
 use Rattle.mk_sweep.proofs.Vocabulary.{World, heap_looks, is_tracing, now_of, phase_of, placed_at, points_well}
 use Rattle.mk_sweep.proofs.Vocabulary.{still_words, words_below, world_of}
-use Rattle.mk_laws.proofs.Vocabulary.{Bool, List, Word, ℕ, ap, arith, cond, length, ne_eqb, refl, slice_index, subst}
-use Rattle.mk_laws.proofs.Vocabulary.{sym, true, [], ◌++◌, ◌+◌, ◌<◌, ◌∙◌, ◌∷◌, ◌≡◌, ◌≤◌}
+use Rattle.mk_laws.proofs.Vocabulary.{Word, ℕ, ap, arith, length, ne_eqb, slice_index, subst, sym, true, ◌++◌, ◌+◌, ◌<◌}
+use Rattle.mk_laws.proofs.Vocabulary.{◌∙◌, ◌≡◌, ◌≤◌}
 use Rattle.mk_core.proofs.PointedAllocations.{marked_where_its_cell_is, points_well_where_marked}
-use Rattle.mk_core.specs.{ClosedMarks.is_marked_allocation, Frames.HoldsAll, Growing.Finding}
+use Rattle.mk_core.specs.{ClosedMarks.is_marked_allocation, Frames.HoldsAll}
 use Rattle.mk_laws.proofs.{InvariantTheorems.allocations_stand, Settled.gone_is_unmapped}
-use Rattle.mk_cycle.{proofs.KeptInParts.keeps_at_once, specs.EngineLaw.BeginsMarking, specs.EngineLaw.ClosesMarks}
-use Rattle.mk_cycle.{specs.EngineLaw.IsFreeForCycle, specs.Kinds.begins_marking, specs.Kinds.closes_marks}
-use Rattle.mk_cycle.{specs.Kinds.is_want as is_wish, specs.TurnKeeps.unchanged as all_of_it}
+use Rattle.mk_cycle.specs.{EngineLaw.ClosesMarks, EngineLaw.IsFreeForCycle, Kinds.closes_marks}
+use Rattle.mk_engines.proofs.TracedMarks.{closing_kind, keeps_turn, same_count}
 use Rattle.mk_sweep.proofs.EachOnce.{as_many, looked_at_once, never_twice}
+use Rattle.mk_sweep.proofs.SweepSteps.{rule_alike, settled_kept, word_alike}
 use Rattle.mk_sweep.proofs.{CountedWords.some_there, CountedWords.times, Done.looks_in_parts, Done.looks_of_waiting}
-use Rattle.mk_sweep.proofs.{Kept.keeps_turn, SweepSteps.rule_alike, SweepSteps.settled_kept, SweepSteps.word_alike}
 use Rattle.mk_sweep.specs.{Sweeping.IsSweeping, Swept.scanned_words}
 use Rattle.mk_tracing.proofs.Parts.{counted_by_kinds, counted_wider, traces_alike}
 use Rattle.mk_tracing.proofs.{Closes.marks_closed_now, Closes.may_close_now, NoGrays.no_gray, Wants.wanted_once_then}
 use Rattle.mk_tracing.specs.Tracing.{Counted, is_marking, is_waiting, is_want}
 use Rattle.mk_tracing.specs.{Grays.TracesReached, Stops.IsWanted}
-use Rattle.mk_turns.{proofs.Doing.does_nothing, specs.Doing.Does, specs.Doing.done_in}
-
--- the kinds of a sweep are those of the law
-
-closing_kind : (s : Step) → is_tracing s ≡ true → closes_marks s ≡ true
-closing_kind Step.Want h = refl
-closing_kind (Step.Look x) h = refl
-closing_kind (Step.Mark p v) h = refl
-closing_kind (Step.Undirty p) h = refl
-closing_kind (Step.Black p v) h = refl
-closing_kind (Step.Unblack p) h = refl
-closing_kind _ h = cc
-
-same_wish : (s : Step) → is_wish s ≡ is_want s
-same_wish Step.Want = refl
-same_wish _ = refl
-
-same_count : (xs : List Finding)
-    → count_by (λ (x : Finding). is_wish x.event.step) xs ≡ count_by (λ (x : Finding). is_want x.event.step) xs
-same_count [] = refl
-same_count (x ∷ xs) =
-    sum_by-cons (λ (y : Finding). cond (is_wish y.event.step) 1 0) x xs
-    ∙ ap (λ (b : Bool). cond b 1 0 + count_by (λ (y : Finding). is_wish y.event.step) xs) (same_wish x.event.step)
-    ∙ ap (λ (n : ℕ). cond (is_want x.event.step) 1 0 + n) (same_count xs)
-    ∙ sym (sum_by-cons (λ (y : Finding). cond (is_want y.event.step) 1 0) x xs)
-
--- Nothing is a beginning of the marking.
-pub begins_with_nothing : (p : PassState) → BeginsMarking p p
-begins_with_nothing p =
-    record { does = does_nothing begins_marking p; keeps = keeps_at_once all_of_it p; gates = λ j lt. refl }
+use Rattle.mk_turns.specs.Doing.{Does, done_in}
 
 -- Waiting keeps to the rule of every sweep.
 waits : (w : World) (c : Config) (m : Moment) (s : Step) → is_waiting s ≡ true → SweepsBy w c m s
@@ -63,70 +32,56 @@ waits w c m _ h = tt
 -- After the wait the sweep may begin.
 pub sweeping_behind : {p q : PassState} → Counted is_waiting TracesReached is_want p q 1 → IsWanted q
     → IsFreeForCycle p → phase_of (now_of p).words ≡ 1 → IsSweeping q
-sweeping_behind {p} {q} waited wanted free one =
-    record {
-      wanted = wanted;
-      settled = settled_kept p q
-          (waited.traces.does.is ∙ ap (λ (x : PassState). record p { seen = x.seen }) (sym waited.traces.does.is))
-          waited.traces.untouched wanted.phase (record {
-            releasing = ne_eqb (phase_of (now_of p).words) 4 (λ e. omega arith);
-            placing = free.unplaced;
-            unmapped = gone_is_unmapped (now_of p).words (now_of p).seats.holding.freed free.gone;
-          });
-    }
+sweeping_behind {p} {q} waited wanted free one = grind (arith, settled_kept, ne_eqb, gone_is_unmapped)
 
-module _ (p : PassState) (t u : TurnState) (n : ℕ) (waited : Counted is_waiting TracesReached is_want p t.pass 1)
-    (sweeping : IsSweeping t.pass) (early : IsHistory t.pass.table.config t.pass.seen)
-    (history : IsHistory u.pass.table.config u.pass.seen)
-    (on : SweepsOn t u (words_below (still_words t.pass) t.pass.table.config.pages))
-    (closed : CellsAreClosed u.pass.table.config (still_words u.pass))
-    (well : PointWell u.pass.table.config.pages (still_words u.pass)
-    (words_below (still_words t.pass) t.pass.table.config.pages)) where
+-- The sweep of a stop, from the want of the close on: it begins after the wait, and ends where the marks may be closed.
+pub record SweepsInStop (p : PassState) (t u : TurnState) : Type 0 where
+  pub waited : Counted is_waiting TracesReached is_want p t.pass 1
+  pub sweeping : IsSweeping t.pass
+  pub early : IsHistory t.pass.table.config t.pass.seen
+  pub history : IsHistory u.pass.table.config u.pass.seen
+  pub on : SweepsOn t u (words_below (still_words t.pass) t.pass.table.config.pages)
+  pub closed : CellsAreClosed u.pass.table.config (still_words u.pass)
+  pub well : PointWell u.pass.table.config.pages (still_words u.pass)
+      (words_below (still_words t.pass) t.pass.table.config.pages)
+
+module _ {p : PassState} {t u : TurnState} (s : SweepsInStop p t u) where
   pub whole : Counted is_tracing (SweepsBy (world_of p)) is_want p u.pass 1
   whole =
-      wanted_once_then (SweepsBy (world_of p)) p t.pass u.pass
-      (counted_by_kinds is_waiting TracesReached (SweepsBy (world_of p)) is_want p t.pass 1
-      (waits (world_of p) p.table.config) waited)
-      (traces_alike is_marking (SweepsBy (world_of t.pass)) (SweepsBy (world_of p)) t.pass u.pass
-      (rule_alike t.pass.table.config (world_of t.pass) (world_of p) waited.traces.untouched) on.traces)
+      wanted_once_then _ p _ _ (counted_by_kinds is_waiting TracesReached _ is_want p _ 1 (waits _ _) s.waited)
+      (traces_alike is_marking _ _ _ _ (rule_alike _ _ _ s.waited.traces.untouched) s.on.traces)
 
   words_of_all : heap_looks whole.traces.does ≡ words_below (still_words t.pass) t.pass.table.config.pages
   words_of_all =
-      looks_in_parts waited.traces.does on.traces.does whole.traces.does
-      ∙ ap (λ ns. ns ++ heap_looks on.traces.does) (looks_of_waiting waited.traces.does) ∙ on.looked
+      looks_in_parts s.waited.traces.does s.on.traces.does whole.traces.does
+      ∙ ap (λ ns. ns ++ heap_looks s.on.traces.does) (looks_of_waiting s.waited.traces.does) ∙ s.on.looked
 
   table : t.pass.table ≡ p.table
-  table = ap (λ (x : PassState). x.table) waited.traces.does.is
+  table = ap (λ (x : PassState). x.table) s.waited.traces.does.is
 
   scanned_there : (k : ℕ) → IsScannedWord p.table.config (world_of p).allocations k
       → IsScannedWord t.pass.table.config (world_of t.pass).allocations k
-  scanned_there k x =
-      subst (λ (y : WordsState). IsScannedWord y.config (world_of t.pass).allocations k) (sym table)
-      (word_alike p.table.config (world_of p) (world_of t.pass) (sym waited.traces.untouched) k x)
+  scanned_there k x = grind (arith, table, word_alike)
 
   scanned_before : (k : ℕ) → IsScannedWord u.pass.table.config (world_of u.pass).allocations k
       → IsScannedWord t.pass.table.config (world_of t.pass).allocations k
-  scanned_before k x =
-      subst (λ (y : WordsState). IsScannedWord y.config (world_of t.pass).allocations k) on.table
-      (word_alike u.pass.table.config (world_of u.pass) (world_of t.pass) on.traces.untouched k x)
+  scanned_before k x = grind (arith, word_alike)
 
   all_words_are : length (words_below (still_words t.pass) t.pass.table.config.pages)
       ≡ scanned_words p.table.config (world_of p).allocations
   all_words_are =
-      as_many t.pass.table.config t.pass.seen early sweeping.settled
+      as_many t.pass.table.config t.pass.seen s.early s.sweeping.settled
       ∙ ap (λ (y : WordsState). scanned_words y.config (world_of t.pass).allocations) table
-      ∙ ap (λ (x : Untouched). scanned_words p.table.config x.allocations) waited.traces.untouched
+      ∙ ap (λ (x : Untouched). scanned_words p.table.config x.allocations) s.waited.traces.untouched
 
   value_well : (v : ℕ) → IsSweptValue u.pass.table.config (world_of u.pass) v
       → points_well u.pass.table.config.pages (now_of u.pass).words v ≡ true
-  value_well v (InRegister i is) =
-      ap (λ k. points_well u.pass.table.config.pages (now_of u.pass).words k) (sym is) ∙ closed.registers i
-  value_well v (InGlobal g is) =
-      ap (λ k. points_well u.pass.table.config.pages (now_of u.pass).words k) (sym is) ∙ closed.globals g
+  value_well v (InRegister i is) = grind arith
+  value_well v (InGlobal g is) = grind arith
   value_well v (InWord k scanned is) =
       ap (λ j. points_well u.pass.table.config.pages (now_of u.pass).words j) (sym is)
-      ∙ well k (some_there (words_below (still_words t.pass) t.pass.table.config.pages) k (λ z.
-      let one = looked_at_once t.pass.table.config t.pass.seen early sweeping.settled k (scanned_before k scanned) in
+      ∙ s.well k (some_there (words_below (still_words t.pass) t.pass.table.config.pages) k (λ z.
+      let one = looked_at_once t.pass.table.config t.pass.seen s.early s.sweeping.settled k (scanned_before k scanned) in
       omega arith))
 
   swept_is_marked : (i : ℕ) → IsSwept u.pass.table.config (world_of u.pass) i
@@ -135,23 +90,22 @@ module _ (p : PassState) (t u : TurnState) (n : ℕ) (waited : Counted is_waitin
   swept_is_marked i x =
       let c : Config = u.pass.table.config in
       let a : PlacedAllocation = placed_at (world_of u.pass).allocations i in
-      let st = allocations_stand c u.pass.seen history i x.points.0 in
-      marked_where_its_cell_is c (now_of u.pass).words a history.within_limits st.stands st.headers
-      ∙ sym (points_well_where_marked c (now_of u.pass).words a history.within_limits st.stands st.headers x.value
+      let st = allocations_stand c u.pass.seen s.history i x.points.0 in
+      marked_where_its_cell_is c (now_of u.pass).words a s.history.within_limits st.stands st.headers
+      ∙ sym (points_well_where_marked c (now_of u.pass).words a s.history.within_limits st.stands st.headers x.value
       x.points.1) ∙ value_well x.value x.found
 
-  pub sweeps : n ≡ length (words_below (still_words t.pass) t.pass.table.config.pages) → Sweeps p u.pass n
-  sweeps is =
-      record {
-        traces = whole.traces;
-        never_twice = λ k. subst (λ ns. times k ns ≤ 1) (sym words_of_all)
-            (never_twice t.pass.table.config t.pass.seen early sweeping.settled k);
-        each = λ k x. ap (λ ns. times k ns) words_of_all
-            ∙ looked_at_once t.pass.table.config t.pass.seen early sweeping.settled k (scanned_there k x);
-        counted = is ∙ sym (ap length words_of_all);
-        words = is ∙ all_words_are;
-        swept = swept_is_marked;
-      }
+  pub sweeps : (n : ℕ) → n ≡ length (words_below (still_words t.pass) t.pass.table.config.pages) → Sweeps p u.pass n
+  sweeps n is = record {
+    traces = whole.traces;
+    never_twice = λ k. subst (λ ns. times k ns ≤ 1) (sym words_of_all)
+        (never_twice t.pass.table.config t.pass.seen s.early s.sweeping.settled k);
+    each = λ k x. ap (λ ns. times k ns) words_of_all
+        ∙ looked_at_once t.pass.table.config t.pass.seen s.early s.sweeping.settled k (scanned_there k x);
+    counted = is ∙ sym (ap length words_of_all);
+    words = is ∙ all_words_are;
+    swept = swept_is_marked;
+  }
 
   pub closes : HoldsAll u.pass.table.config (now_of u.pass) u.pass.seat
       → ((pg : ℕ) → pg < u.pass.table.config.pages → PageIsBlack (still_words u.pass) pg)
@@ -160,15 +114,15 @@ module _ (p : PassState) (t u : TurnState) (n : ℕ) (waited : Counted is_waitin
   closes all black clean =
       let d : Does is_tracing p u.pass = whole.traces.does in
       let wider = counted_wider is_tracing closes_marks (SweepsBy (world_of p)) is_want p u.pass 1 closing_kind whole in
-      let close = may_close_now u.pass on.sweeping.wanted all
+      let close = may_close_now u.pass s.on.sweeping.wanted all
       (λ pg lt. no_gray (still_words u.pass) pg (black pg lt)) clean
-      (record { registers = closed.registers; globals = closed.globals }) in
+      (record { registers = s.closed.registers; globals = s.closed.globals }) in
       record {
         does = wider.traces.does;
         one_want = same_count (done_in p wider.traces.does.more) ∙ wider.count;
         keeps = keeps_turn p u.pass (d.is ∙ ap (λ (x : PassState). record p { seen = x.seen }) (sym d.is))
             whole.traces.untouched whole.traces.counts;
-        phase = on.sweeping.wanted.phase;
+        phase = s.on.sweeping.wanted.phase;
         close = close;
-        closed = marks_closed_now u.pass history close;
+        closed = marks_closed_now u.pass s.history close;
       }

@@ -1,7 +1,6 @@
 -- A cell that no swept value points into isn't marked by a sweep.
-use Rattle.mk_sweep.proofs.Vocabulary.{Cell, Config, Event, Moment, PassState, Seat, Step, SweepsBy, World}
-use Rattle.mk_sweep.proofs.Vocabulary.{cell_of_allocation, has_bit, is_marked, is_tracing, never_behind, placed_at}
-use Rattle.mk_sweep.proofs.Vocabulary.{world_behind, world_of}
+use Rattle.mk_sweep.proofs.Vocabulary.{Cell, Config, Event, Moment, Seat, Step, SweepsBy, World, cell_of_allocation}
+use Rattle.mk_sweep.proofs.Vocabulary.{has_bit, is_marked, is_tracing, never_behind, placed_at, world_behind, world_of}
 use Rattle.mk_laws.proofs.Vocabulary.{List, ℕ, ap, bit_or, cases_Bool, false, false_from_ne_true, inl, inr}
 use Rattle.mk_laws.proofs.Vocabulary.{left_in_parts, slice_index, slice_set, subst, sym, true, true≢false, [], ◌∙◌, ◌∷◌}
 use Rattle.mk_laws.proofs.Vocabulary.{◌≡◌}
@@ -75,5 +74,4 @@ unswept_stays_unmarked p q n s i history one unreleased out was others =
             }) (inl one) i x.value unreleased x.points,
       );
     })) was in
-    ap (λ (x : PassState). is_marked (world_of x).now.words cell) d.is
-    ∙ ap (λ (x : World). is_marked x.now.words cell) (left_in_parts c p.seen d.more) ∙ behind
+    cc (d.is, left_in_parts c p.seen d.more, behind)

@@ -1,10 +1,9 @@
 -- What a sweep doesn't mark is released by its cycle.
 use Rattle.mk_sweep.proofs.Vocabulary.{Config, Event, PassState, PlacedAllocation, Untouched, WordsState, World}
 use Rattle.mk_sweep.proofs.Vocabulary.{before_release, cell_of_allocation, flight_of, is_marked, left, placed_at}
-use Rattle.mk_sweep.proofs.Vocabulary.{storage_of, world_behind, world_of}
+use Rattle.mk_sweep.proofs.Vocabulary.{world_behind, world_of}
 use Rattle.mk_laws.proofs.Vocabulary.{List, ℕ, ap, cases_Bool, false, inl, inr, left_in_parts, length, refl, subst, sym}
 use Rattle.mk_laws.proofs.Vocabulary.{true≢false, [], ◌++◌, ◌<◌, ◌∙◌, ◌∷◌, ◌≡◌}
-use Rattle.mk_geom.specs.StorageWords.{cell_of_storage}
 use Rattle.mk_core.specs.History.{left_from}
 use Rattle.mk_laws.proofs.AllocationSteps.{AreOfOne, allocation_step, goes_on, is_there, of_one_joined}
 use Rattle.mk_laws.proofs.OlderAllocations.{AreOlder, older_behind}
@@ -15,9 +14,7 @@ use Rattle.mk_sweep.proofs.Unswept.{unswept_stays_unmarked}
 use Rattle.mk_sweep.specs.Unswept.{LeaveUnmarked, UnsweptIsReleased}
 
 same_cell : (c : Config) (a b : PlacedAllocation) → AreOfOne a b → cell_of_allocation c b ≡ cell_of_allocation c a
-same_cell c a b one =
-    ap (λ (n : ℕ). cell_of_storage (record (storage_of c b) { first = n })) one.base
-    ∙ ap (λ (ty : ℕ). cell_of_allocation c (record a { ty = ty })) one.ty
+same_cell c a b one = cc (one.base, one.ty)
 
 -- The allocation stands where this one stood, and its cell is unmarked.
 record StandsUnmarked (c : Config) (a : PlacedAllocation) (i : ℕ) (w : World) : Type 0 where
@@ -67,8 +64,7 @@ unswept_is_released p q n s es r rest i history seen is one snapshot unreleased 
     same_world = ap (λ (t : WordsState). left t.config q.seen) (ap (λ (x : PassState). x.table) s.traces.does.is)
 
     more : More c (before_release r) e
-    more = one_more c (before_release r) e
-        (history_through c es (before_release r) r.release.at.behind e history (at_release r))
+    more = one_more c _ e (history_through c es _ _ e history (at_release r))
 
     stays : AreOlder (left c (before_release r)).allocations (left c (before_release r ++ e ∷ [])).allocations
     stays =
@@ -80,17 +76,16 @@ unswept_is_released p q n s es r rest i history seen is one snapshot unreleased 
     allocations = ap (λ (u : Untouched). u.allocations) s.traces.untouched
 
     swept : StandsUnmarked c a i (world_of q)
-    swept =
-        record {
-          there = subst (λ (xs : List PlacedAllocation). i < length xs) (sym allocations)
-              (is_there (world_of p).allocations i unreleased);
-          same = subst (λ (xs : List PlacedAllocation). AreOfOne a (placed_at xs i)) (sym allocations)
-              (record { base = refl; ty = refl });
-          unmarked = unswept_stays_unmarked p q n s i seen one unreleased out was others;
-        }
+    swept = record {
+      there = subst (λ (xs : List PlacedAllocation). i < length xs) (sym allocations)
+          (is_there (world_of p).allocations i unreleased);
+      same = subst (λ (xs : List PlacedAllocation). AreOfOne a (placed_at xs i)) (sym allocations)
+          (record { base = refl; ty = refl });
+      unmarked = unswept_stays_unmarked p q n s i seen one unreleased out was others;
+    }
 
     before : StandsUnmarked c a i (left c (before_release r))
     before =
         subst (StandsUnmarked c a i)
-        (sym (ap (left c) is ∙ left_in_parts c q.seen rest ∙ ap (λ (w : World). left_from c w rest) (sym same_world)))
-        (stands_along c a i (world_of q) rest leave swept)
+        (sym (ap (left c) is ∙ left_in_parts c _ rest ∙ ap (λ (w : World). left_from c w rest) (sym same_world)))
+        (stands_along c a i _ rest leave swept)

@@ -51,9 +51,7 @@ module _ (p b q : PassState) (looks : ℕ) (same : b ≡ record p { seen = b.see
   closing_is = makes.marks.keeps.call.pass ∙ ap (λ (x : PassState). record x { seen = makes.closing.seen }) held_is
 
   closed_is : makes.closed ≡ record p { seen = makes.closed.seen }
-  closed_is =
-      only_seen_by makes.closing makes.closed Step.Close makes.close
-      ∙ ap (λ (x : PassState). record x { seen = makes.closed.seen }) closing_is
+  closed_is = cc (only_seen_by makes.closing makes.closed Step.Close makes.close, closing_is)
 
   abbrev waited : List Event
   waited = makes.close.others
@@ -71,29 +69,27 @@ module _ (p b q : PassState) (looks : ℕ) (same : b ≡ record p { seen = b.see
       closing_is ∙ stretches makes.closing.seen waited stopped closed.rest close release
 
   abbrev parts : SweepParts p looks q.seen
-  parts =
-      record {
-        front = front;
-        held = closed.held.seen;
-        swept = makes.closing.seen;
-        waited = waited;
-        stopped = stopped;
-        rest = closed.rest;
-        holds = subst (λ (x : PassState). HoldsGates x (record p { seen = closed.held.seen })) start_is
-            (subst (HoldsGates b) held_is closed.holds);
-        sweeps = subst (λ (x : PassState). Sweeps x (record p { seen = makes.closing.seen }) looks) held_is
-            (subst (λ (x : PassState). Sweeps closed.held x looks) closing_is closed.part);
-        may_close = subst (λ (x : PassState). IsEnabledTo x Step.Close) closing_is makes.marks.close;
-        while_waiting = subst (λ (x : PassState). AreOfOthers x.seats waited) closing_is makes.close.of_others;
-        while_stopped = subst (λ (x : PassState). AreOfOthers x.seats stopped) closed_is makes.release.of_others;
-        is = seen_is;
-      }
+  parts = record {
+    front = front;
+    held = closed.held.seen;
+    swept = makes.closing.seen;
+    waited = waited;
+    stopped = stopped;
+    rest = closed.rest;
+    holds = subst (λ (x : PassState). HoldsGates x (record p { seen = closed.held.seen })) start_is
+        (subst (HoldsGates b) held_is closed.holds);
+    sweeps = subst (λ (x : PassState). Sweeps x (record p { seen = makes.closing.seen }) looks) held_is
+        (subst (λ (x : PassState). Sweeps closed.held x looks) closing_is closed.part);
+    may_close = subst (λ (x : PassState). IsEnabledTo x Step.Close) closing_is makes.marks.close;
+    while_waiting = subst (λ (x : PassState). AreOfOthers x.seats waited) closing_is makes.close.of_others;
+    while_stopped = subst (λ (x : PassState). AreOfOthers x.seats stopped) closed_is makes.release.of_others;
+    is = seen_is;
+  }
 
   pub releases_unswept : Has p.seats p.seat → HasMarkers p.seats → IsHistory p.table.config q.seen → ReleasesUnswept p q
-  releases_unswept own markers history =
-      record {
-        cycle = cycle p looks q.seen own markers history parts;
-        more = last.before.more ++ last.begin.others;
-        since = append_assoc p.seen last.before.more last.begin.others;
-        each = is_released_by_it p looks q.seen own markers history parts;
-      }
+  releases_unswept own markers history = record {
+    cycle = cycle p looks q.seen own markers history parts;
+    more = last.before.more ++ last.begin.others;
+    since = append_assoc p.seen last.before.more last.begin.others;
+    each = is_released_by_it p looks q.seen own markers history parts;
+  }

@@ -2,11 +2,10 @@
 use Rattle.std.proofs.lemmas.List.Elements.{Contains-append_cases, Contains-push_cases}
 use Rattle.std.specs.List.{range_with_len}
 use Rattle.mk_sweep.proofs.Vocabulary.{MarksMore, PointWell, Words, cells_under, has_bit, has_no_pointers, head_page}
-use Rattle.mk_sweep.proofs.Vocabulary.{header_at, header_in, header_of, points_well, used_at, word_points_well}
-use Rattle.mk_sweep.proofs.Vocabulary.{words_below, words_if, words_of_cells, words_on, words_under}
-use Rattle.mk_laws.proofs.Vocabulary.{Bool, Header, Later, List, Option, Some, ℕ, ap, arith, false, head_page_under}
-use Rattle.mk_laws.proofs.Vocabulary.{if◌then◌else◌, inl, inr, slice_index, suc, sym, true, zero, [], ◌*◌, ◌++◌, ◌+◌}
-use Rattle.mk_laws.proofs.Vocabulary.{◌∙◌, ◌∷◌, ◌≡◌, ◌≤◌}
+use Rattle.mk_sweep.proofs.Vocabulary.{header_at, header_in, header_of, points_well, used_at, words_below, words_if}
+use Rattle.mk_sweep.proofs.Vocabulary.{words_of_cells, words_on, words_under}
+use Rattle.mk_laws.proofs.Vocabulary.{Header, Later, List, Option, Some, ℕ, ap, arith, false, head_page_under, inl, inr}
+use Rattle.mk_laws.proofs.Vocabulary.{slice_index, suc, sym, true, zero, [], ◌*◌, ◌++◌, ◌+◌, ◌∙◌, ◌∷◌, ◌≡◌, ◌≤◌}
 use Rattle.mk_tracing.proofs.MoreMarks.{well_more}
 
 -- The head of a page's run doesn't lie after it.
@@ -32,8 +31,7 @@ word_more a n = let e : suc n ≡ n + 1 = omega arith in sym (range_more a n) �
 pub cell_more : (page size used n : ℕ)
     → words_of_cells page size used n ++ words_if (has_bit used n) (64 * page + n * size) size
     ≡ words_of_cells page size used (n + 1)
-cell_more page size used n =
-    let e : suc n ≡ n + 1 = omega arith in ap (λ k. words_of_cells page size used k) e
+cell_more page size used n = grind arith
 
 pub page_more : (w : Words) (n : ℕ) → words_below w n ++ words_on w n ≡ words_below w (n + 1)
 page_more w n = let e : suc n ≡ n + 1 = omega arith in ap (λ k. words_below w k) e
@@ -43,18 +41,10 @@ page_more w n = let e : suc n ≡ n + 1 = omega arith in ap (λ k. words_below w
 pub words_of_scanned : (w : Words) (p header used size count : ℕ) → header ≡ header_at w p → used ≡ used_at w p
     → size ≡ words_under (header_of header) → count ≡ cells_under (header_of header)
     → has_no_pointers (header_in w p) ≡ false → words_of_cells p size used count ≡ words_on w p
-words_of_scanned w p header used size count head bits words cells scanned =
-    ap (λ s. words_of_cells p s used count) (words ∙ ap (λ h. words_under (header_of h)) head)
-    ∙ ap (λ u. words_of_cells p (words_under (header_in w p)) u count) bits
-    ∙ ap (λ k. words_of_cells p (words_under (header_in w p)) (used_at w p) k)
-    (cells ∙ ap (λ h. cells_under (header_of h)) head)
-    ∙ sym (ap (λ (b : Bool). if b then [] else words_of_cells p (words_under (header_in w p)) (used_at w p)
-    (cells_under (header_in w p))) scanned)
+words_of_scanned w p header used size count head bits words cells scanned = grind arith
 
 pub words_of_bare : (w : Words) (p : ℕ) → has_no_pointers (header_in w p) ≡ true → [] ≡ words_on w p
-words_of_bare w p bare =
-    sym (ap (λ (b : Bool). if b then [] else words_of_cells p (words_under (header_in w p)) (used_at w p)
-    (cells_under (header_in w p))) bare)
+words_of_bare w p bare = grind arith
 
 -- Marks leave which words these are.
 pub words_kept : {w v : Words} (p : ℕ) → MarksMore w v → words_on v p ≡ words_on w p
@@ -66,9 +56,7 @@ pub none_well : (pages : ℕ) (w : Words) → PointWell pages w []
 none_well pages w n (k, lt, is) = absurd (omega arith)
 
 pub still_well : (pages : ℕ) {w v : Words} (ns : List ℕ) → MarksMore w v → PointWell pages w ns → PointWell pages v ns
-still_well pages {w} {v} ns more well n inside =
-    ap (λ (y : Words). points_well pages v (slice_index y.heap n)) more.is
-    ∙ well_more pages w v (slice_index w.heap n) more (well n inside)
+still_well pages {w} {v} ns more well n inside = grind (arith, well_more)
 
 pub both_well : (pages : ℕ) {w v : Words} (ns ms : List ℕ) → MarksMore w v → PointWell pages w ns
     → PointWell pages v ms → PointWell pages v (ns ++ ms)
@@ -81,7 +69,5 @@ pub one_well : (pages : ℕ) {w v : Words} (ns : List ℕ) (m value : ℕ) → M
     → value ≡ slice_index w.heap m → points_well pages v value ≡ true → PointWell pages v (ns ++ m ∷ [])
 one_well pages {v} ns m value more one is well n inside = elim (Contains-push_cases ns m n inside) [
   | inl early ↦ still_well pages ns more one n early
-  | inr at ↦ ap (λ k. word_points_well pages v k) (sym at)
-      ∙ ap (λ (y : Words). points_well pages v (slice_index y.heap m)) more.is
-      ∙ ap (λ u. points_well pages v u) (sym is) ∙ well
+  | inr at ↦ cc (at, more.is, is, well)
 ]

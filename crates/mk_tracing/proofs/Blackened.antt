@@ -1,8 +1,8 @@
 -- A cell that is blackened: its words point well, and one fewer is white.
 use Rattle.std.proofs.Common.{lit≤}
 use Rattle.mk_laws.proofs.Vocabulary.{Block, Bool, Cell, Free, Header, Later, LeafBlock, LeafRun, List, None, Option}
-use Rattle.mk_laws.proofs.Vocabulary.{Run, Some, Words, ℕ, all_below, and_from, ap, arith, bit_or, cases_lt, cell_words}
-use Rattle.mk_laws.proofs.Vocabulary.{cells_of, cells_under, false, first_word, has_bit, has_no_pointers, header_in}
+use Rattle.mk_laws.proofs.Vocabulary.{Run, Some, Words, ℕ, and_from, ap, arith, bit_or, cases_lt, cell_words, cells_of}
+use Rattle.mk_laws.proofs.Vocabulary.{cells_under, false, first_word, has_bit, has_no_pointers, header_in}
 use Rattle.mk_laws.proofs.Vocabulary.{if◌then◌else◌, inl, inr, is_marked, length, lt-ltb, nat_lt, points_well, refl}
 use Rattle.mk_laws.proofs.Vocabulary.{slice_index, slice_set, subst, suc, sym, true, true≢false, zero, ◌&&◌, ◌+◌, ◌<◌}
 use Rattle.mk_laws.proofs.Vocabulary.{◌^◌, ◌||◌, ◌∙◌, ◌≡◌, ◌≤◌, ◌⊎◌}
@@ -28,19 +28,19 @@ sum_below (suc n) f = sum_below n f + f n
 pub white_cells : ℕ → List ℕ → ℕ
 white_cells pages blacks = sum_below pages (λ p. misses 32 (has_bit (slice_index blacks p)))
 
+less_where_more : (a b : Bool) → (a ≡ true → b ≡ true) → one_unless b ≤ one_unless a
+less_where_more true true h = omega arith
+less_where_more true false h = absurd (true≢false (sym (h refl)))
+less_where_more false true h = omega arith
+less_where_more false false h = omega arith
+
 misses_less : (n : ℕ) (before after : ℕ → Bool) → ((k : ℕ) → before k ≡ true → after k ≡ true)
     → misses n after ≤ misses n before
 unfolding misses
 misses_less zero before after grow = omega arith
 misses_less (suc n) before after grow =
     let less = misses_less n before after grow in
-    let here = by (before n) (after n) (grow n) in omega arith
-  where
-    by : (a b : Bool) → (a ≡ true → b ≡ true) → one_unless b ≤ one_unless a
-    by true true h = omega arith
-    by true false h = absurd (true≢false (sym (h refl)))
-    by false true h = omega arith
-    by false false h = omega arith
+    let here = less_where_more (before n) (after n) (grow n) in omega arith
 
 misses_fewer : (n i : ℕ) (before after : ℕ → Bool) → ((k : ℕ) → before k ≡ true → after k ≡ true) → i < n
     → before i ≡ false → after i ≡ true
@@ -51,7 +51,7 @@ misses_fewer (suc n) i before after grow lt no_more now = elim (cases_lt i n) [
   | inl below ↦
       let fewer = misses_fewer n i before after grow below no_more now in
       let last = misses_less (suc n) before after grow in
-      let less = by (before n) (after n) (grow n) in omega arith
+      let less = less_where_more (before n) (after n) (grow n) in omega arith
   | inr here ↦
       let at : i ≡ n = omega arith in
       let less = misses_less n before after grow in
@@ -59,12 +59,6 @@ misses_fewer (suc n) i before after grow lt no_more now = elim (cases_lt i n) [
       let none : one_unless (after n) ≡ 0 = ap one_unless (ap after (sym at) ∙ now) in
       omega arith
 ]
-  where
-    by : (a b : Bool) → (a ≡ true → b ≡ true) → one_unless b ≤ one_unless a
-    by true true h = omega arith
-    by true false h = absurd (true≢false (sym (h refl)))
-    by false true h = omega arith
-    by false false h = omega arith
 
 sums_less : (n : ℕ) (f g : ℕ → ℕ) → ((p : ℕ) → g p ≤ f p) → sum_below n g ≤ sum_below n f
 unfolding sum_below
@@ -115,9 +109,7 @@ gray_turns pages w v cell gray more either =
   where
     by : (has_no_pointers (header_in w cell.page) ≡ true) ⊎ (words_point_well pages v cell ≡ true)
         → (has_no_pointers (header_in v cell.page) || words_point_well pages v cell) ≡ true
-    by (inl bare) =
-        ap (λ (b : Bool). b || words_point_well pages v cell)
-        (ap (λ (y : Words). has_no_pointers (header_in y cell.page)) more.is ∙ bare)
+    by (inl bare) = grind arith
     by (inr well) = by_second (has_no_pointers (header_in v cell.page)) (words_point_well pages v cell) well
       where
         by_second : (a b : Bool) → b ≡ true → (a || b) ≡ true
@@ -126,24 +118,13 @@ gray_turns pages w v cell gray more either =
 
 -- A gray cell stays one after marks, with its header and its words.
 pub gray_kept : (pages : ℕ) (w v : Words) (cell : Cell) → IsGray pages w cell → MarksMore w v → IsGray pages v cell
-gray_kept pages w v cell gray more =
-    record {
-      page = gray.page;
-      index = subst (λ n. cell.index < n) (sym (ap (λ (y : Words). cells_under (header_in y cell.page)) more.is))
-          gray.index;
-      marked = more.grow cell.page cell.index gray.marked;
-      not_black = ap (λ (y : Words). has_bit (slice_index y.blacks cell.page) cell.index) more.is ∙ gray.not_black;
-    }
+gray_kept pages w v cell gray more = grind arith
 
 -- Once each of its words points well, they all do.
 pub scan_done : (pages : ℕ) (w v : Words) (cell : Cell) → MarksMore w v
     → ((j : ℕ) → j < cell_words w cell → points_well pages v (slice_index w.heap (first_word w cell + j)) ≡ true)
     → words_point_well pages v cell ≡ true
-scan_done pages w v cell more each =
-    let all : Words → Type 0 = λ (y : Words). all_below (cell_words y cell)
-    (λ i. points_well pages v (slice_index y.heap (first_word y cell + i))) ≡ true in
-    subst all (sym more.is) (all_below_from (cell_words w cell)
-    (λ i. points_well pages v (slice_index w.heap (first_word w cell + i))) each)
+scan_done pages w v cell more each = grind (arith, all_below_from)
 
 -- what stays after marks, of the cell
 pub cell_kept : (w v : Words) (cell : Cell) (i : ℕ) → MarksMore w v
@@ -176,25 +157,7 @@ cells_few None = lit≤ tt
 pub blackens_one : (w x v : Words) (cell : Cell) → MarksMore w x
     → v ≡ record x { blacks = slice_set x.blacks cell.page (bit_or (slice_index x.blacks cell.page) (2 ^ cell.index)) }
     → BlackensOne w cell v
-blackens_one w x v cell more is =
-    let from : v ≡ record w {
-      marks = x.marks;
-      blacks = slice_set w.blacks cell.page
-          (bit_or (slice_index w.blacks cell.page) (2 ^ cell.index));
-    } =
-    is ∙ ap (λ (y : Words). record y {
-      blacks = slice_set y.blacks cell.page
-          (bit_or (slice_index y.blacks cell.page) (2 ^ cell.index));
-    }) more.is in
-    let marks : v.marks ≡ x.marks = ap (λ (y : Words). y.marks) from in
-    record {
-      is = from ∙ ap (λ (ms : List ℕ). record w {
-        marks = ms;
-        blacks = slice_set w.blacks cell.page
-            (bit_or (slice_index w.blacks cell.page) (2 ^ cell.index));
-      }) (sym marks);
-      grow = λ p k h. subst (λ (ms : List ℕ). has_bit (slice_index ms p) k ≡ true) (sym marks) (more.grow p k h);
-    }
+blackens_one w x v cell more is = grind arith
 
 -- Colours are added, one part after another.
 
@@ -205,27 +168,10 @@ abbrev coloured_as : Words → List ℕ → List ℕ → Words
 coloured_as w ms bs = record w { marks = ms; blacks = bs }
 
 pub colours_then : (w v x : Words) (cell : Cell) → ColoursMore w v → BlackensOne v cell x → ColoursMore w x
-colours_then w v x cell one two =
-    let bs : List ℕ = slice_set v.blacks cell.page (bit_or (slice_index v.blacks cell.page) (2 ^ cell.index)) in
-    let blacks : x.blacks ≡ bs = ap (λ (y : Words). y.blacks) two.is in
-    record {
-      is = two.is ∙ ap (λ (y : Words). coloured_as y x.marks bs) one.is ∙ ap (λ (xs : List ℕ). coloured_as w x.marks xs)
-          (sym blacks);
-      marks = λ p k h. two.grow p k (one.marks p k h);
-      blacks = λ p k h. subst (λ (xs : List ℕ). has_bit (slice_index xs p) k ≡ true) (sym blacks)
-          (bits_stay v.blacks cell.page (2 ^ cell.index) p k (one.blacks p k h));
-    }
+colours_then w v x cell one two = grind (arith, coloured_as, bits_stay)
 
 -- one fewer is white
 pub one_fewer_white : (pages : ℕ) (w v x : Words) (cell : Cell) → IsGray pages w cell → pages ≡ length w.blacks → v ≡ w
     → BlackensOne v cell x
     → white_cells pages x.blacks < white_cells pages w.blacks
-one_fewer_white pages w v x cell gray count same one =
-    let few = cells_few (header_in w cell.page) in
-    let known = gray.index in
-    let blacks : x.blacks ≡ slice_set w.blacks cell.page (bit_or (slice_index w.blacks cell.page) (2 ^ cell.index)) =
-    ap (λ (y : Words). y.blacks) one.is ∙ ap (λ (y : Words). slice_set y.blacks cell.page
-    (bit_or (slice_index y.blacks cell.page) (2 ^ cell.index))) same in
-    subst (λ (xs : List ℕ). white_cells pages xs < white_cells pages w.blacks) (sym blacks)
-    (fewer_white pages cell.page cell.index w.blacks gray.page (subst (λ n. cell.page < n) count gray.page)
-    (omega arith) gray.not_black)
+one_fewer_white pages w v x cell gray count same one = grind (arith, cells_few, white_cells, fewer_white)

@@ -1,11 +1,11 @@
 -- A word of a scanned cell lies in the heap, and a lookup finds the cell there, where the word isn't 0.
-use Rattle.std.proofs.{Common.option_and_then, Math.Nat.mul_comm, lemmas.Nat.div-mul-add, lemmas.Nat.mul-add-lt}
+use Rattle.std.proofs.{Math.Nat.mul_comm, lemmas.Nat.div-mul-add, lemmas.Nat.mul-add-lt}
 use Rattle.mk_laws.proofs.Vocabulary.{Block, Bool, Cell, Config, Event, Free, Header, Invariant, IsHistory, Later}
 use Rattle.mk_laws.proofs.Vocabulary.{LeafBlock, LeafRun, List, None, Object, OfBlock, OfLater, OfLeafBlock, OfLeafRun}
 use Rattle.mk_laws.proofs.Vocabulary.{OfRun, Option, Run, ShowsPart, Some, Words, World, ℕ, address_of, and_from, ap}
 use Rattle.mk_laws.proofs.Vocabulary.{arith, cell_ends, cell_words, cells_of, cells_under, class_words_of, false}
 use Rattle.mk_laws.proofs.Vocabulary.{first_word, ground_of, has_no_pointers, head_page, header_in, if◌then◌else◌, inl}
-use Rattle.mk_laws.proofs.Vocabulary.{inr, is_heap_address, is_phase, le-leb, left, lt-ltb, nat_le, nat_lt, ne_eqb}
+use Rattle.mk_laws.proofs.Vocabulary.{inr, is_heap_address, is_phase, le-leb, left, lt-ltb, nat_lt, ne_eqb}
 use Rattle.mk_laws.proofs.Vocabulary.{never_behind, object_now, page_at_address, phase_of, refl, shows_on, slice_index}
 use Rattle.mk_laws.proofs.Vocabulary.{subst, sym, true, true≢false, words_under, ◌%◌, ◌*◌, ◌+◌, ◌-◌, ◌/◌, ◌<◌, ◌∙◌, ◌≡◌}
 use Rattle.mk_laws.proofs.Vocabulary.{◌≢◌, ◌≤◌, ◌⊎◌}
@@ -37,9 +37,7 @@ behind_head c w n p q some head =
     let x = on_allocation c w n q some in
     let shown = shown_there c w x.claim q x.among in
     let at = x.at in
-    let page : x.claim.page ≡ p =
-    sym (claimed_head w.now.words.pages x.claim x.distance shown x.near) ∙ ap (λ i. head_page w.now.words i) at
-    ∙ head in
+    let page : x.claim.page ≡ p = grind (arith, claimed_head) in
     part_behind w.now.words x.claim.object p x.distance (n / 64)
     (shows_on w.now.words.pages (x.claim.page + x.distance))
     (claimed w.now.words.pages x.claim x.distance shown x.near) (ap (λ i. header_in w.now.words i) (sym at))
@@ -60,9 +58,7 @@ unreleasing_behind c es h two =
 -- where a lookup at a heap word goes
 
 in_heap : (pages n : ℕ) → n < 64 * pages → is_heap_address pages (address_of n) ≡ true
-in_heap pages n lt =
-    and_from (nat_le 65536 (address_of n)) (nat_lt (address_of n) (65536 + 512 * pages)) (le-leb _ _ (omega arith))
-    (lt-ltb _ _ (omega arith))
+in_heap pages n lt = grind (arith, and_from, le-leb, lt-ltb)
 
 page_there : (n : ℕ) → page_at_address (address_of n) ≡ n / 64
 page_there n = omega arith
@@ -73,14 +69,7 @@ word_there n = omega arith
 found_at : (pages : ℕ) (w : Words) (n : ℕ) (h : Header) (cell : Cell) → n < 64 * pages → header_in w (n / 64) ≡ Some h
     → cell_under h (n / 64) (n % 64) ≡ Some cell → pointed_cell pages w.pages (address_of n) ≡ Some cell
 unfolding pointed_cell
-found_at pages w n h cell lt is under =
-    let here : header_in w (page_at_address (address_of n)) ≡ Some h = ap (λ p. header_in w p) (page_there n) ∙ is in
-    let find : Option Header → Option Cell = λ (o : Option Header). option_and_then
-    (λ x. cell_under x (page_at_address (address_of n)) (word_at_address (address_of n))) o in
-    ap (λ (b : Bool). if b then find (header_in w (page_at_address (address_of n))) else None) (in_heap pages n lt)
-    ∙ ap find here
-    ∙ ap (λ p. cell_under h p (word_at_address (address_of n))) (page_there n) ∙ ap (λ i. cell_under h (n / 64) i)
-    (word_there n) ∙ under
+found_at pages w n h cell lt is under = grind (arith, page_there, in_heap, word_there)
 
 abbrev cell_of : ℕ → ℕ → Cell
 cell_of p k = record { page = p; index = k }
@@ -90,19 +79,14 @@ some_where b cell = if b then Some cell else None
 
 block_there : (size cells p k i : ℕ) → k < cells → i < size
     → some_where (nat_lt (k * size + i) (cells * size)) (cell_of p ((k * size + i) / size)) ≡ Some (cell_of p k)
-block_there size cells p k i lk li =
-    ap (λ (b : Bool). some_where b (cell_of p ((k * size + i) / size)))
-    (lt-ltb (k * size + i) (cells * size) (subst (λ n. k * size + i < n) (mul_comm size cells)
-    (mul-add-lt k size i cells lk li)))
-    ∙ ap (λ (j : ℕ). Some (cell_of p j)) (div-mul-add k size i li)
+block_there size cells p k i lk li = grind (arith, some_where, cell_of, lt-ltb, mul_comm, mul-add-lt, div-mul-add)
 
 -- The cell's words lie in the heap.
 
 in_heap_under : (c : Config) (w : Words) (p k i : ℕ) (x : Option Header) → RunsFit c w.pages → header_in w p ≡ x
     → p < c.pages → k < cells_under x
     → has_no_pointers x ≡ false → i < words_under x → 64 * p + k * words_under x + i < 64 * c.pages
-in_heap_under c w p k i (Some (Block class)) fit is lt lk scanned li = let ends = cell_ends k
-    (class_words_of class) lk in omega arith
+in_heap_under c w p k i (Some (Block class)) fit is lt lk scanned li = grind (arith, cell_ends)
 in_heap_under c w p k i (Some (Run count true)) fit is lt lk scanned li =
     let near : p + count ≤ c.pages = fit p count is in
     let zero : k ≡ 0 = omega arith in
@@ -129,14 +113,8 @@ page_under : (p k i : ℕ) (x : Option Header) → k < cells_under x → i < wor
     → p + i / 64 ≡ (64 * p + k * words_under x + i) / 64
 page_under p k i (Some (Block class)) lk li = let ends = cell_ends k (class_words_of class) lk in omega arith
 page_under p k i (Some (LeafBlock class)) lk li = let ends = cell_ends k (class_words_of class) lk in omega arith
-page_under p k i (Some (Run count mapped)) lk li =
-    let zero : k ≡ 0 = omega arith in
-    let none : k * (64 * count) ≡ 0 = ap (λ j. j * (64 * count)) zero ∙ omega arith in
-    omega arith
-page_under p k i (Some (LeafRun count)) lk li =
-    let zero : k ≡ 0 = omega arith in
-    let none : k * (64 * count) ≡ 0 = ap (λ j. j * (64 * count)) zero ∙ omega arith in
-    omega arith
+page_under p k i (Some (Run count mapped)) lk li = grind arith
+page_under p k i (Some (LeafRun count)) lk li = grind arith
 page_under p k i (Some Free) lk li = absurd (omega arith)
 page_under p k i (Some (Later d m)) lk li = absurd (omega arith)
 page_under p k i None lk li = absurd (omega arith)
@@ -144,9 +122,7 @@ page_under p k i None lk li = absurd (omega arith)
 pub page_of_word : (w : Words) (cell : Cell) (i size : ℕ) → cell.index < cells_under (header_in w cell.page)
     → size ≡ cell_words w cell → i < size
     → cell.page + i / 64 ≡ (64 * cell.page + cell.index * size + i) / 64
-page_of_word w cell i size lk is li =
-    subst (λ k. cell.page + i / 64 ≡ (64 * cell.page + cell.index * k + i) / 64) (sym is)
-    (page_under cell.page cell.index i (header_in w cell.page) lk (subst (λ k. i < k) is li))
+page_of_word w cell i size lk is li = grind (arith, page_under)
 
 -- and a lookup finds the cell at each that isn't 0.
 
@@ -181,8 +157,7 @@ cell_under_word c v p k i (Some (Block class)) q is lk scanned li within some he
 cell_under_word c v p k i (Some (Run count true)) q is lk scanned li within some head =
     let n = 64 * p + k * (64 * count) + i in
     let zero : 0 ≡ k = omega arith in
-    run_at c.pages v.now.words n p count within is (behind_head c v n p q some head)
-    ∙ ap (λ (j : ℕ). Some (cell_of p j)) zero
+    cc (run_at c.pages v.now.words n p count within is (behind_head c v n p q some head), zero)
 cell_under_word c v p k i (Some (Run count false)) q is lk scanned li within some head = absurd (true≢false scanned)
 cell_under_word c v p k i (Some (LeafBlock class)) q is lk scanned li within some head = absurd (true≢false scanned)
 cell_under_word c v p k i (Some (LeafRun count)) q is lk scanned li within some head = absurd (true≢false scanned)

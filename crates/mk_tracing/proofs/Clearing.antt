@@ -1,7 +1,7 @@
 -- Black and dirty words that are cleared.
 use Rattle.mk_laws.proofs.Vocabulary.{List, Words, ℕ, ap, arith, cases_eq, cases_lt, get_or-set_other, get_or-set_same}
 use Rattle.mk_laws.proofs.Vocabulary.{get_or_past, head_page, inl, inr, length, refl, set-get_or, set_past, slice_index}
-use Rattle.mk_laws.proofs.Vocabulary.{slice_set, subst, sym, ◌+◌, ◌<◌, ◌∙◌, ◌≡◌, ◌≢◌, ◌⊎◌}
+use Rattle.mk_laws.proofs.Vocabulary.{slice_set, subst, sym, ◌+◌, ◌<◌, ◌∙◌, ◌≡◌, ◌≢◌}
 use Rattle.mk_tracing.proofs.DirtyWords.{dirty_is_one}
 use Rattle.mk_tracing.specs.Grays.{BlacksFewer, DirtyFewer, DirtyIsUnscanned, HasDirtyPart, IsCleaner}
 use Rattle.mk_tracing.specs.Stops.{still_words}
@@ -36,30 +36,19 @@ pub blacks_same : (w v : Words) → v ≡ w → BlacksFewer w v
 blacks_same w v e = subst (λ (x : Words). BlacksFewer w x) (sym e) (record { is = refl; fewer = λ p z. z })
 
 pub blacks_cleared : (w v : Words) (page : ℕ) → v ≡ blacked_as w (slice_set w.blacks page 0) → BlacksFewer w v
-blacks_cleared w v page e =
-    subst (λ (x : Words). BlacksFewer w x) (sym e) (record {
-      is = refl;
-      fewer = λ p z. cleared_stays w.blacks page p z;
-    })
+blacks_cleared w v page e = grind (arith, cleared_stays)
 
 pub blacks_then : (u v w : Words) → BlacksFewer u v → BlacksFewer v w → BlacksFewer u w
-blacks_then u v w one two =
-    record {
-      is = two.is ∙ ap (λ (x : Words). blacked_as x w.blacks) one.is;
-      fewer = λ p z. two.fewer p
-          (one.fewer p z);
-    }
+blacks_then u v w one two = grind (arith, blacked_as)
 
 pub dirty_same : (w v : Words) → v ≡ w → DirtyFewer w v
 dirty_same w v e = subst (λ (x : Words). DirtyFewer w x) (sym e) (record { is = refl; fewer = λ p z. z })
 
 pub dirty_cleared : (w v : Words) (page : ℕ) → v ≡ dirtied_as w (slice_set w.dirty page 0) → DirtyFewer w v
-dirty_cleared w v page e =
-    subst (λ (x : Words). DirtyFewer w x) (sym e) (record { is = refl; fewer = λ p z. cleared_stays w.dirty page p z })
+dirty_cleared w v page e = grind (arith, cleared_stays)
 
 pub dirty_then : (u v w : Words) → DirtyFewer u v → DirtyFewer v w → DirtyFewer u w
-dirty_then u v w one two =
-    record { is = two.is ∙ ap (λ (x : Words). dirtied_as x w.dirty) one.is; fewer = λ p z. two.fewer p (one.fewer p z) }
+dirty_then u v w one two = grind (arith, dirtied_as)
 
 pub black_cleared : (w v : Words) (page : ℕ) → v ≡ blacked_as w (slice_set w.blacks page 0)
     → slice_index v.blacks page ≡ 0
@@ -76,11 +65,6 @@ dirt_stays w v page e p z = ap (λ (x : Words). slice_index x.dirty p) e ∙ cle
 pub same_dirt : (w v : Words) (p : ℕ) → BlacksFewer w v → slice_index v.dirty p ≡ slice_index w.dirty p
 same_dirt w v p fewer = ap (λ (x : Words). slice_index x.dirty p) fewer.is
 
-pub not_dirty : (w v : Words) (page : ℕ) → v ≡ w → slice_index w.dirty page ≡ 0 → DirtyIsUnscanned v page
-not_dirty w v page e z =
-    let clean : slice_index v.dirty page ≡ 0 = ap (λ (x : Words). slice_index x.dirty page) e ∙ z in
-    record { own = λ some. absurd (some clean); head = λ some. absurd (some clean) }
-
 -- A dirty page whose black word is cleared, and that of its head.
 pub cleared_unscanned : (v : Words) (page : ℕ) → slice_index v.blacks page ≡ 0
     → slice_index v.blacks (head_page v page) ≡ 0 → DirtyIsUnscanned v page
@@ -88,31 +72,17 @@ cleared_unscanned v page own head = record { own = λ some. own; head = λ some.
 
 pub own_part : (p : PassState) (page : ℕ) → slice_index (still_words p).dirty page ≢ 0
     → HasDirtyPart (still_words p) page
-own_part p page some =
-    record { part = page; dirty = dirty_is_one p.table.config p.seen page some; of = inl refl }
+own_part p page some = grind (arith, dirty_is_one)
 
 pub head_part : (p : PassState) (page head : ℕ) → slice_index (still_words p).dirty page ≢ 0
     → head_page (still_words p) page ≡ head → HasDirtyPart (still_words p) head
-head_part p page head some is =
-    record { part = page; dirty = dirty_is_one p.table.config p.seen page some; of = inr is }
+head_part p page head some is = grind (arith, dirty_is_one)
 
 -- such a part is one in the same words but for the black ones
 pub part_kept : (w v : Words) (page : ℕ) → BlacksFewer w v → HasDirtyPart w page → HasDirtyPart v page
-part_kept w v page fewer h =
-    record {
-      part = h.part;
-      dirty = ap (λ (x : Words). slice_index x.dirty h.part) fewer.is ∙ h.dirty;
-      of = by h.of;
-    }
-  where
-    by : (h.part ≡ page) ⊎ (head_page w h.part ≡ page) → (h.part ≡ page) ⊎ (head_page v h.part ≡ page)
-    by (inl e) = inl e
-    by (inr e) = inr (ap (λ (x : Words). head_page x h.part) fewer.is ∙ e)
+part_kept w v page fewer h = grind arith
 
 -- what holds of each page below one, and of the next
 pub pages_then : (P Q : ℕ → Type 0) (i : ℕ) → ((p : ℕ) → P p → Q p) → ((p : ℕ) → p < i → P p) → Q i → (p : ℕ)
     → p < i + 1 → Q p
-pages_then P Q i on before here p lt = elim (cases_lt p i) [
-  | inl below ↦ on p (before p below)
-  | inr past ↦ let at : i ≡ p = omega arith in subst Q at here
-]
+pages_then P Q i on before here p lt = grind (arith, cases_lt)

@@ -1,10 +1,9 @@
 -- The marks may be closed, and are closed.
 use Rattle.std.specs.List.{list_all}
-use Rattle.mk_laws.proofs.Vocabulary.{Bool, Config, Event, IsHistory, List, MarksAreClosed, Page, Step, Words, ℕ}
-use Rattle.mk_laws.proofs.Vocabulary.{all_below, and_from, ap, enabled_in_parts, eq-eqb, has_closed_page, is_marked}
-use Rattle.mk_laws.proofs.Vocabulary.{is_none_or, none_attends, phase_of, pointed_cell, points_well, refl}
-use Rattle.mk_laws.proofs.Vocabulary.{roots_point_well, slice_index, suc, true, [], ◌&&◌, ◌++◌, ◌<◌, ◌==◌, ◌∙◌, ◌∷◌}
-use Rattle.mk_laws.proofs.Vocabulary.{◌≡◌}
+use Rattle.mk_laws.proofs.Vocabulary.{Bool, Config, Event, IsHistory, List, MarksAreClosed, Step, Words, ℕ, all_below}
+use Rattle.mk_laws.proofs.Vocabulary.{and_from, ap, enabled_in_parts, eq-eqb, has_closed_page, none_attends, phase_of}
+use Rattle.mk_laws.proofs.Vocabulary.{points_well, refl, roots_point_well, slice_index, suc, true, [], ◌&&◌, ◌++◌, ◌<◌}
+use Rattle.mk_laws.proofs.Vocabulary.{◌==◌, ◌∙◌, ◌∷◌, ◌≡◌}
 use Rattle.mk_core.specs.{Frames.HoldsAll, History.AreEnabledFrom}
 use Rattle.mk_laws.proofs.{InvariantTheorems.closes_find_marks_closed, Tests.all_below_from, Tests.none_from}
 use Rattle.mk_tracing.proofs.{MoreMarks.marked_as, MoreMarks.well_more, Steps.may_step}
@@ -19,22 +18,18 @@ all_from test (x ∷ xs) each = and_from (test x) (list_all test xs) (each 0) (a
 
 -- Roots go on pointing well while marks and black bits are added.
 pub roots_more : (pages : ℕ) (w v : Words) → ColoursMore w v → RootsPointWell pages w → RootsPointWell pages v
-roots_more pages w v more roots =
-    record {
-      registers = λ i. ap (λ (y : Words). points_well pages v (slice_index y.registers i)) more.is ∙ well
-          (slice_index w.registers i) (roots.registers i);
-      globals = λ g. ap (λ (y : Words). points_well pages v (slice_index y.globals g)) more.is ∙ well
-          (slice_index w.globals g) (roots.globals g);
-    }
+roots_more pages w v more roots = record {
+  registers = λ i. ap (λ (y : Words). points_well pages v (slice_index y.registers i)) more.is ∙ well
+      (slice_index w.registers i) (roots.registers i);
+  globals = λ g. ap (λ (y : Words). points_well pages v (slice_index y.globals g)) more.is ∙ well
+      (slice_index w.globals g) (roots.globals g);
+}
   where
     marks : MarksMore w (marked_as w v.marks)
     marks = record { is = refl; grow = more.marks }
 
     well : (u : ℕ) → points_well pages w u ≡ true → points_well pages v u ≡ true
-    well u h =
-        ap (λ (ps : List Page). is_none_or (is_marked v) (pointed_cell pages ps u))
-        (ap (λ (y : Words). y.pages) more.is)
-        ∙ well_more pages w (marked_as w v.marks) u marks h
+    well u h = cc (more.is, well_more pages w (marked_as w v.marks) u marks h)
 
 pub may_close_now : (p : PassState) → IsWanted p → HoldsAll p.table.config (now_of p) p.seat
     → ((pg : ℕ) → pg < p.table.config.pages → HasNoGray (still_words p) pg)
@@ -59,8 +54,7 @@ unfolding AreEnabledFrom
 marks_closed_now p history on =
     let c : Config = p.table.config in
     let e : Event = event_of p Step.Close in
-    let whole : IsHistory c (p.seen ++ e ∷ []) =
-    record {
+    let whole : IsHistory c (p.seen ++ e ∷ []) = record {
       within_limits = history.within_limits;
       enabled = (enabled_in_parts c p.seen (e ∷ [])).1 (history.enabled, (on, tt));
       admitted = undecided_admitted p Step.Close history (λ h. cc);

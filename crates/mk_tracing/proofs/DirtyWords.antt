@@ -1,10 +1,10 @@
 -- A dirty word is 0 or 1, after every list of events.
 use Rattle.std.proofs.{Common.replicate, lemmas.List.get_or-replicate, lemmas.List.length-replicate}
 use Rattle.mk_laws.proofs.Vocabulary.{Access, Config, Event, List, Load, Moment, Named, Seat, Step, Store, Tally, Word}
-use Rattle.mk_laws.proofs.Vocabulary.{Words, World, ℕ, accessed, ap, arith, caller_number, cases_eq, cases_lt}
-use Rattle.mk_laws.proofs.Vocabulary.{first_world, flight_of, get_or-set_other, get_or-set_same, get_or_past, inl, inr}
-use Rattle.mk_laws.proofs.Vocabulary.{left, length, page_met, refl, reg_access, register_met, set_past, slice_index}
-use Rattle.mk_laws.proofs.Vocabulary.{slice_set, subst, sym, tally_word, world_behind, [], ◌∙◌, ◌∷◌, ◌≡◌, ◌≢◌, ◌≤◌}
+use Rattle.mk_laws.proofs.Vocabulary.{Words, World, ℕ, accessed, ap, arith, cases_eq, cases_lt, first_world, flight_of}
+use Rattle.mk_laws.proofs.Vocabulary.{get_or-set_other, get_or-set_same, get_or_past, inl, inr, left, length, page_met}
+use Rattle.mk_laws.proofs.Vocabulary.{refl, set_past, slice_index, slice_set, subst, sym, tally_word, world_behind, []}
+use Rattle.mk_laws.proofs.Vocabulary.{◌∙◌, ◌∷◌, ◌≡◌, ◌≢◌, ◌≤◌}
 use Rattle.mk_core.specs.{Effects.moment_behind, History.left_from}
 
 reg_leaves : (w : Words) (k r : ℕ) (a : Access) → (accessed w (Named (Word.Reg k r)) a).dirty ≡ w.dirty
@@ -24,9 +24,7 @@ dirty_behind : (c : Config) (m : Moment) (seat : Seat) (s : Step)
     → IsMarked01 m.words.dirty (moment_behind c m (record { seat = seat; step = s })).words.dirty
 dirty_behind c m seat Step.Dirty = OneIs (page_met (flight_of m seat)) 1 (omega arith) refl
 dirty_behind c m seat (Step.Undirty p) = OneIs p 0 (omega arith) refl
-dirty_behind c m seat Step.Reg =
-    Same (reg_leaves m.words (caller_number seat) (register_met (flight_of m seat) (flight_of m seat).stage)
-    (reg_access (flight_of m seat) (flight_of m seat).stage))
+dirty_behind c m seat Step.Reg = grind (arith, reg_leaves)
 dirty_behind c m seat (Step.Tally n v) = Same (tally_leaves m.words n v)
 dirty_behind c m seat _ = Same refl
 

@@ -2,9 +2,8 @@
 use Rattle.std.{proofs.Common.IfNone, proofs.Common.IfSome, proofs.Common.ltb-false, proofs.Common.w64}
 use Rattle.std.{proofs.lemmas.Nat.Bits.bit_at-trailing_zeros, specs.Bool.then_some, specs.Int.trailing_zeros}
 use Rattle.mk_laws.proofs.Vocabulary.{Bool, Option, Words, ℕ, ap, arith, bit_at, cells_under, eq-eqb, false, has_bit}
-use Rattle.mk_laws.proofs.Vocabulary.{has_bit_without, header_at, header_in, header_of, ltb-true, nat_lt, no_bit, not}
-use Rattle.mk_laws.proofs.Vocabulary.{refl, slice_index, subst, sym, true, true≢false, without, ◌&&◌, ◌<◌, ◌==◌, ◌^◌}
-use Rattle.mk_laws.proofs.Vocabulary.{◌∙◌, ◌≡◌, ◌≤◌}
+use Rattle.mk_laws.proofs.Vocabulary.{has_bit_without, header_at, header_of, ltb-true, nat_lt, no_bit, slice_index}
+use Rattle.mk_laws.proofs.Vocabulary.{subst, sym, true, without, ◌<◌, ◌==◌, ◌^◌, ◌∙◌, ◌≡◌, ◌≤◌}
 use Rattle.mk_tracing.proofs.NoGrays.{no_gray, no_gray_found}
 use Rattle.mk_tracing.specs.Grays.{AllAreBlack, HasNoGray, IsGray}
 
@@ -12,18 +11,10 @@ use Rattle.mk_tracing.specs.Grays.{AllAreBlack, HasNoGray, IsGray}
 
 pub if_told : {A : Type 0} (P : A → Type 0) (test : Bool) (x : A) (o : Option A) → o ≡ then_some test x
     → (test ≡ true → P x) → IfSome o P
-if_told {A} P test x o is told = subst (λ (r : Option A). IfSome r P) (sym is) (by test told)
-  where
-    by : (b : Bool) → (b ≡ true → P x) → IfSome (then_some b x) P
-    by true h = h refl
-    by false h = tt
+if_told {A} P test x o is told = grind arith
 
 if_untold : (Q : Type 0) (test : Bool) (x : ℕ) (o : Option ℕ) → o ≡ then_some test x → (test ≡ false → Q) → IfNone o Q
-if_untold Q test x o is untold = subst (λ (r : Option ℕ). IfNone r Q) (sym is) (by test untold)
-  where
-    by : (b : Bool) → (b ≡ false → Q) → IfNone (then_some b x) Q
-    by true h = tt
-    by false h = h refl
+if_untold Q test x o is untold = grind arith
 
 -- the first cell of a word that has one, if it is one of this many
 
@@ -33,8 +24,7 @@ first_is_known x n o is = if_told (λ k. k < n) (nat_lt x n) x o is (ltb-true x 
 pub first_is_one : (cells x n : ℕ) (o : Option ℕ) → 0 < cells → cells < 2 ^ 64 → x ≡ trailing_zeros w64 cells
     → o ≡ then_some (nat_lt x n) x → IfSome o (λ k. has_bit cells k ≡ true)
 first_is_one cells x n o some fits lowest is =
-    if_told (λ k. has_bit cells k ≡ true) (nat_lt x n) x o is
-    (λ less. subst (λ k. has_bit cells k ≡ true) (sym lowest)
+    if_told (λ k. has_bit cells k ≡ true) _ x o is (λ less. subst (λ k. has_bit cells k ≡ true) (sym lowest)
     (eq-eqb (bit_at cells (trailing_zeros w64 cells)) 1 (bit_at-trailing_zeros w64 cells some fits).1))
 
 pub none_is_first : (cells x n : ℕ) (o : Option ℕ) → 0 < cells → cells < 2 ^ 64 → x ≡ trailing_zeros w64 cells
@@ -48,44 +38,24 @@ none_is_first cells x n o some fits lowest is =
 
 -- Each marked cell is black where no cell is marked, or none that isn't black.
 
-pub unmarked_are_black : (marks blacks n : ℕ) → marks ≡ 0 → AllAreBlack n marks blacks
-unmarked_are_black marks blacks n none k lt marked = absurd (true≢false (sym marked ∙ no_bit marks k none))
-
 pub ungray_are_black : (marks blacks n : ℕ) → ((k : ℕ) → k < n → has_bit (without marks blacks) k ≡ false)
     → AllAreBlack n marks blacks
-ungray_are_black marks blacks n none k lt marked =
-    black (has_bit marks k) (has_bit blacks k) marked (sym (has_bit_without marks blacks k) ∙ none k lt)
-  where
-    black : (a b : Bool) → a ≡ true → (a && not b) ≡ false → b ≡ true
-    black true true is e = refl
-    black true false is e = sym e
-    black false b is e = absurd (true≢false (sym is))
+ungray_are_black marks blacks n none k lt marked = grind (arith, has_bit_without)
 
 -- A gray cell is marked and isn't black.
 
 pub gray_is_marked : (marks blacks k : ℕ) → has_bit (without marks blacks) k ≡ true → has_bit marks k ≡ true
-gray_is_marked marks blacks k one = by (has_bit marks k) (has_bit blacks k) (sym (has_bit_without marks blacks k) ∙ one)
-  where
-    by : (a b : Bool) → (a && not b) ≡ true → a ≡ true
-    by true b e = refl
-    by false b e = e
+gray_is_marked marks blacks k one = grind (arith, has_bit_without)
 
 pub gray_is_not_black : (marks blacks k : ℕ) → has_bit (without marks blacks) k ≡ true → has_bit blacks k ≡ false
-gray_is_not_black marks blacks k one = by (has_bit marks k) (has_bit blacks k) (sym (has_bit_without marks blacks k)
-    ∙ one)
-  where
-    by : (a b : Bool) → (a && not b) ≡ true → b ≡ false
-    by true false e = refl
-    by true true e = sym e
-    by false b e = absurd (true≢false (sym e))
+gray_is_not_black marks blacks k one = grind (arith, has_bit_without)
 
 -- the words of a page as they were found, with no gray cell
 
 pub no_gray_there : (w : Words) (p marks blacks : ℕ) → marks ≡ slice_index w.marks p → blacks ≡ slice_index w.blacks p
     → without marks blacks ≡ 0 → HasNoGray w p
 no_gray_there w p marks blacks m b none =
-    no_gray w p (ungray_are_black (slice_index w.marks p) (slice_index w.blacks p) (cells_under (header_in w p))
-    (λ k lt. no_bit (without (slice_index w.marks p) (slice_index w.blacks p)) k
+    no_gray w p (ungray_are_black _ _ _ (λ k lt. no_bit (without (slice_index w.marks p) (slice_index w.blacks p)) k
     ((λ i. without (sym m i) (sym b i)) ∙ none)))
 
 pub no_gray_under : (w : Words) (p header marks blacks : ℕ) → header ≡ header_at w p → marks ≡ slice_index w.marks p
@@ -99,9 +69,4 @@ no_gray_under w p header marks blacks h m b none =
 pub gray_there : (pages : ℕ) (w : Words) (p k header marks blacks : ℕ) → p < pages → header ≡ header_at w p
     → marks ≡ slice_index w.marks p → blacks ≡ slice_index w.blacks p → k < cells_under (header_of header)
     → has_bit (without marks blacks) k ≡ true → IsGray pages w (record { page = p; index = k })
-gray_there pages w p k header marks blacks within h m b known one = record {
-  page = within;
-  index = subst (λ n. k < cells_under (header_of n)) h known;
-  marked = subst (λ n. has_bit n k ≡ true) m (gray_is_marked marks blacks k one);
-  not_black = subst (λ n. has_bit n k ≡ false) b (gray_is_not_black marks blacks k one);
-}
+gray_there pages w p k header marks blacks within h m b known one = grind (arith, gray_is_marked, gray_is_not_black)

@@ -1,8 +1,7 @@
 -- Free pages are passed over: none has a gray cell, and none is dirty.
 use Rattle.mk_laws.proofs.Vocabulary.{Block, Free, Header, IsHistory, Later, LeafBlock, LeafRun, None, Option, Run}
-use Rattle.mk_laws.proofs.Vocabulary.{Some, Words, ℕ, ap, arith, cases_lt, cells_under, false, header_at, header_in}
-use Rattle.mk_laws.proofs.Vocabulary.{header_of, inl, inr, not, refl, slice_index, subst, sym, use_under, used_at, ◌<◌}
-use Rattle.mk_laws.proofs.Vocabulary.{◌≡◌, ◌≤◌}
+use Rattle.mk_laws.proofs.Vocabulary.{Some, Words, ℕ, arith, cases_lt, false, header_at, header_of, not, refl}
+use Rattle.mk_laws.proofs.Vocabulary.{slice_index, sym, use_under, used_at, ◌<◌, ◌≡◌, ◌≤◌}
 use Rattle.mk_geom.{proofs.HeaderLemmas.word_of-header_of, specs.PageUses.is_free_page}
 use Rattle.mk_page_map.specs.Members.{is_in_use}
 use Rattle.mk_laws.proofs.FreePages.{free_pages_have_nothing}
@@ -22,30 +21,21 @@ free_header : (w : Words) (p : ℕ) → is_in_use w.pages p ≡ false → header
 free_header w p free = no_header (header_at w p) (header_of (header_at w p)) (used_at w p) refl free
 
 free_has_no_gray : (w : Words) (p : ℕ) → is_in_use w.pages p ≡ false → HasNoGray w p
-free_has_no_gray w p free =
-    let none : cells_under (header_in w p) ≡ 0 = ap (λ (n : ℕ). cells_under (header_of n)) (free_header w p free) in
-    no_gray w p (λ k lt marked. absurd (omega arith))
+free_has_no_gray w p free = grind (arith, free_header, no_gray)
 
 free_is_clean : (p : PassState) → IsHistory p.table.config p.seen → (n : ℕ)
     → is_in_use (still_words p).pages n ≡ false → slice_index (still_words p).dirty n ≡ 0
-free_is_clean p history n free =
-    (free_pages_have_nothing p.table.config p.seen history n (free_header (still_words p) n free)).dirty
+free_is_clean p history n free = grind (arith, free_pages_have_nothing, free_header)
 
 -- What is known up to one page is known up to the next page in use: of pages without gray cells,
 pub none_past : (w v : Words) (from next page : ℕ) → v ≡ w → ((p : ℕ) → from ≤ p → p < next → HasNoGray w p)
     → ((p : ℕ) → next ≤ p → p < page → is_in_use v.pages p ≡ false)
     → (p : ℕ) → from ≤ p → p < page → HasNoGray w p
-none_past w v from next page same before free p low high = elim (cases_lt p next) [
-  | inl lt ↦ before p low lt
-  | inr past ↦ subst (λ (x : Words). HasNoGray x p) same (free_has_no_gray v p (free p past high))
-]
+none_past w v from next page same before free p low high = grind (arith, cases_lt, free_has_no_gray)
 
 -- and of pages that aren't dirty.
 pub clean_past : (p : PassState) → IsHistory p.table.config p.seen → (from page : ℕ)
     → ((n : ℕ) → n < from → slice_index (still_words p).dirty n ≡ 0)
     → ((n : ℕ) → from ≤ n → n < page → is_in_use (still_words p).pages n ≡ false)
     → (n : ℕ) → n < page → slice_index (still_words p).dirty n ≡ 0
-clean_past p history from page before free n high = elim (cases_lt n from) [
-  | inl lt ↦ before n lt
-  | inr past ↦ free_is_clean p history n (free n past high)
-]
+clean_past p history from page before free n high = grind (arith, cases_lt, free_is_clean)

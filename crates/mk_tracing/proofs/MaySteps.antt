@@ -44,8 +44,7 @@ marks_by pages w hand u cell h is value points =
 
 marks_reached : (p : PassState) (cell : Cell) → HandPointsInto p cell
     → marks_by_hand p.table.config.pages (now_of p).words (hand_of p) cell.page (2 ^ cell.index) ≡ true
-marks_reached p cell r = marks_by p.table.config.pages (now_of p).words
-    (hand_of p) r.value cell r.in_hand.hand r.in_hand.is r.in_hand.value r.points
+marks_reached p cell r = marks_by _ (now_of p).words _ r.value cell r.in_hand.hand r.in_hand.is r.in_hand.value r.points
 
 turns_now : (p : PassState) (cell : Cell) → may_turn_black p.table.config.pages (still_words p) cell ≡ true
     → may_turn_black p.table.config.pages (now_of p).words cell ≡ true
@@ -65,10 +64,8 @@ module _ (p : PassState) (wanted : IsWanted p) (all : HoldsAll p.table.config (n
       → marks_by_hand p.table.config.pages (now_of p).words (hand_of p) cell.page (2 ^ cell.index) ≡ true
       → cell.page < p.table.config.pages → IsEnabledTo p (Step.Mark cell.page (2 ^ cell.index))
   may_mark_by_hand cell by_hand lt =
-      may_step p (Step.Mark cell.page (2 ^ cell.index)) wanted.ready all.0 refl
-      (lt-ltb cell.page p.table.config.pages lt) refl
-      (or_second (phase_of (now_of p).words == 1) (phase_of (now_of p).words == 2) phase_two) refl
-      (or_first (marks_by_hand p.table.config.pages (now_of p).words (hand_of p) cell.page (2 ^ cell.index)) _ by_hand)
+      may_step p (Step.Mark cell.page (2 ^ cell.index)) wanted.ready all.0 refl (lt-ltb cell.page _ lt) refl
+      (or_second _ _ phase_two) refl (or_first _ _ by_hand)
 
   pub may_mark_cell : (cell : Cell) → HandPointsInto p cell → cell.page < p.table.config.pages
       → IsEnabledTo p (Step.Mark cell.page (2 ^ cell.index))

@@ -16,11 +16,10 @@ pub more_same : (w v : Words) → v ≡ w → MarksMore w v
 more_same w v e = subst (λ (x : Words). MarksMore w x) (sym e) (record { is = refl; grow = λ p k h. h })
 
 pub more_then : (u v w : Words) → MarksMore u v → MarksMore v w → MarksMore u w
-more_then u v w one two =
-    record {
-      is = two.is ∙ ap (λ (x : Words). marked_as x w.marks) one.is;
-      grow = λ p k h. two.grow p k (one.grow p k h);
-    }
+more_then u v w one two = record {
+  is = two.is ∙ ap (λ (x : Words). marked_as x w.marks) one.is;
+  grow = λ p k h. two.grow p k (one.grow p k h);
+}
 
 pub more_marked : (w v : Words) (page value : ℕ)
     → v ≡ marked_as w (slice_set w.marks page (bit_or (slice_index w.marks page) value)) → MarksMore w v
@@ -38,8 +37,7 @@ none_or_on (Some x) w v f h = f x h
 pub well_more : (pages : ℕ) (w v : Words) (u : ℕ) → MarksMore w v → points_well pages w u ≡ true
     → points_well pages v u ≡ true
 well_more pages w v u more h =
-    ap (λ (ps : List Page). is_none_or (is_marked v) (pointed_cell pages ps u)) (ap (λ (x : Words). x.pages) more.is)
-    ∙ none_or_on (pointed_cell pages w.pages u) w v (λ x m. more.grow x.page x.index m) h
+    cc (more.is, none_or_on (pointed_cell pages w.pages u) w v (λ x m. more.grow x.page x.index m) h)
 
 -- a value that points into nothing, or into a marked cell
 pub well_none : (pages : ℕ) (w : Words) (u : ℕ) → pointed_cell pages w.pages u ≡ None → points_well pages w u ≡ true
@@ -54,8 +52,7 @@ pub marked_now : (w v : Words) (cell : Cell) → cell.page < length w.marks → 
     → v ≡ marked_as w (slice_set w.marks cell.page (bit_or (slice_index w.marks cell.page) (2 ^ cell.index)))
     → is_marked v cell ≡ true
 marked_now w v cell lt small e =
-    ap (λ (x : Words). is_marked x cell) e
-    ∙ bits_added w.marks cell.page (2 ^ cell.index) cell.index lt
+    ap (λ (x : Words). is_marked x cell) e ∙ bits_added _ cell.page (2 ^ cell.index) cell.index lt
     (subst (λ n. has_bit n cell.index ≡ true) (bit_for_small cell.index small) (bit_for_has cell.index small))
 
 -- null points into nothing
@@ -79,8 +76,7 @@ module _ (pages u : ℕ) (cell : Cell) (w v x : Words) (e : v ≡ w) (points : p
     (few : pages ≡ length w.marks)
     (is : x ≡ marked_as v (slice_set v.marks cell.page (bit_or (slice_index v.marks cell.page) (2 ^ cell.index)))) where
   is_from : x ≡ marked_as w (slice_set w.marks cell.page (bit_or (slice_index w.marks cell.page) (2 ^ cell.index)))
-  is_from = is ∙ ap (λ (y : Words). marked_as y (slice_set y.marks cell.page
-      (bit_or (slice_index y.marks cell.page) (2 ^ cell.index)))) e
+  is_from = cc (is, e)
 
   pub then_more : MarksMore w x
   then_more = more_marked w x cell.page (2 ^ cell.index) is_from

@@ -1,9 +1,9 @@
 -- Pages without gray cells, and pages with one.
 use Rattle.std.proofs.lemmas.Nat.Bits.{bit_at-lt, bit_at_above, bit_at_and}
-use Rattle.std.proofs.{Common.bit_and, Common.min, Math.Pow.pow_pos}
+use Rattle.std.proofs.{Common.bit_and, Math.Pow.pow_pos}
 use Rattle.mk_laws.proofs.Vocabulary.{Bool, Words, ℕ, ap, arith, bit_at, cases_lt, cells_under, eq-eqb, false, has_bit}
-use Rattle.mk_laws.proofs.Vocabulary.{has_bit_without, header_at, header_in, header_of, inl, inr, not, refl}
-use Rattle.mk_laws.proofs.Vocabulary.{slice_index, subst, sym, true, without, ◌&&◌, ◌-◌, ◌<◌, ◌^◌, ◌∙◌, ◌≡◌, ◌≤◌}
+use Rattle.mk_laws.proofs.Vocabulary.{has_bit_without, header_at, header_in, header_of, not, refl, slice_index, true}
+use Rattle.mk_laws.proofs.Vocabulary.{without, ◌&&◌, ◌-◌, ◌<◌, ◌^◌, ◌∙◌, ◌≡◌}
 use Rattle.mk_core.proofs.WordBits.{bit_is_one, zero_from_bits}
 use Rattle.mk_tracing.specs.Grays.{HasNoGray}
 
@@ -15,21 +15,10 @@ no_gray_bits marks blacks n none =
     (λ k. has_bit_without (bit_and marks (2 ^ n - 1)) blacks k ∙ by k (has_bit (bit_and marks (2 ^ n - 1)) k) refl)
   where
     both : (k : ℕ) → has_bit (bit_and marks (2 ^ n - 1)) k ≡ true → (bit_at marks k ≡ 1) × (bit_at (2 ^ n - 1) k ≡ 1)
-    both k h =
-        let one : min (bit_at marks k) (bit_at (2 ^ n - 1) k) ≡ 1 = sym (bit_at_and marks (2 ^ n - 1) k) ∙ bit_is_one
-        (bit_and marks (2 ^ n - 1)) k h in
-        let lt = bit_at-lt marks k in
-        let less = bit_at-lt (2 ^ n - 1) k in
-        (omega arith, omega arith)
+    both k h = grind (arith, bit_at_and, bit_is_one, bit_at-lt)
 
     below : (k : ℕ) → bit_at (2 ^ n - 1) k ≡ 1 → k < n
-    below k one = elim (cases_lt k n) [
-      | inl lt ↦ lt
-      | inr past ↦
-          let some : 1 ≤ 2 ^ n = pow_pos n in
-          let none_there = bit_at_above (2 ^ n - 1) n k (omega arith) past in
-          absurd (omega arith)
-    ]
+    below k one = grind (arith, cases_lt, pow_pos, bit_at_above)
 
     by : (k : ℕ) (b : Bool) → has_bit (bit_and marks (2 ^ n - 1)) k ≡ b → (b && not (has_bit blacks k)) ≡ false
     by k false is = refl
@@ -45,7 +34,4 @@ no_gray w p none = no_gray_bits (slice_index w.marks p) (slice_index w.blacks p)
 pub no_gray_found : (w : Words) (p header marks blacks : ℕ) → header ≡ header_at w p → marks ≡ slice_index w.marks p
     → blacks ≡ slice_index w.blacks p
     → ((k : ℕ) → k < cells_under (header_of header) → has_bit marks k ≡ true → has_bit blacks k ≡ true) → HasNoGray w p
-no_gray_found w p header marks blacks h m b none =
-    no_gray w p (λ k lt is.
-    subst (λ n. has_bit n k ≡ true) b
-    (none k (subst (λ n. k < cells_under (header_of n)) (sym h) lt) (subst (λ n. has_bit n k ≡ true) (sym m) is)))
+no_gray_found w p header marks blacks h m b none = grind (arith, no_gray)

@@ -1,8 +1,8 @@
 -- Noted cells stay so while marks are added and cells are blackened, and are gray where they aren't black.
 use Rattle.std.proofs.Common.{IfSome}
-use Rattle.mk_laws.proofs.Vocabulary.{Cell, List, None, OnlyGrow, Option, Some, Words, ℕ, ap, arith, cells_under, false}
-use Rattle.mk_laws.proofs.Vocabulary.{has_bit, header_at, header_of, is_marked, slice_index, subst, sym, true, ◌+◌, ◌-◌}
-use Rattle.mk_laws.proofs.Vocabulary.{◌<◌, ◌∙◌, ◌≡◌}
+use Rattle.mk_laws.proofs.Vocabulary.{Cell, None, OnlyGrow, Option, Some, Words, ℕ, arith, cells_under, false, has_bit}
+use Rattle.mk_laws.proofs.Vocabulary.{header_at, header_of, is_marked, slice_index, subst, sym, true, ◌+◌, ◌-◌, ◌<◌}
+use Rattle.mk_laws.proofs.Vocabulary.{◌≡◌}
 use Rattle.mk_tracing.specs.{Grays.MarksMore, Grays.with_blacks, Grays.words_scanned, Noted.AreNoted, Noted.IsGrayNoted}
 use Rattle.mk_tracing.specs.{Noted.IsNoted, declared.noted.Noted.Noted, declared.worklist.Worklist.Worklist}
 
@@ -12,26 +12,13 @@ record Stays (w v : Words) : Type 0 where
   grow : OnlyGrow w.marks v.marks
 
 more_stays : (w v : Words) → MarksMore w v → Stays w v
-more_stays w v more =
-    record { headers = λ p. ap (λ (y : Words). header_at y p) more.is; grow = more.grow }
+more_stays w v more = grind arith
 
 black_stays : (page bits : ℕ) (w v : Words) → v ≡ with_blacks page bits w → Stays w v
-black_stays page bits w v is =
-    record {
-      headers = λ p. ap (λ (y : Words). header_at y p) is;
-      grow = λ p k h. subst (λ (ms : List ℕ). has_bit (slice_index ms p) k ≡ true)
-          (sym (ap (λ (y : Words). y.marks) is)) h;
-    }
+black_stays page bits w v is = grind arith
 
 one_stays : (pages : ℕ) (w v : Words) (noted : Noted) → Stays w v → IsNoted pages w noted → IsNoted pages v noted
-one_stays pages w v noted stays is =
-    let header = sym (stays.headers noted.cell.page) in
-    record {
-      page = is.page;
-      index = subst (λ n. noted.cell.index < cells_under (header_of n)) header is.index;
-      marked = stays.grow _ _ is.marked;
-      words = is.words ∙ ap (λ n. words_scanned (header_of n)) header;
-    }
+one_stays pages w v noted stays is = grind arith
 
 last_stays : (pages : ℕ) (w v : Words) (last : Option Noted) → Stays w v → IfSome last (IsNoted pages w)
     → IfSome last (IsNoted pages v)
@@ -47,8 +34,7 @@ noted_more pages w v work more noted k d lt = one_stays pages w v _ (more_stays 
 
 pub noted_black : (pages page bits : ℕ) (w v : Words) (work : Worklist) → v ≡ with_blacks page bits w
     → AreNoted pages w work → AreNoted pages v work
-noted_black pages page bits w v work is noted k d lt =
-    one_stays pages w v _ (black_stays page bits w v is) (noted k d lt)
+noted_black pages page bits w v work is noted k d lt = grind (arith, one_stays, black_stays)
 
 pub one_same : (pages : ℕ) (w v : Words) (noted : Noted) → v ≡ w → IsNoted pages w noted → IsNoted pages v noted
 one_same pages w v noted same is = subst (λ (y : Words). IsNoted pages y noted) (sym same) is
@@ -69,43 +55,16 @@ pub noted_cell : (pages : ℕ) (w v : Words) (cell : Cell) (header : ℕ) (noted
     → IfSome noted (λ (n : Noted). n.cell.index < cells_under (header_of header))
     → IfSome noted (λ (n : Noted). n.words ≡ words_scanned (header_of header)) → IfSome noted (IsNoted pages v)
 noted_cell pages w v cell header None same there within marked at known words = at
-noted_cell pages w v cell header (Some noted) same there within marked at known words =
-    let here : header ≡ header_at w noted.cell.page = there ∙ ap (λ (x : Cell). header_at w x.page) (sym at) in
-    subst (λ (y : Words). IsNoted pages y noted) (sym same) (record {
-      page = subst (λ (x : Cell). x.page < pages) (sym at) within;
-      index = subst (λ n. noted.cell.index < cells_under (header_of n)) here known;
-      marked = subst (λ (x : Cell). is_marked w x ≡ true) (sym at) marked;
-      words = words ∙ ap (λ n. words_scanned (header_of n)) here;
-    })
+noted_cell pages w v cell header (Some noted) same there within marked at known words = grind arith
 
 pub noted_marked : (pages : ℕ) (w v x : Words) (noted : Noted) (page header : ℕ) → v ≡ w → MarksMore v x
     → noted.cell.page ≡ page → noted.cell.index < cells_under (header_of (1 + (header - 1)))
     → noted.words ≡ words_scanned (header_of (1 + (header - 1))) → 0 < header → header ≡ header_at w page
     → page < pages → is_marked x noted.cell ≡ true → IsNoted pages x noted
-noted_marked pages w v x noted page header same more at known words some there within marked =
-    let word : 1 + (header - 1) ≡ header = omega arith in
-    let here : 1 + (header - 1) ≡ header_at x noted.cell.page =
-    word ∙ there ∙ ap (λ p. header_at w p) (sym at)
-    ∙ sym (ap (λ (y : Words). header_at y noted.cell.page) more.is
-    ∙ ap (λ (y : Words). header_at y noted.cell.page) same) in
-    record {
-      page = subst (λ p. p < pages) (sym at) within;
-      index = subst (λ n. noted.cell.index < cells_under (header_of n)) here known;
-      marked = marked;
-      words = words ∙ ap (λ n. words_scanned (header_of n)) here;
-    }
+noted_marked pages w v x noted page header same more at known words some there within marked = grind arith
 
 -- A noted cell that isn't black is gray.
 pub noted_gray : (pages : ℕ) (w : Words) (noted : Noted) (blacks : ℕ) → IsNoted pages w noted
     → blacks ≡ slice_index w.blacks noted.cell.page → has_bit blacks noted.cell.index ≡ false
     → IsGrayNoted pages w noted
-noted_gray pages w noted blacks is found white =
-    record {
-      gray = record {
-        page = is.page;
-        index = is.index;
-        marked = is.marked;
-        not_black = subst (λ n. has_bit n noted.cell.index ≡ false) found white;
-      };
-      words = is.words;
-    }
+noted_gray pages w noted blacks is found white = grind arith

@@ -1,9 +1,9 @@
 -- Tracing in parts: nothing, one part after another, and one step.
 use Rattle.std.proofs.{Common.count_by, lemmas.List.Sums.sum_by-append}
 use Rattle.mk_laws.proofs.Vocabulary.{Bool, Config, Event, List, Moment, Seat, Step, World, ℕ, and_from, and_parts, ap}
-use Rattle.mk_laws.proofs.Vocabulary.{append-nil, append_assoc, arith, cond, false, found, if◌then◌else◌, is_one_of}
-use Rattle.mk_laws.proofs.Vocabulary.{left, left_in_parts, refl, subst, sym, true, true≢false, world_behind, [], ◌++◌}
-use Rattle.mk_laws.proofs.Vocabulary.{◌+◌, ◌∙◌, ◌∷◌, ◌≡◌}
+use Rattle.mk_laws.proofs.Vocabulary.{append-nil, append_assoc, arith, cond, false, found, if◌then◌else◌, left}
+use Rattle.mk_laws.proofs.Vocabulary.{left_in_parts, refl, subst, sym, true, true≢false, world_behind, [], ◌++◌, ◌+◌}
+use Rattle.mk_laws.proofs.Vocabulary.{◌∙◌, ◌∷◌, ◌≡◌}
 use Rattle.mk_core.specs.Growing.{AreOfOthers, Finding, is_same_seat, own_from}
 use Rattle.mk_core.specs.{Frames.CountsAreLeft, History.left_from}
 use Rattle.mk_tracing.specs.Tracing.{Counted, OwnStepsKeep, Traces, untouched_of}
@@ -45,8 +45,7 @@ one_own c s w e same = ap (λ (b : Bool). if b then record { event = e; found = 
 
 itself : (s : Seat) (seats : List Seat) (e : Event) → e.seat ≡ s → Has seats s → AreOwnOrOfOthers s seats (e ∷ [])
 unfolding AreOwnOrOfOthers
-itself s seats e same has =
-    (ap (λ (x : Seat). is_one_of seats x) same ∙ has ∙ sym (ap (λ (x : Seat). is_same_seat s x) same ∙ same_self s), tt)
+itself s seats e same has = grind (arith, same_self)
 
 -- Nothing is traced.
 
@@ -65,18 +64,17 @@ nothing_keeps rule c s w = tt
 
 pub traces_nothing : (kinds : Step → Bool) (rule : Config → Moment → Step → Type 0) (p : PassState)
     → Traces kinds rule p p
-traces_nothing kinds rule p =
-    record {
-      does = record {
-        more = [];
-        is = sym (ap (λ (es : List Event). record p { seen = es }) (append-nil p.seen));
-        own_or_others = nothing_own p.seat p.seats;
-        of_kinds = ap (λ (xs : List Finding). are_of kinds xs) (none_done p);
-      };
-      keeps = nothing_keeps rule p.table.config p.seat (world_of p);
-      untouched = refl;
-      counts = record { ends = refl; fulls = refl };
-    }
+traces_nothing kinds rule p = record {
+  does = record {
+    more = [];
+    is = sym (ap (λ (es : List Event). record p { seen = es }) (append-nil p.seen));
+    own_or_others = nothing_own p.seat p.seats;
+    of_kinds = ap (λ (xs : List Finding). are_of kinds xs) (none_done p);
+  };
+  keeps = nothing_keeps rule p.table.config p.seat (world_of p);
+  untouched = refl;
+  counts = record { ends = refl; fulls = refl };
+}
 
 -- One part is traced after another, and what is done of a kind adds up.
 
@@ -90,10 +88,7 @@ count_in_parts test xs ys = sum_by-append (λ (x : Finding). cond (test x) 1 0) 
 
 count_first : (test : Finding → Bool) (x : Finding) (xs : List Finding) → test x ≡ false
     → count_by test (x ∷ xs) ≡ count_by test xs
-count_first test x xs unlike =
-    let one : count_by test (x ∷ []) ≡ 0 = ap (λ (b : Bool). 0 + cond b 1 0) unlike in
-    let both : count_by test (x ∷ xs) ≡ count_by test (x ∷ []) + count_by test xs = count_in_parts test (x ∷ []) xs in
-    omega arith
+count_first test x xs unlike = grind (arith, count_in_parts)
 
 module _ (kinds : Step → Bool) (rule : Config → Moment → Step → Type 0) (kind : Step → Bool) where
   then_at : (p : PassState) (xs : List Event) → AreOwnOrOfOthers p.seat p.seats xs → are_of kinds (done_in p xs) ≡ true
@@ -118,9 +113,8 @@ module _ (kinds : Step → Bool) (rule : Config → Moment → Step → Type 0) 
                 d.of_kinds;
           };
           keeps =
-              keep_in_parts rule p.table.config p.seat (world_of p) xs d.more keeps
-              (subst (λ (w : World). OwnStepsKeep rule p.table.config p.seat w d.more)
-              (left_in_parts p.table.config p.seen xs) on.traces.keeps);
+              keep_in_parts rule _ _ _ xs d.more keeps (subst
+              (λ (w : World). OwnStepsKeep rule p.table.config p.seat w d.more) (left_in_parts _ _ xs) on.traces.keeps);
           untouched = on.traces.untouched ∙ untouched;
           counts = counts_then p.table.config p.seen (p.seen ++ xs) r.seen counts on.traces.counts;
         };
@@ -161,49 +155,38 @@ none_counted : (kinds kind : Step → Bool) (xs : List Finding) → ((s : Step) 
 none_counted kinds kind [] none h = refl
 none_counted kinds kind (x ∷ xs) none h =
     let parts = and_parts (kinds x.event.step) (are_of kinds xs) h in
-    count_first (λ (y : Finding). kind y.event.step) x xs (none x.event.step parts.0)
-    ∙ none_counted kinds kind xs none parts.1
+    count_first (λ (y : Finding). kind y.event.step) x xs (none _ parts.0) ∙ none_counted kinds kind xs none parts.1
+
+abbrev wider_traces : (kinds more : Step → Bool) (rule : Config → Moment → Step → Type 0) (p q : PassState)
+    → ((s : Step) → kinds s ≡ true → more s ≡ true) → Traces kinds rule p q → Traces more rule p q
+wider_traces kinds more rule p q wider t =
+    let d = t.does in
+    record {
+      does = record {
+        more = d.more;
+        is = d.is;
+        own_or_others = d.own_or_others;
+        of_kinds = wider_kinds kinds more (done_in p d.more) wider d.of_kinds;
+      };
+      keeps = t.keeps;
+      untouched = t.untouched;
+      counts = t.counts;
+    }
 
 pub traces_wider : (kinds more kind : Step → Bool) (rule : Config → Moment → Step → Type 0) (p q : PassState)
     → ((s : Step) → kinds s ≡ true → more s ≡ true) → ((s : Step) → kinds s ≡ true → kind s ≡ false)
     → Traces kinds rule p q → Counted more rule kind p q 0
 traces_wider kinds more kind rule p q wider none t =
-    let d = t.does in
     record {
-      traces = record {
-        does = record {
-          more = d.more;
-          is = d.is;
-          own_or_others = d.own_or_others;
-          of_kinds = wider_kinds kinds more (done_in p d.more) wider d.of_kinds;
-        };
-        keeps = t.keeps;
-        untouched = t.untouched;
-        counts = t.counts;
-      };
-      count = none_counted kinds kind (done_in p d.more) none d.of_kinds;
+      traces = wider_traces kinds more rule p q wider t;
+      count = none_counted kinds kind (done_in p t.does.more) none t.does.of_kinds;
     }
 
 pub counted_wider : (kinds more : Step → Bool) (rule : Config → Moment → Step → Type 0) (kind : Step → Bool)
     (p q : PassState) (n : ℕ) → ((s : Step) → kinds s ≡ true → more s ≡ true)
     → Counted kinds rule kind p q n → Counted more rule kind p q n
 counted_wider kinds more rule kind p q n wider one =
-    let t = one.traces in
-    let d = t.does in
-    record {
-      traces = record {
-        does = record {
-          more = d.more;
-          is = d.is;
-          own_or_others = d.own_or_others;
-          of_kinds = wider_kinds kinds more (done_in p d.more) wider d.of_kinds;
-        };
-        keeps = t.keeps;
-        untouched = t.untouched;
-        counts = t.counts;
-      };
-      count = one.count;
-    }
+    record { traces = wider_traces kinds more rule p q wider one.traces; count = one.count }
 
 -- Another rule may be kept to: one that follows from the first, or that all steps of the allowed kinds keep to.
 
@@ -233,8 +216,7 @@ kinds_keep kinds rule c s w (e ∷ es) follows of_kinds =
         → are_of kinds (if b then record { event = e; found = found c w.now e } ∷ own_from c s (world_behind c w e) es
         else own_from c s (world_behind c w e) es) ≡ true
         → is_same_seat s e.seat ≡ true → rule c w.now e.step
-    here true is h same =
-        follows w.now e.step (and_parts (kinds e.step) (are_of kinds (own_from c s (world_behind c w e) es)) h).0
+    here true is h same = grind (arith, and_parts)
     here false is h same = absurd (true≢false (sym same ∙ is))
 
     behind : (b : Bool)
@@ -247,13 +229,12 @@ kinds_keep kinds rule c s w (e ∷ es) follows of_kinds =
 pub traces_alike : (kinds : Step → Bool) (rule other : Config → Moment → Step → Type 0) (p q : PassState)
     → ((m : Moment) (x : Step) → rule p.table.config m x → other p.table.config m x)
     → Traces kinds rule p q → Traces kinds other p q
-traces_alike kinds rule other p q follows t =
-    record {
-      does = t.does;
-      keeps = keep_alike rule other p.table.config p.seat (world_of p) t.does.more follows t.keeps;
-      untouched = t.untouched;
-      counts = t.counts;
-    }
+traces_alike kinds rule other p q follows t = record {
+  does = t.does;
+  keeps = keep_alike rule other p.table.config p.seat (world_of p) t.does.more follows t.keeps;
+  untouched = t.untouched;
+  counts = t.counts;
+}
 
 pub counted_by_kinds : (kinds : Step → Bool) (rule other : Config → Moment → Step → Type 0) (kind : Step → Bool)
     (p q : PassState) (n : ℕ) → ((m : Moment) (x : Step) → kinds x ≡ true → other p.table.config m x)
@@ -276,11 +257,7 @@ module _ (kinds : Step → Bool) (rule : Config → Moment → Step → Type 0) 
   pub done_by_one : Has p.seats p.seat
       → done_in p (m.others ++ event_of p s ∷ [])
       ≡ record { event = event_of p s; found = found p.table.config (world_at m).now (event_of p s) } ∷ []
-  done_by_one has =
-      done_in_parts p m.others (event_of p s ∷ [])
-      ∙ ap (λ (zs : List Finding). zs ++ done_in (record p { seen = p.seen ++ m.others }) (event_of p s ∷ []))
-      (none_own p.table.config p.seats p.seat (left p.table.config p.seen) m.others has m.of_others)
-      ∙ one_own p.table.config p.seat (world_at m) (event_of p s) (same_self p.seat)
+  done_by_one has = grind (arith, done_in_parts, none_own, one_own, same_self)
 
   pub traces_step : (n : ℕ) → Has p.seats p.seat → kinds s ≡ true → rule p.table.config (world_at m).now s
       → untouched_of (world_of q) ≡ untouched_of (world_of p) → CountsAreLeft p.table.config p.seen q.seen
@@ -311,11 +288,3 @@ module _ (kinds : Step → Bool) (rule : Config → Moment → Step → Type 0) 
       }
 
 -- The table, the seat and its seats stay.
-
-pub traces_table : (kinds : Step → Bool) (rule : Config → Moment → Step → Type 0) (p q : PassState)
-    → Traces kinds rule p q → q.table ≡ p.table
-traces_table kinds rule p q t = ap (λ (x : PassState). x.table) t.does.is
-
-pub traces_seat : (kinds : Step → Bool) (rule : Config → Moment → Step → Type 0) (p q : PassState)
-    → Traces kinds rule p q → q.seat ≡ p.seat
-traces_seat kinds rule p q t = ap (λ (x : PassState). x.seat) t.does.is

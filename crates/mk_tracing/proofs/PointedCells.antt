@@ -1,9 +1,9 @@
 -- The cell into which the hand points, and its marks.
 use Rattle.std.proofs.Common.{option_and_then}
-use Rattle.mk_laws.proofs.Vocabulary.{Block, Bool, Cell, Header, None, Option, Some, Words, ℕ, and_parts, ap, arith}
-use Rattle.mk_laws.proofs.Vocabulary.{cell_at, header_at, header_of, if◌then◌else◌, is_heap_address, is_marked}
-use Rattle.mk_laws.proofs.Vocabulary.{leb-true, nat_le, nat_lt, page_at_address, pointed_cell, points_well, sym, true}
-use Rattle.mk_laws.proofs.Vocabulary.{◌%◌, ◌*◌, ◌+◌, ◌-◌, ◌/◌, ◌<◌, ◌∙◌, ◌≡◌, ◌≢◌, ◌≤◌}
+use Rattle.mk_laws.proofs.Vocabulary.{Block, Cell, Header, None, Option, Some, Words, ℕ, and_parts, ap, arith, cell_at}
+use Rattle.mk_laws.proofs.Vocabulary.{header_at, header_of, is_heap_address, is_marked, leb-true, nat_le, nat_lt}
+use Rattle.mk_laws.proofs.Vocabulary.{page_at_address, pointed_cell, points_well, true, ◌%◌, ◌*◌, ◌+◌, ◌-◌, ◌/◌, ◌<◌}
+use Rattle.mk_laws.proofs.Vocabulary.{◌∙◌, ◌≡◌, ◌≢◌, ◌≤◌}
 use Rattle.mk_geom.proofs.HeaderLemmas.{header_of-word_of}
 use Rattle.mk_geom.specs.Addresses.{cell_of_block, cell_under, word_at_address}
 use Rattle.mk_tracing.proofs.MoreMarks.{hand_kept, some_not_zero, well_none, well_some}
@@ -15,34 +15,22 @@ use Rattle.mk_words.specs.States.{PassState, WordsState}
 pub hand_points : (p : PassState) (t : WordsState) (value : ℕ) (cell : Cell) → p.table ≡ t
     → (value ≢ 0 → IsInHand p value) → pointed_cell t.config.pages (still_words p).pages value ≡ Some cell
     → HandPointsInto p cell
-hand_points p t value cell table hand points = record {
-  value = value;
-  in_hand = hand (some_not_zero t.config.pages (still_words p).pages value cell points);
-  points = ap (λ (x : WordsState). pointed_cell x.config.pages (still_words p).pages value) table ∙ points;
-}
+hand_points p t value cell table hand points = grind (arith, some_not_zero)
 
 -- It goes on doing so through looks that leave the hand and the words.
 pub points_on : (p q : PassState) (cell : Cell) → q.table ≡ p.table → still_words q ≡ still_words p
     → hand_of q ≡ hand_of p → HandPointsInto p cell → HandPointsInto q cell
-points_on p q cell table words hand r = record {
-  value = r.value;
-  in_hand = hand_kept p q r.value hand r.in_hand;
-  points =
-      ap (λ (t : WordsState). pointed_cell t.config.pages (still_words q).pages r.value) table
-      ∙ ap (λ (w : Words). pointed_cell p.table.config.pages w.pages r.value) words ∙ r.points;
-}
+points_on p q cell table words hand r = grind (arith, hand_kept)
 
 -- A value that points into a cell that is marked after marks points well, and one that points into nothing.
 
 pub well_marked : (pages : ℕ) (w x : Words) (u : ℕ) (cell : Cell) → MarksMore w x
     → pointed_cell pages w.pages u ≡ Some cell → is_marked x cell ≡ true → points_well pages x u ≡ true
-well_marked pages w x u cell more points marked =
-    well_some pages x u cell (ap (λ (y : Words). pointed_cell pages y.pages u) more.is ∙ points) marked
+well_marked pages w x u cell more points marked = grind (arith, well_some)
 
 pub well_nowhere : (pages : ℕ) (w x : Words) (u : ℕ) → x ≡ w → pointed_cell pages w.pages u ≡ None
     → points_well pages x u ≡ true
-well_nowhere pages w x u same none =
-    well_none pages x u (ap (λ (y : Words). pointed_cell pages y.pages u) same ∙ none)
+well_nowhere pages w x u same none = grind (arith, well_none)
 
 -- What a value points into by the header word that is there.
 pub pointed_under : (pages : ℕ) (w : Words) (u header : ℕ) → header ≡ header_at w (page_at_address u)
@@ -65,10 +53,7 @@ pointed_in_block pages w u class known inside is =
     (λ h. cell_under h (page_at_address u) (word_at_address u)) o in
     let far = inside_far pages u inside in
     let word : u / 8 % 64 ≡ word_at_address u = omega arith in
-    ap (λ n. cell_of_block class (page_at_address u) n) word
-    ∙ sym (ap (λ (b : Bool). if b then find (header_of (1 + class)) else None) inside
-    ∙ ap find (block_header class known))
-    ∙ pointed_under pages w u (1 + class) is
+    cc (word, inside, block_header class known, pointed_under pages w u (1 + class) is)
 
 -- The same, by the page and its header word as they were found.
 pub pointed_here : (pages : ℕ) (w : Words) (u page header : ℕ) → page ≡ page_at_address u
@@ -76,5 +61,4 @@ pub pointed_here : (pages : ℕ) (w : Words) (u page header : ℕ) → page ≡ 
     → cell_of_block (header - 1) page (u / 8 % 64) ≡ pointed_cell pages w.pages u
 pointed_here pages w u page header at inside is some few =
     let word : 1 + (header - 1) ≡ header = omega arith in
-    ap (λ n. cell_of_block (header - 1) n (u / 8 % 64)) at
-    ∙ pointed_in_block pages w u (header - 1) (omega arith) inside (word ∙ is ∙ ap (λ n. header_at w n) at)
+    cc (at, pointed_in_block pages w u (header - 1) (omega arith) inside (word ∙ is ∙ ap (λ n. header_at w n) at))

@@ -1,46 +1,42 @@
 -- In the stop, where no marker attends, the words are at each step as they were left, but for the phase.
-use Rattle.std.proofs.Common.{option_and_then}
-use Rattle.mk_laws.proofs.Vocabulary.{Bool, Caller, Cell, Config, Hand, Holding, Holds, Host, List, Marker, MarkerState}
-use Rattle.mk_laws.proofs.Vocabulary.{Moment, None, Op, Option, Seat, Some, Steady, Step, TurnIsLeft, Word, Words}
-use Rattle.mk_laws.proofs.Vocabulary.{World, Written, ℕ, address_of, ap, arith, false, found, has_no_pointers}
-use Rattle.mk_laws.proofs.Vocabulary.{header_in, if◌then◌else◌, is_attending, is_marked, ne_eqb, not, or_else, outside}
-use Rattle.mk_laws.proofs.Vocabulary.{phase_of, pointed_cell, refl, slice_index_or, subst, sym, true, world_behind, ◌%◌}
-use Rattle.mk_laws.proofs.Vocabulary.{◌&&◌, ◌∙◌, ◌≡◌}
-use Rattle.mk_core.specs.Effects.{hand_given, hand_of_cell, is_in_stop, is_mapped_cell, markers_behind}
-use Rattle.mk_core.specs.Frames.{HoldsAll, steady_of, written_of}
-use Rattle.mk_core.specs.declared.seats.Source.TheVariants.{Marked, Root, Unmarked}
-use Rattle.mk_core.specs.{Readings.NoneAttends, Words.named_word}
+use Rattle.mk_laws.proofs.Vocabulary.{Bool, Caller, Cell, Config, Hand, Holds, Host, List, Marker, MarkerState, Moment}
+use Rattle.mk_laws.proofs.Vocabulary.{Op, Option, Seat, Some, Steady, Step, TurnIsLeft, Word, Words, World, Written, ℕ}
+use Rattle.mk_laws.proofs.Vocabulary.{address_of, ap, arith, false, found, has_no_pointers, header_in, is_attending}
+use Rattle.mk_laws.proofs.Vocabulary.{is_marked, ne_eqb, or_else, outside, phase_of, pointed_cell, refl, slice_index_or}
+use Rattle.mk_laws.proofs.Vocabulary.{sym, true, world_behind, ◌∙◌, ◌≡◌}
+use Rattle.mk_core.specs.Effects.{hand_given, hand_of_cell, is_in_stop, markers_behind}
+use Rattle.mk_core.specs.Frames.{HoldsAll, written_of}
+use Rattle.mk_core.specs.{Readings.NoneAttends, Words.named_word, declared.seats.Source.TheVariants.Marked}
 use Rattle.mk_tracing.proofs.Steps.{is_late, is_quiet, step_counts, step_untouched, still_ready}
 use Rattle.mk_tracing.proofs.Parts.{traces_step}
 use Rattle.mk_tracing.specs.Grays.{IsInHand, MarksOn, TracesReached, with_blacks, with_marks, without_blacks}
 use Rattle.mk_tracing.specs.Grays.{without_dirty}
-use Rattle.mk_tracing.specs.Stops.{IsWanted, hand_of, is_page_word, is_root, is_still_word, still_words}
+use Rattle.mk_tracing.specs.Stops.{IsWanted, hand_of, is_root, is_still_word, still_words}
 use Rattle.mk_tracing.specs.Tracing.{Traces, is_marking, untouched_of}
 use Rattle.mk_turns.proofs.PointedCells.{found_there}
 use Rattle.mk_words.specs.States.{PassState, event_of, now_of, world_of}
 use Rattle.mk_words.specs.{Seats.Has, Steps.Finds, TurnSteps.Acts, TurnSteps.world_at}
 
 abbrev words_by : Steady → Written → List ℕ → List ℕ → Words
-words_by s y marks blacks =
-    record {
-      phase = 0;
-      turn = s.turn;
-      held = s.held;
-      fresh = s.fresh;
-      cycles = s.cycles;
-      released = s.released;
-      full = s.full;
-      gates = y.gates;
-      registers = y.registers;
-      globals = y.globals;
-      pages = s.pages;
-      freed = s.freed;
-      snapshot = s.snapshot;
-      marks = marks;
-      blacks = blacks;
-      dirty = y.dirty;
-      heap = y.heap;
-    }
+words_by s y marks blacks = record {
+  phase = 0;
+  turn = s.turn;
+  held = s.held;
+  fresh = s.fresh;
+  cycles = s.cycles;
+  released = s.released;
+  full = s.full;
+  gates = y.gates;
+  registers = y.registers;
+  globals = y.globals;
+  pages = s.pages;
+  freed = s.freed;
+  snapshot = s.snapshot;
+  marks = marks;
+  blacks = blacks;
+  dirty = y.dirty;
+  heap = y.heap;
+}
 
 abbrev pub but_phase : Words → Words
 but_phase w = record w { phase = 0 }
@@ -48,12 +44,7 @@ but_phase w = record w { phase = 0 }
 -- What leaves the holder its own in the stop leaves the words but the phase.
 pub words_left : {w v : World} → TurnIsLeft w v → written_of v ≡ written_of w → phase_of w.now.words ≡ 2
     → NoneAttends w.now → but_phase v.now.words ≡ but_phase w.now.words
-words_left {w} {v} turn written two none =
-    let there = turn.stopped two none in
-    ap (λ (x : Steady). words_by x (written_of v) v.now.words.marks v.now.words.blacks) turn.steady
-    ∙ ap (λ (y : Written). words_by (steady_of w) y v.now.words.marks v.now.words.blacks) written
-    ∙ ap (λ (xs : List ℕ). words_by (steady_of w) (written_of w) xs v.now.words.blacks) there.1
-    ∙ ap (words_by (steady_of w) (written_of w) w.now.words.marks) there.2
+words_left {w} {v} turn written two none = grind (arith, words_by)
 
 -- the steps in the stop after the wish
 abbrev pub is_stopped_step : Step → Bool
@@ -93,36 +84,18 @@ module _ (p q : PassState) (s : Step) (a : Acts p s q) (wanted : IsWanted p)
 
   -- none attends after it either
   pub none_after : NoneAttends (now_of q)
-  none_after =
-      subst NoneOf
-      (sym (ap (λ (w : World). w.now.seats.markers) a.world
-      ∙ markers_stay p.table.config (world_at a.makes).now p.seat
-      (found p.table.config (world_at a.makes).now (event_of p s)) s (now_of p) all.0))
-      (a.turn.stopped wanted.phase wanted.none).0
+  none_after = grind (arith, markers_stay)
 
 module _ (p q : PassState) (s : Step) (a : Acts p s q) (wanted : IsWanted p)
     (all : HoldsAll p.table.config (now_of p) p.seat) (stopped : is_stopped_step s ≡ true) where
   late : is_late (world_at a.makes).now.words s ≡ true
-  late = by s
-    where
-      by : (x : Step) → is_late (world_at a.makes).now.words x ≡ true
-      by (Step.Mark pg v) = ap not (ne_eqb (phase_of (world_at a.makes).now.words) 1
-          (λ e. let two = phase_there p q s a wanted all in omega arith))
-      by _ = refl
+  late = grind (arith, is_late, ne_eqb, phase_there)
 
   untouched : untouched_of (world_of q) ≡ untouched_of (world_of p)
   untouched = step_untouched p q s a (quiet_of s stopped) all late
 
   pub still_wanted : IsWanted q
-  still_wanted =
-      record {
-        ready = still_ready p q s a.makes untouched wanted.ready;
-        phase =
-            ap (λ (w : World). phase_of w.now.words) a.world
-            ∙ ap (λ n. n % 8) (phase_behind p.table.config (world_at a.makes) p.seat s stopped)
-            ∙ phase_there p q s a wanted all;
-        none = none_after p q s a wanted all;
-      }
+  still_wanted = grind (arith, still_ready, untouched, phase_behind, phase_there, none_after)
 
   pub stopped_traces : Has p.seats p.seat → (rule : Config → Moment → Step → Type 0) → is_marking s ≡ true
       → rule p.table.config (world_at a.makes).now s → Traces is_marking rule p q
@@ -134,37 +107,31 @@ module _ (p q : PassState) (s : Step) (a : Acts p s q) (wanted : IsWanted p)
 
 module _ (p q : PassState) (wanted : IsWanted p) (all : HoldsAll p.table.config (now_of p) p.seat) where
   pub look_words : (x : Word) → Acts p (Step.Look x) q → still_words q ≡ still_words p
-  look_words x a = ap (λ (w : World). but_phase w.now.words) a.world ∙ words_there p q
-      (Step.Look x) a wanted all
+  look_words x a = grind (arith, but_phase, words_there)
 
   pub mark_words : (pg v : ℕ) → Acts p (Step.Mark pg v) q → still_words q ≡ with_marks pg v (still_words p)
-  mark_words pg v a = ap (λ (w : World). but_phase w.now.words) a.world ∙ ap (with_marks pg v)
-      (words_there p q (Step.Mark pg v) a wanted all)
+  mark_words pg v a = grind (arith, but_phase, words_there)
 
   pub black_words : (pg v : ℕ) → Acts p (Step.Black pg v) q → still_words q ≡ with_blacks pg v (still_words p)
-  black_words pg v a = ap (λ (w : World). but_phase w.now.words) a.world ∙ ap (with_blacks pg v)
-      (words_there p q (Step.Black pg v) a wanted all)
+  black_words pg v a = grind (arith, but_phase, words_there)
 
   pub unblack_words : (pg : ℕ) → Acts p (Step.Unblack pg) q → still_words q ≡ without_blacks pg (still_words p)
-  unblack_words pg a = ap (λ (w : World). but_phase w.now.words) a.world ∙ ap (without_blacks pg)
-      (words_there p q (Step.Unblack pg) a wanted all)
+  unblack_words pg a = grind (arith, but_phase, words_there)
 
   pub undirty_words : (pg : ℕ) → Acts p (Step.Undirty pg) q → still_words q ≡ without_dirty pg (still_words p)
-  undirty_words pg a = ap (λ (w : World). but_phase w.now.words) a.world ∙ ap (without_dirty pg)
-      (words_there p q (Step.Undirty pg) a wanted all)
+  undirty_words pg a = grind (arith, but_phase, words_there)
 
   pub marks_on : Has p.seats p.seat → (s : Step) → Acts p s q → is_stopped_step s ≡ true → (o o' : Option Op) → o' ≡ o
       → ((w : World) → but_phase w.now.words ≡ still_words p → w.now.seats.holding ≡ (now_of p).seats.holding
       → TracesReached p.table.config w.now s)
       → MarksOn (record { pass = p; op = o }) (record { pass = q; op = o' })
-  marks_on own s a stopped o o' same ruled =
-      record {
-        table = ap (λ (x : PassState). x.table) a.makes.is;
-        op = same;
-        wanted = still_wanted p q s a wanted all stopped;
-        traces = stopped_traces p q s a wanted all stopped own TracesReached (marking s stopped)
-            (ruled (world_at a.makes) (words_there p q s a wanted all) a.holding);
-      }
+  marks_on own s a stopped o o' same ruled = record {
+    table = ap (λ (x : PassState). x.table) a.makes.is;
+    op = same;
+    wanted = still_wanted p q s a wanted all stopped;
+    traces = stopped_traces p q s a wanted all stopped own TracesReached (marking s stopped)
+        (ruled (world_at a.makes) (words_there p q s a wanted all) a.holding);
+  }
     where
       marking : (x : Step) → is_stopped_step x ≡ true → is_marking x ≡ true
       marking (Step.Look (Word.Quar pg)) h = cc
@@ -181,48 +148,17 @@ still_name w _ h = refl
 module _ (p q : PassState) (wanted : IsWanted p) (all : HoldsAll p.table.config (now_of p) p.seat) (x : Word)
     (a : Acts p (Step.Look x) q) (n : ℕ) (finds : Finds p (Step.Look x) n q) where
   pub look_finds : is_still_word x ≡ true → n ≡ named_word (still_words p) x
-  look_finds name =
-      sym (found_there p q x n finds) ∙ sym (still_name (now_of q).words x name) ∙ ap (λ (w : Words). named_word w x)
-      (look_words p q wanted all x a)
+  look_finds name = cc (found_there p q x n finds, still_name (now_of q).words x name, look_words p q wanted all x a)
 
   pub found_now : found p.table.config (world_at a.makes).now (event_of p (Step.Look x)) ≡ n
   found_now = ap (λ (w : World). named_word w.now.words x) (sym a.world) ∙ found_there p q x n finds
 
   pub hand_now : hand_of q ≡ or_else (hand_given p.table.config (world_at a.makes).now p.seat x
       (found p.table.config (world_at a.makes).now (event_of p (Step.Look x)))) (hand_of p)
-  hand_now =
-      ap (λ (w : World). w.now.seats.holding.hand) a.world
-      ∙ ap (λ (h : Holding). or_else (hand_given p.table.config (world_at a.makes).now p.seat x
-      (found p.table.config (world_at a.makes).now (event_of p (Step.Look x)))) h.hand) a.holding
-
-  pub plain_hand : is_page_word x ≡ true → hand_of q ≡ hand_of p
-  plain_hand plain = hand_now ∙ by x (found p.table.config (world_at a.makes).now (event_of p (Step.Look x))) plain
-    where
-      by : (y : Word) (value : ℕ) → is_page_word y ≡ true
-          → or_else (hand_given p.table.config (world_at a.makes).now p.seat y value) (hand_of p) ≡ hand_of p
-      by (Word.Head pg) value h = refl
-      by (Word.Used pg) value h = refl
-      by (Word.Mark pg) value h = refl
-      by (Word.Black pg) value h = refl
-      by (Word.Dirty pg) value h = refl
-      by _ value h = cc
+  hand_now = grind arith
 
   pub root_hand : is_root x ≡ true → IsInHand q n
-  root_hand root =
-      record {
-        hand = record { value = n; source = Root };
-        is = hand_now ∙ by x (found p.table.config (world_at a.makes).now (event_of p (Step.Look x))) root ∙ ap
-            (λ (v : ℕ). Some (record { value = v; source = Root })) found_now;
-        value = refl;
-        reached = refl;
-      }
-    where
-      by : (y : Word) (value : ℕ) → is_root y ≡ true
-          → or_else (hand_given p.table.config (world_at a.makes).now p.seat y value) (hand_of p)
-          ≡ Some (record { value = value; source = Root })
-      by (Word.Reg j r) value h = refl
-      by (Word.Global g) value h = refl
-      by _ value h = cc
+  root_hand root = grind (arith, hand_now, found_now)
 
 -- a word of a marked cell that is scanned
 pub marked_hand : (p q : PassState) → IsWanted p → HoldsAll p.table.config (now_of p) p.seat
@@ -231,17 +167,15 @@ pub marked_hand : (p q : PassState) → IsWanted p → HoldsAll p.table.config (
     → pointed_cell p.table.config.pages (still_words p).pages (address_of i) ≡ Some cell
     → is_marked (still_words p) cell ≡ true → has_no_pointers (header_in (still_words p) cell.page) ≡ false
     → IsInHand q n
-marked_hand p q wanted all i a n finds cell pointed marked scanned =
-    record {
-      hand = record { value = n; source = Marked };
-      is = hand_now p q wanted all (Word.Heap i) a n finds
-          ∙ ap (λ (o : Option Hand). or_else o (hand_of p)) (given
-          (found p.table.config (world_at a.makes).now (event_of p (Step.Look (Word.Heap i)))))
-          ∙ ap (λ (v : ℕ). Some (record { value = v; source = Marked }))
-          (found_now p q wanted all (Word.Heap i) a n finds);
-      value = refl;
-      reached = refl;
-    }
+marked_hand p q wanted all i a n finds cell pointed marked scanned = record {
+  hand = record { value = n; source = Marked };
+  is = hand_now p q wanted all (Word.Heap i) a n finds
+      ∙ ap (λ (o : Option Hand). or_else o (hand_of p))
+      (given (found p.table.config (world_at a.makes).now (event_of p (Step.Look (Word.Heap i)))))
+      ∙ ap (λ (v : ℕ). Some (record { value = v; source = Marked })) (found_now p q wanted all (Word.Heap i) a n finds);
+  value = refl;
+  reached = refl;
+}
   where
     m' : Moment
     m' = (world_at a.makes).now
@@ -254,20 +188,8 @@ marked_hand p q wanted all i a n finds cell pointed marked scanned =
 
     of_cell : (value : ℕ) → hand_of_cell m'.words (is_in_stop p.table.config.callers m'.words p.seat)
         m'.seats.holding.placing cell value ≡ Some (record { value = value; source = Marked })
-    of_cell value =
-        let given_by : Bool → Bool → Option Hand = λ (b m : Bool).
-        if b then None
-        else if m then Some (record { value = value; source = Marked })
-        else if is_in_stop p.table.config.callers m'.words p.seat && is_mapped_cell m'.words m'.seats.holding.placing
-        cell then Some (record { value = value; source = Unmarked })
-        else None in
-        ap (λ (b : Bool). given_by b (is_marked m'.words cell))
-        (ap (λ (w : Words). has_no_pointers (header_in w cell.page)) same ∙ scanned)
-        ∙ ap (λ (b : Bool). given_by false b) (ap (λ (w : Words). is_marked w cell) same ∙ marked)
+    of_cell value = grind (arith, m', same)
 
     given : (value : ℕ) → hand_given p.table.config m' p.seat (Word.Heap i) value
         ≡ Some (record { value = value; source = Marked })
-    given value =
-        ap (λ (o : Option Cell). option_and_then (λ (x : Cell). hand_of_cell m'.words
-        (is_in_stop p.table.config.callers m'.words p.seat) m'.seats.holding.placing x value) o) pointed_now
-        ∙ of_cell value
+    given value = grind (arith, m', pointed_now, of_cell)

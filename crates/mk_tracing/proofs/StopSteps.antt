@@ -1,9 +1,7 @@
 -- Each step in the stop goes on with the marking.
-use Rattle.mk_laws.proofs.Vocabulary.{Bool, Cell, Config, Hand, Holding, IsHistory, Moment, Option, Some, Step, Word}
-use Rattle.mk_laws.proofs.Vocabulary.{Words, World, ℕ, address_of, ap, arith, cell_words, first_word, header_at}
-use Rattle.mk_laws.proofs.Vocabulary.{is_some_and, is_unmarked, lt-ltb, marks_place, not, object_made, place_now}
-use Rattle.mk_laws.proofs.Vocabulary.{pointed_cell, refl, slice_index, subst, sym, true, ◌&&◌, ◌*◌, ◌+◌, ◌<◌, ◌^◌, ◌∙◌}
-use Rattle.mk_laws.proofs.Vocabulary.{◌≡◌, ◌≢◌}
+use Rattle.mk_laws.proofs.Vocabulary.{Cell, Config, IsHistory, Moment, Step, Word, Words, World, ℕ, address_of, ap}
+use Rattle.mk_laws.proofs.Vocabulary.{arith, cell_words, first_word, header_at, lt-ltb, pointed_cell, refl, slice_index}
+use Rattle.mk_laws.proofs.Vocabulary.{subst, sym, true, ◌*◌, ◌+◌, ◌<◌, ◌^◌, ◌∙◌, ◌≡◌, ◌≢◌}
 use Rattle.mk_core.{proofs.PointedPages.pointed_within, specs.Frames.HoldsAll, specs.Ranges.is_word}
 use Rattle.mk_tracing.proofs.CellWords.{cell_of_word, words_in_heap}
 use Rattle.mk_tracing.proofs.Stilled.{but_phase, look_finds, marked_hand, marks_on}
@@ -18,22 +16,15 @@ use Rattle.mk_words.specs.{Seats.Has, Steps.Finds, TurnSteps.Acts}
 -- The marking goes on, and on.
 
 pub on_from : (t : TurnState) → IsWanted t.pass → MarksOn t t
-on_from t wanted = record {
-  table = refl;
-  op = refl;
-  wanted = wanted;
-  traces = traces_nothing is_marking TracesReached
-      t.pass;
-}
+on_from t wanted = grind (arith, traces_nothing)
 
 pub on_then : (t u v : TurnState) → MarksOn t u → MarksOn u v → MarksOn t v
-on_then t u v one two =
-    record {
-      table = two.table ∙ one.table;
-      op = two.op ∙ one.op;
-      wanted = two.wanted;
-      traces = traces_then is_marking TracesReached t.pass u.pass v.pass one.traces two.traces;
-    }
+on_then t u v one two = record {
+  table = two.table ∙ one.table;
+  op = two.op ∙ one.op;
+  wanted = two.wanted;
+  traces = traces_then is_marking TracesReached t.pass u.pass v.pass one.traces two.traces;
+}
 
 -- what each step keeps to
 
@@ -54,31 +45,15 @@ root_quiet (Word.Quar p) h = cc
 root_quiet _ h = refl
 
 gray_there : (pages n : ℕ) (w v : Words) → but_phase w ≡ v → IsGrayWord pages v n → IsGrayWord pages w n
-gray_there pages n w v same h =
-    let g = subst (λ (x : Words). IsGrayWord pages x n) (sym same) h in
-    record {
-      cell = g.cell;
-      gray = record { page = g.gray.page; index = g.gray.index; marked = g.gray.marked; not_black = g.gray.not_black };
-      least = g.least;
-      below = g.below;
-    }
+gray_there pages n w v same h = grind arith
 
 dirty_there : (page : ℕ) (w v : Words) → but_phase w ≡ v → HasDirtyPart v page → HasDirtyPart w page
-dirty_there page w v same h =
-    let d = subst (λ (x : Words). HasDirtyPart x page) (sym same) h in
-    record { part = d.part; dirty = d.dirty; of = d.of }
+dirty_there page w v same h = grind arith
 
 reached_there : (p : PassState) (w : World) (cell : Cell) → but_phase w.now.words ≡ still_words p
     → w.now.seats.holding ≡ (now_of p).seats.holding
     → HandPointsInto p cell → MarksReached p.table.config w.now cell.page (2 ^ cell.index)
-reached_there p w cell same holding r =
-    let hand : w.now.seats.holding.hand ≡ Some r.in_hand.hand = ap (λ (h : Holding). h.hand) holding ∙ r.in_hand.is in
-    record {
-      by_hand = marks_by p.table.config.pages w.now.words w.now.seats.holding.hand r.value cell r.in_hand.hand hand
-          r.in_hand.value
-          (ap (λ (x : Words). pointed_cell p.table.config.pages x.pages r.value) same ∙ r.points);
-      reached = ap (λ (o : Option Hand). is_some_and (λ (h : Hand). is_unmarked h.source) o) hand ∙ r.in_hand.reached;
-    }
+reached_there p w cell same holding r = grind (arith, marks_by)
 
 module _ (t u : TurnState) (wanted : IsWanted t.pass) (all : HoldsAll t.pass.table.config (now_of t.pass) t.pass.seat)
     (own : Has t.pass.seats t.pass.seat) (same : u.op ≡ t.op) where
@@ -105,8 +80,7 @@ module _ (t u : TurnState) (wanted : IsWanted t.pass) (all : HoldsAll t.pass.tab
       (λ w e h. reached_there t.pass w cell e h reached)
 
   pub on_black : (page value : ℕ) → Acts t.pass (Step.Black page value) u.pass → MarksOn t u
-  on_black page value a = marks_on t.pass u.pass wanted all own (Step.Black page value) a refl t.op u.op same
-      (λ w e h. tt)
+  on_black page value a = marks_on _ _ wanted all own (Step.Black page value) a refl t.op u.op same (λ w e h. tt)
 
   pub on_unblack : (page : ℕ) → Acts t.pass (Step.Unblack page) u.pass → HasDirtyPart (still_words t.pass) page
       → MarksOn t u
@@ -133,10 +107,7 @@ module _ (p : PassState) (history : IsHistory p.table.config p.seen) (t : WordsS
   same_word = ap (λ k. 64 * cell.page + cell.index * k + i) due.words
 
   pub gray_word : IsGrayWord p.table.config.pages (still_words p) (64 * cell.page + cell.index * size + i)
-  gray_word =
-      let li = within in
-      subst (λ k. IsGrayWord p.table.config.pages (still_words p) k) (sym same_word)
-      (record { cell = cell; gray = gray; least = omega arith; below = omega arith })
+  gray_word = grind (arith, within, same_word, gray)
 
   in_heap : n < 64 * p.table.config.pages
   in_heap =
@@ -153,17 +124,14 @@ module _ (p : PassState) (history : IsHistory p.table.config p.seen) (t : WordsS
       (a : Acts p (Step.Look (Word.Heap (64 * cell.page + cell.index * size + i))) q)
       (finds : Finds p (Step.Look (Word.Heap (64 * cell.page + cell.index * size + i))) v q) where
     pub word_found : v ≡ slice_index (still_words p).heap (first_word (still_words p) cell + i)
-    word_found =
-        look_finds p q wanted all (Word.Heap n) a v finds refl
-        ∙ ap (λ k. slice_index (still_words p).heap k) same_word
+    word_found = cc (look_finds p q wanted all (Word.Heap n) a v finds refl, same_word)
 
     pub word_hand : v ≢ 0 → IsInHand q v
     word_hand some =
         marked_hand p q wanted all n a v finds cell
-        (ap (λ k. pointed_cell p.table.config.pages (still_words p).pages (address_of k)) same_word
-        ∙ cell_of_word p.table.config p.seen cell i history wanted.phase gray.page gray.index due.scanned within
-        (λ z. some (word_found ∙ z)))
-        gray.marked due.scanned
+        (ap (λ k. pointed_cell p.table.config.pages (still_words p).pages (address_of k)) same_word ∙ cell_of_word _ _
+        cell i history wanted.phase gray.page gray.index due.scanned within (λ z. some (word_found ∙ z))) gray.marked
+        due.scanned
 
 -- The cell into which the hand points lies in the heap.
 pub reached_within : (p : PassState) (cell : Cell) → HandPointsInto p cell
@@ -173,12 +141,9 @@ reached_within p cell r = pointed_within p.table.config.pages (still_words p) r.
 -- Its page has a header.
 pub reached_in_use : (p : PassState) (cell : Cell) → IsHistory p.table.config p.seen → IsWanted p
     → HandPointsInto p cell → header_at (now_of p).words cell.page ≢ 0
-reached_in_use p cell history wanted r =
-    pointed_has_header p.table.config p.seen history r.value cell (λ four. (let two = wanted.phase in omega arith))
-    r.points
+reached_in_use p cell history wanted r = grind (arith, pointed_has_header)
 
 -- A mark by what stood in a root or a marked cell isn't sweeping.
 pub reached_marks_sweep_nothing : ReachedMarksSweepNothing
-reached_marks_sweep_nothing c m f (Step.Mark p v) r =
-    ap (λ (b : Bool). b && not (marks_place m.words (object_made c f.op) (place_now c m f) p v)) r.reached
+reached_marks_sweep_nothing c m f (Step.Mark p v) r = grind arith
 reached_marks_sweep_nothing c m f _ r = refl

@@ -29,9 +29,7 @@ module _ (p q : PassState) (a : Acts p Step.Want q) (own : Has p.seats p.seat) (
   want_ready = still_ready p q Step.Want a.makes (step_untouched p q Step.Want a refl all refl) ready
 
   pub want_phase : phase_of (now_of p).words ≡ 1 → phase_of (now_of q).words ≡ 2
-  want_phase one =
-      ap (λ (w : World). phase_of w.now.words) a.world ∙ one_more (world_at a.makes).now.words.phase
-      (phase_there p q Step.Want a ∙ one)
+  want_phase one = grind (arith, one_more, phase_there)
 
 module _ (p q : PassState) (a : Acts p (Step.Look Word.Phase) q) (own : Has p.seats p.seat) (ready : HolderIsLoaded p)
     (all : HoldsAll p.table.config (now_of p) p.seat) where
@@ -42,8 +40,7 @@ module _ (p q : PassState) (a : Acts p (Step.Look Word.Phase) q) (own : Has p.se
       (step_counts p q (Step.Look Word.Phase) a refl) refl
 
   pub look_ready : HolderIsLoaded q
-  look_ready = still_ready p q (Step.Look Word.Phase) a.makes
-      (step_untouched p q (Step.Look Word.Phase) a refl all refl) ready
+  look_ready = grind (arith, still_ready, step_untouched)
 
   pub look_phase : phase_of (now_of q).words ≡ phase_of (now_of p).words
   look_phase = ap (λ (w : World). phase_of w.now.words) a.world ∙ phase_there p q (Step.Look Word.Phase) a

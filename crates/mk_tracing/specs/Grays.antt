@@ -135,9 +135,9 @@ abbrev pub GlobalIsWell : Config → PassState → PassState → ℕ → Type 0
 GlobalIsWell c p q g = points_well c.pages (still_words q) (slice_index (still_words p).globals g) ≡ true
 
 -- What a word of a cell was points well now.
-abbrev pub WordIsWell : Config → PassState → PassState → Cell → ℕ → Type 0
-WordIsWell c p q cell i =
-    points_well c.pages (still_words q)
+abbrev pub WordIsWell : ℕ → PassState → PassState → Cell → ℕ → Type 0
+WordIsWell pages p q cell i =
+    points_well pages (still_words q)
     (slice_index (still_words p).heap (first_word (still_words p) cell + i)) ≡ true
 
 -- Each register and each global points well.

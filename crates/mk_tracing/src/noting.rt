@@ -3,8 +3,9 @@ ghost use Rattle.std.specs.Prelude.{◌≡◌, ◌≢◌, ◌<◌, true, IfSome}
 ghost use Rattle.mk_core.specs.Cells.{is_marked, points_well};
 ghost use Rattle.mk_core.specs.Words.{header_at};
 ghost use Rattle.mk_geom.specs.Addresses.{is_heap_address, page_at_address};
-ghost use Rattle.mk_tracing.specs.Grays.{IsInHand, MarksMore, MarksOn};
-ghost use Rattle.mk_tracing.specs.Noted.{AreNoted, IsNoted};
+ghost use Rattle.mk_tracing.specs.Grays.{IsInHand};
+ghost use Rattle.mk_tracing.specs.Noted.{IsNoted};
+ghost use Rattle.mk_tracing.specs.Scans.{MarksAndNotes};
 ghost use Rattle.mk_tracing.specs.Stops.{IsWanted, still_words};
 
 use crate::noted::Noted;
@@ -25,10 +26,8 @@ fn note(words: &Words, stop: &mut Stopped, work: &mut Worklist, pages: u64, cell
     requires wanted { IsWanted stop.old.pass }
     requires page { cell.page < words.now.config.pages }
     requires marked { is_marked (still_words stop.old.pass) cell ≡ true }
-    ensures on { MarksOn stop.old stop.new }
+    ensures marks { MarksAndNotes words.now.config.pages stop.old work.old stop.new work.new }
     ensures words { still_words stop.new.pass ≡ still_words stop.old.pass }
-    ensures noted { AreNoted words.now.config.pages (still_words stop.old.pass) work.old
-        → AreNoted words.now.config.pages (still_words stop.new.pass) work.new }
 {
     let header = look_among(words, stop, pages, Word::Head(cell.page));
     work.extend(Noted::under(header, cell));
@@ -49,11 +48,8 @@ fn mark_under(
     requires wanted { IsWanted stop.old.pass }
     requires hand { value ≢ 0 → IsInHand stop.old.pass value }
     requires header { header ≡ header_at (still_words stop.old.pass) (page_at_address value) }
-    ensures on { MarksOn stop.old stop.new }
-    ensures more { MarksMore (still_words stop.old.pass) (still_words stop.new.pass) }
+    ensures marks { MarksAndNotes words.now.config.pages stop.old work.old stop.new work.new }
     ensures well { points_well words.now.config.pages (still_words stop.new.pass) value ≡ true }
-    ensures noted { AreNoted words.now.config.pages (still_words stop.old.pass) work.old
-        → AreNoted words.now.config.pages (still_words stop.new.pass) work.new }
 {
     let Some(cell) = lookup(pages, header, value) else {
         return;
@@ -82,12 +78,9 @@ fn mark_pointed(
     requires page { page ≡ page_at_address value }
     requires within { page < pages }
     requires inside { is_heap_address pages value ≡ true }
-    ensures on { MarksOn stop.old stop.new }
-    ensures more { MarksMore (still_words stop.old.pass) (still_words stop.new.pass) }
+    ensures marks { MarksAndNotes words.now.config.pages stop.old work.old stop.new work.new }
     ensures well { points_well words.now.config.pages (still_words stop.new.pass) value ≡ true }
     ensures one { IfSome result (IsNoted words.now.config.pages (still_words stop.new.pass)) }
-    ensures noted { AreNoted words.now.config.pages (still_words stop.old.pass) work.old
-        → AreNoted words.now.config.pages (still_words stop.new.pass) work.new }
 {
     let header = look_among(words, stop, pages, Word::Head(page));
     if header == 0 || header > LAST_BLOCK {
@@ -113,12 +106,9 @@ pub(crate) fn mark_value(
     requires pages { pages ≡ words.now.config.pages }
     requires wanted { IsWanted stop.old.pass }
     requires hand { value ≢ 0 → IsInHand stop.old.pass value }
-    ensures on { MarksOn stop.old stop.new }
-    ensures more { MarksMore (still_words stop.old.pass) (still_words stop.new.pass) }
+    ensures marks { MarksAndNotes words.now.config.pages stop.old work.old stop.new work.new }
     ensures well { points_well words.now.config.pages (still_words stop.new.pass) value ≡ true }
     ensures one { IfSome result (IsNoted words.now.config.pages (still_words stop.new.pass)) }
-    ensures noted { AreNoted words.now.config.pages (still_words stop.old.pass) work.old
-        → AreNoted words.now.config.pages (still_words stop.new.pass) work.new }
 {
     let Some(page) = heap_page(pages, value) else {
         return None;
@@ -142,12 +132,9 @@ pub(crate) fn mark_and_note(
     requires wanted { IsWanted stop.old.pass }
     requires hand { value ≢ 0 → IsInHand stop.old.pass value }
     requires last { IsNoted words.now.config.pages (still_words stop.old.pass) last }
-    ensures on { MarksOn stop.old stop.new }
-    ensures more { MarksMore (still_words stop.old.pass) (still_words stop.new.pass) }
+    ensures marks { MarksAndNotes words.now.config.pages stop.old work.old stop.new work.new }
     ensures well { points_well words.now.config.pages (still_words stop.new.pass) value ≡ true }
     ensures last { IsNoted words.now.config.pages (still_words stop.new.pass) result }
-    ensures noted { AreNoted words.now.config.pages (still_words stop.old.pass) work.old
-        → AreNoted words.now.config.pages (still_words stop.new.pass) work.new }
 {
     let Some(noted) = mark_value(words, stop, work, pages, value) else {
         return last;
@@ -164,11 +151,8 @@ fn mark_apart(words: &Words, stop: &mut Stopped, work: &mut Worklist, pages: u64
     requires pages { pages ≡ words.now.config.pages }
     requires wanted { IsWanted stop.old.pass }
     requires hand { value ≢ 0 → IsInHand stop.old.pass value }
-    ensures on { MarksOn stop.old stop.new }
-    ensures more { MarksMore (still_words stop.old.pass) (still_words stop.new.pass) }
+    ensures marks { MarksAndNotes words.now.config.pages stop.old work.old stop.new work.new }
     ensures well { points_well words.now.config.pages (still_words stop.new.pass) value ≡ true }
-    ensures noted { AreNoted words.now.config.pages (still_words stop.old.pass) work.old
-        → AreNoted words.now.config.pages (still_words stop.new.pass) work.new }
 {
     let noted = mark_value(words, stop, work, pages, value);
     work.extend(noted);
@@ -187,11 +171,8 @@ pub(crate) fn mark_address(
     requires pages { pages ≡ words.now.config.pages }
     requires wanted { IsWanted stop.old.pass }
     requires hand { value ≢ 0 → IsInHand stop.old.pass value }
-    ensures on { MarksOn stop.old stop.new }
-    ensures more { MarksMore (still_words stop.old.pass) (still_words stop.new.pass) }
+    ensures marks { MarksAndNotes words.now.config.pages stop.old work.old stop.new work.new }
     ensures well { points_well words.now.config.pages (still_words stop.new.pass) value ≡ true }
-    ensures noted { AreNoted words.now.config.pages (still_words stop.old.pass) work.old
-        → AreNoted words.now.config.pages (still_words stop.new.pass) work.new }
 {
     if value < HEAP_START {
         return;

@@ -3,8 +3,8 @@ ghost use Rattle.std.specs.Prelude.{◌≡◌, ℕ, ◌+◌, ◌<◌, ◌≤◌,
 ghost use Rattle.mk_core.specs.Cells.{points_well};
 ghost use Rattle.mk_core.specs.Ranges.{is_word};
 ghost use Rattle.mk_core.specs.Words.{named_word, register_word};
-ghost use Rattle.mk_tracing.specs.Grays.{GlobalIsWell, RegistersAreWell, MarksMore, MarksOn, RootsPointWell};
-ghost use Rattle.mk_tracing.specs.Noted.{AreNoted};
+ghost use Rattle.mk_tracing.specs.Grays.{GlobalIsWell, RegistersAreWell, MarksOn, RootsPointWell};
+ghost use Rattle.mk_tracing.specs.Scans.{MarksAndNotes};
 ghost use Rattle.mk_tracing.specs.Stops.{IsWanted, is_root, still_words};
 
 use crate::noting::mark_address;
@@ -30,12 +30,9 @@ fn mark_root(words: &Words, stop: &mut Stopped, work: &mut Worklist, pages: u64,
     requires wanted { IsWanted stop.old.pass }
     requires word { is_word words.now.config x ≡ true }
     requires root { is_root x ≡ true }
-    ensures on { MarksOn stop.old stop.new }
-    ensures more { MarksMore (still_words stop.old.pass) (still_words stop.new.pass) }
+    ensures marks { MarksAndNotes words.now.config.pages stop.old work.old stop.new work.new }
     ensures well { points_well words.now.config.pages (still_words stop.new.pass)
         (named_word (still_words stop.old.pass) x) ≡ true }
-    ensures noted { AreNoted words.now.config.pages (still_words stop.old.pass) work.old
-        → AreNoted words.now.config.pages (still_words stop.new.pass) work.new }
 {
     let value = look_at_root(words, stop, pages, x);
     mark_address(words, stop, work, pages, value);
@@ -46,11 +43,8 @@ fn mark_registers_of(words: &Words, stop: &mut Stopped, work: &mut Worklist, cal
     requires one_table { stop.old.pass.table ≡ words.now }
     requires wanted { IsWanted stop.old.pass }
     requires caller { caller < words.now.config.callers }
-    ensures on { MarksOn stop.old stop.new }
-    ensures more { MarksMore (still_words stop.old.pass) (still_words stop.new.pass) }
+    ensures marks { MarksAndNotes words.now.config.pages stop.old work.old stop.new work.new }
     ensures well { RegistersAreWell words.now.config stop.old.pass stop.new.pass caller }
-    ensures noted { AreNoted words.now.config.pages (still_words stop.old.pass) work.old
-        → AreNoted words.now.config.pages (still_words stop.new.pass) work.new }
 {
     let pages = words.pages();
     for register in 0..REGISTERS {
@@ -62,12 +56,9 @@ fn mark_registers_of(words: &Words, stop: &mut Stopped, work: &mut Worklist, cal
 fn mark_registers(words: &Words, stop: &mut Stopped, work: &mut Worklist)
     requires one_table { stop.old.pass.table ≡ words.now }
     requires wanted { IsWanted stop.old.pass }
-    ensures on { MarksOn stop.old stop.new }
-    ensures more { MarksMore (still_words stop.old.pass) (still_words stop.new.pass) }
+    ensures marks { MarksAndNotes words.now.config.pages stop.old work.old stop.new work.new }
     ensures well { (k : ℕ) → k < words.now.config.callers
         → RegistersAreWell words.now.config stop.old.pass stop.new.pass k }
-    ensures noted { AreNoted words.now.config.pages (still_words stop.old.pass) work.old
-        → AreNoted words.now.config.pages (still_words stop.new.pass) work.new }
 {
     for caller in 0..words.callers() {
         mark_registers_of(words, stop, work, caller);
@@ -98,11 +89,8 @@ fn mark_group(words: &Words, stop: &mut Stopped, work: &mut Worklist, pages: u64
     requires pages { pages ≡ words.now.config.pages }
     requires wanted { IsWanted stop.old.pass }
     requires group { first + 8 ≤ 64 }
-    ensures on { MarksOn stop.old stop.new }
-    ensures more { MarksMore (still_words stop.old.pass) (still_words stop.new.pass) }
+    ensures marks { MarksAndNotes words.now.config.pages stop.old work.old stop.new work.new }
     ensures well { (i : ℕ) → i < 8 → GlobalIsWell words.now.config stop.old.pass stop.new.pass (first + i) }
-    ensures noted { AreNoted words.now.config.pages (still_words stop.old.pass) work.old
-        → AreNoted words.now.config.pages (still_words stop.new.pass) work.new }
 {
     if are_before_heap(words, stop, pages, first) {
         return;
@@ -116,11 +104,8 @@ fn mark_group(words: &Words, stop: &mut Stopped, work: &mut Worklist, pages: u64
 fn mark_globals(words: &Words, stop: &mut Stopped, work: &mut Worklist)
     requires one_table { stop.old.pass.table ≡ words.now }
     requires wanted { IsWanted stop.old.pass }
-    ensures on { MarksOn stop.old stop.new }
-    ensures more { MarksMore (still_words stop.old.pass) (still_words stop.new.pass) }
+    ensures marks { MarksAndNotes words.now.config.pages stop.old work.old stop.new work.new }
     ensures well { (g : ℕ) → g < 64 → GlobalIsWell words.now.config stop.old.pass stop.new.pass g }
-    ensures noted { AreNoted words.now.config.pages (still_words stop.old.pass) work.old
-        → AreNoted words.now.config.pages (still_words stop.new.pass) work.new }
 {
     let pages = words.pages();
     for group in 0..GROUPS {
@@ -133,11 +118,8 @@ fn mark_globals(words: &Words, stop: &mut Stopped, work: &mut Worklist)
 pub fn mark_roots(words: &Words, stop: &mut Stopped, work: &mut Worklist)
     requires one_table { stop.old.pass.table ≡ words.now }
     requires wanted { IsWanted stop.old.pass }
-    ensures on { MarksOn stop.old stop.new }
-    ensures more { MarksMore (still_words stop.old.pass) (still_words stop.new.pass) }
+    ensures marks { MarksAndNotes words.now.config.pages stop.old work.old stop.new work.new }
     ensures roots { RootsPointWell words.now.config.pages (still_words stop.new.pass) }
-    ensures noted { AreNoted words.now.config.pages (still_words stop.old.pass) work.old
-        → AreNoted words.now.config.pages (still_words stop.new.pass) work.new }
 {
     stop.is_in_order();
     mark_registers(words, stop, work);

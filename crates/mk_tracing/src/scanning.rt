@@ -1,9 +1,10 @@
 //! The scan of a gray cell: its words are looked at, and what they point into is marked. Most words are null or small
 //! numbers, so those of a group are looked at together first.
-ghost use Rattle.std.specs.Prelude.{◌≡◌, ℕ, ◌+◌, ◌*◌, ◌/◌, ◌<◌, ◌≤◌, true, IfSome, slice_index};
+ghost use Rattle.std.specs.Prelude.{◌≡◌, ℕ, ◌+◌, ◌*◌, ◌/◌, ◌<◌, ◌≤◌, min, true, IfSome, slice_index};
 ghost use Rattle.mk_core.specs.Cells.{first_word, words_point_well};
-ghost use Rattle.mk_tracing.specs.Grays.{IsDue, MarksMore, MarksOn, WordIsWell};
-ghost use Rattle.mk_tracing.specs.Noted.{AreNoted, IsNoted};
+ghost use Rattle.mk_tracing.specs.Grays.{IsDue, MarksOn};
+ghost use Rattle.mk_tracing.specs.Noted.{IsNoted};
+ghost use Rattle.mk_tracing.specs.Scans.{MarksAndNotes, Scans};
 ghost use Rattle.mk_tracing.specs.Stops.{IsWanted, still_words};
 
 use crate::noted::Noted;
@@ -69,13 +70,8 @@ fn scan_rest(
     requires due { IsDue words.now.config.pages (still_words stop.old.pass) cell size }
     requires few { size ≤ 64 }
     requires one { IsNoted words.now.config.pages (still_words stop.old.pass) noted }
-    ensures on { MarksOn stop.old stop.new }
-    ensures more { MarksMore (still_words stop.old.pass) (still_words stop.new.pass) }
-    ensures well { (i : ℕ) → from ≤ i → i < size
-        → WordIsWell words.now.config stop.old.pass stop.new.pass cell i }
+    ensures scans { Scans words.now.config.pages stop.old work.old stop.new work.new cell from size }
     ensures last { IsNoted words.now.config.pages (still_words stop.new.pass) result }
-    ensures noted { AreNoted words.now.config.pages (still_words stop.old.pass) work.old
-        → AreNoted words.now.config.pages (still_words stop.new.pass) work.new }
 {
     let mut last = noted;
     for i in from..size {
@@ -102,12 +98,8 @@ fn scan_few(
     requires wanted { IsWanted stop.old.pass }
     requires due { IsDue words.now.config.pages (still_words stop.old.pass) cell size }
     requires few { size ≤ 64 }
-    ensures on { MarksOn stop.old stop.new }
-    ensures more { MarksMore (still_words stop.old.pass) (still_words stop.new.pass) }
-    ensures well { (i : ℕ) → i < size → WordIsWell words.now.config stop.old.pass stop.new.pass cell i }
+    ensures scans { Scans words.now.config.pages stop.old work.old stop.new work.new cell 0 size }
     ensures last { IfSome result (IsNoted words.now.config.pages (still_words stop.new.pass)) }
-    ensures noted { AreNoted words.now.config.pages (still_words stop.old.pass) work.old
-        → AreNoted words.now.config.pages (still_words stop.new.pass) work.new }
 {
     for i in 0..size {
         let value = look_at_word(words, stop, pages, cell, size, 0, i);
@@ -140,12 +132,7 @@ fn scan_from(
     requires due { IsDue words.now.config.pages (still_words stop.old.pass) cell size }
     requires within { first + count ≤ size }
     requires part { (i : ℕ) → i < count → part ≡ (first + i) / 64 }
-    ensures on { MarksOn stop.old stop.new }
-    ensures more { MarksMore (still_words stop.old.pass) (still_words stop.new.pass) }
-    ensures well { (i : ℕ) → i < count
-        → WordIsWell words.now.config stop.old.pass stop.new.pass cell (first + i) }
-    ensures noted { AreNoted words.now.config.pages (still_words stop.old.pass) work.old
-        → AreNoted words.now.config.pages (still_words stop.new.pass) work.new }
+    ensures { Scans words.now.config.pages stop.old work.old stop.new work.new cell first (first + count) }
 {
     for i in 0..count {
         let value = look_at_word(words, stop, pages, cell, size, part, first + i);
@@ -171,12 +158,7 @@ fn scan_group(
     requires due { IsDue words.now.config.pages (still_words stop.old.pass) cell size }
     requires group { 8 * group + 8 ≤ size }
     requires part { part ≡ group / 8 }
-    ensures on { MarksOn stop.old stop.new }
-    ensures more { MarksMore (still_words stop.old.pass) (still_words stop.new.pass) }
-    ensures well { (i : ℕ) → i < 8
-        → WordIsWell words.now.config stop.old.pass stop.new.pass cell (8 * group + i) }
-    ensures noted { AreNoted words.now.config.pages (still_words stop.old.pass) work.old
-        → AreNoted words.now.config.pages (still_words stop.new.pass) work.new }
+    ensures { Scans words.now.config.pages stop.old work.old stop.new work.new cell (8 * group) (8 * group + 8) }
 {
     let first = GROUP * group;
     if are_before_heap(words, stop, pages, cell, size, part, first) {
@@ -201,12 +183,8 @@ fn scan_part(
     requires wanted { IsWanted stop.old.pass }
     requires due { IsDue words.now.config.pages (still_words stop.old.pass) cell size }
     requires part { 64 * part ≤ size }
-    ensures on { MarksOn stop.old stop.new }
-    ensures more { MarksMore (still_words stop.old.pass) (still_words stop.new.pass) }
-    ensures well { (i : ℕ) → 64 * part ≤ i → i < 64 * part + 64 → i < 8 * (size / 8)
-        → WordIsWell words.now.config stop.old.pass stop.new.pass cell i }
-    ensures noted { AreNoted words.now.config.pages (still_words stop.old.pass) work.old
-        → AreNoted words.now.config.pages (still_words stop.new.pass) work.new }
+    ensures { Scans words.now.config.pages stop.old work.old stop.new work.new cell (64 * part)
+        (min (64 * part + 64) (8 * (size / 8))) }
 {
     let first = PAGE_GROUPS * part;
     let end = (first + PAGE_GROUPS).min(size / GROUP);
@@ -230,11 +208,8 @@ fn scan_groups(
     requires pages { pages ≡ words.now.config.pages }
     requires wanted { IsWanted stop.old.pass }
     requires due { IsDue words.now.config.pages (still_words stop.old.pass) cell size }
-    ensures on { MarksOn stop.old stop.new }
-    ensures more { MarksMore (still_words stop.old.pass) (still_words stop.new.pass) }
+    ensures marks { MarksAndNotes words.now.config.pages stop.old work.old stop.new work.new }
     ensures well { words_point_well words.now.config.pages (still_words stop.new.pass) cell ≡ true }
-    ensures noted { AreNoted words.now.config.pages (still_words stop.old.pass) work.old
-        → AreNoted words.now.config.pages (still_words stop.new.pass) work.new }
 {
     let last = size / PAGE_WORDS;
     for part in 0..last {
@@ -270,12 +245,9 @@ pub(crate) fn scan(
     requires pages { pages ≡ words.now.config.pages }
     requires wanted { IsWanted stop.old.pass }
     requires due { IsDue words.now.config.pages (still_words stop.old.pass) cell size }
-    ensures on { MarksOn stop.old stop.new }
-    ensures more { MarksMore (still_words stop.old.pass) (still_words stop.new.pass) }
+    ensures marks { MarksAndNotes words.now.config.pages stop.old work.old stop.new work.new }
     ensures well { words_point_well words.now.config.pages (still_words stop.new.pass) cell ≡ true }
     ensures last { IfSome result (IsNoted words.now.config.pages (still_words stop.new.pass)) }
-    ensures noted { AreNoted words.now.config.pages (still_words stop.old.pass) work.old
-        → AreNoted words.now.config.pages (still_words stop.new.pass) work.new }
 {
     if size < GROUP {
         return scan_few(words, stop, work, pages, cell, size);

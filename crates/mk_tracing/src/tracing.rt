@@ -1,8 +1,9 @@
 //! Tracing: every marked cell is scanned and blackened.
 ghost use Rattle.std.specs.Prelude.{◌≡◌, ℕ, ◌<◌, true, IfSome};
 ghost use Rattle.mk_core.specs.StopConditions.{may_turn_black};
-ghost use Rattle.mk_tracing.specs.Grays.{BlackensOne, ColoursMore, HasNoGray, MarksMore, MarksOn};
+ghost use Rattle.mk_tracing.specs.Grays.{BlackensOne, ColoursMore, HasNoGray, MarksOn};
 ghost use Rattle.mk_tracing.specs.Noted.{AreNoted, IsGrayNoted, IsNoted};
+ghost use Rattle.mk_tracing.specs.Scans.{MarksAndNotes};
 ghost use Rattle.mk_tracing.specs.Stops.{IsWanted, still_words};
 
 use crate::grays::next_gray;
@@ -25,12 +26,9 @@ fn scan_if_due(
     requires pages { pages ≡ words.now.config.pages }
     requires wanted { IsWanted stop.old.pass }
     requires gray { IsGrayNoted words.now.config.pages (still_words stop.old.pass) gray }
-    ensures on { MarksOn stop.old stop.new }
-    ensures more { MarksMore (still_words stop.old.pass) (still_words stop.new.pass) }
+    ensures marks { MarksAndNotes words.now.config.pages stop.old work.old stop.new work.new }
     ensures turns { may_turn_black words.now.config.pages (still_words stop.new.pass) gray.cell ≡ true }
     ensures last { IfSome result (IsNoted words.now.config.pages (still_words stop.new.pass)) }
-    ensures noted { AreNoted words.now.config.pages (still_words stop.old.pass) work.old
-        → AreNoted words.now.config.pages (still_words stop.new.pass) work.new }
 {
     if gray.words == 0 {
         return None;

@@ -1,16 +1,14 @@
 -- What the steps of a caller's call find and leave.
-use Rattle.mk_laws.proofs.Vocabulary.{Access, Answer, Bool, Caller, Config, Flight, Group, Host, List, Load, Marker}
-use Rattle.mk_laws.proofs.Vocabulary.{Moment, Named, None, Op, Progress, Seat, Some, Stage, Step, Store, Word, Words}
-use Rattle.mk_laws.proofs.Vocabulary.{World, ℕ, access, accessed, answer_decided, ap, arith, at_rest, begun}
-use Rattle.mk_laws.proofs.Vocabulary.{caller_number, enabled_meets, eq-eqb, false, flight_of, found, get_or-set_other}
-use Rattle.mk_laws.proofs.Vocabulary.{get_or-set_same, group_of, histories_keep_lengths, host_has_turn, if◌then◌else◌}
-use Rattle.mk_laws.proofs.Vocabulary.{is_open_to, is_under_turn, length, ltb-true, ne_eqb, not, one_if, onward}
+use Rattle.mk_laws.proofs.Vocabulary.{Access, Answer, Caller, Config, Flight, Group, Host, Load, Marker, Moment, Named}
+use Rattle.mk_laws.proofs.Vocabulary.{None, Op, Progress, Seat, Some, Stage, Step, Store, Word, ℕ, access, accessed}
+use Rattle.mk_laws.proofs.Vocabulary.{answer_decided, ap, arith, at_rest, begun, caller_number, enabled_meets, eq-eqb}
+use Rattle.mk_laws.proofs.Vocabulary.{flight_of, found, get_or-set_other, get_or-set_same, group_of}
+use Rattle.mk_laws.proofs.Vocabulary.{histories_keep_lengths, is_open_to, length, ltb-true, ne_eqb, one_if, onward}
 use Rattle.mk_laws.proofs.Vocabulary.{progress, progress_reg, refl, reg_access, register_met, register_word}
-use Rattle.mk_laws.proofs.Vocabulary.{seat_exists, slice_index, slice_set, still, subst, sym, true, word_accessed, ◌&&◌}
-use Rattle.mk_laws.proofs.Vocabulary.{◌*◌, ◌++◌, ◌+◌, ◌<◌, ◌==◌, ◌∙◌, ◌≡◌, ◌≢◌, ◌≤◌}
-use Rattle.mk_core.specs.{Calls.progress_cas, Effects.begins_where_free, Effects.moment_behind, HeldGates.is_gate_held}
-use Rattle.mk_core.specs.{Layout.IsOfTable, Order.is_in_order, Readings.is_idle, Readings.is_in_call, Words.with_named}
-use Rattle.mk_core.specs.{Words.word_in, declared.accesses.TableWord.TableWord}
+use Rattle.mk_laws.proofs.Vocabulary.{seat_exists, slice_index, slice_set, still, subst, sym, true, word_accessed, ◌*◌}
+use Rattle.mk_laws.proofs.Vocabulary.{◌++◌, ◌+◌, ◌<◌, ◌==◌, ◌∙◌, ◌≡◌, ◌≢◌, ◌≤◌}
+use Rattle.mk_core.specs.{Calls.progress_cas, Effects.begins_where_free, Effects.moment_behind, Layout.IsOfTable}
+use Rattle.mk_core.specs.{Order.is_in_order, Words.with_named, declared.accesses.TableWord.TableWord}
 use Rattle.mk_laws.proofs.{NextSteps.at_enter, ProtocolHeldGates.gates_tell_holds}
 use Rattle.mk_words.proofs.Made.{made}
 use Rattle.mk_words.specs.CallSteps.{FindsHeld, KeepsOtherRegisters, LeavesRegisters, register_of}
@@ -27,24 +25,16 @@ is_callers Host h = cc
 -- Who may load the register of a call, or grant a New its object, is a caller.
 
 pub loads_to : (p : PassState) → IsEnabledTo p Step.Reg → is_caller p.seat ≡ true
-loads_to p enabled =
-    let (k, is) = is_callers p.seat (enabled_meets p.table.config (now_of p) (event_of p Step.Reg) enabled).kind in
-    ap is_caller is
+loads_to p enabled = grind (arith, is_callers, enabled_meets)
 
 grants : (c : Config) (m : Moment) (s : Seat) → is_open_to s Group.Turn ≡ true → is_in_order c m s Step.Grant ≡ true
     → is_caller s ≡ true
 grants c m (Caller k) opens order = refl
 grants c m (Marker k) opens order = cc
-grants c m Host opens order = no_host (host_has_turn c m) order
-  where
-    no_host : (held : Bool) → (held && false) ≡ true → false ≡ true
-    no_host true order = order
-    no_host false order = order
+grants c m Host opens order = grind arith
 
 pub grants_to : (p : PassState) → IsEnabledTo p Step.Grant → is_caller p.seat ≡ true
-grants_to p enabled =
-    let meets = enabled_meets p.table.config (now_of p) (event_of p Step.Grant) enabled in
-    grants p.table.config (now_of p) p.seat meets.kind meets.order
+grants_to p enabled = grind (arith, enabled_meets, grants)
 
 call_behind : (c : Config) (m : Moment) (seat : Seat) (k : ℕ) (s : Step) → seat ≡ Caller k → k < length m.seats.flights
     → flight_of (moment_behind c m (record { seat = seat; step = s })) seat
@@ -73,15 +63,10 @@ goes p s q m k is =
     let d = made p s q m in
     let n : Moment = moment_of m in
     let same : flight_of n p.seat ≡ call_of p = d.frame.own.flight in
-    let lt : k < length n.seats.flights =
-    subst (λ (i : ℕ). k < i) (sym d.protocol.callers) (caller_exists c p.seat k is d.meets.seat) in
+    let lt : k < length n.seats.flights = grind (arith, caller_exists) in
     record {
       makes = m;
-      call =
-          ap (λ (t : Seat). flight_of (now_of q) t) d.seat
-          ∙ ap (λ (w : World). flight_of w.now p.seat) d.world
-          ∙ call_behind c n p.seat k s is lt
-          ∙ ap (λ (f : Flight). (progress c n f (found_by m) s).flight) same;
+      call = cc (d.seat, d.world, call_behind c n p.seat k s is lt, same);
       answer = answer_behind c n p.seat k s is ∙ ap (λ (f : Flight). (progress c n f (found_by m) s).answer) same;
     }
 
@@ -99,27 +84,19 @@ pub register_behind : (p : PassState) (s : Step) (q : PassState) (m : Makes p s 
     (caller_number p.seat) r
 register_behind p s q m r =
     let d = made p s q m in
-    ap (λ (t : Seat). register_word (now_of q).words (caller_number t) r) d.seat
-    ∙ ap (λ (w : World). register_word w.now.words (caller_number p.seat) r) d.world
+    cc (d.seat, d.world)
 
 -- A step whose access leaves the registers alone leaves those of its seat as the pass knew them.
 pub keeps_registers : (p : PassState) (s : Step) (q : PassState) (m : Makes p s q) → (k : ℕ) → p.seat ≡ Caller k
     → (moment_behind p.table.config (moment_of m) (event_of p s)).words.registers ≡ (moment_of m).words.registers
     → LeavesRegisters p q
 keeps_registers p s q m k is same r lt =
-    register_behind p s q m r
-    ∙ ap (λ (xs : List ℕ). slice_index xs (8 * caller_number p.seat + r)) same
-    ∙ ap (λ (j : ℕ). register_word (moment_of m).words j r) (number_is p.seat k is)
-    ∙ registers_before p s q m k is r lt
-    ∙ sym (ap (λ (j : ℕ). register_word (now_of p).words j r) (number_is p.seat k is))
+    cc (register_behind p s q m r, number_is p.seat k is, registers_before p s q m k is r lt)
 
 -- The same, from what a call says.
-module _ (p : PassState) (s : Step) (n : ℕ) (q : PassState) (t : Tells p s n q)
-    (kind : group_of s ≡ Group.Callers) where
+module _ {p : PassState} {s : Step} {n : ℕ} {q : PassState} (t : Tells p s n q) (kind : group_of s ≡ Group.Callers) where
   pub caller_is : (k : ℕ) × (p.seat ≡ Caller k)
-  caller_is =
-      is_callers p.seat
-      (subst (λ (g : Group). is_open_to p.seat g ≡ true) kind (made p s q t.makes).meets.kind)
+  caller_is = is_callers _ (subst (λ (g : Group). is_open_to p.seat g ≡ true) kind (made p s q t.makes).meets.kind)
 
   pub goes_on : (x : Progress) → progress p.table.config (moment_of t.makes) (call_of p) (found_by t.makes) s ≡ x
       → Goes p s x q
@@ -136,9 +113,7 @@ module _ (p : PassState) (s : Step) (n : ℕ) (q : PassState) (t : Tells p s n q
       → register_word (moment_of t.makes).words (caller_number p.seat) r ≡ register_of p r
   same_register r lt =
       let k = caller_is in
-      ap (λ (j : ℕ). register_word (moment_of t.makes).words j r) (number_is p.seat k.0 k.1)
-      ∙ registers_before p s q t.makes k.0 k.1 r lt
-      ∙ sym (ap (λ (j : ℕ). register_word (now_of p).words j r) (number_is p.seat k.0 k.1))
+      cc (number_is p.seat k.0 k.1, registers_before p s q t.makes k.0 k.1 r lt)
 
   pub register_now : (r : ℕ)
       → register_of q r ≡ register_word (moment_behind p.table.config (moment_of t.makes) (event_of p s)).words
@@ -162,18 +137,17 @@ reg_access_is p q m a same is = ap (λ (f : Flight). reg_access f f.stage) same 
 reg_reaches : (p : PassState) (q : PassState) (m : Makes p Step.Reg q) (r : ℕ)
     → flight_of (moment_of m) p.seat ≡ call_of p → r ≡ register_met (call_of p) (call_of p).stage
     → word_accessed p.table.config (moment_of m) (event_of p Step.Reg) ≡ Named (Word.Reg (caller_number p.seat) r)
-reg_reaches p q m r same is = ap (λ (f : Flight). Named (Word.Reg (caller_number p.seat) (register_met f f.stage))) same
-    ∙ ap (λ (i : ℕ). Named (Word.Reg (caller_number p.seat) i)) (sym is)
+reg_reaches p q m r same is = grind arith
 
 reg_goes : (p : PassState) (q : PassState) (m : Makes p Step.Reg q) (n : ℕ) → n ≡ found_by m
     → progress p.table.config (moment_of m) (call_of p) (found_by m) Step.Reg
     ≡ progress_reg (call_of p) (call_of p).stage n
 reg_goes p q m n is = ap (λ (i : ℕ). progress_reg (call_of p) (call_of p).stage i) (sym is)
 
-module _ (p : PassState) (n : ℕ) (q : PassState) (t : Tells p Step.Reg n q)
-    (r : ℕ) (met : r ≡ register_met (call_of p) (call_of p).stage) where
+module _ {p : PassState} {n : ℕ} {q : PassState} (t : Tells p Step.Reg n q) (r : ℕ)
+    (met : r ≡ register_met (call_of p) (call_of p).stage) where
   same : flight_of (moment_of t.makes) p.seat ≡ call_of p
-  same = same_call p Step.Reg n q t refl
+  same = same_call t refl
 
   reaches : word_accessed p.table.config (moment_of t.makes) (event_of p Step.Reg)
       ≡ Named (Word.Reg (caller_number p.seat) r)
@@ -191,53 +165,43 @@ module _ (p : PassState) (n : ℕ) (q : PassState) (t : Tells p Step.Reg n q)
     load_finds = record { makes = t.makes; finds = found_is }
 
     pub load_goes : Goes p Step.Reg (progress_reg (call_of p) (call_of p).stage n) q
-    load_goes = goes_on p Step.Reg n q t refl _ (reg_goes p q t.makes n found_is)
+    load_goes = goes_on t refl _ (reg_goes p q t.makes n found_is)
 
     pub load_keeps : LeavesRegisters p q
     load_keeps =
-        keeps p Step.Reg n q t refl
-        (ap (λ (a : Access).
+        keeps t refl (ap (λ (a : Access).
         (accessed (moment_of t.makes).words (word_accessed p.table.config (moment_of t.makes) (event_of p Step.Reg))
         a).registers) (reg_access_is p q t.makes Load same loads))
 
     pub load_own : n ≡ register_of p r
-    load_own = found_is ∙ ap (λ (x : TableWord). word_in (moment_of t.makes).words x) reaches
-        ∙ same_register p Step.Reg n q t refl r small
+    load_own = cc (found_is, reaches, same_register t refl r small)
 
   module _ (v : ℕ) (stores : reg_access (call_of p) (call_of p).stage ≡ Store v) where
     words_now : (moment_behind p.table.config (moment_of t.makes) (event_of p Step.Reg)).words
         ≡ with_named (moment_of t.makes).words (Word.Reg (caller_number p.seat) r) v
-    words_now =
-        ap (λ (a : Access). accessed (moment_of t.makes).words
-        (word_accessed p.table.config (moment_of t.makes) (event_of p Step.Reg)) a)
-        (reg_access_is p q t.makes (Store v) same stores)
-        ∙ ap (λ (x : TableWord). accessed (moment_of t.makes).words x (Store v)) reaches
+    words_now = grind (arith, reg_access_is, same, reaches)
 
     register_set : (x : ℕ)
         → register_of q x ≡ slice_index (slice_set (moment_of t.makes).words.registers (8 * caller_number p.seat + r) v)
         (8 * caller_number p.seat + x)
-    register_set x =
-        register_now p Step.Reg n q t refl x
-        ∙ ap (λ (w : Words). register_word w (caller_number p.seat) x) words_now
+    register_set x = cc (register_now t refl x, words_now)
 
     pub store_goes : Goes p Step.Reg (progress_reg (call_of p) (call_of p).stage v) q
-    store_goes =
-        goes_on p Step.Reg n q t refl _
-        (unread (call_of p) (call_of p).stage v (found_by t.makes) stores)
+    store_goes = goes_on t refl _ (unread _ (call_of p).stage v _ stores)
 
     pub store_keeps : KeepsOtherRegisters r p q
     store_keeps x lt ne =
         register_set x
         ∙ get_or-set_other (moment_of t.makes).words.registers (8 * caller_number p.seat + r)
         (8 * caller_number p.seat + x) v 0 (λ e. ne (omega arith))
-        ∙ same_register p Step.Reg n q t refl x lt
+        ∙ same_register t refl x lt
 
     pub store_stored : register_of q r ≡ v
     store_stored =
         register_set r
         ∙ get_or-set_same (moment_of t.makes).words.registers (8 * caller_number p.seat + r) v 0
         (let long = (histories_keep_lengths p.table.config (p.seen ++ t.makes.others)).registers in
-        let k = caller_is p Step.Reg n q t refl in
+        let k = caller_is t refl in
         let number : caller_number p.seat ≡ k.0 = number_is p.seat k.0 k.1 in
         let d = made p Step.Reg q t.makes in
         let within = caller_exists p.table.config p.seat k.0 k.1 d.meets.seat in
@@ -248,55 +212,44 @@ module _ (p : PassState) (n : ℕ) (q : PassState) (t : Tells p Step.Reg n q)
 -- `cas`
 pub cas_goes : (f : Flight) (n found expected : ℕ) → n ≡ found → expected ≡ f.p
     → progress_cas f found ≡ onward f (Some (Answer.Num (one_if (n == expected))))
-cas_goes f n found expected is old =
-    ap (λ (i : ℕ). progress_cas f i) (sym is) ∙ ap (λ (i : ℕ). onward f (Some (Answer.Num (one_if (n == i))))) (sym old)
+cas_goes f n found expected is old = grind arith
 
 -- `enter`
 
 pub begins : (f : Flight) (o : Op) (n found : ℕ) → n ≡ found → n ≡ 0
     → begins_where_free f o found ≡ record { flight = begun o; answer = None }
-begins f o n found is free = ap (λ (b : Bool). if b then record { flight = begun o; answer = None } else still f)
-    (eq-eqb found 0 (sym is ∙ free))
+begins f o n found is free = grind (arith, eq-eqb)
 
 pub waits : (f : Flight) (o : Op) (n found : ℕ) → n ≡ found → n ≢ 0 → begins_where_free f o found ≡ still f
-waits f o n found is held = ap (λ (b : Bool). if b then record { flight = begun o; answer = None } else still f)
-    (ne_eqb found 0 (λ z. held (is ∙ z)))
+waits f o n found is held = grind (arith, ne_eqb)
 
-module _ (p : PassState) (o : Op) (n : ℕ) (q : PassState) (t : Tells p (Step.Enter o) n q) where
+module _ {p : PassState} {o : Op} {n : ℕ} {q : PassState} (t : Tells p (Step.Enter o) n q) where
   pub enter_goes : n ≡ 0 → Goes p (Step.Enter o) (record { flight = begun o; answer = None }) q
-  enter_goes free = goes_on p (Step.Enter o) n q t refl _
-      (begins (call_of p) o n (found_by t.makes) t.tells free)
+  enter_goes free = goes_on t refl _ (begins _ o n _ t.tells free)
 
   pub enter_waits : n ≢ 0 → Goes p (Step.Enter o) (still (call_of p)) q
-  enter_waits held = goes_on p (Step.Enter o) n q t refl _
-      (waits (call_of p) o n (found_by t.makes) t.tells held)
+  enter_waits held = goes_on t refl _ (waits _ o n _ t.tells held)
 
   pub enter_keeps : LeavesRegisters p q
-  enter_keeps = keeps p (Step.Enter o) n q t refl refl
+  enter_keeps = keeps t refl refl
 
   pub enter_held : n ≢ 0 → FindsHeld p o q
   enter_held held =
       let c : Config = p.table.config in
       let d = made p (Step.Enter o) q t.makes in
-      let k = caller_is p (Step.Enter o) n q t refl in
+      let k = caller_is t refl in
       let m : Moment = moment_of t.makes in
       let within : k.0 < c.callers = caller_exists c p.seat k.0 k.1 d.meets.seat in
       let number : caller_number p.seat ≡ k.0 = number_is p.seat k.0 k.1 in
-      let order : is_in_order c m (Caller k.0) (Step.Enter o) ≡ true =
-      subst (λ (s : Seat). is_in_order c m s (Step.Enter o) ≡ true) k.1 d.meets.order in
+      let order : is_in_order c m (Caller k.0) (Step.Enter o) ≡ true = grind arith in
       let idle = (at_enter (flight_of m (Caller k.0)).stage (flight_of m (Caller k.0)).op o order).0 in
       let gate : ℕ = slice_index m.words.gates k.0 in
       let is : n ≡ gate = t.tells ∙ ap (λ (i : ℕ). slice_index m.words.gates i) number in
-      let not_one : gate ≢ 1 = λ one.
-      let calls = (d.protocol.in_call k.0 within).0 one in
-      let rests : is_in_call (flight_of m (Caller k.0)) ≡ false =
-      ap (λ (s : Stage). not (is_idle s) && not (is_under_turn (flight_of m (Caller k.0)).op)) idle in
-      cc in
+      let not_one : gate ≢ 1 = grind arith in
       let least : gate ≤ 2 = d.protocol.gate k.0 within in
       let two : gate ≡ 2 = omega arith in
       record {
         makes = t.makes;
         found = ap (λ (i : ℕ). slice_index m.words.gates i) number ∙ two;
-        held = subst (λ (i : ℕ). is_gate_held c i (p.seen ++ t.makes.others) ≡ true) (sym number)
-            ((gates_tell_holds c (p.seen ++ t.makes.others) k.0).0 two);
+        held = cc (number, (gates_tell_holds c (p.seen ++ t.makes.others) k.0).0 two);
       }

@@ -1,15 +1,12 @@
 -- What is known of a table that has ended.
-use Rattle.std.proofs.{Common.add-one, Common.count_ones, Math.Nat.add-mul-mod_self_left}
+use Rattle.std.proofs.{Common.count_ones, Math.Nat.add-mul-mod_self_left}
 use Rattle.mk_laws.proofs.Vocabulary.{AreOfPages, Config, Event, List, Named, Word, Words, ℕ, ap, arith}
 use Rattle.mk_laws.proofs.Vocabulary.{histories_keep_lengths, left, refl, slice_index, subst, suc, sym, zero, [], ◌%◌}
 use Rattle.mk_laws.proofs.Vocabulary.{◌+◌, ◌<◌, ◌^◌, ◌∙◌, ◌∷◌, ◌≡◌, ◌≤◌}
-use Rattle.mk_page_map.specs.KnownPages.{KnownPages}
 use Rattle.mk_core.proofs.RegionLemmas.{words_stand}
 use Rattle.mk_core.specs.Layout.{IsOfTable, in_order, index_of, index_of_named}
 use Rattle.mk_core.specs.{Words.word_in, declared.accesses.TableWord.TableWord}
-use Rattle.atomic_table.specs.declared.shared.Seat.{Seat as Token}
-use Rattle.mk_words.specs.Finals.{HasTallies, freed_bits_in, freed_cells}
-use Rattle.mk_words.specs.{declared.finals.Final.Final, declared.rule.View.View}
+use Rattle.mk_words.specs.{Finals.HasTallies, Finals.freed_bits_in, Finals.freed_cells, declared.finals.Final.Final}
 use mathlib.Core.Option.{some, some-injective, some-ne-none}
 use lib.ListN.{get_elem?}
 
@@ -21,10 +18,7 @@ found_at (x ∷ l) (suc i) n e = found_at l i n e
 pub one_page_more : (ws : List ℕ) (pages page freed found : ℕ) → freed ≡ freed_bits_in ws pages page
     → found ≡ slice_index ws (index_of_named pages (Word.Quar page))
     → freed + count_ones (found % 2 ^ 32) ≡ freed_bits_in ws pages (page + 1)
-one_page_more ws pages page freed found counted is =
-    ap (λ (n : ℕ). n + count_ones (found % 2 ^ 32)) counted
-    ∙ ap (λ (x : ℕ). freed_bits_in ws pages page + count_ones (x % 2 ^ 32)) is
-    ∙ sym (ap (λ (n : ℕ). freed_bits_in ws pages n) (add-one page))
+one_page_more ws pages page freed found counted is = grind arith
 
 -- the freed bits by the list, and by the words
 
@@ -43,71 +37,31 @@ freed_are pages w (suc n) of le =
 tally_at : (pages : ℕ) (w : Words) (ws : List ℕ) (x : TableWord) (n : ℕ) → AreOfPages pages w → IsOfTable pages x
     → ws ≡ in_order w
     → n ≡ slice_index ws (index_of pages x) → n ≡ word_in w x
-tally_at pages w ws x n of table is at =
-    at ∙ ap (λ (l : List ℕ). slice_index l (index_of pages x)) is
-    ∙ words_stand pages w x of table
+tally_at pages w ws x n of table is at = grind (arith, words_stand)
 
 -- a tally, of which every table has one at the same index
 abbrev last_of : List ℕ → Word → ℕ
 last_of ws tally = slice_index ws (index_of_named 0 tally)
 
-pub tallies_are : (c : Config) (es : List Event) (ws : List ℕ) (held fresh quarantined cycles released full : ℕ)
-    (memory : Token KnownPages View)
-    → ws ≡ in_order (left c es).now.words → held ≡ last_of ws Word.Held → fresh ≡ last_of ws Word.Fresh
-    → quarantined ≡ freed_bits_in ws c.pages c.pages
-    → cycles ≡ last_of ws Word.Cycles → released ≡ last_of ws Word.Released → full ≡ last_of ws Word.Full
-    → HasTallies (left c es).now.words c.pages
-    (record {
-      held = held;
-      fresh = fresh;
-      quarantined = quarantined;
-      cycles = cycles;
-      released = released;
-      full = full;
-      memory = memory;
-    })
-tallies_are c es ws held fresh quarantined cycles released full memory is a b q d e f =
-    let w : Words = (left c es).now.words in
-    let of = histories_keep_lengths c es in
-    record {
-      held = tally_at c.pages w ws (Named Word.Held) held of tt is a;
-      fresh = tally_at c.pages w ws (Named Word.Fresh) fresh of tt is b;
-      quarantined = q ∙ ap (λ (l : List ℕ). freed_bits_in l c.pages c.pages) is
-          ∙ freed_are c.pages w c.pages of (omega arith);
-      cycles = tally_at c.pages w ws (Named Word.Cycles) cycles of tt is d;
-      released = tally_at c.pages w ws (Named Word.Released) released of tt is e;
-      full = tally_at c.pages w ws (Named Word.Full) full of tt is f;
-    }
+-- What was read of the words at the end.
+pub record AreRead (ws : List ℕ) (pages : ℕ) (f : Final) : Type 0 where
+  pub held : f.held ≡ last_of ws Word.Held
+  pub fresh : f.fresh ≡ last_of ws Word.Fresh
+  pub quarantined : f.quarantined ≡ freed_bits_in ws pages pages
+  pub cycles : f.cycles ≡ last_of ws Word.Cycles
+  pub released : f.released ≡ last_of ws Word.Released
+  pub full : f.full ≡ last_of ws Word.Full
+
+tallies_are : (c : Config) (es : List Event) (ws : List ℕ) (f : Final) → ws ≡ in_order (left c es).now.words
+    → AreRead ws c.pages f → HasTallies (left c es).now.words c.pages f
+tallies_are c es ws f is read = grind (arith, histories_keep_lengths, tally_at, freed_are)
 
 -- The same, where a call names the configuration and the list in its own way.
-pub tallies_told : (c of_pass of_words : Config) (es seen : List Event) (ws : List ℕ)
-    (held fresh quarantined cycles released full : ℕ) (memory : Token KnownPages View)
-    → of_pass ≡ c → of_words ≡ c → seen ≡ es → ws ≡ in_order (left c es).now.words → held ≡ last_of ws Word.Held
-    → fresh ≡ last_of ws Word.Fresh
-    → quarantined ≡ freed_bits_in ws c.pages c.pages → cycles ≡ last_of ws Word.Cycles
-    → released ≡ last_of ws Word.Released → full ≡ last_of ws Word.Full
-    → HasTallies (left of_pass seen).now.words of_words.pages
-    (record {
-      held = held;
-      fresh = fresh;
-      quarantined = quarantined;
-      cycles = cycles;
-      released = released;
-      full = full;
-      memory = memory;
-    })
-tallies_told c of_pass of_words es seen ws held fresh quarantined cycles released full memory pass_is words_is seen_is
-    is a b q d e f =
-    let it : Final = record {
-      held = held;
-      fresh = fresh;
-      quarantined = quarantined;
-      cycles = cycles;
-      released = released;
-      full = full;
-      memory = memory;
-    } in
-    subst (λ (x : Config). HasTallies (left x seen).now.words of_words.pages it) (sym pass_is)
-    (subst (λ (x : Config). HasTallies (left c seen).now.words x.pages it) (sym words_is)
-    (subst (λ (l : List Event). HasTallies (left c l).now.words c.pages it) (sym seen_is)
-    (tallies_are c es ws held fresh quarantined cycles released full memory is a b q d e f)))
+pub tallies_told : {c of_pass of_words : Config} {es seen : List Event} {ws : List ℕ} {f : Final} → of_pass ≡ c
+    → of_words ≡ c → seen ≡ es → ws ≡ in_order (left c es).now.words → AreRead ws c.pages f
+    → HasTallies (left of_pass seen).now.words of_words.pages f
+tallies_told {c} {of_pass} {of_words} {es} {seen} {ws} {f} pass_is words_is seen_is is read =
+    subst (λ (x : Config). HasTallies (left x seen).now.words of_words.pages f) (sym pass_is)
+    (subst (λ (x : Config). HasTallies (left c seen).now.words x.pages f) (sym words_is)
+    (subst (λ (l : List Event). HasTallies (left c l).now.words c.pages f) (sym seen_is)
+    (tallies_are c es ws f is read)))

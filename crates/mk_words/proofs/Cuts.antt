@@ -119,21 +119,19 @@ hands_over x v alone has host another early =
             subst (λ (l : List Event). AreEnabled c l) sees.is history.enabled in
             let rest = none_over c (left c v.own.seen) v.own.seats sees.more host sees.of_others
             (enabled_parts c (first_world c) v.own.seen sees.more parts).1 in
-            let none : has_over es ≡ false = ap (λ (l : List Event). has_over l) sees.is
-            ∙ none_in_parts v.own.seen sees.more (early caller) rest in
+            let none : has_over es ≡ false = cc (sees.is, none_in_parts v.own.seen sees.more (early caller) rest) in
             let both : true ≡ false = sym over ∙ none in cc,
       );
     }
 
 pub remembers : (v : View) → Cut v v (copy_of v)
-remembers v =
-    record {
-      stays = λ y h. h;
-      goes = λ y h. cc;
-      alone = λ y h r. cc;
-      sees = λ es mine. (mine, (sees_fewer es v.own [] (λ y h. cc) mine.0, sees_none es));
-      before_over = λ c es history sees before. (before, λ i lt h over. cc);
-    }
+remembers v = record {
+  stays = λ y h. h;
+  goes = λ y h. cc;
+  alone = λ y h r. cc;
+  sees = λ es mine. (mine, (sees_fewer es v.own [] (λ y h. cc) mine.0, sees_none es));
+  before_over = λ c es history sees before. (before, λ i lt h over. cc);
+}
 
 -- where nothing came, its seats are its own
 own_only : (v : View) → v.came ≡ no_part → (x : Seat) → Has (seats_of v) x → Has v.own.seats x

@@ -1,10 +1,10 @@
 -- What a `take` finds: another holder, and then all is as it was; or a free turn, and then the tallies are those of the
 -- counts.
 use Rattle.mk_laws.proofs.Vocabulary.{Bool, Caller, Config, Event, Flight, Holding, Host, IsEnabled, IsTidy, List}
-use Rattle.mk_laws.proofs.Vocabulary.{Marker, Moment, None, Op, Option, Progress, Seat, Some, Step, TalliesAreTidy}
-use Rattle.mk_laws.proofs.Vocabulary.{World, ℕ, ap, at_rest, flight_of, group_of, holder_number, if◌then◌else◌}
-use Rattle.mk_laws.proofs.Vocabulary.{is_open_to, left, ne_eqb, nothing_done, refl, set-get_or, slice_set, subst, sym}
-use Rattle.mk_laws.proofs.Vocabulary.{true, [], ◌++◌, ◌+◌, ◌∙◌, ◌∷◌, ◌≡◌, ◌≢◌}
+use Rattle.mk_laws.proofs.Vocabulary.{Marker, Moment, None, Op, Option, Seat, Some, Step, TalliesAreTidy, World, ℕ, ap}
+use Rattle.mk_laws.proofs.Vocabulary.{at_rest, flight_of, group_of, holder_number, if◌then◌else◌, is_open_to, left}
+use Rattle.mk_laws.proofs.Vocabulary.{ne_eqb, nothing_done, refl, set-get_or, slice_set, subst, sym, true, [], ◌++◌}
+use Rattle.mk_laws.proofs.Vocabulary.{◌+◌, ◌∙◌, ◌∷◌, ◌≡◌, ◌≢◌}
 use Rattle.mk_core.proofs.Conditions.{meets_enabled}
 use Rattle.mk_core.specs.{Counts.TalliesAreExact, Effects.begins_where_free, Order.is_in_order}
 use Rattle.mk_laws.proofs.NextSteps.{at_no_take}
@@ -17,9 +17,7 @@ use Rattle.mk_words.specs.Steps.{IsEnabledTo, Tells, moment_of}
 
 same_flights : (c : Config) (m : Moment) (k : ℕ) (o : Op) (n : ℕ) → n ≢ 0
     → slice_set m.seats.flights k (begins_where_free (flight_of m (Caller k)) o n).flight ≡ m.seats.flights
-same_flights c m k o n some =
-    ap (λ (x : Progress). slice_set m.seats.flights k x.flight) (waits (flight_of m (Caller k)) o n n refl some)
-    ∙ set-get_or m.seats.flights k at_rest
+same_flights c m k o n some = cc (waits (flight_of m (Caller k)) o n n refl some, set-get_or m.seats.flights k at_rest)
 
 missed : (c : Config) (m : Moment) (seat : Seat) (o : Option Op) → is_open_to seat (group_of (Step.Take o)) ≡ true
     → is_in_order c m seat (Step.Take o) ≡ true

@@ -1,9 +1,8 @@
 -- What a page map shows stays while nobody has the turn: no step but a `take` changes a word of a page.
 use Rattle.mk_laws.proofs.Vocabulary.{Config, Event, Holds, IsHistory, List, Moment, Page, Seat, Steady, Step, Words}
-use Rattle.mk_laws.proofs.Vocabulary.{World, ℕ, ap, append-nil, append_assoc, arith, caller_number}
-use Rattle.mk_laws.proofs.Vocabulary.{earlier_part_is_history, enabled_meets, enabled_parts, false, first_world}
-use Rattle.mk_laws.proofs.Vocabulary.{flight_of, header_at, left, left_more, refl, reg_access, register_met, subst, sym}
-use Rattle.mk_laws.proofs.Vocabulary.{true, world_behind, [], ◌++◌, ◌∙◌, ◌∷◌, ◌≡◌}
+use Rattle.mk_laws.proofs.Vocabulary.{World, ℕ, ap, append-nil, append_assoc, arith, earlier_part_is_history}
+use Rattle.mk_laws.proofs.Vocabulary.{enabled_meets, enabled_parts, false, first_world, header_at, left, left_more}
+use Rattle.mk_laws.proofs.Vocabulary.{refl, subst, sym, true, world_behind, [], ◌++◌, ◌∙◌, ◌∷◌, ◌≡◌}
 use Rattle.mk_page_map.specs.{KnownPages.KnownPages, KnownPages.Shows, Members.page_at}
 use Rattle.mk_core.{proofs.Histories.last_enabled, specs.Growing.AreOfOthers}
 use Rattle.mk_laws.proofs.Known.{holds_turn, known_left}
@@ -33,14 +32,13 @@ pub map_stays : (c : Config) (es : List Event) (e : Event) (map : KnownPages) �
     → is_mark e.step ≡ false
     → page_words (Behind c (left c es).now e.seat e.step).words ≡ page_words (left c es).now.words
     → IsMapOf map (left c es).now.words → IsMapOf map (Behind c (left c es).now e.seat e.step).words
-map_stays c es e map h unmarks pages m =
-    record {
-      words = shows_same map (left c es).now.words (Behind c (left c es).now e.seat e.step).words (sym pages) m.words;
-      unmarked = λ page bare cleaned.
-          let was : header_at (left c es).now.words page ≡ 0 =
-          ap (λ (x : PageWords). (page_at x.0 page).header) (sym pages) ∙ bare in
-          stays_bare c es e h unmarks page was (m.unmarked page was cleaned);
-    }
+map_stays c es e map h unmarks pages m = record {
+  words = shows_same map (left c es).now.words (Behind c (left c es).now e.seat e.step).words (sym pages) m.words;
+  unmarked = λ page bare cleaned.
+      let was : header_at (left c es).now.words page ≡ 0 =
+      ap (λ (x : PageWords). (page_at x.0 page).header) (sym pages) ∙ bare in
+      stays_bare c es e h unmarks page was (m.unmarked page was cleaned);
+}
 
 pub map_there : (c : Config) (es : List Event) (e : Event) (map : KnownPages) → IsHistory c (es ++ e ∷ [])
     → is_mark e.step ≡ false
@@ -56,8 +54,7 @@ pub map_left : (c : Config) (es more : List Event) (s : Seat) (map : KnownPages)
     → AreOfOthers (s ∷ []) more → Holds c (left c es).now s → IsMapOf map (left c es).now.words
     → IsMapOf map (left c (es ++ more)).now.words
 unfolding AreOfOthers
-map_left c es [] s map h others holds m =
-    subst (λ (l : List Event). IsMapOf map (left c l).now.words) (sym (append-nil es)) m
+map_left c es [] s map h others holds m = grind (arith, append-nil)
 map_left c es (e ∷ more) s map h others holds m =
     let together : es ++ (e ∷ more) ≡ (es ++ e ∷ []) ++ more = sym (append_assoc es (e ∷ []) more) in
     let both = subst (λ (l : List Event). IsHistory c l) together h in
@@ -92,9 +89,7 @@ pub turn_word_stays : (c : Config) (m : Moment) (seat : Seat) (s : Step) → is_
     → (Behind c m seat s).words.turn ≡ m.words.turn
 turn_word_stays c m seat (Step.Take o) h = cc
 turn_word_stays c m seat Step.Give h = cc
-turn_word_stays c m seat Step.Reg h =
-    (reg_keeps m.words (caller_number seat) (register_met (flight_of m seat) (flight_of m seat).stage)
-    (reg_access (flight_of m seat) (flight_of m seat).stage)).turn
+turn_word_stays c m seat Step.Reg h = grind (arith, reg_keeps)
 turn_word_stays c m seat (Step.Tally n v) h = (tally_keeps m.words n v).turn
 turn_word_stays c m seat _ h = refl
 
@@ -109,8 +104,7 @@ pub free_stays : (c : Config) (es : List Event) (e : Event) → IsHistory c (es 
 free_stays c es e h kind free =
     let w : World = left c es in
     let is : left c (es ++ e ∷ []) ≡ world_behind c w e = left_more c (first_world c) es e in
-    let was : w.now.words.turn ≡ 0 = sym (turn_word_stays c w.now e.seat e.step kind)
-    ∙ (sym (ap (λ (v : World). v.now.words.turn) is) ∙ free) in
+    let was : w.now.words.turn ≡ 0 = grind (arith, turn_word_stays) in
     let known = known_left c es h.within_limits (enabled_parts c (first_world c) es (e ∷ []) h.enabled).0 in
     let meets = enabled_meets c w.now e (last_enabled c (first_world c) es e h.enabled) in
     let move = free_move c w e.seat e.step known was (no_take e.step kind) meets in

@@ -1,8 +1,8 @@
 -- `take` and `give` keep the rule, and hand the page map over.
 use Rattle.std.proofs.Common.{set}
 use Rattle.mk_laws.proofs.Vocabulary.{Config, Event, Holds, IsHistory, List, Op, Option, Seat, Step, TalliesAreTidy}
-use Rattle.mk_laws.proofs.Vocabulary.{World, ℕ, ap, arith, first_world, holder_number, left, left_more, refl}
-use Rattle.mk_laws.proofs.Vocabulary.{slice_index, subst, sym, true, [], ◌++◌, ◌+◌, ◌∙◌, ◌∷◌, ◌≡◌, ◌≢◌}
+use Rattle.mk_laws.proofs.Vocabulary.{World, ℕ, ap, arith, first_world, left, left_more, refl, slice_index, subst, sym}
+use Rattle.mk_laws.proofs.Vocabulary.{true, [], ◌++◌, ◌+◌, ◌∙◌, ◌∷◌, ◌≡◌, ◌≢◌}
 use Rattle.mk_page_map.specs.KnownPages.{KnownPages}
 use Rattle.mk_core.specs.{Cycles.is_give, Words.becomes}
 use Rattle.atomic_table.proofs.Lists.{exchanged, set_here}
@@ -26,22 +26,15 @@ give_event seat = record { seat = seat; step = Step.Give }
 
 taken_turn : (c : Config) (es : List Event) (seat : Seat) (o : Option Op) → (left c es).now.words.turn ≡ 0
     → (left c (es ++ take_event seat o ∷ [])).now.words.turn ≢ 0
-taken_turn c es seat o free =
-    subst (λ (v : World). v.now.words.turn ≢ 0) (sym (left_more c (first_world c) es (take_event seat o)))
-    (exchanged (left c es).now.words.turn 0 (1 + holder_number c seat) (λ (k : ℕ). k ≢ 0) (λ z q. omega arith)
-    (λ ne. absurd (ne free)))
+taken_turn c es seat o free = grind (arith, left_more, take_event, exchanged)
 
 missed_turn : (c : Config) (es : List Event) (seat : Seat) (o : Option Op) → (left c es).now.words.turn ≢ 0
     → (left c (es ++ take_event seat o ∷ [])).now.words.turn ≢ 0
-missed_turn c es seat o held =
-    subst (λ (v : World). v.now.words.turn ≢ 0) (sym (left_more c (first_world c) es (take_event seat o)))
-    (exchanged (left c es).now.words.turn 0 (1 + holder_number c seat) (λ (k : ℕ). k ≢ 0) (λ z q. omega arith)
-    (λ ne. held))
+missed_turn c es seat o held = grind (arith, left_more, take_event, exchanged)
 
 taken_pages : (c : Config) (es : List Event) (seat : Seat) (o : Option Op)
     → page_words (left c (es ++ take_event seat o ∷ [])).now.words ≡ page_words (left c es).now.words
-taken_pages c es seat o =
-    ap (λ (v : World). page_words v.now.words) (left_more c (first_world c) es (take_event seat o))
+taken_pages c es seat o = grind (arith, page_words, left_more, take_event)
 
 given_pages : (c : Config) (es : List Event) (seat : Seat)
     → page_words (left c (es ++ give_event seat ∷ [])).now.words ≡ page_words (left c es).now.words
@@ -70,14 +63,7 @@ says_missed : (me : Mine) (seat : Seat) (o : Option Op) (st : TableStep KnownPag
     (a : Adds (take_event seat o) me.0 found w) (es : List Event) → es ≡ me.0.own.seen ++ a.others
     → (left me.0.config es).now.words.turn ≢ 0
     → takes_map (take_event seat o) st me found (w, me.1)
-says_missed me seat o st found w a es is held =
-    let other : found ≢ 0 =
-    λ z. subst (λ (l : List Event). (left me.0.config l).now.words.turn ≢ 0) is held (sym a.finds ∙ z) in (
-      a,
-      (λ z. absurd {A = (map : KnownPages) × (me.1 ≡ (0, map) ∷ me.1)
-          × IsMapOf map (left w.config w.own.seen).now.words} (other z)),
-      (λ y. refl),
-    )
+says_missed me seat o st found w a es is held = grind arith
 
 -- With a `take` that finds the turn free comes the map.
 pub takes_at : (slots id : ℕ) (me : Mine) (seat : Seat) (o : Option Op) (st : TableStep KnownPages)
@@ -122,9 +108,7 @@ gives_at id me seat map st alone has may tidy holds carried shows stored s k lon
     let still = map_left c me.0.own.seen sees.more seat map
     (subst (λ (l : List Event). IsHistory c l) sees.is k.history) others holds shows in
     let homes : List (Maybe KnownPages) = put_back s.homes me.1 in
-    let there : get_elem? homes 0 ≡ some (some map) =
-    ap (λ (l : List (ℕ × KnownPages)). get_elem? (put_back s.homes l) 0) carried
-    ∙ set_here s.homes 0 (some map) (omega arith) in
+    let there : get_elem? homes 0 ≡ some (some map) = cc (carried, set_here s.homes 0 (some map) (omega arith)) in
     let t = steps_at id me e alone has may (λ g. tidy) none_over s k at homes
     (λ es is h z. (
       map,

@@ -37,12 +37,11 @@ module _ (w : WordsState) (tid pid : TableId) (config key : Config) (me : Mine) 
       → i ≡ index_of config.pages Turn
       → (i < words) × Allows (Kept key) slots id me i (becomes (Store 0)) (λ n m. gives_map picked no_step me 0 m)
   give_call words slots id i map picked order key_is words_are slots_are picked_is may holds carried shows i_is =
-      subst (λ (k : ℕ). (i < words)
-      × Allows (Kept key) k id me i (becomes (Store 0)) (λ n m. gives_map picked no_step me 0 m)) (sym slots_are)
-      (owed_call w p tid pid config key me seat w_is refl one_table words 1 id Step.Give i Turn (Store 0) picked
-      (λ e n m. gives_map e no_step me 0 m) order key_is words_are picked_is may refl refl i_is
-      (λ mine. gives_at id me seat map no_step order.settled order.own (history_more p Step.Give order.history mine)
-      (mine.tidy refl) holds carried shows 0))
+      subst (λ (k : ℕ). (i < words) × Allows (Kept key) k id me i (becomes (Store 0))
+      (λ n m. gives_map picked no_step me 0 m)) (sym slots_are) (owed_call w p tid pid config key me seat w_is refl
+      one_table words 1 id Step.Give i Turn _ picked (λ e n m. gives_map e no_step me 0 m) order key_is words_are
+      picked_is may refl refl i_is (λ mine. gives_at id me seat map no_step order.settled order.own
+      (history_more p Step.Give order.history mine) (mine.tidy refl) holds carried shows 0))
 
 -- the number that a `take` stores is the seat's
 pub take_access : (tid : TableId) (me : Mine) (seat : Seat) (o : Option Op) (number : ℕ) (p : PassState)
@@ -90,15 +89,14 @@ give_order me n seat order on = in_order_still me n seat (give_event seat) on.1.
 
 -- The order of a token rests on its view alone.
 pub order_of_view : (me n : Mine) (seat : Seat) → n.0 ≡ me.0 → IsInOrder me seat → IsInOrder n seat
-order_of_view me n seat same order =
-    record {
-      settled = subst (λ (v : View). v.came ≡ no_part) (sym same) order.settled;
-      own = subst (λ (v : View). Has v.own.seats seat) (sym same) order.own;
-      history = subst (λ (v : View). IsHistory v.config v.own.seen) (sym same) order.history;
-      tidy = subst (λ (v : View). IsTidy v.config v.own.seen) (sym same) order.tidy;
-      before_over = subst (λ (v : View). CallersAreBeforeOver v.config v.own.seats v.own.seen) (sym same)
-          order.before_over;
-    }
+order_of_view me n seat same order = record {
+  settled = subst (λ (v : View). v.came ≡ no_part) (sym same) order.settled;
+  own = subst (λ (v : View). Has v.own.seats seat) (sym same) order.own;
+  history = subst (λ (v : View). IsHistory v.config v.own.seen) (sym same) order.history;
+  tidy = subst (λ (v : View). IsTidy v.config v.own.seen) (sym same) order.tidy;
+  before_over = subst (λ (v : View). CallersAreBeforeOver v.config v.own.seats v.own.seen) (sym same)
+      order.before_over;
+}
 
 -- the slot that a token took, with a map
 

@@ -35,12 +35,11 @@ Apart views = (i j : ℕ) (v w : View) (x : Seat) → get_elem? views i ≡ some
 
 -- one more event, of another
 later : (es : List Event) (p : Part) (e : Event) → (Has p.seats e.seat → ⊥) → Sees es p → Sees (es ++ e ∷ []) p
-later es p e none s =
-    record {
-      more = s.more ++ e ∷ [];
-      is = ap (λ (l : List Event). l ++ e ∷ []) s.is ∙ append_assoc p.seen s.more (e ∷ []);
-      of_others = others_append p.seats s.more (e ∷ []) s.of_others (others_one p.seats e none);
-    }
+later es p e none s = record {
+  more = s.more ++ e ∷ [];
+  is = ap (λ (l : List Event). l ++ e ∷ []) s.is ∙ append_assoc p.seen s.more (e ∷ []);
+  of_others = others_append p.seats s.more (e ∷ []) s.of_others (others_one p.seats e none);
+}
 
 pub sees_all : (seats : List Seat) (es : List Event) → Sees es (part seats es)
 sees_all seats es = record { more = []; is = sym (append-nil es); of_others = others_none seats }
@@ -80,19 +79,12 @@ apart_stays vs id v w at sub apart i j d e x p q hd he =
 changed : (pages : ℕ) (w : Words) (x y : TableWord) (a b : Access) (ws : List ℕ) → AreOfPages pages w
     → IsOfTable pages x → y ≡ x → b ≡ a → ws ≡ in_order w
     → slice_set ws (index_of pages x) (becomes a (slice_index ws (index_of pages x))) ≡ in_order (accessed w y b)
-changed pages w x y a b ws of table yx ba is =
-    subst (λ (vs : List ℕ). slice_set vs (index_of pages x) (becomes a (slice_index vs (index_of pages x)))
-    ≡ in_order (accessed w y b)) (sym is)
-    (sym (accesses_change pages w x a of table)
-    ∙ ap (λ (z : TableWord). in_order (accessed w z a)) (sym yx)
-    ∙ ap (λ (d : Access). in_order (accessed w y d)) (sym ba))
+changed pages w x y a b ws of table yx ba is = cc (is, accesses_change pages w x a of table, yx, ba)
 
 finds : (pages : ℕ) (w : Words) (x y : TableWord) (ws : List ℕ) → AreOfPages pages w → IsOfTable pages x → y ≡ x
     → ws ≡ in_order w
     → slice_index ws (index_of pages x) ≡ word_in w y
-finds pages w x y ws of table yx is =
-    ap (λ (vs : List ℕ). slice_index vs (index_of pages x)) is ∙ words_stand pages w x of table
-    ∙ ap (λ (z : TableWord). word_in w z) (sym yx)
+finds pages w x y ws of table yx is = cc (words_stand pages w x of table)
 
 -- Where the event leaves the turn free, the slot has the map.
 abbrev pub HomesThen : Config → Event → List (Maybe KnownPages) → List Event → Type 0
@@ -133,8 +125,7 @@ steps_at id me e alone has may give home s k at homes there =
     (others_own v.own.seats e.seat more has mine.0.of_others) in
     let tidy : IsTidy c es = subst (λ (l : List Event). IsTidy c l) mine.0.is k.tidy in
     let of = histories_keep_lengths c es in
-    let words : s.words ≡ in_order (left c es).now.words = k.words
-    ∙ ap (λ (l : List Event). in_order (left c l).now.words) mine.0.is in
+    let words : s.words ≡ in_order (left c es).now.words = cc (k.words, mine.0.is) in
     let w : View = record { config = c; own = part v.own.seats (es ++ e ∷ []); came = v.came } in
     let out : Has v.came.seats e.seat
     → ⊥ = λ h. (let n : Has [] e.seat = subst (λ (p : Part). Has p.seats e.seat) alone h in cc) in
@@ -157,11 +148,9 @@ steps_at id me e alone has may give home s k at homes there =
         history = go.history;
         tidy = go.tidy (tidy_more c v.own.seen e (tidy_part c v.own.seen more tidy) give) tidy;
         words =
-            changed c.pages (left c es).now.words (word_accessed c (left c v.own.seen).now e) (word_accessed c
-            (left c es).now e)
-            (access c (left c v.own.seen).now e) (access c (left c es).now e) s.words of go.same.of_the_table
-            go.same.word go.same.access words
-            ∙ sym (ap (λ (x : World). in_order x.now.words) (left_more c (first_world c) es e));
+            changed _ (left c es).now.words (word_accessed c (left c v.own.seen).now e) (word_accessed c (left c es).now
+            e) (access c (left c v.own.seen).now e) (access c (left c es).now e) _ of go.same.of_the_table go.same.word
+            go.same.access words ∙ sym (ap (λ (x : World). in_order x.now.words) (left_more c (first_world c) es e));
         sees = λ j d p. ⊎_elim
             (λ (t : (j ≡ id) × (w ≡ d)). subst (Both (es ++ e ∷ [])) t.1
             (sees_all v.own.seats (es ++ e ∷ []), behind v.came out mine.1))
@@ -186,9 +175,8 @@ steps_at id me e alone has may give home s k at homes there =
           tidy = go.tidy (tidy_more c v.own.seen e (tidy_part c v.own.seen more tidy) give) tidy;
           before_over = own_before;
           finds =
-              finds c.pages (left c es).now.words (word_accessed c (left c v.own.seen).now e) (word_accessed c
-              (left c es).now e)
-              s.words of go.same.of_the_table go.same.word words;
+              finds _ (left c es).now.words (word_accessed c (left c v.own.seen).now e)
+              (word_accessed c (left c es).now e) _ of go.same.of_the_table go.same.word words;
         },
         mine.0.is,
       ),
@@ -305,8 +293,7 @@ closes c id me ws xs all f =
     let on = (enabled_parts c (first_world c) v.own.seen mine.more
     (subst (λ (l : List Event). AreEnabled c l) mine.is k.history.enabled)).1 in
     let no_rest : mine.more ≡ [] = none_left c (left c v.own.seen) v.own.seats mine.more all on mine.of_others in
-    let whole : k.events ≡ v.own.seen = mine.is ∙ ap (λ (l : List Event). v.own.seen ++ l) no_rest
-    ∙ append-nil v.own.seen in
+    let whole : k.events ≡ v.own.seen = cc (mine.is, no_rest, append-nil v.own.seen) in
     record {
       history = subst (λ (l : List Event). IsHistory c l) whole k.history;
       tidy = subst (λ (l : List Event). IsTidy c l) whole k.tidy;

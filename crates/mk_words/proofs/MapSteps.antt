@@ -1,21 +1,20 @@
 -- The page map of a turn is kept in step with what its holder stores.
 use Rattle.mk_laws.proofs.Vocabulary.{Access, Bool, Config, IsHistory, List, Load, Moment, Named, None, Op, Option}
 use Rattle.mk_laws.proofs.Vocabulary.{Page, Seat, Some, Step, Store, Tally, Word, Words, World, ℕ, accessed, ap, arith}
-use Rattle.mk_laws.proofs.Vocabulary.{caller_number, cases_eq, earlier_part_is_history, enabled_meets, false, flight_of}
-use Rattle.mk_laws.proofs.Vocabulary.{free_page, get_or-set_other, get_or-set_same, header_at, histories_keep_lengths}
-use Rattle.mk_laws.proofs.Vocabulary.{inl, inr, length, ltb-true, refl, reg_access, register_met, slice_index}
-use Rattle.mk_laws.proofs.Vocabulary.{slice_set, subst, sym, tally_word, true, [], ◌%◌, ◌++◌, ◌<◌, ◌^◌, ◌∙◌, ◌∷◌, ◌≡◌}
-use Rattle.mk_laws.proofs.Vocabulary.{◌≢◌}
+use Rattle.mk_laws.proofs.Vocabulary.{cases_eq, earlier_part_is_history, enabled_meets, false, free_page}
+use Rattle.mk_laws.proofs.Vocabulary.{get_or-set_other, get_or-set_same, header_at, histories_keep_lengths, inl, inr}
+use Rattle.mk_laws.proofs.Vocabulary.{is_in_range, length, ltb-true, nat_lt, refl, slice_set, subst, sym, tally_word}
+use Rattle.mk_laws.proofs.Vocabulary.{true, [], ◌%◌, ◌++◌, ◌<◌, ◌^◌, ◌∙◌, ◌∷◌, ◌≡◌, ◌≢◌}
 use Rattle.mk_page_map.specs.KnownPages.{KnownPages, Shows, is_uncleaned, with_header, with_used}
 use Rattle.mk_page_map.specs.Members.{IsNext, page_at}
 use Rattle.mk_laws.proofs.SameWords.{Behind}
 use Rattle.mk_words.proofs.FreeTurns.{map_left, map_stays, page_words}
-use Rattle.mk_words.proofs.TurnSteps.{gates_still, still_turn, turn_stays_too}
+use Rattle.mk_words.proofs.TurnSteps.{acts, gates_still, still_turn, turn_stays_too}
 use Rattle.mk_words.proofs.{Made.own_before, Seats.others_own, Unmarked.is_mark, Unmarked.stays_unmarked}
 use Rattle.mk_words.specs.PageMaps.{HasNoMarks, IsMapOf, IsNextUncleaned, is_told}
-use Rattle.mk_words.specs.States.{PassState, event_of, now_of}
+use Rattle.mk_words.specs.States.{PassState, TurnState, call_of, event_of, now_of}
 use Rattle.mk_words.specs.TurnSteps.{Acts, GatesAre, IsTurnWithMap, gates_stay, turn_stays, world_at}
-use Rattle.mk_words.specs.{Steps.IsEnabledTo, declared.homes.Carried.Carried}
+use Rattle.mk_words.specs.{Steps.IsEnabledTo, Steps.Makes, declared.homes.Carried.Carried}
 
 no_mark : (s : Step) → is_told s ≡ false → is_mark s ≡ false
 no_mark (Step.Mark p v) untold = cc
@@ -36,9 +35,7 @@ pages_stay : (c : Config) (m : Moment) (seat : Seat) (s : Step) → is_told s �
 pages_stay c m seat (Step.Head p v) leaves = cc
 pages_stay c m seat (Step.Used p v) leaves = cc
 pages_stay c m seat (Step.Quar p v) leaves = cc
-pages_stay c m seat Step.Reg leaves =
-    reg_pages m.words (caller_number seat) (register_met (flight_of m seat) (flight_of m seat).stage)
-    (reg_access (flight_of m seat) (flight_of m seat).stage)
+pages_stay c m seat Step.Reg leaves = grind (arith, reg_pages)
 pages_stay c m seat (Step.Tally n v) leaves = tally_pages m.words n v
 pages_stay c m seat _ leaves = refl
 
@@ -96,11 +93,7 @@ both true t f = cc
 both false t f = cc
 
 same_marks : (w v : Words) (page : ℕ) → v.marks ≡ w.marks → v.blacks ≡ w.blacks → HasNoMarks w page → HasNoMarks v page
-same_marks w v page marks blacks h =
-    record {
-      unmarked = ap (λ (xs : List ℕ). slice_index xs page) marks ∙ h.unmarked;
-      unscanned = ap (λ (xs : List ℕ). slice_index xs page) blacks ∙ h.unscanned;
-    }
+same_marks w v page marks blacks h = grind arith
 
 -- over plain words
 
@@ -111,8 +104,7 @@ told_header w page v old new told within m =
       words = told.shows w.pages w.freed m.words;
       unmarked = λ number bare cleaned. elim (cases_eq number page) [
         | inl here ↦
-            let lt : page < length w.pages =
-            subst (λ (ps : List Page). page < length ps) m.words.page_by_page within in
+            let lt : page < length w.pages = grind arith in
             let now : Page = record { header = v; used = (page_at w.pages page).used } in
             let free : v ≡ 0 =
             sym (ap (λ (x : Page). x.header) (get_or-set_same w.pages page now free_page lt))
@@ -133,8 +125,7 @@ told_used w page v old new told within m =
     record {
       words = told.shows w.pages w.freed m.words;
       unmarked = λ number bare cleaned.
-          let lt : page < length w.pages =
-          subst (λ (ps : List Page). page < length ps) m.words.page_by_page within in
+          let lt : page < length w.pages = grind arith in
           let now : Page = record { header = (page_at w.pages page).header; used = v } in
           let same : (page_at (with_used w.pages page v) number).header ≡ (page_at w.pages number).header =
           elim (cases_eq number page) [
@@ -150,35 +141,25 @@ told_used w page v old new told within m =
 
 told_mark : (c : Config) (m : Moment) (seat : Seat) (page v : ℕ) (old new : KnownPages) → MarkIsTold old page new
     → IsMapOf old m.words → IsMapOf new (Behind c m seat (Step.Mark page v)).words
-told_mark c m seat page v old new told shows =
-    record {
-      words = told.shows m.words.pages m.words.freed shows.words;
-      unmarked = λ number bare cleaned. elim (cases_eq number page) [
-        | inl here ↦
-            let free : (page_at old.pages page).header ≡ 0 =
-            ap (λ (ps : List Page). (page_at ps page).header) shows.words.page_by_page
-            ∙ ap (λ i. (page_at m.words.pages i).header) (sym here) ∙ bare in
-            both (is_uncleaned new page) (told.marked free) (ap (is_uncleaned new) (sym here) ∙ cleaned)
-        | inr ne ↦
-            stays_unmarked c m seat (Step.Mark page v) number
-            (λ p is same. (let e : page ≡ p = cc in ne (same ∙ sym e)))
-            (shows.unmarked number bare (sym (told.others number ne) ∙ cleaned))
-      ];
-    }
+told_mark c m seat page v old new told shows = record {
+  words = told.shows m.words.pages m.words.freed shows.words;
+  unmarked = λ number bare cleaned. elim (cases_eq number page) [
+    | inl here ↦
+        let free : (page_at old.pages page).header ≡ 0 = grind arith in
+        both (is_uncleaned new page) (told.marked free) (ap (is_uncleaned new) (sym here) ∙ cleaned)
+    | inr ne ↦
+        stays_unmarked c m seat (Step.Mark page v) number
+        (λ p is same. (let e : page ≡ p = cc in ne (same ∙ sym e)))
+        (shows.unmarked number bare (sym (told.others number ne) ∙ cleaned))
+  ];
+}
 
 -- A page that has no marks may be cleaned.
 pub map_cleaned : (w : Words) (page : ℕ) (old new : KnownPages)
     → ((pages : List Page) (freed : List ℕ) → Shows old pages freed → Shows new pages freed)
     → ((number : ℕ) → (number ≡ page → ⊥) → is_uncleaned new number ≡ is_uncleaned old number)
     → HasNoMarks w page → IsMapOf old w → IsMapOf new w
-map_cleaned w page old new shows others none m =
-    record {
-      words = shows w.pages w.freed m.words;
-      unmarked = λ number bare cleaned. elim (cases_eq number page) [
-        | inl here ↦ subst (λ q. HasNoMarks w q) (sym here) none
-        | inr ne ↦ m.unmarked number bare (sym (others number ne) ∙ cleaned)
-      ];
-    }
+map_cleaned w page old new shows others none m = grind arith
 
 -- the steps
 
@@ -223,12 +204,7 @@ shows_mark p page v q a old new told shows =
 -- A mark on a page with a header needn't be told.
 pub untold_mark : (map : KnownPages) (w : Words) (page : ℕ) → header_at w page ≢ 0 → IsMapOf map w
     → MarkIsTold map page map
-untold_mark map w page some shows = record {
-  shows = λ pages freed h. h;
-  marked = λ none. absurd (some
-      (sym (ap (λ (ps : List Page). (page_at ps page).header) shows.words.page_by_page) ∙ none));
-  others = λ number apart. refl;
-}
+untold_mark map w page some shows = grind arith
 
 -- What a map shows it shows by another name too.
 pub shows_that : (w : Words) (map same : KnownPages) → same ≡ map → IsMapOf map w → IsMapOf same w
@@ -237,8 +213,7 @@ shows_that w map same is shows = subst (λ (m : KnownPages). IsMapOf m w) (sym i
 -- What is carried with a turn is carried by another name too.
 pub as_carried : {held : Bool} (p : PassState) (carried same : Carried) → same ≡ carried
     → IsTurnWithMap held p carried.op carried.map → IsTurnWithMap held p same.op same.map
-as_carried {held} p carried same is turn =
-    subst (λ (k : Carried). IsTurnWithMap held p k.op k.map) (sym is) turn
+as_carried {held} p carried same is turn = grind arith
 
 -- A step leaves the turn, where its map shows what is left then, and the gates are as known.
 pub turn_with_map : {held : Bool} (p : PassState) (s : Step) (q : PassState) (a : Acts p s q) (o : Option Op)
@@ -258,6 +233,19 @@ turn_still {held} p s q a o old new stays shows turn =
     turn_with_map p s q a o old new (turn_stays_too s stays)
     (gates_still held (record { pass = p; op = o }) s (record { pass = q; op = o }) a stays turn.gates) shows turn
 
+-- A step of which the map is told, and which leaves the gates.
+pub told_turn : {held : Bool} (p : PassState) (s : Step) (q : PassState) (o : Option Op) (old new : KnownPages)
+    → gates_stay s ≡ true → Makes p s q → IsTurnWithMap held p o old → (Acts p s q → IsMapOf new (now_of q).words)
+    → IsTurnWithMap held q o new
+told_turn p s q o old new stays makes turn shows =
+    let a = acts p s q makes turn.turn.holds in turn_still p s q a o old new stays (shows a) turn
+
+-- What was done in a turn, by another name of it.
+pub acted : {held : Bool} {t v : TurnState} {s : Step} {q : PassState} {o : Option Op} {map : KnownPages} → t ≡ v
+    → IsTurnWithMap held t.pass o map → Makes t.pass s q → Acts v.pass s q
+acted {t = t} {s = s} {q = q} is turn makes =
+    subst (λ (x : TurnState). Acts x.pass s q) is (acts t.pass s q makes turn.turn.holds)
+
 -- The map has all pages of the heap.
 
 pub page_known : (p : PassState) (page : ℕ) (map : KnownPages) → page < p.table.config.pages
@@ -265,33 +253,20 @@ pub page_known : (p : PassState) (page : ℕ) (map : KnownPages) → page < p.ta
 page_known p page map lt shows =
     let long : length (now_of p).words.pages ≡ p.table.config.pages =
     (histories_keep_lengths p.table.config p.seen).pages in
-    let same : length map.pages ≡ length (now_of p).words.pages =
-    ap (λ (l : List Page). length l) shows.words.page_by_page in
+    let same : length map.pages ≡ length (now_of p).words.pages = grind arith in
     omega arith
 
-pub head_known : (p : PassState) (page v : ℕ) (map : KnownPages) → IsEnabledTo p (Step.Head page v)
-    → IsMapOf map (now_of p).words → page < length map.pages
-head_known p page v map on = page_known p page map
-    (ltb-true page p.table.config.pages
-    (enabled_meets p.table.config (now_of p) (event_of p (Step.Head page v)) on).range)
-
-pub used_known : (p : PassState) (page v : ℕ) (map : KnownPages) → IsEnabledTo p (Step.Used page v)
-    → IsMapOf map (now_of p).words → page < length map.pages
-used_known p page v map on = page_known p page map
-    (ltb-true page p.table.config.pages
-    (enabled_meets p.table.config (now_of p) (event_of p (Step.Used page v)) on).range)
-
-pub quar_known : (p : PassState) (page v : ℕ) (map : KnownPages) → IsEnabledTo p (Step.Quar page v)
-    → IsMapOf map (now_of p).words → page < length map.pages
-quar_known p page v map on = page_known p page map
-    (ltb-true page p.table.config.pages
-    (enabled_meets p.table.config (now_of p) (event_of p (Step.Quar page v)) on).range)
-
-pub mark_known : (p : PassState) (page v : ℕ) (map : KnownPages) → IsEnabledTo p (Step.Mark page v)
-    → IsMapOf map (now_of p).words → page < length map.pages
-mark_known p page v map on = page_known p page map
-    (ltb-true page p.table.config.pages
-    (enabled_meets p.table.config (now_of p) (event_of p (Step.Mark page v)) on).range)
+-- So has a page that a step of the turn may name.
+pub told_page : {held : Bool} {t v : TurnState} {carried same : Carried} (s : Step) (page : ℕ)
+    → is_in_range t.pass.table.config t.pass.seat (call_of t.pass) s ≡ nat_lt page t.pass.table.config.pages → t ≡ v
+    → IsEnabledTo v.pass s → same ≡ carried → IsTurnWithMap held t.pass carried.op carried.map
+    → page < length same.map.pages
+told_page {t = t} s page names is on same turn =
+    let here = subst (λ (x : TurnState). IsEnabledTo x.pass s) (sym is) on in
+    page_known t.pass page _
+    (ltb-true page t.pass.table.config.pages
+    (sym names ∙ (enabled_meets t.pass.table.config (now_of t.pass) (event_of t.pass s) here).range))
+    (as_carried t.pass _ _ same turn).shows
 
 -- The next page of those that the map has is the next of the heap's.
 pub next_known : (p : PassState) (passes : ℕ → Bool) (from : ℕ) (next : Option ℕ)

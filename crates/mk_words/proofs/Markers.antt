@@ -1,8 +1,8 @@
 -- What a seat is at as a marker, after its own steps and those of others.
 use Rattle.mk_laws.proofs.Vocabulary.{Caller, Config, Flight, Group, Host, Marker, MarkerState, Moment, Placing, Seat}
-use Rattle.mk_laws.proofs.Vocabulary.{Step, World, ℕ, ap, arith, enabled_meets, flight_of, found, get_or-set_same}
-use Rattle.mk_laws.proofs.Vocabulary.{group_of, holder_number, is_open_to, length, ltb-true, marker_at, marker_behind}
-use Rattle.mk_laws.proofs.Vocabulary.{marker_may, outside, refl, seat_exists, subst, sym, true, ◌<◌, ◌∙◌, ◌≡◌}
+use Rattle.mk_laws.proofs.Vocabulary.{Step, World, ℕ, ap, arith, enabled_meets, found, get_or-set_same, group_of}
+use Rattle.mk_laws.proofs.Vocabulary.{is_open_to, length, ltb-true, marker_at, marker_behind, marker_may, outside, refl}
+use Rattle.mk_laws.proofs.Vocabulary.{seat_exists, subst, sym, true, ◌<◌, ◌∙◌, ◌≡◌}
 use Rattle.mk_core.specs.{Accesses.access_by, Effects.moment_behind}
 use Rattle.mk_words.proofs.Made.{Made, made}
 use Rattle.mk_words.specs.Markers.{Marks, is_markers, marker_in}
@@ -45,9 +45,7 @@ module _ (p : PassState) (s : Step) (n : ℕ) (q : PassState) (t : Tells p s n q
       let c : Config = p.table.config in
       let k = marker_steps p.seat (group_of s) kind d.meets.kind in
       let lt : k.0 < 8 = ltb-true k.0 8 (subst (λ (x : Seat). seat_exists c x ≡ true) k.1 d.meets.seat) in
-      let found_is : n ≡ found_by t.makes = t.tells
-      ∙ told_found c (holder_number c p.seat) (flight_of (now_of p) p.seat) (now_of p).seats.holding.placing
-      (marker_at (now_of p) p.seat) s (found_by t.makes) kind in
+      let found_is : n ≡ found_by t.makes = grind (arith, told_found) in
       record {
         finds = record { makes = t.makes; finds = found_is };
         marker =

@@ -43,31 +43,9 @@ open_elsewhere : (c : Config) (m : Moment) (seat : Seat) (j : ℕ) (gs : List �
     → slice_index gs j ≡ slice_index m.words.gates j
     → MeetsAll c m (record { seat = seat; step = Step.Open j })
     → MeetsAll c (record m { words = record m.words { gates = gs } }) (record { seat = seat; step = Step.Open j })
-open_elsewhere c m (Caller i) j gs same h =
-    record {
-      seat = h.seat;
-      kind = h.kind;
-      order = h.order;
-      range = h.range;
-      gates = ap (λ (n : ℕ). n == 2) same
-          ∙ h.gates;
-      phase = h.phase;
-      marker = h.marker;
-      holder = h.holder;
-    }
+open_elsewhere c m (Caller i) j gs same h = grind arith
 open_elsewhere c m (Marker i) j gs same h = (let kind = h.kind in cc)
-open_elsewhere c m Host j gs same h =
-    record {
-      seat = h.seat;
-      kind = h.kind;
-      order = h.order;
-      range = h.range;
-      gates = ap (λ (n : ℕ). n == 2) same
-          ∙ h.gates;
-      phase = h.phase;
-      marker = h.marker;
-      holder = h.holder;
-    }
+open_elsewhere c m Host j gs same h = grind arith
 
 -- What was seen goes on by others' events and the gate that is opened.
 
@@ -88,15 +66,7 @@ only_append seats (e ∷ es) fs h k = (h.0, only_append seats es fs h.1 k)
 
 pub opens_none : (p : PassState) → Opens p p
 unfolding OnlyOpen
-opens_none p = record {
-  more = [];
-  is = ap (λ (es : List Event). record p { seen = es }) (sym (append-nil p.seen));
-  only = tt;
-  steady = refl;
-  holding = refl;
-  call = refl;
-  counts = record { ends = refl; fulls = refl };
-}
+opens_none p = grind (arith, append-nil)
 
 -- An `open` counts nothing.
 
@@ -108,15 +78,7 @@ open_answers c m Host k = refl
 
 open_counts_nothing : (c : Config) (w : World) (seat : Seat) (k : ℕ)
     → CountsNothing c w (record { seat = seat; step = Step.Open k })
-open_counts_nothing c w seat k =
-    record {
-      alike = record {
-        tallies = record { held = refl; fresh = refl; cycles = refl; released = refl; full = refl };
-        allocations = refl;
-      };
-      no_end = refl;
-      no_full = open_answers c w.now seat k;
-    }
+open_counts_nothing c w seat k = grind (arith, open_answers)
 
 opens_more : (p q r : PassState) (k : ℕ) → Opens p q → Acts q (Step.Open k) r → Opens p r
 opens_more p q r k o a =
@@ -177,8 +139,7 @@ still_may p q k a j other on =
     let meets = open_elsewhere c m p.seat j (slice_set m.words.gates k 0) (get_or-set_other m.words.gates k j 0 0 other)
     (enabled_meets c m e then_on) in
     let now : IsEnabled c (moment_behind c m (event_of p (Step.Open k))) e =
-    subst (λ (n : Moment). IsEnabled c n e) (sym (behind_open c m p.seat k))
-    (meets_enabled c (record m { words = record m.words { gates = slice_set m.words.gates k 0 } }) e meets) in
+    grind (arith, behind_open, meets_enabled) in
     let there : IsEnabled c (now_of q) e = subst (λ (w : World). IsEnabled c w.now e) (sym a.world) now in
     subst (λ (r : PassState). IsEnabled r.table.config (now_of q) (event_of r (Step.Open j))) (sym a.makes.is) there
 
@@ -204,15 +165,12 @@ opened_then p q k j a h = by (cases_eq j k)
     ]
 
     by : (j ≡ k) ⊎ (j ≢ k) → is_held (now_of q).words j ≡ false
-    by (inl same) =
-        ap (λ (xs : List ℕ). slice_index xs j == 2) (gates_behind p q k a)
-        ∙ ap (λ (i : ℕ). slice_index (slice_set gs k 0) i == 2) same ∙ ap (λ (n : ℕ). n == 2) (zero_there gs k)
+    by (inl same) = grind (arith, gates_behind, gs, same, zero_there)
     by (inr other) =
         let free_now : is_held (now_of p).words j ≡ false =
         ⊎_elim (λ (t : is_held (now_of p).words j ≡ false). t) (λ (t : j ≡ k). absurd (other t)) h in
         let free = a.turn.other_gates j (not_held (now_of p).words.gates j free_now) in
-        ap (λ (xs : List ℕ). slice_index xs j == 2) (gates_behind p q k a)
-        ∙ ap (λ (n : ℕ). n == 2) (get_or-set_other gs k j 0 0 other) ∙ ne_eqb (slice_index gs j) 2 free
+        cc (gates_behind p q k a, get_or-set_other gs k j 0 0 other, ne_eqb (slice_index gs j) 2 free)
 
 -- one round, where the gate is opened or the holder's own
 

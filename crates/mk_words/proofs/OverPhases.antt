@@ -1,7 +1,7 @@
 -- The phase says that all is over only after an `over`.
 use Rattle.std.proofs.lemmas.Bool.{true_from_ne_false}
-use Rattle.mk_laws.proofs.Vocabulary.{AreEnabledFrom, Config, Event, List, Step, World, ℕ, arith, false, first_world}
-use Rattle.mk_laws.proofs.Vocabulary.{or_parts, phase_of, sym, world_behind, [], ◌∙◌, ◌∷◌, ◌≡◌, ◌≢◌}
+use Rattle.mk_laws.proofs.Vocabulary.{AreEnabledFrom, Config, Event, List, Step, World, ℕ, arith, false, or_parts}
+use Rattle.mk_laws.proofs.Vocabulary.{phase_of, sym, world_behind, [], ◌∙◌, ◌∷◌, ◌≡◌, ◌≢◌}
 use Rattle.mk_core.specs.History.{left_from}
 use Rattle.mk_laws.proofs.CyclePhases.{moves_phase, phase_behind}
 use Rattle.mk_words.specs.{Laws.EndIsBehindOver, Seats.has_over, Seats.is_over}
@@ -27,6 +27,4 @@ never_over c w (e ∷ es) on none ne =
     (λ h. not_over e.step (phase_of w.now.words) outs.0 ne (sym moves.1 ∙ h))
 
 pub end_is_behind_over : EndIsBehindOver
-end_is_behind_over c es h five =
-    true_from_ne_false (has_over es)
-    (λ none. never_over c (first_world c) es h.enabled none (λ e. absurd (omega arith)) five)
+end_is_behind_over c es h five = grind (arith, true_from_ne_false, never_over)

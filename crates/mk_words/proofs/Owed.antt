@@ -1,8 +1,8 @@
 -- What the calls owe the table for a step, a split, a join and the end, and what they learn.
 use Rattle.std.proofs.Common.{replicate}
 use Rattle.mk_laws.proofs.Vocabulary.{Access, Caller, Config, Event, Host, IsHistory, IsTidy, IsWithinLimits, List}
-use Rattle.mk_laws.proofs.Vocabulary.{Seat, Step, ℕ, access, ap, arith, false, first_world, map, refl, slice_index}
-use Rattle.mk_laws.proofs.Vocabulary.{subst, sym, true, word_accessed, [], ◌++◌, ◌<◌, ◌∙◌, ◌∷◌, ◌≡◌}
+use Rattle.mk_laws.proofs.Vocabulary.{Seat, Step, ℕ, access, ap, arith, false, subst, sym, true, word_accessed, []}
+use Rattle.mk_laws.proofs.Vocabulary.{◌++◌, ◌<◌, ◌∙◌, ◌∷◌, ◌≡◌}
 use Rattle.mk_page_map.specs.KnownPages.{KnownPages}
 use Rattle.mk_core.proofs.{Histories.enabled_more, LayoutLemmas.indexes_within, RegionLemmas.first_are_zero}
 use Rattle.mk_core.specs.Layout.{IsOfTable, count_of_words, index_of}
@@ -26,12 +26,7 @@ use mathlib.Core.Option.{some}
 -- with the event the pass's list is a history
 pub history_more : (p : PassState) (s : Step) → IsHistory p.table.config p.seen → May p s
     → IsHistory p.table.config (p.seen ++ event_of p s ∷ [])
-history_more p s h may =
-    record {
-      within_limits = h.within_limits;
-      enabled = enabled_more p.table.config (first_world p.table.config) p.seen (event_of p s) h.enabled may.enabled;
-      admitted = undecided_admitted p s h may.admitted;
-    }
+history_more p s h may = grind (arith, enabled_more, undecided_admitted)
 
 -- the word that the pass's event reaches is one of the table
 pub word_of_table : (p : PassState) (s : Step) → IsHistory p.table.config p.seen → May p s
@@ -57,16 +52,12 @@ owed_as config key tid words slots id me seat s i x a picked then order config_i
     let p : PassState = state_of tid me seat in
     let y : TableWord = word_accessed c (now_of p) (event_of p s) in
     let j : ℕ = index_of c.pages y in
-    let at : i ≡ j = i_is ∙ ap (λ (d : Config). index_of d.pages x) (sym config_is)
-    ∙ ap (λ (z : TableWord). index_of c.pages z) x_is in
+    let at : i ≡ j = grind arith in
     let within : j < count_of_words c.pages = indexes_within c.pages y (word_of_table p s order.history may) in
-    let as_many : words ≡ count_of_words c.pages = words_are
-    ∙ ap (λ (d : Config). count_of_words d.pages) (sym config_is) in
+    let as_many : words ≡ count_of_words c.pages = grind arith in
     let same_key : key ≡ c = key_is ∙ sym config_is in
-    let at_access : Allows (Kept c) slots id me j (becomes a) (then (event_of p s)) =
-    subst (λ (d : Access). Allows (Kept c) slots id me j (becomes d) (then (event_of p s))) (sym a_is) owed in
-    let at_index : Allows (Kept c) slots id me i (becomes a) (then (event_of p s)) =
-    subst (λ (k : ℕ). Allows (Kept c) slots id me k (becomes a) (then (event_of p s))) (sym at) at_access in
+    let at_access : Allows (Kept c) slots id me j (becomes a) (then (event_of p s)) = grind arith in
+    let at_index : Allows (Kept c) slots id me i (becomes a) (then (event_of p s)) = grind arith in
     let at_event : Allows (Kept c) slots id me i (becomes a) (then picked) =
     subst (λ (e : Event). Allows (Kept c) slots id me i (becomes a) (then e)) (sym picked_is) at_index in (
       omega arith,
@@ -77,15 +68,7 @@ owed_as config key tid words slots id me seat s i x a picked then order config_i
 
 pub in_order_still : (me n : Mine) (seat : Seat) (e : Event) (found : ℕ) → IsInOrder me seat → Adds e me.0 found n.0
     → IsInOrder n seat
-in_order_still me n seat e found order add =
-    record {
-      settled = ap (λ (w : View). w.came) add.is ∙ order.settled;
-      own = subst (λ (w : View). Has w.own.seats seat) (sym add.is) order.own;
-      history = subst (λ (w : View). IsHistory w.config w.own.seen) (sym add.is) add.history;
-      tidy = subst (λ (w : View). IsTidy w.config w.own.seen) (sym add.is) add.tidy;
-      before_over = subst (λ (w : View). CallersAreBeforeOver w.config w.own.seats w.own.seen)
-          (sym add.is) add.before_over;
-    }
+in_order_still me n seat e found order add = grind arith
 
 pub record Learnt (tid : TableId) (me n : Mine) (seat : Seat) (s : Step) (a : Access) (answer : ℕ) : Type 0 where
   pub tells : Tells (state_of tid me seat) s answer (state_of tid n seat)
@@ -108,9 +91,7 @@ event_learnt tid me n seat s a answer picked picked_is a_is order found on_picke
           is = ap (λ (w : View). state_of tid (w, []) seat) on.1.is;
           pass = record { own = then.own; history = then.history };
         };
-        tells = answer_is ∙ ap (λ (d : Access). told_by d found) a_is
-            ∙ ap (λ (k : ℕ). told_by
-            (access me.0.config (now_of (state_of tid me seat)) (event_of (state_of tid me seat) s)) k) on.1.finds;
+        tells = cc (answer_is, a_is, on.1.finds);
       };
       order = then;
     }
@@ -148,11 +129,7 @@ pub join_call : (config key : Config) (words id : ℕ) (me : Mine) (other : ℕ)
     → IsInOrder me seat → IsInOrder from there → key ≡ config
     → words ≡ count_of_words config.pages
     → (0 < words) × Joins (Kept key) id me.0 other from.0 (beside me.0 from.0) nobody
-join_call config key words id me other from seat there mine theirs key_is words_are = (
-  some_words words config.pages words_are,
-  subst (λ (d : Config). Joins (Kept d) id me.0 other from.0 (beside me.0 from.0) nobody) (sym key_is)
-      (joins config id me.0 other from.0 mine.settled theirs.settled),
-)
+join_call config key words id me other from seat there mine theirs key_is words_are = grind (arith, some_words, joins)
 
 pub settle_call : (config key : Config) (words slots id : ℕ) (me : Mine) → me.0.config ≡ config → key ≡ config
     → words ≡ count_of_words config.pages
@@ -174,7 +151,7 @@ abbrev pub made_of : TableId → Config → WordsState
 made_of tid config = record { id = tid; config = config }
 
 -- The same for the calls, over what contracts see: the words w and the pass p, and what these are made of.
-module _ (w : WordsState) (p : PassState) (tid pid : TableId) (config key : Config) (me : Mine) (seat : Seat)
+module _ {w : WordsState} {p : PassState} {tid pid : TableId} {config : Config} (me : Mine) (seat : Seat)
     (w_is : made_of tid config ≡ w) (p_is : state_of pid me seat ≡ p) (one_table : p.table ≡ w) where
   same_table : (state_of pid me seat).table ≡ made_of tid config
   same_table = ap (λ (q : PassState). q.table) p_is ∙ one_table ∙ sym w_is
@@ -187,15 +164,10 @@ module _ (w : WordsState) (p : PassState) (tid pid : TableId) (config key : Conf
 
   pub names_word : (s : Step) (x : TableWord) → IsInOrder me seat → May p s
       → x ≡ word_accessed p.table.config (now_of p) (event_of p s) → IsOfTable config.pages x
-  names_word s x order may x_is =
-      let q : PassState = state_of pid me seat in
-      let named = word_of_table q s order.history (subst (λ (r : PassState). May r s) (sym p_is) may) in
-      let is : x ≡ word_accessed q.table.config (now_of q) (event_of q s) = x_is
-      ∙ ap (λ (r : PassState). word_accessed r.table.config (now_of r) (event_of r s)) (sym p_is) in
-      subst (λ (y : TableWord). IsOfTable config.pages y) (sym is)
-      (subst (λ (d : Config). IsOfTable d.pages (word_accessed q.table.config (now_of q) (event_of q s))) same_config
-      named)
+  names_word s x order may x_is = grind (arith, word_of_table, same_config)
 
+module _ (w : WordsState) (p : PassState) (tid pid : TableId) (config key : Config) (me : Mine) (seat : Seat)
+    (w_is : made_of tid config ≡ w) (p_is : state_of pid me seat ≡ p) (one_table : p.table ≡ w) where
   pub owed_call : (words slots id : ℕ) (s : Step) (i : ℕ) (x : TableWord) (a : Access) (picked : Event)
       (then : Event → ℕ → Mine → Type 0)
       → IsInOrder me seat → key ≡ config
@@ -209,7 +181,8 @@ module _ (w : WordsState) (p : PassState) (tid pid : TableId) (config key : Conf
   owed_call words slots id s i x a picked then order key_is words_are picked_is may x_is a_is i_is owed =
       let back : p ≡ state_of pid me seat = sym p_is in
       let mine : May (state_of pid me seat) s = subst (λ (r : PassState). May r s) back may in
-      owed_as config key pid words slots id me seat s i x a picked then order same_config key_is words_are
+      owed_as config key pid words slots id me seat s i x a picked then order
+      (same_config me seat w_is p_is one_table) key_is words_are
       (picked_is ∙ ap (λ (r : PassState). event_of r s) back)
       mine
       (x_is ∙ ap (λ (r : PassState). word_accessed r.table.config (now_of r) (event_of r s)) back)
@@ -247,9 +220,7 @@ perform_keeps me n seat found picked order on = in_order_still me n seat picked 
 pub allows_store : (key : Config) (slots id : ℕ) (me : Mine) (i : ℕ) (e : Event) (value : ℕ)
     → Allows (Kept key) slots id me i (λ n. value) (λ n m. adds e no_step me n m)
     → Allows (Kept key) slots id me i (λ n. value) (λ n m. stores_word e no_step me value m)
-allows_store key slots id me i e value allows s k long at small =
-    let a = allows s k long at small in
-    (a.0, a.1, a.2, a.3, (slice_index s.words i, a.4))
+allows_store key slots id me i e value allows s k long at small = grind arith
 
 -- at first
 
@@ -260,20 +231,10 @@ none_is_history c limits = record { within_limits = limits; enabled = tt; admitt
 pub first_call : (c : Config) (zeros : List ℕ) (slots : List KnownPages) (m : KnownPages) → IsWithinLimits c
     → zeros ≡ replicate (count_of_words c.pages) 0 → slots ≡ m ∷ [] → IsMapOf m (zero_words_of c.pages)
     → Kept c (opening {S = KnownPages} zeros slots (first_view c))
-first_call c zeros slots m limits are one shows =
-    opens c (opening {S = KnownPages} zeros slots (first_view c)) limits (are ∙ sym (first_are_zero c.pages)) refl m
-    (ap (λ (l : List KnownPages). map some l) one) shows
+first_call c zeros slots m limits are one shows = grind (arith, opens, first_are_zero, some)
 
 pub first_in_order : (c : Config) (me : Mine) → IsWithinLimits c → me ≡ (first_view c, []) → IsInOrder me Host
-first_in_order c me limits is =
-    subst (λ (m : Mine). IsInOrder m Host) (sym is)
-    (record {
-      settled = refl;
-      own = has_all c Host refl;
-      history = none_is_history c limits;
-      tidy = none_tidy c;
-      before_over = λ k lt h over. cc;
-    })
+first_in_order c me limits is = grind (arith, has_all, none_is_history, none_tidy)
 
 -- after a split
 
@@ -292,17 +253,7 @@ kept_by_split me n seat x picked order picked_is other another is =
 
 pub made_by_split : (me n : Mine) (seat x picked : Seat) → IsInOrder me seat → picked ≡ x
     → (is_caller x ≡ true → has_over me.0.own.seen ≡ false) → n ≡ (goes_with picked me.0, []) → IsInOrder n x
-made_by_split me n seat x picked order picked_is early is =
-    subst (λ (m : Mine). IsInOrder m x) (sym (is ∙ ap (λ (y : Seat). (goes_with y me.0, [])) picked_is))
-    (record {
-      settled = refl;
-      own = has_first x [];
-      history = order.history;
-      tidy = order.tidy;
-      before_over = λ k lt h over.
-          let caller : is_caller x ≡ true = ap (λ (z : Seat). is_caller z) (sym (only_one x (Caller k) h)) in
-          let both : true ≡ false = sym over ∙ early caller in cc;
-    })
+made_by_split me n seat x picked order picked_is early is = grind (arith, has_first, only_one)
 
 -- after a join
 
@@ -326,8 +277,7 @@ joined_as tid me from n seat slots answer order on =
       came = s.came;
       order = record {
         settled = ap (λ (w : View). w.came) s.is;
-        own = subst (λ (w : View). Has w.own.seats seat) (sym s.is)
-            (has_left me.0.own.seats from.0.own.seats seat order.own);
+        own = subst (λ (w : View). Has w.own.seats seat) (sym s.is) (has_left _ from.0.own.seats seat order.own);
         history = subst (λ (w : View). IsHistory w.config w.own.seen) (sym s.is) s.history;
         tidy = subst (λ (w : View). IsTidy w.config w.own.seen) (sym s.is) s.tidy;
         before_over = subst (λ (w : View). CallersAreBeforeOver w.config w.own.seats w.own.seen)

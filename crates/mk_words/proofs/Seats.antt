@@ -31,15 +31,13 @@ pub has_later : (x : Seat) (xs : List Seat) (s : Seat) → Has xs s → Has (x �
 has_later x xs s h = ap (λ b. is_same_seat s x || b) h ∙ or_true (is_same_seat s x)
 
 pub has_here : (x : Seat) (xs : List Seat) (s : Seat) → Has (x ∷ xs) s → (s ≡ x) ⊎ Has xs s
-has_here x xs s h = ⊎_elim (λ (t : is_same_seat s x ≡ true). inl (same_seat s x t))
-    (λ (t : is_one_of xs s ≡ true). inr t) (or_cases (is_same_seat s x) (is_one_of xs s) h)
+has_here x xs s h = grind (arith, same_seat, or_cases)
 
 pub has_left : (xs ys : List Seat) (s : Seat) → Has xs s → Has (xs ++ ys) s
 has_left xs ys s h = list_any-append (is_same_seat s) xs ys ∙ ap (λ b. b || is_one_of ys s) h
 
 pub has_right : (xs ys : List Seat) (s : Seat) → Has ys s → Has (xs ++ ys) s
-has_right xs ys s h = list_any-append (is_same_seat s) xs ys ∙ ap (λ b. is_one_of xs s || b) h
-    ∙ or_true (is_one_of xs s)
+has_right xs ys s h = grind (arith, list_any-append, or_true)
 
 pub has_either : (xs ys : List Seat) (s : Seat) → Has (xs ++ ys) s → Has xs s ⊎ Has ys s
 has_either xs ys s h = or_cases (is_one_of xs s) (is_one_of ys s) (sym (list_any-append (is_same_seat s) xs ys) ∙ h)
@@ -62,8 +60,7 @@ without_less x (y ∷ ys) s h = by (is_same_seat x y) (λ u. without_less x ys s
     by : (b : Bool) → (Has (without_seat x ys) s → Has ys s)
         → Has (if b then without_seat x ys else y ∷ without_seat x ys) s → Has (y ∷ ys) s
     by true next h = has_later y ys s (next h)
-    by false next h = ⊎_elim (λ (t : s ≡ y). subst (λ (z : Seat). Has (z ∷ ys) s) t (has_first s ys))
-        (λ (t : Has (without_seat x ys) s). has_later y ys s (next t)) (has_here y (without_seat x ys) s h)
+    by false next h = grind (arith, has_first, has_later, has_here)
 
 pub without_it : (x : Seat) (xs : List Seat) → Has (without_seat x xs) x → ⊥
 without_it x [] h = cc
@@ -72,10 +69,7 @@ without_it x (y ∷ ys) h = by (is_same_seat x y) refl (λ u. without_it x ys u)
     by : (b : Bool) → is_same_seat x y ≡ b → (Has (without_seat x ys) x → ⊥)
         → Has (if b then without_seat x ys else y ∷ without_seat x ys) x → ⊥
     by true is next h = next h
-    by false is next h =
-        ⊎_elim (λ (t : x ≡ y). let e : true
-        ≡ false = sym (subst (λ (z : Seat). is_same_seat x z ≡ true) t (same_self x))
-        ∙ is in cc) (λ (t : Has (without_seat x ys) x). next t) (has_here y (without_seat x ys) x h)
+    by false is next h = grind (arith, same_self, has_here)
 
 pub without_keeps : (x : Seat) (xs : List Seat) (s : Seat) → is_same_seat x s ≡ false → Has xs s
     → Has (without_seat x xs) s
@@ -84,8 +78,7 @@ without_keeps x (y ∷ ys) s ne h = by (is_same_seat x y) refl (λ u. without_ke
   where
     by : (b : Bool) → is_same_seat x y ≡ b → (Has ys s → Has (without_seat x ys) s) → (s ≡ y) ⊎ Has ys s
         → Has (if b then without_seat x ys else y ∷ without_seat x ys) s
-    by true is next (inl t) = let e : false ≡ true = sym ne
-        ∙ subst (λ (z : Seat). is_same_seat x z ≡ true) (sym t) is in cc
+    by true is next (inl t) = grind arith
     by true is next (inr t) = next t
     by false is next (inl t) = subst (λ (z : Seat). Has (z ∷ without_seat x ys) s) t (has_first s (without_seat x ys))
     by false is next (inr t) = has_later y (without_seat x ys) s (next t)
@@ -115,8 +108,7 @@ others_fewer seats fewer (e ∷ es) sub a =
 
 pub others_own : (seats : List Seat) (s : Seat) (es : List Event) → Has seats s → AreOfOthers seats es
     → AreOfOthers (s ∷ []) es
-others_own seats s es has a =
-    others_fewer seats (s ∷ []) es (λ x h. subst (λ (z : Seat). Has seats z) (sym (only_one s x h)) has) a
+others_own seats s es has a = grind (arith, others_fewer, only_one)
 
 pub others_nobody : (es : List Event) → AreOfOthers [] es
 unfolding AreOfOthers
@@ -140,10 +132,6 @@ has_markers (suc n) k lt = elim (cases_eq k n) [
 ]
 
 pub has_all : (c : Config) → HasAll c (all_seats c)
-has_all c (Caller k) h =
-    has_later Host (callers_below c.callers ++ markers_below 8) (Caller k)
-    (has_left (callers_below c.callers) (markers_below 8) (Caller k) (has_callers c.callers k (ltb-true k c.callers h)))
-has_all c (Marker k) h =
-    has_later Host (callers_below c.callers ++ markers_below 8) (Marker k)
-    (has_right (callers_below c.callers) (markers_below 8) (Marker k) (has_markers 8 k (ltb-true k 8 h)))
+has_all c (Caller k) h = grind (arith, has_later, has_left, has_callers, ltb-true)
+has_all c (Marker k) h = grind (arith, has_later, has_right, has_markers, ltb-true)
 has_all c Host h = has_first Host (callers_below c.callers ++ markers_below 8)

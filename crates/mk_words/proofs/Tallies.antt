@@ -1,11 +1,10 @@
 -- An event that counts nothing leaves the tallies what they count.
 use Rattle.std.proofs.lemmas.List.Sums.{sum_by_push}
-use Rattle.mk_laws.proofs.Vocabulary.{Config, Decided, Event, Holding, IsHistory, IsSettled, List, Moment, OfHistories}
-use Rattle.mk_laws.proofs.Vocabulary.{PlacedAllocation, Protocol, TalliesAreTidy, Words, World, ℕ, answer_decided, ap}
-use Rattle.mk_laws.proofs.Vocabulary.{arith, call_decided, caller_number, calls, cond, ends, first_world, flight_of}
-use Rattle.mk_laws.proofs.Vocabulary.{fresh_words_of, has_place, held_by_pages, histories_keep_lengths, in_a_word}
-use Rattle.mk_laws.proofs.Vocabulary.{is_end, left, left_more, ne_eqb, phase_of, refl, subst, sym, unreleased_storage}
-use Rattle.mk_laws.proofs.Vocabulary.{world_behind, [], ◌++◌, ◌+◌, ◌∙◌, ◌∷◌, ◌≡◌}
+use Rattle.mk_laws.proofs.Vocabulary.{Config, Event, Holding, IsHistory, IsSettled, List, Moment, OfHistories}
+use Rattle.mk_laws.proofs.Vocabulary.{PlacedAllocation, Protocol, TalliesAreTidy, Words, World, ℕ, ap, arith, ends}
+use Rattle.mk_laws.proofs.Vocabulary.{first_world, fresh_words_of, has_place, held_by_pages, histories_keep_lengths}
+use Rattle.mk_laws.proofs.Vocabulary.{in_a_word, left, left_more, ne_eqb, phase_of, refl, subst, sym, world_behind, []}
+use Rattle.mk_laws.proofs.Vocabulary.{◌++◌, ◌+◌, ◌∙◌, ◌∷◌, ◌≡◌}
 use Rattle.mk_geom.proofs.HeldWords.{pages_hold_mapped_words}
 use Rattle.mk_core.{proofs.Histories.calls_more, specs.Allocations.held_by_allocations, specs.Counts.TalliesAreExact}
 use Rattle.mk_core.{specs.Counts.full_answers, specs.Counts.releases, specs.History.left_from}
@@ -30,39 +29,26 @@ module _ (c : Config) (es : List Event) (e : Event) (nothing : CountsNothing c (
   same_allocations = sym (ap (λ (w : World). w.allocations) more ∙ nothing.alike.allocations)
 
   pub same_ends : ends es ≡ ends (es ++ e ∷ [])
-  same_ends =
-      let last : cond {A = ℕ} (is_end e.step) 1 0 ≡ 0 = ap (λ b. cond {A = ℕ} b 1 0) nothing.no_end in
-      let pushed : ends (es ++ e ∷ []) ≡ ends es + cond {A = ℕ} (is_end e.step) 1 0 =
-      sum_by_push (λ (x : Event). cond {A = ℕ} (is_end x.step) 1 0) es e in
-      omega arith
+  same_ends = grind (arith, sum_by_push)
 
   pub same_fulls : full_answers c es ≡ full_answers c (es ++ e ∷ [])
-  same_fulls =
-      let ds : List Decided = call_decided c (left c es).now e in
-      let m : Moment = (left c es).now in
-      let last : fulls_of ds ≡ 0 =
-      entry_fulls (caller_number e.seat) (flight_of m e.seat).op (answer_decided c m e) nothing.no_full in
-      let pushed : full_answers c (es ++ e ∷ []) ≡ full_answers c es + fulls_of ds =
-      ap (λ (xs : List Decided). fulls_of xs) (calls_more c (first_world c) es e) ∙ fulls_append (calls c es) ds in
-      omega arith
+  same_fulls = grind (arith, fulls_of, entry_fulls, calls_more, fulls_append)
 
   pub exact_more : TalliesAreExact c es → TalliesAreExact c (es ++ e ∷ [])
-  exact_more exact =
-      record {
-        held = tally (λ (w : Words). w.held) _ nothing.alike.tallies.held exact.held
-            ∙ ap (λ (xs : List PlacedAllocation). held_by_allocations c xs) same_allocations;
-        fresh = tally (λ (w : Words). w.fresh) _ nothing.alike.tallies.fresh exact.fresh
-            ∙ ap (λ (xs : List PlacedAllocation). in_a_word (fresh_words_of c xs)) same_allocations;
-      }
+  exact_more exact = record {
+    held = tally (λ (w : Words). w.held) _ nothing.alike.tallies.held exact.held
+        ∙ ap (λ (xs : List PlacedAllocation). held_by_allocations c xs) same_allocations;
+    fresh = tally (λ (w : Words). w.fresh) _ nothing.alike.tallies.fresh exact.fresh
+        ∙ ap (λ (xs : List PlacedAllocation). in_a_word (fresh_words_of c xs)) same_allocations;
+  }
 
   pub counts_tidy_more : TalliesAreTidy c es → TalliesAreTidy c (es ++ e ∷ [])
-  counts_tidy_more tidy =
-      record {
-        cycles = tally (λ (w : Words). w.cycles) _ nothing.alike.tallies.cycles tidy.cycles ∙ ap in_a_word same_ends;
-        released = tally (λ (w : Words). w.released) _ nothing.alike.tallies.released tidy.released
-            ∙ ap (λ (xs : List PlacedAllocation). in_a_word (releases xs)) same_allocations;
-        full = tally (λ (w : Words). w.full) _ nothing.alike.tallies.full tidy.full ∙ ap in_a_word same_fulls;
-      }
+  counts_tidy_more tidy = record {
+    cycles = tally (λ (w : Words). w.cycles) _ nothing.alike.tallies.cycles tidy.cycles ∙ ap in_a_word same_ends;
+    released = tally (λ (w : Words). w.released) _ nothing.alike.tallies.released tidy.released
+        ∙ ap (λ (xs : List PlacedAllocation). in_a_word (releases xs)) same_allocations;
+    full = tally (λ (w : Words). w.full) _ nothing.alike.tallies.full tidy.full ∙ ap in_a_word same_fulls;
+  }
 
 -- The fresh count of the moment is that of the allocations (as there, too).
 
@@ -94,12 +80,7 @@ fresh_is_told = holds_of_histories FreshIsTold fresh_at_first fresh_kept
 pub settled_tallies : (c : Config) (es : List Event) → IsHistory c es → IsSettled (left c es) → TalliesAreExact c es
     → ((left c es).now.words.held ≡ held_by_pages (left c es).now.words)
     × ((left c es).now.words.fresh ≡ (left c es).now.fresh_words)
-settled_tallies c es h settled exact =
-    let pages = (left c es).now.words.pages in
-    let shown = pages_show_the_storage c es h settled in (
-      exact.held ∙ sym (pages_hold_mapped_words pages (unreleased_storage c (left c es).allocations) shown),
-      exact.fresh ∙ sym (fresh_is_told c es h),
-    )
+settled_tallies c es h settled exact = grind (arith, pages_show_the_storage, pages_hold_mapped_words, fresh_is_told)
 
 -- so they are where nobody holds the turn.
 pub free_tallies : (c : Config) (es : List Event) → IsHistory c es → Protocol c (left c es).now

@@ -1,14 +1,13 @@
 -- What the steps of the turn's holder leave.
 use Rattle.mk_laws.proofs.Vocabulary.{Bool, Caller, Cell, Config, Flight, Holds, Host, List, Marker, Moment, None, Op}
-use Rattle.mk_laws.proofs.Vocabulary.{Option, Progress, Protocol, Seat, Some, Stage, Step, World, Written, ℕ, and_from}
-use Rattle.mk_laws.proofs.Vocabulary.{and_parts, ap, arith, at_rest, caller_number, cell_freed, eq-eqb, eqb-false}
-use Rattle.mk_laws.proofs.Vocabulary.{false, flight_of, found, get_or-set_same, group_of, has_phase, held_by_pages}
-use Rattle.mk_laws.proofs.Vocabulary.{histories_keep_lengths, holder_number, host_has_turn, if◌then◌else◌, is_held}
-use Rattle.mk_laws.proofs.Vocabulary.{is_number_of, is_open_to, length, ltb-true, nat_lt, ne_eqb, not, not-true}
-use Rattle.mk_laws.proofs.Vocabulary.{nothing_done, others_are_held, phase_of, progress, progress_freed, progress_p}
-use Rattle.mk_laws.proofs.Vocabulary.{progress_q, progress_read, progress_reg, refl, reg_access, register_met}
-use Rattle.mk_laws.proofs.Vocabulary.{seat_exists, slice_index, slice_set, subst, suc, sym, true, zero, ◌&&◌, ◌++◌, ◌+◌}
-use Rattle.mk_laws.proofs.Vocabulary.{◌<◌, ◌==◌, ◌||◌, ◌∙◌, ◌≡◌, ◌≢◌, ◌≤◌}
+use Rattle.mk_laws.proofs.Vocabulary.{Option, Progress, Protocol, Seat, Some, Stage, Step, World, ℕ, and_from}
+use Rattle.mk_laws.proofs.Vocabulary.{and_parts, ap, arith, at_rest, cell_freed, eq-eqb, eqb-false, false, flight_of}
+use Rattle.mk_laws.proofs.Vocabulary.{found, get_or-set_same, group_of, has_phase, held_by_pages}
+use Rattle.mk_laws.proofs.Vocabulary.{histories_keep_lengths, holder_number, if◌then◌else◌, is_held, is_number_of}
+use Rattle.mk_laws.proofs.Vocabulary.{is_open_to, length, ltb-true, ne_eqb, not-true, nothing_done, others_are_held}
+use Rattle.mk_laws.proofs.Vocabulary.{phase_of, progress, progress_freed, progress_p, progress_q, progress_read}
+use Rattle.mk_laws.proofs.Vocabulary.{progress_reg, refl, seat_exists, slice_index, slice_set, subst, suc, sym, true}
+use Rattle.mk_laws.proofs.Vocabulary.{zero, ◌++◌, ◌+◌, ◌<◌, ◌==◌, ◌||◌, ◌∙◌, ◌≡◌, ◌≢◌}
 use Rattle.mk_core.specs.{Bounded.all_below, Frames.HoldsAll, Moments.none_is_held, Order.is_in_order}
 use Rattle.mk_laws.proofs.SameWords.{Behind, reg_keeps, tally_keeps}
 use Rattle.mk_laws.proofs.{NextSteps.at_no_take, Protocols.lists_keep_the_protocol}
@@ -16,7 +15,6 @@ use Rattle.mk_words.proofs.CallSteps.{begins, goes}
 use Rattle.mk_words.proofs.{FreeTurns.hands_none, FreeTurns.turn_word_stays, Made.Made, Made.made, Tallies.free_tallies}
 use Rattle.mk_words.specs.States.{PassState, TurnState, call_of, now_of, world_of}
 use Rattle.mk_words.specs.TurnSteps.{Acts, GatesAre, IsFresh, IsTurn, begun_for, gates_stay, op_for, turn_stays}
-use Rattle.mk_words.specs.TurnSteps.{world_at}
 use Rattle.mk_words.specs.Steps.{Finds, Makes, Tells, moment_of}
 
 -- who holds the turn, by the turn word
@@ -50,9 +48,7 @@ gates_are_kept c m seat (Step.Enter o) h = cc
 gates_are_kept c m seat Step.Leave h = cc
 gates_are_kept c m seat (Step.Hold j) h = cc
 gates_are_kept c m seat (Step.Open j) h = cc
-gates_are_kept c m seat Step.Reg h =
-    (reg_keeps m.words (caller_number seat) (register_met (flight_of m seat) (flight_of m seat).stage)
-    (reg_access (flight_of m seat) (flight_of m seat).stage)).gates
+gates_are_kept c m seat Step.Reg h = grind (arith, reg_keeps)
 gates_are_kept c m seat (Step.Tally n v) h = (tally_keeps m.words n v).gates
 gates_are_kept c m seat _ h = refl
 
@@ -143,13 +139,9 @@ module _ (p : PassState) (s : Step) (q : PassState) (m : Makes p s q) where
       let named : (world_of q).now.words.turn ≡ 1 + holder_number c p.seat =
       ap (λ (w : World). w.now.words.turn) d.world ∙ turn_word_stays c (moment_of m) p.seat s (hands_none s stays)
       ∙ holds_named c (moment_of m) p.seat d.protocol (holds_then t.holds) in
-      let holds : Holds c (world_of q).now p.seat =
-      named_holds c (world_of q).now p.seat protocol_now d.meets.seat
-      (holder_is_no_marker c (now_of p) p.seat t.holds) named in
+      let holds : Holds c (world_of q).now p.seat = grind (arith, named_holds, protocol_now, holder_is_no_marker) in
       let same : op_for p.seat (call_of p) ≡ op_for p.seat (flight_of (world_of q).now p.seat) =
-      sym (ap (λ (w : World). op_for p.seat (flight_of w.now p.seat)) d.world
-      ∙ op_behind c (moment_of m) p.seat s d.protocol d.meets.seat stays
-      ∙ ap (λ (f : Flight). op_for p.seat f) d.frame.own.flight) in
+      cc (d.world, op_behind c (moment_of m) p.seat s d.protocol d.meets.seat stays, d.frame.own.flight) in
       record {
         holds = subst (λ (r : PassState). Holds r.table.config (world_of q).now r.seat) (sym m.is) holds;
         op = t.op ∙ same ∙ ap (λ (t : Seat). op_for t (flight_of (world_of q).now t)) (sym d.seat);
@@ -164,9 +156,7 @@ holds_after {p} {s} {q} a stays =
 -- the gates, while they stay
 pub gates_left : (p : PassState) (s : Step) (q : PassState) → Acts p s q → gates_stay s ≡ true
     → HoldsAll p.table.config (now_of p) p.seat → (world_of q).now.words.gates ≡ (now_of p).words.gates
-gates_left p s q a stays all =
-    ap (λ (w : World). w.now.words.gates) a.world ∙ gates_are_kept p.table.config (world_at a.makes).now p.seat s stays
-    ∙ ap (λ (y : Written). y.gates) (a.stop all)
+gates_left p s q a stays all = grind (arith, gates_are_kept)
 
 pub still_stopped : (p : PassState) (s : Step) (q : PassState) → Acts p s q → gates_stay s ≡ true
     → others_are_held p.table.config.callers (now_of p).words p.seat ≡ true
@@ -192,13 +182,9 @@ turn_stays_too s h = h
 pub hold_finds : (p : PassState) (j n : ℕ) (q : PassState) → Tells p (Step.Hold j) n q → n ≢ 0 → n ≡ 1
 hold_finds p j n q t some =
     let d = made p (Step.Hold j) q t.makes in
-    let lt : j < p.table.config.callers =
-    ltb-true j p.table.config.callers
-    (and_parts (nat_lt j p.table.config.callers) (not (is_number_of p.seat j)) d.meets.range).0 in
+    let lt : j < p.table.config.callers = grind (arith, ltb-true, and_parts) in
     let least = d.protocol.gate j lt in
-    let two : slice_index (moment_of t.makes).words.gates j ≢ 2 =
-    eqb-false (slice_index (moment_of t.makes).words.gates j) 2
-    (not-true (slice_index (moment_of t.makes).words.gates j == 2) d.meets.gates) in
+    let two : slice_index (moment_of t.makes).words.gates j ≢ 2 = grind (arith, eqb-false, not-true) in
     let is : n ≡ slice_index (moment_of t.makes).words.gates j = t.tells in
     omega arith
 
@@ -207,8 +193,7 @@ pub hold_holds : (p : PassState) (j n : ℕ) (q : PassState) → Tells p (Step.H
 hold_holds p j n q t none =
     let d = made p (Step.Hold j) q t.makes in
     let c : Config = p.table.config in
-    let lt : j < c.callers =
-    ltb-true j c.callers (and_parts (nat_lt j c.callers) (not (is_number_of p.seat j)) d.meets.range).0 in
+    let lt : j < c.callers = grind (arith, ltb-true, and_parts) in
     let long = (histories_keep_lengths c (p.seen ++ t.makes.others)).gates in
     let few = d.known.small in
     let gs : List ℕ = (moment_of t.makes).words.gates in
@@ -222,19 +207,16 @@ pub hold_misses : (p : PassState) (j n : ℕ) (q : PassState) → Tells p (Step.
 hold_misses p j n q t some =
     let d = made p (Step.Hold j) q t.makes in
     let c : Config = p.table.config in
-    let lt : j < c.callers =
-    ltb-true j c.callers (and_parts (nat_lt j c.callers) (not (is_number_of p.seat j)) d.meets.range).0 in
+    let lt : j < c.callers = grind (arith, ltb-true, and_parts) in
     let long = (histories_keep_lengths c (p.seen ++ t.makes.others)).gates in
     let few = d.known.small in
     let gs : List ℕ = (moment_of t.makes).words.gates in
     let least = d.protocol.gate j lt in
     let two : slice_index gs j ≢ 2 = eqb-false (slice_index gs j) 2 (not-true (slice_index gs j == 2) d.meets.gates) in
     let zero_not : slice_index gs j ≢ 0 = λ z. some (t.tells ∙ z) in
-    ap (λ (w : World). is_held w.now.words j) d.world
-    ∙ ap (λ (x : ℕ). x == 2)
+    ap (λ (w : World). is_held w.now.words j) d.world ∙ ap (λ (x : ℕ). x == 2)
     (get_or-set_same gs j (if slice_index gs j == 0 then 2 else slice_index gs j) 0 (omega arith)
-    ∙ ap (λ (b : Bool). if b then 2 else slice_index gs j) (ne_eqb (slice_index gs j) 0 zero_not))
-    ∙ ne_eqb (slice_index gs j) 2 two
+    ∙ ap (λ (b : Bool). if b then 2 else slice_index gs j) (ne_eqb (slice_index gs j) 0 zero_not)) ∙ ne_eqb _ 2 two
 
 -- `take`
 
@@ -250,15 +232,10 @@ takes_for : (c : Config) (m : Moment) (seat : Seat) (o : Option Op) → is_open_
     → is_in_order c m seat (Step.Take o) ≡ true
     → (is_marker seat ≡ false) × (op_for seat (begun_for o) ≡ o)
 takes_for c m (Caller k) (Some o) kind order = (refl, refl)
-takes_for c m (Caller k) None kind order =
-    absurd (at_no_take (flight_of m (Caller k)).stage (flight_of m (Caller k)).op order)
+takes_for c m (Caller k) None kind order = grind (arith, at_no_take)
 takes_for c m (Marker k) o kind order = cc
 takes_for c m Host None kind order = (refl, refl)
-takes_for c m Host (Some o) kind order = absurd (never (host_has_turn c m) order)
-  where
-    never : (b : Bool) → (b && false) ≡ true → ⊥
-    never true e = cc
-    never false e = cc
+takes_for c m Host (Some o) kind order = grind arith
 
 takes_call : (c : Config) (m : Moment) (seat : Seat) (o : Option Op) → Protocol c m → seat_exists c seat ≡ true
     → is_open_to seat (group_of (Step.Take o)) ≡ true
@@ -268,35 +245,18 @@ takes_call c m (Caller k) (Some o) p exists kind order free =
     let lt : k < length m.seats.flights = subst (λ (i : ℕ). k < i) (sym p.callers) (ltb-true k c.callers exists) in
     get_or-set_same m.seats.flights k _ at_rest lt
     ∙ ap (λ (x : Progress). x.flight) (begins (flight_of m (Caller k)) o m.words.turn m.words.turn refl free)
-takes_call c m (Caller k) None p exists kind order free =
-    absurd (at_no_take (flight_of m (Caller k)).stage (flight_of m (Caller k)).op order)
+takes_call c m (Caller k) None p exists kind order free = grind (arith, at_no_take)
 takes_call c m (Marker k) o p exists kind order free = cc
 takes_call c m Host None p exists kind order free = refl
-takes_call c m Host (Some o) p exists kind order free = absurd (never (host_has_turn c m) order)
-  where
-    never : (b : Bool) → (b && false) ≡ true → ⊥
-    never true e = cc
-    never false e = cc
+takes_call c m Host (Some o) p exists kind order free = grind arith
 
 -- no gate is held while nobody has the turn
 none_held_free : (c : Config) (m : Moment) → Protocol c m → m.words.turn ≡ 0 → none_is_held c.callers m.words ≡ true
-none_held_free c m p free =
-    all_from c.callers (λ j. not (is_held m.words j))
-    (λ k lt. ap not (ne_eqb (slice_index m.words.gates k) 2 (λ two. (p.held k lt two).0 free)))
+none_held_free c m p free = grind (arith, all_from, ne_eqb)
 
 -- nor is a stop on
 free_phase : (c : Config) (m : Moment) → Protocol c m → m.words.turn ≡ 0 → has_phase (phase_of m.words) Step.Give ≡ true
-free_phase c m p free =
-    by (phase_of m.words) p.low (λ (two : 2 ≤ phase_of m.words) (four : phase_of m.words ≤ 4). p.cycle two four free)
-  where
-    by : (n : ℕ) → n ≤ 5 → (2 ≤ n → n ≤ 4 → ⊥) → ((n == 0) || (n == 1) || (n == 5)) ≡ true
-    by zero low out = refl
-    by (suc zero) low out = refl
-    by (suc (suc zero)) low out = absurd (out (omega arith) (omega arith))
-    by (suc (suc (suc zero))) low out = absurd (out (omega arith) (omega arith))
-    by (suc (suc (suc (suc zero)))) low out = absurd (out (omega arith) (omega arith))
-    by (suc (suc (suc (suc (suc zero))))) low out = refl
-    by (suc (suc (suc (suc (suc (suc n)))))) low out = absurd (omega arith)
+free_phase c m p free = grind arith
 
 module _ (p : PassState) (o : Option Op) (n : ℕ) (q : PassState) (t : Tells p (Step.Take o) n q) where
   e : Made p (Step.Take o) q t.makes

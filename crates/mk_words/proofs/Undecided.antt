@@ -1,9 +1,9 @@
 -- A step that decides no call is admitted.
 use Rattle.mk_laws.proofs.Vocabulary.{Answer, AreAdmitted, Bool, Config, Decided, Event, Flight, IsHistory, List}
 use Rattle.mk_laws.proofs.Vocabulary.{Moment, None, Op, Option, Seat, Some, Step, Word, ℕ, answer_decided, ap}
-use Rattle.mk_laws.proofs.Vocabulary.{append-nil, asked, caller_number, calls, cases_Bool, entry_of, false, first_world}
-use Rattle.mk_laws.proofs.Vocabulary.{flight_of, if◌then◌else◌, inl, inr, left, progress, refl, subst, sym, true, []}
-use Rattle.mk_laws.proofs.Vocabulary.{◌++◌, ◌==◌, ◌∙◌, ◌∷◌, ◌≡◌}
+use Rattle.mk_laws.proofs.Vocabulary.{append-nil, asked, caller_number, calls, cases_Bool, entry_of, false, flight_of}
+use Rattle.mk_laws.proofs.Vocabulary.{if◌then◌else◌, inl, inr, left, progress, refl, subst, sym, true, [], ◌++◌, ◌==◌}
+use Rattle.mk_laws.proofs.Vocabulary.{◌∙◌, ◌∷◌, ◌≡◌}
 use Rattle.mk_core.{proofs.Histories.calls_more, specs.Effects.begins_where_free, specs.History.never_first}
 use Rattle.mk_words.specs.{States.PassState, States.event_of, Steps.IsAdmittedTo, Steps.may_decide}
 
@@ -41,10 +41,8 @@ decides_nothing c m Seat.Host x h = refl
 no_more_calls : (c : Config) (es : List Event) (e : Event) → answer_decided c (left c es).now e ≡ None
     → calls c (es ++ e ∷ []) ≡ calls c es
 no_more_calls c es e none =
-    calls_more c (first_world c) es e
-    ∙ ap (λ (a : Option Answer). calls c es ++ entry_of (caller_number e.seat) (flight_of (left c es).now e.seat).op a)
-    none
-    ∙ append-nil (calls c es)
+    calls_more c _ es e ∙ ap (λ (a : Option Answer). calls c es ++ entry_of (caller_number e.seat)
+    (flight_of (left c es).now e.seat).op a) none ∙ append-nil (calls c es)
 
 pub undecided_admitted : (p : PassState) (s : Step) → IsHistory p.table.config p.seen
     → (may_decide s ≡ true → IsAdmittedTo p s) → IsAdmittedTo p s

@@ -2,20 +2,19 @@
 use Rattle.mk_laws.proofs.Vocabulary.{Block, Bool, Caller, Cell, Config, Event, Free, Group, Header, Host, IsHistory}
 use Rattle.mk_laws.proofs.Vocabulary.{IsMarking, Later, LeafBlock, LeafRun, List, Marker, MarkerStands, MarkerState}
 use Rattle.mk_laws.proofs.Vocabulary.{Moment, None, Option, Run, RunPages, Scan, Seat, SeenHeader, Some, Step, Words, ℕ}
-use Rattle.mk_laws.proofs.Vocabulary.{and_parts, ap, arith, cases_Bool, cases_eq, cases_lt, cell_at, cell_seen}
-use Rattle.mk_laws.proofs.Vocabulary.{cells_under, earlier_part_is_history, enabled_meets, eqb-true, false, first_world}
+use Rattle.mk_laws.proofs.Vocabulary.{and_parts, ap, arith, cases_eq, cases_lt, cell_at, cell_seen}
+use Rattle.mk_laws.proofs.Vocabulary.{earlier_part_is_history, enabled_meets, eqb-true, false, first_world}
 use Rattle.mk_laws.proofs.Vocabulary.{get_or-set_other, get_or-set_same, group_of, header_at, header_in, header_of}
 use Rattle.mk_laws.proofs.Vocabulary.{if◌then◌else◌, inl, inr, is_attending, is_none, is_scanned, is_some, left, length}
-use Rattle.mk_laws.proofs.Vocabulary.{ltb-true, marker_at, marker_of, none_attends, not, page_at_address, phase_of}
-use Rattle.mk_laws.proofs.Vocabulary.{refl, run_headed, scan_page, seen_page, set_past, slice_index, slice_set, subst}
-use Rattle.mk_laws.proofs.Vocabulary.{suc, sym, true, true≢false, zero, [], ◌&&◌, ◌++◌, ◌-◌, ◌==◌, ◌^◌, ◌∙◌, ◌∷◌, ◌≡◌}
-use Rattle.mk_laws.proofs.Vocabulary.{◌≢◌}
+use Rattle.mk_laws.proofs.Vocabulary.{ltb-true, marker_at, marker_of, not, page_at_address, phase_of, refl, run_headed}
+use Rattle.mk_laws.proofs.Vocabulary.{scan_page, seen_page, set_past, slice_index, slice_set, subst, suc, sym, true}
+use Rattle.mk_laws.proofs.Vocabulary.{zero, [], ◌&&◌, ◌++◌, ◌-◌, ◌==◌, ◌∙◌, ◌∷◌, ◌≡◌, ◌≢◌}
 use Rattle.mk_geom.specs.Addresses.{cell_under, word_at_address}
 use Rattle.mk_core.proofs.{Histories.last_enabled, PointedPages.found_under, PointedPages.lies_under}
 use Rattle.mk_core.specs.StopConditions.{blackens, may_black, may_turn_black}
 use Rattle.mk_core.specs.{Bounded.all_below, Cells.pointed_cell, Readings.WordsTellWhatStands}
 use Rattle.mk_laws.proofs.Actors.{Actor, AsHolder, AsMarker, CallTakes, HostTakes, InCallOf, Meets}
-use Rattle.mk_laws.proofs.Changes.{Table, reg_table, tally_table}
+use Rattle.mk_laws.proofs.Changes.{reg_table, tally_table}
 use Rattle.mk_laws.proofs.InvariantHistories.{histories_keep_the_invariant}
 use Rattle.mk_laws.proofs.{IdleMarkers.work_attends, Known.Known, Known.known_left, OrderlyLists.actor_of}
 use Rattle.mk_laws.proofs.{ReadingsStands.headers_and_quarantine_tell, SameWords.Behind, Views.HoldsTurn, Views.view_of}
@@ -59,20 +58,10 @@ stays_unmarked c m seat Step.Mmark q other h =
     record { unmarked = elsewhere m.words.marks _ q _ (other _ refl) h.unmarked; unscanned = h.unscanned }
 stays_unmarked c m seat Step.Mblack q other h =
     record { unmarked = h.unmarked; unscanned = elsewhere m.words.blacks _ q _ (other _ refl) h.unscanned }
-stays_unmarked c m seat (Step.Clear p) q other h =
-    record { unmarked = cleared m.words.marks p q h.unmarked; unscanned = h.unscanned }
-stays_unmarked c m seat (Step.Unblack p) q other h =
-    record { unmarked = h.unmarked; unscanned = cleared m.words.blacks p q h.unscanned }
-stays_unmarked c m seat Step.Reg q other h =
-    record {
-      unmarked = ap (λ (t : Table). slice_index t.marks q) (reg_table c m seat) ∙ h.unmarked;
-      unscanned = ap (λ (t : Table). slice_index t.blacks q) (reg_table c m seat) ∙ h.unscanned;
-    }
-stays_unmarked c m seat (Step.Tally n v) q other h =
-    record {
-      unmarked = ap (λ (t : Table). slice_index t.marks q) (tally_table m.words n v) ∙ h.unmarked;
-      unscanned = ap (λ (t : Table). slice_index t.blacks q) (tally_table m.words n v) ∙ h.unscanned;
-    }
+stays_unmarked c m seat (Step.Clear p) q other h = grind (arith, cleared)
+stays_unmarked c m seat (Step.Unblack p) q other h = grind (arith, cleared)
+stays_unmarked c m seat Step.Reg q other h = grind (arith, reg_table)
+stays_unmarked c m seat (Step.Tally n v) q other h = grind (arith, tally_table)
 stays_unmarked c m seat _ q other h = record { unmarked = h.unmarked; unscanned = h.unscanned }
 
 -- A page on which cells are marked or blackened has a header.
@@ -80,15 +69,7 @@ stays_unmarked c m seat _ q other h = record { unmarked = h.unmarked; unscanned 
 -- what the holder blackens
 black_none : (c : Config) (w : Words) (p v k : ℕ) → header_at w p ≡ 0 → not (blackens c.pages w p v k) ≡ true
 unfolding may_turn_black
-black_none c w p v k bare = elim (cases_Bool (blackens c.pages w p v k)) [
-  | inr none ↦ ap not none
-  | inl some ↦
-      let turns = (and_parts (v == 2 ^ k) (may_turn_black c.pages w (record { page = p; index = k })) some).1 in
-      let within = (and_parts _ _ (and_parts _ _ turns).0).0 in
-      let none : cells_under (header_in w p) ≡ 0 = ap (λ h. cells_under (header_of h)) bare in
-      let lt = ltb-true k (cells_under (header_in w p)) within in
-      absurd (omega arith)
-]
+black_none c w p v k bare = grind (arith, and_parts, ltb-true)
 
 none_below : (n : ℕ) (test : ℕ → Bool) → ((k : ℕ) → test k ≡ true) → all_below n test ≡ true
 unfolding all_below
@@ -96,19 +77,13 @@ none_below zero test all = refl
 none_below (suc n) test all = ap (λ b. b && test n) (none_below n test all) ∙ all n
 
 black_has_header : (c : Config) (m : Moment) (p v : ℕ) → may_black c m p v ≡ true → header_at m.words p ≢ 0
-black_has_header c m p v may bare =
-    let some = (and_parts (none_attends m.seats.markers)
-    (not (all_below 32 (λ k. not (blackens c.pages m.words p v k)))) may).1 in
-    let none : all_below 32 (λ k. not (blackens c.pages m.words p v k)) ≡ true =
-    none_below 32 (λ k. not (blackens c.pages m.words p v k)) (λ k. black_none c m.words p v k bare) in
-    true≢false (sym some ∙ ap not none)
+black_has_header c m p v may bare = grind (arith, and_parts, none_below, black_none)
 
 -- the page of the cell that a header shows
 free_there : (w : Words) (page : ℕ) (cell : Cell) (h : Header) → header_in w page ≡ Some h → cell.page ≡ page
     → header_at w cell.page ≡ 0
     → Some Free ≡ Some h
-free_there w page cell h shown same bare =
-    sym (ap (λ n. header_of n) bare) ∙ ap (λ q. header_in w q) same ∙ shown
+free_there w page cell h shown same bare = grind arith
 
 cell_has_header : (w : Words) (page word : ℕ) (cell : Cell) (h : Header)
     → ((distance : ℕ) (mapped : Bool) → header_in w page ≡ Some (Later distance mapped)
@@ -120,8 +95,7 @@ cell_has_header w page word cell (Later distance mapped) later shown is bare =
     let run = later distance mapped shown in
     let free : header_in w (page - distance) ≡ Some Free =
     ap (λ q. header_in w q) (sym lies.head) ∙ ap (λ n. header_of n) bare in
-    let none : None ≡ Some run.0 =
-    ap (λ o. run_headed o (page - distance)) (sym free) ∙ run.1 in
+    let none : None ≡ Some run.0 = ap (λ o. run_headed o (page - distance)) (sym free) ∙ run.1 in
     cc
 cell_has_header w page word cell (Block class) later shown is bare =
     let e : Some Free ≡ Some (Block class) =
@@ -156,15 +130,7 @@ seen_where c (Some s) (Some v) is = by (s.page == page_at_address v) refl is
             → (t : SeenHeader) × (u : ℕ) × (cell : Cell) × (Some s ≡ Some t) × (t.page ≡ page_at_address u)
             × (cell_at c.pages t.header u ≡ Some cell) × (cell_seen c (Some s) (Some v) ≡ Some cell)
         found None shows some = cc
-        found (Some cell) shows some = (
-          s,
-          v,
-          cell,
-          refl,
-          eqb-true s.page (page_at_address v) at,
-          shows,
-          ap (λ b. if b then cell_at c.pages s.header v else None) at ∙ shows,
-        )
+        found (Some cell) shows some = grind (arith, eqb-true)
 seen_where c (Some s) None is = cc
 seen_where c None hand is = cc
 
@@ -212,26 +178,18 @@ module _ (c : Config) (es : List Event) (h : IsHistory c es) where
   pub pointed_has_header : (value : ℕ) (cell : Cell) → phase_of m.words ≢ 4
       → pointed_cell c.pages m.words.pages value ≡ Some cell → header_at m.words cell.page ≢ 0
   unfolding pointed_cell
-  pointed_has_header value cell quiet points =
-      shown_has_header (page_at_address value) value cell quiet refl points
+  pointed_has_header value cell quiet points = grind (arith, shown_has_header)
 
   scan_has_header : (x : MarkerState) (s : Option Scan) → x.scan ≡ s → is_scanned s ≡ true → MarkerStands c m x
       → header_at m.words (scan_page s) ≢ 0
-  scan_has_header x (Some s) is scanned st bare =
-      let index = (st.scan s is).index in
-      let none : cells_under (header_in m.words s.page) ≡ 0 = ap (λ n. cells_under (header_of n)) bare in
-      absurd (omega arith)
+  scan_has_header x (Some s) is scanned st bare = grind arith
   scan_has_header x None is scanned st bare = cc
 
   pub coloured_has_header : (seat : Seat) (s : Step) (p : ℕ) → Meets c m seat s → is_mark s ≡ false
       → page_coloured c m seat s ≡ Some p → header_at m.words p ≢ 0
   coloured_has_header seat (Step.Mark q v) p meets unmarks is = cc
-  coloured_has_header seat (Step.Black q v) p meets unmarks is =
-      let e : q ≡ p = cc in
-      subst (λ r. header_at m.words r ≢ 0) e (black_has_header c m q v meets.holder)
-  coloured_has_header (Marker k) Step.Mmark p meets unmarks is =
-      let e : seen_page (cell_seen c (marker_of m k).seen (marker_of m k).hand) ≡ p = cc in
-      subst (λ r. header_at m.words r ≢ 0) e (mark_has_header k meets)
+  coloured_has_header seat (Step.Black q v) p meets unmarks is = grind (arith, black_has_header)
+  coloured_has_header (Marker k) Step.Mmark p meets unmarks is = grind (arith, mark_has_header)
   coloured_has_header (Marker k) Step.Mblack p meets unmarks is =
       let x : MarkerState = marker_of m k in
       let e : scan_page x.scan ≡ p = cc in
@@ -271,6 +229,5 @@ pub stays_bare : (c : Config) (es : List Event) (e : Event) → IsHistory c (es 
 stays_bare c es e h unmarks q bare none =
     let before = earlier_part_is_history c es (e ∷ []) h in
     let meets = enabled_meets c (left c es).now e (last_enabled c (first_world c) es e h.enabled) in
-    stays_unmarked c (left c es).now e.seat e.step q
-    (λ p is same. coloured_has_header c es before e.seat e.step p meets unmarks is
-    (ap (λ r. header_at (left c es).now.words r) (sym same) ∙ bare)) none
+    stays_unmarked c (left c es).now _ _ q (λ p is same. coloured_has_header c es before e.seat e.step p meets unmarks
+    is (ap (λ r. header_at (left c es).now.words r) (sym same) ∙ bare)) none

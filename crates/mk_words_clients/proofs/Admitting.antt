@@ -38,8 +38,7 @@ pub own_step : (p : PassState) (t : Step) (q : PassState) (s : Step) (o : Op) �
 own_step p t q s o stays m h op_is plain =
     let c : Config = p.table.config in
     let more : List Event = m.others ++ event_of p t ∷ [] in
-    let seen_is : q.seen ≡ p.seen ++ more = ap (λ (r : PassState). r.seen) m.is
-    ∙ append_assoc p.seen m.others (event_of p t ∷ []) in
+    let seen_is : q.seen ≡ p.seen ++ more = cc (m.is, append_assoc p.seen m.others (event_of p t ∷ [])) in
     let config_is : q.table.config ≡ c = ap (λ (r : PassState). r.table.config) m.is in
     let seat_is : q.seat ≡ p.seat = ap (λ (r : PassState). r.seat) m.is in
     let there = stays more

@@ -39,35 +39,32 @@ next_may p o f s i kind next range = call_step p s i.number f i.seat i.within i.
 
 pub goes_on : (p q : PassState) (s : Step) (x : Progress) (o : Op) (f g : Flight) → IsMidCall p o f → Goes p s x q
     → x.flight ≡ g → IsMidCall q o g
-goes_on p q s x o f g i goes is =
-    record {
-      number = i.number;
-      seat = ap (λ (r : PassState). r.seat) goes.makes.is ∙ i.seat;
-      within = subst (λ (t : WordsState). i.number < t.config.callers)
-          (sym (ap (λ (r : PassState). r.table) goes.makes.is)) i.within;
-      call = goes.call ∙ is;
-      admitted = stays_on p q s o goes.makes i.admitted;
-    }
+goes_on p q s x o f g i goes is = record {
+  number = i.number;
+  seat = ap (λ (r : PassState). r.seat) goes.makes.is ∙ i.seat;
+  within = subst (λ (t : WordsState). i.number < t.config.callers)
+      (sym (ap (λ (r : PassState). r.table) goes.makes.is)) i.within;
+  call = goes.call ∙ is;
+  admitted = stays_on p q s o goes.makes i.admitted;
+}
 
 pub enters : (p q : PassState) (o : Op) → IsCallers p → StaysAdmitted p o
     → Goes p (Step.Enter o) (record { flight = begun o; answer = None }) q → IsMidCall q o (begun o)
-enters p q o i stays goes =
-    record {
-      number = i.number;
-      seat = ap (λ (r : PassState). r.seat) goes.makes.is ∙ i.seat;
-      within = subst (λ (t : WordsState). i.number < t.config.callers)
-          (sym (ap (λ (r : PassState). r.table) goes.makes.is)) i.within;
-      call = goes.call;
-      admitted = stays_on p q (Step.Enter o) o goes.makes stays;
-    }
+enters p q o i stays goes = record {
+  number = i.number;
+  seat = ap (λ (r : PassState). r.seat) goes.makes.is ∙ i.seat;
+  within = subst (λ (t : WordsState). i.number < t.config.callers)
+      (sym (ap (λ (r : PassState). r.table) goes.makes.is)) i.within;
+  call = goes.call;
+  admitted = stays_on p q (Step.Enter o) o goes.makes stays;
+}
 
 pub ends : (p q : PassState) (o : Op) (f : Flight) → IsMidCall p o f
     → Goes p Step.Leave (record { flight = at_rest; answer = None }) q → IsCallers q
-ends p q o f i goes =
-    record {
-      number = i.number;
-      seat = ap (λ (r : PassState). r.seat) goes.makes.is ∙ i.seat;
-      within = subst (λ (t : WordsState). i.number < t.config.callers)
-          (sym (ap (λ (r : PassState). r.table) goes.makes.is)) i.within;
-      rests = goes.call;
-    }
+ends p q o f i goes = record {
+  number = i.number;
+  seat = ap (λ (r : PassState). r.seat) goes.makes.is ∙ i.seat;
+  within = subst (λ (t : WordsState). i.number < t.config.callers)
+      (sym (ap (λ (r : PassState). r.table) goes.makes.is)) i.within;
+  rests = goes.call;
+}

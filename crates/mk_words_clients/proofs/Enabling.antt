@@ -3,7 +3,7 @@ use Rattle.mk_laws.proofs.Vocabulary.{Caller, Config, Flight, Group, MarkerState
 use Rattle.mk_laws.proofs.Vocabulary.{comes_next, flight_of, group_of, has_gates, has_phase, holder_may, is_in_range}
 use Rattle.mk_laws.proofs.Vocabulary.{is_open_to, lt-ltb, marker_at, marker_may, phase_of, refl, seat_exists, sym, true}
 use Rattle.mk_laws.proofs.Vocabulary.{◌<◌, ◌∙◌, ◌≡◌}
-use Rattle.mk_core.{proofs.Conditions.meets_enabled, specs.Order.is_in_order}
+use Rattle.mk_core.proofs.Conditions.{meets_enabled}
 use Rattle.mk_words.specs.{States.PassState, States.call_of, States.event_of, States.now_of, Steps.IsEnabledTo}
 
 -- a caller's kinds ask nothing of gates, phase and marks
@@ -73,10 +73,8 @@ call_step p s k f seat_is lt call_is kind next range =
     meets_enabled c m (event_of p s) (record {
       seat = ap (λ (x : Seat). seat_exists c x) seat_is ∙ lt-ltb k c.callers lt;
       kind = ap (λ (x : Seat). is_open_to x (group_of s)) seat_is ∙ ap (λ (g : Group). is_open_to (Caller k) g) kind;
-      order = ap (λ (x : Seat). is_in_order c m x s) seat_is ∙ ap (λ (x : Flight). comes_next x.stage x.op s) call
-          ∙ next;
-      range = ap (λ (x : Seat). is_in_range c x (flight_of m x) s) seat_is
-          ∙ ap (λ (x : Flight). is_in_range c (Caller k) x s) call ∙ range;
+      order = cc (seat_is, call, next);
+      range = cc (seat_is, call, range);
       gates = calls_gates c m.words p.seat (flight_of m p.seat) s kind;
       phase = calls_phase (phase_of m.words) s kind;
       marker = calls_marker c (marker_at m p.seat) s kind;

@@ -1,12 +1,11 @@
 -- What a marker's steps need, and leave of the marker.
-use Rattle.mk_laws.proofs.Vocabulary.{Block, Bool, Config, Flight, Group, Header, IsEnabled, Marker, MarkerState}
-use Rattle.mk_laws.proofs.Vocabulary.{Moment, Option, Seat, Some, Step, Word, Words, ℕ, and_from, ap, at_rest}
-use Rattle.mk_laws.proofs.Vocabulary.{cell_seen, cells_of, cells_under, eq-eqb, group_of, has_gates, has_next_word}
-use Rattle.mk_laws.proofs.Vocabulary.{has_phase, has_seen_cell, header_of, holder_may, if◌then◌else◌, is_attending}
-use Rattle.mk_laws.proofs.Vocabulary.{is_in_range, is_none, is_open_to, is_some, lt-ltb, marker_at, marker_may, nat_lt}
-use Rattle.mk_laws.proofs.Vocabulary.{outside, phase_of, refl, subst, sym, true, ◌%◌, ◌<◌, ◌==◌, ◌∙◌, ◌≡◌}
+use Rattle.mk_laws.proofs.Vocabulary.{Block, Config, Flight, Group, Header, IsEnabled, Marker, MarkerState, Moment}
+use Rattle.mk_laws.proofs.Vocabulary.{Option, Seat, Some, Step, Word, Words, ℕ, and_from, ap, at_rest, cell_seen}
+use Rattle.mk_laws.proofs.Vocabulary.{cells_of, cells_under, eq-eqb, group_of, has_gates, has_next_word, has_phase}
+use Rattle.mk_laws.proofs.Vocabulary.{has_seen_cell, header_of, holder_may, is_attending, is_in_range, is_none}
+use Rattle.mk_laws.proofs.Vocabulary.{is_open_to, is_some, lt-ltb, marker_at, marker_may, outside, phase_of, refl}
+use Rattle.mk_laws.proofs.Vocabulary.{subst, sym, true, ◌%◌, ◌<◌, ◌==◌, ◌∙◌, ◌≡◌}
 use Rattle.mk_core.proofs.Conditions.{meets_enabled}
-use Rattle.mk_core.specs.declared.seats.Presence.TheVariants.{Attending, Visiting}
 use Rattle.mk_words.specs.Markers.{Marks, marker_in}
 use Rattle.mk_words.specs.{States.PassState, States.now_of, Steps.IsEnabledTo, Steps.Makes}
 use Rattle.mk_words_clients.specs.Clients.{IsAttending, IsOutside}
@@ -88,15 +87,13 @@ pub mark_may : (p : PassState) (k : ℕ) → p.seat ≡ Marker k → k < 8
 mark_may p k seat few some = marker_step p Step.Mmark k seat few refl refl some
 
 pub attended : (p q : PassState) (n : ℕ) → IsOutside p → Marks p Step.Attend n q → n % 8 ≡ 1 → IsAttending q
-attended p q n o m is =
-    record {
-      number = o.number;
-      seat = seat_kept p q Step.Attend m.finds.makes ∙ o.seat;
-      few = o.few;
-      attends = ap (λ (y : MarkerState). is_attending y.presence) m.marker
-          ∙ ap (λ (b : Bool). is_attending (if b then Attending else Visiting)) (eq-eqb (n % 8) 1 is);
-      hand = ap (λ (y : MarkerState). y.hand) m.marker;
-    }
+attended p q n o m is = record {
+  number = o.number;
+  seat = seat_kept p q Step.Attend m.finds.makes ∙ o.seat;
+  few = o.few;
+  attends = cc (m.marker, eq-eqb (n % 8) 1 is);
+  hand = ap (λ (y : MarkerState). y.hand) m.marker;
+}
 
 pub is_outside : (p q : PassState) (s : Step) (k : ℕ) → p.seat ≡ Marker k → k < 8 → Makes p s q → marker_in q ≡ outside
     → IsOutside q
@@ -107,6 +104,5 @@ pub seen_cell : (p q : PassState) (page n class k : ℕ) → IsAttending p → M
     → header_of n ≡ Some (Block class) → k < cells_of class
     → has_seen_cell (marker_in q).seen page k ≡ true
 seen_cell p q page n class k a m is lt =
-    ap (λ (y : MarkerState). has_seen_cell y.seen page k) m.marker
-    ∙ and_from (page == page) (nat_lt k (cells_under (header_of n))) (eq-eqb page page refl)
-    (lt-ltb k (cells_under (header_of n)) (subst (λ (h : Option Header). k < cells_under h) (sym is) lt))
+    ap (λ (y : MarkerState). has_seen_cell y.seen page k) m.marker ∙ and_from (page == page) _ (eq-eqb page page refl)
+    (lt-ltb k _ (subst (λ (h : Option Header). k < cells_under h) (sym is) lt))

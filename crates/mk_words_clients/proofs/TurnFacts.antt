@@ -1,17 +1,14 @@
 -- What a turn knows of the table after its own steps.
-use Rattle.mk_laws.proofs.Vocabulary.{Bool, Config, Event, Holding, Holds, Host, IsEnabled, List, Moment, Option}
-use Rattle.mk_laws.proofs.Vocabulary.{RunPages, Seat, Steady, Step, TalliesAreTidy, Word, World, ℕ, and_from, ap, arith}
-use Rattle.mk_laws.proofs.Vocabulary.{at_rest, cases_eq, cases_lt, eq-eqb, eqb-false, eqb-true, false, get_or-set_other}
-use Rattle.mk_laws.proofs.Vocabulary.{get_or-set_same, get_or_past, group_of, has_gates, has_phase, holder_may}
-use Rattle.mk_laws.proofs.Vocabulary.{in_a_word, inl, inr, is_end, is_held, is_in_range, is_open_to, is_run_gone, left}
-use Rattle.mk_laws.proofs.Vocabulary.{length, length-set, lt-ltb, marker_may, nat_lt, ne_eqb, not, others_are_held}
-use Rattle.mk_laws.proofs.Vocabulary.{outside, phase_of, refl, slice_index, slice_set, subst, sym, true, true≢false}
-use Rattle.mk_laws.proofs.Vocabulary.{uses_of_pages, world_behind, [], ◌++◌, ◌+◌, ◌<◌, ◌==◌, ◌∙◌, ◌∷◌, ◌≡◌, ◌≢◌, ◌≤◌}
+use Rattle.mk_laws.proofs.Vocabulary.{Bool, Config, Event, Holds, Host, List, Moment, Seat, Step, TalliesAreTidy, Word}
+use Rattle.mk_laws.proofs.Vocabulary.{World, ℕ, and_from, ap, arith, at_rest, cases_eq, cases_lt, eq-eqb, eqb-false}
+use Rattle.mk_laws.proofs.Vocabulary.{eqb-true, false, get_or-set_other, get_or-set_same, get_or_past, group_of}
+use Rattle.mk_laws.proofs.Vocabulary.{has_gates, has_phase, holder_may, inl, inr, is_end, is_held, is_in_range}
+use Rattle.mk_laws.proofs.Vocabulary.{is_open_to, left, length, length-set, lt-ltb, marker_may, ne_eqb, not}
+use Rattle.mk_laws.proofs.Vocabulary.{others_are_held, outside, phase_of, refl, slice_index, slice_set, subst, sym}
+use Rattle.mk_laws.proofs.Vocabulary.{true, true≢false, world_behind, [], ◌++◌, ◌+◌, ◌<◌, ◌==◌, ◌∙◌, ◌∷◌, ◌≡◌, ◌≢◌, ◌≤◌}
 use Rattle.mk_laws.proofs.Vocabulary.{◌⊎◌}
-use Rattle.mk_geom.specs.PageUses.{held_by_uses}
-use Rattle.mk_core.proofs.Conditions.{meets_enabled}
-use Rattle.mk_core.specs.Frames.{CountsAreLeft, steady_of}
-use Rattle.mk_core.specs.{Counts.releases, Effects.moment_behind, Moments.none_is_held, Order.comes_next_to_host}
+use Rattle.mk_core.{proofs.Conditions.meets_enabled, specs.Effects.moment_behind, specs.Frames.CountsAreLeft}
+use Rattle.mk_core.{specs.Frames.steady_of, specs.Moments.none_is_held, specs.Order.comes_next_to_host}
 use Rattle.mk_laws.proofs.{Asked.none_held, TallySteps.CountsNothing}
 use Rattle.mk_words.proofs.{Tallies.counts_tidy_more, TurnSteps.all_from}
 use Rattle.mk_words.specs.States.{PassState, now_of, world_of}
@@ -46,8 +43,7 @@ steady_behind c w seat _ h = cc
 
 pub steady_kept : (p q : PassState) (s : Step) → Acts p s q → leaves_steady s ≡ true
     → steady_of (world_of q) ≡ steady_of (world_of p)
-steady_kept p q s a h =
-    ap (λ (w : World). steady_of w) a.world ∙ steady_behind p.table.config (world_at a.makes) p.seat s h ∙ a.turn.steady
+steady_kept p q s a h = grind (arith, steady_behind)
 
 freed_behind : (c : Config) (m : Moment) (seat : Seat) (s : Step) → leaves_steady s ≡ true
     → (moment_behind c m (record { seat = seat; step = s })).seats.holding.freed ≡ m.seats.holding.freed
@@ -64,21 +60,10 @@ freed_behind c m seat _ h = cc
 
 pub freed_kept : (p q : PassState) (s : Step) → Acts p s q → leaves_steady s ≡ true
     → (now_of q).seats.holding.freed ≡ (now_of p).seats.holding.freed
-freed_kept p q s a h =
-    ap (λ (w : World). w.now.seats.holding.freed) a.world
-    ∙ freed_behind p.table.config (world_at a.makes).now p.seat s h ∙ ap (λ (x : Holding). x.freed) a.holding
+freed_kept p q s a h = grind (arith, freed_behind)
 
 pub settled_kept : (p q : PassState) (s : Step) → Acts p s q → leaves_steady s ≡ true → Settled p → Settled q
-settled_kept p q s a h x =
-    let same = steady_kept p q s a h in
-    record {
-      seat = ap (λ (r : PassState). r.seat) a.makes.is ∙ x.seat;
-      phase = ap (λ (y : Steady). has_phase y.phase Step.Give) same ∙ x.phase;
-      freed = freed_kept p q s a h ∙ x.freed;
-      held = ap (λ (y : Steady). y.held) same ∙ x.held
-          ∙ sym (ap (λ (y : Steady). held_by_uses (uses_of_pages y.pages)) same);
-      fresh = ap (λ (y : Steady). y.fresh) same ∙ x.fresh ∙ sym (ap (λ (y : Steady). y.fresh_words) same);
-    }
+settled_kept p q s a h x = grind (arith, steady_kept, freed_kept)
 
 -- gates that aren't held
 
@@ -92,9 +77,7 @@ pub none_held_is : (p : PassState) → none_is_held p.table.config.callers (now_
 none_held_is p h = none_held p.table.config (now_of p).words h
 
 pub is_none_held : (p : PassState) → NoneHeld p → none_is_held p.table.config.callers (now_of p).words ≡ true
-is_none_held p h =
-    all_from p.table.config.callers (λ j. not (is_held (now_of p).words j))
-    (λ i lt. ap not (ne_eqb (slice_index (now_of p).words.gates i) 2 (h i lt)))
+is_none_held p h = grind (arith, all_from, ne_eqb)
 
 config_kept : (p q : PassState) (s : Step) → Acts p s q → q.table.config ≡ p.table.config
 config_kept p q s a = ap (λ (r : PassState). r.table.config) a.makes.is
@@ -109,9 +92,7 @@ hold_leaves p q j a h i lt other two =
     ∙ sym (ap (λ (w : World). slice_index w.now.words.gates i) a.world) ∙ two)
 
 pub look_leaves : (p q : PassState) (j : ℕ) (x : Word) → Acts p (Step.Look x) q → OnlyHeld j p → OnlyHeld j q
-look_leaves p q j x a h i lt other two =
-    a.turn.other_gates i (h i (within p q (Step.Look x) a i lt) other)
-    (sym (ap (λ (w : World). slice_index w.now.words.gates i) a.world) ∙ two)
+look_leaves p q j x a h i lt other two = grind (arith, within)
 
 zero_there : (xs : List ℕ) (i : ℕ) → slice_index (slice_set xs i 0) i ≢ 2
 zero_there xs i two = by (cases_lt i (length xs))
@@ -135,8 +116,7 @@ open_leaves p q j a h i lt two = elim (cases_eq i j) [
 pub miss_leaves : (p q : PassState) (j : ℕ) → Acts p (Step.Hold j) q → is_held (now_of q).words j ≡ false → NoneHeld p
     → NoneHeld q
 miss_leaves p q j a not_held h i lt two = elim (cases_eq i j) [
-  | inl same ↦ eqb-false (slice_index (now_of q).words.gates j) 2 not_held
-      (sym (ap (λ (k : ℕ). slice_index (now_of q).words.gates k) same) ∙ two)
+  | inl same ↦ eqb-false _ 2 not_held (sym (ap (λ (k : ℕ). slice_index (now_of q).words.gates k) same) ∙ two)
   | inr other ↦ hold_leaves p q j a h i lt other two
 ]
 
@@ -144,16 +124,12 @@ pub settled : (p : PassState) → MayGiveBack p → Settled p
 settled p x = record { seat = x.seat; phase = x.phase; freed = x.freed; held = x.held; fresh = x.fresh }
 
 pub given_back : (p : PassState) → Settled p → NoneHeld p → MayGiveBack p
-given_back p x h =
-    record { seat = x.seat; gates = is_none_held p h; phase = x.phase; freed = x.freed; held = x.held; fresh = x.fresh }
+given_back p x h = grind (arith, is_none_held)
 
 -- a gate that is held stays so
 pub look_holds : (p q : PassState) (j : ℕ) (x : Word) → Acts p (Step.Look x) q → is_held (now_of p).words j ≡ true
     → is_held (now_of q).words j ≡ true
-look_holds p q j x a held =
-    eq-eqb (slice_index (now_of q).words.gates j) 2
-    (ap (λ (w : World). slice_index w.now.words.gates j) a.world
-    ∙ a.turn.held_gates j (eqb-true (slice_index (now_of p).words.gates j) 2 held))
+look_holds p q j x a held = grind (arith, eq-eqb, eqb-true)
 
 -- The tallies of what was counted stay tidy.
 
@@ -163,32 +139,11 @@ steady_no_end _ h = refl
 
 counts_nothing : (c : Config) (w : World) (s : Step) → leaves_steady s ≡ true
     → CountsNothing c w (record { seat = Host; step = s })
-counts_nothing c w s h =
-    let same = steady_behind c w Host s h in
-    record {
-      alike = record {
-        tallies = record {
-          held = ap (λ (x : Steady). x.held) same;
-          fresh = ap (λ (x : Steady). x.fresh) same;
-          cycles = ap (λ (x : Steady). x.cycles) same;
-          released = ap (λ (x : Steady). x.released) same;
-          full = ap (λ (x : Steady). x.full) same;
-        };
-        allocations = ap (λ (x : Steady). x.allocations) same;
-      };
-      no_end = steady_no_end s h;
-      no_full = refl;
-    }
+counts_nothing c w s h = grind (arith, steady_behind, steady_no_end)
 
 tidy_behind_others : (c : Config) (es fs : List Event) → steady_of (left c fs) ≡ steady_of (left c es)
     → CountsAreLeft c es fs → TalliesAreTidy c es → TalliesAreTidy c fs
-tidy_behind_others c es fs same counts t =
-    record {
-      cycles = ap (λ (x : Steady). x.cycles) same ∙ t.cycles ∙ ap in_a_word (sym counts.ends);
-      released = ap (λ (x : Steady). x.released) same ∙ t.released
-          ∙ ap (λ (x : Steady). in_a_word (releases x.allocations)) (sym same);
-      full = ap (λ (x : Steady). x.full) same ∙ t.full ∙ ap in_a_word (sym counts.fulls);
-    }
+tidy_behind_others c es fs same counts t = grind arith
 
 pub tidy_kept : (p q : PassState) (s : Step) → Acts p s q → p.seat ≡ Host → leaves_steady s ≡ true
     → TalliesAreTidy p.table.config p.seen → TalliesAreTidy q.table.config q.seen
@@ -197,11 +152,8 @@ tidy_kept p q s a host h t =
     let fs : List Event = p.seen ++ a.makes.others in
     let e : Event = record { seat = Host; step = s } in
     let behind : TalliesAreTidy c (fs ++ e ∷ []) =
-    counts_tidy_more c fs e (counts_nothing c (left c fs) s h) (tidy_behind_others c p.seen fs a.turn.steady a.counts t)
-    in
-    let seen_is : q.seen ≡ fs ++ e ∷ [] =
-    ap (λ (r : PassState). r.seen) a.makes.is
-    ∙ ap (λ (x : Seat). fs ++ record { seat = x; step = s } ∷ []) host in
+    counts_tidy_more c fs e (counts_nothing c _ s h) (tidy_behind_others c _ fs a.turn.steady a.counts t) in
+    let seen_is : q.seen ≡ fs ++ e ∷ [] = cc (a.makes.is, host) in
     subst (λ (d : Config). TalliesAreTidy d q.seen) (sym (config_kept p q s a))
     (subst (λ (es : List Event). TalliesAreTidy c es) (sym seen_is) behind)
 
@@ -212,56 +164,30 @@ host_step : (p : PassState) (s : Step) → p.seat ≡ Host → Holds p.table.con
     → has_gates p.table.config (now_of p).words Host at_rest s ≡ true → has_phase (phase_of (now_of p).words) s ≡ true
     → marker_may p.table.config outside s ≡ true → holder_may p.table.config (now_of p) at_rest s ≡ true
     → IsEnabledTo p s
-host_step p s host holds kind next range gates phase marker holder =
-    let c : Config = p.table.config in
-    let m : Moment = now_of p in
-    let named : Holds c m Host = subst (λ (x : Seat). Holds c m x) host holds in
-    subst (λ (x : Seat). IsEnabled c m (record { seat = x; step = s })) (sym host)
-    (meets_enabled c m (record { seat = Host; step = s }) (record {
-      seat = refl;
-      kind = kind;
-      order = ap (λ (b : Bool). comes_next_to_host b s) (eq-eqb m.words.turn (1 + c.callers) named) ∙ next;
-      range = range;
-      gates = gates;
-      phase = phase;
-      marker = marker;
-      holder = holder;
-    }))
+host_step p s host holds kind next range gates phase marker holder = grind (arith, meets_enabled, eq-eqb)
 
 pub hold_may : (p : PassState) (j : ℕ) → p.seat ≡ Host → Holds p.table.config (now_of p) p.seat
     → j < p.table.config.callers → NoneHeld p → IsEnabledTo p (Step.Hold j)
-hold_may p j host holds lt none =
-    host_step p (Step.Hold j) host holds refl refl
-    (and_from (nat_lt j p.table.config.callers) true (lt-ltb j p.table.config.callers lt) refl)
-    (ap not (ne_eqb (slice_index (now_of p).words.gates j) 2 (none j lt))) refl refl refl
+hold_may p j host holds lt none = grind (arith, host_step, and_from, lt-ltb, ne_eqb)
 
 pub look_may : (p : PassState) (j r : ℕ) → p.seat ≡ Host → Holds p.table.config (now_of p) p.seat
     → j < p.table.config.callers → r < 8
     → is_held (now_of p).words j ≡ true → IsEnabledTo p (Step.Look (Word.Reg j r))
-look_may p j r host holds lt few held =
-    host_step p (Step.Look (Word.Reg j r)) host holds refl refl
-    (and_from (nat_lt j p.table.config.callers) (nat_lt r 8) (lt-ltb j p.table.config.callers lt) (lt-ltb r 8 few))
-    held refl refl refl
+look_may p j r host holds lt few held = grind (arith, host_step, and_from, lt-ltb)
 
 not_closed : (n : ℕ) → has_phase n Step.Give ≡ true → not (n == 3) ≡ true
 not_closed n h = ap not (ne_eqb n 3 (λ three. true≢false (sym h ∙ ap (λ (k : ℕ). has_phase k Step.Give) three)))
 
 pub open_may : (p : PassState) (j : ℕ) → Settled p → Holds p.table.config (now_of p) p.seat → j < p.table.config.callers
     → is_held (now_of p).words j ≡ true → IsEnabledTo p (Step.Open j)
-open_may p j x holds lt held =
-    host_step p (Step.Open j) x.seat holds refl refl
-    (and_from (nat_lt j p.table.config.callers) true (lt-ltb j p.table.config.callers lt) refl)
-    held (not_closed (phase_of (now_of p).words) x.phase) refl
-    (ap (λ (f : Option RunPages). is_run_gone (now_of p).words f) x.freed)
+open_may p j x holds lt held = grind (arith, host_step, and_from, lt-ltb, not_closed)
 
 -- Gates are held one after the other, and opened so.
 
 stays_held : (p q : PassState) (s : Step) (a : Acts p s q) (i : ℕ)
     → slice_index (now_of q).words.gates i ≡ slice_index (world_at a.makes).now.words.gates i
     → is_held (now_of p).words i ≡ true → is_held (now_of q).words i ≡ true
-stays_held p q s a i same held =
-    eq-eqb (slice_index (now_of q).words.gates i) 2 (same
-    ∙ a.turn.held_gates i (eqb-true (slice_index (now_of p).words.gates i) 2 held))
+stays_held p q s a i same held = grind (arith, eq-eqb, eqb-true)
 
 hold_elsewhere : (p q : PassState) (j : ℕ) (a : Acts p (Step.Hold j) q) (i : ℕ) → i ≢ j
     → slice_index (now_of q).words.gates i ≡ slice_index (world_at a.makes).now.words.gates i
@@ -277,30 +203,28 @@ open_elsewhere p q j a i other =
 
 pub holds_one_more : (p q : PassState) (j : ℕ) → HoldsBelow p j → Acts p (Step.Hold j) q
     → is_held (now_of q).words j ≡ true → HoldsBelow q (j + 1)
-holds_one_more p q j h a now =
-    record {
-      held = λ i lt. elim (cases_eq i j) [
-        | inl same ↦ subst (λ (k : ℕ). is_held (now_of q).words k ≡ true) (sym same) now
-        | inr other ↦ stays_held p q (Step.Hold j) a i (hold_elsewhere p q j a i other) (h.held i (omega arith))
-      ];
-      free = λ i le lt two. (let other : i ≢ j = λ e. omega arith in
-          a.turn.other_gates i (h.free i (omega arith) (within p q (Step.Hold j) a i lt))
-          (sym (hold_elsewhere p q j a i other) ∙ two));
-    }
+holds_one_more p q j h a now = record {
+  held = λ i lt. elim (cases_eq i j) [
+    | inl same ↦ subst (λ (k : ℕ). is_held (now_of q).words k ≡ true) (sym same) now
+    | inr other ↦ stays_held p q (Step.Hold j) a i (hold_elsewhere p q j a i other) (h.held i (omega arith))
+  ];
+  free = λ i le lt two. (let other : i ≢ j = λ e. omega arith in
+      a.turn.other_gates i (h.free i (omega arith) (within p q (Step.Hold j) a i lt))
+      (sym (hold_elsewhere p q j a i other) ∙ two));
+}
 
 pub opens_last : (p q : PassState) (j : ℕ) → HoldsBelow p (j + 1) → Acts p (Step.Open j) q → HoldsBelow q j
-opens_last p q j h a =
-    record {
-      held = λ i lt. (let other : i ≢ j = λ e. omega arith in
-          stays_held p q (Step.Open j) a i (open_elsewhere p q j a i other) (h.held i (omega arith)));
-      free = λ i le lt two. elim (cases_eq i j) [
-        | inl same ↦ zero_there (world_at a.makes).now.words.gates j
-            (sym (ap (λ (k : ℕ). slice_index (slice_set (world_at a.makes).now.words.gates j 0) k) same)
-            ∙ sym (ap (λ (w : World). slice_index w.now.words.gates i) a.world) ∙ two)
-        | inr other ↦ a.turn.other_gates i (h.free i (omega arith) (within p q (Step.Open j) a i lt))
-            (sym (open_elsewhere p q j a i other) ∙ two)
-      ];
-    }
+opens_last p q j h a = record {
+  held = λ i lt. (let other : i ≢ j = λ e. omega arith in
+      stays_held p q (Step.Open j) a i (open_elsewhere p q j a i other) (h.held i (omega arith)));
+  free = λ i le lt two. elim (cases_eq i j) [
+    | inl same ↦ zero_there (world_at a.makes).now.words.gates j
+        (sym (ap (λ (k : ℕ). slice_index (slice_set (world_at a.makes).now.words.gates j 0) k) same)
+        ∙ sym (ap (λ (w : World). slice_index w.now.words.gates i) a.world) ∙ two)
+    | inr other ↦ a.turn.other_gates i (h.free i (omega arith) (within p q (Step.Open j) a i lt))
+        (sym (open_elsewhere p q j a i other) ∙ two)
+  ];
+}
 
 pub holds_none : (p : PassState) → none_is_held p.table.config.callers (now_of p).words ≡ true → HoldsBelow p 0
 holds_none p h = record { held = λ i lt. absurd (omega arith); free = λ i le lt. none_held_is p h i lt }
@@ -310,9 +234,7 @@ none_below p x h = given_back p x (λ i lt. h.free i (omega arith) lt)
 
 pub all_are_held : (p : PassState) → p.seat ≡ Host → HoldsBelow p p.table.config.callers
     → others_are_held p.table.config.callers (now_of p).words p.seat ≡ true
-all_are_held p host h =
-    ap (λ (s : Seat). others_are_held p.table.config.callers (now_of p).words s) host
-    ∙ all_from p.table.config.callers (λ j. is_held (now_of p).words j) (λ j lt. h.held j lt)
+all_are_held p host h = grind (arith, all_from)
 
 pub others_may_open : (p : PassState) → Settled p → Holds p.table.config (now_of p) p.seat
     → HoldsBelow p p.table.config.callers → OthersMayOpen p 0

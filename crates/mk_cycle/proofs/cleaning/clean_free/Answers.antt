@@ -13,11 +13,10 @@ clear_black-requires-clause-found c none =
     c.clear_marks.ensures.cleans.unscanned c.args.page (sym c.look_before-blacks.ensures.reads ∙ none)
 
 bare : (c : After-clear_black) → HasNoMarks (now_of c.clear_black.new.turn.pass).words c.args.page
-bare c =
-    record {
-      unmarked = c.clear_black.ensures.cleans.unmarked c.args.page c.clear_marks.ensures.unmarked;
-      unscanned = c.clear_black.ensures.unscanned;
-    }
+bare c = record {
+  unmarked = c.clear_black.ensures.cleans.unmarked c.args.page c.clear_marks.ensures.unmarked;
+  unscanned = c.clear_black.ensures.unscanned;
+}
 
 pub cleaned-requires-clause-none : goal.cleaned-requires-clause-none
 cleaned-requires-clause-none c = bare (goal.at.cleaned-requires-clause-none c).After-clear_black

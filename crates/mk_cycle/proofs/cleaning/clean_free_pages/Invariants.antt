@@ -1,16 +1,12 @@
-use Rattle.mk_laws.proofs.Vocabulary.{◌-◌, ◌≡◌, ◌≤◌}
-use Rattle.mk_cycle.proofs.Vocabulary.{Cleans}
-use Rattle.mk_cycle.proofs.CleanedPages.{FreeAreBare}
+use Rattle.mk_laws.proofs.Vocabulary.{◌-◌}
+use Rattle.mk_cycle.proofs.CleanedPages.{CleansTo, FreeAreBare}
 use Rattle.mk_cycle.proofs.cleaning.clean_free_pages.Given as goal
 
 abbrev pub invariant-loop-page : goal.invariant-loop-page
-invariant-loop-page l =
-    record {
-      op : l.turn.op ≡ l.fn.turn.op;
-      begun : l.from ≤ l.words.config.pages;
-      cleans : Cleans l.fn.turn.pass l.turn.pass;
-      below : FreeAreBare l.turn.pass l.from;
-    }
+invariant-loop-page l = record {
+  pages : CleansTo l.words.config.pages l.fn.turn l.turn l.from;
+  below : FreeAreBare l.turn.pass l.from;
+}
 
 abbrev pub decreases-loop-page : goal.decreases-loop-page
 decreases-loop-page l = l.words.config.pages - l.from

@@ -43,12 +43,10 @@ returns-then-are_zero-clause-undirty c =
     (c.are_zero.ensures.dirty c.if-are_zero.true)
 
 pub clean_words-requires-clause-marks : goal.clean_words-requires-clause-marks
-clean_words-requires-clause-marks c =
-    unmarked (goal.at.clean_words-requires-clause-marks c).After-look_before-dirty
+clean_words-requires-clause-marks c = unmarked (goal.at.clean_words-requires-clause-marks c).After-look_before-dirty
 
 pub clean_words-requires-clause-blacks : goal.clean_words-requires-clause-blacks
-clean_words-requires-clause-blacks c =
-    unscanned (goal.at.clean_words-requires-clause-blacks c).After-look_before-dirty
+clean_words-requires-clause-blacks c = unscanned (goal.at.clean_words-requires-clause-blacks c).After-look_before-dirty
 
 pub returns-clause-cleans : goal.returns-clause-cleans
 returns-clause-cleans c =

@@ -11,5 +11,4 @@ returns-else-dirty-ne0-clause-cleans c = cleans_nothing c.args.turn.now.pass
 
 pub returns-then-dirty-ne0-clause-undirty : goal.returns-then-dirty-ne0-clause-undirty
 returns-then-dirty-ne0-clause-undirty c some =
-    undirty_now _ _ c.args.page (returns-then-dirty-ne0-clause-cleans c)
-    (undirty_behind _ _ c.args.page c.undirty.ensures.acts)
+    undirty_now _ _ _ (returns-then-dirty-ne0-clause-cleans c) (undirty_behind _ _ _ c.undirty.ensures.acts)

@@ -34,14 +34,10 @@ returns-then-quarantine-freed-clause-snapshot c =
     let first = looked _ _ c.look-quarantine.ensures.was c.requires.free c.requires.phase c.look-quarantine.ensures.is _
     c.look-quarantine.ensures.acts in
     has_snapshot _ _ c.take_snapshot.ensures.was (cleaned_free _ _ first c.requires.free)
-    (cleaned_phase _ _ first c.requires.phase)
-    c.take_snapshot.ensures.is c.args.page _ c.take_snapshot.ensures.acts
-    (on_table c.look-quarantine.new.turn.pass c.args.words.now
-    (cleaned_table c.args.turn.now.pass c.look-quarantine.new.turn.pass c.args.words.now first c.requires.one_table)
-    c.args.page c.requires.within)
-    (ap (λ (n : ℕ). quarantine_word n n)
-    (halves _ c.args.page c.look-quarantine.result c.look-quarantine.ensures.is
-    c.look-quarantine.ensures.reads).freed)
+    (cleaned_phase _ _ first c.requires.phase) c.take_snapshot.ensures.is _ _ c.take_snapshot.ensures.acts (on_table
+    c.look-quarantine.new.turn.pass _ (cleaned_table _ c.look-quarantine.new.turn.pass _ first c.requires.one_table) _
+    c.requires.within) (ap (λ (n : ℕ). quarantine_word n n)
+    (halves _ c.args.page c.look-quarantine.result c.look-quarantine.ensures.is c.look-quarantine.ensures.reads).freed)
 
 pub returns-else-quarantine-freed-clause-cleans : goal.returns-else-quarantine-freed-clause-cleans
 returns-else-quarantine-freed-clause-cleans c =

@@ -14,17 +14,17 @@ count_cycle-requires-clause-free g c =
 
 pub returns-clause-law : goal.returns-clause-law
 returns-clause-law g c =
-    let x = c.end.ensures in
-    finishes_cycle c.args.turn.pass _ c.end.new.turn.pass c.count_cycle.new.turn.pass _
-    c.give_all_back-turn.ensures.gives c.requires.free
-    x.was x.acts x.is _ c.count_cycle.ensures.sets c.give_all_back-turn.ensures.told c.give_all_back-turn.ensures.held
+    let give = c.give_all_back-turn.ensures in
+    let end = c.end.ensures in
+    finishes_cycle c.args.turn.pass _ c.end.new.turn.pass c.count_cycle.new.turn.pass _ give.gives c.requires.free end.was
+    end.acts end.is _ c.count_cycle.ensures.sets give.told give.held
 
 pub returns-clause-released : goal.returns-clause-released
 returns-clause-released g c =
-    let x = c.end.ensures in
-    has_released c.args.turn.pass _ c.end.new.turn.pass c.count_cycle.new.turn.pass _
-    c.give_all_back-turn.ensures.gives c.requires.free
-    x.was x.acts x.is _ c.count_cycle.ensures.sets c.give_all_back-turn.ensures.told c.give_all_back-turn.ensures.held
+    let give = c.give_all_back-turn.ensures in
+    let end = c.end.ensures in
+    has_released c.args.turn.pass _ c.end.new.turn.pass c.count_cycle.new.turn.pass _ give.gives c.requires.free end.was
+    end.acts end.is _ c.count_cycle.ensures.sets give.told give.held
 
 pub returns-clause-reached : goal.returns-clause-reached
 returns-clause-reached g c none =

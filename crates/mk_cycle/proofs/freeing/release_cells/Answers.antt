@@ -11,26 +11,22 @@ use Rattle.mk_cycle.proofs.freeing.release_cells.Goals as goal
 pub returns-then-snapshot-eq0-clause-released : goal.returns-then-snapshot-eq0-clause-released
 returns-then-snapshot-eq0-clause-released c =
     let x = c.look-quarantine.ensures in
-    nothing_on (now_of c.args.turn.now.pass).words c.args.page
-    (sym (snapshot_told c.args.turn.now.pass c.look-quarantine.new.turn.pass c.args.page c.look-quarantine.result x.is
-    x.frees x.reads)
+    nothing_on (now_of c.args.turn.now.pass).words _
+    (sym (snapshot_told _ c.look-quarantine.new.turn.pass _ c.look-quarantine.result x.is x.frees x.reads)
     ∙ c.if-snapshot-eq0.true)
 
 pub returns-then-snapshot-eq0-clause-held : goal.returns-then-snapshot-eq0-clause-held
 returns-then-snapshot-eq0-clause-held c =
     let x = c.look-quarantine.ensures in
-    none_held (now_of c.args.turn.now.pass).words c.args.page
-    (nothing_on (now_of c.args.turn.now.pass).words c.args.page
-    (sym (snapshot_told c.args.turn.now.pass c.look-quarantine.new.turn.pass c.args.page c.look-quarantine.result x.is
-    x.frees x.reads)
+    none_held (now_of c.args.turn.now.pass).words _ (nothing_on (now_of c.args.turn.now.pass).words _
+    (sym (snapshot_told _ c.look-quarantine.new.turn.pass _ c.look-quarantine.result x.is x.frees x.reads)
     ∙ c.if-snapshot-eq0.true))
 
 pub returns-then-snapshot-eq0-clause-gives : goal.returns-then-snapshot-eq0-clause-gives
 returns-then-snapshot-eq0-clause-gives c =
     let x = c.look-quarantine.ensures in
-    gives_none c.args.page _ _ x.frees
-    (none_left_on c.look-quarantine.new.turn.pass c.args.page c.look-quarantine.result x.is x.reads
-    c.if-snapshot-eq0.true)
+    gives_none _ _ _ x.frees
+    (none_left_on c.look-quarantine.new.turn.pass _ c.look-quarantine.result x.is x.reads c.if-snapshot-eq0.true)
 
 -- with both words
 both : (c : After-without-gone) → GivesNothingBack c.args.turn.now.pass c.look-marks.new.turn.pass
@@ -46,9 +42,8 @@ gone : (c : After-without-gone)
 gone c =
     let x = c.look-quarantine.ensures in
     let y = c.look-marks.ensures in
-    c.without-gone.ensures
-    ∙ marked_gone c.look-quarantine.new.turn.pass c.look-marks.new.turn.pass c.args.page c.look-quarantine.result
-    c.look-marks.result x.is y.frees x.reads y.reads
+    c.without-gone.ensures ∙ marked_gone c.look-quarantine.new.turn.pass c.look-marks.new.turn.pass _
+    c.look-quarantine.result c.look-marks.result x.is y.frees x.reads y.reads
 
 counted : (c : After-without-gone)
     → c.released_cells-released.result ≡ released_on (now_of c.args.turn.now.pass).words c.args.page

@@ -1,82 +1,43 @@
-use Rattle.mk_laws.proofs.Vocabulary.{Config, Steady, Step, ℕ, ap, append_assoc, refl, subst, sym, ◌∙◌}
-use Rattle.mk_cycle.proofs.Vocabulary.{HasReleased, HoldsFewer, PassState, WordsState, held_below, now_of, only_seen_by}
-use Rattle.mk_cycle.proofs.Vocabulary.{other_step_sweeps, released_below, sweeps_then}
+use Rattle.mk_laws.proofs.Vocabulary.{Step, ap, append_assoc, refl, ◌∙◌}
+use Rattle.mk_cycle.proofs.Vocabulary.{PassState, only_seen_by, other_step_sweeps, sweeps_then}
+use Rattle.mk_cycle.proofs.ReleasedStops.{StopReleases, stop_holds, stop_leaves_cells, stop_leaves_occupied}
+use Rattle.mk_cycle.proofs.ReleasedStops.{stop_releases, stop_tells}
 use Rattle.mk_cycle.proofs.Told.{told_closing, told_earlier, told_later}
-use Rattle.mk_cycle.proofs.{Allowed.in_turn, Allowed.in_turn_after, ClosedBy.closed_in_stop, HeldReleased.held_alike}
-use Rattle.mk_cycle.proofs.{HeldReleased.release_holds, KeptInParts.free_then, KeptInParts.same_config}
-use Rattle.mk_cycle.proofs.{ReleaseSteps.close_leaves, ReleaseSteps.releases_unmarked, ReleasedCells.cells_are_free}
-use Rattle.mk_cycle.proofs.{ReleasedCells.pages_are_occupied, ReleasedCounts.release_tells, ReleasedCounts.told_from}
+use Rattle.mk_cycle.proofs.{Allowed.in_turn, ClosedBy.closed_in_stop, releasing.release_unmarked.Goals.After-release}
 use Rattle.mk_cycle.proofs.releasing.release_unmarked.Goals as goal
 
-pub returns-clause-releases : goal.returns-clause-releases
-returns-clause-releases g c =
-    releases_unmarked c.args.stop.now.pass c.close_marks.new.stop.pass c.close_phase.new.self.pass
+-- the three parts
+parts : (g : _) (c : After-release g)
+    → StopReleases c.args.stop.now.pass c.close_marks.new.stop.pass c.close_phase.new.self.pass
     c.release.new.self.pass
-    (in_turn _ _ c.is_in_order.ensures.own c.is_in_order.ensures.turn c.is_in_order.ensures.history) c.requires.free
-    c.close_marks.ensures.law
-    (in_turn _ _ c.is_in_order-2.ensures.own c.is_in_order-2.ensures.turn c.is_in_order-2.ensures.history)
-    c.close_phase.ensures.acts
-    (in_turn _ _ c.is_in_order-3.ensures.own c.is_in_order-3.ensures.turn c.is_in_order-3.ensures.history)
-    c.release.ensures.acts
-    (in_turn_after c.release.ensures.acts refl)
+parts g c =
+    let before = c.is_in_order.ensures in
+    let marked = c.is_in_order-2.ensures in
+    let closed = c.is_in_order-3.ensures in
+    record {
+      begun = in_turn _ _ before.own before.turn before.history;
+      free = c.requires.free;
+      marks = c.close_marks.ensures.law;
+      marked = in_turn _ _ marked.own marked.turn marked.history;
+      close = c.close_phase.ensures.acts;
+      closed = in_turn _ _ closed.own closed.turn closed.history;
+      release = c.release.ensures.acts;
+    }
+
+pub returns-clause-releases : goal.returns-clause-releases
+returns-clause-releases g c = stop_releases (parts g (goal.at.returns-clause-releases g c).After-release)
 
 pub returns-clause-cells : goal.returns-clause-cells
-returns-clause-cells g c page =
-    let t = in_turn _ _ c.is_in_order-2.ensures.own c.is_in_order-2.ensures.turn c.is_in_order-2.ensures.history in
-    let u = in_turn _ _ c.is_in_order-3.ensures.own c.is_in_order-3.ensures.turn c.is_in_order-3.ensures.history in
-    let free = free_then _ _ c.close_marks.ensures.law.keeps.call c.requires.free in
-    let close = close_leaves _ _ t free c.close_marks.ensures.law.phase c.close_phase.ensures.acts u in
-    cells_are_free c.close_phase.new.self.pass c.release.new.self.pass u
-    (in_turn_after c.release.ensures.acts refl)
-    close.1 c.release.ensures.acts (free_then _ _ close.0.call free).gone page
+returns-clause-cells g c = stop_leaves_cells (parts g (goal.at.returns-clause-cells g c).After-release)
 
 pub returns-clause-occupied : goal.returns-clause-occupied
-returns-clause-occupied g c page =
-    let t = in_turn _ _ c.is_in_order-2.ensures.own c.is_in_order-2.ensures.turn c.is_in_order-2.ensures.history in
-    let u = in_turn _ _ c.is_in_order-3.ensures.own c.is_in_order-3.ensures.turn c.is_in_order-3.ensures.history in
-    let free = free_then _ _ c.close_marks.ensures.law.keeps.call c.requires.free in
-    let close = close_leaves _ _ t free c.close_marks.ensures.law.phase c.close_phase.ensures.acts u in
-    pages_are_occupied c.close_phase.new.self.pass c.release.new.self.pass u
-    (in_turn_after c.release.ensures.acts refl)
-    close.1 c.release.ensures.acts (free_then _ _ close.0.call free).unplaced page
+returns-clause-occupied g c = stop_leaves_occupied (parts g (goal.at.returns-clause-occupied g c).After-release)
 
 pub returns-clause-told : goal.returns-clause-told
-returns-clause-told g c =
-    let t = in_turn _ _ c.is_in_order-2.ensures.own c.is_in_order-2.ensures.turn c.is_in_order-2.ensures.history in
-    let u = in_turn _ _ c.is_in_order-3.ensures.own c.is_in_order-3.ensures.turn c.is_in_order-3.ensures.history in
-    let free = free_then _ _ c.close_marks.ensures.law.keeps.call c.requires.free in
-    let marks = c.close_marks.ensures.law.keeps in
-    let p = c.args.stop.now.pass in
-    let b = c.close_marks.new.stop.pass in
-    let d = c.close_phase.new.self.pass in
-    let close = close_leaves b d t free c.close_marks.ensures.law.phase c.close_phase.ensures.acts u in
-    let same = same_config b d close.0.call.pass ∙ same_config p b marks.call.pass in
-    subst (λ (n : ℕ). HasReleased p c.release.new.self.pass (released_below (now_of c.release.new.self.pass).words n))
-    (ap (λ (x : Config). x.pages) same ∙ ap (λ (w : WordsState). w.config.pages) c.requires.one_table)
-    (told_from p d c.release.new.self.pass _ same
-    (ap (λ (s : Steady). s.allocations) close.0.steady ∙ ap (λ (s : Steady). s.allocations) marks.steady)
-    (release_tells d c.release.new.self.pass u
-    (in_turn_after c.release.ensures.acts refl) close.1
-    c.release.ensures.acts))
+returns-clause-told g c = stop_tells (parts g (goal.at.returns-clause-told g c).After-release) c.requires.one_table
 
 pub returns-clause-held : goal.returns-clause-held
-returns-clause-held g c =
-    let t = in_turn _ _ c.is_in_order-2.ensures.own c.is_in_order-2.ensures.turn c.is_in_order-2.ensures.history in
-    let u = in_turn _ _ c.is_in_order-3.ensures.own c.is_in_order-3.ensures.turn c.is_in_order-3.ensures.history in
-    let free = free_then _ _ c.close_marks.ensures.law.keeps.call c.requires.free in
-    let marks = c.close_marks.ensures.law.keeps in
-    let p = c.args.stop.now.pass in
-    let b = c.close_marks.new.stop.pass in
-    let d = c.close_phase.new.self.pass in
-    let close = close_leaves b d t free c.close_marks.ensures.law.phase c.close_phase.ensures.acts u in
-    let same = same_config b d close.0.call.pass ∙ same_config p b marks.call.pass in
-    subst (λ (n : ℕ). HoldsFewer p c.release.new.self.pass (held_below (now_of c.release.new.self.pass).words n))
-    (ap (λ (x : Config). x.pages) same ∙ ap (λ (w : WordsState). w.config.pages) c.requires.one_table)
-    (sym (held_alike p d same
-    (ap (λ (s : Steady). s.allocations) close.0.steady ∙ ap (λ (s : Steady). s.allocations) marks.steady))
-    ∙ release_holds d c.release.new.self.pass u
-    (in_turn_after c.release.ensures.acts refl) close.1 c.release.ensures.acts
-    (free_then _ _ close.0.call free).gone)
+returns-clause-held g c = stop_holds (parts g (goal.at.returns-clause-held g c).After-release) c.requires.one_table
 
 pub returns-clause-reached : goal.returns-clause-reached
 returns-clause-reached g c none =

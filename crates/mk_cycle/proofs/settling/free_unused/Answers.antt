@@ -19,12 +19,9 @@ returns-then-known_page-eq0-clause-settled c =
     let a = c.args.turn.now.pass in
     let q = c.free_head.new.turn.pass in
     let lt = on_table a c.args.words.now c.requires.one_table c.args.page c.requires.within in
-    freed_settles a q c.args.page _
-    (head_frees a q c.free_head.ensures.was c.free_head.ensures.is c.requires.free c.requires.phase c.args.page
-    c.free_head.ensures.acts lt)
-    (head_state a q c.free_head.ensures.was c.free_head.ensures.is c.requires.free c.requires.phase c.args.page
-    c.free_head.ensures.acts lt)
-    c.requires.none_left
+    freed_settles a q _ _ (head_frees a q c.free_head.ensures.was c.free_head.ensures.is c.requires.free
+    c.requires.phase _ c.free_head.ensures.acts lt) (head_state a q c.free_head.ensures.was c.free_head.ensures.is
+    c.requires.free c.requires.phase _ c.free_head.ensures.acts lt) c.requires.none_left
 
 pub returns-else-known_page-eq0-clause-frees : goal.returns-else-known_page-eq0-clause-frees
 returns-else-known_page-eq0-clause-frees c = page_at_once c.args.page _ _ (none_at_once c.args.turn.now.pass)

@@ -6,17 +6,15 @@ use Rattle.mk_cycle.proofs.FreeingSteps.{freed_table}
 use Rattle.mk_cycle.proofs.settling.settle_pages.Goals as goal
 
 pub loop-page-init : goal.loop-page-init
-loop-page-init c =
-    record {
-      op = refl;
-      begun = omega arith;
-      settled = settled_none c.args.turn.now.pass c.args.words.now.config.pages c.requires.cells
-          c.requires.occupied;
-      count = omega arith;
-      words = omega arith;
-      kept = omega arith;
-      few = omega arith;
-    }
+loop-page-init c = record {
+  op = refl;
+  begun = omega arith;
+  settled = settled_none _ _ c.requires.cells c.requires.occupied;
+  count = omega arith;
+  words = omega arith;
+  kept = omega arith;
+  few = omega arith;
+}
 
 -- up to the next page that may be unsettled
 to_next : (c : After-known_page-word)
@@ -28,9 +26,8 @@ to_next c =
     let same_pages : c.loop-page.turn.pass.table.config.pages ≡ c.args.words.now.config.pages =
     grind (arith, freed_table) in
     let within = next.1 in
-    settled_to c.args.turn.now.pass c.loop-page.turn.pass c.in-Some.ensures.is c.loop-page.from c.in-Some.page
-    c.loop-page.end c.args.words.now.config.pages next.0 (omega (arith, within, same_pages)) next.3
-    c.loop-page.all c.loop-page.held i.settled
+    settled_to _ c.loop-page.turn.pass c.in-Some.ensures.is c.loop-page.from c.in-Some.page c.loop-page.end _ next.0
+    (omega (arith, within, same_pages)) next.3 c.loop-page.all c.loop-page.held i.settled
 
 pub settle_taken-here-requires-clause-settled : goal.settle_taken-here-requires-clause-settled
 settle_taken-here-requires-clause-settled c = grind (arith, to_next)
@@ -73,10 +70,13 @@ to_end : (c : In_default)
     → AreSettledBelow c.args.turn.now.pass c.loop-page.turn.pass c.args.words.now.config.pages
     c.args.words.now.config.pages c.loop-page.end c.loop-page.all c.loop-page.held
 to_end c =
-    settled_to c.args.turn.now.pass c.loop-page.turn.pass c.in_default.ensures.is c.loop-page.from
-    c.args.words.now.config.pages c.loop-page.end c.args.words.now.config.pages c.loop-page.invariant.begun
-    (omega arith) (λ r le lt. c.in_default.ensures.next r le (omega (arith, lt, same_pages c)))
-    c.loop-page.all c.loop-page.held c.loop-page.invariant.settled
+    settled_to _ c.loop-page.turn.pass c.in_default.ensures.is c.loop-page.from _ c.loop-page.end _
+    c.loop-page.invariant.begun (omega arith) (λ r le lt. c.in_default.ensures.next r le (omega (
+      arith,
+      lt,
+      same_pages
+          c,
+    ))) c.loop-page.all c.loop-page.held c.loop-page.invariant.settled
 
 pub returns-clause-settled : goal.returns-clause-settled
 returns-clause-settled c = (to_end (goal.at.returns-clause-settled c).In_default).settled

@@ -1,25 +1,19 @@
-use Rattle.mk_laws.proofs.Vocabulary.{ℕ, ap, head_page_under, header_of, subst, sym, ◌∙◌, ◌≤◌}
+use Rattle.mk_laws.proofs.Vocabulary.{ℕ, subst, sym, ◌≤◌}
 use Rattle.mk_cycle.proofs.SettledPages.{head_before, none_at}
 use Rattle.mk_cycle.proofs.{FreeingSteps.freed_free, PageSteps.page_then}
 use Rattle.mk_cycle.proofs.settling.settle_taken.Goals as goal
 
 pub free_unused-requires-clause-free : goal.free_unused-requires-clause-free
-free_unused-requires-clause-free c =
-    freed_free _ _ c.release_cells-here.ensures.gives.frees.frees c.requires.free
+free_unused-requires-clause-free c = freed_free _ _ c.release_cells-here.ensures.gives.frees.frees c.requires.free
 
 pub free_unused-requires-clause-head : goal.free_unused-requires-clause-head
 free_unused-requires-clause-head c =
-    c.head_page.ensures
-    ∙ ap (λ (n : ℕ). head_page_under (header_of n) c.args.page)
-    (c.requires.header ∙ sym c.release_cells-here.ensures.gives.header)
+    cc (c.head_page.ensures, c.requires.header, c.release_cells-here.ensures.gives.header)
 
 pub free_unused-requires-clause-none_at_head : goal.free_unused-requires-clause-none_at_head
 free_unused-requires-clause-none_at_head c =
-    none_at c.args.turn.now.pass c.release_cells-here.new.turn.pass c.args.page c.head_page.result
-    c.release_cells-here.ensures.gives
-    (subst (λ (n : ℕ). n ≤ c.args.page) (sym c.head_page.ensures)
-    (head_before (header_of c.args.header.now) c.args.page))
-    c.requires.settled
+    none_at _ c.release_cells-here.new.turn.pass _ c.head_page.result c.release_cells-here.ensures.gives
+    (subst (λ (n : ℕ). n ≤ c.args.page) (sym c.head_page.ensures) (head_before _ _)) c.requires.settled
 
 pub returns-clause-frees : goal.returns-clause-frees
 returns-clause-frees c =

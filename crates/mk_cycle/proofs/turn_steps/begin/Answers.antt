@@ -5,6 +5,6 @@ use Rattle.mk_cycle.proofs.turn_steps.begin.Goals as goal
 
 pub begin-requires-clause-enabled : goal.begin-requires-clause-enabled
 begin-requires-clause-enabled c =
-    begin_allowed c.args.turn.now.pass c.in_turn.ensures c.requires.free c.requires.phase
+    begin_allowed _ c.in_turn.ensures c.requires.free c.requires.phase
     (λ page lt. c.requires.clean page (subst (λ (w : WordsState). page < w.config.pages) c.requires.one_table lt))
     c.requires.fresh

@@ -6,7 +6,7 @@ use Rattle.mk_cycle.proofs.turn_steps.look_among.Goals as goal
 
 pub look_among-requires-clause-enabled : goal.look_among-requires-clause-enabled
 look_among-requires-clause-enabled c =
-    look_allowed c.args.turn.now.pass c.in_turn.ensures c.requires.free c.args.x
+    look_allowed _ c.in_turn.ensures c.requires.free c.args.x
     (subst (λ (w : WordsState). is_word w.config c.args.x ≡ true) (sym c.requires.one_table) c.requires.in_range)
     c.requires.no_register
 

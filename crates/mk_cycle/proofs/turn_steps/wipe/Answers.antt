@@ -5,6 +5,6 @@ use Rattle.mk_cycle.proofs.turn_steps.wipe.Goals as goal
 
 pub wipe-requires-clause-enabled : goal.wipe-requires-clause-enabled
 wipe-requires-clause-enabled c =
-    wipe_allowed c.args.turn.now.pass c.in_turn.ensures c.requires.free c.requires.phase c.args.word
+    wipe_allowed _ c.in_turn.ensures c.requires.free c.requires.phase c.args.word
     (subst (λ (w : WordsState). c.args.word < 64 * w.config.pages) (sym c.requires.one_table) c.requires.within)
     c.requires.released

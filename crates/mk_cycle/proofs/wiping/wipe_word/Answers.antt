@@ -19,9 +19,9 @@ pub wipe-requires-clause-released : goal.wipe-requires-clause-released
 wipe-requires-clause-released c =
     let first = look_frees _ _ c.look_among.ensures.was c.look_among.ensures.is c.requires.free c.requires.phase _
     c.look_among.ensures.acts in
-    holds_released c.look_among.new.turn.pass c.look_among.ensures.is (freed_free _ _ first.frees c.requires.free)
-    (freed_phase _ _ first.frees c.requires.phase)
-    c.args.word (still_unmapped _ _ c.args.word first.frees.keeps c.requires.unmapped.unmapped)
+    holds_released _ c.look_among.ensures.is (freed_free _ _ first.frees c.requires.free)
+    (freed_phase _ _ first.frees c.requires.phase) c.args.word
+    (still_unmapped _ _ c.args.word first.frees.keeps c.requires.unmapped.unmapped)
     (λ z. c.if-look_among-ne0.true (c.look_among.ensures.reads ∙ z))
 
 pub returns-then-look_among-ne0-clause-frees : goal.returns-then-look_among-ne0-clause-frees

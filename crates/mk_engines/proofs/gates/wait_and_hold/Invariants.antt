@@ -4,9 +4,8 @@ use Rattle.mk_words.specs.States.{now_of}
 use Rattle.mk_engines.proofs.gates.wait_and_hold.Given as goal
 
 abbrev pub invariant-trying : goal.invariant-trying
-invariant-trying g l =
-    record {
-      on : GoesBeside l.fn.turn l.turn;
-      others : KeepsOtherGates l.fn.caller l.fn.turn.pass l.turn.pass;
-      waits : is_held (now_of l.turn.pass).words l.fn.caller ≡ false;
-    }
+invariant-trying g l = record {
+  on : GoesBeside l.fn.turn l.turn;
+  others : KeepsOtherGates l.fn.caller l.fn.turn.pass l.turn.pass;
+  waits : is_held (now_of l.turn.pass).words l.fn.caller ≡ false;
+}

@@ -4,12 +4,7 @@ use Rattle.mk_engines.proofs.MarksBeside.{gates_at_once, gates_on, goes_nowhere,
 use Rattle.mk_engines.proofs.roots.mark_registers.Goals as goal
 
 pub loop-caller-init : goal.loop-caller-init
-loop-caller-init g c =
-    record {
-      on = goes_nowhere c.args.turn.now c.requires.beside;
-      gates = gates_at_once c.args.turn.now.pass;
-      looked = λ k lt. absurd (omega arith);
-    }
+loop-caller-init g c = grind (arith, goes_nowhere, gates_at_once)
 
 pub loop-caller-preserved : goal.loop-caller-preserved
 loop-caller-preserved g c =

@@ -4,9 +4,8 @@ use Rattle.mk_engines.specs.Beside.{GoesBeside, LooksAt}
 use Rattle.mk_engines.proofs.roots.mark_registers.Given as goal
 
 abbrev pub invariant-loop-caller : goal.invariant-loop-caller
-invariant-loop-caller g l =
-    record {
-      on : GoesBeside l.fn.turn l.turn;
-      gates : KeepsGates l.fn.turn.pass l.turn.pass;
-      looked : (k : ℕ) → k < l.caller → (r : ℕ) → r < 8 → LooksAt (Word.Reg k r) l.fn.turn.pass l.turn.pass;
-    }
+invariant-loop-caller g l = record {
+  on : GoesBeside l.fn.turn l.turn;
+  gates : KeepsGates l.fn.turn.pass l.turn.pass;
+  looked : (k : ℕ) → k < l.caller → (r : ℕ) → r < 8 → LooksAt (Word.Reg k r) l.fn.turn.pass l.turn.pass;
+}

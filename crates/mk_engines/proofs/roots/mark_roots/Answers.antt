@@ -5,9 +5,7 @@ use Rattle.mk_words.specs.States.{WordsState}
 use Rattle.mk_engines.proofs.roots.mark_roots.Goals as goal
 
 pub returns-clause-on : goal.returns-clause-on
-returns-clause-on g c =
-    goes_then c.args.turn.now c.mark_registers.new.turn c.mark_globals.new.turn c.mark_registers.ensures.on
-    c.mark_globals.ensures.on
+returns-clause-on g c = goes_then _ _ _ c.mark_registers.ensures.on c.mark_globals.ensures.on
 
 pub returns-clause-roots : goal.returns-clause-roots
 returns-clause-roots g c =

@@ -23,6 +23,4 @@ returns-clause-finds c =
     c.look.ensures.acts c.look.ensures.finds c.requires.root
 
 pub returns-clause-hand : goal.returns-clause-hand
-returns-clause-hand c =
-    root_hand c.args.turn.now.pass c.look.new.self.pass c.args.x c.look.ensures.acts c.look.result
-    c.look.ensures.finds c.requires.root
+returns-clause-hand c = root_hand _ _ c.args.x c.look.ensures.acts c.look.result c.look.ensures.finds c.requires.root

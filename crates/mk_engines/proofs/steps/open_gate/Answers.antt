@@ -22,5 +22,4 @@ returns-clause-others c =
     open_others c.args.turn.now.pass c.args.caller c.open_gate.new.self.pass c.open_gate.ensures.acts
 
 pub returns-clause-opened : goal.returns-clause-opened
-returns-clause-opened c =
-    opened c.args.turn.now.pass c.args.caller c.open_gate.new.self.pass c.open_gate.ensures.acts
+returns-clause-opened c = opened c.args.turn.now.pass c.args.caller c.open_gate.new.self.pass c.open_gate.ensures.acts

@@ -7,9 +7,8 @@ close_marks-requires-clause-ready g c =
 
 pub returns-clause-law : goal.returns-clause-law
 returns-clause-law g c =
-    closes_by_tracing c.args.stop.now.pass c.close_marks.new.stop.pass c.close_marks.ensures.traces
-    c.close_marks.ensures.wanted
-    c.close_marks.ensures.closes c.close_marks.ensures.closed
+    closes_by_tracing _ _ c.close_marks.ensures.traces c.close_marks.ensures.wanted c.close_marks.ensures.closes
+    c.close_marks.ensures.closed
 
 pub returns-clause-reached : goal.returns-clause-reached
 returns-clause-reached g c =

@@ -28,8 +28,7 @@ is_marked-requires-clause-page c =
 
 pub returns-then-is_marked-clause-on : goal.returns-then-is_marked-clause-on
 returns-then-is_marked-clause-on c =
-    goes_then c.args.turn.now c.cell_pointed.new.turn c.is_marked.new.turn
-    (goes_for_cell c.cell_pointed.ensures.looks c.requires.beside) c.is_marked.ensures.on
+    goes_then _ _ _ (goes_for_cell c.cell_pointed.ensures.looks c.requires.beside) c.is_marked.ensures.on
 
 pub returns-then-is_marked-clause-gates : goal.returns-then-is_marked-clause-gates
 returns-then-is_marked-clause-gates c =
@@ -39,10 +38,8 @@ returns-then-is_marked-clause-gates c =
 
 pub returns-clause-on : goal.returns-clause-on
 returns-clause-on c =
-    goes_then c.args.turn.now c.is_marked.new.turn c.mark_cell.new.turn
-    (goes_then c.args.turn.now c.cell_pointed.new.turn c.is_marked.new.turn
-    (goes_for_cell c.cell_pointed.ensures.looks c.requires.beside) c.is_marked.ensures.on)
-    c.mark_cell.ensures.on
+    goes_then _ _ _ (goes_then _ _ _ (goes_for_cell c.cell_pointed.ensures.looks c.requires.beside)
+    c.is_marked.ensures.on) c.mark_cell.ensures.on
 
 pub returns-clause-gates : goal.returns-clause-gates
 returns-clause-gates c =

@@ -1,5 +1,5 @@
-use Rattle.mk_sweep.proofs.Vocabulary.{Acts, IsEnabledTo, Step, WordsState, still_words}
-use Rattle.mk_laws.proofs.Vocabulary.{arith, may_turn_black, refl, subst, sym, true, ◌<◌, ◌^◌, ◌≡◌}
+use Rattle.mk_sweep.proofs.Vocabulary.{WordsState, still_words}
+use Rattle.mk_laws.proofs.Vocabulary.{arith, subst, sym, ◌<◌, ◌^◌, ◌≡◌}
 use Rattle.mk_sweep.proofs.Blacks.{black_now, blacks_added, blacks_length, blacks_same}
 use Rattle.mk_sweep.proofs.SweepSteps.{on_black, sweeps_from}
 use Rattle.mk_sweep.proofs.blackening.blacken_if_marked.Goals.{After-black, After-is_in_order}
@@ -10,21 +10,14 @@ pub returns-then-not-marked-clause-on : goal.returns-then-not-marked-clause-on
 returns-then-not-marked-clause-on c = sweeps_from c.args.stop.now c.requires.sweeping
 
 pub returns-then-not-marked-clause-more : goal.returns-then-not-marked-clause-more
-returns-then-not-marked-clause-more c =
-    blacks_same (still_words c.args.stop.now.pass) (still_words c.args.stop.now.pass) refl
+returns-then-not-marked-clause-more c = grind (arith, blacks_same)
 
 -- the cell is on a page
 near : (c : After-is_in_order) → c.args.cell.page < c.args.stop.now.pass.table.config.pages
 near c = subst (λ (t : WordsState). c.args.cell.page < t.config.pages) (sym c.requires.one_table) c.requires.page
 
 pub black-requires-clause-enabled : goal.black-requires-clause-enabled
-black-requires-clause-enabled c =
-    let p = c.args.stop.now.pass in
-    subst (λ v. IsEnabledTo p (Step.Black c.args.cell.page v)) (sym c.bit.ensures)
-    (may_black_cell p c.requires.sweeping.wanted (c.is_in_order.ensures.turn.holds, c.is_in_order.ensures.gates)
-    c.args.cell (near (goal.at.black-requires-clause-enabled c).After-is_in_order) c.requires.index
-    (subst (λ (t : WordsState). may_turn_black t.config.pages (still_words p) c.args.cell ≡ true)
-    (sym c.requires.one_table) (c.requires.turns c.if-not-marked.false)))
+black-requires-clause-enabled c = grind (arith, may_black_cell, near)
 
 pub returns-clause-on : goal.returns-clause-on
 returns-clause-on c =
@@ -35,16 +28,10 @@ returns-clause-on c =
 blackened : (c : After-black)
     → still_words c.black.new.self.pass
     ≡ with_blacks c.args.cell.page (2 ^ c.args.cell.index) (still_words c.args.stop.now.pass)
-blackened c =
-    black_words c.args.stop.now.pass c.black.new.self.pass c.requires.sweeping.wanted
-    (c.is_in_order.ensures.turn.holds, c.is_in_order.ensures.gates) c.args.cell.page (2 ^ c.args.cell.index)
-    (subst (λ v. Acts c.args.stop.now.pass (Step.Black c.args.cell.page v) c.black.new.self.pass) c.bit.ensures
-    c.black.ensures.acts)
+blackened c = grind (arith, black_words)
 
 pub returns-clause-more : goal.returns-clause-more
-returns-clause-more c =
-    blacks_added (still_words c.args.stop.now.pass) (still_words c.black.new.self.pass) c.args.cell.page _
-    (blackened (goal.at.returns-clause-more c).After-black)
+returns-clause-more c = blacks_added _ _ _ _ (blackened (goal.at.returns-clause-more c).After-black)
 
 pub returns-clause-black : goal.returns-clause-black
 returns-clause-black c marked =

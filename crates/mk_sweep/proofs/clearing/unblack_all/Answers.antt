@@ -1,23 +1,15 @@
-use Rattle.mk_sweep.proofs.Vocabulary.{WordsState, still_words}
-use Rattle.mk_laws.proofs.Vocabulary.{arith, refl, slice_index, subst, sym, ◌<◌, ◌∙◌, ◌≡◌}
+use Rattle.mk_sweep.proofs.Vocabulary.{still_words}
+use Rattle.mk_laws.proofs.Vocabulary.{arith, slice_index, ◌≡◌}
 use Rattle.mk_sweep.proofs.SweepSteps.{on_unblack, quiet_then, sweeps_from}
 use Rattle.mk_tracing.proofs.Clearing.{black_cleared, blacks_cleared, blacks_same, blacks_then, pages_then}
 use Rattle.mk_tracing.proofs.{MaySteps.may_unblack_page, Stilled.unblack_words}
 use Rattle.mk_sweep.proofs.clearing.unblack_all.Goals as goal
 
 pub loop-page-init : goal.loop-page-init
-loop-page-init c = record {
-  on = sweeps_from c.args.stop.now c.requires.sweeping;
-  fewer = blacks_same (still_words c.args.stop.now.pass) (still_words c.args.stop.now.pass) refl;
-  none = λ p lt. absurd (omega arith);
-}
+loop-page-init c = grind (arith, sweeps_from, blacks_same)
 
 pub unblack-requires-clause-enabled : goal.unblack-requires-clause-enabled
-unblack-requires-clause-enabled c =
-    may_unblack_page c.loop-page.stop.pass c.loop-page.invariant.on.sweeping.wanted
-    (c.is_in_order.ensures.turn.holds, c.is_in_order.ensures.gates) c.loop-page.page
-    (subst (λ (t : WordsState). c.loop-page.page < t.config.pages)
-    (sym (c.loop-page.invariant.on.table ∙ c.requires.one_table)) (omega arith))
+unblack-requires-clause-enabled c = grind (arith, may_unblack_page)
 
 pub loop-page-preserved : goal.loop-page-preserved
 loop-page-preserved c =

@@ -1,5 +1,5 @@
-use Rattle.mk_sweep.proofs.Vocabulary.{Words, WordsState, head_page, still_words}
-use Rattle.mk_laws.proofs.Vocabulary.{ap, arith, refl, slice_index, subst, sym, ◌<◌, ◌∙◌, ◌≡◌}
+use Rattle.mk_sweep.proofs.Vocabulary.{still_words}
+use Rattle.mk_laws.proofs.Vocabulary.{arith, slice_index, ◌≡◌}
 use Rattle.mk_sweep.proofs.SweepSteps.{on_undirty, quiet_then, sweeps_from}
 use Rattle.mk_sweep.proofs.WordLists.{head_is_near}
 use Rattle.mk_tracing.proofs.Clearing.{dirt_cleared, dirty_cleared, dirty_same, dirty_then, pages_then}
@@ -7,24 +7,10 @@ use Rattle.mk_tracing.proofs.{MaySteps.may_undirty_page, Stilled.undirty_words}
 use Rattle.mk_sweep.proofs.clearing.undirty_all.Goals as goal
 
 pub loop-page-init : goal.loop-page-init
-loop-page-init c = record {
-  on = sweeps_from c.args.stop.now c.requires.sweeping;
-  fewer = dirty_same (still_words c.args.stop.now.pass) (still_words c.args.stop.now.pass) refl;
-  clean = λ p lt. absurd (omega arith);
-}
+loop-page-init c = grind (arith, sweeps_from, dirty_same)
 
 pub undirty-requires-clause-enabled : goal.undirty-requires-clause-enabled
-undirty-requires-clause-enabled c =
-    let w = still_words c.args.stop.now.pass in
-    let near = head_is_near w c.loop-page.page in
-    may_undirty_page c.loop-page.stop.pass c.loop-page.invariant.on.sweeping.wanted
-    (c.is_in_order.ensures.turn.holds, c.is_in_order.ensures.gates) c.loop-page.page
-    (subst (λ (t : WordsState). c.loop-page.page < t.config.pages)
-    (sym (c.loop-page.invariant.on.table ∙ c.requires.one_table)) (omega arith))
-    (ap (λ (y : Words). slice_index y.blacks c.loop-page.page) c.loop-page.invariant.fewer.is
-    ∙ c.requires.none c.loop-page.page (omega arith))
-    (ap (λ (y : Words). slice_index y.blacks (head_page y c.loop-page.page)) c.loop-page.invariant.fewer.is
-    ∙ c.requires.none (head_page w c.loop-page.page) (omega arith))
+undirty-requires-clause-enabled c = grind (arith, head_is_near, may_undirty_page)
 
 pub loop-page-preserved : goal.loop-page-preserved
 loop-page-preserved c =

@@ -1,7 +1,8 @@
 use Rattle.mk_sweep.proofs.Vocabulary.{CellsAreClosed, PageIsBlack, PointWell, SweepsOn, TurnState, WordsState}
 use Rattle.mk_sweep.proofs.Vocabulary.{still_words, words_below}
 use Rattle.mk_laws.proofs.Vocabulary.{ℕ, ap, length, slice_index, subst, sym, ◌<◌, ◌∙◌, ◌≡◌}
-use Rattle.mk_sweep.proofs.{Kept.ready_of, SweptMarks.closes, SweptMarks.sweeping_behind, SweptMarks.sweeps}
+use Rattle.mk_sweep.proofs.SweptMarks.{SweepsInStop, closes, sweeping_behind, sweeps}
+use Rattle.mk_sweep.proofs.{Kept.ready_of, closing.close_by_sweeping.Goals.After-is_in_order-3}
 use Rattle.mk_sweep.proofs.closing.close_by_sweeping.Goals as goal
 
 pub want_and_wait-requires-clause-ready : goal.want_and_wait-requires-clause-ready
@@ -35,21 +36,32 @@ well_on words t u before behind well =
     (subst (λ (x : WordsState). PointWell x.config.pages (still_words u.pass)
     (words_below (still_words t.pass) words.config.pages)) (sym behind) well)
 
-pub returns-clause-law : goal.returns-clause-law
-returns-clause-law g c =
-    let p = c.args.stop.now.pass in
+-- the sweep, in the stop
+in_stop : (g : _) (c : After-is_in_order-3 g)
+    → SweepsInStop c.args.stop.now.pass c.want_and_wait.new.stop c.sweep_in_stop-looks.new.stop
+in_stop g c =
     let words : WordsState = c.args.words.now in
     let t = c.want_and_wait.new.stop in
-    let u = c.sweep_in_stop-looks.new.stop in
+    let sweep = c.sweep_in_stop-looks in
     let before : t.pass.table ≡ words = c.want_and_wait.ensures.table ∙ c.requires.one_table in
-    let behind : u.pass.table ≡ words = c.sweep_in_stop-looks.ensures.on.table ∙ before in
-    let sweeping = sweeping_behind c.want_and_wait.ensures.traces
-    c.want_and_wait.ensures.wanted c.requires.free c.requires.marking in
-    closes p t u c.sweep_in_stop-looks.result c.want_and_wait.ensures.traces sweeping
-    c.is_in_order-2.ensures.history c.is_in_order-3.ensures.history
-    (swept_on words before c.sweep_in_stop-looks.ensures.on)
-    (closed_on words u behind c.sweep_in_stop-looks.ensures.closed)
-    (well_on words t u before behind c.sweep_in_stop-looks.ensures.well)
+    let behind : sweep.new.stop.pass.table ≡ words = sweep.ensures.on.table ∙ before in
+    record {
+      waited = c.want_and_wait.ensures.traces;
+      sweeping = sweeping_behind c.want_and_wait.ensures.traces c.want_and_wait.ensures.wanted c.requires.free
+          c.requires.marking;
+      early = c.is_in_order-2.ensures.history;
+      history = c.is_in_order-3.ensures.history;
+      on = swept_on words before sweep.ensures.on;
+      closed = closed_on words sweep.new.stop behind sweep.ensures.closed;
+      well = well_on words t sweep.new.stop before behind sweep.ensures.well;
+    }
+
+pub returns-clause-law : goal.returns-clause-law
+returns-clause-law g c =
+    let u = c.sweep_in_stop-looks.new.stop in
+    let behind : u.pass.table ≡ c.args.words.now =
+    c.sweep_in_stop-looks.ensures.on.table ∙ c.want_and_wait.ensures.table ∙ c.requires.one_table in
+    closes (in_stop g (goal.at.returns-clause-law g c).After-is_in_order-3)
     (c.is_in_order-3.ensures.turn.holds, c.is_in_order-3.ensures.gates)
     (subst (λ (x : WordsState). (pg : ℕ) → pg < x.config.pages → PageIsBlack (still_words u.pass) pg) (sym behind)
     c.sweep_in_stop-looks.ensures.black)
@@ -58,18 +70,8 @@ returns-clause-law g c =
 
 pub returns-clause-sweeps : goal.returns-clause-sweeps
 returns-clause-sweeps g c =
-    let p = c.args.stop.now.pass in
-    let words : WordsState = c.args.words.now in
     let t = c.want_and_wait.new.stop in
-    let u = c.sweep_in_stop-looks.new.stop in
-    let before : t.pass.table ≡ words = c.want_and_wait.ensures.table ∙ c.requires.one_table in
-    let behind : u.pass.table ≡ words = c.sweep_in_stop-looks.ensures.on.table ∙ before in
-    let sweeping = sweeping_behind c.want_and_wait.ensures.traces
-    c.want_and_wait.ensures.wanted c.requires.free c.requires.marking in
-    sweeps p t u c.sweep_in_stop-looks.result c.want_and_wait.ensures.traces sweeping
-    c.is_in_order-2.ensures.history c.is_in_order-3.ensures.history
-    (swept_on words before c.sweep_in_stop-looks.ensures.on)
-    (closed_on words u behind c.sweep_in_stop-looks.ensures.closed)
-    (well_on words t u before behind c.sweep_in_stop-looks.ensures.well)
+    sweeps (in_stop g (goal.at.returns-clause-sweeps g c).After-is_in_order-3) c.sweep_in_stop-looks.result
     (c.sweep_in_stop-looks.ensures.looks
-    ∙ sym (ap (λ (x : WordsState). length (words_below (still_words t.pass) x.config.pages)) before))
+    ∙ sym (ap (λ (x : WordsState). length (words_below (still_words t.pass) x.config.pages))
+    (c.want_and_wait.ensures.table ∙ c.requires.one_table)))

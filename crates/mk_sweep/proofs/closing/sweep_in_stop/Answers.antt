@@ -6,11 +6,11 @@ use Rattle.mk_sweep.proofs.closing.sweep_in_stop.Goals as goal
 
 pub blacken_all-requires-clause-closed : goal.blacken_all-requires-clause-closed
 blacken_all-requires-clause-closed c =
-    closed_behind c.args.words.now c.mark_roots.new.stop c.sweep_pages-looks.new.stop
+    closed_behind _ c.mark_roots.new.stop c.sweep_pages-looks.new.stop
     (sym (c.sweep_pages-looks.ensures.on.table ∙ c.mark_roots.ensures.on.table ∙ c.undirty_all.ensures.on.table
-    ∙ c.unblack_all.ensures.on.table ∙ c.requires.one_table))
-    c.is_in_order.ensures.history c.sweep_pages-looks.ensures.on.sweeping.settled c.sweep_pages-looks.ensures.more
-    c.mark_roots.ensures.roots c.sweep_pages-looks.ensures.well
+    ∙ c.unblack_all.ensures.on.table ∙ c.requires.one_table)) c.is_in_order.ensures.history
+    c.sweep_pages-looks.ensures.on.sweeping.settled c.sweep_pages-looks.ensures.more c.mark_roots.ensures.roots
+    c.sweep_pages-looks.ensures.well
 
 pub returns-clause-on : goal.returns-clause-on
 returns-clause-on c =
@@ -38,18 +38,17 @@ returns-clause-clean c p lt =
 
 pub returns-clause-closed : goal.returns-clause-closed
 returns-clause-closed c =
-    closed_kept c.blacken_all.ensures.more
-    (closed_behind c.args.words.now c.mark_roots.new.stop c.sweep_pages-looks.new.stop
+    closed_kept c.blacken_all.ensures.more (closed_behind _ c.mark_roots.new.stop c.sweep_pages-looks.new.stop
     (sym (c.sweep_pages-looks.ensures.on.table ∙ c.mark_roots.ensures.on.table ∙ c.undirty_all.ensures.on.table
-    ∙ c.unblack_all.ensures.on.table ∙ c.requires.one_table))
-    c.is_in_order.ensures.history c.sweep_pages-looks.ensures.on.sweeping.settled c.sweep_pages-looks.ensures.more
-    c.mark_roots.ensures.roots c.sweep_pages-looks.ensures.well)
+    ∙ c.unblack_all.ensures.on.table ∙ c.requires.one_table)) c.is_in_order.ensures.history
+    c.sweep_pages-looks.ensures.on.sweeping.settled c.sweep_pages-looks.ensures.more c.mark_roots.ensures.roots
+    c.sweep_pages-looks.ensures.well)
 
 pub returns-clause-well : goal.returns-clause-well
 returns-clause-well c =
     let pages : ℕ = c.args.words.now.config.pages in
-    well_when_black pages (words_below (still_words c.args.stop.now.pass) pages) c.blacken_all.ensures.more
+    well_when_black pages _ c.blacken_all.ensures.more
     (subst (λ ns. PointWell pages (still_words c.sweep_pages-looks.new.stop.pass) ns)
-    (ap (λ (x : Words). words_below x pages) c.mark_roots.ensures.more.is
-    ∙ ap (λ (x : Words). words_below x pages) c.undirty_all.ensures.fewer.is
-    ∙ ap (λ (x : Words). words_below x pages) c.unblack_all.ensures.fewer.is) c.sweep_pages-looks.ensures.well)
+    (ap (λ (x : Words). words_below x pages) c.mark_roots.ensures.more.is ∙ ap (λ (x : Words). words_below x pages)
+    c.undirty_all.ensures.fewer.is ∙ ap (λ (x : Words). words_below x pages) c.unblack_all.ensures.fewer.is)
+    c.sweep_pages-looks.ensures.well)

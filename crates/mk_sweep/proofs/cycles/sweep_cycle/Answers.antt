@@ -4,13 +4,12 @@ use Rattle.mk_sweep.proofs.WholeCycles.{releases_unswept}
 use Rattle.mk_sweep.proofs.cycles.sweep_cycle.Goals as goal
 
 pub returns-clause-cycle : goal.returns-clause-cycle
-returns-clause-cycle g c =
-    record {
-      begun = c.begin_cycle.new.turn.pass;
-      begins = c.begin_cycle.ensures.law;
-      finishes = c.finish_cycle-turn.ensures.law;
-      counted = c.finish_cycle-turn.ensures.released;
-    }
+returns-clause-cycle g c = record {
+  begun = c.begin_cycle.new.turn.pass;
+  begins = c.begin_cycle.ensures.law;
+  finishes = c.finish_cycle-turn.ensures.law;
+  counted = c.finish_cycle-turn.ensures.released;
+}
 
 pub returns-clause-unswept : goal.returns-clause-unswept
 returns-clause-unswept g c =

@@ -7,10 +7,8 @@ use Rattle.mk_sweep.proofs.stepping.look_at_root.Goals as goal
 
 pub look-requires-clause-enabled : goal.look-requires-clause-enabled
 look-requires-clause-enabled c =
-    may_look c.args.stop.now.pass c.requires.sweeping.wanted (
-      c.is_in_order.ensures.turn.holds,
-      c.is_in_order.ensures.gates,
-    ) c.args.x (subst (λ (t : WordsState). is_word t.config c.args.x ≡ true) (sym c.requires.one_table) c.requires.word)
+    may_look _ c.requires.sweeping.wanted (c.is_in_order.ensures.turn.holds, c.is_in_order.ensures.gates) c.args.x
+    (subst (λ (t : WordsState). is_word t.config c.args.x ≡ true) (sym c.requires.one_table) c.requires.word)
 
 pub returns-clause-on : goal.returns-clause-on
 returns-clause-on c =

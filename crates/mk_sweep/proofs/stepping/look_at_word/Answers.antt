@@ -34,6 +34,5 @@ returns-clause-hand c =
 
 pub returns-clause-found : goal.returns-clause-found
 returns-clause-found c =
-    look_finds c.args.stop.now.pass c.look.new.self.pass c.requires.sweeping.wanted
-    (c.is_in_order.ensures.turn.holds, c.is_in_order.ensures.gates) (Word.Heap c.args.word) c.look.ensures.acts
-    c.look.result c.look.ensures.finds refl
+    look_finds _ _ c.requires.sweeping.wanted (c.is_in_order.ensures.turn.holds, c.is_in_order.ensures.gates)
+    (Word.Heap c.args.word) c.look.ensures.acts c.look.result c.look.ensures.finds refl

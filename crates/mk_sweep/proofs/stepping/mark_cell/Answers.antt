@@ -23,7 +23,6 @@ returns-clause-on c =
 
 pub returns-clause-words : goal.returns-clause-words
 returns-clause-words c =
-    mark_words c.args.stop.now.pass c.mark.new.self.pass c.requires.sweeping.wanted
-    (c.is_in_order.ensures.turn.holds, c.is_in_order.ensures.gates) c.args.cell.page (2 ^ c.args.cell.index)
-    (subst (λ v. Acts c.args.stop.now.pass (Step.Mark c.args.cell.page v) c.mark.new.self.pass) c.bit.ensures
-    c.mark.ensures.acts)
+    mark_words _ _ c.requires.sweeping.wanted (c.is_in_order.ensures.turn.holds, c.is_in_order.ensures.gates) _
+    (2 ^ c.args.cell.index) (subst (λ v. Acts c.args.stop.now.pass (Step.Mark c.args.cell.page v) c.mark.new.self.pass)
+    c.bit.ensures c.mark.ensures.acts)

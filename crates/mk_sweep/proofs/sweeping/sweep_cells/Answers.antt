@@ -59,9 +59,8 @@ loop-index-preserved c =
       on = subst (λ ns. SweepsOn c.args.stop.now c.sweep_if_used-looks.new.stop ns) more
           (sweeps_then c.loop-index.invariant.on on);
       more = more_then w v x c.loop-index.invariant.more c.sweep_if_used-looks.ensures.more;
-      well = subst (λ ns. PointWell c.args.words.now.config.pages x ns) more
-          (both_well c.args.words.now.config.pages before here c.sweep_if_used-looks.ensures.more
-          c.loop-index.invariant.well well);
+      well = subst (λ ns. PointWell c.args.words.now.config.pages x ns) more (both_well _ before here
+          c.sweep_if_used-looks.ensures.more c.loop-index.invariant.well well);
       looks =
           ap (λ k. k + c.sweep_if_used-looks.result) c.loop-index.invariant.looks ∙ ap (λ k. length before + k)
           (c.sweep_if_used-looks.ensures.looks ∙ ap (λ (b : Bool). length (if_used b)) c.has_bit.ensures)
@@ -98,13 +97,4 @@ returns-clause-well c =
     c.cells_under-index-end.ensures.exact c.requires.scanned) c.loop-index.invariant.well
 
 pub returns-clause-looks : goal.returns-clause-looks
-returns-clause-looks c =
-    let end = c.loop-index-test.false in
-    let at : c.loop-index.index ≡ c.cells_under-index-end.result = let most = c.loop-index.auto.index-end in omega
-    arith in
-    c.loop-index.invariant.looks ∙ ap length
-    (ap (λ k. words_of_cells c.args.page c.words_under-size.result c.args.used k) at
-    ∙ words_of_scanned (still_words c.args.stop.now.pass) c.args.page c.args.header c.args.used
-    c.words_under-size.result
-    c.cells_under-index-end.result c.requires.header c.requires.used c.words_under-size.ensures.exact
-    c.cells_under-index-end.ensures.exact c.requires.scanned)
+returns-clause-looks c = grind (arith, words_of_scanned)

@@ -1,6 +1,6 @@
 use Rattle.std.proofs.lemmas.List.FromFn.{length-range_with_len}
 use Rattle.mk_sweep.proofs.Vocabulary.{PointWell, SweepsOn, still_words, words_if}
-use Rattle.mk_laws.proofs.Vocabulary.{Bool, ap, length, refl, subst, sym, ◌∙◌}
+use Rattle.mk_laws.proofs.Vocabulary.{Bool, ap, length, refl, subst, sym}
 use Rattle.mk_sweep.proofs.{SweepSteps.sweeps_from, WordLists.none_well}
 use Rattle.mk_tracing.proofs.MoreMarks.{more_same}
 use Rattle.mk_sweep.proofs.sweeping.sweep_if_used.Goals as goal
@@ -35,6 +35,4 @@ returns-clause-well c =
     (words_if b c.args.first c.args.size)) (sym c.if-not-used.false) c.sweep_words.ensures.well
 
 pub returns-clause-looks : goal.returns-clause-looks
-returns-clause-looks c =
-    sym (ap (λ (b : Bool). length (words_if b c.args.first c.args.size)) c.if-not-used.false
-    ∙ length-range_with_len c.args.first c.args.size)
+returns-clause-looks c = cc (c.if-not-used.false, length-range_with_len c.args.first c.args.size)

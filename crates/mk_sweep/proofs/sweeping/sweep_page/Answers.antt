@@ -13,9 +13,7 @@ returns-then-has_no_pointers-clause-on c =
     ∙ c.if-has_no_pointers.true)) c.look_at-header.ensures.on
 
 pub returns-then-has_no_pointers-clause-more : goal.returns-then-has_no_pointers-clause-more
-returns-then-has_no_pointers-clause-more c =
-    more_same (still_words c.args.stop.now.pass) (still_words c.look_at-header.new.stop.pass)
-    c.look_at-header.ensures.words
+returns-then-has_no_pointers-clause-more c = more_same _ _ c.look_at-header.ensures.words
 
 pub returns-then-has_no_pointers-clause-well : goal.returns-then-has_no_pointers-clause-well
 returns-then-has_no_pointers-clause-well c =
@@ -66,7 +64,4 @@ returns-clause-well c =
     c.sweep_cells.ensures.well
 
 pub returns-clause-looks : goal.returns-clause-looks
-returns-clause-looks c =
-    c.sweep_cells.ensures.looks
-    ∙ ap (λ (x : Words). length (words_on x c.args.page)) (c.look_at-used.ensures.words ∙
-    c.look_at-header.ensures.words)
+returns-clause-looks c = cc (c.sweep_cells.ensures.looks, c.look_at-used.ensures.words, c.look_at-header.ensures.words)

@@ -6,15 +6,7 @@ use Rattle.mk_sweep.proofs.WordLists.{both_well, none_well, page_more, words_kep
 use Rattle.mk_sweep.proofs.sweeping.sweep_pages.Goals as goal
 
 pub loop-page-init : goal.loop-page-init
-loop-page-init c =
-    let w = still_words c.args.stop.now.pass in
-    record {
-      on = sweeps_from c.args.stop.now c.requires.sweeping;
-      more = more_same w w refl;
-      well = none_well c.args.words.now.config.pages w;
-      looks = refl;
-      few = omega arith;
-    }
+loop-page-init c = grind (arith, sweeps_from, more_same, none_well)
 
 pub loop-page-preserved : goal.loop-page-preserved
 loop-page-preserved c =
@@ -30,13 +22,10 @@ loop-page-preserved c =
           (sweeps_then c.loop-page.invariant.on
           (subst (λ ns. SweepsOn c.loop-page.stop c.sweep_page-looks.new.stop ns) same c.sweep_page-looks.ensures.on));
       more = more_then w v x c.loop-page.invariant.more c.sweep_page-looks.ensures.more;
-      well = subst (λ ns. PointWell c.args.words.now.config.pages x ns) more
-          (both_well c.args.words.now.config.pages before here c.sweep_page-looks.ensures.more
-          c.loop-page.invariant.well
-          (subst (λ ns. PointWell c.args.words.now.config.pages x ns) same c.sweep_page-looks.ensures.well));
-      looks =
-          ap (λ k. k + c.sweep_page-looks.result) c.loop-page.invariant.looks ∙ ap (λ k. length before + k)
-          (c.sweep_page-looks.ensures.looks ∙ ap length same) ∙ sym (length-append before here) ∙ ap length more;
+      well = subst (λ ns. PointWell c.args.words.now.config.pages x ns) more (both_well _ before here
+          c.sweep_page-looks.ensures.more c.loop-page.invariant.well (subst (λ ns. PointWell
+          c.args.words.now.config.pages x ns) same c.sweep_page-looks.ensures.well));
+      looks = cc (c.loop-page.invariant.looks, c.sweep_page-looks.ensures.looks, same, length-append before here, more);
       few =
           let so_far = c.loop-page.invariant.few in
           let here_few = c.sweep_page-looks.ensures.few in
@@ -52,16 +41,7 @@ returns-clause-on c =
     c.loop-page.invariant.on
 
 pub returns-clause-well : goal.returns-clause-well
-returns-clause-well c =
-    let end = c.loop-page-test.false in
-    let at : c.loop-page.page ≡ c.args.words.now.config.pages =
-    let most = c.loop-page.auto.page-end in let is = c.pages-page-end.ensures in omega arith in
-    subst (λ k. PointWell c.args.words.now.config.pages (still_words c.loop-page.stop.pass)
-    (words_below (still_words c.args.stop.now.pass) k)) at c.loop-page.invariant.well
+returns-clause-well c = grind arith
 
 pub returns-clause-looks : goal.returns-clause-looks
-returns-clause-looks c =
-    let end = c.loop-page-test.false in
-    let at : c.loop-page.page ≡ c.args.words.now.config.pages =
-    let most = c.loop-page.auto.page-end in let is = c.pages-page-end.ensures in omega arith in
-    c.loop-page.invariant.looks ∙ ap (λ k. length (words_below (still_words c.args.stop.now.pass) k)) at
+returns-clause-looks c = grind arith

@@ -1,19 +1,13 @@
 use Rattle.std.specs.List.{range_with_len}
 use Rattle.mk_sweep.proofs.Vocabulary.{MarksMore, PointWell, SweepsOn, Words, still_words, world_of}
-use Rattle.mk_laws.proofs.Vocabulary.{List, ℕ, arith, refl, subst, sym, ◌+◌, ◌≡◌}
+use Rattle.mk_laws.proofs.Vocabulary.{List, ℕ, arith, subst, sym, ◌+◌, ◌≡◌}
 use Rattle.mk_sweep.proofs.SweepSteps.{sweeps_from, sweeps_then, then_quiet, word_alike}
 use Rattle.mk_sweep.proofs.WordLists.{none_well, one_well, word_more}
 use Rattle.mk_tracing.proofs.MoreMarks.{more_same, more_then}
 use Rattle.mk_sweep.proofs.sweeping.sweep_words.Goals as goal
 
 pub loop-i-init : goal.loop-i-init
-loop-i-init c =
-    let w = still_words c.args.stop.now.pass in
-    record {
-      on = sweeps_from c.args.stop.now c.requires.sweeping;
-      more = more_same w w refl;
-      well = none_well c.args.words.now.config.pages w;
-    }
+loop-i-init c = grind (arith, sweeps_from, more_same, none_well)
 
 pub look_at_word-value-requires-clause-scanned : goal.look_at_word-value-requires-clause-scanned
 look_at_word-value-requires-clause-scanned c =
@@ -48,8 +42,4 @@ returns-clause-on c =
     subst (λ k. SweepsOn c.args.stop.now c.loop-i.stop (range_with_len c.args.first k)) at c.loop-i.invariant.on
 
 pub returns-clause-well : goal.returns-clause-well
-returns-clause-well c =
-    let end = c.loop-i-test.false in
-    let at : c.loop-i.i ≡ c.args.size = omega arith in
-    subst (λ k. PointWell c.args.words.now.config.pages (still_words c.loop-i.stop.pass) (range_with_len
-    c.args.first k)) at c.loop-i.invariant.well
+returns-clause-well c = grind arith

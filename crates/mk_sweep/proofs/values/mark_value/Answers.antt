@@ -24,8 +24,7 @@ pub returns-in_default-clause-on : goal.returns-in_default-clause-on
 returns-in_default-clause-on c = looks (goal.at.returns-in_default-clause-on c).After-cell_pointed
 
 pub returns-in_default-clause-more : goal.returns-in_default-clause-more
-returns-in_default-clause-more c =
-    more_same _ _ (same (goal.at.returns-in_default-clause-more c).After-cell_pointed)
+returns-in_default-clause-more c = more_same _ _ (same (goal.at.returns-in_default-clause-more c).After-cell_pointed)
 
 pub is_marked-requires-clause-sweeping : goal.is_marked-requires-clause-sweeping
 is_marked-requires-clause-sweeping c =
@@ -71,11 +70,7 @@ mark_cell-requires-clause-reached c =
     record {
       value = c.args.value;
       in_hand = hand_kept (seen x) (c.is_marked.ensures.hand ∙ c.cell_pointed.ensures.hand) c.requires.hand;
-      points =
-          ap (λ (t : WordsState). pointed_cell t.config.pages (still_words q).pages c.args.value)
-          ((seen x).table ∙ c.requires.one_table)
-          ∙ ap (λ (w : Words). pointed_cell c.args.words.now.config.pages w.pages c.args.value) (unchanged x)
-          ∙ points x;
+      points = cc ((seen x).table, c.requires.one_table, unchanged x, points x);
     }
 
 pub returns-clause-on : goal.returns-clause-on

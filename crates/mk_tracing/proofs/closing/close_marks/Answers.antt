@@ -6,8 +6,7 @@ use Rattle.mk_tracing.proofs.closing.close_marks.Goals as goal
 
 pub returns-clause-traces : goal.returns-clause-traces
 returns-clause-traces g c =
-    wanted_once_then TracesReached c.args.stop.now.pass c.want_and_wait.new.stop.pass c.mark_in_stop.new.stop.pass
-    c.want_and_wait.ensures.traces c.mark_in_stop.ensures.on.traces
+    wanted_once_then TracesReached _ _ _ c.want_and_wait.ensures.traces c.mark_in_stop.ensures.on.traces
 
 pub returns-clause-closes : goal.returns-clause-closes
 returns-clause-closes g c =

@@ -1,26 +1,20 @@
 use Rattle.mk_laws.proofs.Vocabulary.{Words, ap, slice_index, ◌∙◌}
-use Rattle.mk_tracing.{proofs.Closes.roots_more, proofs.StopSteps.on_then, specs.Stops.still_words}
+use Rattle.mk_tracing.proofs.{Closes.roots_more, StopSteps.on_then}
 use Rattle.mk_tracing.proofs.closing.mark_in_stop.Goals as goal
 
 pub returns-clause-on : goal.returns-clause-on
 returns-clause-on c =
-    on_then c.args.stop.now c.mark_roots.new.stop c.trace.new.stop
-    (on_then c.args.stop.now c.clean_dirty.new.stop c.mark_roots.new.stop c.clean_dirty.ensures.on
-    c.mark_roots.ensures.on)
-    c.trace.ensures.on
+    on_then _ c.mark_roots.new.stop c.trace.new.stop (on_then _ c.clean_dirty.new.stop c.mark_roots.new.stop
+    c.clean_dirty.ensures.on c.mark_roots.ensures.marks.on) c.trace.ensures.on
 
 pub returns-clause-clean : goal.returns-clause-clean
 returns-clause-clean c p lt =
     ap (λ (w : Words). slice_index w.dirty p) c.trace.ensures.more.is
-    ∙ ap (λ (w : Words). slice_index w.dirty p) c.mark_roots.ensures.more.is
+    ∙ ap (λ (w : Words). slice_index w.dirty p) c.mark_roots.ensures.marks.more.is
     ∙ c.clean_dirty.ensures.clean p lt
 
 pub returns-clause-roots : goal.returns-clause-roots
-returns-clause-roots c =
-    roots_more c.args.words.now.config.pages (still_words c.mark_roots.new.stop.pass)
-    (still_words c.trace.new.stop.pass) c.trace.ensures.more c.mark_roots.ensures.roots
+returns-clause-roots c = roots_more _ _ _ c.trace.ensures.more c.mark_roots.ensures.roots
 
 pub trace-requires-clause-noted : goal.trace-requires-clause-noted
-trace-requires-clause-noted c =
-    c.mark_roots.ensures.noted
-    (c.forget.ensures.none c.args.words.now.config.pages (still_words c.clean_dirty.new.stop.pass))
+trace-requires-clause-noted c = c.mark_roots.ensures.marks.noted (c.forget.ensures.none _ _)

@@ -34,11 +34,8 @@ returns-then-unblack_if_dirty-clause-clean c =
     c.undirty_page.ensures.words
 
 pub returns-else-unblack_if_dirty-clause-fewer : goal.returns-else-unblack_if_dirty-clause-fewer
-returns-else-unblack_if_dirty-clause-fewer c p z =
-    same_dirt (still_words c.args.stop.now.pass) (still_words c.unblack_if_dirty.new.stop.pass) p
-    c.unblack_if_dirty.ensures.fewer ∙ z
+returns-else-unblack_if_dirty-clause-fewer c p z = same_dirt _ _ p c.unblack_if_dirty.ensures.fewer ∙ z
 
 pub returns-else-unblack_if_dirty-clause-clean : goal.returns-else-unblack_if_dirty-clause-clean
 returns-else-unblack_if_dirty-clause-clean c =
-    same_dirt (still_words c.args.stop.now.pass) (still_words c.unblack_if_dirty.new.stop.pass) c.args.page
-    c.unblack_if_dirty.ensures.fewer ∙ c.unblack_if_dirty.ensures.clean c.if-unblack_if_dirty.false
+    same_dirt _ _ _ c.unblack_if_dirty.ensures.fewer ∙ c.unblack_if_dirty.ensures.clean c.if-unblack_if_dirty.false

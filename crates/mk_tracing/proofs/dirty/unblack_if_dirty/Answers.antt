@@ -6,17 +6,15 @@ use Rattle.mk_tracing.proofs.dirty.unblack_if_dirty.Goals as goal
 
 pub returns-then-head-page-clause-on : goal.returns-then-head-page-clause-on
 returns-then-head-page-clause-on c =
-    on_then c.args.stop.now c.look_at-header.new.stop c.unblack_page.new.stop
-    (on_then c.args.stop.now c.look_among.new.stop c.look_at-header.new.stop c.look_among.ensures.on
-    c.look_at-header.ensures.on) c.unblack_page.ensures.on
+    on_then _ c.look_at-header.new.stop c.unblack_page.new.stop (on_then _ c.look_among.new.stop
+    c.look_at-header.new.stop c.look_among.ensures.on c.look_at-header.ensures.on) c.unblack_page.ensures.on
 
 pub returns-clause-on : goal.returns-clause-on
 returns-clause-on c =
-    on_then c.args.stop.now c.unblack_page.new.stop c.unblack_page-2.new.stop
-    (on_then c.args.stop.now c.look_at-header.new.stop c.unblack_page.new.stop
-    (on_then c.args.stop.now c.look_among.new.stop c.look_at-header.new.stop c.look_among.ensures.on
-    c.look_at-header.ensures.on) c.unblack_page.ensures.on)
-    c.unblack_page-2.ensures.on
+    on_then _ c.unblack_page.new.stop c.unblack_page-2.new.stop
+    (on_then _ c.look_at-header.new.stop c.unblack_page.new.stop
+    (on_then _ c.look_among.new.stop c.look_at-header.new.stop c.look_among.ensures.on c.look_at-header.ensures.on)
+    c.unblack_page.ensures.on) c.unblack_page-2.ensures.on
 
 pub returns-clause-unscanned : goal.returns-clause-unscanned
 returns-clause-unscanned c =
@@ -41,9 +39,8 @@ unblack_page-requires-clause-part c =
     let q = c.look_at-header.new.stop.pass in
     let same : still_words q ≡ still_words c.args.stop.now.pass = c.look_at-header.ensures.words
     ∙ c.look_among.ensures.words in
-    own_part q c.args.page
-    (λ z. c.if-look_among-eq0.false (c.look_among.ensures.found ∙ sym
-    (ap (λ (w : Words). slice_index w.dirty c.args.page) same) ∙ z))
+    own_part q _ (λ z. c.if-look_among-eq0.false
+    (c.look_among.ensures.found ∙ sym (ap (λ (w : Words). slice_index w.dirty c.args.page) same) ∙ z))
 
 pub unblack_page-requires-2-clause-part : goal.unblack_page-requires-2-clause-part
 unblack_page-requires-2-clause-part c =

@@ -1,6 +1,6 @@
 use Rattle.mk_laws.proofs.Vocabulary.{Words, ap, subst, sym, ◌∙◌}
 use Rattle.mk_tracing.proofs.{Clearing.black_clear, StopSteps.on_then}
-use Rattle.mk_tracing.specs.{Grays.HasDirtyPart, Grays.without_blacks, Stops.still_words}
+use Rattle.mk_tracing.specs.Grays.{HasDirtyPart, without_blacks}
 use Rattle.mk_tracing.proofs.dirty.unblack_page.Goals as goal
 
 pub clear_black-requires-clause-part : goal.clear_black-requires-clause-part
@@ -17,5 +17,4 @@ returns-then-look_at-ne0-clause-words c =
 
 pub returns-else-look_at-ne0-clause-words : goal.returns-else-look_at-ne0-clause-words
 returns-else-look_at-ne0-clause-words c =
-    c.look_at.ensures.words
-    ∙ black_clear (still_words c.args.stop.now.pass) c.args.page (sym c.look_at.ensures.found ∙ c.if-look_at-ne0.false)
+    c.look_at.ensures.words ∙ black_clear _ _ (sym c.look_at.ensures.found ∙ c.if-look_at-ne0.false)

@@ -11,9 +11,7 @@ loop-noted-init c = record {
 }
 
 pub is_gray-requires-clause-noted : goal.is_gray-requires-clause-noted
-is_gray-requires-clause-noted c =
-    c.in-Some.ensures.noted c.args.words.now.config.pages (still_words c.loop-noted.stop.pass)
-    c.loop-noted.invariant.noted
+is_gray-requires-clause-noted c = c.in-Some.ensures.noted _ _ c.loop-noted.invariant.noted
 
 pub returns-then-is_gray-clause-on : goal.returns-then-is_gray-clause-on
 returns-then-is_gray-clause-on c = on_then c.args.stop.now c.loop-noted.stop c.is_gray.new.stop

@@ -17,6 +17,5 @@ returns-then-without-eq0-clause-none c =
 
 pub returns-clause-on : goal.returns-clause-on
 returns-clause-on c =
-    on_then c.args.stop.now c.look_among-blacks.new.stop c.gray_among.new.stop
-    (on_then c.args.stop.now c.look_among-marks.new.stop c.look_among-blacks.new.stop c.look_among-marks.ensures.on
-    c.look_among-blacks.ensures.on) c.gray_among.ensures.on
+    on_then _ c.look_among-blacks.new.stop c.gray_among.new.stop (on_then _ c.look_among-marks.new.stop
+    c.look_among-blacks.new.stop c.look_among-marks.ensures.on c.look_among-blacks.ensures.on) c.gray_among.ensures.on

@@ -1,31 +1,13 @@
-use Rattle.mk_laws.proofs.Vocabulary.{Words, ℕ, ap, arith, ltb-true, refl, slice_index, ◌+◌, ◌∙◌}
-use Rattle.mk_tracing.proofs.{RootMarks.most_then, StopSteps.on_from, StopSteps.on_then}
-use Rattle.mk_tracing.specs.Stops.{still_words}
+use Rattle.mk_laws.proofs.Vocabulary.{arith, ltb-true}
+use Rattle.mk_tracing.proofs.RootMarks.{next_look, no_look_yet}
 use Rattle.mk_tracing.proofs.roots.are_before_heap.Goals as goal
 
 pub loop-i-init : goal.loop-i-init
-loop-i-init c = record {
-  on = on_from c.args.stop.now c.requires.wanted;
-  words = refl;
-  most = λ j lt. absurd (omega arith);
-}
+loop-i-init c = no_look_yet c.requires.wanted
 
 pub loop-i-preserved : goal.loop-i-preserved
 loop-i-preserved c =
-    let w = still_words c.args.stop.now.pass in
-    let look = c.look_at_root-all in
-    let here : ℕ = c.args.first + c.loop-i.i in
-    record {
-      on = on_then c.args.stop.now c.loop-i.stop look.new.stop c.loop-i.invariant.on look.ensures.on;
-      words = look.ensures.words ∙ c.loop-i.invariant.words;
-      most = most_then (λ j. slice_index w.globals (c.args.first + j)) c.loop-i.all look.result c.loop-i.i
-          c.loop-i.invariant.most
-          (look.ensures.found ∙ ap (λ (y : Words). slice_index y.globals here) c.loop-i.invariant.words);
-    }
+    let look = c.look_at_root-all.ensures in next_look c.loop-i.invariant look.on look.words look.found
 
 pub returns-clause-before : goal.returns-clause-before
-returns-clause-before c is i lt =
-    let end = c.loop-i-test.false in
-    let most = c.loop-i.invariant.most i (omega arith) in
-    let small = ltb-true c.loop-i.all 65536 is in
-    omega arith
+returns-clause-before c is i lt = grind (arith, ltb-true)

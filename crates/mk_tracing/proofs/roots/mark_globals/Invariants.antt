@@ -1,13 +1,9 @@
-use Rattle.mk_laws.proofs.Vocabulary.{ℕ, points_well, slice_index, true, ◌*◌, ◌<◌, ◌≡◌}
-use Rattle.mk_tracing.specs.{Grays.MarksMore, Grays.MarksOn, Noted.AreNoted, Stops.still_words}
+use Rattle.mk_laws.proofs.Vocabulary.{ℕ, ◌*◌, ◌<◌}
+use Rattle.mk_tracing.specs.{Grays.GlobalIsWell, Scans.MarksAndNotes}
 use Rattle.mk_tracing.proofs.roots.mark_globals.Given as goal
 
 abbrev pub invariant-loop-group : goal.invariant-loop-group
 invariant-loop-group l = record {
-  on : MarksOn l.fn.stop l.stop;
-  more : MarksMore (still_words l.fn.stop.pass) (still_words l.stop.pass);
-  noted : AreNoted l.words.config.pages (still_words l.fn.stop.pass) l.fn.work
-      → AreNoted l.words.config.pages (still_words l.stop.pass) l.work;
-  well : (g : ℕ) → g < 8 * l.group → points_well l.words.config.pages (still_words l.stop.pass)
-      (slice_index (still_words l.fn.stop.pass).globals g) ≡ true;
+  marks : MarksAndNotes l.words.config.pages l.fn.stop l.fn.work l.stop l.work;
+  well : (g : ℕ) → g < 8 * l.group → GlobalIsWell l.words.config l.fn.stop.pass l.stop.pass g;
 }

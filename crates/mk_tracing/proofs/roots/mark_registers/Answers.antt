@@ -1,34 +1,16 @@
-use Rattle.mk_laws.proofs.Vocabulary.{Word, ℕ, arith, points_well, refl, register_word, subst, true, ◌≡◌}
-use Rattle.mk_tracing.proofs.MoreMarks.{more_same, more_then}
-use Rattle.mk_tracing.proofs.{RootMarks.root_kept, RootMarks.values_then, StopSteps.on_from, StopSteps.on_then}
-use Rattle.mk_tracing.specs.Stops.{still_words}
+use Rattle.mk_laws.proofs.Vocabulary.{arith}
+use Rattle.mk_tracing.proofs.{RootMarks.registers_then, ScannedWords.marks_nothing, ScannedWords.notes_then}
 use Rattle.mk_tracing.proofs.roots.mark_registers.Goals as goal
 
 pub loop-caller-init : goal.loop-caller-init
-loop-caller-init c =
-    let w = still_words c.args.stop.now.pass in
-    record {
-      on = on_from c.args.stop.now c.requires.wanted;
-      more = more_same w w refl;
-      noted = λ h. h;
-      well = λ k lt r lr. absurd (omega arith);
-    }
+loop-caller-init c = record { marks = marks_nothing c.requires.wanted; well = λ k lt. absurd (omega arith) }
 
 pub loop-caller-preserved : goal.loop-caller-preserved
 loop-caller-preserved c =
-    let w = still_words c.args.stop.now.pass in
-    let v = still_words c.loop-caller.stop.pass in
-    let x = still_words c.mark_registers_of.new.stop.pass in
-    let pages : ℕ = c.args.words.now.config.pages in
+    let before = c.loop-caller.invariant in
+    let mark = c.mark_registers_of in
     record {
-      on = on_then c.args.stop.now c.loop-caller.stop c.mark_registers_of.new.stop c.loop-caller.invariant.on
-          c.mark_registers_of.ensures.on;
-      more = more_then w v x c.loop-caller.invariant.more c.mark_registers_of.ensures.more;
-      noted = λ h. c.mark_registers_of.ensures.noted (c.loop-caller.invariant.noted h);
-      well = λ k lt r lr.
-          values_then pages v x (λ j. register_word w j r) c.loop-caller.caller c.mark_registers_of.ensures.more
-          (λ j lj. c.loop-caller.invariant.well j lj r lr)
-          (subst (λ n. points_well pages x n ≡ true) (root_kept w v
-          (Word.Reg c.loop-caller.caller r) refl c.loop-caller.invariant.more) (c.mark_registers_of.ensures.well r lr))
-          k lt;
+      marks = notes_then before.marks mark.ensures.marks;
+      well = registers_then c.args.words.now.config c.args.stop.now.pass c.loop-caller.stop.pass mark.new.stop.pass
+          before.marks.more mark.ensures.marks.more before.well mark.ensures.well;
     }

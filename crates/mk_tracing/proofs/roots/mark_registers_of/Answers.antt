@@ -1,33 +1,10 @@
-use Rattle.mk_laws.proofs.Vocabulary.{Word, ℕ, arith, points_well, refl, register_word, subst, true, ◌≡◌}
-use Rattle.mk_tracing.proofs.MoreMarks.{more_same, more_then}
-use Rattle.mk_tracing.proofs.{RootMarks.root_kept, RootMarks.values_then, StopSteps.on_from, StopSteps.on_then}
-use Rattle.mk_tracing.specs.Stops.{still_words}
+use Rattle.mk_laws.proofs.Vocabulary.{refl}
+use Rattle.mk_tracing.proofs.{RootMarks.next_root_noted, RootMarks.no_root_noted, ScannedWords.marks_nothing}
 use Rattle.mk_tracing.proofs.roots.mark_registers_of.Goals as goal
 
 pub loop-register-init : goal.loop-register-init
-loop-register-init c =
-    let w = still_words c.args.stop.now.pass in
-    record {
-      on = on_from c.args.stop.now c.requires.wanted;
-      more = more_same w w refl;
-      noted = λ h. h;
-      well = λ r lt. absurd (omega arith);
-    }
+loop-register-init c = no_root_noted (marks_nothing c.requires.wanted)
 
 pub loop-register-preserved : goal.loop-register-preserved
 loop-register-preserved c =
-    let w = still_words c.args.stop.now.pass in
-    let v = still_words c.loop-register.stop.pass in
-    let x = still_words c.mark_root.new.stop.pass in
-    let pages : ℕ = c.args.words.now.config.pages in
-    record {
-      on = on_then c.args.stop.now c.loop-register.stop c.mark_root.new.stop c.loop-register.invariant.on
-          c.mark_root.ensures.on;
-      more = more_then w v x c.loop-register.invariant.more c.mark_root.ensures.more;
-      noted = λ h. c.mark_root.ensures.noted (c.loop-register.invariant.noted h);
-      well = values_then pages v x (λ r. register_word w c.args.caller r) c.loop-register.register
-          c.mark_root.ensures.more c.loop-register.invariant.well
-          (subst (λ n. points_well pages x n ≡ true) (root_kept w v
-          (Word.Reg c.args.caller c.loop-register.register) refl c.loop-register.invariant.more)
-          c.mark_root.ensures.well);
-    }
+    next_root_noted (λ r. refl) c.loop-register.invariant c.mark_root.ensures.marks c.mark_root.ensures.well

@@ -1,14 +1,7 @@
-use Rattle.mk_laws.proofs.Vocabulary.{ℕ, points_well, register_word, true, ◌<◌, ◌≡◌}
-use Rattle.mk_tracing.specs.{Grays.MarksMore, Grays.MarksOn, Noted.AreNoted, Stops.still_words}
+use Rattle.mk_laws.proofs.Vocabulary.{Word}
+use Rattle.mk_tracing.proofs.RootMarks.{RootsNoted}
 use Rattle.mk_tracing.proofs.roots.mark_registers_of.Given as goal
 
 abbrev pub invariant-loop-register : goal.invariant-loop-register
-invariant-loop-register l = record {
-  on : MarksOn l.fn.stop l.stop;
-  more : MarksMore (still_words l.fn.stop.pass) (still_words l.stop.pass);
-  noted : AreNoted l.words.config.pages (still_words l.fn.stop.pass) l.fn.work
-      → AreNoted l.words.config.pages (still_words l.stop.pass) l.work;
-  well : (r : ℕ) → r < l.register
-      → points_well l.words.config.pages (still_words l.stop.pass)
-      (register_word (still_words l.fn.stop.pass) l.caller r) ≡ true;
-}
+invariant-loop-register l =
+    RootsNoted l.words.config.pages l.fn.stop l.fn.work l.stop l.work (Word.Reg l.caller) l.register

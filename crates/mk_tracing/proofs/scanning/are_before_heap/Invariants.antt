@@ -1,12 +1,7 @@
-use Rattle.mk_laws.proofs.Vocabulary.{ℕ, first_word, slice_index, ◌+◌, ◌<◌, ◌≡◌, ◌≤◌}
-use Rattle.mk_tracing.specs.{Grays.MarksOn, Stops.still_words}
+use Rattle.mk_laws.proofs.Vocabulary.{first_word, slice_index, ◌+◌}
+use Rattle.mk_tracing.proofs.RootMarks.{LooksAtMost}
 use Rattle.mk_tracing.proofs.scanning.are_before_heap.Given as goal
 
 abbrev pub invariant-loop-i : goal.invariant-loop-i
-invariant-loop-i l = record {
-  on : MarksOn l.fn.stop l.stop;
-  words : still_words l.stop.pass ≡ still_words l.fn.stop.pass;
-  most : (j : ℕ) → j < l.i
-      → slice_index (still_words l.fn.stop.pass).heap (first_word (still_words l.fn.stop.pass) l.cell + (l.first + j))
-      ≤ l.all;
-}
+invariant-loop-i l =
+    LooksAtMost l.fn.stop l.stop (λ w j. slice_index w.heap (first_word w l.cell + (l.first + j))) l.all l.i

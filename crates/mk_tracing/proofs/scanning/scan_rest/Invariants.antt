@@ -1,12 +1,8 @@
-use Rattle.mk_tracing.proofs.ScannedWords.{ScannedTo}
-use Rattle.mk_tracing.specs.{Grays.MarksOn, Noted.AreNoted, Noted.IsNoted, Stops.still_words}
+use Rattle.mk_tracing.specs.{Noted.IsNoted, Scans.Scans, Stops.still_words}
 use Rattle.mk_tracing.proofs.scanning.scan_rest.Given as goal
 
 abbrev pub invariant-loop-i : goal.invariant-loop-i
 invariant-loop-i l = record {
-  on : MarksOn l.fn.stop l.stop;
-  scanned : ScannedTo l.words.config.pages (still_words l.fn.stop.pass) (still_words l.stop.pass) l.cell l.from l.i;
-  noted : AreNoted l.words.config.pages (still_words l.fn.stop.pass) l.fn.work
-      → AreNoted l.words.config.pages (still_words l.stop.pass) l.work;
+  scans : Scans l.words.config.pages l.fn.stop l.fn.work l.stop l.work l.cell l.from l.i;
   last : IsNoted l.words.config.pages (still_words l.stop.pass) l.last;
 }

@@ -22,7 +22,7 @@ returns-clause-on c =
 
 pub returns-clause-words : goal.returns-clause-words
 returns-clause-words c =
-    black_words c.args.stop.now.pass c.black_among.new.self.pass c.requires.wanted
-    (c.is_in_order.ensures.turn.holds, c.is_in_order.ensures.gates) c.args.cell.page (2 ^ c.args.cell.index)
+    black_words _ _ c.requires.wanted (c.is_in_order.ensures.turn.holds, c.is_in_order.ensures.gates) _
+    (2 ^ c.args.cell.index)
     (subst (λ v. Acts c.args.stop.now.pass (Step.Black c.args.cell.page v) c.black_among.new.self.pass) c.bit.ensures
     c.black_among.ensures.acts)

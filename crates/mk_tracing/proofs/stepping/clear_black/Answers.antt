@@ -5,10 +5,7 @@ use Rattle.mk_tracing.proofs.stepping.clear_black.Goals as goal
 
 pub unblack-requires-clause-enabled : goal.unblack-requires-clause-enabled
 unblack-requires-clause-enabled c =
-    may_unblack_page c.args.stop.now.pass c.requires.wanted (
-      c.is_in_order.ensures.turn.holds,
-      c.is_in_order.ensures.gates,
-    ) c.args.page
+    may_unblack_page _ c.requires.wanted (c.is_in_order.ensures.turn.holds, c.is_in_order.ensures.gates) _
     (subst (λ (t : WordsState). c.args.page < t.config.pages) (sym c.requires.one_table) c.requires.page)
 
 pub returns-clause-on : goal.returns-clause-on

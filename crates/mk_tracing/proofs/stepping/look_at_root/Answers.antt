@@ -6,8 +6,7 @@ use Rattle.mk_tracing.proofs.stepping.look_at_root.Goals as goal
 
 pub look_among-requires-clause-enabled : goal.look_among-requires-clause-enabled
 look_among-requires-clause-enabled c =
-    may_look c.args.stop.now.pass c.requires.wanted (c.is_in_order.ensures.turn.holds, c.is_in_order.ensures.gates)
-    c.args.x
+    may_look _ c.requires.wanted (c.is_in_order.ensures.turn.holds, c.is_in_order.ensures.gates) c.args.x
     (subst (λ (t : WordsState). is_word t.config c.args.x ≡ true) (sym c.requires.one_table) c.requires.word)
 
 pub returns-clause-on : goal.returns-clause-on
@@ -18,6 +17,5 @@ returns-clause-on c =
 
 pub returns-clause-hand : goal.returns-clause-hand
 returns-clause-hand c =
-    root_hand c.args.stop.now.pass c.look_among.new.self.pass c.requires.wanted
-    (c.is_in_order.ensures.turn.holds, c.is_in_order.ensures.gates) c.args.x c.look_among.ensures.acts
-    c.look_among.result c.look_among.ensures.finds c.requires.root
+    root_hand _ _ c.requires.wanted (c.is_in_order.ensures.turn.holds, c.is_in_order.ensures.gates) c.args.x
+    c.look_among.ensures.acts c.look_among.result c.look_among.ensures.finds c.requires.root

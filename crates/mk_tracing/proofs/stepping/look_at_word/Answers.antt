@@ -1,7 +1,6 @@
-use Rattle.mk_laws.proofs.Vocabulary.{Word, ap, arith, ◌*◌, ◌+◌, ◌<◌, ◌∙◌}
+use Rattle.mk_laws.proofs.Vocabulary.{Word, arith, ◌*◌, ◌+◌, ◌<◌}
 use Rattle.mk_tracing.proofs.StopSteps.{gray_word, on_word, word_found, word_hand, word_named, word_near}
 use Rattle.mk_tracing.proofs.{CellWords.page_of_word, MaySteps.may_look, stepping.look_at_word.Goals.After-is_in_order}
-use Rattle.mk_tracing.specs.Stops.{still_words}
 use Rattle.mk_tracing.proofs.stepping.look_at_word.Goals as goal
 
 near : (c : After-is_in_order) → 64 * c.args.cell.page + c.args.cell.index * c.args.size + c.args.i < 262144
@@ -26,10 +25,7 @@ look_on_page-requires-clause-enabled c =
     c.args.i c.requires.due c.requires.within)
 
 pub look_on_page-requires-clause-page : goal.look_on_page-requires-clause-page
-look_on_page-requires-clause-page c =
-    ap (λ k. c.args.cell.page + k) c.requires.part
-    ∙ page_of_word (still_words c.args.stop.now.pass) c.args.cell c.args.i c.args.size c.requires.due.gray.index
-    c.requires.due.words c.requires.within
+look_on_page-requires-clause-page c = grind (arith, page_of_word)
 
 pub returns-clause-on : goal.returns-clause-on
 returns-clause-on c =
@@ -41,14 +37,12 @@ returns-clause-on c =
 
 pub returns-clause-found : goal.returns-clause-found
 returns-clause-found c =
-    word_found c.args.stop.now.pass c.is_in_order.ensures.history _ c.requires.one_table c.args.cell c.args.size
-    c.args.i c.requires.due c.requires.within c.look_on_page.new.self.pass c.requires.wanted
-    (c.is_in_order.ensures.turn.holds, c.is_in_order.ensures.gates) c.look_on_page.result c.look_on_page.ensures.acts
-    c.look_on_page.ensures.finds
+    word_found _ c.is_in_order.ensures.history _ c.requires.one_table c.args.cell c.args.size c.args.i c.requires.due
+    c.requires.within _ c.requires.wanted (c.is_in_order.ensures.turn.holds, c.is_in_order.ensures.gates)
+    c.look_on_page.result c.look_on_page.ensures.acts c.look_on_page.ensures.finds
 
 pub returns-clause-hand : goal.returns-clause-hand
 returns-clause-hand c =
-    word_hand c.args.stop.now.pass c.is_in_order.ensures.history _ c.requires.one_table c.args.cell c.args.size
-    c.args.i c.requires.due c.requires.within c.look_on_page.new.self.pass c.requires.wanted
-    (c.is_in_order.ensures.turn.holds, c.is_in_order.ensures.gates) c.look_on_page.result c.look_on_page.ensures.acts
-    c.look_on_page.ensures.finds
+    word_hand _ c.is_in_order.ensures.history _ c.requires.one_table c.args.cell c.args.size c.args.i c.requires.due
+    c.requires.within _ c.requires.wanted (c.is_in_order.ensures.turn.holds, c.is_in_order.ensures.gates)
+    c.look_on_page.result c.look_on_page.ensures.acts c.look_on_page.ensures.finds

@@ -14,11 +14,8 @@ mark_in_use-requires-clause-in_use c =
 pub mark_in_use-requires-clause-enabled : goal.mark_in_use-requires-clause-enabled
 mark_in_use-requires-clause-enabled c =
     subst (λ v. IsEnabledTo c.args.stop.now.pass (Step.Mark c.args.cell.page v)) (sym c.bit.ensures)
-    (may_mark_cell c.args.stop.now.pass c.requires.wanted (
-      c.is_in_order.ensures.turn.holds,
-      c.is_in_order.ensures.gates,
-    ) c.args.cell c.requires.reached
-    (reached_within c.args.stop.now.pass c.args.cell c.requires.reached).0)
+    (may_mark_cell _ c.requires.wanted (c.is_in_order.ensures.turn.holds, c.is_in_order.ensures.gates) c.args.cell
+    c.requires.reached (reached_within c.args.stop.now.pass c.args.cell c.requires.reached).0)
 
 pub returns-clause-on : goal.returns-clause-on
 returns-clause-on c =
@@ -30,7 +27,7 @@ returns-clause-on c =
 
 pub returns-clause-words : goal.returns-clause-words
 returns-clause-words c =
-    mark_words c.args.stop.now.pass c.mark_in_use.new.self.pass c.requires.wanted
-    (c.is_in_order.ensures.turn.holds, c.is_in_order.ensures.gates) c.args.cell.page (2 ^ c.args.cell.index)
+    mark_words _ _ c.requires.wanted (c.is_in_order.ensures.turn.holds, c.is_in_order.ensures.gates) _
+    (2 ^ c.args.cell.index)
     (subst (λ v. Acts c.args.stop.now.pass (Step.Mark c.args.cell.page v) c.mark_in_use.new.self.pass) c.bit.ensures
     c.mark_in_use.ensures.acts)

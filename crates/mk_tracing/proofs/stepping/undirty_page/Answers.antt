@@ -5,10 +5,7 @@ use Rattle.mk_tracing.proofs.stepping.undirty_page.Goals as goal
 
 pub undirty-requires-clause-enabled : goal.undirty-requires-clause-enabled
 undirty-requires-clause-enabled c =
-    may_undirty_page c.args.stop.now.pass c.requires.wanted (
-      c.is_in_order.ensures.turn.holds,
-      c.is_in_order.ensures.gates,
-    ) c.args.page
+    may_undirty_page _ c.requires.wanted (c.is_in_order.ensures.turn.holds, c.is_in_order.ensures.gates) _
     (subst (λ (t : WordsState). c.args.page < t.config.pages) (sym c.requires.one_table) c.requires.page) c.requires.own
     c.requires.head
 

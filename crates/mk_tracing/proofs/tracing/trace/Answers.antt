@@ -8,8 +8,7 @@ use Rattle.mk_tracing.proofs.tracing.trace.Goals as goal
 pub loop-gray-init : goal.loop-gray-init
 loop-gray-init c = record {
   on = on_from c.args.stop.now c.requires.wanted;
-  more = colours_same
-      (still_words c.args.stop.now.pass);
+  more = colours_same _;
   last = tt;
   noted = c.requires.noted;
 }
@@ -31,16 +30,12 @@ loop-gray-preserved c =
     let more : ColoursMore w v = subst (λ (y : Words). ColoursMore w y)
     (sym c.next_gray.ensures.words) c.loop-gray.invariant.more in
     record {
-      on = on_then c.args.stop.now c.next_gray.new.stop c.blacken-last.new.stop
-          (on_then c.args.stop.now c.loop-gray.stop c.next_gray.new.stop c.loop-gray.invariant.on
-          c.next_gray.ensures.on) c.blacken-last.ensures.on;
-      more =
-          colours_then w v (still_words c.blacken-last.new.stop.pass) c.in-Some.gray.cell more
-          c.blacken-last.ensures.one;
+      on = on_then _ c.next_gray.new.stop c.blacken-last.new.stop (on_then _ c.loop-gray.stop c.next_gray.new.stop
+          c.loop-gray.invariant.on c.next_gray.ensures.on) c.blacken-last.ensures.on;
+      more = colours_then w v _ c.in-Some.gray.cell more c.blacken-last.ensures.one;
       last = c.blacken-last.ensures.last;
       noted = c.blacken-last.ensures.noted c.next_gray.ensures.noted;
     }
 
 pub returns-clause-on : goal.returns-clause-on
-returns-clause-on c = on_then c.args.stop.now c.loop-gray.stop c.next_gray.new.stop c.loop-gray.invariant.on
-    c.next_gray.ensures.on
+returns-clause-on c = on_then _ c.loop-gray.stop c.next_gray.new.stop c.loop-gray.invariant.on c.next_gray.ensures.on

@@ -1,4 +1,4 @@
-use Rattle.mk_laws.proofs.Vocabulary.{Cell, Words, ap, bit_or, slice_index, slice_set, subst, sym, ◌<◌, ◌^◌, ◌∙◌, ◌≡◌}
+use Rattle.mk_laws.proofs.Vocabulary.{Cell, Words, bit_or, slice_index, slice_set, subst, sym, ◌<◌, ◌^◌, ◌≡◌}
 use Rattle.mk_tracing.proofs.MoreMarks.{marked_as, marked_now, marks_length, more_marked, more_same}
 use Rattle.mk_tracing.proofs.{PointedCells.points_on, StopSteps.on_then, StopSteps.reached_within}
 use Rattle.mk_tracing.specs.Stops.{still_words}
@@ -20,15 +20,13 @@ mark_cell-requires-clause-reached c =
     c.is_marked.ensures.words c.is_marked.ensures.hand c.requires.reached
 
 pub returns-clause-on : goal.returns-clause-on
-returns-clause-on c = on_then c.args.stop.now c.is_marked.new.stop c.mark_cell.new.stop c.is_marked.ensures.on
-    c.mark_cell.ensures.on
+returns-clause-on c = on_then _ c.is_marked.new.stop c.mark_cell.new.stop c.is_marked.ensures.on c.mark_cell.ensures.on
 
 -- the words, by what the look left
 marked_from : (w v x : Words) (cell : Cell) → v ≡ w
     → x ≡ marked_as v (slice_set v.marks cell.page (bit_or (slice_index v.marks cell.page) (2 ^ cell.index)))
     → x ≡ marked_as w (slice_set w.marks cell.page (bit_or (slice_index w.marks cell.page) (2 ^ cell.index)))
-marked_from w v x cell same is = is ∙ ap (λ (y : Words). marked_as y (slice_set y.marks cell.page
-    (bit_or (slice_index y.marks cell.page) (2 ^ cell.index)))) same
+marked_from w v x cell same is = cc (is, same)
 
 pub returns-clause-more : goal.returns-clause-more
 returns-clause-more c =

@@ -16,9 +16,8 @@ returns-clause-ready c =
 
 pub returns-clause-phase : goal.returns-clause-phase
 returns-clause-phase c =
-    look_phase c.args.stop.now.pass c.look-found.new.self.pass c.look-found.ensures.acts c.is_in_order.ensures.own
-    c.requires.ready (c.is_in_order.ensures.turn.holds, c.is_in_order.ensures.gates)
-    ∙ c.requires.phase
+    look_phase _ c.look-found.new.self.pass c.look-found.ensures.acts c.is_in_order.ensures.own c.requires.ready
+    (c.is_in_order.ensures.turn.holds, c.is_in_order.ensures.gates) ∙ c.requires.phase
 
 pub returns-clause-wanted : goal.returns-clause-wanted
 returns-clause-wanted c few =

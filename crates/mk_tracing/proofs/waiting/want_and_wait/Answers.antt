@@ -9,8 +9,7 @@ loop-preserved g c = record {
   op = c.look_at_phase.ensures.op ∙ c.loop.invariant.op;
   ready = c.look_at_phase.ensures.ready;
   phase = c.look_at_phase.ensures.phase;
-  traces = waited_then c.args.stop.now.pass c.loop.stop.pass c.look_at_phase.new.stop.pass c.loop.invariant.traces
-      c.look_at_phase.ensures.traces;
+  traces = waited_then _ _ _ c.loop.invariant.traces c.look_at_phase.ensures.traces;
 }
 
 pub returns-then-look_at_phase-lt8-clause-traces : goal.returns-then-look_at_phase-lt8-clause-traces

@@ -1,6 +1,5 @@
 use Rattle.mk_laws.proofs.Vocabulary.{refl}
 use Rattle.mk_words.proofs.{HandedMaps.give_event, HandingCalls.give_call, HandingCalls.gives_own, Owed.same_id}
-use Rattle.mk_words.specs.Passes.{state_of}
 use Rattle.mk_words.proofs.handing.give_as.Goals as goal
 
 pub store-requires : goal.store-requires
@@ -12,13 +11,11 @@ store-requires g c =
     c.words.view_is r.one_table w.table.shared.table_id.words w.table.shared.table_id.slots t.id
     c.index_of-index.result r.slot.0 g.J.Making.event r.order c.words.invariant.key c.words.invariant.words
     c.words.invariant.slots r.picked r.may r.holds r.slot.1 r.slot.2 c.index_of-index.ensures in (
-      same_id c.args.words.now (state_of t.table_id t.me c.args.seat) w.table.shared.table_id t.table_id w.config
-          w.table.shared.key t.me c.args.seat c.words.view_is refl r.one_table,
+      same_id t.me c.args.seat c.words.view_is refl r.one_table,
       k.0,
       k.1,
     )
 
 pub returns-clause-told : goal.returns-clause-told
 returns-clause-told g c =
-    gives_own c.args.token.now.me c.store.new.seat.me g.J.Making.event (give_event c.args.seat) c.requires.picked
-    c.store.ensures.2
+    gives_own c.args.token.now.me c.store.new.seat.me _ (give_event _) c.requires.picked c.store.ensures.2

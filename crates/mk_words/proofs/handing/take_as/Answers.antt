@@ -1,6 +1,5 @@
 use Rattle.mk_laws.proofs.Vocabulary.{refl}
 use Rattle.mk_words.proofs.{HandedMaps.take_event, HandingCalls.take_call, HandingCalls.takes_own, Owed.same_id}
-use Rattle.mk_words.specs.Passes.{state_of}
 use Rattle.mk_words.proofs.handing.take_as.Goals as goal
 
 pub compare_exchange-requires : goal.compare_exchange-requires
@@ -12,8 +11,7 @@ compare_exchange-requires g c =
     c.words.view_is r.one_table w.table.shared.table_id.words w.table.shared.table_id.slots t.id c.args.op
     c.index_of-index.result c.args.number g.J.Making.event r.order c.words.invariant.key c.words.invariant.words
     r.picked r.may r.access c.index_of-index.ensures in (
-      same_id c.args.words.now (state_of t.table_id t.me c.args.seat) w.table.shared.table_id t.table_id w.config
-          w.table.shared.key t.me c.args.seat c.words.view_is refl r.one_table,
+      same_id t.me c.args.seat c.words.view_is refl r.one_table,
       k.0,
       k.1,
     )

@@ -1,9 +1,8 @@
-use Rattle.mk_laws.proofs.Vocabulary.{Seat, ap, false, is_number_of, sym, true, ◌∙◌, ◌≡◌}
+use Rattle.mk_laws.proofs.Vocabulary.{false, true, ◌≡◌}
 use Rattle.mk_words.proofs.stopped.open_other.Goals as goal
 
 pub returns-else-not-is_number-clause-opened : goal.returns-else-not-is_number-clause-opened
 returns-else-not-is_number-clause-opened c other =
     let mine : c.is_number.result ≡ true = c.if-not-is_number.false in
-    let is : true ≡ false = sym mine ∙ c.is_number.ensures
-    ∙ ap (λ (s : Seat). is_number_of s c.args.caller) c.seat.ensures ∙ other in
+    let is : true ≡ false = cc (mine, c.is_number.ensures, c.seat.ensures, other) in
     cc

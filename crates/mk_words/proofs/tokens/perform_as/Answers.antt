@@ -1,7 +1,9 @@
-use Rattle.mk_laws.proofs.Vocabulary.{ℕ, ap, refl, subst, sym, ◌∙◌, ◌≡◌}
-use Rattle.mk_core.specs.{Layout.IsOfTable, Layout.index_of, declared.accesses.TableWord.TableWord}
+use Rattle.mk_laws.proofs.Vocabulary.{ℕ, ap, refl, subst, sym, ◌<◌, ◌∙◌, ◌≡◌}
+use Rattle.mk_core.specs.{Layout.IsOfTable, Layout.index_of, Words.becomes, declared.accesses.TableWord.TableWord}
+use Rattle.atomic_table.specs.Table.{Allows}
 use Rattle.mk_words.proofs.Owed.{names_word, perform_call, perform_keeps, perform_learns}
-use Rattle.mk_words.specs.{Passes.state_of, States.WordsState}
+use Rattle.mk_words.proofs.tokens.perform_as.Goals.{After-index_near-index}
+use Rattle.mk_words.specs.{Passes.state_of, Rule.Kept, Rule.adds, Rule.no_step, States.WordsState}
 use Rattle.mk_words.proofs.tokens.perform_as.Goals as goal
 
 -- The number of pages at hand is the table's.
@@ -10,8 +12,7 @@ pages_told u v pages same number = number ∙ ap (λ (w : WordsState). w.config.
 
 index_told : (u v : WordsState) (pages index : ℕ) (word : TableWord) → u ≡ v → pages ≡ v.config.pages
     → index ≡ index_of pages word → index ≡ index_of u.config.pages word
-index_told u v pages index word same number is =
-    is ∙ ap (λ (n : ℕ). index_of n word) (pages_told u v pages same number)
+index_told u v pages index word same number is = is ∙ ap (λ (n : ℕ). index_of n word) (pages_told u v pages same number)
 
 pub index_near-index-requires-clause-names : goal.index_near-index-requires-clause-names
 index_near-index-requires-clause-names g c =
@@ -19,33 +20,32 @@ index_near-index-requires-clause-names g c =
     let t = c.args.token.now in
     subst (λ (n : ℕ). IsOfTable n c.args.word)
     (sym (pages_told _ c.args.words.now c.args.pages c.words.view_is c.requires.pages))
-    (names_word c.args.words.now (state_of t.table_id t.me c.args.seat) w.table.shared.table_id t.table_id w.config
-    w.table.shared.key t.me c.args.seat c.words.view_is refl c.requires.one_table
+    (names_word t.me c.args.seat c.words.view_is refl c.requires.one_table
     c.args.step c.args.word c.requires.order c.requires.may c.requires.word)
 
-pub access_as-requires-clause-within : goal.access_as-requires-clause-within
-access_as-requires-clause-within g c =
+-- what the access is owed
+owed : (g : _) (c : After-index_near-index g)
+    → (c.index_near-index.result < c.words.inside.table.shared.table_id.words)
+    × Allows (Kept c.words.inside.table.shared.key) c.words.inside.table.shared.table_id.slots c.args.token.now.id
+    c.args.token.now.me c.index_near-index.result (becomes c.args.by) (λ n m. adds g.J.Making.event no_step
+    c.args.token.now.me n m)
+owed g c =
     let w = c.words.inside in
     let t = c.args.token.now in
-    (perform_call c.args.words.now (state_of t.table_id t.me c.args.seat) w.table.shared.table_id t.table_id w.config
+    perform_call c.args.words.now (state_of t.table_id t.me c.args.seat) w.table.shared.table_id t.table_id w.config
     w.table.shared.key t.me c.args.seat c.words.view_is refl c.requires.one_table
     w.table.shared.table_id.words w.table.shared.table_id.slots t.id c.args.step c.index_near-index.result c.args.word
     c.args.by g.J.Making.event
     c.requires.order c.words.invariant.key c.words.invariant.words c.requires.picked c.requires.may c.requires.word
     c.requires.access (index_told _ c.args.words.now c.args.pages c.index_near-index.result c.args.word
-    c.words.view_is c.requires.pages c.index_near-index.ensures) c.requires.hands_none).0
+    c.words.view_is c.requires.pages c.index_near-index.ensures) c.requires.hands_none
+
+pub access_as-requires-clause-within : goal.access_as-requires-clause-within
+access_as-requires-clause-within g c = (owed g (goal.at.access_as-requires-clause-within g c).After-index_near-index).0
 
 pub access_as-requires-clause-allowed : goal.access_as-requires-clause-allowed
 access_as-requires-clause-allowed g c =
-    let w = c.words.inside in
-    let t = c.args.token.now in
-    (perform_call c.args.words.now (state_of t.table_id t.me c.args.seat) w.table.shared.table_id t.table_id w.config
-    w.table.shared.key t.me c.args.seat c.words.view_is refl c.requires.one_table
-    w.table.shared.table_id.words w.table.shared.table_id.slots t.id c.args.step c.index_near-index.result c.args.word
-    c.args.by g.J.Making.event
-    c.requires.order c.words.invariant.key c.words.invariant.words c.requires.picked c.requires.may c.requires.word
-    c.requires.access (index_told _ c.args.words.now c.args.pages c.index_near-index.result c.args.word
-    c.words.view_is c.requires.pages c.index_near-index.ensures) c.requires.hands_none).1
+    (owed g (goal.at.access_as-requires-clause-allowed g c).After-index_near-index).1
 
 pub returns-clause-told : goal.returns-clause-told
 returns-clause-told g c =

@@ -21,9 +21,7 @@ at_probe o to value = record (at_load o to) { stage = Probe; p = value }
 
 entered : (c : After-is_in_order) → let o =
     Op.SetPtr c.args.q c.args.i c.args.p in IsMidCall c.enter.new.self o (begun o)
-entered c =
-    enters c.args.pass.now c.enter.new.self (Op.SetPtr c.args.q c.args.i c.args.p) c.requires.callers
-    c.requires.admitted c.in_ok-enter.ensures.goes
+entered c = grind (arith, enters)
 
 -- the pointer that it goes through
 own : (c : After-is_in_order-2) → c.reg_load-to.result ≡ register_of c.args.pass.now c.args.q
@@ -84,11 +82,9 @@ met : (c : After-is_in_order-4) (t : WordsState) → c.reg_load-to.result ≡ re
 met c t is same =
     let n : ℕ = c.reg_load-to.result in
     let least = c.requires.points.least in
-    and_from (nat_le 65536 n) (nat_lt (heap_word_at n + c.args.i) (64 * t.config.pages)) (le-leb 65536 n (omega arith))
-    (lt-ltb (heap_word_at n + c.args.i) (64 * t.config.pages)
-    (subst (λ (x : WordsState). heap_word_at n + c.args.i < 64 * x.config.pages) (sym same)
-    (subst (λ (x : ℕ). heap_word_at x + c.args.i < 64 * c.args.pass.now.table.config.pages) (sym is)
-    c.requires.points.word)))
+    and_from _ _ (le-leb 65536 n (omega arith)) (lt-ltb _ (64 * t.config.pages)
+    (subst (λ (x : WordsState). heap_word_at n + c.args.i < 64 * x.config.pages) (sym same) (subst
+    (λ (x : ℕ). heap_word_at x + c.args.i < 64 * c.args.pass.now.table.config.pages) (sym is) c.requires.points.word)))
 
 probed_table : (c : After-is_in_order-4) → c.probe-header.new.self.table ≡ c.args.pass.now.table
 probed_table c =

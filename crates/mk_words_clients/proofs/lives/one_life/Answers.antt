@@ -1,37 +1,22 @@
-use Rattle.mk_laws.proofs.Vocabulary.{Caller, Config, Event, List, Marker, Seat, ap, arith, cases_Bool, inl, inr}
-use Rattle.mk_laws.proofs.Vocabulary.{lt-ltb, marker_at, outside, refl, seat_exists, subst, sym, true, [], ◌++◌, ◌∙◌}
-use Rattle.mk_laws.proofs.Vocabulary.{◌∷◌, ◌≡◌}
+use Rattle.mk_laws.proofs.Vocabulary.{Caller, Config, List, Marker, Seat, ap, arith, cases_Bool, inl, inr, lt-ltb}
+use Rattle.mk_laws.proofs.Vocabulary.{marker_at, outside, refl, seat_exists, subst, sym, true, [], ◌++◌, ◌∷◌, ◌≡◌}
 use Rattle.mk_core.specs.{Growing.is_same_seat, History.left_from}
 use Rattle.mk_words.proofs.Seats.{has_all, has_first, has_left, has_right, same_seat, without_keeps}
 use Rattle.mk_words.specs.{Seats.Has, Seats.all_seats, Seats.without_seat, States.PassState, States.now_of}
 use Rattle.mk_words_clients.proofs.lives.one_life.Goals as goal
 
 pub split-caller-requires-clause-here : goal.split-caller-requires-clause-here
-split-caller-requires-clause-here c =
-    let k : Config = c.args.config.now in
-    let some = c.requires.within_limits.callers in
-    subst (λ (x : PassState). Has x.seats (Caller 0)) (sym c.in_ok-words.ensures.pass)
-    (has_all k (Caller 0) (lt-ltb 0 k.callers (omega arith)))
+split-caller-requires-clause-here c = grind (arith, has_all, lt-ltb)
 
 pub split-marker-requires-clause-here : goal.split-marker-requires-clause-here
-split-marker-requires-clause-here c =
-    let k : Config = c.args.config.now in
-    let first : Has c.in_ok-words.host.seats (Marker 0) =
-    subst (λ (x : PassState). Has x.seats (Marker 0)) (sym c.in_ok-words.ensures.pass) (has_all k (Marker 0) refl) in
-    subst (λ (x : PassState). Has x.seats (Marker 0)) (sym c.split-caller.ensures.pass)
-    (without_keeps (Caller 0) c.in_ok-words.host.seats (Marker 0) refl first)
+split-marker-requires-clause-here c = grind (arith, has_all, without_keeps)
 
 first_out : (p : PassState) → marker_at (now_of (record p { seen = [] })) (Marker 0) ≡ outside
 unfolding left_from
 first_out p = refl
 
 pub split-marker-requires-clause-out : goal.split-marker-requires-clause-out
-split-marker-requires-clause-out c =
-    let none : c.split-caller.new.pass.seen ≡ [] =
-    ap (λ (x : PassState). x.seen) c.split-caller.ensures.pass
-    ∙ ap (λ (x : PassState). x.seen) c.in_ok-words.ensures.pass in
-    let pass : PassState = c.split-caller.new.pass in
-    ap (λ (es : List Event). marker_at (now_of (record pass { seen = es })) (Marker 0)) none ∙ first_out pass
+split-marker-requires-clause-out c = grind (arith, first_out)
 
 pub close-requires-clause-home : goal.close-requires-clause-home
 close-requires-clause-home c s exists =
@@ -43,21 +28,14 @@ close-requires-clause-home c s exists =
     subst (λ (xs : List Seat). Has xs s) (sym start)
     (has_all k s (subst (λ (d : Config). seat_exists d s ≡ true) there exists)) in
     let less : List Seat = without_seat (Marker 0) (without_seat (Caller 0) first) in
-    let host : c.split-marker.new.pass.seats ≡ less =
-    ap (λ (x : PassState). x.seats) c.split-marker.ensures.pass
-    ∙ ap (λ (x : PassState). without_seat (Marker 0) x.seats) c.split-caller.ensures.pass in
+    let host : c.split-marker.new.pass.seats ≡ less = cc (c.split-marker.ensures.pass, c.split-caller.ensures.pass) in
     let marker : c.split-marker.result.seats ≡ Marker 0 ∷ [] =
     ap (λ (x : PassState). x.seats) c.split-marker.ensures.made in
     let caller : c.split-caller.result.seats ≡ Caller 0 ∷ [] =
     ap (λ (x : PassState). x.seats) c.split-caller.ensures.made in
-    let one : c.join.new.into.seats ≡ less ++ (Marker 0 ∷ []) =
-    ap (λ (x : PassState). x.seats) c.join.ensures.pass
-    ∙ ap (λ (xs : List Seat). xs ++ c.split-marker.result.seats) host
-    ∙ ap (λ (xs : List Seat). less ++ xs) marker in
+    let one : c.join.new.into.seats ≡ less ++ (Marker 0 ∷ []) = cc (c.join.ensures.pass, host, marker) in
     let both : c.join-2.new.into.seats ≡ (less ++ (Marker 0 ∷ [])) ++ (Caller 0 ∷ []) =
-    ap (λ (x : PassState). x.seats) c.join-2.ensures.pass
-    ∙ ap (λ (xs : List Seat). xs ++ c.split-caller.result.seats) one
-    ∙ ap (λ (xs : List Seat). (less ++ (Marker 0 ∷ [])) ++ xs) caller in
+    cc (c.join-2.ensures.pass, one, caller) in
     subst (λ (xs : List Seat). Has xs s) (sym both) (elim (cases_Bool (is_same_seat (Caller 0) s)) [
       | inl same ↦ has_right (less ++ (Marker 0 ∷ [])) (Caller 0 ∷ []) s
           (subst (λ (x : Seat). Has (Caller 0 ∷ []) x) (same_seat (Caller 0) s same) (has_first (Caller 0) []))

@@ -4,15 +4,7 @@ use Rattle.mk_words_clients.proofs.TurnFacts.{holds_none, holds_one_more, settle
 use Rattle.mk_words_clients.proofs.stops.hold_all.Goals as goal
 
 pub loop-caller-init : goal.loop-caller-init
-loop-caller-init c =
-    let p : PassState = c.args.turn.now.pass in
-    record {
-      one_table = c.requires.one_table;
-      settled = settled p c.requires.free;
-      within = omega arith;
-      holds = holds_none p c.requires.free.gates;
-      tidy = λ t. t;
-    }
+loop-caller-init c = grind (arith, settled, holds_none)
 
 pub loop-caller-preserved : goal.loop-caller-preserved
 loop-caller-preserved c =
@@ -32,8 +24,7 @@ loop-caller-preserved c =
     }
 
 pub loop-caller-smaller : goal.loop-caller-smaller
-loop-caller-smaller c =
-    omega (arith, c.loop-caller-test.true, c.callers.ensures)
+loop-caller-smaller c = grind arith
 
 pub returns-in-Err-clause-tidy : goal.returns-in-Err-clause-tidy
 returns-in-Err-clause-tidy c = λ t.

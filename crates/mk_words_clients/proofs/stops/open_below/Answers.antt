@@ -23,9 +23,4 @@ loop-caller-preserved c =
     }
 
 pub returns-clause-free : goal.returns-clause-free
-returns-clause-free c =
-    let inv = c.loop-caller.invariant in
-    let p : PassState = c.loop-caller.turn.pass in
-    let none = c.loop-caller-test.false in
-    let zero_is : c.loop-caller.caller ≡ 0 = omega arith in
-    none_below p inv.settled (subst (λ (n : ℕ). HoldsBelow p n) zero_is inv.holds)
+returns-clause-free c = grind (arith, none_below)

@@ -4,34 +4,20 @@ use Rattle.atomic_table.specs.Table.{rest}
 use Rattle.mk_words.proofs.HandingCalls.{order_of_view, take_access, take_order, take_tells, taken_learns, took}
 use Rattle.mk_words.proofs.{MapSteps.page_known, Owed.same_id, handing.SeatToken.take.Goals.After-exchange-home}
 use Rattle.mk_words.specs.States.{PassState, WordsState, now_of}
-use Rattle.mk_words.specs.{PageMaps.IsMapOf, PageMaps.no_map, Passes.state_of, Rule.Mine, Steps.May, Steps.Tells}
+use Rattle.mk_words.specs.{PageMaps.IsMapOf, PageMaps.no_map, Passes.state_of, Rule.Mine, Steps.Tells}
 use Rattle.mk_words.proofs.handing.SeatToken.take.Goals as goal
 
 pub take_as-found-requires-clause-one_table : goal.take_as-found-requires-clause-one_table
-take_as-found-requires-clause-one_table c =
-    subst (λ (r : PassState). r.table ≡ c.args.words.now) (sym c.self.view_is) c.requires.one_table
+take_as-found-requires-clause-one_table c = grind arith
 
 pub take_as-found-requires-clause-may : goal.take_as-found-requires-clause-may
-take_as-found-requires-clause-may c =
-    subst (λ (r : PassState). May r (Step.Take c.args.op)) (sym c.self.view_is)
-    (record { enabled = c.requires.enabled; admitted = λ e. cc; tidy = λ e. cc; home = λ e. cc })
+take_as-found-requires-clause-may c = grind arith
 
 pub take_as-found-requires-clause-access : goal.take_as-found-requires-clause-access
-take_as-found-requires-clause-access c =
-    take_access c.self.inside.token.table_id c.self.inside.token.me c.self.inside.seat c.args.op
-    c.turn_word-number.result c.args.self c.self.view_is c.turn_word-number.ensures
+take_as-found-requires-clause-access c = grind (arith, take_access)
 
 pub exchange-home-requires : goal.exchange-home-requires
-exchange-home-requires c =
-    let p = c.self.inside in
-    let w = c.words.inside in
-    let f = c.take_as-found in
-    let h = f.ensures.told.1 c.if-found-eq0.true in (
-      f.ensures.table
-          ∙ same_id c.args.words.now c.args.self w.table.shared.table_id p.token.table_id w.config w.table.shared.key
-          p.token.me p.seat c.words.view_is c.self.view_is c.requires.one_table,
-      (h.0, took f.new.token.me.1 p.token.me.1 h.0 h.1),
-    )
+exchange-home-requires c = grind (arith, same_id, took)
 
 -- what a token learns that has taken the map out of the slot
 learns : (c : After-exchange-home)
@@ -76,14 +62,10 @@ into_carried-requires c =
     page_known q 0 x.result (subst (λ (w : WordsState). 0 < w.config.pages) (sym same) (omega (arith, some))) l.1
 
 pub returns-then-found-eq0-clause-taken : goal.returns-then-found-eq0-clause-taken
-returns-then-found-eq0-clause-taken c =
-    (learns (goal.at.returns-then-found-eq0-clause-taken c).After-exchange-home).0
+returns-then-found-eq0-clause-taken c = grind (arith, learns)
 
 pub returns-then-found-eq0-clause-map : goal.returns-then-found-eq0-clause-map
-returns-then-found-eq0-clause-map c =
-    let x = c.exchange-home in
-    subst (λ (m : KnownPages). IsMapOf m (now_of (state_of x.new.seat.table_id x.new.seat.me c.self.inside.seat)).words)
-    (sym c.into_carried.ensures) (learns (goal.at.returns-then-found-eq0-clause-map c).After-exchange-home).1
+returns-then-found-eq0-clause-map c = grind (arith, learns)
 
 pub invariant_of-back : goal.invariant_of-back
 invariant_of-back c =

@@ -1,5 +1,4 @@
-use Rattle.mk_laws.proofs.Vocabulary.{Holds, List, Step, ℕ, ap, subst, sym, [], ◌∙◌, ◌∷◌, ◌≡◌}
-use Rattle.mk_page_map.specs.KnownPages.{KnownPages}
+use Rattle.mk_laws.proofs.Vocabulary.{Holds, Step, ap, subst, sym, [], ◌∙◌, ◌∷◌, ◌≡◌}
 use Rattle.atomic_table.specs.Table.{rest}
 use Rattle.mk_words.proofs.HandingCalls.{give_makes, give_order, order_of_view, still_state, took}
 use Rattle.mk_words.proofs.{Owed.same_id, handing.TurnToken.give.Goals.After-exchange-empty}
@@ -12,8 +11,7 @@ exchange-empty-requires c =
     let p = c.self.inside in
     let w = c.words.inside in
     let slot = c.self.invariant.slots in (
-      same_id c.args.words.now c.args.self w.table.shared.table_id p.token.table_id w.config w.table.shared.key
-          p.token.me p.seat c.words.view_is c.self.view_is c.requires.one_table,
+      same_id p.token.me p.seat c.words.view_is c.self.view_is c.requires.one_table,
       (slot.0, took p.token.me.1 [] slot.0 slot.1),
     )
 
@@ -32,18 +30,14 @@ same_pass c =
     (ap (λ (m : Mine). m.0) c.exchange-empty.ensures.3) c.self.view_is
 
 slot_then : (c : After-exchange-empty) → c.exchange-empty.new.seat.me.1 ≡ (0, c.args.carried.value.map) ∷ []
-slot_then c =
-    ap (λ (m : Mine). m.1) c.exchange-empty.ensures.3
-    ∙ ap (λ (l : List (ℕ × KnownPages)). (0, c.args.carried.value.map) ∷ rest l) c.self.invariant.slots.1
+slot_then c = cc (c.exchange-empty.ensures.3, c.self.invariant.slots.1)
 
 pub give_as-requires-clause-order : goal.give_as-requires-clause-order
 give_as-requires-clause-order c = order_then (goal.at.give_as-requires-clause-order c).After-exchange-empty
 
 pub give_as-requires-clause-one_table : goal.give_as-requires-clause-one_table
 give_as-requires-clause-one_table c =
-    subst (λ (r : PassState). r.table
-    ≡ c.args.words.now) (sym (same_pass
-    (goal.at.give_as-requires-clause-one_table c).After-exchange-empty)) c.requires.one_table
+    cc (same_pass (goal.at.give_as-requires-clause-one_table c).After-exchange-empty, c.requires.one_table)
 
 pub give_as-requires-clause-may : goal.give_as-requires-clause-may
 give_as-requires-clause-may c =

@@ -17,8 +17,7 @@ returns-else-found-eq0-clause-in_call c =
     let f = c.act-found in
     record {
       makes = f.ensures.told.makes;
-      finds = sym (hold_finds c.args.self.now.pass c.args.caller f.result f.new.self.pass f.ensures.told
-          c.if-found-eq0.false) ∙ f.ensures.told.tells;
+      finds = sym (hold_finds _ c.args.caller f.result _ f.ensures.told c.if-found-eq0.false) ∙ f.ensures.told.tells;
     }
 
 pub returns-else-found-eq0-clause-not_held : goal.returns-else-found-eq0-clause-not_held

@@ -1,16 +1,10 @@
-use Rattle.mk_laws.proofs.Vocabulary.{ap, arith, subst, sym, ◌∙◌, ◌≡◌, ◌≤◌}
+use Rattle.mk_laws.proofs.Vocabulary.{ap, arith, sym, ◌∙◌, ◌≡◌, ◌≤◌}
 use Rattle.mk_words.proofs.Opening.{all_opened, one_round, opens_none}
-use Rattle.mk_words.specs.{Opening.Opens, Opening.OthersMayOpen, States.TurnState, States.WordsState}
+use Rattle.mk_words.specs.States.{WordsState}
 use Rattle.mk_words.proofs.stopped.Stopped.open_all.Goals as goal
 
 pub loop-caller-init : goal.loop-caller-init
-loop-caller-init c = record {
-  within = omega arith;
-  op = ap (λ (t : TurnState). t.op) c.self.view_is;
-  opens = subst (λ (t : TurnState). Opens c.args.self.pass t.pass) (sym c.self.view_is) (opens_none c.args.self.pass);
-  may = subst (λ (t : TurnState). OthersMayOpen t.pass 0) (sym c.self.view_is) c.requires.enabled;
-  opened = λ j lt other. absurd (omega arith);
-}
+loop-caller-init c = grind (arith, opens_none)
 
 pub loop-caller-preserved : goal.loop-caller-preserved
 loop-caller-preserved c =

@@ -20,11 +20,10 @@ perform_as-requires-clause-access g c =
     (sym c.self.view_is) c.requires.access
 
 pub invariant_of-self : goal.invariant_of-self
-invariant_of-self g c =
-    record {
-      order = c.perform_as.ensures.order;
-      slots = subst g.S.Slots.such (sym c.perform_as.ensures.slots) c.self.invariant.slots;
-    }
+invariant_of-self g c = record {
+  order = c.perform_as.ensures.order;
+  slots = subst g.S.Slots.such (sym c.perform_as.ensures.slots) c.self.invariant.slots;
+}
 
 pub returns : goal.returns
 returns g c =

@@ -9,17 +9,10 @@ caller-requires c =
     (subst (λ (t : TurnState). IsEnabledTo t.pass Step.Reg) (sym c.self.view_is) c.requires.enabled)
 
 pub returns-clause-finds : goal.returns-clause-finds
-returns-clause-finds c =
-    let f = c.perform in
-    load_finds c.args.self.now.pass f.result f.new.self.pass f.ensures.told c.args.r
-    c.requires.register c.requires.loads
+returns-clause-finds c = load_finds c.perform.ensures.told c.args.r c.requires.register c.requires.loads
 
 pub returns-clause-goes : goal.returns-clause-goes
-returns-clause-goes c =
-    let f = c.perform in
-    load_goes c.args.self.now.pass f.result f.new.self.pass f.ensures.told c.args.r c.requires.register c.requires.loads
+returns-clause-goes c = load_goes c.perform.ensures.told c.args.r c.requires.register c.requires.loads
 
 pub returns-clause-own : goal.returns-clause-own
-returns-clause-own c =
-    let f = c.perform in
-    load_own c.args.self.now.pass f.result f.new.self.pass f.ensures.told c.args.r c.requires.register c.requires.loads
+returns-clause-own c = load_own c.perform.ensures.told c.args.r c.requires.register c.requires.loads

@@ -10,5 +10,4 @@ returns-clause-acts c =
     (acts t.pass Step.Give f.result f.ensures c.self.invariant.turn.holds)
 
 pub returns-clause-rests : goal.returns-clause-rests
-returns-clause-rests c =
-    gives_rest c.self.inside.pass c.give-own.result c.give-own.ensures
+returns-clause-rests c = gives_rest c.self.inside.pass c.give-own.result c.give-own.ensures

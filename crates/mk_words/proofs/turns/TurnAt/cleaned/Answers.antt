@@ -15,10 +15,8 @@ invariant_of-self g c =
     let held = as_carried _ _ _ c.deref_mut.ensures.value c.self.invariant in
     record {
       turn = held.turn;
-      shows = map_cleaned (now_of t.pass).words c.args.page c.deref_mut.result.now.map c.cleaned.new.self
-          c.cleaned.ensures.shows c.cleaned.ensures.others
-          (subst (λ (v : TurnState). HasNoMarks (now_of v.pass).words c.args.page) (sym c.self.view_is)
-          c.requires.none)
-          held.shows;
+      shows = map_cleaned (now_of t.pass).words _ c.deref_mut.result.now.map c.cleaned.new.self c.cleaned.ensures.shows
+          c.cleaned.ensures.others (subst (λ (v : TurnState). HasNoMarks (now_of v.pass).words c.args.page)
+          (sym c.self.view_is) c.requires.none) held.shows;
       gates = held.gates;
     }

@@ -1,41 +1,24 @@
-use Rattle.mk_laws.proofs.Vocabulary.{Step, refl, subst, sym}
-use Rattle.mk_words.proofs.MapSteps.{as_carried, head_known, shows_head, turn_still}
-use Rattle.mk_words.proofs.TurnSteps.{acts}
-use Rattle.mk_words.specs.{States.TurnState, Steps.IsEnabledTo, TurnSteps.Acts}
+use Rattle.mk_laws.proofs.Vocabulary.{Step, refl}
+use Rattle.mk_words.proofs.MapSteps.{acted, as_carried, shows_head, told_page, told_turn}
 use Rattle.mk_words.proofs.turns.TurnAt.head.Goals as goal
 
 pub header_stored-requires : goal.header_stored-requires
 header_stored-requires g c =
-    let t = c.self.inside in
-    head_known t.pass c.args.page c.args.v c.deref_mut.result.now.map
-    (subst (λ (v : TurnState). IsEnabledTo v.pass (Step.Head c.args.page c.args.v)) (sym c.self.view_is)
-    c.requires.enabled) (as_carried _ _ _ c.deref_mut.ensures.value c.self.invariant).shows
+    told_page (Step.Head c.args.page c.args.v) c.args.page refl c.self.view_is c.requires.enabled
+    c.deref_mut.ensures.value c.self.invariant
 
 pub invariant_of-self : goal.invariant_of-self
 invariant_of-self g c =
-    let f = c.perform in
-    let t = c.self.inside in
+    let p = c.self.inside.pass in
+    let q = c.perform.new.self in
+    let before = c.deref_mut.result.now in
+    let map = c.header_stored.new.self in
     let held = as_carried _ _ _ c.deref_mut.ensures.value c.self.invariant in
-    let s : Step = Step.Head c.args.page c.args.v in
-    let a = acts t.pass s f.new.self f.ensures.told.makes c.self.invariant.turn.holds in
-    turn_still t.pass s f.new.self a c.deref_mut.result.now.op c.deref_mut.result.now.map c.header_stored.new.self
-    refl
-    (shows_head t.pass c.args.page c.args.v f.new.self a c.deref_mut.result.now.map c.header_stored.new.self
-    (record {
-      shows = c.header_stored.ensures.shows;
-      freed = c.header_stored.ensures.freed;
-      others = c.header_stored.ensures.others;
-    })
-    (head_known t.pass c.args.page c.args.v c.deref_mut.result.now.map
-    (subst (λ (v : TurnState). IsEnabledTo v.pass (Step.Head c.args.page c.args.v)) (sym c.self.view_is)
-    c.requires.enabled) held.shows)
-    held.shows)
-    held
+    told_turn p (Step.Head c.args.page c.args.v) q before.op before.map map refl c.perform.ensures.told.makes held
+    (λ a. shows_head p c.args.page c.args.v q a before.map map
+    (record { shows = c.header_stored.ensures.shows; freed = c.header_stored.ensures.freed; others = c.header_stored.ensures.others })
+    (told_page (Step.Head c.args.page c.args.v) c.args.page refl c.self.view_is c.requires.enabled
+    c.deref_mut.ensures.value c.self.invariant) held.shows)
 
 pub returns-clause-acts : goal.returns-clause-acts
-returns-clause-acts g c =
-    let f = c.perform in
-    let t = c.self.inside in
-    let s : Step = Step.Head c.args.page c.args.v in
-    subst (λ (v : TurnState). Acts v.pass s f.new.self) c.self.view_is
-    (acts t.pass s f.new.self f.ensures.told.makes c.self.invariant.turn.holds)
+returns-clause-acts g c = acted c.self.view_is c.self.invariant c.perform.ensures.told.makes

@@ -1,24 +1,19 @@
 use Rattle.mk_laws.proofs.Vocabulary.{Step, refl, subst}
-use Rattle.mk_words.proofs.{MapSteps.shows_still, MapSteps.turn_still, TurnSteps.acts}
-use Rattle.mk_words.specs.{States.TurnState, Steps.Finds, TurnSteps.Acts}
+use Rattle.mk_words.proofs.MapSteps.{acted, shows_still, told_turn}
+use Rattle.mk_words.specs.{States.TurnState, Steps.Finds}
 use Rattle.mk_words.proofs.turns.TurnAt.look_on_page.Goals as goal
 
 pub invariant_of-self : goal.invariant_of-self
 invariant_of-self g c =
-    let f = c.perform_near in
-    let t = c.self.inside in
+    let p = c.self.inside.pass in
+    let q = c.perform_near.new.self in
+    let before = c.self.inside.carried.value in
     let s : Step = Step.Look c.args.x in
-    let a = acts t.pass s f.new.self f.ensures.told.makes c.self.invariant.turn.holds in
-    turn_still t.pass s f.new.self a t.carried.value.op t.carried.value.map t.carried.value.map refl
-    (shows_still t.pass s f.new.self a t.carried.value.map refl c.self.invariant.shows) c.self.invariant
+    told_turn p s q before.op before.map before.map refl c.perform_near.ensures.told.makes c.self.invariant
+    (λ a. shows_still p s q a before.map refl c.self.invariant.shows)
 
 pub returns-clause-acts : goal.returns-clause-acts
-returns-clause-acts g c =
-    let f = c.perform_near in
-    let t = c.self.inside in
-    let s : Step = Step.Look c.args.x in
-    subst (λ (v : TurnState). Acts v.pass s f.new.self) c.self.view_is
-    (acts t.pass s f.new.self f.ensures.told.makes c.self.invariant.turn.holds)
+returns-clause-acts g c = acted c.self.view_is c.self.invariant c.perform_near.ensures.told.makes
 
 pub returns-clause-finds : goal.returns-clause-finds
 returns-clause-finds g c =

@@ -1,38 +1,23 @@
-use Rattle.mk_laws.proofs.Vocabulary.{Step, refl, subst, sym}
-use Rattle.mk_words.proofs.MapSteps.{as_carried, quar_known, shows_quar, turn_still}
-use Rattle.mk_words.proofs.TurnSteps.{acts}
-use Rattle.mk_words.specs.{States.TurnState, Steps.IsEnabledTo, TurnSteps.Acts}
+use Rattle.mk_laws.proofs.Vocabulary.{Step, refl}
+use Rattle.mk_words.proofs.MapSteps.{acted, as_carried, shows_quar, told_page, told_turn}
 use Rattle.mk_words.proofs.turns.TurnAt.quar.Goals as goal
 
 pub quarantine_stored-requires : goal.quarantine_stored-requires
 quarantine_stored-requires g c =
-    let t = c.self.inside in
-    quar_known t.pass c.args.page c.args.v c.deref_mut.result.now.map
-    (subst (λ (v : TurnState). IsEnabledTo v.pass (Step.Quar c.args.page c.args.v)) (sym c.self.view_is)
-    c.requires.enabled) (as_carried _ _ _ c.deref_mut.ensures.value c.self.invariant).shows
+    told_page (Step.Quar c.args.page c.args.v) c.args.page refl c.self.view_is c.requires.enabled
+    c.deref_mut.ensures.value c.self.invariant
 
 pub invariant_of-self : goal.invariant_of-self
 invariant_of-self g c =
-    let f = c.perform in
-    let t = c.self.inside in
+    let p = c.self.inside.pass in
+    let q = c.perform.new.self in
+    let before = c.deref_mut.result.now in
+    let map = c.quarantine_stored.new.self in
     let held = as_carried _ _ _ c.deref_mut.ensures.value c.self.invariant in
-    let s : Step = Step.Quar c.args.page c.args.v in
-    let a = acts t.pass s f.new.self f.ensures.told.makes c.self.invariant.turn.holds in
-    turn_still t.pass s f.new.self a c.deref_mut.result.now.op c.deref_mut.result.now.map c.quarantine_stored.new.self
-    refl
-    (shows_quar t.pass c.args.page c.args.v f.new.self
-    a c.deref_mut.result.now.map c.quarantine_stored.new.self
-    (record {
-      shows = c.quarantine_stored.ensures.shows;
-      uncleaned = c.quarantine_stored.ensures.uncleaned;
-    })
+    told_turn p (Step.Quar c.args.page c.args.v) q before.op before.map map refl c.perform.ensures.told.makes held
+    (λ a. shows_quar p c.args.page c.args.v q a before.map map
+    (record { shows = c.quarantine_stored.ensures.shows; uncleaned = c.quarantine_stored.ensures.uncleaned })
     held.shows)
-    held
 
 pub returns-clause-acts : goal.returns-clause-acts
-returns-clause-acts g c =
-    let f = c.perform in
-    let t = c.self.inside in
-    let s : Step = Step.Quar c.args.page c.args.v in
-    subst (λ (v : TurnState). Acts v.pass s f.new.self) c.self.view_is
-    (acts t.pass s f.new.self f.ensures.told.makes c.self.invariant.turn.holds)
+returns-clause-acts g c = acted c.self.view_is c.self.invariant c.perform.ensures.told.makes

@@ -9,8 +9,7 @@ pub split_seat-memory-requires : goal.split_seat-memory-requires
 split_seat-memory-requires c =
     let w = c.words.inside in
     let p = c.own.inside in
-    let id = same_id c.args.words c.args.own w.table.shared.table_id p.token.table_id w.config w.table.shared.key
-    p.token.me p.seat c.words.view_is c.own.view_is c.requires.one_table in
+    let id = same_id p.token.me p.seat c.words.view_is c.own.view_is c.requires.one_table in
     let t = copy_call w.config w.table.shared.key w.table.shared.table_id.words p.token.id p.token.me
     c.words.invariant.key c.words.invariant.words in
     (id, t.0, t.1)
@@ -28,12 +27,13 @@ returns-clause-tallies c =
     (subst (λ (q : PassState). HasAll c.args.words.config q.seats) (sym view) c.requires.home) in
     let ended = close_call w.config w.table.shared.key token.id token.me (slots_items r.words)
     (slots_items r.slots) c.words.invariant.key home c.close_with-closed.ensures.values.2 in
-    tallies_told w.config c.args.own.table.config c.args.words.config token.me.0.own.seen c.args.own.seen
-    (slots_items r.words)
-    c.last_word.result c.last_word-2.result c.freed_bits.result c.last_word-3.result c.last_word-4.result
-    c.last_word-5.result
-    c.split_seat-memory.result
-    (ap (λ (x : WordsState). x.config) c.requires.one_table
-    ∙ sym same) (sym same) (ap (λ (q : PassState). q.seen) (sym view)) ended.words
-    c.last_word.ensures c.last_word-2.ensures c.freed_bits.ensures c.last_word-3.ensures c.last_word-4.ensures
-    c.last_word-5.ensures
+    tallies_told (ap (λ (x : WordsState). x.config) c.requires.one_table ∙ sym same) (sym same)
+    (ap (λ (q : PassState). q.seen) (sym view)) ended.words
+    (record {
+      held = c.last_word.ensures;
+      fresh = c.last_word-2.ensures;
+      quarantined = c.freed_bits.ensures;
+      cycles = c.last_word-3.ensures;
+      released = c.last_word-4.ensures;
+      full = c.last_word-5.ensures;
+    })

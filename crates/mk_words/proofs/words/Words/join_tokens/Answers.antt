@@ -8,10 +8,8 @@ join_seat-requires c =
     let w = c.words.inside in
     let p = c.into.inside in
     let q = c.from.inside in
-    let mine = same_id c.args.words.now c.args.into.now w.table.shared.table_id p.token.table_id w.config
-    w.table.shared.key p.token.me p.seat c.words.view_is c.into.view_is c.requires.into in
-    let theirs = same_id c.args.words.now c.args.from w.table.shared.table_id q.token.table_id w.config
-    w.table.shared.key q.token.me q.seat c.words.view_is c.from.view_is c.requires.from in
+    let mine = same_id p.token.me p.seat c.words.view_is c.into.view_is c.requires.into in
+    let theirs = same_id q.token.me q.seat c.words.view_is c.from.view_is c.requires.from in
     let t = join_call w.config w.table.shared.key w.table.shared.table_id.words p.token.id p.token.me q.token.id
     q.token.me p.seat q.seat c.into.invariant.order c.from.invariant.order c.words.invariant.key
     c.words.invariant.words in
@@ -21,10 +19,8 @@ pub load-requires : goal.load-requires
 load-requires c =
     let w = c.words.inside in
     let p = c.into.inside in
-    let mine = same_id c.args.words.now c.args.into.now w.table.shared.table_id p.token.table_id w.config
-    w.table.shared.key p.token.me p.seat c.words.view_is c.into.view_is c.requires.into in
-    let same = same_config c.args.words.now c.args.into.now w.table.shared.table_id p.token.table_id w.config
-    w.table.shared.key p.token.me p.seat c.words.view_is c.into.view_is c.requires.into in
+    let mine = same_id p.token.me p.seat c.words.view_is c.into.view_is c.requires.into in
+    let same = same_config p.token.me p.seat c.words.view_is c.into.view_is c.requires.into in
     let t = settle_call w.config w.table.shared.key w.table.shared.table_id.words w.table.shared.table_id.slots
     c.join_seat.new.seat.id c.join_seat.new.seat.me
     (ap (λ (m : Mine). m.0.config) c.join_seat.ensures.2 ∙ same) c.words.invariant.key c.words.invariant.words in

@@ -2,7 +2,7 @@ use Rattle.std.proofs.Common.{All, replicate}
 use Rattle.mk_laws.proofs.Vocabulary.{List, ℕ, ap, arith, free_page, length, refl, [], ◌∙◌, ◌∷◌, ◌≡◌}
 use Rattle.mk_page_map.specs.KnownPages.{KnownPages, Shows}
 use Rattle.mk_laws.proofs.OrderlyLists.{at_first}
-use Rattle.mk_words.{proofs.Owed.first_call, proofs.Owed.first_in_order, specs.Rule.Mine}
+use Rattle.mk_words.proofs.Owed.{first_call, first_in_order}
 use Rattle.mk_words.proofs.words.Words.new.Goals as goal
 
 -- the only one of a list
@@ -28,7 +28,4 @@ new-requires c =
     })
 
 pub invariant_of-result : goal.invariant_of-result
-invariant_of-result c = record {
-  order = first_in_order c.args.config.now c.in-Ok.token.me c.requires c.in-Ok.ensures.ok.4;
-  slots = ap (λ (m : Mine). m.1) c.in-Ok.ensures.ok.4;
-}
+invariant_of-result c = grind (arith, first_in_order)

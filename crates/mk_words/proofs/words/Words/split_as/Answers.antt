@@ -8,10 +8,8 @@ split_seat-requires g c =
     let w = c.words.inside in
     let p = c.own.inside in
     let mine = ap (λ (r : PassState). r.seat) c.own.view_is ∙ c.requires.host in
-    let id = same_id c.args.words.now c.args.own.now w.table.shared.table_id p.token.table_id w.config
-    w.table.shared.key p.token.me p.seat c.words.view_is c.own.view_is c.requires.one_table in
-    let same = same_config c.args.words.now c.args.own.now w.table.shared.table_id p.token.table_id w.config
-    w.table.shared.key p.token.me p.seat c.words.view_is c.own.view_is c.requires.one_table in
+    let id = same_id p.token.me p.seat c.words.view_is c.own.view_is c.requires.one_table in
+    let same = same_config p.token.me p.seat c.words.view_is c.own.view_is c.requires.one_table in
     let t = split_call w.config w.table.shared.key w.table.shared.table_id.words p.token.id p.token.me p.seat
     c.args.seat g.J.Handing.seat c.own.invariant.order same c.words.invariant.key
     c.words.invariant.words c.requires.picked
