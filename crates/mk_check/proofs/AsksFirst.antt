@@ -155,8 +155,7 @@ resumed_within nodes p w =
 module _ (nodes : List Node) where
   first_from : {p : Place} {n : Node} → IsAt nodes p n
       → asks_first (steps_at (trees nodes) p.at) ≡ asks_first (steps_from (trees nodes) n)
-  first_from {p} at =
-      ap asks_first (steps_at-trees nodes p.at at.tree at.within.at ∙ ap (steps_from (trees nodes)) at.node)
+  first_from {p} at = grind (arith, steps_at-trees)
 
   pub first_later : {p : Place} {line : ℕ} {instruction : Instruction} {next : ℕ}
       → IsAt nodes p (Node.Line line instruction next) → is_asking instruction ≡ false → is_print instruction ≡ false
@@ -211,14 +210,7 @@ module _ (nodes : List Node) where
 
   stays_to_op : (p q : Place) → PlaceIsWithin (length nodes) p
       → asks_first (steps_at (trees nodes) p.at) ≡ true → q ≡ p → MovesToOp nodes p q
-  stays_to_op p q w first same =
-      subst (λ (x : Place). MovesToOp nodes p x) (sym same) (record {
-        within = w;
-        run = refl;
-        first = first;
-        fits =
-            λ f. f;
-      })
+  stays_to_op p q w first same = grind arith
 
   -- the end of a block, after which an operation comes first
   pub left_to_op : {p : Place} (q : Place) (left : Bool) → IsAt nodes p Node.Done
@@ -227,32 +219,17 @@ module _ (nodes : List Node) where
   left_to_op {p} q true at first leaves none =
       let block = leaves refl in
       let moves = end_goes_on nodes at block in
-      let last : innermost p.frames ≡ Some block.frame =
-      ap innermost block.was ∙ innermost_push block.frames block.frame in
-      let resumed : resumed_node nodes p ≡ node_after block.frame =
-      ap (λ (n : Node). node_to_go_on n p.at (innermost p.frames)) at.node
-      ∙ ap (λ (o : Option Frame). node_to_go_on Node.Done p.at o) last in
-      let here : q.at ≡ node_after block.frame =
-      ap (λ (x : Place). x.at) block.is ∙ at_after (record p { frames = block.frames }) block.frame in
+      let last : innermost p.frames ≡ Some block.frame = grind (arith, innermost_push) in
+      let resumed : resumed_node nodes p ≡ node_after block.frame = grind arith in
+      let here : q.at ≡ node_after block.frame = grind (arith, at_after) in
       record {
         within = moves.within;
         run = moves.run;
         first = ap (λ (k : ℕ). asks_first (steps_at (trees nodes) k)) (here ∙ sym resumed) ∙ first;
         fits = moves.fits;
       }
-  left_to_op {p} q false at first leaves none =
-      let last : innermost p.frames ≡ None = ap innermost (none refl).0 in
-      let resumed : resumed_node nodes p ≡ p.at =
-      ap (λ (n : Node). node_to_go_on n p.at (innermost p.frames)) at.node
-      ∙ ap (λ (o : Option Frame). node_to_go_on Node.Done p.at o) last in
-      stays_to_op p q at.within (ap (λ (k : ℕ). asks_first (steps_at (trees nodes) k)) (sym resumed) ∙ first)
-      (none refl).1
+  left_to_op {p} q false at first leaves none = grind (arith, stays_to_op)
 
   -- A place that moves on stops where the place after it stops.
   pub stops_after : (p q t : Place) → MovesToOp nodes p q → HasStopped nodes q t → HasStopped nodes p t
-  stops_after p q t moves stopped = record {
-    within = stopped.within;
-    at = stopped.at;
-    run = stopped.run ∙ moves.run;
-    fits = λ f. stopped.fits (moves.fits f);
-  }
+  stops_after p q t moves stopped = grind arith
