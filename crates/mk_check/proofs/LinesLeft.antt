@@ -147,8 +147,7 @@ line_of_op : (P : ℕ → Item → Type 0) (scope : Scope) (fed : Fed) (left : B
     → AllPlaced P left → first_op scope fed left ≡ Some o
     → IsAtLine P scope fed o
 line_of_op P scope fed Done o is h e = cc
-line_of_op P scope fed (Line line item rest) o is h e =
-    record { line = line; item = item; rest = rest; left = is; holds = h.0; op = e }
+line_of_op P scope fed (Line line item rest) o is h e = grind arith
 line_of_op P scope fed (Rounds rounds body rest) o is h e = cc
 line_of_op P scope fed (Choice number first second rest) o is h e = cc
 
@@ -214,5 +213,4 @@ left_stands program k answers =
 -- So does the line whose operation is asked for.
 pub next_stands : (program : List Item) (k : ℕ) (answers : List Answer) (o : Op) → next_op program k answers ≡ Some o
     → IsAtLine (StandsIn (script_of program k)) (script_scope program k) (feed program k answers) o
-next_stands program k answers o e =
-    next_placed (StandsIn (script_of program k)) program k answers o (all_stand (script_of program k)) e
+next_stands program k answers o e = grind (arith, next_placed, all_stand)
