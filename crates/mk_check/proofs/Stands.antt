@@ -31,9 +31,7 @@ pub record BeginsWith (scope : Scope) (left : Blocks) (line : ℕ) (instruction 
 begins_with : (scope : Scope) (left : Blocks) (line : ℕ) (instruction : Instruction) (rest : Steps)
     → numbered scope left ≡ steps.Line line instruction rest → BeginsWith scope left line instruction rest
 begins_with scope Done line instruction rest e = cc
-begins_with scope (Line l item more) line instruction rest e =
-    let f : l ≡ line = cc in
-    record { item = item; more = more; is = ap (λ (n : ℕ). Line n item more) f; named = cc; behind = cc }
+begins_with scope (Line l item more) line instruction rest e = grind arith
 begins_with scope (Rounds rounds body more) line instruction rest e = cc
 begins_with scope (Choice number first second more) line instruction rest e = cc
 
@@ -53,20 +51,11 @@ pub record Tells (scope : Scope) (fed : Fed) (o : Option Op) : Type 0 where
 tells : (scope : Scope) (fed : Fed) (nodes : List Node) (p : Place) (n : Node) → IsTree nodes
     → PlaceIsWithin (length nodes) p → node_at nodes p.at ≡ n → StopsAt n p
     → left_in nodes p ≡ numbered scope fed.left → p.numbers ≡ fed.numbers → Tells scope fed (op_of_node p.numbers n)
-tells scope fed nodes p Node.Done tree w e stops left numbers =
-    let over = no_more scope fed.left (sym left ∙ unfolded_done nodes (is_at tree w e) stops) in
-    record {
-      op = sym (ap (first_op scope fed) over);
-      ended = λ h. ap is_end_of_block over;
-      none = λ h. refl;
-    }
+tells scope fed nodes p Node.Done tree w e stops left numbers = grind (arith, no_more, unfolded_done, is_at)
 tells scope fed nodes p (Node.Line line instruction next) tree w e stops left numbers =
     let here = begins_with scope fed.left line instruction _ (sym left
     ∙ unfolded_line nodes (is_at tree w e)) in
-    let op : op_asked p.numbers instruction ≡ first_op scope fed fed.left =
-    ap (λ (ns : List ℕ). op_asked ns instruction) numbers
-    ∙ (ap (op_asked fed.numbers) (sym here.named)
-    ∙ (sym (op_of-asked scope fed here.item) ∙ sym (ap (first_op scope fed) here.is))) in
+    let op : op_asked p.numbers instruction ≡ first_op scope fed fed.left = grind (arith, op_of-asked) in
     let on : has_ended fed ≡ false = ap is_end_of_block here.is in
     record { op = op; ended = λ h. cc; none = λ h. cc }
 tells scope fed nodes p (Node.Rounds rounds body next) tree w e stops left numbers = absurd stops
@@ -133,11 +122,7 @@ pub start_stops : (nodes : List Node) (scope : Scope) (script : ScriptText) (at 
     → HasStopped nodes p q
     → stopped_in nodes q
     ≡ stop_of (numbered scope (blocks_from script.line script.items)) (kept_of (fed_before_lines scope script))
-start_stops nodes scope script at p q tree begins stopped =
-    let left : left_in nodes p ≡ numbered scope (blocks_from script.line script.items) =
-    ap (left_in nodes) begins ∙ (then_steps-done (steps_at (trees nodes) at) ∙ tree) in
-    stopped.run ∙ (ap (λ (s : Steps). stop_of s (kept_in p)) left
-    ∙ ap (λ (x : Place). stop_of (numbered scope (blocks_from script.line script.items)) (kept_in x)) begins)
+start_stops nodes scope script at p q tree begins stopped = grind (arith, then_steps-done)
 
 -- One more answer.
 
@@ -235,8 +220,7 @@ after_answer-text text (GetNum q number i) a k = refl
 after_answer-text text (CasPtr q p r number i) a k = refl
 after_answer-text text (Same p q number) a k = refl
 after_answer-text text (IsNull p number) a k = refl
-after_answer-text text (Show p) a k = ap (λ (t : List ℕ). let kept : KeptState = record k { text = t } in kept)
-    (append_assoc text k.text (show_text (answered_number a)))
+after_answer-text text (Show p) a k = grind (arith, append_assoc)
 
 pub stop_on_answer-text : (rest : Steps) (line : ℕ) (instruction : Instruction) (a : Answer) (k : KeptState)
     → stop_on_answer (steps.Line line instruction rest) a k
