@@ -66,18 +66,15 @@ module _ (program script : List Item) (few : HasFew (scope_of program script)) (
   pointer_access : (pointer : List ℕ) (i : ℕ) (register : List ℕ) → PointsBeforeOne program script pointer i register
       → Meets n (register_of script n caller pointer) i IsPointer
   pointer_access pointer i register s =
-      meets_weaker n (register_of script n caller pointer) i (λ kind. kind ≡ kind_at program s.at) IsPointer
-      (λ kind e. subst IsPointer (sym e) refl)
-      (meets_before program script n caller fits pointer i (Pointer s.at) s.word)
+      meets_weaker n (register_of script n caller pointer) i (λ kind. kind ≡ kind_at program s.at) IsPointer (λ kind e.
+      subst IsPointer (sym e) refl) (meets_before program script n caller fits pointer i _ s.word)
 
   store_access : (pointer : List ℕ) (i : ℕ) (register : List ℕ) → PointsBeforeOne program script pointer i register
       → Meets n (register_of script n caller pointer) i (IsOfKind (register_of script n caller register))
   store_access pointer i register s =
-      meets_weaker n (register_of script n caller pointer) i (λ kind. kind ≡ kind_at program s.at)
-      (IsOfKind (register_of script n caller register))
-      (λ kind e. subst (IsOfKind (register_of script n caller register)) (sym e)
-      (fits.declared register s.at s.declared))
-      (meets_before program script n caller fits pointer i (Pointer s.at) s.word)
+      meets_weaker n (register_of script n caller pointer) i (λ kind. kind ≡ kind_at program s.at) (IsOfKind
+      (register_of script n caller register)) (λ kind e. subst (IsOfKind (register_of script n caller register)) (sym e)
+      (fits.declared register s.at s.declared)) (meets_before program script n caller fits pointer i _ s.word)
 
   any_access : (pointer : List ℕ) (i : ℕ) (register : List ℕ) → PointsBehind program script pointer i register
       → Meets n (register_of script n caller pointer) i (λ kind. Unit {0})
@@ -90,9 +87,8 @@ module _ (program script : List Item) (few : HasFew (scope_of program script)) (
       → IfSome (slice_get (globals_of program) (number_of_name global (global_names program)))
       (λ ty. IsOfKind (register_of script n caller stored) (To ty 0))
   global_store stored global s =
-      subst (λ (o : Option ℕ). IfSome o (λ ty. IsOfKind (register_of script n caller stored) (To ty 0)))
-      (sym (global_place (type_names program) global program s.ty s.is))
-      (fits.declared stored (base_of s.ty) s.declared)
+      subst (λ (o : Option ℕ). IfSome o (λ ty. IsOfKind (register_of script n caller stored) (To ty 0))) (sym
+      (global_place (type_names program) global program s.ty s.is)) (fits.declared stored _ s.declared)
 
   admits : {o : Op} → OperandsAreInRange n o → AccessIsAdmitted n caller o
       → StoreIsAdmitted (globals_of program) n caller o → Admits o

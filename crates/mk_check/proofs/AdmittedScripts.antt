@@ -123,7 +123,7 @@ module _ (program script : List Item) (few : HasFew (scope_of program script)) w
   call_fits n caller fits x admits asked =
       let goes_on : Continues n (after_op n x.caller x.op) = op_stays n x.caller x.op in
       let own : x.caller ≡ caller → AreAsDeclared program script (after_op n x.caller x.op) caller =
-          grind (arith, own_keeps) in
+      grind (arith, own_keeps) in
       let other : x.caller ≢ caller → AreAsDeclared program script (after_op n x.caller x.op) caller =
       λ differs. others_keep n caller fits.declared (after_op n x.caller x.op)
       (registers.op_keeps n caller x.caller x.op differs (registers.destination n x.op admits.in_range)) in

@@ -76,17 +76,14 @@ split_last frames f e =
     let last = length frames - 1 in
     let within : last < length frames = slice_get_within frames last f e in
     let all : take (last + 1) frames ≡ frames = take_all (last + 1) frames (omega arith) in
-    sym all
-    ∙ (take_more frames last f within
-    ∙ ap (λ (x : Frame). take last frames ++ x ∷ []) (get_or_from_slice_get frames last f f e))
+    cc (all, take_more frames last f within, get_or_from_slice_get frames last f f e)
 
 set_last : (frames : List Frame) (f g : Frame) → innermost frames ≡ Some f
     → slice_set frames (length frames - 1) g ≡ take (length frames - 1) frames ++ g ∷ []
 set_last frames f g e =
     let last = length frames - 1 in
     let within : last < length frames = slice_get_within frames last f e in
-    set_split frames last g within
-    ∙ ap (λ (xs : List Frame). take last frames ++ g ∷ xs) (drop_all (suc last) frames (omega arith))
+    cc (set_split frames last g within, drop_all (suc last) frames (omega arith))
 
 -- another round of a `repeat`
 pub round_left : (p q : Place) (rounds less body next : ℕ)
@@ -100,11 +97,7 @@ round_left p q (suc more) less body next e some one is =
       frame = Frame.Rounds (suc more) body next;
       frames = take (length p.frames - 1) p.frames;
       was = split_last p.frames (Frame.Rounds (suc more) body next) e;
-      is = is
-          ∙ (ap (λ (n : ℕ). let at : Place = record p
-          { at = body; frames = slice_set p.frames (length p.frames - 1) (Frame.Rounds n body next) } in at) same
-          ∙ ap (λ (xs : List Frame). let at : Place = record p { at = body; frames = xs } in at)
-          (set_last p.frames (Frame.Rounds (suc more) body next) (Frame.Rounds more body next) e));
+      is = cc (is, same, set_last p.frames (Frame.Rounds (suc more) body next) (Frame.Rounds more body next) e);
     }
 
 -- no round is left

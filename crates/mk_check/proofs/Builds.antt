@@ -42,9 +42,7 @@ parts_keep nodes n behind [] w = refl
 parts_keep nodes n behind (part ∷ parts) w =
     let e : part_at (trees (nodes ++ n ∷ [])) part ≡ part_at (trees nodes) part =
     (let f = steps_at_push nodes n part.steps w.0 in let g = steps_at_push nodes n part.second w.1 in cc) in
-    ap (λ (p : StepPart). fold (λ (more : List StepPart) (q : Part). part_at (trees (nodes ++ n ∷ [])) q ∷ more)
-    (p ∷ behind) parts) e
-    ∙ parts_keep nodes n (part_at (trees nodes) part ∷ behind) parts w.2
+    cc (e, parts_keep nodes n (part_at (trees nodes) part ∷ behind) parts w.2)
 
 PartsAreWithin-more : (few many : ℕ) (parts : List Part) → few ≤ many → PartsAreWithin few parts
     → PartsAreWithin many parts
@@ -187,8 +185,7 @@ end_added b line sound = record {
     parts = PartsAreWithin_push (length b.nodes) b.parts (record { steps = 0; second = 0 }) sound.parts sound.some
         sound.some;
   };
-  parts = put_parts b 0 sound
-      ∙ ap (λ (s : Steps). let p : StepPart = record { steps = Done; second = s } in p ∷ parts_in b) sound.first;
+  parts = cc (put_parts b 0 sound, sound.first);
 }
 
 -- no part is open, or one

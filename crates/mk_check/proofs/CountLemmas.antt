@@ -79,8 +79,7 @@ at_end : (f : PartCount → PartCount) (counts xs : List PartCount) (n : ℕ) (x
     → n ≡ length xs → 0 < n → x ≡ get_or xs (n - 1) x → reverse (set xs (n - 1) (f x)) ≡ with_innermost f counts
 at_end f [] xs n x is counted some read = absurd (omega (arith, length-reverse xs, ap length is))
 at_end f (count ∷ counts) xs n x is counted some read =
-    let front : xs ≡ reverse counts ++ count ∷ [] = sym (reverse-reverse xs) ∙ ap reverse is
-    ∙ reverse_onto counts count [] in
+    let front : xs ≡ reverse counts ++ count ∷ [] = cc (reverse-reverse xs, is, reverse_onto counts count []) in
     reverse-set_last f (reverse counts) count x xs (n - 1) front
     (omega (arith, ap length front, length-append (reverse counts) (count ∷ []))) read
     ∙ ap (λ rest. f count ∷ rest) (reverse-reverse counts)

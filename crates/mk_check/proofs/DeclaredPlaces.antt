@@ -23,8 +23,7 @@ at_place name (other ∷ others) h = by_test (at_place name others) (bytes_eq na
 pub same_place : (name other : List ℕ) (names : List (List ℕ)) → number_of_name name names < length names
     → number_of_name other names < length names
     → number_of_name name names ≡ number_of_name other names → name ≡ other
-same_place name other names h h' e = sym (at_place name names h) ∙ ap (λ (k : ℕ). get_or names k []) e
-    ∙ at_place other names h'
+same_place name other names h h' e = cc (at_place name names h, at_place other names h')
 
 pub pointer_within : (name : List ℕ) (lines : List Item) (at : At) → pointer_at name lines ≡ Some at
     → number_of_name name (pointer_names lines) < length (pointer_names lines)

@@ -47,9 +47,8 @@ set_register program script n caller name at v before is of_kind = λ other at' 
     let here : 8 * caller + number_of_name other (pointer_names script)
     ≡ 8 * caller + number_of_name name (pointer_names script)
     → IsOfKind v (kind_at program at') = grind (arith, same_place, pointer_within, same_Some, kind_at) in
-    set_by (λ x. IsOfKind x (kind_at program at')) n.registers (8 * caller + number_of_name name (pointer_names script))
-    (8 * caller + number_of_name other (pointer_names script)) v Null here
-    (before other at' is')
+    set_by (λ x. IsOfKind x (kind_at program at')) _ (8 * caller + number_of_name name (pointer_names script)) (8 *
+    caller + number_of_name other (pointer_names script)) v Null here (before other at' is')
 
 -- What is i words on from a register.
 

@@ -99,8 +99,7 @@ other_form Setn (a ∷ b ∷ c ∷ []) other = bind (name a) _ (λ x. bind (numb
 other_form Getp (a ∷ b ∷ c ∷ []) other = bind (name a) _ (λ x. bind (name b) _ (λ y. bind (number c) _ (λ z. refl)))
 other_form Setp (a ∷ b ∷ c ∷ []) other = bind (name a) _ (λ x. bind (number b) _ (λ y. bind (name c) _ (λ z. refl)))
 other_form Casp (a ∷ b ∷ c ∷ d ∷ e ∷ []) other =
-    bind (name a) _ (λ x. bind (name b) _
-    (λ y. bind (number c) _ (λ z. bind (name d) _ (λ v. bind (name e) _ (λ w. refl)))))
+    bind _ _ (λ x. bind (name b) _ (λ y. bind (number c) _ (λ z. bind (name d) _ (λ v. bind (name e) _ (λ w. refl)))))
 other_form Lea (a ∷ b ∷ c ∷ []) other = bind (name a) _ (λ x. bind (name b) _ (λ y. bind (number c) _ (λ z. refl)))
 other_form Move (a ∷ b ∷ []) other = bind (name a) _ (λ x. bind (name b) _ (λ y. refl))
 other_form Clear (a ∷ []) other = bind (name a) _ (λ x. refl)

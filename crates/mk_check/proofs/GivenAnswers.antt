@@ -185,8 +185,7 @@ serves_more c m k n answers (Caller j) x enabled h =
     ]
 serves_more c m k n answers (Marker j) x enabled h =
     others_more c.callers m.seats.flights m.seats.flights k n answers None (ends_call x) refl refl h
-serves_more c m k n answers Host x enabled h = others_more c.callers m.seats.flights m.seats.flights k n answers None
-    (ends_call x) refl refl h
+serves_more c m k n answers Host x enabled h = others_more _ _ _ k n answers None _ refl refl h
 
 -- the answers that an event adds
 event_among : (c : Config) (m : Moment) (k : ℕ) (seat : Seat) (x : Step)
@@ -216,7 +215,7 @@ serves_from c w k n answers (e ∷ es) en h =
     ap (λ (i : ℕ). i + ended_calls k es) (sym (counts_more n (ends_call_of k e)))
     ∙ (let cons = sum_by-cons (λ (x : Event). if ends_call_of k x then 1 else 0) e es in omega arith) in
     let all : (answers ++ more) ++ rest ≡ answers ++ answers_among k (call_decided c w.now e ++ calls_from c next es) =
-        grind (arith, append_assoc, event_among, among_more) in
+    grind (arith, append_assoc, event_among, among_more) in
     subst (λ (xs : List Answer). Serves c.callers (left_from c next es).now.seats.flights k (n + ended_calls k (e ∷ es))
     xs) all
     (subst (λ (i : ℕ). Serves c.callers (left_from c next es).now.seats.flights k i ((answers ++ more) ++ rest)) ended
@@ -283,8 +282,7 @@ step_of : (c : Config) (es : List Event) (e : Event) (k : ℕ) → AreEnabled c 
     → Behind c (left c es).now e.seat e.step k (ended_calls k es) (answers_among k (calls c es))
 step_of c es e k h =
     let parts = enabled_parts c (first_world c) es (e ∷ []) h in
-    serves_more c (left c es).now k (ended_calls k es) (answers_among k (calls c es)) e.seat e.step
-    (last_enabled c (first_world c) es e h) (serves c es k parts.0)
+    serves_more c (left c es).now k _ _ _ _ (last_enabled c _ es e h) (serves c es k parts.0)
 
 pub given_more : (c : Config) (es : List Event) (e : Event) (k : ℕ) → AreEnabled c (es ++ e ∷ [])
     → answers_given c (es ++ e ∷ []) k

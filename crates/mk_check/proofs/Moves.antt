@@ -149,8 +149,7 @@ module _ (nodes : List Node) where
       let stop : Stopped = record { left = Line line instruction rest; kept = kept_in p } in
       record {
         within = record { at = below_length at; frames = at.within.frames };
-        run = sym (ap (λ (s : Steps). stop_of s (kept_in p)) here
-            ∙ ap (λ (b : Bool). if b then stop else stop_of rest (after_line instruction (kept_in p))) none);
+        run = cc (here, none);
         nearer = omega (arith, ap work_of here);
         fits = λ f. let behind = line_fits at f in record { here = behind.here; frames = behind.frames };
       }
@@ -191,8 +190,7 @@ module _ (nodes : List Node) where
           frames = FramesAreWithin_push (length nodes) p.frames (Frame.Branch next) at.within.frames
               (below_length at).2;
         };
-        run = ap (λ (s : Steps). stop_of (then_steps (steps_at (trees nodes) branch) s) (kept_in p)) behind
-            ∙ (sym (stops rest) ∙ sym (ap (λ (s : Steps). stop_of s (kept_in p)) here));
+        run = cc (behind, stops rest, here);
         nearer = omega (
           arith,
           ap work_of here,
@@ -249,8 +247,7 @@ module _ (nodes : List Node) where
   }
   block_goes_on p frames (Frame.Rounds rounds body next) was here w = record {
     within = entered_within (record p { frames = frames }) rounds body next w.0 w.1.0 w.1.1;
-    run = entered_runs (record p { frames = frames }) rounds body next
-        ∙ sym (ap (λ (s : Steps). stop_of s (kept_in p)) here);
+    run = cc (entered_runs (record p { frames = frames }) rounds body next, here);
     nearer = omega (
       arith,
       ap work_of here,
@@ -266,9 +263,7 @@ module _ (nodes : List Node) where
   pub end_goes_on : {p q : Place} → IsAt nodes p Node.Done → LeavesBlock p q → MovesOn nodes p q
   end_goes_on {p} at leaves =
       let here : left_in nodes p ≡ frame_steps (trees nodes) (behind_frames (trees nodes) leaves.frames) leaves.frame =
-      unfolded at
-      ∙ (ap (behind_frames (trees nodes)) leaves.was
-      ∙ behind_frames_push (trees nodes) leaves.frames leaves.frame) in
+      cc (unfolded at, leaves.was, behind_frames_push (trees nodes) leaves.frames leaves.frame) in
       let fs = FramesAreWithin_pop (length nodes) leaves.frames leaves.frame
       (subst (λ (xs : List Frame). FramesAreWithin (length nodes) xs) leaves.was at.within.frames) in
       subst (λ (x : Place). MovesOn nodes p x) (sym leaves.is)
@@ -289,8 +284,6 @@ module _ (nodes : List Node) where
       record {
         within = at.within;
         at = subst (λ (m : Node). StopsAt m p) (sym at.node) some;
-        run = ap (λ (s : Steps). let at : Stopped = record { left = s; kept = kept_in p } in at) here
-            ∙ sym (ap (λ (s : Steps). stop_of s (kept_in p)) here
-            ∙ ap (λ (b : Bool). if b then stop else stop_of rest (after_line instruction (kept_in p))) some);
+        run = cc (here, some);
         fits = λ f. f;
       }

@@ -59,15 +59,14 @@ unkept_by next false (Some number) u s known e = absurd (known (sym e))
 line_told : (nodes : List Node) (line : ℕ) (instruction : Instruction) {next behind : ℕ} {kept : Option ℕ} {s : Sequel}
     → (behind ≡ next) × (is_show instruction ≡ false) × (keeping_register instruction ≡ kept)
     × (sequel_to (node_at nodes next) ≡ s) → IsLine nodes (Node.Line line instruction next) behind kept s
-line_told nodes line instruction by =
-    record {
-      line = line;
-      instruction = instruction;
-      is = ap (λ (j : ℕ). Node.Line line instruction j) (sym by.0);
-      shown = by.1;
-      keeps = by.2;
-      told = ap (λ (j : ℕ). sequel_to (node_at nodes j)) by.0 ∙ by.3;
-    }
+line_told nodes line instruction by = record {
+  line = line;
+  instruction = instruction;
+  is = ap (λ (j : ℕ). Node.Line line instruction j) (sym by.0);
+  shown = by.1;
+  keeps = by.2;
+  told = ap (λ (j : ℕ). sequel_to (node_at nodes j)) by.0 ∙ by.3;
+}
 
 kept_line : (nodes : List Node) (n : Node) (s : Sequel) → (s ≡ Sequel.Other → ⊥) → (sequels_of nodes n).kept ≡ s
     → IsLine nodes n (sequels_of nodes n).next (Some (sequels_of nodes n).register) s
@@ -130,59 +129,54 @@ module _ (nodes : List Node) (p : Place) (next : ℕ) (instruction : Instruction
 
   stops_at_line : (a : Answer) (t : Place) → is_silent instruction a ≡ true → asks_at (node_at nodes next) ≡ true
       → t ≡ start a → TakesAtOnce nodes next instruction a p t
-  stops_at_line a t quiet asks is =
-      record {
-        silent = quiet;
-        stopped = subst (λ (x : Place). HasStopped nodes (start a) x) (sym is)
-            (stopped_here nodes (start a) (node_at nodes next) tree (record { at = w.at; frames = w.frames }) refl
-            (asks_so (start a).numbers (node_at nodes next) asks));
-      }
+  stops_at_line a t quiet asks is = record {
+    silent = quiet;
+    stopped = subst (λ (x : Place). HasStopped nodes (start a) x) (sym is)
+        (stopped_here nodes (start a) (node_at nodes next) tree (record { at = w.at; frames = w.frames }) refl
+        (asks_so (start a).numbers (node_at nodes next) asks));
+  }
 
   stops_in_round : (a : Answer) (q t : Place) → is_silent instruction a ≡ true → node_at nodes next ≡ Node.Done
       → BeginsRound nodes p q → t ≡ with_kept q (after_answer instruction a (kept_in p))
       → TakesAtOnce nodes next instruction a p t
-  stops_in_round a q t quiet ends b is =
-      record {
-        silent = quiet;
-        stopped = round_begins nodes (start a) t b.rounds _ b.body b.behind tree
-            (record { at = w.at; frames = w.frames }) ends b.was b.left refl b.asks
-            (is ∙ ap (λ (x : Place). with_kept x (after_answer instruction a (kept_in p))) b.is);
-      }
+  stops_in_round a q t quiet ends b is = record {
+    silent = quiet;
+    stopped = round_begins nodes (start a) t b.rounds _ b.body b.behind tree
+        (record { at = w.at; frames = w.frames }) ends b.was b.left refl b.asks
+        (is ∙ ap (λ (x : Place). with_kept x (after_answer instruction a (kept_in p))) b.is);
+  }
 
 module _ (nodes : List Node) (p : Place) (tree : IsTree nodes) (w : PlaceIsWithin (length nodes) p) where
   -- the node after the place's line
   within_next : (line : ℕ) (instruction : Instruction) (next : ℕ) → node_at nodes p.at ≡ Node.Line line instruction next
       → PlaceIsWithin (length nodes) (record p { at = next })
-  within_next line instruction next here =
-      record { at = below_length nodes (is_at tree w here); frames = w.frames }
+  within_next line instruction next here = record { at = below_length nodes (is_at tree w here); frames = w.frames }
 
   at_line : (kept : Option ℕ) (next : ℕ) (a : Answer) (k : KeptState) (t : Place) → is_refusal a ≡ false
       → (l : IsLine nodes (node_at nodes p.at) next kept Sequel.Asks)
       → after_answer l.instruction a (kept_in p) ≡ k → t ≡ with_kept (record p { at = next }) k → TakesLine nodes a p t
-  at_line kept next a k t accepted l after is =
-      record {
-        line = l.line;
-        instruction = l.instruction;
-        next = next;
-        here = l.is;
-        taken = stops_at_line nodes p next l.instruction tree (within_next l.line l.instruction next l.is) a t
-            (silent l.instruction a accepted l.shown) (next_asks (node_at nodes next) l.told)
-            (is ∙ ap (λ (x : KeptState). with_kept (record p { at = next }) x) (sym after));
-      }
+  at_line kept next a k t accepted l after is = record {
+    line = l.line;
+    instruction = l.instruction;
+    next = next;
+    here = l.is;
+    taken = stops_at_line nodes p next l.instruction tree (within_next l.line l.instruction next l.is) a t
+        (silent l.instruction a accepted l.shown) (next_asks (node_at nodes next) l.told)
+        (is ∙ ap (λ (x : KeptState). with_kept (record p { at = next }) x) (sym after));
+  }
 
   in_round : (kept : Option ℕ) (next : ℕ) (a : Answer) (k : KeptState) (q t : Place) → is_refusal a ≡ false
       → (l : IsLine nodes (node_at nodes p.at) next kept Sequel.Ends) → BeginsRound nodes p q
       → after_answer l.instruction a (kept_in p) ≡ k → t ≡ with_kept q k → TakesLine nodes a p t
-  in_round kept next a k q t accepted l begins after is =
-      record {
-        line = l.line;
-        instruction = l.instruction;
-        next = next;
-        here = l.is;
-        taken = stops_in_round nodes p next l.instruction tree (within_next l.line l.instruction next l.is) a q t
-            (silent l.instruction a accepted l.shown) (next_ends (node_at nodes next) l.told) begins
-            (is ∙ ap (λ (x : KeptState). with_kept q x) (sym after));
-      }
+  in_round kept next a k q t accepted l begins after is = record {
+    line = l.line;
+    instruction = l.instruction;
+    next = next;
+    here = l.is;
+    taken = stops_in_round nodes p next l.instruction tree (within_next l.line l.instruction next l.is) a q t
+        (silent l.instruction a accepted l.shown) (next_ends (node_at nodes next) l.told) begins
+        (is ∙ ap (λ (x : KeptState). with_kept q x) (sym after));
+  }
 
   module _ (s : Sequels) (so : s ≡ sequels_of nodes (node_at nodes p.at)) where
     kept_here : (told : Sequel) → (told ≡ Sequel.Other → ⊥) → s.kept ≡ told
@@ -222,6 +216,5 @@ module _ (nodes : List Node) (p : Place) (tree : IsTree nodes) (w : PlaceIsWithi
         → BeginsRound nodes p t → TakesLine nodes a p t
     none_in_round a t accepted e begins =
         let l = unkept_here Sequel.Ends ends_is_known e in
-        in_round None s.next a (kept_in p) t t accepted l begins
-        (nothing_kept l.instruction a (kept_in p) l.shown l.keeps)
-        (begins.is ∙ ap (λ (x : Place). with_kept x (kept_in p)) (sym begins.is))
+        in_round None s.next a _ t t accepted l begins (nothing_kept l.instruction a _ l.shown l.keeps) (begins.is ∙ ap
+        (λ (x : Place). with_kept x (kept_in p)) (sym begins.is))

@@ -147,9 +147,7 @@ answer_agrees scope fed line item rest a h =
     let noted_fed = note fed (op_of scope fed item) line a in
     let agrees = run_agrees scope rest (with_answer scope noted_fed item a) in
     record {
-      stop = agrees.stop ∙ (ap (stop_of (numbered scope rest)) (kept_of-with_answer scope noted_fed item a)
-          ∙ ap (λ (k : KeptState). stop_of (numbered scope rest) (after_answer
-          (instruction_of scope item) a k)) n.kept);
+      stop = cc (agrees.stop, kept_of-with_answer scope noted_fed item a, n.kept);
       more = ap (λ (os : List Op). length os) (agrees.answers ∙ ops-with_answer scope noted_fed item a) ∙ n.more;
     }
 
@@ -167,8 +165,7 @@ answered_from program k answers a line item rest s is taken some stop =
     let at : feed program k (answers ++ a ∷ []) ≡ take_answer scope fed (Line line item rest) a =
     feed_push program k answers a ∙ ap (λ (b : Blocks). take_answer scope fed b a) is in
     let same : stopped_in s.nodes s.place ≡ stopped_of scope (feed program k (answers ++ a ∷ [])) =
-    stop ∙ (ap (λ (b : Blocks). stop_on_answer (numbered scope b) a (kept_of fed)) is
-    ∙ (sym agrees.stop ∙ ap (stopped_of scope) (sym at))) in
+    cc (stop, is, agrees.stop, at) in
     record {
       taken = ap (λ (f : Fed). length f.ops) at ∙ (agrees.more ∙ omega (arith, taken, length_push answers a));
       left = ap (λ (t : Stopped). t.left) same;
@@ -189,8 +186,7 @@ answer_stands program k answers a s t line instruction next tree w e some stop s
     let here = begins_with scope fed.left line instruction _ (sym st.left
     ∙ unfolded_line s.nodes (is_at tree w e)) in
     let op : op_of scope fed here.item ≡ op_asked s.place.numbers instruction =
-    op_of-asked scope fed here.item
-    ∙ (ap (op_asked fed.numbers) here.named ∙ ap (λ (ns : List ℕ). op_asked ns instruction) (sym st.numbers)) in
+    cc (op_of-asked scope fed here.item, here.named, st.numbers) in
     let kept : kept_in s.place ≡ kept_of fed = (let f = st.numbers in let g = st.text in cc) in
     answered_from program k answers a line here.item here.more t here.is st.taken (ap (λ (o : Option Op). is_some o) op
     ∙ some)
@@ -229,8 +225,7 @@ pub stop_on_answer-text : (rest : Steps) (line : ℕ) (instruction : Instruction
     (record { numbers = k.numbers; text = refusal_line line (refusal_text a) })))
 stop_on_answer-text rest line instruction a k =
     let apart : KeptState = record { numbers = k.numbers; text = refusal_line line (refusal_text a) } in
-    ap (stop_of rest) (after_answer-text k.text instruction a apart)
-    ∙ stop_of-text k.text rest (after_answer instruction a apart)
+    cc (after_answer-text k.text instruction a apart, stop_of-text k.text rest (after_answer instruction a apart))
 
 -- A copy that runs on without the text so far stops where the script stops.
 pub answer_stops : (nodes : List Node) (p r q t : Place) (line : ℕ) (instruction : Instruction) (next : ℕ) (a : Answer)
@@ -244,7 +239,4 @@ answer_stops nodes p r q t line instruction next a tree w e starts stopped follo
     let apart : KeptState = record { numbers = p.numbers; text = refusal_line line (refusal_text a) } in
     let runs : stopped_in nodes q ≡ stop_of rest (after_answer instruction a apart) =
     stopped.run ∙ ap (λ (x : Place). stop_of (left_in nodes x) (kept_in x)) starts in
-    ap (stopped_in nodes) follows
-    ∙ (ap (stopped_behind_text p.text) runs
-    ∙ (sym (stop_on_answer-text rest line instruction a (kept_in p))
-    ∙ sym (ap (λ (s : Steps). stop_on_answer s a (kept_in p)) (unfolded_line nodes (is_at tree w e)))))
+    cc (follows, runs, stop_on_answer-text rest line instruction a (kept_in p), unfolded_line nodes (is_at tree w e))

@@ -81,16 +81,12 @@ stop_of-round more body rest k =
 pub stop_of-choice_zero : (number : ℕ) (first second rest : Steps) (k : KeptState)
     → (slice_index k.numbers number == 0) ≡ true
     → stop_of (Choice number first second rest) k ≡ stop_of (then_steps second rest) k
-stop_of-choice_zero number first second rest k h =
-    ap (λ (t : Bool). stop_behind (if t then stop_of second k else stop_of first k) (stop_of rest) rest) h
-    ∙ sym (stop_of-then_steps second rest k)
+stop_of-choice_zero number first second rest k h = cc (stop_of-then_steps second rest k)
 
 pub stop_of-choice_other : (number : ℕ) (first second rest : Steps) (k : KeptState)
     → (slice_index k.numbers number == 0) ≡ false
     → stop_of (Choice number first second rest) k ≡ stop_of (then_steps first rest) k
-stop_of-choice_other number first second rest k h =
-    ap (λ (t : Bool). stop_behind (if t then stop_of second k else stop_of first k) (stop_of rest) rest) h
-    ∙ sym (stop_of-then_steps first rest k)
+stop_of-choice_other number first second rest k h = cc (stop_of-then_steps first rest k)
 
 -- Text before.
 
@@ -178,5 +174,4 @@ stop_of-text text (Choice number first second rest) k =
         ≡ stopped_behind_text text (stop_behind (if t then stop_of second k else stop_of first k) (stop_of rest) rest)
     by_test true f g h = ap (λ (u : Stopped). stop_behind u (stop_of rest) rest) g
         ∙ stop_behind-text text (stop_of second k).left (stop_of second k).kept (stop_of rest) rest h
-    by_test false f g h = ap (λ (u : Stopped). stop_behind u (stop_of rest) rest) f
-        ∙ stop_behind-text text (stop_of first k).left (stop_of first k).kept (stop_of rest) rest h
+    by_test false f g h = cc (stop_behind-text text (stop_of first k).left (stop_of first k).kept (stop_of rest) rest h)
