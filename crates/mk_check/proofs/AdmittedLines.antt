@@ -26,16 +26,14 @@ flagged_new Q d ty holds a = holds false
 
 -- null or a pointer to a first word is a whole allocation
 bases : (program : List Item) (v : Value) (at : At) → at.offset ≡ 0 → IsOfKind v (kind_at program at) → IsBase v
-bases program Null at base of_kind = tt
 bases program (Num m) at base of_kind = of_kind
-bases program (Ptr number ty offset) at base of_kind = of_kind.1 ∙ base
+bases program x1 at base of_kind = cc
 
 -- both hold of one word
 meets_both : (n : NeverState) (v : Value) (i : ℕ) (P Q : Kind → Type 0) → Meets n v i P → Meets n v i Q
     → Meets n v i (λ kind. P kind × Q kind)
-meets_both n Null i P Q first second = tt
-meets_both n (Num m) i P Q first second = tt
 meets_both n (Ptr number ty offset) i P Q first second = (first.0, (first.1, second.1))
+meets_both n _ i _ _ first second = tt
 
 module _ (program script : List Item) (few : HasFew (scope_of program script)) (n : NeverState) (caller : ℕ)
     (fits : FitsScript program script n caller) where

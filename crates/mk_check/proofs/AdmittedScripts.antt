@@ -75,15 +75,13 @@ module _ (program script : List Item) (few : HasFew (scope_of program script)) w
 
   take_asked : (fed : Fed) (left : Blocks) (a : Answer) → AllPlaced (λ l. Says program script) left → All Asked fed.ops
       → All Asked (take_answer (scope_of program script) fed left a).ops
-  take_asked fed Done a placed before = before
   take_asked fed (Line line item rest) a placed before =
       let scope = scope_of program script in
       let with_note = note fed (op_of scope fed item) line a in
       let same : (run scope rest (with_answer scope with_note item a)).ops ≡ with_note.ops =
       (run_agrees scope rest (with_answer scope with_note item a)).answers ∙ ops-with_answer scope with_note item a in
       subst (All Asked) (sym same) (note_asked fed line item a placed.0 before (op_of scope fed item) refl)
-  take_asked fed (Rounds rounds body rest) a placed before = before
-  take_asked fed (Choice number first second rest) a placed before = before
+  take_asked fed _ a placed before = before
 
   takes_asked : (answers : List Answer) (fed : Fed) → AllPlaced (λ l. Says program script) fed.left → All Asked fed.ops
       → All Asked (take_answers (scope_of program script) fed answers).ops

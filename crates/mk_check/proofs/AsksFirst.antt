@@ -20,25 +20,7 @@ use Rattle.mk_check.specs.Trees.{place_in_rounds, resumed_node}
 pub asked_so : (numbers : List ℕ) (instruction : Instruction)
     → is_some (op_asked numbers instruction) ≡ is_asking instruction
 asked_so numbers Nothing = refl
-asked_so numbers (Const number value) = refl
-asked_so numbers (Add number left right) = refl
-asked_so numbers (Sub number left right) = refl
-asked_so numbers (Print number) = refl
-asked_so numbers (New d ty) = refl
-asked_so numbers (Free p) = refl
-asked_so numbers (GetPtr d q i) = refl
-asked_so numbers (SetPtr q p i) = refl
-asked_so numbers (Lea d q i) = refl
-asked_so numbers (Move d q) = refl
-asked_so numbers (Clear d) = refl
-asked_so numbers (GetGlobal d g) = refl
-asked_so numbers (SetGlobal g p) = refl
-asked_so numbers (SetNum q number i) = refl
-asked_so numbers (GetNum q number i) = refl
-asked_so numbers (CasPtr q p r number i) = refl
-asked_so numbers (Same p q number) = refl
-asked_so numbers (IsNull p number) = refl
-asked_so numbers (Show p) = refl
+asked_so numbers x1 = cc
 
 pub asks_here : (a b c : Bool) → a ≡ true → (a || (not b && c)) ≡ true
 asks_here true b c e = refl
@@ -46,13 +28,11 @@ asks_here false b c e = cc
 
 pub asks_later : (a b c : Bool) → a ≡ false → b ≡ false → (a || (not b && c)) ≡ c
 asks_later false false c e f = refl
-asks_later false true c e f = cc
-asks_later true b c e f = cc
+asks_later _ _ c e f = cc
 
 no_print : (a b c : Bool) → a ≡ false → (a || (not b && c)) ≡ true → b ≡ false
 no_print false false c e h = refl
-no_print false true c e h = cc
-no_print true b c e h = cc
+no_print _ _ c e h = cc
 
 -- The innermost block.
 
@@ -122,8 +102,7 @@ branch_left p q next e is = record {
 
 at_after : (p : Place) (f : Frame) → (place_behind_block p f).at ≡ node_after f
 at_after p (Frame.Rounds zero body next) = refl
-at_after p (Frame.Rounds (suc more) body next) = refl
-at_after p (Frame.Branch next) = refl
+at_after p x1 = cc
 
 node_after_within : (count : ℕ) (f : Frame) → FrameIsWithin count f → node_after f < count
 node_after_within count (Frame.Rounds zero body next) w = w.1
@@ -132,11 +111,8 @@ node_after_within count (Frame.Branch next) w = w
 
 to_go_on_within : (count : ℕ) (n : Node) (at : ℕ) (block : Option Frame) → at < count
     → ((f : Frame) → block ≡ Some f → FrameIsWithin count f) → node_to_go_on n at block < count
-to_go_on_within count Node.Done at None h w = h
 to_go_on_within count Node.Done at (Some f) h w = node_after_within count f (w f refl)
-to_go_on_within count (Node.Line line instruction next) at block h w = h
-to_go_on_within count (Node.Rounds rounds body next) at block h w = h
-to_go_on_within count (Node.Choice number first second next) at block h w = h
+to_go_on_within count _ at _ h w = h
 
 pub resumed_within : (nodes : List Node) (p : Place) → PlaceIsWithin (length nodes) p
     → resumed_node nodes p < length nodes

@@ -12,12 +12,7 @@ use Rattle.mk_check.proofs.Moves as moves
 
 no_text : (a : Answer) → not (is_refusal a) ≡ true → refusal_text a ≡ []
 no_text Answer.Done h = refl
-no_text (Answer.Num n) h = refl
-no_text (Answer.Word w) h = refl
-no_text Answer.Full h = cc
-no_text Answer.Fault h = cc
-no_text Answer.Null h = cc
-no_text Answer.Double h = cc
+no_text x0 h = cc
 
 silent_kept : (line : ℕ) (instruction : Instruction) (a : Answer) (k : KeptState) → is_silent instruction a ≡ true
     → with_text k (refusal_line line (refusal_text a)) ≡ k
@@ -28,10 +23,8 @@ silent_kept line instruction a k h =
 
 pub stopped_here : (nodes : List Node) (p : Place) (n : Node) → IsTree nodes → PlaceIsWithin (length nodes) p
     → node_at nodes p.at ≡ n → is_some (op_of_node p.numbers n) ≡ true → HasStopped nodes p p
-stopped_here nodes p Node.Done tree w e h = cc
 stopped_here nodes p (Node.Line line instruction next) tree w e h = moves.asks_at nodes (is_at tree w e) h
-stopped_here nodes p (Node.Rounds rounds body next) tree w e h = cc
-stopped_here nodes p (Node.Choice number first second next) tree w e h = cc
+stopped_here nodes p _ tree w e h = cc
 
 -- The place is where the steps stop after an answer to the first.
 pub record StopsBehind (nodes : List Node) (p : Place) (a : Answer) (t : Place) : Type 0 where
@@ -56,10 +49,8 @@ stops_at_once {nodes} {p} {line} {instruction} {next} a t at silent stopped =
     }
 
 pub asks_so : (numbers : List ℕ) (n : Node) → asks_at n ≡ true → is_some (op_of_node numbers n) ≡ true
-asks_so numbers Node.Done h = cc
 asks_so numbers (Node.Line line instruction next) h = asked_so numbers instruction ∙ h
-asks_so numbers (Node.Rounds rounds body next) h = cc
-asks_so numbers (Node.Choice number first second next) h = cc
+asks_so numbers _ h = cc
 
 -- whether it took the answer or not
 pub feeds : (s : FeedState) (t : Place) (taken : Bool) → (taken ≡ true → IsFeed (record { nodes = s.nodes; place = t }))

@@ -64,17 +64,14 @@ word_in (Some all) i word e = record { all = all; is = refl; at = e }
 
 pub meets_weaker : (n : NeverState) (v : Value) (i : ℕ) (P Q : Kind → Type 0) → ((kind : Kind) → P kind → Q kind)
     → Meets n v i P → Meets n v i Q
-meets_weaker n Null i P Q weaker meets = tt
-meets_weaker n (Num m) i P Q weaker meets = tt
 meets_weaker n (Ptr number ty offset) i P Q weaker meets = (meets.0, weaker _ meets.1)
+meets_weaker n _ i _ _ weaker meets = tt
 
 -- a pointer to a place: the word i words on is inside its type
 meets_word : (program : List Item) (n : NeverState) (v : Value) (at : At) (i : ℕ) (word : TypeWord)
     → n.types ≡ types_of program → IsTyped (globals_of program) n → IsSound n v → IsOfKind v (kind_at program at)
     → word_among (type_words at.name program) (at.offset + i) ≡ Some word
     → Meets n v i (λ kind. kind ≡ kind_of (type_names program) word)
-meets_word program n Null at i word types typed sound of_kind is = tt
-meets_word program n (Num m) at i word types typed sound of_kind is = tt
 meets_word program n (Ptr number ty offset) at i word types typed sound of_kind is =
     let names = type_names program in
     let found = word_in (type_words at.name program) (at.offset + i) word is in
@@ -93,6 +90,7 @@ meets_word program n (Ptr number ty offset) at i word types typed sound of_kind 
       ap (λ (k : List Kind). get_or k (offset + i) NumKind) kinds
           ∙ (ap (λ (o : ℕ). get_or (map (kind_of names) found.all) o NumKind) offset_is ∙ here),
     )
+meets_word program n _ at i word types typed sound of_kind is = tt
 
 pub meets_before : (program script : List Item) (n : NeverState) (caller : ℕ) → FitsScript program script n caller
     → (pointer : List ℕ) (i : ℕ) (word : TypeWord) → PointsBefore program script pointer i word
@@ -110,9 +108,8 @@ record IsTypedWord (n : NeverState) (number place : ℕ) (Q : Kind → Type 0) :
 
 is_typed_word : (n : NeverState) (v : Value) (i : ℕ) (Q : Kind → Type 0) (number place : ℕ) → Meets n v i Q
     → target_of n v i ≡ WordOf number place → IsTypedWord n number place Q
-is_typed_word n Null i Q number place meets e = cc
-is_typed_word n (Num m) i Q number place meets e = cc
 is_typed_word n (Ptr a ty offset) i Q number place meets e = grind (arith, if_by, exists)
+is_typed_word n _ i _ number place meets e = cc
 
 -- a pointer word that is loaded points to where it is declared to
 pub loaded_word : (program : List Item) (n : NeverState) (v : Value) (i : ℕ) (at : At) (number place : ℕ)

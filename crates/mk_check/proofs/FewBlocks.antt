@@ -42,15 +42,13 @@ line_fits around line item (part ∷ parts) h = h
 
 repeat_fits : (around rounds : ℕ) (parts : List Part) → PartsFit (around + 1) parts
     → PartsFit around (with_repeat rounds parts)
-repeat_fits around rounds [] h = tt
-repeat_fits around rounds (body ∷ []) h = tt
 repeat_fits around rounds (body ∷ part ∷ parts) h = grind arith
+repeat_fits around rounds _ h = tt
 
 if_fits : (around : ℕ) (number : List ℕ) (parts : List Part) → PartsFit (around + 1) parts
     → PartsFit around (with_if number parts)
-if_fits around number [] h = tt
-if_fits around number (first ∷ []) h = tt
 if_fits around number (first ∷ part ∷ parts) h = grind arith
+if_fits around number _ h = tt
 
 else_fits : (around : ℕ) (parts : List Part) → around ≤ 32 → PartsFit around parts → PartsFit around (with_else parts)
 else_fits around [] few h = tt

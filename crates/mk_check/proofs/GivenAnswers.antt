@@ -69,8 +69,7 @@ among_others k j o None ne = refl
 last_rests : (c : Config) (m : Moment) (f : Flight) (found : ℕ) (x : Step) → ends_call x ≡ true
     → progress c m f found x ≡ record { flight = at_rest; answer = None }
 last_rests c m f found Step.Leave h = refl
-last_rests c m f found Step.Give h = refl
-last_rests c m f found _ h = cc
+last_rests c m f found x4 h = cc
 
 few_pending : (s : Stage) → pending s ≤ 1
 few_pending Stage.Put = omega arith
@@ -192,8 +191,7 @@ event_among : (c : Config) (m : Moment) (k : ℕ) (seat : Seat) (x : Step)
     → answers_among k (call_decided c m (record { seat = seat; step = x }))
     ≡ (if is_same_seat (Caller k) seat then as_list (answer_decided c m (record { seat = seat; step = x })) else [])
 event_among c m k (Caller j) x = grind (arith, same_number, as_list, among_mine, other_number, among_others)
-event_among c m k (Marker j) x = refl
-event_among c m k Host x = refl
+event_among c m k _ x = refl
 
 counts_more : (n : ℕ) (b : Bool) → n + (if b then 1 else 0) ≡ counted n b
 counts_more n true = refl
@@ -264,8 +262,7 @@ waiting_case : (answers : List Answer) (n : ℕ) (a : Option Answer) (mine last 
     ≡ waiting_by mine last a (slice_get answers n)
 waiting_case answers n a true true l o = grind (arith, append-nil, slice_get_past)
 waiting_case answers n (Some b) true false l o = last_of answers n b (o b refl refl)
-waiting_case answers n None true false l o = ap (λ (xs : List Answer). slice_get xs n) (append-nil answers)
-waiting_case answers n a false last l o = ap (λ (xs : List Answer). slice_get xs n) (append-nil answers)
+waiting_case answers n _ _ _ l o = ap (λ (xs : List Answer). slice_get xs n) (append-nil answers)
 
 -- the answers and the count of the ended calls, with one event more
 more_answers : (c : Config) (es : List Event) (e : Event) (k : ℕ)

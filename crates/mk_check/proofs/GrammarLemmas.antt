@@ -124,8 +124,7 @@ pub record IsHeapLine (item : Item) : Type 0 where
 two_numbers : (pages resident : Result ℕ LineFault) (item : Item)
     → (pages >>= (λ p. resident >>= (λ r. Ok (Heap p r)))) ≡ Ok item → IsHeapLine item
 two_numbers (Ok p) (Ok r) item h = record { pages = p; resident = r; is = sym (Ok-injective (Heap p r) item h) }
-two_numbers (Ok p) (Err fault) item h = absurd (Err≢Ok fault item h)
-two_numbers (Err fault) resident item h = absurd (Err≢Ok fault item h)
+two_numbers x0 resident item h = cc
 
 item_from-heap : (a b : List ℕ) (item : Item) → item_from Keyword.Heap (a ∷ b ∷ []) ≡ Ok item → IsHeapLine item
 unfolding item_from

@@ -46,8 +46,7 @@ copied-or : {X : Type 0} (o : Option (Bor X)) (b : Bool) (x : Bor X)
     → option_copied (option_or o (if b then Some x else None))
     ≡ option_or (option_copied o) (if b then Some x.now else None)
 copied-or None true x = refl
-copied-or None false x = refl
-copied-or (Some y) b x = refl
+copied-or x0 b x = cc
 
 -- a line that declares a name, where the names before are known
 pub known-more : {X : Type 0} (old new : List ℕ → Option (Bor X)) (before behind : List ℕ

@@ -10,9 +10,8 @@ use Rattle.mk_script.specs.declared.items.Item.TheVariants.{Global, TypeLine}
 
 place-step : (b : Bool) (o : Option ℕ) (n : ℕ)
     → (if b then 0 else unwrap_or o n + 1) ≡ unwrap_or (if b then Some 0 else option_map (λ place. place + 1) o) (suc n)
-place-step true o n = refl
 place-step false None n = omega arith
-place-step false (Some place) n = refl
+place-step _ _ n = refl
 
 pub number_of_name-among : (name : List ℕ) (names : List (List ℕ))
     → number_of_name name names ≡ unwrap_or (number_among name names) (length names)

@@ -17,20 +17,16 @@ asks_if true e = refl
 asks_if false e = cc
 
 next_asks : (n : Node) → sequel_to n ≡ Sequel.Asks → asks_at n ≡ true
-next_asks Node.Done e = cc
 next_asks (Node.Line line instruction next) e = asks_if (is_asking instruction) e
-next_asks (Node.Rounds rounds body next) e = cc
-next_asks (Node.Choice number first second next) e = cc
+next_asks _ e = cc
 
 ends_not : (b : Bool) (n : Node) → (if b then Sequel.Asks else Sequel.Other) ≡ Sequel.Ends → n ≡ Node.Done
 ends_not true n e = cc
 ends_not false n e = cc
 
 next_ends : (n : Node) → sequel_to n ≡ Sequel.Ends → n ≡ Node.Done
-next_ends Node.Done e = refl
 next_ends (Node.Line line instruction next) e = ends_not (is_asking instruction) (Node.Line line instruction next) e
-next_ends (Node.Rounds rounds body next) e = cc
-next_ends (Node.Choice number first second next) e = cc
+next_ends x0 e = cc
 
 -- The node is a line before this one, whose answer this register keeps, if any does, and this comes next.
 record IsLine (nodes : List Node) (n : Node) (next : ℕ) (kept : Option ℕ) (s : Sequel) : Type 0 where
@@ -45,16 +41,14 @@ kept_by : (next : ℕ) (shown : Bool) (kept : Option ℕ) (u s : Sequel) → (s 
     → (sequels_by next shown kept u).kept ≡ s
     → ((sequels_by next shown kept u).next ≡ next) × (shown ≡ false)
     × (kept ≡ Some (sequels_by next shown kept u).register) × (u ≡ s)
-kept_by next true kept u s known e = absurd (known (sym e))
-kept_by next false None u s known e = absurd (known (sym e))
 kept_by next false (Some number) u s known e = (refl, refl, refl, e)
+kept_by next _ _ u s known e = absurd (known (sym e))
 
 unkept_by : (next : ℕ) (shown : Bool) (kept : Option ℕ) (u s : Sequel) → (s ≡ Sequel.Other → ⊥)
     → (sequels_by next shown kept u).unkept ≡ s
     → ((sequels_by next shown kept u).next ≡ next) × (shown ≡ false) × (kept ≡ None) × (u ≡ s)
-unkept_by next true kept u s known e = absurd (known (sym e))
 unkept_by next false None u s known e = (refl, refl, refl, e)
-unkept_by next false (Some number) u s known e = absurd (known (sym e))
+unkept_by next _ _ u s known e = absurd (known (sym e))
 
 line_told : (nodes : List Node) (line : ℕ) (instruction : Instruction) {next behind : ℕ} {kept : Option ℕ} {s : Sequel}
     → (behind ≡ next) × (is_show instruction ≡ false) × (keeping_register instruction ≡ kept)
@@ -70,21 +64,17 @@ line_told nodes line instruction by = record {
 
 kept_line : (nodes : List Node) (n : Node) (s : Sequel) → (s ≡ Sequel.Other → ⊥) → (sequels_of nodes n).kept ≡ s
     → IsLine nodes n (sequels_of nodes n).next (Some (sequels_of nodes n).register) s
-kept_line nodes Node.Done s known e = absurd (known (sym e))
 kept_line nodes (Node.Line line instruction next) s known e =
     line_told nodes line instruction
     (kept_by next (is_show instruction) (keeping_register instruction) (sequel_to (node_at nodes next)) s known e)
-kept_line nodes (Node.Rounds rounds body next) s known e = absurd (known (sym e))
-kept_line nodes (Node.Choice number first second next) s known e = absurd (known (sym e))
+kept_line nodes _ s known e = absurd (known (sym e))
 
 unkept_line : (nodes : List Node) (n : Node) (s : Sequel) → (s ≡ Sequel.Other → ⊥)
     → (sequels_of nodes n).unkept ≡ s → IsLine nodes n (sequels_of nodes n).next None s
-unkept_line nodes Node.Done s known e = absurd (known (sym e))
 unkept_line nodes (Node.Line line instruction next) s known e =
     line_told nodes line instruction
     (unkept_by next (is_show instruction) (keeping_register instruction) (sequel_to (node_at nodes next)) s known e)
-unkept_line nodes (Node.Rounds rounds body next) s known e = absurd (known (sym e))
-unkept_line nodes (Node.Choice number first second next) s known e = absurd (known (sym e))
+unkept_line nodes _ s known e = absurd (known (sym e))
 
 asks_is_known : Sequel.Asks ≡ Sequel.Other → ⊥
 asks_is_known e = absurd cc
@@ -98,24 +88,16 @@ pub number_kept : (instruction : Instruction) (number value : ℕ) (k : KeptStat
     → keeping_register instruction ≡ Some number
     → after_answer instruction (Answer.Num value) k ≡ with_value k number value
 number_kept (GetNum q n i) number value k e = cc
-number_kept (CasPtr q p r n i) number value k e = cc
-number_kept (Same p q n) number value k e = cc
-number_kept (IsNull p n) number value k e = cc
-number_kept _ number value k e = cc
+number_kept x0 number value k e = cc
 
 pub nothing_kept : (instruction : Instruction) (a : Answer) (k : KeptState) → is_show instruction ≡ false
     → keeping_register instruction ≡ None → after_answer instruction a k ≡ k
 nothing_kept (GetNum q n i) a k s e = cc
-nothing_kept (CasPtr q p r n i) a k s e = cc
-nothing_kept (Same p q n) a k s e = cc
-nothing_kept (IsNull p n) a k s e = cc
-nothing_kept (Show p) a k s e = cc
-nothing_kept _ a k s e = refl
+nothing_kept x0 a k s e = cc
 
 neither : (a b : Bool) → a ≡ false → b ≡ false → (not a && not b) ≡ true
 neither false false e f = refl
-neither false true e f = cc
-neither true b e f = cc
+neither _ _ e f = cc
 
 pub silent : (instruction : Instruction) (a : Answer) → is_refusal a ≡ false → is_show instruction ≡ false
     → is_silent instruction a ≡ true

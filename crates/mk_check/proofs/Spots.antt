@@ -13,17 +13,13 @@ use Rattle.mk_check.specs.declared.feeding.tree.Spot.{Spot}
 -- whether a node asks for an operation, by its instruction
 pub asks_by_instruction : (n : Node) → is_asking (instruction_of_node n) ≡ asks_at n
 asks_by_instruction Node.Done = refl
-asks_by_instruction (Node.Line line instruction next) = refl
-asks_by_instruction (Node.Rounds rounds body next) = refl
-asks_by_instruction (Node.Choice number first second next) = refl
+asks_by_instruction x0 = cc
 
 -- the operation that it asks for
 pub op_by_instruction : (numbers : List ℕ) (n : Node)
     → op_asked numbers (instruction_of_node n) ≡ op_of_node numbers n
 op_by_instruction numbers Node.Done = refl
-op_by_instruction numbers (Node.Line line instruction next) = refl
-op_by_instruction numbers (Node.Rounds rounds body next) = refl
-op_by_instruction numbers (Node.Choice number first second next) = refl
+op_by_instruction numbers x1 = cc
 
 pub length-nodes_of : (spots : List Spot) → length (nodes_of spots) ≡ length spots
 length-nodes_of spots = length-map spots (λ (s : Spot). s.node)
@@ -37,11 +33,9 @@ nodes_of_push spots s = map-append (λ (s : Spot). s.node) spots (s ∷ [])
 
 same_mark : (nodes more : List Node) (n : Node) → IsBelow (length nodes) n
     → sequels_of (nodes ++ more) n ≡ sequels_of nodes n
-same_mark nodes more Node.Done below = refl
 same_mark nodes more (Node.Line line instruction next) below =
     ap (λ (m : Node). sequels_before next m instruction) (get_or_append_left nodes more Node.Done next below)
-same_mark nodes more (Node.Rounds rounds body next) below = refl
-same_mark nodes more (Node.Choice number first second next) below = refl
+same_mark nodes more _ below = refl
 
 same_mark_pushed : (spots : List Spot) (s : Spot) (n : Node) → IsBelow (length spots) n
     → sequels_of (nodes_of spots) n ≡ sequels_of (nodes_of (spots ++ s ∷ [])) n

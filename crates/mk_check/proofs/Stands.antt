@@ -30,16 +30,12 @@ pub record BeginsWith (scope : Scope) (left : Blocks) (line : ℕ) (instruction 
 
 begins_with : (scope : Scope) (left : Blocks) (line : ℕ) (instruction : Instruction) (rest : Steps)
     → numbered scope left ≡ steps.Line line instruction rest → BeginsWith scope left line instruction rest
-begins_with scope Done line instruction rest e = cc
 begins_with scope (Line l item more) line instruction rest e = grind arith
-begins_with scope (Rounds rounds body more) line instruction rest e = cc
-begins_with scope (Choice number first second more) line instruction rest e = cc
+begins_with scope _ line instruction rest e = cc
 
 no_more : (scope : Scope) (left : Blocks) → numbered scope left ≡ steps.Done → left ≡ Done
 no_more scope Done e = refl
-no_more scope (Line line item more) e = cc
-no_more scope (Rounds rounds body more) e = cc
-no_more scope (Choice number first second more) e = cc
+no_more scope _ e = cc
 
 -- The operation that is asked for, and whether there is one.
 
@@ -58,16 +54,13 @@ tells scope fed nodes p (Node.Line line instruction next) tree w e stops left nu
     let op : op_asked p.numbers instruction ≡ first_op scope fed fed.left = grind (arith, op_of-asked) in
     let on : has_ended fed ≡ false = ap is_end_of_block here.is in
     record { op = op; ended = λ h. cc; none = λ h. cc }
-tells scope fed nodes p (Node.Rounds rounds body next) tree w e stops left numbers = absurd stops
-tells scope fed nodes p (Node.Choice number first second next) tree w e stops left numbers = absurd stops
+tells scope fed nodes p _ tree w e stops left numbers = absurd stops
 
 pub op_of_others : (numbers : List ℕ) (n : Node)
     → ((line : ℕ) (instruction : Instruction) (next : ℕ) → n ≡ Node.Line line instruction next → ⊥)
     → op_of_node numbers n ≡ None
-op_of_others numbers Node.Done h = refl
 op_of_others numbers (Node.Line line instruction next) h = absurd (h line instruction next refl)
-op_of_others numbers (Node.Rounds rounds body next) h = refl
-op_of_others numbers (Node.Choice number first second next) h = refl
+op_of_others numbers _ h = refl
 
 pub op_stands : (program : List Item) (k : ℕ) (s : FeedState) (answers : List Answer) → IsTree s.nodes → IsAtStop s
     → FeedStandsFor program k s answers
@@ -197,26 +190,8 @@ answer_stands program k answers a s t line instruction next tree w e some stop s
 
 after_answer-text : (text : List ℕ) (instruction : Instruction) (a : Answer) (k : KeptState)
     → after_answer instruction a (behind_text text k) ≡ behind_text text (after_answer instruction a k)
-after_answer-text text Nothing a k = refl
-after_answer-text text (Const number value) a k = refl
-after_answer-text text (Add number left right) a k = refl
-after_answer-text text (Sub number left right) a k = refl
-after_answer-text text (Print number) a k = refl
-after_answer-text text (New d ty) a k = refl
-after_answer-text text (Free p) a k = refl
-after_answer-text text (GetPtr d q i) a k = refl
-after_answer-text text (SetPtr q p i) a k = refl
-after_answer-text text (Lea d q i) a k = refl
-after_answer-text text (Move d q) a k = refl
-after_answer-text text (Clear d) a k = refl
-after_answer-text text (GetGlobal d g) a k = refl
-after_answer-text text (SetGlobal g p) a k = refl
-after_answer-text text (SetNum q number i) a k = refl
-after_answer-text text (GetNum q number i) a k = refl
-after_answer-text text (CasPtr q p r number i) a k = refl
-after_answer-text text (Same p q number) a k = refl
-after_answer-text text (IsNull p number) a k = refl
 after_answer-text text (Show p) a k = grind (arith, append_assoc)
+after_answer-text text _ a k = refl
 
 pub stop_on_answer-text : (rest : Steps) (line : ℕ) (instruction : Instruction) (a : Answer) (k : KeptState)
     → stop_on_answer (steps.Line line instruction rest) a k

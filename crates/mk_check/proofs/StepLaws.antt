@@ -98,37 +98,17 @@ stopped_behind_text text s = record s { kept = behind_text text s.kept }
 
 pub after_line-text : (text : List ℕ) (instruction : Instruction) (k : KeptState)
     → after_line instruction (behind_text text k) ≡ behind_text text (after_line instruction k)
-after_line-text text Nothing k = refl
-after_line-text text (Const number value) k = refl
-after_line-text text (Add number left right) k = refl
-after_line-text text (Sub number left right) k = refl
 after_line-text text (Print number) k =
     ap (λ (t : List ℕ). let kept : KeptState = record k { text = t } in kept)
     (append_assoc text k.text (decimal (slice_index k.numbers number) ++ newline))
-after_line-text text (New d ty) k = refl
-after_line-text text (Free p) k = refl
-after_line-text text (GetPtr d q i) k = refl
-after_line-text text (SetPtr q p i) k = refl
-after_line-text text (Lea d q i) k = refl
-after_line-text text (Move d q) k = refl
-after_line-text text (Clear d) k = refl
-after_line-text text (GetGlobal d g) k = refl
-after_line-text text (SetGlobal g p) k = refl
-after_line-text text (SetNum q number i) k = refl
-after_line-text text (GetNum q number i) k = refl
-after_line-text text (CasPtr q p r number i) k = refl
-after_line-text text (Same p q number) k = refl
-after_line-text text (IsNull p number) k = refl
-after_line-text text (Show p) k = refl
+after_line-text text _ k = refl
 
 stop_behind-text : (text : List ℕ) (left : Steps) (kept : KeptState) (go : KeptState → Stopped) (rest : Steps)
     → ((k : KeptState) → go (behind_text text k) ≡ stopped_behind_text text (go k))
     → stop_behind (record { left = left; kept = behind_text text kept }) go rest
     ≡ stopped_behind_text text (stop_behind (record { left = left; kept = kept }) go rest)
 stop_behind-text text Done kept go rest h = h kept
-stop_behind-text text (Line line instruction left) kept go rest h = refl
-stop_behind-text text (Rounds rounds body left) kept go rest h = refl
-stop_behind-text text (Choice number first second left) kept go rest h = refl
+stop_behind-text text _ kept go rest h = refl
 
 stop_of_rounds-text : (text : List ℕ) (rounds : ℕ) (body : Steps) (go : KeptState → Stopped)
     → ((k : KeptState) → go (behind_text text k) ≡ stopped_behind_text text (go k))
