@@ -22,10 +22,8 @@ feed_push program k answers a =
 
 taken_at_end : (scope : Scope) (fed : Fed) (left : Blocks) (a : Answer) → is_end_of_block left ≡ true
     → take_answer scope fed left a ≡ fed
-taken_at_end scope fed Done a h = refl
 taken_at_end scope fed (Line line item rest) a h = cc
-taken_at_end scope fed (Rounds rounds body rest) a h = refl
-taken_at_end scope fed (Choice number first second rest) a h = refl
+taken_at_end scope fed _ a h = refl
 
 -- A script that has ended takes no answer.
 pub feed_push-ended : (program : List Item) (k : ℕ) (answers : List Answer) (a : Answer)
@@ -37,13 +35,11 @@ feed_push-ended program k answers a h =
 
 ops_taken : (scope : Scope) (fed : Fed) (left : Blocks) (a : Answer) (o : Op) → first_op scope fed left ≡ Some o
     → (take_answer scope fed left a).ops ≡ fed.ops ++ flagged o a ∷ []
-ops_taken scope fed Done a o h = cc
 ops_taken scope fed (Line line item rest) a o h =
     (run_agrees scope rest (with_answer scope (note fed (op_of scope fed item) line a) item a)).answers
     ∙ (ops-with_answer scope (note fed (op_of scope fed item) line a) item a
     ∙ ap (λ (p : Option Op). (note fed p line a).ops) h)
-ops_taken scope fed (Rounds rounds body rest) a o h = cc
-ops_taken scope fed (Choice number first second rest) a o h = cc
+ops_taken scope fed _ a o h = cc
 
 -- The operation that is answered is noted after those before it.
 pub ops-feed_push : (program : List Item) (k : ℕ) (answers : List Answer) (a : Answer) (o : Op)

@@ -43,8 +43,7 @@ counted-HasWord (Some count) = replicate-HasWord count (nat_le 1 count) refl
 
 number_field-HasWord : (bytes : List ℕ) → HasWord (number_field bytes)
 number_field-HasWord [] = λ some. omega arith
-number_field-HasWord (star ∷ digits) = if-HasWord (star == 42) (option_and_then numbers (number_of_word digits)) None
-    (counted-HasWord (number_of_word digits)) none-HasWord
+number_field-HasWord (star ∷ digits) = grind (arith, if-HasWord, counted-HasWord, none-HasWord)
 
 pointer-HasWord : (place : Option At) → HasWord (option_map (λ a. Pointer a ∷ []) place)
 pointer-HasWord None some = absurd (false≢true some)
@@ -52,16 +51,11 @@ pointer-HasWord (Some place) some = omega arith
 
 pointer_field-HasWord : (bytes : List ℕ) → HasWord (pointer_field bytes)
 pointer_field-HasWord [] = none-HasWord
-pointer_field-HasWord (colon ∷ place) =
-    if-HasWord (colon == 58) (option_map (λ a. Pointer a ∷ []) (result_ok (at place))) None
-    (pointer-HasWord (result_ok (at place))) none-HasWord
+pointer_field-HasWord (colon ∷ place) = grind (arith, if-HasWord, pointer-HasWord, none-HasWord)
 
 field-HasWord : (field : List ℕ) → HasWord (field_of field)
 field-HasWord [] = none-HasWord
-field-HasWord (letter ∷ rest) =
-    if-HasWord (letter == 110) (number_field rest) (if letter == 112 then pointer_field rest else None)
-    (number_field-HasWord rest)
-    (if-HasWord (letter == 112) (pointer_field rest) None (pointer_field-HasWord rest) none-HasWord)
+field-HasWord (letter ∷ rest) = grind (arith, if-HasWord, number_field-HasWord, pointer_field-HasWord, none-HasWord)
 
 fields-word : (fields : List (List ℕ)) → nat_le 2 (suc (length fields)) ≡ true
     → list_all (λ field. is_some (field_of field)) fields ≡ true → 1 ≤ length (fields_of fields)
@@ -105,8 +99,7 @@ other_form Setn (a ∷ b ∷ c ∷ []) other = bind (name a) _ (λ x. bind (numb
 other_form Getp (a ∷ b ∷ c ∷ []) other = bind (name a) _ (λ x. bind (name b) _ (λ y. bind (number c) _ (λ z. refl)))
 other_form Setp (a ∷ b ∷ c ∷ []) other = bind (name a) _ (λ x. bind (number b) _ (λ y. bind (name c) _ (λ z. refl)))
 other_form Casp (a ∷ b ∷ c ∷ d ∷ e ∷ []) other =
-    bind (name a) _ (λ x. bind (name b) _
-    (λ y. bind (number c) _ (λ z. bind (name d) _ (λ v. bind (name e) _ (λ w. refl)))))
+    bind _ _ (λ x. bind (name b) _ (λ y. bind (number c) _ (λ z. bind (name d) _ (λ v. bind (name e) _ (λ w. refl)))))
 other_form Lea (a ∷ b ∷ c ∷ []) other = bind (name a) _ (λ x. bind (name b) _ (λ y. bind (number c) _ (λ z. refl)))
 other_form Move (a ∷ b ∷ []) other = bind (name a) _ (λ x. bind (name b) _ (λ y. refl))
 other_form Clear (a ∷ []) other = bind (name a) _ (λ x. refl)
@@ -140,8 +133,7 @@ form-word : (form : Keyword) (operands : List (List ℕ)) (t : List ℕ) (words 
     → item_from form operands ≡ Ok (TypeItem t words) → 1 ≤ length words
 unfolding item_from
 form-word TypeLine [] t words two forms h = absurd (Err≢Ok (Text TextKind.Word) (TypeItem t words) h)
-form-word TypeLine (first ∷ fields) t words two forms h =
-    subst (λ ws. 1 ≤ length ws) (type_from (name first) fields t words h) (fields-word fields two forms)
+form-word TypeLine (first ∷ fields) t words two forms h = grind (arith, type_from, fields-word)
 form-word form operands t words two forms h = absurd (false≢true (sym (other_form form operands refl) ∙ ap is_type h))
 
 if-Ok-both : {T E : Type 0} (b : Bool) (r : Result T E) (e : E) (x : T) → (if b then r else Err e) ≡ Ok x
@@ -152,14 +144,7 @@ if-Ok-both false r e x h = absurd (Err≢Ok e x h)
 placed-word : (before : List Item) (form : Option Keyword) (operands : List (List ℕ)) (t : List ℕ)
     (words : List TypeWord) → placed_item before form operands ≡ Ok (TypeItem t words) → 1 ≤ length words
 placed-word before None operands t words h = absurd (Err≢Ok (Text TextKind.Word) (TypeItem t words) h)
-placed-word before (Some form) operands t words h =
-    let both = if-Ok-both (has_word_count form (length operands) && have_form form operands && is_placed before form)
-    (item_from form operands) (Text TextKind.Word) (TypeItem t words) h in
-    let fits = and-true (has_word_count form (length operands)
-    && have_form form operands) (is_placed before form) both.0
-    in
-    let parts = and-true (has_word_count form (length operands)) (have_form form operands) fits.0 in
-    form-word form operands t words parts.0 parts.1 both.1
+placed-word before (Some form) operands t words h = grind (arith, if-Ok-both, and-true, form-word)
 
 other_line-word : (before : List Item) (words : List (List ℕ)) (t : List ℕ) (kinds : List TypeWord)
     → other_line before words ≡ Ok (TypeItem t kinds) → 1 ≤ length kinds

@@ -115,9 +115,7 @@ first_of : (o : Op) (a : Answer) (event : TraceEvent) → ops_of false event ≡
     → ops_of (is_full_answer a) event ≡ flagged o a ∷ drop 1 (ops_of (is_full_answer a) event)
 first_of o a (A slot) is = let same : o ≡ Op.New 0 slot false = cc in rw same (made_first slot a)
 first_of o a (K slot) is = let same : o ≡ Op.New 0 slot false = cc in rw same (linked_first slot a)
-first_of o a (F slot) is = grind (arith, either_way)
-first_of o a (C slot) is = grind (arith, either_way)
-first_of o a (W slot index value) is = grind (arith, either_way)
+first_of o a _ is = grind (arith, either_way)
 
 -- The operation is noted as it is, whatever its answer.
 abbrev IsPlain : Op → Type 0

@@ -90,11 +90,8 @@ may_be_played {trace} {c} {es} fs event config playable history null of_slots sa
     grind (arith, events_are_admitted)
 
 pub slot_within : (slots : List ℕ) (event : TraceEvent) → IsEventOf slots event → slot_of event < length slots
-slot_within slots (A slot) h = h
-slot_within slots (K slot) h = h
-slot_within slots (F slot) h = h
-slot_within slots (C slot) h = h
 slot_within slots (W slot index value) h = h.0
+slot_within slots _ h = h
 
 -- A slot is a global.
 pub slot_is_global : (trace : Contents) (event : TraceEvent) → IsPlayable trace → IsEventOf trace.slots event

@@ -13,8 +13,7 @@ returns c line =
     c.loop-item.yielded _ c.loop-item.yielded_by _ _ c.in-None.is c.next.ensures.steps in
     let all = ap reverse seen.0 ∙ reverse-reverse c.args.items.now in
     let parts = c.loop-item.invariant line ∙ ap (λ items. counts_of (parts_from line items)) all in
-    ap (λ count. count.lines) (c.close.ensures.count ∙ ap innermost_count parts)
-    ∙ lines-innermost (parts_from line c.args.items.now)
+    cc (c.close.ensures.count, parts, lines-innermost (parts_from line c.args.items.now))
 
 pub loop-item-init : goal.loop-item-init
 loop-item-init c line = rw (c.in_ok-open.ensures, c.new-parts.ensures) refl

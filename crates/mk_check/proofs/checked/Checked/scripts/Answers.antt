@@ -7,5 +7,4 @@ pub returns : goal.returns
 returns c =
     let items = c.items-items.result.now in
     let counted : c.count.result ≡ count_by is_script items = search rules in
-    counted ∙ sym (length-script_names items)
-    ∙ ap (λ xs. length (script_names xs)) (c.items-items.ensures.items ∙ c.self.view_is)
+    cc (counted, length-script_names items, c.items-items.ensures.items, c.self.view_is)

@@ -3,6 +3,4 @@ use Rattle.mk_check.proofs.Spots.{asks_by_instruction}
 use Rattle.mk_check.proofs.feeding.tree.Tree.asks.Goals as goal
 
 pub returns : goal.returns
-returns c =
-    c.asks.ensures ∙ (ap is_asking c.instruction.ensures.value
-    ∙ asks_by_instruction (node_at c.args.self.now c.args.at))
+returns c = cc (c.asks.ensures, c.instruction.ensures.value, asks_by_instruction (node_at c.args.self.now c.args.at))

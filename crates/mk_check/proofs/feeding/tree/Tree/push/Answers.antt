@@ -18,8 +18,6 @@ invariant_of-self-2 c =
     (subst (λ (nodes : List Node). IsBelow (length nodes) c.args.node) (sym c.self.view_is) c.requires)
     (record {
       instruction = c.instruction.ensures;
-      sequels = c.sequels_from.ensures
-          ∙ ap (λ (nodes : List Node). sequels_of nodes c.args.node) (sym c.self.view_is);
-      first = c.asks_first_from.ensures
-          ∙ ap (λ (nodes : List Node). asks_first (steps_from (trees nodes) c.args.node)) (sym c.self.view_is);
+      sequels = cc (c.sequels_from.ensures, c.self.view_is);
+      first = cc (c.asks_first_from.ensures, c.self.view_is);
     }))
