@@ -3,11 +3,11 @@ use Rattle.mk_check.proofs.Vocabulary.{Answer, At, Bool, Fed, HasFew, IfSome, Is
 use Rattle.mk_check.proofs.Vocabulary.{Op, Option, Some, Value, ℕ, arith, base_of, false, flagged, global_names}
 use Rattle.mk_check.proofs.Vocabulary.{global_type, globals_of, kind_of, length, moved_by, number_of_name, op_of}
 use Rattle.mk_check.proofs.Vocabulary.{pointer_at, pointer_names, refl, scope_of, slice_get, subst, sym, true}
-use Rattle.mk_check.proofs.Vocabulary.{type_names, ◌<◌, ◌∙◌, ◌≡◌}
+use Rattle.mk_check.proofs.Vocabulary.{type_names, ◌<◌, ◌≡◌}
 use Rattle.mk_never.proofs.Edits.{if_by, left_at_by}
 use Rattle.mk_never.specs.Admitted.{AccessIsAdmitted, IsAdmitted, IsBase, IsNumber, IsPointer, Meets}
 use Rattle.mk_never.specs.Admitted.{OperandsAreInRange, StoreIsAdmitted}
-use Rattle.mk_never.specs.NeverHeap.{after_free, after_op, is_same, target_of, with_new, with_register, word_at}
+use Rattle.mk_never.specs.NeverHeap.{after_free, after_op, target_of, with_new, with_register, word_at}
 use Rattle.mk_never.specs.declared.values.Value.TheVariants.{Null, Num, Ptr}
 use Rattle.mk_never.specs.declared.types.Kind.TheVariants.{Num as NumKind, To}
 use Rattle.mk_check.proofs.DeclaredRegisters.{AreAsDeclared, FitsScript, global_word, kind_at, loaded_word}

@@ -1,14 +1,13 @@
 -- The operations of a well-typed program's scripts are admitted.
 use Rattle.std.proofs.lemmas.List.Elements.{All-head, All-nil, All-push, All-tail}
-use Rattle.std.proofs.{Common.eq-eqb, Common.eqb-true, Common.◌≢◌, lemmas.Bool.cases_Bool, lemmas.List.get_or-replicate}
-use Rattle.mk_check.proofs.Vocabulary.{All, Answer, Blocks, Bool, Choice, Done, Fed, HasFew, IfSome, IsOfKind, Item}
-use Rattle.mk_check.proofs.Vocabulary.{Line, List, NeverState, None, Op, Option, Rounds, Scope, Some, Value, ℕ, ap}
-use Rattle.mk_check.proofs.Vocabulary.{append-nil, arith, blocks_from, false, false≢true, fed_before_answers}
-use Rattle.mk_check.proofs.Vocabulary.{fed_before_lines, feed, flagged, globals_of, if◌then◌else◌, length}
-use Rattle.mk_check.proofs.Vocabulary.{length-replicate, next_op, note, number_of_name, op_of, option_map}
-use Rattle.mk_check.proofs.Vocabulary.{pointer_names, refl, run, scope_of, script_names, script_of, script_scope, subst}
-use Rattle.mk_check.proofs.Vocabulary.{sym, take_answer, take_answers, true, types_of, with_answer, [], ⊎_elim, ◌*◌}
-use Rattle.mk_check.proofs.Vocabulary.{◌++◌, ◌+◌, ◌<◌, ◌==◌, ◌∙◌, ◌∷◌, ◌≡◌, ◌≤◌}
+use Rattle.std.proofs.{Common.eq-eqb, Common.eqb-true, Common.◌≢◌, lemmas.List.get_or-replicate}
+use Rattle.mk_check.proofs.Vocabulary.{All, Answer, Blocks, Bool, Done, Fed, HasFew, IfSome, IsOfKind, Item, Line, List}
+use Rattle.mk_check.proofs.Vocabulary.{NeverState, None, Op, Option, Scope, Some, Value, ℕ, ap, append-nil, arith}
+use Rattle.mk_check.proofs.Vocabulary.{blocks_from, false, false≢true, fed_before_answers, fed_before_lines, feed}
+use Rattle.mk_check.proofs.Vocabulary.{flagged, globals_of, if◌then◌else◌, length, length-replicate, next_op, note}
+use Rattle.mk_check.proofs.Vocabulary.{number_of_name, op_of, option_map, pointer_names, refl, run, scope_of}
+use Rattle.mk_check.proofs.Vocabulary.{script_names, script_of, script_scope, subst, sym, take_answer, take_answers}
+use Rattle.mk_check.proofs.Vocabulary.{true, types_of, with_answer, [], ◌*◌, ◌++◌, ◌+◌, ◌<◌, ◌==◌, ◌∙◌, ◌∷◌, ◌≡◌, ◌≤◌}
 use Rattle.mk_never.{proofs.Later.op_stays, specs.Admitted.AreAdmitted, specs.Admitted.IsAdmitted, specs.Laws.Continues}
 use Rattle.mk_never.{specs.Laws.KeepsRegisters, specs.NeverHeap.Call, specs.NeverHeap.after_calls}
 use Rattle.mk_never.{specs.NeverHeap.after_op, specs.declared.values.Value.TheVariants.Null}

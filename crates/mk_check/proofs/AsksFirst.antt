@@ -10,12 +10,9 @@ use Rattle.mk_check.proofs.Vocabulary.{take, take_all, take_more, trees, true, w
 use Rattle.mk_check.proofs.Vocabulary.{◌-◌, ◌<◌, ◌==◌, ◌∙◌, ◌∷◌, ◌≡◌}
 use Rattle.mk_check.proofs.Moves.{FramesAreWithin_pop, asks_at, end_goes_on, line_goes_on}
 use Rattle.mk_check.proofs.TreeNodes.{IsAt, steps_at-trees}
-use Rattle.mk_check.specs.declared.feeding.instructions.Instruction.TheVariants.{Add, CasPtr, Clear, Const, Free}
-use Rattle.mk_check.specs.declared.feeding.instructions.Instruction.TheVariants.{GetGlobal, GetNum, GetPtr, IsNull, Lea}
-use Rattle.mk_check.specs.declared.feeding.instructions.Instruction.TheVariants.{Move, New, Nothing, Print, Same}
-use Rattle.mk_check.specs.declared.feeding.instructions.Instruction.TheVariants.{SetGlobal, SetNum, SetPtr, Show, Sub}
 use Rattle.mk_check.specs.Trees.{LeavesBlock, MovesToOp, node_after, node_to_go_on, place_behind_block, place_in_branch}
 use Rattle.mk_check.specs.Trees.{place_in_rounds, resumed_node}
+use Rattle.mk_check.specs.declared.feeding.instructions.Instruction.TheVariants.{Nothing}
 
 pub asked_so : (numbers : List ℕ) (instruction : Instruction)
     → is_some (op_asked numbers instruction) ≡ is_asking instruction

@@ -1,10 +1,10 @@
 -- An answer at which nothing is printed, where the next line asks: the script stops there.
 use Rattle.mk_check.proofs.Vocabulary.{Answer, Bool, FeedState, HasStopped, Instruction, IsFeed, IsTree, IsWaiting}
-use Rattle.mk_check.proofs.Vocabulary.{KeptState, List, Node, Place, PlaceFits, PlaceIsWithin, Steps, StopsAt}
-use Rattle.mk_check.proofs.Vocabulary.{TakesAnswer, ℕ, after_answer, and_parts, ap, append-nil, asks_at, false, is_some}
-use Rattle.mk_check.proofs.Vocabulary.{kept_in, left_in, length, node_at, not, op_asked, op_of_node, refl, refusal_line}
-use Rattle.mk_check.proofs.Vocabulary.{refusal_text, stop_of, stop_on_answer, stopped_in, subst, sym, true, with_kept}
-use Rattle.mk_check.proofs.Vocabulary.{with_text, work_left, [], ◌++◌, ◌<◌, ◌∙◌, ◌∷◌, ◌≡◌}
+use Rattle.mk_check.proofs.Vocabulary.{KeptState, List, Node, Place, PlaceFits, PlaceIsWithin, StopsAt, TakesAnswer, ℕ}
+use Rattle.mk_check.proofs.Vocabulary.{after_answer, and_parts, ap, append-nil, asks_at, false, is_some, kept_in}
+use Rattle.mk_check.proofs.Vocabulary.{left_in, length, node_at, not, op_asked, op_of_node, refl, refusal_line}
+use Rattle.mk_check.proofs.Vocabulary.{refusal_text, stop_on_answer, stopped_in, subst, sym, true, with_kept, with_text}
+use Rattle.mk_check.proofs.Vocabulary.{work_left, [], ◌++◌, ◌<◌, ◌∙◌, ◌∷◌, ◌≡◌}
 use Rattle.mk_check.proofs.{AsksFirst.asked_so, Moves.line_fits, Moves.unfolded_line, Stands.answer_stands}
 use Rattle.mk_check.proofs.{Stands.waits_for_answer, TreeNodes.IsAt, TreeNodes.is_at, WorkLaws.answer_nearer}
 use Rattle.mk_check.specs.{Feed.is_refusal, Steps.is_show, Steps.is_silent}

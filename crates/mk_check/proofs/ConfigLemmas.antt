@@ -4,17 +4,16 @@ use Rattle.mk_check.proofs.Vocabulary.{All, ArePassed, Around, At, Bool, Config,
 use Rattle.mk_check.proofs.Vocabulary.{TypeKind, TypeWord, Which, ℕ, ap, arith, at_line, bytes_eq, false, false≢true}
 use Rattle.mk_check.proofs.Vocabulary.{fault_from, globals_among, globals_of, if◌then◌else◌, is_some, kind_of}
 use Rattle.mk_check.proofs.Vocabulary.{kinds_among, kinds_of, length, length-map, map, number_of_name, pages_of, refl}
-use Rattle.mk_check.proofs.Vocabulary.{resident_of, script_names, slice_get, slice_get_within, subst, sym, this_script}
-use Rattle.mk_check.proofs.Vocabulary.{true, type_names, type_words, types_of, typing_fault, word_among, [], ◌++◌, ◌+◌}
-use Rattle.mk_check.proofs.Vocabulary.{◌<◌, ◌or◌, ◌∷◌, ◌≡◌, ◌≤◌}
+use Rattle.mk_check.proofs.Vocabulary.{resident_of, script_names, slice_get, slice_get_within, sym, this_script, true}
+use Rattle.mk_check.proofs.Vocabulary.{type_names, type_words, types_of, typing_fault, word_among, [], ◌++◌, ◌+◌, ◌<◌}
+use Rattle.mk_check.proofs.Vocabulary.{◌or◌, ◌∷◌, ◌≡◌, ◌≤◌}
 use Rattle.mk_core.specs.Config.{IsAmong, IsTypeAmong, IsWithinLimits}
 use Rattle.mk_check.proofs.GrammarLemmas.{Some≢None, at_most-None, heap_within, length-global_names}
 use Rattle.mk_check.proofs.GrammarLemmas.{length-script_names, length-type_names, option_or-None}
 use Rattle.mk_check.proofs.NumberLemmas.{length-globals_among, length-kinds_among}
 use Rattle.mk_check.proofs.FormLemmas.{line_item-word}
-use Rattle.mk_check.specs.Typing.{IsWellTyped, TypingFault, inside_fault, offsets_fault, pointers_fault, type_fault}
-use Rattle.mk_check.specs.Typing.{type_word_at, unless}
-use Rattle.mk_check.specs.Declarations.{config_of}
+use Rattle.mk_check.specs.{Declarations.config_of, Typing.IsWellTyped, Typing.TypingFault, Typing.inside_fault}
+use Rattle.mk_check.specs.{Typing.offsets_fault, Typing.pointers_fault, Typing.type_fault, Typing.unless}
 use Rattle.mk_script.{proofs.PassedLines.IsWhole, specs.Lines.at_most, specs.declared.items.Item.TheVariants.Global}
 use Rattle.mk_script.{specs.declared.items.Item.TheVariants.TypeLine, specs.declared.items.TypeWord.TheVariants.Number}
 use Rattle.mk_script.{specs.declared.items.TypeWord.TheVariants.Pointer}

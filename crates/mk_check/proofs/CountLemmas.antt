@@ -1,11 +1,11 @@
 -- Counts of parts, as a script is read from its end.
 use Rattle.std.proofs.lemmas.List.{length-reverse, reverse-append, reverse-reverse, set_at}
-use Rattle.std.proofs.{Common.set, Common.◌^◌, lemmas.Grind.reverse_onto}
+use Rattle.std.proofs.{Common.set, lemmas.Grind.reverse_onto}
 use Rattle.mk_check.proofs.Vocabulary.{Bool, Item, List, Part, PartCount, ℕ, ap, append_assoc, arith}
 use Rattle.mk_check.proofs.Vocabulary.{before_next_script, branch, cases_lt, counts_of, drop, drop_more, false}
 use Rattle.mk_check.proofs.Vocabulary.{false≢true, get_or, get_or_at, if◌then◌else◌, is_script, length, length-append}
 use Rattle.mk_check.proofs.Vocabulary.{max, outermost_blocks, refl, reverse, suc, sym, take, take_more, true, with_item}
-use Rattle.mk_check.proofs.Vocabulary.{zero, [], ⊎_elim, ◌*◌, ◌++◌, ◌+◌, ◌-◌, ◌<◌, ◌∙◌, ◌∷◌, ◌≡◌, ◌≤◌}
+use Rattle.mk_check.proofs.Vocabulary.{zero, [], ◌*◌, ◌++◌, ◌+◌, ◌-◌, ◌<◌, ◌∙◌, ◌∷◌, ◌≡◌}
 use Rattle.mk_check.specs.Counts.{counts_with, innermost_count, saturated_count, with_count, with_innermost}
 use Rattle.mk_check.specs.Lengths.{length_of}
 use Rattle.mk_script.specs.declared.items.Item.TheVariants.{Else, End, If, Repeat, Script}

@@ -1,13 +1,13 @@
 -- A caller's call is decided once, before its last step.
 use Rattle.std.specs.List.{list_any}
 use Rattle.mk_check.proofs.Vocabulary.{Answer, Bool, Config, None, Op, Option, Some, ℕ, and_parts, ap, arith, false}
-use Rattle.mk_check.proofs.Vocabulary.{if◌then◌else◌, refl, subst, sym, true, ◌+◌, ◌==◌, ◌∙◌, ◌≡◌}
+use Rattle.mk_check.proofs.Vocabulary.{if◌then◌else◌, refl, subst, sym, true, ◌+◌, ◌==◌, ◌≡◌}
 use Rattle.mk_geom.specs.{Headers.header_of, declared.addresses.Cell.Cell}
 use Rattle.mk_core.specs.Calls.{begun, is_same_stage, onward, progress_p, progress_q, progress_read, progress_reg}
 use Rattle.mk_core.specs.Calls.{refused, stage_behind, stage_refused, steps_of, still}
 use Rattle.mk_core.specs.Effects.{decided, progress, progress_freed, progress_look, sees_double}
-use Rattle.mk_core.specs.{Cells.is_unmapped_header, Enabled.holder_may, Moments.Moment, NewPlaces.target}
-use Rattle.mk_core.specs.{Order.comes_next, Order.is_of_any_holder, Order.may_decide_new, TurnConditions.cell_freed}
+use Rattle.mk_core.specs.Order.{comes_next, is_of_any_holder, may_decide_new}
+use Rattle.mk_core.specs.{Cells.is_unmapped_header, Enabled.holder_may, Moments.Moment, TurnConditions.cell_freed}
 use Rattle.mk_core.specs.{TurnConditions.is_decided, Words.Words, declared.events.Step.Step, declared.events.Word.Word}
 use Rattle.mk_core.specs.{declared.seats.Flight.Flight, declared.seats.Progress.Progress, declared.seats.Stage.Stage}
 use Rattle.mk_check.specs.Output.{ends_call}
@@ -250,22 +250,36 @@ pub goes : (c : Config) (m : Moment) (s : Stage) (o : Op) (q p r l found : ℕ) 
 goes c m s o q p r l found (Step.Enter y) h n e =
     own c m s o q p r l found (Step.Enter y) refl h n
     (λ i. either (found == 0) _ _ _ (begun_goes o y q p r l) (still_goes Stage.Idle o q p r l i))
-goes c m s o q p r l found (Step.Take (Some y)) h n e = grind (arith, own, either, begun_goes, still_goes)
+goes c m s o q p r l found (Step.Take (Some y)) h n e =
+    own c m s o q p r l found (Step.Take (Some y)) refl h n
+    (λ i. either (found == 0) _ _ _ (begun_goes o y q p r l) (still_goes Stage.Idle o q p r l i))
 goes c m s o q p r l found Step.Leave h n e = cc
 goes c m s o q p r l found Step.Give h n e = cc
 goes c m s o q p r l found Step.Reg h n e = reg_goes s o q p r l found h n
 goes c m s o q p r l found Step.Probe h n e =
     own c m s o q p r l found Step.Probe refl h n (λ i. probe_goes o q p r l (is_unmapped_header (header_of found)) i)
-goes c m s o q p r l found Step.Read h n e = grind (arith, own, read_goes)
-goes c m s o q p r l found Step.Write h n e = grind (arith, own, onward_goes)
-goes c m s o q p r l found Step.Cas h n e = grind (arith, own, onward_goes)
-goes c m s o q p r l found Step.Getg h n e = grind (arith, own, onward_goes)
-goes c m s o q p r l found Step.Setg h n e = grind (arith, own, onward_goes)
-goes c m s o q p r l found Step.Dirty h n e = grind (arith, own, onward_goes)
+goes c m s o q p r l found Step.Read h n e =
+    own c m s o q p r l found Step.Read refl h n (λ i. read_goes o q p r l found i)
+goes c m s o q p r l found Step.Write h n e =
+    own c m s o q p r l found Step.Write refl h n (λ i. onward_goes Stage.Write o q p r l q p r l _ refl i refl)
+goes c m s o q p r l found Step.Cas h n e =
+    own c m s o q p r l found Step.Cas refl h n (λ i. onward_goes Stage.Cas o q p r l q p r l _ refl i refl)
+goes c m s o q p r l found Step.Getg h n e =
+    own c m s o q p r l found Step.Getg refl h n (λ i. onward_goes Stage.Getg o q p r l q p r found _ refl i refl)
+goes c m s o q p r l found Step.Setg h n e =
+    own c m s o q p r l found Step.Setg refl h n (λ i. onward_goes Stage.Setg o q p r l q p r l _ refl i refl)
+goes c m s o q p r l found Step.Dirty h n e =
+    own c m s o q p r l found Step.Dirty refl h n (λ i. onward_goes Stage.Dirty o q p r l q p r l None refl i refl)
 goes c m s o q p r l found (Step.Look x) h n e = look_goes s o q p r l c m.words x h n
 goes c m s o q p r l found (Step.Quar page v) h n e = quar_goes s o q p r l c m.words page v h n
-goes c m s o q p r l found Step.Grant h n e = grind (arith, grants_at_turn, decided_goes, has_stage)
-goes c m s o q p r l found Step.Full h n e = grind (arith, fulls_at_turn, decided_goes, has_stage)
+goes c m s o q p r l found Step.Grant h n e =
+    let is = grants_at_turn s o n in
+    subst (At c m o q p r l found Step.Grant) (sym is)
+    (decided_goes o q p r l Answer.Done (subst (λ (t : Stage). has_stage o t ≡ true) is h))
+goes c m s o q p r l found Step.Full h n e =
+    let is = fulls_at_turn s o n in
+    subst (At c m o q p r l found Step.Full) (sym is)
+    (decided_goes o q p r l Answer.Full (subst (λ (t : Stage). has_stage o t ≡ true) is h))
 goes c m s o q p r l found _ h n e = still_goes s o q p r l h
 
 -- At its call's last step the answer is decided.

@@ -3,7 +3,7 @@ use Rattle.mk_check.proofs.Vocabulary.{At, Bool, Item, List, Some, TypeWord, ℕ
 use Rattle.mk_check.proofs.Vocabulary.{false, get_or, global_names, global_type, globals_among, if◌then◌else◌, kind_of}
 use Rattle.mk_check.proofs.Vocabulary.{kinds_among, kinds_of, length, map, number_of_name, pointer_at, pointer_names}
 use Rattle.mk_check.proofs.Vocabulary.{refl, same_Some, slice_get, suc, sym, true, type_names, type_words, [], ◌+◌, ◌<◌}
-use Rattle.mk_check.proofs.Vocabulary.{◌∙◌, ◌∷◌, ◌≡◌}
+use Rattle.mk_check.proofs.Vocabulary.{◌∷◌, ◌≡◌}
 use Rattle.mk_script.specs.declared.items.Item.TheVariants.{Global, Ptr, TypeLine}
 
 -- the name at its place

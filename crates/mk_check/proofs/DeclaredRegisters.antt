@@ -7,12 +7,11 @@ use Rattle.mk_check.proofs.Vocabulary.{pointer_at, pointer_names, refl, same_Som
 use Rattle.mk_check.proofs.Vocabulary.{sym, type_names, type_words, types_of, word_among, ◌*◌, ◌+◌, ◌<◌, ◌∙◌, ◌≡◌}
 use Rattle.mk_never.proofs.Edits.{exists, if_by, set_by}
 use Rattle.mk_never.specs.Admitted.{IsCaller, Meets}
-use Rattle.mk_never.specs.NeverHeap.{allocation_at, global_at, is_unmapped, moved_on, register_at, target_of}
-use Rattle.mk_never.specs.NeverHeap.{with_register, word_at, words_of}
-use Rattle.mk_never.specs.Typed.{IsSound, IsTyped, Suits, kind_in}
+use Rattle.mk_never.specs.NeverHeap.{allocation_at, global_at, moved_on, register_at, target_of, with_register, word_at}
+use Rattle.mk_never.specs.NeverHeap.{words_of}
 use Rattle.mk_never.specs.declared.types.Kind.TheVariants.{Num as NumKind, To}
 use Rattle.mk_never.specs.declared.values.Value.TheVariants.{Null, Num, Ptr}
-use Rattle.mk_never.specs.declared.values.Target.TheVariants.{Unmapped, WordOf}
+use Rattle.mk_never.specs.{Typed.IsSound, Typed.IsTyped, Typed.kind_in, declared.values.Target.TheVariants.WordOf}
 use Rattle.mk_check.proofs.DeclaredPlaces.{global_place, pointer_within, same_place, type_place}
 use Rattle.mk_check.proofs.TypedLines.{PointsBefore}
 use Rattle.mk_script.specs.declared.items.TypeWord.TheVariants.{Pointer}

@@ -1,10 +1,10 @@
 -- A script that is fed with one more answer.
 use Rattle.std.proofs.Common.{IsNone, IsTrue, ◌↔◌}
-use Rattle.mk_check.proofs.Vocabulary.{Answer, Blocks, Bool, Choice, Done, Fed, FeedStandsFor, FeedState, IsWaiting}
-use Rattle.mk_check.proofs.Vocabulary.{Item, Line, List, Op, Option, Rounds, Scope, Some, ℕ, ap, false}
-use Rattle.mk_check.proofs.Vocabulary.{fed_before_answers, feed, first_op, flagged, is_end_of_block, is_some, next_op}
-use Rattle.mk_check.proofs.Vocabulary.{note, op_of, refl, script_of, script_scope, take_answer, take_answers, true}
-use Rattle.mk_check.proofs.Vocabulary.{with_answer, [], ◌++◌, ◌∙◌, ◌∷◌, ◌≡◌}
+use Rattle.mk_check.proofs.Vocabulary.{Answer, Blocks, Bool, Fed, FeedStandsFor, FeedState, IsWaiting, Item, Line, List}
+use Rattle.mk_check.proofs.Vocabulary.{Op, Option, Scope, Some, ℕ, ap, false, fed_before_answers, feed, first_op}
+use Rattle.mk_check.proofs.Vocabulary.{flagged, is_end_of_block, is_some, next_op, note, op_of, refl, script_of}
+use Rattle.mk_check.proofs.Vocabulary.{script_scope, take_answer, take_answers, true, with_answer, [], ◌++◌, ◌∙◌, ◌∷◌}
+use Rattle.mk_check.proofs.Vocabulary.{◌≡◌}
 use Rattle.mk_check.{proofs.Numbered.ops-with_answer, proofs.Numbered.run_agrees, specs.Feed.has_ended}
 
 pub take_answers_push : (scope : Scope) (fed : Fed) (answers : List Answer) (a : Answer)

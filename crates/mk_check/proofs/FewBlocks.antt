@@ -1,9 +1,9 @@
 -- The blocks of a script of a text are few that stand in one another.
-use Rattle.mk_check.proofs.Vocabulary.{ArePassed, Blocks, Choice, Done, Item, Line, List, None, Part, Rounds, Scope}
-use Rattle.mk_check.proofs.Vocabulary.{Which, ℕ, ap, arith, before_next_script, blocks_from, branch, depth_of}
-use Rattle.mk_check.proofs.Vocabulary.{fold_push, is_whole, length, limit_fault, max, numbered, outermost_blocks}
-use Rattle.mk_check.proofs.Vocabulary.{parts_from, refl, script_from, script_of, subst, suc, with_line, zero, [], ◌++◌}
-use Rattle.mk_check.proofs.Vocabulary.{◌+◌, ◌-◌, ◌∷◌, ◌≡◌, ◌≤◌}
+use Rattle.mk_check.proofs.Vocabulary.{ArePassed, Blocks, Choice, Done, Item, Line, List, None, Part, Rounds, Scope, ℕ}
+use Rattle.mk_check.proofs.Vocabulary.{ap, arith, before_next_script, blocks_from, branch, depth_of, fold_push}
+use Rattle.mk_check.proofs.Vocabulary.{is_whole, length, limit_fault, max, numbered, outermost_blocks, parts_from, refl}
+use Rattle.mk_check.proofs.Vocabulary.{script_from, script_of, subst, suc, with_line, zero, [], ◌++◌, ◌+◌, ◌-◌, ◌∷◌}
+use Rattle.mk_check.proofs.Vocabulary.{◌≡◌, ◌≤◌}
 use Rattle.mk_check.proofs.GrammarLemmas.{at_most-None}
 use Rattle.mk_check.specs.Blocks.{with_else, with_if, with_repeat}
 use Rattle.mk_script.specs.Scopes.{behind_else, behind_end, open_behind, open_blocks}

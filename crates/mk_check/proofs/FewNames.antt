@@ -1,8 +1,8 @@
 -- A program of a text declares few registers in a script, and few globals.
-use Rattle.mk_check.proofs.Vocabulary.{ArePassed, Bool, HasFew, Item, List, None, Which, ℕ, ap, append_assoc, arith}
+use Rattle.mk_check.proofs.Vocabulary.{ArePassed, HasFew, Item, List, None, Which, ℕ, ap, append_assoc, arith}
 use Rattle.mk_check.proofs.Vocabulary.{before_next_script, false, fold_push, global_names, if◌then◌else◌, is_script}
 use Rattle.mk_check.proofs.Vocabulary.{is_whole, length, limit_fault, number_names, pointer_names, refl, script_from}
-use Rattle.mk_check.proofs.Vocabulary.{script_scope, suc, this_script, true, zero, [], ◌++◌, ◌+◌, ◌∙◌, ◌∷◌, ◌≡◌, ◌≤◌}
+use Rattle.mk_check.proofs.Vocabulary.{script_scope, suc, this_script, zero, [], ◌++◌, ◌+◌, ◌∷◌, ◌≡◌, ◌≤◌}
 use Rattle.mk_check.proofs.GrammarLemmas.{at_most-None}
 use Rattle.mk_script.specs.declared.items.Item.TheVariants.{Global, Num, Ptr, Script}
 use Rattle.mk_script.specs.Grammar.{IsOfSomeText}

@@ -1,21 +1,20 @@
 -- A type has a word.
-use Rattle.std.proofs.Common.{leb-true, nat_le, option_and_then}
-use Rattle.std.specs.{List.list_all, Result.result_ok}
+use Rattle.std.{proofs.Common.leb-true, proofs.Common.nat_le, proofs.Common.option_and_then, specs.List.list_all}
 use Rattle.mk_check.proofs.Vocabulary.{At, Bool, Err, Item, List, None, Ok, Option, Result, Some, TypeWord, ℕ, ap}
 use Rattle.mk_check.proofs.Vocabulary.{arith, false, false≢true, if◌then◌else◌, is_some, length, length-append}
-use Rattle.mk_check.proofs.Vocabulary.{length-replicate, option_map, refl, replicate, subst, suc, sym, true, unwrap_or}
-use Rattle.mk_check.proofs.Vocabulary.{[], ◌&&◌, ◌==◌, ◌∙◌, ◌∷◌, ◌≡◌, ◌≤◌}
+use Rattle.mk_check.proofs.Vocabulary.{length-replicate, option_map, refl, replicate, suc, sym, true, unwrap_or, []}
+use Rattle.mk_check.proofs.Vocabulary.{◌&&◌, ◌∙◌, ◌∷◌, ◌≡◌, ◌≤◌}
 use Rattle.mk_check.proofs.GrammarLemmas.{Err≢Ok, and-true, heap_line-item}
+use Rattle.mk_script.specs.Keywords.{has_word_count, keyword_of}
 use Rattle.mk_script.specs.Lines.{is_placed, line_item, other_line, placed_item}
-use Rattle.mk_script.specs.Names.{number_of_word}
 use Rattle.mk_script.specs.Operands.{at, field_of, fields_of, have_form, item_from, name, number, number_field, numbers}
 use Rattle.mk_script.specs.Operands.{pointer_field, ◌>>=◌}
+use Rattle.mk_script.specs.declared.faults.LineFault.{LineFault}
 use Rattle.mk_script.specs.declared.items.TypeWord.TheVariants.{Number, Pointer}
 use Rattle.mk_script.specs.declared.keywords.Keyword.TheVariants.{Add, Casp, Clear, Const, Else, End, Free, Getn, Getp}
 use Rattle.mk_script.specs.declared.keywords.Keyword.TheVariants.{Global, Heap, If, Isnull, Lea, Loadg, Move, New, Num}
 use Rattle.mk_script.specs.declared.keywords.Keyword.TheVariants.{Print, Ptr, Repeat, Same, Script, Setn, Setp, Show}
 use Rattle.mk_script.specs.declared.keywords.Keyword.TheVariants.{Storeg, Sub, TypeLine}
-use Rattle.mk_script.specs.{Keywords.has_word_count, Keywords.keyword_of, declared.faults.LineFault.LineFault}
 use Rattle.mk_script.specs.{declared.faults.LineFault.TheVariants.Text, declared.faults.TextKind.TextKind}
 use Rattle.mk_script.specs.{declared.items.Item.TheVariants.TypeLine as TypeItem, declared.keywords.Keyword.Keyword}
 
@@ -144,7 +143,14 @@ if-Ok-both false r e x h = absurd (Err≢Ok e x h)
 placed-word : (before : List Item) (form : Option Keyword) (operands : List (List ℕ)) (t : List ℕ)
     (words : List TypeWord) → placed_item before form operands ≡ Ok (TypeItem t words) → 1 ≤ length words
 placed-word before None operands t words h = absurd (Err≢Ok (Text TextKind.Word) (TypeItem t words) h)
-placed-word before (Some form) operands t words h = grind (arith, if-Ok-both, and-true, form-word)
+placed-word before (Some form) operands t words h =
+    let both = if-Ok-both (has_word_count form (length operands) && have_form form operands && is_placed before form)
+    (item_from form operands) (Text TextKind.Word) (TypeItem t words) h in
+    let fits = and-true (has_word_count form (length operands)
+    && have_form form operands) (is_placed before form) both.0
+    in
+    let parts = and-true (has_word_count form (length operands)) (have_form form operands) fits.0 in
+    form-word form operands t words parts.0 parts.1 both.1
 
 other_line-word : (before : List Item) (words : List (List ℕ)) (t : List ℕ) (kinds : List TypeWord)
     → other_line before words ≡ Ok (TypeItem t kinds) → 1 ≤ length kinds

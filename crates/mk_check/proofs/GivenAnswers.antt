@@ -1,15 +1,14 @@
 -- What a script was given after a history, with one event more.
+use Rattle.std.proofs.Common.{eq-eqb, get_or-set_other, get_or-set_same, length-set, length-take, ltb-true, set, ◌≢◌}
 use Rattle.std.proofs.lemmas.List.Sums.{count_by-le-length, sum_by-cons, sum_by_push}
-use Rattle.std.proofs.lemmas.Option.{slice_get-get_or, slice_get_past}
-use Rattle.std.proofs.{Common.eq-eqb, Common.filter, Common.get_or-set_other, Common.get_or-set_same, Common.length-set}
-use Rattle.std.proofs.{Common.length-take, Common.ltb-true, Common.set, Common.◌≢◌, lemmas.Bool.cases_eq}
-use Rattle.std.proofs.{lemmas.Bool.Decides.nat_tests, lemmas.List.take-append-le, lemmas.List.Elements.filter-append}
+use Rattle.std.proofs.{lemmas.Bool.cases_eq, lemmas.Bool.Decides.nat_tests, lemmas.List.take-append-le}
+use Rattle.std.proofs.{lemmas.List.Elements.filter-append, lemmas.Option.slice_get-get_or, lemmas.Option.slice_get_past}
 use Rattle.std.specs.List.{cons_option, slice_get}
 use Rattle.mk_check.proofs.Vocabulary.{Answer, Bool, Config, List, None, Op, Option, Some, ℕ, ap, append-nil}
 use Rattle.mk_check.proofs.Vocabulary.{append_assoc, arith, false, get_or, if◌then◌else◌, inl, inr, length}
-use Rattle.mk_check.proofs.Vocabulary.{length-append, length-replicate, map, map-append, option_or, refl, replicate}
-use Rattle.mk_check.proofs.Vocabulary.{subst, suc, sym, take, take_more, true, zero, [], ◌&&◌, ◌++◌, ◌+◌, ◌<◌, ◌==◌}
-use Rattle.mk_check.proofs.Vocabulary.{◌∙◌, ◌∷◌, ◌≡◌, ◌≤◌}
+use Rattle.mk_check.proofs.Vocabulary.{length-append, length-replicate, map-append, option_or, refl, replicate, subst}
+use Rattle.mk_check.proofs.Vocabulary.{suc, sym, take, take_more, true, zero, [], ◌&&◌, ◌++◌, ◌+◌, ◌<◌, ◌==◌, ◌∙◌, ◌∷◌}
+use Rattle.mk_check.proofs.Vocabulary.{◌≡◌, ◌≤◌}
 use Rattle.mk_core.proofs.Histories.{calls_more, enabled_parts, last_enabled}
 use Rattle.mk_core.proofs.Conditions.{enabled_meets}
 use Rattle.mk_core.specs.Decided.{Decided, entry_of}

@@ -1,17 +1,17 @@
 -- Limits that the lines of a program of some text keep.
-use Rattle.std.proofs.Common.{codes, is_ok, leb-true, min, nat_le, ◌^◌}
+use Rattle.std.proofs.Common.{is_ok, leb-true}
 use Rattle.mk_check.proofs.Vocabulary.{ArePassed, Bool, Err, Item, List, None, Ok, Option, Result, Some, Which, ℕ, ap}
-use Rattle.mk_check.proofs.Vocabulary.{append-nil, append_assoc, arith, bytes_eq, false, false≢true, global_names}
-use Rattle.mk_check.proofs.Vocabulary.{if◌then◌else◌, is_some, length, length-append, limit_fault, option_or, pages_of}
-use Rattle.mk_check.proofs.Vocabulary.{refl, resident_of, script_names, subst, sym, true, type_names, [], ◌&&◌, ◌++◌}
-use Rattle.mk_check.proofs.Vocabulary.{◌+◌, ◌-◌, ◌∙◌, ◌∷◌, ◌≡◌, ◌≤◌}
+use Rattle.mk_check.proofs.Vocabulary.{append-nil, append_assoc, arith, false, false≢true, global_names, if◌then◌else◌}
+use Rattle.mk_check.proofs.Vocabulary.{is_some, length, length-append, limit_fault, option_or, pages_of, refl}
+use Rattle.mk_check.proofs.Vocabulary.{resident_of, script_names, subst, sym, true, type_names, [], ◌&&◌, ◌++◌, ◌+◌}
+use Rattle.mk_check.proofs.Vocabulary.{◌-◌, ◌∷◌, ◌≡◌, ◌≤◌}
 use Rattle.mk_core.specs.Config.{IsBetween}
 use Rattle.mk_check.proofs.NumberLemmas.{length-global_names-append, type_names-append}
 use Rattle.mk_script.proofs.PassedLines.{IsWhole}
 use Rattle.mk_script.specs.Lines.{at_most, has_script, heap_line, within}
-use Rattle.mk_script.specs.declared.faults.LineFault.TheVariants.{Limit, Text}
+use Rattle.mk_script.specs.Operands.{item_from, number, ◌>>=◌}
 use Rattle.mk_script.specs.declared.items.Item.TheVariants.{Global, Heap, Script, TypeLine}
-use Rattle.mk_script.specs.{Operands.item_from, Operands.number, Operands.◌>>=◌, declared.faults.LineFault.LineFault}
+use Rattle.mk_script.specs.{declared.faults.LineFault.LineFault, declared.faults.LineFault.TheVariants.Text}
 use Rattle.mk_script.specs.{declared.faults.TextKind.TheVariants.Header, declared.keywords.Keyword.Keyword}
 
 pub Err≢Ok : {T E : Type 0} (e : E) (x : T) → Err e ≡ Ok x → ⊥

@@ -2,11 +2,11 @@
 use Rattle.mk_check.proofs.Vocabulary.{Bool, Frame, FrameIsWithin, FramesAreWithin, HasStopped, Instruction, IsBelow}
 use Rattle.mk_check.proofs.Vocabulary.{List, MovesOn, Node, Place, PlaceFits, PlaceIsWithin, Steps, Stopped, StopsAt, ℕ}
 use Rattle.mk_check.proofs.Vocabulary.{after_line, ap, arith, depth_of, false, fold_push, if◌then◌else◌, is_some}
-use Rattle.mk_check.proofs.Vocabulary.{kept_in, left_in, length, length_push, max, node_at, op_asked, refl, slice_index}
+use Rattle.mk_check.proofs.Vocabulary.{kept_in, left_in, length, length_push, max, op_asked, refl, slice_index}
 use Rattle.mk_check.proofs.Vocabulary.{steps_at, steps_from, stop_of, subst, suc, sym, then_steps, trees, true}
 use Rattle.mk_check.proofs.Vocabulary.{with_kept, work_in, zero, [], ◌*◌, ◌++◌, ◌+◌, ◌<◌, ◌==◌, ◌∙◌, ◌∷◌, ◌≡◌, ◌≤◌}
 use Rattle.mk_check.proofs.StepLaws.{stop_of-choice_other, stop_of-choice_zero, stop_of-round}
-use Rattle.mk_check.proofs.TreeNodes.{IsAt, IsBelow-more, steps_at-trees}
+use Rattle.mk_check.proofs.TreeNodes.{IsAt, steps_at-trees}
 use Rattle.mk_check.specs.Trees.{FrameFits, FramesFit, LeavesBlock, behind_frames, frame_steps, place_behind_block}
 use Rattle.mk_check.specs.Trees.{place_in_branch, place_in_rounds, work_of}
 use Rattle.mk_check.specs.Steps.{Choice, Done, Line, Rounds}

@@ -1,8 +1,8 @@
 -- The parts of a script, with numbers for their names.
 use Rattle.std.proofs.Common.{slice_index_or}
-use Rattle.mk_check.proofs.Vocabulary.{Element, Item, List, Part, Scope, ℕ, ap, arith, drop, drop_more, element_of}
-use Rattle.mk_check.proofs.Vocabulary.{instruction_of, length, map, parts_from, refl, sym, with_element, with_item}
-use Rattle.mk_check.proofs.Vocabulary.{with_line, [], ◌+◌, ◌<◌, ◌∙◌, ◌∷◌, ◌≡◌}
+use Rattle.mk_check.proofs.Vocabulary.{Element, Item, List, Part, Scope, ℕ, arith, drop, drop_more, element_of}
+use Rattle.mk_check.proofs.Vocabulary.{instruction_of, length, map, parts_from, refl, with_element, with_item}
+use Rattle.mk_check.proofs.Vocabulary.{with_line, [], ◌+◌, ◌<◌, ◌∷◌, ◌≡◌}
 use Rattle.mk_check.specs.Building.{part_of}
 use Rattle.mk_script.specs.declared.items.Item.TheVariants.{Else, End, If, Repeat}
 

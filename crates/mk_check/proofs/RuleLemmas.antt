@@ -4,10 +4,8 @@ use Rattle.mk_check.proofs.Vocabulary.{option_or, refl, sym, typing_fault, ◌or
 use Rattle.mk_check.proofs.LookupLemmas.{option_or-none}
 use Rattle.mk_check.specs.Rules.{fault_of_sort, is_declaration, is_number_access, is_number_line, is_pointer_access}
 use Rattle.mk_check.specs.Rules.{is_pointer_line}
-use Rattle.mk_script.specs.declared.items.Item.TheVariants.{Add, Casp, Clear, Const, Else, End, Free, Getn, Getp}
-use Rattle.mk_script.specs.declared.items.Item.TheVariants.{Global, Heap, If, Isnull, Lea, Loadg, Move, New, Num, Print}
-use Rattle.mk_script.specs.declared.items.Item.TheVariants.{Ptr, Repeat, Same, Script, Setn, Setp, Show, Storeg, Sub}
-use Rattle.mk_script.specs.declared.items.Item.TheVariants.{TypeLine}
+use Rattle.mk_script.specs.declared.items.Item.TheVariants.{Casp, Clear, Free, Getn, Getp, Global, Lea, Loadg, Move}
+use Rattle.mk_script.specs.declared.items.Item.TheVariants.{New, Ptr, Script, Setn, Setp, Storeg, TypeLine}
 
 -- what is wrong by the rules of all sorts, one after the other
 abbrev pub fault_of_sorts : Around → Item → Option TypeKind

@@ -5,10 +5,10 @@ use Rattle.mk_check.proofs.Vocabulary.{asks_at, false, if◌then◌else◌, is_a
 use Rattle.mk_check.proofs.Vocabulary.{sequel_to, sequels_of, subst, sym, true, with_kept, ◌&&◌, ◌∙◌, ◌≡◌}
 use Rattle.mk_check.proofs.AtOnce.{asks_so, stopped_here}
 use Rattle.mk_check.proofs.{Moves.below_length, NextRounds.round_begins, TreeNodes.is_at}
-use Rattle.mk_check.specs.AtOnce.{BeginsRound, TakesAtOnce}
 use Rattle.mk_check.specs.Steps.{is_show, is_silent, keeping_register, with_value}
-use Rattle.mk_check.specs.declared.feeding.instructions.Instruction.TheVariants.{CasPtr, GetNum, IsNull, Same, Show}
-use Rattle.mk_check.specs.{Feed.is_refusal, Spots.sequels_by, declared.feeding.tree.Sequels.Sequels}
+use Rattle.mk_check.specs.declared.feeding.instructions.Instruction.TheVariants.{GetNum}
+use Rattle.mk_check.specs.declared.feeding.tree.Sequels.{Sequels}
+use Rattle.mk_check.specs.{AtOnce.BeginsRound, AtOnce.TakesAtOnce, Feed.is_refusal, Spots.sequels_by}
 
 -- what is next, where that is told
 

@@ -12,11 +12,7 @@ use Rattle.mk_check.proofs.Vocabulary.{◌++◌, ◌+◌, ◌∙◌, ◌∷◌, 
 use Rattle.mk_check.proofs.Numbered.{kept_of, kept_of-with_answer, op_of-asked, ops-with_answer, run_agrees, stopped_of}
 use Rattle.mk_check.proofs.StepLaws.{behind_text, stop_of-text, stopped_behind_text}
 use Rattle.mk_check.proofs.{FeedLaws.feed_push, Moves.unfolded_done, Moves.unfolded_line, TreeNodes.is_at}
-use Rattle.mk_check.specs.declared.feeding.instructions.Instruction.TheVariants.{Add, CasPtr, Clear, Const, Free}
-use Rattle.mk_check.specs.declared.feeding.instructions.Instruction.TheVariants.{GetGlobal, GetNum, GetPtr, IsNull, Lea}
-use Rattle.mk_check.specs.declared.feeding.instructions.Instruction.TheVariants.{Move, New, Nothing, Print, Same}
-use Rattle.mk_check.specs.declared.feeding.instructions.Instruction.TheVariants.{SetGlobal, SetNum, SetPtr, Show, Sub}
-use Rattle.mk_check.specs.Feed.{answered_number, has_ended, show_text}
+use Rattle.mk_check.specs.{Feed.has_ended, declared.feeding.instructions.Instruction.TheVariants.Show}
 use Rattle.mk_check.specs.Steps as steps
 
 -- blocks that begin with a line

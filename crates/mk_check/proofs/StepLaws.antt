@@ -4,11 +4,8 @@ use Rattle.mk_check.proofs.Vocabulary.{Bool, Instruction, KeptState, List, Steps
 use Rattle.mk_check.proofs.Vocabulary.{append_assoc, false, if◌then◌else◌, is_some, op_asked, refl, slice_index}
 use Rattle.mk_check.proofs.Vocabulary.{stop_behind, stop_of, stop_of_rounds, suc, sym, then_steps, true, zero, ◌++◌}
 use Rattle.mk_check.proofs.Vocabulary.{◌==◌, ◌∙◌, ◌≡◌}
-use Rattle.mk_check.specs.declared.feeding.instructions.Instruction.TheVariants.{Add, CasPtr, Clear, Const, Free}
-use Rattle.mk_check.specs.declared.feeding.instructions.Instruction.TheVariants.{GetGlobal, GetNum, GetPtr, IsNull, Lea}
-use Rattle.mk_check.specs.declared.feeding.instructions.Instruction.TheVariants.{Move, New, Nothing, Print, Same}
-use Rattle.mk_check.specs.declared.feeding.instructions.Instruction.TheVariants.{SetGlobal, SetNum, SetPtr, Show, Sub}
-use Rattle.mk_check.specs.{Feed.newline, Steps.Choice, Steps.Done, Steps.Line, Steps.Rounds}
+use Rattle.mk_check.specs.Steps.{Choice, Done, Line, Rounds}
+use Rattle.mk_check.specs.{Feed.newline, declared.feeding.instructions.Instruction.TheVariants.Print}
 
 pub then_steps_assoc : (a b c : Steps) → then_steps (then_steps a b) c ≡ then_steps a (then_steps b c)
 then_steps_assoc Done b c = refl

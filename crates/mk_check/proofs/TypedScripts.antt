@@ -1,8 +1,7 @@
 -- Each line of a script of a well-typed program says what a well-typed line says.
 use Rattle.mk_check.proofs.Vocabulary.{At, Item, List, None, Option, Some, TypeKind, ℕ, ap, append_assoc, at_line}
-use Rattle.mk_check.proofs.Vocabulary.{before_next_script, fault_from, option_or, pointer_at, refl, script_from}
-use Rattle.mk_check.proofs.Vocabulary.{script_of, suc, sym, this_script, typing_fault, zero, [], ◌++◌, ◌+◌, ◌∙◌, ◌∷◌}
-use Rattle.mk_check.proofs.Vocabulary.{◌≡◌}
+use Rattle.mk_check.proofs.Vocabulary.{before_next_script, fault_from, pointer_at, refl, script_from, script_of, suc}
+use Rattle.mk_check.proofs.Vocabulary.{sym, this_script, typing_fault, zero, [], ◌++◌, ◌+◌, ◌∷◌, ◌≡◌}
 use Rattle.mk_check.proofs.LookupLemmas.{pointer_at-append, this_script-push}
 use Rattle.mk_check.proofs.TypedLines.{Says, says}
 use Rattle.mk_check.specs.{Blocks.AllFrom, Lookups.lines_behind, Typing.IsWellTyped, Typing.TypingFault}

@@ -1,7 +1,7 @@
 -- The flags of allocations: what stays of them, what one event does to them, and what a Free does.
 use Rattle.mk_trace.proofs.Vocabulary.{AreLater, Cell, Config, Event, Flight, FreesNone, IsHistory, Moment, NeverState}
-use Rattle.mk_trace.proofs.Vocabulary.{Null, Num, PlacedAllocation, Ptr, ReleasesNone, Step, Value, Words, World}
-use Rattle.mk_trace.proofs.Vocabulary.{after_free, allocation_at, allocations_by, cell_freed, decides_freed, flight_of}
+use Rattle.mk_trace.proofs.Vocabulary.{PlacedAllocation, Ptr, ReleasesNone, Step, Value, Words, World, after_free}
+use Rattle.mk_trace.proofs.Vocabulary.{allocation_at, allocations_by, cell_freed, decides_freed, flight_of}
 use Rattle.mk_trace.proofs.Vocabulary.{freed_where_it_stands, granted, has_step, histories_keep_the_invariant}
 use Rattle.mk_trace.proofs.Vocabulary.{is_release, left, length-append, never_behind, never_granted, no_longer_fresh}
 use Rattle.mk_trace.proofs.Vocabulary.{placed_at, unfreed, with_released, world_behind}

@@ -1,4 +1,4 @@
-use Rattle.mk_check.proofs.Vocabulary.{List, ℕ, ap, arith, refl, replicate, suc, take, zero, ◌∙◌, ◌∷◌, ◌≡◌, ◌≤◌}
+use Rattle.mk_check.proofs.Vocabulary.{List, ℕ, ap, arith, refl, replicate, suc, take, zero, ◌∷◌, ◌≡◌, ◌≤◌}
 use Rattle.mk_check.proofs.feeding.running.registers.Goals as goal
 
 take-replicate : (few many : ℕ) → few ≤ many → take {A = ℕ} few (replicate {A = ℕ} many 0) ≡ replicate {A = ℕ} few 0

@@ -1,5 +1,4 @@
-use Rattle.mk_check.proofs.Vocabulary.{Bool, None, Option, Sequel, Some, ℕ, ap, false, refl, sequel_to, sym, true, ◌∙◌}
-use Rattle.mk_check.proofs.Vocabulary.{◌≡◌}
+use Rattle.mk_check.proofs.Vocabulary.{Bool, None, Option, Sequel, ℕ, ap, false, refl, sequel_to, sym, true, ◌∙◌, ◌≡◌}
 use Rattle.mk_check.specs.{Spots.sequels_by, Steps.keeping_register, declared.feeding.tree.Sequels.Sequels}
 use Rattle.mk_check.proofs.feeding.tree.Sequels.before.Goals as goal
 

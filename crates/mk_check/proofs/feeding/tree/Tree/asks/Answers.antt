@@ -1,4 +1,4 @@
-use Rattle.mk_check.proofs.Vocabulary.{ap, is_asking, node_at, ◌∙◌}
+use Rattle.mk_check.proofs.Vocabulary.{node_at}
 use Rattle.mk_check.proofs.Spots.{asks_by_instruction}
 use Rattle.mk_check.proofs.feeding.tree.Tree.asks.Goals as goal
 

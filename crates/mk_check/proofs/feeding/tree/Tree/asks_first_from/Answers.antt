@@ -1,4 +1,4 @@
-use Rattle.mk_check.proofs.Vocabulary.{Node, ap, asks_first, is_asking, is_print, steps_at, steps_from, sym, trees, ◌∙◌}
+use Rattle.mk_check.proofs.Vocabulary.{Node, ap, asks_first, steps_at, steps_from, sym, trees, ◌∙◌}
 use Rattle.mk_check.proofs.AsksFirst.{asks_here, asks_later}
 use Rattle.mk_check.proofs.feeding.tree.Tree.asks_first_from.Goals as goal
 

@@ -1,5 +1,4 @@
-use Rattle.mk_check.proofs.Vocabulary.{IsBelow, List, Node, ap, asks_first, length, sequels_of, steps_from, subst, sym}
-use Rattle.mk_check.proofs.Vocabulary.{trees, ◌∙◌}
+use Rattle.mk_check.proofs.Vocabulary.{IsBelow, List, Node, asks_first, length, subst, sym}
 use Rattle.mk_check.{proofs.Spots.IsMarkedTree_push, specs.Spots.IsMarkedTree, specs.declared.feeding.tree.Spot.Spot}
 use Rattle.mk_check.proofs.feeding.tree.Tree.push.Goals as goal
 
