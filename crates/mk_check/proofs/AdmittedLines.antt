@@ -3,11 +3,11 @@ use Rattle.mk_check.proofs.Vocabulary.{Answer, At, Bool, Fed, HasFew, IfSome, Is
 use Rattle.mk_check.proofs.Vocabulary.{Op, Option, Some, Value, ℕ, arith, base_of, false, flagged, global_names}
 use Rattle.mk_check.proofs.Vocabulary.{global_type, globals_of, kind_of, length, moved_by, number_of_name, op_of}
 use Rattle.mk_check.proofs.Vocabulary.{pointer_at, pointer_names, refl, scope_of, slice_get, subst, sym, true}
-use Rattle.mk_check.proofs.Vocabulary.{type_names, ◌<◌, ◌∙◌, ◌≡◌}
+use Rattle.mk_check.proofs.Vocabulary.{type_names, ◌<◌, ◌≡◌}
 use Rattle.mk_never.proofs.Edits.{if_by, left_at_by}
 use Rattle.mk_never.specs.Admitted.{AccessIsAdmitted, IsAdmitted, IsBase, IsNumber, IsPointer, Meets}
 use Rattle.mk_never.specs.Admitted.{OperandsAreInRange, StoreIsAdmitted}
-use Rattle.mk_never.specs.NeverHeap.{after_free, after_op, is_same, target_of, with_new, with_register, word_at}
+use Rattle.mk_never.specs.NeverHeap.{after_free, after_op, target_of, with_new, with_register, word_at}
 use Rattle.mk_never.specs.declared.values.Value.TheVariants.{Null, Num, Ptr}
 use Rattle.mk_never.specs.declared.types.Kind.TheVariants.{Num as NumKind, To}
 use Rattle.mk_check.proofs.DeclaredRegisters.{AreAsDeclared, FitsScript, global_word, kind_at, loaded_word}
@@ -26,16 +26,14 @@ flagged_new Q d ty holds a = holds false
 
 -- null or a pointer to a first word is a whole allocation
 bases : (program : List Item) (v : Value) (at : At) → at.offset ≡ 0 → IsOfKind v (kind_at program at) → IsBase v
-bases program Null at base of_kind = tt
 bases program (Num m) at base of_kind = of_kind
-bases program (Ptr number ty offset) at base of_kind = of_kind.1 ∙ base
+bases program x1 at base of_kind = cc
 
 -- both hold of one word
 meets_both : (n : NeverState) (v : Value) (i : ℕ) (P Q : Kind → Type 0) → Meets n v i P → Meets n v i Q
     → Meets n v i (λ kind. P kind × Q kind)
-meets_both n Null i P Q first second = tt
-meets_both n (Num m) i P Q first second = tt
 meets_both n (Ptr number ty offset) i P Q first second = (first.0, (first.1, second.1))
+meets_both n _ i _ _ first second = tt
 
 module _ (program script : List Item) (few : HasFew (scope_of program script)) (n : NeverState) (caller : ℕ)
     (fits : FitsScript program script n caller) where
@@ -45,14 +43,11 @@ module _ (program script : List Item) (few : HasFew (scope_of program script)) (
 
   globals : (name ty : List ℕ) → global_type name program ≡ Some ty
       → number_of_name name (global_names program) < length n.globals
-  globals name ty is = let within = global_within name program ty is in let most = few.globals in let count =
-      fits.globals in omega arith
+  globals name ty is = grind (arith, global_within)
 
   types : (pointer ty : List ℕ) → PointsToType program script pointer ty
       → number_of_name ty (type_names program) < length n.types
-  types pointer ty s =
-      subst (λ (ts : List (List Kind)). number_of_name ty (type_names program) < length ts) (sym fits.types)
-      (type_place (type_names program) ty program s.words s.is).0
+  types pointer ty s = grind (arith, type_place)
 
   -- Accesses.
 
@@ -69,18 +64,15 @@ module _ (program script : List Item) (few : HasFew (scope_of program script)) (
   pointer_access : (pointer : List ℕ) (i : ℕ) (register : List ℕ) → PointsBeforeOne program script pointer i register
       → Meets n (register_of script n caller pointer) i IsPointer
   pointer_access pointer i register s =
-      meets_weaker n (register_of script n caller pointer) i (λ kind. kind ≡ kind_at program s.at) IsPointer
-      (λ kind e. subst IsPointer (sym e) refl)
-      (meets_before program script n caller fits pointer i (Pointer s.at) s.word)
+      meets_weaker n (register_of script n caller pointer) i (λ kind. kind ≡ kind_at program s.at) IsPointer (λ kind e.
+      subst IsPointer (sym e) refl) (meets_before program script n caller fits pointer i _ s.word)
 
   store_access : (pointer : List ℕ) (i : ℕ) (register : List ℕ) → PointsBeforeOne program script pointer i register
       → Meets n (register_of script n caller pointer) i (IsOfKind (register_of script n caller register))
   store_access pointer i register s =
-      meets_weaker n (register_of script n caller pointer) i (λ kind. kind ≡ kind_at program s.at)
-      (IsOfKind (register_of script n caller register))
-      (λ kind e. subst (IsOfKind (register_of script n caller register)) (sym e)
-      (fits.declared register s.at s.declared))
-      (meets_before program script n caller fits pointer i (Pointer s.at) s.word)
+      meets_weaker n (register_of script n caller pointer) i (λ kind. kind ≡ kind_at program s.at) (IsOfKind
+      (register_of script n caller register)) (λ kind e. subst (IsOfKind (register_of script n caller register)) (sym e)
+      (fits.declared register s.at s.declared)) (meets_before program script n caller fits pointer i _ s.word)
 
   any_access : (pointer : List ℕ) (i : ℕ) (register : List ℕ) → PointsBehind program script pointer i register
       → Meets n (register_of script n caller pointer) i (λ kind. Unit {0})
@@ -93,14 +85,12 @@ module _ (program script : List Item) (few : HasFew (scope_of program script)) (
       → IfSome (slice_get (globals_of program) (number_of_name global (global_names program)))
       (λ ty. IsOfKind (register_of script n caller stored) (To ty 0))
   global_store stored global s =
-      subst (λ (o : Option ℕ). IfSome o (λ ty. IsOfKind (register_of script n caller stored) (To ty 0)))
-      (sym (global_place (type_names program) global program s.ty s.is))
-      (fits.declared stored (base_of s.ty) s.declared)
+      subst (λ (o : Option ℕ). IfSome o (λ ty. IsOfKind (register_of script n caller stored) (To ty 0))) (sym
+      (global_place (type_names program) global program s.ty s.is)) (fits.declared stored _ s.declared)
 
   admits : {o : Op} → OperandsAreInRange n o → AccessIsAdmitted n caller o
       → StoreIsAdmitted (globals_of program) n caller o → Admits o
-  admits range access store =
-      record { of_a_caller = fits.of_a_caller; in_range = range; access = access; store = store }
+  admits range access store = grind arith
 
   -- What a typed line asks for is admitted, also as it is noted.
   pub admitted : (fed : Fed) (item : Item) → Says program script item
@@ -110,10 +100,8 @@ module _ (program script : List Item) (few : HasFew (scope_of program script)) (
   admitted fed (Free pointer) s =
       λ a. admits (pointers pointer s.at s.declared) tt
       (bases program (register_of script n caller pointer) s.at s.base (fits.declared pointer s.at s.declared))
-  admitted fed (Getn number pointer index) s =
-      λ a. admits (pointers pointer s.at s.declared) (number_access pointer index s) tt
-  admitted fed (Setn pointer index number) s =
-      λ a. admits (pointers pointer s.at s.declared) (number_access pointer index s) tt
+  admitted fed (Getn number pointer index) s = grind (arith, admits, pointers, number_access)
+  admitted fed (Setn pointer index number) s = grind (arith, admits, pointers, number_access)
   admitted fed (Getp loaded pointer index) s =
       λ a. admits (pointers loaded s.at s.declared, pointers pointer s.word.at s.word.declared)
       (pointer_access pointer index loaded s) tt
@@ -131,14 +119,11 @@ module _ (program script : List Item) (few : HasFew (scope_of program script)) (
   admitted fed (Lea moved pointer index) s =
       λ a. admits (pointers moved _ s.declared, pointers pointer s.before.at s.before.declared)
       (any_access pointer index moved s) tt
-  admitted fed (Move copied pointer) s =
-      λ a. admits (pointers copied s.at s.first_is, pointers pointer s.at s.second_is) tt tt
+  admitted fed (Move copied pointer) s = grind (arith, admits, pointers)
   admitted fed (Clear pointer) s = λ a. admits (pointers pointer s.at s.declared) tt tt
   admitted fed (Loadg loaded global) s = λ a. admits (pointers loaded _ s.declared, globals global s.ty s.is) tt tt
-  admitted fed (Storeg stored global) s =
-      λ a. admits (globals global s.ty s.is, pointers stored _ s.declared) tt (global_store stored global s)
-  admitted fed (Same number first second) s =
-      λ a. admits (pointers first s.0.at s.0.declared, pointers second s.1.at s.1.declared) tt tt
+  admitted fed (Storeg stored global) s = grind (arith, admits, globals, pointers, global_store)
+  admitted fed (Same number first second) s = grind (arith, admits, pointers)
   admitted fed (Isnull number pointer) s = λ a. admits (pointers pointer s.at s.declared) tt tt
   admitted fed (Show pointer) s = λ a. admits (pointers pointer s.at s.declared) tt tt
   admitted fed item s = tt
@@ -175,17 +160,10 @@ module _ (program script : List Item) (few : HasFew (scope_of program script)) (
       (base_of ty) _ fits.declared s.declared (refl, refl)))
   line_keeps fed (Free pointer) s = λ a. free_keeps (register_of script n caller pointer)
   line_keeps fed (Getn number pointer index) s = λ a. fits.declared
-  line_keeps fed (Setn pointer index number) s = λ a.
-      left_at_by Keeps (target_of n (register_of script n caller pointer) index) n _ fits.declared
-      (λ number place e. fits.declared)
+  line_keeps fed (Setn pointer index number) s = grind (arith, left_at_by, register_of)
   line_keeps fed (Getp loaded pointer index) s = λ a. load_keeps loaded pointer index s
-  line_keeps fed (Setp pointer index stored) s = λ a.
-      left_at_by Keeps (target_of n (register_of script n caller pointer) index) n _ fits.declared
-      (λ number place e. fits.declared)
-  line_keeps fed (Casp number pointer index expected stored) s = λ a.
-      left_at_by Keeps (target_of n (register_of script n caller pointer) index) n _ fits.declared
-      (λ number place e. if_by Keeps (is_same (word_at n number place) (register_of script n caller expected)) _ _
-      (λ f. fits.declared) (λ f. fits.declared))
+  line_keeps fed (Setp pointer index stored) s = grind (arith, left_at_by, register_of)
+  line_keeps fed (Casp number pointer index expected stored) s = grind (arith, left_at_by, register_of, if_by)
   line_keeps fed (Lea moved pointer index) s = λ a.
       sets moved (moved_by index s.before.at) _ s.declared
       (moved_word program (register_of script n caller pointer) index s.before.at

@@ -1,14 +1,13 @@
 -- The operations of a well-typed program's scripts are admitted.
 use Rattle.std.proofs.lemmas.List.Elements.{All-head, All-nil, All-push, All-tail}
-use Rattle.std.proofs.{Common.eq-eqb, Common.eqb-true, Common.◌≢◌, lemmas.Bool.cases_Bool, lemmas.List.get_or-replicate}
-use Rattle.mk_check.proofs.Vocabulary.{All, Answer, Blocks, Bool, Choice, Done, Fed, HasFew, IfSome, IsOfKind, Item}
-use Rattle.mk_check.proofs.Vocabulary.{Line, List, NeverState, None, Op, Option, Rounds, Scope, Some, Value, ℕ, ap}
-use Rattle.mk_check.proofs.Vocabulary.{append-nil, arith, blocks_from, false, false≢true, fed_before_answers}
-use Rattle.mk_check.proofs.Vocabulary.{fed_before_lines, feed, flagged, globals_of, if◌then◌else◌, length}
-use Rattle.mk_check.proofs.Vocabulary.{length-replicate, next_op, note, number_of_name, op_of, option_map}
-use Rattle.mk_check.proofs.Vocabulary.{pointer_names, refl, run, scope_of, script_names, script_of, script_scope, subst}
-use Rattle.mk_check.proofs.Vocabulary.{sym, take_answer, take_answers, true, types_of, with_answer, [], ⊎_elim, ◌*◌}
-use Rattle.mk_check.proofs.Vocabulary.{◌++◌, ◌+◌, ◌<◌, ◌==◌, ◌∙◌, ◌∷◌, ◌≡◌, ◌≤◌}
+use Rattle.std.proofs.{Common.eq-eqb, Common.eqb-true, Common.◌≢◌, lemmas.List.get_or-replicate}
+use Rattle.mk_check.proofs.Vocabulary.{All, Answer, Blocks, Bool, Done, Fed, HasFew, IfSome, IsOfKind, Item, Line, List}
+use Rattle.mk_check.proofs.Vocabulary.{NeverState, None, Op, Option, Scope, Some, Value, ℕ, ap, append-nil, arith}
+use Rattle.mk_check.proofs.Vocabulary.{blocks_from, false, false≢true, fed_before_answers, fed_before_lines, feed}
+use Rattle.mk_check.proofs.Vocabulary.{flagged, globals_of, if◌then◌else◌, length, length-replicate, next_op, note}
+use Rattle.mk_check.proofs.Vocabulary.{number_of_name, op_of, option_map, pointer_names, refl, run, scope_of}
+use Rattle.mk_check.proofs.Vocabulary.{script_names, script_of, script_scope, subst, sym, take_answer, take_answers}
+use Rattle.mk_check.proofs.Vocabulary.{true, types_of, with_answer, [], ◌*◌, ◌++◌, ◌+◌, ◌<◌, ◌==◌, ◌∙◌, ◌∷◌, ◌≡◌, ◌≤◌}
 use Rattle.mk_never.{proofs.Later.op_stays, specs.Admitted.AreAdmitted, specs.Admitted.IsAdmitted, specs.Laws.Continues}
 use Rattle.mk_never.{specs.Laws.KeepsRegisters, specs.NeverHeap.Call, specs.NeverHeap.after_calls}
 use Rattle.mk_never.{specs.NeverHeap.after_op, specs.declared.values.Value.TheVariants.Null}
@@ -41,9 +40,7 @@ flagged_asked scope fed (New pointer ty) = refl
 flagged_asked scope fed item = refl
 
 by_caller : {P : Type 0} (c caller : ℕ) → (c ≡ caller → P) → (c ≢ caller → P) → P
-by_caller c caller own other =
-    ⊎_elim (λ e. own (eqb-true c caller e)) (λ e. other (λ same. false≢true (sym e ∙ eq-eqb c caller same)))
-    (cases_Bool (c == caller))
+by_caller c caller own other = grind (arith, eqb-true, eq-eqb)
 
 -- what holds of a caller's operations holds of the first call's, where it is the caller's, and of those after it
 split_ops : (P : Op → Type 0) (caller : ℕ) (x : Call) (xs : List Call) → All P (ops_of_caller caller (x ∷ xs))
@@ -77,15 +74,13 @@ module _ (program script : List Item) (few : HasFew (scope_of program script)) w
 
   take_asked : (fed : Fed) (left : Blocks) (a : Answer) → AllPlaced (λ l. Says program script) left → All Asked fed.ops
       → All Asked (take_answer (scope_of program script) fed left a).ops
-  take_asked fed Done a placed before = before
   take_asked fed (Line line item rest) a placed before =
       let scope = scope_of program script in
       let with_note = note fed (op_of scope fed item) line a in
       let same : (run scope rest (with_answer scope with_note item a)).ops ≡ with_note.ops =
       (run_agrees scope rest (with_answer scope with_note item a)).answers ∙ ops-with_answer scope with_note item a in
       subst (All Asked) (sym same) (note_asked fed line item a placed.0 before (op_of scope fed item) refl)
-  take_asked fed (Rounds rounds body rest) a placed before = before
-  take_asked fed (Choice number first second rest) a placed before = before
+  take_asked fed _ a placed before = before
 
   takes_asked : (answers : List Answer) (fed : Fed) → AllPlaced (λ l. Says program script) fed.left → All Asked fed.ops
       → All Asked (take_answers (scope_of program script) fed answers).ops
@@ -116,13 +111,7 @@ module _ (program script : List Item) (few : HasFew (scope_of program script)) w
 
   others_keep : (n : NeverState) (caller : ℕ) → AreAsDeclared program script n caller → (m : NeverState)
       → KeepsRegisters caller n m → AreAsDeclared program script m caller
-  others_keep n caller before m same = λ name at is.
-      let within = pointer_within name script at is in
-      let most = few.pointers in
-      let below : number_of_name name (pointer_names script) < 8 = omega arith in
-      subst (λ (v : Value). IsOfKind v (kind_at program at)) (sym (same (number_of_name name
-      (pointer_names script)) below))
-      (before name at is)
+  others_keep n caller before m same = grind (arith, pointer_within, kind_at)
 
   -- a call that is admitted, and is asked for by the script where it is the caller's
   call_fits : (n : NeverState) (caller : ℕ) → FitsScript program script n caller → (x : Call)
@@ -131,8 +120,7 @@ module _ (program script : List Item) (few : HasFew (scope_of program script)) w
   call_fits n caller fits x admits asked =
       let goes_on : Continues n (after_op n x.caller x.op) = op_stays n x.caller x.op in
       let own : x.caller ≡ caller → AreAsDeclared program script (after_op n x.caller x.op) caller =
-      λ same. subst (λ (c : ℕ). AreAsDeclared program script (after_op n c x.op) caller) (sym same)
-      (own_keeps n caller fits x.op (asked same)) in
+      grind (arith, own_keeps) in
       let other : x.caller ≢ caller → AreAsDeclared program script (after_op n x.caller x.op) caller =
       λ differs. others_keep n caller fits.declared (after_op n x.caller x.op)
       (registers.op_keeps n caller x.caller x.op differs (registers.destination n x.op admits.in_range)) in
@@ -202,28 +190,17 @@ own_op : (caller : ℕ) (o : Op) → ops_of_caller caller (record { caller = cal
 own_op caller o = ap (λ (same : Bool). if same then o ∷ [] else []) (eq-eqb caller caller refl)
 
 other_op : (caller : ℕ) (x : Call) → x.caller ≢ caller → ops_of_caller caller (x ∷ []) ≡ []
-other_op caller x differs = by_test (x.caller == caller) refl
-  where
-    by_test : (same : Bool) → (x.caller == caller) ≡ same → (if same then x.op ∷ [] else []) ≡ []
-    by_test true e = absurd (differs (eqb-true x.caller caller e))
-    by_test false e = refl
+other_op caller x differs = grind (arith, eqb-true)
 
 pub answers_are_noted : (program : List Item) (k : ℕ) (answers : List Answer) (calls : List Call)
     → AreNotedBy program k answers calls
     → AnswersAreNoted program k answers calls
-answers_are_noted program k answers calls are o a e =
-    let call : Call = record { caller = k; op = flagged o a } in
-    ops_push k calls call ∙ (ap (λ (ops : List Op). ops ++ ops_of_caller k (call ∷ [])) are
-    ∙ (ap (λ (ops : List Op). (feed program k answers).ops ++ ops) (own_op k (flagged o a))
-    ∙ sym (ops-feed_push program k answers a o e)))
+answers_are_noted program k answers calls are o a e = grind (arith, ops_push, own_op, ops-feed_push)
 
 pub others_are_ignored : (program : List Item) (k : ℕ) (answers : List Answer) (calls : List Call)
     → AreNotedBy program k answers calls
     → OthersAreIgnored program k answers calls
-others_are_ignored program k answers calls are call differs =
-    ops_push k calls call
-    ∙ (ap (λ (ops : List Op). ops_of_caller k calls ++ ops) (other_op k call differs)
-    ∙ (append-nil (ops_of_caller k calls) ∙ are))
+others_are_ignored program k answers calls are call differs = grind (arith, ops_push, other_op, append-nil)
 
 feed_asked : (program : List Item) (k : ℕ) (answers : List Answer) → IsChecked program
     → All (IsAsked program (lines_of program k)) (feed program k answers).ops
@@ -242,8 +219,7 @@ feed_asked program k answers checked =
 noted_asked : (program : List Item) (k : ℕ) (answers : List Answer) (calls : List Call) → IsChecked program
     → AreNotedBy program k answers calls
     → All (IsAsked program (lines_of program k)) (ops_of_caller k calls)
-noted_asked program k answers calls checked are =
-    subst (All (IsAsked program (lines_of program k))) (sym are) (feed_asked program k answers checked)
+noted_asked program k answers calls checked are = grind (arith, lines_of, feed_asked)
 
 next_asked : (program : List Item) (k : ℕ) (answers : List Answer) (o : Op) (a : Answer) → IsChecked program
     → next_op program k answers ≡ Some o
@@ -263,13 +239,7 @@ next_asked program k answers o a checked e =
 
 flagged_next : (program : List Item) (k : ℕ) (answers : List Answer) (o : Op) → next_op program k answers ≡ Some o
     → flagged o Answer.Done ≡ o
-flagged_next program k answers o e =
-    let at = next_stands program k answers o e in
-    some_value (ap (option_map (λ x. flagged x Answer.Done)) (sym at.op)
-    ∙ (flagged_asked (script_scope program k) (feed program k answers) at.item ∙ at.op))
-  where
-    some_value : {a b : Op} → Some a ≡ Some b → a ≡ b
-    some_value e = cc
+flagged_next program k answers o e = grind (arith, next_stands, flagged_asked)
 
 pub next_is_admitted : (program : List Item) (callers : ℕ) (calls : List Call) (k : ℕ) (answers : List Answer)
     → IsChecked program

@@ -10,35 +10,14 @@ use Rattle.mk_check.proofs.Vocabulary.{take, take_all, take_more, trees, true, w
 use Rattle.mk_check.proofs.Vocabulary.{◌-◌, ◌<◌, ◌==◌, ◌∙◌, ◌∷◌, ◌≡◌}
 use Rattle.mk_check.proofs.Moves.{FramesAreWithin_pop, asks_at, end_goes_on, line_goes_on}
 use Rattle.mk_check.proofs.TreeNodes.{IsAt, steps_at-trees}
-use Rattle.mk_check.specs.declared.feeding.instructions.Instruction.TheVariants.{Add, CasPtr, Clear, Const, Free}
-use Rattle.mk_check.specs.declared.feeding.instructions.Instruction.TheVariants.{GetGlobal, GetNum, GetPtr, IsNull, Lea}
-use Rattle.mk_check.specs.declared.feeding.instructions.Instruction.TheVariants.{Move, New, Nothing, Print, Same}
-use Rattle.mk_check.specs.declared.feeding.instructions.Instruction.TheVariants.{SetGlobal, SetNum, SetPtr, Show, Sub}
 use Rattle.mk_check.specs.Trees.{LeavesBlock, MovesToOp, node_after, node_to_go_on, place_behind_block, place_in_branch}
 use Rattle.mk_check.specs.Trees.{place_in_rounds, resumed_node}
+use Rattle.mk_check.specs.declared.feeding.instructions.Instruction.TheVariants.{Nothing}
 
 pub asked_so : (numbers : List ℕ) (instruction : Instruction)
     → is_some (op_asked numbers instruction) ≡ is_asking instruction
 asked_so numbers Nothing = refl
-asked_so numbers (Const number value) = refl
-asked_so numbers (Add number left right) = refl
-asked_so numbers (Sub number left right) = refl
-asked_so numbers (Print number) = refl
-asked_so numbers (New d ty) = refl
-asked_so numbers (Free p) = refl
-asked_so numbers (GetPtr d q i) = refl
-asked_so numbers (SetPtr q p i) = refl
-asked_so numbers (Lea d q i) = refl
-asked_so numbers (Move d q) = refl
-asked_so numbers (Clear d) = refl
-asked_so numbers (GetGlobal d g) = refl
-asked_so numbers (SetGlobal g p) = refl
-asked_so numbers (SetNum q number i) = refl
-asked_so numbers (GetNum q number i) = refl
-asked_so numbers (CasPtr q p r number i) = refl
-asked_so numbers (Same p q number) = refl
-asked_so numbers (IsNull p number) = refl
-asked_so numbers (Show p) = refl
+asked_so numbers x1 = cc
 
 pub asks_here : (a b c : Bool) → a ≡ true → (a || (not b && c)) ≡ true
 asks_here true b c e = refl
@@ -46,13 +25,11 @@ asks_here false b c e = cc
 
 pub asks_later : (a b c : Bool) → a ≡ false → b ≡ false → (a || (not b && c)) ≡ c
 asks_later false false c e f = refl
-asks_later false true c e f = cc
-asks_later true b c e f = cc
+asks_later _ _ c e f = cc
 
 no_print : (a b c : Bool) → a ≡ false → (a || (not b && c)) ≡ true → b ≡ false
 no_print false false c e h = refl
-no_print false true c e h = cc
-no_print true b c e h = cc
+no_print _ _ c e h = cc
 
 -- The innermost block.
 
@@ -76,17 +53,14 @@ split_last frames f e =
     let last = length frames - 1 in
     let within : last < length frames = slice_get_within frames last f e in
     let all : take (last + 1) frames ≡ frames = take_all (last + 1) frames (omega arith) in
-    sym all
-    ∙ (take_more frames last f within
-    ∙ ap (λ (x : Frame). take last frames ++ x ∷ []) (get_or_from_slice_get frames last f f e))
+    cc (all, take_more frames last f within, get_or_from_slice_get frames last f f e)
 
 set_last : (frames : List Frame) (f g : Frame) → innermost frames ≡ Some f
     → slice_set frames (length frames - 1) g ≡ take (length frames - 1) frames ++ g ∷ []
 set_last frames f g e =
     let last = length frames - 1 in
     let within : last < length frames = slice_get_within frames last f e in
-    set_split frames last g within
-    ∙ ap (λ (xs : List Frame). take last frames ++ g ∷ xs) (drop_all (suc last) frames (omega arith))
+    cc (set_split frames last g within, drop_all (suc last) frames (omega arith))
 
 -- another round of a `repeat`
 pub round_left : (p q : Place) (rounds less body next : ℕ)
@@ -100,11 +74,7 @@ round_left p q (suc more) less body next e some one is =
       frame = Frame.Rounds (suc more) body next;
       frames = take (length p.frames - 1) p.frames;
       was = split_last p.frames (Frame.Rounds (suc more) body next) e;
-      is = is
-          ∙ (ap (λ (n : ℕ). let at : Place = record p
-          { at = body; frames = slice_set p.frames (length p.frames - 1) (Frame.Rounds n body next) } in at) same
-          ∙ ap (λ (xs : List Frame). let at : Place = record p { at = body; frames = xs } in at)
-          (set_last p.frames (Frame.Rounds (suc more) body next) (Frame.Rounds more body next) e));
+      is = cc (is, same, set_last p.frames (Frame.Rounds (suc more) body next) (Frame.Rounds more body next) e);
     }
 
 -- no round is left
@@ -129,8 +99,7 @@ branch_left p q next e is = record {
 
 at_after : (p : Place) (f : Frame) → (place_behind_block p f).at ≡ node_after f
 at_after p (Frame.Rounds zero body next) = refl
-at_after p (Frame.Rounds (suc more) body next) = refl
-at_after p (Frame.Branch next) = refl
+at_after p x1 = cc
 
 node_after_within : (count : ℕ) (f : Frame) → FrameIsWithin count f → node_after f < count
 node_after_within count (Frame.Rounds zero body next) w = w.1
@@ -139,11 +108,8 @@ node_after_within count (Frame.Branch next) w = w
 
 to_go_on_within : (count : ℕ) (n : Node) (at : ℕ) (block : Option Frame) → at < count
     → ((f : Frame) → block ≡ Some f → FrameIsWithin count f) → node_to_go_on n at block < count
-to_go_on_within count Node.Done at None h w = h
 to_go_on_within count Node.Done at (Some f) h w = node_after_within count f (w f refl)
-to_go_on_within count (Node.Line line instruction next) at block h w = h
-to_go_on_within count (Node.Rounds rounds body next) at block h w = h
-to_go_on_within count (Node.Choice number first second next) at block h w = h
+to_go_on_within count _ at _ h w = h
 
 pub resumed_within : (nodes : List Node) (p : Place) → PlaceIsWithin (length nodes) p
     → resumed_node nodes p < length nodes
@@ -155,8 +121,7 @@ resumed_within nodes p w =
 module _ (nodes : List Node) where
   first_from : {p : Place} {n : Node} → IsAt nodes p n
       → asks_first (steps_at (trees nodes) p.at) ≡ asks_first (steps_from (trees nodes) n)
-  first_from {p} at =
-      ap asks_first (steps_at-trees nodes p.at at.tree at.within.at ∙ ap (steps_from (trees nodes)) at.node)
+  first_from {p} at = grind (arith, steps_at-trees)
 
   pub first_later : {p : Place} {line : ℕ} {instruction : Instruction} {next : ℕ}
       → IsAt nodes p (Node.Line line instruction next) → is_asking instruction ≡ false → is_print instruction ≡ false
@@ -211,14 +176,7 @@ module _ (nodes : List Node) where
 
   stays_to_op : (p q : Place) → PlaceIsWithin (length nodes) p
       → asks_first (steps_at (trees nodes) p.at) ≡ true → q ≡ p → MovesToOp nodes p q
-  stays_to_op p q w first same =
-      subst (λ (x : Place). MovesToOp nodes p x) (sym same) (record {
-        within = w;
-        run = refl;
-        first = first;
-        fits =
-            λ f. f;
-      })
+  stays_to_op p q w first same = grind arith
 
   -- the end of a block, after which an operation comes first
   pub left_to_op : {p : Place} (q : Place) (left : Bool) → IsAt nodes p Node.Done
@@ -227,32 +185,17 @@ module _ (nodes : List Node) where
   left_to_op {p} q true at first leaves none =
       let block = leaves refl in
       let moves = end_goes_on nodes at block in
-      let last : innermost p.frames ≡ Some block.frame =
-      ap innermost block.was ∙ innermost_push block.frames block.frame in
-      let resumed : resumed_node nodes p ≡ node_after block.frame =
-      ap (λ (n : Node). node_to_go_on n p.at (innermost p.frames)) at.node
-      ∙ ap (λ (o : Option Frame). node_to_go_on Node.Done p.at o) last in
-      let here : q.at ≡ node_after block.frame =
-      ap (λ (x : Place). x.at) block.is ∙ at_after (record p { frames = block.frames }) block.frame in
+      let last : innermost p.frames ≡ Some block.frame = grind (arith, innermost_push) in
+      let resumed : resumed_node nodes p ≡ node_after block.frame = grind arith in
+      let here : q.at ≡ node_after block.frame = grind (arith, at_after) in
       record {
         within = moves.within;
         run = moves.run;
         first = ap (λ (k : ℕ). asks_first (steps_at (trees nodes) k)) (here ∙ sym resumed) ∙ first;
         fits = moves.fits;
       }
-  left_to_op {p} q false at first leaves none =
-      let last : innermost p.frames ≡ None = ap innermost (none refl).0 in
-      let resumed : resumed_node nodes p ≡ p.at =
-      ap (λ (n : Node). node_to_go_on n p.at (innermost p.frames)) at.node
-      ∙ ap (λ (o : Option Frame). node_to_go_on Node.Done p.at o) last in
-      stays_to_op p q at.within (ap (λ (k : ℕ). asks_first (steps_at (trees nodes) k)) (sym resumed) ∙ first)
-      (none refl).1
+  left_to_op {p} q false at first leaves none = grind (arith, stays_to_op)
 
   -- A place that moves on stops where the place after it stops.
   pub stops_after : (p q t : Place) → MovesToOp nodes p q → HasStopped nodes q t → HasStopped nodes p t
-  stops_after p q t moves stopped = record {
-    within = stopped.within;
-    at = stopped.at;
-    run = stopped.run ∙ moves.run;
-    fits = λ f. stopped.fits (moves.fits f);
-  }
+  stops_after p q t moves stopped = grind arith

@@ -1,10 +1,10 @@
 -- An answer at which nothing is printed, where the next line asks: the script stops there.
 use Rattle.mk_check.proofs.Vocabulary.{Answer, Bool, FeedState, HasStopped, Instruction, IsFeed, IsTree, IsWaiting}
-use Rattle.mk_check.proofs.Vocabulary.{KeptState, List, Node, Place, PlaceFits, PlaceIsWithin, Steps, StopsAt}
-use Rattle.mk_check.proofs.Vocabulary.{TakesAnswer, ℕ, after_answer, and_parts, ap, append-nil, asks_at, false, is_some}
-use Rattle.mk_check.proofs.Vocabulary.{kept_in, left_in, length, node_at, not, op_asked, op_of_node, refl, refusal_line}
-use Rattle.mk_check.proofs.Vocabulary.{refusal_text, stop_of, stop_on_answer, stopped_in, subst, sym, true, with_kept}
-use Rattle.mk_check.proofs.Vocabulary.{with_text, work_left, [], ◌++◌, ◌<◌, ◌∙◌, ◌∷◌, ◌≡◌}
+use Rattle.mk_check.proofs.Vocabulary.{KeptState, List, Node, Place, PlaceFits, PlaceIsWithin, StopsAt, TakesAnswer, ℕ}
+use Rattle.mk_check.proofs.Vocabulary.{after_answer, and_parts, ap, append-nil, asks_at, false, is_some, kept_in}
+use Rattle.mk_check.proofs.Vocabulary.{left_in, length, node_at, not, op_asked, op_of_node, refl, refusal_line}
+use Rattle.mk_check.proofs.Vocabulary.{refusal_text, stop_on_answer, stopped_in, subst, sym, true, with_kept, with_text}
+use Rattle.mk_check.proofs.Vocabulary.{work_left, [], ◌++◌, ◌<◌, ◌∙◌, ◌∷◌, ◌≡◌}
 use Rattle.mk_check.proofs.{AsksFirst.asked_so, Moves.line_fits, Moves.unfolded_line, Stands.answer_stands}
 use Rattle.mk_check.proofs.{Stands.waits_for_answer, TreeNodes.IsAt, TreeNodes.is_at, WorkLaws.answer_nearer}
 use Rattle.mk_check.specs.{Feed.is_refusal, Steps.is_show, Steps.is_silent}
@@ -12,12 +12,7 @@ use Rattle.mk_check.proofs.Moves as moves
 
 no_text : (a : Answer) → not (is_refusal a) ≡ true → refusal_text a ≡ []
 no_text Answer.Done h = refl
-no_text (Answer.Num n) h = refl
-no_text (Answer.Word w) h = refl
-no_text Answer.Full h = cc
-no_text Answer.Fault h = cc
-no_text Answer.Null h = cc
-no_text Answer.Double h = cc
+no_text x0 h = cc
 
 silent_kept : (line : ℕ) (instruction : Instruction) (a : Answer) (k : KeptState) → is_silent instruction a ≡ true
     → with_text k (refusal_line line (refusal_text a)) ≡ k
@@ -28,11 +23,8 @@ silent_kept line instruction a k h =
 
 pub stopped_here : (nodes : List Node) (p : Place) (n : Node) → IsTree nodes → PlaceIsWithin (length nodes) p
     → node_at nodes p.at ≡ n → is_some (op_of_node p.numbers n) ≡ true → HasStopped nodes p p
-stopped_here nodes p Node.Done tree w e h = cc
-stopped_here nodes p (Node.Line line instruction next) tree w e h =
-    moves.asks_at nodes (is_at tree w e) h
-stopped_here nodes p (Node.Rounds rounds body next) tree w e h = cc
-stopped_here nodes p (Node.Choice number first second next) tree w e h = cc
+stopped_here nodes p (Node.Line line instruction next) tree w e h = moves.asks_at nodes (is_at tree w e) h
+stopped_here nodes p _ tree w e h = cc
 
 -- The place is where the steps stop after an answer to the first.
 pub record StopsBehind (nodes : List Node) (p : Place) (a : Answer) (t : Place) : Type 0 where
@@ -50,21 +42,15 @@ stops_at_once {nodes} {p} {line} {instruction} {next} a t at silent stopped =
     record {
       within = stopped.within;
       at = stopped.at;
-      run = stopped.run
-          ∙ sym (ap (λ (s : Steps). stop_on_answer s a (kept_in p))
-          (unfolded_line nodes at)
-          ∙ ap (λ (k : KeptState). stop_of rest (after_answer instruction a k))
-          (silent_kept line instruction a (kept_in p) silent));
+      run = cc (stopped.run, unfolded_line nodes at, silent_kept line instruction a (kept_in p) silent);
       fits = λ f.
           let behind = line_fits nodes at f in
           stopped.fits (record { here = behind.here; frames = behind.frames });
     }
 
 pub asks_so : (numbers : List ℕ) (n : Node) → asks_at n ≡ true → is_some (op_of_node numbers n) ≡ true
-asks_so numbers Node.Done h = cc
 asks_so numbers (Node.Line line instruction next) h = asked_so numbers instruction ∙ h
-asks_so numbers (Node.Rounds rounds body next) h = cc
-asks_so numbers (Node.Choice number first second next) h = cc
+asks_so numbers _ h = cc
 
 -- whether it took the answer or not
 pub feeds : (s : FeedState) (t : Place) (taken : Bool) → (taken ≡ true → IsFeed (record { nodes = s.nodes; place = t }))
@@ -85,9 +71,7 @@ pub record IsAnsweredAtOnce (s : FeedState) (t : Place) (a : Answer) : Type 0 wh
 
 module _ {s : FeedState} {t : Place} {a : Answer} (is : IsAnsweredAtOnce s t a) where
   asks_here : is_some (op_asked s.place.numbers is.instruction) ≡ true
-  asks_here =
-      ap (λ (n : Node). is_some (op_of_node s.place.numbers n)) (sym is.at.node)
-      ∙ waits_for_answer s is.at.tree is.feed is.waiting
+  asks_here = cc (is.at.node, waits_for_answer s is.at.tree is.feed is.waiting)
 
   pub takes_at_once : TakesAnswer s a (record { nodes = s.nodes; place = t })
   takes_at_once program k answers st =
@@ -95,20 +79,19 @@ module _ {s : FeedState} {t : Place} {a : Answer} (is : IsAnsweredAtOnce s t a) 
       is.at.tree is.at.within is.at.node asks_here is.behind.run st
 
   pub feeds_at_once : IsFeed (record { nodes = s.nodes; place = t })
-  feeds_at_once =
-      record {
-        stop = record {
-          within = is.behind.within;
-          fits = is.behind.fits is.feed.stop.fits;
-          stops = is.behind.at;
-        };
-        some = record {
-          program = is.feed.some.program;
-          k = is.feed.some.k;
-          answers = is.feed.some.answers ++ a ∷ [];
-          stands = takes_at_once is.feed.some.program is.feed.some.k is.feed.some.answers is.feed.some.stands;
-        };
-      }
+  feeds_at_once = record {
+    stop = record {
+      within = is.behind.within;
+      fits = is.behind.fits is.feed.stop.fits;
+      stops = is.behind.at;
+    };
+    some = record {
+      program = is.feed.some.program;
+      k = is.feed.some.k;
+      answers = is.feed.some.answers ++ a ∷ [];
+      stands = takes_at_once is.feed.some.program is.feed.some.k is.feed.some.answers is.feed.some.stands;
+    };
+  }
 
   pub nearer_at_once : work_left (record { nodes = s.nodes; place = t }) < work_left s
   nearer_at_once =

@@ -32,8 +32,7 @@ steps_at_last nodes n =
 
 pub parts_at_push : (built : List Steps) (parts : List Part) (part : Part)
     → parts_at built (parts ++ part ∷ []) ≡ part_at built part ∷ parts_at built parts
-parts_at_push built parts part =
-    fold_push (λ (behind : List StepPart) (p : Part). part_at built p ∷ behind) [] parts part
+parts_at_push built parts part = grind (arith, fold_push)
 
 parts_keep : (nodes : List Node) (n : Node) (behind : List StepPart) (parts : List Part)
     → PartsAreWithin (length nodes) parts
@@ -43,9 +42,7 @@ parts_keep nodes n behind [] w = refl
 parts_keep nodes n behind (part ∷ parts) w =
     let e : part_at (trees (nodes ++ n ∷ [])) part ≡ part_at (trees nodes) part =
     (let f = steps_at_push nodes n part.steps w.0 in let g = steps_at_push nodes n part.second w.1 in cc) in
-    ap (λ (p : StepPart). fold (λ (more : List StepPart) (q : Part). part_at (trees (nodes ++ n ∷ [])) q ∷ more)
-    (p ∷ behind) parts) e
-    ∙ parts_keep nodes n (part_at (trees nodes) part ∷ behind) parts w.2
+    cc (e, parts_keep nodes n (part_at (trees nodes) part ∷ behind) parts w.2)
 
 PartsAreWithin-more : (few many : ℕ) (parts : List Part) → few ≤ many → PartsAreWithin few parts
     → PartsAreWithin many parts
@@ -163,10 +160,7 @@ if_added b parts part branches line number sound was =
 
 put_parts : (b : Built) (second : ℕ) → IsSoundlyBuilt b
     → parts_in (with_part b 0 second) ≡ record { steps = Done; second = steps_at (trees b.nodes) second } ∷ parts_in b
-put_parts b second sound =
-    parts_at_push (trees b.nodes) b.parts (record { steps = 0; second = second })
-    ∙ ap (λ (s : Steps). let p : StepPart = record { steps = s; second = steps_at (trees b.nodes) second } in p
-    ∷ parts_in b) sound.first
+put_parts b second sound = grind (arith, parts_at_push)
 
 pub else_added : (b : Built) (parts : List Part) (part : Part) (line : ℕ) → IsSoundlyBuilt b → b.parts ≡ parts
     ++ part ∷ []
@@ -191,26 +185,16 @@ end_added b line sound = record {
     parts = PartsAreWithin_push (length b.nodes) b.parts (record { steps = 0; second = 0 }) sound.parts sound.some
         sound.some;
   };
-  parts = put_parts b 0 sound
-      ∙ ap (λ (s : Steps). let p : StepPart = record { steps = Done; second = s } in p ∷ parts_in b) sound.first;
+  parts = cc (put_parts b 0 sound, sound.first);
 }
 
 -- no part is open, or one
 pub none_added : (b c : Built) (line : ℕ) (e : Element) → IsSoundlyBuilt b → b.parts ≡ [] → c ≡ b
     → with_element line e [] ≡ []
     → AddsLine line e b c
-none_added b c line e sound none same nothing =
-    let f : parts_in b ≡ [] = ap (parts_at (trees b.nodes)) none in
-    subst (λ (x : Built). AddsLine line e b x) (sym same)
-    (record { sound = sound; parts = f ∙ sym (ap (with_element line e) f ∙ nothing) })
+none_added b c line e sound none same nothing = grind arith
 
 pub one_added : (b c : Built) (part : Part) (line : ℕ) (e : Element) → IsSoundlyBuilt b → b.parts ≡ part ∷ []
     → c ≡ record b { parts = [] }
     → ((p : StepPart) → with_element line e (p ∷ []) ≡ []) → AddsLine line e b c
-one_added b c part line e sound one same nothing =
-    let f : parts_in b ≡ part_at (trees b.nodes) part ∷ [] = ap (parts_at (trees b.nodes)) one in
-    subst (λ (x : Built). AddsLine line e b x) (sym same)
-    (record {
-      sound = record { some = sound.some; first = sound.first; parts = tt };
-      parts = sym (ap (with_element line e) f ∙ nothing (part_at (trees b.nodes) part));
-    })
+one_added b c part line e sound one same nothing = grind arith

@@ -4,17 +4,16 @@ use Rattle.mk_check.proofs.Vocabulary.{All, ArePassed, Around, At, Bool, Config,
 use Rattle.mk_check.proofs.Vocabulary.{TypeKind, TypeWord, Which, ℕ, ap, arith, at_line, bytes_eq, false, false≢true}
 use Rattle.mk_check.proofs.Vocabulary.{fault_from, globals_among, globals_of, if◌then◌else◌, is_some, kind_of}
 use Rattle.mk_check.proofs.Vocabulary.{kinds_among, kinds_of, length, length-map, map, number_of_name, pages_of, refl}
-use Rattle.mk_check.proofs.Vocabulary.{resident_of, script_names, slice_get, slice_get_within, subst, sym, this_script}
-use Rattle.mk_check.proofs.Vocabulary.{true, type_names, type_words, types_of, typing_fault, word_among, [], ◌++◌, ◌+◌}
-use Rattle.mk_check.proofs.Vocabulary.{◌<◌, ◌or◌, ◌∷◌, ◌≡◌, ◌≤◌}
+use Rattle.mk_check.proofs.Vocabulary.{resident_of, script_names, slice_get, slice_get_within, sym, this_script, true}
+use Rattle.mk_check.proofs.Vocabulary.{type_names, type_words, types_of, typing_fault, word_among, [], ◌++◌, ◌+◌, ◌<◌}
+use Rattle.mk_check.proofs.Vocabulary.{◌or◌, ◌∷◌, ◌≡◌, ◌≤◌}
 use Rattle.mk_core.specs.Config.{IsAmong, IsTypeAmong, IsWithinLimits}
 use Rattle.mk_check.proofs.GrammarLemmas.{Some≢None, at_most-None, heap_within, length-global_names}
 use Rattle.mk_check.proofs.GrammarLemmas.{length-script_names, length-type_names, option_or-None}
 use Rattle.mk_check.proofs.NumberLemmas.{length-globals_among, length-kinds_among}
 use Rattle.mk_check.proofs.FormLemmas.{line_item-word}
-use Rattle.mk_check.specs.Typing.{IsWellTyped, TypingFault, inside_fault, offsets_fault, pointers_fault, type_fault}
-use Rattle.mk_check.specs.Typing.{type_word_at, unless}
-use Rattle.mk_check.specs.Declarations.{config_of}
+use Rattle.mk_check.specs.{Declarations.config_of, Typing.IsWellTyped, Typing.TypingFault, Typing.inside_fault}
+use Rattle.mk_check.specs.{Typing.offsets_fault, Typing.pointers_fault, Typing.type_fault, Typing.unless}
 use Rattle.mk_script.{proofs.PassedLines.IsWhole, specs.Lines.at_most, specs.declared.items.Item.TheVariants.Global}
 use Rattle.mk_script.{specs.declared.items.Item.TheVariants.TypeLine, specs.declared.items.TypeWord.TheVariants.Number}
 use Rattle.mk_script.{specs.declared.items.TypeWord.TheVariants.Pointer}
@@ -59,11 +58,8 @@ module _ (names : List (List ℕ)) where
       → (later ≡ Some sought → IsAt types place (map (kind_of names) sought))
       → (if b then Some words else later) ≡ Some sought
       → IsAt (map (kind_of names) words ∷ types) (if b then 0 else place + 1) (map (kind_of names) sought)
-  chosen true words sought later types place behind h =
-      subst (λ ws. IsAt (map (kind_of names) words ∷ types) 0 (map (kind_of names) ws))
-      (some_value words words sought h) (first_type words types)
-  chosen false words sought later types place behind h =
-      later_type (map (kind_of names) words) types place (map (kind_of names) sought) (behind h)
+  chosen true words sought later types place behind h = grind (arith, some_value, first_type)
+  chosen false words sought later types place behind h = grind (arith, later_type)
 
   -- the type of a name
   pub type_words-IsAt : (name : List ℕ) (items : List Item) (sought : List TypeWord)
@@ -88,10 +84,7 @@ module _ (program : List Item) (script : List Item) where
   -- the place of a type that is declared
   pub type_fault-within : (name : List ℕ) → type_fault (record { program = program; script = script }) name ≡ None
       → number_of_name name (type_names program) < length (types_of program)
-  type_fault-within name h =
-      let found =
-      has_value (type_words name program) (unless-None (is_some (type_words name program)) TypeKind.NoType h) in
-      (type_words-IsAt (type_names program) name program found.value found.is).within
+  type_fault-within name h = grind (arith, has_value, unless-None, type_words-IsAt)
 
   word_within : (at : At) (found : Option (List TypeWord)) → type_words at.name program ≡ found
       → is_some (word_among found at.offset) ≡ true
@@ -112,9 +105,7 @@ module _ (program : List Item) (script : List Item) where
   -- a place that is inside its type
   inside_fault-IsAmong : (at : At) → inside_fault (record { program = program; script = script }) (Some at) ≡ None
       → IsAmong (types_of program) (kind_of (type_names program) (Pointer at))
-  inside_fault-IsAmong at h =
-      word_within at (type_words at.name program) refl
-      (unless-None (is_some (type_word_at (record { program = program; script = script }) (Some at))) TypeKind.Offset h)
+  inside_fault-IsAmong at h = grind (arith, word_within, unless-None)
 
   words_among : (words : List TypeWord) → offsets_fault (record { program = program; script = script }) words ≡ None
       → All (IsAmong (types_of program)) (map (kind_of (type_names program)) words)

@@ -1,11 +1,11 @@
 -- Counts of parts, as a script is read from its end.
 use Rattle.std.proofs.lemmas.List.{length-reverse, reverse-append, reverse-reverse, set_at}
-use Rattle.std.proofs.{Common.set, Common.◌^◌, lemmas.Grind.reverse_onto}
+use Rattle.std.proofs.{Common.set, lemmas.Grind.reverse_onto}
 use Rattle.mk_check.proofs.Vocabulary.{Bool, Item, List, Part, PartCount, ℕ, ap, append_assoc, arith}
 use Rattle.mk_check.proofs.Vocabulary.{before_next_script, branch, cases_lt, counts_of, drop, drop_more, false}
 use Rattle.mk_check.proofs.Vocabulary.{false≢true, get_or, get_or_at, if◌then◌else◌, is_script, length, length-append}
 use Rattle.mk_check.proofs.Vocabulary.{max, outermost_blocks, refl, reverse, suc, sym, take, take_more, true, with_item}
-use Rattle.mk_check.proofs.Vocabulary.{zero, [], ⊎_elim, ◌*◌, ◌++◌, ◌+◌, ◌-◌, ◌<◌, ◌∙◌, ◌∷◌, ◌≡◌, ◌≤◌}
+use Rattle.mk_check.proofs.Vocabulary.{zero, [], ◌*◌, ◌++◌, ◌+◌, ◌-◌, ◌<◌, ◌∙◌, ◌∷◌, ◌≡◌}
 use Rattle.mk_check.specs.Counts.{counts_with, innermost_count, saturated_count, with_count, with_innermost}
 use Rattle.mk_check.specs.Lengths.{length_of}
 use Rattle.mk_script.specs.declared.items.Item.TheVariants.{Else, End, If, Repeat, Script}
@@ -17,11 +17,7 @@ saturated_count-add n m = omega arith
 saturated_count-rounds : (rounds body : ℕ)
     → saturated_count (1 + rounds * (1 + body)) ≡ saturated_count (1 + rounds * (1 + saturated_count body))
 saturated_count-rounds zero body = omega arith
-saturated_count-rounds (suc rounds) body =
-    ⊎_elim
-    (λ (small : body < 2 ^ 64 - 1). let same : saturated_count body ≡ body = omega arith in rw same refl)
-    (λ (great : 2 ^ 64 - 1 ≤ body). omega arith)
-    (cases_lt body (2 ^ 64 - 1))
+saturated_count-rounds (suc rounds) body = grind (arith, cases_lt)
 
 saturated_count-repeat : (rounds body rest : ℕ)
     → saturated_count (1 + rounds * (1 + body) + rest)
@@ -51,13 +47,10 @@ pub counts-with_item : (line : ℕ) (item : Item) (parts : List Part)
 unfolding with_lines
 counts-with_item line (Repeat rounds) [] = refl
 counts-with_item line (Repeat rounds) (body ∷ []) = refl
-counts-with_item line (Repeat rounds) (body ∷ part ∷ parts) =
-    ap (with_lines part parts) (saturated_count-repeat rounds (length_of body.blocks) (length_of part.blocks))
+counts-with_item line (Repeat rounds) (body ∷ part ∷ parts) = grind (arith, with_lines, saturated_count-repeat)
 counts-with_item line (If number) [] = refl
 counts-with_item line (If number) (first ∷ []) = refl
-counts-with_item line (If number) (first ∷ part ∷ parts) =
-    ap (with_lines part parts)
-    (saturated_count-if (length_of first.blocks) (length_of (branch first.second)) (length_of part.blocks))
+counts-with_item line (If number) (first ∷ part ∷ parts) = grind (arith, with_lines, saturated_count-if)
 counts-with_item line Else [] = refl
 counts-with_item line Else (second ∷ parts) = refl
 counts-with_item line End parts = refl
@@ -86,8 +79,7 @@ at_end : (f : PartCount → PartCount) (counts xs : List PartCount) (n : ℕ) (x
     → n ≡ length xs → 0 < n → x ≡ get_or xs (n - 1) x → reverse (set xs (n - 1) (f x)) ≡ with_innermost f counts
 at_end f [] xs n x is counted some read = absurd (omega (arith, length-reverse xs, ap length is))
 at_end f (count ∷ counts) xs n x is counted some read =
-    let front : xs ≡ reverse counts ++ count ∷ [] = sym (reverse-reverse xs) ∙ ap reverse is
-    ∙ reverse_onto counts count [] in
+    let front : xs ≡ reverse counts ++ count ∷ [] = cc (reverse-reverse xs, is, reverse_onto counts count []) in
     reverse-set_last f (reverse counts) count x xs (n - 1) front
     (omega (arith, ap length front, length-append (reverse counts) (count ∷ []))) read
     ∙ ap (λ rest. f count ∷ rest) (reverse-reverse counts)
@@ -121,8 +113,7 @@ before_next_script-other item items h = refl
 
 module _ (items : List Item) (i : ℕ) (item : Item) (within : i < length items) (read : item ≡ get_or items i item) where
   pub before_next_script-end : is_script item ≡ true → before_next_script (drop i items) ≡ []
-  before_next_script-end h =
-      rw (drop_more items i item within, ← read) (before_next_script-script item (drop (i + 1) items) h)
+  before_next_script-end h = grind (arith, drop_more, before_next_script-script)
 
   pub before_next_script-more : is_script item ≡ false
       → take i items ++ before_next_script (drop i items)

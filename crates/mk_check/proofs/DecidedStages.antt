@@ -1,13 +1,13 @@
 -- A caller's call is decided once, before its last step.
 use Rattle.std.specs.List.{list_any}
 use Rattle.mk_check.proofs.Vocabulary.{Answer, Bool, Config, None, Op, Option, Some, ℕ, and_parts, ap, arith, false}
-use Rattle.mk_check.proofs.Vocabulary.{if◌then◌else◌, refl, subst, sym, true, ◌+◌, ◌==◌, ◌∙◌, ◌≡◌}
+use Rattle.mk_check.proofs.Vocabulary.{if◌then◌else◌, refl, subst, sym, true, ◌+◌, ◌==◌, ◌≡◌}
 use Rattle.mk_geom.specs.{Headers.header_of, declared.addresses.Cell.Cell}
 use Rattle.mk_core.specs.Calls.{begun, is_same_stage, onward, progress_p, progress_q, progress_read, progress_reg}
 use Rattle.mk_core.specs.Calls.{refused, stage_behind, stage_refused, steps_of, still}
 use Rattle.mk_core.specs.Effects.{decided, progress, progress_freed, progress_look, sees_double}
-use Rattle.mk_core.specs.{Cells.is_unmapped_header, Enabled.holder_may, Moments.Moment, NewPlaces.target}
-use Rattle.mk_core.specs.{Order.comes_next, Order.is_of_any_holder, Order.may_decide_new, TurnConditions.cell_freed}
+use Rattle.mk_core.specs.Order.{comes_next, is_of_any_holder, may_decide_new}
+use Rattle.mk_core.specs.{Cells.is_unmapped_header, Enabled.holder_may, Moments.Moment, TurnConditions.cell_freed}
 use Rattle.mk_core.specs.{TurnConditions.is_decided, Words.Words, declared.events.Step.Step, declared.events.Word.Word}
 use Rattle.mk_core.specs.{declared.seats.Flight.Flight, declared.seats.Progress.Progress, declared.seats.Stage.Stage}
 use Rattle.mk_check.specs.Output.{ends_call}
@@ -84,11 +84,7 @@ next_pending _ _ g h = cc
 onward_goes : (s : Stage) (o : Op) (q p r l q' p' r' l' : ℕ) (a : Option Answer) → goes_on s ≡ true
     → has_stage o s ≡ true → count a ≡ decides s o
     → Goes (flight s o q p r l) (onward (flight s o q' p' r' l') a)
-onward_goes s o q p r l q' p' r' l' a g h e = record {
-  stage = next_stage s o h;
-  pending = next_pending s o g h
-      ∙ ap (λ n. pending s + n) (sym e);
-}
+onward_goes s o q p r l q' p' r' l' a g h e = grind (arith, next_stage, pending, next_pending)
 
 abbrev may_refuse : Stage → Bool
 may_refuse Stage.LoadQ = true
@@ -115,16 +111,12 @@ q_goes : (o : Op) (q p r l found : ℕ) → has_stage o Stage.LoadQ ≡ true
     → Goes (flight Stage.LoadQ o q p r l) (progress_q (flight Stage.LoadQ o q p r l) o found)
 q_goes (Op.Move d q') q p r l found h = onward_goes Stage.LoadQ (Op.Move d q') q p r l found p r l None refl h refl
 q_goes (Op.Same p' q') q p r l found h = onward_goes Stage.LoadQ (Op.Same p' q') q p r l found p r l _ refl h refl
-q_goes o q p r l found h =
-    either (found == 0) _ _ _ (refused_goes Stage.LoadQ o q p r l found p r l Answer.Null refl h)
-    (onward_goes Stage.LoadQ o q p r l found p r l None refl h refl)
+q_goes o q p r l found h = grind (arith, either, refused_goes, onward_goes)
 
 p_goes : (o : Op) (q p r l found : ℕ) → has_stage o Stage.LoadP ≡ true
     → Goes (flight Stage.LoadP o q p r l) (progress_p (flight Stage.LoadP o q p r l) o found)
 p_goes (Op.IsNull p') q p r l found h = onward_goes Stage.LoadP (Op.IsNull p') q p r l q found r l _ refl h refl
-p_goes (Op.Free p') q p r l found h =
-    either (found == 0) _ _ _ (record { stage = refl; pending = refl })
-    (onward_goes Stage.LoadP (Op.Free p') q p r l q found r l None refl h refl)
+p_goes (Op.Free p') q p r l found h = grind (arith, either, pending, onward_goes)
 p_goes o q p r l found h = onward_goes Stage.LoadP o q p r l q found r l None refl h refl
 
 -- after a `put` comes `leave`
@@ -190,14 +182,11 @@ begun_goes o _ q p r l = record { stage = refl; pending = refl }
 probe_goes : (o : Op) (q p r l : ℕ) (b : Bool) → has_stage o Stage.Probe ≡ true
     → Goes (flight Stage.Probe o q p r l) (if b then refused (flight Stage.Probe o q p r l) Answer.Fault
     else onward (flight Stage.Probe o q p r l) None)
-probe_goes o q p r l b h =
-    either b _ _ _ (refused_goes Stage.Probe o q p r l q p r l Answer.Fault refl h)
-    (onward_goes Stage.Probe o q p r l q p r l None refl h refl)
+probe_goes o q p r l b h = grind (arith, either, refused_goes, onward_goes)
 
 read_goes : (o : Op) (q p r l found : ℕ) → has_stage o Stage.Read ≡ true
     → Goes (flight Stage.Read o q p r l) (progress_read (flight Stage.Read o q p r l) o found)
-read_goes (Op.GetPtr d q' i) q p r l found h =
-    onward_goes Stage.Read (Op.GetPtr d q' i) q p r l q p r found _ refl h refl
+read_goes (Op.GetPtr d q' i) q p r l found h = grind (arith, onward_goes)
 read_goes o q p r l found h = onward_goes Stage.Read o q p r l q p r l _ refl h refl
 
 -- the turn's steps
@@ -217,9 +206,7 @@ sees_none w _ = refl
 look_goes : (s : Stage) (o : Op) (q p r l : ℕ) (c : Config) (w : Words) (x : Word) → has_stage o s ≡ true
     → comes_next s o (Step.Look x) ≡ true
     → Goes (flight s o q p r l) (progress_look c w (flight s o q p r l) x)
-look_goes Stage.Turn o q p r l c w x h n =
-    either (sees_double w (target c.pages w (flight Stage.Turn o q p r l)) x) _ _ _
-    (decided_goes o q p r l Answer.Double h) (still_goes Stage.Turn o q p r l h)
+look_goes Stage.Turn o q p r l c w x h n = grind (arith, either, flight, decided_goes, still_goes)
 look_goes Stage.Give o q p r l c w x h n = rw (sees_none w x) (still_goes Stage.Give o q p r l h)
 look_goes s o q p r l c w x h n = cc
 
@@ -236,11 +223,8 @@ freed_none false f = refl
 quar_goes : (s : Stage) (o : Op) (q p r l : ℕ) (c : Config) (w : Words) (page v : ℕ) → has_stage o s ≡ true
     → comes_next s o (Step.Quar page v) ≡ true
     → Goes (flight s o q p r l) (progress_freed (flight s o q p r l) (cell_freed c.pages w (flight s o q p r l) page v))
-quar_goes Stage.Turn o q p r l c w page v h n =
-    freed_goes o q p r l (cell_freed c.pages w (flight Stage.Turn o q p r l) page v) h
-quar_goes Stage.Give o q p r l c w page v h n =
-    subst (λ (x : Progress). Goes (flight Stage.Give o q p r l) x) (sym (freed_none _ (flight Stage.Give o q p r l)))
-    (still_goes Stage.Give o q p r l h)
+quar_goes Stage.Turn o q p r l c w page v h n = grind (arith, freed_goes, flight)
+quar_goes Stage.Give o q p r l c w page v h n = grind (arith, flight, freed_none, still_goes)
 quar_goes s o q p r l c w page v h n = cc
 
 -- a New is granted, or refused, while it is undecided
@@ -259,9 +243,7 @@ At c m o q p r l found x s = Goes (flight s o q p r l) (progress c m (flight s o
 own : (c : Config) (m : Moment) (s : Stage) (o : Op) (q p r l found : ℕ) (x : Step) → has_stage_of_its_own x ≡ true
     → has_stage o s ≡ true → comes_next s o x ≡ true
     → (has_stage o (stage_of x) ≡ true → At c m o q p r l found x (stage_of x)) → At c m o q p r l found x s
-own c m s o q p r l found x k h n f =
-    let is = own_stage s o x k n in
-    subst (At c m o q p r l found x) (sym is) (f (subst (λ (t : Stage). has_stage o t ≡ true) is h))
+own c m s o q p r l found x k h n f = grind (arith, own_stage, has_stage)
 
 pub goes : (c : Config) (m : Moment) (s : Stage) (o : Op) (q p r l found : ℕ) (x : Step)
     → has_stage o s ≡ true → comes_next s o x ≡ true → ends_call x ≡ false → At c m o q p r l found x s
@@ -308,6 +290,5 @@ gives_decided _ o n d = cc
 pub ends : (c : Config) (m : Moment) (f : Flight) (x : Step) → comes_next f.stage f.op x ≡ true
     → holder_may c m f x ≡ true → ends_call x ≡ true → pending f.stage ≡ 1
 ends c m f Step.Leave n h e = ap pending (own_stage f.stage f.op Step.Leave refl n)
-ends c m f Step.Give n h e =
-    gives_decided f.stage f.op n (and_parts (is_decided f.stage) _ (and_parts _ _ (and_parts _ _ h).0).0).0
+ends c m f Step.Give n h e = grind (arith, gives_decided, and_parts)
 ends c m f _ n h e = cc

@@ -3,7 +3,7 @@ use Rattle.mk_check.proofs.Vocabulary.{At, Bool, Item, List, Some, TypeWord, ℕ
 use Rattle.mk_check.proofs.Vocabulary.{false, get_or, global_names, global_type, globals_among, if◌then◌else◌, kind_of}
 use Rattle.mk_check.proofs.Vocabulary.{kinds_among, kinds_of, length, map, number_of_name, pointer_at, pointer_names}
 use Rattle.mk_check.proofs.Vocabulary.{refl, same_Some, slice_get, suc, sym, true, type_names, type_words, [], ◌+◌, ◌<◌}
-use Rattle.mk_check.proofs.Vocabulary.{◌∙◌, ◌∷◌, ◌≡◌}
+use Rattle.mk_check.proofs.Vocabulary.{◌∷◌, ◌≡◌}
 use Rattle.mk_script.specs.declared.items.Item.TheVariants.{Global, Ptr, TypeLine}
 
 -- the name at its place
@@ -17,17 +17,13 @@ at_place name (other ∷ others) h = by_test (at_place name others) (bytes_eq na
         → bytes_eq name other ≡ same → (if same then 0 else number_of_name name others + 1) < suc (length others)
         → get_or (other ∷ others) (if same then 0 else number_of_name name others + 1) [] ≡ name
     by_test rest true e h = sym ((bytes_eq-Decides name other).0 e)
-    by_test rest false e h =
-        let within : number_of_name name others < length others = omega arith in
-        let next : number_of_name name others + 1 ≡ suc (number_of_name name others) = omega arith in
-        rw next (rest within)
+    by_test rest false e h = grind arith
 
 -- names at one place are equal
 pub same_place : (name other : List ℕ) (names : List (List ℕ)) → number_of_name name names < length names
     → number_of_name other names < length names
     → number_of_name name names ≡ number_of_name other names → name ≡ other
-same_place name other names h h' e = sym (at_place name names h) ∙ ap (λ (k : ℕ). get_or names k []) e
-    ∙ at_place other names h'
+same_place name other names h h' e = cc (at_place name names h, at_place other names h')
 
 pub pointer_within : (name : List ℕ) (lines : List Item) (at : At) → pointer_at name lines ≡ Some at
     → number_of_name name (pointer_names lines) < length (pointer_names lines)
@@ -59,11 +55,7 @@ module _ (types : List (List ℕ)) where
           × (kinds_of (map (kind_of types) words' ∷ kinds_among types items) (if same then 0
           else number_of_name name (type_names items) + 1) ≡ map (kind_of types) words)
       by_test rest true f = (omega arith, ap (map (kind_of types)) (same_Some words' words f))
-      by_test rest false f =
-          let found = rest f in
-          let next : number_of_name name (type_names items) + 1
-          ≡ suc (number_of_name name (type_names items)) = omega arith in
-          (omega (arith, found.0), rw next found.1)
+      by_test rest false f = grind arith
   type_place name (item ∷ items) words e = type_place name items words e
 
   -- a global has the type that it is declared for
@@ -80,10 +72,7 @@ module _ (types : List (List ℕ)) where
           → slice_get (number_of_name ty' types ∷ globals_among types items) (if same then 0
           else number_of_name name (global_names items) + 1) ≡ Some (number_of_name ty types)
       by_test rest true f = ap (λ (t : List ℕ). Some (number_of_name t types)) (same_Some ty' ty f)
-      by_test rest false f =
-          let next : number_of_name name (global_names items) + 1
-          ≡ suc (number_of_name name (global_names items)) = omega arith in
-          rw next (rest f)
+      by_test rest false f = grind arith
   global_place name (item ∷ items) ty e = global_place name items ty e
 
 pub global_within : (name : List ℕ) (items : List Item) (ty : List ℕ) → global_type name items ≡ Some ty

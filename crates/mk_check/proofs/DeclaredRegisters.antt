@@ -7,12 +7,11 @@ use Rattle.mk_check.proofs.Vocabulary.{pointer_at, pointer_names, refl, same_Som
 use Rattle.mk_check.proofs.Vocabulary.{sym, type_names, type_words, types_of, word_among, ◌*◌, ◌+◌, ◌<◌, ◌∙◌, ◌≡◌}
 use Rattle.mk_never.proofs.Edits.{exists, if_by, set_by}
 use Rattle.mk_never.specs.Admitted.{IsCaller, Meets}
-use Rattle.mk_never.specs.NeverHeap.{allocation_at, global_at, is_unmapped, moved_on, register_at, target_of}
-use Rattle.mk_never.specs.NeverHeap.{with_register, word_at, words_of}
-use Rattle.mk_never.specs.Typed.{IsSound, IsTyped, Suits, kind_in}
+use Rattle.mk_never.specs.NeverHeap.{allocation_at, global_at, moved_on, register_at, target_of, with_register, word_at}
+use Rattle.mk_never.specs.NeverHeap.{words_of}
 use Rattle.mk_never.specs.declared.types.Kind.TheVariants.{Num as NumKind, To}
 use Rattle.mk_never.specs.declared.values.Value.TheVariants.{Null, Num, Ptr}
-use Rattle.mk_never.specs.declared.values.Target.TheVariants.{Unmapped, WordOf}
+use Rattle.mk_never.specs.{Typed.IsSound, Typed.IsTyped, Typed.kind_in, declared.values.Target.TheVariants.WordOf}
 use Rattle.mk_check.proofs.DeclaredPlaces.{global_place, pointer_within, same_place, type_place}
 use Rattle.mk_check.proofs.TypedLines.{PointsBefore}
 use Rattle.mk_script.specs.declared.items.TypeWord.TheVariants.{Pointer}
@@ -46,18 +45,9 @@ pub set_register : (program script : List Item) (n : NeverState) (caller : ℕ) 
 set_register program script n caller name at v before is of_kind = λ other at' is'.
     let here : 8 * caller + number_of_name other (pointer_names script)
     ≡ 8 * caller + number_of_name name (pointer_names script)
-    → IsOfKind v (kind_at program at') =
-    λ e.
-    let same_places : number_of_name other (pointer_names script)
-    ≡ number_of_name name (pointer_names script) = omega arith in
-    let same : other ≡ name =
-    same_place other name (pointer_names script) (pointer_within other script at' is')
-    (pointer_within name script at is) same_places in
-    let places : at' ≡ at = same_Some at' at (sym is' ∙ (ap (λ (x : List ℕ). pointer_at x script) same ∙ is)) in
-    subst (λ (x : At). IsOfKind v (kind_at program x)) (sym places) of_kind in
-    set_by (λ x. IsOfKind x (kind_at program at')) n.registers (8 * caller + number_of_name name (pointer_names script))
-    (8 * caller + number_of_name other (pointer_names script)) v Null here
-    (before other at' is')
+    → IsOfKind v (kind_at program at') = grind (arith, same_place, pointer_within, same_Some, kind_at) in
+    set_by (λ x. IsOfKind x (kind_at program at')) _ (8 * caller + number_of_name name (pointer_names script)) (8 *
+    caller + number_of_name other (pointer_names script)) v Null here (before other at' is')
 
 -- What is i words on from a register.
 
@@ -73,29 +63,23 @@ word_in (Some all) i word e = record { all = all; is = refl; at = e }
 
 pub meets_weaker : (n : NeverState) (v : Value) (i : ℕ) (P Q : Kind → Type 0) → ((kind : Kind) → P kind → Q kind)
     → Meets n v i P → Meets n v i Q
-meets_weaker n Null i P Q weaker meets = tt
-meets_weaker n (Num m) i P Q weaker meets = tt
 meets_weaker n (Ptr number ty offset) i P Q weaker meets = (meets.0, weaker _ meets.1)
+meets_weaker n _ i _ _ weaker meets = tt
 
 -- a pointer to a place: the word i words on is inside its type
 meets_word : (program : List Item) (n : NeverState) (v : Value) (at : At) (i : ℕ) (word : TypeWord)
     → n.types ≡ types_of program → IsTyped (globals_of program) n → IsSound n v → IsOfKind v (kind_at program at)
     → word_among (type_words at.name program) (at.offset + i) ≡ Some word
     → Meets n v i (λ kind. kind ≡ kind_of (type_names program) word)
-meets_word program n Null at i word types typed sound of_kind is = tt
-meets_word program n (Num m) at i word types typed sound of_kind is = tt
 meets_word program n (Ptr number ty offset) at i word types typed sound of_kind is =
     let names = type_names program in
     let found = word_in (type_words at.name program) (at.offset + i) word is in
     let whole : kinds_of (types_of program) (number_of_name at.name names) ≡ map (kind_of names) found.all =
     (type_place names at.name program found.all found.is).1 in
     let ty_is : (allocation_at n number).ty ≡ number_of_name at.name names = sym sound.1 ∙ of_kind.0 in
-    let kinds : kinds_of n.types (allocation_at n number).ty ≡ map (kind_of names) found.all =
-    ap (λ (t : ℕ). kinds_of n.types t) ty_is
-    ∙ (ap (λ (t : List (List Kind)). kinds_of t (number_of_name at.name names)) types ∙ whole) in
+    let kinds : kinds_of n.types (allocation_at n number).ty ≡ map (kind_of names) found.all = grind arith in
     let within : at.offset + i < length found.all = slice_get_within found.all (at.offset + i) word found.at in
-    let size : length (words_of n number) ≡ length (map (kind_of names) found.all) =
-    (typed.allocations number sound.0).size ∙ ap (λ (k : List Kind). length k) kinds in
+    let size : length (words_of n number) ≡ length (map (kind_of names) found.all) = grind arith in
     let offset_is : offset + i ≡ at.offset + i = ap (λ (o : ℕ). o + i) of_kind.1 in
     let here : get_or (map (kind_of names) found.all) (at.offset + i) NumKind ≡ kind_of names word =
     get_or_from_slice_get (map (kind_of names) found.all) (at.offset + i) (kind_of names word) NumKind
@@ -105,6 +89,7 @@ meets_word program n (Ptr number ty offset) at i word types typed sound of_kind 
       ap (λ (k : List Kind). get_or k (offset + i) NumKind) kinds
           ∙ (ap (λ (o : ℕ). get_or (map (kind_of names) found.all) o NumKind) offset_is ∙ here),
     )
+meets_word program n _ at i word types typed sound of_kind is = tt
 
 pub meets_before : (program script : List Item) (n : NeverState) (caller : ℕ) → FitsScript program script n caller
     → (pointer : List ℕ) (i : ℕ) (word : TypeWord) → PointsBefore program script pointer i word
@@ -122,29 +107,15 @@ record IsTypedWord (n : NeverState) (number place : ℕ) (Q : Kind → Type 0) :
 
 is_typed_word : (n : NeverState) (v : Value) (i : ℕ) (Q : Kind → Type 0) (number place : ℕ) → Meets n v i Q
     → target_of n v i ≡ WordOf number place → IsTypedWord n number place Q
-is_typed_word n Null i Q number place meets e = cc
-is_typed_word n (Num m) i Q number place meets e = cc
-is_typed_word n (Ptr a ty offset) i Q number place meets e =
-    if_by (λ t. t ≡ WordOf number place → IsTypedWord n number place Q) (is_unmapped (allocation_at n a)) Unmapped
-    (WordOf a (offset + i))
-    (λ unmapped f. absurd (cc))
-    (λ mapped f.
-    let number_is : a ≡ number = cc in
-    let place_is : offset + i ≡ place = cc in
-    subst (λ (k : ℕ). IsTypedWord n k place Q) number_is (subst (λ (p : ℕ). IsTypedWord n a p Q) place_is
-    (record { there = exists n a (offset + i) meets.0; inside = meets.0; is = meets.1 }))) e
+is_typed_word n (Ptr a ty offset) i Q number place meets e = grind (arith, if_by, exists)
+is_typed_word n _ i _ number place meets e = cc
 
 -- a pointer word that is loaded points to where it is declared to
 pub loaded_word : (program : List Item) (n : NeverState) (v : Value) (i : ℕ) (at : At) (number place : ℕ)
     → IsTyped (globals_of program) n
     → Meets n v i (λ kind. kind ≡ kind_at program at) → target_of n v i ≡ WordOf number place
     → IsOfKind (word_at n number place) (kind_at program at)
-loaded_word program n v i at number place typed meets e =
-    let r = is_typed_word n v i (λ kind. kind ≡ kind_at program at) number place meets e in
-    let suits : Suits n (word_at n number place) (kind_at program at) =
-    subst (λ (k : Kind). Suits n (word_at n number place) k) r.is
-    ((typed.allocations number r.there).words place r.inside) in
-    suits.1
+loaded_word program n v i at number place typed meets e = grind (arith, is_typed_word, kind_at)
 
 -- a pointer that is moved on points to where its place is moved on to
 pub moved_word : (program : List Item) (v : Value) (i : ℕ) (at : At) → IsOfKind v (kind_at program at)

@@ -16,8 +16,7 @@ module _ (program : List Item) (i : ℕ) (item : Item) (within : i < length prog
   fault_from-next : (fault : Option TypeKind) → fault ≡ typing_fault (around reading) (i + 1) behind item
       → fault_from program (i + 1) (take i program) (drop i program)
       ≡ at_line (i + 1) fault (fault_from program (i + 1 + 1) (take (i + 1) program) (drop (i + 1) program))
-  fault_from-next fault is = rw (is, at, rest, drop_more program i item within, take_more program i item within, ← read)
-      refl
+  fault_from-next fault is = grind (arith, drop_more, take_more)
 
   -- the line is ill typed
   pub fault_from-some : (fault : Option TypeKind) (what : TypeKind)

@@ -1,10 +1,10 @@
 -- A script that is fed with one more answer.
 use Rattle.std.proofs.Common.{IsNone, IsTrue, ◌↔◌}
-use Rattle.mk_check.proofs.Vocabulary.{Answer, Blocks, Bool, Choice, Done, Fed, FeedStandsFor, FeedState, IsWaiting}
-use Rattle.mk_check.proofs.Vocabulary.{Item, Line, List, Op, Option, Rounds, Scope, Some, ℕ, ap, false}
-use Rattle.mk_check.proofs.Vocabulary.{fed_before_answers, feed, first_op, flagged, is_end_of_block, is_some, next_op}
-use Rattle.mk_check.proofs.Vocabulary.{note, op_of, refl, script_of, script_scope, take_answer, take_answers, true}
-use Rattle.mk_check.proofs.Vocabulary.{with_answer, [], ◌++◌, ◌∙◌, ◌∷◌, ◌≡◌}
+use Rattle.mk_check.proofs.Vocabulary.{Answer, Blocks, Bool, Fed, FeedStandsFor, FeedState, IsWaiting, Item, Line, List}
+use Rattle.mk_check.proofs.Vocabulary.{Op, Option, Scope, Some, ℕ, ap, false, fed_before_answers, feed, first_op}
+use Rattle.mk_check.proofs.Vocabulary.{flagged, is_end_of_block, is_some, next_op, note, op_of, refl, script_of}
+use Rattle.mk_check.proofs.Vocabulary.{script_scope, take_answer, take_answers, true, with_answer, [], ◌++◌, ◌∙◌, ◌∷◌}
+use Rattle.mk_check.proofs.Vocabulary.{◌≡◌}
 use Rattle.mk_check.{proofs.Numbered.ops-with_answer, proofs.Numbered.run_agrees, specs.Feed.has_ended}
 
 pub take_answers_push : (scope : Scope) (fed : Fed) (answers : List Answer) (a : Answer)
@@ -22,10 +22,8 @@ feed_push program k answers a =
 
 taken_at_end : (scope : Scope) (fed : Fed) (left : Blocks) (a : Answer) → is_end_of_block left ≡ true
     → take_answer scope fed left a ≡ fed
-taken_at_end scope fed Done a h = refl
 taken_at_end scope fed (Line line item rest) a h = cc
-taken_at_end scope fed (Rounds rounds body rest) a h = refl
-taken_at_end scope fed (Choice number first second rest) a h = refl
+taken_at_end scope fed _ a h = refl
 
 -- A script that has ended takes no answer.
 pub feed_push-ended : (program : List Item) (k : ℕ) (answers : List Answer) (a : Answer)
@@ -37,13 +35,11 @@ feed_push-ended program k answers a h =
 
 ops_taken : (scope : Scope) (fed : Fed) (left : Blocks) (a : Answer) (o : Op) → first_op scope fed left ≡ Some o
     → (take_answer scope fed left a).ops ≡ fed.ops ++ flagged o a ∷ []
-ops_taken scope fed Done a o h = cc
 ops_taken scope fed (Line line item rest) a o h =
     (run_agrees scope rest (with_answer scope (note fed (op_of scope fed item) line a) item a)).answers
     ∙ (ops-with_answer scope (note fed (op_of scope fed item) line a) item a
     ∙ ap (λ (p : Option Op). (note fed p line a).ops) h)
-ops_taken scope fed (Rounds rounds body rest) a o h = cc
-ops_taken scope fed (Choice number first second rest) a o h = cc
+ops_taken scope fed _ a o h = cc
 
 -- The operation that is answered is noted after those before it.
 pub ops-feed_push : (program : List Item) (k : ℕ) (answers : List Answer) (a : Answer) (o : Op)

@@ -1,9 +1,9 @@
 -- The blocks of a script of a text are few that stand in one another.
-use Rattle.mk_check.proofs.Vocabulary.{ArePassed, Blocks, Choice, Done, Item, Line, List, None, Part, Rounds, Scope}
-use Rattle.mk_check.proofs.Vocabulary.{Which, ℕ, ap, arith, before_next_script, blocks_from, branch, depth_of}
-use Rattle.mk_check.proofs.Vocabulary.{fold_push, is_whole, length, limit_fault, max, numbered, outermost_blocks}
-use Rattle.mk_check.proofs.Vocabulary.{parts_from, refl, script_from, script_of, subst, suc, with_line, zero, [], ◌++◌}
-use Rattle.mk_check.proofs.Vocabulary.{◌+◌, ◌-◌, ◌∷◌, ◌≡◌, ◌≤◌}
+use Rattle.mk_check.proofs.Vocabulary.{ArePassed, Blocks, Choice, Done, Item, Line, List, None, Part, Rounds, Scope, ℕ}
+use Rattle.mk_check.proofs.Vocabulary.{ap, arith, before_next_script, blocks_from, branch, depth_of, fold_push}
+use Rattle.mk_check.proofs.Vocabulary.{is_whole, length, limit_fault, max, numbered, outermost_blocks, parts_from, refl}
+use Rattle.mk_check.proofs.Vocabulary.{script_from, script_of, subst, suc, with_line, zero, [], ◌++◌, ◌+◌, ◌-◌, ◌∷◌}
+use Rattle.mk_check.proofs.Vocabulary.{◌≡◌, ◌≤◌}
 use Rattle.mk_check.proofs.GrammarLemmas.{at_most-None}
 use Rattle.mk_check.specs.Blocks.{with_else, with_if, with_repeat}
 use Rattle.mk_script.specs.Scopes.{behind_else, behind_end, open_behind, open_blocks}
@@ -42,26 +42,13 @@ line_fits around line item (part ∷ parts) h = h
 
 repeat_fits : (around rounds : ℕ) (parts : List Part) → PartsFit (around + 1) parts
     → PartsFit around (with_repeat rounds parts)
-repeat_fits around rounds [] h = tt
-repeat_fits around rounds (body ∷ []) h = tt
-repeat_fits around rounds (body ∷ part ∷ parts) h =
-    let inside = h.0.0 in
-    let outer : PartsFit around (part ∷ parts) =
-    subst (λ (n : ℕ). PartsFit n (part ∷ parts)) (omega arith) h.1 in
-    let rest = outer.0.0 in
-    ((omega arith, outer.0.1), outer.1)
+repeat_fits around rounds (body ∷ part ∷ parts) h = grind arith
+repeat_fits around rounds _ h = tt
 
 if_fits : (around : ℕ) (number : List ℕ) (parts : List Part) → PartsFit (around + 1) parts
     → PartsFit around (with_if number parts)
-if_fits around number [] h = tt
-if_fits around number (first ∷ []) h = tt
-if_fits around number (first ∷ part ∷ parts) h =
-    let inside = h.0.0 in
-    let other = h.0.1 in
-    let outer : PartsFit around (part ∷ parts) =
-    subst (λ (n : ℕ). PartsFit n (part ∷ parts)) (omega arith) h.1 in
-    let rest = outer.0.0 in
-    ((omega arith, outer.0.1), outer.1)
+if_fits around number (first ∷ part ∷ parts) h = grind arith
+if_fits around number _ h = tt
 
 else_fits : (around : ℕ) (parts : List Part) → around ≤ 32 → PartsFit around parts → PartsFit around (with_else parts)
 else_fits around [] few h = tt
@@ -87,10 +74,8 @@ length-behind_end (block ∷ blocks) = omega arith
 few_open : (before : List Item) (item : Item) → limit_fault before item ≡ None → opened before ≤ 32
     → opened (before ++ item ∷ []) ≤ 32
 few_open before (Script name) limit h = omega (arith, opened_push before (Script name))
-few_open before (Repeat rounds) limit h =
-    omega (arith, opened_push before (Repeat rounds), at_most-None (opened before + 1) 32 Which.Depth limit)
-few_open before (If number) limit h =
-    omega (arith, opened_push before (If number), at_most-None (opened before + 1) 32 Which.Depth limit)
+few_open before (Repeat rounds) limit h = grind (arith, opened_push, at_most-None, opened)
+few_open before (If number) limit h = grind (arith, opened_push, at_most-None, opened)
 few_open before Else limit h = omega (arith, opened_push before Else, length-behind_else (open_blocks before))
 few_open before End limit h = omega (arith, opened_push before End, length-behind_end (open_blocks before))
 few_open before item limit h = omega (arith, opened_push before item)
@@ -109,28 +94,11 @@ module _ (before more : List Item) (line : ℕ) where
   parts_before : (item : Item) → opened before ≤ 32 → Behind item
       → PartsFit (opened before) (parts_from line (before_next_script (item ∷ more)))
   parts_before (Script name) few h = ((omega arith, omega arith), tt)
-  parts_before (Repeat rounds) few h =
-      repeat_fits (opened before) rounds (parts_from (line + 1) (before_next_script more))
-      (around_it (Repeat rounds) (opened before + 1) (omega (arith, opened_push before (Repeat rounds))) h)
-  parts_before (If number) few h =
-      if_fits (opened before) number (parts_from (line + 1) (before_next_script more))
-      (around_it (If number) (opened before + 1) (omega (arith, opened_push before (If number))) h)
-  parts_before Else few h =
-      else_fits (opened before) (parts_from (line + 1) (before_next_script more)) few
-      (around_it Else (opened before) (omega (
-        arith,
-        opened_push before Else,
-        length-behind_else
-            (open_blocks before),
-      )) h)
-  parts_before End few h = (
-    (omega arith, omega arith),
-    around_it End (opened before - 1) (omega (arith, opened_push before End, length-behind_end (open_blocks before)))
-        h,
-  )
-  parts_before item few h =
-      line_fits (opened before) line item (parts_from (line + 1) (before_next_script more))
-      (around_it item (opened before) (omega (arith, opened_push before item)) h)
+  parts_before (Repeat rounds) few h = grind (arith, repeat_fits, opened, around_it, opened_push)
+  parts_before (If number) few h = grind (arith, if_fits, opened, around_it, opened_push)
+  parts_before Else few h = grind (arith, else_fits, opened, around_it, opened_push, length-behind_else)
+  parts_before End few h = grind (arith, around_it, opened, opened_push, length-behind_end)
+  parts_before item few h = grind (arith, line_fits, opened, around_it, opened_push)
 
 parts_fit : (before more : List Item) (line : ℕ) → ArePassed before more → opened before ≤ 32
     → PartsFit (opened before) (parts_from line (before_next_script more))

@@ -1,16 +1,15 @@
 -- A program of a text declares few registers in a script, and few globals.
-use Rattle.mk_check.proofs.Vocabulary.{ArePassed, Bool, HasFew, Item, List, None, Which, ℕ, ap, append_assoc, arith}
+use Rattle.mk_check.proofs.Vocabulary.{ArePassed, HasFew, Item, List, None, Which, ℕ, ap, append_assoc, arith}
 use Rattle.mk_check.proofs.Vocabulary.{before_next_script, false, fold_push, global_names, if◌then◌else◌, is_script}
 use Rattle.mk_check.proofs.Vocabulary.{is_whole, length, limit_fault, number_names, pointer_names, refl, script_from}
-use Rattle.mk_check.proofs.Vocabulary.{script_scope, suc, this_script, true, zero, [], ◌++◌, ◌+◌, ◌∙◌, ◌∷◌, ◌≡◌, ◌≤◌}
+use Rattle.mk_check.proofs.Vocabulary.{script_scope, suc, this_script, zero, [], ◌++◌, ◌+◌, ◌∷◌, ◌≡◌, ◌≤◌}
 use Rattle.mk_check.proofs.GrammarLemmas.{at_most-None}
 use Rattle.mk_script.specs.declared.items.Item.TheVariants.{Global, Num, Ptr, Script}
 use Rattle.mk_script.specs.Grammar.{IsOfSomeText}
 
 this_script_push : (before : List Item) (item : Item)
     → this_script (before ++ item ∷ []) ≡ (if is_script item then [] else this_script before ++ item ∷ [])
-this_script_push before item = fold_push (λ (lines : List Item) (x : Item). if is_script x then []
-    else lines ++ x ∷ []) [] before item
+this_script_push before item = grind (arith, fold_push)
 
 -- Registers of one kind that lines of a script declare, of which there may be this many.
 record AreLimited (declared : List Item → ℕ) (greatest : ℕ) : Type 0 where
@@ -24,21 +23,12 @@ module _ (declared : List Item → ℕ) (greatest : ℕ) (l : AreLimited declare
   -- after a line, the script declares no more than may be
   still_few : (before : List Item) (item : Item) → limit_fault before item ≡ None
       → declared (this_script before) ≤ greatest → declared (this_script (before ++ item ∷ [])) ≤ greatest
-  still_few before item limit h = by_script (is_script item) (this_script_push before item)
-    where
-      by_script : (b : Bool)
-          → this_script (before ++ item ∷ []) ≡ (if b then [] else this_script before ++ item ∷ [])
-          → declared (this_script (before ++ item ∷ [])) ≤ greatest
-      by_script true e = omega (arith, ap declared e, l.none)
-      by_script false e = omega (arith, ap declared e, l.push (this_script before) item, l.fits before item limit h)
+  still_few before item limit h = grind (arith, this_script_push)
 
   -- after a line that is no script, it declares what it did and what that does
   declares_more : (before : List Item) (item : Item) → is_script item ≡ false
       → declared (this_script (before ++ item ∷ [])) ≡ declared (this_script before) + declared (item ∷ [])
-  declares_more before item e =
-      ap declared (this_script_push before item
-      ∙ ap (λ (b : Bool). if b then [] else this_script before ++ item ∷ []) e)
-      ∙ l.push (this_script before) item
+  declares_more before item e = grind (arith, this_script_push)
 
   rest_is_few : (before more : List Item) → ArePassed before more → declared (this_script before) ≤ greatest
       → declared (this_script before) + declared (before_next_script more) ≤ greatest
@@ -55,11 +45,7 @@ module _ (declared : List Item → ℕ) (greatest : ℕ) (l : AreLimited declare
   script_is_few : (before more : List Item) (line k : ℕ) → ArePassed before more
       → declared (this_script before) ≤ greatest → declared (script_from line k more).items ≤ greatest
   script_is_few before [] line k passed h = omega (arith, l.none)
-  script_is_few before (Script name ∷ more) line zero passed h =
-      omega (
-        arith,
-        rest_is_few (before ++ Script name ∷ []) more passed.1 (still_few before (Script name) passed.0.within h),
-      )
+  script_is_few before (Script name ∷ more) line zero passed h = grind (arith, rest_is_few, still_few)
   script_is_few before (Script name ∷ more) line (suc k) passed h =
       script_is_few (before ++ Script name ∷ []) more (line + 1) k passed.1
       (still_few before (Script name) passed.0.within h)

@@ -1,21 +1,20 @@
 -- A type has a word.
-use Rattle.std.proofs.Common.{leb-true, nat_le, option_and_then}
-use Rattle.std.specs.{List.list_all, Result.result_ok}
+use Rattle.std.{proofs.Common.leb-true, proofs.Common.nat_le, proofs.Common.option_and_then, specs.List.list_all}
 use Rattle.mk_check.proofs.Vocabulary.{At, Bool, Err, Item, List, None, Ok, Option, Result, Some, TypeWord, ℕ, ap}
 use Rattle.mk_check.proofs.Vocabulary.{arith, false, false≢true, if◌then◌else◌, is_some, length, length-append}
-use Rattle.mk_check.proofs.Vocabulary.{length-replicate, option_map, refl, replicate, subst, suc, sym, true, unwrap_or}
-use Rattle.mk_check.proofs.Vocabulary.{[], ◌&&◌, ◌==◌, ◌∙◌, ◌∷◌, ◌≡◌, ◌≤◌}
+use Rattle.mk_check.proofs.Vocabulary.{length-replicate, option_map, refl, replicate, suc, sym, true, unwrap_or, []}
+use Rattle.mk_check.proofs.Vocabulary.{◌&&◌, ◌∙◌, ◌∷◌, ◌≡◌, ◌≤◌}
 use Rattle.mk_check.proofs.GrammarLemmas.{Err≢Ok, and-true, heap_line-item}
+use Rattle.mk_script.specs.Keywords.{has_word_count, keyword_of}
 use Rattle.mk_script.specs.Lines.{is_placed, line_item, other_line, placed_item}
-use Rattle.mk_script.specs.Names.{number_of_word}
 use Rattle.mk_script.specs.Operands.{at, field_of, fields_of, have_form, item_from, name, number, number_field, numbers}
 use Rattle.mk_script.specs.Operands.{pointer_field, ◌>>=◌}
+use Rattle.mk_script.specs.declared.faults.LineFault.{LineFault}
 use Rattle.mk_script.specs.declared.items.TypeWord.TheVariants.{Number, Pointer}
 use Rattle.mk_script.specs.declared.keywords.Keyword.TheVariants.{Add, Casp, Clear, Const, Else, End, Free, Getn, Getp}
 use Rattle.mk_script.specs.declared.keywords.Keyword.TheVariants.{Global, Heap, If, Isnull, Lea, Loadg, Move, New, Num}
 use Rattle.mk_script.specs.declared.keywords.Keyword.TheVariants.{Print, Ptr, Repeat, Same, Script, Setn, Setp, Show}
 use Rattle.mk_script.specs.declared.keywords.Keyword.TheVariants.{Storeg, Sub, TypeLine}
-use Rattle.mk_script.specs.{Keywords.has_word_count, Keywords.keyword_of, declared.faults.LineFault.LineFault}
 use Rattle.mk_script.specs.{declared.faults.LineFault.TheVariants.Text, declared.faults.TextKind.TextKind}
 use Rattle.mk_script.specs.{declared.items.Item.TheVariants.TypeLine as TypeItem, declared.keywords.Keyword.Keyword}
 
@@ -43,8 +42,7 @@ counted-HasWord (Some count) = replicate-HasWord count (nat_le 1 count) refl
 
 number_field-HasWord : (bytes : List ℕ) → HasWord (number_field bytes)
 number_field-HasWord [] = λ some. omega arith
-number_field-HasWord (star ∷ digits) = if-HasWord (star == 42) (option_and_then numbers (number_of_word digits)) None
-    (counted-HasWord (number_of_word digits)) none-HasWord
+number_field-HasWord (star ∷ digits) = grind (arith, if-HasWord, counted-HasWord, none-HasWord)
 
 pointer-HasWord : (place : Option At) → HasWord (option_map (λ a. Pointer a ∷ []) place)
 pointer-HasWord None some = absurd (false≢true some)
@@ -52,16 +50,11 @@ pointer-HasWord (Some place) some = omega arith
 
 pointer_field-HasWord : (bytes : List ℕ) → HasWord (pointer_field bytes)
 pointer_field-HasWord [] = none-HasWord
-pointer_field-HasWord (colon ∷ place) =
-    if-HasWord (colon == 58) (option_map (λ a. Pointer a ∷ []) (result_ok (at place))) None
-    (pointer-HasWord (result_ok (at place))) none-HasWord
+pointer_field-HasWord (colon ∷ place) = grind (arith, if-HasWord, pointer-HasWord, none-HasWord)
 
 field-HasWord : (field : List ℕ) → HasWord (field_of field)
 field-HasWord [] = none-HasWord
-field-HasWord (letter ∷ rest) =
-    if-HasWord (letter == 110) (number_field rest) (if letter == 112 then pointer_field rest else None)
-    (number_field-HasWord rest)
-    (if-HasWord (letter == 112) (pointer_field rest) None (pointer_field-HasWord rest) none-HasWord)
+field-HasWord (letter ∷ rest) = grind (arith, if-HasWord, number_field-HasWord, pointer_field-HasWord, none-HasWord)
 
 fields-word : (fields : List (List ℕ)) → nat_le 2 (suc (length fields)) ≡ true
     → list_all (λ field. is_some (field_of field)) fields ≡ true → 1 ≤ length (fields_of fields)
@@ -105,8 +98,7 @@ other_form Setn (a ∷ b ∷ c ∷ []) other = bind (name a) _ (λ x. bind (numb
 other_form Getp (a ∷ b ∷ c ∷ []) other = bind (name a) _ (λ x. bind (name b) _ (λ y. bind (number c) _ (λ z. refl)))
 other_form Setp (a ∷ b ∷ c ∷ []) other = bind (name a) _ (λ x. bind (number b) _ (λ y. bind (name c) _ (λ z. refl)))
 other_form Casp (a ∷ b ∷ c ∷ d ∷ e ∷ []) other =
-    bind (name a) _ (λ x. bind (name b) _
-    (λ y. bind (number c) _ (λ z. bind (name d) _ (λ v. bind (name e) _ (λ w. refl)))))
+    bind _ _ (λ x. bind (name b) _ (λ y. bind (number c) _ (λ z. bind (name d) _ (λ v. bind (name e) _ (λ w. refl)))))
 other_form Lea (a ∷ b ∷ c ∷ []) other = bind (name a) _ (λ x. bind (name b) _ (λ y. bind (number c) _ (λ z. refl)))
 other_form Move (a ∷ b ∷ []) other = bind (name a) _ (λ x. bind (name b) _ (λ y. refl))
 other_form Clear (a ∷ []) other = bind (name a) _ (λ x. refl)
@@ -140,8 +132,7 @@ form-word : (form : Keyword) (operands : List (List ℕ)) (t : List ℕ) (words 
     → item_from form operands ≡ Ok (TypeItem t words) → 1 ≤ length words
 unfolding item_from
 form-word TypeLine [] t words two forms h = absurd (Err≢Ok (Text TextKind.Word) (TypeItem t words) h)
-form-word TypeLine (first ∷ fields) t words two forms h =
-    subst (λ ws. 1 ≤ length ws) (type_from (name first) fields t words h) (fields-word fields two forms)
+form-word TypeLine (first ∷ fields) t words two forms h = grind (arith, type_from, fields-word)
 form-word form operands t words two forms h = absurd (false≢true (sym (other_form form operands refl) ∙ ap is_type h))
 
 if-Ok-both : {T E : Type 0} (b : Bool) (r : Result T E) (e : E) (x : T) → (if b then r else Err e) ≡ Ok x

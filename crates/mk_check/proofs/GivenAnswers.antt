@@ -1,15 +1,14 @@
 -- What a script was given after a history, with one event more.
+use Rattle.std.proofs.Common.{eq-eqb, get_or-set_other, get_or-set_same, length-set, length-take, ltb-true, set, ◌≢◌}
 use Rattle.std.proofs.lemmas.List.Sums.{count_by-le-length, sum_by-cons, sum_by_push}
-use Rattle.std.proofs.lemmas.Option.{slice_get-get_or, slice_get_past}
-use Rattle.std.proofs.{Common.eq-eqb, Common.filter, Common.get_or-set_other, Common.get_or-set_same, Common.length-set}
-use Rattle.std.proofs.{Common.length-take, Common.ltb-true, Common.set, Common.◌≢◌, lemmas.Bool.cases_eq}
-use Rattle.std.proofs.{lemmas.Bool.Decides.nat_tests, lemmas.List.take-append-le, lemmas.List.Elements.filter-append}
+use Rattle.std.proofs.{lemmas.Bool.cases_eq, lemmas.Bool.Decides.nat_tests, lemmas.List.take-append-le}
+use Rattle.std.proofs.{lemmas.List.Elements.filter-append, lemmas.Option.slice_get-get_or, lemmas.Option.slice_get_past}
 use Rattle.std.specs.List.{cons_option, slice_get}
 use Rattle.mk_check.proofs.Vocabulary.{Answer, Bool, Config, List, None, Op, Option, Some, ℕ, ap, append-nil}
 use Rattle.mk_check.proofs.Vocabulary.{append_assoc, arith, false, get_or, if◌then◌else◌, inl, inr, length}
-use Rattle.mk_check.proofs.Vocabulary.{length-append, length-replicate, map, map-append, option_or, refl, replicate}
-use Rattle.mk_check.proofs.Vocabulary.{subst, suc, sym, take, take_more, true, zero, [], ◌&&◌, ◌++◌, ◌+◌, ◌<◌, ◌==◌}
-use Rattle.mk_check.proofs.Vocabulary.{◌∙◌, ◌∷◌, ◌≡◌, ◌≤◌}
+use Rattle.mk_check.proofs.Vocabulary.{length-append, length-replicate, map-append, option_or, refl, replicate, subst}
+use Rattle.mk_check.proofs.Vocabulary.{suc, sym, take, take_more, true, zero, [], ◌&&◌, ◌++◌, ◌+◌, ◌<◌, ◌==◌, ◌∙◌, ◌∷◌}
+use Rattle.mk_check.proofs.Vocabulary.{◌≡◌, ◌≤◌}
 use Rattle.mk_core.proofs.Histories.{calls_more, enabled_parts, last_enabled}
 use Rattle.mk_core.proofs.Conditions.{enabled_meets}
 use Rattle.mk_core.specs.Decided.{Decided, entry_of}
@@ -49,11 +48,7 @@ pub record ServesMore (callers : ℕ) (new : List Flight) (k n : ℕ) (answers :
 -- the answers of a caller's among the calls
 
 among_more : (k : ℕ) (xs ys : List Decided) → answers_among k (xs ++ ys) ≡ answers_among k xs ++ answers_among k ys
-among_more k xs ys =
-    ap (λ (zs : List Decided). map (λ (x : Decided). x.answer) zs)
-    (filter-append (λ (x : Decided). x.caller == k) xs ys)
-    ∙ map-append (λ (x : Decided). x.answer) (filter (λ (x : Decided). x.caller == k) xs)
-    (filter (λ (x : Decided). x.caller == k) ys)
+among_more k xs ys = grind (arith, filter-append, map-append)
 
 same_number : (j : ℕ) → (j == j) ≡ true
 same_number j = eq-eqb j j refl
@@ -73,8 +68,7 @@ among_others k j o None ne = refl
 last_rests : (c : Config) (m : Moment) (f : Flight) (found : ℕ) (x : Step) → ends_call x ≡ true
     → progress c m f found x ≡ record { flight = at_rest; answer = None }
 last_rests c m f found Step.Leave h = refl
-last_rests c m f found Step.Give h = refl
-last_rests c m f found _ h = cc
+last_rests c m f found x4 h = cc
 
 few_pending : (s : Stage) → pending s ≤ 1
 few_pending Stage.Put = omega arith
@@ -91,11 +85,7 @@ serves_at : (callers : ℕ) (flights : List Flight) (k n : ℕ) (answers : List 
     → get_or flights k at_rest ≡ f
     → length flights ≡ callers → has_stage f.op f.stage ≡ true → length answers ≡ n + pending f.stage
     → Serves callers flights k n answers
-serves_at callers flights k n answers f is long stage answered = record {
-  long = long;
-  stage = subst (λ (g : Flight). has_stage g.op g.stage ≡ true) (sym is) stage;
-  decided = subst (λ (g : Flight). length answers ≡ n + pending g.stage) (sym is) answered;
-}
+serves_at callers flights k n answers f is long stage answered = grind (arith, has_stage, pending)
 
 -- a step of caller k's that isn't its call's last one
 goes_more : (callers : ℕ) (flights : List Flight) (k n : ℕ) (answers : List Answer) (p : Progress) → k < callers
@@ -129,8 +119,7 @@ ends_more callers flights k n answers p lt h one is =
     let none : p.answer ≡ None = ap (λ (x : Progress). x.answer) is in
     let rests : get_or (set flights k p.flight) k at_rest ≡ at_rest =
     get_or-set_same flights k p.flight at_rest (omega arith) ∙ ap (λ (x : Progress). x.flight) is in
-    let more : answers ++ as_list p.answer ≡ answers = ap (λ (x : Option Answer). answers ++ as_list x) none
-    ∙ append-nil answers in
+    let more : answers ++ as_list p.answer ≡ answers = grind (arith, as_list, append-nil) in
     record {
       serves =
           serves_at callers (set flights k p.flight) k (n + 1) (answers ++ as_list p.answer) at_rest rests
@@ -194,23 +183,14 @@ serves_more c m k n answers (Caller j) x enabled h =
     ]
 serves_more c m k n answers (Marker j) x enabled h =
     others_more c.callers m.seats.flights m.seats.flights k n answers None (ends_call x) refl refl h
-serves_more c m k n answers Host x enabled h = others_more c.callers m.seats.flights m.seats.flights k n answers None
-    (ends_call x) refl refl h
+serves_more c m k n answers Host x enabled h = others_more _ _ _ k n answers None _ refl refl h
 
 -- the answers that an event adds
 event_among : (c : Config) (m : Moment) (k : ℕ) (seat : Seat) (x : Step)
     → answers_among k (call_decided c m (record { seat = seat; step = x }))
     ≡ (if is_same_seat (Caller k) seat then as_list (answer_decided c m (record { seat = seat; step = x })) else [])
-event_among c m k (Caller j) x =
-    let a = answer_decided c m (record { seat = Caller j; step = x }) in
-    let o = (flight_of m (Caller j)).op in
-    elim (cases_eq k j) [
-      | inl same ↦ rw (subst (λ (i : ℕ). (k == i) ≡ true) same (same_number k))
-          (subst (λ (i : ℕ). answers_among k (entry_of i o a) ≡ as_list a) same (among_mine k o a))
-      | inr ne ↦ rw (other_number k j ne) (among_others k j o a (λ e. ne (sym e)))
-    ]
-event_among c m k (Marker j) x = refl
-event_among c m k Host x = refl
+event_among c m k (Caller j) x = grind (arith, same_number, as_list, among_mine, other_number, among_others)
+event_among c m k _ x = refl
 
 counts_more : (n : ℕ) (b : Bool) → n + (if b then 1 else 0) ≡ counted n b
 counts_more n true = refl
@@ -221,9 +201,7 @@ serves_from : (c : Config) (w : World) (k n : ℕ) (answers : List Answer) (es :
     → Serves c.callers (left_from c w es).now.seats.flights k (n + ended_calls k es)
     (answers ++ answers_among k (calls_from c w es))
 unfolding left_from AreEnabledFrom calls_from
-serves_from c w k n answers [] en h =
-    subst (λ (xs : List Answer). Serves c.callers w.now.seats.flights k (n + 0) xs) (sym (append-nil answers))
-    (subst (λ (i : ℕ). Serves c.callers w.now.seats.flights k i answers) (omega arith) h)
+serves_from c w k n answers [] en h = grind (arith, append-nil)
 serves_from c w k n answers (e ∷ es) en h =
     let next = world_behind c w e in
     let step = (serves_more c w.now k n answers e.seat e.step en.0 h).serves in
@@ -234,10 +212,7 @@ serves_from c w k n answers (e ∷ es) en h =
     ap (λ (i : ℕ). i + ended_calls k es) (sym (counts_more n (ends_call_of k e)))
     ∙ (let cons = sum_by-cons (λ (x : Event). if ends_call_of k x then 1 else 0) e es in omega arith) in
     let all : (answers ++ more) ++ rest ≡ answers ++ answers_among k (call_decided c w.now e ++ calls_from c next es) =
-    append_assoc answers more rest
-    ∙ ap (λ (xs : List Answer). answers ++ xs)
-    (ap (λ (xs : List Answer). xs ++ rest) (sym (event_among c w.now k e.seat e.step))
-    ∙ sym (among_more k (call_decided c w.now e) (calls_from c next es))) in
+    grind (arith, append_assoc, event_among, among_more) in
     subst (λ (xs : List Answer). Serves c.callers (left_from c next es).now.seats.flights k (n + ended_calls k (e ∷ es))
     xs) all
     (subst (λ (i : ℕ). Serves c.callers (left_from c next es).now.seats.flights k i ((answers ++ more) ++ rest)) ended
@@ -284,33 +259,26 @@ waiting_case : (answers : List Answer) (n : ℕ) (a : Option Answer) (mine last 
     → ((b : Answer) → mine ≡ true → a ≡ Some b → length answers ≡ n)
     → slice_get (answers ++ (if mine then as_list a else [])) (counted n (mine && last))
     ≡ waiting_by mine last a (slice_get answers n)
-waiting_case answers n a true true l o =
-    rw ((l refl).0, append-nil answers) (slice_get_past answers (n + 1) (let e = (l refl).1 in omega arith))
+waiting_case answers n a true true l o = grind (arith, append-nil, slice_get_past)
 waiting_case answers n (Some b) true false l o = last_of answers n b (o b refl refl)
-waiting_case answers n None true false l o = ap (λ (xs : List Answer). slice_get xs n) (append-nil answers)
-waiting_case answers n a false last l o = ap (λ (xs : List Answer). slice_get xs n) (append-nil answers)
+waiting_case answers n _ _ _ l o = ap (λ (xs : List Answer). slice_get xs n) (append-nil answers)
 
 -- the answers and the count of the ended calls, with one event more
 more_answers : (c : Config) (es : List Event) (e : Event) (k : ℕ)
     → answers_among k (calls c (es ++ e ∷ []))
     ≡ answers_among k (calls c es)
     ++ (if is_same_seat (Caller k) e.seat then as_list (answer_decided c (left c es).now e) else [])
-more_answers c es e k =
-    ap (answers_among k) (calls_more c (first_world c) es e)
-    ∙ (among_more k (calls c es) (call_decided c (left c es).now e)
-    ∙ ap (λ (xs : List Answer). answers_among k (calls c es) ++ xs) (event_among c (left c es).now k e.seat e.step))
+more_answers c es e k = grind (arith, calls_more, among_more, event_among)
 
 more_ended : (es : List Event) (e : Event) (k : ℕ)
     → ended_calls k (es ++ e ∷ []) ≡ counted (ended_calls k es) (ends_call_of k e)
-more_ended es e k = sum_by_push (λ (x : Event). if ends_call_of k x then 1 else 0) es e
-    ∙ counts_more (ended_calls k es) (ends_call_of k e)
+more_ended es e k = grind (arith, sum_by_push, counts_more)
 
 step_of : (c : Config) (es : List Event) (e : Event) (k : ℕ) → AreEnabled c (es ++ e ∷ [])
     → Behind c (left c es).now e.seat e.step k (ended_calls k es) (answers_among k (calls c es))
 step_of c es e k h =
     let parts = enabled_parts c (first_world c) es (e ∷ []) h in
-    serves_more c (left c es).now k (ended_calls k es) (answers_among k (calls c es)) e.seat e.step
-    (last_enabled c (first_world c) es e h) (serves c es k parts.0)
+    serves_more c (left c es).now k _ _ _ _ (last_enabled c _ es e h) (serves c es k parts.0)
 
 pub given_more : (c : Config) (es : List Event) (e : Event) (k : ℕ) → AreEnabled c (es ++ e ∷ [])
     → answers_given c (es ++ e ∷ []) k

@@ -1,17 +1,17 @@
 -- Limits that the lines of a program of some text keep.
-use Rattle.std.proofs.Common.{codes, is_ok, leb-true, min, nat_le, ◌^◌}
+use Rattle.std.proofs.Common.{is_ok, leb-true}
 use Rattle.mk_check.proofs.Vocabulary.{ArePassed, Bool, Err, Item, List, None, Ok, Option, Result, Some, Which, ℕ, ap}
-use Rattle.mk_check.proofs.Vocabulary.{append-nil, append_assoc, arith, bytes_eq, false, false≢true, global_names}
-use Rattle.mk_check.proofs.Vocabulary.{if◌then◌else◌, is_some, length, length-append, limit_fault, option_or, pages_of}
-use Rattle.mk_check.proofs.Vocabulary.{refl, resident_of, script_names, subst, sym, true, type_names, [], ◌&&◌, ◌++◌}
-use Rattle.mk_check.proofs.Vocabulary.{◌+◌, ◌-◌, ◌∙◌, ◌∷◌, ◌≡◌, ◌≤◌}
+use Rattle.mk_check.proofs.Vocabulary.{append-nil, append_assoc, arith, false, false≢true, global_names, if◌then◌else◌}
+use Rattle.mk_check.proofs.Vocabulary.{is_some, length, length-append, limit_fault, option_or, pages_of, refl}
+use Rattle.mk_check.proofs.Vocabulary.{resident_of, script_names, subst, sym, true, type_names, [], ◌&&◌, ◌++◌, ◌+◌}
+use Rattle.mk_check.proofs.Vocabulary.{◌-◌, ◌∷◌, ◌≡◌, ◌≤◌}
 use Rattle.mk_core.specs.Config.{IsBetween}
 use Rattle.mk_check.proofs.NumberLemmas.{length-global_names-append, type_names-append}
 use Rattle.mk_script.proofs.PassedLines.{IsWhole}
 use Rattle.mk_script.specs.Lines.{at_most, has_script, heap_line, within}
-use Rattle.mk_script.specs.declared.faults.LineFault.TheVariants.{Limit, Text}
+use Rattle.mk_script.specs.Operands.{item_from, number, ◌>>=◌}
 use Rattle.mk_script.specs.declared.items.Item.TheVariants.{Global, Heap, Script, TypeLine}
-use Rattle.mk_script.specs.{Operands.item_from, Operands.number, Operands.◌>>=◌, declared.faults.LineFault.LineFault}
+use Rattle.mk_script.specs.{declared.faults.LineFault.LineFault, declared.faults.LineFault.TheVariants.Text}
 use Rattle.mk_script.specs.{declared.faults.TextKind.TheVariants.Header, declared.keywords.Keyword.Keyword}
 
 pub Err≢Ok : {T E : Type 0} (e : E) (x : T) → Err e ≡ Ok x → ⊥
@@ -53,8 +53,7 @@ bound count most keeps before (item ∷ rest) lines h =
     (bound count most keeps (before ++ item ∷ []) rest lines.1 (keeps before item lines.0.within h))
 
 pub at_most-None : (found greatest : ℕ) (which' : Which) → at_most found greatest which' ≡ None → found ≤ greatest
-at_most-None found greatest which' h =
-    leb-true found greatest (if-None (nat_le found greatest) (Limit which' (min found (2 ^ 64 - 1))) h)
+at_most-None found greatest which' h = grind (arith, leb-true, if-None)
 
 pub option_or-None : (fault other : Option LineFault) → option_or fault other ≡ None → (fault ≡ None) × (other ≡ None)
 option_or-None None other h = (refl, h)
@@ -62,12 +61,7 @@ option_or-None (Some fault) other h = absurd (Some≢None fault h)
 
 globals-keep : (before : List Item) (item : Item) → limit_fault before item ≡ None → length (global_names before) ≤ 64
     → length (global_names (before ++ item ∷ [])) ≤ 64
-globals-keep before (Global name ty) within h =
-    omega (
-      arith,
-      length-global_names-append before (Global name ty ∷ []),
-      at_most-None (length (global_names before) + 1) 64 Which.Globals within,
-    )
+globals-keep before (Global name ty) within h = grind (arith, length-global_names-append, at_most-None)
 globals-keep before item within h = omega (arith, length-global_names-append before (item ∷ []))
 
 pub length-global_names : (items : List Item) → IsWhole items → length (global_names items) ≤ 64
@@ -101,12 +95,7 @@ length-script_names-append (item ∷ items) behind = length-script_names-append 
 
 scripts-keep : (before : List Item) (item : Item) → limit_fault before item ≡ None → length (script_names before) ≤ 16
     → length (script_names (before ++ item ∷ [])) ≤ 16
-scripts-keep before (Script name) within h =
-    omega (
-      arith,
-      length-script_names-append before (Script name ∷ []),
-      at_most-None (length (script_names before) + 1) 16 Which.Scripts within,
-    )
+scripts-keep before (Script name) within h = grind (arith, length-script_names-append, at_most-None)
 scripts-keep before item within h = omega (arith, length-script_names-append before (item ∷ []))
 
 some_script : (items : List Item) → has_script items ≡ true → 1 ≤ length (script_names items)
@@ -125,10 +114,7 @@ length-script_names items program = (
 
 within-None : (least found greatest : ℕ) (which' : Which) → within least found greatest which' ≡ None
     → IsBetween least greatest found
-within-None least found greatest which' h =
-    let both = and-true (nat_le least found) (nat_le found greatest)
-    (if-None (nat_le least found && nat_le found greatest) (Limit which' found) h) in
-    (leb-true least found both.0, leb-true found greatest both.1)
+within-None least found greatest which' h = grind (arith, and-true, if-None, leb-true)
 
 pub record IsHeapLine (item : Item) : Type 0 where
   pub pages : ℕ
@@ -138,17 +124,14 @@ pub record IsHeapLine (item : Item) : Type 0 where
 two_numbers : (pages resident : Result ℕ LineFault) (item : Item)
     → (pages >>= (λ p. resident >>= (λ r. Ok (Heap p r)))) ≡ Ok item → IsHeapLine item
 two_numbers (Ok p) (Ok r) item h = record { pages = p; resident = r; is = sym (Ok-injective (Heap p r) item h) }
-two_numbers (Ok p) (Err fault) item h = absurd (Err≢Ok fault item h)
-two_numbers (Err fault) resident item h = absurd (Err≢Ok fault item h)
+two_numbers x0 resident item h = cc
 
 item_from-heap : (a b : List ℕ) (item : Item) → item_from Keyword.Heap (a ∷ b ∷ []) ≡ Ok item → IsHeapLine item
 unfolding item_from
 item_from-heap a b item h = two_numbers (number a) (number b) item h
 
 pub heap_line-item : (words : List (List ℕ)) (item : Item) → heap_line words ≡ Ok item → IsHeapLine item
-heap_line-item (word ∷ a ∷ b ∷ []) item h =
-    item_from-heap a b item
-    (if-Ok (bytes_eq word (codes "heap")) (item_from Keyword.Heap (a ∷ b ∷ [])) (Text Header) item h)
+heap_line-item (word ∷ a ∷ b ∷ []) item h = grind (arith, item_from-heap, if-Ok)
 heap_line-item words item h = absurd (Err≢Ok (Text Header) item h)
 
 pub record IsHeapWithin (items : List Item) : Type 0 where
@@ -157,14 +140,7 @@ pub record IsHeapWithin (items : List Item) : Type 0 where
 
 heap_first : (item : Item) (items : List Item) → limit_fault [] item ≡ None → IsHeapLine item
     → IsHeapWithin (item ∷ items)
-heap_first item items h heap =
-    let both = option_or-None (within 1 heap.pages 4096 Which.Pages) (within 1 heap.resident heap.pages Which.Resident)
-    (ap (limit_fault []) (sym heap.is) ∙ h) in
-    subst (λ first. IsHeapWithin (first ∷ items)) (sym heap.is)
-    (record {
-      pages = within-None 1 heap.pages 4096 Which.Pages both.0;
-      resident = within-None 1 heap.resident heap.pages Which.Resident both.1;
-    })
+heap_first item items h heap = grind (arith, option_or-None, within-None)
 
 pub heap_within : (items : List Item) → IsWhole items → IsHeapWithin items
 heap_within [] program = absurd (false≢true program.script)

@@ -110,11 +110,9 @@ module _ (P : ℕ → Item → Type 0) where
   AllPlaced-take_answer : (scope : Scope) (fed : Fed) (left : Blocks) (a : Answer) → AllPlaced P left
       → AllPlaced P fed.left
       → AllPlaced P (take_answer scope fed left a).left
-  AllPlaced-take_answer scope fed Done a h now = now
   AllPlaced-take_answer scope fed (Line line item rest) a h now =
       AllPlaced-run scope rest h.1 (with_answer scope (note fed (op_of scope fed item) line a) item a)
-  AllPlaced-take_answer scope fed (Rounds rounds body rest) a h now = now
-  AllPlaced-take_answer scope fed (Choice number first second rest) a h now = now
+  AllPlaced-take_answer scope fed _ a h now = now
 
   pub AllPlaced-take_answers : (scope : Scope) (answers : List Answer) (fed : Fed) → AllPlaced P fed.left
       → AllPlaced P (take_answers scope fed answers).left
@@ -146,11 +144,8 @@ pub record IsAtLine (P : ℕ → Item → Type 0) (scope : Scope) (fed : Fed) (o
 line_of_op : (P : ℕ → Item → Type 0) (scope : Scope) (fed : Fed) (left : Blocks) (o : Op) → fed.left ≡ left
     → AllPlaced P left → first_op scope fed left ≡ Some o
     → IsAtLine P scope fed o
-line_of_op P scope fed Done o is h e = cc
-line_of_op P scope fed (Line line item rest) o is h e =
-    record { line = line; item = item; rest = rest; left = is; holds = h.0; op = e }
-line_of_op P scope fed (Rounds rounds body rest) o is h e = cc
-line_of_op P scope fed (Choice number first second rest) o is h e = cc
+line_of_op P scope fed (Line line item rest) o is h e = grind arith
+line_of_op _ scope fed _ o is h e = cc
 
 -- An operation that is asked for is that of a line of the script.
 pub next_placed : (P : ℕ → Item → Type 0) (program : List Item) (k : ℕ) (answers : List Answer) (o : Op)
@@ -214,5 +209,4 @@ left_stands program k answers =
 -- So does the line whose operation is asked for.
 pub next_stands : (program : List Item) (k : ℕ) (answers : List Answer) (o : Op) → next_op program k answers ≡ Some o
     → IsAtLine (StandsIn (script_of program k)) (script_scope program k) (feed program k answers) o
-next_stands program k answers o e =
-    next_placed (StandsIn (script_of program k)) program k answers o (all_stand (script_of program k)) e
+next_stands program k answers o e = grind (arith, next_placed, all_stand)

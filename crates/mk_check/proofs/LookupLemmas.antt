@@ -46,8 +46,7 @@ copied-or : {X : Type 0} (o : Option (Bor X)) (b : Bool) (x : Bor X)
     → option_copied (option_or o (if b then Some x else None))
     ≡ option_or (option_copied o) (if b then Some x.now else None)
 copied-or None true x = refl
-copied-or None false x = refl
-copied-or (Some y) b x = refl
+copied-or x0 b x = cc
 
 -- a line that declares a name, where the names before are known
 pub known-more : {X : Type 0} (old new : List ℕ → Option (Bor X)) (before behind : List ℕ
@@ -58,8 +57,7 @@ pub known-more : {X : Type 0} (old new : List ℕ → Option (Bor X)) (before be
     else None))
     → (other : List ℕ) → option_copied (new other) ≡ behind other
 known-more old new before behind name value adds known more other =
-    ap option_copied (adds other) ∙ copied-or (old other) (bytes_eq other name) value
-    ∙ ap (λ o. option_or o (if bytes_eq other name then Some value.now else None)) (known other) ∙ sym (more other)
+    cc (adds other, copied-or (old other) (bytes_eq other name) value, known other, more other)
 
 pub type_words-append : (name : List ℕ) (items behind : List Item)
     → type_words name (items ++ behind) ≡ option_or (type_words name items) (type_words name behind)
@@ -143,8 +141,7 @@ number_names-other item differs = refl
 pub number_names-push_other : (items : List Item) (item : Item) → ((other : List ℕ) → item ≡ Num other → ⊥)
     → number_names (items ++ item ∷ []) ≡ number_names items
 number_names-push_other items item differs =
-    number_names-append items (item ∷ [])
-    ∙ ap (λ names. number_names items ++ names) (number_names-other item differs) ∙ append-nil (number_names items)
+    cc (number_names-append items (item ∷ []), number_names-other item differs, append-nil (number_names items))
 
 pub is_script-other : (item : Item) → ((name : List ℕ) → item ≡ Script name → ⊥) → is_script item ≡ false
 is_script-other (Script name) differs = absurd (differs name refl)

@@ -2,11 +2,11 @@
 use Rattle.mk_check.proofs.Vocabulary.{Bool, Frame, FrameIsWithin, FramesAreWithin, HasStopped, Instruction, IsBelow}
 use Rattle.mk_check.proofs.Vocabulary.{List, MovesOn, Node, Place, PlaceFits, PlaceIsWithin, Steps, Stopped, StopsAt, ℕ}
 use Rattle.mk_check.proofs.Vocabulary.{after_line, ap, arith, depth_of, false, fold_push, if◌then◌else◌, is_some}
-use Rattle.mk_check.proofs.Vocabulary.{kept_in, left_in, length, length_push, max, node_at, op_asked, refl, slice_index}
+use Rattle.mk_check.proofs.Vocabulary.{kept_in, left_in, length, length_push, max, op_asked, refl, slice_index}
 use Rattle.mk_check.proofs.Vocabulary.{steps_at, steps_from, stop_of, subst, suc, sym, then_steps, trees, true}
 use Rattle.mk_check.proofs.Vocabulary.{with_kept, work_in, zero, [], ◌*◌, ◌++◌, ◌+◌, ◌<◌, ◌==◌, ◌∙◌, ◌∷◌, ◌≡◌, ◌≤◌}
 use Rattle.mk_check.proofs.StepLaws.{stop_of-choice_other, stop_of-choice_zero, stop_of-round}
-use Rattle.mk_check.proofs.TreeNodes.{IsAt, IsBelow-more, steps_at-trees}
+use Rattle.mk_check.proofs.TreeNodes.{IsAt, steps_at-trees}
 use Rattle.mk_check.specs.Trees.{FrameFits, FramesFit, LeavesBlock, behind_frames, frame_steps, place_behind_block}
 use Rattle.mk_check.specs.Trees.{place_in_branch, place_in_rounds, work_of}
 use Rattle.mk_check.specs.Steps.{Choice, Done, Line, Rounds}
@@ -61,23 +61,14 @@ module _ (nodes : List Node) where
       ≡ stop_of (Rounds rounds (steps_at (trees nodes) body)
       (then_steps (steps_at (trees nodes) next) (behind_frames (trees nodes) p.frames))) (kept_in p)
   entered_runs p zero body next = refl
-  entered_runs p (suc more) body next =
-      let rest = then_steps (steps_at (trees nodes) next) (behind_frames (trees nodes) p.frames) in
-      ap (λ (s : Steps). stop_of (then_steps (steps_at (trees nodes) body) s) (kept_in p))
-      (behind_frames_push (trees nodes) p.frames (Frame.Rounds more body next))
-      ∙ sym (stop_of-round more (steps_at (trees nodes) body) rest (kept_in p))
+  entered_runs p (suc more) body next = grind (arith, behind_frames_push, stop_of-round)
 
   entered_nearer : (p : Place) (rounds body next : ℕ)
       → work_in nodes (place_in_rounds p rounds body next)
       < 2 * work_of (Rounds rounds (steps_at (trees nodes) body)
       (then_steps (steps_at (trees nodes) next) (behind_frames (trees nodes) p.frames))) + length p.frames
   entered_nearer p zero body next = omega arith
-  entered_nearer p (suc more) body next =
-      let rest = then_steps (steps_at (trees nodes) next) (behind_frames (trees nodes) p.frames) in
-      let e = ap work_of (ap (then_steps (steps_at (trees nodes) body))
-      (behind_frames_push (trees nodes) p.frames (Frame.Rounds more body next))) in
-      let f = work_of-then_steps (steps_at (trees nodes) body) (Rounds more (steps_at (trees nodes) body) rest) in
-      omega (arith, e, f, length_push p.frames (Frame.Rounds more body next))
+  entered_nearer p (suc more) body next = grind (arith, behind_frames_push, work_of-then_steps, length_push)
 
   entered_within : (p : Place) (rounds body next : ℕ) → FramesAreWithin (length nodes) p.frames → body < length nodes
       → next < length nodes
@@ -113,8 +104,7 @@ module _ (nodes : List Node) where
   -- a node's steps are as deep as they are
   depth_here : {p : Place} {n : Node} → IsAt nodes p n
       → depth_of (steps_at (trees nodes) p.at) ≡ depth_of (steps_from (trees nodes) n)
-  depth_here {p} at =
-      ap depth_of (steps_at-trees nodes p.at at.tree at.within.at ∙ ap (steps_from (trees nodes)) at.node)
+  depth_here {p} at = grind (arith, steps_at-trees)
 
   -- A block that begins finds room.
 
@@ -137,9 +127,7 @@ module _ (nodes : List Node) where
   -- a node's steps are first among those that are left
   unfolded : {p : Place} {n : Node} → IsAt nodes p n
       → left_in nodes p ≡ then_steps (steps_from (trees nodes) n) (behind_frames (trees nodes) p.frames)
-  unfolded {p} at =
-      ap (λ (s : Steps). then_steps s (behind_frames (trees nodes) p.frames))
-      (steps_at-trees nodes p.at at.tree at.within.at ∙ ap (steps_from (trees nodes)) at.node)
+  unfolded {p} at = grind (arith, steps_at-trees)
 
   pub unfolded_line : {p : Place} {line : ℕ} {instruction : Instruction} {next : ℕ}
       → IsAt nodes p (Node.Line line instruction next)
@@ -150,10 +138,7 @@ module _ (nodes : List Node) where
   unfolded_done at none = unfolded at ∙ ap (behind_frames (trees nodes)) none
 
   pub below_length : {p : Place} {n : Node} → IsAt nodes p n → IsBelow (length nodes) n
-  below_length {p} at =
-      subst (λ (m : Node). IsBelow (length nodes) m) at.node
-      (IsBelow-more p.at (length nodes) (node_at nodes p.at) (let h = at.within.at in omega arith)
-      (at.tree p.at at.within.at))
+  below_length {p} at = grind arith
 
   pub line_goes_on : {p : Place} {line : ℕ} {instruction : Instruction} {next : ℕ}
       → IsAt nodes p (Node.Line line instruction next) → is_some (op_asked p.numbers instruction) ≡ false
@@ -164,8 +149,7 @@ module _ (nodes : List Node) where
       let stop : Stopped = record { left = Line line instruction rest; kept = kept_in p } in
       record {
         within = record { at = below_length at; frames = at.within.frames };
-        run = sym (ap (λ (s : Steps). stop_of s (kept_in p)) here
-            ∙ ap (λ (b : Bool). if b then stop else stop_of rest (after_line instruction (kept_in p))) none);
+        run = cc (here, none);
         nearer = omega (arith, ap work_of here);
         fits = λ f. let behind = line_fits at f in record { here = behind.here; frames = behind.frames };
       }
@@ -206,8 +190,7 @@ module _ (nodes : List Node) where
           frames = FramesAreWithin_push (length nodes) p.frames (Frame.Branch next) at.within.frames
               (below_length at).2;
         };
-        run = ap (λ (s : Steps). stop_of (then_steps (steps_at (trees nodes) branch) s) (kept_in p)) behind
-            ∙ (sym (stops rest) ∙ sym (ap (λ (s : Steps). stop_of s (kept_in p)) here));
+        run = cc (behind, stops rest, here);
         nearer = omega (
           arith,
           ap work_of here,
@@ -264,8 +247,7 @@ module _ (nodes : List Node) where
   }
   block_goes_on p frames (Frame.Rounds rounds body next) was here w = record {
     within = entered_within (record p { frames = frames }) rounds body next w.0 w.1.0 w.1.1;
-    run = entered_runs (record p { frames = frames }) rounds body next
-        ∙ sym (ap (λ (s : Steps). stop_of s (kept_in p)) here);
+    run = cc (entered_runs (record p { frames = frames }) rounds body next, here);
     nearer = omega (
       arith,
       ap work_of here,
@@ -281,9 +263,7 @@ module _ (nodes : List Node) where
   pub end_goes_on : {p q : Place} → IsAt nodes p Node.Done → LeavesBlock p q → MovesOn nodes p q
   end_goes_on {p} at leaves =
       let here : left_in nodes p ≡ frame_steps (trees nodes) (behind_frames (trees nodes) leaves.frames) leaves.frame =
-      unfolded at
-      ∙ (ap (behind_frames (trees nodes)) leaves.was
-      ∙ behind_frames_push (trees nodes) leaves.frames leaves.frame) in
+      cc (unfolded at, leaves.was, behind_frames_push (trees nodes) leaves.frames leaves.frame) in
       let fs = FramesAreWithin_pop (length nodes) leaves.frames leaves.frame
       (subst (λ (xs : List Frame). FramesAreWithin (length nodes) xs) leaves.was at.within.frames) in
       subst (λ (x : Place). MovesOn nodes p x) (sym leaves.is)
@@ -292,16 +272,7 @@ module _ (nodes : List Node) where
   -- A place where the steps stop.
 
   pub ends_at : {p : Place} → IsAt nodes p Node.Done → p.frames ≡ [] → HasStopped nodes p p
-  ends_at {p} here none =
-      let at : (s : Steps) → s ≡ Done
-      → record { left = s; kept = kept_in p } ≡ stop_of s (kept_in p) =
-      λ s d. subst (λ (x : Steps). record { left = x; kept = kept_in p } ≡ stop_of x (kept_in p)) (sym d) refl in
-      record {
-        within = here.within;
-        at = subst (λ (m : Node). StopsAt m p) (sym here.node) none;
-        run = at (left_in nodes p) (unfolded_done here none);
-        fits = λ f. f;
-      }
+  ends_at {p} here none = grind (arith, unfolded_done)
 
   pub asks_at : {p : Place} {line : ℕ} {instruction : Instruction} {next : ℕ}
       → IsAt nodes p (Node.Line line instruction next) → is_some (op_asked p.numbers instruction) ≡ true
@@ -313,8 +284,6 @@ module _ (nodes : List Node) where
       record {
         within = at.within;
         at = subst (λ (m : Node). StopsAt m p) (sym at.node) some;
-        run = ap (λ (s : Steps). let at : Stopped = record { left = s; kept = kept_in p } in at) here
-            ∙ sym (ap (λ (s : Steps). stop_of s (kept_in p)) here
-            ∙ ap (λ (b : Bool). if b then stop else stop_of rest (after_line instruction (kept_in p))) some);
+        run = cc (here, some);
         fits = λ f. f;
       }

@@ -10,16 +10,14 @@ use Rattle.mk_script.specs.declared.items.Item.TheVariants.{Global, TypeLine}
 
 place-step : (b : Bool) (o : Option ℕ) (n : ℕ)
     → (if b then 0 else unwrap_or o n + 1) ≡ unwrap_or (if b then Some 0 else option_map (λ place. place + 1) o) (suc n)
-place-step true o n = refl
 place-step false None n = omega arith
-place-step false (Some place) n = refl
+place-step _ _ n = refl
 
 pub number_of_name-among : (name : List ℕ) (names : List (List ℕ))
     → number_of_name name names ≡ unwrap_or (number_among name names) (length names)
 number_of_name-among name [] = refl
 number_of_name-among name (other ∷ others) =
-    ap (λ place. if bytes_eq name other then 0 else place + 1) (number_of_name-among name others)
-    ∙ place-step (bytes_eq name other) (number_among name others) (length others)
+    cc (number_of_name-among name others, place-step (bytes_eq name other) (number_among name others) (length others))
 
 number_among-step : (b c : Bool) (o : Option ℕ) (n : ℕ)
     → (if b then Some 0 else option_map (λ place. place + 1) (option_or o (if c then Some n else None)))

@@ -1,8 +1,8 @@
 -- The parts of a script, with numbers for their names.
 use Rattle.std.proofs.Common.{slice_index_or}
-use Rattle.mk_check.proofs.Vocabulary.{Element, Item, List, Part, Scope, ℕ, ap, arith, drop, drop_more, element_of}
-use Rattle.mk_check.proofs.Vocabulary.{instruction_of, length, map, parts_from, refl, sym, with_element, with_item}
-use Rattle.mk_check.proofs.Vocabulary.{with_line, [], ◌+◌, ◌<◌, ◌∙◌, ◌∷◌, ◌≡◌}
+use Rattle.mk_check.proofs.Vocabulary.{Element, Item, List, Part, Scope, ℕ, arith, drop, drop_more, element_of}
+use Rattle.mk_check.proofs.Vocabulary.{instruction_of, length, map, parts_from, refl, with_element, with_item}
+use Rattle.mk_check.proofs.Vocabulary.{with_line, [], ◌+◌, ◌<◌, ◌∷◌, ◌≡◌}
 use Rattle.mk_check.specs.Building.{part_of}
 use Rattle.mk_script.specs.declared.items.Item.TheVariants.{Else, End, If, Repeat}
 
@@ -31,13 +31,4 @@ pub parts_from_more : (scope : Scope) (line i next : ℕ) (items : List Item) (i
     → item ≡ slice_index_or items i item → next ≡ i + 1
     → with_element (line + i) (element_of scope item) (map (part_of scope) (parts_from (line + next) (drop next items)))
     ≡ map (part_of scope) (parts_from (line + i) (drop i items))
-parts_from_more scope line i next items item h is more =
-    let e : line + next ≡ (line + i) + 1 = omega arith in
-    let all : drop i items ≡ item ∷ drop (i + 1) items = drop_more items i item h
-    ∙ ap (λ (x : Item). x ∷ drop (i + 1) items) (sym is) in
-    ap (λ (n : ℕ). with_element (line + i) (element_of scope item)
-    (map (part_of scope) (parts_from n (drop next items)))) e
-    ∙ (ap (λ (n : ℕ). with_element (line + i) (element_of scope item)
-    (map (part_of scope) (parts_from ((line + i) + 1) (drop n items)))) more
-    ∙ (sym (part_of-with_item scope (line + i) item (parts_from ((line + i) + 1) (drop (i + 1) items)))
-    ∙ ap (λ (xs : List Item). map (part_of scope) (parts_from (line + i) xs)) (sym all)))
+parts_from_more scope line i next items item h is more = grind (arith, drop_more, part_of-with_item)

@@ -4,10 +4,8 @@ use Rattle.mk_check.proofs.Vocabulary.{option_or, refl, sym, typing_fault, ◌or
 use Rattle.mk_check.proofs.LookupLemmas.{option_or-none}
 use Rattle.mk_check.specs.Rules.{fault_of_sort, is_declaration, is_number_access, is_number_line, is_pointer_access}
 use Rattle.mk_check.specs.Rules.{is_pointer_line}
-use Rattle.mk_script.specs.declared.items.Item.TheVariants.{Add, Casp, Clear, Const, Else, End, Free, Getn, Getp}
-use Rattle.mk_script.specs.declared.items.Item.TheVariants.{Global, Heap, If, Isnull, Lea, Loadg, Move, New, Num, Print}
-use Rattle.mk_script.specs.declared.items.Item.TheVariants.{Ptr, Repeat, Same, Script, Setn, Setp, Show, Storeg, Sub}
-use Rattle.mk_script.specs.declared.items.Item.TheVariants.{TypeLine}
+use Rattle.mk_script.specs.declared.items.Item.TheVariants.{Casp, Clear, Free, Getn, Getp, Global, Lea, Loadg, Move}
+use Rattle.mk_script.specs.declared.items.Item.TheVariants.{New, Ptr, Script, Setn, Setp, Storeg, TypeLine}
 
 -- what is wrong by the rules of all sorts, one after the other
 abbrev pub fault_of_sorts : Around → Item → Option TypeKind
@@ -26,12 +24,10 @@ or-4 fault = option_or-none (fault or None or None or None) ∙ or-3 fault
 
 pub fault_of_sorts-line : (a : Around) (line : ℕ) (behind : List Item) (item : Item) → is_script item ≡ false
     → fault_of_sorts a item ≡ typing_fault a line behind item
-fault_of_sorts-line a line behind (Heap pages resident) other = refl
 fault_of_sorts-line a line behind (TypeLine name words) other = or-4 _
 fault_of_sorts-line a line behind (Global name ty) other = or-4 _
 fault_of_sorts-line a line behind (Script name) other = absurd (false≢true (sym other))
 fault_of_sorts-line a line behind (Ptr name at) other = or-4 _
-fault_of_sorts-line a line behind (Num name) other = refl
 fault_of_sorts-line a line behind (New pointer ty) other = option_or-none _
 fault_of_sorts-line a line behind (Free pointer) other = option_or-none _
 fault_of_sorts-line a line behind (Getn number pointer index) other = or-3 _
@@ -44,14 +40,4 @@ fault_of_sorts-line a line behind (Move copied pointer) other = option_or-none _
 fault_of_sorts-line a line behind (Clear pointer) other = option_or-none _
 fault_of_sorts-line a line behind (Loadg loaded global) other = option_or-none _
 fault_of_sorts-line a line behind (Storeg stored global) other = option_or-none _
-fault_of_sorts-line a line behind (Same number first second) other = refl
-fault_of_sorts-line a line behind (Isnull number pointer) other = refl
-fault_of_sorts-line a line behind (Show pointer) other = refl
-fault_of_sorts-line a line behind (Const number value) other = refl
-fault_of_sorts-line a line behind (Add number left right) other = refl
-fault_of_sorts-line a line behind (Sub number left right) other = refl
-fault_of_sorts-line a line behind (Print number) other = refl
-fault_of_sorts-line a line behind (Repeat rounds) other = refl
-fault_of_sorts-line a line behind (If number) other = refl
-fault_of_sorts-line a line behind Else other = refl
-fault_of_sorts-line a line behind End other = refl
+fault_of_sorts-line a line behind _ other = refl

@@ -5,10 +5,10 @@ use Rattle.mk_check.proofs.Vocabulary.{asks_at, false, if◌then◌else◌, is_a
 use Rattle.mk_check.proofs.Vocabulary.{sequel_to, sequels_of, subst, sym, true, with_kept, ◌&&◌, ◌∙◌, ◌≡◌}
 use Rattle.mk_check.proofs.AtOnce.{asks_so, stopped_here}
 use Rattle.mk_check.proofs.{Moves.below_length, NextRounds.round_begins, TreeNodes.is_at}
-use Rattle.mk_check.specs.AtOnce.{BeginsRound, TakesAtOnce}
 use Rattle.mk_check.specs.Steps.{is_show, is_silent, keeping_register, with_value}
-use Rattle.mk_check.specs.declared.feeding.instructions.Instruction.TheVariants.{CasPtr, GetNum, IsNull, Same, Show}
-use Rattle.mk_check.specs.{Feed.is_refusal, Spots.sequels_by, declared.feeding.tree.Sequels.Sequels}
+use Rattle.mk_check.specs.declared.feeding.instructions.Instruction.TheVariants.{GetNum}
+use Rattle.mk_check.specs.declared.feeding.tree.Sequels.{Sequels}
+use Rattle.mk_check.specs.{AtOnce.BeginsRound, AtOnce.TakesAtOnce, Feed.is_refusal, Spots.sequels_by}
 
 -- what is next, where that is told
 
@@ -17,20 +17,16 @@ asks_if true e = refl
 asks_if false e = cc
 
 next_asks : (n : Node) → sequel_to n ≡ Sequel.Asks → asks_at n ≡ true
-next_asks Node.Done e = cc
 next_asks (Node.Line line instruction next) e = asks_if (is_asking instruction) e
-next_asks (Node.Rounds rounds body next) e = cc
-next_asks (Node.Choice number first second next) e = cc
+next_asks _ e = cc
 
 ends_not : (b : Bool) (n : Node) → (if b then Sequel.Asks else Sequel.Other) ≡ Sequel.Ends → n ≡ Node.Done
 ends_not true n e = cc
 ends_not false n e = cc
 
 next_ends : (n : Node) → sequel_to n ≡ Sequel.Ends → n ≡ Node.Done
-next_ends Node.Done e = refl
 next_ends (Node.Line line instruction next) e = ends_not (is_asking instruction) (Node.Line line instruction next) e
-next_ends (Node.Rounds rounds body next) e = cc
-next_ends (Node.Choice number first second next) e = cc
+next_ends x0 e = cc
 
 -- The node is a line before this one, whose answer this register keeps, if any does, and this comes next.
 record IsLine (nodes : List Node) (n : Node) (next : ℕ) (kept : Option ℕ) (s : Sequel) : Type 0 where
@@ -45,47 +41,40 @@ kept_by : (next : ℕ) (shown : Bool) (kept : Option ℕ) (u s : Sequel) → (s 
     → (sequels_by next shown kept u).kept ≡ s
     → ((sequels_by next shown kept u).next ≡ next) × (shown ≡ false)
     × (kept ≡ Some (sequels_by next shown kept u).register) × (u ≡ s)
-kept_by next true kept u s known e = absurd (known (sym e))
-kept_by next false None u s known e = absurd (known (sym e))
 kept_by next false (Some number) u s known e = (refl, refl, refl, e)
+kept_by next _ _ u s known e = absurd (known (sym e))
 
 unkept_by : (next : ℕ) (shown : Bool) (kept : Option ℕ) (u s : Sequel) → (s ≡ Sequel.Other → ⊥)
     → (sequels_by next shown kept u).unkept ≡ s
     → ((sequels_by next shown kept u).next ≡ next) × (shown ≡ false) × (kept ≡ None) × (u ≡ s)
-unkept_by next true kept u s known e = absurd (known (sym e))
 unkept_by next false None u s known e = (refl, refl, refl, e)
-unkept_by next false (Some number) u s known e = absurd (known (sym e))
+unkept_by next _ _ u s known e = absurd (known (sym e))
 
 line_told : (nodes : List Node) (line : ℕ) (instruction : Instruction) {next behind : ℕ} {kept : Option ℕ} {s : Sequel}
     → (behind ≡ next) × (is_show instruction ≡ false) × (keeping_register instruction ≡ kept)
     × (sequel_to (node_at nodes next) ≡ s) → IsLine nodes (Node.Line line instruction next) behind kept s
-line_told nodes line instruction by =
-    record {
-      line = line;
-      instruction = instruction;
-      is = ap (λ (j : ℕ). Node.Line line instruction j) (sym by.0);
-      shown = by.1;
-      keeps = by.2;
-      told = ap (λ (j : ℕ). sequel_to (node_at nodes j)) by.0 ∙ by.3;
-    }
+line_told nodes line instruction by = record {
+  line = line;
+  instruction = instruction;
+  is = ap (λ (j : ℕ). Node.Line line instruction j) (sym by.0);
+  shown = by.1;
+  keeps = by.2;
+  told = ap (λ (j : ℕ). sequel_to (node_at nodes j)) by.0 ∙ by.3;
+}
 
 kept_line : (nodes : List Node) (n : Node) (s : Sequel) → (s ≡ Sequel.Other → ⊥) → (sequels_of nodes n).kept ≡ s
     → IsLine nodes n (sequels_of nodes n).next (Some (sequels_of nodes n).register) s
-kept_line nodes Node.Done s known e = absurd (known (sym e))
 kept_line nodes (Node.Line line instruction next) s known e =
     line_told nodes line instruction
     (kept_by next (is_show instruction) (keeping_register instruction) (sequel_to (node_at nodes next)) s known e)
-kept_line nodes (Node.Rounds rounds body next) s known e = absurd (known (sym e))
-kept_line nodes (Node.Choice number first second next) s known e = absurd (known (sym e))
+kept_line nodes _ s known e = absurd (known (sym e))
 
 unkept_line : (nodes : List Node) (n : Node) (s : Sequel) → (s ≡ Sequel.Other → ⊥)
     → (sequels_of nodes n).unkept ≡ s → IsLine nodes n (sequels_of nodes n).next None s
-unkept_line nodes Node.Done s known e = absurd (known (sym e))
 unkept_line nodes (Node.Line line instruction next) s known e =
     line_told nodes line instruction
     (unkept_by next (is_show instruction) (keeping_register instruction) (sequel_to (node_at nodes next)) s known e)
-unkept_line nodes (Node.Rounds rounds body next) s known e = absurd (known (sym e))
-unkept_line nodes (Node.Choice number first second next) s known e = absurd (known (sym e))
+unkept_line nodes _ s known e = absurd (known (sym e))
 
 asks_is_known : Sequel.Asks ≡ Sequel.Other → ⊥
 asks_is_known e = absurd cc
@@ -99,24 +88,16 @@ pub number_kept : (instruction : Instruction) (number value : ℕ) (k : KeptStat
     → keeping_register instruction ≡ Some number
     → after_answer instruction (Answer.Num value) k ≡ with_value k number value
 number_kept (GetNum q n i) number value k e = cc
-number_kept (CasPtr q p r n i) number value k e = cc
-number_kept (Same p q n) number value k e = cc
-number_kept (IsNull p n) number value k e = cc
-number_kept _ number value k e = cc
+number_kept x0 number value k e = cc
 
 pub nothing_kept : (instruction : Instruction) (a : Answer) (k : KeptState) → is_show instruction ≡ false
     → keeping_register instruction ≡ None → after_answer instruction a k ≡ k
 nothing_kept (GetNum q n i) a k s e = cc
-nothing_kept (CasPtr q p r n i) a k s e = cc
-nothing_kept (Same p q n) a k s e = cc
-nothing_kept (IsNull p n) a k s e = cc
-nothing_kept (Show p) a k s e = cc
-nothing_kept _ a k s e = refl
+nothing_kept x0 a k s e = cc
 
 neither : (a b : Bool) → a ≡ false → b ≡ false → (not a && not b) ≡ true
 neither false false e f = refl
-neither false true e f = cc
-neither true b e f = cc
+neither _ _ e f = cc
 
 pub silent : (instruction : Instruction) (a : Answer) → is_refusal a ≡ false → is_show instruction ≡ false
     → is_silent instruction a ≡ true
@@ -130,59 +111,54 @@ module _ (nodes : List Node) (p : Place) (next : ℕ) (instruction : Instruction
 
   stops_at_line : (a : Answer) (t : Place) → is_silent instruction a ≡ true → asks_at (node_at nodes next) ≡ true
       → t ≡ start a → TakesAtOnce nodes next instruction a p t
-  stops_at_line a t quiet asks is =
-      record {
-        silent = quiet;
-        stopped = subst (λ (x : Place). HasStopped nodes (start a) x) (sym is)
-            (stopped_here nodes (start a) (node_at nodes next) tree (record { at = w.at; frames = w.frames }) refl
-            (asks_so (start a).numbers (node_at nodes next) asks));
-      }
+  stops_at_line a t quiet asks is = record {
+    silent = quiet;
+    stopped = subst (λ (x : Place). HasStopped nodes (start a) x) (sym is)
+        (stopped_here nodes (start a) (node_at nodes next) tree (record { at = w.at; frames = w.frames }) refl
+        (asks_so (start a).numbers (node_at nodes next) asks));
+  }
 
   stops_in_round : (a : Answer) (q t : Place) → is_silent instruction a ≡ true → node_at nodes next ≡ Node.Done
       → BeginsRound nodes p q → t ≡ with_kept q (after_answer instruction a (kept_in p))
       → TakesAtOnce nodes next instruction a p t
-  stops_in_round a q t quiet ends b is =
-      record {
-        silent = quiet;
-        stopped = round_begins nodes (start a) t b.rounds _ b.body b.behind tree
-            (record { at = w.at; frames = w.frames }) ends b.was b.left refl b.asks
-            (is ∙ ap (λ (x : Place). with_kept x (after_answer instruction a (kept_in p))) b.is);
-      }
+  stops_in_round a q t quiet ends b is = record {
+    silent = quiet;
+    stopped = round_begins nodes (start a) t b.rounds _ b.body b.behind tree
+        (record { at = w.at; frames = w.frames }) ends b.was b.left refl b.asks
+        (is ∙ ap (λ (x : Place). with_kept x (after_answer instruction a (kept_in p))) b.is);
+  }
 
 module _ (nodes : List Node) (p : Place) (tree : IsTree nodes) (w : PlaceIsWithin (length nodes) p) where
   -- the node after the place's line
   within_next : (line : ℕ) (instruction : Instruction) (next : ℕ) → node_at nodes p.at ≡ Node.Line line instruction next
       → PlaceIsWithin (length nodes) (record p { at = next })
-  within_next line instruction next here =
-      record { at = below_length nodes (is_at tree w here); frames = w.frames }
+  within_next line instruction next here = record { at = below_length nodes (is_at tree w here); frames = w.frames }
 
   at_line : (kept : Option ℕ) (next : ℕ) (a : Answer) (k : KeptState) (t : Place) → is_refusal a ≡ false
       → (l : IsLine nodes (node_at nodes p.at) next kept Sequel.Asks)
       → after_answer l.instruction a (kept_in p) ≡ k → t ≡ with_kept (record p { at = next }) k → TakesLine nodes a p t
-  at_line kept next a k t accepted l after is =
-      record {
-        line = l.line;
-        instruction = l.instruction;
-        next = next;
-        here = l.is;
-        taken = stops_at_line nodes p next l.instruction tree (within_next l.line l.instruction next l.is) a t
-            (silent l.instruction a accepted l.shown) (next_asks (node_at nodes next) l.told)
-            (is ∙ ap (λ (x : KeptState). with_kept (record p { at = next }) x) (sym after));
-      }
+  at_line kept next a k t accepted l after is = record {
+    line = l.line;
+    instruction = l.instruction;
+    next = next;
+    here = l.is;
+    taken = stops_at_line nodes p next l.instruction tree (within_next l.line l.instruction next l.is) a t
+        (silent l.instruction a accepted l.shown) (next_asks (node_at nodes next) l.told)
+        (is ∙ ap (λ (x : KeptState). with_kept (record p { at = next }) x) (sym after));
+  }
 
   in_round : (kept : Option ℕ) (next : ℕ) (a : Answer) (k : KeptState) (q t : Place) → is_refusal a ≡ false
       → (l : IsLine nodes (node_at nodes p.at) next kept Sequel.Ends) → BeginsRound nodes p q
       → after_answer l.instruction a (kept_in p) ≡ k → t ≡ with_kept q k → TakesLine nodes a p t
-  in_round kept next a k q t accepted l begins after is =
-      record {
-        line = l.line;
-        instruction = l.instruction;
-        next = next;
-        here = l.is;
-        taken = stops_in_round nodes p next l.instruction tree (within_next l.line l.instruction next l.is) a q t
-            (silent l.instruction a accepted l.shown) (next_ends (node_at nodes next) l.told) begins
-            (is ∙ ap (λ (x : KeptState). with_kept q x) (sym after));
-      }
+  in_round kept next a k q t accepted l begins after is = record {
+    line = l.line;
+    instruction = l.instruction;
+    next = next;
+    here = l.is;
+    taken = stops_in_round nodes p next l.instruction tree (within_next l.line l.instruction next l.is) a q t
+        (silent l.instruction a accepted l.shown) (next_ends (node_at nodes next) l.told) begins
+        (is ∙ ap (λ (x : KeptState). with_kept q x) (sym after));
+  }
 
   module _ (s : Sequels) (so : s ≡ sequels_of nodes (node_at nodes p.at)) where
     kept_here : (told : Sequel) → (told ≡ Sequel.Other → ⊥) → s.kept ≡ told
@@ -222,6 +198,5 @@ module _ (nodes : List Node) (p : Place) (tree : IsTree nodes) (w : PlaceIsWithi
         → BeginsRound nodes p t → TakesLine nodes a p t
     none_in_round a t accepted e begins =
         let l = unkept_here Sequel.Ends ends_is_known e in
-        in_round None s.next a (kept_in p) t t accepted l begins
-        (nothing_kept l.instruction a (kept_in p) l.shown l.keeps)
-        (begins.is ∙ ap (λ (x : Place). with_kept x (kept_in p)) (sym begins.is))
+        in_round None s.next a _ t t accepted l begins (nothing_kept l.instruction a _ l.shown l.keeps) (begins.is ∙ ap
+        (λ (x : Place). with_kept x (kept_in p)) (sym begins.is))

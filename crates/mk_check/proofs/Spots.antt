@@ -3,8 +3,7 @@ use Rattle.std.proofs.lemmas.List.{get_or-map, get_or_default}
 use Rattle.mk_check.proofs.Vocabulary.{IsBelow, IsTree, List, Node, ℕ, ap, arith, asks_at, asks_first, cases_lt, get_or}
 use Rattle.mk_check.proofs.Vocabulary.{get_or_append_left, get_or_at, inl, inr, instruction_of_node, is_asking, length}
 use Rattle.mk_check.proofs.Vocabulary.{length-map, length_push, map-append, node_at, op_asked, op_of_node, refl}
-use Rattle.mk_check.proofs.Vocabulary.{sequels_of, steps_at, steps_from, subst, sym, trees, [], ◌++◌, ◌<◌, ◌∙◌, ◌∷◌}
-use Rattle.mk_check.proofs.Vocabulary.{◌≡◌}
+use Rattle.mk_check.proofs.Vocabulary.{sequels_of, steps_at, steps_from, subst, sym, trees, [], ◌++◌, ◌<◌, ◌∷◌, ◌≡◌}
 use Rattle.mk_check.proofs.TreeNodes.{IsBelow-more, IsTree_push, steps_at-trees, steps_from_same}
 use Rattle.mk_check.proofs.Builds.{steps_at_push}
 use Rattle.mk_check.specs.Spots.{IsMarked, IsMarkedTree, end_spot, nodes_of, sequels_before, spot_at}
@@ -13,43 +12,33 @@ use Rattle.mk_check.specs.declared.feeding.tree.Spot.{Spot}
 -- whether a node asks for an operation, by its instruction
 pub asks_by_instruction : (n : Node) → is_asking (instruction_of_node n) ≡ asks_at n
 asks_by_instruction Node.Done = refl
-asks_by_instruction (Node.Line line instruction next) = refl
-asks_by_instruction (Node.Rounds rounds body next) = refl
-asks_by_instruction (Node.Choice number first second next) = refl
+asks_by_instruction x0 = cc
 
 -- the operation that it asks for
 pub op_by_instruction : (numbers : List ℕ) (n : Node)
     → op_asked numbers (instruction_of_node n) ≡ op_of_node numbers n
 op_by_instruction numbers Node.Done = refl
-op_by_instruction numbers (Node.Line line instruction next) = refl
-op_by_instruction numbers (Node.Rounds rounds body next) = refl
-op_by_instruction numbers (Node.Choice number first second next) = refl
+op_by_instruction numbers x1 = cc
 
 pub length-nodes_of : (spots : List Spot) → length (nodes_of spots) ≡ length spots
 length-nodes_of spots = length-map spots (λ (s : Spot). s.node)
 
 pub node_of_spot : (spots : List Spot) (at : ℕ) → at < length spots
     → node_at (nodes_of spots) at ≡ (spot_at spots at).node
-node_of_spot spots at h =
-    get_or-map (λ (s : Spot). s.node) spots at end_spot Node.Done h
+node_of_spot spots at h = grind (arith, get_or-map)
 
 nodes_of_push : (spots : List Spot) (s : Spot) → nodes_of (spots ++ s ∷ []) ≡ nodes_of spots ++ s.node ∷ []
 nodes_of_push spots s = map-append (λ (s : Spot). s.node) spots (s ∷ [])
 
 same_mark : (nodes more : List Node) (n : Node) → IsBelow (length nodes) n
     → sequels_of (nodes ++ more) n ≡ sequels_of nodes n
-same_mark nodes more Node.Done below = refl
 same_mark nodes more (Node.Line line instruction next) below =
     ap (λ (m : Node). sequels_before next m instruction) (get_or_append_left nodes more Node.Done next below)
-same_mark nodes more (Node.Rounds rounds body next) below = refl
-same_mark nodes more (Node.Choice number first second next) below = refl
+same_mark nodes more _ below = refl
 
 same_mark_pushed : (spots : List Spot) (s : Spot) (n : Node) → IsBelow (length spots) n
     → sequels_of (nodes_of spots) n ≡ sequels_of (nodes_of (spots ++ s ∷ [])) n
-same_mark_pushed spots s n below =
-    let within = subst (λ (c : ℕ). IsBelow c n) (sym (length-nodes_of spots)) below in
-    sym (ap (λ (nodes : List Node). sequels_of nodes n) (nodes_of_push spots s)
-    ∙ same_mark (nodes_of spots) (s.node ∷ []) n within)
+same_mark_pushed spots s n below = grind (arith, length-nodes_of, nodes_of_push, same_mark)
 
 -- the node of a spot names nodes before it
 spot_below : (spots : List Spot) (at : ℕ) → IsMarkedTree spots → at < length spots
@@ -61,21 +50,12 @@ spot_below spots at m h =
 
 same_steps_pushed : (spots : List Spot) (s : Spot) (n : Node) → IsBelow (length spots) n
     → steps_from (trees (nodes_of spots)) n ≡ steps_from (trees (nodes_of (spots ++ s ∷ []))) n
-same_steps_pushed spots s n below =
-    let nodes = nodes_of spots in
-    let within = subst (λ (c : ℕ). IsBelow c n) (sym (length-nodes_of spots)) below in
-    steps_from_same (length nodes) (trees nodes) (trees (nodes ++ s.node ∷ [])) n
-    (λ j h. sym (steps_at_push nodes s.node j h)) within
-    ∙ ap (λ (xs : List Node). steps_from (trees xs) n) (sym (nodes_of_push spots s))
+same_steps_pushed spots s n below = grind (arith, length-nodes_of, steps_from_same, steps_at_push, nodes_of_push)
 
 -- what is known at a place stays so
 marked_still : (spots : List Spot) (s x : Spot) → IsBelow (length spots) x.node → IsMarked (nodes_of spots) x
     → IsMarked (nodes_of (spots ++ s ∷ [])) x
-marked_still spots s x below m = record {
-  instruction = m.instruction;
-  sequels = m.sequels ∙ same_mark_pushed spots s x.node below;
-  first = m.first ∙ ap asks_first (same_steps_pushed spots s x.node below);
-}
+marked_still spots s x below m = grind (arith, same_mark_pushed, same_steps_pushed)
 
 pub IsMarkedTree_push : (spots : List Spot) (s : Spot) → IsMarkedTree spots → IsBelow (length (nodes_of spots)) s.node
     → IsMarked (nodes_of spots) s → IsMarkedTree (spots ++ s ∷ [])
@@ -100,14 +80,4 @@ pub mark_there : (spots : List Spot) (at : ℕ) (s : Spot) → IsMarkedTree spot
     → (s.instruction ≡ instruction_of_node (node_at (nodes_of spots) at))
     × (s.sequels ≡ sequels_of (nodes_of spots) (node_at (nodes_of spots) at))
     × (s.asks_first ≡ asks_first (steps_at (trees (nodes_of spots)) at))
-mark_there spots at s m h is =
-    let lt : at < length spots = omega (arith, length-nodes_of spots) in
-    let same : s ≡ spot_at spots at = is ∙ get_or_default spots at s _ lt in
-    let here = sym (node_of_spot spots at lt) in
-    let mark = m.marks at lt in (
-      ap (λ (x : Spot). x.instruction) same ∙ (mark.instruction ∙ ap instruction_of_node here),
-      ap (λ (x : Spot). x.sequels) same ∙ (mark.sequels ∙ ap (sequels_of (nodes_of spots)) here),
-      ap (λ (x : Spot). x.asks_first) same
-          ∙ (mark.first ∙ (ap (λ (n : Node). asks_first (steps_from (trees (nodes_of spots)) n)) here
-          ∙ sym (ap asks_first (steps_at-trees (nodes_of spots) at m.tree h)))),
-    )
+mark_there spots at s m h is = grind (arith, length-nodes_of, get_or_default, node_of_spot, steps_at-trees)

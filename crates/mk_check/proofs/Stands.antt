@@ -12,11 +12,7 @@ use Rattle.mk_check.proofs.Vocabulary.{◌++◌, ◌+◌, ◌∙◌, ◌∷◌, 
 use Rattle.mk_check.proofs.Numbered.{kept_of, kept_of-with_answer, op_of-asked, ops-with_answer, run_agrees, stopped_of}
 use Rattle.mk_check.proofs.StepLaws.{behind_text, stop_of-text, stopped_behind_text}
 use Rattle.mk_check.proofs.{FeedLaws.feed_push, Moves.unfolded_done, Moves.unfolded_line, TreeNodes.is_at}
-use Rattle.mk_check.specs.declared.feeding.instructions.Instruction.TheVariants.{Add, CasPtr, Clear, Const, Free}
-use Rattle.mk_check.specs.declared.feeding.instructions.Instruction.TheVariants.{GetGlobal, GetNum, GetPtr, IsNull, Lea}
-use Rattle.mk_check.specs.declared.feeding.instructions.Instruction.TheVariants.{Move, New, Nothing, Print, Same}
-use Rattle.mk_check.specs.declared.feeding.instructions.Instruction.TheVariants.{SetGlobal, SetNum, SetPtr, Show, Sub}
-use Rattle.mk_check.specs.Feed.{answered_number, has_ended, show_text}
+use Rattle.mk_check.specs.{Feed.has_ended, declared.feeding.instructions.Instruction.TheVariants.Show}
 use Rattle.mk_check.specs.Steps as steps
 
 -- blocks that begin with a line
@@ -30,18 +26,12 @@ pub record BeginsWith (scope : Scope) (left : Blocks) (line : ℕ) (instruction 
 
 begins_with : (scope : Scope) (left : Blocks) (line : ℕ) (instruction : Instruction) (rest : Steps)
     → numbered scope left ≡ steps.Line line instruction rest → BeginsWith scope left line instruction rest
-begins_with scope Done line instruction rest e = cc
-begins_with scope (Line l item more) line instruction rest e =
-    let f : l ≡ line = cc in
-    record { item = item; more = more; is = ap (λ (n : ℕ). Line n item more) f; named = cc; behind = cc }
-begins_with scope (Rounds rounds body more) line instruction rest e = cc
-begins_with scope (Choice number first second more) line instruction rest e = cc
+begins_with scope (Line l item more) line instruction rest e = grind arith
+begins_with scope _ line instruction rest e = cc
 
 no_more : (scope : Scope) (left : Blocks) → numbered scope left ≡ steps.Done → left ≡ Done
 no_more scope Done e = refl
-no_more scope (Line line item more) e = cc
-no_more scope (Rounds rounds body more) e = cc
-no_more scope (Choice number first second more) e = cc
+no_more scope _ e = cc
 
 -- The operation that is asked for, and whether there is one.
 
@@ -53,32 +43,20 @@ pub record Tells (scope : Scope) (fed : Fed) (o : Option Op) : Type 0 where
 tells : (scope : Scope) (fed : Fed) (nodes : List Node) (p : Place) (n : Node) → IsTree nodes
     → PlaceIsWithin (length nodes) p → node_at nodes p.at ≡ n → StopsAt n p
     → left_in nodes p ≡ numbered scope fed.left → p.numbers ≡ fed.numbers → Tells scope fed (op_of_node p.numbers n)
-tells scope fed nodes p Node.Done tree w e stops left numbers =
-    let over = no_more scope fed.left (sym left ∙ unfolded_done nodes (is_at tree w e) stops) in
-    record {
-      op = sym (ap (first_op scope fed) over);
-      ended = λ h. ap is_end_of_block over;
-      none = λ h. refl;
-    }
+tells scope fed nodes p Node.Done tree w e stops left numbers = grind (arith, no_more, unfolded_done, is_at)
 tells scope fed nodes p (Node.Line line instruction next) tree w e stops left numbers =
     let here = begins_with scope fed.left line instruction _ (sym left
     ∙ unfolded_line nodes (is_at tree w e)) in
-    let op : op_asked p.numbers instruction ≡ first_op scope fed fed.left =
-    ap (λ (ns : List ℕ). op_asked ns instruction) numbers
-    ∙ (ap (op_asked fed.numbers) (sym here.named)
-    ∙ (sym (op_of-asked scope fed here.item) ∙ sym (ap (first_op scope fed) here.is))) in
+    let op : op_asked p.numbers instruction ≡ first_op scope fed fed.left = grind (arith, op_of-asked) in
     let on : has_ended fed ≡ false = ap is_end_of_block here.is in
     record { op = op; ended = λ h. cc; none = λ h. cc }
-tells scope fed nodes p (Node.Rounds rounds body next) tree w e stops left numbers = absurd stops
-tells scope fed nodes p (Node.Choice number first second next) tree w e stops left numbers = absurd stops
+tells scope fed nodes p _ tree w e stops left numbers = absurd stops
 
 pub op_of_others : (numbers : List ℕ) (n : Node)
     → ((line : ℕ) (instruction : Instruction) (next : ℕ) → n ≡ Node.Line line instruction next → ⊥)
     → op_of_node numbers n ≡ None
-op_of_others numbers Node.Done h = refl
 op_of_others numbers (Node.Line line instruction next) h = absurd (h line instruction next refl)
-op_of_others numbers (Node.Rounds rounds body next) h = refl
-op_of_others numbers (Node.Choice number first second next) h = refl
+op_of_others numbers _ h = refl
 
 pub op_stands : (program : List Item) (k : ℕ) (s : FeedState) (answers : List Answer) → IsTree s.nodes → IsAtStop s
     → FeedStandsFor program k s answers
@@ -133,11 +111,7 @@ pub start_stops : (nodes : List Node) (scope : Scope) (script : ScriptText) (at 
     → HasStopped nodes p q
     → stopped_in nodes q
     ≡ stop_of (numbered scope (blocks_from script.line script.items)) (kept_of (fed_before_lines scope script))
-start_stops nodes scope script at p q tree begins stopped =
-    let left : left_in nodes p ≡ numbered scope (blocks_from script.line script.items) =
-    ap (left_in nodes) begins ∙ (then_steps-done (steps_at (trees nodes) at) ∙ tree) in
-    stopped.run ∙ (ap (λ (s : Steps). stop_of s (kept_in p)) left
-    ∙ ap (λ (x : Place). stop_of (numbered scope (blocks_from script.line script.items)) (kept_in x)) begins)
+start_stops nodes scope script at p q tree begins stopped = grind (arith, then_steps-done)
 
 -- One more answer.
 
@@ -162,9 +136,7 @@ answer_agrees scope fed line item rest a h =
     let noted_fed = note fed (op_of scope fed item) line a in
     let agrees = run_agrees scope rest (with_answer scope noted_fed item a) in
     record {
-      stop = agrees.stop ∙ (ap (stop_of (numbered scope rest)) (kept_of-with_answer scope noted_fed item a)
-          ∙ ap (λ (k : KeptState). stop_of (numbered scope rest) (after_answer
-          (instruction_of scope item) a k)) n.kept);
+      stop = cc (agrees.stop, kept_of-with_answer scope noted_fed item a, n.kept);
       more = ap (λ (os : List Op). length os) (agrees.answers ∙ ops-with_answer scope noted_fed item a) ∙ n.more;
     }
 
@@ -182,8 +154,7 @@ answered_from program k answers a line item rest s is taken some stop =
     let at : feed program k (answers ++ a ∷ []) ≡ take_answer scope fed (Line line item rest) a =
     feed_push program k answers a ∙ ap (λ (b : Blocks). take_answer scope fed b a) is in
     let same : stopped_in s.nodes s.place ≡ stopped_of scope (feed program k (answers ++ a ∷ [])) =
-    stop ∙ (ap (λ (b : Blocks). stop_on_answer (numbered scope b) a (kept_of fed)) is
-    ∙ (sym agrees.stop ∙ ap (stopped_of scope) (sym at))) in
+    cc (stop, is, agrees.stop, at) in
     record {
       taken = ap (λ (f : Fed). length f.ops) at ∙ (agrees.more ∙ omega (arith, taken, length_push answers a));
       left = ap (λ (t : Stopped). t.left) same;
@@ -204,8 +175,7 @@ answer_stands program k answers a s t line instruction next tree w e some stop s
     let here = begins_with scope fed.left line instruction _ (sym st.left
     ∙ unfolded_line s.nodes (is_at tree w e)) in
     let op : op_of scope fed here.item ≡ op_asked s.place.numbers instruction =
-    op_of-asked scope fed here.item
-    ∙ (ap (op_asked fed.numbers) here.named ∙ ap (λ (ns : List ℕ). op_asked ns instruction) (sym st.numbers)) in
+    cc (op_of-asked scope fed here.item, here.named, st.numbers) in
     let kept : kept_in s.place ≡ kept_of fed = (let f = st.numbers in let g = st.text in cc) in
     answered_from program k answers a line here.item here.more t here.is st.taken (ap (λ (o : Option Op). is_some o) op
     ∙ some)
@@ -216,27 +186,8 @@ answer_stands program k answers a s t line instruction next tree w e some stop s
 
 after_answer-text : (text : List ℕ) (instruction : Instruction) (a : Answer) (k : KeptState)
     → after_answer instruction a (behind_text text k) ≡ behind_text text (after_answer instruction a k)
-after_answer-text text Nothing a k = refl
-after_answer-text text (Const number value) a k = refl
-after_answer-text text (Add number left right) a k = refl
-after_answer-text text (Sub number left right) a k = refl
-after_answer-text text (Print number) a k = refl
-after_answer-text text (New d ty) a k = refl
-after_answer-text text (Free p) a k = refl
-after_answer-text text (GetPtr d q i) a k = refl
-after_answer-text text (SetPtr q p i) a k = refl
-after_answer-text text (Lea d q i) a k = refl
-after_answer-text text (Move d q) a k = refl
-after_answer-text text (Clear d) a k = refl
-after_answer-text text (GetGlobal d g) a k = refl
-after_answer-text text (SetGlobal g p) a k = refl
-after_answer-text text (SetNum q number i) a k = refl
-after_answer-text text (GetNum q number i) a k = refl
-after_answer-text text (CasPtr q p r number i) a k = refl
-after_answer-text text (Same p q number) a k = refl
-after_answer-text text (IsNull p number) a k = refl
-after_answer-text text (Show p) a k = ap (λ (t : List ℕ). let kept : KeptState = record k { text = t } in kept)
-    (append_assoc text k.text (show_text (answered_number a)))
+after_answer-text text (Show p) a k = grind (arith, append_assoc)
+after_answer-text text _ a k = refl
 
 pub stop_on_answer-text : (rest : Steps) (line : ℕ) (instruction : Instruction) (a : Answer) (k : KeptState)
     → stop_on_answer (steps.Line line instruction rest) a k
@@ -245,8 +196,7 @@ pub stop_on_answer-text : (rest : Steps) (line : ℕ) (instruction : Instruction
     (record { numbers = k.numbers; text = refusal_line line (refusal_text a) })))
 stop_on_answer-text rest line instruction a k =
     let apart : KeptState = record { numbers = k.numbers; text = refusal_line line (refusal_text a) } in
-    ap (stop_of rest) (after_answer-text k.text instruction a apart)
-    ∙ stop_of-text k.text rest (after_answer instruction a apart)
+    cc (after_answer-text k.text instruction a apart, stop_of-text k.text rest (after_answer instruction a apart))
 
 -- A copy that runs on without the text so far stops where the script stops.
 pub answer_stops : (nodes : List Node) (p r q t : Place) (line : ℕ) (instruction : Instruction) (next : ℕ) (a : Answer)
@@ -260,7 +210,4 @@ answer_stops nodes p r q t line instruction next a tree w e starts stopped follo
     let apart : KeptState = record { numbers = p.numbers; text = refusal_line line (refusal_text a) } in
     let runs : stopped_in nodes q ≡ stop_of rest (after_answer instruction a apart) =
     stopped.run ∙ ap (λ (x : Place). stop_of (left_in nodes x) (kept_in x)) starts in
-    ap (stopped_in nodes) follows
-    ∙ (ap (stopped_behind_text p.text) runs
-    ∙ (sym (stop_on_answer-text rest line instruction a (kept_in p))
-    ∙ sym (ap (λ (s : Steps). stop_on_answer s a (kept_in p)) (unfolded_line nodes (is_at tree w e)))))
+    cc (follows, runs, stop_on_answer-text rest line instruction a (kept_in p), unfolded_line nodes (is_at tree w e))

@@ -4,11 +4,8 @@ use Rattle.mk_check.proofs.Vocabulary.{Bool, Instruction, KeptState, List, Steps
 use Rattle.mk_check.proofs.Vocabulary.{append_assoc, false, if◌then◌else◌, is_some, op_asked, refl, slice_index}
 use Rattle.mk_check.proofs.Vocabulary.{stop_behind, stop_of, stop_of_rounds, suc, sym, then_steps, true, zero, ◌++◌}
 use Rattle.mk_check.proofs.Vocabulary.{◌==◌, ◌∙◌, ◌≡◌}
-use Rattle.mk_check.specs.declared.feeding.instructions.Instruction.TheVariants.{Add, CasPtr, Clear, Const, Free}
-use Rattle.mk_check.specs.declared.feeding.instructions.Instruction.TheVariants.{GetGlobal, GetNum, GetPtr, IsNull, Lea}
-use Rattle.mk_check.specs.declared.feeding.instructions.Instruction.TheVariants.{Move, New, Nothing, Print, Same}
-use Rattle.mk_check.specs.declared.feeding.instructions.Instruction.TheVariants.{SetGlobal, SetNum, SetPtr, Show, Sub}
-use Rattle.mk_check.specs.{Feed.newline, Steps.Choice, Steps.Done, Steps.Line, Steps.Rounds}
+use Rattle.mk_check.specs.Steps.{Choice, Done, Line, Rounds}
+use Rattle.mk_check.specs.{Feed.newline, declared.feeding.instructions.Instruction.TheVariants.Print}
 
 pub then_steps_assoc : (a b c : Steps) → then_steps (then_steps a b) c ≡ then_steps a (then_steps b c)
 then_steps_assoc Done b c = refl
@@ -81,16 +78,12 @@ stop_of-round more body rest k =
 pub stop_of-choice_zero : (number : ℕ) (first second rest : Steps) (k : KeptState)
     → (slice_index k.numbers number == 0) ≡ true
     → stop_of (Choice number first second rest) k ≡ stop_of (then_steps second rest) k
-stop_of-choice_zero number first second rest k h =
-    ap (λ (t : Bool). stop_behind (if t then stop_of second k else stop_of first k) (stop_of rest) rest) h
-    ∙ sym (stop_of-then_steps second rest k)
+stop_of-choice_zero number first second rest k h = cc (stop_of-then_steps second rest k)
 
 pub stop_of-choice_other : (number : ℕ) (first second rest : Steps) (k : KeptState)
     → (slice_index k.numbers number == 0) ≡ false
     → stop_of (Choice number first second rest) k ≡ stop_of (then_steps first rest) k
-stop_of-choice_other number first second rest k h =
-    ap (λ (t : Bool). stop_behind (if t then stop_of second k else stop_of first k) (stop_of rest) rest) h
-    ∙ sym (stop_of-then_steps first rest k)
+stop_of-choice_other number first second rest k h = cc (stop_of-then_steps first rest k)
 
 -- Text before.
 
@@ -102,37 +95,17 @@ stopped_behind_text text s = record s { kept = behind_text text s.kept }
 
 pub after_line-text : (text : List ℕ) (instruction : Instruction) (k : KeptState)
     → after_line instruction (behind_text text k) ≡ behind_text text (after_line instruction k)
-after_line-text text Nothing k = refl
-after_line-text text (Const number value) k = refl
-after_line-text text (Add number left right) k = refl
-after_line-text text (Sub number left right) k = refl
 after_line-text text (Print number) k =
     ap (λ (t : List ℕ). let kept : KeptState = record k { text = t } in kept)
     (append_assoc text k.text (decimal (slice_index k.numbers number) ++ newline))
-after_line-text text (New d ty) k = refl
-after_line-text text (Free p) k = refl
-after_line-text text (GetPtr d q i) k = refl
-after_line-text text (SetPtr q p i) k = refl
-after_line-text text (Lea d q i) k = refl
-after_line-text text (Move d q) k = refl
-after_line-text text (Clear d) k = refl
-after_line-text text (GetGlobal d g) k = refl
-after_line-text text (SetGlobal g p) k = refl
-after_line-text text (SetNum q number i) k = refl
-after_line-text text (GetNum q number i) k = refl
-after_line-text text (CasPtr q p r number i) k = refl
-after_line-text text (Same p q number) k = refl
-after_line-text text (IsNull p number) k = refl
-after_line-text text (Show p) k = refl
+after_line-text text _ k = refl
 
 stop_behind-text : (text : List ℕ) (left : Steps) (kept : KeptState) (go : KeptState → Stopped) (rest : Steps)
     → ((k : KeptState) → go (behind_text text k) ≡ stopped_behind_text text (go k))
     → stop_behind (record { left = left; kept = behind_text text kept }) go rest
     ≡ stopped_behind_text text (stop_behind (record { left = left; kept = kept }) go rest)
 stop_behind-text text Done kept go rest h = h kept
-stop_behind-text text (Line line instruction left) kept go rest h = refl
-stop_behind-text text (Rounds rounds body left) kept go rest h = refl
-stop_behind-text text (Choice number first second left) kept go rest h = refl
+stop_behind-text text _ kept go rest h = refl
 
 stop_of_rounds-text : (text : List ℕ) (rounds : ℕ) (body : Steps) (go : KeptState → Stopped)
     → ((k : KeptState) → go (behind_text text k) ≡ stopped_behind_text text (go k))
@@ -178,5 +151,4 @@ stop_of-text text (Choice number first second rest) k =
         ≡ stopped_behind_text text (stop_behind (if t then stop_of second k else stop_of first k) (stop_of rest) rest)
     by_test true f g h = ap (λ (u : Stopped). stop_behind u (stop_of rest) rest) g
         ∙ stop_behind-text text (stop_of second k).left (stop_of second k).kept (stop_of rest) rest h
-    by_test false f g h = ap (λ (u : Stopped). stop_behind u (stop_of rest) rest) f
-        ∙ stop_behind-text text (stop_of first k).left (stop_of first k).kept (stop_of rest) rest h
+    by_test false f g h = cc (stop_behind-text text (stop_of first k).left (stop_of first k).kept (stop_of rest) rest h)

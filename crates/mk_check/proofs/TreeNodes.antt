@@ -49,8 +49,7 @@ pub steps_at-trees : (nodes : List Node) (at : ℕ) → IsTree nodes → at < le
     → steps_at (trees nodes) at ≡ steps_from (trees nodes) (node_at nodes at)
 steps_at-trees nodes at tree h =
     let e : 0 + at ≡ at = omega arith in
-    ap (λ (j : ℕ). steps_at (trees nodes) j) (sym e)
-    ∙ trees_behind [] nodes at (λ k g. subst (λ (c : ℕ). IsBelow c (node_at nodes k)) (omega arith) (tree k g)) h
+    cc (e, trees_behind [] nodes at (λ k g. subst (λ (c : ℕ). IsBelow c (node_at nodes k)) (omega arith) (tree k g)) h)
 
 pub IsBelow-more : (few many : ℕ) (n : Node) → few ≤ many → IsBelow few n → IsBelow many n
 IsBelow-more few many Node.Done h below = tt
@@ -85,5 +84,4 @@ is_at tree within node = record { tree = tree; within = within; node = node }
 -- so a function finds it, which reads the node by the place's parts
 pub found_at : {nodes : List Node} {p q : Place} {n : Node} → q ≡ p → IsTree nodes → PlaceIsWithin (length nodes) p
     → n ≡ node_at nodes q.at → IsAt nodes p n
-found_at {nodes} same tree within is =
-    is_at tree within (ap (λ (x : Place). node_at nodes x.at) (sym same) ∙ sym is)
+found_at {nodes} same tree within is = is_at tree within (ap (λ (x : Place). node_at nodes x.at) (sym same) ∙ sym is)

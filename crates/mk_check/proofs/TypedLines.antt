@@ -109,18 +109,15 @@ are_one (Some s) (Some t) e =
     let offset : s.offset ≡ t.offset = eqb-true s.offset t.offset both.1 in
     let same : t ≡ s = ap (λ (n : List ℕ). at_of n t.offset) (sym name) ∙ ap (at_of s.name) (sym offset) in
     record { at = s; first = refl; second = ap Some same }
-are_one (Some s) None e = absurd (false≢true e)
-are_one None t e = absurd (false≢true e)
+are_one _ _ e = absurd (false≢true e)
 
 number_word : (word : Option TypeWord) → is_number_word word ≡ true → word ≡ Some Number
 number_word (Some Number) e = refl
-number_word (Some (Pointer at)) e = absurd (false≢true e)
-number_word None e = absurd (false≢true e)
+number_word _ e = absurd (false≢true e)
 
 pointer_word : (word : Option TypeWord) (at : At) → pointed_place word ≡ Some at → word ≡ Some (Pointer at)
 pointer_word (Some (Pointer at')) at e = ap (λ (t : At). Some (Pointer t)) (same_Some at' at e)
-pointer_word (Some Number) at e = cc
-pointer_word None at e = cc
+pointer_word _ at e = cc
 
 module _ (a : Around) (script : List Item) (stays : (name : List ℕ) (at : At) → pointer_at name a.script ≡ Some at
     → pointer_at name script ≡ Some at) where

@@ -1,8 +1,7 @@
 -- Each line of a script of a well-typed program says what a well-typed line says.
 use Rattle.mk_check.proofs.Vocabulary.{At, Item, List, None, Option, Some, TypeKind, ℕ, ap, append_assoc, at_line}
-use Rattle.mk_check.proofs.Vocabulary.{before_next_script, fault_from, option_or, pointer_at, refl, script_from}
-use Rattle.mk_check.proofs.Vocabulary.{script_of, suc, sym, this_script, typing_fault, zero, [], ◌++◌, ◌+◌, ◌∙◌, ◌∷◌}
-use Rattle.mk_check.proofs.Vocabulary.{◌≡◌}
+use Rattle.mk_check.proofs.Vocabulary.{before_next_script, fault_from, pointer_at, refl, script_from, script_of, suc}
+use Rattle.mk_check.proofs.Vocabulary.{sym, this_script, typing_fault, zero, [], ◌++◌, ◌+◌, ◌∷◌, ◌≡◌}
 use Rattle.mk_check.proofs.LookupLemmas.{pointer_at-append, this_script-push}
 use Rattle.mk_check.proofs.TypedLines.{Says, says}
 use Rattle.mk_check.specs.{Blocks.AllFrom, Lookups.lines_behind, Typing.IsWellTyped, Typing.TypingFault}
@@ -16,9 +15,7 @@ line_none line (Some k) other e = cc
 -- what is declared before stays declared with more lines
 stays : (script before behind : List Item) → script ≡ before ++ behind → (name : List ℕ) (at : At)
     → pointer_at name before ≡ Some at → pointer_at name script ≡ Some at
-stays script before behind all name at is =
-    ap (pointer_at name) all
-    ∙ (pointer_at-append name before behind ∙ ap (λ (o : Option At). option_or o (pointer_at name behind)) is)
+stays script before behind all name at is = cc (pointer_at-append name before behind)
 
 module _ (program : List Item) where
   next_none : (before more : List Item) (line : ℕ) (item : Item) → fault_from program line before (item ∷ more) ≡ None
@@ -31,8 +28,7 @@ module _ (program : List Item) where
       → lines_behind (this_script before) item ≡ this_script before ++ item ∷ []
       → script ≡ this_script (before ++ item ∷ []) ++ more
   more_lines script before more item all behind =
-      all ∙ (sym (append_assoc (this_script before) (item ∷ []) more)
-      ∙ ap (λ (lines : List Item). lines ++ more) (sym (this_script-push before item ∙ behind)))
+      cc (append_assoc (this_script before) (item ∷ []) more, this_script-push before item)
 
   -- the lines that are left of a script
   rest_says : (script before more : List Item) (line place : ℕ) → script ≡ this_script before ++ before_next_script more

@@ -29,8 +29,11 @@ rules_of bare = []
 abbrev pub bare_shape : Text → Shape
 bare_shape name = record (new_shape name) { disable_help_flag = true; disable_version_flag = true }
 
+abbrev pub app_with : List Rule → Text → App
+app_with rules name = record { top = record (bare_shape name) { rules = rules }; subs = [] }
+
 abbrev pub app_named : Form → Text → App
-app_named form name = record { top = record (bare_shape name) { rules = rules_of form }; subs = [] }
+app_named form name = app_with (rules_of form) name
 
 -- the matches have what was given
 abbrev pub HasFlags : Form → List Row → Given → Type 0

@@ -1,8 +1,8 @@
 //! What clap is told of each command, and what it finds.
-ghost use Rattle.std.specs.Prelude.{◌≡◌, ◌≢◌, [], IfOk, MatchOption, false, map, string_bytes, true};
+ghost use Rattle.std.specs.Prelude.{◌≡◌, ◌≢◌, ◌∷◌, [], IfOk, MatchOption, false, map, string_bytes, true};
 ghost use Rattle.clap.specs.Words.{app_of, fault_of, found_of, is_simple_and_free, matches_of, rows_of, rule_of};
 ghost use Rattle.mk_commands.specs.Given.{bare, gens, runs};
-ghost use Rattle.mk_commands.specs.Told.{app_named, flag_rule, markers_rule, positional_rule};
+ghost use Rattle.mk_commands.specs.Told.{app_named, app_with, flag_rule, markers_rule, positional_rule};
 
 use clap::error::ErrorKind;
 use clap::{Arg, ArgAction, ArgMatches, Command};
@@ -42,26 +42,42 @@ pub fn alone(alloc: Global, name: &str) -> Command<'_>
         .disable_version_flag(true)
 }
 
+/// A command that takes `--markers K`, and two arguments more.
+fn with_markers<'a>(
+    alloc: Global,
+    name: &'a str,
+    first: Arg<'a>,
+    second: Arg<'a>,
+) -> Result<Command<'a>, NoMemory>
+    requires first { first.global ≡ false }
+    requires second { second.global ≡ false }
+    ensures { IfOk result (λ command. app_of command
+        ≡ app_with (markers_rule ∷ rule_of first.entry ∷ rule_of second.entry ∷ []) name.entry.now) }
+{
+    let command = alone(alloc, name)
+        .arg(markers(alloc))?
+        .arg(first)?
+        .arg(second)?;
+    Ok(command)
+}
+
 /// `run [--markers K] [--sweep] [--why]`.
 pub fn run(alloc: Global, name: &str) -> Result<Command<'_>, NoMemory>
     ensures { IfOk result (λ command. app_of command ≡ app_named runs name.entry.now) }
 {
-    let command = alone(alloc, name)
-        .arg(markers(alloc))?
-        .arg(flag(alloc, "sweep"))?
-        .arg(flag(alloc, "why"))?;
-    Ok(command)
+    with_markers(alloc, name, flag(alloc, "sweep"), flag(alloc, "why"))
 }
 
 /// `gen START COUNT [--markers K]`.
 pub fn generate(alloc: Global, name: &str) -> Result<Command<'_>, NoMemory>
     ensures { IfOk result (λ command. app_of command ≡ app_named gens name.entry.now) }
 {
-    let command = alone(alloc, name)
-        .arg(markers(alloc))?
-        .arg(positional(alloc, "start"))?
-        .arg(positional(alloc, "count"))?;
-    Ok(command)
+    with_markers(
+        alloc,
+        name,
+        positional(alloc, "start"),
+        positional(alloc, "count"),
+    )
 }
 
 /// What a command finds in the words; none where it refuses them.

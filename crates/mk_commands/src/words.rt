@@ -2,16 +2,17 @@
 ghost use Rattle.std.specs.Prelude.{Bool, ◌≡◌, IfOk, IfSome, Some, drop, map, option_and_then, string_bytes};
 ghost use Rattle.clap.specs.Matches.{one_text};
 ghost use Rattle.clap.specs.Values.{bool_text};
-ghost use Rattle.clap.specs.Words.{first_value, found_of};
+ghost use Rattle.clap.specs.Words.{app_of, first_value, found_of, rows_of};
 ghost use lib.Chars.{codes};
 ghost use Rattle.mk_script.specs.Names.{number_of_word};
-ghost use Rattle.mk_commands.specs.Commands.{IsWithin, alone_of, command_of, gen_from, gen_of, markers_of};
-ghost use Rattle.mk_commands.specs.Commands.{run_of, run_with};
-ghost use Rattle.mk_commands.specs.Given.{bare, gens, given_by, runs};
+ghost use Rattle.mk_commands.specs.Commands.{IsWithin, command_of, gen_from, markers_of, run_with};
+ghost use Rattle.mk_commands.specs.Given.{Given, given_by};
+ghost use Rattle.mk_commands.specs.Naming.{form_of, made_of};
+ghost use Rattle.mk_commands.specs.Told.{HasGiven, app_named};
 
 use crate::arguments::{alone, found_in, generate, run};
 use crate::commands::{Command, Options, Request, TextCommand};
-use clap::ArgMatches;
+use clap::{ArgMatches, Command as Syntax};
 use mk_never::NoMemory;
 use mk_script::parse_number;
 use std::alloc::Global;
@@ -72,51 +73,53 @@ fn gen_in(matches: &ArgMatches<'_>) -> Option<Command>
     }))
 }
 
-/// `run`, with its options.
-fn run_by<'a>(
-    alloc: Global,
-    name: &'a str,
-    words: &'a [String],
-) -> Result<Option<Command>, NoMemory>
-    ensures { IfOk result (λ answer. answer ≡ option_and_then run_of
-        (given_by runs (drop 1 (map (λ word. string_bytes word) words.entry.now)))) }
-{
-    let found = found_in(run(alloc, name)?, words)?;
-    match &found {
-        Some(matches) => Ok(run_in(matches)),
-        None => Ok(None),
+/// A command, by its name.
+#[derive(Clone, Copy)]
+enum Named {
+    Run,
+    Gen,
+    /// One that takes no option and no further word.
+    Alone(TextCommand),
+}
+
+impl Named {
+    /// What it takes.
+    fn takes(self, alloc: Global, name: &str) -> Result<Syntax<'_>, NoMemory>
+        ensures { IfOk result (λ command. app_of command ≡ app_named (form_of self) name.entry.now) }
+    {
+        match self {
+            Named::Run => run(alloc, name),
+            Named::Gen => generate(alloc, name),
+            Named::Alone(_) => Ok(alone(alloc, name)),
+        }
+    }
+
+    /// What it makes of the words that were found.
+    fn read(self, matches: &ArgMatches<'_>) -> Option<Command>
+        ensures { (given : Given) → HasGiven (form_of self) (rows_of (found_of matches.now)) given
+            → result ≡ made_of self given }
+    {
+        match self {
+            Named::Run => run_in(matches),
+            Named::Gen => gen_in(matches),
+            Named::Alone(command) => Some(Command::OnText(command)),
+        }
     }
 }
 
-/// `gen`, with its numbers.
-fn gen_by<'a>(
+/// The named command, by its options and further words.
+fn command_by<'a>(
     alloc: Global,
+    named: Named,
     name: &'a str,
     words: &'a [String],
 ) -> Result<Option<Command>, NoMemory>
-    ensures { IfOk result (λ answer. answer ≡ option_and_then gen_of
-        (given_by gens (drop 1 (map (λ word. string_bytes word) words.entry.now)))) }
+    ensures { IfOk result (λ answer. answer ≡ option_and_then (made_of named)
+        (given_by (form_of named) (drop 1 (map (λ word. string_bytes word) words.entry.now)))) }
 {
-    let found = found_in(generate(alloc, name)?, words)?;
+    let found = found_in(named.takes(alloc, name)?, words)?;
     match &found {
-        Some(matches) => Ok(gen_in(matches)),
-        None => Ok(None),
-    }
-}
-
-/// A command that takes no option and no further word.
-fn alone_by<'a>(
-    alloc: Global,
-    command: TextCommand,
-    name: &'a str,
-    words: &'a [String],
-) -> Result<Option<Command>, NoMemory>
-    ensures { IfOk result (λ answer. answer ≡ option_and_then (alone_of command)
-        (given_by bare (drop 1 (map (λ word. string_bytes word) words.entry.now)))) }
-{
-    let found = found_in(alone(alloc, name), words)?;
-    match &found {
-        Some(_matches) => Ok(Some(Command::OnText(command))),
+        Some(matches) => Ok(named.read(matches)),
         None => Ok(None),
     }
 }
@@ -131,17 +134,17 @@ pub fn command_in(alloc: Global, words: &[String]) -> Result<Option<Command>, No
     };
     let name = name.as_str();
     if name == "run" {
-        run_by(alloc, name, words)
+        command_by(alloc, Named::Run, name, words)
     } else if name == "check" {
-        alone_by(alloc, TextCommand::Check, name, words)
+        command_by(alloc, Named::Alone(TextCommand::Check), name, words)
     } else if name == "print" {
-        alone_by(alloc, TextCommand::Print, name, words)
+        command_by(alloc, Named::Alone(TextCommand::Print), name, words)
     } else if name == "replay" {
-        alone_by(alloc, TextCommand::Replay, name, words)
+        command_by(alloc, Named::Alone(TextCommand::Replay), name, words)
     } else if name == "gen" {
-        gen_by(alloc, name, words)
+        command_by(alloc, Named::Gen, name, words)
     } else if name == "trace" {
-        alone_by(alloc, TextCommand::Trace, name, words)
+        command_by(alloc, Named::Alone(TextCommand::Trace), name, words)
     } else {
         Ok(None)
     }

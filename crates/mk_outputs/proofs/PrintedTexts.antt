@@ -1,10 +1,10 @@
 -- The texts of the scripts, one after the other, are all that a run prints.
 use Rattle.std.specs.List.{flat_map, range_with_len}
-use Rattle.mk_laws.proofs.Vocabulary.{Bool, Event, List, ℕ, ap, arith, false, length, refl, slice_index_or, suc, true}
-use Rattle.mk_laws.proofs.Vocabulary.{[], ◌++◌, ◌+◌, ◌<◌, ◌∙◌, ◌∷◌, ◌≡◌}
+use Rattle.mk_laws.proofs.Vocabulary.{Bool, Event, List, ℕ, ap, arith, false, length, refl, slice_index_or, subst, suc}
+use Rattle.mk_laws.proofs.Vocabulary.{sym, true, [], ◌++◌, ◌+◌, ◌<◌, ◌∙◌, ◌∷◌, ◌≡◌}
 use Rattle.mk_check.specs.{Declarations.config_of, Output.output, Output.text_behind, declared.text.Text.Text}
 use Rattle.mk_engines.specs.Roots.{CyclesMarkRootsFirst}
-use Rattle.mk_outputs.specs.{KeptText.kept_text, Outputs.TellsWhatIsKept}
+use Rattle.mk_outputs.specs.{KeptText.kept_text, Outputs.IsOutputOfRun, Outputs.TellsWhatIsKept}
 use Rattle.mk_replay.specs.Replays.{AreTextsOf}
 use Rattle.mk_run.proofs.Headline.{runs_print_their_texts, runs_stand_in_one_history}
 use Rattle.mk_run.specs.Headline.{StandsInOneHistory, cycles_go_on}
@@ -63,3 +63,31 @@ run_is_explained program markers sweep outcome texts bytes entries runs begun un
           runs begun unswept (is ∙ ap (λ (text : List ℕ). text ++ lines) front);
       ends_with_cycle = ends;
     }
+
+-- So a run is told, whether it is asked why objects are kept or not.
+
+pub told_why : (why : Bool) (program : List Item) (markers : ℕ) (sweep : Bool) (outcome : Outcome) (texts bytes : List ℕ)
+    (entries : List Kept) → why ≡ true → IsRunOf (cycles_go_on markers) why program markers outcome
+    → (cycles_go_on markers ≡ true
+    → CyclesMarkRootsFirst (config_of program markers) (report.history_of outcome.report))
+    → (sweep ≡ false → IsUnswept (config_of program markers) (report.history_of outcome.report))
+    → EndsWithCycle (λ c w. AreKept c w entries) (config_of program markers) (report.history_of outcome.report)
+    → texts ≡ flat_map (λ (text : Text). text.bytes.items) outcome.texts.items
+    → bytes ≡ texts ++ kept_text program entries
+    → IsOutputOfRun why program markers sweep bytes
+told_why why program markers sweep outcome texts bytes entries asked runs begun unswept ends are is =
+    subst (λ (w : Bool). IsOutputOfRun w program markers sweep bytes) (sym asked)
+    (run_is_explained program markers sweep outcome texts bytes entries
+    (subst (λ (w : Bool). IsRunOf (cycles_go_on markers) w program markers outcome) asked runs) begun unswept ends are is)
+
+pub told_texts : (why : Bool) (program : List Item) (markers : ℕ) (sweep : Bool) (outcome : Outcome) (bytes : List ℕ)
+    → why ≡ false → IsRunOf (cycles_go_on markers) why program markers outcome
+    → (cycles_go_on markers ≡ true
+    → CyclesMarkRootsFirst (config_of program markers) (report.history_of outcome.report))
+    → (sweep ≡ false → IsUnswept (config_of program markers) (report.history_of outcome.report))
+    → bytes ≡ flat_map (λ (text : Text). text.bytes.items) outcome.texts.items
+    → IsOutputOfRun why program markers sweep bytes
+told_texts why program markers sweep outcome bytes asked runs begun unswept are =
+    subst (λ (w : Bool). IsOutputOfRun w program markers sweep bytes) (sym asked)
+    (run_is_printed program markers sweep outcome bytes
+    (subst (λ (w : Bool). IsRunOf (cycles_go_on markers) w program markers outcome) asked runs) begun unswept are)

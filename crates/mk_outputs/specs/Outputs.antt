@@ -16,6 +16,7 @@ use Rattle.mk_check.specs.declared.typing_faults.TypeStop.TheVariants as typing
 use Rattle.mk_check.specs.Typing.{TypingFault, first_typing_fault}
 use Rattle.mk_check.specs.Declarations.{config_of}
 use Rattle.mk_check.specs.Output.{output as output_behind}
+use Rattle.mk_core.specs.declared.config.Config.{Config}
 use Rattle.mk_core.specs.declared.events.Event.{Event}
 use Rattle.mk_core.specs.History.{AreEnabled}
 use Rattle.mk_laws.specs.Promises.{KeepsAllPromises}
@@ -121,6 +122,11 @@ pub record TellsWhatIsKept (program : List Item) (markers : ℕ) (sweep : Bool) 
       StandsInOneHistory program markers sweep true (λ c es. output_behind program c es ++ kept_text program entries)
       output
   pub ends_with_cycle : EndsWithCycle (λ c w. AreKept c w entries) (config_of program markers) stands.history
+
+-- Where it is asked why objects are kept, the entries are what the history's last cycle kept, and there are none else.
+abbrev pub TellsKept : Bool → Option (List Kept) → Config → List Event → Type 0
+TellsKept why None c es = why ≡ false
+TellsKept why (Some entries) c es = (why ≡ true) × EndsWithCycle (λ c w. AreKept c w entries) c es
 
 -- What a run prints, asked why objects are kept or not: without that, its program's replies stand in one history of its
 -- heap, and what its scripts print of it is written.

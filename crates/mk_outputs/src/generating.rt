@@ -9,7 +9,7 @@ ghost use Rattle.mk_outputs.specs.SummedTexts.{line_of_text, summary_of_texts, A
 
 use crate::running::outcome_of;
 use mk_check::Text;
-use mk_commands::Request;
+use mk_commands::{Options, Request};
 use mk_gen::generate;
 use mk_never::NoMemory;
 use mk_run::Pace;
@@ -29,7 +29,12 @@ pub fn summed<P: Pace + Sync, R: Threads + Wait + Sync>(
         request.markers false false (summary (generated_program request.start request.count)) bytes.items) }
 {
     let program = generate(alloc, request.start, request.count)?;
-    let outcome = outcome_of(rt, alloc, &program, request.markers, false, pace)?;
+    let options = Options {
+        markers: request.markers,
+        sweep: false,
+        why: false,
+    };
+    let (outcome, _) = outcome_of(rt, alloc, &program, options, pace)?;
     let lines = summary_of(alloc, &outcome.texts)?;
     Ok(lines.into_bytes())
 }

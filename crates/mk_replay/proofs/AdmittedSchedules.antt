@@ -2,8 +2,8 @@
 -- the program's heap, and keeps all promises.
 use Rattle.std.proofs.lemmas.List.Elements.{All-nil, All-push, filter-append}
 use Rattle.std.proofs.{Common.All, Common.filter, lemmas.List.get_or-replicate, lemmas.List.Sums.sum_by_push}
-use Rattle.mk_replay.proofs.Vocabulary.{Answer, AreEnabled, Caller, Config, Decided, Entry, Event, Flight, Form, Item}
-use Rattle.mk_replay.proofs.Vocabulary.{Moment, Op, Stage, Step, answer_decided, answers_given, asked, at_rest, calls}
+use Rattle.mk_replay.proofs.Vocabulary.{Answer, AreEnabled, Caller, Config, Decided, Entry, Event, Flight, Item, Moment}
+use Rattle.mk_replay.proofs.Vocabulary.{Op, Stage, Step, answer_decided, answers_given, asked, at_rest, calls}
 use Rattle.mk_replay.proofs.Vocabulary.{comes_next, config_of, ends_call, entry_of, event_of_entry, first_world}
 use Rattle.mk_replay.proofs.Vocabulary.{flight_of, history_of, is_same_seat, left, length-append, nat_tests, progress}
 use Rattle.mk_laws.proofs.Vocabulary.{Bool, Host, IsHistory, List, Marker, None, Option, Seat, Some, World, ℕ, ap}
@@ -73,12 +73,12 @@ no_new_enters Stage.Turn (Op.New d' ty' full') d ty full h = cc
 no_new_enters Stage.Turn f d ty full h = cc
 no_new_enters s f d ty full h = cc
 
-begins_so : (program : List Item) (k : ℕ) (given : List Answer) (x : Form) (o : Option Op) (s : Stage) (f : Op)
+begins_so : (program : List Item) (k : ℕ) (given : List Answer) (x : Step) (o : Option Op) (s : Stage) (f : Op)
     → next_op program k given ≡ o → comes_next s f (step_of x o) ≡ true → BeginsAsAsked program k given (step_of x o)
-begins_so program k given Form.Enter (Some y) s f next order = next
-begins_so program k given Form.Enter None s f next order = absurd (no_new_enters s f 0 0 false order)
-begins_so program k given Form.Take (Some y) s f next order = next
-begins_so program k given Form.Take None s f next order = tt
+begins_so program k given (Step.Enter _) (Some y) s f next order = next
+begins_so program k given (Step.Enter _) None s f next order = absurd (no_new_enters s f 0 0 false order)
+begins_so program k given (Step.Take _) (Some y) s f next order = next
+begins_so program k given (Step.Take _) None s f next order = tt
 begins_so program k given x o s f next order = tt
 
 -- what caller k has called after a history, as its script asks for it

@@ -1,6 +1,6 @@
 -- The forms of a line's pieces and its entries, one piece after another.
 use Rattle.std.{proofs.lemmas.List.take_more, specs.declared.result.Result.Result}
-use Rattle.mk_replay.proofs.Vocabulary.{Bor, Err, Form, Ok, form_of, texts_of}
+use Rattle.mk_replay.proofs.Vocabulary.{Bor, Err, Ok, Step, form_of, texts_of}
 use Rattle.mk_laws.proofs.Vocabulary.{List, ℕ, ap, arith, get_or, length, map, map-append, refl, sym, take, [], ◌++◌}
 use Rattle.mk_laws.proofs.Vocabulary.{◌+◌, ◌<◌, ◌∙◌, ◌∷◌, ◌≡◌}
 use Rattle.mk_replay.specs.{Entries.forms_with, Entries.with_form, Forms.both, Forms.worse_fault, Schedules.forms_of}
@@ -9,7 +9,7 @@ use Rattle.mk_script.specs.{Words.words_of_line, declared.faults.TextKind.TextKi
 worse_fault-in_turn : (a b c : TextKind) → worse_fault a (worse_fault b c) ≡ worse_fault (worse_fault a b) c
 worse_fault-in_turn a b c = grind arith
 
-in_turn : (first : Result Form TextKind) (forms : Result (List Form) TextKind) (last : Result Form TextKind)
+in_turn : (first : Result Step TextKind) (forms : Result (List Step) TextKind) (last : Result Step TextKind)
     → both (λ form forms. form ∷ forms) first (with_form forms last)
     ≡ with_form (both (λ form forms. form ∷ forms) first forms) last
 in_turn (Ok x) (Ok xs) (Ok y) = refl
@@ -21,7 +21,7 @@ in_turn (Err a) (Ok xs) (Err c) = refl
 in_turn (Err a) (Err b) (Ok y) = refl
 in_turn (Err a) (Err b) (Err c) = ap Err (worse_fault-in_turn a b c)
 
-pub single : (last : Result Form TextKind) → both (λ form forms. form ∷ forms) last (Ok []) ≡ with_form (Ok []) last
+pub single : (last : Result Step TextKind) → both (λ form forms. form ∷ forms) last (Ok []) ≡ with_form (Ok []) last
 single (Ok y) = refl
 single (Err c) = refl
 
@@ -34,8 +34,8 @@ forms_of-push (first ∷ pieces) last =
     ∙ in_turn (form_of first) (forms_of pieces) (form_of last)
 
 -- the same, along the other pieces of a line
-pub goes_on : (first : Result Form TextKind) (others : List (Bor (List ℕ))) (i : ℕ) (d : Bor (List ℕ))
-    (before after : Result (List Form) TextKind) → i < length others
+pub goes_on : (first : Result Step TextKind) (others : List (Bor (List ℕ))) (i : ℕ) (d : Bor (List ℕ))
+    (before after : Result (List Step) TextKind) → i < length others
     → forms_with first (texts_of (take i others)) ≡ before
     → after ≡ with_form before (form_of (words_of_line (get_or others i d).now))
     → forms_with first (texts_of (take (i + 1) others)) ≡ after

@@ -1,7 +1,7 @@
 -- A form that is listed by its name, with words after it that aren't numbers.
 use Rattle.std.proofs.Common.{codes, ok_or}
 use Rattle.std.specs.{Option.option_map, Result.IsErrAnd, Str.bytes_eq, declared.result.Result.Result}
-use Rattle.mk_replay.proofs.Vocabulary.{Err, Form, Ok, value_among}
+use Rattle.mk_replay.proofs.Vocabulary.{Err, Ok, Step, value_among}
 use Rattle.mk_laws.proofs.Vocabulary.{Bool, List, None, Option, Some, ℕ, ap, false, if◌then◌else◌, map, refl, true, []}
 use Rattle.mk_laws.proofs.Vocabulary.{◌∙◌, ◌∷◌, ◌≡◌}
 use Rattle.mk_replay.specs.Forms.{both, forms_of_numbers, number, two_operands}
@@ -28,7 +28,7 @@ was_some : {A : Type 0} (o : Option A) (x : A) → ok_or o TextKind.Word ≡ Ok 
 was_some None x is = cc
 was_some (Some y) x is = cc
 
-unnumbered : (f : ℕ → ℕ → Form) (v w : Option ℕ) (e : TextKind) → ok_or v TextKind.Number ≡ Err e
+unnumbered : (f : ℕ → ℕ → Step) (v w : Option ℕ) (e : TextKind) → ok_or v TextKind.Number ≡ Err e
     → both f (ok_or v TextKind.Number) (ok_or w TextKind.Number) ≡ Err e
 unnumbered f None None e is = cc
 unnumbered f None (Some n) e is = cc

@@ -17,4 +17,3 @@ pub use Rattle.mk_replay.specs.Reading.{text_length}
 pub use Rattle.mk_replay.specs.Replays.{AreFirstTexts, event_of_entry, history_of}
 pub use Rattle.mk_replay.specs.Schedules.{is_schedule_line}
 pub use Rattle.mk_replay.specs.declared.schedule.Entry.{Entry}
-pub use Rattle.mk_replay.specs.declared.schedule.Form.{Form}

@@ -5,7 +5,7 @@ use Rattle.std.specs.Prelude.{Err}
 use Rattle.std.specs.declared.result.Result.{Result}
 use Rattle.mk_script.specs.declared.faults.TextKind.{TextKind}
 use Rattle.mk_script.specs.Words.{words_of_line}
-use Rattle.mk_replay.specs.declared.schedule.Form.{Form}
+use Rattle.mk_core.specs.declared.events.Step.{Step}
 use Rattle.mk_replay.specs.declared.schedule.Entry.{Entry}
 use Rattle.mk_replay.specs.declared.lines.LineStop.{LineStop}
 use Rattle.mk_replay.specs.declared.lines.LineStop.TheVariants.{Text, NoMemory}
@@ -29,14 +29,14 @@ pub record IsEndOfPiece (text : List ℕ) (end : ℕ) : Type 0 where
   pub pieces : pieces_of text ≡ take end text ∷ pieces_of (drop (end + 2) text)
 
 -- the forms of the pieces so far, or the fault that is to be named
-abbrev pub forms_so_far : Option TextKind → List Form → Result (List Form) TextKind
+abbrev pub forms_so_far : Option TextKind → List Step → Result (List Step) TextKind
 forms_so_far None forms = Ok forms
 forms_so_far (Some fault) forms = Err fault
 
 -- one form more
-abbrev pub with_form : Result (List Form) TextKind → Result Form TextKind → Result (List Form) TextKind
+abbrev pub with_form : Result (List Step) TextKind → Result Step TextKind → Result (List Step) TextKind
 with_form forms form = both (λ before last. before ++ last ∷ []) forms form
 
 -- the forms of a line whose first piece's form is this, and whose other pieces are these
-abbrev pub forms_with : Result Form TextKind → List (List ℕ) → Result (List Form) TextKind
+abbrev pub forms_with : Result Step TextKind → List (List ℕ) → Result (List Step) TextKind
 forms_with first others = both (λ form forms. form ∷ forms) first (forms_of (map words_of_line others))

@@ -1,19 +1,21 @@
 -- The words of an event and of a seat.
-use Rattle.std.specs.Prelude.{ℕ, ◌==◌, if◌then◌else◌, List, [], ◌∷◌, Option, Some, None, ok_or, Ok, Err}
+use Rattle.std.specs.Prelude.{ℕ, ◌==◌, if◌then◌else◌, false, List, [], ◌∷◌, Option, Some, None, ok_or, Ok, Err}
 use Rattle.std.specs.declared.result.Result.{Result}
 use Rattle.std.specs.Str.{bytes_eq}
 use lib.Chars.{codes}
 use Rattle.mk_script.specs.declared.faults.TextKind.{TextKind}
 use Rattle.mk_script.specs.declared.faults.TextKind.TheVariants as kind
 use Rattle.mk_script.specs.Names.{number_of_word}
+use Rattle.mk_never.specs.declared.operations.Op.{Op}
+use Rattle.mk_never.specs.declared.operations.Op.TheVariants as op
 use Rattle.mk_core.specs.declared.events.Seat.{Seat}
 use Rattle.mk_core.specs.declared.events.Seat.TheVariants as seat
 use Rattle.mk_core.specs.declared.events.Word.{Word}
 use Rattle.mk_core.specs.declared.events.Word.TheVariants as word
 use Rattle.mk_core.specs.declared.events.Tally.{Tally}
 use Rattle.mk_core.specs.declared.events.Tally.TheVariants as tally
-use Rattle.mk_replay.specs.declared.schedule.Form.{Form}
-use Rattle.mk_replay.specs.declared.schedule.Form.TheVariants as form
+use Rattle.mk_core.specs.declared.events.Step.{Step}
+use Rattle.mk_core.specs.declared.events.Step.TheVariants as step
 
 -- the value that a word is listed with
 abbrev pub value_among : {A : Type 0} → List (List ℕ × A) → List ℕ → Option A
@@ -39,37 +41,40 @@ on_ok f (Err e) = Err e
 abbrev pub number : List ℕ → Result ℕ TextKind
 number w = ok_or (number_of_word w) kind.Number
 
+-- A form is a step but for its operation: an `enter` has one that no `enter` may carry, and a `take` has none.
+abbrev pub nothing_to_enter : Op
+nothing_to_enter = op.New 0 0 false
+
 -- forms without a number
-abbrev pub plain_forms : List (List ℕ × Form)
+abbrev pub plain_forms : List (List ℕ × Step)
 plain_forms =
-    (codes "enter", form.Enter) ∷ (codes "leave", form.Leave) ∷ (codes "reg", form.Reg) ∷ (codes "probe", form.Probe)
-    ∷ (codes "read", form.Read) ∷ (codes "write", form.Write) ∷ (codes "cas", form.Cas) ∷ (codes "getg", form.Getg)
-    ∷ (codes "setg", form.Setg) ∷ (codes "take", form.Take) ∷ (codes "give", form.Give) ∷ (codes "grant", form.Grant)
-    ∷ (codes "full", form.Full) ∷ (codes "begin", form.Begin) ∷ (codes "close", form.Close)
-    ∷ (codes "release", form.Release)
-    ∷ (codes "end", form.End) ∷ (codes "want", form.Want) ∷ (codes "dirty", form.Dirty) ∷ (codes "attend", form.Attend)
-    ∷ (codes "quit", form.Quit) ∷ (codes "mload", form.Mload) ∷ (codes "mmark", form.Mmark)
-    ∷ (codes "mblack", form.Mblack)
-    ∷ (codes "over", form.Over) ∷ []
+    (codes "enter", step.Enter nothing_to_enter) ∷ (codes "leave", step.Leave) ∷ (codes "reg", step.Reg)
+    ∷ (codes "probe", step.Probe) ∷ (codes "read", step.Read) ∷ (codes "write", step.Write) ∷ (codes "cas", step.Cas)
+    ∷ (codes "getg", step.Getg) ∷ (codes "setg", step.Setg) ∷ (codes "take", step.Take None) ∷ (codes "give", step.Give)
+    ∷ (codes "grant", step.Grant) ∷ (codes "full", step.Full) ∷ (codes "begin", step.Begin)
+    ∷ (codes "close", step.Close) ∷ (codes "release", step.Release) ∷ (codes "end", step.End)
+    ∷ (codes "want", step.Want) ∷ (codes "dirty", step.Dirty) ∷ (codes "attend", step.Attend)
+    ∷ (codes "quit", step.Quit) ∷ (codes "mload", step.Mload) ∷ (codes "mmark", step.Mmark)
+    ∷ (codes "mblack", step.Mblack) ∷ (codes "over", step.Over) ∷ []
 
 -- forms of one number
-abbrev pub forms_of_number : List (List ℕ × (ℕ → Form))
+abbrev pub forms_of_number : List (List ℕ × (ℕ → Step))
 forms_of_number =
-    (codes "hold", (λ n. form.Hold n)) ∷ (codes "open", (λ n. form.Open n)) ∷ (codes "clear", (λ n. form.Clear n))
-    ∷ (codes "wipe", (λ n. form.Wipe n)) ∷ (codes "undirty", (λ n. form.Undirty n))
-    ∷ (codes "unblack", (λ n. form.Unblack n)) ∷ []
+    (codes "hold", (λ n. step.Hold n)) ∷ (codes "open", (λ n. step.Open n)) ∷ (codes "clear", (λ n. step.Clear n))
+    ∷ (codes "wipe", (λ n. step.Wipe n)) ∷ (codes "undirty", (λ n. step.Undirty n))
+    ∷ (codes "unblack", (λ n. step.Unblack n)) ∷ []
 
 -- forms of two numbers
-abbrev pub forms_of_numbers : List (List ℕ × (ℕ → ℕ → Form))
+abbrev pub forms_of_numbers : List (List ℕ × (ℕ → ℕ → Step))
 forms_of_numbers =
-    (codes "head", (λ p v. form.Head p v)) ∷ (codes "used", (λ p v. form.Used p v))
-    ∷ (codes "quar", (λ p v. form.Quar p v))
-    ∷ (codes "mark", (λ p v. form.Mark p v)) ∷ (codes "black", (λ p v. form.Black p v))
-    ∷ (codes "claim", (λ p k. form.Claim p k)) ∷ []
+    (codes "head", (λ p v. step.Head p v)) ∷ (codes "used", (λ p v. step.Used p v))
+    ∷ (codes "quar", (λ p v. step.Quar p v))
+    ∷ (codes "mark", (λ p v. step.Mark p v)) ∷ (codes "black", (λ p v. step.Black p v))
+    ∷ (codes "claim", (λ p k. step.Claim p k)) ∷ []
 
 -- forms of a word of the table
-abbrev pub forms_of_word : List (List ℕ × (Word → Form))
-forms_of_word = (codes "look", (λ x. form.Look x)) ∷ (codes "mlook", (λ x. form.Mlook x)) ∷ []
+abbrev pub forms_of_word : List (List ℕ × (Word → Step))
+forms_of_word = (codes "look", (λ x. step.Look x)) ∷ (codes "mlook", (λ x. step.Mlook x)) ∷ []
 
 abbrev pub tallies : List (List ℕ × Tally)
 tallies =
@@ -105,33 +110,33 @@ table_word (a ∷ c ∷ r ∷ []) =
     with_numbers (if bytes_eq a (codes "reg") then Some (λ caller register. word.Reg caller register) else None) c r
 table_word _ = Err kind.Word
 
-abbrev pub with_table_word : Option (Word → Form) → List (List ℕ) → Result Form TextKind
+abbrev pub with_table_word : Option (Word → Step) → List (List ℕ) → Result Step TextKind
 with_table_word None ws = Err kind.Word
 with_table_word (Some f) ws = on_ok f (table_word ws)
 
-abbrev pub tally_form : List ℕ → List ℕ → Result Form TextKind
-tally_form n v = both (λ t value. form.Tally t value) (ok_or (value_among tallies n) kind.Word) (number v)
+abbrev pub tally_form : List ℕ → List ℕ → Result Step TextKind
+tally_form n v = both (λ t value. step.Tally t value) (ok_or (value_among tallies n) kind.Word) (number v)
 
 -- an event of two numbers, a tally or a word of one number
-abbrev pub two_operands : List ℕ → List ℕ → List ℕ → Result Form TextKind
+abbrev pub two_operands : List ℕ → List ℕ → List ℕ → Result Step TextKind
 two_operands a v w =
     if bytes_eq a (codes "tally")
     then tally_form v w
     else two_or_look (value_among forms_of_numbers a)
   where
-    two_or_look : Option (ℕ → ℕ → Form) → Result Form TextKind
+    two_or_look : Option (ℕ → ℕ → Step) → Result Step TextKind
     two_or_look (Some f) = both f (number v) (number w)
     two_or_look None = with_table_word (value_among forms_of_word a) (v ∷ w ∷ [])
 
-abbrev pub one_operand : List ℕ → List ℕ → Result Form TextKind
+abbrev pub one_operand : List ℕ → List ℕ → Result Step TextKind
 one_operand a v = one_or_look (value_among forms_of_number a)
   where
-    one_or_look : Option (ℕ → Form) → Result Form TextKind
+    one_or_look : Option (ℕ → Step) → Result Step TextKind
     one_or_look (Some f) = on_ok f (number v)
     one_or_look None = with_table_word (value_among forms_of_word a) (v ∷ [])
 
 -- the form of an event, by its words
-abbrev pub form_of : List (List ℕ) → Result Form TextKind
+abbrev pub form_of : List (List ℕ) → Result Step TextKind
 form_of [] = Err kind.Word
 form_of (a ∷ []) = ok_or (value_among plain_forms a) kind.Word
 form_of (a ∷ v ∷ []) = one_operand a v

@@ -8,24 +8,24 @@ use Rattle.mk_replay.specs.declared.forms.FormOfNumbers.{FormOfNumbers}
 use Rattle.mk_replay.specs.declared.forms.FormOfNumbers.TheVariants as two
 use Rattle.mk_replay.specs.declared.forms.WordOfNumber.{WordOfNumber}
 use Rattle.mk_replay.specs.declared.forms.WordOfNumber.TheVariants as numbered
-use Rattle.mk_replay.specs.declared.schedule.Form.{Form}
-use Rattle.mk_replay.specs.declared.schedule.Form.TheVariants as form
+use Rattle.mk_core.specs.declared.events.Step.{Step}
+use Rattle.mk_core.specs.declared.events.Step.TheVariants as step
 
-abbrev pub form_of_number : FormOfNumber → ℕ → Form
-form_of_number Hold = λ n. form.Hold n
-form_of_number Open = λ n. form.Open n
-form_of_number Clear = λ n. form.Clear n
-form_of_number Wipe = λ n. form.Wipe n
-form_of_number Undirty = λ n. form.Undirty n
-form_of_number Unblack = λ n. form.Unblack n
+abbrev pub form_of_number : FormOfNumber → ℕ → Step
+form_of_number Hold = λ n. step.Hold n
+form_of_number Open = λ n. step.Open n
+form_of_number Clear = λ n. step.Clear n
+form_of_number Wipe = λ n. step.Wipe n
+form_of_number Undirty = λ n. step.Undirty n
+form_of_number Unblack = λ n. step.Unblack n
 
-abbrev pub form_of_numbers : FormOfNumbers → ℕ → ℕ → Form
-form_of_numbers two.Head = λ page value. form.Head page value
-form_of_numbers two.Used = λ page value. form.Used page value
-form_of_numbers two.Quar = λ page value. form.Quar page value
-form_of_numbers two.Mark = λ page value. form.Mark page value
-form_of_numbers two.Black = λ page value. form.Black page value
-form_of_numbers two.Claim = λ page cell. form.Claim page cell
+abbrev pub form_of_numbers : FormOfNumbers → ℕ → ℕ → Step
+form_of_numbers two.Head = λ page value. step.Head page value
+form_of_numbers two.Used = λ page value. step.Used page value
+form_of_numbers two.Quar = λ page value. step.Quar page value
+form_of_numbers two.Mark = λ page value. step.Mark page value
+form_of_numbers two.Black = λ page value. step.Black page value
+form_of_numbers two.Claim = λ page cell. step.Claim page cell
 
 abbrev pub word_of_number : WordOfNumber → ℕ → Word
 word_of_number numbered.Gate = λ n. word.Gate n

@@ -1,9 +1,8 @@
 -- What a schedule makes of a program, on a heap with eight markers: the history, the first event that isn't enabled,
 -- and the texts of the scripts.
-use Rattle.std.specs.Prelude.{◌≡◌, ◌<◌, ℕ, false, List, [], ◌∷◌, ◌++◌, length, count_by, slice_index_or}
+use Rattle.std.specs.Prelude.{◌≡◌, ◌<◌, ℕ, List, [], ◌∷◌, ◌++◌, length, count_by, slice_index_or}
 use Rattle.std.specs.Prelude.{Option, Some, None, ◌==◌, if◌then◌else◌}
 use Rattle.mk_never.specs.declared.operations.Op.{Op}
-use Rattle.mk_never.specs.declared.operations.Op.TheVariants as op
 use Rattle.mk_script.specs.declared.items.Item.{Item}
 use Rattle.mk_script.specs.Scopes.{script_names}
 use Rattle.mk_check.specs.Declarations.{config_of}
@@ -18,9 +17,8 @@ use Rattle.mk_core.specs.declared.events.Step.TheVariants as step
 use Rattle.mk_core.specs.declared.events.Event.{Event}
 use Rattle.mk_core.specs.Enabled.{failing}
 use Rattle.mk_core.specs.History.{left}
-use Rattle.mk_replay.specs.declared.schedule.Form.{Form}
-use Rattle.mk_replay.specs.declared.schedule.Form.TheVariants as form
 use Rattle.mk_replay.specs.declared.schedule.Entry.{Entry}
+use Rattle.mk_replay.specs.Forms.{nothing_to_enter}
 use Rattle.mk_replay.specs.declared.replaying.ReplayStop.{ReplayStop}
 use Rattle.mk_replay.specs.declared.replaying.ReplayStop.TheVariants.{NotEnabled}
 
@@ -29,49 +27,12 @@ abbrev pub next_op_for : List Item → List Event → Seat → Option Op
 next_op_for program es (seat.Caller k) = next_op program k (answers_given (config_of program 8) es k)
 next_op_for program es _ = None
 
--- The step of a form. Where there is no operation, `enter` carries a New, which no `enter` may carry.
-abbrev pub step_of : Form → Option Op → Step
-step_of form.Enter (Some o) = step.Enter o
-step_of form.Enter None = step.Enter (op.New 0 0 false)
-step_of form.Leave o = step.Leave
-step_of form.Reg o = step.Reg
-step_of form.Probe o = step.Probe
-step_of form.Read o = step.Read
-step_of form.Write o = step.Write
-step_of form.Cas o = step.Cas
-step_of form.Getg o = step.Getg
-step_of form.Setg o = step.Setg
-step_of form.Take o = step.Take o
-step_of form.Give o = step.Give
-step_of (form.Look x) o = step.Look x
-step_of (form.Head p v) o = step.Head p v
-step_of (form.Used p v) o = step.Used p v
-step_of (form.Quar p v) o = step.Quar p v
-step_of form.Grant o = step.Grant
-step_of (form.Tally n v) o = step.Tally n v
-step_of (form.Hold j) o = step.Hold j
-step_of (form.Open j) o = step.Open j
-step_of (form.Clear p) o = step.Clear p
-step_of (form.Mark p v) o = step.Mark p v
-step_of (form.Wipe n) o = step.Wipe n
-step_of form.Full o = step.Full
-step_of form.Begin o = step.Begin
-step_of form.Close o = step.Close
-step_of form.Release o = step.Release
-step_of form.End o = step.End
-step_of form.Want o = step.Want
-step_of form.Dirty o = step.Dirty
-step_of (form.Undirty p) o = step.Undirty p
-step_of (form.Black p v) o = step.Black p v
-step_of (form.Unblack p) o = step.Unblack p
-step_of form.Attend o = step.Attend
-step_of form.Quit o = step.Quit
-step_of (form.Mlook x) o = step.Mlook x
-step_of (form.Claim p k) o = step.Claim p k
-step_of form.Mload o = step.Mload
-step_of form.Mmark o = step.Mmark
-step_of form.Mblack o = step.Mblack
-step_of form.Over o = step.Over
+-- The step of a form. Where there is no operation, `enter` carries one that no `enter` may carry.
+abbrev pub step_of : Step → Option Op → Step
+step_of (step.Enter _) (Some o) = step.Enter o
+step_of (step.Enter _) None = step.Enter nothing_to_enter
+step_of (step.Take _) o = step.Take o
+step_of form o = form
 
 -- an entry's event after others
 abbrev pub event_of_entry : List Item → List Event → Entry → Event

@@ -12,7 +12,7 @@ use Rattle.mk_script.specs.declared.faults.TextStop.TheVariants as stop
 use Rattle.mk_script.specs.Words.{lines_of, words_of_line}
 use Rattle.mk_script.specs.Grammar.{fault_at, longest_text, too_long, items_of_lines}
 use Rattle.mk_core.specs.declared.events.Seat.{Seat}
-use Rattle.mk_replay.specs.declared.schedule.Form.{Form}
+use Rattle.mk_core.specs.declared.events.Step.{Step}
 use Rattle.mk_replay.specs.declared.schedule.Entry.{Entry}
 use Rattle.mk_replay.specs.Forms.{both, form_of, seat_of}
 
@@ -28,12 +28,12 @@ pieces_of (byte ∷ []) = (byte ∷ []) ∷ []
 pieces_of (byte ∷ next ∷ rest) =
     if (byte == 59) && (next == 32) then [] ∷ pieces_of rest else in_front byte (pieces_of (next ∷ rest))
 
-abbrev pub forms_of : List (List (List ℕ)) → Result (List Form) TextKind
+abbrev pub forms_of : List (List (List ℕ)) → Result (List Step) TextKind
 forms_of [] = Ok []
 forms_of (words ∷ more) = both (λ form forms. form ∷ forms) (form_of words) (forms_of more)
 
 -- the events of a line, from a place on
-abbrev pub entries_from : ℕ → ℕ → Seat → List Form → List Entry
+abbrev pub entries_from : ℕ → ℕ → Seat → List Step → List Entry
 entries_from line place seat [] = []
 entries_from line place seat (form ∷ forms) =
     record { seat = seat; form = form; line = line; place = place } ∷ entries_from line (place + 1) seat forms

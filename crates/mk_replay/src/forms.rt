@@ -4,36 +4,36 @@ ghost use Rattle.mk_script.specs.Words.{texts_of};
 ghost use Rattle.mk_replay.specs.Forms as spec;
 ghost use Rattle.mk_replay.specs.Numbered.{form_of_number, form_of_numbers, word_of_number};
 
-use crate::schedule::Form;
-use mk_core::{Seat, Tally, Word};
+use crate::steps::NOTHING_TO_ENTER;
+use mk_core::{Seat, Step, Tally, Word};
 use mk_script::{TextKind, parse_number};
 
-const PLAIN_FORMS: [(&[u8], Form); 25] = [
-    (b"enter", Form::Enter),
-    (b"leave", Form::Leave),
-    (b"reg", Form::Reg),
-    (b"probe", Form::Probe),
-    (b"read", Form::Read),
-    (b"write", Form::Write),
-    (b"cas", Form::Cas),
-    (b"getg", Form::Getg),
-    (b"setg", Form::Setg),
-    (b"take", Form::Take),
-    (b"give", Form::Give),
-    (b"grant", Form::Grant),
-    (b"full", Form::Full),
-    (b"begin", Form::Begin),
-    (b"close", Form::Close),
-    (b"release", Form::Release),
-    (b"end", Form::End),
-    (b"want", Form::Want),
-    (b"dirty", Form::Dirty),
-    (b"attend", Form::Attend),
-    (b"quit", Form::Quit),
-    (b"mload", Form::Mload),
-    (b"mmark", Form::Mmark),
-    (b"mblack", Form::Mblack),
-    (b"over", Form::Over),
+const PLAIN_FORMS: [(&[u8], Step); 25] = [
+    (b"enter", Step::Enter(NOTHING_TO_ENTER)),
+    (b"leave", Step::Leave),
+    (b"reg", Step::Reg),
+    (b"probe", Step::Probe),
+    (b"read", Step::Read),
+    (b"write", Step::Write),
+    (b"cas", Step::Cas),
+    (b"getg", Step::Getg),
+    (b"setg", Step::Setg),
+    (b"take", Step::Take(None)),
+    (b"give", Step::Give),
+    (b"grant", Step::Grant),
+    (b"full", Step::Full),
+    (b"begin", Step::Begin),
+    (b"close", Step::Close),
+    (b"release", Step::Release),
+    (b"end", Step::End),
+    (b"want", Step::Want),
+    (b"dirty", Step::Dirty),
+    (b"attend", Step::Attend),
+    (b"quit", Step::Quit),
+    (b"mload", Step::Mload),
+    (b"mmark", Step::Mmark),
+    (b"mblack", Step::Mblack),
+    (b"over", Step::Over),
 ];
 
 /// A form of one number.
@@ -120,7 +120,7 @@ const WORDS_OF_NUMBER: [(&[u8], WordOfNumber); 9] = [
 ];
 
 /// The form of an event, by its words.
-pub(crate) fn form(words: &[&[u8]]) -> Result<Form, TextKind>
+pub(crate) fn form(words: &[&[u8]]) -> Result<Step, TextKind>
     ensures { result ≡ spec.form_of (texts_of words.now) }
 {
     match words {
@@ -164,7 +164,7 @@ fn listed<T: Copy>(table: &[(&[u8], T)], word: &[u8]) -> Result<T, TextKind>
 }
 
 /// An event of one word after its name.
-fn one_operand(name: &[u8], operand: &[u8]) -> Result<Form, TextKind>
+fn one_operand(name: &[u8], operand: &[u8]) -> Result<Step, TextKind>
     ensures { result ≡ spec.one_operand name.now operand.now }
 {
     match listed(&FORMS_OF_NUMBER, name) {
@@ -174,22 +174,22 @@ fn one_operand(name: &[u8], operand: &[u8]) -> Result<Form, TextKind>
 }
 
 impl FormOfNumber {
-    fn of(self, number: u64) -> Form
+    fn of(self, number: u64) -> Step
         ensures { result ≡ form_of_number self number }
     {
         match self {
-            FormOfNumber::Hold => Form::Hold(number),
-            FormOfNumber::Open => Form::Open(number),
-            FormOfNumber::Clear => Form::Clear(number),
-            FormOfNumber::Wipe => Form::Wipe(number),
-            FormOfNumber::Undirty => Form::Undirty(number),
-            FormOfNumber::Unblack => Form::Unblack(number),
+            FormOfNumber::Hold => Step::Hold(number),
+            FormOfNumber::Open => Step::Open(number),
+            FormOfNumber::Clear => Step::Clear(number),
+            FormOfNumber::Wipe => Step::Wipe(number),
+            FormOfNumber::Undirty => Step::Undirty(number),
+            FormOfNumber::Unblack => Step::Unblack(number),
         }
     }
 }
 
 /// An event of two words after its name.
-fn two_operands(name: &[u8], first: &[u8], second: &[u8]) -> Result<Form, TextKind>
+fn two_operands(name: &[u8], first: &[u8], second: &[u8]) -> Result<Step, TextKind>
     ensures { result ≡ spec.two_operands name.now first.now second.now }
 {
     if name == b"tally".as_slice() {
@@ -206,31 +206,31 @@ fn two_operands(name: &[u8], first: &[u8], second: &[u8]) -> Result<Form, TextKi
 }
 
 impl FormOfNumbers {
-    fn of(self, first: u64, second: u64) -> Form
+    fn of(self, first: u64, second: u64) -> Step
         ensures { result ≡ form_of_numbers self first second }
     {
         match self {
-            FormOfNumbers::Head => Form::Head {
+            FormOfNumbers::Head => Step::Head {
                 page: first,
                 value: second,
             },
-            FormOfNumbers::Used => Form::Used {
+            FormOfNumbers::Used => Step::Used {
                 page: first,
                 value: second,
             },
-            FormOfNumbers::Quar => Form::Quar {
+            FormOfNumbers::Quar => Step::Quar {
                 page: first,
                 value: second,
             },
-            FormOfNumbers::Mark => Form::Mark {
+            FormOfNumbers::Mark => Step::Mark {
                 page: first,
                 value: second,
             },
-            FormOfNumbers::Black => Form::Black {
+            FormOfNumbers::Black => Step::Black {
                 page: first,
                 value: second,
             },
-            FormOfNumbers::Claim => Form::Claim {
+            FormOfNumbers::Claim => Step::Claim {
                 page: first,
                 cell: second,
             },
@@ -238,22 +238,22 @@ impl FormOfNumbers {
     }
 }
 
-fn tally_form(name: &[u8], operand: &[u8]) -> Result<Form, TextKind>
+fn tally_form(name: &[u8], operand: &[u8]) -> Result<Step, TextKind>
     ensures { result ≡ spec.tally_form name.now operand.now }
 {
     let tally = listed(&TALLIES, name)?;
     let value = number(operand)?;
-    Ok(Form::Tally { tally, value })
+    Ok(Step::Tally { tally, value })
 }
 
 /// An event that looks at a word of the table.
-fn look(name: &[u8], operands: &[&[u8]]) -> Result<Form, TextKind>
+fn look(name: &[u8], operands: &[&[u8]]) -> Result<Step, TextKind>
     ensures { result ≡ spec.with_table_word (spec.value_among spec.forms_of_word name.now) (texts_of operands.now) }
 {
     if name == b"look".as_slice() {
-        Ok(Form::Look(table_word(operands)?))
+        Ok(Step::Look(table_word(operands)?))
     } else if name == b"mlook".as_slice() {
-        Ok(Form::Mlook(table_word(operands)?))
+        Ok(Step::Mlook(table_word(operands)?))
     } else {
         Err(TextKind::Word)
     }

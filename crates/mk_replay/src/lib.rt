@@ -13,5 +13,5 @@ mod schedule_parsing;
 mod steps;
 
 pub use replaying::{ReplayStop, replay};
-pub use schedule::{Entry, Form, Schedule};
+pub use schedule::{Entry, Schedule};
 pub use schedule_parsing::parse_replay;

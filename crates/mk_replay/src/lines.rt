@@ -6,8 +6,8 @@ ghost use Rattle.mk_replay.specs.Schedules.{pieces_of, entries_from, entries_of_
 ghost use Rattle.mk_replay.specs.Entries.{AddsEntries, IsStopOf, IsEndOfPiece, forms_so_far, forms_with, with_form};
 
 use crate::forms::{form, seat};
-use crate::schedule::{Entry, Form};
-use mk_core::Seat;
+use crate::schedule::Entry;
+use mk_core::{Seat, Step};
 use mk_script::{TextKind, replace_words};
 use std::alloc::{AllocError, Global};
 
@@ -34,7 +34,7 @@ impl From<AllocError> for LineStop {
 pub(crate) struct LineReader<'a> {
     pieces: Vec<&'a [u8]>,
     words: Vec<&'a [u8]>,
-    forms: Vec<Form>,
+    forms: Vec<Step>,
 }
 
 impl<'a> LineReader<'a> {
@@ -94,7 +94,7 @@ fn end_of_piece(text: &[u8]) -> Option<usize>
 /// Reads a line whose first piece has these words. Those of the other pieces take their place.
 fn read_words<'a>(
     words: &mut Vec<&'a [u8]>,
-    forms: &mut Vec<Form>,
+    forms: &mut Vec<Step>,
     line: u64,
     others: &[&'a [u8]],
     entries: &mut Vec<Entry>,
@@ -121,8 +121,8 @@ fn read_words<'a>(
 /// fault.
 fn replace_forms<'a>(
     words: &mut Vec<&'a [u8]>,
-    forms: &mut Vec<Form>,
-    first: Result<Form, TextKind>,
+    forms: &mut Vec<Step>,
+    first: Result<Step, TextKind>,
     others: &[&'a [u8]],
 ) -> Result<Option<TextKind>, AllocError>
     ensures { IfOk result (λ fault. forms_so_far fault forms.new.items ≡ forms_with first (texts_of others.now)) }
@@ -138,9 +138,9 @@ fn replace_forms<'a>(
 
 /// Adds a piece's form after those so far. Where there is a fault, it returns the one to be named.
 fn add_form(
-    forms: &mut Vec<Form>,
+    forms: &mut Vec<Step>,
     fault: Option<TextKind>,
-    found: Result<Form, TextKind>,
+    found: Result<Step, TextKind>,
 ) -> Result<Option<TextKind>, AllocError>
     ensures { IfOk result (λ fault'. forms_so_far fault' forms.new.items
         ≡ with_form (forms_so_far fault forms.old.items) found) }
@@ -171,7 +171,7 @@ fn push_entries(
     entries: &mut Vec<Entry>,
     line: u64,
     seat: Seat,
-    forms: &[Form],
+    forms: &[Step],
 ) -> Result<(), AllocError>
     ensures { OnOk result (entries.new.items ≡ entries.old.items ++ entries_from line 1 seat forms.now) }
 {

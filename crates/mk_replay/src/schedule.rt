@@ -1,59 +1,15 @@
 //! Schedules: the events of a history in the order in which they are to be made, without the operations.
 ghost use Rattle.std.specs.Prelude.{◌≡◌};
 
-use mk_core::{Seat, Tally, Word};
+use mk_core::{Seat, Step};
 use std::marker::Model;
 
-/// A kind of step, with the numbers of its event. The operations of a caller's `Enter` and `Take` are its script's.
-#[derive(Clone, Copy)]
-pub enum Form {
-    Enter,
-    Leave,
-    Reg,
-    Probe,
-    Read,
-    Write,
-    Cas,
-    Getg,
-    Setg,
-    Take,
-    Give,
-    Look(Word),
-    Head { page: u64, value: u64 },
-    Used { page: u64, value: u64 },
-    Quar { page: u64, value: u64 },
-    Grant,
-    Tally { tally: Tally, value: u64 },
-    Hold(u64),
-    Open(u64),
-    Clear(u64),
-    Mark { page: u64, value: u64 },
-    Wipe(u64),
-    Full,
-    Begin,
-    Close,
-    Release,
-    End,
-    Want,
-    Dirty,
-    Undirty(u64),
-    Black { page: u64, value: u64 },
-    Unblack(u64),
-    Attend,
-    Quit,
-    Mlook(Word),
-    Claim { page: u64, cell: u64 },
-    Mload,
-    Mmark,
-    Mblack,
-    Over,
-}
-
-/// An event of a schedule: its line in the input, and its place in that line, both from 1.
+/// An event of a schedule: its line in the input, and its place in that line, both from 1. Its form is its step but for
+/// the operation, which is the script's: an `enter` carries none that it may carry, and a `take` carries none at all.
 #[derive(Clone, Copy)]
 pub struct Entry {
     pub seat: Seat,
-    pub form: Form,
+    pub form: Step,
     pub line: u64,
     pub place: u64,
 }

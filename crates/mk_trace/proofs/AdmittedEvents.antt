@@ -116,9 +116,8 @@ module _ (slots : List ℕ) where
     global_points n s = grind (arith, listed_at)
 
     base_of_kind : (v : Value) → IsOfKind v (To slot 0) → IsBase v
-    base_of_kind Null h = tt
     base_of_kind (Num m) h = absurd h
-    base_of_kind (Ptr number ty offset) h = h.1
+    base_of_kind x0 h = cc
 
     -- each operation is admitted
 
@@ -180,8 +179,7 @@ module _ (slots : List ℕ) where
 
     freed_same : (n : NeverState) (v : Value) (r : ℕ) → register_at (after_free n v) 0 r ≡ register_at n 0 r
     freed_same n Null r = refl
-    freed_same n (Num m) r = refl
-    freed_same n (Ptr number ty offset) r = refl
+    freed_same n x1 r = cc
 
     -- and which registers they leave null
 

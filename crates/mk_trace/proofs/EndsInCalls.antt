@@ -51,14 +51,7 @@ lacks_over c w away (e ∷ es) all on own =
 
 beside_changes_none : (s : Step) → is_beside_turns s ≡ true → changes s ≡ false
 beside_changes_none Step.Grant h = cc
-beside_changes_none (Step.Quar p v) h = cc
-beside_changes_none Step.Begin h = cc
-beside_changes_none Step.Want h = cc
-beside_changes_none Step.Close h = cc
-beside_changes_none Step.Release h = cc
-beside_changes_none Step.End h = cc
-beside_changes_none Step.Over h = cc
-beside_changes_none _ h = refl
+beside_changes_none x0 h = cc
 
 own_all : (c : Config) (w : World) (e : Event) (es : List Event) → e.seat ≡ Caller 0
     → are_of is_beside_turns (own_from c (Caller 0) w (e ∷ es))

@@ -177,12 +177,7 @@ no_end _ h = refl
 
 same_phase : (s : Step) (n : ℕ) → changes s ≡ false → phase_behind s n ≡ n
 same_phase Step.Begin n h = cc
-same_phase Step.Want n h = cc
-same_phase Step.Close n h = cc
-same_phase Step.Release n h = cc
-same_phase Step.End n h = cc
-same_phase Step.Over n h = cc
-same_phase _ n h = refl
+same_phase x0 n h = cc
 
 same_allocations : (c : Config) (w : World) (e : Event) → changes e.step ≡ false
     → (world_behind c w e).allocations ≡ w.allocations

@@ -1,7 +1,7 @@
 -- The flags of allocations: what stays of them, what one event does to them, and what a Free does.
 use Rattle.mk_trace.proofs.Vocabulary.{AreLater, Cell, Config, Event, Flight, FreesNone, IsHistory, Moment, NeverState}
-use Rattle.mk_trace.proofs.Vocabulary.{Null, Num, PlacedAllocation, Ptr, ReleasesNone, Step, Value, Words, World}
-use Rattle.mk_trace.proofs.Vocabulary.{after_free, allocation_at, allocations_by, cell_freed, decides_freed, flight_of}
+use Rattle.mk_trace.proofs.Vocabulary.{PlacedAllocation, Ptr, ReleasesNone, Step, Value, Words, World, after_free}
+use Rattle.mk_trace.proofs.Vocabulary.{allocation_at, allocations_by, cell_freed, decides_freed, flight_of}
 use Rattle.mk_trace.proofs.Vocabulary.{freed_where_it_stands, granted, has_step, histories_keep_the_invariant}
 use Rattle.mk_trace.proofs.Vocabulary.{is_release, left, length-append, never_behind, never_granted, no_longer_fresh}
 use Rattle.mk_trace.proofs.Vocabulary.{placed_at, unfreed, with_released, world_behind}
@@ -166,23 +166,20 @@ chosen true number i is = cc
 chosen false number i is = (refl, cc)
 
 pub points_there : (n : NeverState) (v : Value) (i : ℕ) → unfreed n v ≡ Some i → LeadsTo v i
-points_there n Null i is = absurd cc
-points_there n (Num m) i is = absurd cc
 points_there n (Ptr number ty offset) i is = (chosen (allocation_at n number).freed number i is).1
+points_there n _ i is = absurd cc
 
 pub was_unfreed : (n : NeverState) (v : Value) (i : ℕ) → unfreed n v ≡ Some i → (allocation_at n i).freed ≡ false
-was_unfreed n Null i is = absurd cc
-was_unfreed n (Num m) i is = absurd cc
 was_unfreed n (Ptr number ty offset) i is = grind (arith, chosen)
+was_unfreed n _ i is = absurd cc
 
 pub is_freed_behind : (n : NeverState) (v : Value) (i : ℕ) → unfreed n v ≡ Some i → i < length n.allocations
     → (allocation_at (after_free n v) i).freed ≡ true
-is_freed_behind n Null i is lt = absurd cc
-is_freed_behind n (Num m) i is lt = absurd cc
 is_freed_behind n (Ptr number ty offset) i is lt =
     let same = (chosen (allocation_at n number).freed number i is).1 in
     ap (λ (k : ℕ). (allocation_at (with_freed n k) i).freed) same ∙ ap (λ (a : Allocation). a.freed)
     (get_or-set_same n.allocations i (record (allocation_at n i) { freed = true }) no_allocation lt)
+is_freed_behind n _ i is lt = absurd cc
 
 kept_at : (n : NeverState) (i : ℕ) (b : Bool) → b ≡ (allocation_at n i).freed
     → ((if b then None else Some i) ≡ Some i → ⊥) → (allocation_at (with_freed n i) i).freed ≡ (allocation_at n i).freed
@@ -195,8 +192,6 @@ kept_at n i true is out = elim (cases_lt i (length n.allocations)) [
 
 pub others_kept : (n : NeverState) (v : Value) (i : ℕ) → (unfreed n v ≡ Some i → ⊥)
     → (allocation_at (after_free n v) i).freed ≡ (allocation_at n i).freed
-others_kept n Null i out = refl
-others_kept n (Num m) i out = refl
 others_kept n (Ptr number ty offset) i out = elim (cases_eq i number) [
   | inr ne ↦ ap (λ (a : Allocation). a.freed)
       (get_or-set_other n.allocations number i (record (allocation_at n number) { freed = true }) no_allocation ne)
@@ -204,8 +199,8 @@ others_kept n (Ptr number ty offset) i out = elim (cases_eq i number) [
       (kept_at n i (allocation_at n i).freed refl
       (subst (λ (k : ℕ). (if (allocation_at n k).freed then None else Some k) ≡ Some i → ⊥) (sym same) out))
 ]
+others_kept n _ i out = refl
 
 pub as_many_behind : (n : NeverState) (v : Value) → length (after_free n v).allocations ≡ length n.allocations
-as_many_behind n Null = refl
-as_many_behind n (Num m) = refl
 as_many_behind n (Ptr number ty offset) = length-set n.allocations number _
+as_many_behind n _ = refl

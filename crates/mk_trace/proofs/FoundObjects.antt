@@ -199,11 +199,10 @@ module _ (c : Config) (es : List Event) (history : IsHistory c es) (slot : ℕ) 
 
   nowhere_by : (v : Value) → global_at n slot ≡ v
       → pointed_cell c.pages w.pages (slice_index w.globals slot) ≡ None → unfreed n (global_at n slot) ≡ None
-  nowhere_by Null is none = ap (unfreed n) is
-  nowhere_by (Num m) is none = ap (unfreed n) is
   nowhere_by (Ptr number ty offset) is none =
       let both : None ≡ Some (cell_of_allocation c (placed_at xs number)) =
       sym none ∙ points_into number ty offset is in absurd cc
+  nowhere_by _ is none = ap (unfreed n) is
 
   pub frees_nothing : pointed_cell c.pages w.pages (slice_index w.globals slot) ≡ None
       → unfreed n (global_at n slot) ≡ None

@@ -15,13 +15,11 @@ is_free_call x = is_free x.op
 
 pub flagged_free : (o : Op) (a : Answer) → is_free (flagged o a) ≡ is_free o
 flagged_free (Op.New d ty full) Answer.Full = refl
-flagged_free (Op.New d ty full) _ = refl
-flagged_free o a = refl
+flagged_free o a = cc
 
 frees_at : (s : Stage) (o : Op) → is_free_at s o ≡ true → is_free o ≡ true
 frees_at Stage.Turn (Op.Free p) h = refl
-frees_at Stage.Turn _ h = cc
-frees_at _ o h = cc
+frees_at _ _ h = cc
 
 some_by_test : (b : Bool) (x : Option Cell) → is_some (if b then x else None) ≡ true → (b ≡ true) × (is_some x ≡ true)
 some_by_test true x h = (refl, h)

@@ -32,9 +32,7 @@ grant_is _ h = cc
 
 grants_new : (at : Stage) (o : Op) → comes_next at o Step.Grant ≡ true → is_new o ≡ true
 grants_new Stage.Turn (Op.New d ty full) h = refl
-grants_new Stage.Turn _ h = cc
-grants_new Stage.Give o h = cc
-grants_new _ o h = cc
+grants_new _ _ h = cc
 
 never : (b : Bool) → (b && false) ≡ true → ⊥
 never true h = cc
@@ -42,8 +40,7 @@ never false h = cc
 
 flagged_new : (o : Op) (a : Answer) → is_new (flagged o a) ≡ is_new o
 flagged_new (Op.New d ty full) Answer.Full = refl
-flagged_new (Op.New d ty full) _ = refl
-flagged_new o a = refl
+flagged_new o a = cc
 
 decides_new : {c : Config} {m : Moment} (seat : Seat) → MeetsAll c m (record { seat = seat; step = Step.Grant })
     → list_any is_new_call (call_decided c m (record { seat = seat; step = Step.Grant })) ≡ true

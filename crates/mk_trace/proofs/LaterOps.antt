@@ -1,10 +1,10 @@
 -- The operations of events: of one more, and those after the first one.
 use Rattle.std.proofs.{Common.get_or-drop, Common.length-take, lemmas.List.drop-append-le, lemmas.List.take-append-le}
 use Rattle.std.specs.List.{list_all}
-use Rattle.mk_trace.proofs.Vocabulary.{A, Answer, AreAdmitted, C, Calls, Config, Event, F, K, Op, TraceEvent, W}
-use Rattle.mk_trace.proofs.Vocabulary.{begins_full, calls_of_caller, drop_more, flagged, is_refusal, length-append}
-use Rattle.mk_trace.proofs.Vocabulary.{length-drop, never_behind, one_if, ops_of, refused_events, take-append-drop}
-use Rattle.mk_trace.proofs.Vocabulary.{take_all, take_more}
+use Rattle.mk_trace.proofs.Vocabulary.{A, Answer, AreAdmitted, Calls, Config, Event, K, Op, TraceEvent, begins_full}
+use Rattle.mk_trace.proofs.Vocabulary.{calls_of_caller, drop_more, flagged, is_refusal, length-append, length-drop}
+use Rattle.mk_trace.proofs.Vocabulary.{never_behind, one_if, ops_of, refused_events, take-append-drop, take_all}
+use Rattle.mk_trace.proofs.Vocabulary.{take_more}
 use Rattle.mk_laws.proofs.Vocabulary.{Bool, List, ℕ, and_parts, ap, append-nil, append_assoc, arith, drop, false}
 use Rattle.mk_laws.proofs.Vocabulary.{get_or, if◌then◌else◌, length, list_any, refl, subst, suc, sym, take, true, zero}
 use Rattle.mk_laws.proofs.Vocabulary.{[], ◌++◌, ◌+◌, ◌-◌, ◌<◌, ◌||◌, ◌∙◌, ◌∷◌, ◌≡◌, ◌≤◌}
@@ -115,9 +115,7 @@ first_of : (o : Op) (a : Answer) (event : TraceEvent) → ops_of false event ≡
     → ops_of (is_full_answer a) event ≡ flagged o a ∷ drop 1 (ops_of (is_full_answer a) event)
 first_of o a (A slot) is = let same : o ≡ Op.New 0 slot false = cc in rw same (made_first slot a)
 first_of o a (K slot) is = let same : o ≡ Op.New 0 slot false = cc in rw same (linked_first slot a)
-first_of o a (F slot) is = grind (arith, either_way)
-first_of o a (C slot) is = grind (arith, either_way)
-first_of o a (W slot index value) is = grind (arith, either_way)
+first_of o a _ is = grind (arith, either_way)
 
 -- The operation is noted as it is, whatever its answer.
 abbrev IsPlain : Op → Type 0

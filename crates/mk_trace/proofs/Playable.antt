@@ -56,15 +56,13 @@ slot_more before word words found h are =
 
 slot_line_more : (before : LinesSoFar) (operands : List (List ℕ)) (given : Line) → slot_line before operands ≡ Ok given
     → AreWithin before.slots → AreWithin (with_trace_line before given).slots
-slot_line_more before [] given h are = absurd cc
-slot_line_more before (a ∷ []) given h are = absurd cc
 slot_line_more before (word ∷ words ∷ []) given h are =
     let placed = passed_then (length before.events == 0) _ _ given h in
     let found = bound (slot_from before.slots word words) _ given placed.1 in
     let is : Line.Slot found.value ≡ given = cc in
     subst (λ (x : Line). AreWithin (with_trace_line before x).slots) is
     (slot_more before.slots word words found.value found.is are)
-slot_line_more before (a ∷ b ∷ c ∷ rest) given h are = absurd cc
+slot_line_more before _ given h are = absurd cc
 
 event_line_more : (before : LinesSoFar) (word : List ℕ) (operands : List (List ℕ)) (given : Line)
     → event_line before word operands ≡ Ok given → AreWithin before.slots
@@ -98,12 +96,9 @@ heap_within pages resident heap h =
     })
 
 pub header_within : (words : List (List ℕ)) (heap : HeapPages) → header_line_of words ≡ Ok heap → HeapIsWithin heap
-header_within [] heap h = absurd cc
-header_within (a ∷ []) heap h = absurd cc
-header_within (a ∷ b ∷ []) heap h = absurd cc
 header_within (word ∷ pages ∷ resident ∷ []) heap h =
     heap_within pages resident heap (passed_then (bytes_eq word (codes "trace")) _ _ heap h).1
-header_within (a ∷ b ∷ c ∷ d ∷ rest) heap h = absurd cc
+header_within _ heap h = absurd cc
 
 -- The events of lines are of the slots.
 

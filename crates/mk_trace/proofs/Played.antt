@@ -1,10 +1,9 @@
 -- What was played so far, with one event more, and at the end.
-use Rattle.mk_trace.proofs.Vocabulary.{A, AllTurnsAreExact, Answer, C, Caller, CallerState, Config, Contents, Decided}
-use Rattle.mk_trace.proofs.Vocabulary.{Event, F, Grows, HostState, IsEventOf, IsHistory, IsPlayable, K, NeverState}
-use Rattle.mk_trace.proofs.Vocabulary.{Null, PassState, TraceEvent, W, WordsState, after_calls, answered, asked}
-use Rattle.mk_trace.proofs.Vocabulary.{begins_full, calls, calls_of_caller, config_of, first_host, is_refusal}
-use Rattle.mk_trace.proofs.Vocabulary.{never_behind, never_first, one_if, ops_of, pass_for, refused_events, register_at}
-use Rattle.mk_trace.proofs.Vocabulary.{take_all, take_more}
+use Rattle.mk_trace.proofs.Vocabulary.{AllTurnsAreExact, Answer, Caller, CallerState, Config, Contents, Decided, Event}
+use Rattle.mk_trace.proofs.Vocabulary.{Grows, HostState, IsEventOf, IsHistory, IsPlayable, NeverState, Null, PassState}
+use Rattle.mk_trace.proofs.Vocabulary.{TraceEvent, W, WordsState, after_calls, answered, asked, begins_full, calls}
+use Rattle.mk_trace.proofs.Vocabulary.{calls_of_caller, config_of, first_host, is_refusal, never_behind, never_first}
+use Rattle.mk_trace.proofs.Vocabulary.{one_if, ops_of, pass_for, refused_events, register_at, take_all, take_more}
 use Rattle.mk_laws.proofs.Vocabulary.{Bool, List, ℕ, ap, arith, false, get_or, if◌then◌else◌, length, list_any}
 use Rattle.mk_laws.proofs.Vocabulary.{map-append, refl, subst, sym, take, true, [], ◌++◌, ◌+◌, ◌<◌, ◌∙◌, ◌∷◌, ◌≡◌, ◌≤◌}
 use Rattle.mk_core.specs.History.{calls_from}
@@ -90,11 +89,8 @@ may_be_played {trace} {c} {es} fs event config playable history null of_slots sa
     grind (arith, events_are_admitted)
 
 pub slot_within : (slots : List ℕ) (event : TraceEvent) → IsEventOf slots event → slot_of event < length slots
-slot_within slots (A slot) h = h
-slot_within slots (K slot) h = h
-slot_within slots (F slot) h = h
-slot_within slots (C slot) h = h
 slot_within slots (W slot index value) h = h.0
+slot_within slots _ h = h
 
 -- A slot is a global.
 pub slot_is_global : (trace : Contents) (event : TraceEvent) → IsPlayable trace → IsEventOf trace.slots event

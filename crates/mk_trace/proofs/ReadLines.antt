@@ -53,8 +53,7 @@ passed_then false fault found x h = absurd cc
 
 both : (a b : Bool) (fault : LineFault) → (if a && b then None else Some fault) ≡ None → (a ≡ true) × (b ≡ true)
 both true true fault h = (refl, refl)
-both true false fault h = absurd cc
-both false b fault h = absurd cc
+both _ _ fault h = absurd cc
 
 pub within_none : (least found greatest : ℕ) (which : Which) → within least found greatest which ≡ None
     → IsBetween least greatest found
@@ -82,18 +81,14 @@ on_ok (Err fault) told next = tt
 
 pub no_slot : (before : LinesSoFar) (operands : List (Bor (List ℕ))) → length operands ≢ 2
     → slot_line before (texts_of operands) ≡ Err (Text Word)
-no_slot before [] n2 = refl
-no_slot before (a ∷ []) n2 = refl
 no_slot before (a ∷ b ∷ []) n2 = absurd (n2 refl)
-no_slot before (a ∷ b ∷ c ∷ rest) n2 = refl
+no_slot before _ n2 = refl
 
 pub no_event : (word : List ℕ) (operands : List (Bor (List ℕ))) → length operands ≢ 1 → length operands ≢ 3
     → event_line_of word (texts_of operands) ≡ Err (Text Word)
-no_event word [] n1 n3 = refl
 no_event word (a ∷ []) n1 n3 = absurd (n1 refl)
-no_event word (a ∷ b ∷ []) n1 n3 = refl
 no_event word (a ∷ b ∷ c ∷ []) n1 n3 = absurd (n3 refl)
-no_event word (a ∷ b ∷ c ∷ d ∷ rest) n1 n3 = refl
+no_event word _ n1 n3 = refl
 
 -- A text of which the first line is a header and the others are of the grammar.
 

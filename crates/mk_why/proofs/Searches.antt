@@ -2,7 +2,7 @@
 use Rattle.std.proofs.Common.{below_more}
 use Rattle.mk_why.proofs.Vocabulary.{AreWays, Config, FindsMore, Found, IsFound, IsFoundThrough, IsNoted, IsSearch}
 use Rattle.mk_why.proofs.Vocabulary.{IsStill, IsWay, Link, LooksOn, SearchesOn, Start, Tables, TurnState, View}
-use Rattle.mk_why.proofs.Vocabulary.{entry_at, links_in, links_of, view_by}
+use Rattle.mk_why.proofs.Vocabulary.{Root, entry_at, links_in, links_of, view_by, word_of_root}
 use Rattle.mk_laws.proofs.Vocabulary.{List, None, Option, Some, ℕ, ap, arith, cases_Bool, cases_eq, cases_lt, false}
 use Rattle.mk_laws.proofs.Vocabulary.{get_or-set_other, get_or-set_same, inl, inr, is_some, length, length-set, refl}
 use Rattle.mk_laws.proofs.Vocabulary.{slice_index, slice_set, subst, sym, true, true≢false, ◌*◌, ◌+◌, ◌<◌, ◌∙◌, ◌≡◌}
@@ -95,6 +95,17 @@ pub more_noted : (c : Config) (v : View) (found more : List (Option Found)) → 
 more_noted c v found more stays value limit i before here =
     below_more (λ k. IsNoted c v more (value k) limit) i
     (λ k lt. noted_stays c v found more stays (value k) limit (before k lt)) here
+
+-- what roots point into, one root more
+pub root_noted : {c : Config} {t u w : TurnState} {r s x : Tables} (root : ℕ → Root) (i : ℕ) → SearchesOn c t u r s 0
+    → ((k : ℕ) → k < i → IsNoted c (view_by t.pass) s.found.items (word_of_root (view_by t.pass).words (root k)) 0)
+    → SearchesOn c u w s x 0
+    → IsNoted c (view_by u.pass) x.found.items (word_of_root (view_by u.pass).words (root i)) 0
+    → (k : ℕ) → k < i + 1 → IsNoted c (view_by t.pass) x.found.items (word_of_root (view_by t.pass).words (root k)) 0
+root_noted {c} {t} {s} {x} root i before so_far one here =
+    more_noted c (view_by t.pass) s.found.items x.found.items one.grows.stays
+    (λ k. word_of_root (view_by t.pass).words (root k)) 0 i so_far
+    (part_noted c x.found.items (λ v. word_of_root v.words (root i)) 0 before.on here)
 
 -- Another limit.
 pub limit_of : {c : Config} {v : View} {r : Tables} {limit : ℕ} (more : ℕ) → IsSearch c v r limit

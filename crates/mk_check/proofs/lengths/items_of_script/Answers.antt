@@ -15,6 +15,5 @@ returns-then-is_script c =
 pub loop-place-preserved : goal.loop-place-preserved
 loop-place-preserved c =
     let item = c.index-behind-place in
-    c.loop-place.invariant
-    ∙ before_next_script-more c.args.behind.now c.loop-place.place item.result c.loop-place-test.true item.is
+    c.loop-place.invariant ∙ before_next_script-more _ c.loop-place.place item.result c.loop-place-test.true item.is
     (sym c.if-is_script.ensures)

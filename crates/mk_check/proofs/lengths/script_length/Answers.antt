@@ -2,8 +2,7 @@ use Rattle.std.proofs.lemmas.Iterator.Consumers.{YieldsList-at, YieldsList-end}
 use Rattle.std.proofs.lemmas.List.{reverse-append, reverse-reverse}
 use Rattle.std.proofs.lemmas.Iterator.Adapters.{YieldsList-from_rev_slice}
 use Rattle.mk_check.proofs.Vocabulary.{ap, counts_of, map-append, parts_from, refl, reverse, sym, ◌+◌, ◌∙◌}
-use Rattle.mk_check.proofs.CountLemmas.{counts-with_item, lines-innermost}
-use Rattle.mk_check.specs.Counts.{counts_with, innermost_count}
+use Rattle.mk_check.{proofs.CountLemmas.counts-with_item, proofs.CountLemmas.lines-innermost, specs.Counts.counts_with}
 use Rattle.mk_check.proofs.lengths.script_length.Goals as goal
 
 pub returns : goal.returns
@@ -13,8 +12,7 @@ returns c line =
     c.loop-item.yielded _ c.loop-item.yielded_by _ _ c.in-None.is c.next.ensures.steps in
     let all = ap reverse seen.0 ∙ reverse-reverse c.args.items.now in
     let parts = c.loop-item.invariant line ∙ ap (λ items. counts_of (parts_from line items)) all in
-    ap (λ count. count.lines) (c.close.ensures.count ∙ ap innermost_count parts)
-    ∙ lines-innermost (parts_from line c.args.items.now)
+    cc (c.close.ensures.count, parts, lines-innermost (parts_from line c.args.items.now))
 
 pub loop-item-init : goal.loop-item-init
 loop-item-init c line = rw (c.in_ok-open.ensures, c.new-parts.ensures) refl

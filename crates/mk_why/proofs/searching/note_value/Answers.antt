@@ -1,6 +1,8 @@
+use Rattle.mk_why.proofs.Vocabulary.{view_by}
 use Rattle.mk_laws.proofs.Vocabulary.{arith}
 use Rattle.mk_why.proofs.Explored.{found_by, noted_by}
-use Rattle.mk_why.proofs.{Pointed.begins_at, Searches.grows_nothing, Searches.notes}
+use Rattle.mk_why.proofs.{Pointed.begins_at, Searches.Notes, Searches.grows_nothing, Searches.notes}
+use Rattle.mk_why.proofs.searching.note_value.Goals.{After-note}
 use Rattle.mk_why.proofs.searching.note_value.Goals as goal
 
 pub returns-in_default-clause-noted : goal.returns-in_default-clause-noted
@@ -17,24 +19,24 @@ note-requires c =
     let size = c.requires.search.size in
     omega arith
 
-pub returns-clause-on : goal.returns-clause-on
-returns-clause-on c =
+-- what the note leaves
+noted : (c : After-note)
+    → Notes c.args.words.now.config (view_by c.args.stop.now.pass) c.args.tables.now c.note.new.self c.in-Some.base
+    c.args.found.links
+noted c =
     let x = c.in-Some.ensures.points in
     let low = begins_at c.args.stop.now.pass c.is_in_order.ensures.history c.requires.still c.args.words.now
     c.requires.one_table c.in-Some.base (record { number = x.number; unreleased = x.points.0; is = x.is }) in
     let size = c.requires.search.size in
-    let n = notes c.note.new.self c.requires.search (omega arith)
+    notes c.note.new.self c.requires.search (omega arith)
     c.note.ensures.known c.note.ensures.noted c.note.ensures.last c.note.ensures.more c.note.ensures.room
-    c.requires.shallow (found_by c.args.tables.now.found.items c.args.found x c.requires.way) in
+    c.requires.shallow (found_by c.args.tables.now.found.items c.args.found x c.requires.way)
+
+pub returns-clause-on : goal.returns-clause-on
+returns-clause-on c =
+    let n = noted (goal.at.returns-clause-on c).After-note in
     record { on = c.base_pointed.ensures.on; search = n.search; grows = n.grows }
 
 pub returns-clause-noted : goal.returns-clause-noted
 returns-clause-noted c =
-    let x = c.in-Some.ensures.points in
-    let low = begins_at c.args.stop.now.pass c.is_in_order.ensures.history c.requires.still c.args.words.now
-    c.requires.one_table c.in-Some.base (record { number = x.number; unreleased = x.points.0; is = x.is }) in
-    let size = c.requires.search.size in
-    let n = notes c.note.new.self c.requires.search (omega arith)
-    c.note.ensures.known c.note.ensures.noted c.note.ensures.last c.note.ensures.more c.note.ensures.room
-    c.requires.shallow (found_by c.args.tables.now.found.items c.args.found x c.requires.way) in
-    noted_by x n.within
+    noted_by c.in-Some.ensures.points (noted (goal.at.returns-clause-noted c).After-note).within

@@ -1,5 +1,5 @@
 use Rattle.std.proofs.Common.{count_by, rules}
-use Rattle.mk_check.proofs.Vocabulary.{ap, is_script, length, script_names, sym, ◌∙◌, ◌≡◌}
+use Rattle.mk_check.proofs.Vocabulary.{is_script, ◌≡◌}
 use Rattle.mk_check.proofs.FaultLemmas.{length-script_names}
 use Rattle.mk_check.proofs.checked.Checked.scripts.Goals as goal
 
@@ -7,5 +7,4 @@ pub returns : goal.returns
 returns c =
     let items = c.items-items.result.now in
     let counted : c.count.result ≡ count_by is_script items = search rules in
-    counted ∙ sym (length-script_names items)
-    ∙ ap (λ xs. length (script_names xs)) (c.items-items.ensures.items ∙ c.self.view_is)
+    cc (counted, length-script_names items, c.items-items.ensures.items, c.self.view_is)

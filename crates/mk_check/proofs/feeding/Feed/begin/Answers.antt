@@ -29,12 +29,8 @@ steps c =
     let lines = c.script_at-lines in
     let scope = script_scope program c.args.script in
     let script : ScriptText = script_of program c.args.script in
-    let named : c.in_ok-names.names ≡ scope = c.in_ok-names.ensures
-    ∙ ap (scope_of program) lines.ensures.items in
-    c.in_ok-tree.ensures.steps
-    ∙ (ap (λ (s : Scope). numbered s (blocks_from lines.result.line lines.result.items.now)) named
-    ∙ (ap (λ (l : ℕ). numbered scope (blocks_from l lines.result.items.now)) lines.ensures.line
-    ∙ ap (λ (xs : List Item). numbered scope (blocks_from script.line xs)) lines.ensures.items))
+    let named : c.in_ok-names.names ≡ scope = cc (c.in_ok-names.ensures, lines.ensures.items) in
+    cc (c.in_ok-tree.ensures.steps, named, lines.ensures.line, lines.ensures.items)
 
 pub begin-requires : goal.begin-requires
 begin-requires c =
@@ -62,11 +58,9 @@ begins c steps =
     let k = c.args.script in
     let lines = c.script_at-lines in
     let scope = script_scope program k in
-    let named : c.in_ok-names.names ≡ scope = c.in_ok-names.ensures
-    ∙ ap (scope_of c.args.items.now) c.script_at-lines.ensures.items in
+    let named : c.in_ok-names.names ≡ scope = cc (c.in_ok-names.ensures, c.script_at-lines.ensures.items) in
     let script : ScriptText = script_of program k in
-    let count : c.numbers.result ≡ length scope.numbers = c.numbers.ensures
-    ∙ ap (λ (s : Scope). length s.numbers) named in
+    let count : c.numbers.result ≡ length scope.numbers = cc (c.numbers.ensures, named) in
     let at = c.in_ok-tree.at in
     let place : c.in_ok-running.running
     ≡ record {

@@ -28,5 +28,4 @@ returns-in-Else c =
 
 pub returns-in-End : goal.returns-in-End
 returns-in-End c =
-    at_line c.add_end.result c.args.line c.args.element Element.End c.args.self.now c.add_end.new.self c.in-End.is
-    c.add_end.ensures
+    at_line c.add_end.result c.args.line c.args.element Element.End _ c.add_end.new.self c.in-End.is c.add_end.ensures

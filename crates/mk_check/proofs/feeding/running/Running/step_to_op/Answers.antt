@@ -69,8 +69,7 @@ at_rounds : (c : In-Rounds) → IsAt c.args.tree.now c.args.self.now
 at_rounds c = found_at c.self.view_is c.in-Rounds.ensures.tree c.requires.within c.in-Rounds.ensures.value
 
 pub enter-requires : goal.enter-requires
-enter-requires c =
-    rounds_find_room c.args.tree.now (at_rounds ((goal.at.enter-requires c).In-Rounds)) c.requires.fits
+enter-requires c = rounds_find_room c.args.tree.now (at_rounds ((goal.at.enter-requires c).In-Rounds)) c.requires.fits
 
 pub returns-in-Rounds-clause-goes_on : goal.returns-in-Rounds-clause-goes_on
 returns-in-Rounds-clause-goes_on c =

@@ -19,8 +19,7 @@ take_to_op-requires-clause-within c =
 pub take_to_op-requires-clause-fits : goal.take_to_op-requires-clause-fits
 take_to_op-requires-clause-fits c =
     let l = c.in-Line in
-    line_fits c.args.tree.now
-    (is_at l.ensures.tree c.requires.within (here ((goal.at.take_to_op-requires-clause-fits c).In-Line)))
+    line_fits _ (is_at l.ensures.tree c.requires.within (here ((goal.at.take_to_op-requires-clause-fits c).In-Line)))
     c.requires.fits
 
 pub returns-clause-taken : goal.returns-clause-taken

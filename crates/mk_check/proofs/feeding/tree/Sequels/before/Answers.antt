@@ -1,5 +1,4 @@
-use Rattle.mk_check.proofs.Vocabulary.{Bool, None, Option, Sequel, Some, ℕ, ap, false, refl, sequel_to, sym, true, ◌∙◌}
-use Rattle.mk_check.proofs.Vocabulary.{◌≡◌}
+use Rattle.mk_check.proofs.Vocabulary.{Bool, None, Option, Sequel, ℕ, ap, false, refl, sequel_to, sym, true, ◌∙◌, ◌≡◌}
 use Rattle.mk_check.specs.{Spots.sequels_by, Steps.keeping_register, declared.feeding.tree.Sequels.Sequels}
 use Rattle.mk_check.proofs.feeding.tree.Sequels.before.Goals as goal
 
@@ -7,9 +6,7 @@ use Rattle.mk_check.proofs.feeding.tree.Sequels.before.Goals as goal
 told_so : (next : ℕ) (shows shown : Bool) (told kept : Option ℕ) (s t : Sequel) (r : Sequels) → told ≡ kept → s ≡ t
     → shows ≡ shown
     → r ≡ sequels_by next shows told s → r ≡ sequels_by next shown kept t
-told_so next shows shown told kept s t r e f g is =
-    is ∙ (ap (λ (b : Bool). sequels_by next b told s) g
-    ∙ (ap (λ (k : Option ℕ). sequels_by next shown k s) e ∙ ap (sequels_by next shown kept) f))
+told_so next shows shown told kept s t r e f g is = cc
 
 pub returns-then-shows : goal.returns-then-shows
 returns-then-shows c =
@@ -20,8 +17,7 @@ returns-then-shows c =
 
 pub returns-in-Some : goal.returns-in-Some
 returns-in-Some c =
-    told_so c.args.next false _ (Some c.in-Some.register) _ c.to-sequel.result _ _ (sym c.in-Some.is
-    ∙ c.keeping_register.ensures)
+    told_so c.args.next false _ _ _ c.to-sequel.result _ _ (sym c.in-Some.is ∙ c.keeping_register.ensures)
     c.to-sequel.ensures (sym c.if-shows.false ∙ c.shows.ensures) refl
 
 pub returns-in-None : goal.returns-in-None

@@ -1,8 +1,6 @@
-use Rattle.mk_check.proofs.Vocabulary.{ap, is_asking, node_at, ◌∙◌}
+use Rattle.mk_check.proofs.Vocabulary.{node_at}
 use Rattle.mk_check.proofs.Spots.{asks_by_instruction}
 use Rattle.mk_check.proofs.feeding.tree.Tree.asks.Goals as goal
 
 pub returns : goal.returns
-returns c =
-    c.asks.ensures ∙ (ap is_asking c.instruction.ensures.value
-    ∙ asks_by_instruction (node_at c.args.self.now c.args.at))
+returns c = cc (c.asks.ensures, c.instruction.ensures.value, asks_by_instruction (node_at c.args.self.now c.args.at))

@@ -1,5 +1,4 @@
-use Rattle.mk_check.proofs.Vocabulary.{IsBelow, List, Node, ap, asks_first, length, sequels_of, steps_from, subst, sym}
-use Rattle.mk_check.proofs.Vocabulary.{trees, ◌∙◌}
+use Rattle.mk_check.proofs.Vocabulary.{IsBelow, List, Node, asks_first, length, subst, sym}
 use Rattle.mk_check.{proofs.Spots.IsMarkedTree_push, specs.Spots.IsMarkedTree, specs.declared.feeding.tree.Spot.Spot}
 use Rattle.mk_check.proofs.feeding.tree.Tree.push.Goals as goal
 
@@ -18,8 +17,6 @@ invariant_of-self-2 c =
     (subst (λ (nodes : List Node). IsBelow (length nodes) c.args.node) (sym c.self.view_is) c.requires)
     (record {
       instruction = c.instruction.ensures;
-      sequels = c.sequels_from.ensures
-          ∙ ap (λ (nodes : List Node). sequels_of nodes c.args.node) (sym c.self.view_is);
-      first = c.asks_first_from.ensures
-          ∙ ap (λ (nodes : List Node). asks_first (steps_from (trees nodes) c.args.node)) (sym c.self.view_is);
+      sequels = cc (c.sequels_from.ensures, c.self.view_is);
+      first = cc (c.asks_first_from.ensures, c.self.view_is);
     }))
