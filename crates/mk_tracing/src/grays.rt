@@ -157,6 +157,9 @@ fn gray_somewhere(words: &Words, stop: &mut Stopped, from: u64) -> Option<Noted>
     if let Some(gray) = found {
         return Some(gray);
     }
+    if from == 0 {
+        return None;
+    }
     gray_between(words, stop, 0, from.min(pages))
 }
 
