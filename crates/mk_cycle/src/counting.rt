@@ -18,16 +18,6 @@ use crate::turn_steps;
 use mk_core::{Word, without};
 use mk_words::{Turn, Words};
 
-/// How many of these cells there are. Most often there are none.
-fn count_of(cells: u64) -> u64
-    ensures { result ≡ count_ones cells }
-{
-    if cells == 0 {
-        return 0;
-    }
-    u64::from(cells.count_ones())
-}
-
 /// What the words of a page say: its released cells, their words, and its marked cells of the snapshot.
 pub(crate) fn released_cells(snapshot: u64, marks: u64, header: &ReadHeader) -> Released
     ensures count { result.count ≡ count_ones (without snapshot marks) }
@@ -39,7 +29,7 @@ pub(crate) fn released_cells(snapshot: u64, marks: u64, header: &ReadHeader) -> 
     Released {
         count,
         words: count * header.size(),
-        kept: count_of(snapshot & marks),
+        kept: u64::from((snapshot & marks).count_ones()),
     }
 }
 
