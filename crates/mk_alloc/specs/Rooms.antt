@@ -8,6 +8,9 @@ use Rattle.mk_core.specs.declared.events.Step.TheVariants as step
 use Rattle.mk_core.specs.declared.seats.Object.{Object}
 use Rattle.mk_core.specs.declared.seats.OwnCycle.TheVariants.{Ended}
 use Rattle.mk_core.specs.Cycles.{At, is_begin, is_end}
+use Rattle.mk_geom.specs.declared.pages.Census.{Census}
+use Rattle.mk_geom.specs.PageUses.{census_among}
+use Rattle.mk_geom.specs.PageWords.{uses_of_pages}
 use Rattle.mk_words.specs.States.{PassState, event_of, now_of, world_of}
 use Rattle.mk_cycle.specs.EngineLaw.{IsAtPhase}
 use Rattle.mk_objects.specs.Placing.{IsUnplaced, object_for, place_now_for}
@@ -88,3 +91,15 @@ pub record AnswersFull (p q : PassState) : Type 0 where
   pub is : q.seen ≡ before ++ event_of p step.Full ∷ behind
   pub allocations : (world_of q).allocations ≡ (world_of p).allocations
   pub leaves : OwnLeaveAllButReleased p q
+
+-- what a New is answered, by the counts that come with Full
+abbrev pub answer_with : Option Census → Answer
+answer_with None = answer.Done
+answer_with (Some _) = answer.Full
+
+-- It was answered Full where its object misfits at last, and these are the counts of the pages there.
+pub record CountsFull (p q : PassState) (census : Census) : Type 0 where
+  pub last : PassState
+  pub misfits : Misfits p last
+  pub full : AnswersFull last q
+  pub counts : census ≡ census_among (uses_of_pages (now_of last).words.pages)

@@ -1,11 +1,14 @@
 //! Making objects.
-ghost use Rattle.std.specs.Prelude.{◌≡◌, ◌<◌, ◌∷◌, [], OnOk, IfErr, true, false, length};
+ghost use Rattle.std.specs.Prelude.{◌≡◌, ◌<◌, ◌∷◌, [], OnOk, IfErr, IfSome, Some, None, true, false, length};
 ghost use Rattle.mk_never.specs.declared.operations.Op.TheVariants as op;
 ghost use Rattle.mk_core.specs.declared.events.Answer.TheVariants as answer;
 ghost use Rattle.mk_caller.specs.States.{caller_of_pass};
 ghost use Rattle.mk_turns.specs.Sweeping.{SweepsNothing};
 ghost use Rattle.mk_cycle.specs.Begun.{EachIsBegun};
+ghost use Rattle.mk_objects.specs.Placing.{IsUnplaced, place_now_for};
+ghost use Rattle.mk_alloc.specs.Rooms.{CountsFull, RunsOne, Seeks, answer_with};
 ghost use Rattle.mk_alloc.specs.TurnCalls.{CalledInTurn, IsAnsweredFull};
+ghost use Rattle.mk_alloc.specs.Underway.{IsQuiet};
 
 use crate::fulls::answer_full;
 use crate::rooms::{make_room, try_place};
@@ -15,6 +18,7 @@ use mk_caller::Caller;
 use mk_cycle::{Bench, Engine};
 use mk_geom::Census;
 use mk_never::Op;
+use mk_words::{Turn, Words};
 use std::sync::Wait;
 use std::thread::Threads;
 
@@ -22,6 +26,38 @@ use std::thread::Threads;
 #[derive(Clone, Copy, Debug)]
 pub struct Full {
     pub census: Census,
+}
+
+/// Makes room for the object, which fits nowhere, and grants it. Where it can't be made to fit the New is answered
+/// Full, and the counts of that moment are returned. Their room is this function's own, so that a New whose object fits
+/// at once doesn't pay for it.
+#[inline(always)]
+fn make_room_or_count<E: Engine, R: Threads + Wait + Sync>(
+    rt: &R,
+    words: &Words,
+    turn: Turn,
+    bench: &mut Bench<E>,
+) -> (Turn, Option<Census>)
+    requires one_table { turn.pass.table ≡ words.now }
+    requires made_for { E.made_for bench.old.engine ≡ words.now.config.pages }
+    requires quiet { IsQuiet turn.pass }
+    requires unplaced { IsUnplaced turn.pass }
+    requires nowhere { place_now_for turn.pass ≡ None }
+    ensures op { result.0.op ≡ turn.op }
+    ensures made_for { E.made_for bench.new.engine ≡ E.made_for bench.old.engine }
+    ensures seeks { Seeks (Some (answer_with result.1)) turn.pass result.0.pass }
+    ensures full { IfSome result.1 (CountsFull turn.pass result.0.pass) }
+    ensures one { RunsOne turn.pass result.0.pass }
+    ensures reached { E.sweeps ≡ false → SweepsNothing turn.pass result.0.pass }
+    ensures begun { EachIsBegun E.begins turn.pass result.0.pass }
+{
+    let (mut turn, placed) = make_room(rt, words, turn, bench);
+    if placed {
+        return (turn, None);
+    }
+    let census = census(turn.pages());
+    answer_full(words, &mut turn);
+    (turn, Some(census))
 }
 
 /// Sets a register to a new object of a type, whose words are 0. Where nothing fits, a cycle that is on is finished,
@@ -57,13 +93,10 @@ pub fn new_object<E: Engine, R: Threads + Wait + Sync>(
         caller.back(give(words, turn));
         return Ok(());
     }
-    let (mut turn, placed) = make_room(rt, words, turn, bench);
-    if placed {
-        caller.back(give(words, turn));
-        return Ok(());
-    }
-    let census = census(turn.pages());
-    answer_full(words, &mut turn);
+    let (turn, refused) = make_room_or_count(rt, words, turn, bench);
     caller.back(give(words, turn));
-    Err(Full { census })
+    match refused {
+        None => Ok(()),
+        Some(census) => Err(Full { census }),
+    }
 }

@@ -12,6 +12,7 @@ pub mod OpeningSteps
 pub mod GivingSteps
 pub mod CellBits
 pub mod RestBits
+pub mod Pairs
 pub mod PageSteps
 pub mod GiveBack
 pub mod SettledPages

@@ -226,6 +226,7 @@ fn take_snapshots(turn: &mut Turn, words: &Words)
 }
 
 /// Makes all pages ready for a `begin`. Most of them are.
+#[inline(always)]
 pub(crate) fn clean_pages(turn: &mut Turn, words: &Words)
     requires one_table { turn.old.pass.table ≡ words.now }
     requires free { IsFreeForCycle turn.old.pass }

@@ -1,6 +1,6 @@
 //! A page's header word with what it says. The giving back needs several numbers of it, so the word is decoded once a
 //! page.
-ghost use Rattle.std.specs.Prelude.{◌≡◌, ◌+◌, ◌≤◌};
+ghost use Rattle.std.specs.Prelude.{◌≡◌, ◌+◌, ◌*◌, ◌≤◌};
 ghost use Rattle.mk_core.specs.Cells.{is_unmapped_header, words_under};
 ghost use Rattle.mk_core.specs.Counts.{in_a_word};
 ghost use Rattle.mk_geom.specs.Addresses.{head_page_under};
@@ -85,6 +85,16 @@ impl ReadHeader {
         ensures few { result ≤ 4096 }
     {
         self.size
+    }
+
+    /// The pairs of words of each cell under it. Cells have whole pairs.
+    #[inline(always)]
+    #[tactic(auto, using(crate::proofs::Pairs::have_whole_pairs))]
+    pub(crate) fn pairs(&self) -> u64
+        ensures exact { 2 * result ≡ words_under (header_of self.now) }
+        ensures few { result ≤ 2048 }
+    {
+        self.size / 2
     }
 
     /// Whether the page is one of an unmapped run.

@@ -91,6 +91,7 @@ fn next_to_settle(turn: &Turn, pages: u64, from: u64, end: u64) -> Option<u64>
 
 /// Gives back all that was released, and counts it. It leaves out pages that have no freed cells, but for the later
 /// pages of runs: nothing was released on them, and they are in use.
+#[inline(always)]
 pub(crate) fn settle_pages(turn: &mut Turn, words: &Words) -> Settled
     requires one_table { turn.old.pass.table ≡ words.now }
     requires free { IsFreeForCycle turn.old.pass }

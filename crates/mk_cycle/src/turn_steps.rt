@@ -25,7 +25,7 @@ use mk_words::{Turn, Words};
 
 /// Whose turn it is, and that what it has seen is a history. It does nothing.
 #[inline(always)]
-fn in_turn(turn: &Turn)
+pub(crate) fn in_turn(turn: &Turn)
     ensures { InTurn turn.now.pass }
 {
     turn.is_in_order();

@@ -1,5 +1,5 @@
 //! Released cells are wiped: their words are looked at, in a table of this many pages, and what isn't 0 is stored to.
-ghost use Rattle.std.specs.Prelude.{◌≡◌, ◌<◌, ◌+◌, ◌*◌, ℕ, true};
+ghost use Rattle.std.specs.Prelude.{◌≡◌, ◌<◌, ◌+◌, ◌*◌, ◌/◌, ℕ, true, slice_index};
 ghost use Rattle.mk_core.specs.Bits.{has_bit};
 ghost use Rattle.mk_core.specs.Cells.{left_unmarked, words_under};
 ghost use Rattle.mk_core.specs.Words.{header_at};
@@ -7,66 +7,110 @@ ghost use Rattle.mk_geom.specs.Headers.{header_of};
 ghost use Rattle.mk_words.specs.States.{now_of};
 ghost use Rattle.mk_cycle.specs.EngineLaw.{IsFreeForCycle, IsAtPhase};
 ghost use Rattle.mk_cycle.specs.Freeing.{GivesNothingBack, HasFreeCells, IsUnmapped, IsZero, IsUnmappedWord};
+ghost use Rattle.mk_cycle.specs.TurnKeeps.{InTurn};
 
 use crate::bits::lowest_bit;
 use crate::reading::ReadHeader;
-use crate::turn_steps::{look_among, wipe};
+use crate::turn_steps::{in_turn, wipe};
 use mk_core::{Word, bit, without};
 use mk_words::{Turn, Words};
 
-/// Sets a word of no mapped allocation to 0.
-fn wipe_word(turn: &mut Turn, words: &Words, pages: u64, word: u64)
+/// How many pairs of words a page has.
+const PAGE_PAIRS: u64 = 32;
+
+/// Looks at a word of the heap, which is on this page.
+#[inline(always)]
+fn look_at_heap(turn: &mut Turn, words: &Words, pages: u64, page: u64, word: u64) -> u64
     requires one_table { turn.old.pass.table ≡ words.now }
     requires pages { pages ≡ words.now.config.pages }
     requires free { IsFreeForCycle turn.old.pass }
     requires phase { IsAtPhase turn.old.pass 4 }
+    requires within { word < 64 * words.now.config.pages }
+    requires page { page ≡ word / 64 }
+    ensures op { turn.new.op ≡ turn.old.op }
+    ensures frees { GivesNothingBack turn.old.pass turn.new.pass }
+    ensures is { InTurn turn.new.pass }
+    ensures reads { result ≡ slice_index (now_of turn.new.pass).words.heap word }
+{
+    in_turn(turn);
+    turn.look_on_page(words, pages, page, Word::Heap(word))
+}
+
+/// Sets a word of no mapped allocation, which is on this page, to 0.
+#[inline(always)]
+fn wipe_word(turn: &mut Turn, words: &Words, pages: u64, page: u64, word: u64)
+    requires one_table { turn.old.pass.table ≡ words.now }
+    requires pages { pages ≡ words.now.config.pages }
+    requires free { IsFreeForCycle turn.old.pass }
+    requires phase { IsAtPhase turn.old.pass 4 }
+    requires page { page ≡ word / 64 }
     requires unmapped { IsUnmappedWord turn.old.pass word }
     ensures op { turn.new.op ≡ turn.old.op }
     ensures frees { GivesNothingBack turn.old.pass turn.new.pass }
     ensures zero { IsZero turn.new.pass word }
 {
-    if look_among(turn, words, pages, Word::Heap(word)) != 0 {
+    if look_at_heap(turn, words, pages, page, word) != 0 {
         wipe(turn, words, word);
     }
 }
 
-/// Sets this many words, from a first one on, to 0.
-fn wipe_cell(turn: &mut Turn, words: &Words, pages: u64, first: u64, count: u64)
+/// Sets a pair of words to 0. The pairs begin at even words, so that both are on one page.
+#[inline(always)]
+fn wipe_pair(turn: &mut Turn, words: &Words, pages: u64, pair: u64)
     requires one_table { turn.old.pass.table ≡ words.now }
     requires pages { pages ≡ words.now.config.pages }
     requires free { IsFreeForCycle turn.old.pass }
     requires phase { IsAtPhase turn.old.pass 4 }
-    requires unmapped { (i : ℕ) → i < count → IsUnmappedWord turn.old.pass (first + i) }
+    requires first { IsUnmappedWord turn.old.pass (2 * pair) }
+    requires second { IsUnmappedWord turn.old.pass (2 * pair + 1) }
     ensures op { turn.new.op ≡ turn.old.op }
     ensures frees { GivesNothingBack turn.old.pass turn.new.pass }
-    ensures zeros { (i : ℕ) → i < count → IsZero turn.new.pass (first + i) }
+    ensures first { IsZero turn.new.pass (2 * pair) }
+    ensures second { IsZero turn.new.pass (2 * pair + 1) }
 {
     words.is_within_limits();
-    for i in 0..count {
-        wipe_word(turn, words, pages, first + i);
+    let page = pair / PAGE_PAIRS;
+    wipe_word(turn, words, pages, page, 2 * pair);
+    wipe_word(turn, words, pages, page, 2 * pair + 1);
+}
+
+/// Sets this many pairs of words, from a first one on, to 0.
+fn wipe_cell(turn: &mut Turn, words: &Words, pages: u64, first: u64, pairs: u64)
+    requires one_table { turn.old.pass.table ≡ words.now }
+    requires pages { pages ≡ words.now.config.pages }
+    requires free { IsFreeForCycle turn.old.pass }
+    requires phase { IsAtPhase turn.old.pass 4 }
+    requires unmapped { (i : ℕ) → i < 2 * pairs → IsUnmappedWord turn.old.pass (2 * first + i) }
+    ensures op { turn.new.op ≡ turn.old.op }
+    ensures frees { GivesNothingBack turn.old.pass turn.new.pass }
+    ensures zeros { (i : ℕ) → i < 2 * pairs → IsZero turn.new.pass (2 * first + i) }
+{
+    words.is_within_limits();
+    for i in 0..pairs {
+        wipe_pair(turn, words, pages, first + i);
     }
 }
 
 /// Sets the words of those cells of a page to 0 whose bits are set. It goes from bit to bit.
-fn wipe_cells(turn: &mut Turn, words: &Words, pages: u64, page: u64, cells: u64, size: u64)
+fn wipe_cells(turn: &mut Turn, words: &Words, pages: u64, page: u64, cells: u64, pairs: u64)
     requires one_table { turn.old.pass.table ≡ words.now }
     requires pages { pages ≡ words.now.config.pages }
     requires free { IsFreeForCycle turn.old.pass }
     requires phase { IsAtPhase turn.old.pass 4 }
     requires within { page < words.now.config.pages }
-    requires few { size < 4097 }
-    requires unmapped { (k i : ℕ) → has_bit cells k ≡ true → i < size
-        → IsUnmappedWord turn.old.pass (64 * page + k * size + i) }
+    requires few { pairs < 2049 }
+    requires unmapped { (k i : ℕ) → has_bit cells k ≡ true → i < 2 * pairs
+        → IsUnmappedWord turn.old.pass (64 * page + k * (2 * pairs) + i) }
     ensures op { turn.new.op ≡ turn.old.op }
     ensures frees { GivesNothingBack turn.old.pass turn.new.pass }
-    ensures zeros { (k : ℕ) → k < 32 → (i : ℕ) → has_bit cells k ≡ true → i < size
-        → IsZero turn.new.pass (64 * page + k * size + i) }
+    ensures zeros { (k : ℕ) → k < 32 → (i : ℕ) → has_bit cells k ≡ true → i < 2 * pairs
+        → IsZero turn.new.pass (64 * page + k * (2 * pairs) + i) }
 {
     words.is_within_limits();
     let mut rest = cells;
     while rest != 0 {
         let index = lowest_bit(rest);
-        wipe_cell(turn, words, pages, 64 * page + index * size, size);
+        wipe_cell(turn, words, pages, PAGE_PAIRS * page + index * pairs, pairs);
         rest = without(rest, bit(index));
     }
 }
@@ -98,5 +142,5 @@ pub(crate) fn wipe_released(
     if header.is_unmapped() {
         return;
     }
-    wipe_cells(turn, words, pages, page, cells, header.size());
+    wipe_cells(turn, words, pages, page, cells, header.pairs());
 }

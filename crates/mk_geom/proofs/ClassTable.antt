@@ -1,8 +1,10 @@
 -- The classes, one by one, and the cells of a page.
-use Rattle.std.proofs.Common.{Some, ℕ, arith, leb-true, refl, slice_index, suc, zero, [], ◌*◌, ◌+◌, ◌/◌, ◌<◌, ◌∷◌, ◌≡◌}
-use Rattle.std.proofs.Common.{◌≤◌}
-use Rattle.std.proofs.{lemmas.Bool.cond-false, lemmas.Bool.cond-true, lemmas.List.Quantifiers.position-Some}
+use Rattle.std.proofs.Common.{List, None, Option, Some, ℕ, ap, arith, get_or, leb-true, map, refl, slice_index, suc}
+use Rattle.std.proofs.Common.{sym, zero, [], ◌*◌, ◌+◌, ◌-◌, ◌/◌, ◌<◌, ◌∙◌, ◌∷◌, ◌≡◌, ◌≤◌}
+use Rattle.std.proofs.lemmas.Bool.{cond-false, cond-true}
+use Rattle.std.proofs.{lemmas.List.FromFn.get_or-map-range_with_len, lemmas.List.Quantifiers.position-Some}
 use Rattle.std.proofs.{lemmas.Nat.le-div, lemmas.Nat.mul-le, lemmas.Option.none-some}
+use Rattle.std.specs.List.{range_with_len}
 use Rattle.mk_geom.specs.Classes.{cells_of, class_for, class_words_of}
 
 pub class_for-class_words_of : (class : ℕ) → class < 8 → class_for (class_words_of class) ≡ Some class
@@ -26,6 +28,25 @@ class_words_within (suc (suc (suc (suc (suc zero))))) known = (omega arith, omeg
 class_words_within (suc (suc (suc (suc (suc (suc zero)))))) known = (omega arith, omega arith)
 class_words_within (suc (suc (suc (suc (suc (suc (suc zero))))))) known = (omega arith, omega arith)
 class_words_within (suc (suc (suc (suc (suc (suc (suc (suc n)))))))) known = absurd (omega arith)
+
+-- the class of a small object, by its pairs of words
+abbrev pub class_by_pairs : List ℕ
+class_by_pairs = 0 ∷ 0 ∷ 1 ∷ 2 ∷ 3 ∷ 4 ∷ 4 ∷ 5 ∷ 5 ∷ 6 ∷ 6 ∷ 6 ∷ 6 ∷ 7 ∷ 7 ∷ 7 ∷ 7 ∷ []
+
+abbrev listed_class : ℕ → Option ℕ
+listed_class words = Some (slice_index class_by_pairs ((words + 1) / 2))
+
+same_classes : map class_for (range_with_len 1 32) ≡ map listed_class (range_with_len 1 32)
+same_classes = refl
+
+pub classes_listed : (words : ℕ) → 1 ≤ words → words ≤ 32 → class_for words
+    ≡ Some (slice_index class_by_pairs ((words + 1) / 2))
+classes_listed words some small =
+    let place : words - 1 < 32 = omega (arith, some, small) in
+    let is : 1 + (words - 1) ≡ words = omega (arith, some) in
+    sym (get_or-map-range_with_len class_for 1 32 (words - 1) words None place is)
+    ∙ ap (λ xs. get_or xs (words - 1) None) same_classes
+    ∙ get_or-map-range_with_len listed_class 1 32 (words - 1) words None place is
 
 -- the cells of a block, by class
 pub cells_listed : (class : ℕ) → class < 8 → slice_index (32 ∷ 16 ∷ 10 ∷ 8 ∷ 5 ∷ 4 ∷ 2 ∷ 2 ∷ []) class ≡ cells_of class

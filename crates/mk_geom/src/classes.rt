@@ -1,5 +1,5 @@
 //! The sizes of objects.
-ghost use Rattle.std.specs.Prelude.{◌≡◌, ℕ, ◌/◌, ◌<◌, ◌≤◌, ◌↔◌, ◌⊎◌, IfSome, IsNone, nat_le, position};
+ghost use Rattle.std.specs.Prelude.{◌≡◌, ℕ, ◌/◌, ◌<◌, ◌≤◌, ◌↔◌, ◌⊎◌, IfSome, IsNone};
 ghost use Rattle.mk_geom.specs.Classes.{class_for, class_words_of, cells_of, run_pages_of};
 
 /// The words of a page.
@@ -7,6 +7,12 @@ pub const PAGE_WORDS: u64 = 64;
 
 /// The words of a cell, by class.
 const CLASS_WORDS: [u64; 8] = [2, 4, 6, 8, 12, 16, 24, 32];
+
+/// The words of the largest object that has a class.
+const SMALL_WORDS: u64 = 32;
+
+/// The class, by how many pairs of words the object has: cells have whole pairs. So it is found without a search.
+const CLASS_BY_PAIRS: [u64; 17] = [0, 0, 1, 2, 3, 4, 4, 5, 5, 6, 6, 6, 6, 7, 7, 7, 7];
 
 /// The cells of a block, by class, so that they are known without a division.
 const CELLS: [u64; 8] = [32, 16, 10, 8, 5, 4, 2, 2];
@@ -16,6 +22,7 @@ const CELLS: [u64; 8] = [32, 16, 10, 8, 5, 4, 2, 2];
 const SHARES: [u64; 8] = [512, 256, 171, 128, 86, 64, 43, 32];
 
 /// The size class of an object of this many words. An object of more than 32 is large, and has no class.
+#[tactic(auto, using(crate::proofs::ClassTable::classes_listed))]
 pub fn class_of(words: u64) -> Option<u64>
     ensures exact { result ≡ class_for words }
     ensures in_range { IfSome result (λ class. class < 8) }
@@ -23,17 +30,10 @@ pub fn class_of(words: u64) -> Option<u64>
     ensures least { IfSome result (λ class. (lower : ℕ) → lower < class → class_words_of lower < words) }
     ensures none { IsNone result ↔ ((words ≡ 0) ⊎ (32 < words)) }
 {
-    if words == 0 {
+    if words == 0 || words > SMALL_WORDS {
         return None;
     }
-    let class = first_to_hold(&CLASS_WORDS, words)?;
-    Some(class as u64)
-}
-
-fn first_to_hold(sizes: &[u64], words: u64) -> Option<usize>
-    ensures { result ≡ position (λ size. nat_le words size) sizes.now }
-{
-    sizes.iter().position(|size| words <= *size)
+    Some(CLASS_BY_PAIRS[words.div_ceil(2) as usize])
 }
 
 /// The words of a cell of the class.

@@ -83,6 +83,7 @@ fn gray_on(words: &Words, stop: &mut Stopped, pages: u64, page: u64) -> Option<N
 }
 
 /// The first gray cell from a page on, up to another. It goes from page in use to page in use: a free page has no cell.
+#[inline(always)]
 fn gray_between(words: &Words, stop: &mut Stopped, from: u64, to: u64) -> Option<Noted>
     requires one_table { stop.old.pass.table ≡ words.now }
     requires wanted { IsWanted stop.old.pass }
@@ -156,6 +157,9 @@ fn gray_somewhere(words: &Words, stop: &mut Stopped, from: u64) -> Option<Noted>
     let found = gray_between(words, stop, from, pages);
     if let Some(gray) = found {
         return Some(gray);
+    }
+    if from == 0 {
+        return None;
     }
     gray_between(words, stop, 0, from.min(pages))
 }

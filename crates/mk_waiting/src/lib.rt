@@ -42,6 +42,20 @@ fn wait_for_turn<R: Wait>(rt: &R, words: &Words, home: Pass, op: Option<Op>) -> 
     unreachable!()
 }
 
+/// The same. What it hands over and gets back has its room here, so that who needn't wait doesn't clear it.
+#[inline(always)]
+fn wait_apart<R: Wait>(rt: &R, words: &Words, home: Pass, op: Option<Op>) -> Turn
+    requires one_table { home.table ≡ words.now }
+    requires enabled { IsEnabledTo home (step.Take op) }
+    ensures takes { TakesTurn home op result.pass }
+    ensures op { result.op ≡ op }
+    ensures fresh { IsFresh result.pass op }
+    ensures exact { TalliesAreExact result.pass.table.config result.pass.seen }
+    ensures tidy { TalliesAreTidy result.pass.table.config result.pass.seen }
+{
+    wait_for_turn(rt, words, home, op)
+}
+
 /// Takes the turn, and waits for it where another has it.
 #[inline(always)]
 pub fn take_turn<R: Wait>(rt: &R, words: &Words, home: Pass, op: Option<Op>) -> Turn
@@ -55,7 +69,7 @@ pub fn take_turn<R: Wait>(rt: &R, words: &Words, home: Pass, op: Option<Op>) -> 
 {
     match home.try_take(words, op) {
         Ok(turn) => turn,
-        Err((back, _)) => wait_for_turn(rt, words, back, op),
+        Err((back, _)) => wait_apart(rt, words, back, op),
     }
 }
 

@@ -1,5 +1,5 @@
 //! What is known of a table that has ended.
-ghost use Rattle.std.specs.Prelude.{◌≡◌, ◌≤◌, slice_index};
+ghost use Rattle.std.specs.Prelude.{◌≡◌, ◌≤◌, ◌%◌, ◌^◌, count_ones, slice_index};
 ghost use Rattle.std.specs.Mem.Slots.{slots_items, slots_len, IsFull};
 ghost use Rattle.mk_core.specs.Layout.{count_of_words, index_of_named, NamesWord};
 ghost use Rattle.mk_words.specs.Finals.{freed_bits_in};
@@ -35,6 +35,17 @@ pub(crate) fn last_word(closed: &Closed<MapHome, Global>, pages: u64, name: Word
     closed.word(index_of(pages, TableWord::Named(name)))
 }
 
+/// How many freed bits a quarantine word has. Most words are 0.
+fn freed_bits_of(word: u64) -> u64
+    ensures exact { result ≡ count_ones (word % 2 ^ 32) }
+    ensures few { result ≤ 32 }
+{
+    if word == 0 {
+        return 0;
+    }
+    (word % (1 << 32)).count_ones() as u64
+}
+
 /// The freed bits of the quarantine words of this many pages.
 pub(crate) fn freed_bits(closed: &Closed<MapHome, Global>, pages: u64) -> u64
     requires pages { pages ≤ 4096 }
@@ -46,7 +57,7 @@ pub(crate) fn freed_bits(closed: &Closed<MapHome, Global>, pages: u64) -> u64
     let mut page = 0;
     while page < pages {
         let word = last_word(closed, pages, Word::Quar(page));
-        freed += (word % (1 << 32)).count_ones() as u64;
+        freed += freed_bits_of(word);
         page += 1;
     }
     freed

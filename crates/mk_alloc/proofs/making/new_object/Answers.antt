@@ -1,26 +1,20 @@
-use Rattle.mk_alloc.proofs.Vocabulary.{Answer, CalledInTurn, CallerState, EachIsBegun, IsAnsweredFull, Misfits, Op}
-use Rattle.mk_alloc.proofs.Vocabulary.{PassState, Some, SweepsNothing, begun_then, false, only_seen, subst, sym}
-use Rattle.mk_alloc.proofs.Vocabulary.{turn_stays}
-use Rattle.mk_alloc.proofs.BegunTurns.{none_begun, turn_begun}
+use Rattle.std.proofs.Common.{IfSome}
+use Rattle.mk_alloc.proofs.Vocabulary.{Answer, Bool, CalledInTurn, CallerState, EachIsBegun, IsAnsweredFull, Misfits}
+use Rattle.mk_alloc.proofs.Vocabulary.{Op, Option, PassState, Some, SweepsNothing, ℕ, begun_then, false, only_seen}
+use Rattle.mk_alloc.proofs.Vocabulary.{refl, subst, sym, turn_stays, ◌≡◌}
+use Rattle.mk_geom.specs.declared.pages.Census.{Census}
 use Rattle.mk_alloc.proofs.NewTurns.{NewGiven, census_told, given, is_answered_full, last_turn, new_called}
-use Rattle.mk_alloc.proofs.OneCycles.{none_runs_one, none_then_one, one_then_none}
-use Rattle.mk_alloc.proofs.UnsweptTurns.{part_then_sweeps, turn_sweeps}
-use Rattle.mk_alloc.proofs.making.new_object.Goals.{After-answer_full, After-give, After-give-2, After-give-then-placed}
-use Rattle.mk_alloc.proofs.making.new_object.Goals.{After-take-turn}
-use Rattle.mk_alloc.proofs.{CalledTurns.Taken, SeekingTurns.misfits_then, SeekingTurns.seeks_then, TakenTurns.took_by}
+use Rattle.mk_alloc.proofs.making.new_object.Goals.{After-give, After-give-2, After-take-turn}
+use Rattle.mk_alloc.proofs.{BegunTurns.none_begun, BegunTurns.turn_begun, CalledTurns.Taken, OneCycles.none_runs_one}
+use Rattle.mk_alloc.proofs.{OneCycles.none_then_one, SeekingTurns.misfits_then, SeekingTurns.seeks_then}
+use Rattle.mk_alloc.proofs.{TakenTurns.took_by, UnsweptTurns.part_then_sweeps, UnsweptTurns.turn_sweeps}
+use Rattle.mk_alloc.specs.Rooms.{CountsFull, answer_with}
 use Rattle.mk_alloc.proofs.making.new_object.Goals as goal
 
 -- the turn of the call, as it was taken
 took : (g : _) (c : After-take-turn g)
     → Taken (Op.New c.args.d c.args.ty false) c.args.caller.now.pass c.take-turn.result.pass
 took g c = took_by c.lend-home.ensures.pass c.is_idle.ensures.idle c.is_idle.ensures.own c.take-turn.ensures.takes
-
-pub give-requires-then-placed-clause-quiet : goal.give-requires-then-placed-clause-quiet
-give-requires-then-placed-clause-quiet g c = (c.make_room-turn.ensures.placed c.if-placed.true).on.quiet
-
-pub answer_full-requires-clause-quiet : goal.answer_full-requires-clause-quiet
-answer_full-requires-clause-quiet g c =
-    (c.make_room-turn.ensures.misfits c.if-placed.false).misfits.seeks.on.quiet
 
 -- The object is placed at once,
 at_once : (g : _) (c : After-give g) → Taken (Op.New c.args.d c.args.ty false) c.args.caller.now.pass
@@ -59,124 +53,108 @@ returns-then-try_place-clause-begun g c =
     (turn_begun begins (given (at_once g x.After-give (took g x.After-take-turn)))
     (none_begun begins c.take-turn.result.pass c.try_place.new.turn.pass c.try_place.ensures.begins))
 
--- or after a cycle, or another one that was on;
-later : (g : _) (c : After-give-then-placed g) → Taken (Op.New c.args.d c.args.ty false) c.args.caller.now.pass
+-- or it isn't, and room is made, or the answer is Full.
+later : (g : _) (c : After-give-2 g) → Taken (Op.New c.args.d c.args.ty false) c.args.caller.now.pass
     c.take-turn.result.pass
-    → NewGiven c.args.d c.args.ty Answer.Done c.args.caller.now.pass c.take-turn.result.pass
-    c.make_room-turn.result.0.pass c.give-then-placed.result
+    → NewGiven c.args.d c.args.ty (answer_with c.make_room_or_count-turn.result.1) c.args.caller.now.pass
+    c.take-turn.result.pass
+    c.make_room_or_count-turn.result.0.pass c.give-2.result
 later g c took =
     let taken : PassState = c.take-turn.result.pass in
     let tried : PassState = c.try_place.new.turn.pass in
-    let done : PassState = c.make_room-turn.result.0.pass in
+    let done : PassState = c.make_room_or_count-turn.result.0.pass in
     record {
       took = took;
       begins = c.take-turn.ensures.begins;
-      seeks = seeks_then (Some Answer.Done) taken tried done (c.try_place.ensures.misfits c.if-try_place.false).seeks
-          (c.make_room-turn.ensures.placed c.if-placed.true);
-      runs = none_then_one taken tried done c.try_place.ensures.begins c.make_room-turn.ensures.one;
-      gives = c.give-then-placed.ensures.gives;
-      rests = c.give-then-placed.ensures.rests;
-    }
-
-pub returns-then-placed-clause-made : goal.returns-then-placed-clause-made
-returns-then-placed-clause-made g c =
-    let x = goal.at.returns-then-placed-clause-made g c in
-    let o = Op.New c.args.d c.args.ty false in
-    subst (λ (x : CallerState). CalledInTurn g.E.Engine.on c.args.caller.now.pass o Answer.Done x.pass)
-    (sym c.back-then-placed.ensures)
-    (new_called (later g x.After-give-then-placed (took g x.After-take-turn)) g.E.Engine.on)
-
-pub returns-then-placed-clause-reached : goal.returns-then-placed-clause-reached
-returns-then-placed-clause-reached g c =
-    let x = goal.at.returns-then-placed-clause-reached g c in
-    let first = (c.try_place.ensures.misfits c.if-try_place.false).seeks.on.does in
-    λ none.
-    subst (λ (x : CallerState). SweepsNothing c.args.caller.now.pass x.pass) (sym c.back-then-placed.ensures)
-    (turn_sweeps (given (later g x.After-give-then-placed (took g x.After-take-turn)))
-    (part_then_sweeps turn_stays c.take-turn.result.pass c.try_place.new.turn.pass c.make_room-turn.result.0.pass first
-    c.try_place.ensures.reached (c.make_room-turn.ensures.reached none)))
-
-pub returns-then-placed-clause-begun : goal.returns-then-placed-clause-begun
-returns-then-placed-clause-begun g c =
-    let x = goal.at.returns-then-placed-clause-begun g c in
-    let taken : PassState = c.take-turn.result.pass in
-    let tried : PassState = c.try_place.new.turn.pass in
-    let first = (c.try_place.ensures.misfits c.if-try_place.false).seeks.on.does in
-    let begins = g.E.Engine.begins in
-    subst (λ (x : CallerState). EachIsBegun begins c.args.caller.now.pass x.pass) (sym c.back-then-placed.ensures)
-    (turn_begun begins (given (later g x.After-give-then-placed (took g x.After-take-turn)))
-    (begun_then begins taken tried c.make_room-turn.result.0.pass (only_seen taken tried first.more first.is)
-    (none_begun begins taken tried c.try_place.ensures.begins) c.make_room-turn.ensures.begun))
-
--- or it isn't placed.
-nowhere : (g : _) (c : After-answer_full g) → Misfits c.take-turn.result.pass c.make_room-turn.result.0.pass
-nowhere g c =
-    misfits_then c.take-turn.result.pass c.try_place.new.turn.pass c.make_room-turn.result.0.pass
-    (c.try_place.ensures.misfits c.if-try_place.false).seeks
-    (c.make_room-turn.ensures.misfits c.if-placed.false).misfits
-
-refused : (g : _) (c : After-give-2 g) → Taken (Op.New c.args.d c.args.ty false) c.args.caller.now.pass
-    c.take-turn.result.pass
-    → Misfits c.take-turn.result.pass c.make_room-turn.result.0.pass
-    → NewGiven c.args.d c.args.ty Answer.Full c.args.caller.now.pass c.take-turn.result.pass
-    c.answer_full.new.turn.pass c.give-2.result
-refused g c took misfits =
-    let taken : PassState = c.take-turn.result.pass in
-    let tried : PassState = c.try_place.new.turn.pass in
-    let last : PassState = c.make_room-turn.result.0.pass in
-    let done : PassState = c.answer_full.new.turn.pass in
-    record {
-      took = took;
-      begins = c.take-turn.ensures.begins;
-      seeks = seeks_then (Some Answer.Full) taken last done misfits.seeks c.answer_full.ensures.full.seeks;
-      runs =
-          one_then_none taken last done
-          (none_then_one taken tried last c.try_place.ensures.begins c.make_room-turn.ensures.one)
-          c.answer_full.ensures.begins;
+      seeks = seeks_then (Some (answer_with c.make_room_or_count-turn.result.1)) taken tried done
+          (c.try_place.ensures.misfits c.if-try_place.false).seeks c.make_room_or_count-turn.ensures.seeks;
+      runs = none_then_one taken tried done c.try_place.ensures.begins c.make_room_or_count-turn.ensures.one;
       gives = c.give-2.ensures.gives;
       rests = c.give-2.ensures.rests;
     }
 
-pub returns-clause-full : goal.returns-clause-full
-returns-clause-full g c =
-    let x = goal.at.returns-clause-full g c in
-    let misfits = nowhere g x.After-answer_full in
-    let m = refused g x.After-give-2 (took g x.After-take-turn) misfits in
-    let o = Op.New c.args.d c.args.ty false in
-    subst (λ (x : CallerState). IsAnsweredFull g.E.Engine.on c.args.caller.now.pass o c.census-census.result x.pass)
-    (sym c.back-2.ensures)
-    (is_answered_full m misfits c.answer_full.ensures.full g.E.Engine.on
-    (census_told (last_turn m misfits c.answer_full.ensures.full) misfits.seeks.on.quiet
-    c.pages.ensures c.census-census.ensures))
+pub give-requires-2-clause-quiet : goal.give-requires-2-clause-quiet
+give-requires-2-clause-quiet g c = c.make_room_or_count-turn.ensures.seeks.on.quiet
 
-pub returns-clause-reached : goal.returns-clause-reached
-returns-clause-reached g c =
-    let x = goal.at.returns-clause-reached g c in
-    let misfits = nowhere g x.After-answer_full in
+-- nothing is swept in its turn,
+later_sweeps : (g : _) (c : After-give-2 g) → Taken (Op.New c.args.d c.args.ty false) c.args.caller.now.pass
+    c.take-turn.result.pass
+    → g.E.Engine.sweeps ≡ false → SweepsNothing c.args.caller.now.pass c.give-2.result
+later_sweeps g c took none =
+    turn_sweeps (given (later g c took))
+    (part_then_sweeps turn_stays c.take-turn.result.pass c.try_place.new.turn.pass
+    c.make_room_or_count-turn.result.0.pass (c.try_place.ensures.misfits c.if-try_place.false).seeks.on.does
+    c.try_place.ensures.reached (c.make_room_or_count-turn.ensures.reached none))
+
+-- and after each begin the engine does its part.
+later_begun : (g : _) (c : After-give-2 g) → Taken (Op.New c.args.d c.args.ty false) c.args.caller.now.pass
+    c.take-turn.result.pass
+    → EachIsBegun g.E.Engine.begins c.args.caller.now.pass c.give-2.result
+later_begun g c took =
     let taken : PassState = c.take-turn.result.pass in
     let tried : PassState = c.try_place.new.turn.pass in
-    let last : PassState = c.make_room-turn.result.0.pass in
+    let first = (c.try_place.ensures.misfits c.if-try_place.false).seeks.on.does in
+    let begins = g.E.Engine.begins in
+    turn_begun begins (given (later g c took))
+    (begun_then begins taken tried c.make_room_or_count-turn.result.0.pass (only_seen taken tried first.more first.is)
+    (none_begun begins taken tried c.try_place.ensures.begins) c.make_room_or_count-turn.ensures.begun)
+
+pub returns-in-None-clause-made : goal.returns-in-None-clause-made
+returns-in-None-clause-made g c =
+    let x = goal.at.returns-in-None-clause-made g c in
+    let o = Op.New c.args.d c.args.ty false in
+    let p : PassState = c.args.caller.now.pass in
+    subst (λ (x : CallerState). CalledInTurn g.E.Engine.on p o Answer.Done x.pass) (sym c.back-2.ensures)
+    (subst (λ (r : Option Census). CalledInTurn g.E.Engine.on p o (answer_with r) c.give-2.result) c.in-None.is
+    (new_called (later g x.After-give-2 (took g x.After-take-turn)) g.E.Engine.on))
+
+pub returns-in-None-clause-reached : goal.returns-in-None-clause-reached
+returns-in-None-clause-reached g c =
+    let x = goal.at.returns-in-None-clause-reached g c in
     λ none.
     subst (λ (x : CallerState). SweepsNothing c.args.caller.now.pass x.pass) (sym c.back-2.ensures)
-    (turn_sweeps (given (refused g x.After-give-2 (took g x.After-take-turn) misfits))
-    (part_then_sweeps turn_stays taken last c.answer_full.new.turn.pass misfits.seeks.on.does
-    (part_then_sweeps turn_stays taken tried last (c.try_place.ensures.misfits c.if-try_place.false).seeks.on.does
-    c.try_place.ensures.reached (c.make_room-turn.ensures.reached none))
-    c.answer_full.ensures.reached))
+    (later_sweeps g x.After-give-2 (took g x.After-take-turn) none)
 
-pub returns-clause-begun : goal.returns-clause-begun
-returns-clause-begun g c =
-    let x = goal.at.returns-clause-begun g c in
-    let misfits = nowhere g x.After-answer_full in
+pub returns-in-None-clause-begun : goal.returns-in-None-clause-begun
+returns-in-None-clause-begun g c =
+    let x = goal.at.returns-in-None-clause-begun g c in
+    subst (λ (x : CallerState). EachIsBegun g.E.Engine.begins c.args.caller.now.pass x.pass) (sym c.back-2.ensures)
+    (later_begun g x.After-give-2 (took g x.After-take-turn))
+
+pub returns-in-Some-clause-reached : goal.returns-in-Some-clause-reached
+returns-in-Some-clause-reached g c =
+    let x = goal.at.returns-in-Some-clause-reached g c in
+    λ none.
+    subst (λ (x : CallerState). SweepsNothing c.args.caller.now.pass x.pass) (sym c.back-2.ensures)
+    (later_sweeps g x.After-give-2 (took g x.After-take-turn) none)
+
+pub returns-in-Some-clause-begun : goal.returns-in-Some-clause-begun
+returns-in-Some-clause-begun g c =
+    let x = goal.at.returns-in-Some-clause-begun g c in
+    subst (λ (x : CallerState). EachIsBegun g.E.Engine.begins c.args.caller.now.pass x.pass) (sym c.back-2.ensures)
+    (later_begun g x.After-give-2 (took g x.After-take-turn))
+
+-- With Full come the counts of the pages where it misfits at last.
+full_is : {on : Bool} {d ty : ℕ} {p taken tried done q : PassState} {census : Census}
+    → NewGiven d ty Answer.Full p taken done q → Misfits taken tried → CountsFull tried done census
+    → IsAnsweredFull on p (Op.New d ty false) census q
+full_is {on = on} {taken = taken} {tried = tried} m first full =
+    let misfits = misfits_then taken tried full.last first.seeks full.misfits in
+    is_answered_full m misfits full.full on
+    (census_told (last_turn m misfits full.full) misfits.seeks.on.quiet refl full.counts)
+
+pub returns-in-Some-clause-full : goal.returns-in-Some-clause-full
+returns-in-Some-clause-full g c =
+    let x = goal.at.returns-in-Some-clause-full g c in
+    let o = Op.New c.args.d c.args.ty false in
+    let p : PassState = c.args.caller.now.pass in
     let taken : PassState = c.take-turn.result.pass in
     let tried : PassState = c.try_place.new.turn.pass in
-    let last : PassState = c.make_room-turn.result.0.pass in
-    let first = (c.try_place.ensures.misfits c.if-try_place.false).seeks.on.does in
-    let to_last = misfits.seeks.on.does in
-    let begins = g.E.Engine.begins in
-    subst (λ (x : CallerState). EachIsBegun begins c.args.caller.now.pass x.pass) (sym c.back-2.ensures)
-    (turn_begun begins (given (refused g x.After-give-2 (took g x.After-take-turn) misfits))
-    (begun_then begins taken last c.answer_full.new.turn.pass (only_seen taken last to_last.more to_last.is)
-    (begun_then begins taken tried last (only_seen taken tried first.more first.is)
-    (none_begun begins taken tried c.try_place.ensures.begins) c.make_room-turn.ensures.begun)
-    (none_begun begins last c.answer_full.new.turn.pass c.answer_full.ensures.begins)))
+    let done : PassState = c.make_room_or_count-turn.result.0.pass in
+    let q : PassState = c.give-2.result in
+    let m = subst (λ (r : Option Census). NewGiven c.args.d c.args.ty (answer_with r) p taken done q) c.in-Some.is
+    (later g x.After-give-2 (took g x.After-take-turn)) in
+    let full = subst (λ (r : Option Census). IfSome r (CountsFull tried done)) c.in-Some.is
+    c.make_room_or_count-turn.ensures.full in
+    subst (λ (x : CallerState). IsAnsweredFull g.E.Engine.on p o c.in-Some.census x.pass) (sym c.back-2.ensures)
+    (full_is {on = g.E.Engine.on} m (c.try_place.ensures.misfits c.if-try_place.false) full)

@@ -1,6 +1,7 @@
-use Rattle.mk_laws.proofs.Vocabulary.{ℕ, ap, cases_Bool, false, has_bit, inl, inr, no_bit, refl, subst, sym, true}
-use Rattle.mk_laws.proofs.Vocabulary.{true≢false, without, ◌*◌, ◌+◌, ◌<◌, ◌^◌, ◌∙◌, ◌≡◌, ◌⊎◌}
-use Rattle.mk_cycle.proofs.Vocabulary.{IsZero}
+use Rattle.std.proofs.Math.Nat.{mul_left_comm}
+use Rattle.mk_laws.proofs.Vocabulary.{ℕ, ap, arith, cases_Bool, false, has_bit, inl, inr, no_bit, refl, subst, sym}
+use Rattle.mk_laws.proofs.Vocabulary.{true, true≢false, without, ◌*◌, ◌+◌, ◌<◌, ◌^◌, ◌∙◌, ◌≡◌, ◌⊎◌}
+use Rattle.mk_cycle.proofs.Vocabulary.{IsUnmappedWord, IsZero}
 use Rattle.mk_cycle.proofs.GivingSteps.{none_at_once, none_then, still_unmapped_word}
 use Rattle.mk_cycle.proofs.RestBits.{fewer_left, left_among, taken_or_gone}
 use Rattle.mk_cycle.proofs.wiping.wipe_cells.Goals as goal
@@ -13,11 +14,17 @@ loop-rest-init c = record {
   zeros = λ j none i has lt. absurd (true≢false (sym has ∙ none));
 }
 
+-- a word of a cell, by the pairs before it
+same_word : (page index pairs i : ℕ) → 64 * page + index * (2 * pairs) + i ≡ 2 * (32 * page + index * pairs) + i
+same_word page index pairs i = omega (arith, mul_left_comm index 2 pairs)
+
 pub wipe_cell-requires-clause-unmapped : goal.wipe_cell-requires-clause-unmapped
 wipe_cell-requires-clause-unmapped c i lt =
-    still_unmapped_word _ _ _ c.loop-rest.invariant.frees.frees
+    subst (λ (n : ℕ). IsUnmappedWord c.loop-rest.turn.pass n)
+    (same_word c.args.page c.lowest_bit-index.result c.args.pairs i)
+    (still_unmapped_word _ _ _ c.loop-rest.invariant.frees.frees
     (c.requires.unmapped c.lowest_bit-index.result i
-    (c.loop-rest.invariant.among c.lowest_bit-index.result c.lowest_bit-index.ensures.one) lt)
+    (c.loop-rest.invariant.among c.lowest_bit-index.result c.lowest_bit-index.ensures.one) lt))
 
 pub loop-rest-smaller : goal.loop-rest-smaller
 loop-rest-smaller c =
@@ -44,15 +51,17 @@ loop-rest-preserved c =
     }
   where
     by : (j : ℕ) → has_bit (without c.loop-rest.rest (2 ^ c.lowest_bit-index.result)) j ≡ false
-        → (i : ℕ) → has_bit c.args.cells j ≡ true → i < c.args.size
+        → (i : ℕ) → has_bit c.args.cells j ≡ true → i < 2 * c.args.pairs
         → (has_bit c.loop-rest.rest j ≡ true) ⊎ (has_bit c.loop-rest.rest j ≡ false)
-        → IsZero c.wipe_cell.new.turn.pass (64 * c.args.page + j * c.args.size + i)
+        → IsZero c.wipe_cell.new.turn.pass (64 * c.args.page + j * (2 * c.args.pairs) + i)
     by j gone i has lt (inl one) =
-        subst (λ (k : ℕ). IsZero c.wipe_cell.new.turn.pass (64 * c.args.page + k * c.args.size + i))
-        (sym (taken_or_gone c.loop-rest.rest c.lowest_bit-index.result j gone one)) (c.wipe_cell.ensures.zeros i lt)
+        subst (λ (k : ℕ). IsZero c.wipe_cell.new.turn.pass (64 * c.args.page + k * (2 * c.args.pairs) + i))
+        (sym (taken_or_gone c.loop-rest.rest c.lowest_bit-index.result j gone one))
+        (subst (λ (n : ℕ). IsZero c.wipe_cell.new.turn.pass n)
+        (sym (same_word c.args.page c.lowest_bit-index.result c.args.pairs i)) (c.wipe_cell.ensures.zeros i lt))
     by j gone i has lt (inr none) =
-        c.wipe_cell.ensures.frees.frees.zeros (64 * c.args.page + j * c.args.size + i)
-        (still_unmapped_word _ _ (64 * c.args.page + j * c.args.size + i) c.loop-rest.invariant.frees.frees
+        c.wipe_cell.ensures.frees.frees.zeros (64 * c.args.page + j * (2 * c.args.pairs) + i)
+        (still_unmapped_word _ _ (64 * c.args.page + j * (2 * c.args.pairs) + i) c.loop-rest.invariant.frees.frees
         (c.requires.unmapped j i has lt)).unmapped
         (c.loop-rest.invariant.zeros j none i has lt)
 

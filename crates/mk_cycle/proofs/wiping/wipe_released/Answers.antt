@@ -5,7 +5,7 @@ use Rattle.mk_cycle.proofs.wiping.wipe_released.Goals as goal
 
 pub wipe_cells-requires-clause-unmapped : goal.wipe_cells-requires-clause-unmapped
 wipe_cells-requires-clause-unmapped c k i has lt =
-    let size = c.size.ensures.exact in
+    let size = c.pairs.ensures.exact in
     subst (λ (n : ℕ). IsUnmappedWord c.args.turn.now.pass (64 * c.args.page + k * n + i)) (sym size)
     (chosen_unmapped c.args.turn.now.pass c.args.page c.args.header.now c.args.cells c.requires.header
     c.requires.released c.requires.cells k i has (subst (λ (n : ℕ). i < n) size lt))
@@ -20,6 +20,6 @@ returns-then-is_unmapped-clause-zeros c k few i has lt =
 
 pub returns-clause-zeros : goal.returns-clause-zeros
 returns-clause-zeros c k few i has lt =
-    let size = c.size.ensures.exact in
+    let size = c.pairs.ensures.exact in
     subst (λ (n : ℕ). IsZero c.wipe_cells.new.turn.pass (64 * c.args.page + k * n + i)) size
     (c.wipe_cells.ensures.zeros k few i has (subst (λ (n : ℕ). i < n) (sym size) lt))
