@@ -160,7 +160,6 @@ pub mod Snapshots
 pub mod ReadingsStands
 pub mod UnmappedRuns
 pub mod UnsetWords
-pub mod AppliedPlacement
 pub mod CallsBy
 pub mod Promises
 pub mod Basics
