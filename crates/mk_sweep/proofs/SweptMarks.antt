@@ -81,7 +81,8 @@ module _ {p : PassState} {t u : TurnState} (s : SweepsInStop p t u) where
   value_well v (InWord k scanned is) =
       ap (λ j. points_well u.pass.table.config.pages (now_of u.pass).words j) (sym is)
       ∙ s.well k (some_there (words_below (still_words t.pass) t.pass.table.config.pages) k (λ z.
-      let one = looked_at_once t.pass.table.config t.pass.seen s.early s.sweeping.settled k (scanned_before k scanned) in
+      let one =
+      looked_at_once t.pass.table.config t.pass.seen s.early s.sweeping.settled k (scanned_before k scanned) in
       omega arith))
 
   swept_is_marked : (i : ℕ) → IsSwept u.pass.table.config (world_of u.pass) i

@@ -94,7 +94,8 @@ keeps_registers p s q m k is same r lt =
     cc (register_behind p s q m r, number_is p.seat k is, registers_before p s q m k is r lt)
 
 -- The same, from what a call says.
-module _ {p : PassState} {s : Step} {n : ℕ} {q : PassState} (t : Tells p s n q) (kind : group_of s ≡ Group.Callers) where
+module _ {p : PassState} {s : Step} {n : ℕ} {q : PassState} (t : Tells p s n q)
+    (kind : group_of s ≡ Group.Callers) where
   pub caller_is : (k : ℕ) × (p.seat ≡ Caller k)
   caller_is = is_callers _ (subst (λ (g : Group). is_open_to p.seat g ≡ true) kind (made p s q t.makes).meets.kind)
 

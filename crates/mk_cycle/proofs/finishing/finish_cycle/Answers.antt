@@ -16,8 +16,8 @@ pub returns-clause-law : goal.returns-clause-law
 returns-clause-law g c =
     let give = c.give_all_back-turn.ensures in
     let end = c.end.ensures in
-    finishes_cycle c.args.turn.pass _ c.end.new.turn.pass c.count_cycle.new.turn.pass _ give.gives c.requires.free end.was
-    end.acts end.is _ c.count_cycle.ensures.sets give.told give.held
+    finishes_cycle c.args.turn.pass _ c.end.new.turn.pass c.count_cycle.new.turn.pass _ give.gives c.requires.free
+    end.was end.acts end.is _ c.count_cycle.ensures.sets give.told give.held
 
 pub returns-clause-released : goal.returns-clause-released
 returns-clause-released g c =

@@ -24,7 +24,8 @@ settle_pages-settled-requires-clause-occupied g c page =
 -- the gates that are held for the stop
 holds_gates_at : (g : _) (c : After-settle_pages-settled g) → HoldsGates c.args.turn.pass c.stopped-stop.result.pass
 holds_gates_at g c =
-    subst (λ (t : TurnState). HoldsGates c.args.turn.pass t.pass) (sym c.stopped-stop.ensures) c.hold_gates.ensures.holds
+    subst (λ (t : TurnState). HoldsGates c.args.turn.pass t.pass) (sym c.stopped-stop.ensures)
+    c.hold_gates.ensures.holds
 
 -- what is given back after it
 all_frees : (g : _) (c : After-settle_pages-settled g)

@@ -16,7 +16,11 @@ invariant_of-self g c =
     let held = as_carried _ _ _ c.deref_mut.ensures.value c.self.invariant in
     told_turn p (Step.Head c.args.page c.args.v) q before.op before.map map refl c.perform.ensures.told.makes held
     (λ a. shows_head p c.args.page c.args.v q a before.map map
-    (record { shows = c.header_stored.ensures.shows; freed = c.header_stored.ensures.freed; others = c.header_stored.ensures.others })
+    (record {
+      shows = c.header_stored.ensures.shows;
+      freed = c.header_stored.ensures.freed;
+      others = c.header_stored.ensures.others;
+    })
     (told_page (Step.Head c.args.page c.args.v) c.args.page refl c.self.view_is c.requires.enabled
     c.deref_mut.ensures.value c.self.invariant) held.shows)
 
