@@ -195,7 +195,3 @@ module _ (nodes : List Node) where
         fits = moves.fits;
       }
   left_to_op {p} q false at first leaves none = grind (arith, stays_to_op)
-
-  -- A place that moves on stops where the place after it stops.
-  pub stops_after : (p q t : Place) → MovesToOp nodes p q → HasStopped nodes q t → HasStopped nodes p t
-  stops_after p q t moves stopped = grind arith

@@ -193,8 +193,3 @@ pub none_added : (b c : Built) (line : ℕ) (e : Element) → IsSoundlyBuilt b �
     → with_element line e [] ≡ []
     → AddsLine line e b c
 none_added b c line e sound none same nothing = grind arith
-
-pub one_added : (b c : Built) (part : Part) (line : ℕ) (e : Element) → IsSoundlyBuilt b → b.parts ≡ part ∷ []
-    → c ≡ record b { parts = [] }
-    → ((p : StepPart) → with_element line e (p ∷ []) ≡ []) → AddsLine line e b c
-one_added b c part line e sound one same nothing = grind arith

@@ -166,18 +166,6 @@ pub lines_of_script : (P : Item → Type 0) (line : ℕ) (items : List Item) →
     → AllLines P (blocks_from line items)
 lines_of_script P line items h = placed_of_script (λ l. P) line items (AllFrom-All P line items h)
 
-pub lines_left : (P : Item → Type 0) (program : List Item) (k : ℕ) (answers : List Answer)
-    → All P (script_of program k).items
-    → AllLines P (feed program k answers).left
-lines_left P program k answers h =
-    placed_left (λ l. P) program k answers (AllFrom-All P (script_of program k).line (script_of program k).items h)
-
-pub next_line : (P : Item → Type 0) (program : List Item) (k : ℕ) (answers : List Answer) (o : Op)
-    → All P (script_of program k).items → next_op program k answers ≡ Some o
-    → IsAtLine (λ l. P) (script_scope program k) (feed program k answers) o
-next_line P program k answers o h e =
-    next_placed (λ l. P) program k answers o (AllFrom-All P (script_of program k).line (script_of program k).items h) e
-
 -- The lines around a line.
 
 -- the item stands in the script, at this line
@@ -199,12 +187,6 @@ stand_from script before (item ∷ items) line is at = (
 
 pub all_stand : (script : ScriptText) → AllFrom (StandsIn script) script.line script.items
 all_stand script = stand_from script [] script.items script.line refl (omega arith)
-
--- Each line that is left stands in its script.
-pub left_stands : (program : List Item) (k : ℕ) (answers : List Answer)
-    → AllPlaced (StandsIn (script_of program k)) (feed program k answers).left
-left_stands program k answers =
-    placed_left (StandsIn (script_of program k)) program k answers (all_stand (script_of program k))
 
 -- So does the line whose operation is asked for.
 pub next_stands : (program : List Item) (k : ℕ) (answers : List Answer) (o : Op) → next_op program k answers ≡ Some o

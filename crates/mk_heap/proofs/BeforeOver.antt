@@ -61,8 +61,7 @@ none_over_waiting p c w (e ∷ es) has only on =
     let first : is_over e.step ≡ false =
     false_from_ne_true (is_over e.step) (λ over. by over
     (or_cases (not (is_one_of p.seats e.seat)) (is_take e.step && is_same_seat e.seat p.seat) parts.0)) in
-    ap (λ (b : Bool). b || has_over es) first
-    ∙ none_over_waiting p c (world_behind c w e) es has parts.1 on.1
+    cc (first, none_over_waiting p c (world_behind c w e) es has parts.1 on.1)
   where
     by : is_over e.step ≡ true
         → (not (is_one_of p.seats e.seat) ≡ true) ⊎ ((is_take e.step && is_same_seat e.seat p.seat) ≡ true) → ⊥
@@ -80,8 +79,7 @@ taken_overs p q t has history =
     let long : IsHistory c (p.seen ++ w.more) =
     subst (λ (r : PassState). IsHistory r.table.config r.seen) w.is history in
     let on = (enabled_in_parts c p.seen w.more).0 long.enabled in
-    ap (λ (r : PassState). has_over r.seen) w.is
-    ∙ no_more_overs p.seen w.more (none_over_waiting p c (left c p.seen) w.more has w.only on.1)
+    cc (w.is, no_more_overs p.seen w.more (none_over_waiting p c (left c p.seen) w.more has w.only on.1))
 
 -- After an `over` the phase says so for ever.
 
@@ -133,6 +131,5 @@ pub joined_overs : {h : HostState} {q : PassState} (p : PassState) → IsHost h 
     → q ≡ (with_joined h p q.seen).pass → IsHistory q.table.config q.seen → Grows h.pass.seats h.pass.seen q.seen
     → has_over q.seen ≡ has_over h.pass.seen
 joined_overs {h} {q} p is own joined history grows =
-    others_overs h.pass.table.config h.pass.seats h.pass.seen q.seen
-    (subst (λ (x : PassState). IsHistory x.table.config q.seen) joined history) grows
-    (subst (λ (s : Seat). Has h.pass.seats s) is.seat own)
+    others_overs _ _ _ _ (subst (λ (x : PassState). IsHistory x.table.config q.seen) joined history) grows (subst (λ (s
+    : Seat). Has h.pass.seats s) is.seat own)

@@ -52,8 +52,7 @@ module _ (begins : Config → Seat → List Event → List Event → Type 0) whe
   -- and an `over`, which begins none
   pub over_begun : (p q : PassState) → Has p.seats p.seat → SaysOver p q → EachIsBegun begins p q
   over_begun p q own over =
-      let takes : TakesIdleTurn p over.idle =
-      record { taken = over.taken; takes = over.takes; ends = over.ends } in
+      let takes : TakesIdleTurn p over.idle = record { taken = over.taken; takes = over.takes; ends = over.ends } in
       let same = idle_same p over.idle takes in
       let same_said = only_seen_by over.idle over.said Step.Over over.says in
       let own_idle = has_on p over.idle same own in

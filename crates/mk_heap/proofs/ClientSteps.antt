@@ -63,9 +63,7 @@ pub one_is_joined : (w : WordsState) (first made h joined over : HostState) (p :
     → p.seats ≡ Caller first.callers ∷ [] → joined ≡ with_joined h p seen → over ≡ with_seen joined later
     → AllAreJoined over
 one_is_joined w first made h joined over p seen later is_first is_made is seats is_joined is_over =
-    let begun : h ≡ with_seen (with_caller_made (first_host w)) h.pass.seen =
-    is ∙ ap (λ (g : HostState). with_seen g h.pass.seen)
-    (is_made ∙ ap (λ (g : HostState). with_caller_made g) is_first) in
+    let begun : h ≡ with_seen (with_caller_made (first_host w)) h.pass.seen = cc (is, is_made, is_first) in
     let callers : h.callers ≡ 1 = ap (λ (g : HostState). g.callers) begun in
     let markers : h.markers ≡ 0 = ap (λ (g : HostState). g.markers) begun in
     let has : Has p.seats (Caller 0) =
@@ -87,9 +85,7 @@ over_before xs ys h = list_any-append (λ (e : Event). is_over e.step) xs ys ∙
 over_last : (p q : PassState) → Makes p Step.Over q → has_over q.seen ≡ true
 over_last p q m =
     let es : List Event = p.seen ++ m.others in
-    ap (λ (r : PassState). has_over r.seen) m.is
-    ∙ list_any-append (λ (e : Event). is_over e.step) es (event_of p Step.Over ∷ [])
-    ∙ either (has_over es)
+    cc (m.is, list_any-append (λ (e : Event). is_over e.step) es (event_of p Step.Over ∷ []), either (has_over es))
   where
     either : (b : Bool) → (b || true) ≡ true
     either true = refl

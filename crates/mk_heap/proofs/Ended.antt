@@ -13,16 +13,15 @@ use Rattle.mk_words.specs.Finals as final
 
 -- the report of a table that has ended
 abbrev pub report_of : Final → Report
-report_of f =
-    record {
-      held = f.held;
-      fresh = f.fresh;
-      quarantined = f.quarantined;
-      released = f.released;
-      cycles = f.cycles;
-      full = f.full;
-      last = f;
-    }
+report_of f = record {
+  held = f.held;
+  fresh = f.fresh;
+  quarantined = f.quarantined;
+  released = f.released;
+  cycles = f.cycles;
+  full = f.full;
+  last = f;
+}
 
 -- the turn of a moment at which all rest
 rested_turn : (c : Config) (m : Moment) → Protocol c m → host_has_turn c m ≡ false
@@ -92,8 +91,7 @@ module _ {h : HostState} {w : WordsState} (host : HasAllHome h w)
             (report_of f)
         ends_counted told =
             let r : Report = report_of f in
-            subst (λ (c : Config). HasCounts c (final.history_of f) r) (ap (λ (x : WordsState). x.config) host.table
-            ∙ sym config)
-            (subst (λ (es : List Event). HasCounts h.pass.table.config es r) (sym seen)
-            (counts_told h.pass.table.config h.pass.seen f history tidy host.is.no_turn all_rest
-            (subst (λ (x : WordsState). HasTallies (now_of h.pass).words x.config.pages f) (sym host.table) told)))
+            subst (λ (c : Config). HasCounts c (final.history_of f) r) (ap (λ (x : WordsState). x.config) host.table ∙
+            sym config) (subst (λ (es : List Event). HasCounts h.pass.table.config es r) (sym seen) (counts_told _ _ f
+            history tidy host.is.no_turn all_rest (subst (λ (x : WordsState). HasTallies (now_of h.pass).words
+            x.config.pages f) (sym host.table) told)))

@@ -106,6 +106,5 @@ taken_phase p q t host callers history =
     let long : IsHistory c (p.seen ++ w.more) =
     subst (λ (r : PassState). IsHistory r.table.config r.seen) w.is history in
     let on = ((enabled_in_parts c p.seen w.more).0 long.enabled).1 in
-    ap (λ (r : PassState). phase_of (now_of r).words) w.is
-    ∙ ap (λ (x : World). phase_of x.now.words) (left_in_parts c p.seen w.more)
-    ∙ phase_kept c (left c p.seen) w.more on (waiting_holds_none p c host callers (left c p.seen) w.more w.only on)
+    ap (λ (r : PassState). phase_of (now_of r).words) w.is ∙ ap (λ (x : World). phase_of x.now.words) (left_in_parts c
+    p.seen w.more) ∙ phase_kept c _ w.more on (waiting_holds_none p c host callers _ w.more w.only on)

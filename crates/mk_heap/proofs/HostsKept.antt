@@ -19,8 +19,7 @@ home_host p callers markers = record { pass = p; callers = callers; markers = ma
 -- the host with its pass as a call left it
 pub still_host : {p q : PassState} {callers markers : ℕ} → q ≡ p → IsHost (home_host p callers markers)
     → IsHost (home_host q callers markers)
-still_host {callers} {markers} same is =
-    subst (λ (x : PassState). IsHost (home_host x callers markers)) (sym same) is
+still_host {callers} {markers} same is = subst (λ (x : PassState). IsHost (home_host x callers markers)) (sym same) is
 
 all_same : {A : Type 0} (n k : ℕ) (x : A) → get_or (replicate n x) k x ≡ x
 all_same n k x =
@@ -35,49 +34,45 @@ first_rests c Host = record { call = refl; out = refl }
 
 pub first_is_host : (w : WordsState) → IsHost (first_host w)
 unfolding left_from
-first_is_host w =
-    record {
-      seat = refl;
-      no_turn = ne_eqb 0 (1 + w.config.callers) (λ e. omega arith);
-      rests = λ s has. first_rests w.config s;
-      callers = λ k le lt. has_all w.config (Caller k) (lt-ltb k w.config.callers lt);
-      markers = λ k le lt. has_all w.config (Marker k) (lt-ltb k 8 lt);
-    }
+first_is_host w = record {
+  seat = refl;
+  no_turn = ne_eqb 0 (1 + w.config.callers) (λ e. omega arith);
+  rests = λ s has. first_rests w.config s;
+  callers = λ k le lt. has_all w.config (Caller k) (lt-ltb k w.config.callers lt);
+  markers = λ k le lt. has_all w.config (Marker k) (lt-ltb k 8 lt);
+}
 
 pub caller_made_is_host : {h : HostState} → IsHost h → IsHost (with_caller_made h)
-caller_made_is_host {h} is =
-    record {
-      seat = is.seat;
-      no_turn = is.no_turn;
-      rests = λ s has. is.rests s (without_less (Caller h.callers) h.pass.seats s has);
-      callers = λ k le lt.
-          without_keeps (Caller h.callers) h.pass.seats (Caller k) (ne_eqb h.callers k (λ e. omega arith))
-          (is.callers k (omega arith) lt);
-      markers = λ k le lt. without_keeps (Caller h.callers) h.pass.seats (Marker k) refl (is.markers k le lt);
-    }
+caller_made_is_host {h} is = record {
+  seat = is.seat;
+  no_turn = is.no_turn;
+  rests = λ s has. is.rests s (without_less (Caller h.callers) h.pass.seats s has);
+  callers = λ k le lt.
+      without_keeps (Caller h.callers) h.pass.seats (Caller k) (ne_eqb h.callers k (λ e. omega arith))
+      (is.callers k (omega arith) lt);
+  markers = λ k le lt. without_keeps (Caller h.callers) h.pass.seats (Marker k) refl (is.markers k le lt);
+}
 
 pub caller_out_is_host : {h : HostState} (k : ℕ) → k < h.callers → IsHost h → IsHost (with_caller_out h k)
-caller_out_is_host {h} k made is =
-    record {
-      seat = is.seat;
-      no_turn = is.no_turn;
-      rests = λ s has. is.rests s (without_less (Caller k) h.pass.seats s has);
-      callers = λ j le lt.
-          without_keeps (Caller k) h.pass.seats (Caller j) (ne_eqb k j (λ e. omega arith)) (is.callers j le lt);
-      markers = λ j le lt. without_keeps (Caller k) h.pass.seats (Marker j) refl (is.markers j le lt);
-    }
+caller_out_is_host {h} k made is = record {
+  seat = is.seat;
+  no_turn = is.no_turn;
+  rests = λ s has. is.rests s (without_less (Caller k) h.pass.seats s has);
+  callers = λ j le lt.
+      without_keeps (Caller k) h.pass.seats (Caller j) (ne_eqb k j (λ e. omega arith)) (is.callers j le lt);
+  markers = λ j le lt. without_keeps (Caller k) h.pass.seats (Marker j) refl (is.markers j le lt);
+}
 
 pub marker_made_is_host : {h : HostState} → IsHost h → IsHost (with_marker_made h)
-marker_made_is_host {h} is =
-    record {
-      seat = is.seat;
-      no_turn = is.no_turn;
-      rests = λ s has. is.rests s (without_less (Marker h.markers) h.pass.seats s has);
-      callers = λ k le lt. without_keeps (Marker h.markers) h.pass.seats (Caller k) refl (is.callers k le lt);
-      markers = λ k le lt.
-          without_keeps (Marker h.markers) h.pass.seats (Marker k) (ne_eqb h.markers k (λ e. omega arith))
-          (is.markers k (omega arith) lt);
-    }
+marker_made_is_host {h} is = record {
+  seat = is.seat;
+  no_turn = is.no_turn;
+  rests = λ s has. is.rests s (without_less (Marker h.markers) h.pass.seats s has);
+  callers = λ k le lt. without_keeps (Marker h.markers) h.pass.seats (Caller k) refl (is.callers k le lt);
+  markers = λ k le lt.
+      without_keeps (Marker h.markers) h.pass.seats (Marker k) (ne_eqb h.markers k (λ e. omega arith))
+      (is.markers k (omega arith) lt);
+}
 
 pub joined_is_host : {h : HostState} {p q : PassState} → IsHost h → Has h.pass.seats h.pass.seat → IsDone p
     → p.table ≡ h.pass.table → q ≡ (with_joined h p q.seen).pass → IsHistory q.table.config q.seen
@@ -119,18 +114,16 @@ all_home {h} is own joined Host exists = subst (λ (s : Seat). Has h.pass.seats 
 -- The next caller has no call in flight.
 pub next_is_idle : {h : HostState} → IsHost h → h.callers < h.pass.table.config.callers
     → IsIdleCaller (pass_for h (Caller h.callers))
-next_is_idle {h} is lt =
-    record {
-      caller = h.callers;
-      seat = refl;
-      rest = (is.rests (Caller h.callers) (is.callers h.callers (omega arith) lt)).call;
-    }
+next_is_idle {h} is lt = record {
+  caller = h.callers;
+  seat = refl;
+  rest = (is.rests (Caller h.callers) (is.callers h.callers (omega arith) lt)).call;
+}
 
 -- Nor has a caller that was joined.
 pub joined_is_idle : {h : HostState} (k : ℕ) → IsHost h → Has h.pass.seats (Caller k)
     → IsIdleCaller (pass_for h (Caller k))
-joined_is_idle k is joined =
-    record { caller = k; seat = refl; rest = (is.rests (Caller k) joined).call }
+joined_is_idle k is joined = record { caller = k; seat = refl; rest = (is.rests (Caller k) joined).call }
 
 -- What a host is whose pass is home.
 
@@ -148,8 +141,7 @@ home_view {callers} {markers} is view = ap (λ (y : Option PassState). host_of y
 
 -- A caller that is in no call is done.
 pub idle_is_done : {p : PassState} → p.seats ≡ p.seat ∷ [] → IsIdleCaller p → IsDone p
-idle_is_done {p} alone idle =
-    record {
-      alone = alone;
-      rests = record { call = idle.rest; out = ap (λ (s : Seat). marker_at (now_of p) s) idle.seat };
-    }
+idle_is_done {p} alone idle = record {
+  alone = alone;
+  rests = record { call = idle.rest; out = ap (λ (s : Seat). marker_at (now_of p) s) idle.seat };
+}

@@ -31,12 +31,11 @@ fresh_phase p f history before = elim (give_phase (phase_of (now_of p).words) f.
 ]
 
 pub fresh_free : (p : PassState) → IsFresh p None → IsFreeForCycle p
-fresh_free p f =
-    record {
-      decided = ap is_pending_free f.call;
-      unplaced = ap (λ (h : Holding). has_place h.placing) f.holding;
-      gone = ap (λ (h : Holding). is_run_gone (now_of p).words h.freed) f.holding;
-    }
+fresh_free p f = record {
+  decided = ap is_pending_free f.call;
+  unplaced = ap (λ (h : Holding). has_place h.placing) f.holding;
+  gone = ap (λ (h : Holding). is_run_gone (now_of p).words h.freed) f.holding;
+}
 
 -- The look at the phase finds it, and keeps all.
 
@@ -48,8 +47,7 @@ phase_found p q n t f =
 
 pub look_keeps : (p q : PassState) → InTurn p → IsFreeForCycle p → Acts p (Step.Look Word.Phase) q
     → LeavesTurn unchanged p q
-look_keeps p q t free a =
-    calm_keeps p (Step.Look Word.Phase) q a t a.makes.pass.history refl free unchanged refl
+look_keeps p q t free a = calm_keeps p (Step.Look Word.Phase) q a t a.makes.pass.history refl free unchanged refl
 
 -- So it reports whether a cycle is on, which is finished then.
 
@@ -61,25 +59,23 @@ none_is_on p q n t fresh before f other = elim (fresh_phase p fresh t.history be
 ]
 
 pub ends_none : (p q : PassState) (n : ℕ) → Finds p (Step.Look Word.Phase) n q → IsAtPhase p 0 → EndsCycle p q
-ends_none p q n f none =
-    record {
-      looked = q;
-      looks = f.makes;
-      phase = inl none;
-      none = λ h. refl;
-      on = λ (one : IsAtPhase p 1). absurd (omega arith);
-    }
+ends_none p q n f none = record {
+  looked = q;
+  looks = f.makes;
+  phase = inl none;
+  none = λ h. refl;
+  on = λ (one : IsAtPhase p 1). absurd (omega arith);
+}
 
 pub ends_one : (p q r : PassState) (n : ℕ) → Finds p (Step.Look Word.Phase) n q → IsAtPhase p 1 → FinishesCycle q r
     → EndsCycle p r
-ends_one p q r n f on law =
-    record {
-      looked = q;
-      looks = f.makes;
-      phase = inr on;
-      none = λ (none : IsAtPhase p 0). absurd (omega arith);
-      on = λ h. law;
-    }
+ends_one p q r n f on law = record {
+  looked = q;
+  looks = f.makes;
+  phase = inr on;
+  none = λ (none : IsAtPhase p 0). absurd (omega arith);
+  on = λ h. law;
+}
 
 -- What is exact and tidy stays so where all but the phase is kept.
 
@@ -154,20 +150,18 @@ finished_idle p q host free f exact tidy =
         unplaced = ap (λ (x : Done). has_place x.placing) f.done ∙ free.unplaced;
         gone = f.gone;
       };
-      gates =
-          subst (λ (c : Config). none_is_held c.callers (now_of q).words ≡ true) (sym same) f.gates;
+      gates = subst (λ (c : Config). none_is_held c.callers (now_of q).words ≡ true) (sym same) f.gates;
       exact = f.exact exact;
       tidy = f.tidy tidy;
     }
 
 -- A cycle that was begun in an idle turn may be finished there.
 pub begun_free : (p q : PassState) → IsFreeForCycle p → BeginsCycle p q → IsFreeForCycle q
-begun_free p q free b =
-    record {
-      decided = ap is_pending_free b.call ∙ free.decided;
-      unplaced = ap (λ (x : Done). has_place x.placing) b.done ∙ free.unplaced;
-      gone = b.gone;
-    }
+begun_free p q free b = record {
+  decided = ap is_pending_free b.call ∙ free.decided;
+  unplaced = ap (λ (x : Done). has_place x.placing) b.done ∙ free.unplaced;
+  gone = b.gone;
+}
 
 pub cycle_idle : (p b q : PassState) → IsIdleTurn p → BeginsCycle p b → FinishesCycle b q → IsIdleTurn q
 cycle_idle p b q idle begins finishes =

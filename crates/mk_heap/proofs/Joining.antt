@@ -60,5 +60,4 @@ still_no_turn id c seats es fs h g has no_turn =
     let long = longer_lists c es g.more take_of_host short whole (others_own seats Host g.more has g.of_others) in
     let on = last_enabled c (first_world c) (es ++ g.more) take_of_host long.history.enabled in
     let meets = enabled_meets c (left c (es ++ g.more)).now take_of_host on in
-    subst (λ (l : List Event). host_has_turn c (left c l).now ≡ false) (sym g.is)
-    (from_not (host_has_turn c (left c (es ++ g.more)).now) meets.order)
+    cc (g.is, from_not (host_has_turn c (left c (es ++ g.more)).now) meets.order)

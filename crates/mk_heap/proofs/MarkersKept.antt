@@ -8,14 +8,13 @@ use Rattle.mk_words.specs.States.{PassState, WordsState, now_of}
 -- A marker that is out is done.
 pub out_is_done : {p : PassState} → IsHistory p.table.config p.seen → p.seats ≡ p.seat ∷ [] → IsMarkers p → IsOut p
     → IsDone p
-out_is_done {p} h alone of out =
-    record {
-      alone = alone;
-      rests = record {
-        call = ap (λ (s : Seat). flight_of (now_of p) s) of.seat;
-        out = out_is_outside p h of out;
-      };
-    }
+out_is_done {p} h alone of out = record {
+  alone = alone;
+  rests = record {
+    call = ap (λ (s : Seat). flight_of (now_of p) s) of.seat;
+    out = out_is_outside p h of out;
+  };
+}
 
 -- The next marker is out.
 pub next_is_out : {h : HostState} → IsHost h → h.markers < 8 → marker_at (now_of h.pass) (Marker h.markers) ≡ outside

@@ -75,21 +75,18 @@ does_leave s seats x (e ∷ es) has other h = (
   where
     by : e.seat ≡ x → ⊥
     by same =
-        let own : s ≡ e.seat =
-        same_seat s e.seat (sym h.0 ∙ subst (λ (y : Seat). Has seats y) (sym same) has) in
+        let own : s ≡ e.seat = same_seat s e.seat (sym h.0 ∙ subst (λ (y : Seat). Has seats y) (sym same) has) in
         true≢false (sym (subst (λ (y : Seat). is_same_seat x y ≡ true) (sym (own ∙ same)) (same_self x)) ∙ other)
 
 pub moves_does : (kinds : Step → Bool) (p q r : PassState) → MovesOn p q → Does kinds q r → MovesOn p r
-moves_does kinds p q r v d =
-    record {
-      more = v.more ++ d.more;
-      is = d.is ∙ ap (λ (x : PassState). record x { seen = x.seen ++ d.more }) v.is
-          ∙ ap (λ (l : List Event). record p { seen = l }) (append_assoc p.seen v.more d.more);
-      leaves = λ x has other.
-          others_append (x ∷ []) v.more d.more (v.leaves x has other)
-          (does_leave p.seat p.seats x d.more has other
-          (subst (λ (y : PassState). AreOwnOrOfOthers y.seat y.seats d.more) v.is d.own_or_others));
-    }
+moves_does kinds p q r v d = record {
+  more = v.more ++ d.more;
+  is = cc (d.is, v.is, append_assoc p.seen v.more d.more);
+  leaves = λ x has other.
+      others_append (x ∷ []) v.more d.more (v.leaves x has other)
+      (does_leave p.seat p.seats x d.more has other
+      (subst (λ (y : PassState). AreOwnOrOfOthers y.seat y.seats d.more) v.is d.own_or_others));
+}
 
 -- and so over the end of a cycle, and over a `begin`.
 

@@ -35,12 +35,11 @@ module _ (p q : PassState) (t : InTurn p) (idle : IsIdleTurn p) (u : InTurn q) (
   over_at_five = ap (λ (x : World). phase_of x.now.words) a.world ∙ phase_there
 
   pub over_keeps : LeavesTurn but_phase p q
-  over_keeps =
-      record {
-        call = keeps_call p Step.Over q a t.own t.holds u.history (λ n. refl) (λ n. refl) refl;
-        steady = steady_behind p Step.Over q a t.own t.holds u.history but_phase (λ x. refl);
-        counts = keeps_counts p Step.Over q a t.own t.holds u.history (λ n. refl) refl;
-      }
+  over_keeps = record {
+    call = keeps_call p Step.Over q a t.own t.holds u.history (λ n. refl) (λ n. refl) refl;
+    steady = steady_behind p Step.Over q a t.own t.holds u.history but_phase (λ x. refl);
+    counts = keeps_counts p Step.Over q a t.own t.holds u.history (λ n. refl) refl;
+  }
 
 -- What the host's turn is where it may be given back.
 pub record MayGive (p : PassState) : Type 0 where
@@ -80,12 +79,11 @@ give_allowed p t may =
     not_releasing n (inr five) = ne_eqb n 4 (λ four. omega arith)
 
     settled : IsSettled (world_of p)
-    settled =
-        record {
-          releasing = not_releasing (phase_of m.words) (give_phase (phase_of m.words) may.phase);
-          placing = may.free.unplaced;
-          unmapped = gone_is_unmapped m.words m.seats.holding.freed may.free.gone;
-        }
+    settled = record {
+      releasing = not_releasing (phase_of m.words) (give_phase (phase_of m.words) may.phase);
+      placing = may.free.unplaced;
+      unmapped = gone_is_unmapped m.words m.seats.holding.freed may.free.gone;
+    }
 
     tallies : ((now_of p).words.held ≡ held_by_pages (now_of p).words)
         × ((now_of p).words.fresh ≡ (now_of p).fresh_words)
@@ -94,14 +92,13 @@ give_allowed p t may =
 -- An idle turn may be given back, and one after the `over`.
 
 pub idle_may_give : (p : PassState) → IsIdleTurn p → MayGive p
-idle_may_give p idle =
-    record {
-      seat = idle.seat;
-      phase = ap (λ (n : ℕ). has_phase n Step.Give) idle.phase;
-      free = idle.free;
-      gates = idle.gates;
-      exact = idle.exact;
-    }
+idle_may_give p idle = record {
+  seat = idle.seat;
+  phase = ap (λ (n : ℕ). has_phase n Step.Give) idle.phase;
+  free = idle.free;
+  gates = idle.gates;
+  exact = idle.exact;
+}
 
 pub over_may_give : (p q : PassState) → InTurn p → IsIdleTurn p → InTurn q → Acts p Step.Over q → MayGive q
 over_may_give p q t idle u a =

@@ -26,15 +26,14 @@ look_admitted p x host h =
 
 look_counts_nothing : (c : Config) (w : World) (x : Word)
     → CountsNothing c w (record { seat = Host; step = Step.Look x })
-look_counts_nothing c w x =
-    record {
-      alike = record {
-        tallies = record { held = refl; fresh = refl; cycles = refl; released = refl; full = refl };
-        allocations = refl;
-      };
-      no_end = refl;
-      no_full = refl;
-    }
+look_counts_nothing c w x = record {
+  alike = record {
+    tallies = record { held = refl; fresh = refl; cycles = refl; released = refl; full = refl };
+    allocations = refl;
+  };
+  no_end = refl;
+  no_full = refl;
+}
 
 tidy_behind_others : (c : Config) (es fs : List Event) → steady_of (left c fs) ≡ steady_of (left c es)
     → CountsAreLeft c es fs
@@ -55,11 +54,8 @@ look_tidy p q x a host t =
     let fs : List Event = p.seen ++ a.makes.others in
     let e : Event = record { seat = Host; step = Step.Look x } in
     let behind : TalliesAreTidy c (fs ++ e ∷ []) =
-    counts_tidy_more c fs e (look_counts_nothing c (left c fs) x)
-    (tidy_behind_others c p.seen fs a.turn.steady a.counts t) in
-    let seen_is : q.seen ≡ fs ++ e ∷ [] =
-    ap (λ (r : PassState). r.seen) a.makes.is
-    ∙ ap (λ (s : Seat). fs ++ record { seat = s; step = Step.Look x } ∷ []) host in
+    counts_tidy_more c fs e (look_counts_nothing c _ x) (tidy_behind_others c _ fs a.turn.steady a.counts t) in
+    let seen_is : q.seen ≡ fs ++ e ∷ [] = cc (a.makes.is, host) in
     subst (λ (d : Config). TalliesAreTidy d q.seen) (sym (ap (λ (r : PassState). r.table.config) a.makes.is))
     (subst (λ (es : List Event). TalliesAreTidy c es) (sym seen_is) behind)
 

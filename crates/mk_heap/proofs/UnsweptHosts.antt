@@ -25,14 +25,12 @@ idle_then_sweeps p idle q takes one two = moved_then_sweeps p idle q (idle_moves
 -- a step more, and the `give`
 pub given_sweeps : (p q r : PassState) (s : Step) → Makes p s q → Makes q Step.Give r → is_mark s ≡ false
     → SweepsNothing p r
-given_sweeps p q r s m give other =
-    step_then_sweeps p q r s m other (other_step_sweeps q r Step.Give give refl)
+given_sweeps p q r s m give other = step_then_sweeps p q r s m other (other_step_sweeps q r Step.Give give refl)
 
 -- Who is joined has seen none of its steps.
 pub grown_sweeps : (p q : PassState) → Has p.seats p.seat → Grows p.seats p.seen q.seen → SweepsNothing p q
-grown_sweeps p q own g =
-    record {
-      more = g.more;
-      is = g.is;
-      none = others_sweep p.table.config p.seat p.seats (world_of p) g.more own g.of_others;
-    }
+grown_sweeps p q own g = record {
+  more = g.more;
+  is = g.is;
+  none = others_sweep p.table.config p.seat p.seats (world_of p) g.more own g.of_others;
+}

@@ -27,5 +27,4 @@ close-requires-clause-joined g c =
 
 pub returns-clause-over : goal.returns-clause-over
 returns-clause-over g c =
-    ap has_over c.close.ensures.history
-    ∙ has_said_over c.join_caller.new.self.pass c.over.new.self.pass c.over.ensures.over
+    cc (c.close.ensures.history, has_said_over c.join_caller.new.self.pass c.over.new.self.pass c.over.ensures.over)

@@ -63,9 +63,8 @@ returns-then-is_in-clause-idle g c =
     let free = fresh_free p t.ensures.fresh in
     let keeps = look_keeps p q h.turn free c.look-found.ensures.acts in
     let less = keeps_less unchanged but_phase p q keeps in
-    finished_idle q c.finish_cycle.result.0.pass (ap (λ (r : PassState). r.seat) keeps.call.pass ∙ h.seat)
-    (free_then p q keeps.call free) c.finish_cycle.ensures.law
-    (exact_kept p q less t.ensures.exact) (tidy_kept p q less t.ensures.tidy)
+    finished_idle q _ (ap (λ (r : PassState). r.seat) keeps.call.pass ∙ h.seat) (free_then p q keeps.call free)
+    c.finish_cycle.ensures.law (exact_kept p q less t.ensures.exact) (tidy_kept p q less t.ensures.tidy)
 
 pub returns-else-is_in-clause-takes : goal.returns-else-is_in-clause-takes
 returns-else-is_in-clause-takes g c =

@@ -71,12 +71,10 @@ pub returns-clause-overs : goal.returns-clause-overs
 returns-clause-overs g c =
     let r : PassState = c.finish_cycle-turn.result.0.pass in
     let none : IsAtPhase r 0 = c.finish_cycle-turn.ensures.law.phase in
-    step_overs r c.give-back.result Step.Give c.give-back.ensures.acts.makes
-    (hosts_seat (home_is c.take_home-home.ensures c.self.invariant) c.is_in_order.ensures.own
-    (ended g (goal.at.returns-clause-overs g c).After-finish_cycle-turn)) refl
-    ∙ none_by_phase r.table.config r.seen c.is_in_order-2.ensures.history
-    (λ (five : IsAtPhase r 5). absurd (omega arith))
-    ∙ sym c.requires.before_over
+    step_overs r c.give-back.result Step.Give c.give-back.ensures.acts.makes (hosts_seat (home_is
+    c.take_home-home.ensures c.self.invariant) c.is_in_order.ensures.own (ended g (goal.at.returns-clause-overs g
+    c).After-finish_cycle-turn)) refl ∙ none_by_phase _ _ c.is_in_order-2.ensures.history (λ (five : IsAtPhase r 5).
+    absurd (omega arith)) ∙ sym c.requires.before_over
 
 pub returns-clause-reached : goal.returns-clause-reached
 returns-clause-reached g c =
@@ -97,11 +95,10 @@ pub returns-clause-begun : goal.returns-clause-begun
 returns-clause-begun g c =
     let view = home_view c.take_home-home.ensures c.self.view_is in
     let q : PassState = c.give-back.result in
-    subst (λ (h : HostState). EachIsBegun g.E.Engine.begins h.pass q) view
-    (cycle_begun g.E.Engine.begins c.take_home-home.result c.take_idle_turn-turn.result.pass c.begin_cycle.new.turn.pass
-    c.finish_cycle-turn.result.0.pass q c.is_in_order.ensures.own c.take_idle_turn-turn.ensures.takes
-    c.begin_cycle.ensures.law c.begin_cycle.ensures.begun c.finish_cycle-turn.ensures.law
-    c.give-back.ensures.acts.makes)
+    subst (λ (h : HostState). EachIsBegun g.E.Engine.begins h.pass q) view (cycle_begun g.E.Engine.begins
+    c.take_home-home.result c.take_idle_turn-turn.result.pass _ c.finish_cycle-turn.result.0.pass q
+    c.is_in_order.ensures.own c.take_idle_turn-turn.ensures.takes c.begin_cycle.ensures.law c.begin_cycle.ensures.begun
+    c.finish_cycle-turn.ensures.law c.give-back.ensures.acts.makes)
 
 pub take_home-home-requires : goal.take_home-home-requires
 take_home-home-requires g c = is_home _ _ _ c.self.invariant

@@ -3,9 +3,7 @@ use Rattle.mk_heap.{proofs.HostsKept.home_is, proofs.HostsKept.home_view, specs.
 use Rattle.mk_heap.proofs.hosts.Host.is_in_order.Goals as goal
 
 pub returns-clause-seat : goal.returns-clause-seat
-returns-clause-seat c =
-    subst (λ (g : HostState). g.pass.seat ≡ Host) (home_view c.in-Some.is c.self.view_is)
-    (home_is c.in-Some.is c.self.invariant).seat
+returns-clause-seat c = cc (home_view c.in-Some.is c.self.view_is, (home_is c.in-Some.is c.self.invariant).seat)
 
 pub returns-clause-history : goal.returns-clause-history
 returns-clause-history c =
