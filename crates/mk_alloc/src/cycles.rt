@@ -6,7 +6,7 @@ ghost use Rattle.mk_alloc.specs.DueCycles.{EndsOlder, RunsCycle, RunsIfDue};
 ghost use Rattle.mk_alloc.specs.Underway.{IsQuiet};
 
 use crate::turns::is_cycle_on;
-use mk_cycle::{Bench, Engine, begin_cycle, finish_cycle};
+use mk_cycle::{Engine, begin_cycle, finish_cycle};
 use mk_words::{Turn, Words};
 use std::sync::Wait;
 use std::thread::Threads;
@@ -16,19 +16,19 @@ fn finish_older<E: Engine, R: Threads + Wait + Sync>(
     rt: &R,
     words: &Words,
     turn: Turn,
-    bench: &mut Bench<E>,
+    engine: &mut E,
 ) -> Turn
     requires one_table { turn.pass.table ≡ words.now }
-    requires made_for { E.made_for bench.old.engine ≡ words.now.config.pages }
+    requires made_for { E.made_for engine.old ≡ words.now.config.pages }
     requires quiet { IsQuiet turn.pass }
     ensures op { result.op ≡ turn.op }
-    ensures made_for { E.made_for bench.new.engine ≡ E.made_for bench.old.engine }
+    ensures made_for { E.made_for engine.new ≡ E.made_for engine.old }
     ensures ends { EndsOlder turn.pass result.pass }
     ensures reached { E.sweeps ≡ false → SweepsNothing turn.pass result.pass }
 {
     let mut turn = turn;
     if is_cycle_on(words, &mut turn) {
-        let (turn, _) = finish_cycle(rt, words, turn, bench);
+        let (turn, _) = finish_cycle(rt, words, turn, engine);
         turn
     } else {
         turn
@@ -42,23 +42,23 @@ fn run_cycle<E: Engine, R: Threads + Wait + Sync>(
     rt: &R,
     words: &Words,
     turn: Turn,
-    bench: &mut Bench<E>,
+    engine: &mut E,
 ) -> Turn
     requires one_table { turn.pass.table ≡ words.now }
-    requires made_for { E.made_for bench.old.engine ≡ words.now.config.pages }
+    requires made_for { E.made_for engine.old ≡ words.now.config.pages }
     requires quiet { IsQuiet turn.pass }
     ensures op { result.op ≡ turn.op }
-    ensures made_for { E.made_for bench.new.engine ≡ E.made_for bench.old.engine }
+    ensures made_for { E.made_for engine.new ≡ E.made_for engine.old }
     ensures runs { RunsCycle E.on turn.pass result.pass }
     ensures reached { E.sweeps ≡ false → SweepsNothing turn.pass result.pass }
     ensures begun { EachIsBegun E.begins turn.pass result.pass }
 {
-    let mut turn = finish_older(rt, words, turn, bench);
-    begin_cycle(rt, words, &mut turn, bench);
-    if bench.engine.keeps_on() {
+    let mut turn = finish_older(rt, words, turn, engine);
+    begin_cycle(rt, words, &mut turn, engine);
+    if engine.keeps_on() {
         turn
     } else {
-        let (turn, _) = finish_cycle(rt, words, turn, bench);
+        let (turn, _) = finish_cycle(rt, words, turn, engine);
         turn
     }
 }
@@ -69,18 +69,18 @@ fn run_apart<E: Engine, R: Threads + Wait + Sync>(
     rt: &R,
     words: &Words,
     turn: Turn,
-    bench: &mut Bench<E>,
+    engine: &mut E,
 ) -> Turn
     requires one_table { turn.pass.table ≡ words.now }
-    requires made_for { E.made_for bench.old.engine ≡ words.now.config.pages }
+    requires made_for { E.made_for engine.old ≡ words.now.config.pages }
     requires quiet { IsQuiet turn.pass }
     ensures op { result.op ≡ turn.op }
-    ensures made_for { E.made_for bench.new.engine ≡ E.made_for bench.old.engine }
+    ensures made_for { E.made_for engine.new ≡ E.made_for engine.old }
     ensures runs { RunsCycle E.on turn.pass result.pass }
     ensures reached { E.sweeps ≡ false → SweepsNothing turn.pass result.pass }
     ensures begun { EachIsBegun E.begins turn.pass result.pass }
 {
-    run_cycle(rt, words, turn, bench)
+    run_cycle(rt, words, turn, engine)
 }
 
 /// Runs a cycle, if one is due.
@@ -88,20 +88,20 @@ pub(crate) fn run_if_due<E: Engine, R: Threads + Wait + Sync>(
     rt: &R,
     words: &Words,
     turn: Turn,
-    bench: &mut Bench<E>,
+    engine: &mut E,
     due: bool,
 ) -> Turn
     requires one_table { turn.pass.table ≡ words.now }
-    requires made_for { E.made_for bench.old.engine ≡ words.now.config.pages }
+    requires made_for { E.made_for engine.old ≡ words.now.config.pages }
     requires quiet { IsQuiet turn.pass }
     ensures op { result.op ≡ turn.op }
-    ensures made_for { E.made_for bench.new.engine ≡ E.made_for bench.old.engine }
+    ensures made_for { E.made_for engine.new ≡ E.made_for engine.old }
     ensures runs { RunsIfDue E.on due turn.pass result.pass }
     ensures reached { E.sweeps ≡ false → SweepsNothing turn.pass result.pass }
     ensures begun { EachIsBegun E.begins turn.pass result.pass }
 {
     if due {
-        run_apart(rt, words, turn, bench)
+        run_apart(rt, words, turn, engine)
     } else {
         turn
     }

@@ -9,7 +9,7 @@ ghost use Rattle.mk_alloc.specs.TurnCalls.{FreesObject, IsAnsweredDouble};
 use crate::cycles::run_if_due;
 use crate::turns::{give, take};
 use mk_caller::Caller;
-use mk_cycle::{Bench, Engine};
+use mk_cycle::Engine;
 use mk_never::Op;
 use mk_objects::{Double, Freed, retire_object};
 use std::sync::Wait;
@@ -21,7 +21,7 @@ use std::thread::Threads;
 pub fn free_object<E: Engine, R: Threads + Wait + Sync>(
     rt: &R,
     caller: &mut Caller,
-    bench: &mut Bench<E>,
+    engine: &mut E,
     p: u8,
 ) -> Result<Freed, Double>
     requires home { caller.old.home ≡ true }
@@ -29,9 +29,9 @@ pub fn free_object<E: Engine, R: Threads + Wait + Sync>(
     requires alone { caller.old.pass.seats ≡ caller.old.pass.seat ∷ [] }
     requires register { p < 8 }
     requires base { IsBase (value_of caller.old.pass p) }
-    requires made_for { E.made_for bench.old.engine ≡ caller.old.pass.table.config.pages }
+    requires made_for { E.made_for engine.old ≡ caller.old.pass.table.config.pages }
     ensures home { caller.new.home ≡ true }
-    ensures made_for { E.made_for bench.new.engine ≡ E.made_for bench.old.engine }
+    ensures made_for { E.made_for engine.new ≡ E.made_for engine.old }
     ensures freed { IfOk result (λ freed. FreesObject E.on caller.old.pass p freed.due caller.new.pass) }
     ensures double { OnErr result (IsAnsweredDouble E.on caller.old.pass p caller.new.pass) }
     ensures reached { E.sweeps ≡ false → SweepsNothing caller.old.pass caller.new.pass }
@@ -44,7 +44,7 @@ pub fn free_object<E: Engine, R: Threads + Wait + Sync>(
     match retire_object(rt, words, &mut turn, p) {
         Ok(freed) => {
             turn.is_in_order();
-            let turn = run_if_due(rt, words, turn, bench, freed.due);
+            let turn = run_if_due(rt, words, turn, engine, freed.due);
             turn.is_in_order();
             caller.back(give(words, turn));
             Ok(freed)

@@ -15,7 +15,7 @@ use crate::rooms::{make_room, try_place};
 use crate::turns::{give, take};
 use mk_books::census;
 use mk_caller::Caller;
-use mk_cycle::{Bench, Engine};
+use mk_cycle::Engine;
 use mk_geom::Census;
 use mk_never::Op;
 use mk_words::{Turn, Words};
@@ -36,22 +36,22 @@ fn make_room_or_count<E: Engine, R: Threads + Wait + Sync>(
     rt: &R,
     words: &Words,
     turn: Turn,
-    bench: &mut Bench<E>,
+    engine: &mut E,
 ) -> (Turn, Option<Census>)
     requires one_table { turn.pass.table ≡ words.now }
-    requires made_for { E.made_for bench.old.engine ≡ words.now.config.pages }
+    requires made_for { E.made_for engine.old ≡ words.now.config.pages }
     requires quiet { IsQuiet turn.pass }
     requires unplaced { IsUnplaced turn.pass }
     requires nowhere { place_now_for turn.pass ≡ None }
     ensures op { result.0.op ≡ turn.op }
-    ensures made_for { E.made_for bench.new.engine ≡ E.made_for bench.old.engine }
+    ensures made_for { E.made_for engine.new ≡ E.made_for engine.old }
     ensures seeks { Seeks (Some (answer_with result.1)) turn.pass result.0.pass }
     ensures full { IfSome result.1 (CountsFull turn.pass result.0.pass) }
     ensures one { RunsOne turn.pass result.0.pass }
     ensures reached { E.sweeps ≡ false → SweepsNothing turn.pass result.0.pass }
     ensures begun { EachIsBegun E.begins turn.pass result.0.pass }
 {
-    let (mut turn, placed) = make_room(rt, words, turn, bench);
+    let (mut turn, placed) = make_room(rt, words, turn, engine);
     if placed {
         return (turn, None);
     }
@@ -66,7 +66,7 @@ fn make_room_or_count<E: Engine, R: Threads + Wait + Sync>(
 pub fn new_object<E: Engine, R: Threads + Wait + Sync>(
     rt: &R,
     caller: &mut Caller,
-    bench: &mut Bench<E>,
+    engine: &mut E,
     d: u8,
     ty: u64,
 ) -> Result<(), Full>
@@ -75,9 +75,9 @@ pub fn new_object<E: Engine, R: Threads + Wait + Sync>(
     requires alone { caller.old.pass.seats ≡ caller.old.pass.seat ∷ [] }
     requires register { d < 8 }
     requires ty { ty < length caller.old.pass.table.config.types }
-    requires made_for { E.made_for bench.old.engine ≡ caller.old.pass.table.config.pages }
+    requires made_for { E.made_for engine.old ≡ caller.old.pass.table.config.pages }
     ensures home { caller.new.home ≡ true }
-    ensures made_for { E.made_for bench.new.engine ≡ E.made_for bench.old.engine }
+    ensures made_for { E.made_for engine.new ≡ E.made_for engine.old }
     ensures made { OnOk result (CalledInTurn E.on caller.old.pass (op.New d ty false) answer.Done caller.new.pass) }
     ensures full { IfErr result (λ full.
         IsAnsweredFull E.on caller.old.pass (op.New d ty false) full.census caller.new.pass) }
@@ -93,7 +93,7 @@ pub fn new_object<E: Engine, R: Threads + Wait + Sync>(
         caller.back(give(words, turn));
         return Ok(());
     }
-    let (turn, refused) = make_room_or_count(rt, words, turn, bench);
+    let (turn, refused) = make_room_or_count(rt, words, turn, engine);
     caller.back(give(words, turn));
     match refused {
         None => Ok(()),

@@ -11,7 +11,7 @@ ghost use Rattle.mk_alloc.specs.Rooms.{BeginsNone, EndsOnly, Misfits, MisfitsAtL
 ghost use Rattle.mk_alloc.specs.Underway.{IsQuiet};
 
 use crate::turns::is_cycle_on;
-use mk_cycle::{Bench, Engine, begin_cycle, finish_cycle};
+use mk_cycle::{Engine, begin_cycle, finish_cycle};
 use mk_objects::place_object;
 use mk_words::{Turn, Words};
 use std::sync::Wait;
@@ -43,16 +43,16 @@ fn finish_and_place<E: Engine, R: Threads + Wait + Sync>(
     rt: &R,
     words: &Words,
     turn: Turn,
-    bench: &mut Bench<E>,
+    engine: &mut E,
 ) -> (Turn, bool)
     requires one_table { turn.pass.table ≡ words.now }
-    requires made_for { E.made_for bench.old.engine ≡ words.now.config.pages }
+    requires made_for { E.made_for engine.old ≡ words.now.config.pages }
     requires quiet { IsQuiet turn.pass }
     requires unplaced { IsUnplaced turn.pass }
     requires nowhere { place_now_for turn.pass ≡ None }
     requires on { IsAtPhase turn.pass 1 }
     ensures op { result.0.op ≡ turn.op }
-    ensures made_for { E.made_for bench.new.engine ≡ E.made_for bench.old.engine }
+    ensures made_for { E.made_for engine.new ≡ E.made_for engine.old }
     ensures placed { result.1 ≡ true → Seeks (Some answer.Done) turn.pass result.0.pass }
     ensures misfits { result.1 ≡ false → MisfitsIdly turn.pass result.0.pass }
     ensures cycle { result.1 ≡ false → (now_of result.0.pass).seats.holding.cycle
@@ -61,7 +61,7 @@ fn finish_and_place<E: Engine, R: Threads + Wait + Sync>(
     ensures reached { E.sweeps ≡ false → SweepsNothing turn.pass result.0.pass }
 {
     turn.is_in_order();
-    let (mut turn, _) = finish_cycle(rt, words, turn, bench);
+    let (mut turn, _) = finish_cycle(rt, words, turn, engine);
     turn.is_in_order();
     let placed = try_place(words, &mut turn);
     (turn, placed)
@@ -72,15 +72,15 @@ fn place_behind_older<E: Engine, R: Threads + Wait + Sync>(
     rt: &R,
     words: &Words,
     turn: Turn,
-    bench: &mut Bench<E>,
+    engine: &mut E,
 ) -> (Turn, bool)
     requires one_table { turn.pass.table ≡ words.now }
-    requires made_for { E.made_for bench.old.engine ≡ words.now.config.pages }
+    requires made_for { E.made_for engine.old ≡ words.now.config.pages }
     requires quiet { IsQuiet turn.pass }
     requires unplaced { IsUnplaced turn.pass }
     requires nowhere { place_now_for turn.pass ≡ None }
     ensures op { result.0.op ≡ turn.op }
-    ensures made_for { E.made_for bench.new.engine ≡ E.made_for bench.old.engine }
+    ensures made_for { E.made_for engine.new ≡ E.made_for engine.old }
     ensures placed { result.1 ≡ true → Seeks (Some answer.Done) turn.pass result.0.pass }
     ensures misfits { result.1 ≡ false → MisfitsIdly turn.pass result.0.pass }
     ensures begins { BeginsNone turn.pass result.0.pass }
@@ -93,7 +93,7 @@ fn place_behind_older<E: Engine, R: Threads + Wait + Sync>(
     if !is_on {
         return (turn, false);
     }
-    finish_and_place(rt, words, turn, bench)
+    finish_and_place(rt, words, turn, engine)
 }
 
 /// Begins and finishes a cycle, and grants the object where it fits then.
@@ -103,16 +103,16 @@ fn place_behind_cycle<E: Engine, R: Threads + Wait + Sync>(
     rt: &R,
     words: &Words,
     turn: Turn,
-    bench: &mut Bench<E>,
+    engine: &mut E,
 ) -> (Turn, bool)
     requires one_table { turn.pass.table ≡ words.now }
-    requires made_for { E.made_for bench.old.engine ≡ words.now.config.pages }
+    requires made_for { E.made_for engine.old ≡ words.now.config.pages }
     requires quiet { IsQuiet turn.pass }
     requires unplaced { IsUnplaced turn.pass }
     requires nowhere { place_now_for turn.pass ≡ None }
     requires idle { IsAtPhase turn.pass 0 }
     ensures op { result.0.op ≡ turn.op }
-    ensures made_for { E.made_for bench.new.engine ≡ E.made_for bench.old.engine }
+    ensures made_for { E.made_for engine.new ≡ E.made_for engine.old }
     ensures placed { result.1 ≡ true → Seeks (Some answer.Done) turn.pass result.0.pass }
     ensures misfits { result.1 ≡ false → MisfitsAtLast turn.pass result.0.pass }
     ensures one { RunsOne turn.pass result.0.pass }
@@ -121,9 +121,9 @@ fn place_behind_cycle<E: Engine, R: Threads + Wait + Sync>(
 {
     let mut turn = turn;
     turn.is_in_order();
-    begin_cycle(rt, words, &mut turn, bench);
+    begin_cycle(rt, words, &mut turn, engine);
     turn.is_in_order();
-    finish_and_place(rt, words, turn, bench)
+    finish_and_place(rt, words, turn, engine)
 }
 
 /// Makes room for the object, which fits nowhere, and grants it if it can be made to fit. It isn't inlined, so what it
@@ -134,24 +134,24 @@ pub(crate) fn make_room<E: Engine, R: Threads + Wait + Sync>(
     rt: &R,
     words: &Words,
     turn: Turn,
-    bench: &mut Bench<E>,
+    engine: &mut E,
 ) -> (Turn, bool)
     requires one_table { turn.pass.table ≡ words.now }
-    requires made_for { E.made_for bench.old.engine ≡ words.now.config.pages }
+    requires made_for { E.made_for engine.old ≡ words.now.config.pages }
     requires quiet { IsQuiet turn.pass }
     requires unplaced { IsUnplaced turn.pass }
     requires nowhere { place_now_for turn.pass ≡ None }
     ensures op { result.0.op ≡ turn.op }
-    ensures made_for { E.made_for bench.new.engine ≡ E.made_for bench.old.engine }
+    ensures made_for { E.made_for engine.new ≡ E.made_for engine.old }
     ensures placed { result.1 ≡ true → Seeks (Some answer.Done) turn.pass result.0.pass }
     ensures misfits { result.1 ≡ false → MisfitsAtLast turn.pass result.0.pass }
     ensures one { RunsOne turn.pass result.0.pass }
     ensures reached { E.sweeps ≡ false → SweepsNothing turn.pass result.0.pass }
     ensures begun { EachIsBegun E.begins turn.pass result.0.pass }
 {
-    let (turn, placed) = place_behind_older(rt, words, turn, bench);
+    let (turn, placed) = place_behind_older(rt, words, turn, engine);
     if placed {
         return (turn, placed);
     }
-    place_behind_cycle(rt, words, turn, bench)
+    place_behind_cycle(rt, words, turn, engine)
 }

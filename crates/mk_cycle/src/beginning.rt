@@ -5,7 +5,6 @@ ghost use Rattle.mk_cycle.specs.BeginCycle.{BeginsCycle};
 ghost use Rattle.mk_cycle.specs.Begun.{EachIsBegun, IsBegunLast};
 ghost use Rattle.mk_cycle.specs.EngineLaw.{IsFreeForCycle, IsAtPhase};
 
-use crate::bench::Bench;
 use crate::cleaning::clean_pages;
 use crate::engine::Engine;
 use crate::turn_steps::{begin, tally};
@@ -19,14 +18,14 @@ pub fn begin_cycle<E: Engine, R: Threads + Wait + Sync>(
     rt: &R,
     words: &Words,
     turn: &mut Turn,
-    bench: &mut Bench<E>,
+    engine: &mut E,
 )
     requires one_table { turn.old.pass.table ≡ words.now }
-    requires made_for { E.made_for bench.old.engine ≡ words.now.config.pages }
+    requires made_for { E.made_for engine.old ≡ words.now.config.pages }
     requires phase { IsAtPhase turn.old.pass 0 }
     requires free { IsFreeForCycle turn.old.pass }
     ensures op { turn.new.op ≡ turn.old.op }
-    ensures made_for { E.made_for bench.new.engine ≡ E.made_for bench.old.engine }
+    ensures made_for { E.made_for engine.new ≡ E.made_for engine.old }
     ensures law { BeginsCycle turn.old.pass turn.new.pass }
     ensures reached { E.sweeps ≡ false → SweepsNothing turn.old.pass turn.new.pass }
     ensures begun { EachIsBegun E.begins turn.old.pass turn.new.pass }
@@ -35,5 +34,5 @@ pub fn begin_cycle<E: Engine, R: Threads + Wait + Sync>(
     clean_pages(turn, words);
     tally(turn, words, Tally::Fresh, 0);
     begin(turn, words);
-    bench.engine.begin(rt, words, turn);
+    engine.begin(rt, words, turn);
 }

@@ -6,7 +6,6 @@ ghost use Rattle.mk_cycle.specs.EngineLaw.{IsFreeForCycle, IsAtPhase};
 ghost use Rattle.mk_cycle.specs.FinishCycle.{FinishesCycle, HasReleased};
 ghost use Rattle.mk_cycle.specs.Telling.{IsToldAtClose};
 
-use crate::bench::Bench;
 use crate::engine::Engine;
 use crate::giving::give_all_back;
 use crate::settling::Settled;
@@ -30,21 +29,21 @@ pub fn finish_cycle<E: Engine, R: Threads + Wait + Sync>(
     rt: &R,
     words: &Words,
     turn: Turn,
-    bench: &mut Bench<E>,
+    engine: &mut E,
 ) -> (Turn, Released)
     requires one_table { turn.pass.table ≡ words.now }
-    requires made_for { E.made_for bench.old.engine ≡ words.now.config.pages }
+    requires made_for { E.made_for engine.old ≡ words.now.config.pages }
     requires phase { IsAtPhase turn.pass 1 }
     requires free { IsFreeForCycle turn.pass }
     ensures op { result.0.op ≡ turn.op }
-    ensures made_for { E.made_for bench.new.engine ≡ E.made_for bench.old.engine }
+    ensures made_for { E.made_for engine.new ≡ E.made_for engine.old }
     ensures law { FinishesCycle turn.pass result.0.pass }
     ensures released { HasReleased turn.pass result.0.pass result.1 }
     ensures reached { E.sweeps ≡ false → SweepsNothing turn.pass result.0.pass }
-    ensures told { IsToldAtClose (E.tells bench.new.engine) turn.pass result.0.pass }
-    ensures closed { IsClosedBy (E.closes bench.new.engine) turn.pass result.0.pass }
+    ensures told { IsToldAtClose (E.tells engine.new) turn.pass result.0.pass }
+    ensures closed { IsClosedBy (E.closes engine.new) turn.pass result.0.pass }
 {
-    let (mut turn, settled) = give_all_back(rt, words, turn, &mut bench.engine);
+    let (mut turn, settled) = give_all_back(rt, words, turn, engine);
     let Settled { released, held } = settled;
     end(&mut turn, words);
     count_cycle(&mut turn, words, held, released.count);

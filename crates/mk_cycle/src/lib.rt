@@ -5,7 +5,6 @@
 #![tactic(auto)]
 
 mod beginning;
-mod bench;
 mod bits;
 mod cleaning;
 mod counting;
@@ -22,6 +21,5 @@ mod turn_steps;
 mod wiping;
 
 pub use beginning::begin_cycle;
-pub use bench::Bench;
 pub use engine::Engine;
 pub use finishing::{Released, finish_cycle};

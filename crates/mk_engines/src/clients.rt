@@ -7,7 +7,7 @@ ghost use Rattle.mk_cycle.specs.EngineLaw.{IsFreeForCycle, IsAtPhase};
 ghost use Rattle.mk_engines.specs.Roots.{MarksRoots};
 
 use crate::{MostlyEngine, StopEngine};
-use mk_cycle::{Bench, Engine, begin_cycle};
+use mk_cycle::{Engine, begin_cycle};
 use mk_never::NoMemory;
 use mk_words::{Stopped, Turn, Words};
 use std::alloc::Global;
@@ -20,16 +20,16 @@ pub(crate) fn begin_beside<R: Threads + Wait + Sync>(
     alloc: Global,
     words: &Words,
     turn: &mut Turn,
-) -> Result<Bench<MostlyEngine>, NoMemory>
+) -> Result<MostlyEngine, NoMemory>
     requires one_table { turn.old.pass.table ≡ words.now }
     requires phase { IsAtPhase turn.old.pass 0 }
     requires free { IsFreeForCycle turn.old.pass }
     ensures begins { OnOk result (BeginsCycle turn.old.pass turn.new.pass) }
     ensures begun { OnOk result (EachIsBegun MarksRoots turn.old.pass turn.new.pass) }
 {
-    let mut bench = Bench::new(alloc, words.pages())?;
-    begin_cycle(rt, words, turn, &mut bench);
-    Ok(bench)
+    let mut engine = MostlyEngine::make(alloc, words.pages())?;
+    begin_cycle(rt, words, turn, &mut engine);
+    Ok(engine)
 }
 
 /// Marks from the roots, in a cycle that is on.

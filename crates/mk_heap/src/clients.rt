@@ -8,7 +8,7 @@ ghost use Rattle.mk_heap.specs.Reports.{history_of, config_of, IsWhole, HasCount
 use crate::{Heap, Report};
 use mk_caller::Caller;
 use mk_core::Config;
-use mk_cycle::{Bench, Engine};
+use mk_cycle::Engine;
 use mk_never::NoMemory;
 use std::alloc::Global;
 use std::sync::Wait;
@@ -57,12 +57,12 @@ pub(crate) fn cycle_beside_a_caller<E: Engine, R: Threads + Wait + Sync>(
     ensures over { IfOk result (λ report. has_over (history_of report) ≡ true) }
 {
     let (heap, mut host) = Heap::new(alloc, config)?;
-    let mut bench: Bench<E> = Bench::new(alloc, config.pages)?;
+    let mut engine = E::make(alloc, config.pages)?;
     let mut caller = host.caller(&heap);
     clear(&mut caller, 0);
-    host.cycle(rt, &heap, &mut bench);
+    host.cycle(rt, &heap, &mut engine);
     clear(&mut caller, 0);
     host.join_caller(&heap, caller.finish());
-    host.over(rt, &heap, &mut bench);
+    host.over(rt, &heap, &mut engine);
     Ok(heap.close(host))
 }

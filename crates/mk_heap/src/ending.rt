@@ -13,7 +13,7 @@ ghost use Rattle.mk_heap.specs.Hosts.{with_seen};
 use crate::heaps::Heap;
 use crate::hosts::{Host, take_home};
 use mk_core::{Phase, Word};
-use mk_cycle::{Bench, Engine, begin_cycle, finish_cycle};
+use mk_cycle::{Engine, begin_cycle, finish_cycle};
 use mk_waiting::take_turn;
 use mk_words::{Pass, Turn, Words};
 use std::sync::Wait;
@@ -21,26 +21,21 @@ use std::thread::Threads;
 
 impl Host {
     /// Finishes a cycle that is on, and announces to the markers that all is over. No caller is created after it. The
-    /// bench stays as it was where no cycle is on.
-    pub fn over<E: Engine, R: Threads + Wait + Sync>(
-        &mut self,
-        rt: &R,
-        heap: &Heap,
-        bench: &mut Bench<E>,
-    )
+    /// engine stays as it was where no cycle is on.
+    pub fn over<E: Engine, R: Threads + Wait + Sync>(&mut self, rt: &R, heap: &Heap, engine: &mut E)
         requires one_table { self.old.pass.table ≡ heap.now }
-        requires made_for { E.made_for bench.old.engine ≡ heap.now.config.pages }
+        requires made_for { E.made_for engine.old ≡ heap.now.config.pages }
         requires joined { CallersAreJoined self.old }
         requires before_over { has_over self.old.pass.seen ≡ false }
-        ensures made_for { E.made_for bench.new.engine ≡ E.made_for bench.old.engine }
-        ensures bench { IsAtPhase self.old.pass 0 → bench.new ≡ bench.old }
+        ensures made_for { E.made_for engine.new ≡ E.made_for engine.old }
+        ensures engine { IsAtPhase self.old.pass 0 → engine.new ≡ engine.old }
         ensures host { self.new ≡ with_seen self.old self.new.pass.seen }
         ensures over { SaysOver self.old.pass self.new.pass }
         ensures reached { E.sweeps ≡ false → SweepsNothing self.old.pass self.new.pass }
     {
         let words = &heap.words;
         let home = take_home(&mut self.pass);
-        let mut turn = take_idle_turn(rt, words, home, bench);
+        let mut turn = take_idle_turn(rt, words, home, engine);
         turn.is_in_order();
         turn.over(words);
         let back = turn.give(words);
@@ -53,16 +48,16 @@ impl Host {
         &mut self,
         rt: &R,
         heap: &Heap,
-        bench: &mut Bench<E>,
+        engine: &mut E,
     )
         requires one_table { self.old.pass.table ≡ heap.now }
-        requires made_for { E.made_for bench.old.engine ≡ heap.now.config.pages }
+        requires made_for { E.made_for engine.old ≡ heap.now.config.pages }
         requires before_over { has_over self.old.pass.seen ≡ false }
-        ensures made_for { E.made_for bench.new.engine ≡ E.made_for bench.old.engine }
+        ensures made_for { E.made_for engine.new ≡ E.made_for engine.old }
         ensures host { self.new ≡ with_seen self.old self.new.pass.seen }
         ensures own { Has self.new.pass.seats seat.Host }
         ensures idle { IsAtPhase self.new.pass 0 }
-        ensures cycle { MakesToldCycle (E.tells bench.new.engine) self.old.pass self.new.pass }
+        ensures cycle { MakesToldCycle (E.tells engine.new) self.old.pass self.new.pass }
         ensures overs { has_over self.new.pass.seen ≡ has_over self.old.pass.seen }
         ensures reached { E.sweeps ≡ false → SweepsNothing self.old.pass self.new.pass }
         ensures begun { EachIsBegun E.begins self.old.pass self.new.pass }
@@ -70,9 +65,9 @@ impl Host {
         let words = &heap.words;
         let home = take_home(&mut self.pass);
         home.is_in_order();
-        let mut turn = take_idle_turn(rt, words, home, bench);
-        begin_cycle(rt, words, &mut turn, bench);
-        let (turn, _) = finish_cycle(rt, words, turn, bench);
+        let mut turn = take_idle_turn(rt, words, home, engine);
+        begin_cycle(rt, words, &mut turn, engine);
+        let (turn, _) = finish_cycle(rt, words, turn, engine);
         turn.is_in_order();
         let back = turn.give(words);
         self.pass = Some(back);
@@ -84,15 +79,15 @@ fn take_idle_turn<E: Engine, R: Threads + Wait + Sync>(
     rt: &R,
     words: &Words,
     home: Pass,
-    bench: &mut Bench<E>,
+    engine: &mut E,
 ) -> Turn
     requires one_table { home.table ≡ words.now }
-    requires made_for { E.made_for bench.old.engine ≡ words.now.config.pages }
+    requires made_for { E.made_for engine.old ≡ words.now.config.pages }
     requires seat { home.seat ≡ seat.Host }
     requires enabled { IsEnabledTo home (step.Take None) }
     requires before_over { has_over home.seen ≡ false }
-    ensures made_for { E.made_for bench.new.engine ≡ E.made_for bench.old.engine }
-    ensures bench { HasCallers home.table.config home.seats → IsAtPhase home 0 → bench.new ≡ bench.old }
+    ensures made_for { E.made_for engine.new ≡ E.made_for engine.old }
+    ensures engine { HasCallers home.table.config home.seats → IsAtPhase home 0 → engine.new ≡ engine.old }
     ensures takes { TakesIdleTurn home result.pass }
     ensures idle { IsIdleTurn result.pass }
     ensures reached { E.sweeps ≡ false → SweepsNothing home result.pass }
@@ -102,7 +97,7 @@ fn take_idle_turn<E: Engine, R: Threads + Wait + Sync>(
     turn.is_in_order();
     let found = turn.look(words, Word::Phase);
     if Phase::Marking.is_in(found) {
-        finish_cycle(rt, words, turn, bench).0
+        finish_cycle(rt, words, turn, engine).0
     } else {
         turn
     }

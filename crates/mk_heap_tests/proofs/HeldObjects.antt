@@ -158,7 +158,7 @@ ready_free on x s t (Ok f) r home freed double =
 ready_free on x s t (Err e) r home freed double =
     ready_on s t r home (seen_only double.called) (double_keeps double.called r.objects)
 
--- The bench is of the table's size still, and for another caller of the table too.
+-- The engine is of the table's size still, and for another caller of the table too.
 
 pub may_at : (m : ℕ) (s t : CallerState) → MayAllocate m s → t.pass.table ≡ s.pass.table → MayMakeObjects t
     → MayAllocate m t

@@ -19,7 +19,7 @@ pub record MayMakeObjects (s : CallerState) : Type 0 where
   pub alone : s.pass.seats ≡ Caller number ∷ []
   pub objects : HoldsObjects s.pass
 
--- It may, with a bench that was made for this many pages, and there is a type.
+-- It may, with an engine that was made for this many pages, and there is a type.
 pub record MayAllocate (made_for : ℕ) (s : CallerState) : Type 0 where
   pub ready : MayMakeObjects s
   pub ty : 0 < length s.pass.table.config.types

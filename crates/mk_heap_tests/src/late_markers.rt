@@ -7,7 +7,7 @@ ghost use Rattle.mk_heap_tests.specs.Passes.{IsFirstPass, IsHostsPass, IsMarkerO
 use crate::objects::make;
 use mk_caller::Caller;
 use mk_core::{Config, Phase, Seat, Word};
-use mk_cycle::{Bench, Engine, begin_cycle};
+use mk_cycle::{Engine, begin_cycle};
 use mk_heap::{Heap, Report};
 use mk_marker::{Marker, Work};
 use mk_never::NoMemory;
@@ -48,10 +48,10 @@ fn begin<E: Engine, R: Threads + Wait + Sync>(
     rt: &R,
     words: &Words,
     host: Pass,
-    bench: &mut Bench<E>,
+    engine: &mut E,
 ) -> Option<Turn>
     requires host { IsHostsPass words.now host }
-    requires made_for { E.made_for bench.old.engine ≡ words.now.config.pages }
+    requires made_for { E.made_for engine.old ≡ words.now.config.pages }
     ensures { IfSome result (λ turn. HostIsMarking words.now turn.pass) }
 {
     host.is_in_order();
@@ -62,7 +62,7 @@ fn begin<E: Engine, R: Threads + Wait + Sync>(
     if Phase::Marking.is_in(found) {
         return None;
     }
-    begin_cycle(rt, words, &mut turn, bench);
+    begin_cycle(rt, words, &mut turn, engine);
     Some(turn)
 }
 
@@ -94,24 +94,24 @@ fn mark_beside<E: Engine, R: Threads + Wait + Sync>(
     host: Pass,
     caller: Pass,
     marker: Pass,
-    bench: &mut Bench<E>,
+    engine: &mut E,
 ) -> Option<Work>
     requires host { IsHostsPass words.now host }
     requires caller { IsFirstPass words.now 0 caller }
     requires marker { IsMarkerOut words.now marker }
     requires one { words.now.config.callers ≡ 1 }
     requires ty { 0 < length words.now.config.types }
-    requires made_for { E.made_for bench.old.engine ≡ words.now.config.pages }
+    requires made_for { E.made_for engine.old ≡ words.now.config.pages }
 {
     let mut marker = Marker::new(words, marker);
     if !finds_phase(&mut marker, Phase::None) {
         return None;
     }
     let mut caller = Caller::new(words, caller);
-    if !make(rt, &mut caller, bench, 0) {
+    if !make(rt, &mut caller, engine, 0) {
         return None;
     }
-    let turn = begin(rt, words, host, bench)?;
+    let turn = begin(rt, words, host, engine)?;
     if !scans_one_cell(&mut marker) {
         return None;
     }
@@ -128,11 +128,11 @@ pub(crate) fn come_to_a_cycle<E: Engine, R: Threads + Wait + Sync>(
     requires one { config.now.callers ≡ 1 }
     requires ty { 0 < length config.now.types }
 {
-    let mut bench: Bench<E> = Bench::new(alloc, config.pages)?;
+    let mut engine = E::make(alloc, config.pages)?;
     let (words, mut host) = Words::new(alloc, config)?;
     let caller = Words::split(&words, &mut host, Seat::Caller(0));
     let marker = Words::split(&words, &mut host, Seat::Marker(0));
-    Ok(mark_beside(rt, &words, host, caller, marker, &mut bench))
+    Ok(mark_beside(rt, &words, host, caller, marker, &mut engine))
 }
 
 /// The marker comes when the one caller is joined and all is over. The report, if it finds that.
@@ -145,13 +145,13 @@ pub(crate) fn come_when_over<E: Engine, R: Threads + Wait + Sync>(
     requires one { config.now.callers ≡ 1 }
     requires marker { config.now.markers ≡ 1 }
 {
-    let mut bench: Bench<E> = Bench::new(alloc, config.pages)?;
+    let mut engine = E::make(alloc, config.pages)?;
     let (heap, mut host) = Heap::new(alloc, config)?;
     let mut marker = host.marker(&heap);
     let caller = host.caller(&heap);
     caller.is_idle();
     host.join_caller(&heap, caller.finish());
-    host.over(rt, &heap, &mut bench);
+    host.over(rt, &heap, &mut engine);
     if !finds_phase(&mut marker, Phase::Over) {
         return Ok(None);
     }

@@ -6,7 +6,7 @@ ghost use Rattle.mk_heap_tests.specs.HeldObjects.{MayMakeObjects, MayAllocate};
 use mk_alloc::{Double, Freed, free_object, new_object};
 use mk_caller::Caller;
 use mk_core::Config;
-use mk_cycle::{Bench, Engine};
+use mk_cycle::Engine;
 use mk_heap::{Heap, Report};
 use mk_never::NoMemory;
 use std::alloc::Global;
@@ -17,45 +17,45 @@ use std::thread::Threads;
 pub(crate) fn make<E: Engine, R: Threads + Wait + Sync>(
     rt: &R,
     caller: &mut Caller,
-    bench: &mut Bench<E>,
+    engine: &mut E,
     d: u8,
 ) -> bool
-    requires may { MayAllocate (E.made_for bench.old.engine) caller.old }
+    requires may { MayAllocate (E.made_for engine.old) caller.old }
     requires register { d < 8 }
-    ensures may { MayAllocate (E.made_for bench.new.engine) caller.new }
+    ensures may { MayAllocate (E.made_for engine.new) caller.new }
     ensures same { caller.new.pass ≡ record caller.old.pass { seen = caller.new.pass.seen } }
 {
-    new_object(rt, caller, bench, d, 0).is_ok()
+    new_object(rt, caller, engine, d, 0).is_ok()
 }
 
 /// Frees what a register points to.
 pub(crate) fn free<E: Engine, R: Threads + Wait + Sync>(
     rt: &R,
     caller: &mut Caller,
-    bench: &mut Bench<E>,
+    engine: &mut E,
     p: u8,
 ) -> Result<Freed, Double>
-    requires may { MayAllocate (E.made_for bench.old.engine) caller.old }
+    requires may { MayAllocate (E.made_for engine.old) caller.old }
     requires register { p < 8 }
-    ensures may { MayAllocate (E.made_for bench.new.engine) caller.new }
+    ensures may { MayAllocate (E.made_for engine.new) caller.new }
     ensures same { caller.new.pass ≡ record caller.old.pass { seen = caller.new.pass.seen } }
 {
-    free_object(rt, caller, bench, p)
+    free_object(rt, caller, engine, p)
 }
 
 /// Sets each register to a new object, and says whether all fit.
 pub(crate) fn make_eight<E: Engine, R: Threads + Wait + Sync>(
     rt: &R,
     caller: &mut Caller,
-    bench: &mut Bench<E>,
+    engine: &mut E,
 ) -> bool
-    requires may { MayAllocate (E.made_for bench.old.engine) caller.old }
-    ensures may { MayAllocate (E.made_for bench.new.engine) caller.new }
+    requires may { MayAllocate (E.made_for engine.old) caller.old }
+    ensures may { MayAllocate (E.made_for engine.new) caller.new }
     ensures same { caller.new.pass ≡ record caller.old.pass { seen = caller.new.pass.seen } }
 {
     let mut all_fit = true;
     for d in 0..8 {
-        all_fit &= make(rt, caller, bench, d);
+        all_fit &= make(rt, caller, engine, d);
     }
     all_fit
 }
@@ -64,15 +64,15 @@ pub(crate) fn make_eight<E: Engine, R: Threads + Wait + Sync>(
 pub(crate) fn make_eight_thrice<E: Engine, R: Threads + Wait + Sync>(
     rt: &R,
     caller: &mut Caller,
-    bench: &mut Bench<E>,
+    engine: &mut E,
 ) -> bool
-    requires may { MayAllocate (E.made_for bench.old.engine) caller.old }
-    ensures may { MayAllocate (E.made_for bench.new.engine) caller.new }
+    requires may { MayAllocate (E.made_for engine.old) caller.old }
+    ensures may { MayAllocate (E.made_for engine.new) caller.new }
     ensures same { caller.new.pass ≡ record caller.old.pass { seen = caller.new.pass.seen } }
 {
     let mut all_fit = true;
     for _eight in 0..3 {
-        all_fit &= make_eight(rt, caller, bench);
+        all_fit &= make_eight(rt, caller, engine);
     }
     all_fit
 }
@@ -85,15 +85,15 @@ pub(crate) fn is_freed(answer: Result<Freed, Double>, due: bool) -> bool {
 fn free_eight<E: Engine, R: Threads + Wait + Sync>(
     rt: &R,
     caller: &mut Caller,
-    bench: &mut Bench<E>,
+    engine: &mut E,
 ) -> bool
-    requires may { MayAllocate (E.made_for bench.old.engine) caller.old }
-    ensures may { MayAllocate (E.made_for bench.new.engine) caller.new }
+    requires may { MayAllocate (E.made_for engine.old) caller.old }
+    ensures may { MayAllocate (E.made_for engine.new) caller.new }
     ensures same { caller.new.pass ≡ record caller.old.pass { seen = caller.new.pass.seen } }
 {
     let mut none_due = true;
     for p in 0..8 {
-        none_due &= is_freed(free(rt, caller, bench, p), false);
+        none_due &= is_freed(free(rt, caller, engine, p), false);
     }
     none_due
 }
@@ -114,9 +114,9 @@ fn fill_and_free<E: Engine, R: Threads + Wait + Sync>(
     rt: &R,
     first: &mut Caller,
     second: &mut Caller,
-    bench: &mut Bench<E>,
+    engine: &mut E,
 ) -> Answers
-    requires first { MayAllocate (E.made_for bench.old.engine) first.old }
+    requires first { MayAllocate (E.made_for engine.old) first.old }
     requires second { MayMakeObjects second.old }
     requires one_table { second.old.pass.table ≡ first.old.pass.table }
     ensures first { MayMakeObjects first.new }
@@ -124,12 +124,12 @@ fn fill_and_free<E: Engine, R: Threads + Wait + Sync>(
     ensures same_first { first.new.pass ≡ record first.old.pass { seen = first.new.pass.seen } }
     ensures same_second { second.new.pass ≡ record second.old.pass { seen = second.new.pass.seen } }
 {
-    let three_times = make_eight_thrice(rt, first, bench);
-    let once = make_eight(rt, second, bench);
-    let one_more_fits = make(rt, first, bench, 0);
-    let eight_undue = free_eight(rt, first, bench);
-    let ninth = free(rt, second, bench, 0);
-    let again = free(rt, second, bench, 0);
+    let three_times = make_eight_thrice(rt, first, engine);
+    let once = make_eight(rt, second, engine);
+    let one_more_fits = make(rt, first, engine, 0);
+    let eight_undue = free_eight(rt, first, engine);
+    let ninth = free(rt, second, engine, 0);
+    let again = free(rt, second, engine, 0);
     Answers {
         all_fit: three_times & once,
         one_more_fits,
@@ -149,11 +149,11 @@ pub(crate) fn fill_a_page<E: Engine, R: Threads + Wait + Sync>(
     requires two { config.now.callers ≡ 2 }
     requires ty { 0 < length config.now.types }
 {
-    let mut bench: Bench<E> = Bench::new(alloc, config.pages)?;
+    let mut engine = E::make(alloc, config.pages)?;
     let (heap, mut host) = Heap::new(alloc, config)?;
     let mut first = host.caller(&heap);
     let mut second = host.caller(&heap);
-    let answers = fill_and_free(rt, &mut first, &mut second, &mut bench);
+    let answers = fill_and_free(rt, &mut first, &mut second, &mut engine);
     host.join_caller(&heap, second.finish());
     host.join_caller(&heap, first.finish());
     Ok((answers, heap.close(host)))

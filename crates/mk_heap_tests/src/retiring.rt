@@ -6,7 +6,7 @@ ghost use Rattle.mk_heap_tests.specs.HeldObjects.{IsPassOfObjects};
 use crate::objects::{make_eight, make_eight_thrice};
 use mk_alloc::{Double, Freed, retire_object};
 use mk_core::Config;
-use mk_cycle::{Bench, Engine};
+use mk_cycle::Engine;
 use mk_heap::Heap;
 use mk_never::{NoMemory, Op};
 use mk_waiting::take_turn;
@@ -108,14 +108,14 @@ pub(crate) fn fill_and_retire<E: Engine, R: Threads + Wait + Sync>(
     requires two { config.now.callers ≡ 2 }
     requires ty { 0 < length config.now.types }
 {
-    let mut bench: Bench<E> = Bench::new(alloc, config.pages)?;
+    let mut engine = E::make(alloc, config.pages)?;
     let (heap, mut host) = Heap::new(alloc, config)?;
     let mut first = host.caller(&heap);
     let mut second = host.caller(&heap);
     first.is_idle();
     second.is_idle();
-    let three_times = make_eight_thrice(rt, &mut first, &mut bench);
-    let once = make_eight(rt, &mut second, &mut bench);
+    let three_times = make_eight_thrice(rt, &mut first, &mut engine);
+    let once = make_eight(rt, &mut second, &mut engine);
     if !(three_times & once) {
         return Ok(None);
     }

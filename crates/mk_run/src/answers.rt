@@ -14,7 +14,7 @@ use mk_alloc::{free_object, new_object};
 use mk_caller::{Caller, Refusal};
 use mk_check::Feed;
 use mk_core::Answer;
-use mk_cycle::{Bench, Engine};
+use mk_cycle::Engine;
 use mk_never::Op;
 use mk_waiting::Patience;
 use mk_words::Held;
@@ -124,16 +124,16 @@ fn call_until_open<R: Wait>(rt: &R, caller: &mut Caller, op: Op) -> Answer
 pub fn answer_now<E: Engine, R: Threads + Wait + Sync>(
     rt: &R,
     caller: &mut Caller,
-    bench: &mut Bench<E>,
+    engine: &mut E,
     op: Op,
 ) -> Result<Answer, Held>
     requires home { caller.old.home ≡ true }
     requires exists { caller_of_pass caller.old.pass < caller.old.pass.table.config.callers }
     requires alone { caller.old.pass.seats ≡ caller.old.pass.seat ∷ [] }
     requires admitted { Admits caller.old.pass op }
-    requires made_for { E.made_for bench.old.engine ≡ caller.old.pass.table.config.pages }
+    requires made_for { E.made_for engine.old ≡ caller.old.pass.table.config.pages }
     ensures home { caller.new.home ≡ true }
-    ensures made_for { E.made_for bench.new.engine ≡ E.made_for bench.old.engine }
+    ensures made_for { E.made_for engine.new ≡ E.made_for engine.old }
     ensures answers { IfOk result (λ told. Answers E.on caller.old.pass op told caller.new.pass) }
     ensures called { IfOk result (λ told. is_under_turn op ≡ false → IsCalled caller.old.pass op told caller.new.pass) }
     ensures beside { OnErr result (is_under_turn op ≡ false) }
@@ -143,11 +143,11 @@ pub fn answer_now<E: Engine, R: Threads + Wait + Sync>(
 {
     caller.is_idle();
     match op {
-        Op::New { d, ty, .. } => match new_object(rt, caller, bench, d, ty) {
+        Op::New { d, ty, .. } => match new_object(rt, caller, engine, d, ty) {
             Ok(()) => Ok(Answer::Done),
             Err(_) => Ok(Answer::Full),
         },
-        Op::Free { p } => match free_object(rt, caller, bench, p) {
+        Op::Free { p } => match free_object(rt, caller, engine, p) {
             Ok(_) => Ok(Answer::Done),
             Err(_) => Ok(Answer::Double),
         },
@@ -163,22 +163,22 @@ pub fn answer_now<E: Engine, R: Threads + Wait + Sync>(
 pub fn answer_to<E: Engine, R: Threads + Wait + Sync>(
     rt: &R,
     caller: &mut Caller,
-    bench: &mut Bench<E>,
+    engine: &mut E,
     op: Op,
 ) -> Answer
     requires home { caller.old.home ≡ true }
     requires exists { caller_of_pass caller.old.pass < caller.old.pass.table.config.callers }
     requires alone { caller.old.pass.seats ≡ caller.old.pass.seat ∷ [] }
     requires admitted { IsAdmittedByOwnCalls caller.old.pass op }
-    requires made_for { E.made_for bench.old.engine ≡ caller.old.pass.table.config.pages }
+    requires made_for { E.made_for engine.old ≡ caller.old.pass.table.config.pages }
     ensures home { caller.new.home ≡ true }
-    ensures made_for { E.made_for bench.new.engine ≡ E.made_for bench.old.engine }
+    ensures made_for { E.made_for engine.new ≡ E.made_for engine.old }
     ensures answers { Answers E.on caller.old.pass op result caller.new.pass }
     ensures reached { E.sweeps ≡ false → SweepsNothing caller.old.pass caller.new.pass }
     ensures begun { EachIsBegun E.begins caller.old.pass caller.new.pass }
 {
     caller.is_idle();
-    match answer_now(rt, caller, bench, op) {
+    match answer_now(rt, caller, engine, op) {
         Ok(told) => told,
         Err(_) => call_until_open(rt, caller, op),
     }
@@ -229,7 +229,7 @@ pub(crate) fn answer_at_once(caller: &mut Caller, op: Op) -> Option<Answer>
 pub(crate) fn answer_put_off<E: Engine, R: Threads + Wait + Sync>(
     rt: &R,
     caller: &mut Caller,
-    bench: &mut Bench<E>,
+    engine: &mut E,
     feed: &Feed,
     op: Op,
 ) -> Answer
@@ -238,9 +238,9 @@ pub(crate) fn answer_put_off<E: Engine, R: Threads + Wait + Sync>(
     requires alone { caller.old.pass.seats ≡ caller.old.pass.seat ∷ [] }
     requires asks { AsksFor feed.now op }
     requires admitted { IsAdmittedByOwnCalls caller.old.pass op }
-    requires made_for { E.made_for bench.old.engine ≡ caller.old.pass.table.config.pages }
+    requires made_for { E.made_for engine.old ≡ caller.old.pass.table.config.pages }
     ensures home { caller.new.home ≡ true }
-    ensures made_for { E.made_for bench.new.engine ≡ E.made_for bench.old.engine }
+    ensures made_for { E.made_for engine.new ≡ E.made_for engine.old }
     ensures answers { Answers E.on caller.old.pass op result caller.new.pass }
     ensures reached { E.sweeps ≡ false → SweepsNothing caller.old.pass caller.new.pass }
     ensures begun { EachIsBegun E.begins caller.old.pass caller.new.pass }
@@ -248,14 +248,14 @@ pub(crate) fn answer_put_off<E: Engine, R: Threads + Wait + Sync>(
     match op {
         Op::New { d, ty, .. } => {
             caller.is_idle();
-            match new_object(rt, caller, bench, d, ty) {
+            match new_object(rt, caller, engine, d, ty) {
                 Ok(()) => Answer::Done,
                 Err(_) => Answer::Full,
             }
         }
         Op::Free { p } => {
             caller.is_idle();
-            match free_object(rt, caller, bench, p) {
+            match free_object(rt, caller, engine, p) {
                 Ok(_) => Answer::Done,
                 Err(_) => Answer::Double,
             }

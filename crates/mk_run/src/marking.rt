@@ -16,7 +16,7 @@ use crate::paces::Pace;
 use crate::ready::ReadyRun;
 use crate::runs::Run;
 use mk_core::Phase;
-use mk_cycle::{Bench, Engine};
+use mk_cycle::Engine;
 use mk_heap::{Heap, Host};
 use mk_marker::{Marker, NotMarking, Work};
 use mk_waiting::Patience;
@@ -78,11 +78,11 @@ pub fn mark_until_over<P: Pace, R: Wait>(
     unreachable!()
 }
 
-/// The scripts that are joined, and the bench of the host's own cycles.
+/// The scripts that are joined, and the engine of the host's own cycles.
 #[derive(Drop)]
 pub(crate) struct Ended<E: Engine> {
     pub(crate) joined: Joined,
-    pub(crate) bench: Bench<E>,
+    pub(crate) engine: E,
 }
 
 /// Runs all scripts and joins them, runs a last cycle where one is asked for, and announces to the markers that all is
@@ -99,7 +99,7 @@ fn run_scripts<E: Engine + Send, P: Pace + Sync, R: Threads + Wait + Sync>(
     requires ready { IsReadyRun E.made_for run.now.program.now run.now.heap.now.config ready }
     ensures over { IsOver E.on run.now.with_cycle run.now.program.now run.now.heap.now host.markers result.joined }
     ensures turns { run.now.with_cycle ≡ true
-        → TakesLastTurns (E.tells result.bench.engine) run.now.heap.now result.joined.host.pass }
+        → TakesLastTurns (E.tells result.engine) run.now.heap.now result.joined.host.pass }
     ensures reached { E.sweeps ≡ false
         → ScriptsSweepNothing run.now.program.now 0 run.now.heap.now.config result.joined.host.pass.seen }
     ensures begun { ScriptsBeginCycles E.begins run.now.program.now 0 run.now.heap.now.config
@@ -107,13 +107,13 @@ fn run_scripts<E: Engine + Send, P: Pace + Sync, R: Threads + Wait + Sync>(
 {
     let ReadyRun {
         scripts,
-        host: mut bench,
+        host: mut engine,
     } = ready;
     let Joined { mut host, texts } = run_from(rt, run, pace, 0, host, scripts);
-    take_last_turns(rt, run.heap, &mut host, &mut bench, run.with_cycle);
+    take_last_turns(rt, run.heap, &mut host, &mut engine, run.with_cycle);
     Ended {
         joined: Joined { host, texts },
-        bench,
+        engine,
     }
 }
 
@@ -133,7 +133,7 @@ pub(crate) fn run_beside<E: Engine + Send, P: Pace + Sync, R: Threads + Wait + S
     requires ready { IsReadyRun E.made_for run.now.program.now run.now.heap.now.config ready }
     ensures over { IsOver E.on run.now.with_cycle run.now.program.now run.now.heap.now number result.joined }
     ensures turns { run.now.with_cycle ≡ true
-        → TakesLastTurns (E.tells result.bench.engine) run.now.heap.now result.joined.host.pass }
+        → TakesLastTurns (E.tells result.engine) run.now.heap.now result.joined.host.pass }
     ensures reached { E.sweeps ≡ false
         → ScriptsSweepNothing run.now.program.now 0 run.now.heap.now.config result.joined.host.pass.seen }
     ensures begun { ScriptsBeginCycles E.begins run.now.program.now 0 run.now.heap.now.config
@@ -159,19 +159,19 @@ pub(crate) fn run_beside<E: Engine + Send, P: Pace + Sync, R: Threads + Wait + S
             ensures over { IsOver E.on run.entry.now.with_cycle run.entry.now.program.now run.entry.now.heap.now
                 (number + 1) result.joined }
             ensures turns { run.entry.now.with_cycle ≡ true
-                → TakesLastTurns (E.tells result.bench.engine) run.entry.now.heap.now result.joined.host.pass }
+                → TakesLastTurns (E.tells result.engine) run.entry.now.heap.now result.joined.host.pass }
             ensures reached { E.sweeps ≡ false → ScriptsSweepNothing run.entry.now.program.now 0
                 run.entry.now.heap.now.config result.joined.host.pass.seen }
             ensures begun { ScriptsBeginCycles E.begins run.entry.now.program.now 0 run.entry.now.heap.now.config
                 result.joined.host.pass.seen }
         { run_beside(rt, run, pace, number + 1, host, ready) },
     );
-    let Ended { joined, bench } = ended;
+    let Ended { joined, engine } = ended;
     let Joined { mut host, texts } = joined;
     host.join_marker(heap, pass);
     host.is_in_order();
     Ended {
         joined: Joined { host, texts },
-        bench,
+        engine,
     }
 }

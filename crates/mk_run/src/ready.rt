@@ -5,28 +5,28 @@ ghost use Rattle.mk_run.specs.Ready.{IsReadyRun};
 
 use mk_check::{Checked, Feed};
 use mk_core::Config;
-use mk_cycle::{Bench, Engine};
+use mk_cycle::Engine;
 use mk_never::NoMemory;
 use std::alloc::Global;
 use std::collections::VecDeque;
 
-/// A script that is ready to run: at its first operation, with a bench for its turns. It is made before its thread
+/// A script that is ready to run: at its first operation, with an engine for its turns. It is made before its thread
 /// starts: threads that all take memory when they start wait for each other in the system.
 #[derive(Drop)]
 pub struct ReadyScript<E: Engine> {
     pub feed: Feed,
-    pub bench: Bench<E>,
+    pub engine: E,
 }
 
-/// All scripts of a run, in order, and a bench for the host.
+/// All scripts of a run, in order, and an engine for the host.
 #[derive(Drop)]
 pub(crate) struct ReadyRun<E: Engine> {
     pub(crate) scripts: VecDeque<ReadyScript<E>>,
-    pub(crate) host: Bench<E>,
+    pub(crate) host: E,
 }
 
 impl<E: Engine> ReadyRun<E> {
-    /// The scripts of a program, and benches for a heap of these sizes.
+    /// The scripts of a program, and engines for a heap of these sizes.
     pub(crate) fn new(
         alloc: Global,
         program: &Checked,
@@ -35,12 +35,12 @@ impl<E: Engine> ReadyRun<E> {
         requires scripts { config.now.callers ≡ length (script_names program.now) }
         ensures ready { IfOk result (λ ready. IsReadyRun E.made_for program.now config.now ready) }
     {
-        let host = Bench::new(alloc, config.pages)?;
+        let host = E::make(alloc, config.pages)?;
         let mut scripts = VecDeque::new(alloc);
         for script in 0..config.callers {
             let feed = Feed::start(alloc, program, script)?;
-            let bench = Bench::new(alloc, config.pages)?;
-            scripts.push_back(ReadyScript { feed, bench })?;
+            let engine = E::make(alloc, config.pages)?;
+            scripts.push_back(ReadyScript { feed, engine })?;
         }
         Ok(ReadyRun { scripts, host })
     }

@@ -14,7 +14,7 @@ use crate::paces::Pace;
 use crate::ready::ReadyRun;
 use crate::runs::Run;
 use mk_check::Checked;
-use mk_cycle::{Bench, Engine};
+use mk_cycle::Engine;
 use mk_heap::Heap;
 use mk_never::NoMemory;
 use std::alloc::Global;
@@ -22,7 +22,7 @@ use std::sync::Wait;
 use std::thread::Threads;
 
 /// Runs all and closes the heap. Where a last cycle is asked for, the host runs it when the scripts are joined, with
-/// the bench that is returned.
+/// the engine that is returned.
 fn run_and_close<E: Engine + Send, P: Pace + Sync, R: Threads + Wait + Sync>(
     rt: &R,
     alloc: Global,
@@ -30,11 +30,11 @@ fn run_and_close<E: Engine + Send, P: Pace + Sync, R: Threads + Wait + Sync>(
     markers: u64,
     pace: &P,
     with_cycle: bool,
-) -> Result<(Outcome, Bench<E>), NoMemory>
+) -> Result<(Outcome, E), NoMemory>
     requires markers { markers ≤ 8 }
     ensures runs { IfOk result (λ ran. IsRunOf E.on with_cycle program.now markers ran.0) }
     ensures cycle { with_cycle ≡ true
-        → IfOk result (λ ran. EndsWithCycle (E.tells ran.1.engine) (config_of program.now markers)
+        → IfOk result (λ ran. EndsWithCycle (E.tells ran.1) (config_of program.now markers)
         (history_of ran.0.report)) }
     ensures reached { IfOk result (λ ran. E.sweeps ≡ false
         → IsUnswept (config_of program.now markers) (history_of ran.0.report)) }
@@ -52,14 +52,14 @@ fn run_and_close<E: Engine + Send, P: Pace + Sync, R: Threads + Wait + Sync>(
         markers,
         with_cycle,
     };
-    let Ended { joined, bench } = run_beside(rt, &run, pace, 0, host, ready);
+    let Ended { joined, engine } = run_beside(rt, &run, pace, 0, host, ready);
     let Joined { host, texts } = joined;
     let report = heap.close(host);
     let outcome = Outcome {
         texts: texts?,
         report,
     };
-    Ok((outcome, bench))
+    Ok((outcome, engine))
 }
 
 /// Runs each script and each marker on a thread of its own, joins them, and closes the heap. A script whose thread
@@ -79,22 +79,22 @@ pub fn run_all<E: Engine + Send, P: Pace + Sync, R: Threads + Wait + Sync>(
     ensures begun { IfOk result (λ outcome.
         CyclesAreBegun E.begins (config_of program.now markers) (history_of outcome.report)) }
 {
-    let ran: (Outcome, Bench<E>) = run_and_close(rt, alloc, program, markers, pace, false)?;
+    let ran: (Outcome, E) = run_and_close(rt, alloc, program, markers, pace, false)?;
     Ok(ran.0)
 }
 
 /// The same, with a last cycle: the host runs it when the scripts are joined, before it announces that all is over.
-/// The engine of the bench closed the marks of that cycle.
+/// That engine closed the marks of that cycle.
 pub fn run_with_cycle<E: Engine + Send, P: Pace + Sync, R: Threads + Wait + Sync>(
     rt: &R,
     alloc: Global,
     program: &Checked,
     markers: u64,
     pace: &P,
-) -> Result<(Outcome, Bench<E>), NoMemory>
+) -> Result<(Outcome, E), NoMemory>
     requires markers { markers ≤ 8 }
     ensures runs { IfOk result (λ ran. IsRunOf E.on true program.now markers ran.0) }
-    ensures cycle { IfOk result (λ ran. EndsWithCycle (E.tells ran.1.engine) (config_of program.now markers)
+    ensures cycle { IfOk result (λ ran. EndsWithCycle (E.tells ran.1) (config_of program.now markers)
         (history_of ran.0.report)) }
     ensures reached { IfOk result (λ ran. E.sweeps ≡ false
         → IsUnswept (config_of program.now markers) (history_of ran.0.report)) }

@@ -114,7 +114,7 @@ pub fn run_script<E: Engine, P: Pace, R: Threads + Wait + Sync>(
     let _well_typed = program.program();
     let ReadyScript {
         mut feed,
-        mut bench,
+        mut engine,
     } = ready;
     let mut counts = Counts { ops: 0, refused: 0 };
     'instructions: while counts.ops < u64::MAX {
@@ -126,7 +126,7 @@ pub fn run_script<E: Engine, P: Pace, R: Threads + Wait + Sync>(
         pace.before(k, instruction);
         let answer = match answer_at_once(caller, op) {
             Some(answer) => answer,
-            None => answer_put_off(rt, caller, &mut bench, &feed, op),
+            None => answer_put_off(rt, caller, &mut engine, &feed, op),
         };
         pace.answered(k, instruction);
         take_answer(alloc, &mut feed, &mut counts, answer)?;

@@ -12,7 +12,7 @@ use crate::outcomes::Outcome;
 use crate::paces::Pace;
 use crate::running::run_with_cycle;
 use mk_check::Checked;
-use mk_cycle::{Bench, Engine};
+use mk_cycle::Engine;
 use mk_never::NoMemory;
 use mk_why::{Kept, Why};
 use std::alloc::Global;
@@ -37,8 +37,8 @@ pub fn run_why<E: Engine + Send, P: Pace + Sync, R: Threads + Wait + Sync>(
     ensures begun { IfOk result (λ ran.
         CyclesAreBegun E.begins (config_of program.now markers) (history_of ran.0.report)) }
 {
-    let ran: (Outcome, Bench<Why<E>>) = run_with_cycle(rt, alloc, program, markers, pace)?;
-    let (outcome, bench) = ran;
-    let kept = bench.engine.kept(alloc)?;
+    let ran: (Outcome, Why<E>) = run_with_cycle(rt, alloc, program, markers, pace)?;
+    let (outcome, engine) = ran;
+    let kept = engine.kept(alloc)?;
     Ok((outcome, kept))
 }

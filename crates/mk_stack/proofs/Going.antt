@@ -2,8 +2,6 @@
 use Rattle.mk_stack.proofs.Vocabulary.{CallerState, GoesToPoint, HasStackTypes, Leads, PassState, Point, Replied}
 use Rattle.mk_stack.proofs.Vocabulary.{caller_of_pass, replied_to}
 use Rattle.mk_laws.proofs.Vocabulary.{List, ℕ, ap, append_assoc, refl, subst, sym, true, [], ◌++◌, ◌<◌, ◌∙◌, ◌∷◌, ◌≡◌}
-use Rattle.mk_cycle.specs.declared.bench.Bench.{Bench}
-use Rattle.mk_run.specs.Benches.{IsMadeFor}
 use Rattle.mk_stack.{proofs.Advances.Advances, proofs.Replies.Stays, specs.Ready.IsReady, specs.Ready.IsReadyForJobs}
 
 pub leads_through : (s : Point) (xs : List Replied) (t : Point) (ys : List Replied) (u : Point) → Leads s xs t
@@ -47,18 +45,13 @@ ready_on ready home is =
       types = subst (λ (q : PassState). HasStackTypes q.table.config) (sym is) ready.types;
     }
 
-pub jobs_on : {E : Type 0} {made_for : E → ℕ} {s t : CallerState} {b : Bench E} (d : Bench E)
+pub jobs_on : {E : Type 0} {made_for : E → ℕ} {s t : CallerState} {b : E} (d : E)
     → IsReadyForJobs made_for s b
-    → t.home ≡ true → t.pass ≡ record s.pass { seen = t.pass.seen } → IsMadeFor made_for s.pass.table.config.pages d
+    → t.home ≡ true → t.pass ≡ record s.pass { seen = t.pass.seen } → made_for d ≡ s.pass.table.config.pages
     → IsReadyForJobs made_for t d
 jobs_on {made_for} d ready home is made =
     record {
       ready = ready_on ready.ready home is;
       alone = subst (λ (q : PassState). q.seats ≡ q.seat ∷ []) (sym is) ready.alone;
-      made = subst (λ (q : PassState). IsMadeFor made_for q.table.config.pages d) (sym is) made;
+      made = subst (λ (q : PassState). made_for d ≡ q.table.config.pages) (sym is) made;
     }
-
--- After a turn the bench is made for the same pages.
-pub still_made : {E : Type 0} {made_for : E → ℕ} {pages : ℕ} {b : Bench E} (d : Bench E) → IsMadeFor made_for pages b
-    → made_for d.engine ≡ made_for b.engine → IsMadeFor made_for pages d
-still_made d made engine = record { engine = engine ∙ made.engine }

@@ -10,9 +10,7 @@ use Rattle.mk_laws.proofs.Vocabulary.{sym, true, [], ◌++◌, ◌+◌, ◌<◌,
 use Rattle.mk_never.specs.declared.never_heap.NoMemory.{NoMemory}
 use Rattle.mk_core.specs.History.{calls_from}
 use Rattle.mk_caller.specs.States.{IsIdleCaller}
-use Rattle.mk_cycle.specs.declared.bench.Bench.{Bench}
 use Rattle.mk_heap.specs.Hosts.{with_caller_made}
-use Rattle.mk_run.specs.Benches.{IsMadeFor}
 use Rattle.mk_stack.proofs.{OwnCalls.none_of, Replies.same_replied}
 use Rattle.mk_stack.specs.Joining.{HasWorked, IsBetweenJobs}
 use Rattle.mk_stack.specs.{JobLists.HasDone, Ready.IsReadyForJobs, declared.joining.Worked.Worked}
@@ -225,9 +223,9 @@ has_worked {w} {k} {p} s {q} r jobs dones ready home is does same idle =
     (record { ready = is_ready ready goes idle; done = all_done_by q jobs dones ready all })
 
 -- A caller between two jobs may do the next one.
-pub ready_between : {E : Type 0} {made_for : E → ℕ} {w : WordsState} {k : ℕ} {s : CallerState} {b : Bench E}
+pub ready_between : {E : Type 0} {made_for : E → ℕ} {w : WordsState} {k : ℕ} {s : CallerState} {b : E}
     → s.home ≡ true → IsBetweenJobs w k s.pass → k < w.config.callers → HasStackTypes w.config
-    → IsMadeFor made_for w.config.pages b → IsReadyForJobs made_for s b
+    → made_for b ≡ w.config.pages → IsReadyForJobs made_for s b
 ready_between {made_for} {w} {k} {s} {b} home ready lt types made =
     let number : caller_of_pass s.pass ≡ k =
     ap (λ (x : Seat). caller_of_pass (record s.pass { seat = x })) ready.seat in
@@ -239,7 +237,7 @@ ready_between {made_for} {w} {k} {s} {b} home ready lt types made =
         types = subst (λ (v : WordsState). HasStackTypes v.config) (sym ready.table) types;
       };
       alone = ready.alone ∙ ap (λ (x : Seat). x ∷ []) (sym ready.seat);
-      made = subst (λ (v : WordsState). IsMadeFor made_for v.config.pages b) (sym ready.table) made;
+      made = subst (λ (v : WordsState). made_for b ≡ v.config.pages) (sym ready.table) made;
     }
 
 -- The list of a caller, and those of the callers after it

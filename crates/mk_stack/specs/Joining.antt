@@ -16,7 +16,7 @@ use Rattle.mk_stack.specs.declared.joining.Joined.{Joined}
 use Rattle.mk_stack.specs.declared.points.Point.TheVariants.{Founding, Founded}
 use Rattle.mk_stack.specs.declared.working.Ended.{Ended}
 use Rattle.mk_stack.specs.declared.walking.WalkPoint.TheVariants as walk
-use Rattle.mk_stack.specs.Benches.{AreBenchesFrom}
+use Rattle.mk_stack.specs.Engines.{AreEnginesFrom}
 use Rattle.mk_stack.specs.JobLists.{HasDone, HaveDone}
 use Rattle.mk_stack.specs.Jobs.{Leads, Replied}
 use Rattle.mk_stack.specs.Passes.{replied_in}
@@ -30,11 +30,11 @@ pub record IsBetweenJobs (w : WordsState) (k : ℕ) (p : PassState) : Type 0 whe
   pub alone : p.seats ≡ Caller k ∷ []
   pub idle : IsIdleCaller p
 
--- The callers from k on have not begun their jobs: there is the pass of the first, and a bench for each.
+-- The callers from k on have not begun their jobs: there is the pass of the first, and an engine for each.
 pub record AreCallersFrom {E : Type 0} (made_for : E → ℕ) (w : WordsState) (k : ℕ) (callers : Callers E)
     : Type 0 where
   pub pass : IsBetweenJobs w k callers.pass
-  pub benches : AreBenchesFrom made_for w k callers.benches
+  pub engines : AreEnginesFrom made_for w k callers.engines
 
 -- Caller k did its jobs on a thread of its own, all of them where memory sufficed.
 pub record HasWorked (w : WordsState) (first : List Replied) (k : ℕ) (jobs : List Job) (worked : Worked) : Type 0 where

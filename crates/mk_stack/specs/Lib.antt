@@ -4,7 +4,7 @@ pub mod Interleavings
 pub mod Laws
 pub mod Passes
 pub mod Ready
-pub mod Benches
+pub mod Engines
 pub mod Advancing
 pub mod Histories
 pub mod JobLists

@@ -6,7 +6,7 @@ ghost use Rattle.mk_stack.specs.Ready.{IsReadyForJobs};
 use crate::jobs::{Done, Job};
 use crate::stacks::do_job;
 use mk_caller::Caller;
-use mk_cycle::{Bench, Engine};
+use mk_cycle::Engine;
 use mk_never::NoMemory;
 use mk_run::Pace;
 use std::alloc::Global;
@@ -31,12 +31,12 @@ pub fn run_jobs<E: Engine, P: Pace, R: Threads + Wait + Sync>(
     rt: &R,
     alloc: Global,
     caller: &mut Caller,
-    bench: &mut Bench<E>,
+    engine: &mut E,
     jobs: &[Job],
     pace: &P,
 ) -> Result<Dones, NoMemory>
-    requires ready { IsReadyForJobs E.made_for caller.old bench.old }
-    ensures ready { IsReadyForJobs E.made_for caller.new bench.new }
+    requires ready { IsReadyForJobs E.made_for caller.old engine.old }
+    ensures ready { IsReadyForJobs E.made_for caller.new engine.new }
     ensures pass { caller.new.pass ≡ record caller.old.pass { seen = caller.new.pass.seen } }
     ensures does { IfOk result (λ dones. DoesJobs caller.old.pass jobs.now dones.list.items caller.new.pass) }
 {
@@ -44,7 +44,7 @@ pub fn run_jobs<E: Engine, P: Pace, R: Threads + Wait + Sync>(
     let mut list = Vec::new(alloc);
     for (index, job) in jobs.iter().enumerate() {
         pace.before(number, index as u64);
-        let done = do_job(rt, caller, bench, *job);
+        let done = do_job(rt, caller, engine, *job);
         pace.answered(number, index as u64);
         list.push(done)?;
     }

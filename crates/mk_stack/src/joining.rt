@@ -3,16 +3,15 @@ ghost use Rattle.std.specs.Prelude.{◌≡◌, ◌+◌, ◌<◌, ◌∷◌, [], 
 ghost use Rattle.std.specs.Thread.{IsSync};
 ghost use denote.Param.Send.{IsSend};
 ghost use Rattle.mk_caller.specs.States.{IsIdleCaller};
-ghost use Rattle.mk_run.specs.Benches.{IsMadeFor};
 ghost use Rattle.mk_stack.specs.Jobs.{Replied};
 ghost use Rattle.mk_stack.specs.Joining.{AreCallersFrom, HasHandedOut, HasWorked, HaveWorked, IsBetweenJobs};
 ghost use Rattle.mk_stack.specs.Passes.{replied_to};
 
-use crate::benches::CallerBenches;
+use crate::engines::CallerEngines;
 use crate::job_lists::{Dones, Jobs, run_jobs};
 use crate::shared::Run;
 use mk_caller::Caller;
-use mk_cycle::{Bench, Engine};
+use mk_cycle::Engine;
 use mk_heap::{Heap, Host};
 use mk_never::NoMemory;
 use mk_run::Pace;
@@ -35,11 +34,11 @@ pub(crate) struct Joined {
     pub(crate) dones: Result<Vec<Dones>, NoMemory>,
 }
 
-/// The callers that have not begun their jobs: the pass of the first of them, and a bench for each.
+/// The callers that have not begun their jobs: the pass of the first of them, and an engine for each.
 #[derive(Drop)]
 pub(crate) struct Callers<E: Engine> {
     pub(crate) pass: Pass,
-    pub(crate) benches: CallerBenches<E>,
+    pub(crate) engines: CallerEngines<E>,
 }
 
 /// The work of a caller's thread.
@@ -49,17 +48,17 @@ fn work_alone<E: Engine, P: Pace, R: Threads + Wait + Sync>(
     pace: &P,
     k: u64,
     pass: Pass,
-    mut bench: Bench<E>,
+    mut engine: E,
 ) -> Worked
     requires exists { k < run.now.heap.now.config.callers }
     requires pass { IsBetweenJobs run.now.heap.now k pass }
-    requires bench { IsMadeFor E.made_for run.now.heap.now.config.pages bench }
+    requires engine { E.made_for engine ≡ run.now.heap.now.config.pages }
     ensures worked { IfSome (slice_get run.now.lists.now k) (λ jobs.
         HasWorked run.now.heap.now (replied_to pass) k jobs.list.items result) }
 {
     let jobs = &run.lists[k as usize];
     let mut caller = Caller::new(run.heap.words(), pass);
-    let dones = run_jobs(rt, run.alloc, &mut caller, &mut bench, &jobs.list, pace);
+    let dones = run_jobs(rt, run.alloc, &mut caller, &mut engine, &jobs.list, pace);
     caller.is_idle();
     Worked {
         pass: caller.finish(),
@@ -104,7 +103,7 @@ fn join_worked(heap: &Heap, worked: Worked, joined: Joined) -> Joined
     }
 }
 
-/// Has the callers from `k` on do their lists of jobs, each on a thread of its own and with a bench of its own. It
+/// Has the callers from `k` on do their lists of jobs, each on a thread of its own and with an engine of its own. It
 /// joins them. A caller whose thread can't be started works here.
 pub(crate) fn run_from<E: Engine + Send, P: Pace + Sync, R: Threads + Wait + Sync>(
     rt: &R,
@@ -120,8 +119,8 @@ pub(crate) fn run_from<E: Engine + Send, P: Pace + Sync, R: Threads + Wait + Syn
     ensures joined { HaveWorked run.now.heap.now host.markers (replied_to callers.pass) k
         (drop k run.now.lists.now) result }
 {
-    let Callers { pass, benches } = callers;
-    let CallerBenches { first, mut others } = benches;
+    let Callers { pass, engines } = callers;
+    let CallerEngines { first, mut others } = engines;
     let Some(second) = others.pop() else {
         let worked = work_alone(rt, run, pace, k, pass, first);
         let joined = Joined {
@@ -133,7 +132,7 @@ pub(crate) fn run_from<E: Engine + Send, P: Pace + Sync, R: Threads + Wait + Syn
     let next_pass = host.caller(run.heap).finish();
     let next = Callers {
         pass: next_pass,
-        benches: CallerBenches {
+        engines: CallerEngines {
             first: second,
             others,
         },
@@ -144,7 +143,7 @@ pub(crate) fn run_from<E: Engine + Send, P: Pace + Sync, R: Threads + Wait + Syn
             requires shared { IsSync R.row × IsSync P.row × IsSend E.row }
             requires exists { k < run.now.heap.now.config.callers }
             requires pass { IsBetweenJobs run.now.heap.now k pass }
-            requires bench { IsMadeFor E.made_for run.now.heap.now.config.pages first }
+            requires engine { E.made_for first ≡ run.now.heap.now.config.pages }
             ensures worked { IfSome (slice_get run.entry.now.lists.now k) (λ jobs.
                 HasWorked run.entry.now.heap.now (replied_to pass) k jobs.list.items result) }
         { work_alone(rt, run, pace, k, pass, first) },

@@ -5,7 +5,7 @@
 #![tactic(auto)]
 
 mod advancing;
-mod benches;
+mod engines;
 mod job_lists;
 mod jobs;
 mod joining;

@@ -4,11 +4,11 @@ ghost use Rattle.std.specs.Thread.{IsSync};
 ghost use denote.Param.Send.{IsSend};
 ghost use Rattle.mk_marker.specs.Markers.{IsMarkers, IsOut};
 ghost use Rattle.mk_run.specs.Marking.{IsMarkersPass};
-ghost use Rattle.mk_stack.specs.Benches.{AreBenchesOf};
+ghost use Rattle.mk_stack.specs.Engines.{AreEnginesOf};
 ghost use Rattle.mk_stack.specs.Joining.{HasHandedOut, HaveEnded};
 ghost use Rattle.mk_stack.specs.declared.job_lists.Jobs.{Jobs};
 
-use crate::benches::Benches;
+use crate::engines::Engines;
 use crate::shared::Run;
 use crate::working::{Ended, work};
 use mk_cycle::Engine;
@@ -47,15 +47,15 @@ pub(crate) fn work_beside<E: Engine + Send, P: Pace + Sync, R: Threads + Wait + 
     pace: &P,
     number: u64,
     mut host: Host,
-    benches: Benches<E>,
+    engines: Engines<E>,
 ) -> Ended
     requires shared { IsSync R.row × IsSync P.row × IsSend E.row }
     requires host { HasHandedOut run.now.heap.now number 0 host }
-    requires benches { AreBenchesOf E.made_for run.now.heap.now benches }
+    requires engines { AreEnginesOf E.made_for run.now.heap.now engines }
     ensures ended { HaveEnded run.now.heap.now number run.now.lists.now result }
 {
     if number >= run.markers {
-        return work(rt, run, pace, host, benches);
+        return work(rt, run, pace, host, engines);
     }
     let heap = run.heap;
     let pass = host.marker(heap).finish();
@@ -69,9 +69,9 @@ pub(crate) fn work_beside<E: Engine + Send, P: Pace + Sync, R: Threads + Wait + 
         move || -> Ended
             requires shared { IsSync R.row × IsSync P.row × IsSend E.row }
             requires host { HasHandedOut run.now.heap.now (number + 1) 0 host }
-            requires benches { AreBenchesOf E.made_for run.now.heap.now benches }
+            requires engines { AreEnginesOf E.made_for run.now.heap.now engines }
             ensures ended { HaveEnded run.entry.now.heap.now (number + 1) run.entry.now.lists.now result }
-        { work_beside(rt, run, pace, number + 1, host, benches) },
+        { work_beside(rt, run, pace, number + 1, host, engines) },
     );
     join_marker(heap, pass, ended)
 }

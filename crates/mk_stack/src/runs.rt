@@ -4,7 +4,7 @@ ghost use Rattle.mk_core.specs.Config.{IsBetween};
 ghost use Rattle.mk_heap.specs.Reports.{config_of, history_of, HasCounts, IsWhole};
 ghost use Rattle.mk_stack.specs.StackRuns.{IsStackRun, stack_config};
 
-use crate::benches::Benches;
+use crate::engines::Engines;
 use crate::job_lists::{Dones, Jobs};
 use crate::marking::work_beside;
 use crate::shared::Run;
@@ -87,8 +87,8 @@ pub fn run_stack<E: Engine + Send, P: Pace + Sync, R: Threads + Wait + Sync>(
 {
     let callers = lists.len() as u64;
     let config = stack_config(alloc, pages, resident, callers, markers)?;
-    // No thread is started before all benches are made.
-    let benches: Benches<E> = Benches::new(alloc, callers - 1, pages)?;
+    // No thread is started before all engines are made.
+    let engines: Engines<E> = Engines::new(alloc, callers - 1, pages)?;
     let (heap, host) = Heap::new(alloc, &config)?;
     let run = Run {
         alloc,
@@ -96,7 +96,7 @@ pub fn run_stack<E: Engine + Send, P: Pace + Sync, R: Threads + Wait + Sync>(
         lists,
         markers,
     };
-    let Ended { host, dones, left } = work_beside(rt, &run, pace, 0, host, benches);
+    let Ended { host, dones, left } = work_beside(rt, &run, pace, 0, host, engines);
     let report = heap.close(host);
     Ok(StackOutcome {
         done: dones?,

@@ -10,7 +10,7 @@ use crate::jobs::{Done, Job};
 use crate::points::Point;
 use crossbeam_utils::Backoff;
 use mk_caller::Caller;
-use mk_cycle::{Bench, Engine};
+use mk_cycle::Engine;
 use mk_run::answer_now;
 use mk_words::Held;
 use std::sync::Wait;
@@ -24,12 +24,12 @@ pub struct Full;
 fn go<E: Engine, R: Threads + Wait + Sync>(
     rt: &R,
     caller: &mut Caller,
-    bench: &mut Bench<E>,
+    engine: &mut E,
     from: Point,
 ) -> Point
-    requires ready { IsReadyForJobs E.made_for caller.old bench.old }
+    requires ready { IsReadyForJobs E.made_for caller.old engine.old }
     requires holds { HoldsAt (value_of caller.old.pass) from }
-    ensures ready { IsReadyForJobs E.made_for caller.new bench.new }
+    ensures ready { IsReadyForJobs E.made_for caller.new engine.new }
     ensures goes { GoesToPoint caller.old.pass from caller.new.pass result }
     ensures goal { IsGoal result }
 {
@@ -40,7 +40,7 @@ fn go<E: Engine, R: Threads + Wait + Sync>(
             return point;
         };
         caller.is_idle();
-        let answer = answer_now(rt, caller, bench, op);
+        let answer = answer_now(rt, caller, engine, op);
         caller.is_idle();
         match answer {
             Ok(told) => point = next_point(point, told),
@@ -52,16 +52,12 @@ fn go<E: Engine, R: Threads + Wait + Sync>(
 
 /// Makes the top of the stack, and stores it in global 0. Where it finds no room, each push is full and each pop finds
 /// nothing. It is for the first caller alone, before its jobs.
-pub fn found_stack<E: Engine, R: Threads + Wait + Sync>(
-    rt: &R,
-    caller: &mut Caller,
-    bench: &mut Bench<E>,
-)
-    requires ready { IsReadyForJobs E.made_for caller.old bench.old }
-    ensures ready { IsReadyForJobs E.made_for caller.new bench.new }
+pub fn found_stack<E: Engine, R: Threads + Wait + Sync>(rt: &R, caller: &mut Caller, engine: &mut E)
+    requires ready { IsReadyForJobs E.made_for caller.old engine.old }
+    ensures ready { IsReadyForJobs E.made_for caller.new engine.new }
     ensures founds { GoesToPoint caller.old.pass Point.Founding caller.new.pass Point.Founded }
 {
-    let _founded = go(rt, caller, bench, Point::Founding);
+    let _founded = go(rt, caller, engine, Point::Founding);
 }
 
 /// Sets a register to null, when the job has ended. As long as a register points to a freed node, the heap keeps that
@@ -100,15 +96,15 @@ fn other_node(job: Job) -> u8
 pub fn do_job<E: Engine, R: Threads + Wait + Sync>(
     rt: &R,
     caller: &mut Caller,
-    bench: &mut Bench<E>,
+    engine: &mut E,
     job: Job,
 ) -> Done
-    requires ready { IsReadyForJobs E.made_for caller.old bench.old }
-    ensures ready { IsReadyForJobs E.made_for caller.new bench.new }
+    requires ready { IsReadyForJobs E.made_for caller.old engine.old }
+    ensures ready { IsReadyForJobs E.made_for caller.new engine.new }
     ensures does { DoesJob caller.old.pass job result caller.new.pass }
     ensures fit { IsFit job result }
 {
-    let Point::Ended(done) = go(rt, caller, bench, Point::Starting(job)) else {
+    let Point::Ended(done) = go(rt, caller, engine, Point::Starting(job)) else {
         unreachable!()
     };
     forget(rt, caller, UPPERMOST);
@@ -120,15 +116,15 @@ pub fn do_job<E: Engine, R: Threads + Wait + Sync>(
 pub fn push<E: Engine, R: Threads + Wait + Sync>(
     rt: &R,
     caller: &mut Caller,
-    bench: &mut Bench<E>,
+    engine: &mut E,
     n: u64,
 ) -> Result<(), Full>
-    requires ready { IsReadyForJobs E.made_for caller.old bench.old }
-    ensures ready { IsReadyForJobs E.made_for caller.new bench.new }
+    requires ready { IsReadyForJobs E.made_for caller.old engine.old }
+    ensures ready { IsReadyForJobs E.made_for caller.new engine.new }
     ensures pushed { OnOk result (DoesJob caller.old.pass (Job.Push n) Done.Pushed caller.new.pass) }
     ensures full { OnErr result (DoesJob caller.old.pass (Job.Push n) Done.Full caller.new.pass) }
 {
-    match do_job(rt, caller, bench, Job::Push(n)) {
+    match do_job(rt, caller, engine, Job::Push(n)) {
         Done::Pushed => Ok(()),
         _ => Err(Full),
     }
@@ -138,13 +134,13 @@ pub fn push<E: Engine, R: Threads + Wait + Sync>(
 pub fn pop<E: Engine, R: Threads + Wait + Sync>(
     rt: &R,
     caller: &mut Caller,
-    bench: &mut Bench<E>,
+    engine: &mut E,
 ) -> Option<u64>
-    requires ready { IsReadyForJobs E.made_for caller.old bench.old }
-    ensures ready { IsReadyForJobs E.made_for caller.new bench.new }
+    requires ready { IsReadyForJobs E.made_for caller.old engine.old }
+    ensures ready { IsReadyForJobs E.made_for caller.new engine.new }
     ensures does { DoesJob caller.old.pass Job.Pop (popped result) caller.new.pass }
 {
-    match do_job(rt, caller, bench, Job::Pop) {
+    match do_job(rt, caller, engine, Job::Pop) {
         Done::Popped(n) => Some(n),
         _ => None,
     }

@@ -4,10 +4,10 @@ ghost use Rattle.std.specs.Thread.{IsSync};
 ghost use denote.Param.Send.{IsSend};
 ghost use Rattle.mk_core.specs.declared.events.Seat.TheVariants as seat;
 ghost use Rattle.mk_words.specs.Seats.{Has, has_over};
-ghost use Rattle.mk_stack.specs.Benches.{AreBenchesFrom, AreBenchesOf};
+ghost use Rattle.mk_stack.specs.Engines.{AreEnginesFrom, AreEnginesOf};
 ghost use Rattle.mk_stack.specs.Joining.{HasHandedOut, HaveEnded, HaveFoundedAndWorked, IsReader, ReadsStack};
 
-use crate::benches::{Benches, CallerBenches};
+use crate::engines::{CallerEngines, Engines};
 use crate::job_lists::Dones;
 use crate::joining::{Callers, Joined, run_from};
 use crate::shared::Run;
@@ -35,19 +35,19 @@ fn found_and_work<E: Engine + Send, P: Pace + Sync, R: Threads + Wait + Sync>(
     run: &Run,
     pace: &P,
     mut host: Host,
-    mut benches: CallerBenches<E>,
+    mut engines: CallerEngines<E>,
 ) -> Joined
     requires shared { IsSync R.row × IsSync P.row × IsSend E.row }
     requires host { HasHandedOut run.now.heap.now host.markers 0 host }
-    requires benches { AreBenchesFrom E.made_for run.now.heap.now 0 benches }
+    requires engines { AreEnginesFrom E.made_for run.now.heap.now 0 engines }
     ensures worked { HaveFoundedAndWorked run.now.heap.now host.markers run.now.lists.now result }
 {
     let mut first = host.caller(run.heap);
     first.is_idle();
-    found_stack(rt, &mut first, &mut benches.first);
+    found_stack(rt, &mut first, &mut engines.first);
     first.is_idle();
     let pass = first.finish();
-    run_from(rt, run, pace, 0, host, Callers { pass, benches })
+    run_from(rt, run, pace, 0, host, Callers { pass, engines })
 }
 
 /// Has the first caller read what is left on the stack, when all callers are joined.
@@ -72,17 +72,17 @@ pub(crate) fn work<E: Engine + Send, P: Pace + Sync, R: Threads + Wait + Sync>(
     run: &Run,
     pace: &P,
     host: Host,
-    benches: Benches<E>,
+    engines: Engines<E>,
 ) -> Ended
     requires shared { IsSync R.row × IsSync P.row × IsSend E.row }
     requires host { HasHandedOut run.now.heap.now host.markers 0 host }
-    requires benches { AreBenchesOf E.made_for run.now.heap.now benches }
+    requires engines { AreEnginesOf E.made_for run.now.heap.now engines }
     ensures ended { HaveEnded run.now.heap.now host.markers run.now.lists.now result }
 {
-    let Benches {
+    let Engines {
         callers,
         host: mut own,
-    } = benches;
+    } = engines;
     let Joined { mut host, dones } = found_and_work(rt, run, pace, host, callers);
     let left = read_left(rt, run, &mut host);
     host.over(rt, run.heap, &mut own);

@@ -5,14 +5,15 @@ ghost use Rattle.mk_cycle.specs.EngineLaw.{IsFreeForCycle, IsAtPhase};
 ghost use Rattle.mk_sweep.specs.SweepCycle.{HasMarkers, MakesWholeCycle, ReleasesUnswept};
 
 use crate::cycles::sweep_cycle;
-use mk_cycle::{Bench, Released};
+use crate::sweep_engine::SweepEngine;
+use mk_cycle::{Engine, Released};
 use mk_never::NoMemory;
 use mk_words::{Turn, Words};
 use std::alloc::Global;
 use std::sync::Wait;
 use std::thread::Threads;
 
-/// Makes a whole cycle with a bench of its own.
+/// Makes a whole cycle with an engine of its own.
 pub(crate) fn sweep_alone<R: Threads + Wait + Sync>(
     rt: &R,
     alloc: Global,
@@ -26,6 +27,6 @@ pub(crate) fn sweep_alone<R: Threads + Wait + Sync>(
     ensures cycle { IfOk result (λ made. MakesWholeCycle turn.pass made.0.pass made.1) }
     ensures unswept { IfOk result (λ made. ReleasesUnswept turn.pass made.0.pass) }
 {
-    let mut bench = Bench::new(alloc, words.pages())?;
-    Ok(sweep_cycle(rt, words, turn, &mut bench))
+    let mut engine = SweepEngine::make(alloc, words.pages())?;
+    Ok(sweep_cycle(rt, words, turn, &mut engine))
 }

@@ -4,7 +4,7 @@ ghost use Rattle.mk_cycle.specs.EngineLaw.{IsFreeForCycle, IsAtPhase};
 ghost use Rattle.mk_sweep.specs.SweepCycle.{HasMarkers, MakesWholeCycle, ReleasesUnswept};
 
 use crate::sweep_engine::SweepEngine;
-use mk_cycle::{Bench, Engine, Released, begin_cycle, finish_cycle};
+use mk_cycle::{Engine, Released, begin_cycle, finish_cycle};
 use mk_words::{Turn, Words};
 use std::sync::Wait;
 use std::thread::Threads;
@@ -15,23 +15,23 @@ pub fn sweep_cycle<R: Threads + Wait + Sync>(
     rt: &R,
     words: &Words,
     turn: Turn,
-    bench: &mut Bench<SweepEngine>,
+    engine: &mut SweepEngine,
 ) -> (Turn, Released)
     requires one_table { turn.pass.table ≡ words.now }
-    requires made_for { ⟦<SweepEngine as Engine>⟧.made_for bench.old.engine ≡ words.now.config.pages }
+    requires made_for { ⟦<SweepEngine as Engine>⟧.made_for engine.old ≡ words.now.config.pages }
     requires phase { IsAtPhase turn.pass 0 }
     requires free { IsFreeForCycle turn.pass }
     requires markers { HasMarkers turn.pass.seats }
     ensures op { result.0.op ≡ turn.op }
-    ensures made_for { ⟦<SweepEngine as Engine>⟧.made_for bench.new.engine
-        ≡ ⟦<SweepEngine as Engine>⟧.made_for bench.old.engine }
+    ensures made_for { ⟦<SweepEngine as Engine>⟧.made_for engine.new
+        ≡ ⟦<SweepEngine as Engine>⟧.made_for engine.old }
     ensures cycle { MakesWholeCycle turn.pass result.0.pass result.1 }
     ensures unswept { ReleasesUnswept turn.pass result.0.pass }
 {
     turn.is_in_order();
     let mut turn = turn;
-    begin_cycle(rt, words, &mut turn, bench);
-    let (turn, released) = finish_cycle(rt, words, turn, bench);
+    begin_cycle(rt, words, &mut turn, engine);
+    let (turn, released) = finish_cycle(rt, words, turn, engine);
     turn.is_in_order();
     (turn, released)
 }

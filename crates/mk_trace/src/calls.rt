@@ -18,7 +18,7 @@ use crate::settling::settle;
 use crate::trace::TraceEvent;
 use mk_check::is_refusal;
 use mk_core::{Answer, Word};
-use mk_cycle::{Bench, Engine};
+use mk_cycle::Engine;
 use mk_heap::{Heap, Host};
 use mk_never::{NoMemory, Op};
 use mk_run::answer_to;
@@ -31,14 +31,14 @@ fn call<E: Engine, R: Threads + Wait + Sync>(
     rt: &R,
     heap: &Heap,
     host: &mut Host,
-    bench: &mut Bench<E>,
+    engine: &mut E,
     op: Op,
 ) -> Answer
     requires home { CallerIsHome heap.now host.old }
     requires admitted { MayCome heap.now.config host.old.pass.seen op }
-    requires made_for { E.made_for bench.old.engine ≡ heap.now.config.pages }
+    requires made_for { E.made_for engine.old ≡ heap.now.config.pages }
     ensures home { CallerIsHome heap.now host.new }
-    ensures made_for { E.made_for bench.new.engine ≡ E.made_for bench.old.engine }
+    ensures made_for { E.made_for engine.new ≡ E.made_for engine.old }
     ensures calls { Calls heap.now.config host.old.pass.seen op result host.new.pass.seen }
     ensures held { HoldsMostAtEnd heap.now.config host.old.pass.seen host.new.pass.seen }
     ensures ends { E.on ≡ false → EndsTell heap.now.config host.old.pass.seen host.new.pass.seen }
@@ -51,7 +51,7 @@ fn call<E: Engine, R: Threads + Wait + Sync>(
 {
     let mut caller = host.caller_again(heap, 0);
     caller.is_idle();
-    let answer = answer_to(rt, &mut caller, bench, op);
+    let answer = answer_to(rt, &mut caller, engine, op);
     caller.is_idle();
     host.join_caller(heap, caller.finish());
     host.is_in_order();
@@ -66,7 +66,7 @@ fn answer<E: Engine, R: Threads + Wait + Sync>(
     alloc: Global,
     heap: &Heap,
     host: &mut Host,
-    bench: &mut Bench<E>,
+    engine: &mut E,
     ledger: &mut Ledger,
     slot: u64,
     op: Op,
@@ -79,12 +79,12 @@ fn answer<E: Engine, R: Threads + Wait + Sync>(
     requires idle { IsBetweenCycles heap.now.config host.old.pass.seen }
     requires few { ends host.old.pass.seen < 18446744073709551615 }
     requires admitted { MayCome heap.now.config host.old.pass.seen op }
-    requires made_for { E.made_for bench.old.engine ≡ heap.now.config.pages }
+    requires made_for { E.made_for engine.old ≡ heap.now.config.pages }
     requires held { ledger.old.held ≡ most_held heap.now.config host.old.pass.seen }
     requires keeps { Keeps heap.now.config host.old.pass.seen ledger.old.freed }
     ensures home { CallerIsHome heap.now host.new }
     ensures idle { IsBetweenCycles heap.now.config host.new.pass.seen }
-    ensures made_for { E.made_for bench.new.engine ≡ E.made_for bench.old.engine }
+    ensures made_for { E.made_for engine.new ≡ E.made_for engine.old }
     ensures calls { IfOk result (λ told. Calls heap.now.config host.old.pass.seen op told host.new.pass.seen) }
     ensures held { IfOk result (λ told. ledger.new.held ≡ most_held heap.now.config host.new.pass.seen) }
     ensures ends { IfOk result (λ told. ends host.new.pass.seen ≤ ends host.old.pass.seen + 1) }
@@ -94,7 +94,7 @@ fn answer<E: Engine, R: Threads + Wait + Sync>(
     if is_under_turn(op) {
         let freed = object_to_free(rt, heap, host, slot, op);
         host.is_in_order();
-        let told = call(rt, heap, host, bench, op);
+        let told = call(rt, heap, host, engine, op);
         host.is_in_order();
         let now = look(rt, heap, host, Word::Held);
         ledger.held = ledger.held.max(now);
@@ -102,7 +102,7 @@ fn answer<E: Engine, R: Threads + Wait + Sync>(
         settle(rt, alloc, heap, host, &mut ledger.freed)?;
         Ok(told)
     } else {
-        Ok(call(rt, heap, host, bench, op))
+        Ok(call(rt, heap, host, engine, op))
     }
 }
 
@@ -112,7 +112,7 @@ pub(crate) fn refuses<E: Engine, R: Threads + Wait + Sync>(
     alloc: Global,
     heap: &Heap,
     host: &mut Host,
-    bench: &mut Bench<E>,
+    engine: &mut E,
     ledger: &mut Ledger,
     event: TraceEvent,
 ) -> Result<bool, NoMemory>
@@ -124,12 +124,12 @@ pub(crate) fn refuses<E: Engine, R: Threads + Wait + Sync>(
     requires few { ends host.old.pass.seen + 6 < 18446744073709551615 }
     requires admitted { MayBePlayed heap.now.config host.old.pass.seen event }
     requires frees { FreesItsSlot (never_behind heap.now.config host.old.pass.seen) event }
-    requires made_for { E.made_for bench.old.engine ≡ heap.now.config.pages }
+    requires made_for { E.made_for engine.old ≡ heap.now.config.pages }
     requires held { ledger.old.held ≡ most_held heap.now.config host.old.pass.seen }
     requires keeps { Keeps heap.now.config host.old.pass.seen ledger.old.freed }
     ensures home { CallerIsHome heap.now host.new }
     ensures idle { IsBetweenCycles heap.now.config host.new.pass.seen }
-    ensures made_for { E.made_for bench.new.engine ≡ E.made_for bench.old.engine }
+    ensures made_for { E.made_for engine.new ≡ E.made_for engine.old }
     ensures plays { IfOk result (λ refused.
         PlaysEvent heap.now.config host.old.pass.seen event refused host.new.pass.seen) }
     ensures held { IfOk result (λ refused. ledger.new.held ≡ most_held heap.now.config host.new.pass.seen) }
@@ -138,11 +138,11 @@ pub(crate) fn refuses<E: Engine, R: Threads + Wait + Sync>(
     ensures keeps { IfOk result (λ refused. Keeps heap.now.config host.new.pass.seen ledger.new.freed) }
 {
     let slot = event.slot();
-    let first = answer(rt, alloc, heap, host, bench, ledger, slot, first_op(event))?;
+    let first = answer(rt, alloc, heap, host, engine, ledger, slot, first_op(event))?;
     let mut refused = is_refusal(first);
     let ops = later_ops(alloc, is_full_answer(first), event)?;
     for op in ops.iter() {
-        let later = answer(rt, alloc, heap, host, bench, ledger, slot, *op)?;
+        let later = answer(rt, alloc, heap, host, engine, ledger, slot, *op)?;
         let also = is_refusal(later);
         refused |= also;
     }

@@ -15,7 +15,7 @@ use crate::ledger::Ledger;
 use crate::peaks::Peaks;
 use crate::trace::Trace;
 use mk_core::Config;
-use mk_cycle::{Bench, Engine};
+use mk_cycle::Engine;
 use mk_engines::StopEngine;
 use mk_heap::{Heap, Host};
 use mk_never::NoMemory;
@@ -54,7 +54,7 @@ fn play_events<E: Engine, R: Threads + Wait + Sync>(
     heap: &Heap,
     trace: &Trace,
     host: &mut Host,
-    bench: &mut Bench<E>,
+    engine: &mut E,
     ledger: &mut Ledger,
 ) -> Result<u64, NoMemory>
     requires config { heap.now.config ≡ spec.config_of trace.now }
@@ -64,7 +64,7 @@ fn play_events<E: Engine, R: Threads + Wait + Sync>(
     requires idle { IsBetweenCycles heap.now.config host.old.pass.seen }
     requires none_ended { ends host.old.pass.seen ≡ 0 }
     requires no_call { SameCalls heap.now.config [] host.old.pass.seen }
-    requires made_for { E.made_for bench.old.engine ≡ heap.now.config.pages }
+    requires made_for { E.made_for engine.old ≡ heap.now.config.pages }
     requires held { ledger.old.held ≡ most_held heap.now.config host.old.pass.seen }
     requires keeps { Keeps heap.now.config host.old.pass.seen ledger.old.freed }
     ensures home { CallerIsHome heap.now host.new }
@@ -77,7 +77,7 @@ fn play_events<E: Engine, R: Threads + Wait + Sync>(
     let mut refused = 0;
     for event in events {
         host.is_in_order();
-        let is_refused = refuses(rt, alloc, heap, host, bench, ledger, *event)?;
+        let is_refused = refuses(rt, alloc, heap, host, engine, ledger, *event)?;
         refused = with_refusal(refused, is_refused);
     }
     Ok(refused)
@@ -95,10 +95,10 @@ fn play_by<E: Engine, R: Threads + Wait + Sync>(
     ensures peaks { IfOk result (λ peaks. ArePeaks trace.now (history_of peaks) peaks) }
 {
     let config = config_of(alloc, trace)?;
-    let mut bench: Bench<E> = Bench::new(alloc, config.pages)?;
+    let mut engine = E::make(alloc, config.pages)?;
     let (heap, mut host) = opened(alloc, &config)?;
     let mut ledger = Ledger::new(alloc);
-    let refused = play_events(rt, alloc, &heap, trace, &mut host, &mut bench, &mut ledger)?;
+    let refused = play_events(rt, alloc, &heap, trace, &mut host, &mut engine, &mut ledger)?;
     let held = ledger.held_at_most();
     let report = heap.close(host);
     Ok(Peaks {

@@ -43,10 +43,10 @@ returns-then-is_in-clause-takes g c =
       ends = ends_one p q c.finish_cycle.result.0.pass c.look-found.result f on c.finish_cycle.ensures.law;
     }
 
-pub returns-then-is_in-clause-bench : goal.returns-then-is_in-clause-bench
-returns-then-is_in-clause-bench g c callers none =
+pub returns-then-is_in-clause-engine : goal.returns-then-is_in-clause-engine
+returns-then-is_in-clause-engine g c callers none =
     let p : PassState = c.take_turn-turn.result.pass in
-    let h = hosts g (goal.at.returns-then-is_in-clause-bench g c).After-look-found in
+    let h = hosts g (goal.at.returns-then-is_in-clause-engine g c).After-look-found in
     let own = subst (λ (s : Seat). Has c.args.home.seats s) c.requires.seat c.is_in_order.ensures.own in
     let found = phase_found p _ c.look-found.result h.turn c.look-found.ensures.finds in
     let zero : c.look-found.result % 8 ≡ 0 =

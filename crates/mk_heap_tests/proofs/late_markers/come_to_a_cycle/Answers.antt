@@ -46,4 +46,4 @@ mark_beside-requires-clause-ty g c κs within =
 
 pub mark_beside-requires-clause-made_for : goal.mark_beside-requires-clause-made_for
 mark_beside-requires-clause-made_for g c κs within =
-    c.in_ok-bench.ensures.engine ∙ sym (ap (λ (d : Config). d.pages) c.in_ok-words.ensures.config)
+    c.in_ok-engine.ensures ∙ sym (ap (λ (d : Config). d.pages) c.in_ok-words.ensures.config)

@@ -29,7 +29,7 @@ new-caller-requires-clause-idle g c = c.requires.caller.idle
 pub make-requires-clause-may : goal.make-requires-clause-may
 make-requires-clause-may g c κs within =
     let one = c.requires.one in
-    may_at_first c.args.words.now 0 (g.E.Engine.made_for c.args.bench.now.engine)
+    may_at_first c.args.words.now 0 (g.E.Engine.made_for c.args.engine.now)
     c.args.caller c.new-caller.result c.requires.caller c.new-caller.ensures (omega arith) c.requires.ty
     c.requires.made_for
 

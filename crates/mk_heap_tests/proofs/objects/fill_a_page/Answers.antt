@@ -19,7 +19,7 @@ fill_and_free-answers-requires-clause-first g c κs within =
       ready = ready_at_first h s (ap (λ (x : HostState). x.pass.seen) c.in_ok-heap.ensures.host) (omega arith)
           c.caller-first.ensures.caller;
       ty = subst (λ (d : Config). 0 < length d.types) (sym at) c.requires.ty;
-      engine = c.in_ok-bench.ensures.engine ∙ sym (ap (λ (d : Config). d.pages) at);
+      engine = c.in_ok-engine.ensures ∙ sym (ap (λ (d : Config). d.pages) at);
     }
 
 pub fill_and_free-answers-requires-clause-second : goal.fill_and_free-answers-requires-clause-second

@@ -6,7 +6,7 @@ use Rattle.mk_heap_tests.proofs.objects.fill_and_free.Goals as goal
 pub make_eight-once-requires-clause-may : goal.make_eight-once-requires-clause-may
 make_eight-once-requires-clause-may g c κs within =
     let a = c.make_eight_thrice-three_times in
-    may_at (g.E.Engine.made_for a.new.bench.engine) a.new.caller c.args.second.now
+    may_at (g.E.Engine.made_for a.new.engine) a.new.caller c.args.second.now
     a.ensures.may
     (c.requires.one_table ∙ sym (ap (λ (p : PassState). p.table) a.ensures.same)) c.requires.second
 
@@ -14,7 +14,7 @@ pub make-one_more_fits-requires-clause-may : goal.make-one_more_fits-requires-cl
 make-one_more_fits-requires-clause-may g c κs within =
     let a = c.make_eight_thrice-three_times in
     let b = c.make_eight-once in
-    may_at (g.E.Engine.made_for b.new.bench.engine) b.new.caller a.new.caller b.ensures.may
+    may_at (g.E.Engine.made_for b.new.engine) b.new.caller a.new.caller b.ensures.may
     (ap (λ (p : PassState). p.table) a.ensures.same ∙ sym c.requires.one_table
     ∙ sym (ap (λ (p : PassState). p.table) b.ensures.same)) a.ensures.may.ready
 
@@ -26,7 +26,7 @@ free-ninth-requires-clause-may g c κs within =
     let f = c.free_eight-eight_undue in
     let same = same_then c.args.first.now a.new.caller f.new.caller a.ensures.same
     (same_then a.new.caller m.new.caller f.new.caller m.ensures.same f.ensures.same) in
-    may_at (g.E.Engine.made_for f.new.bench.engine) f.new.caller b.new.caller f.ensures.may
+    may_at (g.E.Engine.made_for f.new.engine) f.new.caller b.new.caller f.ensures.may
     (ap (λ (p : PassState). p.table) b.ensures.same ∙ c.requires.one_table
     ∙ sym (ap (λ (p : PassState). p.table) same)) b.ensures.may.ready
 

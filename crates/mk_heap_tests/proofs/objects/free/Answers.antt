@@ -21,7 +21,7 @@ returns-clause-may g c =
     let f = c.free_object in
     let made_for = g.E.Engine.made_for in
     let s = c.args.caller.now in
-    may_then (made_for c.args.bench.now.engine) (made_for f.new.bench.engine)
+    may_then (made_for c.args.engine.now) (made_for f.new.engine)
     s f.new.caller c.requires.may f.ensures.made_for
     (same_free g.E.Engine.on c.args.p s f.new.caller f.result f.ensures.freed f.ensures.double)
     (ready_free g.E.Engine.on c.args.p s f.new.caller f.result c.requires.may.ready f.ensures.home f.ensures.freed

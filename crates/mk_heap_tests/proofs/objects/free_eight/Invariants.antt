@@ -4,6 +4,6 @@ use Rattle.mk_heap_tests.proofs.objects.free_eight.Given as goal
 
 abbrev pub invariant-loop-p : goal.invariant-loop-p
 invariant-loop-p g l = record {
-  may : MayAllocate (g.E.Engine.made_for l.bench.engine) l.caller;
+  may : MayAllocate (g.E.Engine.made_for l.engine) l.caller;
   same : l.caller.pass ≡ record l.fn.caller.pass { seen = l.caller.pass.seen };
 }

@@ -21,7 +21,7 @@ returns-clause-may g c =
     let n = c.new_object in
     let made_for = g.E.Engine.made_for in
     let s = c.args.caller.now in
-    may_then (made_for c.args.bench.now.engine) (made_for n.new.bench.engine)
+    may_then (made_for c.args.engine.now) (made_for n.new.engine)
     s n.new.caller c.requires.may n.ensures.made_for
     (same_new g.E.Engine.on c.args.d 0 s n.new.caller n.result n.ensures.made n.ensures.full)
     (ready_new g.E.Engine.on c.args.d 0 s n.new.caller n.result c.requires.may.ready c.requires.register n.ensures.home

@@ -10,11 +10,11 @@ make_eight_thrice-three_times-requires-clause-may g c κs within =
     let h : HostState = c.in_ok-heap.host in
     let s : CallerState = c.caller-first.result in
     let two : w.config.callers ≡ 2 = ap (λ (d : Config). d.callers) c.in_ok-heap.ensures.config ∙ c.requires.two in
-    may_at_first w 0 (g.E.Engine.made_for c.in_ok-bench.bench.engine) s.pass s
+    may_at_first w 0 (g.E.Engine.made_for c.in_ok-engine.engine) s.pass s
     (first_of w h s s.pass c.in_ok-heap.ensures.host c.caller-first.ensures.caller refl c.is_idle.ensures.idle)
     (home_at_first h s c.caller-first.ensures.caller) (omega arith)
     (subst (λ (d : Config). 0 < length d.types) (sym c.in_ok-heap.ensures.config) c.requires.ty)
-    (c.in_ok-bench.ensures.engine ∙ sym (ap (λ (d : Config). d.pages) c.in_ok-heap.ensures.config))
+    (c.in_ok-engine.ensures ∙ sym (ap (λ (d : Config). d.pages) c.in_ok-heap.ensures.config))
 
 pub make_eight-once-requires-clause-may : goal.make_eight-once-requires-clause-may
 make_eight-once-requires-clause-may g c κs within =
@@ -32,7 +32,7 @@ make_eight-once-requires-clause-may g c κs within =
     let two : h.pass.table.config.callers ≡ 2 =
     ap (λ (v : WordsState). v.config.callers) table ∙ ap (λ (d : Config). d.callers) c.in_ok-heap.ensures.config
     ∙ c.requires.two in
-    may_at (g.E.Engine.made_for c.make_eight_thrice-three_times.new.bench.engine)
+    may_at (g.E.Engine.made_for c.make_eight_thrice-three_times.new.engine)
     s t c.make_eight_thrice-three_times.ensures.may
     (ap (λ (x : CallerState). x.pass.table) c.caller-second.ensures.caller ∙ table
     ∙ sym (ap (λ (x : PassState). x.table) c.make_eight_thrice-three_times.ensures.same

@@ -10,14 +10,14 @@ over-requires-clause-joined g c κs within =
 
 pub returns-clause-still : goal.returns-clause-still
 returns-clause-still g c =
-    still_behind_both (g.E.Engine.tells c.cycle.new.bench.engine) c.args.heap.now c.args.host.now c.cycle.new.self
+    still_behind_both (g.E.Engine.tells c.cycle.new.engine) c.args.heap.now c.args.host.now c.cycle.new.self
     c.over.new.self c.requires.seat c.cycle.ensures.host c.cycle.ensures.cycle c.over.ensures.over
 
 pub returns-clause-turns : goal.returns-clause-turns
 returns-clause-turns g c =
-    let same = c.over.ensures.bench c.cycle.ensures.idle in
-    subst (λ bench. TakesLastTurns (g.E.Engine.tells bench.engine) c.args.heap.now c.over.new.self.pass) (sym same)
-    (last_turns (g.E.Engine.tells c.cycle.new.bench.engine) c.args.heap.now c.args.host.now c.cycle.new.self
+    let same = c.over.ensures.engine c.cycle.ensures.idle in
+    subst (λ engine. TakesLastTurns (g.E.Engine.tells engine) c.args.heap.now c.over.new.self.pass) (sym same)
+    (last_turns (g.E.Engine.tells c.cycle.new.engine) c.args.heap.now c.args.host.now c.cycle.new.self
     c.over.new.self c.requires.seat c.cycle.ensures.host c.cycle.ensures.cycle c.over.ensures.over
     c.requires.one_table c.requires.callers c.cycle.ensures.own c.over.ensures.host)
 

@@ -40,7 +40,7 @@ returns-clause-over g t c =
 
 pub returns-clause-turns : goal.returns-clause-turns
 returns-clause-turns g t c asked =
-    last_turns_joined (g.E.Engine.tells c.join-pass.result.1.bench.engine) c.args.run.now.heap.now
+    last_turns_joined (g.E.Engine.tells c.join-pass.result.1.engine) c.args.run.now.heap.now
     c.join-pass.result.1.joined.host c.join_marker.new.self c.join-pass.result.0 c.join_marker.ensures.host
     c.join_marker.ensures.own (c.join-pass.ensures.second.1.0 asked)
 

@@ -32,7 +32,7 @@ returns-clause-runs g c =
 
 pub returns-clause-cycle : goal.returns-clause-cycle
 returns-clause-cycle g c asked =
-    run_ends_with_cycle (g.E.Engine.tells c.run_beside-joined.result.bench.engine)
+    run_ends_with_cycle (g.E.Engine.tells c.run_beside-joined.result.engine)
     (config_of c.args.program.now c.args.markers) c.in_ok-heap.heap c.run_beside-joined.result.joined.host.pass
     c.close-report.result (c.in_ok-heap.ensures.config ∙ c.in_ok-config.ensures.config)
     (c.run_beside-joined.ensures.turns asked) c.close-report.ensures.history c.close-report.ensures.config

@@ -91,7 +91,7 @@ answer_put_off-answer-requires-clause-alone g c κs within =
 pub answer_put_off-answer-requires-clause-made_for : goal.answer_put_off-answer-requires-clause-made_for
 answer_put_off-answer-requires-clause-made_for g c κs within =
     let x = goal.at.answer_put_off-answer-requires-clause-made_for g c in
-    c.instructions.invariant.made_for ∙ c.requires.ready.bench.engine
+    c.instructions.invariant.made_for ∙ c.requires.ready.engine
     ∙ ap (λ (q : PassState). q.table.config.pages) (sym (put_off g x.In-None))
 
 pub instructions-smaller : goal.instructions-smaller
@@ -115,8 +115,8 @@ instructions-preserved g c =
       home = j.home;
       running = on;
       made_for = elim c.match-answer_at_once.branch [
-        | in-Some-answer_at_once w ↦ rw w.bench-is c.instructions.invariant.made_for
-        | in-None w ↦ rw w.bench-is (w.answer_put_off-answer.ensures.made_for
+        | in-Some-answer_at_once w ↦ rw w.engine-is c.instructions.invariant.made_for
+        | in-None w ↦ rw w.engine-is (w.answer_put_off-answer.ensures.made_for
             ∙ c.instructions.invariant.made_for)
       ];
       refused = refused_within program k (answers_in p.table.config k r.seen) after on.fed;

@@ -7,7 +7,7 @@ abbrev pub invariant-instructions : goal.invariant-instructions
 invariant-instructions g l = record {
   home : l.caller.home ≡ true;
   running : IsRunning g.E.Engine.on l.fn.program l.fn.k l.fn.caller.pass l.caller.pass (script_of l.feed l.counts);
-  made_for : g.E.Engine.made_for l.bench.engine ≡ g.E.Engine.made_for l.fn.ready.bench.engine;
+  made_for : g.E.Engine.made_for l.engine ≡ g.E.Engine.made_for l.fn.ready.engine;
   refused : l.counts.refused ≤ l.counts.ops;
   reached : g.E.Engine.sweeps ≡ false → SweepsNothing l.fn.caller.pass l.caller.pass;
   begun : EachIsBegun g.E.Engine.begins l.fn.caller.pass l.caller.pass;

@@ -5,6 +5,6 @@ use Rattle.mk_stack.proofs.job_lists.run_jobs.Given as goal
 
 abbrev pub invariant-loop-index : goal.invariant-loop-index
 invariant-loop-index g l = record {
-  ready : IsReadyForJobs g.E.Engine.made_for l.caller l.bench;
+  ready : IsReadyForJobs g.E.Engine.made_for l.caller l.engine;
   does : DoesJobs l.fn.caller.pass (take l.index l.jobs) l.list.items l.caller.pass;
 }

@@ -2,7 +2,6 @@ use Rattle.std.proofs.{Common.IfSome, Common.Ok, Common.length-drop, Common.rule
 use Rattle.mk_stack.proofs.Vocabulary.{HasHandedOut, HaveWorked, HostState, Jobs, Joined, Replied, replied_to}
 use Rattle.mk_laws.proofs.Vocabulary.{List, Option, Some, ap, arith, drop, length, subst, sym, [], ◌+◌, ◌-◌, ◌<◌, ◌∙◌}
 use Rattle.mk_laws.proofs.Vocabulary.{◌≡◌}
-use Rattle.mk_run.specs.Benches.{IsMadeFor}
 use Rattle.mk_stack.proofs.JoinedJobs.{next_list, next_made, next_ready, next_unasked, no_lists, none_joined}
 use Rattle.mk_stack.specs.Joining.{AreCallersFrom, HasWorked, IsBetweenJobs}
 use Rattle.mk_stack.proofs.joining.+fn-run_from-join+arg3+run_from.Goals as goal
@@ -19,23 +18,23 @@ join-worked-requires-after_bounds g t c κs within =
     subst (IsBetweenJobs w (k + 1)) (sym c.finish-next_pass.ensures.pass)
     (next_ready c.caller.result c.requires.host c.caller.ensures.caller c.finish-next_pass.ensures.idle) in
     let made =
-    All-pop (λ bench. IsMadeFor g.E.Engine.made_for w.config.pages bench) c.args.callers.benches.others.items rest
-    (Some c.in-Some.second) c.in-Some.ensures.items given.benches.others in
+    All-pop (λ engine. g.E.Engine.made_for engine ≡ w.config.pages) c.args.callers.engines.others.items rest
+    (Some c.in-Some.second) c.in-Some.ensures.items given.engines.others in
     let callers : AreCallersFrom g.E.Engine.made_for w (k + 1) (record {
       pass = c.finish-next_pass.result;
-      benches = record { first = c.in-Some.second; others = c.pop.new.self };
+      engines = record { first = c.in-Some.second; others = c.pop.new.self };
     }) =
     record {
       pass = ready;
-      benches = record {
-        count = omega (arith, c.in-Some.ensures.cases, given.benches.count);
+      engines = record {
+        count = omega (arith, c.in-Some.ensures.cases, given.engines.count);
         first = made.1;
         others = made.0;
       };
     } in
-    let exists : k < w.config.callers = omega (arith, given.benches.count) in
+    let exists : k < w.config.callers = omega (arith, given.engines.count) in
     let pass : IsBetweenJobs w k c.args.callers.pass = given.pass in
-    let first : IsMadeFor g.E.Engine.made_for w.config.pages c.args.callers.benches.first = given.benches.first in
+    let first : g.E.Engine.made_for c.args.callers.engines.first ≡ w.config.pages = given.engines.first in
     let shorter : length rest < t = omega (arith, c.in-Some.ensures.cases, c.decreases) in
     search rules
 
@@ -46,7 +45,7 @@ returns g t c =
     let lists = c.args.run.now.lists.now in
     let first = replied_to c.args.callers.pass in
     let others : List Jobs = drop (k + 1) lists in
-    let list = next_list lists k (omega (arith, c.args.run.now.one_each, c.requires.callers.benches.count)) in
+    let list = next_list lists k (omega (arith, c.args.run.now.one_each, c.requires.callers.engines.count)) in
     let begun : replied_to c.finish-next_pass.result ≡ [] =
     ap replied_to c.finish-next_pass.ensures.pass
     ∙ next_unasked c.caller.result c.requires.host c.caller.ensures.caller in
@@ -74,7 +73,7 @@ returns-in_default g t c =
     let lists = c.args.run.now.lists.now in
     let first = replied_to c.args.callers.pass in
     let others : List Jobs = drop (k + 1) lists in
-    let count = c.requires.callers.benches.count in
+    let count = c.requires.callers.engines.count in
     let list = next_list lists k (omega (arith, c.args.run.now.one_each, count)) in
     let left : length others ≡ length lists - (k + 1) = length-drop (k + 1) lists in
     let none : others ≡ [] =

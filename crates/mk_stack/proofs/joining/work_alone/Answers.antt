@@ -14,7 +14,7 @@ run_jobs-dones-requires-clause-ready g c κs within =
     let made = c.new-caller.ensures in
     let pass : IsBetweenJobs w c.args.k c.new-caller.result.pass =
     subst (IsBetweenJobs w c.args.k) (sym (ap (λ (s : CallerState). s.pass) made)) c.requires.pass in
-    ready_between (ap (λ (s : CallerState). s.home) made) pass c.requires.exists c.args.run.now.types c.requires.bench
+    ready_between (ap (λ (s : CallerState). s.home) made) pass c.requires.exists c.args.run.now.types c.requires.engine
 
 pub returns : goal.returns
 returns g c =

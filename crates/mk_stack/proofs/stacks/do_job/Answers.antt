@@ -25,6 +25,6 @@ returns-clause-fit g c =
 pub returns-clause-ready : goal.returns-clause-ready
 returns-clause-ready g c =
     let ready = c.go.ensures.ready in
-    jobs_on c.go.new.bench ready c.forget-2.ensures.ready.home
+    jobs_on c.go.new.engine ready c.forget-2.ensures.ready.home
     (seen_then c.go.new.caller.pass c.forget.new.caller.pass c.forget-2.new.caller.pass c.forget.ensures.pass
     c.forget-2.ensures.pass) ready.made

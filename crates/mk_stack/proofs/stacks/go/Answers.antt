@@ -1,6 +1,6 @@
 use Rattle.mk_laws.proofs.Vocabulary.{sym, ◌∙◌}
 use Rattle.mk_stack.proofs.{Advances.advances, Advances.may_ask, AtPoints.holds_still, Going.goes_held, Going.goes_more}
-use Rattle.mk_stack.proofs.{Going.jobs_on, Going.still_made, JobGoals.is_goal, Replies.stays_held}
+use Rattle.mk_stack.proofs.{Going.jobs_on, JobGoals.is_goal, Replies.stays_held}
 use Rattle.mk_stack.proofs.stacks.go.Goals as goal
 
 pub answer_now-answer-requires-clause-admitted : goal.answer_now-answer-requires-clause-admitted
@@ -19,8 +19,8 @@ points-preserved-in-Ok g c =
     advances c.points.point c.next_point-point.ensures before.ready.ready.types c.is_idle-in-points.ensures.history (sym c.op_at.ensures ∙ c.in-Some-op_at.is) before.holds
     c.in-Ok.ensures.answers c.in-Ok.ensures.called in
     record {
-      ready = jobs_on c.answer_now-answer.new.bench before.ready c.answer_now-answer.ensures.home on.is
-          (still_made c.answer_now-answer.new.bench before.ready.made c.answer_now-answer.ensures.made_for);
+      ready = jobs_on c.answer_now-answer.new.engine before.ready c.answer_now-answer.ensures.home on.is
+          (c.answer_now-answer.ensures.made_for ∙ before.ready.made);
       goes = goes_more before.goes on;
       holds = on.holds;
     }
@@ -30,8 +30,8 @@ points-preserved g c =
     let before = c.points.invariant in
     let on = stays_held c.in-Err.ensures.held in
     record {
-      ready = jobs_on c.answer_now-answer.new.bench before.ready c.answer_now-answer.ensures.home on.is
-          (still_made c.answer_now-answer.new.bench before.ready.made c.answer_now-answer.ensures.made_for);
+      ready = jobs_on c.answer_now-answer.new.engine before.ready c.answer_now-answer.ensures.home on.is
+          (c.answer_now-answer.ensures.made_for ∙ before.ready.made);
       goes = goes_held c.answer_now-answer.new.caller.pass before.goes on;
       holds = holds_still on.registers c.points.point before.holds;
     }

@@ -4,7 +4,7 @@ use Rattle.mk_stack.proofs.stacks.go.Given as goal
 
 abbrev pub invariant-points : goal.invariant-points
 invariant-points g l = record {
-  ready : IsReadyForJobs g.E.Engine.made_for l.caller l.bench;
+  ready : IsReadyForJobs g.E.Engine.made_for l.caller l.engine;
   goes : GoesToPoint l.fn.caller.pass l.fn.from l.caller.pass l.point;
   holds : HoldsAt (value_of l.caller.pass) l.point;
 }

@@ -1,6 +1,5 @@
 use Rattle.mk_stack.proofs.Vocabulary.{CallerState, HasHandedOut, HaveWorked, HostState, WordsState, replied_to}
-use Rattle.mk_laws.proofs.Vocabulary.{ap, arith, subst, sym, ◌<◌}
-use Rattle.mk_run.specs.Benches.{IsMadeFor}
+use Rattle.mk_laws.proofs.Vocabulary.{ap, arith, subst, sym, ◌<◌, ◌≡◌}
 use Rattle.mk_stack.{proofs.EndedRuns.founds_stack, proofs.JoinedJobs.is_ready, proofs.JoinedJobs.next_made}
 use Rattle.mk_stack.{proofs.JoinedJobs.next_ready, proofs.JoinedJobs.ready_between, specs.Joining.IsBetweenJobs}
 use Rattle.mk_stack.proofs.working.found_and_work.Goals as goal
@@ -8,10 +7,10 @@ use Rattle.mk_stack.proofs.working.found_and_work.Goals as goal
 pub found_stack-requires-clause-ready : goal.found_stack-requires-clause-ready
 found_stack-requires-clause-ready g c κs within =
     let made = c.caller-first.ensures.caller in
-    let lt : 0 < c.args.run.now.heap.now.config.callers = omega (arith, c.requires.benches.count) in
+    let lt : 0 < c.args.run.now.heap.now.config.callers = omega (arith, c.requires.engines.count) in
     ready_between (ap (λ (s : CallerState). s.home) made)
     (next_ready c.caller-first.result c.requires.host made c.is_idle.ensures.idle) lt c.args.run.now.types
-    c.requires.benches.first
+    c.requires.engines.first
 
 pub run_from-requires-clause-callers : goal.run_from-requires-clause-callers
 run_from-requires-clause-callers g c κs within =
@@ -23,12 +22,12 @@ run_from-requires-clause-callers g c κs within =
     c.found_stack.ensures.founds.is c.finish-pass.ensures.idle in
     record {
       pass = subst (IsBetweenJobs w 0) (sym c.finish-pass.ensures.pass) pass;
-      benches = record {
-        count = c.requires.benches.count;
+      engines = record {
+        count = c.requires.engines.count;
         first =
-            subst (λ (v : WordsState). IsMadeFor g.E.Engine.made_for v.config.pages c.found_stack.new.bench) pass.table
+            subst (λ (v : WordsState). g.E.Engine.made_for c.found_stack.new.engine ≡ v.config.pages) pass.table
             c.found_stack.ensures.ready.made;
-        others = c.requires.benches.others;
+        others = c.requires.engines.others;
       };
     }
 

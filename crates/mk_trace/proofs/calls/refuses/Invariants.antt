@@ -8,7 +8,7 @@ abbrev pub invariant-loop-op : goal.invariant-loop-op
 invariant-loop-op g l = record {
   home : CallerIsHome l.heap l.host;
   idle : IsBetweenCycles l.heap.config l.host.pass.seen;
-  made_for : g.E.Engine.made_for l.bench.engine ≡ g.E.Engine.made_for l.fn.bench.engine;
+  made_for : g.E.Engine.made_for l.engine ≡ g.E.Engine.made_for l.fn.engine;
   held : l.ledger.held ≡ most_held l.heap.config l.host.pass.seen;
   ends : ends l.host.pass.seen ≤ ends l.fn.host.pass.seen + 1 + l.op-index;
   keeps : Keeps l.heap.config l.host.pass.seen l.ledger.freed;

@@ -7,7 +7,7 @@ use Rattle.mk_trace.proofs.playing.play_events.Given as goal
 abbrev pub invariant-loop-event : goal.invariant-loop-event
 invariant-loop-event g l = record {
   home : CallerIsHome l.heap l.host;
-  made_for : g.E.Engine.made_for l.bench.engine ≡ l.heap.config.pages;
+  made_for : g.E.Engine.made_for l.engine ≡ l.heap.config.pages;
   idle : IsBetweenCycles l.heap.config l.host.pass.seen;
   keeps : Keeps l.heap.config l.host.pass.seen l.ledger.freed;
   exact : StayExact l.heap.config l.fn.host.pass.seen l.host.pass.seen;

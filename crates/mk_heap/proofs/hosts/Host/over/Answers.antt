@@ -35,10 +35,10 @@ invariant_of-self g c =
     (moves_more _ _ _ _ said c.give-back.ensures.acts.makes)
     c.give-back.ensures.acts.makes.pass.history (given_no_turn _ _ c.give-back.ensures.acts)
 
-pub returns-clause-bench : goal.returns-clause-bench
-returns-clause-bench g c none =
+pub returns-clause-engine : goal.returns-clause-engine
+returns-clause-engine g c none =
     let view = home_view c.take_home-home.ensures c.self.view_is in
-    c.take_idle_turn-turn.ensures.bench
+    c.take_idle_turn-turn.ensures.engine
     (callers_home _ (home_is c.take_home-home.ensures c.self.invariant)
     (subst (λ (h : HostState). CallersAreJoined h) (sym view) c.requires.joined))
     (subst (λ (h : HostState). IsAtPhase h.pass 0) (sym view) none)

@@ -13,10 +13,10 @@ loop-script-preserved g c =
     let old = c.loop-script.scripts in
     let new = c.push_back.new.self in
     let invariant = c.loop-script.invariant in
-    let last : ReadyScript g.row.E.Denot = record { feed = c.in_ok-feed.feed; bench = c.in_ok-bench.bench } in
+    let last : ReadyScript g.row.E.Denot = record { feed = c.in_ok-feed.feed; engine = c.in_ok-engine.engine } in
     let is : IsReady made_for program pages (0 + length old.items) last =
     subst (λ k. IsReady made_for program pages k last) (omega (arith, invariant.count))
-    (record { feed = c.in_ok-feed.ensures; bench = record { engine = c.in_ok-bench.ensures.engine } }) in
+    (record { feed = c.in_ok-feed.ensures; engine = c.in_ok-engine.ensures }) in
     record {
       count = omega (arith, c.in_ok-push_back.ensures, invariant.count, old.ok, new.ok);
       each = λ i ready at.
@@ -31,6 +31,6 @@ returns g c = record {
       count = omega (arith, c.loop-script.invariant.count, c.loop-script.auto, c.loop-script-test);
       each = c.loop-script.invariant.each;
     };
-    host = record { engine = c.in_ok-host.ensures.engine };
+    host = c.in_ok-host.ensures;
   };
 }
