@@ -34,7 +34,8 @@ module _ {w : WordsState} {k r : ℕ} {p q : PassState} (t : IsTaken w k (Op.Fre
     pub freed_may_give : IsEnabledTo d Step.Give
     freed_may_give = give_allowed d u freed.quiet (freed.decided refl)
 
-    pub freed_back : HoldsObjects p → (b : PassState) → Makes d Step.Give b → call_of b ≡ at_rest → IsHistory b.table.config b.seen
+    pub freed_back : HoldsObjects p → (b : PassState) → Makes d Step.Give b → call_of b ≡ at_rest
+        → IsHistory b.table.config b.seen
         → IsPassOfObjects w k b
     freed_back objects b gives rests history =
         record {
@@ -53,7 +54,8 @@ module _ {w : WordsState} {k r : ℕ} {p q : PassState} (t : IsTaken w k (Op.Fre
     pub double_may_give : IsEnabledTo d Step.Give
     double_may_give = give_allowed d u double.quiet (double.decided refl)
 
-    pub double_back : HoldsObjects p → (b : PassState) → Makes d Step.Give b → call_of b ≡ at_rest → IsHistory b.table.config b.seen
+    pub double_back : HoldsObjects p → (b : PassState) → Makes d Step.Give b → call_of b ≡ at_rest
+        → IsHistory b.table.config b.seen
         → IsPassOfObjects w k b
     double_back objects b gives rests history =
         record {

@@ -1,8 +1,8 @@
 //! Placing and freeing objects under the turn.
 //!
 //! `place_object` grants an object at its first-fit place, or shows that none is there; `retire_object` frees one, or
-//! answers that it is freed already. `look_at` and `is_marking` are the looks that both begin with. Start with `placing`
-//! and `retiring`.
+//! answers that it is freed already. `look_at` and `is_marking` are the looks that both begin with. Start with
+//! `placing` and `retiring`.
 #![tactic(auto)]
 
 mod freeing;

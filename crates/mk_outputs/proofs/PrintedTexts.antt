@@ -66,7 +66,8 @@ run_is_explained program markers sweep outcome texts bytes entries runs begun un
 
 -- So a run is told, whether it is asked why objects are kept or not.
 
-pub told_why : (why : Bool) (program : List Item) (markers : ℕ) (sweep : Bool) (outcome : Outcome) (texts bytes : List ℕ)
+pub told_why : (why : Bool) (program : List Item) (markers : ℕ) (sweep : Bool) (outcome : Outcome)
+    (texts bytes : List ℕ)
     (entries : List Kept) → why ≡ true → IsRunOf (cycles_go_on markers) why program markers outcome
     → (cycles_go_on markers ≡ true
     → CyclesMarkRootsFirst (config_of program markers) (report.history_of outcome.report))
@@ -78,7 +79,8 @@ pub told_why : (why : Bool) (program : List Item) (markers : ℕ) (sweep : Bool)
 told_why why program markers sweep outcome texts bytes entries asked runs begun unswept ends are is =
     subst (λ (w : Bool). IsOutputOfRun w program markers sweep bytes) (sym asked)
     (run_is_explained program markers sweep outcome texts bytes entries
-    (subst (λ (w : Bool). IsRunOf (cycles_go_on markers) w program markers outcome) asked runs) begun unswept ends are is)
+    (subst (λ (w : Bool). IsRunOf
+    (cycles_go_on markers) w program markers outcome) asked runs) begun unswept ends are is)
 
 pub told_texts : (why : Bool) (program : List Item) (markers : ℕ) (sweep : Bool) (outcome : Outcome) (bytes : List ℕ)
     → why ≡ false → IsRunOf (cycles_go_on markers) why program markers outcome

@@ -27,8 +27,8 @@ use std::thread::Threads;
 /// The outcome of a run and, where it is asked why objects are kept, what its last cycle kept.
 pub type Ran = (Outcome, Option<Vec<Kept>>);
 
-/// The run of a program's scripts by an engine, each on a thread of its own. Where it is asked why objects are kept, the
-/// host runs one more cycle after them.
+/// The run of a program's scripts by an engine, each on a thread of its own. Where it is asked why objects are kept,
+/// the host runs one more cycle after them.
 fn run_by<E: Engine + Send, P: Pace + Sync, R: Threads + Wait + Sync>(
     rt: &R,
     alloc: Global,
@@ -54,8 +54,8 @@ fn run_by<E: Engine + Send, P: Pace + Sync, R: Threads + Wait + Sync>(
     }
 }
 
-/// The run of a program's scripts. With markers a cycle goes on beside them; without, it is made in the stop, by tracing
-/// or by a sweep.
+/// The run of a program's scripts. With markers a cycle goes on beside them; without, it is made in the stop, by
+/// tracing or by a sweep.
 pub fn outcome_of<P: Pace + Sync, R: Threads + Wait + Sync>(
     rt: &R,
     alloc: Global,

@@ -54,7 +54,8 @@ fn access(caller: &mut Caller, op: Op) -> Result<Answer, Refusal>
     }
 }
 
-/// An operation that takes no turn: one on registers and globals, or an access. Which pointer was loaded isn't reported.
+/// An operation that takes no turn: one on registers and globals, or an access. Which pointer was loaded isn't
+/// reported.
 #[inline(always)]
 pub fn call(caller: &mut Caller, op: Op) -> Result<Answer, Held>
     requires home { caller.old.home ≡ true }

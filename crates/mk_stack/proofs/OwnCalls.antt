@@ -8,7 +8,8 @@ use Rattle.mk_core.proofs.HistoryParts.{calls_in_parts}
 use Rattle.mk_caller.proofs.OwnSteps.{by_append, calls_by, others_add_none}
 
 -- Events that add none to a caller's calls decide none of them.
-pub none_since : (c : Config) (k : ℕ) (es more : List Event) → calls_by k (calls c (es ++ more)) ≡ calls_by k (calls c es)
+pub none_since : (c : Config) (k : ℕ) (es more : List Event) → calls_by k (calls c (es ++ more))
+    ≡ calls_by k (calls c es)
     → calls_by k (calls_from c (left c es) more) ≡ []
 none_since c k es more same =
     let xs = calls c es in

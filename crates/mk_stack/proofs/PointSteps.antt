@@ -80,7 +80,8 @@ module _ {globals : List ℕ} {n : NeverState} {k : ℕ} (state : IsStackState g
   may_place : IsPointerTo 1 (register_at n k 0) → IsAdmitted globals n k (Op.SetGlobal 0 0)
   may_place h =
       let P : Option ℕ → Type 0 = λ x. IfSome x (λ ty. IsOfKind (register_at n k 0) (To ty 0)) in
-      admitted (Op.SetGlobal 0 0) (omega (arith, state.count), omega arith) tt (subst P (sym state.global) (may_point h))
+      admitted (Op.SetGlobal 0 0) (omega (arith, state.count), omega arith) tt (subst P (sym state.global)
+      (may_point h))
 
   pub admits : (s : Point) → At s → IfSome (op_at s) (IsAdmitted globals n k)
   admits Founding h = admitted _ (omega arith, type_exists n.types 1 _ _ state.top) tt tt
@@ -148,7 +149,8 @@ module _ {globals : List ℕ} {n : NeverState} {k : ℕ} (state : IsStackState g
       a ≡ answer_of bases r
       → Asks s o r (next_point s (as_told a)) × HoldsAt (register_at m k) (next_point s (as_told a))
 
-  made : (s : Point) (d ty : ℕ) (so not_so : Point) → ((told : Answer) → next_point s told ≡ if says_full told then not_so else so)
+  made : (s : Point) (d ty : ℕ) (so not_so : Point) → ((told : Answer) → next_point s told
+      ≡ if says_full told then not_so else so)
       → Asks s (Op.New d ty false) Reply.Done so → Asks s (Op.New d ty true) Reply.Full not_so
       → HoldsAt (register_at (with_register (with_new n ty) k d (Ptr (length n.allocations) ty 0)) k) so
       → HoldsAt (register_at n k) not_so
@@ -176,7 +178,8 @@ module _ {globals : List ℕ} {n : NeverState} {k : ℕ} (state : IsStackState g
   -- an exchange of the uppermost node
   exchanged : (s : Point) (r : ℕ) {so not_so : Point} (a : Answer) (bases : List ℕ)
       → (h : IsPointerTo 1 (register_at n k 0))
-      → Asks s (Op.CasPtr 0 0 2 r) (Reply.Num 1) so → Asks s (Op.CasPtr 0 0 2 r) (Reply.Num 0) not_so → At so → At not_so
+      → Asks s (Op.CasPtr 0 0 2 r) (Reply.Num 1) so → Asks s (Op.CasPtr 0 0 2 r) (Reply.Num 0) not_so → At so
+      → At not_so
       → a ≡ answer_of bases (reply_of n k (Op.CasPtr 0 0 2 r))
       → Asks s (Op.CasPtr 0 0 2 r) (reply_of n k (Op.CasPtr 0 0 2 r)) (if says_yes (as_told a) then so else not_so)
       × HoldsAt (register_at (after_op n k (Op.CasPtr 0 0 2 r)) k) (if says_yes (as_told a) then so else not_so)
@@ -241,7 +244,8 @@ module _ {globals : List ℕ} {n : NeverState} {k : ℕ} (state : IsStackState g
         record { number = length n.allocations; is = set_register (with_new n 0) k 1 v (room 1 (omega arith)) },
       ) tt
   asks (Filling x) h = λ a bases.
-      at_node 1 0 (Step (Filling x) (Op.SetNum 1 0 x) a bases) (λ a w. Reply.Done) n (λ a w. with_word n a w (Num x)) h.1
+      at_node 1 0 (Step (Filling x) (Op.SetNum 1 0 x) a bases) (λ a w. Reply.Done) n (λ a w. with_word n a w
+      (Num x)) h.1
       (λ image. (fill, h))
   asks (Looking x) h = λ a bases. loads_top (Step (Looking x) (Op.GetPtr 2 0 0) a bases) h.0 (λ v may image. (
     look,
@@ -269,7 +273,9 @@ module _ {globals : List ℕ} {n : NeverState} {k : ℕ} (state : IsStackState g
       by true = free_again
       by false = free
   asks Reading h = λ a bases.
-      loads_number (λ r. a ≡ answer_of bases r → Asks Reading (Op.GetNum 2 0) r (next_point Reading (as_told a)) × Unit {0}) h
-      (λ x image. subst (λ (y : Answer). Asks Reading (Op.GetNum 2 0) (Reply.Num x) (next_point Reading (as_told y)) × Unit {0})
+      loads_number (λ r. a ≡ answer_of bases r → Asks Reading (Op.GetNum 2 0) r (next_point Reading (as_told a))
+      × Unit {0}) h
+      (λ x image. subst (λ (y : Answer). Asks Reading (Op.GetNum 2 0) (Reply.Num x) (next_point Reading
+      (as_told y)) × Unit {0})
       (sym image) (read, tt))
   asks (Ended d) h = tt

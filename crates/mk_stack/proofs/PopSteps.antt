@@ -39,7 +39,12 @@ module _ {callers : ℕ} {n : NeverState} {top : Option ℕ} {role : ℕ → Rol
       by : (l : List ℕ) → nodes ≡ l → IsChain n role (word_at n local.1.t 0) l
           → Goal Peeking u (Op.GetPtr 2 0 0) Testing rest (with_register n c 2 (word_at n local.1.t 0))
       by [] e chain =
-          by_register inv c 2 (word_at n local.1.t 0) (omega arith) (Some Empty) (Some (record { caller = c; job = Pop; done = Empty })) (
+          by_register inv c 2 (word_at n local.1.t 0) (omega arith) (Some Empty) (Some (record {
+            caller = c;
+            job =
+                Pop;
+            done = Empty;
+          })) (
             keeps_top inv c exists (with_register n c 2 (word_at n local.1.t 0))
                 (other_register n c 2 0 (word_at n local.1.t 0) (omega arith)) local.1,
             inl (register_set inv c exists 2 (word_at n local.1.t 0) (omega arith) ∙ chain, refl),

@@ -212,7 +212,8 @@ pub from_turn : {on : Bool} {p q : PassState} {o : Op} {a : Answer} → CalledIn
     → IsHistory q.table.config q.seen → Happens p (flagged o a) a q
 from_turn {on} {p} {q} {o} {a} h history =
     subst (Happens p (flagged o a) a) (sym h.is)
-    (happens p (flagged o a) a h.more (flagged_once o a) (subst (λ (r : PassState). IsHistory r.table.config r.seen) h.is history)
+    (happens p (flagged o a) a h.more (flagged_once o a) (subst (λ
+    (r : PassState). IsHistory r.table.config r.seen) h.is history)
     h.entry h.decided)
 
 -- The caller found its gate held, and asked nothing.

@@ -15,11 +15,13 @@ unmapped_still {q = q} first pairs none unmapped i n lt is =
 
 pub wipe_pair-requires-clause-first : goal.wipe_pair-requires-clause-first
 wipe_pair-requires-clause-first c =
-    unmapped_still c.args.first c.args.pairs c.loop-i.invariant.frees c.requires.unmapped (2 * c.loop-i.i) _ (omega (arith, c.loop-i-test.true)) (omega arith)
+    unmapped_still c.args.first c.args.pairs c.loop-i.invariant.frees c.requires.unmapped (2 * c.loop-i.i) _ (omega
+    (arith, c.loop-i-test.true)) (omega arith)
 
 pub wipe_pair-requires-clause-second : goal.wipe_pair-requires-clause-second
 wipe_pair-requires-clause-second c =
-    unmapped_still c.args.first c.args.pairs c.loop-i.invariant.frees c.requires.unmapped (2 * c.loop-i.i + 1) _ (omega (arith, c.loop-i-test.true)) (omega arith)
+    unmapped_still c.args.first c.args.pairs c.loop-i.invariant.frees c.requires.unmapped (2 * c.loop-i.i + 1) _
+    (omega (arith, c.loop-i-test.true)) (omega arith)
 
 pub loop-i-preserved : goal.loop-i-preserved
 loop-i-preserved c =

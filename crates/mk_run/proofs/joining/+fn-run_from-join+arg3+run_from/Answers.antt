@@ -1,7 +1,8 @@
 use denote.Param.Send.{Quiet-if}
 use mir.Syntax.{of_param}
 use Rattle.mk_laws.proofs.Vocabulary.{Caller, Config, Host, ap, arith, length, subst, sym, ◌+◌, ◌<◌, ◌∙◌, ◌≡◌}
-use Rattle.mk_run.proofs.Vocabulary.{AreReadyFrom, Grows, Has, HasJoined, HasMade, HostState, IsFirstPass, IsReady, IsScript}
+use Rattle.mk_run.proofs.Vocabulary.{AreReadyFrom, Grows, Has, HasJoined, HasMade, HostState, IsFirstPass, IsReady}
+use Rattle.mk_run.proofs.Vocabulary.{IsScript}
 use Rattle.mk_run.proofs.Vocabulary.{has_left, rules, script_names, with_joined}
 use Rattle.mk_run.proofs.ReadyScripts.{ready_first}
 use Rattle.mk_run.proofs.JoinedScripts.{first_pass, next_made, one_joined, texts_joined}
@@ -17,7 +18,8 @@ join-ran-requires-after_bounds g t c κs within =
     let k = c.args.k in
     let rest = c.pop_front.new.self.items in
     let host = c.args.host in
-    let shorter : length rest < length c.args.scripts.items = omega (arith, c.in-Some.ensures.cases, c.args.scripts.ok, c.pop_front.new.self.ok) in
+    let shorter : length rest < length c.args.scripts.items =
+    omega (arith, c.in-Some.ensures.cases, c.args.scripts.ok, c.pop_front.new.self.ok) in
     let made_for = g.E.Engine.made_for in
     let program = c.args.run.now.program.now in
     let made = ready_first made_for program w.config k c.in-Some.ready rest
@@ -55,7 +57,28 @@ join-ran-requires-after_bounds g t c κs within =
           ),
         ),
       ),
-      (search rules, (λ a is. is, (λ a is. is, (λ a is. is, (shared, (next, (left, (shared.2, shared.1, shared.0)))))))),
+      (
+        search rules,
+        (
+          λ a is. is,
+          (
+            λ a is. is,
+            (
+              λ a is. is,
+              (
+                shared,
+                (
+                  next,
+                  (
+                    left,
+                    (shared.2, shared.1, shared.0),
+                  ),
+                ),
+              ),
+            ),
+          ),
+        ),
+      ),
     )
 
 pub returns-clause-joined : goal.returns-clause-joined
@@ -74,7 +97,8 @@ returns-clause-joined g t c =
     let own : Grows old.pass.seats old.pass.seen new.pass.seen = c.join_caller.ensures.own in
     let came : Grows pass.seats pass.seen new.pass.seen = c.join_caller.ensures.came in
     let scripts = ap (λ (x : Config). x.callers) c.args.run.now.made_for in
-    let few : IsScript program k = omega (arith, c.in-Some.ensures.cases, c.args.scripts.ok, c.requires.scripts.count, scripts) in
+    let few : IsScript program k =
+    omega (arith, c.in-Some.ensures.cases, c.args.scripts.ok, c.requires.scripts.count, scripts) in
     record {
       is_host =
           subst (λ (h : HostState). HasJoined on program w k h) (sym is)

@@ -5,7 +5,8 @@ use Rattle.mk_stack.proofs.stacks.go.Goals as goal
 
 pub answer_now-answer-requires-clause-admitted : goal.answer_now-answer-requires-clause-admitted
 answer_now-answer-requires-clause-admitted g c κs within =
-    may_ask c.points.point c.points.invariant.ready.ready c.is_idle.ensures.history (sym c.op_at.ensures ∙ c.in-Some-op_at.is)
+    may_ask c.points.point c.points.invariant.ready.ready c.is_idle.ensures.history (sym c.op_at.ensures
+    ∙ c.in-Some-op_at.is)
     c.points.invariant.holds
 
 pub returns-in_default-clause-goal : goal.returns-in_default-clause-goal
@@ -16,7 +17,8 @@ pub points-preserved-in-Ok : goal.points-preserved-in-Ok
 points-preserved-in-Ok g c =
     let before = c.points.invariant in
     let on =
-    advances c.points.point c.next_point-point.ensures before.ready.ready.types c.is_idle-in-points.ensures.history (sym c.op_at.ensures ∙ c.in-Some-op_at.is) before.holds
+    advances c.points.point c.next_point-point.ensures before.ready.ready.types c.is_idle-in-points.ensures.history
+    (sym c.op_at.ensures ∙ c.in-Some-op_at.is) before.holds
     c.in-Ok.ensures.answers c.in-Ok.ensures.called in
     record {
       ready = jobs_on c.answer_now-answer.new.engine before.ready c.answer_now-answer.ensures.home on.is

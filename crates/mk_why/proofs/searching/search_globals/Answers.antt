@@ -17,5 +17,7 @@ loop-global-preserved c =
     let x = c.loop-global.invariant in
     record {
       on = searches_then x.on c.search_root.ensures.on;
-      noted = root_noted (λ k. Global k) c.loop-global.global x.on x.noted c.search_root.ensures.on c.search_root.ensures.noted;
+      noted =
+          root_noted (λ k. Global k) c.loop-global.global x.on x.noted
+          c.search_root.ensures.on c.search_root.ensures.noted;
     }

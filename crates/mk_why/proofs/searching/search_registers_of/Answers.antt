@@ -17,5 +17,7 @@ loop-register-preserved c =
     let x = c.loop-register.invariant in
     record {
       on = searches_then x.on c.search_root.ensures.on;
-      noted = root_noted (λ k. Register c.args.caller k) c.loop-register.register x.on x.noted c.search_root.ensures.on c.search_root.ensures.noted;
+      noted =
+          root_noted (λ k. Register c.args.caller k) c.loop-register.register x.on x.noted
+          c.search_root.ensures.on c.search_root.ensures.noted;
     }
