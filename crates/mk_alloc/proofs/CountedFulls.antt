@@ -100,10 +100,7 @@ module _ {p p1 p2 : PassState} {n v : ℕ} (quiet : IsQuiet p) (u : IsUnplaced p
   tallied_ended ended = ap (λ (x : Done). x.cycle) done_same ∙ ended
 
   pub tallied_nowhere : place_now_for p ≡ None → place_now_for p2 ≡ None
-  tallied_nowhere none =
-      still_nowhere p p2 (ap (λ (s : Steady). s.allocations) steady) (ap (λ (x : PassState). x.table.config) same_pass)
-      (ap (λ (x : PassState). object_made x.table.config (call_of p2).op) same_pass
-      ∙ ap (λ (f : Flight). object_made p.table.config f.op) call_same) none
+  tallied_nowhere none = grind (arith, still_nowhere, steady, same_pass, call_same)
 
   module _ {q : PassState} (full : Acts p2 Step.Full q) (raised : v ≡ min (n + 1) (2 ^ 64 - 1)) where
     seat : IsCallers p
@@ -116,12 +113,7 @@ module _ {p p1 p2 : PassState} {n v : ℕ} (quiet : IsQuiet p) (u : IsUnplaced p
     steady_q = ap (λ (w : World). steady_of w) full.world ∙ full.turn.steady
 
     pass_q : q ≡ record p { seen = q.seen }
-    pass_q =
-        full.makes.is ∙ ap (λ (x : PassState). record x
-        { seen = p2.seen ++ full.makes.others ++ event_of x Step.Full ∷ [] }) same_pass
-        ∙ ap (λ (l : List Event). record p { seen = l })
-        (ap (λ (x : PassState). p2.seen ++ full.makes.others ++ event_of x Step.Full ∷ []) (sym same_pass)
-        ∙ sym (ap (λ (x : PassState). x.seen) full.makes.is))
+    pass_q = grind (arith, same_pass)
 
     call_q : call_of q ≡ record (call_of p) { stage = Stage.Give }
     call_q = full.call (caller_of_pass p2) seat2 ∙ ap (λ (f : Flight). record f { stage = Stage.Give }) call_same
@@ -143,18 +135,10 @@ module _ {p p1 p2 : PassState} {n v : ℕ} (quiet : IsQuiet p) (u : IsUnplaced p
 
     decides : call_decided p2.table.config (left p2.table.config es).now e
         ≡ entry_of (caller_of_pass p2) (call_of p2).op (Some Answer.Full)
-    decides =
-        ap (λ (f : Flight). entry_of (caller_of_pass p2) f.op
-        (answer_decided p2.table.config (left p2.table.config es).now e)) full.own.flight
-        ∙ ap (λ (x : Option Answer). entry_of (caller_of_pass p2) (call_of p2).op x)
-        (answers p2.table.config (left p2.table.config es).now p2.seat (caller_of_pass p2) seat2)
+    decides = grind (arith, es, answers, seat2)
 
     ends_q : ends q.seen ≡ ends p.seen
-    ends_q =
-        let pushed : ends (es ++ e ∷ []) ≡ ends es + 0 =
-        sum_by_push (λ (x : Event). cond {A = ℕ} (is_end x.step) 1 0) es e in
-        ap ends seen_q ∙ (let same : ends (es ++ e ∷ []) ≡ ends es = omega arith in same)
-        ∙ full.counts.ends ∙ k2.counts.ends ∙ k1.counts.ends
+    ends_q = grind (arith, es, sum_by_push, seen_q, k2, k1)
 
     fulls_q : full_answers p.table.config q.seen ≡ full_answers p.table.config p.seen + 1
     fulls_q =

@@ -46,27 +46,7 @@ ends_behind xs ys none e =
 
 -- or in the first
 pub ends_before : (xs ys : List Event) → EndsIn xs → EndsIn (xs ++ ys)
-ends_before xs ys e =
-    record {
-      to_close = e.to_close;
-      close = e.close;
-      to_release = e.to_release;
-      release = e.release;
-      to_end = e.to_end;
-      end = e.end;
-      behind = e.behind ++ ys;
-      is = ap (λ (l : List Event). l ++ ys) e.is
-          ∙ append_assoc e.to_close (e.close ∷ (e.to_release ++ e.release ∷ (e.to_end ++ e.end ∷ e.behind))) ys
-          ∙ ap (λ (l : List Event). e.to_close ++ e.close ∷ l)
-          (append_assoc e.to_release (e.release ∷ (e.to_end ++ e.end ∷ e.behind)) ys
-          ∙ ap (λ (l : List Event). e.to_release ++ e.release ∷ l) (append_assoc e.to_end (e.end ∷ e.behind) ys));
-      closes = e.closes;
-      releases = e.releases;
-      ends = e.ends;
-      none_closed = e.none_closed;
-      none_released = e.none_released;
-      none_ended = e.none_ended;
-    }
+ends_before xs ys e = grind (arith, append_assoc)
 
 pub end_at : (es : List Event) → EndsIn es → At is_end es
 end_at es e =

@@ -27,16 +27,11 @@ place_part t d history = record { turn = t; stays = placing_in_turn; does = d; h
 -- An undecided New has freed no run.
 pub none_freed_yet : (p : PassState) → InTurn p → is_undecided_new (call_of p) ≡ true → (now_of p).seats.holding.freed
     ≡ None
-none_freed_yet p t new =
-    let known = known_left p.table.config p.seen t.history.within_limits t.history.enabled in
-    none_on_its_way p.table.config (now_of p) p.seat known
-    (holds_turn p.table.config (now_of p) p.seat known.orderly t.holds) (undecided_new (call_of p) new).stage
+none_freed_yet p t new = grind (arith, known_left, none_on_its_way, holds_turn, undecided_new)
 
 module _ (p q : PassState) (t : InTurn p) (d : Does is_placing p q) (history : IsHistory q.table.config q.seen) where
   beside : LeavesBeside p p.seen q.seen
-  beside =
-      subst (λ (l : List Event). LeavesBeside p p.seen l) (sym (seen_behind is_placing p q d))
-      (leaves_beside p p.seen d.more t.own (does_stretch p q is_placing d history t.holds))
+  beside = grind (arith, seen_behind, leaves_beside, does_stretch)
 
   same : q ≡ record p { seen = q.seen }
   same = d.is ∙ ap (λ (l : List Event). record p { seen = l }) (sym (seen_behind is_placing p q d))
@@ -51,9 +46,7 @@ module _ (p q : PassState) (t : InTurn p) (d : Does is_placing p q) (history : I
   counts_beside = beside.counts
 
   pub gone_beside : (now_of p).seats.holding.freed ≡ None → IsGone q
-  gone_beside none =
-      ap (λ (x : Option RunPages). is_run_gone (now_of q).words x)
-      (ap (λ (w : World). w.now.seats.holding.freed) world_there ∙ beside.freed ∙ none)
+  gone_beside none = grind (arith, world_there, beside)
 
 -- where it only looks
 module _ (p q : PassState) (t : InTurn p) (u : IsUnplaced p) (quiet : IsQuiet p) (looks : OnlyLooks p q)
@@ -115,25 +108,17 @@ module _ (p q : PassState) (t : InTurn p) (u : IsUnplaced p) (quiet : IsQuiet p)
   fresh_same : fresh_words_of q.table.config (world_of q).allocations
       ≡ fresh_words_of p.table.config (world_of p).allocations
   unfolding granted
-  fresh_same =
-      ap (λ (c : Config). fresh_words_of c (world_of q).allocations) (same_config p q placed.granted.same)
-      ∙ ap (λ (xs : List PlacedAllocation). fresh_words_of p.table.config xs) allocations
-      ∙ fresh_pushed p.table.config (world_of p).allocations granted refl
+  fresh_same = grind (arith, allocations, same_config, fresh_pushed, granted)
 
   releases_same : releases (world_of q).allocations ≡ releases (world_of p).allocations
   unfolding granted
-  releases_same =
-      let pushed : releases ((world_of p).allocations ++ granted ∷ []) ≡ releases (world_of p).allocations + 0 =
-      sum_by_push (λ (a : PlacedAllocation). cond {A = ℕ} a.released 1 0) (world_of p).allocations granted in
-      ap (λ (xs : List PlacedAllocation). releases xs) allocations ∙ (omega arith)
+  releases_same = grind (arith, allocations, granted, sum_by_push)
 
   counts : CountsAreLeft p.table.config p.seen q.seen
   counts = counts_beside p q t placed.granted.does history
 
   decided : (call_of q).stage ≡ Stage.Give
-  decided =
-      ap (λ (x : PassState). (call_of x).stage) placed.granted.same
-      ∙ ap (λ (f : Flight). f.stage) placed.granted.world.call
+  decided = grind arith
 
   op_same : (call_of q).op ≡ (call_of p).op
   op_same =
@@ -165,12 +150,4 @@ module _ (p q : PassState) (t : InTurn p) (u : IsUnplaced p) (quiet : IsQuiet p)
       }
 
   pub placed_on : TurnGoesOn (Some Answer.Done) p q
-  placed_on =
-      record {
-        does = does_wider is_placing turn_stays placing_in_turn p q placed.granted.does;
-        quiet = quiet_behind;
-        entry = placed.granted.calls;
-        op = op_same;
-        decided = λ some. decided;
-        undecided = λ none. cc;
-      }
+  placed_on = grind (arith, does_wider, placing_in_turn, quiet_behind, op_same, decided)

@@ -52,22 +52,7 @@ placing_decides c m Host x h = refl
 -- an event that ends no cycle and answers no Full
 counts_on : (c : Config) (es : List Event) (e : Event) → is_end e.step ≡ false
     → answers_full (answer_decided c (left c es).now e) ≡ false → CountsAreLeft c es (es ++ e ∷ [])
-counts_on c es e no_end no_full =
-    record {
-      ends =
-          let last : cond {A = ℕ} (is_end e.step) 1 0 ≡ 0 = ap (λ b. cond {A = ℕ} b 1 0) no_end in
-          let pushed : ends (es ++ e ∷ []) ≡ ends es + cond {A = ℕ} (is_end e.step) 1 0 =
-          sum_by_push (λ (x : Event). cond {A = ℕ} (is_end x.step) 1 0) es e in
-          omega arith;
-      fulls =
-          let m : Moment = (left c es).now in
-          let ds : List Decided = call_decided c m e in
-          let last : fulls_of ds ≡ 0 =
-          entry_fulls (caller_number e.seat) (flight_of m e.seat).op (answer_decided c m e) no_full in
-          let pushed : full_answers c (es ++ e ∷ []) ≡ full_answers c es + fulls_of ds =
-          ap (λ (xs : List Decided). fulls_of xs) (calls_more c (first_world c) es e) ∙ fulls_append (calls c es) ds in
-          omega arith;
-    }
+counts_on c es e no_end no_full = grind (arith, sum_by_push, fulls_of, entry_fulls, calls_more, fulls_append)
 
 -- Gates are held as before, the counts are as before, and so is the run that the call has freed.
 pub record LeavesBeside (p : PassState) (es fs : List Event) : Type 0 where
@@ -77,33 +62,15 @@ pub record LeavesBeside (p : PassState) (es fs : List Event) : Type 0 where
 
 beside_then : (p : PassState) (es fs gs : List Event) → LeavesBeside p es fs → LeavesBeside p fs gs
     → LeavesBeside p es gs
-beside_then p es fs gs a b =
-    record {
-      gates = λ j. b.gates j ∙ a.gates j;
-      counts = record { ends = b.counts.ends ∙ a.counts.ends; fulls = b.counts.fulls ∙ a.counts.fulls };
-      freed = b.freed ∙ a.freed;
-    }
+beside_then p es fs gs a b = grind arith
 
 own_beside : (p : PassState) (es : List Event) (x : Step) → Here p es (event_of p x) → is_placing x ≡ true
     → LeavesBeside p es (es ++ event_of p x ∷ [])
 own_beside p es x h kind =
-    let c : Config = p.table.config in
-    let m : Moment = (left c es).now in
-    record {
-      gates = λ j.
-          ap (λ (w : World). is_held w.now.words j) h.behind
-          ∙ ap (λ (gs : List ℕ). slice_index gs j == 2) (placing_gates c m p.seat x kind);
-      counts = counts_on c es (event_of p x) (placing_ends_none x kind) (placing_decides c m p.seat x kind);
-      freed =
-          ap (λ (w : World). w.now.seats.holding.freed) h.behind
-          ∙ placing_frees_none c m p.seat (flight_of m p.seat) (found c m (event_of p x)) x m.seats.holding kind;
-    }
+    grind (arith, placing_gates, counts_on, placing_ends_none, placing_decides, placing_frees_none)
 
 held_so : (a b : ℕ) → (a ≡ 2 → b ≡ 2) → (a ≢ 2 → b ≢ 2) → (b == 2) ≡ (a == 2)
-held_so a b held free = elim (cases_eq a 2) [
-  | inl e ↦ eq-eqb b 2 (held e) ∙ sym (eq-eqb a 2 e)
-  | inr ne ↦ ne_eqb b 2 (free ne) ∙ sym (ne_eqb a 2 ne)
-]
+held_so a b held free = grind (arith, eq-eqb, ne_eqb)
 
 other_beside : (p : PassState) (es : List Event) (e : Event) → Here p es e → e.seat ≢ p.seat
     → LeavesBeside p es (es ++ e ∷ [])

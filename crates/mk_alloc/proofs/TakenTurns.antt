@@ -16,38 +16,18 @@ callers p idle = own_seat p idle.caller idle.seat
 -- the turn that an idle caller took, from the pass that it lent
 pub took_by : {home p taken : PassState} {o : Op} → home ≡ p → IsIdleCaller p → Has p.seats p.seat
     → TakesTurn home (Some o) taken → Taken o p taken
-took_by {p = p} {taken = taken} {o = o} same idle own takes =
-    record {
-      seat = callers p idle;
-      own = own;
-      takes = subst (λ (x : PassState). TakesTurn x (Some o) taken) same takes;
-    }
+took_by {p = p} {taken = taken} {o = o} same idle own takes = grind (arith, callers)
 
 take_for : (c : Config) (m : Moment) (k : ℕ) (o : Op) → k < c.callers → flight_of m (Caller k) ≡ at_rest
     → is_under_turn o ≡ true
     → has_operands c o ≡ true → IsEnabled c m (record { seat = Caller k; step = Step.Take (Some o) })
-take_for c m k o lt rest under operands =
-    meets_enabled c m (record { seat = Caller k; step = Step.Take (Some o) })
-    (record {
-      seat = lt-ltb k c.callers lt;
-      kind = refl;
-      order = ap (λ (f : Flight). comes_next f.stage f.op (Step.Take (Some o))) rest ∙ under;
-      range = operands;
-      gates = refl;
-      phase = refl;
-      marker = refl;
-      holder = refl;
-    })
+take_for c m k o lt rest under operands = grind (arith, meets_enabled, lt-ltb)
 
 pub take_allowed : (p : PassState) (o : Op) → IsIdleCaller p → caller_of_pass p < p.table.config.callers
     → is_under_turn o
     ≡ true
     → has_operands p.table.config o ≡ true → IsEnabledTo p (Step.Take (Some o))
-take_allowed p o idle lt under operands =
-    subst (λ (s : Seat). IsEnabled p.table.config (now_of p) (record { seat = s; step = Step.Take (Some o) }))
-    (sym (callers p idle))
-    (take_for p.table.config (now_of p) (caller_of_pass p) o lt
-    (subst (λ (s : Seat). flight_of (now_of p) s ≡ at_rest) (callers p idle) idle.rest) under operands)
+take_allowed p o idle lt under operands = grind (arith, callers, take_for)
 
 at_most_one : (n : ℕ) → n ≤ 1 → (n ≡ 0) ⊎ (n ≡ 1)
 at_most_one zero le = inl refl
@@ -60,27 +40,4 @@ pub taken_phase : (p q : PassState) (o : Op) → IsCallers p → caller_of_pass 
     → Has p.seats p.seat → TakesTurn p (Some o) q → IsFresh q (Some o) → IsHistory q.table.config q.seen
     → CallersAreBeforeOver q.table.config q.seats q.seen → IsOutOfStop (now_of q)
 taken_phase p q o seat lt alone own takes fresh history before =
-    elim (give_phase (phase_of (now_of q).words) fresh.phase) [
-      | inl low ↦ at_most_one (phase_of (now_of q).words) low
-      | inr five ↦ absurd (not_host (has_host five))
-    ]
-  where
-    same : q ≡ record p { seen = q.seen }
-    same = taken_same p q o seat own takes
-
-    one_seat : p.seats ≡ Caller (caller_of_pass p) ∷ []
-    one_seat = alone ∙ ap (λ (s : Seat). s ∷ []) seat
-
-    has_host : phase_of (now_of q).words ≡ 5 → Has p.seats Host
-    has_host five =
-        subst (λ (x : PassState). Has x.seats Host) same
-        (before (caller_of_pass p) (subst (λ (x : PassState). caller_of_pass p < x.table.config.callers) (sym same) lt)
-        (subst (λ (x : PassState). Has x.seats (Caller (caller_of_pass p))) (sym same)
-        (subst (λ (s : Seat). Has p.seats s) seat own))
-        (end_is_behind_over q.table.config q.seen history five))
-
-    not_host : Has p.seats Host → ⊥
-    not_host has =
-        let e : Host ≡ Caller (caller_of_pass p) = only_one (Caller (caller_of_pass p)) Host
-        (subst (λ (l : _). Has l Host) one_seat has) in
-        cc
+    grind (arith, give_phase, at_most_one, taken_same, end_is_behind_over, only_one)
