@@ -5,13 +5,13 @@ use Rattle.mk_alloc.proofs.Vocabulary.{Acts, Answer, AnswersFull, BeginsNone, Ca
 use Rattle.mk_alloc.proofs.Vocabulary.{Ended, Event, Flight, Holding, IsAtPhase, IsQuiet, IsUnplaced, LeavesTurn, List}
 use Rattle.mk_alloc.proofs.Vocabulary.{Moment, None, Option, PassState, Placing, RunPages, Seat, Some, Stage, Steady}
 use Rattle.mk_alloc.proofs.Vocabulary.{Step, World, ℕ, answer_decided, ap, arith, asks_room, by_append, call_decided}
-use Rattle.mk_alloc.proofs.Vocabulary.{call_of, caller_of_pass, calls, calls_by, calls_more, calm_keeps, cond}
-use Rattle.mk_alloc.proofs.Vocabulary.{does_step, does_then, does_wider, ends, entry_of, event_of, false, first_world}
-use Rattle.mk_alloc.proofs.Vocabulary.{free_then, full_answers, fulls_append, fulls_of, gates_behind, has_place}
-use Rattle.mk_alloc.proofs.Vocabulary.{in_a_word, is_begin, is_end, is_pending_free_at, is_run_gone, left, lets_go}
-use Rattle.mk_alloc.proofs.Vocabulary.{made, now_of, object_for, object_made, others_add_none, own_before, own_calls}
-use Rattle.mk_alloc.proofs.Vocabulary.{place_now_for, refl, same_config, steady_of, subst, sum_by_push, sym, true}
-use Rattle.mk_alloc.proofs.Vocabulary.{turn_stays, unchanged, world_of, [], ◌++◌, ◌+◌, ◌∙◌, ◌∷◌, ◌≡◌}
+use Rattle.mk_alloc.proofs.Vocabulary.{call_of, caller_of_pass, calls, calls_by, calls_more, calm_keeps, does_step}
+use Rattle.mk_alloc.proofs.Vocabulary.{does_then, does_wider, ends, entry_of, event_of, false, first_world, free_then}
+use Rattle.mk_alloc.proofs.Vocabulary.{full_answers, fulls_append, fulls_of, gates_behind, has_place, in_a_word}
+use Rattle.mk_alloc.proofs.Vocabulary.{is_begin, is_pending_free_at, is_run_gone, left, lets_go, made, now_of}
+use Rattle.mk_alloc.proofs.Vocabulary.{object_for, others_add_none, own_before, own_calls, place_now_for, refl}
+use Rattle.mk_alloc.proofs.Vocabulary.{same_config, steady_of, subst, sum_by_push, sym, true, turn_stays, unchanged}
+use Rattle.mk_alloc.proofs.Vocabulary.{world_of, [], ◌++◌, ◌+◌, ◌∙◌, ◌∷◌, ◌≡◌}
 use Rattle.mk_alloc.proofs.QuietTurns.{but_full, exact_kept, none_held_kept, same_phase, tidy_kept}
 use Rattle.mk_alloc.proofs.SeekingTurns.{new_callers, still_nowhere, unplaced_kept}
 use Rattle.mk_alloc.proofs.{CalledTurns.of_others_alone, CalledTurns.step_adds_none, FullLeaves.leaves_then}

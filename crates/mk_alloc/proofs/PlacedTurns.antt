@@ -1,13 +1,12 @@
 -- A turn stays quiet where its New's object is granted, and where it only looks.
 use Rattle.mk_alloc.proofs.Vocabulary.{Answer, Config, CountsAreLeft, Does, Event, Flight, Holding, InTurn, IsHistory}
 use Rattle.mk_alloc.proofs.Vocabulary.{IsPlaced, IsQuiet, IsUnplaced, KeepsGates, LeavesTurn, List, None, OnlyLooks}
-use Rattle.mk_alloc.proofs.Vocabulary.{Option, PassState, PlacedAllocation, Placing, RunPages, Some, Stage, Steady}
-use Rattle.mk_alloc.proofs.Vocabulary.{Step, TurnGoesOn, World, ℕ, ap, arith, call_of, cond, does_wider, fresh_words_of}
-use Rattle.mk_alloc.proofs.Vocabulary.{full_answers, has_place, holds_turn, in_a_word, is_held, is_look}
-use Rattle.mk_alloc.proofs.Vocabulary.{is_pending_free_at, is_placing, is_run_gone, is_undecided_new, known_left, left}
-use Rattle.mk_alloc.proofs.Vocabulary.{looks_left, now_of, refl, releases, same_config, steady_of, subst, sum_by_push}
-use Rattle.mk_alloc.proofs.Vocabulary.{sym, true, turn_stays, unchanged, undecided_new, world_of, [], ◌++◌, ◌+◌, ◌∙◌}
-use Rattle.mk_alloc.proofs.Vocabulary.{◌∷◌, ◌≡◌}
+use Rattle.mk_alloc.proofs.Vocabulary.{PassState, PlacedAllocation, Placing, Some, Stage, Steady, Step, TurnGoesOn}
+use Rattle.mk_alloc.proofs.Vocabulary.{World, ap, arith, call_of, does_wider, fresh_words_of, full_answers, has_place}
+use Rattle.mk_alloc.proofs.Vocabulary.{holds_turn, in_a_word, is_held, is_look, is_pending_free_at, is_placing}
+use Rattle.mk_alloc.proofs.Vocabulary.{is_undecided_new, known_left, left, looks_left, now_of, releases, same_config}
+use Rattle.mk_alloc.proofs.Vocabulary.{steady_of, subst, sum_by_push, sym, true, turn_stays, unchanged, undecided_new}
+use Rattle.mk_alloc.proofs.Vocabulary.{world_of, [], ◌++◌, ◌+◌, ◌∙◌, ◌∷◌, ◌≡◌}
 use Rattle.mk_laws.proofs.{Basics.none_on_its_way, FreshWords.fresh_pushed}
 use Rattle.mk_alloc.proofs.PlacingStretches.{LeavesBeside, leaves_beside, placing_in_turn}
 use Rattle.mk_alloc.proofs.QuietTurns.{none_held_kept, quiet_kept, same_phase}
@@ -150,4 +149,12 @@ module _ (p q : PassState) (t : InTurn p) (u : IsUnplaced p) (quiet : IsQuiet p)
       }
 
   pub placed_on : TurnGoesOn (Some Answer.Done) p q
-  placed_on = grind (arith, does_wider, placing_in_turn, quiet_behind, op_same, decided)
+  placed_on =
+      record {
+        does = does_wider is_placing turn_stays placing_in_turn p q placed.granted.does;
+        quiet = quiet_behind;
+        entry = placed.granted.calls;
+        op = op_same;
+        decided = λ some. decided;
+        undecided = λ none. cc;
+      }

@@ -1,12 +1,10 @@
 -- Stretches of a turn in which no gate is held or opened, no cycle ends, no New is full and no object is freed.
-use Rattle.mk_laws.proofs.Vocabulary.{Marker, Progress, cases_eq, decided, ne_eqb, sees_double, target}
-use Rattle.mk_alloc.proofs.Vocabulary.{Answer, Bool, Caller, Config, CountsAreLeft, Decided, Event, Flight, Has}
-use Rattle.mk_alloc.proofs.Vocabulary.{Holding, Host, List, Moment, PassState, Seat, Step, World, ℕ, actor_of}
-use Rattle.mk_alloc.proofs.Vocabulary.{answer_decided, ap, arith, call_decided, caller_number, calls, calls_more, cond}
-use Rattle.mk_alloc.proofs.Vocabulary.{ends, eq-eqb, event_of, false, first_world, flight_of, found, full_answers}
-use Rattle.mk_alloc.proofs.Vocabulary.{fulls_append, fulls_of, if◌then◌else◌, inl, inr, is_end, is_held, is_placing}
-use Rattle.mk_alloc.proofs.Vocabulary.{left, left_after, progress, refl, slice_index, still, sum_by_push, sym, true, []}
-use Rattle.mk_alloc.proofs.Vocabulary.{◌++◌, ◌+◌, ◌==◌, ◌∙◌, ◌∷◌, ◌≡◌, ◌≢◌}
+use Rattle.mk_laws.proofs.Vocabulary.{Marker, Progress, decided, ne_eqb, sees_double, target}
+use Rattle.mk_alloc.proofs.Vocabulary.{Answer, Bool, Caller, Config, CountsAreLeft, Event, Flight, Has, Holding, Host}
+use Rattle.mk_alloc.proofs.Vocabulary.{List, Moment, PassState, Seat, Step, World, ℕ, actor_of, answer_decided, ap}
+use Rattle.mk_alloc.proofs.Vocabulary.{arith, calls_more, ends, eq-eqb, event_of, false, flight_of, found, fulls_append}
+use Rattle.mk_alloc.proofs.Vocabulary.{fulls_of, if◌then◌else◌, is_end, is_held, is_placing, left, left_after, progress}
+use Rattle.mk_alloc.proofs.Vocabulary.{refl, still, sum_by_push, true, [], ◌++◌, ◌+◌, ◌==◌, ◌∙◌, ◌∷◌, ◌≡◌, ◌≢◌}
 use Rattle.mk_core.specs.Effects.{holding_behind}
 use Rattle.mk_laws.proofs.OthersCounts.{answers_full, counts_nothing, entry_fulls}
 use Rattle.mk_laws.proofs.Basics.{Behind, tally_keeps}

@@ -1,10 +1,9 @@
 -- A caller may take the turn for a New or a Free, and finds no stop, and not the end of all.
 use Rattle.mk_laws.proofs.Vocabulary.{is_under_turn, suc, zero, ◌≤◌}
-use Rattle.mk_alloc.proofs.Vocabulary.{Caller, Config, Flight, Has, Host, IsEnabled, IsEnabledTo, IsFresh, IsHistory}
-use Rattle.mk_alloc.proofs.Vocabulary.{IsOutOfStop, Moment, Op, PassState, Seat, Some, Step, TakesTurn, ℕ, ap, arith}
-use Rattle.mk_alloc.proofs.Vocabulary.{at_rest, caller_of_pass, comes_next, flight_of, has_operands, inl, inr, lt-ltb}
-use Rattle.mk_alloc.proofs.Vocabulary.{meets_enabled, now_of, only_one, own_seat, phase_of, refl, subst, sym, true, []}
-use Rattle.mk_alloc.proofs.Vocabulary.{◌<◌, ◌∙◌, ◌∷◌, ◌≡◌, ◌⊎◌}
+use Rattle.mk_alloc.proofs.Vocabulary.{Caller, Config, Has, IsEnabled, IsEnabledTo, IsFresh, IsHistory, IsOutOfStop}
+use Rattle.mk_alloc.proofs.Vocabulary.{Moment, Op, PassState, Some, Step, TakesTurn, ℕ, arith, at_rest, caller_of_pass}
+use Rattle.mk_alloc.proofs.Vocabulary.{flight_of, has_operands, inl, inr, lt-ltb, meets_enabled, now_of, only_one}
+use Rattle.mk_alloc.proofs.Vocabulary.{own_seat, refl, true, [], ◌<◌, ◌∷◌, ◌≡◌, ◌⊎◌}
 use Rattle.mk_laws.proofs.Asked.{give_phase}
 use Rattle.mk_alloc.proofs.{CalledTurns.Taken, CalledTurns.taken_same, Going.IsCallers}
 use Rattle.mk_caller.specs.States.{IsIdleCaller}
