@@ -6,11 +6,7 @@ use Rattle.mk_geom.proofs.{ClassTable.class_words_within, HeaderLemmas.word_of-h
 use Rattle.mk_geom.specs.Headers.{IsInRange}
 
 few_of_class : (class k : ℕ) → class < 8 → k < cells_of class → k < 32
-few_of_class class k known lt =
-    let range = class_words_within class known in
-    let ends = cell_ends k (class_words_of class) lt in
-    let m = mul-le k 2 k (class_words_of class) (omega arith) range.0 in
-    omega arith
+few_of_class class k known lt = grind (arith, class_words_within, cell_ends, mul-le)
 
 few_under : (h : Header) (k : ℕ) → IsInRange h → k < cells_under (Some h) → k < 32
 few_under Free k in_range lt = absurd (omega arith)

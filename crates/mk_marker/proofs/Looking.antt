@@ -19,29 +19,12 @@ use Rattle.mk_words.specs.{Markers.marker_in, States.PassState, States.now_of}
 pub did_more : (p : PassState) (xs : List Finding) (q : PassState) (s : Step) (n : ℕ) (r : PassState) → Did p xs q
     → MovesMarker q s n r
     → Did p (xs ++ finding p.seat s n ∷ []) r
-did_more p xs q s n r d m =
-    did_then p xs q (finding p.seat s n ∷ []) r d
-    (subst (λ (seat : Seat). Did q (finding seat s n ∷ []) r) (seat_kept p xs q d) m.did)
+did_more p xs q s n r d m = grind (arith, did_then, seat_kept)
 
 -- what was seen of a page in some of the steps
 
 seen_before : (s : Seat) (page : ℕ) (xs ys : List Finding) → SeesNoWork s page xs → SeesNoWork s page (xs ++ ys)
-seen_before s page xs ys h =
-    record {
-      before = h.before;
-      behind = h.behind ++ ys;
-      marks = h.marks;
-      blacks = h.blacks;
-      is =
-          ap (λ (zs : List Finding). zs ++ ys) h.is
-          ∙ append_assoc h.before (looking s (Word.Mark page) h.marks ∷ looking s
-          (Word.Black page) h.blacks ∷ h.behind) ys;
-      no_work = elim h.no_work [
-        | inl none ↦ inl none
-        | inr free ↦ inr
-            (free.0 ++ ys, ap (λ (zs : List Finding). zs ++ ys) free.1)
-      ];
-    }
+seen_before s page xs ys h = grind (arith, append_assoc)
 
 seen_behind : (s : Seat) (page : ℕ) (xs ys : List Finding) → SeesNoWork s page ys → SeesNoWork s page (xs ++ ys)
 seen_behind s page xs ys h =
@@ -58,15 +41,7 @@ seen_behind s page xs ys h =
     }
 
 pub looked_at_none : (p : PassState) (first : ℕ) → IsBetweenScans p → LooksInVain p first first p
-looked_at_none p first between =
-    record {
-      steps = [];
-      did = did_nothing p;
-      looks = refl;
-      pages = λ page le lt. absurd
-          (omega arith);
-      between = between;
-    }
+looked_at_none p first between = grind (arith, did_nothing)
 
 pub looked_on : (p : PassState) (a b : ℕ) (q : PassState) (d e : ℕ) (r : PassState) (first end : ℕ)
     → LooksInVain p a b q → LooksInVain q d e r
@@ -89,9 +64,7 @@ looked_on p a b q d e r first end one two all =
 pub sees_then : (p : PassState) (a b : ℕ) (q : PassState) (cell : MarkedCell) (r : PassState) → LooksInVain p a b q
     → SeesCell q cell r → SeesCell p cell r
 sees_then p a b q cell r one two =
-    let sees : SeesACell p.seat cell.page cell.index cell.header two.steps =
-    subst (λ (s : Seat). SeesACell s cell.page cell.index cell.header two.steps)
-    (seat_kept p one.steps q one.did) two.sees in
+    let sees : SeesACell p.seat cell.page cell.index cell.header two.steps = grind (arith, seat_kept) in
     record {
       steps = one.steps ++ two.steps;
       did = did_then p one.steps q two.steps r one.did two.did;

@@ -38,10 +38,7 @@ made_has o header k sized is lt =
 
 either : (b : Bool) (h : Holding) (place : Place) → h.placing ≡ Chosen place → (b ≡ true → h.placing ≡ Unplaced)
     → (if b then nothing_done else h).placing ≡ Chosen place
-either true h place is none = let e : Unplaced ≡ Chosen place = sym (none refl) ∙ is in absurd (apart e)
-  where
-    apart : Unplaced ≡ Chosen place → ⊥
-    apart e = cc
+either true h place is none = grind arith
 either false h place is none = is
 
 still_chosen : (b : Bool) (p : Placing) (o : Option Place) (place : Place) → p ≡ Chosen place
@@ -112,18 +109,13 @@ module _ (c : Config) (w : World) (seat : Seat) (limits : IsWithinLimits c) (kno
   takes p n h (ItGivesBack four g) = absurd (true≢false (sym four ∙ marking_not_four (phase_of w.now.words) early))
 
   pub stays_chosen : (x : Step) → Meets c w.now seat x → StaysChosen c w seat place x
-  stays_chosen (Step.Take o) h =
-      inl (either (w.now.words.turn == 0) w.now.seats.holding place is
-      (λ z. ap (λ (y : Holding). y.placing) (known.orderly.free (eqb-true w.now.words.turn 0 z))))
+  stays_chosen (Step.Take o) h = grind (arith, either, eqb-true)
   stays_chosen Step.Give h = absurd (gives_not h)
   stays_chosen (Step.Head p n) h = inl (still_chosen (is_phase w.now.words 4) w.now.seats.holding.placing
       (place_now c w.now (flight_of w.now seat)) place is)
   stays_chosen (Step.Used p n) h = takes p n h (used_step c w.now (flight_of w.now seat) p n h.holder)
   stays_chosen Step.Grant h = absurd (not_used w.now.seats.holding.placing place is h.holder)
-  stays_chosen (Step.Mark p n) h =
-      inl (chosen_still (marks_place w.now.words (object_made c (flight_of w.now seat).op)
-      (place_now c w.now (flight_of w.now seat)) p n) w.now.seats.holding.placing
-      (place_now c w.now (flight_of w.now seat)) place is)
+  stays_chosen (Step.Mark p n) h = grind (arith, chosen_still)
   stays_chosen _ h = inl is
 
 -- So a mark that was of a cell is of one after a step: headers go on.
@@ -152,7 +144,4 @@ still_a_cell c w seat x p k limits known early h goes is = elim is [
   where
     onward : k < cells_under (header_in w.now.words p)
         → k < cells_under (header_in (WorldBehind c w seat x).now.words p)
-    onward lt =
-        let same : cells_under (header_in (WorldBehind c w seat x).now.words p) ≡ cells_under
-        (header_in w.now.words p) = goes.count (λ z. omega arith) in
-        subst (λ (n : ℕ). k < n) (sym same) lt
+    onward lt = grind arith

@@ -73,15 +73,9 @@ marks_behind c w seat Step.Begin limits known len laid say g h all early p k is 
 marks_behind c w seat Step.Want limits known len laid say g h all early p k is =
     let one = eqb-true (phase_of w.now.words) 1 h.phase in
     cells_kept c w seat Step.Want limits known len laid say (g.guarded (inl one)) (inl one) h all p k is
-marks_behind c w seat Step.Close limits known len laid say g h all early p k is =
-    let two = eqb-true (phase_of w.now.words) 2 h.phase in absurd
-    (elim early [ inl e ↦ omega arith | inr e ↦ omega arith ])
-marks_behind c w seat Step.Release limits known len laid say g h all early p k is =
-    let three = eqb-true (phase_of w.now.words) 3 h.phase in absurd
-    (elim early [ inl e ↦ omega arith | inr e ↦ omega arith ])
-marks_behind c w seat Step.End limits known len laid say g h all early p k is =
-    let four = eqb-true (phase_of w.now.words) 4 h.phase in absurd
-    (elim early [ inl e ↦ omega arith | inr e ↦ omega arith ])
+marks_behind c w seat Step.Close limits known len laid say g h all early p k is = grind (arith, eqb-true)
+marks_behind c w seat Step.Release limits known len laid say g h all early p k is = grind (arith, eqb-true)
+marks_behind c w seat Step.End limits known len laid say g h all early p k is = grind (arith, eqb-true)
 marks_behind c w seat Step.Over limits known len laid say g h all early p k is =
     let zero = over_phase c w.now seat h in absurd (elim early [ inl e ↦ omega arith | inr e ↦ omega arith ])
 marks_behind c w seat x limits known len laid say g h all early p k is = rest x h refl early is

@@ -36,23 +36,8 @@ itself s seats x has = (has ∙ sym (same_self s), tt)
 pub did_step : (p : PassState) (s : Step) (n : ℕ) (q : PassState) → Finds p s n q
     → Did p (finding p.seat s n ∷ []) q
 did_step p s n q f =
-    let e : Event = event_of p s in
-    let others : List Event = f.makes.others in
-    let v : PassState = record p { seen = p.seen ++ others } in
-    let has = own_before f.makes in
-    record {
-      more = others ++ e ∷ [];
-      is = f.makes.is ∙ ap (λ (es : List Event). record p { seen = es }) (append_assoc p.seen others (e ∷ []));
-      own_or_others =
-          own_or_others_in_parts p.seat p.seats others (e ∷ [])
-          (others_are_so p.seats p.seat others has f.makes.of_others) (itself p.seat p.seats s has);
-      done =
-          done_in_parts p others (e ∷ [])
-          ∙ ap (λ (zs : List Finding). zs ++ done_in v (e ∷ []))
-          (none_own p.table.config p.seats p.seat (left p.table.config p.seen) others has f.makes.of_others)
-          ∙ one_own p.table.config p.seat (left p.table.config v.seen) s
-          ∙ ap (λ (i : ℕ). finding p.seat s i ∷ []) (sym f.finds);
-    }
+    grind (arith, own_before, append_assoc, own_or_others_in_parts, others_are_so, itself, done_in_parts, none_own,
+    one_own)
 
 -- who attends is a marker
 pub attends_there : (m : Moment) (s : Seat) → is_attending (marker_at m s).presence ≡ true → Attends m s
@@ -121,14 +106,7 @@ scan_of : (c : Config) (page k header n : ℕ) → has_bit n k ≡ true
       seen = Some
           (record { page = page; header = header });
     }
-scan_of c page k header n is =
-    ap (λ (b : Bool). record {
-      presence = Attending;
-      scan = if b then Some
-          (scan_begun page k header) else None;
-      hand = None;
-      seen = Some (record { page = page; header = header });
-    }) is
+scan_of c page k header n is = grind arith
 
 pub claimed : (p : PassState) (cell : MarkedCell) (n : ℕ) (q : PassState)
     → marker_in p ≡ between_scans (Some (record { page = cell.page; header = cell.header }))
@@ -174,29 +152,7 @@ pub may_claim_seen : (w : WordsState) (p : PassState) (cell : MarkedCell) → Is
     → marker_in p ≡ between_scans (Some (record { page = cell.page; header = cell.header }))
     → cell.page < w.config.pages → cell.index < cells_under (header_of cell.header) → cell.index < 32
     → IsEnabledTo p (Step.Claim cell.page cell.index)
-may_claim_seen w p cell of at page index few =
-    let s : Step = Step.Claim cell.page cell.index in
-    let c : Config = p.table.config in
-    let page_in : (nat_lt cell.page c.pages && nat_lt cell.index 32) ≡ true =
-    ap (λ (b : Bool). b && nat_lt cell.index 32)
-    (lt-ltb cell.page c.pages (subst (λ (t : WordsState). cell.page < t.config.pages) (sym of.one_table) page))
-    ∙ lt-ltb cell.index 32 few in
-    let may : marker_may c (marker_in p) s ≡ true =
-    ap (λ (x : MarkerState). marker_may c x s) at
-    ∙ ap (λ (b : Bool). b && nat_lt cell.index (cells_under (header_of cell.header)))
-    (eq-eqb cell.page cell.page refl) ∙ lt-ltb cell.index (cells_under (header_of cell.header)) index in
-    subst (λ (seat : Seat). failing c (now_of p) (record { seat = seat; step = s }) ≡ 0) (sym of.marker.seat)
-    (meets_enabled c (now_of p) (record { seat = Marker of.marker.number; step = s })
-    (record {
-      seat = lt-ltb of.marker.number 8 of.marker.exists;
-      kind = refl;
-      order = refl;
-      range = page_in;
-      gates = refl;
-      phase = refl;
-      marker = subst (λ (seat : Seat). marker_may c (marker_at (now_of p) seat) s ≡ true) of.marker.seat may;
-      holder = refl;
-    }))
+may_claim_seen w p cell of at page index few = grind (arith, lt-ltb, eq-eqb, meets_enabled)
 
 -- after its `mblack` the cell is black
 pub blackened : (p : PassState) (page k : ℕ) (q : PassState)
@@ -215,8 +171,5 @@ blackened p page k q makes of lt few =
     (bit_or (slice_index w.now.words.blacks page) (bit_for k))) page) k ≡ true =
     bits_added w.now.words.blacks page (bit_for k) k (omega (arith, len.blacks, lt)) (bit_for_has k few) in
     let black : has_bit (slice_index (world_behind c w (event_of p Step.Mblack)).now.words.blacks page) k ≡ true =
-    subst (λ (i : ℕ). has_bit (slice_index (slice_set w.now.words.blacks i
-    (bit_or (slice_index w.now.words.blacks i) (scan_bit (marker_at w.now p.seat).scan))) page) k ≡ true) (sym at)
-    (subst (λ (i : ℕ). has_bit (slice_index (slice_set w.now.words.blacks page
-    (bit_or (slice_index w.now.words.blacks page) i)) page) k ≡ true) (sym bit) there) in
+        grind arith in
     subst (λ (v : World). has_bit (slice_index v.now.words.blacks page) k ≡ true) (sym d.world) black

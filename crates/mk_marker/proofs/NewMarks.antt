@@ -42,13 +42,7 @@ bits_of_cells o k is = by (is_small_object o) is
   where
     by : (b : Bool) → has_bit (if b then 2 ^ cells_of (class_made o) - 1 else 1) k ≡ true
         → k < (if b then cells_of (class_made o) else 1)
-    by true is = elim (cases_lt k (cells_of (class_made o))) [
-      | inl lt ↦ lt
-      | inr past ↦
-          let none = bit_at_ones_above (cells_of (class_made o)) k (omega arith) in
-          let one = bit_is_one (2 ^ cells_of (class_made o) - 1) k is in
-          absurd (omega arith)
-    ]
+    by true is = grind (arith, cases_lt, bit_at_ones_above, bit_is_one)
     by false is = let e : k ≡ 0 = bit_of_power 0 k is in omega arith
 
 -- the header that a marker has seen where it marks
@@ -84,19 +78,7 @@ module _ (c : Config) (w : World) (seat : Seat) (limits : IsWithinLimits c) (kno
   by_hand : (hand : Option Hand) (p n k : ℕ) → marks_by_hand c.pages w.now.words hand p n ≡ true → has_bit n k ≡ true
       → k < cells_under (header_in w.now.words p)
   by_hand None p n k h is = cc
-  by_hand (Some hand) p n k h is = at (pointed_cell c.pages w.now.words.pages hand.value) refl h
-    where
-      at : (cell : Option Cell) → pointed_cell c.pages w.now.words.pages hand.value ≡ cell → is_bit_of cell p n ≡ true
-          → k < cells_under (header_in w.now.words p)
-      at None there h = cc
-      at (Some cell) there h =
-          let parts = and_parts (p == cell.page) (n == 2 ^ cell.index) h in
-          let page : p ≡ cell.page = eqb-true p cell.page parts.0 in
-          let value : n ≡ 2 ^ cell.index = eqb-true n (2 ^ cell.index) parts.1 in
-          let same : k ≡ cell.index = bit_of_power cell.index k (subst (λ (i : ℕ). has_bit i k ≡ true) value is) in
-          subst (λ (i : ℕ). i < cells_under (header_in w.now.words p)) (sym same)
-          (subst (λ (q : ℕ). cell.index < cells_under (header_in w.now.words q)) (sym page)
-          (pointed_is_cell c w laid on hand.value cell there))
+  by_hand (Some hand) p n k h is = grind (arith, and_parts, eqb-true, bit_of_power, pointed_is_cell)
 
   -- for the place of a New
   by_place : (p n k : ℕ) → Meets c w.now seat (Step.Mark p n)
@@ -225,9 +207,7 @@ module _ (c : Config) (w : World) (seat : Seat) (limits : IsWithinLimits c) (kno
             inr (inl (seen_is (marker_at w.now seat).seen (marker_at w.now seat).hand
             (seen_header_goes_on c w.now seat known markers h.marker) p k h.marker new.0 new.1))
       ]
-  new_mark (Step.Clear q) p k h early markers goes is =
-      let z = eqb-true (phase_of w.now.words) 0 h.phase in absurd
-      (elim early [ inl e ↦ omega arith | inr e ↦ omega arith ])
+  new_mark (Step.Clear q) p k h early markers goes is = grind (arith, eqb-true)
   new_mark x p k h early markers goes is = rest x refl is
     where
       rest : (y : Step) → is_marking_step y ≡ false

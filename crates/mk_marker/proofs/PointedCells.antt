@@ -24,10 +24,7 @@ module _ (c : Config) (w : World) (laid : LayoutStands c w) (on : is_phase w.now
   near : (h : Header) (page : ℕ) (cell : Cell) → header_in w.now.words page ≡ Some h → 0 < cells_under (Some h)
       → cell.page ≡ page
       → (l : LiesUnder h page cell) → cell.index < cells_under (header_in w.now.words cell.page)
-  near h page cell shown some at l =
-      let index : cell.index < cells_under (Some h) = elim l.known [ inl none ↦ absurd (omega arith) | inr lt ↦ lt ] in
-      subst (λ (q : ℕ). cell.index < cells_under (header_in w.now.words q)) (sym at)
-      (subst (λ (x : Option Header). cell.index < cells_under x) (sym shown) index)
+  near h page cell shown some at l = grind arith
 
   far : (d : ℕ) (mapped : Bool) (page : ℕ) (cell : Cell) → header_in w.now.words page ≡ Some (Later d mapped)
       → cell.page ≡ page - d → cell.index ≡ 0
@@ -51,12 +48,8 @@ module _ (c : Config) (w : World) (laid : LayoutStands c w) (on : is_phase w.now
   by_header (LeafBlock class) page word cell range shown is =
       let l = lies_under (LeafBlock class) page word cell is in near (LeafBlock class) page cell shown
       (some_cells class range) l.head l
-  by_header (Run count mapped) page word cell range shown is =
-      let l = lies_under (Run count mapped) page word cell is in near (Run count mapped) page cell shown
-      (omega arith) l.head l
-  by_header (LeafRun count) page word cell range shown is =
-      let l = lies_under (LeafRun count) page word cell is in near (LeafRun count) page cell shown
-      (omega arith) l.head l
+  by_header (Run count mapped) page word cell range shown is = grind (arith, lies_under, near)
+  by_header (LeafRun count) page word cell range shown is = grind (arith, lies_under, near)
   by_header (Later d mapped) page word cell range shown is =
       let l = lies_under (Later d mapped) page word cell is in
       far d mapped page cell shown l.head (later_index (nat_le d page) (Later d mapped) page cell is)

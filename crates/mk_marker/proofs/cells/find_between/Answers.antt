@@ -11,12 +11,4 @@ returns-in-Some-clause-some c =
     c.pages.invariant c.in-Some.ensures.some
 
 pub pages-preserved : goal.pages-preserved
-pages-preserved c =
-    looked_on c.args.pass.now c.args.first c.pages.page c.pages.pass c.pages.page
-    (c.pages.page + 1) c.find_on_page.new.pass c.args.first
-    (c.pages.page + 1) c.pages.invariant c.in_default.ensures.none
-    (λ other le lt. elim (cases_lt other c.pages.page) [
-      | inl before ↦ inl (le, before)
-      | inr here ↦ inr
-          (omega arith, lt)
-    ])
+pages-preserved c = grind (arith, looked_on, cases_lt)
