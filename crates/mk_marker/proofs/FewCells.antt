@@ -1,7 +1,6 @@
 -- A page has at most 32 cells.
 use Rattle.mk_laws.proofs.Vocabulary.{Block, Free, Header, Later, LeafBlock, LeafRun, None, Option, Run, Some, ℕ, arith}
-use Rattle.mk_laws.proofs.Vocabulary.{cell_ends, cells_of, cells_under, class_words_of, header_of, mul-le, refl, ◌<◌}
-use Rattle.mk_laws.proofs.Vocabulary.{◌≡◌}
+use Rattle.mk_laws.proofs.Vocabulary.{cell_ends, cells_of, cells_under, header_of, mul-le, refl, ◌<◌, ◌≡◌}
 use Rattle.mk_geom.proofs.{ClassTable.class_words_within, HeaderLemmas.word_of-header_of}
 use Rattle.mk_geom.specs.Headers.{IsInRange}
 

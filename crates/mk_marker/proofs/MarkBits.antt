@@ -5,10 +5,9 @@ use Rattle.mk_laws.proofs.Vocabulary.{Object, Option, Place, Placing, Seat, Stag
 use Rattle.mk_laws.proofs.Vocabulary.{World, ℕ, and_parts, ap, arith, cells_made, cells_under, chosen, eqb-true, false}
 use Rattle.mk_laws.proofs.Vocabulary.{flight_of, has_bit, has_place, header_at, header_in, header_made, header_of}
 use Rattle.mk_laws.proofs.Vocabulary.{held_by_pages, if◌then◌else◌, inl, inr, is_decided, is_phase, is_run_gone}
-use Rattle.mk_laws.proofs.Vocabulary.{is_used_once, made_shows, marks_place, ne_eqb, nothing_done, object_made}
-use Rattle.mk_laws.proofs.Vocabulary.{object_now, pages_some, part_cells, phase_of, place_now, placed_now, refl}
-use Rattle.mk_laws.proofs.Vocabulary.{slice_index, subst, sym, true, true≢false, undecided_new, used_step, ◌&&◌, ◌+◌}
-use Rattle.mk_laws.proofs.Vocabulary.{◌<◌, ◌==◌, ◌∙◌, ◌≡◌, ◌⊎◌}
+use Rattle.mk_laws.proofs.Vocabulary.{is_used_once, made_shows, ne_eqb, nothing_done, object_made, object_now}
+use Rattle.mk_laws.proofs.Vocabulary.{pages_some, part_cells, phase_of, place_now, placed_now, slice_index, subst, sym}
+use Rattle.mk_laws.proofs.Vocabulary.{true, true≢false, undecided_new, used_step, ◌&&◌, ◌+◌, ◌<◌, ◌==◌, ◌∙◌, ◌≡◌, ◌⊎◌}
 use Rattle.mk_laws.proofs.LayoutHolders.{giver_has_turn, holding_object, made_sized, new_has_turn, placed_undecided}
 use Rattle.mk_laws.proofs.{Actors.Meets, Behind.object_kind, Known.Known, OthersMoves.WorldBehind}
 

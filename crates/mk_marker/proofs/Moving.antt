@@ -1,13 +1,12 @@
 -- One step of a marker: what it leaves.
-use Rattle.mk_laws.proofs.Vocabulary.{Bool, Caller, Config, Event, Host, List, Marker, MarkerState, Moment, None, Seat}
-use Rattle.mk_laws.proofs.Vocabulary.{Some, Step, Word, World, ℕ, ap, append_assoc, arith, bit_or, cells_under, eq-eqb}
-use Rattle.mk_laws.proofs.Vocabulary.{found, has_bit, header_of, histories_keep_lengths, if◌then◌else◌, is_attending}
-use Rattle.mk_laws.proofs.Vocabulary.{left, lt-ltb, marker_at, marker_behind, marker_may, nat_lt, refl, scan_begun}
-use Rattle.mk_laws.proofs.Vocabulary.{scan_page, slice_index, slice_set, subst, sym, true, words_under, world_behind}
-use Rattle.mk_laws.proofs.Vocabulary.{[], ◌%◌, ◌&&◌, ◌*◌, ◌++◌, ◌+◌, ◌-◌, ◌<◌, ◌∙◌, ◌∷◌, ◌≡◌, ◌≤◌}
+use Rattle.mk_laws.proofs.Vocabulary.{Bool, Caller, Config, Host, List, Marker, MarkerState, Moment, None, Seat, Some}
+use Rattle.mk_laws.proofs.Vocabulary.{Step, Word, World, ℕ, ap, append_assoc, arith, bit_or, cells_under, eq-eqb, found}
+use Rattle.mk_laws.proofs.Vocabulary.{has_bit, header_of, histories_keep_lengths, if◌then◌else◌, is_attending, left}
+use Rattle.mk_laws.proofs.Vocabulary.{lt-ltb, marker_at, marker_behind, refl, scan_begun, scan_page, slice_index}
+use Rattle.mk_laws.proofs.Vocabulary.{slice_set, subst, sym, true, words_under, world_behind, [], ◌%◌, ◌*◌, ◌++◌, ◌+◌}
+use Rattle.mk_laws.proofs.Vocabulary.{◌-◌, ◌<◌, ◌∙◌, ◌∷◌, ◌≡◌, ◌≤◌}
 use Rattle.mk_core.proofs.{Conditions.meets_enabled, WordBits.bit_for_has, WordBits.bits_added}
-use Rattle.mk_core.specs.Frames.{Attends, ScanIsLeft}
-use Rattle.mk_core.specs.{Accesses.scan_bit, Bits.bit_for, Enabled.failing, Growing.Finding, Growing.own_from}
+use Rattle.mk_core.specs.{Accesses.scan_bit, Bits.bit_for, Frames.Attends, Frames.ScanIsLeft, Growing.own_from}
 use Rattle.mk_core.specs.{Words.named_word, declared.seats.Presence.TheVariants.Attending}
 use Rattle.mk_laws.proofs.Changes.{marks_kind}
 use Rattle.mk_marker.specs.Steps.{ClaimsMarked, IsMarkedIn, IsOf, IsScanning, IsScanOf, MarksGrow, Moved, MovesMarker}
@@ -15,7 +14,7 @@ use Rattle.mk_marker.specs.Steps.{words_left}
 use Rattle.mk_marker.specs.{Doing.Did, Doing.finding, Markers.attends, Markers.between_scans, Scanning.words_scanned}
 use Rattle.mk_marker.specs.{Working.IsBlackIn, declared.cells.MarkedCell.MarkedCell}
 use Rattle.mk_turns.proofs.Doing.{done_in_parts, none_own, others_are_so, own_or_others_in_parts}
-use Rattle.mk_turns.specs.Doing.{AreOwnOrOfOthers, done_in}
+use Rattle.mk_turns.specs.Doing.{AreOwnOrOfOthers}
 use Rattle.mk_words.proofs.{Made.made, Made.own_before, Seats.same_self}
 use Rattle.mk_words.specs.{Markers.Marks, Markers.marker_in, Seats.Has, States.PassState, States.WordsState}
 use Rattle.mk_words.specs.{States.event_of, States.now_of, Steps.Finds, Steps.IsEnabledTo, Steps.Makes, Steps.found_by}

@@ -9,9 +9,9 @@ use Rattle.mk_laws.proofs.Vocabulary.{chosen, claims_placed, class_made, eqb-tru
 use Rattle.mk_laws.proofs.Vocabulary.{has_place, header_at, header_in, header_made, if◌then◌else◌, inl, inr}
 use Rattle.mk_laws.proofs.Vocabulary.{is_attending, is_phase, is_small_object, is_some, marker_at, marker_of, marks_is}
 use Rattle.mk_laws.proofs.Vocabulary.{marks_place, object_made, object_now, or_cases, page_at_address, pages_some}
-use Rattle.mk_laws.proofs.Vocabulary.{phase_of, place_claim, place_now, placed_now, pointed_cell, refl, seen_bit}
-use Rattle.mk_laws.proofs.Vocabulary.{seen_page, slice_index, subst, sym, true, true≢false, ◌+◌, ◌-◌, ◌<◌, ◌==◌, ◌^◌}
-use Rattle.mk_laws.proofs.Vocabulary.{◌∙◌, ◌≡◌, ◌⊎◌}
+use Rattle.mk_laws.proofs.Vocabulary.{place_claim, place_now, placed_now, pointed_cell, refl, seen_bit, seen_page}
+use Rattle.mk_laws.proofs.Vocabulary.{slice_index, subst, sym, true, true≢false, ◌+◌, ◌-◌, ◌<◌, ◌==◌, ◌^◌, ◌∙◌, ◌≡◌}
+use Rattle.mk_laws.proofs.Vocabulary.{◌⊎◌}
 use Rattle.mk_core.proofs.WordBits.{bit_is_one, bit_of_cell, bit_of_power, more_bits}
 use Rattle.mk_core.proofs.{PlacesNow.PlacedNow, ServingSteps.MarksPlace}
 use Rattle.mk_core.specs.{NewPlaces.bits_made, StopConditions.is_bit_of, StopConditions.marks_by_hand}
@@ -78,7 +78,19 @@ module _ (c : Config) (w : World) (seat : Seat) (limits : IsWithinLimits c) (kno
   by_hand : (hand : Option Hand) (p n k : ℕ) → marks_by_hand c.pages w.now.words hand p n ≡ true → has_bit n k ≡ true
       → k < cells_under (header_in w.now.words p)
   by_hand None p n k h is = cc
-  by_hand (Some hand) p n k h is = grind (arith, and_parts, eqb-true, bit_of_power, pointed_is_cell)
+  by_hand (Some hand) p n k h is = at (pointed_cell c.pages w.now.words.pages hand.value) refl h
+    where
+      at : (cell : Option Cell) → pointed_cell c.pages w.now.words.pages hand.value ≡ cell → is_bit_of cell p n ≡ true
+          → k < cells_under (header_in w.now.words p)
+      at None there h = cc
+      at (Some cell) there h =
+          let parts = and_parts (p == cell.page) (n == 2 ^ cell.index) h in
+          let page : p ≡ cell.page = eqb-true p cell.page parts.0 in
+          let value : n ≡ 2 ^ cell.index = eqb-true n (2 ^ cell.index) parts.1 in
+          let same : k ≡ cell.index = bit_of_power cell.index k (subst (λ (i : ℕ). has_bit i k ≡ true) value is) in
+          subst (λ (i : ℕ). i < cells_under (header_in w.now.words p)) (sym same)
+          (subst (λ (q : ℕ). cell.index < cells_under (header_in w.now.words q)) (sym page)
+          (pointed_is_cell c w laid on hand.value cell there))
 
   -- for the place of a New
   by_place : (p n k : ℕ) → Meets c w.now seat (Step.Mark p n)
