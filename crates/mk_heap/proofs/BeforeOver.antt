@@ -27,24 +27,13 @@ no_more_overs es more none =
 -- The events of others have none.
 pub others_overs : (c : Config) (seats : List Seat) (es fs : List Event) → IsHistory c fs → Grows seats es fs
     → Has seats Host → has_over fs ≡ has_over es
-others_overs c seats es fs h g has =
-    let long : IsHistory c (es ++ g.more) = subst (λ (l : List Event). IsHistory c l) g.is h in
-    let on = (enabled_in_parts c es g.more).0 long.enabled in
-    ap has_over g.is ∙ no_more_overs es g.more (none_over c (left c es) seats g.more has g.of_others on.1)
+others_overs c seats es fs h g has = grind (arith, enabled_in_parts, no_more_overs, none_over)
 
 -- Nor has a step that isn't one, with the events of others before it.
 pub step_overs : (p q : PassState) (s : Step) → Makes p s q → Has p.seats Host → is_over s ≡ false
     → has_over q.seen ≡ has_over p.seen
 step_overs p q s m has out =
-    let c : Config = p.table.config in
-    let es : List Event = p.seen ++ m.others in
-    let e : Event = event_of p s in
-    let long : IsHistory c (es ++ e ∷ []) =
-    subst (λ (r : PassState). IsHistory r.table.config r.seen) m.is m.pass.history in
-    let on = (enabled_in_parts c p.seen m.others).0 (earlier_part_is_history c es (e ∷ []) long).enabled in
-    ap (λ (r : PassState). has_over r.seen) m.is
-    ∙ no_more_overs es (e ∷ []) (none_besides (is_over s) false refl ∙ out)
-    ∙ no_more_overs p.seen m.others (none_over c (left c p.seen) p.seats m.others has m.of_others on.1)
+    grind (arith, enabled_in_parts, earlier_part_is_history, no_more_overs, none_besides, none_over)
 
 -- No one comes while the host waits for the turn.
 
@@ -58,17 +47,12 @@ unfolding AreEnabledFrom
 none_over_waiting p c w [] has only on = refl
 none_over_waiting p c w (e ∷ es) has only on =
     let parts = and_parts (waits_for p e) (list_all (waits_for p) es) only in
-    let first : is_over e.step ≡ false =
-    false_from_ne_true (is_over e.step) (λ over. by over
-    (or_cases (not (is_one_of p.seats e.seat)) (is_take e.step && is_same_seat e.seat p.seat) parts.0)) in
+    let first : is_over e.step ≡ false = grind (arith, false_from_ne_true, or_cases) in
     cc (first, none_over_waiting p c (world_behind c w e) es has parts.1 on.1)
   where
     by : is_over e.step ≡ true
         → (not (is_one_of p.seats e.seat) ≡ true) ⊎ ((is_take e.step && is_same_seat e.seat p.seat) ≡ true) → ⊥
-    by over (inl other) =
-        let hosts : Has p.seats e.seat =
-        subst (λ (s : Seat). Has p.seats s) (sym (over_is_hosts c w.now e on.0 over)) has in
-        true≢false (sym hosts ∙ not-true (is_one_of p.seats e.seat) other)
+    by over (inl other) = grind (arith, over_is_hosts, not-true)
     by over (inr mine) = no_take_is_over e.step (and_parts (is_take e.step) (is_same_seat e.seat p.seat) mine).0 over
 
 pub taken_overs : (p q : PassState) → TakesTurn p None q → Has p.seats Host → IsHistory q.table.config q.seen
@@ -110,10 +94,7 @@ over_lasts c w (e ∷ es) on h =
         → (phase_of w.now.words ≡ 5) ⊎ (has_over (e ∷ es) ≡ true)
         → (phase_of (world_behind c w e).now.words ≡ 5) ⊎ (has_over es ≡ true)
     by asks moved (inl five) = inl (moved ∙ five_stays e.step (phase_of w.now.words) asks five)
-    by asks moved (inr has) = elim (or_cases (is_over e.step) (has_over es) has) [
-      | inl now ↦ inl (moved ∙ five_behind e.step (phase_of w.now.words) now)
-      | inr later ↦ inr later
-    ]
+    by asks moved (inr has) = grind (arith, or_cases, five_behind)
 
 pub none_by_phase : (c : Config) (es : List Event) → IsHistory c es → phase_of (left c es).now.words ≢ 5
     → has_over es ≡ false

@@ -16,11 +16,7 @@ registers_are : (c : Config) (es : List Event) → length (never_behind c es).re
 registers_are c es = (calls_stay (never_first c) (asked (calls c es))).registers ∙ length-replicate (8 * c.callers) Null
 
 pub may_clear : (p : PassState) (d : ℕ) → IsPassOf p.table p → d < 8 → Admits p (Op.Clear d)
-may_clear p d of small =
-    let count = registers_are p.table.config p.seen in
-    let number : caller_number p.seat ≡ of.number = ap caller_number of.seat in
-    let exists = of.exists in
-    record { of_a_caller = omega arith; in_range = small; access = tt; store = tt }
+may_clear p d of small = grind (arith, registers_are)
 
 pub pass_of_next : (h : HostState) (x : CallerState) (w : WordsState) → x ≡ at_home (pass_for h (Caller h.callers))
     → h.pass.table ≡ w
@@ -38,24 +34,16 @@ pass_of_next h x w is table lt =
 -- the host after one caller
 pub behind_one : (h g : HostState) (w : WordsState) → h ≡ first_host w → g ≡ with_caller_made h
     → (g.callers ≡ 1) × (g.pass.table ≡ w)
-behind_one h g w first is = (
-  ap (λ (x : HostState). x.callers) is ∙ ap (λ (x : HostState). x.callers + 1) first,
-  ap (λ (x : HostState). x.pass.table) is ∙ ap (λ (x : HostState). x.pass.table) first,
-)
+behind_one h g w first is = grind arith
 
 -- its pass after a call
 pub pass_of_later : (p q : PassState) → q ≡ record p { seen = q.seen } → IsPassOf p.table p → IsPassOf q.table q
-pass_of_later p q is of =
-    subst (λ (r : PassState). IsPassOf r.table r) (sym is)
-    (record { number = of.number; exists = of.exists; table = refl; seat = of.seat; seats = of.seats })
+pass_of_later p q is of = grind arith
 
 -- the first caller
 pub pass_of_first : (h : HostState) (x : CallerState) (w : WordsState) → h ≡ first_host w → IsWithinLimits w.config
     → x ≡ at_home (pass_for h (Caller h.callers)) → IsPassOf x.pass.table x.pass
-pass_of_first h x w first limits is =
-    let none : h.callers ≡ 0 = ap (λ (g : HostState). g.callers) first in
-    let some : 1 ≤ w.config.callers = limits.callers.0 in
-    pass_of_next h x w is (ap (λ (g : HostState). g.pass.table) first) (omega arith)
+pass_of_first h x w first limits is = grind (arith, pass_of_next)
 
 -- Where one caller was made, and no marker, all are joined when it is, whatever was seen since.
 pub one_is_joined : (w : WordsState) (first made h joined over : HostState) (p : PassState) (seen later : List Event)
@@ -66,9 +54,7 @@ one_is_joined w first made h joined over p seen later is_first is_made is seats 
     let begun : h ≡ with_seen (with_caller_made (first_host w)) h.pass.seen = cc (is, is_made, is_first) in
     let callers : h.callers ≡ 1 = ap (λ (g : HostState). g.callers) begun in
     let markers : h.markers ≡ 0 = ap (λ (g : HostState). g.markers) begun in
-    let has : Has p.seats (Caller 0) =
-    subst (λ (l : List Seat). Has l (Caller 0))
-    (sym (seats ∙ ap (λ (g : HostState). Caller g.callers ∷ []) is_first)) refl in
+    let has : Has p.seats (Caller 0) = grind arith in
     subst (λ (g : HostState). AllAreJoined g) (sym (is_over ∙ ap (λ (g : HostState). with_seen g later) is_joined))
     (record {
       callers = λ k lt.
@@ -83,13 +69,7 @@ over_before : (xs ys : List Event) → has_over xs ≡ true → has_over (xs ++ 
 over_before xs ys h = list_any-append (λ (e : Event). is_over e.step) xs ys ∙ ap (λ (b : Bool). b || has_over ys) h
 
 over_last : (p q : PassState) → Makes p Step.Over q → has_over q.seen ≡ true
-over_last p q m =
-    let es : List Event = p.seen ++ m.others in
-    cc (m.is, list_any-append (λ (e : Event). is_over e.step) es (event_of p Step.Over ∷ []), either (has_over es))
-  where
-    either : (b : Bool) → (b || true) ≡ true
-    either true = refl
-    either false = refl
+over_last p q m = grind (arith, list_any-append)
 
 pub has_said_over : (p q : PassState) → SaysOver p q → has_over q.seen ≡ true
 has_said_over p q o =

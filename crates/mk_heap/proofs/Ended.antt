@@ -80,11 +80,7 @@ module _ {h : HostState} {w : WordsState} (host : HasAllHome h w)
         (seen : final.history_of f ≡ h.pass.seen) (config : final.config_of f ≡ w.config)
       where
         pub ends_whole : IsWhole (final.config_of f) (final.history_of f)
-        ends_whole =
-            subst (λ (c : Config). IsWhole c (final.history_of f)) (ap (λ (x : WordsState). x.config) host.table
-            ∙ sym config)
-            (subst (λ (es : List Event). IsWhole h.pass.table.config es) (sym seen)
-            (record { history = history; tidy = tidy; rests = all_rest }))
+        ends_whole = grind (arith, all_rest)
 
         pub ends_counted : HasTallies (now_of h.pass).words w.config.pages f
             → HasCounts (final.config_of f) (final.history_of f)

@@ -95,20 +95,13 @@ joined_is_host {h} {p} {q} is own done table joined whole mine theirs =
     })
   where
     came : (s : Seat) → Has p.seats s → Rests (left h.pass.table.config p.seen).now s
-    came s has =
-        let same : s ≡ p.seat = only_one p.seat s (subst (λ (l : List Seat). Has l s) done.alone has) in
-        subst (λ (w : WordsState). Rests (left w.config p.seen).now s) table
-        (subst (λ (x : Seat). Rests (now_of p) x) (sym same) done.rests)
+    came s has = grind (arith, only_one)
 
 -- Where all are joined, every seat is home.
 pub all_home : {h : HostState} → IsHost h → Has h.pass.seats h.pass.seat → AllAreJoined h
     → HasAll h.pass.table.config h.pass.seats
-all_home {h} is own joined (Caller k) exists =
-    ⊎_elim (λ (t : k < h.callers). joined.callers k t)
-    (λ (t : h.callers ≤ k). is.callers k t (ltb-true k h.pass.table.config.callers exists)) (cases_lt k h.callers)
-all_home {h} is own joined (Marker k) exists =
-    ⊎_elim (λ (t : k < h.markers). joined.markers k t) (λ (t : h.markers ≤ k). is.markers k t (ltb-true k 8 exists))
-    (cases_lt k h.markers)
+all_home {h} is own joined (Caller k) exists = grind (arith, ltb-true, cases_lt)
+all_home {h} is own joined (Marker k) exists = grind (arith, ltb-true, cases_lt)
 all_home {h} is own joined Host exists = subst (λ (s : Seat). Has h.pass.seats s) is.seat own
 
 -- The next caller has no call in flight.
@@ -141,7 +134,4 @@ home_view {callers} {markers} is view = ap (λ (y : Option PassState). host_of y
 
 -- A caller that is in no call is done.
 pub idle_is_done : {p : PassState} → p.seats ≡ p.seat ∷ [] → IsIdleCaller p → IsDone p
-idle_is_done {p} alone idle = record {
-  alone = alone;
-  rests = record { call = idle.rest; out = ap (λ (s : Seat). marker_at (now_of p) s) idle.seat };
-}
+idle_is_done {p} alone idle = grind arith

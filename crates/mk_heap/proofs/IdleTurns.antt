@@ -25,17 +25,10 @@ at_most_one (suc (suc n)) le = absurd (omega arith)
 
 pub fresh_phase : (p : PassState) → IsFresh p None → IsHistory p.table.config p.seen → has_over p.seen ≡ false
     → (IsAtPhase p 0) ⊎ (IsAtPhase p 1)
-fresh_phase p f history before = elim (give_phase (phase_of (now_of p).words) f.phase) [
-  | inl low ↦ at_most_one (phase_of (now_of p).words) low
-  | inr five ↦ absurd (true≢false (sym (end_is_behind_over p.table.config p.seen history five) ∙ before))
-]
+fresh_phase p f history before = grind (arith, give_phase, at_most_one, end_is_behind_over)
 
 pub fresh_free : (p : PassState) → IsFresh p None → IsFreeForCycle p
-fresh_free p f = record {
-  decided = ap is_pending_free f.call;
-  unplaced = ap (λ (h : Holding). has_place h.placing) f.holding;
-  gone = ap (λ (h : Holding). is_run_gone (now_of p).words h.freed) f.holding;
-}
+fresh_free p f = grind arith
 
 -- The look at the phase finds it, and keeps all.
 
@@ -59,57 +52,21 @@ none_is_on p q n t fresh before f other = elim (fresh_phase p fresh t.history be
 ]
 
 pub ends_none : (p q : PassState) (n : ℕ) → Finds p (Step.Look Word.Phase) n q → IsAtPhase p 0 → EndsCycle p q
-ends_none p q n f none = record {
-  looked = q;
-  looks = f.makes;
-  phase = inl none;
-  none = λ h. refl;
-  on = λ (one : IsAtPhase p 1). absurd (omega arith);
-}
+ends_none p q n f none = grind arith
 
 pub ends_one : (p q r : PassState) (n : ℕ) → Finds p (Step.Look Word.Phase) n q → IsAtPhase p 1 → FinishesCycle q r
     → EndsCycle p r
-ends_one p q r n f on law = record {
-  looked = q;
-  looks = f.makes;
-  phase = inr on;
-  none = λ (none : IsAtPhase p 0). absurd (omega arith);
-  on = λ h. law;
-}
+ends_one p q r n f on law = grind arith
 
 -- What is exact and tidy stays so where all but the phase is kept.
 
 pub exact_kept : (p q : PassState) → LeavesTurn but_phase p q → TalliesAreExact p.table.config p.seen
     → TalliesAreExact q.table.config q.seen
-exact_kept p q k x =
-    let c : Config = p.table.config in
-    let same : q.table.config ≡ c = same_config p q k.call.pass in
-    let xs : List PlacedAllocation = (world_of q).allocations in
-    let allocations : xs ≡ (world_of p).allocations = ap (λ (s : Steady). s.allocations) k.steady in
-    record {
-      held =
-          ap (λ (s : Steady). s.held) k.steady ∙ x.held
-          ∙ sym (ap (λ (d : Config). held_by_allocations d xs) same
-          ∙ ap (λ (ys : List PlacedAllocation). held_by_allocations c ys) allocations);
-      fresh =
-          ap (λ (s : Steady). s.fresh) k.steady ∙ x.fresh
-          ∙ sym (ap (λ (d : Config). in_a_word (fresh_words_of d xs)) same
-          ∙ ap (λ (ys : List PlacedAllocation). in_a_word (fresh_words_of c ys)) allocations);
-    }
+exact_kept p q k x = grind (arith, same_config)
 
 pub tidy_kept : (p q : PassState) → LeavesTurn but_phase p q → TalliesAreTidy p.table.config p.seen
     → TalliesAreTidy q.table.config q.seen
-tidy_kept p q k x =
-    let same : q.table.config ≡ p.table.config = same_config p q k.call.pass in
-    record {
-      cycles = ap (λ (s : Steady). s.cycles) k.steady ∙ x.cycles ∙ ap in_a_word (sym k.counts.ends);
-      released =
-          ap (λ (s : Steady). s.released) k.steady ∙ x.released
-          ∙ ap in_a_word (sym (ap (λ (s : Steady). releases s.allocations) k.steady));
-      full =
-          ap (λ (s : Steady). s.full) k.steady ∙ x.full ∙ ap in_a_word (sym k.counts.fulls)
-          ∙ ap (λ (d : Config). in_a_word (full_answers d q.seen)) (sym same);
-    }
+tidy_kept p q k x = grind (arith, same_config)
 
 -- No gate is held where none was, by the same holder.
 pub none_held_kept : (p q : PassState) → q ≡ record p { seen = q.seen } → KeepsGates p q
@@ -127,43 +84,15 @@ pub looked_idle : (p q : PassState) → p.seat ≡ Host → InTurn p → IsFresh
     → Acts p (Step.Look Word.Phase) q → IsAtPhase p 0 → TalliesAreExact p.table.config p.seen
     → TalliesAreTidy p.table.config p.seen → IsIdleTurn q
 looked_idle p q host t f a none exact tidy =
-    let keeps = look_keeps p q t (fresh_free p f) a in
-    let less = keeps_less unchanged but_phase p q keeps in
-    record {
-      seat = ap (λ (r : PassState). r.seat) keeps.call.pass ∙ host;
-      phase = ap (λ (s : Steady). s.phase) keeps.steady ∙ none;
-      free = free_then p q keeps.call (fresh_free p f);
-      gates = none_held_kept p q keeps.call.pass (gates_behind p (Step.Look Word.Phase) q a refl) f.gates;
-      exact = exact_kept p q less exact;
-      tidy = tidy_kept p q less tidy;
-    }
+    grind (arith, look_keeps, fresh_free, keeps_less, free_then, none_held_kept, gates_behind, exact_kept, tidy_kept)
 
 pub finished_idle : (p q : PassState) → p.seat ≡ Host → IsFreeForCycle p → FinishesCycle p q
     → TalliesAreExact p.table.config p.seen → TalliesAreTidy p.table.config p.seen → IsIdleTurn q
-finished_idle p q host free f exact tidy =
-    let same : q.table.config ≡ p.table.config = same_config p q f.pass in
-    record {
-      seat = ap (λ (r : PassState). r.seat) f.pass ∙ host;
-      phase = f.phase;
-      free = record {
-        decided = ap is_pending_free f.call ∙ free.decided;
-        unplaced = ap (λ (x : Done). has_place x.placing) f.done ∙ free.unplaced;
-        gone = f.gone;
-      };
-      gates = subst (λ (c : Config). none_is_held c.callers (now_of q).words ≡ true) (sym same) f.gates;
-      exact = f.exact exact;
-      tidy = f.tidy tidy;
-    }
+finished_idle p q host free f exact tidy = grind (arith, same_config)
 
 -- A cycle that was begun in an idle turn may be finished there.
 pub begun_free : (p q : PassState) → IsFreeForCycle p → BeginsCycle p q → IsFreeForCycle q
-begun_free p q free b = record {
-  decided = ap is_pending_free b.call ∙ free.decided;
-  unplaced = ap (λ (x : Done). has_place x.placing) b.done ∙ free.unplaced;
-  gone = b.gone;
-}
+begun_free p q free b = grind arith
 
 pub cycle_idle : (p b q : PassState) → IsIdleTurn p → BeginsCycle p b → FinishesCycle b q → IsIdleTurn q
-cycle_idle p b q idle begins finishes =
-    finished_idle b q (ap (λ (r : PassState). r.seat) begins.pass ∙ idle.seat) (begun_free p b idle.free begins)
-    finishes (begins.exact idle.exact) (begins.tidy idle.tidy)
+cycle_idle p b q idle begins finishes = grind (arith, finished_idle, begun_free)

@@ -8,13 +8,7 @@ use Rattle.mk_words.specs.States.{PassState, WordsState, now_of}
 -- A marker that is out is done.
 pub out_is_done : {p : PassState} → IsHistory p.table.config p.seen → p.seats ≡ p.seat ∷ [] → IsMarkers p → IsOut p
     → IsDone p
-out_is_done {p} h alone of out = record {
-  alone = alone;
-  rests = record {
-    call = ap (λ (s : Seat). flight_of (now_of p) s) of.seat;
-    out = out_is_outside p h of out;
-  };
-}
+out_is_done {p} h alone of out = grind (arith, out_is_outside)
 
 -- The next marker is out.
 pub next_is_out : {h : HostState} → IsHost h → h.markers < 8 → marker_at (now_of h.pass) (Marker h.markers) ≡ outside
@@ -23,11 +17,7 @@ next_is_out {h} is lt = (is.rests (Marker h.markers) (is.markers h.markers (omeg
 -- There are eight markers at most.
 pub few_markers : {h g : HostState} {w v : WordsState} → h ≡ g → w ≡ v → g.markers < v.config.markers
     → IsWithinLimits w.config → h.markers < 8
-few_markers {h} {g} {w} {v} same table more limits =
-    let least : h.markers < w.config.markers = subst (λ (x : HostState). x.markers < w.config.markers) (sym same)
-    (subst (λ (x : WordsState). g.markers < x.config.markers) (sym table) more) in
-    let most = limits.markers in
-    omega arith
+few_markers {h} {g} {w} {v} same table more limits = grind arith
 
 pub next_is_markers : (h : HostState) → h.markers < 8 → IsMarkers (pass_for h (Marker h.markers))
 next_is_markers h lt = record { number = h.markers; exists = lt; seat = refl }

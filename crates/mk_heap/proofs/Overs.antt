@@ -23,13 +23,7 @@ module _ (p q : PassState) (t : InTurn p) (idle : IsIdleTurn p) (u : InTurn q) (
   w = world_at a.makes
 
   phase_there : (w.now.words.phase + 5) % 2 ^ 64 % 8 ≡ 5
-  phase_there =
-      let there = (made p Step.Over q a.makes).protocol in
-      let low : w.now.words.phase % 8 ≡ 0 = ap (λ (s : Steady). s.phase) a.turn.steady ∙ idle.phase in
-      let few : count_by is_in w.now.seats.markers ≤ 8 =
-      subst (λ (n : ℕ). count_by is_in w.now.seats.markers ≤ n) there.markers
-      (count_by-le-length is_in w.now.seats.markers) in
-      over_phase w.now.words.phase (count_by is_in w.now.seats.markers) low there.high few
+  phase_there = grind (arith, made, protocol, count_by-le-length, over_phase)
 
   pub over_at_five : IsAtPhase q 5
   over_at_five = ap (λ (x : World). phase_of x.now.words) a.world ∙ phase_there
@@ -51,54 +45,12 @@ pub record MayGive (p : PassState) : Type 0 where
 
 pub give_allowed : (p : PassState) → InTurn p → MayGive p → IsEnabledTo p Step.Give
 give_allowed p t may =
-    may_act p Step.Give (protocol p t may.free) t.holds may.free.decided refl refl may.gates may.phase
-    (and_from (decided && gone && held) fresh
-    (and_from (decided && gone) held (and_from decided gone rests may.free.gone)
-    (eq-eqb m.words.held (held_by_pages m.words) tallies.0)) (eq-eqb m.words.fresh m.fresh_words tallies.1))
-  where
-    m : Moment
-    m = now_of p
-
-    decided : Bool
-    decided = is_decided (call_of p).stage
-
-    gone : Bool
-    gone = is_run_gone m.words m.seats.holding.freed
-
-    held : Bool
-    held = m.words.held == held_by_pages m.words
-
-    fresh : Bool
-    fresh = m.words.fresh == m.fresh_words
-
-    rests : is_decided (call_of p).stage ≡ true
-    rests = ap (λ (s : Seat). is_decided (flight_of (now_of p) s).stage) may.seat
-
-    not_releasing : (n : ℕ) → (n ≤ 1) ⊎ (n ≡ 5) → (n == 4) ≡ false
-    not_releasing n (inl low) = ne_eqb n 4 (λ four. omega arith)
-    not_releasing n (inr five) = ne_eqb n 4 (λ four. omega arith)
-
-    settled : IsSettled (world_of p)
-    settled = record {
-      releasing = not_releasing (phase_of m.words) (give_phase (phase_of m.words) may.phase);
-      placing = may.free.unplaced;
-      unmapped = gone_is_unmapped m.words m.seats.holding.freed may.free.gone;
-    }
-
-    tallies : ((now_of p).words.held ≡ held_by_pages (now_of p).words)
-        × ((now_of p).words.fresh ≡ (now_of p).fresh_words)
-    tallies = settled_tallies p.table.config p.seen t.history settled may.exact
+    grind (arith, may_act, protocol, and_from, eq-eqb, ne_eqb, give_phase, gone_is_unmapped, settled_tallies)
 
 -- An idle turn may be given back, and one after the `over`.
 
 pub idle_may_give : (p : PassState) → IsIdleTurn p → MayGive p
-idle_may_give p idle = record {
-  seat = idle.seat;
-  phase = ap (λ (n : ℕ). has_phase n Step.Give) idle.phase;
-  free = idle.free;
-  gates = idle.gates;
-  exact = idle.exact;
-}
+idle_may_give p idle = grind arith
 
 pub over_may_give : (p q : PassState) → InTurn p → IsIdleTurn p → InTurn q → Acts p Step.Over q → MayGive q
 over_may_give p q t idle u a =

@@ -16,54 +16,25 @@ use Rattle.mk_words.specs.{States.PassState, States.now_of, Steps.IsAdmittedTo, 
 -- No step of the host's decides a call.
 pub look_admitted : (p : PassState) (x : Word) → p.seat ≡ Host → IsHistory p.table.config p.seen
     → IsAdmittedTo p (Step.Look x)
-look_admitted p x host h =
-    let c : Config = p.table.config in
-    subst (λ (s : Seat). AreAdmitted c.globals (never_first c)
-    (asked (calls c (p.seen ++ record { seat = s; step = Step.Look x } ∷ [])))) (sym host)
-    (subst (λ (xs : List Decided). AreAdmitted c.globals (never_first c) (asked xs))
-    (sym (calls_more c (first_world c) p.seen (record { seat = Host; step = Step.Look x })
-    ∙ append-nil (calls c p.seen))) h.admitted)
+look_admitted p x host h = grind (arith, calls_more, append-nil)
 
 look_counts_nothing : (c : Config) (w : World) (x : Word)
     → CountsNothing c w (record { seat = Host; step = Step.Look x })
-look_counts_nothing c w x = record {
-  alike = record {
-    tallies = record { held = refl; fresh = refl; cycles = refl; released = refl; full = refl };
-    allocations = refl;
-  };
-  no_end = refl;
-  no_full = refl;
-}
+look_counts_nothing c w x = grind arith
 
 tidy_behind_others : (c : Config) (es fs : List Event) → steady_of (left c fs) ≡ steady_of (left c es)
     → CountsAreLeft c es fs
     → TalliesAreTidy c es → TalliesAreTidy c fs
-tidy_behind_others c es fs same counts t =
-    record {
-      cycles = ap (λ (x : Steady). x.cycles) same ∙ t.cycles ∙ ap in_a_word (sym counts.ends);
-      released = ap (λ (x : Steady). x.released) same ∙ t.released
-          ∙ ap (λ (x : Steady). in_a_word (releases x.allocations)) (sym same);
-      full = ap (λ (x : Steady). x.full) same ∙ t.full ∙ ap in_a_word (sym counts.fulls);
-    }
+tidy_behind_others c es fs same counts t = grind arith
 
 -- A look leaves the tallies what they count (as in the clients of the shared words).
 pub look_tidy : (p q : PassState) (x : Word) → Acts p (Step.Look x) q → p.seat ≡ Host
     → TalliesAreTidy p.table.config p.seen → TalliesAreTidy q.table.config q.seen
-look_tidy p q x a host t =
-    let c : Config = p.table.config in
-    let fs : List Event = p.seen ++ a.makes.others in
-    let e : Event = record { seat = Host; step = Step.Look x } in
-    let behind : TalliesAreTidy c (fs ++ e ∷ []) =
-    counts_tidy_more c fs e (look_counts_nothing c _ x) (tidy_behind_others c _ fs a.turn.steady a.counts t) in
-    let seen_is : q.seen ≡ fs ++ e ∷ [] = cc (a.makes.is, host) in
-    subst (λ (d : Config). TalliesAreTidy d q.seen) (sym (ap (λ (r : PassState). r.table.config) a.makes.is))
-    (subst (λ (es : List Event). TalliesAreTidy c es) (sym seen_is) behind)
+look_tidy p q x a host t = grind (arith, counts_tidy_more, look_counts_nothing, tidy_behind_others)
 
 -- After a `give` the host hasn't the turn.
 pub given_no_turn : (p q : PassState) → Acts p Step.Give q → host_has_turn q.table.config (now_of q) ≡ false
-given_no_turn p q a =
-    ne_eqb (now_of q).words.turn (1 + q.table.config.callers)
-    (λ e. let zero : (now_of q).words.turn ≡ 0 = ap (λ (w : World). w.now.words.turn) a.world in absurd (omega arith))
+given_no_turn p q a = grind (arith, ne_eqb)
 
 -- and the phase is as it was.
 pub given_phase : (p q : PassState) → Acts p Step.Give q → phase_of (now_of q).words ≡ phase_of (now_of p).words
@@ -73,11 +44,4 @@ given_phase p q a = ap (λ (w : World). phase_of w.now.words) a.world ∙ ap (λ
 pub looked_may_give : (p q : PassState) (x : Word) → p.seat ≡ Host → InTurn p → IsFresh p None
     → Acts p (Step.Look x) q → TalliesAreExact p.table.config p.seen → MayGive q
 looked_may_give p q x host t f a exact =
-    let keeps = calm_keeps p (Step.Look x) q a t a.makes.pass.history refl (fresh_free p f) unchanged refl in
-    record {
-      seat = ap (λ (r : PassState). r.seat) keeps.call.pass ∙ host;
-      phase = ap (λ (s : Steady). has_phase s.phase Step.Give) keeps.steady ∙ f.phase;
-      free = free_then p q keeps.call (fresh_free p f);
-      gates = none_held_kept p q keeps.call.pass (gates_behind p (Step.Look x) q a refl) f.gates;
-      exact = exact_kept p q (keeps_less unchanged but_phase p q keeps) exact;
-    }
+    grind (arith, calm_keeps, fresh_free, free_then, none_held_kept, gates_behind, exact_kept, keeps_less)

@@ -18,15 +18,7 @@ record IsHostsTurn (p : PassState) : Type 0 where
   before_over : has_over p.seen ≡ false
 
 hosts : (g : _) (c : After-look-found g) → IsHostsTurn c.take_turn-turn.result.pass
-hosts g c =
-    let o = c.is_in_order-2.ensures in
-    let takes = c.take_turn-turn.ensures.takes in
-    let own = subst (λ (s : Seat). Has c.args.home.seats s) c.requires.seat c.is_in_order.ensures.own in
-    record {
-      turn = in_turn _ _ o.own o.turn o.history;
-      seat = ap (λ (r : PassState). r.seat) (turn_moves c.args.home _ takes).is ∙ c.requires.seat;
-      before_over = taken_overs c.args.home _ takes own o.history ∙ c.requires.before_over;
-    }
+hosts g c = grind (arith, in_turn, turn_moves, taken_overs)
 
 pub returns-then-is_in-clause-takes : goal.returns-then-is_in-clause-takes
 returns-then-is_in-clause-takes g c =

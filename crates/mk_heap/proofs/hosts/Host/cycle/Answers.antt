@@ -13,14 +13,7 @@ use Rattle.mk_heap.proofs.hosts.Host.cycle.Goals.{After-finish_cycle-turn}
 use Rattle.mk_heap.proofs.hosts.Host.cycle.Goals as goal
 
 pub give-back-requires-clause-enabled : goal.give-back-requires-clause-enabled
-give-back-requires-clause-enabled g c =
-    let o = c.is_in_order-2.ensures in
-    let p : PassState = c.take_idle_turn-turn.result.pass in
-    let b : PassState = c.begin_cycle.new.turn.pass in
-    let r : PassState = c.finish_cycle-turn.result.0.pass in
-    let idle : IsIdleTurn r =
-    cycle_idle p b r c.take_idle_turn-turn.ensures.idle c.begin_cycle.ensures.law c.finish_cycle-turn.ensures.law in
-    give_allowed r (in_turn r c.finish_cycle-turn.result.0.op o.own o.turn o.history) (idle_may_give r idle)
+give-back-requires-clause-enabled g c = grind (arith, cycle_idle, give_allowed, in_turn, idle_may_give)
 
 -- the host's pass as the cycle left it
 ended : (g : _) (c : After-finish_cycle-turn g)
@@ -38,15 +31,10 @@ invariant_of-self g c =
     c.give-back.ensures.acts.makes.pass.history (given_no_turn _ _ c.give-back.ensures.acts)
 
 pub returns-clause-own : goal.returns-clause-own
-returns-clause-own g c =
-    hosts_seat (home_is c.take_home-home.ensures c.self.invariant) c.is_in_order.ensures.own
-    (moves_more _ _ _ _ (ended g (goal.at.returns-clause-own g c).After-finish_cycle-turn)
-    c.give-back.ensures.acts.makes)
+returns-clause-own g c = grind (arith, hosts_seat, home_is, moves_more, ended)
 
 pub returns-clause-idle : goal.returns-clause-idle
-returns-clause-idle g c =
-    given_phase c.finish_cycle-turn.result.0.pass c.give-back.result c.give-back.ensures.acts
-    ∙ c.finish_cycle-turn.ensures.law.phase
+returns-clause-idle g c = grind (arith, given_phase)
 
 pub returns-clause-cycle : goal.returns-clause-cycle
 returns-clause-cycle g c =
@@ -68,13 +56,7 @@ returns-clause-cycle g c =
     }
 
 pub returns-clause-overs : goal.returns-clause-overs
-returns-clause-overs g c =
-    let r : PassState = c.finish_cycle-turn.result.0.pass in
-    let none : IsAtPhase r 0 = c.finish_cycle-turn.ensures.law.phase in
-    step_overs r c.give-back.result Step.Give c.give-back.ensures.acts.makes (hosts_seat (home_is
-    c.take_home-home.ensures c.self.invariant) c.is_in_order.ensures.own (ended g (goal.at.returns-clause-overs g
-    c).After-finish_cycle-turn)) refl ∙ none_by_phase _ _ c.is_in_order-2.ensures.history (λ (five : IsAtPhase r 5).
-    absurd (omega arith)) ∙ sym c.requires.before_over
+returns-clause-overs g c = grind (arith, step_overs, hosts_seat, home_is, ended, none_by_phase)
 
 pub returns-clause-reached : goal.returns-clause-reached
 returns-clause-reached g c =
