@@ -1,8 +1,8 @@
 -- What the client's calls ask.
 use Rattle.std.proofs.lemmas.List.{length-replicate}
-use Rattle.mk_laws.proofs.Vocabulary.{Bool, Caller, Config, Event, IsWithinLimits, List, Null, Op, Seat, Step, ℕ, ap}
-use Rattle.mk_laws.proofs.Vocabulary.{arith, asked, caller_number, calls, false, length, list_any-append, never_behind}
-use Rattle.mk_laws.proofs.Vocabulary.{refl, subst, sym, true, [], ◌*◌, ◌++◌, ◌+◌, ◌<◌, ◌||◌, ◌∙◌, ◌∷◌, ◌≡◌, ◌≤◌}
+use Rattle.mk_laws.proofs.Vocabulary.{Bool, Caller, Config, Event, IsWithinLimits, List, Null, Op, Step, ℕ, ap, arith}
+use Rattle.mk_laws.proofs.Vocabulary.{asked, calls, length, list_any-append, never_behind, refl, subst, sym, true, []}
+use Rattle.mk_laws.proofs.Vocabulary.{◌*◌, ◌++◌, ◌+◌, ◌<◌, ◌||◌, ◌∙◌, ◌∷◌, ◌≡◌}
 use Rattle.mk_never.proofs.Later.{calls_stay}
 use Rattle.mk_core.specs.History.{never_first}
 use Rattle.mk_caller.specs.States.{Admits, CallerState, at_home}

@@ -3,7 +3,7 @@
 use Rattle.std.{proofs.Common.⊎_elim, specs.List.list_all}
 use Rattle.mk_laws.proofs.Vocabulary.{Bool, Caller, Config, Event, Group, Host, IsHistory, List, Marker, Moment, None}
 use Rattle.mk_laws.proofs.Vocabulary.{Seat, Step, World, ℕ, and_parts, ap, cases_lt, enabled_in_parts, enabled_meets}
-use Rattle.mk_laws.proofs.Vocabulary.{false, group_of, is_of_turn, is_one_of, is_open_to, left, left_in_parts, list_any}
+use Rattle.mk_laws.proofs.Vocabulary.{false, group_of, is_of_turn, is_one_of, is_open_to, left_in_parts, list_any}
 use Rattle.mk_laws.proofs.Vocabulary.{ltb-true, not, not-true, or_cases, or_from, or_parts, phase_of, refl, seat_exists}
 use Rattle.mk_laws.proofs.Vocabulary.{subst, sym, true, true≢false, world_behind, [], ◌&&◌, ◌++◌, ◌<◌, ◌||◌, ◌∙◌, ◌∷◌}
 use Rattle.mk_laws.proofs.Vocabulary.{◌≡◌, ◌≤◌}

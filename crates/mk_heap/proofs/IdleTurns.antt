@@ -1,19 +1,17 @@
 -- The host's turn before an `over`: whether a cycle is on, and that none is after the end of one.
-use Rattle.mk_laws.proofs.Vocabulary.{Config, Holding, Host, IsHistory, List, None, PlacedAllocation, Steady, Step}
-use Rattle.mk_laws.proofs.Vocabulary.{TalliesAreTidy, Word, ℕ, all_below-at, ap, arith, false, fresh_words_of}
-use Rattle.mk_laws.proofs.Vocabulary.{has_place, in_a_word, inl, inr, is_held, is_run_gone, not, phase_of, refl, subst}
-use Rattle.mk_laws.proofs.Vocabulary.{suc, sym, true, true≢false, zero, ◌%◌, ◌∙◌, ◌≡◌, ◌≤◌, ◌⊎◌}
-use Rattle.mk_core.specs.Counts.{TalliesAreExact, full_answers, releases}
-use Rattle.mk_core.specs.{Allocations.held_by_allocations, Moments.none_is_held}
+use Rattle.mk_laws.proofs.Vocabulary.{Config, Host, IsHistory, None, Steady, Step, TalliesAreTidy, Word, ℕ}
+use Rattle.mk_laws.proofs.Vocabulary.{all_below-at, ap, arith, false, inl, inr, is_held, not, phase_of, refl, subst}
+use Rattle.mk_laws.proofs.Vocabulary.{suc, sym, true, zero, ◌%◌, ◌∙◌, ◌≡◌, ◌≤◌, ◌⊎◌}
+use Rattle.mk_core.specs.{Counts.TalliesAreExact, Moments.none_is_held}
 use Rattle.mk_laws.proofs.Asked.{give_phase}
 use Rattle.mk_cycle.proofs.KeptInParts.{free_then, gates_behind, keeps_less, same_config}
 use Rattle.mk_cycle.proofs.{BeginSteps.all_from, CleaningSteps.calm_keeps}
-use Rattle.mk_cycle.specs.EngineLaw.{IsAtPhase, IsFreeForCycle, is_pending_free}
-use Rattle.mk_cycle.specs.TurnKeeps.{Done, InTurn, KeepsGates, LeavesTurn, but_phase, unchanged}
+use Rattle.mk_cycle.specs.EngineLaw.{IsAtPhase, IsFreeForCycle}
+use Rattle.mk_cycle.specs.TurnKeeps.{InTurn, KeepsGates, LeavesTurn, but_phase, unchanged}
 use Rattle.mk_cycle.specs.{BeginCycle.BeginsCycle, FinishCycle.FinishesCycle}
 use Rattle.mk_heap.specs.Ending.{EndsCycle, IsIdleTurn}
 use Rattle.mk_words.proofs.{Made.made, OverPhases.end_is_behind_over}
-use Rattle.mk_words.specs.States.{PassState, now_of, world_of}
+use Rattle.mk_words.specs.States.{PassState, now_of}
 use Rattle.mk_words.specs.{Seats.has_over, Steps.Finds, TurnSteps.Acts, TurnSteps.IsFresh}
 
 at_most_one : (n : ℕ) → n ≤ 1 → (n ≡ 0) ⊎ (n ≡ 1)
@@ -84,7 +82,16 @@ pub looked_idle : (p q : PassState) → p.seat ≡ Host → InTurn p → IsFresh
     → Acts p (Step.Look Word.Phase) q → IsAtPhase p 0 → TalliesAreExact p.table.config p.seen
     → TalliesAreTidy p.table.config p.seen → IsIdleTurn q
 looked_idle p q host t f a none exact tidy =
-    grind (arith, look_keeps, fresh_free, keeps_less, free_then, none_held_kept, gates_behind, exact_kept, tidy_kept)
+    let keeps = look_keeps p q t (fresh_free p f) a in
+    let less = keeps_less unchanged but_phase p q keeps in
+    record {
+      seat = ap (λ (r : PassState). r.seat) keeps.call.pass ∙ host;
+      phase = ap (λ (s : Steady). s.phase) keeps.steady ∙ none;
+      free = free_then p q keeps.call (fresh_free p f);
+      gates = none_held_kept p q keeps.call.pass (gates_behind p (Step.Look Word.Phase) q a refl) f.gates;
+      exact = exact_kept p q less exact;
+      tidy = tidy_kept p q less tidy;
+    }
 
 pub finished_idle : (p q : PassState) → p.seat ≡ Host → IsFreeForCycle p → FinishesCycle p q
     → TalliesAreExact p.table.config p.seen → TalliesAreTidy p.table.config p.seen → IsIdleTurn q

@@ -1,6 +1,6 @@
 -- A marker that is made is out, and one that is out is done.
-use Rattle.mk_laws.proofs.Vocabulary.{IsHistory, IsWithinLimits, Marker, Seat, ap, arith, flight_of, marker_at, outside}
-use Rattle.mk_laws.proofs.Vocabulary.{refl, subst, sym, [], ◌<◌, ◌∷◌, ◌≡◌}
+use Rattle.mk_laws.proofs.Vocabulary.{IsHistory, IsWithinLimits, Marker, arith, marker_at, outside, refl, [], ◌<◌, ◌∷◌}
+use Rattle.mk_laws.proofs.Vocabulary.{◌≡◌}
 use Rattle.mk_heap.specs.Hosts.{HostState, IsDone, IsHost, pass_for}
 use Rattle.mk_marker.{proofs.OutMarkers.out_is_outside, specs.Markers.IsMarkers, specs.Markers.IsOut}
 use Rattle.mk_words.specs.States.{PassState, WordsState, now_of}

@@ -1,10 +1,9 @@
 -- What the host asks where it tells a word: a look decides nothing, and the turn may be given back after it.
-use Rattle.mk_laws.proofs.Vocabulary.{AreAdmitted, Config, Decided, Event, Host, IsHistory, List, None, Seat, Steady}
-use Rattle.mk_laws.proofs.Vocabulary.{Step, TalliesAreTidy, Word, World, ap, append-nil, arith, asked, calls, false}
-use Rattle.mk_laws.proofs.Vocabulary.{first_world, has_phase, host_has_turn, in_a_word, left, ne_eqb, phase_of, refl}
-use Rattle.mk_laws.proofs.Vocabulary.{subst, sym, [], ◌++◌, ◌+◌, ◌∙◌, ◌∷◌, ◌≡◌}
-use Rattle.mk_core.{proofs.Histories.calls_more, specs.Counts.TalliesAreExact, specs.Counts.releases}
-use Rattle.mk_core.{specs.Frames.CountsAreLeft, specs.Frames.steady_of, specs.History.never_first}
+use Rattle.mk_laws.proofs.Vocabulary.{Config, Event, Host, IsHistory, List, None, Steady, Step, TalliesAreTidy, Word}
+use Rattle.mk_laws.proofs.Vocabulary.{World, ap, append-nil, arith, false, has_phase, host_has_turn, left, ne_eqb}
+use Rattle.mk_laws.proofs.Vocabulary.{phase_of, refl, ◌∙◌, ◌≡◌}
+use Rattle.mk_core.proofs.Histories.{calls_more}
+use Rattle.mk_core.specs.{Counts.TalliesAreExact, Frames.CountsAreLeft, Frames.steady_of}
 use Rattle.mk_laws.proofs.TallySteps.{CountsNothing}
 use Rattle.mk_cycle.proofs.KeptInParts.{free_then, gates_behind, keeps_less}
 use Rattle.mk_cycle.proofs.CleaningSteps.{calm_keeps}
@@ -44,4 +43,11 @@ given_phase p q a = ap (λ (w : World). phase_of w.now.words) a.world ∙ ap (λ
 pub looked_may_give : (p q : PassState) (x : Word) → p.seat ≡ Host → InTurn p → IsFresh p None
     → Acts p (Step.Look x) q → TalliesAreExact p.table.config p.seen → MayGive q
 looked_may_give p q x host t f a exact =
-    grind (arith, calm_keeps, fresh_free, free_then, none_held_kept, gates_behind, exact_kept, keeps_less)
+    let keeps = calm_keeps p (Step.Look x) q a t a.makes.pass.history refl (fresh_free p f) unchanged refl in
+    record {
+      seat = ap (λ (r : PassState). r.seat) keeps.call.pass ∙ host;
+      phase = ap (λ (s : Steady). has_phase s.phase Step.Give) keeps.steady ∙ f.phase;
+      free = free_then p q keeps.call (fresh_free p f);
+      gates = none_held_kept p q keeps.call.pass (gates_behind p (Step.Look x) q a refl) f.gates;
+      exact = exact_kept p q (keeps_less unchanged but_phase p q keeps) exact;
+    }

@@ -2,7 +2,7 @@ use Rattle.mk_laws.proofs.Vocabulary.{Caller, Config, IsWithinLimits, ap, subst,
 use Rattle.mk_caller.specs.States.{CallerState}
 use Rattle.mk_heap.proofs.ClientSteps.{has_said_over, one_is_joined, pass_of_first, pass_of_later}
 use Rattle.mk_heap.specs.Hosts.{HostState}
-use Rattle.mk_words.specs.{Seats.has_over, States.PassState}
+use Rattle.mk_words.specs.States.{PassState}
 use Rattle.mk_heap.proofs.clients.cycle_beside_a_caller.Goals as goal
 
 pub clear-requires-2-clause-whole : goal.clear-requires-2-clause-whole

@@ -2,13 +2,12 @@ use Rattle.mk_laws.proofs.Vocabulary.{Host, Seat, ap, arith, false, refl, subst,
 use Rattle.mk_core.proofs.PhaseTests.{in_word, not_in_word}
 use Rattle.mk_cycle.proofs.{Allowed.in_turn, KeptInParts.free_then, KeptInParts.keeps_less}
 use Rattle.mk_cycle.specs.TurnKeeps.{InTurn, but_phase, unchanged}
-use Rattle.mk_heap.proofs.BeforeOver.{taken_overs}
 use Rattle.mk_heap.proofs.IdleTurns.{ends_none, ends_one, exact_kept, finished_idle, fresh_free, look_keeps}
 use Rattle.mk_heap.proofs.IdleTurns.{looked_idle, none_is_on, phase_found, tidy_kept}
-use Rattle.mk_heap.proofs.{HomeCallers.taken_phase, MovedHosts.turn_moves, UnsweptHosts.taken_then_sweeps}
+use Rattle.mk_heap.proofs.{BeforeOver.taken_overs, HomeCallers.taken_phase, MovedHosts.turn_moves}
+use Rattle.mk_heap.proofs.{UnsweptHosts.taken_then_sweeps, ending.take_idle_turn.Goals.After-look-found}
 use Rattle.mk_turns.proofs.Sweeping.{other_step_sweeps, step_then_sweeps}
 use Rattle.mk_words.specs.{Seats.Has, Seats.has_over, States.PassState}
-use Rattle.mk_heap.proofs.ending.take_idle_turn.Goals.{After-look-found}
 use Rattle.mk_heap.proofs.ending.take_idle_turn.Goals as goal
 
 -- The turn is the host's, before its `over`.
@@ -18,7 +17,15 @@ record IsHostsTurn (p : PassState) : Type 0 where
   before_over : has_over p.seen ≡ false
 
 hosts : (g : _) (c : After-look-found g) → IsHostsTurn c.take_turn-turn.result.pass
-hosts g c = grind (arith, in_turn, turn_moves, taken_overs)
+hosts g c =
+    let o = c.is_in_order-2.ensures in
+    let takes = c.take_turn-turn.ensures.takes in
+    let own = subst (λ (s : Seat). Has c.args.home.seats s) c.requires.seat c.is_in_order.ensures.own in
+    record {
+      turn = in_turn _ _ o.own o.turn o.history;
+      seat = ap (λ (r : PassState). r.seat) (turn_moves c.args.home _ takes).is ∙ c.requires.seat;
+      before_over = taken_overs c.args.home _ takes own o.history ∙ c.requires.before_over;
+    }
 
 pub returns-then-is_in-clause-takes : goal.returns-then-is_in-clause-takes
 returns-then-is_in-clause-takes g c =

@@ -3,13 +3,13 @@ use Rattle.mk_cycle.{proofs.Allowed.in_turn, specs.Begun.EachIsBegun, specs.Engi
 use Rattle.mk_heap.proofs.BeforeOver.{hosts_seat, none_by_phase, step_overs}
 use Rattle.mk_heap.proofs.HostsKept.{home_is, home_view, is_home}
 use Rattle.mk_heap.proofs.MovedHosts.{MovesOn, begin_moves, finish_moves, idle_moves, moved_is_host, moves_more}
-use Rattle.mk_heap.proofs.{BegunHosts.cycle_begun, IdleTurns.cycle_idle, Overs.give_allowed, Overs.idle_may_give}
-use Rattle.mk_heap.proofs.{Telling.given_no_turn, Telling.given_phase, UnsweptHosts.idle_then_sweeps}
-use Rattle.mk_heap.specs.{Ending.IsIdleTurn, Hosts.HostState}
+use Rattle.mk_heap.proofs.Overs.{give_allowed, idle_may_give}
+use Rattle.mk_heap.proofs.{BegunHosts.cycle_begun, IdleTurns.cycle_idle, Telling.given_no_turn, Telling.given_phase}
+use Rattle.mk_heap.proofs.{UnsweptHosts.idle_then_sweeps, hosts.Host.cycle.Goals.After-finish_cycle-turn}
+use Rattle.mk_heap.specs.Hosts.{HostState}
 use Rattle.mk_turns.{proofs.Sweeping.other_step_sweeps, proofs.Sweeping.sweeps_then, specs.Sweeping.SweepsNothing}
 use Rattle.mk_waiting.specs.Taking.{TakesTurn}
 use Rattle.mk_words.specs.States.{PassState}
-use Rattle.mk_heap.proofs.hosts.Host.cycle.Goals.{After-finish_cycle-turn}
 use Rattle.mk_heap.proofs.hosts.Host.cycle.Goals as goal
 
 pub give-back-requires-clause-enabled : goal.give-back-requires-clause-enabled
@@ -56,7 +56,13 @@ returns-clause-cycle g c =
     }
 
 pub returns-clause-overs : goal.returns-clause-overs
-returns-clause-overs g c = grind (arith, step_overs, hosts_seat, home_is, ended, none_by_phase)
+returns-clause-overs g c =
+    let r : PassState = c.finish_cycle-turn.result.0.pass in
+    let none : IsAtPhase r 0 = c.finish_cycle-turn.ensures.law.phase in
+    step_overs r c.give-back.result Step.Give c.give-back.ensures.acts.makes (hosts_seat (home_is
+    c.take_home-home.ensures c.self.invariant) c.is_in_order.ensures.own (ended g (goal.at.returns-clause-overs g
+    c).After-finish_cycle-turn)) refl ∙ none_by_phase _ _ c.is_in_order-2.ensures.history (λ (five : IsAtPhase r 5).
+    absurd (omega arith)) ∙ sym c.requires.before_over
 
 pub returns-clause-reached : goal.returns-clause-reached
 returns-clause-reached g c =

@@ -1,8 +1,8 @@
 use Rattle.mk_laws.proofs.Vocabulary.{refl, subst, sym}
 use Rattle.mk_cycle.{proofs.Allowed.in_turn, proofs.Allowed.in_turn_after, specs.EngineLaw.IsAtPhase}
-use Rattle.mk_heap.proofs.{HomeCallers.callers_home, HostsKept.home_is, HostsKept.home_view}
-use Rattle.mk_heap.proofs.{HostsKept.is_home, IdleTurns.tidy_kept, MovedHosts.idle_moves, MovedHosts.moved_is_host}
-use Rattle.mk_heap.proofs.{MovedHosts.moves_more, Overs.give_allowed, Overs.over_keeps, Overs.over_may_give}
+use Rattle.mk_heap.proofs.MovedHosts.{idle_moves, moved_is_host, moves_more}
+use Rattle.mk_heap.proofs.{HomeCallers.callers_home, HostsKept.home_is, HostsKept.home_view, HostsKept.is_home}
+use Rattle.mk_heap.proofs.{IdleTurns.tidy_kept, Overs.give_allowed, Overs.over_keeps, Overs.over_may_give}
 use Rattle.mk_heap.proofs.{Telling.given_no_turn, UnsweptHosts.given_sweeps, UnsweptHosts.idle_then_sweeps}
 use Rattle.mk_heap.specs.{Ending.CallersAreJoined, Ending.SaysOver, Hosts.HostState}
 use Rattle.mk_turns.specs.Sweeping.{SweepsNothing}
