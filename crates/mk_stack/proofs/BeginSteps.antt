@@ -24,16 +24,7 @@ module _ {callers : ℕ} {n : NeverState} {top : Option ℕ} {role : ℕ → Rol
   -- The first caller makes the top.
 
   pub base_fits : IsNewRole n c 1 Base
-  base_fits =
-      record {
-        size = ap (λ (ks : List Kind). length (zero_words ks)) inv.core.top_type;
-        not_gone = refl;
-        born = λ e. unborn_base (sym e);
-        not_stacked = λ e. base_stacked e;
-        base = λ e. refl;
-        of_caller = λ k ne e. base_private k e;
-        not_taken = λ k e. base_taken k e;
-      }
+  base_fits = grind (arith, unborn_base, base_stacked, base_private, base_taken)
 
   pub found_steps : (u : Option Done) (rest : List Replied) → Local n top role c Founding u → Held Founding
       → Goal Founding u (Op.New 0 1 false) Placing rest (after_op n c (Op.New 0 1 false))
@@ -58,11 +49,7 @@ module _ {callers : ℕ} {n : NeverState} {top : Option ℕ} {role : ℕ → Rol
 
   pub place_steps : (u : Option Done) (rest : List Replied) → Local n top role c Placing u → Held Placing
       → Goal Placing u (Op.SetGlobal 0 0) Founded rest (after_op n c (Op.SetGlobal 0 0))
-  place_steps u rest local held =
-      let base : HasBase n role c = local.2 in
-      subst (λ (v : Value). Goal Placing u (Op.SetGlobal 0 0) Founded rest (with_global n 0 v)) (sym base.register)
-      (by_global inv c local.0 base.t local.1 base.has base.word tt
-      (idle inv c exists held (λ p. p) (λ f. f)) (λ b. refl))
+  place_steps u rest local held = grind (arith, by_global, idle)
 
   -- A job begins.
 

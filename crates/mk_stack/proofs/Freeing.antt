@@ -46,29 +46,13 @@ module _ {callers : ℕ} {n : NeverState} {top : Option ℕ} {role : ℕ → Rol
   there = granted a inv.core (λ e. unborn_taken c (e ∙ own.has))
 
   free_leaves : (k : ℕ) → k ≢ c → Leaves n top role m top now k
-  free_leaves k other =
-      record {
-        registers = λ x lt. refl;
-        same_top = λ x e. e;
-        none = λ first e. e;
-        base = λ first e b is. (
-          put_other role a Freed b (λ same. base_taken c (sym is ∙ ap role same ∙ own.has)) ∙ is,
-          freed_words n a b,
-        );
-        roles = λ b. roles_put role a Freed k (λ x. words_of m x ≡ words_of n x)
-            (subst (λ (r : Role). RoleKeeps k r Freed (words_of m a ≡ words_of n a)) (sym own.has)
-            ((λ same. absurd (other (sym same))), tt, freed_words n a a))
-            (λ x ne. same_role k (role x) _ (freed_words n a x)) b;
-      }
+  free_leaves k other = grind (arith, put_other, base_taken, freed_words, roles_put, same_role)
 
   still_other : (b : ℕ) (r : Role) → role b ≡ r → (r ≡ Taken c → ⊥) → now b ≡ r
   still_other b r is differs = put_other role a Freed b (λ same. differs (sym is ∙ ap role same ∙ own.has)) ∙ is
 
   free_chain : HasChain m top now nodes
-  free_chain =
-      has_chain_stays n m top role now nodes refl (λ t e. (still_other t Base e (base_taken c), word t 0))
-      (λ b one e. record { role_now = still_other b Stacked e (λ same. taken_stacked c (sym same)); link = word b 1 })
-      inv.core.chain
+  free_chain = grind (arith, has_chain_stays, now, still_other, base_taken, word, taken_stacked)
 
   free_core : Core callers m top now nodes
   free_core =
@@ -97,25 +81,10 @@ module _ {callers : ℕ} {n : NeverState} {top : Option ℕ} {role : ℕ → Rol
       }
 
   freed : HasFreed m now c u
-  freed =
-      record {
-        a = a;
-        register = own.register;
-        has = subst IsPublished (sym (put_same role a Freed)) tt;
-        owes = own.owes ∙ ap (λ (z : Value). Some (Popped (number_of z))) (sym (word a 0));
-      }
+  freed = grind (arith, put_same, word)
 
   no_longer : (b : ℕ) → IsHeld m (now b) c b Reading
-  no_longer b =
-      record {
-        pushing = put_by (λ (z : ℕ) (r : Role). r ≡ Private c → ⊥ × (register_at m c 1 ≡ Ptr z 0 0)) role a Freed
-            (λ e. absurd (freed_private c e)) (λ z ne e. absurd ((held z).pushing e).0) b;
-        freeing = put_by (λ (z : ℕ) (r : Role). r ≡ Taken c → ⊥ × (register_at m c 2 ≡ Ptr z 0 0)) role a Freed
-            (λ e. absurd (freed_taken c e)) (λ z ne e. absurd (ne (same_node z ((held z).freeing e).1))) b;
-      }
-    where
-      same_node : (z : ℕ) → register_at n c 2 ≡ Ptr z 0 0 → z ≡ a
-      same_node z e = let same : Ptr z 0 0 ≡ Ptr a 0 0 = sym e ∙ own.register in cc
+  no_longer b = grind (arith, put_by, freed_private, freed_taken)
 
   -- It is freed by this.
   pub by_free : (o : Op) (rest : List Replied) → freed_by a n c o ≡ 1 → ((b : ℕ) → b ≢ a → freed_by b n c o ≡ 0)

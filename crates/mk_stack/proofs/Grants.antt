@@ -56,16 +56,7 @@ module _ {callers : ℕ} {n : NeverState} {top : Option ℕ} {role : ℕ → Rol
   word b i ne = ap (λ (ws : List Value). get_or ws i Null) (words b ne)
 
   grant_leaves : (k : ℕ) → k ≢ c → Leaves n top role m top now k
-  grant_leaves k ne =
-      record {
-        registers = λ x lt. register_of_other (with_new n ty) c d k x (Ptr a ty 0) ne below lt;
-        same_top = λ x e. e;
-        none = λ first e. e;
-        base = λ first e b is. (still b Base is unborn_base, words b (not_new b Base is unborn_base));
-        roles = λ b. roles_put role a r k (λ x. words_of m x ≡ words_of n x)
-            (subst (λ (x : Role). RoleKeeps k x r (words_of m a ≡ words_of n a)) (sym was) tt)
-            (λ x apart. same_role k (role x) _ (words x apart)) b;
-      }
+  grant_leaves k ne = grind (arith, register_of_other, still, unborn_base, words, not_new, roles_put, was, same_role)
 
   grant_chain : HasChain m top now nodes
   grant_chain =

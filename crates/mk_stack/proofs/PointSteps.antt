@@ -78,10 +78,7 @@ module _ {globals : List ℕ} {n : NeverState} {k : ℕ} (state : IsStackState g
       (top_meets (λ (kind : Kind). IsOfKind (register_at n k 2) kind × IsOfKind (register_at n k r) kind) h (was, now))
 
   may_place : IsPointerTo 1 (register_at n k 0) → IsAdmitted globals n k (Op.SetGlobal 0 0)
-  may_place h =
-      let P : Option ℕ → Type 0 = λ x. IfSome x (λ ty. IsOfKind (register_at n k 0) (To ty 0)) in
-      admitted (Op.SetGlobal 0 0) (omega (arith, state.count), omega arith) tt (subst P (sym state.global)
-      (may_point h))
+  may_place h = grind (arith, admitted, may_point)
 
   pub admits : (s : Point) → At s → IfSome (op_at s) (IsAdmitted globals n k)
   admits Founding h = admitted _ (omega arith, type_exists n.types 1 _ _ state.top) tt tt
@@ -159,10 +156,7 @@ module _ {globals : List ℕ} {n : NeverState} {k : ℕ} (state : IsStackState g
   made s d ty so not_so next done none holds else_holds Answer.Full bases image =
       subst (λ (t : Point). Asks s (Op.New d ty true) Reply.Full t × HoldsAt (register_at n k) t)
       (sym (next Answer.Full)) (none, else_holds)
-  made s d ty so not_so next done none holds else_holds Answer.Done bases image =
-      subst (λ (t : Point). Asks s (Op.New d ty false) Reply.Done t
-      × HoldsAt (register_at (with_register (with_new n ty) k d (Ptr (length n.allocations) ty 0)) k) t)
-      (sym (next Answer.Done)) (done, holds)
+  made s d ty so not_so next done none holds else_holds Answer.Done bases image = grind arith
   made s d ty so not_so next done none holds else_holds _ bases image = absurd (cc)
 
   -- a comparison with null
@@ -184,24 +178,7 @@ module _ {globals : List ℕ} {n : NeverState} {k : ℕ} (state : IsStackState g
       → Asks s (Op.CasPtr 0 0 2 r) (reply_of n k (Op.CasPtr 0 0 2 r)) (if says_yes (as_told a) then so else not_so)
       × HoldsAt (register_at (after_op n k (Op.CasPtr 0 0 2 r)) k) (if says_yes (as_told a) then so else not_so)
   exchanged s r {so} {not_so} a bases h asks_yes asks_no at_yes at_no =
-      at_top (λ x m. a ≡ answer_of bases x
-      → Asks s (Op.CasPtr 0 0 2 r) x (if says_yes (as_told a) then so else not_so)
-      × HoldsAt (register_at m k) (if says_yes (as_told a) then so else not_so))
-      (λ t w. Reply.Num (bit (is_same (word_at n t w) (register_at n k 2)))) n
-      (λ t w. if is_same (word_at n t w) (register_at n k 2) then with_word n t w (register_at n k r) else n) h
-      (by (is_same (word_at n h.number 0) (register_at n k 2)))
-    where
-      by : (b : Bool) → a ≡ answer_of bases (Reply.Num (bit b))
-          → Asks s (Op.CasPtr 0 0 2 r) (Reply.Num (bit b)) (if says_yes (as_told a) then so else not_so)
-          × HoldsAt (register_at (if b then with_word n h.number 0 (register_at n k r) else n) k)
-          (if says_yes (as_told a) then so else not_so)
-      by b =
-          let still : (t : Point) → At t
-          → HoldsAt (register_at (if b then with_word n h.number 0 (register_at n k r) else n) k) t =
-          holds_still (λ x lt. exchange_leaves b n h.number 0 (register_at n k r) k x) in
-          yes_no (λ x t. Asks s (Op.CasPtr 0 0 2 r) x t
-          × HoldsAt (register_at (if b then with_word n h.number 0 (register_at n k r) else n) k) t) b a bases
-          (λ e. (asks_yes, still so at_yes)) (λ e. (asks_no, still not_so at_no))
+      grind (arith, at_top, holds_still, exchange_leaves, yes_no)
 
   -- a load of the top's word into register 2
   pub loads_top : (A : Reply → NeverState → Type 0) (h : IsPointerTo 1 (register_at n k 0))

@@ -11,22 +11,4 @@ both = node_kinds ∷ top_kinds ∷ []
 
 pub is_within_limits : (pages resident callers markers : ℕ) → IsBetween 1 4096 pages → IsBetween 1 pages resident
     → IsBetween 1 16 callers → markers ≤ 8 → IsWithinLimits (stack_config pages resident callers markers)
-is_within_limits pages resident callers markers p r c m =
-    record {
-      pages = p;
-      resident = r;
-      callers = c;
-      markers = m;
-      type_count = omega arith;
-      global_count = omega arith;
-      types = All-cons (IsTypeAmong both) node_kinds (top_kinds ∷ []) (
-        (omega arith, omega arith),
-        All-cons (IsAmong both) Number (To 0 0 ∷ []) tt
-            (All-cons (IsAmong both) (To 0 0) [] (omega arith, omega arith) (All-nil (IsAmong both))),
-      )
-          (All-cons (IsTypeAmong both) top_kinds [] (
-            (omega arith, omega arith),
-            All-cons (IsAmong both) (To 0 0) [] (omega arith, omega arith) (All-nil (IsAmong both)),
-          ) (All-nil (IsTypeAmong both)));
-      globals = All-cons (λ (ty : ℕ). ty < length both) 1 [] (omega arith) (All-nil (λ (ty : ℕ). ty < length both));
-    }
+is_within_limits pages resident callers markers p r c m = grind (arith, both)

@@ -50,19 +50,10 @@ module _ (c : Config) (es : List Event) where
   same_at : (first : List Replied) (k : ℕ) (lists : List Jobs) (all : List Dones) (h : HaveDone c es first k lists all)
       → AreRunsOf lists all (runs_at first k lists all h)
   unfolding runs_at
-  same_at first k [] [] h i jobs dones at at' = absurd (none_there i jobs at)
-    where
-      none_there : (i : ℕ) (jobs : Jobs) → slice_get [] i ≡ Some jobs → ⊥
-      none_there zero jobs e = cc
-      none_there (suc i) jobs e = cc
+  same_at first k [] [] h i jobs dones at at' = grind arith
   same_at first k [] (d ∷ ds) h i jobs dones at at' = absurd h
   same_at first k (x ∷ xs) [] h i jobs dones at at' = absurd h
-  same_at first k (x ∷ xs) (d ∷ ds) h zero jobs dones at at' =
-      let one : x ≡ jobs = cc in
-      let two : d ≡ dones = cc in (
-        h.0.same_jobs ∙ ap (λ (y : Jobs). y.list.items) one,
-        h.0.same_dones ∙ ap (λ (y : Dones). y.list.items) two,
-      )
+  same_at first k (x ∷ xs) (d ∷ ds) h zero jobs dones at at' = grind arith
   same_at first k (x ∷ xs) (d ∷ ds) h (suc i) jobs dones at at' = same_at [] (k + 1) xs ds h.1 i jobs dones at at'
 
   as_many : (first : List Replied) (k : ℕ) (lists : List Jobs) (all : List Dones) → HaveDone c es first k lists all

@@ -102,20 +102,14 @@ module _ {callers : ℕ} {n : NeverState} {top : Option ℕ} {role : ℕ → Rol
   module _ (h : HasTop n top c) (r : ℕ) where
     pub same_is : (m : ℕ) → reply_of n c (Op.CasPtr 0 0 2 r) ≡ Reply.Num m
         → bit (is_same (word_at n h.t 0) (register_at n c 2)) ≡ m
-    same_is m said =
-        num_is _ m
-        (sym (ap (λ (t : Target). reply_at t (λ a w. Reply.Num (bit (is_same (word_at n a w) (register_at n c 2)))))
-        (gets 0 h.t 1 0 h.register)) ∙ said)
+    same_is m said = grind (arith, num_is, gets)
 
     pub exchanged_from : reply_of n c (Op.CasPtr 0 0 2 r) ≡ Reply.Num 1 → word_at n h.t 0 ≡ register_at n c 2
     exchanged_from said = equal_from_same _ _ (bit_is_one _ (same_is 1 said))
 
     pub after_exchange : (b : Bool) → is_same (word_at n h.t 0) (register_at n c 2) ≡ b
         → after_op n c (Op.CasPtr 0 0 2 r) ≡ cond b (with_word n h.t 0 (register_at n c r)) n
-    after_exchange b is =
-        ap (λ (t : Target). left_at t n
-        (λ a w. if is_same (word_at n a w) (register_at n c 2) then with_word n a w (register_at n c r) else n))
-        (gets 0 h.t 1 0 h.register) ∙ ap (λ (x : Bool). cond x (with_word n h.t 0 (register_at n c r)) n) is
+    after_exchange b is = grind (arith, gets)
 
     pub exchanges : reply_of n c (Op.CasPtr 0 0 2 r) ≡ Reply.Num 1
         → after_op n c (Op.CasPtr 0 0 2 r) ≡ with_word n h.t 0 (register_at n c r)

@@ -9,28 +9,7 @@ pub new-caller-requires-clause-idle : goal.new-caller-requires-clause-idle
 new-caller-requires-clause-idle g c = c.requires.pass.idle
 
 pub run_jobs-dones-requires-clause-ready : goal.run_jobs-dones-requires-clause-ready
-run_jobs-dones-requires-clause-ready g c κs within =
-    let w = c.args.run.now.heap.now in
-    let made = c.new-caller.ensures in
-    let pass : IsBetweenJobs w c.args.k c.new-caller.result.pass =
-    subst (IsBetweenJobs w c.args.k) (sym (ap (λ (s : CallerState). s.pass) made)) c.requires.pass in
-    ready_between (ap (λ (s : CallerState). s.home) made) pass c.requires.exists c.args.run.now.types c.requires.engine
+run_jobs-dones-requires-clause-ready g c κs within = grind (arith, ready_between)
 
 pub returns : goal.returns
-returns g c =
-    let w = c.args.run.now.heap.now in
-    let lists = c.args.run.now.lists.now in
-    let jobs : Jobs = get_or lists c.args.k c.index-run-k.result in
-    let there : slice_get lists c.args.k ≡ Some jobs =
-    slice_get-get_or lists c.args.k c.index-run-k.result (omega (arith, c.args.run.now.one_each, c.requires.exists)) in
-    record {
-      worked =
-          subst (λ (x : Option Jobs). IfSome x (λ jobs. HasWorked w (replied_to c.args.pass) c.args.k jobs.list.items
-          (record { pass = c.finish.result; dones = c.run_jobs-dones.result }))) (sym there)
-          (has_worked c.new-caller.result
-          c.finish.result jobs.list.items c.run_jobs-dones.result c.requires.pass c.new-caller.ensures
-          c.run_jobs-dones.ensures.pass
-          (subst (λ (jobs : List Job). IfOk c.run_jobs-dones.result (λ ds. DoesJobs c.new-caller.result.pass jobs
-          ds.list.items c.run_jobs-dones.new.caller.pass)) c.deref.ensures.value c.run_jobs-dones.ensures.does)
-          c.finish.ensures.pass c.finish.ensures.idle);
-    }
+returns g c = grind (arith, slice_get-get_or, has_worked)
