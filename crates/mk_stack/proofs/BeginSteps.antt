@@ -1,12 +1,12 @@
 -- How a stack is founded, and how a job begins; and what a caller does when it has ended.
 use Rattle.mk_stack.proofs.Vocabulary.{Allocation, Checking, Done, Ended, Founded, Founding, Job, Kind, Making}
 use Rattle.mk_stack.proofs.Vocabulary.{NeverState, Null, Op, Peeking, Placing, Point, Pop, Ptr, Push, Replied, Reply}
-use Rattle.mk_stack.proofs.Vocabulary.{Starting, Value, after_op, done_without, global_at, numbers_in, register_at}
-use Rattle.mk_stack.proofs.Vocabulary.{reply_of, with_global, with_new, with_register, zero_words}
+use Rattle.mk_stack.proofs.Vocabulary.{Starting, after_op, done_without, global_at, numbers_in, register_at, reply_of}
+use Rattle.mk_stack.proofs.Vocabulary.{with_new, with_register, zero_words}
 use Rattle.mk_laws.proofs.Vocabulary.{List, None, Option, Some, ℕ, ap, arith, false, get_or, inl, inr, length, refl}
-use Rattle.mk_laws.proofs.Vocabulary.{subst, sym, ◌<◌, ◌∙◌, ◌≡◌, ◌⊎◌}
+use Rattle.mk_laws.proofs.Vocabulary.{sym, ◌<◌, ◌∙◌, ◌≡◌, ◌⊎◌}
 use Rattle.mk_stack.proofs.Assembly.{Stepped, nothing, settles}
-use Rattle.mk_stack.proofs.Invariant.{HasBase, HasChain, HasTop, Inv, IsHeld, Local, Work}
+use Rattle.mk_stack.proofs.Invariant.{HasChain, HasTop, Inv, IsHeld, Local, Work}
 use Rattle.mk_stack.proofs.StepParts.{idle, null_is_null, other_is_not, ptr_is_not_null, put_held, register_set, there}
 use Rattle.mk_stack.proofs.StepParts.{undecided, without_left}
 use Rattle.mk_stack.proofs.Writes.{base_private, base_stacked, base_taken, unborn_base}

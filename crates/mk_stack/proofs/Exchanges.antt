@@ -1,13 +1,13 @@
 -- A caller exchanges the uppermost node, or frees the node that it took.
 use Rattle.mk_stack.proofs.Vocabulary.{Done, IsOneOf, NeverState, Op, Ordered, Point, Replied, Value, allocation_at}
 use Rattle.mk_stack.proofs.Vocabulary.{bit, freed_by, numbers_in, with_word, words_of}
-use Rattle.mk_laws.proofs.Vocabulary.{List, None, Option, Some, ℕ, ap, arith, cases_eq, inl, inr, length, length-set}
-use Rattle.mk_laws.proofs.Vocabulary.{refl, subst, sym, ◌+◌, ◌<◌, ◌∙◌, ◌≡◌, ◌≢◌, ◌≤◌, ◌⊎◌}
+use Rattle.mk_laws.proofs.Vocabulary.{List, Option, Some, ℕ, ap, arith, length, length-set, subst, sym, ◌+◌, ◌<◌, ◌∙◌}
+use Rattle.mk_laws.proofs.Vocabulary.{◌≡◌, ◌≢◌, ◌≤◌, ◌⊎◌}
 use Rattle.mk_stack.proofs.Assembly.{Decides, HeldBefore, IsLeft, Stepped, assemble, moved, none_freed_there}
 use Rattle.mk_stack.proofs.Heaps.{other_words, written_flag, written_size, written_type}
 use Rattle.mk_stack.proofs.Invariant.{Core, HasChain, Inv, IsHeld, Local, Work}
-use Rattle.mk_stack.proofs.Roles.{Base, IsPublished, Private, Role, RoleKeeps, Stacked, Taken, Unborn, is_gone, put}
-use Rattle.mk_stack.proofs.Roles.{put_by, same_role, size_of}
+use Rattle.mk_stack.proofs.Roles.{Base, Private, Role, RoleKeeps, Stacked, Taken, Unborn, is_gone, put, put_by}
+use Rattle.mk_stack.proofs.Roles.{same_role, size_of}
 use Rattle.mk_stack.proofs.Writes.{base_private, base_stacked, base_taken, granted, private_stacked, private_taken}
 use Rattle.mk_stack.proofs.Writes.{same_taken, taken_stacked, unborn_private, unborn_stacked, unborn_taken}
 use Rattle.mk_stack.proofs.Frames.{Leaves}
@@ -15,7 +15,10 @@ use Rattle.mk_stack.proofs.Frames.{Leaves}
 -- What another caller held before, where one role is now that of a node on the stack, or of this caller
 pub put_before : (role : ℕ → Role) (b : ℕ) (r : Role) (k a : ℕ) → (r ≡ Private k → ⊥) → (r ≡ Taken k → ⊥)
     → HeldBefore k (role a) (put role b r a)
-put_before role b r k a private taken = grind (arith, put_by)
+put_before role b r k a private taken =
+    put_by (λ (x : ℕ) (y : Role). HeldBefore k (role x) y) role b r
+    (record { pushing = λ e. absurd (private e); freeing = λ e. absurd (taken e) })
+    (λ x other. record { pushing = λ e. e; freeing = λ e. e }) a
 
 -- Roles that others rely on, where one role changes
 pub roles_put : (role : ℕ → Role) (b : ℕ) (r : Role) (k : ℕ) (Same : ℕ → Type 0) → RoleKeeps k (role b) r (Same b)

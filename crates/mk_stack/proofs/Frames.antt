@@ -1,9 +1,9 @@
 -- What a step of one caller leaves of what holds of another.
 use Rattle.mk_stack.proofs.Vocabulary.{Checking, Done, Empty, Ended, Filling, Following, Founded, Founding, Freeing}
-use Rattle.mk_stack.proofs.Vocabulary.{Job, Linking, Looking, Making, NeverState, Null, Peeking, Placing, Point, Popped}
-use Rattle.mk_stack.proofs.Vocabulary.{Publishing, Reading, Starting, Taking, Testing, Value, done_without, number_of}
-use Rattle.mk_stack.proofs.Vocabulary.{register_at, word_at, words_of}
-use Rattle.mk_laws.proofs.Vocabulary.{List, None, Option, Some, ℕ, ap, arith, get_or, inl, inr, sym, ◌<◌, ◌∙◌, ◌≡◌, ◌⊎◌}
+use Rattle.mk_stack.proofs.Vocabulary.{Job, Linking, Looking, Making, NeverState, Null, Peeking, Placing, Point}
+use Rattle.mk_stack.proofs.Vocabulary.{Publishing, Reading, Starting, Taking, Testing, Value, done_without, register_at}
+use Rattle.mk_stack.proofs.Vocabulary.{word_at, words_of}
+use Rattle.mk_laws.proofs.Vocabulary.{List, None, Option, Some, ℕ, ap, arith, get_or, inl, inr, ◌<◌, ◌∙◌, ◌≡◌, ◌⊎◌}
 use Rattle.mk_stack.proofs.Invariant.{HasBase, HasFilled, HasFollowed, HasFreed, HasLinked, HasOwn, HasSeen, HasTaken}
 use Rattle.mk_stack.proofs.Invariant.{HasTop, Local}
 use Rattle.mk_stack.proofs.Roles.{Base, Role, RoleKeeps, private_keeps, published_keeps, taken_keeps}

@@ -1,14 +1,13 @@
 -- A pop frees the node that it took.
-use Rattle.mk_stack.proofs.Vocabulary.{Done, Freeing, IsOneOf, NeverState, Null, Op, Popped, Ptr, Reading, Replied}
-use Rattle.mk_stack.proofs.Vocabulary.{Value, allocation_at, bit, freed_by, number_of, register_at, with_freed, word_at}
-use Rattle.mk_stack.proofs.Vocabulary.{words_of}
-use Rattle.mk_laws.proofs.Vocabulary.{List, None, Option, Some, ℕ, ap, arith, get_or, length, length-set, refl, subst}
-use Rattle.mk_laws.proofs.Vocabulary.{sym, ◌+◌, ◌<◌, ◌∙◌, ◌≡◌, ◌≢◌, ◌≤◌}
+use Rattle.mk_stack.proofs.Vocabulary.{Done, Freeing, IsOneOf, NeverState, Null, Op, Ptr, Reading, Replied, Value}
+use Rattle.mk_stack.proofs.Vocabulary.{allocation_at, bit, freed_by, register_at, with_freed, word_at, words_of}
+use Rattle.mk_laws.proofs.Vocabulary.{List, None, Option, ℕ, ap, arith, get_or, length, length-set, subst, sym, ◌+◌}
+use Rattle.mk_laws.proofs.Vocabulary.{◌<◌, ◌∙◌, ◌≡◌, ◌≢◌, ◌≤◌}
 use Rattle.mk_stack.proofs.Assembly.{Stepped, assemble, moved, nothing}
 use Rattle.mk_stack.proofs.Heaps.{freed_flag, freed_type, freed_words, other_flag}
 use Rattle.mk_stack.proofs.Invariant.{Core, HasChain, HasFreed, HasTaken, Inv, IsHeld, Work}
-use Rattle.mk_stack.proofs.Roles.{Base, Freed, IsPublished, Private, Role, RoleKeeps, Stacked, Taken, Unborn, is_gone}
-use Rattle.mk_stack.proofs.Roles.{put, put_by, put_other, put_same, same_role, size_of}
+use Rattle.mk_stack.proofs.Roles.{Base, Freed, Private, Role, Stacked, Taken, Unborn, is_gone, put, put_by, put_other}
+use Rattle.mk_stack.proofs.Roles.{put_same, same_role, size_of}
 use Rattle.mk_stack.proofs.{Chains.all_numbers_stay, Chains.has_chain_stays, Exchanges.put_before, Exchanges.roles_put}
 use Rattle.mk_stack.proofs.{Frames.Leaves, Writes.base_taken, Writes.granted, Writes.taken_stacked, Writes.unborn_taken}
 
@@ -84,7 +83,16 @@ module _ {callers : ℕ} {n : NeverState} {top : Option ℕ} {role : ℕ → Rol
   freed = grind (arith, put_same, word)
 
   no_longer : (b : ℕ) → IsHeld m (now b) c b Reading
-  no_longer b = grind (arith, put_by, freed_private, freed_taken)
+  no_longer b =
+      record {
+        pushing = put_by (λ (z : ℕ) (r : Role). r ≡ Private c → ⊥ × (register_at m c 1 ≡ Ptr z 0 0)) role a Freed
+            (λ e. absurd (freed_private c e)) (λ z ne e. absurd ((held z).pushing e).0) b;
+        freeing = put_by (λ (z : ℕ) (r : Role). r ≡ Taken c → ⊥ × (register_at m c 2 ≡ Ptr z 0 0)) role a Freed
+            (λ e. absurd (freed_taken c e)) (λ z ne e. absurd (ne (same_node z ((held z).freeing e).1))) b;
+      }
+    where
+      same_node : (z : ℕ) → register_at n c 2 ≡ Ptr z 0 0 → z ≡ a
+      same_node z e = let same : Ptr z 0 0 ≡ Ptr a 0 0 = sym e ∙ own.register in cc
 
   -- It is freed by this.
   pub by_free : (o : Op) (rest : List Replied) → freed_by a n c o ≡ 1 → ((b : ℕ) → b ≢ a → freed_by b n c o ≡ 0)

@@ -1,12 +1,12 @@
 -- Callers that did their jobs, as the host joins them.
-use Rattle.std.proofs.Common.{Err, IfOk, IsOk, Ok, OnOk, Result, slice_get, ⊎_elim}
+use Rattle.std.proofs.Common.{Err, IfOk, IsOk, Ok, OnOk, Result, slice_get}
 use Rattle.std.proofs.{lemmas.List.drop_more, lemmas.Option.slice_get-get_or}
 use Rattle.mk_stack.proofs.Vocabulary.{Caller, CallerState, Config, DoesJobs, Done, Dones, Event, Grows, Has}
 use Rattle.mk_stack.proofs.Vocabulary.{HasHandedOut, HasStackTypes, HaveDone, HaveWorked, Host, HostState, Job, Jobs}
-use Rattle.mk_stack.proofs.Vocabulary.{Joined, PassState, Replied, Seat, WordsState, all_of, at_home, caller_of_pass}
-use Rattle.mk_stack.proofs.Vocabulary.{pass_for, replied_in, replied_to, with_joined}
-use Rattle.mk_laws.proofs.Vocabulary.{List, Some, ℕ, ap, arith, cases_eq, drop, get_or, inl, inr, length, refl, subst}
-use Rattle.mk_laws.proofs.Vocabulary.{sym, true, [], ◌++◌, ◌+◌, ◌<◌, ◌∙◌, ◌∷◌, ◌≡◌, ◌≢◌, ◌≤◌, ◌⊎◌}
+use Rattle.mk_stack.proofs.Vocabulary.{Joined, PassState, Replied, Seat, WordsState, at_home, caller_of_pass, pass_for}
+use Rattle.mk_stack.proofs.Vocabulary.{replied_in, replied_to, with_joined}
+use Rattle.mk_laws.proofs.Vocabulary.{List, Some, ℕ, ap, arith, drop, get_or, length, refl, subst, sym, true, [], ◌++◌}
+use Rattle.mk_laws.proofs.Vocabulary.{◌+◌, ◌<◌, ◌∙◌, ◌∷◌, ◌≡◌, ◌≤◌, ◌⊎◌}
 use Rattle.mk_never.specs.declared.never_heap.NoMemory.{NoMemory}
 use Rattle.mk_core.specs.History.{calls_from}
 use Rattle.mk_caller.specs.States.{IsIdleCaller}

@@ -2,8 +2,8 @@
 use Rattle.std.proofs.lemmas.List.{length-replicate}
 use Rattle.mk_stack.proofs.Vocabulary.{AreDecidedOnce, Call, Founded, Founding, IsOneOf, JobRun, Kind, NeverState, Null}
 use Rattle.mk_stack.proofs.Vocabulary.{Replied, after_calls, allocation_at, bit, order_of, own_decisions}
-use Rattle.mk_laws.proofs.Vocabulary.{List, None, ℕ, ap, arith, cases_lt, drop, inl, inr, length, refl, suc, sym, take}
-use Rattle.mk_laws.proofs.Vocabulary.{zero, [], ◌*◌, ◌+◌, ◌<◌, ◌∙◌, ◌≡◌, ◌≤◌, ◌⊎◌}
+use Rattle.mk_laws.proofs.Vocabulary.{List, None, ℕ, arith, cases_lt, drop, length, refl, suc, take, zero, [], ◌*◌, ◌<◌}
+use Rattle.mk_laws.proofs.Vocabulary.{◌≡◌}
 use Rattle.mk_never.specs.NeverHeap.{start_of}
 use Rattle.mk_stack.proofs.Invariant.{Core, Inv, Local, Work}
 use Rattle.mk_stack.proofs.Roles.{Base, Freed, Private, Role, Stacked, Taken, Unborn, is_gone}

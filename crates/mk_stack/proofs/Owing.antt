@@ -1,8 +1,8 @@
 -- What callers still have to do, what is still to be decided of it, and what one operation more makes of that.
 use Rattle.std.proofs.Common.{option_and_then}
 use Rattle.mk_stack.proofs.Vocabulary.{AreDecidedOnce, AreJobRuns, Call, Done, Ended, Founded, Job, JobRun, Leads}
-use Rattle.mk_stack.proofs.Vocabulary.{NeverState, Op, Ordered, Point, Replied, Starting, after_calls, after_op, all_of}
-use Rattle.mk_stack.proofs.Vocabulary.{bit, numbers_in, order_of, own_decisions, own_replied, reply_of}
+use Rattle.mk_stack.proofs.Vocabulary.{NeverState, Op, Ordered, Point, Replied, after_calls, after_op, all_of, bit}
+use Rattle.mk_stack.proofs.Vocabulary.{numbers_in, order_of, own_decisions, own_replied, reply_of}
 use Rattle.mk_laws.proofs.Vocabulary.{Bool, List, None, Option, Some, ℕ, ap, arith, drop, eq-eqb, if◌then◌else◌, length}
 use Rattle.mk_laws.proofs.Vocabulary.{ne_eqb, refl, replies_of, subst, sym, take, [], ◌++◌, ◌+◌, ◌∙◌, ◌∷◌, ◌≡◌, ◌≢◌}
 use Rattle.mk_stack.proofs.Assembly.{Decides, IsLeft, IsOfJob, job_at, nothing, settles}

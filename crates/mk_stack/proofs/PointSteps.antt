@@ -10,9 +10,9 @@ use Rattle.mk_stack.proofs.Vocabulary.{kinds_of, lack, left_at, link, look, make
 use Rattle.mk_stack.proofs.Vocabulary.{number_of, op_at, peek, place, pop_again, publish, push_again, read, register_at}
 use Rattle.mk_stack.proofs.Vocabulary.{reply_at, reply_of, start, target_of, top_kinds, unlink, with_new, with_register}
 use Rattle.mk_stack.proofs.Vocabulary.{with_word, word_at}
-use Rattle.mk_laws.proofs.Vocabulary.{AccessIsAdmitted, Bool, IsAdmitted, IsNumber, IsPointer, List, Meets, Option, ℕ}
-use Rattle.mk_laws.proofs.Vocabulary.{ap, arith, false, false≢true, get_or, if◌then◌else◌, length, refl, subst, suc}
-use Rattle.mk_laws.proofs.Vocabulary.{sym, true, zero, [], ◌*◌, ◌+◌, ◌<◌, ◌∙◌, ◌∷◌, ◌≡◌, ◌≢◌}
+use Rattle.mk_laws.proofs.Vocabulary.{AccessIsAdmitted, Bool, IsAdmitted, IsNumber, IsPointer, List, Meets, ℕ, ap}
+use Rattle.mk_laws.proofs.Vocabulary.{arith, false, false≢true, get_or, if◌then◌else◌, length, refl, subst, suc, sym}
+use Rattle.mk_laws.proofs.Vocabulary.{true, zero, [], ◌*◌, ◌+◌, ◌<◌, ◌∙◌, ◌∷◌, ◌≡◌, ◌≢◌}
 use Rattle.mk_never.specs.Admitted.{IsBase, IsOfKind, OperandsAreInRange, StoreIsAdmitted}
 use Rattle.mk_never.specs.NeverHeap.{free_reply}
 use Rattle.mk_run.specs.Scripts.{as_told}
@@ -178,7 +178,24 @@ module _ {globals : List ℕ} {n : NeverState} {k : ℕ} (state : IsStackState g
       → Asks s (Op.CasPtr 0 0 2 r) (reply_of n k (Op.CasPtr 0 0 2 r)) (if says_yes (as_told a) then so else not_so)
       × HoldsAt (register_at (after_op n k (Op.CasPtr 0 0 2 r)) k) (if says_yes (as_told a) then so else not_so)
   exchanged s r {so} {not_so} a bases h asks_yes asks_no at_yes at_no =
-      grind (arith, at_top, holds_still, exchange_leaves, yes_no)
+      at_top (λ x m. a ≡ answer_of bases x
+      → Asks s (Op.CasPtr 0 0 2 r) x (if says_yes (as_told a) then so else not_so)
+      × HoldsAt (register_at m k) (if says_yes (as_told a) then so else not_so))
+      (λ t w. Reply.Num (bit (is_same (word_at n t w) (register_at n k 2)))) n
+      (λ t w. if is_same (word_at n t w) (register_at n k 2) then with_word n t w (register_at n k r) else n) h
+      (by (is_same (word_at n h.number 0) (register_at n k 2)))
+    where
+      by : (b : Bool) → a ≡ answer_of bases (Reply.Num (bit b))
+          → Asks s (Op.CasPtr 0 0 2 r) (Reply.Num (bit b)) (if says_yes (as_told a) then so else not_so)
+          × HoldsAt (register_at (if b then with_word n h.number 0 (register_at n k r) else n) k)
+          (if says_yes (as_told a) then so else not_so)
+      by b =
+          let still : (t : Point) → At t
+          → HoldsAt (register_at (if b then with_word n h.number 0 (register_at n k r) else n) k) t =
+          holds_still (λ x lt. exchange_leaves b n h.number 0 (register_at n k r) k x) in
+          yes_no (λ x t. Asks s (Op.CasPtr 0 0 2 r) x t
+          × HoldsAt (register_at (if b then with_word n h.number 0 (register_at n k r) else n) k) t) b a bases
+          (λ e. (asks_yes, still so at_yes)) (λ e. (asks_no, still not_so at_no))
 
   -- a load of the top's word into register 2
   pub loads_top : (A : Reply → NeverState → Type 0) (h : IsPointerTo 1 (register_at n k 0))

@@ -2,7 +2,7 @@
 use Rattle.mk_stack.proofs.Vocabulary.{Done, Empty, Ended, Following, Freeing, NeverState, Null, Op, Peeking, Point}
 use Rattle.mk_stack.proofs.Vocabulary.{Pop, Popped, Ptr, Reading, Replied, Reply, Taking, Target, Testing, Value}
 use Rattle.mk_stack.proofs.Vocabulary.{after_free, after_op, freed_by, left_at, left_by, number_of, numbers_in}
-use Rattle.mk_stack.proofs.Vocabulary.{register_at, reply_at, reply_of, with_register, with_word, word_at}
+use Rattle.mk_stack.proofs.Vocabulary.{register_at, reply_of, with_register, with_word, word_at}
 use Rattle.mk_laws.proofs.Vocabulary.{Bool, List, None, Option, Some, ℕ, ap, arith, eq-eqb, if◌then◌else◌, inl, inr}
 use Rattle.mk_laws.proofs.Vocabulary.{ne_eqb, refl, subst, sym, [], ◌<◌, ◌∙◌, ◌∷◌, ◌≡◌, ◌≢◌, ◌⊎◌}
 use Rattle.mk_never.specs.NeverHeap.{free_reply}
@@ -13,7 +13,6 @@ use Rattle.mk_stack.proofs.StepParts.{num_is, other_is_not, ptr_is, ptr_is_not_n
 use Rattle.mk_stack.proofs.StepParts.{without_left}
 use Rattle.mk_stack.proofs.{Freeing.by_free, Heaps.other_register, Popping.by_pop, Registered.by_nothing}
 use Rattle.mk_stack.proofs.{Registered.by_register, Roles.IsPublished, Roles.Role, Roles.is_gone}
-use Rattle.mk_stack.specs.Laws.{is_done, is_pointer_to}
 
 module _ {callers : ℕ} {n : NeverState} {top : Option ℕ} {role : ℕ → Role} {nodes : List ℕ} {W : ℕ → Work}
     (inv : Inv callers n top role nodes W) (c : ℕ) (exists : c < callers) where
@@ -82,7 +81,10 @@ module _ {callers : ℕ} {n : NeverState} {top : Option ℕ} {role : ℕ → Rol
 
   pub meet_steps : (u : Option Done) (rest : List Replied) → Local n top role c Testing u → Held Testing
       → reply_of n c (Op.IsNull 2) ≡ Reply.Num 0 → Goal Testing u (Op.IsNull 2) Following rest n
-  meet_steps u rest local held said = grind (arith, met, by_nothing, idle, nothing)
+  meet_steps u rest local held said =
+      let seen = met u local.1 said in
+      by_nothing inv c u None (seen.0, local.0, seen.1)
+      (idle inv c exists held (λ p. p) (λ f. f)) refl nothing (λ b. refl)
 
   pub follow_steps : (u : Option Done) (rest : List Replied) → Local n top role c Following u → Held Following
       → Goal Following u (Op.GetPtr 3 2 1) Taking rest (after_op n c (Op.GetPtr 3 2 1))

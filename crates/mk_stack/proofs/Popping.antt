@@ -5,8 +5,8 @@ use Rattle.mk_laws.proofs.Vocabulary.{Bool, List, None, Option, Some, ℕ, ap, a
 use Rattle.mk_laws.proofs.Vocabulary.{length, refl, subst, sym, ◌∙◌, ◌∷◌, ◌≡◌, ◌≢◌}
 use Rattle.mk_stack.proofs.Chains.{chain_stays, not_one_of, numbers_stay}
 use Rattle.mk_stack.proofs.Exchanges.{by_exchange, node_is_no_top, words_stay}
-use Rattle.mk_stack.proofs.Invariant.{HasChain, HasTaken, Inv, IsChain, IsHeld, Work}
-use Rattle.mk_stack.proofs.Roles.{Private, Role, Stacked, Taken, put, put_by, put_other, put_same, size_of}
+use Rattle.mk_stack.proofs.Invariant.{HasChain, HasTaken, Inv, IsHeld, Work}
+use Rattle.mk_stack.proofs.Roles.{Role, Stacked, Taken, put, put_by, put_other, put_same, size_of}
 use Rattle.mk_stack.proofs.Writes.{base_stacked, granted, private_taken, taken_stacked, unborn_base}
 use Rattle.mk_stack.proofs.{Assembly.Stepped, Assembly.settles, Heaps.written}
 

@@ -1,12 +1,11 @@
 -- The steps of a push.
-use Rattle.mk_stack.proofs.Vocabulary.{Done, Ended, Filling, Full, Kind, Linking, Looking, Making, NeverState, Null}
-use Rattle.mk_stack.proofs.Vocabulary.{Num, Op, Point, Ptr, Publishing, Push, Pushed, Replied, Reply, Target, Value}
-use Rattle.mk_stack.proofs.Vocabulary.{after_op, left_at, number_of, register_at, reply_of, with_new, with_register}
-use Rattle.mk_stack.proofs.Vocabulary.{with_word, word_at, words_of, zero_words}
+use Rattle.mk_stack.proofs.Vocabulary.{Done, Ended, Filling, Full, Linking, Looking, Making, NeverState, Null, Num, Op}
+use Rattle.mk_stack.proofs.Vocabulary.{Point, Ptr, Publishing, Push, Pushed, Replied, Reply, Target, Value, after_op}
+use Rattle.mk_stack.proofs.Vocabulary.{left_at, register_at, reply_of, with_new, with_register, with_word, word_at}
+use Rattle.mk_stack.proofs.Vocabulary.{words_of}
 use Rattle.mk_laws.proofs.Vocabulary.{List, None, Option, Some, ℕ, ap, arith, false, length, refl, subst, sym, true}
 use Rattle.mk_laws.proofs.Vocabulary.{◌<◌, ◌∙◌, ◌≡◌}
-use Rattle.mk_stack.proofs.Invariant.{HasFilled, HasLinked, HasOwn, HasTop, Inv, IsFreeing, IsHeld, IsPushing, Local}
-use Rattle.mk_stack.proofs.Invariant.{Work}
+use Rattle.mk_stack.proofs.Invariant.{HasFilled, HasLinked, HasTop, Inv, IsFreeing, IsHeld, IsPushing, Local, Work}
 use Rattle.mk_stack.proofs.StepParts.{exchanged_from, exchanges, gets, idle, keeps_top, leaves_all, put_held, there}
 use Rattle.mk_stack.proofs.StepParts.{undecided}
 use Rattle.mk_stack.proofs.{Assembly.Stepped, Assembly.held_on, Assembly.nothing, Assembly.settles, Grants.IsNewRole}

@@ -8,7 +8,7 @@ use Rattle.mk_laws.proofs.Vocabulary.{sym, ◌∙◌, ◌∷◌, ◌≡◌, ◌�
 use Rattle.mk_stack.proofs.Chains.{chain_stays, numbers_stay, other_role}
 use Rattle.mk_stack.proofs.Exchanges.{by_exchange, node_is_no_top, words_stay}
 use Rattle.mk_stack.proofs.Invariant.{HasChain, HasLinked, Inv, IsChain, IsHeld, Work}
-use Rattle.mk_stack.proofs.Roles.{Private, Role, Stacked, Taken, put, put_by, put_other, put_same, size_of}
+use Rattle.mk_stack.proofs.Roles.{Role, Stacked, put, put_by, put_other, put_same, size_of}
 use Rattle.mk_stack.proofs.Writes.{base_stacked, granted, private_stacked, taken_stacked, unborn_base}
 use Rattle.mk_stack.proofs.{Assembly.Stepped, Assembly.settles, Heaps.written}
 

@@ -2,8 +2,8 @@
 use Rattle.mk_stack.proofs.Vocabulary.{AreBelow, AreDecidedOnce, AreJobRuns, Asks, Call, Ended, Founded, JobRun, Leads}
 use Rattle.mk_stack.proofs.Vocabulary.{NeverState, Op, Ordered, Replied, Starting, after_calls, after_op, all_of}
 use Rattle.mk_stack.proofs.Vocabulary.{numbers_in, order_of, own_decisions, own_replied, reply_of}
-use Rattle.mk_laws.proofs.Vocabulary.{List, None, Option, ℕ, ap, arith, cases_eq, drop, inl, inr, length, refl, subst}
-use Rattle.mk_laws.proofs.Vocabulary.{suc, sym, take, [], ◌++◌, ◌<◌, ◌∙◌, ◌∷◌, ◌≡◌, ◌≢◌, ◌⊎◌}
+use Rattle.mk_laws.proofs.Vocabulary.{List, None, Option, ℕ, ap, arith, drop, length, refl, subst, suc, sym, take, []}
+use Rattle.mk_laws.proofs.Vocabulary.{◌++◌, ◌<◌, ◌∙◌, ◌∷◌, ◌≡◌, ◌≢◌}
 use Rattle.mk_stack.proofs.Invariant.{Inv, IsFreeing, IsHeld, IsPushing, Local, Work}
 use Rattle.mk_stack.proofs.JobGoals.{goal_frees_nothing, goal_pushes_nothing, no_founding, same_job}
 use Rattle.mk_stack.proofs.Owing.{IsOnce, IsWork, Ran, all_done, begins, decision_of_other, explained_more, mine}

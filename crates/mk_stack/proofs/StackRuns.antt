@@ -1,11 +1,10 @@
 -- Lists of jobs that callers did are the jobs of a history, and so are explained.
-use Rattle.std.proofs.Common.{slice_get}
 use Rattle.mk_stack.proofs.Vocabulary.{AreAllBy, AreBelow, AreJobRuns, AreOfOthers, Call, Caller, Config, Decided}
 use Rattle.mk_stack.proofs.Vocabulary.{Dones, Event, Founded, Founding, HasStackTypes, HaveDone, IsHistory, JobRun}
 use Rattle.mk_stack.proofs.Vocabulary.{Jobs, Leads, LeadsDown, NeverState, Replied, after_op, all_of, asked, calls}
 use Rattle.mk_stack.proofs.Vocabulary.{calls_from, left, never_behind, never_first, numbers_read, own_replied}
 use Rattle.mk_stack.proofs.Vocabulary.{replied_in, reply_of}
-use Rattle.mk_laws.proofs.Vocabulary.{Bool, List, Some, ℕ, ap, append-nil, arith, earlier_part_is_history, false}
+use Rattle.mk_laws.proofs.Vocabulary.{Bool, List, ℕ, ap, append-nil, arith, earlier_part_is_history, false}
 use Rattle.mk_laws.proofs.Vocabulary.{if◌then◌else◌, length, ne_eqb, refl, subst, suc, sym, true, zero, [], ◌*◌, ◌++◌}
 use Rattle.mk_laws.proofs.Vocabulary.{◌+◌, ◌<◌, ◌==◌, ◌∙◌, ◌∷◌, ◌≡◌, ◌≤◌}
 use Rattle.mk_laws.proofs.LastEvents.{stands}

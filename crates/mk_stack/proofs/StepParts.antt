@@ -1,11 +1,9 @@
 -- What the steps of all points share.
 use Rattle.mk_stack.proofs.Vocabulary.{Done, Empty, Job, NeverState, Null, Op, Ordered, Point, Pop, Ptr, Push, Replied}
-use Rattle.mk_stack.proofs.Vocabulary.{Reply, Target, Value, WordOf, after_op, bit, done_without, is_same, left_at}
-use Rattle.mk_stack.proofs.Vocabulary.{left_by, register_at, reply_at, reply_of, target_of, with_register, with_word}
-use Rattle.mk_stack.proofs.Vocabulary.{word_at, words_of}
-use Rattle.mk_laws.proofs.Vocabulary.{Bool, List, None, Option, Some, ℕ, ap, arith, cond, false, false≢true}
-use Rattle.mk_laws.proofs.Vocabulary.{if◌then◌else◌, length, refl, subst, sym, true, [], ◌*◌, ◌+◌, ◌<◌, ◌∙◌, ◌≡◌, ◌≢◌}
-use Rattle.mk_laws.proofs.Vocabulary.{◌≤◌}
+use Rattle.mk_stack.proofs.Vocabulary.{Reply, Value, WordOf, after_op, bit, done_without, is_same, left_by, register_at}
+use Rattle.mk_stack.proofs.Vocabulary.{reply_of, target_of, with_register, with_word, word_at, words_of}
+use Rattle.mk_laws.proofs.Vocabulary.{Bool, List, None, Option, Some, ℕ, arith, cond, false, false≢true, length, refl}
+use Rattle.mk_laws.proofs.Vocabulary.{subst, sym, true, [], ◌*◌, ◌+◌, ◌<◌, ◌∙◌, ◌≡◌, ◌≢◌, ◌≤◌}
 use Rattle.mk_never.proofs.Sameness.{equal_from_same, same_from_equal}
 use Rattle.mk_stack.proofs.Invariant.{HasChain, HasTop, Inv, IsFreeing, IsHeld, IsPushing, Work}
 use Rattle.mk_stack.proofs.Roles.{Base, Freed, Private, Role, Stacked, Taken, Unborn, put, put_by, size_of}

@@ -2,7 +2,7 @@
 use Rattle.std.proofs.Common.{IfSome}
 use Rattle.mk_stack.proofs.Vocabulary.{Answer, CallerState, HasStackTypes, HasWalked, HoldsAt, IsHistory, LeadsDown}
 use Rattle.mk_stack.proofs.Vocabulary.{NeverState, Op, PassState, Point, Pop, Replied, Reply, after_op, answer_of}
-use Rattle.mk_stack.proofs.Vocabulary.{global_at, numbers_read, register_at, replied_to, reply_of, value_of}
+use Rattle.mk_stack.proofs.Vocabulary.{global_at, numbers_read, register_at, reply_of, value_of}
 use Rattle.mk_laws.proofs.Vocabulary.{IsAdmitted, List, Some, ℕ, ap, append-nil, append_assoc, arith, false}
 use Rattle.mk_laws.proofs.Vocabulary.{is_under_turn, refl, subst, sym, [], ◌++◌, ◌∙◌, ◌∷◌, ◌≡◌}
 use Rattle.mk_laws.proofs.CallSorts.{flag_is}

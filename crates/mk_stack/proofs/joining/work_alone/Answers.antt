@@ -1,8 +1,7 @@
 use Rattle.std.proofs.{Common.IfOk, Common.IfSome, Common.slice_get, lemmas.Option.slice_get-get_or}
-use Rattle.mk_stack.proofs.Vocabulary.{CallerState, DoesJobs, Job, Jobs, replied_to}
-use Rattle.mk_laws.proofs.Vocabulary.{List, Option, Some, ap, arith, get_or, subst, sym, ◌≡◌}
-use Rattle.mk_stack.proofs.JoinedJobs.{has_worked, ready_between}
-use Rattle.mk_stack.specs.Joining.{HasWorked, IsBetweenJobs}
+use Rattle.mk_stack.proofs.Vocabulary.{DoesJobs, Job, Jobs, replied_to}
+use Rattle.mk_laws.proofs.Vocabulary.{List, Option, Some, arith, get_or, subst, sym, ◌≡◌}
+use Rattle.mk_stack.{proofs.JoinedJobs.has_worked, proofs.JoinedJobs.ready_between, specs.Joining.HasWorked}
 use Rattle.mk_stack.proofs.joining.work_alone.Goals as goal
 
 pub new-caller-requires-clause-idle : goal.new-caller-requires-clause-idle
@@ -12,4 +11,20 @@ pub run_jobs-dones-requires-clause-ready : goal.run_jobs-dones-requires-clause-r
 run_jobs-dones-requires-clause-ready g c κs within = grind (arith, ready_between)
 
 pub returns : goal.returns
-returns g c = grind (arith, slice_get-get_or, has_worked)
+returns g c =
+    let w = c.args.run.now.heap.now in
+    let lists = c.args.run.now.lists.now in
+    let jobs : Jobs = get_or lists c.args.k c.index-run-k.result in
+    let there : slice_get lists c.args.k ≡ Some jobs =
+    slice_get-get_or lists c.args.k c.index-run-k.result (omega (arith, c.args.run.now.one_each, c.requires.exists)) in
+    record {
+      worked =
+          subst (λ (x : Option Jobs). IfSome x (λ jobs. HasWorked w (replied_to c.args.pass) c.args.k jobs.list.items
+          (record { pass = c.finish.result; dones = c.run_jobs-dones.result }))) (sym there)
+          (has_worked c.new-caller.result
+          c.finish.result jobs.list.items c.run_jobs-dones.result c.requires.pass c.new-caller.ensures
+          c.run_jobs-dones.ensures.pass
+          (subst (λ (jobs : List Job). IfOk c.run_jobs-dones.result (λ ds. DoesJobs c.new-caller.result.pass jobs
+          ds.list.items c.run_jobs-dones.new.caller.pass)) c.deref.ensures.value c.run_jobs-dones.ensures.does)
+          c.finish.ensures.pass c.finish.ensures.idle);
+    }
