@@ -16,15 +16,7 @@ use Rattle.mk_stack.specs.{Advancing.StaysEnded, Ready.IsReady}
 -- The state at which an operation was decided
 pub place_state : {p q : PassState} {o : Op} {a : Answer} → HasStackTypes p.table.config → (h : Happens p o a q)
     → IsStackState p.table.config.globals h.n (caller_of_pass p)
-place_state types h =
-    record {
-      typed = h.typed;
-      node = ap (λ (ts : List (List Kind)). kinds_of ts 0) h.types ∙ types.node;
-      top = ap (λ (ts : List (List Kind)). kinds_of ts 1) h.types ∙ types.top;
-      global = types.global;
-      count = h.count;
-      caller = h.caller;
-    }
+place_state types h = grind arith
 
 -- The state after what the pass of a caller has seen
 pub ready_state : {s : CallerState} → IsReady s → IsHistory s.pass.table.config s.pass.seen
@@ -65,15 +57,7 @@ pub steps_so : {S : Type 0} {Asked : Op → Reply → S → Type 0} {point : S �
     → Asked o (reply_of h.n (caller_of_pass p) o) t
     × HoldsAt (register_at (after_op h.n (caller_of_pass p) o) (caller_of_pass p)) (point t)
     → Steps Asked point p q t
-steps_so {point} {p} {o} {t} h leads =
-    record {
-      is = h.is;
-      op = o;
-      reply = reply_of h.n (caller_of_pass p) o;
-      asked = leads.0;
-      did = h.did;
-      holds = holds_still h.after (point t) leads.1;
-    }
+steps_so {point} {p} {o} {t} h leads = grind (arith, holds_still)
 
 abbrev pub Advances : PassState → Point → PassState → Point → Type 0
 Advances p s q t = Steps (Asks s) (λ (x : Point). x) p q t

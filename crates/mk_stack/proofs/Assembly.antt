@@ -55,11 +55,7 @@ pub record Stepped (callers : ℕ) (n : NeverState) (role : ℕ → Role) (nodes
 pub held_on : {n : NeverState} (m : NeverState) {r : Role} {c a : ℕ} {s : Point} (next : Point) → IsHeld n r c a s
     → (IsPushing s → IsPushing next × (register_at m c 1 ≡ register_at n c 1))
     → (IsFreeing s → IsFreeing next × (register_at m c 2 ≡ register_at n c 2)) → IsHeld m r c a next
-held_on m next held pushing freeing =
-    record {
-      pushing = λ e. let old = held.pushing e in let on = pushing old.0 in (on.0, on.1 ∙ old.1);
-      freeing = λ e. let old = held.freeing e in let on = freeing old.0 in (on.0, on.1 ∙ old.1);
-    }
+held_on m next held pushing freeing = grind arith
 
 -- What another caller holds it held before.
 pub record HeldBefore (k : ℕ) (r r' : Role) : Type 0 where
@@ -69,11 +65,7 @@ pub record HeldBefore (k : ℕ) (r r' : Role) : Type 0 where
 held_stays : {n : NeverState} (m : NeverState) {r r' : Role} {k a : ℕ} {s : Point} → IsHeld n r k a s
     → HeldBefore k r r'
     → ((x : ℕ) → x < 8 → register_at m k x ≡ register_at n k x) → IsHeld m r' k a s
-held_stays m held before registers =
-    record {
-      pushing = λ e. let old = held.pushing (before.pushing e) in (old.0, registers 1 (omega arith) ∙ old.1);
-      freeing = λ e. let old = held.freeing (before.freeing e) in (old.0, registers 2 (omega arith) ∙ old.1);
-    }
+held_stays m held before registers = grind arith
 
 pub same_before : (k : ℕ) (r : Role) → HeldBefore k r r
 same_before k r = record { pushing = λ e. e; freeing = λ e. e }

@@ -1,12 +1,12 @@
 -- How a stack is founded, and how a job begins; and what a caller does when it has ended.
 use Rattle.mk_stack.proofs.Vocabulary.{Allocation, Checking, Done, Ended, Founded, Founding, Job, Kind, Making}
 use Rattle.mk_stack.proofs.Vocabulary.{NeverState, Null, Op, Peeking, Placing, Point, Pop, Ptr, Push, Replied, Reply}
-use Rattle.mk_stack.proofs.Vocabulary.{Starting, Value, after_op, done_without, global_at, numbers_in, register_at}
-use Rattle.mk_stack.proofs.Vocabulary.{reply_of, with_global, with_new, with_register, zero_words}
+use Rattle.mk_stack.proofs.Vocabulary.{Starting, after_op, done_without, global_at, numbers_in, register_at, reply_of}
+use Rattle.mk_stack.proofs.Vocabulary.{with_new, with_register, zero_words}
 use Rattle.mk_laws.proofs.Vocabulary.{List, None, Option, Some, ℕ, ap, arith, false, get_or, inl, inr, length, refl}
-use Rattle.mk_laws.proofs.Vocabulary.{subst, sym, ◌<◌, ◌∙◌, ◌≡◌, ◌⊎◌}
+use Rattle.mk_laws.proofs.Vocabulary.{sym, ◌<◌, ◌∙◌, ◌≡◌, ◌⊎◌}
 use Rattle.mk_stack.proofs.Assembly.{Stepped, nothing, settles}
-use Rattle.mk_stack.proofs.Invariant.{HasBase, HasChain, HasTop, Inv, IsHeld, Local, Work}
+use Rattle.mk_stack.proofs.Invariant.{HasChain, HasTop, Inv, IsHeld, Local, Work}
 use Rattle.mk_stack.proofs.StepParts.{idle, null_is_null, other_is_not, ptr_is_not_null, put_held, register_set, there}
 use Rattle.mk_stack.proofs.StepParts.{undecided, without_left}
 use Rattle.mk_stack.proofs.Writes.{base_private, base_stacked, base_taken, unborn_base}
@@ -24,16 +24,7 @@ module _ {callers : ℕ} {n : NeverState} {top : Option ℕ} {role : ℕ → Rol
   -- The first caller makes the top.
 
   pub base_fits : IsNewRole n c 1 Base
-  base_fits =
-      record {
-        size = ap (λ (ks : List Kind). length (zero_words ks)) inv.core.top_type;
-        not_gone = refl;
-        born = λ e. unborn_base (sym e);
-        not_stacked = λ e. base_stacked e;
-        base = λ e. refl;
-        of_caller = λ k ne e. base_private k e;
-        not_taken = λ k e. base_taken k e;
-      }
+  base_fits = grind (arith, unborn_base, base_stacked, base_private, base_taken)
 
   pub found_steps : (u : Option Done) (rest : List Replied) → Local n top role c Founding u → Held Founding
       → Goal Founding u (Op.New 0 1 false) Placing rest (after_op n c (Op.New 0 1 false))
@@ -58,11 +49,7 @@ module _ {callers : ℕ} {n : NeverState} {top : Option ℕ} {role : ℕ → Rol
 
   pub place_steps : (u : Option Done) (rest : List Replied) → Local n top role c Placing u → Held Placing
       → Goal Placing u (Op.SetGlobal 0 0) Founded rest (after_op n c (Op.SetGlobal 0 0))
-  place_steps u rest local held =
-      let base : HasBase n role c = local.2 in
-      subst (λ (v : Value). Goal Placing u (Op.SetGlobal 0 0) Founded rest (with_global n 0 v)) (sym base.register)
-      (by_global inv c local.0 base.t local.1 base.has base.word tt
-      (idle inv c exists held (λ p. p) (λ f. f)) (λ b. refl))
+  place_steps u rest local held = grind (arith, by_global, idle)
 
   -- A job begins.
 

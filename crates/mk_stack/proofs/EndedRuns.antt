@@ -131,14 +131,7 @@ is_not_attending {w} {j} {h} m made few is =
 
 pub marker_made : {w : WordsState} {j : ℕ} {h : HostState} → HasHandedOut w j 0 h
     → HasHandedOut w (j + 1) 0 (with_marker_made h)
-marker_made {h} made = record {
-  table = made.table;
-  seat = made.seat;
-  own = without_keeps (Marker h.markers) h.pass.seats Host refl made.own;
-  seen = made.seen;
-  count = made.count;
-  same_markers = ap (λ (n : ℕ). n + 1) made.same_markers;
-}
+marker_made {h} made = grind (arith, without_keeps, same_markers)
 
 -- One marker more is joined.
 pub marker_joined : {w : WordsState} (j : ℕ) {lists : List Jobs} (p : PassState) {before : Ended} (after : Ended)

@@ -1,13 +1,13 @@
 -- A caller exchanges the uppermost node, or frees the node that it took.
 use Rattle.mk_stack.proofs.Vocabulary.{Done, IsOneOf, NeverState, Op, Ordered, Point, Replied, Value, allocation_at}
 use Rattle.mk_stack.proofs.Vocabulary.{bit, freed_by, numbers_in, with_word, words_of}
-use Rattle.mk_laws.proofs.Vocabulary.{List, None, Option, Some, ℕ, ap, arith, cases_eq, inl, inr, length, length-set}
-use Rattle.mk_laws.proofs.Vocabulary.{refl, subst, sym, ◌+◌, ◌<◌, ◌∙◌, ◌≡◌, ◌≢◌, ◌≤◌, ◌⊎◌}
+use Rattle.mk_laws.proofs.Vocabulary.{List, Option, Some, ℕ, ap, arith, length, length-set, subst, sym, ◌+◌, ◌<◌, ◌∙◌}
+use Rattle.mk_laws.proofs.Vocabulary.{◌≡◌, ◌≢◌, ◌≤◌, ◌⊎◌}
 use Rattle.mk_stack.proofs.Assembly.{Decides, HeldBefore, IsLeft, Stepped, assemble, moved, none_freed_there}
 use Rattle.mk_stack.proofs.Heaps.{other_words, written_flag, written_size, written_type}
 use Rattle.mk_stack.proofs.Invariant.{Core, HasChain, Inv, IsHeld, Local, Work}
-use Rattle.mk_stack.proofs.Roles.{Base, IsPublished, Private, Role, RoleKeeps, Stacked, Taken, Unborn, is_gone, put}
-use Rattle.mk_stack.proofs.Roles.{put_by, same_role, size_of}
+use Rattle.mk_stack.proofs.Roles.{Base, Private, Role, RoleKeeps, Stacked, Taken, Unborn, is_gone, put, put_by}
+use Rattle.mk_stack.proofs.Roles.{same_role, size_of}
 use Rattle.mk_stack.proofs.Writes.{base_private, base_stacked, base_taken, granted, private_stacked, private_taken}
 use Rattle.mk_stack.proofs.Writes.{same_taken, taken_stacked, unborn_private, unborn_stacked, unborn_taken}
 use Rattle.mk_stack.proofs.Frames.{Leaves}
@@ -39,76 +39,27 @@ module _ {callers : ℕ} {n : NeverState} {top : Option ℕ} {role : ℕ → Rol
   now = put role a r
 
   pub node_is_no_top : a ≢ t
-  node_is_no_top e = by nodelike
-    where
-      by : (role a ≡ Private c) × (r ≡ Stacked) ⊎ (role a ≡ Stacked) × (r ≡ Taken c) → ⊥
-      by (inl h) = base_private c (sym is_base ∙ sym (ap role e) ∙ h.0)
-      by (inr h) = base_stacked (sym is_base ∙ sym (ap role e) ∙ h.0)
+  node_is_no_top e = grind (arith, base_private, base_stacked)
 
   pub words_stay : (b : ℕ) → b ≢ t → words_of m b ≡ words_of n b
   words_stay b other = other_words n t 0 b v other
 
   keeps_here : (k : ℕ) → k ≢ c → RoleKeeps k (role a) r (words_of m a ≡ words_of n a)
-  keeps_here k other = by nodelike
-    where
-      by : (role a ≡ Private c) × (r ≡ Stacked) ⊎ (role a ≡ Stacked) × (r ≡ Taken c)
-          → RoleKeeps k (role a) r (words_of m a ≡ words_of n a)
-      by (inl h) =
-          subst (λ (x : Role). RoleKeeps k x r (words_of m a ≡ words_of n a)) (sym h.0)
-          (λ same. absurd (other (sym same)))
-      by (inr h) =
-          subst (λ (x : Role). RoleKeeps k x r (words_of m a ≡ words_of n a)) (sym h.0)
-          (subst IsPublished (sym h.1) tt, words_stay a node_is_no_top)
+  keeps_here k other = grind (arith, words_stay, node_is_no_top)
 
   keeps_there : (k b : ℕ) → RoleKeeps k (role b) (role b) (words_of m b ≡ words_of n b)
-  keeps_there k b = by (cases_eq b t)
-    where
-      by : (b ≡ t) ⊎ (b ≡ t → ⊥) → RoleKeeps k (role b) (role b) (words_of m b ≡ words_of n b)
-      by (inl e) =
-          subst (λ (x : Role). RoleKeeps k x (role b) (words_of m b ≡ words_of n b)) (sym (ap role e ∙ is_base)) tt
-      by (inr other) = same_role k (role b) _ (words_stay b other)
+  keeps_there k b = grind (arith, same_role, words_stay)
 
   exchange_leaves : (k : ℕ) → k ≢ c → Leaves n top role m top now k
-  exchange_leaves k other =
-      record {
-        registers = λ x lt. refl;
-        same_top = λ x e. e;
-        none = λ first e. e;
-        base = λ first e b h. let some : None ≡ Some t = sym e ∙ is in absurd (cc);
-        roles = λ b. roles_put role a r k (λ x. words_of m x ≡ words_of n x) (keeps_here k other)
-            (λ x ne. keeps_there k x) b;
-      }
+  exchange_leaves k other = grind (arith, roles_put, keeps_here, keeps_there)
 
   before : (k b : ℕ) → k ≢ c → HeldBefore k (role b) (now b)
-  before k b other = by nodelike
-    where
-      by : (role a ≡ Private c) × (r ≡ Stacked) ⊎ (role a ≡ Stacked) × (r ≡ Taken c) → HeldBefore k (role b) (now b)
-      by (inl h) = put_before role a r k b (λ e. private_stacked k (sym e ∙ h.1)) (λ e. taken_stacked k (sym e ∙ h.1))
-      by (inr h) =
-          put_before role a r k b (λ e. private_taken k c (sym e ∙ h.1)) (λ e. other (same_taken k c (sym e ∙ h.1)))
+  before k b other = grind (arith, now, put_before, private_stacked, taken_stacked, private_taken, same_taken)
 
   -- both roles are of nodes that aren't freed
   alike : (size_of r ≡ size_of (role a)) × (is_gone r ≡ is_gone (role a)) × (Unborn ≡ r → ⊥) × (r ≡ Base → ⊥)
       × (Unborn ≡ role a → ⊥)
-  alike = by nodelike
-    where
-      by : (role a ≡ Private c) × (r ≡ Stacked) ⊎ (role a ≡ Stacked) × (r ≡ Taken c)
-          → (size_of r ≡ size_of (role a)) × (is_gone r ≡ is_gone (role a)) × (Unborn ≡ r → ⊥) × (r ≡ Base → ⊥)
-          × (Unborn ≡ role a → ⊥)
-      by (inl h) = (
-        ap size_of h.1 ∙ sym (ap size_of h.0),
-        ap is_gone h.1 ∙ sym (ap is_gone h.0),
-        (λ e. unborn_stacked (e ∙ h.1)),
-        (λ e. base_stacked (sym e ∙ h.1)),
-        (λ e. unborn_private c (e ∙ h.0)),
-      )
-      by (inr h) = (
-        ap size_of h.1 ∙ sym (ap size_of h.0),
-        ap is_gone h.1 ∙ sym (ap is_gone h.0),
-        (λ e. unborn_taken c (e ∙ h.1)),
-        (λ e. base_taken c (sym e ∙ h.1)),
-        (λ e. unborn_stacked (e ∙ h.0)),
-      )
+  alike = grind (arith, size_of, is_gone, unborn_stacked, base_stacked, unborn_private, unborn_taken, base_taken)
 
   exchange_core : (nodes' : List ℕ) → ((b : ℕ) → now b ≡ Stacked → IsOneOf b nodes') → HasChain m top now nodes'
       → Core callers m top now nodes'

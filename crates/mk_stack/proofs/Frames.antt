@@ -1,9 +1,9 @@
 -- What a step of one caller leaves of what holds of another.
 use Rattle.mk_stack.proofs.Vocabulary.{Checking, Done, Empty, Ended, Filling, Following, Founded, Founding, Freeing}
-use Rattle.mk_stack.proofs.Vocabulary.{Job, Linking, Looking, Making, NeverState, Null, Peeking, Placing, Point, Popped}
-use Rattle.mk_stack.proofs.Vocabulary.{Publishing, Reading, Starting, Taking, Testing, Value, done_without, number_of}
-use Rattle.mk_stack.proofs.Vocabulary.{register_at, word_at, words_of}
-use Rattle.mk_laws.proofs.Vocabulary.{List, None, Option, Some, ℕ, ap, arith, get_or, inl, inr, sym, ◌<◌, ◌∙◌, ◌≡◌, ◌⊎◌}
+use Rattle.mk_stack.proofs.Vocabulary.{Job, Linking, Looking, Making, NeverState, Null, Peeking, Placing, Point}
+use Rattle.mk_stack.proofs.Vocabulary.{Publishing, Reading, Starting, Taking, Testing, Value, done_without, register_at}
+use Rattle.mk_stack.proofs.Vocabulary.{word_at, words_of}
+use Rattle.mk_laws.proofs.Vocabulary.{List, None, Option, Some, ℕ, ap, arith, get_or, inl, inr, ◌<◌, ◌∙◌, ◌≡◌, ◌⊎◌}
 use Rattle.mk_stack.proofs.Invariant.{HasBase, HasFilled, HasFollowed, HasFreed, HasLinked, HasOwn, HasSeen, HasTaken}
 use Rattle.mk_stack.proofs.Invariant.{HasTop, Local}
 use Rattle.mk_stack.proofs.Roles.{Base, Role, RoleKeeps, private_keeps, published_keeps, taken_keeps}
@@ -33,25 +33,10 @@ module _ (n : NeverState) (top : Option ℕ) (role : ℕ → Role) (m : NeverSta
       record { a = h.a; register = leaves.registers 1 (omega arith) ∙ h.register; has = keeps.0 }
 
   filled_stays : (x : ℕ) → HasFilled n role k x → HasFilled m role' k x
-  filled_stays x h =
-      let keeps = private_keeps k (role h.a) (role' h.a) _ h.has (leaves.roles h.a) in
-      record {
-        a = h.a;
-        register = leaves.registers 1 (omega arith) ∙ h.register;
-        has = keeps.0;
-        number = ap number_of (word_same h.a 0 keeps.1) ∙ h.number;
-      }
+  filled_stays x h = grind (arith, private_keeps, word_same)
 
   linked_stays : (x : ℕ) → HasLinked n role k x → HasLinked m role' k x
-  linked_stays x h =
-      let keeps = private_keeps k (role h.a) (role' h.a) _ h.has (leaves.roles h.a) in
-      record {
-        a = h.a;
-        register = leaves.registers 1 (omega arith) ∙ h.register;
-        has = keeps.0;
-        number = ap number_of (word_same h.a 0 keeps.1) ∙ h.number;
-        link = word_same h.a 1 keeps.1 ∙ h.link ∙ sym (leaves.registers 2 (omega arith));
-      }
+  linked_stays x h = grind (arith, private_keeps, word_same)
 
   seen_stays : HasSeen n role k → HasSeen m role' k
   seen_stays h =
@@ -59,44 +44,16 @@ module _ (n : NeverState) (top : Option ℕ) (role : ℕ → Role) (m : NeverSta
       record { a = h.a; register = leaves.registers 2 (omega arith) ∙ h.register; has = keeps.0 }
 
   followed_stays : HasFollowed n role k → HasFollowed m role' k
-  followed_stays h =
-      let keeps = published_keeps k (role h.a) (role' h.a) _ h.has (leaves.roles h.a) in
-      record {
-        a = h.a;
-        register = leaves.registers 2 (omega arith) ∙ h.register;
-        has = keeps.0;
-        next = leaves.registers 3 (omega arith) ∙ h.next ∙ sym (word_same h.a 1 keeps.1);
-      }
+  followed_stays h = grind (arith, published_keeps, word_same)
 
   taken_stays : (u : Option Done) → HasTaken n role k u → HasTaken m role' k u
-  taken_stays u h =
-      let keeps = taken_keeps k (role h.a) (role' h.a) _ h.has (leaves.roles h.a) in
-      record {
-        a = h.a;
-        register = leaves.registers 2 (omega arith) ∙ h.register;
-        has = keeps.has;
-        owes = h.owes ∙ ap (λ (v : Value). Some (Popped (number_of v))) (sym (word_same h.a 0 keeps.words));
-      }
+  taken_stays u h = grind (arith, taken_keeps, word_same)
 
   freed_stays : (u : Option Done) → HasFreed n role k u → HasFreed m role' k u
-  freed_stays u h =
-      let keeps = published_keeps k (role h.a) (role' h.a) _ h.has (leaves.roles h.a) in
-      record {
-        a = h.a;
-        register = leaves.registers 2 (omega arith) ∙ h.register;
-        has = keeps.0;
-        owes = h.owes ∙ ap (λ (v : Value). Some (Popped (number_of v))) (sym (word_same h.a 0 keeps.1));
-      }
+  freed_stays u h = grind (arith, published_keeps, word_same)
 
   base_stays : k ≡ 0 → top ≡ None → HasBase n role k → HasBase m role' k
-  base_stays first none h =
-      let keeps = leaves.base first none h.t h.has in
-      record {
-        t = h.t;
-        register = leaves.registers 0 (omega arith) ∙ h.register;
-        has = keeps.0;
-        word = word_same h.t 0 keeps.1 ∙ h.word;
-      }
+  base_stays first none h = grind (arith, word_same)
 
   checked_stays : (j : Job) (u : Option Done)
       → ((register_at n k 0 ≡ Null) × (u ≡ Some (done_without j))) ⊎ ((u ≡ None) × HasTop n top k)

@@ -1,14 +1,13 @@
 -- A pop frees the node that it took.
-use Rattle.mk_stack.proofs.Vocabulary.{Done, Freeing, IsOneOf, NeverState, Null, Op, Popped, Ptr, Reading, Replied}
-use Rattle.mk_stack.proofs.Vocabulary.{Value, allocation_at, bit, freed_by, number_of, register_at, with_freed, word_at}
-use Rattle.mk_stack.proofs.Vocabulary.{words_of}
-use Rattle.mk_laws.proofs.Vocabulary.{List, None, Option, Some, ℕ, ap, arith, get_or, length, length-set, refl, subst}
-use Rattle.mk_laws.proofs.Vocabulary.{sym, ◌+◌, ◌<◌, ◌∙◌, ◌≡◌, ◌≢◌, ◌≤◌}
+use Rattle.mk_stack.proofs.Vocabulary.{Done, Freeing, IsOneOf, NeverState, Null, Op, Ptr, Reading, Replied, Value}
+use Rattle.mk_stack.proofs.Vocabulary.{allocation_at, bit, freed_by, register_at, with_freed, word_at, words_of}
+use Rattle.mk_laws.proofs.Vocabulary.{List, None, Option, ℕ, ap, arith, get_or, length, length-set, subst, sym, ◌+◌}
+use Rattle.mk_laws.proofs.Vocabulary.{◌<◌, ◌∙◌, ◌≡◌, ◌≢◌, ◌≤◌}
 use Rattle.mk_stack.proofs.Assembly.{Stepped, assemble, moved, nothing}
 use Rattle.mk_stack.proofs.Heaps.{freed_flag, freed_type, freed_words, other_flag}
 use Rattle.mk_stack.proofs.Invariant.{Core, HasChain, HasFreed, HasTaken, Inv, IsHeld, Work}
-use Rattle.mk_stack.proofs.Roles.{Base, Freed, IsPublished, Private, Role, RoleKeeps, Stacked, Taken, Unborn, is_gone}
-use Rattle.mk_stack.proofs.Roles.{put, put_by, put_other, put_same, same_role, size_of}
+use Rattle.mk_stack.proofs.Roles.{Base, Freed, Private, Role, Stacked, Taken, Unborn, is_gone, put, put_by, put_other}
+use Rattle.mk_stack.proofs.Roles.{put_same, same_role, size_of}
 use Rattle.mk_stack.proofs.{Chains.all_numbers_stay, Chains.has_chain_stays, Exchanges.put_before, Exchanges.roles_put}
 use Rattle.mk_stack.proofs.{Frames.Leaves, Writes.base_taken, Writes.granted, Writes.taken_stacked, Writes.unborn_taken}
 
@@ -46,29 +45,13 @@ module _ {callers : ℕ} {n : NeverState} {top : Option ℕ} {role : ℕ → Rol
   there = granted a inv.core (λ e. unborn_taken c (e ∙ own.has))
 
   free_leaves : (k : ℕ) → k ≢ c → Leaves n top role m top now k
-  free_leaves k other =
-      record {
-        registers = λ x lt. refl;
-        same_top = λ x e. e;
-        none = λ first e. e;
-        base = λ first e b is. (
-          put_other role a Freed b (λ same. base_taken c (sym is ∙ ap role same ∙ own.has)) ∙ is,
-          freed_words n a b,
-        );
-        roles = λ b. roles_put role a Freed k (λ x. words_of m x ≡ words_of n x)
-            (subst (λ (r : Role). RoleKeeps k r Freed (words_of m a ≡ words_of n a)) (sym own.has)
-            ((λ same. absurd (other (sym same))), tt, freed_words n a a))
-            (λ x ne. same_role k (role x) _ (freed_words n a x)) b;
-      }
+  free_leaves k other = grind (arith, put_other, base_taken, freed_words, roles_put, same_role)
 
   still_other : (b : ℕ) (r : Role) → role b ≡ r → (r ≡ Taken c → ⊥) → now b ≡ r
   still_other b r is differs = put_other role a Freed b (λ same. differs (sym is ∙ ap role same ∙ own.has)) ∙ is
 
   free_chain : HasChain m top now nodes
-  free_chain =
-      has_chain_stays n m top role now nodes refl (λ t e. (still_other t Base e (base_taken c), word t 0))
-      (λ b one e. record { role_now = still_other b Stacked e (λ same. taken_stacked c (sym same)); link = word b 1 })
-      inv.core.chain
+  free_chain = grind (arith, has_chain_stays, now, still_other, base_taken, word, taken_stacked)
 
   free_core : Core callers m top now nodes
   free_core =
@@ -97,13 +80,7 @@ module _ {callers : ℕ} {n : NeverState} {top : Option ℕ} {role : ℕ → Rol
       }
 
   freed : HasFreed m now c u
-  freed =
-      record {
-        a = a;
-        register = own.register;
-        has = subst IsPublished (sym (put_same role a Freed)) tt;
-        owes = own.owes ∙ ap (λ (z : Value). Some (Popped (number_of z))) (sym (word a 0));
-      }
+  freed = grind (arith, put_same, word)
 
   no_longer : (b : ℕ) → IsHeld m (now b) c b Reading
   no_longer b =

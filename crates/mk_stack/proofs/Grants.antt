@@ -3,13 +3,13 @@ use Rattle.std.proofs.lemmas.List.{get_or_at, length_push}
 use Rattle.mk_stack.proofs.Vocabulary.{Allocation, Done, IsOneOf, NeverState, Null, Op, Point, Ptr, Replied, Value}
 use Rattle.mk_stack.proofs.Vocabulary.{allocation_at, bit, freed_by, kinds_of, no_allocation, with_new, with_register}
 use Rattle.mk_stack.proofs.Vocabulary.{word_at, words_of, zero_words}
-use Rattle.mk_laws.proofs.Vocabulary.{List, None, Option, ℕ, ap, arith, false, get_or, length, length-set, refl, subst}
-use Rattle.mk_laws.proofs.Vocabulary.{sym, [], ◌*◌, ◌+◌, ◌<◌, ◌∙◌, ◌≡◌, ◌≢◌, ◌≤◌}
+use Rattle.mk_laws.proofs.Vocabulary.{List, None, Option, ℕ, ap, arith, false, get_or, length, length-set, refl, sym}
+use Rattle.mk_laws.proofs.Vocabulary.{[], ◌*◌, ◌+◌, ◌<◌, ◌∙◌, ◌≡◌, ◌≢◌, ◌≤◌}
 use Rattle.mk_stack.proofs.Assembly.{Stepped, assemble, moved, none_freed_there, nothing}
 use Rattle.mk_stack.proofs.Chains.{all_numbers_stay, has_chain_stays}
 use Rattle.mk_stack.proofs.Invariant.{Core, HasChain, Inv, IsHeld, Local, Work}
-use Rattle.mk_stack.proofs.Roles.{Base, Private, Role, RoleKeeps, Stacked, Taken, Unborn, is_gone, put, put_by}
-use Rattle.mk_stack.proofs.Roles.{put_other, same_role, size_of}
+use Rattle.mk_stack.proofs.Roles.{Base, Private, Role, Stacked, Taken, Unborn, is_gone, put, put_by, put_other}
+use Rattle.mk_stack.proofs.Roles.{same_role, size_of}
 use Rattle.mk_stack.proofs.{Exchanges.put_before, Exchanges.roles_put, Frames.Leaves, Heaps.other_allocation}
 use Rattle.mk_stack.proofs.{Heaps.register_of_other, Writes.unborn_base, Writes.unborn_stacked}
 
@@ -56,16 +56,7 @@ module _ {callers : ℕ} {n : NeverState} {top : Option ℕ} {role : ℕ → Rol
   word b i ne = ap (λ (ws : List Value). get_or ws i Null) (words b ne)
 
   grant_leaves : (k : ℕ) → k ≢ c → Leaves n top role m top now k
-  grant_leaves k ne =
-      record {
-        registers = λ x lt. register_of_other (with_new n ty) c d k x (Ptr a ty 0) ne below lt;
-        same_top = λ x e. e;
-        none = λ first e. e;
-        base = λ first e b is. (still b Base is unborn_base, words b (not_new b Base is unborn_base));
-        roles = λ b. roles_put role a r k (λ x. words_of m x ≡ words_of n x)
-            (subst (λ (x : Role). RoleKeeps k x r (words_of m a ≡ words_of n a)) (sym was) tt)
-            (λ x apart. same_role k (role x) _ (words x apart)) b;
-      }
+  grant_leaves k ne = grind (arith, register_of_other, still, unborn_base, words, not_new, roles_put, was, same_role)
 
   grant_chain : HasChain m top now nodes
   grant_chain =

@@ -1,12 +1,12 @@
 -- Callers that did their jobs, as the host joins them.
-use Rattle.std.proofs.Common.{Err, IfOk, IsOk, Ok, OnOk, Result, slice_get, ⊎_elim}
+use Rattle.std.proofs.Common.{Err, IfOk, IsOk, Ok, OnOk, Result, slice_get}
 use Rattle.std.proofs.{lemmas.List.drop_more, lemmas.Option.slice_get-get_or}
 use Rattle.mk_stack.proofs.Vocabulary.{Caller, CallerState, Config, DoesJobs, Done, Dones, Event, Grows, Has}
 use Rattle.mk_stack.proofs.Vocabulary.{HasHandedOut, HasStackTypes, HaveDone, HaveWorked, Host, HostState, Job, Jobs}
-use Rattle.mk_stack.proofs.Vocabulary.{Joined, PassState, Replied, Seat, WordsState, all_of, at_home, caller_of_pass}
-use Rattle.mk_stack.proofs.Vocabulary.{pass_for, replied_in, replied_to, with_joined}
-use Rattle.mk_laws.proofs.Vocabulary.{List, Some, ℕ, ap, arith, cases_eq, drop, get_or, inl, inr, length, refl, subst}
-use Rattle.mk_laws.proofs.Vocabulary.{sym, true, [], ◌++◌, ◌+◌, ◌<◌, ◌∙◌, ◌∷◌, ◌≡◌, ◌≢◌, ◌≤◌, ◌⊎◌}
+use Rattle.mk_stack.proofs.Vocabulary.{Joined, PassState, Replied, Seat, WordsState, at_home, caller_of_pass, pass_for}
+use Rattle.mk_stack.proofs.Vocabulary.{replied_in, replied_to, with_joined}
+use Rattle.mk_laws.proofs.Vocabulary.{List, Some, ℕ, ap, arith, drop, get_or, length, refl, subst, sym, true, [], ◌++◌}
+use Rattle.mk_laws.proofs.Vocabulary.{◌+◌, ◌<◌, ◌∙◌, ◌∷◌, ◌≡◌, ◌≤◌, ◌⊎◌}
 use Rattle.mk_never.specs.declared.never_heap.NoMemory.{NoMemory}
 use Rattle.mk_core.specs.History.{calls_from}
 use Rattle.mk_caller.specs.States.{IsIdleCaller}
@@ -26,13 +26,7 @@ still_replied c k {es} g =
 
 still_done : {c : Config} {es fs : List Event} {first : List Replied} {k : ℕ} {jobs : List Job} {dones : List Done}
     → Grows (Caller k ∷ []) es fs → HasDone c es first k jobs dones → HasDone c fs first k jobs dones
-still_done {c} {k} g h = record {
-  runs = h.runs;
-  are_runs = h.are_runs;
-  same_jobs = h.same_jobs;
-  same_dones = h.same_dones;
-  own = still_replied c k g ∙ h.own;
-}
+still_done {c} {k} g h = grind (arith, still_replied)
 
 pub still_have : (c : Config) (es fs : List Event) (first : List Replied) (k : ℕ) (lists : List Jobs) (all : List Dones)
     → ((j : ℕ) → k ≤ j → j < k + length lists → Grows (Caller j ∷ []) es fs) → HaveDone c es first k lists all
@@ -58,35 +52,15 @@ unasked p is = ap (replied_in p.table.config (caller_of_pass p)) is ∙ no_reply
 
 pub next_made : {w : WordsState} {markers n : ℕ} {h : HostState} → HasHandedOut w markers n h
     → HasHandedOut w markers (n + 1) (with_caller_made h)
-next_made {h} made = record {
-  table = made.table;
-  seat = made.seat;
-  own = without_keeps (Caller h.callers) h.pass.seats Host refl made.own;
-  seen = made.seen;
-  count = ap (λ (i : ℕ). i + 1) made.count;
-  same_markers = made.same_markers;
-}
+next_made {h} made = grind (arith, without_keeps)
 
 pub is_ready : {w : WordsState} {k : ℕ} {p q : PassState} → IsBetweenJobs w k p → q ≡ record p { seen = q.seen }
     → IsIdleCaller q → IsBetweenJobs w k q
-is_ready ready is idle = record {
-  table = ap (λ (r : PassState). r.table) is ∙ ready.table;
-  seat = ap (λ (r : PassState). r.seat) is ∙ ready.seat;
-  alone = ap (λ (r : PassState). r.seats) is ∙ ready.alone;
-  idle = idle;
-}
+is_ready ready is idle = grind arith
 
 pub next_ready : {w : WordsState} {markers n : ℕ} {h : HostState} (s : CallerState) → HasHandedOut w markers n h
     → s ≡ at_home (pass_for h (Caller h.callers)) → IsIdleCaller s.pass → IsBetweenJobs w n s.pass
-next_ready {n} {h} s made is idle =
-    let next : s.pass ≡ pass_for h (Caller h.callers) = ap (λ (r : CallerState). r.pass) is in
-    let seat : Caller h.callers ≡ Caller n = ap Caller made.count in
-    record {
-      table = ap (λ (r : PassState). r.table) next ∙ made.table;
-      seat = ap (λ (r : PassState). r.seat) next ∙ seat;
-      alone = ap (λ (r : PassState). r.seats) next ∙ ap (λ (s : Seat). s ∷ []) seat;
-      idle = idle;
-    }
+next_ready {n} {h} s made is idle = grind arith
 
 pub next_unasked : {w : WordsState} {markers n : ℕ} {h : HostState} (s : CallerState) → HasHandedOut w markers n h
     → s ≡ at_home (pass_for h (Caller h.callers)) → replied_to s.pass ≡ []
@@ -96,19 +70,7 @@ next_unasked s made is = unasked s.pass (ap (λ (r : CallerState). r.pass.seen) 
 
 pub done_by : {w : WordsState} {k : ℕ} {p q : PassState} {jobs : List Job} {dones : List Done} → IsBetweenJobs w k p
     → DoesJobs p jobs dones q → HasDone w.config q.seen (replied_to p) k jobs dones
-done_by {w} {k} {p} {q} ready does =
-    let table : q.table ≡ w = ap (λ (r : PassState). r.table) does.is ∙ ready.table in
-    let number : caller_of_pass q ≡ k =
-    ap caller_of_pass does.is ∙ ap (λ (s : Seat). caller_of_pass (record p { seat = s })) ready.seat in
-    record {
-      runs = does.runs;
-      are_runs = does.are_runs;
-      same_jobs = does.same_jobs;
-      same_dones = does.same_dones;
-      own =
-          subst (λ (v : WordsState). replied_in v.config k q.seen ≡ replied_to p ++ all_of does.runs) table
-          (subst (λ (j : ℕ). replied_in q.table.config j q.seen ≡ replied_to p ++ all_of does.runs) number does.did);
-    }
+done_by {w} {k} {p} {q} ready does = grind arith
 
 pub all_done_by : {w : WordsState} {k : ℕ} {p : PassState} (q : PassState) (jobs : List Job)
     (dones : Result Dones NoMemory)
@@ -130,23 +92,10 @@ none_done items c es first k (Err e) is = tt
 
 pub none_joined : {w : WordsState} {markers n : ℕ} (joined : Joined) → HasHandedOut w markers n joined.host
     → IfOk joined.dones (λ all. all.items ≡ []) → HaveWorked w markers [] n [] joined
-none_joined {w} {n} joined made none = record {
-  table = made.table;
-  seat = made.seat;
-  own = made.own;
-  count = made.count ∙ omega arith;
-  seats = λ j le lt. absurd (omega arith);
-  before_over = ap has_over made.seen;
-  same_markers = made.same_markers;
-  done = none_done (λ all. all.items) w.config joined.host.pass.seen [] n joined.dones none;
-}
+none_joined {w} {n} joined made none = grind (arith, none_done)
 
 pub same_or_later : (k j : ℕ) → k ≤ j → (j ≡ k) ⊎ (k + 1 ≤ j)
-same_or_later k j le = by (cases_eq j k)
-  where
-    by : ((j ≡ k) ⊎ (j ≢ k)) → (j ≡ k) ⊎ (k + 1 ≤ j)
-    by (inl e) = inl e
-    by (inr ne) = inr (omega arith)
+same_or_later k j le = grind arith
 
 dones_joined : {V : Type 0} (items : V → List Dones) (c : Config) (es : List Event) {ds fs : List Event}
     (before : List Replied)
@@ -188,12 +137,7 @@ one_joined {w} {first} {k} jobs {others} {worked} {joined} all one rest is own c
       of_others = others_own h.pass.seats (Caller j) own.more (rest.seats j le lt) own.of_others;
     } in
     let has : (j : ℕ) → k ≤ j → j < k + length (jobs ∷ others) → Has (h.pass.seats ++ p.seats) (Caller j) =
-    λ j le lt. ⊎_elim
-    (λ (e : j ≡ k). has_right h.pass.seats p.seats (Caller j)
-    (subst (λ (seats : List Seat). Has seats (Caller j)) (sym one.ready.alone)
-    (subst (λ (i : ℕ). Has (Caller i ∷ []) (Caller j)) e (has_first (Caller j) []))))
-    (λ (later : k + 1 ≤ j). has_left h.pass.seats p.seats (Caller j) (rest.seats j later (omega arith)))
-    (same_or_later k j le) in
+        grind (arith, has_right, has_first, has_left, same_or_later) in
     record {
       table = ap (λ (x : HostState). x.pass.table) is ∙ rest.table;
       seat = ap (λ (x : HostState). x.pass.seat) is ∙ rest.seat;
@@ -214,31 +158,13 @@ pub has_worked : {w : WordsState} {k : ℕ} {p : PassState} (s : CallerState) {q
     (dones : Result Dones NoMemory) → IsBetweenJobs w k p → s ≡ at_home p → q ≡ record s.pass { seen = q.seen }
     → IfOk dones (λ ds. DoesJobs s.pass jobs ds.list.items q) → r ≡ q → IsIdleCaller q
     → HasWorked w (replied_to p) k jobs (record { pass = r; dones = dones })
-has_worked {w} {k} {p} s {q} r jobs dones ready home is does same idle =
-    let first : s.pass ≡ p = ap (λ (x : CallerState). x.pass) home in
-    let goes : q ≡ record p { seen = q.seen } = is ∙ ap (λ (x : PassState). record x { seen = q.seen }) first in
-    let all : IfOk dones (λ ds. DoesJobs p jobs ds.list.items q) =
-    subst (λ (x : PassState). IfOk dones (λ ds. DoesJobs x jobs ds.list.items q)) first does in
-    subst (λ (x : PassState). HasWorked w (replied_to p) k jobs (record { pass = x; dones = dones })) (sym same)
-    (record { ready = is_ready ready goes idle; done = all_done_by q jobs dones ready all })
+has_worked {w} {k} {p} s {q} r jobs dones ready home is does same idle = grind (arith, is_ready, all_done_by)
 
 -- A caller between two jobs may do the next one.
 pub ready_between : {E : Type 0} {made_for : E → ℕ} {w : WordsState} {k : ℕ} {s : CallerState} {b : E}
     → s.home ≡ true → IsBetweenJobs w k s.pass → k < w.config.callers → HasStackTypes w.config
     → made_for b ≡ w.config.pages → IsReadyForJobs made_for s b
-ready_between {made_for} {w} {k} {s} {b} home ready lt types made =
-    let number : caller_of_pass s.pass ≡ k =
-    ap (λ (x : Seat). caller_of_pass (record s.pass { seat = x })) ready.seat in
-    let exists : caller_of_pass s.pass < w.config.callers = omega (arith, number, lt) in
-    record {
-      ready = record {
-        home = home;
-        exists = subst (λ (v : WordsState). caller_of_pass s.pass < v.config.callers) (sym ready.table) exists;
-        types = subst (λ (v : WordsState). HasStackTypes v.config) (sym ready.table) types;
-      };
-      alone = ready.alone ∙ ap (λ (x : Seat). x ∷ []) (sym ready.seat);
-      made = subst (λ (v : WordsState). made_for b ≡ v.config.pages) (sym ready.table) made;
-    }
+ready_between {made_for} {w} {k} {s} {b} home ready lt types made = grind arith
 
 -- The list of a caller, and those of the callers after it
 pub record HasNext (lists : List Jobs) (k : ℕ) : Type 0 where

@@ -2,8 +2,8 @@
 use Rattle.std.proofs.lemmas.List.{length-replicate}
 use Rattle.mk_stack.proofs.Vocabulary.{AreDecidedOnce, Call, Founded, Founding, IsOneOf, JobRun, Kind, NeverState, Null}
 use Rattle.mk_stack.proofs.Vocabulary.{Replied, after_calls, allocation_at, bit, order_of, own_decisions}
-use Rattle.mk_laws.proofs.Vocabulary.{List, None, ℕ, ap, arith, cases_lt, drop, inl, inr, length, refl, suc, sym, take}
-use Rattle.mk_laws.proofs.Vocabulary.{zero, [], ◌*◌, ◌+◌, ◌<◌, ◌∙◌, ◌≡◌, ◌≤◌, ◌⊎◌}
+use Rattle.mk_laws.proofs.Vocabulary.{List, None, ℕ, arith, cases_lt, drop, length, refl, suc, take, zero, [], ◌*◌, ◌<◌}
+use Rattle.mk_laws.proofs.Vocabulary.{◌≡◌}
 use Rattle.mk_never.specs.NeverHeap.{start_of}
 use Rattle.mk_stack.proofs.Invariant.{Core, Inv, Local, Work}
 use Rattle.mk_stack.proofs.Roles.{Base, Freed, Private, Role, Stacked, Taken, Unborn, is_gone}
@@ -54,12 +54,7 @@ module _ (types : List (List Kind)) (callers : ℕ) (founding : List Replied) (r
 
   first_inv : Inv callers n None unborn [] (first_work founding runs)
   unfolding unborn
-  first_inv =
-      record {
-        core = first_core;
-        local = first_local;
-        held = λ k a. record { pushing = λ e. absurd (unborn_private k e); freeing = λ e. absurd (unborn_taken k e) };
-      }
+  first_inv = grind (arith, first_core, first_local, unborn_private, unborn_taken)
 
   first_works : (k : ℕ) → IsWork n calls k (first_work founding runs k)
   unfolding first_work
@@ -94,20 +89,13 @@ module _ (types : List (List Kind)) (callers : ℕ) (founding : List Replied) (r
   module _ (ran : Ran callers n unborn [] (first_work founding runs) calls) where
     times : (a : ℕ) (r : Role) → ran.role_end a ≡ r → times_freed a n calls ≡ bit (is_gone r)
     unfolding unborn
-    times a r is =
-        let sum : bit (is_gone (ran.role_end a)) ≡ 0 + times_freed a n calls = ran.frees a in
-        let here : bit (is_gone (ran.role_end a)) ≡ bit (is_gone r) = ap (λ (x : Role). bit (is_gone x)) is in
-        omega (arith, sum, here)
+    times a r is = grind (arith, is_gone)
 
     on_stack : (a : ℕ) → IsOneOf a ran.nodes_end → ran.role_end a ≡ Stacked
     on_stack a one = on_stack_role m ran.top_end ran.role_end ran.nodes_end a ran.core.chain one
 
     there : (a : ℕ) → (Unborn ≡ ran.role_end a → ⊥) → a < length m.allocations
-    there a born = by (cases_lt a (length m.allocations))
-      where
-        by : (a < length m.allocations) ⊎ (length m.allocations ≤ a) → a < length m.allocations
-        by (inl lt) = lt
-        by (inr ge) = absurd (born (sym (ran.core.unborn a ge)))
+    there a born = grind (arith, cases_lt)
 
     freed : (a : ℕ) → a < length m.allocations → (allocation_at m a).ty ≡ 0 → (IsOneOf a ran.nodes_end → ⊥)
         → (r : Role) → ran.role_end a ≡ r → times_freed a n calls ≡ 1
@@ -119,12 +107,7 @@ module _ (types : List (List Kind)) (callers : ℕ) (founding : List Replied) (r
     freed a lt node off Freed is = times a Freed is
 
     no_leak : LeaksNothing n m calls ran.nodes_end
-    no_leak =
-        record {
-          kept = λ a one. (there a (λ e. unborn_stacked (e ∙ on_stack a one)), times a Stacked (on_stack a one));
-          gone = λ a lt node off. freed a lt node off (ran.role_end a) refl;
-          single = ran.single;
-        }
+    no_leak = grind (arith, there, unborn_stacked, on_stack, times, freed)
 
   explained : Ran callers n unborn [] (first_work founding runs) calls → IsExplained types callers founding runs calls
   explained ran =

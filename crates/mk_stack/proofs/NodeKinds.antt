@@ -1,10 +1,10 @@
 -- What the registers and words of a stack's heap point to, and what its callers may ask.
-use Rattle.std.proofs.Common.{IfSome, slice_get, zero-add}
+use Rattle.std.proofs.Common.{IfSome, slice_get}
 use Rattle.mk_stack.proofs.Vocabulary.{IsPointerTo, IsTyped, Kind, MayPointTo, NeverState, Null, Num, Number, Ptr, To}
 use Rattle.mk_stack.proofs.Vocabulary.{Value, WordOf, allocation_at, global_at, kinds_of, node_kinds, register_at}
 use Rattle.mk_stack.proofs.Vocabulary.{target_of, top_kinds, word_at, words_of}
-use Rattle.mk_laws.proofs.Vocabulary.{IsSound, List, Meets, Option, Some, Suits, ℕ, ap, arith, get_or, length, refl}
-use Rattle.mk_laws.proofs.Vocabulary.{subst, sym, ◌*◌, ◌+◌, ◌<◌, ◌∙◌, ◌≡◌, ◌≤◌}
+use Rattle.mk_laws.proofs.Vocabulary.{List, Meets, Option, Some, Suits, ℕ, ap, arith, get_or, length, refl, subst, sym}
+use Rattle.mk_laws.proofs.Vocabulary.{◌+◌, ◌<◌, ◌∙◌, ◌≡◌, ◌≤◌}
 use Rattle.mk_never.specs.Admitted.{IsCaller, IsOfKind}
 use Rattle.mk_stack.proofs.Heaps.{reaches}
 
@@ -27,29 +27,12 @@ pub record IsObject (n : NeverState) (a : ℕ) (ks : List Kind) : Type 0 where
 module _ {globals : List ℕ} {n : NeverState} {k : ℕ} (state : IsStackState globals n k) where
   pub object : (ty r : ℕ) (ks : List Kind) → kinds_of n.types ty ≡ ks → (h : IsPointerTo ty (register_at n k r))
       → IsObject n h.number ks
-  object ty r ks kinds h =
-      let sound : IsSound n (Ptr h.number ty 0) = subst (IsSound n) h.is (state.typed.registers (8 * k + r)) in
-      let of_type : kinds_of n.types (allocation_at n h.number).ty ≡ ks = ap (kinds_of n.types) (sym sound.1) ∙ kinds in
-      let all = state.typed.allocations h.number sound.0 in
-      let size : length (words_of n h.number) ≡ length ks = all.size ∙ ap length of_type in
-      record {
-        there = sound.0;
-        size = size;
-        kinds = of_type;
-        words = λ i lt. subst (λ (l : List Kind). Suits n (word_at n h.number i) (get_or l i Number)) of_type
-            (all.words i (omega (arith, size, lt)));
-      }
+  object ty r ks kinds h = grind arith
 
   -- An access through it is inside, and the word is of its kind.
   pub meets : (P : Kind → Type 0) (ty r i : ℕ) (ks : List Kind) → kinds_of n.types ty ≡ ks
       → IsPointerTo ty (register_at n k r) → i < length ks → P (get_or ks i Number) → Meets n (register_at n k r) i P
-  meets P ty r i ks kinds h lt holds =
-      let o : IsObject n h.number ks = object ty r ks kinds h in
-      subst (λ (v : Value). Meets n v i P) (sym h.is) (
-        omega (arith, o.size, lt),
-        subst (λ (l : List Kind). P (get_or l (0 + i) Number)) (sym o.kinds)
-            (subst (λ (j : ℕ). P (get_or ks j Number)) (sym (zero-add i)) holds),
-      )
+  meets P ty r i ks kinds h lt holds = grind (arith, object)
 
   pub gets_to : (ty r i : ℕ) (ks : List Kind) → kinds_of n.types ty ≡ ks → length ks ≤ 2
       → (h : IsPointerTo ty (register_at n k r)) → target_of n (register_at n k r) i ≡ WordOf h.number (0 + i)

@@ -1,8 +1,8 @@
 -- What callers still have to do, what is still to be decided of it, and what one operation more makes of that.
 use Rattle.std.proofs.Common.{option_and_then}
 use Rattle.mk_stack.proofs.Vocabulary.{AreDecidedOnce, AreJobRuns, Call, Done, Ended, Founded, Job, JobRun, Leads}
-use Rattle.mk_stack.proofs.Vocabulary.{NeverState, Op, Ordered, Point, Replied, Starting, after_calls, after_op, all_of}
-use Rattle.mk_stack.proofs.Vocabulary.{bit, numbers_in, order_of, own_decisions, own_replied, reply_of}
+use Rattle.mk_stack.proofs.Vocabulary.{NeverState, Op, Ordered, Point, Replied, after_calls, after_op, all_of, bit}
+use Rattle.mk_stack.proofs.Vocabulary.{numbers_in, order_of, own_decisions, own_replied, reply_of}
 use Rattle.mk_laws.proofs.Vocabulary.{Bool, List, None, Option, Some, ℕ, ap, arith, drop, eq-eqb, if◌then◌else◌, length}
 use Rattle.mk_laws.proofs.Vocabulary.{ne_eqb, refl, replies_of, subst, sym, take, [], ◌++◌, ◌+◌, ◌∙◌, ◌∷◌, ◌≡◌, ◌≢◌}
 use Rattle.mk_stack.proofs.Assembly.{Decides, IsLeft, IsOfJob, job_at, nothing, settles}
@@ -65,11 +65,7 @@ pub record IsSettled (k : ℕ) (s : Point) (u : Option Done) (g : Point) : Type 
 
 pub settled : (n : NeverState) (top : Option ℕ) (role : ℕ → Role) (k : ℕ) (s : Point) (u : Option Done) (g : Point)
     → IsGoal g → s ≡ g → Local n top role k s u → IsSettled k s u g
-settled n top role k s u Founded goal is local = by u
-  where
-    by : (x : Option Done) → IsSettled k s x Founded
-    by None = record { agrees = tt; nothing = refl }
-    by (Some y) = record { agrees = tt; nothing = refl }
+settled n top role k s u Founded goal is local = grind (arith, nothing)
 settled n top role k s u (Ended d) goal is local =
     let done : u ≡ Some d = subst (λ (p : Point). Local n top role k p u) is local in
     subst (λ (x : Option Done). IsSettled k s x (Ended d)) (sym done) (record { agrees = refl; nothing = refl })
@@ -77,10 +73,7 @@ settled n top role k s u _ goal is local = absurd goal
 
 -- A job has an operation.
 pub begins : (r : JobRun) → IsJobRun r → r.all ≡ [] → ⊥
-begins r run none =
-    let same : Starting r.job ≡ Ended r.done =
-    subst (λ (xs : List Replied). Leads (Starting r.job) xs (Ended r.done)) none run in
-    cc
+begins r run none = grind arith
 
 pub nothing_left : (xs ys : List Replied) → [] ≡ xs ++ ys → (xs ≡ []) × (ys ≡ [])
 nothing_left [] [] e = (refl, refl)
@@ -100,18 +93,7 @@ module _ {callers : ℕ} {n : NeverState} {top : Option ℕ} {role : ℕ → Rol
       subst (λ (xs : List Replied). Leads (W k).point xs (W k).goal) none.0 (work k).leads
 
   done_once : (k : ℕ) → IsOnce k (W k) []
-  done_once k =
-      let none = nothing_left (W k).rest (all_of (W k).later) (work k).own in
-      let settles = settled n top role k (W k).point (W k).decided (W k).goal (work k).goal (at_goal k) (inv.local k) in
-      record {
-        agrees = settles.agrees;
-        first =
-            ap (λ (xs : List Replied). order_of (take (length xs) [])) none.0 ∙ sym settles.nothing;
-        later =
-            subst (λ (xs : List Replied). AreDecidedOnce k (W k).later (drop (length xs) [])) (sym none.0)
-            (subst (λ (rs : List JobRun). AreDecidedOnce k rs []) (sym (no_jobs_left (W k).later (work k).later none.1))
-            refl);
-      }
+  done_once k = grind (arith, nothing_left, settles, settled, at_goal, no_jobs_left)
 
   pub all_done : Ran callers n role nodes W []
   all_done =
@@ -182,10 +164,6 @@ pub once_more : (c : ℕ) (s next : Point) (u : Option Done) (d : Option Ordered
     → IsGoal g → (IsOfJob s → g ≢ Founded) → Agrees u' g → order_of ds ≡ owed c next u' g → IsOnceMore c s u d g ds
 once_more c s next u d u' g ds (nothing {u = x}) same goal of_job agrees first =
     record { agrees = agrees; first = first ∙ owed_same c s next u' g same }
-once_more c s next u d u' (Ended e) ds (settles {d = y} h) same goal of_job agrees first =
-    record {
-      agrees = tt;
-      first = ap (λ (l : List Ordered). entry c s y ∷ l) first ∙ ap (λ (z : Done). entry c s z ∷ []) agrees;
-    }
+once_more c s next u d u' (Ended e) ds (settles {d = y} h) same goal of_job agrees first = grind (arith, entry)
 once_more c s next u d u' Founded ds (settles {d = y} h) same goal of_job agrees first = absurd (of_job h refl)
 once_more c s next u d u' _ ds (settles {d = y} h) same goal of_job agrees first = absurd goal

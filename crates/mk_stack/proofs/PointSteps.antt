@@ -10,9 +10,9 @@ use Rattle.mk_stack.proofs.Vocabulary.{kinds_of, lack, left_at, link, look, make
 use Rattle.mk_stack.proofs.Vocabulary.{number_of, op_at, peek, place, pop_again, publish, push_again, read, register_at}
 use Rattle.mk_stack.proofs.Vocabulary.{reply_at, reply_of, start, target_of, top_kinds, unlink, with_new, with_register}
 use Rattle.mk_stack.proofs.Vocabulary.{with_word, word_at}
-use Rattle.mk_laws.proofs.Vocabulary.{AccessIsAdmitted, Bool, IsAdmitted, IsNumber, IsPointer, List, Meets, Option, ℕ}
-use Rattle.mk_laws.proofs.Vocabulary.{ap, arith, false, false≢true, get_or, if◌then◌else◌, length, refl, subst, suc}
-use Rattle.mk_laws.proofs.Vocabulary.{sym, true, zero, [], ◌*◌, ◌+◌, ◌<◌, ◌∙◌, ◌∷◌, ◌≡◌, ◌≢◌}
+use Rattle.mk_laws.proofs.Vocabulary.{AccessIsAdmitted, Bool, IsAdmitted, IsNumber, IsPointer, List, Meets, ℕ, ap}
+use Rattle.mk_laws.proofs.Vocabulary.{arith, false, false≢true, get_or, if◌then◌else◌, length, refl, subst, suc, sym}
+use Rattle.mk_laws.proofs.Vocabulary.{true, zero, [], ◌*◌, ◌+◌, ◌<◌, ◌∙◌, ◌∷◌, ◌≡◌, ◌≢◌}
 use Rattle.mk_never.specs.Admitted.{IsBase, IsOfKind, OperandsAreInRange, StoreIsAdmitted}
 use Rattle.mk_never.specs.NeverHeap.{free_reply}
 use Rattle.mk_run.specs.Scripts.{as_told}
@@ -78,10 +78,7 @@ module _ {globals : List ℕ} {n : NeverState} {k : ℕ} (state : IsStackState g
       (top_meets (λ (kind : Kind). IsOfKind (register_at n k 2) kind × IsOfKind (register_at n k r) kind) h (was, now))
 
   may_place : IsPointerTo 1 (register_at n k 0) → IsAdmitted globals n k (Op.SetGlobal 0 0)
-  may_place h =
-      let P : Option ℕ → Type 0 = λ x. IfSome x (λ ty. IsOfKind (register_at n k 0) (To ty 0)) in
-      admitted (Op.SetGlobal 0 0) (omega (arith, state.count), omega arith) tt (subst P (sym state.global)
-      (may_point h))
+  may_place h = grind (arith, admitted, may_point)
 
   pub admits : (s : Point) → At s → IfSome (op_at s) (IsAdmitted globals n k)
   admits Founding h = admitted _ (omega arith, type_exists n.types 1 _ _ state.top) tt tt
@@ -159,10 +156,7 @@ module _ {globals : List ℕ} {n : NeverState} {k : ℕ} (state : IsStackState g
   made s d ty so not_so next done none holds else_holds Answer.Full bases image =
       subst (λ (t : Point). Asks s (Op.New d ty true) Reply.Full t × HoldsAt (register_at n k) t)
       (sym (next Answer.Full)) (none, else_holds)
-  made s d ty so not_so next done none holds else_holds Answer.Done bases image =
-      subst (λ (t : Point). Asks s (Op.New d ty false) Reply.Done t
-      × HoldsAt (register_at (with_register (with_new n ty) k d (Ptr (length n.allocations) ty 0)) k) t)
-      (sym (next Answer.Done)) (done, holds)
+  made s d ty so not_so next done none holds else_holds Answer.Done bases image = grind arith
   made s d ty so not_so next done none holds else_holds _ bases image = absurd (cc)
 
   -- a comparison with null

@@ -2,7 +2,7 @@
 use Rattle.mk_stack.proofs.Vocabulary.{Done, Empty, Ended, Following, Freeing, NeverState, Null, Op, Peeking, Point}
 use Rattle.mk_stack.proofs.Vocabulary.{Pop, Popped, Ptr, Reading, Replied, Reply, Taking, Target, Testing, Value}
 use Rattle.mk_stack.proofs.Vocabulary.{after_free, after_op, freed_by, left_at, left_by, number_of, numbers_in}
-use Rattle.mk_stack.proofs.Vocabulary.{register_at, reply_at, reply_of, with_register, with_word, word_at}
+use Rattle.mk_stack.proofs.Vocabulary.{register_at, reply_of, with_register, with_word, word_at}
 use Rattle.mk_laws.proofs.Vocabulary.{Bool, List, None, Option, Some, ℕ, ap, arith, eq-eqb, if◌then◌else◌, inl, inr}
 use Rattle.mk_laws.proofs.Vocabulary.{ne_eqb, refl, subst, sym, [], ◌<◌, ◌∙◌, ◌∷◌, ◌≡◌, ◌≢◌, ◌⊎◌}
 use Rattle.mk_never.specs.NeverHeap.{free_reply}
@@ -13,7 +13,6 @@ use Rattle.mk_stack.proofs.StepParts.{num_is, other_is_not, ptr_is, ptr_is_not_n
 use Rattle.mk_stack.proofs.StepParts.{without_left}
 use Rattle.mk_stack.proofs.{Freeing.by_free, Heaps.other_register, Popping.by_pop, Registered.by_nothing}
 use Rattle.mk_stack.proofs.{Registered.by_register, Roles.IsPublished, Roles.Role, Roles.is_gone}
-use Rattle.mk_stack.specs.Laws.{is_done, is_pointer_to}
 
 module _ {callers : ℕ} {n : NeverState} {top : Option ℕ} {role : ℕ → Role} {nodes : List ℕ} {W : ℕ → Work}
     (inv : Inv callers n top role nodes W) (c : ℕ) (exists : c < callers) where
@@ -122,14 +121,7 @@ module _ {callers : ℕ} {n : NeverState} {top : Option ℕ} {role : ℕ → Rol
       by : (l : List ℕ) → nodes ≡ l → IsChain n role (word_at n local.1.t 0) l
           → Goal Taking None (Op.CasPtr 0 0 2 3) Freeing rest (with_word n local.1.t 0 (register_at n c 3))
       by [] e chain = absurd (ptr_is_not_null local.2.a 0 (sym uppermost_is ∙ chain))
-      by (b ∷ l) e chain =
-          let same : local.2.a ≡ b = ptr_is local.2.a b 0 0 (sym uppermost_is ∙ chain.0) in
-          subst
-          (λ (xs : List ℕ). Stepped callers n role xs W c Taking None (Op.CasPtr 0 0 2 3) Freeing rest
-          (with_word n local.1.t 0 (register_at n c 3))) (sym e)
-          (by_pop (subst (λ (xs : List ℕ). Inv callers n top role xs W) e inv) c local.1.t
-          (register_at n c 3) local.1.is (local.2.register ∙ ap (λ (x : ℕ). Ptr x 0 0) same)
-          (local.2.next ∙ ap (λ (x : ℕ). word_at n x 1) same) held (Op.CasPtr 0 0 2 3) rest (λ x. refl))
+      by (b ∷ l) e chain = grind (arith, ptr_is, uppermost_is, by_pop)
 
   pub pop_again_steps : (u : Option Done) (rest : List Replied) → Local n top role c Taking u → Held Taking
       → reply_of n c (Op.CasPtr 0 0 2 3) ≡ Reply.Num 0
@@ -146,16 +138,10 @@ module _ {callers : ℕ} {n : NeverState} {top : Option ℕ} {role : ℕ → Rol
         ∙ ap (λ (b : Bool). if b then Reply.Double else Reply.Done) (inv.core.freed own.a ∙ ap is_gone own.has)
 
     freed_once : freed_by own.a n c (Op.Free 2) ≡ 1
-    freed_once =
-        ap (λ (v : Value). if is_pointer_to own.a v then (if is_done (reply_of n c (Op.Free 2)) then 1 else 0) else 0)
-        own.register ∙ ap (λ (b : Bool). if b then (if is_done (reply_of n c (Op.Free 2)) then 1 else 0) else 0)
-        (eq-eqb own.a own.a refl) ∙ ap (λ (r : Reply). if is_done r then 1 else 0) free_replies
+    freed_once = grind (arith, eq-eqb, free_replies)
 
     other_not_freed : (b : ℕ) → b ≢ own.a → freed_by b n c (Op.Free 2) ≡ 0
-    other_not_freed b ne =
-        ap (λ (v : Value). if is_pointer_to b v then (if is_done (reply_of n c (Op.Free 2)) then 1 else 0) else 0)
-        own.register ∙ ap (λ (t : Bool). if t then (if is_done (reply_of n c (Op.Free 2)) then 1 else 0) else 0)
-        (ne_eqb own.a b (λ e. ne (sym e)))
+    other_not_freed b ne = grind (arith, ne_eqb)
 
   pub free_steps : (u : Option Done) (rest : List Replied) → Local n top role c Freeing u → Held Freeing
       → Goal Freeing u (Op.Free 2) Reading rest (after_op n c (Op.Free 2))
@@ -166,9 +152,6 @@ module _ {callers : ℕ} {n : NeverState} {top : Option ℕ} {role : ℕ → Rol
   pub read_steps : (x : ℕ) (u : Option Done) (rest : List Replied) → Local n top role c Reading u → Held Reading
       → reply_of n c (Op.GetNum 2 0) ≡ Reply.Num x → Goal Reading u (Op.GetNum 2 0) (Ended (Popped x)) rest n
   read_steps x u rest local held said =
-      let number : number_of (word_at n local.a 0) ≡ x =
-      num_is _ x
-      (sym (ap (λ (t : Target). reply_at t (λ a w. Reply.Num (number_of (word_at n a w))))
-      (gets inv c exists 2 local.a 0 0 local.register)) ∙ said) in
+      let number : number_of (word_at n local.a 0) ≡ x = grind (arith, num_is, gets) in
       by_nothing inv c u None (local.owes ∙ ap (λ (y : ℕ). Some (Popped y)) number)
       (idle inv c exists held (λ p. p) (λ f. f)) refl nothing (λ b. refl)

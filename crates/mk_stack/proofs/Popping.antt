@@ -5,8 +5,8 @@ use Rattle.mk_laws.proofs.Vocabulary.{Bool, List, None, Option, Some, ℕ, ap, a
 use Rattle.mk_laws.proofs.Vocabulary.{length, refl, subst, sym, ◌∙◌, ◌∷◌, ◌≡◌, ◌≢◌}
 use Rattle.mk_stack.proofs.Chains.{chain_stays, not_one_of, numbers_stay}
 use Rattle.mk_stack.proofs.Exchanges.{by_exchange, node_is_no_top, words_stay}
-use Rattle.mk_stack.proofs.Invariant.{HasChain, HasTaken, Inv, IsChain, IsHeld, Work}
-use Rattle.mk_stack.proofs.Roles.{Private, Role, Stacked, Taken, put, put_by, put_other, put_same, size_of}
+use Rattle.mk_stack.proofs.Invariant.{HasChain, HasTaken, Inv, IsHeld, Work}
+use Rattle.mk_stack.proofs.Roles.{Role, Stacked, Taken, put, put_by, put_other, put_same, size_of}
 use Rattle.mk_stack.proofs.Writes.{base_stacked, granted, private_taken, taken_stacked, unborn_base}
 use Rattle.mk_stack.proofs.{Assembly.Stepped, Assembly.settles, Heaps.written}
 
@@ -41,17 +41,7 @@ module _ {callers : ℕ} {n : NeverState} {top : Option ℕ} {role : ℕ → Rol
       written n t 0 v (granted t inv.core (λ e. unborn_base (e ∙ chain.1))) (omega (arith, one))
 
   popped_chain : HasChain m top now nodes
-  popped_chain =
-      subst (λ (y : Option ℕ). HasChain m y now nodes) (sym is) (
-        chain.0,
-        put_other role a (Taken c) t (λ e. apart (sym e)) ∙ chain.1,
-        subst (λ (y : Value). IsChain m now y nodes) (sym (top_word ∙ next_is))
-            (chain_stays n m role now (word_at n a 1) nodes
-            (λ b one e. record {
-              role_now = put_other role a (Taken c) b (not_one_of a b nodes chain.2.2 one) ∙ e;
-              link = word b 1 (no_top b e);
-            }) chain.2.3),
-      )
+  popped_chain = grind (arith, now, chain, put_other, apart, top_word, chain_stays, not_one_of, word, no_top)
 
   popped_numbers : numbers_in m nodes ≡ numbers_in n nodes
   popped_numbers = numbers_stay n m role (word_at n a 1) nodes (λ b e. word b 0 (no_top b e)) chain.2.3
@@ -60,22 +50,10 @@ module _ {callers : ℕ} {n : NeverState} {top : Option ℕ} {role : ℕ → Rol
   y = number_of (word_at n a 0)
 
   taken : HasTaken m now c (Some (Popped y))
-  taken =
-      record {
-        a = a;
-        register = register;
-        has = put_same role a (Taken c);
-        owes = ap (λ (z : Value). Some (Popped (number_of z))) (sym (word a 0 apart));
-      }
+  taken = grind (arith, put_same, word, apart)
 
   now_held : (b : ℕ) → IsHeld m (now b) c b Freeing
-  now_held b =
-      record {
-        pushing = put_by (λ (z : ℕ) (r : Role). r ≡ Private c → ⊥ × (register_at m c 1 ≡ Ptr z 0 0)) role a (Taken c)
-            (λ e. absurd (private_taken c c (sym e))) (λ z ne e. absurd ((held z).pushing e).0) b;
-        freeing = put_by (λ (z : ℕ) (r : Role). r ≡ Taken c → Unit {0} × (register_at m c 2 ≡ Ptr z 0 0)) role a
-            (Taken c) (λ e. (tt, register)) (λ z ne e. absurd ((held z).freeing e).0) b;
-      }
+  now_held b = grind (arith, put_by, private_taken)
 
   only_below : (b : ℕ) → b ≢ a → IsOneOf b (a ∷ nodes) → IsOneOf b nodes
   only_below b ne (inl e) = absurd (ne e)

@@ -1,12 +1,11 @@
 -- The steps of a push.
-use Rattle.mk_stack.proofs.Vocabulary.{Done, Ended, Filling, Full, Kind, Linking, Looking, Making, NeverState, Null}
-use Rattle.mk_stack.proofs.Vocabulary.{Num, Op, Point, Ptr, Publishing, Push, Pushed, Replied, Reply, Target, Value}
-use Rattle.mk_stack.proofs.Vocabulary.{after_op, left_at, number_of, register_at, reply_of, with_new, with_register}
-use Rattle.mk_stack.proofs.Vocabulary.{with_word, word_at, words_of, zero_words}
+use Rattle.mk_stack.proofs.Vocabulary.{Done, Ended, Filling, Full, Linking, Looking, Making, NeverState, Null, Num, Op}
+use Rattle.mk_stack.proofs.Vocabulary.{Point, Ptr, Publishing, Push, Pushed, Replied, Reply, Target, Value, after_op}
+use Rattle.mk_stack.proofs.Vocabulary.{left_at, register_at, reply_of, with_new, with_register, with_word, word_at}
+use Rattle.mk_stack.proofs.Vocabulary.{words_of}
 use Rattle.mk_laws.proofs.Vocabulary.{List, None, Option, Some, ℕ, ap, arith, false, length, refl, subst, sym, true}
 use Rattle.mk_laws.proofs.Vocabulary.{◌<◌, ◌∙◌, ◌≡◌}
-use Rattle.mk_stack.proofs.Invariant.{HasFilled, HasLinked, HasOwn, HasTop, Inv, IsFreeing, IsHeld, IsPushing, Local}
-use Rattle.mk_stack.proofs.Invariant.{Work}
+use Rattle.mk_stack.proofs.Invariant.{HasFilled, HasLinked, HasTop, Inv, IsFreeing, IsHeld, IsPushing, Local, Work}
 use Rattle.mk_stack.proofs.StepParts.{exchanged_from, exchanges, gets, idle, keeps_top, leaves_all, put_held, there}
 use Rattle.mk_stack.proofs.StepParts.{undecided}
 use Rattle.mk_stack.proofs.{Assembly.Stepped, Assembly.held_on, Assembly.nothing, Assembly.settles, Grants.IsNewRole}
@@ -26,16 +25,7 @@ module _ {callers : ℕ} {n : NeverState} {top : Option ℕ} {role : ℕ → Rol
   -- A push
 
   pub node_fits : IsNewRole n c 0 (Private c)
-  node_fits =
-      record {
-        size = ap (λ (ks : List Kind). length (zero_words ks)) inv.core.node_type;
-        not_gone = refl;
-        born = λ e. unborn_private c (sym e);
-        not_stacked = λ e. private_stacked c e;
-        base = λ e. absurd (base_private c (sym e));
-        of_caller = λ k ne e. ne (sym (same_private c k e));
-        not_taken = λ k e. private_taken c k e;
-      }
+  node_fits = grind (arith, unborn_private, private_stacked, base_private, same_private, private_taken)
 
   pub make_steps : (x : ℕ) (u : Option Done) (rest : List Replied) → Local n top role c (Making x) u → Held (Making x)
       → Goal (Making x) u (Op.New 1 0 false) (Filling x) rest (after_op n c (Op.New 1 0 false))
@@ -74,22 +64,7 @@ module _ {callers : ℕ} {n : NeverState} {top : Option ℕ} {role : ℕ → Rol
 
   pub fill_steps : (x : ℕ) (u : Option Done) (rest : List Replied) → Local n top role c (Filling x) u → Held (Filling x)
       → Goal (Filling x) u (Op.SetNum 1 0 x) (Looking x) rest (after_op n c (Op.SetNum 1 0 x))
-  fill_steps x u rest local held =
-      let own : HasOwn n role c = local.2 in
-      let m : NeverState = with_word n own.a 0 (Num x) in
-      subst (Goal (Filling x) u (Op.SetNum 1 0 x) (Looking x) rest)
-      (sym (ap (λ (t : Target). left_at t n (λ a w. with_word n a w (Num x)))
-      (gets inv c exists 1 own.a 0 0 own.register))) (by_write inv c own.a 0 (Num x) own.has (
-        local.0,
-        keeps_top inv c exists m refl local.1,
-        record {
-          a = own.a;
-          register = own.register;
-          has = own.has;
-          number = ap number_of (written n own.a 0 (Num x) (own_exists own.a own.has)
-              (omega (arith, own_size own.a own.has)));
-        },
-      ) (on_push m (Filling x) (Looking x) tt (λ f. f) refl held) (λ b. refl))
+  fill_steps x u rest local held = grind (arith, gets, by_write, keeps_top, written, own_exists, own_size, on_push)
 
   pub look_steps : (x : ℕ) (u : Option Done) (rest : List Replied) → Local n top role c (Looking x) u → Held (Looking x)
       → Goal (Looking x) u (Op.GetPtr 2 0 0) (Linking x) rest (after_op n c (Op.GetPtr 2 0 0))
@@ -115,22 +90,7 @@ module _ {callers : ℕ} {n : NeverState} {top : Option ℕ} {role : ℕ → Rol
   pub link_steps : (x : ℕ) (u : Option Done) (rest : List Replied) → Local n top role c (Linking x) u → Held (Linking x)
       → Goal (Linking x) u (Op.SetPtr 1 1 2) (Publishing x) rest (after_op n c (Op.SetPtr 1 1 2))
   link_steps x u rest local held =
-      let own : HasFilled n role c x = local.2 in
-      let v : Value = register_at n c 2 in
-      let m : NeverState = with_word n own.a 1 v in
-      subst (Goal (Linking x) u (Op.SetPtr 1 1 2) (Publishing x) rest)
-      (sym (ap (λ (t : Target). left_at t n (λ a w. with_word n a w (register_at n c 2)))
-      (gets inv c exists 1 own.a 0 1 own.register))) (by_write inv c own.a 1 v own.has (
-        local.0,
-        keeps_top inv c exists m refl local.1,
-        record {
-          a = own.a;
-          register = own.register;
-          has = own.has;
-          number = ap number_of (other_word n own.a 1 0 v (own_exists own.a own.has) (omega arith)) ∙ own.number;
-          link = written n own.a 1 v (own_exists own.a own.has) (omega (arith, own_size own.a own.has));
-        },
-      ) (on_push m (Linking x) (Publishing x) tt (λ f. f) refl held) (λ b. refl))
+      grind (arith, gets, by_write, keeps_top, other_word, own_exists, written, own_size, on_push)
 
   pub publish_steps : (x : ℕ) (u : Option Done) (rest : List Replied) → Local n top role c (Publishing x) u
       → Held (Publishing x) → reply_of n c (Op.CasPtr 0 0 2 1) ≡ Reply.Num 1

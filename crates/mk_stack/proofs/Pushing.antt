@@ -8,7 +8,7 @@ use Rattle.mk_laws.proofs.Vocabulary.{sym, ◌∙◌, ◌∷◌, ◌≡◌, ◌�
 use Rattle.mk_stack.proofs.Chains.{chain_stays, numbers_stay, other_role}
 use Rattle.mk_stack.proofs.Exchanges.{by_exchange, node_is_no_top, words_stay}
 use Rattle.mk_stack.proofs.Invariant.{HasChain, HasLinked, Inv, IsChain, IsHeld, Work}
-use Rattle.mk_stack.proofs.Roles.{Private, Role, Stacked, Taken, put, put_by, put_other, put_same, size_of}
+use Rattle.mk_stack.proofs.Roles.{Role, Stacked, put, put_by, put_other, put_same, size_of}
 use Rattle.mk_stack.proofs.Writes.{base_stacked, granted, private_stacked, taken_stacked, unborn_base}
 use Rattle.mk_stack.proofs.{Assembly.Stepped, Assembly.settles, Heaps.written}
 
@@ -45,26 +45,10 @@ module _ {callers : ℕ} {n : NeverState} {top : Option ℕ} {role : ℕ → Rol
       written n t 0 (Ptr a 0 0) (granted t inv.core (λ e. unborn_base (e ∙ chain.1))) (omega (arith, one))
 
   below : IsChain m now (word_at m a 1) nodes
-  below =
-      subst (λ (v : Value). IsChain m now v nodes) (sym (word a 1 apart ∙ own.link ∙ sym there))
-      (chain_stays n m role now (word_at n t 0) nodes
-      (λ b one e. record {
-        role_now = put_other role a Stacked b (λ same. private_stacked c (sym own.has ∙ sym (ap role same) ∙ e)) ∙ e;
-        link = word b 1 (no_top b e);
-      }) chain.2)
+  below = grind (arith, now, word, apart, chain_stays, put_other, private_stacked, no_top, chain)
 
   pushed_chain : HasChain m top now (a ∷ nodes)
-  pushed_chain =
-      subst (λ (y : Option ℕ). HasChain m y now (a ∷ nodes)) (sym is) (
-        chain.0,
-        put_other role a Stacked t (λ e. apart (sym e)) ∙ chain.1,
-        (
-          top_word,
-          put_same role a Stacked,
-          other_role n role (word_at n t 0) nodes a (λ e. private_stacked c (sym own.has ∙ e)) chain.2,
-          below,
-        ),
-      )
+  pushed_chain = grind (arith, now, chain, put_other, apart, top_word, put_same, other_role, private_stacked, below)
 
   pushed_numbers : numbers_in m (a ∷ nodes) ≡ x ∷ numbers_in n nodes
   pushed_numbers =
@@ -72,16 +56,7 @@ module _ {callers : ℕ} {n : NeverState} {top : Option ℕ} {role : ℕ → Rol
       (numbers_stay n m role (word_at n t 0) nodes (λ b e. word b 0 (no_top b e)) chain.2)
 
   no_longer : (b : ℕ) → IsHeld m (now b) c b (Ended Pushed)
-  no_longer b =
-      record {
-        pushing = put_by (λ (y : ℕ) (r : Role). r ≡ Private c → ⊥ × (register_at m c 1 ≡ Ptr y 0 0)) role a Stacked
-            (λ e. absurd (private_stacked c (sym e))) (λ y ne e. absurd (ne (same_node y ((held y).pushing e).1))) b;
-        freeing = put_by (λ (y : ℕ) (r : Role). r ≡ Taken c → ⊥ × (register_at m c 2 ≡ Ptr y 0 0)) role a Stacked
-            (λ e. absurd (taken_stacked c (sym e))) (λ y ne e. absurd ((held y).freeing e).0) b;
-      }
-    where
-      same_node : (y : ℕ) → register_at n c 1 ≡ Ptr y 0 0 → y ≡ a
-      same_node y e = let same : Ptr y 0 0 ≡ Ptr own.a 0 0 = sym e ∙ own.register in cc
+  no_longer b = grind (arith, put_by, private_stacked, taken_stacked)
 
   pub by_push : (o : Op) (rest : List Replied) → ((b : ℕ) → freed_by b n c o ≡ 0)
       → Stepped callers n role nodes W c (Publishing x) None o (Ended Pushed) rest m

@@ -14,14 +14,7 @@ none_some x same = cc
 module _ {callers : ℕ} {n : NeverState} {top : Option ℕ} {role : ℕ → Role} {nodes : List ℕ} {W : ℕ → Work}
     (inv : Inv callers n top role nodes W) (c : ℕ) where
   nothing_leaves : (k : ℕ) → Leaves n top role n top role k
-  nothing_leaves k =
-      record {
-        registers = λ r lt. refl;
-        same_top = λ t e. e;
-        none = λ first e. e;
-        base = λ first e a is. (is, refl);
-        roles = λ a. same_role k (role a) _ refl;
-      }
+  nothing_leaves k = grind (arith, same_role)
 
   -- A step that leaves the heap as it was
   pub by_nothing : {s : Point} {u : Option Done} {o : Op} {next : Point} {rest : List Replied} (u' : Option Done)
@@ -37,14 +30,7 @@ module _ {callers : ℕ} {n : NeverState} {top : Option ℕ} {role : ℕ → Rol
     m = with_register n c d v
 
     register_leaves : (k : ℕ) → k ≢ c → Leaves n top role m top role k
-    register_leaves k other =
-        record {
-          registers = λ r lt. register_of_other n c d k r v other below lt;
-          same_top = λ t e. e;
-          none = λ first e. e;
-          base = λ first e a is. (is, refl);
-          roles = λ a. same_role k (role a) _ refl;
-        }
+    register_leaves k other = grind (arith, register_of_other, same_role)
 
     register_chain : HasChain m top role nodes
     register_chain =
@@ -89,14 +75,7 @@ module _ {callers : ℕ} {n : NeverState} {top : Option ℕ} {role : ℕ → Rol
     no_nodes (Some x) e chain = absurd (none_some x (sym e))
 
     global_leaves : (k : ℕ) → k ≢ c → Leaves n top role g (Some t) role k
-    global_leaves k other =
-        record {
-          registers = λ r lt. refl;
-          same_top = λ x e. absurd (none_some x (sym none ∙ e));
-          none = λ zeroth e. absurd (other (zeroth ∙ sym first));
-          base = λ zeroth e a is. (is, refl);
-          roles = λ a. same_role k (role a) _ refl;
-        }
+    global_leaves k other = grind (arith, none_some, same_role)
 
     global_core : Core callers g (Some t) role nodes
     global_core =

@@ -115,10 +115,7 @@ module _ (p : PassState) (o : Op) (a : Answer) (more : List Event) (once : flagg
   n0 = never_first c
 
   cut : p.seen ++ more ≡ through ++ decided.behind
-  cut =
-      ap (λ (l : List Event). p.seen ++ l) decided.is
-      ∙ sym (append_assoc p.seen decided.before (decided.event ∷ decided.behind))
-      ∙ sym (append_assoc before (decided.event ∷ []) decided.behind)
+  cut = grind (arith, append_assoc, before)
 
   through_history : IsHistory c through
   through_history = earlier_part_is_history c through decided.behind (subst (IsHistory c) cut history)
@@ -166,12 +163,7 @@ module _ (p : PassState) (o : Op) (a : Answer) (more : List Event) (once : flagg
   own_one = ap (λ (b : Bool). if b then here ∷ [] else []) (eq-eqb k k refl)
 
   own_through : replied_in c k through ≡ replied_in c k before ++ here ∷ []
-  own_through =
-      ap (λ (l : List Decided). own_replied k n0 (asked l)) (calls_more c (first_world c) before decided.event
-      ∙ ap (λ (l : List Decided). calls c before ++ l) decides)
-      ∙ ap (own_replied k n0) (asked_in_two (calls c before) (x ∷ []))
-      ∙ own_in_parts k n0 (asked (calls c before)) (asked (x ∷ []))
-      ∙ ap (λ (l : List Replied). replied_in c k before ++ l) own_one
+  own_through = grind (arith, n0, calls_more, before, decides, asked_in_two, own_in_parts, own_one)
 
   own_all : replied_in c k (p.seen ++ more) ≡ replied_in c k p.seen ++ here ∷ []
   own_all =

@@ -2,8 +2,8 @@
 use Rattle.mk_stack.proofs.Vocabulary.{AreBelow, AreDecidedOnce, AreJobRuns, Asks, Call, Ended, Founded, JobRun, Leads}
 use Rattle.mk_stack.proofs.Vocabulary.{NeverState, Op, Ordered, Replied, Starting, after_calls, after_op, all_of}
 use Rattle.mk_stack.proofs.Vocabulary.{numbers_in, order_of, own_decisions, own_replied, reply_of}
-use Rattle.mk_laws.proofs.Vocabulary.{List, None, Option, ℕ, ap, arith, cases_eq, drop, inl, inr, length, refl, subst}
-use Rattle.mk_laws.proofs.Vocabulary.{suc, sym, take, [], ◌++◌, ◌<◌, ◌∙◌, ◌∷◌, ◌≡◌, ◌≢◌, ◌⊎◌}
+use Rattle.mk_laws.proofs.Vocabulary.{List, None, Option, ℕ, ap, arith, drop, length, refl, subst, suc, sym, take, []}
+use Rattle.mk_laws.proofs.Vocabulary.{◌++◌, ◌<◌, ◌∙◌, ◌∷◌, ◌≡◌, ◌≢◌}
 use Rattle.mk_stack.proofs.Invariant.{Inv, IsFreeing, IsHeld, IsPushing, Local, Work}
 use Rattle.mk_stack.proofs.JobGoals.{goal_frees_nothing, goal_pushes_nothing, no_founding, same_job}
 use Rattle.mk_stack.proofs.Owing.{IsOnce, IsWork, Ran, all_done, begins, decision_of_other, explained_more, mine}
@@ -58,20 +58,7 @@ module _ {callers : ℕ} {n : NeverState} {top : Option ℕ} {role : ℕ → Rol
     w = moved (W c) leads.0 stepped.decided ys
 
     works_on : (k : ℕ) → IsWork m xs k (put W c w k)
-    works_on =
-        put_by (λ (k : ℕ) (v : Work). IsWork m xs k v) W c w
-        (record {
-          own = cons_tail _ y (own_replied c m xs) (ys ++ all_of (W c).later) own_is;
-          leads = leads.2;
-          goal = (works c).goal;
-          later = (works c).later;
-        })
-        (λ k other. record {
-          own = sym (of_other k c o n xs other) ∙ (works k).own;
-          leads = (works k).leads;
-          goal = (works k).goal;
-          later = (works k).later;
-        })
+    works_on = grind (arith, put_by, cons_tail, own_is, leads, of_other)
 
     local_now : Local m stepped.top_now stepped.role_now c leads.0 stepped.decided
     local_now =
@@ -113,11 +100,7 @@ module _ {callers : ℕ} {n : NeverState} {top : Option ℕ} {role : ℕ → Rol
           (subst (λ (v : Work). IsOnce k v (own_decisions k xs ran.decisions)) (put_other W c w k other) (ran.once k))
 
       all_once : (k : ℕ) → IsOnce k (W k) (own_decisions k (x ∷ xs) decisions)
-      all_once k = by (cases_eq k c)
-        where
-          by : (k ≡ c) ⊎ (k ≡ c → ⊥) → IsOnce k (W k) (own_decisions k (x ∷ xs) decisions)
-          by (inl e) = subst (λ (j : ℕ). IsOnce j (W j) (own_decisions j (x ∷ xs) decisions)) (sym e) mine_once
-          by (inr other) = other_once k other
+      all_once k = grind (arith, decisions, mine_once, other_once)
 
       ran_on : Ran callers n role nodes W (x ∷ xs)
       ran_on =
@@ -170,62 +153,18 @@ module _ {callers : ℕ} {n : NeverState} {top : Option ℕ} {role : ℕ → Rol
     runs = subst AreJobRuns later_is (works c).later
 
     begun_works : (k : ℕ) → IsWork n (x ∷ xs) k (put W c fresh k)
-    begun_works =
-        put_by (λ (k : ℕ) (v : Work). IsWork n (x ∷ xs) k v) W c fresh
-        (record {
-          own =
-              (works c).own ∙ ap (λ (l : List Replied). l ++ all_of (W c).later) nil ∙ ap all_of later_is;
-          leads = runs.0;
-          goal = tt;
-          later = runs.1;
-        }) (λ k other. works k)
+    begun_works = grind (arith, put_by, fresh, leads, runs)
 
     begun_once : (ds : List (Option Ordered)) → IsOnce c fresh ds → IsOnce c (W c) ds
-    begun_once ds once =
-        let settles = settled n top role c (W c).point (W c).decided (W c).goal (works c).goal at_end (inv.local c) in
-        record {
-          agrees = settles.agrees;
-          first = ap (λ (l : List Replied). order_of (take (length l) ds)) nil ∙ sym settles.nothing;
-          later = subst (λ (l : List Replied). AreDecidedOnce c (W c).later (drop (length l) ds)) (sym nil)
-              (subst (λ (l : List JobRun). AreDecidedOnce c l ds) (sym later_is) (once.first, once.later));
-        }
+    begun_once ds once = grind (arith, settled, at_end)
 
     began : Ran callers n role nodes (put W c fresh) (x ∷ xs) → Ran callers n role nodes W (x ∷ xs)
-    began ran =
-        record {
-          top_end = ran.top_end;
-          role_end = ran.role_end;
-          nodes_end = ran.nodes_end;
-          core = ran.core;
-          pushed = ran.pushed;
-          taken = ran.taken;
-          decisions = ran.decisions;
-          one_each = ran.one_each;
-          explained = ran.explained;
-          once = λ k. by k (cases_eq k c);
-          frees = ran.frees;
-          single = ran.single;
-        }
-      where
-        by : (k : ℕ) → (k ≡ c) ⊎ (k ≡ c → ⊥) → IsOnce k (W k) (own_decisions k (x ∷ xs) ran.decisions)
-        by k (inl e) =
-            subst (λ (j : ℕ). IsOnce j (W j) (own_decisions j (x ∷ xs) ran.decisions)) (sym e)
-            (begun_once (own_decisions c (x ∷ xs) ran.decisions)
-            (subst (λ (v : Work). IsOnce c v (own_decisions c (x ∷ xs) ran.decisions)) (put_same W c fresh)
-            (ran.once c)))
-        by k (inr other) =
-            subst (λ (v : Work). IsOnce k v (own_decisions k (x ∷ xs) ran.decisions)) (put_other W c fresh k other)
-            (ran.once k)
+    began ran = grind (arith, single, begun_once, put_same, fresh, put_other)
 
 -- A caller that is between jobs, and has none left, asks nothing.
 none_is_asked : (c : ℕ) (o : Op) (n : NeverState) (xs : List Call) (rest : List Replied) (later : List JobRun)
     → rest ≡ [] → later ≡ [] → own_replied c n (record { caller = c; op = o } ∷ xs) ≡ rest ++ all_of later → ⊥
-none_is_asked c o n xs rest later nil none own =
-    let empty : own_replied c n (record { caller = c; op = o } ∷ xs) ≡ [] =
-    own ∙ ap (λ (l : List Replied). l ++ all_of later) nil ∙ ap all_of none in
-    let some : record { op = o; reply = reply_of n c o } ∷ own_replied c (after_op n c o) xs ≡ [] =
-    sym (mine c o n xs) ∙ empty in
-    cc
+none_is_asked c o n xs rest later nil none own = grind (arith, mine)
 
 -- The first operation of a list, where all later ones are known
 run_more : {callers : ℕ} {n : NeverState} {top : Option ℕ} {role : ℕ → Role} {nodes : List ℕ} {W : ℕ → Work}

@@ -1,8 +1,7 @@
 -- The heap of a stack is within the limits, and has the types of a stack.
-use Rattle.std.proofs.lemmas.List.Elements.{All-cons, All-nil}
-use Rattle.mk_stack.proofs.Vocabulary.{Kind, Number, To, node_kinds, top_kinds}
-use Rattle.mk_laws.proofs.Vocabulary.{IsWithinLimits, List, ℕ, arith, length, [], ◌<◌, ◌∷◌, ◌≤◌}
-use Rattle.mk_core.specs.Config.{IsAmong, IsBetween, IsTypeAmong}
+use Rattle.mk_stack.proofs.Vocabulary.{Kind, node_kinds, top_kinds}
+use Rattle.mk_laws.proofs.Vocabulary.{IsWithinLimits, List, ℕ, arith, [], ◌∷◌, ◌≤◌}
+use Rattle.mk_core.specs.Config.{IsBetween}
 use Rattle.mk_stack.specs.StackRuns.{stack_config}
 
 -- the types
@@ -11,22 +10,4 @@ both = node_kinds ∷ top_kinds ∷ []
 
 pub is_within_limits : (pages resident callers markers : ℕ) → IsBetween 1 4096 pages → IsBetween 1 pages resident
     → IsBetween 1 16 callers → markers ≤ 8 → IsWithinLimits (stack_config pages resident callers markers)
-is_within_limits pages resident callers markers p r c m =
-    record {
-      pages = p;
-      resident = r;
-      callers = c;
-      markers = m;
-      type_count = omega arith;
-      global_count = omega arith;
-      types = All-cons (IsTypeAmong both) node_kinds (top_kinds ∷ []) (
-        (omega arith, omega arith),
-        All-cons (IsAmong both) Number (To 0 0 ∷ []) tt
-            (All-cons (IsAmong both) (To 0 0) [] (omega arith, omega arith) (All-nil (IsAmong both))),
-      )
-          (All-cons (IsTypeAmong both) top_kinds [] (
-            (omega arith, omega arith),
-            All-cons (IsAmong both) (To 0 0) [] (omega arith, omega arith) (All-nil (IsAmong both)),
-          ) (All-nil (IsTypeAmong both)));
-      globals = All-cons (λ (ty : ℕ). ty < length both) 1 [] (omega arith) (All-nil (λ (ty : ℕ). ty < length both));
-    }
+is_within_limits pages resident callers markers p r c m = grind (arith, both)

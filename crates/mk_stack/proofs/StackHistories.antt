@@ -24,16 +24,7 @@ callers_are_below {c} {es} h =
     h.admitted
 
 pub jobs_in_histories_are_linearizable : JobsInHistoriesAreLinearizable
-jobs_in_histories_are_linearizable c es founding runs h jobs =
-    stacks_are_linearizable c.types c.callers founding runs (asked (calls c es))
-    (record {
-      nodes = jobs.types.node;
-      tops = jobs.types.top;
-      founds = jobs.founds;
-      jobs = jobs.jobs;
-      own = jobs.own;
-      exist = callers_are_below h;
-    })
+jobs_in_histories_are_linearizable c es founding runs h jobs = grind (arith, stacks_are_linearizable, callers_are_below)
 
 all_in_parts : (rs ss : List JobRun) → all_of (rs ++ ss) ≡ all_of rs ++ all_of ss
 all_in_parts [] ss = refl

@@ -1,11 +1,10 @@
 -- Lists of jobs that callers did are the jobs of a history, and so are explained.
-use Rattle.std.proofs.Common.{slice_get}
 use Rattle.mk_stack.proofs.Vocabulary.{AreAllBy, AreBelow, AreJobRuns, AreOfOthers, Call, Caller, Config, Decided}
 use Rattle.mk_stack.proofs.Vocabulary.{Dones, Event, Founded, Founding, HasStackTypes, HaveDone, IsHistory, JobRun}
 use Rattle.mk_stack.proofs.Vocabulary.{Jobs, Leads, LeadsDown, NeverState, Replied, after_op, all_of, asked, calls}
 use Rattle.mk_stack.proofs.Vocabulary.{calls_from, left, never_behind, never_first, numbers_read, own_replied}
 use Rattle.mk_stack.proofs.Vocabulary.{replied_in, reply_of}
-use Rattle.mk_laws.proofs.Vocabulary.{Bool, List, Some, ℕ, ap, append-nil, arith, earlier_part_is_history, false}
+use Rattle.mk_laws.proofs.Vocabulary.{Bool, List, ℕ, ap, append-nil, arith, earlier_part_is_history, false}
 use Rattle.mk_laws.proofs.Vocabulary.{if◌then◌else◌, length, ne_eqb, refl, subst, suc, sym, true, zero, [], ◌*◌, ◌++◌}
 use Rattle.mk_laws.proofs.Vocabulary.{◌+◌, ◌<◌, ◌==◌, ◌∙◌, ◌∷◌, ◌≡◌, ◌≤◌}
 use Rattle.mk_laws.proofs.LastEvents.{stands}
@@ -50,19 +49,10 @@ module _ (c : Config) (es : List Event) where
   same_at : (first : List Replied) (k : ℕ) (lists : List Jobs) (all : List Dones) (h : HaveDone c es first k lists all)
       → AreRunsOf lists all (runs_at first k lists all h)
   unfolding runs_at
-  same_at first k [] [] h i jobs dones at at' = absurd (none_there i jobs at)
-    where
-      none_there : (i : ℕ) (jobs : Jobs) → slice_get [] i ≡ Some jobs → ⊥
-      none_there zero jobs e = cc
-      none_there (suc i) jobs e = cc
+  same_at first k [] [] h i jobs dones at at' = grind arith
   same_at first k [] (d ∷ ds) h i jobs dones at at' = absurd h
   same_at first k (x ∷ xs) [] h i jobs dones at at' = absurd h
-  same_at first k (x ∷ xs) (d ∷ ds) h zero jobs dones at at' =
-      let one : x ≡ jobs = cc in
-      let two : d ≡ dones = cc in (
-        h.0.same_jobs ∙ ap (λ (y : Jobs). y.list.items) one,
-        h.0.same_dones ∙ ap (λ (y : Dones). y.list.items) two,
-      )
+  same_at first k (x ∷ xs) (d ∷ ds) h zero jobs dones at at' = grind arith
   same_at first k (x ∷ xs) (d ∷ ds) h (suc i) jobs dones at at' = same_at [] (k + 1) xs ds h.1 i jobs dones at at'
 
   as_many : (first : List Replied) (k : ℕ) (lists : List Jobs) (all : List Dones) → HaveDone c es first k lists all

@@ -1,11 +1,9 @@
 -- What the steps of all points share.
 use Rattle.mk_stack.proofs.Vocabulary.{Done, Empty, Job, NeverState, Null, Op, Ordered, Point, Pop, Ptr, Push, Replied}
-use Rattle.mk_stack.proofs.Vocabulary.{Reply, Target, Value, WordOf, after_op, bit, done_without, is_same, left_at}
-use Rattle.mk_stack.proofs.Vocabulary.{left_by, register_at, reply_at, reply_of, target_of, with_register, with_word}
-use Rattle.mk_stack.proofs.Vocabulary.{word_at, words_of}
-use Rattle.mk_laws.proofs.Vocabulary.{Bool, List, None, Option, Some, ℕ, ap, arith, cond, false, false≢true}
-use Rattle.mk_laws.proofs.Vocabulary.{if◌then◌else◌, length, refl, subst, sym, true, [], ◌*◌, ◌+◌, ◌<◌, ◌∙◌, ◌≡◌, ◌≢◌}
-use Rattle.mk_laws.proofs.Vocabulary.{◌≤◌}
+use Rattle.mk_stack.proofs.Vocabulary.{Reply, Value, WordOf, after_op, bit, done_without, is_same, left_by, register_at}
+use Rattle.mk_stack.proofs.Vocabulary.{reply_of, target_of, with_register, with_word, word_at, words_of}
+use Rattle.mk_laws.proofs.Vocabulary.{Bool, List, None, Option, Some, ℕ, arith, cond, false, false≢true, length, refl}
+use Rattle.mk_laws.proofs.Vocabulary.{subst, sym, true, [], ◌*◌, ◌+◌, ◌<◌, ◌∙◌, ◌≡◌, ◌≢◌, ◌≤◌}
 use Rattle.mk_never.proofs.Sameness.{equal_from_same, same_from_equal}
 use Rattle.mk_stack.proofs.Invariant.{HasChain, HasTop, Inv, IsFreeing, IsHeld, IsPushing, Work}
 use Rattle.mk_stack.proofs.Roles.{Base, Freed, Private, Role, Stacked, Taken, Unborn, put, put_by, size_of}
@@ -102,20 +100,14 @@ module _ {callers : ℕ} {n : NeverState} {top : Option ℕ} {role : ℕ → Rol
   module _ (h : HasTop n top c) (r : ℕ) where
     pub same_is : (m : ℕ) → reply_of n c (Op.CasPtr 0 0 2 r) ≡ Reply.Num m
         → bit (is_same (word_at n h.t 0) (register_at n c 2)) ≡ m
-    same_is m said =
-        num_is _ m
-        (sym (ap (λ (t : Target). reply_at t (λ a w. Reply.Num (bit (is_same (word_at n a w) (register_at n c 2)))))
-        (gets 0 h.t 1 0 h.register)) ∙ said)
+    same_is m said = grind (arith, num_is, gets)
 
     pub exchanged_from : reply_of n c (Op.CasPtr 0 0 2 r) ≡ Reply.Num 1 → word_at n h.t 0 ≡ register_at n c 2
     exchanged_from said = equal_from_same _ _ (bit_is_one _ (same_is 1 said))
 
     pub after_exchange : (b : Bool) → is_same (word_at n h.t 0) (register_at n c 2) ≡ b
         → after_op n c (Op.CasPtr 0 0 2 r) ≡ cond b (with_word n h.t 0 (register_at n c r)) n
-    after_exchange b is =
-        ap (λ (t : Target). left_at t n
-        (λ a w. if is_same (word_at n a w) (register_at n c 2) then with_word n a w (register_at n c r) else n))
-        (gets 0 h.t 1 0 h.register) ∙ ap (λ (x : Bool). cond x (with_word n h.t 0 (register_at n c r)) n) is
+    after_exchange b is = grind (arith, gets)
 
     pub exchanges : reply_of n c (Op.CasPtr 0 0 2 r) ≡ Reply.Num 1
         → after_op n c (Op.CasPtr 0 0 2 r) ≡ with_word n h.t 0 (register_at n c r)

@@ -2,7 +2,7 @@
 use Rattle.std.proofs.Common.{IfSome}
 use Rattle.mk_stack.proofs.Vocabulary.{Answer, CallerState, HasStackTypes, HasWalked, HoldsAt, IsHistory, LeadsDown}
 use Rattle.mk_stack.proofs.Vocabulary.{NeverState, Op, PassState, Point, Pop, Replied, Reply, after_op, answer_of}
-use Rattle.mk_stack.proofs.Vocabulary.{global_at, numbers_read, register_at, replied_to, reply_of, value_of}
+use Rattle.mk_stack.proofs.Vocabulary.{global_at, numbers_read, register_at, reply_of, value_of}
 use Rattle.mk_laws.proofs.Vocabulary.{IsAdmitted, List, Some, ℕ, ap, append-nil, append_assoc, arith, false}
 use Rattle.mk_laws.proofs.Vocabulary.{is_under_turn, refl, subst, sym, [], ◌++◌, ◌∙◌, ◌∷◌, ◌≡◌}
 use Rattle.mk_laws.proofs.CallSorts.{flag_is}
@@ -88,11 +88,7 @@ module _ {globals : List ℕ} {n : NeverState} {k : ℕ} (state : IsStackState g
 
 -- No operation of a walk takes a turn.
 pub beside_turns : (s : WalkPoint) {o : Op} → op_down s ≡ Some o → is_under_turn o ≡ false
-beside_turns s is = of_asked (λ o. is_under_turn o ≡ false) is (by s)
-  where
-    by : (t : WalkPoint) → IfSome (op_down t) (λ o. is_under_turn o ≡ false)
-    by WalkPoint.Ended = tt
-    by _ = refl
+beside_turns s is = grind (arith, of_asked)
 
 pub may_go_down : {s : CallerState} (t : WalkPoint) {o : Op} → IsReady s → IsHistory s.pass.table.config s.pass.seen
     → op_down t ≡ Some o → HoldsAt (value_of s.pass) (as_pop t) → Admits s.pass o
@@ -123,28 +119,9 @@ reads_more (x ∷ xs) y =
 
 pub walked_more : {p q r : PassState} {numbers : List ℕ} {s : WalkPoint} {f : Found} → HasWalked p numbers q s
     → StepsDown q s r f → HasWalked p (numbers ++ numbers_found f) r (next_of f)
-walked_more {p} {q} {r} {numbers} walked steps =
-    let y : Replied = record { op = steps.op; reply = steps.reply } in
-    record {
-      is = seen_then p q r walked.is steps.is;
-      all = walked.all ++ y ∷ [];
-      leads = leads_more WalkPoint.Starting walked.all y walked.leads steps.asked.0;
-      reads =
-          reads_more walked.all y ∙ ap (λ (l : List ℕ). l ++ number_read steps.op steps.reply) walked.reads
-          ∙ ap (λ (l : List ℕ). numbers ++ l) steps.asked.1;
-      did =
-          steps.did ∙ ap (λ (l : List Replied). l ++ y ∷ []) walked.did
-          ∙ append_assoc (replied_to p) walked.all (y ∷ []);
-    }
+walked_more {p} {q} {r} {numbers} walked steps = grind (arith, seen_then, leads_more, reads_more, append_assoc)
 
 pub walked_held : {p q : PassState} (r : PassState) {numbers : List ℕ} {t : WalkPoint} → HasWalked p numbers q t
     → Stays q r
     → HasWalked p numbers r t
-walked_held {p} {q} r walked on =
-    record {
-      is = seen_then p q r walked.is on.is;
-      all = walked.all;
-      leads = walked.leads;
-      reads = walked.reads;
-      did = on.did ∙ walked.did;
-    }
+walked_held {p} {q} r walked on = grind (arith, seen_then)

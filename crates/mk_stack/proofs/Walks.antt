@@ -4,7 +4,7 @@ use Rattle.mk_stack.proofs.Vocabulary.{Reply, Target, Unmapped, Value, WordOf, a
 use Rattle.mk_stack.proofs.Vocabulary.{is_same, is_unmapped, left_at, number_of, numbers_in, numbers_read, own_replied}
 use Rattle.mk_stack.proofs.Vocabulary.{register_at, reply_at, reply_of, target_of, with_register, word_at}
 use Rattle.mk_laws.proofs.Vocabulary.{Bool, List, ℕ, ap, arith, eq-eqb, false, if◌then◌else◌, length, length-set, map}
-use Rattle.mk_laws.proofs.Vocabulary.{refl, subst, sym, true, [], ◌*◌, ◌++◌, ◌+◌, ◌<◌, ◌∙◌, ◌∷◌, ◌≡◌, ◌≢◌}
+use Rattle.mk_laws.proofs.Vocabulary.{refl, subst, sym, [], ◌*◌, ◌++◌, ◌+◌, ◌<◌, ◌∙◌, ◌∷◌, ◌≡◌, ◌≢◌}
 use Rattle.mk_stack.proofs.Heaps.{set_register}
 use Rattle.mk_stack.specs.Laws.{AreLinked, uppermost}
 use Rattle.mk_stack.specs.Walks.{Walks, WalksReadTheStack, descend, go, lack, meet, number_read, number_told, peek}
@@ -22,11 +22,7 @@ ops_of xs = map (λ (x : Call). x.op) xs
 by_one : (k j : ℕ) (n : NeverState) (o : Op) (xs : List Call) → j ≡ k
     → own_replied k n (record { caller = j; op = o } ∷ xs)
     ≡ record { op = o; reply = reply_of n k o } ∷ own_replied k (after_op n k o) xs
-by_one k j n o xs e =
-    subst (λ (i : ℕ). own_replied k n (record { caller = i; op = o } ∷ xs)
-    ≡ record { op = o; reply = reply_of n k o } ∷ own_replied k (after_op n k o) xs) (sym e)
-    (ap (λ (b : Bool). if b then record { op = o; reply = reply_of n k o } ∷ own_replied k (after_op n k o) xs
-    else own_replied k (after_op n k o) xs) (eq-eqb k k refl))
+by_one k j n o xs e = grind (arith, eq-eqb)
 
 own_is_each : (k : ℕ) (n : NeverState) (xs : List Call) → AreAllBy k xs → own_replied k n xs ≡ each k n (ops_of xs)
 own_is_each k n [] all = refl
@@ -67,11 +63,7 @@ at_end k m (o ∷ os) t leads = absurd (by_point (λ o r t. ⊥) leads.1 tt)
 
 mapped : (m : NeverState) (a ty i j : ℕ) (at : ℕ → ℕ → Reply) (r : Reply)
     → reply_at (target_of m (Ptr a ty i) j) at ≡ r → r ≢ Reply.Fault → is_unmapped (allocation_at m a) ≡ false
-mapped m a ty i j at r said is = by (is_unmapped (allocation_at m a)) said
-  where
-    by : (b : Bool) → reply_at (if b then Unmapped else WordOf a (i + j)) at ≡ r → b ≡ false
-    by true said = absurd (is (sym said))
-    by false said = refl
+mapped m a ty i j at r said is = grind arith
 
 target : (m : NeverState) (a ty i j : ℕ) → is_unmapped (allocation_at m a) ≡ false
     → target_of m (Ptr a ty i) j ≡ WordOf a (i + j)

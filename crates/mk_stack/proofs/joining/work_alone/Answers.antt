@@ -1,20 +1,14 @@
 use Rattle.std.proofs.{Common.IfOk, Common.IfSome, Common.slice_get, lemmas.Option.slice_get-get_or}
-use Rattle.mk_stack.proofs.Vocabulary.{CallerState, DoesJobs, Job, Jobs, replied_to}
-use Rattle.mk_laws.proofs.Vocabulary.{List, Option, Some, ap, arith, get_or, subst, sym, ◌≡◌}
-use Rattle.mk_stack.proofs.JoinedJobs.{has_worked, ready_between}
-use Rattle.mk_stack.specs.Joining.{HasWorked, IsBetweenJobs}
+use Rattle.mk_stack.proofs.Vocabulary.{DoesJobs, Job, Jobs, replied_to}
+use Rattle.mk_laws.proofs.Vocabulary.{List, Option, Some, arith, get_or, subst, sym, ◌≡◌}
+use Rattle.mk_stack.{proofs.JoinedJobs.has_worked, proofs.JoinedJobs.ready_between, specs.Joining.HasWorked}
 use Rattle.mk_stack.proofs.joining.work_alone.Goals as goal
 
 pub new-caller-requires-clause-idle : goal.new-caller-requires-clause-idle
 new-caller-requires-clause-idle g c = c.requires.pass.idle
 
 pub run_jobs-dones-requires-clause-ready : goal.run_jobs-dones-requires-clause-ready
-run_jobs-dones-requires-clause-ready g c κs within =
-    let w = c.args.run.now.heap.now in
-    let made = c.new-caller.ensures in
-    let pass : IsBetweenJobs w c.args.k c.new-caller.result.pass =
-    subst (IsBetweenJobs w c.args.k) (sym (ap (λ (s : CallerState). s.pass) made)) c.requires.pass in
-    ready_between (ap (λ (s : CallerState). s.home) made) pass c.requires.exists c.args.run.now.types c.requires.engine
+run_jobs-dones-requires-clause-ready g c κs within = grind (arith, ready_between)
 
 pub returns : goal.returns
 returns g c =

@@ -1,35 +1,14 @@
-use Rattle.mk_stack.proofs.Vocabulary.{CallerState, HasHandedOut, HaveWorked, HostState, WordsState, replied_to}
-use Rattle.mk_laws.proofs.Vocabulary.{ap, arith, subst, sym, ◌<◌, ◌≡◌}
-use Rattle.mk_stack.{proofs.EndedRuns.founds_stack, proofs.JoinedJobs.is_ready, proofs.JoinedJobs.next_made}
-use Rattle.mk_stack.{proofs.JoinedJobs.next_ready, proofs.JoinedJobs.ready_between, specs.Joining.IsBetweenJobs}
+use Rattle.mk_stack.proofs.Vocabulary.{HasHandedOut, HaveWorked, HostState, replied_to}
+use Rattle.mk_laws.proofs.Vocabulary.{arith, subst, sym}
+use Rattle.mk_stack.proofs.JoinedJobs.{is_ready, next_made, next_ready, ready_between}
+use Rattle.mk_stack.proofs.EndedRuns.{founds_stack}
 use Rattle.mk_stack.proofs.working.found_and_work.Goals as goal
 
 pub found_stack-requires-clause-ready : goal.found_stack-requires-clause-ready
-found_stack-requires-clause-ready g c κs within =
-    let made = c.caller-first.ensures.caller in
-    let lt : 0 < c.args.run.now.heap.now.config.callers = omega (arith, c.requires.engines.count) in
-    ready_between (ap (λ (s : CallerState). s.home) made)
-    (next_ready c.caller-first.result c.requires.host made c.is_idle.ensures.idle) lt c.args.run.now.types
-    c.requires.engines.first
+found_stack-requires-clause-ready g c κs within = grind (arith, ready_between, next_ready)
 
 pub run_from-requires-clause-callers : goal.run_from-requires-clause-callers
-run_from-requires-clause-callers g c κs within =
-    let w = c.args.run.now.heap.now in
-    let founded = c.found_stack.new.caller in
-    let pass : IsBetweenJobs w 0 founded.pass =
-    is_ready
-    (next_ready c.caller-first.result c.requires.host c.caller-first.ensures.caller c.is_idle.ensures.idle)
-    c.found_stack.ensures.founds.is c.finish-pass.ensures.idle in
-    record {
-      pass = subst (IsBetweenJobs w 0) (sym c.finish-pass.ensures.pass) pass;
-      engines = record {
-        count = c.requires.engines.count;
-        first =
-            subst (λ (v : WordsState). g.E.Engine.made_for c.found_stack.new.engine ≡ v.config.pages) pass.table
-            c.found_stack.ensures.ready.made;
-        others = c.requires.engines.others;
-      };
-    }
+run_from-requires-clause-callers g c κs within = grind (arith, is_ready, next_ready)
 
 pub run_from-requires-clause-host : goal.run_from-requires-clause-host
 run_from-requires-clause-host g c κs within =
