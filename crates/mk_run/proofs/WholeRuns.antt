@@ -16,9 +16,7 @@ all_callers_joined on program w h joined = λ k lt. let n = joined.count in join
 -- All callers that there are are home.
 pub all_callers_home : (on : Bool) (program : List Item) (markers : ℕ) (w : WordsState) (h : HostState)
     → w.config ≡ config_of program markers → HasJoined on program w 0 h → HasCallers w.config h.pass.seats
-all_callers_home on program markers w h made joined = λ k lt.
-    let few : k < (config_of program markers).callers = subst (λ (c : Config). k < c.callers) made lt in
-    joined.seats k (omega arith) few
+all_callers_home on program markers w h made joined = grind arith
 
 -- What was joined stays so where the callers are still.
 

@@ -29,9 +29,7 @@ join-ran-requires-after_bounds g t c κs within =
     let scripts = ap (λ (x : Config). x.callers) c.args.run.now.made_for in
     let script : IsScript c.args.run.now.program.now k =
     omega (arith, c.in-Some.ensures.cases, c.args.scripts.ok, c.requires.scripts.count, scripts) in
-    let first : IsFirstPass w k c.finish-pass.result =
-    first_pass w k host c.caller.result c.finish-pass.result c.requires.host c.caller.ensures.caller
-    c.finish-pass.ensures.pass c.finish-pass.ensures.idle in
+    let first : IsFirstPass w k c.finish-pass.result = grind (arith, first_pass) in
     let next : HasMade w (k + 1) c.caller.new.self =
     subst (λ (h : HostState). HasMade w (k + 1) h) (sym c.caller.ensures.host) (next_made w k host c.requires.host) in
     -- What the bounds of the type parameters say of the two closures: by hand, since a search doesn't look so far.
@@ -119,21 +117,10 @@ returns-clause-joined g t c =
     }
 
 pub returns-in_default-clause-joined : goal.returns-in_default-clause-joined
-returns-in_default-clause-joined g t c =
-    let without_host = unseen_by_host c.args.host.pass.seen c.requires.host.seen in
-    let scripts = ap (λ (x : Config). x.callers) c.args.run.now.made_for in
-    let all : c.args.k ≡ length (script_names c.args.run.now.program.now) =
-    omega (arith, c.in_default.ensures.cases, c.args.scripts.ok, c.requires.scripts.count, scripts) in
-    search rules
+returns-in_default-clause-joined g t c = grind (arith, unseen_by_host)
 
 pub returns-in_default-clause-reached : goal.returns-in_default-clause-reached
-returns-in_default-clause-reached g t c =
-    let scripts = ap (λ (x : Config). x.callers) c.args.run.now.made_for in
-    let all : c.args.k ≡ length (script_names c.args.run.now.program.now) =
-    omega (arith, c.in_default.ensures.cases, c.args.scripts.ok, c.requires.scripts.count, scripts) in
-    λ none.
-    none_joined c.args.run.now.program.now c.args.k c.args.run.now.heap.now.config c.args.host.pass.seen
-    c.requires.host.seen all
+returns-in_default-clause-reached g t c = grind (arith, none_joined)
 
 pub returns-in_default-clause-begun : goal.returns-in_default-clause-begun
 returns-in_default-clause-begun g t c =

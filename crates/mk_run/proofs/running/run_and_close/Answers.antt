@@ -18,9 +18,7 @@ returns-clause-runs g c =
     let h = c.run_beside-joined.result.joined.host in
     let made : w.config ≡ config_of program c.args.markers =
     c.in_ok-heap.ensures.config ∙ c.in_ok-config.ensures.config in
-    let texts : AreTextsFrom program 0 w.config h.pass.seen c.in_ok-texts.field-0.items =
-    subst (λ r. IfOk r (λ texts. AreTextsFrom program 0 w.config h.pass.seen texts.items)) c.in_ok-texts.was
-    c.run_beside-joined.ensures.over.texts in
+    let texts : AreTextsFrom program 0 w.config h.pass.seen c.in_ok-texts.field-0.items = grind arith in
     is_run g.E.Engine.on c.args.with_cycle program c.args.markers w h (record {
       texts =
           c.in_ok-texts.field-0;
@@ -39,18 +37,7 @@ returns-clause-cycle g c asked =
     c.close-report.ensures.whole
 
 pub returns-clause-reached : goal.returns-clause-reached
-returns-clause-reached g c none =
-    let program = c.args.program.now in
-    let h = c.run_beside-joined.result.joined.host in
-    let made = c.in_ok-heap.ensures.config ∙ c.in_ok-config.ensures.config in
-    let es = report.history_of c.close-report.result in
-    let same = c.close-report.ensures.config ∙ made in
-    let whole = subst (λ (d : Config). IsWhole d es) same c.close-report.ensures.whole in
-    run_is_unswept program c.args.markers es whole.history
-    (subst (λ (l : List Event). ScriptsSweepNothing program 0 (config_of program c.args.markers) l)
-    (sym c.close-report.ensures.history)
-    (subst (λ (d : Config). ScriptsSweepNothing program 0 d h.pass.seen) made
-    (c.run_beside-joined.ensures.reached none)))
+returns-clause-reached g c none = grind (arith, run_is_unswept)
 
 pub returns-clause-begun : goal.returns-clause-begun
 returns-clause-begun g c =
@@ -68,6 +55,4 @@ returns-clause-begun g c =
     c.run_beside-joined.ensures.begun))
 
 pub run_beside-joined-requires-clause-ready : goal.run_beside-joined-requires-clause-ready
-run_beside-joined-requires-clause-ready g c κs within =
-    subst (λ (x : Config). IsReadyRun g.E.Engine.made_for c.args.program.now x c.in_ok-ready.ready)
-    (sym c.in_ok-heap.ensures.config) c.in_ok-ready.ensures.ready
+run_beside-joined-requires-clause-ready g c κs within = grind arith

@@ -53,11 +53,7 @@ joined g c =
 -- what the pass is when an operation was put off
 put_off : (g : _) (c : In-None g)
     → c.answer_at_once.new.caller.pass ≡ record c.args.caller.now.pass { seen = c.answer_at_once.new.caller.pass.seen }
-put_off g c =
-    then_seen c.args.caller.now.pass c.instructions.caller.pass c.answer_at_once.new.caller.pass
-    c.instructions.invariant.running.is
-    (put_off_is c.instructions.caller.pass c.in-Some.op c.answer_at_once.new.caller.pass
-    c.in-None.ensures.put_off)
+put_off g c = grind (arith, then_seen, put_off_is)
 
 pub answer_put_off-answer-requires-clause-admitted : goal.answer_put_off-answer-requires-clause-admitted
 answer_put_off-answer-requires-clause-admitted g c κs within =
@@ -66,33 +62,16 @@ answer_put_off-answer-requires-clause-admitted g c κs within =
     (next_admitted g (goal.at.answer_put_off-answer-requires-clause-admitted g c).In-Some)
 
 pub answer_put_off-answer-requires-clause-asks : goal.answer_put_off-answer-requires-clause-asks
-answer_put_off-answer-requires-clause-asks g c κs within =
-    record {
-      some = record {
-        program = c.args.program.now;
-        k = c.args.k;
-        answers = answers_in c.args.caller.now.pass.table.config c.args.k c.instructions.caller.pass.seen;
-        stands = c.instructions.invariant.running.fed.feed;
-      };
-      next = λ program k answers fed. sym (c.in-Some.ensures.next program k answers fed);
-    }
+answer_put_off-answer-requires-clause-asks g c κs within = grind arith
 
 pub answer_put_off-answer-requires-clause-exists : goal.answer_put_off-answer-requires-clause-exists
-answer_put_off-answer-requires-clause-exists g c κs within =
-    let x = goal.at.answer_put_off-answer-requires-clause-exists g c in
-    exists_on c.args.caller.now.pass c.answer_at_once.new.caller.pass c.args.k c.args.program.now
-    (put_off g x.In-None) c.requires.number c.requires.script c.requires.config
+answer_put_off-answer-requires-clause-exists g c κs within = grind (arith, exists_on, put_off)
 
 pub answer_put_off-answer-requires-clause-alone : goal.answer_put_off-answer-requires-clause-alone
-answer_put_off-answer-requires-clause-alone g c κs within =
-    let x = goal.at.answer_put_off-answer-requires-clause-alone g c in
-    subst (λ (q : PassState). q.seats ≡ q.seat ∷ []) (sym (put_off g x.In-None)) c.requires.alone
+answer_put_off-answer-requires-clause-alone g c κs within = grind (arith, put_off)
 
 pub answer_put_off-answer-requires-clause-made_for : goal.answer_put_off-answer-requires-clause-made_for
-answer_put_off-answer-requires-clause-made_for g c κs within =
-    let x = goal.at.answer_put_off-answer-requires-clause-made_for g c in
-    c.instructions.invariant.made_for ∙ c.requires.ready.engine
-    ∙ ap (λ (q : PassState). q.table.config.pages) (sym (put_off g x.In-None))
+answer_put_off-answer-requires-clause-made_for g c κs within = grind (arith, put_off)
 
 pub instructions-smaller : goal.instructions-smaller
 instructions-smaller g c = omega (arith, c.in_ok-take_answer.ensures.ops, c.instructions-test.true)
@@ -156,22 +135,4 @@ returns-in_err-take_answer-clause-begun g c =
     c.match-answer_at_once.caller.pass c.instructions.invariant.running.is c.instructions.invariant.begun j.begun
 
 pub instructions-init : goal.instructions-init
-instructions-init g c =
-    let p : PassState = c.args.caller.now.pass in
-    let program = c.args.program.now in
-    let k = c.args.k in
-    let script = script_of c.args.ready.feed (record { ops = 0; refused = 0 }) in
-    let fed : IsFedWith program k [] script =
-    record { feed = c.requires.ready.feed; ops = refl; refused = refl } in
-    record {
-      home = c.requires.home;
-      running = record {
-        is = refl;
-        follows = c.requires.follows;
-        fed = subst (λ (answers : List Answer). IsFedWith program k answers script) (sym c.requires.no_call) fed;
-      };
-      made_for = refl;
-      refused = refused_within program k [] script fed;
-      reached = λ none. nothing_sweeps p;
-      begun = nothing_begun g.E.Engine.begins p;
-    }
+instructions-init g c = grind (arith, refused_within, nothing_sweeps, nothing_begun)
