@@ -1,10 +1,10 @@
 -- The history of a run keeps all promises, and its texts are all that is printed of it.
 use Rattle.std.proofs.{Common.slice_get, Common.take_all, lemmas.Bool.Decides.nat_tests}
 use Rattle.std.specs.List.{flat_map, range_with_len}
-use Rattle.mk_laws.proofs.Vocabulary.{Answer, Bool, Caller, Config, Decided, Event, List, Some, ℕ, ap, arith, asked}
-use Rattle.mk_laws.proofs.Vocabulary.{calls, false, length, refl, seat_exists, suc, sym, true, [], ◌++◌, ◌+◌, ◌<◌, ◌==◌}
-use Rattle.mk_laws.proofs.Vocabulary.{◌∙◌, ◌∷◌, ◌≡◌}
-use Rattle.mk_run.proofs.Vocabulary.{IsRunOf, IsScript, IsWhole, Item, Outcome, Text, answers_in, config_of, feed}
+use Rattle.mk_laws.proofs.Vocabulary.{Bool, Caller, Config, Decided, Event, List, Some, ℕ, ap, arith, asked, calls}
+use Rattle.mk_laws.proofs.Vocabulary.{false, length, refl, seat_exists, suc, true, [], ◌++◌, ◌+◌, ◌<◌, ◌==◌, ◌∙◌, ◌∷◌}
+use Rattle.mk_laws.proofs.Vocabulary.{◌≡◌}
+use Rattle.mk_run.proofs.Vocabulary.{IsRunOf, IsScript, IsWhole, Item, Outcome, Text, answers_in, config_of}
 use Rattle.mk_run.proofs.Vocabulary.{slice_get_within}
 use Rattle.mk_laws.proofs.Promises.{histories_keep_all_promises}
 use Rattle.mk_check.{proofs.GivenAnswers.serves, specs.Laws.ops_of_caller, specs.Output.answers_among}

@@ -13,7 +13,7 @@ use Rattle.mk_heap.specs.Ending.{EndsCycle}
 use Rattle.mk_objects.proofs.JoinedLooks.{does_wider}
 use Rattle.mk_turns.{proofs.Doing.does_then, specs.Doing.Does}
 use Rattle.mk_waiting.specs.Taking.{TakesTurn}
-use Rattle.mk_words.{proofs.TurnSteps.takes, specs.States.event_of, specs.Steps.Makes}
+use Rattle.mk_words.{proofs.TurnSteps.takes, specs.Steps.Makes}
 
 -- Outside of phases 1 and 2 no cycle is closed before another is begun.
 

@@ -1,8 +1,7 @@
 -- The host makes the scripts' callers, and joins them.
 use Rattle.std.proofs.Common.{Err, IsOk, Ok, OnOk, Result, slice_get}
-use Rattle.mk_laws.proofs.Vocabulary.{Bool, Caller, Config, Event, Host, List, Seat, Some, ℕ, ap, arith, cases_eq, inl}
-use Rattle.mk_laws.proofs.Vocabulary.{inr, length, refl, subst, suc, sym, zero, [], ◌++◌, ◌+◌, ◌<◌, ◌∙◌, ◌∷◌, ◌≡◌, ◌≢◌}
-use Rattle.mk_laws.proofs.Vocabulary.{◌≤◌, ◌⊎◌}
+use Rattle.mk_laws.proofs.Vocabulary.{Bool, Caller, Config, Event, List, Seat, Some, ℕ, ap, arith, length, subst, suc}
+use Rattle.mk_laws.proofs.Vocabulary.{sym, zero, [], ◌++◌, ◌+◌, ◌<◌, ◌∷◌, ◌≡◌, ◌≤◌, ◌⊎◌}
 use Rattle.mk_run.proofs.Vocabulary.{AreTextsFrom, CallerState, EndsScript, FollowsScript, Grows, Has, HasJoined}
 use Rattle.mk_run.proofs.Vocabulary.{HasMade, HostState, IfOk, IsFirstPass, IsScript, IsTextOf, Item, PassState, Text}
 use Rattle.mk_run.proofs.Vocabulary.{WordsState, answers_in, at_home, has_first, has_left, script_names}

@@ -1,8 +1,7 @@
 -- Markers beside the scripts: their passes, and the host that joins them.
 use Rattle.std.proofs.{lemmas.List.get_or-replicate, lemmas.Result.IfOk-weaker}
-use Rattle.mk_laws.proofs.Vocabulary.{Bool, Caller, Config, Event, Host, IsHistory, List, Marker, Seat, ℕ, ap, arith}
-use Rattle.mk_laws.proofs.Vocabulary.{left, marker_at, outside, refl, subst, sym, true, [], ◌++◌, ◌+◌, ◌<◌, ◌∙◌, ◌∷◌}
-use Rattle.mk_laws.proofs.Vocabulary.{◌≡◌, ◌≤◌}
+use Rattle.mk_laws.proofs.Vocabulary.{Bool, Caller, Config, Host, IsHistory, List, Marker, Seat, ℕ, ap, arith, left}
+use Rattle.mk_laws.proofs.Vocabulary.{marker_at, outside, subst, sym, true, [], ◌++◌, ◌+◌, ◌<◌, ◌∙◌, ◌∷◌, ◌≡◌, ◌≤◌}
 use Rattle.mk_run.proofs.Vocabulary.{AreTextsFrom, CallersAreStill, Grows, Has, HasJoined, HasMade, HostState, IfOk}
 use Rattle.mk_run.proofs.Vocabulary.{IsOver, Item, PassState, WordsState, config_of, has_first, has_left, with_joined}
 use Rattle.mk_run.proofs.Vocabulary.{⊎_elim}

@@ -1,9 +1,8 @@
 -- The calls of one caller among all: what its script notes of them, and what one call more makes of that.
 use Rattle.mk_laws.proofs.Vocabulary.{Answer, Bool, Config, Decided, Event, IsAdmitted, IsHistory, List, Op, Some, ℕ}
-use Rattle.mk_laws.proofs.Vocabulary.{ap, arith, asked, calls, entry_of, false, flagged, if◌then◌else◌, length, map}
-use Rattle.mk_laws.proofs.Vocabulary.{map-append, never_behind, refl, subst, sym, true, [], ◌++◌, ◌==◌, ◌∙◌, ◌∷◌, ◌≡◌}
-use Rattle.mk_laws.proofs.Vocabulary.{◌≤◌}
-use Rattle.mk_run.proofs.Vocabulary.{IsChecked, IsScript, Item, calls_by, config_of, feed, next_op, script_names}
+use Rattle.mk_laws.proofs.Vocabulary.{ap, arith, asked, calls, entry_of, false, if◌then◌else◌, length, map, map-append}
+use Rattle.mk_laws.proofs.Vocabulary.{never_behind, refl, subst, sym, true, [], ◌++◌, ◌==◌, ◌∙◌, ◌∷◌, ◌≡◌, ◌≤◌}
+use Rattle.mk_run.proofs.Vocabulary.{IsChecked, IsScript, Item, calls_by, config_of, next_op, script_names}
 use Rattle.mk_check.proofs.{AdmittedScripts.next_is_admitted, FeedLaws.ops-feed_push}
 use Rattle.mk_check.specs.{Declarations.globals_of, Laws.AreNotedBy, Laws.ops_of_caller, Output.answers_among}
 

@@ -1,14 +1,13 @@
 -- A script's caller makes one call more, or finds its gate held, and what is known then.
 use Rattle.std.proofs.{Common.length-append, lemmas.List.Sums.count_by-le-length}
-use Rattle.mk_laws.proofs.Vocabulary.{Answer, Bool, Caller, Config, Decided, Event, IsAdmitted, IsHistory, Kind, List}
-use Rattle.mk_laws.proofs.Vocabulary.{Op, Seat, Some, ℕ, ap, arith, asked, caller_number, calls, entry_of, false}
-use Rattle.mk_laws.proofs.Vocabulary.{flagged, is_under_turn, length, never_behind, refl, subst, sym, true, true≢false}
-use Rattle.mk_laws.proofs.Vocabulary.{[], ◌++◌, ◌+◌, ◌<◌, ◌∙◌, ◌∷◌, ◌≡◌, ◌≤◌}
+use Rattle.mk_laws.proofs.Vocabulary.{Answer, Bool, Caller, Config, Decided, Event, IsAdmitted, IsHistory, List, Op}
+use Rattle.mk_laws.proofs.Vocabulary.{Seat, Some, ℕ, ap, arith, asked, caller_number, calls, entry_of, false, flagged}
+use Rattle.mk_laws.proofs.Vocabulary.{is_under_turn, length, never_behind, refl, subst, sym, true, true≢false, [], ◌++◌}
+use Rattle.mk_laws.proofs.Vocabulary.{◌+◌, ◌<◌, ◌∙◌, ◌∷◌, ◌≡◌, ◌≤◌}
 use Rattle.mk_run.proofs.Vocabulary.{Answers, FindsGateHeld, FollowsScript, Has, IsAdmittedByOwnCalls, IsChecked}
 use Rattle.mk_run.proofs.Vocabulary.{IsFedWith, IsScript, Item, PassState, WordsState, answers_in, calls_by, config_of}
-use Rattle.mk_run.proofs.Vocabulary.{is_refusal, next_op, script_names}
+use Rattle.mk_run.proofs.Vocabulary.{is_refusal, next_op}
 use Rattle.mk_never.proofs.Later.{calls_stay}
-use Rattle.mk_core.specs.History.{never_first}
 use Rattle.mk_alloc.proofs.ExactTurns.{stay_exact_behind_calls, stay_exact_behind_turns, stay_exact_where_held}
 use Rattle.mk_alloc.specs.{Laws.OwnAreExact, TurnCalls.CalledInTurn, TurnCycles.TurnsOfAreExact}
 use Rattle.mk_caller.specs.{Called.own_calls, States.Admits, States.IsIdleCaller, States.caller_of_pass}

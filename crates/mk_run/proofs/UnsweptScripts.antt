@@ -1,7 +1,6 @@
 -- Scripts whose engine doesn't sweep make no sweeping mark, nor does the host that joins them.
-use Rattle.mk_laws.proofs.Vocabulary.{Caller, Config, Event, Host, IsHistory, List, Marker, Seat, ℕ, ap, arith}
-use Rattle.mk_laws.proofs.Vocabulary.{first_world, left, length, ltb-true, seat_exists, subst, sym, true, [], ◌+◌, ◌∙◌}
-use Rattle.mk_laws.proofs.Vocabulary.{◌∷◌, ◌≡◌, ◌≤◌}
+use Rattle.mk_laws.proofs.Vocabulary.{Caller, Config, Event, Host, IsHistory, List, Marker, Seat, ℕ, arith, first_world}
+use Rattle.mk_laws.proofs.Vocabulary.{length, ltb-true, seat_exists, subst, sym, true, [], ◌+◌, ◌∷◌, ◌≡◌, ◌≤◌}
 use Rattle.mk_run.proofs.Vocabulary.{CallerState, Grows, Has, IsFirstPass, IsScript, Item, PassState, SweepsNothing}
 use Rattle.mk_run.proofs.Vocabulary.{WordsState, at_home, config_of, has_first, script_names, ⊎_elim}
 use Rattle.mk_run.proofs.{JoinedScripts.same_or_later, UnsweptHistories.markers_sweep, UnsweptHistories.none_sweeps}

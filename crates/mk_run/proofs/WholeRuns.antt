@@ -1,6 +1,6 @@
 -- A run of all scripts, when the heap is closed.
-use Rattle.mk_laws.proofs.Vocabulary.{Bool, Caller, Config, Event, List, Seat, ℕ, arith, subst, sym, [], ◌+◌, ◌<◌, ◌∙◌}
-use Rattle.mk_laws.proofs.Vocabulary.{◌∷◌, ◌≡◌, ◌≤◌}
+use Rattle.mk_laws.proofs.Vocabulary.{Bool, Caller, Config, Event, List, Seat, ℕ, arith, subst, sym, [], ◌+◌, ◌∙◌, ◌∷◌}
+use Rattle.mk_laws.proofs.Vocabulary.{◌≡◌, ◌≤◌}
 use Rattle.mk_run.proofs.Vocabulary.{AreTextsFrom, CallersAreStill, EndsScript, FollowsScript, Grows, Has, HasCallers}
 use Rattle.mk_run.proofs.Vocabulary.{HasJoined, HostComesLast, HostState, IsOver, IsRunOf, IsScript, IsTextOf, IsWhole}
 use Rattle.mk_run.proofs.Vocabulary.{Item, Outcome, Text, WordsState, config_of, slice_get_within}

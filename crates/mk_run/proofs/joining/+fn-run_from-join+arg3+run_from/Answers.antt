@@ -1,14 +1,13 @@
-use denote.Param.Send.{Quiet-if}
-use mir.Syntax.{of_param}
 use Rattle.mk_laws.proofs.Vocabulary.{Caller, Config, Host, ap, arith, length, subst, sym, ◌+◌, ◌<◌, ◌∙◌, ◌≡◌}
 use Rattle.mk_run.proofs.Vocabulary.{AreReadyFrom, Grows, Has, HasJoined, HasMade, HostState, IsFirstPass, IsReady}
-use Rattle.mk_run.proofs.Vocabulary.{IsScript}
-use Rattle.mk_run.proofs.Vocabulary.{has_left, rules, script_names, with_joined}
-use Rattle.mk_run.proofs.ReadyScripts.{ready_first}
+use Rattle.mk_run.proofs.Vocabulary.{IsScript, has_left, rules, script_names, with_joined}
+use Rattle.mk_run.proofs.HostTurns.{host_is_still, unseen_by_host}
 use Rattle.mk_run.proofs.JoinedScripts.{first_pass, next_made, one_joined, texts_joined}
 use Rattle.mk_run.proofs.UnsweptScripts.{none_joined, script_joined, scripts_on}
-use Rattle.mk_run.proofs.{HostTurns.host_is_still, HostTurns.unseen_by_host, LaterLists.of_one}
-use Rattle.mk_run.specs.{Joining.AreJoined, Joining.HasRun}
+use Rattle.mk_run.proofs.{LaterLists.of_one, ReadyScripts.ready_first}
+use Rattle.mk_run.specs.Joining.{AreJoined, HasRun}
+use denote.Param.Send.{Quiet-if}
+use mir.Syntax.{of_param}
 use Rattle.mk_run.proofs.BegunScripts as begun
 use Rattle.mk_run.proofs.joining.+fn-run_from-join+arg3+run_from.Goals as goal
 
@@ -120,7 +119,13 @@ pub returns-in_default-clause-joined : goal.returns-in_default-clause-joined
 returns-in_default-clause-joined g t c = grind (arith, unseen_by_host)
 
 pub returns-in_default-clause-reached : goal.returns-in_default-clause-reached
-returns-in_default-clause-reached g t c = grind (arith, none_joined)
+returns-in_default-clause-reached g t c =
+    let scripts = ap (λ (x : Config). x.callers) c.args.run.now.made_for in
+    let all : c.args.k ≡ length (script_names c.args.run.now.program.now) =
+    omega (arith, c.in_default.ensures.cases, c.args.scripts.ok, c.requires.scripts.count, scripts) in
+    λ none.
+    none_joined c.args.run.now.program.now c.args.k c.args.run.now.heap.now.config c.args.host.pass.seen
+    c.requires.host.seen all
 
 pub returns-in_default-clause-begun : goal.returns-in_default-clause-begun
 returns-in_default-clause-begun g t c =

@@ -1,5 +1,5 @@
-use Rattle.mk_laws.proofs.Vocabulary.{Config, Event, List, ap, arith, subst, sym, ◌∙◌, ◌≡◌}
-use Rattle.mk_run.proofs.Vocabulary.{AreTextsFrom, IfOk, IsWhole, config_of}
+use Rattle.mk_laws.proofs.Vocabulary.{Config, Event, List, arith, subst, sym, ◌∙◌, ◌≡◌}
+use Rattle.mk_run.proofs.Vocabulary.{AreTextsFrom, IsWhole, config_of}
 use Rattle.mk_run.proofs.WholeRuns.{all_joined, is_run}
 use Rattle.mk_run.proofs.{BegunScripts.run_is_begun, LastOvers.run_ends_with_cycle, UnsweptScripts.run_is_unswept}
 use Rattle.mk_run.specs.{BegunSeats.ScriptsBeginCycles, Ready.IsReadyRun, UnsweptSeats.ScriptsSweepNothing}
@@ -37,7 +37,18 @@ returns-clause-cycle g c asked =
     c.close-report.ensures.whole
 
 pub returns-clause-reached : goal.returns-clause-reached
-returns-clause-reached g c none = grind (arith, run_is_unswept)
+returns-clause-reached g c none =
+    let program = c.args.program.now in
+    let h = c.run_beside-joined.result.joined.host in
+    let made = c.in_ok-heap.ensures.config ∙ c.in_ok-config.ensures.config in
+    let es = report.history_of c.close-report.result in
+    let same = c.close-report.ensures.config ∙ made in
+    let whole = subst (λ (d : Config). IsWhole d es) same c.close-report.ensures.whole in
+    run_is_unswept program c.args.markers es whole.history
+    (subst (λ (l : List Event). ScriptsSweepNothing program 0 (config_of program c.args.markers) l)
+    (sym c.close-report.ensures.history)
+    (subst (λ (d : Config). ScriptsSweepNothing program 0 d h.pass.seen) made
+    (c.run_beside-joined.ensures.reached none)))
 
 pub returns-clause-begun : goal.returns-clause-begun
 returns-clause-begun g c =
@@ -55,4 +66,6 @@ returns-clause-begun g c =
     c.run_beside-joined.ensures.begun))
 
 pub run_beside-joined-requires-clause-ready : goal.run_beside-joined-requires-clause-ready
-run_beside-joined-requires-clause-ready g c κs within = grind arith
+run_beside-joined-requires-clause-ready g c κs within =
+    subst (λ (x : Config). IsReadyRun g.E.Engine.made_for c.args.program.now x c.in_ok-ready.ready)
+    (sym c.in_ok-heap.ensures.config) c.in_ok-ready.ensures.ready

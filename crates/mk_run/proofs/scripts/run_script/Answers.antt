@@ -1,6 +1,6 @@
-use Rattle.mk_laws.proofs.Vocabulary.{Answer, List, ap, arith, refl, subst, sym, [], ◌∙◌, ◌∷◌, ◌≡◌}
-use Rattle.mk_run.proofs.Vocabulary.{IsAdmittedByOwnCalls, IsChecked, IsFedWith, PassState, answers_in, begun_then}
-use Rattle.mk_run.proofs.Vocabulary.{nothing_sweeps, sweeps_then}
+use Rattle.mk_laws.proofs.Vocabulary.{ap, arith, sym, ◌∙◌, ◌≡◌}
+use Rattle.mk_run.proofs.Vocabulary.{IsAdmittedByOwnCalls, IsChecked, PassState, answers_in, begun_then, nothing_sweeps}
+use Rattle.mk_run.proofs.Vocabulary.{sweeps_then}
 use Rattle.mk_cycle.proofs.Begun.{nothing_begun}
 use Rattle.mk_run.proofs.PutOff.{IsAnsweredAs, answered_at_once, answered_later, put_off_admitted, put_off_is}
 use Rattle.mk_run.proofs.ScriptCalls.{asked_stays_admitted, exists_on, follows_now, refused_within, runs_on, seat_is}
@@ -62,16 +62,31 @@ answer_put_off-answer-requires-clause-admitted g c κs within =
     (next_admitted g (goal.at.answer_put_off-answer-requires-clause-admitted g c).In-Some)
 
 pub answer_put_off-answer-requires-clause-asks : goal.answer_put_off-answer-requires-clause-asks
-answer_put_off-answer-requires-clause-asks g c κs within = grind arith
+answer_put_off-answer-requires-clause-asks g c κs within =
+    record {
+      some = record {
+        program = c.args.program.now;
+        k = c.args.k;
+        answers = answers_in c.args.caller.now.pass.table.config c.args.k c.instructions.caller.pass.seen;
+        stands = c.instructions.invariant.running.fed.feed;
+      };
+      next = λ program k answers fed. sym (c.in-Some.ensures.next program k answers fed);
+    }
 
 pub answer_put_off-answer-requires-clause-exists : goal.answer_put_off-answer-requires-clause-exists
-answer_put_off-answer-requires-clause-exists g c κs within = grind (arith, exists_on, put_off)
+answer_put_off-answer-requires-clause-exists g c κs within =
+    let x = goal.at.answer_put_off-answer-requires-clause-exists g c in
+    exists_on c.args.caller.now.pass c.answer_at_once.new.caller.pass c.args.k c.args.program.now
+    (put_off g x.In-None) c.requires.number c.requires.script c.requires.config
 
 pub answer_put_off-answer-requires-clause-alone : goal.answer_put_off-answer-requires-clause-alone
 answer_put_off-answer-requires-clause-alone g c κs within = grind (arith, put_off)
 
 pub answer_put_off-answer-requires-clause-made_for : goal.answer_put_off-answer-requires-clause-made_for
-answer_put_off-answer-requires-clause-made_for g c κs within = grind (arith, put_off)
+answer_put_off-answer-requires-clause-made_for g c κs within =
+    let x = goal.at.answer_put_off-answer-requires-clause-made_for g c in
+    c.instructions.invariant.made_for ∙ c.requires.ready.engine
+    ∙ ap (λ (q : PassState). q.table.config.pages) (sym (put_off g x.In-None))
 
 pub instructions-smaller : goal.instructions-smaller
 instructions-smaller g c = omega (arith, c.in_ok-take_answer.ensures.ops, c.instructions-test.true)
