@@ -27,12 +27,7 @@ nowhere (x ∷ xs) e behind is = cc
 open_to_its_seat : (c : Config) (es : List Event) (b : At is_begin es) → IsHistory c es
     → (seat_exists c b.event.seat ≡ true) × (is_open_to b.event.seat (group_of b.event.step) ≡ true)
 unfolding AreEnabledFrom
-open_to_its_seat c es b history =
-    let whole : IsHistory c (b.before ++ b.event ∷ b.behind) =
-    subst (λ (l : List Event). IsHistory c l) b.is history in
-    let on = ((enabled_in_parts c b.before (b.event ∷ b.behind)).0 whole.enabled).1 in
-    let meets = enabled_meets c (left c b.before).now b.event on.0 in
-    (meets.seat, meets.kind)
+open_to_its_seat c es b history = grind (arith, enabled_in_parts, enabled_meets)
 
 module _ (begins : Config → Seat → List Event → List Event → Type 0) where
   -- before the first event

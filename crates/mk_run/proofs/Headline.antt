@@ -1,10 +1,10 @@
 -- The history of a run keeps all promises, and its texts are all that is printed of it.
 use Rattle.std.proofs.{Common.slice_get, Common.take_all, lemmas.Bool.Decides.nat_tests}
 use Rattle.std.specs.List.{flat_map, range_with_len}
-use Rattle.mk_laws.proofs.Vocabulary.{Answer, Bool, Caller, Config, Decided, Event, List, Some, ℕ, ap, arith, asked}
-use Rattle.mk_laws.proofs.Vocabulary.{calls, false, length, refl, seat_exists, suc, sym, true, [], ◌++◌, ◌+◌, ◌<◌, ◌==◌}
-use Rattle.mk_laws.proofs.Vocabulary.{◌∙◌, ◌∷◌, ◌≡◌}
-use Rattle.mk_run.proofs.Vocabulary.{IsRunOf, IsScript, IsWhole, Item, Outcome, Text, answers_in, config_of, feed}
+use Rattle.mk_laws.proofs.Vocabulary.{Bool, Caller, Config, Decided, Event, List, Some, ℕ, ap, arith, asked, calls}
+use Rattle.mk_laws.proofs.Vocabulary.{false, length, refl, seat_exists, suc, true, [], ◌++◌, ◌+◌, ◌<◌, ◌==◌, ◌∙◌, ◌∷◌}
+use Rattle.mk_laws.proofs.Vocabulary.{◌≡◌}
+use Rattle.mk_run.proofs.Vocabulary.{IsRunOf, IsScript, IsWhole, Item, Outcome, Text, answers_in, config_of}
 use Rattle.mk_run.proofs.Vocabulary.{slice_get_within}
 use Rattle.mk_laws.proofs.Promises.{histories_keep_all_promises}
 use Rattle.mk_check.{proofs.GivenAnswers.serves, specs.Laws.ops_of_caller, specs.Output.answers_among}
@@ -53,12 +53,7 @@ pub runs_to_its_end : (on with_cycle : Bool) (program : List Item) (markers : �
     → IsRunOf on with_cycle program markers outcome
     → IsScript program k
     → RunsToItsEnd program k (answers_in (config_of program markers) k (report.history_of outcome.report))
-runs_to_its_end on with_cycle program markers outcome k runs is = record {
-  ended = runs.ends k is;
-  none_left =
-      ap length (sym (runs.follows k is).noted)
-      ∙ as_many k (calls (config_of program markers) (report.history_of outcome.report));
-}
+runs_to_its_end on with_cycle program markers outcome k runs is = grind (arith, as_many)
 
 unfoldable pub runs_stand_in_one_history : RunsStandInOneHistory
 runs_stand_in_one_history program markers sweep last_cycle outcome tell bytes runs begun unswept told =
@@ -86,11 +81,6 @@ runs_print_their_texts on with_cycle program markers outcome runs =
     let text_of = text_behind program c es in
     let texts = outcome.texts.items in
     let piece : (k : ℕ) (text : Text) → slice_get texts k ≡ Some text
-    → text.bytes.items ≡ text_of (0 + k) = λ k text is.
-    let inside = slice_get_within texts k text is in
-    let count = runs.count in
-    (runs.texts k text is).bytes
-    ∙ ap (λ (answers : List Answer). (feed program k answers).text) (sym (all_given c es k runs.whole (omega arith)))
-    ∙ ap text_of (omega arith) in
+    → text.bytes.items ≡ text_of (0 + k) = grind (arith, slice_get_within, all_given) in
     pieces (λ (text : Text). text.bytes.items) text_of 0 texts piece
     ∙ ap (λ (n : ℕ). flat_map text_of (range_with_len 0 n)) runs.count

@@ -13,7 +13,7 @@ use Rattle.mk_heap.specs.Ending.{EndsCycle}
 use Rattle.mk_objects.proofs.JoinedLooks.{does_wider}
 use Rattle.mk_turns.{proofs.Doing.does_then, specs.Doing.Does}
 use Rattle.mk_waiting.specs.Taking.{TakesTurn}
-use Rattle.mk_words.{proofs.TurnSteps.takes, specs.States.event_of, specs.Steps.Makes}
+use Rattle.mk_words.{proofs.TurnSteps.takes, specs.Steps.Makes}
 
 -- Outside of phases 1 and 2 no cycle is closed before another is begun.
 
@@ -69,11 +69,7 @@ behind_first kind e es h = (or_parts (kind e.step) (has_step kind es) h).1
 -- before a step
 pub before_made : (p q : PassState) (s : Step) → Makes p s q → IsHistory q.table.config q.seen
     → IsHistory p.table.config p.seen
-before_made p q s m history =
-    let c : Config = p.table.config in
-    earlier_part_is_history c p.seen m.others
-    (earlier_part_is_history c (p.seen ++ m.others) (event_of p s ∷ [])
-    (subst (λ (r : PassState). IsHistory r.table.config r.seen) m.is history))
+before_made p q s m history = grind (arith, earlier_part_is_history)
 
 -- The host's turn, up to where no cycle is on.
 

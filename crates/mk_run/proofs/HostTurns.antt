@@ -22,9 +22,7 @@ unseen_by_host es is = subst (λ (l : List Event). AreOfOthers (Host ∷ []) l) 
 
 pub host_is_still : (seats : List Seat) (es fs : List Event) → Has seats Host → Grows seats es fs
     → AreOfOthers (Host ∷ []) es → AreOfOthers (Host ∷ []) fs
-host_is_still seats es fs own g before =
-    subst (λ (l : List Event). AreOfOthers (Host ∷ []) l) (sym g.is)
-    (others_append (Host ∷ []) es g.more before (others_own seats Host g.more own g.of_others))
+host_is_still seats es fs own g before = grind (arith, others_append, others_own)
 
 -- the cycles that are begun in a list
 
@@ -130,9 +128,7 @@ both_begin h g i seat host callers is is' cycle over history =
     subst (λ (x : HostState). HasCallers x.pass.table.config x.pass.seats) (sym is) callers in
     let after = over_begins g.pass i.pass g_seat g_host g_callers over history in
     let same : i.pass.table.config ≡ g.pass.table.config = ap (λ (x : HostState). x.pass.table.config) is' in
-    let whole : IsHistory g.pass.table.config (g.pass.seen ++ after.more) =
-    subst (λ (l : List Event). IsHistory g.pass.table.config l) after.is
-    (subst (λ (c : Config). IsHistory c i.pass.seen) same history) in
+    let whole : IsHistory g.pass.table.config (g.pass.seen ++ after.more) = grind arith in
     let g_history = earlier_part_is_history g.pass.table.config g.pass.seen after.more whole in
     let both = begins_then 1 0 h.pass g.pass i.pass (cycle_begins h.pass g.pass own host callers cycle g_history)
     (record { more = after.more; is = after.is; count = after.cycles }) in

@@ -1,8 +1,7 @@
 -- The host makes the scripts' callers, and joins them.
 use Rattle.std.proofs.Common.{Err, IsOk, Ok, OnOk, Result, slice_get}
-use Rattle.mk_laws.proofs.Vocabulary.{Bool, Caller, Config, Event, Host, List, Seat, Some, ℕ, ap, arith, cases_eq, inl}
-use Rattle.mk_laws.proofs.Vocabulary.{inr, length, refl, subst, suc, sym, zero, [], ◌++◌, ◌+◌, ◌<◌, ◌∙◌, ◌∷◌, ◌≡◌, ◌≢◌}
-use Rattle.mk_laws.proofs.Vocabulary.{◌≤◌, ◌⊎◌}
+use Rattle.mk_laws.proofs.Vocabulary.{Bool, Caller, Config, Event, List, Seat, Some, ℕ, ap, arith, length, subst, suc}
+use Rattle.mk_laws.proofs.Vocabulary.{sym, zero, [], ◌++◌, ◌+◌, ◌<◌, ◌∷◌, ◌≡◌, ◌≤◌, ◌⊎◌}
 use Rattle.mk_run.proofs.Vocabulary.{AreTextsFrom, CallerState, EndsScript, FollowsScript, Grows, Has, HasJoined}
 use Rattle.mk_run.proofs.Vocabulary.{HasMade, HostState, IfOk, IsFirstPass, IsScript, IsTextOf, Item, PassState, Text}
 use Rattle.mk_run.proofs.Vocabulary.{WordsState, answers_in, at_home, has_first, has_left, script_names}
@@ -27,10 +26,7 @@ no_event (x ∷ before) e behind h = cc
 
 first_follows : (on : Bool) (program : List Item) (k : ℕ) (c : Config) → FollowsScript on program k c []
 unfolding calls_from
-first_follows on program k c = record {
-  noted = first_are_noted program k;
-  exact = λ before e behind is give seat. absurd (no_event before e behind is);
-}
+first_follows on program k c = grind (arith, first_are_noted, no_event)
 
 pub follows_at_first : (on : Bool) (program : List Item) (k : ℕ) (c : Config) (es : List Event) → es ≡ []
     → FollowsScript on program k c es
@@ -40,35 +36,16 @@ follows_at_first on program k c es is =
 -- The host makes the next caller.
 
 pub next_made : (w : WordsState) (k : ℕ) (h : HostState) → HasMade w k h → HasMade w (k + 1) (with_caller_made h)
-next_made w k h made = record {
-  table = made.table;
-  seat = made.seat;
-  own = without_keeps (Caller h.callers) h.pass.seats Host refl made.own;
-  seen = made.seen;
-  count = ap (λ (n : ℕ). n + 1) made.count;
-}
+next_made w k h made = grind (arith, without_keeps)
 
 pub first_pass : (w : WordsState) (k : ℕ) (h : HostState) (s : CallerState) (p : PassState) → HasMade w k h
     → s ≡ at_home (pass_for h (Caller h.callers)) → p ≡ s.pass → IsIdleCaller s.pass → IsFirstPass w k p
-first_pass w k h s p made is same idle =
-    let next : s.pass ≡ pass_for h (Caller h.callers) = ap (λ (r : CallerState). r.pass) is in
-    let seat : Caller h.callers ≡ Caller k = ap (λ (j : ℕ). Caller j) made.count in
-    subst (λ (r : PassState). IsFirstPass w k r) (sym same) (record {
-      table = ap (λ (r : PassState). r.table) next ∙ made.table;
-      seat = ap (λ (r : PassState). r.seat) next ∙ seat;
-      alone = ap (λ (r : PassState). r.seats) next ∙ ap (λ (s : Seat). s ∷ []) seat;
-      seen = ap (λ (r : PassState). r.seen) next ∙ made.seen;
-      idle = idle;
-    })
+first_pass w k h s p made is same idle = grind arith
 
 -- One more is joined.
 
 pub same_or_later : (k j : ℕ) → k ≤ j → (j ≡ k) ⊎ (k + 1 ≤ j)
-same_or_later k j le = by (cases_eq j k)
-  where
-    by : ((j ≡ k) ⊎ (j ≢ k)) → (j ≡ k) ⊎ (k + 1 ≤ j)
-    by (inl e) = inl e
-    by (inr ne) = inr (omega arith)
+same_or_later k j le = grind arith
 
 module _ (on : Bool) (program : List Item) (w : WordsState) (k : ℕ) (h : HostState) (p : PassState) (fs : List Event)
     (joined : HasJoined on program w (k + 1) h) (own : Grows h.pass.seats h.pass.seen fs)

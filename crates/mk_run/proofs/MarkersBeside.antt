@@ -1,8 +1,7 @@
 -- Markers beside the scripts: their passes, and the host that joins them.
 use Rattle.std.proofs.{lemmas.List.get_or-replicate, lemmas.Result.IfOk-weaker}
-use Rattle.mk_laws.proofs.Vocabulary.{Bool, Caller, Config, Event, Host, IsHistory, List, Marker, Seat, ℕ, ap, arith}
-use Rattle.mk_laws.proofs.Vocabulary.{left, marker_at, outside, refl, subst, sym, true, [], ◌++◌, ◌+◌, ◌<◌, ◌∙◌, ◌∷◌}
-use Rattle.mk_laws.proofs.Vocabulary.{◌≡◌, ◌≤◌}
+use Rattle.mk_laws.proofs.Vocabulary.{Bool, Caller, Config, Host, IsHistory, List, Marker, Seat, ℕ, ap, arith, left}
+use Rattle.mk_laws.proofs.Vocabulary.{marker_at, outside, subst, sym, true, [], ◌++◌, ◌+◌, ◌<◌, ◌∙◌, ◌∷◌, ◌≡◌, ◌≤◌}
 use Rattle.mk_run.proofs.Vocabulary.{AreTextsFrom, CallersAreStill, Grows, Has, HasJoined, HasMade, HostState, IfOk}
 use Rattle.mk_run.proofs.Vocabulary.{IsOver, Item, PassState, WordsState, config_of, has_first, has_left, with_joined}
 use Rattle.mk_run.proofs.Vocabulary.{⊎_elim}
@@ -21,29 +20,10 @@ unseen c j few = ap (λ m. is_out m.presence) (get_or-replicate 8 j outside outs
 
 pub first_marker : (w : WordsState) (j : ℕ) (h : HostState) (m p : PassState) → h.pass.table ≡ w → h.pass.seen ≡ []
     → h.markers ≡ j → j < 8 → m ≡ pass_for h (Marker h.markers) → p ≡ m → IsMarkersPass w j p
-first_marker w j h m p table unseen_yet count few is same =
-    let seat : m.seat ≡ Marker j = ap (λ (r : PassState). r.seat) is ∙ ap (λ (i : ℕ). Marker i) count in
-    let seen : m.seen ≡ [] = ap (λ (r : PassState). r.seen) is ∙ unseen_yet in
-    let c : Config = m.table.config in
-    subst (λ (r : PassState). IsMarkersPass w j r) (sym same) (record {
-      exists = few;
-      table = ap (λ (r : PassState). r.table) is ∙ table;
-      seat = seat;
-      alone = ap (λ (r : PassState). r.seats) is ∙ ap (λ (i : ℕ). Marker i ∷ []) count;
-      out =
-          subst (λ (s : Seat). is_out (marker_at (left c m.seen).now s).presence ≡ true) (sym seat)
-          (subst (λ (es : List Event). is_out (marker_at (left c es).now (Marker j)).presence ≡ true) (sym seen)
-          (unseen c j few));
-    })
+first_marker w j h m p table unseen_yet count few is same = grind (arith, unseen)
 
 pub marker_made : (w : WordsState) (h : HostState) → HasMade w 0 h → HasMade w 0 (with_marker_made h)
-marker_made w h made = record {
-  table = made.table;
-  seat = made.seat;
-  own = without_keeps (Marker h.markers) h.pass.seats Host refl made.own;
-  seen = made.seen;
-  count = made.count;
-}
+marker_made w h made = grind (arith, without_keeps)
 
 -- One marker more is joined.
 

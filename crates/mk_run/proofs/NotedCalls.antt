@@ -1,9 +1,8 @@
 -- The calls of one caller among all: what its script notes of them, and what one call more makes of that.
 use Rattle.mk_laws.proofs.Vocabulary.{Answer, Bool, Config, Decided, Event, IsAdmitted, IsHistory, List, Op, Some, ℕ}
-use Rattle.mk_laws.proofs.Vocabulary.{ap, arith, asked, calls, entry_of, false, flagged, if◌then◌else◌, length, map}
-use Rattle.mk_laws.proofs.Vocabulary.{map-append, never_behind, refl, subst, sym, true, [], ◌++◌, ◌==◌, ◌∙◌, ◌∷◌, ◌≡◌}
-use Rattle.mk_laws.proofs.Vocabulary.{◌≤◌}
-use Rattle.mk_run.proofs.Vocabulary.{IsChecked, IsScript, Item, calls_by, config_of, feed, next_op, script_names}
+use Rattle.mk_laws.proofs.Vocabulary.{ap, arith, asked, calls, entry_of, false, if◌then◌else◌, length, map, map-append}
+use Rattle.mk_laws.proofs.Vocabulary.{never_behind, refl, subst, sym, true, [], ◌++◌, ◌==◌, ◌∙◌, ◌∷◌, ◌≡◌, ◌≤◌}
+use Rattle.mk_run.proofs.Vocabulary.{IsChecked, IsScript, Item, calls_by, config_of, next_op, script_names}
 use Rattle.mk_check.proofs.{AdmittedScripts.next_is_admitted, FeedLaws.ops-feed_push}
 use Rattle.mk_check.specs.{Declarations.globals_of, Laws.AreNotedBy, Laws.ops_of_caller, Output.answers_among}
 
@@ -35,9 +34,7 @@ same_answers k xs ys same = ap answers_to same
 
 pub still_noted : (program : List Item) (k : ℕ) (xs ys : List Decided) → calls_by k ys ≡ calls_by k xs
     → IsNoted program k xs → IsNoted program k ys
-still_noted program k xs ys same noted =
-    ops_are k ys ∙ ap ops_of same ∙ sym (ops_are k xs) ∙ noted
-    ∙ ap (λ (answers : List Answer). (feed program k answers).ops) (sym (same_answers k xs ys same))
+still_noted program k xs ys same noted = grind (arith, ops_are, ops_of, same_answers)
 
 -- One call more, which is what the script asks for next.
 
@@ -50,10 +47,7 @@ pub one_more_noted : (program : List Item) (k : ℕ) (xs ys : List Decided) (o :
     → calls_by k ys ≡ calls_by k xs ++ entry_of k o (Some a) → next_op program k (answers_among k xs) ≡ Some o
     → IsNoted program k xs → IsNoted program k ys
 one_more_noted program k xs ys o a more next noted =
-    ops_are k ys ∙ ap ops_of more ∙ map-append (λ (x : Decided). x.op) (calls_by k xs) (entry_of k o (Some a))
-    ∙ ap (λ (l : List Op). l ++ flagged o a ∷ []) (sym (ops_are k xs) ∙ noted)
-    ∙ sym (ops-feed_push program k (answers_among k xs) a o next)
-    ∙ ap (λ (answers : List Answer). (feed program k answers).ops) (sym (one_answer_more k xs ys o a more))
+    grind (arith, ops_are, ops_of, map-append, calls_by, ops-feed_push, one_answer_more)
 
 -- What the script asks for next is admitted.
 

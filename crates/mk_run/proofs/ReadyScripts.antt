@@ -1,7 +1,7 @@
 -- Scripts that are ready: the first of them and those after it, and one more after all.
-use Rattle.mk_laws.proofs.Vocabulary.{Config, List, Some, [], arith, length, refl, subst, suc, sym, zero, ◌+◌, ◌++◌}
-use Rattle.mk_laws.proofs.Vocabulary.{◌∷◌, ◌≡◌, ℕ}
 use Rattle.std.proofs.Common.{slice_get}
+use Rattle.mk_laws.proofs.Vocabulary.{Config, List, Some, ℕ, arith, length, refl, subst, suc, sym, zero, [], ◌++◌, ◌+◌}
+use Rattle.mk_laws.proofs.Vocabulary.{◌∷◌, ◌≡◌}
 use Rattle.mk_run.proofs.Vocabulary.{AreReadyFrom, IsReady, Item}
 use Rattle.mk_run.specs.declared.ready.ReadyScript.{ReadyScript}
 

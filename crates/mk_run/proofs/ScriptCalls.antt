@@ -1,14 +1,13 @@
 -- A script's caller makes one call more, or finds its gate held, and what is known then.
 use Rattle.std.proofs.{Common.length-append, lemmas.List.Sums.count_by-le-length}
-use Rattle.mk_laws.proofs.Vocabulary.{Answer, Bool, Caller, Config, Decided, Event, IsAdmitted, IsHistory, Kind, List}
-use Rattle.mk_laws.proofs.Vocabulary.{Op, Seat, Some, ℕ, ap, arith, asked, caller_number, calls, entry_of, false}
-use Rattle.mk_laws.proofs.Vocabulary.{flagged, is_under_turn, length, never_behind, refl, subst, sym, true, true≢false}
-use Rattle.mk_laws.proofs.Vocabulary.{[], ◌++◌, ◌+◌, ◌<◌, ◌∙◌, ◌∷◌, ◌≡◌, ◌≤◌}
+use Rattle.mk_laws.proofs.Vocabulary.{Answer, Bool, Caller, Config, Decided, Event, IsAdmitted, IsHistory, List, Op}
+use Rattle.mk_laws.proofs.Vocabulary.{Seat, Some, ℕ, ap, arith, asked, caller_number, calls, entry_of, false, flagged}
+use Rattle.mk_laws.proofs.Vocabulary.{is_under_turn, length, never_behind, refl, subst, sym, true, true≢false, [], ◌++◌}
+use Rattle.mk_laws.proofs.Vocabulary.{◌+◌, ◌<◌, ◌∙◌, ◌∷◌, ◌≡◌, ◌≤◌}
 use Rattle.mk_run.proofs.Vocabulary.{Answers, FindsGateHeld, FollowsScript, Has, IsAdmittedByOwnCalls, IsChecked}
 use Rattle.mk_run.proofs.Vocabulary.{IsFedWith, IsScript, Item, PassState, WordsState, answers_in, calls_by, config_of}
-use Rattle.mk_run.proofs.Vocabulary.{is_refusal, next_op, script_names}
+use Rattle.mk_run.proofs.Vocabulary.{is_refusal, next_op}
 use Rattle.mk_never.proofs.Later.{calls_stay}
-use Rattle.mk_core.specs.History.{never_first}
 use Rattle.mk_alloc.proofs.ExactTurns.{stay_exact_behind_calls, stay_exact_behind_turns, stay_exact_where_held}
 use Rattle.mk_alloc.specs.{Laws.OwnAreExact, TurnCalls.CalledInTurn, TurnCycles.TurnsOfAreExact}
 use Rattle.mk_caller.specs.{Called.own_calls, States.Admits, States.IsIdleCaller, States.caller_of_pass}
@@ -95,18 +94,12 @@ none_then_answers on p q o told r h entered g = record {
 pub still_admitted : (on : Bool) (p : PassState) (o : Op) (q : PassState) → IsAdmittedByOwnCalls p o
     → MakesNoCall on p q
     → IsHistory q.table.config q.seen → Admits q o
-still_admitted on p o q stays h history =
-    subst (λ (r : PassState). Admits r o) (sym h.is)
-    (stays q.seen
-    (subst (λ (w : WordsState). IsHistory w.config q.seen) (ap (λ (r : PassState). r.table) h.is) history) h.entries)
+still_admitted on p o q stays h history = grind arith
 
 -- ... and stays so.
 pub stays_admitted_after : (on : Bool) (p : PassState) (o : Op) (q : PassState) → IsAdmittedByOwnCalls p o
     → MakesNoCall on p q → IsAdmittedByOwnCalls q o
-stays_admitted_after on p o q stays h es history own =
-    subst (λ (r : PassState). Admits (record r { seen = es }) o) (sym h.is)
-    (stays es (subst (λ (w : WordsState). IsHistory w.config es) (ap (λ (r : PassState). r.table) h.is) history)
-    (sym (same_own p q es h.is) ∙ own ∙ same_own p q q.seen h.is ∙ h.entries))
+stays_admitted_after on p o q stays h es history own = grind (arith, same_own)
 
 -- A New.
 
@@ -139,10 +132,7 @@ answered_free on p o r a q own is h =
 
 pub type_exists : (p : PassState) (o : Op) (d ty : ℕ) (full : Bool) → o ≡ Op.New d ty full → Admits p o
     → ty < length p.table.config.types
-type_exists p o d ty full is admits =
-    let made = subst (λ (x : Op). Admits p x) is admits in
-    let types = (calls_stay (never_first p.table.config) (asked (calls p.table.config p.seen))).types in
-    subst (λ (all : List (List Kind)). ty < length all) types made.in_range.1
+type_exists p o d ty full is admits = grind (arith, calls_stay)
 
 -- A script's next operation, and its answer.
 
@@ -166,10 +156,7 @@ module _ (on : Bool) (program : List Item) (k : ℕ) (p : PassState) (seat : p.s
   next_stays_admitted checked is_script config follows o next = λ fs history same.
       let mine : calls_by k (calls c fs) ≡ calls_by k (calls c es) =
       subst (λ (j : ℕ). calls_by j (calls c fs) ≡ calls_by j (calls c es)) number same in
-      let noted : AreNotedBy program k answers (asked (calls c fs)) =
-      subst (λ (given : List Answer). AreNotedBy program k given (asked (calls c fs)))
-      (same_answers k (calls c es) (calls c fs) mine)
-      (still_noted program k (calls c es) (calls c fs) mine follows.noted) in
+      let noted : AreNotedBy program k answers (asked (calls c fs)) = grind (arith, same_answers, still_noted) in
       subst (λ (j : ℕ). IsAdmitted c.globals (never_behind c fs) j o) (sym number)
       (next_admitted program c k fs answers o checked is_script config history noted next)
 
@@ -203,16 +190,11 @@ module _ (on : Bool) (program : List Item) (k : ℕ) (p : PassState) (seat : p.s
 pub exists_on : (p q : PassState) (k : ℕ) (program : List Item) → q ≡ record p { seen = q.seen } → caller_of_pass p ≡ k
     → IsScript program k
     → p.table.config ≡ config_of program p.table.config.markers → caller_of_pass q < q.table.config.callers
-exists_on p q k program is number script config =
-    let callers : p.table.config.callers ≡ length (script_names program) = ap (λ (x : Config). x.callers) config in
-    let within : k < length (script_names program) = script in
-    subst (λ (r : PassState). caller_of_pass r < r.table.config.callers) (sym is) (omega arith)
+exists_on p q k program is number script config = grind arith
 
 pub seat_is : (p q : PassState) (k : ℕ) → q ≡ record p { seen = q.seen } → IsIdleCaller q → caller_of_pass p ≡ k
     → p.seat ≡ Caller k
-seat_is p q k is idle number =
-    let seat : p.seat ≡ Caller idle.caller = ap (λ (r : PassState). r.seat) (sym is) ∙ idle.seat in
-    seat ∙ ap (λ (j : ℕ). Caller j) (sym (ap (λ (s : Seat). caller_number s) seat) ∙ number)
+seat_is p q k is idle number = grind arith
 
 module _ (on : Bool) (program : List Item) (k : ℕ) (p q : PassState) (s : Script) (run : IsRunning on program k p q s)
     (seat : p.seat ≡ Caller k) (o : Op) (next : next_op program k (answers_in p.table.config k q.seen) ≡ Some o) where

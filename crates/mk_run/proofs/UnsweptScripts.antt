@@ -1,7 +1,6 @@
 -- Scripts whose engine doesn't sweep make no sweeping mark, nor does the host that joins them.
-use Rattle.mk_laws.proofs.Vocabulary.{Caller, Config, Event, Host, IsHistory, List, Marker, Seat, ℕ, ap, arith}
-use Rattle.mk_laws.proofs.Vocabulary.{first_world, left, length, ltb-true, seat_exists, subst, sym, true, [], ◌+◌, ◌∙◌}
-use Rattle.mk_laws.proofs.Vocabulary.{◌∷◌, ◌≡◌, ◌≤◌}
+use Rattle.mk_laws.proofs.Vocabulary.{Caller, Config, Event, Host, IsHistory, List, Marker, Seat, ℕ, arith, first_world}
+use Rattle.mk_laws.proofs.Vocabulary.{length, ltb-true, seat_exists, subst, sym, true, [], ◌+◌, ◌∷◌, ◌≡◌, ◌≤◌}
 use Rattle.mk_run.proofs.Vocabulary.{CallerState, Grows, Has, IsFirstPass, IsScript, Item, PassState, SweepsNothing}
 use Rattle.mk_run.proofs.Vocabulary.{WordsState, at_home, config_of, has_first, script_names, ⊎_elim}
 use Rattle.mk_run.proofs.{JoinedScripts.same_or_later, UnsweptHistories.markers_sweep, UnsweptHistories.none_sweeps}
@@ -20,30 +19,17 @@ first_sweeps c s es is = subst (λ (l : List Event). SeatSweepsNothing c s l) (s
 -- after more of its own, and after events of others
 pub seat_on : (p q : PassState) → SweepsNothing p q → SeatSweepsNothing p.table.config p.seat p.seen
     → SeatSweepsNothing p.table.config p.seat q.seen
-seat_on p q more before =
-    let c : Config = p.table.config in
-    subst (λ (l : List Event). SeatSweepsNothing c p.seat l) (sym more.is)
-    (sweeps_append c p.seat (first_world c) p.seen more.more before more.none)
+seat_on p q more before = grind (arith, sweeps_append)
 
 pub others_on : (c : Config) (s : Seat) (seats : List Seat) (es fs : List Event) → Has seats s → Grows seats es fs
     → SeatSweepsNothing c s es → SeatSweepsNothing c s fs
-others_on c s seats es fs has g before =
-    subst (λ (l : List Event). SeatSweepsNothing c s l) (sym g.is)
-    (sweeps_append c s (first_world c) es g.more before (others_sweep c s seats (left c es) g.more has g.of_others))
+others_on c s seats es fs has g before = grind (arith, sweeps_append, others_sweep)
 
 -- the run of one script, from its first pass
 pub script_sweeps : (w : WordsState) (k : ℕ) (first : PassState) (s : CallerState) (q r : PassState)
     → IsFirstPass w k first
     → s ≡ at_home first → SweepsNothing s.pass q → r ≡ q → SeatSweepsNothing w.config (Caller k) r.seen
-script_sweeps w k first s q r at is more same =
-    let p : PassState = s.pass in
-    let home : p ≡ first = ap (λ (x : CallerState). x.pass) is in
-    let before = first_sweeps p.table.config p.seat p.seen (ap (λ (x : PassState). x.seen) home ∙ at.seen) in
-    subst (λ (x : PassState). SeatSweepsNothing w.config (Caller k) x.seen) (sym same)
-    (subst (λ (seat : Seat). SeatSweepsNothing w.config seat q.seen) (ap (λ (x : PassState). x.seat) home ∙ at.seat)
-    (subst (λ (t : WordsState). SeatSweepsNothing t.config p.seat q.seen) (ap (λ (x : PassState). x.table) home
-    ∙ at.table)
-    (seat_on p q more before)))
+script_sweeps w k first s q r at is more same = grind (arith, first_sweeps, seat_on)
 
 -- The host goes on, and the callers are still.
 pub scripts_on : (program : List Item) (k : ℕ) (w : WordsState) (p q : PassState) → p.table ≡ w → p.seat ≡ Host
@@ -84,11 +70,7 @@ script_joined program k c seats es fs alone came mine others =
 pub none_joined : (program : List Item) (k : ℕ) (c : Config) (es : List Event) → es ≡ []
     → k ≡ length (script_names program)
     → ScriptsSweepNothing program k c es
-none_joined program k c es none all =
-    record {
-      callers = λ j le is. absurd (omega arith);
-      host = first_sweeps c Host es none;
-    }
+none_joined program k c es none all = grind (arith, first_sweeps)
 
 -- All seats of the whole run are the scripts', the host's and markers'.
 
@@ -104,6 +86,4 @@ each_seat program markers es history scripts Host exists = scripts.host
 
 pub run_is_unswept : (program : List Item) (markers : ℕ) (es : List Event) → IsHistory (config_of program markers) es
     → ScriptsSweepNothing program 0 (config_of program markers) es → IsUnswept (config_of program markers) es
-run_is_unswept program markers es history scripts =
-    none_sweeps (config_of program markers) (first_world (config_of program markers)) es history.enabled
-    (each_seat program markers es history scripts)
+run_is_unswept program markers es history scripts = grind (arith, none_sweeps, each_seat)

@@ -1,6 +1,6 @@
 -- A run of all scripts, when the heap is closed.
-use Rattle.mk_laws.proofs.Vocabulary.{Bool, Caller, Config, Event, List, Seat, ℕ, arith, subst, sym, [], ◌+◌, ◌<◌, ◌∙◌}
-use Rattle.mk_laws.proofs.Vocabulary.{◌∷◌, ◌≡◌, ◌≤◌}
+use Rattle.mk_laws.proofs.Vocabulary.{Bool, Caller, Config, Event, List, Seat, ℕ, arith, subst, sym, [], ◌+◌, ◌∙◌, ◌∷◌}
+use Rattle.mk_laws.proofs.Vocabulary.{◌≡◌, ◌≤◌}
 use Rattle.mk_run.proofs.Vocabulary.{AreTextsFrom, CallersAreStill, EndsScript, FollowsScript, Grows, Has, HasCallers}
 use Rattle.mk_run.proofs.Vocabulary.{HasJoined, HostComesLast, HostState, IsOver, IsRunOf, IsScript, IsTextOf, IsWhole}
 use Rattle.mk_run.proofs.Vocabulary.{Item, Outcome, Text, WordsState, config_of, slice_get_within}
@@ -16,9 +16,7 @@ all_callers_joined on program w h joined = λ k lt. let n = joined.count in join
 -- All callers that there are are home.
 pub all_callers_home : (on : Bool) (program : List Item) (markers : ℕ) (w : WordsState) (h : HostState)
     → w.config ≡ config_of program markers → HasJoined on program w 0 h → HasCallers w.config h.pass.seats
-all_callers_home on program markers w h made joined = λ k lt.
-    let few : k < (config_of program markers).callers = subst (λ (c : Config). k < c.callers) made lt in
-    joined.seats k (omega arith) few
+all_callers_home on program markers w h made joined = grind arith
 
 -- What was joined stays so where the callers are still.
 

@@ -1,14 +1,13 @@
-use denote.Param.Send.{Quiet-if}
-use mir.Syntax.{of_param}
 use Rattle.mk_laws.proofs.Vocabulary.{Caller, Config, Host, ap, arith, length, subst, sym, ◌+◌, ◌<◌, ◌∙◌, ◌≡◌}
 use Rattle.mk_run.proofs.Vocabulary.{AreReadyFrom, Grows, Has, HasJoined, HasMade, HostState, IsFirstPass, IsReady}
-use Rattle.mk_run.proofs.Vocabulary.{IsScript}
-use Rattle.mk_run.proofs.Vocabulary.{has_left, rules, script_names, with_joined}
-use Rattle.mk_run.proofs.ReadyScripts.{ready_first}
+use Rattle.mk_run.proofs.Vocabulary.{IsScript, has_left, rules, script_names, with_joined}
+use Rattle.mk_run.proofs.HostTurns.{host_is_still, unseen_by_host}
 use Rattle.mk_run.proofs.JoinedScripts.{first_pass, next_made, one_joined, texts_joined}
 use Rattle.mk_run.proofs.UnsweptScripts.{none_joined, script_joined, scripts_on}
-use Rattle.mk_run.proofs.{HostTurns.host_is_still, HostTurns.unseen_by_host, LaterLists.of_one}
-use Rattle.mk_run.specs.{Joining.AreJoined, Joining.HasRun}
+use Rattle.mk_run.proofs.{LaterLists.of_one, ReadyScripts.ready_first}
+use Rattle.mk_run.specs.Joining.{AreJoined, HasRun}
+use denote.Param.Send.{Quiet-if}
+use mir.Syntax.{of_param}
 use Rattle.mk_run.proofs.BegunScripts as begun
 use Rattle.mk_run.proofs.joining.+fn-run_from-join+arg3+run_from.Goals as goal
 
@@ -29,9 +28,7 @@ join-ran-requires-after_bounds g t c κs within =
     let scripts = ap (λ (x : Config). x.callers) c.args.run.now.made_for in
     let script : IsScript c.args.run.now.program.now k =
     omega (arith, c.in-Some.ensures.cases, c.args.scripts.ok, c.requires.scripts.count, scripts) in
-    let first : IsFirstPass w k c.finish-pass.result =
-    first_pass w k host c.caller.result c.finish-pass.result c.requires.host c.caller.ensures.caller
-    c.finish-pass.ensures.pass c.finish-pass.ensures.idle in
+    let first : IsFirstPass w k c.finish-pass.result = grind (arith, first_pass) in
     let next : HasMade w (k + 1) c.caller.new.self =
     subst (λ (h : HostState). HasMade w (k + 1) h) (sym c.caller.ensures.host) (next_made w k host c.requires.host) in
     -- What the bounds of the type parameters say of the two closures: by hand, since a search doesn't look so far.
@@ -119,12 +116,7 @@ returns-clause-joined g t c =
     }
 
 pub returns-in_default-clause-joined : goal.returns-in_default-clause-joined
-returns-in_default-clause-joined g t c =
-    let without_host = unseen_by_host c.args.host.pass.seen c.requires.host.seen in
-    let scripts = ap (λ (x : Config). x.callers) c.args.run.now.made_for in
-    let all : c.args.k ≡ length (script_names c.args.run.now.program.now) =
-    omega (arith, c.in_default.ensures.cases, c.args.scripts.ok, c.requires.scripts.count, scripts) in
-    search rules
+returns-in_default-clause-joined g t c = grind (arith, unseen_by_host)
 
 pub returns-in_default-clause-reached : goal.returns-in_default-clause-reached
 returns-in_default-clause-reached g t c =

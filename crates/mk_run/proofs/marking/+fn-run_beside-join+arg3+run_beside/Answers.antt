@@ -14,9 +14,7 @@ join-pass-requires-after_bounds g t c κs within =
     let new = c.marker.new.self in
     let more : number < c.args.run.now.markers = search rules in
     let few : number < 8 = omega (arith, c.args.run.now.few) in
-    let pass : IsMarkersPass w number c.finish-pass.result =
-    first_marker w number host c.marker.result c.finish-pass.result c.requires.host.table c.requires.host.seen
-    c.requires.number few c.marker.ensures.marker c.finish-pass.ensures.pass in
+    let pass : IsMarkersPass w number c.finish-pass.result = grind (arith, first_marker) in
     let made : HasMade w 0 new =
     subst (λ (h : HostState). HasMade w 0 h) (sym c.marker.ensures.host) (marker_made w host c.requires.host) in
     let count : new.markers ≡ number + 1 =

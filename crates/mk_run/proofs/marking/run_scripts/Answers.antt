@@ -7,14 +7,10 @@ use Rattle.mk_run.proofs.BegunScripts as begun
 use Rattle.mk_run.proofs.marking.run_scripts.Goals as goal
 
 pub take_last_turns-requires-clause-joined : goal.take_last_turns-requires-clause-joined
-take_last_turns-requires-clause-joined g c κs within =
-    all_callers_joined g.E.Engine.on c.args.run.now.program.now c.args.run.now.heap.now
-    c.run_from-host.result.host c.run_from-host.ensures.joined.is_host
+take_last_turns-requires-clause-joined g c κs within = grind (arith, all_callers_joined)
 
 pub take_last_turns-requires-clause-callers : goal.take_last_turns-requires-clause-callers
-take_last_turns-requires-clause-callers g c κs within =
-    all_callers_home g.E.Engine.on c.args.run.now.program.now c.args.run.now.markers c.args.run.now.heap.now
-    c.run_from-host.result.host c.args.run.now.made_for c.run_from-host.ensures.joined.is_host
+take_last_turns-requires-clause-callers g c κs within = grind (arith, all_callers_home)
 
 pub returns-clause-over : goal.returns-clause-over
 returns-clause-over g c =

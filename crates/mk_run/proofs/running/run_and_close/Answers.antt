@@ -1,5 +1,5 @@
-use Rattle.mk_laws.proofs.Vocabulary.{Config, Event, List, ap, arith, subst, sym, ◌∙◌, ◌≡◌}
-use Rattle.mk_run.proofs.Vocabulary.{AreTextsFrom, IfOk, IsWhole, config_of}
+use Rattle.mk_laws.proofs.Vocabulary.{Config, Event, List, arith, subst, sym, ◌∙◌, ◌≡◌}
+use Rattle.mk_run.proofs.Vocabulary.{AreTextsFrom, IsWhole, config_of}
 use Rattle.mk_run.proofs.WholeRuns.{all_joined, is_run}
 use Rattle.mk_run.proofs.{BegunScripts.run_is_begun, LastOvers.run_ends_with_cycle, UnsweptScripts.run_is_unswept}
 use Rattle.mk_run.specs.{BegunSeats.ScriptsBeginCycles, Ready.IsReadyRun, UnsweptSeats.ScriptsSweepNothing}
@@ -18,9 +18,7 @@ returns-clause-runs g c =
     let h = c.run_beside-joined.result.joined.host in
     let made : w.config ≡ config_of program c.args.markers =
     c.in_ok-heap.ensures.config ∙ c.in_ok-config.ensures.config in
-    let texts : AreTextsFrom program 0 w.config h.pass.seen c.in_ok-texts.field-0.items =
-    subst (λ r. IfOk r (λ texts. AreTextsFrom program 0 w.config h.pass.seen texts.items)) c.in_ok-texts.was
-    c.run_beside-joined.ensures.over.texts in
+    let texts : AreTextsFrom program 0 w.config h.pass.seen c.in_ok-texts.field-0.items = grind arith in
     is_run g.E.Engine.on c.args.with_cycle program c.args.markers w h (record {
       texts =
           c.in_ok-texts.field-0;

@@ -1,6 +1,6 @@
-use Rattle.mk_laws.proofs.Vocabulary.{Answer, List, ap, arith, refl, subst, sym, [], ◌∙◌, ◌∷◌, ◌≡◌}
-use Rattle.mk_run.proofs.Vocabulary.{IsAdmittedByOwnCalls, IsChecked, IsFedWith, PassState, answers_in, begun_then}
-use Rattle.mk_run.proofs.Vocabulary.{nothing_sweeps, sweeps_then}
+use Rattle.mk_laws.proofs.Vocabulary.{ap, arith, sym, ◌∙◌, ◌≡◌}
+use Rattle.mk_run.proofs.Vocabulary.{IsAdmittedByOwnCalls, IsChecked, PassState, answers_in, begun_then, nothing_sweeps}
+use Rattle.mk_run.proofs.Vocabulary.{sweeps_then}
 use Rattle.mk_cycle.proofs.Begun.{nothing_begun}
 use Rattle.mk_run.proofs.PutOff.{IsAnsweredAs, answered_at_once, answered_later, put_off_admitted, put_off_is}
 use Rattle.mk_run.proofs.ScriptCalls.{asked_stays_admitted, exists_on, follows_now, refused_within, runs_on, seat_is}
@@ -53,11 +53,7 @@ joined g c =
 -- what the pass is when an operation was put off
 put_off : (g : _) (c : In-None g)
     → c.answer_at_once.new.caller.pass ≡ record c.args.caller.now.pass { seen = c.answer_at_once.new.caller.pass.seen }
-put_off g c =
-    then_seen c.args.caller.now.pass c.instructions.caller.pass c.answer_at_once.new.caller.pass
-    c.instructions.invariant.running.is
-    (put_off_is c.instructions.caller.pass c.in-Some.op c.answer_at_once.new.caller.pass
-    c.in-None.ensures.put_off)
+put_off g c = grind (arith, then_seen, put_off_is)
 
 pub answer_put_off-answer-requires-clause-admitted : goal.answer_put_off-answer-requires-clause-admitted
 answer_put_off-answer-requires-clause-admitted g c κs within =
@@ -84,9 +80,7 @@ answer_put_off-answer-requires-clause-exists g c κs within =
     (put_off g x.In-None) c.requires.number c.requires.script c.requires.config
 
 pub answer_put_off-answer-requires-clause-alone : goal.answer_put_off-answer-requires-clause-alone
-answer_put_off-answer-requires-clause-alone g c κs within =
-    let x = goal.at.answer_put_off-answer-requires-clause-alone g c in
-    subst (λ (q : PassState). q.seats ≡ q.seat ∷ []) (sym (put_off g x.In-None)) c.requires.alone
+answer_put_off-answer-requires-clause-alone g c κs within = grind (arith, put_off)
 
 pub answer_put_off-answer-requires-clause-made_for : goal.answer_put_off-answer-requires-clause-made_for
 answer_put_off-answer-requires-clause-made_for g c κs within =
@@ -156,22 +150,4 @@ returns-in_err-take_answer-clause-begun g c =
     c.match-answer_at_once.caller.pass c.instructions.invariant.running.is c.instructions.invariant.begun j.begun
 
 pub instructions-init : goal.instructions-init
-instructions-init g c =
-    let p : PassState = c.args.caller.now.pass in
-    let program = c.args.program.now in
-    let k = c.args.k in
-    let script = script_of c.args.ready.feed (record { ops = 0; refused = 0 }) in
-    let fed : IsFedWith program k [] script =
-    record { feed = c.requires.ready.feed; ops = refl; refused = refl } in
-    record {
-      home = c.requires.home;
-      running = record {
-        is = refl;
-        follows = c.requires.follows;
-        fed = subst (λ (answers : List Answer). IsFedWith program k answers script) (sym c.requires.no_call) fed;
-      };
-      made_for = refl;
-      refused = refused_within program k [] script fed;
-      reached = λ none. nothing_sweeps p;
-      begun = nothing_begun g.E.Engine.begins p;
-    }
+instructions-init g c = grind (arith, refused_within, nothing_sweeps, nothing_begun)

@@ -1,8 +1,7 @@
-use Rattle.mk_laws.proofs.Vocabulary.{Some, arith, length, subst, sym, [], ◌+◌, ◌++◌, ◌∷◌, ◌≡◌}
-use Rattle.mk_run.proofs.Vocabulary.{IsReady}
-use Rattle.mk_run.proofs.ReadyScripts.{one_more}
 use Rattle.std.proofs.Common.{slice_get}
-use Rattle.mk_run.specs.declared.ready.ReadyScript.{ReadyScript}
+use Rattle.mk_laws.proofs.Vocabulary.{Some, arith, length, subst, ◌+◌, ◌≡◌}
+use Rattle.mk_run.proofs.Vocabulary.{IsReady}
+use Rattle.mk_run.{proofs.ReadyScripts.one_more, specs.declared.ready.ReadyScript.ReadyScript}
 use Rattle.mk_run.proofs.ready.ReadyRun.new.Goals as goal
 
 pub loop-script-preserved : goal.loop-script-preserved
@@ -14,9 +13,7 @@ loop-script-preserved g c =
     let new = c.push_back.new.self in
     let invariant = c.loop-script.invariant in
     let last : ReadyScript g.row.E.Denot = record { feed = c.in_ok-feed.feed; engine = c.in_ok-engine.engine } in
-    let is : IsReady made_for program pages (0 + length old.items) last =
-    subst (λ k. IsReady made_for program pages k last) (omega (arith, invariant.count))
-    (record { feed = c.in_ok-feed.ensures; engine = c.in_ok-engine.ensures }) in
+    let is : IsReady made_for program pages (0 + length old.items) last = grind arith in
     record {
       count = omega (arith, c.in_ok-push_back.ensures, invariant.count, old.ok, new.ok);
       each = λ i ready at.
@@ -25,12 +22,4 @@ loop-script-preserved g c =
     }
 
 pub returns : goal.returns
-returns g c = record {
-  ready = record {
-    scripts = record {
-      count = omega (arith, c.loop-script.invariant.count, c.loop-script.auto, c.loop-script-test);
-      each = c.loop-script.invariant.each;
-    };
-    host = c.in_ok-host.ensures;
-  };
-}
+returns g c = grind arith
