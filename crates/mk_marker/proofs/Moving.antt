@@ -35,8 +35,17 @@ itself s seats x has = (has ∙ sym (same_self s), tt)
 pub did_step : (p : PassState) (s : Step) (n : ℕ) (q : PassState) → Finds p s n q
     → Did p (finding p.seat s n ∷ []) q
 did_step p s n q f =
-    grind (arith, own_before, append_assoc, own_or_others_in_parts, others_are_so, itself, done_in_parts, none_own,
-    one_own)
+    grind (
+      arith,
+      own_before,
+      append_assoc,
+      own_or_others_in_parts,
+      others_are_so,
+      itself,
+      done_in_parts,
+      none_own,
+      one_own,
+    )
 
 -- who attends is a marker
 pub attends_there : (m : Moment) (s : Seat) → is_attending (marker_at m s).presence ≡ true → Attends m s
@@ -170,5 +179,5 @@ blackened p page k q makes of lt few =
     (bit_or (slice_index w.now.words.blacks page) (bit_for k))) page) k ≡ true =
     bits_added w.now.words.blacks page (bit_for k) k (omega (arith, len.blacks, lt)) (bit_for_has k few) in
     let black : has_bit (slice_index (world_behind c w (event_of p Step.Mblack)).now.words.blacks page) k ≡ true =
-        grind arith in
+    grind arith in
     subst (λ (v : World). has_bit (slice_index v.now.words.blacks page) k ≡ true) (sym d.world) black

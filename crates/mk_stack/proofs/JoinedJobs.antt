@@ -137,7 +137,7 @@ one_joined {w} {first} {k} jobs {others} {worked} {joined} all one rest is own c
       of_others = others_own h.pass.seats (Caller j) own.more (rest.seats j le lt) own.of_others;
     } in
     let has : (j : ℕ) → k ≤ j → j < k + length (jobs ∷ others) → Has (h.pass.seats ++ p.seats) (Caller j) =
-        grind (arith, has_right, has_first, has_left, same_or_later) in
+    grind (arith, has_right, has_first, has_left, same_or_later) in
     record {
       table = ap (λ (x : HostState). x.pass.table) is ∙ rest.table;
       seat = ap (λ (x : HostState). x.pass.seat) is ∙ rest.seat;
