@@ -5,6 +5,7 @@ mod books;
 mod conditions;
 mod cycles;
 mod geometry;
+mod marked_cycles;
 mod memory;
 mod paces;
 mod texts;
