@@ -64,13 +64,7 @@ calls_of-done (Choice number first second rest) done = absurd (false≢true done
 left_then : {n : ℕ} {before fed : Fed} (go : Fed → Fed) (rest : Blocks) → IsLeft n before fed → HasNoIf rest
     → ((f : Fed) → IsLeft (calls_of rest) f (go f)) → (test : Bool) → is_end_of_block fed.left ≡ test
     → IsLeft (n + calls_of rest) before (if test then go fed else record fed { left = followed_by fed.left rest })
-left_then {fed} go rest is plain goes true done =
-    let behind = goes fed in
-    record {
-      ops = behind.ops ∙ is.ops;
-      calls_are = omega (arith, behind.calls_are, is.calls_are, calls_of-done fed.left done);
-      plain = behind.plain;
-    }
+left_then {fed} go rest is plain goes true done = grind (arith, calls_of-done)
 left_then {fed} go rest is plain goes false done = record {
   ops = is.ops;
   calls_are = calls_of-followed_by fed.left rest ∙ ap (λ calls. calls + calls_of rest) is.calls_are;
@@ -101,11 +95,7 @@ module _ (scope : Scope) where
       → IsLeft (calls_of rest) (run_line scope fed item) after → (test : Bool) → test ≡ is_call item
       → IsLeft (calls_of (Line line item rest)) fed (if test then record fed { left = Line line item rest } else after)
   line_left line item rest fed after plain behind true is = record { ops = refl; calls_are = refl; plain = plain }
-  line_left line item rest fed after plain behind false is = record {
-    ops = behind.ops ∙ ap length (line_keeps fed item);
-    calls_are = behind.calls_are ∙ rw (sym is) (omega arith);
-    plain = behind.plain;
-  }
+  line_left line item rest fed after plain behind false is = grind (arith, line_keeps)
 
   run_left : (b : Blocks) → HasNoIf b → (fed : Fed) → IsLeft (calls_of b) fed (run scope b fed)
   run_left Done plain fed = record { ops = refl; calls_are = refl; plain = tt }

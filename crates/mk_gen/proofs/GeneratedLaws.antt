@@ -1,11 +1,10 @@
 -- What the generated programs are.
 use Rattle.std.proofs.Common.{map}
 use Rattle.mk_gen.proofs.Vocabulary.{Item, List, Number, Ok, ℕ, ap, arith, blocks_from, count_of_numbers}
-use Rattle.mk_gen.proofs.Vocabulary.{generated_text, program_of, refl, replicate, script_body, subst, suc, sym}
-use Rattle.mk_gen.proofs.Vocabulary.{turns_of, zero, [], ◌*◌, ◌+◌, ◌∙◌, ◌∷◌, ◌≡◌, ◌≤◌}
+use Rattle.mk_gen.proofs.Vocabulary.{generated_text, program_of, refl, replicate, script_body, suc, turns_of, zero, []}
+use Rattle.mk_gen.proofs.Vocabulary.{◌*◌, ◌+◌, ◌∷◌, ◌≡◌, ◌≤◌}
 use Rattle.mk_never.specs.declared.types.Kind.TheVariants.{Num, To}
-use Rattle.mk_check.specs.Laws.{IsChecked, IsScript}
-use Rattle.mk_check.specs.{Blocks.script_of, Declarations.kind_of, Feeding.script_scope, Lengths.length_of}
+use Rattle.mk_check.specs.{Blocks.script_of, Declarations.kind_of, Laws.IsChecked, Laws.IsScript, Lengths.length_of}
 use Rattle.mk_gen.proofs.Calls.{HasNoIf, calls_of, ended_calls}
 use Rattle.mk_gen.proofs.{ReadText.program_of-generated_text, TypedProgram.generated_is_well_typed}
 use Rattle.mk_gen.specs.Generated.{buf, generated_program, node}
@@ -51,15 +50,7 @@ body_has_no_if line turns number place = (tt, tt)
 body_makes_turns : (program : List Item) (k line turns number place : ℕ) → (script_of program k).line ≡ line
     → (script_of program k).items ≡ script_body turns number place → MakesTurns program k turns
 body_makes_turns program k line turns number place starts is =
-    let body = blocks_from line (script_body turns number place) in
-    let script = script_of program k in
-    let blocks : blocks_from script.line script.items ≡ body = rw (starts, is) refl in
-    let plain = subst HasNoIf (sym blocks) (body_has_no_if line turns number place) in
-    record {
-      instructions = ap length_of blocks ∙ body_instructions line turns number place;
-      calls = λ answers ended. ended_calls (script_scope program k) script answers plain ended
-          ∙ ap calls_of blocks ∙ body_calls line turns number place;
-    }
+    grind (arith, body_has_no_if, body_instructions, ended_calls, calls_of, body_calls)
 
 pub generated_makes_turns : (start count k : ℕ) → IsScript (generated_program start count) k
     → MakesTurns (generated_program start count) k (turns_of count)

@@ -2,11 +2,10 @@
 use Rattle.std.proofs.Common.{length-append, nat_eq, not, ◌&&◌}
 use Rattle.std.proofs.lemmas.Fmt.{length-decimal-le}
 use Rattle.std.proofs.{lemmas.Bool.not-true, lemmas.List.Elements.All-weaker, lemmas.List.Sums.AllPass-from_list_all}
-use Rattle.std.specs.List.{All, list_all}
+use Rattle.std.specs.List.{list_all}
 use Rattle.mk_gen.proofs.Vocabulary.{Bool, Item, List, Ok, Script, ℕ, and_parts, ap, append-nil, arith, body_lines}
 use Rattle.mk_gen.proofs.Vocabulary.{checked_item, codes, decimal, false, leb-true, length, line_item, nat_le, refl}
-use Rattle.mk_gen.proofs.Vocabulary.{script_body, subst, sym, true, words_of_line, [], ◌++◌, ◌<◌, ◌^◌, ◌and◌, ◌∙◌, ◌∷◌}
-use Rattle.mk_gen.proofs.Vocabulary.{◌≡◌, ◌≤◌}
+use Rattle.mk_gen.proofs.Vocabulary.{script_body, sym, true, words_of_line, [], ◌++◌, ◌<◌, ◌^◌, ◌and◌, ◌∷◌, ◌≡◌, ◌≤◌}
 use Rattle.mk_gen.proofs.ReadLines.{AreRead, IsRead}
 use Rattle.mk_script.proofs.LineWords.{AreWords, is_word-decimal, without_newline, words_of-joined}
 use Rattle.mk_script.proofs.PrintedForms.{read_number}
@@ -34,13 +33,7 @@ plain {before} {line} {item} says passes whole =
 pub by_words : {before : List Item} {line : List ℕ} {item : Item} (words : List (List ℕ)) → line ≡ joined_words words
     → AreWords words
     → line_item before words ≡ Ok item → checked_item before item ≡ Ok item → length line ≤ 40 → IsRead before line item
-by_words {before} {line} {item} words is apart says passes short = record {
-  says = ap (λ text. line_item before (words_of_line text)) is
-      ∙ ap (line_item before) (words_of-joined words apart) ∙ says;
-  passes = passes;
-  is_whole = subst (All (λ byte. nat_eq byte 10 ≡ false)) (sym is) (without_newline words apart);
-  is_short = short;
-}
+by_words {before} {line} {item} words is apart says passes short = grind (arith, words_of-joined, without_newline)
 
 pub length-decimal : (n : ℕ) → n < 2 ^ 64 → length (decimal n) ≤ 20
 length-decimal n small = length-decimal-le 20 n (omega arith) (omega arith) small

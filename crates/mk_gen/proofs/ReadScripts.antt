@@ -4,11 +4,11 @@ use Rattle.std.proofs.{Math.Nat.mod-lt, lemmas.Bool.not-true, lemmas.List.Sums.f
 use Rattle.mk_gen.proofs.Vocabulary.{Bool, Item, List, Ok, Script, ℕ, and_parts, ap, append-nil, arith, body_lines}
 use Rattle.mk_gen.proofs.Vocabulary.{codes, draw, false≢true, leb-true, length, line_item, lines_of_scripts, nat_le}
 use Rattle.mk_gen.proofs.Vocabulary.{next_state, refl, script_body, scripts, sym, true, [], ◌++◌, ◌+◌, ◌<◌, ◌^◌, ◌and◌}
-use Rattle.mk_gen.proofs.Vocabulary.{◌∙◌, ◌∷◌, ◌≡◌, ◌≤◌}
+use Rattle.mk_gen.proofs.Vocabulary.{◌∷◌, ◌≡◌, ◌≤◌}
 use Rattle.mk_gen.proofs.ReadLines.{AreRead, AreRead-append, IsRead}
 use Rattle.mk_gen.proofs.{InScript.AreRead-alike, InScript.alike_at_first, ReadBody.body_is_read, ReadBody.by_words}
 use Rattle.mk_script.proofs.{PrintedForms.read_name, Said.is_word-name}
-use Rattle.mk_script.specs.Scopes.{open_behind, open_blocks, script_names}
+use Rattle.mk_script.specs.Scopes.{open_blocks, script_names}
 use Rattle.mk_script.specs.{Lines.is_among, Names.is_name, Operands.item_from, ScopeOf.has_lines}
 
 -- lines with these scripts, after which another may begin
@@ -58,11 +58,7 @@ module _ (turns number place : ℕ) where
 
   ready_behind : (before : List Item) (names : List (List ℕ)) (name : List ℕ) → AreReady before names
       → AreReady (before ++ script_items name) (names ++ name ∷ [])
-  ready_behind before names name ready = record {
-    some = has_lines-append before (script_items name) ready.some;
-    names_are = script_names-append before (script_items name) ∙ ap (λ others. others ++ name ∷ []) ready.names_are;
-    closed = fold-append open_behind [] before (script_items name);
-  }
+  ready_behind before names name ready = grind (arith, has_lines-append, script_items, script_names-append, fold-append)
 
   script_is_read : turns < 2 ^ 64 → number < 2 ^ 64 → place < 2 ^ 64
       → (before : List Item) (names : List (List ℕ)) (name : List ℕ)

@@ -1,8 +1,8 @@
 -- The lines of a script after its name line are well typed.
 use Rattle.std.proofs.lemmas.List.{get_or-replicate, length-replicate}
 use Rattle.std.proofs.{Common.slice_get, lemmas.Option.slice_get_read}
-use Rattle.mk_gen.proofs.Vocabulary.{Item, List, Number, Some, ℕ, arith, declarations, refl, replicate, script_body}
-use Rattle.mk_gen.proofs.Vocabulary.{sym, [], ◌++◌, ◌+◌, ◌<◌, ◌and◌, ◌≡◌}
+use Rattle.mk_gen.proofs.Vocabulary.{Item, List, Some, ℕ, arith, declarations, replicate, script_body, sym, [], ◌++◌}
+use Rattle.mk_gen.proofs.Vocabulary.{◌+◌, ◌<◌, ◌≡◌}
 use Rattle.mk_gen.proofs.TypedLines.{AreTyped, typed}
 
 slice_get-replicate : {A : Type 0} (n i : ℕ) (x : A) → i < n → slice_get (replicate n x) i ≡ Some x
@@ -11,25 +11,4 @@ slice_get-replicate n i x inside =
 
 pub body_is_typed : (numbers turns number place : ℕ) (rest : List Item) → place < numbers
     → AreTyped (declarations numbers ++ rest) [] (script_body turns number place)
-body_is_typed numbers turns number place rest inside =
-    typed refl refl
-    and typed refl refl
-    and typed refl refl
-    and typed refl (rw (slice_get-replicate numbers 0 Number (omega (arith, inside))) refl)
-    and typed refl refl
-    and typed refl refl
-    and typed refl refl
-    and typed refl refl
-    and typed refl refl
-    and typed refl refl
-    and typed refl refl
-    and typed refl refl
-    and typed refl refl
-    and typed refl refl
-    and typed refl (rw (slice_get-replicate numbers (0 + place) Number (omega (arith, inside))) refl)
-    and typed refl refl
-    and typed refl refl
-    and typed refl refl
-    and typed refl refl
-    and typed refl refl
-    and tt
+body_is_typed numbers turns number place rest inside = grind (arith, typed, slice_get-replicate)

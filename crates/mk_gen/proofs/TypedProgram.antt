@@ -25,10 +25,7 @@ length_fault-none count small = rw (le-leb count 1000000 small) refl
 -- the first line of a script
 first_is_typed : (a : Around) (line turns number place : ℕ) (more : List Item) (name : List ℕ) → turns ≤ 62500
     → before_next_script more ≡ [] → typing_fault a line (script_body turns number place ++ more) (Script name) ≡ None
-first_is_typed a line turns number place more name few none =
-    let short : length_of (blocks_from (line + 1) (script_body turns number place)) ≤ 1000000 =
-    omega (arith, body_is_short (line + 1) turns number place few) in
-    rw none (length_fault-none (length_of (blocks_from (line + 1) (script_body turns number place))) short)
+first_is_typed a line turns number place more name few none = grind (arith, body_is_short, length_fault-none)
 
 module _ (turns numbers : ℕ) (rest : List Item) (few : turns ≤ 62500) (some : 0 < numbers) where
   program : List Item

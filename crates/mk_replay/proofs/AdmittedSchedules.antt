@@ -1,7 +1,7 @@
 -- The history that a schedule makes of a checked program asks for nothing that isn't admitted, so it is a history of
 -- the program's heap, and keeps all promises.
 use Rattle.std.proofs.lemmas.List.Elements.{All-nil, All-push, filter-append}
-use Rattle.std.proofs.{Common.All, Common.filter, lemmas.List.get_or-replicate, lemmas.List.Sums.sum_by_push}
+use Rattle.std.proofs.{Common.All, lemmas.List.get_or-replicate, lemmas.List.Sums.sum_by_push}
 use Rattle.mk_replay.proofs.Vocabulary.{Answer, AreEnabled, Caller, Config, Decided, Entry, Event, Flight, Item, Moment}
 use Rattle.mk_replay.proofs.Vocabulary.{Op, Stage, Step, answer_decided, answers_given, asked, at_rest, calls}
 use Rattle.mk_replay.proofs.Vocabulary.{comes_next, config_of, ends_call, entry_of, event_of_entry, first_world}
@@ -9,8 +9,8 @@ use Rattle.mk_replay.proofs.Vocabulary.{flight_of, history_of, is_same_seat, lef
 use Rattle.mk_laws.proofs.Vocabulary.{Bool, Host, IsHistory, List, Marker, None, Option, Seat, Some, World, ℕ, ap}
 use Rattle.mk_laws.proofs.Vocabulary.{append-nil, append_assoc, arith, call_decided, cases_eq, enabled_meets}
 use Rattle.mk_laws.proofs.Vocabulary.{enabled_parts, eq-eqb, false, found, get_or, get_or-set_other, get_or-set_same}
-use Rattle.mk_laws.proofs.Vocabulary.{if◌then◌else◌, inl, inr, left_more, length, ltb-true, map, map-append, refl}
-use Rattle.mk_laws.proofs.Vocabulary.{subst, sym, true, [], ◌&&◌, ◌++◌, ◌+◌, ◌<◌, ◌==◌, ◌∙◌, ◌∷◌, ◌≡◌, ◌≢◌}
+use Rattle.mk_laws.proofs.Vocabulary.{if◌then◌else◌, inl, inr, left_more, length, ltb-true, map-append, refl, subst}
+use Rattle.mk_laws.proofs.Vocabulary.{sym, true, [], ◌&&◌, ◌++◌, ◌+◌, ◌<◌, ◌==◌, ◌∙◌, ◌∷◌, ◌≡◌, ◌≢◌}
 use Rattle.mk_core.proofs.Histories.{calls_more, last_enabled}
 use Rattle.mk_core.specs.{Effects.flights_behind, History.calls_from, History.left_from, Order.is_in_order}
 use Rattle.mk_laws.{proofs.Promises.histories_keep_all_promises, specs.Promises.KeepsAllPromises}
@@ -25,10 +25,7 @@ use Rattle.mk_script.{proofs.PassedLines.is_whole, specs.Scopes.script_names}
 -- What one event more makes of a caller's answers, and of the count of its calls that ended.
 
 among_more : (k : ℕ) (xs ys : List Decided) → answers_among k (xs ++ ys) ≡ answers_among k xs ++ answers_among k ys
-among_more k xs ys =
-    ap (map (λ (x : Decided). x.answer)) (filter-append (λ (x : Decided). x.caller == k) xs ys)
-    ∙ map-append (λ (x : Decided). x.answer) (filter (λ (x : Decided). x.caller == k) xs)
-    (filter (λ (x : Decided). x.caller == k) ys)
+among_more k xs ys = grind (arith, filter-append, map-append)
 
 is_same : (j : ℕ) → (j == j) ≡ true
 is_same j = eq-eqb j j refl
@@ -38,21 +35,11 @@ is_other j k other = grind (arith, nat_tests)
 
 own_among : (k : ℕ) (xs : List Decided) (o : Op) (a : Option Answer)
     → answers_among k (xs ++ entry_of k o a) ≡ answers_among k xs ++ as_list a
-own_among k xs o a = among_more k xs (entry_of k o a) ∙ ap (λ (ys : List Answer). answers_among k xs ++ ys) (here a)
-  where
-    here : (b : Option Answer) → answers_among k (entry_of k o b) ≡ as_list b
-    here (Some b) = rw (is_same k) refl
-    here None = refl
+own_among k xs o a = grind (arith, among_more, as_list, is_same)
 
 others_among : (k j : ℕ) (xs : List Decided) (o : Op) (a : Option Answer) → j ≢ k
     → answers_among k (xs ++ entry_of j o a) ≡ answers_among k xs
-others_among k j xs o a other =
-    among_more k xs (entry_of j o a)
-    ∙ (ap (λ (ys : List Answer). answers_among k xs ++ ys) (there a) ∙ append-nil (answers_among k xs))
-  where
-    there : (b : Option Answer) → answers_among k (entry_of j o b) ≡ []
-    there (Some b) = rw (is_other j k other) refl
-    there None = refl
+others_among k j xs o a other = grind (arith, among_more, append-nil, is_other)
 
 ended_more : (es : List Event) (e : Event) (k : ℕ)
     → ended_calls k (es ++ e ∷ []) ≡ counted (ended_calls k es) (ends_call_of k e)
@@ -162,9 +149,7 @@ module _ (program : List Item) (es : List Event) where
   silent_more e k still none other h =
       let n = ended_calls k es in
       let all = answers_among k (calls c es) in
-      let same : calls c (es ++ e ∷ []) ≡ calls c es =
-      calls_more c (first_world c) es e
-      ∙ (ap (λ (xs : List Decided). calls c es ++ xs) none ∙ append-nil (calls c es)) in
+      let same : calls c (es ++ e ∷ []) ≡ calls c es = grind (arith, calls_more, append-nil) in
       same_asks program k (flight_of m (Caller k)) _ n _ all _ (asked (calls c es)) _
       (flight_behind e k ∙ ap (λ (fs : List Flight). get_or fs k at_rest) still)
       (ended_more es e k ∙ ap (λ (b : Bool). counted n (b && ends_call e.step)) other)
@@ -179,10 +164,7 @@ module _ (program : List Item) (es : List Event) where
 
   callers_more : (e : Event) → call_decided c m e ≡ [] → All (λ call. IsScript program call.caller) (asked (calls c es))
       → All (λ call. IsScript program call.caller) (asked (calls c (es ++ e ∷ [])))
-  callers_more e none h =
-      subst (All (λ call. IsScript program call.caller))
-      (sym (asked_behind e
-      ∙ (ap (λ (xs : List Decided). asked (calls c es) ++ asked xs) none ∙ append-nil (asked (calls c es))))) h
+  callers_more e none h = grind (arith, asked_behind, append-nil)
 
   one_more : (seat : Seat) (s : Step) → AreEnabled c (es ++ record { seat = seat; step = s } ∷ [])
       → ((k : ℕ) → seat ≡ Caller k → BeginsAsAsked program k (answers_given c es k) s)

@@ -112,9 +112,7 @@ module _ (program : List Item) (k : ℕ) (f : Flight) (n : ℕ) (answers : List 
   quiet : (new : Flight) (i : ℕ)
       → (length answers ≡ i → new.stage ≢ Stage.Idle → next_op program k answers ≡ Some new.op)
       → Asks program k new i (answers ++ []) (calls ++ [])
-  quiet new i next =
-      same_asks program k new new i i answers (answers ++ []) calls (calls ++ []) refl refl (append-nil answers)
-      (append-nil calls) (record { noted = h.noted; next = next })
+  quiet new i next = grind (arith, same_asks, append-nil)
 
   -- after one that isn't its call's first or last one
   decides : (new : Flight) (a : Option Answer) → new.op ≡ f.op → f.stage ≢ Stage.Idle
@@ -161,9 +159,6 @@ module _ (program : List Item) (k : ℕ) (f : Flight) (n : ℕ) (answers : List 
   -- another's call, if one is decided
   pub others_step : (j : ℕ) (o : Op) (a : Option Answer) → j ≢ k
       → Asks program k f n answers (calls ++ asked (entry_of j o a))
-  others_step j o (Some a) other = record {
-    noted = others_are_ignored program k answers calls h.noted _ other;
-    next = h.next;
-  }
+  others_step j o (Some a) other = grind (arith, others_are_ignored)
   others_step j o None other = same_asks program k f f n n answers answers calls (calls ++ []) refl refl refl
       (append-nil calls) h

@@ -53,12 +53,4 @@ pub two_parts : (lines : List (Bor (List ℕ))) (text : List ℕ) {place : ℕ} 
     → replay_of text ≡ with_schedule (program_of (take end text))
     (entries_of_lines (place + 2) (texts_of (take (length lines - (place + 1)) (drop (place + 1) lines))))
 two_parts lines text {place} end short are stands ends =
-    let end_is : end ≡ text_length (take place (lines_of text)) = ends ∙ ap text_length (taken lines text place are) in
-    replay_short text short
-    ∙ ap (λ program. with_schedule program
-    (schedule_behind (length (script_lines (lines_of text))) (schedule_lines (lines_of text))))
-    (sym (program_before text place short stands))
-    ∙ ap (λ size. with_schedule (program_of (take size text))
-    (schedule_behind (length (script_lines (lines_of text))) (schedule_lines (lines_of text)))) (sym end_is)
-    ∙ ap (with_schedule (program_of (take end text))) (entries_behind stands
-    ∙ ap (entries_of_lines (place + 2)) (sym (dropped lines text (place + 1) are)))
+    grind (arith, taken, replay_short, program_before, entries_behind, dropped)

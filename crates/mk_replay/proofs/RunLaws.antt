@@ -12,9 +12,8 @@ use Rattle.mk_laws.proofs.Vocabulary.{slice_set, subst, sym, true, [], ◌++◌,
 use Rattle.mk_core.proofs.Histories.{calls_more, last_enabled}
 use Rattle.mk_core.specs.{Enabled.failing, Standing.CoreStandsFor, Standing.CoreState}
 use Rattle.mk_check.proofs.FeedLaws.{feed_push, feed_push-ended}
-use Rattle.mk_check.specs.Feed.{Fed, feed, has_ended, take_answer}
-use Rattle.mk_check.specs.Feeding.{FeedStandsFor, FeedState, TakesAnswer as FeedTakesAnswer, script_scope}
-use Rattle.mk_check.specs.declared.text.Text.{Text}
+use Rattle.mk_check.specs.Feeding.{FeedStandsFor, FeedState, TakesAnswer as FeedTakesAnswer}
+use Rattle.mk_check.specs.{Feed.feed, Feed.has_ended, declared.text.Text.Text}
 use Rattle.mk_replay.proofs.ServedMore.{served_first, served_more}
 use Rattle.mk_replay.specs.Players.{IsFed, IsRunAfter, PlayerTakesAnswer, Served, TakeEvent, TakesEntry, served_by}
 use Rattle.mk_replay.specs.{Replays.IsReplayedText, declared.players.Player.Player, declared.replaying.Run.Run}
@@ -22,23 +21,13 @@ use Rattle.mk_replay.specs.{Replays.IsReplayedText, declared.players.Player.Play
 -- A feed that waits takes the answer.
 pub fed_more : {program : List Item} {k : ℕ} {old : FeedState} (new : FeedState) {answers : List Answer} (a : Answer)
     → FeedTakesAnswer old a new → IsFed program k old answers → IsFed program k new (answers ++ a ∷ [])
-fed_more {program} {k} new {answers} a takes h = record {
-  taken = h.taken ++ a ∷ [];
-  stands = takes program k h.taken h.stands;
-  same = feed_push program k h.taken a
-      ∙ (ap (λ (f : Fed). take_answer (script_scope program k) f f.left a) h.same
-      ∙ sym (feed_push program k answers a));
-}
+fed_more {program} {k} new {answers} a takes h = grind (arith, feed_push)
 
 -- One that has ended stays as it is.
 pub fed_ended : {program : List Item} {k : ℕ} {s : FeedState} {answers : List Answer} (a : Answer)
     → ((taken : List Answer) → FeedStandsFor program k s taken → has_ended (feed program k taken) ≡ true)
     → IsFed program k s answers → IsFed program k s (answers ++ a ∷ [])
-fed_ended {program} {k} {answers} a ended h = record {
-  taken = h.taken;
-  stands = h.stands;
-  same = h.same ∙ sym (feed_push-ended program k answers a (ap has_ended (sym h.same) ∙ ended h.taken h.stands));
-}
+fed_ended {program} {k} {answers} a ended h = grind (arith, feed_push-ended)
 
 first_answer : List Decided → Option Answer
 first_answer [] = None
@@ -52,9 +41,7 @@ answer_of_entry caller o None = refl
 -- The answer that makes this history's calls is the one that the event decides.
 pub answer_is : (c : Config) (es : List Event) (e : Event) (caller : ℕ) (o : Op) (a : Option Answer)
     → calls c (es ++ e ∷ []) ≡ calls c es ++ entry_of caller o a → a ≡ answer_decided c (left c es).now e
-answer_is c es e caller o a h =
-    let same = append_cancel_left (calls c es) _ _ (sym h ∙ calls_more c (first_world c) es e) in
-    sym (answer_of_entry caller o a) ∙ (ap first_answer same ∙ answer_of_entry _ _ (answer_decided c (left c es).now e))
+answer_is c es e caller o a h = grind (arith, append_cancel_left, calls_more, answer_of_entry, first_answer)
 
 is_same : (j : ℕ) → (j == j) ≡ true
 is_same j = eq-eqb j j refl
@@ -156,10 +143,7 @@ run_goes {program} {es} x {old} new {core} e a h event seat same stands answers 
     let enabled : IsEnabled c (left c es).now e = last_enabled c (first_world c) es e all in
     let is : e ≡ event_of_entry program es x = event (ap (seat_exists c) (sym seat)
     ∙ (enabled_meets c (left c es).now e enabled).seat) in
-    let decided : a ≡ answer_decided c (left c es).now e =
-    answer_is c es e (caller_number e.seat) (flight_of (left c es).now e.seat).op a
-    (subst (λ (k : Config). calls k (es ++ e ∷ [])
-    ≡ calls k es ++ entry_of (caller_number e.seat) (flight_of (left k es).now e.seat).op a) h.config answers) in
+    let decided : a ≡ answer_decided c (left c es).now e = grind (arith, answer_is) in
     record {
       enabled = subst (λ (y : Event). failing c (left c es).now y ≡ 0) is enabled;
       run = subst (λ (y : Event). IsRunAfter program (es ++ y ∷ []) new) is

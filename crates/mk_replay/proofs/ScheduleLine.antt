@@ -1,7 +1,7 @@
 -- The first line whose only word is `schedule`, and the lines before it and after it.
 use Rattle.mk_replay.proofs.Vocabulary.{is_schedule_line, position_from}
-use Rattle.mk_laws.proofs.Vocabulary.{Bool, List, None, Some, ℕ, ap, arith, cond, drop, false, refl, subst, suc, sym}
-use Rattle.mk_laws.proofs.Vocabulary.{true, [], ◌+◌, ◌∙◌, ◌∷◌, ◌≡◌}
+use Rattle.mk_laws.proofs.Vocabulary.{Bool, List, None, Some, ℕ, arith, cond, false, refl, subst, suc, sym, true, []}
+use Rattle.mk_laws.proofs.Vocabulary.{◌+◌, ◌∷◌, ◌≡◌}
 use Rattle.mk_replay.specs.{Reading.HasNone, Reading.StandsAt, Schedules.schedule_lines, Schedules.script_lines}
 
 -- where it is found, counted from a number on
@@ -17,13 +17,7 @@ here line lines is = record { inside = omega arith; before = rw is refl; behind 
 later : (line : List ℕ) {lines : List (List ℕ)} {place : ℕ} → is_schedule_line line ≡ false → StandsAt lines place
     → StandsAt (line ∷ lines) (suc place)
 unfolding script_lines schedule_lines
-later line {lines} {place} is first =
-    let one_more : suc (place + 1) ≡ suc place + 1 = omega arith in
-    record {
-      inside = omega (arith, first.inside);
-      before = rw is (ap (λ rest. line ∷ rest) first.before);
-      behind = rw is (first.behind ∙ ap (λ n. Some (drop n (line ∷ lines))) one_more);
-    }
+later line {lines} {place} is first = grind arith
 
 found_by : (line : List ℕ) (lines : List (List ℕ)) (from found : ℕ) (is : Bool) → is_schedule_line line ≡ is
     → (position_from is_schedule_line (from + 1) lines ≡ Some found → IsFound lines (from + 1) found)
@@ -54,9 +48,7 @@ none_by : (line : List ℕ) (lines : List (List ℕ)) (from : ℕ) (is : Bool) �
     → cond is (Some from) (position_from is_schedule_line (from + 1) lines) ≡ None → HasNone (line ∷ lines)
 unfolding script_lines schedule_lines
 none_by line lines from true is behind e = absurd cc
-none_by line lines from false is behind e =
-    let rest = behind e in
-    record { before = rw is (ap (λ rest. line ∷ rest) rest.before); behind = rw is rest.behind }
+none_by line lines from false is behind e = grind arith
 
 none_from : (lines : List (List ℕ)) (from : ℕ) → position_from is_schedule_line from lines ≡ None → HasNone lines
 unfolding script_lines schedule_lines

@@ -2,7 +2,7 @@
 use Rattle.std.proofs.lemmas.List.Splits.{length-slice_split, slice_split_at, slice_split_none}
 use Rattle.std.proofs.lemmas.List.Sums.{fails_before_first, passes_at_first, split_at_first}
 use Rattle.std.proofs.lemmas.Grind.{common_steps}
-use Rattle.std.specs.List.{All, after_first, before_first, position_or_len, slice_split}
+use Rattle.std.specs.List.{All, after_first, before_first, position_or_len}
 use Rattle.mk_replay.proofs.Vocabulary.{length-append, text_length}
 use Rattle.mk_laws.proofs.Vocabulary.{Bool, List, ℕ, ap, arith, cases_lt, false, get_or, if◌then◌else◌, inl, inr}
 use Rattle.mk_laws.proofs.Vocabulary.{length, refl, subst, suc, sym, take, true, zero, [], ◌++◌, ◌+◌, ◌<◌, ◌==◌, ◌∙◌}
@@ -25,9 +25,7 @@ behind_first piece (next ∷ pieces) some = refl
 -- the lines of a text that begins with a line and its newline
 lines_of_line : (line : List ℕ) (newline : ℕ) (text : List ℕ) → All (λ byte. is_newline byte ≡ false) line
     → is_newline newline ≡ true → lines_of (line ++ newline ∷ text) ≡ line ∷ lines_of text
-lines_of_line line newline text without is =
-    ap without_empty_last (slice_split_at is_newline line newline text without is)
-    ∙ behind_first line (slice_split is_newline text) (omega (arith, length-slice_split is_newline text))
+lines_of_line line newline text without is = grind (arith, slice_split_at, is_newline, behind_first, length-slice_split)
 
 -- the first line of a text that has a newline
 record BeginsWith (text : List ℕ) : Type 0 where
@@ -51,9 +49,7 @@ first_line text inside = record {
 
 take_line : (line : List ℕ) (newline : ℕ) (text : List ℕ) (size : ℕ)
     → take (length line + 1 + size) (line ++ newline ∷ text) ≡ line ++ newline ∷ take size text
-take_line [] newline text size =
-    let one_more : 0 + 1 + size ≡ suc size = omega arith in
-    ap (λ n. take n (newline ∷ text)) one_more
+take_line [] newline text size = grind arith
 take_line (byte ∷ line) newline text size =
     let one_more : length (byte ∷ line) + 1 + size ≡ suc (length line + 1 + size) = omega arith in
     ap (λ n. take n (byte ∷ (line ++ newline ∷ text))) one_more
@@ -75,14 +71,7 @@ at_most_one false line = omega arith
 
 -- a text without a newline has no line after its first
 one_line : (text : List ℕ) → length text ≤ position_or_len is_newline text → length (lines_of text) ≤ 1
-one_line text none =
-    let without : All (λ byte. is_newline byte ≡ false) text =
-    λ k d inside. fails_before_first is_newline text k d (omega arith) in
-    omega (
-      arith,
-      ap (λ pieces. length (without_empty_last pieces)) (slice_split_none is_newline text without),
-      at_most_one (length text == 0) text,
-    )
+one_line text none = grind (arith, is_newline, fails_before_first, slice_split_none, at_most_one)
 
 pub lines_before : (place : ℕ) (text : List ℕ) → place < length (lines_of text)
     → IsCut text (take place (lines_of text))

@@ -1,8 +1,8 @@
 -- A run after the first entries of a schedule.
 use Rattle.std.proofs.Common.{add-one, drop-cons}
 use Rattle.std.proofs.{Math.ListN.drop_of_length-le, lemmas.List.Sums.count_by-le-length}
-use Rattle.mk_replay.proofs.Vocabulary.{AreEnabled, Config, Entry, Event, Item, answers_given, config_of}
-use Rattle.mk_replay.proofs.Vocabulary.{event_of_entry, history_of, length-append, nat_tests}
+use Rattle.mk_replay.proofs.Vocabulary.{AreEnabled, Entry, Event, Item, answers_given, config_of, event_of_entry}
+use Rattle.mk_replay.proofs.Vocabulary.{history_of, length-append, nat_tests}
 use Rattle.mk_laws.proofs.Vocabulary.{List, None, Some, ℕ, ap, arith, drop, false, get_or, length, refl, subst, sym, []}
 use Rattle.mk_laws.proofs.Vocabulary.{◌++◌, ◌+◌, ◌<◌, ◌==◌, ◌∙◌, ◌∷◌, ◌≡◌, ◌≤◌}
 use Rattle.mk_check.{proofs.GivenAnswers.few_answers, specs.Feed.is_refusal}
@@ -75,12 +75,7 @@ next_under_way {program} {schedule} entries {n} d same lt h t =
 pub refused_here : {program : List Item} {schedule : List Entry} (entries : List Entry) {n : ℕ} {run : Run} (d : Entry)
     {stop : ReplayStop} → entries ≡ schedule → n < length entries → (h : IsUnderWay program schedule n run)
     → IsNotEnabled program h.events (get_or entries n d) stop → refusal_of program schedule ≡ Some stop
-refused_here {program} {schedule} entries {n} d same lt h t =
-    let x = get_or entries n d in
-    let condition = t.condition in
-    let no : (failing_entry program h.events x == 0) ≡ false = grind (arith, nat_tests) in
-    sym h.refusal ∙ (ap (refusal_from program h.events) (item_at schedule entries n d same lt)
-    ∙ (refusal_here program h.events x (drop (n + 1) schedule) no ∙ ap Some (sym t.says)))
+refused_here {program} {schedule} entries {n} d same lt h t = grind (arith, nat_tests, item_at, refusal_here)
 
 pub record IsOver (program : List Item) (schedule : List Entry) (run : Run) : Type 0 where
   pub is_run : IsRunAfter program (history_of program schedule) run
@@ -89,13 +84,4 @@ pub record IsOver (program : List Item) (schedule : List Entry) (run : Run) : Ty
 
 pub over : {program : List Item} {schedule : List Entry} (entries : List Entry) {n : ℕ} {run : Run}
     → entries ≡ schedule → length entries ≤ n → IsUnderWay program schedule n run → IsOver program schedule run
-over {program} {schedule} entries {n} {run} same le h =
-    let none : drop n schedule ≡ [] = drop_of_length-le schedule (subst (λ (xs : List Entry). length xs ≤ n) same le) in
-    let all : h.events ≡ history_of program schedule = sym (history_none program h.events)
-    ∙ (ap (history_from program h.events) (sym none) ∙ h.history) in
-    let is_run = subst (λ (es : List Event). IsRunAfter program es run) all h.is_run in
-    record {
-      is_run = is_run;
-      refusal = sym h.refusal ∙ (ap (refusal_from program h.events) none ∙ refusal_none program h.events);
-      enabled = subst (λ (c : Config). AreEnabled c (history_of program schedule)) is_run.config is_run.stands.enabled;
-    }
+over {program} {schedule} entries {n} {run} same le h = grind (arith, drop_of_length-le, history_none, refusal_none)

@@ -31,7 +31,7 @@ pub use Rattle.mk_words.proofs.Seats.{has_first, has_left, others_append, others
 pub use Rattle.mk_words.specs.Seats.{Has, HasCallers}
 pub use Rattle.mk_words.specs.States.{PassState, WordsState}
 pub use Rattle.mk_words.specs.TurnSteps.{turn_stays}
-pub use Rattle.mk_run.specs.Ready.{AreReadyFrom, IsReady}
+pub use Rattle.mk_run.specs.Ready.{AreReadyFrom, IsReadyScript}
 pub use Rattle.mk_run.specs.HostTurns.{HostComesLast}
 pub use Rattle.mk_run.specs.Joining.{AreTextsFrom, HasJoined, HasMade, IsFirstPass}
 pub use Rattle.mk_run.specs.LastTurns.{CallersAreStill, TakesLastTurns}

@@ -7,7 +7,7 @@ use Rattle.mk_run.specs.declared.ready.ReadyScript.{ReadyScript}
 use Rattle.mk_run.specs.declared.ready.ReadyRun.{ReadyRun}
 
 -- It is script k, which has no answer yet, with an engine made for so many pages.
-pub record IsReady {E : Type 0} (made_for : E → ℕ) (program : List Item) (pages k : ℕ) (ready : ReadyScript E)
+pub record IsReadyScript {E : Type 0} (made_for : E → ℕ) (program : List Item) (pages k : ℕ) (ready : ReadyScript E)
     : Type 0 where
   pub feed : FeedStandsFor program k ready.feed []
   pub engine : made_for ready.engine ≡ pages
@@ -18,7 +18,7 @@ pub record AreReadyFrom {E : Type 0} (made_for : E → ℕ) (program : List Item
   pub count : k + length scripts ≡ c.callers
   pub each :
       (i : ℕ) (ready : ReadyScript E) → slice_get scripts i ≡ Some ready
-      → IsReady made_for program c.pages (k + i) ready
+      → IsReadyScript made_for program c.pages (k + i) ready
 
 -- All scripts are ready, and so is the engine of the host.
 pub record IsReadyRun {E : Type 0} (made_for : E → ℕ) (program : List Item) (c : Config) (ready : ReadyRun E)

@@ -6,7 +6,7 @@ ghost use denote.Param.Send.{IsSend};
 ghost use Rattle.mk_check.specs.Laws.{IsScript};
 ghost use Rattle.mk_run.specs.BegunSeats.{CyclesOfAreBegun, ScriptsBeginCycles};
 ghost use Rattle.mk_run.specs.Joining.{IsFirstPass, HasMade, HasRun, AreJoined};
-ghost use Rattle.mk_run.specs.Ready.{AreReadyFrom, IsReady};
+ghost use Rattle.mk_run.specs.Ready.{AreReadyFrom, IsReadyScript};
 ghost use Rattle.mk_run.specs.UnsweptSeats.{ScriptsSweepNothing, SeatSweepsNothing};
 
 use crate::paces::Pace;
@@ -49,7 +49,7 @@ fn run_alone<E: Engine, P: Pace, R: Threads + Wait + Sync>(
 ) -> Ran
     requires script { IsScript run.now.program.now k }
     requires pass { IsFirstPass run.now.heap.now k pass }
-    requires ready { IsReady E.made_for run.now.program.now run.now.heap.now.config.pages k ready }
+    requires ready { IsReadyScript E.made_for run.now.program.now run.now.heap.now.config.pages k ready }
     ensures ran { HasRun E.on run.now.program.now run.now.heap.now k result }
     ensures reached { E.sweeps ≡ false
         → SeatSweepsNothing run.now.heap.now.config (seat.Caller k) result.pass.seen }
@@ -110,7 +110,7 @@ pub(crate) fn run_from<E: Engine + Send, P: Pace + Sync, R: Threads + Wait + Syn
             requires shared { IsSync R.row × IsSync P.row × IsSend E.row }
             requires script { IsScript run.now.program.now k }
             requires pass { IsFirstPass run.now.heap.now k pass }
-            requires ready { IsReady E.made_for run.now.program.now run.now.heap.now.config.pages k ready }
+            requires ready { IsReadyScript E.made_for run.now.program.now run.now.heap.now.config.pages k ready }
             ensures ran { HasRun E.on run.entry.now.program.now run.entry.now.heap.now k result }
             ensures reached { E.sweeps ≡ false
                 → SeatSweepsNothing run.entry.now.heap.now.config (seat.Caller k) result.pass.seen }

@@ -9,7 +9,7 @@ ghost use Rattle.mk_check.specs.Laws.{IsScript};
 ghost use Rattle.mk_caller.specs.States.{caller_of_pass};
 ghost use Rattle.mk_turns.specs.Sweeping.{SweepsNothing};
 ghost use Rattle.mk_cycle.specs.Begun.{EachIsBegun};
-ghost use Rattle.mk_run.specs.Ready.{IsReady};
+ghost use Rattle.mk_run.specs.Ready.{IsReadyScript};
 ghost use Rattle.mk_run.specs.Running.{answers_in, FollowsScript, EndsScript, IsTextOf};
 ghost use Rattle.mk_run.specs.Scripts.{CountsHaveRoom, IsFedWith, ScriptTakesAnswer, script_of};
 
@@ -101,7 +101,7 @@ pub fn run_script<E: Engine, P: Pace, R: Threads + Wait + Sync>(
     requires config { caller.old.pass.table.config ≡ config_of program.now caller.old.pass.table.config.markers }
     requires follows { FollowsScript E.on program.now k caller.old.pass.table.config caller.old.pass.seen }
     requires no_call { answers_in caller.old.pass.table.config k caller.old.pass.seen ≡ [] }
-    requires ready { IsReady E.made_for program.now caller.old.pass.table.config.pages k ready }
+    requires ready { IsReadyScript E.made_for program.now caller.old.pass.table.config.pages k ready }
     ensures home { caller.new.home ≡ true }
     ensures pass { caller.new.pass ≡ record caller.old.pass { seen = caller.new.pass.seen } }
     ensures follows { FollowsScript E.on program.now k caller.new.pass.table.config caller.new.pass.seen }

@@ -1,8 +1,8 @@
 -- The number that digits stand for, digit by digit.
 use Rattle.std.proofs.Common.{le-ltb, ltb, ◌*◌}
 use Rattle.std.proofs.{Math.Bool.and-false, lemmas.List.at_drop_all, lemmas.List.at_drop_more}
-use Rattle.mk_script.proofs.Vocabulary.{List, None, Some, ℕ, all_ascii_digits, arith, drop, false, get_or, length}
-use Rattle.mk_script.proofs.Vocabulary.{lt-ltb, refl, true, value_from, [], ◌+◌, ◌-◌, ◌<◌, ◌^◌, ◌∙◌, ◌∷◌, ◌≡◌, ◌≤◌}
+use Rattle.mk_script.proofs.Vocabulary.{List, None, Some, ℕ, all_ascii_digits, arith, drop, get_or, length, lt-ltb}
+use Rattle.mk_script.proofs.Vocabulary.{refl, true, value_from, [], ◌+◌, ◌-◌, ◌<◌, ◌^◌, ◌∙◌, ◌∷◌, ◌≡◌, ◌≤◌}
 use Rattle.mk_script.specs.Names.{value_of_digits}
 
 pub value_from-le : (high : ℕ) (digits : List ℕ) → high ≤ value_from high digits
@@ -17,11 +17,7 @@ value_from-drop high digits i inside = at_drop_more (value_from high) digits i 0
 pub too_great : (high : ℕ) (digits : List ℕ) (i : ℕ) → i < length digits
     → value_from 0 digits ≡ value_from high (drop i digits) → 2 ^ 64 ≤ 10 * high + (get_or digits i 0 - 48)
     → value_of_digits digits ≡ None
-too_great high digits i inside so_far great =
-    let last = value_from-drop high digits i inside in
-    let rest = value_from-le (10 * high + (get_or digits i 0 - 48)) (drop (i + 1) digits) in
-    let test : ltb (value_from 0 digits) (2 ^ 64) ≡ false = le-ltb (value_from 0 digits) (2 ^ 64) (omega arith) in
-    rw (test, and-false) refl
+too_great high digits i inside so_far great = grind (arith, value_from-drop, value_from-le, le-ltb, and-false)
 
 -- there are no digits left
 pub from_all : (high : ℕ) (digits : List ℕ) (i : ℕ) → length digits ≤ i

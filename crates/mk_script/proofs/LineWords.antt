@@ -68,9 +68,7 @@ AreWords (word ∷ words) = (is_word word ≡ true) × AreWords words
 
 pub split_spaced : (word : List ℕ) (words : List (List ℕ)) → is_word word ≡ true → AreWords words
     → slice_split (λ byte. nat_eq byte 32) (word ++ spaced_words words) ≡ word ∷ words
-split_spaced word [] p ws =
-    rw append-nil (slice_split_none (λ byte. nat_eq byte 32) word
-    (without 32 word (omega arith) (is_solid-from_is_word word p)))
+split_spaced word [] p ws = grind (arith, append-nil, slice_split_none, without, is_solid-from_is_word)
 split_spaced word (next ∷ words) p ws =
     slice_split_at (λ byte. nat_eq byte 32) word 32 (next ++ spaced_words words)
     (without 32 word (omega arith) (is_solid-from_is_word word p)) refl

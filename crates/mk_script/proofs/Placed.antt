@@ -1,9 +1,9 @@
 -- Lines in their places.
-use Rattle.std.proofs.{Common.leb, Math.Bool.and-false}
+use Rattle.std.proofs.Math.Bool.{and-false}
 use Rattle.mk_script.proofs.Vocabulary.{Bool, Err, Item, Keyword, LineFault, List, Ok, Result, Some, ℕ, are_fields}
 use Rattle.mk_script.proofs.Vocabulary.{arith, false, fields_of, has_word_count, have_form, if◌then◌else◌, is_placed}
-use Rattle.mk_script.proofs.Vocabulary.{item_from, le-leb, length, name, refl, suc, sym, true, [], ◌&&◌, ◌<◌, ◌>>=◌}
-use Rattle.mk_script.proofs.Vocabulary.{◌∷◌, ◌≡◌, ◌≢◌}
+use Rattle.mk_script.proofs.Vocabulary.{item_from, le-leb, length, name, refl, sym, true, [], ◌&&◌, ◌<◌, ◌>>=◌, ◌∷◌}
+use Rattle.mk_script.proofs.Vocabulary.{◌≡◌, ◌≢◌}
 use Rattle.mk_script.specs.Lines.{placed_item}
 use Rattle.mk_script.specs.declared.keywords.Keyword.TheVariants.{Add, Casp, Clear, Const, Else, End, Free, Getn, Getp}
 use Rattle.mk_script.specs.declared.keywords.Keyword.TheVariants.{Global, Heap, If, Isnull, Lea, Loadg, Move, New, Num}
@@ -59,9 +59,7 @@ chosen false formed placed found is is' unless = sym (unless refl)
 -- a line that isn't a type's and stands in its place
 pub placed_plain : (before : List Item) (keyword : Keyword) (words : List (List ℕ)) → keyword ≢ TypeLine
     → is_placed before keyword ≡ true → placed_item before (Some keyword) words ≡ item_from keyword words
-placed_plain before keyword words other placed =
-    chosen (has_word_count keyword (length words)) (have_form keyword words) (is_placed before keyword)
-    (item_from keyword words) (have_form-plain keyword words other) placed (miscounted keyword words other)
+placed_plain before keyword words other placed = grind (arith, chosen, have_form-plain, miscounted)
 
 refused : (counts formed placed : Bool) (found : Result Item LineFault) → placed ≡ false
     → (if counts && formed && placed then found else Err (Text Word)) ≡ Err (Text Word)
@@ -80,10 +78,7 @@ formed_and_placed counts formed placed found is is' is'' = rw (is, is', is'') re
 pub placed_type : (before : List Item) (word : List ℕ) (fields : List (List ℕ)) → 0 < length fields
     → is_placed before TypeLine ≡ true → are_fields fields ≡ true
     → placed_item before (Some TypeLine) (word ∷ fields) ≡ item_from TypeLine (word ∷ fields)
-placed_type before word fields some placed formed =
-    let counts : leb 2 (suc (length fields)) ≡ true = le-leb 2 (suc (length fields)) (omega arith) in
-    formed_and_placed (has_word_count TypeLine (length (word ∷ fields))) (are_fields fields) (is_placed before TypeLine)
-    (item_from TypeLine (word ∷ fields)) counts formed placed
+placed_type before word fields some placed formed = grind (arith, le-leb, formed_and_placed)
 
 -- what the name of a type's line says
 pub named_type : (word : List ℕ) (fields : List (List ℕ))

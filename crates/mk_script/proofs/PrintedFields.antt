@@ -5,10 +5,10 @@ use Rattle.std.proofs.{lemmas.Bool.cond_both, lemmas.List.length-replicate, lemm
 use Rattle.std.specs.Option.{is_some, option_and_then, option_map, unwrap_or}
 use Rattle.std.specs.{List.All, Result.result_ok}
 use Rattle.mk_script.proofs.Vocabulary.{At, Bool, Err, LineFault, List, None, Ok, Option, Result, Some, ℕ, and_from}
-use Rattle.mk_script.proofs.Vocabulary.{and_parts, ap, append_assoc, arith, at, at_text, codes, cond, cond-true}
-use Rattle.mk_script.proofs.Vocabulary.{decimal, false, fields_behind, fields_of, le-leb, length, length-append}
-use Rattle.mk_script.proofs.Vocabulary.{list_all, nat_eq, nat_le, number_of_word, refl, replicate, subst, suc, sym}
-use Rattle.mk_script.proofs.Vocabulary.{true, zero, [], ◌++◌, ◌+◌, ◌<◌, ◌^◌, ◌∙◌, ◌∷◌, ◌≡◌}
+use Rattle.mk_script.proofs.Vocabulary.{and_parts, append_assoc, arith, at, at_text, codes, cond, cond-true, decimal}
+use Rattle.mk_script.proofs.Vocabulary.{false, fields_behind, fields_of, le-leb, length, length-append, list_all}
+use Rattle.mk_script.proofs.Vocabulary.{nat_eq, nat_le, number_of_word, refl, replicate, subst, suc, sym, true, zero}
+use Rattle.mk_script.proofs.Vocabulary.{[], ◌++◌, ◌+◌, ◌<◌, ◌^◌, ◌∷◌, ◌≡◌}
 use Rattle.mk_script.proofs.LineWords.{AreWords, is_solid-decimal, is_word, is_word-append}
 use Rattle.mk_script.proofs.Said.{IsPlace, at_again, at_was, is_solid-at}
 use Rattle.mk_script.proofs.PrintedNumbers.{number_of_word-decimal}
@@ -31,10 +31,7 @@ numbers_again count some = cond-true _ _ _ (le-leb 1 count some)
 
 many_numbers : (count : ℕ) → 0 < count → count < 2 ^ 64
     → IsFieldOf (codes "n*" ++ decimal count) (replicate count Number)
-many_numbers count some small = record {
-  says = ap (λ o. option_and_then numbers o) (number_of_word-decimal count small) ∙ numbers_again count some;
-  word = is_word-append (codes "n*") (decimal count) refl (is_solid-decimal count small);
-}
+many_numbers count some small = grind (arith, number_of_word-decimal, numbers_again, is_word-append, is_solid-decimal)
 
 pub numbers_text_again : (count : ℕ) → 0 < count → count < 2 ^ 64
     → IsFieldOf (numbers_text count) (replicate count Number)
@@ -46,10 +43,7 @@ numbers_text_again count some small =
     (λ more. many_numbers count some small)
 
 pub pointer_again : (a : At) → IsPlace a → IsFieldOf (codes "p:" ++ at_text a) (Pointer a ∷ [])
-pointer_again a place = record {
-  says = ap (λ r. option_map (λ b. Pointer b ∷ []) (result_ok r)) (at_again a place);
-  word = is_word-append (codes "p:") (at_text a) refl (is_solid-at a place);
-}
+pointer_again a place = grind (arith, at_again, is_word-append, is_solid-at)
 
 -- fields that each say something, together these words
 pub record AreFieldsOf (fields : List (List ℕ)) (words : List TypeWord) : Type 0 where
@@ -62,11 +56,7 @@ no_fields = record { say = refl; each = refl; apart = tt }
 
 one_more : (field : List ℕ) (fields : List (List ℕ)) (first words : List TypeWord) → IsFieldOf field first
     → AreFieldsOf fields words → AreFieldsOf (field ∷ fields) (first ++ words)
-one_more field fields first words f fs = record {
-  say = ap (λ o. unwrap_or o [] ++ fields_of fields) f.says ∙ ap (λ ws. first ++ ws) fs.say;
-  each = and_from _ _ (ap (λ o. is_some o) f.says) fs.each;
-  apart = (f.word, fs.apart);
-}
+one_more field fields first words f fs = grind (arith, and_from)
 
 numbers_before_again : (count : ℕ) (fields : List (List ℕ)) (words : List TypeWord) → count < 2 ^ 64
     → AreFieldsOf fields words → AreFieldsOf (numbers_before count fields) (replicate count Number ++ words)
@@ -134,11 +124,7 @@ one_was word words is same =
 
 starred_was : (rest : List ℕ) (words : List TypeWord) → number_field rest ≡ Some words → AreSaid words
 starred_was [] words e = let same : Number ∷ [] ≡ words = cc in one_was Number words tt same
-starred_was (star ∷ digits) words e =
-    elim (cases_cond (nat_eq star 42) _ _ (Some words) (sym e)) [
-      | inl h ↦ numbers_were digits words (sym h)
-      | inr h ↦ absurd cc
-    ]
+starred_was (star ∷ digits) words e = grind (arith, cases_cond, numbers_were)
 
 place_was : (r : Result At LineFault) (words : List TypeWord)
     → option_map (λ a. Pointer a ∷ []) (result_ok r) ≡ Some words → ((a : At) → r ≡ Ok a → IsPlace a) → AreSaid words
@@ -153,14 +139,7 @@ pointed_was (colon ∷ place) words e =
 
 field_was : (field : List ℕ) (words : List TypeWord) → field_of field ≡ Some words → AreSaid words
 field_was [] words e = absurd cc
-field_was (letter ∷ rest) words e =
-    elim (cases_cond (nat_eq letter 110) _ _ (Some words) (sym e)) [
-      | inl h ↦ starred_was rest words (sym h)
-      | inr h ↦ elim (cases_cond (nat_eq letter 112) _ _ (Some words) h) [
-        | inl p ↦ pointed_was rest words (sym p)
-        | inr p ↦ absurd cc
-      ]
-    ]
+field_was (letter ∷ rest) words e = grind (arith, cases_cond, starred_was, pointed_was)
 
 some_said : (said : Option (List TypeWord)) → is_some said ≡ true
     → ((words : List TypeWord) → said ≡ Some words → AreSaid words) → AreSaid (unwrap_or said [])

@@ -2,9 +2,9 @@
 use Rattle.std.proofs.lemmas.Fmt.{decimal_digit, decimal_nonempty, digits_decimal, digits_value-decimal, first_decimal}
 use Rattle.std.proofs.lemmas.Str.Parse.{IsNumeralModel, numerals_by_fold}
 use Rattle.std.proofs.{Common.ne_eqb, lemmas.Bool.not_from_false, lemmas.Bool.or_right, lemmas.Grind.common_steps}
-use Rattle.mk_script.proofs.Vocabulary.{List, Some, ℕ, all_ascii_digits, and_from, ap, arith, cond-true, decimal}
-use Rattle.mk_script.proofs.Vocabulary.{get_or, length, lt-ltb, nat_eq, not, number_of_word, rules, suc, true}
-use Rattle.mk_script.proofs.Vocabulary.{value_from, zero, ◌<◌, ◌^◌, ◌||◌, ◌∙◌, ◌≡◌}
+use Rattle.mk_script.proofs.Vocabulary.{List, Some, ℕ, all_ascii_digits, and_from, arith, cond-true, decimal, get_or}
+use Rattle.mk_script.proofs.Vocabulary.{length, lt-ltb, nat_eq, not, number_of_word, rules, suc, true, value_from, zero}
+use Rattle.mk_script.proofs.Vocabulary.{◌<◌, ◌^◌, ◌||◌, ◌≡◌}
 use Rattle.mk_script.specs.Names.{is_numeral}
 
 own : IsNumeralModel (λ ds. all_ascii_digits ds ≡ true) (value_from 0)
@@ -20,19 +20,13 @@ value_from-decimal n small = digits_value-decimal own n small
 leads_rightly : (n : ℕ) → n < 2 ^ 64
     → ((nat_eq (length (decimal n)) 1) || not (nat_eq (get_or (decimal n) 0 0) 48)) ≡ true
 leads_rightly zero small = let one = decimal_digit 0 (omega arith) in rw one
-leads_rightly (suc n) small =
-    let first : 48 < get_or (decimal (suc n)) 0 0 = first_decimal (suc n) (omega arith) small in
-    or_right _ _ (not_from_false _ (ne_eqb (get_or (decimal (suc n)) 0 0) 48 (λ e. omega arith)))
+leads_rightly (suc n) small = grind (arith, first_decimal, or_right, not_from_false, ne_eqb)
 
 pub is_numeral-decimal : (n : ℕ) → n < 2 ^ 64 → is_numeral (decimal n) ≡ true
-is_numeral-decimal n small =
-    and_from _ _ (and_from _ _ (all_ascii_digits-decimal n small) (lt-ltb _ _ (decimal_nonempty n small)))
-    (leads_rightly n small)
+is_numeral-decimal n small = grind (arith, and_from, all_ascii_digits-decimal, lt-ltb, decimal_nonempty, leads_rightly)
 
 pub number_of_word-decimal : (n : ℕ) → n < 2 ^ 64 → number_of_word (decimal n) ≡ Some n
-number_of_word-decimal n small =
-    let value = value_from-decimal n small in
-    cond-true _ _ _ (and_from _ _ (is_numeral-decimal n small) (lt-ltb _ _ (rw value small))) ∙ ap Some value
+number_of_word-decimal n small = grind (arith, value_from-decimal, cond-true, and_from, is_numeral-decimal, lt-ltb)
 
 -- a number that a word says is below 2^64
 pub number_of_word-below : (word : List ℕ) (n : ℕ) → number_of_word word ≡ Some n → n < 2 ^ 64

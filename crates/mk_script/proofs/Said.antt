@@ -4,9 +4,9 @@ use Rattle.std.proofs.lemmas.Bool.{cases_cond, cond-false, cond_both, not_from_f
 use Rattle.std.specs.List.{after_first, before_first, position_or_len}
 use Rattle.mk_script.proofs.Vocabulary.{At, Bool, Err, LineFault, List, None, Ok, Option, Result, Some, ℕ, and_from}
 use Rattle.mk_script.proofs.Vocabulary.{and_parts, ap, arith, at, at_text, codes, cond, cond-true, decimal, false}
-use Rattle.mk_script.proofs.Vocabulary.{length, list_all, list_any, list_any-append, name, nat_eq, nat_tests}
-use Rattle.mk_script.proofs.Vocabulary.{number_of_word, refl, subst, suc, sym, true, zero, [], ◌++◌, ◌+◌, ◌<◌, ◌>>=◌}
-use Rattle.mk_script.proofs.Vocabulary.{◌^◌, ◌∙◌, ◌∷◌, ◌≡◌}
+use Rattle.mk_script.proofs.Vocabulary.{length, list_all, list_any, list_any-append, name, nat_tests, number_of_word}
+use Rattle.mk_script.proofs.Vocabulary.{refl, subst, suc, sym, true, zero, [], ◌++◌, ◌+◌, ◌<◌, ◌>>=◌, ◌^◌, ◌∙◌, ◌∷◌}
+use Rattle.mk_script.proofs.Vocabulary.{◌≡◌}
 use Rattle.mk_script.proofs.LineWords.{is_solid, is_solid-append, is_solid-decimal, is_solid-names, is_word}
 use Rattle.mk_script.proofs.LineWords.{is_word-append}
 use Rattle.mk_script.proofs.PrintedNumbers.{number_of_word-below, number_of_word-decimal}
@@ -94,18 +94,12 @@ alone n h = cond-false _ _ _ (without_plus n (name_bytes n h)) ∙ then_again (n
 with_offset : (n : List ℕ) (k : ℕ) → is_name n ≡ true → k < 2 ^ 64
     → at (n ++ (codes "+" ++ decimal k)) ≡ Ok (record { name = n; offset = k })
 with_offset n k h small =
-    let first : name (before_first is_plus (n ++ 43 ∷ decimal k)) ≡ Ok n =
-    ap name (before_plus n (decimal k) (name_bytes n h)) ∙ name_again n h in
-    let second : number (after_first is_plus (n ++ 43 ∷ decimal k)) ≡ Ok k =
-    ap number (behind_plus n (decimal k) (name_bytes n h)) ∙ number_again k small in
-    cond-true _ _ _ (has_plus n (decimal k)) ∙ then_again _ _ n _ first (then_again _ _ k _ second refl)
+    grind (arith, before_plus, name_bytes, name_again, behind_plus, number_again, cond-true, has_plus, then_again)
 
 at_text_again : (n : List ℕ) (k : ℕ) → is_name n ≡ true → k < 2 ^ 64
     → at (at_text (record { name = n; offset = k })) ≡ Ok (record { name = n; offset = k })
 at_text_again n zero h small = alone n h
-at_text_again n (suc k) h small =
-    let other : nat_eq (suc k) 0 ≡ false = ne_eqb (suc k) 0 (λ e. omega arith) in
-    ap at (cond-false _ _ _ other) ∙ with_offset n (suc k) h small
+at_text_again n (suc k) h small = grind (arith, ne_eqb, cond-false, with_offset)
 
 pub at_again : (a : At) → IsPlace a → at (at_text a) ≡ Ok a
 at_again a place = at_text_again a.name a.offset place.named place.small
@@ -138,13 +132,7 @@ pub with_at : {A P : Type 0} (w : List ℕ) {f : At → Result A LineFault} {y :
 with_at w {f} {y} e go = let was = then_was (at w) f y e in go was.0 (at_was w was.0 was.1) was.2
 
 pub is_solid-at : (a : At) → IsPlace a → is_solid (at_text a) ≡ true
-is_solid-at a place =
-    cond_both _ a.name (a.name ++ (codes "+" ++ decimal a.offset)) (λ text. is_solid text ≡ true) (λ none. is_solid-name
-    a.name place.named) (λ some. is_solid-append a.name (codes "+" ++ decimal a.offset) (is_solid-name a.name
-    place.named) (is_solid-decimal a.offset place.small))
+is_solid-at a place = grind (arith, cond_both, is_solid, is_solid-name, is_solid-append, is_solid-decimal)
 
 pub is_word-at : (a : At) → IsPlace a → is_word (at_text a) ≡ true
-is_word-at a place =
-    cond_both _ a.name (a.name ++ (codes "+" ++ decimal a.offset)) (λ text. is_word text ≡ true) (λ none. is_word-name
-    a.name place.named) (λ some. is_word-append a.name (codes "+" ++ decimal a.offset) (is_word-name a.name place.named)
-    (is_solid-decimal a.offset place.small))
+is_word-at a place = grind (arith, cond_both, is_word, is_word-name, is_word-append, is_solid-decimal)

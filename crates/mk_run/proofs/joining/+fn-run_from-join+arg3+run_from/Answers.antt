@@ -1,5 +1,5 @@
 use Rattle.mk_laws.proofs.Vocabulary.{Caller, Config, Host, ap, arith, length, subst, sym, ◌+◌, ◌<◌, ◌∙◌, ◌≡◌}
-use Rattle.mk_run.proofs.Vocabulary.{AreReadyFrom, Grows, Has, HasJoined, HasMade, HostState, IsFirstPass, IsReady}
+use Rattle.mk_run.proofs.Vocabulary.{AreReadyFrom, Grows, Has, HasJoined, HasMade, HostState, IsFirstPass, IsReadyScript}
 use Rattle.mk_run.proofs.Vocabulary.{IsScript, has_left, rules, script_names, with_joined}
 use Rattle.mk_run.proofs.HostTurns.{host_is_still, unseen_by_host}
 use Rattle.mk_run.proofs.JoinedScripts.{first_pass, next_made, one_joined, texts_joined}
@@ -23,7 +23,7 @@ join-ran-requires-after_bounds g t c κs within =
     let program = c.args.run.now.program.now in
     let made = ready_first made_for program w.config k c.in-Some.ready rest
     (subst (λ scripts. AreReadyFrom made_for program w.config k scripts) c.in-Some.ensures.items c.requires.scripts) in
-    let ready : IsReady made_for program w.config.pages k c.in-Some.ready = made.0 in
+    let ready : IsReadyScript made_for program w.config.pages k c.in-Some.ready = made.0 in
     let left : AreReadyFrom made_for program w.config (k + 1) rest = made.1 in
     let scripts = ap (λ (x : Config). x.callers) c.args.run.now.made_for in
     let script : IsScript c.args.run.now.program.now k =

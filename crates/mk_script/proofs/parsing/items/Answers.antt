@@ -1,8 +1,7 @@
 use Rattle.std.proofs.lemmas.List.{at_drop_all}
-use Rattle.mk_script.proofs.Vocabulary.{Err, Item, ap, arith, at_end, items_behind, items_of_lines, length}
-use Rattle.mk_script.proofs.Vocabulary.{length-append, lines_of, nat_tests, sym, texts_of, ◌+◌, ◌<◌, ◌∙◌, ◌≡◌, ◌≢◌}
+use Rattle.mk_script.proofs.Vocabulary.{Item, ap, arith, at_end, items_behind, items_of_lines, length, length-append}
+use Rattle.mk_script.proofs.Vocabulary.{lines_of, nat_tests, sym, texts_of, ◌<◌, ◌∙◌, ◌≡◌}
 use Rattle.mk_script.proofs.Reading.{ended_badly, ended_well, step, stops_at, whole}
-use Rattle.mk_script.specs.{Stops.stop_at, declared.faults.TextStop.TheVariants.NoMemory}
 use Rattle.mk_script.proofs.parsing.items.Goals as goal
 
 pub loop-index-preserved : goal.loop-index-preserved
@@ -17,15 +16,7 @@ loop-index-preserved c =
     }
 
 pub returns-in-Err-clause-fault : goal.returns-in-Err-clause-fault
-returns-in-Err-clause-fault c = λ memory.
-    let so_far = c.loop-index.invariant in
-    let lines = c.deref-line-items.result.now in
-    let is = c.at.ensures in
-    let memory' : stop_at (c.loop-index.index + 1) c.in-Err.stop ≢ NoMemory = λ e. memory (is ∙ e) in
-    let some : 0 < length lines = omega arith in
-    whole lines _ some (ap texts_of c.deref-line-items.ensures.value ∙ c.in_ok-lines.ensures) ∙ sym so_far.rest ∙
-    stops_at lines c.loop-index.index c.loop-index.items.items _ c.in-Err.stop c.loop-index-test.true so_far.count
-    (c.in-Err.ensures so_far.scope_of) memory' ∙ ap Err (sym is)
+returns-in-Err-clause-fault c = grind (arith, whole, stops_at)
 
 ends : (c : goal.After-drop-lines-2) → items_of_lines (lines_of c.args.text.now) ≡ at_end c.loop-index.items.items
 ends c =

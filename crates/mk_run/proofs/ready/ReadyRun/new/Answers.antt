@@ -1,6 +1,6 @@
 use Rattle.std.proofs.Common.{slice_get}
 use Rattle.mk_laws.proofs.Vocabulary.{Some, arith, length, subst, ◌+◌, ◌≡◌}
-use Rattle.mk_run.proofs.Vocabulary.{IsReady}
+use Rattle.mk_run.proofs.Vocabulary.{IsReadyScript}
 use Rattle.mk_run.{proofs.ReadyScripts.one_more, specs.declared.ready.ReadyScript.ReadyScript}
 use Rattle.mk_run.proofs.ready.ReadyRun.new.Goals as goal
 
@@ -13,7 +13,7 @@ loop-script-preserved g c =
     let new = c.push_back.new.self in
     let invariant = c.loop-script.invariant in
     let last : ReadyScript g.row.E.Denot = record { feed = c.in_ok-feed.feed; engine = c.in_ok-engine.engine } in
-    let is : IsReady made_for program pages (0 + length old.items) last = grind arith in
+    let is : IsReadyScript made_for program pages (0 + length old.items) last = grind arith in
     record {
       count = omega (arith, c.in_ok-push_back.ensures, invariant.count, old.ok, new.ok);
       each = λ i ready at.
