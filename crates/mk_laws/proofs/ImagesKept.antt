@@ -1,8 +1,9 @@
 -- The images are kept by each move.
+use Rattle.std.proofs.Common.{set}
 use Rattle.mk_laws.proofs.Vocabulary.{Bool, Carries, CarriesOwn, Flight, ImageScene, IsMet, IsSound, IsTyped}
 use Rattle.mk_laws.proofs.Vocabulary.{IsTypedAllocation, List, NeverAllocation, NeverState, Null, PlacedAllocation}
 use Rattle.mk_laws.proofs.Vocabulary.{ProbedOwn, Ptr, Stage, Value, ℕ, address_of, allocation_at, ap, arith, at_rest}
-use Rattle.mk_laws.proofs.Vocabulary.{bases_of, cases_Bool, cases_eq, d_of, false, flight_among, get_or-set_other}
+use Rattle.mk_laws.proofs.Vocabulary.{bases_of, cases_Bool, cases_eq, d_of, false, flight_among, get_or, get_or-set_other}
 use Rattle.mk_laws.proofs.Vocabulary.{get_or-set_same, image_of, inl, inr, is_past_probe, is_put, is_unmapped, kind_in}
 use Rattle.mk_laws.proofs.Vocabulary.{kinds_of, length, length-map, p_of, placed_at, q_of, r_of, refl, register_at}
 use Rattle.mk_laws.proofs.Vocabulary.{set_by, shown, slice_index, slice_index_or, slice_set, subst, sym, true}
@@ -32,21 +33,6 @@ AreApart xs n = (a b i j : ℕ) → (placed_at xs a).released ≡ false → (pla
     → i < length (words_of n a) → j < length (words_of n b) → a ≢ b
     → (placed_at xs a).base + i ≢ (placed_at xs b).base + j
 
--- the registers, where one flight is set, from the caller's own and the others
-registers_from : (cs : List ℕ) (fs : List Flight) (k : ℕ) (f : Flight) (ys : List ℕ) (vs : List Value) → k < length fs
-    → ((r : ℕ) → r < 8 → shown f r (slice_index ys (8 * k + r)) ≡ image_of cs (slice_index_or vs (8 * k + r) Null))
-    → ((i : ℕ) → i / 8 ≢ k
-    → shown (flight_among fs (i / 8)) (i % 8) (slice_index ys i) ≡ image_of cs (slice_index_or vs i Null))
-    → (i : ℕ) → shown (flight_among (slice_set fs k f) (i / 8)) (i % 8) (slice_index ys i)
-    ≡ image_of cs (slice_index_or vs i Null)
-registers_from cs fs k f ys vs there own others i = elim (cases_eq (i / 8) k) [
-  | inl e ↦
-      let is : 8 * k + i % 8 ≡ i = omega arith in
-      rw (ap (λ j. flight_among (slice_set fs k f) j) e ∙ get_or-set_same fs k f at_rest there) (rw is at
-      (own (i % 8) (omega arith)))
-  | inr ne ↦ rw (get_or-set_other fs k (i / 8) f at_rest ne) (others i ne)
-]
-
 -- a caller's own register
 own_shown : (s : ImageScene) (n : NeverState) → AreImages s n → (k r : ℕ) → r < 8
     → shown (flight_among s.flights k) r (slice_index s.registers (8 * k + r))
@@ -62,42 +48,46 @@ pub own_plain : (s : ImageScene) (n : NeverState) → AreImages s n → (k r : �
 own_plain s n h k r lt was = sym (shows_plain (flight_among s.flights k) r (slice_index s.registers (8 * k + r)) was)
     ∙ own_shown s n h k r lt
 
--- what the others carry
-others_carry : (bs cs : List ℕ) (fs : List Flight) (k : ℕ) (f : Flight) (n m : NeverState) → k < length fs → AreSmall fs
-    → ((a b d : Value) → Carries cs f a b d)
-    → ((j r : ℕ) → j ≢ k → r < 8 → image_of cs (register_at m j r) ≡ image_of bs (register_at n j r))
-    → ((j : ℕ) → CarriesOwn bs n j (flight_among fs j))
-    → (j : ℕ) → CarriesOwn cs m j (flight_among (slice_set fs k f) j)
-others_carry bs cs fs k f n m there small own same h j = elim (cases_eq j k) [
-  | inl e ↦ rw (ap (λ i. flight_among (slice_set fs k f) i) e ∙ get_or-set_same fs k f at_rest there) (own _ _ _)
-  | inr ne ↦ rw (get_or-set_other fs k j f at_rest ne)
-      (carries_same bs cs _ _ _ _ _ _ _ (same j _ ne (small j).0) (same j _ ne (small j).1)
-      (same j _ ne (small j).2) (h j))
-]
+-- an index of another caller's registers
+outside : {A : Type 0} (xs : List A) (k d i : ℕ) (v e : A) → d < 8 → i / 8 ≢ k
+    → get_or (set xs (8 * k + d) v) i e ≡ get_or xs i e
+outside xs k d i v e ld ne = get_or-set_other xs (8 * k + d) i v e (λ is. absurd (ne (omega arith)))
 
-others_probed : (fs : List Flight) (k : ℕ) (f : Flight) (n m : NeverState) → k < length fs → AreSmall fs
-    → is_past_probe f.stage ≡ false → ((j r : ℕ) → j ≢ k → r < 8 → register_at m j r ≡ register_at n j r)
-    → ((j : ℕ) → j ≢ k → is_past_probe (flight_among fs j).stage ≡ true → (v : Value) (i : ℕ) → IsMet n v i
-    → IsMet m v i) → ((j : ℕ) → ProbedOwn n j (flight_among fs j)) → (j : ℕ)
-    → ProbedOwn m j (flight_among (slice_set fs k f) j)
-others_probed fs k f n m there small own same meets h j = elim (cases_eq j k) [
-  | inl e ↦ rw (ap (λ i. flight_among (slice_set fs k f) i) e ∙ get_or-set_same fs k f at_rest there)
-      (λ past. let x : false ≡ true = sym own ∙ past in cc)
-  | inr ne ↦ rw (get_or-set_other fs k j f at_rest ne) (λ past. rw (same j _ ne (small j).0)
-      (meets j ne past _ _ (h j past)))
-]
+-- A caller's flight and registers change. It carries nothing then and has probed nothing. The others' stay.
+own_changed : (s : ImageScene) (n : NeverState) → AreImages s n → AreSmall s.flights → (k : ℕ) (f : Flight)
+    (ys : List ℕ) (vs : List Value) → k < length s.flights
+    → ((a b d : Value) → Carries (bases_of s.allocations) f a b d) → is_past_probe f.stage ≡ false
+    → ((i : ℕ) → i / 8 ≢ k → slice_index ys i ≡ slice_index s.registers i)
+    → ((i : ℕ) → i / 8 ≢ k → slice_index_or vs i Null ≡ slice_index_or n.registers i Null)
+    → ((r : ℕ) → r < 8 → shown f r (slice_index ys (8 * k + r))
+    ≡ image_of (bases_of s.allocations) (slice_index_or vs (8 * k + r) Null))
+    → AreImages (record s { flights = slice_set s.flights k f; registers = ys }) (record n { registers = vs })
+own_changed s n h small k f ys vs there carries unprobed same_words same_values own = record {
+  registers = λ i. elim (cases_eq (i / 8) k) [
+    | inl e ↦
+        let is : 8 * k + i % 8 ≡ i = omega arith in rw (at_own (i / 8) e) (rw is at (own (i % 8) (omega arith)))
+    | inr ne ↦ rw (get_or-set_other s.flights k (i / 8) f at_rest ne, same_words i ne, same_values i ne)
+        (h.registers i)
+  ];
+  globals = h.globals;
+  heap = h.heap;
+  carried = λ j. elim (cases_eq j k) [
+    | inl e ↦ rw (at_own j e) (carries _ _ _)
+    | inr ne ↦ rw (get_or-set_other s.flights k j f at_rest ne) (rw (same j _ ne (small j).0)
+        (rw (same j _ ne (small j).1) (rw (same j _ ne (small j).2) (h.carried j))))
+  ];
+  probed = λ j. elim (cases_eq j k) [
+    | inl e ↦ rw (at_own j e) (λ past. let x : false ≡ true = sym unprobed ∙ past in cc)
+    | inr ne ↦ rw (get_or-set_other s.flights k j f at_rest ne) (λ past. rw (same j _ ne (small j).0)
+        (met_same n (record n { registers = vs }) _ _ (λ a. refl) (λ a u. u) (h.probed j past)))
+  ];
+}
+  where
+    at_own : (j : ℕ) → j ≡ k → flight_among (slice_set s.flights k f) j ≡ f
+    at_own j e = ap (flight_among (slice_set s.flights k f)) e ∙ get_or-set_same s.flights k f at_rest there
 
--- another caller's register stays
-other_register : (n : NeverState) (k d j r : ℕ) (v : Value) → d < 8 → r < 8 → j ≢ k
-    → register_at (with_register n k d v) j r ≡ register_at n j r
-other_register n k d j r v ld lr ne =
-    get_or-set_other n.registers (8 * k + d) (8 * j + r) v Null (λ e. absurd (ne (omega arith)))
-
--- the registers of all, where the flight goes on with nothing owed
-plain_registers : (s : ImageScene) (n : NeverState) → AreImages s n → AreSmall s.flights → (k : ℕ) (f : Flight)
-    → Decides s n k f → (i : ℕ) → shown (flight_among (slice_set s.flights k f) (i / 8)) (i % 8)
-    (slice_index s.registers i) ≡ image_of (bases_of s.allocations) (slice_index_or n.registers i Null)
-plain_registers s n h small k f at = grind (arith, registers_from, shows_plain, bare_owes_nothing, own_plain)
+    same : (j r : ℕ) → j ≢ k → r < 8 → slice_index_or vs (8 * j + r) Null ≡ register_at n j r
+    same j r ne lr = same_values (8 * j + r) (λ e. absurd (ne (omega arith)))
 
 pub rebased : (s : ImageScene) (n : NeverState) → AreImages s n → (xs : List PlacedAllocation)
     → bases_of xs ≡ bases_of s.allocations
@@ -105,156 +95,59 @@ pub rebased : (s : ImageScene) (n : NeverState) → AreImages s n → (xs : List
     → AreImages (record s { allocations = xs }) n
 rebased s n h xs e u = grind (arith, same_base)
 
+-- a register gets a value and its image
+stored : (s : ImageScene) (n : NeverState) → AreImages s n → AreSmall s.flights → (k d x : ℕ) (f : Flight) (v : Value)
+    → Decides s n k f → 8 * k + 7 < length s.registers → d < 8 → x ≡ image_of (bases_of s.allocations) v
+    → AreImages (record s { flights = slice_set s.flights k f; registers = slice_set s.registers (8 * k + d) x })
+    (with_register n k d v)
+stored s n h small k d x f v at long ld is =
+    let long_n = at.registers in
+    own_changed s n h small k f (slice_set s.registers (8 * k + d) x) (slice_set n.registers (8 * k + d) v) at.there
+    (λ a b e. bare_carries _ f a b e at.bare) (bare_unprobed f.stage at.bare) (λ i ne. outside _ k d i x 0 ld ne)
+    (λ i ne. outside _ k d i v Null ld ne) (λ r lr. shows_plain f _ _ (bare_owes_nothing f.stage at.bare)
+    ∙ set_both (λ y u. y ≡ image_of (bases_of s.allocations) u) s.registers n.registers (8 * k + d) (8 * k + r) x 0 v
+    Null (omega arith) (omega arith) (λ e. is) (λ ne. own_plain s n h k r lr at.was))
+
+-- a caller's flight becomes another
+flown : (s : ImageScene) (n : NeverState) → AreImages s n → (k : ℕ) (f : Flight)
+    → ((r x : ℕ) → shown f r x ≡ shown (flight_among s.flights k) r x)
+    → CarriesOwn (bases_of s.allocations) n k f → ProbedOwn n k f
+    → AreImages (record s { flights = slice_set s.flights k f }) n
+flown s n h k f shows carries probes = record {
+  registers = λ i. set_by (λ (x : Flight). shown x (i % 8) (slice_index s.registers i)
+      ≡ image_of (bases_of s.allocations) (slice_index_or n.registers i Null)) s.flights k (i / 8) f at_rest
+      (λ e. shows (i % 8) _ ∙ rw (← e) (h.registers i)) (h.registers i);
+  globals = h.globals;
+  heap = h.heap;
+  carried = λ j. set_by (CarriesOwn (bases_of s.allocations) n j) s.flights k j f at_rest (λ e. rw e carries)
+      (h.carried j);
+  probed = λ j. set_by (ProbedOwn n j) s.flights k j f at_rest (λ e. rw e probes) (h.probed j);
+}
+
+-- a decided call, after which nothing is owed
+decided : (s t : ImageScene) (n m : NeverState) → AreImages t m → (k : ℕ) (f : Flight) → Decides s n k f
+    → t.flights ≡ s.flights → AreImages (record t { flights = slice_set t.flights k f }) m
+decided s t n m h k f at same = flown t m h k f
+    (λ r x. shows_plain f r x (bare_owes_nothing f.stage at.bare) ∙ sym (shows_plain (flight_among t.flights k) r x
+    (rw same at.was))) (bare_carries _ f _ _ _ at.bare)
+    (λ past. let x : false ≡ true = sym (bare_unprobed f.stage at.bare) ∙ past in cc)
+
 -- each move
 module _ (globals : List ℕ) (s : ImageScene) (n : NeverState) (h : AreImages s n) (small : AreSmall s.flights)
     (typed : IsTyped globals n) (same : length s.allocations ≡ length n.allocations) (safe : ℕ → Bool) where
   abbrev bases : List ℕ
   bases = bases_of s.allocations
 
-  pub images_kept : (t : ImageScene) (m : NeverState) → AreApart s.allocations n → Move safe s n t m → AreImages t m
-  images_kept t m apart Rests = h
-  images_kept t m apart (Flies k f shows carries probes) = record {
-    registers = λ i. set_by (λ (x : Flight). shown x (i % 8) (slice_index s.registers i)
-        ≡ image_of bases (slice_index_or n.registers i Null)) s.flights k (i / 8) f at_rest
-        (λ e. shows (i % 8) _ ∙ rw (← e) (h.registers i)) (h.registers i);
-    globals = h.globals;
-    heap = h.heap;
-    carried = λ j. set_by (λ (x : Flight). CarriesOwn bases n j x) s.flights k j f at_rest
-        (λ e. rw e carries) (h.carried j);
-    probed = λ j. set_by (λ (x : Flight). ProbedOwn n j x) s.flights k j f at_rest (λ e. rw e probes) (h.probed j);
-  }
-  images_kept t m apart (Owes k f v there long was put ld is safely) = record {
-    registers = registers_from _ s.flights k f s.registers _ there (λ r lr. elim (cases_eq r (d_of f.op)) [
-      | inl e ↦ subst (λ j. shown f j (slice_index s.registers (8 * k + j)) ≡ image_of bases
-          (slice_index_or (slice_set n.registers (8 * k + d_of f.op) v) (8 * k + j) Null)) (sym e)
-          (shows_owed f _ put ∙ is ∙ ap (image_of bases)
-          (sym (get_or-set_same n.registers (8 * k + d_of f.op) v Null (omega arith))))
-      | inr ne ↦ shows_other f r _ put (λ e. ne (sym e)) ∙ own_plain s n h k r lr was ∙ ap (image_of bases)
-          (sym (get_or-set_other n.registers (8 * k + d_of f.op) (8 * k + r) v Null (λ e. absurd (ne (omega arith)))))
-    ]) (λ i ne. h.registers i ∙ ap (image_of bases)
-        (sym (get_or-set_other n.registers (8 * k + d_of f.op) i v Null (λ e. absurd (ne (omega arith))))));
-    globals = h.globals;
-    heap = h.heap;
-    carried = others_carry _ _ s.flights k f n (with_register n k (d_of f.op) v) there small
-        (λ a b d. put_carries _ f a b d put)
-        (λ j r ne lr. ap (image_of bases) (other_register n k (d_of f.op) j r v ld lr ne)) h.carried;
-    probed = others_probed s.flights k f n (with_register n k (d_of f.op) v) there small (ap is_past_probe put)
-        (λ j r ne lr. other_register n k (d_of f.op) j r v ld lr ne)
-        (λ j ne past v' i m. met_same n (with_register n k (d_of f.op) v) v' i (λ a. refl) (λ a u. u) m) h.probed;
-  }
-  images_kept t m apart (Pays k f there long put ld bare) =
-      let old = flight_among s.flights k in
-      record {
-        registers = registers_from _ s.flights k f _ n.registers there (λ r lr. elim (cases_eq r (d_of old.op)) [
-          | inl e ↦ subst (λ j. shown f j
-              (slice_index (slice_set s.registers (8 * k + d_of old.op) old.loaded) (8 * k + j))
-              ≡ image_of bases (slice_index_or n.registers (8 * k + j) Null)) (sym e)
-              (shows_plain f _ _ (bare_owes_nothing f.stage bare)
-              ∙ get_or-set_same s.registers (8 * k + d_of old.op) old.loaded 0 (omega arith)
-              ∙ sym (shows_owed old _ put) ∙ own_shown s n h k (d_of old.op) ld)
-          | inr ne ↦ shows_plain f _ _ (bare_owes_nothing f.stage bare)
-              ∙ get_or-set_other s.registers (8 * k + d_of old.op) (8 * k + r) old.loaded 0
-              (λ e. absurd (ne (omega arith)))
-              ∙ sym (shows_other old r _ put (λ e. ne (sym e))) ∙ own_shown s n h k r lr
-        ]) (λ i ne. ap (shown (flight_among s.flights (i / 8)) (i % 8))
-            (get_or-set_other s.registers (8 * k + d_of old.op) i old.loaded 0 (λ e. absurd (ne (omega arith))))
-            ∙ h.registers i);
-        globals = h.globals;
-        heap = h.heap;
-        carried = others_carry _ _ s.flights k f n n there small (λ a b d. bare_carries _ f a b d bare)
-            (λ j r ne lr. refl) h.carried;
-        probed = others_probed s.flights k f n n there small (bare_unprobed f.stage bare) (λ j r ne lr. refl)
-            (λ j ne past v i m. m) h.probed;
-      }
-  images_kept t m apart (Stores k d x f v at long ld is safely) =
-      let long_n = at.registers in
-      record {
-        registers = registers_from _ s.flights k f _ _ at.there
-            (λ r lr. shows_plain f _ _ (bare_owes_nothing f.stage at.bare)
-            ∙ set_both (λ y u. y ≡ image_of bases u) s.registers n.registers (8 * k + d)
-            (8 * k + r) x 0 v Null (omega arith) (omega arith) (λ e. is) (λ ne. own_plain s n h k r lr at.was))
-            (λ i ne. ap (shown (flight_among s.flights (i / 8)) (i % 8))
-            (get_or-set_other s.registers (8 * k + d) i x 0 (λ e. absurd (ne (omega arith))))
-            ∙ h.registers i ∙ ap (image_of bases)
-            (sym (get_or-set_other n.registers (8 * k + d) i v Null (λ e. absurd (ne (omega arith))))));
-        globals = h.globals;
-        heap = h.heap;
-        carried = others_carry _ _ s.flights k f n (with_register n k d v) at.there small
-            (λ a b d. bare_carries _ f a b d at.bare)
-            (λ j r ne lr. ap (image_of bases) (other_register n k d j r v ld lr ne)) h.carried;
-        probed = others_probed s.flights k f n (with_register n k d v) at.there small (bare_unprobed f.stage at.bare)
-            (λ j r ne lr. other_register n k d j r v ld lr ne)
-            (λ j ne past v' i m. met_same n (with_register n k d v) v' i (λ a. refl) (λ a u. u) m) h.probed;
-      }
-  images_kept t m apart (Shares k g x f v at lg ln is safely) = record {
-    registers = plain_registers s n h small k f at;
-    globals = λ i. set_both (λ y u. y ≡ image_of bases u) s.globals n.globals g i x 0 v Null lg
-        ln (λ e. is) (λ ne. h.globals i);
-    heap = h.heap;
-    carried = others_carry _ _ s.flights k f n (with_global n g v) at.there small
-        (λ a b d. bare_carries _ f a b d at.bare) (λ j r ne lr. refl) h.carried;
-    probed = others_probed s.flights k f n (with_global n g v) at.there small (bare_unprobed f.stage at.bare)
-        (λ j r ne lr. refl) (λ j ne past v' i m. met_same n (with_global n g v) v' i (λ a. refl) (λ a u. u) m) h.probed;
-  }
-  images_kept t m apart (Writes k a i x f v at ua mapped li inside is safely) =
-      let alike = written_alike n a i v in
-      record {
-        registers = plain_registers s n h small k f at;
-        globals = h.globals;
-        heap = λ b j ub mb lj.
-            let lj' : j < length (words_of n b) = (let e = (alike b).0 in omega (arith, e)) in
-            let mb' : is_unmapped (allocation_at n b) ≡ false = sym (alike b).1 ∙ mb in
-            elim (cases_eq b a) [
-              | inl e ↦ elim (cases_eq j i) [
-                | inl e2 ↦ ap (slice_index (slice_set s.heap ((placed_at s.allocations a).base + i) x))
-                    (ap (λ y. (placed_at s.allocations y).base + j) e
-                    ∙ ap (λ y. (placed_at s.allocations a).base + y) e2)
-                    ∙ get_or-set_same s.heap ((placed_at s.allocations a).base + i) x 0 inside ∙ is
-                    ∙ ap (image_of bases)
-                    (sym (ap (λ y. word_at (with_word n a i v) y j) e ∙ ap (word_at (with_word n a i v) a) e2
-                    ∙ this_word n a i v li))
-                | inr ne2 ↦ get_or-set_other s.heap ((placed_at s.allocations a).base + i)
-                    ((placed_at s.allocations b).base + j) x 0
-                    (λ z. let y = ap (λ y. (placed_at s.allocations y).base) e in absurd (ne2 (omega (arith, y, z))))
-                    ∙ h.heap b j ub mb' lj' ∙ ap (image_of bases)
-                    (sym (ap (λ y. word_at (with_word n a i v) y j) e ∙ word_other n a i j v li ne2
-                    ∙ ap (λ y. word_at n y j) (sym e)))
-              ]
-              | inr ne ↦
-                  get_or-set_other s.heap ((placed_at s.allocations a).base + i) ((placed_at s.allocations b).base + j)
-                  x 0 (apart b a j i ub ua lj' li ne)
-                  ∙ h.heap b j ub mb' lj' ∙ ap (image_of bases) (sym (word_elsewhere n a i b j v ne))
-            ];
-        carried = others_carry _ _ s.flights k f n (with_word n a i v) at.there small
-            (λ a b d. bare_carries _ f a b d at.bare) (λ j r ne lr. refl) h.carried;
-        probed = others_probed s.flights k f n (with_word n a i v) at.there small (bare_unprobed f.stage at.bare)
-            (λ j r ne lr. refl) (λ j ne past v' i' m. met_same n (with_word n a i v) v' i' (λ a. (alike a).0)
-            (λ a u. (alike a).1 ∙ u) m) h.probed;
-      }
-  images_kept t m apart (Wipes x out) = record {
-    registers = h.registers;
-    globals = h.globals;
-    heap = λ a i u m lt. get_or-set_other s.heap x _ 0 0 (out a i u m lt) ∙ h.heap a i u m lt;
-    carried = h.carried;
-    probed = h.probed;
-  }
-  images_kept t m apart (Grants k d base ty f at long ld zero_there) =
+  -- with more of them
+  granted_one : (base ty : ℕ) → ((i : ℕ) → i < length (kinds_of n.types ty) → slice_index s.heap (base + i) ≡ 0)
+      → AreImages (record s { allocations = s.allocations ++ fresh_one base ty ∷ [] }) (with_new n ty)
+  granted_one base ty zero_there =
       let y = fresh_one base ty in
-      let v = Ptr (length n.allocations) ty 0 in
       let bs = bases_of (s.allocations ++ y ∷ []) in
-      let long_n = at.registers in
       let grown : (w : Value) → IsSound n w → image_of bs w ≡ image_of bases w =
       λ w sound. image_grown n s.allocations y w same sound in
       record {
-        registers = registers_from bs s.flights k f _ _ at.there
-            (λ r lr. shows_plain f _ _ (bare_owes_nothing f.stage at.bare)
-            ∙ set_both (λ z u. z ≡ image_of bs u) s.registers n.registers (8 * k + d) (8 * k + r)
-            (address_of base) 0 v Null (omega arith) (omega arith)
-            (λ e. sym (new_image s.allocations y (length n.allocations) ty same)) (λ ne. own_plain s n h k r lr at.was
-            ∙ sym (grown _ (typed.registers (8 * k + r))))) (λ i ne. ap (shown (flight_among s.flights (i / 8)) (i % 8))
-            (get_or-set_other s.registers (8 * k + d) i (address_of base) 0 (λ e. absurd (ne (omega arith))))
-            ∙ h.registers i ∙ sym (grown _ (typed.registers i)) ∙ ap (image_of bs) (sym
-            (get_or-set_other n.registers (8 * k + d) i v Null (λ e. absurd (ne (omega arith))))));
+        registers = λ i. h.registers i ∙ sym (grown _ (typed.registers i));
         globals = λ g. h.globals g ∙ sym (grown _ (typed.globals g));
         heap = λ b j u m lj. elim (cases_eq b (length n.allocations)) [
           | inl e ↦
@@ -270,35 +163,107 @@ module _ (globals : List ℕ) (s : ImageScene) (n : NeverState) (h : AreImages s
               let ga = old_placed s.allocations y b (λ e. ne (e ∙ same)) in
               let u' : (placed_at s.allocations b).released ≡ false = sym (rw ga) ∙ u in
               let lj' : j < length (words_of n b) = subst (λ (x : NeverAllocation). j < length x.words) na lj in
-              let there : b < length n.allocations = exists n b j lj' in
-              let t : IsTypedAllocation n (allocation_at n b) = typed.allocations b there in
+              let t : IsTypedAllocation n (allocation_at n b) = typed.allocations b (exists n b j lj') in
               rw ga (h.heap b j u' (sym (rw na) ∙ m) lj'
               ∙ sym (suits_grown n s.allocations y (word_at n b j) (kind_in n (allocation_at n b) j) same
               (t.words j lj')) ∙ ap (λ (x : NeverAllocation). image_of bs (slice_index_or x.words j Null)) (sym na))
         ];
-        carried = others_carry bases bs s.flights k f n (with_register (with_new n ty) k d v)
-            at.there small (λ a b d. bare_carries _ f a b d at.bare)
-            (λ j r ne lr. ap (image_of bs) (other_register (with_new n ty) k d j r v ld lr ne)
-            ∙ grown _ (typed.registers (8 * j + r))) h.carried;
-        probed = others_probed s.flights k f n (with_register (with_new n ty) k d v) at.there small
-            (bare_unprobed f.stage at.bare) (λ j r ne lr. other_register (with_new n ty) k d j r v ld lr ne)
-            (λ j ne past w i m. met_same (with_new n ty) (with_register (with_new n ty) k d v) w i (λ a. refl)
-            (λ a u. u) (meets_new n ty w i m)) h.probed;
+        carried = λ j. carries_same bases bs _ _ _ _ _ _ _ (grown _ (typed.registers _)) (grown _ (typed.registers _))
+            (grown _ (typed.registers _)) (h.carried j);
+        probed = λ j past. meets_new n ty _ _ (h.probed j past);
       }
+
+  pub images_kept : (t : ImageScene) (m : NeverState) → AreApart s.allocations n → Move safe s n t m → AreImages t m
+  images_kept t m apart Rests = h
+  images_kept t m apart (Flies k f shows carries probes) = flown s n h k f shows carries probes
+  images_kept t m apart (Owes k f v there long was put ld is safely) =
+      own_changed s n h small k f s.registers (slice_set n.registers (8 * k + d_of f.op) v) there
+      (λ a b d. put_carries _ f a b d put) (ap is_past_probe put) (λ i ne. refl)
+      (λ i ne. outside _ k (d_of f.op) i v Null ld ne) (λ r lr. elim (cases_eq r (d_of f.op)) [
+        | inl e ↦ rw e (shows_owed f _ put ∙ is ∙ ap (image_of bases)
+            (sym (get_or-set_same n.registers (8 * k + d_of f.op) v Null (omega arith))))
+        | inr ne ↦ shows_other f r _ put (λ e. ne (sym e)) ∙ own_plain s n h k r lr was ∙ ap (image_of bases)
+            (sym (get_or-set_other n.registers (8 * k + d_of f.op) (8 * k + r) v Null (λ e. absurd (ne (omega arith)))))
+      ])
+  images_kept t m apart (Pays k f there long put ld bare) =
+      let old = flight_among s.flights k in
+      own_changed s n h small k f (slice_set s.registers (8 * k + d_of old.op) old.loaded) n.registers there
+      (λ a b d. bare_carries _ f a b d bare) (bare_unprobed f.stage bare)
+      (λ i ne. outside _ k (d_of old.op) i old.loaded 0 ld ne) (λ i ne. refl)
+      (λ r lr. shows_plain f _ _ (bare_owes_nothing f.stage bare) ∙ elim (cases_eq r (d_of old.op)) [
+        | inl e ↦ rw e (get_or-set_same s.registers (8 * k + d_of old.op) old.loaded 0 (omega arith)
+            ∙ sym (shows_owed old _ put) ∙ own_shown s n h k (d_of old.op) ld)
+        | inr ne ↦ get_or-set_other s.registers (8 * k + d_of old.op) (8 * k + r) old.loaded 0
+            (λ e. absurd (ne (omega arith)))
+            ∙ sym (shows_other old r _ put (λ e. ne (sym e))) ∙ own_shown s n h k r lr
+      ])
+  images_kept t m apart (Stores k d x f v at long ld is safely) = stored s n h small k d x f v at long ld is
+  images_kept t m apart (Shares k g x f v at lg ln is safely) = decided s _ n _ (record {
+    registers = h.registers;
+    globals = λ i. set_both (λ y u. y ≡ image_of bases u) s.globals n.globals g i x 0 v Null lg ln (λ e. is)
+        (λ ne. h.globals i);
+    heap = h.heap;
+    carried = h.carried;
+    probed = λ j past. met_same n (with_global n g v) _ _ (λ a. refl) (λ a u. u) (h.probed j past);
+  }) k f at refl
+  images_kept t m apart (Writes k a i x f v at ua mapped li inside is safely) =
+      let alike = written_alike n a i v in
+      decided s _ n _ (record {
+        registers = h.registers;
+        globals = h.globals;
+        heap = λ b j ub mb lj.
+            let lj' : j < length (words_of n b) = (let e = (alike b).0 in omega (arith, e)) in
+            let mb' : is_unmapped (allocation_at n b) ≡ false = sym (alike b).1 ∙ mb in
+            elim (cases_eq b a) [
+              | inl e ↦ elim (cases_eq j i) [
+                | inl e2 ↦ rw (e, e2) (get_or-set_same s.heap ((placed_at s.allocations a).base + i) x 0 inside ∙ is
+                    ∙ ap (image_of bases) (sym (this_word n a i v li)))
+                | inr ne2 ↦ get_or-set_other s.heap ((placed_at s.allocations a).base + i)
+                    ((placed_at s.allocations b).base + j) x 0
+                    (λ z. let y = ap (λ y. (placed_at s.allocations y).base) e in absurd (ne2 (omega (arith, y, z))))
+                    ∙ h.heap b j ub mb' lj' ∙ ap (image_of bases)
+                    (let w : word_at (with_word n a i v) b j ≡ word_at n b j = rw e (word_other n a i j v li ne2) in sym w)
+              ]
+              | inr ne ↦
+                  get_or-set_other s.heap ((placed_at s.allocations a).base + i) ((placed_at s.allocations b).base + j)
+                  x 0 (apart b a j i ub ua lj' li ne)
+                  ∙ h.heap b j ub mb' lj' ∙ ap (image_of bases) (sym (word_elsewhere n a i b j v ne))
+            ];
+        carried = h.carried;
+        probed = λ j past. met_same n (with_word n a i v) _ _ (λ b. (alike b).0) (λ b u. (alike b).1 ∙ u)
+            (h.probed j past);
+      }) k f at refl
+  images_kept t m apart (Wipes x out) = record {
+    registers = h.registers;
+    globals = h.globals;
+    heap = λ a i u m lt. get_or-set_other s.heap x _ 0 0 (out a i u m lt) ∙ h.heap a i u m lt;
+    carried = h.carried;
+    probed = h.probed;
+  }
+  images_kept t m apart (Grants k d base ty f at long ld zero_there) =
+      stored _ (with_new n ty) (granted_one base ty zero_there) small k d _ f _
+      (record { there = at.there; registers = at.registers; was = at.was; bare = at.bare }) long ld
+      (sym (new_image s.allocations (fresh_one base ty) (length n.allocations) ty same))
   images_kept t m apart (Frees k a f xs at places released there others is quiet) =
+      let flies = decided s s n n h k f at refl in
       rebased (record s { flights = slice_set s.flights k f }) (with_freed n a) (record {
-        registers = plain_registers s n h small k f at;
+        registers = flies.registers;
         globals = h.globals;
         heap = λ b j u m lt. h.heap b j u (freed_was n a b m) (rw (freed_words n a b) at lt)
             ∙ rw (← (freed_words n a b));
-        carried = others_carry _ _ s.flights k f n (with_freed n a) at.there small
-            (λ a b d. bare_carries _ f a b d at.bare) (λ j r ne lr. refl) h.carried;
-        probed = others_probed s.flights k f n (with_freed n a) at.there small (bare_unprobed f.stage at.bare)
-            (λ j r ne lr. refl)
-            (λ j ne past v i m. elim (cases_Bool (is_unmapped (record (allocation_at n a) { freed = true }))) [
-              | inl e ↦ let x : false ≡ true = sym (quiet e j ne) ∙ past in cc
-              | inr e ↦ met_same n (with_freed n a) v i (λ b. rw (freed_words n a b)) (λ b u. freed_is n a b e u) m
-            ]) h.probed;
+        carried = flies.carried;
+        probed = λ j past. elim (cases_Bool (is_unmapped (record (allocation_at n a) { freed = true }))) [
+          | inl e ↦ let x : false ≡ true = sym (none_past e j) ∙ past in cc
+          | inr e ↦ met_same n (with_freed n a) _ _ (λ b. rw (freed_words n a b)) (λ b u. freed_is n a b e u)
+              (flies.probed j past)
+        ];
       }) xs places.bases (λ b u. sym (released b) ∙ u)
+    where
+      none_past : is_unmapped (record (allocation_at n a) { freed = true }) ≡ true → (j : ℕ)
+          → is_past_probe (flight_among (slice_set s.flights k f) j).stage ≡ false
+      none_past e j = elim (cases_eq j k) [
+        | inl own ↦ rw own (rw (get_or-set_same s.flights k f at_rest at.there) (bare_unprobed f.stage at.bare))
+        | inr ne ↦ rw (get_or-set_other s.flights k j f at_rest ne) (quiet e j ne)
+      ]
   images_kept t m apart (Renews xs places released freed) = rebased s n h xs places.bases (λ b u. sym (released b) ∙ u)
   images_kept t m apart (Releases xs places released freed kept cut) = rebased s n h xs places.bases released
