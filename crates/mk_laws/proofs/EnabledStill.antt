@@ -1,131 +1,24 @@
 -- An event that is enabled after a list is enabled after what others did since.
-use Rattle.std.proofs.lemmas.Nat.{div-mul-add}
-use Rattle.mk_laws.proofs.Vocabulary.{AreOfOthers, Block, Bool, Caller, Cell, Config, Event, Flight, Free, Header, Host}
-use Rattle.mk_laws.proofs.Vocabulary.{Invariant, IsEnabled, IsHistory, IsLeft, IsWordOfMapped, Later, LeafBlock}
-use Rattle.mk_laws.proofs.Vocabulary.{LeafRun, List, Marker, MeetsAll, Moment, NeverState, Option, PlacedAllocation}
-use Rattle.mk_laws.proofs.Vocabulary.{Run, Seat, Some, Step, Words, World, ℕ, address_of, and_from, ap, arith}
-use Rattle.mk_laws.proofs.Vocabulary.{cases_Bool, cases_eq, cell_ends, cell_words, cells_of, cells_under}
-use Rattle.mk_laws.proofs.Vocabulary.{class_words_of, comes_next, earlier_part_is_history, enabled_meets, eq-eqb}
-use Rattle.mk_laws.proofs.Vocabulary.{eqb-false, eqb-true, first_word, flight_of, gives_back, has_bit, has_bit_without}
-use Rattle.mk_laws.proofs.Vocabulary.{has_gates, has_phase, header_at, header_in, heads_run, holder_may, host_has_turn}
-use Rattle.mk_laws.proofs.Vocabulary.{inl, inr, is_phase, is_released_cell, left, ltb-true, ne_eqb, no_bit, not}
-use Rattle.mk_laws.proofs.Vocabulary.{or_left, or_right, page_at_address, phase_of, placed_at, pointed_cell, refl}
-use Rattle.mk_laws.proofs.Vocabulary.{run_count, slice_index, sym, true, true≢false, used_at, word_points}
-use Rattle.mk_laws.proofs.Vocabulary.{words_are_zero, words_under, [], ◌%◌, ◌*◌, ◌++◌, ◌+◌, ◌-◌, ◌/◌, ◌<◌, ◌==◌, ◌||◌}
-use Rattle.mk_laws.proofs.Vocabulary.{◌∙◌, ◌∷◌, ◌≡◌, ◌≢◌}
-use Rattle.mk_geom.specs.Addresses.{cell_of_block, cell_under, word_at_address}
-use Rattle.mk_core.{proofs.Conditions.meets_enabled, proofs.PageSteps.gives_back_is, proofs.PageSteps.left_bits}
-use Rattle.mk_core.{proofs.PointedPages.found_under, specs.Order.is_in_order, specs.TurnConditions.are_wiped}
-use Rattle.mk_laws.proofs.Basics.{Behind, KnownWorld, Meets, actor_of, along_others, mapped_stays, reg_keeps}
-use Rattle.mk_laws.proofs.Basics.{tally_keeps}
+use Rattle.mk_laws.proofs.Vocabulary.{AreOfOthers, Bool, Caller, Config, Event, Flight, Host, Invariant, IsEnabled}
+use Rattle.mk_laws.proofs.Vocabulary.{IsHistory, IsLeft, IsWordOfMapped, List, Marker, MeetsAll, Moment, NeverState}
+use Rattle.mk_laws.proofs.Vocabulary.{PlacedAllocation, Seat, Step, Words, World, ℕ, and_from, ap, arith, cases_Bool}
+use Rattle.mk_laws.proofs.Vocabulary.{cell_words, comes_next, earlier_part_is_history, enabled_meets, eq-eqb, eqb-false}
+use Rattle.mk_laws.proofs.Vocabulary.{eqb-true, first_word, flight_of, gives_back, has_bit, has_bit_without, has_gates}
+use Rattle.mk_laws.proofs.Vocabulary.{has_phase, holder_may, host_has_turn, inl, inr, is_phase, is_released_cell, left}
+use Rattle.mk_laws.proofs.Vocabulary.{ltb-true, ne_eqb, not, or_left, or_right, phase_of, placed_at, refl, slice_index}
+use Rattle.mk_laws.proofs.Vocabulary.{sym, true, true≢false, used_at, words_are_zero, [], ◌++◌, ◌+◌, ◌-◌, ◌<◌, ◌==◌}
+use Rattle.mk_laws.proofs.Vocabulary.{◌||◌, ◌∙◌, ◌∷◌, ◌≡◌, ◌≢◌}
+use Rattle.mk_core.proofs.{Conditions.meets_enabled, PageSteps.gives_back_is, PageSteps.left_bits}
+use Rattle.mk_core.specs.{Order.is_in_order, TurnConditions.are_wiped}
 use Rattle.mk_laws.proofs.FramesHolders.{Asks, OfHolder, OfNone, asks, holds_is}
 use Rattle.mk_laws.proofs.HolderStill.{gates_on, holder_on, pages_same, phase_same}
 use Rattle.mk_laws.proofs.LastEvents.{comes_last, stands}
+use Rattle.mk_laws.proofs.{Basics.Behind, Basics.KnownWorld, Basics.Meets, Basics.actor_of, Basics.along_others}
+use Rattle.mk_laws.proofs.{Basics.mapped_stays, Basics.reg_keeps, Basics.tally_keeps, CoveredWords.has_cell}
 use Rattle.mk_laws.proofs.{ForImages.laid_out, InvariantJoined.told_to_images, ProtocolFrames.other_seat}
 use Rattle.mk_laws.proofs.{ProtocolFrames.others_leave, RunsStill.holder_finds, Tests.all_below_on}
-use Rattle.mk_laws.specs.WholeRuns.{RunsAreWhole}
 
 -- The words of released cells are in no mapped allocation: what is wiped stays so.
-
--- A word of a page points into what the page's header shows there.
-under_at : (count : ℕ) (w : Words) (n q : ℕ) (y : Cell) → n / 64 ≡ q → pointed_cell count w.pages (address_of n)
-    ≡ Some y → (h : Header) × (header_in w q ≡ Some h) × (cell_under h q (n % 64) ≡ Some y)
-unfolding pointed_cell
-under_at count w n q y at is =
-    let u = found_under count (header_at w (page_at_address (address_of n))) (address_of n) y is in
-    let page : page_at_address (address_of n) ≡ q = omega arith in
-    let word : word_at_address (address_of n) ≡ n % 64 = omega arith in (
-      u.0,
-      rw (← page) u.1,
-      rw (← page) (rw (← word) u.2),
-    )
-
--- so a word of a block's cell points into that cell,
-block_word : (class page k i : ℕ) (y : Cell) → i < class_words_of class
-    → cell_of_block class page (k * class_words_of class + i) ≡ Some y → y ≡ record { page = page; index = k }
-block_word class page k i y inside is = grind (arith, div-mul-add)
-
--- and a word of a run's page into its head.
-
-own_run : (h : Header) (page word : ℕ) (y : Cell) → heads_run (Some h) ≡ true → cell_under h page word ≡ Some y
-    → y ≡ record { page = page; index = 0 }
-own_run (Run count mapped) page word y r is = cc
-own_run _ page word y r is = cc
-
-later_run : (d : ℕ) (mapped : Bool) (page word : ℕ) (y : Cell) → cell_under (Later d mapped) page word ≡ Some y
-    → y ≡ record { page = page - d; index = 0 }
-later_run d mapped page word y is = grind arith
-
-run_sizes : (h : Header) → heads_run (Some h) ≡ true
-    → (cells_under (Some h) ≡ 1) × (words_under (Some h) ≡ 64 * run_count (Some h))
-run_sizes (Run count mapped) r = (refl, refl)
-run_sizes (LeafRun count) r = (refl, refl)
-run_sizes _ r = cc
-
-module _ (c : Config) (w : World) (runs : RunsAreWhole c w) where
-  run_word : (h : Header) (p k i : ℕ) (y : Cell) → header_in w.now.words p ≡ Some h → heads_run (Some h) ≡ true
-      → k < cells_under (Some h) → i < words_under (Some h)
-      → used_at w.now.words p ≢ 0 → pointed_cell c.pages w.now.words.pages
-      (address_of (64 * p + k * words_under (Some h) + i)) ≡ Some y → y ≡ record { page = p; index = k }
-  run_word h p k i y shown r lk li used is =
-      let sizes = run_sizes h r in
-      let one = sizes.0 in
-      let words = sizes.1 in
-      let zero : k ≡ 0 = omega arith in
-      let at : 64 * p + k * words_under (Some h) + i ≡ 64 * p + i = rw zero (omega arith) in
-      let is' : pointed_cell c.pages w.now.words.pages (address_of (64 * p + i)) ≡ Some y = rw (← at) is in
-      by (i / 64) refl is' ∙ rw (← zero)
-    where
-      by : (d : ℕ) → i / 64 ≡ d → pointed_cell c.pages w.now.words.pages (address_of (64 * p + i)) ≡ Some y
-          → y ≡ record { page = p; index = 0 }
-      by d e is' = elim (cases_eq d 0) [
-        | inl first ↦
-            let u = under_at c.pages w.now.words (64 * p + i) p y (omega arith) is' in
-            own_run u.0 p _ y (ap heads_run (sym (sym shown ∙ u.1)) ∙ r) u.2
-        | inr behind ↦
-            let headed : heads_run (header_in w.now.words p) ≡ true = ap heads_run shown ∙ r in
-            let count : run_count (header_in w.now.words p) ≡ run_count (Some h) = ap run_count shown in
-            let words = (run_sizes h r).1 in
-            elim ((runs p headed).later d (omega arith) (omega arith)) [
-              | inl (mapped, later) ↦
-                  let u = under_at c.pages w.now.words (64 * p + i) (p + d) y (omega arith) is' in
-                  let same : Some (Later d mapped) ≡ Some u.0 = sym later ∙ u.1 in
-                  let its : u.0 ≡ Later d mapped = cc in
-                  let page : p + d - d ≡ p = omega arith in
-                  later_run d mapped (p + d) ((64 * p + i) % 64) y (rw its at u.2) ∙ rw page
-              | inr (free, unused, here) ↦ absurd (used unused)
-            ]
-      ]
-
-  block_word_at : (h : Header) (class p k i : ℕ) (y : Cell) → header_in w.now.words p ≡ Some h
-      → ((page word : ℕ) → cell_under h page word ≡ cell_of_block class page word)
-      → k < cells_of class → i < class_words_of class
-      → pointed_cell c.pages w.now.words.pages (address_of (64 * p + k * class_words_of class + i)) ≡ Some y
-      → y ≡ record { page = p; index = k }
-  block_word_at h class p k i y shown under lk li is =
-      let ends = cell_ends k _ lk in
-      let n : ℕ = 64 * p + k * class_words_of class + i in
-      let u = under_at c.pages w.now.words n p y (omega arith) is in
-      let same : Some h ≡ Some u.0 = sym shown ∙ u.1 in
-      let its : u.0 ≡ h = cc in
-      let word : n % 64 ≡ k * class_words_of class + i = omega arith in
-      block_word class p k i y li (rw (← word) (sym (under p (n % 64)) ∙ rw its at u.2))
-
-  -- The words of a cell point into it.
-  word_cell : (x : Option Header) (p k i : ℕ) (y : Cell) → header_in w.now.words p ≡ x → k < cells_under x
-      → i < words_under x → used_at w.now.words p ≢ 0
-      → pointed_cell c.pages w.now.words.pages (address_of (64 * p + k * words_under x + i)) ≡ Some y
-      → y ≡ record { page = p; index = k }
-  word_cell (Some (Block class)) p k i y shown lk li used is =
-      block_word_at (Block class) class p k i y shown (λ page word. refl) lk li is
-  word_cell (Some (LeafBlock class)) p k i y shown lk li used is =
-      block_word_at (LeafBlock class) class p k i y shown (λ page word. refl) lk li is
-  word_cell (Some (Run count mapped)) p k i y shown lk li used is =
-      run_word (Run count mapped) p k i y shown refl lk li used is
-  word_cell (Some (LeafRun count)) p k i y shown lk li used is =
-      run_word (LeafRun count) p k i y shown refl lk li used is
-  word_cell (Some Free) p k i y shown lk li used is = absurd (omega arith)
-  word_cell _ p k i y shown lk li used is = absurd (omega arith)
 
 module _ (c : Config) (w v : World) (n : NeverState) (known : KnownWorld c w) (all : Invariant c w n)
     (pages : v.now.words.pages ≡ w.now.words.pages) (outside : (i : ℕ) → (IsWordOfMapped c w.allocations i → ⊥)
@@ -140,11 +33,8 @@ module _ (c : Config) (w v : World) (n : NeverState) (known : KnownWorld c w) (a
       let l = laid_out c w known all.order.laid m.number u in
       let at = left_bits w.now.words p _ k (gives_back_is w.now.words p value back).left bit in
       let lk = all.order.known p k (all.order.quarantined.within p k at.0) in
-      let used : used_at w.now.words p ≢ 0 = λ z. let none : used_at w.now.words p - value ≡ 0 =
-      omega arith in true≢false (sym bit ∙ no_bit _ k none) in
-      let cell = word_cell c w all.order.runs _ p k i _ refl lk li used
-      (word_points c w.now.words a known.limits l.stands l.headers
-      (first_word w.now.words (record { page = p; index = k }) + i) m.word) in
+      let cell = has_cell c w all.order.runs p k (first_word w.now.words (record { page = p; index = k }) + i) lk
+      (omega arith) (omega arith) a known.limits l.stands l.headers m.word in
       let left : is_released_cell w.now.words (record { page = p; index = k }) ≡ true =
       and_from _ _ four (has_bit_without _ _ k ∙ and_from _ _ at.0 (ap not at.1)) in
       true≢false (sym left ∙ ap (is_released_cell w.now.words) (sym cell)

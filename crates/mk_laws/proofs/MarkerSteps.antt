@@ -1,109 +1,20 @@
 -- What a marker holds is touched, and what it scans has no leaf, after each step.
-use Rattle.mk_laws.proofs.Vocabulary.{Block, Bool, Caller, Cell, Config, Header, Host, IsIdle, IsWordOf, Later}
-use Rattle.mk_laws.proofs.Vocabulary.{LeafBlock, LeafRun, Marker, MarkerStands, MarkerState, NeverState, None, Option}
-use Rattle.mk_laws.proofs.Vocabulary.{PlacedAllocation, Run, Scan, ScanStands, Seat, SeenHeader, Some, Step, Word}
-use Rattle.mk_laws.proofs.Vocabulary.{World, ℕ, address_of, and_parts, ap, arith, behind_mlook, cases_eq, cases_lt}
-use Rattle.mk_laws.proofs.Vocabulary.{cell_at, cell_ends, cell_of_allocation, cell_words, cells_begin, cells_under}
-use Rattle.mk_laws.proofs.Vocabulary.{eqb-true, false, first_word, found, has_bit, has_next_word, has_no_pointers}
-use Rattle.mk_laws.proofs.Vocabulary.{has_seen_cell, head_page, head_page_under, header_at, header_in, header_of}
-use Rattle.mk_laws.proofs.Vocabulary.{heads_run, if◌then◌else◌, inl, inr, is_heap_address, is_marked, is_none, ltb-true}
-use Rattle.mk_laws.proofs.Vocabulary.{marker_behind, marker_of, mul-le, nat_lt, next_word, none-some, page_at_address}
-use Rattle.mk_laws.proofs.Vocabulary.{placed_at, pointed_cell, refl, run_count, same_Some, scan_begun, scan_claimed}
-use Rattle.mk_laws.proofs.Vocabulary.{scan_onward, slice_index, storage_of, storage_words, subst, sym, true}
-use Rattle.mk_laws.proofs.Vocabulary.{word_points, words_under, ◌&&◌, ◌*◌, ◌+◌, ◌-◌, ◌/◌, ◌<◌, ◌==◌, ◌∙◌, ◌≡◌, ◌≢◌, ◌≤◌}
-use Rattle.mk_core.{proofs.PointedPages.pointed_head, specs.Effects.hand_behind_look, specs.Effects.open_hand}
+use Rattle.mk_laws.proofs.Vocabulary.{Bool, Caller, Cell, Config, Host, IsIdle, Marker, MarkerStands, MarkerState}
+use Rattle.mk_laws.proofs.Vocabulary.{NeverState, None, Option, PlacedAllocation, Scan, ScanStands, Seat, SeenHeader}
+use Rattle.mk_laws.proofs.Vocabulary.{Some, Step, Word, World, ℕ, and_parts, ap, arith, behind_mlook, cell_at}
+use Rattle.mk_laws.proofs.Vocabulary.{cell_words, cells_under, eqb-true, false, first_word, found, has_bit}
+use Rattle.mk_laws.proofs.Vocabulary.{has_next_word, has_no_pointers, has_seen_cell, header_at, header_in, header_of}
+use Rattle.mk_laws.proofs.Vocabulary.{if◌then◌else◌, inl, inr, is_heap_address, is_marked, is_none, ltb-true}
+use Rattle.mk_laws.proofs.Vocabulary.{marker_behind, marker_of, nat_lt, next_word, none-some, page_at_address}
+use Rattle.mk_laws.proofs.Vocabulary.{placed_at, refl, same_Some, scan_begun, scan_claimed, scan_onward, slice_index}
+use Rattle.mk_laws.proofs.Vocabulary.{storage_of, subst, sym, true, ◌&&◌, ◌+◌, ◌-◌, ◌<◌, ◌==◌, ◌∙◌, ◌≡◌, ◌≢◌, ◌≤◌}
+use Rattle.mk_core.specs.Effects.{hand_behind_look, open_hand}
 use Rattle.mk_laws.proofs.NoLeaves.{no_leaf_behind, scanned_has_none}
 use Rattle.mk_laws.proofs.Precise.{HasNoLeaf, IsPrecise, MarkerIsPrecise, PointsOnlyInto, PrecisionScene, Steps}
 use Rattle.mk_laws.proofs.Precise.{precision_scene_of}
 use Rattle.mk_laws.proofs.Worlds.{IsHeld, Told, headers, held, stands}
-use Rattle.mk_laws.proofs.{Basics.WorldBehind, Basics.marker_set, Headers.free_shows, MarkSteps.points_behind}
+use Rattle.mk_laws.proofs.{Basics.WorldBehind, Basics.marker_set, CoveredWords.has_cell, MarkSteps.points_behind}
 use Rattle.mk_laws.specs.Guard.{EndsItsCell, cell_scanned}
-
--- A scanned word that isn't 0 is one of the unreleased allocation of the cell.
-
--- A number lies in one of the pieces of a length.
-one_piece : (size k j y : ℕ) → k * size ≤ y → y < k * size + size → j * size ≤ y → y < j * size + size → k ≡ j
-one_piece size k j y from to from2 to2 = grind (arith, cases_lt, mul-le)
-
--- A page that has a header and a word of a cell names the cell's page.
-scanned_head : (c : Config) (w : World) (n : NeverState) (p k x : ℕ) → Told c w n
-    → k < cells_under (header_in w.now.words p) → 64 * p + k * words_under (header_in w.now.words p) ≤ x
-    → x < 64 * p + k * words_under (header_in w.now.words p) + words_under (header_in w.now.words p)
-    → header_at w.now.words (x / 64) ≢ 0 → head_page w.now.words (x / 64) ≡ p
-scanned_head c w n p k x t known from to some = by (header_in w.now.words p) refl known from to
-  where
-    here : (o : Option Header) → header_in w.now.words p ≡ o → head_page_under o p ≡ p → x / 64 ≡ p
-        → head_page w.now.words (x / 64) ≡ p
-    here o is own at = ap (λ q. head_page w.now.words q) at ∙ rw is own
-
-    later : (o : Option Header) (d : ℕ) → header_in w.now.words p ≡ o → heads_run o ≡ true → 1 ≤ d → d < run_count o
-        → x / 64 ≡ p + d → head_page w.now.words (x / 64) ≡ p
-    later o d is heads one lt at = elim ((t.all.order.runs p (ap heads_run is ∙ heads)).later d one (rw is lt)) [
-      | inl shows ↦
-          let back : head_page_under (Some (Later d shows.0)) (p + d) ≡ p = omega arith in
-          ap (λ q. head_page w.now.words q) at ∙ rw shows.1 back
-      | inr free ↦ absurd (some (ap (λ q. header_at w.now.words q) at ∙ free.0))
-    ]
-
-    on_run : (o : Option Header) (count : ℕ) → header_in w.now.words p ≡ o → head_page_under o p ≡ p
-        → heads_run o ≡ true → run_count o ≡ count → k < 1 → 64 * p + k * (64 * count) ≤ x
-        → x < 64 * p + k * (64 * count) + 64 * count → head_page w.now.words (x / 64) ≡ p
-    on_run o count is own heads pages lt lo hi =
-        let zero : k ≡ 0 = omega arith in
-        let none : k * (64 * count) ≡ 0 = rw zero (omega arith) in
-        let low : 64 * p ≤ x = omega arith in
-        let high : x < 64 * p + 64 * count = omega arith in
-        elim (cases_eq (x / 64) p) [
-          | inl at ↦ here o is own at
-          | inr ne ↦ later o (x / 64 - p) is heads (omega arith) (omega arith) (omega arith)
-        ]
-
-    by : (o : Option Header) → header_in w.now.words p ≡ o → k < cells_under o → 64 * p + k * words_under o ≤ x
-        → x < 64 * p + k * words_under o + words_under o → head_page w.now.words (x / 64) ≡ p
-    by (Some (Block class)) is lt lo hi =
-        let ends = cell_ends k _ lt in here (Some (Block class)) is refl (omega arith)
-    by (Some (LeafBlock class)) is lt lo hi =
-        let ends = cell_ends k _ lt in here (Some (LeafBlock class)) is refl (omega arith)
-    by (Some (Run count mapped)) is lt lo hi = on_run _ count is refl refl refl lt lo hi
-    by (Some (LeafRun count)) is lt lo hi = on_run _ count is refl refl refl lt lo hi
-    by _ is lt lo hi = absurd (omega arith)
-
--- What points somewhere is on a page with a header.
-pointed_some : (c : Config) (w : World) (v : ℕ) (y : Cell) → pointed_cell c.pages w.now.words.pages v ≡ Some y
-    → header_at w.now.words (page_at_address v) ≢ 0
-unfolding pointed_cell
-pointed_some c w v y is z = free_shows c.pages v y (ap (λ h. cell_at c.pages h v) (sym z) ∙ is)
-
--- The allocation that has a word of the cell is the cell's.
-pub scanned_cell : (c : Config) (w : World) (n : NeverState) (p k x a : ℕ) → Told c w n
-    → k < cells_under (header_in w.now.words p) → 64 * p + k * words_under (header_in w.now.words p) ≤ x
-    → x < 64 * p + k * words_under (header_in w.now.words p) + words_under (header_in w.now.words p)
-    → (placed_at w.allocations a).released ≡ false → IsWordOf (storage_of c (placed_at w.allocations a)) x
-    → cell_of_allocation c (placed_at w.allocations a) ≡ record { page = p; index = k }
-scanned_cell c w n p k x i t known from to u word =
-    let a : PlacedAllocation = placed_at w.allocations i in
-    let cell : Cell = cell_of_allocation c a in
-    let points : pointed_cell c.pages w.now.words.pages (address_of x) ≡ Some cell =
-    word_points c w.now.words a t.known.limits (stands c w n t i u) (headers c w n t i u) x word in
-    let at : page_at_address (address_of x) ≡ x / 64 = omega arith in
-    let page : cell.page ≡ p =
-    pointed_head c.pages w.now.words (address_of x) cell points ∙ ap (λ q. head_page w.now.words q) at
-    ∙ scanned_head c w n p k x t known from to
-    (λ z. pointed_some c w (address_of x) cell points (ap (λ q. header_at w.now.words q) at ∙ z)) in
-    let index : k ≡ cell.index =
-    let begin = cells_begin c w.now.words a t.known.limits (stands c w n t i u) (headers c w n t i u) in
-    let size : words_under (header_in w.now.words p) ≡ storage_words c a =
-    ap (λ q. words_under (header_in w.now.words q)) (sym page) ∙ begin.1 in
-    let product : cell.index * words_under (header_in w.now.words cell.page) ≡ cell.index * words_under
-    (header_in w.now.words p) = ap (λ q. cell.index * words_under (header_in w.now.words q)) page in
-    let first : 64 * cell.page + cell.index * words_under (header_in w.now.words cell.page) ≡ a.base = begin.0 in
-    let there : cell.page ≡ p = page in
-    let low : a.base ≤ x = word.0 in
-    let high : x < a.base + storage_words c a = word.1 in
-    one_piece (words_under (header_in w.now.words p)) k cell.index (x - 64 * p) (omega arith) (omega arith)
-    (omega arith) (omega arith) in
-    ap (λ (q : ℕ). record { page = q; index = cell.index }) page
-    ∙ ap (λ (j : ℕ). record { page = p; index = j }) (sym index)
 
 -- A marker that is in the middle of nothing holds and has seen nothing.
 pub idle_is_precise : (c : Config) (s : PrecisionScene) (T : ℕ → Type 0) (x : MarkerState) → IsIdle x
@@ -193,8 +104,9 @@ loaded_points c w n seat x after T hand z s precise st less none b points =
     let low : 65536 ≤ slice_index w.now.words.heap z.next = points.1.0 in
     let o : IsHeld c w z.next = held c w n s.before s.early z.next (λ e. absurd (omega arith)) in
     let a : PlacedAllocation = placed_at w.allocations o.number in
-    let same : cell_of_allocation c a ≡ cell_scanned z =
-    scanned_cell c w n z.page z.index z.next o.number s.before st.index st.start (inside st.end) o.unreleased o.word in
+    let same = has_cell c w s.before.all.order.runs z.page z.index z.next st.index st.start (inside st.end) a
+    s.before.known.limits (stands c w n s.before o.number o.unreleased) (headers c w n s.before o.number o.unreleased)
+    o.word in
     let touched : T o.number = precise.marked o.number o.unreleased
     (subst (λ (y : Cell). is_marked w.now.words y ≡ true) (sym same) st.marked) in
     let leaf : (storage_of c a).leaf ≡ false =
