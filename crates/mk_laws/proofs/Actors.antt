@@ -74,24 +74,20 @@ acts c m (Caller k) x a h = by (group_of x) refl
 
     by : (g : Group) → group_of x ≡ g → Actor c m (Caller k) x
     by Group.Callers g = InCallOf k x lt g
-    by Group.Markers g = let e : false ≡ true = ap (λ (y : Group). is_open_to (Caller k) y) (sym g) ∙ h.kind in cc
-    by Group.Host g = let e : false ≡ true = ap (λ (y : Group). is_open_to (Caller k) y) (sym g) ∙ h.kind in cc
     by Group.Turn g = elim (cases_Bool (is_take x)) [
       | inl t ↦ caller_takes c m k x h t
       | inr t ↦
           AsHolder (Caller k) x (lt, turns_stand _ f.op (of_turn _ f.op x g t h.order) (a k lt)) (turns_kind x g t)
     ]
+    by _ g = let e : false ≡ true = ap (is_open_to (Caller k)) (sym g) ∙ h.kind in cc
 acts c m (Marker k) x a h = by (group_of x) refl
   where
     by : (g : Group) → group_of x ≡ g → Actor c m (Marker k) x
     by Group.Markers g = AsMarker k x (ltb-true k 8 h.seat) g
-    by Group.Callers g = let e : false ≡ true = ap (λ (y : Group). is_open_to (Marker k) y) (sym g) ∙ h.kind in cc
-    by _ g = let e : false ≡ true = ap (λ (y : Group). is_open_to (Marker k) y) (sym g) ∙ h.kind in cc
+    by _ g = let e : false ≡ true = ap (is_open_to (Marker k)) (sym g) ∙ h.kind in cc
 acts c m Host x a h = by (group_of x) refl
   where
     by : (g : Group) → group_of x ≡ g → Actor c m Host x
-    by Group.Callers g = let e : false ≡ true = ap (λ (y : Group). is_open_to Host y) (sym g) ∙ h.kind in cc
-    by Group.Markers g = let e : false ≡ true = ap (λ (y : Group). is_open_to Host y) (sym g) ∙ h.kind in cc
     by Group.Host g = over_alone x g h
       where
         over_alone : (x : Step) → group_of x ≡ Group.Host → Meets c m Host x → Actor c m Host x
@@ -102,6 +98,7 @@ acts c m Host x a h = by (group_of x) refl
       | inl t ↦ host_takes c m x h t
       | inr t ↦ AsHolder Host x (eqb-true m.words.turn (1 + c.callers) (host_may c m x g t h.order)) (turns_kind x g t)
     ]
+    by _ g = let e : false ≡ true = ap (is_open_to Host) (sym g) ∙ h.kind in cc
 
 -- a New is decided by its own caller alone
 

@@ -9,7 +9,7 @@ use Rattle.mk_laws.proofs.Vocabulary.{first_page_shows, get_or, header_in, inl, 
 use Rattle.mk_laws.proofs.Vocabulary.{mul-le, object_placed, pages_made, pages_some, placed_at, refl, small_pages}
 use Rattle.mk_laws.proofs.Vocabulary.{small_words, stands_on, storage_is_of, storage_of, storage_words, suc, sym, true}
 use Rattle.mk_laws.proofs.Vocabulary.{true≢false, unreleased_storage, words_within, zero, [], ◌%◌, ◌*◌, ◌+◌, ◌-◌, ◌/◌}
-use Rattle.mk_laws.proofs.Vocabulary.{◌<◌, ◌∙◌, ◌∷◌, ◌≡◌, ◌≢◌, ◌≤◌}
+use Rattle.mk_laws.proofs.Vocabulary.{Among, StandsOnHeap, ◌<◌, ◌∙◌, ◌∷◌, ◌≡◌, ◌≢◌, ◌≤◌}
 use Rattle.mk_geom.{proofs.Standing.stands_parts, specs.Storages.LieApart}
 use Rattle.mk_core.proofs.UnreleasedStorage.{released_front, unreleased_front}
 use Rattle.mk_core.proofs.{Sizes.words_are_small, StandingAllocations.placed_cell}
@@ -33,13 +33,27 @@ pub record Rests (c : Config) (w : Words) (xs : List PlacedAllocation) : Type 0 
   pub laid : IsLaidOn (quiet_scene c w xs)
   pub cells : (i : ℕ) → (placed_at xs i).released ≡ false → IsAtCell c (placed_at xs i)
 
-pub shown_of : (c : Config) (w : Words) (xs : List PlacedAllocation) (i : ℕ) → Rests c w xs
-    → (placed_at xs i).released ≡ false → IsShown w.pages (claim_of c None (placed_at xs i))
-shown_of c w xs i r u = r.laid.shown (claim_of c None (placed_at xs i)) (claim_among c None xs i u)
+-- what is known of an unreleased allocation
+pub record Lies (c : Config) (w : Words) (xs : List PlacedAllocation) (a : PlacedAllocation) : Type 0 where
+  pub among : Among (claim_of c None a) (claims_of c None xs)
+  pub shown : IsShown w.pages (claim_of c None a)
+  pub stands : StandsOnHeap c a
+  pub begins : BeginsAtCell (object_placed c a) a.base
+  pub part : ShowsPart (object_placed c a) 0 (header_in w (a.base / 64))
 
-pub standing_of : (c : Config) (w : Words) (xs : List PlacedAllocation) (i : ℕ) → Rests c w xs
-    → (placed_at xs i).released ≡ false → IsStanding c w (placed_at xs i)
-standing_of c w xs i r u = stands_there c None w (placed_at xs i) r.lengths (shown_of c w xs i r u) u (r.cells i u)
+pub lies : (c : Config) (w : Words) (xs : List PlacedAllocation) → Rests c w xs → (i : ℕ)
+    → (placed_at xs i).released ≡ false → Lies c w xs (placed_at xs i)
+lies c w xs r i u =
+    let a : PlacedAllocation = placed_at xs i in
+    let shown : IsShown w.pages (claim_of c None a) = r.laid.shown (claim_of c None a) (claim_among c None xs i u) in
+    let s = stands_there c None w a r.lengths shown u (r.cells i u) in
+    record {
+      among = claim_among c None xs i u;
+      shown = shown;
+      stands = s.stands;
+      begins = (r.cells i u).begins;
+      part = first_page_shows c w a shown.sized s.headers;
+    }
 
 -- the pages of its storage
 pub on_its_pages : (c : Config) (a : PlacedAllocation) (p : ℕ) → IsSized (object_placed c a)
@@ -68,21 +82,11 @@ same_block_by o u x y e any (OfRun d f l k) so su = absurd (true≢false (sym su
 same_block_by o u x y e any (OfLeafRun f l k) so su = absurd (true≢false (sym su ∙ l))
 same_block_by o u x y e any (OfLater d f l) so su = absurd (true≢false (sym su ∙ l))
 
-pub first_part_of : (c : Config) (w : Words) (xs : List PlacedAllocation) (i : ℕ) → Rests c w xs
-    → (placed_at xs i).released ≡ false
-    → ShowsPart (object_placed c (placed_at xs i)) 0 (header_in w ((placed_at xs i).base / 64))
-first_part_of c w xs i r u = first_page_shows c w (placed_at xs i) (shown_of c w xs i r u).sized
-    (standing_of c w xs i r u).headers
-
-pub same_block : (c : Config) (w : Words) (xs : List PlacedAllocation) (i j : ℕ) → Rests c w xs
-    → (placed_at xs i).released ≡ false → (placed_at xs j).released ≡ false
-    → is_small_object (object_placed c (placed_at xs i)) ≡ true
-    → is_small_object (object_placed c (placed_at xs j)) ≡ true
-    → (placed_at xs i).base / 64 ≡ (placed_at xs j).base / 64
-    → (class_made (object_placed c (placed_at xs i)) ≡ class_made (object_placed c (placed_at xs j)))
-    × ((object_placed c (placed_at xs i)).leaf ≡ (object_placed c (placed_at xs j)).leaf)
-same_block c w xs i j r u v si sj page = same_block_by _ _ _ _
-    (rw page) (first_part_of c w xs i r u) (first_part_of c w xs j r v) si sj
+pub same_block : {c : Config} {w : Words} {xs : List PlacedAllocation} {a b : PlacedAllocation} → Lies c w xs a
+    → Lies c w xs b → is_small_object (object_placed c a) ≡ true → is_small_object (object_placed c b) ≡ true
+    → a.base / 64 ≡ b.base / 64 → (class_made (object_placed c a) ≡ class_made (object_placed c b))
+    × ((object_placed c a).leaf ≡ (object_placed c b).leaf)
+same_block x y small_a small_b page = same_block_by _ _ _ _ (rw page) x.part y.part small_a small_b
 
 -- The cell's index is that at which the object begins.
 pub index_is : (c : Config) (a : PlacedAllocation) → IsSized (object_placed c a)
@@ -94,35 +98,17 @@ pub small_is : (c : Config) (a : PlacedAllocation) → IsSized (object_placed c 
 small_is c a sized = words_are_small (object_placed c a) sized
 
 -- two of them lie apart
-module _ (c : Config) (w : Words) (xs : List PlacedAllocation) (i j : ℕ) (r : Rests c w xs)
-    (u : (placed_at xs i).released ≡ false) (v : (placed_at xs j).released ≡ false)
-    (other : (IsOfOneCell (claim_of c None (placed_at xs i)) (claim_of c None (placed_at xs j)) → ⊥)) where
-  abbrev b : PlacedAllocation
-  b = placed_at xs j
-
-  abbrev a : PlacedAllocation
-  a = placed_at xs i
-
-  sa : IsShown w.pages (claim_of c None a)
-  sa = shown_of c w xs i r u
-
-  sb : IsShown w.pages (claim_of c None b)
-  sb = shown_of c w xs j r v
-
-  ba : BeginsAtCell (object_placed c a) a.base
-  ba = (r.cells i u).begins
-
-  bb : BeginsAtCell (object_placed c b) b.base
-  bb = (r.cells j v).begins
-
+module _ (c : Config) (w : Words) (xs : List PlacedAllocation) (a b : PlacedAllocation)
+    (laid : IsLaidOn (quiet_scene c w xs)) (x : Lies c w xs a) (y : Lies c w xs b)
+    (other : IsOfOneCell (claim_of c None a) (claim_of c None b) → ⊥) where
   -- where they share no page
   far : ((d e : ℕ) → d < pages_made (object_placed c a) → e < pages_made (object_placed c b)
       → a.base / 64 + d ≢ b.base / 64 + e) → LieApart (storage_of c a) (storage_of c b)
   far none =
-      let pa = pages_some (object_placed c a) sa.sized in
-      let pb = pages_some (object_placed c b) sb.sized in
-      let ha = ends_on_pages (object_placed c a) a.base sa.sized ba in
-      let hb = ends_on_pages (object_placed c b) b.base sb.sized bb in
+      let pa = pages_some (object_placed c a) x.shown.sized in
+      let pb = pages_some (object_placed c b) y.shown.sized in
+      let ha = ends_on_pages (object_placed c a) a.base x.shown.sized x.begins in
+      let hb = ends_on_pages (object_placed c b) b.base y.shown.sized y.begins in
       record {
         apart = elim (cases_lt (b.base / 64) (a.base / 64 + pages_made (object_placed c a))) [
           | inr ge ↦ inl (omega arith)
@@ -135,8 +121,8 @@ module _ (c : Config) (w : Words) (xs : List PlacedAllocation) (i j : ℕ) (r : 
           ]
         ];
         alike = λ p ha2 hb2.
-            let ra = on_its_pages c a p sa.sized ba ha2 in
-            let rb = on_its_pages c b p sb.sized bb hb2 in
+            let ra = on_its_pages c a p x.shown.sized x.begins ha2 in
+            let rb = on_its_pages c b p y.shown.sized y.begins hb2 in
             let a0 = ra.0 in
             let a1 = ra.1 in
             let b0 = rb.0 in
@@ -148,37 +134,37 @@ module _ (c : Config) (w : Words) (xs : List PlacedAllocation) (i j : ℕ) (r : 
   near : is_small_object (object_placed c a) ≡ true → is_small_object (object_placed c b) ≡ true
       → a.base / 64 ≡ b.base / 64 → LieApart (storage_of c a) (storage_of c b)
   near small_a small_b page =
-      let same = same_block c w xs i j r u v small_a small_b page in
+      let same = same_block x y small_a small_b page in
       let k : ℕ = class_words_of (class_made (object_placed c b)) in
       let wa : storage_words c a ≡ k = small_words (object_placed c a) small_a ∙ rw same.0 in
       let wb : storage_words c b ≡ k = small_words (object_placed c b) small_b in
-      let first_a : a.base % 64 ≡ ba.index * k = ba.first ∙ rw wa in
-      let first_b : b.base % 64 ≡ bb.index * k = bb.first ∙ rw wb in
+      let first_a : a.base % 64 ≡ x.begins.index * k = x.begins.first ∙ rw wa in
+      let first_b : b.base % 64 ≡ y.begins.index * k = y.begins.first ∙ rw wb in
       record {
-        apart = elim (cases_order ba.index bb.index) [
-          | inl e ↦ absurd (other (page, index_is c a sa.sized ba ∙ e ∙ sym (index_is c b sb.sized bb)))
-          | inr (inl lt) ↦ let m = mul-le (suc ba.index) k bb.index k lt (le_refl k) in inl (omega arith)
-          | inr (inr gt) ↦ let m = mul-le (suc bb.index) k ba.index k gt (le_refl k) in inr (omega arith)
+        apart = elim (cases_order x.begins.index y.begins.index) [
+          | inl e ↦ absurd (other (page, index_is c a x.shown.sized x.begins ∙ e ∙ sym (index_is c b y.shown.sized y.begins)))
+          | inr (inl lt) ↦ let m = mul-le (suc x.begins.index) k y.begins.index k lt (le_refl k) in inl (omega arith)
+          | inr (inr gt) ↦ let m = mul-le (suc y.begins.index) k x.begins.index k gt (le_refl k) in inr (omega arith)
         ];
-        alike = λ p ha hb. (small_is c a sa.sized ∙ small_a, small_is c b sb.sized ∙ small_b, wa ∙ sym wb, same.1);
+        alike = λ p ha hb. (small_is c a x.shown.sized ∙ small_a, small_is c b y.shown.sized ∙ small_b, wa ∙ sym wb, same.1);
       }
 
-  by : (x : Bool) → is_small_object (object_placed c a) ≡ x → (y : Bool) → is_small_object (object_placed c b) ≡ y
+  by : (s t : Bool) → is_small_object (object_placed c a) ≡ s → is_small_object (object_placed c b) ≡ t
       → LieApart (storage_of c a) (storage_of c b)
-  by false l y is = far (λ d e ld le at.
-      let same = shares_run _ _ _ d e r.laid (claim_among c None xs i u) (claim_among c None xs j v) l ld le (sym at) in
+  by false t l m = far (λ d e ld le at.
+      let same = shares_run _ _ _ d e laid x.among y.among l ld le (sym at) in
       other (ap (λ (z : Claim). z.page) (sym same), ap (λ (z : Claim). z.index) (sym same)))
-  by true s false l = far (λ d e ld le at.
-      let same = shares_run _ _ _ e d r.laid (claim_among c None xs j v) (claim_among c None xs i u) l le ld at in
+  by true false l m = far (λ d e ld le at.
+      let same = shares_run _ _ _ e d laid y.among x.among m le ld at in
       other (ap (λ (z : Claim). z.page) same, ap (λ (z : Claim). z.index) same))
-  by true s true s2 = elim (cases_eq (a.base / 64) (b.base / 64)) [
-    | inl page ↦ near s s2 page
-    | inr ne ↦ far (λ d e ld le at. let one = small_pages (object_placed c a) s in let two = small_pages
-        (object_placed c b) s2 in ne (omega arith))
+  by true true l m = elim (cases_eq (a.base / 64) (b.base / 64)) [
+    | inl page ↦ near l m page
+    | inr ne ↦ far (λ d e ld le at.
+        let one = small_pages (object_placed c a) l in let two = small_pages (object_placed c b) m in ne (omega arith))
   ]
 
   pub lie_apart : LieApart (storage_of c a) (storage_of c b)
-  lie_apart = by (is_small_object (object_placed c a)) refl (is_small_object (object_placed c b)) refl
+  lie_apart = by _ _ refl refl
 
 swapped : (s t : Storage) → LieApart s t → LieApart t s
 swapped s t l = grind arith

@@ -10,7 +10,7 @@ use Rattle.mk_laws.proofs.Vocabulary.{world_behind, ◌*◌, ◌+◌, ◌<◌, �
 use Rattle.mk_core.proofs.RegisterAccesses.{register_leaves}
 use Rattle.mk_core.specs.Effects.{begins_where_free, progress_probe}
 use Rattle.mk_laws.proofs.Basics.{KnownWorld, Leads, PagesShow, Ready, at_its_stage, at_reg, either_leads, flight}
-use Rattle.mk_laws.proofs.Basics.{goes_bare, is_astray, is_call_stage, not_astray, operands_of, standing, standing_at}
+use Rattle.mk_laws.proofs.Basics.{goes_bare, is_astray, is_call_stage, not_astray, operands_of, register_small, standing, standing_at}
 use Rattle.mk_laws.proofs.ImagesCallMoves.{cas_leads, getg_leads, probe_leads, read_leads, setg_leads, write_leads}
 use Rattle.mk_laws.proofs.{ImagesKept.own_plain, ImagesMoves.Flies, ImagesMoves.is_bare, NextSteps.at_enter}
 use Rattle.mk_laws.proofs.{Ready.LeadsBy, RegMoves.flies_on, RegMoves.reg_leads, RegMoves.registers_behind}
@@ -144,13 +144,8 @@ module _ (c : Config) (w : World) (n : NeverState) (known : KnownWorld c w) (mir
         rw (reg_registers w.now.words k f f.stage, kept.globals, kept.heap)
         (reg_leads c.globals safe _ n k ready (there_is k (lt h)) (own_registers k (lt h)) (own_words k (lt h)) f.stage
         f.op f.q f.p f.r f.loaded x refl (own_d k) (at_reg f.stage f.op h.order) (own_astray k (lt h))
-        (ready.images.carried k) (λ np. own_plain _ n ready.images k _ (register_small_here f.stage) np) ad)
-      where
-        register_small_here : (s : Stage) → register_met f s < 8
-        register_small_here Stage.LoadQ = (ready.small k).0
-        register_small_here Stage.LoadP = (ready.small k).1
-        register_small_here Stage.LoadR = (ready.small k).2
-        register_small_here _ = (ready.small k).3
+        (ready.images.carried k) (λ np. own_plain _ n ready.images k _
+        (register_small f f.stage (operands_of c f.op (known.now.operands k))) np) ad)
 
     pub probe_leads_at : PagesShow (header_at w.now.words) (image_scene_of w) n → Meets c w k Step.Probe
         → AdmittedAt c w n k Step.Probe → LeadsAt c w n safe k Step.Probe

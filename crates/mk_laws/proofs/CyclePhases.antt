@@ -1,5 +1,5 @@
 -- The phases of a cycle: which a step asks for and leaves, and between which steps they stand.
-use Rattle.mk_laws.proofs.Vocabulary.{AreEnabledFrom, Config, Event, List, Moment, Seat, Step, World, [], ap, arith}
+use Rattle.mk_laws.proofs.Vocabulary.{AreEnabledFrom, Bool, Config, Event, List, Moment, Seat, Step, World, [], ap, arith}
 use Rattle.mk_laws.proofs.Vocabulary.{enabled_meets, eqb-true, false, is_begin, is_close, is_release, left_from}
 use Rattle.mk_laws.proofs.Vocabulary.{list_any, or_from, or_parts, phase_of, refl, subst, sym, world_behind, ℕ, ◌%◌}
 use Rattle.mk_laws.proofs.Vocabulary.{◌∷◌, ◌≡◌, ◌≤◌}
@@ -66,6 +66,22 @@ pub moves_phase : (c : Config) (w : World) (e : Event) (es : List Event) → Are
 unfolding AreEnabledFrom
 moves_phase c w e es on = grind (arith, enabled_meets, phase_asked, phase_moves)
 
+-- Without events of one kind a claim of the phase stays along a list, and another kind doesn't come, where each step
+-- says so.
+pub phases_go_on : (P : ℕ → Type 0) (stops out : Step → Bool)
+    → ((x : Step) (p : ℕ) → AsksPhase x p → P p → stops x ≡ false → P (phase_behind x p) × (out x ≡ false))
+    → (c : Config) (w : World) (es : List Event) → AreEnabledFrom c w es → P (phase_of w.now.words)
+    → list_any (λ (e : Event). stops e.step) es ≡ false
+    → P (phase_of (left_from c w es).now.words) × (list_any (λ (e : Event). out e.step) es ≡ false)
+unfolding left_from
+phases_go_on P stops out one c w [] on here none = (here, refl)
+phases_go_on P stops out one c w (e ∷ es) on here none =
+    let outs = or_parts _ (list_any (λ (x : Event). stops x.step) es) none in
+    let moves = moves_phase c w e es on in
+    let next = one e.step _ moves.0 here outs.0 in
+    let rest = phases_go_on P stops out one c (world_behind c w e) es moves.2 (subst P (sym moves.1) next.0) outs.1 in
+    (rest.0, or_from _ (list_any (λ (x : Event). out x.step) es) next.1 rest.1)
+
 pub record MarkingGoesOn (c : Config) (w : World) (es : List Event) : Type 0 where
   pub phase : IsMarking (phase_of (left_from c w es).now.words)
   pub none_begins : list_any (λ (e : Event). is_begin e.step) es ≡ false
@@ -73,18 +89,12 @@ pub record MarkingGoesOn (c : Config) (w : World) (es : List Event) : Type 0 whe
 
 pub marking_goes_on : (c : Config) (w : World) (es : List Event) → AreEnabledFrom c w es
     → IsMarking (phase_of w.now.words) → list_any (λ (e : Event). is_close e.step) es ≡ false → MarkingGoesOn c w es
-unfolding left_from
-marking_goes_on c w [] on m none = record { phase = m; none_begins = refl; none_releases = refl }
-marking_goes_on c w (e ∷ es) on m none =
-    let outs = or_parts _ (list_any (λ (x : Event). is_close x.step) es) none in
-    let moves = moves_phase c w e es on in
-    let one = marking_step e.step _ moves.0 m outs.0 in
-    let rest = marking_goes_on c (world_behind c w e) es moves.2 (subst IsMarking (sym moves.1) one.0) outs.1 in
-    record {
-      phase = rest.phase;
-      none_begins = or_from _ (list_any (λ (x : Event). is_begin x.step) es) one.1 rest.none_begins;
-      none_releases = or_from _ (list_any (λ (x : Event). is_release x.step) es) one.2 rest.none_releases;
-    }
+marking_goes_on c w es on m none =
+    let begins = phases_go_on IsMarking is_close is_begin (λ x p asks here out. let s = marking_step x p asks here out in
+    (s.0, s.1)) c w es on m none in
+    let releases = phases_go_on IsMarking is_close is_release (λ x p asks here out.
+    let s = marking_step x p asks here out in (s.0, s.2)) c w es on m none in
+    record { phase = begins.0; none_begins = begins.1; none_releases = releases.1 }
 
 pub record NoneIsReleased (c : Config) (w : World) (es : List Event) : Type 0 where
   pub phase : IsUnreleased (phase_of (left_from c w es).now.words)
@@ -93,14 +103,6 @@ pub record NoneIsReleased (c : Config) (w : World) (es : List Event) : Type 0 wh
 pub none_is_released : (c : Config) (w : World) (es : List Event) → AreEnabledFrom c w es
     → IsUnreleased (phase_of w.now.words)
     → list_any (λ (e : Event). is_release e.step) es ≡ false → NoneIsReleased c w es
-unfolding left_from
-none_is_released c w [] on m none = record { phase = m; none_begins = refl }
-none_is_released c w (e ∷ es) on m none =
-    let outs = or_parts _ (list_any (λ (x : Event). is_release x.step) es) none in
-    let moves = moves_phase c w e es on in
-    let one = unreleased_step e.step _ moves.0 m outs.0 in
-    let rest = none_is_released c (world_behind c w e) es moves.2 (subst IsUnreleased (sym moves.1) one.0) outs.1 in
-    record {
-      phase = rest.phase;
-      none_begins = or_from _ (list_any (λ (x : Event). is_begin x.step) es) one.1 rest.none_begins;
-    }
+none_is_released c w es on m none =
+    let rest = phases_go_on IsUnreleased is_release is_begin unreleased_step c w es on m none in
+    record { phase = rest.0; none_begins = rest.1 }

@@ -11,6 +11,8 @@ use Rattle.mk_laws.proofs.Vocabulary.{placed_at, refl, stands_in, sym, true, tru
 use Rattle.mk_laws.proofs.Vocabulary.{world_behind, zero_lengths, [], ◌&&◌, ◌++◌, ◌∙◌, ◌∷◌, ◌≡◌, ◌≤◌}
 use Rattle.mk_laws.proofs.Basics.{Before, Known, Meets, WorldBehind, begin_is, freeing_leaves, known_at_first}
 use Rattle.mk_laws.proofs.Basics.{known_behind, releasing_leaves}
+use Rattle.mk_laws.proofs.Known.{along_enabled}
+use Rattle.mk_laws.proofs.Vocabulary.{At, ap, has_bit_of, subst}
 use Rattle.mk_laws.proofs.LayoutHistories.{in_order_at_first, known_before, order_behind}
 use Rattle.mk_laws.proofs.QuarantineChanges.{FreesHere, before_change}
 use Rattle.mk_laws.proofs.{Granted.pushed_new, LayoutByKind.fresh_cells, QuarantineByKind.frees_here}
@@ -100,72 +102,45 @@ tells_at_begin c w seat = record {
       rw x.now (sym (rw x.was));
 }
 
--- what is known of a world, and of the events after it
-record Along (c : Config) (w : World) (es : List Event) : Type 0 where
-  limits : IsWithinLimits c
-  lengths : AreOfPages c.pages w.now.words
-  known : Known c w.now
-  enabled : AreEnabledFrom c w es
-  others : LayoutPremisesFrom c w es
-  order : StandsInOrder c w
+-- The `begin` is still to come after these events, or what was in quarantine at it is told.
+data Stage (c : Config) {es : List Event} (b : At is_begin es) (w : World) (xs : List Event) : Type 0 where
+  Waits : (front : List Event) → xs ≡ front ++ b.event ∷ b.behind → left_from c w front ≡ left c b.before
+      → Stage c b w xs
+  Begun : list_any (λ (e : Event). is_begin e.step) xs ≡ false → Tells (left c b.before).allocations w → Stage c b w xs
 
-along_next : (c : Config) (w : World) (e : Event) (es : List Event) → Along c w (e ∷ es)
-    → Before c w × Meets c w.now e.seat e.step × Along c (world_behind c w e) es
-unfolding AreEnabledFrom LayoutPremisesFrom
-along_next c w e es a = (
-  known_before c w a.limits a.lengths a.known a.others.0 a.order.quarantined,
-  enabled_meets c w.now e a.enabled.0,
-  record {
-    limits = a.limits;
-    lengths = accessed_lengths c.pages w.now.words (word_accessed c w.now e) (access c w.now e) a.lengths;
-    known = known_behind c w.now e a.known a.enabled.0;
-    enabled = a.enabled.1;
-    others = a.others.1;
-    order = order_behind c w e a.limits a.lengths a.known a.enabled.0 a.others.0 a.order;
-  },
-)
-
-tells_from : (c : Config) (xs : List PlacedAllocation) (w : World) (es : List Event) → Along c w es
-    → list_any (λ (e : Event). is_begin e.step) es ≡ false → Tells xs w
-    → Tells xs (left_from c w es) × StandsInOrder c (left_from c w es)
+stage_behind : (c : Config) {es : List Event} (b : At is_begin es) (w : World) (e : Event) (xs : List Event)
+    → list_any (λ (x : Event). is_begin x.step) b.behind ≡ false → Before c w → Meets c w.now e.seat e.step
+    → StandsInOrder c w → Stage c b w (e ∷ xs) → Stage c b (world_behind c w e) xs
 unfolding left_from
-tells_from c xs w [] a none t = (t, a.order)
-tells_from c xs w (e ∷ es) a none t =
-    let n = along_next c w e es a in
-    let parts = or_parts _ (list_any (λ (x : Event). is_begin x.step) es) none in
-    tells_from c xs (world_behind c w e) es n.2 parts.1
-    (tells_behind c xs w e.seat e.step n.0 n.1 a.order.laid a.order.quarantined parts.0 t)
-
--- what is along a list is along its later part
-along_parts : (c : Config) (w : World) (xs ys : List Event) → Along c w (xs ++ ys) → Along c (left_from c w xs) ys
-unfolding left_from
-along_parts c w [] ys a = a
-along_parts c w (e ∷ xs) ys a = along_parts c (world_behind c w e) xs ys (along_next c w e (xs ++ ys) a).2
-
-after : (c : Config) (w : World) (e : Event) (behind : List Event) → Along c w (e ∷ behind) → is_begin e.step ≡ true
-    → list_any (λ (x : Event). is_begin x.step) behind ≡ false
-    → Tells w.allocations (left_from c w (e ∷ behind)) × StandsInOrder c (left_from c w (e ∷ behind))
-unfolding left_from
-after c w e behind a is none =
-    let t : Tells w.allocations (world_behind c w e) = rw (begin_is e.step is) (tells_at_begin c w e.seat) in
-    tells_from c w.allocations _ behind (along_next c w e behind a).2 none t
+stage_behind c b w e xs none before h order (Waits [] is at) =
+    let same : e ≡ b.event = cc in
+    let rest : xs ≡ b.behind = cc in
+    let begins : is_begin e.step ≡ true = ap (λ (x : Event). is_begin x.step) same ∙ b.of_kind in
+    let told : Tells w.allocations (world_behind c w e) = rw (begin_is e.step begins) (tells_at_begin c w e.seat) in
+    Begun (rw rest none) (subst (λ (v : World). Tells v.allocations (world_behind c w e)) at told)
+stage_behind c b w e xs none before h order (Waits (y ∷ front) is at) =
+    let same : e ≡ y = cc in
+    let rest : xs ≡ front ++ b.event ∷ b.behind = cc in
+    Waits front rest (ap (λ (z : Event). left_from c (world_behind c w z) front) same ∙ at)
+stage_behind c b w e xs none before h order (Begun out t) =
+    let parts = or_parts _ (list_any (λ (x : Event). is_begin x.step) xs) out in
+    Begun parts.1 (tells_behind c _ w e.seat e.step before h order.laid order.quarantined parts.0 t)
 
 pub snapshots_are_of_cycles : SnapshotsAreOfCycles
+unfolding LayoutPremisesFrom
 snapshots_are_of_cycles c es limits on others begin none cycling i u =
-    let first : Along c (first_world c) es = record {
-      limits = limits;
-      lengths = zero_lengths c.pages;
-      known = known_at_first c limits;
-      enabled = on;
-      others = others;
-      order = in_order_at_first c;
-    } in
-    let split : Along c (first_world c) (begin.before ++ begin.event ∷ begin.behind) = rw begin.is at first in
-    let w : World = left c begin.before in
-    let t = after c w begin.event begin.behind
-    (along_parts c (first_world c) begin.before (begin.event ∷ begin.behind) split) begin.of_kind none in
-    let same : left c es ≡ left_from c w (begin.event ∷ begin.behind) =
-    rw begin.is (left_append c (first_world c) begin.before (begin.event ∷ begin.behind)) in
-    let told : Tells w.allocations (left c es) = rw same t.0 in
-    let order : StandsInOrder c (left c es) = rw same t.1 in
-    order.snapshot.quarantined cycling i u ∙ told.flags i u
+    let all = along_enabled c (λ w xs. LayoutPremisesFrom c w xs × StandsInOrder c w × Stage c begin w xs)
+    (λ w e xs lengths known here p. (
+      p.0.1,
+      order_behind c w e limits lengths known here p.0.0 p.1,
+      stage_behind c begin w e xs none (known_before c w limits lengths known p.0.0 p.1.quarantined)
+          (enabled_meets c w.now e here) p.1 p.2,
+    )) es limits on (others, in_order_at_first c, Waits begin.before begin.is refl) in
+    by all.1 all.2
+  where
+    by : StandsInOrder c (left c es) → Stage c begin (left c es) []
+        → has_bit_of c (left c es).now.words.snapshot (placed_at (left c es).allocations i)
+        ≡ is_quarantined (placed_at (left c begin.before).allocations i)
+    by order (Waits [] is at) = cc
+    by order (Waits (y ∷ front) is at) = cc
+    by order (Begun out t) = order.snapshot.quarantined cycling i u ∙ t.flags i u

@@ -4,6 +4,7 @@ use Rattle.mk_laws.proofs.Vocabulary.{group_of, has_gates, has_phase, holder_may
 use Rattle.mk_laws.proofs.Vocabulary.{true≢false, ◌∙◌, ◌≡◌}
 use Rattle.mk_laws.proofs.Basics.{Actor, AsHolder, AsMarker, HoldsTurn, InCallOf, Orderly, is_holders, not_astray}
 use Rattle.mk_laws.proofs.Basics.{view_of}
+pub use Rattle.mk_laws.proofs.LayoutHolders.{acts_as_holder}
 use Rattle.mk_laws.proofs.Standings.{in_turn_told, is_standing_under_turn}
 
 -- who holds the turn by what the protocol reads holds it by its call
@@ -11,25 +12,6 @@ pub holds_is : (c : Config) (m : Moment) (seat : Seat) → Orderly c (view_of m)
     → Holds c m seat
 holds_is c m (Caller k) o t = (t.0, sym (in_turn_told _ _ (not_astray c m o k t.0)) ∙ ap is_standing_under_turn t.1)
 holds_is c m _ o t = t
-
--- A holder's kind of step is the holder's.
-
-calls_kind : (x : Step) → group_of x ≡ Group.Callers → is_holders x ≡ false
-calls_kind (Step.Take o) g = cc
-calls_kind Step.Over g = cc
-calls_kind x g = ap is_of_turn g
-
-markers_kind : (x : Step) → group_of x ≡ Group.Markers → is_holders x ≡ false
-markers_kind (Step.Take o) g = cc
-markers_kind Step.Over g = cc
-markers_kind x g = ap is_of_turn g
-
-pub acts_as_holder : (c : Config) (m : Moment) (seat : Seat) (x : Step) → Actor c m seat x → is_holders x ≡ true
-    → HoldsTurn c (view_of m) seat
-acts_as_holder c m seat x (InCallOf k _ lt g) is = absurd (true≢false (sym is ∙ calls_kind x g))
-acts_as_holder c m seat x (AsMarker k _ lt g) is = absurd (true≢false (sym is ∙ markers_kind x g))
-acts_as_holder c m seat x (AsHolder _ _ t n) is = t
-acts_as_holder c m seat x _ is = cc
 
 -- What is asked of the holder alone is asked of no other.
 pub record AsksNothing (c : Config) (m : Moment) (s : Seat) (f : Flight) (n : ℕ) (x : Step) : Type 0 where

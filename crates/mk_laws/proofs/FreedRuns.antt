@@ -23,6 +23,7 @@ use Rattle.mk_laws.proofs.ProtocolMoves.{Enters, Gives, GoesOn, Holds, Leaves, M
 use Rattle.mk_laws.proofs.ProtocolMoves.{Takes, Works}
 use Rattle.mk_laws.proofs.Standings.{Resting, Standing, UnderTurn}
 use Rattle.mk_laws.proofs.{Bases.IsLonger, CallSorts.literal, FreeMoves.pointer_cell, NextSteps.of_turn}
+use Rattle.mk_laws.proofs.{FramesHolders.acts_as_holder, Orderly.same_holder}
 use Rattle.mk_laws.proofs.{Orderly.holders_flight, Sorts.moves, Stages.turns_stand}
 use Rattle.mk_laws.specs.Mirrors.{OwnsFreedRun, PointsAtRun}
 
@@ -284,19 +285,14 @@ module _ (c : Config) (w : World) (n : NeverState) (known : KnownWorld c w) (oth
   other_new : (j k p v : ℕ) (run : RunPages) → j ≢ k → Meets c w.now (Caller j) (Step.Quar p v)
       → OwnsBehind (Caller j) (Step.Quar p v) run k
   other_new j k p v run ne h free =
-      let f = flight_of w.now (Caller j) in
-      let lj = ltb-true j c.callers h.seat in
       let same : flight_of (world_behind c w (event_of (Caller j) (Step.Quar p v))).now (Caller k)
       ≡ flight_of w.now (Caller k) = get_or-set_other w.now.seats.flights j k _ at_rest (λ y. ne (sym y)) in
       let was : is_decided_free (flight_of w.now (Caller k)) ≡ true = rw same at free in
-      let lk : k < c.callers = there k was in
-      let tj = turn_of c (view_of w.now) (Caller j) known.now.orderly (
-        lj,
-        turns_stand f.stage f.op (of_turn f.stage f.op (Step.Quar p v) refl refl h.order)
-            (not_astray c w.now known.now.orderly j lj),
-      ) in
-      let tk = turn_of c (view_of w.now) (Caller k) known.now.orderly (lk, decided_free_stands _ _ was) in
-      absurd (ne (omega arith))
+      let holds = acts_as_holder c w.now (Caller j) (Step.Quar p v)
+      (actor_of c w.now (Caller j) (Step.Quar p v) known.now.orderly h) refl in
+      let one : Caller j ≡ Caller k = same_holder c (view_of w.now) _ _ known.now.orderly holds
+      (there k was, decided_free_stands _ _ was) in
+      absurd (ne (let e : j ≡ k = cc in e))
     where
       there : (k : ℕ) → is_decided_free (flight_of w.now (Caller k)) ≡ true → k < c.callers
       there k free = grind (arith, cases_lt, get_or_past)

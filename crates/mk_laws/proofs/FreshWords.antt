@@ -16,17 +16,23 @@ no_part mapped n = ap (λ b. if b then n else 0) (and-false mapped)
 pub stale_part : (c : Config) (a : PlacedAllocation) → a.fresh ≡ false → fresh_part c a ≡ 0
 stale_part c a stale = ap (λ b. if is_mapped c a && b then storage_words c a else 0) stale ∙ no_part (is_mapped c a) _
 
+pub sum_filtered : (f : PlacedAllocation → ℕ) (p : PlacedAllocation → Bool) (xs : List PlacedAllocation)
+    → sum_by f (filter p xs) ≡ sum_by (λ (a : PlacedAllocation). if p a then f a else 0) xs
+sum_filtered f p [] = refl
+sum_filtered f p (a ∷ xs) =
+    cc (first (p a), sum_filtered f p xs, sum_by-cons (λ (b : PlacedAllocation). if p b then f b else 0) a xs)
+  where
+    first : (b : Bool) → sum_by f (if b then a ∷ filter p xs else filter p xs)
+        ≡ (if b then f a else 0) + sum_by f (filter p xs)
+    first true = sum_by-cons f a (filter p xs)
+    first false = omega arith
+
+pub fresh_sum : (c : Config) (xs : List PlacedAllocation) → fresh_words_of c xs ≡ sum_by (fresh_part c) xs
+fresh_sum c xs = sum_filtered (storage_words c) (λ a. is_mapped c a && a.fresh) xs
+
 fresh_cons : (c : Config) (a : PlacedAllocation) (xs : List PlacedAllocation)
     → fresh_words_of c (a ∷ xs) ≡ fresh_part c a + fresh_words_of c xs
-fresh_cons c a xs = by (is_mapped c a && a.fresh)
-  where
-    rest : List PlacedAllocation
-    rest = filter (λ b. is_mapped c b && b.fresh) xs
-
-    by : (b : Bool) → sum_by (storage_words c) (if b then a ∷ rest else rest)
-        ≡ (if b then storage_words c a else 0) + sum_by (storage_words c) rest
-    by true = sum_by-cons _ a rest
-    by false = omega arith
+fresh_cons c a xs = omega (arith, fresh_sum c (a ∷ xs), fresh_sum c xs, sum_by-cons (fresh_part c) a xs)
 
 -- one more, which isn't fresh
 pub fresh_pushed : (c : Config) (xs : List PlacedAllocation) (a : PlacedAllocation) → a.fresh ≡ false

@@ -1,5 +1,5 @@
 -- What an event may do to what stands on the pages and to the quarantine, by the conditions under which it does so.
-use Rattle.mk_laws.proofs.Vocabulary.{Bool, Caller, Cell, Config, Flight, Granted, Ground, List, Moment, None, Op}
+use Rattle.mk_laws.proofs.Vocabulary.{cases_Bool, Bool, Caller, Cell, Config, Flight, Granted, Ground, List, Moment, None, Op}
 use Rattle.mk_laws.proofs.Vocabulary.{Option, Page, Seat, Some, Stage, Step, Tally, Unplaced, Words, World, ℕ}
 use Rattle.mk_laws.proofs.Vocabulary.{and_parts, carves, cell_freed, chosen, empties, eqb-false, eqb-true, false}
 use Rattle.mk_laws.proofs.Vocabulary.{flight_of, freed_where_it_stands, frees, gives_back, granted, ground_of}
@@ -30,7 +30,7 @@ with_quarantine w p n cell =
       allocations = map (freed_where_it_stands w.now.words cell) w.allocations;
     }
 
--- the ground after a `head`, a `used`, a `mark` and a `take`, by what decides where a New's place is
+-- the ground after a `head` and a `used`, by what decides where a New's place is
 
 abbrev pub headed : Config → World → Flight → ℕ → ℕ → Bool → Ground
 headed c w f p n b =
@@ -44,19 +44,6 @@ used_up c w f p n b =
     record (ground_of w) {
       pages = with_used w.now.words p n;
       placing = if b then w.now.seats.holding.placing else taken w.now.seats.holding.placing (place_now c w.now f);
-    }
-
-abbrev pub marked : Config → World → Flight → Bool → Ground
-marked c w f b =
-    record (ground_of w) {
-      placing = if b then chosen w.now.seats.holding.placing (place_now c w.now f) else w.now.seats.holding.placing;
-    }
-
-abbrev pub begun_by : World → Bool → Ground
-begun_by w b =
-    record (ground_of w) {
-      placing = (if b then nothing_done else w.now.seats.holding).placing;
-      run = (if b then nothing_done else w.now.seats.holding).freed;
     }
 
 -- where a seat steps whose call is f
@@ -113,63 +100,38 @@ module _ (c : Config) (w : World) (seat : Seat) where
 
   -- all kinds, whatever the seat; some go by the phase
   pub ground_step : (x : Step) → Meets c w.now seat x → GroundStep c w f (ground_of (WorldBehind c w seat x))
-  ground_step (Step.Take o) h = by (w.now.words.turn == 0) refl
-    where
-      by : (b : Bool) → (w.now.words.turn == 0) ≡ b → GroundStep c w f (begun_by w b)
-      by true e = Starts (eqb-true w.now.words.turn 0 e) (taker_idle c w.now seat o h)
-      by false e = Rests
+  ground_step (Step.Take o) h = elim (cases_Bool (w.now.words.turn == 0)) [
+    | inl e ↦ rw e (Starts (eqb-true w.now.words.turn 0 e) (taker_idle c w.now seat o h))
+    | inr e ↦ rw e Rests
+  ]
   ground_step Step.Give h = Gives h.holder (give_phase _ h.phase)
   ground_step Step.Reg h = rests _ (register_leaves w.now.words _ _ _)
   ground_step (Step.Tally n v) h = rests _ (tally_leaves w.now.words n v)
-  ground_step (Step.Head p n) h = by (is_phase w.now.words 4) refl h.holder
-    where
-      carved : Bool
-      carved = carves w.now.words (object_made c f.op) (place_now c w.now f) p n
-
-      unmapped : Bool
-      unmapped = unmaps w.now.words w.now.seats.holding.freed p n
-
-      by : (b : Bool) → is_phase w.now.words 4 ≡ b → (if b then empties w.now.words p n else carved || unmapped) ≡ true
-          → GroundStep c w f (headed c w f p n b)
-      by true e k = Empties p n k (eqb-true _ 4 e)
-      by false e k = elim (or_cases carved unmapped k) [
-        | inl a ↦ Carves p n a (eqb-false _ 4 e)
-        | inr a ↦ Unmaps p n a (eqb-false _ 4 e)
-      ]
-  ground_step (Step.Used p n) h = by (is_phase w.now.words 4) refl h.holder
-    where
-      takes : Bool
-      takes = takes_cell w.now.words (object_made c f.op) (place_now c w.now f) p n
-
-      by : (b : Bool) → is_phase w.now.words 4 ≡ b
-          → (if b then gives_back w.now.words p n else not (is_used_once w.now.seats.holding.placing) && takes) ≡ true
-          → GroundStep c w f (used_up c w f p n b)
-      by true e k = GivesBack p n k (eqb-true _ 4 e)
-      by false e k = TakesCell p n (not-true _ (and_parts _ takes k).0) (and_parts _ takes k).1 (eqb-false _ 4 e)
-  ground_step (Step.Quar p n) h = by (is_phase w.now.words 4) refl h.holder
-    where
-      frees_it : Bool
-      frees_it = frees w.now.words (target c.pages w.now.words f) p n
-
-      snaps : Bool
-      snaps = takes_snapshot w.now.words p n
-
-      by : (b : Bool) → is_phase w.now.words 4 ≡ b
-          → (if b then drops w.now.words p (n % 2 ^ 32) (n / 2 ^ 32) else frees_it || snaps) ≡ true
-          → GroundStep c w f (with_quarantine w p n (cell_freed c.pages w.now.words f p n))
-      by true e k = Drops p n (cell_freed c.pages w.now.words f p n) refl k (eqb-true _ 4 e)
-      by false e k = elim (or_cases frees_it snaps k) [
-        | inl a ↦ Frees p n (cell_freed c.pages w.now.words f p n) refl a (eqb-false _ 4 e)
-        | inr a ↦ Snapshots p n (cell_freed c.pages w.now.words f p n) refl a
-      ]
+  ground_step (Step.Head p n) h = elim (cases_Bool (is_phase w.now.words 4)) [
+    | inl e ↦ rw e (Empties p n (rw e at h.holder) (eqb-true _ 4 e))
+    | inr e ↦ rw e (elim (or_cases _ _ (rw e at h.holder)) [
+      | inl k ↦ Carves p n k (eqb-false _ 4 e)
+      | inr k ↦ Unmaps p n k (eqb-false _ 4 e)
+    ])
+  ]
+  ground_step (Step.Used p n) h = elim (cases_Bool (is_phase w.now.words 4)) [
+    | inl e ↦ rw e (GivesBack p n (rw e at h.holder) (eqb-true _ 4 e))
+    | inr e ↦
+        let k = and_parts _ _ (rw e at h.holder) in rw e (TakesCell p n (not-true _ k.0) k.1 (eqb-false _ 4 e))
+  ]
+  ground_step (Step.Quar p n) h = elim (cases_Bool (is_phase w.now.words 4)) [
+    | inl e ↦ Drops p n _ refl (rw e at h.holder) (eqb-true _ 4 e)
+    | inr e ↦ elim (or_cases _ _ (rw e at h.holder)) [
+      | inl k ↦ Frees p n _ refl k (eqb-false _ 4 e)
+      | inr k ↦ Snapshots p n _ refl k
+    ]
+  ]
   ground_step Step.Grant h = Grants (grants_new c w.now seat h) h.holder
   ground_step (Step.Mark p n) h =
-      by (marks_place w.now.words (object_made c f.op) (place_now c w.now f) p n) refl
-    where
-      by : (b : Bool) → marks_place w.now.words (object_made c f.op) (place_now c w.now f) p n ≡ b
-          → GroundStep c w f (marked c w f b)
-      by true e = Places p n e
-      by false e = Rests
+      elim (cases_Bool (marks_place w.now.words (object_made c f.op) (place_now c w.now f) p n)) [
+        | inl e ↦ rw e (Places p n e)
+        | inr e ↦ rw e Rests
+      ]
   ground_step Step.Begin h = Freshens (eqb-true _ 0 h.phase)
   ground_step Step.Release h = Releases (eqb-true _ 3 h.phase)
   ground_step _ h = Rests

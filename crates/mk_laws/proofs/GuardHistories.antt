@@ -12,6 +12,7 @@ use Rattle.mk_geom.specs.StorageWords.{cell_of_storage}
 use Rattle.mk_core.proofs.{PointedAllocations.marked_where_its_cell_is, StandingAllocations.cell_is_known}
 use Rattle.mk_core.specs.ClosedMarks.{is_marked_allocation}
 use Rattle.mk_laws.proofs.Basics.{Known, known_at_first, known_behind, known_left}
+use Rattle.mk_laws.proofs.Known.{along_enabled}
 use Rattle.mk_laws.proofs.{GuardOneEvent.marks_behind, GuardStopped.closed}
 use Rattle.mk_laws.specs.Kept.{CloseFindsMarksClosed, EventsKeepTheMarks, GuardPremisesAtFirst, MarkingGuards}
 use Rattle.mk_laws.specs.Kept.{MarksStandBehindLists, StandsMapped, StoppedMarksAreClosed}
@@ -63,19 +64,11 @@ events_keep_the_marks c es e limits on enabled say g =
 pub marks_at_first : (c : Config) → MarksStand c (first_moment c)
 marks_at_first c = grind (arith, closed)
 
-marks_from : (c : Config) (w : World) (es : List Event) → IsWithinLimits c → AreOfPages c.pages w.now.words
-    → Known c w.now → AreEnabledFrom c w es
-    → GuardPremisesFrom c w es → MarksStand c w.now → MarksStand c (left_from c w es).now
-unfolding left_from AreEnabledFrom GuardPremisesFrom
-marks_from c w [] limits len known on say g = g
-marks_from c w (e ∷ es) limits len known on say g = marks_from c (world_behind c w e) es limits
-    (accessed_lengths c.pages w.now.words (word_accessed c w.now e) (access c w.now e) len)
-    (known_behind c w.now e known on.0) on.1 say.1
-    (marks_behind c w e.seat limits known len say.0 e.step (enabled_meets c w.now e on.0) g)
-
 pub marks_stand_behind_lists : MarksStandBehindLists
-marks_stand_behind_lists c es limits on say =
-    marks_from c (first_world c) es limits (zero_lengths c.pages) (known_at_first c limits) on say (marks_at_first c)
+unfolding GuardPremisesFrom
+marks_stand_behind_lists c es limits on say = (along_enabled c (λ w xs. GuardPremisesFrom c w xs × MarksStand c w.now)
+    (λ w e xs lengths known here p. (p.0.1, marks_behind c w e.seat limits known lengths p.0.0 e.step
+    (enabled_meets c w.now e here) p.1)) es limits on (say, marks_at_first c)).1
 
 pub close_finds_marks_closed : CloseFindsMarksClosed
 close_finds_marks_closed c es seat limits on enabled say g =

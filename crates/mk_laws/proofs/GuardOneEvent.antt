@@ -1,5 +1,7 @@
 -- One event, whatever it is: what stands while a cycle marks and stops, stands after it.
 use Rattle.mk_laws.proofs.Vocabulary.{AreOfPages, BlackIsGuarded, Bool, Caller, Cell, Config, DirtyIsOwed}
+use Rattle.mk_laws.proofs.Wells.{IsWell}
+use Rattle.mk_laws.proofs.Vocabulary.{HeaderGoesOn, cases_Bool}
 use Rattle.mk_laws.proofs.Vocabulary.{GuardPremises, Host, IsGuarded, IsMarking, IsWithinLimits, Marker, MarkerStands}
 use Rattle.mk_laws.proofs.Vocabulary.{MarkerState, Moment, None, Option, PageIsDirty, PointsWell, Scan, Seat}
 use Rattle.mk_laws.proofs.Vocabulary.{SeenHeader, Some, Step, Word, Words, World, ℕ, all_below, all_below-at, and_parts}
@@ -33,30 +35,31 @@ pub nothing_is : {A : Type 0} (x : Option A) → is_none x ≡ true → x ≡ No
 nothing_is None h = refl
 nothing_is (Some y) h = cc
 
--- the cell that an `mmark` marks, and the value of the hand
-record Seen (c : Config) (x : MarkerState) : Type 0 where
-  value : ℕ
-  cell : Cell
-  hand : x.hand ≡ Some value
-  is : cell_seen c x.seen x.hand ≡ Some cell
-  page : cell.page < c.pages
-  index : cell.index < 64
+-- the cell that an `mmark` marks: the value of the hand, and the header that the cell was seen under
+pub record Seen (c : Config) (x : MarkerState) : Type 0 where
+  pub value : ℕ
+  pub cell : Cell
+  pub under : SeenHeader
+  pub hand : x.hand ≡ Some value
+  pub seen : x.seen ≡ Some under
+  pub near : (under.page == page_at_address value) ≡ true
+  pub at : cell_at c.pages under.header value ≡ Some cell
+  pub is : cell_seen c x.seen x.hand ≡ Some cell
 
-seen_cell : (c : Config) (x : MarkerState) → is_some (cell_seen c x.seen x.hand) ≡ true → Seen c x
+pub seen_cell : (c : Config) (x : MarkerState) → is_some (cell_seen c x.seen x.hand) ≡ true → Seen c x
 seen_cell c x own = by x.seen x.hand refl refl own
   where
     by : (seen : Option SeenHeader) (hand : Option ℕ) → x.seen ≡ seen → x.hand ≡ hand
         → is_some (cell_seen c seen hand) ≡ true → Seen c x
-    by (Some q) (Some value) es eh own = at (q.page == page_at_address value) refl _ refl own
+    by (Some q) (Some value) es eh own = here (q.page == page_at_address value) refl _ refl own
       where
-        at : (b : Bool) → (q.page == page_at_address value) ≡ b → (y : Option Cell) → cell_at c.pages q.header value ≡ y
-            → is_some (if b then y else None) ≡ true → Seen c x
-        at false e y is own = cc
-        at true e None is own = cc
-        at true e (Some y) is own =
-            let n = cell_within c.pages q.header value y is in
+        here : (b : Bool) → (q.page == page_at_address value) ≡ b → (y : Option Cell)
+            → cell_at c.pages q.header value ≡ y → is_some (if b then y else None) ≡ true → Seen c x
+        here true e (Some y) is own =
             let there : cell_seen c (Some q) (Some value) ≡ Some y = rw (e, is) in
-            record { value = value; cell = y; hand = eh; is = rw es (rw eh there); page = n.0; index = n.1 }
+            let seen : cell_seen c x.seen x.hand ≡ Some y = rw es (rw eh there) in
+            record { value = value; cell = y; under = q; hand = eh; seen = es; near = e; at = is; is = seen }
+        here _ e _ is own = cc
     by _ _ es eh own = cc
 
 looks : (c : Config) (m : Moment) (x : Word) (y : MarkerState) (f : ℕ)
@@ -84,11 +87,12 @@ own_marker c m k Step.Mload len h keeps before at =
     (nothing_is (marker_of m k).hand (and_parts _ _ h.marker).1) (λ y e. sym (rw e)) (before at))
 own_marker c m k Step.Mmark len h keeps before at =
     let s = seen_cell c (marker_of m k) h.marker in
+    let within = cell_within c.pages s.under.header s.value s.cell s.at in
     let n = Behind c m (Marker k) Step.Mmark in
     let there : MarkerStands c n (marker_of m k) = marker_kept c m n (marker_of m k) keeps (before at) in
     mark_stands c n (marker_of m k) s.value s.hand (seen_well c n (marker_of m k) s.cell s.value s.hand s.is there
     (rw s.is (bits_added m.words.marks s.cell.page _ s.cell.index
-    (let lt = s.page in omega (arith, len.marks, lt)) (bit_for_has s.cell.index s.index)))) there
+    (let lt = within.0 in omega (arith, len.marks, lt)) (bit_for_has s.cell.index within.1)))) there
 own_marker c m k Step.Mblack len h keeps before at =
     marker_kept c m _ _ keeps (unscanning_stands c m (marker_of m k) (before at))
 own_marker c m k _ len h keeps before at = let kind = h.kind in cc
@@ -121,6 +125,10 @@ blackened c m n q bits keeps new are guarded black =
       | inr at ↦ inr (λ i lt sc li. rw at.0 (guarded k at.1 i (rw at.0 at lt) (rw at.0 at sc) (rw at.0 at li)))
     ]) black
 
+pub left_fails : (a b : Bool) → (a && not b) ≡ false → b ≡ false → a ≡ false
+left_fails true true h none = cc
+left_fails _ _ h none = cc
+
 -- `black`: the cell whose bit is added
 
 record Blackened (w : Words) (pages p value : ℕ) : Type 0 where
@@ -131,15 +139,10 @@ turned : (w : Words) (pages p value n : ℕ) → all_below n (λ k. not (blacken
     → Blackened w pages p value
 unfolding all_below
 turned w pages p value zero h = cc
-turned w pages p value (suc n) h =
-    by (blackens pages w p value n) refl (all_below n (λ k. not (blackens pages w p value k)))
-    (turned w pages p value n) h
-  where
-    by : (b : Bool) → blackens pages w p value n ≡ b → (r : Bool) → (r ≡ false → Blackened w pages p value)
-        → (r && not b) ≡ false → Blackened w pages p value
-    by true e r before h = record { bit = n; is = e }
-    by false e false before h = before refl
-    by false e true before h = cc
+turned w pages p value (suc n) h = elim (cases_Bool (blackens pages w p value n)) [
+  | inl e ↦ record { bit = n; is = e }
+  | inr e ↦ turned w pages p value n (left_fails _ _ h e)
+]
 
 turned_words : (pages : ℕ) (w : Words) (p k : ℕ) → may_turn_black pages w (record { page = p; index = k }) ≡ true
     → has_no_pointers (header_in w p) ≡ false → words_point_well pages w (record { page = p; index = k }) ≡ true
@@ -216,30 +219,29 @@ module _ (c : Config) (w : World) (seat : Seat) (limits : IsWithinLimits c) (kno
   abbrev After : Step → Moment
   After x = Behind c w.now seat x
 
-  keeps_of : (x : Step) → Meets c w.now seat x → is_head x ≡ false → is_undirty x ≡ false → Keeps c w.now (After x)
-  keeps_of x h no_head no_clean = record {
-    wells = wells_from c w.now.words (After x).words (headers_kind c w.now seat x no_head)
-        (marks_kind c w.now seat x early h);
+  keeps_by : (x : Step) → Meets c w.now seat x → is_undirty x ≡ false
+      → ((v : ℕ) → IsWell c w.now.words v → IsWell c (After x).words v)
+      → ((p : ℕ) → HeaderGoesOn c.pages (header_at w.now.words p) (header_at (After x).words p))
+      → Keeps c w.now (After x)
+  keeps_by x h no_clean wells headers = record {
+    wells = wells;
     heap = heap_kind c w.now seat x known h;
     dirty = dirty_kind c w.now seat x no_clean;
     owed = owed_kind c w.now seat x len h;
-    headers = λ p. goes_equal c.pages (header_at w.now.words p) (header_at (After x).words p)
-        (headers_kind c w.now seat x no_head p);
+    headers = headers;
     marks = marks_kind c w.now seat x early h;
   }
+
+  keeps_of : (x : Step) → Meets c w.now seat x → is_head x ≡ false → is_undirty x ≡ false → Keeps c w.now (After x)
+  keeps_of x h no_head no_clean = keeps_by x h no_clean
+      (wells_from c w.now.words (After x).words (headers_kind c w.now seat x no_head) (marks_kind c w.now seat x early h))
+      (λ p. goes_equal c.pages _ _ (headers_kind c w.now seat x no_head p))
 
   head : (p n : ℕ) → Meets c w.now seat (Step.Head p n) → HeadKeeps c w.now (After (Step.Head p n))
   head p n h = head_keeps c w.now seat p n len h (head_finds c w seat p n limits known early say h)
 
   keeps_head : (p n : ℕ) → Meets c w.now seat (Step.Head p n) → Keeps c w.now (After (Step.Head p n))
-  keeps_head p n h = record {
-    wells = (head p n h).wells;
-    heap = heap_kind c w.now seat (Step.Head p n) known h;
-    dirty = dirty_kind c w.now seat (Step.Head p n) refl;
-    owed = owed_kind c w.now seat (Step.Head p n) len h;
-    headers = (head p n h).headers;
-    marks = marks_kind c w.now seat (Step.Head p n) early h;
-  }
+  keeps_head p n h = keeps_by (Step.Head p n) h refl (head p n h).wells (head p n h).headers
 
   black_behind : (x : Step) → Meets c w.now seat x → BlackIsGuarded c (After x)
   black_behind (Step.Head p n) h = black_kept c w.now _ (keeps_head p n h) (head p n h).new

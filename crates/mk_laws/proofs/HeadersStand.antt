@@ -23,8 +23,9 @@ use Rattle.mk_geom.specs.Storages.{AreLaidOut, PagesStandFor, block_page, first_
 use Rattle.mk_geom.specs.Storages.{taken_cells, used_word, words_of_storages}
 use Rattle.mk_core.proofs.ObjectHeaders.{large_header, small_header}
 use Rattle.mk_core.proofs.{UnreleasedStorage.has_its_storage, WordBits.bit_is_none, WordBits.bit_is_one}
-use Rattle.mk_laws.proofs.Apart.{Rests, index_is, lie_apart, lie_in_pairs, on_its_pages, quiet_scene, same_block}
-use Rattle.mk_laws.proofs.Apart.{shown_of, small_is, standing_of}
+use Rattle.mk_laws.proofs.Apart.{Lies, Rests, index_is, lie_apart, lie_in_pairs, lies, on_its_pages, quiet_scene}
+use Rattle.mk_laws.proofs.Apart.{same_block, small_is}
+use Rattle.mk_laws.proofs.Vocabulary.{IsLaidOn}
 use Rattle.mk_laws.proofs.{Basics.claim_among, Basics.claimed, Basics.claimed_some, Claims.claim_is}
 use Rattle.mk_laws.proofs.{LayoutReadings.cellless_unused, LayoutReadings.free_unused, Released.large_index}
 use Rattle.mk_laws.proofs.{Unmapping.cells_at_claim, Unmapping.shares_run, WholeRuns.IsOn, WholeRuns.on_claim}
@@ -34,9 +35,9 @@ pub laid_out : (c : Config) (w : Words) (xs : List PlacedAllocation) → Rests c
 laid_out c w xs r = record {
   each = λ i d within.
       let h = storage_is_of c xs (get_or _ i d) (Contains-get_or (unreleased_storage c xs) i d within) in
-      rw h.storage (rw r.lengths (standing_has_storage c _ r.limits
-      (standing_of c w xs h.number r h.unreleased).stands));
-  apart = lie_in_pairs c xs r.laid.apart (λ i j u v other. lie_apart c w xs i j r u v other);
+      rw h.storage (rw r.lengths (standing_has_storage c _ r.limits (lies c w xs r h.number h.unreleased).stands));
+  apart = lie_in_pairs c xs r.laid.apart (λ i j u v other. lie_apart c w xs _ _ r.laid (lies c w xs r i u)
+      (lies c w xs r j v) other);
 }
 
 -- Pages of a run.
@@ -77,33 +78,30 @@ used_past : (bits : List Bool) (k : ℕ) → length bits ≤ k → bit_at (used_
 used_past bits k le = bit_at_above _ (length bits) k (used_below bits) le
 
 -- What stands on the page of a small object is small, and of its class.
-alike_at : (c : Config) (w : Words) (xs : List PlacedAllocation) (i j p : ℕ) → Rests c w xs
-    → (placed_at xs i).released ≡ false → (placed_at xs j).released ≡ false
-    → is_small_object (object_placed c (placed_at xs i)) ≡ true → (placed_at xs i).base / 64 ≡ p
-    → (placed_at xs j).base / 64 ≡ p → (is_small_object (object_placed c (placed_at xs j)) ≡ true)
-    × (class_made (object_placed c (placed_at xs j)) ≡ class_made (object_placed c (placed_at xs i)))
-alike_at c w xs i j p r u v small at page = elim (cases_Bool (is_small_object (object_placed c (placed_at xs j)))) [
-  | inl s ↦ (s, (same_block c w xs j i r v u s small (page ∙ sym at)).0)
+alike_at : {c : Config} {w : Words} {xs : List PlacedAllocation} {a b : PlacedAllocation}
+    → IsLaidOn (quiet_scene c w xs) → Lies c w xs a → Lies c w xs b → is_small_object (object_placed c a) ≡ true
+    → (p : ℕ) → a.base / 64 ≡ p → b.base / 64 ≡ p → (is_small_object (object_placed c b) ≡ true)
+    × (class_made (object_placed c b) ≡ class_made (object_placed c a))
+alike_at {c} {w} {xs} {a} {b} laid x y small p page at = elim (cases_Bool (is_small_object (object_placed c b))) [
+  | inl s ↦ (s, (same_block y x s small (at ∙ sym page)).0)
   | inr l ↦
-      let pa = pages_some (object_placed c (placed_at xs i)) (shown_of c w xs i r u).sized in
-      let pb = pages_some (object_placed c (placed_at xs j)) (shown_of c w xs j r v).sized in
-      let one =
-      shares_run (quiet_scene c w xs) (claim_of c None (placed_at xs j)) (claim_of c None (placed_at xs i)) 0 0 r.laid
-      (claim_among c None xs j v) (claim_among c None xs i u) l (omega arith) (omega arith) (omega arith) in
+      let pa = pages_some (object_placed c a) x.shown.sized in
+      let pb = pages_some (object_placed c b) y.shown.sized in
+      let one = shares_run (quiet_scene c w xs) (claim_of c None b) (claim_of c None a) 0 0 laid y.among x.among l
+      (omega arith) (omega arith) (omega arith) in
       absurd (true≢false (sym small ∙ ap (λ (z : Claim). is_small_object z.object) one ∙ l))
 ]
 
 -- the header of a block's page
-block_shown : (c : Config) (w : Words) (xs : List PlacedAllocation) (i : ℕ) → Rests c w xs → (placed_at xs i).released
-    ≡ false → is_small_object (object_placed c (placed_at xs i)) ≡ true → header_at w ((placed_at xs i).base / 64)
-    ≡ word_of (block_header (class_made (object_placed c (placed_at xs i))) (object_placed c (placed_at xs i)).leaf)
-block_shown c w xs i r u s =
-    let a : PlacedAllocation = placed_at xs i in
+block_shown : (c : Config) (w : Words) (xs : List PlacedAllocation) (a : PlacedAllocation) → Lies c w xs a
+    → is_small_object (object_placed c a) ≡ true → header_at w (a.base / 64)
+    ≡ word_of (block_header (class_made (object_placed c a)) (object_placed c a).leaf)
+block_shown c w xs a x s =
     let o : Object = object_placed c a in
     let one = small_pages o s in
     let zero : a.base / 64 + 0 ≡ a.base / 64 = omega arith in
     let has : HasHeader (mode_of (a.freed && false) false) o 0 (header_at w (a.base / 64)) =
-    rw s at (rw zero at ((shown_of c w xs i r u).headers 0 (omega arith))) in
+    rw s at (rw zero at (x.shown.headers 0 (omega arith))) in
     made a.freed o (header_at w (a.base / 64)) has ∙ small_header o 0 s
   where
     made : (b : Bool) (o : Object) (h : ℕ) → HasHeader (mode_of (b && false) false) o 0 h → h ≡ header_made o 0
@@ -121,6 +119,9 @@ module _ (c : Config) (w : Words) (xs : List PlacedAllocation) (i p : ℕ) (r : 
   abbrev class : ℕ
   class = class_made o
 
+  x : Lies c w xs a
+  x = lies c w xs r i u
+
   abbrev PageStands : Type 0
   PageStands = slice_index_or w.pages p free_page ≡ words_of_storages (unreleased_storage c xs) p
 
@@ -128,33 +129,30 @@ module _ (c : Config) (w : Words) (xs : List PlacedAllocation) (i p : ℕ) (r : 
   run_words : (d : ℕ) → is_small_object o ≡ false → d < pages_made o → a.base / 64 + d ≡ p → PageStands
   run_words d large ld at =
       let s : Storage = storage_of c a in
-      let first = (run_begins o a.base large (r.cells i u).begins).1 in
+      let first = (run_begins o a.base large x.begins).1 in
       let words : storage_words c a ≡ 64 * pages_made o = large_words o large in
       let count : s.words / 64 ≡ pages_made o = omega arith in
       let distance : p - first_page s ≡ d = omega arith in
       let stands : stands_on p s ≡ true = stands_from p s (omega arith) (omega arith) in
       page_is ∙ rw (← count) (rw (← (mapped_is c a u large)) (rw (← distance)
-      (sym (words_by_large p (unreleased_storage c xs) s (small_is c a (shown_of c w xs i r u).sized ∙ large))
+      (sym (words_by_large p (unreleased_storage c xs) s (small_is c a x.shown.sized ∙ large))
       ∙ sym (words_at (length w.pages) p (unreleased_storage c xs) s (laid_out c w xs r) (has_its_storage c xs i u)
       stands))))
     where
-      shown : IsShown w.pages (claim_of c None a)
-      shown = shown_of c w xs i r u
-
       header : header_at w p ≡ word_of (run_header (pages_made o) (not (a.freed && true)) o.leaf d)
       header = run_word o a.freed d (header_at w p) large (rw large at
-          (subst (λ q. HasHeader (claim_of c None a).mode o d (header_at w q)) at (shown.headers d ld)))
+          (subst (λ q. HasHeader (claim_of c None a).mode o d (header_at w q)) at (x.shown.headers d ld)))
 
       used_by : (e : ℕ) → d ≡ e → used_at w p ≡ run_used e
       used_by zero z =
           let first : a.base / 64 ≡ p = omega arith in
           let cells : cells_under (shows_on w.pages p) ≡ 1 =
-          rw (← first) (cells_at_claim (quiet_scene c w xs) (claim_of c None a) shown ∙ large_cells o large) in
-          let low : (cell_of_allocation c a).index ≡ 0 = large_index c a shown.sized large in
-          one_bit (used_at w p) (rw (← first) (ap (λ k. has_bit (used_at w (a.base / 64)) k) (sym low) ∙ shown.used))
+          rw (← first) (cells_at_claim (quiet_scene c w xs) (claim_of c None a) x.shown ∙ large_cells o large) in
+          let low : (cell_of_allocation c a).index ≡ 0 = large_index c a x.shown.sized large in
+          one_bit (used_at w p) (rw (← first) (ap (λ k. has_bit (used_at w (a.base / 64)) k) (sym low) ∙ x.shown.used))
           (λ k h. let t = (r.laid.used p k h).0 in omega arith)
       used_by (suc e) z = cellless_unused (quiet_scene c w xs) p r.laid (later_cells o d _ (subst (λ q. ShowsPart o d
-          (shows_on w.pages q)) at (claimed _ _ d shown ld)) (omega arith))
+          (shows_on w.pages q)) at (claimed _ _ d x.shown ld)) (omega arith))
 
       page_is : slice_index_or w.pages p free_page ≡ run_page (pages_made o) (not (a.freed && true)) o.leaf d
       page_is = ap (λ h. record { header = h; used = used_at w p }) header ∙ rw (used_by d refl)
@@ -163,32 +161,31 @@ module _ (c : Config) (w : Words) (xs : List PlacedAllocation) (i p : ℕ) (r : 
   block_words : is_small_object o ≡ true → a.base / 64 ≡ p → PageStands
   block_words small at =
       let s : Storage = storage_of c a in
-      let sized = (shown_of c w xs i r u).sized in
-      let some : 1 ≤ storage_words c a = (words_within o sized).0 in
+      let some : 1 ≤ storage_words c a = (words_within o x.shown.sized).0 in
       let stands : stands_on p s ≡ true = stands_from p s (omega arith) (omega arith) in
-      let same = class_of_words s class (class_known o sized small).0 (small_words o small) in
-      ap (λ h. record { header = h; used = used_at w p }) (ap (header_at w) (sym at) ∙ block_shown c w xs i r u small)
+      let same = class_of_words s class (class_known o x.shown.sized small).0 (small_words o small) in
+      ap (λ h. record { header = h; used = used_at w p }) (ap (header_at w) (sym at) ∙ block_shown c w xs a x small)
       ∙ ap (λ v. record { header = word_of (block_header class o.leaf); used = v }) used
       ∙ ap (λ m. block_page m o.leaf (used_word (taken_cells (unreleased_storage c xs) p m))) (sym same)
-      ∙ sym (words_by_small p (unreleased_storage c xs) s (small_is c a sized ∙ small))
+      ∙ sym (words_by_small p (unreleased_storage c xs) s (small_is c a x.shown.sized ∙ small))
       ∙ sym (words_at (length w.pages) p (unreleased_storage c xs) s (laid_out c w xs r) (has_its_storage c xs i u)
       stands)
     where
       known : class < 8
-      known = (class_known o (shown_of c w xs i r u).sized small).0
+      known = (class_known o x.shown.sized small).0
 
       cells : cells_under (shows_on w.pages p) ≡ cells_of class
       cells = ap (λ q. cells_under (shows_on w.pages q)) (sym at)
-          ∙ cells_at_claim (quiet_scene c w xs) (claim_of c None a) (shown_of c w xs i r u) ∙ small_cells o small
+          ∙ cells_at_claim (quiet_scene c w xs) (claim_of c None a) x.shown ∙ small_cells o small
 
       -- where a small object of the class begins
       begins_at : (j : ℕ) → (v : (placed_at xs j).released ≡ false) → is_small_object (object_placed c (placed_at xs j))
           ≡ true → class_made (object_placed c (placed_at xs j)) ≡ class → (placed_at xs j).base % 64
           ≡ (cell_of_allocation c (placed_at xs j)).index * class_words_of class
       begins_at j v s same =
-          let b = (r.cells j v).begins in
-          let o : Object = object_placed c (placed_at xs j) in
-          cc (b.first, small_words o s, same, index_is c (placed_at xs j) (shown_of c w xs j r v).sized b)
+          let y = lies c w xs r j v in
+          cc (y.begins.first, small_words (object_placed c (placed_at xs j)) s, same, index_is c (placed_at xs j)
+          y.shown.sized y.begins)
 
       -- whose cell it is
       there : (n : ℕ) → n < cells_of class → has_bit (used_at w p) n ≡ true
@@ -197,13 +194,13 @@ module _ (c : Config) (w : Words) (xs : List PlacedAllocation) (i p : ℕ) (r : 
         where
           by : IsClaimed (claims_of c None xs) p n ⊎ (is_released_in false w.snapshot w.marks p n ≡ true)
               → is_cell_taken (unreleased_storage c xs) p (class_words_of class) n ≡ true
-          by (inr x) = absurd (true≢false (sym x))
-          by (inl x) =
-              let y = claim_is c None xs x.claim x.among in
+          by (inr released) = absurd (true≢false (sym released))
+          by (inl k) =
+              let y = claim_is c None xs k.claim k.among in
               let j : ℕ = y.number in
-              let page : (placed_at xs j).base / 64 ≡ p = ap (λ (z : Claim). z.page) (sym y.is) ∙ x.page in
-              let index : (cell_of_allocation c (placed_at xs j)).index ≡ n = cc (y.is, x.index) in
-              let same = alike_at c w xs i j p r u y.unreleased small at page in
+              let page : (placed_at xs j).base / 64 ≡ p = ap (λ (z : Claim). z.page) (sym y.is) ∙ k.page in
+              let index : (cell_of_allocation c (placed_at xs j)).index ≡ n = cc (y.is, k.index) in
+              let same = alike_at r.laid x (lies c w xs r j y.unreleased) small p at page in
               let first = begins_at j y.unreleased same.0 same.1 ∙ ap (λ m. m * class_words_of class) index in
               cell_taken_from p (class_words_of class) n _ _ (has_its_storage c xs j y.unreleased) (omega arith)
 
@@ -219,12 +216,12 @@ module _ (c : Config) (w : Words) (xs : List PlacedAllocation) (i p : ℕ) (r : 
           let ends : n * k + k ≤ 64 = cell_ends n k ln in
           let some = (class_words_within class known).0 in
           let page : (placed_at xs j).base / 64 ≡ p = omega arith in
-          let same = alike_at c w xs i j p r u h.unreleased small at page in
+          let same = alike_at r.laid x (lies c w xs r j h.unreleased) small p at page in
           let first = begins_at j h.unreleased same.0 same.1 in
           let is_n : (cell_of_allocation c (placed_at xs j)).index ≡ n =
           same_index k (cell_of_allocation c (placed_at xs j)).index n (omega arith) (sym first
           ∙ (let rest : (placed_at xs j).base % 64 ≡ n * k = omega arith in rest)) in
-          cc (page, is_n, (shown_of c w xs j r h.unreleased).used)
+          cc (page, is_n, (lies c w xs r j h.unreleased).shown.used)
 
       used : used_at w p ≡ used_word (taken_cells (unreleased_storage c xs) p class)
       used =
@@ -247,12 +244,12 @@ nothing_there : (c : Config) (w : Words) (xs : List PlacedAllocation) (p : ℕ) 
 nothing_there c w xs p r z s inside stands =
     let h = storage_is_of c xs s inside in
     let a : PlacedAllocation = placed_at xs h.number in
-    let shown = shown_of c w xs h.number r h.unreleased in
-    let range = on_its_pages c a p shown.sized (r.cells h.number h.unreleased).begins (rw h.storage at stands) in
+    let x = lies c w xs r h.number h.unreleased in
+    let range = on_its_pages c a p x.shown.sized x.begins (rw h.storage at stands) in
     let low = range.0 in
     let high = range.1 in
     let at : a.base / 64 + (p - a.base / 64) ≡ p = omega arith in
-    claimed_some w.pages _ _ shown (omega arith) (ap (header_at w) at ∙ z)
+    claimed_some w.pages _ _ x.shown (omega arith) (ap (header_at w) at ∙ z)
 
 pub pages_stand : (c : Config) (w : Words) (xs : List PlacedAllocation) → Rests c w xs
     → PagesStandFor w.pages (unreleased_storage c xs)

@@ -5,6 +5,7 @@ use Rattle.mk_laws.proofs.Vocabulary.{enabled_meets, first_moment, first_world, 
 use Rattle.mk_laws.proofs.Vocabulary.{ltb-true, marker_of, nat_lt, outside, refl, word_accessed, world_behind}
 use Rattle.mk_laws.proofs.Vocabulary.{zero_lengths, [], ◌∷◌}
 use Rattle.mk_laws.proofs.Basics.{Known, Meets, WorldBehind, at_first, known_at_first, known_behind, marker_set}
+use Rattle.mk_laws.proofs.Known.{along_enabled}
 use Rattle.mk_laws.proofs.NewPlace.{PlacesFit, place_fits_now, places_behind}
 use Rattle.mk_laws.proofs.ScansInHeap.{MarkerFits, marker_fits_behind, nothing_fits}
 use Rattle.mk_laws.proofs.{Ground.ground_step, RunsInHeap.RunsFit, RunsInHeap.runs_behind}
@@ -35,13 +36,6 @@ in_heap_behind c w seat x known in_heap h =
       markers = markers_fit c w seat x in_heap h;
     }
 
-in_heap_from : (c : Config) (w : World) (es : List Event) → Known c w.now → InHeap c w.now → AreEnabledFrom c w es
-    → InHeap c (left_from c w es).now
-unfolding left_from AreEnabledFrom
-in_heap_from c w [] known in_heap on = in_heap
-in_heap_from c w (e ∷ es) known in_heap on = in_heap_from c (world_behind c w e) es (known_behind c w.now e known on.0)
-    (in_heap_behind c w e.seat e.step known in_heap (enabled_meets c w.now e on.0)) on.1
-
 in_heap_at_first : (c : Config) → InHeap c (first_moment c)
 in_heap_at_first c = record {
   lengths = zero_lengths c.pages;
@@ -51,4 +45,5 @@ in_heap_at_first c = record {
 }
 
 pub in_heap_left : (c : Config) (es : List Event) → IsWithinLimits c → AreEnabled c es → InHeap c (left c es).now
-in_heap_left c es limits on = in_heap_from c (first_world c) es (known_at_first c limits) (in_heap_at_first c) on
+in_heap_left c es limits on = along_enabled c (λ w xs. InHeap c w.now) (λ w e xs lengths known here k.
+    in_heap_behind c w e.seat e.step known k (enabled_meets c w.now e here)) es limits on (in_heap_at_first c)

@@ -1,4 +1,5 @@
 -- All that is known of a moment after an enabled list, of whatever calls.
+use Rattle.mk_laws.proofs.Vocabulary.{AreOfPages, access, accessed_lengths, word_accessed, zero_lengths}
 use Rattle.mk_laws.proofs.Vocabulary.{Answer, AreEnabled, AreEnabledFrom, Bool, Caller, Cell, Config, Event, Flight}
 use Rattle.mk_laws.proofs.Vocabulary.{Holds, IsEnabled, IsWithinLimits, List, Moment, None, Op, Option, Progress, Seat}
 use Rattle.mk_laws.proofs.Vocabulary.{Some, Stage, Step, World, ℕ, and_parts, at_rest, begun, d_of, enabled_meets}
@@ -142,12 +143,6 @@ known_behind c m e k on = record {
   operands = operands_behind c m e.seat e.step k.operands (enabled_meets c m e on);
 }
 
-pub known_from : (c : Config) (w : World) (es : List Event) → Known c w.now → AreEnabledFrom c w es
-    → Known c (left_from c w es).now
-unfolding left_from AreEnabledFrom
-known_from c w [] k on = k
-known_from c w (e ∷ es) k on = known_from c (world_behind c w e) es (known_behind c w.now e k on.0) on.1
-
 pub known_at_first : (c : Config) → IsWithinLimits c → Known c (first_moment c)
 known_at_first c limits = record {
   small = limits.callers.1;
@@ -155,8 +150,27 @@ known_at_first c limits = record {
   operands = λ k. rw (at_first c.callers k at_rest) refl;
 }
 
+enabled_from : (c : Config) (P : World → List Event → Type 0)
+    → ((w : World) (e : Event) (es : List Event) → AreOfPages c.pages w.now.words → Known c w.now → IsEnabled c w.now e
+    → P w (e ∷ es) → P (world_behind c w e) es) → (w : World) (es : List Event) → AreOfPages c.pages w.now.words
+    → Known c w.now → AreEnabledFrom c w es → P w es → P (left_from c w es) []
+unfolding left_from AreEnabledFrom
+enabled_from c P one w [] lengths known on here = here
+enabled_from c P one w (e ∷ es) lengths known on here = enabled_from c P one (world_behind c w e) es
+    (accessed_lengths c.pages w.now.words (word_accessed c w.now e) (access c w.now e) lengths)
+    (known_behind c w.now e known on.0) on.1 (one w e es lengths known on.0 here)
+
+-- What is said of a world and the events to come holds in the end of enabled events, where each of them keeps it.
+pub along_enabled : (c : Config) (P : World → List Event → Type 0)
+    → ((w : World) (e : Event) (es : List Event) → AreOfPages c.pages w.now.words → Known c w.now → IsEnabled c w.now e
+    → P w (e ∷ es) → P (world_behind c w e) es) → (es : List Event) → IsWithinLimits c → AreEnabled c es
+    → P (first_world c) es → P (left c es) []
+along_enabled c P one es limits on first =
+    enabled_from c P one (first_world c) es (zero_lengths c.pages) (known_at_first c limits) on first
+
 pub known_left : (c : Config) (es : List Event) → IsWithinLimits c → AreEnabled c es → Known c (left c es).now
-known_left c es limits on = known_from c (first_world c) es (known_at_first c limits) on
+known_left c es limits on = along_enabled c (λ w xs. Known c w.now) (λ w e xs lengths known here k.
+    known_behind c w.now e k here) es limits on (known_at_first c limits)
 
 -- who holds the turn by its call holds it by what the protocol reads
 pub holds_turn : (c : Config) (m : Moment) (seat : Seat) → Orderly c (view_of m) → Holds c m seat

@@ -1,5 +1,5 @@
 -- What each kind of event makes of the terrain.
-use Rattle.mk_laws.proofs.Vocabulary.{Bool, Cell, Config, Flight, Granted, Ground, HasLayout, HeadStep, IsSized}
+use Rattle.mk_laws.proofs.Vocabulary.{cases_Bool, inl, inr, Bool, Cell, Config, Flight, Granted, Ground, HasLayout, HeadStep, IsSized}
 use Rattle.mk_laws.proofs.Vocabulary.{ItCarves, ItDrops, ItEmpties, ItFrees, ItGivesBack, ItTakes, ItTakesSnapshot}
 use Rattle.mk_laws.proofs.Vocabulary.{ItUnmaps, LayoutStands, List, None, Object, Option, Place, PlacedAllocation}
 use Rattle.mk_laws.proofs.Vocabulary.{Placing, QuarantineStep, RunPages, Seat, Some, Step, Unplaced, Used, UsedStep}
@@ -139,14 +139,10 @@ module _ (c : Config) (w : World) (seat : Seat) (b : Before c w) (laid : LayoutS
 
   -- each kind of event, whatever the seat
   pub by_kind : (x : Step) → Meets c w.now seat x → LaidBehind c w x (ground_of (WorldBehind c w seat x))
-  by_kind (Step.Take x) h = by (w.now.words.turn == 0) refl
-    where
-      by : (t : Bool) → (w.now.words.turn == 0) ≡ t → LaidNow c w (record (ground_of w) {
-        placing = (if t then nothing_done else w.now.seats.holding).placing;
-        run = (if t then nothing_done else w.now.seats.holding).freed;
-      })
-      by false is = laid
-      by true is = rw (b.known.orderly.free (eqb-true w.now.words.turn 0 is)) at laid
+  by_kind (Step.Take x) h = elim (cases_Bool (w.now.words.turn == 0)) [
+    | inl is ↦ rw is (rw (b.known.orderly.free (eqb-true w.now.words.turn 0 is)) at laid)
+    | inr is ↦ rw is laid
+  ]
   by_kind Step.Give h =
       (placeless c (object_now c w.now) (object_now c w.now) four w.now.words.marks
       (record (ground_of w) { run = None }) w.now.seats.holding.placing refl
@@ -204,20 +200,17 @@ module _ (c : Config) (w : World) (seat : Seat) (b : Before c w) (laid : LayoutS
             unreleased = refl;
           }) (rw same at laid))
       by _ is k = cc
-  by_kind (Step.Mark p n) h = by (marks_place w.now.words o found p n) refl
-    where
-      by : (t : Bool) → marks_place w.now.words o found p n ≡ t → LaidNow c w (record (ground_of w) {
-        placing = if t then chosen w.now.seats.holding.placing found else w.now.seats.holding.placing;
-      })
-      by false is = laid
-      by true is =
-          let x = marks_is w.now.words o found p n is in
-          let placed = placed_now c w.now f x.place x.there in
-          let same = own h.seat placed.new in
-          let size = sized placed.new in
-          let free = ap (header_at w.now.words) (sym x.marked.at) ∙ x.marked.free in
-          rw x.there (rw same
-          (mark_places c o four w x.place (rw same at laid) size placed.placed free (first_header o size)))
+  by_kind (Step.Mark p n) h = elim (cases_Bool (marks_place w.now.words o found p n)) [
+    | inr is ↦ rw is laid
+    | inl is ↦
+        let x = marks_is w.now.words o found p n is in
+        let placed = placed_now c w.now f x.place x.there in
+        let same = own h.seat placed.new in
+        let size = sized placed.new in
+        let free = ap (header_at w.now.words) (sym x.marked.at) ∙ x.marked.free in
+        rw is (rw x.there (rw same
+        (mark_places c o four w x.place (rw same at laid) size placed.placed free (first_header o size))))
+  ]
   by_kind Step.Begin h =
       let same = sym (fresh_claims c w.now.seats.holding.freed w.allocations) in
       record {

@@ -17,6 +17,7 @@ use Rattle.mk_core.proofs.{EvaluatedHistories.enabled, ObjectHeaders.unmapped_sh
 use Rattle.mk_laws.proofs.Basics.{Before, Known, Meets, WorldBehind, at_first, bit_cases, headed_other}
 use Rattle.mk_laws.proofs.Basics.{is_releasing_behind, known_at_first, known_behind, known_left, made_sized, none_set}
 use Rattle.mk_laws.proofs.Basics.{own_claim, page_within, reg_leaves_ground, tally_ground, used_header, with_header_on}
+use Rattle.mk_laws.proofs.Known.{along_enabled}
 use Rattle.mk_laws.proofs.Behind.{layout_behind, phase_kind, releasing_marks}
 use Rattle.mk_laws.proofs.{LayoutByKind.off_at, QuarantineByKind.quarantine_by_kind, QuarantineByKind.shown_at}
 use Rattle.mk_laws.proofs.{QuarantineSteps.none_released, QuarantineSteps.unmarked, Releasing.headed_here}
@@ -182,18 +183,11 @@ pub events_keep_the_layout : EventsKeepTheLayout
 events_keep_the_layout c es e limits on enabled others both =
     order_behind c (left c es) e limits (histories_keep_lengths c es) (known_left c es limits on) enabled others both
 
-order_from : (c : Config) (w : World) (es : List Event) → IsWithinLimits c → AreOfPages c.pages w.now.words
-    → Known c w.now → AreEnabledFrom c w es → LayoutPremisesFrom c w es
-    → StandsInOrder c w → StandsInOrder c (left_from c w es)
-unfolding left_from AreEnabledFrom LayoutPremisesFrom
-order_from c w [] limits lengths known on others both = both
-order_from c w (e ∷ es) limits lengths known on others both = order_from c (world_behind c w e) es limits
-    (accessed_lengths c.pages w.now.words (word_accessed c w.now e) (access c w.now e) lengths)
-    (known_behind c w.now e known on.0) on.1 others.1 (order_behind c w e limits lengths known on.0 others.0 both)
-
 pub histories_are_laid_out : HistoriesAreLaidOut
-histories_are_laid_out c es limits on others =
-    order_from c _ es limits (zero_lengths c.pages) (known_at_first c limits) on others (in_order_at_first c)
+unfolding LayoutPremisesFrom
+histories_are_laid_out c es limits on others = (along_enabled c (λ w xs. LayoutPremisesFrom c w xs × StandsInOrder c w)
+    (λ w e xs lengths known here p. (p.0.1, order_behind c w e limits lengths known here p.0.0 p.1)) es limits on
+    (others, in_order_at_first c)).1
 
 pub pages_have_header_words : LayoutHasHeaderWords
 pages_have_header_words c es limits on others = (histories_are_laid_out c es limits on others).words

@@ -8,6 +8,8 @@ use Rattle.mk_laws.proofs.Vocabulary.{◌≡◌, ◌≢◌}
 use Rattle.mk_core.proofs.GrantedAllocations.{new_sized}
 use Rattle.mk_laws.proofs.Actors.{Actor, AsHolder, AsMarker, CallTakes, HostTakes, InCallOf, Meets}
 use Rattle.mk_laws.proofs.Views.{HoldsTurn, flight_is, view_of}
+use Rattle.mk_laws.proofs.Actors.{is_holders}
+use Rattle.mk_laws.proofs.Vocabulary.{ap, is_of_turn, true≢false}
 use Rattle.mk_laws.proofs.{Known.Known, NextSteps.is_take, Orderly.holders_flight, OrderlyLists.actor_of}
 use Rattle.mk_laws.proofs.{Stages.new_stands, Standings.UnderTurn, Standings.standing_at}
 
@@ -26,18 +28,28 @@ pub free_has_turn : (c : Config) (m : Moment) (seat : Seat) → seat_exists c se
 free_has_turn c m (Caller k) there u = (ltb-true k c.callers there, free_stands _ _ u)
 free_has_turn c m _ there u = cc
 
--- So does a seat whose step is of the turn's kinds, but for `take`.
-holder_of : (c : Config) (m : Moment) (seat : Seat) (x : Step) → Actor c m seat x → is_take x ≡ false
-    → group_of x ≡ Group.Turn → HoldsTurn c (view_of m) seat
-holder_of c m seat x (InCallOf k y lt g) t is = cc
-holder_of c m seat x (AsMarker k y lt g) t is = cc
-holder_of c m seat x (CallTakes k o lt idle under) t is = cc
-holder_of c m seat x (HostTakes away) t is = cc
-holder_of c m seat x (AsHolder s y holds n) t is = holds
+-- So does a seat whose step is of a holder's kind.
+
+calls_kind : (x : Step) → group_of x ≡ Group.Callers → is_holders x ≡ false
+calls_kind (Step.Take o) g = cc
+calls_kind Step.Over g = cc
+calls_kind x g = ap is_of_turn g
+
+markers_kind : (x : Step) → group_of x ≡ Group.Markers → is_holders x ≡ false
+markers_kind (Step.Take o) g = cc
+markers_kind Step.Over g = cc
+markers_kind x g = ap is_of_turn g
+
+pub acts_as_holder : (c : Config) (m : Moment) (seat : Seat) (x : Step) → Actor c m seat x → is_holders x ≡ true
+    → HoldsTurn c (view_of m) seat
+acts_as_holder c m seat x (InCallOf k _ lt g) is = absurd (true≢false (sym is ∙ calls_kind x g))
+acts_as_holder c m seat x (AsMarker k _ lt g) is = absurd (true≢false (sym is ∙ markers_kind x g))
+acts_as_holder c m seat x (AsHolder _ _ t n) is = t
+acts_as_holder c m seat x _ is = cc
 
 pub giver_has_turn : (c : Config) (m : Moment) (seat : Seat) → Known c m → Meets c m seat Step.Give
     → HoldsTurn c (view_of m) seat
-giver_has_turn c m seat known h = holder_of c m seat Step.Give (actor_of c m seat Step.Give known.orderly h) refl refl
+giver_has_turn c m seat known h = acts_as_holder c m seat Step.Give (actor_of c m seat Step.Give known.orderly h) refl
 
 -- The call that the turn word names is the seat's.
 pub holding_flight : (c : Config) (m : Moment) (seat : Seat) → Known c m → HoldsTurn c (view_of m) seat

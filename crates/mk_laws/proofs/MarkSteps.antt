@@ -1,4 +1,5 @@
 -- What a step marks is touched: what the holder's hand or a marker's points into, or a cell without an allocation.
+use Rattle.mk_laws.proofs.GuardOneEvent.{left_fails, seen_cell}
 use Rattle.mk_laws.proofs.Vocabulary.{Bool, Caller, Cell, Config, Flight, Hand, Marker, MarkerStands, MarkerState}
 use Rattle.mk_laws.proofs.Vocabulary.{Moment, NeverState, None, Null, Object, Option, Place, PlacedAllocation}
 use Rattle.mk_laws.proofs.Vocabulary.{PointsInto, Seat, SeenHeader, Some, Stage, Step, Words, World, ℕ, address_of}
@@ -118,10 +119,6 @@ left_holds : (a b : Bool) → (a || b) ≡ true → b ≡ false → a ≡ true
 left_holds true b h none = refl
 left_holds false b h none = cc
 
-left_fails : (a b : Bool) → (a && not b) ≡ false → b ≡ false → a ≡ false
-left_fails true true h none = cc
-left_fails _ _ h none = cc
-
 -- a place that is marked has no header yet
 place_is_free : (w : Words) (o : Object) (place : Option Place) (page value : ℕ)
     → marks_place w o place page value ≡ true → header_at w page ≡ 0
@@ -138,29 +135,16 @@ seen_marks : (c : Config) (m : Moment) (x : MarkerState) (k : ℕ) → MarkerSta
     → has_bit (seen_bit (cell_seen c x.seen x.hand)) k ≡ true
     → is_some (cell_seen c x.seen x.hand) ≡ true → MarksSeen c m.words x k
 unfolding pointed_cell
-seen_marks c m x k stand bit own = by x.seen x.hand refl refl own bit
-  where
-    by : (seen : Option SeenHeader) (hand : Option ℕ) → x.seen ≡ seen → x.hand ≡ hand → is_some (cell_seen c seen hand)
-        ≡ true → has_bit (seen_bit (cell_seen c seen hand)) k ≡ true → MarksSeen c m.words x k
-    by (Some q) (Some value) es eh own bit = at (q.page == page_at_address value) refl _ refl own bit
-      where
-        at : (b : Bool) → (q.page == page_at_address value) ≡ b → (y : Option Cell) → cell_at c.pages q.header value ≡ y
-            → is_some (if b then y else None) ≡ true → has_bit (seen_bit (if b then y else None)) k ≡ true
-            → MarksSeen c m.words x k
-        at false e y is own bit = cc
-        at true e None is own bit = cc
-        at true e (Some y) is own bit =
-            let same : k ≡ y.index = bit_of_cell y.index k bit in
-            let shown : cell_seen c x.seen x.hand ≡ Some y = rw es (rw eh (rw e is)) in
-            let page : seen_page (cell_seen c x.seen x.hand) ≡ y.page = rw shown in
-            let now = (stand.seen q es).cell value y is in
-            record {
-              value = value;
-              there = eh;
-              cell = ap (λ p. cell_at c.pages (header_at m.words p) value)
-                  (sym (eqb-true q.page _ e)) ∙ now ∙ rw (← page) (rw (← same));
-            }
-    by _ _ es eh own bit = cc
+seen_marks c m x k stand bit own =
+    let s = seen_cell c x own in
+    let page : seen_page (cell_seen c x.seen x.hand) ≡ s.cell.page = rw s.is in
+    let same : k ≡ s.cell.index = bit_of_cell s.cell.index k (rw s.is at bit) in
+    record {
+      value = s.value;
+      there = s.hand;
+      cell = ap (λ p. cell_at c.pages (header_at m.words p) s.value) (sym (eqb-true s.under.page _ s.near))
+          ∙ (stand.seen s.under s.seen).cell s.value s.cell s.at ∙ rw (page, same);
+    }
 
 module _ (c : Config) (w : World) (n : NeverState) (T : ℕ → Type 0) (precise : IsPrecise c w T) where
   -- Whatever of it stands there, a cell that is marked is touched.

@@ -9,24 +9,9 @@ use Rattle.mk_quarantine.proofs.Vocabulary.{is_release, is_some, is_some_and, le
 use Rattle.mk_quarantine.proofs.Vocabulary.{true≢false, with_released, world_behind, [], ◌&&◌, ◌*◌, ◌++◌, ◌+◌, ◌||◌}
 use Rattle.mk_quarantine.proofs.Vocabulary.{◌∷◌, ◌≡◌, ◌≤◌}
 use Rattle.mk_core.specs.History.{left_from}
-use Rattle.mk_laws.proofs.FreshWords.{fresh_part, fresh_pushed, none_fresh}
+use Rattle.mk_laws.proofs.FreshWords.{fresh_part, fresh_pushed, fresh_sum, none_fresh, sum_filtered}
 use Rattle.mk_objects.proofs.HeldFreed.{held_part, held_sum}
 use Rattle.mk_quarantine.specs.GivenBack.{given_back_from, is_given_back, words_given_back}
-
--- The counts as sums over all.
-
-pub sum_filtered : (f : PlacedAllocation → ℕ) (p : PlacedAllocation → Bool) (xs : List PlacedAllocation)
-    → sum_by f (filter p xs) ≡ sum_by (λ (a : PlacedAllocation). if p a then f a else 0) xs
-sum_filtered f p [] = refl
-sum_filtered f p (a ∷ xs) =
-    cc (first (p a), sum_filtered f p xs, sum_by-cons (λ (b : PlacedAllocation). if p b then f b else 0) a xs)
-  where
-    rest : List PlacedAllocation
-    rest = filter p xs
-
-    first : (b : Bool) → sum_by f (if b then a ∷ rest else rest) ≡ (if b then f a else 0) + sum_by f rest
-    first true = sum_by-cons f a rest
-    first false = omega arith
 
 -- a sum over those that pass a test, where each that does passes one of two others
 pub filtered_in_parts : (f : PlacedAllocation → ℕ) (p q r : PlacedAllocation → Bool)
@@ -95,12 +80,8 @@ module _ (c : Config) (w : World) where
       omega (arith, one, behind, sum_by-cons (fresh_part c) a xs, sums_stale xs)
 
   fresh_released : fresh_words_of c (map released w.allocations) ≤ fresh_words_of c w.allocations
-  fresh_released =
-      let sums = sums_stale w.allocations in
-      let behind = sum_filtered (storage_words c) (λ (a : PlacedAllocation). is_mapped c a && a.fresh)
-      (map released w.allocations) in
-      let before = sum_filtered (storage_words c) (λ (a : PlacedAllocation). is_mapped c a && a.fresh) w.allocations in
-      omega arith
+  fresh_released = omega (arith, sums_stale w.allocations, fresh_sum c (map released w.allocations),
+      fresh_sum c w.allocations)
 
 held_pushed : (c : Config) (xs : List PlacedAllocation) (a : PlacedAllocation)
     → held_by_allocations c xs ≤ held_by_allocations c (xs ++ a ∷ [])

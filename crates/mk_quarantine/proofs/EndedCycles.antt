@@ -11,7 +11,7 @@ use Rattle.mk_quarantine.proofs.Vocabulary.{or_from, or_parts, phase_behind, pha
 use Rattle.mk_quarantine.proofs.Vocabulary.{true, true≢false, turn_of, view_of, world_behind, [], ⊎_elim, ◌++◌, ◌<◌}
 use Rattle.mk_quarantine.proofs.Vocabulary.{◌∙◌, ◌∷◌, ◌≡◌, ◌⊎◌}
 use Rattle.mk_core.specs.Growing.{AreOfOthers}
-use Rattle.mk_laws.proofs.{CyclePhases.moves_phase, NextSteps.at_take}
+use Rattle.mk_laws.proofs.{CyclePhases.moves_phase, CyclePhases.phases_go_on, NextSteps.at_take}
 use Rattle.mk_alloc.proofs.ListParts.{lacks_second}
 use Rattle.mk_quarantine.proofs.EndedFrees.{CallersAreExact, caller_of}
 use Rattle.mk_quarantine.proofs.HeldQuarters.{FreesIn, IsLate, quarter_or_late, since_begin}
@@ -27,22 +27,7 @@ Rests p = (p ≡ 0) ⊎ (p ≡ 5)
 rest_step : (x : Step) (p : ℕ) → AsksPhase x p → Rests p → is_begin x ≡ false
     → Rests (phase_behind x p) × (is_release x ≡ false)
 rest_step Step.Begin p asks rests none = cc
-rest_step Step.Want p asks rests none = absurd (grind arith)
-rest_step Step.Close p asks rests none = absurd (grind arith)
-rest_step Step.Release p asks rests none = absurd (grind arith)
-rest_step Step.End p asks rests none = (inl refl, refl)
-rest_step Step.Over p asks rests none = (inr refl, refl)
-rest_step _ p asks rests none = (rests, refl)
-
-releases_none : (c : Config) (w : World) (es : List Event) → AreEnabledFrom c w es → Rests (phase_of w.now.words)
-    → Lacks is_begin es → Lacks is_release es
-releases_none c w [] on rests none = refl
-releases_none c w (e ∷ es) on rests none =
-    let parts = or_parts (is_begin e.step) (has_step is_begin es) none in
-    let moves = moves_phase c w e es on in
-    let one = rest_step e.step (phase_of w.now.words) moves.0 rests parts.0 in
-    or_from (is_release e.step) (has_step is_release es) one.1
-    (releases_none c (world_behind c w e) es moves.2 (subst Rests (sym moves.1) one.0) parts.1)
+rest_step x p asks rests none = grind arith
 
 end_is : (x : Step) → is_end x ≡ true → x ≡ Step.End
 end_is Step.End is = refl
@@ -53,7 +38,7 @@ released_no_more : (c : Config) (es : List Event) (end : Event) (more : List Eve
 released_no_more c es end more h ends none =
     let moves = moves_phase c (left c es) end more ((enabled_in_parts c es (end ∷ more)).0 h.enabled).1 in
     let zero : phase_of (world_behind c (left c es) end).now.words ≡ 0 = grind (arith, phase_behind, end_is) in
-    releases_none c (world_behind c (left c es) end) more moves.2 (inl zero) none
+    (phases_go_on Rests is_begin is_release rest_step c (world_behind c (left c es) end) more moves.2 (inl zero) none).1
 
 -- Each event of these is of other seats, and so are all after it.
 

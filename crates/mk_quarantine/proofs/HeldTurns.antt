@@ -13,6 +13,8 @@ use Rattle.mk_quarantine.proofs.Vocabulary.{tally_keeps, true, true≢false, tur
 use Rattle.mk_quarantine.proofs.Vocabulary.{◌&&◌, ◌++◌, ◌+◌, ◌<◌, ◌∙◌, ◌∷◌, ◌≡◌}
 use Rattle.mk_core.specs.History.{AreEnabledFrom, left_from}
 use Rattle.mk_laws.proofs.Basics.{Actor, AsHolder, AsMarker, InCallOf, actor_of, known_behind}
+use Rattle.mk_laws.proofs.FramesHolders.{acts_as_holder}
+use Rattle.mk_laws.proofs.Actors.{is_holders}
 use Rattle.mk_laws.proofs.{Actors.CallTakes, Actors.HostTakes, CyclePhases.begin_is, LayoutHolders.giver_has_turn}
 
 -- The turn word while nobody gives the turn back, and that a turn of a seat is one.
@@ -187,22 +189,13 @@ one_turn c k es t u h =
 
 -- Who begins a cycle holds the turn, so a turn that was taken before goes on over the `begin`.
 
-beginner_of : (c : Config) (m : Moment) (seat : Seat) (x : Step) → Actor c m seat x → x ≡ Step.Begin
-    → HoldsTurn c (view_of m) seat
-beginner_of c m seat x (InCallOf k y lt g) is = grind arith
-beginner_of c m seat x (AsMarker k y lt g) is = grind arith
-beginner_of c m seat x (CallTakes k o lt idle under) is = cc
-beginner_of c m seat x (HostTakes away) is = cc
-beginner_of c m seat x (AsHolder s y holds n) is = holds
-
--- It holds the turn.
 pub beginner_holds : (c : Config) (es : List Event) (b : At is_begin es) → IsHistory c es
     → HoldsTurn c (view_of (left c b.before).now) b.event.seat
 beginner_holds c es b h =
     let here = before_it c es b.before b.event b.behind h b.is in
     let known = known_left c b.before here.0.within_limits here.0.enabled in
-    beginner_of c (left c b.before).now _ _ (actor_of c (left c b.before).now _ _ known.orderly here.1) (begin_is _
-    b.of_kind)
+    acts_as_holder c (left c b.before).now _ _ (actor_of c (left c b.before).now _ _ known.orderly here.1)
+    (ap is_holders (begin_is _ b.of_kind))
 
 pub begun_under_turn : (c : Config) (es : List Event) (b : At is_begin es) → IsHistory c es
     → (left c b.before).now.words.turn ≢ 0

@@ -7,6 +7,7 @@ use Rattle.mk_quarantine.proofs.Vocabulary.{get_or_past, granted, is_quarantined
 use Rattle.mk_quarantine.proofs.Vocabulary.{length-append, no_longer_fresh, placed_at, subst, sym, true, true≢false}
 use Rattle.mk_quarantine.proofs.Vocabulary.{with_released, world_behind, [], ◌++◌, ◌<◌, ◌||◌, ◌∙◌, ◌∷◌, ◌≡◌}
 use Rattle.mk_core.specs.{Cycles.before_begin, History.left_from}
+use Rattle.mk_laws.proofs.AllocationSteps.{allocation_step, goes_on}
 use Rattle.mk_laws.proofs.{PrecisionStopped.keeps_only_the_touched, Stretches.at_release}
 use Rattle.mk_quarantine.specs.KeptAllocations.{KeptAreTouched}
 
@@ -16,16 +17,8 @@ IsThere w i = i < length w.allocations
 
 there_behind : (c : Config) (w : World) (seat : Seat) (x : Step) (i : ℕ) → IsThere w i
     → IsThere (WorldBehind c w seat x) i
-there_behind c w seat Step.Grant i there =
-    let both = length-append w.allocations (granted c w.now (flight_of w.now seat) ∷ []) in omega arith
-there_behind c w seat (Step.Quar p v) i there =
-    let same = length-map w.allocations
-    (freed_where_it_stands w.now.words (cell_freed c.pages w.now.words (flight_of w.now seat) p v)) in
-    omega arith
-there_behind c w seat Step.Begin i there = let same = length-map w.allocations no_longer_fresh in omega arith
-there_behind c w seat Step.Release i there =
-    let same = length-map w.allocations (with_released c w.now.words) in omega arith
-there_behind c w seat _ i there = there
+there_behind c w seat x i there = (goes_on w.allocations _ x i
+    (allocation_step c w.now (flight_of w.now seat) x w.allocations) there).there
 
 there_from : (c : Config) (w : World) (es : List Event) (i : ℕ) → IsThere w i → IsThere (left_from c w es) i
 unfolding left_from
