@@ -57,19 +57,26 @@ swapped _ h = cc
 
 -- heap words: one that changes is owed, or is 0
 
-stored : (c : Config) (m : Moment) (k : ℕ) (x : Step) (n y : ℕ) (f : Flight) → k < length m.seats.flights
-    → (Behind c m (Caller k) x).words.heap ≡ slice_set m.words.heap (word_met (flight_of m (Caller k))) n
-    → (Behind c m (Caller k) x).seats.flights ≡ slice_set m.seats.flights k f → f.stage ≡ Stage.Dirty
+stored : (c : Config) (m : Moment) (k : ℕ) (x : Step) (s : Stage) (n y : ℕ) → Known c m → k < c.callers
+    → (flight_of m (Caller k)).stage ≡ s
+    → ((o : Op) → is_astray (standing_at s o) ≡ false → stage_behind s (steps_of o) ≡ Stage.Dirty)
+    → (f : Flight) → f.stage ≡ stage_behind (flight_of m (Caller k)).stage (steps_of (flight_of m (Caller k)).op)
     → word_met f ≡ word_met (flight_of m (Caller k))
+    → (Behind c m (Caller k) x).words.heap ≡ slice_set m.words.heap (word_met (flight_of m (Caller k))) n
+    → (Behind c m (Caller k) x).seats.flights ≡ slice_set m.seats.flights k f
     → (slice_index (Behind c m (Caller k) x).words.heap y ≡ slice_index m.words.heap y)
     ⊎ IsGuarded c (Behind c m (Caller k) x) y
-stored c m k x n y f lt heap flights at same = elim (cases_eq y (word_met (flight_of m (Caller k)))) [
-  | inl e ↦
-      let is : flight_of (Behind c m (Caller k) x) (Caller k) ≡ f = rw flights
-      (get_or-set_same m.seats.flights k f at_rest lt) in
-      inr (DirtyIsOwed k (rw is at, rw is (rw (same ∙ sym e))))
-  | inr ne ↦ inl (rw heap (get_or-set_other m.words.heap _ y n 0 ne))
-]
+stored c m k x s n y known lt at owes f stage same heap flights =
+    elim (cases_eq y (word_met (flight_of m (Caller k)))) [
+      | inl e ↦
+          let o : Op = (flight_of m (Caller k)).op in
+          let fine = subst (λ (s : Stage). is_astray (standing_at s o) ≡ false) at (not_astray c m known.orderly k lt) in
+          let is : flight_of (Behind c m (Caller k) x) (Caller k) ≡ f = rw flights
+          (get_or-set_same m.seats.flights k f at_rest (omega (arith, lt, known.orderly.flights))) in
+          inr (DirtyIsOwed k (rw is (stage ∙ ap (λ (s : Stage). stage_behind s (steps_of o)) at ∙ owes o fine),
+              rw is (rw (same ∙ sym e))))
+      | inr ne ↦ inl (rw heap (get_or-set_other m.words.heap _ y n 0 ne))
+    ]
 
 pub wiped : (xs : List ℕ) (n y : ℕ)
     → (slice_index (slice_set xs n 0) y ≡ slice_index xs y) ⊎ (slice_index (slice_set xs n 0) y ≡ 0)
@@ -79,24 +86,10 @@ pub heap_kind : (c : Config) (m : Moment) (seat : Seat) (x : Step) → Known c m
     → (slice_index (Behind c m seat x).words.heap y ≡ slice_index m.words.heap y) ⊎ IsGuarded c (Behind c m seat x) y
 heap_kind c m seat Step.Reg known h y = inl (ap (λ (t : Table). slice_index t.heap y) (reg_table c m seat))
 heap_kind c m seat (Step.Tally n v) known h y = inl (ap (λ (t : Table). slice_index t.heap y) (tally_table m.words n v))
-heap_kind c m (Caller k) Step.Write known h y =
-    let lt = ltb-true k c.callers h.seat in
-    let at = at_its_stage _ _ Step.Write refl h.order in
-    let fine = subst (λ (s : Stage). is_astray (standing_at s (flight_of m (Caller k)).op) ≡ false) at
-    (not_astray c m known.orderly k lt) in
-    stored c m k Step.Write _ y
-    (progress c m (flight_of m (Caller k)) (found c m (record { seat = Caller k; step = Step.Write }))
-    Step.Write).flight (omega (arith, lt, known.orderly.flights)) refl refl
-    (ap (λ (s : Stage). stage_behind s (steps_of (flight_of m (Caller k)).op)) at ∙ wrote _ fine) refl
-heap_kind c m (Caller k) Step.Cas known h y =
-    let lt = ltb-true k c.callers h.seat in
-    let at = at_its_stage _ _ Step.Cas refl h.order in
-    let fine = subst (λ (s : Stage). is_astray (standing_at s (flight_of m (Caller k)).op) ≡ false) at
-    (not_astray c m known.orderly k lt) in
-    stored c m k Step.Cas _ y
-    (progress c m (flight_of m (Caller k)) (found c m (record { seat = Caller k; step = Step.Cas })) Step.Cas).flight
-    (omega (arith, lt, known.orderly.flights)) refl refl
-    (ap (λ (s : Stage). stage_behind s (steps_of (flight_of m (Caller k)).op)) at ∙ swapped _ fine) refl
+heap_kind c m (Caller k) Step.Write known h y = stored c m k Step.Write Stage.Write _ y known
+    (ltb-true k c.callers h.seat) (at_its_stage _ _ Step.Write refl h.order) wrote _ refl refl refl refl
+heap_kind c m (Caller k) Step.Cas known h y = stored c m k Step.Cas Stage.Cas _ y known
+    (ltb-true k c.callers h.seat) (at_its_stage _ _ Step.Cas refl h.order) swapped _ refl refl refl refl
 heap_kind c m _ Step.Write known h y = let kind = h.kind in cc
 heap_kind c m _ Step.Cas known h y = let kind = h.kind in cc
 heap_kind c m seat (Step.Wipe n) known h y =

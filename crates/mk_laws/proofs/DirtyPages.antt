@@ -20,11 +20,14 @@ use Rattle.mk_laws.specs.FreePages.{DirtyPagesHaveAllocations}
 
 -- Which steps bring a call to where it owes a dirty mark: a store and an exchange.
 
-behind_is_dirty : (o : Op) (s : Stage) → stage_behind s (steps_of o) ≡ Stage.Dirty → (s ≡ Stage.Write) ⊎ (s ≡ Stage.Cas)
-behind_is_dirty o Stage.Write h = inl refl
-behind_is_dirty o Stage.Cas h = inr refl
-behind_is_dirty (Op.New d ty full) s h = cc
-behind_is_dirty _ s h = cc
+store_next : (o : Op) (s : Stage) (x : Step) → stage_behind s (steps_of o) ≡ Stage.Dirty → comes_next s o x ≡ true
+    → is_heap_store x ≡ true
+store_next o Stage.Write Step.Write h next = refl
+store_next o Stage.Write _ h next = cc
+store_next o Stage.Cas Step.Cas h next = refl
+store_next o Stage.Cas _ h next = cc
+store_next (Op.New d ty full) s x h next = cc
+store_next _ s x h next = cc
 
 first_not_dirty : (o : Op) → first_of (steps_of o) ≡ Stage.Dirty → ⊥
 first_not_dirty (Op.New d ty full) h = cc
@@ -33,19 +36,6 @@ first_not_dirty _ h = cc
 refusal_not_dirty : (o : Op) → stage_refused o ≡ Stage.Dirty → ⊥
 refusal_not_dirty (Op.GetPtr d q i) h = cc
 refusal_not_dirty _ h = cc
-
-at_write : (o : Op) (x : Step) → comes_next Stage.Write o x ≡ true → is_heap_store x ≡ true
-at_write o Step.Write h = refl
-at_write o _ h = cc
-
-at_cas : (o : Op) (x : Step) → comes_next Stage.Cas o x ≡ true → is_heap_store x ≡ true
-at_cas o Step.Cas h = refl
-at_cas o _ h = cc
-
-is_store : (o : Op) (s : Stage) (x : Step) → (s ≡ Stage.Write) ⊎ (s ≡ Stage.Cas) → comes_next s o x ≡ true
-    → is_heap_store x ≡ true
-is_store o s x (inl e) next = at_write o x (rw e at next)
-is_store o s x (inr e) next = at_cas o x (rw e at next)
 
 -- A call that owes a mark after a step owed it before, or this step has stored.
 abbrev pub OwesSince : Flight → Step → Flight → Type 0
@@ -57,7 +47,7 @@ owes_since f x g next Stays h = inl refl
 owes_since f x g next (Begins o is) h = absurd (first_not_dirty o h)
 owes_since f x g next Ends h = cc
 owes_since f x g next (GoesOn y at same off) h = absurd (true≢false
-    (sym (is_store y.op y.stage x (behind_is_dirty y.op y.stage h) (rw at (rw same next))) ∙ off))
+    (sym (store_next y.op y.stage x h (rw at (rw same next))) ∙ off))
 owes_since f x g next (Stores on) h = inr (on, refl)
 owes_since f x g next (Refused y a same) h = absurd (refusal_not_dirty y.op h)
 owes_since f x g next (Comes y s same ne) h = absurd (ne h)

@@ -15,7 +15,7 @@ use Rattle.mk_quarantine.proofs.CountedWords.{IsQuarter, given_at, none_fresh_be
 use Rattle.mk_quarantine.proofs.EndedFrees.{CallersAreExact, EndedFree, ended_free}
 use Rattle.mk_quarantine.proofs.Quarters.{IsPending, begin_is_of_cycle, cycles_later, freed_or_due, none_pending}
 use Rattle.mk_quarantine.proofs.Quarters.{pending_longer}
-use Rattle.mk_quarantine.proofs.HeldTurns.{BeginsInTurn, begun_in_turn}
+use Rattle.mk_quarantine.proofs.HeldTurns.{BeginsInTurn, begun_in_turn, one_later}
 
 -- the last event of a kind, if there is one
 
@@ -28,16 +28,7 @@ last_of kind [] some = absurd (some refl)
 last_of kind (e ∷ es) some = elim (cases_Bool (has_step kind es)) [
   | inl has ↦
       let rest = last_of kind es (λ lacks. true≢false (sym has ∙ lacks)) in
-      record {
-        at = record {
-          before = e ∷ rest.at.before;
-          event = rest.at.event;
-          behind = rest.at.behind;
-          is = ap (λ (l : List Event). e ∷ l) rest.at.is;
-          of_kind = rest.at.of_kind;
-        };
-        none = rest.none;
-      }
+      record { at = one_later e rest.at; none = rest.none }
   | inr lacks ↦ elim (cases_Bool (kind e.step)) [
     | inl is ↦ record { at = record { before = []; event = e; behind = es; is = refl; of_kind = is }; none = lacks }
     | inr off ↦ absurd (some (or_from (kind e.step) (has_step kind es) off lacks))

@@ -1,6 +1,7 @@
 -- Turns that are held: the turn word meanwhile, that a turn of a seat is one, and who begins a cycle in one.
 use Rattle.std.proofs.lemmas.List.{append_cancel_left}
 use Rattle.mk_laws.proofs.Vocabulary.{enabled_meets, ◌≢◌}
+use Rattle.mk_quarantine.proofs.Vocabulary.{inl, inr}
 use Rattle.mk_quarantine.proofs.Vocabulary.{At, Bool, Caller, Config, Event, GivesNone, HoldsTurn, Host, InFirst}
 use Rattle.mk_quarantine.proofs.Vocabulary.{InSecond, IsHistory, Known, Lacks, List, Marker, Meets, Moment, Next, Op}
 use Rattle.mk_quarantine.proofs.Vocabulary.{Option, Seat, Step, TurnOf, World, WorldBehind, ℕ, and-false, and_from, ap}
@@ -19,26 +20,29 @@ use Rattle.mk_laws.proofs.{Actors.CallTakes, Actors.HostTakes, CyclePhases.begin
 
 -- The turn word while nobody gives the turn back, and that a turn of a seat is one.
 
+-- with one event more at the front
+abbrev pub one_later : {kind : Step → Bool} {es : List Event} (e : Event) → At kind es → At kind (e ∷ es)
+one_later e at = record {
+  before = e ∷ at.before;
+  event = at.event;
+  behind = at.behind;
+  is = ap (λ (l : List Event). e ∷ l) at.is;
+  of_kind = at.of_kind;
+}
+
 -- the first event of a kind, if there is one
 pub next_of : (kind : Step → Bool) (es : List Event) → (Lacks kind es → ⊥) → Next kind es
 next_of kind [] some = absurd (some refl)
-next_of kind (e ∷ es) some =
-    ⊎_elim
-    (λ (is : kind e.step ≡ true).
-    record { at = record { before = []; event = e; behind = es; is = refl; of_kind = is }; none_before = refl })
-    (λ (none : kind e.step ≡ false).
-    (let rest = next_of kind es (λ lacks. some (or_from (kind e.step) (has_step kind es) none lacks)) in
-    record {
-      at = record {
-        before = e ∷ rest.at.before;
-        event = rest.at.event;
-        behind = rest.at.behind;
-        is = ap (λ (l : List Event). e ∷ l) rest.at.is;
-        of_kind = rest.at.of_kind;
-      };
-      none_before = or_from (kind e.step) (has_step kind rest.at.before) none rest.none_before;
-    }))
-    (cases_Bool (kind e.step))
+next_of kind (e ∷ es) some = elim (cases_Bool (kind e.step)) [
+  | inl is ↦
+      record { at = record { before = []; event = e; behind = es; is = refl; of_kind = is }; none_before = refl }
+  | inr none ↦
+      let rest = next_of kind es (λ lacks. some (or_from (kind e.step) (has_step kind es) none lacks)) in
+      record {
+        at = one_later e rest.at;
+        none_before = or_from (kind e.step) (has_step kind rest.at.before) none rest.none_before;
+      }
+]
 
 -- One event: a turn that is held stays so, unless it is given back.
 turn_kept : (c : Config) (w : World) (seat : Seat) (x : Step) → w.now.words.turn ≢ 0 → is_give x ≡ false
