@@ -1,19 +1,19 @@
 -- The storages of unreleased allocations lie apart, where nothing is on its way.
 use Rattle.std.proofs.{Common.le_refl, lemmas.Bool.cases_order, lemmas.List.Elements.Contains-get_or}
-use Rattle.mk_laws.proofs.Vocabulary.{AreApart, BeginsAtCell, Bool, Cell, Claim, Config, Header, IsAtCell, IsLaidOn}
-use Rattle.mk_laws.proofs.Vocabulary.{IsOfOneCell, IsShown, IsSized, IsWithinLimits, LayoutScene, List, None, NoPlot}
-use Rattle.mk_laws.proofs.Vocabulary.{Object, OfBlock, OfLater, OfLeafBlock, OfLeafRun, OfRun, Option, PlacedAllocation}
-use Rattle.mk_laws.proofs.Vocabulary.{ShowsPart, Storage, Words, ℕ, ap, arith, cases_Bool, cases_eq, cases_lt}
-use Rattle.mk_laws.proofs.Vocabulary.{cell_of_allocation, claim_of, claims_of, class_made, class_words_of, false}
-use Rattle.mk_laws.proofs.Vocabulary.{first_page_shows, get_or, header_in, inl, inr, is_small, is_small_object, length}
-use Rattle.mk_laws.proofs.Vocabulary.{mul-le, object_placed, pages_made, pages_some, placed_at, refl, small_pages}
-use Rattle.mk_laws.proofs.Vocabulary.{small_words, stands_on, storage_is_of, storage_of, storage_words, suc, sym, true}
-use Rattle.mk_laws.proofs.Vocabulary.{true≢false, unreleased_storage, words_within, zero, [], ◌%◌, ◌*◌, ◌+◌, ◌-◌, ◌/◌}
-use Rattle.mk_laws.proofs.Vocabulary.{Among, StandsOnHeap, ◌<◌, ◌∙◌, ◌∷◌, ◌≡◌, ◌≢◌, ◌≤◌}
+use Rattle.mk_laws.proofs.Vocabulary.{Among, AreApart, BeginsAtCell, Bool, Cell, Claim, Config, Header, IsAtCell}
+use Rattle.mk_laws.proofs.Vocabulary.{IsLaidOn, IsOfOneCell, IsShown, IsSized, IsWithinLimits, LayoutScene, List, None}
+use Rattle.mk_laws.proofs.Vocabulary.{NoPlot, Object, OfBlock, OfLater, OfLeafBlock, OfLeafRun, OfRun, Option}
+use Rattle.mk_laws.proofs.Vocabulary.{PlacedAllocation, ShowsPart, StandsOnHeap, Storage, Words, ℕ, ap, arith}
+use Rattle.mk_laws.proofs.Vocabulary.{cases_Bool, cases_eq, cases_lt, cell_of_allocation, claim_of, claims_of}
+use Rattle.mk_laws.proofs.Vocabulary.{class_made, class_words_of, false, first_page_shows, get_or, header_in, inl, inr}
+use Rattle.mk_laws.proofs.Vocabulary.{is_small, is_small_object, length, mul-le, object_placed, pages_made, pages_some}
+use Rattle.mk_laws.proofs.Vocabulary.{placed_at, refl, small_pages, small_words, stands_on, storage_is_of, storage_of}
+use Rattle.mk_laws.proofs.Vocabulary.{storage_words, suc, sym, true, true≢false, unreleased_storage, words_within, zero}
+use Rattle.mk_laws.proofs.Vocabulary.{[], ◌%◌, ◌*◌, ◌+◌, ◌-◌, ◌/◌, ◌<◌, ◌∙◌, ◌∷◌, ◌≡◌, ◌≢◌, ◌≤◌}
 use Rattle.mk_geom.{proofs.Standing.stands_parts, specs.Storages.LieApart}
 use Rattle.mk_core.proofs.UnreleasedStorage.{released_front, unreleased_front}
 use Rattle.mk_core.proofs.{Sizes.words_are_small, StandingAllocations.placed_cell}
-use Rattle.mk_laws.proofs.Basics.{IsStanding, claim_among, ends_on_pages}
+use Rattle.mk_laws.proofs.Basics.{claim_among, ends_on_pages}
 use Rattle.mk_laws.proofs.{Claims.first_apart, Claims.rest_apart, Released.stands_there, Unmapping.shares_run}
 
 -- a scene in which nothing is on its way: no place, no run, no released cell

@@ -10,7 +10,8 @@ use Rattle.mk_laws.proofs.Vocabulary.{world_behind, ◌*◌, ◌+◌, ◌<◌, �
 use Rattle.mk_core.proofs.RegisterAccesses.{register_leaves}
 use Rattle.mk_core.specs.Effects.{begins_where_free, progress_probe}
 use Rattle.mk_laws.proofs.Basics.{KnownWorld, Leads, PagesShow, Ready, at_its_stage, at_reg, either_leads, flight}
-use Rattle.mk_laws.proofs.Basics.{goes_bare, is_astray, is_call_stage, not_astray, operands_of, register_small, standing, standing_at}
+use Rattle.mk_laws.proofs.Basics.{goes_bare, is_astray, is_call_stage, not_astray, operands_of, register_small}
+use Rattle.mk_laws.proofs.Basics.{standing, standing_at}
 use Rattle.mk_laws.proofs.ImagesCallMoves.{cas_leads, getg_leads, probe_leads, read_leads, setg_leads, write_leads}
 use Rattle.mk_laws.proofs.{ImagesKept.own_plain, ImagesMoves.Flies, ImagesMoves.is_bare, NextSteps.at_enter}
 use Rattle.mk_laws.proofs.{Ready.LeadsBy, RegMoves.flies_on, RegMoves.reg_leads, RegMoves.registers_behind}

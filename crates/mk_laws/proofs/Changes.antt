@@ -3,8 +3,8 @@ use Rattle.mk_laws.proofs.Vocabulary.{Access, AreOfPages, Bool, Caller, Config, 
 use Rattle.mk_laws.proofs.Vocabulary.{IsMarking, List, Load, Moment, Named, OnlyGrow, Op, OwesDirty, Page, Seat, Stage}
 use Rattle.mk_laws.proofs.Vocabulary.{Step, Store, Tally, Word, Words, ℕ, accessed, and_parts, ap, arith, at_rest}
 use Rattle.mk_laws.proofs.Vocabulary.{cases_eq, comes_next, false, flight_of, found, free_page, get_or-set_other}
-use Rattle.mk_laws.proofs.Vocabulary.{get_or-set_same, has_bit, header_at, inl, inr, length, ltb-true, nat_le, nat_lt}
-use Rattle.mk_laws.proofs.Vocabulary.{no_bit, page_met, progress, refl, set_by, slice_index, slice_index_or, slice_set}
+use Rattle.mk_laws.proofs.Vocabulary.{get_or-set_same, has_bit, header_at, inl, inr, ltb-true, nat_le, nat_lt, no_bit}
+use Rattle.mk_laws.proofs.Vocabulary.{page_met, progress, refl, set_by, slice_index, slice_index_or, slice_set}
 use Rattle.mk_laws.proofs.Vocabulary.{stage_behind, steps_of, subst, sym, tally_word, true, true≢false, word_met, ◌*◌}
 use Rattle.mk_laws.proofs.Vocabulary.{◌<◌, ◌∙◌, ◌≡◌, ◌⊎◌}
 use Rattle.mk_core.proofs.RegisterAccesses.{register_leaves, tally_leaves}
@@ -73,8 +73,10 @@ stored c m k x s n y known lt at owes f stage same heap flights =
           let fine = subst (λ (s : Stage). is_astray (standing_at s o) ≡ false) at (not_astray c m known.orderly k lt) in
           let is : flight_of (Behind c m (Caller k) x) (Caller k) ≡ f = rw flights
           (get_or-set_same m.seats.flights k f at_rest (omega (arith, lt, known.orderly.flights))) in
-          inr (DirtyIsOwed k (rw is (stage ∙ ap (λ (s : Stage). stage_behind s (steps_of o)) at ∙ owes o fine),
-              rw is (rw (same ∙ sym e))))
+          inr (DirtyIsOwed k (
+            rw is (stage ∙ ap (λ (s : Stage). stage_behind s (steps_of o)) at ∙ owes o fine),
+            rw is (rw (same ∙ sym e)),
+          ))
       | inr ne ↦ inl (rw heap (get_or-set_other m.words.heap _ y n 0 ne))
     ]
 

@@ -1,21 +1,17 @@
 -- Along a list without a `begin`, what was freed before the last one stays told by the flags.
 use Rattle.std.proofs.Common.{length-append}
-use Rattle.mk_laws.proofs.Vocabulary.{AreEnabledFrom, AreOfPages, Bool, Cell, Config, Event, IsQuarantined}
-use Rattle.mk_laws.proofs.Vocabulary.{IsWithinLimits, LayoutPremisesFrom, LayoutStands, List, None, Option}
-use Rattle.mk_laws.proofs.Vocabulary.{PlacedAllocation, Seat, Some, StandsInOrder, Step, World, ℕ, access}
-use Rattle.mk_laws.proofs.Vocabulary.{accessed_lengths, arith, cell_freed, enabled_meets, false, false_from_ne_true}
-use Rattle.mk_laws.proofs.Vocabulary.{first_world, flight_of, freed_cell, freed_where_it_stands, get_or_past, granted}
-use Rattle.mk_laws.proofs.Vocabulary.{is_begin, is_quarantined, left, left_append, left_from, length, length-map}
-use Rattle.mk_laws.proofs.Vocabulary.{list_any, map, never_granted, no_longer_fresh, none_freed, not, or_parts}
-use Rattle.mk_laws.proofs.Vocabulary.{placed_at, refl, stands_in, sym, true, true≢false, with_released, word_accessed}
-use Rattle.mk_laws.proofs.Vocabulary.{world_behind, zero_lengths, [], ◌&&◌, ◌++◌, ◌∙◌, ◌∷◌, ◌≡◌, ◌≤◌}
-use Rattle.mk_laws.proofs.Basics.{Before, Known, Meets, WorldBehind, begin_is, freeing_leaves, known_at_first}
-use Rattle.mk_laws.proofs.Basics.{known_behind, releasing_leaves}
-use Rattle.mk_laws.proofs.Known.{along_enabled}
-use Rattle.mk_laws.proofs.Vocabulary.{At, ap, has_bit_of, subst}
+use Rattle.mk_laws.proofs.Vocabulary.{At, Bool, Cell, Config, Event, IsQuarantined, LayoutPremisesFrom, LayoutStands}
+use Rattle.mk_laws.proofs.Vocabulary.{List, None, Option, PlacedAllocation, Seat, Some, StandsInOrder, Step, World, ℕ}
+use Rattle.mk_laws.proofs.Vocabulary.{ap, arith, cell_freed, enabled_meets, false, false_from_ne_true, flight_of}
+use Rattle.mk_laws.proofs.Vocabulary.{freed_cell, freed_where_it_stands, get_or_past, granted, has_bit_of, is_begin}
+use Rattle.mk_laws.proofs.Vocabulary.{is_quarantined, left, left_from, length, length-map, list_any, map, never_granted}
+use Rattle.mk_laws.proofs.Vocabulary.{no_longer_fresh, none_freed, not, or_parts, placed_at, refl, stands_in, subst}
+use Rattle.mk_laws.proofs.Vocabulary.{sym, true, true≢false, with_released, world_behind, [], ◌&&◌, ◌++◌, ◌∙◌, ◌∷◌, ◌≡◌}
+use Rattle.mk_laws.proofs.Vocabulary.{◌≤◌}
+use Rattle.mk_laws.proofs.Basics.{Before, Meets, WorldBehind, begin_is, freeing_leaves, releasing_leaves}
 use Rattle.mk_laws.proofs.LayoutHistories.{in_order_at_first, known_before, order_behind}
-use Rattle.mk_laws.proofs.QuarantineChanges.{FreesHere, before_change}
-use Rattle.mk_laws.proofs.{Granted.pushed_new, LayoutByKind.fresh_cells, QuarantineByKind.frees_here}
+use Rattle.mk_laws.proofs.{Granted.pushed_new, Known.along_enabled, LayoutByKind.fresh_cells}
+use Rattle.mk_laws.proofs.{QuarantineByKind.frees_here, QuarantineChanges.FreesHere, QuarantineChanges.before_change}
 use Rattle.mk_laws.specs.Snapshots.{SnapshotsAreOfCycles}
 
 -- freed, and not after the last `begin`

@@ -17,14 +17,12 @@ use Rattle.mk_laws.proofs.Vocabulary.{world_behind, ◌%◌, ◌&&◌, ◌*◌, 
 use Rattle.mk_never.specs.Laws.{AreNotBy}
 use Rattle.mk_core.specs.{Effects.holding_behind, Order.is_of_any_holder}
 use Rattle.mk_laws.proofs.Basics.{HoldsTurn, InCall, KnownWorld, Meets, Orderly, Ready, Stands, View, actor_of, base_at}
-use Rattle.mk_laws.proofs.Basics.{flight, flight_in, not_astray, ready_of, standing, standing_at, stands_of, turn_of}
-use Rattle.mk_laws.proofs.Basics.{view_of}
+use Rattle.mk_laws.proofs.Basics.{flight, flight_in, not_astray, ready_of, standing, standing_at, stands_of, view_of}
 use Rattle.mk_laws.proofs.ProtocolMoves.{Enters, Gives, GoesOn, Holds, Leaves, Move as ProtocolMove, Opens, Phases}
 use Rattle.mk_laws.proofs.ProtocolMoves.{Takes, Works}
 use Rattle.mk_laws.proofs.Standings.{Resting, Standing, UnderTurn}
-use Rattle.mk_laws.proofs.{Bases.IsLonger, CallSorts.literal, FreeMoves.pointer_cell, NextSteps.of_turn}
-use Rattle.mk_laws.proofs.{FramesHolders.acts_as_holder, Orderly.same_holder}
-use Rattle.mk_laws.proofs.{Orderly.holders_flight, Sorts.moves, Stages.turns_stand}
+use Rattle.mk_laws.proofs.{Bases.IsLonger, CallSorts.literal, FramesHolders.acts_as_holder, FreeMoves.pointer_cell}
+use Rattle.mk_laws.proofs.{Orderly.holders_flight, Orderly.same_holder, Sorts.moves}
 use Rattle.mk_laws.specs.Mirrors.{OwnsFreedRun, PointsAtRun}
 
 -- Only a Free that is decided unmaps a run, and that call holds the turn.

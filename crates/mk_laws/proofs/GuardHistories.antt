@@ -1,19 +1,16 @@
 -- What stands while a cycle marks and stops, after every enabled list.
-use Rattle.mk_laws.proofs.Vocabulary.{AreEnabledFrom, AreOfPages, CellsAreClosed, Config, Event, GuardPremisesFrom}
-use Rattle.mk_laws.proofs.Vocabulary.{HasItsHeaders, IsWithinLimits, IsWordOf, List, MarksAreClosed, PlacedAllocation}
-use Rattle.mk_laws.proofs.Vocabulary.{Step, Words, World, ℕ, access, accessed_lengths, and_parts, arith, cell_words}
-use Rattle.mk_laws.proofs.Vocabulary.{cells_begin, enabled_meets, eqb-true, false, first_moment, first_page_shows}
-use Rattle.mk_laws.proofs.Vocabulary.{first_word, first_world, has_no_pointers, header_at, header_in, header_made}
-use Rattle.mk_laws.proofs.Vocabulary.{histories_keep_lengths, inl, inr, is_mapped, left, left_from, made_is_mapped}
-use Rattle.mk_laws.proofs.Vocabulary.{not-true, object_placed, pages_some, part_has_no_pointers, placed_at, storage_of}
-use Rattle.mk_laws.proofs.Vocabulary.{storage_words, subst, sym, true, typed_size, word_accessed, word_points_well}
-use Rattle.mk_laws.proofs.Vocabulary.{world_behind, zero_lengths, [], ◌+◌, ◌-◌, ◌/◌, ◌∙◌, ◌∷◌, ◌≡◌}
+use Rattle.mk_laws.proofs.Vocabulary.{CellsAreClosed, Config, GuardPremisesFrom, HasItsHeaders, IsWithinLimits}
+use Rattle.mk_laws.proofs.Vocabulary.{IsWordOf, MarksAreClosed, PlacedAllocation, Step, Words, World, ℕ, and_parts}
+use Rattle.mk_laws.proofs.Vocabulary.{arith, cell_words, cells_begin, enabled_meets, eqb-true, false, first_moment}
+use Rattle.mk_laws.proofs.Vocabulary.{first_page_shows, first_word, has_no_pointers, header_at, header_in, header_made}
+use Rattle.mk_laws.proofs.Vocabulary.{histories_keep_lengths, inl, inr, is_mapped, left, made_is_mapped, not-true}
+use Rattle.mk_laws.proofs.Vocabulary.{object_placed, pages_some, part_has_no_pointers, placed_at, storage_of}
+use Rattle.mk_laws.proofs.Vocabulary.{storage_words, subst, sym, true, typed_size, word_points_well, ◌+◌, ◌-◌, ◌/◌, ◌∙◌}
+use Rattle.mk_laws.proofs.Vocabulary.{◌≡◌}
 use Rattle.mk_geom.specs.StorageWords.{cell_of_storage}
 use Rattle.mk_core.proofs.{PointedAllocations.marked_where_its_cell_is, StandingAllocations.cell_is_known}
 use Rattle.mk_core.specs.ClosedMarks.{is_marked_allocation}
-use Rattle.mk_laws.proofs.Basics.{Known, known_at_first, known_behind, known_left}
-use Rattle.mk_laws.proofs.Known.{along_enabled}
-use Rattle.mk_laws.proofs.{GuardOneEvent.marks_behind, GuardStopped.closed}
+use Rattle.mk_laws.proofs.{Basics.known_left, GuardOneEvent.marks_behind, GuardStopped.closed, Known.along_enabled}
 use Rattle.mk_laws.specs.Kept.{CloseFindsMarksClosed, EventsKeepTheMarks, GuardPremisesAtFirst, MarkingGuards}
 use Rattle.mk_laws.specs.Kept.{MarksStandBehindLists, StandsMapped, StoppedMarksAreClosed}
 use Rattle.mk_laws.specs.Guard.{MarksStand}
@@ -67,8 +64,11 @@ marks_at_first c = grind (arith, closed)
 pub marks_stand_behind_lists : MarksStandBehindLists
 unfolding GuardPremisesFrom
 marks_stand_behind_lists c es limits on say = (along_enabled c (λ w xs. GuardPremisesFrom c w xs × MarksStand c w.now)
-    (λ w e xs lengths known here p. (p.0.1, marks_behind c w e.seat limits known lengths p.0.0 e.step
-    (enabled_meets c w.now e here) p.1)) es limits on (say, marks_at_first c)).1
+    (λ w e xs lengths known here p. (
+      p.0.1,
+      marks_behind c w e.seat limits known lengths p.0.0 e.step
+          (enabled_meets c w.now e here) p.1,
+    )) es limits on (say, marks_at_first c)).1
 
 pub close_finds_marks_closed : CloseFindsMarksClosed
 close_finds_marks_closed c es seat limits on enabled say g =

@@ -1,18 +1,17 @@
 -- One event, whatever it is: what stands while a cycle marks and stops, stands after it.
 use Rattle.mk_laws.proofs.Vocabulary.{AreOfPages, BlackIsGuarded, Bool, Caller, Cell, Config, DirtyIsOwed}
-use Rattle.mk_laws.proofs.Wells.{IsWell}
-use Rattle.mk_laws.proofs.Vocabulary.{HeaderGoesOn, cases_Bool}
-use Rattle.mk_laws.proofs.Vocabulary.{GuardPremises, Host, IsGuarded, IsMarking, IsWithinLimits, Marker, MarkerStands}
-use Rattle.mk_laws.proofs.Vocabulary.{MarkerState, Moment, None, Option, PageIsDirty, PointsWell, Scan, Seat}
-use Rattle.mk_laws.proofs.Vocabulary.{SeenHeader, Some, Step, Word, Words, World, ℕ, all_below, all_below-at, and_parts}
-use Rattle.mk_laws.proofs.Vocabulary.{arith, behind_mlook, bit_or, cases_eq, cases_lt, cell_at, cell_seen, cell_words}
-use Rattle.mk_laws.proofs.Vocabulary.{cells_under, eq-eqb, eqb-true, false, first_word, found, get_or-set_other}
-use Rattle.mk_laws.proofs.Vocabulary.{get_or_past, has_bit, has_clean_page, has_no_pointers, head_page, header_at}
-use Rattle.mk_laws.proofs.Vocabulary.{header_in, if◌then◌else◌, inl, inr, is_attending, is_none, is_phase, is_scanned}
-use Rattle.mk_laws.proofs.Vocabulary.{is_some, marker_behind, marker_of, may_turn_black, no_bit, none_attends, not}
-use Rattle.mk_laws.proofs.Vocabulary.{not-true, or_cases, page_at_address, phase_of, refl, scan_page, slice_index}
-use Rattle.mk_laws.proofs.Vocabulary.{slice_set, subst, suc, sym, true, true≢false, word_points_well, words_under, zero}
-use Rattle.mk_laws.proofs.Vocabulary.{◌&&◌, ◌*◌, ◌+◌, ◌/◌, ◌<◌, ◌==◌, ◌^◌, ◌||◌, ◌∙◌, ◌≡◌, ◌≢◌, ◌≤◌, ◌⊎◌}
+use Rattle.mk_laws.proofs.Vocabulary.{GuardPremises, HeaderGoesOn, Host, IsGuarded, IsMarking, IsWithinLimits, Marker}
+use Rattle.mk_laws.proofs.Vocabulary.{MarkerStands, MarkerState, Moment, None, Option, PageIsDirty, PointsWell, Scan}
+use Rattle.mk_laws.proofs.Vocabulary.{Seat, SeenHeader, Some, Step, Word, Words, World, ℕ, all_below, all_below-at}
+use Rattle.mk_laws.proofs.Vocabulary.{and_parts, arith, behind_mlook, bit_or, cases_Bool, cases_eq, cases_lt, cell_at}
+use Rattle.mk_laws.proofs.Vocabulary.{cell_seen, cell_words, cells_under, eq-eqb, eqb-true, false, first_word, found}
+use Rattle.mk_laws.proofs.Vocabulary.{get_or-set_other, get_or_past, has_bit, has_clean_page, has_no_pointers}
+use Rattle.mk_laws.proofs.Vocabulary.{head_page, header_at, header_in, if◌then◌else◌, inl, inr, is_attending, is_none}
+use Rattle.mk_laws.proofs.Vocabulary.{is_phase, is_scanned, is_some, marker_behind, marker_of, may_turn_black, no_bit}
+use Rattle.mk_laws.proofs.Vocabulary.{none_attends, not, not-true, or_cases, page_at_address, phase_of, refl, scan_page}
+use Rattle.mk_laws.proofs.Vocabulary.{slice_index, slice_set, subst, suc, sym, true, true≢false, word_points_well}
+use Rattle.mk_laws.proofs.Vocabulary.{words_under, zero, ◌&&◌, ◌*◌, ◌+◌, ◌/◌, ◌<◌, ◌==◌, ◌^◌, ◌||◌, ◌∙◌, ◌≡◌, ◌≢◌, ◌≤◌}
+use Rattle.mk_laws.proofs.Vocabulary.{◌⊎◌}
 use Rattle.mk_core.proofs.WordBits.{bit_for_has, bit_of_cell, bit_of_power, bits_added, more_bits}
 use Rattle.mk_core.proofs.PointedPages.{cell_within}
 use Rattle.mk_core.specs.{Accesses.scan_bit, Cells.words_point_well, MarkerConditions.is_markers_word}
@@ -26,7 +25,7 @@ use Rattle.mk_laws.proofs.KeptGuard.{NewCellsAreGuarded, black_kept, goes_equal,
 use Rattle.mk_laws.proofs.Scans.{claim_stands, idle_stands, load_stands, look_stands, mark_stands, scanned_guarded}
 use Rattle.mk_laws.proofs.Scans.{seen_well, unscanning_stands, unseen_stands}
 use Rattle.mk_laws.proofs.{Asked.none_at, CoveredWords.covered_word, FoundHeaders.head_finds, IdleMarkers.work_attends}
-use Rattle.mk_laws.proofs.{Phases.is_phase_step, Phases.phase_stays, Wells.bare_guarded}
+use Rattle.mk_laws.proofs.{Phases.is_phase_step, Phases.phase_stays, Wells.IsWell, Wells.bare_guarded}
 use Rattle.mk_laws.specs.Guard.{Guard, MarksStand}
 
 -- What the markers are in the middle of stands after an event that keeps what is guarded.

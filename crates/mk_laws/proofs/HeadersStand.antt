@@ -2,7 +2,7 @@
 use Rattle.std.proofs.Common.{Contains, pow-suc}
 use Rattle.std.proofs.lemmas.Nat.Bits.{bit_at_above, bit_at_lowest, same_from_bits}
 use Rattle.std.proofs.{lemmas.List.get_or_default, lemmas.List.Elements.Contains-get_or}
-use Rattle.mk_laws.proofs.Vocabulary.{Bool, Claim, Config, HasHeader, IsClaimed, IsShown, List, None, Object}
+use Rattle.mk_laws.proofs.Vocabulary.{Bool, Claim, Config, HasHeader, IsClaimed, IsLaidOn, List, None, Object}
 use Rattle.mk_laws.proofs.Vocabulary.{PlacedAllocation, ShowsPart, Storage, Words, ℕ, ap, arith, bit_at, block_header}
 use Rattle.mk_laws.proofs.Vocabulary.{cases_Bool, cases_eq, cases_lt, cell_ends, cell_of_allocation, cells_of}
 use Rattle.mk_laws.proofs.Vocabulary.{cells_under, claim_of, claims_of, class_known, class_made, class_words_of, false}
@@ -25,9 +25,8 @@ use Rattle.mk_core.proofs.ObjectHeaders.{large_header, small_header}
 use Rattle.mk_core.proofs.{UnreleasedStorage.has_its_storage, WordBits.bit_is_none, WordBits.bit_is_one}
 use Rattle.mk_laws.proofs.Apart.{Lies, Rests, index_is, lie_apart, lie_in_pairs, lies, on_its_pages, quiet_scene}
 use Rattle.mk_laws.proofs.Apart.{same_block, small_is}
-use Rattle.mk_laws.proofs.Vocabulary.{IsLaidOn}
-use Rattle.mk_laws.proofs.{Basics.claim_among, Basics.claimed, Basics.claimed_some, Claims.claim_is}
-use Rattle.mk_laws.proofs.{LayoutReadings.cellless_unused, LayoutReadings.free_unused, Released.large_index}
+use Rattle.mk_laws.proofs.LayoutReadings.{cellless_unused, free_unused}
+use Rattle.mk_laws.proofs.{Basics.claimed, Basics.claimed_some, Claims.claim_is, Released.large_index}
 use Rattle.mk_laws.proofs.{Unmapping.cells_at_claim, Unmapping.shares_run, WholeRuns.IsOn, WholeRuns.on_claim}
 
 pub laid_out : (c : Config) (w : Words) (xs : List PlacedAllocation) → Rests c w xs
@@ -184,8 +183,13 @@ module _ (c : Config) (w : Words) (xs : List PlacedAllocation) (i p : ℕ) (r : 
           ≡ (cell_of_allocation c (placed_at xs j)).index * class_words_of class
       begins_at j v s same =
           let y = lies c w xs r j v in
-          cc (y.begins.first, small_words (object_placed c (placed_at xs j)) s, same, index_is c (placed_at xs j)
-          y.shown.sized y.begins)
+          cc (
+            y.begins.first,
+            small_words (object_placed c (placed_at xs j)) s,
+            same,
+            index_is c (placed_at xs j)
+                y.shown.sized y.begins,
+          )
 
       -- whose cell it is
       there : (n : ℕ) → n < cells_of class → has_bit (used_at w p) n ≡ true

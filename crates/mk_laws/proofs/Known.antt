@@ -1,13 +1,13 @@
 -- All that is known of a moment after an enabled list, of whatever calls.
-use Rattle.mk_laws.proofs.Vocabulary.{AreOfPages, access, accessed_lengths, word_accessed, zero_lengths}
-use Rattle.mk_laws.proofs.Vocabulary.{Answer, AreEnabled, AreEnabledFrom, Bool, Caller, Cell, Config, Event, Flight}
-use Rattle.mk_laws.proofs.Vocabulary.{Holds, IsEnabled, IsWithinLimits, List, Moment, None, Op, Option, Progress, Seat}
-use Rattle.mk_laws.proofs.Vocabulary.{Some, Stage, Step, World, ℕ, and_parts, at_rest, begun, d_of, enabled_meets}
-use Rattle.mk_laws.proofs.Vocabulary.{false, first_moment, first_world, flight_of, found, g_of, has_operands}
-use Rattle.mk_laws.proofs.Vocabulary.{if◌then◌else◌, inl, inr, is_heap_store, is_in_range, left, left_from, ltb-true}
-use Rattle.mk_laws.proofs.Vocabulary.{onward, p_of, progress, progress_freed, progress_p, progress_q, progress_read}
-use Rattle.mk_laws.proofs.Vocabulary.{progress_reg, q_of, r_of, refl, refused, register_met, set_by, slice_index_or}
-use Rattle.mk_laws.proofs.Vocabulary.{true, world_behind, [], ◌<◌, ◌==◌, ◌∙◌, ◌∷◌, ◌≡◌, ◌≢◌, ◌≤◌, ◌⊎◌}
+use Rattle.mk_laws.proofs.Vocabulary.{Answer, AreEnabled, AreEnabledFrom, AreOfPages, Bool, Caller, Cell, Config, Event}
+use Rattle.mk_laws.proofs.Vocabulary.{Flight, Holds, IsEnabled, IsWithinLimits, List, Moment, None, Op, Option}
+use Rattle.mk_laws.proofs.Vocabulary.{Progress, Seat, Some, Stage, Step, World, ℕ, access, accessed_lengths, and_parts}
+use Rattle.mk_laws.proofs.Vocabulary.{at_rest, begun, d_of, enabled_meets, false, first_moment, first_world, flight_of}
+use Rattle.mk_laws.proofs.Vocabulary.{found, g_of, has_operands, if◌then◌else◌, inl, inr, is_heap_store, is_in_range}
+use Rattle.mk_laws.proofs.Vocabulary.{left, left_from, ltb-true, onward, p_of, progress, progress_freed, progress_p}
+use Rattle.mk_laws.proofs.Vocabulary.{progress_q, progress_read, progress_reg, q_of, r_of, refl, refused, register_met}
+use Rattle.mk_laws.proofs.Vocabulary.{set_by, slice_index_or, true, word_accessed, world_behind, zero_lengths, [], ◌<◌}
+use Rattle.mk_laws.proofs.Vocabulary.{◌==◌, ◌∙◌, ◌∷◌, ◌≡◌, ◌≢◌, ◌≤◌, ◌⊎◌}
 use Rattle.mk_core.specs.{Calls.has_type, Effects.moment_behind}
 use Rattle.mk_laws.proofs.OrderlyLists.{at_first, not_astray, orderly_at_first, orderly_behind}
 use Rattle.mk_laws.proofs.Standings.{in_turn_told, under_turn_is}

@@ -1,17 +1,18 @@
 -- What each kind of event makes of the terrain.
-use Rattle.mk_laws.proofs.Vocabulary.{cases_Bool, inl, inr, Bool, Cell, Config, Flight, Granted, Ground, HasLayout, HeadStep, IsSized}
+use Rattle.mk_laws.proofs.Vocabulary.{Bool, Cell, Config, Flight, Granted, Ground, HasLayout, HeadStep, IsSized}
 use Rattle.mk_laws.proofs.Vocabulary.{ItCarves, ItDrops, ItEmpties, ItFrees, ItGivesBack, ItTakes, ItTakesSnapshot}
 use Rattle.mk_laws.proofs.Vocabulary.{ItUnmaps, LayoutStands, List, None, Object, Option, Place, PlacedAllocation}
 use Rattle.mk_laws.proofs.Vocabulary.{Placing, QuarantineStep, RunPages, Seat, Some, Step, Unplaced, Used, UsedStep}
-use Rattle.mk_laws.proofs.Vocabulary.{Words, World, ℕ, and_parts, and_right, ap, arith, cell_freed, chosen, claims_of}
-use Rattle.mk_laws.proofs.Vocabulary.{eqb-true, false, false_from_ne_true, flight_of, freed_cell, freed_where_it_stands}
-use Rattle.mk_laws.proofs.Vocabulary.{fresh_leaves, granted, granted_base_is, granted_object, granted_type, ground_of}
-use Rattle.mk_laws.proofs.Vocabulary.{has_place, head_step, header_at, if◌then◌else◌, is_decided, is_phase, is_run_gone}
-use Rattle.mk_laws.proofs.Vocabulary.{is_run_unmapped, is_undecided_new, is_used_once, length, map, marks_is}
-use Rattle.mk_laws.proofs.Vocabulary.{marks_place, ne_eqb, no_longer_fresh, none_freed, not, nothing_done, object_made}
-use Rattle.mk_laws.proofs.Vocabulary.{object_now, or_else, place_now, placed_now, quarantine_step, refl, run_of_cell}
-use Rattle.mk_laws.proofs.Vocabulary.{seat_exists, slice_set, sym, taken, true, true≢false, undecided_free}
-use Rattle.mk_laws.proofs.Vocabulary.{undecided_new, used_step, [], ◌%◌, ◌++◌, ◌/◌, ◌<◌, ◌==◌, ◌^◌, ◌∙◌, ◌∷◌, ◌≡◌, ◌≢◌}
+use Rattle.mk_laws.proofs.Vocabulary.{Words, World, ℕ, and_parts, and_right, ap, arith, cases_Bool, cell_freed, chosen}
+use Rattle.mk_laws.proofs.Vocabulary.{claims_of, eqb-true, false, false_from_ne_true, flight_of, freed_cell}
+use Rattle.mk_laws.proofs.Vocabulary.{freed_where_it_stands, fresh_leaves, granted, granted_base_is, granted_object}
+use Rattle.mk_laws.proofs.Vocabulary.{granted_type, ground_of, has_place, head_step, header_at, if◌then◌else◌, inl, inr}
+use Rattle.mk_laws.proofs.Vocabulary.{is_decided, is_phase, is_run_gone, is_run_unmapped, is_undecided_new}
+use Rattle.mk_laws.proofs.Vocabulary.{is_used_once, length, map, marks_is, marks_place, ne_eqb, no_longer_fresh}
+use Rattle.mk_laws.proofs.Vocabulary.{none_freed, not, object_made, object_now, or_else, place_now, placed_now}
+use Rattle.mk_laws.proofs.Vocabulary.{quarantine_step, refl, run_of_cell, seat_exists, slice_set, sym, taken, true}
+use Rattle.mk_laws.proofs.Vocabulary.{true≢false, undecided_free, undecided_new, used_step, [], ◌%◌, ◌++◌, ◌/◌, ◌<◌}
+use Rattle.mk_laws.proofs.Vocabulary.{◌==◌, ◌^◌, ◌∙◌, ◌∷◌, ◌≡◌, ◌≢◌}
 use Rattle.mk_core.proofs.RegisterAccesses.{LeavesTable}
 use Rattle.mk_laws.proofs.Basics.{Before, Laid, LeavesCells, Meets, WorldBehind, first_header, free_has_turn}
 use Rattle.mk_laws.proofs.Basics.{gone_terrain, grants_new, holding_object, made_sized, new_has_turn, no_run}

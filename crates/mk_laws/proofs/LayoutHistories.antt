@@ -1,24 +1,22 @@
 -- All is in order after every list of enabled events.
 use Rattle.std.proofs.Common.{IsSome}
-use Rattle.mk_laws.proofs.Vocabulary.{AreEnabledFrom, AreOfPages, Bool, Config, Empties, Event, Flight, HasQuarantine}
-use Rattle.mk_laws.proofs.Vocabulary.{Header, HeadStep, IsClaimedRun, IsEnabled, IsHeaderWord, IsQuarantined}
-use Rattle.mk_laws.proofs.Vocabulary.{IsWithinLimits, ItCarves, ItDrops, ItEmpties, ItFrees, ItTakesSnapshot, ItUnmaps}
-use Rattle.mk_laws.proofs.Vocabulary.{Later, LayoutPremises, LayoutPremisesFrom, LayoutStands, List, Object, OfBlock}
-use Rattle.mk_laws.proofs.Vocabulary.{Option, Page, QuarantineStep, Seat, ShowsPart, Some, StandsInOrder, Step, World}
-use Rattle.mk_laws.proofs.Vocabulary.{ℕ, access, accessed_lengths, and_parts, ap, arith, cases_Bool, cases_eq}
-use Rattle.mk_laws.proofs.Vocabulary.{cells_under, claims_of, enabled_meets, false, first_world, flight_of, ground_of}
-use Rattle.mk_laws.proofs.Vocabulary.{has_bit, has_bit_without, head_page_under, head_step, header_in, header_made}
-use Rattle.mk_laws.proofs.Vocabulary.{header_of, header_on, histories_keep_lengths, inl, inr, is_phase, left, left_from}
-use Rattle.mk_laws.proofs.Vocabulary.{length, ltb-true, made_shows, object_made, object_now, pages_made, placed_now}
-use Rattle.mk_laws.proofs.Vocabulary.{quarantine_step, refl, seat_exists, shows_on, slice_index, slice_set, sym, true}
-use Rattle.mk_laws.proofs.Vocabulary.{true≢false, unmapped_header, word_accessed, world_behind, zero_lengths, [], ◌%◌}
-use Rattle.mk_laws.proofs.Vocabulary.{◌-◌, ◌/◌, ◌<◌, ◌^◌, ◌∙◌, ◌∷◌, ◌≡◌}
+use Rattle.mk_laws.proofs.Vocabulary.{AreOfPages, Bool, Config, Empties, Event, Flight, HasQuarantine, Header, HeadStep}
+use Rattle.mk_laws.proofs.Vocabulary.{IsClaimedRun, IsEnabled, IsHeaderWord, IsQuarantined, IsWithinLimits, ItCarves}
+use Rattle.mk_laws.proofs.Vocabulary.{ItDrops, ItEmpties, ItFrees, ItTakesSnapshot, ItUnmaps, Later, LayoutPremises}
+use Rattle.mk_laws.proofs.Vocabulary.{LayoutPremisesFrom, LayoutStands, List, Object, OfBlock, Option, Page}
+use Rattle.mk_laws.proofs.Vocabulary.{QuarantineStep, Seat, ShowsPart, Some, StandsInOrder, Step, World, ℕ, and_parts}
+use Rattle.mk_laws.proofs.Vocabulary.{ap, arith, cases_Bool, cases_eq, cells_under, claims_of, enabled_meets, false}
+use Rattle.mk_laws.proofs.Vocabulary.{first_world, flight_of, ground_of, has_bit, has_bit_without, head_page_under}
+use Rattle.mk_laws.proofs.Vocabulary.{head_step, header_in, header_made, header_of, header_on, histories_keep_lengths}
+use Rattle.mk_laws.proofs.Vocabulary.{inl, inr, is_phase, left, length, ltb-true, made_shows, object_made, object_now}
+use Rattle.mk_laws.proofs.Vocabulary.{pages_made, placed_now, quarantine_step, refl, seat_exists, shows_on, slice_index}
+use Rattle.mk_laws.proofs.Vocabulary.{slice_set, sym, true, true≢false, unmapped_header, world_behind, ◌%◌, ◌-◌, ◌/◌}
+use Rattle.mk_laws.proofs.Vocabulary.{◌<◌, ◌^◌, ◌∙◌, ◌≡◌}
 use Rattle.mk_core.proofs.{EvaluatedHistories.enabled, ObjectHeaders.unmapped_shows}
 use Rattle.mk_laws.proofs.Basics.{Before, Known, Meets, WorldBehind, at_first, bit_cases, headed_other}
-use Rattle.mk_laws.proofs.Basics.{is_releasing_behind, known_at_first, known_behind, known_left, made_sized, none_set}
-use Rattle.mk_laws.proofs.Basics.{own_claim, page_within, reg_leaves_ground, tally_ground, used_header, with_header_on}
-use Rattle.mk_laws.proofs.Known.{along_enabled}
-use Rattle.mk_laws.proofs.Behind.{layout_behind, phase_kind, releasing_marks}
+use Rattle.mk_laws.proofs.Basics.{is_releasing_behind, known_left, made_sized, none_set, own_claim, page_within}
+use Rattle.mk_laws.proofs.Basics.{reg_leaves_ground, tally_ground, used_header, with_header_on}
+use Rattle.mk_laws.proofs.{Behind.layout_behind, Behind.phase_kind, Behind.releasing_marks, Known.along_enabled}
 use Rattle.mk_laws.proofs.{LayoutByKind.off_at, QuarantineByKind.quarantine_by_kind, QuarantineByKind.shown_at}
 use Rattle.mk_laws.proofs.{QuarantineSteps.none_released, QuarantineSteps.unmarked, Releasing.headed_here}
 use Rattle.mk_laws.proofs.{ResidentPages.count_none, ResidentPages.resident_few, Rooms.room_behind}

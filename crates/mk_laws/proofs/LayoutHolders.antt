@@ -1,17 +1,14 @@
 -- Who serves: the holder of the turn, its object, and how far it is.
 use Rattle.mk_laws.proofs.Vocabulary.{Caller, Config, Group, IsSized, IsWithinLimits, Moment, None, Object, Op}
-use Rattle.mk_laws.proofs.Vocabulary.{RunPages, Seat, Some, Stage, Step, arith, false, flight_of, group_of}
-use Rattle.mk_laws.proofs.Vocabulary.{has_operands, has_place, header_made, is_decided_free_at, is_free_at}
+use Rattle.mk_laws.proofs.Vocabulary.{RunPages, Seat, Some, Stage, Step, ap, arith, false, flight_of, group_of}
+use Rattle.mk_laws.proofs.Vocabulary.{has_operands, has_place, header_made, is_decided_free_at, is_free_at, is_of_turn}
 use Rattle.mk_laws.proofs.Vocabulary.{is_undecided_free, is_undecided_new, ltb-true, made_shows, object_made}
-use Rattle.mk_laws.proofs.Vocabulary.{object_now, pages_some, part_not_free, refl, seat_exists, sym, true, ◌-◌, ◌∙◌}
-use Rattle.mk_laws.proofs.Vocabulary.{◌≡◌, ◌≢◌}
+use Rattle.mk_laws.proofs.Vocabulary.{object_now, pages_some, part_not_free, refl, seat_exists, sym, true, true≢false}
+use Rattle.mk_laws.proofs.Vocabulary.{◌-◌, ◌∙◌, ◌≡◌, ◌≢◌}
 use Rattle.mk_core.proofs.GrantedAllocations.{new_sized}
-use Rattle.mk_laws.proofs.Actors.{Actor, AsHolder, AsMarker, CallTakes, HostTakes, InCallOf, Meets}
-use Rattle.mk_laws.proofs.Views.{HoldsTurn, flight_is, view_of}
-use Rattle.mk_laws.proofs.Actors.{is_holders}
-use Rattle.mk_laws.proofs.Vocabulary.{ap, is_of_turn, true≢false}
-use Rattle.mk_laws.proofs.{Known.Known, NextSteps.is_take, Orderly.holders_flight, OrderlyLists.actor_of}
-use Rattle.mk_laws.proofs.{Stages.new_stands, Standings.UnderTurn, Standings.standing_at}
+use Rattle.mk_laws.proofs.Actors.{Actor, AsHolder, AsMarker, InCallOf, Meets, is_holders}
+use Rattle.mk_laws.proofs.{Known.Known, Orderly.holders_flight, OrderlyLists.actor_of, Stages.new_stands}
+use Rattle.mk_laws.proofs.{Standings.UnderTurn, Standings.standing_at, Views.HoldsTurn, Views.flight_is, Views.view_of}
 
 -- A seat with an undecided New or Free holds the turn.
 free_stands : (s : Stage) (o : Op) → is_free_at s o ≡ true → standing_at s o ≡ UnderTurn

@@ -114,7 +114,6 @@ pub mod LastEvents
 pub mod OtherCalls
 pub mod Tests
 pub mod AdmittedStill
-pub mod HolderStill
 pub mod RunsStill
 pub mod FramesHolders
 pub mod ProbesStill
@@ -149,7 +148,6 @@ pub mod EvaluatedPrecision
 pub mod AppliedReadings
 pub mod AppliedTheorems
 pub mod CyclePhases
-pub mod DirtyPages
 pub mod FreeCells
 pub mod FreePages
 pub mod FreeWords

@@ -1,17 +1,14 @@
 -- What a step marks is touched: what the holder's hand or a marker's points into, or a cell without an allocation.
-use Rattle.mk_laws.proofs.GuardOneEvent.{left_fails, seen_cell}
 use Rattle.mk_laws.proofs.Vocabulary.{Bool, Caller, Cell, Config, Flight, Hand, Marker, MarkerStands, MarkerState}
 use Rattle.mk_laws.proofs.Vocabulary.{Moment, NeverState, None, Null, Object, Option, Place, PlacedAllocation}
-use Rattle.mk_laws.proofs.Vocabulary.{PointsInto, Seat, SeenHeader, Some, Stage, Step, Words, World, ℕ, address_of}
-use Rattle.mk_laws.proofs.Vocabulary.{and_parts, ap, arith, at_rest, bases_of, bit, cases_Bool, cell_at}
-use Rattle.mk_laws.proofs.Vocabulary.{cell_of_allocation, cell_seen, d_of, eqb-true, false, first_page_shows}
-use Rattle.mk_laws.proofs.Vocabulary.{flight_among, flight_of, get_or-set_same, granted, granted_base, has_bit}
-use Rattle.mk_laws.proofs.Vocabulary.{header_at, if◌then◌else◌, image_of, inl, inr, is_marked, is_some, is_some_and}
-use Rattle.mk_laws.proofs.Vocabulary.{is_unmarked, length, ltb-true, marker_of, marks_place, not, object_made}
-use Rattle.mk_laws.proofs.Vocabulary.{object_placed, page_at_address, part_not_free, place_now, placed_at, pointed_cell}
-use Rattle.mk_laws.proofs.Vocabulary.{refl, seen_bit, seen_page, shown, slice_index, slice_index_or, storage_of, subst}
-use Rattle.mk_laws.proofs.Vocabulary.{sym, true, words_within, zero, ◌%◌, ◌&&◌, ◌*◌, ◌+◌, ◌/◌, ◌<◌, ◌==◌, ◌^◌, ◌||◌}
-use Rattle.mk_laws.proofs.Vocabulary.{◌∙◌, ◌≡◌}
+use Rattle.mk_laws.proofs.Vocabulary.{PointsInto, Seat, Some, Stage, Step, Words, World, ℕ, address_of, and_parts, ap}
+use Rattle.mk_laws.proofs.Vocabulary.{arith, at_rest, bases_of, bit, cases_Bool, cell_at, cell_of_allocation, cell_seen}
+use Rattle.mk_laws.proofs.Vocabulary.{d_of, eqb-true, false, first_page_shows, flight_among, flight_of, get_or-set_same}
+use Rattle.mk_laws.proofs.Vocabulary.{granted, granted_base, has_bit, header_at, image_of, inl, inr, is_marked, is_some}
+use Rattle.mk_laws.proofs.Vocabulary.{is_some_and, is_unmarked, length, ltb-true, marker_of, marks_place, object_made}
+use Rattle.mk_laws.proofs.Vocabulary.{object_placed, part_not_free, place_now, placed_at, pointed_cell, refl, seen_bit}
+use Rattle.mk_laws.proofs.Vocabulary.{seen_page, shown, slice_index, slice_index_or, storage_of, subst, sym, true}
+use Rattle.mk_laws.proofs.Vocabulary.{words_within, zero, ◌%◌, ◌*◌, ◌+◌, ◌/◌, ◌<◌, ◌^◌, ◌||◌, ◌∙◌, ◌≡◌}
 use Rattle.mk_geom.proofs.PointedCells.{address_points_into}
 use Rattle.mk_core.proofs.WordBits.{bit_of_cell, bit_of_power, more_bits}
 use Rattle.mk_core.proofs.{ChangedAllocations.granted_at, RegisterAccesses.register_is_small, ServingSteps.place_marked}
@@ -19,6 +16,7 @@ use Rattle.mk_core.specs.StopConditions.{is_bit_of, marks_by_hand}
 use Rattle.mk_laws.proofs.Basics.{Behind, Came, IsNew, Stayed, Table, WorldBehind, reg_table, same_cell, tally_table}
 use Rattle.mk_laws.proofs.Precise.{IsPrecise, PointsOnlyInto, Steps, came_behind, points_before}
 use Rattle.mk_laws.proofs.Worlds.{comes_back, headers, sized, stands}
+use Rattle.mk_laws.proofs.GuardOneEvent.{left_fails, seen_cell}
 
 -- The allocation that a grant adds is touched: its caller's register points to it at the moment after.
 

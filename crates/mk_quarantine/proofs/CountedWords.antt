@@ -4,10 +4,9 @@ use Rattle.mk_laws.proofs.Vocabulary.{address_of, is_large, is_left_unmarked, ki
 use Rattle.mk_quarantine.proofs.Vocabulary.{Bool, Cell, Config, Event, List, None, Option, PlacedAllocation, Seat, Some}
 use Rattle.mk_quarantine.proofs.Vocabulary.{Step, World, WorldBehind, ℕ, arith, decides_freed, false, first_world}
 use Rattle.mk_quarantine.proofs.Vocabulary.{flight_of, freed_where_it_stands, fresh_words_of, given_back}
-use Rattle.mk_quarantine.proofs.Vocabulary.{given_back_behind, held_by_allocations, if◌then◌else◌, is_begin, is_mapped}
-use Rattle.mk_quarantine.proofs.Vocabulary.{is_release, is_some, is_some_and, left, not, refl, storage_words, true}
-use Rattle.mk_quarantine.proofs.Vocabulary.{true≢false, with_released, world_behind, [], ◌&&◌, ◌*◌, ◌++◌, ◌+◌, ◌||◌}
-use Rattle.mk_quarantine.proofs.Vocabulary.{◌∷◌, ◌≡◌, ◌≤◌}
+use Rattle.mk_quarantine.proofs.Vocabulary.{given_back_behind, held_by_allocations, if◌then◌else◌, is_begin, is_release}
+use Rattle.mk_quarantine.proofs.Vocabulary.{is_some, is_some_and, left, not, refl, storage_words, true, true≢false}
+use Rattle.mk_quarantine.proofs.Vocabulary.{with_released, world_behind, [], ◌&&◌, ◌*◌, ◌++◌, ◌+◌, ◌||◌, ◌∷◌, ◌≡◌, ◌≤◌}
 use Rattle.mk_core.specs.History.{left_from}
 use Rattle.mk_laws.proofs.FreshWords.{fresh_part, fresh_pushed, fresh_sum, none_fresh, sum_filtered}
 use Rattle.mk_objects.proofs.HeldFreed.{held_part, held_sum}
@@ -80,8 +79,12 @@ module _ (c : Config) (w : World) where
       omega (arith, one, behind, sum_by-cons (fresh_part c) a xs, sums_stale xs)
 
   fresh_released : fresh_words_of c (map released w.allocations) ≤ fresh_words_of c w.allocations
-  fresh_released = omega (arith, sums_stale w.allocations, fresh_sum c (map released w.allocations),
-      fresh_sum c w.allocations)
+  fresh_released = omega (
+    arith,
+    sums_stale w.allocations,
+    fresh_sum c (map released w.allocations),
+    fresh_sum c w.allocations,
+  )
 
 held_pushed : (c : Config) (xs : List PlacedAllocation) (a : PlacedAllocation)
     → held_by_allocations c xs ≤ held_by_allocations c (xs ++ a ∷ [])

@@ -1,11 +1,11 @@
 -- Where calls end the cycles that they begin, no `release` stands in a later turn than its `begin`.
-use Rattle.mk_laws.proofs.Vocabulary.{AreEnabledFrom, is_one_of, is_under_turn, left_from}
+use Rattle.mk_laws.proofs.Vocabulary.{is_one_of, is_under_turn, left_from}
 use Rattle.mk_alloc.proofs.Vocabulary.{RunsOneCycle}
 use Rattle.mk_quarantine.proofs.Vocabulary.{AsksPhase, At, Caller, CallIsExact, Config, EndsExactly, Event}
 use Rattle.mk_quarantine.proofs.Vocabulary.{FreshIsQuarterOfHeld, HoldsTurn, Host, HostBeginsLast, IsHistory, Lacks}
 use Rattle.mk_quarantine.proofs.Vocabulary.{List, Marker, Next, None, Op, Option, Seat, Some, Step, TurnOf, World, ℕ}
 use Rattle.mk_quarantine.proofs.Vocabulary.{append_assoc, arith, at_no_take, before_it, comes_next, enabled_in_parts}
-use Rattle.mk_quarantine.proofs.Vocabulary.{eq-eqb, false, flight_of, fresh_after, has_step, inl, inr, is_begin, is_end}
+use Rattle.mk_quarantine.proofs.Vocabulary.{eq-eqb, false, flight_of, fresh_after, has_step, inl, is_begin, is_end}
 use Rattle.mk_quarantine.proofs.Vocabulary.{is_give, is_release, is_same_seat, known_left, lacks_at, left, ltb-true}
 use Rattle.mk_quarantine.proofs.Vocabulary.{or_from, or_parts, phase_behind, phase_of, refl, subst, sym, taken, through}
 use Rattle.mk_quarantine.proofs.Vocabulary.{true, true≢false, turn_of, view_of, world_behind, [], ⊎_elim, ◌++◌, ◌<◌}

@@ -1,22 +1,19 @@
 -- Turns that are held: the turn word meanwhile, that a turn of a seat is one, and who begins a cycle in one.
 use Rattle.std.proofs.lemmas.List.{append_cancel_left}
 use Rattle.mk_laws.proofs.Vocabulary.{enabled_meets, ◌≢◌}
-use Rattle.mk_quarantine.proofs.Vocabulary.{inl, inr}
 use Rattle.mk_quarantine.proofs.Vocabulary.{At, Bool, Caller, Config, Event, GivesNone, HoldsTurn, Host, InFirst}
-use Rattle.mk_quarantine.proofs.Vocabulary.{InSecond, IsHistory, Known, Lacks, List, Marker, Meets, Moment, Next, Op}
-use Rattle.mk_quarantine.proofs.Vocabulary.{Option, Seat, Step, TurnOf, World, WorldBehind, ℕ, and-false, and_from, ap}
+use Rattle.mk_quarantine.proofs.Vocabulary.{InSecond, IsHistory, Known, Lacks, List, Marker, Meets, Next, Op, Option}
+use Rattle.mk_quarantine.proofs.Vocabulary.{Seat, Step, TurnOf, World, WorldBehind, ℕ, and-false, and_from, ap}
 use Rattle.mk_quarantine.proofs.Vocabulary.{append-nil, append_assoc, arith, before_it, cases_Bool}
-use Rattle.mk_quarantine.proofs.Vocabulary.{earlier_part_is_history, enabled_in_parts, eq-eqb, false, has_step}
-use Rattle.mk_quarantine.proofs.Vocabulary.{is_begin, is_give, is_same_seat, known_left, lacks_first, left}
+use Rattle.mk_quarantine.proofs.Vocabulary.{earlier_part_is_history, enabled_in_parts, eq-eqb, false, has_step, inl}
+use Rattle.mk_quarantine.proofs.Vocabulary.{inr, is_begin, is_give, is_same_seat, known_left, lacks_first, left}
 use Rattle.mk_quarantine.proofs.Vocabulary.{left_in_parts, left_more, list_any, list_any-append, ltb-true, ne_eqb}
 use Rattle.mk_quarantine.proofs.Vocabulary.{or_from, or_parts, own_give, refl, reg_leaves, stands, subst, sym, taken}
 use Rattle.mk_quarantine.proofs.Vocabulary.{tally_keeps, true, true≢false, turn_of, view_of, world_behind, [], ⊎_elim}
 use Rattle.mk_quarantine.proofs.Vocabulary.{◌&&◌, ◌++◌, ◌+◌, ◌<◌, ◌∙◌, ◌∷◌, ◌≡◌}
 use Rattle.mk_core.specs.History.{AreEnabledFrom, left_from}
-use Rattle.mk_laws.proofs.Basics.{Actor, AsHolder, AsMarker, InCallOf, actor_of, known_behind}
-use Rattle.mk_laws.proofs.FramesHolders.{acts_as_holder}
-use Rattle.mk_laws.proofs.Actors.{is_holders}
-use Rattle.mk_laws.proofs.{Actors.CallTakes, Actors.HostTakes, CyclePhases.begin_is, LayoutHolders.giver_has_turn}
+use Rattle.mk_laws.proofs.{Actors.is_holders, Basics.actor_of, Basics.known_behind, CyclePhases.begin_is}
+use Rattle.mk_laws.proofs.{FramesHolders.acts_as_holder, LayoutHolders.giver_has_turn}
 
 -- The turn word while nobody gives the turn back, and that a turn of a seat is one.
 

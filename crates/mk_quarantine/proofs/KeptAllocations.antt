@@ -41,10 +41,7 @@ quiet p es e close release end (Ended at k r x none) =
 -- the events that it waits for
 module _ (seat : Seat) (p : ℕ) (es : List Event) where
   wants : p ≡ 1 → CycleSoFar p es → CycleSoFar 2 (es ++ record { seat = seat; step = Step.Want } ∷ [])
-  wants asks (Marks at none) = grind (arith, lacks_append)
-  wants asks (Stops at k none) = absurd (omega arith)
-  wants asks (Releases at k r none) = absurd (omega arith)
-  wants asks (Ended at k r x none) = absurd (grind arith)
+  wants asks k = grind (arith, lacks_append)
 
   closes : p ≡ 2 → CycleSoFar p es → CycleSoFar 3 (es ++ record { seat = seat; step = Step.Close } ∷ [])
   closes asks (Marks at none) = Stops refl (next_at_end es (record { seat = seat; step = Step.Close }) none refl) refl
@@ -53,30 +50,30 @@ module _ (seat : Seat) (p : ℕ) (es : List Event) where
   closes asks (Ended at k r x none) = absurd (grind arith)
 
   releases : p ≡ 3 → CycleSoFar p es → CycleSoFar 4 (es ++ record { seat = seat; step = Step.Release } ∷ [])
-  releases asks (Marks at none) = absurd (grind arith)
   releases asks (Stops at k none) =
       Releases refl (longer_next (record { seat = seat; step = Step.Release } ∷ []) k)
       (next_at_end k.at.behind (record { seat = seat; step = Step.Release }) none refl) refl
+  releases asks (Marks at none) = absurd (grind arith)
   releases asks (Releases at k r none) = absurd (omega arith)
   releases asks (Ended at k r x none) = absurd (grind arith)
 
   ends : p ≡ 4 → CycleSoFar p es → CycleSoFar 0 (es ++ record { seat = seat; step = Step.End } ∷ [])
-  ends asks (Marks at none) = absurd (grind arith)
-  ends asks (Stops at k none) = absurd (omega arith)
   ends asks (Releases at k r none) =
       Ended (inl refl) (longer_next (record { seat = seat; step = Step.End } ∷ []) k)
       (longer_next (record { seat = seat; step = Step.End } ∷ []) r)
       (next_at_end r.at.behind (record { seat = seat; step = Step.End }) none refl) refl
+  ends asks (Marks at none) = absurd (grind arith)
+  ends asks (Stops at k none) = absurd (omega arith)
   ends asks (Ended at k r x none) = absurd (grind arith)
 
   overs : p ≡ 0 → CycleSoFar p es → CycleSoFar 5 (es ++ record { seat = seat; step = Step.Over } ∷ [])
-  overs asks (Marks at none) = absurd (grind arith)
-  overs asks (Stops at k none) = absurd (omega arith)
-  overs asks (Releases at k r none) = absurd (omega arith)
   overs asks (Ended at k r x none) =
       let more : List Event = record { seat = seat; step = Step.Over } ∷ [] in
       Ended (inr refl) (longer_next more k) (longer_next more r) (longer_next more x)
       (lacks_append is_end x.at.behind more none refl)
+  overs asks (Marks at none) = absurd (grind arith)
+  overs asks (Stops at k none) = absurd (omega arith)
+  overs asks (Releases at k r none) = absurd (omega arith)
 
 so_far : (seat : Seat) (x : Step) (p : ℕ) (es : List Event) → AsksPhase x p → is_begin x ≡ false → CycleSoFar p es
     → CycleSoFar (phase_behind x p) (es ++ record { seat = seat; step = x } ∷ [])

@@ -1,11 +1,10 @@
 -- What the last cycle kept is touched: released allocations stay so, so it was kept at the cycle's `release`.
-use Rattle.mk_laws.proofs.Vocabulary.{Releasing, freed_released, length-map, through_release}
+use Rattle.mk_laws.proofs.Vocabulary.{Releasing, freed_released, through_release}
 use Rattle.mk_quarantine.proofs.Vocabulary.{Bool, Config, Event, List, OfHistories, Seat, Step, World, WorldBehind, ℕ}
-use Rattle.mk_quarantine.proofs.Vocabulary.{ap, append_assoc, arith, cases_lt, cell_freed, changed_at, earlier_at}
-use Rattle.mk_quarantine.proofs.Vocabulary.{false_from_ne_true, flight_of, freed_leaves, freed_where_it_stands}
-use Rattle.mk_quarantine.proofs.Vocabulary.{get_or_past, granted, is_quarantined, left, left_in_parts, length}
-use Rattle.mk_quarantine.proofs.Vocabulary.{length-append, no_longer_fresh, placed_at, subst, sym, true, true≢false}
-use Rattle.mk_quarantine.proofs.Vocabulary.{with_released, world_behind, [], ◌++◌, ◌<◌, ◌||◌, ◌∙◌, ◌∷◌, ◌≡◌}
+use Rattle.mk_quarantine.proofs.Vocabulary.{ap, append_assoc, arith, cases_lt, changed_at, earlier_at}
+use Rattle.mk_quarantine.proofs.Vocabulary.{false_from_ne_true, flight_of, freed_leaves, get_or_past, is_quarantined}
+use Rattle.mk_quarantine.proofs.Vocabulary.{left, left_in_parts, length, placed_at, subst, sym, true, true≢false}
+use Rattle.mk_quarantine.proofs.Vocabulary.{world_behind, [], ◌++◌, ◌<◌, ◌||◌, ◌∙◌, ◌∷◌, ◌≡◌}
 use Rattle.mk_core.specs.{Cycles.before_begin, History.left_from}
 use Rattle.mk_laws.proofs.AllocationSteps.{allocation_step, goes_on}
 use Rattle.mk_laws.proofs.{PrecisionStopped.keeps_only_the_touched, Stretches.at_release}
