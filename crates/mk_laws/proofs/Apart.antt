@@ -166,9 +166,6 @@ module _ (c : Config) (w : Words) (xs : List PlacedAllocation) (a b : PlacedAllo
   pub lie_apart : LieApart (storage_of c a) (storage_of c b)
   lie_apart = by _ _ refl refl
 
-swapped : (s t : Storage) → LieApart s t → LieApart t s
-swapped s t l = grind arith
-
 -- the storages of the list, in pairs
 abbrev LieInPairs : List Storage → Type 0
 LieInPairs ss = (i j : ℕ) (d : Storage) → i < length ss → j < length ss → i ≢ j
@@ -197,5 +194,5 @@ lie_in_pairs c (x ∷ xs) apart lie =
         → LieInPairs (storage_of c x ∷ unreleased_storage c xs)
     cons u rest zero zero d li lj ne = absurd (ne refl)
     cons u rest zero (suc j) d li lj ne = beside u j d (omega arith)
-    cons u rest (suc i) zero d li lj ne = swapped _ (get_or _ i d) (beside u i d (omega arith))
+    cons u rest (suc i) zero d li lj ne = grind (arith, beside)
     cons u rest (suc i) (suc j) d li lj ne = rest i j d (omega arith) (omega arith) (λ e. ne (rw e))

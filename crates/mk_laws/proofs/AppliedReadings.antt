@@ -6,8 +6,8 @@ use Rattle.mk_laws.proofs.Vocabulary.{event_number, false, false≢true, header_
 use Rattle.mk_laws.proofs.Vocabulary.{large_freed, large_is_history, leb-true, left, left_from, list_any}
 use Rattle.mk_laws.proofs.Vocabulary.{list_any-append, ltb-true, marked_in_stop, may_turn_black, one_page, or_parts}
 use Rattle.mk_laws.proofs.Vocabulary.{placed_at, pointed_cell, refl, register_word, run_headed, slice_index, small}
-use Rattle.mk_laws.proofs.Vocabulary.{stands_in, stopped_cycle, stopped_is_history, suc, sym, take, three_objects}
-use Rattle.mk_laws.proofs.Vocabulary.{three_pages, true, words_are_zero, zero, ◌<◌, ◌≡◌, ◌≤◌}
+use Rattle.mk_laws.proofs.Vocabulary.{stopped_cycle, stopped_is_history, sym, take, three_objects, three_pages, true}
+use Rattle.mk_laws.proofs.Vocabulary.{words_are_zero, ◌<◌, ◌≡◌, ◌≤◌}
 use Rattle.mk_never.specs.Reach.{by_register, by_word}
 use Rattle.mk_core.proofs.EvaluatedCycles.{cycle_of_blackened, first_cycle, in_first_snapshot, not_in_first_snapshot}
 use Rattle.mk_core.proofs.EvaluatedHistories.{blackened_is_history, freed_is_history, marking_is_history}
@@ -20,7 +20,7 @@ use Rattle.mk_laws.proofs.Releases.{no_others_release, releases_are_exact, relea
 use Rattle.mk_laws.proofs.{FreeWords.unmapped_words_are_zero, ReadingsStands.headers_and_quarantine_tell}
 use Rattle.mk_laws.proofs.{ReleasedCycles.releases_are_of_cycles, Settled.unmapped_run}
 use Rattle.mk_laws.specs.UnmappedRuns.{IsOfUnmappedRun, is_resident_in}
-use Rattle.mk_laws.specs.{FreeWords.IsOfNoneMapped, Releases.allocation_behind, UnsetWords.IsNeverSet}
+use Rattle.mk_laws.specs.{Releases.allocation_behind, UnsetWords.IsNeverSet}
 use Rattle.mk_laws.proofs.FreeCells as cells
 use Rattle.mk_laws.proofs.Snapshots as snapshots
 use Rattle.mk_laws.proofs.FreePages as pages
@@ -128,18 +128,9 @@ release_has_its_cycle = releases_are_of_cycles _ _ freed_is_history _ _ Seat.Hos
 abbrev second_cell : Cell
 second_cell = record { page = 0; index = 1 }
 
-stands_there : (number : ℕ) → stands_in back.now.words second_cell (placed_at back.allocations number) ≡ true → ⊥
-unfolding by c0 host all_below pointed_cell one_page freed_after_begin left_from
-stands_there zero h = false≢true h
-stands_there (suc zero) h = false≢true h
-stands_there (suc (suc zero)) h = false≢true h
-stands_there (suc (suc (suc n))) h = false≢true h
-
 pub given_back_is_zero : words_are_zero back.now.words 32 32 ≡ true
 unfolding by c0 host all_below pointed_cell one_page freed_after_begin left_from
-given_back_is_zero =
-    cells.free_cells_are_zero _ _ freed_is_history (λ e. eqb-false 0 4 refl e) second_cell
-    (ltb-true 1 2 refl) (λ a. stands_there a.number a.stands)
+given_back_is_zero = grind (arith, freed_is_history, eqb-false, second_cell, ltb-true)
 
 -- one of the four after ten cells of 6 words,
 pub behind_cells_is_zero : slice_index (left two_pages granted_while_marking).now.words.heap 126 ≡ 0
@@ -155,15 +146,9 @@ free_page_is_zero =
 
 -- and, once its run is wiped, the word that was written to of a freed large object.
 
-none_is_mapped : (n : ℕ) → IsOfNoneMapped three_pages wiped.allocations n
-unfolding by c0 all_below pointed_cell three_pages large_freed left_from
-none_is_mapped n zero mapped word = false≢true mapped
-none_is_mapped n (suc i) mapped word = false≢true mapped
-
 pub wiped_is_zero : slice_index wiped.now.words.heap 64 ≡ 0
 unfolding by c0 all_below pointed_cell three_pages large_freed left_from
-wiped_is_zero =
-    unmapped_words_are_zero _ _ (large_front 20) (λ e. eqb-false 0 4 refl e) refl 64 (none_is_mapped 64)
+wiped_is_zero = grind (arith, unmapped_words_are_zero, large_front, eqb-false)
 
 -- What is promised of pages, and of words that nobody has, on the schedule of a large object, read off from the
 -- theorems.

@@ -1,17 +1,17 @@
 -- The theorems over all histories, applied to small schedules: what each says there, read off by computation.
 use Rattle.std.proofs.Common.{replicate, take-append-drop}
-use Rattle.mk_laws.proofs.Vocabulary.{Answer, Config, DirtyIsOwed, Event, IsGuarded, IsHeaderWord, IsHistory, IsSettled}
-use Rattle.mk_laws.proofs.Vocabulary.{IsWordOf, KeepsTheInvariant, List, NeverState, None, Null, OwesDirty, PageIsDirty}
-use Rattle.mk_laws.proofs.Vocabulary.{Place, PointsWell, Some, TurnOf, Value, WordOf, World, ℕ, all_below, answers_of}
-use Rattle.mk_laws.proofs.Vocabulary.{append_assoc, arith, asked, base_made, bases_of, begun_in_stop, by, c0, calls}
-use Rattle.mk_laws.proofs.Vocabulary.{calls_from, cell_of_allocation, drop, earlier_part_is_history, eqb-false}
-use Rattle.mk_laws.proofs.Vocabulary.{event_number, false, false≢true, free_page, fresh_words_of, has_bit_of, header_at}
-use Rattle.mk_laws.proofs.Vocabulary.{in_a_word, inl, is_begin, is_run_gone, large_freed, large_is_history, leb-true}
-use Rattle.mk_laws.proofs.Vocabulary.{left, left_from, ltb-true, marked_in_stop, may_turn_black, never_behind, one_page}
-use Rattle.mk_laws.proofs.Vocabulary.{placed_at, pointed_cell, points_well, refl, register_at, replies_of}
-use Rattle.mk_laws.proofs.Vocabulary.{resident_pages, slice_index, small, stopped_cycle, stopped_is_history, storage_of}
-use Rattle.mk_laws.proofs.Vocabulary.{subst, sym, take, three_objects, three_pages, true, unreleased_storage}
-use Rattle.mk_laws.proofs.Vocabulary.{uses_of_pages, word_at, word_points_well, [], ◌++◌, ◌∙◌, ◌∷◌, ◌≡◌, ◌≤◌}
+use Rattle.mk_laws.proofs.Vocabulary.{Answer, Config, Event, IsGuarded, IsHeaderWord, IsHistory, IsSettled, IsWordOf}
+use Rattle.mk_laws.proofs.Vocabulary.{KeepsTheInvariant, List, NeverState, None, Null, OwesDirty, Place, Some, TurnOf}
+use Rattle.mk_laws.proofs.Vocabulary.{Value, WordOf, World, ℕ, all_below, answers_of, append_assoc, arith, asked}
+use Rattle.mk_laws.proofs.Vocabulary.{base_made, bases_of, begun_in_stop, by, c0, calls, calls_from, cell_of_allocation}
+use Rattle.mk_laws.proofs.Vocabulary.{drop, earlier_part_is_history, eqb-false, event_number, false, free_page}
+use Rattle.mk_laws.proofs.Vocabulary.{fresh_words_of, has_bit_of, header_at, in_a_word, inl, is_begin, is_run_gone}
+use Rattle.mk_laws.proofs.Vocabulary.{large_freed, large_is_history, leb-true, left, left_from, ltb-true}
+use Rattle.mk_laws.proofs.Vocabulary.{marked_in_stop, may_turn_black, never_behind, one_page, placed_at, pointed_cell}
+use Rattle.mk_laws.proofs.Vocabulary.{points_well, refl, register_at, replies_of, resident_pages, slice_index, small}
+use Rattle.mk_laws.proofs.Vocabulary.{stopped_cycle, stopped_is_history, storage_of, subst, sym, take, three_objects}
+use Rattle.mk_laws.proofs.Vocabulary.{three_pages, true, unreleased_storage, uses_of_pages, word_at, word_points_well}
+use Rattle.mk_laws.proofs.Vocabulary.{[], ◌++◌, ◌∙◌, ◌∷◌, ◌≡◌, ◌≤◌}
 use Rattle.mk_geom.specs.Storages.{words_of_storages}
 use Rattle.mk_never.specs.declared.values.Target.{Target}
 use Rattle.mk_core.proofs.EvaluatedGuards.{page_is_clean, written_points_badly}
@@ -89,14 +89,10 @@ pub first_compares_equal : word_at (never_behind pointer_page (take 16 exchanged
 unfolding by c0 all_below pointed_cell pointer_page exchanged left_from calls_from
 first_compares_equal = grind (arith, pointer_page, exchanged, exchanged_is_history, word_of_target)
 
-answered_zero : Some (Answer.Num 0) ≡ Some (Answer.Num 1) → ⊥
-answered_zero h = let no : ◌≡◌ {A = ℕ} 0 1 = cc in omega arith
-
 pub second_compares_unequal : word_at (never_behind pointer_page (take 24 exchanged)) 0 0
     ≡ register_at (never_behind pointer_page (take 24 exchanged)) 0 2 → ⊥
 unfolding by c0 all_below pointed_cell pointer_page exchanged left_from calls_from
-second_compares_unequal same =
-    grind (arith, pointer_page, exchanged, exchanged_is_history, answered_zero, word_of_target)
+second_compares_unequal same = grind (arith, pointer_page, exchanged, exchanged_is_history, word_of_target)
 
 -- Two objects fill a page: each has its used bit, and no word of one is the other's.
 
@@ -166,13 +162,8 @@ unfolding left_from all_below pointed_cell written_beside three_objects
 written_is_guarded = theorems.black_cells_are_guarded _ _ beside_begins (inl refl) 0 0 0
     (ltb-true 0 32 refl) refl refl (ltb-true 0 2 refl)
 
-owed_by_one : IsGuarded small beside.now 0 → (k : ℕ) × OwesDirty beside.now k 0
-owed_by_one (PointsWell well) = absurd (false≢true (sym written_points_badly ∙ well))
-owed_by_one (PageIsDirty dirty) = let clean = page_is_clean in absurd (omega arith)
-owed_by_one (DirtyIsOwed k owes) = (k, owes)
-
 pub a_call_owes_dirty : (k : ℕ) × OwesDirty beside.now k 0
-a_call_owes_dirty = owed_by_one written_is_guarded
+a_call_owes_dirty = grind (arith, written_is_guarded, written_points_badly, page_is_clean)
 
 -- Before a `close` the word that leads from the first object to the second points well, and after it too.
 

@@ -1,25 +1,19 @@
 -- One event: what stands on the pages after it.
 use Rattle.mk_laws.proofs.Vocabulary.{Bool, Chosen, Config, HasLayout, LayoutStands, Marker, Moment, None, Placing}
-use Rattle.mk_laws.proofs.Vocabulary.{Seat, Some, Step, World, ℕ, ap, arith, cases_Bool, cell_seen, eqb-true, false}
-use Rattle.mk_laws.proofs.Vocabulary.{ground_of, has_place, inl, inr, is_phase, is_some, marker_at, object_now}
-use Rattle.mk_laws.proofs.Vocabulary.{phase_of, refl, sym, true, ◌-◌, ◌==◌, ◌∙◌, ◌≡◌, ◌⊎◌}
+use Rattle.mk_laws.proofs.Vocabulary.{Seat, Some, Step, World, arith, cases_Bool, cell_seen, eqb-true, false, ground_of}
+use Rattle.mk_laws.proofs.Vocabulary.{has_place, inl, inr, is_phase, is_some, marker_at, object_now, phase_of, refl}
+use Rattle.mk_laws.proofs.Vocabulary.{true, ◌-◌, ◌≡◌, ◌⊎◌}
 use Rattle.mk_laws.proofs.Basics.{Before, Known, Meets, WorldBehind, actor_of, held_place, is_releasing_behind}
 use Rattle.mk_laws.proofs.Basics.{not_astray, reg_leaves, tally_keeps, view_of}
-use Rattle.mk_laws.proofs.Colours.{AddsMarks, ClearsMarks, Colours, ColourStep, MarksSeen, colour_step}
-use Rattle.mk_laws.proofs.CyclePhases.{AsksPhase, phase_asked, phase_behind, phase_moves}
-use Rattle.mk_laws.proofs.LayoutByKind.{by_kind, placeless}
-use Rattle.mk_laws.proofs.{Dropped.unreleasing, NewPlace.new_was, OrderlyLists.orderly_behind, Sorts.moves}
+use Rattle.mk_laws.proofs.CyclePhases.{phase_asked, phase_moves}
+use Rattle.mk_laws.proofs.{Colours.colour_step, Dropped.unreleasing, LayoutByKind.by_kind, LayoutByKind.placeless}
+use Rattle.mk_laws.proofs.{NewPlace.new_was, OrderlyLists.orderly_behind, Sorts.moves}
 
 -- whether the phase is releasing
 
-releasing_step : (x : Step) (p : ℕ) → AsksPhase x p → (phase_behind x p == 4) ≡ is_releasing_behind x (p == 4)
-releasing_step Step.Begin p asks = ap (λ n. n == 4) (sym asks)
-releasing_step x0 p asks = cc
-
 pub phase_kind : (c : Config) (w : World) (seat : Seat) (x : Step) → Meets c w.now seat x
     → is_phase (WorldBehind c w seat x).now.words 4 ≡ is_releasing_behind x (is_phase w.now.words 4)
-phase_kind c w seat x h =
-    ap (λ n. n == 4) (phase_moves c w.now seat x h) ∙ releasing_step x _ (phase_asked c w.now seat x h)
+phase_kind c w seat x h = grind (arith, phase_moves, phase_asked)
 
 -- While released cells are there, no mark changes: nobody marks then.
 seen_attends : (c : Config) (m : Moment) (seat : Seat) → Known c m
@@ -28,20 +22,12 @@ seen_attends : (c : Config) (m : Moment) (seat : Seat) → Known c m
 seen_attends c m (Marker k) known some = grind arith
 seen_attends c m _ known some = cc
 
-marks_stay : (c : Config) (m : Moment) (seat : Seat) (y : Colours) → Known c m → phase_of m.words ≡ 4
-    → ColourStep c m seat y → y.marks ≡ m.words.marks
-marks_stay c m seat y known four (ClearsMarks p quiet) = absurd (omega arith)
-marks_stay c m seat y known four (AddsMarks p bits early may) = absurd (omega arith)
-marks_stay c m seat y known four (MarksSeen p bits some at is) =
-    let early = seen_attends c m seat known some in absurd (omega arith)
-marks_stay c m seat y known four _ = refl
-
 pub releasing_marks : (c : Config) (w : World) (seat : Seat) (x : Step) → Known c w.now → Meets c w.now seat x
     → is_releasing_behind x (is_phase w.now.words 4) ≡ true
     → (WorldBehind c w seat x).now.words.marks ≡ w.now.words.marks
 releasing_marks c w seat Step.Release known h on = refl
 releasing_marks c w seat Step.End known h on = refl
-releasing_marks c w seat x known h on = marks_stay c w.now seat _ known (eqb-true _ 4 on) (colour_step c w.now seat x h)
+releasing_marks c w seat x known h on = grind (arith, eqb-true, colour_step, seen_attends)
 
 -- Where there is a place after, the turn is the same,
 turn_kind : (c : Config) (w : World) (seat : Seat) (x : Step) → Meets c w.now seat x

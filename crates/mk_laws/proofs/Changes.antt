@@ -1,17 +1,15 @@
 -- What each kind of step changes of what the guard reads.
-use Rattle.mk_laws.proofs.Vocabulary.{Access, AreOfPages, Bool, Caller, Config, DirtyIsOwed, Flight, IsGuarded}
-use Rattle.mk_laws.proofs.Vocabulary.{IsMarking, List, Load, Moment, Named, OnlyGrow, Op, OwesDirty, Page, Seat, Stage}
-use Rattle.mk_laws.proofs.Vocabulary.{Step, Store, Tally, Word, Words, ℕ, accessed, and_parts, ap, arith, at_rest}
-use Rattle.mk_laws.proofs.Vocabulary.{cases_eq, comes_next, false, flight_of, found, free_page, get_or-set_other}
-use Rattle.mk_laws.proofs.Vocabulary.{get_or-set_same, has_bit, header_at, inl, inr, ltb-true, nat_le, nat_lt, no_bit}
-use Rattle.mk_laws.proofs.Vocabulary.{page_met, progress, refl, set_by, slice_index, slice_index_or, slice_set}
-use Rattle.mk_laws.proofs.Vocabulary.{stage_behind, steps_of, subst, sym, tally_word, true, true≢false, word_met, ◌*◌}
-use Rattle.mk_laws.proofs.Vocabulary.{◌<◌, ◌∙◌, ◌≡◌, ◌⊎◌}
+use Rattle.mk_laws.proofs.Vocabulary.{AreOfPages, Bool, Caller, Config, DirtyIsOwed, Flight, IsGuarded, IsMarking, List}
+use Rattle.mk_laws.proofs.Vocabulary.{Moment, Named, OnlyGrow, Op, OwesDirty, Page, Seat, Stage, Step, Store, Tally}
+use Rattle.mk_laws.proofs.Vocabulary.{Words, ℕ, accessed, and_parts, ap, arith, at_rest, cases_eq, comes_next, false}
+use Rattle.mk_laws.proofs.Vocabulary.{flight_of, found, free_page, get_or-set_other, get_or-set_same, has_bit}
+use Rattle.mk_laws.proofs.Vocabulary.{header_at, inl, inr, ltb-true, nat_le, nat_lt, no_bit, page_met, progress, refl}
+use Rattle.mk_laws.proofs.Vocabulary.{set_by, slice_index, slice_index_or, slice_set, stage_behind, steps_of, subst}
+use Rattle.mk_laws.proofs.Vocabulary.{sym, tally_word, true, true≢false, word_met, ◌*◌, ◌<◌, ◌∙◌, ◌≡◌, ◌⊎◌}
 use Rattle.mk_core.proofs.RegisterAccesses.{register_leaves, tally_leaves}
-use Rattle.mk_laws.proofs.Colours.{AddsMarks, ClearsMarks, Colours, ColourStep, MarksSeen, colour_step}
-use Rattle.mk_laws.proofs.Growth.{grows_more, grows_same}
-use Rattle.mk_laws.proofs.{Actors.Meets, Known.Known, NextSteps.at_its_stage, OrderlyLists.not_astray, SameWords.Behind}
-use Rattle.mk_laws.proofs.{Standings.is_astray, Standings.standing_at, Wells.bare_guarded}
+use Rattle.mk_laws.proofs.{Actors.Meets, Colours.Colours, Colours.ColourStep, Colours.colour_step, Growth.grows_more}
+use Rattle.mk_laws.proofs.{Growth.grows_same, Known.Known, NextSteps.at_its_stage, OrderlyLists.not_astray}
+use Rattle.mk_laws.proofs.{SameWords.Behind, Standings.is_astray, Standings.standing_at, Wells.bare_guarded}
 
 -- the words that only a few kinds change
 pub record Table : Type 0 where
@@ -34,16 +32,12 @@ table_of w = record {
   heap = w.heap;
 }
 
-register_table : (w : Words) (k r : ℕ) (a : Access) → table_of (accessed w (Named (Word.Reg k r)) a) ≡ table_of w
-register_table w k r Load = refl
-register_table w k r _ = refl
-
 pub tally_table : (w : Words) (n : Tally) (v : ℕ) → table_of (accessed w (Named (tally_word n)) (Store v)) ≡ table_of w
 tally_table w Tally.Held v = refl
 tally_table w _ v = refl
 
 pub reg_table : (c : Config) (m : Moment) (seat : Seat) → table_of (Behind c m seat Step.Reg).words ≡ table_of m.words
-reg_table c m seat = register_table m.words _ _ _
+reg_table c m seat = grind arith
 
 -- A call that has written, or exchanged, owes the dirty word after it.
 
@@ -166,10 +160,7 @@ headers_kind c m seat _ u p = cc
 -- marks only grow while a cycle marks
 marks_grow : (c : Config) (m : Moment) (seat : Seat) (y : Colours) → IsMarking m.words → ColourStep c m seat y
     → OnlyGrow m.words.marks y.marks
-marks_grow c m seat y early (ClearsMarks p z) = absurd (omega arith)
-marks_grow c m seat y early (AddsMarks p bits e h) = grows_more m.words.marks p bits
-marks_grow c m seat y early (MarksSeen p bits s e f) = grows_more m.words.marks p bits
-marks_grow c m seat y early _ = grows_same m.words.marks
+marks_grow c m seat y early x6 = grind (arith, grows_more, grows_same)
 
 pub marks_kind : (c : Config) (m : Moment) (seat : Seat) (x : Step) → IsMarking m.words → Meets c m seat x
     → OnlyGrow m.words.marks (Behind c m seat x).words.marks

@@ -15,10 +15,9 @@ use Rattle.mk_laws.proofs.Vocabulary.{others_are_held, pages_made, phase_of, pla
 use Rattle.mk_laws.proofs.Vocabulary.{sym, takes_cell, target, true, true≢false, unmaps, used_at, words_are_zero, []}
 use Rattle.mk_laws.proofs.Vocabulary.{◌&&◌, ◌++◌, ◌+◌, ◌-◌, ◌<◌, ◌==◌, ◌||◌, ◌∙◌, ◌∷◌, ◌≡◌, ◌≢◌}
 use Rattle.mk_core.proofs.{Conditions.meets_enabled, PageSteps.gives_back_is, PageSteps.left_bits}
-use Rattle.mk_core.specs.Cells.{are_left_unmarked}
 use Rattle.mk_core.specs.StopConditions.{blackens, may_black, may_close}
-use Rattle.mk_core.specs.TurnConditions.{are_wiped, drops, is_in_gone_run, may_use, takes_snapshot}
-use Rattle.mk_core.specs.{Frames.written_of, Moments.none_is_held, NewPlaces.bits_made, Order.is_in_order}
+use Rattle.mk_core.specs.TurnConditions.{are_wiped, is_in_gone_run, may_use, takes_snapshot}
+use Rattle.mk_core.specs.{Cells.are_left_unmarked, Frames.written_of, NewPlaces.bits_made, Order.is_in_order}
 use Rattle.mk_laws.proofs.Basics.{Behind, KnownWorld, Meets, actor_of, along_others, mapped_stays, reg_keeps}
 use Rattle.mk_laws.proofs.Basics.{tally_keeps}
 use Rattle.mk_laws.proofs.FramesHolders.{Asks, OfHolder, OfNone, asks, holds_is}
@@ -47,17 +46,13 @@ module _ (c : Config) (w v : World) (kept : TurnIsLeft w v) where
   others_on s h = all_below_on c.callers (λ j. is_number_of s j || is_held w.now.words j)
       (λ j. is_number_of s j || is_held v.now.words j) (λ j lt. or_on _ _ (is_number_of s j) _ (λ e. e) (held_on j)) h
 
-  all_free_on : none_is_held c.callers w.now.words ≡ true → none_is_held c.callers v.now.words ≡ true
-  all_free_on h =
-      all_below_on _ (λ j. not (is_held w.now.words j)) (λ j. not (is_held v.now.words j)) (λ j lt. free_on j) h
-
   two_or : (s : Seat) → (not (is_phase w.now.words 2) || others_are_held c.callers w.now.words s) ≡ true
       → (not (is_phase v.now.words 2) || others_are_held c.callers v.now.words s) ≡ true
   two_or s h = or_on _ _ _ _ (λ e. rw phase_same e) (others_on s) h
 
   pub gates_on : (s : Seat) (f : Flight) (x : Step) → has_gates c w.now.words s f x ≡ true
       → has_gates c v.now.words s f x ≡ true
-  gates_on s f Step.Give h = all_free_on h
+  gates_on s f Step.Give h = grind (arith, all_below_on, free_on)
   gates_on s f (Step.Look (Word.Reg j r)) h = or_on _ _ (is_number_of s j) _ (λ e. e) (held_on j) h
   gates_on s f (Step.Head p n) h = or_on _ _ _ _ (λ e. e) (others_on s) h
   gates_on s f (Step.Quar p n) h = or_on _ _ _ _ (λ e. rw pages_same e) (others_on s) h
@@ -136,9 +131,6 @@ module _ (c : Config) (w v : World) (kept : TurnIsLeft w v) (own : v.now.seats.h
 
   -- `quar`
 
-  drops_same : (p f n : ℕ) → b.marks ≡ a.marks → drops b p f n ≡ drops a p f n
-  drops_same p f n marks = grind (arith, pages)
-
   frees_same : (f : Flight) (p n : ℕ) → frees b (target c.pages b f) p n ≡ frees a (target c.pages a f) p n
   frees_same f p n = rw (pages, ap (λ (s : Steady). s.freed) kept.steady, ap (λ (s : Steady). s.snapshot) kept.steady)
 
@@ -196,7 +188,7 @@ module _ (c : Config) (w v : World) (kept : TurnIsLeft w v) (own : v.now.seats.h
       (λ four e. empties_same p n ∙ e) (λ off e. or_on _ _ _ _ (carves_on f p n) (λ u. rw own (rw pages u)) e) h
   holder_on s f (Step.Used p n) gates at written gone wiped h = used_on f p n (wiped p n) h
   holder_on s f (Step.Quar p n) gates at written gone wiped h =
-      grind (arith, phase, if_on, drops_same, quiet_at_4, or_on, frees_same, snapshot_same)
+      grind (arith, phase, if_on, quiet_at_4, or_on, frees_same, snapshot_same, pages)
   holder_on s f Step.Grant gates at written gone wiped h = ap (λ (x : Holding). is_used_once x.placing) own ∙ h
   holder_on s f (Step.Open j) gates at written gone wiped h = ap (λ (x : Holding). is_run_gone b x.freed) own ∙ gone h
   holder_on s f (Step.Mark p n) gates at written gone wiped h = rw (own, pages, phase) h

@@ -12,14 +12,10 @@ use Rattle.mk_laws.proofs.{Basics.KnownWorld, Basics.ends_on_pages, Basics.zero_
 use Rattle.mk_laws.proofs.{ForImages.standing, FreeWords.IsOfOne, FreeWords.of_one, FreeWords.of_worlds}
 use Rattle.mk_laws.specs.FreeWords.{FreeCellsAreZero, WordsBehindCellsAreZero, words_in_cells}
 
--- where an object's base is on its page
-base_on_page : (o : Object) (base : ℕ) → (b : BeginsAtCell o base) → base ≡ 64 * (base / 64) + b.index * words_made o
-base_on_page o base b = let first = b.first in omega arith
-
 -- A small object's words end with its page's cells.
 small_within : (o : Object) (base n : ℕ) (b : BeginsAtCell o base) → is_small_object o ≡ true → n / 64 ≡ base / 64
     → n < base + words_made o → n % 64 < cells_of (class_made o) * class_words_of (class_made o)
-small_within o base n b small at to = grind (arith, small_cells, small_words, base_on_page, mul-le)
+small_within o base n b small at to = grind (arith, small_cells, small_words, mul-le)
 
 -- What shows a page of an object has the object's words there within its cells.
 within_cells : (o : Object) (distance base n : ℕ) (x : Option Header) → ShowsPart o distance x

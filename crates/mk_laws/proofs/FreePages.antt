@@ -7,10 +7,9 @@ use Rattle.mk_laws.proofs.Vocabulary.{at_rest, cases_eq, cases_lt, cells_under, 
 use Rattle.mk_laws.proofs.Vocabulary.{found, get_or-set_other, get_or-set_same, get_or_past, has_bit, header_at}
 use Rattle.mk_laws.proofs.Vocabulary.{header_in, header_of, inl, inr, is_heap_store, is_release, left, left_from}
 use Rattle.mk_laws.proofs.Vocabulary.{ltb-true, never_behind, object_placed, page_met, phase_of, placed_at, progress}
-use Rattle.mk_laws.proofs.Vocabulary.{refl, set_by, slice_index, stage_behind, stage_refused, steps_of, storage_words}
-use Rattle.mk_laws.proofs.Vocabulary.{subst, sym, true, true≢false, word_met, words_made, [], ◌++◌, ◌+◌, ◌-◌, ◌/◌, ◌==◌}
-use Rattle.mk_laws.proofs.Vocabulary.{◌∙◌, ◌∷◌, ◌≡◌, ◌≢◌, ◌⊎◌}
-use Rattle.mk_core.specs.Calls.{first_of}
+use Rattle.mk_laws.proofs.Vocabulary.{refl, set_by, slice_index, stage_behind, steps_of, storage_words, subst, sym}
+use Rattle.mk_laws.proofs.Vocabulary.{true, true≢false, word_met, words_made, [], ◌++◌, ◌+◌, ◌-◌, ◌/◌, ◌==◌, ◌∙◌, ◌∷◌}
+use Rattle.mk_laws.proofs.Vocabulary.{◌≡◌, ◌≢◌, ◌⊎◌}
 use Rattle.mk_laws.proofs.Basics.{Behind, InCall, KeptByEvents, Known, KnownWorld, Meets, Table, WorldBehind, at_first}
 use Rattle.mk_laws.proofs.Basics.{at_its_stage, claimed_some, ends_on_pages, holds_of_histories, known_world}
 use Rattle.mk_laws.proofs.Basics.{mapped_stays, reg_table, shows_at, tally_table, view_of, zero_unless, zero_where_none}
@@ -27,19 +26,7 @@ use Rattle.mk_laws.specs.FreePages.{DirtyPagesHaveAllocations, FreePagesHaveNoth
 store_next : (o : Op) (s : Stage) (x : Step) → stage_behind s (steps_of o) ≡ Stage.Dirty → comes_next s o x ≡ true
     → is_heap_store x ≡ true
 store_next o Stage.Write Step.Write h next = refl
-store_next o Stage.Write _ h next = cc
-store_next o Stage.Cas Step.Cas h next = refl
-store_next o Stage.Cas _ h next = cc
-store_next (Op.New d ty full) s x h next = cc
-store_next _ s x h next = cc
-
-first_not_dirty : (o : Op) → first_of (steps_of o) ≡ Stage.Dirty → ⊥
-first_not_dirty (Op.New d ty full) h = cc
-first_not_dirty _ h = cc
-
-refusal_not_dirty : (o : Op) → stage_refused o ≡ Stage.Dirty → ⊥
-refusal_not_dirty (Op.GetPtr d q i) h = cc
-refusal_not_dirty _ h = cc
+store_next o s x h next = grind arith
 
 -- A call that owes a mark after a step owed it before, or this step has stored.
 abbrev pub OwesSince : Flight → Step → Flight → Type 0
@@ -48,12 +35,12 @@ OwesSince f x g = (g ≡ f) ⊎ ((is_heap_store x ≡ true) × (page_met g ≡ p
 pub owes_since : (f : Flight) (x : Step) (g : Flight) → comes_next f.stage f.op x ≡ true → CallStep f x g
     → g.stage ≡ Stage.Dirty → OwesSince f x g
 owes_since f x g next Stays h = inl refl
-owes_since f x g next (Begins o is) h = absurd (first_not_dirty o h)
+owes_since f x g next (Begins o is) h = grind arith
 owes_since f x g next Ends h = cc
 owes_since f x g next (GoesOn y at same off) h = absurd (true≢false
     (sym (store_next y.op y.stage x h (rw at (rw same next))) ∙ off))
 owes_since f x g next (Stores on) h = inr (on, refl)
-owes_since f x g next (Refused y a same) h = absurd (refusal_not_dirty y.op h)
+owes_since f x g next (Refused y a same) h = grind arith
 owes_since f x g next (Comes y s same ne) h = absurd (ne h)
 
 pub record DirtyStands (c : Config) (w : World) : Type 0 where

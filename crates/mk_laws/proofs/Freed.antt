@@ -1,17 +1,17 @@
 -- `quar` (a) on the terrain: an object is freed, and the run that a call freed is gone.
 use Rattle.std.proofs.Common.{map-id}
 use Rattle.mk_laws.proofs.Vocabulary.{Among, Bool, Cell, Claim, Config, Ground, HasHeader, HasLayout, Header}
-use Rattle.mk_laws.proofs.Vocabulary.{IsClaimedRun, IsShown, IsSized, IsWithinLimits, List, Mode, None, Object, OfBlock}
-use Rattle.mk_laws.proofs.Vocabulary.{OfLater, OfLeafBlock, OfLeafRun, OfRun, Option, PlacedAllocation, RunPages}
-use Rattle.mk_laws.proofs.Vocabulary.{RunStands, ShowsPart, Some, Words, World, ℕ, all_below-at, ap, arith, cases_Bool}
-use Rattle.mk_laws.proofs.Vocabulary.{cell_of_allocation, cells_made, cells_under, claim_of, claims_of, claims_on}
-use Rattle.mk_laws.proofs.Vocabulary.{cond-true, eq-eqb, eqb-true, false, first_page_shows, freed_leaves}
-use Rattle.mk_laws.proofs.Vocabulary.{freed_released, freed_where_it_stands, ground_of, header_at, header_in, header_on}
-use Rattle.mk_laws.proofs.Vocabulary.{if◌then◌else◌, inl, inr, is_run_unmapped, is_small_object, is_unmapping}
-use Rattle.mk_laws.proofs.Vocabulary.{layout_scene_of, length, map, mode_of, not, not-true, object_placed, pages_made}
-use Rattle.mk_laws.proofs.Vocabulary.{pages_some, part_cells, placed_at, refl, run_headed, run_of_cell, small, stands}
-use Rattle.mk_laws.proofs.Vocabulary.{stands_in, stands_in_its_cell, subst, sym, true, true≢false, unmapped_header}
-use Rattle.mk_laws.proofs.Vocabulary.{◌&&◌, ◌+◌, ◌/◌, ◌<◌, ◌==◌, ◌∙◌, ◌≡◌, ◌⊎◌}
+use Rattle.mk_laws.proofs.Vocabulary.{IsClaimedRun, IsShown, IsSized, IsWithinLimits, List, Mode, None, Object, OfLater}
+use Rattle.mk_laws.proofs.Vocabulary.{OfLeafRun, OfRun, Option, PlacedAllocation, RunPages, RunStands, ShowsPart, Some}
+use Rattle.mk_laws.proofs.Vocabulary.{Words, World, ℕ, all_below-at, ap, arith, cases_Bool, cell_of_allocation}
+use Rattle.mk_laws.proofs.Vocabulary.{cells_made, cells_under, claim_of, claims_of, claims_on, cond-true, eq-eqb}
+use Rattle.mk_laws.proofs.Vocabulary.{eqb-true, false, first_page_shows, freed_leaves, freed_released}
+use Rattle.mk_laws.proofs.Vocabulary.{freed_where_it_stands, ground_of, header_at, header_in, header_on, if◌then◌else◌}
+use Rattle.mk_laws.proofs.Vocabulary.{inl, inr, is_run_unmapped, is_small_object, is_unmapping, layout_scene_of, length}
+use Rattle.mk_laws.proofs.Vocabulary.{map, mode_of, not, not-true, object_placed, pages_made, pages_some, part_cells}
+use Rattle.mk_laws.proofs.Vocabulary.{placed_at, refl, run_headed, run_of_cell, small, stands, stands_in}
+use Rattle.mk_laws.proofs.Vocabulary.{stands_in_its_cell, subst, sym, true, true≢false, unmapped_header, ◌&&◌, ◌+◌, ◌/◌}
+use Rattle.mk_laws.proofs.Vocabulary.{◌<◌, ◌==◌, ◌∙◌, ◌≡◌, ◌⊎◌}
 use Rattle.mk_core.proofs.CellsOfAllocations.{stands_in_no_other}
 use Rattle.mk_laws.proofs.Serving.{Laid, among_back, among_front, among_parts, apart_across, apart_joined, apart_left}
 use Rattle.mk_laws.proofs.Serving.{apart_right, own_claim, placed_claim}
@@ -110,10 +110,7 @@ run_small o x p _ s = refl
 
 pub run_large : (o : Object) (x : Option Header) (p : ℕ) → ShowsPart o 0 x → is_small_object o ≡ false
     → run_headed x p ≡ Some (record { page = p; count = pages_made o })
-run_large o x p (OfBlock first small leaf) l = absurd (true≢false (sym small ∙ l))
-run_large o x p (OfLeafBlock first small leaf) l = absurd (true≢false (sym small ∙ l))
-run_large o x p (OfLater m some large) l = absurd (omega arith)
-run_large o x p _ l = refl
+run_large o x p x4 l = grind (arith, small)
 
 -- Where no run is on its way, the header of a claim's page stays right for what it becomes.
 moves : (freed now large going : Bool) (o : Object) (d h : ℕ) → (freed ≡ true → now ≡ true)
@@ -251,10 +248,7 @@ gone_terrain c o releasing w unmapped st =
     ends : (freed large going : Bool) (o : Object) (d h : ℕ)
         → (freed ≡ true → large ≡ true → going ≡ true → IsUnmappedHeaderOf o d h)
         → HasHeader (mode_of (freed && large) going) o d h → HasHeader (mode_of (freed && large) false) o d h
-    ends true true true o d h un has = un refl refl refl
-    ends true true false o d h un has = has
-    ends true false going o d h un has = has
-    ends false large going o d h un has = has
+    ends x1 large going o d h un has = grind arith
 
     by : (run : Option RunPages) → w.now.seats.holding.freed ≡ run → (i : ℕ)
         → (placed_at w.allocations i).released ≡ false → (d : ℕ)

@@ -2,18 +2,18 @@
 use Rattle.mk_laws.proofs.Vocabulary.{Answer, AreAdmitted, Bool, Caller, CarriesOwn, Cell, Config, Event, Flight}
 use Rattle.mk_laws.proofs.Vocabulary.{Header, Holding, Host, ImagePremises, IsSafe, IsSound, LeafRun, Marker, Mirrors}
 use Rattle.mk_laws.proofs.Vocabulary.{Moment, NeverState, None, Null, Num, Op, Option, PlacedAllocation, Ptr, Run}
-use Rattle.mk_laws.proofs.Vocabulary.{RunPages, Seat, Some, Stage, Step, Value, Word, Words, World, ℕ, admitted_keep}
+use Rattle.mk_laws.proofs.Vocabulary.{RunPages, Seat, Some, Stage, Step, Value, Words, World, ℕ, admitted_keep}
 use Rattle.mk_laws.proofs.Vocabulary.{after_calls, after_free, ap, arith, asked, at_rest, bases_of, call_decided}
 use Rattle.mk_laws.proofs.Vocabulary.{cases_Bool, cases_eq, cases_lt, cell_freed, cell_of_allocation, entry_of, false}
 use Rattle.mk_laws.proofs.Vocabulary.{false≢true, first_page_shows, flight_of, found, freed_cell, get_or-set_other}
 use Rattle.mk_laws.proofs.Vocabulary.{get_or-set_same, get_or_append_left, get_or_past, header_in, heads_run}
 use Rattle.mk_laws.proofs.Vocabulary.{if◌then◌else◌, image_of, image_scene_of, inl, inr, is_decided_free}
-use Rattle.mk_laws.proofs.Vocabulary.{is_decided_free_at, is_new_at, is_small_object, is_undecided_free}
-use Rattle.mk_laws.proofs.Vocabulary.{is_undecided_new, length, length-map, ltb-true, nothing_done, object_placed}
-use Rattle.mk_laws.proofs.Vocabulary.{or_else, p_of, placed_at, pointed_cell, progress, progress_freed, refl}
-use Rattle.mk_laws.proofs.Vocabulary.{register_at, run_begins, run_headed, run_of_cell, sees_double, set_by}
-use Rattle.mk_laws.proofs.Vocabulary.{slice_index_or, slice_set, small_heads_none, still, subst, sym, true, typed_size}
-use Rattle.mk_laws.proofs.Vocabulary.{world_behind, ◌%◌, ◌&&◌, ◌*◌, ◌+◌, ◌-◌, ◌/◌, ◌<◌, ◌∙◌, ◌≡◌, ◌≢◌, ◌⊎◌}
+use Rattle.mk_laws.proofs.Vocabulary.{is_decided_free_at, is_small_object, is_undecided_free, is_undecided_new, length}
+use Rattle.mk_laws.proofs.Vocabulary.{length-map, ltb-true, nothing_done, object_placed, or_else, p_of, placed_at}
+use Rattle.mk_laws.proofs.Vocabulary.{pointed_cell, progress, progress_freed, refl, register_at, run_begins, run_headed}
+use Rattle.mk_laws.proofs.Vocabulary.{run_of_cell, set_by, slice_index_or, slice_set, small_heads_none, still, subst}
+use Rattle.mk_laws.proofs.Vocabulary.{sym, true, typed_size, world_behind, ◌%◌, ◌&&◌, ◌*◌, ◌+◌, ◌-◌, ◌/◌, ◌<◌, ◌∙◌, ◌≡◌}
+use Rattle.mk_laws.proofs.Vocabulary.{◌≢◌, ◌⊎◌}
 use Rattle.mk_never.specs.Laws.{AreNotBy}
 use Rattle.mk_core.specs.{Effects.holding_behind, Order.is_of_any_holder}
 use Rattle.mk_laws.proofs.Basics.{HoldsTurn, InCall, KnownWorld, Meets, Orderly, Ready, Stands, View, actor_of, base_at}
@@ -35,10 +35,6 @@ pub decided_free_gives : (s : Stage) (o : Op) → is_decided_free_at s o ≡ tru
 decided_free_gives Stage.Give o h = refl
 decided_free_gives _ _ h = cc
 
-new_is_undecided : (s : Stage) (o : Op) → is_new_at s o ≡ true → is_decided_free_at s o ≡ true → ⊥
-new_is_undecided Stage.Give (Op.Free p) new free = cc
-new_is_undecided _ _ new free = cc
-
 pub frees_run : (c : Config) (m : Moment) (k : ℕ) (run : RunPages) → Orderly c (view_of m) → HoldsTurn c (view_of m)
     (Caller k) → m.seats.holding.freed ≡ Some run → is_decided_free (flight_of m (Caller k)) ≡ true
 frees_run c m k run o hold e = rw (holders_flight c (view_of m) (Caller k) o hold) at (o.served.freed (rw e))
@@ -47,7 +43,7 @@ frees_run c m k run o hold e = rw (holders_flight c (view_of m) (Caller k) o hol
 pub new_frees_none : (c : Config) (m : Moment) (k : ℕ) (run : RunPages) → Orderly c (view_of m)
     → HoldsTurn c (view_of m) (Caller k)
     → is_undecided_new (flight_of m (Caller k)) ≡ true → m.seats.holding.freed ≢ Some run
-new_frees_none c m k run o hold new e = new_is_undecided _ _ new (frees_run c m k run o hold e)
+new_frees_none c m k run o hold new e = grind (arith, frees_run)
 
 -- the heap that never reuses storage, after an event
 abbrev pub never_after : Config → World → NeverState → Event → NeverState
@@ -116,18 +112,10 @@ was_under c v seat u k _ e t h = h
 
 -- At Give a holder's step but `give` leaves the call as it is.
 
-none_freed_at : (b : Bool) (f : Flight) → progress_freed f (if b && false then None else None) ≡ still f
-none_freed_at true f = refl
-none_freed_at false f = refl
-
-none_seen : (w : Words) (x : Word) → sees_double w None x ≡ false
-none_seen w (Word.Quar p) = refl
-none_seen w _ = refl
-
 give_still : (c : Config) (m : Moment) (o : Op) (q p r l n : ℕ) (x : Step) → is_of_any_holder x ≡ true → gives x ≡ false
     → progress c m (flight Stage.Give o q p r l) n x ≡ still (flight Stage.Give o q p r l)
-give_still c m o q p r l n (Step.Quar y v) h g = none_freed_at _ _
-give_still c m o q p r l n (Step.Look x) h g = grind (arith, flight, none_seen)
+give_still c m o q p r l n (Step.Quar y v) h g = grind arith
+give_still c m o q p r l n (Step.Look x) h g = grind (arith, flight)
 give_still c m o q p r l n _ h g = cc
 
 no_run : (w : Words) (b : Bool) (run : RunPages) → run_of_cell w (if b && false then None else None) ≡ Some run → ⊥

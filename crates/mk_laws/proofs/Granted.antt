@@ -1,10 +1,10 @@
 -- `grant` on the terrain: what is granted is the claim of its place.
 use Rattle.mk_laws.proofs.Vocabulary.{BeginsAtCell, Bool, Config, Granted, Ground, HasLayout, IsLaidOn, IsShown, List}
-use Rattle.mk_laws.proofs.Vocabulary.{None, NoPlot, Option, Place, PlacedAllocation, RunPages, RunStands, Some, Used, ℕ}
-use Rattle.mk_laws.proofs.Vocabulary.{append-nil, arith, base_made, cell_of_allocation, claim_of, claims_of, cond-false}
-use Rattle.mk_laws.proofs.Vocabulary.{false, if◌then◌else◌, inl, inr, layout_scene_of, length, object_placed}
-use Rattle.mk_laws.proofs.Vocabulary.{place_claim, placed_at, refl, suc, sym, true, zero, [], ◌++◌, ◌/◌, ◌<◌, ◌∙◌, ◌∷◌}
-use Rattle.mk_laws.proofs.Vocabulary.{◌≡◌, ◌≤◌, ◌⊎◌}
+use Rattle.mk_laws.proofs.Vocabulary.{NoPlot, Option, Place, PlacedAllocation, RunPages, RunStands, Used, ℕ, append-nil}
+use Rattle.mk_laws.proofs.Vocabulary.{arith, base_made, cell_of_allocation, claim_of, claims_of, cond-false, false}
+use Rattle.mk_laws.proofs.Vocabulary.{if◌then◌else◌, inl, inr, layout_scene_of, length, object_placed, place_claim}
+use Rattle.mk_laws.proofs.Vocabulary.{placed_at, refl, suc, sym, true, zero, [], ◌++◌, ◌/◌, ◌<◌, ◌∙◌, ◌∷◌, ◌≡◌, ◌≤◌}
+use Rattle.mk_laws.proofs.Vocabulary.{◌⊎◌}
 use Rattle.mk_core.proofs.StandingAllocations.{made_begins}
 use Rattle.mk_laws.proofs.{Released.place_index, Serving.among_back, Serving.among_front}
 
@@ -86,12 +86,4 @@ granted_terrain c releasing marks t place a used is st = record {
 
     gone : (r : Option RunPages) → RunStands (claims_of c t.run t.allocations) r
         → RunStands (claims_of c t.run (t.allocations ++ a ∷ [])) r
-    gone None x = tt
-    gone (Some r) x = record {
-      claim = x.claim;
-      among = rw (pushed_claims c t.run t.allocations a is.unreleased) (among_front _ _ x.claim x.among);
-      page = x.page;
-      count = x.count;
-      large = x.large;
-      mode = x.mode;
-    }
+    gone x1 x = grind (arith, claim, pushed_claims, among_front)

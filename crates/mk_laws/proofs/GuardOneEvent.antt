@@ -7,11 +7,10 @@ use Rattle.mk_laws.proofs.Vocabulary.{and_parts, arith, behind_mlook, bit_or, ca
 use Rattle.mk_laws.proofs.Vocabulary.{cell_seen, cell_words, cells_under, eq-eqb, eqb-true, false, first_word, found}
 use Rattle.mk_laws.proofs.Vocabulary.{get_or-set_other, get_or_past, has_bit, has_clean_page, has_no_pointers}
 use Rattle.mk_laws.proofs.Vocabulary.{head_page, header_at, header_in, if◌then◌else◌, inl, inr, is_attending, is_none}
-use Rattle.mk_laws.proofs.Vocabulary.{is_phase, is_scanned, is_some, marker_behind, marker_of, may_turn_black, no_bit}
+use Rattle.mk_laws.proofs.Vocabulary.{is_scanned, is_some, marker_behind, marker_of, may_turn_black, no_bit}
 use Rattle.mk_laws.proofs.Vocabulary.{none_attends, not, not-true, or_cases, page_at_address, phase_of, refl, scan_page}
 use Rattle.mk_laws.proofs.Vocabulary.{slice_index, slice_set, subst, suc, sym, true, true≢false, word_points_well}
-use Rattle.mk_laws.proofs.Vocabulary.{words_under, zero, ◌&&◌, ◌*◌, ◌+◌, ◌/◌, ◌<◌, ◌==◌, ◌^◌, ◌||◌, ◌∙◌, ◌≡◌, ◌≢◌, ◌≤◌}
-use Rattle.mk_laws.proofs.Vocabulary.{◌⊎◌}
+use Rattle.mk_laws.proofs.Vocabulary.{words_under, zero, ◌&&◌, ◌*◌, ◌+◌, ◌/◌, ◌<◌, ◌==◌, ◌^◌, ◌∙◌, ◌≡◌, ◌≢◌, ◌≤◌, ◌⊎◌}
 use Rattle.mk_core.proofs.WordBits.{bit_for_has, bit_of_cell, bit_of_power, bits_added, more_bits}
 use Rattle.mk_core.proofs.PointedPages.{cell_within}
 use Rattle.mk_core.specs.{Accesses.scan_bit, Cells.words_point_well, MarkerConditions.is_markers_word}
@@ -171,17 +170,13 @@ mblack_kind c m _ known keeps new h g = let kind = h.kind in cc
 
 -- `undirty`: in the stop, nothing that is black has a word other than 0 there
 
-stop_wanted : (m : Moment) → IsMarking m.words → ((phase_of m.words == 0) || (phase_of m.words == 2)) ≡ true
-    → is_phase m.words 2 ≡ true
-stop_wanted m early h = grind (arith, either_phase, eq-eqb)
-
 pub record Undirties (m : Moment) (q : ℕ) : Type 0 where
   pub none : none_attends m.seats.markers ≡ true
   pub head : slice_index m.words.blacks (head_page m.words q) ≡ 0
 
 pub undirties : (c : Config) (m : Moment) (seat : Seat) (q : ℕ) → IsMarking m.words → Meets c m seat (Step.Undirty q)
     → Undirties m q
-undirties c m seat q early h = grind (arith, stop_wanted, and_parts, eqb-true)
+undirties c m seat q early h = grind (arith, and_parts, eqb-true, either_phase, eq-eqb)
 
 pub undirty_kind : (c : Config) (w : World) (seat : Seat) (q : ℕ) → AreOfPages c.pages w.now.words
     → IsMarking w.now.words → GuardPremises c w → Meets c w.now seat (Step.Undirty q)

@@ -1,13 +1,12 @@
 -- From `close` to `release` the marks stay closed: nothing changes but words that are wiped.
 use Rattle.std.proofs.{Common.bit_and, lemmas.Nat.Bits.bit_at_and, lemmas.Nat.Bits.bit_at_ones}
 use Rattle.std.specs.List.{list_all}
-use Rattle.mk_laws.proofs.Vocabulary.{AreOfPages, BlackIsGuarded, Caller, CellsAreClosed, Config, DirtyIsOwed, Flight}
-use Rattle.mk_laws.proofs.Vocabulary.{Group, Host, IsGuarded, Marker, Moment, Named, PageIsDirty, PointsWell, Seat}
-use Rattle.mk_laws.proofs.Vocabulary.{Stage, Step, Tally, Word, Words, ℕ, accessed, all_below, all_below-at, and_parts}
-use Rattle.mk_laws.proofs.Vocabulary.{ap, arith, at_rest, cases_eq, cases_lt, cells_under, eq-eqb, eqb-true, false}
-use Rattle.mk_laws.proofs.Vocabulary.{fewer_bits, first_word, flight_of, get_or_past, group_of, has_bit}
-use Rattle.mk_laws.proofs.Vocabulary.{has_closed_page, header_at, header_in, holder_number, inl, inr, is_open_to}
-use Rattle.mk_laws.proofs.Vocabulary.{ltb-true, or_cases, phase_of, points_well, refl, reg_access, roots_point_well}
+use Rattle.mk_laws.proofs.Vocabulary.{AreOfPages, BlackIsGuarded, Caller, CellsAreClosed, Config, DirtyIsOwed, Host}
+use Rattle.mk_laws.proofs.Vocabulary.{IsGuarded, Marker, Moment, PageIsDirty, PointsWell, Seat, Stage, Step, Words, ℕ}
+use Rattle.mk_laws.proofs.Vocabulary.{all_below, all_below-at, and_parts, ap, arith, at_rest, cases_eq, cases_lt}
+use Rattle.mk_laws.proofs.Vocabulary.{cells_under, eq-eqb, eqb-true, false, fewer_bits, first_word, flight_of}
+use Rattle.mk_laws.proofs.Vocabulary.{get_or_past, has_bit, has_closed_page, header_at, header_in, holder_number, inl}
+use Rattle.mk_laws.proofs.Vocabulary.{inr, ltb-true, or_cases, phase_of, points_well, refl, roots_point_well}
 use Rattle.mk_laws.proofs.Vocabulary.{slice_index, subst, sym, true, true≢false, without, word_points_well, ◌/◌, ◌<◌}
 use Rattle.mk_laws.proofs.Vocabulary.{◌==◌, ◌||◌, ◌∙◌, ◌≡◌, ◌⊎◌}
 use Rattle.mk_core.{proofs.ListTests.list_all-at, proofs.MarkTests.null_points_well}
@@ -16,7 +15,7 @@ use Rattle.mk_laws.proofs.Basics.{Behind, InCall, Known, Meets, Table, at_its_st
 use Rattle.mk_laws.proofs.Basics.{headers_kind, is_astray, is_call_stage, is_head, not_astray, others_held, reg_table}
 use Rattle.mk_laws.proofs.Basics.{shows_at, standing, standing_at, tally_table, view_of, wells_from}
 use Rattle.mk_laws.proofs.{Changes.at_owed, Changes.wiped, IdleMarkers.work_attends, NextSteps.has_stage_of_its_own}
-use Rattle.mk_laws.proofs.{NextSteps.stage_of, Stages.is_reg_stage, Wells.bare_word_well, Wells.is_well, Wells.well_is}
+use Rattle.mk_laws.proofs.{NextSteps.stage_of, Wells.bare_word_well, Wells.is_well, Wells.well_is}
 
 -- what leaves closed marks closed
 pub record LeavesClosed (w v : Words) : Type 0 where
@@ -49,27 +48,16 @@ no_call : (c : Config) (m : Moment) (k : ℕ) → Known c m → phase_of m.words
     → is_call_stage (flight_of m (Caller k)).stage ≡ true → ⊥
 no_call c m k known three lt at = grind (arith, shows_at, view_of, calls_stand, not_astray)
 
-of_callers : (x : Step) → has_stage_of_its_own x ≡ true → group_of x ≡ Group.Callers
-of_callers Step.Leave own = refl
-of_callers _ own = cc
-
 no_step : (c : Config) (m : Moment) (seat : Seat) (x : Step) → Known c m → phase_of m.words ≡ 3 → Meets c m seat x
     → has_stage_of_its_own x ≡ true → is_call_stage (stage_of x) ≡ true → ⊥
 no_step c m (Caller k) x known three h own at =
     no_call c m k known three (ltb-true k c.callers h.seat) (subst (λ (s : Stage). is_call_stage s ≡ true)
     (sym (at_its_stage _ _ x own h.order)) at)
-no_step c m seat x known three h own at =
-    true≢false (sym (ap (λ (g : Group). is_open_to seat g) (sym (of_callers x own)) ∙ h.kind))
-
--- `reg` only loads
-load_alone : (w : Words) (k r : ℕ) (f : Flight) (s : Stage) → is_reg_stage s ≡ true → is_call_stage s ≡ false
-    → (accessed w (Named (Word.Reg k r)) (reg_access f s)).registers ≡ w.registers
-load_alone w k r f Stage.LoadP reg out = refl
-load_alone w k r f _ reg out = cc
+no_step c m seat x known three h own at = grind arith
 
 reg_still : (c : Config) (m : Moment) (seat : Seat) → Known c m → phase_of m.words ≡ 3 → Meets c m seat Step.Reg
     → (Behind c m seat Step.Reg).words.registers ≡ m.words.registers
-reg_still c m (Caller k) known three h = grind (arith, is_call_stage, no_call, ltb-true, load_alone, at_reg)
+reg_still c m (Caller k) known three h = grind (arith, is_call_stage, no_call, ltb-true, at_reg)
 reg_still c m _ known three h = let kind = h.kind in cc
 
 registers_still : (c : Config) (m : Moment) (seat : Seat) (x : Step) → Known c m → phase_of m.words ≡ 3
@@ -79,31 +67,17 @@ registers_still c m seat x3 known three h = grind (arith, tally_leaves_registers
 
 globals_still : (c : Config) (m : Moment) (seat : Seat) (x : Step) → Known c m → phase_of m.words ≡ 3 → Meets c m seat x
     → (Behind c m seat x).words.globals ≡ m.words.globals
-globals_still c m seat Step.Reg known three h = ap (λ (t : Table). t.globals) (reg_table c m seat)
-globals_still c m seat (Step.Tally n v) known three h = ap (λ (t : Table). t.globals) (tally_table m.words n v)
-globals_still c m seat Step.Setg known three h = absurd (no_step c m seat Step.Setg known three h refl refl)
-globals_still c m seat _ known three h = refl
+globals_still c m seat x4 known three h = grind (arith, reg_table, tally_table, no_step)
 
 heap_still : (c : Config) (m : Moment) (seat : Seat) (x : Step) → Known c m → phase_of m.words ≡ 3 → Meets c m seat x
     → (n : ℕ) → (slice_index (Behind c m seat x).words.heap n ≡ slice_index m.words.heap n)
     ⊎ (slice_index (Behind c m seat x).words.heap n ≡ 0)
-heap_still c m seat Step.Reg known three h n = inl (ap (λ (t : Table). slice_index t.heap n) (reg_table c m seat))
-heap_still c m seat (Step.Tally t v) known three h n =
-    inl (ap (λ (t : Table). slice_index t.heap n) (tally_table m.words t v))
-heap_still c m seat Step.Write known three h n = absurd (no_step c m seat Step.Write known three h refl refl)
-heap_still c m seat Step.Cas known three h n = absurd (no_step c m seat Step.Cas known three h refl refl)
-heap_still c m seat (Step.Wipe i) known three h n = wiped m.words.heap i n
-heap_still c m seat _ known three h n = inl refl
-
--- marks: no marker attends
-no_mark : (c : Config) (m : Moment) (seat : Seat) → Known c m → phase_of m.words ≡ 3 → Meets c m seat Step.Mmark → ⊥
-no_mark c m (Marker k) known three h = grind (arith, work_attends)
-no_mark c m _ known three h = true≢false (sym h.kind)
+heap_still c m seat x4 known three h n = grind (arith, reg_table, tally_table, no_step, wiped)
 
 marks_still : (c : Config) (m : Moment) (seat : Seat) (x : Step) → Known c m → phase_of m.words ≡ 3 → Meets c m seat x
     → (Behind c m seat x).words.marks ≡ m.words.marks
 marks_still c m seat Step.Reg known three h = ap (λ (t : Table). t.marks) (reg_table c m seat)
-marks_still c m seat x3 known three h = grind (arith, tally_table, eqb-true, either_phase, no_mark)
+marks_still c m seat x3 known three h = grind (arith, tally_table, eqb-true, either_phase, work_attends)
 
 -- no header is stored
 no_head : (n : ℕ) → n ≡ 3 → ((n == 0) || (n == 1) || (n == 4)) ≡ true → ⊥

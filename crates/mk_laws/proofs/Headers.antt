@@ -20,9 +20,6 @@ pub data HeadFinds (pages : ℕ) (w : Words) (p header : ℕ) : Type 0 where
 pub free_shows : (pages v : ℕ) (y : Cell) → cell_at pages 0 v ≡ Some y → ⊥
 free_shows pages v y is = grind (arith, none-some)
 
-from_free : (pages n : ℕ) → HeaderGoesOn pages 0 n
-from_free pages n = grind (arith, free_shows)
-
 pub record HeadKeeps (c : Config) (m n : Moment) : Type 0 where
   pub some : (p : ℕ) → header_at m.words p ≢ 0 → header_at n.words p ≢ 0
   pub wells : (value : ℕ) → IsWell c m.words value → IsWell c n.words value
@@ -69,7 +66,7 @@ head_keeps c m seat p n len h finds = record {
     filled (Unmapped some on back still) not_free z = some z
 
     goes : HeadFinds c.pages m.words p n → HeaderGoesOn c.pages (header_at m.words p) n
-    goes (Carved free marked bare) = subst (λ a. HeaderGoesOn c.pages a n) (sym free) (from_free c.pages n)
+    goes (Carved free marked bare) = grind (arith, free_shows)
     goes (Unmapped some on back still) = on
 
     well : HeadFinds c.pages m.words p n → (v : ℕ) → page_at_address v ≡ p → IsWell c m.words v → (y : Cell)

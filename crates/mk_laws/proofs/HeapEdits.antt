@@ -1,6 +1,6 @@
 -- What a store, a free and a New leave of the heap that never reuses storage, and of the list of allocations.
 use Rattle.std.proofs.{Common.length-append, Math.ListN.get_or-map as get_or-map-default, lemmas.List.get_or_at}
-use Rattle.mk_laws.proofs.Vocabulary.{IsMet, IsSound, Kind, List, NeverAllocation, NeverState, Null, Num, Number}
+use Rattle.mk_laws.proofs.Vocabulary.{IsMet, IsSound, Kind, List, NeverAllocation, NeverState, Null, Number}
 use Rattle.mk_laws.proofs.Vocabulary.{PlacedAllocation, Ptr, Suits, To, Value, ℕ, address_of, allocation_at, and_right}
 use Rattle.mk_laws.proofs.Vocabulary.{ap, arith, bases_of, cases_lt, false, get_or, get_or-set_other, get_or-set_same}
 use Rattle.mk_laws.proofs.Vocabulary.{get_or_append_left, get_or_past, image_of, inl, inr, is_large, is_unmapped}
@@ -70,10 +70,7 @@ image_grown n xs y v e s = rw (map-append (λ (x : PlacedAllocation). x.base) xs
 pub suits_grown : (n : NeverState) (xs : List PlacedAllocation) (y : PlacedAllocation) (v : Value) (kind : Kind)
     → length xs ≡ length n.allocations → Suits n v kind
     → image_of (bases_of (xs ++ y ∷ [])) v ≡ image_of (bases_of xs) v
-suits_grown n xs y (Num m) Number e s = refl
-suits_grown n xs y Null Number e s = refl
-suits_grown n xs y (Ptr a t o) Number e s = absurd s
-suits_grown n xs y v (To t o) e s = image_grown n xs y v e s.0
+suits_grown n xs y v x5 e s = grind (arith, image_grown)
 
 pub new_image : (xs : List PlacedAllocation) (y : PlacedAllocation) (m ty : ℕ) → length xs ≡ m
     → image_of (bases_of (xs ++ y ∷ [])) (Ptr m ty 0) ≡ address_of y.base

@@ -1,17 +1,12 @@
 -- A caller whose gate is held is between calls.
-use Rattle.mk_laws.proofs.Vocabulary.{Bool, Config, Op, Stage, ℕ, arith, at_rest, cases_lt, get_or_past, inl, inr, refl}
-use Rattle.mk_laws.proofs.Vocabulary.{sym, true, ◌<◌, ◌≡◌, ◌≢◌}
+use Rattle.mk_laws.proofs.Vocabulary.{Config, Op, Stage, ℕ, arith, at_rest, cases_lt, get_or_past, inl, inr, refl, sym}
+use Rattle.mk_laws.proofs.Vocabulary.{◌<◌, ◌≡◌, ◌≢◌}
 use Rattle.mk_laws.proofs.Basics.{Orderly, View, flight_in, gate_in, standing_at}
-use Rattle.mk_laws.proofs.Standings.{Astray, Resting, Shows, Standing, standing_in}
-use Rattle.mk_laws.specs.Protocol.{has_stage}
-
-never_rests : (b u : Bool) → standing_in b u ≡ Resting → ⊥
-never_rests true true h = cc
-never_rests _ _ h = cc
+use Rattle.mk_laws.proofs.Standings.{Astray, Resting, Shows, Standing}
 
 pub resting_idle : (o : Op) (s : Stage) → standing_at s o ≡ Resting → s ≡ Stage.Idle
 resting_idle o Stage.Idle h = refl
-resting_idle o s h = absurd (never_rests (has_stage o s) _ h)
+resting_idle o s h = grind arith
 
 held_resting : (t k : ℕ) (s : Standing) (g : ℕ) → g ≡ 2 → Shows t g k s → s ≡ Resting
 held_resting t k Resting g e h = refl

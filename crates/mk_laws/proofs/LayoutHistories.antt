@@ -2,16 +2,15 @@
 use Rattle.std.proofs.Common.{IsSome}
 use Rattle.mk_laws.proofs.Vocabulary.{AreOfPages, Bool, Config, Empties, Event, Flight, HasQuarantine, Header, HeadStep}
 use Rattle.mk_laws.proofs.Vocabulary.{IsClaimedRun, IsEnabled, IsHeaderWord, IsQuarantined, IsWithinLimits, ItCarves}
-use Rattle.mk_laws.proofs.Vocabulary.{ItDrops, ItEmpties, ItFrees, ItTakesSnapshot, ItUnmaps, Later, LayoutPremises}
-use Rattle.mk_laws.proofs.Vocabulary.{LayoutPremisesFrom, LayoutStands, List, Object, OfBlock, Option, Page}
-use Rattle.mk_laws.proofs.Vocabulary.{QuarantineStep, Seat, ShowsPart, Some, StandsInOrder, Step, World, ℕ, and_parts}
-use Rattle.mk_laws.proofs.Vocabulary.{ap, arith, cases_Bool, cases_eq, cells_under, claims_of, enabled_meets, false}
-use Rattle.mk_laws.proofs.Vocabulary.{first_world, flight_of, ground_of, has_bit, has_bit_without, head_page_under}
-use Rattle.mk_laws.proofs.Vocabulary.{head_step, header_in, header_made, header_of, header_on, histories_keep_lengths}
-use Rattle.mk_laws.proofs.Vocabulary.{inl, inr, is_phase, left, length, ltb-true, made_shows, object_made, object_now}
-use Rattle.mk_laws.proofs.Vocabulary.{pages_made, placed_now, quarantine_step, refl, seat_exists, shows_on, slice_index}
-use Rattle.mk_laws.proofs.Vocabulary.{slice_set, sym, true, true≢false, unmapped_header, world_behind, ◌%◌, ◌-◌, ◌/◌}
-use Rattle.mk_laws.proofs.Vocabulary.{◌<◌, ◌^◌, ◌∙◌, ◌≡◌}
+use Rattle.mk_laws.proofs.Vocabulary.{ItEmpties, ItUnmaps, Later, LayoutPremises, LayoutPremisesFrom, LayoutStands}
+use Rattle.mk_laws.proofs.Vocabulary.{List, Object, OfBlock, Option, Page, QuarantineStep, Seat, ShowsPart, Some}
+use Rattle.mk_laws.proofs.Vocabulary.{StandsInOrder, Step, World, ℕ, and_parts, ap, arith, cases_Bool, cases_eq}
+use Rattle.mk_laws.proofs.Vocabulary.{cells_under, claims_of, enabled_meets, false, first_world, flight_of, ground_of}
+use Rattle.mk_laws.proofs.Vocabulary.{has_bit, has_bit_without, head_page_under, head_step, header_in, header_made}
+use Rattle.mk_laws.proofs.Vocabulary.{header_of, header_on, histories_keep_lengths, inl, inr, is_phase, left, length}
+use Rattle.mk_laws.proofs.Vocabulary.{ltb-true, made_shows, object_made, object_now, pages_made, placed_now}
+use Rattle.mk_laws.proofs.Vocabulary.{quarantine_step, refl, seat_exists, shows_on, slice_index, slice_set, sym, true}
+use Rattle.mk_laws.proofs.Vocabulary.{true≢false, unmapped_header, world_behind, ◌%◌, ◌-◌, ◌<◌, ◌^◌, ◌∙◌, ◌≡◌}
 use Rattle.mk_core.proofs.{EvaluatedHistories.enabled, ObjectHeaders.unmapped_shows}
 use Rattle.mk_laws.proofs.Basics.{Before, Known, Meets, WorldBehind, at_first, bit_cases, headed_other}
 use Rattle.mk_laws.proofs.Basics.{is_releasing_behind, known_left, made_sized, none_set, own_claim, page_within}
@@ -59,16 +58,7 @@ head_kind c w f p n lt four (ItEmpties on x) known = emptied w p n lt x known
 quar_kind : (c : Config) (w : World) (f : Flight) (p n : ℕ) → p < length w.now.words.freed
     → is_phase w.now.words 4 ≡ true → QuarantineStep c w.now f p n → FreedCellsAreKnown w
     → KnownOn w.now.words.pages (slice_set w.now.words.freed p (n % 2 ^ 32))
-quar_kind c w f p n lf four (ItFrees off x) known = absurd (true≢false (sym four ∙ off))
-quar_kind c w f p n lf four (ItTakesSnapshot x) known =
-    absurd (true≢false (sym four ∙ off_at w 0 x.phase (λ e. absurd (omega arith))))
-quar_kind c w f p n lf four (ItDrops on x) known = λ q k h. elim (bit_cases w.now.words.freed p (n % 2 ^ 32) q k lf) [
-  | inr other ↦ known q k (sym other.1 ∙ h)
-  | inl here ↦
-      let bit = ap (λ v. has_bit v k) (sym x.is) ∙ sym here.1 ∙ h in
-      let was = (and_parts _ _ (sym (has_bit_without _ (slice_index w.now.words.snapshot p - n / 2 ^ 32) k) ∙ bit)).0 in
-      known q k (rw here.0 was)
-]
+quar_kind c w f p n lf four x8 known = grind (arith, off_at, bit_cases, and_parts, has_bit_without)
 
 -- what each kind does while the phase is releasing, and where it becomes so
 known_by_kind : (c : Config) (w : World) (seat : Seat) (x : Step) → Before c w → Meets c w.now seat x
@@ -124,14 +114,8 @@ words_behind c w seat (Step.Head p n) b h laid words = λ q. elim (cases_eq q p)
 ]
 words_behind c w seat x3 b h laid words = grind (arith, used_header, page_within, reg_leaves_ground, tally_ground)
 
-laid_at_first : (c : Config) → LayoutStands c (first_world c)
-laid_at_first c = grind (arith, none_set, at_first)
-
-quarantined_at_first : (c : Config) → IsQuarantined c (first_world c)
-quarantined_at_first c = grind (arith, none_set, at_first)
-
 pub in_order_at_first : (c : Config) → StandsInOrder c (first_world c)
-in_order_at_first c = grind (arith, laid_at_first, quarantined_at_first, none_set, at_first, count_none)
+in_order_at_first c = grind (arith, none_set, at_first, count_none)
 
 pub known_before : (c : Config) (w : World) → IsWithinLimits c → AreOfPages c.pages w.now.words → Known c w.now
     → LayoutPremises c w → IsQuarantined c w → Before c w

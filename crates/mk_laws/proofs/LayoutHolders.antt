@@ -1,19 +1,13 @@
 -- Who serves: the holder of the turn, its object, and how far it is.
-use Rattle.mk_laws.proofs.Vocabulary.{Caller, Config, Group, IsSized, IsWithinLimits, Moment, None, Object, Op}
-use Rattle.mk_laws.proofs.Vocabulary.{RunPages, Seat, Some, Stage, Step, ap, arith, false, flight_of, group_of}
-use Rattle.mk_laws.proofs.Vocabulary.{has_operands, has_place, header_made, is_decided_free_at, is_free_at, is_of_turn}
+use Rattle.mk_laws.proofs.Vocabulary.{Caller, Config, IsSized, IsWithinLimits, Moment, None, Object, RunPages, Seat}
+use Rattle.mk_laws.proofs.Vocabulary.{Some, Stage, Step, arith, flight_of, has_operands, has_place, header_made}
 use Rattle.mk_laws.proofs.Vocabulary.{is_undecided_free, is_undecided_new, ltb-true, made_shows, object_made}
-use Rattle.mk_laws.proofs.Vocabulary.{object_now, pages_some, part_not_free, refl, seat_exists, sym, true, true≢false}
-use Rattle.mk_laws.proofs.Vocabulary.{◌-◌, ◌∙◌, ◌≡◌, ◌≢◌}
+use Rattle.mk_laws.proofs.Vocabulary.{object_now, pages_some, part_not_free, refl, seat_exists, sym, true, ◌-◌, ◌∙◌}
+use Rattle.mk_laws.proofs.Vocabulary.{◌≡◌, ◌≢◌}
 use Rattle.mk_core.proofs.GrantedAllocations.{new_sized}
 use Rattle.mk_laws.proofs.Actors.{Actor, AsHolder, AsMarker, InCallOf, Meets, is_holders}
+use Rattle.mk_laws.proofs.Views.{HoldsTurn, flight_is, view_of}
 use Rattle.mk_laws.proofs.{Known.Known, Orderly.holders_flight, OrderlyLists.actor_of, Stages.new_stands}
-use Rattle.mk_laws.proofs.{Standings.UnderTurn, Standings.standing_at, Views.HoldsTurn, Views.flight_is, Views.view_of}
-
--- A seat with an undecided New or Free holds the turn.
-free_stands : (s : Stage) (o : Op) → is_free_at s o ≡ true → standing_at s o ≡ UnderTurn
-free_stands Stage.Turn (Op.Free p) h = refl
-free_stands _ _ h = cc
 
 pub new_has_turn : (c : Config) (m : Moment) (seat : Seat) → seat_exists c seat ≡ true
     → is_undecided_new (flight_of m seat) ≡ true → HoldsTurn c (view_of m) seat
@@ -22,25 +16,15 @@ new_has_turn c m _ there u = cc
 
 pub free_has_turn : (c : Config) (m : Moment) (seat : Seat) → seat_exists c seat ≡ true
     → is_undecided_free (flight_of m seat) ≡ true → HoldsTurn c (view_of m) seat
-free_has_turn c m (Caller k) there u = (ltb-true k c.callers there, free_stands _ _ u)
+free_has_turn c m (Caller k) there u = grind (arith, ltb-true)
 free_has_turn c m _ there u = cc
 
 -- So does a seat whose step is of a holder's kind.
 
-calls_kind : (x : Step) → group_of x ≡ Group.Callers → is_holders x ≡ false
-calls_kind (Step.Take o) g = cc
-calls_kind Step.Over g = cc
-calls_kind x g = ap is_of_turn g
-
-markers_kind : (x : Step) → group_of x ≡ Group.Markers → is_holders x ≡ false
-markers_kind (Step.Take o) g = cc
-markers_kind Step.Over g = cc
-markers_kind x g = ap is_of_turn g
-
 pub acts_as_holder : (c : Config) (m : Moment) (seat : Seat) (x : Step) → Actor c m seat x → is_holders x ≡ true
     → HoldsTurn c (view_of m) seat
-acts_as_holder c m seat x (InCallOf k _ lt g) is = absurd (true≢false (sym is ∙ calls_kind x g))
-acts_as_holder c m seat x (AsMarker k _ lt g) is = absurd (true≢false (sym is ∙ markers_kind x g))
+acts_as_holder c m seat x (InCallOf k _ lt g) is = grind arith
+acts_as_holder c m seat x (AsMarker k _ lt g) is = grind arith
 acts_as_holder c m seat x (AsHolder _ _ t n) is = t
 acts_as_holder c m seat x _ is = cc
 
@@ -57,14 +41,9 @@ pub holding_object : (c : Config) (m : Moment) (seat : Seat) → Known c m → H
     → object_now c m ≡ object_made c (flight_of m seat).op
 holding_object c m seat known t = rw (holding_flight c m seat known t)
 
--- While it has a run on its way, it has decided a Free, and while it has a place, it hasn't decided its New.
-decided_later : (o : Op) (s : Stage) → s ≡ Stage.Turn → is_decided_free_at s o ≡ true → ⊥
-decided_later o Stage.Turn at h = cc
-decided_later o _ at h = cc
-
 pub no_run : (c : Config) (m : Moment) (seat : Seat) → Known c m → HoldsTurn c (view_of m) seat
     → (flight_of m seat).stage ≡ Stage.Turn → (run : RunPages) → m.seats.holding.freed ≡ Some run → ⊥
-no_run c m seat known t at run is = grind (arith, decided_later, holding_flight)
+no_run c m seat known t at run is = grind (arith, holding_flight)
 
 pub none_on_its_way : (c : Config) (m : Moment) (seat : Seat) → Known c m → HoldsTurn c (view_of m) seat
     → (flight_of m seat).stage ≡ Stage.Turn → m.seats.holding.freed ≡ None

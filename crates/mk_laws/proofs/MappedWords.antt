@@ -2,22 +2,19 @@
 use Rattle.mk_laws.proofs.Vocabulary.{Bool, Config, HasItsHeaders, IsWithinLimits, IsWordOfMapped, LeavesPlaces, List}
 use Rattle.mk_laws.proofs.Vocabulary.{PlacedAllocation, StandsOnHeap, Words, ℕ, and_from, and_parts, ap, arith}
 use Rattle.mk_laws.proofs.Vocabulary.{cases_lt, cell_of_allocation, changed_at, false, fresh_leaves, get_or_past}
-use Rattle.mk_laws.proofs.Vocabulary.{is_large, is_left_unmarked, is_mapped, kinds_of, length, map, no_longer_fresh}
-use Rattle.mk_laws.proofs.Vocabulary.{not, not-true, placed_at, released_leaves, released_where_left, true}
-use Rattle.mk_laws.proofs.Vocabulary.{with_released, [], ◌&&◌, ◌++◌, ◌+◌, ◌<◌, ◌∙◌, ◌∷◌, ◌≡◌}
+use Rattle.mk_laws.proofs.Vocabulary.{is_large, is_left_unmarked, is_mapped, kinds_of, map, no_longer_fresh, not}
+use Rattle.mk_laws.proofs.Vocabulary.{not-true, placed_at, released_leaves, released_where_left, true, with_released}
+use Rattle.mk_laws.proofs.Vocabulary.{[], ◌&&◌, ◌++◌, ◌+◌, ◌∙◌, ◌∷◌, ◌≡◌}
 use Rattle.mk_core.proofs.ChangedAllocations.{earlier_at}
 
 -- A mapped allocation isn't released, so it is there.
 pub mapped_stays : (c : Config) (a : PlacedAllocation) → is_mapped c a ≡ true → a.released ≡ false
 mapped_stays c a h = not-true a.released (and_parts _ _ h).0
 
-mapped_there : (c : Config) (xs : List PlacedAllocation) (i : ℕ) → is_mapped c (placed_at xs i) ≡ true → i < length xs
-mapped_there c xs i h = grind (arith, cases_lt, get_or_past, mapped_stays)
-
 -- with one more at the end
 pub word_of_longer : (c : Config) (xs : List PlacedAllocation) (a : PlacedAllocation) (n : ℕ) → IsWordOfMapped c xs n
     → IsWordOfMapped c (xs ++ a ∷ []) n
-word_of_longer c xs a n m = grind (arith, earlier_at, mapped_there)
+word_of_longer c xs a n m = grind (arith, earlier_at, cases_lt, get_or_past, mapped_stays)
 
 -- An allocation that stays at its place, and mapped, keeps its words.
 pub word_of_changed : (c : Config) (g : PlacedAllocation → PlacedAllocation) (xs : List PlacedAllocation) (n : ℕ)

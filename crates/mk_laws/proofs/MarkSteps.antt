@@ -12,7 +12,7 @@ use Rattle.mk_laws.proofs.Vocabulary.{words_within, zero, ◌%◌, ◌*◌, ◌+
 use Rattle.mk_geom.proofs.PointedCells.{address_points_into}
 use Rattle.mk_core.proofs.WordBits.{bit_of_cell, bit_of_power, more_bits}
 use Rattle.mk_core.proofs.{ChangedAllocations.granted_at, RegisterAccesses.register_is_small, ServingSteps.place_marked}
-use Rattle.mk_core.specs.StopConditions.{is_bit_of, marks_by_hand}
+use Rattle.mk_core.specs.StopConditions.{marks_by_hand}
 use Rattle.mk_laws.proofs.Basics.{Behind, Came, IsNew, Stayed, Table, WorldBehind, reg_table, same_cell, tally_table}
 use Rattle.mk_laws.proofs.Precise.{IsPrecise, PointsOnlyInto, Steps, came_behind, points_before}
 use Rattle.mk_laws.proofs.Worlds.{comes_back, headers, sized, stands}
@@ -93,11 +93,6 @@ marks_same c m seat _ out = cc
 
 -- `mark` by the hand
 
-hand_cell : (cell : Option Cell) (page value k : ℕ) → is_bit_of cell page value ≡ true → has_bit value k ≡ true
-    → cell ≡ Some (record { page = page; index = k })
-hand_cell None page value k h bit = cc
-hand_cell (Some x) page value k h bit = grind (arith, and_parts, eqb-true, bit_of_power)
-
 -- A hand that marks, and doesn't sweep
 record MarksWith (w : Words) (pages : ℕ) (hand : Option Hand) (page value : ℕ) : Type 0 where
   holds : Hand
@@ -110,8 +105,7 @@ hand_marks : (w : Words) (pages : ℕ) (hand : Option Hand) (page value : ℕ)
     → marks_by_hand pages w hand page value ≡ true
     → is_some_and (λ (h : Hand). is_unmarked h.source) hand ≡ false → MarksWith w pages hand page value
 hand_marks w pages None page value h unswept = cc
-hand_marks w pages (Some x) page value h unswept =
-    record { holds = x; there = refl; unswept = unswept; cell = λ k bit. hand_cell _ page value k h bit }
+hand_marks w pages (Some x) page value h unswept = grind (arith, and_parts, eqb-true, bit_of_power)
 
 left_holds : (a b : Bool) → (a || b) ≡ true → b ≡ false → a ≡ true
 left_holds true b h none = refl

@@ -87,13 +87,7 @@ claim_precise c w T y p k marks own m =
 
         marked : (b : Bool) → (if b then Some (scan_begun p k z.header) else None) ≡ Some s
             → HasNoLeaf c (precision_scene_of w) s.page
-        marked false is = absurd (none-some _ is)
-        marked true is =
-            let e : scan_begun p k z.header ≡ s = same_Some _ _ is in
-            let less : (scan_begun p k z.header).next < (scan_begun p k z.header).end =
-            subst (λ (q : Scan). q.next < q.end) (sym e) lt in
-            subst (λ (q : Scan). HasNoLeaf c (precision_scene_of w) q.page) e (rw (eqb-true z.page p parts.0) at
-            (none z refl some (scanned _ refl less)))
+        marked x1 is = grind (arith, none-some, same_Some, precision_scene_of, eqb-true, parts, some, scanned)
 
 -- `mload`: a word of a marked cell that isn't leaf
 loaded_points : (c : Config) (w : World) (n : NeverState) (seat : Seat) (x : Step) (after : NeverState)

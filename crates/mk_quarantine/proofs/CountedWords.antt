@@ -1,12 +1,12 @@
 -- What one event makes of the words that are held, fresh and given back.
 use Rattle.std.proofs.{Common.filter, Common.sum_by, lemmas.List.Sums.sum_by-append, lemmas.List.Sums.sum_by-cons}
 use Rattle.mk_laws.proofs.Vocabulary.{address_of, is_large, is_left_unmarked, kinds_of, map, none_freed, pointed_cell}
-use Rattle.mk_quarantine.proofs.Vocabulary.{Bool, Cell, Config, Event, List, None, Option, PlacedAllocation, Seat, Some}
-use Rattle.mk_quarantine.proofs.Vocabulary.{Step, World, WorldBehind, ℕ, arith, decides_freed, false, first_world}
-use Rattle.mk_quarantine.proofs.Vocabulary.{flight_of, freed_where_it_stands, fresh_words_of, given_back}
-use Rattle.mk_quarantine.proofs.Vocabulary.{given_back_behind, held_by_allocations, if◌then◌else◌, is_begin, is_release}
-use Rattle.mk_quarantine.proofs.Vocabulary.{is_some, is_some_and, left, not, refl, storage_words, true, true≢false}
-use Rattle.mk_quarantine.proofs.Vocabulary.{with_released, world_behind, [], ◌&&◌, ◌*◌, ◌++◌, ◌+◌, ◌||◌, ◌∷◌, ◌≡◌, ◌≤◌}
+use Rattle.mk_quarantine.proofs.Vocabulary.{Bool, Cell, Config, Event, List, Option, PlacedAllocation, Seat, Step}
+use Rattle.mk_quarantine.proofs.Vocabulary.{World, WorldBehind, ℕ, arith, decides_freed, false, first_world, flight_of}
+use Rattle.mk_quarantine.proofs.Vocabulary.{freed_where_it_stands, fresh_words_of, given_back, given_back_behind}
+use Rattle.mk_quarantine.proofs.Vocabulary.{held_by_allocations, if◌then◌else◌, is_begin, is_release, is_some}
+use Rattle.mk_quarantine.proofs.Vocabulary.{is_some_and, left, not, refl, storage_words, true, with_released}
+use Rattle.mk_quarantine.proofs.Vocabulary.{world_behind, [], ◌&&◌, ◌*◌, ◌++◌, ◌+◌, ◌||◌, ◌∷◌, ◌≡◌, ◌≤◌}
 use Rattle.mk_core.specs.History.{left_from}
 use Rattle.mk_laws.proofs.FreshWords.{fresh_part, fresh_pushed, fresh_sum, none_fresh, sum_filtered}
 use Rattle.mk_objects.proofs.HeldFreed.{held_part, held_sum}
@@ -79,16 +79,7 @@ module _ (c : Config) (w : World) where
       omega (arith, one, behind, sum_by-cons (fresh_part c) a xs, sums_stale xs)
 
   fresh_released : fresh_words_of c (map released w.allocations) ≤ fresh_words_of c w.allocations
-  fresh_released = omega (
-    arith,
-    sums_stale w.allocations,
-    fresh_sum c (map released w.allocations),
-    fresh_sum c w.allocations,
-  )
-
-held_pushed : (c : Config) (xs : List PlacedAllocation) (a : PlacedAllocation)
-    → held_by_allocations c xs ≤ held_by_allocations c (xs ++ a ∷ [])
-held_pushed c xs a = omega (arith, held_sum c xs, held_sum c (xs ++ a ∷ []), sum_by-append (held_part c) xs (a ∷ []))
+  fresh_released = search (sums_stale, fresh_sum, released)
 
 -- A quarter, where n words were given back.
 abbrev pub IsQuarter : Config → World → ℕ → Type 0
@@ -97,14 +88,13 @@ IsQuarter c w n = 4 * fresh_words_of c w.allocations ≤ held_by_allocations c w
 -- what a `quar` frees, if it doesn't decide a Free
 frees_none : (c : Config) (w : World) (cell : Option Cell) → is_some cell ≡ false
     → map (freed_where_it_stands w.now.words cell) w.allocations ≡ w.allocations
-frees_none c w None none = none_freed w.now.words w.allocations
-frees_none c w (Some cell) none = absurd (true≢false none)
+frees_none c w x3 none = grind (arith, none_freed)
 
 -- An event that frees nothing leaves it a quarter.
 pub quarter_stays : (c : Config) (w : World) (seat : Seat) (x : Step) (n : ℕ)
     → decides_freed c w.now (flight_of w.now seat) x ≡ false → IsQuarter c w n
     → IsQuarter c (WorldBehind c w seat x) (given_back_behind c w x n)
-quarter_stays c w seat Step.Grant n none quarter = grind (arith, held_pushed, fresh_pushed)
+quarter_stays c w seat Step.Grant n none quarter = grind (arith, fresh_pushed, held_sum, sum_by-append, held_part)
 quarter_stays c w seat (Step.Quar p v) n none quarter = grind (arith, frees_none)
 quarter_stays c w seat Step.Begin n none quarter = let fresh = none_fresh c w.allocations in omega arith
 quarter_stays c w seat Step.Release n none quarter = omega (arith, held_released c w, fresh_released c w)
@@ -113,8 +103,7 @@ quarter_stays c w seat _ n none quarter = quarter
 -- After a `begin` nothing is fresh,
 pub none_fresh_begun : (c : Config) (w : World) (seat : Seat) (x : Step) → is_begin x ≡ true
     → fresh_words_of c (WorldBehind c w seat x).allocations ≡ 0
-none_fresh_begun c w seat Step.Begin is = none_fresh c w.allocations
-none_fresh_begun c w seat _ is = cc
+none_fresh_begun c w seat x4 is = grind (arith, none_fresh)
 
 -- and so it stays where nothing is freed.
 pub none_fresh_stays : (c : Config) (w : World) (seat : Seat) (x : Step)
@@ -145,6 +134,4 @@ none_given c = refl
 
 -- Only a `release` gives back.
 pub given_at : (c : Config) (w : World) (x : Step) → is_release x ≡ false → given_back_behind c w x 0 ≡ 0
-given_at c w Step.Begin none = refl
-given_at c w Step.Release none = cc
-given_at c w _ none = refl
+given_at c w x3 none = grind arith

@@ -26,12 +26,10 @@ Rests p = (p ≡ 0) ⊎ (p ≡ 5)
 
 rest_step : (x : Step) (p : ℕ) → AsksPhase x p → Rests p → is_begin x ≡ false
     → Rests (phase_behind x p) × (is_release x ≡ false)
-rest_step Step.Begin p asks rests none = cc
 rest_step x p asks rests none = grind arith
 
 end_is : (x : Step) → is_end x ≡ true → x ≡ Step.End
-end_is Step.End is = refl
-end_is _ is = cc
+end_is x1 is = grind arith
 
 released_no_more : (c : Config) (es : List Event) (end : Event) (more : List Event) → IsHistory c (es ++ end ∷ more)
     → is_end end.step ≡ true → Lacks is_begin more → Lacks is_release more
@@ -58,9 +56,8 @@ others_behind seats (x ∷ xs) e ys others = others_behind seats xs e ys others.
 
 is_for : (o : Op) → is_under_turn o ≡ true → (c : Config) (s : Seat) (es : List Event) (t : TurnOf c s es)
     → CallIsExact false t (Some o) → RunsOneCycle t.behind
-is_for (Op.New d ty full) under c s es t exact = exact.one
 is_for (Op.Free p) under c s es t exact = exact.one refl
-is_for _ under c s es t exact = cc
+is_for x0 under c s es t exact = grind arith
 
 runs_one : (c : Config) (k : ℕ) (es : List Event) → IsHistory c es → (ends : EndsExactly false c (Caller k) es)
     → RunsOneCycle ends.turn.behind

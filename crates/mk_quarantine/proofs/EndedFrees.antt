@@ -1,13 +1,13 @@
 -- A Free that has freed its object, and whose turn was given back: what that turn did.
 use Rattle.mk_laws.proofs.Vocabulary.{undecided_free}
 use Rattle.mk_alloc.proofs.Vocabulary.{FreeIsExact}
-use Rattle.mk_quarantine.proofs.Vocabulary.{Bool, Caller, CallIsExact, Config, EndsExactly, Event, Flight, GivesNone}
-use Rattle.mk_quarantine.proofs.Vocabulary.{Host, IsHistory, List, Marker, Meets, Moment, Next, Op, Option, Seat, Some}
-use Rattle.mk_quarantine.proofs.Vocabulary.{Step, TurnOf, TurnsOfAreExact, ℕ, and-false, ap, append_assoc, arith}
-use Rattle.mk_quarantine.proofs.Vocabulary.{before_it, decides_freed, earlier_part_is_history, false, flight_of}
-use Rattle.mk_quarantine.proofs.Vocabulary.{free_has_turn, is_give, is_undecided_free, known_left, left, list_any}
-use Rattle.mk_quarantine.proofs.Vocabulary.{ltb-true, or_from, own_give, refl, seat_exists, subst, sym, taken, true}
-use Rattle.mk_quarantine.proofs.Vocabulary.{turn_of, view_of, [], ◌++◌, ◌+◌, ◌<◌, ◌∙◌, ◌∷◌, ◌≡◌}
+use Rattle.mk_quarantine.proofs.Vocabulary.{Bool, Caller, CallIsExact, Config, EndsExactly, Event, GivesNone, IsHistory}
+use Rattle.mk_quarantine.proofs.Vocabulary.{List, Meets, Moment, Next, Op, Option, Seat, Some, Step, TurnOf}
+use Rattle.mk_quarantine.proofs.Vocabulary.{TurnsOfAreExact, ℕ, and-false, ap, append_assoc, arith, before_it}
+use Rattle.mk_quarantine.proofs.Vocabulary.{decides_freed, earlier_part_is_history, false, flight_of, free_has_turn}
+use Rattle.mk_quarantine.proofs.Vocabulary.{is_give, is_undecided_free, known_left, left, list_any, ltb-true, or_from}
+use Rattle.mk_quarantine.proofs.Vocabulary.{own_give, seat_exists, subst, sym, taken, true, turn_of, view_of, [], ◌++◌}
+use Rattle.mk_quarantine.proofs.Vocabulary.{◌+◌, ◌<◌, ◌∙◌, ◌∷◌, ◌≡◌}
 use Rattle.mk_alloc.proofs.OwnGives.{gives_append}
 use Rattle.mk_quarantine.proofs.HeldTurns.{IsSameTurn, first_giver, lacks_own, next_of, one_turn, turn_stays_held}
 use Rattle.mk_quarantine.proofs.OpenFrees.{FreesNoneFrom, OpenFree, freer_has_free, open_frees_have_turns}
@@ -32,14 +32,7 @@ pub record EndedFree (on : Bool) (c : Config) (before : List Event) (e : Event) 
   pub none : FreesNoneFrom c (left c (turn.before ++ taken turn ∷ [])) done
 
 pub caller_of : (m : Moment) (s : Seat) → is_undecided_free (flight_of m s) ≡ true → (k : ℕ) × (s ≡ Caller k)
-caller_of m (Caller k) h = (k, refl)
-caller_of m (Marker k) h = cc
-caller_of m Host h = cc
-
-no_give : (c : Config) (m : Moment) (f : Flight) (x : Step) → decides_freed c m f x ≡ true → is_give x ≡ false
-no_give c m f (Step.Quar p v) h = refl
-no_give c m f Step.Give h = cc
-no_give c m f _ h = cc
+caller_of m x2 h = grind arith
 
 -- the turn of an open Free, longer
 module _ (c : Config) (before : List Event) (k : ℕ) (o : OpenFree c before (left c before) k) (e : Event)
@@ -103,7 +96,7 @@ module _ (on : Bool) (c : Config) (es before : List Event) (e : Event) (behind :
         (free_has_turn c (left c before).now (Caller k) exists undecided)
 
     not_given : own_give (Caller k) e ≡ false
-    not_given = grind (arith, no_give, and-false)
+    not_given = grind (arith, and-false)
 
     parts : es ≡ (before ++ e ∷ []) ++ behind
     parts = is ∙ sym (append_assoc before (e ∷ []) behind)
@@ -113,8 +106,7 @@ module _ (on : Bool) (c : Config) (es before : List Event) (e : Event) (behind :
 
     turn_behind : (left c (before ++ e ∷ [])).now.words.turn ≡ 1 + k
     turn_behind =
-        turn_stays_held c before (e ∷ []) k (earlier_part_is_history c (before ++ e ∷ []) behind whole) lt turn_before
-        (or_from (own_give (Caller k) e) false not_given refl)
+        search (turn_stays_held, earlier_part_is_history, whole, lt, turn_before, or_from, own_give, not_given)
 
     -- the next `give` is its own
     given : Next is_give behind

@@ -135,8 +135,7 @@ freed c es e frees = grind (arith, to_longer, freed_or_due)
 
 released_none : (c : Config) (w : World) (seat : Seat) (x : Step) → is_release x ≡ true
     → decides_freed c w.now (flight_of w.now seat) x ≡ false
-released_none c w seat Step.Release is = refl
-released_none c w seat _ is = cc
+released_none c w seat x4 is = grind arith
 
 released : (c : Config) (es : List Event) (e : Event) → IsHistory c es → Meets c (left c es).now e.seat e.step
     → is_release e.step ≡ true → HeldQuarters c (es ++ e ∷ [])
@@ -149,8 +148,7 @@ released c es e h meets is =
       | inl later ↦
           Late (record {
             begin = longer_at (e ∷ []) b.at;
-            last = lacks_append is_begin b.at.behind (e ∷ []) b.none
-                (lacks_one is_begin e (no_begin e.step is));
+            last = grind (arith, lacks_append, lacks_one);
             release = record { before = b.at.behind; event = e; behind = []; is = refl; of_kind = is };
             later = later;
           })
@@ -166,8 +164,7 @@ released c es e h meets is =
     ]
   where
     no_begin : (x : Step) → is_release x ≡ true → is_begin x ≡ false
-    no_begin Step.Release is = refl
-    no_begin _ is = cc
+    no_begin x1 is = grind arith
 
     in_front : {w : World} {ys : List Event} (f : FreesIn c w ys) → Lacks is_give ys → Lacks is_give f.before
     in_front {ys = ys} f none = grind (arith, lacks_first)

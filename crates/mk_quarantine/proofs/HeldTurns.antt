@@ -1,16 +1,15 @@
 -- Turns that are held: the turn word meanwhile, that a turn of a seat is one, and who begins a cycle in one.
 use Rattle.std.proofs.lemmas.List.{append_cancel_left}
 use Rattle.mk_laws.proofs.Vocabulary.{enabled_meets, ◌≢◌}
-use Rattle.mk_quarantine.proofs.Vocabulary.{At, Bool, Caller, Config, Event, GivesNone, HoldsTurn, Host, InFirst}
-use Rattle.mk_quarantine.proofs.Vocabulary.{InSecond, IsHistory, Known, Lacks, List, Marker, Meets, Next, Op, Option}
-use Rattle.mk_quarantine.proofs.Vocabulary.{Seat, Step, TurnOf, World, WorldBehind, ℕ, and-false, and_from, ap}
-use Rattle.mk_quarantine.proofs.Vocabulary.{append-nil, append_assoc, arith, before_it, cases_Bool}
-use Rattle.mk_quarantine.proofs.Vocabulary.{earlier_part_is_history, enabled_in_parts, eq-eqb, false, has_step, inl}
-use Rattle.mk_quarantine.proofs.Vocabulary.{inr, is_begin, is_give, is_same_seat, known_left, lacks_first, left}
-use Rattle.mk_quarantine.proofs.Vocabulary.{left_in_parts, left_more, list_any, list_any-append, ltb-true, ne_eqb}
-use Rattle.mk_quarantine.proofs.Vocabulary.{or_from, or_parts, own_give, refl, reg_leaves, stands, subst, sym, taken}
-use Rattle.mk_quarantine.proofs.Vocabulary.{tally_keeps, true, true≢false, turn_of, view_of, world_behind, [], ⊎_elim}
-use Rattle.mk_quarantine.proofs.Vocabulary.{◌&&◌, ◌++◌, ◌+◌, ◌<◌, ◌∙◌, ◌∷◌, ◌≡◌}
+use Rattle.mk_quarantine.proofs.Vocabulary.{At, Bool, Caller, Config, Event, GivesNone, HoldsTurn, InFirst, InSecond}
+use Rattle.mk_quarantine.proofs.Vocabulary.{IsHistory, Known, Lacks, List, Meets, Next, Op, Option, Seat, Step, TurnOf}
+use Rattle.mk_quarantine.proofs.Vocabulary.{World, WorldBehind, ℕ, and-false, and_from, ap, append-nil, append_assoc}
+use Rattle.mk_quarantine.proofs.Vocabulary.{arith, before_it, cases_Bool, earlier_part_is_history, enabled_in_parts}
+use Rattle.mk_quarantine.proofs.Vocabulary.{eq-eqb, false, has_step, inl, inr, is_begin, is_give, is_same_seat}
+use Rattle.mk_quarantine.proofs.Vocabulary.{known_left, lacks_first, left, left_in_parts, left_more, list_any}
+use Rattle.mk_quarantine.proofs.Vocabulary.{list_any-append, ltb-true, ne_eqb, or_from, or_parts, own_give, refl}
+use Rattle.mk_quarantine.proofs.Vocabulary.{reg_leaves, stands, subst, sym, taken, tally_keeps, true, true≢false}
+use Rattle.mk_quarantine.proofs.Vocabulary.{turn_of, view_of, world_behind, [], ⊎_elim, ◌++◌, ◌+◌, ◌<◌, ◌∙◌, ◌∷◌, ◌≡◌}
 use Rattle.mk_core.specs.History.{AreEnabledFrom, left_from}
 use Rattle.mk_laws.proofs.{Actors.is_holders, Basics.actor_of, Basics.known_behind, CyclePhases.begin_is}
 use Rattle.mk_laws.proofs.{FramesHolders.acts_as_holder, LayoutHolders.giver_has_turn}
@@ -44,11 +43,7 @@ next_of kind (e ∷ es) some = elim (cases_Bool (kind e.step)) [
 -- One event: a turn that is held stays so, unless it is given back.
 turn_kept : (c : Config) (w : World) (seat : Seat) (x : Step) → w.now.words.turn ≢ 0 → is_give x ≡ false
     → (WorldBehind c w seat x).now.words.turn ≡ w.now.words.turn
-turn_kept c w seat (Step.Take o) held none = grind (arith, ne_eqb)
-turn_kept c w seat Step.Give held none = cc
-turn_kept c w seat Step.Reg held none = (reg_leaves c w seat).turn
-turn_kept c w seat (Step.Tally n v) held none = (tally_keeps w.now.words n v).turn
-turn_kept c w seat _ held none = refl
+turn_kept c w seat x4 held none = grind (arith, ne_eqb, reg_leaves, tally_keeps)
 
 -- Whatever seat holds it, it stays held where nobody gives a turn back.
 
@@ -71,15 +66,10 @@ giver_is : (c : Config) (w : World) (seat : Seat) (k : ℕ) → Known c w.now �
 giver_is c w seat k known lt turn meets = by seat (giver_has_turn c w.now seat known meets)
   where
     by : (seat : Seat) → HoldsTurn c (view_of w.now) seat → seat ≡ Caller k
-    by (Caller j) holds =
-        let own : w.now.words.turn ≡ 1 + j = turn_of c (view_of w.now) (Caller j) known.orderly holds in
-        ap Caller (let e : j ≡ k = omega arith in e)
-    by (Marker j) holds = absurd holds
-    by Host holds = let own : w.now.words.turn ≡ 1 + c.callers = holds in absurd (omega arith)
+    by x1 holds = grind (arith, turn_of, view_of)
 
 give_is : (x : Step) → is_give x ≡ true → x ≡ Step.Give
-give_is Step.Give h = refl
-give_is _ h = cc
+give_is x1 h = grind arith
 
 same_caller : (k : ℕ) → is_same_seat (Caller k) (Caller k) ≡ true
 same_caller k = eq-eqb k k refl
@@ -112,8 +102,7 @@ pub lacks_own : (s : Seat) (es : List Event) → Lacks is_give es → GivesNone 
 lacks_own s [] none = refl
 lacks_own s (e ∷ es) none =
     let parts = or_parts (is_give e.step) (has_step is_give es) none in
-    or_from (own_give s e) (list_any (own_give s) es) (ap (λ (b : Bool). is_same_seat s e.seat && b) parts.0 ∙ and-false
-    _) (lacks_own s es parts.1)
+    or_from (own_give s e) (list_any (own_give s) es) (grind (arith, and-false)) (lacks_own s es parts.1)
 
 -- The first `give` is the holder's.
 pub first_giver : (c : Config) (es more : List Event) (k : ℕ) → IsHistory c (es ++ more) → k < c.callers
@@ -207,8 +196,7 @@ begun_under_turn c es b h none =
     omega arith
 
 pub begin_gives_none : (x : Step) → is_begin x ≡ true → is_give x ≡ false
-begin_gives_none Step.Begin is = refl
-begin_gives_none _ is = cc
+begin_gives_none x1 is = grind arith
 
 -- The `begin` stands in a turn that goes on after it, where nobody gave a turn back since.
 pub record BeginsInTurn {c : Config} {k : ℕ} {es : List Event} (t : TurnOf c (Caller k) es) (b : Event)

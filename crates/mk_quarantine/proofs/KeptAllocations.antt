@@ -1,15 +1,14 @@
 -- What is in quarantine where no cycle is on: what was freed since the last `begin`, or what the last cycle kept.
 use Rattle.mk_laws.proofs.Vocabulary.{Words, not-true}
-use Rattle.mk_quarantine.proofs.Vocabulary.{AsksPhase, At, Bool, Cell, Config, Event, IsKeptByLastCycle, KeptByEvents}
-use Rattle.mk_quarantine.proofs.Vocabulary.{Lacks, List, Meets, Next, OfHistories, Option, PlacedAllocation, Seat, Step}
-use Rattle.mk_quarantine.proofs.Vocabulary.{World, WorldBehind, ℕ, and_parts, ap, arith, before_it, cases_Bool}
-use Rattle.mk_quarantine.proofs.Vocabulary.{cases_eq, cases_lt, changed_at, earlier_at, false, first_world, flight_of}
-use Rattle.mk_quarantine.proofs.Vocabulary.{freed_leaves, freed_where_it_stands, get_or_past, granted}
-use Rattle.mk_quarantine.proofs.Vocabulary.{holds_of_histories, inl, inr, is_begin, is_close, is_end, is_quarantined}
-use Rattle.mk_quarantine.proofs.Vocabulary.{is_release, lacks_append, lacks_one, left, left_more, length, length-append}
-use Rattle.mk_quarantine.proofs.Vocabulary.{longer_at, never_granted, not, phase_asked, phase_behind, phase_of}
-use Rattle.mk_quarantine.proofs.Vocabulary.{placed_at, refl, subst, sym, true, true≢false, world_behind, [], ◌&&◌, ◌++◌}
-use Rattle.mk_quarantine.proofs.Vocabulary.{◌||◌, ◌∙◌, ◌∷◌, ◌≡◌, ◌⊎◌}
+use Rattle.mk_quarantine.proofs.Vocabulary.{AsksPhase, At, Cell, Config, Event, IsKeptByLastCycle, KeptByEvents, Lacks}
+use Rattle.mk_quarantine.proofs.Vocabulary.{List, Meets, Next, OfHistories, Option, PlacedAllocation, Seat, Step, World}
+use Rattle.mk_quarantine.proofs.Vocabulary.{WorldBehind, ℕ, and_parts, arith, before_it, cases_Bool, cases_eq, cases_lt}
+use Rattle.mk_quarantine.proofs.Vocabulary.{changed_at, earlier_at, false, first_world, flight_of, freed_leaves}
+use Rattle.mk_quarantine.proofs.Vocabulary.{freed_where_it_stands, get_or_past, granted, holds_of_histories, inl, inr}
+use Rattle.mk_quarantine.proofs.Vocabulary.{is_begin, is_close, is_end, is_quarantined, is_release, lacks_append}
+use Rattle.mk_quarantine.proofs.Vocabulary.{lacks_one, left, left_more, length, length-append, longer_at, never_granted}
+use Rattle.mk_quarantine.proofs.Vocabulary.{not, phase_asked, phase_behind, phase_of, placed_at, refl, subst, sym, true}
+use Rattle.mk_quarantine.proofs.Vocabulary.{true≢false, world_behind, [], ◌++◌, ◌∙◌, ◌∷◌, ◌≡◌, ◌⊎◌}
 use Rattle.mk_core.{proofs.ChangedAllocations.granted_at, specs.History.left_from}
 use Rattle.mk_laws.proofs.{CyclePhases.phase_moves, Longer.longer_next, Longer.next_at_end}
 use Rattle.mk_quarantine.specs.KeptAllocations.{QuarantineIsFreshOrKept}
@@ -102,9 +101,7 @@ stale_granted : (xs : List PlacedAllocation) (a : PlacedAllocation) (i : ℕ) �
 stale_granted xs a i live h = elim (cases_lt i (length xs)) [
   | inl lt ↦ subst IsStale (earlier_at xs a i lt) h
   | inr past ↦ elim (cases_eq i (length xs)) [
-    | inl own ↦
-        absurd (unfreed_not_stale a live
-        (subst IsStale (ap (λ j. placed_at (xs ++ a ∷ []) j) own ∙ granted_at xs a) h))
+    | inl own ↦ grind (arith, unfreed_not_stale, granted_at)
     | inr ne ↦
         absurd (none_stale
         (subst IsStale (get_or_past (xs ++ a ∷ []) i never_granted
@@ -116,24 +113,19 @@ stale_freed : (w : Words) (cell : Option Cell) (a : PlacedAllocation) → IsStal
     → IsStale a
 stale_freed w cell a h = grind arith
 
-stale_released : (freed released more : Bool) → (freed && not (released || more)) ≡ true
-    → (freed && not released) ≡ true
-stale_released freed released more h = grind arith
-
 stale_was : (c : Config) (w : World) (seat : Seat) (x : Step) (i : ℕ) → is_begin x ≡ false
     → IsStale (placed_at (WorldBehind c w seat x).allocations i) → IsStale (placed_at w.allocations i)
 stale_was c w seat Step.Begin i none h = cc
 stale_was c w seat Step.Grant i none h = stale_granted w.allocations (granted c w.now (flight_of w.now seat)) i refl h
 stale_was c w seat (Step.Quar p v) i none h = grind (arith, stale_freed, changed_at, freed_leaves)
-stale_was c w seat Step.Release i none h = grind (arith, changed_at, stale_released)
+stale_was c w seat Step.Release i none h = grind (arith, changed_at)
 stale_was c w seat _ i none h = h
 
 -- at a `begin`
 stale_begun : (c : Config) (w : World) (seat : Seat) (x : Step) (i : ℕ) → is_begin x ≡ true
     → is_quarantined (placed_at (WorldBehind c w seat x).allocations i) ≡ true
     → is_quarantined (placed_at w.allocations i) ≡ true
-stale_begun c w seat Step.Begin i is h = grind (arith, changed_at)
-stale_begun c w seat _ i is h = cc
+stale_begun c w seat x4 i is h = grind (arith, changed_at)
 
 -- After every history: no cycle was begun and all in quarantine is fresh, or what isn't fresh is in the snapshot of the
 -- last one.
@@ -163,8 +155,7 @@ since_behind c es e meets since = elim (cases_Bool (is_begin e.step)) [
 ]
   where
     begun_phase : (x : Step) → is_begin x ≡ true → phase_behind x (phase_of (left c es).now.words) ≡ 1
-    begun_phase Step.Begin is = refl
-    begun_phase _ is = cc
+    begun_phase x1 is = grind arith
 
     by : is_begin e.step ≡ false → SinceLastBegin c es → SinceBegin c (es ++ e ∷ []) (world_behind c (left c es) e)
     by none (NeverBegun stale) = NeverBegun (λ i h. stale i (stale_was c (left c es) e.seat e.step i none h))

@@ -33,13 +33,10 @@ abbrev HasOpen : World → ℕ → Type 0
 HasOpen w k = is_open_free (flight_of w.now (Caller k)) ≡ true
 
 open_stands : (s : Stage) (o : Op) → is_open_at s o ≡ true → standing_at s o ≡ UnderTurn
-open_stands Stage.LoadP (Op.Free p) h = refl
-open_stands Stage.Turn (Op.Free p) h = refl
-open_stands _ _ h = cc
+open_stands x1 x2 h = grind arith
 
 pub undecided_is_open : (s : Stage) (o : Op) → is_free_at s o ≡ true → is_open_at s o ≡ true
-undecided_is_open Stage.Turn (Op.Free p) h = refl
-undecided_is_open _ _ h = cc
+undecided_is_open x1 x2 h = grind arith
 
 call_not_open : (f : Flight) → standing f ≡ InCall → is_open_free f ≡ true → ⊥
 call_not_open f is waits = grind (arith, open_stands)
@@ -110,17 +107,14 @@ data FreeCame (c : Config) (w : World) (seat : Seat) (x : Step) (k : ℕ) : Type
       → FreeCame c w seat x k
 
 load_is_open : (o : Op) → standing_at Stage.LoadP o ≡ UnderTurn → is_open_at Stage.LoadP o ≡ true
-load_is_open (Op.Free p) h = refl
-load_is_open _ h = cc
+load_is_open x1 h = grind arith
 
 load_by_reg : (o : Op) (x : Step) → comes_next Stage.LoadP o x ≡ true → x ≡ Step.Reg
 load_by_reg o Step.Reg h = refl
 load_by_reg o _ h = cc
 
 op_of_load : (f : Flight) (o : Op) (n : ℕ) → (progress_p f o n).flight.op ≡ f.op
-op_of_load f (Op.IsNull p) n = refl
-op_of_load f (Op.Free p) n = grind arith
-op_of_load f _ n = refl
+op_of_load f x2 n = grind arith
 
 module _ (c : Config) (w : World) (k : ℕ) (known : Known c w.now) (lt : k < c.callers) where
   abbrev f : Flight
@@ -182,8 +176,7 @@ free_came c w (Caller j) x k known meets lt waits = elim (cases_eq k j) [
 
 pub freer_has_free : (c : Config) (w : World) (seat : Seat) (x : Step)
     → decides_freed c w.now (flight_of w.now seat) x ≡ true → is_undecided_free (flight_of w.now seat) ≡ true
-freer_has_free c w seat (Step.Quar p v) h = grind (arith, freed_cell)
-freer_has_free c w seat _ h = cc
+freer_has_free c w seat x4 h = grind (arith, freed_cell)
 
 decided_gives : (c : Config) (w : World) (k : ℕ) (x : Step) → k < length w.now.seats.flights
     → decides_freed c w.now (flight_of w.now (Caller k)) x ≡ true → HasOpen (WorldBehind c w (Caller k) x) k → ⊥
@@ -193,8 +186,7 @@ decided_gives c w k (Step.Quar p v) within h waits =
   where
     by : (cell : Option Cell) → is_some cell ≡ true
         → is_open_free (progress_freed (flight_of w.now (Caller k)) cell).flight ≡ true → ⊥
-    by (Some cell) h waits = give_not_open (flight_of w.now (Caller k)).op waits
-    by None h waits = cc
+    by x1 h waits = grind (arith, give_not_open)
 decided_gives c w k _ within h waits = cc
 
 -- Where the Free is open after it, the event has freed nothing,
@@ -205,9 +197,7 @@ frees_off c w seat x k known meets lt was waits =
     false_from_ne_true (decides_freed c w.now (flight_of w.now seat) x) (λ frees.
     let holds = free_has_turn c w.now seat meets.seat (freer_has_free c w seat x frees) in
     let same : seat ≡ Caller k = grind (arith, same_holder, view_of, open_stands) in
-    decided_gives c w k x (omega (arith, known.orderly.flights))
-    (subst (λ (s : Seat). decides_freed c w.now (flight_of w.now s) x ≡ true) same frees)
-    (subst (λ (s : Seat). HasOpen (WorldBehind c w s x) k) same waits))
+    grind (arith, decided_gives))
 
 -- and given no turn of its caller back.
 gives_off : (c : Config) (w : World) (seat : Seat) (x : Step) (k : ℕ) → Known c w.now → k < c.callers

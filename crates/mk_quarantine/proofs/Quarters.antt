@@ -1,14 +1,14 @@
 -- What was freed since the last `begin` is a quarter, unless a free that is due waits for its `begin`.
 use Rattle.mk_alloc.proofs.Vocabulary.{FreesFirst, IsDue, IsDueIn, within_turn}
-use Rattle.mk_quarantine.proofs.Vocabulary.{Bool, Config, Event, Flight, InFirst, InSecond, IsHistory, KeptByEvents}
-use Rattle.mk_quarantine.proofs.Vocabulary.{Lacks, List, Moment, OfHistories, PlacedAllocation, Step, World, ℕ, ap}
-use Rattle.mk_quarantine.proofs.Vocabulary.{append_assoc, arith, cases_Bool, cases_lt, decides_freed, false, flight_of}
+use Rattle.mk_quarantine.proofs.Vocabulary.{Bool, Config, Event, InFirst, InSecond, IsHistory, KeptByEvents, Lacks}
+use Rattle.mk_quarantine.proofs.Vocabulary.{List, OfHistories, PlacedAllocation, Step, World, ℕ, ap, append_assoc}
+use Rattle.mk_quarantine.proofs.Vocabulary.{arith, cases_Bool, cases_lt, decides_freed, false, flight_of}
 use Rattle.mk_quarantine.proofs.Vocabulary.{fresh_words_of, given_back, given_back_behind, has_step}
 use Rattle.mk_quarantine.proofs.Vocabulary.{held_by_allocations, holds_of_histories, if◌then◌else◌, inl, inr, is_begin}
 use Rattle.mk_quarantine.proofs.Vocabulary.{is_mapped, is_of_cycle, lacks_append, lacks_at, lacks_first, lacks_one}
-use Rattle.mk_quarantine.proofs.Vocabulary.{left, left_in_parts, left_more, not, refl, stands, storage_words, subst}
-use Rattle.mk_quarantine.proofs.Vocabulary.{sym, taken, true, true≢false, world_behind, [], ⊎_elim, ◌&&◌, ◌*◌, ◌++◌}
-use Rattle.mk_quarantine.proofs.Vocabulary.{◌+◌, ◌<◌, ◌∙◌, ◌∷◌, ◌≡◌, ◌≤◌, ◌⊎◌}
+use Rattle.mk_quarantine.proofs.Vocabulary.{left, left_in_parts, left_more, not, stands, storage_words, subst, sym}
+use Rattle.mk_quarantine.proofs.Vocabulary.{taken, true, true≢false, world_behind, [], ⊎_elim, ◌&&◌, ◌*◌, ◌++◌, ◌+◌}
+use Rattle.mk_quarantine.proofs.Vocabulary.{◌∙◌, ◌∷◌, ◌≡◌, ◌≤◌, ◌⊎◌}
 use Rattle.mk_core.specs.History.{left_from}
 use Rattle.mk_quarantine.proofs.CountedWords.{IsQuarter, filtered_in_parts, given_more, none_fresh_begun, quarter_stays}
 use Rattle.mk_quarantine.proofs.EndedFrees.{CallersAreExact, EndedFree, ended_free}
@@ -29,11 +29,6 @@ pub pending_longer : (c : Config) (es : List Event) (e : Event) → is_begin e.s
     → IsPending c (es ++ e ∷ [])
 pending_longer c es e none p = grind (arith, append_assoc, lacks_append, lacks_one)
 
-begins_free_none : (c : Config) (m : Moment) (f : Flight) (x : Step) → decides_freed c m f x ≡ true
-    → is_begin x ≡ false
-begins_free_none c m f Step.Begin frees = cc
-begins_free_none c m f _ frees = refl
-
 -- An event that frees: it is a quarter after it, or the free is due.
 pub freed_or_due : (c : Config) (es : List Event) (e : Event)
     → decides_freed c (left c es).now (flight_of (left c es).now e.seat) e.step ≡ true
@@ -41,19 +36,7 @@ pub freed_or_due : (c : Config) (es : List Event) (e : Event)
 freed_or_due c es e frees = elim
     (cases_lt (held_by_allocations c (world_behind c (left c es) e).allocations)
     (4 * fresh_words_of c (world_behind c (left c es) e).allocations)) [
-      | inl lt ↦
-          inr (record {
-            before = es;
-            event = e;
-            behind = [];
-            is = refl;
-            due = record {
-              decides = frees;
-              quarter = subst (λ (w : World). held_by_allocations c w.allocations < 4 * fresh_words_of c w.allocations)
-                  (sym (left_more c _ es e)) lt;
-            };
-            none = refl;
-          })
+      | inl lt ↦ grind (arith, left_more)
       | inr le ↦ inl (omega arith)
     ]
 
@@ -120,8 +103,7 @@ module _ (on : Bool) (c : Config) (before : List Event) (e : Event) (behind : Li
           ∙ off)
 
 pub begin_is_of_cycle : (x : Step) → is_begin x ≡ true → is_of_cycle x ≡ true
-begin_is_of_cycle Step.Begin is = refl
-begin_is_of_cycle _ is = cc
+begin_is_of_cycle x1 is = grind arith
 
 -- So a free isn't pending where the turn is free.
 pub none_pending : (on : Bool) (c : Config) (es : List Event) → IsHistory c es → CallersAreExact on c es
@@ -148,10 +130,7 @@ none_pending on c es h exact free p =
   where
     by : (begin : Event) (behind : List Event) → is_begin begin.step ≡ true → (more : List Event) → Lacks is_begin more
         → (rest : List Event) → p.event ∷ more ≡ rest ++ begin ∷ behind → ⊥
-    by begin behind begins more none [] is =
-        let same : p.event ≡ begin = cc in
-        true≢false (sym begins ∙ ap (λ (x : Event). is_begin x.step) (sym same) ∙ begins_free_none c (left c
-        p.before).now (flight_of (left c p.before).now p.event.seat) _ p.due.decides)
+    by begin behind begins more none [] is = grind arith
     by begin behind begins more none (y ∷ ys) is =
         let tail : more ≡ ys ++ begin ∷ behind = cc in
         lacks_at is_begin more ys begin behind none tail begins

@@ -1,10 +1,10 @@
 -- What the last cycle kept is touched: released allocations stay so, so it was kept at the cycle's `release`.
 use Rattle.mk_laws.proofs.Vocabulary.{Releasing, freed_released, through_release}
 use Rattle.mk_quarantine.proofs.Vocabulary.{Bool, Config, Event, List, OfHistories, Seat, Step, World, WorldBehind, ℕ}
-use Rattle.mk_quarantine.proofs.Vocabulary.{ap, append_assoc, arith, cases_lt, changed_at, earlier_at}
-use Rattle.mk_quarantine.proofs.Vocabulary.{false_from_ne_true, flight_of, freed_leaves, get_or_past, is_quarantined}
-use Rattle.mk_quarantine.proofs.Vocabulary.{left, left_in_parts, length, placed_at, subst, sym, true, true≢false}
-use Rattle.mk_quarantine.proofs.Vocabulary.{world_behind, [], ◌++◌, ◌<◌, ◌||◌, ◌∙◌, ◌∷◌, ◌≡◌}
+use Rattle.mk_quarantine.proofs.Vocabulary.{append_assoc, arith, cases_lt, changed_at, earlier_at, false_from_ne_true}
+use Rattle.mk_quarantine.proofs.Vocabulary.{flight_of, freed_leaves, get_or_past, is_quarantined, left, left_in_parts}
+use Rattle.mk_quarantine.proofs.Vocabulary.{length, placed_at, sym, true, true≢false, world_behind, [], ◌++◌, ◌<◌, ◌||◌}
+use Rattle.mk_quarantine.proofs.Vocabulary.{◌∙◌, ◌∷◌, ◌≡◌}
 use Rattle.mk_core.specs.{Cycles.before_begin, History.left_from}
 use Rattle.mk_laws.proofs.AllocationSteps.{allocation_step, goes_on}
 use Rattle.mk_laws.proofs.{PrecisionStopped.keeps_only_the_touched, Stretches.at_release}
@@ -33,11 +33,7 @@ still_true a b is = grind arith
 
 released_behind : (c : Config) (w : World) (seat : Seat) (x : Step) (i : ℕ) → IsThere w i → IsReleased w i
     → IsReleased (WorldBehind c w seat x) i
-released_behind c w seat Step.Grant i there is = grind (arith, earlier_at)
-released_behind c w seat (Step.Quar p v) i there is = grind (arith, changed_at, freed_leaves, freed_released)
-released_behind c w seat Step.Begin i there is = grind (arith, changed_at)
-released_behind c w seat Step.Release i there is = grind (arith, changed_at, still_true)
-released_behind c w seat _ i there is = is
+released_behind c w seat x4 i there is = grind (arith, earlier_at, changed_at, freed_leaves, freed_released, still_true)
 
 released_from : (c : Config) (w : World) (es : List Event) (i : ℕ) → IsThere w i → IsReleased w i
     → IsReleased (left_from c w es) i
@@ -59,21 +55,13 @@ from_begin a p q s x = simp append_assoc
 module _ (c : Config) {es : List Event} (r : Releasing es) (i : ℕ)
     (snapshot : is_quarantined (placed_at (left c (before_begin r.marking)).allocations i) ≡ true) where
   there_at_release : IsThere (left c (through_release r)) i
-  there_at_release =
-      let k = r.marking in
-      let more : List Event =
-      ((k.begin.event ∷ k.close.at.before) ++ k.close.at.event ∷ r.release.at.before) ++ r.release.at.event ∷ [] in
-      let split : through_release r ≡ k.begin.before ++ more = grind (arith, from_begin) in
-      subst (λ (w : World). IsThere w i)
-      (sym (ap (λ (l : List Event). left c l) split ∙ left_in_parts c k.begin.before more))
-      (there_from c (left c k.begin.before) more i (quarantined_is_there (left c k.begin.before) i snapshot))
+  there_at_release = search (from_begin, left_in_parts, there_from, quarantined_is_there)
 
   -- Released at the `release`, it is so in the end.
   released_in_the_end : IsReleased (left c (through_release r)) i → IsReleased (left c es) i
   released_in_the_end released =
       let whole : es ≡ through_release r ++ r.release.at.behind = grind (arith, at_release, append_assoc) in
-      subst (λ (w : World). IsReleased w i) (sym (ap (λ (l : List Event). left c l) whole ∙ left_in_parts c _ _))
-      (released_from c _ _ i there_at_release released)
+      grind (arith, left_in_parts, released_from, there_at_release)
 
 pub kept_are_touched : OfHistories KeptAreTouched
 kept_are_touched c es h i k unswept =
