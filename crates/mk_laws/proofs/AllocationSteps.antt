@@ -1,11 +1,10 @@
 -- What one event leaves of the allocations: each keeps its place, and a grant adds one.
 use Rattle.std.proofs.Common.{length-append}
-use Rattle.mk_laws.proofs.Vocabulary.{Cell, Config, Flight, LeavesPlaces, List, Moment, Option, PlacedAllocation, Step}
-use Rattle.mk_laws.proofs.Vocabulary.{ℕ, address_of, ap, arith, cases_lt, cell_freed, changed_at, false, freed_leaves}
-use Rattle.mk_laws.proofs.Vocabulary.{freed_released, freed_where_it_stands, fresh_leaves, get_or_past, granted, inl}
-use Rattle.mk_laws.proofs.Vocabulary.{inr, is_release, length, length-map, map, no_longer_fresh, or_parts, placed_at}
-use Rattle.mk_laws.proofs.Vocabulary.{pointed_cell, refl, released_leaves, sym, true≢false, with_released, [], ◌++◌}
-use Rattle.mk_laws.proofs.Vocabulary.{◌<◌, ◌∙◌, ◌∷◌, ◌≡◌}
+use Rattle.mk_laws.proofs.Vocabulary.{Config, Flight, LeavesPlaces, List, Moment, PlacedAllocation, Step, ℕ, ap, arith}
+use Rattle.mk_laws.proofs.Vocabulary.{cases_lt, cell_freed, changed_at, false, freed_leaves, freed_released}
+use Rattle.mk_laws.proofs.Vocabulary.{freed_where_it_stands, fresh_leaves, get_or_past, granted, inl, inr, is_release}
+use Rattle.mk_laws.proofs.Vocabulary.{length, length-map, map, no_longer_fresh, or_parts, placed_at, refl}
+use Rattle.mk_laws.proofs.Vocabulary.{released_leaves, sym, with_released, [], ◌++◌, ◌<◌, ◌∙◌, ◌∷◌, ◌≡◌}
 use Rattle.mk_core.{proofs.ChangedAllocations.earlier_at, specs.Allocations.allocations_by}
 
 -- An unreleased allocation is one of the list.
@@ -34,13 +33,7 @@ allocation_step c m f (Step.Quar p v) xs =
     })
 allocation_step c m f Step.Begin xs =
     Changes no_longer_fresh (record { places = fresh_leaves; was = λ a u. u; stays = λ other a u. u })
-allocation_step c m f Step.Release xs = Changes (with_released c m.words) (record {
-  places = released_leaves c m.words;
-  was = λ a u.
-      let cell : Option Cell = pointed_cell c.pages m.words.pages (address_of a.base) in
-      (or_parts a.released _ u).0;
-  stays = λ other a u. absurd (true≢false other);
-})
+allocation_step c m f Step.Release xs = Changes (with_released c m.words) (grind (arith, released_leaves, or_parts))
 allocation_step c m f _ xs = Leaves
 
 -- of one place and type
@@ -94,8 +87,4 @@ goes_on xs _ x i (Changes g ch) lt =
 goes_on xs _ x i (Grants a grant) lt =
     let at = earlier_at xs a i lt in
     let count = length-append xs (a ∷ []) in
-    record {
-      there = omega arith;
-      same = of_one_same _ _ at;
-      stays = λ other u. ap (λ (b : PlacedAllocation). b.released) at ∙ u;
-    }
+    grind (arith, of_one_same)

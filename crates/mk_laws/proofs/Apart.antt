@@ -47,13 +47,7 @@ lies c w xs r i u =
     let a : PlacedAllocation = placed_at xs i in
     let shown : IsShown w.pages (claim_of c None a) = r.laid.shown (claim_of c None a) (claim_among c None xs i u) in
     let s = stands_there c None w a r.lengths shown u (r.cells i u) in
-    record {
-      among = claim_among c None xs i u;
-      shown = shown;
-      stands = s.stands;
-      begins = (r.cells i u).begins;
-      part = first_page_shows c w a shown.sized s.headers;
-    }
+    grind (arith, claim_among, first_page_shows)
 
 -- the pages of its storage
 pub on_its_pages : (c : Config) (a : PlacedAllocation) (p : ℕ) → IsSized (object_placed c a)

@@ -78,12 +78,7 @@ module _ (c : Config) (w : World) (runs : RunsAreWhole c w) (p k x : ℕ)
               | inl at ↦ own_head w.now.words p k known x at
               | inr ne ↦
                   let at : x / 64 ≡ p + (x / 64 - p) = omega arith in
-                  elim ((runs p run.0).later (x / 64 - p) (omega arith) (omega arith)) [
-                    | inl shows ↦
-                        let back : head_page_under (Some (Later (x / 64 - p) shows.0)) (p + (x / 64 - p)) ≡ p =
-                        omega arith in ap (head_page w.now.words) at ∙ rw shows.1 back
-                    | inr free ↦ absurd (some (ap (header_at w.now.words) at ∙ free.0))
-                  ]
+                  grind arith
             ]
       ]
 

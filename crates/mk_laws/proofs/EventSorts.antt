@@ -7,13 +7,13 @@ use Rattle.mk_laws.proofs.Vocabulary.{address_of, allocation_at, and_from, and_p
 use Rattle.mk_laws.proofs.Vocabulary.{arith, asked, at_rest, bases_of, call_decided, caller_number, cases_Bool}
 use Rattle.mk_laws.proofs.Vocabulary.{cases_eq, cases_lt, cell_of_allocation, changed_at, eqb-true, false, false≢true}
 use Rattle.mk_laws.proofs.Vocabulary.{flight_among, flight_of, fresh_leaves, get_or_past, global_at, has_bit_without}
-use Rattle.mk_laws.proofs.Vocabulary.{if◌then◌else◌, image_of, image_scene_of, inl, inr, is_left_unmarked, is_marked}
-use Rattle.mk_laws.proofs.Vocabulary.{is_none_or, is_open_to, is_past_probe, is_put, is_run_cell, is_some_and}
-use Rattle.mk_laws.proofs.Vocabulary.{is_unmapped, kinds_of, length, ltb-true, map, no_longer_fresh, none_freed, not}
-use Rattle.mk_laws.proofs.Vocabulary.{or_cases, or_parts, others_are_held, placed_at, pointed_cell, points_well, refl}
-use Rattle.mk_laws.proofs.Vocabulary.{released_leaves, set-get_or, slice_index, slice_index_or, slice_set}
-use Rattle.mk_laws.proofs.Vocabulary.{storage_holds, storage_words, sym, target, true, with_released, word_at, words_of}
-use Rattle.mk_laws.proofs.Vocabulary.{world_behind, ◌%◌, ◌&&◌, ◌+◌, ◌/◌, ◌<◌, ◌==◌, ◌||◌, ◌∙◌, ◌≡◌, ◌≢◌}
+use Rattle.mk_laws.proofs.Vocabulary.{if◌then◌else◌, image_of, image_scene_of, inl, inr, is_marked, is_none_or}
+use Rattle.mk_laws.proofs.Vocabulary.{is_open_to, is_past_probe, is_put, is_run_cell, is_unmapped, kinds_of, length}
+use Rattle.mk_laws.proofs.Vocabulary.{ltb-true, map, no_longer_fresh, none_freed, not, or_cases, or_parts}
+use Rattle.mk_laws.proofs.Vocabulary.{others_are_held, placed_at, pointed_cell, points_well, refl, released_leaves}
+use Rattle.mk_laws.proofs.Vocabulary.{set-get_or, slice_index, slice_index_or, slice_set, storage_holds, storage_words}
+use Rattle.mk_laws.proofs.Vocabulary.{sym, target, true, with_released, word_at, words_of, world_behind, ◌%◌, ◌&&◌, ◌+◌}
+use Rattle.mk_laws.proofs.Vocabulary.{◌/◌, ◌<◌, ◌==◌, ◌||◌, ◌∙◌, ◌≡◌, ◌≢◌}
 use Rattle.mk_never.specs.Types.{is_leaf, is_number}
 use Rattle.mk_core.proofs.RegisterAccesses.{tally_leaves, tally_leaves_registers}
 use Rattle.mk_core.proofs.ListTests.{list_all-at}
@@ -125,12 +125,7 @@ module _ (c : Config) (w : World) (n : NeverState) (known : KnownWorld c w) (mir
     unreleased = λ a ka.
         let parts = and_parts (safe a) (is_marked w.now.words (cell_of_allocation c (placed a))) ka in
         let u = ready.set.unreleased a parts.0 in
-        let x = placed a in
-        let cell = cell_of_allocation c x in
-        ap (λ (y : PlacedAllocation). y.released) (changed_at (with_released c w.now.words) w.allocations a refl) ∙ ap
-        (λ b. b || is_some_and (is_left_unmarked w.now.words) (pointed_cell c.pages w.now.words.pages (address_of
-        x.base))) u ∙ ap (λ (y : Option Cell). is_some_and (is_left_unmarked w.now.words) y) (base_cell_is a u) ∙
-        has_bit_without _ _ cell.index ∙ and_right _ (not _) (ap not parts.1);
+        grind (arith, placed, changed_at, base_cell_is, has_bit_without, and_right);
   }
 
   pub releases : Move safe (image_scene_of w) n

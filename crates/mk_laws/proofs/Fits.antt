@@ -58,14 +58,7 @@ fits limit pages o place sized at = elim (cases_Bool (is_small_object o)) [ inl 
     large l =
         let is = run_place_is limit o.words o.leaf pages place (leb-false o.words 32 l) at in
         let count = large_pages o l in
-        let within = is.free.within in
-        let room = is.has_room in
-        record {
-          room = omega arith;
-          index = is.index;
-          within = omega arith;
-          free = λ d lt. free_header _ _ _ refl (is.free.free _ free_page (omega arith) (omega arith));
-        }
+        grind (arith, free_header)
 
     small : is_small_object o ≡ true → FitsOnFreePages limit pages o place ⊎ FitsInBlock pages o place
     small s =
@@ -75,14 +68,7 @@ fits limit pages o place sized at = elim (cases_Bool (is_small_object o)) [ inl 
         let one = small_pages o s in
         let inside = slice_get_within pages place.page is.page is.at in
         elim (taken_from is.page.header is.page.used (class_made o) place.index o.leaf _ refl is.may_take) [
-          | inl z ↦ inl (record {
-            room = let room = is.has_room (is.carves ∙ free_use is.page.header is.page.used z) in omega arith;
-            index = is.carves_first (is.carves ∙ free_use is.page.header is.page.used z);
-            within = omega arith;
-            free = λ d lt.
-                let zero : place.page + d ≡ place.page = omega arith in
-                rw zero (ap (λ (x : Page). x.header) page ∙ z);
-          })
+          | inl z ↦ grind (arith, free_use)
           | inr block ↦ inr (record {
             small = s;
             within = inside;

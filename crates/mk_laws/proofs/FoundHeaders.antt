@@ -5,16 +5,16 @@ use Rattle.mk_laws.proofs.Vocabulary.{IsMarking, IsSized, IsWithinLimits, ItCarv
 use Rattle.mk_laws.proofs.Vocabulary.{OfBlock, OfLater, OfLeafBlock, OfLeafRun, OfRun, Option, Place, RunPages, Seat}
 use Rattle.mk_laws.proofs.Vocabulary.{ShowsPart, Some, Step, Words, World, ℕ, and_parts, ap, arith, cases_Bool}
 use Rattle.mk_laws.proofs.Vocabulary.{cases_eq, cell_at, cell_ends, cells_made, cells_of, cells_under, class_known}
-use Rattle.mk_laws.proofs.Vocabulary.{class_made, class_words_of, cond-false, cond-true, eq-eqb, eqb-true, false}
-use Rattle.mk_laws.proofs.Vocabulary.{fewer_bits, flight_of, has_bit, has_operands, head_step, header_at, header_in}
-use Rattle.mk_laws.proofs.Vocabulary.{header_made, header_of, header_shows, if◌then◌else◌, inl, inr, is_heap_address}
-use Rattle.mk_laws.proofs.Vocabulary.{is_marked_first, is_phase, is_small_object, is_undecided_new, is_unmapped_header}
-use Rattle.mk_laws.proofs.Vocabulary.{large_cells, large_count, large_words, later_cells, le-leb, ltb-true, made_shows}
-use Rattle.mk_laws.proofs.Vocabulary.{nat_le, not-true, object_made, or_cases, page_at_address, pages_made, part_cells}
-use Rattle.mk_laws.proofs.Vocabulary.{part_head, part_not_free, part_words, phase_of, placed_now, refl, slice_index}
-use Rattle.mk_laws.proofs.Vocabulary.{small_cells, small_pages, small_words, subst, sym, true, true≢false}
-use Rattle.mk_laws.proofs.Vocabulary.{undecided_new, unmapped_header, unmapped_is_unmapped, words_made, words_under}
-use Rattle.mk_laws.proofs.Vocabulary.{◌*◌, ◌+◌, ◌-◌, ◌<◌, ◌==◌, ◌||◌, ◌∙◌, ◌≡◌, ◌⊎◌}
+use Rattle.mk_laws.proofs.Vocabulary.{class_made, cond-false, cond-true, eq-eqb, eqb-true, false, fewer_bits, flight_of}
+use Rattle.mk_laws.proofs.Vocabulary.{has_bit, has_operands, head_step, header_at, header_in, header_made, header_of}
+use Rattle.mk_laws.proofs.Vocabulary.{header_shows, if◌then◌else◌, inl, inr, is_heap_address, is_marked_first, is_phase}
+use Rattle.mk_laws.proofs.Vocabulary.{is_small_object, is_undecided_new, is_unmapped_header, large_cells, large_count}
+use Rattle.mk_laws.proofs.Vocabulary.{large_words, later_cells, le-leb, ltb-true, made_shows, nat_le, not-true}
+use Rattle.mk_laws.proofs.Vocabulary.{object_made, or_cases, page_at_address, pages_made, part_cells, part_head}
+use Rattle.mk_laws.proofs.Vocabulary.{part_not_free, part_words, phase_of, placed_now, refl, slice_index, small_cells}
+use Rattle.mk_laws.proofs.Vocabulary.{small_pages, small_words, subst, sym, true, true≢false, undecided_new}
+use Rattle.mk_laws.proofs.Vocabulary.{unmapped_header, unmapped_is_unmapped, words_made, words_under, ◌*◌, ◌+◌, ◌-◌}
+use Rattle.mk_laws.proofs.Vocabulary.{◌<◌, ◌==◌, ◌||◌, ◌∙◌, ◌≡◌, ◌⊎◌}
 use Rattle.mk_geom.{proofs.ClassTable.some_cells, specs.Addresses.cell_under, specs.Addresses.word_at_address}
 use Rattle.mk_core.{proofs.ObjectHeaders.same_cells, proofs.ObjectHeaders.same_words, proofs.PageSteps.Unmaps}
 use Rattle.mk_core.{proofs.PointedPages.found_under, proofs.PointedPages.lies_under, proofs.ServingSteps.Carves}
@@ -146,13 +146,7 @@ first_marked w o place k one first lt = grind (arith, or_cases, not-true, fewer_
 word_within : (o : Object) (k i : ℕ) → IsSized o → k < cells_made o → i < words_made o
     → k * words_made o + i < 64 * pages_made o
 word_within o k i sized lk li = elim (cases_Bool (is_small_object o)) [
-  | inl small ↦
-      let cells = small_cells o small in
-      let words = small_words o small in
-      let one = small_pages o small in
-      let ends = cell_ends k (class_words_of (class_made o)) (omega arith) in
-      let product : k * words_made o ≡ k * class_words_of (class_made o) = rw words in
-      omega arith
+  | inl small ↦ grind (arith, small_cells, small_words, small_pages, cell_ends)
   | inr large ↦
       let cells = large_cells o large in
       let words = large_words o large in

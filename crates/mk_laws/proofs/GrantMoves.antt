@@ -29,11 +29,7 @@ pub fills_cell : (c : Config) (w : World) (a : PlacedAllocation) (place : Place)
 fills_cell c w a place known typed unreleased base h =
     let st = placed_stands c a place known.limits typed unreleased base h.index h.pages in
     let has = placed_headers c w.now.words a place known.limits typed base h.index h.stands in
-    record {
-      cell = λ i lt. word_points c w.now.words a known.limits st has (a.base + i) (omega arith, omega arith);
-      first = (cells_begin c w.now.words a known.limits st has).0;
-      inside = st.within;
-    }
+    grind (arith, word_points, cells_begin)
 
 module _ (c : Config) (w : World) (n : NeverState) (known : KnownWorld c w) (mirrors : Mirrors c w n)
     (others : ImagePremises c w) (st : Stands c w.now.words w.allocations) where

@@ -1,12 +1,11 @@
 -- What stands while a cycle marks and stops, after every enabled list.
 use Rattle.mk_laws.proofs.Vocabulary.{CellsAreClosed, Config, GuardPremisesFrom, HasItsHeaders, IsWithinLimits}
 use Rattle.mk_laws.proofs.Vocabulary.{IsWordOf, MarksAreClosed, PlacedAllocation, Step, Words, World, ℕ, and_parts}
-use Rattle.mk_laws.proofs.Vocabulary.{arith, cell_words, cells_begin, enabled_meets, eqb-true, false, first_moment}
+use Rattle.mk_laws.proofs.Vocabulary.{arith, cells_begin, enabled_meets, eqb-true, false, first_moment}
 use Rattle.mk_laws.proofs.Vocabulary.{first_page_shows, first_word, has_no_pointers, header_at, header_in, header_made}
 use Rattle.mk_laws.proofs.Vocabulary.{histories_keep_lengths, inl, inr, is_mapped, left, made_is_mapped, not-true}
-use Rattle.mk_laws.proofs.Vocabulary.{object_placed, pages_some, part_has_no_pointers, placed_at, storage_of}
-use Rattle.mk_laws.proofs.Vocabulary.{storage_words, subst, sym, true, typed_size, word_points_well, ◌+◌, ◌-◌, ◌/◌, ◌∙◌}
-use Rattle.mk_laws.proofs.Vocabulary.{◌≡◌}
+use Rattle.mk_laws.proofs.Vocabulary.{object_placed, pages_some, part_has_no_pointers, placed_at, storage_of, subst}
+use Rattle.mk_laws.proofs.Vocabulary.{sym, true, typed_size, word_points_well, ◌+◌, ◌-◌, ◌/◌, ◌∙◌, ◌≡◌}
 use Rattle.mk_geom.specs.StorageWords.{cell_of_storage}
 use Rattle.mk_core.proofs.{PointedAllocations.marked_where_its_cell_is, StandingAllocations.cell_is_known}
 use Rattle.mk_core.specs.ClosedMarks.{is_marked_allocation}
@@ -37,10 +36,6 @@ closed_word : (c : Config) (w : Words) (a : PlacedAllocation) → IsWithinLimits
 closed_word c w a limits st closed leaf marked n inside =
     let has = has_headers c w a st in
     let cells = cells_begin c w a limits st.stands has in
-    let first : first_word w (cell_of_storage (storage_of c a)) ≡ a.base = cells.0 in
-    let words : cell_words w (cell_of_storage (storage_of c a)) ≡ storage_words c a = cells.1 in
-    let low = inside.0 in
-    let high = inside.1 in
     let at : first_word w (cell_of_storage (storage_of c a)) + (n - a.base) ≡ n = omega arith in
     subst (λ i. word_points_well c.pages w i ≡ true) at
     (closed.words _ (n - a.base) (cell_is_known c w a (typed_size c a limits st.stands.typed) st.stands.begins has)

@@ -341,9 +341,4 @@ module _ (c : Config) (w : World) (seat : Seat) (limits : IsWithinLimits c) (kno
       rest : (x : Step) → Meets c w.now seat x → is_phase_step x ≡ false → MarksStand c (Behind c w.now seat x)
       rest x h stays =
           let same = phase_stays c w.now seat x stays in
-          record {
-            guarded = λ early. goes_on x (rw same at early) h g;
-            closed = λ three.
-                let before : phase_of w.now.words ≡ 3 = sym same ∙ three in
-                stays_closed c w.now.words _ (leaves_closed c w.now seat x known before h) (g.closed before);
-          }
+          grind (arith, goes_on, closed, stays_closed, leaves_closed)

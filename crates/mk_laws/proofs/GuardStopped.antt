@@ -6,9 +6,9 @@ use Rattle.mk_laws.proofs.Vocabulary.{IsGuarded, Marker, Moment, PageIsDirty, Po
 use Rattle.mk_laws.proofs.Vocabulary.{all_below, all_below-at, and_parts, ap, arith, at_rest, cases_eq, cases_lt}
 use Rattle.mk_laws.proofs.Vocabulary.{cells_under, eq-eqb, eqb-true, false, fewer_bits, first_word, flight_of}
 use Rattle.mk_laws.proofs.Vocabulary.{get_or_past, has_bit, has_closed_page, header_at, header_in, holder_number, inl}
-use Rattle.mk_laws.proofs.Vocabulary.{inr, ltb-true, or_cases, phase_of, points_well, refl, roots_point_well}
-use Rattle.mk_laws.proofs.Vocabulary.{slice_index, subst, sym, true, true≢false, without, word_points_well, ◌/◌, ◌<◌}
-use Rattle.mk_laws.proofs.Vocabulary.{◌==◌, ◌||◌, ◌∙◌, ◌≡◌, ◌⊎◌}
+use Rattle.mk_laws.proofs.Vocabulary.{inr, ltb-true, or_cases, phase_of, points_well, roots_point_well, slice_index}
+use Rattle.mk_laws.proofs.Vocabulary.{subst, sym, true, true≢false, without, word_points_well, ◌/◌, ◌<◌, ◌==◌, ◌||◌}
+use Rattle.mk_laws.proofs.Vocabulary.{◌∙◌, ◌≡◌, ◌⊎◌}
 use Rattle.mk_core.{proofs.ListTests.list_all-at, proofs.MarkTests.null_points_well}
 use Rattle.mk_core.{proofs.RegisterAccesses.tally_leaves_registers, proofs.WordBits.without_none, specs.Cells.cell_bits}
 use Rattle.mk_laws.proofs.Basics.{Behind, InCall, Known, Meets, Table, at_its_stage, at_reg, calls_stand, either_phase}
@@ -104,12 +104,7 @@ owes_in_call c m j known at = elim (cases_lt j c.callers) [
       get_or_past m.seats.flights j at_rest (omega (arith, known.orderly.flights)) in
       let bad : Stage.Idle ≡ Stage.Dirty = sym (rw rest) ∙ at in
       absurd (true≢false (let y : true ≡ false = cc in y))
-  | inl lt ↦
-      let fine = subst (λ (s : Stage). is_astray (standing_at s (flight_of m (Caller j)).op) ≡ false) at
-      (not_astray c m known.orderly j lt) in (
-        lt,
-        ap (λ (s : Stage). standing_at s (flight_of m (Caller j)).op) at ∙ calls_stand Stage.Dirty _ refl fine,
-      )
+  | inl lt ↦ grind (arith, is_astray, standing_at, not_astray, calls_stand)
 ]
 
 -- where a `close` is enabled, no call owes a dirty word

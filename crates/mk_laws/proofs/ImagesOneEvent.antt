@@ -77,13 +77,7 @@ module _ (safe : ℕ → Bool) (s : ImageScene) (n : NeverState) (h : IsSafeSet 
               subst (λ (x : NeverAllocation). IsSafe (λ a. safe a || (a == m)) (slice_index_or x.words j Null)) (sym na)
               (wider safe m _ (h.closed b j (old b ne sb) (sym (rw na) ∙ mb)))
         ];
-        unreleased = λ b sb. elim (cases_eq b m) [
-          | inl e ↦ ap (λ (x : PlacedAllocation). x.released)
-              (ap (placed_at (s.allocations ++ fresh_one base ty ∷ [])) (e ∙ sym same)
-              ∙ granted_at s.allocations (fresh_one base ty))
-          | inr ne ↦ rw (old_placed s.allocations (fresh_one base ty) b (λ e. ne (e ∙ same)))
-              (h.unreleased b (old b ne sb))
-        ];
+        unreleased = grind (arith, fresh_one, granted_at, old_placed);
       }
     where
       old : (b : ℕ) → b ≢ length n.allocations → (safe b || (b == length n.allocations)) ≡ true → safe b ≡ true

@@ -77,11 +77,7 @@ stands_of c w limits others = record {
       (h.mapped (mapped_is c (placed_at w.allocations a) u ∙ ap not un) at.distance at.near)
       ∙ made_is_mapped (object_placed c (placed_at w.allocations a)) at.distance sized at.near;
   run = λ a u large.
-      let h = others.laid_out a u in
-      part_heads_run (object_placed c (placed_at w.allocations a)) _
-      (first_page_shows c w.now.words (placed_at w.allocations a)
-      (typed_size c (placed_at w.allocations a) limits h.stands.typed) h.headers)
-      (large_object c (placed_at w.allocations a) large);
+      grind (arith, part_heads_run, first_page_shows, typed_size, large_object);
 }
 
 -- A run that is gone shows on its pages that it is unmapped.
