@@ -5,9 +5,9 @@ use Rattle.mk_quarantine.proofs.Vocabulary.{Bool, Caller, CallIsExact, Config, E
 use Rattle.mk_quarantine.proofs.Vocabulary.{List, Meets, Moment, Next, Op, Option, Seat, Some, Step, TurnOf}
 use Rattle.mk_quarantine.proofs.Vocabulary.{TurnsOfAreExact, ℕ, and-false, ap, append_assoc, arith, before_it}
 use Rattle.mk_quarantine.proofs.Vocabulary.{decides_freed, earlier_part_is_history, false, flight_of, free_has_turn}
-use Rattle.mk_quarantine.proofs.Vocabulary.{is_give, is_undecided_free, known_left, left, list_any, ltb-true, or_from}
-use Rattle.mk_quarantine.proofs.Vocabulary.{own_give, seat_exists, subst, sym, taken, true, turn_of, view_of, [], ◌++◌}
-use Rattle.mk_quarantine.proofs.Vocabulary.{◌+◌, ◌<◌, ◌∙◌, ◌∷◌, ◌≡◌}
+use Rattle.mk_quarantine.proofs.Vocabulary.{is_give, is_undecided_free, known_left, left, ltb-true, or_from, own_give}
+use Rattle.mk_quarantine.proofs.Vocabulary.{seat_exists, subst, sym, taken, true, turn_of, view_of, [], ◌++◌, ◌+◌, ◌<◌}
+use Rattle.mk_quarantine.proofs.Vocabulary.{◌∙◌, ◌∷◌, ◌≡◌}
 use Rattle.mk_alloc.proofs.OwnGives.{gives_append}
 use Rattle.mk_quarantine.proofs.HeldTurns.{IsSameTurn, first_giver, lacks_own, next_of, one_turn, turn_stays_held}
 use Rattle.mk_quarantine.proofs.OpenFrees.{FreesNoneFrom, OpenFree, freer_has_free, open_frees_have_turns}
@@ -114,8 +114,7 @@ module _ (on : Bool) (c : Config) (es before : List Event) (e : Event) (behind :
         next_of is_give behind (λ lacks.
         let kept = turn_stays_held c (before ++ e ∷ []) behind k whole lt turn_behind
         (lacks_own (Caller k) behind lacks) in
-        let none : (left c ((before ++ e ∷ []) ++ behind)).now.words.turn ≡ 0 = grind (arith, parts) in
-        omega arith)
+        grind (arith, parts))
 
     by_caller : EndedFree on c before e behind
     by_caller =
@@ -125,8 +124,7 @@ module _ (on : Bool) (c : Config) (es before : List Event) (e : Event) (behind :
         let f = flight_of (left c before).now (Caller k) in
         let open_free = open_frees_have_turns c before here.0 k lt (undecided_is_open f.stage f.op undecided) in
         ends_free c before k open_free e given.at.before
-        (or_from (own_give (Caller k) e) (list_any (own_give (Caller k)) given.at.before) not_given
-        (lacks_own (Caller k) given.at.before given.none_before))
+        (grind (arith, or_from, own_give, given, not_given, lacks_own))
         on behind (given.at.event ∷ given.at.behind) given.at.is
         (before_it c es (before ++ e ∷ given.at.before) given.at.event given.at.behind h split).0 undecided
         (exact k lt (before ++ e ∷ given.at.before) given.at.event given.at.behind split giver.0 giver.1)

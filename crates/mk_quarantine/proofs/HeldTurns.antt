@@ -2,14 +2,14 @@
 use Rattle.std.proofs.lemmas.List.{append_cancel_left}
 use Rattle.mk_laws.proofs.Vocabulary.{enabled_meets, ◌≢◌}
 use Rattle.mk_quarantine.proofs.Vocabulary.{At, Bool, Caller, Config, Event, GivesNone, HoldsTurn, InFirst, InSecond}
-use Rattle.mk_quarantine.proofs.Vocabulary.{IsHistory, Known, Lacks, List, Meets, Next, Op, Option, Seat, Step, TurnOf}
-use Rattle.mk_quarantine.proofs.Vocabulary.{World, WorldBehind, ℕ, and-false, and_from, ap, append-nil, append_assoc}
-use Rattle.mk_quarantine.proofs.Vocabulary.{arith, before_it, cases_Bool, earlier_part_is_history, enabled_in_parts}
-use Rattle.mk_quarantine.proofs.Vocabulary.{eq-eqb, false, has_step, inl, inr, is_begin, is_give, is_same_seat}
-use Rattle.mk_quarantine.proofs.Vocabulary.{known_left, lacks_first, left, left_in_parts, left_more, list_any}
-use Rattle.mk_quarantine.proofs.Vocabulary.{list_any-append, ltb-true, ne_eqb, or_from, or_parts, own_give, refl}
-use Rattle.mk_quarantine.proofs.Vocabulary.{reg_leaves, stands, subst, sym, taken, tally_keeps, true, true≢false}
-use Rattle.mk_quarantine.proofs.Vocabulary.{turn_of, view_of, world_behind, [], ⊎_elim, ◌++◌, ◌+◌, ◌<◌, ◌∙◌, ◌∷◌, ◌≡◌}
+use Rattle.mk_quarantine.proofs.Vocabulary.{IsHistory, Known, Lacks, List, Meets, Next, Seat, Step, TurnOf, World}
+use Rattle.mk_quarantine.proofs.Vocabulary.{WorldBehind, ℕ, and-false, and_from, ap, append-nil, append_assoc, arith}
+use Rattle.mk_quarantine.proofs.Vocabulary.{before_it, cases_Bool, earlier_part_is_history, enabled_in_parts, eq-eqb}
+use Rattle.mk_quarantine.proofs.Vocabulary.{false, has_step, inl, inr, is_begin, is_give, is_same_seat, known_left}
+use Rattle.mk_quarantine.proofs.Vocabulary.{lacks_first, left, left_in_parts, left_more, list_any, list_any-append}
+use Rattle.mk_quarantine.proofs.Vocabulary.{ltb-true, ne_eqb, or_from, or_parts, own_give, refl, reg_leaves, stands}
+use Rattle.mk_quarantine.proofs.Vocabulary.{subst, sym, taken, tally_keeps, true, true≢false, turn_of, view_of}
+use Rattle.mk_quarantine.proofs.Vocabulary.{world_behind, [], ⊎_elim, ◌++◌, ◌+◌, ◌<◌, ◌∙◌, ◌∷◌, ◌≡◌}
 use Rattle.mk_core.specs.History.{AreEnabledFrom, left_from}
 use Rattle.mk_laws.proofs.{Actors.is_holders, Basics.actor_of, Basics.known_behind, CyclePhases.begin_is}
 use Rattle.mk_laws.proofs.{FramesHolders.acts_as_holder, LayoutHolders.giver_has_turn}
@@ -136,11 +136,7 @@ module _ (c : Config) (k : ℕ) (es : List Event) (h : IsHistory c es) (t : Turn
       let first : IsHistory c (t.before ++ taken t ∷ part) = grind (arith, earlier_part_is_history, taken) in
       let split : (t.before ++ taken t ∷ []) ++ part ≡ t.before ++ taken t ∷ part =
       append_assoc t.before (taken t ∷ []) part in
-      let none : GivesNone (Caller k) part = grind (arith, or_parts, own_give, list_any-append) in
-      ap (λ (l : List Event). (left c l).now.words.turn) (sym split)
-      ∙ turn_stays_held c (t.before ++ taken t ∷ []) part k
-      (subst (λ (l : List Event). IsHistory c l) (sym split) first)
-      taker_exists turn_taken none
+      grind (arith, or_parts, own_give, list_any-append, turn_stays_held, taken, taker_exists, turn_taken)
 
 pub record IsSameTurn (c : Config) (k : ℕ) (es : List Event) (t u : TurnOf c (Caller k) es) : Type 0 where
   pub before : u.before ≡ t.before
@@ -156,11 +152,7 @@ apart c k es t u h part is =
     let same : taken u ∷ u.behind ≡ taken u ∷ (part ++ taken t ∷ t.behind) = grind (arith, append_cancel_left, taken) in
     let parts : u.behind ≡ part ++ taken t ∷ t.behind = cc in
     let held = turn_held_in c k es h u part (taken t ∷ t.behind) parts in
-    let free : (left c (u.before ++ taken u ∷ part)).now.words.turn ≡ 0 = grind arith in
-    omega arith
-
-op_of_take : (x y : Option Op) → Step.Take x ≡ Step.Take y → x ≡ y
-op_of_take x y h = cc
+    grind (arith, taken)
 
 pub one_turn : (c : Config) (k : ℕ) (es : List Event) (t u : TurnOf c (Caller k) es) → IsHistory c es
     → IsSameTurn c k es t u
@@ -172,7 +164,7 @@ one_turn c k es t u h =
   where
     by : (rest : List Event) → u.before ≡ t.before ++ rest → taken t ∷ t.behind ≡ rest ++ taken u ∷ u.behind
         → IsSameTurn c k es t u
-    by [] first is = grind (arith, taken, append-nil, op_of_take)
+    by [] first is = grind (arith, taken, append-nil)
     by (y ∷ ys) first is =
         let take : taken t ≡ y = cc in
         absurd (apart c k es u t h ys (first ∙ ap (λ (e : Event). t.before ++ e ∷ ys) (sym take)))

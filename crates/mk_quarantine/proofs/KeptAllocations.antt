@@ -3,11 +3,11 @@ use Rattle.mk_laws.proofs.Vocabulary.{Words, not-true}
 use Rattle.mk_quarantine.proofs.Vocabulary.{AsksPhase, At, Cell, Config, Event, IsKeptByLastCycle, KeptByEvents, Lacks}
 use Rattle.mk_quarantine.proofs.Vocabulary.{List, Meets, Next, OfHistories, Option, PlacedAllocation, Seat, Step, World}
 use Rattle.mk_quarantine.proofs.Vocabulary.{WorldBehind, ℕ, and_parts, arith, before_it, cases_Bool, cases_eq, cases_lt}
-use Rattle.mk_quarantine.proofs.Vocabulary.{changed_at, earlier_at, false, first_world, flight_of, freed_leaves}
-use Rattle.mk_quarantine.proofs.Vocabulary.{freed_where_it_stands, get_or_past, granted, holds_of_histories, inl, inr}
-use Rattle.mk_quarantine.proofs.Vocabulary.{is_begin, is_close, is_end, is_quarantined, is_release, lacks_append}
-use Rattle.mk_quarantine.proofs.Vocabulary.{lacks_one, left, left_more, length, length-append, longer_at, never_granted}
-use Rattle.mk_quarantine.proofs.Vocabulary.{not, phase_asked, phase_behind, phase_of, placed_at, refl, subst, sym, true}
+use Rattle.mk_quarantine.proofs.Vocabulary.{changed_at, earlier_at, false, first_world, freed_leaves}
+use Rattle.mk_quarantine.proofs.Vocabulary.{freed_where_it_stands, get_or_past, holds_of_histories, inl, inr, is_begin}
+use Rattle.mk_quarantine.proofs.Vocabulary.{is_close, is_end, is_quarantined, is_release, lacks_append, lacks_one, left}
+use Rattle.mk_quarantine.proofs.Vocabulary.{left_more, length, length-append, longer_at, never_granted, not}
+use Rattle.mk_quarantine.proofs.Vocabulary.{phase_asked, phase_behind, phase_of, placed_at, refl, subst, sym, true}
 use Rattle.mk_quarantine.proofs.Vocabulary.{true≢false, world_behind, [], ◌++◌, ◌∙◌, ◌∷◌, ◌≡◌, ◌⊎◌}
 use Rattle.mk_core.{proofs.ChangedAllocations.granted_at, specs.History.left_from}
 use Rattle.mk_laws.proofs.{CyclePhases.phase_moves, Longer.longer_next, Longer.next_at_end}
@@ -115,11 +115,7 @@ stale_freed w cell a h = grind arith
 
 stale_was : (c : Config) (w : World) (seat : Seat) (x : Step) (i : ℕ) → is_begin x ≡ false
     → IsStale (placed_at (WorldBehind c w seat x).allocations i) → IsStale (placed_at w.allocations i)
-stale_was c w seat Step.Begin i none h = cc
-stale_was c w seat Step.Grant i none h = stale_granted w.allocations (granted c w.now (flight_of w.now seat)) i refl h
-stale_was c w seat (Step.Quar p v) i none h = grind (arith, stale_freed, changed_at, freed_leaves)
-stale_was c w seat Step.Release i none h = grind (arith, changed_at)
-stale_was c w seat _ i none h = h
+stale_was c w seat x4 i none h = grind (arith, stale_granted, stale_freed, changed_at, freed_leaves)
 
 -- at a `begin`
 stale_begun : (c : Config) (w : World) (seat : Seat) (x : Step) (i : ℕ) → is_begin x ≡ true

@@ -92,11 +92,7 @@ record IsTake (x : Step) : Type 0 where
 
 taken_by_take : (c : Config) (w : World) (seat : Seat) (x : Step) (n : ℕ) → w.now.words.turn ≡ 0
     → (WorldBehind c w seat x).now.words.turn ≡ 1 + n → IsTake x
-taken_by_take c w seat (Step.Take o) n free now = record { op = o; is = refl }
-taken_by_take c w seat Step.Give n free now = absurd (omega arith)
-taken_by_take c w seat Step.Reg n free now = let same = (reg_leaves c w seat).turn in absurd (omega arith)
-taken_by_take c w seat (Step.Tally t v) n free now = grind (arith, tally_keeps)
-taken_by_take c w seat _ n free now = absurd (omega arith)
+taken_by_take c w seat x4 n free now = grind (arith, reg_leaves, tally_keeps)
 
 -- Where it comes from, by events.
 data FreeCame (c : Config) (w : World) (seat : Seat) (x : Step) (k : ℕ) : Type 0 where
@@ -138,8 +134,7 @@ module _ (c : Config) (w : World) (k : ℕ) (known : Known c w.now) (lt : k < c.
   loaded : f.stage ≡ Stage.LoadP → standing f ≡ UnderTurn → FreeCame c w (Caller k) Step.Reg k
   loaded at stands =
       WasOpen
-      (ap (λ (s : Stage). is_open_at s f.op) at
-      ∙ load_is_open f.op (ap (λ (s : Stage). standing_at s f.op) (sym at) ∙ stands))
+      (grind (arith, is_open_at, load_is_open, standing_at))
       (ap (λ (g : Flight). g.op) (get_or-set_same w.now.seats.flights k _ at_rest within)
       ∙ ap (λ (s : Stage). (progress_reg f s (found c w.now (record { seat = Caller k; step = Step.Reg }))).flight.op)
       at
@@ -202,8 +197,6 @@ frees_off c w seat x k known meets lt was waits =
 -- and given no turn of its caller back.
 gives_off : (c : Config) (w : World) (seat : Seat) (x : Step) (k : ℕ) → Known c w.now → k < c.callers
     → HasOpen (WorldBehind c w seat x) k → gives_turn (Caller k) (record { seat = seat; step = x }) ≡ false
-gives_off c w (Marker j) x k known lt waits = refl
-gives_off c w Host x k known lt waits = refl
 gives_off c w (Caller j) x k known lt waits =
     false_from_ne_true ((k == j) && is_give x)
     (λ is. let both = and_parts (k == j) (is_give x) is in by j x (eqb-true k j both.0) both.1 waits)
@@ -214,6 +207,7 @@ gives_off c w (Caller j) x k known lt waits =
         let mine : HasOpen (WorldBehind c w (Caller k) Step.Give) k = grind arith in
         true≢false (sym mine ∙ ap (λ (g : Flight). is_open_free g) rests)
     by j _ own is waits = cc
+gives_off c w _ x k known lt waits = refl
 
 -- No event of the list frees an object.
 unfoldable pub FreesNoneFrom : Config → World → List Event → Type 0

@@ -5,10 +5,9 @@ use Rattle.mk_quarantine.proofs.Vocabulary.{List, OfHistories, PlacedAllocation,
 use Rattle.mk_quarantine.proofs.Vocabulary.{arith, cases_Bool, cases_lt, decides_freed, false, flight_of}
 use Rattle.mk_quarantine.proofs.Vocabulary.{fresh_words_of, given_back, given_back_behind, has_step}
 use Rattle.mk_quarantine.proofs.Vocabulary.{held_by_allocations, holds_of_histories, if◌then◌else◌, inl, inr, is_begin}
-use Rattle.mk_quarantine.proofs.Vocabulary.{is_mapped, is_of_cycle, lacks_append, lacks_at, lacks_first, lacks_one}
-use Rattle.mk_quarantine.proofs.Vocabulary.{left, left_in_parts, left_more, not, stands, storage_words, subst, sym}
-use Rattle.mk_quarantine.proofs.Vocabulary.{taken, true, true≢false, world_behind, [], ⊎_elim, ◌&&◌, ◌*◌, ◌++◌, ◌+◌}
-use Rattle.mk_quarantine.proofs.Vocabulary.{◌∙◌, ◌∷◌, ◌≡◌, ◌≤◌, ◌⊎◌}
+use Rattle.mk_quarantine.proofs.Vocabulary.{is_of_cycle, lacks_append, lacks_at, lacks_first, lacks_one, left}
+use Rattle.mk_quarantine.proofs.Vocabulary.{left_in_parts, left_more, not, stands, subst, sym, taken, true, true≢false}
+use Rattle.mk_quarantine.proofs.Vocabulary.{world_behind, [], ⊎_elim, ◌&&◌, ◌*◌, ◌++◌, ◌+◌, ◌∙◌, ◌∷◌, ◌≡◌, ◌≤◌, ◌⊎◌}
 use Rattle.mk_core.specs.History.{left_from}
 use Rattle.mk_quarantine.proofs.CountedWords.{IsQuarter, filtered_in_parts, given_more, none_fresh_begun, quarter_stays}
 use Rattle.mk_quarantine.proofs.EndedFrees.{CallersAreExact, EndedFree, ended_free}
@@ -153,9 +152,7 @@ fresh_or_kept n mapped freed fresh = grind arith
 
 pub quarantined_is_fresh_or_kept : (c : Config) (xs : List PlacedAllocation)
     → quarantined_mapped c xs ≤ fresh_words_of c xs + kept_mapped c xs
-quarantined_is_fresh_or_kept c xs =
-    filtered_in_parts _ (λ a. is_mapped c a && a.freed) (λ a. is_mapped c a && a.fresh) (λ a. is_mapped c a && a.freed
-    && not a.fresh) (λ a. fresh_or_kept (storage_words c a) (is_mapped c a) a.freed a.fresh) xs
+quarantined_is_fresh_or_kept c xs = search (filtered_in_parts, fresh_or_kept)
 
 pub quarantine_is_quarter_and_kept : (on : Bool) (c : Config) (es : List Event) → IsHistory c es
     → CallersAreExact on c es → (left c es).now.words.turn ≡ 0 → QuarantineIsQuarterAndKept c es

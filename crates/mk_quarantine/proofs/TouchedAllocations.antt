@@ -1,10 +1,10 @@
 -- What the last cycle kept is touched: released allocations stay so, so it was kept at the cycle's `release`.
 use Rattle.mk_laws.proofs.Vocabulary.{Releasing, freed_released, through_release}
-use Rattle.mk_quarantine.proofs.Vocabulary.{Bool, Config, Event, List, OfHistories, Seat, Step, World, WorldBehind, ℕ}
+use Rattle.mk_quarantine.proofs.Vocabulary.{Config, Event, List, OfHistories, Seat, Step, World, WorldBehind, ℕ}
 use Rattle.mk_quarantine.proofs.Vocabulary.{append_assoc, arith, cases_lt, changed_at, earlier_at, false_from_ne_true}
 use Rattle.mk_quarantine.proofs.Vocabulary.{flight_of, freed_leaves, get_or_past, is_quarantined, left, left_in_parts}
-use Rattle.mk_quarantine.proofs.Vocabulary.{length, placed_at, sym, true, true≢false, world_behind, [], ◌++◌, ◌<◌, ◌||◌}
-use Rattle.mk_quarantine.proofs.Vocabulary.{◌∙◌, ◌∷◌, ◌≡◌}
+use Rattle.mk_quarantine.proofs.Vocabulary.{length, placed_at, sym, true, true≢false, world_behind, [], ◌++◌, ◌<◌, ◌∙◌}
+use Rattle.mk_quarantine.proofs.Vocabulary.{◌∷◌, ◌≡◌}
 use Rattle.mk_core.specs.{Cycles.before_begin, History.left_from}
 use Rattle.mk_laws.proofs.AllocationSteps.{allocation_step, goes_on}
 use Rattle.mk_laws.proofs.{PrecisionStopped.keeps_only_the_touched, Stretches.at_release}
@@ -28,12 +28,9 @@ there_from c w (e ∷ es) i there = there_from c (world_behind c w e) es i (ther
 abbrev IsReleased : World → ℕ → Type 0
 IsReleased w i = (placed_at w.allocations i).released ≡ true
 
-still_true : (a b : Bool) → a ≡ true → (a || b) ≡ true
-still_true a b is = grind arith
-
 released_behind : (c : Config) (w : World) (seat : Seat) (x : Step) (i : ℕ) → IsThere w i → IsReleased w i
     → IsReleased (WorldBehind c w seat x) i
-released_behind c w seat x4 i there is = grind (arith, earlier_at, changed_at, freed_leaves, freed_released, still_true)
+released_behind c w seat x4 i there is = grind (arith, earlier_at, changed_at, freed_leaves, freed_released)
 
 released_from : (c : Config) (w : World) (es : List Event) (i : ℕ) → IsThere w i → IsReleased w i
     → IsReleased (left_from c w es) i
