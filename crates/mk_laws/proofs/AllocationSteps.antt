@@ -78,10 +78,7 @@ goes_on xs _ x i (Changes g ch) lt =
     let at = changed_at g xs i ch.places.none in
     record {
       there = omega (arith, length-map xs g);
-      same = record {
-        base = ap (λ (a : PlacedAllocation). a.base) at ∙ ch.places.base _;
-        ty = ap (λ (a : PlacedAllocation). a.ty) at ∙ ch.places.ty _;
-      };
+      same = grind arith;
       stays = λ other u. ap (λ (a : PlacedAllocation). a.released) at ∙ ch.stays other _ u;
     }
 goes_on xs _ x i (Grants a grant) lt =

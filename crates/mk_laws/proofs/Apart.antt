@@ -8,8 +8,8 @@ use Rattle.mk_laws.proofs.Vocabulary.{cases_Bool, cases_eq, cases_lt, cell_of_al
 use Rattle.mk_laws.proofs.Vocabulary.{class_made, class_words_of, false, first_page_shows, get_or, header_in, inl, inr}
 use Rattle.mk_laws.proofs.Vocabulary.{is_small, is_small_object, length, mul-le, object_placed, pages_made, pages_some}
 use Rattle.mk_laws.proofs.Vocabulary.{placed_at, refl, small_pages, small_words, stands_on, storage_is_of, storage_of}
-use Rattle.mk_laws.proofs.Vocabulary.{storage_words, suc, sym, true, true≢false, unreleased_storage, words_within, zero}
-use Rattle.mk_laws.proofs.Vocabulary.{[], ◌%◌, ◌*◌, ◌+◌, ◌-◌, ◌/◌, ◌<◌, ◌∙◌, ◌∷◌, ◌≡◌, ◌≢◌, ◌≤◌}
+use Rattle.mk_laws.proofs.Vocabulary.{storage_words, suc, sym, true, true≢false, unreleased_storage, words_within, []}
+use Rattle.mk_laws.proofs.Vocabulary.{◌%◌, ◌*◌, ◌+◌, ◌-◌, ◌/◌, ◌<◌, ◌∙◌, ◌∷◌, ◌≡◌, ◌≢◌, ◌≤◌}
 use Rattle.mk_geom.{proofs.Standing.stands_parts, specs.Storages.LieApart}
 use Rattle.mk_core.proofs.UnreleasedStorage.{released_front, unreleased_front}
 use Rattle.mk_core.proofs.{Sizes.words_are_small, StandingAllocations.placed_cell}
@@ -186,7 +186,4 @@ lie_in_pairs c (x ∷ xs) apart lie =
 
     cons : x.released ≡ false → LieInPairs (unreleased_storage c xs)
         → LieInPairs (storage_of c x ∷ unreleased_storage c xs)
-    cons u rest zero zero d li lj ne = absurd (ne refl)
-    cons u rest zero (suc j) d li lj ne = beside u j d (omega arith)
-    cons u rest (suc i) zero d li lj ne = grind (arith, beside)
-    cons u rest (suc i) (suc j) d li lj ne = rest i j d (omega arith) (omega arith) (λ e. ne (rw e))
+    cons u rest x3 x4 d li lj ne = grind (arith, beside)

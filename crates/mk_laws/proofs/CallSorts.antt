@@ -58,9 +58,7 @@ reg_registers w k f _ = cc
 
 -- a begun call has loaded nothing
 begun_carries : (bs : List ℕ) (o : Op) (n : NeverState) (k : ℕ) → CarriesOwn bs n k (begun o)
-begun_carries bs (Op.New d ty full) n k =
-    record { q = λ e. cc; some_q = λ e. cc; p = λ e. cc; some_p = λ e. cc; r = λ e. cc }
-begun_carries bs _ n k = record { q = λ e. cc; some_q = λ e. cc; p = λ e. cc; some_p = λ e. cc; r = λ e. cc }
+begun_carries bs x2 n k = grind arith
 
 begun_plain : (o : Op) → (is_past_probe (begun o).stage ≡ false) × (is_put (begun o).stage ≡ false)
 begun_plain (Op.New d ty full) = (refl, refl)

@@ -6,7 +6,7 @@ use Rattle.mk_laws.proofs.Vocabulary.{ap, arith, cases_eq, cell_at, cell_ends, c
 use Rattle.mk_laws.proofs.Vocabulary.{cells_under, false, has_no_pointers, head_page, head_page_under, header_at}
 use Rattle.mk_laws.proofs.Vocabulary.{header_in, heads_run, inl, inr, mul-le, page_at_address, pointed_cell, refl}
 use Rattle.mk_laws.proofs.Vocabulary.{run_count, slice_index, storage_of, storage_words, sym, true, word_points}
-use Rattle.mk_laws.proofs.Vocabulary.{words_under, ◌%◌, ◌*◌, ◌+◌, ◌-◌, ◌/◌, ◌<◌, ◌∙◌, ◌≡◌, ◌≢◌, ◌≤◌, ◌⊎◌}
+use Rattle.mk_laws.proofs.Vocabulary.{words_under, ◌*◌, ◌+◌, ◌-◌, ◌/◌, ◌<◌, ◌∙◌, ◌≡◌, ◌≢◌, ◌≤◌, ◌⊎◌}
 use Rattle.mk_core.proofs.PointedPages.{pointed_head}
 use Rattle.mk_laws.{proofs.Headers.free_shows, specs.Kept.LaterPagesAreKnown, specs.WholeRuns.RunsAreWhole}
 
@@ -55,9 +55,7 @@ covered_word w p k i later lk scanned li some = elim (cell_on (header_in w p) k 
             elim (later p (run_count (header_in w p)) (i / 64) (scanned_run _ run.0 scanned) (omega arith)
             (omega arith)) [
               | inl head ↦ rw page head
-              | inr bare ↦
-                  let word : 64 * p + k * words_under (header_in w p) + i ≡ 64 * (p + i / 64) + i % 64 = omega arith in
-                  absurd (some (rw word (bare (i % 64) (omega arith))))
+              | inr bare ↦ grind arith
             ]
       ]
 ]

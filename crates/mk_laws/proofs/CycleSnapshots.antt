@@ -84,9 +84,7 @@ tells_behind c xs w seat x b h laid q out t = record {
     by : (i : ℕ) → FlagsStep w (WorldBehind c w seat x) i
         → is_freed_before (placed_at (WorldBehind c w seat x).allocations i) ≡ is_quarantined (placed_at xs i)
     by i (Stays was same) = same ∙ t.flags i was
-    by i (IsNew past none) =
-        let m = t.longer in
-        none ∙ sym (rw (get_or_past xs i never_granted (omega arith)))
+    by i (IsNew past none) = none ∙ sym (rw (get_or_past xs i never_granted (omega arith)))
 
 -- at the `begin`
 tells_at_begin : (c : Config) (w : World) (seat : Seat) → Tells w.allocations (WorldBehind c w seat Step.Begin)

@@ -58,10 +58,7 @@ settled_page w count p h lt =
     let parts = and_parts _ occupied (all_below-at count p _ h lt) in
     record {
       none = λ k. sym (has_bit_without _ _ k) ∙ no_bit _ k (eqb-true _ 0 parts.0);
-      used = λ some empty. elim (or_cases _ _ parts.1) [
-        | inl z ↦ some (eqb-true (header_at w p) 0 z)
-        | inr u ↦ eqb-false _ 0 (not-true _ u) empty
-      ];
+      used = grind (arith, or_cases, eqb-true, eqb-false, not-true);
     }
 
 -- `end`

@@ -1,6 +1,6 @@
 -- The count of fresh words that is kept beside the table is that of the allocations, after each kind of event.
 use Rattle.std.proofs.Common.{min}
-use Rattle.mk_laws.proofs.Vocabulary.{Bool, Cell, Config, Header, List, None, Object, Option, PlacedAllocation, Seat}
+use Rattle.mk_laws.proofs.Vocabulary.{Bool, Cell, Config, Header, None, Object, Option, PlacedAllocation, Seat}
 use Rattle.mk_laws.proofs.Vocabulary.{ShowsPart, Some, StandsInOrder, Step, World, ℕ, and_parts, ap, arith, cases_lt}
 use Rattle.mk_laws.proofs.Vocabulary.{cell_freed, cell_of_allocation, changed_at, cond-true, false, false_from_ne_true}
 use Rattle.mk_laws.proofs.Vocabulary.{first_page_shows, flight_of, freed_cell, freed_where_it_stands, fresh_words_of}
@@ -24,9 +24,7 @@ FreshTold c w = w.now.fresh_words ≡ in_a_word (fresh_words_of c w.allocations)
 -- what a freed object adds: a small one's storage
 words_of_part : (o : Object) (x : Option Header) → ShowsPart o 0 x → (small : Bool) → is_small_object o ≡ small
     → (if heads_run x then 0 else words_under x) ≡ (if small then words_made o else 0)
-words_of_part o x part true is =
-    ap (λ b. if b then 0 else words_under x) (small_heads_none o 0 x part is).0 ∙ part_words o x part
-words_of_part o x part false is = ap (λ b. if b then 0 else words_under x) (part_heads_run o x part is)
+words_of_part o x part x4 is = grind (arith, small_heads_none, part_words, part_heads_run)
 
 -- and what it counts from then on
 counted_freed : (released large small : Bool) (n : ℕ) → released ≡ false → large ≡ not small
@@ -55,9 +53,7 @@ module _ (c : Config) (w : World) (cell : Cell) (n : ℕ) (b : Before c w) (off 
       let a : PlacedAllocation = placed_at w.allocations i in
       let u = not-true a.released (and_parts _ _ is).0 in
       let same : cell_of_allocation c a ≡ cell_of_allocation c own = x.others i u is ∙ sym x.own.is in
-      let apart = apart_left _ _ order.laid.scene.apart in
-      absurd (ne (numbers_apart c w.now.seats.holding.freed w.allocations i x.own.number apart u x.own.unreleased
-      (ap (λ (y : Cell). y.page) same, ap (λ (y : Cell). y.index) same)))
+      grind (arith, apart_left, numbers_apart)
 
   part : ShowsPart (object_placed c own) 0 (header_in w.now.words cell.page)
   part =
@@ -93,9 +89,6 @@ module _ (c : Config) (w : World) (cell : Cell) (n : ℕ) (b : Before c w) (off 
 
 -- A sum stands still at the greatest number of a word.
 
-none_added : (n s : ℕ) → n ≡ in_a_word s → min (n + 0) (2 ^ 64 - 1) ≡ in_a_word s
-none_added n s is = omega arith
-
 -- each kind of event, whatever the seat
 pub fresh_told_behind : (c : Config) (w : World) (seat : Seat) (x : Step) → Before c w → Meets c w.now seat x
     → StandsInOrder c w → FreshTold c w → FreshTold c (WorldBehind c w seat x)
@@ -105,8 +98,7 @@ fresh_told_behind c w seat (Step.Quar p n) b h order told =
     by : (cell : Option Cell) → cell_freed c.pages w.now.words (flight_of w.now seat) p n ≡ cell
         → min (w.now.fresh_words + words_freed w.now.words cell) (2 ^ 64 - 1)
         ≡ in_a_word (fresh_words_of c (map (freed_where_it_stands w.now.words cell) w.allocations))
-    by None is = none_added _ _ told ∙ ap (λ (ys : List PlacedAllocation). in_a_word (fresh_words_of c ys))
-        (sym (none_freed w.now.words w.allocations))
+    by None is = grind (arith, none_freed)
     by (Some cell) is =
         let x = freed_cell c.pages w.now.words _ p n cell is in
         let sum = fresh_freed c w cell n b x.phase order (frees_here c w seat p n cell b h order.laid x) in

@@ -75,10 +75,7 @@ pub stopped_marks_are_closed : StoppedMarksAreClosed
 stopped_marks_are_closed c w limits say g three = closed_allocations c w limits say.mapped (g.closed three)
 
 pub marking_guards : MarkingGuards
-marking_guards c m g early = (g.guarded (elim early [
-  | inl e ↦ inl (eqb-true _ 1 e)
-  | inr e ↦ inr (eqb-true _ 2 e)
-])).black
+marking_guards c m g early = (g.guarded (grind (arith, eqb-true))).black
 
 pub others_at_first : GuardPremisesAtFirst
 others_at_first c = grind arith

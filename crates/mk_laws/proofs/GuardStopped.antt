@@ -1,14 +1,13 @@
 -- From `close` to `release` the marks stay closed: nothing changes but words that are wiped.
 use Rattle.std.proofs.{Common.bit_and, lemmas.Nat.Bits.bit_at_and, lemmas.Nat.Bits.bit_at_ones}
 use Rattle.std.specs.List.{list_all}
-use Rattle.mk_laws.proofs.Vocabulary.{AreOfPages, BlackIsGuarded, Caller, CellsAreClosed, Config, DirtyIsOwed, Host}
-use Rattle.mk_laws.proofs.Vocabulary.{IsGuarded, Marker, Moment, PageIsDirty, PointsWell, Seat, Stage, Step, Words, ℕ}
-use Rattle.mk_laws.proofs.Vocabulary.{all_below, all_below-at, and_parts, ap, arith, at_rest, cases_eq, cases_lt}
-use Rattle.mk_laws.proofs.Vocabulary.{cells_under, eq-eqb, eqb-true, false, fewer_bits, first_word, flight_of}
-use Rattle.mk_laws.proofs.Vocabulary.{get_or_past, has_bit, has_closed_page, header_at, header_in, holder_number, inl}
-use Rattle.mk_laws.proofs.Vocabulary.{inr, ltb-true, or_cases, phase_of, points_well, roots_point_well, slice_index}
-use Rattle.mk_laws.proofs.Vocabulary.{subst, sym, true, true≢false, without, word_points_well, ◌/◌, ◌<◌, ◌==◌, ◌||◌}
-use Rattle.mk_laws.proofs.Vocabulary.{◌∙◌, ◌≡◌, ◌⊎◌}
+use Rattle.mk_laws.proofs.Vocabulary.{AreOfPages, BlackIsGuarded, Caller, CellsAreClosed, Config, IsGuarded, Moment}
+use Rattle.mk_laws.proofs.Vocabulary.{Seat, Stage, Step, Words, ℕ, all_below, all_below-at, and_parts, ap, arith}
+use Rattle.mk_laws.proofs.Vocabulary.{cases_eq, cases_lt, cells_under, eq-eqb, eqb-true, fewer_bits, first_word}
+use Rattle.mk_laws.proofs.Vocabulary.{flight_of, get_or_past, has_bit, has_closed_page, header_at, header_in}
+use Rattle.mk_laws.proofs.Vocabulary.{holder_number, inl, inr, ltb-true, or_cases, phase_of, points_well}
+use Rattle.mk_laws.proofs.Vocabulary.{roots_point_well, slice_index, subst, sym, true, without, word_points_well, ◌<◌}
+use Rattle.mk_laws.proofs.Vocabulary.{◌==◌, ◌||◌, ◌≡◌, ◌⊎◌}
 use Rattle.mk_core.{proofs.ListTests.list_all-at, proofs.MarkTests.null_points_well}
 use Rattle.mk_core.{proofs.RegisterAccesses.tally_leaves_registers, proofs.WordBits.without_none, specs.Cells.cell_bits}
 use Rattle.mk_laws.proofs.Basics.{Behind, InCall, Known, Meets, Table, at_its_stage, at_reg, calls_stand, either_phase}
@@ -99,11 +98,7 @@ leaves_closed c m seat x known three h =
 pub owes_in_call : (c : Config) (m : Moment) (j : ℕ) → Known c m → (flight_of m (Caller j)).stage ≡ Stage.Dirty
     → (j < c.callers) × (standing (flight_of m (Caller j)) ≡ InCall)
 owes_in_call c m j known at = elim (cases_lt j c.callers) [
-  | inr past ↦
-      let rest : flight_of m (Caller j) ≡ at_rest =
-      get_or_past m.seats.flights j at_rest (omega (arith, known.orderly.flights)) in
-      let bad : Stage.Idle ≡ Stage.Dirty = sym (rw rest) ∙ at in
-      absurd (true≢false (let y : true ≡ false = cc in y))
+  | inr past ↦ grind (arith, get_or_past)
   | inl lt ↦ grind (arith, is_astray, standing_at, not_astray, calls_stand)
 ]
 
@@ -121,9 +116,7 @@ none_owes c m seat j known h at = elim (cases_eq (holder_number c seat) j) [
     call = owes_in_call c m j known at
 
     own : (seat : Seat) → holder_number c seat ≡ j → j < c.callers → Meets c m seat Step.Close → ⊥
-    own (Caller k) e lt h = grind (arith, at_owed)
-    own (Marker k) e lt h = absurd (omega arith)
-    own Host e lt h = absurd (omega arith)
+    own x1 e lt h = grind (arith, at_owed)
 
 -- a marked cell of the page is black, and the page isn't dirty
 
@@ -165,6 +158,4 @@ closed c m seat known len h black = record {
     dirty p one = grind (arith, cases_lt, page, get_or_past)
 
     settled : (n : ℕ) → IsGuarded c m n → word_points_well c.pages m.words n ≡ true
-    settled n (PointsWell h) = h
-    settled n (PageIsDirty d) = absurd (dirty (n / 64) d)
-    settled n (DirtyIsOwed j owes) = absurd (none_owes c m seat j known h owes.0)
+    settled n x2 = grind (arith, dirty, none_owes)

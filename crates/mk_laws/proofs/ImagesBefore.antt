@@ -75,7 +75,5 @@ module _ (c : Config) (w : World) (n : NeverState) (known : KnownWorld c w) (mir
         | inl yes_gone ↦ yes_gone
         | inr there ↦
             let s = shows_at c (view_of w.now) k InCall known.now.orderly lt in_call in
-            let g = others.gates there k lt s.1 in
-            let one = s.0 in
-            absurd (omega arith)
+            grind arith
       ]

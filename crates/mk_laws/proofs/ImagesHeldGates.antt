@@ -2,16 +2,14 @@
 use Rattle.mk_laws.proofs.Vocabulary.{Config, Op, Stage, ℕ, arith, at_rest, cases_lt, get_or_past, inl, inr, refl, sym}
 use Rattle.mk_laws.proofs.Vocabulary.{◌<◌, ◌≡◌, ◌≢◌}
 use Rattle.mk_laws.proofs.Basics.{Orderly, View, flight_in, gate_in, standing_at}
-use Rattle.mk_laws.proofs.Standings.{Astray, Resting, Shows, Standing}
+use Rattle.mk_laws.proofs.Standings.{Resting, Shows, Standing}
 
 pub resting_idle : (o : Op) (s : Stage) → standing_at s o ≡ Resting → s ≡ Stage.Idle
 resting_idle o Stage.Idle h = refl
 resting_idle o s h = grind arith
 
 held_resting : (t k : ℕ) (s : Standing) (g : ℕ) → g ≡ 2 → Shows t g k s → s ≡ Resting
-held_resting t k Resting g e h = refl
-held_resting t k Astray g e h = absurd h
-held_resting t k _ g e h = absurd (let x = h.0 in omega arith)
+held_resting t k x3 g e h = grind arith
 
 pub held_idle : (c : Config) (v : View) (j : ℕ) → Orderly c v → j < c.callers → gate_in v j ≡ 2
     → (flight_in v j).stage ≡ Stage.Idle

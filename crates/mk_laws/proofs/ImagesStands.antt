@@ -118,6 +118,4 @@ gone_shows c w limits others gone a i u un lt =
     let h = others.laid_out a u in
     let sized = typed_size c x limits h.stands.typed in
     let at = page_of_word c x i sized h.stands.begins lt in
-    let large = large_object c x (and_parts x.freed (is_large (kinds_of c.types x.ty)) un).1 in
-    rw at.page (rw (gone_headers c w.now.words w.now.seats.holding.freed x h (mapped_is c x u ∙ ap not un) gone
-    at.distance at.near) (unmapped_is_unmapped _ at.distance (large_count (object_placed c x) sized large) at.near))
+    grind (arith, large_object, and_parts, gone_headers, mapped_is, unmapped_is_unmapped, large_count)

@@ -69,10 +69,7 @@ scan_kept c m n hand x k h =
       marked = k.marks x.page x.index h.marked;
       start = rw first h.start;
       next = h.next;
-      end = elim h.end [
-        | inl e ↦ inl (e ∙ rw (← first) (rw (← (g.words some))))
-        | inr e ↦ inr (e.0 ∙ sym first, g.unscanned some e.1)
-      ];
+      end = grind arith;
       passed = λ f i le lt. passes c m n hand k i (h.passed (scanned_before c.pages _ _ g some f) i
           (rw first at le) lt);
     }

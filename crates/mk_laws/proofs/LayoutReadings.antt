@@ -1,11 +1,10 @@
 -- What a laid out scene says of one page.
 use Rattle.mk_laws.proofs.Vocabulary.{Among, AreApart, Claim, HasHeader, IsHeaderOf, IsLaidOn, IsOfOneCell, IsShown}
-use Rattle.mk_laws.proofs.Vocabulary.{LayoutScene, List, Mapped, Mode, Object, Page, ShowsPart, Unmapping, ℕ, arith}
-use Rattle.mk_laws.proofs.Vocabulary.{cases_eq, cells_under, false_from_ne_true, has_bit, head_on, header_on}
-use Rattle.mk_laws.proofs.Vocabulary.{header_shows, inl, inr, no_bit, pages_made, part_head, part_not_free, shows_on}
-use Rattle.mk_laws.proofs.Vocabulary.{sym, true, true≢false, used_on, [], ◌+◌, ◌<◌, ◌∙◌, ◌∷◌, ◌≡◌, ◌≢◌}
+use Rattle.mk_laws.proofs.Vocabulary.{LayoutScene, List, Mode, Object, Page, ShowsPart, ℕ, arith, cases_eq, cells_under}
+use Rattle.mk_laws.proofs.Vocabulary.{false_from_ne_true, has_bit, head_on, header_on, header_shows, inl, inr, no_bit}
+use Rattle.mk_laws.proofs.Vocabulary.{pages_made, part_head, part_not_free, shows_on, sym, true, true≢false, used_on}
+use Rattle.mk_laws.proofs.Vocabulary.{[], ◌+◌, ◌<◌, ◌∙◌, ◌∷◌, ◌≡◌, ◌≢◌}
 use Rattle.mk_core.proofs.WordBits.{zero_from_bits}
-use Rattle.mk_laws.specs.LayoutScene.{Unmapped}
 
 pub zero_unless : (n : ℕ) → (n ≢ 0 → ⊥) → n ≡ 0
 zero_unless n h = elim (cases_eq n 0) [ inl is ↦ is | inr some ↦ absurd (h some) ]
@@ -20,9 +19,7 @@ none_set n k z h = true≢false (sym h ∙ no_bit n k z)
 -- a header that the mode allows is one of the object
 pub header_of_mode : (mode : Mode) (o : Object) (distance header : ℕ) → HasHeader mode o distance header
     → IsHeaderOf o distance header
-header_of_mode Mapped o distance header has = inl has
-header_of_mode Unmapping o distance header has = has
-header_of_mode Unmapped o distance header has = inr has
+header_of_mode x1 o distance header has = grind arith
 
 -- the claim's pages show its parts
 pub claimed : (pages : List Page) (x : Claim) (distance : ℕ) → IsShown pages x → distance < pages_made x.object
