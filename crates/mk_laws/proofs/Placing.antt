@@ -130,11 +130,6 @@ layout_carved s first o d laid plotted off next =
         → has_bit (used_on s.pages q) k ≡ true
     old q k h = rw (← (headed_used s.pages (first + d) (header_made o d) q lt)) h
 
-    not_headed : (e : ℕ) → (e < run_count (shows_on s.pages (first + d)))
-        ⊎ ((s.releasing ≡ true) × (header_on s.pages (first + d) ≡ 0)) → ⊥
-    not_headed e (inl less) = let none : run_count (shows_on s.pages (first + d)) ≡ 0 = rw was in omega arith
-    not_headed e (inr on) = true≢false (sym on.0 ∙ off)
-
     part : ShowsPart o d (header_of (header_made o d))
     part = made_shows o d plot.sized next.within
 

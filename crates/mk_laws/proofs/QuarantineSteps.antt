@@ -44,9 +44,6 @@ pub bit_cases : (xs : List ℕ) (p n q k : ℕ) → p < length xs
     ⊎ ((q ≢ p) × (has_bit (slice_index (slice_set xs p n) q) k ≡ has_bit (slice_index xs q) k))
 bit_cases xs p n q k lt = grind (arith, set_cases)
 
-without_le : (x y : ℕ) → without x y ≤ x
-without_le x y = omega arith
-
 -- what says that a cell is released
 pub released_bits : (snapshot marks : List ℕ) (p k : ℕ) → is_released_in true snapshot marks p k ≡ true
     → (has_bit (slice_index snapshot p) k ≡ true) × (has_bit (slice_index marks p) k ≡ false)

@@ -81,9 +81,6 @@ events_reach_the_table c es e limits on now =
 
 -- the access is the same where the call, the marker and a New's place are
 
-granter_holds : (c : Config) (m : Moment) (seat : Seat) → Meets c m seat Step.Grant → Holds c m seat
-granter_holds c m seat h = grind (arith, new_holds, grants_new)
-
 same_access : (c : Config) (m n : Moment) (seat : Seat) (x : Step) → flight_of n seat ≡ flight_of m seat
     → marker_at n seat ≡ marker_at m seat → (is_grant x ≡ true → n.seats.holding ≡ m.seats.holding)
     → access c n (record { seat = seat; step = x }) ≡ access c m (record { seat = seat; step = x })
@@ -93,7 +90,3 @@ pub others_leave_accesses : OthersLeaveAccesses
 others_leave_accesses c es more e limits on others now =
     let l = (others_leave c es more e.seat limits on others).own in
     grind (arith, same_access, enabled_meets)
-  where
-    granting : (x : Step) → is_grant x ≡ true → Meets c (left c es).now e.seat x → Holds c (left c es).now e.seat
-    granting Step.Grant g h = granter_holds c (left c es).now e.seat h
-    granting _ g h = cc
