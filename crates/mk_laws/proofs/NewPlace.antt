@@ -1,12 +1,11 @@
 -- The place of an undecided New lies in the heap.
 use Rattle.std.proofs.Common.{leb-false}
 use Rattle.mk_laws.proofs.Vocabulary.{Bool, Caller, Chosen, Config, Flight, Granted, Ground, Holding, List, Moment}
-use Rattle.mk_laws.proofs.Vocabulary.{None, Object, Op, Option, Page, Place, Placing, Seat, Some, Stage, Step, Unplaced}
-use Rattle.mk_laws.proofs.Vocabulary.{Used, World, ℕ, ap, at_rest, chosen, false, flight_of, holder_number}
-use Rattle.mk_laws.proofs.Vocabulary.{if◌then◌else◌, inl, inr, is_new_at, is_small_object, is_undecided_new, length}
-use Rattle.mk_laws.proofs.Vocabulary.{ltb-true, none-some, object_made, place_by_placing, place_now, place_on_pages}
-use Rattle.mk_laws.proofs.Vocabulary.{refl, run_pages_of, set_by, slice_index_or, slice_set, sym, taken, true, ◌+◌, ◌<◌}
-use Rattle.mk_laws.proofs.Vocabulary.{◌∙◌, ◌≡◌, ◌≤◌, ◌⊎◌}
+use Rattle.mk_laws.proofs.Vocabulary.{None, Op, Option, Page, Place, Placing, Seat, Some, Stage, Step, Unplaced, Used}
+use Rattle.mk_laws.proofs.Vocabulary.{World, ℕ, ap, at_rest, chosen, false, flight_of, holder_number, if◌then◌else◌}
+use Rattle.mk_laws.proofs.Vocabulary.{inl, inr, is_new_at, is_small_object, is_undecided_new, length, ltb-true}
+use Rattle.mk_laws.proofs.Vocabulary.{none-some, object_made, place_by_placing, place_now, refl, run_pages_of, set_by}
+use Rattle.mk_laws.proofs.Vocabulary.{slice_index_or, slice_set, sym, taken, true, ◌+◌, ◌<◌, ◌∙◌, ◌≡◌, ◌≤◌, ◌⊎◌}
 use Rattle.mk_geom.proofs.FirstFit.{run_place_is}
 use Rattle.mk_laws.proofs.Ground.{Carves, Gives, Grants, GroundStep, Places, Starts, TakesCell, Unmaps, ground_step}
 use Rattle.mk_laws.proofs.OrderlyLists.{event_moves}
@@ -32,30 +31,13 @@ PlacesFit c m = (k : ℕ) → k < c.callers → is_undecided_new (flight_of m (C
 
 -- the place of first fit does, and so that of the step
 
-first_fits : (resident : ℕ) (pages : List Page) (o : Object) (place : Place)
-    → place_on_pages resident pages o ≡ Some place
-    → is_small_object o ≡ false → place.page + run_pages_of o.words ≤ length pages
-first_fits resident pages o place is large =
-    (run_place_is resident o.words o.leaf pages place (leb-false o.words 32 large) is).free.within
-
 in_fits : (c : Config) (pages : List Page) (o : Op) (placing : Placing) (place : Place) → length pages ≡ c.pages
     → ((y : Place) → held_place placing ≡ Some y → PlaceFits c o y)
     → place_by_placing c.resident pages (object_made c o) placing ≡ Some place → PlaceFits c o place
-in_fits c pages o Unplaced place count held is = λ large. rw count at (first_fits c.resident pages _ place is large)
+in_fits c pages o Unplaced place count held is = λ large. rw count at
+    (run_place_is c.resident (object_made c o).words (object_made c o).leaf pages place (leb-false _ 32 large) is).free.within
 in_fits c pages o Granted place count held is = cc
 in_fits c pages o _ place count held is = held place is
-
-now_is : (c : Config) (m : Moment) (f : Flight) (place : Place) → place_now c m f ≡ Some place
-    → (is_undecided_new f ≡ true)
-    × (place_by_placing c.resident m.words.pages (object_made c f.op) m.seats.holding.placing ≡ Some place)
-now_is c m f place e = by (is_undecided_new f) refl e
-  where
-    by : (b : Bool) → is_undecided_new f ≡ b
-        → (if b then place_by_placing c.resident m.words.pages (object_made c f.op) m.seats.holding.placing else None)
-        ≡ Some place → (is_undecided_new f ≡ true)
-        × (place_by_placing c.resident m.words.pages (object_made c f.op) m.seats.holding.placing ≡ Some place)
-    by true is h = (is, h)
-    by false is h = cc
 
 -- a place that is held was held, or is that of the step
 
@@ -92,10 +74,7 @@ set_new fs k j f same =
     (λ e new. same new ∙ ap (λ i. slice_index_or fs i at_rest) (sym e)) (λ new. refl)
 
 pub call_no_new : (f : Flight) → standing f ≡ InCall → is_undecided_new f ≡ true → ⊥
-call_no_new f is new = let e : InCall ≡ UnderTurn = sym is ∙ new_stands f.stage f.op new in absurd (apart e)
-  where
-    apart : InCall ≡ UnderTurn → ⊥
-    apart e = cc
+call_no_new f is new = let e : InCall ≡ UnderTurn = sym is ∙ new_stands f.stage f.op new in absurd (cc)
 
 pub give_no_new : (o : Op) → is_new_at Stage.Give o ≡ true → ⊥
 give_no_new o h = cc
@@ -140,6 +119,18 @@ new_holds c m (Caller k) x h new = (k, ltb-true k c.callers h.seat, refl)
 new_holds c m _ x h new = cc
 
 -- the place of a step
+now_is : (c : Config) (m : Moment) (f : Flight) (place : Place) → place_now c m f ≡ Some place
+    → (is_undecided_new f ≡ true)
+    × (place_by_placing c.resident m.words.pages (object_made c f.op) m.seats.holding.placing ≡ Some place)
+now_is c m f place e = by (is_undecided_new f) refl e
+  where
+    by : (b : Bool) → is_undecided_new f ≡ b
+        → (if b then place_by_placing c.resident m.words.pages (object_made c f.op) m.seats.holding.placing else None)
+        ≡ Some place → (is_undecided_new f ≡ true)
+        × (place_by_placing c.resident m.words.pages (object_made c f.op) m.seats.holding.placing ≡ Some place)
+    by true is h = (is, h)
+    by false is h = cc
+
 pub place_fits_now : (c : Config) (m : Moment) (seat : Seat) (x : Step) (place : Place) → length m.words.pages ≡ c.pages
     → PlacesFit c m → Meets c m seat x → place_now c m (flight_of m seat) ≡ Some place
     → PlaceFits c (flight_of m seat).op place

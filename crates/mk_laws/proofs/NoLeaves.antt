@@ -1,7 +1,7 @@
 -- Pages where no leaf begins, and that they stay so while they show cells.
-use Rattle.mk_laws.proofs.Vocabulary.{Config, Header, HeadStep, IsMarking, ItCarves, ItEmpties, ItUnmaps, LeafBlock}
-use Rattle.mk_laws.proofs.Vocabulary.{NeverState, Object, Option, Page, PlacedAllocation, Seat, Some, Step, World, ℕ}
-use Rattle.mk_laws.proofs.Vocabulary.{ap, arith, cells_under, eqb-true, false, first_page_shows, flight_of, free_page}
+use Rattle.mk_laws.proofs.Vocabulary.{Config, Header, HeadStep, IsMarking, ItCarves, ItEmpties, ItUnmaps, NeverState}
+use Rattle.mk_laws.proofs.Vocabulary.{Object, Option, Page, PlacedAllocation, Seat, Step, World, ℕ, ap, arith}
+use Rattle.mk_laws.proofs.Vocabulary.{cells_under, eqb-true, false, first_page_shows, flight_of, free_page}
 use Rattle.mk_laws.proofs.Vocabulary.{has_no_pointers, head_step, header_at, header_in, header_made, header_of, inl}
 use Rattle.mk_laws.proofs.Vocabulary.{inr, is_leaf_header, is_mapped, is_unmapped_header, large_count, length}
 use Rattle.mk_laws.proofs.Vocabulary.{made_is_mapped, object_made, object_placed, or_parts, pages_some}
@@ -41,8 +41,7 @@ mapped_not_leaf c w n i t u mapped shown =
 -- Pages that show cells keep it that no leaf is there.
 
 unmapped_no_leaf : (x : Option Header) → is_unmapped_header x ≡ true → is_leaf_header x ≡ false
-unmapped_no_leaf (Some (LeafBlock class)) h = cc
-unmapped_no_leaf _ h = cc
+unmapped_no_leaf x h = grind arith
 
 -- a header that a `head` stores while the cycle marks
 stored_no_leaf : (c : Config) (w : World) (n : NeverState) (seat : Seat) (p v : ℕ) → Told c w n

@@ -1,7 +1,7 @@
 -- Allocations after events that grant none: what is unreleased was so before, and each keeps its place.
 use Rattle.mk_laws.proofs.Vocabulary.{Config, Event, IsHistory, List, PlacedAllocation, Seat, Step, World, ℕ, ap, false}
-use Rattle.mk_laws.proofs.Vocabulary.{flight_of, is_release, left, length, placed_at, refl, sym, true≢false, [], ◌++◌}
-use Rattle.mk_laws.proofs.Vocabulary.{◌<◌, ◌∙◌, ◌∷◌, ◌≡◌}
+use Rattle.mk_laws.proofs.Vocabulary.{flight_of, is_release, left, length, placed_at, refl, sym, true≢false, ◌++◌, ◌<◌}
+use Rattle.mk_laws.proofs.Vocabulary.{◌∙◌, ◌≡◌}
 use Rattle.mk_laws.proofs.AllocationSteps.{AreOfOne, GoesOn, allocation_step, goes_on, of_one_joined}
 use Rattle.mk_laws.proofs.Basics.{Came, IsNew, Stayed, WorldBehind, is_grant}
 use Rattle.mk_laws.proofs.{Marking.one_more, Precise.came_behind, Stretches.None_of, Stretches.along_without}
@@ -47,10 +47,7 @@ pub record IsKept (w : World) (i : ℕ) : Type 0 where
 -- It stays so after events that aren't a `release`.
 pub kept_along : (c : Config) (start rest : List Event) (i : ℕ) → IsHistory c (start ++ rest)
     → None_of is_release rest → IsKept (left c start) i → IsKept (left c (start ++ rest)) i
-kept_along c start rest i = along_without c is_release (λ (es : List Event). IsKept (left c es) i) start rest next
-  where
-    next : (es : List Event) (e : Event) → IsHistory c (es ++ e ∷ []) → is_release e.step ≡ false
-        → IsKept (left c es) i → IsKept (left c (es ++ e ∷ [])) i
-    next es e g other at =
-        let on = goes_on_behind c (left c es) e.seat e.step i at.there in
-        rw (one_more c es e g).left (record { there = on.there; unreleased = on.stays other at.unreleased })
+kept_along c start rest i = along_without c is_release (λ (es : List Event). IsKept (left c es) i) start rest
+    (λ es e g other at.
+    let on = goes_on_behind c (left c es) e.seat e.step i at.there in
+    rw (one_more c es e g).left (record { there = on.there; unreleased = on.stays other at.unreleased }))

@@ -2,14 +2,14 @@
 use Rattle.std.proofs.Common.{option_and_then}
 use Rattle.mk_laws.proofs.Vocabulary.{Bool, Caller, Cell, Config, Hand, Host, IsIdle, Marker, MarkerStands, MarkerState}
 use Rattle.mk_laws.proofs.Vocabulary.{Moment, NeverState, None, Null, Option, PlacedAllocation, Placing, Seat, Some}
-use Rattle.mk_laws.proofs.Vocabulary.{Stage, Step, Word, Words, World, ℕ, address_of, all_below, all_below-at}
-use Rattle.mk_laws.proofs.Vocabulary.{and_parts, ap, arith, bases_of, cases_Bool, cases_lt, cell_of_allocation}
-use Rattle.mk_laws.proofs.Vocabulary.{eqb-true, false, flight_of, found, get_or_past, has_clean_page, has_no_pointers}
-use Rattle.mk_laws.proofs.Vocabulary.{header_in, if◌then◌else◌, image_of, inl, inr, is_attending, is_marked}
-use Rattle.mk_laws.proofs.Vocabulary.{is_number_of, is_put, is_unmarked, ltb-true, marker_of, nat_lt, no_bit, none-some}
-use Rattle.mk_laws.proofs.Vocabulary.{or_cases, or_else, placed_at, pointed_cell, refl, register_word, same_Some}
-use Rattle.mk_laws.proofs.Vocabulary.{slice_index, slice_index_or, subst, sym, true, true≢false, word_points, ◌&&◌, ◌*◌}
-use Rattle.mk_laws.proofs.Vocabulary.{◌+◌, ◌/◌, ◌∙◌, ◌≡◌, ◌≢◌, ◌≤◌, ◌⊎◌}
+use Rattle.mk_laws.proofs.Vocabulary.{Step, Word, Words, World, ℕ, address_of, all_below, all_below-at, and_parts, ap}
+use Rattle.mk_laws.proofs.Vocabulary.{arith, bases_of, cases_Bool, cases_lt, cell_of_allocation, eqb-true, false}
+use Rattle.mk_laws.proofs.Vocabulary.{flight_of, found, get_or_past, has_clean_page, has_no_pointers, header_in}
+use Rattle.mk_laws.proofs.Vocabulary.{if◌then◌else◌, image_of, inl, inr, is_attending, is_marked, is_number_of, is_put}
+use Rattle.mk_laws.proofs.Vocabulary.{is_unmarked, ltb-true, marker_of, nat_lt, no_bit, none-some, or_cases, or_else}
+use Rattle.mk_laws.proofs.Vocabulary.{placed_at, pointed_cell, refl, register_word, same_Some, slice_index}
+use Rattle.mk_laws.proofs.Vocabulary.{slice_index_or, subst, sym, true, true≢false, word_points, ◌&&◌, ◌*◌, ◌+◌, ◌/◌}
+use Rattle.mk_laws.proofs.Vocabulary.{◌∙◌, ◌≡◌, ◌≢◌, ◌≤◌, ◌⊎◌}
 use Rattle.mk_core.specs.Effects.{hand_given, hand_of_cell, is_in_stop, is_mapped_cell}
 use Rattle.mk_core.specs.declared.seats.Source.TheVariants.{Marked, Root, Unmarked}
 use Rattle.mk_core.specs.Touched.{PointsIntoAllocation}
@@ -30,13 +30,9 @@ is_look _ = false
 
 pub hand_kept : (c : Config) (m : Moment) (seat : Seat) (x : Step) → is_look x ≡ false
     → ((Behind c m seat x).seats.holding.hand ≡ m.seats.holding.hand) ⊎ ((Behind c m seat x).seats.holding.hand ≡ None)
-hand_kept c m seat (Step.Look y) out = cc
-hand_kept c m seat x3 out = grind arith
+hand_kept c m seat x out = grind arith
 
 -- Registers that a look may reach are images: their caller owes out register.
-
-pub idle_owes_none : (s : Stage) → s ≡ Stage.Idle → is_put s ≡ false
-idle_owes_none s is = ap is_put is
 
 module _ (c : Config) (w : World) (n : NeverState) (t : Told c w n) where
   looked_owes_none : (seat : Seat) (j r : ℕ) → Meets c w.now seat (Step.Look (Word.Reg j r))
@@ -45,13 +41,12 @@ module _ (c : Config) (w : World) (n : NeverState) (t : Told c w n) where
     | inl own ↦ by seat own h
     | inr gate ↦
         let lt = ltb-true j c.callers (and_parts _ (nat_lt r 8) h.range).0 in
-        idle_owes_none _ (held_idle c (view_of w.now) j t.known.now.orderly lt (eqb-true _ 2 gate))
+        ap is_put (held_idle c (view_of w.now) j t.known.now.orderly lt (eqb-true _ 2 gate))
   ]
     where
       by : (seat : Seat) → is_number_of seat j ≡ true → Meets c w.now seat (Step.Look (Word.Reg j r))
           → is_put (flight_of w.now (Caller j)).stage ≡ false
-      by (Caller k) own h = grind (arith, eqb-true)
-      by _ own h = cc
+      by seat own h = grind (arith, eqb-true)
 
   register_image : (seat : Seat) (j r : ℕ) → Meets c w.now seat (Step.Look (Word.Reg j r))
       → register_word w.now.words j r ≡ image_of (bases_of w.allocations) (slice_index_or n.registers (8 * j + r) Null)
@@ -75,9 +70,7 @@ cell_hand w stop placing cell value h is out =
         then Some (record { value = value; source = Marked })
         else if d then Some (record { value = value; source = Unmarked }) else None) ≡ Some h
         → IsOfMarked w cell value h
-    by false true d ea eb is = grind (arith, same_Some)
-    by false false true ea eb is = grind (arith, same_Some)
-    by _ _ _ ea eb is = cc
+    by a b d ea eb is = grind (arith, same_Some)
 
 module _ (c : Config) (w : World) (n : NeverState) (T : ℕ → Type 0) (precise : IsPrecise c w T) where
   -- a word of a marked cell that is scanned
@@ -175,21 +168,18 @@ pub precise_begun : (c : Config) (w : World) (seat : Seat) (T : ℕ → Type 0) 
 precise_begun c w seat T known h = record {
   marked = λ b u is.
       let cell : Cell = cell_of_allocation c (placed_at (WorldBehind c w seat Step.Begin).allocations b) in
-      absurd (true≢false (sym is ∙ no_bit _ cell.index (unmarked cell.page)));
+      absurd (true≢false (sym is ∙ no_bit _ cell.index (elim (cases_lt cell.page c.pages) [
+        | inl lt ↦
+            let a = and_parts _ _ (all_below-at c.pages cell.page _ own lt) in
+            eqb-true _ 0 (and_parts _ _ a.0).0
+        | inr past ↦ get_or_past w.now.words.marks cell.page 0 (omega (arith, known.lengths.marks))
+      ])));
   hand = λ k is. absurd (none-some _ is);
   markers = λ j. by seat h j;
 }
   where
     own : all_below c.pages (has_clean_page w.now.words) ≡ true
     own = (and_parts _ _ h.holder).0
-
-    unmarked : (p : ℕ) → slice_index w.now.words.marks p ≡ 0
-    unmarked p = elim (cases_lt p c.pages) [
-      | inl lt ↦
-          let a = and_parts _ _ (all_below-at c.pages p _ own lt) in
-          eqb-true _ 0 (and_parts _ _ a.0).0
-      | inr past ↦ get_or_past w.now.words.marks p 0 (omega (arith, known.lengths.marks))
-    ]
 
     quiet : (j : ℕ) (s : PrecisionScene) → MarkerIsPrecise c s T (marker_of w.now j)
     quiet j s = elim (cases_Bool (is_attending (marker_of w.now j).presence)) [

@@ -1,7 +1,7 @@
 -- All is in order: what each move keeps, by what the protocol reads.
 use Rattle.std.proofs.{Common.count_by, lemmas.List.Sums.count_by-le-length, lemmas.List.Sums.sum_by-set}
-use Rattle.mk_laws.proofs.Vocabulary.{Caller, Config, Flight, Host, List, Marker, MarkerState, Seat, ℕ, arith, at_rest}
-use Rattle.mk_laws.proofs.Vocabulary.{cases_eq, cases_lt, cond, false, get_or-set_other, get_or-set_same, get_or_past}
+use Rattle.mk_laws.proofs.Vocabulary.{Caller, Config, Flight, List, MarkerState, Seat, ℕ, arith, at_rest, cases_eq}
+use Rattle.mk_laws.proofs.Vocabulary.{cases_lt, cond, false, get_or-set_other, get_or-set_same, get_or_past}
 use Rattle.mk_laws.proofs.Vocabulary.{holder_number, inl, inr, is_attending, is_in, length, length-set, nothing_done}
 use Rattle.mk_laws.proofs.Vocabulary.{outside, refl, set_by, set_past, slice_index, slice_index_or, slice_set, sym}
 use Rattle.mk_laws.proofs.Vocabulary.{true, ◌%◌, ◌*◌, ◌+◌, ◌-◌, ◌<◌, ◌^◌, ◌≡◌, ◌≢◌, ◌≤◌, ◌⊎◌}
@@ -141,9 +141,7 @@ shows_at c v k s h lt is = rw is at (h.each k lt)
 -- the holder is named by the turn word
 pub turn_of : (c : Config) (v : View) (seat : Seat) → Orderly c v → HoldsTurn c v seat
     → v.turn ≡ 1 + holder_number c seat
-turn_of c v (Caller k) h t = let s = shows_at c v k UnderTurn h t.0 t.1 in s.1
-turn_of c v (Marker k) h t = absurd t
-turn_of c v Host h t = t
+turn_of c v seat h t = grind (arith, shows_at)
 
 -- so no two seats hold it
 pub same_holder : (c : Config) (v : View) (a b : Seat) → Orderly c v → HoldsTurn c v a → HoldsTurn c v b → a ≡ b
@@ -152,32 +150,26 @@ same_holder c v a b p ha hb = grind (arith, turn_of)
 -- its call; the host has none
 pub holders_flight : (c : Config) (v : View) (seat : Seat) → Orderly c v → HoldsTurn c v seat
     → flight_in v (v.turn - 1) ≡ flight_at v.flights seat
-holders_flight c v (Caller k) h t = grind (arith, turn_of, flight_in)
-holders_flight c v (Marker k) h t = absurd t
-holders_flight c v Host h t = get_or_past v.flights (v.turn - 1) at_rest (omega (arith, h.flights))
+holders_flight c v seat h t = grind (arith, turn_of, flight_in, get_or_past)
 
 -- what the holder shows after its step, where it goes on, where it gives the turn, and where it takes it
 
 pub holder_shows : (c : Config) (v : View) (seat : Seat) (f : Flight) → Orderly c v → HoldsTurn c v seat
     → (standing (flight_at v.flights seat) ≡ UnderTurn → standing f ≡ UnderTurn)
     → OwnShows c v.flights v.turn v.gates seat (standing f)
-holder_shows c v (Caller k) f h t is = (rw h.flights t.0, rw (is t.1) (shows_at c v k UnderTurn h t.0 t.1))
-holder_shows c v _ f h t is = tt
+holder_shows c v seat f h t is = grind (arith, shows_at)
 
 pub giver_shows : (c : Config) (v : View) (seat : Seat) → Orderly c v → HoldsTurn c v seat
     → OwnShows c v.flights 0 v.gates seat Resting
-giver_shows c v (Caller k) h t = grind (arith, gate_in, shows_at)
-giver_shows c v _ h t = tt
+giver_shows c v seat h t = grind (arith, gate_in, shows_at)
 
 pub taker_shows : (c : Config) (v : View) (seat : Seat) (f : Flight) → Orderly c v → v.turn ≡ 0 → MayTake c v seat f
     → OwnShows c v.flights (1 + holder_number c seat) v.gates seat (standing f)
-taker_shows c v (Caller k) f h z t = (rw h.flights t.0, rw t.2 ((shows_at c v k Resting h t.0 t.1).2 z, refl))
-taker_shows c v _ f h z t = tt
+taker_shows c v seat f h z t = grind (arith, shows_at)
 
 pub taker_number : (c : Config) (v : View) (seat : Seat) (f : Flight) → MayTake c v seat f
     → holder_number c seat ≤ c.callers
-taker_number c v (Caller k) f t = omega (arith, t.0)
-taker_number c v _ f t = omega arith
+taker_number c v seat f t = grind arith
 
 -- there are few markers
 pub few_in : (c : Config) (v : View) → Orderly c v → count_in v.markers ≤ 8

@@ -13,9 +13,6 @@ use Rattle.mk_laws.proofs.Wells.{is_well, well_is}
 use Rattle.mk_laws.proofs.{Changes.marks_kind, FoundHeaders.head_finds, Headers.head_keeps}
 use Rattle.mk_laws.specs.Left.{OthersLeaveHeaders, OthersLeaveWells}
 
-headers_same : (c : Config) (w : World) → HeadersAreLeft c w w
-headers_same c w = record { some = λ p n. n; cells = λ p u cell is. is; well = λ u is. is }
-
 headers_joined : (c : Config) (w u v : World) → HeadersAreLeft c w u → HeadersAreLeft c u v → HeadersAreLeft c w v
 headers_joined c w u v a b = record {
   some = λ p n. b.some p (a.some p n);
@@ -52,6 +49,9 @@ headers_after c w seat x limits known len early say h = rest x h refl
 attended : (c : Config) (m : Moment) (s : Seat) → Known c m → Attends m s → IsMarking m.words
 attended c m (Marker k) known a = known.orderly.attends k a
 attended c m _ known a = absurd a
+
+headers_same : (c : Config) (w : World) → HeadersAreLeft c w w
+headers_same c w = record { some = λ p n. n; cells = λ p u cell is. is; well = λ u is. is }
 
 headers_from : (c : Config) (w : World) (s : Seat) (es : List Event) → IsWithinLimits c → Known c w.now
     → AreOfPages c.pages w.now.words → AreEnabledFrom c w es

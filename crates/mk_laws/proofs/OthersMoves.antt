@@ -108,30 +108,13 @@ reg_in_call c m k known lt is free = grind (arith, gate_one, standing, regs_work
 
 reg_write : (w : Words) (k : ℕ) (f : Flight) (s : Stage) → Operands f.op
     → CallWrite k w (accessed w (Named (Word.Reg k (register_met f s))) (reg_access f s))
-reg_write w k f Stage.Store o = SetsRegister (register_met f Stage.Store) _ (register_small f Stage.Store o)
-reg_write w k f Stage.Put o = SetsRegister (register_met f Stage.Put) _ (register_small f Stage.Put o)
-reg_write w k f _ o = CallLoads
+reg_write w k f s o = grind (arith, register_small, SetsRegister, CallLoads)
+
+ruleset call_out_facts = (at_reg, reg_write, operands_of, Calls, SetsGate, CallLoads, SetsHeap, SetsGlobal, SetsDirty)
 
 call_out : (c : Config) (w : World) (k : ℕ) (x : Step) → Known c w.now → (HoldsTurn c (view_of w.now) (Caller k) → ⊥)
     → k < c.callers → group_of x ≡ Group.Callers → Meets c w.now (Caller k) x → Outs c w (Caller k) x
-call_out c w k (Step.Enter o) known out lt g h = enter_out c w k o lt
-call_out c w k Step.Leave known out lt g h =
-    Calls _ lt (in_call c w.now k Step.Leave known lt h refl refl) (SetsGate 0 (omega arith))
-call_out c w k Step.Reg known out lt g h =
-    let f = flight_of w.now (Caller k) in
-    Calls _ lt (reg_in_call c w.now k known lt (at_reg f.stage f.op h.order) out)
-    (reg_write w.now.words k f f.stage (operands_of c f.op (known.operands k)))
-call_out c w k Step.Probe known out lt g h = Calls _ lt (in_call c w.now k Step.Probe known lt h refl refl) CallLoads
-call_out c w k Step.Read known out lt g h = Calls _ lt (in_call c w.now k Step.Read known lt h refl refl) CallLoads
-call_out c w k Step.Write known out lt g h =
-    Calls _ lt (in_call c w.now k Step.Write known lt h refl refl) (SetsHeap _ _)
-call_out c w k Step.Cas known out lt g h = Calls _ lt (in_call c w.now k Step.Cas known lt h refl refl) (SetsHeap _ _)
-call_out c w k Step.Getg known out lt g h = Calls _ lt (in_call c w.now k Step.Getg known lt h refl refl) CallLoads
-call_out c w k Step.Setg known out lt g h =
-    Calls _ lt (in_call c w.now k Step.Setg known lt h refl refl) (SetsGlobal _ _)
-call_out c w k Step.Dirty known out lt g h =
-    Calls _ lt (in_call c w.now k Step.Dirty known lt h refl refl) (SetsDirty _)
-call_out c w k _ known out lt g h = cc
+call_out c w k x known out lt g h = grind (arith, call_out_facts, enter_out, in_call, reg_in_call)
 
 -- markers, whoever holds the turn
 
@@ -142,14 +125,11 @@ marker_out : (c : Config) (w : World) (k : ℕ) (x : Step) → Known c w.now →
     → Meets c w.now (Marker k) x → Outs c w (Marker k) x
 marker_out c w k Step.Attend known lt g h = Marks _ lt (ComesIn (attends_at w.now.words.phase))
 marker_out c w k Step.Quit known lt g h = Marks outside lt (GoesOut refl (in_counts c w.now k known lt h.marker))
-marker_out c w k (Step.Mlook y) known lt g h =
-    Marks _ lt (MarkerLoads (look_stays c (finds c w (Marker k) (Step.Mlook y)) y (marker_of w.now k)))
+marker_out c w k (Step.Mlook y) known lt g h = grind (arith, look_stays, finds, Marks, MarkerLoads)
 marker_out c w k (Step.Claim p i) known lt g h = Marks _ lt (MarkerLoads refl)
 marker_out c w k Step.Mload known lt g h = Marks _ lt (MarkerLoads refl)
-marker_out c w k Step.Mmark known lt g h =
-    Marks _ lt (AddsMarks _ _ (work_attends c (marker_of w.now k) Step.Mmark (known.orderly.idle k) h.marker refl) refl)
-marker_out c w k Step.Mblack known lt g h =
-    Marks _ lt (AddsBlacks _ _ (work_attends c _ Step.Mblack (known.orderly.idle k) h.marker refl) refl)
+marker_out c w k Step.Mmark known lt g h = grind (arith, work_attends, Marks, AddsMarks)
+marker_out c w k Step.Mblack known lt g h = grind (arith, work_attends, Marks, AddsBlacks)
 marker_out c w k _ known lt g h = cc
 
 -- any seat that doesn't hold the turn, and takes none that is free

@@ -56,8 +56,7 @@ begun_if w b =
 
 pub cycle_step : (c : Config) (w : World) (seat : Seat) (x : Step) → Meets c w.now seat x
     → StepsAt c w seat x (WorldBehind c w seat x)
-cycle_step c w seat (Step.Take o) h = grind arith
-cycle_step c w seat x3 h = grind (arith, reg_leaves, tally_keeps, eqb-true, over_phase)
+cycle_step c w seat x h = grind (arith, reg_leaves, tally_keeps, eqb-true, over_phase)
 
 -- So what is said of the events is told with one more.
 module _ (es : List Event) (e : Event) (phase now : ℕ) where

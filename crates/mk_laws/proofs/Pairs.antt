@@ -23,8 +23,7 @@ pub put_carries : (bs : List ℕ) (f : Flight) (a b d : Value) → f.stage ≡ S
 put_carries bs f a b d h = grind arith
 
 pub bare_unprobed : (s : Stage) → is_bare s ≡ true → is_past_probe s ≡ false
-bare_unprobed Stage.Read h = cc
-bare_unprobed _ h = cc
+bare_unprobed s h = grind arith
 
 -- what a flight shows of a register
 pub shows_plain : (f : Flight) (r x : ℕ) → is_put f.stage ≡ false → shown f r x ≡ x
@@ -37,8 +36,7 @@ pub shows_other : (f : Flight) (r x : ℕ) → f.stage ≡ Stage.Put → d_of f.
 shows_other f r x h ne = rw h (rw (ne_eqb (d_of f.op) r ne))
 
 pub bare_owes_nothing : (s : Stage) → is_bare s ≡ true → is_put s ≡ false
-bare_owes_nothing Stage.Put h = cc
-bare_owes_nothing _ h = refl
+bare_owes_nothing s h = grind arith
 
 -- images with one more base
 pub image_more : (n : NeverState) (bs more : List ℕ) (v : Value) → length bs ≡ length n.allocations → IsSound n v
@@ -56,5 +54,4 @@ carries_same bs cs f a b d a2 b2 d2 ea eb ed h = grind arith
 pub met_same : (n m : NeverState) (v : Value) (i : ℕ) → ((a : ℕ) → length (words_of m a) ≡ length (words_of n a))
     → ((a : ℕ) → is_unmapped (allocation_at n a) ≡ false → is_unmapped (allocation_at m a) ≡ false)
     → IsMet n v i → IsMet m v i
-met_same n m (Ptr a t o) i l u h = λ lt. u a (h (let e = l a in omega (arith, e)))
-met_same n m _ i l u h = tt
+met_same n m v i l u h = grind arith

@@ -10,8 +10,7 @@ pub record GoesOnMarking (c : Config) (m : Moment) (seat : Seat) (x : Step) : Ty
   pub released : is_release x ≡ false
 
 within : (n : ℕ) → (n ≡ 1) ⊎ (n ≡ 2) → IsMarkingPhase n
-within n (inl e) = record { least = omega arith; most = omega arith }
-within n (inr e) = record { least = omega arith; most = omega arith }
+within n h = grind arith
 
 one_of : (n : ℕ) → IsMarkingPhase n → (n ≡ 1) ⊎ (n ≡ 2)
 one_of n m = elim (cases_lt n 2) [ inl lt ↦ inl (omega (arith, m.least)) | inr le ↦ inr (omega (arith, m.most)) ]
@@ -29,8 +28,7 @@ pub record Waits (c : Config) (m : Moment) (seat : Seat) (x : Step) (p : ℕ) : 
 
 waiting_step : (x : Step) (p : ℕ) → 3 ≤ p → AsksPhase x p → (p ≡ 3 → is_release x ≡ false) → (p ≡ 4 → is_end x ≡ false)
     → (phase_behind x p ≡ p) × (is_begin x ≡ false)
-waiting_step Step.Begin p late asks out past = absurd (omega arith)
-waiting_step x0 p late asks out past = grind arith
+waiting_step x p late asks out past = grind arith
 
 waits : (c : Config) (m : Moment) (seat : Seat) (x : Step) (p : ℕ) → 3 ≤ p → phase_of m.words ≡ p → Meets c m seat x
     → (p ≡ 3 → is_release x ≡ false) → (p ≡ 4 → is_end x ≡ false) → Waits c m seat x p

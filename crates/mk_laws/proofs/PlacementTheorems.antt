@@ -1,10 +1,10 @@
 -- Where the objects of all histories are granted, and when a New is full.
 use Rattle.std.proofs.Common.{IsSome}
-use Rattle.mk_laws.proofs.Vocabulary.{Caller, Config, Event, Holding, IsHistory, List, Moment, None, Object}
-use Rattle.mk_laws.proofs.Vocabulary.{OfHistories, Option, OwnCycle, Page, Place, Placing, Seat, Some, Step, Unplaced}
-use Rattle.mk_laws.proofs.Vocabulary.{Used, World, ℕ, ap, arith, eqb-true, false, flight_of, granted_base, is_none}
-use Rattle.mk_laws.proofs.Vocabulary.{is_phase, is_undecided_new, is_used_once, left, may_answer_full, ne_eqb, phase_of}
-use Rattle.mk_laws.proofs.Vocabulary.{place_on_pages, refl, subst, sym, true, true≢false, ◌++◌, ◌<◌, ◌∙◌, ◌∷◌, ◌≡◌}
+use Rattle.mk_laws.proofs.Vocabulary.{Caller, Config, Event, Holding, IsHistory, List, Moment, Object, OfHistories}
+use Rattle.mk_laws.proofs.Vocabulary.{Option, OwnCycle, Page, Place, Placing, Seat, Some, Step, Unplaced, Used, World}
+use Rattle.mk_laws.proofs.Vocabulary.{ℕ, ap, arith, eqb-true, false, flight_of, granted_base, is_none, is_phase}
+use Rattle.mk_laws.proofs.Vocabulary.{is_undecided_new, is_used_once, left, may_answer_full, ne_eqb, phase_of}
+use Rattle.mk_laws.proofs.Vocabulary.{place_on_pages, refl, subst, sym, true, ◌++◌, ◌<◌, ◌∙◌, ◌∷◌, ◌≡◌}
 use Rattle.mk_core.specs.{Placement.FindsNoPlace, Placement.FullsFitNowhere, Placement.GrantsStandAtTheirPlaces}
 use Rattle.mk_core.specs.{Placement.StandsAtItsPlace, Placement.object_at, declared.seats.OwnCycle.TheVariants.Ended}
 use Rattle.mk_laws.proofs.Basics.{Meets, before_it, grants_new, held_place, new_holds}
@@ -55,12 +55,10 @@ grants_stand_at_their_places c es h before e behind is =
 full_is : (resident : ℕ) (pages : List Page) (o : Object) (placing : Placing) (cycle : OwnCycle)
     → may_answer_full resident pages o placing cycle ≡ true
     → (placing ≡ Unplaced) × (cycle ≡ Ended) × (is_none (place_on_pages resident pages o) ≡ true)
-full_is resident pages o Unplaced Ended h = (refl, refl, h)
-full_is resident pages o _ _ h = cc
+full_is resident pages o placing cycle h = grind arith
 
 none_is_there : (found : Option Place) → is_none found ≡ true → IsSome found → ⊥
-none_is_there None is some = true≢false (sym some)
-none_is_there (Some place) is some = true≢false (sym is)
+none_is_there found is some = grind arith
 
 full_there : (c : Config) (es : List Event) (k : ℕ) → IsHistory c es → k < c.callers → HasNew (left c es) k
     → Meets c (left c es).now (Caller k) Step.Full → FindsNoPlace c es (Caller k)

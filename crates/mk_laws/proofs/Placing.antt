@@ -1,12 +1,11 @@
 -- The steps of a New: its place is chosen, its pages get their headers one by one, and its cell is taken.
-use Rattle.mk_laws.proofs.Vocabulary.{Among, AreApart, Bool, Claim, HasItsHead, InPlot, IsClaimed, IsLaidOn}
-use Rattle.mk_laws.proofs.Vocabulary.{IsOfOneCell, IsPlotShown, IsShown, IsSized, Later, LayoutScene, List, Mapped}
-use Rattle.mk_laws.proofs.Vocabulary.{NoPlot, Object, Page, Plotted, ShowsPart, Some, ℕ, ap, arith, cases_eq}
-use Rattle.mk_laws.proofs.Vocabulary.{cells_made, cells_under, false, free_page, has_bit, head_on, header_made}
-use Rattle.mk_laws.proofs.Vocabulary.{header_of, header_on, inl, inr, is_released_on, length, length-set, made_shows}
-use Rattle.mk_laws.proofs.Vocabulary.{pages_made, pages_some, part_cells, refl, run_count, set_by, shown_later}
-use Rattle.mk_laws.proofs.Vocabulary.{shows_on, stands, sym, true, true≢false, used_on, [], ◌++◌, ◌+◌, ◌-◌, ◌<◌, ◌^◌}
-use Rattle.mk_laws.proofs.Vocabulary.{◌∙◌, ◌∷◌, ◌≡◌, ◌≢◌, ◌≤◌, ◌⊎◌}
+use Rattle.mk_laws.proofs.Vocabulary.{Among, AreApart, Claim, InPlot, IsClaimed, IsLaidOn, IsOfOneCell, IsPlotShown}
+use Rattle.mk_laws.proofs.Vocabulary.{IsShown, IsSized, LayoutScene, List, Mapped, NoPlot, Object, Page, Plotted}
+use Rattle.mk_laws.proofs.Vocabulary.{ShowsPart, ℕ, ap, arith, cases_eq, cells_made, cells_under, false, free_page}
+use Rattle.mk_laws.proofs.Vocabulary.{has_bit, head_on, header_made, header_of, header_on, inl, inr, is_released_on}
+use Rattle.mk_laws.proofs.Vocabulary.{length, length-set, made_shows, pages_made, pages_some, part_cells, refl, set_by}
+use Rattle.mk_laws.proofs.Vocabulary.{shown_later, shows_on, stands, sym, true, true≢false, used_on, [], ◌++◌, ◌+◌, ◌-◌}
+use Rattle.mk_laws.proofs.Vocabulary.{◌<◌, ◌^◌, ◌∙◌, ◌∷◌, ◌≡◌, ◌≢◌, ◌≤◌, ◌⊎◌}
 use Rattle.mk_core.proofs.WordBits.{added_here, added_other}
 use Rattle.mk_laws.proofs.LayoutReadings.{claimed_head, claimed_some, free_unused, none_set, zero_where_none}
 use Rattle.mk_laws.proofs.Releasing.{head_of_other, headed_here, headed_other, headed_used, shown_beside, used_header}
@@ -105,7 +104,22 @@ layout_carved s first o d laid plotted off next =
             ]
       ];
       later = λ q e m is. elim (cases_eq q p) [
-        | inl same ↦ headed_later q e m same is
+        | inl same ↦ let at = shown_later o d e m (header_of (header_made o d)) part
+            (rw (← (headed_here s.pages (first + d) (header_made o d) lt))
+            (ap (λ i. shows_on (with_header_on s.pages (first + d) (header_made o d)) i) (sym same) ∙ is)) in
+            let e_is : e ≡ d = at.0 in
+            let some : 1 ≤ d = at.1 in
+            let back : q - e ≡ first = omega arith in
+            let zero : first + 0 ≡ first = omega arith in
+            let w = next.within in
+            let head : header_on (with_header_on s.pages (first + d) (header_made o d)) (q - e) ≡ header_made o 0 =
+            rw back (headed_other s.pages (first + d) (header_made o d) first (λ x. omega arith)
+            ∙ rw (← zero) (next.before 0 (omega arith))) in (
+              omega arith,
+              inl (rw head
+                  (let count = part_count o (header_of (header_made o 0)) (made_shows o 0 plot.sized (omega arith)) at.2
+                  in omega arith)),
+            )
         | inr ne ↦
             let l = laid.later q e m (rw (← (headed_other s.pages p n q ne)) is) in (
               l.0,
@@ -130,34 +144,8 @@ layout_carved s first o d laid plotted off next =
         → has_bit (used_on s.pages q) k ≡ true
     old q k h = rw (← (headed_used s.pages (first + d) (header_made o d) q lt)) h
 
-    not_headed : (e : ℕ) → (e < run_count (shows_on s.pages (first + d)))
-        ⊎ ((s.releasing ≡ true) × (header_on s.pages (first + d) ≡ 0)) → ⊥
-    not_headed e (inl less) = let none : run_count (shows_on s.pages (first + d)) ≡ 0 = rw was in omega arith
-    not_headed e (inr on) = true≢false (sym on.0 ∙ off)
-
     part : ShowsPart o d (header_of (header_made o d))
     part = made_shows o d plot.sized next.within
-
-    headed_later : (q e : ℕ) (m : Bool) → q ≡ first + d
-        → shows_on (with_header_on s.pages (first + d) (header_made o d)) q ≡ Some (Later e m)
-        → HasItsHead (with_header_on s.pages (first + d) (header_made o d)) s.releasing q e
-    headed_later q e m same is =
-        let at = shown_later o d e m (header_of (header_made o d)) part
-        (rw (← (headed_here s.pages (first + d) (header_made o d) lt))
-        (ap (λ i. shows_on (with_header_on s.pages (first + d) (header_made o d)) i) (sym same) ∙ is)) in
-        let e_is : e ≡ d = at.0 in
-        let some : 1 ≤ d = at.1 in
-        let back : q - e ≡ first = omega arith in
-        let zero : first + 0 ≡ first = omega arith in
-        let w = next.within in
-        let head : header_on (with_header_on s.pages (first + d) (header_made o d)) (q - e) ≡ header_made o 0 =
-        rw back (headed_other s.pages (first + d) (header_made o d) first (λ x. omega arith)
-        ∙ rw (← zero) (next.before 0 (omega arith))) in (
-          omega arith,
-          inl (rw head
-              (let count = part_count o (header_of (header_made o 0)) (made_shows o 0 plot.sized (omega arith)) at.2
-              in omega arith)),
-        )
 
 -- `used` (a): the cell of the place is taken, after all its headers
 abbrev pub Taken : LayoutScene → Claim → ℕ → LayoutScene
@@ -225,20 +213,11 @@ module _ (s : LayoutScene) (x : Claim) (n : ℕ) (laid : IsLaidOn s) (t : Takes 
     where
       both : (p ≡ x.page) ⊎ (p ≢ x.page) → (k ≡ x.index) ⊎ (k ≢ x.index)
           → ((p ≡ x.page) × (k ≡ x.index)) ⊎ (p ≡ x.page → k ≢ x.index)
-      both (inl ep) (inl ek) = inl (ep, ek)
-      both (inl ep) (inr nk) = inr (λ e. nk)
-      both (inr np) any = inr (λ e. absurd (np e))
+      both h any = grind arith
 
       owner : (p k : ℕ) → IsClaimed s.claims p k ⊎ (is_released_on s p k ≡ true)
           → IsClaimed (s.claims ++ x ∷ []) p k ⊎ (is_released_on s p k ≡ true)
-      owner p k (inr r) = inr r
-      owner p k (inl o) = inl
-          (record { claim = o.claim; among = among_front s.claims _ o.claim o.among; page = o.page; index = o.index })
-
-  unused : (q : ℕ) → used_on after (head_on after q) ≡ 0 → used_on s.pages (head_on s.pages q) ≡ 0
-  unused q empty =
-      let head : head_on after q ≡ head_on s.pages q = rw (used_header s.pages x.page n q lt) in
-      zero_where_none _ (λ k h. none_set _ k (rw (← head) empty) (grow _ k h))
+      owner p k h = grind (arith, among_front)
 
   -- a page of the place has its head's bit now
   full : (q : ℕ) → InPlot (Plotted x.page x.object) q → used_on after (head_on after q) ≡ 0 → ⊥
@@ -247,10 +226,7 @@ module _ (s : LayoutScene) (x : Claim) (n : ℕ) (laid : IsLaidOn s) (t : Takes 
       grind (arith, after, claimed_head, own, none_set, here_set)
 
   new : (y z : Claim) → Among y s.claims → Among z (x ∷ []) → IsOfOneCell y z → ⊥
-  new y z i (inl e) same =
-      let at : IsOfOneCell y x = rw e at same in
-      true≢false (sym (laid.shown y i).used ∙ rw at.0 (rw at.1 t.unset))
-  new y z i (inr out) same = out
+  new y z i h same = grind arith
 
   pub layout_taken : IsLaidOn (Taken s x n)
   layout_taken = record {
@@ -263,7 +239,9 @@ module _ (s : LayoutScene) (x : Claim) (n : ℕ) (laid : IsLaidOn s) (t : Takes 
     used = used;
     plot = tt;
     occupied = λ q some empty. elim
-        (laid.occupied q (λ z. some (used_header s.pages x.page n q lt ∙ z)) (unused q empty)) [
+        (laid.occupied q (λ z. some (used_header s.pages x.page n q lt ∙ z)) (
+        let head : head_on after q ≡ head_on s.pages q = rw (used_header s.pages x.page n q lt) in
+        zero_where_none _ (λ k h. none_set _ k (rw (← head) empty) (grow _ k h)))) [
           | inl on ↦ inl on
           | inr here ↦ absurd (full q (t.plot q here) empty)
         ];

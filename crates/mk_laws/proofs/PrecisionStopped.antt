@@ -116,8 +116,7 @@ kept_is_marked c w i taken kept =
     not_both _ _ (sym (has_bit_without _ _ (cell_of_allocation c (placed_at w.allocations i)).index) ∙ kept) taken
   where
     not_both : (a b : Bool) → (a && not b) ≡ false → a ≡ true → b ≡ true
-    not_both true false h e = sym h
-    not_both _ _ h e = cc
+    not_both a b h e = grind arith
 
 pub keeps_only_the_touched : OfHistories KeepsOnlyTheTouched
 keeps_only_the_touched c es h k unswept i quarantined unreleased =

@@ -3,26 +3,14 @@ use Rattle.mk_laws.proofs.Vocabulary.{AccessIsAdmitted, Bool, Caller, CarriesOwn
 use Rattle.mk_laws.proofs.Vocabulary.{ImagePremises, Invariant, IsAdmitted, IsMet, IsSound, Meets, NeverState, Op, Ptr}
 use Rattle.mk_laws.proofs.Vocabulary.{Stage, Unmapped, Value, WordOf, World, ℕ, allocation_at, and_from, and_parts, ap}
 use Rattle.mk_laws.proofs.Vocabulary.{bases_of, cases_Bool, false, flight_of, header_at, header_in, i_of, if◌then◌else◌}
-use Rattle.mk_laws.proofs.Vocabulary.{image_scene_of, inl, inr, is_large, is_unmapped, is_unmapped_header, length}
-use Rattle.mk_laws.proofs.Vocabulary.{page_met, q_of, refl, register_at, subst, sym, target_of, true, true≢false}
-use Rattle.mk_laws.proofs.Vocabulary.{words_of, ◌*◌, ◌+◌, ◌<◌, ◌∙◌, ◌≡◌}
+use Rattle.mk_laws.proofs.Vocabulary.{image_scene_of, inl, inr, is_large, is_unmapped, is_unmapped_header, page_met}
+use Rattle.mk_laws.proofs.Vocabulary.{q_of, refl, register_at, subst, sym, target_of, true, true≢false, words_of, ◌*◌}
+use Rattle.mk_laws.proofs.Vocabulary.{◌+◌, ◌<◌, ◌∙◌, ◌≡◌}
 use Rattle.mk_laws.proofs.Basics.{InCall, KnownWorld, PagesShow, Ready, Stands, calls_stand, flight, is_astray}
 use Rattle.mk_laws.proofs.Basics.{is_call_stage, not_astray, ready_of, standing, standing_at, stands_of}
 use Rattle.mk_laws.proofs.ImagesCallMoves.{access_meets, at_probe}
 use Rattle.mk_laws.proofs.Reached.{mapped_met, unmapped_target}
 use Rattle.mk_laws.proofs.{CallSorts.literal, ImagesBefore.shown_in_call, InvariantJoined.told_to_images}
-
--- the access of an operation with a `probe`
-probe_meets : (n : NeverState) (k : ℕ) (o : Op) → is_astray (standing_at Stage.Probe o) ≡ false → AccessIsAdmitted n k o
-    → Meets n (register_at n k (q_of o)) (i_of o) (λ kind. Unit {0})
-probe_meets n k o a h = access_meets n k o (at_probe o a).access h
-
--- An allocation that is unmapped stays so.
-unmapped_on : (n m : NeverState) (a : ℕ) → Continues n m → a < length n.allocations
-    → is_unmapped (allocation_at n a) ≡ true → is_unmapped (allocation_at m a) ≡ true
-unmapped_on n m a on lt u =
-    let parts = and_parts _ (is_large (words_of n a)) u in
-    and_from _ (is_large (words_of m a)) (on.freed a parts.0) (rw (on.size a lt) parts.1)
 
 target_unmapped : (n : NeverState) (a t o i : ℕ) → target_of n (Ptr a t o) i ≡ Unmapped
     → is_unmapped (allocation_at n a) ≡ true
@@ -35,7 +23,8 @@ target_unmapped n a t o i is = by (is_unmapped (allocation_at n a)) is
 clash : (n m : NeverState) (v : Value) (i : ℕ) → Continues n m → IsSound n v → Meets n v i (λ kind. Unit {0})
     → target_of n v i ≡ Unmapped → IsMet m v i → ⊥
 clash n m (Ptr a t o) i on sound meets is met =
-    true≢false (sym (unmapped_on n m a on sound.0 (target_unmapped n a t o i is))
+    true≢false (sym (let parts = and_parts _ (is_large (words_of n a)) (target_unmapped n a t o i is) in
+    and_from _ (is_large (words_of m a)) (on.freed a parts.0) (rw (on.size a sound.0) parts.1))
     ∙ met (rw (on.size a sound.0) meets.0))
 clash n m _ i on sound meets is met = cc
 
@@ -81,6 +70,10 @@ module _ (c : Config) (w : World) (n : NeverState) (known : KnownWorld c w) (all
       mapped_met c.globals all.mirrors.safe.0 (image_scene_of w) n ready (header_at w.now.words)
       (pages_tell k lt in_call) _ q (i_of o)
       (car.q refl) (car.some_q refl) (own_sound k (q_of o)) (all.mirrors.safe.1.registers (8 * k + q_of o)) u
+
+probe_meets : (n : NeverState) (k : ℕ) (o : Op) → is_astray (standing_at Stage.Probe o) ≡ false → AccessIsAdmitted n k o
+    → Meets n (register_at n k (q_of o)) (i_of o) (λ kind. Unit {0})
+probe_meets n k o a h = access_meets n k o (at_probe o a).access h
 
 pub probe_still : (c : Config) (w v : World) (n m : NeverState) (kw : KnownWorld c w) (kv : KnownWorld c v)
     (aw : Invariant c w n) (av : Invariant c v m) (k : ℕ) → k < c.callers

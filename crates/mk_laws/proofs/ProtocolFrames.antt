@@ -1,16 +1,15 @@
 -- The frame law: what the events of other seats leave, for one event and for many.
 use Rattle.std.proofs.lemmas.List.Sums.{sum_by-append}
-use Rattle.mk_laws.proofs.Vocabulary.{AreEnabledFrom, AreOfOthers, Caller, Config, Event, Flight, Holds, Host, IsInCall}
+use Rattle.mk_laws.proofs.Vocabulary.{AreEnabledFrom, AreOfOthers, Caller, Config, Event, Flight, Holds, IsInCall}
 use Rattle.mk_laws.proofs.Vocabulary.{IsLeft, List, Marker, MarkerState, Moment, Named, OnlyGrow, Protocol, Seat, Stage}
-use Rattle.mk_laws.proofs.Vocabulary.{Steady, Step, Store, Tally, TurnIsLeft, Word, Words, World, ℕ, accessed, ap}
-use Rattle.mk_laws.proofs.Vocabulary.{arith, at_rest, calls_from, cases_lt, d_of, enabled_meets, enabled_parts, ends}
-use Rattle.mk_laws.proofs.Vocabulary.{eq-eqb, false, first_world, flight_of, get_or-set_other, get_or_past, header_in}
-use Rattle.mk_laws.proofs.Vocabulary.{inl, inr, is_attending, is_in, is_one_of, is_unmapped_header, left, left_append}
-use Rattle.mk_laws.proofs.Vocabulary.{left_from, marker_at, others_are_held, outside, refl, reg_access, register_met}
-use Rattle.mk_laws.proofs.Vocabulary.{slice_index, slice_set, sym, true, world_behind, [], ◌*◌, ◌++◌, ◌+◌, ◌/◌, ◌<◌}
-use Rattle.mk_laws.proofs.Vocabulary.{◌∙◌, ◌∷◌, ◌≡◌, ◌≢◌, ◌≤◌}
+use Rattle.mk_laws.proofs.Vocabulary.{Steady, Step, TurnIsLeft, Word, Words, World, ℕ, accessed, ap, arith, at_rest}
+use Rattle.mk_laws.proofs.Vocabulary.{calls_from, cases_lt, enabled_meets, enabled_parts, ends, eq-eqb, false}
+use Rattle.mk_laws.proofs.Vocabulary.{first_world, flight_of, get_or-set_other, get_or_past, header_in, inl, inr}
+use Rattle.mk_laws.proofs.Vocabulary.{is_one_of, is_unmapped_header, left, left_append, left_from, marker_at}
+use Rattle.mk_laws.proofs.Vocabulary.{others_are_held, outside, refl, reg_access, register_met, slice_index, slice_set}
+use Rattle.mk_laws.proofs.Vocabulary.{sym, true, world_behind, [], ◌*◌, ◌++◌, ◌+◌, ◌/◌, ◌<◌, ◌∙◌, ◌∷◌, ◌≡◌, ◌≢◌, ◌≤◌}
 use Rattle.mk_core.proofs.{Histories.calls_append, RegisterAccesses.tally_leaves_registers}
-use Rattle.mk_core.specs.Frames.{Attends, CountsAreLeft, HoldsAll, IsIn, OthersLeave, OwnIsLeft, ScanIsLeft, written_of}
+use Rattle.mk_core.specs.Frames.{Attends, CountsAreLeft, HoldsAll, IsIn, OthersLeave, OwnIsLeft, written_of}
 use Rattle.mk_core.specs.{Growing.is_same_seat, Readings.is_in_call}
 use Rattle.mk_laws.proofs.Basics.{Behind, Known, Meets, WorldBehind, actor_of, grants_new, in_call_told, known_behind}
 use Rattle.mk_laws.proofs.Basics.{known_left, not_astray, operands_of, others_held, register_small, same_holder}
@@ -18,8 +17,7 @@ use Rattle.mk_laws.proofs.Basics.{standing, turn_of, view_of}
 use Rattle.mk_laws.proofs.Colours.{attending_grows, colour_step}
 use Rattle.mk_laws.proofs.Known.{HaveOperands, Operands, holds_turn}
 use Rattle.mk_laws.proofs.OthersCounts.{counts_nothing, entry_fulls, fulls_append, fulls_of}
-use Rattle.mk_laws.proofs.OthersMoves.{Calls, ComesIn, MarkerWrite, Marks, OthersMove, Waits, gate_one, others_move}
-use Rattle.mk_laws.proofs.OthersMoves.{with_words_seats}
+use Rattle.mk_laws.proofs.OthersMoves.{MarkerWrite, OthersMove, gate_one, others_move, with_words_seats}
 use Rattle.mk_laws.proofs.TurnFrame.{holding_out, turn_after, turn_joined, turn_same}
 use Rattle.mk_laws.proofs.{Growth.grows_joined, Growth.grows_same, HeaderSteps.header_step, HeaderSteps.stays_mapped}
 use Rattle.mk_laws.proofs.{ProtocolReadings.in_counts, Protocols.protocol_of, Standings.InCall, Standings.in_call_is}
@@ -32,21 +30,12 @@ pub data RegisterStep (w : Words) : Seat → List ℕ → Type 0 where
 
 reg_registers : (w : Words) (k : ℕ) (f : Flight) (s : Stage) → Operands f.op
     → RegisterStep w (Caller k) (accessed w (Named (Word.Reg k (register_met f s))) (reg_access f s)).registers
-reg_registers w k f Stage.Store o = SetsOwn (register_met f Stage.Store) _ (register_small f Stage.Store o)
-reg_registers w k f Stage.Put o = SetsOwn (register_met f Stage.Put) _ (register_small f Stage.Put o)
-reg_registers w k f _ o = KeepsRegisters
+reg_registers w k f s o = grind (arith, register_small, SetsOwn, KeepsRegisters)
 
 pub register_step : (c : Config) (m : Moment) (seat : Seat) (x : Step) → HaveOperands c m.seats.flights
     → Meets c m seat x → RegisterStep m.words seat (Behind c m seat x).words.registers
-register_step c m (Caller k) Step.Reg ops h = grind (arith, reg_registers, operands_of)
-register_step c m (Marker k) Step.Reg ops h = let kind = h.kind in cc
-register_step c m Host Step.Reg ops h = let kind = h.kind in cc
-register_step c m (Caller k) Step.Grant ops h =
-    SetsOwn (d_of (flight_of m (Caller k)).op) _ (operands_of c (flight_of m (Caller k)).op (ops k)).d
-register_step c m (Marker k) Step.Grant ops h = let kind = h.kind in cc
-register_step c m Host Step.Grant ops h = let new = grants_new c m Host h in cc
-register_step c m seat (Step.Tally n v) ops h = rw (tally_leaves_registers m.words n v) KeepsRegisters
-register_step c m seat _ ops h = KeepsRegisters
+register_step c m seat x ops h =
+    grind (arith, reg_registers, operands_of, grants_new, tally_leaves_registers, SetsOwn, KeepsRegisters)
 
 pub others_registers : (w : Words) (seat : Seat) (rs : List ℕ) (k r : ℕ) → RegisterStep w seat rs → seat ≢ Caller k
     → r < 8 → slice_index rs (8 * k + r) ≡ slice_index w.registers (8 * k + r)
@@ -75,9 +64,7 @@ others_out c w seat s x known h ne holds =
 
 still_holds : (c : Config) (s : Seat) (w v : World) → flight_of v.now s ≡ flight_of w.now s
     → v.now.words.turn ≡ w.now.words.turn → Holds c w.now s → Holds c v.now s
-still_holds c (Caller k) w v flight turn h = (h.0, rw flight h.1)
-still_holds c (Marker k) w v flight turn h = h
-still_holds c Host w v flight turn h = turn ∙ h
+still_holds c s w v flight turn h = grind arith
 
 -- what is left, by worlds
 pub record Left (c : Config) (s : Seat) (w v : World) : Type 0 where
@@ -88,22 +75,6 @@ pub record Left (c : Config) (s : Seat) (w v : World) : Type 0 where
   pub stop : HoldsAll c w.now s → written_of v ≡ written_of w
   pub scan : Attends w.now s
       → OnlyGrow w.now.words.marks v.now.words.marks × OnlyGrow w.now.words.blacks v.now.words.blacks
-
-own_after : (c : Config) (w : World) (seat s : Seat) (x : Step) → Known c w.now → Meets c w.now seat x → seat ≢ s
-    → OwnIsLeft c s w (WorldBehind c w seat x)
-own_after c w seat s x known h ne = record {
-  flight = others_flight c w seat s x ne;
-  marker = others_marker c w seat s x ne;
-  registers = λ k r is lt. others_registers w.now.words seat _ k r (register_step c w.now seat x known.operands h)
-      (λ e. ne (e ∙ sym is)) lt;
-  holding = λ holds.
-      let move = others_out c w seat s x known h ne holds in
-      let turn = turn_after c w seat _ known move in (
-        still_holds c s w (WorldBehind c w seat x) (others_flight c w seat s x ne)
-            (ap (λ (y : Steady). y.turn) turn.steady) holds,
-        holding_out c w seat _ move,
-      );
-}
 
 -- who is in a call
 pub in_call_stands : (c : Config) (m : Moment) (k : ℕ) → Known c m → is_in_call (flight_of m (Caller k)) ≡ true
@@ -129,15 +100,11 @@ mapped_after c w seat _ x known h ne call p is = absurd call
 -- Where all other gates are held, callers do nothing, and markers don't change what callers do.
 marks_leave : (w : World) (k : ℕ) (y : MarkerState) (ms : List MarkerState) (x : Words) → MarkerWrite k w.now y x
     → written_of (with_words_seats w x (record w.now.seats { markers = ms })) ≡ written_of w
-marks_leave w k y ms x (ComesIn a) = refl
-marks_leave w k y ms x _ = refl
+marks_leave w k y ms x h = grind arith
 
 stop_out : (c : Config) (w : World) (seat s : Seat) (v : World) → OthersMove c w seat v → seat ≢ s → Holds c w.now s
     → others_are_held c.callers w.now.words s ≡ true → written_of v ≡ written_of w
-stop_out c w seat s v Waits ne holds all = refl
-stop_out c w seat s v (Calls {k} f {x} lt le write) ne holds all = grind (arith, others_held)
-stop_out c w seat s v (Marks {k} y {x} lt write) ne holds all =
-    marks_leave w k y (slice_set w.now.seats.markers k y) x write
+stop_out c w seat s v h ne holds all = grind (arith, others_held, marks_leave)
 
 scan_after : (c : Config) (w : World) (seat s : Seat) (x : Step) → Known c w.now → Meets c w.now seat x
     → Attends w.now s → OnlyGrow w.now.words.marks (WorldBehind c w seat x).now.words.marks
@@ -147,6 +114,22 @@ scan_after c w seat (Marker k) x known h a = attending_grows c w.now seat _ k (k
 scan_after c w seat _ x known h a = absurd a
 
 -- one event of another seat
+own_after : (c : Config) (w : World) (seat s : Seat) (x : Step) → Known c w.now → Meets c w.now seat x → seat ≢ s
+    → OwnIsLeft c s w (WorldBehind c w seat x)
+own_after c w seat s x known h ne = record {
+  flight = others_flight c w seat s x ne;
+  marker = others_marker c w seat s x ne;
+  registers = λ k r is lt. others_registers w.now.words seat _ k r (register_step c w.now seat x known.operands h)
+      (λ e. ne (e ∙ sym is)) lt;
+  holding = λ holds.
+      let move = others_out c w seat s x known h ne holds in
+      let turn = turn_after c w seat _ known move in (
+        still_holds c s w (WorldBehind c w seat x) (others_flight c w seat s x ne)
+            (ap (λ (y : Steady). y.turn) turn.steady) holds,
+        holding_out c w seat _ move,
+      );
+}
+
 pub left_after : (c : Config) (w : World) (seat s : Seat) (x : Step) → Known c w.now → Meets c w.now seat x → seat ≢ s
     → Left c s w (WorldBehind c w seat x)
 left_after c w seat s x known h ne = record {
@@ -160,16 +143,13 @@ left_after c w seat s x known h ne = record {
 -- what the seat is in the middle of, it still is
 
 still_calls : (c : Config) (s : Seat) (w u : World) → OwnIsLeft c s w u → IsInCall w.now s → IsInCall u.now s
-still_calls c (Caller k) w u l call = ap is_in_call l.flight ∙ call
-still_calls c _ w u l call = call
+still_calls c s w u l call = grind arith
 
 pub still_attends : (c : Config) (s : Seat) (w u : World) → OwnIsLeft c s w u → Attends w.now s → Attends u.now s
-still_attends c (Marker k) w u l a = ap (λ (y : MarkerState). is_attending y.presence) l.marker ∙ a
-still_attends c _ w u l a = a
+still_attends c s w u l a = grind arith
 
 still_in : (c : Config) (s : Seat) (w u : World) → OwnIsLeft c s w u → IsIn w.now s → IsIn u.now s
-still_in c (Marker k) w u l i = ap is_in l.marker ∙ i
-still_in c _ w u l i = i
+still_in c s w u l i = grind arith
 
 still_stopped : (c : Config) (s : Seat) (w u : World) → Left c s w u → HoldsAll c w.now s → HoldsAll c u.now s
 still_stopped c s w u l all = grind arith
@@ -186,9 +166,7 @@ left_joined c s w u v a b = record {
 -- the list goes on with events of others
 
 same_seat : (s : Seat) → is_same_seat s s ≡ true
-same_seat (Caller k) = eq-eqb k k refl
-same_seat (Marker k) = eq-eqb k k refl
-same_seat Host = refl
+same_seat s = grind (arith, eq-eqb)
 
 pub other_seat : (s seat : Seat) → is_one_of (s ∷ []) seat ≡ false → seat ≢ s
 other_seat s seat h e = grind (arith, same_seat)
@@ -221,17 +199,10 @@ counts_later c s w (e ∷ es) k on others holds =
     ((left_after c w e.seat s e.step k h ne).own.holding holds).0 in
     grind (arith, entry_fulls, sum_by-append, fulls_append)
 
-counts_left : (c : Config) (es more : List Event) → CountsNothing c (left c es) more → CountsAreLeft c es (es ++ more)
-counts_left c es more h = grind (arith, sum_by-append, calls_append, fulls_append)
-
 -- the law
 
-scan_left : (c : Config) (s : Seat) (w v : World) → Left c s w v → Protocol c v.now → Attends w.now s → ScanIsLeft w v
-scan_left c s w v l p a = grind (arith, still_attends)
-
 visit_left : (c : Config) (s : Seat) (m : Moment) → Protocol c m → IsIn m s → 1 ≤ m.words.phase / 8
-visit_left c (Marker k) m p i = in_counts c m k p i
-visit_left c _ m p i = absurd i
+visit_left c s m p i = grind (arith, in_counts)
 
 is_left : (c : Config) (s : Seat) (es more : List Event) → Left c s (left c es) (left c (es ++ more))
     → Known c (left c (es ++ more)).now
@@ -244,9 +215,12 @@ is_left c s es more l known counts = record {
   };
   turn = λ holds. (l.turn holds, counts holds);
   stop = l.stop;
-  scan = λ a. scan_left c s (left c es) _ l (protocol_of c _ known) a;
+  scan = λ a. grind (arith, still_attends);
   visit = λ i. visit_left c s _ (protocol_of c _ known) (still_in c s (left c es) _ l.own i);
 }
+
+counts_left : (c : Config) (es more : List Event) → CountsNothing c (left c es) more → CountsAreLeft c es (es ++ more)
+counts_left c es more h = grind (arith, sum_by-append, calls_append, fulls_append)
 
 pub others_leave : OthersLeave
 others_leave c es more s limits on others =

@@ -95,15 +95,6 @@ held_or gs j b lt other = elim (cases_eq b j) [
   | inr ne ↦ get_or-set_other gs j b 2 0 ne ∙ other ne
 ]
 
--- a marker attends only in these phases, after a change of one
-attends_set : (v : View) (p k : ℕ) (x : MarkerState)
-    → (is_attending x.presence ≡ true → (v.phase % 8 ≡ 1) ⊎ (v.phase % 8 ≡ 2))
-    → ((b : ℕ) → is_attending (marker_in v b).presence ≡ true → (v.phase % 8 ≡ 1) ⊎ (v.phase % 8 ≡ 2)) → p ≡ v.phase % 8
-    → (b : ℕ) → is_attending (slice_index_or (slice_set v.markers k x) b outside).presence ≡ true → (p ≡ 1) ⊎ (p ≡ 2)
-attends_set v p k x own others e b a =
-    rw e (marker_set v.markers k b x (λ (y : MarkerState). is_attending y.presence ≡ true
-    → (v.phase % 8 ≡ 1) ⊎ (v.phase % 8 ≡ 2)) (λ lk. own) (others b) a)
-
 -- where the turn, the phase and the markers stay
 seats_kept : (c : Config) (v : View) (fs : List Flight) (gs : List ℕ) (i : Holding) → Orderly c v
     → length fs ≡ c.callers → length gs ≡ 16 → AllShow c.callers v.turn gs fs
@@ -136,7 +127,9 @@ markers_kept c v k x p h same count own idle = record {
   low = omega (arith, same, h.low);
   cycle = λ a b. h.cycle (omega (arith, same)) (omega (arith, same));
   stopped = λ e. h.stopped (omega (arith, same));
-  attends = attends_set v (p % 8) k x own h.attends same;
+  attends = λ b a.
+      rw same (marker_set v.markers k b x (λ (y : MarkerState). is_attending y.presence ≡ true
+      → (v.phase % 8 ≡ 1) ⊎ (v.phase % 8 ≡ 2)) (λ lk. own) (h.attends b) a);
   idle = λ b. marker_set v.markers k b x (λ (y : MarkerState). IdlesOutside y) idle (h.idle b);
 }
 

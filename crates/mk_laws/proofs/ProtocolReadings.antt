@@ -1,32 +1,33 @@
 -- What a look at the turn, at a gate and at the phase says.
-use Rattle.mk_laws.proofs.Vocabulary.{Caller, Config, Event, Holds, Host, List, Marker, Moment, Presence, Protocol}
-use Rattle.mk_laws.proofs.Vocabulary.{Seat, ℕ, arith, cases_Bool, cases_eq, cases_lt, false, get_or_past, inl, inr}
-use Rattle.mk_laws.proofs.Vocabulary.{is_attending, is_in, left, marker_of, not, refl, true, ◌-◌, ◌/◌, ◌<◌, ◌≡◌, ◌≤◌}
-use Rattle.mk_core.specs.Readings.{GateTells, PhaseTells, TurnTells}
-use Rattle.mk_core.specs.{MarkerConditions.is_out, declared.seats.Presence.TheVariants.Attending}
+use Rattle.mk_laws.proofs.Vocabulary.{Caller, Config, Event, Holds, Host, List, Moment, Presence, Protocol, Seat, ℕ}
+use Rattle.mk_laws.proofs.Vocabulary.{arith, cases_Bool, cases_eq, cases_lt, false, get_or_past, inl, inr, is_attending}
+use Rattle.mk_laws.proofs.Vocabulary.{is_in, left, marker_of, not, true, ◌-◌, ◌/◌, ◌<◌, ◌≡◌, ◌≤◌}
+use Rattle.mk_core.specs.{MarkerConditions.is_out, Readings.GateTells, Readings.PhaseTells, Readings.TurnTells}
 use Rattle.mk_laws.proofs.{Orderly.count_in-at, ProtocolHeldGates.gates_tell_holds, Protocols.lists_keep_the_protocol}
 use Rattle.mk_laws.specs.HolderReadings.{WordsTell}
 
 turn_tells : (c : Config) (m : Moment) → Protocol c m → TurnTells c m
-turn_tells c m p = record { least = p.turn; caller = p.holder; nobody = (held, free) }
+turn_tells c m p = record {
+  least = p.turn;
+  caller = p.holder;
+  nobody = (
+    held,
+    λ none.
+        elim (cases_eq m.words.turn 0) [
+          | inl z ↦ z
+          | inr some ↦ elim (cases_lt (m.words.turn - 1) c.callers) [
+            | inl lt ↦ absurd (none (Caller (m.words.turn - 1)) (lt, (p.holder _ lt).0 (omega arith)))
+            | inr past ↦ let most = p.turn in absurd (none Host (omega arith))
+          ]
+        ],
+  );
+}
   where
     held : m.words.turn ≡ 0 → (s : Seat) → Holds c m s → ⊥
-    held z (Caller k) h = let e = (p.holder k h.0).1 h.1 in absurd (omega arith)
-    held z (Marker k) h = h
-    held z Host h = absurd (omega arith)
-
-    free : ((s : Seat) → Holds c m s → ⊥) → m.words.turn ≡ 0
-    free none = elim (cases_eq m.words.turn 0) [
-      | inl z ↦ z
-      | inr some ↦ elim (cases_lt (m.words.turn - 1) c.callers) [
-        | inl lt ↦ absurd (none (Caller (m.words.turn - 1)) (lt, (p.holder _ lt).0 (omega arith)))
-        | inr past ↦ let most = p.turn in absurd (none Host (omega arith))
-      ]
-    ]
+    held z s h = grind arith
 
 attending_in : (p : Presence) → is_attending p ≡ true → not (is_out p) ≡ true
-attending_in Attending h = refl
-attending_in _ h = cc
+attending_in p h = grind arith
 
 -- a marker that is in is one of the eight, and counts
 pub in_counts : (c : Config) (m : Moment) (k : ℕ) → Protocol c m → is_in (marker_of m k) ≡ true → 1 ≤ m.words.phase / 8

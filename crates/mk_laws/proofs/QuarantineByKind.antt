@@ -106,8 +106,7 @@ quar_kept c w seat p n b h laid q = by (cell_freed c.pages w.now.words (flight_o
 -- `head` and `used`
 head_from : (four : Bool) (placing : Placing) (found : Option Place) (place : Place)
     → (if four then placing else chosen placing found) ≡ Used place → placing ≡ Used place
-head_from true placing found place e = e
-head_from false placing found place e = chosen_used placing found place e
+head_from four placing found place e = grind (arith, chosen_used)
 
 abbrev UsedAs : Config → World → List Page → Bool → Option Place → Type 0
 UsedAs c w pages four found = QuarantinedAs c four w (record (ground_of w) {

@@ -6,9 +6,9 @@ use Rattle.mk_laws.proofs.Vocabulary.{Words, World, ℕ, ap, arith, cases_Bool, 
 use Rattle.mk_laws.proofs.Vocabulary.{changed_at, class_known, class_made, class_words_of, cond-true, false}
 use Rattle.mk_laws.proofs.Vocabulary.{freed_released, freed_where_it_stands, ground_of, has_bit, has_place}
 use Rattle.mk_laws.proofs.Vocabulary.{if◌then◌else◌, inl, inr, is_released_in, is_small_object, large_cells, length}
-use Rattle.mk_laws.proofs.Vocabulary.{map, mul-le, no_longer_fresh, placed_at, quarantine_word, refl, slice_index}
-use Rattle.mk_laws.proofs.Vocabulary.{slice_set, small, small_cells, stands_in, suc, sym, true, true≢false}
-use Rattle.mk_laws.proofs.Vocabulary.{with_released, [], ◌%◌, ◌*◌, ◌++◌, ◌+◌, ◌/◌, ◌<◌, ◌^◌, ◌∙◌, ◌∷◌, ◌≡◌, ◌≤◌, ◌⊎◌}
+use Rattle.mk_laws.proofs.Vocabulary.{map, mul-le, no_longer_fresh, placed_at, quarantine_word, slice_index, slice_set}
+use Rattle.mk_laws.proofs.Vocabulary.{small, small_cells, stands_in, suc, sym, true, true≢false, with_released, [], ◌%◌}
+use Rattle.mk_laws.proofs.Vocabulary.{◌*◌, ◌++◌, ◌+◌, ◌/◌, ◌<◌, ◌^◌, ◌∙◌, ◌∷◌, ◌≡◌, ◌≤◌, ◌⊎◌}
 use Rattle.mk_geom.proofs.ClassTable.{class_words_within}
 use Rattle.mk_core.proofs.WordBits.{added_here, added_other, sum_is_or}
 use Rattle.mk_laws.proofs.Basics.{IsStanding, LeavesCells, bit_cases, freeing_leaves, releasing_leaves, same_cell}
@@ -103,8 +103,7 @@ freed_stays w cell a f = grind arith
 
 freed_by : (b : Bool) (a : PlacedAllocation) → (if b then record a { freed = true; fresh = true } else a).freed ≡ true
     → (b ≡ true) ⊎ (a.freed ≡ true)
-freed_by true a f = inl refl
-freed_by false a f = inr f
+freed_by b a f = grind arith
 
 -- what the step finds
 pub record FreesHere (c : Config) (w : World) (cell : Cell) (n : ℕ) : Type 0 where
@@ -155,7 +154,7 @@ free_kept c w cell run n x q = record {
     least_set w.now.words.snapshot cell.page (n / 2 ^ 32) i x.in_snapshot
         (let h = high in let s = (q.small cell.page).1 in omega arith) (q.small i).1,
   );
-  within = λ i k h. grown i k (q.within i k (same_snap i k h));
+  within = λ i k h. grown i k (q.within i k (grind (arith, bit_cases, high)));
   owned = owned;
   shown = λ i u f.
       let b = before_change c (freed_where_it_stands w.now.words (Some cell)) w.allocations i leaves u in
@@ -181,10 +180,6 @@ free_kept c w cell run n x q = record {
 
     set_here : has_bit (slice_index (slice_set w.now.words.freed cell.page (n % 2 ^ 32)) cell.page) cell.index ≡ true
     set_here = grind (arith, bit_cases, low, added_here)
-
-    same_snap : (i k : ℕ) → has_bit (slice_index (slice_set w.now.words.snapshot cell.page (n / 2 ^ 32)) i) k ≡ true
-        → has_bit (slice_index w.now.words.snapshot i) k ≡ true
-    same_snap i k h = grind (arith, bit_cases, high)
 
     grown : (i k : ℕ) → has_bit (slice_index w.now.words.freed i) k ≡ true
         → has_bit (slice_index (slice_set w.now.words.freed cell.page (n % 2 ^ 32)) i) k ≡ true

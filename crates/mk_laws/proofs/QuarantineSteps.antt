@@ -1,13 +1,12 @@
 -- The quarantine after each kind of step.
-use Rattle.std.proofs.Common.{bit_and, min}
-use Rattle.std.proofs.{lemmas.Nat.and_le_r, lemmas.Nat.Bits.bit_at_and, lemmas.Nat.Bits.same_from_bits}
-use Rattle.mk_laws.proofs.Vocabulary.{Among, Bool, Chosen, Claim, Config, Drops, Granted, Ground, HasQuarantine, List}
-use Rattle.mk_laws.proofs.Vocabulary.{Object, Option, Page, Place, Placing, RunPages, Unplaced, Used, World, ℕ}
-use Rattle.mk_laws.proofs.Vocabulary.{and_parts, and_right, ap, arith, bit_at, cases_eq, cell_of_allocation, claims_on}
-use Rattle.mk_laws.proofs.Vocabulary.{claims_placed, false, false_from_ne_true, fewer_bits, get_or-set_other}
-use Rattle.mk_laws.proofs.Vocabulary.{get_or-set_same, ground_of, has_bit, has_bit_without, inl, inr, is_released_in}
-use Rattle.mk_laws.proofs.Vocabulary.{length, not, not-true, placed_at, refl, slice_index, slice_set, sym, true}
-use Rattle.mk_laws.proofs.Vocabulary.{used_on, without, ◌&&◌, ◌-◌, ◌<◌, ◌^◌, ◌∙◌, ◌≡◌, ◌≢◌, ◌≤◌, ◌⊎◌}
+use Rattle.std.proofs.{Common.bit_and, lemmas.Nat.and_le_r, lemmas.Nat.Bits.bit_at_and, lemmas.Nat.Bits.same_from_bits}
+use Rattle.mk_laws.proofs.Vocabulary.{Among, Bool, Claim, Config, Drops, Ground, HasQuarantine, List, Object, Option}
+use Rattle.mk_laws.proofs.Vocabulary.{Page, Place, Placing, RunPages, Used, World, ℕ, and_parts, and_right, ap, arith}
+use Rattle.mk_laws.proofs.Vocabulary.{cases_eq, cell_of_allocation, claims_on, claims_placed, false, false_from_ne_true}
+use Rattle.mk_laws.proofs.Vocabulary.{fewer_bits, get_or-set_other, get_or-set_same, ground_of, has_bit}
+use Rattle.mk_laws.proofs.Vocabulary.{has_bit_without, inl, inr, is_released_in, length, not, not-true, placed_at, refl}
+use Rattle.mk_laws.proofs.Vocabulary.{slice_index, slice_set, sym, true, used_on, without, ◌&&◌, ◌-◌, ◌<◌, ◌^◌, ◌∙◌}
+use Rattle.mk_laws.proofs.Vocabulary.{◌≡◌, ◌≢◌, ◌⊎◌}
 use Rattle.mk_core.proofs.{PageSteps.left_bits, WordBits.rest_bits}
 use Rattle.mk_laws.proofs.{Claims.claim_is, Serving.among_parts}
 
@@ -17,11 +16,8 @@ rest_bit n m k sub =
     let same : m - n ≡ without m n = ap (λ x. m - x) (sym turned) in
     rw same (has_bit_without m n k)
   where
-    least : (a b : ℕ) → min a b ≡ min b a
-    least a b = omega arith
-
     turned : bit_and m n ≡ n
-    turned = same_from_bits _ _ (λ i. bit_at_and m n i ∙ least (bit_at m i) (bit_at n i) ∙ sym (bit_at_and n m i)) ∙ sub
+    turned = same_from_bits _ _ (λ i. bit_at_and m n i ∙ (omega arith) ∙ sym (bit_at_and n m i)) ∙ sub
 
 pub and_both : (a b : Bool) → a ≡ true → b ≡ false → (a && not b) ≡ true
 and_both a b x y = rw x (ap not y)
@@ -43,9 +39,6 @@ pub bit_cases : (xs : List ℕ) (p n q k : ℕ) → p < length xs
     → ((q ≡ p) × (has_bit (slice_index (slice_set xs p n) q) k ≡ has_bit n k))
     ⊎ ((q ≢ p) × (has_bit (slice_index (slice_set xs p n) q) k ≡ has_bit (slice_index xs q) k))
 bit_cases xs p n q k lt = grind (arith, set_cases)
-
-without_le : (x y : ℕ) → without x y ≤ x
-without_le x y = omega arith
 
 -- what says that a cell is released
 pub released_bits : (snapshot marks : List ℕ) (p k : ℕ) → is_released_in true snapshot marks p k ≡ true
@@ -94,24 +87,11 @@ module _ (c : Config) (w : World) (p f n : ℕ) (lf : p < length w.now.words.fre
       → has_bit (slice_index (slice_set w.now.words.snapshot p n) i) k ≡ true
   still_released i k x was = grind (arith, bit_cases, and_parts, f_bit, rest_bits, not-true)
 
+  ruleset drop_kept_facts = (false_from_ne_true, was_freed, released_bits, and_both, was_snap, still_released)
+
   pub drop_kept : HasQuarantine c true w.now.words.marks
       (record (ground_of w) { freed = slice_set w.now.words.freed p f; snapshot = slice_set w.now.words.snapshot p n })
-  drop_kept =
-      grind (
-        arith,
-        least_set,
-        f_small,
-        n_small,
-        within,
-        stays,
-        bit_cases,
-        false_from_ne_true,
-        was_freed,
-        released_bits,
-        and_both,
-        was_snap,
-        still_released,
-      )
+  drop_kept = grind (arith, drop_kept_facts, least_set, f_small, n_small, within, stays, bit_cases)
 
 -- `quar` (b): the freed cells are the snapshot
 pub snapshot_kept : (c : Config) (marks : List ℕ) (t : Ground) (p : ℕ) → p < length t.snapshot
@@ -158,8 +138,4 @@ none_released c o marks t q x i = elim (among_parts _ _ x i) [
   where
     by : (placing : Placing) → t.placing ≡ placing → Among x (claims_placed o placing)
         → is_released_in true t.snapshot marks x.page x.index ≡ false
-    by Unplaced is j = absurd j
-    by Granted is j = absurd j
-    by (Chosen place) is j = absurd j
-    by (Used place) is (inr j) = absurd j
-    by (Used place) is (inl e) = grind (arith, false_from_ne_true, released_bits)
+    by placing is j = grind (arith, false_from_ne_true, released_bits)

@@ -1,10 +1,10 @@
 -- The word that an access reaches: one of a mapped allocation.
 use Rattle.mk_laws.proofs.Vocabulary.{Bool, ImageScene, IsMet, IsNumber, IsSafe, IsSound, IsTypedAllocation, Kind, List}
-use Rattle.mk_laws.proofs.Vocabulary.{Meets, NeverState, Null, Num, Number, PlacedAllocation, Ptr, Suits, To, Unmapped}
-use Rattle.mk_laws.proofs.Vocabulary.{Value, WordOf, ℕ, allocation_at, ap, arith, bases_of, false, false≢true}
-use Rattle.mk_laws.proofs.Vocabulary.{header_of, image_of, is_unmapped, is_unmapped_header, kind_in, length, length-map}
-use Rattle.mk_laws.proofs.Vocabulary.{number_of, placed_at, refl, sym, target_of, true, word_at, words_of, ◌++◌, ◌+◌}
-use Rattle.mk_laws.proofs.Vocabulary.{◌-◌, ◌/◌, ◌<◌, ◌∙◌, ◌≡◌, ◌≢◌}
+use Rattle.mk_laws.proofs.Vocabulary.{Meets, NeverState, Null, Num, PlacedAllocation, Ptr, Suits, Unmapped, Value}
+use Rattle.mk_laws.proofs.Vocabulary.{WordOf, ℕ, allocation_at, ap, arith, bases_of, false, header_of, image_of}
+use Rattle.mk_laws.proofs.Vocabulary.{is_unmapped, is_unmapped_header, kind_in, length, length-map, number_of}
+use Rattle.mk_laws.proofs.Vocabulary.{placed_at, sym, target_of, true, word_at, words_of, ◌++◌, ◌+◌, ◌-◌, ◌/◌, ◌<◌, ◌∙◌}
+use Rattle.mk_laws.proofs.Vocabulary.{◌≡◌, ◌≢◌}
 use Rattle.mk_laws.proofs.{HeapEdits.base_at, Pairs.image_more, Ready.Ready}
 
 -- the access through the value, i words on, whose address is in q
@@ -81,7 +81,4 @@ module _ (listed : List ℕ) (safe : ℕ → Bool) (s : ImageScene) (n : NeverSt
 
 pub of_number : (n : NeverState) (bs : List ℕ) (v : Value) (kind : Kind) → IsNumber kind → Suits n v kind
     → image_of bs v ≡ number_of v
-of_number n bs (Num m) Number is su = refl
-of_number n bs Null Number is su = absurd su
-of_number n bs (Ptr a t o) Number is su = absurd su
-of_number n bs v (To t o) is su = absurd (false≢true is)
+of_number n bs v kind is su = grind arith

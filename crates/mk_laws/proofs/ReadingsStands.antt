@@ -1,10 +1,10 @@
 -- What headers and freed bits say of the allocations, after each history.
-use Rattle.mk_laws.proofs.Vocabulary.{Bool, Cell, Config, HasItsHead, Header, Invariant, IsFreedCell, IsTaken, LeafRun}
-use Rattle.mk_laws.proofs.Vocabulary.{NeverState, OfHistories, Option, PlacedAllocation, Run, RunPages, Some, World, ℕ}
-use Rattle.mk_laws.proofs.Vocabulary.{and_parts, ap, arith, cell_of_allocation, false, header_in, inl, inr, is_freed}
-use Rattle.mk_laws.proofs.Vocabulary.{is_phase, is_released_in, left, ne_eqb, not-true, phase_of, placed_at, refl}
-use Rattle.mk_laws.proofs.Vocabulary.{run_count, run_headed, stands_in_its_cell, sym, true, true≢false, typed_size, ◌-◌}
-use Rattle.mk_laws.proofs.Vocabulary.{◌<◌, ◌∙◌, ◌≡◌, ◌≢◌, ◌≤◌, ◌⊎◌}
+use Rattle.mk_laws.proofs.Vocabulary.{Bool, Cell, Config, Header, Invariant, IsFreedCell, IsTaken, LeafRun, NeverState}
+use Rattle.mk_laws.proofs.Vocabulary.{OfHistories, Option, PlacedAllocation, Run, RunPages, Some, World, ℕ, and_parts}
+use Rattle.mk_laws.proofs.Vocabulary.{ap, arith, cell_of_allocation, false, inl, inr, is_freed, is_phase}
+use Rattle.mk_laws.proofs.Vocabulary.{is_released_in, left, ne_eqb, not-true, phase_of, placed_at, refl, run_count}
+use Rattle.mk_laws.proofs.Vocabulary.{run_headed, stands_in_its_cell, sym, true, true≢false, typed_size, ◌-◌, ◌<◌, ◌∙◌}
+use Rattle.mk_laws.proofs.Vocabulary.{◌≡◌, ◌≢◌}
 use Rattle.mk_core.{proofs.PointedAllocations.taken_cell_is, specs.Readings.WordsTellWhatStands}
 use Rattle.mk_laws.{proofs.Basics.KnownWorld, proofs.Basics.known_world, proofs.ForImages.standing}
 use Rattle.mk_laws.{proofs.InvariantHistories.histories_keep_the_invariant, specs.WordReadings.HeadersAndQuarantineTell}
@@ -23,26 +23,13 @@ module _ (c : Config) (w : World) (n : NeverState) (known : KnownWorld c w) (all
   -- A freed bit is that of a freed allocation's cell, where the phase isn't releasing.
   pub freed_cell : phase_of w.now.words ≢ 4 → (cell : Cell) → is_freed w.now.words cell ≡ true
       → IsFreedCell c w.allocations cell.page cell.index
-  freed_cell quiet cell bit = by (all.order.quarantined.owned cell.page cell.index bit)
+  freed_cell quiet cell bit = elim (all.order.quarantined.owned cell.page cell.index bit) [
+    | inl o ↦ o
+    | inr r ↦ absurd (true≢false (sym r ∙ ap released_when (not_releasing w quiet)))
+  ]
     where
       released_when : Bool → Bool
       released_when releasing = is_released_in releasing w.now.words.snapshot w.now.words.marks cell.page cell.index
-
-      by : IsFreedCell c w.allocations cell.page cell.index ⊎ (released_when (is_phase w.now.words 4) ≡ true)
-          → IsFreedCell c w.allocations cell.page cell.index
-      by (inl o) = o
-      by (inr r) = absurd (true≢false (sym r ∙ ap released_when (not_releasing w quiet)))
-
-  later_page : phase_of w.now.words ≢ 4 → (p distance : ℕ)
-      → HasItsHead w.now.words.pages (is_phase w.now.words 4) p distance
-      → (run : RunPages) × (run_headed (header_in w.now.words (p - distance)) (p - distance) ≡ Some run)
-      × (distance < run.count) × (distance ≤ p)
-  later_page quiet p distance has = elim has.1 [
-    | inl lt ↦
-        let r = run_there _ (p - distance) distance lt in
-        (r.0, r.1, r.2, has.0)
-    | inr lost ↦ absurd (true≢false (sym lost.0 ∙ not_releasing w quiet))
-  ]
 
   taken_freed : (cell : Cell) → is_freed w.now.words cell ≡ true → IsFreedCell c w.allocations cell.page cell.index
       → (a : IsTaken w cell) × ((placed_at w.allocations a.number).freed ≡ true)
@@ -68,8 +55,12 @@ module _ (c : Config) (w : World) (n : NeverState) (known : KnownWorld c w) (all
   words_tell : WordsTellWhatStands w
   words_tell = record {
     headers = all.order.words;
-    later = λ quiet p distance mapped is. later_page quiet p distance
-        (all.order.laid.scene.later p distance mapped is);
+    later = λ quiet p distance mapped is. elim (all.order.laid.scene.later p distance mapped is).1 [
+      | inl lt ↦
+          let r = run_there _ (p - distance) distance lt in
+          (r.0, r.1, r.2, (all.order.laid.scene.later p distance mapped is).0)
+      | inr lost ↦ absurd (true≢false (sym lost.0 ∙ not_releasing w quiet))
+    ];
     freed = λ quiet cell bit. taken_freed cell bit (freed_cell quiet cell bit);
     quarantined = λ cell t freed. ap (λ (x : Cell). is_freed w.now.words x) (sym (taken cell t).1)
         ∙ all.order.quarantined.shown t.number (taken cell t).0 freed;

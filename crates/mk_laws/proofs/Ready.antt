@@ -1,10 +1,10 @@
 -- What a step of a caller needs of the state before: images tell values apart.
 use Rattle.mk_laws.proofs.Vocabulary.{Answer, Bool, ImageScene, IsSafe, IsSafeSet, IsSound, IsTyped, List, NeverState}
-use Rattle.mk_laws.proofs.Vocabulary.{Null, Num, Op, Option, Progress, Ptr, Some, Value, ℕ, after_calls, answer_of}
-use Rattle.mk_laws.proofs.Vocabulary.{answered, answers_of, ap, arith, asked, bases_of, bit, cases_Bool, cases_eq}
-use Rattle.mk_laws.proofs.Vocabulary.{entry_of, eq-eqb, false, flagged, if◌then◌else◌, image_of, inl, inr, is_same}
-use Rattle.mk_laws.proofs.Vocabulary.{kinds_of, length, ne_eqb, one_if, placed_at, refl, replies_of, slice_set, sym}
-use Rattle.mk_laws.proofs.Vocabulary.{true, words_of, [], ◌++◌, ◌+◌, ◌<◌, ◌==◌, ◌^◌, ◌∙◌, ◌∷◌, ◌≡◌}
+use Rattle.mk_laws.proofs.Vocabulary.{Null, Op, Option, Progress, Ptr, Some, Value, ℕ, after_calls, answer_of, answered}
+use Rattle.mk_laws.proofs.Vocabulary.{answers_of, ap, arith, asked, bases_of, bit, cases_Bool, cases_eq, entry_of}
+use Rattle.mk_laws.proofs.Vocabulary.{eq-eqb, false, flagged, if◌then◌else◌, image_of, inl, inr, is_same, kinds_of}
+use Rattle.mk_laws.proofs.Vocabulary.{length, ne_eqb, one_if, placed_at, refl, replies_of, slice_set, sym, true}
+use Rattle.mk_laws.proofs.Vocabulary.{words_of, [], ◌++◌, ◌+◌, ◌<◌, ◌==◌, ◌^◌, ◌∙◌, ◌∷◌, ◌≡◌}
 use Rattle.mk_never.proofs.{Sameness.equal_from_same, Sameness.same_from_equal, Soundness.place_is_inside}
 use Rattle.mk_never.specs.NeverHeap.{reply_of}
 use Rattle.mk_laws.proofs.{HeapEdits.base_at, ImagesKept.AreApart, ImagesKept.AreSmall, ImagesMoves.Move}
@@ -28,17 +28,11 @@ pub pointed_word : (listed : List ℕ) (safe : ℕ → Bool) (s : ImageScene) (n
 pointed_word listed safe s n h a t o sound = grind (arith, place_is_inside)
 
 pub image_zero : (n : NeverState) (bs : List ℕ) (v : Value) → IsSound n v → image_of bs v ≡ 0 → v ≡ Null
-image_zero n bs Null s e = refl
-image_zero n bs (Num m) s e = absurd s
-image_zero n bs (Ptr a t o) s e = absurd (omega arith)
+image_zero n bs v s e = grind arith
 
 pub image_same : (listed : List ℕ) (safe : ℕ → Bool) (s : ImageScene) (n : NeverState) → Ready listed safe s n
     → (u v : Value) → IsSound n u → IsSound n v → IsSafe safe u → IsSafe safe v
     → image_of (bases_of s.allocations) u ≡ image_of (bases_of s.allocations) v → u ≡ v
-image_same listed safe s n h Null v su sv fu fv e = sym (image_zero n _ v sv (sym e))
-image_same listed safe s n h (Num m) v su sv fu fv e = absurd su
-image_same listed safe s n h (Ptr a t o) Null su sv fu fv e = absurd (omega arith)
-image_same listed safe s n h (Ptr a t o) (Num m) su sv fu fv e = absurd sv
 image_same listed safe s n h (Ptr a t o) (Ptr b u i) su sv fu fv e =
     let ea = base_at s.allocations a in
     let eb = base_at s.allocations b in
@@ -48,6 +42,7 @@ image_same listed safe s n h (Ptr a t o) (Ptr b u i) su sv fu fv e =
       | inr ne ↦ absurd (h.apart a b o i (h.set.unreleased a fu) (h.set.unreleased b fv)
           (pointed_word listed safe s n h a t o su) (pointed_word listed safe s n h b u i sv) ne places)
     ]
+image_same listed safe s n h u v su sv fu fv e = grind (arith, image_zero)
 
 pub image_test : (listed : List ℕ) (safe : ℕ → Bool) (s : ImageScene) (n : NeverState) → Ready listed safe s n
     → (u v : Value) → IsSound n u → IsSound n v → IsSafe safe u → IsSafe safe v
@@ -58,8 +53,7 @@ image_test listed safe s n h u v su sv fu fv = elim (cases_Bool (is_same u v)) [
 ]
 
 pub bit_is : (b : Bool) → one_if b ≡ bit b
-bit_is true = refl
-bit_is false = refl
+bit_is b = grind arith
 
 -- what an event leads to, and that the answer that it decides is right
 abbrev pub Leads : (ℕ → Bool) → ImageScene → NeverState → ℕ → Op → ImageScene → Option Answer → Type 0

@@ -5,8 +5,8 @@ use Rattle.mk_laws.proofs.Vocabulary.{ProbedOwn, Ptr, Some, Stage, Value, ℕ, a
 use Rattle.mk_laws.proofs.Vocabulary.{d_of, entry_of, eqb-false, eqb-true, false, false≢true, flight_among, has_p}
 use Rattle.mk_laws.proofs.Vocabulary.{has_r, has_some_p, if◌then◌else◌, image_of, is_past_probe, is_put, is_same}
 use Rattle.mk_laws.proofs.Vocabulary.{length, one_if, onward, p_of, progress_p, progress_q, progress_reg, q_of, r_of}
-use Rattle.mk_laws.proofs.Vocabulary.{refl, refused, register_at, register_met, slice_set, stage_behind, steps_of}
-use Rattle.mk_laws.proofs.Vocabulary.{subst, sym, true, ◌%◌, ◌*◌, ◌++◌, ◌+◌, ◌<◌, ◌==◌, ◌^◌, ◌∙◌, ◌≡◌, ◌≢◌}
+use Rattle.mk_laws.proofs.Vocabulary.{refl, refused, register_at, register_met, slice_set, stage_behind, steps_of, sym}
+use Rattle.mk_laws.proofs.Vocabulary.{true, ◌%◌, ◌*◌, ◌++◌, ◌+◌, ◌<◌, ◌==◌, ◌^◌, ◌∙◌, ◌≡◌, ◌≢◌}
 use Rattle.mk_never.specs.NeverHeap.{free_reply, lea_reply, moved_on}
 use Rattle.mk_never.specs.declared.values.Target.TheVariants.{Nothing}
 use Rattle.mk_core.specs.Calls.{value_for}
@@ -32,18 +32,14 @@ record BehindLoadQ (s : Stage) (o : Op) : Type 0 where
   pub probed : is_past_probe s ≡ false
 
 behind_load_q : (o : Op) → accesses o ≡ true → BehindLoadQ (stage_behind Stage.LoadQ (steps_of o)) o
-behind_load_q (Op.GetNum q i) h = record { p = refl; some_p = refl; r = refl; put = refl; probed = refl }
-behind_load_q x0 h = grind arith
+behind_load_q o h = grind arith
 
 -- a flight that goes on undecided
 pub flies_on : (safe : ℕ → Bool) (s : ImageScene) (n : NeverState) (k : ℕ) (o : Op) (f : Flight)
     → is_put (flight_among s.flights k).stage ≡ false → is_put f.stage ≡ false
     → CarriesOwn (bases_of s.allocations) n k f → ProbedOwn n k f
     → Leads safe s n k o (record s { flights = slice_set s.flights k f }) None
-flies_on safe s n k o f was is carries probed = (
-  Flies k f (λ r x. shows_plain f r x is ∙ sym (shows_plain (flight_among s.flights k) r x was)) carries probed,
-  λ more. refl,
-)
+flies_on safe s n k o f was is carries probed = grind (arith, shows_plain, Flies)
 
 -- a pointer i words on
 lea_value : (listed : List ℕ) (safe : ℕ → Bool) (s : ImageScene) (n : NeverState) → Ready listed safe s n
@@ -160,30 +156,14 @@ module _ (listed : List ℕ) (safe : ℕ → Bool) (s : ImageScene) (n : NeverSt
           λ more. one_right (bases_of s.allocations ++ more) Answer.Done n k (Op.Lea d q' i)
               (ap (answer_of (bases_of s.allocations ++ more)) (sym lea.2)),
         )
-    reg_store (Op.Move d q') q p r l is ld a car ad = (
-      Stores k d _ (flight Stage.Leave (Op.Move d q') q p r l) (register_at n k q')
-          (grind arith) longs ld (car.q refl) (h.set.registers (8 * k + q')),
-      λ more. refl,
-    )
-    reg_store (Op.Clear d) q p r l is ld a car ad = (
-      Stores k d 0 (flight Stage.Leave (Op.Clear d) q p r l) Null
-          (record { there = there; registers = long; was = rw is; bare = refl }) longs ld refl tt,
-      λ more. refl,
-    )
-    reg_store _ q p r l is ld a car ad = cc
+    reg_store o q p r l is ld a car ad = grind (arith, flight, Stores)
 
     reg_put : (o : Op) (q p r l : ℕ) → flight_among s.flights k ≡ flight Stage.Put o q p r l → d_of o < 8
         → Leads safe s n k o (record s {
           registers = slice_set s.registers (8 * k + d_of o) l;
           flights = slice_set s.flights k (flight Stage.Leave o q p r l);
         }) None
-    reg_put o q p r l is ld = (
-      subst (λ (g : Flight). Move safe s n (record s {
-        registers = slice_set s.registers (8 * k + d_of g.op) g.loaded;
-        flights = slice_set s.flights k (flight Stage.Leave o q p r l);
-      }) n) is (Pays k (flight Stage.Leave o q p r l) there longs (rw is) (rw is ld) refl),
-      λ more. refl,
-    )
+    reg_put o q p r l is ld = grind (arith, flight, Pays)
 
     pub reg_leads : (st : Stage) (o : Op) (q p r l x : ℕ) → flight_among s.flights k ≡ flight st o q p r l → d_of o < 8
         → is_reg_stage st ≡ true → is_astray (standing_at st o) ≡ false → CarriesOwn bases n k (flight st o q p r l)

@@ -13,7 +13,7 @@ use Rattle.mk_laws.proofs.Claims.{LeavesCells, apart_behind, cells_behind, chang
 use Rattle.mk_laws.proofs.Claims.{was_claim}
 use Rattle.mk_laws.proofs.Serving.{Laid, among_back, among_front, among_parts, apart_across, apart_joined, apart_left}
 use Rattle.mk_laws.proofs.Serving.{apart_right, own_claim, placed_claim}
-use Rattle.mk_laws.proofs.{LayoutReadings.header_of_mode, ProtocolKept.kept, Releasing.layout_released}
+use Rattle.mk_laws.proofs.{LayoutReadings.header_of_mode, Releasing.layout_released}
 
 -- An unreleased allocation whose claim is shown stands on the heap with its headers.
 

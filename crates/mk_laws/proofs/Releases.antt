@@ -18,11 +18,6 @@ use Rattle.mk_laws.proofs.{Snapshots.unreleased_cycles, Stretches.at_release, St
 use Rattle.mk_laws.specs.Releases.{NoOthersRelease, ReleasesAreExact, ReleasesNoneReached, allocation_before}
 use Rattle.mk_laws.specs.Releases.{allocation_behind}
 
--- The parts of a list up to a cycle's `release`, nested as the cycle has them.
-pub up_to_release : {X : Type 0} (xs ys zs : List X) (b x : X)
-    → ((xs ++ b ∷ []) ++ ys) ++ x ∷ zs ≡ xs ++ b ∷ (ys ++ x ∷ zs)
-up_to_release xs ys zs b x = append_assoc (xs ++ b ∷ []) ys (x ∷ zs) ∙ append_assoc xs (b ∷ []) (ys ++ x ∷ zs)
-
 -- No other cycle begins between a `begin` and its `release`.
 none_begins : (c : Config) (w : World) (b x : Event) (ys zs : List Event) → AreEnabledFrom c w (b ∷ (ys ++ x ∷ zs))
     → is_begin b.step ≡ true → list_any (λ (e : Event). is_close e.step) ys ≡ false → is_close x.step ≡ true
@@ -75,7 +70,8 @@ module _ (c : Config) (es : List Event) (h : IsHistory c es) (r : Releasing es) 
     before = begin.before;
     event = begin.event;
     behind = close.before ++ close.event ∷ last.before;
-    is = up_to_release begin.before close.before last.before begin.event close.event;
+    is = append_assoc (begin.before ++ begin.event ∷ []) close.before (close.event ∷ last.before) ∙ append_assoc
+        begin.before (begin.event ∷ []) (close.before ++ close.event ∷ last.before);
     of_kind = begin.of_kind;
   }
 

@@ -1,13 +1,12 @@
 -- The steps that release: `release`, cells given back, pages freed in any order, and `end`.
-use Rattle.mk_laws.proofs.Vocabulary.{Among, AreApart, Bool, Claim, Header, IsClaimed, IsLaidOn, IsShown, Later}
-use Rattle.mk_laws.proofs.Vocabulary.{LayoutScene, List, NoPlot, Option, Page, Plot, PlotStands, Plotted, Some, ℕ, ap}
-use Rattle.mk_laws.proofs.Vocabulary.{arith, cases_eq, cases_lt, cells_under, ends, false, free_page, get_or-set_other}
+use Rattle.mk_laws.proofs.Vocabulary.{Among, AreApart, Claim, Header, IsClaimed, IsLaidOn, IsShown, Later, LayoutScene}
+use Rattle.mk_laws.proofs.Vocabulary.{List, NoPlot, Option, Page, Plot, PlotStands, Plotted, Some, ℕ, ap, arith}
+use Rattle.mk_laws.proofs.Vocabulary.{cases_eq, cases_lt, cells_under, ends, false, free_page, get_or-set_other}
 use Rattle.mk_laws.proofs.Vocabulary.{get_or-set_same, get_or_past, has_bit, head_on, head_page_under, header_made}
 use Rattle.mk_laws.proofs.Vocabulary.{header_of, header_on, inl, inr, is_released_in, is_released_on, length}
 use Rattle.mk_laws.proofs.Vocabulary.{length-set, pages_made, refl, run_count, set_by, shows_on, slice_set, stands, sym}
 use Rattle.mk_laws.proofs.Vocabulary.{true, true≢false, used_on, ◌+◌, ◌-◌, ◌<◌, ◌∙◌, ◌≡◌, ◌≢◌, ◌⊎◌}
 use Rattle.mk_laws.proofs.LayoutReadings.{cellless_unused, claimed_used, free_unused, none_set, zero_where_none}
-use Rattle.mk_laws.proofs.ProtocolKept.{kept}
 
 -- Pages of which one gets another header or used word.
 
@@ -43,11 +42,6 @@ pub used_header : (pages : List Page) (p n q : ℕ) → p < length pages
 used_header pages p n q lt =
     set_by (λ (x : Page). x.header ≡ header_on pages q) pages p q _ free_page (λ e. ap (header_on pages) (sym e)) refl
 
--- a page with nothing on it is on no claim's pages
-unclaimed : (s : LayoutScene) (p : ℕ) → IsLaidOn s → used_on s.pages (head_on s.pages p) ≡ 0 → (x : Claim)
-    → Among x s.claims → (distance : ℕ) → distance < pages_made x.object → x.page + distance ≢ p
-unclaimed s p laid z x among distance lt e = claimed_used s.pages x distance (laid.shown x among) lt (rw e z)
-
 -- the pages of a claim are others
 pub shown_beside : (pages : List Page) (p n : ℕ) (x : Claim) → p < length pages → IsShown pages x
     → ((distance : ℕ) → distance < pages_made x.object → x.page + distance ≢ p) → IsShown (with_header_on pages p n) x
@@ -81,7 +75,8 @@ plot_emptied pages p (Plotted first o) lt stands = record {
 pub layout_emptied : (s : LayoutScene) (p : ℕ) → IsLaidOn s → p < length s.pages → s.releasing ≡ true
     → used_on s.pages (head_on s.pages p) ≡ 0 → IsLaidOn (Emptied s p)
 layout_emptied s p laid lt on z = record {
-  shown = λ x among. shown_beside s.pages p 0 x lt (laid.shown x among) (unclaimed s p laid z x among);
+  shown = λ x among. shown_beside s.pages p 0 x lt (laid.shown x among) (
+      λ distance lt e. claimed_used s.pages x distance (laid.shown x among) lt (rw e z));
   apart = laid.apart;
   used = λ q k h. let t = laid.used q k (old q k h) in (
     set_by (λ (x : Page). k < cells_under (header_of x.header)) s.pages p q _ free_page
@@ -105,8 +100,7 @@ layout_emptied s p laid lt on z = record {
     -- a later page has no bit, and another is its own head
     unused_by : (x : Option Header) → shows_on s.pages p ≡ x → used_on s.pages (head_page_under x p) ≡ 0
         → used_on s.pages p ≡ 0
-    unused_by (Some (Later d m)) is z = cellless_unused s p laid (ap cells_under is)
-    unused_by _ is z = z
+    unused_by x is z = grind (arith, cellless_unused)
 
 -- `used` (b): bits of released cells go
 abbrev GivenBack : LayoutScene → ℕ → ℕ → LayoutScene
@@ -185,8 +179,7 @@ layout_released s claims laid off r = record {
   where
     by : (p k : ℕ) → IsClaimed s.claims p k ⊎ (is_released_on s p k ≡ true)
         → IsClaimed claims p k ⊎ (is_released_in true s.snapshot s.marks p k ≡ true)
-    by p k (inr was) = absurd (true≢false (sym was ∙ rw off))
-    by p k (inl o) = grind arith
+    by p k h = grind arith
 
 -- `end`: nothing released is left, and no page without a used cell
 abbrev Ended : LayoutScene → LayoutScene
@@ -205,20 +198,14 @@ layout_ended s laid ends = record {
   occupied = λ p some empty. absurd (ends.settled p (inside p some) some empty);
   later = λ p d m is. let l = laid.later p d m is in (
     l.0,
-    inl (elim l.1 [ inl head ↦ head | inr lost ↦ absurd (headless p d m is lost.1) ]),
+    inl (elim l.1 [ inl head ↦ head | inr lost ↦ absurd (grind (arith, inside, free_unused)) ]),
   );
 }
   where
     inside : (p : ℕ) → header_on s.pages p ≢ 0 → p < length s.pages
     inside p some = grind (arith, cases_lt, get_or_past)
 
-    with_bit : (p k : ℕ) → has_bit (used_on s.pages p) k ≡ true → p < length s.pages
-    with_bit p k h = grind (arith, cases_lt, none_set, get_or_past)
-
     by : (p k : ℕ) → has_bit (used_on s.pages p) k ≡ true → IsClaimed s.claims p k ⊎ (is_released_on s p k ≡ true)
         → IsClaimed s.claims p k
     by p k h (inl o) = o
-    by p k h (inr r) = absurd (true≢false (sym r ∙ ends.none p k (with_bit p k h)))
-
-    headless : (p d : ℕ) (m : Bool) → shows_on s.pages p ≡ Some (Later d m) → header_on s.pages (p - d) ≡ 0 → ⊥
-    headless p d m is z = grind (arith, inside, free_unused)
+    by p k h (inr r) = absurd (true≢false (sym r ∙ ends.none p k (grind (arith, cases_lt, none_set, get_or_past))))

@@ -1,12 +1,12 @@
 -- How many pages are resident or in a plot, where few change.
 use Rattle.std.{proofs.Common.min, proofs.lemmas.List.Recursion.is_count_by, specs.List.count_by}
-use Rattle.mk_laws.proofs.Vocabulary.{Bool, Config, Free, Header, List, None, NoPlot, Object, Option, Page, Placing}
-use Rattle.mk_laws.proofs.Vocabulary.{Plot, Some, World, ℕ, arith, cond, count_below, false, free_page}
-use Rattle.mk_laws.proofs.Vocabulary.{get_or-set_other, header_of, if◌then◌else◌, inl, inr, is_resident_page}
-use Rattle.mk_laws.proofs.Vocabulary.{is_unmapped_header, leb-true, length, ltb-true, nat_le, nat_lt, object_now}
-use Rattle.mk_laws.proofs.Vocabulary.{or_cases, or_left, or_right, plot_of, refl, resident_pages, set_by, shows_on}
-use Rattle.mk_laws.proofs.Vocabulary.{slice_index_or, suc, sym, true, true≢false, use_under, used_on, uses_of_pages}
-use Rattle.mk_laws.proofs.Vocabulary.{zero, ◌&&◌, ◌+◌, ◌-◌, ◌<◌, ◌||◌, ◌∙◌, ◌∷◌, ◌≡◌, ◌≢◌, ◌≤◌}
+use Rattle.mk_laws.proofs.Vocabulary.{Bool, Config, Header, List, NoPlot, Object, Option, Page, Placing, Plot, World, ℕ}
+use Rattle.mk_laws.proofs.Vocabulary.{arith, cond, count_below, false, free_page, get_or-set_other, header_of}
+use Rattle.mk_laws.proofs.Vocabulary.{if◌then◌else◌, inl, inr, is_resident_page, is_unmapped_header, leb-true, length}
+use Rattle.mk_laws.proofs.Vocabulary.{ltb-true, nat_le, nat_lt, object_now, or_cases, or_left, or_right, plot_of, refl}
+use Rattle.mk_laws.proofs.Vocabulary.{resident_pages, set_by, shows_on, slice_index_or, suc, sym, true, true≢false}
+use Rattle.mk_laws.proofs.Vocabulary.{use_under, used_on, uses_of_pages, zero, ◌&&◌, ◌+◌, ◌-◌, ◌<◌, ◌||◌, ◌∙◌, ◌∷◌, ◌≡◌}
+use Rattle.mk_laws.proofs.Vocabulary.{◌≢◌, ◌≤◌}
 use Rattle.mk_geom.specs.{PageWords.use_of_page, StorageWords.page_in}
 use Rattle.mk_books.proofs.PlaceLemmas.{count_by-map}
 use Rattle.mk_laws.proofs.Basics.{with_header_on, with_used_on}
@@ -24,9 +24,7 @@ count_fewer (suc n) test other fewer =
     grind arith
   where
     by : (a b : Bool) → (a ≡ true → b ≡ true) → (if a then 1 else 0) ≤ (if b then 1 else 0)
-    by true true h = omega arith
-    by false b h = omega arith
-    by true false h = absurd (true≢false (sym (h refl)))
+    by a b h = grind arith
 
 -- where none passes
 pub count_none : (n : ℕ) (test : ℕ → Bool) → ((p : ℕ) → test p ≡ false) → count_below n test ≡ 0
@@ -48,10 +46,7 @@ in_range (suc n) first size test =
   where
     by : (t a b : Bool) → (a ≡ true → first ≤ n) → (b ≡ true → n < first + size)
         → (if t || (a && b) then 1 else 0) + min (n - first) size ≤ (if t then 1 else 0) + min (suc n - first) size
-    by true a b low high = omega arith
-    by false true true low high = let l = low refl in let h = high refl in omega arith
-    by false true false low high = omega arith
-    by false false b low high = omega arith
+    by t a b low high = grind arith
 
 pub count_range : (n first size : ℕ) (test : ℕ → Bool)
     → count_below n (λ p. test p || (nat_le first p && nat_lt p (first + size))) ≤ count_below n test + size
@@ -78,8 +73,7 @@ count_list xs d test =
     ∙ by (test x) (count_below (length ys) (λ p. test (slice_index_or ys p d)))) xs
   where
     by : (b : Bool) (n : ℕ) → (if b then 1 else 0) + n ≡ cond b (1 + n) n
-    by true n = refl
-    by false n = omega arith
+    by b n = grind arith
 
 abbrev pub RoomOn : Config → Object → List Page → Placing → Type 0
 RoomOn c o pages placing = count_below c.pages (is_taken_page pages (plot_of o placing)) ≤ c.resident
@@ -108,12 +102,10 @@ room_same c o pages others placing fewer room = room_fewer c o o pages others pl
 
 -- whether a page is resident is said by its header
 pub resident_use : (x : Option Header) (u v : ℕ) → is_resident_page (use_under x u) ≡ is_resident_page (use_under x v)
-resident_use (Some Free) u v = refl
-resident_use x0 u v = cc
+resident_use x u v = grind arith
 
 pub unmapped_use : (x : Option Header) (u : ℕ) → is_unmapped_header x ≡ true → is_resident_page (use_under x u) ≡ false
-unmapped_use None u h = refl
-unmapped_use x0 u h = grind arith
+unmapped_use x u h = grind arith
 
 pub resident_used : (pages : List Page) (p n q : ℕ) → is_resident (with_used_on pages p n) q ≡ true
     → is_resident pages q ≡ true

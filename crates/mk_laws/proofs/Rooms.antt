@@ -1,14 +1,14 @@
 -- No more pages are resident than may be, after each event.
-use Rattle.mk_laws.proofs.Vocabulary.{AsChosen, AsUsed, Bool, ByFit, Chosen, Config, Granted, HeadStep, IsClaimedRun}
-use Rattle.mk_laws.proofs.Vocabulary.{IsNextHeader, IsPlaced, IsSized, ItCarves, ItEmpties, ItUnmaps, LayoutStands}
-use Rattle.mk_laws.proofs.Vocabulary.{List, None, NoPlot, Object, Option, Page, Place, Placing, Plotted, RunPages}
-use Rattle.mk_laws.proofs.Vocabulary.{RunStands, Seat, Some, Step, Unplaced, Used, World, ℕ, and_from, ap, arith}
-use Rattle.mk_laws.proofs.Vocabulary.{cases_Bool, cases_eq, chosen, claims_of, false, flight_of, found, ground_of}
-use Rattle.mk_laws.proofs.Vocabulary.{has_place, head_step, header_at, header_made, header_of, if◌then◌else◌, inl, inr}
-use Rattle.mk_laws.proofs.Vocabulary.{is_phase, is_resident_page, is_unmapped_header, large_count, le-leb, length}
-use Rattle.mk_laws.proofs.Vocabulary.{lt-ltb, marks_is, marks_place, object_made, object_now, or_left, or_right}
-use Rattle.mk_laws.proofs.Vocabulary.{pages_made, place_now, placed_now, plot_of, refl, seat_exists, subst, sym, taken}
-use Rattle.mk_laws.proofs.Vocabulary.{true, undecided_new, unmapped_is_unmapped, use_under, used_on, ◌-◌, ◌<◌, ◌∙◌, ◌≡◌}
+use Rattle.mk_laws.proofs.Vocabulary.{Bool, ByFit, Chosen, Config, HeadStep, IsClaimedRun, IsNextHeader, IsPlaced}
+use Rattle.mk_laws.proofs.Vocabulary.{IsSized, ItCarves, ItEmpties, ItUnmaps, LayoutStands, List, None, NoPlot, Object}
+use Rattle.mk_laws.proofs.Vocabulary.{Option, Page, Place, Placing, Plotted, RunPages, RunStands, Seat, Some, Step}
+use Rattle.mk_laws.proofs.Vocabulary.{Unplaced, Used, World, ℕ, and_from, ap, arith, cases_Bool, cases_eq, chosen}
+use Rattle.mk_laws.proofs.Vocabulary.{claims_of, false, flight_of, found, ground_of, has_place, head_step, header_at}
+use Rattle.mk_laws.proofs.Vocabulary.{header_made, header_of, if◌then◌else◌, inl, inr, is_phase, is_resident_page}
+use Rattle.mk_laws.proofs.Vocabulary.{is_unmapped_header, large_count, le-leb, length, lt-ltb, marks_is, marks_place}
+use Rattle.mk_laws.proofs.Vocabulary.{object_made, object_now, or_left, or_right, pages_made, place_now, placed_now}
+use Rattle.mk_laws.proofs.Vocabulary.{plot_of, refl, seat_exists, subst, sym, taken, true, undecided_new}
+use Rattle.mk_laws.proofs.Vocabulary.{unmapped_is_unmapped, use_under, used_on, ◌-◌, ◌<◌, ◌∙◌, ◌≡◌}
 use Rattle.mk_laws.proofs.Basics.{Before, Laid, Meets, WorldBehind, first_header, holding_object, made_sized}
 use Rattle.mk_laws.proofs.Basics.{new_has_turn, no_run, own_claim, page_within, reg_leaves_ground, tally_ground}
 use Rattle.mk_laws.proofs.Basics.{with_header_on, with_used_on}
@@ -16,7 +16,7 @@ use Rattle.mk_laws.proofs.ResidentPages.{RoomOn, count_range, is_resident, resid
 use Rattle.mk_laws.proofs.ResidentPages.{resident_other, resident_used, room_same, room_unplaced, unmapped_use}
 use Rattle.mk_laws.proofs.Serving.{OnChosen, OnFree, Stands, not_again, placed_for}
 use Rattle.mk_laws.proofs.{Behind.object_kind, Fits.FitsOnFreePages, Fits.fits, Sorts.chosen_none}
-use Rattle.mk_laws.specs.Room.{HasRoom, in_plot}
+use Rattle.mk_laws.specs.Room.{HasRoom}
 
 -- The place is chosen, where this many pages are free.
 chosen_room : (c : Config) (o : Object) (pages : List Page) (place : Place) → length pages ≡ c.pages
@@ -32,8 +32,7 @@ carved_room : (c : Config) (o : Object) (w : World) (place : Place) (p n : ℕ)
 carved_room c o w place p n next room =
     room_same c o w.now.words.pages (with_header_on w.now.words.pages p n) (Chosen place)
     (λ q lt r. elim (cases_eq q p) [
-      | inr ne ↦ or_left (is_resident w.now.words.pages q) (in_plot (Plotted place.page o) q)
-          (resident_other w.now.words.pages p n q ne r)
+      | inr ne ↦ grind (arith, or_left, is_resident, resident_other, Plotted)
       | inl e ↦ grind (arith, or_right, is_resident, and_from, le-leb, lt-ltb)
     ]) room
 
@@ -108,9 +107,7 @@ mark_room c w seat p n b there room true is =
         → IsPlaced c.resident w.now.words.pages o place placing
         → RoomOn c o w.now.words.pages (chosen placing (Some place))
     by o sized own place free Unplaced is (ByFit at) = grind (arith, fits, chosen_room, first_header)
-    by o sized own place free (Chosen found) is AsChosen = rw is at (rw own at room)
-    by o sized own place free (Used found) is AsUsed = rw is at (rw own at room)
-    by o sized own place free Granted is out = elim out [ ]
+    by o sized own place free placing is out = grind arith
 
 used_room : (c : Config) (w : World) (p n : ℕ) (four : Bool) (found : Option Place) → HasRoom c w
     → RoomOn c (object_now c w.now) (with_used_on w.now.words.pages p n) (if four then w.now.seats.holding.placing
@@ -123,11 +120,7 @@ used_room c w p n four found room = by four found
     by : (four : Bool) (found : Option Place)
         → RoomOn c (object_now c w.now) (with_used_on w.now.words.pages p n) (if four then w.now.seats.holding.placing
         else taken w.now.seats.holding.placing found)
-    by true found = same
-    by false None = same
-    by false (Some place) =
-        room_unplaced c (object_now c w.now) (object_now c w.now) w.now.words.pages (with_used_on w.now.words.pages p n)
-        w.now.seats.holding.placing (Used place) refl (λ q lt r. resident_used w.now.words.pages p n q r) room
+    by four found = grind (arith, same, room_unplaced, with_used_on, resident_used)
 
 -- each kind of event, whatever the seat
 room_by_kind : (c : Config) (w : World) (seat : Seat) (x : Step) → Before c w → Meets c w.now seat x → LayoutStands c w
@@ -147,8 +140,7 @@ room_by_kind c w seat (Step.Mark p n) b h laid room = grind (arith, mark_room)
 room_by_kind c w seat _ b h laid room = room
 
 no_plot : (o : Object) (placing : Placing) → has_place placing ≡ false → plot_of o placing ≡ NoPlot
-no_plot o (Chosen place) none = cc
-no_plot o _ none = cc
+no_plot o placing none = grind arith
 
 pub room_behind : (c : Config) (w : World) (seat : Seat) (x : Step) → Before c w → Meets c w.now seat x
     → LayoutStands c w → HasRoom c w → HasRoom c (WorldBehind c w seat x)

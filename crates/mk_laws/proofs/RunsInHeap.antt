@@ -1,11 +1,11 @@
 -- A mapped run that a header shows lies in the heap.
 use Rattle.std.proofs.Common.{unwrap_or}
 use Rattle.mk_laws.proofs.Vocabulary.{Bool, Config, Flight, Ground, List, None, Object, Option, Page, Place, Run}
-use Rattle.mk_laws.proofs.Vocabulary.{RunPages, Some, Words, World, ℕ, and_parts, arith, carves, empties, eqb-true}
-use Rattle.mk_laws.proofs.Vocabulary.{false, free_page, header_made, header_of, is_next_header, is_small_object}
-use Rattle.mk_laws.proofs.Vocabulary.{leb-true, object_made, pages_made, place_now, refl, run_header, run_pages_of}
-use Rattle.mk_laws.proofs.Vocabulary.{set_by, slice_index_or, slice_set, true, unmapped_header, unmaps, word_of, zero}
-use Rattle.mk_laws.proofs.Vocabulary.{◌*◌, ◌+◌, ◌-◌, ◌<◌, ◌∙◌, ◌≡◌, ◌≤◌}
+use Rattle.mk_laws.proofs.Vocabulary.{RunPages, Some, Words, World, ℕ, and_parts, arith, carves, eqb-true, false}
+use Rattle.mk_laws.proofs.Vocabulary.{free_page, header_made, header_of, is_next_header, is_small_object, leb-true}
+use Rattle.mk_laws.proofs.Vocabulary.{object_made, pages_made, place_now, refl, run_header, run_pages_of, set_by}
+use Rattle.mk_laws.proofs.Vocabulary.{slice_index_or, slice_set, true, unmapped_header, unmaps, word_of, ◌*◌, ◌+◌, ◌-◌}
+use Rattle.mk_laws.proofs.Vocabulary.{◌<◌, ◌∙◌, ◌≡◌, ◌≤◌}
 use Rattle.mk_geom.{proofs.ClassTable.class_for-some, proofs.HeaderLemmas.word_of-header_of, specs.Classes.class_for}
 use Rattle.mk_laws.proofs.Ground.{Carves, Empties, GivesBack, GroundStep, TakesCell, Unmaps}
 use Rattle.mk_laws.proofs.{HeaderSteps.used_set, NewPlace.PlaceFits}
@@ -29,8 +29,7 @@ class_small words = grind (arith, class_for-some)
 run_shown : (pages count distance : ℕ) (mapped leaf : Bool)
     → 9 + 16 * count ≡ word_of (run_header pages mapped leaf distance)
     → (mapped ≡ true) × (distance ≡ 0) × (count ≡ pages)
-run_shown pages count zero true false e = (refl, refl, omega arith)
-run_shown pages count x2 x3 leaf e = grind arith
+run_shown pages count distance mapped leaf e = grind arith
 
 made_shown : (o : Object) (distance count : ℕ) → 9 + 16 * count ≡ header_made o distance
     → (is_small_object o ≡ false) × (distance ≡ 0) × (count ≡ run_pages_of o.words)
@@ -62,9 +61,6 @@ unmapped_fits c w (Some run) p n h = λ count shows.
     let made = run_shown run.count count (p - run.page) false false (shown_word n count shows ∙ next.is) in
     cc
 
-emptied_fits : (c : Config) (w : Words) (p n : ℕ) → empties w p n ≡ true → RunFits c p n
-emptied_fits c w p n h = grind (arith, eqb-true, shown_word, and_parts)
-
 -- one page's header is set, or none
 
 header_set : (c : Config) (ps : List Page) (p n u : ℕ) → RunFits c p n → RunsFit c ps
@@ -80,7 +76,7 @@ runs_behind c w f g fits all (Carves p n own at) = header_set c w.now.words.page
 runs_behind c w f g fits all (Unmaps p n own at) = header_set c w.now.words.pages p n _
     (unmapped_fits c w.now.words w.now.seats.holding.freed p n own) all
 runs_behind c w f g fits all (Empties p n own at) =
-    header_set c w.now.words.pages p n _ (emptied_fits c w.now.words p n own) all
+    header_set c w.now.words.pages p n _ (grind (arith, eqb-true, shown_word, and_parts)) all
 runs_behind c w f g fits all (TakesCell p n once own at) = λ q. used_set w.now.words p q n (λ y. RunFits c q y) (all q)
 runs_behind c w f g fits all (GivesBack p n own at) = λ q. used_set w.now.words p q n (λ y. RunFits c q y) (all q)
 runs_behind c w f g fits all _ = all

@@ -36,19 +36,6 @@ pub record HolderFinds (c : Config) (s : Seat) (w v : World) : Type 0 where
 abbrev Finds : Config → Seat → List Event → List Event → Type 0
 Finds c s es fs = Holds c (left c es).now s → HolderFinds c s (left c es) (left c fs)
 
-finds_joined : (c : Config) (s : Seat) (w u v : World) → (Holds c w.now s → HolderFinds c s w u)
-    → (Holds c u.now s → HolderFinds c s u v) → Holds c w.now s → HolderFinds c s w v
-finds_joined c s w u v x y holds =
-    let a = x holds in
-    let b = y a.holds in
-    record {
-      holds = b.holds;
-      holding = b.holding ∙ a.holding;
-      allocations = b.allocations ∙ a.allocations;
-      gone = λ e. rw (ap (λ (h : Holding). h.freed) a.holding) at (b.gone (rw a.holding (a.gone e)));
-      outside = λ n none. b.outside n (λ m. none (rw a.allocations at m)) ∙ a.outside n none;
-    }
-
 finds_one : (c : Config) (s : Seat) (es : List Event) (e : Event) → IsHistory c (es ++ e ∷ [])
     → is_one_of (s ∷ []) e.seat ≡ false → Finds c s es (es ++ e ∷ [])
 finds_one c s es e h other holds =
@@ -73,6 +60,19 @@ finds_one c s es e h other holds =
       gone = gone_after c w e.seat e.step w.now.seats.holding.freed st.known st.all.order.laid refl last.meets stored;
       outside = heap_after c w e.seat e.step no_wipe stored;
     })
+
+finds_joined : (c : Config) (s : Seat) (w u v : World) → (Holds c w.now s → HolderFinds c s w u)
+    → (Holds c u.now s → HolderFinds c s u v) → Holds c w.now s → HolderFinds c s w v
+finds_joined c s w u v x y holds =
+    let a = x holds in
+    let b = y a.holds in
+    record {
+      holds = b.holds;
+      holding = b.holding ∙ a.holding;
+      allocations = b.allocations ∙ a.allocations;
+      gone = λ e. rw (ap (λ (h : Holding). h.freed) a.holding) at (b.gone (rw a.holding (a.gone e)));
+      outside = λ n none. b.outside n (λ m. none (rw a.allocations at m)) ∙ a.outside n none;
+    }
 
 pub holder_finds : (c : Config) (s : Seat) (es more : List Event) → IsHistory c (es ++ more) → AreOfOthers (s ∷ []) more
     → Holds c (left c es).now s → HolderFinds c s (left c es) (left c (es ++ more))

@@ -15,8 +15,7 @@ outside_well : (c : Config) (w : Words) (v : ℕ) → is_heap_address c.pages v 
 outside_well c w v out y is = absurd (by (is_heap_address c.pages v) _ out is)
   where
     by : (b : Bool) (x : Option Cell) → b ≡ false → (if b then x else None) ≡ Some y → ⊥
-    by true x e is = true≢false e
-    by false x e is = none-some _ is
+    by b x e is = grind (arith, none-some)
 
 -- the same scan, with another hand
 other_hand : (c : Config) (m : Moment) (hand new : Option ℕ) (x : Scan) → ScanStands c m hand x
@@ -94,8 +93,7 @@ begun_stands c m hand p k header lt is go = record {
 
     ends : (b : Bool) → has_no_pointers (header_of header) ≡ b → EndsItsCell m.words (record (scan_begun p k header)
         { end = 64 * p + k * words_under (header_of header) + (if b then 0 else words_under (header_of header)) })
-    ends true e = inr (omega (arith, first), go.unscanned some e)
-    ends false e = inl (rw (← first) (rw (← (go.words some))))
+    ends b e = grind (arith, first, some)
 
 pub claim_stands : (c : Config) (m : Moment) (x : Marker) (p k : ℕ) → has_seen_cell x.seen p k ≡ true
     → MarkerStands c m x → MarkerStands c m (record x { scan = scan_claimed p k (slice_index m.words.marks p) x.seen })
@@ -194,11 +192,7 @@ scanned_guarded c m x st done f i lt = elim st.end [
 ]
   where
     past : (b : Bool) → nat_lt x.next x.end ≡ b → not b ≡ true → x.end ≤ x.next
-    past true e h = cc
-    past false e h = elim (cases_lt x.next x.end) [
-      | inl lt ↦ absurd (true≢false (sym (lt-ltb x.next x.end lt) ∙ e))
-      | inr le ↦ le
-    ]
+    past b e h = grind (arith, cases_lt, lt-ltb)
 
     by : (n : ℕ) → IsGuarded c m n ⊎ (None ≡ Some (slice_index m.words.heap n)) → IsGuarded c m n
     by n (inl g) = g

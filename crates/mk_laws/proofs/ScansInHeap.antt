@@ -1,11 +1,11 @@
 -- What a marker scans lies in the heap.
-use Rattle.mk_laws.proofs.Vocabulary.{Block, Bool, Cell, Config, Header, LeafBlock, LeafRun, MarkerState as Marker}
-use Rattle.mk_laws.proofs.Vocabulary.{None, Option, Run, Scan, SeenHeader, Some, Step, Word, ℕ, and_parts, arith}
-use Rattle.mk_laws.proofs.Vocabulary.{behind_mlook, cell_at, cell_ends, cell_seen, cells_under, eqb-true, false}
-use Rattle.mk_laws.proofs.Vocabulary.{has_next_word, has_no_pointers, has_seen_cell, header_of, if◌then◌else◌}
-use Rattle.mk_laws.proofs.Vocabulary.{is_scanned, is_some, ltb-true, marker_behind, marker_may, next_word}
-use Rattle.mk_laws.proofs.Vocabulary.{page_at_address, refl, same_Some, scan_begun, scan_claimed, scan_onward}
-use Rattle.mk_laws.proofs.Vocabulary.{scan_page, seen_page, subst, true, words_under, ◌*◌, ◌+◌, ◌<◌, ◌==◌, ◌≡◌, ◌≤◌}
+use Rattle.mk_laws.proofs.Vocabulary.{Bool, Cell, Config, Header, MarkerState as Marker, None, Option, Run, Scan}
+use Rattle.mk_laws.proofs.Vocabulary.{SeenHeader, Some, Step, Word, ℕ, and_parts, arith, behind_mlook, cell_at}
+use Rattle.mk_laws.proofs.Vocabulary.{cell_ends, cell_seen, cells_under, eqb-true, false, has_next_word}
+use Rattle.mk_laws.proofs.Vocabulary.{has_no_pointers, has_seen_cell, header_of, if◌then◌else◌, is_scanned, is_some}
+use Rattle.mk_laws.proofs.Vocabulary.{ltb-true, marker_behind, marker_may, next_word, page_at_address, refl, same_Some}
+use Rattle.mk_laws.proofs.Vocabulary.{scan_begun, scan_claimed, scan_onward, scan_page, seen_page, subst, true}
+use Rattle.mk_laws.proofs.Vocabulary.{words_under, ◌*◌, ◌+◌, ◌<◌, ◌==◌, ◌≡◌, ◌≤◌}
 use Rattle.mk_core.proofs.PointedPages.{cell_within}
 use Rattle.mk_laws.proofs.RunsInHeap.{RunFits}
 
@@ -22,19 +22,14 @@ nothing_fits c x no_seen no_scan = grind arith
 scan_end : (c : Config) (p i : ℕ) (h : Option Header) → p < c.pages → i < cells_under h
     → ((count : ℕ) → h ≡ Some (Run count true) → p + count ≤ c.pages)
     → 64 * p + i * words_under h + (if has_no_pointers h then 0 else words_under h) ≤ 64 * c.pages
-scan_end c p i (Some (Block class)) lt li fits = omega (arith, cell_ends i _ li)
-scan_end c p i (Some (LeafBlock class)) lt li fits = omega (arith, cell_ends i _ li)
 scan_end c p i (Some (Run count true)) lt li fits =
     let room = fits count refl in
     grind arith
-scan_end c p i (Some (Run count false)) lt li fits = grind arith
-scan_end c p i (Some (LeafRun count)) lt li fits = grind arith
-scan_end c p i _ lt li fits = absurd (omega arith)
+scan_end c p i h lt li fits = grind (arith, cell_ends)
 
 seen_cell : (x : Option SeenHeader) (p i : ℕ) → has_seen_cell x p i ≡ true → (s : SeenHeader) → x ≡ Some s
     → (s.page ≡ p) × (i < cells_under (header_of s.header))
-seen_cell None p i h s e = cc
-seen_cell (Some seen) p i h s e = grind (arith, and_parts, eqb-true, ltb-true)
+seen_cell x p i h s e = grind (arith, and_parts, eqb-true, ltb-true)
 
 claimed_is : (p i marks : ℕ) (x : Option SeenHeader) (s : Scan) → scan_claimed p i marks x ≡ Some s
     → (h : SeenHeader) × (x ≡ Some h) × (s ≡ scan_begun p i h.header)
@@ -56,8 +51,7 @@ claims c p i marks x lt seen h = record {
 
 onwards : (P : Scan → Type 0) (o : Option Scan) → ((t : Scan) → o ≡ Some t → P (record t { next = t.next + 1 }))
     → (s : Scan) → scan_onward o ≡ Some s → P s
-onwards P (Some t) k s e = subst P (same_Some _ _ e) (k t refl)
-onwards P None k s e = cc
+onwards P o k s e = grind (arith, same_Some)
 
 loads : (c : Config) (hand : Option ℕ) (x : Marker) → MarkerFits c x
     → MarkerFits c (record x { scan = scan_onward x.scan; hand = hand })
@@ -93,13 +87,11 @@ marker_fits_behind c n _ x looked claimed m h = h
 
 pub next_in_heap : (c : Config) (x : Option Scan) → has_next_word x ≡ true
     → ((s : Scan) → x ≡ Some s → s.end ≤ 64 * c.pages) → next_word x < 64 * c.pages
-next_in_heap c (Some s) h fits = let lt = ltb-true s.next s.end h in let le = fits s refl in omega arith
-next_in_heap c None h fits = cc
+next_in_heap c x h fits = grind (arith, ltb-true)
 
 pub scan_page_in_heap : (c : Config) (x : Option Scan) → is_scanned x ≡ true
     → ((s : Scan) → x ≡ Some s → s.page < c.pages) → scan_page x < c.pages
-scan_page_in_heap c (Some s) h fits = fits s refl
-scan_page_in_heap c None h fits = cc
+scan_page_in_heap c x h fits = grind arith
 
 pub seen_page_in_heap : (c : Config) (s : Option SeenHeader) (hand : Option ℕ) → is_some (cell_seen c s hand) ≡ true
     → seen_page (cell_seen c s hand) < c.pages

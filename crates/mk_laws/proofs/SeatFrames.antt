@@ -1,14 +1,13 @@
 -- The frame law of histories: what the events of others leave where all calls are admitted.
-use Rattle.mk_laws.proofs.Vocabulary.{AreOfOthers, Caller, Config, Event, Flight, GuardPremisesFrom, Holds, Host}
-use Rattle.mk_laws.proofs.Vocabulary.{IsHistory, IsInCall, IsSound, KeepsRegisters, List, Marker, Moment, NeverState}
-use Rattle.mk_laws.proofs.Vocabulary.{None, Null, Num, Op, PlacedAllocation, Ptr, Seat, Some, Stage, Step, Value, World}
-use Rattle.mk_laws.proofs.Vocabulary.{Written, ℕ, admitted_keep, and_from, and_parts, ap, append-nil, append_assoc}
-use Rattle.mk_laws.proofs.Vocabulary.{arith, asked, bases_of, call_decided, cases_eq, comes_next}
-use Rattle.mk_laws.proofs.Vocabulary.{earlier_part_is_history, false, flight_of, found, get_or_append_left, header_in}
-use Rattle.mk_laws.proofs.Vocabulary.{holder_number, image_scene_of, inl, inr, is_mapped, is_one_of, is_unmapped_header}
-use Rattle.mk_laws.proofs.Vocabulary.{left, length, length-map, ltb-true, never_behind, not, not-true, placed_at}
-use Rattle.mk_laws.proofs.Vocabulary.{progress, refl, register_at, slice_index, sym, true, [], ◌*◌, ◌++◌, ◌+◌, ◌/◌, ◌<◌}
-use Rattle.mk_laws.proofs.Vocabulary.{◌∙◌, ◌∷◌, ◌≡◌, ◌≢◌}
+use Rattle.mk_laws.proofs.Vocabulary.{AreOfOthers, Caller, Config, Event, Flight, GuardPremisesFrom, Holds, IsHistory}
+use Rattle.mk_laws.proofs.Vocabulary.{IsInCall, IsSound, KeepsRegisters, List, Moment, NeverState, None, Null, Num, Op}
+use Rattle.mk_laws.proofs.Vocabulary.{PlacedAllocation, Ptr, Seat, Stage, Step, Value, World, Written, ℕ, admitted_keep}
+use Rattle.mk_laws.proofs.Vocabulary.{and_from, and_parts, ap, append-nil, append_assoc, arith, asked, bases_of}
+use Rattle.mk_laws.proofs.Vocabulary.{call_decided, cases_eq, comes_next, earlier_part_is_history, false, flight_of}
+use Rattle.mk_laws.proofs.Vocabulary.{found, get_or_append_left, header_in, holder_number, image_scene_of, inl, inr}
+use Rattle.mk_laws.proofs.Vocabulary.{is_mapped, is_one_of, is_unmapped_header, left, length, length-map, ltb-true}
+use Rattle.mk_laws.proofs.Vocabulary.{never_behind, not, not-true, placed_at, progress, refl, register_at, slice_index}
+use Rattle.mk_laws.proofs.Vocabulary.{sym, true, [], ◌*◌, ◌++◌, ◌+◌, ◌/◌, ◌<◌, ◌∙◌, ◌∷◌, ◌≡◌, ◌≢◌}
 use Rattle.mk_never.specs.Reach.{LeadsTo, by_register}
 use Rattle.mk_core.specs.Frames.{AdmittedOthersLeave, HeapIsLeft, HoldsAll, TargetsAreLeft}
 use Rattle.mk_core.specs.Readings.{is_in_call}
@@ -117,9 +116,7 @@ module _ (c : Config) (es more : List Event) (k : ℕ) (h : IsHistory c (es ++ m
 -- Between calls nothing is decided.
 idle_decides_nothing : (c : Config) (m : Moment) (f : Flight) (s : Stage) (o : Op) (n : ℕ) (x : Step) → s ≡ Stage.Idle
     → comes_next s o x ≡ true → (progress c m f n x).answer ≡ None
-idle_decides_nothing c m f Stage.Idle o n (Step.Enter next) is h = begins_nothing f next n
-idle_decides_nothing c m f Stage.Idle o n (Step.Take (Some next)) is h = begins_nothing f next n
-idle_decides_nothing c m f _ o n _ is h = cc
+idle_decides_nothing c m f s o n x is h = grind (arith, begins_nothing)
 
 held_decides_nothing : (c : Config) (m : Moment) (k : ℕ) (x : Step) → Known c m → Meets c m (Caller k) x
     → slice_index m.words.gates k ≡ 2 → asked (call_decided c m (record { seat = Caller k; step = x })) ≡ []
@@ -129,9 +126,6 @@ held_decides_nothing c m k x known h two =
     (held_idle c (view_of m) k known.orderly (ltb-true k c.callers h.seat) two) h.order)
 
 -- a caller whose gate the turn's holder holds
-
-caller_apart : (j k : ℕ) → j ≢ k → Caller j ≢ Caller k
-caller_apart j k ne e = grind arith
 
 record HoldsGate (c : Config) (s : Seat) (k : ℕ) (w : World) : Type 0 where
   holds : Holds c w.now s
@@ -146,7 +140,7 @@ held_step : (c : Config) (w : World) (n : NeverState) (seat : Seat) (x : Step) (
     → (seat ≢ Caller k → KeepsRegisters k n (never_after c w n (record { seat = seat; step = x })))
     → KeepsRegisters k n (never_after c w n (record { seat = seat; step = x }))
 held_step c w n (Caller j) x k known h two other = elim (cases_eq j k) [
-  | inr ne ↦ other (caller_apart j k ne)
+  | inr ne ↦ other (λ e. grind arith)
   | inl e ↦ λ r lt. rw (held_decides_nothing c w.now j x known h (rw e two))
 ]
 held_step c w n _ x k known h two other = λ r lt. refl
@@ -179,9 +173,7 @@ KeepsAll c s es fs = HoldsAll c (left c es).now s
 
 other_number : (c : Config) (m : Moment) (s : Seat) (j : ℕ) → j < c.callers → Holds c m s → Caller j ≢ s
     → holder_number c s ≢ j
-other_number c m (Caller k) j lt holds ne = λ e. ne (rw (← e))
-other_number c m (Marker k) j lt holds ne = absurd holds
-other_number c m Host j lt holds ne = λ e. absurd (omega arith)
+other_number c m s j lt holds ne = grind arith
 
 all_step : (c : Config) (w : World) (n : NeverState) (s seat : Seat) (x : Step) → Known c w.now → Meets c w.now seat x
     → seat ≢ s → HoldsAll c w.now s → never_after c w n (record { seat = seat; step = x }) ≡ n

@@ -1,17 +1,17 @@
 -- What is fresh and what is in the snapshot, after each kind of event.
 use Rattle.mk_laws.proofs.Vocabulary.{Among, Bool, Cell, Config, Drops, Flight, Ground, HasQuarantine, IsQuarantined}
-use Rattle.mk_laws.proofs.Vocabulary.{ItDrops, ItFrees, ItTakesSnapshot, KeepsSnapshot, LayoutStands, List, None}
-use Rattle.mk_laws.proofs.Vocabulary.{Object, Option, PlacedAllocation, Placing, QuarantineStep, Seat, Some, Step, Used}
-use Rattle.mk_laws.proofs.Vocabulary.{World, ℕ, all_below, all_below-at, and_parts, ap, arith, cases_Bool, cell_freed}
-use Rattle.mk_laws.proofs.Vocabulary.{cell_of_allocation, changed_at, claims_placed, eqb-true, false}
-use Rattle.mk_laws.proofs.Vocabulary.{false_from_ne_true, fewer_bits, flight_of, freed_cell, freed_leaves}
-use Rattle.mk_laws.proofs.Vocabulary.{freed_where_it_stands, granted, granted_base_is, granted_object, ground_of}
-use Rattle.mk_laws.proofs.Vocabulary.{has_bit, has_bit_of, has_clean_page, if◌then◌else◌, inl, inr, is_cycling}
-use Rattle.mk_laws.proofs.Vocabulary.{is_phase, is_undecided_new, is_used_once, length, ltb-true, map, no_longer_fresh}
-use Rattle.mk_laws.proofs.Vocabulary.{none_freed, not, not-true, object_now, object_placed, pages_some, phase_of}
-use Rattle.mk_laws.proofs.Vocabulary.{place_claim, placed_at, quarantine_step, refl, released_leaves, set-get_or}
-use Rattle.mk_laws.proofs.Vocabulary.{slice_index, slice_set, stands_in, sym, true, true≢false, with_released, [], ◌%◌}
-use Rattle.mk_laws.proofs.Vocabulary.{◌&&◌, ◌++◌, ◌+◌, ◌-◌, ◌/◌, ◌<◌, ◌==◌, ◌^◌, ◌∙◌, ◌∷◌, ◌≡◌, ◌⊎◌}
+use Rattle.mk_laws.proofs.Vocabulary.{KeepsSnapshot, LayoutStands, List, None, Object, Option, PlacedAllocation}
+use Rattle.mk_laws.proofs.Vocabulary.{Placing, QuarantineStep, Seat, Some, Step, Used, World, ℕ, all_below}
+use Rattle.mk_laws.proofs.Vocabulary.{all_below-at, and_parts, ap, arith, cases_Bool, cell_freed, cell_of_allocation}
+use Rattle.mk_laws.proofs.Vocabulary.{changed_at, claims_placed, eqb-true, false, false_from_ne_true, fewer_bits}
+use Rattle.mk_laws.proofs.Vocabulary.{flight_of, freed_cell, freed_leaves, freed_where_it_stands, granted}
+use Rattle.mk_laws.proofs.Vocabulary.{granted_base_is, granted_object, ground_of, has_bit, has_bit_of, has_clean_page}
+use Rattle.mk_laws.proofs.Vocabulary.{if◌then◌else◌, inl, inr, is_cycling, is_phase, is_undecided_new, is_used_once}
+use Rattle.mk_laws.proofs.Vocabulary.{length, ltb-true, map, no_longer_fresh, none_freed, not, not-true, object_now}
+use Rattle.mk_laws.proofs.Vocabulary.{object_placed, pages_some, phase_of, place_claim, placed_at, quarantine_step}
+use Rattle.mk_laws.proofs.Vocabulary.{refl, released_leaves, set-get_or, slice_index, slice_set, stands_in, sym, true}
+use Rattle.mk_laws.proofs.Vocabulary.{true≢false, with_released, [], ◌&&◌, ◌++◌, ◌+◌, ◌-◌, ◌/◌, ◌<◌, ◌==◌, ◌^◌, ◌∙◌}
+use Rattle.mk_laws.proofs.Vocabulary.{◌∷◌, ◌≡◌, ◌⊎◌}
 use Rattle.mk_core.specs.StopConditions.{may_begin}
 use Rattle.mk_laws.proofs.Basics.{Before, LeavesCells, Meets, WorldBehind, all_stand, apart_left, bit_cases}
 use Rattle.mk_laws.proofs.Basics.{freeing_leaves, grants_new, holding_object, new_has_turn, placed_claim}
@@ -52,25 +52,12 @@ dropped_bits c w p f n i ls q d u = elim (bit_cases w.now.words.snapshot p n x.p
         ⊎ (has_bit_of c w.now.words.snapshot (placed_at w.allocations i) ≡ false)
         → has_bit n (cell_of_allocation c (placed_at w.allocations i)).index
         ≡ has_bit_of c w.now.words.snapshot (placed_at w.allocations i)
-    same at (inl a) (inl b) = a ∙ sym b
-    same at (inr a) (inr b) = a ∙ sym b
-    same at (inl a) (inr b) =
-        let was = fewer_bits n _ x.index d.fewer a in
-        absurd (true≢false (sym (ap (λ j. has_bit (slice_index w.now.words.snapshot j) x.index) at ∙ was) ∙ b))
-    same at (inr a) (inl b) =
-        let lost = d.gone x.index (rw (← at) b) a in
-        grind (arith, and_both)
+    same at h is = grind (arith, fewer_bits, and_both)
 
 quar_none : (c : Config) (w : World) (f : Flight) (p n : ℕ) → p < length w.now.words.snapshot
     → cell_freed c.pages w.now.words f p n ≡ None → QuarantineStep c w.now f p n → IsQuarantined c w → KeepsSnapshot c w
     → HasSnapshot c (is_cycling (phase_of w.now.words)) (slice_set w.now.words.snapshot p (n / 2 ^ 32)) w.allocations
-quar_none c w f p n ls none (ItFrees off x) q s = absurd (frees_some c.pages w.now.words f p n off x none)
-quar_none c w f p n ls none (ItTakesSnapshot x) q s = grind (arith, eqb-true)
-quar_none c w f p n ls none (ItDrops four x) q s = record {
-  fresh = s.fresh;
-  quarantined = λ on i u.
-      dropped_bits c w p (n % 2 ^ 32) (n / 2 ^ 32) i ls (rw four at q) x u ∙ s.quarantined on i u;
-}
+quar_none c w f p n ls none h q s = grind (arith, frees_some, eqb-true, dropped_bits)
 
 quar_frees : (c : Config) (w : World) (cell : Cell) (n : ℕ) → FreesHere c w cell n
     → HasQuarantine c false w.now.words.marks (ground_of w) → KeepsSnapshot c w
@@ -98,8 +85,7 @@ quar_frees c w cell n x q s =
         → (if b then record a { freed = true; fresh = true } else a).fresh ≡ true
         → ((if b then record a { freed = true; fresh = true } else a).freed ≡ true)
         × ((if b then record a { freed = true; fresh = true } else a).released ≡ false)
-    fresh_by true a u was f = (refl, u refl)
-    fresh_by false a u was f = was f
+    fresh_by b a u was f = grind arith
 
     fresh : (i : ℕ) (b : Bool) → stands_in w.now.words cell (placed_at w.allocations i) ≡ b
         → (placed_at (map (freed_where_it_stands w.now.words (Some cell)) w.allocations) i).fresh ≡ true

@@ -3,15 +3,15 @@ use Rattle.std.proofs.lemmas.Bool.{not_from_true}
 use Rattle.mk_laws.proofs.Vocabulary.{Answer, Bool, Caller, Cell, Config, Event, Flight, Group, Hand, Holding, Host}
 use Rattle.mk_laws.proofs.Vocabulary.{List, Marker, Moment, Named, None, Object, Op, Option, OwnCycle, Page, Place}
 use Rattle.mk_laws.proofs.Vocabulary.{Placing, Seat, Some, Stage, Step, Store, Unplaced, Word, Words, ℕ, accessed}
-use Rattle.mk_laws.proofs.Vocabulary.{and_parts, ap, at_rest, begun, cases_Bool, cases_eq, cell_freed, chosen, decided}
-use Rattle.mk_laws.proofs.Vocabulary.{eq-eqb, eqb-false, eqb-true, false, flight_of, found, frees, group_of}
-use Rattle.mk_laws.proofs.Vocabulary.{holder_number, host_has_turn, if◌then◌else◌, inl, inr, is_attending, is_in}
-use Rattle.mk_laws.proofs.Vocabulary.{is_phase, is_some, is_undecided_free, is_undecided_new, is_under_turn, marker_of}
-use Rattle.mk_laws.proofs.Vocabulary.{marks_place, may_answer_full, ne_eqb, not, not-true, nothing_done, object_made}
-use Rattle.mk_laws.proofs.Vocabulary.{onward, or_else, phase_of, place_by_placing, place_now, progress, progress_freed}
-use Rattle.mk_laws.proofs.Vocabulary.{progress_reg, refl, run_of_cell, sees_double, set-get_or, slice_index, slice_set}
-use Rattle.mk_laws.proofs.Vocabulary.{stage_behind, steps_of, still, subst, sym, taken, tally_word, target, true, ◌%◌}
-use Rattle.mk_laws.proofs.Vocabulary.{◌&&◌, ◌+◌, ◌<◌, ◌==◌, ◌∙◌, ◌≡◌, ◌≢◌}
+use Rattle.mk_laws.proofs.Vocabulary.{and_parts, ap, arith, at_rest, begun, cases_Bool, cases_eq, cell_freed, chosen}
+use Rattle.mk_laws.proofs.Vocabulary.{decided, eq-eqb, eqb-false, eqb-true, false, flight_of, found, freed_cell}
+use Rattle.mk_laws.proofs.Vocabulary.{group_of, host_has_turn, if◌then◌else◌, inl, inr, is_attending, is_in, is_phase}
+use Rattle.mk_laws.proofs.Vocabulary.{is_some, is_undecided_free, is_under_turn, marker_of, marks_place}
+use Rattle.mk_laws.proofs.Vocabulary.{may_answer_full, ne_eqb, not-true, nothing_done, object_made, onward, or_else}
+use Rattle.mk_laws.proofs.Vocabulary.{phase_of, place_now, placed_now, progress, progress_freed, progress_reg, refl}
+use Rattle.mk_laws.proofs.Vocabulary.{run_of_cell, sees_double, set-get_or, slice_index, slice_set, stage_behind}
+use Rattle.mk_laws.proofs.Vocabulary.{steps_of, still, subst, sym, taken, tally_word, target, true, ◌%◌, ◌+◌, ◌<◌, ◌==◌}
+use Rattle.mk_laws.proofs.Vocabulary.{◌∙◌, ◌≡◌}
 use Rattle.mk_core.specs.declared.seats.Presence.TheVariants.{Attending, Visiting}
 use Rattle.mk_laws.proofs.Actors.{Actor, AsHolder, AsMarker, CallTakes, HostTakes, InCallOf, Meets, fills_new}
 use Rattle.mk_laws.proofs.Actors.{grants_new, is_holders}
@@ -38,19 +38,8 @@ where_some false x h = cc
 
 -- only an undecided New has a place, and only an undecided Free a target
 
-pub placed_new : (c : Config) (m : Moment) (f : Flight) (place : Place) → place_now c m f ≡ Some place
-    → is_undecided_new f ≡ true
-placed_new c m f place e = (where_some (is_undecided_new f) (place_by_placing c.resident m.words.pages
-    (object_made c f.op) m.seats.holding.placing) (rw e)).0
-
 pub target_free : (pages : ℕ) (w : Words) (f : Flight) → is_some (target pages w f) ≡ true → is_undecided_free f ≡ true
 target_free pages w f h = (where_some _ _ h).0
-
-pub freed_free : (pages : ℕ) (w : Words) (f : Flight) (p v : ℕ) (cell : Cell) → cell_freed pages w f p v ≡ Some cell
-    → is_undecided_free f ≡ true
-freed_free pages w f p v cell e =
-    target_free pages w f (where_some (not (is_phase w 4) && frees w (target pages w f) p v) (target pages w f)
-    (rw e)).1
 
 double_some : (w : Words) (cell : Option Cell) (x : Word) → sees_double w cell x ≡ true → is_some cell ≡ true
 double_some w (Some cell) x h = refl
@@ -65,8 +54,7 @@ looks pages w f h x hand = by (sees_double w (target pages w f) x) refl
   where
     by : (b : Bool) → sees_double w (target pages w f) x ≡ b
         → Service f h (if b then decided f Answer.Double else still f).flight (record h { hand = hand })
-    by true e = Frees (record h { hand = hand }) (target_free pages w f (double_some w (target pages w f) x e)) refl
-    by false e = Goes (record h { hand = hand }) refl refl
+    by b e = grind (arith, target_free, double_some, Frees, Goes)
 
 -- a place is chosen, or taken
 
@@ -74,27 +62,21 @@ pub chosen_none : (p : Placing) → chosen p None ≡ p
 chosen_none Unplaced = refl
 chosen_none _ = refl
 
-granted_chosen : (p : Placing) (place : Option Place) → is_granted (chosen p place) ≡ true → is_granted p ≡ true
-granted_chosen Unplaced None h = h
+granted_chosen : (p : Placing) (place : Place) → is_granted (chosen p (Some place)) ≡ true → is_granted p ≡ true
+granted_chosen Unplaced place h = cc
 granted_chosen _ _ h = cc
 
-pub chooses : (c : Config) (m : Moment) (f : Flight) → Service f m.seats.holding f
-    (record m.seats.holding { placing = chosen m.seats.holding.placing (place_now c m f) })
-chooses c m f = by (place_now c m f) refl
+place_changes : (c : Config) (m : Moment) (f : Flight) (change : Placing → Option Place → Placing)
+    → ((p : Placing) → change p None ≡ p)
+    → ((p : Placing) (place : Place) → is_granted (change p (Some place)) ≡ true → is_granted p ≡ true)
+    → Service f m.seats.holding f
+    (record m.seats.holding { placing = change m.seats.holding.placing (place_now c m f) })
+place_changes c m f change none granted = by (place_now c m f) refl
   where
     by : (place : Option Place) → place_now c m f ≡ place
-        → Service f m.seats.holding f (record m.seats.holding { placing = chosen m.seats.holding.placing place })
-    by (Some place) e = Places _ (placed_new c m f place e) (granted_chosen m.seats.holding.placing (Some place)) refl
-    by None e = Goes _ (chosen_none m.seats.holding.placing) refl
-
-pub takes : (c : Config) (m : Moment) (f : Flight)
-    → Service f m.seats.holding f (record m.seats.holding { placing = taken m.seats.holding.placing (place_now c m f) })
-takes c m f = by (place_now c m f) refl
-  where
-    by : (place : Option Place) → place_now c m f ≡ place
-        → Service f m.seats.holding f (record m.seats.holding { placing = taken m.seats.holding.placing place })
-    by (Some place) e = Places _ (placed_new c m f place e) (λ g. cc) refl
-    by None e = Goes _ refl refl
+        → Service f m.seats.holding f (record m.seats.holding { placing = change m.seats.holding.placing place })
+    by (Some place) e = Places _ (placed_now c m f place e).new (granted m.seats.holding.placing place) refl
+    by None e = Goes _ (none m.seats.holding.placing) refl
 
 pub either_place : (f : Flight) (h : Holding) (b : Bool) (p q : Placing) → Service f h f (record h { placing = p })
     → Service f h f (record h { placing = q }) → Service f h f (record h { placing = if b then p else q })
@@ -109,7 +91,7 @@ quarantines pages w f h p v = by (cell_freed pages w f p v) refl
   where
     by : (cell : Option Cell) → cell_freed pages w f p v ≡ cell
         → Service f h (progress_freed f cell).flight (record h { freed = or_else (run_of_cell w cell) h.freed })
-    by (Some cell) e = Frees _ (freed_free pages w f p v cell e) refl
+    by (Some cell) e = Frees _ (freed_cell pages w f p v cell e).free refl
     by None e = Goes _ refl refl
 
 -- `full` comes where there is no place
@@ -303,16 +285,6 @@ stays_at : (c : Config) (m : Moment) (seat : Seat) (v : View)
     → Move c (view_of m) seat (with_call m seat (flight_of m seat) v)
 stays_at c m seat v move = rw (same_call m seat) move
 
--- a gate that is 0 or 1 is held or not
-hold_move : (c : Config) (m : Moment) (seat : Seat) (j : ℕ) → HoldsTurn c (view_of m) seat → j < c.callers
-    → holder_number c seat ≢ j → Move c (view_of m) seat (record (view_of m) {
-      gates = slice_set m.words.gates j (if slice_index m.words.gates j == 0 then 2 else slice_index m.words.gates j);
-    })
-hold_move c m seat j t lj ne = elim (cases_eq (slice_index m.words.gates j) 0) [
-  | inl z ↦ rw (eq-eqb (slice_index m.words.gates j) 0 z) (Holds j t lj ne z)
-  | inr nz ↦ rw (ne_eqb (slice_index m.words.gates j) 0 nz) (rw (set-get_or m.words.gates j 0) Stays)
-]
-
 by_kind : (c : Config) (m : Moment) (seat : Seat) (x : Step) → HoldsTurn c (view_of m) seat → is_holders x ≡ true
     → Meets c m seat x → HolderMoves c m seat x
 by_kind c m seat Step.Give t n h = Gives t (none_held c m.words h.gates) (give_phase (phase_of m.words) h.phase)
@@ -321,11 +293,11 @@ by_kind c m seat (Step.Look w) t n h =
 by_kind c m seat (Step.Head p v) t n h = works c m seat _ _ t
     (either_place (flight_of m seat) m.seats.holding (is_phase m.words 4) m.seats.holding.placing
     (chosen m.seats.holding.placing (place_now c m (flight_of m seat)))
-    (Goes m.seats.holding refl refl) (chooses c m (flight_of m seat)))
+    (Goes m.seats.holding refl refl) (place_changes c m (flight_of m seat) chosen chosen_none granted_chosen))
 by_kind c m seat (Step.Used p v) t n h = works c m seat _ _ t
     (either_place (flight_of m seat) m.seats.holding (is_phase m.words 4) m.seats.holding.placing
     (taken m.seats.holding.placing (place_now c m (flight_of m seat)))
-    (Goes m.seats.holding refl refl) (takes c m (flight_of m seat)))
+    (Goes m.seats.holding refl refl) (place_changes c m (flight_of m seat) taken (λ p. refl) (λ p place g. cc)))
 by_kind c m seat (Step.Quar p v) t n h =
     works c m seat _ _ t (quarantines c.pages m.words (flight_of m seat) m.seats.holding p v)
 by_kind c m seat Step.Grant t n h = works c m seat _ _ t (Grants (grants_new c m seat h))
@@ -334,7 +306,10 @@ by_kind c m seat (Step.Tally n v) t _ h =
     m.seats.markers (tally_keeps m.words n v) (works_on c m seat t)
 by_kind c m seat (Step.Hold j) t n h =
     let o = other_caller c seat j h.range in stays_at c m seat (view_of (Behind c m seat (Step.Hold j)))
-    (hold_move c m seat j t o.0 o.1)
+    (elim (cases_eq (slice_index m.words.gates j) 0) [
+      | inl z ↦ rw (eq-eqb (slice_index m.words.gates j) 0 z) (Holds j t o.0 o.1 z)
+      | inr nz ↦ rw (ne_eqb (slice_index m.words.gates j) 0 nz) (rw (set-get_or m.words.gates j 0) Stays)
+    ])
 by_kind c m seat (Step.Open j) t n h =
     let o = other_caller c seat j h.range in
     stays_at c m seat (view_of (Behind c m seat (Step.Open j)))
@@ -344,7 +319,7 @@ by_kind c m seat (Step.Clear p) t n h = works_on c m seat t
 by_kind c m seat (Step.Mark p v) t n h = works c m seat _ _ t (either_place (flight_of m seat) m.seats.holding
     (marks_place m.words (object_made c (flight_of m seat).op) (place_now c m (flight_of m seat)) p v)
     (chosen m.seats.holding.placing (place_now c m (flight_of m seat))) m.seats.holding.placing
-    (chooses c m (flight_of m seat)) (Goes m.seats.holding refl refl))
+    (place_changes c m (flight_of m seat) chosen chosen_none granted_chosen) (Goes m.seats.holding refl refl))
 by_kind c m seat (Step.Wipe i) t n h = works_on c m seat t
 by_kind c m seat Step.Full t n h = works c m seat _ _ t (Fills (fills_new c m seat h)
     (full_unplaced c.resident m.words.pages (object_made c (flight_of m seat).op) m.seats.holding.placing

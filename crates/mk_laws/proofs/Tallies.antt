@@ -2,12 +2,12 @@
 use Rattle.std.proofs.lemmas.List.Sums.{sum_by_push}
 use Rattle.mk_laws.proofs.Vocabulary.{Bool, Config, Event, Flight, IsHistory, IsSettled, IsTidy, List, Moment}
 use Rattle.mk_laws.proofs.Vocabulary.{OfHistories, PlacedAllocation, Seat, Step, TalliesAreTidy, Words, World, ℕ}
-use Rattle.mk_laws.proofs.Vocabulary.{and_parts, ap, append_assoc, arith, calls_from, ends, eqb-true, false}
+use Rattle.mk_laws.proofs.Vocabulary.{and_parts, ap, append_assoc, arith, calls_from, eqb-true, false}
 use Rattle.mk_laws.proofs.Vocabulary.{false_from_ne_true, first_world, flight_of, fresh_words_of, held_by_pages}
-use Rattle.mk_laws.proofs.Vocabulary.{histories_keep_lengths, in_a_word, inl, inr, is_decided, is_run_gone}
-use Rattle.mk_laws.proofs.Vocabulary.{is_undecided_new, left, left_from, left_more, ne_eqb, refl, subst, sym, true}
-use Rattle.mk_laws.proofs.Vocabulary.{true≢false, undecided_new, unreleased_storage, world_behind, [], ◌++◌, ◌+◌, ◌==◌}
-use Rattle.mk_laws.proofs.Vocabulary.{◌∙◌, ◌∷◌, ◌≡◌, ◌≤◌, ◌⊎◌}
+use Rattle.mk_laws.proofs.Vocabulary.{histories_keep_lengths, in_a_word, is_decided, is_run_gone, is_undecided_new}
+use Rattle.mk_laws.proofs.Vocabulary.{left, left_from, left_more, ne_eqb, refl, subst, sym, true, true≢false}
+use Rattle.mk_laws.proofs.Vocabulary.{undecided_new, unreleased_storage, world_behind, [], ◌++◌, ◌+◌, ◌==◌, ◌∙◌, ◌∷◌}
+use Rattle.mk_laws.proofs.Vocabulary.{◌≡◌, ◌≤◌, ◌⊎◌}
 use Rattle.mk_geom.proofs.HeldWords.{pages_hold_mapped_words}
 use Rattle.mk_core.{proofs.Histories.calls_more, specs.Allocations.held_by_allocations, specs.Counts.TalliesAreExact}
 use Rattle.mk_core.{specs.Counts.full_answers, specs.Counts.releases, specs.Readings.TalliesTell}
@@ -54,8 +54,7 @@ decided_no_new : (f : Flight) → is_decided f.stage ≡ true → is_undecided_n
 decided_no_new f decided new = true≢false (sym decided ∙ ap is_decided (undecided_new f new).stage)
 
 giving : (phase : ℕ) → (phase ≤ 1) ⊎ (phase ≡ 5) → (phase == 4) ≡ false
-giving phase (inl low) = ne_eqb phase 4 (λ four. omega arith)
-giving phase (inr over) = ne_eqb phase 4 (λ four. omega arith)
+giving phase h = grind (arith, ne_eqb)
 
 exact_at_give : (c : Config) (es : List Event) (seat : Seat) → IsHistory c es → Meets c (left c es).now seat Step.Give
     → TalliesAreExact c es
@@ -91,9 +90,6 @@ module _ (c : Config) (es : List Event) (e : Event) (nothing : CountsNothing c (
   same_allocations : (left c es).allocations ≡ (left c (es ++ e ∷ [])).allocations
   same_allocations = sym (ap (λ (w : World). w.allocations) more ∙ nothing.alike.allocations)
 
-  same_ends : ends es ≡ ends (es ++ e ∷ [])
-  same_ends = grind (arith, sum_by_push)
-
   same_fulls : full_answers c es ≡ full_answers c (es ++ e ∷ [])
   same_fulls = grind (arith, fulls_of, entry_fulls, calls_more, fulls_append)
 
@@ -107,7 +103,8 @@ module _ (c : Config) (es : List Event) (e : Event) (nothing : CountsNothing c (
 
   tidy_more : TalliesAreTidy c es → TalliesAreTidy c (es ++ e ∷ [])
   tidy_more tidy = record {
-    cycles = tally (λ (w : Words). w.cycles) _ nothing.alike.tallies.cycles tidy.cycles ∙ ap in_a_word same_ends;
+    cycles = tally (λ (w : Words). w.cycles) _ nothing.alike.tallies.cycles tidy.cycles ∙ ap in_a_word
+        (grind (arith, sum_by_push));
     released = tally (λ (w : Words). w.released) _ nothing.alike.tallies.released tidy.released
         ∙ ap (λ (xs : List PlacedAllocation). in_a_word (releases xs)) same_allocations;
     full = tally (λ (w : Words). w.full) _ nothing.alike.tallies.full tidy.full ∙ ap in_a_word same_fulls;
@@ -135,15 +132,15 @@ told_behind c es e h meets tells (Leaves same) free =
     let told = tells was in
     (exact_more c es e nothing told.0, λ tidy. tidy_more c es e nothing (told.1 (tidy_before c es e tidy)))
 
-tells_kept : KeptByEvents TalliesTell
-tells_kept c es e h tells free =
-    let here = before_it c (es ++ e ∷ []) es e [] h refl in
-    grind (arith, told_behind, turn_step, left_more)
-
 tells_at_first : (c : Config) → TalliesTell c []
 unfolding left_from calls_from unreleased_storage
 tells_at_first c free =
     (record { held = refl; fresh = refl }, λ tidy. record { cycles = refl; released = refl; full = refl })
+
+tells_kept : KeptByEvents TalliesTell
+tells_kept c es e h tells free =
+    let here = before_it c (es ++ e ∷ []) es e [] h refl in
+    grind (arith, told_behind, turn_step, left_more)
 
 pub tallies_tell : OfHistories TalliesTell
 tallies_tell = holds_of_histories TalliesTell tells_at_first tells_kept

@@ -21,8 +21,7 @@ pub record CountsAlike (w v : World) : Type 0 where
 
 alike : (c : Config) (w : World) (seat : Seat) (x : Step) → counts_alike x ≡ true
     → CountsAlike w (WorldBehind c w seat x)
-alike c w seat (Step.Tally n v) is = cc
-alike c w seat x3 is = grind (arith, register_leaves_tallies)
+alike c w seat x is = grind (arith, register_leaves_tallies)
 
 -- What an event does to the turn: it takes one that is free, gives it back, or leaves it.
 pub data TurnStep (x : Step) (turn now : ℕ) : Type 0 where
@@ -32,14 +31,12 @@ pub data TurnStep (x : Step) (turn now : ℕ) : Type 0 where
 
 pub turn_step : (c : Config) (w : World) (seat : Seat) (x : Step)
     → TurnStep x w.now.words.turn (WorldBehind c w seat x).now.words.turn
-turn_step c w seat (Step.Take o) = grind arith
-turn_step c w seat x3 = grind (arith, reg_leaves, tally_keeps)
+turn_step c w seat x = grind (arith, reg_leaves, tally_keeps)
 
 -- A seat that doesn't hold the turn leaves them, and so does `give`.
 
 of_no_turn : (x : Step) → is_of_turn (group_of x) ≡ false → counts_alike x ≡ true
-of_no_turn (Step.Tally n v) g = cc
-of_no_turn _ g = cc
+of_no_turn x g = grind arith
 
 outside_alike : (c : Config) (m : Moment) (seat : Seat) (x : Step) → (HoldsTurn c (view_of m) seat → ⊥)
     → Actor c m seat x → counts_alike x ≡ true

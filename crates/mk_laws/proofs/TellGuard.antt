@@ -1,13 +1,13 @@
 -- What the layout and the zero words tell the guard.
-use Rattle.mk_laws.proofs.Vocabulary.{AreOfPages, Bool, Caller, Config, GuardPremises, HasZeros, IsClaimedRun}
-use Rattle.mk_laws.proofs.Vocabulary.{IsHeaderOf, IsMarking, IsPlaced, IsPlotShown, IsSized, LayoutStands, Mapped}
-use Rattle.mk_laws.proofs.Vocabulary.{Moment, Object, Place, PlacedAllocation, Placing, PlotStands, RunPages, RunStands}
-use Rattle.mk_laws.proofs.Vocabulary.{Seat, Some, World, ℕ, and_parts, ap, arith, cases_lt, claims_of, false}
-use Rattle.mk_laws.proofs.Vocabulary.{false≢true, flight_of, get_or_past, ground_of, head_page_under, header_on}
-use Rattle.mk_laws.proofs.Vocabulary.{heads_run, inl, inr, is_large, is_mapped, is_small_object, is_undecided_new}
-use Rattle.mk_laws.proofs.Vocabulary.{is_unmapping, kinds_of, large_is_not_small, left, lt-ltb, mode_of, ne_eqb, not}
-use Rattle.mk_laws.proofs.Vocabulary.{not-true, object_placed, pages_some, placed_at, placed_now, plot_of, refl}
-use Rattle.mk_laws.proofs.Vocabulary.{seat_exists, subst, sym, true, ◌&&◌, ◌*◌, ◌+◌, ◌-◌, ◌/◌, ◌==◌, ◌∙◌, ◌≡◌, ◌≢◌, ◌⊎◌}
+use Rattle.mk_laws.proofs.Vocabulary.{AreOfPages, Bool, Config, GuardPremises, HasZeros, IsClaimedRun, IsHeaderOf}
+use Rattle.mk_laws.proofs.Vocabulary.{IsMarking, IsPlaced, IsPlotShown, IsSized, LayoutStands, Mapped, Moment, Object}
+use Rattle.mk_laws.proofs.Vocabulary.{Place, PlacedAllocation, Placing, PlotStands, RunPages, RunStands, Seat, Some}
+use Rattle.mk_laws.proofs.Vocabulary.{World, ℕ, and_parts, ap, arith, cases_lt, claims_of, false, flight_of}
+use Rattle.mk_laws.proofs.Vocabulary.{get_or_past, ground_of, head_page_under, header_on, heads_run, inl, inr, is_large}
+use Rattle.mk_laws.proofs.Vocabulary.{is_mapped, is_small_object, is_undecided_new, is_unmapping, kinds_of}
+use Rattle.mk_laws.proofs.Vocabulary.{large_is_not_small, left, lt-ltb, mode_of, ne_eqb, not, not-true, object_placed}
+use Rattle.mk_laws.proofs.Vocabulary.{pages_some, placed_at, placed_now, plot_of, refl, seat_exists, subst, sym, true}
+use Rattle.mk_laws.proofs.Vocabulary.{◌&&◌, ◌*◌, ◌+◌, ◌-◌, ◌/◌, ◌==◌, ◌∙◌, ◌≡◌, ◌⊎◌}
 use Rattle.mk_laws.proofs.BarePages.{Unreleasing, bare_page, plot_page, shown_there}
 use Rattle.mk_laws.proofs.Basics.{Known, KnownWorld, Laid, all_stand, first_header, holding_object, known_world}
 use Rattle.mk_laws.proofs.Basics.{made_sized, mapped_stays, new_has_turn}
@@ -31,8 +31,7 @@ later_pages c w q p count distance is some lt =
 -- who is in a New is there
 new_exists : (c : Config) (m : Moment) (seat : Seat) → Known c m → is_undecided_new (flight_of m seat) ≡ true
     → seat_exists c seat ≡ true
-new_exists c m (Caller k) known new = grind (arith, cases_lt, lt-ltb, get_or_past)
-new_exists c m _ known new = absurd (false≢true new)
+new_exists c m seat known new = grind (arith, cases_lt, lt-ltb, get_or_past)
 
 bare_place : (c : Config) (w : World) (o : Object) (place : Place) → Unreleasing c w → Laid c o false w (ground_of w)
     → IsSized o
@@ -91,8 +90,7 @@ mapped_stands c w i lengths laid mapped =
 
 -- All of it
 not_releasing : (n : ℕ) → (n ≡ 1) ⊎ (n ≡ 2) → (n == 4) ≡ false
-not_releasing n (inl e) = ne_eqb n 4 (λ f. absurd (omega arith))
-not_releasing n (inr e) = ne_eqb n 4 (λ f. absurd (omega arith))
+not_releasing n h = grind (arith, ne_eqb)
 
 pub guard_in : (c : Config) (w : World) → KnownWorld c w → LayoutStands c w → HasZeros c w → GuardPremises c w
 guard_in c w known laid zeros = record {

@@ -1,28 +1,24 @@
 -- Tests that still hold where their parts do.
-use Rattle.mk_laws.proofs.Vocabulary.{Bool, List, MarkerState as Marker, None, Option, Some, ℕ, all_below, all_below-at}
-use Rattle.mk_laws.proofs.Vocabulary.{and_from, and_parts, ap, arith, eq-eqb, eqb-true, false, has_bit, has_bit_without}
+use Rattle.mk_laws.proofs.Vocabulary.{Bool, List, MarkerState as Marker, Option, ℕ, all_below, all_below-at, and_from}
+use Rattle.mk_laws.proofs.Vocabulary.{and_parts, ap, arith, eq-eqb, eqb-true, false, has_bit, has_bit_without}
 use Rattle.mk_laws.proofs.Vocabulary.{if◌then◌else◌, is_attending, is_some_and, no_bit, none_attends, not, outside}
 use Rattle.mk_laws.proofs.Vocabulary.{refl, slice_index_or, suc, sym, true, without, zero, [], ◌&&◌, ◌<◌, ◌==◌, ◌||◌}
 use Rattle.mk_laws.proofs.Vocabulary.{◌∙◌, ◌∷◌, ◌≡◌}
 use Rattle.mk_core.proofs.WordBits.{zero_from_bits}
 
 pub or_on : (a b x y : Bool) → (a ≡ true → x ≡ true) → (b ≡ true → y ≡ true) → (a || b) ≡ true → (x || y) ≡ true
-or_on true b x y f g h = ap (λ t. t || y) (f refl)
-or_on false b true y f g h = refl
-or_on false b false y f g h = g h
+or_on a b x y f g h = grind arith
 
 pub and_on : (a b x y : Bool) → (a ≡ true → x ≡ true) → (b ≡ true → y ≡ true) → (a && b) ≡ true → (x && y) ≡ true
 and_on a b x y f g h = let p = and_parts a b h in and_from x y (f p.0) (g p.1)
 
 pub if_on : (t a b x y : Bool) → (t ≡ true → a ≡ true → x ≡ true) → (t ≡ false → b ≡ true → y ≡ true)
     → (if t then a else b) ≡ true → (if t then x else y) ≡ true
-if_on true a b x y f g h = f refl h
-if_on false a b x y f g h = g refl h
+if_on t a b x y f g h = grind arith
 
 pub some_on : {A : Type 0} (p q : A → Bool) (o : Option A) → ((x : A) → p x ≡ true → q x ≡ true)
     → is_some_and p o ≡ true → is_some_and q o ≡ true
-some_on p q (Some x) f h = f x h
-some_on p q None f h = h
+some_on p q o f h = grind arith
 
 pub all_below_from : (n : ℕ) (test : ℕ → Bool) → ((k : ℕ) → k < n → test k ≡ true) → all_below n test ≡ true
 unfolding all_below
@@ -43,8 +39,7 @@ without_on bits m n grow h = eq-eqb _ 0 (zero_from_bits _ (λ k. has_bit_without
     none k = sym (has_bit_without bits m k) ∙ no_bit _ k (eqb-true _ 0 h)
 
     by : (k : ℕ) (b : Bool) → has_bit bits k ≡ b → (b && not (has_bit n k)) ≡ false
-    by k false is = refl
-    by k true is = grind (arith, none)
+    by k b is = grind (arith, none)
 
 -- each marker of a list
 pub none_from : (xs : List Marker) → ((k : ℕ) → is_attending (slice_index_or xs k outside).presence ≡ false)

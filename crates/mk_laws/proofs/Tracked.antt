@@ -11,9 +11,8 @@ use Rattle.mk_laws.proofs.Basics.{KeptByEvents, Known, Meets, WorldBehind, at_fi
 use Rattle.mk_laws.proofs.Basics.{holds_of_histories, known_left, none_on_its_way}
 use Rattle.mk_laws.proofs.Longer.{gives_turn, left_in_turn, longer_first, longer_turn, none_serves_more, taken}
 use Rattle.mk_laws.proofs.OwnCycles.{HasCycle, cycle_more, cycle_step}
-use Rattle.mk_laws.proofs.Placings.{Fixes, GoesOn, PlacingStep, Stays, places_at}
 use Rattle.mk_laws.proofs.Undecided.{HasNew, IsTaken, NewCame, WasNew, new_came, new_holds_turn, new_object}
-use Rattle.mk_laws.proofs.InvariantTheorems.{first_fit_finds_the_place}
+use Rattle.mk_laws.proofs.{InvariantTheorems.first_fit_finds_the_place, Placings.PlacingStep, Placings.places_at}
 
 -- A step of the turn has served its New first, where the place was this one.
 pub record ServedFirst (c : Config) (s : Seat) {es : List Event} (t : TurnOf c s es) (o : Object) (place : Place)
@@ -86,11 +85,7 @@ module _ (c : Config) (es : List Event) (e : Event) (k : ℕ) (o : Object) (t : 
 
   place_more : (was now : Option Place) → PlacingStep c (left c es).now o (event_serves c (left c es) e) was now
       → FitsHere c es o → HasPlace c (Caller k) t o was → HasPlace c (Caller k) (longer_turn t e on) o now
-  place_more was now (Stays none same) fit has = grind (arith, to_place, left_in_turn, none_serves_more, goes_on)
-  place_more was now (Fixes place is off at found empty there) fit has = to_place now (Some place) there
-      (fixes place is (fit place off at found) (subst (HasPlace c (Caller k) t o) empty has))
-  place_more was now (GoesOn place here there) fit has = to_place now (Some place) there
-      (goes_on place (subst (HasPlace c (Caller k) t o) here has))
+  place_more was now h fit has = grind (arith, to_place, left_in_turn, none_serves_more, goes_on, fixes)
 
 -- One event: the `take` of the New, or one after it.
 

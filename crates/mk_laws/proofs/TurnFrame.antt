@@ -1,11 +1,11 @@
 -- What an event of another seat leaves to the turn's holder.
 use Rattle.mk_laws.proofs.Vocabulary.{Config, Flight, List, MarkerState, Moment, Seat, TurnIsLeft, Words, World, ℕ, ap}
-use Rattle.mk_laws.proofs.Vocabulary.{arith, false, get_or-set_other, is_attending, marker_of, outside, refl, set_by}
+use Rattle.mk_laws.proofs.Vocabulary.{arith, false, get_or-set_other, is_attending, marker_of, outside, set_by}
 use Rattle.mk_laws.proofs.Vocabulary.{slice_index, slice_index_or, slice_set, ◌%◌, ◌+◌, ◌-◌, ◌^◌, ◌≡◌, ◌≢◌, ◌≤◌}
 use Rattle.mk_core.specs.{Frames.steady_of, Readings.NoneAttends}
-use Rattle.mk_laws.proofs.OthersMoves.{AddsBlacks, AddsMarks, CallLoads, Calls, CallWrite, ComesIn, GoesOut}
-use Rattle.mk_laws.proofs.OthersMoves.{MarkerLoads, MarkerWrite, Marks, OthersMove, SetsDirty, SetsGate, SetsRegister}
-use Rattle.mk_laws.proofs.OthersMoves.{Waits, with_words_seats}
+use Rattle.mk_laws.proofs.OthersMoves.{AddsBlacks, AddsMarks, Calls, CallWrite, ComesIn, GoesOut, MarkerLoads}
+use Rattle.mk_laws.proofs.OthersMoves.{MarkerWrite, Marks, OthersMove, SetsDirty, SetsGate, SetsRegister, Waits}
+use Rattle.mk_laws.proofs.OthersMoves.{with_words_seats}
 use Rattle.mk_laws.proofs.{Basics.Known, Growth.grows_joined, Growth.grows_more, Growth.grows_same}
 
 -- the phase
@@ -19,24 +19,18 @@ down p le = omega arith
 
 steady_call : (w : World) (k : ℕ) (fs : List Flight) (x : Words) → CallWrite k w.now.words x
     → steady_of (with_words_seats w x (record w.now.seats { flights = fs })) ≡ steady_of w
-steady_call w k fs x CallLoads = refl
-steady_call w k fs x _ = refl
+steady_call w k fs x h = grind arith
 
 steady_mark : (w : World) (k : ℕ) (y : MarkerState) (ms : List MarkerState) (x : Words) → MarkerWrite k w.now y x
     → steady_of (with_words_seats w x (record w.now.seats { markers = ms })) ≡ steady_of w
-steady_mark w k y ms x (ComesIn a) = ap (λ n. record (steady_of w) { phase = n }) (up w.now.words.phase)
-steady_mark w k y ms x (GoesOut a le) = ap (λ n. record (steady_of w) { phase = n }) (down w.now.words.phase le)
-steady_mark w k y ms x _ = refl
+steady_mark w k y ms x h = grind (arith, up, down)
 
 pub steady_out : (c : Config) (w : World) (seat : Seat) (v : World) → OthersMove c w seat v → steady_of v ≡ steady_of w
-steady_out c w seat v Waits = refl
-steady_out c w seat v (Calls {k} f {x} lt le write) = steady_call w k (slice_set w.now.seats.flights k f) x write
-steady_out c w seat v (Marks {k} y {x} lt write) = steady_mark w k y (slice_set w.now.seats.markers k y) x write
+steady_out c w seat v h = grind (arith, steady_call, steady_mark)
 
 pub holding_out : (c : Config) (w : World) (seat : Seat) (v : World) → OthersMove c w seat v
     → v.now.seats.holding ≡ w.now.seats.holding
-holding_out c w seat v Waits = refl
-holding_out c w seat v _ = refl
+holding_out c w seat v h = grind arith
 
 -- gates that are held, and those that aren't, and dirty words
 

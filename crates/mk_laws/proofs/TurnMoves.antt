@@ -24,9 +24,7 @@ record SeesFreed (w : Words) (t : Option Cell) : Type 0 where
   pub freed : is_freed w cell ≡ true
 
 sees_freed : (w : Words) (t : Option Cell) (x : Word) → sees_double w t x ≡ true → SeesFreed w t
-sees_freed w (Some cell) (Word.Quar p) h = record { cell = cell; is = refl; freed = (and_parts _ _ h).1 }
-sees_freed w None (Word.Quar p) h = cc
-sees_freed w _ _ h = cc
+sees_freed w t x h = grind (arith, and_parts)
 
 module _ (c : Config) (w : World) (n : NeverState) (known : KnownWorld c w) (mirrors : Mirrors c w n)
     (others : ImagePremises c w) (safe : ℕ

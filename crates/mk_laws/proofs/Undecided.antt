@@ -26,8 +26,7 @@ record IsTake (x : Step) : Type 0 where
 
 taken_by_take : (c : Config) (w : World) (seat : Seat) (x : Step) (n : ℕ) → w.now.words.turn ≡ 0
     → (WorldBehind c w seat x).now.words.turn ≡ 1 + n → IsTake x
-taken_by_take c w seat (Step.Take o) n free now = record { op = o; is = refl }
-taken_by_take c w seat x3 n free now = grind (arith, reg_leaves, tally_keeps)
+taken_by_take c w seat x n free now = grind (arith, reg_leaves, tally_keeps)
 
 -- where an undecided New comes from
 pub data NewCame (c : Config) (w : World) (seat : Seat) (x : Step) (k : ℕ) : Type 0 where

@@ -25,13 +25,11 @@ stays_out c m seat (Step.Tally n v) p none out =
     ap (λ (t : Table). is_resident t.pages p) (tally_table m.words n v) ∙ out
 stays_out c m seat (Step.Used q n) p none out = false_from_ne_true _
     (λ resident. true≢false (sym (resident_used m.words.pages q n p resident) ∙ out))
-stays_out c m seat (Step.Head q n) p none out = false_from_ne_true _ (λ resident. true≢false (sym (was resident) ∙ out))
+stays_out c m seat (Step.Head q n) p none out = false_from_ne_true _ (λ resident. true≢false (sym (
+    grind (arith, resident_other, cases_lt, resident_gone, zero_there, is_resident, set_past)) ∙ out))
   where
     zero_there : p ≡ q → n ≡ 0
     zero_there e = grind (arith, and_from, eq-eqb, ne_eqb)
-
-    was : is_resident (Behind c m seat (Step.Head q n)).words.pages p ≡ true → is_resident m.words.pages p ≡ true
-    was resident = grind (arith, resident_other, cases_lt, resident_gone, zero_there, is_resident, set_past)
 stays_out c m seat _ p none out = out
 
 stays_along : (c : Config) (w : World) (es : List Event) (p : ℕ)
@@ -46,8 +44,7 @@ stays_along c w (e ∷ es) p none out =
 -- The pages of the run have the headers of an unmapped one.
 
 not_false : (b : Bool) → not b ≡ false → b ≡ true
-not_false true h = refl
-not_false false h = cc
+not_false b h = grind arith
 
 module _ (c : Config) (w : World) (n : NeverState) (known : KnownWorld c w) (all : Invariant c w n) (p : ℕ)
     (x : IsOfUnmappedRun c w p) where

@@ -1,13 +1,12 @@
 -- The steps that unmap a run: it is freed, its pages get their headers, and the call that freed it ends.
 use Rattle.mk_laws.proofs.Vocabulary.{Among, AreApart, Bool, Claim, HasHeader, HasItsHead, Header, IsClaimed, IsLaidOn}
 use Rattle.mk_laws.proofs.Vocabulary.{IsOfOneCell, IsPlotShown, IsShown, Later, LayoutScene, List, Mode, NoPlot, Object}
-use Rattle.mk_laws.proofs.Vocabulary.{OfBlock, OfLater, OfLeafBlock, OfLeafRun, OfRun, Option, Page, Plot, PlotStands}
-use Rattle.mk_laws.proofs.Vocabulary.{Plotted, ShowsPart, Some, Unmapping, ℕ, ap, arith, cases_eq, cells_made}
-use Rattle.mk_laws.proofs.Vocabulary.{cells_under, false, free_page, head_on, header_made, header_of, header_on, inl}
-use Rattle.mk_laws.proofs.Vocabulary.{inr, is_released_on, is_small_object, large_cells, length, length-set, made_shows}
-use Rattle.mk_laws.proofs.Vocabulary.{pages_made, pages_some, part_cells, part_head, refl, run_count, set_by}
-use Rattle.mk_laws.proofs.Vocabulary.{shown_later, shows_on, stands, sym, true, true≢false, unmapped_header, used_on}
-use Rattle.mk_laws.proofs.Vocabulary.{◌+◌, ◌-◌, ◌<◌, ◌∙◌, ◌≡◌, ◌≢◌, ◌≤◌, ◌⊎◌}
+use Rattle.mk_laws.proofs.Vocabulary.{Option, Page, Plot, PlotStands, Plotted, ShowsPart, Some, Unmapping, ℕ, ap, arith}
+use Rattle.mk_laws.proofs.Vocabulary.{cases_eq, cells_made, cells_under, false, free_page, head_on, header_made}
+use Rattle.mk_laws.proofs.Vocabulary.{header_of, header_on, inl, inr, is_released_on, is_small_object, large_cells}
+use Rattle.mk_laws.proofs.Vocabulary.{length, length-set, made_shows, pages_made, pages_some, part_cells, part_head}
+use Rattle.mk_laws.proofs.Vocabulary.{refl, run_count, set_by, shown_later, shows_on, stands, sym, true}
+use Rattle.mk_laws.proofs.Vocabulary.{unmapped_header, used_on, ◌+◌, ◌-◌, ◌<◌, ◌∙◌, ◌≡◌, ◌≢◌, ◌≤◌, ◌⊎◌}
 use Rattle.mk_core.proofs.ObjectHeaders.{later_part, same_cells, unmapped_shows}
 use Rattle.mk_laws.proofs.Releasing.{head_of_other, headed_here, headed_other, headed_used, shown_beside}
 use Rattle.mk_laws.proofs.Releasing.{with_header_on}
@@ -18,23 +17,14 @@ use Rattle.mk_laws.proofs.LayoutReadings.{claimed, claimed_head, claimed_some, n
 -- the head of a large object's run has its pages,
 pub part_count : (o : Object) (x : Option Header) → ShowsPart o 0 x → is_small_object o ≡ false
     → run_count x ≡ pages_made o
-part_count o x (OfBlock first small leaf) large = absurd (true≢false (sym small ∙ large))
-part_count o x (OfLeafBlock first small leaf) large = absurd (true≢false (sym small ∙ large))
-part_count o x (OfLater mapped some l) large = absurd (omega arith)
-part_count o x _ large = refl
+part_count o x h large = grind arith
 
 -- and no other page of an object has any.
 later_count : (o : Object) (distance : ℕ) (x : Option Header) → ShowsPart o distance x → 1 ≤ distance → run_count x ≡ 0
-later_count o distance x (OfBlock first small leaf) some = absurd (omega arith)
-later_count o distance x (OfLeafBlock first small leaf) some = absurd (omega arith)
-later_count o distance x (OfRun mapped first l leaf) some = absurd (omega arith)
-later_count o distance x (OfLeafRun first l leaf) some = absurd (omega arith)
-later_count o distance x (OfLater mapped far l) some = refl
+later_count o distance x h some = grind arith
 
 pub small_count : (o : Object) (x : Option Header) → ShowsPart o 0 x → is_small_object o ≡ true → run_count x ≡ 0
-small_count o x (OfRun mapped first l leaf) is = absurd (true≢false (sym is ∙ l))
-small_count o x (OfLeafRun first l leaf) is = absurd (true≢false (sym is ∙ l))
-small_count o x _ is = refl
+small_count o x h is = grind arith
 
 pub same_count : (o : Object) (distance : ℕ) (x y : Option Header) → ShowsPart o distance x → ShowsPart o distance y
     → is_small_object o ≡ false → run_count x ≡ run_count y
@@ -113,15 +103,12 @@ module _ (s : LayoutScene) (x : Claim) (d : ℕ) (laid : IsLaidOn s) (ix : Among
   here : header_on after p ≡ unmapped_header (pages_made x.object) d
   here = headed_here s.pages p n lt
 
-  header_of_run : (e : ℕ) → e < pages_made x.object → HasHeader Unmapping x.object e (header_on after (x.page + e))
-  header_of_run e le = grind (arith, here, headed_other, sx)
-
   own : IsShown after x
   own = record {
     sized = sx.sized;
     known = sx.known;
     within = let l = len in let w = sx.within in omega arith;
-    headers = λ e le. rw mode (header_of_run e le);
+    headers = λ e le. rw mode (grind (arith, here, headed_other, sx));
     used = rw (headed_used s.pages p n x.page lt) sx.used;
   }
 

@@ -7,7 +7,6 @@ use Rattle.mk_laws.proofs.{Basics.Behind, Basics.KeptByEvents, Basics.KnownWorld
 use Rattle.mk_laws.proofs.{Basics.holds_of_histories, Basics.reg_table, Basics.tally_table, FreeWords.of_worlds}
 use Rattle.mk_laws.specs.UnsetWords.{IsNeverSet, RegistersOfNoCallerAreZero, UnsetGlobalsAreZero}
 
--- A register is the image of a value of the heap that never reuses storage, and that heap has none for it.
 no_caller : (c : Config) (w : World) (n : NeverState) → KnownWorld c w → Invariant c w n
     → RegistersOfNoCallerAreZero c w
 no_caller c w n known all k r past =

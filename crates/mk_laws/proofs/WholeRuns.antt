@@ -1,14 +1,14 @@
 -- Runs are whole, after each event.
 use Rattle.mk_laws.proofs.Vocabulary.{Among, Bool, Claim, Config, Empties, Flight, GivesBack, Header, HeadStep, InPlot}
-use Rattle.mk_laws.proofs.Vocabulary.{IsClaimed, IsLaidOn, ItCarves, ItEmpties, ItGivesBack, ItTakes, ItUnmaps, Later}
-use Rattle.mk_laws.proofs.Vocabulary.{LayoutScene, LayoutStands, List, NoPlot, Object, Option, Page, Plot, PlotStands}
-use Rattle.mk_laws.proofs.Vocabulary.{Plotted, Run, Seat, ShowsPart, Some, Step, UsedStep, Words, World, ℕ, arith}
-use Rattle.mk_laws.proofs.Vocabulary.{cases_Bool, cases_eq, cells_under, false, fewer_bits, flight_of, found, free_page}
-use Rattle.mk_laws.proofs.Vocabulary.{has_bit, head_on, head_page, head_page_under, head_step, header_made, header_of}
-use Rattle.mk_laws.proofs.Vocabulary.{header_on, heads_run, inl, inr, is_phase, is_released_on, is_small_object, length}
-use Rattle.mk_laws.proofs.Vocabulary.{length-set, made_shows, object_now, pages_made, pages_some, plot_of, refl}
-use Rattle.mk_laws.proofs.Vocabulary.{run_count, set_by, shows_on, small_heads_none, stands, subst, suc, sym, true}
-use Rattle.mk_laws.proofs.Vocabulary.{true≢false, used_on, used_step, zero, ◌+◌, ◌-◌, ◌<◌, ◌∙◌, ◌≡◌, ◌≢◌, ◌⊎◌}
+use Rattle.mk_laws.proofs.Vocabulary.{IsLaidOn, ItCarves, ItEmpties, ItGivesBack, ItTakes, ItUnmaps, Later, LayoutScene}
+use Rattle.mk_laws.proofs.Vocabulary.{LayoutStands, List, NoPlot, Object, Option, Page, Plot, PlotStands, Plotted, Seat}
+use Rattle.mk_laws.proofs.Vocabulary.{ShowsPart, Some, Step, UsedStep, Words, World, ℕ, arith, cases_Bool, cases_eq}
+use Rattle.mk_laws.proofs.Vocabulary.{cells_under, false, fewer_bits, flight_of, found, free_page, has_bit, head_on}
+use Rattle.mk_laws.proofs.Vocabulary.{head_page, head_page_under, head_step, header_made, header_of, header_on}
+use Rattle.mk_laws.proofs.Vocabulary.{heads_run, inl, inr, is_phase, is_small_object, length, length-set, made_shows}
+use Rattle.mk_laws.proofs.Vocabulary.{object_now, pages_made, pages_some, plot_of, refl, run_count, set_by, shows_on}
+use Rattle.mk_laws.proofs.Vocabulary.{small_heads_none, stands, subst, suc, sym, true, true≢false, used_on, used_step}
+use Rattle.mk_laws.proofs.Vocabulary.{zero, ◌+◌, ◌-◌, ◌<◌, ◌∙◌, ◌≡◌, ◌≢◌, ◌⊎◌}
 use Rattle.mk_core.proofs.ObjectHeaders.{later_part}
 use Rattle.mk_laws.proofs.Basics.{Before, Meets, WorldBehind, claimed, headed_other, is_releasing_behind, none_set}
 use Rattle.mk_laws.proofs.Basics.{page_within, reg_leaves_ground, tally_ground, used_header, with_header_on}
@@ -31,8 +31,7 @@ find_bit n (suc b) = elim (cases_Bool (has_bit n b)) [
 ]
 
 head_cases : (x : Option Header) (p : ℕ) → (head_page_under x p ≡ p) ⊎ ((d : ℕ) × ((m : Bool) × (x ≡ Some (Later d m))))
-head_cases (Some (Later d m)) p = inr (d, (m, refl))
-head_cases _ p = inl refl
+head_cases x p = grind arith
 
 -- the page is one of a claim's
 pub record IsOn (sc : LayoutScene) (p : ℕ) : Type 0 where
@@ -51,7 +50,16 @@ on_claim sc p laid none off some =
           zero_where_none (used_on sc.pages (head_on sc.pages p))
           (λ k h. let t = laid.used (head_on sc.pages p) k h in true≢false (sym h ∙ no_bits k t.0)) in
           absurd (elim (laid.occupied p some empty) [ inl on ↦ true≢false (sym on ∙ off) | inr here ↦ rw none at here ])
-      | inl (k, bit) ↦ owned k ((laid.used (head_on sc.pages p) k bit).1)
+      | inl (k, bit) ↦ elim ((laid.used (head_on sc.pages p) k bit).1) [
+        | inl o ↦ elim (head_cases (shows_on sc.pages p) p) [
+          | inl own ↦
+              let page = o.page in
+              let some = pages_some o.claim.object (laid.shown o.claim o.among).sized in
+              record { claim = o.claim; among = o.among; distance = 0; near = omega arith; at = omega arith }
+          | inr (d, (m, is)) ↦ later o.claim o.among o.page d m is
+        ]
+        | inr r ↦ absurd (true≢false (sym r ∙ rw off))
+      ]
     ]
   where
     -- from its head, where the page is a later one
@@ -75,21 +83,9 @@ on_claim sc p laid none off some =
               record { claim = x; among = ix; distance = d; near = omega arith; at = omega arith }
         ]
 
-    owned : (k : ℕ) → IsClaimed sc.claims (head_on sc.pages p) k ⊎ (is_released_on sc (head_on sc.pages p) k ≡ true)
-        → IsOn sc p
-    owned k (inr r) = absurd (true≢false (sym r ∙ rw off))
-    owned k (inl o) = elim (head_cases (shows_on sc.pages p) p) [
-      | inl own ↦
-          let page = o.page in
-          let some = pages_some o.claim.object (laid.shown o.claim o.among).sized in
-          record { claim = o.claim; among = o.among; distance = 0; near = omega arith; at = omega arith }
-      | inr (d, (m, is)) ↦ later o.claim o.among o.page d m is
-    ]
-
 -- what heads a run is its own head
 own_head : (x : Option Header) (p : ℕ) → heads_run x ≡ true → head_page_under x p ≡ p
-own_head (Some (Run n m)) p h = refl
-own_head _ p h = cc
+own_head x p h = grind arith
 
 -- and shows an object's first page
 heads_first : (o : Object) (d : ℕ) (x : Option Header) → ShowsPart o d x → heads_run x ≡ true → d ≡ 0
@@ -175,11 +171,6 @@ whole_quiet s laid off p h = elim (find_bit (used_on s.pages p) (cells_under (sh
   ]
 ]
 
--- While it is, the place of a New doesn't matter.
-replotted : (pages : List Page) (plot other : Plot) (before : Bool) → HaveWholeRuns pages before plot
-    → HaveWholeRuns pages true other
-replotted pages plot other before whole p h = grind arith
-
 -- `head` (d)
 emptied : (w : Words) (plot : Plot) (p n : ℕ) → p < length w.pages → Empties w p n → HaveWholeRuns w.pages true plot
     → HaveWholeRuns (with_header_on w.pages p n) true plot
@@ -228,8 +219,7 @@ given_back w plot p n lt x whole q h =
         (λ e. zero_where_none n (λ k bit. none_set _ k (rw (← e) z) (fewer_bits n _ k x.fewer bit))) z
 
     page : (d : ℕ) → HasLaterPage w.pages true plot q d → HasLaterPage (with_used_on w.pages p n) true plot q d
-    page d (inl is) = inl (is.0, rw (used_header w.pages p n (q + d) lt) is.1)
-    page d (inr free) = inr (used_header w.pages p n (q + d) lt ∙ free.0, still free.1, free.2)
+    page d h = grind (arith, used_header, still)
 
 head_whole : (c : Config) (w : World) (f : Flight) (plot : Plot) (p n : ℕ) → p < length w.now.words.pages
     → is_phase w.now.words 4 ≡ true → HeadStep c w.now f p n
@@ -257,6 +247,10 @@ whole_by_kind c w seat (Step.Used p n) plot b h on whole =
 whole_by_kind c w seat Step.Reg plot b h on whole = rw (reg_leaves_ground c w seat).pages whole
 whole_by_kind c w seat (Step.Tally n v) plot b h on whole = rw (tally_ground w.now.words n v).pages whole
 whole_by_kind c w seat _ plot b h on whole = whole
+
+replotted : (pages : List Page) (plot other : Plot) (before : Bool) → HaveWholeRuns pages before plot
+    → HaveWholeRuns pages true other
+replotted pages plot other before whole p h = grind arith
 
 pub whole_behind : (c : Config) (w : World) (seat : Seat) (x : Step) → Before c w → Meets c w.now seat x
     → RunsAreWhole c w → LayoutStands c (WorldBehind c w seat x) → RunsAreWhole c (WorldBehind c w seat x)

@@ -22,8 +22,7 @@ pub record Told (c : Config) (w : World) (n : NeverState) : Type 0 where
   pub all : Invariant c w n
 
 not_four : (n : ℕ) → (n ≡ 1) ⊎ (n ≡ 2) → n ≡ 4 → ⊥
-not_four n (inl e) f = absurd (omega arith)
-not_four n (inr e) f = absurd (omega arith)
+not_four n h f = grind arith
 
 -- a run's head shows the pages of its object
 run_pages : (o : Object) (x : Option Header) (d : ℕ) → ShowsPart o 0 x → d < run_count x

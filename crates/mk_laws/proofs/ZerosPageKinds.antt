@@ -1,7 +1,7 @@
 -- Steps on the pages: `head`, `used` and `quar`.
 use Rattle.mk_laws.proofs.Vocabulary.{Bool, Cell, Config, Drops, Empties, Flight, GivesBack, HasZeros, Header, HeadStep}
 use Rattle.mk_laws.proofs.Vocabulary.{IsFreedWord, IsReleasedWord, IsWithinLimits, IsWordOfMapped, ItCarves, ItDrops}
-use Rattle.mk_laws.proofs.Vocabulary.{ItEmpties, ItFrees, ItGivesBack, ItTakes, ItTakesSnapshot, ItUnmaps, Later, List}
+use Rattle.mk_laws.proofs.Vocabulary.{ItEmpties, ItFrees, ItGivesBack, ItTakes, ItTakesSnapshot, ItUnmaps, List}
 use Rattle.mk_laws.proofs.Vocabulary.{MayHold, None, OfFreedRun, OfMapped, OfReleased, Option, OthersAreZero, Page}
 use Rattle.mk_laws.proofs.Vocabulary.{PlacedAllocation, QuarantineStep, RunPages, Seat, ShowsPart, Some, Step, Storage}
 use Rattle.mk_laws.proofs.Vocabulary.{UsedStep, Words, World, ZeroScene, ℕ, address_of, all_below-at, and_from}
@@ -37,8 +37,7 @@ kept_word c old new is_gone n r here there used = grind (arith, here)
 
 -- a page with a cell is its own head
 own_head : (x : Option Header) (p k i : ℕ) → i < k + words_under x → k ≤ i → head_page_under x p ≡ p
-own_head (Some (Later distance mapped)) p k i lt le = absurd (omega arith)
-own_head _ p k i lt le = refl
+own_head x p k i lt le = grind arith
 
 -- `head` (d): a page whose head page has no used cell is free
 pub emptied_word : (c : Config) (w : World) (is_gone : Cell → Bool) (p v n : ℕ) → Empties w.now.words p v
@@ -46,7 +45,9 @@ pub emptied_word : (c : Config) (w : World) (is_gone : Cell → Bool) (p v n : �
     → IsReleasedWord c (slice_set w.now.words.pages p (record { header = v; used = used_at w.now.words p })) is_gone n
 emptied_word c w is_gone p v n h r =
     kept_word c w.now.words.pages (slice_set w.now.words.pages p (record { header = v; used = used_at w.now.words p }))
-    is_gone n r (same _ not_here) (same r.cell.page not_there)
+    is_gone n r (same _ (λ e.
+    unused (ap (head_page w.now.words) (sym e)
+    ∙ sym (pointed_head c.pages w.now.words (address_of n) r.cell r.pointed)))) (same r.cell.page not_there)
     (set_by (λ (x : Page). has_bit x.used r.cell.index ≡ true) w.now.words.pages p r.cell.page _ free_page
     (λ e. ap (λ q. has_bit (used_at w.now.words q) r.cell.index) (sym e) ∙ r.used) r.used)
   where
@@ -58,10 +59,6 @@ emptied_word c w is_gone p v n h r =
 
     unused : head_page w.now.words p ≡ r.cell.page → ⊥
     unused e = none_set _ r.cell.index (ap (used_at w.now.words) (sym e) ∙ h.unused) r.used
-
-    not_here : page_at_address (address_of n) ≢ p
-    not_here e = unused (ap (head_page w.now.words) (sym e)
-        ∙ sym (pointed_head c.pages w.now.words (address_of n) r.cell r.pointed))
 
     not_there : r.cell.page ≢ p
     not_there e = unused (ap (head_page w.now.words) (sym e) ∙ own_head _ r.cell.page _ n r.to r.from)
@@ -81,25 +78,25 @@ unwiped_word c w is_gone p v n h some r = kept_word c w.now.words.pages
     (same_headers w.now.words.pages p v _) (same_headers w.now.words.pages p v r.cell.page)
     (set_by (λ (x : Page). has_bit x.used r.cell.index ≡ true) w.now.words.pages p r.cell.page _ free_page still r.used)
   where
-    wiped : r.cell.page ≡ p → has_bit v r.cell.index ≡ false → ⊥
-    wiped e out =
-        let bit : has_bit (used_at w.now.words p) r.cell.index ≡ true =
-        ap (λ q. has_bit (used_at w.now.words q) r.cell.index) (sym e) ∙ r.used in
-        let gone = rest_bits v _ r.cell.index h.fewer bit out in
-        let zero = wiped_cell w.now.words p _ r.cell.index h.wiped r.small gone in
-        let cell : Cell = record { page = p; index = r.cell.index } in
-        let first : first_word w.now.words cell ≡ first_word_on w.now.words.pages r.cell =
-        ap (λ q. first_word w.now.words (record { page = q; index = r.cell.index })) (sym e) in
-        let words : cell_words w.now.words cell ≡ words_under (shows_on w.now.words.pages r.cell.page) =
-        ap (λ q. words_under (header_in w.now.words q)) (sym e) in
-        let from = r.from in
-        let to = r.to in
-        let at : first_word w.now.words cell + (n - first_word w.now.words cell) ≡ n = omega arith in
-        some (ap (slice_index w.now.words.heap) (sym at) ∙ eqb-true _ 0 (all_below-at _ _
-        (λ i. slice_index w.now.words.heap (first_word w.now.words cell + i) == 0) zero (omega arith)))
-
     still : r.cell.page ≡ p → has_bit v r.cell.index ≡ true
-    still e = elim (cases_Bool (has_bit v r.cell.index)) [ inl in_it ↦ in_it | inr out ↦ absurd (wiped e out) ]
+    still e = elim (cases_Bool (has_bit v r.cell.index)) [
+      | inl in_it ↦ in_it
+      | inr out ↦ absurd (
+          let bit : has_bit (used_at w.now.words p) r.cell.index ≡ true =
+          ap (λ q. has_bit (used_at w.now.words q) r.cell.index) (sym e) ∙ r.used in
+          let gone = rest_bits v _ r.cell.index h.fewer bit out in
+          let zero = wiped_cell w.now.words p _ r.cell.index h.wiped r.small gone in
+          let cell : Cell = record { page = p; index = r.cell.index } in
+          let first : first_word w.now.words cell ≡ first_word_on w.now.words.pages r.cell =
+          ap (λ q. first_word w.now.words (record { page = q; index = r.cell.index })) (sym e) in
+          let words : cell_words w.now.words cell ≡ words_under (shows_on w.now.words.pages r.cell.page) =
+          ap (λ q. words_under (header_in w.now.words q)) (sym e) in
+          let from = r.from in
+          let to = r.to in
+          let at : first_word w.now.words cell + (n - first_word w.now.words cell) ≡ n = omega arith in
+          some (ap (slice_index w.now.words.heap) (sym at) ∙ eqb-true _ 0 (all_below-at _ _
+          (λ i. slice_index w.now.words.heap (first_word w.now.words cell + i) == 0) zero (omega arith))))
+    ]
 
 -- `quar` (c): only cells that aren't used leave the snapshot
 pub dropped_word : (c : Config) (w : World) (p f v n : ℕ) → Drops w.now.words p f v
@@ -164,23 +161,6 @@ word_of_freed c w cell n limits m st in_cell = by (stands_in w.now.words cell a)
     changed stays = word_of_changed c (freed_where_it_stands w.now.words (Some cell)) w.allocations n
         (freed_leaves w.now.words (Some cell)) m stays
 
-    in_run : cell_of_allocation c a ≡ cell → is_small_object (object_placed c a) ≡ false
-        → IsFreedWord (run_of_cell w.now.words (Some cell)) n
-    in_run is large =
-        let page : a.base / 64 ≡ cell.page = ap (λ (x : Cell). x.page) is in
-        let part : ShowsPart (object_placed c a) 0 (header_in w.now.words cell.page) =
-        subst (λ p. ShowsPart (object_placed c a) 0 (header_in w.now.words p)) page
-        (first_page_shows c w.now.words a (typed_size c a limits st.stands.typed) st.headers) in
-        let first = (run_begins (object_placed c a) a.base large st.stands.begins).1 in
-        let words : storage_words c a ≡ 64 * pages_made (object_placed c a) = large_words (object_placed c a) large in
-        let from : a.base ≤ n = m.word.0 in
-        let to : n < a.base + storage_words c a = m.word.1 in
-        record {
-          run = record { page = cell.page; count = pages_made (object_placed c a) };
-          there = run_large (object_placed c a) (header_in w.now.words cell.page) cell.page part large;
-          word = and_from _ _ (le-leb cell.page (n / 64) (omega arith)) (lt-ltb (n / 64 - cell.page) _ (omega arith));
-        }
-
     by : (b : Bool) → stands_in w.now.words cell a ≡ b
         → IsWordOfMapped c (map (freed_where_it_stands w.now.words (Some cell)) w.allocations) n
         ⊎ IsFreedWord (run_of_cell w.now.words (Some cell)) n
@@ -188,7 +168,19 @@ word_of_freed c w cell n limits m st in_cell = by (stands_in w.now.words cell a)
     by true is = elim (cases_Bool (is_small_object (object_placed c a))) [
       | inl small ↦ inl (changed (ap (λ (s : Storage). s.mapped) (freed_storage c w.now.words (Some cell) a small)
           ∙ m.mapped))
-      | inr large ↦ inr (in_run (in_cell is) large)
+      | inr large ↦ inr (let page : a.base / 64 ≡ cell.page = ap (λ (x : Cell). x.page) (in_cell is) in
+          let part : ShowsPart (object_placed c a) 0 (header_in w.now.words cell.page) =
+          subst (λ p. ShowsPart (object_placed c a) 0 (header_in w.now.words p)) page
+          (first_page_shows c w.now.words a (typed_size c a limits st.stands.typed) st.headers) in
+          let first = (run_begins (object_placed c a) a.base large st.stands.begins).1 in
+          let words : storage_words c a ≡ 64 * pages_made (object_placed c a) = large_words (object_placed c a) large in
+          let from : a.base ≤ n = m.word.0 in
+          let to : n < a.base + storage_words c a = m.word.1 in
+          record {
+            run = record { page = cell.page; count = pages_made (object_placed c a) };
+            there = run_large (object_placed c a) (header_in w.now.words cell.page) cell.page part large;
+            word = and_from _ _ (le-leb cell.page (n / 64) (omega arith)) (lt-ltb (n / 64 - cell.page) _ (omega arith));
+          })
     ]
 
 -- `head` and `used`
@@ -231,8 +223,7 @@ quarantined releasing w p v cell =
     }
 
 first_there : (x y : Option RunPages) (n : ℕ) → IsFreedWord x n → IsFreedWord (or_else x y) n
-first_there None y n f = let e : None ≡ Some f.run = f.there in cc
-first_there (Some run) y n f = f
+first_there x y n f = grind arith
 
 quar_early : (c : Config) (w : World) (seat : Seat) (p v : ℕ) → Before c w seat (Step.Quar p v)
     → Meets c w.now seat (Step.Quar p v) → is_phase w.now.words 4 ≡ false → HasZeros c w

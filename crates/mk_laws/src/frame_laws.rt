@@ -5,6 +5,7 @@ ghost use Rattle.mk_core.specs.Frames.{AdmittedOthersLeave};
 ghost use Rattle.mk_core.specs.LongerLists.{LongerListsGoOn};
 
 /// What the events of other seats leave to a seat in a history, by what it is in the middle of.
+#[tactic(auto, using(crate::proofs::SeatFrames::admitted_others_leave))]
 pub fn others_leave_what_is_admitted()
     ensures { AdmittedOthersLeave }
 {}

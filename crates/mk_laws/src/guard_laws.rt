@@ -5,17 +5,20 @@ ghost use Rattle.mk_laws.specs.Kept.{CloseFindsMarksClosed, StoppedMarksAreClose
 ghost use Rattle.mk_laws.specs.Left.{OthersLeaveHeaders, OthersLeaveWells};
 
 /// One event keeps what stands while a cycle marks and stops, where the layout says what is asked of it.
+#[tactic(auto, using(crate::proofs::GuardHistories::events_keep_the_marks))]
 pub fn events_keep_the_marks()
     ensures { EventsKeepTheMarks }
 {}
 
 /// So it stands after every list along which the layout says so, as it does of the first world.
+#[tactic(auto, using(crate::proofs::GuardHistories::others_at_first, crate::proofs::GuardHistories::marks_stand_behind_lists))]
 pub fn marks_stand_behind_lists()
     ensures at_first { GuardPremisesAtFirst }
     ensures along { MarksStandBehindLists }
 {}
 
 /// Then words of black cells are guarded while a cycle marks; a `close` finds the marks closed, and they stay so.
+#[tactic(auto, using(crate::proofs::GuardHistories::close_finds_marks_closed, crate::proofs::GuardHistories::stopped_marks_are_closed))]
 pub fn marks_are_closed()
     ensures guarded { MarkingGuards }
     ensures at_close { CloseFindsMarksClosed }
@@ -23,6 +26,7 @@ pub fn marks_are_closed()
 {}
 
 /// Others take no header back from a marker that attends; and what points well still does, also for the holder.
+#[tactic(auto, using(crate::proofs::OthersLeave::others_leave_headers, crate::proofs::OthersLeave::others_leave_wells))]
 pub fn others_leave_what_points_well()
     ensures headers { OthersLeaveHeaders }
     ensures wells { OthersLeaveWells }

@@ -16,27 +16,32 @@ pub fn histories_keep_the_invariant()
 {}
 
 /// The heap refines the one that never reuses storage: all answers are the images of its replies.
+#[tactic(auto, using(crate::proofs::InvariantTheorems::histories_refine_never))]
 pub fn answers_refine_never()
     ensures { OfHistories RefinesNever }
 {}
 
 /// What a program can get to isn't released.
+#[tactic(auto, using(crate::proofs::InvariantTheorems::reach_is_kept))]
 pub fn reach_is_kept()
     ensures { OfHistories KeepsTheReach }
 {}
 
 /// No ABA: a compare and exchange compares values, though storage is used again.
+#[tactic(auto, using(crate::proofs::InvariantTheorems::exchanges_compare))]
 pub fn exchanges_compare_values()
     ensures { OfHistories ExchangesCompareValues }
 {}
 
 /// Unreleased allocations stand on the heap, and no two have a word in common.
+#[tactic(auto, using(crate::proofs::InvariantTheorems::allocations_stand))]
 pub fn allocations_stand_apart()
     ensures stand { OfHistories AllocationsStand }
     ensures disjoint { OfHistories AllocationsAreDisjoint }
 {}
 
 /// Where nothing is on its way, the pages show the unreleased storage, and first fit over them finds the place.
+#[tactic(auto, using(crate::proofs::InvariantTheorems::pages_show_the_storage, crate::proofs::InvariantTheorems::first_fit_finds_the_place))]
 pub fn pages_show_the_storage()
     ensures shown { OfHistories PagesShowTheStorage }
     ensures first_fit { OfHistories FirstFitFindsThePlace }
@@ -48,18 +53,21 @@ pub fn black_cells_are_guarded()
 {}
 
 /// Each `close` finds the marks closed, and they stay so up to the `release`.
+#[tactic(auto, using(crate::proofs::InvariantTheorems::closes_find_marks_closed, crate::proofs::InvariantTheorems::marks_stay_closed))]
 pub fn marks_are_closed()
     ensures at_close { OfHistories ClosesFindMarksClosed }
     ensures stopped { OfHistories MarksStayClosed }
 {}
 
 /// Each page has a header word, and at most as many pages are resident as the configuration allows.
+#[tactic(auto, using(crate::proofs::Quarantines::pages_have_header_words, crate::proofs::Quarantines::few_pages_are_resident))]
 pub fn pages_are_in_order()
     ensures words { OfHistories PagesHaveHeaderWords }
     ensures few { OfHistories FewPagesAreResident }
 {}
 
 /// Up to a cycle's `end` the snapshot bits are those of the allocations that were freed before its `begin`.
+#[tactic(auto, using(crate::proofs::Quarantines::snapshot_is_the_cycles))]
 pub fn snapshots_are_of_cycles()
     ensures { OfHistories SnapshotIsTheCycles }
 {}

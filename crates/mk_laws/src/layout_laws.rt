@@ -7,6 +7,7 @@ ghost use Rattle.mk_laws.specs.Snapshots.{SnapshotsAreOfCycles};
 
 /// Whatever the event, what stands on the pages stays laid out, and the quarantine in order, where the other
 /// groups say what it asks.
+#[tactic(auto, using(crate::proofs::LayoutHistories::events_keep_the_layout))]
 pub fn events_keep_the_layout()
     ensures { EventsKeepTheLayout }
 {}
@@ -17,28 +18,33 @@ pub fn histories_are_laid_out()
 {}
 
 /// Each page then has a header word, and at most as many pages are resident as may be.
+#[tactic(auto, using(crate::proofs::LayoutHistories::pages_have_header_words, crate::proofs::LayoutHistories::few_pages_are_resident))]
 pub fn pages_are_in_order()
     ensures words { LayoutHasHeaderWords }
     ensures few { LayoutHasFewResidentPages }
 {}
 
 /// The snapshot's bits are those of the allocations that were freed before the cycle's `begin`.
+#[tactic(auto, using(crate::proofs::CycleSnapshots::snapshots_are_of_cycles))]
 pub fn snapshots_are_of_cycles()
     ensures { SnapshotsAreOfCycles }
 {}
 
 /// In a laid out world each unreleased allocation stands on the heap, in a cell of its own.
+#[tactic(auto, using(crate::proofs::Settled::unreleased_stand, crate::proofs::Settled::unreleased_are_apart))]
 pub fn unreleased_allocations_stand()
     ensures stand { UnreleasedStand }
     ensures apart { UnreleasedAreApart }
 {}
 
 /// While nothing is on its way, the headers and used bits are those of the unreleased storage.
+#[tactic(auto, using(crate::proofs::Settled::headers_stand))]
 pub fn headers_stand()
     ensures { HeadersStand }
 {}
 
 /// And first fit over the words finds the place among the allocations.
+#[tactic(auto, using(crate::proofs::Settled::first_fit_is_the_place))]
 pub fn first_fit_is_the_place()
     ensures { FirstFitIsThePlace }
 {}

@@ -7,17 +7,20 @@ ghost use Rattle.mk_laws.specs.Theorems.{OfHistories};
 ghost use Rattle.mk_laws.specs.ExactTallies.{TalliesAreExactAtGives};
 
 /// Each object is granted at its place by first fit, before the call's first step that serves it.
+#[tactic(auto, using(crate::proofs::PlacementTheorems::grants_stand_at_their_places))]
 pub fn grants_stand_at_their_places()
     ensures { OfHistories GrantsStandAtTheirPlaces }
 {}
 
 /// Where a New is full nothing fits, and a cycle was begun and ended in its call.
+#[tactic(auto, using(crate::proofs::PlacementTheorems::fulls_fit_nowhere))]
 pub fn fulls_fit_nowhere()
     ensures { OfHistories FullsFitNowhere }
 {}
 
 /// Before each `give`, and where nobody holds the turn, the tallies of held and fresh words are those of the
 /// allocations; the other tallies are right where nobody holds the turn, if they were so before each `give`.
+#[tactic(auto, using(crate::proofs::Tallies::tallies_are_exact_at_gives, crate::proofs::Tallies::tallies_tell))]
 pub fn tallies_are_exact()
     ensures at_gives { OfHistories TalliesAreExactAtGives }
     ensures told { OfHistories TalliesTell }

@@ -12,6 +12,7 @@ pub fn lists_keep_the_protocol()
 {}
 
 /// What a look at the turn, at a gate and at the phase says.
+#[tactic(auto, using(crate::proofs::ProtocolReadings::words_tell))]
 pub fn words_tell_who_holds_what()
     ensures told { WordsTell }
 {}
@@ -22,6 +23,7 @@ pub fn others_leave_a_seat_its_own()
 {}
 
 /// An event reaches a word of the table, and the same one in the same way whatever other seats do before it.
+#[tactic(auto, using(crate::proofs::Reaching::events_reach_the_table, crate::proofs::Reaching::others_leave_accesses))]
 pub fn events_reach_words_of_the_table()
     ensures of_the_table { EventsReachTheTable }
     ensures the_same { OthersLeaveAccesses }

@@ -13,17 +13,20 @@ ghost use Rattle.mk_laws.specs.UnmappedRuns.{UnmappedRunsTakeNoMemory};
 ghost use Rattle.mk_laws.specs.UnsetWords.{RegistersOfNoCallerAreZero, UnsetGlobalsAreZero};
 
 /// What a look at a header word and at the freed bits of a quarantine word says.
+#[tactic(auto, using(crate::proofs::ReadingsStands::headers_and_quarantine_tell))]
 pub fn words_tell_what_stands()
     ensures { OfHistories HeadersAndQuarantineTell }
 {}
 
 /// From a `begin` up to its `release` the snapshot bits are those of the allocations that were in quarantine then.
+#[tactic(auto, using(crate::proofs::Snapshots::snapshots_tell))]
 pub fn snapshots_tell()
     ensures { OfHistories SnapshotsTell }
 {}
 
 /// A `release` releases the allocations of its cycle's snapshot whose cells have no mark, and none that is reached;
 /// no other event releases any.
+#[tactic(auto, using(crate::proofs::Releases::releases_are_exact, crate::proofs::Releases::releases_none_reached, crate::proofs::Releases::no_others_release))]
 pub fn releases_are_exact()
     ensures exact { OfHistories ReleasesAreExact }
     ensures none_reached { OfHistories ReleasesNoneReached }
@@ -33,6 +36,7 @@ pub fn releases_are_exact()
 
 /// While the phase isn't releasing, words are 0 in cells without an allocation, after the cells of a page, and on
 /// free pages.
+#[tactic(auto, using(crate::proofs::FreeWords::words_of_none_are_zero, crate::proofs::FreeWords::unmapped_words_are_zero, crate::proofs::FreeCells::free_cells_are_zero, crate::proofs::FreeCells::words_behind_cells_are_zero))]
 pub fn free_cells_are_zero()
     ensures of_none { OfHistories (Leaves WordsOfNoneAreZero) }
     ensures unmapped { OfHistories (Leaves UnmappedWordsAreZero) }
@@ -42,12 +46,14 @@ pub fn free_cells_are_zero()
 
 /// A page without a header has its used word, its quarantine word and its dirty word 0: on each dirty page an
 /// unreleased allocation stands.
+#[tactic(auto, using(crate::proofs::FreePages::free_pages_have_nothing, crate::proofs::FreePages::dirty_pages_have_allocations))]
 pub fn free_pages_have_nothing()
     ensures free { OfHistories (Leaves FreePagesHaveNothing) }
     ensures dirty { OfHistories (Leaves DirtyPagesHaveAllocations) }
 {}
 
 /// Registers of callers that the configuration doesn't have hold 0, and so do globals that no `setg` stored to.
+#[tactic(auto, using(crate::proofs::UnsetWords::registers_of_no_caller_are_zero, crate::proofs::UnsetWords::unset_globals_are_zero))]
 pub fn unset_words_are_zero()
     ensures registers { OfHistories (Leaves RegistersOfNoCallerAreZero) }
     ensures globals { OfHistories UnsetGlobalsAreZero }
@@ -55,6 +61,7 @@ pub fn unset_words_are_zero()
 
 /// The pages of a freed large allocation aren't resident from its last `head` on, until they are made a block or a
 /// run again.
+#[tactic(auto, using(crate::proofs::UnmappedRuns::unmapped_runs_take_no_memory))]
 pub fn unmapped_runs_take_no_memory()
     ensures { OfHistories UnmappedRunsTakeNoMemory }
 {}

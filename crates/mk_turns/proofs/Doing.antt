@@ -1,7 +1,7 @@
 -- What is done in parts, and by one step.
 use Rattle.std.proofs.Common.{Bool, List, ap, append-nil, append_assoc, false, if◌then◌else◌, refl, subst, sym, true}
-use Rattle.std.proofs.Common.{[], ◌&&◌, ◌++◌, ◌∙◌, ◌∷◌, ◌≡◌}
-use Rattle.std.proofs.{lemmas.Bool.false_from_ne_true, lemmas.List.Folds.list_all-append}
+use Rattle.std.proofs.Common.{[], ◌++◌, ◌∙◌, ◌∷◌, ◌≡◌}
+use Rattle.std.proofs.{lemmas.Bool.and_from, lemmas.Bool.false_from_ne_true, lemmas.List.Folds.list_all-append}
 use Rattle.mk_core.proofs.HistoryParts.{left_in_parts}
 use Rattle.mk_core.specs.Growing.{AreOfOthers, Finding, is_one_of, is_same_seat, own_from}
 use Rattle.mk_core.specs.History.{World, left, left_from, world_behind}
@@ -22,25 +22,17 @@ pub own_in_parts : (c : Config) (s : Seat) (w : World) (xs ys : List Event)
 unfolding own_from left_from
 own_in_parts c s w [] ys = refl
 own_in_parts c s w (e ∷ es) ys =
-    let first : Finding = record { event = e; found = found c w.now e } in
-    let on : World = world_behind c w e in
-    ap (λ (zs : List Finding). if is_same_seat s e.seat then first ∷ zs else zs) (own_in_parts c s on es ys)
-    ∙ sym (chosen_first (is_same_seat s e.seat) first (own_from c s on es) (own_from c s (left_from c on es) ys))
+    rw (own_in_parts c s (world_behind c w e) es ys) (sym (chosen_first (is_same_seat s e.seat) _ _ _))
 
 pub done_in_parts : (p : PassState) (xs ys : List Event)
     → done_in p (xs ++ ys) ≡ done_in p xs ++ done_in (record p { seen = p.seen ++ xs }) ys
 done_in_parts p xs ys =
-    own_in_parts p.table.config p.seat (left p.table.config p.seen) xs ys
-    ∙ ap (λ (w : World). done_in p xs ++ own_from p.table.config p.seat w ys)
-    (sym (left_in_parts p.table.config p.seen xs))
-
-both_true : (a b : Bool) → a ≡ true → b ≡ true → (a && b) ≡ true
-both_true a b one two = ap (λ (x : Bool). x && b) one ∙ two
+    own_in_parts p.table.config p.seat _ xs ys ∙ rw (left_in_parts p.table.config p.seen xs)
 
 pub of_kinds_in_parts : (kinds : Step → Bool) (xs ys : List Finding)
     → are_of kinds xs ≡ true → are_of kinds ys ≡ true → are_of kinds (xs ++ ys) ≡ true
 of_kinds_in_parts kinds xs ys one two =
-    list_all-append (λ (x : Finding). kinds x.event.step) xs ys ∙ both_true (are_of kinds xs) (are_of kinds ys) one two
+    list_all-append (λ (x : Finding). kinds x.event.step) xs ys ∙ and_from _ _ one two
 
 pub own_or_others_in_parts : (s : Seat) (seats : List Seat) (xs ys : List Event)
     → AreOwnOrOfOthers s seats xs → AreOwnOrOfOthers s seats ys → AreOwnOrOfOthers s seats (xs ++ ys)
@@ -50,30 +42,17 @@ own_or_others_in_parts s seats (e ∷ es) ys one two = (one.0, own_or_others_in_
 
 pub does_nothing : NothingIsDone
 unfolding AreOwnOrOfOthers own_from
-does_nothing kinds p =
-    record {
-      more = [];
-      is = sym (ap (λ (es : List Event). record p { seen = es }) (append-nil p.seen));
-      own_or_others = tt;
-      of_kinds = refl;
-    }
-
-then_at : (kinds : Step → Bool) (p : PassState) (xs : List Event) → AreOwnOrOfOthers p.seat p.seats xs
-    → are_of kinds (done_in p xs) ≡ true → (r : PassState) → Does kinds (record p { seen = p.seen ++ xs }) r
-    → Does kinds p r
-then_at kinds p xs own ok r d =
-    record {
-      more = xs ++ d.more;
-      is = d.is ∙ ap (λ (es : List Event). record p { seen = es }) (append_assoc p.seen xs d.more);
-      own_or_others = own_or_others_in_parts p.seat p.seats xs d.more own d.own_or_others;
-      of_kinds =
-          ap (λ (zs : List Finding). are_of kinds zs) (done_in_parts p xs d.more)
-          ∙ of_kinds_in_parts kinds (done_in p xs) (done_in (record p { seen = p.seen ++ xs }) d.more) ok d.of_kinds;
-    }
+does_nothing kinds p = record { more = []; is = rw (append-nil p.seen); own_or_others = tt; of_kinds = refl }
 
 pub does_then : DoneInTurn
 does_then kinds p q r d e =
-    then_at kinds p d.more d.own_or_others d.of_kinds r (subst (λ (x : PassState). Does kinds x r) d.is e)
+    let f = subst (λ (x : PassState). Does kinds x r) d.is e in
+    record {
+      more = d.more ++ f.more;
+      is = f.is ∙ ap (λ (es : List Event). record p { seen = es }) (append_assoc p.seen d.more f.more);
+      own_or_others = own_or_others_in_parts p.seat p.seats d.more f.more d.own_or_others f.own_or_others;
+      of_kinds = rw (done_in_parts p d.more f.more) (of_kinds_in_parts kinds (done_in p d.more) _ d.of_kinds f.of_kinds);
+    }
 
 pub not_own : (seats : List Seat) (s t : Seat) → Has seats s → is_one_of seats t ≡ false → is_same_seat s t ≡ false
 not_own seats s t has out =
@@ -87,10 +66,7 @@ pub none_own : (c : Config) (seats : List Seat) (s : Seat) (w : World) (xs : Lis
 unfolding own_from AreOfOthers
 none_own c seats s w [] has others = refl
 none_own c seats s w (e ∷ es) has others =
-    let first : Finding = record { event = e; found = found c w.now e } in
-    let rest = own_from c s (world_behind c w e) es in
-    ap (λ (b : Bool). if b then first ∷ rest else rest) (not_own seats s e.seat has others.0)
-    ∙ none_own c seats s (world_behind c w e) es has others.1
+    rw (not_own seats s e.seat has others.0) (none_own c seats s (world_behind c w e) es has others.1)
 
 pub others_are_so : (seats : List Seat) (s : Seat) (xs : List Event) → Has seats s → AreOfOthers seats xs
     → AreOwnOrOfOthers s seats xs
@@ -103,8 +79,7 @@ others_are_so seats s (e ∷ es) has others =
 one_own : (c : Config) (s : Seat) (w : World) (e : Event) → is_same_seat s e.seat ≡ true
     → own_from c s w (e ∷ []) ≡ record { event = e; found = found c w.now e } ∷ []
 unfolding own_from
-one_own c s w e same =
-    ap (λ (b : Bool). if b then record { event = e; found = found c w.now e } ∷ [] else []) same
+one_own c s w e same = cc
 
 itself : (s : Seat) (seats : List Seat) (e : Event) → e.seat ≡ s → Has seats s → AreOwnOrOfOthers s seats (e ∷ [])
 unfolding AreOwnOrOfOthers
@@ -115,19 +90,13 @@ pub does_step : StepsAreDone
 does_step kinds p q s made allowed =
     let has = own_before made in
     let e : Event = event_of p s in
-    let v : PassState = record p { seen = p.seen ++ made.others } in
-    let w : World = left p.table.config v.seen in
+    let c : Config = p.table.config in
     record {
       more = made.others ++ e ∷ [];
       is = made.is ∙ ap (λ (es : List Event). record p { seen = es }) (append_assoc p.seen made.others (e ∷ []));
-      own_or_others =
-          own_or_others_in_parts p.seat p.seats made.others (e ∷ [])
+      own_or_others = own_or_others_in_parts p.seat p.seats made.others (e ∷ [])
           (others_are_so p.seats p.seat made.others has made.of_others) (itself p.seat p.seats e refl has);
-      of_kinds =
-          ap (λ (zs : List Finding). are_of kinds zs) (
-          done_in_parts p made.others (e ∷ [])
-          ∙ ap (λ (zs : List Finding). zs ++ done_in v (e ∷ []))
-          (none_own p.table.config p.seats p.seat (left p.table.config p.seen) made.others has made.of_others)
-          ∙ one_own p.table.config p.seat w e (same_self p.seat))
-          ∙ ap (λ (b : Bool). b && true) allowed;
+      of_kinds = rw (done_in_parts p made.others (e ∷ []))
+          (rw (none_own c p.seats p.seat (left c p.seen) made.others has made.of_others)
+          (rw (one_own c p.seat (left c (p.seen ++ made.others)) e (same_self p.seat)) (rw allowed)));
     }

@@ -1,9 +1,8 @@
 -- What a look finds, and what a value points into by the header that is found.
-use Rattle.std.proofs.Common.{Bool, List, None, ℕ, ap, false, if◌then◌else◌, inl, inr, option_and_then, refl}
-use Rattle.std.proofs.Common.{slice_index_or, subst, sym, ◌++◌, ◌∙◌, ◌≡◌}
+use Rattle.std.proofs.Common.{List, None, ℕ, ap, false, inl, inr, refl, subst, sym, ◌++◌, ◌∙◌, ◌≡◌}
 use Rattle.std.proofs.lemmas.Bool.{cases_Bool}
-use Rattle.mk_geom.specs.Addresses.{cell_at, cell_under, is_heap_address, page_at_address, word_at_address}
-use Rattle.mk_geom.specs.{Headers.header_of, Storages.free_page, declared.pages.Page.Page}
+use Rattle.mk_geom.specs.Addresses.{cell_at, is_heap_address, page_at_address}
+use Rattle.mk_geom.specs.declared.pages.Page.{Page}
 use Rattle.mk_core.proofs.Histories.{left_more}
 use Rattle.mk_core.specs.Words.{Words, header_at, named_word}
 use Rattle.mk_core.specs.{Cells.pointed_cell, History.World, History.first_world, declared.events.Step.Step}
@@ -30,9 +29,7 @@ header_hand p q page a =
 pub outside_none : (pages : ℕ) (ps : List Page) (u : ℕ) → is_heap_address pages u ≡ false
     → pointed_cell pages ps u ≡ None
 unfolding pointed_cell
-outside_none pages ps u out = ap (λ (b : Bool). if b then option_and_then
-    (λ h. cell_under h (page_at_address u) (word_at_address u))
-    (header_of (slice_index_or ps (page_at_address u) free_page).header) else None) out
+outside_none pages ps u out = cc
 
 -- A lookup by the header that is there finds the cell.
 pub found_by_header : (pages : ℕ) (w : Words) (u : ℕ)

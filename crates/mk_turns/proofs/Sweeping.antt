@@ -71,50 +71,40 @@ nothing_sweeps p = record { more = []; is = sym (append-nil p.seen); none = tt }
 pub sweeps_then : NothingIsSweptInTurn
 sweeps_then p q r same one two =
     let c : Config = p.table.config in
-    let from : World = left_from c (left c p.seen) one.more in
-    let there : world_of q ≡ from =
-    ap (λ (x : PassState). left x.table.config q.seen) same ∙ ap (λ (l : List Event). left c l) one.is
-    ∙ left_in_parts c p.seen one.more in
-    let rest : SweepsNothingFrom c p.seat from two.more =
-    subst (λ (w : World). SweepsNothingFrom c p.seat w two.more) there
-    (subst (λ (x : PassState). SweepsNothingFrom x.table.config x.seat (world_of q) two.more) same two.none) in
+    let there : world_of q ≡ left_from c (left c p.seen) one.more = rw same (rw one.is (left_in_parts c p.seen one.more))
+    in
     record {
       more = one.more ++ two.more;
-      is = two.is ∙ ap (λ (l : List Event). l ++ two.more) one.is ∙ append_assoc p.seen one.more two.more;
-      none = sweeps_append c p.seat (world_of p) one.more two.more one.none rest;
+      is = two.is ∙ rw one.is (append_assoc p.seen one.more two.more);
+      none = sweeps_append c p.seat (world_of p) one.more two.more one.none (subst
+          (λ (w : World). SweepsNothingFrom c p.seat w two.more) there
+          (subst (λ (x : PassState). SweepsNothingFrom x.table.config x.seat (world_of q) two.more) same two.none));
     }
 
 pub does_sweep : OtherKindsSweepNothing
-does_sweep kinds p q apart d =
-    record {
-      more = d.more;
-      is = ap (λ (x : PassState). x.seen) d.is;
-      none = kinds_sweep kinds p.table.config p.seat (world_of p) d.more apart d.of_kinds;
-    }
+does_sweep kinds p q apart d = record {
+  more = d.more;
+  is = ap (λ (x : PassState). x.seen) d.is;
+  none = kinds_sweep kinds p.table.config p.seat (world_of p) d.more apart d.of_kinds;
+}
 
 pub step_sweeps : StepsMaySweepNothing
-step_sweeps p q s m none =
-    let c : Config = p.table.config in
-    let w : World = left c (p.seen ++ m.others) in
-    let from : World = left_from c (left c p.seen) m.others in
-    let last = one_sweeps c p.seat w (event_of p s) (λ same. none) in
-    record {
-      more = m.others ++ event_of p s ∷ [];
-      is = ap (λ (x : PassState). x.seen) m.is ∙ append_assoc p.seen m.others (event_of p s ∷ []);
-      none = sweeps_append c p.seat (world_of p) m.others (event_of p s ∷ [])
-          (others_sweep c p.seat p.seats (world_of p) m.others (own_before m) m.of_others)
-          (subst (λ (v : World). SweepsNothingFrom c p.seat v (event_of p s ∷ [])) (left_in_parts c p.seen m.others)
-          last);
-    }
+step_sweeps p q s m none = record {
+  more = m.others ++ event_of p s ∷ [];
+  is = ap (λ (x : PassState). x.seen) m.is ∙ append_assoc p.seen m.others (event_of p s ∷ []);
+  none = sweeps_append p.table.config p.seat (world_of p) m.others (event_of p s ∷ [])
+      (others_sweep p.table.config p.seat p.seats (world_of p) m.others (own_before m) m.of_others)
+      (rw (← (left_in_parts p.table.config p.seen m.others))
+      (one_sweeps p.table.config p.seat (left p.table.config (p.seen ++ m.others)) (event_of p s) (λ same. none)));
+}
 
 -- Only its list has grown.
 pub only_seen : (p q : PassState) (more : List Event) → q ≡ record p { seen = p.seen ++ more }
     → q ≡ record p { seen = q.seen }
-only_seen p q more is = is ∙ ap (λ (l : List Event). record p { seen = l }) (sym (ap (λ (x : PassState). x.seen) is))
+only_seen p q more is = cc
 
 pub only_seen_by : (p q : PassState) (s : Step) → Makes p s q → q ≡ record p { seen = q.seen }
-only_seen_by p q s m =
-    m.is ∙ ap (λ (l : List Event). record p { seen = l }) (sym (ap (λ (x : PassState). x.seen) m.is))
+only_seen_by p q s m = cc
 
 -- a step that isn't a mark, before others
 pub other_step_sweeps : (p q : PassState) (s : Step) → Makes p s q → is_mark s ≡ false

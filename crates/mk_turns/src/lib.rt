@@ -13,6 +13,7 @@ mod pointing;
 pub use pointing::cell_pointed;
 
 /// Nothing done is allowed, what is done one after the other adds up, and a step of an allowed kind is done.
+#[tactic(auto, using(crate::proofs::Doing::does_nothing, crate::proofs::Doing::does_then))]
 pub fn what_is_done_adds_up()
     ensures nothing { NothingIsDone }
     ensures in_turn { DoneInTurn }
@@ -21,6 +22,7 @@ pub fn what_is_done_adds_up()
 
 /// Where nothing is done nothing is swept, nor where nothing is swept by one part and then by the other, by steps that
 /// aren't marks, or by a step that is no sweeping mark.
+#[tactic(auto, using(crate::proofs::Sweeping::nothing_sweeps, crate::proofs::Sweeping::sweeps_then, crate::proofs::Sweeping::step_sweeps))]
 pub fn what_sweeps_nothing_adds_up()
     ensures nothing { NothingSweepsNothing }
     ensures in_turn { NothingIsSweptInTurn }
