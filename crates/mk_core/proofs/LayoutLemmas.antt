@@ -1,45 +1,43 @@
 -- Each word of the table has an index of its own, and words of two line groups stand eight words apart.
-use Rattle.std.proofs.Common.{◌≡◌, ◌⊎◌, inl, inr, ℕ, ◌+◌, ◌*◌, ◌<◌, ◌≤◌, refl, sym, ◌∙◌, ap, arith}
-use Rattle.std.proofs.lemmas.Bool.{cases_order}
-use Rattle.std.specs.Prelude.{⊤}
-use Rattle.mk_core.proofs.Vocabulary.{Named, TableWord, Turn, Word}
-use Rattle.mk_core.specs.declared.events.Word.TheVariants as word
-use Rattle.mk_core.specs.Layout.{index_of_named, index_of, count_of_words, NamesWord, IsOfTable, LineGroup, OfPhase}
-use Rattle.mk_core.specs.Layout.{OfTurn, OfTallies, OfGlobals, OfHeaders, OfPage, OfGate, OfRegisters}
-use Rattle.mk_core.specs.Layout.{line_group_of_named, line_group, LineGroupsAreApart}
+use Rattle.std.{proofs.lemmas.Bool.cases_order, specs.Prelude.⊤}
+use Rattle.mk_core.proofs.Vocabulary.{Named, TableWord, Turn, Word, ℕ, ap, arith, inl, inr, refl, sym, ◌*◌, ◌+◌, ◌<◌}
+use Rattle.mk_core.proofs.Vocabulary.{◌∙◌, ◌≡◌, ◌≤◌, ◌⊎◌}
+use Rattle.mk_core.specs.Layout.{IsOfTable, LineGroup, LineGroupsAreApart, NamesWord, OfGate, OfGlobals, OfHeaders}
+use Rattle.mk_core.specs.Layout.{OfPage, OfPhase, OfRegisters, OfTallies, OfTurn, count_of_words, index_of}
+use Rattle.mk_core.specs.Layout.{index_of_named, line_group, line_group_of_named}
 
-same_register : (c r d s : ℕ) → r < 8 → s < 8 → 304 + 16 * c + r ≡ 304 + 16 * d + s → word.Reg c r ≡ word.Reg d s
+same_register : (c r d s : ℕ) → r < 8 → s < 8 → 304 + 16 * c + r ≡ 304 + 16 * d + s → Word.Reg c r ≡ Word.Reg d s
 same_register c r d s lr ls e =
     let same_caller : c ≡ d = omega arith in
     let same_place : r ≡ s = omega arith in
-    ap (λ n. word.Reg n r) same_caller ∙ ap (λ n. word.Reg d n) same_place
+    ap (λ n. Word.Reg n r) same_caller ∙ ap (λ n. Word.Reg d n) same_place
 
 named_apart : (pages : ℕ) (x y : Word) → NamesWord pages x → NamesWord pages y
     → index_of_named pages x ≡ index_of_named pages y → x ≡ y
-named_apart pages word.Phase word.Phase hx hy e = refl
-named_apart pages word.Held word.Held hx hy e = refl
-named_apart pages word.Fresh word.Fresh hx hy e = refl
-named_apart pages word.Cycles word.Cycles hx hy e = refl
-named_apart pages word.Released word.Released hx hy e = refl
-named_apart pages word.Full word.Full hx hy e = refl
-named_apart pages (word.Gate i) (word.Gate j) hx hy e = ap (λ n. word.Gate n) (omega arith)
-named_apart pages (word.Reg c r) (word.Reg d s) hx hy e = same_register c r d s hx.1 hy.1 e
-named_apart pages (word.Reg c r) y hx hy e = let lc = hx.0 in let lr = hx.1 in absurd (omega arith)
-named_apart pages x (word.Reg c r) hx hy e = let lc = hy.0 in let lr = hy.1 in absurd (omega arith)
-named_apart pages (word.Global i) (word.Global j) hx hy e = ap (λ n. word.Global n) (omega arith)
-named_apart pages (word.Head i) (word.Head j) hx hy e = ap (λ n. word.Head n) (omega arith)
-named_apart pages (word.Used i) (word.Used j) hx hy e = ap (λ n. word.Used n) (omega arith)
-named_apart pages (word.Quar i) (word.Quar j) hx hy e = ap (λ n. word.Quar n) (omega arith)
-named_apart pages (word.Mark i) (word.Mark j) hx hy e = ap (λ n. word.Mark n) (omega arith)
-named_apart pages (word.Black i) (word.Black j) hx hy e = ap (λ n. word.Black n) (omega arith)
-named_apart pages (word.Dirty i) (word.Dirty j) hx hy e = ap (λ n. word.Dirty n) (omega arith)
-named_apart pages (word.Heap i) (word.Heap j) hx hy e = ap (λ n. word.Heap n) (omega arith)
-named_apart pages (word.Heap i) (word.Dirty j) hx hy e = absurd (omega arith)
-named_apart pages (word.Dirty i) (word.Heap j) hx hy e = absurd (omega arith)
+named_apart pages Word.Phase Word.Phase hx hy e = refl
+named_apart pages Word.Held Word.Held hx hy e = refl
+named_apart pages Word.Fresh Word.Fresh hx hy e = refl
+named_apart pages Word.Cycles Word.Cycles hx hy e = refl
+named_apart pages Word.Released Word.Released hx hy e = refl
+named_apart pages Word.Full Word.Full hx hy e = refl
+named_apart pages (Word.Gate i) (Word.Gate j) hx hy e = ap (λ n. Word.Gate n) (omega arith)
+named_apart pages (Word.Reg c r) (Word.Reg d s) hx hy e = same_register c r d s hx.1 hy.1 e
+named_apart pages (Word.Reg c r) y hx hy e = let lc = hx.0 in let lr = hx.1 in absurd (omega arith)
+named_apart pages x (Word.Reg c r) hx hy e = let lc = hy.0 in let lr = hy.1 in absurd (omega arith)
+named_apart pages (Word.Global i) (Word.Global j) hx hy e = ap (λ n. Word.Global n) (omega arith)
+named_apart pages (Word.Head i) (Word.Head j) hx hy e = ap (λ n. Word.Head n) (omega arith)
+named_apart pages (Word.Used i) (Word.Used j) hx hy e = ap (λ n. Word.Used n) (omega arith)
+named_apart pages (Word.Quar i) (Word.Quar j) hx hy e = ap (λ n. Word.Quar n) (omega arith)
+named_apart pages (Word.Mark i) (Word.Mark j) hx hy e = ap (λ n. Word.Mark n) (omega arith)
+named_apart pages (Word.Black i) (Word.Black j) hx hy e = ap (λ n. Word.Black n) (omega arith)
+named_apart pages (Word.Dirty i) (Word.Dirty j) hx hy e = ap (λ n. Word.Dirty n) (omega arith)
+named_apart pages (Word.Heap i) (Word.Heap j) hx hy e = ap (λ n. Word.Heap n) (omega arith)
+named_apart pages (Word.Heap i) (Word.Dirty j) hx hy e = absurd (omega arith)
+named_apart pages (Word.Dirty i) (Word.Heap j) hx hy e = absurd (omega arith)
 named_apart pages x y hx hy e = absurd (omega arith)
 
 not_turn : (pages : ℕ) (x : Word) → NamesWord pages x → index_of_named pages x ≡ 16 → ⊥
-not_turn pages (word.Reg c r) h e = omega arith
+not_turn pages (Word.Reg c r) h e = omega arith
 not_turn pages x h e = omega arith
 
 pub names_apart : (pages : ℕ) (x y : TableWord) → IsOfTable pages x → IsOfTable pages y
@@ -50,7 +48,7 @@ names_apart pages (Named x) Turn hx hy e = absurd (not_turn pages x hx e)
 names_apart pages (Named x) (Named y) hx hy e = ap (λ n. Named n) (named_apart pages x y hx hy e)
 
 named_within : (pages : ℕ) (x : Word) → NamesWord pages x → index_of_named pages x < count_of_words pages
-named_within pages (word.Reg c r) h = let lc = h.0 in let lr = h.1 in omega arith
+named_within pages (Word.Reg c r) h = let lc = h.0 in let lr = h.1 in omega arith
 named_within pages x h = omega arith
 
 pub indexes_within : (pages : ℕ) (x : TableWord) → IsOfTable pages x → index_of pages x < count_of_words pages
@@ -124,8 +122,8 @@ record StandsIn (pages : ℕ) (group : LineGroup) (place : ℕ) : Type 0 where
 
 named_stands_in : (pages : ℕ) (x : Word) → NamesWord pages x
     → StandsIn pages (line_group_of_named x) (index_of_named pages x)
-named_stands_in pages (word.Gate caller) h = record { within = h; first = omega arith; last = omega arith }
-named_stands_in pages (word.Reg c r) h =
+named_stands_in pages (Word.Gate caller) h = record { within = h; first = omega arith; last = omega arith }
+named_stands_in pages (Word.Reg c r) h =
     let lc = h.0 in let lr = h.1 in record { within = lc; first = omega arith; last = omega arith }
 named_stands_in pages x h = record { within = tt; first = omega arith; last = omega arith }
 

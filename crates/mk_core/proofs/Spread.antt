@@ -1,10 +1,10 @@
 -- Groups of words with gaps between them: their length, the word r of group i, and a change of it.
-use Rattle.std.proofs.Common.{◌≡◌, ℕ, zero, suc, ◌+◌, ◌*◌, ◌<◌, List, ◌++◌, length, take, drop, slice_index, slice_set}
-use Rattle.std.proofs.Common.{◌∷◌, length-set, refl, sym, ◌∙◌, ap, arith}
-use Rattle.std.proofs.lemmas.List.{get_or_append_left, get_or-append-add, get_or-take, get_or-drop, set-append_left}
-use Rattle.std.proofs.lemmas.List.{set-append_right, take-set-le, drop-set-lt, drop-set-add, length-append, length-drop}
-use Rattle.std.proofs.lemmas.List.{length-take-le, length-replicate, replicate-append-replicate}
+use Rattle.std.proofs.Common.{drop-set-lt, get_or-append-add, get_or-drop, get_or-take, length-append, length-drop}
+use Rattle.std.proofs.Common.{length-take-le}
+use Rattle.std.proofs.lemmas.List.{drop-set-add, set-append_left, set-append_right, take-set-le}
 use Rattle.std.proofs.Math.Seq.{take-set-lt}
+use Rattle.mk_core.proofs.Vocabulary.{List, ℕ, ap, arith, drop, get_or_append_left, length, length-replicate, refl}
+use Rattle.mk_core.proofs.Vocabulary.{slice_index, slice_set, suc, sym, take, zero, ◌*◌, ◌++◌, ◌+◌, ◌<◌, ◌∙◌, ◌≡◌}
 use Rattle.mk_core.specs.Layout.{gap, spread}
 
 -- a change after the first words

@@ -80,39 +80,7 @@ impl Core {
             Step::Mload => has_next_word(marker.scan) && marker.hand.is_none(),
             Step::Mmark => cell_seen(&self.config, marker).is_some(),
             Step::Mblack => is_scanned(marker.scan) && marker.hand.is_none(),
-            Step::Enter(_)
-            | Step::Leave
-            | Step::Reg
-            | Step::Probe
-            | Step::Read
-            | Step::Write
-            | Step::Cas
-            | Step::Getg
-            | Step::Setg
-            | Step::Take(_)
-            | Step::Give
-            | Step::Look(_)
-            | Step::Head { .. }
-            | Step::Used { .. }
-            | Step::Quar { .. }
-            | Step::Grant
-            | Step::Tally { .. }
-            | Step::Hold(_)
-            | Step::Open(_)
-            | Step::Clear(_)
-            | Step::Mark { .. }
-            | Step::Wipe(_)
-            | Step::Full
-            | Step::Begin
-            | Step::Close
-            | Step::Release
-            | Step::End
-            | Step::Want
-            | Step::Dirty
-            | Step::Undirty(_)
-            | Step::Black { .. }
-            | Step::Unblack(_)
-            | Step::Over => true,
+            _ => true,
         }
     }
 

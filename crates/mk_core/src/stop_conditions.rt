@@ -11,6 +11,7 @@ ghost use Rattle.mk_core.specs.StopConditions.{may_turn_black, blackens, may_bla
 ghost use Rattle.mk_core.specs.TurnConditions.{place_now};
 ghost use Rattle.mk_core.specs.NewPlaces.{object_made};
 
+use crate::bounded::all_below;
 use crate::cells::{cells_under, has_no_pointers, is_bit, without};
 use crate::placing::bits_made;
 use crate::table::Table;
@@ -65,42 +66,24 @@ impl Table {
     }
 
     /// Whether each of the first this many pages is clean.
-    #[tactic(auto, using(crate::proofs::AllBelow::all_below_zero_is, crate::proofs::AllBelow::all_below_more_is))]
     fn has_clean_pages(&self, pages: u64) -> bool
         ensures { result ≡ all_below pages (has_clean_page self.now) }
     {
-        for page in 0..pages {
-            if !self.has_clean_page(page) {
-                return false;
-            }
-        }
-        true
+        all_below(pages, |page| self.has_clean_page(page))
     }
 
     /// Whether each of the first this many pages is closed.
-    #[tactic(auto, using(crate::proofs::AllBelow::all_below_zero_is, crate::proofs::AllBelow::all_below_more_is))]
     fn has_closed_pages(&self, pages: u64) -> bool
         ensures { result ≡ all_below pages (has_closed_page self.now) }
     {
-        for page in 0..pages {
-            if !self.has_closed_page(page) {
-                return false;
-            }
-        }
-        true
+        all_below(pages, |page| self.has_closed_page(page))
     }
 
     /// Whether each of the first this many pages is settled.
-    #[tactic(auto, using(crate::proofs::AllBelow::all_below_zero_is, crate::proofs::AllBelow::all_below_more_is))]
     fn has_settled_pages(&self, pages: u64) -> bool
         ensures { result ≡ all_below pages (has_settled_page self.now) }
     {
-        for page in 0..pages {
-            if !self.has_settled_page(page) {
-                return false;
-            }
-        }
-        true
+        all_below(pages, |page| self.has_settled_page(page))
     }
 
     /// Whether each of the values points well.
@@ -134,16 +117,10 @@ impl Table {
     }
 
     /// Whether the value isn't the bit of a cell of the page that may turn black.
-    #[tactic(auto, using(crate::proofs::AllBelow::all_below_zero_is, crate::proofs::AllBelow::all_below_more_is))]
     fn blackens_none(&self, pages: u64, page: u64, value: u64) -> bool
         ensures { result ≡ all_below 32 (λ k. not (blackens pages self.now page value k)) }
     {
-        for index in 0..32 {
-            if self.blackens(pages, page, value, index) {
-                return false;
-            }
-        }
-        true
+        all_below(32, |index| !self.blackens(pages, page, value, index))
     }
 }
 

@@ -9,6 +9,7 @@ ghost use Rattle.mk_core.specs.TurnConditions.{may_quarantine, is_decided, may_g
 ghost use Rattle.mk_core.specs.TurnConditions.{may_wipe};
 ghost use Rattle.mk_core.specs.TurnConditions.{place_now};
 
+use crate::bounded::all_below;
 use crate::cells::{has_bit, without};
 use crate::placing::{PageHeaders, adds_bit, bits_made, pages_made};
 use crate::seats::Object;
@@ -59,23 +60,18 @@ impl Table {
 
     /// Whether all words of the cell are 0.
     fn is_wiped(&self, cell: Cell) -> bool
-        requires { cell.index < 32 }
         ensures { result ≡ words_are_zero self.now (first_word self.now cell) (cell_words self.now cell) }
     {
         self.words_are_zero(self.first_word(cell), self.cell_words(cell))
     }
 
     /// Whether the words of each of these cells of a page are 0.
-    #[tactic(auto, using(crate::proofs::AllBelow::all_below_zero_is, crate::proofs::AllBelow::all_below_more_is, crate::proofs::Wiped::cells_wiped_not_is))]
     fn are_wiped(&self, page: u64, bits: u64) -> bool
         ensures { result ≡ are_wiped self.now page bits }
     {
-        for index in 0..32 {
-            if has_bit(bits, index) && !self.is_wiped(Cell { page, index }) {
-                return false;
-            }
-        }
-        true
+        all_below(32, |index| {
+            !has_bit(bits, index) || self.is_wiped(Cell { page, index })
+        })
     }
 
     /// Whether these used bits are the page's without those of released cells whose words are 0.
