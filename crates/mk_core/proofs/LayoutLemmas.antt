@@ -55,55 +55,42 @@ pub indexes_within : (pages : ℕ) (x : TableWord) → IsOfTable pages x → ind
 indexes_within pages Turn h = omega arith
 indexes_within pages (Named x) h = named_within pages x h
 
--- The groups in their order, and between which indexes the words of each stand.
-abbrev rank : LineGroup → ℕ
-rank OfPhase = 0
-rank OfTurn = 1
-rank OfTallies = 2
-rank (OfGate caller) = 3 + caller
-rank (OfRegisters caller) = 19 + caller
-rank OfGlobals = 35
-rank OfHeaders = 36
-rank (OfPage page) = 37 + page
+-- the place of a group in their order, and the indexes between which its words stand
+record Lines : Type 0 where
+  rank : ℕ
+  first : ℕ
+  last : ℕ
 
-abbrev first : ℕ → LineGroup → ℕ
-first pages OfPhase = 0
-first pages OfTurn = 16
-first pages OfTallies = 32
-first pages (OfGate caller) = 48 + 16 * caller
-first pages (OfRegisters caller) = 304 + 16 * caller
-first pages OfGlobals = 560
-first pages OfHeaders = 640
-first pages (OfPage page) = 656 + 5 * pages + 72 * page
-
-abbrev last : ℕ → LineGroup → ℕ
-last pages OfPhase = 0
-last pages OfTurn = 16
-last pages OfTallies = 36
-last pages (OfGate caller) = 48 + 16 * caller
-last pages (OfRegisters caller) = 311 + 16 * caller
-last pages OfGlobals = 623
-last pages OfHeaders = 640 + 5 * pages
-last pages (OfPage page) = 720 + 5 * pages + 72 * page
+abbrev lines : ℕ → LineGroup → Lines
+lines pages OfPhase = record { rank = 0; first = 0; last = 0 }
+lines pages OfTurn = record { rank = 1; first = 16; last = 16 }
+lines pages OfTallies = record { rank = 2; first = 32; last = 36 }
+lines pages (OfGate caller) = record { rank = 3 + caller; first = 48 + 16 * caller; last = 48 + 16 * caller }
+lines pages (OfRegisters caller) = record { rank = 19 + caller; first = 304 + 16 * caller; last = 311 + 16 * caller }
+lines pages OfGlobals = record { rank = 35; first = 560; last = 623 }
+lines pages OfHeaders = record { rank = 36; first = 640; last = 640 + 5 * pages }
+lines pages (OfPage page) =
+    record { rank = 37 + page; first = 656 + 5 * pages + 72 * page; last = 720 + 5 * pages + 72 * page }
 
 abbrev IsGroup : LineGroup → Type 0
 IsGroup (OfGate caller) = caller < 16
 IsGroup (OfRegisters caller) = caller < 16
 IsGroup _ = ⊤
 
-same_rank : (g h : LineGroup) → IsGroup g → IsGroup h → rank g ≡ rank h → g ≡ h
-same_rank (OfGate i) (OfGate j) hg hh e = ap (λ n. OfGate n) (omega arith)
-same_rank (OfRegisters i) (OfRegisters j) hg hh e = ap (λ n. OfRegisters n) (omega arith)
-same_rank (OfPage i) (OfPage j) hg hh e = ap (λ n. OfPage n) (omega arith)
-same_rank OfPhase OfPhase hg hh e = refl
-same_rank OfTurn OfTurn hg hh e = refl
-same_rank OfTallies OfTallies hg hh e = refl
-same_rank OfGlobals OfGlobals hg hh e = refl
-same_rank OfHeaders OfHeaders hg hh e = refl
-same_rank g h hg hh e = absurd (omega arith)
+same_rank : (pages : ℕ) (g h : LineGroup) → IsGroup g → IsGroup h
+    → (lines pages g).rank ≡ (lines pages h).rank → g ≡ h
+same_rank pages (OfGate i) (OfGate j) hg hh e = ap (λ n. OfGate n) (omega arith)
+same_rank pages (OfRegisters i) (OfRegisters j) hg hh e = ap (λ n. OfRegisters n) (omega arith)
+same_rank pages (OfPage i) (OfPage j) hg hh e = ap (λ n. OfPage n) (omega arith)
+same_rank pages OfPhase OfPhase hg hh e = refl
+same_rank pages OfTurn OfTurn hg hh e = refl
+same_rank pages OfTallies OfTallies hg hh e = refl
+same_rank pages OfGlobals OfGlobals hg hh e = refl
+same_rank pages OfHeaders OfHeaders hg hh e = refl
+same_rank pages g h hg hh e = absurd (omega arith)
 
-later_group : (pages : ℕ) (g h : LineGroup) → IsGroup g → IsGroup h → rank g < rank h
-    → last pages g + 8 ≤ first pages h
+later_group : (pages : ℕ) (g h : LineGroup) → IsGroup g → IsGroup h
+    → (lines pages g).rank < (lines pages h).rank → (lines pages g).last + 8 ≤ (lines pages h).first
 later_group pages (OfGate i) (OfGate j) hg hh lt = omega arith
 later_group pages (OfRegisters i) (OfRegisters j) hg hh lt = omega arith
 later_group pages (OfPage i) (OfPage j) hg hh lt = omega arith
@@ -117,8 +104,8 @@ later_group pages g h hg hh lt = omega arith
 -- a word of a group
 record StandsIn (pages : ℕ) (group : LineGroup) (place : ℕ) : Type 0 where
   within : IsGroup group
-  first : first pages group ≤ place
-  last : place ≤ last pages group
+  first : (lines pages group).first ≤ place
+  last : place ≤ (lines pages group).last
 
 named_stands_in : (pages : ℕ) (x : Word) → NamesWord pages x
     → StandsIn pages (line_group_of_named x) (index_of_named pages x)
@@ -132,8 +119,8 @@ stands_in : (pages : ℕ) (x : TableWord) → IsOfTable pages x
 stands_in pages Turn h = record { within = tt; first = omega arith; last = omega arith }
 stands_in pages (Named x) h = named_stands_in pages x h
 
-in_turn : (pages : ℕ) (g h : LineGroup) (i j : ℕ) → StandsIn pages g i → StandsIn pages h j → rank g < rank h
-    → i + 8 ≤ j
+in_turn : (pages : ℕ) (g h : LineGroup) (i j : ℕ) → StandsIn pages g i → StandsIn pages h j
+    → (lines pages g).rank < (lines pages h).rank → i + 8 ≤ j
 in_turn pages g h i j sg sh lt =
     let apart = later_group pages g h sg.within sh.within lt in let here = sg.last in let there =
     sh.first in omega arith
@@ -142,9 +129,9 @@ pub groups_apart : LineGroupsAreApart
 groups_apart pages x y hx hy ne =
     let sx = stands_in pages x hx in
     let sy = stands_in pages y hy in
-    elim (cases_order (rank (line_group x)) (rank (line_group y))) as (λ _.
+    elim (cases_order (lines pages (line_group x)).rank (lines pages (line_group y)).rank) as (λ _.
     (index_of pages x + 8 ≤ index_of pages y) ⊎ (index_of pages y + 8 ≤ index_of pages x)) [
-      | inl same ↦ absurd (ne (same_rank (line_group x) (line_group y) sx.within sy.within same))
+      | inl same ↦ absurd (ne (same_rank pages (line_group x) (line_group y) sx.within sy.within same))
       | inr (inl less) ↦ inl (in_turn pages _ _ _ _ sx sy less)
       | inr (inr more) ↦ inr (in_turn pages _ _ _ _ sy sx more)
     ]

@@ -95,19 +95,19 @@ pub part_not_free : (o : Object) (distance header : ℕ) → ShowsPart o distanc
 part_not_free o distance header part is = grind (arith, shows_free, not_free)
 
 -- has the object's cells at its first page, of the object's words,
+part_sizes : (o : Object) (x : Option Header) → ShowsPart o 0 x
+    → (cells_under x ≡ cells_made o) × (words_under x ≡ words_made o)
+part_sizes o x (OfBlock first small leaf) = (sym (small_cells o small), sym (small_words o small))
+part_sizes o x (OfLeafBlock first small leaf) = (sym (small_cells o small), sym (small_words o small))
+part_sizes o x (OfRun mapped first large leaf) = (sym (large_cells o large), sym (large_words o large))
+part_sizes o x (OfLeafRun first large leaf) = (sym (large_cells o large), sym (large_words o large))
+part_sizes o x (OfLater mapped some large) = absurd (omega arith)
+
 pub part_cells : (o : Object) (x : Option Header) → ShowsPart o 0 x → cells_under x ≡ cells_made o
-part_cells o x (OfBlock first small leaf) = sym (small_cells o small)
-part_cells o x (OfLeafBlock first small leaf) = sym (small_cells o small)
-part_cells o x (OfRun mapped first large leaf) = sym (large_cells o large)
-part_cells o x (OfLeafRun first large leaf) = sym (large_cells o large)
-part_cells o x (OfLater mapped some large) = absurd (omega arith)
+part_cells o x part = (part_sizes o x part).0
 
 pub part_words : (o : Object) (x : Option Header) → ShowsPart o 0 x → words_under x ≡ words_made o
-part_words o x (OfBlock first small leaf) = sym (small_words o small)
-part_words o x (OfLeafBlock first small leaf) = sym (small_words o small)
-part_words o x (OfRun mapped first large leaf) = sym (large_words o large)
-part_words o x (OfLeafRun first large leaf) = sym (large_words o large)
-part_words o x (OfLater mapped some large) = absurd (omega arith)
+part_words o x part = (part_sizes o x part).1
 
 -- what two headers of one page of an object have alike, where it is so of first pages and of later ones
 same_under : (f : Option Header → ℕ) (n : ℕ) (o : Object) → ((x : Option Header) → ShowsPart o 0 x → f x ≡ n)

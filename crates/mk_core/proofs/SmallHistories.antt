@@ -49,10 +49,8 @@ small_calls =
 
 small_calls_are_admitted : AreAdmitted [] (never_first small) small_calls
 small_calls_are_admitted =
-    admitted (omega arith) (omega arith) tt tt
-    and admitted (omega arith) (omega arith) tt tt
-    and admitted (omega arith) (omega arith) tt tt
-    and admitted (omega arith) (omega arith) tt refl
+    admitted (omega arith) (omega arith) tt tt and admitted (omega arith) (omega arith) tt tt
+    and admitted (omega arith) (omega arith) tt tt and admitted (omega arith) (omega arith) tt refl
     and admitted (omega arith) (omega arith) tt tt
     and admitted (omega arith) (omega arith) (omega arith, refl) (omega arith, (refl, refl))
     and admitted (omega arith) (omega arith) tt tt and tt

@@ -31,28 +31,19 @@ fn is_markers_word(word: Word) -> bool
 fn has_seen_cell(seen: Option<SeenHeader>, page: u64, index: u64) -> bool
     ensures { result ≡ has_seen_cell seen page index }
 {
-    match seen {
-        Some(seen) => seen.page == page && index < cells_under(seen.header),
-        None => false,
-    }
+    seen.is_some_and(|seen| seen.page == page && index < cells_under(seen.header))
 }
 
 fn has_next_word(scan: Option<Scan>) -> bool
     ensures { result ≡ has_next_word scan }
 {
-    match scan {
-        Some(scan) => scan.next < scan.end,
-        None => false,
-    }
+    scan.is_some_and(|scan| scan.next < scan.end)
 }
 
 fn is_scanned(scan: Option<Scan>) -> bool
     ensures { result ≡ is_scanned scan }
 {
-    match scan {
-        Some(scan) => scan.next >= scan.end,
-        None => false,
-    }
+    scan.is_some_and(|scan| scan.next >= scan.end)
 }
 
 fn may_mlook(marker: Marker, word: Word) -> bool

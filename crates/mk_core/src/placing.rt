@@ -215,14 +215,11 @@ impl Table {
     pub(crate) fn frees(&self, cell: Option<Cell>, page: u64, value: u64) -> bool
         ensures { result ≡ frees self.now cell page value }
     {
-        match cell {
-            Some(cell) => {
-                page == cell.page
-                    && !self.is_freed(cell)
-                    && adds_bit(self.quarantine(page), cell.index, value)
-            }
-            None => false,
-        }
+        cell.is_some_and(|cell| {
+            page == cell.page
+                && !self.is_freed(cell)
+                && adds_bit(self.quarantine(page), cell.index, value)
+        })
     }
 }
 

@@ -50,10 +50,7 @@ impl Table {
     fn is_run(&self, cell: Option<Cell>) -> bool
         ensures { result ≡ is_run_cell self.now cell }
     {
-        match cell {
-            Some(cell) => heads_run(self.header(cell.page)),
-            None => false,
-        }
+        cell.is_some_and(|cell| heads_run(self.header(cell.page)))
     }
 }
 
