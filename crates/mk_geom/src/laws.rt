@@ -8,6 +8,7 @@ ghost use Rattle.mk_geom.specs.Laws.{UsedCellHasStorage, CellsTellStoragesApart,
 ghost use Rattle.mk_geom.specs.Laws.{CellHasFirstWord, FoundCellIsPlace, FoundRunIsPlace};
 
 /// Place, fits, census and the words that are held may be read off the pages as they are.
+#[tactic(auto, using(crate::proofs::Bridge::same_uses, crate::proofs::Bridge::same_census, crate::proofs::HeldWords::pages_hold_mapped_words))]
 pub fn pages_show_what_stands_there()
     ensures uses { PagesShowUses }
     ensures places { PagesShowPlaces }
