@@ -52,8 +52,7 @@ next_of_quarantined from next reads found = grind (arith, same_next, known_by, q
 
 -- the first page of a set, among those that the map shows
 pub first_shown : {known : KnownPages} {pages : List Page} {freed : List ℕ} {next : Option ℕ} (set : ℕ)
-    (passes : PageUse → Bool) → Shows known pages freed
-    → ((stands : PageUse) → is_of_set set stands ≡ passes stands)
+    (passes : PageUse → Bool) → Shows known pages freed → ((stands : PageUse) → is_of_set set stands ≡ passes stands)
     → IsNext (λ number. is_of_set set (use_of_page (page_at known.pages number))) 0 (length known.pages) next
     → next ≡ first_where passes (uses_of_pages pages)
 first_shown {pages} {next} set passes shows same found =

@@ -22,8 +22,7 @@ found c = c.in-Some.ensures.sorted (omega arith)
 
 -- the range that begins with it
 range : (c : After-unwrap_or-end) → IsRange (held c) c.in-Some.start c.unwrap_or-end.result
-range c =
-    subst (λ (end : ℕ). IsRange (held c) c.in-Some.start end)
+range c = subst (λ (end : ℕ). IsRange (held c) c.in-Some.start end)
     (sym (c.unwrap_or-end.ensures ∙ ap (unwrap_or c.next_of-in-Some.result) (count c)))
     (range_from (held c) c.next_of-in-Some.result (found c).1 (found c).2
     (c.next_of-in-Some.ensures.sorted (omega arith)))
