@@ -17,8 +17,7 @@ pub record LeavesPlaces (change : PlacedAllocation → PlacedAllocation) : Type 
   pub none : change never_granted ≡ never_granted
 
 pub changed_at : (change : PlacedAllocation → PlacedAllocation) (xs : List PlacedAllocation) (i : ℕ)
-    → change never_granted ≡ never_granted
-    → placed_at (map change xs) i ≡ change (placed_at xs i)
+    → change never_granted ≡ never_granted → placed_at (map change xs) i ≡ change (placed_at xs i)
 changed_at change xs i e = cc (e, get_or-map-default change xs i never_granted)
 
 -- with one more at the end
@@ -58,8 +57,7 @@ freed_released w (Some cell) a = freed_or_not w cell a (λ x. x.released ≡ a.r
 
 -- nor changes the storage of a small object.
 pub freed_storage : (c : Config) (w : Words) (cell : Option Cell) (a : PlacedAllocation)
-    → is_small_object (object_placed c a) ≡ true
-    → storage_of c (freed_where_it_stands w cell a) ≡ storage_of c a
+    → is_small_object (object_placed c a) ≡ true → storage_of c (freed_where_it_stands w cell a) ≡ storage_of c a
 freed_storage c w None a small = refl
 freed_storage c w (Some cell) a small =
     freed_or_not w cell a (λ x. storage_of c x ≡ storage_of c a) (cc (never_large true, never_large a.freed)) refl
@@ -81,8 +79,7 @@ fresh_storage c xs = unreleased_kept c no_longer_fresh (λ a. refl) (λ a unrele
 
 pub same_headers : (c : Config) (w : Words) (a b : PlacedAllocation) → b.base ≡ a.base → b.ty ≡ a.ty
     → HasItsHeaders c w a → HasItsHeaders c w b
-same_headers c w a b base ty has =
-    subst (λ n. (d : ℕ) → d < pages_made (object_placed c b)
+same_headers c w a b base ty has = subst (λ n. (d : ℕ) → d < pages_made (object_placed c b)
     → IsHeaderOf (object_placed c b) d (header_at w (n / 64 + d))) (sym base)
     (subst (λ t. (d : ℕ) → d < pages_made (object_of (kinds_of c.types t))
     → IsHeaderOf (object_of (kinds_of c.types t)) d (header_at w (a.base / 64 + d))) (sym ty) has)

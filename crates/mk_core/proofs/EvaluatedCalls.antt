@@ -28,8 +28,7 @@ unfoldable pub before_the_load : List Event
 before_the_load = take 41 blackened_before_the_move
 
 unfoldable pub load_among_a_scan : List Event
-load_among_a_scan =
-    by c0 (Step.Enter (Op.GetPtr 2 1 0) ∷ []) ++ by m0 (Step.Attend ∷ Step.Mlook (Word.Head 0) ∷ [])
+load_among_a_scan = by c0 (Step.Enter (Op.GetPtr 2 1 0) ∷ []) ++ by m0 (Step.Attend ∷ Step.Mlook (Word.Head 0) ∷ [])
     ++ by c0 (Step.Reg ∷ []) ++ by m0 (Step.Claim 0 0 ∷ Step.Mload ∷ []) ++ by c0 (Step.Probe ∷ [])
     ++ by m0 (Step.Mload ∷ Step.Mblack ∷ Step.Quit ∷ []) ++ by c0 (Step.Read ∷ [])
 
@@ -61,6 +60,5 @@ grows_for_the_caller =
 
 pub not_for_the_marker : Grows (m0 ∷ []) before_the_load (take 48 blackened_before_the_move) → ⊥
 unfolding by c0 m0 host blackened_before_the_move before_the_load events_from
-not_for_the_marker h =
-    scan_is_of_the_marker (subst (λ (es : List Event). AreOfOthers (m0 ∷ []) es)
+not_for_the_marker h = scan_is_of_the_marker (subst (λ (es : List Event). AreOfOthers (m0 ∷ []) es)
     (sym (append_cancel_left before_the_load (events_from 41 7 blackened_before_the_move) h.more h.is)) h.of_others)

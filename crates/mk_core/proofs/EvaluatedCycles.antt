@@ -11,15 +11,13 @@ use Rattle.mk_core.specs.Cycles.{Cycle, IsInSnapshot, NoneSweeps, NoneSweepsFrom
 -- The first cycle is begun in a caller's turn and ended in the host's.
 unfoldable pub first_cycle : Cycle freed_after_begin
 unfolding by c0 host freed_after_begin event_number at_number
-first_cycle =
-    cycle_of (at_number is_begin 15 _ refl refl) (next_of (at_number is_close 15 _ refl refl) refl)
+first_cycle = cycle_of (at_number is_begin 15 _ refl refl) (next_of (at_number is_close 15 _ refl refl) refl)
     (next_of (at_number is_release 0 _ refl refl) refl) (next_of (at_number is_end 3 _ refl refl) refl)
 
 -- The second is begun and ended in one turn.
 unfoldable pub second_cycle : Cycle freed_after_begin
 unfolding by c0 host freed_after_begin event_number at_number
-second_cycle =
-    cycle_of (at_number is_begin 42 _ refl refl) (next_of (at_number is_close 1 _ refl refl) refl)
+second_cycle = cycle_of (at_number is_begin 42 _ refl refl) (next_of (at_number is_close 1 _ refl refl) refl)
     (next_of (at_number is_release 0 _ refl refl) refl) (next_of (at_number is_end 4 _ refl refl) refl)
 
 -- The first object is freed before the first cycle begins, and the second only after that.
@@ -40,8 +38,7 @@ second_snapshot = (refl, λ h. false≢true h)
 -- The freed object of the other schedule is in its cycle's snapshot, and isn't released, since a word points to it.
 unfoldable pub cycle_of_blackened : Cycle blackened_before_the_move
 unfolding by c0 m0 host blackened_before_the_move event_number at_number
-cycle_of_blackened =
-    cycle_of (at_number is_begin 34 _ refl refl) (next_of (at_number is_close 50 _ refl refl) refl)
+cycle_of_blackened = cycle_of (at_number is_begin 34 _ refl refl) (next_of (at_number is_close 50 _ refl refl) refl)
     (next_of (at_number is_release 0 _ refl refl) refl) (next_of (at_number is_end 0 _ refl refl) refl)
 
 -- Sweeping marks: the test along a list, and what it says.

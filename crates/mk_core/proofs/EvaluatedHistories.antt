@@ -29,8 +29,7 @@ unfolding fault AreEnabledFrom
 enabled_from c n w [] h = tt
 enabled_from c n w (e ∷ es) h =
     let both = none_of_both (failing c w.now e == 0) (n, failing c w.now e) (fault c (n + 1) (world_behind c w e) es) h
-    in
-    (eqb-true (failing c w.now e) 0 both.0, enabled_from c (n + 1) (world_behind c w e) es both.1)
+    in (eqb-true (failing c w.now e) 0 both.0, enabled_from c (n + 1) (world_behind c w e) es both.1)
 
 pub enabled : (c : Config) (es : List Event) → first_fault c es ≡ None → AreEnabled c es
 unfolding first_fault
@@ -39,9 +38,7 @@ enabled c es h = enabled_from c 0 (first_world c) es h
 -- Heaps of a few pages, all of them resident, are within limits where their types are.
 
 pub small_limits : (pages callers : ℕ) (types : List (List Kind)) → IsBetween 1 3 pages → IsBetween 1 2 callers
-    → length types ≤ 2
-    → All (IsTypeAmong types) types
-    → IsWithinLimits (heap_of pages callers types)
+    → length types ≤ 2 → All (IsTypeAmong types) types → IsWithinLimits (heap_of pages callers types)
 small_limits pages callers types few_pages few_callers few_types among = record {
   pages = (few_pages.0, omega (arith, few_pages.1));
   resident = (few_pages.0, le_refl pages);
@@ -62,22 +59,19 @@ one_type types kinds h = All-cons (IsTypeAmong types) kinds [] h (All-nil (IsTyp
 
 one_page_limits : IsWithinLimits one_page
 unfolding one_page
-one_page_limits =
-    small_limits 1 1 one_page.types (omega arith, omega arith) (omega arith, omega arith) (omega arith)
+one_page_limits = small_limits 1 1 one_page.types (omega arith, omega arith) (omega arith, omega arith) (omega arith)
     (one_type one_page.types (replicate 32 Num) (numbers one_page.types 32 (omega arith, omega arith)))
 
 two_pages_limits : IsWithinLimits two_pages
 unfolding two_pages
-two_pages_limits =
-    small_limits 2 1 two_pages.types (omega arith, omega arith) (omega arith, omega arith) (omega arith)
+two_pages_limits = small_limits 2 1 two_pages.types (omega arith, omega arith) (omega arith, omega arith) (omega arith)
     (All-cons (IsTypeAmong two_pages.types) (replicate 2 Num) (replicate 6 Num ∷ [])
     (numbers two_pages.types 2 (omega arith, omega arith))
     (one_type two_pages.types (replicate 6 Num) (numbers two_pages.types 6 (omega arith, omega arith))))
 
 pointer_and_number : All (IsAmong pointer_page.types) (To 0 0 ∷ Num ∷ [])
 unfolding pointer_page
-pointer_and_number =
-    All-cons (IsAmong pointer_page.types) (To 0 0) (Num ∷ []) (omega arith, omega arith)
+pointer_and_number = All-cons (IsAmong pointer_page.types) (To 0 0) (Num ∷ []) (omega arith, omega arith)
     (All-cons (IsAmong pointer_page.types) Num [] tt (All-nil (IsAmong pointer_page.types)))
 
 pointer_page_limits : IsWithinLimits pointer_page

@@ -55,8 +55,7 @@ large_places = (refl, λ h. false≢true h, refl)
 pub large_grant : StandsAtItsPlace three_pages (take 53 large_freed) c0
 unfolding by c0 all_below pointed_cell three_pages large_freed left_from unreleased_storage event_number
     turn_number NoneServesFrom
-large_grant =
-    stands_at (turn_number three_pages c0 34 (Some (Op.New 1 0 false)) (take 53 large_freed) refl refl refl)
+large_grant = stands_at (turn_number three_pages c0 34 (Some (Op.New 1 0 false)) (take 53 large_freed) refl refl refl)
     (served _ 15 refl (refl and refl and refl and refl and refl and refl and refl and refl
     and refl and refl and refl and refl and refl and refl and refl and tt) refl)
     (record { page = 0; index = 0; carve = true }) refl refl

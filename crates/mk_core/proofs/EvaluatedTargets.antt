@@ -15,8 +15,7 @@ use Rattle.mk_core.specs.{Allocations.is_mapped, Readings.Holds}
 
 targets : (r a : ℕ) → LeadsTo (register_at (never_behind small before_probe) 0 r) a → below_two a ≡ true
 unfolding left_from calls_from all_below pointed_cell three_objects
-targets r a leads =
-    led_into below_two (register_at (never_behind small before_probe) 0 r) a
+targets r a leads = led_into below_two (register_at (never_behind small before_probe) 0 r) a
     (list_all-at (leads_into below_two) (never_behind small before_probe).registers Null refl refl (8 * 0 + r)) leads
 
 unreleased : (a : ℕ) → below_two a ≡ true
@@ -66,8 +65,7 @@ all_is_left_to_caller = record {
 
 -- The host in its turn, while a caller writes to the first object: no word outside the objects changes.
 
-outside : (n : ℕ)
-    → ((i : ℕ) → is_mapped small (placed_at (left small first_marked).allocations i) ≡ true
+outside : (n : ℕ) → ((i : ℕ) → is_mapped small (placed_at (left small first_marked).allocations i) ≡ true
     → IsWordOf (storage_of small (placed_at (left small first_marked).allocations i)) n → ⊥)
     → slice_index (left small (first_marked ++ pointer_written)).now.words.heap n
     ≡ slice_index (left small first_marked).now.words.heap n

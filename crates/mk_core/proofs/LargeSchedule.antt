@@ -11,8 +11,7 @@ three_pages = heap_of 3 2 (replicate 65 Num ∷ [])
 -- Its last word is written to and is wiped when its pages are unmapped, while the other caller's gate is held. An
 -- access to it is then refused, and a second Free told so. The next object has room after a cycle alone.
 unfoldable pub large_freed : List Event
-large_freed =
-    by c0 (Step.Take (Some (Op.New 0 0 false)) ∷ Step.Head 0 46 ∷ Step.Head 1 26 ∷ Step.Used 0 1 ∷ Step.Grant
+large_freed = by c0 (Step.Take (Some (Op.New 0 0 false)) ∷ Step.Head 0 46 ∷ Step.Head 1 26 ∷ Step.Used 0 1 ∷ Step.Grant
     ∷ Step.Tally Tally.Held 128 ∷ Step.Give ∷ [])
     ++ by c0 (Step.Enter (Op.SetNum 0 64 9) ∷ Step.Reg ∷ Step.Probe ∷ Step.Write ∷ Step.Dirty ∷ Step.Leave ∷ [])
     ++ by c0 (Step.Take (Some (Op.Free 0)) ∷ Step.Reg ∷ Step.Hold 1 ∷ Step.Quar 0 1 ∷ Step.Head 0 43

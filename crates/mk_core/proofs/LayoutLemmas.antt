@@ -77,8 +77,7 @@ IsGroup (OfGate caller) = caller < 16
 IsGroup (OfRegisters caller) = caller < 16
 IsGroup _ = ⊤
 
-same_rank : (pages : ℕ) (g h : LineGroup) → IsGroup g → IsGroup h
-    → (lines pages g).rank ≡ (lines pages h).rank → g ≡ h
+same_rank : (pages : ℕ) (g h : LineGroup) → IsGroup g → IsGroup h → (lines pages g).rank ≡ (lines pages h).rank → g ≡ h
 same_rank pages (OfGate i) (OfGate j) hg hh e = ap (λ n. OfGate n) (omega arith)
 same_rank pages (OfRegisters i) (OfRegisters j) hg hh e = ap (λ n. OfRegisters n) (omega arith)
 same_rank pages (OfPage i) (OfPage j) hg hh e = ap (λ n. OfPage n) (omega arith)
@@ -114,8 +113,7 @@ named_stands_in pages (Word.Reg c r) h =
     let lc = h.0 in let lr = h.1 in record { within = lc; first = omega arith; last = omega arith }
 named_stands_in pages x h = record { within = tt; first = omega arith; last = omega arith }
 
-stands_in : (pages : ℕ) (x : TableWord) → IsOfTable pages x
-    → StandsIn pages (line_group x) (index_of pages x)
+stands_in : (pages : ℕ) (x : TableWord) → IsOfTable pages x → StandsIn pages (line_group x) (index_of pages x)
 stands_in pages Turn h = record { within = tt; first = omega arith; last = omega arith }
 stands_in pages (Named x) h = named_stands_in pages x h
 

@@ -112,5 +112,4 @@ zeros (suc n) =
     ∙ ap (λ (xs : List ℕ). gap 64 ++ ((0 ∷ gap 7) ++ page_by_page (gap n) xs)) left
     ∙ ap (λ (xs : List ℕ). gap 64 ++ ((0 ∷ gap 7) ++ xs)) (zeros n)
     ∙ ap (λ (xs : List ℕ). gap 64 ++ xs) (replicate-append-replicate {A = ℕ} 8 (72 * n) 0)
-    ∙ replicate-append-replicate {A = ℕ} 64 (8 + 72 * n) 0
-    ∙ ap gap (omega arith)
+    ∙ replicate-append-replicate {A = ℕ} 64 (8 + 72 * n) 0 ∙ ap gap (omega arith)

@@ -61,10 +61,8 @@ pub data HeadStep (c : Config) (m : Moment) (f : Flight) (page value : ℕ) : Ty
 
 pub head_step : (c : Config) (m : Moment) (f : Flight) (page value : ℕ) → may_head c m f page value ≡ true
     → HeadStep c m f page value
-head_step c m f page value h =
-    by_test _ _ _ h (λ is empty. ItEmpties is (empties_is m.words page value empty))
-    (λ is either. elim
-    (either_holds (carves m.words (object_made c f.op) (place_now c m f) page value)
+head_step c m f page value h = by_test _ _ _ h (λ is empty. ItEmpties is (empties_is m.words page value empty))
+    (λ is either. elim (either_holds (carves m.words (object_made c f.op) (place_now c m f) page value)
     (unmaps m.words m.seats.holding.freed page value) either) [
       | inl x ↦ ItCarves is (carves_is m.words (object_made c f.op) (place_now c m f) page value x)
       | inr x ↦ ItUnmaps is (unmaps_is m.words m.seats.holding.freed page value x)
@@ -89,8 +87,7 @@ pub wiped_cell : (w : Words) (page bits k : ℕ) → are_wiped w page bits ≡ t
 wiped_cell w page bits k h lt bit =
     let zero_words = words_are_zero w (first_word w (record { page = page; index = k }))
     (cell_words w (record { page = page; index = k })) in
-    ap (λ b. not b || zero_words) (sym bit)
-    ∙ all_below-at 32 k (λ i. not (has_bit bits i)
+    ap (λ b. not b || zero_words) (sym bit) ∙ all_below-at 32 k (λ i. not (has_bit bits i)
     || words_are_zero w (first_word w (record { page = page; index = i }))
     (cell_words w (record { page = page; index = i }))) h lt
 
@@ -118,14 +115,12 @@ gives_back_is w page value h =
 -- A `used` that may come takes the cell of a place, once, or gives cells back.
 pub data UsedStep (c : Config) (m : Moment) (f : Flight) (page value : ℕ) : Type 0 where
   ItTakes : is_phase m.words 4 ≡ false → is_used_once m.seats.holding.placing ≡ false
-      → TakesCell m.words (object_made c f.op) (place_now c m f) page value
-      → UsedStep c m f page value
+      → TakesCell m.words (object_made c f.op) (place_now c m f) page value → UsedStep c m f page value
   ItGivesBack : is_phase m.words 4 ≡ true → GivesBack m.words page value → UsedStep c m f page value
 
 pub used_step : (c : Config) (m : Moment) (f : Flight) (page value : ℕ) → may_use c m f page value ≡ true
     → UsedStep c m f page value
-used_step c m f page value h =
-    by_test _ _ _ h (λ is back. ItGivesBack is (gives_back_is m.words page value back))
+used_step c m f page value h = by_test _ _ _ h (λ is back. ItGivesBack is (gives_back_is m.words page value back))
     (λ is both. let a = and_parts _ _ both in
     ItTakes is (not-true _ a.0) (takes_is m.words (object_made c f.op) (place_now c m f) page value a.1))
 

@@ -104,16 +104,13 @@ abbrev put : Words → ℕ → List ℕ → List ℕ
 put w j xs = joined (slice_set (regions w) j xs)
 
 -- a page's other word stays
-headers_kept : (ps : List Page) (p v : ℕ)
-    → map (λ (page : Page). page.header)
+headers_kept : (ps : List Page) (p v : ℕ) → map (λ (page : Page). page.header)
     (slice_set ps p (record { header = (slice_index_or ps p free_page).header; used = v }))
     ≡ map (λ (page : Page). page.header) ps
-headers_kept ps p v =
-    map-set_same (λ (page : Page). page.header) ps p
+headers_kept ps p v = map-set_same (λ (page : Page). page.header) ps p
     (record { header = (slice_index_or ps p free_page).header; used = v }) free_page refl
 
-used_kept : (ps : List Page) (p v : ℕ)
-    → map (λ (page : Page). page.used)
+used_kept : (ps : List Page) (p v : ℕ) → map (λ (page : Page). page.used)
     (slice_set ps p (record { header = v; used = (slice_index_or ps p free_page).used }))
     ≡ map (λ (page : Page). page.used) ps
 used_kept ps p v = map-set_same (λ (page : Page). page.used) ps p
@@ -163,8 +160,7 @@ module _ (pages : ℕ) (w : Words) (h : AreOfPages pages w) (b : Begins pages w)
   dirty_place : (p : ℕ) → p < pages → IsPlaceOf w (720 + 5 * pages + 72 * p) 16 (72 * p + 64)
   dirty_place p t = omega (arith, length_pages w.dirty w.heap (words_of_all w h), h.dirty)
 
-  heap_place : (n : ℕ) → n < 64 * pages
-      → IsPlaceOf w (656 + 5 * pages + n + 8 * (n / 64)) 16 (72 * (n / 64) + n % 64)
+  heap_place : (n : ℕ) → n < 64 * pages → IsPlaceOf w (656 + 5 * pages + n + 8 * (n / 64)) 16 (72 * (n / 64) + n % 64)
   heap_place n t = omega (arith, length_pages w.dirty w.heap (words_of_all w h), h.dirty)
 
   whole : (n : ℕ) → 64 * (n / 64) + n % 64 ≡ n
@@ -203,14 +199,12 @@ module _ (pages : ℕ) (w : Words) (h : AreOfPages pages w) (b : Begins pages w)
       let page : Page = record { header = v; used = (slice_index_or w.pages p free_page).used } in
       let headers = map (λ (x : Page). x.header) (slice_set w.pages p page) in
       ap (λ us. joined (slice_set (slice_set (regions w) 10 headers) 11 us)) (used_kept w.pages p v)
-      ∙ ap (λ hs. put w 10 hs) (map-set (λ (x : Page). x.header) w.pages p page)
-      ∙ set_at w _ 10 p v (head_place p t)
+      ∙ ap (λ hs. put w 10 hs) (map-set (λ (x : Page). x.header) w.pages p page) ∙ set_at w _ 10 p v (head_place p t)
   named_changes (Word.Used p) v t =
       let page : Page = record { header = (slice_index_or w.pages p free_page).header; used = v } in
       let used = map (λ (x : Page). x.used) (slice_set w.pages p page) in
       ap (λ hs. joined (slice_set (slice_set (regions w) 10 hs) 11 used)) (headers_kept w.pages p v)
-      ∙ ap (λ us. put w 11 us) (map-set (λ (x : Page). x.used) w.pages p page)
-      ∙ set_at w _ 11 p v (used_place p t)
+      ∙ ap (λ us. put w 11 us) (map-set (λ (x : Page). x.used) w.pages p page) ∙ set_at w _ 11 p v (used_place p t)
   named_changes (Word.Quar p) v t =
       ap (λ xs. put w 12 xs) (quarantine_set w.freed w.snapshot p (v % 2 ^ 32) (v / 2 ^ 32) (h.freed ∙ sym h.snapshot))
       ∙ ap (λ x. put w 12 (slice_set (quarantine_words w.freed w.snapshot) p x)) (quarantine_whole v)
@@ -220,11 +214,9 @@ module _ (pages : ℕ) (w : Words) (h : AreOfPages pages w) (b : Begins pages w)
   named_changes (Word.Dirty p) v t =
       ap (λ xs. put w 16 xs) (sym (dirty_set w.dirty w.heap p v (words_of_all w h) (omega (arith, h.dirty))))
       ∙ set_at w _ 16 (72 * p + 64) v (dirty_place p t)
-  named_changes (Word.Heap n) v t =
-      ap (λ k. put w 16 (page_by_page w.dirty (slice_set w.heap k v))) (sym (whole n))
+  named_changes (Word.Heap n) v t = ap (λ k. put w 16 (page_by_page w.dirty (slice_set w.heap k v))) (sym (whole n))
       ∙ ap (λ xs. put w 16 xs) (sym (heap_set w.dirty w.heap (n / 64) (n % 64) v (words_of_all w h)
-      (omega (arith, h.dirty)) (omega arith)))
-      ∙ set_at w _ 16 (72 * (n / 64) + n % 64) v (heap_place n t)
+      (omega (arith, h.dirty)) (omega arith))) ∙ set_at w _ 16 (72 * (n / 64) + n % 64) v (heap_place n t)
   named_changes _ v t = refl
 
 pub words_stand : WordsStandAtTheirIndexes
@@ -272,17 +264,13 @@ first_are_zero pages =
     ∙ ap (λ qs. joined (slice_set (slice_set (slice_set (regions w) 10 (gap pages)) 11 (gap pages)) 12 qs))
     (no_quarantine pages)
     ∙ ap (λ ds. joined (slice_set (slice_set (slice_set (slice_set (regions w) 10 (gap pages)) 11 (gap pages)) 12
-    (gap pages)) 16 ds))
-    (zeros pages)
-    ∙ joined_gaps counts
-    ∙ ap gap (omega arith)
+    (gap pages)) 16 ds)) (zeros pages) ∙ joined_gaps counts ∙ ap gap (omega arith)
 
 -- what an access makes of a word, made of the list's
 made : (pages : ℕ) (w : Words) (x : TableWord) (a : Access) → AreOfPages pages w → IsOfTable pages x
     → in_order (with_word_in w x (becomes a (word_in w x)))
     ≡ slice_set (in_order w) (index_of pages x) (becomes a (slice_index (in_order w) (index_of pages x)))
-made pages w x a h t =
-    words_change pages w x (becomes a (word_in w x)) h t
+made pages w x a h t = words_change pages w x (becomes a (word_in w x)) h t
     ∙ ap (λ found. slice_set (in_order w) (index_of pages x) (becomes a found)) (sym (words_stand pages w x h t))
 
 pub accesses_change : AccessesStandAtTheirIndexes

@@ -60,8 +60,7 @@ one_page = heap_of 1 1 (replicate 32 Num ∷ [])
 
 -- Two objects are freed, one before a cycle begins and one after its begin. The first alone is released by it.
 unfoldable pub freed_after_begin : List Event
-freed_after_begin =
-    carved 0 0 0 125 32 ++ granted 1 3 64
+freed_after_begin = carved 0 0 0 125 32 ++ granted 1 3 64
     ++ by c0 (Step.Take (Some (Op.Free 0)) ∷ Step.Reg ∷ Step.Quar 0 1 ∷ Step.Quar 0 4294967297 ∷ Step.Begin
     ∷ Step.Give ∷ []) ++ freed 1 0 4294967299 32 ++ cleared 0 ++ cleared 1
     ++ by host (Step.Take None ∷ Step.Hold 0 ∷ Step.Want ∷ Step.Close ∷ Step.Release ∷ [])
@@ -84,8 +83,7 @@ pointer_page = heap_of 1 1 ((To 0 0 ∷ Num ∷ []) ∷ [])
 
 -- A marker blackens an object, and then a pointer to a freed object moves into it. The dirty page is scanned again.
 unfoldable pub blackened_before_the_move : List Event
-blackened_before_the_move =
-    carved 0 0 0 1 2 ++ granted 1 3 4 ++ granted 2 7 6 ++ pointer_set 1 0 2
+blackened_before_the_move = carved 0 0 0 1 2 ++ granted 1 3 4 ++ granted 2 7 6 ++ pointer_set 1 0 2
     ++ by c0 (Step.Enter (Op.SetNum 2 1 7) ∷ Step.Reg ∷ Step.Probe ∷ Step.Write ∷ Step.Dirty ∷ Step.Leave ∷ [])
     ++ by c0 (Step.Take (Some (Op.Free 2)) ∷ Step.Reg ∷ Step.Quar 0 4 ∷ Step.Undirty 0 ∷ Step.Quar 0 17179869188
     ∷ Step.Begin ∷ Step.Look (Word.Reg 0 0) ∷ Step.Mark 0 1 ∷ Step.Give ∷ []) ++ cleared 2

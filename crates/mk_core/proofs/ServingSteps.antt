@@ -20,8 +20,7 @@ pub record IsNextHeader (w : Words) (first count : ℕ) (wanted : ℕ → ℕ) (
   pub is : value ≡ wanted (page - first)
 
 pub next_header : (w : Words) (first count : ℕ) (wanted : ℕ → ℕ) (page value : ℕ)
-    → is_next_header w first count wanted page value ≡ true
-    → IsNextHeader w first count wanted page value
+    → is_next_header w first count wanted page value ≡ true → IsNextHeader w first count wanted page value
 next_header w first count wanted page value h =
     let a = and_parts _ _ h in
     let b = four_hold _ _ _ _ a.0 in

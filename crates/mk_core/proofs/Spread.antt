@@ -38,8 +38,7 @@ spread_at (suc n) size between xs (suc i) r e li lr =
     let k = (size + between) * i + r in
     ap (λ m. slice_index (spread (suc n) size between xs) m) (omega arith)
     ∙ get_or-append-add (take size xs) (gap between ++ spread n size between (drop size xs)) (length (gap between) + k)
-    0
-    ∙ get_or-append-add (gap between) (spread n size between (drop size xs)) k 0
+    0 ∙ get_or-append-add (gap between) (spread n size between (drop size xs)) k 0
     ∙ spread_at n size between (drop size xs) i r left (omega arith) lr
     ∙ get_or-drop size xs (size * i + r) 0 ∙ ap (λ m. slice_index xs m) (omega arith)
 
@@ -81,7 +80,6 @@ word_at n xs j e lt = ap (λ k. slice_index (spread n 1 15 xs) k) (omega arith)
 
 pub word_set : (n : ℕ) (xs : List ℕ) (j v : ℕ) → length xs ≡ n → j < n
     → spread n 1 15 (slice_set xs j v) ≡ slice_set (spread n 1 15 xs) (16 * j) v
-word_set n xs j v e lt =
-    ap (λ k. spread n 1 15 (slice_set xs k v)) (omega arith)
+word_set n xs j v e lt = ap (λ k. spread n 1 15 (slice_set xs k v)) (omega arith)
     ∙ sym (spread_set n 1 15 xs j 0 v (omega arith) lt (omega arith))
     ∙ ap (λ k. slice_set (spread n 1 15 xs) k v) (omega arith)
