@@ -26,6 +26,7 @@ pub fn pages_have_the_words_of_storages()
 
 /// What points into a storage points into its cell, and nothing else does, where the header of its page shows
 /// what stands there. So it is on pages that stand for storages.
+#[tactic(auto, using(crate::proofs::PointedCells::cell_first, crate::proofs::PointedCells::address_points_into))]
 pub fn a_storage_has_its_cell()
     ensures points_into { PointsIntoCell }
     ensures points_back { CellHasPointers }
