@@ -23,8 +23,7 @@ map_range-set f g n k y within here others =
     let xs = map f (range_with_len 0 n) in
     let long : length xs ≡ n = length-map-range_with_len f 0 n in
     same_lists (map g (range_with_len 0 n)) (set xs k y)
-    (length-map-range_with_len g 0 n ∙ sym (length-set xs k y ∙ long))
-    (λ j d below.
+    (length-map-range_with_len g 0 n ∙ sym (length-set xs k y ∙ long)) (λ j d below.
     let low : j < n = omega (arith, length-map-range_with_len g 0 n) in
     get_or-map-range_with_len g 0 n j j d low (omega arith)
     ∙ elim (cases_eq j k) [
@@ -138,12 +137,10 @@ get_or-by_class : (pages : List PageUse) (class : ℕ) (leaf : Bool) → class <
     → get_or (free_cells_by_class pages) (class_place class leaf) 0 ≡ free_cells_among leaf pages class
 get_or-by_class pages class false within =
     get_or-halves (free_cells_of_sort false pages) (free_cells_of_sort true pages) class false
-    (length-free_cells_of_sort false pages) within
-    ∙ get_or-free_cells_of_sort false pages class 0 within
+    (length-free_cells_of_sort false pages) within ∙ get_or-free_cells_of_sort false pages class 0 within
 get_or-by_class pages class true within =
     get_or-halves (free_cells_of_sort false pages) (free_cells_of_sort true pages) class true
-    (length-free_cells_of_sort false pages) within
-    ∙ get_or-free_cells_of_sort true pages class 0 within
+    (length-free_cells_of_sort false pages) within ∙ get_or-free_cells_of_sort true pages class 0 within
 
 -- a page has at most 32 cells
 cells_of-le : (class : ℕ) → cells_of class ≤ 32
@@ -205,8 +202,7 @@ at_block within here known stands counted placed added = grind arith
 
 -- the count of the class fits 64 bits, where the pages lie in memory
 pub room_for_block : (pages : List Page) (i : ℕ) (counts : List ℕ) (class : ℕ) (leaf : Bool) (page : Page)
-    (place count : ℕ)
-    → AtBlock pages i counts class leaf page place count → length pages * 16 < 2 ^ 63
+    (place count : ℕ) → AtBlock pages i counts class leaf page place count → length pages * 16 < 2 ^ 63
     → get_or counts place 0 + count < 2 ^ 64
 room_for_block pages i counts class leaf page place count at in_memory =
     let before = uses_of_pages (take i pages) in
@@ -225,21 +221,17 @@ room_for_block pages i counts class leaf page place count at in_memory =
     )
 
 pub by_class-more : (pages : List Page) (i : ℕ) (counts : List ℕ) (class : ℕ) (leaf : Bool) (page : Page)
-    (place count : ℕ)
-    → AtBlock pages i counts class leaf page place count
+    (place count : ℕ) → AtBlock pages i counts class leaf page place count
     → set counts place (get_or counts place 0 + count) ≡ free_cells_by_class (uses_of_pages (take (i + 1) pages))
 by_class-more pages i counts class leaf page place count at =
     let before = uses_of_pages (take i pages) in
     (λ j. set (at.counted j) (at.placed j) (get_or (at.counted j) (at.placed j) 0 + at.added j))
-    ∙ sym (ap free_cells_by_class
-    (map_more use_of_page pages i page at.within
-    ∙ ap (λ last. before ++ use_of_page last ∷ []) (sym at.here)
-    ∙ ap (λ last. before ++ last ∷ []) at.stands)
+    ∙ sym (ap free_cells_by_class (map_more use_of_page pages i page at.within
+    ∙ ap (λ last. before ++ use_of_page last ∷ []) (sym at.here) ∙ ap (λ last. before ++ last ∷ []) at.stands)
     ∙ by_class-push before class leaf (bits_of (cells_of class) page.used) at.known)
 
 pub by_class-more_other : (pages : List Page) (i : ℕ) (d : Page) → i < length pages
     → HasNoCells (use_of_page (get_or pages i d))
     → free_cells_by_class (uses_of_pages (take i pages)) ≡ free_cells_by_class (uses_of_pages (take (i + 1) pages))
-by_class-more_other pages i d within none =
-    sym (ap free_cells_by_class (map_more use_of_page pages i d within)
+by_class-more_other pages i d within none = sym (ap free_cells_by_class (map_more use_of_page pages i d within)
     ∙ by_class-push_other (uses_of_pages (take i pages)) (use_of_page (get_or pages i d)) none)

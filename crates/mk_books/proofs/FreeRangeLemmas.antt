@@ -20,15 +20,13 @@ longest_with-start pages = omega (arith, free_range-le-longest_free_range pages)
 
 -- one page more, free or not
 pub longest_with-free : (longest range i : ℕ) (pages : List Page) (d : Page) → i < length pages
-    → is_free_page (use_of_page (get_or pages i d)) ≡ true
-    → longest_with longest range (uses_of_pages (drop i pages))
+    → is_free_page (use_of_page (get_or pages i d)) ≡ true → longest_with longest range (uses_of_pages (drop i pages))
     ≡ longest_with (max (range + 1) longest) (range + 1) (uses_of_pages (drop (i + 1) pages))
 longest_with-free longest range i pages d within free =
     at_drop_more (λ rest. longest_with longest range (uses_of_pages rest)) pages i d within ∙ rw free (omega arith)
 
 pub longest_with-taken : (longest range i : ℕ) (pages : List Page) (d : Page) → i < length pages → range ≤ longest
-    → is_free_page (use_of_page (get_or pages i d)) ≡ false
-    → longest_with longest range (uses_of_pages (drop i pages))
+    → is_free_page (use_of_page (get_or pages i d)) ≡ false → longest_with longest range (uses_of_pages (drop i pages))
     ≡ longest_with (max 0 longest) 0 (uses_of_pages (drop (i + 1) pages))
 longest_with-taken longest range i pages d within below taken =
     at_drop_more (λ rest. longest_with longest range (uses_of_pages rest)) pages i d within
@@ -137,8 +135,7 @@ first-skip None range n count pages begun within ends short = grind (arith, rang
 first-skip (Some first) range n count pages begun within ends short = refl
 
 pub first-here : (first : Option ℕ) (range count : ℕ) (pages : List Page) → 1 ≤ count
-    → count ≤ free_range_from range pages
-    → option_or first (range_start_from range count pages)
+    → count ≤ free_range_from range pages → option_or first (range_start_from range count pages)
     ≡ option_or (option_or first (Some range)) (range_start_from range count pages)
 first-here None range count pages some long = range_start_from-here range count pages some long
 first-here (Some first) range count pages some long = refl

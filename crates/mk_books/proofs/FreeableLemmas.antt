@@ -15,8 +15,7 @@ bit_at-div_pow n m i = ap (λ x. x % 2) (div-div-eq-div-mul n (2 ^ m) (2 ^ i) �
 
 bit_at-freeable_cells : (used quar mark k : ℕ) → mark < 2 ^ 64 → k < 64
     → bit_at (freeable_cells used quar mark) k ≡ min (min (bit_at used k) (bit_at quar (32 + k))) (1 - bit_at mark k)
-bit_at-freeable_cells used quar mark k fits within =
-    bit_at_and (bit_and used (quar / 2 ^ 32)) (bit_not w64 mark) k
+bit_at-freeable_cells used quar mark k fits within = bit_at_and (bit_and used (quar / 2 ^ 32)) (bit_not w64 mark) k
     ∙ ap (λ x. min x (bit_at (bit_not w64 mark) k)) (bit_at_and used (quar / 2 ^ 32) k)
     ∙ ap (λ x. min (min (bit_at used k) x) (bit_at (bit_not w64 mark) k)) (bit_at-div_pow quar 32 k)
     ∙ ap (λ x. min (min (bit_at used k) (bit_at quar (32 + k))) x) (bit_at_not w64 mark k fits within)
@@ -35,5 +34,4 @@ freeable_cells-none used quar mark k fits above =
     let none : bit_at (quar / 2 ^ 32) k ≡ 0 = bit_at_above (quar / 2 ^ 32) 32 k high above in
     bit_at_and (bit_and used (quar / 2 ^ 32)) (bit_not w64 mark) k
     ∙ ap (λ x. min x (bit_at (bit_not w64 mark) k)) (bit_at_and used (quar / 2 ^ 32) k
-    ∙ ap (λ x. min (bit_at used k) x) none)
-    ∙ omega arith
+    ∙ ap (λ x. min (bit_at used k) x) none) ∙ omega arith

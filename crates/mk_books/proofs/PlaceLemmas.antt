@@ -44,8 +44,7 @@ pub resident_from-next : (n : ℕ) (pages : List Page) (d : Page) (resident : Bo
 resident_from-next n pages d resident within known =
     at_drop_more (λ rest. resident_pages (uses_of_pages rest)) pages n d within
     ∙ sum_by-cons (λ page. cond (is_resident_page page) 1 0) (use_of_page (get_or pages n d))
-    (uses_of_pages (drop (n + 1) pages))
-    ∙ ap (λ test. cond test 1 0 + resident_from (n + 1) pages) known
+    (uses_of_pages (drop (n + 1) pages)) ∙ ap (λ test. cond test 1 0 + resident_from (n + 1) pages) known
 
 pub resident_from-end : (n : ℕ) (pages : List Page) → length pages ≤ n → resident_from n pages ≡ 0
 resident_from-end n pages past = at_drop_all (λ rest. resident_pages (uses_of_pages rest)) pages n past
@@ -54,15 +53,13 @@ pub free_page_from-next : (n : ℕ) (pages : List Page) (d : Page) → n < lengt
     → is_free_page (use_of_page (get_or pages n d)) ≡ false → free_page_from n pages ≡ free_page_from (n + 1) pages
 free_page_from-next n pages d within taken =
     at_drop_more (λ rest. option_map (λ page. page + n) (first_where is_free_page (uses_of_pages rest))) pages n d
-    within
-    ∙ rw taken (behind-suc n (first_where is_free_page (uses_of_pages (drop (n + 1) pages))))
+    within ∙ rw taken (behind-suc n (first_where is_free_page (uses_of_pages (drop (n + 1) pages))))
 
 pub free_page_from-here : (n : ℕ) (pages : List Page) (d : Page) → n < length pages
     → is_free_page (use_of_page (get_or pages n d)) ≡ true → free_page_from n pages ≡ Some n
 free_page_from-here n pages d within free =
     at_drop_more (λ rest. option_map (λ page. page + n) (first_where is_free_page (uses_of_pages rest))) pages n d
-    within
-    ∙ rw free (ap Some (zero-add n))
+    within ∙ rw free (ap Some (zero-add n))
 
 -- the first of three, of which two are known
 pub or_known : (first : Option ℕ) (n : ℕ) (rest : Option ℕ)
@@ -73,7 +70,5 @@ or_known (Some first) n rest = refl
 pub count_by-map : {A B : Type 0} (p : B → Bool) (f : A → B) (xs : List A)
     → count_by p (map f xs) ≡ count_by (λ x. p (f x)) xs
 count_by-map p f [] = refl
-count_by-map p f (x ∷ xs) =
-    sum_by-cons (λ y. cond (p y) 1 0) (f x) (map f xs)
-    ∙ ap (λ count. cond (p (f x)) 1 0 + count) (count_by-map p f xs)
-    ∙ sym (sum_by-cons (λ y. cond (p (f y)) 1 0) x xs)
+count_by-map p f (x ∷ xs) = sum_by-cons (λ y. cond (p y) 1 0) (f x) (map f xs)
+    ∙ ap (λ count. cond (p (f x)) 1 0 + count) (count_by-map p f xs) ∙ sym (sum_by-cons (λ y. cond (p (f y)) 1 0) x xs)

@@ -48,16 +48,12 @@ first_where-bits_of count word short fits =
     let taken : (k : ℕ) → k < place → k < count → not (get_or bits k false) ≡ false
     = grind (arith, get_or-bits_of, eq-eqb) in
     elim (cases_lt place count) [
-      | inl within ↦
-          rw (lt-ltb place count within)
+      | inl within ↦ rw (lt-ltb place count within)
           (first_where_at not bits place false (omega (arith, length-bits_of count word))
           (λ k lower. taken k lower (omega arith))
           (rw (get_or-bits_of count word place false within, lowest.here (omega arith))))
-      | inr past ↦
-          rw (le-ltb place count past)
-          (first_where_nowhere not bits false
-          (λ k short. taken k (omega (arith, length-bits_of count word))
-          (omega (arith, length-bits_of count word))))
+      | inr past ↦ rw (le-ltb place count past) (first_where_nowhere not bits false
+          (λ k short. taken k (omega (arith, length-bits_of count word)) (omega (arith, length-bits_of count word))))
     ]
 
 bit_is : (b : ℕ) → b < 2 → min b 1 ≡ cond (nat_eq b 1) 1 0

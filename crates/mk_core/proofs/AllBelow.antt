@@ -8,6 +8,10 @@ unfolding all_below
 all_below_zero_is test = refl
 
 -- one more
+pub all_below_suc : (n : ℕ) (test : ℕ → Bool) → all_below (suc n) test ≡ (all_below n test && test n)
+unfolding all_below
+all_below_suc n test = refl
+
 pub all_below_more_is : (n : ℕ) (test : ℕ → Bool) → all_below n test ≡ true → test n ≡ true
     → all_below (n + 1) test ≡ true
 unfolding all_below

@@ -1,7 +1,6 @@
 -- Tests of each number below a sum.
 use Rattle.std.proofs.{Common.add-suc, Math.Bool.and-true, Math.Bool.and_assoc}
-use Rattle.mk_core.proofs.Vocabulary.{Bool, ℕ, all_below, and-false, arith, false, refl, suc, zero, ◌&&◌, ◌+◌, ◌-◌, ◌≡◌}
-use Rattle.mk_core.proofs.Vocabulary.{◌≤◌}
+use Rattle.mk_core.proofs.Vocabulary.{Bool, ℕ, all_below, arith, refl, suc, zero, ◌&&◌, ◌+◌, ◌-◌, ◌≡◌}
 
 -- this many, and this many after them
 pub all_below-add : (a b : ℕ) (test : ℕ → Bool)
@@ -10,14 +9,6 @@ unfolding all_below
 all_below-add a zero test = grind (arith, and-true)
 all_below-add a (suc b) test =
     rw (add-suc, all_below-add a b test) (and_assoc (all_below a test) (all_below b (λ i. test (a + i))) (test (a + b)))
-
--- where one of some in the middle fails, all does
-pub all_below_part_not_is : (n a b : ℕ) (test : ℕ → Bool) → a + b ≤ n → all_below b (λ i. test (a + i)) ≡ false
-    → all_below n test ≡ false
-all_below_part_not_is n a b test le f =
-    let e : n ≡ (a + b) + (n - (a + b)) = omega arith in
-    let part : all_below (a + b) test ≡ false = rw (all_below-add a b test, f) (and-false (all_below a test)) in
-    cc (e, all_below-add (a + b) (n - (a + b)) test, part)
 
 pub all_below_same : (n : ℕ) (test other : ℕ → Bool) → ((i : ℕ) → test i ≡ other i)
     → all_below n test ≡ all_below n other

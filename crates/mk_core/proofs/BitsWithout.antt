@@ -7,8 +7,7 @@ use Rattle.mk_core.proofs.Vocabulary.{◌∙◌, ◌≡◌, ◌≤◌}
 use Rattle.mk_core.specs.HistoryLaws.{BitsWithout}
 
 half_and : (a b : ℕ) → bit_and a b / 2 ≡ bit_and (a / 2) (b / 2)
-half_and a b =
-    same_from_bits (bit_and a b / 2) (bit_and (a / 2) (b / 2))
+half_and a b = same_from_bits (bit_and a b / 2) (bit_and (a / 2) (b / 2))
     (λ k. sym (bit_at-suc (bit_and a b) k) ∙ bit_at_and a b (suc k)
     ∙ ap (λ x. min x (bit_at b (suc k))) (bit_at-suc a k) ∙ ap (λ y. min (bit_at (a / 2) k) y) (bit_at-suc b k)
     ∙ sym (bit_at_and (a / 2) (b / 2) k))
@@ -27,8 +26,7 @@ bit_without a b (suc k) =
     let most : bit_and a b ≤ a = and_le_l a b in
     let half : (a - bit_and a b) / 2 ≡ a / 2 - bit_and a b / 2 = omega arith in
     bit_at-suc (a - bit_and a b) k ∙ ap (λ n. bit_at n k) half ∙ ap (λ n. bit_at (a / 2 - n) k) (half_and a b)
-    ∙ bit_without (a / 2) (b / 2) k
-    ∙ ap (λ x. min x (1 - bit_at (b / 2) k)) (sym (bit_at-suc a k))
+    ∙ bit_without (a / 2) (b / 2) k ∙ ap (λ x. min x (1 - bit_at (b / 2) k)) (sym (bit_at-suc a k))
     ∙ ap (λ y. min (bit_at a (suc k)) (1 - y)) (sym (bit_at-suc b k))
 
 bit_tests : (x y : ℕ) → x < 2 → y < 2 → (min x (1 - y) == 1) ≡ ((x == 1) && not (y == 1))

@@ -27,8 +27,7 @@ cell_on_page (Some (Later distance mapped)) index known = absurd (omega arith)
 
 -- A cell that begins at the base of an allocation is its cell.
 pub cell_from_base : (c : Config) (w : Words) (a : PlacedAllocation) (cell : Cell) → IsSized (object_placed c a)
-    → HasItsHeaders c w a
-    → cell.index < cells_under (header_in w cell.page) → first_word w cell ≡ a.base
+    → HasItsHeaders c w a → cell.index < cells_under (header_in w cell.page) → first_word w cell ≡ a.base
     → cell_of_storage (storage_of c a) ≡ cell
 cell_from_base c w a cell sized has known first =
     let on_page = cell_on_page (header_in w cell.page) cell.index known in
@@ -43,12 +42,10 @@ cell_from_base c w a cell sized has known first =
 
 -- So it is the one cell in which the allocation stands.
 pub stands_in_its_cell : (c : Config) (w : Words) (a : PlacedAllocation) → IsWithinLimits c → StandsOnHeap c a
-    → HasItsHeaders c w a
-    → stands_in w (cell_of_storage (storage_of c a)) a ≡ true
+    → HasItsHeaders c w a → stands_in w (cell_of_storage (storage_of c a)) a ≡ true
 stands_in_its_cell c w a limits st has = grind (arith, and_from, eq-eqb, cells_begin)
 
 pub stands_in_no_other : (c : Config) (w : Words) (a : PlacedAllocation) (cell : Cell) → IsSized (object_placed c a)
-    → HasItsHeaders c w a
-    → cell.index < cells_under (header_in w cell.page) → stands_in w cell a ≡ true
+    → HasItsHeaders c w a → cell.index < cells_under (header_in w cell.page) → stands_in w cell a ≡ true
     → (a.released ≡ false) × (cell_of_storage (storage_of c a) ≡ cell)
 stands_in_no_other c w a cell sized has known h = grind (arith, and_parts, not-true, cell_from_base, eqb-true)

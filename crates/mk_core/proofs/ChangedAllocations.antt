@@ -1,10 +1,10 @@
 -- Allocations that change one by one, and stay at their places.
-use Rattle.std.proofs.{Math.ListN.get_or-map as get_or-map-default, Math.Seq.get_or-append_seam}
+use Rattle.std.proofs.{Math.ListN.get_or-map as get_or-map-default, Math.Seq.get_or-append_seam, lemmas.Bool.cond_both}
 use Rattle.mk_core.proofs.Vocabulary.{Bool, Cell, Config, HasItsHeaders, IsHeaderOf, List, None, Option}
 use Rattle.mk_core.proofs.Vocabulary.{PlacedAllocation, Some, Words, ℕ, and-false, ap, false, get_or_append_left}
-use Rattle.mk_core.proofs.Vocabulary.{header_at, if◌then◌else◌, is_small_object, kinds_of, length, map, never_granted}
-use Rattle.mk_core.proofs.Vocabulary.{not, object_placed, pages_made, placed_at, refl, stands_in, storage_of, subst}
-use Rattle.mk_core.proofs.Vocabulary.{sym, true, unreleased_storage, [], ◌&&◌, ◌++◌, ◌+◌, ◌/◌, ◌<◌, ◌∙◌, ◌∷◌, ◌≡◌}
+use Rattle.mk_core.proofs.Vocabulary.{header_at, is_small_object, kinds_of, length, map, never_granted, not}
+use Rattle.mk_core.proofs.Vocabulary.{object_placed, pages_made, placed_at, refl, stands_in, storage_of, subst, sym}
+use Rattle.mk_core.proofs.Vocabulary.{true, unreleased_storage, [], ◌&&◌, ◌++◌, ◌+◌, ◌/◌, ◌<◌, ◌∙◌, ◌∷◌, ◌≡◌}
 use Rattle.mk_never.specs.Types.{is_large}
 use Rattle.mk_core.proofs.{Sizes.large_is_not_small, UnreleasedStorage.unreleased_kept}
 use Rattle.mk_core.specs.Allocations.{freed_where_it_stands, no_longer_fresh, with_released}
@@ -17,8 +17,7 @@ pub record LeavesPlaces (change : PlacedAllocation → PlacedAllocation) : Type 
   pub none : change never_granted ≡ never_granted
 
 pub changed_at : (change : PlacedAllocation → PlacedAllocation) (xs : List PlacedAllocation) (i : ℕ)
-    → change never_granted ≡ never_granted
-    → placed_at (map change xs) i ≡ change (placed_at xs i)
+    → change never_granted ≡ never_granted → placed_at (map change xs) i ≡ change (placed_at xs i)
 changed_at change xs i e = cc (e, get_or-map-default change xs i never_granted)
 
 -- with one more at the end
@@ -29,20 +28,20 @@ pub earlier_at : (xs : List PlacedAllocation) (a : PlacedAllocation) (i : ℕ) �
     → placed_at (xs ++ a ∷ []) i ≡ placed_at xs i
 earlier_at xs a i lt = get_or_append_left xs (a ∷ []) never_granted i lt
 
+-- what is so of it, freed or not, is so after a free
+freed_or_not : (w : Words) (cell : Cell) (a : PlacedAllocation) (P : PlacedAllocation → Type 0)
+    → P (record a { freed = true; fresh = true }) → P a → P (freed_where_it_stands w (Some cell) a)
+freed_or_not w cell a P freed not_freed =
+    cond_both (stands_in w cell a) (record a { freed = true; fresh = true }) a P (λ _. freed) (λ _. not_freed)
+
 -- The three changes leave the places,
 pub freed_leaves : (w : Words) (cell : Option Cell) → LeavesPlaces (freed_where_it_stands w cell)
 freed_leaves w None = record { base = λ a. refl; ty = λ a. refl; none = refl }
-freed_leaves w (Some cell) =
-    record { base = λ a. base_by a (stands_in w cell a); ty = λ a. ty_by a (stands_in w cell a); none = refl }
-  where
-    base_by : (a : PlacedAllocation) (b : Bool)
-        → (if b then record a { freed = true; fresh = true } else a).base ≡ a.base
-    base_by a true = refl
-    base_by a false = refl
-
-    ty_by : (a : PlacedAllocation) (b : Bool) → (if b then record a { freed = true; fresh = true } else a).ty ≡ a.ty
-    ty_by a true = refl
-    ty_by a false = refl
+freed_leaves w (Some cell) = record {
+  base = λ a. freed_or_not w cell a (λ x. x.base ≡ a.base) refl refl;
+  ty = λ a. freed_or_not w cell a (λ x. x.ty ≡ a.ty) refl refl;
+  none = refl;
+}
 
 pub released_leaves : (c : Config) (w : Words) → LeavesPlaces (with_released c w)
 released_leaves c w = record { base = λ a. refl; ty = λ a. refl; none = refl }
@@ -54,30 +53,20 @@ fresh_leaves = record { base = λ a. refl; ty = λ a. refl; none = refl }
 pub freed_released : (w : Words) (cell : Option Cell) (a : PlacedAllocation)
     → (freed_where_it_stands w cell a).released ≡ a.released
 freed_released w None a = refl
-freed_released w (Some cell) a = by a (stands_in w cell a)
-  where
-    by : (a : PlacedAllocation) (b : Bool)
-        → (if b then record a { freed = true; fresh = true } else a).released ≡ a.released
-    by a true = refl
-    by a false = refl
+freed_released w (Some cell) a = freed_or_not w cell a (λ x. x.released ≡ a.released) refl refl
 
 -- nor changes the storage of a small object.
 pub freed_storage : (c : Config) (w : Words) (cell : Option Cell) (a : PlacedAllocation)
-    → is_small_object (object_placed c a) ≡ true
-    → storage_of c (freed_where_it_stands w cell a) ≡ storage_of c a
+    → is_small_object (object_placed c a) ≡ true → storage_of c (freed_where_it_stands w cell a) ≡ storage_of c a
 freed_storage c w None a small = refl
-freed_storage c w (Some cell) a small = by a small (stands_in w cell a)
+freed_storage c w (Some cell) a small =
+    freed_or_not w cell a (λ x. storage_of c x ≡ storage_of c a) (cc (never_large true, never_large a.freed)) refl
   where
-    never_large : (a : PlacedAllocation) (freed : Bool) → is_small_object (object_placed c a) ≡ true
+    never_large : (freed : Bool)
         → (not a.released && not (freed && is_large (kinds_of c.types a.ty))) ≡ (not a.released && true)
-    never_large a freed small =
+    never_large freed =
         let large : is_large (kinds_of c.types a.ty) ≡ false = cc (large_is_not_small (kinds_of c.types a.ty), small) in
         ap (λ b. not a.released && not (freed && b)) large ∙ ap (λ b. not a.released && not b) (and-false freed)
-
-    by : (a : PlacedAllocation) → is_small_object (object_placed c a) ≡ true → (b : Bool)
-        → storage_of c (if b then record a { freed = true; fresh = true } else a) ≡ storage_of c a
-    by a small true = cc (never_large a true small, never_large a a.freed small)
-    by a small false = refl
 
 -- Where nothing is freed, nothing changes.
 pub none_freed : (w : Words) (xs : List PlacedAllocation) → map (freed_where_it_stands w None) xs ≡ xs
@@ -90,8 +79,7 @@ fresh_storage c xs = unreleased_kept c no_longer_fresh (λ a. refl) (λ a unrele
 
 pub same_headers : (c : Config) (w : Words) (a b : PlacedAllocation) → b.base ≡ a.base → b.ty ≡ a.ty
     → HasItsHeaders c w a → HasItsHeaders c w b
-same_headers c w a b base ty has =
-    subst (λ n. (d : ℕ) → d < pages_made (object_placed c b)
+same_headers c w a b base ty has = subst (λ n. (d : ℕ) → d < pages_made (object_placed c b)
     → IsHeaderOf (object_placed c b) d (header_at w (n / 64 + d))) (sym base)
     (subst (λ t. (d : ℕ) → d < pages_made (object_of (kinds_of c.types t))
     → IsHeaderOf (object_of (kinds_of c.types t)) d (header_at w (a.base / 64 + d))) (sym ty) has)

@@ -9,66 +9,42 @@ use Rattle.mk_core.proofs.MoreSchedules.{two_pages}
 use Rattle.mk_core.specs.History.{RefinesNever}
 
 -- Two News, two Frees, two clears and a New, and then the register of the last New isn't null.
-pub replies_freed : replies_of (never_first one_page) (asked (calls one_page freed_after_begin))
-    ≡ replicate 7 Reply.Done ++ Reply.Num 0 ∷ []
-unfolding by c0 host all_below pointed_cell one_page freed_after_begin calls_from
-replies_freed = refl
-
-pub freed_refines : RefinesNever one_page freed_after_begin
-unfolding by c0 host all_below pointed_cell one_page freed_after_begin left_from calls_from
-freed_refines = refl
+pub freed_answers : (replies_of (never_first one_page) (asked (calls one_page freed_after_begin))
+    ≡ replicate 7 Reply.Done ++ Reply.Num 0 ∷ []) × RefinesNever one_page freed_after_begin
+unfolding by c0 host all_below pointed_cell one_page freed_after_begin calls_from left_from
+freed_answers = (refl, refl)
 
 -- The third object is at heap word 4, as each object has 2 words: its address is 65536 + 8 * 4. Both reads of a pointer
 -- show it, though it was freed before, and then its number is still 7.
-pub answers_blackened : answered (calls pointer_page blackened_before_the_move)
-    ≡ replicate 7 Answer.Done ++ Answer.Word 65568 ∷ replicate 3 Answer.Done ++ Answer.Word 65568 ∷ Answer.Num 7 ∷ []
-unfolding by c0 m0 host all_below pointed_cell may_turn_black pointer_page blackened_before_the_move calls_from
-answers_blackened = refl
-
-pub replies_blackened : replies_of (never_first pointer_page) (asked (calls pointer_page blackened_before_the_move))
+pub blackened_answers : (answered (calls pointer_page blackened_before_the_move)
+    ≡ replicate 7 Answer.Done ++ Answer.Word 65568 ∷ replicate 3 Answer.Done ++ Answer.Word 65568 ∷ Answer.Num 7 ∷ [])
+    × (replies_of (never_first pointer_page) (asked (calls pointer_page blackened_before_the_move))
     ≡ replicate 7 Reply.Done ++ Reply.Val (Ptr 2 0 0) ∷ replicate 3 Reply.Done ++ Reply.Val (Ptr 2 0 0) ∷ Reply.Num 7
-    ∷ []
+    ∷ []) × RefinesNever pointer_page blackened_before_the_move
 unfolding by c0 m0 host all_below pointed_cell may_turn_black pointer_page blackened_before_the_move calls_from
-replies_blackened = refl
-
-pub blackened_refines : RefinesNever pointer_page blackened_before_the_move
-unfolding by c0 m0 host all_below pointed_cell may_turn_black pointer_page blackened_before_the_move left_from
-    calls_from
-blackened_refines = refl
+    left_from
+blackened_answers = (refl, refl, refl)
 
 -- The third New is refused, and so the heap that never reuses storage is told to refuse it. The fourth isn't.
-pub answers_full : answered (calls one_page full_then_reused)
-    ≡ Answer.Done ∷ Answer.Done ∷ Answer.Done ∷ Answer.Full ∷ Answer.Done ∷ Answer.Done ∷ []
-unfolding by c0 all_below pointed_cell may_turn_black one_page full_then_reused calls_from
-answers_full = refl
-
-pub replies_full : replies_of (never_first one_page) (asked (calls one_page full_then_reused))
-    ≡ Reply.Done ∷ Reply.Done ∷ Reply.Done ∷ Reply.Full ∷ Reply.Done ∷ Reply.Done ∷ []
-unfolding by c0 all_below pointed_cell may_turn_black one_page full_then_reused calls_from
-replies_full = refl
-
-pub full_refines : RefinesNever one_page full_then_reused
-unfolding by c0 all_below pointed_cell may_turn_black one_page full_then_reused left_from calls_from
-full_refines = refl
+pub full_answers : (answered (calls one_page full_then_reused)
+    ≡ Answer.Done ∷ Answer.Done ∷ Answer.Done ∷ Answer.Full ∷ Answer.Done ∷ Answer.Done ∷ [])
+    × (replies_of (never_first one_page) (asked (calls one_page full_then_reused))
+    ≡ Reply.Done ∷ Reply.Done ∷ Reply.Done ∷ Reply.Full ∷ Reply.Done ∷ Reply.Done ∷ [])
+    × RefinesNever one_page full_then_reused
+unfolding by c0 all_below pointed_cell may_turn_black one_page full_then_reused calls_from left_from
+full_answers = (refl, refl, refl)
 
 -- The first exchange finds null, as it expects, and the second the address that the first stored.
-pub answers_exchanged : answered (calls pointer_page exchanged) ≡ Answer.Done ∷ Answer.Done ∷ Answer.Num 1
-    ∷ Answer.Num 0 ∷ []
-unfolding by c0 all_below pointed_cell pointer_page exchanged calls_from
-answers_exchanged = refl
-
-pub exchanged_refines : RefinesNever pointer_page exchanged
-unfolding by c0 all_below pointed_cell pointer_page exchanged left_from calls_from
-exchanged_refines = refl
+pub exchanged_answers : (answered (calls pointer_page exchanged) ≡ Answer.Done ∷ Answer.Done ∷ Answer.Num 1
+    ∷ Answer.Num 0 ∷ []) × RefinesNever pointer_page exchanged
+unfolding by c0 all_below pointed_cell pointer_page exchanged calls_from left_from
+exchanged_answers = (refl, refl)
 
 -- News and Frees of what isn't null or freed are done.
-pub answers_quarter : answered (calls two_pages a_quarter_and_all) ≡ replicate 4 Answer.Done
-unfolding by c0 all_below pointed_cell two_pages a_quarter_and_all calls_from
-answers_quarter = refl
-
-pub quarter_refines : RefinesNever two_pages a_quarter_and_all
-unfolding by c0 all_below pointed_cell two_pages a_quarter_and_all left_from calls_from
-quarter_refines = refl
+pub quarter_answers : (answered (calls two_pages a_quarter_and_all) ≡ replicate 4 Answer.Done)
+    × RefinesNever two_pages a_quarter_and_all
+unfolding by c0 all_below pointed_cell two_pages a_quarter_and_all calls_from left_from
+quarter_answers = (refl, refl)
 
 pub marking_refines : RefinesNever two_pages granted_while_marking
 unfolding by c0 all_below pointed_cell two_pages granted_while_marking left_from calls_from

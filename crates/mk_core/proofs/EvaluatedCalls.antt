@@ -10,55 +10,39 @@ use Rattle.mk_core.specs.Growing.{Grows, in_this_call, own_from}
 use Rattle.mk_core.specs.HeldGates.{is_gate_held, is_gate_held_from}
 
 -- In a call of its own a caller's gate isn't held. It is after the host's `hold`, and no longer after its `open`.
-pub not_held_in_call : is_gate_held one_page 0 (take 23 freed_after_begin) ≡ false
+pub gate_along : (is_gate_held one_page 0 (take 23 freed_after_begin) ≡ false)
+    × (is_gate_held one_page 0 (take 30 freed_after_begin) ≡ true) × (is_gate_held one_page 0 freed_after_begin ≡ false)
 unfolding by c0 host all_below pointed_cell one_page freed_after_begin is_gate_held_from
-not_held_in_call = refl
-
-pub held_by_the_host : is_gate_held one_page 0 (take 30 freed_after_begin) ≡ true
-unfolding by c0 host all_below pointed_cell one_page freed_after_begin is_gate_held_from
-held_by_the_host = refl
-
-pub held_no_longer : is_gate_held one_page 0 freed_after_begin ≡ false
-unfolding by c0 host all_below pointed_cell one_page freed_after_begin is_gate_held_from
-held_no_longer = refl
+gate_along = (refl, refl, refl)
 
 -- A `hold` of a caller that is in a call finds its gate taken, and holds nothing.
 unfoldable pub hold_in_vain : List Event
 hold_in_vain = take 23 freed_after_begin ++ by host (Step.Take None ∷ Step.Hold 0 ∷ [])
 
-pub no_fault_in_vain : first_fault one_page hold_in_vain ≡ None
-unfolding first_fault fault by c0 host all_below pointed_cell one_page freed_after_begin hold_in_vain
-no_fault_in_vain = refl
-
-pub held_by_nobody : is_gate_held one_page 0 hold_in_vain ≡ false
-unfolding by c0 host all_below pointed_cell one_page freed_after_begin hold_in_vain is_gate_held_from
-held_by_nobody = refl
+pub hold_is_in_vain : (first_fault one_page hold_in_vain ≡ None) × (is_gate_held one_page 0 hold_in_vain ≡ false)
+unfolding first_fault fault by c0 host all_below pointed_cell one_page freed_after_begin hold_in_vain is_gate_held_from
+hold_is_in_vain = (refl, refl)
 
 -- The marker scans the first object while the caller loads the pointer in the second.
 unfoldable pub before_the_load : List Event
 before_the_load = take 41 blackened_before_the_move
 
 unfoldable pub load_among_a_scan : List Event
-load_among_a_scan =
-    by c0 (Step.Enter (Op.GetPtr 2 1 0) ∷ []) ++ by m0 (Step.Attend ∷ Step.Mlook (Word.Head 0) ∷ [])
+load_among_a_scan = by c0 (Step.Enter (Op.GetPtr 2 1 0) ∷ []) ++ by m0 (Step.Attend ∷ Step.Mlook (Word.Head 0) ∷ [])
     ++ by c0 (Step.Reg ∷ []) ++ by m0 (Step.Claim 0 0 ∷ Step.Mload ∷ []) ++ by c0 (Step.Probe ∷ [])
     ++ by m0 (Step.Mload ∷ Step.Mblack ∷ Step.Quit ∷ []) ++ by c0 (Step.Read ∷ [])
 
-pub no_fault_among : first_fault pointer_page (before_the_load ++ load_among_a_scan) ≡ None
-unfolding first_fault fault by c0 m0 all_below pointed_cell may_turn_black pointer_page blackened_before_the_move
-    before_the_load load_among_a_scan
-no_fault_among = refl
-
 -- The caller's own steps have found its gate free, the address of the second object, at heap word 2, the header of
 -- cells of 2 words, and the address of the third object, at heap word 4.
-pub found_in_the_call : in_this_call pointer_page c0 before_the_load load_among_a_scan
+pub load_finds : (first_fault pointer_page (before_the_load ++ load_among_a_scan) ≡ None)
+    × (in_this_call pointer_page c0 before_the_load load_among_a_scan
     ≡ record { event = record { seat = c0; step = Step.Enter (Op.GetPtr 2 1 0) }; found = 0 }
     ∷ record { event = record { seat = c0; step = Step.Reg }; found = 65552 }
     ∷ record { event = record { seat = c0; step = Step.Probe }; found = 1 }
-    ∷ record { event = record { seat = c0; step = Step.Read }; found = 65568 } ∷ []
-unfolding by c0 m0 all_below pointed_cell may_turn_black pointer_page blackened_before_the_move before_the_load
-    load_among_a_scan left_from own_from
-found_in_the_call = refl
+    ∷ record { event = record { seat = c0; step = Step.Read }; found = 65568 } ∷ [])
+unfolding first_fault fault by c0 m0 all_below pointed_cell may_turn_black pointer_page blackened_before_the_move
+    before_the_load load_among_a_scan left_from own_from
+load_finds = (refl, refl)
 
 -- The seven events of the marker are of others than the caller, and not of others than the marker.
 pub scan_is_of_others : AreOfOthers (c0 ∷ host ∷ []) (events_from 41 7 blackened_before_the_move)
@@ -76,6 +60,5 @@ grows_for_the_caller =
 
 pub not_for_the_marker : Grows (m0 ∷ []) before_the_load (take 48 blackened_before_the_move) → ⊥
 unfolding by c0 m0 host blackened_before_the_move before_the_load events_from
-not_for_the_marker h =
-    scan_is_of_the_marker (subst (λ (es : List Event). AreOfOthers (m0 ∷ []) es)
+not_for_the_marker h = scan_is_of_the_marker (subst (λ (es : List Event). AreOfOthers (m0 ∷ []) es)
     (sym (append_cancel_left before_the_load (events_from 41 7 blackened_before_the_move) h.more h.is)) h.of_others)

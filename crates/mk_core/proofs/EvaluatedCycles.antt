@@ -11,15 +11,13 @@ use Rattle.mk_core.specs.Cycles.{Cycle, IsInSnapshot, NoneSweeps, NoneSweepsFrom
 -- The first cycle is begun in a caller's turn and ended in the host's.
 unfoldable pub first_cycle : Cycle freed_after_begin
 unfolding by c0 host freed_after_begin event_number at_number
-first_cycle =
-    cycle_of (at_number is_begin 15 _ refl refl) (next_of (at_number is_close 15 _ refl refl) refl)
+first_cycle = cycle_of (at_number is_begin 15 _ refl refl) (next_of (at_number is_close 15 _ refl refl) refl)
     (next_of (at_number is_release 0 _ refl refl) refl) (next_of (at_number is_end 3 _ refl refl) refl)
 
 -- The second is begun and ended in one turn.
 unfoldable pub second_cycle : Cycle freed_after_begin
 unfolding by c0 host freed_after_begin event_number at_number
-second_cycle =
-    cycle_of (at_number is_begin 42 _ refl refl) (next_of (at_number is_close 1 _ refl refl) refl)
+second_cycle = cycle_of (at_number is_begin 42 _ refl refl) (next_of (at_number is_close 1 _ refl refl) refl)
     (next_of (at_number is_release 0 _ refl refl) refl) (next_of (at_number is_end 4 _ refl refl) refl)
 
 -- The first object is freed before the first cycle begins, and the second only after that.
@@ -32,29 +30,16 @@ unfolding by c0 host all_below pointed_cell one_page freed_after_begin left_from
 not_in_first_snapshot h = false≢true h
 
 -- When the second cycle begins the first object is released already.
-pub in_second_snapshot : IsInSnapshot one_page second_cycle.releasing.marking 1
+pub second_snapshot : IsInSnapshot one_page second_cycle.releasing.marking 1
+    × (IsInSnapshot one_page second_cycle.releasing.marking 0 → ⊥)
 unfolding by c0 host all_below pointed_cell one_page freed_after_begin left_from event_number at_number second_cycle
-in_second_snapshot = refl
-
-pub not_in_second_snapshot : IsInSnapshot one_page second_cycle.releasing.marking 0 → ⊥
-unfolding by c0 host all_below pointed_cell one_page freed_after_begin left_from event_number at_number second_cycle
-not_in_second_snapshot h = false≢true h
+second_snapshot = (refl, λ h. false≢true h)
 
 -- The freed object of the other schedule is in its cycle's snapshot, and isn't released, since a word points to it.
 unfoldable pub cycle_of_blackened : Cycle blackened_before_the_move
 unfolding by c0 m0 host blackened_before_the_move event_number at_number
-cycle_of_blackened =
-    cycle_of (at_number is_begin 34 _ refl refl) (next_of (at_number is_close 50 _ refl refl) refl)
+cycle_of_blackened = cycle_of (at_number is_begin 34 _ refl refl) (next_of (at_number is_close 50 _ refl refl) refl)
     (next_of (at_number is_release 0 _ refl refl) refl) (next_of (at_number is_end 0 _ refl refl) refl)
-
-pub in_snapshot_of_blackened : IsInSnapshot pointer_page cycle_of_blackened.releasing.marking 2
-unfolding by c0 m0 host all_below pointed_cell may_turn_black pointer_page blackened_before_the_move left_from
-    event_number at_number cycle_of_blackened
-in_snapshot_of_blackened = refl
-
-pub not_released : (placed_at (left pointer_page blackened_before_the_move).allocations 2).released ≡ false
-unfolding by c0 m0 host all_below pointed_cell may_turn_black pointer_page blackened_before_the_move left_from
-not_released = refl
 
 -- Sweeping marks: the test along a list, and what it says.
 
@@ -80,10 +65,12 @@ unfolding by c0 host all_below pointed_cell one_page freed_after_begin left_from
     any_sweeps
 first_has_none = none_sweeps one_page _ _ refl
 
-pub blackened_has_none : NoneSweeps pointer_page cycle_of_blackened.releasing.marking
+pub blackened_snapshot : IsInSnapshot pointer_page cycle_of_blackened.releasing.marking 2
+    × ((placed_at (left pointer_page blackened_before_the_move).allocations 2).released ≡ false)
+    × NoneSweeps pointer_page cycle_of_blackened.releasing.marking
 unfolding by c0 m0 host all_below pointed_cell may_turn_black pointer_page blackened_before_the_move left_from
     event_number at_number cycle_of_blackened any_sweeps
-blackened_has_none = none_sweeps pointer_page _ _ refl
+blackened_snapshot = (refl, refl, none_sweeps pointer_page _ _ refl)
 
 -- A word of an object that has no mark, looked at in the stop, gives a sweeping mark.
 pub sweeps_there : sweeps pointer_page (left pointer_page before_the_sweep).now

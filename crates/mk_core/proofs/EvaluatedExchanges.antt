@@ -22,21 +22,17 @@ Compares c es k p number place =
 
 -- what is to be shown of an exchange by the caller of an event
 abbrev ExchangeCompares : Config → List Event → Event → Type 0
-ExchangeCompares c es e =
-    (k q i p r : ℕ) → e ≡ record { seat = Caller k; step = Step.Cas }
-    → (flight_of (left c es).now (Caller k)).op ≡ Op.CasPtr q i p r
-    → ComparesValues c es k q i p
+ExchangeCompares c es e = (k q i p r : ℕ) → e ≡ record { seat = Caller k; step = Step.Cas }
+    → (flight_of (left c es).now (Caller k)).op ≡ Op.CasPtr q i p r → ComparesValues c es k q i p
 
 -- The operation and the word that are compared are these alone.
 compares_there : (c : Config) (es : List Event) (q i p r number place : ℕ)
     → (flight_of (left c es).now (Caller 0)).op ≡ Op.CasPtr q i p r
     → target_of (never_behind c es) (register_at (never_behind c es) 0 q) i ≡ WordOf number place
-    → Compares c es 0 p number place
-    → ExchangeCompares c es (record { seat = Caller 0; step = Step.Cas })
+    → Compares c es 0 p number place → ExchangeCompares c es (record { seat = Caller 0; step = Step.Cas })
 compares_there c es q i p r number place is there same k' q' i' p' r' is_event is' =
     subst (λ (x : ℕ). (flight_of (left c es).now (Caller x)).op ≡ Op.CasPtr q' i' p' r'
-    → ComparesValues c es x q' i' p')
-    (ap (λ (e : Event). caller_number e.seat) is_event)
+    → ComparesValues c es x q' i' p') (ap (λ (e : Event). caller_number e.seat) is_event)
     (λ (here : (flight_of (left c es).now (Caller 0)).op ≡ Op.CasPtr q' i' p' r').
     subst (λ (o : Op). ComparesValues c es 0 (q_of o) (i_of o) (p_of o)) (sym is ∙ here)
     (record { number = number; place = place; target = there; answered = same }))
@@ -61,8 +57,7 @@ first_exchange = compares_there pointer_page (take 16 exchanged) 0 0 2 1 0 0 ref
 -- Before the second it is the pointer that the first has stored.
 second_exchange : ExchangeCompares pointer_page (take 24 exchanged) (record { seat = c0; step = Step.Cas })
 unfolding by c0 all_below pointed_cell pointer_page exchanged left_from calls_from
-second_exchange =
-    compares_there pointer_page (take 24 exchanged) 0 0 2 1 0 0 refl refl
+second_exchange = compares_there pointer_page (take 24 exchanged) 0 0 2 1 0 0 refl refl
     ((λ h. absurd (answered_zero h)), (λ h. absurd (not_null 1 0 0 h)))
 
 pub exchanges_compare : ExchangesCompareValues pointer_page exchanged

@@ -4,7 +4,7 @@ use Rattle.mk_core.proofs.Vocabulary.{AreOfOthers, Event, List, None, Op, Seat, 
 use Rattle.mk_core.proofs.Vocabulary.{eqb-false, false≢true, left, left_from, ltb-true, pointed_cell, refl, [], ◌++◌}
 use Rattle.mk_core.proofs.Vocabulary.{◌∷◌}
 use Rattle.mk_core.proofs.SmallCycles.{begun_in_stop, by_caller, by_host, by_marker, small, three_objects}
-use Rattle.mk_core.specs.Frames.{CallIsLeft, CountsAreLeft, IsLeft, OwnIsLeft, Steady, TurnIsLeft}
+use Rattle.mk_core.specs.Frames.{CallIsLeft, IsLeft, OwnIsLeft, Steady, TurnIsLeft}
 use Rattle.mk_core.specs.LongerLists.{IsStillTheSame}
 
 -- The caller has loaded the registers of a SetPtr. The host takes the turn, and finds the caller's gate taken.
@@ -48,40 +48,26 @@ pub triers_are_others : AreOfOthers (Seat.Host ∷ []) others_try
 unfolding AreOfOthers
 triers_are_others = (refl, (refl, (refl, tt)))
 
-turn_is_left : TurnIsLeft (left small begun_in_stop) (left small (begun_in_stop ++ others_try))
-unfolding left_from all_below pointed_cell begun_in_stop three_objects
-turn_is_left = record {
-  steady = refl;
-  held_gates = λ j held. held;
-  other_gates = λ j other. other;
-  held_callers = λ j held. refl;
-  held_registers = λ j r lt held. refl;
-  marks_grow = λ p k has. has;
-  blacks_grow = λ p k has. has;
-  unmarked = λ not_marking not_wanted. (refl, refl);
-  stopped = λ e. absurd (eqb-false 0 2 refl e);
-  dirty = λ p dirty. dirty;
-}
-
-counts_are_left : CountsAreLeft small begun_in_stop (begun_in_stop ++ others_try)
-unfolding left_from calls_from all_below pointed_cell begun_in_stop three_objects
-counts_are_left = record { ends = refl; fulls = refl }
-
-host_is_left : OwnIsLeft small Seat.Host (left small begun_in_stop) (left small (begun_in_stop ++ others_try))
-unfolding left_from all_below pointed_cell begun_in_stop three_objects
-host_is_left = record {
-  flight = refl;
-  marker = refl;
-  registers = λ k r is lt. absurd cc;
-  holding = λ holds. (holds, refl);
-}
-
 pub all_is_left : IsLeft small Seat.Host begun_in_stop (begun_in_stop ++ others_try)
-unfolding left_from all_below pointed_cell begun_in_stop three_objects
+unfolding left_from calls_from all_below pointed_cell begun_in_stop three_objects
 all_is_left = record {
-  own = host_is_left;
+  own = record { flight = refl; marker = refl; registers = λ k r is lt. absurd cc; holding = λ holds. (holds, refl) };
   in_call = λ k is in_call. absurd in_call;
-  turn = λ holds. (turn_is_left, counts_are_left);
+  turn = λ holds. (
+    record {
+      steady = refl;
+      held_gates = λ j held. held;
+      other_gates = λ j other. other;
+      held_callers = λ j held. refl;
+      held_registers = λ j r lt held. refl;
+      marks_grow = λ p k has. has;
+      blacks_grow = λ p k has. has;
+      unmarked = λ not_marking not_wanted. (refl, refl);
+      stopped = λ e. absurd (eqb-false 0 2 refl e);
+      dirty = λ p dirty. dirty;
+    },
+    record { ends = refl; fulls = refl },
+  );
   stop = λ all. refl;
   scan = λ attends. absurd attends;
   visit = λ is_in. absurd is_in;

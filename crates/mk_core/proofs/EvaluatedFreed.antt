@@ -79,12 +79,10 @@ words_tell_what_stands =
     record {
       headers = headers;
       later = λ settled p distance mapped h. absurd (no_later p distance mapped h);
-      freed = λ settled cell h.
-          subst (λ x. (a : IsTaken w x) × ((placed_at w.allocations a.number).freed ≡ true))
+      freed = λ settled cell h. subst (λ x. (a : IsTaken w x) × ((placed_at w.allocations a.number).freed ≡ true))
           (sym (cell_is cell (only_third cell.page cell.index h)))
           (third_is_taken, third_was_freed);
-      quarantined = λ cell a h.
-          cell_of_third cell.page cell.index a.in_range
+      quarantined = λ cell a h. cell_of_third cell.page cell.index a.in_range
           (subst (λ i. stands_in w.now.words cell (placed_at w.allocations i) ≡ true) (freed_number a.number h)
           a.stands);
     }

@@ -19,12 +19,9 @@ pub page_is_clean : slice_index (left small written_beside).now.words.dirty 0 �
 unfolding left_from all_below pointed_cell written_beside three_objects
 page_is_clean = refl
 
-pub dirty_is_owed : OwesDirty (left small written_beside).now 0 0
-unfolding left_from all_below pointed_cell written_beside three_objects
-dirty_is_owed = (refl, refl)
-
 pub guarded_by_call : IsGuarded small (left small written_beside).now 0
-guarded_by_call = DirtyIsOwed 0 dirty_is_owed
+unfolding left_from all_below pointed_cell written_beside three_objects
+guarded_by_call = DirtyIsOwed 0 (refl, refl)
 
 -- So each word of a black object is guarded there, all on that page.
 pub writing_is_guarded : MarkingIsGuarded small (left small written_beside).now
@@ -38,14 +35,10 @@ writing_is_guarded marks (suc p) k i cell black scanned word = absurd (omega ari
 
 -- after the `dirty`
 
-pub dirtied_points_badly : word_points_well small.pages (left small (written_beside ++ page_dirtied)).now.words 0
-    ≡ false
+pub guarded_by_page : (word_points_well small.pages (left small (written_beside ++ page_dirtied)).now.words 0
+    ≡ false) × (IsGuarded small (left small (written_beside ++ page_dirtied)).now 0)
 unfolding left_from all_below pointed_cell written_beside three_objects
-dirtied_points_badly = refl
-
-pub guarded_by_page : IsGuarded small (left small (written_beside ++ page_dirtied)).now 0
-unfolding left_from all_below pointed_cell written_beside three_objects
-guarded_by_page = PageIsDirty refl
+guarded_by_page = (refl, PageIsDirty refl)
 
 -- before the `close`
 

@@ -11,8 +11,8 @@ use Rattle.mk_never.specs.{declared.types.Kind.Kind, declared.types.Kind.TheVari
 use Rattle.mk_core.proofs.MoreSchedules.{a_quarter_and_all, before_the_sweep, exchanged, full_then_reused}
 use Rattle.mk_core.proofs.MoreSchedules.{granted_while_marking, no_fault_full, no_fault_marking, no_fault_quarter}
 use Rattle.mk_core.proofs.MoreSchedules.{no_fault_swept, sweeping_mark, two_pages}
-use Rattle.mk_core.proofs.Schedules.{blackened_before_the_move, by, c0, fault, first_fault, freed_after_begin, host, m0}
-use Rattle.mk_core.proofs.Schedules.{no_fault_blackened, no_fault_freed, one_page, pointer_page}
+use Rattle.mk_core.proofs.Schedules.{blackened_before_the_move, by, c0, fault, first_fault, freed_after_begin, heap_of}
+use Rattle.mk_core.proofs.Schedules.{host, m0, no_fault_blackened, no_fault_freed, one_page, pointer_page}
 use Rattle.mk_core.proofs.{EventsAt.◌and◌, HistoryParts.earlier_part_is_history}
 use Rattle.mk_core.specs.Config.{IsAmong, IsBetween, IsTypeAmong}
 use Rattle.mk_core.specs.History.{AreEnabled, CallsAreAdmitted}
@@ -29,8 +29,7 @@ unfolding fault AreEnabledFrom
 enabled_from c n w [] h = tt
 enabled_from c n w (e ∷ es) h =
     let both = none_of_both (failing c w.now e == 0) (n, failing c w.now e) (fault c (n + 1) (world_behind c w e) es) h
-    in
-    (eqb-true (failing c w.now e) 0 both.0, enabled_from c (n + 1) (world_behind c w e) es both.1)
+    in (eqb-true (failing c w.now e) 0 both.0, enabled_from c (n + 1) (world_behind c w e) es both.1)
 
 pub enabled : (c : Config) (es : List Event) → first_fault c es ≡ None → AreEnabled c es
 unfolding first_fault
@@ -39,16 +38,7 @@ enabled c es h = enabled_from c 0 (first_world c) es h
 -- Heaps of a few pages, all of them resident, are within limits where their types are.
 
 pub small_limits : (pages callers : ℕ) (types : List (List Kind)) → IsBetween 1 3 pages → IsBetween 1 2 callers
-    → length types ≤ 2
-    → All (IsTypeAmong types) types
-    → IsWithinLimits (record {
-      pages = pages;
-      resident = pages;
-      callers = callers;
-      markers = 0;
-      types = types;
-      globals = [];
-    })
+    → length types ≤ 2 → All (IsTypeAmong types) types → IsWithinLimits (heap_of pages callers types)
 small_limits pages callers types few_pages few_callers few_types among = record {
   pages = (few_pages.0, omega (arith, few_pages.1));
   resident = (few_pages.0, le_refl pages);
@@ -69,22 +59,19 @@ one_type types kinds h = All-cons (IsTypeAmong types) kinds [] h (All-nil (IsTyp
 
 one_page_limits : IsWithinLimits one_page
 unfolding one_page
-one_page_limits =
-    small_limits 1 1 one_page.types (omega arith, omega arith) (omega arith, omega arith) (omega arith)
+one_page_limits = small_limits 1 1 one_page.types (omega arith, omega arith) (omega arith, omega arith) (omega arith)
     (one_type one_page.types (replicate 32 Num) (numbers one_page.types 32 (omega arith, omega arith)))
 
 two_pages_limits : IsWithinLimits two_pages
 unfolding two_pages
-two_pages_limits =
-    small_limits 2 1 two_pages.types (omega arith, omega arith) (omega arith, omega arith) (omega arith)
+two_pages_limits = small_limits 2 1 two_pages.types (omega arith, omega arith) (omega arith, omega arith) (omega arith)
     (All-cons (IsTypeAmong two_pages.types) (replicate 2 Num) (replicate 6 Num ∷ [])
     (numbers two_pages.types 2 (omega arith, omega arith))
     (one_type two_pages.types (replicate 6 Num) (numbers two_pages.types 6 (omega arith, omega arith))))
 
 pointer_and_number : All (IsAmong pointer_page.types) (To 0 0 ∷ Num ∷ [])
 unfolding pointer_page
-pointer_and_number =
-    All-cons (IsAmong pointer_page.types) (To 0 0) (Num ∷ []) (omega arith, omega arith)
+pointer_and_number = All-cons (IsAmong pointer_page.types) (To 0 0) (Num ∷ []) (omega arith, omega arith)
     (All-cons (IsAmong pointer_page.types) Num [] tt (All-nil (IsAmong pointer_page.types)))
 
 pointer_page_limits : IsWithinLimits pointer_page
@@ -102,89 +89,53 @@ pub history : (c : Config) (es : List Event) → IsWithinLimits c → first_faul
 history c es limits no_fault calls =
     record { within_limits = limits; enabled = enabled c es no_fault; admitted = calls }
 
-freed_is_admitted : CallsAreAdmitted one_page freed_after_begin
-unfolding by c0 host all_below pointed_cell one_page freed_after_begin left_from calls_from
-freed_is_admitted =
-    admitted (omega arith) (omega arith) tt tt
-    and admitted (omega arith) (omega arith) tt tt
-    and admitted (omega arith) (omega arith) tt refl
-    and admitted (omega arith) (omega arith) tt refl
-    and admitted (omega arith) (omega arith) tt tt
-    and admitted (omega arith) (omega arith) tt tt
-    and admitted (omega arith) (omega arith) tt tt
-    and admitted (omega arith) (omega arith) tt tt and tt
-
 pub freed_is_history : IsHistory one_page freed_after_begin
-freed_is_history = history one_page freed_after_begin one_page_limits no_fault_freed freed_is_admitted
-
-blackened_is_admitted : CallsAreAdmitted pointer_page blackened_before_the_move
-unfolding by c0 m0 host all_below pointed_cell may_turn_black pointer_page blackened_before_the_move left_from
-    calls_from
-blackened_is_admitted =
-    admitted (omega arith) (omega arith) tt tt
-    and admitted (omega arith) (omega arith) tt tt
-    and admitted (omega arith) (omega arith) tt tt
-    and admitted (omega arith) (omega arith) (omega arith, refl) (omega arith, (refl, refl))
-    and admitted (omega arith) (omega arith) (omega arith, refl) tt
-    and admitted (omega arith) (omega arith) tt refl
-    and admitted (omega arith) (omega arith) tt tt
-    and admitted (omega arith) (omega arith) (omega arith, refl) tt
-    and admitted (omega arith) (omega arith) (omega arith, refl) (omega arith, (refl, refl))
-    and admitted (omega arith) (omega arith) (omega arith, refl) (omega arith, tt)
-    and admitted (omega arith) (omega arith) tt tt
-    and admitted (omega arith) (omega arith) (omega arith, refl) tt
-    and admitted (omega arith) (omega arith) (omega arith, refl) tt and tt
+unfolding by c0 host all_below pointed_cell one_page freed_after_begin left_from calls_from
+freed_is_history = history one_page freed_after_begin one_page_limits no_fault_freed
+    (admitted (omega arith) (omega arith) tt tt and admitted (omega arith) (omega arith) tt tt
+    and admitted (omega arith) (omega arith) tt refl and admitted (omega arith) (omega arith) tt refl
+    and admitted (omega arith) (omega arith) tt tt and admitted (omega arith) (omega arith) tt tt
+    and admitted (omega arith) (omega arith) tt tt and admitted (omega arith) (omega arith) tt tt and tt)
 
 pub blackened_is_history : IsHistory pointer_page blackened_before_the_move
-blackened_is_history =
-    history pointer_page blackened_before_the_move pointer_page_limits no_fault_blackened blackened_is_admitted
-
-full_is_admitted : CallsAreAdmitted one_page full_then_reused
-unfolding by c0 all_below pointed_cell may_turn_black one_page full_then_reused left_from calls_from
-full_is_admitted =
-    admitted (omega arith) (omega arith) tt tt
+unfolding by c0 m0 host all_below pointed_cell may_turn_black pointer_page blackened_before_the_move left_from
+    calls_from
+blackened_is_history = history pointer_page blackened_before_the_move pointer_page_limits no_fault_blackened
+    (admitted (omega arith) (omega arith) tt tt and admitted (omega arith) (omega arith) tt tt
     and admitted (omega arith) (omega arith) tt tt
-    and admitted (omega arith) (omega arith) tt refl
-    and admitted (omega arith) (omega arith) tt tt
-    and admitted (omega arith) (omega arith) tt tt
-    and admitted (omega arith) (omega arith) tt tt and tt
+    and admitted (omega arith) (omega arith) (omega arith, refl) (omega arith, (refl, refl))
+    and admitted (omega arith) (omega arith) (omega arith, refl) tt and admitted (omega arith) (omega arith) tt refl
+    and admitted (omega arith) (omega arith) tt tt and admitted (omega arith) (omega arith) (omega arith, refl) tt
+    and admitted (omega arith) (omega arith) (omega arith, refl) (omega arith, (refl, refl))
+    and admitted (omega arith) (omega arith) (omega arith, refl) (omega arith, tt)
+    and admitted (omega arith) (omega arith) tt tt and admitted (omega arith) (omega arith) (omega arith, refl) tt
+    and admitted (omega arith) (omega arith) (omega arith, refl) tt and tt)
 
 pub full_is_history : IsHistory one_page full_then_reused
-full_is_history = history one_page full_then_reused one_page_limits no_fault_full full_is_admitted
-
-quarter_is_admitted : CallsAreAdmitted two_pages a_quarter_and_all
-unfolding by c0 all_below pointed_cell two_pages a_quarter_and_all left_from calls_from
-quarter_is_admitted =
-    admitted (omega arith) (omega arith) tt tt
-    and admitted (omega arith) (omega arith) tt tt
-    and admitted (omega arith) (omega arith) tt refl
-    and admitted (omega arith) (omega arith) tt refl and tt
+unfolding by c0 all_below pointed_cell may_turn_black one_page full_then_reused left_from calls_from
+full_is_history = history one_page full_then_reused one_page_limits no_fault_full
+    (admitted (omega arith) (omega arith) tt tt and admitted (omega arith) (omega arith) tt tt
+    and admitted (omega arith) (omega arith) tt refl and admitted (omega arith) (omega arith) tt tt
+    and admitted (omega arith) (omega arith) tt tt and admitted (omega arith) (omega arith) tt tt and tt)
 
 pub quarter_is_history : IsHistory two_pages a_quarter_and_all
-quarter_is_history = history two_pages a_quarter_and_all two_pages_limits no_fault_quarter quarter_is_admitted
-
-marking_is_admitted : CallsAreAdmitted two_pages granted_while_marking
-unfolding by c0 all_below pointed_cell two_pages granted_while_marking left_from calls_from
-marking_is_admitted =
-    admitted (omega arith) (omega arith) tt tt
-    and admitted (omega arith) (omega arith) tt refl
-    and admitted (omega arith) (omega arith) tt tt
-    and tt
+unfolding by c0 all_below pointed_cell two_pages a_quarter_and_all left_from calls_from
+quarter_is_history = history two_pages a_quarter_and_all two_pages_limits no_fault_quarter
+    (admitted (omega arith) (omega arith) tt tt and admitted (omega arith) (omega arith) tt tt
+    and admitted (omega arith) (omega arith) tt refl and admitted (omega arith) (omega arith) tt refl and tt)
 
 pub marking_is_history : IsHistory two_pages granted_while_marking
-marking_is_history = history two_pages granted_while_marking two_pages_limits no_fault_marking marking_is_admitted
-
-swept_is_admitted : CallsAreAdmitted pointer_page (before_the_sweep ++ sweeping_mark ∷ [])
-unfolding by c0 host all_below pointed_cell pointer_page exchanged before_the_sweep sweeping_mark left_from calls_from
-swept_is_admitted =
-    admitted (omega arith) (omega arith) tt tt
-    and admitted (omega arith) (omega arith) tt tt
-    and admitted (omega arith) (omega arith) (omega arith, refl) (omega arith, (tt, (refl, refl)))
-    and admitted (omega arith) (omega arith) (omega arith, refl) (omega arith, (tt, (refl, refl))) and tt
+unfolding by c0 all_below pointed_cell two_pages granted_while_marking left_from calls_from
+marking_is_history = history two_pages granted_while_marking two_pages_limits no_fault_marking
+    (admitted (omega arith) (omega arith) tt tt and admitted (omega arith) (omega arith) tt refl
+    and admitted (omega arith) (omega arith) tt tt and tt)
 
 pub swept_is_history : IsHistory pointer_page (before_the_sweep ++ sweeping_mark ∷ [])
-swept_is_history =
-    history pointer_page (before_the_sweep ++ sweeping_mark ∷ []) pointer_page_limits no_fault_swept swept_is_admitted
+unfolding by c0 host all_below pointed_cell pointer_page exchanged before_the_sweep sweeping_mark left_from calls_from
+swept_is_history = history pointer_page (before_the_sweep ++ sweeping_mark ∷ []) pointer_page_limits no_fault_swept
+    (admitted (omega arith) (omega arith) tt tt and admitted (omega arith) (omega arith) tt tt
+    and admitted (omega arith) (omega arith) (omega arith, refl) (omega arith, (tt, (refl, refl)))
+    and admitted (omega arith) (omega arith) (omega arith, refl) (omega arith, (tt, (refl, refl))) and tt)
 
 -- so is its earlier part
 pub exchanged_is_history : IsHistory pointer_page exchanged

@@ -8,9 +8,9 @@ use Rattle.mk_core.proofs.EvaluatedHistories.{admitted, history, numbers, one_ty
 use Rattle.mk_core.proofs.EventsAt.{Also, AtEach, at_each, event_number, served, stands_at, turn_number, ◌and◌}
 use Rattle.mk_core.proofs.LargeSchedule.{large_freed, no_fault_large, three_pages}
 use Rattle.mk_core.proofs.Schedules.{by, c0}
-use Rattle.mk_core.specs.Counts.{IsDue, IsTidy, TalliesAreTidy}
-use Rattle.mk_core.specs.{Allocations.FitsAmongAllocations, Allocations.fresh_words_of, Allocations.held_by_allocations}
-use Rattle.mk_core.specs.{Allocations.place_among_allocations, History.CallsAreAdmitted, History.RefinesNever}
+use Rattle.mk_core.specs.Allocations.{FitsAmongAllocations, fresh_words_of, held_by_allocations}
+use Rattle.mk_core.specs.Allocations.{place_among_allocations}
+use Rattle.mk_core.specs.{Counts.IsDue, Counts.IsTidy, Counts.TalliesAreTidy, History.RefinesNever}
 
 three_pages_limits : IsWithinLimits three_pages
 unfolding three_pages
@@ -18,64 +18,44 @@ three_pages_limits =
     small_limits 3 2 three_pages.types (omega arith, omega arith) (omega arith, omega arith) (omega arith)
     (one_type three_pages.types (replicate 65 Num) (numbers three_pages.types 65 (omega arith, omega arith)))
 
-large_is_admitted : CallsAreAdmitted three_pages large_freed
-unfolding by c0 all_below pointed_cell three_pages large_freed left_from calls_from
-large_is_admitted =
-    admitted (omega arith) (omega arith) tt tt
-    and admitted (omega arith) (omega arith) (omega arith, refl) tt
-    and admitted (omega arith) (omega arith) tt refl
-    and admitted (omega arith) (omega arith) (omega arith, refl) tt
-    and admitted (omega arith) (omega arith) tt refl
-    and admitted (omega arith) (omega arith) tt tt
-    and admitted (omega arith) (omega arith) tt tt and tt
-
 pub large_is_history : IsHistory three_pages large_freed
-large_is_history = history three_pages large_freed three_pages_limits no_fault_large large_is_admitted
+unfolding by c0 all_below pointed_cell three_pages large_freed left_from calls_from
+large_is_history = history three_pages large_freed three_pages_limits no_fault_large
+    (admitted (omega arith) (omega arith) tt tt and admitted (omega arith) (omega arith) (omega arith, refl) tt
+    and admitted (omega arith) (omega arith) tt refl and admitted (omega arith) (omega arith) (omega arith, refl) tt
+    and admitted (omega arith) (omega arith) tt refl and admitted (omega arith) (omega arith) tt tt
+    and admitted (omega arith) (omega arith) tt tt and tt)
 
 -- A New, a write and a Free are done. The read is refused as one of an unmapped object, and the second Free as one too
 -- many.
-pub answers_large : answered (calls three_pages large_freed)
-    ≡ Answer.Done ∷ Answer.Done ∷ Answer.Done ∷ Answer.Fault ∷ Answer.Double ∷ Answer.Done ∷ Answer.Done ∷ []
-unfolding by c0 all_below pointed_cell three_pages large_freed calls_from
-answers_large = refl
-
-pub large_refines : RefinesNever three_pages large_freed
-unfolding by c0 all_below pointed_cell three_pages large_freed left_from calls_from
-large_refines = refl
+pub large_answers : (answered (calls three_pages large_freed)
+    ≡ Answer.Done ∷ Answer.Done ∷ Answer.Done ∷ Answer.Fault ∷ Answer.Double ∷ Answer.Done ∷ Answer.Done ∷ [])
+    × RefinesNever three_pages large_freed
+unfolding by c0 all_below pointed_cell three_pages large_freed calls_from left_from
+large_answers = (refl, refl)
 
 -- 65 words take two pages, which are 128 words. From the event that frees them on none is held, and none is fresh: this
 -- free isn't due.
-pub counts_large : (held_by_allocations three_pages (left three_pages (take 16 large_freed)).allocations ≡ 128)
+pub large_counts : ((held_by_allocations three_pages (left three_pages (take 16 large_freed)).allocations ≡ 128)
     × (held_by_allocations three_pages (left three_pages (take 17 large_freed)).allocations ≡ 0)
-    × (fresh_words_of three_pages (left three_pages (take 17 large_freed)).allocations ≡ 0)
+    × (fresh_words_of three_pages (left three_pages (take 17 large_freed)).allocations ≡ 0))
+    × (IsDue three_pages (take 16 large_freed) (record { seat = c0; step = Step.Quar 0 1 }) → ⊥)
 unfolding by c0 all_below pointed_cell three_pages large_freed left_from unreleased_storage
-counts_large = (refl, refl, refl)
-
-pub large_free_is_not_due : IsDue three_pages (take 16 large_freed) (record { seat = c0; step = Step.Quar 0 1 }) → ⊥
-unfolding by c0 all_below pointed_cell three_pages large_freed left_from unreleased_storage
-large_free_is_not_due h = let wrong : 0 < 0 = h.quarter in omega arith
+large_counts = ((refl, refl, refl), λ h. let wrong : 0 < 0 = h.quarter in omega arith)
 
 -- The unmapped pages stay taken up to the release: one page is left, and an object of two fits only after it.
-pub place_on_the_last : place_among_allocations three_pages 64 true (left three_pages (take 41 large_freed)).allocations
-    ≡ Some (record { page = 2; index = 0; carve = true })
+pub large_places : (place_among_allocations three_pages 64 true (left three_pages (take 41 large_freed)).allocations
+    ≡ Some (record { page = 2; index = 0; carve = true }))
+    × (FitsAmongAllocations three_pages 65 true (left three_pages (take 41 large_freed)).allocations
+    → ⊥) × FitsAmongAllocations three_pages 65 true (left three_pages (take 42 large_freed)).allocations
 unfolding by c0 all_below pointed_cell three_pages large_freed left_from unreleased_storage
-place_on_the_last = refl
-
-pub fits_nowhere_before : FitsAmongAllocations three_pages 65 true (left three_pages (take 41 large_freed)).allocations
-    → ⊥
-unfolding by c0 all_below pointed_cell three_pages large_freed left_from unreleased_storage
-fits_nowhere_before h = false≢true h
-
-pub fits_behind : FitsAmongAllocations three_pages 65 true (left three_pages (take 42 large_freed)).allocations
-unfolding by c0 all_below pointed_cell three_pages large_freed left_from unreleased_storage
-fits_behind = refl
+large_places = (refl, λ h. false≢true h, refl)
 
 -- So the second object stands where the first one stood. The headers that the cycle frees serve nothing.
 pub large_grant : StandsAtItsPlace three_pages (take 53 large_freed) c0
 unfolding by c0 all_below pointed_cell three_pages large_freed left_from unreleased_storage event_number
     turn_number NoneServesFrom
-large_grant =
-    stands_at (turn_number three_pages c0 34 (Some (Op.New 1 0 false)) (take 53 large_freed) refl refl refl)
+large_grant = stands_at (turn_number three_pages c0 34 (Some (Op.New 1 0 false)) (take 53 large_freed) refl refl refl)
     (served _ 15 refl (refl and refl and refl and refl and refl and refl and refl and refl
     and refl and refl and refl and refl and refl and refl and refl and tt) refl)
     (record { page = 0; index = 0; carve = true }) refl refl
@@ -84,8 +64,6 @@ pub large_is_tidy : IsTidy three_pages large_freed
 unfolding by c0 all_below pointed_cell three_pages large_freed left_from calls_from AtEach Also
 large_is_tidy before e behind is give =
     at_each is_give (λ (es : List Event) (x : Event). TalliesAreTidy three_pages es) [] large_freed
-    (record { cycles = refl; released = refl; full = refl }
-    and record { cycles = refl; released = refl; full = refl }
-    and record { cycles = refl; released = refl; full = refl }
-    and record { cycles = refl; released = refl; full = refl }
+    (record { cycles = refl; released = refl; full = refl } and record { cycles = refl; released = refl; full = refl }
+    and record { cycles = refl; released = refl; full = refl } and record { cycles = refl; released = refl; full = refl }
     and tt) before e behind is (ap is_give give)

@@ -11,18 +11,12 @@ use Rattle.mk_core.specs.Allocations.{FitsAmongAllocations, place_among_allocati
 
 -- One cell of 32 words is taken, and the other is free. An object of 2 words needs a page of its own size, which isn't
 -- there.
-pub place_beside : place_among_allocations one_page 32 true (left one_page freed_after_begin).allocations
-    ≡ Some (record { page = 0; index = 1; carve = false })
+pub places_beside : (place_among_allocations one_page 32 true (left one_page freed_after_begin).allocations
+    ≡ Some (record { page = 0; index = 1; carve = false }))
+    × (FitsAmongAllocations one_page 32 true (left one_page freed_after_begin).allocations)
+    × (FitsAmongAllocations one_page 2 true (left one_page freed_after_begin).allocations → ⊥)
 unfolding by c0 host all_below pointed_cell one_page freed_after_begin left_from unreleased_storage
-place_beside = refl
-
-pub fits_beside : FitsAmongAllocations one_page 32 true (left one_page freed_after_begin).allocations
-unfolding by c0 host all_below pointed_cell one_page freed_after_begin left_from unreleased_storage
-fits_beside = refl
-
-pub other_size_fits_nowhere : FitsAmongAllocations one_page 2 true (left one_page freed_after_begin).allocations → ⊥
-unfolding by c0 host all_below pointed_cell one_page freed_after_begin left_from unreleased_storage
-other_size_fits_nowhere h = false≢true h
+places_beside = (refl, refl, λ h. false≢true h)
 
 abbrev pub is_grant : Step → Bool
 is_grant Step.Grant = true
@@ -30,33 +24,25 @@ is_grant _ = false
 
 -- The first object carves the page, and the second takes the cell beside it. The third is served only after the cycle
 -- in its turn: the `used` and the `head` of the cycle serve nothing. So it stands where the first one stood.
-pub first_grant : StandsAtItsPlace one_page (take 3 freed_after_begin) c0
+pub grants : StandsAtItsPlace one_page (take 3 freed_after_begin) c0
+    × StandsAtItsPlace one_page (take 8 freed_after_begin) c0 × StandsAtItsPlace one_page (take 53 freed_after_begin) c0
 unfolding by c0 host all_below pointed_cell one_page freed_after_begin left_from unreleased_storage event_number
     turn_number NoneServesFrom
-first_grant =
-    stands_at (turn_number one_page c0 0 (Some (Op.New 0 0 false)) (take 3 freed_after_begin) refl refl refl)
-    (served _ 0 refl tt refl) (record { page = 0; index = 0; carve = true }) refl refl
-
-pub second_grant : StandsAtItsPlace one_page (take 8 freed_after_begin) c0
-unfolding by c0 host all_below pointed_cell one_page freed_after_begin left_from unreleased_storage event_number
-    turn_number NoneServesFrom
-second_grant =
-    stands_at (turn_number one_page c0 6 (Some (Op.New 1 0 false)) (take 8 freed_after_begin) refl refl refl)
-    (served _ 0 refl tt refl) (record { page = 0; index = 1; carve = false }) refl refl
-
-pub third_grant : StandsAtItsPlace one_page (take 53 freed_after_begin) c0
-unfolding by c0 host all_below pointed_cell one_page freed_after_begin left_from unreleased_storage event_number
-    turn_number NoneServesFrom
-third_grant =
-    stands_at (turn_number one_page c0 39 (Some (Op.New 2 0 false)) (take 53 freed_after_begin) refl refl refl)
-    (served _ 11 refl (refl and refl and refl and refl and refl and refl and refl and refl and refl and refl and refl
-    and tt) refl) (record { page = 0; index = 0; carve = true }) refl refl
+grants = (
+  stands_at (turn_number one_page c0 0 (Some (Op.New 0 0 false)) (take 3 freed_after_begin) refl refl refl)
+      (served _ 0 refl tt refl) (record { page = 0; index = 0; carve = true }) refl refl,
+  stands_at (turn_number one_page c0 6 (Some (Op.New 1 0 false)) (take 8 freed_after_begin) refl refl refl)
+      (served _ 0 refl tt refl) (record { page = 0; index = 1; carve = false }) refl refl,
+  stands_at (turn_number one_page c0 39 (Some (Op.New 2 0 false)) (take 53 freed_after_begin) refl refl refl)
+      (served _ 11 refl (refl and refl and refl and refl and refl and refl and refl and refl and refl and refl and refl
+      and tt) refl) (record { page = 0; index = 0; carve = true }) refl refl,
+)
 
 pub grants_stand : GrantsStandAtTheirPlaces one_page freed_after_begin
 unfolding by c0 host freed_after_begin AtEach Also
 grants_stand before e behind is grant =
     at_each is_grant (λ (es : List Event) (x : Event). StandsAtItsPlace one_page es x.seat) [] freed_after_begin
-    (first_grant, (second_grant, (third_grant, tt))) before e behind is (ap is_grant grant)
+    (grants.0, (grants.1, (grants.2, tt))) before e behind is (ap is_grant grant)
 
 -- Where the phase is marking, the mark on the page's ten cells is what serves the object first.
 pub grant_while_marking : StandsAtItsPlace two_pages (take 16 granted_while_marking) c0

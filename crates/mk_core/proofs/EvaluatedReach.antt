@@ -20,8 +20,7 @@ abbrev pub words_lead_into : (ℕ → Bool) → ℕ → Allocation → Bool
 words_lead_into S from a = not (S from && not (is_unmapped a)) || list_all (leads_into S) a.words
 
 abbrev pub is_closed_under_pointers : NeverState → (ℕ → Bool) → Bool
-is_closed_under_pointers n S =
-    list_all (leads_into S) n.registers && list_all (leads_into S) n.globals
+is_closed_under_pointers n S = list_all (leads_into S) n.registers && list_all (leads_into S) n.globals
     && numbered_all (words_lead_into S) n.allocations
 
 pub led_into : (S : ℕ → Bool) (v : Value) (number : ℕ) → leads_into S v ≡ true → LeadsTo v number → S number ≡ true
@@ -88,8 +87,7 @@ below_two (suc (suc number)) = false
 
 third_is_outside : IsReachable first_and_second 2 → ⊥
 unfolding numbered_all
-third_is_outside reached =
-    false≢true (reached_is_in first_and_second (λ number. below_two number ≡ true)
+third_is_outside reached = false≢true (reached_is_in first_and_second (λ number. below_two number ≡ true)
     (closed_by_test first_and_second below_two refl) 2 reached)
 
 pub third_is_not_reached : IsReachable (never_behind small begun_in_stop) 2 → ⊥

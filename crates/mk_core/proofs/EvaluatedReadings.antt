@@ -52,36 +52,25 @@ none_attends_at m h k =
 
 -- A caller is in a call, and the host holds the turn.
 
-turn_in_call : TurnTells small (left small written_beside).now
-unfolding left_from all_below pointed_cell written_beside three_objects
-turn_in_call = turn_tells (left small written_beside).now (leb-true 2 2 refl)
-    (λ e. absurd (eqb-false 2 1 refl e), λ h. absurd (false≢true h))
-
-gate_in_call : GateTells small written_beside 0
-unfolding left_from is_gate_held_from all_below pointed_cell written_beside three_objects
-gate_in_call = record {
-  least = leb-true 1 2 refl;
-  in_call = (λ e. refl, λ h. refl);
-  held = (λ e. absurd (eqb-false 1 2 refl e), λ h. absurd (false≢true h));
-  by_another = λ e. absurd (eqb-false 1 2 refl e);
-}
-
-phase_in_call : PhaseTells small (left small written_beside).now
-unfolding left_from all_below pointed_cell written_beside three_objects
-phase_in_call = record {
-  low = leb-true 1 5 refl;
-  high = refl;
-  none_in = λ e. none_attends_at (left small written_beside).now refl;
-  attends = λ not_marking e. absurd (not_marking refl);
-  under_the_turn = λ least most free. eqb-false 2 0 refl free;
-  stopped = λ e. absurd (eqb-false 1 3 refl e);
-}
-
 pub words_tell_in_call : WordsTellWhoHoldsWhat small written_beside
+unfolding left_from is_gate_held_from all_below pointed_cell written_beside three_objects
 words_tell_in_call = record {
-  turn = turn_in_call;
-  gates = sole_gate written_beside gate_in_call;
-  phase = phase_in_call;
+  turn = turn_tells (left small written_beside).now (leb-true 2 2 refl)
+      (λ e. absurd (eqb-false 2 1 refl e), λ h. absurd (false≢true h));
+  gates = sole_gate written_beside (record {
+    least = leb-true 1 2 refl;
+    in_call = (λ e. refl, λ h. refl);
+    held = (λ e. absurd (eqb-false 1 2 refl e), λ h. absurd (false≢true h));
+    by_another = λ e. absurd (eqb-false 1 2 refl e);
+  });
+  phase = record {
+    low = leb-true 1 5 refl;
+    high = refl;
+    none_in = λ e. none_attends_at (left small written_beside).now refl;
+    attends = λ not_marking e. absurd (not_marking refl);
+    under_the_turn = λ least most free. eqb-false 2 0 refl free;
+    stopped = λ e. absurd (eqb-false 1 3 refl e);
+  };
 }
 
 -- The caller is in a New.
@@ -115,41 +104,30 @@ abbrev pub closed_in_stop : List Event
 closed_in_stop = begun_in_stop ++ record { seat = Seat.Host; step = Step.Begin }
     ∷ (marked_in_stop ++ by_host (Step.Close ∷ []))
 
-turn_in_stop : TurnTells small (left small closed_in_stop).now
-unfolding left_from all_below pointed_cell begun_in_stop three_objects marked_in_stop
-turn_in_stop = turn_tells (left small closed_in_stop).now (leb-true 2 2 refl)
-    (λ e. absurd (eqb-false 2 1 refl e), λ h. absurd (false≢true h))
-
-gate_in_stop : GateTells small closed_in_stop 0
-unfolding left_from is_gate_held_from all_below pointed_cell begun_in_stop three_objects marked_in_stop
-gate_in_stop = record {
-  least = leb-true 2 2 refl;
-  in_call = (λ e. absurd (eqb-false 2 1 refl e), λ h. absurd (false≢true h));
-  held = (λ e. refl, λ h. refl);
-  by_another = λ e. (eqb-false 2 0 refl, eqb-false 2 1 refl);
-}
-
 gate_is_held : (k : ℕ) → k < 1 → slice_index (left small closed_in_stop).now.words.gates k ≡ 2
 unfolding left_from all_below pointed_cell begun_in_stop three_objects marked_in_stop
 gate_is_held zero lt = refl
 gate_is_held (suc k) lt = absurd (omega arith)
 
-phase_in_stop : PhaseTells small (left small closed_in_stop).now
-unfolding left_from all_below pointed_cell begun_in_stop three_objects marked_in_stop
-phase_in_stop = record {
-  low = leb-true 3 5 refl;
-  high = refl;
-  none_in = λ e. none_attends_at (left small closed_in_stop).now refl;
-  attends = λ not_marking not_wanted. none_attends_at (left small closed_in_stop).now refl;
-  under_the_turn = λ least most free. eqb-false 2 0 refl free;
-  stopped = λ e k lt other. gate_is_held k lt;
-}
-
 pub words_tell_in_stop : WordsTellWhoHoldsWhat small closed_in_stop
+unfolding left_from is_gate_held_from all_below pointed_cell begun_in_stop three_objects marked_in_stop
 words_tell_in_stop = record {
-  turn = turn_in_stop;
-  gates = sole_gate closed_in_stop gate_in_stop;
-  phase = phase_in_stop;
+  turn = turn_tells (left small closed_in_stop).now (leb-true 2 2 refl)
+      (λ e. absurd (eqb-false 2 1 refl e), λ h. absurd (false≢true h));
+  gates = sole_gate closed_in_stop (record {
+    least = leb-true 2 2 refl;
+    in_call = (λ e. absurd (eqb-false 2 1 refl e), λ h. absurd (false≢true h));
+    held = (λ e. refl, λ h. refl);
+    by_another = λ e. (eqb-false 2 0 refl, eqb-false 2 1 refl);
+  });
+  phase = record {
+    low = leb-true 3 5 refl;
+    high = refl;
+    none_in = λ e. none_attends_at (left small closed_in_stop).now refl;
+    attends = λ not_marking not_wanted. none_attends_at (left small closed_in_stop).now refl;
+    under_the_turn = λ least most free. eqb-false 2 0 refl free;
+    stopped = λ e k lt other. gate_is_held k lt;
+  };
 }
 
 -- A marker is in, and attends.

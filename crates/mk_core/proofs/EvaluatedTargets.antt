@@ -8,16 +8,14 @@ use Rattle.mk_never.specs.{NeverHeap.register_at, Reach.LeadsTo}
 use Rattle.mk_core.proofs.EvaluatedReach.{below_two, leads_into, led_into}
 use Rattle.mk_core.proofs.SmallCycles.{by_marker, first_marked, pointer_written, small, three_objects}
 use Rattle.mk_core.proofs.{EvaluatedFrames.before_probe, EvaluatedFrames.turn_taken, ListTests.list_all-at}
-use Rattle.mk_core.specs.Frames.{HeadersAreLeft, HeapIsLeft, IsLeft, IsLeftByAdmitted, OwnIsLeft, ScanIsLeft}
-use Rattle.mk_core.specs.Frames.{TargetsAreLeft}
+use Rattle.mk_core.specs.Frames.{HeapIsLeft, IsLeft, IsLeftByAdmitted, TargetsAreLeft}
 use Rattle.mk_core.specs.{Allocations.is_mapped, Readings.Holds}
 
 -- A caller in a call, while the host takes the turn: its registers point to the first two objects.
 
 targets : (r a : ℕ) → LeadsTo (register_at (never_behind small before_probe) 0 r) a → below_two a ≡ true
 unfolding left_from calls_from all_below pointed_cell three_objects
-targets r a leads =
-    led_into below_two (register_at (never_behind small before_probe) 0 r) a
+targets r a leads = led_into below_two (register_at (never_behind small before_probe) 0 r) a
     (list_all-at (leads_into below_two) (never_behind small before_probe).registers Null refl refl (8 * 0 + r)) leads
 
 unreleased : (a : ℕ) → below_two a ≡ true
@@ -67,8 +65,7 @@ all_is_left_to_caller = record {
 
 -- The host in its turn, while a caller writes to the first object: no word outside the objects changes.
 
-outside : (n : ℕ)
-    → ((i : ℕ) → is_mapped small (placed_at (left small first_marked).allocations i) ≡ true
+outside : (n : ℕ) → ((i : ℕ) → is_mapped small (placed_at (left small first_marked).allocations i) ≡ true
     → IsWordOf (storage_of small (placed_at (left small first_marked).allocations i)) n → ⊥)
     → slice_index (left small (first_marked ++ pointer_written)).now.words.heap n
     ≡ slice_index (left small first_marked).now.words.heap n
@@ -89,40 +86,24 @@ pub writers_are_others : AreOfOthers (Seat.Marker 0 ∷ []) pointer_written
 unfolding AreOfOthers
 writers_are_others = (refl, (refl, (refl, (refl, (refl, tt)))))
 
-marker_is_left : OwnIsLeft small (Seat.Marker 0) (left small attending) (left small (attending ++ pointer_written))
-unfolding left_from all_below pointed_cell three_objects
-marker_is_left = record {
-  flight = refl;
-  marker = refl;
-  registers = λ k r is lt. absurd cc;
-  holding = λ holds. absurd holds;
-}
-
-scan_is_left : ScanIsLeft (left small attending) (left small (attending ++ pointer_written))
-unfolding left_from all_below pointed_cell three_objects
-scan_is_left = record { phase = inl refl; marks = λ p k has. has; blacks = λ p k has. has }
-
 pub all_is_left_to_marker : IsLeft small (Seat.Marker 0) attending (attending ++ pointer_written)
 unfolding left_from all_below pointed_cell three_objects
 all_is_left_to_marker = record {
-  own = marker_is_left;
+  own = record { flight = refl; marker = refl; registers = λ k r is lt. absurd cc; holding = λ holds. absurd holds };
   in_call = λ k is in_call. absurd in_call;
   turn = λ holds. absurd holds;
   stop = λ all. absurd all.0;
-  scan = λ attends. scan_is_left;
+  scan = λ attends. record { phase = inl refl; marks = λ p k has. has; blacks = λ p k has. has };
   visit = λ is_in. leb-true 1 1 refl;
 }
 
-headers_are_left : HeadersAreLeft small (left small attending) (left small (attending ++ pointer_written))
-unfolding left_from all_below pointed_cell three_objects
-headers_are_left = record { some = λ p is. is; cells = λ p u cell is. is; well = λ u well. well }
-
 pub headers_are_left_to_marker : IsLeftByAdmitted small (Seat.Marker 0) attending (attending ++ pointer_written)
+unfolding left_from all_below pointed_cell three_objects
 headers_are_left_to_marker = record {
   registers = λ k r is lt. absurd cc;
   in_call = λ k is in_call. absurd in_call;
   turn = λ holds. absurd holds;
   held = λ holds k r lt two. absurd holds;
   stop = λ all. absurd all.0;
-  scan = λ attends. headers_are_left;
+  scan = λ attends. record { some = λ p is. is; cells = λ p u cell is. is; well = λ u well. well };
 }

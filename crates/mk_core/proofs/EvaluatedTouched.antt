@@ -50,14 +50,12 @@ third_is_in_snapshot = refl
 
 pub first_is_touched : IsTouched small marking 0
 unfolding left_from calls_from all_below pointed_cell begun_in_stop three_objects
-first_is_touched =
-    by_register (through marking.begin) 0 0 behind_begin
+first_is_touched = by_register (through marking.begin) 0 0 behind_begin
     (refl, (leb-true 65536 65536 refl, (leb-true 0 0 refl, ltb-true 0 2 refl)))
 
 pub second_is_touched : IsTouched small marking 1
 unfolding left_from calls_from all_below pointed_cell begun_in_stop three_objects
-second_is_touched =
-    by_word (through marking.begin) 0 0 1 behind_begin first_is_touched
+second_is_touched = by_word (through marking.begin) 0 0 1 behind_begin first_is_touched
     (refl, refl, (leb-true 0 0 refl, ltb-true 0 2 refl))
     (refl, (leb-true 65536 65552 refl, (leb-true 2 2 refl, ltb-true 2 4 refl)))
 

@@ -23,8 +23,7 @@ event_number n es = slice_index_or es n (record { seat = Seat.Host; step = Step.
 -- an event of a kind by its number, and a turn by that of its `take`
 
 unfoldable pub at_number : (kind : Step → Bool) (n : ℕ) (es : List Event)
-    → es ≡ take n es ++ event_number n es ∷ drop (n + 1) es
-    → kind (event_number n es).step ≡ true → At kind es
+    → es ≡ take n es ++ event_number n es ∷ drop (n + 1) es → kind (event_number n es).step ≡ true → At kind es
 at_number kind n es is of_kind =
     record { before = take n es; event = event_number n es; behind = drop (n + 1) es; is = is; of_kind = of_kind }
 

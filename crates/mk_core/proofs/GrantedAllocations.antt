@@ -42,8 +42,7 @@ place_ends o place sized known =
 
 -- The object of a place, as an allocation of its type with its base, stands there,
 pub placed_stands : (c : Config) (a : PlacedAllocation) (place : Place) → IsWithinLimits c → a.ty < length c.types
-    → a.released ≡ false
-    → a.base ≡ base_made (object_placed c a) place → place.index < cells_made (object_placed c a)
+    → a.released ≡ false → a.base ≡ base_made (object_placed c a) place → place.index < cells_made (object_placed c a)
     → place.page + pages_made (object_placed c a) ≤ c.pages → StandsOnHeap c a
 placed_stands c a place limits typed unreleased base known within =
     let sized : IsSized (object_placed c a) = (limits.types a.ty [] typed).0 in

@@ -25,13 +25,11 @@ asked_in_parts c es more = ap (λ (xs : List Decided). asked xs) (calls_in_parts
     ∙ map-append _ (calls c es) (calls_from c (left c es) more)
 
 pub never_in_parts : (c : Config) (es more : List Event) → NeverInParts c es more
-never_in_parts c es more =
-    ap (λ (xs : List Call). after_calls (never_first c) xs) (asked_in_parts c es more)
+never_in_parts c es more = ap (λ (xs : List Call). after_calls (never_first c) xs) (asked_in_parts c es more)
     ∙ after_append (never_first c) (asked (calls c es)) (asked (calls_from c (left c es) more))
 
 pub replies_in_parts : (c : Config) (es more : List Event) → NeverRepliesInParts c es more
-replies_in_parts c es more =
-    ap (λ (xs : List Call). replies_of (never_first c) xs) (asked_in_parts c es more)
+replies_in_parts c es more = ap (λ (xs : List Call). replies_of (never_first c) xs) (asked_in_parts c es more)
     ∙ replies_append (never_first c) (asked (calls c es)) (asked (calls_from c (left c es) more))
 
 pub admitted_in_parts : (c : Config) (es more : List Event) → CallsAreAdmittedInParts c es more

@@ -53,8 +53,7 @@ left_lengths : (c : Config) (w : World) (es : List Event) → AreOfPages c.pages
     → AreOfPages c.pages (left_from c w es).now.words
 unfolding left_from
 left_lengths c w [] h = h
-left_lengths c w (e ∷ es) h =
-    left_lengths c (world_behind c w e) es
+left_lengths c w (e ∷ es) h = left_lengths c (world_behind c w e) es
     (accessed_lengths c.pages w.now.words (word_accessed c w.now e) (access c w.now e) h)
 
 pub histories_keep_lengths : (c : Config) (es : List Event) → AreOfPages c.pages (left c es).now.words

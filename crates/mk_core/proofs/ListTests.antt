@@ -21,8 +21,7 @@ numbered_all test [] = true
 numbered_all test (x ∷ xs) = test 0 x && numbered_all (λ i y. test (suc i) y) xs
 
 pub numbered_all-at : {A : Type 0} (test : ℕ → A → Bool) (xs : List A) (d : A)
-    → numbered_all test xs ≡ true → ((i : ℕ) → test i d ≡ true)
-    → (i : ℕ) → test i (slice_index_or xs i d) ≡ true
+    → numbered_all test xs ≡ true → ((i : ℕ) → test i d ≡ true) → (i : ℕ) → test i (slice_index_or xs i d) ≡ true
 unfolding numbered_all
 numbered_all-at test [] d h behind i = behind i
 numbered_all-at test (x ∷ xs) d h behind zero = (and_parts (test 0 x) (numbered_all (λ i y. test (suc i) y) xs) h).0

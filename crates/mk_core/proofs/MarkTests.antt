@@ -18,13 +18,11 @@ points_well_in c w s n value = not (is_word_of s n) || points_well c.pages w val
 
 -- So does each word of the allocation, where it is marked and scanned.
 abbrev pub allocation_points_well : Config → Words → PlacedAllocation → Bool
-allocation_points_well c w a =
-    not (is_scanned_allocation c a && is_marked_allocation c w a)
+allocation_points_well c w a = not (is_scanned_allocation c a && is_marked_allocation c w a)
     || numbered_all (points_well_in c w (storage_of c a)) w.heap
 
 abbrev pub marks_are_closed : Config → World → Bool
-marks_are_closed c w =
-    list_all (points_well c.pages w.now.words) w.now.words.registers
+marks_are_closed c w = list_all (points_well c.pages w.now.words) w.now.words.registers
     && list_all (points_well c.pages w.now.words) w.now.words.globals
     && list_all (allocation_points_well c w.now.words) w.allocations
 
@@ -44,10 +42,8 @@ marks_closed_by_test c w h =
       words = λ i n scanned marked inside.
           let a = placed_at w.allocations i in
           let each = list_all-at (allocation_points_well c w.now.words) w.allocations never_granted outer.1 refl i in
-          let all = implied _ _ each
-          (and_from _ _ scanned marked) in
-          implied _ _
-          (numbered_all-at (points_well_in c w.now.words (storage_of c a)) w.now.words.heap 0 all
+          let all = implied _ _ each (and_from _ _ scanned marked) in
+          implied _ _ (numbered_all-at (points_well_in c w.now.words (storage_of c a)) w.now.words.heap 0 all
           (λ j. ap (λ b. not (is_word_of (storage_of c a) j) || b) (null_points_well c w.now.words) ∙ or-true _) n)
           (is_word_of_by (storage_of c a) n inside);
     }

@@ -20,8 +20,7 @@ pub large_header : (o : Object) (distance : ℕ) → is_small_object o ≡ false
 large_header o distance large = grind (arith, cond-false, large_pages)
 
 block_part : (o : Object) (distance : ℕ) (leaf : Bool) → o.leaf ≡ leaf → class_made o < 8 → distance ≡ 0
-    → is_small_object o ≡ true
-    → ShowsPart o distance (header_of (word_of (block_header (class_made o) leaf)))
+    → is_small_object o ≡ true → ShowsPart o distance (header_of (word_of (block_header (class_made o) leaf)))
 block_part o distance true is known first small =
     subst (λ (x : Option Header). ShowsPart o distance x) (sym (header_of-word_of (LeafBlock (class_made o)) known))
     (OfLeafBlock first small is)
@@ -30,8 +29,7 @@ block_part o distance false is known first small =
     (OfBlock first small is)
 
 run_part : (o : Object) (distance : ℕ) (mapped leaf : Bool) → (mapped && o.leaf) ≡ (mapped && leaf)
-    → (1 ≤ pages_made o) × (pages_made o ≤ 64)
-    → distance < pages_made o → is_small_object o ≡ false
+    → (1 ≤ pages_made o) × (pages_made o ≤ 64) → distance < pages_made o → is_small_object o ≡ false
     → ShowsPart o distance (header_of (word_of (run_header (pages_made o) mapped leaf distance)))
 run_part o zero true true is range lt large =
     subst (λ (x : Option Header). ShowsPart o 0 x) (sym (header_of-word_of (LeafRun (pages_made o)) range))
@@ -58,8 +56,7 @@ made_shows o distance sized lt = elim (cases_Bool (is_small_object o)) [
       let one = small_pages o small in
       subst (λ h. ShowsPart o distance (header_of h)) (sym (small_header o distance small))
       (block_part o distance o.leaf refl (class_known o sized small).0 (omega arith) small)
-  | inr large ↦
-      subst (λ h. ShowsPart o distance (header_of h)) (sym (large_header o distance large))
+  | inr large ↦ subst (λ h. ShowsPart o distance (header_of h)) (sym (large_header o distance large))
       (run_part o distance true o.leaf refl (large_count o sized large) lt large)
 ]
 
@@ -95,19 +92,19 @@ pub part_not_free : (o : Object) (distance header : ℕ) → ShowsPart o distanc
 part_not_free o distance header part is = grind (arith, shows_free, not_free)
 
 -- has the object's cells at its first page, of the object's words,
+part_sizes : (o : Object) (x : Option Header) → ShowsPart o 0 x
+    → (cells_under x ≡ cells_made o) × (words_under x ≡ words_made o)
+part_sizes o x (OfBlock first small leaf) = (sym (small_cells o small), sym (small_words o small))
+part_sizes o x (OfLeafBlock first small leaf) = (sym (small_cells o small), sym (small_words o small))
+part_sizes o x (OfRun mapped first large leaf) = (sym (large_cells o large), sym (large_words o large))
+part_sizes o x (OfLeafRun first large leaf) = (sym (large_cells o large), sym (large_words o large))
+part_sizes o x (OfLater mapped some large) = absurd (omega arith)
+
 pub part_cells : (o : Object) (x : Option Header) → ShowsPart o 0 x → cells_under x ≡ cells_made o
-part_cells o x (OfBlock first small leaf) = sym (small_cells o small)
-part_cells o x (OfLeafBlock first small leaf) = sym (small_cells o small)
-part_cells o x (OfRun mapped first large leaf) = sym (large_cells o large)
-part_cells o x (OfLeafRun first large leaf) = sym (large_cells o large)
-part_cells o x (OfLater mapped some large) = absurd (omega arith)
+part_cells o x part = (part_sizes o x part).0
 
 pub part_words : (o : Object) (x : Option Header) → ShowsPart o 0 x → words_under x ≡ words_made o
-part_words o x (OfBlock first small leaf) = sym (small_words o small)
-part_words o x (OfLeafBlock first small leaf) = sym (small_words o small)
-part_words o x (OfRun mapped first large leaf) = sym (large_words o large)
-part_words o x (OfLeafRun first large leaf) = sym (large_words o large)
-part_words o x (OfLater mapped some large) = absurd (omega arith)
+part_words o x part = (part_sizes o x part).1
 
 -- what two headers of one page of an object have alike, where it is so of first pages and of later ones
 same_under : (f : Option Header → ℕ) (n : ℕ) (o : Object) → ((x : Option Header) → ShowsPart o 0 x → f x ≡ n)
@@ -135,8 +132,7 @@ later_words o distance x part some = let is = later_part o distance x part some 
 
 -- A later page's header is one of a large object's.
 pub shown_later : (o : Object) (distance d : ℕ) (mapped : Bool) (x : Option Header) → ShowsPart o distance x
-    → x ≡ Some (Later d mapped)
-    → (d ≡ distance) × (1 ≤ distance) × (is_small_object o ≡ false)
+    → x ≡ Some (Later d mapped) → (d ≡ distance) × (1 ≤ distance) × (is_small_object o ≡ false)
 shown_later o distance d mapped x (OfBlock first small leaf) is = cc
 shown_later o distance d mapped x (OfLeafBlock first small leaf) is = cc
 shown_later o distance d mapped x (OfRun m first large leaf) is = cc
@@ -152,8 +148,7 @@ part_heads_run o x (OfLeafRun first large' leaf) large = refl
 part_heads_run o x (OfLater mapped some large') large = absurd (omega arith)
 
 pub small_heads_none : (o : Object) (distance : ℕ) (x : Option Header) → ShowsPart o distance x
-    → is_small_object o ≡ true
-    → (heads_run x ≡ false) × (is_unmapped_header x ≡ false)
+    → is_small_object o ≡ true → (heads_run x ≡ false) × (is_unmapped_header x ≡ false)
 small_heads_none o distance x (OfBlock first small leaf) is = (refl, refl)
 small_heads_none o distance x (OfLeafBlock first small leaf) is = (refl, refl)
 small_heads_none o distance x (OfRun mapped first large leaf) is = absurd (true≢false (sym is ∙ large))
@@ -203,8 +198,7 @@ run_mapped count (suc d) leaf range lt =
 pub made_is_mapped : (o : Object) (distance : ℕ) → IsSized o → distance < pages_made o
     → is_unmapped_header (header_of (header_made o distance)) ≡ false
 made_is_mapped o distance sized lt = elim (cases_Bool (is_small_object o)) [
-  | inl small ↦
-      cc (small_header o distance small, block_mapped (class_made o) o.leaf (class_known o sized small).0)
+  | inl small ↦ cc (small_header o distance small, block_mapped (class_made o) o.leaf (class_known o sized small).0)
   | inr large ↦
       cc (large_header o distance large, run_mapped (pages_made o) distance o.leaf (large_count o sized large) lt)
 ]

@@ -1,12 +1,12 @@
 -- The words of the heap and the dirty words, page by page: their length, where each stands, and a change of one.
-use Rattle.std.proofs.Common.{◌≡◌, ℕ, zero, suc, ◌+◌, ◌*◌, ◌<◌, List, [], ◌∷◌, ◌++◌, length, take, drop, slice_index}
-use Rattle.std.proofs.Common.{slice_set, refl, sym, ◌∙◌, ap, arith}
-use Rattle.std.proofs.lemmas.List.{get_or_append_left, get_or-append-add, get_or-take, get_or-drop, set-append_left}
-use Rattle.std.proofs.lemmas.List.{take-set-le, drop-set-lt, drop-set-add, length-append, length-drop, length-take-le}
-use Rattle.std.proofs.lemmas.List.{length-replicate, replicate-append-replicate, take-replicate, drop-replicate}
-use Rattle.std.proofs.Math.Seq.{take-set-lt}
-use Rattle.mk_core.specs.Layout.{gap, page_by_page}
-use Rattle.mk_core.proofs.Spread.{set_later}
+use Rattle.std.proofs.lemmas.List.{drop-replicate, drop-set-add, replicate-append-replicate, set-append_left}
+use Rattle.std.proofs.lemmas.List.{take-replicate, take-set-le}
+use Rattle.std.proofs.{Common.drop-set-lt, Common.get_or-append-add, Common.get_or-drop, Common.get_or-take}
+use Rattle.std.proofs.{Common.length-append, Common.length-drop, Common.length-take-le, Math.Seq.take-set-lt}
+use Rattle.mk_core.proofs.Vocabulary.{List, ℕ, ap, arith, drop, get_or_append_left, length, length-replicate, refl}
+use Rattle.mk_core.proofs.Vocabulary.{slice_index, slice_set, suc, sym, take, zero, [], ◌*◌, ◌++◌, ◌+◌, ◌<◌, ◌∙◌, ◌∷◌}
+use Rattle.mk_core.proofs.Vocabulary.{◌≡◌}
+use Rattle.mk_core.{proofs.Spread.set_later, specs.Layout.gap, specs.Layout.page_by_page}
 
 pub length_pages : (ds heap : List ℕ) → length heap ≡ 64 * length ds → length (page_by_page ds heap) ≡ 72 * length ds
 unfolding page_by_page
@@ -112,5 +112,4 @@ zeros (suc n) =
     ∙ ap (λ (xs : List ℕ). gap 64 ++ ((0 ∷ gap 7) ++ page_by_page (gap n) xs)) left
     ∙ ap (λ (xs : List ℕ). gap 64 ++ ((0 ∷ gap 7) ++ xs)) (zeros n)
     ∙ ap (λ (xs : List ℕ). gap 64 ++ xs) (replicate-append-replicate {A = ℕ} 8 (72 * n) 0)
-    ∙ replicate-append-replicate {A = ℕ} 64 (8 + 72 * n) 0
-    ∙ ap gap (omega arith)
+    ∙ replicate-append-replicate {A = ℕ} 64 (8 + 72 * n) 0 ∙ ap gap (omega arith)

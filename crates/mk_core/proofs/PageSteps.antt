@@ -3,19 +3,25 @@ use Rattle.mk_core.proofs.Vocabulary.{Bool, Config, Flight, Moment, None, Option
 use Rattle.mk_core.proofs.Vocabulary.{bit_and, cases_Bool, cell_words, eqb-true, false, first_word, has_bit}
 use Rattle.mk_core.proofs.Vocabulary.{if◌then◌else◌, inl, inr, is_phase, not, not-true, object_made, place_now}
 use Rattle.mk_core.proofs.Vocabulary.{quarantine_word, refl, slice_index, sym, true, true≢false, unmapped_header}
-use Rattle.mk_core.proofs.Vocabulary.{words_are_zero, ◌%◌, ◌&&◌, ◌-◌, ◌/◌, ◌<◌, ◌^◌, ◌||◌, ◌∙◌, ◌≡◌, ◌⊎◌}
-use Rattle.mk_core.proofs.ServingSteps.{Carves, IsNextHeader, TakesCell, carves_is, next_header, takes_is}
+use Rattle.mk_core.proofs.Vocabulary.{words_are_zero, ◌%◌, ◌-◌, ◌/◌, ◌<◌, ◌^◌, ◌||◌, ◌∙◌, ◌≡◌, ◌⊎◌}
+use Rattle.mk_core.proofs.ServingSteps.{Carves, IsNextHeader, TakesCell, carves_is, four_hold, next_header, takes_is}
 use Rattle.mk_core.proofs.WordBits.{fewer_bits, no_common, rest_bits, without_none}
 use Rattle.mk_core.proofs.{AllBelow.all_below-at, BitsWithout.has_bit_without}
 use Rattle.mk_core.specs.Cells.{are_left_unmarked, head_page, left_unmarked}
 use Rattle.mk_core.specs.TurnConditions.{are_wiped, carves, drops, empties, frees, gives_back, is_used_once, may_head}
-use Rattle.mk_core.specs.TurnConditions.{may_quarantine, may_use, takes_cell, takes_snapshot, unmaps}
+use Rattle.mk_core.specs.TurnConditions.{may_quarantine, may_use, takes_snapshot, unmaps}
 use Rattle.mk_core.specs.{Bits.without, NewPlaces.target, Words.used_at, declared.seats.RunPages.RunPages}
 
 -- one of two tests holds
 either_holds : (a b : Bool) → (a || b) ≡ true → (a ≡ true) ⊎ (b ≡ true)
 either_holds true b h = inl refl
 either_holds false b h = inr h
+
+-- what follows from each of two tests, where a third says which of them is asked
+by_test : {A : Type 0} (b x y : Bool) → (if b then x else y) ≡ true → (b ≡ true → x ≡ true → A)
+    → (b ≡ false → y ≡ true → A) → A
+by_test true x y h on_true on_false = on_true refl h
+by_test false x y h on_true on_false = on_false refl h
 
 -- Header words.
 
@@ -38,14 +44,12 @@ pub record Empties (w : Words) (page value : ℕ) : Type 0 where
 
 pub empties_is : (w : Words) (page value : ℕ) → empties w page value ≡ true → Empties w page value
 empties_is w page value h =
-    let a = and_parts _ _ h in
-    let b = and_parts _ _ a.0 in
-    let d = and_parts _ _ b.0 in
+    let a = four_hold _ _ _ _ h in
     record {
-      is = eqb-true _ 0 d.0;
-      unused = eqb-true _ 0 d.1;
-      unfreed = eqb-true _ 0 b.1;
-      outside = eqb-true _ 0 a.1;
+      is = eqb-true _ 0 a.0;
+      unused = eqb-true _ 0 a.1;
+      unfreed = eqb-true _ 0 a.2;
+      outside = eqb-true _ 0 a.3;
     }
 
 -- A `head` that may come carves a page, unmaps one, or empties one.
@@ -57,20 +61,12 @@ pub data HeadStep (c : Config) (m : Moment) (f : Flight) (page value : ℕ) : Ty
 
 pub head_step : (c : Config) (m : Moment) (f : Flight) (page value : ℕ) → may_head c m f page value ≡ true
     → HeadStep c m f page value
-head_step c m f page value h = by (is_phase m.words 4) refl h
-  where
-    by : (four : Bool) → is_phase m.words 4 ≡ four
-        → (if four then empties m.words page value
-        else carves m.words (object_made c f.op) (place_now c m f) page value
-        || unmaps m.words m.seats.holding.freed page value) ≡ true
-        → HeadStep c m f page value
-    by true is h = ItEmpties is (empties_is m.words page value h)
-    by false is h = elim
-        (either_holds (carves m.words (object_made c f.op) (place_now c m f) page value)
-        (unmaps m.words m.seats.holding.freed page value) h) [
-          | inl x ↦ ItCarves is (carves_is m.words (object_made c f.op) (place_now c m f) page value x)
-          | inr x ↦ ItUnmaps is (unmaps_is m.words m.seats.holding.freed page value x)
-        ]
+head_step c m f page value h = by_test _ _ _ h (λ is empty. ItEmpties is (empties_is m.words page value empty))
+    (λ is either. elim (either_holds (carves m.words (object_made c f.op) (place_now c m f) page value)
+    (unmaps m.words m.seats.holding.freed page value) either) [
+      | inl x ↦ ItCarves is (carves_is m.words (object_made c f.op) (place_now c m f) page value x)
+      | inr x ↦ ItUnmaps is (unmaps_is m.words m.seats.holding.freed page value x)
+    ])
 
 -- Used words.
 
@@ -91,8 +87,7 @@ pub wiped_cell : (w : Words) (page bits k : ℕ) → are_wiped w page bits ≡ t
 wiped_cell w page bits k h lt bit =
     let zero_words = words_are_zero w (first_word w (record { page = page; index = k }))
     (cell_words w (record { page = page; index = k })) in
-    ap (λ b. not b || zero_words) (sym bit)
-    ∙ all_below-at 32 k (λ i. not (has_bit bits i)
+    ap (λ b. not b || zero_words) (sym bit) ∙ all_below-at 32 k (λ i. not (has_bit bits i)
     || words_are_zero w (first_word w (record { page = page; index = i }))
     (cell_words w (record { page = page; index = i }))) h lt
 
@@ -106,7 +101,6 @@ pub record GivesBack (w : Words) (page value : ℕ) : Type 0 where
 
 pub gives_back_is : (w : Words) (page value : ℕ) → gives_back w page value ≡ true → GivesBack w page value
 gives_back_is w page value h =
-    let left = are_left_unmarked w page (used_at w page - value) in
     let a = and_parts _ _ h in
     let b = and_parts _ _ a.0 in
     let sub : bit_and value (used_at w page) ≡ value = eqb-true _ _ b.0 in
@@ -121,25 +115,14 @@ gives_back_is w page value h =
 -- A `used` that may come takes the cell of a place, once, or gives cells back.
 pub data UsedStep (c : Config) (m : Moment) (f : Flight) (page value : ℕ) : Type 0 where
   ItTakes : is_phase m.words 4 ≡ false → is_used_once m.seats.holding.placing ≡ false
-      → TakesCell m.words (object_made c f.op) (place_now c m f) page value
-      → UsedStep c m f page value
+      → TakesCell m.words (object_made c f.op) (place_now c m f) page value → UsedStep c m f page value
   ItGivesBack : is_phase m.words 4 ≡ true → GivesBack m.words page value → UsedStep c m f page value
 
 pub used_step : (c : Config) (m : Moment) (f : Flight) (page value : ℕ) → may_use c m f page value ≡ true
     → UsedStep c m f page value
-used_step c m f page value h = by (is_phase m.words 4) refl h
-  where
-    by : (four : Bool) → is_phase m.words 4 ≡ four
-        → (if four
-        then gives_back m.words page value
-        else not (is_used_once m.seats.holding.placing) && takes_cell m.words (object_made c f.op)
-        (place_now c m f) page value) ≡ true
-        → UsedStep c m f page value
-    by true is h = ItGivesBack is (gives_back_is m.words page value h)
-    by false is h =
-        let a = and_parts _ _ h in
-        ItTakes is (not-true _ a.0)
-        (takes_is m.words (object_made c f.op) (place_now c m f) page value a.1)
+used_step c m f page value h = by_test _ _ _ h (λ is back. ItGivesBack is (gives_back_is m.words page value back))
+    (λ is both. let a = and_parts _ _ both in
+    ItTakes is (not-true _ a.0) (takes_is m.words (object_made c f.op) (place_now c m f) page value a.1))
 
 -- Quarantine words.
 
@@ -149,11 +132,7 @@ pub record TakesSnapshot (w : Words) (page value : ℕ) : Type 0 where
 
 pub takes_snapshot_is : (w : Words) (page value : ℕ) → takes_snapshot w page value ≡ true → TakesSnapshot w page value
 takes_snapshot_is w page value h =
-    let a = and_parts _ _ h in
-    record {
-      phase = a.0;
-      is = eqb-true _ _ a.1;
-    }
+    let a = and_parts _ _ h in record { phase = a.0; is = eqb-true _ _ a.1 }
 
 pub record Drops (w : Words) (page freed snapshot : ℕ) : Type 0 where
   pub fewer : bit_and snapshot (slice_index w.snapshot page) ≡ snapshot
@@ -166,20 +145,17 @@ pub record Drops (w : Words) (page freed snapshot : ℕ) : Type 0 where
 
 pub drops_is : (w : Words) (page freed snapshot : ℕ) → drops w page freed snapshot ≡ true → Drops w page freed snapshot
 drops_is w page freed snapshot h =
-    let rest = slice_index w.snapshot page - snapshot in
-    let a = and_parts _ _ h in
-    let b = and_parts _ _ a.0 in
-    let d = and_parts _ _ b.0 in
-    let sub : bit_and snapshot (slice_index w.snapshot page) ≡ snapshot = eqb-true _ _ d.0 in
-    let none : bit_and (used_at w page) (slice_index w.snapshot page - snapshot) ≡ 0 = eqb-true _ 0 b.1 in
+    let a = four_hold _ _ _ _ h in
+    let sub : bit_and snapshot (slice_index w.snapshot page) ≡ snapshot = eqb-true _ _ a.0 in
+    let none : bit_and (used_at w page) (slice_index w.snapshot page - snapshot) ≡ 0 = eqb-true _ 0 a.2 in
     record {
       fewer = sub;
-      left = d.1;
+      left = a.1;
       unused = none;
-      is = eqb-true _ _ a.1;
+      is = eqb-true _ _ a.3;
       gone = λ k bit out.
           let goes = rest_bits snapshot (slice_index w.snapshot page) k sub bit out in (
-            (left_bits w page (slice_index w.snapshot page - snapshot) k d.1 goes).1,
+            (left_bits w page (slice_index w.snapshot page - snapshot) k a.1 goes).1,
             apart (used_at w page) (slice_index w.snapshot page - snapshot) k none goes,
           );
     }
@@ -200,15 +176,10 @@ pub data QuarantineStep (c : Config) (m : Moment) (f : Flight) (page value : ℕ
 
 pub quarantine_step : (c : Config) (m : Moment) (f : Flight) (page value : ℕ) → may_quarantine c m f page value ≡ true
     → QuarantineStep c m f page value
-quarantine_step c m f page value h = by (is_phase m.words 4) refl h
-  where
-    by : (four : Bool) → is_phase m.words 4 ≡ four
-        → (if four then drops m.words page (value % 2 ^ 32) (value / 2 ^ 32)
-        else frees m.words (target c.pages m.words f) page value || takes_snapshot m.words page value) ≡ true
-        → QuarantineStep c m f page value
-    by true is h = ItDrops is (drops_is m.words page (value % 2 ^ 32) (value / 2 ^ 32) h)
-    by false is h = elim
-        (either_holds (frees m.words (target c.pages m.words f) page value) (takes_snapshot m.words page value) h) [
-          | inl x ↦ ItFrees is x
-          | inr x ↦ ItTakesSnapshot (takes_snapshot_is m.words page value x)
-        ]
+quarantine_step c m f page value h =
+    by_test _ _ _ h (λ is dropped. ItDrops is (drops_is m.words page (value % 2 ^ 32) (value / 2 ^ 32) dropped))
+    (λ is either. elim
+    (either_holds (frees m.words (target c.pages m.words f) page value) (takes_snapshot m.words page value) either) [
+      | inl x ↦ ItFrees is x
+      | inr x ↦ ItTakesSnapshot (takes_snapshot_is m.words page value x)
+    ])

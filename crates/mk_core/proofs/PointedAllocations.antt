@@ -24,8 +24,7 @@ block_index class page word cell is = grind arith
 
 -- What points into the cell of a storage, from a page that shows it, points into the storage.
 pub cell_points_into : (pages header u : ℕ) (s : Storage) → IsStorage pages s → stands_on (page_at_address u) s ≡ true
-    → ShowsStorage s (page_at_address u) header
-    → cell_at pages header u ≡ Some (cell_of_storage s) → PointsInto u s
+    → ShowsStorage s (page_at_address u) header → cell_at pages header u ≡ Some (cell_of_storage s) → PointsInto u s
 cell_points_into pages header u s is stands shows found = elim (cases_Bool (is_small s)) [
   | inl small ↦
       let low = (is_address pages header u (cell_of_storage s) found).0 in
@@ -40,8 +39,7 @@ cell_points_into pages header u s is stands shows found = elim (cases_Bool (is_s
       let first : s.first % 64 ≡ cell.index * s.words = cell.first ∙ ap (λ (w : ℕ). cell.index * w) (sym cell.words) in
       let same : word_at_address u / s.words * s.words ≡ cell.index * s.words = ap (λ (n : ℕ). n * s.words) at in
       let from = div-mul-le_self (word_at_address u) s.words in
-      let to = lt-div-mul-add {a = word_at_address u} {b = s.words} some in
-      (low, (omega arith, omega arith))
+      let to = lt-div-mul-add {a = word_at_address u} {b = s.words} some in (low, (omega arith, omega arith))
   | inr large ↦
       let low = (is_address pages header u (cell_of_storage s) found).0 in
       let run = large_is_run pages s is large in
@@ -51,39 +49,32 @@ cell_points_into pages header u s is stands shows found = elim (cases_Bool (is_s
 
 -- So a value on the pages of an allocation points into its storage where it points into its cell.
 pub pointers_come_back : (c : Config) (w : Words) (a : PlacedAllocation) → IsWithinLimits c → StandsOnHeap c a
-    → HasItsHeaders c w a
-    → (u : ℕ) → stands_on (page_at_address u) (storage_of c a) ≡ true
-    → pointed_cell c.pages w.pages u ≡ Some (cell_of_storage (storage_of c a))
-    → PointsInto u (storage_of c a)
+    → HasItsHeaders c w a → (u : ℕ) → stands_on (page_at_address u) (storage_of c a) ≡ true
+    → pointed_cell c.pages w.pages u ≡ Some (cell_of_storage (storage_of c a)) → PointsInto u (storage_of c a)
 unfolding pointed_cell
 pointers_come_back c w a limits st has u stands found =
     cell_points_into c.pages (header_at w (page_at_address u)) u (storage_of c a) (standing_has_storage c a limits st)
-    stands
-    (headers_show_storage c w a limits st has (page_at_address u) stands) found
+    stands (headers_show_storage c w a limits st has (page_at_address u) stands) found
 
 -- The addresses of its words point into its cell,
 pub word_points : (c : Config) (w : Words) (a : PlacedAllocation) → IsWithinLimits c → StandsOnHeap c a
-    → HasItsHeaders c w a
-    → (n : ℕ) → IsWordOf (storage_of c a) n
+    → HasItsHeaders c w a → (n : ℕ) → IsWordOf (storage_of c a) n
     → pointed_cell c.pages w.pages (address_of n) ≡ Some (cell_of_storage (storage_of c a))
 word_points c w a limits st has n is = grind (arith, pointers_hit, address_points_into)
 
 -- that of its base too.
 pub base_points : (c : Config) (w : Words) (a : PlacedAllocation) → IsWithinLimits c → StandsOnHeap c a
-    → HasItsHeaders c w a
-    → pointed_cell c.pages w.pages (address_of a.base) ≡ Some (cell_of_storage (storage_of c a))
+    → HasItsHeaders c w a → pointed_cell c.pages w.pages (address_of a.base) ≡ Some (cell_of_storage (storage_of c a))
 base_points c w a limits st has = grind (arith, words_within, typed_size, word_points)
 
 -- A release releases it exactly where its cell is left unmarked.
 pub released_where_left : (c : Config) (w : Words) (a : PlacedAllocation) → IsWithinLimits c → StandsOnHeap c a
-    → HasItsHeaders c w a
-    → (with_released c w a).released ≡ is_left_unmarked w (cell_of_storage (storage_of c a))
+    → HasItsHeaders c w a → (with_released c w a).released ≡ is_left_unmarked w (cell_of_storage (storage_of c a))
 released_where_left c w a limits st has = cc (st.unreleased, base_points c w a limits st has)
 
 -- It is marked where its cell is, and what points into it points well there.
 pub marked_where_its_cell_is : (c : Config) (w : Words) (a : PlacedAllocation) → IsWithinLimits c → StandsOnHeap c a
-    → HasItsHeaders c w a
-    → is_marked_allocation c w a ≡ is_marked w (cell_of_storage (storage_of c a))
+    → HasItsHeaders c w a → is_marked_allocation c w a ≡ is_marked w (cell_of_storage (storage_of c a))
 marked_where_its_cell_is c w a limits st has = grind (arith, base_points)
 
 pub points_well_where_marked : (c : Config) (w : Words) (a : PlacedAllocation) → IsWithinLimits c → StandsOnHeap c a
@@ -93,8 +84,7 @@ points_well_where_marked c w a limits st has u into = grind (arith, pointers_hit
 
 -- The words of its cell are its own.
 pub cell_word_is_its_own : (c : Config) (w : Words) (a : PlacedAllocation) → IsWithinLimits c → StandsOnHeap c a
-    → HasItsHeaders c w a
-    → (i : ℕ) → i < cell_words w (cell_of_storage (storage_of c a))
+    → HasItsHeaders c w a → (i : ℕ) → i < cell_words w (cell_of_storage (storage_of c a))
     → IsWordOf (storage_of c a) (first_word w (cell_of_storage (storage_of c a)) + i)
 cell_word_is_its_own c w a limits st has i lt = grind (arith, cells_begin)
 

@@ -71,8 +71,7 @@ found_under count header value cell is = by (is_heap_address count value) (heade
   where
     by : (b : Bool) (o : Option Header) → header_of header ≡ o
         → (if b then option_and_then (λ h. cell_under h (page_at_address value) (word_at_address value)) o else None)
-        ≡ Some cell
-        → (h : Header) × (header_of header ≡ Some h)
+        ≡ Some cell → (h : Header) × (header_of header ≡ Some h)
         × (cell_under h (page_at_address value) (word_at_address value) ≡ Some cell)
     by true (Some h) at is = (h, at, is)
     by true None at is = cc
@@ -86,8 +85,7 @@ cell_within count header value cell is =
     let under = found_under count header value cell is in
     let lies = lies_under under.0 (page_at_address value) (word_at_address value) cell under.2 in
     let near = not_behind under.0 (page_at_address value) in
-    let head = lies.head in
-    (omega arith, lies.small)
+    let head = lies.head in (omega arith, lies.small)
   where
     not_behind : (h : Header) (page : ℕ) → head_page_under (Some h) page ≤ page
     not_behind Free page = omega arith

@@ -1,22 +1,19 @@
 -- The table's words as one list: each stands at its index, and a change of one, or an access to it, is a change there.
-use Rattle.std.proofs.Common.{◌≡◌, ℕ, zero, suc, ◌+◌, ◌*◌, ◌/◌, ◌%◌, ◌^◌, ◌<◌, List, [], ◌∷◌, ◌++◌, length, map}
-use Rattle.std.proofs.Common.{replicate, slice_index, slice_index_or, slice_set, refl, sym, ◌∙◌, ap, arith}
-use Rattle.std.proofs.lemmas.List.{get_or_append_left, get_or-append-add, set-append_left, set-get_or, map-set}
-use Rattle.std.proofs.lemmas.List.{length-map, length-append, replicate-append-replicate, get_or-map}
-use Rattle.std.proofs.Math.Seq.{map-set_same}
-use Rattle.std.proofs.Math.Nat.{mod-add-div}
-use Rattle.mk_core.proofs.Vocabulary.{Access, Load, Named, Page, quarantine_word, Store, TableWord, Turn, Word, Words}
-use Rattle.mk_core.proofs.Vocabulary.{zero_words_of}
+use Rattle.std.proofs.lemmas.List.{get_or-map, length-map, map-set, replicate-append-replicate, set-append_left}
+use Rattle.std.proofs.lemmas.List.{set-get_or}
+use Rattle.std.proofs.{Common.get_or-append-add, Common.length-append, Math.Nat.mod-add-div, Math.Seq.map-set_same}
+use Rattle.mk_core.proofs.Vocabulary.{Access, List, Load, Named, Page, Store, TableWord, Turn, Word, Words, ℕ, ap}
+use Rattle.mk_core.proofs.Vocabulary.{arith, get_or_append_left, length, map, quarantine_word, refl, replicate}
+use Rattle.mk_core.proofs.Vocabulary.{slice_index, slice_index_or, slice_set, suc, sym, zero, zero_words_of, [], ◌%◌}
+use Rattle.mk_core.proofs.Vocabulary.{◌*◌, ◌++◌, ◌+◌, ◌/◌, ◌<◌, ◌^◌, ◌∙◌, ◌∷◌, ◌≡◌}
 use Rattle.mk_geom.specs.Storages.{free_page}
-use Rattle.mk_core.specs.declared.events.Word.TheVariants as word
-use Rattle.mk_core.specs.declared.accesses.Access.TheVariants.{Exchange, Or, Add, Sub}
-use Rattle.mk_core.specs.Words.{word_in, with_word_in, becomes}
-use Rattle.mk_core.proofs.Spread.{set_later, length_spread, spread_at, spread_set, word_at, word_set}
-use Rattle.mk_core.proofs.PageByPage.{length_pages, heap_at, dirty_at, heap_set, dirty_set, zeros}
-use Rattle.mk_core.specs.Layout.{index_of, IsOfTable, quarantine_words, gap, spread, page_by_page, regions, joined}
-use Rattle.mk_core.specs.Layout.{in_order}
-use Rattle.mk_core.specs.Layout.{AreOfPages, WordsStandAtTheirIndexes, ChangesStandAtTheirIndexes, ListHasAllWords}
-use Rattle.mk_core.specs.Layout.{FirstWordsAreZero, AccessesStandAtTheirIndexes}
+use Rattle.mk_core.proofs.PageByPage.{dirty_at, dirty_set, heap_at, heap_set, length_pages, zeros}
+use Rattle.mk_core.proofs.Spread.{length_spread, set_later, spread_at, spread_set, word_at, word_set}
+use Rattle.mk_core.specs.Layout.{AccessesStandAtTheirIndexes, AreOfPages, ChangesStandAtTheirIndexes, FirstWordsAreZero}
+use Rattle.mk_core.specs.Layout.{IsOfTable, ListHasAllWords, WordsStandAtTheirIndexes, gap, in_order, index_of, joined}
+use Rattle.mk_core.specs.Layout.{page_by_page, quarantine_words, regions, spread}
+use Rattle.mk_core.specs.declared.accesses.Access.TheVariants.{Add, Exchange, Or, Sub}
+use Rattle.mk_core.specs.Words.{becomes, with_word_in, word_in}
 
 -- how many words stand before a region
 abbrev before : List (List ℕ) → ℕ → ℕ
@@ -107,16 +104,13 @@ abbrev put : Words → ℕ → List ℕ → List ℕ
 put w j xs = joined (slice_set (regions w) j xs)
 
 -- a page's other word stays
-headers_kept : (ps : List Page) (p v : ℕ)
-    → map (λ (page : Page). page.header)
+headers_kept : (ps : List Page) (p v : ℕ) → map (λ (page : Page). page.header)
     (slice_set ps p (record { header = (slice_index_or ps p free_page).header; used = v }))
     ≡ map (λ (page : Page). page.header) ps
-headers_kept ps p v =
-    map-set_same (λ (page : Page). page.header) ps p
+headers_kept ps p v = map-set_same (λ (page : Page). page.header) ps p
     (record { header = (slice_index_or ps p free_page).header; used = v }) free_page refl
 
-used_kept : (ps : List Page) (p v : ℕ)
-    → map (λ (page : Page). page.used)
+used_kept : (ps : List Page) (p v : ℕ) → map (λ (page : Page). page.used)
     (slice_set ps p (record { header = v; used = (slice_index_or ps p free_page).used }))
     ≡ map (λ (page : Page). page.used) ps
 used_kept ps p v = map-set_same (λ (page : Page). page.used) ps p
@@ -166,8 +160,7 @@ module _ (pages : ℕ) (w : Words) (h : AreOfPages pages w) (b : Begins pages w)
   dirty_place : (p : ℕ) → p < pages → IsPlaceOf w (720 + 5 * pages + 72 * p) 16 (72 * p + 64)
   dirty_place p t = omega (arith, length_pages w.dirty w.heap (words_of_all w h), h.dirty)
 
-  heap_place : (n : ℕ) → n < 64 * pages
-      → IsPlaceOf w (656 + 5 * pages + n + 8 * (n / 64)) 16 (72 * (n / 64) + n % 64)
+  heap_place : (n : ℕ) → n < 64 * pages → IsPlaceOf w (656 + 5 * pages + n + 8 * (n / 64)) 16 (72 * (n / 64) + n % 64)
   heap_place n t = omega (arith, length_pages w.dirty w.heap (words_of_all w h), h.dirty)
 
   whole : (n : ℕ) → 64 * (n / 64) + n % 64 ≡ n
@@ -175,59 +168,55 @@ module _ (pages : ℕ) (w : Words) (h : AreOfPages pages w) (b : Begins pages w)
 
   named_stands : (x : Word) → IsOfTable pages (Named x)
       → slice_index (in_order w) (index_of pages (Named x)) ≡ word_in w (Named x)
-  named_stands (word.Gate j) t = at w _ 6 (16 * j) (gate_place j t) ∙ word_at 16 w.gates j h.gates t
-  named_stands (word.Reg c r) t = at w _ 7 (16 * c + r) (register_place c r t.0 t.1)
+  named_stands (Word.Gate j) t = at w _ 6 (16 * j) (gate_place j t) ∙ word_at 16 w.gates j h.gates t
+  named_stands (Word.Reg c r) t = at w _ 7 (16 * c + r) (register_place c r t.0 t.1)
       ∙ spread_at 16 8 8 w.registers c r h.registers t.0 t.1
-  named_stands (word.Global g) t = at w _ 8 g (global_place g t)
-  named_stands (word.Head p) t = at w _ 10 p (head_place p t)
+  named_stands (Word.Global g) t = at w _ 8 g (global_place g t)
+  named_stands (Word.Head p) t = at w _ 10 p (head_place p t)
       ∙ get_or-map (λ (page : Page). page.header) w.pages p free_page 0 (omega arith)
-  named_stands (word.Used p) t = at w _ 11 p (used_place p t)
+  named_stands (Word.Used p) t = at w _ 11 p (used_place p t)
       ∙ get_or-map (λ (page : Page). page.used) w.pages p free_page 0 (omega arith)
-  named_stands (word.Quar p) t = at w _ 12 p (quarantine_place p t)
+  named_stands (Word.Quar p) t = at w _ 12 p (quarantine_place p t)
       ∙ quarantine_at w.freed w.snapshot p (h.freed ∙ sym h.snapshot) (omega arith)
-  named_stands (word.Mark p) t = at w _ 13 p (mark_place p t)
-  named_stands (word.Black p) t = at w _ 14 p (black_place p t)
-  named_stands (word.Dirty p) t = at w _ 16 (72 * p + 64) (dirty_place p t)
+  named_stands (Word.Mark p) t = at w _ 13 p (mark_place p t)
+  named_stands (Word.Black p) t = at w _ 14 p (black_place p t)
+  named_stands (Word.Dirty p) t = at w _ 16 (72 * p + 64) (dirty_place p t)
       ∙ dirty_at w.dirty w.heap p (words_of_all w h) (omega (arith, h.dirty))
-  named_stands (word.Heap n) t = at w _ 16 (72 * (n / 64) + n % 64) (heap_place n t)
+  named_stands (Word.Heap n) t = at w _ 16 (72 * (n / 64) + n % 64) (heap_place n t)
       ∙ heap_at w.dirty w.heap (n / 64) (n % 64) (words_of_all w h) (omega (arith, h.dirty)) (omega arith)
       ∙ ap (λ k. slice_index w.heap k) (whole n)
   named_stands _ t = refl
 
   named_changes : (x : Word) (v : ℕ) → IsOfTable pages (Named x)
       → in_order (with_word_in w (Named x) v) ≡ slice_set (in_order w) (index_of pages (Named x)) v
-  named_changes (word.Gate j) v t =
+  named_changes (Word.Gate j) v t =
       ap (λ xs. put w 6 xs) (word_set 16 w.gates j v h.gates t) ∙ set_at w _ 6 (16 * j) v (gate_place j t)
-  named_changes (word.Reg c r) v t =
+  named_changes (Word.Reg c r) v t =
       ap (λ xs. put w 7 xs) (sym (spread_set 16 8 8 w.registers c r v h.registers t.0 t.1))
       ∙ set_at w _ 7 (16 * c + r) v (register_place c r t.0 t.1)
-  named_changes (word.Global g) v t = set_at w _ 8 g v (global_place g t)
-  named_changes (word.Head p) v t =
+  named_changes (Word.Global g) v t = set_at w _ 8 g v (global_place g t)
+  named_changes (Word.Head p) v t =
       let page : Page = record { header = v; used = (slice_index_or w.pages p free_page).used } in
       let headers = map (λ (x : Page). x.header) (slice_set w.pages p page) in
       ap (λ us. joined (slice_set (slice_set (regions w) 10 headers) 11 us)) (used_kept w.pages p v)
-      ∙ ap (λ hs. put w 10 hs) (map-set (λ (x : Page). x.header) w.pages p page)
-      ∙ set_at w _ 10 p v (head_place p t)
-  named_changes (word.Used p) v t =
+      ∙ ap (λ hs. put w 10 hs) (map-set (λ (x : Page). x.header) w.pages p page) ∙ set_at w _ 10 p v (head_place p t)
+  named_changes (Word.Used p) v t =
       let page : Page = record { header = (slice_index_or w.pages p free_page).header; used = v } in
       let used = map (λ (x : Page). x.used) (slice_set w.pages p page) in
       ap (λ hs. joined (slice_set (slice_set (regions w) 10 hs) 11 used)) (headers_kept w.pages p v)
-      ∙ ap (λ us. put w 11 us) (map-set (λ (x : Page). x.used) w.pages p page)
-      ∙ set_at w _ 11 p v (used_place p t)
-  named_changes (word.Quar p) v t =
+      ∙ ap (λ us. put w 11 us) (map-set (λ (x : Page). x.used) w.pages p page) ∙ set_at w _ 11 p v (used_place p t)
+  named_changes (Word.Quar p) v t =
       ap (λ xs. put w 12 xs) (quarantine_set w.freed w.snapshot p (v % 2 ^ 32) (v / 2 ^ 32) (h.freed ∙ sym h.snapshot))
       ∙ ap (λ x. put w 12 (slice_set (quarantine_words w.freed w.snapshot) p x)) (quarantine_whole v)
       ∙ set_at w _ 12 p v (quarantine_place p t)
-  named_changes (word.Mark p) v t = set_at w _ 13 p v (mark_place p t)
-  named_changes (word.Black p) v t = set_at w _ 14 p v (black_place p t)
-  named_changes (word.Dirty p) v t =
+  named_changes (Word.Mark p) v t = set_at w _ 13 p v (mark_place p t)
+  named_changes (Word.Black p) v t = set_at w _ 14 p v (black_place p t)
+  named_changes (Word.Dirty p) v t =
       ap (λ xs. put w 16 xs) (sym (dirty_set w.dirty w.heap p v (words_of_all w h) (omega (arith, h.dirty))))
       ∙ set_at w _ 16 (72 * p + 64) v (dirty_place p t)
-  named_changes (word.Heap n) v t =
-      ap (λ k. put w 16 (page_by_page w.dirty (slice_set w.heap k v))) (sym (whole n))
+  named_changes (Word.Heap n) v t = ap (λ k. put w 16 (page_by_page w.dirty (slice_set w.heap k v))) (sym (whole n))
       ∙ ap (λ xs. put w 16 xs) (sym (heap_set w.dirty w.heap (n / 64) (n % 64) v (words_of_all w h)
-      (omega (arith, h.dirty)) (omega arith)))
-      ∙ set_at w _ 16 (72 * (n / 64) + n % 64) v (heap_place n t)
+      (omega (arith, h.dirty)) (omega arith))) ∙ set_at w _ 16 (72 * (n / 64) + n % 64) v (heap_place n t)
   named_changes _ v t = refl
 
 pub words_stand : WordsStandAtTheirIndexes
@@ -275,17 +264,13 @@ first_are_zero pages =
     ∙ ap (λ qs. joined (slice_set (slice_set (slice_set (regions w) 10 (gap pages)) 11 (gap pages)) 12 qs))
     (no_quarantine pages)
     ∙ ap (λ ds. joined (slice_set (slice_set (slice_set (slice_set (regions w) 10 (gap pages)) 11 (gap pages)) 12
-    (gap pages)) 16 ds))
-    (zeros pages)
-    ∙ joined_gaps counts
-    ∙ ap gap (omega arith)
+    (gap pages)) 16 ds)) (zeros pages) ∙ joined_gaps counts ∙ ap gap (omega arith)
 
 -- what an access makes of a word, made of the list's
 made : (pages : ℕ) (w : Words) (x : TableWord) (a : Access) → AreOfPages pages w → IsOfTable pages x
     → in_order (with_word_in w x (becomes a (word_in w x)))
     ≡ slice_set (in_order w) (index_of pages x) (becomes a (slice_index (in_order w) (index_of pages x)))
-made pages w x a h t =
-    words_change pages w x (becomes a (word_in w x)) h t
+made pages w x a h t = words_change pages w x (becomes a (word_in w x)) h t
     ∙ ap (λ found. slice_set (in_order w) (index_of pages x) (becomes a found)) (sym (words_stand pages w x h t))
 
 pub accesses_change : AccessesStandAtTheirIndexes

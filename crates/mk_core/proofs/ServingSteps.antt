@@ -1,11 +1,15 @@
 -- What the steps that serve a new object find and store.
-use Rattle.mk_core.proofs.Vocabulary.{None, Object, Option, Place, Some, Words, ℕ, all_below, and_parts, eqb-false}
-use Rattle.mk_core.proofs.Vocabulary.{eqb-true, false, has_bit, header_at, header_made, is_phase, leb-true, ltb-true}
-use Rattle.mk_core.proofs.Vocabulary.{nat_lt, not, not-true, pages_made, refl, stands, true, ◌+◌, ◌-◌, ◌<◌, ◌==◌, ◌^◌}
-use Rattle.mk_core.proofs.Vocabulary.{◌≡◌, ◌≢◌, ◌≤◌}
+use Rattle.mk_core.proofs.Vocabulary.{Bool, None, Object, Option, Place, Some, Words, ℕ, and_parts, eqb-false, eqb-true}
+use Rattle.mk_core.proofs.Vocabulary.{false, has_bit, header_at, header_made, is_phase, leb-true, ltb-true, not-true}
+use Rattle.mk_core.proofs.Vocabulary.{pages_made, refl, stands, true, ◌&&◌, ◌+◌, ◌-◌, ◌<◌, ◌^◌, ◌≡◌, ◌≢◌, ◌≤◌}
 use Rattle.mk_core.proofs.AllBelow.{all_below-at}
 use Rattle.mk_core.specs.TurnConditions.{carves, is_marked_first, takes_cell}
 use Rattle.mk_core.specs.{NewPlaces.bits_made, NewPlaces.is_next_header, StopConditions.marks_place, Words.used_at}
+
+-- four tests, each of which holds
+pub four_hold : (a b c d : Bool) → (a && b && c && d) ≡ true → (a ≡ true) × (b ≡ true) × (c ≡ true) × (d ≡ true)
+four_hold a b c d h =
+    let x = and_parts _ d h in let y = and_parts _ c x.0 in let z = and_parts a b y.0 in (z.0, z.1, y.1, x.1)
 
 -- the first page of this many that hasn't the header that is wanted there, and that header
 pub record IsNextHeader (w : Words) (first count : ℕ) (wanted : ℕ → ℕ) (page value : ℕ) : Type 0 where
@@ -16,21 +20,15 @@ pub record IsNextHeader (w : Words) (first count : ℕ) (wanted : ℕ → ℕ) (
   pub is : value ≡ wanted (page - first)
 
 pub next_header : (w : Words) (first count : ℕ) (wanted : ℕ → ℕ) (page value : ℕ)
-    → is_next_header w first count wanted page value ≡ true
-    → IsNextHeader w first count wanted page value
+    → is_next_header w first count wanted page value ≡ true → IsNextHeader w first count wanted page value
 next_header w first count wanted page value h =
-    let near = nat_lt (page - first) count in
-    let not_yet = not (header_at w page == wanted (page - first)) in
-    let before = all_below (page - first) (stands w first wanted) in
     let a = and_parts _ _ h in
-    let b = and_parts _ _ a.0 in
-    let d = and_parts _ _ b.0 in
-    let e = and_parts _ _ d.0 in
+    let b = four_hold _ _ _ _ a.0 in
     record {
-      from = leb-true _ _ e.0;
-      near = ltb-true _ _ e.1;
-      not_yet = eqb-false _ _ (not-true _ d.1);
-      before = λ k lt. eqb-true _ _ (all_below-at (page - first) k (stands w first wanted) b.1 lt);
+      from = leb-true _ _ b.0;
+      near = ltb-true _ _ b.1;
+      not_yet = eqb-false _ _ (not-true _ b.2);
+      before = λ k lt. eqb-true _ _ (all_below-at (page - first) k (stands w first wanted) b.3 lt);
       is = eqb-true _ _ a.1;
     }
 
@@ -44,14 +42,12 @@ pub record IsCellTaken (w : Words) (o : Object) (place : Place) (page value : �
 pub cell_taken : (w : Words) (o : Object) (place : Place) (page value : ℕ)
     → takes_cell w o (Some place) page value ≡ true → IsCellTaken w o place page value
 cell_taken w o place page value h =
-    let a = and_parts _ _ h in
-    let b = and_parts _ _ a.0 in
-    let d = and_parts _ _ b.0 in
+    let a = four_hold _ _ _ _ h in
     record {
-      at = eqb-true _ _ d.0;
-      headers = λ k lt. eqb-true _ _ (all_below-at (pages_made o) k (stands w place.page (header_made o)) d.1 lt);
-      unused = not-true _ b.1;
-      is = eqb-true _ _ a.1;
+      at = eqb-true _ _ a.0;
+      headers = λ k lt. eqb-true _ _ (all_below-at (pages_made o) k (stands w place.page (header_made o)) a.1 lt);
+      unused = not-true _ a.2;
+      is = eqb-true _ _ a.3;
     }
 
 -- the bits of the cells of the place's first page, which has no header yet
@@ -64,15 +60,8 @@ pub record IsPlaceMarked (w : Words) (o : Object) (place : Place) (page value : 
 pub place_marked : (w : Words) (o : Object) (place : Place) (page value : ℕ)
     → marks_place w o (Some place) page value ≡ true → IsPlaceMarked w o place page value
 place_marked w o place page value h =
-    let a = and_parts _ _ h in
-    let b = and_parts _ _ a.0 in
-    let d = and_parts _ _ b.0 in
-    record {
-      phase = d.0;
-      at = eqb-true _ _ d.1;
-      free = eqb-true _ 0 b.1;
-      is = eqb-true _ _ a.1;
-    }
+    let a = four_hold _ _ _ _ h in
+    record { phase = a.0; at = eqb-true _ _ a.1; free = eqb-true _ 0 a.2; is = eqb-true _ _ a.3 }
 
 -- Each of these has a place.
 pub record Carves (w : Words) (o : Object) (found : Option Place) (page value : ℕ) : Type 0 where

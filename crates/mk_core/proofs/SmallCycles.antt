@@ -23,8 +23,7 @@ small = record { pages = 1; resident = 1; callers = 1; markers = 1; types = (To 
 
 -- Three objects, of which register 0 holds the first and register 1 the second. The third is freed.
 unfoldable pub three_objects : List Event
-three_objects =
-    by_caller (Step.Take (Some (Op.New 0 0 false)) ∷ Step.Head 0 1 ∷ Step.Used 0 1 ∷ Step.Grant
+three_objects = by_caller (Step.Take (Some (Op.New 0 0 false)) ∷ Step.Head 0 1 ∷ Step.Used 0 1 ∷ Step.Grant
     ∷ Step.Tally Tally.Held 2 ∷ Step.Give ∷ [])
     ++ by_caller (Step.Take (Some (Op.New 1 0 false)) ∷ Step.Used 0 3 ∷ Step.Grant ∷ Step.Tally Tally.Held 4 ∷ Step.Give
     ∷ [])
@@ -45,19 +44,16 @@ second_cleared = by_caller (Step.Enter (Op.Clear 1) ∷ Step.Reg ∷ Step.Leave 
 
 -- what releases the third, from the `close` on
 abbrev pub third_released : List Event
-third_released =
-    by_host (Step.Close ∷ Step.Release ∷ Step.Used 0 3 ∷ Step.Quar 0 0 ∷ Step.Tally Tally.Held 4 ∷ Step.End
+third_released = by_host (Step.Close ∷ Step.Release ∷ Step.Used 0 3 ∷ Step.Quar 0 0 ∷ Step.Tally Tally.Held 4 ∷ Step.End
     ∷ Step.Open 0 ∷ Step.Give ∷ [])
 
 -- The caller is stopped, and the snapshot is taken: a `begin` may come next.
 unfoldable pub begun_in_stop : List Event
-begun_in_stop =
-    three_objects ++ pointer_written ++ page_dirtied ++ second_cleared
+begun_in_stop = three_objects ++ pointer_written ++ page_dirtied ++ second_cleared
     ++ by_host (Step.Take None ∷ Step.Hold 0 ∷ Step.Quar 0 17179869188 ∷ Step.Tally Tally.Fresh 0 ∷ Step.Undirty 0 ∷ [])
 
 unfoldable pub marked_in_stop : List Event
-marked_in_stop =
-    by_host (Step.Want ∷ Step.Look (Word.Reg 0 0) ∷ Step.Mark 0 1 ∷ Step.Look (Word.Heap 0) ∷ Step.Mark 0 2
+marked_in_stop = by_host (Step.Want ∷ Step.Look (Word.Reg 0 0) ∷ Step.Mark 0 1 ∷ Step.Look (Word.Heap 0) ∷ Step.Mark 0 2
     ∷ Step.Black 0 1 ∷ Step.Black 0 2 ∷ [])
 
 abbrev pub stopped_cycle : List Event
@@ -65,8 +61,7 @@ stopped_cycle = begun_in_stop ++ record { seat = Seat.Host; step = Step.Begin } 
 
 -- A cycle begins, and the first object is marked.
 abbrev pub first_marked : List Event
-first_marked =
-    three_objects
+first_marked = three_objects
     ++ by_host (Step.Take None ∷ Step.Hold 0 ∷ Step.Quar 0 17179869188 ∷ Step.Tally Tally.Fresh 0 ∷ Step.Begin ∷
     Step.Look (Word.Reg 0 0) ∷ Step.Mark 0 1 ∷ Step.Open 0 ∷ [])
 

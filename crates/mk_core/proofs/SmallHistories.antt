@@ -15,12 +15,10 @@ pub enabled_by_test : (c : Config) (w : World) (es : List Event) → all_enabled
 unfolding AreEnabledFrom all_enabled
 enabled_by_test c w [] h = tt
 enabled_by_test c w (e ∷ es) h =
-    let both = and_parts _ _ h in
-    (eqb-true _ 0 both.0, enabled_by_test c (world_behind c w e) es both.1)
+    let both = and_parts _ _ h in (eqb-true _ 0 both.0, enabled_by_test c (world_behind c w e) es both.1)
 
 kinds_are_among : All (IsAmong small.types) (To 0 0 ∷ Num ∷ [])
-kinds_are_among =
-    All-cons (IsAmong small.types) (To 0 0) (Num ∷ []) (ltb-true 0 1 refl, ltb-true 0 2 refl)
+kinds_are_among = All-cons (IsAmong small.types) (To 0 0) (Num ∷ []) (ltb-true 0 1 refl, ltb-true 0 2 refl)
     (All-cons (IsAmong small.types) Num [] tt (All-nil (IsAmong small.types)))
 
 pub small_is_within_limits : IsWithinLimits small
@@ -31,8 +29,7 @@ small_is_within_limits = record {
   markers = leb-true 1 8 refl;
   type_count = leb-true 1 64 refl;
   global_count = leb-true 0 64 refl;
-  types =
-      All-cons (IsTypeAmong small.types) (To 0 0 ∷ Num ∷ []) []
+  types = All-cons (IsTypeAmong small.types) (To 0 0 ∷ Num ∷ []) []
       ((leb-true 1 2 refl, leb-true 2 4096 refl), kinds_are_among)
       (All-nil (IsTypeAmong small.types));
   globals = All-nil (λ (ty : ℕ). ty < 1);
@@ -40,19 +37,14 @@ small_is_within_limits = record {
 
 -- the calls of both
 abbrev pub small_calls : List Call
-small_calls =
-    record { caller = 0; op = Op.New 0 0 false } ∷ record { caller = 0; op = Op.New 1 0 false }
+small_calls = record { caller = 0; op = Op.New 0 0 false } ∷ record { caller = 0; op = Op.New 1 0 false }
     ∷ record { caller = 0; op = Op.New 2 0 false }
     ∷ record { caller = 0; op = Op.Free 2 } ∷ record { caller = 0; op = Op.Clear 2 }
-    ∷ record { caller = 0; op = Op.SetPtr 0 0 1 }
-    ∷ record { caller = 0; op = Op.Clear 1 } ∷ []
+    ∷ record { caller = 0; op = Op.SetPtr 0 0 1 } ∷ record { caller = 0; op = Op.Clear 1 } ∷ []
 
 small_calls_are_admitted : AreAdmitted [] (never_first small) small_calls
-small_calls_are_admitted =
-    admitted (omega arith) (omega arith) tt tt
-    and admitted (omega arith) (omega arith) tt tt
-    and admitted (omega arith) (omega arith) tt tt
-    and admitted (omega arith) (omega arith) tt refl
+small_calls_are_admitted = admitted (omega arith) (omega arith) tt tt and admitted (omega arith) (omega arith) tt tt
+    and admitted (omega arith) (omega arith) tt tt and admitted (omega arith) (omega arith) tt refl
     and admitted (omega arith) (omega arith) tt tt
     and admitted (omega arith) (omega arith) (omega arith, refl) (omega arith, (refl, refl))
     and admitted (omega arith) (omega arith) tt tt and tt

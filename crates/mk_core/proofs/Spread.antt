@@ -1,10 +1,10 @@
 -- Groups of words with gaps between them: their length, the word r of group i, and a change of it.
-use Rattle.std.proofs.Common.{◌≡◌, ℕ, zero, suc, ◌+◌, ◌*◌, ◌<◌, List, ◌++◌, length, take, drop, slice_index, slice_set}
-use Rattle.std.proofs.Common.{◌∷◌, length-set, refl, sym, ◌∙◌, ap, arith}
-use Rattle.std.proofs.lemmas.List.{get_or_append_left, get_or-append-add, get_or-take, get_or-drop, set-append_left}
-use Rattle.std.proofs.lemmas.List.{set-append_right, take-set-le, drop-set-lt, drop-set-add, length-append, length-drop}
-use Rattle.std.proofs.lemmas.List.{length-take-le, length-replicate, replicate-append-replicate}
+use Rattle.std.proofs.Common.{drop-set-lt, get_or-append-add, get_or-drop, get_or-take, length-append, length-drop}
+use Rattle.std.proofs.Common.{length-take-le}
+use Rattle.std.proofs.lemmas.List.{drop-set-add, set-append_left, set-append_right, take-set-le}
 use Rattle.std.proofs.Math.Seq.{take-set-lt}
+use Rattle.mk_core.proofs.Vocabulary.{List, ℕ, ap, arith, drop, get_or_append_left, length, length-replicate, refl}
+use Rattle.mk_core.proofs.Vocabulary.{slice_index, slice_set, suc, sym, take, zero, ◌*◌, ◌++◌, ◌+◌, ◌<◌, ◌∙◌, ◌≡◌}
 use Rattle.mk_core.specs.Layout.{gap, spread}
 
 -- a change after the first words
@@ -38,8 +38,7 @@ spread_at (suc n) size between xs (suc i) r e li lr =
     let k = (size + between) * i + r in
     ap (λ m. slice_index (spread (suc n) size between xs) m) (omega arith)
     ∙ get_or-append-add (take size xs) (gap between ++ spread n size between (drop size xs)) (length (gap between) + k)
-    0
-    ∙ get_or-append-add (gap between) (spread n size between (drop size xs)) k 0
+    0 ∙ get_or-append-add (gap between) (spread n size between (drop size xs)) k 0
     ∙ spread_at n size between (drop size xs) i r left (omega arith) lr
     ∙ get_or-drop size xs (size * i + r) 0 ∙ ap (λ m. slice_index xs m) (omega arith)
 
@@ -81,7 +80,6 @@ word_at n xs j e lt = ap (λ k. slice_index (spread n 1 15 xs) k) (omega arith)
 
 pub word_set : (n : ℕ) (xs : List ℕ) (j v : ℕ) → length xs ≡ n → j < n
     → spread n 1 15 (slice_set xs j v) ≡ slice_set (spread n 1 15 xs) (16 * j) v
-word_set n xs j v e lt =
-    ap (λ k. spread n 1 15 (slice_set xs k v)) (omega arith)
+word_set n xs j v e lt = ap (λ k. spread n 1 15 (slice_set xs k v)) (omega arith)
     ∙ sym (spread_set n 1 15 xs j 0 v (omega arith) lt (omega arith))
     ∙ ap (λ k. slice_set (spread n 1 15 xs) k v) (omega arith)

@@ -72,8 +72,7 @@ module _ (c : Config) (a : PlacedAllocation) (sized : IsSized (object_placed c a
         let first = b.first in
         cell_from_first (storage_of c a) (a.base / 64) b.index (words_are_small o sized ∙ small)
         (words_within o sized).0 (cell_ends_within o a.base sized small b) (omega arith)
-    | inr large ↦
-        cc (large_cell_of (storage_of c a) (words_are_small o sized ∙ large), (run_begins o a.base large b).0)
+    | inr large ↦ cc (large_cell_of (storage_of c a) (words_are_small o sized ∙ large), (run_begins o a.base large b).0)
   ]
 
   pub run_cell : is_small_object o ≡ false → cell_of_storage (storage_of c a) ≡ record { page = a.base / 64; index = 0 }
@@ -141,8 +140,7 @@ module _ (c : Config) (a : PlacedAllocation) (sized : IsSized (object_placed c a
       (large_words its large) (large_count its sized large).0 is
 
   shows : distance < pages_made its → (is_small_object its ≡ true) ⊎ (is_small_object its ≡ false)
-      → IsHeaderOf its distance header
-      → ShowsStorage (storage_of c a) (a.base / 64 + distance) header
+      → IsHeaderOf its distance header → ShowsStorage (storage_of c a) (a.base / 64 + distance) header
   shows near (inl small) (inl made) =
       shows_cell (storage_of c a) (a.base / 64 + distance) header (class_made its) (class_known its sized small).0
       (small_words its small) (made ∙ small_header its distance small)
@@ -153,15 +151,13 @@ module _ (c : Config) (a : PlacedAllocation) (sized : IsSized (object_placed c a
 
 pub header_shows_storage : (c : Config) (a : PlacedAllocation) (distance header : ℕ) → IsSized (object_placed c a)
     → BeginsAtCell (object_placed c a) a.base → distance < pages_made (object_placed c a)
-    → IsHeaderOf (object_placed c a) distance header
-    → ShowsStorage (storage_of c a) (a.base / 64 + distance) header
+    → IsHeaderOf (object_placed c a) distance header → ShowsStorage (storage_of c a) (a.base / 64 + distance) header
 header_shows_storage c a distance header sized b near has =
     shows c a sized b distance header near (cases_Bool (is_small_object (object_placed c a))) has
 
 -- how far after its first a page of its storage is
 page_near : (c : Config) (a : PlacedAllocation) (page : ℕ) → IsSized (object_placed c a)
-    → BeginsAtCell (object_placed c a) a.base
-    → stands_on page (storage_of c a) ≡ true
+    → BeginsAtCell (object_placed c a) a.base → stands_on page (storage_of c a) ≡ true
     → (a.base / 64 ≤ page) × (page - a.base / 64 < pages_made (object_placed c a))
 page_near c a page sized b stands =
     let parts = stands_parts page (storage_of c a) stands in
@@ -190,8 +186,7 @@ pointers_hit c w a limits st has u into =
 
 -- its first page shows the object
 pub first_page_shows : (c : Config) (w : Words) (a : PlacedAllocation) → IsSized (object_placed c a)
-    → HasItsHeaders c w a
-    → ShowsPart (object_placed c a) 0 (header_in w (a.base / 64))
+    → HasItsHeaders c w a → ShowsPart (object_placed c a) 0 (header_in w (a.base / 64))
 first_page_shows c w a sized has =
     let here : a.base / 64 + 0 ≡ a.base / 64 = omega arith in
     subst (λ p. ShowsPart (object_placed c a) 0 (header_in w p)) here

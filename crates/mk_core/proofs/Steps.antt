@@ -13,8 +13,7 @@ Tells core e r = MatchResult r (λ _. IsEnabled core.config core.now e)
     (λ x. (failing core.config core.now e ≡ x.condition) × (1 ≤ x.condition))
 
 pub exact_of : (core : CoreState) (es : List Event) (e : Event) (r : Result (Option Answer) NotEnabled)
-    → CoreStandsFor core es → Tells core e r
-    → (IsOk r ↔ AreEnabled core.config (es ++ e ∷ []))
+    → CoreStandsFor core es → Tells core e r → (IsOk r ↔ AreEnabled core.config (es ++ e ∷ []))
 exact_of core es e (Ok a) st t = grind (arith, enabled_more)
 exact_of core es e (Err x) st t = grind (arith, last_enabled)
 
@@ -29,8 +28,7 @@ pub stands_of : (core new : CoreState) (es : List Event) (e : Event) (r : Result
     → CoreStandsFor core es → Tells core e r
     → OnOk r (new ≡ record { config = core.config; now = moment_behind core.config core.now e })
     → OnOk r (CoreStandsFor new (es ++ e ∷ []))
-stands_of core new es e (Ok a) st t h =
-    subst (λ (x : CoreState). CoreStandsFor x (es ++ e ∷ [])) (sym h)
+stands_of core new es e (Ok a) st t h = subst (λ (x : CoreState). CoreStandsFor x (es ++ e ∷ [])) (sym h)
     (record {
       enabled = (exact_of core es e (Ok a) st t).0 refl;
       now = cc (st.now, left_more core.config (first_world core.config) es e);

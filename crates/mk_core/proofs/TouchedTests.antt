@@ -26,8 +26,7 @@ word_is_into_members c w S a n value = not (is_word_of (storage_of c a) n) || is
 
 -- So is each word of the allocation, where it is a member that has words to follow.
 abbrev pub words_are_into_members : Config → World → (ℕ → Bool) → ℕ → PlacedAllocation → Bool
-words_are_into_members c w S i a =
-    not (not a.released && (not (storage_of c a).leaf && S i))
+words_are_into_members c w S i a = not (not a.released && (not (storage_of c a).leaf && S i))
     || numbered_all (word_is_into_members c w S a) w.now.words.heap
 
 abbrev pub is_closed_at : Config → World → NeverState → (ℕ → Bool) → Bool
@@ -54,8 +53,7 @@ word_points_into c w S a n b h member inside points =
     let x = placed_at w.allocations a in
     let each = numbered_all-at (words_are_into_members c w S) w.allocations never_granted h (λ i. refl) a in
     let follow = and_from _ _ (not_from_false _ inside.1) member in
-    let all = implied _ _ each
-    (and_from _ _ (not_from_false _ inside.0) follow) in
+    let all = implied _ _ each (and_from _ _ (not_from_false _ inside.0) follow) in
     let word = numbered_all-at (word_is_into_members c w S x) w.now.words.heap 0 all
     (λ i. or-true (not (is_word_of (storage_of c x) i))) n in
     points_into c w S _ b (implied _ _ word (is_word_of_by (storage_of c x) n inside.2)) points
@@ -64,12 +62,10 @@ pub closed_along_by_test : (c : Config) (es : List Event) (k : Marking es) (S : 
     → all_fronts (λ done. is_closed_behind c S (through k.begin ++ done)) k.close.at.before ≡ true
     → IsClosedAlong c k (λ b. S b ≡ true)
 closed_along_by_test c es k S h = record {
-  registers = λ front i b at points.
-      points_into c (left c front) S _ b
+  registers = λ front i b at points. points_into c (left c front) S _ b
       (list_all-at (register_is_into_members c (left c front) S) (never_behind c front).registers Null
       (parts front at).0 refl i) points;
-  globals = λ front g b at points.
-      points_into c (left c front) S _ b
+  globals = λ front g b at points. points_into c (left c front) S _ b
       (list_all-at (is_into_members c (left c front) S) (left c front).now.words.globals 0 (parts front at).1 refl
       g) points;
   words = λ front a n b at member inside points. word_points_into c (left c front) S a n b (parts front at).2 member
@@ -77,8 +73,7 @@ closed_along_by_test c es k S h = record {
 }
   where
     closed_at : (front : List Event) → LeadsToMoment k front → is_closed_behind c S front ≡ true
-    closed_at front at =
-        subst (λ xs. is_closed_behind c S xs ≡ true) (sym at.is)
+    closed_at front at = subst (λ xs. is_closed_behind c S xs ≡ true) (sym at.is)
         (all_fronts-at (λ done. is_closed_behind c S (through k.begin ++ done)) k.close.at.before at.done at.to_come h
         at.of_the_cycle)
 
@@ -88,5 +83,4 @@ closed_along_by_test c es k S h = record {
         × (numbered_all (words_are_into_members c (left c front) S) (left c front).allocations ≡ true)
     parts front at =
         let outer = and_parts _ _ (closed_at front at) in
-        let roots = and_parts _ _ outer.0 in
-        (roots.0, roots.1, outer.1)
+        let roots = and_parts _ _ outer.0 in (roots.0, roots.1, outer.1)

@@ -41,11 +41,9 @@ pub unreleased_kept : (c : Config) (f : PlacedAllocation → PlacedAllocation)
     → (xs : List PlacedAllocation) → unreleased_storage c (map f xs) ≡ unreleased_storage c xs
 unreleased_kept c f same storage [] = refl
 unreleased_kept c f same storage (a ∷ xs) = elim (cases_Bool a.released) [
-  | inl released ↦
-      released_front c (f a) (map f xs) (same a ∙ released) ∙ unreleased_kept c f same storage xs
+  | inl released ↦ released_front c (f a) (map f xs) (same a ∙ released) ∙ unreleased_kept c f same storage xs
       ∙ sym (released_front c a xs released)
-  | inr unreleased ↦
-      unreleased_front c (f a) (map f xs) (same a ∙ unreleased)
+  | inr unreleased ↦ unreleased_front c (f a) (map f xs) (same a ∙ unreleased)
       ∙ ap (λ (s : Storage). s ∷ unreleased_storage c (map f xs)) (storage a unreleased)
       ∙ ap (λ (ss : List Storage). storage_of c a ∷ ss) (unreleased_kept c f same storage xs)
       ∙ sym (unreleased_front c a xs unreleased)

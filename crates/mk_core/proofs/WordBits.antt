@@ -68,14 +68,12 @@ rest_is n m sub = let sum : n + bit_xor m n ≡ m = sym (or_disjoint n (bit_xor 
     all_at a b lt (inr both) = let o = both.0 in let p = both.1 in omega arith
 
     disjoint : bit_and n (bit_xor m n) ≡ 0
-    disjoint =
-        same_from_bits (bit_and n (bit_xor m n)) 0
+    disjoint = same_from_bits (bit_and n (bit_xor m n)) 0
         (λ i. bit_at_and n (bit_xor m n) i ∙ ap (λ b. min (bit_at n i) b) (bit_at_xor m n i)
         ∙ none_at (bit_at n i) (bit_at m i) (bit_at-lt m i) (bits i) ∙ sym (bit_at-zero i))
 
     whole : bit_or n (bit_xor m n) ≡ m
-    whole =
-        same_from_bits (bit_or n (bit_xor m n)) m
+    whole = same_from_bits (bit_or n (bit_xor m n)) m
         (λ i. bit_at_or n (bit_xor m n) i ∙ ap (λ b. max (bit_at n i) b) (bit_at_xor m n i)
         ∙ all_at (bit_at n i) (bit_at m i) (bit_at-lt m i) (bits i))
 

@@ -132,21 +132,7 @@ held_by_pages w = held_by_uses (uses_of_pages w.pages)
 -- no call of a caller's is undecided
 abbrev pub is_decided : Stage → Bool
 is_decided stage.Turn = false
-is_decided stage.Idle = true
-is_decided stage.LoadQ = true
-is_decided stage.LoadP = true
-is_decided stage.LoadR = true
-is_decided stage.Probe = true
-is_decided stage.Read = true
-is_decided stage.Write = true
-is_decided stage.Cas = true
-is_decided stage.Getg = true
-is_decided stage.Setg = true
-is_decided stage.Store = true
-is_decided stage.Put = true
-is_decided stage.Dirty = true
-is_decided stage.Leave = true
-is_decided stage.Give = true
+is_decided _ = true
 
 -- `give`
 abbrev pub may_give : Moment → Flight → Bool

@@ -327,19 +327,7 @@ impl Core {
     {
         match op {
             Op::New { ty, .. } => ty < self.config.types.count(),
-            Op::Free { .. }
-            | Op::GetNum { .. }
-            | Op::SetNum { .. }
-            | Op::GetPtr { .. }
-            | Op::SetPtr { .. }
-            | Op::CasPtr { .. }
-            | Op::Lea { .. }
-            | Op::Move { .. }
-            | Op::Clear { .. }
-            | Op::GetGlobal { .. }
-            | Op::SetGlobal { .. }
-            | Op::Same { .. }
-            | Op::IsNull { .. } => true,
+            _ => true,
         }
     }
 

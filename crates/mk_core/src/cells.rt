@@ -13,6 +13,7 @@ ghost use Rattle.mk_core.specs.Cells.{word_points_well, words_point_well, words_
 ghost use Rattle.mk_core.specs.Cells.{is_left_unmarked, are_left_unmarked, none_is_left_unmarked, is_released_cell};
 ghost use Rattle.mk_core.specs.Cells.{is_in_run};
 
+use crate::bounded::all_below;
 use crate::table::Table;
 use crate::{Core, Phase, RunPages};
 use mk_geom::{
@@ -232,31 +233,21 @@ impl Table {
     }
 
     /// Whether each word of the cell points well.
-    #[tactic(auto, using(crate::proofs::AllBelow::all_below_zero_is, crate::proofs::AllBelow::all_below_more_is, crate::proofs::AllBelow::all_below_not_is))]
     pub(crate) fn words_point_well(&self, pages: u64, cell: Cell) -> bool
         ensures { result ≡ words_point_well pages self.now cell }
     {
         let first = self.first_word(cell);
-        for i in 0..self.cell_words(cell) {
-            if !self.word_points_well(pages, first + i as u128) {
-                return false;
-            }
-        }
-        true
+        all_below(self.cell_words(cell), |i| {
+            self.word_points_well(pages, first + i as u128)
+        })
     }
 
     /// Whether this many words from the first on are 0.
-    #[tactic(auto, using(crate::proofs::AllBelow::all_below_zero_is, crate::proofs::AllBelow::all_below_more_is, crate::proofs::AllBelow::all_below_not_is))]
     pub(crate) fn words_are_zero(&self, first: u128, count: u64) -> bool
         requires { first < 2 ^ 100 }
         ensures { result ≡ words_are_zero self.now first count }
     {
-        for i in 0..count {
-            if self.heap(first + i as u128) != 0 {
-                return false;
-            }
-        }
-        true
+        all_below(count, |i| self.heap(first + i as u128) == 0)
     }
 
     /// The cells of a page that are in the snapshot and have no mark, as bits.

@@ -177,8 +177,14 @@ impl Core {
             Step::Take(_) if found == 0 => return NOTHING_DONE,
             Step::Give => return NOTHING_DONE,
             Step::Look(word) => holding.hand = self.hand_given(seat, word, found).or(holding.hand),
-            Step::Head { .. } => holding.placing = self.placing_headed(flight),
-            Step::Used { .. } => holding.placing = self.placing_used(flight),
+            Step::Head { .. } => {
+                let place = self.place_now(flight);
+                holding.placing = self.placing_served(chosen(holding.placing, place));
+            }
+            Step::Used { .. } => {
+                let place = self.place_now(flight);
+                holding.placing = self.placing_served(taken(holding.placing, place));
+            }
             Step::Quar { page, value } => {
                 holding.freed = self.run_freed(flight, page, value).or(holding.freed);
             }
@@ -250,27 +256,14 @@ impl Core {
         }
     }
 
-    /// The place of the object that a `head` serves. In a cycle's release it serves none.
-    fn placing_headed(&self, flight: Flight) -> Placing
-        ensures { result ≡ (if is_phase self.now.now.words 4 then self.now.now.seats.holding.placing
-            else chosen self.now.now.seats.holding.placing (place_now self.now.config self.now.now flight)) }
+    /// How far a place is after a step that makes this of it. In a cycle's release the step serves no object.
+    fn placing_served(&self, served: Placing) -> Placing
+        ensures { result ≡ (if is_phase self.now.now.words 4 then self.now.now.seats.holding.placing else served) }
     {
         if self.table.is_at(Phase::Releasing) {
             self.holding.placing
         } else {
-            chosen(self.holding.placing, self.place_now(flight))
-        }
-    }
-
-    /// The place of the object whose cell a `used` takes. In a cycle's release it takes none.
-    fn placing_used(&self, flight: Flight) -> Placing
-        ensures { result ≡ (if is_phase self.now.now.words 4 then self.now.now.seats.holding.placing
-            else taken self.now.now.seats.holding.placing (place_now self.now.config self.now.now flight)) }
-    {
-        if self.table.is_at(Phase::Releasing) {
-            self.holding.placing
-        } else {
-            taken(self.holding.placing, self.place_now(flight))
+            served
         }
     }
 

@@ -13,6 +13,7 @@ use crate::Event;
 /// What a list of events leaves, decides and asks for is what its earlier part does, and then its later part
 /// after that. The earlier part of a history is a history.
 
+#[tactic(auto, using(crate::proofs::HistoryParts::left_in_parts, crate::proofs::HistoryParts::enabled_in_parts, crate::proofs::HistoryParts::calls_in_parts, crate::proofs::HistoryParts::never_in_parts, crate::proofs::HistoryParts::replies_in_parts, crate::proofs::HistoryParts::admitted_in_parts, crate::proofs::HistoryParts::earlier_part_is_history))]
 pub fn histories_are_of_two_parts()
     ensures left { (c : Config) (es more : List Event) → LeftInParts c es more }
     ensures enabled { (c : Config) (es more : List Event) → EnabledInParts c es more }
@@ -24,17 +25,20 @@ pub fn histories_are_of_two_parts()
 {}
 
 /// An event is enabled exactly where it meets each condition.
+#[tactic(auto, using(crate::proofs::Conditions::enabled_events_meet_all))]
 pub fn enabled_events_meet_all_conditions()
     ensures { EnabledEventsMeetAll }
 {}
 
 /// What definitions of the words and of the never-reusing heap share: bits, and which objects are large.
+#[tactic(auto, using(crate::proofs::BitsWithout::has_bit_without, crate::proofs::Sizes::large_is_not_small))]
 pub fn bits_and_sizes_agree()
     ensures without { BitsWithout }
     ensures large { LargeIsNotSmall }
 {}
 
 /// What is touched in a cycle is closed under pointers along it, and is the least such set.
+#[tactic(auto, using(crate::proofs::Touched::touched_is_closed, crate::proofs::Touched::touched_is_least))]
 pub fn what_is_touched()
     ensures closed { (c : Config) (es : List Event) (k : Marking es) → TouchedIsClosed c k }
     ensures least { (c : Config) (es : List Event) (k : Marking es) (S : ℕ → Bool) → TouchedIsLeast c k S }

@@ -5,6 +5,7 @@ ghost use Rattle.mk_core.specs.Layout.{FirstWordsAreZero, AccessesStandAtTheirIn
 
 /// Each word of the table has an index of its own. The words as one list have each at its index, and a
 /// change of a word is a change there alone.
+#[tactic(auto, using(crate::proofs::LayoutLemmas::names_apart, crate::proofs::LayoutLemmas::indexes_within, crate::proofs::RegionLemmas::words_stand, crate::proofs::RegionLemmas::words_change))]
 pub fn words_have_indexes_of_their_own()
     ensures apart { NamesAreApart }
     ensures of_the_table { IndexesAreOfTheTable }
@@ -15,6 +16,7 @@ pub fn words_have_indexes_of_their_own()
 
 /// The words as one list are as many as the table's, the first are all 0, and an access changes its word
 /// there as it changes a word of the table.
+#[tactic(auto, using(crate::proofs::RegionLemmas::has_all_words, crate::proofs::RegionLemmas::first_are_zero, crate::proofs::RegionLemmas::accesses_change))]
 pub fn words_are_one_list()
     ensures count { ListHasAllWords }
     ensures first { FirstWordsAreZero }
@@ -22,6 +24,7 @@ pub fn words_are_one_list()
 {}
 
 /// Words that different threads store to share no cache line.
+#[tactic(auto, using(crate::proofs::LayoutLemmas::groups_apart))]
 pub fn line_groups_stand_apart()
     ensures { LineGroupsAreApart }
 {}

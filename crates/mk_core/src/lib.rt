@@ -6,6 +6,7 @@
 #![tactic(auto)]
 
 mod accesses;
+mod bounded;
 mod calls;
 mod cells;
 mod config;
@@ -41,6 +42,7 @@ pub use history_laws::{
 pub use laws::{line_groups_stand_apart, words_are_one_list, words_have_indexes_of_their_own};
 pub use machine::Core;
 pub use phases::{Phase, markers_in, phase_bits};
+pub use reaching::{next_word, scan_bit, scan_page, seen_bit, seen_page, tally_word};
 pub use scans::{cell_seen, marker_behind};
 pub use seats::{
     Flight, Hand, Holding, Marker, OwnCycle, Placing, Presence, RunPages, Scan, SeenHeader, Source,

@@ -31,28 +31,19 @@ fn is_markers_word(word: Word) -> bool
 fn has_seen_cell(seen: Option<SeenHeader>, page: u64, index: u64) -> bool
     ensures { result ≡ has_seen_cell seen page index }
 {
-    match seen {
-        Some(seen) => seen.page == page && index < cells_under(seen.header),
-        None => false,
-    }
+    seen.is_some_and(|seen| seen.page == page && index < cells_under(seen.header))
 }
 
 fn has_next_word(scan: Option<Scan>) -> bool
     ensures { result ≡ has_next_word scan }
 {
-    match scan {
-        Some(scan) => scan.next < scan.end,
-        None => false,
-    }
+    scan.is_some_and(|scan| scan.next < scan.end)
 }
 
 fn is_scanned(scan: Option<Scan>) -> bool
     ensures { result ≡ is_scanned scan }
 {
-    match scan {
-        Some(scan) => scan.next >= scan.end,
-        None => false,
-    }
+    scan.is_some_and(|scan| scan.next >= scan.end)
 }
 
 fn may_mlook(marker: Marker, word: Word) -> bool
@@ -80,39 +71,7 @@ impl Core {
             Step::Mload => has_next_word(marker.scan) && marker.hand.is_none(),
             Step::Mmark => cell_seen(&self.config, marker).is_some(),
             Step::Mblack => is_scanned(marker.scan) && marker.hand.is_none(),
-            Step::Enter(_)
-            | Step::Leave
-            | Step::Reg
-            | Step::Probe
-            | Step::Read
-            | Step::Write
-            | Step::Cas
-            | Step::Getg
-            | Step::Setg
-            | Step::Take(_)
-            | Step::Give
-            | Step::Look(_)
-            | Step::Head { .. }
-            | Step::Used { .. }
-            | Step::Quar { .. }
-            | Step::Grant
-            | Step::Tally { .. }
-            | Step::Hold(_)
-            | Step::Open(_)
-            | Step::Clear(_)
-            | Step::Mark { .. }
-            | Step::Wipe(_)
-            | Step::Full
-            | Step::Begin
-            | Step::Close
-            | Step::Release
-            | Step::End
-            | Step::Want
-            | Step::Dirty
-            | Step::Undirty(_)
-            | Step::Black { .. }
-            | Step::Unblack(_)
-            | Step::Over => true,
+            _ => true,
         }
     }
 

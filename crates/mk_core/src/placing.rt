@@ -1,24 +1,24 @@
 //! The place of a `New` and what its pages become, and what a `Free` frees.
 ghost use Rattle.std.specs.Prelude.{◌≡◌, ◌+◌, ◌*◌, ◌^◌, ◌<◌, ◌==◌};
-ghost use Rattle.mk_never.specs.Types.{is_number, is_leaf};
 ghost use Rattle.mk_geom.specs.Headers.{word_of};
 ghost use Rattle.mk_geom.specs.Storages.{block_header, run_header};
 ghost use Rattle.mk_core.specs.Bounded.{all_below};
 ghost use Rattle.mk_core.specs.Cells.{words_are_zero};
-ghost use Rattle.mk_core.specs.NewPlaces.{object_of, object_made, place_on_pages, class_made, is_small_object};
+ghost use Rattle.mk_core.specs.NewPlaces.{object_made, place_on_pages, class_made, is_small_object};
 ghost use Rattle.mk_core.specs.NewPlaces.{pages_made, header_made, bits_made, base_made, stands, is_next_header};
 ghost use Rattle.mk_core.specs.NewPlaces.{place_stands, unmapped_header, is_run_unmapped, is_run_gone};
 ghost use Rattle.mk_core.specs.NewPlaces.{is_undecided_new, is_undecided_free, target};
 ghost use Rattle.mk_core.specs.PageHeaders.{header_wanted};
 ghost use Rattle.mk_core.specs.TurnConditions.{place_now, frees, cell_freed};
 
+use crate::bounded::all_below;
 use crate::cells::word_bit;
 use crate::seats::Object;
 use crate::table::Table;
 use crate::{Core, Flight, Phase, Placing, RunPages, Stage};
 use mk_books::first_fit;
 use mk_geom::{Cell, Header, PAGE_WORDS, Place, cells, class_of, class_words, encode, run_pages};
-use mk_never::{Kind, Op};
+use mk_never::Op;
 
 /// The header words that neighbouring pages are to get: those of a new object, or those of an unmapped run
 /// of this many pages.
@@ -37,28 +37,6 @@ impl PageHeaders {
             PageHeaders::Made(object) => header_made(object, distance),
             PageHeaders::Unmapped(count) => unmapped_header(count, distance),
         }
-    }
-}
-
-fn is_number(kind: &Kind) -> bool
-    ensures { result ≡ is_number kind.now }
-{
-    matches!(kind, Kind::Num)
-}
-
-/// Whether none of the words is a pointer.
-fn is_leaf(kinds: &[Kind]) -> bool
-    ensures { result ≡ is_leaf kinds.now }
-{
-    kinds.iter().all(is_number)
-}
-
-fn object_of(kinds: &[Kind]) -> Object
-    ensures { result ≡ object_of kinds.now }
-{
-    Object {
-        words: kinds.len() as u64,
-        leaf: is_leaf(kinds),
     }
 }
 
@@ -179,17 +157,13 @@ pub(crate) fn adds_bit(word: u64, index: u64, value: u64) -> bool
 
 impl Table {
     /// Whether this many pages from the first on have the header words that are wanted.
-    #[tactic(auto, using(crate::proofs::AllBelow::all_below_zero_is, crate::proofs::AllBelow::all_below_more_is, crate::proofs::AllBelow::all_below_not_is))]
     fn headers_stand(&self, first: u64, wanted: PageHeaders, count: u64) -> bool
         ensures { result ≡ all_below count (stands self.now first (header_wanted wanted)) }
     {
-        for distance in 0..count {
-            let header = self.page(first as u128 + distance as u128).header;
-            if header as u128 != wanted.word(distance) {
-                return false;
-            }
-        }
-        true
+        all_below(count, |distance| {
+            let page = first as u128 + distance as u128;
+            self.page(page).header as u128 == wanted.word(distance)
+        })
     }
 
     /// Whether the page is the first of this many that hasn't the header word that is wanted there, and the
@@ -228,33 +202,24 @@ impl Table {
     }
 
     /// Whether all words of the run are 0.
-    #[tactic(auto, using(crate::proofs::AllBelow::all_below_zero_is, crate::proofs::Wiped::run_wiped_more_is, crate::proofs::Wiped::run_wiped_not_is))]
     fn is_run_wiped(&self, run: RunPages) -> bool
         ensures { result ≡ words_are_zero self.now (64 * run.page) (64 * run.count) }
     {
-        for page in 0..run.count {
-            if !self.words_are_zero(
-                PAGE_WORDS as u128 * (run.page as u128 + page as u128),
-                PAGE_WORDS,
-            ) {
-                return false;
-            }
-        }
-        true
+        all_below(run.count, |page| {
+            let first = PAGE_WORDS as u128 * (run.page as u128 + page as u128);
+            self.words_are_zero(first, PAGE_WORDS)
+        })
     }
 
     /// Whether the value is the page's quarantine word with the freed bit of the cell, which wasn't set.
     pub(crate) fn frees(&self, cell: Option<Cell>, page: u64, value: u64) -> bool
         ensures { result ≡ frees self.now cell page value }
     {
-        match cell {
-            Some(cell) => {
-                page == cell.page
-                    && !self.is_freed(cell)
-                    && adds_bit(self.quarantine(page), cell.index, value)
-            }
-            None => false,
-        }
+        cell.is_some_and(|cell| {
+            page == cell.page
+                && !self.is_freed(cell)
+                && adds_bit(self.quarantine(page), cell.index, value)
+        })
     }
 }
 
@@ -264,9 +229,10 @@ impl Core {
         ensures { result ≡ object_made self.now.config op }
     {
         match op {
-            Op::New { ty, .. } if ty < self.config.types.count() => {
-                object_of(self.config.types.kinds(ty))
-            }
+            Op::New { ty, .. } if ty < self.config.types.count() => Object {
+                words: self.config.types.kinds(ty).len() as u64,
+                leaf: self.config.types.is_leaf(ty),
+            },
             _ => Object {
                 words: 0,
                 leaf: true,

@@ -1,11 +1,13 @@
 //! Conditions 4, 5 and 6 of an event: its arguments are in range, and the gates and the phase are as its
-//! kind asks.
+//! kind asks. The definitions name every kind. Here `_` stands for those of which a condition asks nothing, since the
+//! proof refuses it where it takes another.
 ghost use Rattle.std.specs.Prelude.{◌≡◌, ◌*◌, nat_lt};
 ghost use Rattle.mk_core.specs.Moments.{is_number_of, is_held, others_are_held, none_is_held};
 ghost use Rattle.mk_core.specs.NewPlaces.{target};
 ghost use Rattle.mk_core.specs.Ranges.{is_word, is_other_caller, is_word_met, is_in_range, is_run_cell, has_gates};
 ghost use Rattle.mk_core.specs.Ranges.{has_phase, may_look_at};
 
+use crate::bounded::all_below;
 use crate::calls::word_met;
 use crate::cells::heads_run;
 use crate::machine::Core;
@@ -40,21 +42,7 @@ impl Table {
     {
         match word {
             Word::Reg { caller, .. } => seat.is_caller(caller) || self.is_held(caller),
-            Word::Phase
-            | Word::Gate(_)
-            | Word::Global(_)
-            | Word::Head(_)
-            | Word::Used(_)
-            | Word::Quar(_)
-            | Word::Mark(_)
-            | Word::Black(_)
-            | Word::Dirty(_)
-            | Word::Heap(_)
-            | Word::Held
-            | Word::Fresh
-            | Word::Cycles
-            | Word::Released
-            | Word::Full => true,
+            _ => true,
         }
     }
 
@@ -62,10 +50,7 @@ impl Table {
     fn is_run(&self, cell: Option<Cell>) -> bool
         ensures { result ≡ is_run_cell self.now cell }
     {
-        match cell {
-            Some(cell) => heads_run(self.header(cell.page)),
-            None => false,
-        }
+        cell.is_some_and(|cell| heads_run(self.header(cell.page)))
     }
 }
 
@@ -86,29 +71,7 @@ pub(crate) fn has_phase(phase: u64, step: Step) -> bool
         Step::End => phase == 4,
         Step::Want => phase == 1,
         Step::Undirty(_) | Step::Unblack(_) => matches!(phase, 0 | 2),
-        Step::Enter(_)
-        | Step::Leave
-        | Step::Reg
-        | Step::Probe
-        | Step::Read
-        | Step::Write
-        | Step::Cas
-        | Step::Getg
-        | Step::Setg
-        | Step::Take(_)
-        | Step::Look(_)
-        | Step::Tally { .. }
-        | Step::Hold(_)
-        | Step::Wipe(_)
-        | Step::Dirty
-        | Step::Attend
-        | Step::Quit
-        | Step::Mlook(_)
-        | Step::Claim { .. }
-        | Step::Mload
-        | Step::Mmark
-        | Step::Mblack
-        | Step::Over => true,
+        _ => true,
     }
 }
 
@@ -128,8 +91,7 @@ impl Core {
             | Word::Black(page)
             | Word::Dirty(page) => page < self.config.pages,
             Word::Heap(word) => self.is_heap_word(word as u128),
-            Word::Phase | Word::Held | Word::Fresh | Word::Cycles | Word::Released | Word::Full =>
-                true,
+            _ => true,
         }
     }
 
@@ -173,53 +135,24 @@ impl Core {
             Step::Hold(caller) | Step::Open(caller) => self.is_other_caller(seat, caller),
             Step::Wipe(word) => self.is_heap_word(word as u128),
             Step::Claim { page, cell } => page < self.config.pages && cell < 32,
-            Step::Take(None)
-            | Step::Leave
-            | Step::Reg
-            | Step::Getg
-            | Step::Setg
-            | Step::Give
-            | Step::Grant
-            | Step::Tally { .. }
-            | Step::Full
-            | Step::Begin
-            | Step::Close
-            | Step::Release
-            | Step::End
-            | Step::Want
-            | Step::Attend
-            | Step::Quit
-            | Step::Mload
-            | Step::Mmark
-            | Step::Mblack
-            | Step::Over => true,
+            _ => true,
         }
     }
 
     /// Whether all gates but the seat's own are held.
-    #[tactic(auto, using(crate::proofs::AllBelow::all_below_zero_is, crate::proofs::AllBelow::all_below_more_is))]
     pub(crate) fn others_are_held(&self, seat: Seat) -> bool
         ensures { result ≡ others_are_held self.now.config.callers self.now.now.words seat }
     {
-        for caller in 0..self.config.callers {
-            if !seat.is_caller(caller) && !self.table.is_held(caller) {
-                return false;
-            }
-        }
-        true
+        all_below(self.config.callers, |caller| {
+            seat.is_caller(caller) || self.table.is_held(caller)
+        })
     }
 
     /// Whether no gate is held.
-    #[tactic(auto, using(crate::proofs::AllBelow::all_below_zero_is, crate::proofs::AllBelow::all_below_more_is))]
     pub(crate) fn none_is_held(&self) -> bool
         ensures { result ≡ none_is_held self.now.config.callers self.now.now.words }
     {
-        for caller in 0..self.config.callers {
-            if self.table.is_held(caller) {
-                return false;
-            }
-        }
-        true
+        all_below(self.config.callers, |caller| !self.table.is_held(caller))
     }
 
     /// Whether the gates are as a step of the seat asks, which is in the middle of this call.
@@ -241,34 +174,7 @@ impl Core {
             Step::Undirty(_) | Step::Unblack(_) => {
                 !self.table.is_at(Phase::Wanted) || self.others_are_held(seat)
             }
-            Step::Enter(_)
-            | Step::Leave
-            | Step::Reg
-            | Step::Probe
-            | Step::Read
-            | Step::Write
-            | Step::Cas
-            | Step::Getg
-            | Step::Setg
-            | Step::Take(_)
-            | Step::Used { .. }
-            | Step::Grant
-            | Step::Tally { .. }
-            | Step::Clear(_)
-            | Step::Mark { .. }
-            | Step::Wipe(_)
-            | Step::Full
-            | Step::Begin
-            | Step::End
-            | Step::Dirty
-            | Step::Attend
-            | Step::Quit
-            | Step::Mlook(_)
-            | Step::Claim { .. }
-            | Step::Mload
-            | Step::Mmark
-            | Step::Mblack
-            | Step::Over => true,
+            _ => true,
         }
     }
 }

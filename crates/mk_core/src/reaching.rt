@@ -56,7 +56,9 @@ fn reg_access(flight: Flight) -> Access
     }
 }
 
-fn tally_word(tally: Tally) -> Word
+/// The word of a tally.
+#[inline(always)]
+pub fn tally_word(tally: Tally) -> Word
     ensures { result ≡ tally_word tally }
 {
     match tally {
@@ -68,32 +70,41 @@ fn tally_word(tally: Tally) -> Word
     }
 }
 
-fn next_word(scan: Option<Scan>) -> u64
+/// The heap word that a scan loads next, or 0.
+#[inline(always)]
+pub fn next_word(scan: Option<Scan>) -> u64
     ensures { result ≡ next_word scan }
 {
     scan.map_or(0, |scan| scan.next)
 }
 
-fn scan_page(scan: Option<Scan>) -> u64
+/// The page of the cell that is scanned, or 0.
+#[inline(always)]
+pub fn scan_page(scan: Option<Scan>) -> u64
     ensures { result ≡ scan_page scan }
 {
     scan.map_or(0, |scan| scan.page)
 }
 
-/// The bit of the cell that is scanned.
-fn scan_bit(scan: Option<Scan>) -> u64
+/// The bit of the cell that is scanned, or 0.
+#[inline(always)]
+pub fn scan_bit(scan: Option<Scan>) -> u64
     ensures { result ≡ scan_bit scan }
 {
     scan.map_or(0, |scan| bit_for(scan.index))
 }
 
-fn seen_page(cell: Option<Cell>) -> u64
+/// The page of the cell that the open hand points into, or 0.
+#[inline(always)]
+pub fn seen_page(cell: Option<Cell>) -> u64
     ensures { result ≡ seen_page cell }
 {
     cell.map_or(0, |cell| cell.page)
 }
 
-fn seen_bit(cell: Option<Cell>) -> u64
+/// The bit of that cell, or 0.
+#[inline(always)]
+pub fn seen_bit(cell: Option<Cell>) -> u64
     ensures { result ≡ seen_bit cell }
 {
     cell.map_or(0, |cell| bit_for(cell.index))

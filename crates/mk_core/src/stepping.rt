@@ -81,30 +81,7 @@ impl Core {
             Step::Black { page, value } => self.may_black(page, value),
             Step::Unblack(_) => self.may_unblack(),
             Step::Over => self.may_end_all(),
-            Step::Enter(_)
-            | Step::Leave
-            | Step::Reg
-            | Step::Probe
-            | Step::Read
-            | Step::Write
-            | Step::Cas
-            | Step::Getg
-            | Step::Setg
-            | Step::Take(_)
-            | Step::Look(_)
-            | Step::Tally { .. }
-            | Step::Hold(_)
-            | Step::Clear(_)
-            | Step::Release
-            | Step::Want
-            | Step::Dirty
-            | Step::Attend
-            | Step::Quit
-            | Step::Mlook(_)
-            | Step::Claim { .. }
-            | Step::Mload
-            | Step::Mmark
-            | Step::Mblack => true,
+            _ => true,
         }
     }
 

@@ -11,6 +11,7 @@ ghost use Rattle.mk_core.specs.StopConditions.{may_turn_black, blackens, may_bla
 ghost use Rattle.mk_core.specs.TurnConditions.{place_now};
 ghost use Rattle.mk_core.specs.NewPlaces.{object_made};
 
+use crate::bounded::all_below;
 use crate::cells::{cells_under, has_no_pointers, is_bit, without};
 use crate::placing::bits_made;
 use crate::table::Table;
@@ -34,10 +35,7 @@ fn none_attends(markers: &[Marker]) -> bool
 fn is_bit_of(cell: Option<Cell>, page: u64, value: u64) -> bool
     ensures { result ≡ is_bit_of cell page value }
 {
-    match cell {
-        Some(cell) => page == cell.page && is_bit(cell.index, value),
-        None => false,
-    }
+    cell.is_some_and(|cell| page == cell.page && is_bit(cell.index, value))
 }
 
 impl Table {
@@ -62,45 +60,6 @@ impl Table {
     {
         self.none_is_left_unmarked(page)
             && (self.header(page) == 0 || self.used(self.head_page(page)) != 0)
-    }
-
-    /// Whether each of the first this many pages is clean.
-    #[tactic(auto, using(crate::proofs::AllBelow::all_below_zero_is, crate::proofs::AllBelow::all_below_more_is))]
-    fn has_clean_pages(&self, pages: u64) -> bool
-        ensures { result ≡ all_below pages (has_clean_page self.now) }
-    {
-        for page in 0..pages {
-            if !self.has_clean_page(page) {
-                return false;
-            }
-        }
-        true
-    }
-
-    /// Whether each of the first this many pages is closed.
-    #[tactic(auto, using(crate::proofs::AllBelow::all_below_zero_is, crate::proofs::AllBelow::all_below_more_is))]
-    fn has_closed_pages(&self, pages: u64) -> bool
-        ensures { result ≡ all_below pages (has_closed_page self.now) }
-    {
-        for page in 0..pages {
-            if !self.has_closed_page(page) {
-                return false;
-            }
-        }
-        true
-    }
-
-    /// Whether each of the first this many pages is settled.
-    #[tactic(auto, using(crate::proofs::AllBelow::all_below_zero_is, crate::proofs::AllBelow::all_below_more_is))]
-    fn has_settled_pages(&self, pages: u64) -> bool
-        ensures { result ≡ all_below pages (has_settled_page self.now) }
-    {
-        for page in 0..pages {
-            if !self.has_settled_page(page) {
-                return false;
-            }
-        }
-        true
     }
 
     /// Whether each of the values points well.
@@ -132,19 +91,6 @@ impl Table {
     {
         is_bit(index, value) && self.may_turn_black(pages, Cell { page, index })
     }
-
-    /// Whether the value isn't the bit of a cell of the page that may turn black.
-    #[tactic(auto, using(crate::proofs::AllBelow::all_below_zero_is, crate::proofs::AllBelow::all_below_more_is))]
-    fn blackens_none(&self, pages: u64, page: u64, value: u64) -> bool
-        ensures { result ≡ all_below 32 (λ k. not (blackens pages self.now page value k)) }
-    {
-        for index in 0..32 {
-            if self.blackens(pages, page, value, index) {
-                return false;
-            }
-        }
-        true
-    }
 }
 
 impl Core {
@@ -159,13 +105,10 @@ impl Core {
         ensures { result ≡ marks_by_hand self.now.config.pages self.now.now.words self.now.now.seats.holding.hand page
             value }
     {
-        match self.holding.hand {
-            Some(hand) => {
-                let cell = self.table.pointed_cell(self.config.pages, hand.value);
-                is_bit_of(cell, page, value)
-            }
-            None => false,
-        }
+        self.holding.hand.is_some_and(|hand| {
+            let cell = self.table.pointed_cell(self.config.pages, hand.value);
+            is_bit_of(cell, page, value)
+        })
     }
 
     /// Whether the value is the bits of the cells that the first page of the place of a `New` gets, and the
@@ -192,7 +135,8 @@ impl Core {
     pub(crate) fn may_begin(&self) -> bool
         ensures { result ≡ may_begin self.now.config.pages self.now.now.words }
     {
-        self.table.has_clean_pages(self.config.pages) && self.table.fresh() == 0
+        all_below(self.config.pages, |page| self.table.has_clean_page(page))
+            && self.table.fresh() == 0
     }
 
     pub(crate) fn may_close(&self) -> bool
@@ -200,14 +144,14 @@ impl Core {
     {
         let pages = self.config.pages;
         self.none_attends()
-            && self.table.has_closed_pages(pages)
+            && all_below(pages, |page| self.table.has_closed_page(page))
             && self.table.roots_point_well(pages)
     }
 
     pub(crate) fn may_end(&self) -> bool
         ensures { result ≡ may_end self.now.config.pages self.now.now.words }
     {
-        self.table.has_settled_pages(self.config.pages)
+        all_below(self.config.pages, |page| self.table.has_settled_page(page))
     }
 
     pub(crate) fn may_undirty(&self, page: u64) -> bool
@@ -228,6 +172,8 @@ impl Core {
     pub(crate) fn may_black(&self, page: u64, value: u64) -> bool
         ensures { result ≡ may_black self.now.config self.now.now page value }
     {
-        self.none_attends() && !self.table.blackens_none(self.config.pages, page, value)
+        let pages = self.config.pages;
+        self.none_attends()
+            && !all_below(32, |index| !self.table.blackens(pages, page, value, index))
     }
 }

@@ -9,6 +9,7 @@ ghost use Rattle.mk_core.specs.TurnConditions.{may_quarantine, is_decided, may_g
 ghost use Rattle.mk_core.specs.TurnConditions.{may_wipe};
 ghost use Rattle.mk_core.specs.TurnConditions.{place_now};
 
+use crate::bounded::all_below;
 use crate::cells::{has_bit, without};
 use crate::placing::{PageHeaders, adds_bit, bits_made, pages_made};
 use crate::seats::Object;
@@ -59,23 +60,18 @@ impl Table {
 
     /// Whether all words of the cell are 0.
     fn is_wiped(&self, cell: Cell) -> bool
-        requires { cell.index < 32 }
         ensures { result ≡ words_are_zero self.now (first_word self.now cell) (cell_words self.now cell) }
     {
         self.words_are_zero(self.first_word(cell), self.cell_words(cell))
     }
 
     /// Whether the words of each of these cells of a page are 0.
-    #[tactic(auto, using(crate::proofs::AllBelow::all_below_zero_is, crate::proofs::AllBelow::all_below_more_is, crate::proofs::Wiped::cells_wiped_not_is))]
     fn are_wiped(&self, page: u64, bits: u64) -> bool
         ensures { result ≡ are_wiped self.now page bits }
     {
-        for index in 0..32 {
-            if has_bit(bits, index) && !self.is_wiped(Cell { page, index }) {
-                return false;
-            }
-        }
-        true
+        all_below(32, |index| {
+            !has_bit(bits, index) || self.is_wiped(Cell { page, index })
+        })
     }
 
     /// Whether these used bits are the page's without those of released cells whose words are 0.
@@ -114,27 +110,20 @@ impl Core {
         ensures { result ≡ carves self.now.now.words (object_made self.now.config flight.op)
             (place_now self.now.config self.now.now flight) page value }
     {
-        match self.place_now(flight) {
-            Some(place) => {
-                let object = self.object_made(flight.op);
-                self.table.carves(object, place, page, value)
-            }
-            None => false,
-        }
+        let object = self.object_made(flight.op);
+        self.place_now(flight)
+            .is_some_and(|place| self.table.carves(object, place, page, value))
     }
 
     /// Whether a page of the run that the call freed is unmapped.
     fn unmaps(&self, page: u64, value: u64) -> bool
         ensures { result ≡ unmaps self.now.now.words self.now.now.seats.holding.freed page value }
     {
-        match self.holding.freed {
-            Some(run) => {
-                let wanted = PageHeaders::Unmapped(run.count);
-                self.table
-                    .is_next_header(run.page, wanted, run.count, page, value)
-            }
-            None => false,
-        }
+        self.holding.freed.is_some_and(|run| {
+            let wanted = PageHeaders::Unmapped(run.count);
+            self.table
+                .is_next_header(run.page, wanted, run.count, page, value)
+        })
     }
 
     pub(crate) fn may_head(&self, flight: Flight, page: u64, value: u64) -> bool
@@ -152,16 +141,14 @@ impl Core {
         ensures { result ≡ takes_cell self.now.now.words (object_made self.now.config flight.op)
             (place_now self.now.config self.now.now flight) page value }
     {
-        match self.place_now(flight) {
-            Some(place) => {
-                let used = self.table.used(page);
-                page == place.page
-                    && self.table.place_stands(self.object_made(flight.op), place)
-                    && !has_bit(used, place.index)
-                    && adds_bit(used, place.index, value)
-            }
-            None => false,
-        }
+        let used = self.table.used(page);
+        let object = self.object_made(flight.op);
+        self.place_now(flight).is_some_and(|place| {
+            page == place.page
+                && self.table.place_stands(object, place)
+                && !has_bit(used, place.index)
+                && adds_bit(used, place.index, value)
+        })
     }
 
     pub(crate) fn may_use(&self, flight: Flight, page: u64, value: u64) -> bool
@@ -210,10 +197,7 @@ impl Core {
     fn is_in_gone_run(&self, word: u64) -> bool
         ensures { result ≡ is_in_gone_run self.now.now.words self.now.now.seats.holding.freed word }
     {
-        match self.holding.freed {
-            Some(run) => run.has_word(word) && self.table.is_run_unmapped(run),
-            None => false,
-        }
+        self.holding.freed.is_some_and(|run| run.has_word(word) && self.table.is_run_unmapped(run))
     }
 
     pub(crate) fn may_wipe(&self, word: u64) -> bool

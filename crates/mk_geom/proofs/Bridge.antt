@@ -115,8 +115,7 @@ same_uses pages storages stand = same_lists _ _ (shown_length ∙ sym said_lengt
         ∙ sym (get_or-map-range_with_len (use_of_storages storages) 0 (length pages) k k d within (omega arith))
 
 pub same_places : (pages : List Page) (storages : List Storage) (limit words : ℕ) (leaf : Bool)
-    → PagesStandFor pages storages
-    → place_on_uses limit words leaf (uses_of_pages pages)
+    → PagesStandFor pages storages → place_on_uses limit words leaf (uses_of_pages pages)
     ≡ place_among_storages (length pages) limit words leaf storages
 same_places pages storages limit words leaf stand = ap (place_on_uses limit words leaf) (same_uses pages storages stand)
 

@@ -70,8 +70,7 @@ cell_is_shown n header u k xs t laid inside stands shows is =
 module _ (pages : List Page) (storages : List Storage) (stand : PagesStandFor pages storages) where
   -- a page shows each storage that stands on it
   pub page_shows_storage : (page : ℕ) (s : Storage) → Contains storages s → stands_on page s ≡ true
-      → page < length pages
-      → ShowsStorage s page (page_in pages page).header
+      → page < length pages → ShowsStorage s page (page_in pages page).header
   page_shows_storage page s inside stands within =
       let words = stand.words page free_page within
       ∙ words_at (length pages) page storages s stand.laid_out inside stands in
@@ -120,8 +119,7 @@ like_small (inr alike) small = (alike.small, alike.words)
 
 -- two storages that begin on one page stand on it
 both_stand : (n : ℕ) (xs : List Storage) (s t : Storage) → AreLaidOut n xs → Contains xs s → Contains xs t
-    → first_page s ≡ first_page t
-    → (stands_on (first_page t) s ≡ true) × (stands_on (first_page t) t ≡ true)
+    → first_page s ≡ first_page t → (stands_on (first_page t) s ≡ true) × (stands_on (first_page t) t ≡ true)
 both_stand n xs s t laid s_in t_in at = (
   stands_at_first n s (first_page t) (storage_in n xs s laid s_in) at,
   stands_at_first n t (first_page t) (storage_in n xs t laid t_in) refl,
@@ -146,8 +144,7 @@ same_from_cells n xs s t laid s_in t_in same = elim (same_or_apart n xs s t laid
 ]
 
 small_back : (n u : ℕ) (s t : Storage) → IsStorage n s → is_small s ≡ true → 65536 ≤ u
-    → first_page s ≡ page_at_address u
-    → class_words_of (class_of_storage t) ≡ s.words
+    → first_page s ≡ page_at_address u → class_words_of (class_of_storage t) ≡ s.words
     → s.first % 64 / s.words ≡ word_at_address u / class_words_of (class_of_storage t) → PointsInto u s
 small_back n u s t is small low at words index = grind (arith, small_is_cell, has_words, cell_index, word_in_cell)
 
@@ -177,8 +174,7 @@ cell_has_value n u xs s t laid inside on =
     ]
 
 pub shown_cell_has_value : (n header u : ℕ) (xs : List Storage) (s t : Storage) → AreLaidOut n xs → Contains xs s
-    → Contains xs t
-    → stands_on (page_at_address u) t ≡ true → ShowsStorage t (page_at_address u) header
+    → Contains xs t → stands_on (page_at_address u) t ≡ true → ShowsStorage t (page_at_address u) header
     → cell_at n header u ≡ Some (cell_of_storage s) → PointsInto u s
 shown_cell_has_value n header u xs s t laid s_in t_in stands shows is =
     cell_has_value n u xs s t laid s_in (cell_is_shown n header u (cell_of_storage s) xs t laid t_in stands shows is)
@@ -198,8 +194,7 @@ module _ (pages : List Page) (storages : List Storage) (stand : PagesStandFor pa
 
   -- a cell whose used bit is set, of a block of which t is a cell
   used_cell_of_block : (u : ℕ) (k : Cell) (t : Storage) → IsCellOn storages u k t → page_at_address u < length pages
-      → is_small t ≡ true
-      → k.index < cells_of (class_of_storage t) → k.page ≡ page_at_address u
+      → is_small t ≡ true → k.index < cells_of (class_of_storage t) → k.page ≡ page_at_address u
       → (bit_at (page_in pages k.page).used k.index == 1) ≡ true
       → (s : Storage) × Contains storages s × (cell_of_storage s ≡ k)
   used_cell_of_block u k t on within small index_within at bit =

@@ -42,8 +42,7 @@ first_where_passes {A} p (x ∷ xs) i is = elim (cases_Bool (p x)) [
       let (n, found, suc_is) =
       option_map_some (λ (n : ℕ). n + 1) (first_where p xs) i (sym (cond-false (p x) (Some 0) _ fails) ∙ is) in
       let (y, at, passes) = first_where_passes p xs n found in
-      let place : i ≡ suc n = omega arith in
-      (y, ap (slice_get (x ∷ xs)) place ∙ at, passes)
+      let place : i ≡ suc n = omega arith in (y, ap (slice_get (x ∷ xs)) place ∙ at, passes)
 ]
 
 same_sort_is : (a b : Bool) → is_same_sort a b ≡ true → b ≡ a
@@ -225,8 +224,7 @@ run_place_is limit words leaf pages place large is =
     let uses_free = range_start_free count uses start at in
     let free : AreFree start count pages = record {
       within = omega (arith, uses_free.within, length-map pages use_of_page);
-      free = λ k d low high. ap is_free_page
-          (sym (get_or-map use_of_page pages k d Nothing
+      free = λ k d low high. ap is_free_page (sym (get_or-map use_of_page pages k d Nothing
           (omega (arith, uses_free.within, length-map pages use_of_page)))) ∙ uses_free.free k Nothing low high;
     } in
     record {

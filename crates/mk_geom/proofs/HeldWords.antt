@@ -40,8 +40,7 @@ words_off_page s page elsewhere = grind (arith, cond-false, words_there, false_f
 -- a storage that stands on this many pages
 sum_on_pages : (s : Storage) (n count : ℕ) → first_page s + count ≡ last_page s + 1 → first_page s + count ≤ n
     → sum_below (words_on s) n ≡ count * words_there s
-sum_on_pages s n count ends within =
-    sum_below-block (words_on s) (first_page s) count (words_there s)
+sum_on_pages s n count ends within = sum_below-block (words_on s) (first_page s) count (words_there s)
     (λ p low. words_off_page s p (λ stands. let parts = stands_parts p s stands in omega arith))
     (λ p low high. words_on_page s p (stands_from p s low (omega arith)))
     (λ p past. words_off_page s p (λ stands. let parts = stands_parts p s stands in omega arith))
@@ -89,8 +88,7 @@ held_as xs page o = held_by_use (use_by xs page o)
 abbrev cells_with : List Storage → ℕ → Storage → PageUse
 cells_with xs page s = Cells (class_of_storage s) s.leaf (taken_cells xs page (class_of_storage s))
 
-held_small : (xs : List Storage) (page : ℕ) (s : Storage) → is_small s ≡ true
-    → held_by_use (use_by xs page (Some s))
+held_small : (xs : List Storage) (page : ℕ) (s : Storage) → is_small s ≡ true → held_by_use (use_by xs page (Some s))
     ≡ class_words_of (class_of_storage s) * count (taken_cells xs page (class_of_storage s))
 held_small xs page s small = ap held_by_use (cond-true (is_small s) (cells_with xs page s) (PartOfRun s.mapped) small)
 
@@ -119,8 +117,7 @@ module _ (n : ℕ) (s : Storage) (xs : List Storage) (laid : AreLaidOut n (s ∷
   }
 
   from_head : (t : Storage) → Contains xs t → LieApart s t
-  from_head t (k, within, is) =
-      subst (λ (x : Storage). LieApart s x) is
+  from_head t (k, within, is) = subst (λ (x : Storage). LieApart s x) is
       (laid.apart 0 (suc k) t (omega arith) (omega arith) (λ same. omega arith))
 
   -- a page that it doesn't stand on holds what it held
@@ -144,8 +141,7 @@ module _ (n : ℕ) (s : Storage) (xs : List Storage) (laid : AreLaidOut n (s ∷
             held_small (s ∷ xs) page t small
             ∙ ap (λ (bits : List Bool). class_words_of (class_of_storage t) * count bits)
             (taken_same n page (class_of_storage t) (s ∷ xs) xs known laid.each laid_tail.each without
-            (λ u stands inside'. Contains-tail s xs u inside'))
-            ∙ sym (held_small xs page t small)
+            (λ u stands inside'. Contains-tail s xs u inside')) ∙ sym (held_small xs page t small)
         | inr large ↦ held_large (s ∷ xs) page t large ∙ sym (held_large xs page t large)
       ]
 
@@ -220,8 +216,7 @@ module _ (n : ℕ) (s : Storage) (xs : List Storage) (laid : AreLaidOut n (s ∷
           ap (held_as xs page) none ∙ sym (ap (λ (k : ℕ). class_words_of (class_of_storage s) * k) no_bit ∙ omega arith)
     ]
 
-    held_on_block : held_by_use (use_of_storages (s ∷ xs) page)
-        ≡ words_there s + held_by_use (use_of_storages xs page)
+    held_on_block : held_by_use (use_of_storages (s ∷ xs) page) ≡ words_there s + held_by_use (use_of_storages xs page)
     held_on_block =
         let words = class_has_words s cell in
         let there : words_there s ≡ s.words = small_there s small ∙ cond-true s.mapped s.words 0 cell.mapped in
@@ -242,10 +237,8 @@ module _ (n : ℕ) (s : Storage) (xs : List Storage) (laid : AreLaidOut n (s ∷
 held_sum : (n : ℕ) (xs : List Storage) → AreLaidOut n xs
     → sum_below (λ page. held_by_use (use_of_storages xs page)) n ≡ held_by_storages xs
 held_sum n [] laid = sum_below-zero (λ page. held_by_use (use_of_storages [] page)) n (λ page within. refl)
-held_sum n (s ∷ xs) laid =
-    sum_below-add (λ page. held_by_use (use_of_storages (s ∷ xs) page)) (words_on s)
-    (λ page. held_by_use (use_of_storages xs page)) n
-    (λ page within. held_more n s xs laid page)
+held_sum n (s ∷ xs) laid = sum_below-add (λ page. held_by_use (use_of_storages (s ∷ xs) page)) (words_on s)
+    (λ page. held_by_use (use_of_storages xs page)) n (λ page within. held_more n s xs laid page)
     ∙ omega (
       arith,
       storage_sum n s (All-head (IsStorage n) s xs laid.each),

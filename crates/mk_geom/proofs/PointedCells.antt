@@ -91,8 +91,7 @@ small_cell_is : (s : Storage) (cell : IsCell s) (page : ℕ) → is_small s ≡ 
 small_cell_is s cell page small at = cc (cell_index s cell, small_cell_of s small)
 
 pub cell_from_first : (s : Storage) (page index : ℕ) → is_small s ≡ true → 1 ≤ s.words → index * s.words + s.words ≤ 64
-    → s.first ≡ 64 * page + index * s.words
-    → cell_of_storage s ≡ record { page = page; index = index }
+    → s.first ≡ 64 * page + index * s.words → cell_of_storage s ≡ record { page = page; index = index }
 cell_from_first s page index small some ends first = grind (arith, div-mul-add, small_cell_of, same_cell)
 
 pub large_cell_of : (s : Storage) → is_small s ≡ false → cell_of_storage s ≡ record { page = first_page s; index = 0 }
@@ -130,8 +129,7 @@ small_cell_at u s cell small into =
 
 -- what the header word of its page says, by a storage's numbers
 pub shows_cell : (s : Storage) (page header class : ℕ) → class < 8 → s.words ≡ class_words_of class
-    → header ≡ word_of (block_header class s.leaf)
-    → ShowsStorage s page header
+    → header ≡ word_of (block_header class s.leaf) → ShowsStorage s page header
 shows_cell s page header class known words is = grind (arith, class_words_within, class_of_words, cond-true, le-leb)
 
 pub shows_run : (s : Storage) (header first count distance : ℕ) (mapped : Bool) → s.first ≡ 64 * first
@@ -150,8 +148,7 @@ pub address_points_into : (word : ℕ) (s : Storage) → PointsInto (address_of 
 address_points_into word s = grind arith
 
 pub points_into_cell : (pages header u : ℕ) (s : Storage) → IsStorage pages s
-    → ShowsStorage s (page_at_address u) header → PointsInto u s
-    → cell_at pages header u ≡ Some (cell_of_storage s)
+    → ShowsStorage s (page_at_address u) header → PointsInto u s → cell_at pages header u ≡ Some (cell_of_storage s)
 points_into_cell pages header u s is shows into =
     let stands = stands_at_address u s into in
     elim (cases_Bool (is_small s)) [

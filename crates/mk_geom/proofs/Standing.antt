@@ -72,8 +72,7 @@ same_or_apart n xs s t laid (i, i_within, i_is) (j, j_within, j_is) = elim (case
 ]
 
 pub same_or_alike : (n : ℕ) (xs : List Storage) (page : ℕ) (s t : Storage) → AreLaidOut n xs → Contains xs s
-    → Contains xs t
-    → stands_on page s ≡ true → stands_on page t ≡ true → (s ≡ t) ⊎ AreAlike s t
+    → Contains xs t → stands_on page s ≡ true → stands_on page t ≡ true → (s ≡ t) ⊎ AreAlike s t
 same_or_alike n xs page s t laid s_in t_in s_stands t_stands = elim (same_or_apart n xs s t laid s_in t_in) [
   | inl same ↦ inl same
   | inr apart ↦

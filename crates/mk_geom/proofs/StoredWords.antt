@@ -8,8 +8,7 @@ use Rattle.mk_geom.specs.Storages.{AreLaidOut, Storage, block_page, class_of_sto
 use Rattle.mk_geom.specs.Storages.{run_page, stands_on, taken_cells, used_word, words_by, words_of_storages}
 use Rattle.mk_geom.specs.Classes.{cells_of, class_words_of}
 
-pub words_by_small : (page : ℕ) (xs : List Storage) (s : Storage) → is_small s ≡ true
-    → words_by xs page (Some s)
+pub words_by_small : (page : ℕ) (xs : List Storage) (s : Storage) → is_small s ≡ true → words_by xs page (Some s)
     ≡ block_page (class_of_storage s) s.leaf (used_word (taken_cells xs page (class_of_storage s)))
 words_by_small page xs s small = cond-true (is_small s) _ _ small
 
@@ -23,8 +22,7 @@ words_by_alike page xs s t alike = grind (arith, words_by_small)
 
 -- Any storage on a page says what its words are, and where there is none they are 0.
 pub words_at : (n page : ℕ) (xs : List Storage) (s : Storage) → AreLaidOut n xs → Contains xs s
-    → stands_on page s ≡ true
-    → words_of_storages xs page ≡ words_by xs page (Some s)
+    → stands_on page s ≡ true → words_of_storages xs page ≡ words_by xs page (Some s)
 words_at n page xs s laid inside stands = elim (find_cases (stands_on page) xs) [
   | inl (t, found, t_inside, t_stands) ↦
       ap (words_by xs page) found ∙ elim (same_or_alike n xs page t s laid t_inside inside t_stands stands) [

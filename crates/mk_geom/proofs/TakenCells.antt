@@ -45,8 +45,7 @@ get_or-taken_cells xs page class k d within = grind (arith, get_or-map-range_wit
 
 -- the same storages on a page take the same cells
 pub taken_same : (n page class : ℕ) (xs ys : List Storage) → class < 8 → All (IsStorage n) xs → All (IsStorage n) ys
-    → Carries page xs ys → Carries page ys xs
-    → taken_cells xs page class ≡ taken_cells ys page class
+    → Carries page xs ys → Carries page ys xs → taken_cells xs page class ≡ taken_cells ys page class
 taken_same n page class xs ys known xs_each ys_each there back = same_lists _ _ same_length each
   where
     same_length : length (taken_cells xs page class) ≡ length (taken_cells ys page class)
@@ -70,8 +69,7 @@ taken_same n page class xs ys known xs_each ys_each there back = same_lists _ _ 
 
 -- Only one cell of a page is another.
 pub taken_cells-set : (page class index : ℕ) (xs ys : List Storage) (b : Bool)
-    → is_cell_taken ys page (class_words_of class) index ≡ b
-    → ((k : ℕ) → k < cells_of class → k ≢ index
+    → is_cell_taken ys page (class_words_of class) index ≡ b → ((k : ℕ) → k < cells_of class → k ≢ index
     → is_cell_taken ys page (class_words_of class) k ≡ is_cell_taken xs page (class_words_of class) k)
     → taken_cells ys page class ≡ set (taken_cells xs page class) index b
 taken_cells-set page class index xs ys b here others = same_lists _ _ same_length each

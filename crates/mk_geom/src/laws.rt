@@ -8,6 +8,7 @@ ghost use Rattle.mk_geom.specs.Laws.{UsedCellHasStorage, CellsTellStoragesApart,
 ghost use Rattle.mk_geom.specs.Laws.{CellHasFirstWord, FoundCellIsPlace, FoundRunIsPlace};
 
 /// Place, fits, census and the words that are held may be read off the pages as they are.
+#[tactic(auto, using(crate::proofs::Bridge::same_uses, crate::proofs::Bridge::same_census, crate::proofs::HeldWords::pages_hold_mapped_words))]
 pub fn pages_show_what_stands_there()
     ensures uses { PagesShowUses }
     ensures places { PagesShowPlaces }
@@ -25,6 +26,7 @@ pub fn pages_have_the_words_of_storages()
 
 /// What points into a storage points into its cell, and nothing else does, where the header of its page shows
 /// what stands there. So it is on pages that stand for storages.
+#[tactic(auto, using(crate::proofs::PointedCells::cell_first, crate::proofs::PointedCells::address_points_into))]
 pub fn a_storage_has_its_cell()
     ensures points_into { PointsIntoCell }
     ensures points_back { CellHasPointers }

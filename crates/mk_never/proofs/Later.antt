@@ -31,8 +31,7 @@ global_stays n g v = same_allocations n _ refl refl refl (length-set _ _ _)
 
 -- an allocation becomes another of the same type and size, freed if it was
 pub edit_stays : (n : NeverState) (number : ℕ) (new : Allocation) → new.ty ≡ (allocation_at n number).ty
-    → length new.words ≡ length (words_of n number)
-    → ((allocation_at n number).freed ≡ true → new.freed ≡ true)
+    → length new.words ≡ length (words_of n number) → ((allocation_at n number).freed ≡ true → new.freed ≡ true)
     → Continues n (record n { allocations = set n.allocations number new })
 edit_stays n number new ty size freed = record {
   types = refl;
@@ -80,15 +79,13 @@ access_stays : (n : NeverState) (t : Target) (refused : NeverState) (at : ℕ �
 access_stays n t refused at kept reached = grind (arith, left_at_by)
 
 pub op_stays : (n : NeverState) (c : ℕ) (op : Op) → Continues n (after_op n c op)
-op_stays n c (New d ty full) =
-    if_by (λ m. Continues n m) full _ _ (λ e. same n)
+op_stays n c (New d ty full) = if_by (λ m. Continues n m) full _ _ (λ e. same n)
     (λ e. join n (with_new n ty) _ (new_stays n ty) (register_stays (with_new n ty) c d _))
 op_stays n c (Free p) = free_stays n (register_at n c p)
 op_stays n c (SetNum q i m) = access_stays n _ n _ (same n) (λ number place. word_stays n number place _)
 op_stays n c (GetPtr d q i) = access_stays n _ _ _ (register_stays n c d _) (λ number place. register_stays n c d _)
 op_stays n c (SetPtr q i p) = access_stays n _ n _ (same n) (λ number place. word_stays n number place _)
-op_stays n c (CasPtr q i p r) =
-    access_stays n _ n _ (same n)
+op_stays n c (CasPtr q i p r) = access_stays n _ n _ (same n)
     (λ number place. if_by (λ m. Continues n m) (is_same (word_at n number place) (register_at n c p)) _ _
     (λ e. word_stays n number place _) (λ e. same n))
 op_stays n c (Lea d q i) = register_stays n c d _

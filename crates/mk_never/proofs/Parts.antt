@@ -10,8 +10,7 @@ after_append n (x ∷ xs) later = after_append (after_op n x.caller x.op) xs lat
 
 pub replies_append : (n : NeverState) (earlier later : List Call) → RepliesInParts n earlier later
 replies_append n [] later = refl
-replies_append n (x ∷ xs) later =
-    ap (λ (replies : List Reply). reply_of n x.caller x.op ∷ replies)
+replies_append n (x ∷ xs) later = ap (λ (replies : List Reply). reply_of n x.caller x.op ∷ replies)
     (replies_append (after_op n x.caller x.op) xs later)
 
 pub admitted_split : (globals : List ℕ) (n : NeverState) (earlier later : List Call)

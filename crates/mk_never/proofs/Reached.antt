@@ -25,8 +25,7 @@ reach_is_least n S closed = reached_is_in n (λ number. S number ≡ true) close
 abbrev pub example : NeverState
 example = record {
   types = [];
-  allocations =
-      record { ty = 0; words = Ptr 1 1 0 ∷ []; freed = true }
+  allocations = record { ty = 0; words = Ptr 1 1 0 ∷ []; freed = true }
       ∷ record { ty = 1; words = Ptr 2 2 0 ∷ replicate 32 (Num 0); freed = true }
       ∷ record { ty = 2; words = Ptr 2 2 0 ∷ []; freed = false } ∷ [];
   registers = Ptr 0 0 0 ∷ [];
@@ -57,8 +56,6 @@ words_lead_to_both (suc zero) place number inside leads = absurd (false≢true (
 words_lead_to_both (suc (suc from)) place number inside leads = absurd (false≢true inside)
 
 pub third_is_not_reached : IsReachable example 2 → ⊥
-third_is_not_reached reached =
-    false≢true
-    (reach_is_least example both
+third_is_not_reached reached = false≢true (reach_is_least example both
     record { registers = lone_register; globals = λ g number leads. absurd leads; words = words_lead_to_both } 2
     reached)

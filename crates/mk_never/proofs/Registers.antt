@@ -43,8 +43,7 @@ op_keeps n caller c _ other in_range = λ r below. refl
 pub calls_keep : (n : NeverState) (caller : ℕ) (calls : List Call) → AreByOthers caller calls
     → KeepsRegisters caller n (after_calls n calls)
 calls_keep n caller [] others = λ r below. refl
-calls_keep n caller (x ∷ xs) others =
-    λ r below. calls_keep (after_op n x.caller x.op) caller xs others.2 r below
+calls_keep n caller (x ∷ xs) others = λ r below. calls_keep (after_op n x.caller x.op) caller xs others.2 r below
     ∙ op_keeps n caller x.caller x.op others.0 others.1 r below
 
 -- operands in range: so is the register that is set
@@ -69,6 +68,5 @@ by_others globals n caller (x ∷ xs) admitted others =
     )
 
 pub admitted_keep : (globals : List ℕ) (n : NeverState) (caller : ℕ) (calls : List Call) → AreAdmitted globals n calls
-    → AreNotBy caller calls
-    → KeepsRegisters caller n (after_calls n calls)
+    → AreNotBy caller calls → KeepsRegisters caller n (after_calls n calls)
 admitted_keep globals n caller calls admitted others = grind (arith, calls_keep, by_others)

@@ -48,10 +48,8 @@ free_keeps n (Ptr a ty offset) number place = freed_keeps n a number place
 
 -- an operation that doesn't store to a word leaves it
 pub op_keeps : (n : NeverState) (c : ℕ) (op : Op) (number place : ℕ) → number < length n.allocations
-    → (StoresTo n c op number place → ⊥)
-    → WordStays number place n (after_op n c op)
-op_keeps n c (New d ty full) number place there none =
-    if_by (λ m. WordStays number place n m) full _ _ (λ e. refl)
+    → (StoresTo n c op number place → ⊥) → WordStays number place n (after_op n c op)
+op_keeps n c (New d ty full) number place there none = if_by (λ m. WordStays number place n m) full _ _ (λ e. refl)
     (λ e. ap (λ a. get_or a.words place Null) (get_or_append_left n.allocations _ no_allocation number there))
 op_keeps n c (Free p) number place there none = free_keeps n (register_at n c p) number place
 op_keeps n c (SetNum q i m) number place there none = grind (arith, left_at_by, other_word)
@@ -109,8 +107,7 @@ load_gives_stored n c op calls number place h stores none =
 
 -- an admitted access reaches a word that exists
 reached_is_inside : (n : NeverState) (v : Value) (i : ℕ) (P : Kind → Type 0) (number place : ℕ) → Meets n v i P
-    → Reaches n v i number place
-    → place < length (words_of n number)
+    → Reaches n v i number place → place < length (words_of n number)
 reached_is_inside n Null i P number place meets reaches = cc
 reached_is_inside n (Num m) i P number place meets reaches = cc
 reached_is_inside n (Ptr a ty offset) i P number place meets reaches = grind (arith, if_by)

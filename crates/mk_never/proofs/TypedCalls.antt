@@ -22,8 +22,7 @@ module _ (listed : List ℕ) (n : NeverState) (c : ℕ) (typed : IsTyped listed 
   register_is_sound r = typed.registers (8 * c + r)
 
   new_keeps : (d ty : ℕ) (full : Bool) → Keeps (New d ty full)
-  new_keeps d ty full in_range access store =
-      if_by (λ m. IsTyped listed m) full _ _ (λ e. typed)
+  new_keeps d ty full in_range access store = if_by (λ m. IsTyped listed m) full _ _ (λ e. typed)
       (λ e. typed_register listed (with_new n ty) (typed_new listed n typed ty in_range.1) c d _ (new_is_sound n ty))
 
   set_num_keeps : (q i m : ℕ) → Keeps (SetNum q i m)

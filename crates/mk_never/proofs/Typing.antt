@@ -40,8 +40,7 @@ module _ (listed : List ℕ) (n : NeverState) (typed : IsTyped listed n) where
 
   -- an allocation becomes another that is typed
   typed_edit : (number : ℕ) (new : Allocation) → Continues n (record n { allocations = set n.allocations number new })
-      → IsTypedAllocation n new
-      → IsTyped listed (record n { allocations = set n.allocations number new })
+      → IsTypedAllocation n new → IsTyped listed (record n { allocations = set n.allocations number new })
   typed_edit number new stays new_typed = record {
     allocations = λ k h.
         let there : k < length n.allocations = omega (arith, length-set n.allocations number new) in
@@ -54,8 +53,7 @@ module _ (listed : List ℕ) (n : NeverState) (typed : IsTyped listed n) where
   }
 
   pub typed_word : (number place : ℕ) (v : Value) → number < length n.allocations
-      → Suits n v (kind_in n (allocation_at n number) place)
-      → IsTyped listed (with_word n number place v)
+      → Suits n v (kind_in n (allocation_at n number) place) → IsTyped listed (with_word n number place v)
   typed_word number place v there suits =
       let before = typed.allocations number there in
       typed_edit number _ (word_stays n number place v)
@@ -93,8 +91,7 @@ module _ (listed : List ℕ) (n : NeverState) (typed : IsTyped listed n) where
   pub typed_access : (v : Value) (i : ℕ) (Q : Kind → Type 0) (refused : NeverState) (at : ℕ → ℕ → NeverState)
       → Meets n v i Q → IsTyped listed refused
       → ((number place : ℕ) → number < length n.allocations → place < length (words_of n number)
-      → Q (kind_in n (allocation_at n number) place)
-      → IsTyped listed (at number place))
+      → Q (kind_in n (allocation_at n number) place) → IsTyped listed (at number place))
       → IsTyped listed (left_at (target_of n v i) refused at)
   typed_access Null i Q refused at meets kept reached = kept
   typed_access (Num m) i Q refused at meets kept reached = kept

@@ -1,11 +1,11 @@
 -- What isn't reached stays so: operations get their pointers from where reached ones stand.
 use Rattle.std.proofs.Common.{Bool, IsTrue, List, ℕ, arith, false, get_or, inl, inr, length, length-set, map, nat_lt}
-use Rattle.std.proofs.Common.{refl, subst, suc, sym, true, zero, [], ◌&&◌, ◌*◌, ◌++◌, ◌+◌, ◌<◌, ◌∷◌, ◌≡◌, ◌⊎◌}
+use Rattle.std.proofs.Common.{refl, set, subst, suc, sym, true, zero, [], ◌&&◌, ◌*◌, ◌++◌, ◌+◌, ◌<◌, ◌∷◌, ◌≡◌, ◌⊎◌}
 use Rattle.std.proofs.lemmas.List.{get_or_past}
 use Rattle.mk_never.proofs.{Edits.if_by, Edits.left_at_by, Edits.set_by, Later.op_stays, Reached.reached_is_in}
-use Rattle.mk_never.specs.NeverHeap.{Call, NeverState, after_free, after_op, allocation_at, grants_object, is_unmapped}
-use Rattle.mk_never.specs.NeverHeap.{left_at, moved_on, no_allocation, register_at, with_freed, with_global, with_new}
-use Rattle.mk_never.specs.NeverHeap.{with_register, with_word, word_at, words_of}
+use Rattle.mk_never.specs.NeverHeap.{Allocation, Call, NeverState, after_free, after_op, allocation_at, grants_object}
+use Rattle.mk_never.specs.NeverHeap.{is_unmapped, left_at, moved_on, no_allocation, register_at, with_freed}
+use Rattle.mk_never.specs.NeverHeap.{with_global, with_new, with_register, with_word, word_at, words_of}
 use Rattle.mk_never.specs.Reach.{AccessIsToReached, IsReachable, LeadsTo, ReachGrowsByGrants, UnreachedStays}
 use Rattle.mk_never.specs.Reach.{WordLeadsTo, by_global, by_register, by_word}
 use Rattle.mk_never.specs.Types.{kinds_of, zero_of, zero_words}
@@ -66,8 +66,7 @@ module _ (n : NeverState) where
   moved_leads (Ptr a ty offset) i only = only
 
   register_adds_none : (c d : ℕ) (v : Value) → LeadsToReached n v → ReachesNoMore n (with_register n c d v)
-  register_adds_none c d v only =
-      reached_is_in (with_register n c d v) (IsReachable n)
+  register_adds_none c d v only = reached_is_in (with_register n c d v) (IsReachable n)
       record {
         registers = λ k number. set_by (λ x. LeadsTo x number
             → IsReachable n number) n.registers (8 * c + d) k v Null (λ e. only number) (by_register k number);
@@ -76,8 +75,7 @@ module _ (n : NeverState) where
       }
 
   global_adds_none : (g : ℕ) (v : Value) → LeadsToReached n v → ReachesNoMore n (with_global n g v)
-  global_adds_none g v only =
-      reached_is_in (with_global n g v) (IsReachable n)
+  global_adds_none g v only = reached_is_in (with_global n g v) (IsReachable n)
       record {
         registers = by_register;
         globals = λ k number. set_by (λ x. LeadsTo x number
@@ -85,37 +83,30 @@ module _ (n : NeverState) where
         words = by_word;
       }
 
-  word_adds_none : (a w : ℕ) (v : Value) → LeadsToReached n v → ReachesNoMore n (with_word n a w v)
-  word_adds_none a w v only =
-      reached_is_in (with_word n a w v) (IsReachable n)
+  -- where the words of the allocation that a pointer leads to lead to what is reached alone
+  allocation_adds_none : (a : ℕ) (b : Allocation)
+      → ((place number : ℕ) → IsReachable n a → is_unmapped b ≡ false → LeadsTo (get_or b.words place Null) number
+      → IsReachable n number) → ReachesNoMore n (record n { allocations = set n.allocations a b })
+  allocation_adds_none a b led = reached_is_in (record n { allocations = set n.allocations a b }) (IsReachable n)
       record {
         registers = by_register;
         globals = by_global;
         words = λ from place number reached leads.
-            set_by (λ b. is_unmapped b ≡ false → LeadsTo (get_or b.words place Null) number
-            → IsReachable n number) n.allocations a from _ no_allocation
-            (λ e mapped. set_by (λ x. LeadsTo x number
-            → IsReachable n number) (words_of n a) w place v Null (λ e'. only number)
-            (λ leads'. by_word from place number reached (subst (λ j. WordLeadsTo n j place number) (sym e) (
-              subst (λ l. ((allocation_at n a).freed && nat_lt 32 l) ≡ false) (length-set (words_of n a) w v) mapped,
-              leads',
-            ))))
+            set_by (λ x. is_unmapped x ≡ false → LeadsTo (get_or x.words place Null) number
+            → IsReachable n number) n.allocations a from b no_allocation
+            (λ e. led place number (subst (λ k. IsReachable n k) e reached))
             (λ mapped leads'. by_word from place number reached (mapped, leads')) leads.0 leads.1;
       }
 
+  word_adds_none : (a w : ℕ) (v : Value) → LeadsToReached n v → ReachesNoMore n (with_word n a w v)
+  word_adds_none a w v only = allocation_adds_none a _ (λ place number reached mapped.
+      set_by (λ x. LeadsTo x number → IsReachable n number) (words_of n a) w place v Null (λ e. only number)
+      (λ leads. by_word a place number reached
+      (subst (λ l. ((allocation_at n a).freed && nat_lt 32 l) ≡ false) (length-set (words_of n a) w v) mapped, leads)))
+
   freed_adds_none : (a : ℕ) → ReachesNoMore n (with_freed n a)
-  freed_adds_none a =
-      reached_is_in (with_freed n a) (IsReachable n)
-      record {
-        registers = by_register;
-        globals = by_global;
-        words = λ from place number reached leads.
-            set_by (λ b. is_unmapped b ≡ false → LeadsTo (get_or b.words place Null) number
-            → IsReachable n number) n.allocations a from _ no_allocation
-            (λ e mapped leads'. by_word from place number reached
-            (subst (λ j. WordLeadsTo n j place number) (sym e) (was_mapped _ _ mapped, leads')))
-            (λ mapped leads'. by_word from place number reached (mapped, leads')) leads.0 leads.1;
-      }
+  freed_adds_none a = allocation_adds_none a _ (λ place number reached mapped leads.
+      by_word a place number reached (was_mapped _ _ mapped, leads))
 
   free_adds_none : (v : Value) → ReachesNoMore n (after_free n v)
   free_adds_none Null = λ number reached. reached
@@ -149,8 +140,7 @@ module _ (n : NeverState) where
 
 -- an access reaches no more where what it leaves at the word that it gets to doesn't
 access_adds_none : (n : NeverState) (t : Target) (refused : NeverState) (at : ℕ → ℕ → NeverState)
-    → ReachesNoMore n refused
-    → ((number place : ℕ) → t ≡ WordOf number place → ReachesNoMore n (at number place))
+    → ReachesNoMore n refused → ((number place : ℕ) → t ≡ WordOf number place → ReachesNoMore n (at number place))
     → ReachesNoMore n (left_at t refused at)
 access_adds_none n t refused at kept got = left_at_by (λ m. ReachesNoMore n m) t refused at kept got
 

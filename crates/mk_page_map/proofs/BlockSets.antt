@@ -36,8 +36,7 @@ of_own_set class leaf use' known = grind (arith, of_block_set, place_within, cla
 pub free_in_own_set : (class : ℕ) (leaf : Bool) (used : ℕ) → class < 8
     → is_of_set (class_place class leaf) (Cells class leaf (bits_of (cells_of class) used))
     ≡ is_some (first_where not (bits_of (cells_of class) used))
-free_in_own_set class leaf used known =
-    of_own_set class leaf (Cells class leaf (bits_of (cells_of class) used)) known
+free_in_own_set class leaf used known = of_own_set class leaf (Cells class leaf (bits_of (cells_of class) used)) known
     ∙ ap (λ taken. is_some (first_where not taken))
     (cells_taken_alike (Cells class leaf (bits_of (cells_of class) used)) class class leaf leaf used refl refl refl)
 
@@ -93,8 +92,7 @@ each_set P blocks free in_use set is_set = grind (arith, cases_lt)
 -- used words tell blocks of one class and sort apart in their own set alone
 same_elsewhere : (set class : ℕ) (leaf : Bool) (earlier used : ℕ) → set < 18 → (set ≡ class_place class leaf → ⊥)
     → is_of_set set (use_of_kind (Block class leaf) earlier) ≡ is_of_set set (use_of_kind (Block class leaf) used)
-same_elsewhere set class leaf earlier used is_set other =
-    each_set (λ s. (s ≡ class_place class leaf → ⊥)
+same_elsewhere set class leaf earlier used is_set other = each_set (λ s. (s ≡ class_place class leaf → ⊥)
     → is_of_set s (use_of_kind (Block class leaf) earlier) ≡ is_of_set s (use_of_kind (Block class leaf) used))
     (λ s block differ.
     of_other_set s class leaf (bits_of (cells_of class) earlier) block differ
@@ -121,14 +119,10 @@ pub sorted_alike : (sets : List ℕ) (page class earlier used : ℕ) (leaf : Boo
     ≡ is_some (first_where not (bits_of (cells_of class) used))
     → IsInItsSets sets page (use_of_kind (Block class leaf) earlier)
     → IsInItsSets sets page (use_of_kind (Block class leaf) used)
-sorted_alike sets page class earlier used leaf known alike sorted set is_set =
-    sorted set is_set
+sorted_alike sets page class earlier used leaf known alike sorted set is_set = sorted set is_set
     ∙ elim (cases_eq set (class_place class leaf)) [
-      | inl own ↦
-          ap (λ s. is_of_set s (use_of_kind (Block class leaf) earlier)) own
-          ∙ free_in_own_set class leaf earlier known
-          ∙ alike
-          ∙ sym (free_in_own_set class leaf used known)
+      | inl own ↦ ap (λ s. is_of_set s (use_of_kind (Block class leaf) earlier)) own
+          ∙ free_in_own_set class leaf earlier known ∙ alike ∙ sym (free_in_own_set class leaf used known)
           ∙ ap (λ s. is_of_set s (use_of_kind (Block class leaf) used)) (sym own)
       | inr other ↦ same_elsewhere set class leaf earlier used is_set other
     ]

@@ -26,8 +26,7 @@ one_on class number leaf page pages =
 
 -- the page, where it has a free cell, and the others
 by_page : (class : ℕ) (leaf : Bool) (page : Page) (pages : List Page) (index later : Option ℕ)
-    → first_where not (cells_taken class leaf (use_of_page page)) ≡ index
-    → or_else (option_map (cell_here 0) index)
+    → first_where not (cells_taken class leaf (use_of_page page)) ≡ index → or_else (option_map (cell_here 0) index)
     (option_map page_behind (option_and_then (free_cell_on class leaf pages) later))
     ≡ option_and_then (free_cell_on class leaf (page ∷ pages))
     (if is_some index then Some 0 else option_map (λ n. n + 1) later)
@@ -35,8 +34,7 @@ by_page class leaf page pages (Some index) later here = ap (option_map (cell_her
 by_page class leaf page pages None None here = refl
 by_page class leaf page pages None (Some number) here = one_on class number leaf page pages
 
-cell_is_on : (class : ℕ) (leaf : Bool) (pages : List Page)
-    → cell_place class leaf (uses_of_pages pages)
+cell_is_on : (class : ℕ) (leaf : Bool) (pages : List Page) → cell_place class leaf (uses_of_pages pages)
     ≡ option_and_then (free_cell_on class leaf pages) (first_where (has_free_cell class leaf) (uses_of_pages pages))
 cell_is_on class leaf [] = refl
 cell_is_on class leaf (page ∷ pages) =

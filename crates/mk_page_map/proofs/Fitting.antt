@@ -26,8 +26,7 @@ resident_changed pages page now within =
     ap (λ u. resident_pages (uses_of_pages (set pages page now)) + one u)
     (sym (get_or-map use_of_page pages page free_page Nothing within))
     ∙ ap (λ uses. resident_pages uses + one (get_or (uses_of_pages pages) page Nothing))
-    (map-set use_of_page pages page now)
-    ∙ sum_by-set one (uses_of_pages pages) page (use_of_page now) Nothing long
+    (map-set use_of_page pages page now) ∙ sum_by-set one (uses_of_pages pages) page (use_of_page now) Nothing long
 
 pub fit_changed : {pages : List Page} {sets after : List ℕ} {page : ℕ} {now : Page} {resident : ℕ} (count : ℕ)
     → FitPages pages sets resident → Changes pages sets after page now → count + resident_one (page_at pages page)

@@ -58,11 +58,9 @@ range_of zero start pages within free ends = elim (cases_lt start (length pages)
 ]
 range_of (suc gap) start pages within free ends =
     let next : start + 1 + gap ≡ start + suc gap = omega arith in
-    free_range_from-free start pages free_page (omega arith) (free start (omega arith) (omega arith))
-    ∙ ap (λ n. n + 1)
+    free_range_from-free start pages free_page (omega arith) (free start (omega arith) (omega arith)) ∙ ap (λ n. n + 1)
     (range_of gap (start + 1) pages (omega arith) (λ k low high. free k (omega arith) (omega arith))
-    (λ more. ap (is_free_at pages) next ∙ ends (omega arith)))
-    ∙ omega arith
+    (λ more. ap (is_free_at pages) next ∙ ends (omega arith))) ∙ omega arith
 
 -- free pages from `start` on, up to the next page in use or the end
 pub record IsRange (pages : List Page) (start end : ℕ) : Type 0 where

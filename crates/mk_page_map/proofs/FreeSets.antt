@@ -28,8 +28,7 @@ zero_bit n i k = ap (λ m. nat_eq (bit_at m k) 1) (zero_at n i) ∙ ap (λ b. na
 pub zero_sets : AreSets (replicate 1300 0)
 zero_sets = record {
   long = length-replicate {A = ℕ} 1300 0;
-  summaries = λ set word is_set within.
-      zero_bit 1300 (65 * set) word
+  summaries = λ set word is_set within. zero_bit 1300 (65 * set) word
       ∙ sym (ap (λ n. not (nat_eq n 0)) (zero_at 1300 (65 * set + 1 + word)));
 }
 
@@ -39,13 +38,11 @@ none_in_zeros n set number = zero_bit n (65 * set + 1 + number / 64) (number % 6
 
 -- The first words of set 16 have those of this many pages that they have a bit for, and nothing else is in a set.
 abbrev pub HaveFreeBelow : List ℕ → ℕ → ℕ → Type 0
-HaveFreeBelow sets words pages =
-    (set number : ℕ) → set < 20 → number < 4096
+HaveFreeBelow sets words pages = (set number : ℕ) → set < 20 → number < 4096
     → is_member sets set number ≡ (nat_eq set 16 && (nat_lt (number / 64) words && nat_lt number pages))
 
 pub none_free : (pages : ℕ) → HaveFreeBelow (replicate 1300 0) 0 pages
-none_free pages set number is_set few =
-    none_in_zeros 1300 set number
+none_free pages set number is_set few = none_in_zeros 1300 set number
     ∙ sym (and_right (nat_eq set 16) (nat_lt (number / 64) 0 && nat_lt number pages)
     (and_left (nat_lt (number / 64) 0) (nat_lt number pages) (le-ltb (number / 64) 0 (omega arith))))
 
@@ -100,8 +97,7 @@ none_resident (suc n) =
     omega (
       arith,
       none_resident n,
-      sum_by-cons (λ (u : PageUse). cond (is_resident_page u) 1 0) Nothing
-          (uses_of_pages (replicate n free_page)),
+      sum_by-cons (λ (u : PageUse). cond (is_resident_page u) 1 0) Nothing (uses_of_pages (replicate n free_page)),
     )
 
 free_at : (n number : ℕ) → number < n → page_at (replicate n free_page) number ≡ free_page

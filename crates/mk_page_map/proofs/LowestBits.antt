@@ -16,18 +16,14 @@ rest_from word from = bit_and word ((2 ^ 64 - 1) * 2 ^ from % 2 ^ 64)
 rest_kept : (word from k : ℕ) → from ≤ k → k < 64 → bit_at (rest_from word from) k ≡ bit_at word k
 rest_kept word from k above within =
     let one : bit_at (2 ^ 64 - 2 ^ from) k ≡ 1 = bit_at_mask_inside from 64 k above within in
-    ap (λ mask. bit_at (bit_and word mask) k) (ones_shl 64 from (omega arith))
-    ∙ bit_at_and word (2 ^ 64 - 2 ^ from) k
-    ∙ ap (min (bit_at word k)) one
-    ∙ (let few = bit_at-lt word k in omega arith)
+    ap (λ mask. bit_at (bit_and word mask) k) (ones_shl 64 from (omega arith)) ∙ bit_at_and word (2 ^ 64 - 2 ^ from) k
+    ∙ ap (min (bit_at word k)) one ∙ (let few = bit_at-lt word k in omega arith)
 
 rest_dropped : (word from k : ℕ) → from ≤ 64 → k < from → bit_at (rest_from word from) k ≡ 0
 rest_dropped word from k fits below =
     let none : bit_at (2 ^ 64 - 2 ^ from) k ≡ 0 = bit_at_mask_below from 64 k below in
-    ap (λ mask. bit_at (bit_and word mask) k) (ones_shl 64 from fits)
-    ∙ bit_at_and word (2 ^ 64 - 2 ^ from) k
-    ∙ ap (min (bit_at word k)) none
-    ∙ omega arith
+    ap (λ mask. bit_at (bit_and word mask) k) (ones_shl 64 from fits) ∙ bit_at_and word (2 ^ 64 - 2 ^ from) k
+    ∙ ap (min (bit_at word k)) none ∙ omega arith
 
 zero_is_no_one : (bit : ℕ) → bit ≡ 0 → nat_eq bit 1 ≡ false
 zero_is_no_one bit is = ap (λ b. nat_eq b 1) is
@@ -39,8 +35,7 @@ lowest_is_next word from place begun within one lowest =
     grind (arith, cases_lt, rest_dropped, eq-eqb, rest_kept, zero_is_no_one)
 
 pub none_is_next : (word from : ℕ) → rest_from word from ≡ 0 → IsNext (λ k. nat_eq (bit_at word k) 1) from 64 None
-none_is_next word from none k low high =
-    zero_is_no_one (bit_at word k)
+none_is_next word from none k low high = zero_is_no_one (bit_at word k)
     (sym (rest_kept word from k low high) ∙ ap (λ rest. bit_at rest k) none ∙ bit_at-zero k)
 
 -- a word with one bit set or cleared, as the code computes it

@@ -42,8 +42,7 @@ pub other_word : (sets : List ℕ) (s word bits summary : ℕ) → word < 64
     → OtherWordsStay sets (after_store sets s word bits summary) s word
 other_word sets s word bits summary is_word other w within differ =
     get_or-set_other (set sets (65 * s + 1 + word) bits) (65 * s) (65 * other + 1 + w) summary 0
-    (λ same. absurd (omega arith))
-    ∙ get_or-set_other sets (65 * s + 1 + word) (65 * other + 1 + w) bits 0
+    (λ same. absurd (omega arith)) ∙ get_or-set_other sets (65 * s + 1 + word) (65 * other + 1 + w) bits 0
     (λ same. differ (omega arith) (omega arith))
 
 stored_summary : {sets : List ℕ} {s word bits summary : ℕ} → StoresWord sets s word bits summary
@@ -55,8 +54,7 @@ stored_summary {sets} {s} {word} {bits} {summary} stores =
 other_summary : (sets : List ℕ) (s word bits summary other : ℕ) → word < 64 → (other ≡ s → ⊥)
     → summary_of (after_store sets s word bits summary) other ≡ summary_of sets other
 other_summary sets s word bits summary other is_word differ =
-    get_or-set_other (set sets (65 * s + 1 + word) bits) (65 * s) (65 * other) summary 0
-    (λ same. differ (omega arith))
+    get_or-set_other (set sets (65 * s + 1 + word) bits) (65 * s) (65 * other) summary 0 (λ same. differ (omega arith))
     ∙ get_or-set_other sets (65 * s + 1 + word) (65 * other) bits 0 (λ same. absurd (omega arith))
 
 -- the summary that the code reads after it has stored the word

@@ -2,11 +2,11 @@
 ghost use Rattle.std.specs.Prelude.{◌≡◌, ℕ, ◌<◌, ◌≤◌, List, length, false};
 ghost use Rattle.mk_geom.specs.declared.pages.Page.{Page};
 ghost use Rattle.mk_geom.specs.PageUses.{first_where, is_free_page, range_start, resident_pages};
-ghost use Rattle.mk_geom.specs.PageWords.{uses_of_pages};
-ghost use Rattle.mk_page_map.specs.KnownPages.{Shows, is_uncleaned};
+ghost use Rattle.mk_geom.specs.PageWords.{use_of_page, uses_of_pages};
+ghost use Rattle.mk_page_map.specs.KnownPages.{Shows, is_quarantined, is_uncleaned};
 ghost use Rattle.mk_page_map.specs.Members.{IsNext, has_free_cell, has_freed_cells, is_in_use};
 ghost use Rattle.mk_page_map.specs.Members.{page_at};
-ghost use Rattle.mk_page_map.specs.PageSets.{AreSets, is_member};
+ghost use Rattle.mk_page_map.specs.PageSets.{AreSets, is_member, is_of_set};
 
 use crate::page_map::PageMap;
 use crate::sets::next_in;
@@ -28,12 +28,23 @@ fn next_page(count: usize, sets: &[u64], set: usize, from: u64) -> Option<u64>
 }
 
 impl PageMap {
+    /// The lowest page of a set, of those from this one on.
+    fn next_of(&self, set: usize, from: u64) -> Option<u64>
+        requires { set < 20 }
+        ensures sorted { set < 18 → IsNext (λ number. is_of_set set (use_of_page (page_at self.now.pages number))) from
+            (length self.now.pages) result }
+        ensures quarantined { set ≡ 18 → IsNext (is_quarantined self.now) from (length self.now.pages) result }
+        ensures uncleaned { set ≡ 19 → IsNext (is_uncleaned self.now) from (length self.now.pages) result }
+    {
+        next_page(self.pages.len(), &self.sets, set, from)
+    }
+
     /// The lowest free page.
     pub fn first_free(&self) -> Option<u64>
         ensures { (pages : List Page) (freed : List ℕ) → Shows self.now pages freed
             → result ≡ first_where is_free_page (uses_of_pages pages) }
     {
-        next_page(self.pages.len(), &self.sets, FREE, 0)
+        self.next_of(FREE, 0)
     }
 
     /// The lowest block of a class and sort that has a free cell.
@@ -42,7 +53,7 @@ impl PageMap {
         ensures { (pages : List Page) (freed : List ℕ) → Shows self.now pages freed
             → result ≡ first_where (has_free_cell class leaf) (uses_of_pages pages) }
     {
-        next_page(self.pages.len(), &self.sets, block_set(class, leaf), 0)
+        self.next_of(block_set(class, leaf), 0)
     }
 
     /// The lowest page that isn't free, of those from this one on.
@@ -50,7 +61,7 @@ impl PageMap {
         ensures { (pages : List Page) (freed : List ℕ) → Shows self.now pages freed
             → IsNext (is_in_use pages) from (length pages) result }
     {
-        next_page(self.pages.len(), &self.sets, IN_USE, from)
+        self.next_of(IN_USE, from)
     }
 
     /// The lowest page that has freed cells, of those from this one on.
@@ -58,14 +69,14 @@ impl PageMap {
         ensures { (pages : List Page) (freed : List ℕ) → Shows self.now pages freed
             → IsNext (has_freed_cells freed) from (length pages) result }
     {
-        next_page(self.pages.len(), &self.sets, QUARANTINED, from)
+        self.next_of(QUARANTINED, from)
     }
 
     /// The lowest free page that may be marked, of those from this one on.
     pub fn next_uncleaned(&self, from: u64) -> Option<u64>
         ensures { IsNext (is_uncleaned self.now) from (length self.now.pages) result }
     {
-        next_page(self.pages.len(), &self.sets, UNCLEANED, from)
+        self.next_of(UNCLEANED, from)
     }
 
     /// The lowest of this many neighbours that are free. A page alone is the lowest free one. Else it goes from one
@@ -78,10 +89,10 @@ impl PageMap {
         if count == 1 {
             return self.first_free();
         }
-        let pages = self.pages.len();
+        let pages = self.pages.len() as u64;
         let mut from = 0;
-        while let Some(start) = next_page(pages, &self.sets, FREE, from) {
-            let end = next_page(pages, &self.sets, IN_USE, start).unwrap_or(pages as u64);
+        while let Some(start) = self.next_of(FREE, from) {
+            let end = self.next_of(IN_USE, start).unwrap_or(pages);
             if end - start >= count {
                 return Some(start);
             }

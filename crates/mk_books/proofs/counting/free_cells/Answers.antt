@@ -8,8 +8,7 @@ overflow_add-counts c =
     omega (
       arith,
       room_for_block c.args.pages.now c.loop-page.page-index c.loop-page.counts c.in-Some.kind.class
-          c.in-Some.kind.leaf _ c.class_place.result c.count_clear.result
-          (at_block c.loop-page-test.true
+          c.in-Some.kind.leaf _ c.class_place.result c.count_clear.result (at_block c.loop-page-test.true
           (get_or_default c.args.pages.now c.loop-page.page-index _ _ c.loop-page-test.true)
           c.in-Some.ensures.in_range c.in-Some.ensures.block c.loop-page.invariant c.class_place.ensures.place
           (rw c.cells.ensures at c.count_clear.ensures)) c.well_formed.0.1,

@@ -21,8 +21,7 @@ loop-number-preserved c =
             begun = omega arith;
             free = grind (arith, common_steps);
             short = λ none. omega (arith, c.requires.some);
-            first =
-                rw (w.range-is, w.first-is)
+            first = rw (w.range-is, w.first-is)
                 (sym (first-skip c.loop-number.first c.loop-number.range n c.args.count pages before.begun
                 c.loop-number-test.true (omega (arith, ends, before.free)) before.short)
                 ∙ before.first);
@@ -37,8 +36,7 @@ loop-number-preserved c =
             free = rw w.range-is (omega (arith, goes_on, before.free));
             short = λ none. absurd
                 (first-known c.loop-number.first c.loop-number.range (sym (w.first-is ∙ w.or-first.ensures) ∙ none));
-            first =
-                rw (w.range-is, w.first-is, w.or-first.ensures)
+            first = rw (w.range-is, w.first-is, w.or-first.ensures)
                 (sym (first-here c.loop-number.first c.loop-number.range c.args.count pages c.requires.some
                 (omega (arith, goes_on, before.free, w.if-number-range.true)))
                 ∙ before.first);

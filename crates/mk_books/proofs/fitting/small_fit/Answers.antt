@@ -31,16 +31,11 @@ loop-number-preserved c =
             )
       ];
       free = elim c.if-is_free.branch [
-        | then-is_free w ↦
-            rw (w.first_free-is, w.or-first_free.ensures)
+        | then-is_free w ↦ rw (w.first_free-is, w.or-first_free.ensures)
             (sym (or_known c.loop-number.first_free n (free_page_from (n + 1) pages))
             ∙ ap (option_or c.loop-number.first_free)
-            (sym (free_page_from-here n pages _ within (sym c.is_free.ensures ∙ w.if-is_free.true)))
-            ∙ before.free)
-        | else-is_free w ↦
-            rw w.first_free-is
-            (ap (option_or c.loop-number.first_free)
-            (sym (free_page_from-next n pages _ within (sym c.is_free.ensures ∙ w.if-is_free.false)))
-            ∙ before.free)
+            (sym (free_page_from-here n pages _ within (sym c.is_free.ensures ∙ w.if-is_free.true))) ∙ before.free)
+        | else-is_free w ↦ rw w.first_free-is (ap (option_or c.loop-number.first_free)
+            (sym (free_page_from-next n pages _ within (sym c.is_free.ensures ∙ w.if-is_free.false))) ∙ before.free)
       ];
     }

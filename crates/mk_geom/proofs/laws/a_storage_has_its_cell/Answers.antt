@@ -1,5 +1,5 @@
 use Rattle.mk_geom.proofs.CellsOnPages.{points_into_iff, same_from_cells, shown_cell_has_value, used_cell_has_storage}
-use Rattle.mk_geom.proofs.PointedCells.{address_points_into, cell_first, points_into_cell}
+use Rattle.mk_geom.proofs.PointedCells.{points_into_cell}
 use Rattle.mk_geom.proofs.laws.a_storage_has_its_cell.Goals as goal
 
 pub returns-clause-points_into : goal.returns-clause-points_into
@@ -14,11 +14,5 @@ returns-clause-on_pages c = points_into_iff
 pub returns-clause-used : goal.returns-clause-used
 returns-clause-used c = used_cell_has_storage
 
-pub returns-clause-first_word : goal.returns-clause-first_word
-returns-clause-first_word c = cell_first
-
 pub returns-clause-apart : goal.returns-clause-apart
 returns-clause-apart c = same_from_cells
-
-pub returns-clause-addresses : goal.returns-clause-addresses
-returns-clause-addresses c = address_points_into

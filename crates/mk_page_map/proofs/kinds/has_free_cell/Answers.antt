@@ -13,7 +13,6 @@ pub returns : goal.returns
 returns c =
     let place = trailing_ones w64 c.args.used in
     let count = cells_of c.args.class in
-    ap (λ k. nat_lt k c.cells.result) (c.from.ensures ∙ c.trailing_ones.ensures)
-    ∙ ap (nat_lt place) c.cells.ensures
+    ap (λ k. nat_lt k c.cells.result) (c.from.ensures ∙ c.trailing_ones.ensures) ∙ ap (nat_lt place) c.cells.ensures
     ∙ some_where (nat_lt place count) place
     ∙ ap is_some (sym (first_where-bits_of count c.args.used (cells_few c.args.class c.requires) c.ranges.used.fits))

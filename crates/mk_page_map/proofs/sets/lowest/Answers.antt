@@ -3,11 +3,9 @@ use Rattle.mk_page_map.proofs.Vocabulary.{ℕ, ap, bit_at, subst, w64, ◌<◌, 
 use Rattle.mk_page_map.proofs.sets.lowest.Goals as goal
 
 pub returns-clause-one : goal.returns-clause-one
-returns-clause-one c =
-    ap (bit_at c.args.word) c.from.ensures
+returns-clause-one c = ap (bit_at c.args.word) c.from.ensures
     ∙ (bit_at-trailing_zeros w64 c.args.word c.requires c.ranges.word.fits).1
 
 pub returns-clause-lowest : goal.returns-clause-lowest
-returns-clause-lowest c below lower =
-    (bit_at-trailing_zeros w64 c.args.word c.requires c.ranges.word.fits).2 below
+returns-clause-lowest c below lower = (bit_at-trailing_zeros w64 c.args.word c.requires c.ranges.word.fits).2 below
     (subst (λ (k : ℕ). below < k) c.from.ensures lower)

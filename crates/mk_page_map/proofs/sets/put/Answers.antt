@@ -3,10 +3,8 @@ use Rattle.mk_page_map.proofs.SetWords.{put_other_pages, put_other_set, same, tu
 use Rattle.mk_page_map.proofs.sets.put.Goals as goal
 
 pub returns-then-has_one-inside-clause-this : goal.returns-then-has_one-inside-clause-this
-returns-then-has_one-inside-clause-this c =
-    ap (λ n. nat_eq (bit_at n (c.args.page % 64)) 1) c.store_word.ensures.this
-    ∙ c.with_turned.ensures.this
-    ∙ ap not (sym c.has_one.ensures)
+returns-then-has_one-inside-clause-this c = ap (λ n. nat_eq (bit_at n (c.args.page % 64)) 1) c.store_word.ensures.this
+    ∙ c.with_turned.ensures.this ∙ ap not (sym c.has_one.ensures)
     ∙ turned c.has_one.result c.args.inside c.if-has_one-inside.true
 
 pub returns-then-has_one-inside-clause-other_sets : goal.returns-then-has_one-inside-clause-other_sets

@@ -2,10 +2,8 @@ use Rattle.mk_page_map.proofs.Vocabulary.{arith, ◌∙◌}
 use Rattle.mk_page_map.proofs.sorting.put_free.Goals as goal
 
 pub returns-clause-free : goal.returns-clause-free
-returns-clause-free c =
-    c.put-3.ensures.other_sets 16 (omega arith) (λ same. absurd (omega arith))
-    ∙ c.put-2.ensures.other_sets 16 (omega arith) (λ same. absurd (omega arith))
-    ∙ c.put.ensures.this
+returns-clause-free c = c.put-3.ensures.other_sets 16 (omega arith) (λ same. absurd (omega arith))
+    ∙ c.put-2.ensures.other_sets 16 (omega arith) (λ same. absurd (omega arith)) ∙ c.put.ensures.this
 
 pub returns-clause-in_use : goal.returns-clause-in_use
 returns-clause-in_use c =

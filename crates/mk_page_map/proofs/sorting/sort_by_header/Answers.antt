@@ -11,9 +11,7 @@ returns-then-is_free-clause-sorted c =
     each_set (λ s. is_member c.put_free.new.sets s c.args.page ≡ is_of_set s (use_of_kind c.args.after c.args.used))
     (λ s block.
     c.put_free.ensures.other_sets s (omega arith) (λ same. absurd (omega arith)) (λ same. absurd (omega arith))
-    ∙ c.join_blocks.ensures.joined s block)
-    (c.put_free.ensures.free ∙ free)
-    (c.put_free.ensures.in_use ∙ ap not free)
+    ∙ c.join_blocks.ensures.joined s block) (c.put_free.ensures.free ∙ free) (c.put_free.ensures.in_use ∙ ap not free)
 
 pub returns-then-is_free-clause-other_sets : goal.returns-then-is_free-clause-other_sets
 returns-then-is_free-clause-other_sets c s above is_set = grind arith
@@ -27,13 +25,10 @@ pub returns-then-was_free-clause-sorted : goal.returns-then-was_free-clause-sort
 returns-then-was_free-clause-sorted c =
     let free = sym (c.is_free-is_free.ensures c.args.used ∙ c.if-is_free.false) in
     each_set (λ s. is_member c.put_free-then-was_free.new.sets s c.args.page
-    ≡ is_of_set s (use_of_kind c.args.after c.args.used))
-    (λ s block.
+    ≡ is_of_set s (use_of_kind c.args.after c.args.used)) (λ s block.
     c.put_free-then-was_free.ensures.other_sets s (omega arith) (λ same. absurd (omega arith))
-    (λ same. absurd (omega arith))
-    ∙ c.join_blocks.ensures.joined s block)
-    (c.put_free-then-was_free.ensures.free ∙ free)
-    (c.put_free-then-was_free.ensures.in_use ∙ ap not free)
+    (λ same. absurd (omega arith)) ∙ c.join_blocks.ensures.joined s block)
+    (c.put_free-then-was_free.ensures.free ∙ free) (c.put_free-then-was_free.ensures.in_use ∙ ap not free)
 
 pub returns-then-was_free-clause-other_sets : goal.returns-then-was_free-clause-other_sets
 returns-then-was_free-clause-other_sets c s above is_set = grind arith
@@ -54,6 +49,5 @@ stays c s above is_set = grind arith
 pub returns-else-was_free-clause-sorted : goal.returns-else-was_free-clause-sorted
 returns-else-was_free-clause-sorted c =
     each_set (λ s. is_member c.join_blocks.new.sets s c.args.page ≡ is_of_set s (use_of_kind c.args.after c.args.used))
-    c.join_blocks.ensures.joined
-    (stays c 16 (omega arith) (omega arith) ∙ in_use c)
+    c.join_blocks.ensures.joined (stays c 16 (omega arith) (omega arith) ∙ in_use c)
     (stays c 17 (omega arith) (omega arith) ∙ ap not (in_use c))

@@ -3,8 +3,7 @@ use Rattle.mk_page_map.proofs.BlockSets.{sorted_alike, sorted_anew}
 use Rattle.mk_page_map.proofs.{SetWords.same, sorting.sort_by_used.Goals.In-Block}
 use Rattle.mk_page_map.proofs.sorting.sort_by_used.Goals as goal
 
-sorted_before : (c : In-Block)
-    → IsInItsSets c.args.sets.now c.args.page (use_of_kind
+sorted_before : (c : In-Block) → IsInItsSets c.args.sets.now c.args.page (use_of_kind
     (PageKind.Block c.in-Block.class c.in-Block.leaf) c.args.before)
 sorted_before c =
     subst (λ (k : PageKind). IsInItsSets c.args.sets.now c.args.page (use_of_kind k c.args.before)) c.in-Block.is
@@ -22,8 +21,7 @@ pub returns-else-has_free_cell-is_open-clause-sorted : goal.returns-else-has_fre
 returns-else-has_free_cell-is_open-clause-sorted c =
     subst (λ (k : PageKind). IsInItsSets c.args.sets.now c.args.page (use_of_kind k c.args.after)) (sym c.in-Block.is)
     (sorted_alike c.args.sets.now c.args.page c.in-Block.class c.args.before c.args.after c.in-Block.leaf
-    (subst HasClass c.in-Block.is c.requires.class)
-    (sym c.has_free_cell.ensures
+    (subst HasClass c.in-Block.is c.requires.class) (sym c.has_free_cell.ensures
     ∙ same c.has_free_cell.result c.has_free_cell-is_open.result c.if-has_free_cell-is_open.false
     ∙ c.has_free_cell-is_open.ensures)
     (sorted_before (goal.at.returns-else-has_free_cell-is_open-clause-sorted c).In-Block))

@@ -1,11 +1,7 @@
-use Rattle.mk_page_map.proofs.Vocabulary.{arith, ◌∙◌}
-use Rattle.mk_page_map.proofs.Reading.{first_of_set, no_others_there, reads_by}
+use Rattle.mk_page_map.proofs.Vocabulary.{arith, is_free_page, refl}
+use Rattle.mk_page_map.proofs.Reading.{first_shown}
 use Rattle.mk_page_map.proofs.page_map.PageMap.first_free.Goals as goal
 
-pub next_page-requires-clause-no_others : goal.next_page-requires-clause-no_others
-next_page-requires-clause-no_others c =
-    no_others_there 16 (reads_by c.self.view_is c.self.invariant c.deref.ensures.value
-    (c.len.ensures ∙ c.self.inside.pages.ok.0)) (omega arith)
-
 pub returns : goal.returns
-returns c pages freed shows = grind (arith, first_of_set)
+returns c pages freed shows =
+    first_shown 16 is_free_page shows (λ stands. refl) (c.next_of.ensures.sorted (omega arith))

@@ -4,8 +4,7 @@ use Rattle.mk_page_map.proofs.page_map.PageMap.first_range.Given as goal
 abbrev pub invariant-loop-start : goal.invariant-loop-start
 invariant-loop-start l = record {
   begun : l.from ≤ l.pages;
-  rest : range_start_from l.from l.count l.self-inside.pages.items
-      ≡ range_start l.count (uses_of_pages l.self-inside.pages.items);
+  rest : range_start_from l.from l.count l.self.pages ≡ range_start l.count (uses_of_pages l.self.pages);
 }
 
 abbrev pub decreases-loop-start : goal.decreases-loop-start

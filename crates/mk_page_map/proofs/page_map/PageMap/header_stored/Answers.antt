@@ -26,15 +26,13 @@ is_counted : (c : After-from) → c.from.result ≡ resident_one (now c)
 is_counted c = grind (arith, resident_byte, now)
 
 enough : (c : After-from) → c.from-was_resident.result ≤ c.self.inside.resident + c.from.result
-enough c =
-    counted_anew c.self.inside.pages.items c.args.page c.self.inside.resident c.from-was_resident.result
+enough c = counted_anew c.self.inside.pages.items c.args.page c.self.inside.resident c.from-was_resident.result
     c.from.result (now c) (within c) (was_counted c) (is_counted c) c.self.invariant.counted
 
 pub overflow_sub-self : goal.overflow_sub-self
 overflow_sub-self c = enough c
 
-same_sets : (c : After-from)
-    → take c.self.inside.sets.len
+same_sets : (c : After-from) → take c.self.inside.sets.len
     (c.sort_by_header.new.sets ++ drop (length c.sort_by_header.new.sets) c.self.inside.sets.items)
     ≡ c.sort_by_header.new.sets
 same_sets c = grind (arith, written, within)
@@ -57,8 +55,7 @@ returns-clause-freed c free =
     let x = (goal.at.returns-clause-freed c).After-from in
     this_uncleaned (set c.self.inside.pages.items c.args.page (now x)) c.sort_by_header.new.sets _ c.args.page true
     (omega (arith, within x, length-set c.self.inside.pages.items c.args.page (now x))) (same_sets x)
-    (c.sort_by_header.ensures.uncleaned
-    (ap is_free_page (sym (c.kind_of-after.ensures.kind c.index.result.now.used))
+    (c.sort_by_header.ensures.uncleaned (ap is_free_page (sym (c.kind_of-after.ensures.kind c.index.result.now.used))
     ∙ ap (λ (n : ℕ). is_free_page (use_under (header_of n) c.index.result.now.used)) free))
 
 pub returns-clause-others : goal.returns-clause-others

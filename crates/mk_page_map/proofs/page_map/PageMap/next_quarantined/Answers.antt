@@ -1,12 +1,8 @@
-use Rattle.mk_page_map.proofs.Vocabulary.{arith, ◌∙◌}
-use Rattle.mk_page_map.proofs.Reading.{next_of_quarantine, no_others_there, reads_by}
-use Rattle.mk_page_map.proofs.Showing.{member_of_freed}
+use Rattle.mk_page_map.proofs.Vocabulary.{IsNext, List, Page, length, refl, subst}
+use Rattle.mk_page_map.{proofs.NextPages.same_next, specs.KnownPages.is_quarantined, specs.Members.has_freed_cells}
 use Rattle.mk_page_map.proofs.page_map.PageMap.next_quarantined.Goals as goal
 
-pub next_page-requires-clause-no_others : goal.next_page-requires-clause-no_others
-next_page-requires-clause-no_others c =
-    no_others_there 18 (reads_by c.self.view_is c.self.invariant c.deref.ensures.value
-    (c.len.ensures ∙ c.self.inside.pages.ok.0)) (omega arith)
-
 pub returns : goal.returns
-returns c pages freed shows = grind (arith, next_of_quarantine, member_of_freed)
+returns c pages freed shows = same_next (has_freed_cells freed) c.args.from c.next_of.result shows.quarantined
+    (subst (λ (ps : List Page). IsNext (is_quarantined c.args.self.now) c.args.from (length ps) c.next_of.result)
+    shows.page_by_page (c.next_of.ensures.quarantined refl))

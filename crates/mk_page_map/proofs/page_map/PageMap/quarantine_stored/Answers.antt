@@ -8,14 +8,12 @@ use Rattle.mk_page_map.proofs.page_map.PageMap.quarantine_stored.Goals as goal
 within : (c : After-sort_by_quarantine) → c.args.page < length c.self.inside.pages.items
 within c = grind (arith, page_within)
 
-same_sets : (c : After-sort_by_quarantine)
-    → take c.self.inside.sets.len
+same_sets : (c : After-sort_by_quarantine) → take c.self.inside.sets.len
     (c.sort_by_quarantine.new.sets ++ drop (length c.sort_by_quarantine.new.sets) c.self.inside.sets.items)
     ≡ c.sort_by_quarantine.new.sets
 same_sets c = grind (arith, written, within)
 
-others : (c : After-sort_by_quarantine)
-    → OthersStay c.self.inside.sets.items c.sort_by_quarantine.new.sets c.args.page
+others : (c : After-sort_by_quarantine) → OthersStay c.self.inside.sets.items c.sort_by_quarantine.new.sets c.args.page
 others c = grind arith
 
 pub invariant_of-self : goal.invariant_of-self

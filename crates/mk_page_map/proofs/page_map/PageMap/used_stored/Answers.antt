@@ -22,8 +22,7 @@ stores : (c : After-sort_by_used)
     c.self.inside.resident c.args.page (now c)
 stores c = grind (arith, within)
 
-same_sets : (c : After-sort_by_used)
-    → take c.self.inside.sets.len
+same_sets : (c : After-sort_by_used) → take c.self.inside.sets.len
     (c.sort_by_used.new.sets ++ drop (length c.sort_by_used.new.sets) c.self.inside.sets.items)
     ≡ c.sort_by_used.new.sets
 same_sets c = grind (arith, written, within)
