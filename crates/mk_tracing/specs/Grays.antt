@@ -36,13 +36,7 @@ pub record IsGray (pages : ℕ) (w : Words) (cell : Cell) : Type 0 where
 abbrev pub words_scanned : Option Header → ℕ
 words_scanned x = if has_no_pointers x then 0 else words_under x
 
--- A gray cell of this many words, which are to be scanned.
-pub record IsDue (pages : ℕ) (w : Words) (cell : Cell) (size : ℕ) : Type 0 where
-  pub gray : IsGray pages w cell
-  pub scanned : has_no_pointers (header_in w cell.page) ≡ false
-  pub words : size ≡ cell_words w cell
-
--- a word of one
+-- a word of a gray cell
 pub record IsGrayWord (pages : ℕ) (w : Words) (n : ℕ) : Type 0 where
   pub cell : Cell
   pub gray : IsGray pages w cell
@@ -73,6 +67,11 @@ pub record MarksOn (t u : TurnState) : Type 0 where
   pub op : u.op ≡ t.op
   pub wanted : IsWanted u.pass
   pub traces : Traces is_marking TracesReached t.pass u.pass
+
+-- The stop goes on so, and the words are left.
+pub record LooksOn (t u : TurnState) : Type 0 where
+  pub on : MarksOn t u
+  pub words : still_words u.pass ≡ still_words t.pass
 
 -- The hand is this value, which stood in a root or in a marked cell.
 pub record IsInHand (p : PassState) (u : ℕ) : Type 0 where

@@ -1,9 +1,10 @@
 use Rattle.mk_laws.proofs.Vocabulary.{arith}
-use Rattle.mk_tracing.proofs.{RootMarks.groups_then, ScannedWords.marks_nothing, ScannedWords.notes_then}
+use Rattle.mk_tracing.proofs.RootMarks.{groups_then}
+use Rattle.mk_tracing.proofs.ScannedWords.{marks_nothing, notes_then}
 use Rattle.mk_tracing.proofs.roots.mark_globals.Goals as goal
 
 pub loop-group-init : goal.loop-group-init
-loop-group-init c = record { marks = marks_nothing c.requires.wanted; well = λ g lt. absurd (omega arith) }
+loop-group-init c = record { marks = marks_nothing c.requires.may.wanted; well = λ g lt. absurd (omega arith) }
 
 pub loop-group-preserved : goal.loop-group-preserved
 loop-group-preserved c =

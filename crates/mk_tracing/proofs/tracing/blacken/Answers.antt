@@ -1,15 +1,13 @@
 use Rattle.mk_laws.proofs.Vocabulary.{arith}
-use Rattle.mk_tracing.proofs.Blackened.{blackens_one, cells_few}
-use Rattle.mk_tracing.proofs.{NotedCells.last_black, NotedCells.noted_black, StopSteps.on_then}
+use Rattle.mk_tracing.{proofs.Blackened.blackens_one, proofs.Blackened.cells_few, proofs.NotedCells.last_black}
+use Rattle.mk_tracing.{proofs.NotedCells.noted_black, proofs.StopSteps.on_then}
 use Rattle.mk_tracing.proofs.tracing.blacken.Goals as goal
 
 pub blacken_cell-requires-clause-index : goal.blacken_cell-requires-clause-index
 blacken_cell-requires-clause-index c = grind (arith, cells_few)
 
 pub returns-clause-on : goal.returns-clause-on
-returns-clause-on c =
-    on_then c.args.stop.now c.scan_if_due-last.new.stop c.blacken_cell.new.stop c.scan_if_due-last.ensures.marks.on
-    c.blacken_cell.ensures.on
+returns-clause-on c = on_then c.scan_if_due-last.ensures.marks.on c.blacken_cell.ensures.on
 
 pub returns-clause-one : goal.returns-clause-one
 returns-clause-one c = grind (arith, blackens_one)

@@ -1,8 +1,9 @@
 use Rattle.mk_laws.proofs.Vocabulary.{Bool, Cell, Words, ℕ, arith, cell_words, false, has_no_pointers, header_in}
 use Rattle.mk_laws.proofs.Vocabulary.{if◌then◌else◌, inl, inr, refl, subst, sym, true, ◌<◌, ◌∙◌, ◌≡◌, ◌⊎◌}
 use Rattle.mk_core.specs.Cells.{words_point_well}
-use Rattle.mk_tracing.{proofs.Blackened.gray_turns, proofs.Blackened.scan_done, proofs.MoreMarks.more_same}
-use Rattle.mk_tracing.{proofs.ScannedWords.marks_nothing, specs.Grays.words_scanned, specs.Stops.still_words}
+use Rattle.mk_tracing.proofs.Blackened.{gray_turns, scan_done}
+use Rattle.mk_tracing.proofs.{MoreMarks.more_same, ScannedWords.marks_nothing}
+use Rattle.mk_tracing.specs.{Grays.words_scanned, Stops.still_words}
 use Rattle.mk_tracing.proofs.tracing.scan_if_due.Goals as goal
 
 -- Where no word of a cell is scanned, it has no pointers, or no words.
@@ -18,14 +19,13 @@ none_scanned pages w cell none = by (has_no_pointers (header_in w cell.page)) re
         (λ j lt. absurd (let bad : j < 0 = subst (λ n. j < n) e lt in omega arith)))
 
 pub returns-then-gray-eq0-clause-marks : goal.returns-then-gray-eq0-clause-marks
-returns-then-gray-eq0-clause-marks c = marks_nothing c.requires.wanted
+returns-then-gray-eq0-clause-marks c = marks_nothing c.requires.may.wanted
 
 pub returns-then-gray-eq0-clause-turns : goal.returns-then-gray-eq0-clause-turns
 returns-then-gray-eq0-clause-turns c =
-    let pages : ℕ = c.args.words.now.config.pages in
     let w = still_words c.args.stop.now.pass in
-    gray_turns pages w w c.args.gray.cell c.requires.gray.gray (more_same w w refl)
-    (none_scanned pages w c.args.gray.cell (sym c.requires.gray.words ∙ c.if-gray-eq0.true))
+    gray_turns c.args.table.pages w w c.args.gray.cell c.requires.gray.gray (more_same w w refl)
+    (none_scanned c.args.table.pages w c.args.gray.cell (sym c.requires.gray.words ∙ c.if-gray-eq0.true))
 
 pub returns-clause-turns : goal.returns-clause-turns
 returns-clause-turns c =
