@@ -14,7 +14,8 @@ use Rattle.mk_words.specs.States.{PassState, TurnState}
 
 -- The hand points into the cell that its value points into.
 pub hand_points : (p : PassState) (pages value : ℕ) (cell : Cell) → pages ≡ p.table.config.pages
-    → (value ≢ 0 → IsInHand p value) → pointed_cell pages (still_words p).pages value ≡ Some cell → HandPointsInto p cell
+    → (value ≢ 0 → IsInHand p value) → pointed_cell pages (still_words p).pages value ≡ Some cell
+    → HandPointsInto p cell
 hand_points p pages value cell sized hand points = grind (arith, some_not_zero)
 
 -- It goes on doing so through looks that leave the hand.

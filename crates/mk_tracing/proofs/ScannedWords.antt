@@ -78,4 +78,5 @@ pub all_scanned : {pages : ℕ} {t u : TurnState} {a b : Worklist} {gray : Noted
     → IsDue pages (still_words t.pass) gray → Scans pages t a u b gray.cell 0 gray.words
     → words_point_well pages (still_words u.pass) gray.cell ≡ true
 all_scanned {pages} {gray = gray} due all =
-    scan_done pages _ _ gray.cell all.marks.more (λ j lt. all.well j (omega arith) (subst (λ n. j < n) (sym due.words) lt))
+    scan_done pages _ _ gray.cell all.marks.more
+    (λ j lt. all.well j (omega arith) (subst (λ n. j < n) (sym due.words) lt))

@@ -64,7 +64,8 @@ reached_there p w cell same holding r = grind (arith, marks_by)
 module _ {t u : TurnState} (wanted : IsWanted t.pass) (all : HoldsAll t.pass.table.config (now_of t.pass) t.pass.seat)
     (own : Has t.pass.seats t.pass.seat) (same : u.op ≡ t.op) where
   looks_on : (x : Word) → Acts t.pass (Step.Look x) u.pass → is_quiet (Step.Look x) ≡ true
-      → ((w : World) → but_phase w.now.words ≡ still_words t.pass → TracesReached t.pass.table.config w.now (Step.Look x))
+      → ((w : World) → but_phase w.now.words ≡ still_words t.pass
+      → TracesReached t.pass.table.config w.now (Step.Look x))
       → LooksOn t u
   looks_on x a quiet ruled = record {
     on = marks_on t.pass u.pass wanted all own (Step.Look x) a quiet t.op u.op same (λ w e h. ruled w e);
@@ -79,7 +80,9 @@ module _ {t u : TurnState} (wanted : IsWanted t.pass) (all : HoldsAll t.pass.tab
 
   pub looks_word : (n : ℕ) → Acts t.pass (Step.Look (Word.Heap n)) u.pass
       → IsGrayWord t.pass.table.config.pages (still_words t.pass) n → LooksOn t u
-  looks_word n a gray = looks_on (Word.Heap n) a refl (λ w e. gray_there t.pass.table.config.pages n w.now.words (still_words t.pass) e gray)
+  looks_word n a gray =
+      looks_on (Word.Heap n) a refl
+      (λ w e. gray_there t.pass.table.config.pages n w.now.words (still_words t.pass) e gray)
 
   pub on_mark : (cell : Cell) → Acts t.pass (Step.Mark cell.page (2 ^ cell.index)) u.pass → HandPointsInto t.pass cell
       → MarksOn t u

@@ -1,4 +1,5 @@
-use Rattle.mk_laws.proofs.Vocabulary.{List, Page, Words, ap, header_of, head_page, head_page_under, refl, slice_index, sym, ◌∙◌, ◌≡◌, ◌≢◌}
+use Rattle.mk_laws.proofs.Vocabulary.{List, Page, Words, ap, header_of, head_page, head_page_under, refl}
+use Rattle.mk_laws.proofs.Vocabulary.{slice_index, sym, ◌∙◌, ◌≡◌, ◌≢◌}
 use Rattle.mk_tracing.proofs.Clearing.{black_cleared, blacks_cleared, cleared_unscanned, head_part, own_part, part_kept}
 use Rattle.mk_tracing.proofs.dirty.unblack_if_dirty.Goals.{After-head_page_under-head, After-look_at-header}
 use Rattle.mk_tracing.proofs.StopSteps.{on_then}
@@ -27,8 +28,10 @@ head c w same =
 
 is_dirty : (c : After-look_at-header)
     → slice_index (still_words c.look_at-header.new.stop.pass).dirty c.args.page ≢ 0
-is_dirty c z = c.if-look_at-eq0.false (c.look_at.ensures.found ∙ sym (ap (λ (w : Words). slice_index w.dirty c.args.page)
-    (c.look_at-header.ensures.looks.words ∙ c.look_at.ensures.looks.words)) ∙ z)
+is_dirty c z =
+    let same = c.look_at-header.ensures.looks.words ∙ c.look_at.ensures.looks.words in
+    c.if-look_at-eq0.false
+    (c.look_at.ensures.found ∙ sym (ap (λ (w : Words). slice_index w.dirty c.args.page) same) ∙ z)
 
 pub returns-clause-unscanned : goal.returns-clause-unscanned
 returns-clause-unscanned c =
@@ -44,7 +47,8 @@ returns-clause-unscanned c =
 
 pub unblack_page-requires-clause-part : goal.unblack_page-requires-clause-part
 unblack_page-requires-clause-part c =
-    own_part c.look_at-header.new.stop.pass _ (is_dirty (goal.at.unblack_page-requires-clause-part c).After-look_at-header)
+    own_part c.look_at-header.new.stop.pass _
+    (is_dirty (goal.at.unblack_page-requires-clause-part c).After-look_at-header)
 
 pub unblack_page-requires-2-clause-part : goal.unblack_page-requires-2-clause-part
 unblack_page-requires-2-clause-part c =

@@ -13,8 +13,8 @@ loop-page-init c = record { looks = looks_from c.requires.may.wanted; none = λ 
 
 pub returns-then-page-to-clause-none : goal.returns-then-page-to-clause-none
 returns-then-page-to-clause-none c p low high =
-    none_past _ _ c.args.from c.loop-page.next c.in-Some.page c.loop-page.invariant.looks.words c.loop-page.invariant.none
-    c.in-Some.ensures.next.3 p low (omega (arith, high, c.if-page-to.true))
+    none_past _ _ c.args.from c.loop-page.next c.in-Some.page c.loop-page.invariant.looks.words
+    c.loop-page.invariant.none c.in-Some.ensures.next.3 p low (omega (arith, high, c.if-page-to.true))
 
 pub returns-in-Some-found-clause-looks : goal.returns-in-Some-found-clause-looks
 returns-in-Some-found-clause-looks c = looks_then c.loop-page.invariant.looks c.gray_on-found.ensures.looks

@@ -9,7 +9,8 @@ use Rattle.mk_tracing.proofs.grays.next_gray.Goals as goal
 -- what was looked at of the cell that was noted last
 looked : (c : After-another_gray) → LooksOn c.args.stop.now c.match-last.stop
 looked c = elim c.match-last.branch [
-  | in-Some+else-is_gray w ↦ subst (λ (s : TurnState). LooksOn c.args.stop.now s) (sym w.stop-is) w.is_gray.ensures.looks
+  | in-Some+else-is_gray w ↦
+      subst (λ (s : TurnState). LooksOn c.args.stop.now s) (sym w.stop-is) w.is_gray.ensures.looks
   | in_default w ↦
       subst (λ (s : TurnState). LooksOn c.args.stop.now s) (sym w.stop-is) (looks_from c.requires.may.wanted)
 ]
