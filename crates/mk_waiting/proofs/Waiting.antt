@@ -52,7 +52,8 @@ waits_more p q r o w m =
       more = m.others ++ e ∷ [];
       is = m.is ∙ ap (λ (l : List Event). record q { seen = l }) (append_assoc q.seen m.others (e ∷ []));
       only = list_all-append (waits_for q) m.others (e ∷ [])
-          ∙ and_from (list_all (waits_for q) m.others) (list_all (waits_for q) (e ∷ [])) (others_wait q m.others m.of_others)
+          ∙ and_from (list_all (waits_for q) m.others) (list_all (waits_for q) (e ∷ []))
+          (others_wait q m.others m.of_others)
           (and_from (waits_for q e) true
           (ap (λ (b : Bool). not (is_one_of q.seats q.seat) || b) (same_self q.seat)
           ∙ or_last (not (is_one_of q.seats q.seat))) refl);

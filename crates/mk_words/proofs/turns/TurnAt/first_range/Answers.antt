@@ -3,4 +3,5 @@ use Rattle.mk_words.proofs.MapSteps.{as_carried}
 use Rattle.mk_words.proofs.turns.TurnAt.first_range.Goals as goal
 
 pub returns : goal.returns
-returns g c = rw (sym c.self.view_is) (c.first_range.ensures _ _ (as_carried c.deref.ensures c.self.invariant).shows.words)
+returns g c =
+    rw (sym c.self.view_is) (c.first_range.ensures _ _ (as_carried c.deref.ensures c.self.invariant).shows.words)

@@ -12,4 +12,5 @@ returns-clause-acts g c = acted c.self.view_is c.self.invariant c.perform_near.e
 
 pub returns-clause-finds : goal.returns-clause-finds
 returns-clause-finds g c =
-    let told = c.perform_near.ensures.told in rw (sym c.self.view_is) (record { makes = told.makes; finds = told.tells })
+    let told = c.perform_near.ensures.told in
+    rw (sym c.self.view_is) (record { makes = told.makes; finds = told.tells })

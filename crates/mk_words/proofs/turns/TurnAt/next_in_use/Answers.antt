@@ -3,4 +3,6 @@ use Rattle.mk_words.proofs.MapSteps.{as_carried, next_known}
 use Rattle.mk_words.proofs.turns.TurnAt.next_in_use.Goals as goal
 
 pub returns : goal.returns
-returns g c = rw (sym c.self.view_is) (next_known c.self.inside.pass _ c.args.from _ (c.next_in_use.ensures _ _ (as_carried c.deref.ensures c.self.invariant).shows.words))
+returns g c =
+    let held = as_carried c.deref.ensures c.self.invariant in
+    rw (sym c.self.view_is) (next_known c.self.inside.pass _ c.args.from _ (c.next_in_use.ensures _ _ held.shows.words))

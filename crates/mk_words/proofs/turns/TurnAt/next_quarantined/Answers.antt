@@ -5,4 +5,5 @@ use Rattle.mk_words.proofs.turns.TurnAt.next_quarantined.Goals as goal
 pub returns : goal.returns
 returns g c =
     rw (sym c.self.view_is)
-    (next_known c.self.inside.pass _ c.args.from _ (c.next_quarantined.ensures _ _ (as_carried c.deref.ensures c.self.invariant).shows.words))
+    (next_known c.self.inside.pass _ c.args.from _ (c.next_quarantined.ensures _ _
+    (as_carried c.deref.ensures c.self.invariant).shows.words))
