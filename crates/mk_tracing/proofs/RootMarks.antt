@@ -1,9 +1,9 @@
 -- Roots that point well, one after the other.
 use Rattle.std.proofs.lemmas.Nat.{le_or_l, le_or_r}
 use Rattle.mk_laws.proofs.Vocabulary.{Config, Event, IsHistory, List, Null, Word, Words, ℕ, ap, arith, at_rest, bit_or}
-use Rattle.mk_laws.proofs.Vocabulary.{cases_lt, flight_among, get_or_past, histories_keep_lengths, inl, inr}
-use Rattle.mk_laws.proofs.Vocabulary.{leb-true, left, never_behind, points_well, register_word, slice_index}
-use Rattle.mk_laws.proofs.Vocabulary.{slice_index_or, subst, true, ◌%◌, ◌*◌, ◌+◌, ◌-◌, ◌/◌, ◌<◌, ◌∙◌, ◌≡◌, ◌≤◌}
+use Rattle.mk_laws.proofs.Vocabulary.{cases_lt, flight_among, get_or_past, histories_keep_lengths, inl, inr, leb-true}
+use Rattle.mk_laws.proofs.Vocabulary.{left, never_behind, points_well, register_word, slice_index, slice_index_or}
+use Rattle.mk_laws.proofs.Vocabulary.{subst, true, ◌%◌, ◌*◌, ◌+◌, ◌-◌, ◌/◌, ◌<◌, ◌∙◌, ◌≡◌, ◌≤◌}
 use Rattle.mk_core.specs.Words.{named_word}
 use Rattle.mk_laws.proofs.{InvariantHistories.histories_keep_the_invariant, Protocols.lists_keep_the_protocol}
 use Rattle.mk_tracing.proofs.MoreMarks.{marked_as, more_then, well_more, well_none, zero_none}

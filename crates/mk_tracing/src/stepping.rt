@@ -42,6 +42,7 @@ pub(crate) fn next_in_use(stop: &Stopped, from: u64) -> Option<u64>
 }
 
 /// Looks at a register or a global, whose value is then the hand.
+#[tactic(auto, using(crate::proofs::MaySteps::may_look))]
 #[inline(always)]
 pub(crate) fn look_at_root(table: Table, stop: &mut Stopped, x: Word) -> u64
     requires may { MayTrace table.words.now stop.old.pass }
@@ -57,6 +58,7 @@ pub(crate) fn look_at_root(table: Table, stop: &mut Stopped, x: Word) -> u64
 
 /// Looks at a word of a gray cell of this many words, whose value is then the hand, if it isn't 0. It stands on
 /// this page of the cell.
+#[tactic(auto, using(crate::proofs::StopSteps::word_near))]
 #[inline(always)]
 pub(crate) fn look_at_word(table: Table, stop: &mut Stopped, gray: Noted, part: u64, i: u64) -> u64
     requires may { MayTrace table.words.now stop.old.pass }
@@ -75,6 +77,7 @@ pub(crate) fn look_at_word(table: Table, stop: &mut Stopped, gray: Noted, part: 
 }
 
 /// Marks the cell into which the hand points.
+#[tactic(auto, using(crate::proofs::Stilled::mark_words))]
 #[inline(always)]
 pub(crate) fn mark_cell(table: Table, stop: &mut Stopped, cell: Cell)
     requires may { MayTrace table.words.now stop.old.pass }
@@ -87,6 +90,7 @@ pub(crate) fn mark_cell(table: Table, stop: &mut Stopped, cell: Cell)
 }
 
 /// Blackens a marked cell, whose words point well or aren't scanned.
+#[tactic(auto, using(crate::proofs::MaySteps::may_black_cell, crate::proofs::Stilled::black_words))]
 #[inline(always)]
 pub(crate) fn blacken_cell(table: Table, stop: &mut Stopped, cell: Cell)
     requires may { MayTrace table.words.now stop.old.pass }
@@ -101,6 +105,7 @@ pub(crate) fn blacken_cell(table: Table, stop: &mut Stopped, cell: Cell)
 }
 
 /// Clears the black word of a page of which a part is dirty.
+#[tactic(auto, using(crate::proofs::MaySteps::may_unblack_page, crate::proofs::Stilled::unblack_words))]
 pub(crate) fn clear_black(table: Table, stop: &mut Stopped, page: u64)
     requires may { MayTrace table.words.now stop.old.pass }
     requires page { page < table.pages }
@@ -113,6 +118,7 @@ pub(crate) fn clear_black(table: Table, stop: &mut Stopped, page: u64)
 }
 
 /// Clears a page's dirty word, where nothing of the page is black.
+#[tactic(auto, using(crate::proofs::MaySteps::may_undirty_page, crate::proofs::Stilled::undirty_words))]
 pub(crate) fn undirty_page(table: Table, stop: &mut Stopped, page: u64)
     requires may { MayTrace table.words.now stop.old.pass }
     requires page { page < table.pages }

@@ -1,5 +1,5 @@
-use Rattle.mk_laws.proofs.Vocabulary.{List, Page, Words, ap, header_of, head_page, head_page_under, refl}
-use Rattle.mk_laws.proofs.Vocabulary.{slice_index, sym, ◌∙◌, ◌≡◌, ◌≢◌}
+use Rattle.mk_laws.proofs.Vocabulary.{List, Page, Words, ap, head_page, head_page_under, header_of, refl, slice_index}
+use Rattle.mk_laws.proofs.Vocabulary.{sym, ◌∙◌, ◌≡◌, ◌≢◌}
 use Rattle.mk_tracing.proofs.Clearing.{black_cleared, blacks_cleared, cleared_unscanned, head_part, own_part, part_kept}
 use Rattle.mk_tracing.proofs.dirty.unblack_if_dirty.Goals.{After-head_page_under-head, After-look_at-header}
 use Rattle.mk_tracing.proofs.StopSteps.{on_then}

@@ -1,4 +1,4 @@
-use Rattle.mk_tracing.{proofs.NotedCells.one_more}
+use Rattle.mk_tracing.proofs.NotedCells.{one_more}
 use Rattle.mk_tracing.proofs.noting.mark_and_note.Goals as goal
 
 pub returns-in_default-clause-last : goal.returns-in_default-clause-last

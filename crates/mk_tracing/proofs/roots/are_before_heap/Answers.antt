@@ -1,5 +1,5 @@
 use Rattle.mk_laws.proofs.Vocabulary.{arith, ltb-true}
-use Rattle.mk_tracing.{proofs.RootMarks.next_look, proofs.RootMarks.no_look_yet}
+use Rattle.mk_tracing.proofs.RootMarks.{next_look, no_look_yet}
 use Rattle.mk_tracing.proofs.roots.are_before_heap.Goals as goal
 
 pub loop-i-init : goal.loop-i-init

@@ -1,9 +1,5 @@
-use Rattle.mk_laws.proofs.Vocabulary.{arith}
-use Rattle.mk_tracing.proofs.{MaySteps.may_look, Stilled.root_hand, StopSteps.looks_root}
+use Rattle.mk_tracing.proofs.{Stilled.root_hand, StopSteps.looks_root}
 use Rattle.mk_tracing.proofs.stepping.look_at_root.Goals as goal
-
-pub look_among-requires-clause-enabled : goal.look_among-requires-clause-enabled
-look_among-requires-clause-enabled c = grind (arith, may_look)
 
 pub returns-clause-looks : goal.returns-clause-looks
 returns-clause-looks c =

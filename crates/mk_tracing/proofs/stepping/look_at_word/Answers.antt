@@ -1,16 +1,7 @@
 use Rattle.mk_laws.proofs.Vocabulary.{arith}
-use Rattle.mk_tracing.proofs.StopSteps.{gray_word, looks_word, word_found, word_hand, word_named, word_near}
+use Rattle.mk_tracing.proofs.StopSteps.{gray_word, looks_word, word_found, word_hand, word_named}
 use Rattle.mk_tracing.proofs.{CellWords.page_of_word, MaySteps.may_look}
 use Rattle.mk_tracing.proofs.stepping.look_at_word.Goals as goal
-
-pub overflow_mul-word-2 : goal.overflow_mul-word-2
-overflow_mul-word-2 c = grind (arith, word_near)
-
-pub overflow_add-word : goal.overflow_add-word
-overflow_add-word c = grind (arith, word_near)
-
-pub overflow_add-word-2 : goal.overflow_add-word-2
-overflow_add-word-2 c = grind (arith, word_near)
 
 pub look_on_page-requires-clause-enabled : goal.look_on_page-requires-clause-enabled
 look_on_page-requires-clause-enabled c = grind (arith, may_look, word_named)

@@ -1,6 +1,6 @@
 use Rattle.mk_laws.proofs.Vocabulary.{arith}
 use Rattle.mk_tracing.proofs.StopSteps.{on_mark, reached_in_use, reached_within}
-use Rattle.mk_tracing.proofs.{MaySteps.may_mark_cell, Stilled.mark_words}
+use Rattle.mk_tracing.proofs.MaySteps.{may_mark_cell}
 use Rattle.mk_tracing.proofs.stepping.mark_cell.Goals as goal
 
 pub bit-requires : goal.bit-requires
@@ -18,6 +18,3 @@ returns-clause-on c =
     on_mark c.requires.may.wanted
     (c.is_in_order.ensures.turn.holds, c.is_in_order.ensures.gates) c.is_in_order.ensures.own c.mark_in_use.ensures.op
     c.args.cell (rw c.bit.ensures at c.mark_in_use.ensures.acts) c.requires.reached
-
-pub returns-clause-words : goal.returns-clause-words
-returns-clause-words c = grind (arith, mark_words)
