@@ -34,7 +34,7 @@ fn note(table: Table, stop: &mut Stopped, work: &mut Worklist, cell: Cell)
 
 /// Marks what the hand points into, whatever its page is by this header word, and notes it, if it wasn't marked yet.
 #[inline(never)]
-fn mark_under(table: Table, stop: &mut Stopped, work: &mut Worklist, header: u64, value: u64)
+fn mark_under(stop: &mut Stopped, work: &mut Worklist, table: Table, header: u64, value: u64)
     requires may { MayTrace table.words.now stop.old.pass }
     requires hand { value ≢ 0 → IsInHand stop.old.pass value }
     requires header { header ≡ header_at (still_words stop.old.pass) (page_at_address value) }
@@ -71,7 +71,7 @@ fn mark_pointed(
 {
     let header = look_at(table, stop, Word::Head(page));
     if header == 0 || header > LAST_BLOCK {
-        mark_under(table, stop, work, header, value);
+        mark_under(stop, work, table, header, value);
         return None;
     }
     let Some(noted) = Noted::in_block(header - 1, page, value / WORD_BYTES % PAGE_WORDS) else {
@@ -125,9 +125,10 @@ pub(crate) fn mark_and_note(
 }
 
 /// Marks what the hand points into, and puts what is noted of it into the list. It isn't inlined: it is for values that
-/// seldom are addresses of the heap.
+/// seldom are addresses of the heap. The table comes after the list, so that a shift takes the register of the number
+/// of pages, and not that of the list.
 #[inline(never)]
-fn mark_apart(table: Table, stop: &mut Stopped, work: &mut Worklist, value: u64)
+fn mark_apart(stop: &mut Stopped, work: &mut Worklist, table: Table, value: u64)
     requires may { MayTrace table.words.now stop.old.pass }
     requires hand { value ≢ 0 → IsInHand stop.old.pass value }
     ensures marks { MarksAndNotes table.entry.pages stop.old work.old stop.new work.new }
@@ -148,5 +149,5 @@ pub(crate) fn mark_address(table: Table, stop: &mut Stopped, work: &mut Worklist
     if value < HEAP_START {
         return;
     }
-    mark_apart(table, stop, work, value);
+    mark_apart(stop, work, table, value);
 }
