@@ -1,6 +1,5 @@
 -- What a turn knows of the table after its own steps.
-use Rattle.mk_laws.proofs.Vocabulary.{Holding}
-use Rattle.mk_laws.proofs.Vocabulary.{Bool, Config, Event, Holds, Host, List, Moment, Seat, Step, TalliesAreTidy, Word}
+use Rattle.mk_laws.proofs.Vocabulary.{Bool, Config, Event, Holding, Holds, Host, List, Seat, Step, TalliesAreTidy, Word}
 use Rattle.mk_laws.proofs.Vocabulary.{World, ℕ, and_from, ap, arith, at_rest, cases_eq, cases_lt, eq-eqb, eqb-false}
 use Rattle.mk_laws.proofs.Vocabulary.{eqb-true, false, get_or-set_other, get_or-set_same, get_or_past, group_of}
 use Rattle.mk_laws.proofs.Vocabulary.{has_gates, has_phase, holder_may, inl, inr, is_end, is_held, is_in_range}
@@ -8,13 +7,13 @@ use Rattle.mk_laws.proofs.Vocabulary.{is_open_to, left, length, length-set, lt-l
 use Rattle.mk_laws.proofs.Vocabulary.{others_are_held, outside, phase_of, refl, slice_index, slice_set, subst, sym}
 use Rattle.mk_laws.proofs.Vocabulary.{true, true≢false, world_behind, [], ◌++◌, ◌+◌, ◌<◌, ◌==◌, ◌∙◌, ◌∷◌, ◌≡◌, ◌≢◌, ◌≤◌}
 use Rattle.mk_laws.proofs.Vocabulary.{◌⊎◌}
-use Rattle.mk_core.{proofs.Conditions.meets_enabled, specs.Effects.moment_behind, specs.Frames.CountsAreLeft}
-use Rattle.mk_core.{specs.Frames.steady_of, specs.Moments.none_is_held, specs.Order.comes_next_to_host}
+use Rattle.mk_core.proofs.Conditions.{meets_enabled}
+use Rattle.mk_core.specs.{Frames.CountsAreLeft, Frames.steady_of, Moments.none_is_held, Order.comes_next_to_host}
 use Rattle.mk_laws.proofs.{Asked.none_held, TallySteps.CountsNothing}
 use Rattle.mk_words.proofs.{Tallies.counts_tidy_more, TurnSteps.all_from}
-use Rattle.mk_words.specs.States.{PassState, now_of, world_of}
+use Rattle.mk_words.specs.States.{PassState, WordsState, now_of, world_of}
 use Rattle.mk_words.specs.{Opening.OthersMayOpen, Steps.IsEnabledTo, TurnSteps.Acts, TurnSteps.world_at}
-use Rattle.mk_words_clients.specs.Clients.{HoldsBelow, MayGiveBack, Settled}
+use Rattle.mk_words_clients.specs.Clients.{HoldsBelow, MayGiveBack, Settled, StaysTidy}
 
 -- kinds that leave the steady words, the allocations and the freed run alone
 abbrev pub leaves_steady : Step → Bool
@@ -218,6 +217,24 @@ opens_last p q j h a = record {
       stays_held p q (Step.Open j) a i (open_elsewhere p q j a i other) (h.held i (omega arith)));
   free = λ i le lt.
       open_frees p q j a i (λ other. h.free i (omega arith) (within p q (Step.Open j) a i lt));
+}
+
+-- The gates of the callers below one are held, and all else is as at first.
+pub record HoldsSoFar (t : WordsState) (first now : PassState) (caller : ℕ) : Type 0 where
+  pub one_table : now.table ≡ t
+  pub settled : Settled now
+  pub within : caller ≤ t.config.callers
+  pub holds : HoldsBelow now caller
+  pub tidy : StaysTidy first now
+
+pub holds_on : {t : WordsState} {first p q : PassState} {k j : ℕ} (s : Step) → Acts p s q → leaves_steady s ≡ true
+    → HoldsSoFar t first p k → j ≤ t.config.callers → HoldsBelow q j → HoldsSoFar t first q j
+holds_on s a alone before within holds = record {
+  one_table = ap (λ (r : PassState). r.table) a.makes.is ∙ before.one_table;
+  settled = settled_kept _ _ s a alone before.settled;
+  within = within;
+  holds = holds;
+  tidy = λ t. tidy_kept _ _ s a before.settled.seat alone (before.tidy t);
 }
 
 pub holds_none : (p : PassState) → none_is_held p.table.config.callers (now_of p).words ≡ true → HoldsBelow p 0
