@@ -50,8 +50,8 @@ module _ {t u : TurnState} (a : Acts t.pass (Step.Look Word.Phase) u.pass) (own 
     ready = still_ready t.pass u.pass (Step.Look Word.Phase) a.makes still ready;
     phase = ap (λ (w : World). phase_of w.now.words) a.world
         ∙ phase_there t.pass u.pass (Step.Look Word.Phase) a ∙ two;
-    traces = traces_step is_waiting TracesReached is_want t.pass u.pass (Step.Look Word.Phase) a.makes 0 own refl tt still
-        (step_counts t.pass u.pass (Step.Look Word.Phase) a refl) refl;
+    traces = traces_step is_waiting TracesReached is_want t.pass u.pass (Step.Look Word.Phase) a.makes 0 own refl tt
+        still (step_counts t.pass u.pass (Step.Look Word.Phase) a refl) refl;
   }
 
   -- no marker is in

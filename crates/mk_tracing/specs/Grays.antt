@@ -73,7 +73,7 @@ pub record LooksOn (t u : TurnState) : Type 0 where
   pub on : MarksOn t u
   pub words : still_words u.pass ≡ still_words t.pass
 
--- The close is wanted, so often by the steps between, and its holder looks until no marker is in. All else is as it was.
+-- The close is wanted, by this many steps between, and the holder looks until no marker is in. All else is as it was.
 pub record WaitsForMarkers (t u : TurnState) (wishes : ℕ) : Type 0 where
   pub table : u.pass.table ≡ t.pass.table
   pub op : u.op ≡ t.op

@@ -9,5 +9,6 @@ returns-clause-waits c =
 pub returns-clause-wanted : goal.returns-clause-wanted
 returns-clause-wanted c =
     look_wanted c.look-found.ensures.acts c.is_in_order.ensures.own c.requires.ready
-    (c.is_in_order.ensures.turn.holds, c.is_in_order.ensures.gates) c.look-found.ensures.op c.requires.phase c.look-found.result
+    (c.is_in_order.ensures.turn.holds, c.is_in_order.ensures.gates) c.look-found.ensures.op
+    c.requires.phase c.look-found.result
     c.look-found.ensures.finds c.is_in_order-2.ensures.history
