@@ -25,8 +25,8 @@ last_stays : (pages : ℕ) (w v : Words) (last : Option Noted) → Stays w v →
 last_stays pages w v None stays noted = noted
 last_stays pages w v (Some last) stays noted = one_stays pages w v last stays noted
 
-pub noted_same : (pages : ℕ) (w v : Words) (work : Worklist) → v ≡ w → AreNoted pages w work → AreNoted pages v work
-noted_same pages w v work same noted = subst (λ (y : Words). AreNoted pages y work) (sym same) noted
+pub noted_same : {w v : Words} (pages : ℕ) (work : Worklist) → v ≡ w → AreNoted pages w work → AreNoted pages v work
+noted_same pages work same noted = subst (λ (y : Words). AreNoted pages y work) (sym same) noted
 
 pub noted_more : (pages : ℕ) (w v : Words) (work : Worklist) → MarksMore w v → AreNoted pages w work
     → AreNoted pages v work
@@ -36,12 +36,11 @@ pub noted_black : (pages page bits : ℕ) (w v : Words) (work : Worklist) → v 
     → AreNoted pages w work → AreNoted pages v work
 noted_black pages page bits w v work is noted k d lt = grind (arith, one_stays, black_stays)
 
-pub one_same : (pages : ℕ) (w v : Words) (noted : Noted) → v ≡ w → IsNoted pages w noted → IsNoted pages v noted
-one_same pages w v noted same is = subst (λ (y : Words). IsNoted pages y noted) (sym same) is
+pub one_same : {pages : ℕ} {w v : Words} {noted : Noted} → v ≡ w → IsNoted pages w noted → IsNoted pages v noted
+one_same {pages} {noted = noted} same is = subst (λ (y : Words). IsNoted pages y noted) (sym same) is
 
-pub one_more : (pages : ℕ) (w v : Words) (noted : Noted) → MarksMore w v → IsNoted pages w noted
-    → IsNoted pages v noted
-one_more pages w v noted more = one_stays pages w v noted (more_stays w v more)
+pub one_more : {pages : ℕ} {w v : Words} {noted : Noted} → MarksMore w v → IsNoted pages w noted → IsNoted pages v noted
+one_more {pages} {w} {v} {noted} more = one_stays pages w v noted (more_stays w v more)
 
 pub last_black : (pages page bits : ℕ) (w v : Words) (last : Option Noted) → v ≡ with_blacks page bits w
     → IfSome last (IsNoted pages w) → IfSome last (IsNoted pages v)

@@ -7,20 +7,21 @@ use Rattle.mk_laws.proofs.Vocabulary.{◌∙◌, ◌≡◌, ◌≢◌, ◌≤◌
 use Rattle.mk_geom.proofs.HeaderLemmas.{header_of-word_of}
 use Rattle.mk_geom.specs.Addresses.{cell_of_block, cell_under, word_at_address}
 use Rattle.mk_tracing.proofs.MoreMarks.{hand_kept, some_not_zero, well_none, well_some}
-use Rattle.mk_tracing.specs.{Grays.HandPointsInto, Grays.IsInHand, Grays.MarksMore, Stops.hand_of, Stops.still_words}
+use Rattle.mk_tracing.specs.Grays.{HandPointsInto, IsInHand, LooksOn, MarksMore}
+use Rattle.mk_tracing.specs.Stops.{hand_of, still_words}
 use Rattle.mk_turns.proofs.PointedCells.{found_by_header}
-use Rattle.mk_words.specs.States.{PassState, WordsState}
+use Rattle.mk_words.specs.States.{PassState, TurnState}
 
 -- The hand points into the cell that its value points into.
-pub hand_points : (p : PassState) (t : WordsState) (value : ℕ) (cell : Cell) → p.table ≡ t
-    → (value ≢ 0 → IsInHand p value) → pointed_cell t.config.pages (still_words p).pages value ≡ Some cell
+pub hand_points : (p : PassState) (pages value : ℕ) (cell : Cell) → pages ≡ p.table.config.pages
+    → (value ≢ 0 → IsInHand p value) → pointed_cell pages (still_words p).pages value ≡ Some cell
     → HandPointsInto p cell
-hand_points p t value cell table hand points = grind (arith, some_not_zero)
+hand_points p pages value cell sized hand points = grind (arith, some_not_zero)
 
--- It goes on doing so through looks that leave the hand and the words.
-pub points_on : (p q : PassState) (cell : Cell) → q.table ≡ p.table → still_words q ≡ still_words p
-    → hand_of q ≡ hand_of p → HandPointsInto p cell → HandPointsInto q cell
-points_on p q cell table words hand r = grind (arith, hand_kept)
+-- It goes on doing so through looks that leave the hand.
+pub points_on : {t u : TurnState} (cell : Cell) → LooksOn t u → hand_of u.pass ≡ hand_of t.pass
+    → HandPointsInto t.pass cell → HandPointsInto u.pass cell
+points_on cell looks hand r = grind (arith, hand_kept)
 
 -- A value that points into a cell that is marked after marks points well, and one that points into nothing.
 

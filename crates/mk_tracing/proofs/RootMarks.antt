@@ -2,13 +2,13 @@
 use Rattle.std.proofs.lemmas.Nat.{le_or_l, le_or_r}
 use Rattle.mk_laws.proofs.Vocabulary.{Config, Event, IsHistory, List, Null, Word, Words, ℕ, ap, arith, at_rest, bit_or}
 use Rattle.mk_laws.proofs.Vocabulary.{cases_lt, flight_among, get_or_past, histories_keep_lengths, inl, inr, leb-true}
-use Rattle.mk_laws.proofs.Vocabulary.{left, never_behind, points_well, refl, register_word, slice_index, slice_index_or}
+use Rattle.mk_laws.proofs.Vocabulary.{left, never_behind, points_well, register_word, slice_index, slice_index_or}
 use Rattle.mk_laws.proofs.Vocabulary.{subst, true, ◌%◌, ◌*◌, ◌+◌, ◌-◌, ◌/◌, ◌<◌, ◌∙◌, ◌≡◌, ◌≤◌}
 use Rattle.mk_core.specs.Words.{named_word}
 use Rattle.mk_laws.proofs.{InvariantHistories.histories_keep_the_invariant, Protocols.lists_keep_the_protocol}
 use Rattle.mk_tracing.proofs.MoreMarks.{marked_as, more_then, well_more, well_none, zero_none}
-use Rattle.mk_tracing.proofs.{ScannedWords.notes_then, StopSteps.on_from, StopSteps.on_then}
-use Rattle.mk_tracing.specs.Grays.{GlobalIsWell, MarksMore, MarksOn, RegistersAreWell, RootsPointWell}
+use Rattle.mk_tracing.proofs.{ScannedWords.notes_then, StopSteps.looks_from, StopSteps.looks_then}
+use Rattle.mk_tracing.specs.Grays.{GlobalIsWell, LooksOn, MarksMore, RegistersAreWell, RootsPointWell}
 use Rattle.mk_tracing.specs.Stops.{IsWanted, is_root, still_words}
 use Rattle.mk_tracing.specs.{Scans.MarksAndNotes, declared.worklist.Worklist.Worklist}
 use Rattle.mk_turns.proofs.PointedCells.{outside_none}
@@ -77,20 +77,17 @@ most_then value all next i before is j lt = grind (arith, cases_lt, le_or_l, le_
 
 -- Words that are looked at, one after the other: each is at most what all come to.
 pub record LooksAtMost (t u : TurnState) (value : Words → ℕ → ℕ) (all n : ℕ) : Type 0 where
-  pub on : MarksOn t u
-  pub words : still_words u.pass ≡ still_words t.pass
+  pub looks : LooksOn t u
   pub most : (j : ℕ) → j < n → value (still_words t.pass) j ≤ all
 
 pub no_look_yet : {t : TurnState} {value : Words → ℕ → ℕ} → IsWanted t.pass → LooksAtMost t t value 0 0
-no_look_yet wanted = record { on = on_from _ wanted; words = refl; most = λ j lt. absurd (omega arith) }
+no_look_yet wanted = record { looks = looks_from wanted; most = λ j lt. absurd (omega arith) }
 
 pub next_look : {t u v : TurnState} {value : Words → ℕ → ℕ} {all next i : ℕ} → LooksAtMost t u value all i
-    → MarksOn u v → still_words v.pass ≡ still_words u.pass → next ≡ value (still_words u.pass) i
-    → LooksAtMost t v value (bit_or all next) (i + 1)
-next_look {t} {value = value} {all} {next} {i} before on words found = record {
-  on = on_then _ _ _ before.on on;
-  words = words ∙ before.words;
-  most = most_then (value _) all next i before.most (found ∙ ap (λ (w : Words). value w i) before.words);
+    → LooksOn u v → next ≡ value (still_words u.pass) i → LooksAtMost t v value (bit_or all next) (i + 1)
+next_look {value = value} {all} {next} {i} before look found = record {
+  looks = looks_then before.looks look;
+  most = most_then (value _) all next i before.most (found ∙ ap (λ (w : Words). value w i) before.looks.words);
 }
 
 -- Each global of the groups below one points well, and so do those of the next.

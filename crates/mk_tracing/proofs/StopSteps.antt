@@ -4,27 +4,33 @@ use Rattle.mk_laws.proofs.Vocabulary.{arith, cell_words, first_word, header_at, 
 use Rattle.mk_laws.proofs.Vocabulary.{subst, sym, true, ◌*◌, ◌+◌, ◌<◌, ◌^◌, ◌∙◌, ◌≡◌, ◌≢◌}
 use Rattle.mk_core.{proofs.PointedPages.pointed_within, specs.Frames.HoldsAll, specs.Ranges.is_word}
 use Rattle.mk_tracing.proofs.CellWords.{cell_of_word, words_in_heap}
-use Rattle.mk_tracing.proofs.Stilled.{but_phase, look_finds, marked_hand, marks_on}
+use Rattle.mk_tracing.proofs.Stilled.{but_phase, look_finds, look_words, marked_hand, marks_on}
 use Rattle.mk_tracing.proofs.{MaySteps.marks_by, Parts.traces_nothing, Parts.traces_then, Steps.is_quiet}
-use Rattle.mk_tracing.specs.Grays.{HandPointsInto, HasDirtyPart, IsDue, IsGray, IsGrayWord, IsInHand, MarksOn}
+use Rattle.mk_tracing.specs.Grays.{HandPointsInto, HasDirtyPart, IsGray, IsGrayWord, IsInHand, LooksOn, MarksOn}
 use Rattle.mk_tracing.specs.Grays.{MarksReached, ReachedMarksSweepNothing, TracesReached}
-use Rattle.mk_tracing.specs.{Stops.IsWanted, Stops.is_page_word, Stops.is_root, Stops.still_words, Tracing.is_marking}
+use Rattle.mk_tracing.specs.Stops.{IsWanted, is_page_word, is_root, still_words}
+use Rattle.mk_tracing.specs.{Noted.IsDue, declared.noted.Noted.Noted}
 use Rattle.mk_words.proofs.Unmarked.{pointed_has_header}
-use Rattle.mk_words.specs.States.{PassState, TurnState, WordsState, now_of}
-use Rattle.mk_words.specs.{Seats.Has, Steps.Finds, TurnSteps.Acts}
+use Rattle.mk_words.specs.{Seats.Has, States.PassState, States.TurnState, States.now_of, Steps.Finds, TurnSteps.Acts}
 
--- The marking goes on, and on.
+-- The marking goes on, and on, and so do looks.
 
-pub on_from : (t : TurnState) → IsWanted t.pass → MarksOn t t
-on_from t wanted = grind (arith, traces_nothing)
+pub on_from : {t : TurnState} → IsWanted t.pass → MarksOn t t
+on_from wanted = grind (arith, traces_nothing)
 
-pub on_then : (t u v : TurnState) → MarksOn t u → MarksOn u v → MarksOn t v
-on_then t u v one two = record {
+pub on_then : {t u v : TurnState} → MarksOn t u → MarksOn u v → MarksOn t v
+on_then one two = record {
   table = two.table ∙ one.table;
   op = two.op ∙ one.op;
   wanted = two.wanted;
-  traces = traces_then is_marking TracesReached t.pass u.pass v.pass one.traces two.traces;
+  traces = traces_then _ _ _ _ _ one.traces two.traces;
 }
+
+pub looks_from : {t : TurnState} → IsWanted t.pass → LooksOn t t
+looks_from wanted = record { on = on_from wanted; words = refl }
+
+pub looks_then : {t u v : TurnState} → LooksOn t u → LooksOn u v → LooksOn t v
+looks_then one two = record { on = on_then one.on two.on; words = two.words ∙ one.words }
 
 -- what each step keeps to
 
@@ -55,23 +61,28 @@ reached_there : (p : PassState) (w : World) (cell : Cell) → but_phase w.now.wo
     → HandPointsInto p cell → MarksReached p.table.config w.now cell.page (2 ^ cell.index)
 reached_there p w cell same holding r = grind (arith, marks_by)
 
-module _ (t u : TurnState) (wanted : IsWanted t.pass) (all : HoldsAll t.pass.table.config (now_of t.pass) t.pass.seat)
+module _ {t u : TurnState} (wanted : IsWanted t.pass) (all : HoldsAll t.pass.table.config (now_of t.pass) t.pass.seat)
     (own : Has t.pass.seats t.pass.seat) (same : u.op ≡ t.op) where
-  pub on_plain : (x : Word) → Acts t.pass (Step.Look x) u.pass → is_page_word x ≡ true → MarksOn t u
-  on_plain x a plain =
-      marks_on t.pass u.pass wanted all own (Step.Look x) a (plain_quiet x plain) t.op u.op same
-      (λ w e h. looks_freely t.pass.table.config w.now x plain)
+  looks_on : (x : Word) → Acts t.pass (Step.Look x) u.pass → is_quiet (Step.Look x) ≡ true
+      → ((w : World) → but_phase w.now.words ≡ still_words t.pass
+      → TracesReached t.pass.table.config w.now (Step.Look x))
+      → LooksOn t u
+  looks_on x a quiet ruled = record {
+    on = marks_on t.pass u.pass wanted all own (Step.Look x) a quiet t.op u.op same (λ w e h. ruled w e);
+    words = look_words t.pass u.pass wanted all x a;
+  }
 
-  pub on_root : (x : Word) → Acts t.pass (Step.Look x) u.pass → is_root x ≡ true → MarksOn t u
-  on_root x a root =
-      marks_on t.pass u.pass wanted all own (Step.Look x) a (root_quiet x root) t.op u.op same
-      (λ w e h. looks_at_root t.pass.table.config w.now x root)
+  pub looks_plain : (x : Word) → Acts t.pass (Step.Look x) u.pass → is_page_word x ≡ true → LooksOn t u
+  looks_plain x a plain = looks_on x a (plain_quiet x plain) (λ w e. looks_freely t.pass.table.config w.now x plain)
 
-  pub on_word : (n : ℕ) → Acts t.pass (Step.Look (Word.Heap n)) u.pass
-      → IsGrayWord t.pass.table.config.pages (still_words t.pass) n → MarksOn t u
-  on_word n a gray =
-      marks_on t.pass u.pass wanted all own (Step.Look (Word.Heap n)) a refl t.op u.op same
-      (λ w e h. gray_there t.pass.table.config.pages n w.now.words (still_words t.pass) e gray)
+  pub looks_root : (x : Word) → Acts t.pass (Step.Look x) u.pass → is_root x ≡ true → LooksOn t u
+  looks_root x a root = looks_on x a (root_quiet x root) (λ w e. looks_at_root t.pass.table.config w.now x root)
+
+  pub looks_word : (n : ℕ) → Acts t.pass (Step.Look (Word.Heap n)) u.pass
+      → IsGrayWord t.pass.table.config.pages (still_words t.pass) n → LooksOn t u
+  looks_word n a gray =
+      looks_on (Word.Heap n) a refl
+      (λ w e. gray_there t.pass.table.config.pages n w.now.words (still_words t.pass) e gray)
 
   pub on_mark : (cell : Cell) → Acts t.pass (Step.Mark cell.page (2 ^ cell.index)) u.pass → HandPointsInto t.pass cell
       → MarksOn t u
@@ -91,22 +102,25 @@ module _ (t u : TurnState) (wanted : IsWanted t.pass) (all : HoldsAll t.pass.tab
   pub on_undirty : (page : ℕ) → Acts t.pass (Step.Undirty page) u.pass → MarksOn t u
   on_undirty page a = marks_on t.pass u.pass wanted all own (Step.Undirty page) a refl t.op u.op same (λ w e h. tt)
 
--- A word of a gray cell of this many words.
-module _ (p : PassState) (history : IsHistory p.table.config p.seen) (t : WordsState) (table : p.table ≡ t)
-    (cell : Cell) (size i : ℕ) (due : IsDue t.config.pages (still_words p) cell size) (lt : i < size) where
+-- A word of a gray cell.
+module _ (p : PassState) (history : IsHistory p.table.config p.seen) (pages : ℕ) (sized : pages ≡ p.table.config.pages)
+    (noted : Noted) (i : ℕ) (due : IsDue pages (still_words p) noted) (lt : i < noted.words) where
+  abbrev cell : Cell
+  cell = noted.cell
+
   abbrev n : ℕ
-  n = 64 * cell.page + cell.index * size + i
+  n = 64 * cell.page + cell.index * noted.words + i
 
   gray : IsGray p.table.config.pages (still_words p) cell
-  gray = subst (λ (x : WordsState). IsGray x.config.pages (still_words p) cell) (sym table) due.gray
+  gray = subst (λ k. IsGray k (still_words p) cell) sized due.gray
 
   within : i < cell_words (still_words p) cell
   within = subst (λ k. i < k) due.words lt
 
-  pub same_word : 64 * cell.page + cell.index * size + i ≡ first_word (still_words p) cell + i
+  pub same_word : 64 * cell.page + cell.index * noted.words + i ≡ first_word (still_words p) cell + i
   same_word = ap (λ k. 64 * cell.page + cell.index * k + i) due.words
 
-  pub gray_word : IsGrayWord p.table.config.pages (still_words p) (64 * cell.page + cell.index * size + i)
+  pub gray_word : IsGrayWord p.table.config.pages (still_words p) (64 * cell.page + cell.index * noted.words + i)
   gray_word = grind (arith, within, same_word, gray)
 
   in_heap : n < 64 * p.table.config.pages
@@ -114,15 +128,15 @@ module _ (p : PassState) (history : IsHistory p.table.config p.seen) (t : WordsS
       subst (λ k. k < 64 * p.table.config.pages) (sym same_word)
       (words_in_heap p.table.config p.seen cell i history gray.page gray.index due.scanned within)
 
-  pub word_named : is_word p.table.config (Word.Heap (64 * cell.page + cell.index * size + i)) ≡ true
+  pub word_named : is_word p.table.config (Word.Heap (64 * cell.page + cell.index * noted.words + i)) ≡ true
   word_named = lt-ltb n (64 * p.table.config.pages) in_heap
 
-  pub word_near : 64 * cell.page + cell.index * size + i < 262144
+  pub word_near : 64 * cell.page + cell.index * noted.words + i < 262144
   word_near = let near = in_heap in let few = history.within_limits.pages.1 in omega arith
 
-  module _ (q : PassState) (wanted : IsWanted p) (all : HoldsAll p.table.config (now_of p) p.seat) (v : ℕ)
-      (a : Acts p (Step.Look (Word.Heap (64 * cell.page + cell.index * size + i))) q)
-      (finds : Finds p (Step.Look (Word.Heap (64 * cell.page + cell.index * size + i))) v q) where
+  module _ {q : PassState} {v : ℕ} (wanted : IsWanted p) (all : HoldsAll p.table.config (now_of p) p.seat)
+      (a : Acts p (Step.Look (Word.Heap (64 * cell.page + cell.index * noted.words + i))) q)
+      (finds : Finds p (Step.Look (Word.Heap (64 * cell.page + cell.index * noted.words + i))) v q) where
     pub word_found : v ≡ slice_index (still_words p).heap (first_word (still_words p) cell + i)
     word_found = cc (look_finds p q wanted all (Word.Heap n) a v finds refl, same_word)
 

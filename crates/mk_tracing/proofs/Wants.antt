@@ -1,14 +1,15 @@
 -- The wish to close the marks, and the looks at the phase after it.
 use Rattle.mk_laws.proofs.Vocabulary.{Config, IsHistory, Moment, Steady, Step, Word, World, ℕ, ap, arith, false}
 use Rattle.mk_laws.proofs.Vocabulary.{phase_of, refl, true, ◌%◌, ◌+◌, ◌<◌, ◌^◌, ◌∙◌, ◌≡◌}
-use Rattle.mk_core.specs.{Frames.HoldsAll, Readings.NoneAttends}
+use Rattle.mk_core.specs.Frames.{HoldsAll}
 use Rattle.mk_laws.proofs.ProtocolReadings.{words_tell}
 use Rattle.mk_tracing.proofs.Parts.{counted_then, counted_wider, traces_step, traces_wider}
 use Rattle.mk_tracing.proofs.Steps.{step_counts, step_untouched, still_ready}
-use Rattle.mk_tracing.specs.Tracing.{Counted, Traces, is_marking, is_tracing, is_waiting, is_want}
-use Rattle.mk_tracing.specs.{Grays.TracesReached, Stops.HolderIsLoaded}
+use Rattle.mk_tracing.specs.Tracing.{Counted, Traces, is_marking, is_tracing, is_waiting, is_want, untouched_of}
+use Rattle.mk_tracing.specs.{Grays.TracesReached, Grays.WaitsForMarkers, Stops.HolderIsLoaded, Stops.IsWanted}
 use Rattle.mk_turns.proofs.PointedCells.{found_there}
-use Rattle.mk_words.specs.{Seats.Has, States.PassState, States.now_of, Steps.Finds, TurnSteps.Acts, TurnSteps.world_at}
+use Rattle.mk_words.specs.States.{PassState, TurnState, now_of, world_of}
+use Rattle.mk_words.specs.{Seats.Has, Steps.Finds, TurnSteps.Acts, TurnSteps.world_at}
 
 phase_there : (p q : PassState) (s : Step) (a : Acts p s q)
     → phase_of (world_at a.makes).now.words ≡ phase_of (now_of p).words
@@ -17,46 +18,60 @@ phase_there p q s a = ap (λ (x : Steady). x.phase) a.turn.steady
 one_more : (n : ℕ) → n % 8 ≡ 1 → (n + 1) % 2 ^ 64 % 8 ≡ 2
 one_more n h = omega arith
 
-module _ (p q : PassState) (a : Acts p Step.Want q) (own : Has p.seats p.seat) (ready : HolderIsLoaded p)
-    (all : HoldsAll p.table.config (now_of p) p.seat) where
-  pub want_traces : Counted is_waiting TracesReached is_want p q 1
-  want_traces =
-      traces_step is_waiting TracesReached is_want p q Step.Want a.makes 1 own refl tt
-      (step_untouched p q Step.Want a refl all refl)
-      (step_counts p q Step.Want a refl) refl
+module _ {t u : TurnState} (a : Acts t.pass Step.Want u.pass) (own : Has t.pass.seats t.pass.seat)
+    (ready : HolderIsLoaded t.pass) (all : HoldsAll t.pass.table.config (now_of t.pass) t.pass.seat)
+    (same : u.op ≡ t.op) where
+  untouched : untouched_of (world_of u.pass) ≡ untouched_of (world_of t.pass)
+  untouched = step_untouched t.pass u.pass Step.Want a refl all refl
 
-  pub want_ready : HolderIsLoaded q
-  want_ready = still_ready p q Step.Want a.makes (step_untouched p q Step.Want a refl all refl) ready
-
-  pub want_phase : phase_of (now_of p).words ≡ 1 → phase_of (now_of q).words ≡ 2
+  want_phase : phase_of (now_of t.pass).words ≡ 1 → phase_of (now_of u.pass).words ≡ 2
   want_phase one = grind (arith, one_more, phase_there)
 
-module _ (p q : PassState) (a : Acts p (Step.Look Word.Phase) q) (own : Has p.seats p.seat) (ready : HolderIsLoaded p)
-    (all : HoldsAll p.table.config (now_of p) p.seat) where
-  pub look_traces : Counted is_waiting TracesReached is_want p q 0
-  look_traces =
-      traces_step is_waiting TracesReached is_want p q (Step.Look Word.Phase) a.makes 0 own refl tt
-      (step_untouched p q (Step.Look Word.Phase) a refl all refl)
-      (step_counts p q (Step.Look Word.Phase) a refl) refl
+  pub want_waits : phase_of (now_of t.pass).words ≡ 1 → WaitsForMarkers t u 1
+  want_waits one = record {
+    table = ap (λ (p : PassState). p.table) a.makes.is;
+    op = same;
+    ready = still_ready t.pass u.pass Step.Want a.makes untouched ready;
+    phase = want_phase one;
+    traces = traces_step is_waiting TracesReached is_want t.pass u.pass Step.Want a.makes 1 own refl tt untouched
+        (step_counts t.pass u.pass Step.Want a refl) refl;
+  }
 
-  pub look_ready : HolderIsLoaded q
-  look_ready = grind (arith, still_ready, step_untouched)
+module _ {t u : TurnState} (a : Acts t.pass (Step.Look Word.Phase) u.pass) (own : Has t.pass.seats t.pass.seat)
+    (ready : HolderIsLoaded t.pass) (all : HoldsAll t.pass.table.config (now_of t.pass) t.pass.seat)
+    (same : u.op ≡ t.op) (two : phase_of (now_of t.pass).words ≡ 2) where
+  still : untouched_of (world_of u.pass) ≡ untouched_of (world_of t.pass)
+  still = step_untouched t.pass u.pass (Step.Look Word.Phase) a refl all refl
 
-  pub look_phase : phase_of (now_of q).words ≡ phase_of (now_of p).words
-  look_phase = ap (λ (w : World). phase_of w.now.words) a.world ∙ phase_there p q (Step.Look Word.Phase) a
+  pub look_waits : WaitsForMarkers t u 0
+  look_waits = record {
+    table = ap (λ (p : PassState). p.table) a.makes.is;
+    op = same;
+    ready = still_ready t.pass u.pass (Step.Look Word.Phase) a.makes still ready;
+    phase = ap (λ (w : World). phase_of w.now.words) a.world
+        ∙ phase_there t.pass u.pass (Step.Look Word.Phase) a ∙ two;
+    traces = traces_step is_waiting TracesReached is_want t.pass u.pass (Step.Look Word.Phase) a.makes 0 own refl tt
+        still (step_counts t.pass u.pass (Step.Look Word.Phase) a refl) refl;
+  }
 
   -- no marker is in
-  pub look_none : (n : ℕ) → Finds p (Step.Look Word.Phase) n q → IsHistory q.table.config q.seen → n < 8
-      → NoneAttends (now_of q)
-  look_none n finds history few =
-      let now : (now_of q).words.phase ≡ n = found_there p q Word.Phase n finds in
-      (words_tell q.table.config q.seen history.within_limits history.enabled).phase.none_in (omega arith)
+  pub look_wanted : (n : ℕ) → Finds t.pass (Step.Look Word.Phase) n u.pass → IsHistory u.pass.table.config u.pass.seen
+      → n < 8 → IsWanted u.pass
+  look_wanted n finds history few =
+      let now : (now_of u.pass).words.phase ≡ n = found_there t.pass u.pass Word.Phase n finds in
+      let tell = words_tell u.pass.table.config u.pass.seen history.within_limits history.enabled in
+      record { ready = look_waits.ready; phase = look_waits.phase; none = tell.phase.none_in (omega arith) }
 
 -- Looks after the wish add no other, nor does the marking.
 
-pub waited_then : (p q r : PassState) → Counted is_waiting TracesReached is_want p q 1
-    → Counted is_waiting TracesReached is_want q r 0 → Counted is_waiting TracesReached is_want p r 1
-waited_then p q r one none = counted_then is_waiting TracesReached is_want p q r 1 0 one none
+pub waits_then : {t u v : TurnState} → WaitsForMarkers t u 1 → WaitsForMarkers u v 0 → WaitsForMarkers t v 1
+waits_then one none = record {
+  table = none.table ∙ one.table;
+  op = none.op ∙ one.op;
+  ready = none.ready;
+  phase = none.phase;
+  traces = counted_then is_waiting TracesReached is_want _ _ _ 1 0 one.traces none.traces;
+}
 
 waiting_traces : (s : Step) → is_waiting s ≡ true → is_tracing s ≡ true
 waiting_traces Step.Want h = refl

@@ -11,16 +11,16 @@ use Rattle.mk_core.specs.declared.seats.Flight.{Flight}
 use Rattle.mk_core.specs.declared.seats.Hand.{Hand}
 use Rattle.mk_core.specs.Bits.{has_bit, without}
 use Rattle.mk_core.specs.Bounded.{is_some_and}
-use Rattle.mk_core.specs.Words.{Words, register_word}
+use Rattle.mk_core.specs.Words.{Words, phase_of, register_word}
 use Rattle.mk_core.specs.Cells.{header_in, head_page, cells_under, cell_bits, first_word, cell_words, is_marked}
 use Rattle.mk_core.specs.Cells.{has_no_pointers, pointed_cell, points_well, words_under}
 use Rattle.mk_core.specs.Cycles.{is_unmarked, sweeps}
 use Rattle.mk_core.specs.Frames.{OnlyGrow}
 use Rattle.mk_core.specs.Moments.{Moment}
 use Rattle.mk_core.specs.StopConditions.{marks_by_hand}
-use Rattle.mk_words.specs.States.{PassState, TurnState}
-use Rattle.mk_tracing.specs.Stops.{IsWanted, hand_of, still_words}
-use Rattle.mk_tracing.specs.Tracing.{Traces, is_marking}
+use Rattle.mk_words.specs.States.{PassState, TurnState, now_of}
+use Rattle.mk_tracing.specs.Stops.{HolderIsLoaded, IsWanted, hand_of, still_words}
+use Rattle.mk_tracing.specs.Tracing.{Counted, Traces, is_marking, is_waiting, is_want}
 
 abbrev pub is_black : Words → Cell → Bool
 is_black w cell = has_bit (slice_index w.blacks cell.page) cell.index
@@ -36,13 +36,7 @@ pub record IsGray (pages : ℕ) (w : Words) (cell : Cell) : Type 0 where
 abbrev pub words_scanned : Option Header → ℕ
 words_scanned x = if has_no_pointers x then 0 else words_under x
 
--- A gray cell of this many words, which are to be scanned.
-pub record IsDue (pages : ℕ) (w : Words) (cell : Cell) (size : ℕ) : Type 0 where
-  pub gray : IsGray pages w cell
-  pub scanned : has_no_pointers (header_in w cell.page) ≡ false
-  pub words : size ≡ cell_words w cell
-
--- a word of one
+-- a word of a gray cell
 pub record IsGrayWord (pages : ℕ) (w : Words) (n : ℕ) : Type 0 where
   pub cell : Cell
   pub gray : IsGray pages w cell
@@ -73,6 +67,19 @@ pub record MarksOn (t u : TurnState) : Type 0 where
   pub op : u.op ≡ t.op
   pub wanted : IsWanted u.pass
   pub traces : Traces is_marking TracesReached t.pass u.pass
+
+-- The stop goes on so, and the words are left.
+pub record LooksOn (t u : TurnState) : Type 0 where
+  pub on : MarksOn t u
+  pub words : still_words u.pass ≡ still_words t.pass
+
+-- The close is wanted, by this many steps between, and the holder looks until no marker is in. All else is as it was.
+pub record WaitsForMarkers (t u : TurnState) (wishes : ℕ) : Type 0 where
+  pub table : u.pass.table ≡ t.pass.table
+  pub op : u.op ≡ t.op
+  pub ready : HolderIsLoaded u.pass
+  pub phase : phase_of (now_of u.pass).words ≡ 2
+  pub traces : Counted is_waiting TracesReached is_want t.pass u.pass wishes
 
 -- The hand is this value, which stood in a root or in a marked cell.
 pub record IsInHand (p : PassState) (u : ℕ) : Type 0 where

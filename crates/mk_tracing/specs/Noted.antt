@@ -1,7 +1,7 @@
 -- What is noted of the cells that are still to be scanned.
-use Rattle.std.specs.Prelude.{◌≡◌, ℕ, ◌<◌, true}
+use Rattle.std.specs.Prelude.{◌≡◌, ℕ, ◌<◌, true, false}
 use Rattle.std.specs.List.{All}
-use Rattle.mk_core.specs.Cells.{cells_under, header_in, is_marked}
+use Rattle.mk_core.specs.Cells.{cell_words, cells_under, has_no_pointers, header_in, is_marked}
 use Rattle.mk_core.specs.Words.{Words}
 use Rattle.mk_tracing.specs.declared.noted.Noted.{Noted}
 use Rattle.mk_tracing.specs.declared.worklist.Worklist.{Worklist}
@@ -22,3 +22,9 @@ AreNoted pages w work = All (IsNoted pages w) work.cells.items
 pub record IsGrayNoted (pages : ℕ) (w : Words) (noted : Noted) : Type 0 where
   pub gray : IsGray pages w noted.cell
   pub words : noted.words ≡ words_scanned (header_in w noted.cell.page)
+
+-- The cell is gray, and its words, this many, are to be scanned.
+pub record IsDue (pages : ℕ) (w : Words) (noted : Noted) : Type 0 where
+  pub gray : IsGray pages w noted.cell
+  pub scanned : has_no_pointers (header_in w noted.cell.page) ≡ false
+  pub words : noted.words ≡ cell_words w noted.cell

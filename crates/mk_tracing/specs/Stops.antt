@@ -10,7 +10,7 @@ use Rattle.mk_core.specs.declared.seats.Stage.{Stage}
 use Rattle.mk_core.specs.declared.seats.Stage.TheVariants as stage
 use Rattle.mk_core.specs.Words.{Words, phase_of}
 use Rattle.mk_core.specs.Readings.{NoneAttends}
-use Rattle.mk_words.specs.States.{PassState, now_of, call_of}
+use Rattle.mk_words.specs.States.{PassState, WordsState, now_of, call_of}
 
 -- A caller's New or Free has loaded what it loads, so that any step of a holder may come.
 
@@ -32,6 +32,11 @@ pub record IsWanted (p : PassState) : Type 0 where
   pub ready : HolderIsLoaded p
   pub phase : phase_of (now_of p).words ≡ 2
   pub none : NoneAttends (now_of p)
+
+-- Marks may be made with these words in such a stop of their table.
+pub record MayTrace (words : WordsState) (p : PassState) : Type 0 where
+  pub one_table : p.table ≡ words
+  pub wanted : IsWanted p
 
 -- a word at which a look gives no hand and decides nothing
 abbrev pub is_page_word : Word → Bool

@@ -6,11 +6,12 @@ ghost use Rattle.mk_core.specs.Words.{phase_of};
 ghost use Rattle.mk_words.specs.States.{now_of, world_of};
 ghost use Rattle.mk_words.specs.Steps.{IsEnabledTo};
 ghost use Rattle.mk_tracing.specs.Grays.{HasNoGray, MarksOn, RootsPointWell, TracesReached};
-ghost use Rattle.mk_tracing.specs.Stops.{HolderIsLoaded, IsWanted, still_words};
+ghost use Rattle.mk_tracing.specs.Stops.{HolderIsLoaded, IsWanted, MayTrace, still_words};
 ghost use Rattle.mk_tracing.specs.Tracing.{Counted, is_tracing, is_want};
 
 use crate::dirty::clean_dirty;
 use crate::roots::mark_roots;
+use crate::tables::Table;
 use crate::tracing::trace;
 use crate::waiting::want_and_wait;
 use crate::worklist::Worklist;
@@ -18,18 +19,17 @@ use mk_words::{Stopped, Words};
 use std::sync::Wait;
 
 /// Looks again at what is dirty and at all roots, and traces from there, until every marked cell is black.
-fn mark_in_stop(words: &Words, stop: &mut Stopped, work: &mut Worklist)
-    requires one_table { stop.old.pass.table ≡ words.now }
-    requires wanted { IsWanted stop.old.pass }
+fn mark_in_stop(table: Table, stop: &mut Stopped, work: &mut Worklist)
+    requires may { MayTrace table.words.now stop.old.pass }
     ensures on { MarksOn stop.old stop.new }
-    ensures black { (p : ℕ) → p < words.now.config.pages → HasNoGray (still_words stop.new.pass) p }
-    ensures clean { (p : ℕ) → p < words.now.config.pages → slice_index (still_words stop.new.pass).dirty p ≡ 0 }
-    ensures roots { RootsPointWell words.now.config.pages (still_words stop.new.pass) }
+    ensures black { (p : ℕ) → p < table.entry.pages → HasNoGray (still_words stop.new.pass) p }
+    ensures clean { (p : ℕ) → p < table.entry.pages → slice_index (still_words stop.new.pass).dirty p ≡ 0 }
+    ensures roots { RootsPointWell table.entry.pages (still_words stop.new.pass) }
 {
-    clean_dirty(words, stop);
+    clean_dirty(table, stop);
     work.forget();
-    mark_roots(words, stop, work);
-    trace(words, stop, work);
+    mark_roots(table, stop, work);
+    trace(table, stop, work);
 }
 
 /// Wants the close, waits for the markers, and marks in the stop until the marks may be closed. Every engine may call
@@ -46,6 +46,6 @@ pub fn close_marks<R: Wait>(rt: &R, words: &Words, stop: &mut Stopped, work: &mu
     ensures closed { MarksAreClosed stop.new.pass.table.config (world_of stop.new.pass) }
 {
     want_and_wait(rt, words, stop);
-    mark_in_stop(words, stop, work);
+    mark_in_stop(Table::of(words), stop, work);
     stop.is_in_order();
 }

@@ -14,6 +14,7 @@ mod noting;
 mod roots;
 mod scanning;
 mod stepping;
+mod tables;
 mod tracing;
 mod values;
 mod waiting;
@@ -21,6 +22,5 @@ mod worklist;
 
 pub use closing::close_marks;
 pub use laws::reached_marks_sweep_nothing;
-pub use roots::mark_roots;
 pub use waiting::want_and_wait;
 pub use worklist::Worklist;

@@ -6,56 +6,46 @@ ghost use Rattle.mk_geom.specs.Addresses.{is_heap_address, page_at_address};
 ghost use Rattle.mk_tracing.specs.Grays.{IsInHand};
 ghost use Rattle.mk_tracing.specs.Noted.{IsNoted};
 ghost use Rattle.mk_tracing.specs.Scans.{MarksAndNotes};
-ghost use Rattle.mk_tracing.specs.Stops.{IsWanted, still_words};
+ghost use Rattle.mk_tracing.specs.Stops.{MayTrace, still_words};
 
 use crate::noted::Noted;
-use crate::stepping::look_among;
+use crate::stepping::look_at;
+use crate::tables::Table;
 use crate::values::mark_white;
 use crate::worklist::Worklist;
 use mk_core::Word;
 use mk_geom::{Cell, HEAP_START, PAGE_WORDS, WORD_BYTES, heap_page, lookup};
-use mk_words::{Stopped, Words};
+use mk_words::Stopped;
 
 /// The header words of blocks for objects with pointers are 1 to this one: 1, and the class.
 const LAST_BLOCK: u64 = 8;
 
 /// Notes a marked cell, by the header word of its page.
-fn note(words: &Words, stop: &mut Stopped, work: &mut Worklist, pages: u64, cell: Cell)
-    requires one_table { stop.old.pass.table ≡ words.now }
-    requires pages { pages ≡ words.now.config.pages }
-    requires wanted { IsWanted stop.old.pass }
-    requires page { cell.page < words.now.config.pages }
+fn note(table: Table, stop: &mut Stopped, work: &mut Worklist, cell: Cell)
+    requires may { MayTrace table.words.now stop.old.pass }
+    requires page { cell.page < table.pages }
     requires marked { is_marked (still_words stop.old.pass) cell ≡ true }
-    ensures marks { MarksAndNotes words.now.config.pages stop.old work.old stop.new work.new }
+    ensures marks { MarksAndNotes table.entry.pages stop.old work.old stop.new work.new }
     ensures words { still_words stop.new.pass ≡ still_words stop.old.pass }
 {
-    let header = look_among(words, stop, pages, Word::Head(cell.page));
+    let header = look_at(table, stop, Word::Head(cell.page));
     work.extend(Noted::under(header, cell));
 }
 
 /// Marks what the hand points into, whatever its page is by this header word, and notes it, if it wasn't marked yet.
 #[inline(never)]
-fn mark_under(
-    words: &Words,
-    stop: &mut Stopped,
-    work: &mut Worklist,
-    pages: u64,
-    header: u64,
-    value: u64,
-)
-    requires one_table { stop.old.pass.table ≡ words.now }
-    requires pages { pages ≡ words.now.config.pages }
-    requires wanted { IsWanted stop.old.pass }
+fn mark_under(stop: &mut Stopped, work: &mut Worklist, table: Table, header: u64, value: u64)
+    requires may { MayTrace table.words.now stop.old.pass }
     requires hand { value ≢ 0 → IsInHand stop.old.pass value }
     requires header { header ≡ header_at (still_words stop.old.pass) (page_at_address value) }
-    ensures marks { MarksAndNotes words.now.config.pages stop.old work.old stop.new work.new }
-    ensures well { points_well words.now.config.pages (still_words stop.new.pass) value ≡ true }
+    ensures marks { MarksAndNotes table.entry.pages stop.old work.old stop.new work.new }
+    ensures well { points_well table.entry.pages (still_words stop.new.pass) value ≡ true }
 {
-    let Some(cell) = lookup(pages, header, value) else {
+    let Some(cell) = lookup(table.pages, header, value) else {
         return;
     };
-    if mark_white(words, stop, pages, cell) {
-        note(words, stop, work, pages, cell);
+    if mark_white(table, stop, cell) {
+        note(table, stop, work, cell);
     }
 }
 
@@ -64,79 +54,70 @@ fn mark_under(
 /// the cell, if it wasn't marked yet, is returned, and stays in registers. Else it goes to the list.
 #[inline(always)]
 fn mark_pointed(
-    words: &Words,
+    table: Table,
     stop: &mut Stopped,
     work: &mut Worklist,
-    pages: u64,
     page: u64,
     value: u64,
 ) -> Option<Noted>
-    requires one_table { stop.old.pass.table ≡ words.now }
-    requires pages { pages ≡ words.now.config.pages }
-    requires wanted { IsWanted stop.old.pass }
+    requires may { MayTrace table.words.now stop.old.pass }
     requires hand { value ≢ 0 → IsInHand stop.old.pass value }
     requires page { page ≡ page_at_address value }
-    requires within { page < pages }
-    requires inside { is_heap_address pages value ≡ true }
-    ensures marks { MarksAndNotes words.now.config.pages stop.old work.old stop.new work.new }
-    ensures well { points_well words.now.config.pages (still_words stop.new.pass) value ≡ true }
-    ensures one { IfSome result (IsNoted words.now.config.pages (still_words stop.new.pass)) }
+    requires within { page < table.pages }
+    requires inside { is_heap_address table.pages value ≡ true }
+    ensures marks { MarksAndNotes table.entry.pages stop.old work.old stop.new work.new }
+    ensures well { points_well table.entry.pages (still_words stop.new.pass) value ≡ true }
+    ensures one { IfSome result (IsNoted table.entry.pages (still_words stop.new.pass)) }
 {
-    let header = look_among(words, stop, pages, Word::Head(page));
+    let header = look_at(table, stop, Word::Head(page));
     if header == 0 || header > LAST_BLOCK {
-        mark_under(words, stop, work, pages, header, value);
+        mark_under(stop, work, table, header, value);
         return None;
     }
     let Some(noted) = Noted::in_block(header - 1, page, value / WORD_BYTES % PAGE_WORDS) else {
         return None;
     };
-    mark_white(words, stop, pages, noted.cell).then_some(noted)
+    mark_white(table, stop, noted.cell).then_some(noted)
 }
 
-/// The same, for any value in a heap of this many pages. Most are no addresses of the heap, and are passed over.
+/// The same, for any value. Most are no addresses of the heap, and are passed over.
 #[inline(always)]
 pub(crate) fn mark_value(
-    words: &Words,
+    table: Table,
     stop: &mut Stopped,
     work: &mut Worklist,
-    pages: u64,
     value: u64,
 ) -> Option<Noted>
-    requires one_table { stop.old.pass.table ≡ words.now }
-    requires pages { pages ≡ words.now.config.pages }
-    requires wanted { IsWanted stop.old.pass }
+    requires may { MayTrace table.words.now stop.old.pass }
     requires hand { value ≢ 0 → IsInHand stop.old.pass value }
-    ensures marks { MarksAndNotes words.now.config.pages stop.old work.old stop.new work.new }
-    ensures well { points_well words.now.config.pages (still_words stop.new.pass) value ≡ true }
-    ensures one { IfSome result (IsNoted words.now.config.pages (still_words stop.new.pass)) }
+    ensures marks { MarksAndNotes table.entry.pages stop.old work.old stop.new work.new }
+    ensures well { points_well table.entry.pages (still_words stop.new.pass) value ≡ true }
+    ensures one { IfSome result (IsNoted table.entry.pages (still_words stop.new.pass)) }
 {
-    let Some(page) = heap_page(pages, value) else {
+    let Some(page) = heap_page(table.pages, value) else {
         return None;
     };
-    mark_pointed(words, stop, work, pages, page, value)
+    mark_pointed(table, stop, work, page, value)
 }
 
 /// Marks what the hand points into. Returns what was noted last: this, or what is noted now, and then this goes to the
 /// list.
 #[inline(always)]
 pub(crate) fn mark_and_note(
-    words: &Words,
+    table: Table,
     stop: &mut Stopped,
     work: &mut Worklist,
-    pages: u64,
     value: u64,
     last: Noted,
 ) -> Noted
-    requires one_table { stop.old.pass.table ≡ words.now }
-    requires pages { pages ≡ words.now.config.pages }
-    requires wanted { IsWanted stop.old.pass }
+    requires may { MayTrace table.words.now stop.old.pass }
     requires hand { value ≢ 0 → IsInHand stop.old.pass value }
-    requires last { IsNoted words.now.config.pages (still_words stop.old.pass) last }
-    ensures marks { MarksAndNotes words.now.config.pages stop.old work.old stop.new work.new }
-    ensures well { points_well words.now.config.pages (still_words stop.new.pass) value ≡ true }
-    ensures last { IsNoted words.now.config.pages (still_words stop.new.pass) result }
+    requires last { IsNoted table.pages (still_words stop.old.pass) last }
+    ensures marks { MarksAndNotes table.entry.pages stop.old work.old stop.new work.new }
+    ensures well { points_well table.entry.pages (still_words stop.new.pass) value ≡ true }
+    ensures last { IsNoted table.entry.pages (still_words stop.new.pass) result }
 {
-    let Some(noted) = mark_value(words, stop, work, pages, value) else {
+    let Some(noted) = mark_value(table, stop, work, value) else {
         return last;
     };
     work.push(last);
@@ -144,38 +125,29 @@ pub(crate) fn mark_and_note(
 }
 
 /// Marks what the hand points into, and puts what is noted of it into the list. It isn't inlined: it is for values that
-/// seldom are addresses of the heap.
+/// seldom are addresses of the heap. The table comes after the list, so that a shift takes the register of the number
+/// of pages, and not that of the list.
 #[inline(never)]
-fn mark_apart(words: &Words, stop: &mut Stopped, work: &mut Worklist, pages: u64, value: u64)
-    requires one_table { stop.old.pass.table ≡ words.now }
-    requires pages { pages ≡ words.now.config.pages }
-    requires wanted { IsWanted stop.old.pass }
+fn mark_apart(stop: &mut Stopped, work: &mut Worklist, table: Table, value: u64)
+    requires may { MayTrace table.words.now stop.old.pass }
     requires hand { value ≢ 0 → IsInHand stop.old.pass value }
-    ensures marks { MarksAndNotes words.now.config.pages stop.old work.old stop.new work.new }
-    ensures well { points_well words.now.config.pages (still_words stop.new.pass) value ≡ true }
+    ensures marks { MarksAndNotes table.entry.pages stop.old work.old stop.new work.new }
+    ensures well { points_well table.entry.pages (still_words stop.new.pass) value ≡ true }
 {
-    let noted = mark_value(words, stop, work, pages, value);
+    let noted = mark_value(table, stop, work, value);
     work.extend(noted);
 }
 
 /// The same, where most values are before the heap, as null is: they are passed over.
 #[inline(always)]
-pub(crate) fn mark_address(
-    words: &Words,
-    stop: &mut Stopped,
-    work: &mut Worklist,
-    pages: u64,
-    value: u64,
-)
-    requires one_table { stop.old.pass.table ≡ words.now }
-    requires pages { pages ≡ words.now.config.pages }
-    requires wanted { IsWanted stop.old.pass }
+pub(crate) fn mark_address(table: Table, stop: &mut Stopped, work: &mut Worklist, value: u64)
+    requires may { MayTrace table.words.now stop.old.pass }
     requires hand { value ≢ 0 → IsInHand stop.old.pass value }
-    ensures marks { MarksAndNotes words.now.config.pages stop.old work.old stop.new work.new }
-    ensures well { points_well words.now.config.pages (still_words stop.new.pass) value ≡ true }
+    ensures marks { MarksAndNotes table.entry.pages stop.old work.old stop.new work.new }
+    ensures well { points_well table.entry.pages (still_words stop.new.pass) value ≡ true }
 {
     if value < HEAP_START {
         return;
     }
-    mark_apart(words, stop, work, pages, value);
+    mark_apart(stop, work, table, value);
 }

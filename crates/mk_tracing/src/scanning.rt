@@ -2,17 +2,18 @@
 //! numbers, so those of a group are looked at together first.
 ghost use Rattle.std.specs.Prelude.{◌≡◌, ℕ, ◌+◌, ◌*◌, ◌/◌, ◌<◌, ◌≤◌, min, true, IfSome, slice_index};
 ghost use Rattle.mk_core.specs.Cells.{first_word, words_point_well};
-ghost use Rattle.mk_tracing.specs.Grays.{IsDue, MarksOn};
-ghost use Rattle.mk_tracing.specs.Noted.{IsNoted};
+ghost use Rattle.mk_tracing.specs.Grays.{LooksOn};
+ghost use Rattle.mk_tracing.specs.Noted.{IsDue, IsNoted};
 ghost use Rattle.mk_tracing.specs.Scans.{MarksAndNotes, Scans};
-ghost use Rattle.mk_tracing.specs.Stops.{IsWanted, still_words};
+ghost use Rattle.mk_tracing.specs.Stops.{MayTrace, still_words};
 
 use crate::noted::Noted;
 use crate::noting::{mark_address, mark_and_note, mark_value};
 use crate::stepping::look_at_word;
+use crate::tables::Table;
 use crate::worklist::Worklist;
-use mk_geom::{Cell, HEAP_START, PAGE_WORDS};
-use mk_words::{Stopped, Words};
+use mk_geom::{HEAP_START, PAGE_WORDS};
+use mk_words::Stopped;
 
 /// The words of a cell are groups of this many, and at most seven more.
 const GROUP: u64 = 8;
@@ -23,30 +24,19 @@ const PAGE_GROUPS: u64 = PAGE_WORDS / GROUP;
 /// Looks at a group of words of a gray cell, from this one on, which stand on this page of the cell. Returns true only
 /// where all are before the heap, as null is.
 #[inline(always)]
-fn are_before_heap(
-    words: &Words,
-    stop: &mut Stopped,
-    pages: u64,
-    cell: Cell,
-    size: u64,
-    part: u64,
-    first: u64,
-) -> bool
-    requires one_table { stop.old.pass.table ≡ words.now }
-    requires pages { pages ≡ words.now.config.pages }
-    requires wanted { IsWanted stop.old.pass }
-    requires due { IsDue words.now.config.pages (still_words stop.old.pass) cell size }
-    requires group { first + 8 ≤ size }
+fn are_before_heap(table: Table, stop: &mut Stopped, gray: Noted, part: u64, first: u64) -> bool
+    requires may { MayTrace table.words.now stop.old.pass }
+    requires due { IsDue table.pages (still_words stop.old.pass) gray }
+    requires group { first + 8 ≤ gray.words }
     requires part { (i : ℕ) → i < 8 → part ≡ (first + i) / 64 }
-    ensures on { MarksOn stop.old stop.new }
-    ensures words { still_words stop.new.pass ≡ still_words stop.old.pass }
+    ensures looks { LooksOn stop.old stop.new }
     ensures before { result ≡ true → (i : ℕ) → i < 8
-        → slice_index (still_words stop.old.pass).heap (first_word (still_words stop.old.pass) cell + (first + i))
+        → slice_index (still_words stop.old.pass).heap (first_word (still_words stop.old.pass) gray.cell + (first + i))
         < 65536 }
 {
     let mut all = 0;
     for i in 0..GROUP {
-        all |= look_at_word(words, stop, pages, cell, size, part, first + i);
+        all |= look_at_word(table, stop, gray, part, first + i);
     }
     all < HEAP_START
 }
@@ -55,28 +45,24 @@ fn are_before_heap(
 /// one points into is marked before the next. Returns what was noted last.
 #[inline(always)]
 fn scan_rest(
-    words: &Words,
+    table: Table,
     stop: &mut Stopped,
     work: &mut Worklist,
-    pages: u64,
-    cell: Cell,
-    size: u64,
+    gray: Noted,
     from: u64,
     noted: Noted,
 ) -> Noted
-    requires one_table { stop.old.pass.table ≡ words.now }
-    requires pages { pages ≡ words.now.config.pages }
-    requires wanted { IsWanted stop.old.pass }
-    requires due { IsDue words.now.config.pages (still_words stop.old.pass) cell size }
-    requires few { size ≤ 64 }
-    requires one { IsNoted words.now.config.pages (still_words stop.old.pass) noted }
-    ensures scans { Scans words.now.config.pages stop.old work.old stop.new work.new cell from size }
-    ensures last { IsNoted words.now.config.pages (still_words stop.new.pass) result }
+    requires may { MayTrace table.words.now stop.old.pass }
+    requires due { IsDue table.pages (still_words stop.old.pass) gray }
+    requires few { gray.words ≤ 64 }
+    requires one { IsNoted table.pages (still_words stop.old.pass) noted }
+    ensures scans { Scans table.entry.pages stop.old work.old stop.new work.new gray.cell from gray.words }
+    ensures last { IsNoted table.entry.pages (still_words stop.new.pass) result }
 {
     let mut last = noted;
-    for i in from..size {
-        let value = look_at_word(words, stop, pages, cell, size, 0, i);
-        last = mark_and_note(words, stop, work, pages, value, last);
+    for i in from..gray.words {
+        let value = look_at_word(table, stop, gray, 0, i);
+        last = mark_and_note(table, stop, work, value, last);
     }
     last
 }
@@ -85,27 +71,18 @@ fn scan_rest(
 /// first cell that is noted, so that it carries none: most cells point into one such cell, or none. Returns what was
 /// noted last.
 #[inline(always)]
-fn scan_few(
-    words: &Words,
-    stop: &mut Stopped,
-    work: &mut Worklist,
-    pages: u64,
-    cell: Cell,
-    size: u64,
-) -> Option<Noted>
-    requires one_table { stop.old.pass.table ≡ words.now }
-    requires pages { pages ≡ words.now.config.pages }
-    requires wanted { IsWanted stop.old.pass }
-    requires due { IsDue words.now.config.pages (still_words stop.old.pass) cell size }
-    requires few { size ≤ 64 }
-    ensures scans { Scans words.now.config.pages stop.old work.old stop.new work.new cell 0 size }
-    ensures last { IfSome result (IsNoted words.now.config.pages (still_words stop.new.pass)) }
+fn scan_few(table: Table, stop: &mut Stopped, work: &mut Worklist, gray: Noted) -> Option<Noted>
+    requires may { MayTrace table.words.now stop.old.pass }
+    requires due { IsDue table.pages (still_words stop.old.pass) gray }
+    requires few { gray.words ≤ 64 }
+    ensures scans { Scans table.entry.pages stop.old work.old stop.new work.new gray.cell 0 gray.words }
+    ensures last { IfSome result (IsNoted table.entry.pages (still_words stop.new.pass)) }
 {
-    for i in 0..size {
-        let value = look_at_word(words, stop, pages, cell, size, 0, i);
-        let noted = mark_value(words, stop, work, pages, value);
+    for i in 0..gray.words {
+        let value = look_at_word(table, stop, gray, 0, i);
+        let noted = mark_value(table, stop, work, value);
         if let Some(one) = noted {
-            let last = scan_rest(words, stop, work, pages, cell, size, i + 1, one);
+            let last = scan_rest(table, stop, work, gray, i + 1, one);
             return Some(last);
         }
     }
@@ -116,142 +93,101 @@ fn scan_few(
 /// into.
 #[inline(always)]
 fn scan_from(
-    words: &Words,
+    table: Table,
     stop: &mut Stopped,
     work: &mut Worklist,
-    pages: u64,
-    cell: Cell,
-    size: u64,
+    gray: Noted,
     part: u64,
     first: u64,
     count: u64,
 )
-    requires one_table { stop.old.pass.table ≡ words.now }
-    requires pages { pages ≡ words.now.config.pages }
-    requires wanted { IsWanted stop.old.pass }
-    requires due { IsDue words.now.config.pages (still_words stop.old.pass) cell size }
-    requires within { first + count ≤ size }
+    requires may { MayTrace table.words.now stop.old.pass }
+    requires due { IsDue table.pages (still_words stop.old.pass) gray }
+    requires within { first + count ≤ gray.words }
     requires part { (i : ℕ) → i < count → part ≡ (first + i) / 64 }
-    ensures { Scans words.now.config.pages stop.old work.old stop.new work.new cell first (first + count) }
+    ensures { Scans table.entry.pages stop.old work.old stop.new work.new gray.cell first (first + count) }
 {
     for i in 0..count {
-        let value = look_at_word(words, stop, pages, cell, size, part, first + i);
-        mark_address(words, stop, work, pages, value);
+        let value = look_at_word(table, stop, gray, part, first + i);
+        mark_address(table, stop, work, value);
     }
 }
 
 /// Looks at the words of a group of a gray cell, which stand on this page of the cell, and marks what they point into.
 #[inline(always)]
 fn scan_group(
-    words: &Words,
+    table: Table,
     stop: &mut Stopped,
     work: &mut Worklist,
-    pages: u64,
-    cell: Cell,
-    size: u64,
+    gray: Noted,
     part: u64,
     group: u64,
 )
-    requires one_table { stop.old.pass.table ≡ words.now }
-    requires pages { pages ≡ words.now.config.pages }
-    requires wanted { IsWanted stop.old.pass }
-    requires due { IsDue words.now.config.pages (still_words stop.old.pass) cell size }
-    requires group { 8 * group + 8 ≤ size }
+    requires may { MayTrace table.words.now stop.old.pass }
+    requires due { IsDue table.pages (still_words stop.old.pass) gray }
+    requires group { 8 * group + 8 ≤ gray.words }
     requires part { part ≡ group / 8 }
-    ensures { Scans words.now.config.pages stop.old work.old stop.new work.new cell (8 * group) (8 * group + 8) }
+    ensures { Scans table.entry.pages stop.old work.old stop.new work.new gray.cell (8 * group) (8 * group + 8) }
 {
     let first = GROUP * group;
-    if are_before_heap(words, stop, pages, cell, size, part, first) {
+    if are_before_heap(table, stop, gray, part, first) {
         return;
     }
-    scan_from(words, stop, work, pages, cell, size, part, first, GROUP);
+    scan_from(table, stop, work, gray, part, first, GROUP);
 }
 
 /// Looks at each word of the groups of a gray cell that stand on one page of it, and marks what it points into.
 #[inline(always)]
-fn scan_part(
-    words: &Words,
-    stop: &mut Stopped,
-    work: &mut Worklist,
-    pages: u64,
-    cell: Cell,
-    size: u64,
-    part: u64,
-)
-    requires one_table { stop.old.pass.table ≡ words.now }
-    requires pages { pages ≡ words.now.config.pages }
-    requires wanted { IsWanted stop.old.pass }
-    requires due { IsDue words.now.config.pages (still_words stop.old.pass) cell size }
-    requires part { 64 * part ≤ size }
-    ensures { Scans words.now.config.pages stop.old work.old stop.new work.new cell (64 * part)
-        (min (64 * part + 64) (8 * (size / 8))) }
+fn scan_part(table: Table, stop: &mut Stopped, work: &mut Worklist, gray: Noted, part: u64)
+    requires may { MayTrace table.words.now stop.old.pass }
+    requires due { IsDue table.pages (still_words stop.old.pass) gray }
+    requires part { 64 * part ≤ gray.words }
+    ensures { Scans table.entry.pages stop.old work.old stop.new work.new gray.cell (64 * part)
+        (min (64 * part + 64) (8 * (gray.words / 8))) }
 {
     let first = PAGE_GROUPS * part;
-    let end = (first + PAGE_GROUPS).min(size / GROUP);
+    let end = (first + PAGE_GROUPS).min(gray.words / GROUP);
     for group in first..end {
-        scan_group(words, stop, work, pages, cell, size, part, group);
+        scan_group(table, stop, work, gray, part, group);
     }
 }
 
 /// Looks at each word of a gray cell of at least eight words, a page of it after the other, and marks what it points
 /// into.
 #[inline(always)]
-fn scan_groups(
-    words: &Words,
-    stop: &mut Stopped,
-    work: &mut Worklist,
-    pages: u64,
-    cell: Cell,
-    size: u64,
-)
-    requires one_table { stop.old.pass.table ≡ words.now }
-    requires pages { pages ≡ words.now.config.pages }
-    requires wanted { IsWanted stop.old.pass }
-    requires due { IsDue words.now.config.pages (still_words stop.old.pass) cell size }
-    ensures marks { MarksAndNotes words.now.config.pages stop.old work.old stop.new work.new }
-    ensures well { words_point_well words.now.config.pages (still_words stop.new.pass) cell ≡ true }
+fn scan_groups(table: Table, stop: &mut Stopped, work: &mut Worklist, gray: Noted)
+    requires may { MayTrace table.words.now stop.old.pass }
+    requires due { IsDue table.pages (still_words stop.old.pass) gray }
+    ensures marks { MarksAndNotes table.entry.pages stop.old work.old stop.new work.new }
+    ensures well { words_point_well table.entry.pages (still_words stop.new.pass) gray.cell ≡ true }
 {
-    let last = size / PAGE_WORDS;
+    let last = gray.words / PAGE_WORDS;
     for part in 0..last {
-        scan_part(words, stop, work, pages, cell, size, part);
+        scan_part(table, stop, work, gray, part);
     }
-    scan_part(words, stop, work, pages, cell, size, last);
-    let first = GROUP * (size / GROUP);
-    scan_from(
-        words,
-        stop,
-        work,
-        pages,
-        cell,
-        size,
-        last,
-        first,
-        size - first,
-    );
+    scan_part(table, stop, work, gray, last);
+    let first = GROUP * (gray.words / GROUP);
+    scan_from(table, stop, work, gray, last, first, gray.words - first);
 }
 
 /// Looks at each word of a gray cell, of this many, and marks what it points into. Most cells have few words. Returns
 /// what was noted last.
 #[inline(always)]
 pub(crate) fn scan(
-    words: &Words,
+    table: Table,
     stop: &mut Stopped,
     work: &mut Worklist,
-    pages: u64,
-    cell: Cell,
-    size: u64,
+    gray: Noted,
 ) -> Option<Noted>
-    requires one_table { stop.old.pass.table ≡ words.now }
-    requires pages { pages ≡ words.now.config.pages }
-    requires wanted { IsWanted stop.old.pass }
-    requires due { IsDue words.now.config.pages (still_words stop.old.pass) cell size }
-    ensures marks { MarksAndNotes words.now.config.pages stop.old work.old stop.new work.new }
-    ensures well { words_point_well words.now.config.pages (still_words stop.new.pass) cell ≡ true }
-    ensures last { IfSome result (IsNoted words.now.config.pages (still_words stop.new.pass)) }
+    requires may { MayTrace table.words.now stop.old.pass }
+    requires due { IsDue table.pages (still_words stop.old.pass) gray }
+    ensures marks { MarksAndNotes table.entry.pages stop.old work.old stop.new work.new }
+    ensures well { words_point_well table.entry.pages (still_words stop.new.pass) gray.cell ≡ true }
+    ensures last { IfSome result (IsNoted table.entry.pages (still_words stop.new.pass)) }
 {
-    if size < GROUP {
-        return scan_few(words, stop, work, pages, cell, size);
+    if gray.words < GROUP {
+        return scan_few(table, stop, work, gray);
     }
-    scan_groups(words, stop, work, pages, cell, size);
+    scan_groups(table, stop, work, gray);
     None
 }

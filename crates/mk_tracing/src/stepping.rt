@@ -1,49 +1,34 @@
 //! Steps in the stop, when the close is wanted and no marker attends.
-ghost use Rattle.std.specs.Prelude.{◌≡◌, ◌/◌, ◌≢◌, ◌+◌, ◌<◌, ◌^◌, true, false, slice_index, slice_set, bit_or};
+ghost use Rattle.std.specs.Prelude.{◌≡◌, ◌/◌, ◌≢◌, ◌+◌, ◌<◌, ◌^◌, true, slice_index};
 ghost use Rattle.mk_core.specs.Cells.{first_word, head_page};
 ghost use Rattle.mk_core.specs.History.{IsHistory};
 ghost use Rattle.mk_core.specs.Ranges.{is_word};
 ghost use Rattle.mk_core.specs.StopConditions.{may_turn_black};
 ghost use Rattle.mk_core.specs.Words.{named_word};
 ghost use Rattle.mk_page_map.specs.Members.{IsNext, is_in_use};
-ghost use Rattle.mk_tracing.specs.Grays.{with_marks, with_blacks, without_blacks, without_dirty, HasDirtyPart, IsDue};
-ghost use Rattle.mk_tracing.specs.Grays.{IsInHand, HandPointsInto, MarksOn};
-ghost use Rattle.mk_tracing.specs.Stops.{IsWanted, hand_of, is_page_word, is_root, still_words};
+ghost use Rattle.mk_tracing.specs.Grays.{with_marks, with_blacks, without_blacks, without_dirty, HasDirtyPart};
+ghost use Rattle.mk_tracing.specs.Grays.{IsInHand, HandPointsInto, MarksOn, LooksOn};
+ghost use Rattle.mk_tracing.specs.Noted.{IsDue};
+ghost use Rattle.mk_tracing.specs.Stops.{MayTrace, hand_of, is_page_word, is_root, still_words};
 
+use crate::noted::Noted;
+use crate::tables::Table;
 use mk_core::{Word, bit};
 use mk_geom::{Cell, PAGE_WORDS};
-use mk_words::{Stopped, Words};
+use mk_words::Stopped;
 
-/// Looks at a word that gives no hand, in a table of this many pages.
+/// Looks at a word that gives no hand.
 #[inline(always)]
-pub(crate) fn look_among(words: &Words, stop: &mut Stopped, pages: u64, x: Word) -> u64
-    requires one_table { stop.old.pass.table ≡ words.now }
-    requires pages { pages ≡ words.now.config.pages }
-    requires wanted { IsWanted stop.old.pass }
-    requires word { is_word words.now.config x ≡ true }
+pub(crate) fn look_at(table: Table, stop: &mut Stopped, x: Word) -> u64
+    requires may { MayTrace table.words.now stop.old.pass }
+    requires word { is_word table.words.now.config x ≡ true }
     requires plain { is_page_word x ≡ true }
-    ensures on { MarksOn stop.old stop.new }
-    ensures words { still_words stop.new.pass ≡ still_words stop.old.pass }
+    ensures looks { LooksOn stop.old stop.new }
     ensures hand { hand_of stop.new.pass ≡ hand_of stop.old.pass }
     ensures found { result ≡ named_word (still_words stop.old.pass) x }
 {
     stop.is_in_order();
-    stop.look_among(words, pages, x)
-}
-
-/// Looks at a word that gives no hand.
-#[inline(always)]
-pub(crate) fn look_at(words: &Words, stop: &mut Stopped, x: Word) -> u64
-    requires one_table { stop.old.pass.table ≡ words.now }
-    requires wanted { IsWanted stop.old.pass }
-    requires word { is_word words.now.config x ≡ true }
-    requires plain { is_page_word x ≡ true }
-    ensures on { MarksOn stop.old stop.new }
-    ensures words { still_words stop.new.pass ≡ still_words stop.old.pass }
-    ensures hand { hand_of stop.new.pass ≡ hand_of stop.old.pass }
-    ensures found { result ≡ named_word (still_words stop.old.pass) x }
-{
-    look_among(words, stop, words.pages(), x)
+    stop.look_among(table.words, table.pages, x)
 }
 
 /// The lowest page that isn't free, of those from this one on. The page map knows it.
@@ -56,106 +41,92 @@ pub(crate) fn next_in_use(stop: &Stopped, from: u64) -> Option<u64>
     stop.next_in_use(from)
 }
 
-/// Looks at a register or a global, whose value is then the hand, in a table of this many pages.
+/// Looks at a register or a global, whose value is then the hand.
+#[tactic(auto, using(crate::proofs::MaySteps::may_look))]
 #[inline(always)]
-pub(crate) fn look_at_root(words: &Words, stop: &mut Stopped, pages: u64, x: Word) -> u64
-    requires one_table { stop.old.pass.table ≡ words.now }
-    requires pages { pages ≡ words.now.config.pages }
-    requires wanted { IsWanted stop.old.pass }
-    requires word { is_word words.now.config x ≡ true }
+pub(crate) fn look_at_root(table: Table, stop: &mut Stopped, x: Word) -> u64
+    requires may { MayTrace table.words.now stop.old.pass }
+    requires word { is_word table.words.now.config x ≡ true }
     requires root { is_root x ≡ true }
-    ensures on { MarksOn stop.old stop.new }
-    ensures words { still_words stop.new.pass ≡ still_words stop.old.pass }
+    ensures looks { LooksOn stop.old stop.new }
     ensures hand { IsInHand stop.new.pass result }
     ensures found { result ≡ named_word (still_words stop.old.pass) x }
 {
     stop.is_in_order();
-    stop.look_among(words, pages, x)
+    stop.look_among(table.words, table.pages, x)
 }
 
-/// Looks at a word of a gray cell of this many words, whose value is then the hand, if it isn't 0. It stands on this
-/// page
-/// of the cell. The table is of this many pages.
+/// Looks at a word of a gray cell of this many words, whose value is then the hand, if it isn't 0. It stands on
+/// this page of the cell.
+#[tactic(auto, using(crate::proofs::StopSteps::word_near))]
 #[inline(always)]
-pub(crate) fn look_at_word(
-    words: &Words,
-    stop: &mut Stopped,
-    pages: u64,
-    cell: Cell,
-    size: u64,
-    part: u64,
-    i: u64,
-) -> u64
-    requires one_table { stop.old.pass.table ≡ words.now }
-    requires pages { pages ≡ words.now.config.pages }
-    requires wanted { IsWanted stop.old.pass }
-    requires due { IsDue words.now.config.pages (still_words stop.old.pass) cell size }
-    requires within { i < size }
+pub(crate) fn look_at_word(table: Table, stop: &mut Stopped, gray: Noted, part: u64, i: u64) -> u64
+    requires may { MayTrace table.words.now stop.old.pass }
+    requires due { IsDue table.pages (still_words stop.old.pass) gray }
+    requires within { i < gray.words }
     requires part { part ≡ i / 64 }
-    ensures on { MarksOn stop.old stop.new }
-    ensures words { still_words stop.new.pass ≡ still_words stop.old.pass }
+    ensures looks { LooksOn stop.old stop.new }
     ensures hand { result ≢ 0 → IsInHand stop.new.pass result }
     ensures found { result
-        ≡ slice_index (still_words stop.old.pass).heap (first_word (still_words stop.old.pass) cell + i) }
+        ≡ slice_index (still_words stop.old.pass).heap (first_word (still_words stop.old.pass) gray.cell + i) }
 {
     stop.is_in_order();
-    let word = PAGE_WORDS * cell.page + cell.index * size + i;
-    stop.look_on_page(words, pages, cell.page + part, Word::Heap(word))
+    let Cell { page, index } = gray.cell;
+    let word = PAGE_WORDS * page + index * gray.words + i;
+    stop.look_on_page(table.words, table.pages, page + part, Word::Heap(word))
 }
 
-/// Marks the cell into which the hand points, in a table of this many pages.
+/// Marks the cell into which the hand points.
+#[tactic(auto, using(crate::proofs::Stilled::mark_words))]
 #[inline(always)]
-pub(crate) fn mark_cell(words: &Words, stop: &mut Stopped, pages: u64, cell: Cell)
-    requires one_table { stop.old.pass.table ≡ words.now }
-    requires pages { pages ≡ words.now.config.pages }
-    requires wanted { IsWanted stop.old.pass }
+pub(crate) fn mark_cell(table: Table, stop: &mut Stopped, cell: Cell)
+    requires may { MayTrace table.words.now stop.old.pass }
     requires reached { HandPointsInto stop.old.pass cell }
     ensures on { MarksOn stop.old stop.new }
     ensures words { still_words stop.new.pass ≡ with_marks cell.page (2 ^ cell.index) (still_words stop.old.pass) }
 {
     stop.is_in_order();
-    stop.mark_in_use(words, pages, cell.page, bit(cell.index));
+    stop.mark_in_use(table.words, table.pages, cell.page, bit(cell.index));
 }
 
-/// Blackens a marked cell, whose words point well or aren't scanned, in a table of this many pages.
+/// Blackens a marked cell, whose words point well or aren't scanned.
+#[tactic(auto, using(crate::proofs::MaySteps::may_black_cell, crate::proofs::Stilled::black_words))]
 #[inline(always)]
-pub(crate) fn blacken_cell(words: &Words, stop: &mut Stopped, pages: u64, cell: Cell)
-    requires one_table { stop.old.pass.table ≡ words.now }
-    requires pages { pages ≡ words.now.config.pages }
-    requires wanted { IsWanted stop.old.pass }
-    requires page { cell.page < words.now.config.pages }
+pub(crate) fn blacken_cell(table: Table, stop: &mut Stopped, cell: Cell)
+    requires may { MayTrace table.words.now stop.old.pass }
+    requires page { cell.page < table.pages }
     requires index { cell.index < 32 }
-    requires turns { may_turn_black words.now.config.pages (still_words stop.old.pass) cell ≡ true }
+    requires turns { may_turn_black table.pages (still_words stop.old.pass) cell ≡ true }
     ensures on { MarksOn stop.old stop.new }
     ensures words { still_words stop.new.pass ≡ with_blacks cell.page (2 ^ cell.index) (still_words stop.old.pass) }
 {
     stop.is_in_order();
-    stop.black_among(words, pages, cell.page, bit(cell.index));
+    stop.black_among(table.words, table.pages, cell.page, bit(cell.index));
 }
 
 /// Clears the black word of a page of which a part is dirty.
-pub(crate) fn clear_black(words: &Words, stop: &mut Stopped, page: u64)
-    requires one_table { stop.old.pass.table ≡ words.now }
-    requires wanted { IsWanted stop.old.pass }
-    requires page { page < words.now.config.pages }
+#[tactic(auto, using(crate::proofs::MaySteps::may_unblack_page, crate::proofs::Stilled::unblack_words))]
+pub(crate) fn clear_black(table: Table, stop: &mut Stopped, page: u64)
+    requires may { MayTrace table.words.now stop.old.pass }
+    requires page { page < table.pages }
     requires part { HasDirtyPart (still_words stop.old.pass) page }
     ensures on { MarksOn stop.old stop.new }
     ensures words { still_words stop.new.pass ≡ without_blacks page (still_words stop.old.pass) }
 {
     stop.is_in_order();
-    stop.unblack(words, page);
+    stop.unblack(table.words, page);
 }
 
 /// Clears a page's dirty word, where nothing of the page is black.
-pub(crate) fn undirty_page(words: &Words, stop: &mut Stopped, page: u64)
-    requires one_table { stop.old.pass.table ≡ words.now }
-    requires wanted { IsWanted stop.old.pass }
-    requires page { page < words.now.config.pages }
+#[tactic(auto, using(crate::proofs::MaySteps::may_undirty_page, crate::proofs::Stilled::undirty_words))]
+pub(crate) fn undirty_page(table: Table, stop: &mut Stopped, page: u64)
+    requires may { MayTrace table.words.now stop.old.pass }
+    requires page { page < table.pages }
     requires own { slice_index (still_words stop.old.pass).blacks page ≡ 0 }
     requires head { slice_index (still_words stop.old.pass).blacks (head_page (still_words stop.old.pass) page) ≡ 0 }
     ensures on { MarksOn stop.old stop.new }
     ensures words { still_words stop.new.pass ≡ without_dirty page (still_words stop.old.pass) }
 {
     stop.is_in_order();
-    stop.undirty(words, page);
+    stop.undirty(table.words, page);
 }

@@ -2,7 +2,7 @@
 ghost use Rattle.std.specs.Prelude.{◌≡◌, ◌<◌};
 ghost use Rattle.mk_core.specs.Words.{phase_of};
 ghost use Rattle.mk_words.specs.States.{now_of};
-ghost use Rattle.mk_tracing.specs.Grays.{TracesReached};
+ghost use Rattle.mk_tracing.specs.Grays.{TracesReached, WaitsForMarkers};
 ghost use Rattle.mk_tracing.specs.Stops.{HolderIsLoaded, IsWanted};
 ghost use Rattle.mk_tracing.specs.Tracing.{Counted, is_waiting, is_want};
 
@@ -16,11 +16,7 @@ fn want(words: &Words, stop: &mut Stopped)
     requires one_table { stop.old.pass.table ≡ words.now }
     requires ready { HolderIsLoaded stop.old.pass }
     requires phase { phase_of (now_of stop.old.pass).words ≡ 1 }
-    ensures table { stop.new.pass.table ≡ stop.old.pass.table }
-    ensures op { stop.new.op ≡ stop.old.op }
-    ensures ready { HolderIsLoaded stop.new.pass }
-    ensures phase { phase_of (now_of stop.new.pass).words ≡ 2 }
-    ensures traces { Counted is_waiting TracesReached is_want stop.old.pass stop.new.pass 1 }
+    ensures { WaitsForMarkers stop.old stop.new 1 }
 {
     stop.is_in_order();
     stop.want(words);
@@ -31,12 +27,8 @@ fn look_at_phase(words: &Words, stop: &mut Stopped) -> u64
     requires one_table { stop.old.pass.table ≡ words.now }
     requires ready { HolderIsLoaded stop.old.pass }
     requires phase { phase_of (now_of stop.old.pass).words ≡ 2 }
-    ensures table { stop.new.pass.table ≡ stop.old.pass.table }
-    ensures op { stop.new.op ≡ stop.old.op }
-    ensures ready { HolderIsLoaded stop.new.pass }
-    ensures phase { phase_of (now_of stop.new.pass).words ≡ 2 }
+    ensures waits { WaitsForMarkers stop.old stop.new 0 }
     ensures wanted { result < 8 → IsWanted stop.new.pass }
-    ensures traces { Counted is_waiting TracesReached is_want stop.old.pass stop.new.pass 0 }
 {
     stop.is_in_order();
     let found = stop.look(words, Word::Phase);

@@ -34,34 +34,30 @@ pub waits_none : (p : PassState) → Waits p p
 waits_none p =
     record { more = []; is = ap (λ (l : List Event). record p { seen = l }) (sym (append-nil p.seen)); only = refl }
 
+pub waits_then : {p q r : PassState} → Waits p q → Waits q r → Waits p r
+waits_then {p} {r = r} w v = record {
+  more = w.more ++ v.more;
+  is = v.is ∙ ap (λ (x : PassState). record x { seen = x.seen ++ v.more }) w.is
+      ∙ ap (λ (l : List Event). record p { seen = l }) (append_assoc p.seen w.more v.more);
+  only = list_all-append (waits_for p) w.more v.more
+      ∙ and_from (list_all (waits_for p) w.more) (list_all (waits_for p) v.more) w.only
+      (subst (λ (x : PassState). list_all (waits_for x) v.more ≡ true) w.is v.only);
+}
+
+-- One try more.
 pub waits_more : (p q r : PassState) (o : Option Op) → Waits p q → Makes q (Step.Take o) r → Waits p r
 waits_more p q r o w m =
-    let e : Event = event_of p (Step.Take o) in
-    let others : AreOfOthers p.seats m.others =
-    subst (λ (x : PassState). AreOfOthers x.seats m.others) w.is m.of_others in
-    record {
-      more = w.more ++ (m.others ++ e ∷ []);
-      is = joined_lists p q r w.more (Step.Take o) w.is m;
-      only = list_all-append (waits_for p) w.more (m.others ++ e ∷ [])
-          ∙ and_from (list_all (waits_for p) w.more) (list_all (waits_for p) (m.others ++ e ∷ [])) w.only
-          (list_all-append (waits_for p) m.others (e ∷ [])
-          ∙ and_from (list_all (waits_for p) m.others) (list_all (waits_for p) (e ∷ [])) (others_wait p m.others others)
-          (and_from (waits_for p e) true
-          (ap (λ (b : Bool). not (is_one_of p.seats p.seat) || b) (same_self p.seat)
-          ∙ or_last (not (is_one_of p.seats p.seat))) refl));
-    }
+    let e : Event = event_of q (Step.Take o) in
+    waits_then w (record {
+      more = m.others ++ e ∷ [];
+      is = m.is ∙ ap (λ (l : List Event). record q { seen = l }) (append_assoc q.seen m.others (e ∷ []));
+      only = list_all-append (waits_for q) m.others (e ∷ [])
+          ∙ and_from (list_all (waits_for q) m.others) (list_all (waits_for q) (e ∷ []))
+          (others_wait q m.others m.of_others)
+          (and_from (waits_for q e) true
+          (ap (λ (b : Bool). not (is_one_of q.seats q.seat) || b) (same_self q.seat)
+          ∙ or_last (not (is_one_of q.seats q.seat))) refl);
+    })
 
-pub waits_then : (p q r : PassState) → Waits p q → Waits q r → Waits p r
-waits_then p q r w v =
-    record {
-      more = w.more ++ v.more;
-      is = v.is ∙ ap (λ (x : PassState). record x { seen = x.seen ++ v.more }) w.is
-          ∙ ap (λ (l : List Event). record p { seen = l }) (append_assoc p.seen w.more v.more);
-      only = list_all-append (waits_for p) w.more v.more
-          ∙ and_from (list_all (waits_for p) w.more) (list_all (waits_for p) v.more) w.only
-          (subst (λ (x : PassState). list_all (waits_for x) v.more ≡ true) w.is v.only);
-    }
-
-pub takes_then : (p q r : PassState) (o : Option Op) → Waits p q → TakesTurn q o r → TakesTurn p o r
-takes_then p q r o w t =
-    record { waited = t.waited; waits = waits_then p q t.waited w t.waits; takes = t.takes }
+pub takes_then : {p q r : PassState} {o : Option Op} → Waits p q → TakesTurn q o r → TakesTurn p o r
+takes_then w t = record { waited = t.waited; waits = waits_then w t.waits; takes = t.takes }

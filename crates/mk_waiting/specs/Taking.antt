@@ -5,9 +5,11 @@ use Rattle.mk_never.specs.declared.operations.Op.{Op}
 use Rattle.mk_core.specs.declared.events.Event.{Event}
 use Rattle.mk_core.specs.declared.events.Step.{Step}
 use Rattle.mk_core.specs.declared.events.Step.TheVariants as step
+use Rattle.mk_core.specs.Counts.{TalliesAreExact, TalliesAreTidy}
 use Rattle.mk_core.specs.Growing.{is_one_of, is_same_seat}
-use Rattle.mk_words.specs.States.{PassState}
+use Rattle.mk_words.specs.States.{PassState, TurnState}
 use Rattle.mk_words.specs.Steps.{Finds}
+use Rattle.mk_words.specs.TurnSteps.{IsFresh}
 
 abbrev pub is_take : Step → Bool
 is_take (step.Take o) = true
@@ -28,3 +30,11 @@ pub record TakesTurn (p : PassState) (o : Option Op) (q : PassState) : Type 0 wh
   pub waited : PassState
   pub waits : Waits p waited
   pub takes : Finds waited (step.Take o) 0 q
+
+-- So it has the turn, as one has it directly after its `take`.
+pub record HasTaken (p : PassState) (o : Option Op) (t : TurnState) : Type 0 where
+  pub takes : TakesTurn p o t.pass
+  pub op : t.op ≡ o
+  pub fresh : IsFresh t.pass o
+  pub exact : TalliesAreExact t.pass.table.config t.pass.seen
+  pub tidy : TalliesAreTidy t.pass.table.config t.pass.seen

@@ -11,7 +11,7 @@ ghost use Rattle.mk_core.specs.declared.events.Step.TheVariants as step;
 ghost use Rattle.mk_core.specs.Counts.{TalliesAreExact, TalliesAreTidy};
 ghost use Rattle.mk_words.specs.Steps.{IsEnabledTo};
 ghost use Rattle.mk_words.specs.TurnSteps.{IsFresh};
-ghost use Rattle.mk_waiting.specs.Taking.{TakesTurn};
+ghost use Rattle.mk_waiting.specs.Taking.{HasTaken, TakesTurn};
 ghost use Rattle.mk_waiting.specs.Unswept.{TakingSweepsNothing};
 
 use mk_never::Op;
@@ -24,11 +24,7 @@ use std::sync::Wait;
 fn wait_for_turn<R: Wait>(rt: &R, words: &Words, home: Pass, op: Option<Op>) -> Turn
     requires one_table { home.table ≡ words.now }
     requires enabled { IsEnabledTo home (step.Take op) }
-    ensures takes { TakesTurn home op result.pass }
-    ensures op { result.op ≡ op }
-    ensures fresh { IsFresh result.pass op }
-    ensures exact { TalliesAreExact result.pass.table.config result.pass.seen }
-    ensures tidy { TalliesAreTidy result.pass.table.config result.pass.seen }
+    ensures { HasTaken home op result }
 {
     let mut pass = home;
     let mut patience = Patience::new();
@@ -47,11 +43,7 @@ fn wait_for_turn<R: Wait>(rt: &R, words: &Words, home: Pass, op: Option<Op>) -> 
 fn wait_apart<R: Wait>(rt: &R, words: &Words, home: Pass, op: Option<Op>) -> Turn
     requires one_table { home.table ≡ words.now }
     requires enabled { IsEnabledTo home (step.Take op) }
-    ensures takes { TakesTurn home op result.pass }
-    ensures op { result.op ≡ op }
-    ensures fresh { IsFresh result.pass op }
-    ensures exact { TalliesAreExact result.pass.table.config result.pass.seen }
-    ensures tidy { TalliesAreTidy result.pass.table.config result.pass.seen }
+    ensures { HasTaken home op result }
 {
     wait_for_turn(rt, words, home, op)
 }

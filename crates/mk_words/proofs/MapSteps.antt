@@ -3,8 +3,8 @@ use Rattle.mk_laws.proofs.Vocabulary.{Access, Bool, Config, IsHistory, List, Loa
 use Rattle.mk_laws.proofs.Vocabulary.{Page, Seat, Some, Step, Store, Tally, Word, Words, World, ℕ, accessed, ap, arith}
 use Rattle.mk_laws.proofs.Vocabulary.{cases_eq, earlier_part_is_history, enabled_meets, false, free_page}
 use Rattle.mk_laws.proofs.Vocabulary.{get_or-set_other, get_or-set_same, header_at, histories_keep_lengths, inl, inr}
-use Rattle.mk_laws.proofs.Vocabulary.{is_in_range, length, ltb-true, nat_lt, refl, slice_set, subst, sym, tally_word}
-use Rattle.mk_laws.proofs.Vocabulary.{true, [], ◌%◌, ◌++◌, ◌<◌, ◌^◌, ◌∙◌, ◌∷◌, ◌≡◌, ◌≢◌}
+use Rattle.mk_laws.proofs.Vocabulary.{is_in_range, length, ltb-true, nat_lt, refl, slice_set, subst, sym}
+use Rattle.mk_laws.proofs.Vocabulary.{tally_word, true, [], ◌%◌, ◌++◌, ◌<◌, ◌^◌, ◌∙◌, ◌∷◌, ◌≡◌, ◌≢◌}
 use Rattle.mk_page_map.specs.KnownPages.{KnownPages, Shows, is_uncleaned, with_header, with_used}
 use Rattle.mk_page_map.specs.Members.{IsNext, page_at}
 use Rattle.mk_laws.proofs.SameWords.{Behind}
@@ -163,26 +163,26 @@ map_cleaned w page old new shows others none m = grind arith
 
 -- the steps
 
-pub shows_head : (p : PassState) (page v : ℕ) (q : PassState) (a : Acts p (Step.Head page v) q)
-    (old new : KnownPages) → HeaderIsTold old page v new → page < length old.pages → IsMapOf old (now_of p).words
+pub shows_head : {p q : PassState} {page v : ℕ} {old new : KnownPages} → Acts p (Step.Head page v) q
+    → HeaderIsTold old page v new → page < length old.pages → IsMapOf old (now_of p).words
     → IsMapOf new (now_of q).words
-shows_head p page v q a old new told within shows =
+shows_head {p} {q} {page} {v} {old} {new} a told within shows =
     let s : Step = Step.Head page v in
     map_now p s q a new
     (told_header (world_at a.makes).now.words page v old new told within (map_then p s q a old shows))
 
-pub shows_used : (p : PassState) (page v : ℕ) (q : PassState) (a : Acts p (Step.Used page v) q)
-    (old new : KnownPages) → UsedIsTold old page v new → page < length old.pages → IsMapOf old (now_of p).words
+pub shows_used : {p q : PassState} {page v : ℕ} {old new : KnownPages} → Acts p (Step.Used page v) q
+    → UsedIsTold old page v new → page < length old.pages → IsMapOf old (now_of p).words
     → IsMapOf new (now_of q).words
-shows_used p page v q a old new told within shows =
+shows_used {p} {q} {page} {v} {old} {new} a told within shows =
     let s : Step = Step.Used page v in
     map_now p s q a new
     (told_used (world_at a.makes).now.words page v old new told within (map_then p s q a old shows))
 
-pub shows_quar : (p : PassState) (page v : ℕ) (q : PassState) (a : Acts p (Step.Quar page v) q)
-    (old new : KnownPages) → QuarantineIsTold old page (v % 2 ^ 32) new → IsMapOf old (now_of p).words
+pub shows_quar : {p q : PassState} {page v : ℕ} {old new : KnownPages} → Acts p (Step.Quar page v) q
+    → QuarantineIsTold old page (v % 2 ^ 32) new → IsMapOf old (now_of p).words
     → IsMapOf new (now_of q).words
-shows_quar p page v q a old new told shows =
+shows_quar {p} {q} {page} {v} {old} {new} a told shows =
     let s : Step = Step.Quar page v in
     let w : Words = (world_at a.makes).now.words in
     let m = map_then p s q a old shows in
@@ -194,9 +194,10 @@ shows_quar p page v q a old new told shows =
           (m.unmarked number bare (sym (told.uncleaned number) ∙ cleaned));
     })
 
-pub shows_mark : (p : PassState) (page v : ℕ) (q : PassState) (a : Acts p (Step.Mark page v) q)
-    (old new : KnownPages) → MarkIsTold old page new → IsMapOf old (now_of p).words → IsMapOf new (now_of q).words
-shows_mark p page v q a old new told shows =
+pub shows_mark : {p q : PassState} {page v : ℕ} {old new : KnownPages} → Acts p (Step.Mark page v) q
+    → MarkIsTold old page new → IsMapOf old (now_of p).words
+    → IsMapOf new (now_of q).words
+shows_mark {p} {q} {page} {v} {old} {new} a told shows =
     let s : Step = Step.Mark page v in
     map_now p s q a new
     (told_mark p.table.config (world_at a.makes).now p.seat page v old new told (map_then p s q a old shows))
@@ -211,34 +212,25 @@ pub shows_that : (w : Words) (map same : KnownPages) → same ≡ map → IsMapO
 shows_that w map same is shows = subst (λ (m : KnownPages). IsMapOf m w) (sym is) shows
 
 -- What is carried with a turn is carried by another name too.
-pub as_carried : {held : Bool} (p : PassState) (carried same : Carried) → same ≡ carried
+pub as_carried : {held : Bool} {p : PassState} {carried same : Carried} → same ≡ carried
     → IsTurnWithMap held p carried.op carried.map → IsTurnWithMap held p same.op same.map
-as_carried {held} p carried same is turn = grind arith
+as_carried is turn = grind arith
 
 -- A step leaves the turn, where its map shows what is left then, and the gates are as known.
-pub turn_with_map : {held : Bool} (p : PassState) (s : Step) (q : PassState) (a : Acts p s q) (o : Option Op)
-    (old new : KnownPages) → turn_stays s ≡ true → GatesAre held (record { pass = q; op = o })
-    → IsMapOf new (now_of q).words → IsTurnWithMap held p o old → IsTurnWithMap held q o new
-turn_with_map p s q a o old new stays gates shows turn = record {
-  turn = still_turn p s q a.makes o stays turn.turn;
-  shows = shows;
-  gates = gates;
-}
-
--- Most steps leave the gates.
-pub turn_still : {held : Bool} (p : PassState) (s : Step) (q : PassState) (a : Acts p s q) (o : Option Op)
-    (old new : KnownPages) → gates_stay s ≡ true → IsMapOf new (now_of q).words → IsTurnWithMap held p o old
-    → IsTurnWithMap held q o new
-turn_still {held} p s q a o old new stays shows turn =
-    turn_with_map p s q a o old new (turn_stays_too s stays)
-    (gates_still held (record { pass = p; op = o }) s (record { pass = q; op = o }) a stays turn.gates) shows turn
+pub turn_with_map : {held : Bool} {p : PassState} {s : Step} {q : PassState} {o : Option Op} {old new : KnownPages}
+    → Acts p s q → turn_stays s ≡ true → GatesAre held (record { pass = q; op = o }) → IsMapOf new (now_of q).words
+    → IsTurnWithMap held p o old → IsTurnWithMap held q o new
+turn_with_map {o = o} a stays gates shows turn =
+    record { turn = still_turn _ _ _ a.makes o stays turn.turn; shows = shows; gates = gates }
 
 -- A step of which the map is told, and which leaves the gates.
-pub told_turn : {held : Bool} (p : PassState) (s : Step) (q : PassState) (o : Option Op) (old new : KnownPages)
+pub told_turn : {held : Bool} {p : PassState} {s : Step} {q : PassState} {o : Option Op} {old new : KnownPages}
     → gates_stay s ≡ true → Makes p s q → IsTurnWithMap held p o old → (Acts p s q → IsMapOf new (now_of q).words)
     → IsTurnWithMap held q o new
-told_turn p s q o old new stays makes turn shows =
-    let a = acts p s q makes turn.turn.holds in turn_still p s q a o old new stays (shows a) turn
+told_turn {held} {p} {s} {q} {o} stays makes turn shows =
+    let a = acts p s q makes turn.turn.holds in
+    turn_with_map a (turn_stays_too s stays)
+    (gates_still held (record { pass = p; op = o }) s (record { pass = q; op = o }) a stays turn.gates) (shows a) turn
 
 -- What was done in a turn, by another name of it.
 pub acted : {held : Bool} {t v : TurnState} {s : Step} {q : PassState} {o : Option Op} {map : KnownPages} → t ≡ v
@@ -266,7 +258,7 @@ told_page {t = t} s page names is on same turn =
     page_known t.pass page _
     (ltb-true page t.pass.table.config.pages
     (sym names ∙ (enabled_meets t.pass.table.config (now_of t.pass) (event_of t.pass s) here).range))
-    (as_carried t.pass _ _ same turn).shows
+    (as_carried same turn).shows
 
 -- The next page of those that the map has is the next of the heap's.
 pub next_known : (p : PassState) (passes : ℕ → Bool) (from : ℕ) (next : Option ℕ)

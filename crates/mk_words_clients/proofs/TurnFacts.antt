@@ -1,5 +1,5 @@
 -- What a turn knows of the table after its own steps.
-use Rattle.mk_laws.proofs.Vocabulary.{Bool, Config, Event, Holds, Host, List, Moment, Seat, Step, TalliesAreTidy, Word}
+use Rattle.mk_laws.proofs.Vocabulary.{Bool, Config, Event, Holding, Holds, Host, List, Seat, Step, TalliesAreTidy, Word}
 use Rattle.mk_laws.proofs.Vocabulary.{World, ℕ, and_from, ap, arith, at_rest, cases_eq, cases_lt, eq-eqb, eqb-false}
 use Rattle.mk_laws.proofs.Vocabulary.{eqb-true, false, get_or-set_other, get_or-set_same, get_or_past, group_of}
 use Rattle.mk_laws.proofs.Vocabulary.{has_gates, has_phase, holder_may, inl, inr, is_end, is_held, is_in_range}
@@ -7,13 +7,13 @@ use Rattle.mk_laws.proofs.Vocabulary.{is_open_to, left, length, length-set, lt-l
 use Rattle.mk_laws.proofs.Vocabulary.{others_are_held, outside, phase_of, refl, slice_index, slice_set, subst, sym}
 use Rattle.mk_laws.proofs.Vocabulary.{true, true≢false, world_behind, [], ◌++◌, ◌+◌, ◌<◌, ◌==◌, ◌∙◌, ◌∷◌, ◌≡◌, ◌≢◌, ◌≤◌}
 use Rattle.mk_laws.proofs.Vocabulary.{◌⊎◌}
-use Rattle.mk_core.{proofs.Conditions.meets_enabled, specs.Effects.moment_behind, specs.Frames.CountsAreLeft}
-use Rattle.mk_core.{specs.Frames.steady_of, specs.Moments.none_is_held, specs.Order.comes_next_to_host}
+use Rattle.mk_core.proofs.Conditions.{meets_enabled}
+use Rattle.mk_core.specs.{Frames.CountsAreLeft, Frames.steady_of, Moments.none_is_held, Order.comes_next_to_host}
 use Rattle.mk_laws.proofs.{Asked.none_held, TallySteps.CountsNothing}
 use Rattle.mk_words.proofs.{Tallies.counts_tidy_more, TurnSteps.all_from}
-use Rattle.mk_words.specs.States.{PassState, now_of, world_of}
+use Rattle.mk_words.specs.States.{PassState, WordsState, now_of, world_of}
 use Rattle.mk_words.specs.{Opening.OthersMayOpen, Steps.IsEnabledTo, TurnSteps.Acts, TurnSteps.world_at}
-use Rattle.mk_words_clients.specs.Clients.{HoldsBelow, MayGiveBack, Settled}
+use Rattle.mk_words_clients.specs.Clients.{HoldsBelow, MayGiveBack, Settled, StaysTidy}
 
 -- kinds that leave the steady words, the allocations and the freed run alone
 abbrev pub leaves_steady : Step → Bool
@@ -28,39 +28,34 @@ leaves_steady (Step.Black p v) = true
 leaves_steady (Step.Unblack p) = true
 leaves_steady _ = false
 
+left_alone : (c : Config) (w : World) (seat : Seat) (s : Step) → leaves_steady s ≡ true
+    → (steady_of (world_behind c w (record { seat = seat; step = s })) ≡ steady_of w)
+    × ((world_behind c w (record { seat = seat; step = s })).now.seats.holding.freed ≡ w.now.seats.holding.freed)
+left_alone c w seat (Step.Look x) h = (refl, refl)
+left_alone c w seat (Step.Hold j) h = (refl, refl)
+left_alone c w seat (Step.Open j) h = (refl, refl)
+left_alone c w seat (Step.Clear p) h = (refl, refl)
+left_alone c w seat (Step.Mark p v) h = (refl, refl)
+left_alone c w seat (Step.Wipe n) h = (refl, refl)
+left_alone c w seat (Step.Undirty p) h = (refl, refl)
+left_alone c w seat (Step.Black p v) h = (refl, refl)
+left_alone c w seat (Step.Unblack p) h = (refl, refl)
+left_alone c w seat _ h = absurd (true≢false (sym h))
+
 steady_behind : (c : Config) (w : World) (seat : Seat) (s : Step) → leaves_steady s ≡ true
     → steady_of (world_behind c w (record { seat = seat; step = s })) ≡ steady_of w
-steady_behind c w seat (Step.Look x) h = refl
-steady_behind c w seat (Step.Hold j) h = refl
-steady_behind c w seat (Step.Open j) h = refl
-steady_behind c w seat (Step.Clear p) h = refl
-steady_behind c w seat (Step.Mark p v) h = refl
-steady_behind c w seat (Step.Wipe n) h = refl
-steady_behind c w seat (Step.Undirty p) h = refl
-steady_behind c w seat (Step.Black p v) h = refl
-steady_behind c w seat (Step.Unblack p) h = refl
-steady_behind c w seat _ h = cc
+steady_behind c w seat s h = (left_alone c w seat s h).0
 
 pub steady_kept : (p q : PassState) (s : Step) → Acts p s q → leaves_steady s ≡ true
     → steady_of (world_of q) ≡ steady_of (world_of p)
 steady_kept p q s a h = grind (arith, steady_behind)
 
-freed_behind : (c : Config) (m : Moment) (seat : Seat) (s : Step) → leaves_steady s ≡ true
-    → (moment_behind c m (record { seat = seat; step = s })).seats.holding.freed ≡ m.seats.holding.freed
-freed_behind c m seat (Step.Look x) h = refl
-freed_behind c m seat (Step.Hold j) h = refl
-freed_behind c m seat (Step.Open j) h = refl
-freed_behind c m seat (Step.Clear p) h = refl
-freed_behind c m seat (Step.Mark p v) h = refl
-freed_behind c m seat (Step.Wipe n) h = refl
-freed_behind c m seat (Step.Undirty p) h = refl
-freed_behind c m seat (Step.Black p v) h = refl
-freed_behind c m seat (Step.Unblack p) h = refl
-freed_behind c m seat _ h = cc
-
 pub freed_kept : (p q : PassState) (s : Step) → Acts p s q → leaves_steady s ≡ true
     → (now_of q).seats.holding.freed ≡ (now_of p).seats.holding.freed
-freed_kept p q s a h = grind (arith, freed_behind)
+freed_kept p q s a h =
+    ap (λ (w : World). w.now.seats.holding.freed) a.world
+    ∙ (left_alone p.table.config (world_at a.makes) p.seat s h).1
+    ∙ ap (λ (x : Holding). x.freed) a.holding
 
 pub settled_kept : (p q : PassState) (s : Step) → Acts p s q → leaves_steady s ≡ true → Settled p → Settled q
 settled_kept p q s a h x = grind (arith, steady_kept, freed_kept)
@@ -85,15 +80,6 @@ config_kept p q s a = ap (λ (r : PassState). r.table.config) a.makes.is
 within : (p q : PassState) (s : Step) (a : Acts p s q) (i : ℕ) → i < q.table.config.callers → i < p.table.config.callers
 within p q s a i lt = subst (λ (c : Config). i < c.callers) (config_kept p q s a) lt
 
-pub hold_leaves : (p q : PassState) (j : ℕ) → Acts p (Step.Hold j) q → NoneHeld p → OnlyHeld j q
-hold_leaves p q j a h i lt other two =
-    a.turn.other_gates i (h i (within p q (Step.Hold j) a i lt))
-    (sym (get_or-set_other (world_at a.makes).now.words.gates j i _ 0 other)
-    ∙ sym (ap (λ (w : World). slice_index w.now.words.gates i) a.world) ∙ two)
-
-pub look_leaves : (p q : PassState) (j : ℕ) (x : Word) → Acts p (Step.Look x) q → OnlyHeld j p → OnlyHeld j q
-look_leaves p q j x a h i lt other two = grind (arith, within)
-
 zero_there : (xs : List ℕ) (i : ℕ) → slice_index (slice_set xs i 0) i ≢ 2
 zero_there xs i two = by (cases_lt i (length xs))
   where
@@ -102,15 +88,40 @@ zero_there xs i two = by (cases_lt i (length xs))
     by (inr past) = let z = get_or_past (slice_set xs i 0) i 0 (subst (λ (n : ℕ). n ≤ i) (sym (length-set xs i 0)) past)
         in absurd (omega arith)
 
-pub open_leaves : (p q : PassState) (j : ℕ) → Acts p (Step.Open j) q → OnlyHeld j p → NoneHeld q
-open_leaves p q j a h i lt two = elim (cases_eq i j) [
+hold_elsewhere : (p q : PassState) (j : ℕ) (a : Acts p (Step.Hold j) q) (i : ℕ) → i ≢ j
+    → slice_index (now_of q).words.gates i ≡ slice_index (world_at a.makes).now.words.gates i
+hold_elsewhere p q j a i other =
+    ap (λ (w : World). slice_index w.now.words.gates i) a.world
+    ∙ get_or-set_other (world_at a.makes).now.words.gates j i _ 0 other
+
+open_elsewhere : (p q : PassState) (j : ℕ) (a : Acts p (Step.Open j) q) (i : ℕ) → i ≢ j
+    → slice_index (now_of q).words.gates i ≡ slice_index (world_at a.makes).now.words.gates i
+open_elsewhere p q j a i other =
+    ap (λ (w : World). slice_index w.now.words.gates i) a.world
+    ∙ get_or-set_other (world_at a.makes).now.words.gates j i 0 0 other
+
+-- a gate after another is held, and after one is opened
+hold_frees : (p q : PassState) (j : ℕ) → Acts p (Step.Hold j) q → (i : ℕ) → i ≢ j
+    → slice_index (now_of p).words.gates i ≢ 2 → slice_index (now_of q).words.gates i ≢ 2
+hold_frees p q j a i other free two = a.turn.other_gates i free (sym (hold_elsewhere p q j a i other) ∙ two)
+
+open_frees : (p q : PassState) (j : ℕ) → Acts p (Step.Open j) q → (i : ℕ)
+    → (i ≢ j → slice_index (now_of p).words.gates i ≢ 2) → slice_index (now_of q).words.gates i ≢ 2
+open_frees p q j a i free two = elim (cases_eq i j) [
   | inl same ↦ zero_there (world_at a.makes).now.words.gates j
       (sym (ap (λ (k : ℕ). slice_index (slice_set (world_at a.makes).now.words.gates j 0) k) same)
       ∙ sym (ap (λ (w : World). slice_index w.now.words.gates i) a.world) ∙ two)
-  | inr other ↦ a.turn.other_gates i (h i (within p q (Step.Open j) a i lt) other)
-      (sym (get_or-set_other (world_at a.makes).now.words.gates j i 0 0 other)
-      ∙ sym (ap (λ (w : World). slice_index w.now.words.gates i) a.world) ∙ two)
+  | inr other ↦ a.turn.other_gates i (free other) (sym (open_elsewhere p q j a i other) ∙ two)
 ]
+
+pub hold_leaves : (p q : PassState) (j : ℕ) → Acts p (Step.Hold j) q → NoneHeld p → OnlyHeld j q
+hold_leaves p q j a h i lt other = hold_frees p q j a i other (h i (within p q (Step.Hold j) a i lt))
+
+pub look_leaves : (p q : PassState) (j : ℕ) (x : Word) → Acts p (Step.Look x) q → OnlyHeld j p → OnlyHeld j q
+look_leaves p q j x a h i lt other two = grind (arith, within)
+
+pub open_leaves : (p q : PassState) (j : ℕ) → Acts p (Step.Open j) q → OnlyHeld j p → NoneHeld q
+open_leaves p q j a h i lt = open_frees p q j a i (h i (within p q (Step.Open j) a i lt))
 
 -- a `hold` that finds the caller in its call holds nothing
 pub miss_leaves : (p q : PassState) (j : ℕ) → Acts p (Step.Hold j) q → is_held (now_of q).words j ≡ false → NoneHeld p
@@ -189,18 +200,6 @@ stays_held : (p q : PassState) (s : Step) (a : Acts p s q) (i : ℕ)
     → is_held (now_of p).words i ≡ true → is_held (now_of q).words i ≡ true
 stays_held p q s a i same held = grind (arith, eq-eqb, eqb-true)
 
-hold_elsewhere : (p q : PassState) (j : ℕ) (a : Acts p (Step.Hold j) q) (i : ℕ) → i ≢ j
-    → slice_index (now_of q).words.gates i ≡ slice_index (world_at a.makes).now.words.gates i
-hold_elsewhere p q j a i other =
-    ap (λ (w : World). slice_index w.now.words.gates i) a.world
-    ∙ get_or-set_other (world_at a.makes).now.words.gates j i _ 0 other
-
-open_elsewhere : (p q : PassState) (j : ℕ) (a : Acts p (Step.Open j) q) (i : ℕ) → i ≢ j
-    → slice_index (now_of q).words.gates i ≡ slice_index (world_at a.makes).now.words.gates i
-open_elsewhere p q j a i other =
-    ap (λ (w : World). slice_index w.now.words.gates i) a.world
-    ∙ get_or-set_other (world_at a.makes).now.words.gates j i 0 0 other
-
 pub holds_one_more : (p q : PassState) (j : ℕ) → HoldsBelow p j → Acts p (Step.Hold j) q
     → is_held (now_of q).words j ≡ true → HoldsBelow q (j + 1)
 holds_one_more p q j h a now = record {
@@ -208,22 +207,34 @@ holds_one_more p q j h a now = record {
     | inl same ↦ subst (λ (k : ℕ). is_held (now_of q).words k ≡ true) (sym same) now
     | inr other ↦ stays_held p q (Step.Hold j) a i (hold_elsewhere p q j a i other) (h.held i (omega arith))
   ];
-  free = λ i le lt two. (let other : i ≢ j = λ e. omega arith in
-      a.turn.other_gates i (h.free i (omega arith) (within p q (Step.Hold j) a i lt))
-      (sym (hold_elsewhere p q j a i other) ∙ two));
+  free = λ i le lt.
+      hold_frees p q j a i (λ e. omega arith) (h.free i (omega arith) (within p q (Step.Hold j) a i lt));
 }
 
 pub opens_last : (p q : PassState) (j : ℕ) → HoldsBelow p (j + 1) → Acts p (Step.Open j) q → HoldsBelow q j
 opens_last p q j h a = record {
   held = λ i lt. (let other : i ≢ j = λ e. omega arith in
       stays_held p q (Step.Open j) a i (open_elsewhere p q j a i other) (h.held i (omega arith)));
-  free = λ i le lt two. elim (cases_eq i j) [
-    | inl same ↦ zero_there (world_at a.makes).now.words.gates j
-        (sym (ap (λ (k : ℕ). slice_index (slice_set (world_at a.makes).now.words.gates j 0) k) same)
-        ∙ sym (ap (λ (w : World). slice_index w.now.words.gates i) a.world) ∙ two)
-    | inr other ↦ a.turn.other_gates i (h.free i (omega arith) (within p q (Step.Open j) a i lt))
-        (sym (open_elsewhere p q j a i other) ∙ two)
-  ];
+  free = λ i le lt.
+      open_frees p q j a i (λ other. h.free i (omega arith) (within p q (Step.Open j) a i lt));
+}
+
+-- The gates of the callers below one are held, and all else is as at first.
+pub record HoldsSoFar (t : WordsState) (first now : PassState) (caller : ℕ) : Type 0 where
+  pub one_table : now.table ≡ t
+  pub settled : Settled now
+  pub within : caller ≤ t.config.callers
+  pub holds : HoldsBelow now caller
+  pub tidy : StaysTidy first now
+
+pub holds_on : {t : WordsState} {first p q : PassState} {k j : ℕ} (s : Step) → Acts p s q → leaves_steady s ≡ true
+    → HoldsSoFar t first p k → j ≤ t.config.callers → HoldsBelow q j → HoldsSoFar t first q j
+holds_on s a alone before within holds = record {
+  one_table = ap (λ (r : PassState). r.table) a.makes.is ∙ before.one_table;
+  settled = settled_kept _ _ s a alone before.settled;
+  within = within;
+  holds = holds;
+  tidy = λ t. tidy_kept _ _ s a before.settled.seat alone (before.tidy t);
 }
 
 pub holds_none : (p : PassState) → none_is_held p.table.config.callers (now_of p).words ≡ true → HoldsBelow p 0

@@ -7,6 +7,6 @@ returns-in-Ok-clause-takes g c =
 
 pub returns-in-Err-clause-takes : goal.returns-in-Err-clause-takes
 returns-in-Err-clause-takes g c =
-    takes_then c.args.home c.in-Err.back c.wait_apart.result.pass c.args.op
+    takes_then
     (waits_more c.args.home c.args.home c.in-Err.back c.args.op (waits_none c.args.home) c.in-Err.ensures.busy.makes)
     c.wait_apart.ensures.takes

@@ -8,3 +8,14 @@ waiting-preserved g c =
       waits = waits_more c.args.home c.waiting.pass c.in-Err.back c.args.op c.waiting.invariant.waits
           c.in-Err.ensures.busy.makes;
     }
+
+pub returns-in-Ok : goal.returns-in-Ok
+returns-in-Ok g c =
+    let took = c.in-Ok.ensures in
+    record {
+      takes = record { waited = c.waiting.pass; waits = c.waiting.invariant.waits; takes = took.made };
+      op = took.op;
+      fresh = took.fresh;
+      exact = took.exact;
+      tidy = took.tidy;
+    }

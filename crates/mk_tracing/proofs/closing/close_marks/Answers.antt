@@ -1,7 +1,6 @@
-use Rattle.mk_laws.proofs.Vocabulary.{ℕ, slice_index, subst, sym, ◌<◌, ◌∙◌, ◌≡◌}
+use Rattle.mk_laws.proofs.Vocabulary.{arith, ◌≡◌}
 use Rattle.mk_tracing.proofs.{Closes.marks_closed_now, Closes.may_close_now, Wants.wanted_once_then}
-use Rattle.mk_tracing.specs.{Grays.HasNoGray, Grays.RootsPointWell, Grays.TracesReached, Stops.still_words}
-use Rattle.mk_words.specs.States.{WordsState}
+use Rattle.mk_tracing.specs.Grays.{TracesReached}
 use Rattle.mk_tracing.proofs.closing.close_marks.Goals as goal
 
 pub returns-clause-traces : goal.returns-clause-traces
@@ -11,14 +10,10 @@ returns-clause-traces g c =
 pub returns-clause-closes : goal.returns-clause-closes
 returns-clause-closes g c =
     let p = c.mark_in_stop.new.stop.pass in
-    let table : c.args.words.now ≡ p.table =
-    sym (c.mark_in_stop.ensures.on.table ∙ c.want_and_wait.ensures.table ∙ c.requires.one_table) in
-    may_close_now p c.mark_in_stop.ensures.on.wanted (c.is_in_order.ensures.turn.holds, c.is_in_order.ensures.gates)
-    (subst (λ (t : WordsState). (pg : ℕ) → pg < t.config.pages → HasNoGray (still_words p) pg) table
-    c.mark_in_stop.ensures.black)
-    (subst (λ (t : WordsState). (pg : ℕ) → pg < t.config.pages → slice_index (still_words p).dirty pg ≡ 0) table
-    c.mark_in_stop.ensures.clean)
-    (subst (λ (t : WordsState). RootsPointWell t.config.pages (still_words p)) table c.mark_in_stop.ensures.roots)
+    let m = c.mark_in_stop.ensures in
+    let sized : c.of.result.pages ≡ p.table.config.pages = grind arith in
+    may_close_now p m.on.wanted (c.is_in_order.ensures.turn.holds, c.is_in_order.ensures.gates)
+    (λ pg lt. m.black pg (rw sized lt)) (λ pg lt. m.clean pg (rw sized lt)) (rw sized at m.roots)
 
 pub returns-clause-closed : goal.returns-clause-closed
 returns-clause-closed g c = marks_closed_now c.mark_in_stop.new.stop.pass c.is_in_order.ensures.history

@@ -3,9 +3,7 @@ use Rattle.mk_tracing.proofs.{Closes.roots_more, StopSteps.on_then}
 use Rattle.mk_tracing.proofs.closing.mark_in_stop.Goals as goal
 
 pub returns-clause-on : goal.returns-clause-on
-returns-clause-on c =
-    on_then _ c.mark_roots.new.stop c.trace.new.stop (on_then _ c.clean_dirty.new.stop c.mark_roots.new.stop
-    c.clean_dirty.ensures.on c.mark_roots.ensures.marks.on) c.trace.ensures.on
+returns-clause-on c = on_then (on_then c.clean_dirty.ensures.on c.mark_roots.ensures.marks.on) c.trace.ensures.on
 
 pub returns-clause-clean : goal.returns-clause-clean
 returns-clause-clean c p lt =

@@ -4,7 +4,7 @@ use Rattle.mk_tracing.specs.Stops.{still_words}
 use Rattle.mk_tracing.proofs.dirty.clean_dirty.Goals as goal
 
 pub loop-page-init : goal.loop-page-init
-loop-page-init c = grind (arith, on_from)
+loop-page-init c = record { on = on_from c.requires.may.wanted; clean = λ p lt. absurd (omega arith) }
 
 pub loop-page-preserved : goal.loop-page-preserved
 loop-page-preserved c =
@@ -12,7 +12,7 @@ loop-page-preserved c =
     let x = still_words c.clean_if_dirty.new.stop.pass in
     let found = c.in-Some.ensures in
     record {
-      on = on_then _ c.loop-page.stop c.clean_if_dirty.new.stop c.loop-page.invariant.on c.clean_if_dirty.ensures.on;
+      on = on_then c.loop-page.invariant.on c.clean_if_dirty.ensures.on;
       clean = pages_then (λ p. slice_index v.dirty p ≡ 0) (λ p. slice_index x.dirty p ≡ 0) c.in-Some.page
           c.clean_if_dirty.ensures.fewer
           (clean_past c.loop-page.stop.pass found.history c.loop-page.from c.in-Some.page c.loop-page.invariant.clean
@@ -23,6 +23,6 @@ loop-page-preserved c =
 pub returns-clause-clean : goal.returns-clause-clean
 returns-clause-clean c =
     let q = c.loop-page.stop.pass in
-    let pages : q.table.config.pages ≡ c.args.words.now.config.pages = grind arith in
-    clean_past q c.in_default.ensures.history c.loop-page.from c.args.words.now.config.pages
+    let pages : q.table.config.pages ≡ c.args.table.pages = grind arith in
+    clean_past q c.in_default.ensures.history c.loop-page.from c.args.table.pages
     c.loop-page.invariant.clean (λ n low high. c.in_default.ensures.next n low (omega (arith, high, pages)))

@@ -9,4 +9,4 @@ invariant-loop-page l = record {
 }
 
 abbrev pub decreases-loop-page : goal.decreases-loop-page
-decreases-loop-page l = l.words.config.pages - l.from
+decreases-loop-page l = l.table.pages - l.from

@@ -1,37 +1,26 @@
 use Rattle.mk_laws.proofs.Vocabulary.{sym, ◌∙◌}
 use Rattle.mk_tracing.proofs.{Clearing.dirt_cleared, Clearing.dirt_stays, Clearing.same_dirt, StopSteps.on_then}
-use Rattle.mk_tracing.specs.Stops.{still_words}
 use Rattle.mk_tracing.proofs.dirty.clean_if_dirty.Goals as goal
 
 pub undirty_page-requires-clause-own : goal.undirty_page-requires-clause-own
 undirty_page-requires-clause-own c =
     let u = c.unblack_if_dirty.ensures in
-    let same = same_dirt (still_words c.args.stop.now.pass) (still_words c.unblack_if_dirty.new.stop.pass) c.args.page
-    u.fewer in
-    u.unscanned.own (λ z. u.dirty c.if-unblack_if_dirty.true (sym same ∙ z))
+    u.unscanned.own (λ z. u.dirty c.if-unblack_if_dirty.true (sym (same_dirt _ _ c.args.page u.fewer) ∙ z))
 
 pub undirty_page-requires-clause-head : goal.undirty_page-requires-clause-head
 undirty_page-requires-clause-head c =
     let u = c.unblack_if_dirty.ensures in
-    let same = same_dirt (still_words c.args.stop.now.pass) (still_words c.unblack_if_dirty.new.stop.pass) c.args.page
-    u.fewer in
-    u.unscanned.head (λ z. u.dirty c.if-unblack_if_dirty.true (sym same ∙ z))
+    u.unscanned.head (λ z. u.dirty c.if-unblack_if_dirty.true (sym (same_dirt _ _ c.args.page u.fewer) ∙ z))
 
 pub returns-then-unblack_if_dirty-clause-on : goal.returns-then-unblack_if_dirty-clause-on
-returns-then-unblack_if_dirty-clause-on c =
-    on_then c.args.stop.now c.unblack_if_dirty.new.stop c.undirty_page.new.stop c.unblack_if_dirty.ensures.on
-    c.undirty_page.ensures.on
+returns-then-unblack_if_dirty-clause-on c = on_then c.unblack_if_dirty.ensures.on c.undirty_page.ensures.on
 
 pub returns-then-unblack_if_dirty-clause-fewer : goal.returns-then-unblack_if_dirty-clause-fewer
 returns-then-unblack_if_dirty-clause-fewer c p z =
-    let x = still_words c.unblack_if_dirty.new.stop.pass in
-    dirt_stays x (still_words c.undirty_page.new.stop.pass) c.args.page c.undirty_page.ensures.words p
-    (same_dirt (still_words c.args.stop.now.pass) x p c.unblack_if_dirty.ensures.fewer ∙ z)
+    dirt_stays _ _ c.args.page c.undirty_page.ensures.words p (same_dirt _ _ p c.unblack_if_dirty.ensures.fewer ∙ z)
 
 pub returns-then-unblack_if_dirty-clause-clean : goal.returns-then-unblack_if_dirty-clause-clean
-returns-then-unblack_if_dirty-clause-clean c =
-    dirt_cleared (still_words c.unblack_if_dirty.new.stop.pass) (still_words c.undirty_page.new.stop.pass) c.args.page
-    c.undirty_page.ensures.words
+returns-then-unblack_if_dirty-clause-clean c = dirt_cleared _ _ c.args.page c.undirty_page.ensures.words
 
 pub returns-else-unblack_if_dirty-clause-fewer : goal.returns-else-unblack_if_dirty-clause-fewer
 returns-else-unblack_if_dirty-clause-fewer c p z = same_dirt _ _ p c.unblack_if_dirty.ensures.fewer ∙ z

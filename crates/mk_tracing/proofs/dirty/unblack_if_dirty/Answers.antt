@@ -1,59 +1,59 @@
-use Rattle.mk_laws.proofs.Vocabulary.{Words, ℕ, ap, head_page, head_page_under, header_of, slice_index, sym, ◌∙◌, ◌≡◌}
+use Rattle.mk_laws.proofs.Vocabulary.{List, Page, Words, ap, head_page, head_page_under, header_of, refl, slice_index}
+use Rattle.mk_laws.proofs.Vocabulary.{sym, ◌∙◌, ◌≡◌, ◌≢◌}
 use Rattle.mk_tracing.proofs.Clearing.{black_cleared, blacks_cleared, cleared_unscanned, head_part, own_part, part_kept}
+use Rattle.mk_tracing.proofs.dirty.unblack_if_dirty.Goals.{After-head_page_under-head, After-look_at-header}
 use Rattle.mk_tracing.proofs.StopSteps.{on_then}
-use Rattle.mk_tracing.specs.Stops.{still_words}
+use Rattle.mk_tracing.specs.{Grays.without_blacks, Stops.still_words}
 use Rattle.mk_tracing.proofs.dirty.unblack_if_dirty.Goals as goal
 
 pub returns-then-head-page-clause-on : goal.returns-then-head-page-clause-on
 returns-then-head-page-clause-on c =
-    on_then _ c.look_at-header.new.stop c.unblack_page.new.stop (on_then _ c.look_among.new.stop
-    c.look_at-header.new.stop c.look_among.ensures.on c.look_at-header.ensures.on) c.unblack_page.ensures.on
+    on_then (on_then c.look_at.ensures.looks.on c.look_at-header.ensures.looks.on) c.unblack_page.ensures.on
 
 pub returns-clause-on : goal.returns-clause-on
 returns-clause-on c =
-    on_then _ c.unblack_page.new.stop c.unblack_page-2.new.stop
-    (on_then _ c.look_at-header.new.stop c.unblack_page.new.stop
-    (on_then _ c.look_among.new.stop c.look_at-header.new.stop c.look_among.ensures.on c.look_at-header.ensures.on)
-    c.unblack_page.ensures.on) c.unblack_page-2.ensures.on
+    on_then (on_then (on_then c.look_at.ensures.looks.on c.look_at-header.ensures.looks.on) c.unblack_page.ensures.on)
+    c.unblack_page-2.ensures.on
+
+-- The head of the page, by its header word, and that the page is dirty.
+
+head : (c : After-head_page_under-head) (w : Words) → (still_words c.look_at-header.new.stop.pass).pages ≡ w.pages
+    → head_page w c.args.page ≡ c.head_page_under-head.result
+head c w same =
+    let look = c.look_at-header.ensures in
+    let q = still_words c.look_at-header.new.stop.pass in
+    ap (λ (ps : List Page). head_page (record q { pages = ps }) c.args.page) (sym same)
+    ∙ ap (λ (y : Words). head_page y c.args.page) look.looks.words
+    ∙ ap (λ h. head_page_under (header_of h) c.args.page) (sym look.found) ∙ sym c.head_page_under-head.ensures.exact
+
+is_dirty : (c : After-look_at-header)
+    → slice_index (still_words c.look_at-header.new.stop.pass).dirty c.args.page ≢ 0
+is_dirty c z =
+    let same = c.look_at-header.ensures.looks.words ∙ c.look_at.ensures.looks.words in
+    c.if-look_at-eq0.false
+    (c.look_at.ensures.found ∙ sym (ap (λ (w : Words). slice_index w.dirty c.args.page) same) ∙ z)
 
 pub returns-clause-unscanned : goal.returns-clause-unscanned
 returns-clause-unscanned c =
-    let page : ℕ = c.args.page in
-    let w = still_words c.look_at-header.new.stop.pass in
     let x = still_words c.unblack_page.new.stop.pass in
     let v = still_words c.unblack_page-2.new.stop.pass in
-    let headed : Words → ℕ = λ (y : Words). head_page y page in
-    let head : head_page v page ≡ c.head_page_under-head.result =
-    ap headed c.unblack_page-2.ensures.words ∙ ap headed c.unblack_page.ensures.words
-    ∙ ap headed c.look_at-header.ensures.words
-    ∙ ap (λ h. head_page_under (header_of h) page) (sym c.look_at-header.ensures.found)
-    ∙ sym c.head_page_under-head.ensures.exact in
-    cleared_unscanned v page
-    ((blacks_cleared x v c.head_page_under-head.result c.unblack_page-2.ensures.words).fewer page
-    (black_cleared w x page c.unblack_page.ensures.words))
-    (ap (λ q. slice_index v.blacks q) head
-    ∙ black_cleared x v c.head_page_under-head.result c.unblack_page-2.ensures.words)
+    let own = c.unblack_page.ensures.words in
+    let heads = c.unblack_page-2.ensures.words in
+    cleared_unscanned v c.args.page
+    ((blacks_cleared x v c.head_page_under-head.result heads).fewer c.args.page (black_cleared _ x c.args.page own))
+    (ap (λ q. slice_index v.blacks q) (head (goal.at.returns-clause-unscanned c).After-head_page_under-head v
+    (ap (λ (w : Words). w.pages) (sym (heads ∙ ap (without_blacks c.head_page_under-head.result) own))))
+    ∙ black_cleared x v c.head_page_under-head.result heads)
 
 pub unblack_page-requires-clause-part : goal.unblack_page-requires-clause-part
 unblack_page-requires-clause-part c =
-    let q = c.look_at-header.new.stop.pass in
-    let same : still_words q ≡ still_words c.args.stop.now.pass = c.look_at-header.ensures.words
-    ∙ c.look_among.ensures.words in
-    own_part q _ (λ z. c.if-look_among-eq0.false
-    (c.look_among.ensures.found ∙ sym (ap (λ (w : Words). slice_index w.dirty c.args.page) same) ∙ z))
+    own_part c.look_at-header.new.stop.pass _
+    (is_dirty (goal.at.unblack_page-requires-clause-part c).After-look_at-header)
 
 pub unblack_page-requires-2-clause-part : goal.unblack_page-requires-2-clause-part
 unblack_page-requires-2-clause-part c =
-    let page : ℕ = c.args.page in
     let q = c.look_at-header.new.stop.pass in
-    let same : still_words q ≡ still_words c.args.stop.now.pass = c.look_at-header.ensures.words
-    ∙ c.look_among.ensures.words in
-    let head : head_page (still_words q) page ≡ c.head_page_under-head.result =
-    ap (λ (w : Words). head_page w page) c.look_at-header.ensures.words
-    ∙ ap (λ h. head_page_under (header_of h) page) (sym c.look_at-header.ensures.found)
-    ∙ sym c.head_page_under-head.ensures.exact in
-    part_kept (still_words q) (still_words c.unblack_page.new.stop.pass) c.head_page_under-head.result
-    (blacks_cleared (still_words q) (still_words c.unblack_page.new.stop.pass) page c.unblack_page.ensures.words)
-    (head_part q page c.head_page_under-head.result
-    (λ z. c.if-look_among-eq0.false (c.look_among.ensures.found
-    ∙ sym (ap (λ (w : Words). slice_index w.dirty page) same) ∙ z)) head)
+    part_kept _ _ c.head_page_under-head.result (blacks_cleared _ _ c.args.page c.unblack_page.ensures.words)
+    (head_part q c.args.page c.head_page_under-head.result
+    (is_dirty (goal.at.unblack_page-requires-2-clause-part c).After-look_at-header)
+    (head (goal.at.unblack_page-requires-2-clause-part c).After-head_page_under-head (still_words q) refl))

@@ -5,16 +5,15 @@ use Rattle.mk_tracing.proofs.dirty.unblack_page.Goals as goal
 
 pub clear_black-requires-clause-part : goal.clear_black-requires-clause-part
 clear_black-requires-clause-part c =
-    subst (λ (w : Words). HasDirtyPart w c.args.page) (sym c.look_at.ensures.words) c.requires.part
+    subst (λ (w : Words). HasDirtyPart w c.args.page) (sym c.look_at.ensures.looks.words) c.requires.part
 
 pub returns-then-look_at-ne0-clause-on : goal.returns-then-look_at-ne0-clause-on
-returns-then-look_at-ne0-clause-on c =
-    on_then c.args.stop.now c.look_at.new.stop c.clear_black.new.stop c.look_at.ensures.on c.clear_black.ensures.on
+returns-then-look_at-ne0-clause-on c = on_then c.look_at.ensures.looks.on c.clear_black.ensures.on
 
 pub returns-then-look_at-ne0-clause-words : goal.returns-then-look_at-ne0-clause-words
 returns-then-look_at-ne0-clause-words c =
-    c.clear_black.ensures.words ∙ ap (without_blacks c.args.page) c.look_at.ensures.words
+    c.clear_black.ensures.words ∙ ap (without_blacks c.args.page) c.look_at.ensures.looks.words
 
 pub returns-else-look_at-ne0-clause-words : goal.returns-else-look_at-ne0-clause-words
 returns-else-look_at-ne0-clause-words c =
-    c.look_at.ensures.words ∙ black_clear _ _ (sym c.look_at.ensures.found ∙ c.if-look_at-ne0.false)
+    c.look_at.ensures.looks.words ∙ black_clear _ _ (sym c.look_at.ensures.found ∙ c.if-look_at-ne0.false)

@@ -1,13 +1,12 @@
-use Rattle.mk_laws.proofs.Vocabulary.{ℕ, ◌-◌, ◌<◌, ◌≡◌, ◌≤◌}
-use Rattle.mk_tracing.specs.{Grays.HasNoGray, Grays.MarksOn, Stops.still_words}
+use Rattle.mk_laws.proofs.Vocabulary.{ℕ, ◌-◌, ◌<◌, ◌≤◌}
+use Rattle.mk_tracing.specs.{Grays.HasNoGray, Grays.LooksOn, Stops.still_words}
 use Rattle.mk_tracing.proofs.grays.gray_between.Given as goal
 
 abbrev pub invariant-loop-page : goal.invariant-loop-page
 invariant-loop-page l = record {
-  on : MarksOn l.fn.stop l.stop;
-  words : still_words l.stop.pass ≡ still_words l.fn.stop.pass;
+  looks : LooksOn l.fn.stop l.stop;
   none : (p : ℕ) → l.from ≤ p → p < l.next → HasNoGray (still_words l.fn.stop.pass) p;
 }
 
 abbrev pub decreases-loop-page : goal.decreases-loop-page
-decreases-loop-page l = l.words.config.pages - l.next
+decreases-loop-page l = l.table.pages - l.next

@@ -1,6 +1,5 @@
-use Rattle.mk_tracing.proofs.StopSteps.{on_then}
+use Rattle.mk_tracing.proofs.StopSteps.{looks_then}
 use Rattle.mk_tracing.proofs.grays.gray_somewhere.Goals as goal
 
-pub returns-clause-on : goal.returns-clause-on
-returns-clause-on c = on_then c.args.stop.now c.gray_between-found.new.stop c.gray_between.new.stop
-    c.gray_between-found.ensures.on c.gray_between.ensures.on
+pub returns-clause-looks : goal.returns-clause-looks
+returns-clause-looks c = looks_then c.gray_between-found.ensures.looks c.gray_between.ensures.looks

@@ -8,5 +8,5 @@ isnt false e = refl
 
 pub returns-clause-gray : goal.returns-clause-gray
 returns-clause-gray c is =
-    noted_gray c.args.words.now.config.pages (still_words c.args.stop.now.pass) c.args.noted c.look_among.result
-    c.requires.noted c.look_among.ensures.found (sym c.has_cell.ensures ∙ isnt c.has_cell.result is)
+    noted_gray c.args.table.pages (still_words c.args.stop.now.pass) c.args.noted c.look_at.result
+    c.requires.noted c.look_at.ensures.found (sym c.has_cell.ensures ∙ isnt c.has_cell.result is)

@@ -1,28 +1,25 @@
 use Rattle.std.proofs.Common.{IfNone}
-use Rattle.mk_laws.proofs.Vocabulary.{Words, ℕ, ap, subst, sym, ◌<◌, ◌∙◌, ◌≡◌}
-use Rattle.mk_tracing.proofs.grays.next_gray.Goals.{in-Some+else-is_gray, in_default}
-use Rattle.mk_tracing.proofs.StopSteps.{on_then}
-use Rattle.mk_tracing.specs.{Grays.HasNoGray, Grays.MarksOn, Stops.still_words}
+use Rattle.mk_laws.proofs.Vocabulary.{Words, ℕ, subst, sym, ◌<◌}
+use Rattle.mk_tracing.proofs.grays.next_gray.Goals.{After-another_gray, in-Some+else-is_gray, in_default}
+use Rattle.mk_tracing.proofs.StopSteps.{looks_from, looks_then}
+use Rattle.mk_tracing.specs.Grays.{HasNoGray, LooksOn}
 use Rattle.mk_words.specs.States.{TurnState}
 use Rattle.mk_tracing.proofs.grays.next_gray.Goals as goal
 
-pub returns-clause-on : goal.returns-clause-on
-returns-clause-on c =
-    let t = c.args.stop.now in
-    let u = c.another_gray.new.stop in
-    elim c.match-last.branch [
-      | in-Some+else-is_gray w ↦
-          on_then t c.match-last.stop u (subst (λ (s : TurnState). MarksOn t s) (sym w.stop-is) w.is_gray.ensures.on)
-          c.another_gray.ensures.on
-      | in_default w ↦ subst (λ (s : TurnState). MarksOn s u) w.stop-is c.another_gray.ensures.on
-    ]
+-- what was looked at of the cell that was noted last
+looked : (c : After-another_gray) → LooksOn c.args.stop.now c.match-last.stop
+looked c = elim c.match-last.branch [
+  | in-Some+else-is_gray w ↦
+      subst (λ (s : TurnState). LooksOn c.args.stop.now s) (sym w.stop-is) w.is_gray.ensures.looks
+  | in_default w ↦
+      subst (λ (s : TurnState). LooksOn c.args.stop.now s) (sym w.stop-is) (looks_from c.requires.may.wanted)
+]
+
+pub returns-clause-looks : goal.returns-clause-looks
+returns-clause-looks c =
+    looks_then (looked (goal.at.returns-clause-looks c).After-another_gray) c.another_gray.ensures.looks
 
 pub returns-clause-none : goal.returns-clause-none
 returns-clause-none c =
-    let same : still_words c.match-last.stop.pass ≡ still_words c.args.stop.now.pass =
-    elim c.match-last.branch [
-      | in-Some+else-is_gray w ↦ ap (λ (s : TurnState). still_words s.pass) w.stop-is ∙ w.is_gray.ensures.words
-      | in_default w ↦ ap (λ (s : TurnState). still_words s.pass) w.stop-is
-    ] in
-    subst (λ (w : Words). IfNone c.another_gray.result
-    ((p : ℕ) → p < c.args.words.now.config.pages → HasNoGray w p)) same c.another_gray.ensures.none
+    subst (λ (w : Words). IfNone c.another_gray.result ((p : ℕ) → p < c.args.table.pages → HasNoGray w p))
+    (looked (goal.at.returns-clause-none c).After-another_gray).words c.another_gray.ensures.none

@@ -2,9 +2,8 @@ use Rattle.mk_tracing.{proofs.RootMarks.before_well, proofs.ScannedWords.marks_n
 use Rattle.mk_tracing.proofs.noting.mark_address.Goals as goal
 
 pub returns-then-value-lt-HEAP_START-clause-marks : goal.returns-then-value-lt-HEAP_START-clause-marks
-returns-then-value-lt-HEAP_START-clause-marks c = marks_nothing c.requires.wanted
+returns-then-value-lt-HEAP_START-clause-marks c = marks_nothing c.requires.may.wanted
 
 pub returns-then-value-lt-HEAP_START-clause-well : goal.returns-then-value-lt-HEAP_START-clause-well
 returns-then-value-lt-HEAP_START-clause-well c =
-    before_well c.args.words.now.config.pages (still_words c.args.stop.now.pass) c.args.value
-    c.if-value-lt-HEAP_START.true
+    before_well c.args.table.pages (still_words c.args.stop.now.pass) c.args.value c.if-value-lt-HEAP_START.true

@@ -1,4 +1,5 @@
-use Rattle.mk_laws.proofs.Vocabulary.{None, Some, Words, ℕ, pointed_cell, points_well, refl, subst, sym, true, ◌∙◌, ◌≡◌}
+use Rattle.mk_laws.proofs.Vocabulary.{Some, Words, ℕ, arith, pointed_cell, points_well, refl, subst, sym, true, ◌∙◌}
+use Rattle.mk_laws.proofs.Vocabulary.{◌≡◌}
 use Rattle.mk_tracing.proofs.PointedCells.{hand_points, pointed_under, well_marked, well_nowhere}
 use Rattle.mk_tracing.proofs.ScannedWords.{marks_alone, marks_nothing, notes_then}
 use Rattle.mk_tracing.proofs.noting.mark_under.Goals.{In-Some}
@@ -6,26 +7,24 @@ use Rattle.mk_tracing.specs.Stops.{still_words}
 use Rattle.mk_tracing.proofs.noting.mark_under.Goals as goal
 
 pub returns-in_default-clause-marks : goal.returns-in_default-clause-marks
-returns-in_default-clause-marks c = marks_nothing c.requires.wanted
+returns-in_default-clause-marks c = marks_nothing c.requires.may.wanted
 
 pub returns-in_default-clause-well : goal.returns-in_default-clause-well
 returns-in_default-clause-well c =
     let w = still_words c.args.stop.now.pass in
-    well_nowhere c.args.words.now.config.pages w w c.args.value refl
-    (subst (λ n. pointed_cell n w.pages c.args.value ≡ None) c.requires.pages
-    (sym (pointed_under c.args.pages w c.args.value c.args.header c.requires.header) ∙ sym c.in_default.ensures))
+    well_nowhere c.args.table.pages w w c.args.value refl
+    (sym (pointed_under c.args.table.pages w c.args.value c.args.header c.requires.header) ∙ sym c.in_default.ensures)
 
 -- the cell into which the value points
 points : (c : In-Some)
-    → pointed_cell c.args.words.now.config.pages (still_words c.args.stop.now.pass).pages c.args.value
-    ≡ Some c.in-Some.cell
+    → pointed_cell c.args.table.pages (still_words c.args.stop.now.pass).pages c.args.value ≡ Some c.in-Some.cell
 points c =
     let w = still_words c.args.stop.now.pass in
-    cc (c.requires.pages, pointed_under c.args.pages w c.args.value c.args.header c.requires.header, c.in-Some.ensures)
+    cc (pointed_under c.args.table.pages w c.args.value c.args.header c.requires.header, c.in-Some.ensures)
 
 pub mark_white-requires-clause-reached : goal.mark_white-requires-clause-reached
 mark_white-requires-clause-reached c =
-    hand_points c.args.stop.now.pass c.args.words.now c.args.value c.in-Some.cell c.requires.one_table c.requires.hand
+    hand_points c.args.stop.now.pass c.args.table.pages c.args.value c.in-Some.cell (grind arith) c.requires.hand
     (points (goal.at.mark_white-requires-clause-reached c).In-Some)
 
 pub returns-then-mark_white-clause-marks : goal.returns-then-mark_white-clause-marks
@@ -34,7 +33,7 @@ returns-then-mark_white-clause-marks c =
 
 pub returns-then-mark_white-clause-well : goal.returns-then-mark_white-clause-well
 returns-then-mark_white-clause-well c =
-    let pages : ℕ = c.args.words.now.config.pages in
+    let pages : ℕ = c.args.table.pages in
     subst (λ (y : Words). points_well pages y c.args.value ≡ true) (sym c.note.ensures.words)
     (well_marked pages _ _ c.args.value c.in-Some.cell c.mark_white.ensures.more
     (points (goal.at.returns-then-mark_white-clause-well c).In-Some) c.mark_white.ensures.marked)

@@ -3,11 +3,11 @@ use Rattle.mk_tracing.proofs.RootMarks.{next_look, no_look_yet}
 use Rattle.mk_tracing.proofs.roots.are_before_heap.Goals as goal
 
 pub loop-i-init : goal.loop-i-init
-loop-i-init c = no_look_yet c.requires.wanted
+loop-i-init c = no_look_yet c.requires.may.wanted
 
 pub loop-i-preserved : goal.loop-i-preserved
 loop-i-preserved c =
-    let look = c.look_at_root-all.ensures in next_look c.loop-i.invariant look.on look.words look.found
+    let look = c.look_at_root-all.ensures in next_look c.loop-i.invariant look.looks look.found
 
 pub returns-clause-before : goal.returns-clause-before
 returns-clause-before c is i lt = grind (arith, ltb-true)

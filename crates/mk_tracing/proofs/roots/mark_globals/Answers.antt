@@ -3,7 +3,7 @@ use Rattle.mk_tracing.proofs.{RootMarks.groups_then, ScannedWords.marks_nothing,
 use Rattle.mk_tracing.proofs.roots.mark_globals.Goals as goal
 
 pub loop-group-init : goal.loop-group-init
-loop-group-init c = record { marks = marks_nothing c.requires.wanted; well = λ g lt. absurd (omega arith) }
+loop-group-init c = record { marks = marks_nothing c.requires.may.wanted; well = λ g lt. absurd (omega arith) }
 
 pub loop-group-preserved : goal.loop-group-preserved
 loop-group-preserved c =

@@ -4,6 +4,6 @@ use Rattle.mk_tracing.proofs.roots.mark_globals.Given as goal
 
 abbrev pub invariant-loop-group : goal.invariant-loop-group
 invariant-loop-group l = record {
-  marks : MarksAndNotes l.words.config.pages l.fn.stop l.fn.work l.stop l.work;
-  well : (g : ℕ) → g < 8 * l.group → GlobalIsWell l.words.config l.fn.stop.pass l.stop.pass g;
+  marks : MarksAndNotes l.table.pages l.fn.stop l.fn.work l.stop l.work;
+  well : (g : ℕ) → g < 8 * l.group → GlobalIsWell l.table.words.now.config l.fn.stop.pass l.stop.pass g;
 }

@@ -4,4 +4,4 @@ use Rattle.mk_tracing.proofs.roots.mark_group.Given as goal
 
 abbrev pub invariant-loop-i : goal.invariant-loop-i
 invariant-loop-i l =
-    RootsNoted l.words.config.pages l.fn.stop l.fn.work l.stop l.work (λ j. Word.Global (l.first + j)) l.i
+    RootsNoted l.table.pages l.fn.stop l.fn.work l.stop l.work (λ j. Word.Global (l.first + j)) l.i

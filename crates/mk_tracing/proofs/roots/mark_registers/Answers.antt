@@ -3,14 +3,14 @@ use Rattle.mk_tracing.proofs.{RootMarks.registers_then, ScannedWords.marks_nothi
 use Rattle.mk_tracing.proofs.roots.mark_registers.Goals as goal
 
 pub loop-caller-init : goal.loop-caller-init
-loop-caller-init c = record { marks = marks_nothing c.requires.wanted; well = λ k lt. absurd (omega arith) }
+loop-caller-init c = record { marks = marks_nothing c.requires.may.wanted; well = λ k lt. absurd (omega arith) }
 
 pub loop-caller-preserved : goal.loop-caller-preserved
 loop-caller-preserved c =
     let before = c.loop-caller.invariant in
-    let mark = c.mark_registers_of in
+    let mark = c.mark_registers_of.ensures in
     record {
-      marks = notes_then before.marks mark.ensures.marks;
-      well = registers_then c.args.words.now.config c.args.stop.now.pass c.loop-caller.stop.pass mark.new.stop.pass
-          before.marks.more mark.ensures.marks.more before.well mark.ensures.well;
+      marks = notes_then before.marks mark.marks;
+      well = registers_then c.args.table.words.now.config c.args.stop.now.pass c.loop-caller.stop.pass
+          c.mark_registers_of.new.stop.pass before.marks.more mark.marks.more before.well mark.well;
     }

@@ -4,6 +4,6 @@ use Rattle.mk_tracing.proofs.roots.mark_registers.Given as goal
 
 abbrev pub invariant-loop-caller : goal.invariant-loop-caller
 invariant-loop-caller l = record {
-  marks : MarksAndNotes l.words.config.pages l.fn.stop l.fn.work l.stop l.work;
-  well : (k : ℕ) → k < l.caller → RegistersAreWell l.words.config l.fn.stop.pass l.stop.pass k;
+  marks : MarksAndNotes l.table.pages l.fn.stop l.fn.work l.stop l.work;
+  well : (k : ℕ) → k < l.caller → RegistersAreWell l.table.words.now.config l.fn.stop.pass l.stop.pass k;
 }

@@ -3,7 +3,7 @@ use Rattle.mk_tracing.proofs.{RootMarks.next_root_noted, RootMarks.no_root_noted
 use Rattle.mk_tracing.proofs.roots.mark_registers_of.Goals as goal
 
 pub loop-register-init : goal.loop-register-init
-loop-register-init c = no_root_noted (marks_nothing c.requires.wanted)
+loop-register-init c = no_root_noted (marks_nothing c.requires.may.wanted)
 
 pub loop-register-preserved : goal.loop-register-preserved
 loop-register-preserved c =

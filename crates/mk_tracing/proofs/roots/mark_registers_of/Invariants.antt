@@ -4,4 +4,4 @@ use Rattle.mk_tracing.proofs.roots.mark_registers_of.Given as goal
 
 abbrev pub invariant-loop-register : goal.invariant-loop-register
 invariant-loop-register l =
-    RootsNoted l.words.config.pages l.fn.stop l.fn.work l.stop l.work (Word.Reg l.caller) l.register
+    RootsNoted l.table.pages l.fn.stop l.fn.work l.stop l.work (Word.Reg l.caller) l.register

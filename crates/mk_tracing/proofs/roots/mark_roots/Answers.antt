@@ -1,3 +1,4 @@
+use Rattle.mk_laws.proofs.Vocabulary.{arith, ◌≡◌}
 use Rattle.mk_tracing.proofs.{RootMarks.all_roots_well, ScannedWords.notes_then}
 use Rattle.mk_tracing.proofs.roots.mark_roots.Goals as goal
 
@@ -6,8 +7,9 @@ returns-clause-marks c = notes_then c.mark_registers.ensures.marks c.mark_global
 
 pub returns-clause-roots : goal.returns-clause-roots
 returns-clause-roots c =
-    let registers = c.mark_registers in
-    let globals = c.mark_globals in
-    all_roots_well c.args.stop.now.pass registers.new.stop.pass globals.new.stop.pass c.requires.one_table
-    c.is_in_order.ensures.history registers.ensures.marks.more globals.ensures.marks.more registers.ensures.well
-    globals.ensures.well
+    let registers = c.mark_registers.ensures in
+    let globals = c.mark_globals.ensures in
+    let sized : c.args.table.pages ≡ c.args.table.words.now.config.pages = grind arith in
+    rw sized (all_roots_well c.args.stop.now.pass c.mark_registers.new.stop.pass c.mark_globals.new.stop.pass
+    {t = c.args.table.words.now} c.requires.may.one_table c.is_in_order.ensures.history
+    registers.marks.more globals.marks.more registers.well globals.well)

@@ -4,4 +4,4 @@ use Rattle.mk_tracing.proofs.scanning.are_before_heap.Given as goal
 
 abbrev pub invariant-loop-i : goal.invariant-loop-i
 invariant-loop-i l =
-    LooksAtMost l.fn.stop l.stop (λ w j. slice_index w.heap (first_word w l.cell + (l.first + j))) l.all l.i
+    LooksAtMost l.fn.stop l.stop (λ w j. slice_index w.heap (first_word w l.gray.cell + (l.first + j))) l.all l.i

@@ -3,7 +3,7 @@ use Rattle.mk_tracing.proofs.ScannedWords.{due_kept, marks_nothing, none_scanned
 use Rattle.mk_tracing.proofs.scanning.scan_from.Goals as goal
 
 pub loop-i-init : goal.loop-i-init
-loop-i-init c = none_scanned (omega arith) (marks_nothing c.requires.wanted)
+loop-i-init c = none_scanned (omega arith) (marks_nothing c.requires.may.wanted)
 
 pub look_at_word-value-requires-clause-due : goal.look_at_word-value-requires-clause-due
 look_at_word-value-requires-clause-due c = due_kept c.requires.due c.loop-i.invariant.marks.more
@@ -16,7 +16,7 @@ loop-i-preserved c =
     let look = c.look_at_word-value.ensures in
     let mark = c.mark_address.ensures in
     scans_to (c.args.first + (c.loop-i.i + 1)) (omega arith)
-    (scans_then c.loop-i.invariant (one_scanned look.on look.words look.found mark.marks mark.well))
+    (scans_then c.loop-i.invariant (one_scanned look.looks look.found mark.marks mark.well))
 
 pub returns : goal.returns
 returns c =

@@ -12,22 +12,21 @@ returns-then-are_before_heap c =
     let w = still_words c.args.stop.now.pass in
     let first : ℕ = 8 * c.args.group in
     record {
-      marks = looks_alone look.on look.words;
+      marks = looks_alone look.looks;
       well = λ k le lt.
           let at : first + (k - first) ≡ k = omega arith in
-          before_well c.args.words.now.config.pages (still_words c.are_before_heap.new.stop.pass) _
-          (subst (λ i. slice_index w.heap (first_word w c.args.cell + i) < 65536) at
+          before_well c.args.table.pages (still_words c.are_before_heap.new.stop.pass) _
+          (subst (λ i. slice_index w.heap (first_word w c.args.gray.cell + i) < 65536) at
           (look.before c.if-are_before_heap.true (k - first) (omega arith)));
     }
 
 pub scan_from-requires-clause-due : goal.scan_from-requires-clause-due
-scan_from-requires-clause-due c = grind (arith, due_same)
+scan_from-requires-clause-due c = due_same c.requires.due c.are_before_heap.ensures.looks.words
 
 pub scan_from-requires-clause-part : goal.scan_from-requires-clause-part
 scan_from-requires-clause-part c i lt = let part = c.requires.part in omega arith
 
 pub returns : goal.returns
 returns c =
-    let look = c.are_before_heap.ensures in
-    scans_then {i = 8 * c.args.group} (none_scanned (omega arith) (looks_alone look.on look.words))
+    scans_then {i = 8 * c.args.group} (none_scanned (omega arith) (looks_alone c.are_before_heap.ensures.looks))
     c.scan_from.ensures

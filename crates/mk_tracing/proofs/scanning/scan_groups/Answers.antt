@@ -5,7 +5,7 @@ use Rattle.mk_tracing.specs.Scans.{Scans}
 use Rattle.mk_tracing.proofs.scanning.scan_groups.Goals as goal
 
 pub loop-part-init : goal.loop-part-init
-loop-part-init c = none_scanned (omega arith) (marks_nothing c.requires.wanted)
+loop-part-init c = none_scanned (omega arith) (marks_nothing c.requires.may.wanted)
 
 pub scan_part-requires-clause-due : goal.scan_part-requires-clause-due
 scan_part-requires-clause-due c = due_kept c.requires.due c.loop-part.invariant.marks.more
@@ -19,14 +19,13 @@ scan_part-requires-2-clause-due c = due_kept c.requires.due c.loop-part.invarian
 
 -- All groups are scanned.
 groups_scanned : (c : After-scan_part-2)
-    → Scans c.args.words.now.config.pages c.args.stop.now c.args.work.now c.scan_part-2.new.stop c.scan_part-2.new.work
-    c.args.cell 0 (8 * (c.args.size / 8))
+    → Scans c.args.table.pages c.args.stop.now c.args.work.now c.scan_part-2.new.stop c.scan_part-2.new.work
+    c.args.gray.cell 0 (8 * (c.args.gray.words / 8))
 groups_scanned c =
     let end = c.loop-part-test.false in
-    let last : ℕ = c.args.size / 64 in
+    let last : ℕ = c.args.gray.words / 64 in
     let whole : 64 * last ≤ 64 * c.loop-part.part = omega arith in
-    scans_to (8 * (c.args.size / 8)) (omega arith)
-    (scans_then (scans_to (64 * last) whole c.loop-part.invariant) c.scan_part-2.ensures)
+    scans_to _ (omega arith) (scans_then (scans_to (64 * last) whole c.loop-part.invariant) c.scan_part-2.ensures)
 
 pub scan_from-requires-clause-due : goal.scan_from-requires-clause-due
 scan_from-requires-clause-due c = grind (arith, due_kept, groups_scanned)
@@ -41,5 +40,5 @@ returns-clause-marks c =
 pub returns-clause-well : goal.returns-clause-well
 returns-clause-well c =
     all_scanned c.requires.due
-    (scans_to c.args.size (omega arith)
+    (scans_to c.args.gray.words (omega arith)
     (scans_then (groups_scanned (goal.at.returns-clause-well c).After-scan_part-2) c.scan_from.ensures))

@@ -7,9 +7,7 @@ pub blacken_cell-requires-clause-index : goal.blacken_cell-requires-clause-index
 blacken_cell-requires-clause-index c = grind (arith, cells_few)
 
 pub returns-clause-on : goal.returns-clause-on
-returns-clause-on c =
-    on_then c.args.stop.now c.scan_if_due-last.new.stop c.blacken_cell.new.stop c.scan_if_due-last.ensures.marks.on
-    c.blacken_cell.ensures.on
+returns-clause-on c = on_then c.scan_if_due-last.ensures.marks.on c.blacken_cell.ensures.on
 
 pub returns-clause-one : goal.returns-clause-one
 returns-clause-one c = grind (arith, blackens_one)

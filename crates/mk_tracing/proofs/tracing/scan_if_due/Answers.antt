@@ -18,14 +18,13 @@ none_scanned pages w cell none = by (has_no_pointers (header_in w cell.page)) re
         (λ j lt. absurd (let bad : j < 0 = subst (λ n. j < n) e lt in omega arith)))
 
 pub returns-then-gray-eq0-clause-marks : goal.returns-then-gray-eq0-clause-marks
-returns-then-gray-eq0-clause-marks c = marks_nothing c.requires.wanted
+returns-then-gray-eq0-clause-marks c = marks_nothing c.requires.may.wanted
 
 pub returns-then-gray-eq0-clause-turns : goal.returns-then-gray-eq0-clause-turns
 returns-then-gray-eq0-clause-turns c =
-    let pages : ℕ = c.args.words.now.config.pages in
     let w = still_words c.args.stop.now.pass in
-    gray_turns pages w w c.args.gray.cell c.requires.gray.gray (more_same w w refl)
-    (none_scanned pages w c.args.gray.cell (sym c.requires.gray.words ∙ c.if-gray-eq0.true))
+    gray_turns c.args.table.pages w w c.args.gray.cell c.requires.gray.gray (more_same w w refl)
+    (none_scanned c.args.table.pages w c.args.gray.cell (sym c.requires.gray.words ∙ c.if-gray-eq0.true))
 
 pub returns-clause-turns : goal.returns-clause-turns
 returns-clause-turns c =

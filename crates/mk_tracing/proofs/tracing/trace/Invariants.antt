@@ -7,9 +7,9 @@ abbrev pub invariant-loop-gray : goal.invariant-loop-gray
 invariant-loop-gray l = record {
   on : MarksOn l.fn.stop l.stop;
   more : ColoursMore (still_words l.fn.stop.pass) (still_words l.stop.pass);
-  last : IfSome l.last (IsNoted l.words.config.pages (still_words l.stop.pass));
-  noted : AreNoted l.words.config.pages (still_words l.stop.pass) l.work;
+  last : IfSome l.last (IsNoted l.table.pages (still_words l.stop.pass));
+  noted : AreNoted l.table.pages (still_words l.stop.pass) l.work;
 }
 
 abbrev pub decreases-loop-gray : goal.decreases-loop-gray
-decreases-loop-gray l = white_cells l.words.config.pages (still_words l.stop.pass).blacks
+decreases-loop-gray l = white_cells l.table.pages (still_words l.stop.pass).blacks

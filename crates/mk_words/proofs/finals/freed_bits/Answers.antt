@@ -1,5 +1,5 @@
 use Rattle.std.specs.Mem.Slots.{slots_items}
-use Rattle.mk_laws.proofs.Vocabulary.{arith, ap, ◌+◌, ◌<◌, ◌∙◌}
+use Rattle.mk_laws.proofs.Vocabulary.{ap, arith, ◌+◌, ◌<◌, ◌∙◌}
 use Rattle.mk_words.proofs.Closing.{one_page_more}
 use Rattle.mk_words.proofs.finals.freed_bits.Goals as goal
 

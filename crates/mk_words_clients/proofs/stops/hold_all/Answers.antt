@@ -1,6 +1,5 @@
-use Rattle.mk_laws.proofs.Vocabulary.{Step, ℕ, ap, arith, refl, ◌∙◌}
-use Rattle.mk_words.specs.States.{PassState}
-use Rattle.mk_words_clients.proofs.TurnFacts.{holds_none, holds_one_more, settled, settled_kept, tidy_kept}
+use Rattle.mk_laws.proofs.Vocabulary.{Step, ℕ, arith, refl}
+use Rattle.mk_words_clients.proofs.TurnFacts.{holds_none, holds_on, holds_one_more, settled, tidy_kept}
 use Rattle.mk_words_clients.proofs.stops.hold_all.Goals as goal
 
 pub loop-caller-init : goal.loop-caller-init
@@ -9,19 +8,11 @@ loop-caller-init c = grind (arith, settled, holds_none)
 pub loop-caller-preserved : goal.loop-caller-preserved
 loop-caller-preserved c =
     let inv = c.loop-caller.invariant in
-    let p : PassState = c.loop-caller.turn.pass in
-    let q : PassState = c.try_hold.new.self.pass in
     let j : ℕ = c.loop-caller.caller in
     let a = c.try_hold.ensures.acts in
     let lt = c.loop-caller-test.true in
     let few = c.callers.ensures in
-    record {
-      one_table = ap (λ (r : PassState). r.table) a.makes.is ∙ inv.one_table;
-      settled = settled_kept p q (Step.Hold j) a refl inv.settled;
-      within = omega arith;
-      holds = holds_one_more p q j inv.holds a c.in-Ok.ensures.held;
-      tidy = λ t. tidy_kept p q (Step.Hold j) a inv.settled.seat refl (inv.tidy t);
-    }
+    holds_on (Step.Hold j) a refl inv (omega arith) (holds_one_more _ _ j inv.holds a c.in-Ok.ensures.held)
 
 pub loop-caller-smaller : goal.loop-caller-smaller
 loop-caller-smaller c = grind arith

@@ -8,12 +8,11 @@ perform_among-requires-clause-hands_none g c = hands_none c.args.step c.requires
 
 pub invariant_of-self : goal.invariant_of-self
 invariant_of-self g c =
-    let f = c.perform_among in
-    let t = c.self.inside in
-    let a = acts t.pass c.args.step f.new.self f.ensures.told.makes c.self.invariant.turn.holds in
-    turn_with_map _ _ f.new.self a _ t.carried.value.map t.carried.value.map c.requires.stays
-    (c.requires.gates _ (subst (λ (v : TurnState). Acts v.pass c.args.step f.new.self) c.self.view_is a))
-    (shows_still _ _ f.new.self a t.carried.value.map c.requires.untold c.self.invariant.shows) c.self.invariant
+    let q = c.perform_among.new.self in
+    let a = acts c.self.inside.pass c.args.step q c.perform_among.ensures.told.makes c.self.invariant.turn.holds in
+    turn_with_map a c.requires.stays
+    (c.requires.gates _ (subst (λ (v : TurnState). Acts v.pass c.args.step q) c.self.view_is a))
+    (shows_still _ _ _ a _ c.requires.untold c.self.invariant.shows) c.self.invariant
 
 pub returns-clause-acts : goal.returns-clause-acts
 returns-clause-acts g c = acted c.self.view_is c.self.invariant c.perform_among.ensures.told.makes

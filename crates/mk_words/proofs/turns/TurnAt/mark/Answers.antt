@@ -9,15 +9,10 @@ marked-requires g c =
 
 pub invariant_of-self : goal.invariant_of-self
 invariant_of-self g c =
-    let p = c.self.inside.pass in
-    let q = c.perform.new.self in
-    let before = c.deref_mut.result.now in
-    let map = c.marked.new.self in
-    let held = as_carried _ _ _ c.deref_mut.ensures.value c.self.invariant in
-    told_turn p (Step.Mark c.args.page c.args.v) q before.op before.map map refl c.perform.ensures.told.makes held
-    (λ a. shows_mark p c.args.page c.args.v q a before.map map
-    (record { shows = c.marked.ensures.shows; marked = c.marked.ensures.marked; others = c.marked.ensures.others })
-    held.shows)
+    let told = c.marked.ensures in
+    let held = as_carried c.deref_mut.ensures.value c.self.invariant in
+    told_turn refl c.perform.ensures.told.makes held
+    (λ a. shows_mark a (record { shows = told.shows; marked = told.marked; others = told.others }) held.shows)
 
 pub returns-clause-acts : goal.returns-clause-acts
 returns-clause-acts g c = acted c.self.view_is c.self.invariant c.perform.ensures.told.makes

@@ -1,20 +1,12 @@
-use Rattle.mk_laws.proofs.Vocabulary.{Step, header_at, refl, subst, sym, ◌≢◌}
+use Rattle.mk_laws.proofs.Vocabulary.{refl, sym}
 use Rattle.mk_words.proofs.MapSteps.{acted, shows_mark, told_turn, untold_mark}
-use Rattle.mk_words.specs.States.{TurnState, now_of}
 use Rattle.mk_words.proofs.turns.TurnAt.mark_in_use.Goals as goal
 
 pub invariant_of-self : goal.invariant_of-self
 invariant_of-self g c =
-    let p = c.self.inside.pass in
-    let q = c.perform_among.new.self in
-    let before = c.self.inside.carried.value in
     let shown = c.self.invariant.shows in
-    told_turn p (Step.Mark c.args.page c.args.v) q before.op before.map before.map refl
-    c.perform_among.ensures.told.makes c.self.invariant
-    (λ a. shows_mark p c.args.page c.args.v q a before.map before.map
-    (untold_mark before.map (now_of p).words c.args.page
-    (subst (λ (v : TurnState). header_at (now_of v.pass).words c.args.page ≢ 0) (sym c.self.view_is) c.requires.in_use)
-    shown) shown)
+    told_turn refl c.perform_among.ensures.told.makes c.self.invariant
+    (λ a. shows_mark a (untold_mark _ _ c.args.page (rw (sym c.self.view_is) at c.requires.in_use) shown) shown)
 
 pub returns-clause-acts : goal.returns-clause-acts
 returns-clause-acts g c = acted c.self.view_is c.self.invariant c.perform_among.ensures.told.makes

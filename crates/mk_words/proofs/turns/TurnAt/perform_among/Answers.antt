@@ -1,4 +1,4 @@
-use Rattle.mk_words.proofs.TurnSteps.{gates_still, turn_stays_too}
+use Rattle.mk_words.proofs.TurnSteps.{acts, gates_still, turn_stays_too}
 use Rattle.mk_words.proofs.turns.TurnAt.perform_among.Goals as goal
 
 pub act_among-requires-clause-stays : goal.act_among-requires-clause-stays

@@ -9,14 +9,10 @@ used_stored-requires g c =
 
 pub invariant_of-self : goal.invariant_of-self
 invariant_of-self g c =
-    let p = c.self.inside.pass in
-    let q = c.perform.new.self in
-    let before = c.deref_mut.result.now in
-    let map = c.used_stored.new.self in
-    let held = as_carried _ _ _ c.deref_mut.ensures.value c.self.invariant in
-    told_turn p (Step.Used c.args.page c.args.v) q before.op before.map map refl c.perform.ensures.told.makes held
-    (λ a. shows_used p c.args.page c.args.v q a before.map map
-    (record { shows = c.used_stored.ensures.shows; uncleaned = c.used_stored.ensures.uncleaned })
+    let told = c.used_stored.ensures in
+    let held = as_carried c.deref_mut.ensures.value c.self.invariant in
+    told_turn refl c.perform.ensures.told.makes held
+    (λ a. shows_used a (record { shows = told.shows; uncleaned = told.uncleaned })
     (told_page (Step.Used c.args.page c.args.v) c.args.page refl c.self.view_is c.requires.enabled
     c.deref_mut.ensures.value c.self.invariant) held.shows)
 
