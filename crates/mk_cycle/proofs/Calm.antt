@@ -53,22 +53,10 @@ pub frees_none : (pages : ℕ) (w : Words) (f : Flight) (p v : ℕ) → is_pendi
 frees_none pages w f p v h = cc (no_target pages w f h, none_either_way (not (is_phase w 4) && false))
 
 pub calm_still : (c : Config) (m : Moment) (f : Flight) (n : ℕ) (s : Step) → is_calm s ≡ true
-    → is_pending_free f ≡ false
-    → progress c m f n s ≡ still f
+    → is_pending_free f ≡ false → progress c m f n s ≡ still f
 calm_still c m f n (Step.Look x) h free = look_still c m.words f x free
 calm_still c m f n (Step.Quar p v) h free =
     ap (λ (cell : Option Cell). progress_freed f cell) (frees_none c.pages m.words f p v free)
-calm_still c m f n (Step.Tally t v) h free = refl
-calm_still c m f n (Step.Hold j) h free = refl
-calm_still c m f n (Step.Open j) h free = refl
-calm_still c m f n (Step.Clear p) h free = refl
-calm_still c m f n (Step.Wipe i) h free = refl
-calm_still c m f n Step.Close h free = refl
-calm_still c m f n Step.Release h free = refl
-calm_still c m f n Step.Want h free = refl
-calm_still c m f n (Step.Undirty p) h free = refl
-calm_still c m f n (Step.Black p v) h free = refl
-calm_still c m f n (Step.Unblack p) h free = refl
 calm_still c m f n _ h free = cc
 
 pub calm_done : (c : Config) (m : Moment) (seat : Seat) (f : Flight) (n : ℕ) (s : Step) (h : Holding) → is_calm s ≡ true
@@ -76,16 +64,4 @@ pub calm_done : (c : Config) (m : Moment) (seat : Seat) (f : Flight) (n : ℕ) (
 calm_done c m seat f n (Step.Quar p v) h kind free =
     ap (λ (cell : Option Cell). done_in (record h { freed = or_else (run_of_cell m.words cell) h.freed }))
     (frees_none c.pages m.words f p v free)
-calm_done c m seat f n (Step.Look x) h kind free = refl
-calm_done c m seat f n (Step.Tally t v) h kind free = refl
-calm_done c m seat f n (Step.Hold j) h kind free = refl
-calm_done c m seat f n (Step.Open j) h kind free = refl
-calm_done c m seat f n (Step.Clear p) h kind free = refl
-calm_done c m seat f n (Step.Wipe i) h kind free = refl
-calm_done c m seat f n Step.Close h kind free = refl
-calm_done c m seat f n Step.Release h kind free = refl
-calm_done c m seat f n Step.Want h kind free = refl
-calm_done c m seat f n (Step.Undirty p) h kind free = refl
-calm_done c m seat f n (Step.Black p v) h kind free = refl
-calm_done c m seat f n (Step.Unblack p) h kind free = refl
 calm_done c m seat f n _ h kind free = cc

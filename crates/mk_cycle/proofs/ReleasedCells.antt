@@ -23,15 +23,15 @@ pub plus_zero : (n : ℕ) → n + 0 ≡ n
 plus_zero n = omega arith
 
 -- What shows an unmapped run shows a large object.
-pub unmapped_is_large : (o : Object) (x : Option Header) → ShowsPart o 0 x → is_unmapped_header x ≡ true
+pub unmapped_is_large : {o : Object} {x : Option Header} → ShowsPart o 0 x → is_unmapped_header x ≡ true
     → is_small_object o ≡ false
-unmapped_is_large o x (OfBlock first small leaf) h = absurd (true≢false (sym h))
-unmapped_is_large o x (OfLeafBlock first small leaf) h = absurd (true≢false (sym h))
-unmapped_is_large o x (OfRun mapped first large leaf) h = large
-unmapped_is_large o x (OfLeafRun first large leaf) h = large
-unmapped_is_large o x (OfLater mapped some large) h = large
+unmapped_is_large (OfBlock first small leaf) h = absurd (true≢false (sym h))
+unmapped_is_large (OfLeafBlock first small leaf) h = absurd (true≢false (sym h))
+unmapped_is_large (OfRun mapped first large leaf) h = large
+unmapped_is_large (OfLeafRun first large leaf) h = large
+unmapped_is_large (OfLater mapped some large) h = large
 
-module _ (d q : PassState) (t : InTurn d) (u : InTurn q) (at : IsAtPhase d 3) (a : Acts d Step.Release q) where
+module _ {d q : PassState} (t : InTurn d) (u : InTurn q) (at : IsAtPhase d 3) (a : Acts d Step.Release q) where
   abbrev c : Config
   c = d.table.config
 
@@ -63,11 +63,10 @@ module _ (d q : PassState) (t : InTurn d) (u : InTurn q) (at : IsAtPhase d 3) (a
       by (inr r) = grind (arith, not_releasing)
 
   -- no allocation that is still mapped has one of its words
-  none_mapped : (page k n : ℕ) (f : IsFreedCell c w.allocations page k)
-      → has_bit (left_unmarked w.now.words page) k ≡ true
-      → IsWordOf (storage_of c (placed_at w.allocations f.number)) n
+  none_mapped : {page k : ℕ} (n : ℕ) (f : IsFreedCell c w.allocations page k)
+      → has_bit (left_unmarked w.now.words page) k ≡ true → IsWordOf (storage_of c (placed_at w.allocations f.number)) n
       → IsWordOfMapped c (map (with_released c w.now.words) w.allocations) n → ⊥
-  none_mapped page k n f has word m =
+  none_mapped n f has word m =
       let history = (made d Step.Release q a.makes).history in
       let x : PlacedAllocation = placed_at w.allocations m.number in
       let y : PlacedAllocation = placed_at w.allocations f.number in
@@ -89,10 +88,9 @@ module _ (d q : PassState) (t : InTurn d) (u : InTurn q) (at : IsAtPhase d 3) (a
       first_of_or false e h = refl
 
   -- The allocation of a cell whose header is that of an unmapped run isn't mapped,
-  unmapped_owner : (page k : ℕ) (f : IsFreedCell c w.allocations page k)
-      → is_unmapped_header (header_in w.now.words page) ≡ true
-      → is_mapped c (placed_at w.allocations f.number) ≡ false
-  unmapped_owner page k f gone =
+  unmapped_owner : {page k : ℕ} (f : IsFreedCell c w.allocations page k)
+      → is_unmapped_header (header_in w.now.words page) ≡ true → is_mapped c (placed_at w.allocations f.number) ≡ false
+  unmapped_owner {page} f gone =
       let history = (made d Step.Release q a.makes).history in
       let y : PlacedAllocation = placed_at w.allocations f.number in
       let o : Object = object_placed c y in
@@ -102,18 +100,17 @@ module _ (d q : PassState) (t : InTurn d) (u : InTurn q) (at : IsAtPhase d 3) (a
       let some : 0 < pages_made o = pages_some o sized in
       let shows : ShowsPart o 0 (header_in w.now.words page) = grind (arith, header_shows) in
       ap (λ (b : Bool). not y.released && not (b && is_large (kinds_of c.types y.ty))) f.freed
-      ∙ ap (λ (b : Bool). not y.released && not b) (large_is_not_small (kinds_of c.types y.ty)
-      ∙ ap not (unmapped_is_large o _ shows gone))
-      ∙ and-false (not y.released)
+      ∙ ap (λ (b : Bool). not y.released && not b)
+      (large_is_not_small (kinds_of c.types y.ty) ∙ ap not (unmapped_is_large shows gone)) ∙ and-false (not y.released)
 
   pub gone_there : IsGone d → is_run_gone w.now.words w.now.seats.holding.freed ≡ true
   gone_there gone = grind (arith, made, holder_finds)
 
   -- so its words are 0 by then.
-  unmapped_is_zero : IsGone d → (page k n : ℕ) (f : IsFreedCell c w.allocations page k)
+  unmapped_is_zero : IsGone d → {page k : ℕ} (n : ℕ) (f : IsFreedCell c w.allocations page k)
       → is_unmapped_header (header_in w.now.words page) ≡ true
       → IsWordOf (storage_of c (placed_at w.allocations f.number)) n → slice_index w.now.words.heap n ≡ 0
-  unmapped_is_zero gone page k n f unmapped word =
+  unmapped_is_zero gone {page = page} {k = k} n f unmapped word =
       let history = (made d Step.Release q a.makes).history in
       let three : phase_of w.now.words ≡ 3 = ap (λ (s : Steady). s.phase) a.turn.steady ∙ at in
       unmapped_words_are_zero c es history (λ four. absurd (omega arith)) (gone_there gone) n none
@@ -125,15 +122,14 @@ module _ (d q : PassState) (t : InTurn d) (u : InTurn q) (at : IsAtPhase d 3) (a
           allocations_are_disjoint c es history i f.number n (mapped_stays c (placed_at w.allocations i) mapped)
           f.unreleased there word in
           true≢false (sym (subst (λ (j : ℕ). is_mapped c (placed_at w.allocations j) ≡ true) number mapped)
-          ∙ unmapped_owner page k f unmapped)
+          ∙ unmapped_owner f unmapped)
 
   -- A word of a released cell is one of its allocation.
-  owned_word : (page k i : ℕ) → has_bit (left_unmarked w.now.words page) k ≡ true
+  owned_word : {page k : ℕ} (i : ℕ) → has_bit (left_unmarked w.now.words page) k ≡ true
       → i < words_under (header_in w.now.words page) → (f : IsFreedCell c w.allocations page k)
-      → (64 * page + k * words_under (header_in w.now.words page) + i < 64 * c.pages)
-      × IsWordOf (storage_of c (placed_at w.allocations f.number))
-      (64 * page + k * words_under (header_in w.now.words page) + i)
-  owned_word page k i has small f = grind (arith, made, allocations_stand, es, cells_begin)
+      → (64 * page + k * words_under (header_in w.now.words page) + i < 64 * c.pages) × IsWordOf
+      (storage_of c (placed_at w.allocations f.number)) (64 * page + k * words_under (header_in w.now.words page) + i)
+  owned_word i has small f = grind (arith, made, allocations_stand, es, cells_begin)
 
   unmapped_there : (page k i : ℕ) → has_bit (left_unmarked w.now.words page) k ≡ true
       → i < words_under (header_in w.now.words page)
@@ -141,24 +137,23 @@ module _ (d q : PassState) (t : InTurn d) (u : InTurn q) (at : IsAtPhase d 3) (a
   unmapped_there page k i has small =
       let f = owner page k has in
       let n : ℕ = 64 * page + k * words_under (header_in w.now.words page) + i in
-      let own = owned_word page k i has small f in
+      let own = owned_word i has small f in
       record {
         within = subst (λ (e : Config). n < 64 * e.pages) (sym same_table) own.0;
-        unmapped = λ m. none_mapped page k n f has own.1
+        unmapped = λ m. none_mapped n f has own.1
             (subst (λ (e : Config). IsWordOfMapped e (map (with_released c w.now.words) w.allocations) n) same_table
             (subst (λ (xs : List PlacedAllocation). IsWordOfMapped q.table.config xs n)
             (ap (λ (x : World). x.allocations) a.world) m));
       }
 
   zero_there : IsGone d → (page k i : ℕ) → is_unmapped_header (header_in w.now.words page) ≡ true
-      → has_bit (left_unmarked w.now.words page) k ≡ true
-      → i < words_under (header_in w.now.words page)
+      → has_bit (left_unmarked w.now.words page) k ≡ true → i < words_under (header_in w.now.words page)
       → IsZero q (64 * page + k * words_under (header_in w.now.words page) + i)
   zero_there gone page k i unmapped has small =
       let f = owner page k has in
       let n : ℕ = 64 * page + k * words_under (header_in w.now.words page) + i in
       ap (λ (x : World). slice_index x.now.words.heap n) a.world
-      ∙ unmapped_is_zero gone page k n f unmapped (owned_word page k i has small f).1
+      ∙ unmapped_is_zero gone n f unmapped (owned_word i has small f).1
 
   pub cells_are_free : IsGone d → (page : ℕ) → HasFreeCells q page
   cells_are_free gone page =
@@ -170,8 +165,7 @@ module _ (d q : PassState) (t : InTurn d) (u : InTurn q) (at : IsAtPhase d 3) (a
       ap (λ (n : ℕ). words_under (header_of n)) header in
       record {
         unmapped = λ k i has lt. subst (λ (n : ℕ). IsUnmappedWord q (64 * page + k * n + i)) (sym size)
-            (unmapped_there page k i (sym (ap (λ (n : ℕ). has_bit n k) left) ∙ has)
-            (subst (λ (n : ℕ). i < n) size lt));
+            (unmapped_there page k i (sym (ap (λ (n : ℕ). has_bit n k) left) ∙ has) (subst (λ (n : ℕ). i < n) size lt));
         wiped = λ unmapped k i has lt. subst (λ (n : ℕ). IsZero q (64 * page + k * n + i)) (sym size)
             (zero_there gone page k i (sym (ap (λ (n : ℕ). is_unmapped_header (header_of n)) header) ∙ unmapped)
             (sym (ap (λ (n : ℕ). has_bit n k) left) ∙ has) (subst (λ (n : ℕ). i < n) size lt));

@@ -9,7 +9,7 @@ ghost use Rattle.mk_cycle.specs.EngineLaw.{IsFreeForCycle, is_register};
 ghost use Rattle.mk_cycle.specs.Tallying.{Sets, with_cycle_counted, with_tally};
 ghost use Rattle.mk_cycle.specs.TurnKeeps.{unchanged};
 
-use crate::turn_steps;
+use crate::turn_steps::{self, in_turn};
 use mk_core::{Tally, Word};
 use mk_words::{Turn, Words};
 
@@ -34,7 +34,8 @@ fn set(turn: &mut Turn, words: &Words, n: Tally, v: u64)
     ensures op { turn.new.op ≡ turn.old.op }
     ensures sets { Sets (with_tally n v) turn.old.pass turn.new.pass }
 {
-    turn_steps::tally(turn, words, n, v);
+    in_turn(turn);
+    turn.tally(words, n, v);
 }
 
 /// Raises a tally, to 2^64 - 1 at most.

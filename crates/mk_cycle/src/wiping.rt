@@ -5,13 +5,13 @@ ghost use Rattle.mk_core.specs.Cells.{left_unmarked, words_under};
 ghost use Rattle.mk_core.specs.Words.{header_at};
 ghost use Rattle.mk_geom.specs.Headers.{header_of};
 ghost use Rattle.mk_words.specs.States.{now_of};
-ghost use Rattle.mk_cycle.specs.EngineLaw.{IsFreeForCycle, IsAtPhase};
+ghost use Rattle.mk_cycle.specs.EngineLaw.{IsTurnAt};
 ghost use Rattle.mk_cycle.specs.Freeing.{GivesNothingBack, HasFreeCells, IsUnmapped, IsZero, IsUnmappedWord};
 ghost use Rattle.mk_cycle.specs.TurnKeeps.{InTurn};
 
 use crate::bits::lowest_bit;
 use crate::reading::ReadHeader;
-use crate::turn_steps::{in_turn, wipe};
+use crate::turn_steps::in_turn;
 use mk_core::{Word, bit, without};
 use mk_words::{Turn, Words};
 
@@ -21,10 +21,8 @@ const PAGE_PAIRS: u64 = 32;
 /// Looks at a word of the heap, which is on this page.
 #[inline(always)]
 fn look_at_heap(turn: &mut Turn, words: &Words, pages: u64, page: u64, word: u64) -> u64
-    requires one_table { turn.old.pass.table ≡ words.now }
+    requires turn { IsTurnAt 4 words.now turn.old.pass }
     requires pages { pages ≡ words.now.config.pages }
-    requires free { IsFreeForCycle turn.old.pass }
-    requires phase { IsAtPhase turn.old.pass 4 }
     requires within { word < 64 * words.now.config.pages }
     requires page { page ≡ word / 64 }
     ensures op { turn.new.op ≡ turn.old.op }
@@ -39,10 +37,8 @@ fn look_at_heap(turn: &mut Turn, words: &Words, pages: u64, page: u64, word: u64
 /// Sets a word of no mapped allocation, which is on this page, to 0.
 #[inline(always)]
 fn wipe_word(turn: &mut Turn, words: &Words, pages: u64, page: u64, word: u64)
-    requires one_table { turn.old.pass.table ≡ words.now }
+    requires turn { IsTurnAt 4 words.now turn.old.pass }
     requires pages { pages ≡ words.now.config.pages }
-    requires free { IsFreeForCycle turn.old.pass }
-    requires phase { IsAtPhase turn.old.pass 4 }
     requires page { page ≡ word / 64 }
     requires unmapped { IsUnmappedWord turn.old.pass word }
     ensures op { turn.new.op ≡ turn.old.op }
@@ -50,17 +46,15 @@ fn wipe_word(turn: &mut Turn, words: &Words, pages: u64, page: u64, word: u64)
     ensures zero { IsZero turn.new.pass word }
 {
     if look_at_heap(turn, words, pages, page, word) != 0 {
-        wipe(turn, words, word);
+        turn.wipe(words, word);
     }
 }
 
 /// Sets a pair of words to 0. The pairs begin at even words, so that both are on one page.
 #[inline(always)]
 fn wipe_pair(turn: &mut Turn, words: &Words, pages: u64, pair: u64)
-    requires one_table { turn.old.pass.table ≡ words.now }
+    requires turn { IsTurnAt 4 words.now turn.old.pass }
     requires pages { pages ≡ words.now.config.pages }
-    requires free { IsFreeForCycle turn.old.pass }
-    requires phase { IsAtPhase turn.old.pass 4 }
     requires first { IsUnmappedWord turn.old.pass (2 * pair) }
     requires second { IsUnmappedWord turn.old.pass (2 * pair + 1) }
     ensures op { turn.new.op ≡ turn.old.op }
@@ -76,10 +70,8 @@ fn wipe_pair(turn: &mut Turn, words: &Words, pages: u64, pair: u64)
 
 /// Sets this many pairs of words, from a first one on, to 0.
 fn wipe_cell(turn: &mut Turn, words: &Words, pages: u64, first: u64, pairs: u64)
-    requires one_table { turn.old.pass.table ≡ words.now }
+    requires turn { IsTurnAt 4 words.now turn.old.pass }
     requires pages { pages ≡ words.now.config.pages }
-    requires free { IsFreeForCycle turn.old.pass }
-    requires phase { IsAtPhase turn.old.pass 4 }
     requires unmapped { (i : ℕ) → i < 2 * pairs → IsUnmappedWord turn.old.pass (2 * first + i) }
     ensures op { turn.new.op ≡ turn.old.op }
     ensures frees { GivesNothingBack turn.old.pass turn.new.pass }
@@ -93,10 +85,8 @@ fn wipe_cell(turn: &mut Turn, words: &Words, pages: u64, first: u64, pairs: u64)
 
 /// Sets the words of those cells of a page to 0 whose bits are set. It goes from bit to bit.
 fn wipe_cells(turn: &mut Turn, words: &Words, pages: u64, page: u64, cells: u64, pairs: u64)
-    requires one_table { turn.old.pass.table ≡ words.now }
+    requires turn { IsTurnAt 4 words.now turn.old.pass }
     requires pages { pages ≡ words.now.config.pages }
-    requires free { IsFreeForCycle turn.old.pass }
-    requires phase { IsAtPhase turn.old.pass 4 }
     requires within { page < words.now.config.pages }
     requires few { pairs < 2049 }
     requires unmapped { (k i : ℕ) → has_bit cells k ≡ true → i < 2 * pairs
@@ -125,10 +115,8 @@ pub(crate) fn wipe_released(
     header: &ReadHeader,
     cells: u64,
 )
-    requires one_table { turn.old.pass.table ≡ words.now }
+    requires turn { IsTurnAt 4 words.now turn.old.pass }
     requires pages { pages ≡ words.now.config.pages }
-    requires free { IsFreeForCycle turn.old.pass }
-    requires phase { IsAtPhase turn.old.pass 4 }
     requires within { page < words.now.config.pages }
     requires header { header.now ≡ header_at (now_of turn.old.pass).words page }
     requires released { (k : ℕ) → has_bit cells k ≡ true
