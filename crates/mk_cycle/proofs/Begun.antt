@@ -113,13 +113,18 @@ module _ (begins : Config → Seat → List Event → List Event → Type 0) whe
   pub begun_append : (c : Config) (s : Seat) (es xs ys : List Event) → AreBegunFirst begins c s es xs
       → AreBegunFirst begins c s (es ++ xs) ys → AreBegunFirst begins c s es (xs ++ ys)
   begun_append c s es xs ys one two b own =
-      ⊎_elim (λ (t : InFirst xs ys b.before b.event b.behind). subst
-      (λ (l : List Event). IsBegunFirst begins c s (es ++ through b) l) (sym t.then) (later ys (one (record
-      { before = b.before; event = b.event; behind = t.rest; is = t.is; of_kind = b.of_kind }) own))) (λ (t : InSecond
-      xs ys b.before b.event b.behind). subst (λ (l : List Event). IsBegunFirst begins c s l b.behind) (append_assoc es
-      xs (t.rest ++ b.event ∷ []) ∙ ap (λ (l : List Event). es ++ l) (sym (append_assoc xs t.rest (b.event ∷ [])) ∙ ap
-      (λ (l : List Event). l ++ b.event ∷ []) (sym t.first))) (two (record { before = t.rest; event = b.event; behind =
-      b.behind; is = t.is; of_kind = b.of_kind }) own)) (in_parts xs ys b.before b.event b.behind b.is)
+      ⊎_elim
+      (λ (t : InFirst xs ys b.before b.event b.behind).
+      subst (λ (l : List Event). IsBegunFirst begins c s (es ++ through b) l) (sym t.then)
+      (later ys (one (record { before = b.before; event = b.event; behind = t.rest; is = t.is; of_kind = b.of_kind })
+      own)))
+      (λ (t : InSecond xs ys b.before b.event b.behind).
+      subst (λ (l : List Event). IsBegunFirst begins c s l b.behind)
+      (append_assoc es xs (t.rest ++ b.event ∷ []) ∙ ap (λ (l : List Event). es ++ l)
+      (sym (append_assoc xs t.rest (b.event ∷ []))
+      ∙ ap (λ (l : List Event). l ++ b.event ∷ []) (sym t.first)))
+      (two (record { before = t.rest; event = b.event; behind = b.behind; is = t.is; of_kind = b.of_kind }) own))
+      (in_parts xs ys b.before b.event b.behind b.is)
 
   pub begun_then : (p q r : PassState) → q ≡ record p { seen = q.seen } → EachIsBegun begins p q
       → EachIsBegun begins q r → EachIsBegun begins p r

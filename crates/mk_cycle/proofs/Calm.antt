@@ -1,8 +1,9 @@
 -- Steps of the turn's holder that go on with its call and with what it has done in its turn as they were.
 use Rattle.mk_laws.proofs.Vocabulary.{Bool, Cell, Config, Flight, Holding, Moment, None, Op, Option, Seat, Stage, Step}
-use Rattle.mk_laws.proofs.Vocabulary.{Word, Words, ℕ, ap, cell_freed, false, if◌then◌else◌, is_free_at, is_phase, not}
-use Rattle.mk_laws.proofs.Vocabulary.{or_else, pointed_cell, progress, progress_freed, refl, run_of_cell, sees_double}
-use Rattle.mk_laws.proofs.Vocabulary.{still, target, true, ◌&&◌, ◌≡◌}
+use Rattle.mk_laws.proofs.Vocabulary.{Word, Words, ℕ, ap, cell_freed, false, if◌then◌else◌, is_end, is_free_at}
+use Rattle.mk_laws.proofs.Vocabulary.{is_heap_store, is_phase, not, or_else, pointed_cell, progress, progress_freed}
+use Rattle.mk_laws.proofs.Vocabulary.{refl, run_of_cell, sees_double, still, sym, target, true, true≢false, ◌&&◌, ◌∙◌}
+use Rattle.mk_laws.proofs.Vocabulary.{◌≡◌}
 use Rattle.mk_cycle.proofs.Vocabulary.{holding_behind, is_pending_free}
 use Rattle.mk_core.specs.Effects.{progress_look}
 use Rattle.mk_cycle.{proofs.OwnSteps.done_in, specs.EngineLaw.is_pending_free_at}
@@ -65,3 +66,15 @@ calm_done c m seat f n (Step.Quar p v) h kind free =
     ap (λ (cell : Option Cell). done_in (record h { freed = or_else (run_of_cell m.words cell) h.freed }))
     (frees_none c.pages m.words f p v free)
 calm_done c m seat f n _ h kind free = cc
+
+-- Kinds of step among which no heap word is stored to, and none that ends a cycle.
+
+pub stores_none : (kinds : Step → Bool) → kinds Step.Write ≡ false → kinds Step.Cas ≡ false → (s : Step)
+    → kinds s ≡ true → is_heap_store s ≡ false
+stores_none kinds write cas Step.Write h = absurd (true≢false (sym h ∙ write))
+stores_none kinds write cas Step.Cas h = absurd (true≢false (sym h ∙ cas))
+stores_none kinds write cas _ h = refl
+
+pub ends_none : (kinds : Step → Bool) → kinds Step.End ≡ false → (s : Step) → kinds s ≡ true → is_end s ≡ false
+ends_none kinds none Step.End h = absurd (true≢false (sym h ∙ none))
+ends_none kinds none _ h = refl

@@ -5,11 +5,11 @@ use Rattle.mk_cycle.proofs.Vocabulary.{is_pending_free, made, now_of, stands, st
 use Rattle.mk_laws.proofs.Vocabulary.{Config, Flight, IsHistory, List, Moment, None, PlacedAllocation, Seat, Steady}
 use Rattle.mk_laws.proofs.Vocabulary.{Step, Tally, Word, Words, World, ℕ, ap, arith, cases_eq, cases_lt, false}
 use Rattle.mk_laws.proofs.Vocabulary.{flight_of, freed_where_it_stands, get_or-set_other, get_or-set_same, inl, inr}
-use Rattle.mk_laws.proofs.Vocabulary.{is_end, is_heap_store, length, map, progress, quarantine_word, refl, set-get_or}
-use Rattle.mk_laws.proofs.Vocabulary.{set_past, slice_index, slice_set, still, subst, sym, true, world_behind, [], ◌%◌}
-use Rattle.mk_laws.proofs.Vocabulary.{◌++◌, ◌/◌, ◌<◌, ◌^◌, ◌∙◌, ◌∷◌, ◌≡◌}
+use Rattle.mk_laws.proofs.Vocabulary.{length, map, progress, quarantine_word, refl, set-get_or, set_past, slice_index}
+use Rattle.mk_laws.proofs.Vocabulary.{slice_set, still, subst, sym, true, world_behind, [], ◌%◌, ◌++◌, ◌/◌, ◌<◌, ◌^◌}
+use Rattle.mk_laws.proofs.Vocabulary.{◌∙◌, ◌∷◌, ◌≡◌}
 use Rattle.mk_laws.proofs.LastEvents.{Stands}
-use Rattle.mk_cycle.proofs.Calm.{calm_done, calm_still, frees_none, is_calm}
+use Rattle.mk_cycle.proofs.Calm.{calm_done, calm_still, ends_none, frees_none, is_calm, stores_none}
 use Rattle.mk_cycle.proofs.KeptInParts.{free_then, gates_behind, gates_then, keeps_at_once, keeps_then}
 use Rattle.mk_cycle.proofs.{Allowed.in_turn_before, Allowed.on_table, OwnSteps.keeps_call, OwnSteps.keeps_counts}
 use Rattle.mk_cycle.specs.{Cleaning.HasTakenSnapshot, TurnKeeps.but_cleaned}
@@ -37,15 +37,6 @@ zero_stays xs i r h = elim (cases_eq r i) [
   ]
 ]
 
-calm_stores : (s : Step) → is_calm s ≡ true → is_heap_store s ≡ false
-calm_stores Step.Write h = cc
-calm_stores Step.Cas h = cc
-calm_stores _ h = refl
-
-calm_ends : (s : Step) → is_calm s ≡ true → is_end s ≡ false
-calm_ends Step.End h = cc
-calm_ends _ h = refl
-
 -- A calm step of a turn that is free for a cycle.
 module _ (p : PassState) (s : Step) (q : PassState) (a : Acts p s q) (t : InTurn p)
     (history : IsHistory q.table.config q.seen) (kind : is_calm s ≡ true) (free : IsFreeForCycle p) where
@@ -63,9 +54,9 @@ module _ (p : PassState) (s : Step) (q : PassState) (a : Acts p s q) (t : InTurn
       record {
         call =
             keeps_call p s q a t.own t.holds history st
-            (λ n. calm_done c m p.seat f n s m.seats.holding kind still_pending) (calm_stores s kind);
+            (λ n. calm_done c m p.seat f n s m.seats.holding kind still_pending) (stores_none is_calm refl refl s kind);
         steady = ap (λ (w : World). view (steady_of w)) a.world ∙ same ∙ ap view a.turn.steady;
-        counts = keeps_counts p s q a t.own t.holds history st (calm_ends s kind);
+        counts = keeps_counts p s q a t.own t.holds history st (ends_none is_calm refl s kind);
       }
 
 -- what a step that cleans makes of the pages' words

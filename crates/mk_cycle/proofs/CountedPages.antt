@@ -14,8 +14,11 @@ same_released a b count words kept = grind arith
 told_by : (snapshot marks header s m h : ℕ) (r : Released) → snapshot ≡ s → marks ≡ m → header ≡ h
     → r.count ≡ count_ones (without snapshot marks)
     → r.words ≡ count_ones (without snapshot marks) * words_under (header_of header)
-    → r.kept ≡ count_ones (bit_and snapshot marks) → r ≡ record { count = count_ones (without s m);
-      words = count_ones (without s m) * words_under (header_of h); kept = count_ones (bit_and s m); }
+    → r.kept ≡ count_ones (bit_and snapshot marks) → r ≡ record {
+      count = count_ones (without s m);
+      words = count_ones (without s m) * words_under (header_of h);
+      kept = count_ones (bit_and s m);
+    }
 told_by snapshot marks header s m h r is_snapshot is_marks is_header count words kept = grind (arith, same_released)
 
 -- what looks at the marks and the header say of a page

@@ -119,8 +119,14 @@ module _ {p g e q : PassState} {r : Released} (gives : GivesAllBack p g) (free :
 
   fulls_q : full_answers q.table.config q.seen ≡ full_answers c p.seen
   fulls_q =
-      cc (sets.counts.fulls, as_many_fulls t gives.phase u a, (gives_counts gives).fulls, same_config p g pass_g,
-      same_config g e pass_e, same_config p q pass_q)
+      cc (
+        sets.counts.fulls,
+        as_many_fulls t gives.phase u a,
+        (gives_counts gives).fulls,
+        same_config p g pass_g,
+        same_config g e pass_e,
+        same_config p q pass_q,
+      )
 
   told_q : HasReleased p q r
   told_q = told_to q same_g told

@@ -2,18 +2,19 @@
 use Rattle.mk_laws.proofs.Vocabulary.{AreOfOthers, Bool, Config, Event, Flight, Holding, IsHistory, List, Moment}
 use Rattle.mk_laws.proofs.Vocabulary.{PlacedAllocation, Seat, Steady, Step, World, ℕ, ap, arith, cases_eq, cases_lt}
 use Rattle.mk_laws.proofs.Vocabulary.{earlier_part_is_history, eq-eqb, eqb-false, false, flight_of, get_or-set_other}
-use Rattle.mk_laws.proofs.Vocabulary.{get_or-set_same, inl, inr, is_end, is_heap_store, is_held, is_phase, is_run_gone}
-use Rattle.mk_laws.proofs.Vocabulary.{length, ne_eqb, progress, refl, set_past, slice_index, slice_set, still, subst}
-use Rattle.mk_laws.proofs.Vocabulary.{sym, true, world_behind, ◌++◌, ◌∙◌, ◌≡◌, ◌≢◌}
+use Rattle.mk_laws.proofs.Vocabulary.{get_or-set_same, inl, inr, is_held, is_phase, is_run_gone, length, ne_eqb}
+use Rattle.mk_laws.proofs.Vocabulary.{progress, refl, set_past, slice_index, slice_set, still, subst, sym, true}
+use Rattle.mk_laws.proofs.Vocabulary.{world_behind, ◌++◌, ◌∙◌, ◌≡◌, ◌≢◌}
 use Rattle.mk_cycle.proofs.Vocabulary.{Acts, Frees, InTurn, IsAtPhase, IsFreeForCycle, IsTurnAt, LeavesTurn, PassState}
 use Rattle.mk_cycle.proofs.Vocabulary.{WordsState, does_nothing, does_step, does_then, event_of, holder_finds}
 use Rattle.mk_cycle.proofs.Vocabulary.{holding_behind, is_giving_back, is_pending_free, made, now_of, steady_of}
 use Rattle.mk_cycle.proofs.Vocabulary.{world_at, world_of}
 use Rattle.mk_core.specs.Growing.{Finding}
 use Rattle.mk_laws.proofs.{ProtocolFrames.others_leave, RunsStill.HolderFinds}
+use Rattle.mk_cycle.proofs.Calm.{calm_done, calm_still, ends_none, is_calm, stores_none}
 use Rattle.mk_cycle.proofs.KeptInParts.{free_then, keeps_at_once, keeps_then, same_config}
-use Rattle.mk_cycle.proofs.{Calm.calm_done, Calm.calm_still, Calm.is_calm, CleaningSteps.quar_frees_none}
-use Rattle.mk_cycle.proofs.{CleaningSteps.zero_stays, OwnSteps.done_in, OwnSteps.keeps_call, OwnSteps.keeps_counts}
+use Rattle.mk_cycle.proofs.OwnSteps.{done_in, keeps_call, keeps_counts}
+use Rattle.mk_cycle.proofs.CleaningSteps.{quar_frees_none, zero_stays}
 use Rattle.mk_cycle.specs.Freeing.{IsUnmapped, but_pages}
 use Rattle.mk_turns.{proofs.Doing.none_own, proofs.Doing.others_are_so, specs.Doing.are_of}
 use Rattle.mk_words.proofs.Seats.{others_own}
@@ -69,15 +70,6 @@ frees_done c m seat f n (Step.Head p v) h kind free at = grind (arith, done_in)
 frees_done c m seat f n (Step.Used p v) h kind free at = grind (arith, done_in)
 frees_done c m seat f n s h kind free at = calm_done c m seat f n s h kind free
 
-frees_stores : (s : Step) → frees_calmly s ≡ true → is_heap_store s ≡ false
-frees_stores Step.Write h = cc
-frees_stores Step.Cas h = cc
-frees_stores _ h = refl
-
-frees_ends : (s : Step) → frees_calmly s ≡ true → is_end s ≡ false
-frees_ends Step.End h = cc
-frees_ends _ h = refl
-
 -- what a step that gives back makes of the words
 pub record FreesAt (w v : World) : Type 0 where
   pub steady : but_pages (steady_of v) ≡ but_pages (steady_of w)
@@ -92,7 +84,7 @@ open_stays p q h j e = ne_eqb _ 2 (h j (eqb-false _ 2 e))
 
 module _ {p : PassState} {s : Step} {q : PassState} (a : Acts p s q) (t : InTurn p) (u : InTurn q)
     (kind : frees_calmly s ≡ true) (gives : is_giving_back s
-        ≡ true) (free : IsFreeForCycle p) (at : IsAtPhase p 4) where
+    ≡ true) (free : IsFreeForCycle p) (at : IsAtPhase p 4) where
   pub frees_step : FreesAt (world_at a.makes) (world_behind p.table.config (world_at a.makes) (event_of p s))
       → Frees p q
   frees_step x =
@@ -109,9 +101,10 @@ module _ {p : PassState} {s : Step} {q : PassState} (a : Acts p s q) (t : InTurn
         does = does_step is_giving_back p q s a.makes gives;
         keeps = record {
           call = keeps_call p s q a t.own t.holds u.history st
-              (λ n. frees_done c m p.seat f n s m.seats.holding kind pending four) (frees_stores s kind);
+              (λ n. frees_done c m p.seat f n s m.seats.holding kind pending four)
+              (stores_none frees_calmly refl refl s kind);
           steady = ap (λ (y : World). but_pages (steady_of y)) a.world ∙ x.steady ∙ ap but_pages a.turn.steady;
-          counts = keeps_counts p s q a t.own t.holds u.history st (frees_ends s kind);
+          counts = keeps_counts p s q a t.own t.holds u.history st (ends_none frees_calmly refl s kind);
         };
         marks = cc (a.world, x.marks, (a.turn.unmarked (λ e. absurd (omega arith)) (λ e. absurd (omega arith))).0);
         gates = open_stays p q (λ j ne. subst (λ (y : World). slice_index y.now.words.gates j ≢ 2) (sym a.world)

@@ -1,31 +1,16 @@
 -- Giving back: the used bits, and then the quarantine bits.
 use Rattle.mk_laws.proofs.Vocabulary.{List, Step, ℕ, and_parts, ap, arith, gives_back, has_bit, header_at, header_in}
-use Rattle.mk_laws.proofs.Vocabulary.{header_of, is_unmapped_header, quarantine_word, slice_index, subst, sym, true}
-use Rattle.mk_laws.proofs.Vocabulary.{used_at, without, words_under, ◌%◌, ◌*◌, ◌+◌, ◌-◌, ◌/◌, ◌<◌, ◌^◌, ◌∙◌, ◌≡◌}
-use Rattle.mk_cycle.proofs.Vocabulary.{Acts, FreesPage, GivesNothingBack, HasFreeCells, InTurn, IsTurnAt}
-use Rattle.mk_cycle.proofs.Vocabulary.{IsUnmappedWord, IsZero, PageState, PassState, WordsState, and_le_l, bit_and}
-use Rattle.mk_cycle.proofs.Vocabulary.{drops, left_unmarked, now_of, page_state}
+use Rattle.mk_laws.proofs.Vocabulary.{quarantine_word, slice_index, sym, true, used_at, without, words_under, ◌%◌, ◌*◌}
+use Rattle.mk_laws.proofs.Vocabulary.{◌+◌, ◌-◌, ◌/◌, ◌<◌, ◌^◌, ◌∙◌, ◌≡◌}
+use Rattle.mk_cycle.proofs.Vocabulary.{Acts, FreesPage, GivesNothingBack, InTurn, IsTurnAt, IsZero, PageState}
+use Rattle.mk_cycle.proofs.Vocabulary.{PassState, WordsState, and_le_l, bit_and, drops, left_unmarked, now_of}
+use Rattle.mk_cycle.proofs.Vocabulary.{page_state}
 use Rattle.mk_cycle.proofs.CellBits.{has_bit_and, high_part, low_part, none_in_both}
 use Rattle.mk_cycle.proofs.GivingSteps.{quar_frees, quar_state, used_frees, used_state}
 use Rattle.mk_cycle.proofs.PageSteps.{drops_ok, gives_ok, none_is_left, page_at_once, page_then, same_header, same_left}
 use Rattle.mk_cycle.proofs.PageSteps.{same_used}
 use Rattle.mk_cycle.proofs.{CleaningSteps.Halves, CleaningSteps.halves, FreeingSteps.freed_turn}
 use Rattle.mk_cycle.specs.Freeing.{GivesBack, IsQuarantineWord}
-
--- The words of released cells, by the header word of their page.
-module _ {p : PassState} {page : ℕ} (header cells : ℕ) (is : header ≡ header_at (now_of p).words page)
-    (released : (k : ℕ) → has_bit cells k ≡ true → has_bit (left_unmarked (now_of p).words page) k ≡ true)
-    (free : HasFreeCells p page) where
-  pub chosen_unmapped : (k i : ℕ) → has_bit cells k ≡ true → i < words_under (header_of header)
-      → IsUnmappedWord p (64 * page + k * words_under (header_of header) + i)
-  chosen_unmapped k i has lt =
-      subst (λ (n : ℕ). IsUnmappedWord p (64 * page + k * words_under (header_of n) + i)) (sym is)
-      (free.unmapped k i (released k has) (subst (λ (n : ℕ). i < words_under (header_of n)) is lt))
-
-  pub chosen_wiped : is_unmapped_header (header_of header) ≡ true
-      → (k i : ℕ) → has_bit cells k ≡ true → i < words_under (header_of header)
-      → IsZero p (64 * page + k * words_under (header_of header) + i)
-  chosen_wiped gone k i has lt = grind arith
 
 -- Of the cells that are used and gone each is gone.
 pub gone_too : (used gone k : ℕ) → has_bit (bit_and used gone) k ≡ true → has_bit gone k ≡ true

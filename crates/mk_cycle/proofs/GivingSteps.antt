@@ -76,9 +76,9 @@ module _ {p : PassState} {y : WordsState} (t : InTurn p) (turn : IsTurnAt 4 y p)
       → IsEnabledTo p (Step.Used page v)
   used_allowed page v lt is =
       may_act p (Step.Used page v) (protocol p t turn.free) t.holds turn.free.decided refl (lt-ltb page _
-          (on_table p turn.one_table lt)) refl
+      (on_table p turn.one_table lt)) refl
       (four_or (phase_of w == 0) (phase_of w == 1) (phase_of w) turn.phase) (ap (λ
-          (n : ℕ). if n == 4 then gives_back w page v
+      (n : ℕ). if n == 4 then gives_back w page v
       else (not (is_used_once (now_of p).seats.holding.placing) && takes_cell w (object_made c f.op)
       (place_now c (now_of p) f) page v)) turn.phase ∙ is)
 
@@ -86,9 +86,9 @@ module _ {p : PassState} {y : WordsState} (t : InTurn p) (turn : IsTurnAt 4 y p)
       → IsEnabledTo p (Step.Head page 0)
   head_allowed page lt is =
       may_act p (Step.Head page 0) (protocol p t turn.free) t.holds turn.free.decided refl (lt-ltb page _
-          (on_table p turn.one_table lt)) refl
+      (on_table p turn.one_table lt)) refl
       (four_or (phase_of w == 0) (phase_of w == 1) (phase_of w) turn.phase) (ap (λ
-          (n : ℕ). if n == 4 then empties w page 0
+      (n : ℕ). if n == 4 then empties w page 0
       else (carves w (object_made c f.op) (place_now c (now_of p) f) page 0
       || unmaps w (now_of p).seats.holding.freed page 0)) turn.phase ∙ is)
 
@@ -97,7 +97,7 @@ module _ {p : PassState} {y : WordsState} (t : InTurn p) (turn : IsTurnAt 4 y p)
   quar_allowed page v lt is =
       let none : target c.pages w f ≡ None = no_target c.pages w f turn.free.decided in
       may_act p (Step.Quar page v) (protocol p t turn.free) t.holds turn.free.decided refl (lt-ltb page _
-          (on_table p turn.one_table lt))
+      (on_table p turn.one_table lt))
       (ap (λ (cell : Option Cell). not (is_run_cell w cell) || others_are_held c.callers w p.seat) none)
       (four_or (phase_of w == 0) (phase_of w == 1) (phase_of w) turn.phase)
       (ap (λ (n : ℕ). if n == 4 then drops w page (v % 2 ^ 32) (v / 2 ^ 32)
@@ -247,4 +247,4 @@ module _ {p q : PassState} {y : WordsState} (turn : IsTurnAt 4 y p) {page : ℕ}
   quar_state {v} a =
       state_now _ a page (λ x. record x { freed = v % 2 ^ 32; snapshot = v / 2 ^ 32 })
       (λ of. quar_set (world_at a.makes).now.words page _ _ (long turn within _ of.freed)
-          (long turn within _ of.snapshot))
+      (long turn within _ of.snapshot))

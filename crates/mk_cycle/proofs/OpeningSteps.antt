@@ -74,10 +74,10 @@ by_itself {p} j t free at h =
       none = record {
         frees = frees_step a t next refl refl free at (open_gives p.table.config (world_at a.makes) p.seat j);
         same = λ r. ap (λ (w : World). record {
-              page = page_of w.now.words r;
-              freed = slice_index w.now.words.freed r;
-              snapshot = slice_index w.now.words.snapshot r;
-            }) a.world ∙ state_there _ _ a.turn.steady r;
+          page = page_of w.now.words r;
+          freed = slice_index w.now.words.freed r;
+          snapshot = slice_index w.now.words.snapshot r;
+        }) a.world ∙ state_there _ _ a.turn.steady r;
       };
       turn = next;
     }

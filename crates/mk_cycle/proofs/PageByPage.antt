@@ -1,10 +1,9 @@
 -- Pages are settled one by one, and pages without freed cells are passed over: what is known of those before, and of
 -- those still to come, goes on.
 use Rattle.std.proofs.Common.{le-ltb, ltb-false}
-use Rattle.mk_laws.proofs.Vocabulary.{Block, Free, Header, Later, LeafBlock, LeafRun, None, Option, Run, Some, Words, ℕ}
-use Rattle.mk_laws.proofs.Vocabulary.{and_from, ap, arith, cases_lt, eq-eqb, false, header_at, header_in, header_of}
-use Rattle.mk_laws.proofs.Vocabulary.{inl, inr, lt-ltb, nat_lt, not, or_parts, refl, run_count, slice_index, sym}
-use Rattle.mk_laws.proofs.Vocabulary.{use_under, used_at, ◌+◌, ◌<◌, ◌∙◌, ◌≡◌, ◌≤◌}
+use Rattle.mk_laws.proofs.Vocabulary.{Free, Header, Option, Some, Words, ℕ, and_from, ap, arith, cases_lt, eq-eqb}
+use Rattle.mk_laws.proofs.Vocabulary.{false, header_at, header_in, header_of, inl, inr, lt-ltb, nat_lt, not, or_parts}
+use Rattle.mk_laws.proofs.Vocabulary.{refl, run_count, slice_index, sym, use_under, used_at, ◌+◌, ◌<◌, ◌∙◌, ◌≡◌, ◌≤◌}
 use Rattle.mk_cycle.proofs.Vocabulary.{Frees, FreesPage, HasFreeCells, InTurn, IsOccupied, IsSettledPage, PassState}
 use Rattle.mk_cycle.proofs.Vocabulary.{Released, SamePage, below_more, held_below, held_unmarked, now_of}
 use Rattle.mk_cycle.proofs.Vocabulary.{released_below, released_on}
@@ -47,7 +46,7 @@ module _ (p : PassState) {q r : PassState} {n : ℕ} (pages : ℕ) (page : Frees
 
   cells_on : ((s : ℕ) → n ≤ s → s < pages → HasFreeCells q s) → (s : ℕ) → n + 1 ≤ s → s < pages → HasFreeCells r s
   cells_on before s le lt =
-      free_cells_stay page.frees (page.others s (λ e. absurd (omega (arith, e, le)))) (before s (omega (arith, le)) lt)
+      free_cells_stay s page.frees (page.others s (λ e. absurd (omega (arith, e, le)))) (before s (omega (arith, le)) lt)
 
   same_on : ((s : ℕ) → n ≤ s → SamePage p q s) → (s : ℕ) → n + 1 ≤ s → SamePage p r s
   same_on before s le = page.others s (λ e. absurd (omega (arith, e, le))) ∙ before s (omega (arith, le))
@@ -84,12 +83,7 @@ module _ (p : PassState) {q r : PassState} {n : ℕ} (pages : ℕ) (page : Frees
 
 free_header : (h : ℕ) (x : Option Header) (u : ℕ) → header_of h ≡ x → not (is_free_page (use_under x u)) ≡ false → h ≡ 0
 free_header h (Some Free) u is free = sym (word_of-header_of h Free is).1
-free_header h None u is free = cc
-free_header h (Some (Block class)) u is free = cc
-free_header h (Some (LeafBlock class)) u is free = cc
-free_header h (Some (Run n m)) u is free = cc
-free_header h (Some (LeafRun n)) u is free = cc
-free_header h (Some (Later d m)) u is free = cc
+free_header h _ u is free = cc
 
 pub no_header : (w : Words) (n : ℕ) → is_in_use w.pages n ≡ false → header_at w n ≡ 0
 no_header w n free = free_header (header_at w n) (header_of (header_at w n)) (used_at w n) refl free

@@ -1,19 +1,19 @@
 -- After a `release` the released cells have no word of a mapped allocation.
 use Rattle.std.proofs.Math.Bool.{and-false}
+use Rattle.mk_cycle.proofs.Vocabulary.{Acts, AreFreeCells, HasFreeCells, InTurn, IsAtPhase, IsGone, IsOccupied}
+use Rattle.mk_cycle.proofs.Vocabulary.{IsUnmappedWord, IsZero, PassState, allocations_stand, holder_finds}
+use Rattle.mk_cycle.proofs.Vocabulary.{left_unmarked, made, now_of, stands, world_at}
 use Rattle.mk_laws.proofs.Vocabulary.{Bool, Chosen, Config, Event, Granted, Header, InPlot, IsFreedCell, IsHistory}
 use Rattle.mk_laws.proofs.Vocabulary.{IsWordOf, IsWordOfMapped, List, Object, OfBlock, OfLater, OfLeafBlock, OfLeafRun}
 use Rattle.mk_laws.proofs.Vocabulary.{OfRun, Option, PlacedAllocation, Placing, ShowsPart, Steady, Step, Unplaced, Used}
 use Rattle.mk_laws.proofs.Vocabulary.{World, ℕ, and_parts, ap, arith, cases_eq, cells_begin, changed_at, eq-eqb, false}
-use Rattle.mk_laws.proofs.Vocabulary.{has_bit, has_bit_without, has_place, head_page, header_at, header_in, header_of}
+use Rattle.mk_laws.proofs.Vocabulary.{has_bit, has_bit_without, has_place, head_page, header_at, header_in}
 use Rattle.mk_laws.proofs.Vocabulary.{header_shows, inl, inr, is_large, is_mapped, is_phase, is_released_in}
 use Rattle.mk_laws.proofs.Vocabulary.{is_run_gone, is_small_object, is_unmapped_header, kinds_of, large_is_not_small}
 use Rattle.mk_laws.proofs.Vocabulary.{map, ne_eqb, not, object_placed, or_right, pages_made, pages_some, phase_of}
 use Rattle.mk_laws.proofs.Vocabulary.{placed_at, plot_of, refl, released_where_left, slice_index, storage_of, subst}
 use Rattle.mk_laws.proofs.Vocabulary.{sym, true, true≢false, typed_size, used_at, with_released, words_under, ◌&&◌, ◌*◌}
 use Rattle.mk_laws.proofs.Vocabulary.{◌++◌, ◌+◌, ◌/◌, ◌<◌, ◌==◌, ◌||◌, ◌∙◌, ◌≡◌, ◌⊎◌}
-use Rattle.mk_cycle.proofs.Vocabulary.{Acts, HasFreeCells, InTurn, IsAtPhase, IsGone, IsOccupied, IsUnmappedWord}
-use Rattle.mk_cycle.proofs.Vocabulary.{IsZero, PassState, allocations_stand, holder_finds, left_unmarked, made, now_of}
-use Rattle.mk_cycle.proofs.Vocabulary.{stands, world_at}
 use Rattle.mk_core.proofs.StandingAllocations.{placed_cell}
 use Rattle.mk_laws.{proofs.FreeWords.unmapped_words_are_zero, proofs.InvariantTheorems.allocations_are_disjoint}
 use Rattle.mk_laws.{proofs.MappedWords.mapped_stays, specs.FreeWords.IsOfNoneMapped}
@@ -125,18 +125,23 @@ module _ {d q : PassState} (t : InTurn d) (u : InTurn q) (at : IsAtPhase d 3) (a
           ∙ unmapped_owner f unmapped)
 
   -- A word of a released cell is one of its allocation.
-  owned_word : {page k : ℕ} (i : ℕ) → has_bit (left_unmarked w.now.words page) k ≡ true
-      → i < words_under (header_in w.now.words page) → (f : IsFreedCell c w.allocations page k)
-      → (64 * page + k * words_under (header_in w.now.words page) + i < 64 * c.pages) × IsWordOf
-      (storage_of c (placed_at w.allocations f.number)) (64 * page + k * words_under (header_in w.now.words page) + i)
+
+  abbrev size : ℕ → ℕ
+  size page = words_under (header_in w.now.words page)
+
+  abbrev word_of : ℕ → ℕ → ℕ → ℕ
+  word_of page k i = 64 * page + k * size page + i
+
+  owned_word : {page k : ℕ} (i : ℕ) → has_bit (left_unmarked w.now.words page) k ≡ true → i < size page
+      → (f : IsFreedCell c w.allocations page k)
+      → (word_of page k i < 64 * c.pages) × IsWordOf (storage_of c (placed_at w.allocations f.number)) (word_of page k i)
   owned_word i has small f = grind (arith, made, allocations_stand, es, cells_begin)
 
-  unmapped_there : (page k i : ℕ) → has_bit (left_unmarked w.now.words page) k ≡ true
-      → i < words_under (header_in w.now.words page)
-      → IsUnmappedWord q (64 * page + k * words_under (header_in w.now.words page) + i)
+  unmapped_there : (page k i : ℕ) → has_bit (left_unmarked w.now.words page) k ≡ true → i < size page
+      → IsUnmappedWord q (word_of page k i)
   unmapped_there page k i has small =
       let f = owner page k has in
-      let n : ℕ = 64 * page + k * words_under (header_in w.now.words page) + i in
+      let n : ℕ = word_of page k i in
       let own = owned_word i has small f in
       record {
         within = subst (λ (e : Config). n < 64 * e.pages) (sym same_table) own.0;
@@ -147,29 +152,17 @@ module _ {d q : PassState} (t : InTurn d) (u : InTurn q) (at : IsAtPhase d 3) (a
       }
 
   zero_there : IsGone d → (page k i : ℕ) → is_unmapped_header (header_in w.now.words page) ≡ true
-      → has_bit (left_unmarked w.now.words page) k ≡ true → i < words_under (header_in w.now.words page)
-      → IsZero q (64 * page + k * words_under (header_in w.now.words page) + i)
+      → has_bit (left_unmarked w.now.words page) k ≡ true → i < size page → IsZero q (word_of page k i)
   zero_there gone page k i unmapped has small =
       let f = owner page k has in
-      let n : ℕ = 64 * page + k * words_under (header_in w.now.words page) + i in
-      ap (λ (x : World). slice_index x.now.words.heap n) a.world
-      ∙ unmapped_is_zero gone n f unmapped (owned_word i has small f).1
+      ap (λ (x : World). slice_index x.now.words.heap (word_of page k i)) a.world
+      ∙ unmapped_is_zero gone (word_of page k i) f unmapped (owned_word i has small f).1
 
   pub cells_are_free : IsGone d → (page : ℕ) → HasFreeCells q page
   cells_are_free gone page =
-      let header : header_at (now_of q).words page ≡ header_at w.now.words page =
-      ap (λ (x : World). header_at x.now.words page) a.world in
-      let left : left_unmarked (now_of q).words page ≡ left_unmarked w.now.words page =
-      ap (λ (x : World). left_unmarked x.now.words page) a.world in
-      let size : words_under (header_in (now_of q).words page) ≡ words_under (header_in w.now.words page) =
-      ap (λ (n : ℕ). words_under (header_of n)) header in
-      record {
-        unmapped = λ k i has lt. subst (λ (n : ℕ). IsUnmappedWord q (64 * page + k * n + i)) (sym size)
-            (unmapped_there page k i (sym (ap (λ (n : ℕ). has_bit n k) left) ∙ has) (subst (λ (n : ℕ). i < n) size lt));
-        wiped = λ unmapped k i has lt. subst (λ (n : ℕ). IsZero q (64 * page + k * n + i)) (sym size)
-            (zero_there gone page k i (sym (ap (λ (n : ℕ). is_unmapped_header (header_of n)) header) ∙ unmapped)
-            (sym (ap (λ (n : ℕ). has_bit n k) left) ∙ has) (subst (λ (n : ℕ). i < n) size lt));
-      }
+      subst (λ (x : World). AreFreeCells q page (header_at x.now.words page) (left_unmarked x.now.words page))
+      (sym a.world)
+      (record { unmapped = unmapped_there page; wiped = λ unmapped k i. zero_there gone page k i unmapped })
 
   -- A page with a header has a used cell, a run's at its head: no New has a place.
   pub pages_are_occupied : has_place (now_of d).seats.holding.placing ≡ false → (page : ℕ) → IsOccupied q page

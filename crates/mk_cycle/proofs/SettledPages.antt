@@ -1,38 +1,42 @@
 -- Pages are settled one after the other.
+use Rattle.mk_cycle.proofs.Vocabulary.{AreFreeCells, Frees, FreesPage, GivesNothingBack, HasFreeCells, InTurn}
+use Rattle.mk_cycle.proofs.Vocabulary.{IsAtPhase, IsOccupied, IsSettledPage, PassState, SamePage, allocations_stand}
+use Rattle.mk_cycle.proofs.Vocabulary.{left_unmarked, now_of, page_state, stands, world_of}
 use Rattle.mk_laws.proofs.Vocabulary.{Bool, Header, IsFreedCell, Option, Some, Words, ℕ, and_from, and_parts, ap, arith}
 use Rattle.mk_laws.proofs.Vocabulary.{cases_eq, empties, eq-eqb, eqb-false, eqb-true, false, false_from_ne_true}
 use Rattle.mk_laws.proofs.Vocabulary.{has_bit, has_bit_without, head_page, head_page_under, header_at, header_in}
-use Rattle.mk_laws.proofs.Vocabulary.{header_of, inl, inr, is_phase, is_released_in, is_unmapped_header, ne_eqb, no_bit}
-use Rattle.mk_laws.proofs.Vocabulary.{not, not-true, or_cases, quarantine_word, refl, run_count, slice_index, subst}
-use Rattle.mk_laws.proofs.Vocabulary.{sym, true, true≢false, used_at, without, words_under, ◌&&◌, ◌*◌, ◌+◌, ◌-◌, ◌/◌}
-use Rattle.mk_laws.proofs.Vocabulary.{◌<◌, ◌==◌, ◌^◌, ◌||◌, ◌∙◌, ◌≡◌, ◌≢◌, ◌≤◌, ◌⊎◌}
-use Rattle.mk_cycle.proofs.Vocabulary.{Frees, FreesPage, GivesNothingBack, HasFreeCells, InTurn, IsAtPhase, IsOccupied}
-use Rattle.mk_cycle.proofs.Vocabulary.{IsSettledPage, IsUnmappedWord, IsZero, PassState, SamePage, allocations_stand}
-use Rattle.mk_cycle.proofs.Vocabulary.{left_unmarked, now_of, page_state, stands, world_of}
+use Rattle.mk_laws.proofs.Vocabulary.{header_of, inl, inr, is_phase, is_released_in, ne_eqb, no_bit, not, not-true}
+use Rattle.mk_laws.proofs.Vocabulary.{or_cases, quarantine_word, refl, run_count, slice_index, subst, sym, true}
+use Rattle.mk_laws.proofs.Vocabulary.{true≢false, used_at, without, ◌&&◌, ◌+◌, ◌-◌, ◌/◌, ◌<◌, ◌==◌, ◌^◌, ◌||◌, ◌∙◌, ◌≡◌}
+use Rattle.mk_laws.proofs.Vocabulary.{◌≢◌, ◌≤◌, ◌⊎◌}
 use Rattle.mk_core.proofs.WordBits.{zero_from_bits}
 use Rattle.mk_laws.proofs.FreePages.{free_pages_have_nothing}
 use Rattle.mk_cycle.proofs.PageSteps.{page_at_once, page_then, same_header, same_left, same_used}
 use Rattle.mk_cycle.proofs.{CleaningSteps.halves, GivingSteps.still_unmapped_word}
 use Rattle.mk_cycle.specs.Freeing.{GivesBack, is_occupied_page}
 
-pub free_cells_stay : {p q : PassState} {page : ℕ} → Frees p q → SamePage p q page → HasFreeCells p page
+-- Free cells stay so, those of a page whose words are the same, and some of them.
+
+pub still_free : {p q : PassState} {page header cells : ℕ} → Frees p q → AreFreeCells p page header cells
+    → AreFreeCells q page header cells
+still_free k free = record {
+  unmapped = λ x i has lt. still_unmapped_word k (free.unmapped x i has lt);
+  wiped = λ gone x i has lt. k.zeros _ (free.unmapped x i has lt).unmapped (free.wiped gone x i has lt);
+}
+
+pub free_cells_stay : {p q : PassState} (page : ℕ) → Frees p q → SamePage p q page → HasFreeCells p page
     → HasFreeCells q page
-free_cells_stay {p} {q} {page} k same cells =
-    let header : header_at (now_of q).words page ≡ header_at (now_of p).words page = same_header p q page same in
-    let size : words_under (header_in (now_of q).words page) ≡ words_under (header_in (now_of p).words page) =
-    ap (λ (n : ℕ). words_under (header_of n)) header in
-    let left = same_left p q page same k.marks in
-    record {
-      unmapped = λ x i has lt. subst (λ (n : ℕ). IsUnmappedWord q (64 * page + x * n + i)) (sym size)
-          (still_unmapped_word k (cells.unmapped x i (sym (ap (λ (n : ℕ). has_bit n x) left) ∙ has)
-          (subst (λ (n : ℕ). i < n) size lt)));
-      wiped = λ gone x i has lt.
-          let there = sym (ap (λ (n : ℕ). has_bit n x) left) ∙ has in
-          let small = subst (λ (n : ℕ). i < n) size lt in
-          subst (λ (n : ℕ). IsZero q (64 * page + x * n + i)) (sym size)
-          (k.zeros _ (cells.unmapped x i there small).unmapped
-          (cells.wiped (sym (ap (λ (n : ℕ). is_unmapped_header (header_of n)) header) ∙ gone) x i there small));
-    }
+free_cells_stay {p} {q} page k same free =
+    subst (λ (n : ℕ). AreFreeCells q page n (left_unmarked (now_of q).words page)) (sym (same_header p q page same))
+    (subst (λ (n : ℕ). AreFreeCells q page (header_at (now_of p).words page) n)
+    (sym (same_left p q page same k.marks)) (still_free k free))
+
+pub some_free : {p : PassState} {page header all : ℕ} (some : ℕ) → AreFreeCells p page header all
+    → ((k : ℕ) → has_bit some k ≡ true → has_bit all k ≡ true) → AreFreeCells p page header some
+some_free some free among = record {
+  unmapped = λ k i has lt. free.unmapped k i (among k has) lt;
+  wiped = λ gone k i has lt. free.wiped gone k i (among k has) lt;
+}
 
 pub gives_then : {page : ℕ} {p b q : PassState} → GivesNothingBack p b → GivesBack page b q → GivesBack page p q
 gives_then {page} {p} {b} {q} k g = record {

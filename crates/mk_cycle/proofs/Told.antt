@@ -15,9 +15,8 @@ told_closing tells {p = p} {q = q} has makes history told = record {
 }
 
 -- when more was seen after it
-pub told_later : {tells : Config → World → Type 0} {p q : PassState} (r : PassState) (more : List Event) → r.seen
-    ≡ q.seen ++ more
-    → IsToldAtClose tells p q → IsToldAtClose tells p r
+pub told_later : {tells : Config → World → Type 0} {p q : PassState} (r : PassState) (more : List Event)
+    → r.seen ≡ q.seen ++ more → IsToldAtClose tells p q → IsToldAtClose tells p r
 told_later {p} r more is t = record {
   before = t.before;
   behind = t.behind ++ more;

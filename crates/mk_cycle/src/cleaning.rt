@@ -11,9 +11,7 @@ ghost use Rattle.mk_cycle.specs.Cleaning.{WasUndirty};
 ghost use Rattle.mk_cycle.specs.EngineLaw.{IsTurnAt, is_register};
 
 use crate::bits::FREED_END;
-use crate::turn_steps::{
-    in_turn, look, look_among, next_in_use, next_quarantined, next_uncleaned,
-};
+use crate::turn_steps::{in_turn, look, look_among, next_in_use, next_quarantined, next_uncleaned};
 use mk_core::Word;
 use mk_words::{Turn, Words};
 
@@ -32,6 +30,7 @@ fn look_before(turn: &mut Turn, words: &Words, pages: u64, x: Word) -> u64
 }
 
 /// Clears the marks of a page, which were found to be these.
+#[tactic(auto, using(crate::proofs::Allowed::clear_allowed, crate::proofs::CleaningSteps::cleans_nothing))]
 fn clear_marks(turn: &mut Turn, words: &Words, page: u64, marks: u64)
     requires turn { IsTurnAt 0 words.now turn.old.pass }
     requires within { page < words.now.config.pages }
@@ -47,6 +46,7 @@ fn clear_marks(turn: &mut Turn, words: &Words, page: u64, marks: u64)
 }
 
 /// Clears the black word of a page, which was found to be this one.
+#[tactic(auto, using(crate::proofs::Allowed::unblack_allowed, crate::proofs::CleaningSteps::cleans_nothing))]
 fn clear_black(turn: &mut Turn, words: &Words, page: u64, blacks: u64)
     requires turn { IsTurnAt 0 words.now turn.old.pass }
     requires within { page < words.now.config.pages }
@@ -62,6 +62,7 @@ fn clear_black(turn: &mut Turn, words: &Words, page: u64, blacks: u64)
 }
 
 /// Clears the dirty word of a page, which was found to be this one. A caller may set it again at once.
+#[tactic(auto, using(crate::proofs::Allowed::undirty_allowed, crate::proofs::CleaningSteps::cleans_nothing))]
 fn clear_dirty(turn: &mut Turn, words: &Words, page: u64, dirty: u64)
     requires turn { IsTurnAt 0 words.now turn.old.pass }
     requires within { page < words.now.config.pages }

@@ -43,6 +43,7 @@ pub(crate) fn held_words(header: &ReadHeader, words: u64) -> u64
 }
 
 /// Looks at a word that is no register, while nothing is given back, in a table of this many pages.
+#[tactic(auto, using(crate::proofs::Allowed::in_turn_after))]
 #[inline(always)]
 pub(crate) fn look(turn: &mut Turn, words: &Words, pages: u64, x: Word) -> u64
     requires turn { IsTurnAt 4 words.now turn.old.pass }

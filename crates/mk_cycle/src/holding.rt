@@ -1,5 +1,5 @@
 //! Before the stop the gates of all other callers are held. A caller that is in a call is waited for.
-ghost use Rattle.std.specs.Prelude.{◌≡◌, ◌<◌, true, false, ℕ};
+ghost use Rattle.std.specs.Prelude.{◌≡◌, ◌<◌, true, false};
 ghost use Rattle.mk_core.specs.Moments.{is_held, is_number_of, others_are_held};
 ghost use Rattle.mk_words.specs.States.{now_of};
 ghost use Rattle.mk_cycle.specs.EngineLaw.{IsFreeForCycle};
@@ -53,6 +53,7 @@ fn hold_gate<R: Wait>(rt: &R, turn: &mut Turn, words: &Words, caller: u64)
 }
 
 /// Holds a caller's gate, unless it is the holder's own.
+#[tactic(auto, using(crate::proofs::HoldingSteps::holds_nothing))]
 #[inline(always)]
 fn hold_other<R: Wait>(rt: &R, turn: &mut Turn, words: &Words, caller: u64)
     requires one_table { turn.old.pass.table ≡ words.now }

@@ -28,6 +28,7 @@ fn look(turn: &mut Turn, words: &Words, x: Word) -> u64
 }
 
 /// Stores a tally.
+#[tactic(auto, using(crate::proofs::Allowed::tally_allowed))]
 fn set(turn: &mut Turn, words: &Words, n: Tally, v: u64)
     requires one_table { turn.old.pass.table ≡ words.now }
     requires free { IsFreeForCycle turn.old.pass }

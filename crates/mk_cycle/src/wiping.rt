@@ -1,12 +1,11 @@
 //! Released cells are wiped: their words are looked at, in a table of this many pages, and what isn't 0 is stored to.
 ghost use Rattle.std.specs.Prelude.{◌≡◌, ◌<◌, ◌+◌, ◌*◌, ◌/◌, ℕ, true, slice_index};
 ghost use Rattle.mk_core.specs.Bits.{has_bit};
-ghost use Rattle.mk_core.specs.Cells.{left_unmarked, words_under};
-ghost use Rattle.mk_core.specs.Words.{header_at};
+ghost use Rattle.mk_core.specs.Cells.{words_under};
 ghost use Rattle.mk_geom.specs.Headers.{header_of};
 ghost use Rattle.mk_words.specs.States.{now_of};
 ghost use Rattle.mk_cycle.specs.EngineLaw.{IsTurnAt};
-ghost use Rattle.mk_cycle.specs.Freeing.{GivesNothingBack, HasFreeCells, IsUnmapped, IsZero, IsUnmappedWord};
+ghost use Rattle.mk_cycle.specs.Freeing.{AreFreeCells, GivesNothingBack, IsZero, IsUnmappedWord};
 ghost use Rattle.mk_cycle.specs.TurnKeeps.{InTurn};
 
 use crate::bits::lowest_bit;
@@ -118,10 +117,7 @@ pub(crate) fn wipe_released(
     requires turn { IsTurnAt 4 words.now turn.old.pass }
     requires pages { pages ≡ words.now.config.pages }
     requires within { page < words.now.config.pages }
-    requires header { header.now ≡ header_at (now_of turn.old.pass).words page }
-    requires released { (k : ℕ) → has_bit cells k ≡ true
-        → has_bit (left_unmarked (now_of turn.old.pass).words page) k ≡ true }
-    requires cells { HasFreeCells turn.old.pass page }
+    requires cells { AreFreeCells turn.old.pass page header.now cells }
     ensures op { turn.new.op ≡ turn.old.op }
     ensures frees { GivesNothingBack turn.old.pass turn.new.pass }
     ensures zeros { (k : ℕ) → k < 32 → (i : ℕ) → has_bit cells k ≡ true → i < words_under (header_of header.now)

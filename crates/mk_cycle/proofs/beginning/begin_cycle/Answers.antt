@@ -46,8 +46,11 @@ returns-clause-law g c =
     let x = cleared g (goal.at.returns-clause-law g c).After-tally in
     begins_cycle x (λ page lt. undirty_later
     (c.clean_pages.ensures.undirty page (subst (λ (w : WordsState). page < w.config.pages) c.requires.one_table lt))
-    (tallied (cleaned_turn c.clean_pages.ensures.cleans (record { one_table = c.requires.one_table;
-    free = c.requires.free; phase = c.requires.phase })) c.tally.ensures.acts)) c.begin.ensures.acts
+    (tallied (cleaned_turn c.clean_pages.ensures.cleans (record {
+      one_table = c.requires.one_table;
+      free = c.requires.free;
+      phase = c.requires.phase;
+    })) c.tally.ensures.acts)) c.begin.ensures.acts
     c.begin-2.ensures.law
 
 pub returns-clause-reached : goal.returns-clause-reached

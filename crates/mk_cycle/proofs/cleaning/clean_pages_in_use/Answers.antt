@@ -10,8 +10,6 @@ loop-page-preserved c =
     let i = c.loop-page.invariant in
     let x = c.clean_page.ensures in
     let next = c.in-Some.ensures.next in
-    let p = c.args.turn.now.pass in
-    let q = c.loop-page.turn.pass in
     let n = c.in-Some.page in
     let pages = cleans_past c.requires.turn.one_table i.pages next.1 x.op x.cleans in
     record {

@@ -11,7 +11,7 @@ end-requires-clause-enabled g c =
     let gives = c.give_all_back-turn.ensures.gives in
     end_allowed c.in_turn.ensures (gives_free gives c.requires.free) gives.phase (λ page lt. gives.settled page
     (subst (λ (x : Config). page < x.pages) (same_config c.args.turn.pass c.give_all_back-turn.result.0.pass
-        (gives_call gives).pass) lt))
+    (gives_call gives).pass) lt))
 
 pub count_cycle-requires-clause-free : goal.count_cycle-requires-clause-free
 count_cycle-requires-clause-free g c =

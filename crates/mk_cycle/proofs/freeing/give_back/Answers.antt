@@ -1,12 +1,11 @@
 use Rattle.mk_laws.proofs.Vocabulary.{Step, ℕ, ap, gives_back, has_bit, header_of, quarantine_word, refl, subst, sym}
-use Rattle.mk_laws.proofs.Vocabulary.{words_under, ◌-◌, ◌/◌, ◌^◌, ◌∙◌}
-use Rattle.mk_cycle.proofs.Vocabulary.{Acts, GivesNothingBack, IsTurnAt, now_of}
-use Rattle.mk_cycle.proofs.Allowed.{in_turn_after, in_turn_before}
+use Rattle.mk_laws.proofs.Vocabulary.{true, words_under, ◌-◌, ◌/◌, ◌^◌, ◌∙◌, ◌≡◌}
+use Rattle.mk_cycle.proofs.Vocabulary.{Acts, AreFreeCells, GivesNothingBack, IsTurnAt, bit_and, now_of}
 use Rattle.mk_cycle.proofs.GiveBack.{GivesCells, drops_here, gives_all, gives_here, gone_too, turn_d}
 use Rattle.mk_cycle.proofs.GivingSteps.{look_frees, none_then, quar_allowed, used_allowed}
 use Rattle.mk_cycle.proofs.freeing.give_back.Goals.{After-look_among-used, After-used, After-wipe_released}
-use Rattle.mk_cycle.proofs.{FreeingSteps.freed_turn, MayAct.calm_admitted, PageSteps.same_header, PageSteps.same_left}
-use Rattle.mk_cycle.proofs.{PageSteps.same_used, SettledPages.free_cells_stay}
+use Rattle.mk_cycle.proofs.{Allowed.in_turn_after, Allowed.in_turn_before, FreeingSteps.freed_turn}
+use Rattle.mk_cycle.proofs.{MayAct.calm_admitted, PageSteps.same_used, SettledPages.some_free, SettledPages.still_free}
 use Rattle.mk_cycle.proofs.freeing.give_back.Goals as goal
 
 -- The look gives nothing back, nor does the wiping.
@@ -40,24 +39,13 @@ pub wipe_released-requires-clause-turn : goal.wipe_released-requires-clause-turn
 wipe_released-requires-clause-turn c =
     freed_turn (looked (goal.at.wipe_released-requires-clause-turn c).After-look_among-used).frees c.requires.turn
 
-pub wipe_released-requires-clause-header : goal.wipe_released-requires-clause-header
-wipe_released-requires-clause-header c =
-    let first = looked (goal.at.wipe_released-requires-clause-header c).After-look_among-used in
-    c.requires.header ∙ sym
-    (same_header c.args.turn.now.pass c.look_among-used.new.turn.pass c.args.page (first.same c.args.page))
-
-pub wipe_released-requires-clause-released : goal.wipe_released-requires-clause-released
-wipe_released-requires-clause-released c k has =
-    let first = looked (goal.at.wipe_released-requires-clause-released c).After-look_among-used in
-    let left =
-    same_left c.args.turn.now.pass c.look_among-used.new.turn.pass c.args.page (first.same c.args.page)
-    first.frees.marks in
-    ap (λ (n : ℕ). has_bit n k) (left ∙ sym c.requires.gone) ∙ gone_too c.look_among-used.result c.args.gone k has
-
 pub wipe_released-requires-clause-cells : goal.wipe_released-requires-clause-cells
 wipe_released-requires-clause-cells c =
-    let first = looked (goal.at.wipe_released-requires-clause-cells c).After-look_among-used in
-    free_cells_stay first.frees (first.same c.args.page) c.requires.cells
+    let some : ℕ = bit_and c.look_among-used.result c.args.gone in
+    still_free (looked (goal.at.wipe_released-requires-clause-cells c).After-look_among-used).frees
+    (subst (λ (n : ℕ). AreFreeCells c.args.turn.now.pass c.args.page n some) (sym c.requires.header)
+    (some_free some c.requires.cells (λ k has. subst (λ (n : ℕ). has_bit n k ≡ true) c.requires.gone
+    (gone_too c.look_among-used.result c.args.gone k has))))
 
 turn : (c : After-wipe_released) → IsTurnAt 4 c.args.words.now c.wipe_released.new.turn.pass
 turn c = freed_turn (wiped c).frees c.requires.turn

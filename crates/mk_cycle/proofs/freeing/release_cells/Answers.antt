@@ -44,7 +44,6 @@ gone c =
 counted : (c : After-without-gone)
     → c.released_cells-released.result ≡ released_on (now_of c.args.turn.now.pass).words c.args.page
 counted c =
-    let p : PassState = c.args.turn.now.pass in
     let b : PassState = c.look-marks.new.turn.pass in
     let x = c.look-quarantine.ensures in
     let y = c.look-marks.ensures in
@@ -86,7 +85,7 @@ give_back-requires-clause-gone c = gone (goal.at.give_back-requires-clause-gone 
 pub give_back-requires-clause-cells : goal.give_back-requires-clause-cells
 give_back-requires-clause-cells c =
     let both = both (goal.at.give_back-requires-clause-cells c).After-without-gone in
-    free_cells_stay both.frees (both.same c.args.page) c.requires.cells
+    free_cells_stay c.args.page both.frees (both.same c.args.page) c.requires.cells
 
 pub returns-clause-released : goal.returns-clause-released
 returns-clause-released c = counted (goal.at.returns-clause-released c).After-without-gone

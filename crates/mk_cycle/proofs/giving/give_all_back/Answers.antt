@@ -10,7 +10,7 @@ use Rattle.mk_cycle.proofs.giving.give_all_back.Goals as goal
 pub settle_pages-settled-requires-clause-cells : goal.settle_pages-settled-requires-clause-cells
 settle_pages-settled-requires-clause-cells g c page lt =
     let opens = c.open_gates-turn.ensures.opens in
-    free_cells_stay opens.frees (opens.same page) (c.release_unmarked.ensures.cells page)
+    free_cells_stay page opens.frees (opens.same page) (c.release_unmarked.ensures.cells page)
 
 pub settle_pages-settled-requires-clause-occupied : goal.settle_pages-settled-requires-clause-occupied
 settle_pages-settled-requires-clause-occupied g c page =
@@ -32,7 +32,6 @@ all_frees g c = frees_then c.open_gates-turn.ensures.opens.frees c.settle_pages-
 
 pub returns-clause-gives : goal.returns-clause-gives
 returns-clause-gives g c =
-    let p = c.args.turn.pass in
     let holds = holds_gates_at g (goal.at.returns-clause-gives g c).After-settle_pages-settled in
     gives_all_back
     holds c.release_unmarked.ensures.releases c.open_gates-turn.ensures.opens c.settle_pages-settled.ensures.frees
@@ -41,14 +40,12 @@ returns-clause-gives g c =
 
 pub returns-clause-told : goal.returns-clause-told
 returns-clause-told g c =
-    let p = c.args.turn.pass in
     let holds = holds_gates_at g (goal.at.returns-clause-told g c).After-settle_pages-settled in
     all_told _ _ holds c.open_gates-turn.ensures.opens c.settle_pages-settled.ensures.frees
     c.release_unmarked.ensures.told c.settle_pages-settled.ensures.released
 
 pub returns-clause-held : goal.returns-clause-held
 returns-clause-held g c =
-    let p = c.args.turn.pass in
     let holds = holds_gates_at g (goal.at.returns-clause-held g c).After-settle_pages-settled in
     all_held _ _ holds c.open_gates-turn.ensures.opens c.settle_pages-settled.ensures.frees
     c.release_unmarked.ensures.held c.settle_pages-settled.ensures.held
