@@ -8,8 +8,6 @@ loop-caller-init g c = grind (arith, goes_nowhere, gates_at_once)
 
 pub loop-caller-preserved : goal.loop-caller-preserved
 loop-caller-preserved g c =
-    let t = c.args.turn.now in
-    let u = c.loop-caller.turn in
     let v = c.mark_caller.new.turn in
     let before = c.loop-caller.invariant in
     record {

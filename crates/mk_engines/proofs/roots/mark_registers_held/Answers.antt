@@ -9,7 +9,6 @@ returns-then-was_open-clause-on g c =
 pub returns-then-was_open-clause-looked : goal.returns-then-was_open-clause-looked
 returns-then-was_open-clause-looked g c r few =
     let x = Word.Reg c.args.caller r in
-    let t = c.args.turn.now in
     let marked = c.mark_registers_of.ensures in
     looked_on x (goes_then c.hold_gate-was_open.ensures.on marked.on) c.open_gate.ensures.on
     (on_looked x c.hold_gate-was_open.ensures.on marked.on (marked.looked r few))

@@ -10,7 +10,6 @@ returns-clause-on g c = goes_then c.mark_registers.ensures.on c.mark_globals.ens
 pub returns-clause-roots : goal.returns-clause-roots
 returns-clause-roots g c =
     let t = c.args.turn.now in
-    let u = c.mark_registers.new.turn in
     let v = c.mark_globals.new.turn in
     marks_roots (returns-clause-on g c).marks (all_looked t.pass v.pass (λ k r lt few. looked_on
     (Word.Reg k r) c.mark_registers.ensures.on c.mark_globals.ensures.on (c.mark_registers.ensures.looked k
