@@ -40,8 +40,8 @@ pub record AreTheirBits (c : Config) (es : List Event) (chosen : PlacedAllocatio
       ≡ has_bit (bits (cell_of_allocation c (placed_at (left c es).allocations i)).page)
       (cell_of_allocation c (placed_at (left c es).allocations i)).index
 
-module _ {c : Config} {es : List Event} (h : IsHistory c es) (quiet : phase_of (left c es).now.words ≢ 4)
-    {chosen : PlacedAllocation → Bool} {bits : ℕ → ℕ} (are : AreTheirBits c es chosen bits) where
+module _ (c : Config) (es : List Event) (h : IsHistory c es) (quiet : phase_of (left c es).now.words ≢ 4)
+    (chosen : PlacedAllocation → Bool) (bits : ℕ → ℕ) (are : AreTheirBits c es chosen bits) where
   abbrev xs : List PlacedAllocation
   xs = (left c es).allocations
 

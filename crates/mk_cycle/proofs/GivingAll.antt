@@ -9,8 +9,8 @@ use Rattle.mk_cycle.proofs.{BeginSteps.all_from, FreeingSteps.freed_phase, Freei
 use Rattle.mk_cycle.proofs.{HeldReleased.held_alike, ReleasedCounts.told_from, ReleasedCounts.told_to}
 use Rattle.mk_cycle.specs.{GivingAll.GivesAllBack, Releasing.ReleasesUnmarked}
 
-pub held_phase : {p q : PassState} (n : ℕ) → HoldsGates p q → IsAtPhase p n → IsAtPhase q n
-held_phase n k at = ap (λ (s : Steady). s.phase) k.keeps.steady ∙ at
+pub held_phase : (p q : PassState) (n : ℕ) → HoldsGates p q → IsAtPhase p n → IsAtPhase q n
+held_phase p q n k at = ap (λ (s : Steady). s.phase) k.keeps.steady ∙ at
 
 pub released_phase : {p q : PassState} → ReleasesUnmarked p q → IsAtPhase q 4
 released_phase r = ap (λ (s : Steady). s.phase) r.steady

@@ -12,7 +12,7 @@ use Rattle.mk_laws.proofs.Vocabulary.{sym, true, true≢false, typed_size, use_u
 use Rattle.mk_laws.proofs.Vocabulary.{words_within, zero, [], ◌&&◌, ◌*◌, ◌+◌, ◌/◌, ◌||◌, ◌∙◌, ◌∷◌, ◌≡◌}
 use Rattle.mk_cycle.proofs.Vocabulary.{Acts, HoldsFewer, InTurn, IsAtPhase, IsGone, PassState, allocations_stand}
 use Rattle.mk_cycle.proofs.Vocabulary.{cells_unmarked, held_below, held_by_allocations, made, now_of, sum_below, sum_by}
-use Rattle.mk_cycle.proofs.Vocabulary.{sum_by-cons, world_of}
+use Rattle.mk_cycle.proofs.Vocabulary.{sum_by-cons, world_of, left_unmarked}
 use Rattle.mk_geom.specs.StorageWords.{held_by_storages}
 use Rattle.mk_core.{proofs.StandingAllocations.placed_cell, specs.Allocations.unreleased_storage}
 use Rattle.mk_laws.{proofs.ForImages.gone_is, proofs.Settled.gone_is_unmapped, proofs.Settled.unmapped_run}
@@ -168,7 +168,7 @@ module _ (c : Config) (es : List Event) (h : IsHistory c es) (at : phase_of (lef
       held_split a.released (is_some_and (is_left_unmarked w) (pointed_cell c.pages w.pages (address_of a.base)))
       (not (a.freed && is_large (kinds_of c.types a.ty))) (storage_words c a) (weight (page_of_cell i))
       (λ new. weight_is i new)) in
-      let weighed = cells_weigh_as_much h (quiet h at) (unmarked_are h at) weight in
+      let weighed = cells_weigh_as_much c es h (quiet h at) (is_new f) (left_unmarked w) (unmarked_are h at) weight in
       let same : held_below w c.pages ≡ sum_below c.pages (λ p. cells_unmarked w p * weight p) =
       grind (arith, sum_same, weight, weigh) in
       omega (arith, split, weighed, same)

@@ -133,11 +133,11 @@ module _ {c : Config} {es : List Event} (h : IsHistory c es) (at : phase_of (lef
   parts a new = grind arith
 
   pub count_told : sum_below c.pages (cells_unmarked w) ≡ length (newly_released xs (map f xs))
-  count_told = cells_are_as_many h quiet unmarked_are ∙ sym (newly_counted f xs)
+  count_told = cells_are_as_many c es h quiet (is_new f) (left_unmarked w) unmarked_are ∙ sym (newly_counted f xs)
 
   pub words_told : sum_below c.pages (words_unmarked w) ≡ sum_by (storage_words c) (newly_released xs (map f xs))
   words_told =
-      cells_weigh_as_much h quiet unmarked_are (λ p. words_under (header_in w p)) ∙ same_at_each
+      cells_weigh_as_much c es h quiet (is_new f) _ unmarked_are (λ p. words_under (header_in w p)) ∙ same_at_each
       never_granted (λ a. cond (is_new f a) (words_under (header_in w (cell_of_allocation c a).page)) 0)
       (λ a. cond (is_new f a) (storage_words c a) 0) xs storage_is ∙ sym (newly_weighed f _ (λ a. refl) xs)
 
@@ -147,8 +147,8 @@ module _ {c : Config} {es : List Event} (h : IsHistory c es) (at : phase_of (lef
       let all = parts_at_each never_granted (λ a. cond {A = ℕ} (is_in_snapshot_of_cycle a) 1 0)
       (λ a. cond (is_kept a) 1 0)
       (λ a. cond (is_new f a) 1 0) xs (λ i. parts (placed_at xs i) (new_is_in_snapshot i)) in
-      let marked = cells_are_as_many h quiet marked_are in
-      let unmarked = cells_are_as_many h quiet unmarked_are in
+      let marked = cells_are_as_many c es h quiet is_kept (left_marked w) marked_are in
+      let unmarked = cells_are_as_many c es h quiet (is_new f) (left_unmarked w) unmarked_are in
       omega arith
 
   abbrev is_counted_fresh : PlacedAllocation → Bool
