@@ -176,7 +176,8 @@ module _ (begins : Config → Seat → List Event → List Event → Type 0) whe
     -- The engine begins no other cycle,
     no_more : (b : At is_begin part.more) → b.event.seat ≡ p.seat → ⊥
     no_more b is =
-        kinds_begin_none begins_marking d.table.config d.seat (left d.table.config d.seen) does.more (begins_none begins_marking refl)
+        kinds_begin_none begins_marking d.table.config d.seat (left d.table.config d.seen) does.more
+        (begins_none begins_marking refl)
         does.of_kinds (record {
           before = b.before;
           event = b.event;

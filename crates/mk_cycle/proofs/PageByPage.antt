@@ -46,7 +46,8 @@ module _ (p : PassState) {q r : PassState} {n : ℕ} (pages : ℕ) (page : Frees
 
   cells_on : ((s : ℕ) → n ≤ s → s < pages → HasFreeCells q s) → (s : ℕ) → n + 1 ≤ s → s < pages → HasFreeCells r s
   cells_on before s le lt =
-      free_cells_stay s page.frees (page.others s (λ e. absurd (omega (arith, e, le)))) (before s (omega (arith, le)) lt)
+      free_cells_stay s page.frees (page.others s (λ e. absurd (omega (arith, e, le))))
+      (before s (omega (arith, le)) lt)
 
   same_on : ((s : ℕ) → n ≤ s → SamePage p q s) → (s : ℕ) → n + 1 ≤ s → SamePage p r s
   same_on before s le = page.others s (λ e. absurd (omega (arith, e, le))) ∙ before s (omega (arith, le))

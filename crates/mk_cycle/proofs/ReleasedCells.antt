@@ -134,7 +134,8 @@ module _ {d q : PassState} (t : InTurn d) (u : InTurn q) (at : IsAtPhase d 3) (a
 
   owned_word : {page k : ℕ} (i : ℕ) → has_bit (left_unmarked w.now.words page) k ≡ true → i < size page
       → (f : IsFreedCell c w.allocations page k)
-      → (word_of page k i < 64 * c.pages) × IsWordOf (storage_of c (placed_at w.allocations f.number)) (word_of page k i)
+      → (word_of page k i < 64 * c.pages)
+      × IsWordOf (storage_of c (placed_at w.allocations f.number)) (word_of page k i)
   owned_word i has small f = grind (arith, made, allocations_stand, es, cells_begin)
 
   unmapped_there : (page k i : ℕ) → has_bit (left_unmarked w.now.words page) k ≡ true → i < size page
