@@ -4,7 +4,7 @@ use Rattle.mk_laws.proofs.Vocabulary.{Tally, Word, Words, ℕ, ap, eq-eqb, false
 use Rattle.mk_laws.proofs.Vocabulary.{is_phase, is_run_cell, lt-ltb, nat_lt, not, others_are_held, phase_of}
 use Rattle.mk_laws.proofs.Vocabulary.{quarantine_word, refl, slice_index, subst, sym, target, true, ◌%◌, ◌&&◌, ◌/◌, ◌<◌}
 use Rattle.mk_laws.proofs.Vocabulary.{◌==◌, ◌^◌, ◌||◌, ◌∙◌, ◌≡◌}
-use Rattle.mk_cycle.proofs.Vocabulary.{Acts, Has, InTurn, IsAtPhase, IsEnabledTo, IsFreeForCycle, PassState, WordsState}
+use Rattle.mk_cycle.proofs.Vocabulary.{Acts, Has, InTurn, IsEnabledTo, IsFreeForCycle, IsTurnAt, PassState, WordsState}
 use Rattle.mk_cycle.proofs.Vocabulary.{call_of, drops, now_of}
 use Rattle.mk_core.specs.{Ranges.is_word, TurnConditions.takes_snapshot}
 use Rattle.mk_laws.proofs.Protocols.{lists_keep_the_protocol}
@@ -33,46 +33,53 @@ module _ (p : PassState) (t : InTurn p) (free : IsFreeForCycle p) where
   pub tally_allowed : (n : Tally) (v : ℕ) → IsEnabledTo p (Step.Tally n v)
   tally_allowed n v = may_act p (Step.Tally n v) protocol t.holds free.decided refl refl refl refl refl
 
-  module _ (page : ℕ) (lt : page < p.table.config.pages) (none : IsAtPhase p 0) where
-    range : nat_lt page p.table.config.pages ≡ true
-    range = lt-ltb page p.table.config.pages lt
+pub on_table : (p : PassState) {w : WordsState} {page : ℕ} → p.table ≡ w → page < w.config.pages
+    → page < p.table.config.pages
+on_table p {page = page} is lt = subst (λ (x : WordsState). page < x.config.pages) (sym is) lt
 
-    at_zero : (phase_of (now_of p).words == 0) ≡ true
-    at_zero = eq-eqb (phase_of (now_of p).words) 0 none
+or_left : (a b : Bool) → a ≡ true → (a || b) ≡ true
+or_left a b h = ap (λ (x : Bool). x || b) h
 
-    pub clear_allowed : IsEnabledTo p (Step.Clear page)
-    clear_allowed = may_act p (Step.Clear page) protocol t.holds free.decided refl range refl at_zero refl
+-- What is made at phase 0 of the words of a page.
+module _ {p : PassState} {w : WordsState} (t : InTurn p) (turn : IsTurnAt 0 w p) (page : ℕ)
+    (within : page < w.config.pages) where
+  range : nat_lt page p.table.config.pages ≡ true
+  range = lt-ltb page _ (on_table p turn.one_table within)
 
-    not_two : is_phase (now_of p).words 2 ≡ false
-    not_two = ap (λ (n : ℕ). n == 2) none
+  at_zero : (phase_of (now_of p).words == 0) ≡ true
+  at_zero = eq-eqb (phase_of (now_of p).words) 0 turn.phase
 
-    or_left : (a b : Bool) → a ≡ true → (a || b) ≡ true
-    or_left a b h = ap (λ (x : Bool). x || b) h
+  not_two : is_phase (now_of p).words 2 ≡ false
+  not_two = ap (λ (n : ℕ). n == 2) turn.phase
 
-    pub unblack_allowed : IsEnabledTo p (Step.Unblack page)
-    unblack_allowed =
-        may_act p (Step.Unblack page) protocol t.holds free.decided refl range (or_left (not _) _ (ap not not_two))
-        (or_left _ _ at_zero) (or_left (not _) _ (ap not not_two))
+  pub clear_allowed : IsEnabledTo p (Step.Clear page)
+  clear_allowed =
+      may_act p (Step.Clear page) (protocol p t turn.free) t.holds turn.free.decided refl range refl at_zero refl
 
-    pub undirty_allowed : IsEnabledTo p (Step.Undirty page)
-    undirty_allowed =
-        may_act p (Step.Undirty page) protocol t.holds free.decided refl range (or_left (not _) _ (ap not not_two))
-        (or_left _ _ at_zero) (or_left (not _) _ (ap not not_two))
+  pub unblack_allowed : IsEnabledTo p (Step.Unblack page)
+  unblack_allowed =
+      may_act p (Step.Unblack page) (protocol p t turn.free) t.holds turn.free.decided refl range
+      (or_left (not _) _ (ap not not_two)) (or_left _ _ at_zero) (or_left (not _) _ (ap not not_two))
 
-    pub snapshot_allowed : (v : ℕ)
-        → v ≡ quarantine_word (slice_index (now_of p).words.freed page) (slice_index (now_of p).words.freed page)
-        → IsEnabledTo p (Step.Quar page v)
-    snapshot_allowed v is =
-        let w : Words = (now_of p).words in
-        let f : Flight = call_of p in
-        let none_freed : target p.table.config.pages w f ≡ None = no_target p.table.config.pages w f free.decided in
-        may_act p (Step.Quar page v) protocol t.holds free.decided refl range
-        (ap (λ (cell : Option Cell). not (is_run_cell w cell) || others_are_held p.table.config.callers w p.seat)
-        none_freed) (or_left ((phase_of w == 0) || (phase_of w == 1)) _ (or_left _ _ at_zero))
-        (ap (λ (n : ℕ). if n == 4 then drops w page (v % 2 ^ 32) (v / 2 ^ 32)
-        else (frees w (target p.table.config.pages w f) page v || takes_snapshot w page v)) none ∙ or_true _ _
-        (ap (λ (b : Bool). b && (v == quarantine_word (slice_index w.freed page) (slice_index w.freed page))) at_zero
-        ∙ eq-eqb v _ is))
+  pub undirty_allowed : IsEnabledTo p (Step.Undirty page)
+  undirty_allowed =
+      may_act p (Step.Undirty page) (protocol p t turn.free) t.holds turn.free.decided refl range
+      (or_left (not _) _ (ap not not_two)) (or_left _ _ at_zero) (or_left (not _) _ (ap not not_two))
+
+  pub snapshot_allowed : (v : ℕ)
+      → v ≡ quarantine_word (slice_index (now_of p).words.freed page) (slice_index (now_of p).words.freed page)
+      → IsEnabledTo p (Step.Quar page v)
+  snapshot_allowed v is =
+      let w : Words = (now_of p).words in
+      let f : Flight = call_of p in
+      let none_freed : target p.table.config.pages w f ≡ None = no_target p.table.config.pages w f turn.free.decided in
+      may_act p (Step.Quar page v) (protocol p t turn.free) t.holds turn.free.decided refl range
+      (ap (λ (cell : Option Cell). not (is_run_cell w cell) || others_are_held p.table.config.callers w p.seat)
+      none_freed) (or_left ((phase_of w == 0) || (phase_of w == 1)) _ (or_left _ _ at_zero))
+      (ap (λ (n : ℕ). if n == 4 then drops w page (v % 2 ^ 32) (v / 2 ^ 32)
+      else (frees w (target p.table.config.pages w f) page v || takes_snapshot w page v)) turn.phase ∙ or_true _ _
+      (ap (λ (b : Bool). b && (v == quarantine_word (slice_index w.freed page) (slice_index w.freed page))) at_zero
+      ∙ eq-eqb v _ is))
 
 -- what `is_in_order` says of a turn
 pub in_turn : (p : PassState) (o : Option Op) → Has p.seats p.seat → IsTurn p o → IsHistory p.table.config p.seen
@@ -86,7 +93,3 @@ in_turn_before a = record { own = own_before a.makes; holds = a.holds; history =
 -- after a step of the turn that isn't its last
 pub in_turn_after : {p : PassState} {s : Step} {q : PassState} → Acts p s q → turn_stays s ≡ true → InTurn q
 in_turn_after a stays = record { own = a.makes.pass.own; holds = holds_after a stays; history = a.makes.pass.history }
-
-pub on_table : (p : PassState) (w : WordsState) → p.table ≡ w → (page : ℕ) → page < w.config.pages
-    → page < p.table.config.pages
-on_table p w is page lt = subst (λ (x : WordsState). page < x.config.pages) (sym is) lt

@@ -6,16 +6,16 @@ use Rattle.mk_laws.proofs.Vocabulary.{false, has_clean_page, if◌then◌else◌
 use Rattle.mk_laws.proofs.Vocabulary.{refl, slice_index, storage_of, subst, suc, sym, true, zero, [], ◌%◌, ◌&&◌, ◌+◌}
 use Rattle.mk_laws.proofs.Vocabulary.{◌/◌, ◌<◌, ◌==◌, ◌^◌, ◌∙◌, ◌∷◌, ◌≡◌, ◌≤◌}
 use Rattle.mk_cycle.proofs.Vocabulary.{Acts, Cleans, CountsAreLeft, InTurn, IsAtPhase, IsClean, IsEnabledTo}
-use Rattle.mk_cycle.proofs.Vocabulary.{IsFreeForCycle, IsGone, KeepsGates, PassState, WasUndirty, call_of}
-use Rattle.mk_cycle.proofs.Vocabulary.{count_by-le-length, done_of, held_by_allocations, made, now_of, releases, stands}
-use Rattle.mk_cycle.proofs.Vocabulary.{steady_of, world_at, world_of}
+use Rattle.mk_cycle.proofs.Vocabulary.{IsFreeForCycle, IsGone, IsTurnAt, KeepsGates, PassState, WasUndirty, WordsState}
+use Rattle.mk_cycle.proofs.Vocabulary.{call_of, count_by-le-length, done_of, held_by_allocations, made, now_of}
+use Rattle.mk_cycle.proofs.Vocabulary.{releases, stands, steady_of, world_at, world_of}
 use Rattle.mk_geom.specs.StorageWords.{held_by_storages}
 use Rattle.mk_books.proofs.PlaceLemmas.{count_by-map}
 use Rattle.mk_core.specs.Allocations.{unreleased_storage}
 use Rattle.mk_core.specs.{Counts.TalliesAreExact, declared.seats.OwnCycle.TheVariants.Begun}
 use Rattle.mk_cycle.proofs.KeptInParts.{gates_behind, gates_then, same_config}
 use Rattle.mk_cycle.proofs.OwnSteps.{done_in, keeps_counts, same_call, same_pass, still_gone}
-use Rattle.mk_cycle.proofs.{Allowed.protocol, MayAct.may_act}
+use Rattle.mk_cycle.proofs.{Allowed.in_turn_after, Allowed.protocol, MayAct.may_act}
 use Rattle.mk_cycle.specs.{BeginCycle.BeginsCycle, BeginCycle.with_cycle_begun, EngineLaw.BeginsMarking}
 
 pub all_from : (n : ℕ) (test : ℕ → Bool) → ((k : ℕ) → k < n → test k ≡ true) → all_below n test ≡ true
@@ -24,16 +24,23 @@ all_from (suc n) test h =
     subst (λ (k : ℕ). all_below k test ≡ true) (omega arith)
     (all_below_more_is n test (all_from n test (λ k lt. h k (omega arith))) (h n (omega arith)))
 
-clean_page : (p : PassState) (page : ℕ) → IsClean p page → has_clean_page (now_of p).words page ≡ true
-clean_page p page h = grind (arith, and_from, eq-eqb)
+clean_page : {p : PassState} {page : ℕ} → IsClean p page → has_clean_page (now_of p).words page ≡ true
+clean_page h = grind (arith, and_from, eq-eqb)
 
-pub begin_allowed : (p : PassState) → InTurn p → IsFreeForCycle p → IsAtPhase p 0
-    → ((page : ℕ) → page < p.table.config.pages → IsClean p page) → (now_of p).words.fresh ≡ 0
-    → IsEnabledTo p Step.Begin
-begin_allowed p t free none clean fresh =
-    may_act p Step.Begin (protocol p t free) t.holds free.decided refl refl refl (eq-eqb _ 0 none)
-    (and_from _ ((now_of p).words.fresh == 0) (all_from _ _ (λ page lt. clean_page p page (clean page lt)))
-    (eq-eqb (now_of p).words.fresh 0 fresh))
+-- Pages were cleaned, and now all is ready for a `begin`.
+pub record IsCleared (w : WordsState) (p b : PassState) : Type 0 where
+  pub cleans : Cleans p b
+  pub turn : IsTurnAt 0 w b
+  pub holds : InTurn b
+  pub clean : (page : ℕ) → page < b.table.config.pages → IsClean b page
+  pub fresh : (now_of b).words.fresh ≡ 0
+
+pub begin_allowed : {w : WordsState} {p b : PassState} → IsCleared w p b → IsEnabledTo b Step.Begin
+begin_allowed {b = b} x =
+    may_act b Step.Begin (protocol b x.holds x.turn.free) x.holds.holds x.turn.free.decided refl refl refl
+    (eq-eqb _ 0 x.turn.phase)
+    (and_from _ ((now_of b).words.fresh == 0) (all_from _ _ (λ page lt. clean_page (x.clean page lt)))
+    (eq-eqb (now_of b).words.fresh 0 x.fresh))
 
 -- The phase word has the phase and the count of markers, which is small.
 begun_phase : (n markers : ℕ) → n % 8 ≡ 0 → n / 8 ≡ markers → markers ≤ 8 → (n + 1) % 2 ^ 64 % 8 ≡ 1
@@ -75,7 +82,7 @@ none_fresh c (a ∷ xs) = cc (never_both (is_mapped c a), none_fresh c xs)
 pub stale_releases : (xs : List PlacedAllocation) → releases (map no_longer_fresh xs) ≡ releases xs
 stale_releases xs = count_by-map (λ (a : PlacedAllocation). a.released) no_longer_fresh xs
 
-module _ (p q : PassState) (t : InTurn p) (free : IsFreeForCycle p) (none : IsAtPhase p 0) (u : InTurn q)
+module _ {p q : PassState} (t : InTurn p) (free : IsFreeForCycle p) (none : IsAtPhase p 0) (u : InTurn q)
     (a : Acts p Step.Begin q) where
   abbrev w : World
   w = world_at a.makes
@@ -109,9 +116,9 @@ module _ (p q : PassState) (t : InTurn p) (free : IsFreeForCycle p) (none : IsAt
   pub begun_free : IsFreeForCycle q
   begun_free = grind (arith, begun_call, begun_done, begun_gone)
 
-snapshot_is : (b : PassState) → InTurn b → ((page : ℕ) → page < b.table.config.pages → IsClean b page)
+snapshot_is : {b : PassState} → InTurn b → ((page : ℕ) → page < b.table.config.pages → IsClean b page)
     → (now_of b).words.snapshot ≡ (now_of b).words.freed
-snapshot_is b t clean =
+snapshot_is {b} t clean =
     let lengths = (stands b.table.config b.seen t.history).known.lengths in
     same_list (now_of b).words.snapshot (now_of b).words.freed (lengths.snapshot ∙ sym lengths.freed)
     (λ k lt. (clean k (subst (λ (n : ℕ). k < n) lengths.snapshot lt)).snapshot)
@@ -133,45 +140,39 @@ pub counts_then : (p q r : PassState) → q.table.config ≡ p.table.config → 
 counts_then p q r same a b = grind arith
 
 -- All of it: pages are cleaned, the cycle begins, and the engine does its part.
-pub begins_cycle : (p b d q : PassState) → Cleans p b → InTurn b → IsFreeForCycle b → IsAtPhase b 0
-    → ((page : ℕ) → page < b.table.config.pages → IsClean b page)
-    → ((page : ℕ) → page < p.table.config.pages → WasUndirty page p b) → (now_of b).words.fresh ≡ 0
-    → Acts b Step.Begin d → InTurn d → BeginsMarking d q → BeginsCycle p q
-begins_cycle p b d q k t free none clean undirty fresh a u law =
-    let begun = steady_begun b d t free none u a in
+pub begins_cycle : {w : WordsState} {p b d q : PassState} → IsCleared w p b
+    → ((page : ℕ) → page < p.table.config.pages → WasUndirty page p b) → Acts b Step.Begin d → BeginsMarking d q
+    → BeginsCycle p q
+begins_cycle {p = p} {b = b} {d = d} {q = q} x undirty a law =
+    let k = x.cleans in
+    let t : InTurn b = x.holds in
+    let u : InTurn d = in_turn_after a refl in
+    let free : IsFreeForCycle b = x.turn.free in
+    let none = x.turn.phase in
+    let begun = steady_begun t free none u a in
     let first : b ≡ record p { seen = b.seen } = k.keeps.call.pass in
     let second : d ≡ record p { seen = d.seen } = grind (arith, same_pass) in
     let pass : q ≡ record p { seen = q.seen } = grind arith in
     let steady : steady_of (world_of q) ≡ with_cycle_begun (steady_of (world_of p)) =
-    law.keeps.steady ∙ begun
-    ∙ ap (λ (n : ℕ). record (with_cycle_begun (steady_of (world_of b))) {
+    law.keeps.steady ∙ begun ∙ ap (λ (n : ℕ). record (with_cycle_begun (steady_of (world_of b))) {
       fresh = n;
       snapshot = (now_of b).words.snapshot;
-    }) fresh
-    ∙ ap (λ (ss : List ℕ). record (with_cycle_begun (steady_of (world_of b))) { snapshot = ss }) (snapshot_is b t clean)
+    }) x.fresh
+    ∙ ap (λ (ss : List ℕ). record (with_cycle_begun (steady_of (world_of b))) { snapshot = ss }) (snapshot_is t x.clean)
     ∙ ap with_cycle_begun k.keeps.steady in
-    let counts : CountsAreLeft p.table.config p.seen q.seen =
-    counts_then p b q (same_config p b first) k.keeps.counts
+    let counts : CountsAreLeft p.table.config p.seen q.seen = counts_then p b q (same_config p b first) k.keeps.counts
     (counts_then b d q (same_config b d (same_pass b Step.Begin d a t.own t.holds u.history))
-    (begun_counts b d t free none u a) law.keeps.counts) in
+    (begun_counts t free none u a) law.keeps.counts) in
     record {
-      makes = record {
-        cleared = b;
-        begun = d;
-        before = k.does;
-        undirty = undirty;
-        begin = a.makes;
-        behind = law.does;
-      };
+      makes = record { cleared = b; begun = d; before = k.does; undirty = undirty; begin = a.makes; behind = law.does };
       pass = pass;
-      call = law.keeps.call.call ∙ begun_call b d t free none u a ∙ k.keeps.call.call;
-      done = cc (law.keeps.call.done, begun_done b d t free none u a, k.keeps.call.done);
+      call = law.keeps.call.call ∙ begun_call t free none u a ∙ k.keeps.call.call;
+      done = cc (law.keeps.call.done, begun_done t free none u a, k.keeps.call.done);
       steady = steady;
       counts = counts;
-      gates = gates_then p b q first k.gates
-          (gates_then b d q (same_pass b Step.Begin d a t.own t.holds u.history) (begun_gates b d t free none u a)
-          law.gates);
-      gone = law.keeps.call.gone (begun_gone b d t free none u a free.gone);
+      gates = gates_then p b q first k.gates (gates_then b d q (same_pass b Step.Begin d a t.own t.holds u.history)
+          (begun_gates t free none u a) law.gates);
+      gone = law.keeps.call.gone (begun_gone t free none u a free.gone);
       exact = exact_from p q pass steady;
       tidy = tidy_from p q pass steady counts;
     }

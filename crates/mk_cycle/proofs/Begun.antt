@@ -4,7 +4,7 @@ use Rattle.mk_laws.proofs.Vocabulary.{At, Bool, Config, Event, List, Seat, Step,
 use Rattle.mk_laws.proofs.Vocabulary.{append_assoc, false, found, if◌then◌else◌, is_begin, left, left_from, list_any}
 use Rattle.mk_laws.proofs.Vocabulary.{not, not-true, or_from, refl, subst, sym, through, true, true≢false, world_behind}
 use Rattle.mk_laws.proofs.Vocabulary.{[], ◌&&◌, ◌++◌, ◌∙◌, ◌∷◌, ◌≡◌}
-use Rattle.mk_cycle.proofs.Vocabulary.{Has, Makes, PassState, clears, does_step, event_of, holds_gates, is_giving_back}
+use Rattle.mk_cycle.proofs.Vocabulary.{Has, Makes, PassState, does_step, event_of, holds_gates, is_giving_back}
 use Rattle.mk_cycle.proofs.Vocabulary.{only_seen_by, sets_tallies}
 use Rattle.mk_core.specs.{Cycles.is_give, Growing.AreOfOthers, Growing.Finding, Growing.is_same_seat, Growing.own_from}
 use Rattle.mk_cycle.proofs.InParts.{InFirst, InSecond, in_parts}
@@ -18,29 +18,9 @@ use Rattle.mk_words.proofs.Seats.{same_self}
 abbrev pub HaveNoBegin : (Step → Bool) → Type 0
 HaveNoBegin kinds = (x : Step) → kinds x ≡ true → is_begin x ≡ false
 
-pub clearing_begins_none : HaveNoBegin clears
-clearing_begins_none Step.Begin h = cc
-clearing_begins_none _ h = refl
-
-pub marking_begins_none : HaveNoBegin begins_marking
-marking_begins_none Step.Begin h = cc
-marking_begins_none _ h = refl
-
-holding_begins_none : HaveNoBegin holds_gates
-holding_begins_none Step.Begin h = cc
-holding_begins_none _ h = refl
-
-closing_begins_none : HaveNoBegin closes_marks
-closing_begins_none Step.Begin h = cc
-closing_begins_none _ h = refl
-
-giving_begins_none : HaveNoBegin is_giving_back
-giving_begins_none Step.Begin h = cc
-giving_begins_none _ h = refl
-
-setting_begins_none : HaveNoBegin sets_tallies
-setting_begins_none Step.Begin h = cc
-setting_begins_none _ h = refl
+pub begins_none : (kinds : Step → Bool) → kinds Step.Begin ≡ false → HaveNoBegin kinds
+begins_none kinds none Step.Begin h = absurd (true≢false (sym h ∙ none))
+begins_none kinds none _ h = refl
 
 -- The own events of a list are of these kinds.
 
@@ -69,8 +49,7 @@ its_own s e is = subst (λ (t : Seat). is_same_seat s t ≡ true) (sym is) (same
 pub kinds_begin_none : (kinds : Step → Bool) (c : Config) (s : Seat) (w : World) (es : List Event) → HaveNoBegin kinds
     → are_of kinds (own_from c s w es) ≡ true → (b : At is_begin es) → b.event.seat ≡ s → ⊥
 kinds_begin_none kinds c s w es none all b own =
-    true≢false (sym b.of_kind
-    ∙ none b.event.step (own_kind kinds c s w b.before b.event b.behind
+    true≢false (sym b.of_kind ∙ none b.event.step (own_kind kinds c s w b.before b.event b.behind
     (subst (λ (l : List Event). are_of kinds (own_from c s w l) ≡ true) b.is all) (its_own s b.event own)))
 
 -- The seat gives no turn back in a list whose own events are of kinds without a `give`.
@@ -120,9 +99,9 @@ has_on p q same has = subst (λ (x : PassState). Has x.seats x.seat) (sym same) 
 
 module _ (begins : Config → Seat → List Event → List Event → Type 0) where
   -- when more was seen after it
-  later : (c : Config) (s : Seat) (es xs ys : List Event) → IsBegunFirst begins c s es xs
+  later : {c : Config} {s : Seat} {es xs : List Event} (ys : List Event) → IsBegunFirst begins c s es xs
       → IsBegunFirst begins c s es (xs ++ ys)
-  later c s es xs ys b = record {
+  later ys b = record {
     first = b.first;
     rest = b.rest ++ ys;
     is = ap (λ (l : List Event). l ++ ys) b.is ∙ append_assoc b.first b.rest ys;
@@ -137,8 +116,8 @@ module _ (begins : Config → Seat → List Event → List Event → Type 0) whe
       ⊎_elim
       (λ (t : InFirst xs ys b.before b.event b.behind).
       subst (λ (l : List Event). IsBegunFirst begins c s (es ++ through b) l) (sym t.then)
-      (later c s (es ++ through b) t.rest ys
-      (one (record { before = b.before; event = b.event; behind = t.rest; is = t.is; of_kind = b.of_kind }) own)))
+      (later ys (one (record { before = b.before; event = b.event; behind = t.rest; is = t.is; of_kind = b.of_kind })
+      own)))
       (λ (t : InSecond xs ys b.before b.event b.behind).
       subst (λ (l : List Event). IsBegunFirst begins c s l b.behind)
       (append_assoc es xs (t.rest ++ b.event ∷ []) ∙ ap (λ (l : List Event). es ++ l)
@@ -197,16 +176,15 @@ module _ (begins : Config → Seat → List Event → List Event → Type 0) whe
     -- The engine begins no other cycle,
     no_more : (b : At is_begin part.more) → b.event.seat ≡ p.seat → ⊥
     no_more b is =
-        kinds_begin_none begins_marking d.table.config d.seat (left d.table.config d.seen) does.more marking_begins_none
-        does.of_kinds
-        (record {
+        kinds_begin_none begins_marking d.table.config d.seat (left d.table.config d.seen) does.more
+        (begins_none begins_marking refl)
+        does.of_kinds (record {
           before = b.before;
           event = b.event;
           behind = b.behind;
           is = same_more ∙ b.is;
           of_kind = b.of_kind;
-        })
-        (is ∙ sym seat_is)
+        }) (is ∙ sym seat_is)
 
     -- and the turn isn't given back.
     no_give : list_any (λ (x : Event). is_same_seat p.seat x.seat && is_give x.step) part.more ≡ false
@@ -239,12 +217,9 @@ module _ (begins : Config → Seat → List Event → List Event → Type 0) whe
     pub begin_begun : EachIsBegun begins p q
     begin_begun = record {
       more = m.others ++ e ∷ part.more;
-      is = part.is
-          ∙ ap (λ (x : PassState). x.seen ++ part.more) m.is
-          ∙ append_assoc (p.seen ++ m.others) (e ∷ []) part.more
-          ∙ append_assoc p.seen m.others (e ∷ part.more);
-      each = λ b own_event. ⊎_elim
-          (λ (t : InFirst m.others (e ∷ part.more) b.before b.event b.behind). absurd
+      is = part.is ∙ ap (λ (x : PassState). x.seen ++ part.more) m.is
+          ∙ append_assoc (p.seen ++ m.others) (e ∷ []) part.more ∙ append_assoc p.seen m.others (e ∷ part.more);
+      each = λ b own_event. ⊎_elim (λ (t : InFirst m.others (e ∷ part.more) b.before b.event b.behind). absurd
           (others_begin_none p.seats p.seat m.others own m.of_others b.before b.event t.rest t.is own_event))
           (λ (t : InSecond m.others (e ∷ part.more) b.before b.event b.behind). here b.event b.before t.rest b.behind
           b.of_kind own_event t.first t.is) (in_parts m.others (e ∷ part.more) b.before b.event b.behind b.is);
@@ -274,13 +249,13 @@ module _ (begins : Config → Seat → List Event → List Event → Type 0) whe
       let own_closed = has_on r.closing r.closed closed own_closing in
       let own_released = has_on r.closed m.released released own_closed in
       let own_freed = has_on m.released m.freed freed own_released in
-      begun_then p m.held q held (does_begin_none holds_gates p m.held holding_begins_none m.holds)
+      begun_then p m.held q held (does_begin_none holds_gates p m.held (begins_none holds_gates refl) m.holds)
       (begun_then m.held r.closing q closing
-      (does_begin_none closes_marks m.held r.closing closing_begins_none r.marks.does)
+      (does_begin_none closes_marks m.held r.closing (begins_none closes_marks refl) r.marks.does)
       (begun_then r.closing r.closed q closed (step_begins_none r.closing r.closed Step.Close own_closing r.close refl)
       (begun_then r.closed m.released q released
       (step_begins_none r.closed m.released Step.Release own_closed r.release refl)
       (begun_then m.released m.freed q freed
-      (does_begin_none is_giving_back m.released m.freed giving_begins_none m.frees)
+      (does_begin_none is_giving_back m.released m.freed (begins_none is_giving_back refl) m.frees)
       (begun_then m.freed m.ended q ended (step_begins_none m.freed m.ended Step.End own_freed m.end refl)
-      (does_begin_none sets_tallies m.ended q setting_begins_none m.behind))))))
+      (does_begin_none sets_tallies m.ended q (begins_none sets_tallies refl) m.behind))))))

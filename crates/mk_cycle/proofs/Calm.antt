@@ -1,8 +1,9 @@
 -- Steps of the turn's holder that go on with its call and with what it has done in its turn as they were.
 use Rattle.mk_laws.proofs.Vocabulary.{Bool, Cell, Config, Flight, Holding, Moment, None, Op, Option, Seat, Stage, Step}
-use Rattle.mk_laws.proofs.Vocabulary.{Word, Words, ℕ, ap, cell_freed, false, if◌then◌else◌, is_free_at, is_phase, not}
-use Rattle.mk_laws.proofs.Vocabulary.{or_else, pointed_cell, progress, progress_freed, refl, run_of_cell, sees_double}
-use Rattle.mk_laws.proofs.Vocabulary.{still, target, true, ◌&&◌, ◌≡◌}
+use Rattle.mk_laws.proofs.Vocabulary.{Word, Words, ℕ, ap, cell_freed, false, if◌then◌else◌, is_end, is_free_at}
+use Rattle.mk_laws.proofs.Vocabulary.{is_heap_store, is_phase, not, or_else, pointed_cell, progress, progress_freed}
+use Rattle.mk_laws.proofs.Vocabulary.{refl, run_of_cell, sees_double, still, sym, target, true, true≢false, ◌&&◌, ◌∙◌}
+use Rattle.mk_laws.proofs.Vocabulary.{◌≡◌}
 use Rattle.mk_cycle.proofs.Vocabulary.{holding_behind, is_pending_free}
 use Rattle.mk_core.specs.Effects.{progress_look}
 use Rattle.mk_cycle.{proofs.OwnSteps.done_in, specs.EngineLaw.is_pending_free_at}
@@ -53,22 +54,10 @@ pub frees_none : (pages : ℕ) (w : Words) (f : Flight) (p v : ℕ) → is_pendi
 frees_none pages w f p v h = cc (no_target pages w f h, none_either_way (not (is_phase w 4) && false))
 
 pub calm_still : (c : Config) (m : Moment) (f : Flight) (n : ℕ) (s : Step) → is_calm s ≡ true
-    → is_pending_free f ≡ false
-    → progress c m f n s ≡ still f
+    → is_pending_free f ≡ false → progress c m f n s ≡ still f
 calm_still c m f n (Step.Look x) h free = look_still c m.words f x free
 calm_still c m f n (Step.Quar p v) h free =
     ap (λ (cell : Option Cell). progress_freed f cell) (frees_none c.pages m.words f p v free)
-calm_still c m f n (Step.Tally t v) h free = refl
-calm_still c m f n (Step.Hold j) h free = refl
-calm_still c m f n (Step.Open j) h free = refl
-calm_still c m f n (Step.Clear p) h free = refl
-calm_still c m f n (Step.Wipe i) h free = refl
-calm_still c m f n Step.Close h free = refl
-calm_still c m f n Step.Release h free = refl
-calm_still c m f n Step.Want h free = refl
-calm_still c m f n (Step.Undirty p) h free = refl
-calm_still c m f n (Step.Black p v) h free = refl
-calm_still c m f n (Step.Unblack p) h free = refl
 calm_still c m f n _ h free = cc
 
 pub calm_done : (c : Config) (m : Moment) (seat : Seat) (f : Flight) (n : ℕ) (s : Step) (h : Holding) → is_calm s ≡ true
@@ -76,16 +65,16 @@ pub calm_done : (c : Config) (m : Moment) (seat : Seat) (f : Flight) (n : ℕ) (
 calm_done c m seat f n (Step.Quar p v) h kind free =
     ap (λ (cell : Option Cell). done_in (record h { freed = or_else (run_of_cell m.words cell) h.freed }))
     (frees_none c.pages m.words f p v free)
-calm_done c m seat f n (Step.Look x) h kind free = refl
-calm_done c m seat f n (Step.Tally t v) h kind free = refl
-calm_done c m seat f n (Step.Hold j) h kind free = refl
-calm_done c m seat f n (Step.Open j) h kind free = refl
-calm_done c m seat f n (Step.Clear p) h kind free = refl
-calm_done c m seat f n (Step.Wipe i) h kind free = refl
-calm_done c m seat f n Step.Close h kind free = refl
-calm_done c m seat f n Step.Release h kind free = refl
-calm_done c m seat f n Step.Want h kind free = refl
-calm_done c m seat f n (Step.Undirty p) h kind free = refl
-calm_done c m seat f n (Step.Black p v) h kind free = refl
-calm_done c m seat f n (Step.Unblack p) h kind free = refl
 calm_done c m seat f n _ h kind free = cc
+
+-- Kinds of step among which no heap word is stored to, and none that ends a cycle.
+
+pub stores_none : (kinds : Step → Bool) → kinds Step.Write ≡ false → kinds Step.Cas ≡ false → (s : Step)
+    → kinds s ≡ true → is_heap_store s ≡ false
+stores_none kinds write cas Step.Write h = absurd (true≢false (sym h ∙ write))
+stores_none kinds write cas Step.Cas h = absurd (true≢false (sym h ∙ cas))
+stores_none kinds write cas _ h = refl
+
+pub ends_none : (kinds : Step → Bool) → kinds Step.End ≡ false → (s : Step) → kinds s ≡ true → is_end s ≡ false
+ends_none kinds none Step.End h = absurd (true≢false (sym h ∙ none))
+ends_none kinds none _ h = refl

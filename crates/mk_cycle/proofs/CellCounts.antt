@@ -74,19 +74,16 @@ module _ (c : Config) (es : List Event) (h : IsHistory c es) (quiet : phase_of (
       let known = known_world c es h.within_limits h.enabled in
       one_if_any never_granted (in_cell p k) (has_bit (bits p) k) xs
       (ap (λ b. b && ((cell_of_allocation c never_granted).page == p) &&
-      ((cell_of_allocation c never_granted).index == k)) are.none)
-      (λ bit.
+      ((cell_of_allocation c never_granted).index == k)) are.none) (λ bit.
       let o = freed_cell c (left c es) (never_behind c es) known all quiet (record { page = p; index = k })
       (are.within p k bit) in (
         o.number,
         cell_chosen p k (placed_at xs o.number)
             (are.same o.number o.unreleased o.freed ∙ ap (λ (y : Cell). has_bit (bits y.page) y.index) o.cell ∙ bit)
             o.cell,
-      ))
-      (λ i there.
+      )) (λ i there.
       let x = chosen_cell p k (placed_at xs i) there in
-      subst (λ (y : Cell). has_bit (bits y.page) y.index ≡ true) x.1 (bit_of i x.0))
-      (λ i j a b.
+      subst (λ (y : Cell). has_bit (bits y.page) y.index ≡ true) x.1 (bit_of i x.0)) (λ i j a b.
       let x = chosen_cell p k (placed_at xs i) a in
       let y = chosen_cell p k (placed_at xs j) b in
       unreleased_are_apart c es all.order.laid i j (are.quarantined i x.0).0 (are.quarantined j y.0).0 (x.1 ∙ sym y.1))
@@ -101,8 +98,7 @@ module _ (c : Config) (es : List Event) (h : IsHistory c es) (quiet : phase_of (
       by : (p < c.pages) ⊎ (c.pages ≤ p) → p < c.pages
       by (inl lt) = lt
       by (inr past) =
-          let none : slice_index (left c es).now.words.freed p ≡ 0 =
-          get_or_past (left c es).now.words.freed p 0
+          let none : slice_index (left c es).now.words.freed p ≡ 0 = get_or_past (left c es).now.words.freed p 0
           (subst (λ (n : ℕ). n ≤ p) (sym (histories_keep_lengths c es).freed) past) in
           let one : bit_at (slice_index (left c es).now.words.freed p) k ≡ 1 = eqb-true _ 1 freed in
           let zero : bit_at 0 k ≡ 0 = bit_at_above 0 0 k (omega arith) (omega arith) in
@@ -128,8 +124,7 @@ module _ (c : Config) (es : List Event) (h : IsHistory c es) (quiet : phase_of (
       ∙ sym (ones_below (bits p) (are.small p))
 
   -- by a weight that goes by the page
-  pub cells_weigh_as_much : (weight : ℕ → ℕ)
-      → sum_below c.pages (λ p. count_ones (bits p) * weight p)
+  pub cells_weigh_as_much : (weight : ℕ → ℕ) → sum_below c.pages (λ p. count_ones (bits p) * weight p)
       ≡ sum_by (λ a. cond (chosen a) (weight (cell_of_allocation c a).page) 0) xs
   unfolding on_page
   cells_weigh_as_much weight =

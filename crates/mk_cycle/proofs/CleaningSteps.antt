@@ -1,23 +1,24 @@
 -- Pages are cleaned step by step.
-use Rattle.mk_laws.proofs.Vocabulary.{Config, Event, Flight, IsHistory, List, Moment, None, PlacedAllocation, Seat}
-use Rattle.mk_laws.proofs.Vocabulary.{Steady, Step, Tally, Word, Words, World, ℕ, ap, arith, cases_eq, cases_lt, false}
-use Rattle.mk_laws.proofs.Vocabulary.{flight_of, freed_where_it_stands, get_or-set_other, get_or-set_same, inl, inr}
-use Rattle.mk_laws.proofs.Vocabulary.{is_end, is_heap_store, length, map, progress, quarantine_word, refl, set-get_or}
-use Rattle.mk_laws.proofs.Vocabulary.{set_past, slice_index, slice_set, still, subst, sym, true, world_behind, [], ◌%◌}
-use Rattle.mk_laws.proofs.Vocabulary.{◌++◌, ◌/◌, ◌<◌, ◌^◌, ◌∙◌, ◌∷◌, ◌≡◌}
-use Rattle.mk_cycle.proofs.Vocabulary.{Acts, Cleans, InTurn, IsAtPhase, IsClean, IsFreeForCycle, LeavesTurn, PassState}
+use Rattle.mk_cycle.proofs.Vocabulary.{Acts, Cleans, InTurn, IsClean, IsFreeForCycle, IsTurnAt, LeavesTurn, PassState}
 use Rattle.mk_cycle.proofs.Vocabulary.{WordsState, clears, does_nothing, does_step, does_then, event_of}
 use Rattle.mk_cycle.proofs.Vocabulary.{is_pending_free, made, now_of, stands, steady_of, world_at}
-use Rattle.mk_cycle.proofs.Calm.{calm_done, calm_still, frees_none, is_calm}
+use Rattle.mk_laws.proofs.Vocabulary.{Config, Flight, IsHistory, List, Moment, None, PlacedAllocation, Seat, Steady}
+use Rattle.mk_laws.proofs.Vocabulary.{Step, Tally, Word, Words, World, ℕ, ap, arith, cases_eq, cases_lt, false}
+use Rattle.mk_laws.proofs.Vocabulary.{flight_of, freed_where_it_stands, get_or-set_other, get_or-set_same, inl, inr}
+use Rattle.mk_laws.proofs.Vocabulary.{length, map, progress, quarantine_word, refl, set-get_or, set_past, slice_index}
+use Rattle.mk_laws.proofs.Vocabulary.{slice_set, still, subst, sym, true, world_behind, [], ◌%◌, ◌++◌, ◌/◌, ◌<◌, ◌^◌}
+use Rattle.mk_laws.proofs.Vocabulary.{◌∙◌, ◌∷◌, ◌≡◌}
+use Rattle.mk_laws.proofs.LastEvents.{Stands}
+use Rattle.mk_cycle.proofs.Calm.{calm_done, calm_still, ends_none, frees_none, is_calm, stores_none}
 use Rattle.mk_cycle.proofs.KeptInParts.{free_then, gates_behind, gates_then, keeps_at_once, keeps_then}
-use Rattle.mk_cycle.proofs.OwnSteps.{keeps_call, keeps_counts}
+use Rattle.mk_cycle.proofs.{Allowed.in_turn_before, Allowed.on_table, OwnSteps.keeps_call, OwnSteps.keeps_counts}
 use Rattle.mk_cycle.specs.{Cleaning.HasTakenSnapshot, TurnKeeps.but_cleaned}
 
 pub cleans_nothing : (p : PassState) → Cleans p p
 cleans_nothing p = grind (arith, does_nothing, keeps_at_once)
 
-pub cleans_then : (p q r : PassState) → Cleans p q → Cleans q r → Cleans p r
-cleans_then p q r a b = record {
+pub cleans_then : {p q r : PassState} → Cleans p q → Cleans q r → Cleans p r
+cleans_then {p} {q} {r} a b = record {
   does = does_then clears p q r a.does b.does;
   keeps = keeps_then but_cleaned p q r a.keeps b.keeps;
   gates = gates_then p q r a.keeps.call.pass a.gates b.gates;
@@ -36,26 +37,15 @@ zero_stays xs i r h = elim (cases_eq r i) [
   ]
 ]
 
-calm_stores : (s : Step) → is_calm s ≡ true → is_heap_store s ≡ false
-calm_stores Step.Write h = cc
-calm_stores Step.Cas h = cc
-calm_stores _ h = refl
-
-calm_ends : (s : Step) → is_calm s ≡ true → is_end s ≡ false
-calm_ends Step.End h = cc
-calm_ends _ h = refl
-
 -- A calm step of a turn that is free for a cycle.
 module _ (p : PassState) (s : Step) (q : PassState) (a : Acts p s q) (t : InTurn p)
-    (history : IsHistory q.table.config q.seen)
-    (kind : is_calm s ≡ true) (free : IsFreeForCycle p) where
+    (history : IsHistory q.table.config q.seen) (kind : is_calm s ≡ true) (free : IsFreeForCycle p) where
   still_pending : is_pending_free (flight_of (world_at a.makes).now p.seat) ≡ false
   still_pending = ap is_pending_free a.own.flight ∙ free.decided
 
   pub calm_keeps : (view : Steady → Steady)
       → view (steady_of (world_behind p.table.config (world_at a.makes) (event_of p s)))
-      ≡ view (steady_of (world_at a.makes))
-      → LeavesTurn view p q
+      ≡ view (steady_of (world_at a.makes)) → LeavesTurn view p q
   calm_keeps view same =
       let c : Config = p.table.config in
       let m : Moment = (world_at a.makes).now in
@@ -64,9 +54,9 @@ module _ (p : PassState) (s : Step) (q : PassState) (a : Acts p s q) (t : InTurn
       record {
         call =
             keeps_call p s q a t.own t.holds history st
-            (λ n. calm_done c m p.seat f n s m.seats.holding kind still_pending) (calm_stores s kind);
+            (λ n. calm_done c m p.seat f n s m.seats.holding kind still_pending) (stores_none is_calm refl refl s kind);
         steady = ap (λ (w : World). view (steady_of w)) a.world ∙ same ∙ ap view a.turn.steady;
-        counts = keeps_counts p s q a t.own t.holds history st (calm_ends s kind);
+        counts = keeps_counts p s q a t.own t.holds history st (ends_none is_calm refl s kind);
       }
 
 -- what a step that cleans makes of the pages' words
@@ -79,27 +69,23 @@ pub record CleansAt (w v : World) : Type 0 where
       → slice_index v.now.words.snapshot r ≡ slice_index v.now.words.freed r
 
 -- At phase 0 nobody else marks or scans.
-module _ (p : PassState) (s : Step) (q : PassState) (a : Acts p s q) (t : InTurn p)
-    (history : IsHistory q.table.config q.seen)
-    (kind : is_calm s ≡ true) (cleans : clears s ≡ true) (free : IsFreeForCycle p) (none : IsAtPhase p 0) where
+module _ {p : PassState} {s : Step} {q : PassState} {y : WordsState} (a : Acts p s q) (kind : is_calm s ≡ true)
+    (cleans : clears s ≡ true) (turn : IsTurnAt 0 y p) where
   same_colours : ((world_at a.makes).now.words.marks ≡ (now_of p).words.marks)
       × ((world_at a.makes).now.words.blacks ≡ (now_of p).words.blacks)
-  same_colours = a.turn.unmarked (λ e. absurd (omega arith)) (λ e. absurd (omega arith))
+  same_colours = let none = turn.phase in a.turn.unmarked (λ e. absurd (omega arith)) (λ e. absurd (omega arith))
 
   pub cleans_step : CleansAt (world_at a.makes) (world_behind p.table.config (world_at a.makes) (event_of p s))
       → Cleans p q
   cleans_step x = record {
     does = does_step clears p q s a.makes cleans;
-    keeps = calm_keeps p s q a t history kind free but_cleaned x.steady;
+    keeps = calm_keeps p s q a (in_turn_before a) a.makes.pass.history kind turn.free but_cleaned x.steady;
     gates = gates_behind p s q a x.gates;
-    unmarked = λ r h.
-        ap (λ (w : World). slice_index w.now.words.marks r) a.world
+    unmarked = λ r h. ap (λ (w : World). slice_index w.now.words.marks r) a.world
         ∙ x.unmarked r (ap (λ (ms : List ℕ). slice_index ms r) same_colours.0 ∙ h);
-    unscanned = λ r h.
-        ap (λ (w : World). slice_index w.now.words.blacks r) a.world
+    unscanned = λ r h. ap (λ (w : World). slice_index w.now.words.blacks r) a.world
         ∙ x.unscanned r (ap (λ (ms : List ℕ). slice_index ms r) same_colours.1 ∙ h);
-    snapshot = λ r h.
-        ap (λ (w : World). slice_index w.now.words.snapshot r) a.world
+    snapshot = λ r h. ap (λ (w : World). slice_index w.now.words.snapshot r) a.world
         ∙ x.snapshot r (ap (λ (y : Steady). slice_index y.snapshot r) a.turn.steady ∙ h
         ∙ sym (ap (λ (y : Steady). slice_index y.freed r) a.turn.steady))
         ∙ sym (ap (λ (w : World). slice_index w.now.words.freed r) a.world);
@@ -162,53 +148,45 @@ quar_cleans c w seat p v free lt small is =
           ap (λ (fs : List ℕ). record (but_cleaned (steady_of w)) {
             freed = fs;
             allocations = (world_behind c w (record { seat = seat; step = Step.Quar p v })).allocations;
-          }) same
-          ∙ ap (λ (xs : List PlacedAllocation). record (but_cleaned (steady_of w)) { allocations = xs })
+          }) same ∙ ap (λ (xs : List PlacedAllocation). record (but_cleaned (steady_of w)) { allocations = xs })
           (quar_frees_none c w seat p v free);
       gates = refl;
       unmarked = λ r h. h;
       unscanned = λ r h. h;
-      snapshot = λ r h.
-          ap (λ (n : ℕ). slice_index (slice_set w.now.words.snapshot p n) r) high
-          ∙ copied w.now.words.freed w.now.words.snapshot p r lt h
-          ∙ sym (ap (λ (fs : List ℕ). slice_index fs r) same);
+      snapshot = λ r h. ap (λ (n : ℕ). slice_index (slice_set w.now.words.snapshot p n) r) high
+          ∙ copied w.now.words.freed w.now.words.snapshot p r lt h ∙ sym (ap (λ (fs : List ℕ). slice_index fs r) same);
     }
 
--- What is free for a cycle stays so while pages are cleaned, at phase 0.
+-- A turn stays free for a cycle, on its words and at phase 0, while pages are cleaned.
+pub cleaned_turn : {p q : PassState} {w : WordsState} → Cleans p q → IsTurnAt 0 w p → IsTurnAt 0 w q
+cleaned_turn {p} {q} k turn = record {
+  one_table = ap (λ (x : PassState). x.table) k.keeps.call.pass ∙ turn.one_table;
+  free = free_then p q k.keeps.call turn.free;
+  phase = ap (λ (s : Steady). s.phase) k.keeps.steady ∙ turn.phase;
+}
 
-pub cleaned_free : (p q : PassState) → Cleans p q → IsFreeForCycle p → IsFreeForCycle q
-cleaned_free p q k free = free_then p q k.keeps.call free
-
-pub cleaned_phase : (p q : PassState) → Cleans p q → IsAtPhase p 0 → IsAtPhase q 0
-cleaned_phase p q k none = ap (λ (s : Steady). s.phase) k.keeps.steady ∙ none
-
-pub cleaned_table : (p q : PassState) (w : WordsState) → Cleans p q → p.table ≡ w → q.table ≡ w
-cleaned_table p q w k is = ap (λ (x : PassState). x.table) k.keeps.call.pass ∙ is
+pub cleaned_table : {p q : PassState} (w : WordsState) → Cleans p q → p.table ≡ w → q.table ≡ w
+cleaned_table w k is = ap (λ (x : PassState). x.table) k.keeps.call.pass ∙ is
 
 -- Each step by which they are.
-module _ (p q : PassState) (t : InTurn p) (free : IsFreeForCycle p) (none : IsAtPhase p 0) (u : InTurn q) where
-  pub looked : (x : Word) → Acts p (Step.Look x) q → Cleans p q
-  looked x a = cleans_step p (Step.Look x) q a t u.history refl refl free none
-      (look_cleans p.table.config (world_at a.makes) p.seat x)
+module _ {p q : PassState} {y : WordsState} (turn : IsTurnAt 0 y p) where
+  pub looked : {x : Word} → Acts p (Step.Look x) q → Cleans p q
+  looked {x} a = cleans_step a refl refl turn (look_cleans p.table.config (world_at a.makes) p.seat x)
 
-  pub cleared : (page : ℕ) → Acts p (Step.Clear page) q → Cleans p q
-  cleared page a = cleans_step p (Step.Clear page) q a t u.history refl refl free none
-      (clear_cleans p.table.config (world_at a.makes) p.seat page)
+  pub cleared : {page : ℕ} → Acts p (Step.Clear page) q → Cleans p q
+  cleared {page} a = cleans_step a refl refl turn (clear_cleans p.table.config (world_at a.makes) p.seat page)
 
-  pub unblacked : (page : ℕ) → Acts p (Step.Unblack page) q → Cleans p q
-  unblacked page a = cleans_step p (Step.Unblack page) q a t u.history refl refl free none
-      (unblack_cleans p.table.config (world_at a.makes) p.seat page)
+  pub unblacked : {page : ℕ} → Acts p (Step.Unblack page) q → Cleans p q
+  unblacked {page} a = cleans_step a refl refl turn (unblack_cleans p.table.config (world_at a.makes) p.seat page)
 
-  pub undirtied : (page : ℕ) → Acts p (Step.Undirty page) q → Cleans p q
-  undirtied page a = cleans_step p (Step.Undirty page) q a t u.history refl refl free none
-      (undirty_cleans p.table.config (world_at a.makes) p.seat page)
+  pub undirtied : {page : ℕ} → Acts p (Step.Undirty page) q → Cleans p q
+  undirtied {page} a = cleans_step a refl refl turn (undirty_cleans p.table.config (world_at a.makes) p.seat page)
 
-  pub tallied : (v : ℕ) → Acts p (Step.Tally Tally.Fresh v) q → Cleans p q
-  tallied v a =
-      cleans_step p (Step.Tally Tally.Fresh v) q a t u.history refl refl free none
+  pub tallied : {v : ℕ} → Acts p (Step.Tally Tally.Fresh v) q → Cleans p q
+  tallied a = cleans_step a refl refl turn
       (record { steady = refl; gates = refl; unmarked = λ r h. h; unscanned = λ r h. h; snapshot = λ r h. h })
 
-  module _ (page v : ℕ) (a : Acts p (Step.Quar page v) q) (lt : page < p.table.config.pages)
+  module _ {page v : ℕ} (a : Acts p (Step.Quar page v) q) (within : page < y.config.pages)
       (is : v ≡ quarantine_word (slice_index (now_of p).words.freed page) (slice_index (now_of p).words.freed page))
     where
       w : World
@@ -218,53 +196,48 @@ module _ (p q : PassState) (t : InTurn p) (free : IsFreeForCycle p) (none : IsAt
       unfolding w
       same_freed = ap (λ (s : Steady). slice_index s.freed page) a.turn.steady
 
+      known : Stands p.table.config (p.seen ++ a.makes.others)
+      known = stands p.table.config (p.seen ++ a.makes.others) (made p (Step.Quar page v) q a.makes).history
+
+      small : slice_index w.now.words.freed page < 2 ^ 32
+      unfolding w
+      small = (known.all.order.quarantined.small page).0
+
+      lt : page < p.table.config.pages
+      lt = on_table p turn.one_table within
+
       pub snapshot_taken : Cleans p q
       unfolding w
       snapshot_taken =
-          let c : Config = p.table.config in
-          let es : List Event = p.seen ++ a.makes.others in
-          let known = stands c es (made p (Step.Quar page v) q a.makes).history in
-          let long : page < length w.now.words.snapshot =
-          subst (λ (n : ℕ). page < n) (sym known.known.lengths.snapshot) lt in
-          let small : slice_index w.now.words.freed page < 2 ^ 32 = (known.all.order.quarantined.small page).0 in
-          cleans_step p (Step.Quar page v) q a t u.history refl refl free none
-          (quar_cleans c w p.seat page v (ap is_pending_free a.own.flight ∙ free.decided) long small
+          cleans_step a refl refl turn
+          (quar_cleans p.table.config w p.seat page v (ap is_pending_free a.own.flight ∙ turn.free.decided)
+          (subst (λ (n : ℕ). page < n) (sym known.known.lengths.snapshot) lt) small
           (is ∙ ap (λ (n : ℕ). quarantine_word n n) (sym same_freed)))
 
       pub has_snapshot : HasTakenSnapshot q page
       unfolding w
       has_snapshot =
-          let c : Config = p.table.config in
-          let es : List Event = p.seen ++ a.makes.others in
-          let known = stands c es (made p (Step.Quar page v) q a.makes).history in
-          let long : page < length w.now.words.snapshot = grind arith in
-          let long' : page < length w.now.words.freed = grind arith in
-          let f : ℕ = slice_index (now_of p).words.freed page in
-          let small : slice_index w.now.words.freed page < 2 ^ 32 = (known.all.order.quarantined.small page).0 in
-          let little : f < 2 ^ 32 = subst (λ (n : ℕ). n < 2 ^ 32) same_freed small in
+          let long = subst (λ (n : ℕ). page < n) (sym known.known.lengths.snapshot) lt in
+          let long' = subst (λ (n : ℕ). page < n) (sym known.known.lengths.freed) lt in
+          let little = subst (λ (n : ℕ). n < 2 ^ 32) same_freed small in
           ap (λ (x : World). slice_index x.now.words.snapshot page) a.world
           ∙ get_or-set_same w.now.words.snapshot page (v / 2 ^ 32) 0 long
-          ∙ ap (λ (n : ℕ). n / 2 ^ 32) is ∙ high_half f little
+          ∙ ap (λ (n : ℕ). n / 2 ^ 32) is ∙ high_half _ little
           ∙ sym (ap (λ (x : World). slice_index x.now.words.freed page) a.world
           ∙ get_or-set_same w.now.words.freed page (v % 2 ^ 32) 0 long'
-          ∙ ap (λ (n : ℕ). n % 2 ^ 32) is ∙ low_half f little)
+          ∙ ap (λ (n : ℕ). n % 2 ^ 32) is ∙ low_half _ little)
 
-pub then_cleans : (p q r : PassState) → IsFreeForCycle p → IsAtPhase p 0 → Cleans p q
-    → (IsFreeForCycle q → IsAtPhase q 0 → Cleans q r) → Cleans p r
-then_cleans p q r free none a b = cleans_then p q r a (b (cleaned_free p q a free) (cleaned_phase p q a none))
-
-pub clean_stays : (p q : PassState) (page : ℕ) → Cleans p q → IsClean p page → IsClean q page
-clean_stays p q page k h = grind arith
+pub clean_stays : {p q : PassState} {page : ℕ} → Cleans p q → IsClean p page → IsClean q page
+clean_stays k h = grind arith
 
 -- what a look at a quarantine word says: its halves
 pub record Halves (p : PassState) (page n : ℕ) : Type 0 where
   pub freed : n % 2 ^ 32 ≡ slice_index (now_of p).words.freed page
   pub snapshot : n / 2 ^ 32 ≡ slice_index (now_of p).words.snapshot page
 
-pub halves : (p : PassState) (page n : ℕ) → InTurn p
-    → n ≡ quarantine_word (slice_index (now_of p).words.freed page) (slice_index (now_of p).words.snapshot page)
-    → Halves p page n
-halves p page n t is =
+pub halves : {p : PassState} (page n : ℕ) → InTurn p → n ≡ quarantine_word (slice_index (now_of p).words.freed page)
+    (slice_index (now_of p).words.snapshot page) → Halves p page n
+halves {p} page n t is =
     let known = stands p.table.config p.seen t.history in
     let small = (known.all.order.quarantined.small page).0 in
     record { freed = omega arith; snapshot = omega arith }

@@ -1,8 +1,11 @@
 -- What an engine did up to a `close`, from wider parts of a turn.
-use Rattle.mk_laws.proofs.Vocabulary.{Event, List, ap, append-nil, append_assoc, sym, [], ◌++◌, ◌∙◌, ◌≡◌}
-use Rattle.mk_cycle.proofs.Vocabulary.{HoldsGates, PassState}
+use Rattle.mk_laws.proofs.Vocabulary.{Bool, Config, Event, List, Step, World, ℕ, ap, append-nil, append_assoc, false}
+use Rattle.mk_laws.proofs.Vocabulary.{refl, sym, [], ◌++◌, ◌∙◌, ◌≡◌}
+use Rattle.mk_cycle.proofs.Vocabulary.{HoldsGates, PassState, does_sweep, holds_gates, sweeps_then}
 use Rattle.mk_cycle.proofs.HoldingSteps.{holds_nothing, holds_then}
-use Rattle.mk_cycle.specs.{Closing.IsClosedBy, Releasing.MakesRelease}
+use Rattle.mk_cycle.proofs.{Sweepless.marks_nothing, Told.told_earlier, Told.told_later}
+use Rattle.mk_cycle.specs.{Closing.ClosesAsPromised, Closing.IsClosedBy, Releasing.MakesRelease}
+use Rattle.mk_turns.specs.Doing.{Does}
 
 module _ (closes : PassState → PassState → Type 0) where
   -- in the stop itself
@@ -18,11 +21,11 @@ module _ (closes : PassState → PassState → Type 0) where
   }
 
   -- when gates were held before it
-  pub closed_when_held : (o p q : PassState) → HoldsGates o p → IsClosedBy closes p q → IsClosedBy closes o q
-  closed_when_held o p q holds k = record {
+  pub closed_when_held : {o p q : PassState} → HoldsGates o p → IsClosedBy closes p q → IsClosedBy closes o q
+  closed_when_held {o} {p} holds k = record {
     held = k.held;
     released = k.released;
-    holds = holds_then o p k.held holds k.holds;
+    holds = holds_then holds k.holds;
     makes = k.makes;
     part = k.part;
     rest = k.rest;
@@ -30,9 +33,10 @@ module _ (closes : PassState → PassState → Type 0) where
   }
 
   -- when more was seen after it
-  pub closed_later : (p q r : PassState) (more : List Event) → r.seen ≡ q.seen ++ more → IsClosedBy closes p q
+  pub closed_later : {p q : PassState} (r : PassState) (more : List Event) → r.seen ≡ q.seen ++ more
+      → IsClosedBy closes p q
       → IsClosedBy closes p r
-  closed_later p q r more is k = record {
+  closed_later r more is k = record {
     held = k.held;
     released = k.released;
     holds = k.holds;
@@ -40,4 +44,25 @@ module _ (closes : PassState → PassState → Type 0) where
     part = k.part;
     rest = k.rest ++ more;
     is = is ∙ ap (λ (es : List Event). es ++ more) k.is ∙ append_assoc k.released.seen k.rest more;
+  }
+
+-- All that an engine promises, from wider parts of a turn.
+module _ {sweeps : Bool} {tells : Config → World → Type 0} {closes : PassState → PassState → Type 0} where
+  pub promised_when_held : {o p q : PassState} → HoldsGates o p → ClosesAsPromised sweeps tells closes p q
+      → ClosesAsPromised sweeps tells closes o q
+  promised_when_held {o} {p} {q} holds k = record {
+    reached = λ none. sweeps_then o p q holds.keeps.call.pass
+        (does_sweep holds_gates o p (marks_nothing holds_gates (λ page v. refl)) holds.does) (k.reached none);
+    told = told_earlier o holds.does.more holds.does.is k.told;
+    closed = closed_when_held closes holds k.closed;
+  }
+
+  -- when steps came after it that mark nothing
+  pub promised_later : (kinds : Step → Bool) → ((page v : ℕ) → kinds (Step.Mark page v) ≡ false) → {p q r : PassState}
+      → q ≡ record p { seen = q.seen } → Does kinds q r → ClosesAsPromised sweeps tells closes p q
+      → ClosesAsPromised sweeps tells closes p r
+  promised_later kinds marks {p} {q} {r} same d k = record {
+    reached = λ none. sweeps_then p q r same (k.reached none) (does_sweep kinds q r (marks_nothing kinds marks) d);
+    told = told_later r d.more (ap (λ (x : PassState). x.seen) d.is) k.told;
+    closed = closed_later closes r d.more (ap (λ (x : PassState). x.seen) d.is) k.closed;
   }

@@ -14,9 +14,7 @@ same_released a b count words kept = grind arith
 told_by : (snapshot marks header s m h : ℕ) (r : Released) → snapshot ≡ s → marks ≡ m → header ≡ h
     → r.count ≡ count_ones (without snapshot marks)
     → r.words ≡ count_ones (without snapshot marks) * words_under (header_of header)
-    → r.kept ≡ count_ones (bit_and snapshot marks)
-    → r
-    ≡ record {
+    → r.kept ≡ count_ones (bit_and snapshot marks) → r ≡ record {
       count = count_ones (without s m);
       words = count_ones (without s m) * words_under (header_of h);
       kept = count_ones (bit_and s m);
@@ -24,23 +22,19 @@ told_by : (snapshot marks header s m h : ℕ) (r : Released) → snapshot ≡ s 
 told_by snapshot marks header s m h r is_snapshot is_marks is_header count words kept = grind (arith, same_released)
 
 -- what looks at the marks and the header say of a page
-pub counted_on : (p a b : PassState) (page snapshot marks header : ℕ) (r : Released) → GivesNothingBack p a
-    → GivesNothingBack a b
-    → snapshot ≡ slice_index (now_of p).words.snapshot page
-    → marks ≡ slice_index (now_of a).words.marks page → header ≡ header_at (now_of b).words page
-    → r.count ≡ count_ones (without snapshot marks)
-    → r.words ≡ count_ones (without snapshot marks) * words_under (header_of header)
-    → r.kept ≡ count_ones (bit_and snapshot marks)
-    → r ≡ released_on (now_of p).words page
-counted_on p a b page snapshot marks header r first second is mark head count words kept =
+pub counted_on : {p a b : PassState} (page snapshot marks header : ℕ) (r : Released) → GivesNothingBack p a
+    → GivesNothingBack a b → snapshot ≡ slice_index (now_of p).words.snapshot page
+    → marks ≡ slice_index (now_of a).words.marks page → header ≡ header_at (now_of b).words page → r.count ≡ count_ones
+    (without snapshot marks) → r.words ≡ count_ones (without snapshot marks) * words_under (header_of header)
+    → r.kept ≡ count_ones (bit_and snapshot marks) → r ≡ released_on (now_of p).words page
+counted_on page snapshot marks header r first second is mark head count words kept =
     grind (arith, told_by, same_header, none_then)
 
 -- what a look at the quarantine word says of it
-pub snapshot_told : (p a : PassState) (page quarantine : ℕ) → InTurn a → GivesNothingBack p a
-    → quarantine
+pub snapshot_told : {p a : PassState} (page quarantine : ℕ) → InTurn a → GivesNothingBack p a → quarantine
     ≡ quarantine_word (slice_index (now_of a).words.freed page) (slice_index (now_of a).words.snapshot page)
     → quarantine / 2 ^ 32 ≡ slice_index (now_of p).words.snapshot page
-snapshot_told p a page quarantine t first word = grind (arith, halves)
+snapshot_told page quarantine t first word = grind (arith, halves)
 
 -- Where its snapshot is empty, nothing is released on it.
 pub nothing_on : (w : Words) (page : ℕ) → slice_index w.snapshot page ≡ 0
@@ -52,9 +46,9 @@ pub told_same : (p q : PassState) (page : ℕ) → (now_of q).words.marks ≡ (n
     → released_on (now_of q).words page ≡ released_on (now_of p).words page
 told_same p q page marks same = grind (arith, told_by, same_header)
 
-pub told_alike : (p q : PassState) (page : ℕ) → GivesNothingBack p q
+pub told_alike : {p q : PassState} (page : ℕ) → GivesNothingBack p q
     → released_on (now_of q).words page ≡ released_on (now_of p).words page
-told_alike p q page k = told_same p q page k.frees.marks (k.same page)
+told_alike {p} {q} page k = told_same p q page k.frees.marks (k.same page)
 
 sum_of : Released → Released → Released
 sum_of a b = record { count = a.count + b.count; words = a.words + b.words; kept = a.kept + b.kept }
@@ -68,13 +62,13 @@ unfolding sum_of
 counted_more w page all here before now = grind (arith, sum_of)
 
 -- the first pages
-pub told_alike_below : (p q : PassState) → GivesNothingBack p q → (n : ℕ)
+pub told_alike_below : {p q : PassState} → GivesNothingBack p q → (n : ℕ)
     → released_below (now_of q).words n ≡ released_below (now_of p).words n
 unfolding sum_of
-told_alike_below p q k zero = refl
-told_alike_below p q k (suc n) =
-    ap (λ (r : Released). sum_of r (released_on (now_of q).words n)) (told_alike_below p q k n)
-    ∙ ap (λ (r : Released). sum_of (released_below (now_of p).words n) r) (told_alike p q n k)
+told_alike_below k zero = refl
+told_alike_below {p} {q} k (suc n) =
+    ap (λ (r : Released). sum_of r (released_on (now_of q).words n)) (told_alike_below k n)
+    ∙ ap (λ (r : Released). sum_of (released_below (now_of p).words n) r) (told_alike n k)
 
 -- Of its released words those of an unmapped run aren't held.
 
@@ -96,9 +90,9 @@ pub held_same : (p q : PassState) (page : ℕ) → (now_of q).words.marks ≡ (n
     → held_unmarked (now_of q).words page ≡ held_unmarked (now_of p).words page
 held_same p q page marks same = grind (arith, held_by_header, same_header, told_same)
 
-pub held_alike_below : (p q : PassState) → GivesNothingBack p q → (n : ℕ)
+pub held_alike_below : {p q : PassState} → GivesNothingBack p q → (n : ℕ)
     → held_below (now_of q).words n ≡ held_below (now_of p).words n
-held_alike_below p q k n = grind (arith, sum_same, held_same)
+held_alike_below k n = grind (arith, sum_same, held_same)
 
 pub held_more : (w : Words) (page all here : ℕ) → all ≡ held_below w page → here ≡ held_unmarked w page
     → all + here ≡ held_below w (page + 1)

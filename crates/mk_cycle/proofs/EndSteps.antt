@@ -9,15 +9,15 @@ use Rattle.mk_core.specs.Effects.{cycle_ended}
 use Rattle.mk_cycle.proofs.OwnSteps.{done_in, no_more_calls, same_call, still_gone, undecided}
 use Rattle.mk_cycle.proofs.{Allowed.protocol, BeginSteps.all_from, KeptInParts.gates_behind, MayAct.may_act}
 
-pub end_allowed : (p : PassState) → InTurn p → IsFreeForCycle p → IsAtPhase p 4
+pub end_allowed : {p : PassState} → InTurn p → IsFreeForCycle p → IsAtPhase p 4
     → ((page : ℕ) → page < p.table.config.pages → IsSettledPage p page) → IsEnabledTo p Step.End
-end_allowed p t free at settled =
+end_allowed {p} t free at settled =
     may_act p Step.End (protocol p t free) t.holds free.decided refl refl refl (eq-eqb _ 4 at) (all_from _ _ settled)
 
 ended_phase : (n markers : ℕ) → n % 8 ≡ 4 → n / 8 ≡ markers → markers ≤ 8 → (n + (2 ^ 64 - 4)) % 2 ^ 64 % 8 ≡ 0
 ended_phase n markers now high few = omega arith
 
-module _ (p q : PassState) (t : InTurn p) (at : IsAtPhase p 4) (u : InTurn q) (a : Acts p Step.End q) where
+module _ {p q : PassState} (t : InTurn p) (at : IsAtPhase p 4) (u : InTurn q) (a : Acts p Step.End q) where
   abbrev w : World
   w = world_at a.makes
 

@@ -1,19 +1,20 @@
 -- Cells are given back step by step.
 use Rattle.mk_laws.proofs.Vocabulary.{AreOfOthers, Bool, Config, Event, Flight, Holding, IsHistory, List, Moment}
-use Rattle.mk_laws.proofs.Vocabulary.{PlacedAllocation, Seat, Steady, Step, Word, World, ℕ, ap, arith, cases_eq}
-use Rattle.mk_laws.proofs.Vocabulary.{cases_lt, earlier_part_is_history, eq-eqb, eqb-false, false, flight_of}
-use Rattle.mk_laws.proofs.Vocabulary.{get_or-set_other, get_or-set_same, inl, inr, is_end, is_heap_store, is_held}
-use Rattle.mk_laws.proofs.Vocabulary.{is_phase, is_run_gone, length, ne_eqb, progress, refl, set_past, slice_index}
-use Rattle.mk_laws.proofs.Vocabulary.{slice_set, still, subst, sym, true, world_behind, ◌++◌, ◌∙◌, ◌≡◌, ◌≢◌}
-use Rattle.mk_cycle.proofs.Vocabulary.{Acts, Frees, InTurn, IsAtPhase, IsFreeForCycle, LeavesTurn, PassState}
+use Rattle.mk_laws.proofs.Vocabulary.{PlacedAllocation, Seat, Steady, Step, World, ℕ, ap, arith, cases_eq, cases_lt}
+use Rattle.mk_laws.proofs.Vocabulary.{earlier_part_is_history, eq-eqb, eqb-false, false, flight_of, get_or-set_other}
+use Rattle.mk_laws.proofs.Vocabulary.{get_or-set_same, inl, inr, is_held, is_phase, is_run_gone, length, ne_eqb}
+use Rattle.mk_laws.proofs.Vocabulary.{progress, refl, set_past, slice_index, slice_set, still, subst, sym, true}
+use Rattle.mk_laws.proofs.Vocabulary.{world_behind, ◌++◌, ◌∙◌, ◌≡◌, ◌≢◌}
+use Rattle.mk_cycle.proofs.Vocabulary.{Acts, Frees, InTurn, IsAtPhase, IsFreeForCycle, IsTurnAt, LeavesTurn, PassState}
 use Rattle.mk_cycle.proofs.Vocabulary.{WordsState, does_nothing, does_step, does_then, event_of, holder_finds}
 use Rattle.mk_cycle.proofs.Vocabulary.{holding_behind, is_giving_back, is_pending_free, made, now_of, steady_of}
 use Rattle.mk_cycle.proofs.Vocabulary.{world_at, world_of}
 use Rattle.mk_core.specs.Growing.{Finding}
 use Rattle.mk_laws.proofs.{ProtocolFrames.others_leave, RunsStill.HolderFinds}
+use Rattle.mk_cycle.proofs.Calm.{calm_done, calm_still, ends_none, is_calm, stores_none}
 use Rattle.mk_cycle.proofs.KeptInParts.{free_then, keeps_at_once, keeps_then, same_config}
-use Rattle.mk_cycle.proofs.{Calm.calm_done, Calm.calm_still, Calm.is_calm, CleaningSteps.quar_frees_none}
-use Rattle.mk_cycle.proofs.{CleaningSteps.zero_stays, OwnSteps.done_in, OwnSteps.keeps_call, OwnSteps.keeps_counts}
+use Rattle.mk_cycle.proofs.OwnSteps.{done_in, keeps_call, keeps_counts}
+use Rattle.mk_cycle.proofs.CleaningSteps.{quar_frees_none, zero_stays}
 use Rattle.mk_cycle.specs.Freeing.{IsUnmapped, but_pages}
 use Rattle.mk_turns.{proofs.Doing.none_own, proofs.Doing.others_are_so, specs.Doing.are_of}
 use Rattle.mk_words.proofs.Seats.{others_own}
@@ -21,26 +22,33 @@ use Rattle.mk_words.proofs.Seats.{others_own}
 pub frees_nothing : (p : PassState) → Frees p p
 frees_nothing p = grind (arith, does_nothing, keeps_at_once)
 
-same_allocations : (p q : PassState) → LeavesTurn but_pages p q → (world_of q).allocations ≡ (world_of p).allocations
-same_allocations p q k = ap (λ (s : Steady). s.allocations) k.steady
+same_allocations : {p q : PassState} → LeavesTurn but_pages p q → (world_of q).allocations ≡ (world_of p).allocations
+same_allocations k = ap (λ (s : Steady). s.allocations) k.steady
 
-pub still_unmapped : (p q : PassState) (n : ℕ) → LeavesTurn but_pages p q → IsUnmapped p n → IsUnmapped q n
-still_unmapped p q n k h m = grind (arith, same_config, same_allocations)
+pub still_unmapped : {p q : PassState} (n : ℕ) → LeavesTurn but_pages p q → IsUnmapped p n → IsUnmapped q n
+still_unmapped n k h m = grind (arith, same_config, same_allocations)
 
-pub frees_then : (p q r : PassState) → Frees p q → Frees q r → Frees p r
-frees_then p q r a b = record {
+pub frees_then : {p q r : PassState} → Frees p q → Frees q r → Frees p r
+frees_then {p} {q} {r} a b = record {
   does = does_then is_giving_back p q r a.does b.does;
   keeps = keeps_then but_pages p q r a.keeps b.keeps;
   marks = b.marks ∙ a.marks;
   gates = λ j h. b.gates j (a.gates j h);
-  zeros = λ n u h. b.zeros n (still_unmapped p q n a.keeps u) (a.zeros n u h);
+  zeros = λ n u h. b.zeros n (still_unmapped n a.keeps u) (a.zeros n u h);
 }
 
-pub freed_free : (p q : PassState) → Frees p q → IsFreeForCycle p → IsFreeForCycle q
-freed_free p q k free = free_then p q k.keeps.call free
+pub freed_free : {p q : PassState} → Frees p q → IsFreeForCycle p → IsFreeForCycle q
+freed_free {p} {q} k free = free_then p q k.keeps.call free
 
-pub freed_phase : (p q : PassState) → Frees p q → IsAtPhase p 4 → IsAtPhase q 4
-freed_phase p q k at = ap (λ (s : Steady). s.phase) k.keeps.steady ∙ at
+pub freed_phase : {p q : PassState} → Frees p q → IsAtPhase p 4 → IsAtPhase q 4
+freed_phase k at = ap (λ (s : Steady). s.phase) k.keeps.steady ∙ at
+
+pub freed_turn : {p q : PassState} {w : WordsState} → Frees p q → IsTurnAt 4 w p → IsTurnAt 4 w q
+freed_turn k turn = record {
+  one_table = ap (λ (x : PassState). x.table) k.keeps.call.pass ∙ turn.one_table;
+  free = freed_free k turn.free;
+  phase = freed_phase k turn.phase;
+}
 
 -- A step that is calm, or that stores a header or a used word at phase 4, goes on with the call and what was done.
 
@@ -50,8 +58,7 @@ frees_calmly (Step.Used p v) = true
 frees_calmly s = is_calm s
 
 frees_still : (c : Config) (m : Moment) (f : Flight) (n : ℕ) (s : Step) → frees_calmly s ≡ true
-    → is_pending_free f ≡ false
-    → progress c m f n s ≡ still f
+    → is_pending_free f ≡ false → progress c m f n s ≡ still f
 frees_still c m f n (Step.Head p v) h free = refl
 frees_still c m f n (Step.Used p v) h free = refl
 frees_still c m f n s h free = calm_still c m f n s h free
@@ -62,15 +69,6 @@ frees_done : (c : Config) (m : Moment) (seat : Seat) (f : Flight) (n : ℕ) (s :
 frees_done c m seat f n (Step.Head p v) h kind free at = grind (arith, done_in)
 frees_done c m seat f n (Step.Used p v) h kind free at = grind (arith, done_in)
 frees_done c m seat f n s h kind free at = calm_done c m seat f n s h kind free
-
-frees_stores : (s : Step) → frees_calmly s ≡ true → is_heap_store s ≡ false
-frees_stores Step.Write h = cc
-frees_stores Step.Cas h = cc
-frees_stores _ h = refl
-
-frees_ends : (s : Step) → frees_calmly s ≡ true → is_end s ≡ false
-frees_ends Step.End h = cc
-frees_ends _ h = refl
 
 -- what a step that gives back makes of the words
 pub record FreesAt (w v : World) : Type 0 where
@@ -84,7 +82,7 @@ open_stays : (p q : PassState)
     → (j : ℕ) → is_held (now_of p).words j ≡ false → is_held (now_of q).words j ≡ false
 open_stays p q h j e = ne_eqb _ 2 (h j (eqb-false _ 2 e))
 
-module _ (p : PassState) (s : Step) (q : PassState) (a : Acts p s q) (t : InTurn p) (u : InTurn q)
+module _ {p : PassState} {s : Step} {q : PassState} (a : Acts p s q) (t : InTurn p) (u : InTurn q)
     (kind : frees_calmly s ≡ true) (gives : is_giving_back s
     ≡ true) (free : IsFreeForCycle p) (at : IsAtPhase p 4) where
   pub frees_step : FreesAt (world_at a.makes) (world_behind p.table.config (world_at a.makes) (event_of p s))
@@ -103,13 +101,13 @@ module _ (p : PassState) (s : Step) (q : PassState) (a : Acts p s q) (t : InTurn
         does = does_step is_giving_back p q s a.makes gives;
         keeps = record {
           call = keeps_call p s q a t.own t.holds u.history st
-              (λ n. frees_done c m p.seat f n s m.seats.holding kind pending four) (frees_stores s kind);
+              (λ n. frees_done c m p.seat f n s m.seats.holding kind pending four)
+              (stores_none frees_calmly refl refl s kind);
           steady = ap (λ (y : World). but_pages (steady_of y)) a.world ∙ x.steady ∙ ap but_pages a.turn.steady;
-          counts = keeps_counts p s q a t.own t.holds u.history st (frees_ends s kind);
+          counts = keeps_counts p s q a t.own t.holds u.history st (ends_none frees_calmly refl s kind);
         };
         marks = cc (a.world, x.marks, (a.turn.unmarked (λ e. absurd (omega arith)) (λ e. absurd (omega arith))).0);
-        gates = open_stays p q (λ j ne.
-            subst (λ (y : World). slice_index y.now.words.gates j ≢ 2) (sym a.world)
+        gates = open_stays p q (λ j ne. subst (λ (y : World). slice_index y.now.words.gates j ≢ 2) (sym a.world)
             (x.gates j (a.turn.other_gates j ne)));
         zeros = λ n un zero.
             ap (λ (y : World). slice_index y.now.words.heap n) a.world ∙ x.zeros n (finds.outside n un ∙ zero);
@@ -117,21 +115,20 @@ module _ (p : PassState) (s : Step) (q : PassState) (a : Acts p s q) (t : InTurn
 
 -- by kind
 
-pub look_gives : (c : Config) (w : World) (seat : Seat) (x : Word)
-    → FreesAt w (world_behind c w (record { seat = seat; step = Step.Look x }))
-look_gives c w seat x = record { steady = refl; marks = refl; gates = λ j h. h; zeros = λ n h. h }
-
 pub wipe_gives : (c : Config) (w : World) (seat : Seat) (n : ℕ)
     → FreesAt w (world_behind c w (record { seat = seat; step = Step.Wipe n }))
 wipe_gives c w seat n = record { steady = refl; marks = refl; gates = λ j h. h; zeros = zero_stays w.now.words.heap n }
 
-pub used_gives : (c : Config) (w : World) (seat : Seat) (p v : ℕ)
-    → FreesAt w (world_behind c w (record { seat = seat; step = Step.Used p v }))
-used_gives c w seat p v = record { steady = refl; marks = refl; gates = λ j h. h; zeros = λ n h. h }
-
-pub head_gives : (c : Config) (w : World) (seat : Seat) (p v : ℕ)
-    → FreesAt w (world_behind c w (record { seat = seat; step = Step.Head p v }))
-head_gives c w seat p v = record { steady = refl; marks = refl; gates = λ j h. h; zeros = λ n h. h }
+-- one that leaves these words
+pub leaves_words : {w v : World} → but_pages (steady_of v) ≡ but_pages (steady_of w)
+    → v.now.words.marks ≡ w.now.words.marks → v.now.words.gates ≡ w.now.words.gates
+    → v.now.words.heap ≡ w.now.words.heap → FreesAt w v
+leaves_words steady marks gates heap = record {
+  steady = steady;
+  marks = marks;
+  gates = λ j h e. h (ap (λ (gs : List ℕ). slice_index gs j) (sym gates) ∙ e);
+  zeros = λ n h. ap (λ (xs : List ℕ). slice_index xs n) heap ∙ h;
+}
 
 pub quar_gives : (c : Config) (w : World) (seat : Seat) (p v : ℕ) → is_pending_free (flight_of w.now seat) ≡ false
     → FreesAt w (world_behind c w (record { seat = seat; step = Step.Quar p v }))
@@ -159,10 +156,9 @@ pub open_gives : (c : Config) (w : World) (seat : Seat) (j : ℕ)
 open_gives c w seat j = record { steady = refl; marks = refl; gates = still_open w.now.words.gates j; zeros = λ n h. h }
 
 -- what others leave is left
-pub others_free : (p : PassState) (more : List Event) → InTurn p → AreOfOthers p.seats more
-    → IsHistory p.table.config (p.seen ++ more)
-    → IsAtPhase p 4 → Frees p (record p { seen = p.seen ++ more })
-others_free p more t others history at =
+pub others_free : {p : PassState} (more : List Event) → InTurn p → AreOfOthers p.seats more
+    → IsHistory p.table.config (p.seen ++ more) → IsAtPhase p 4 → Frees p (record p { seen = p.seen ++ more })
+others_free {p} more t others history at =
     let c : Config = p.table.config in
     let q : PassState = record p { seen = p.seen ++ more } in
     let away = others_own p.seats p.seat more t.own others in
@@ -193,5 +189,5 @@ others_free p more t others history at =
       zeros = λ n un zero. finds.outside n un ∙ zero;
     }
 
-pub freed_table : (p q : PassState) (w : WordsState) → Frees p q → p.table ≡ w → q.table ≡ w
-freed_table p q w k is = ap (λ (x : PassState). x.table) k.keeps.call.pass ∙ is
+pub freed_table : {p q : PassState} (w : WordsState) → Frees p q → p.table ≡ w → q.table ≡ w
+freed_table w k is = ap (λ (x : PassState). x.table) k.keeps.call.pass ∙ is

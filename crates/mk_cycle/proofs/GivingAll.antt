@@ -12,40 +12,39 @@ use Rattle.mk_cycle.specs.{GivingAll.GivesAllBack, Releasing.ReleasesUnmarked}
 pub held_phase : (p q : PassState) (n : ℕ) → HoldsGates p q → IsAtPhase p n → IsAtPhase q n
 held_phase p q n k at = ap (λ (s : Steady). s.phase) k.keeps.steady ∙ at
 
-pub released_phase : (p q : PassState) → ReleasesUnmarked p q → IsAtPhase q 4
-released_phase p q r = ap (λ (s : Steady). s.phase) r.steady
+pub released_phase : {p q : PassState} → ReleasesUnmarked p q → IsAtPhase q 4
+released_phase r = ap (λ (s : Steady). s.phase) r.steady
 
-none_held_then : (callers : ℕ) (p q : PassState) → Frees p q → none_is_held callers (now_of p).words ≡ true
+none_held_then : (callers : ℕ) {p q : PassState} → Frees p q → none_is_held callers (now_of p).words ≡ true
     → none_is_held callers (now_of q).words ≡ true
-none_held_then callers p q k h =
-    all_from callers (λ j. not (is_held (now_of q).words j))
-    (λ j lt. ap not (k.gates j
+none_held_then callers {p = p} {q = q} k h =
+    all_from callers (λ j. not (is_held (now_of q).words j)) (λ j lt. ap not (k.gates j
     (not-true (is_held (now_of p).words j) (all_below-at callers j (λ i. not (is_held (now_of p).words i)) h lt))))
 
-pub gives_all_back : (p h r o q : PassState) → HoldsGates p h → ReleasesUnmarked h r → GivesNothingBack r o → Frees o q
+pub gives_all_back : {p h r o q : PassState} → HoldsGates p h → ReleasesUnmarked h r → GivesNothingBack r o → Frees o q
     → none_is_held r.table.config.callers (now_of o).words ≡ true
     → ((page : ℕ) → page < p.table.config.pages → IsSettledPage q page) → GivesAllBack p q
-gives_all_back p h r o q holds releases opens frees none settled =
+gives_all_back {p} {h} {r} {o} {q} holds releases opens frees none settled =
     let same : r.table.config ≡ p.table.config = grind arith in
-    let all : Frees r q = frees_then r o q opens.frees frees in
+    let all : Frees r q = frees_then opens.frees frees in
     record {
       held = h;
       released = r;
       holds = holds;
       releases = releases;
       frees = all;
-      phase = freed_phase r q all (released_phase h r releases);
-      gates = none_held_then p.table.config.callers o q frees
+      phase = freed_phase all (released_phase releases);
+      gates = none_held_then p.table.config.callers frees
           (subst (λ (c : Config). none_is_held c.callers (now_of o).words ≡ true) same none);
       settled = settled;
     }
 
 -- What is counted after the gates' opening is what was released up to there, and still is after the giving back.
-pub all_told : (p h r o q : PassState) (n : ℕ) (counted : Released) → HoldsGates p h → GivesNothingBack r o → Frees o q
+pub all_told : {p h r o q : PassState} (n : ℕ) (counted : Released) → HoldsGates p h → GivesNothingBack r o → Frees o q
     → HasReleased h r (released_below (now_of r).words n) → counted ≡ released_below (now_of o).words n
     → HasReleased p q counted
-all_told p h r o q n counted holds opens frees told is = grind (arith, told_alike_below, told_to, frees_then, told_from)
+all_told n counted holds opens frees told is = grind (arith, told_alike_below, told_to, frees_then, told_from)
 
-pub all_held : (p h r o q : PassState) (n held : ℕ) → HoldsGates p h → GivesNothingBack r o → Frees o q
+pub all_held : {p h r o q : PassState} (n held : ℕ) → HoldsGates p h → GivesNothingBack r o → Frees o q
     → HoldsFewer h r (held_below (now_of r).words n) → held ≡ held_below (now_of o).words n → HoldsFewer p q held
-all_held p h r o q n held holds opens frees told is = grind (arith, frees_then, held_alike, held_alike_below)
+all_held n held holds opens frees told is = grind (arith, frees_then, held_alike, held_alike_below)

@@ -1,4 +1,8 @@
 -- What the steps that give back make of a page's words.
+use Rattle.mk_cycle.proofs.Vocabulary.{Acts, Frees, FreesPage, GivesNothingBack, InTurn, IsEnabledTo, IsTurnAt}
+use Rattle.mk_cycle.proofs.Vocabulary.{IsUnmappedWord, IsZero, PageState, PassState, WordsState, call_of, drops}
+use Rattle.mk_cycle.proofs.Vocabulary.{event_of, is_giving_back, is_pending_free, made, now_of, page_state, stands}
+use Rattle.mk_cycle.proofs.Vocabulary.{world_at, world_of}
 use Rattle.mk_laws.proofs.Vocabulary.{AreOfPages, Bool, Cell, Config, Flight, List, MayHold, None, OfFreedRun, OfMapped}
 use Rattle.mk_laws.proofs.Vocabulary.{OfReleased, Option, Page, RunPages, Some, Steady, Step, Word, Words, World, ℕ}
 use Rattle.mk_laws.proofs.Vocabulary.{address_of, all_below-at, and_parts, ap, arith, carves, cases_lt, empties, eq-eqb}
@@ -10,14 +14,13 @@ use Rattle.mk_laws.proofs.Vocabulary.{pointed_cell, refl, set_past, slice_index,
 use Rattle.mk_laws.proofs.Vocabulary.{takes_cell, target, true, unmaps, used_at, words_are_zero, world_behind}
 use Rattle.mk_laws.proofs.Vocabulary.{zero_scene_of, ◌%◌, ◌&&◌, ◌*◌, ◌++◌, ◌+◌, ◌-◌, ◌/◌, ◌<◌, ◌==◌, ◌^◌, ◌||◌, ◌∙◌}
 use Rattle.mk_laws.proofs.Vocabulary.{◌≡◌, ◌≢◌}
-use Rattle.mk_cycle.proofs.Vocabulary.{Acts, Frees, FreesPage, GivesNothingBack, InTurn, IsAtPhase, IsEnabledTo}
-use Rattle.mk_cycle.proofs.Vocabulary.{IsFreeForCycle, IsUnmappedWord, IsZero, PageState, PassState, call_of, drops}
-use Rattle.mk_cycle.proofs.Vocabulary.{event_of, is_pending_free, made, now_of, page_state, stands, world_at, world_of}
 use Rattle.mk_core.specs.{Cells.is_in_run, TurnConditions.is_in_gone_run, TurnConditions.takes_snapshot, Words.page_of}
-use Rattle.mk_cycle.proofs.FreeingSteps.{frees_nothing, frees_step, frees_then, head_gives, look_gives, quar_gives}
-use Rattle.mk_cycle.proofs.FreeingSteps.{still_unmapped, used_gives, wipe_gives}
-use Rattle.mk_cycle.proofs.{Allowed.or_true, Allowed.protocol, Calm.no_target, KeptInParts.same_config, MayAct.may_act}
+use Rattle.mk_cycle.proofs.Allowed.{in_turn_after, in_turn_before, on_table, or_true, protocol}
+use Rattle.mk_cycle.proofs.FreeingSteps.{FreesAt, frees_calmly, frees_nothing, frees_step, frees_then, leaves_words}
+use Rattle.mk_cycle.proofs.FreeingSteps.{quar_gives, still_unmapped, wipe_gives}
+use Rattle.mk_cycle.proofs.{Calm.no_target, KeptInParts.same_config, MayAct.may_act}
 use Rattle.mk_cycle.specs.Freeing.{IsUnmapped}
+use Rattle.mk_words.specs.TurnSteps.{turn_stays}
 
 -- where the step is made, a page's words are as the holder knows them
 abbrev state_in : Words → ℕ → PageState
@@ -33,33 +36,33 @@ state_of s r = record {
 pub state_there : (s t : Steady) → s ≡ t → (r : ℕ) → state_of s r ≡ state_of t r
 state_there s t e r = ap (λ (y : Steady). state_of y r) e
 
-module _ (p q : PassState) (t : InTurn p) (u : InTurn q) (free : IsFreeForCycle p) (at : IsAtPhase p 4) where
+module _ {p q : PassState} {y : WordsState} (turn : IsTurnAt 4 y p) where
   -- a step that leaves the words of pages
-  leaves_pages : (s : Step) (a : Acts p s q) → Frees p q
+  leaves_pages : {s : Step} (a : Acts p s q) → Frees p q
       → ((r : ℕ) → state_in (world_behind p.table.config (world_at a.makes) (event_of p s)).now.words r
-      ≡ state_in (world_at a.makes).now.words r)
-      → GivesNothingBack p q
-  leaves_pages s a frees left = record {
+      ≡ state_in (world_at a.makes).now.words r) → GivesNothingBack p q
+  leaves_pages a frees left = record {
     frees = frees;
     same = λ r. ap (λ (w : World). state_in w.now.words r) a.world ∙ left r ∙ state_there _ _ a.turn.steady r;
   }
 
-  pub look_frees : (x : Word) → Acts p (Step.Look x) q → GivesNothingBack p q
-  look_frees x a =
-      leaves_pages (Step.Look x) a
-      (frees_step p (Step.Look x) q a t u refl refl free at (look_gives p.table.config (world_at a.makes) p.seat x))
-      (λ r. refl)
+  -- what a step of these kinds frees
+  freeing : {s : Step} (a : Acts p s q) → frees_calmly s ≡ true → is_giving_back s ≡ true → turn_stays s ≡ true
+      → FreesAt (world_at a.makes) (world_behind p.table.config (world_at a.makes) (event_of p s)) → Frees p q
+  freeing a kind gives stays x =
+      frees_step a (in_turn_before a) (in_turn_after a stays) kind gives turn.free turn.phase x
 
-  pub wipe_frees : (n : ℕ) → Acts p (Step.Wipe n) q → GivesNothingBack p q
-  wipe_frees n a =
-      leaves_pages (Step.Wipe n) a
-      (frees_step p (Step.Wipe n) q a t u refl refl free at (wipe_gives p.table.config (world_at a.makes) p.seat n))
-      (λ r. refl)
+  pub look_frees : {x : Word} → Acts p (Step.Look x) q → GivesNothingBack p q
+  look_frees a = leaves_pages a (freeing a refl refl refl (leaves_words refl refl refl refl)) (λ r. refl)
+
+  pub wipe_frees : {n : ℕ} → Acts p (Step.Wipe n) q → GivesNothingBack p q
+  wipe_frees {n} a =
+      leaves_pages a (freeing a refl refl refl (wipe_gives p.table.config (world_at a.makes) p.seat n)) (λ r. refl)
 
 four_or : (a b : Bool) (n : ℕ) → n ≡ 4 → (a || b || (n == 4)) ≡ true
 four_or a b n h = or_true (a || b) (n == 4) (eq-eqb n 4 h)
 
-module _ (p : PassState) (t : InTurn p) (free : IsFreeForCycle p) (at : IsAtPhase p 4) where
+module _ {p : PassState} {y : WordsState} (t : InTurn p) (turn : IsTurnAt 4 y p) where
   abbrev c : Config
   c = p.table.config
 
@@ -69,45 +72,39 @@ module _ (p : PassState) (t : InTurn p) (free : IsFreeForCycle p) (at : IsAtPhas
   abbrev f : Flight
   f = call_of p
 
-  pub wipe_allowed : (n : ℕ) → n < 64 * p.table.config.pages
-      → is_some_and (is_released_cell (now_of p).words)
-      (pointed_cell p.table.config.pages (now_of p).words.pages (address_of n)) ≡ true
-      → IsEnabledTo p (Step.Wipe n)
-  wipe_allowed n lt is =
-      may_act p (Step.Wipe n) (protocol p t free) t.holds free.decided refl (lt-ltb n (64 * c.pages) lt) refl refl
-      (ap (λ (b : Bool). b || is_in_gone_run w (now_of p).seats.holding.freed n) is)
-
-  pub used_allowed : (page v : ℕ) → page < p.table.config.pages → gives_back (now_of p).words page v ≡ true
+  pub used_allowed : (page v : ℕ) → page < y.config.pages → gives_back (now_of p).words page v ≡ true
       → IsEnabledTo p (Step.Used page v)
   used_allowed page v lt is =
-      may_act p (Step.Used page v) (protocol p t free) t.holds free.decided refl (lt-ltb page c.pages lt) refl
-      (four_or (phase_of w == 0) (phase_of w == 1) (phase_of w) at)
-      (ap (λ (n : ℕ). if n == 4 then gives_back w page v
+      may_act p (Step.Used page v) (protocol p t turn.free) t.holds turn.free.decided refl (lt-ltb page _
+      (on_table p turn.one_table lt)) refl
+      (four_or (phase_of w == 0) (phase_of w == 1) (phase_of w) turn.phase) (ap (λ
+      (n : ℕ). if n == 4 then gives_back w page v
       else (not (is_used_once (now_of p).seats.holding.placing) && takes_cell w (object_made c f.op)
-      (place_now c (now_of p) f) page v)) at ∙ is)
+      (place_now c (now_of p) f) page v)) turn.phase ∙ is)
 
-  pub head_allowed : (page : ℕ) → page < p.table.config.pages → empties (now_of p).words page 0 ≡ true
+  pub head_allowed : (page : ℕ) → page < y.config.pages → empties (now_of p).words page 0 ≡ true
       → IsEnabledTo p (Step.Head page 0)
   head_allowed page lt is =
-      may_act p (Step.Head page 0) (protocol p t free) t.holds free.decided refl (lt-ltb page c.pages lt) refl
-      (four_or (phase_of w == 0) (phase_of w == 1) (phase_of w) at)
-      (ap (λ (n : ℕ). if n == 4 then empties w page 0
+      may_act p (Step.Head page 0) (protocol p t turn.free) t.holds turn.free.decided refl (lt-ltb page _
+      (on_table p turn.one_table lt)) refl
+      (four_or (phase_of w == 0) (phase_of w == 1) (phase_of w) turn.phase) (ap (λ
+      (n : ℕ). if n == 4 then empties w page 0
       else (carves w (object_made c f.op) (place_now c (now_of p) f) page 0
-      || unmaps w (now_of p).seats.holding.freed page 0)) at ∙ is)
+      || unmaps w (now_of p).seats.holding.freed page 0)) turn.phase ∙ is)
 
-  pub quar_allowed : (page v : ℕ) → page < p.table.config.pages
-      → drops (now_of p).words page (v % 2 ^ 32) (v / 2 ^ 32) ≡ true
-      → IsEnabledTo p (Step.Quar page v)
+  pub quar_allowed : (page v : ℕ) → page < y.config.pages
+      → drops (now_of p).words page (v % 2 ^ 32) (v / 2 ^ 32) ≡ true → IsEnabledTo p (Step.Quar page v)
   quar_allowed page v lt is =
-      let none : target c.pages w f ≡ None = no_target c.pages w f free.decided in
-      may_act p (Step.Quar page v) (protocol p t free) t.holds free.decided refl (lt-ltb page c.pages lt)
+      let none : target c.pages w f ≡ None = no_target c.pages w f turn.free.decided in
+      may_act p (Step.Quar page v) (protocol p t turn.free) t.holds turn.free.decided refl (lt-ltb page _
+      (on_table p turn.one_table lt))
       (ap (λ (cell : Option Cell). not (is_run_cell w cell) || others_are_held c.callers w p.seat) none)
-      (four_or (phase_of w == 0) (phase_of w == 1) (phase_of w) at)
+      (four_or (phase_of w == 0) (phase_of w == 1) (phase_of w) turn.phase)
       (ap (λ (n : ℕ). if n == 4 then drops w page (v % 2 ^ 32) (v / 2 ^ 32)
-      else (frees w (target c.pages w f) page v || takes_snapshot w page v)) at ∙ is)
+      else (frees w (target c.pages w f) page v || takes_snapshot w page v)) turn.phase ∙ is)
 
   -- A word of no mapped allocation that isn't 0 is of a released cell.
-  pub holds_released : (n : ℕ) → IsUnmapped p n → (slice_index (now_of p).words.heap n ≡ 0 → ⊥)
+  holds_released : (n : ℕ) → IsUnmapped p n → (slice_index (now_of p).words.heap n ≡ 0 → ⊥)
       → is_some_and (is_released_cell (now_of p).words)
       (pointed_cell p.table.config.pages (now_of p).words.pages (address_of n)) ≡ true
   holds_released n unmapped some = by ((stands c p.seen t.history).all.zeros n some)
@@ -125,27 +122,35 @@ module _ (p : PassState) (t : InTurn p) (free : IsFreeForCycle p) (at : IsAtPhas
               let low = leb-true run.page (n / 64) parts.0 in
               let high = ltb-true (n / 64 - run.page) run.count parts.1 in
               let zero = (and_parts (is_run_unmapped w run) (words_are_zero w (64 * run.page) (64 * run.count))
-              (ap (λ (x : Option RunPages). is_run_gone w x) (sym is) ∙ free.gone)).1 in
+              (ap (λ (x : Option RunPages). is_run_gone w x) (sym is) ∙ turn.free.gone)).1 in
               let there : 64 * run.page + (n - 64 * run.page) ≡ n = omega arith in
               ap (λ (i : ℕ). slice_index w.heap i) (sym there)
               ∙ eqb-true _ 0 (all_below-at (64 * run.count) (n - 64 * run.page)
               (λ i. slice_index w.heap (64 * run.page + i) == 0) zero (omega arith))
 
-pub none_then : (p q r : PassState) → GivesNothingBack p q → GivesNothingBack q r → GivesNothingBack p r
-none_then p q r a b = record { frees = frees_then p q r a.frees b.frees; same = λ i. b.same i ∙ a.same i }
+  pub wipe_allowed : {n : ℕ} → IsUnmappedWord p n → (slice_index (now_of p).words.heap n ≡ 0 → ⊥)
+      → IsEnabledTo p (Step.Wipe n)
+  wipe_allowed {n} word some =
+      may_act p (Step.Wipe n) (protocol p t turn.free) t.holds turn.free.decided refl
+      (lt-ltb n (64 * c.pages) word.within) refl refl
+      (ap (λ (b : Bool). b || is_in_gone_run w (now_of p).seats.holding.freed n)
+      (holds_released n word.unmapped some))
+
+pub none_then : {p q r : PassState} → GivesNothingBack p q → GivesNothingBack q r → GivesNothingBack p r
+none_then {p} {q} {r} a b = record { frees = frees_then a.frees b.frees; same = λ i. b.same i ∙ a.same i }
 
 pub none_at_once : (p : PassState) → GivesNothingBack p p
 none_at_once p = record { frees = frees_nothing p; same = λ i. refl }
 
-pub still_unmapped_word : (p q : PassState) (n : ℕ) → Frees p q → IsUnmappedWord p n → IsUnmappedWord q n
-still_unmapped_word p q n k h = record {
+pub still_unmapped_word : {p q : PassState} {n : ℕ} → Frees p q → IsUnmappedWord p n → IsUnmappedWord q n
+still_unmapped_word {p} {q} {n} k h = record {
   within = subst (λ (c : Config). n < 64 * c.pages) (sym (same_config p q k.keeps.call.pass)) h.within;
-  unmapped = still_unmapped p q n k.keeps h.unmapped;
+  unmapped = still_unmapped n k.keeps h.unmapped;
 }
 
 -- the word is 0 after its wipe
-pub wiped : (p q : PassState) → InTurn p → InTurn q → (n : ℕ) → Acts p (Step.Wipe n) q → IsZero q n
-wiped p q t u n a =
+pub wiped : {p q : PassState} {n : ℕ} → Acts p (Step.Wipe n) q → IsZero q n
+wiped {n = n} a =
     ap (λ (x : World). slice_index x.now.words.heap n) a.world ∙ zero_here (world_at a.makes).now.words.heap n
   where
     zero_here : (xs : List ℕ) (i : ℕ) → slice_index (slice_set xs i 0) i ≡ 0
@@ -171,8 +176,7 @@ with_quar w page freed snapshot =
     record w { freed = slice_set w.freed page freed; snapshot = slice_set w.snapshot page snapshot }
 
 quar_set : (w : Words) (page freed snapshot : ℕ) → page < length w.freed → page < length w.snapshot
-    → state_in (with_quar w page freed snapshot) page
-    ≡ record (state_in w page) { freed = freed; snapshot = snapshot }
+    → state_in (with_quar w page freed snapshot) page ≡ record (state_in w page) { freed = freed; snapshot = snapshot }
 quar_set w page freed snapshot long longer =
     cc (get_or-set_same w.freed page freed 0 long, get_or-set_same w.snapshot page snapshot 0 longer)
 
@@ -192,8 +196,7 @@ module _ {p q : PassState} (s : Step) (a : Acts p s q) (page : ℕ) where
   frees_one : Frees p q → ((r : ℕ) → r ≢ page → state_in behind r ≡ state_in there r) → FreesPage page p q
   frees_one frees others = record {
     frees = frees;
-    others = λ r ne. ap (λ (w : World). state_in w.now.words r) a.world ∙ others r ne
-        ∙ state_there _ _ a.turn.steady r;
+    others = λ r ne. ap (λ (w : World). state_in w.now.words r) a.world ∙ others r ne ∙ state_there _ _ a.turn.steady r;
   }
 
   state_now : (f : PageState → PageState)
@@ -204,48 +207,44 @@ module _ {p q : PassState} (s : Step) (a : Acts p s q) (page : ℕ) where
       ∙ stored (stands p.table.config (p.seen ++ a.makes.others) (made p s q a.makes).history).known.lengths
       ∙ ap f (state_there _ _ a.turn.steady page)
 
-module _ (p q : PassState) (t : InTurn p) (u : InTurn q) (free : IsFreeForCycle p) (at : IsAtPhase p 4) where
-  module _ (page v : ℕ) (a : Acts p (Step.Used page v) q) (lt : page < p.table.config.pages) where
-    pub used_frees : FreesPage page p q
-    used_frees =
-        frees_one (Step.Used page v) a page
-        (frees_step p (Step.Used page v) q a t u refl refl free at
-        (used_gives p.table.config (world_at a.makes) p.seat page v))
-        (λ r ne. page_set_other (world_at a.makes).now.words page _ r ne)
+long : {p : PassState} {y : WordsState} {page : ℕ} → IsTurnAt 4 y p → page < y.config.pages → (n : ℕ)
+    → n ≡ p.table.config.pages → page < n
+long {p} {y} {page} turn within n is = subst (λ (n : ℕ). page < n) (sym is) (on_table p turn.one_table within)
 
-    pub used_state : page_state q page
-        ≡ record (page_state p page) { page = record { header = header_at (now_of p).words page; used = v } }
-    used_state =
-        state_now (Step.Used page v) a page
-        (λ x. record x { page = record { header = x.page.header; used = v } })
-        (λ of. page_set (world_at a.makes).now.words page _ (subst (λ (n : ℕ). page < n) (sym of.pages) lt))
+-- Those that give cells back.
+module _ {p q : PassState} {y : WordsState} (turn : IsTurnAt 4 y p) {page : ℕ} (within : page < y.config.pages) where
+  pub used_frees : {v : ℕ} → Acts p (Step.Used page v) q → FreesPage page p q
+  used_frees a =
+      frees_one _ a page (freeing turn a refl refl refl (leaves_words refl refl refl refl))
+      (λ r ne. page_set_other (world_at a.makes).now.words page _ r ne)
 
-  module _ (page : ℕ) (a : Acts p (Step.Head page 0) q) (lt : page < p.table.config.pages) where
-    pub head_frees : FreesPage page p q
-    head_frees =
-        frees_one (Step.Head page 0) a page
-        (frees_step p (Step.Head page 0) q a t u refl refl free at
-        (head_gives p.table.config (world_at a.makes) p.seat page 0))
-        (λ r ne. page_set_other (world_at a.makes).now.words page _ r ne)
+  pub used_state : {v : ℕ} → Acts p (Step.Used page v) q → page_state q page
+      ≡ record (page_state p page) { page = record { header = header_at (now_of p).words page; used = v } }
+  used_state {v} a =
+      state_now _ a page (λ x. record x { page = record { header = x.page.header; used = v } })
+      (λ of. page_set (world_at a.makes).now.words page _ (long turn within _ of.pages))
 
-    pub head_state : page_state q page
-        ≡ record (page_state p page) { page = record { header = 0; used = used_at (now_of p).words page } }
-    head_state =
-        state_now (Step.Head page 0) a page
-        (λ x. record x { page = record { header = 0; used = x.page.used } })
-        (λ of. page_set (world_at a.makes).now.words page _ (subst (λ (n : ℕ). page < n) (sym of.pages) lt))
+  pub head_frees : Acts p (Step.Head page 0) q → FreesPage page p q
+  head_frees a =
+      frees_one _ a page (freeing turn a refl refl refl (leaves_words refl refl refl refl))
+      (λ r ne. page_set_other (world_at a.makes).now.words page _ r ne)
 
-  module _ (page v : ℕ) (a : Acts p (Step.Quar page v) q) (lt : page < p.table.config.pages) where
-    pub quar_frees : FreesPage page p q
-    quar_frees =
-        frees_one (Step.Quar page v) a page
-        (frees_step p (Step.Quar page v) q a t u refl refl free at
-        (quar_gives p.table.config (world_at a.makes) p.seat page v
-        (ap is_pending_free a.own.flight ∙ free.decided)))
-        (λ r ne. quar_set_other (world_at a.makes).now.words page _ _ r ne)
+  pub head_state : Acts p (Step.Head page 0) q → page_state q page
+      ≡ record (page_state p page) { page = record { header = 0; used = used_at (now_of p).words page } }
+  head_state a =
+      state_now _ a page (λ x. record x { page = record { header = 0; used = x.page.used } })
+      (λ of. page_set (world_at a.makes).now.words page _ (long turn within _ of.pages))
 
-    pub quar_state : page_state q page ≡ record (page_state p page) { freed = v % 2 ^ 32; snapshot = v / 2 ^ 32 }
-    quar_state =
-        state_now (Step.Quar page v) a page (λ x. record x { freed = v % 2 ^ 32; snapshot = v / 2 ^ 32 })
-        (λ of. quar_set (world_at a.makes).now.words page _ _ (subst (λ (n : ℕ). page < n) (sym of.freed) lt)
-        (subst (λ (n : ℕ). page < n) (sym of.snapshot) lt))
+  pub quar_frees : {v : ℕ} → Acts p (Step.Quar page v) q → FreesPage page p q
+  quar_frees {v} a =
+      frees_one _ a page (freeing turn a refl refl refl
+      (quar_gives p.table.config (world_at a.makes) p.seat page v
+      (ap is_pending_free a.own.flight ∙ turn.free.decided)))
+      (λ r ne. quar_set_other (world_at a.makes).now.words page _ _ r ne)
+
+  pub quar_state : {v : ℕ} → Acts p (Step.Quar page v) q
+      → page_state q page ≡ record (page_state p page) { freed = v % 2 ^ 32; snapshot = v / 2 ^ 32 }
+  quar_state {v} a =
+      state_now _ a page (λ x. record x { freed = v % 2 ^ 32; snapshot = v / 2 ^ 32 })
+      (λ of. quar_set (world_at a.makes).now.words page _ _ (long turn within _ of.freed)
+      (long turn within _ of.snapshot))

@@ -11,8 +11,8 @@ use Rattle.mk_laws.proofs.Vocabulary.{placed_at, pointed_cell, refl, run_begins,
 use Rattle.mk_laws.proofs.Vocabulary.{sym, true, true≢false, typed_size, use_under, used_at, with_released, words_under}
 use Rattle.mk_laws.proofs.Vocabulary.{words_within, zero, [], ◌&&◌, ◌*◌, ◌+◌, ◌/◌, ◌||◌, ◌∙◌, ◌∷◌, ◌≡◌}
 use Rattle.mk_cycle.proofs.Vocabulary.{Acts, HoldsFewer, InTurn, IsAtPhase, IsGone, PassState, allocations_stand}
-use Rattle.mk_cycle.proofs.Vocabulary.{cells_unmarked, held_below, held_by_allocations, left_unmarked, made, now_of}
-use Rattle.mk_cycle.proofs.Vocabulary.{sum_below, sum_by, sum_by-cons, world_of}
+use Rattle.mk_cycle.proofs.Vocabulary.{cells_unmarked, held_below, held_by_allocations, made, now_of, sum_below, sum_by}
+use Rattle.mk_cycle.proofs.Vocabulary.{sum_by-cons, world_of, left_unmarked}
 use Rattle.mk_geom.specs.StorageWords.{held_by_storages}
 use Rattle.mk_core.{proofs.StandingAllocations.placed_cell, specs.Allocations.unreleased_storage}
 use Rattle.mk_laws.{proofs.ForImages.gone_is, proofs.Settled.gone_is_unmapped, proofs.Settled.unmapped_run}
@@ -41,11 +41,9 @@ held_cons c a xs = held_first c a xs a.released refl
 
 -- where each of a list holds what it does after a change and, if the change releases it, this weight
 held_then : (c : Config) (f : PlacedAllocation → PlacedAllocation) (d : PlacedAllocation)
-    (weight : PlacedAllocation → ℕ) (xs : List PlacedAllocation)
-    → ((i : ℕ) → held_part c (get_or xs i d)
+    (weight : PlacedAllocation → ℕ) (xs : List PlacedAllocation) → ((i : ℕ) → held_part c (get_or xs i d)
     ≡ held_part c (f (get_or xs i d)) + cond (is_new f (get_or xs i d)) (weight (get_or xs i d)) 0)
-    → held_by_allocations c xs
-    ≡ held_by_allocations c (map f xs) + sum_by (λ a. cond (is_new f a) (weight a) 0) xs
+    → held_by_allocations c xs ≡ held_by_allocations c (map f xs) + sum_by (λ a. cond (is_new f a) (weight a) 0) xs
 unfolding unreleased_storage
 held_then c f d weight [] parts = refl
 held_then c f d weight (a ∷ ys) parts =
@@ -70,13 +68,13 @@ if_mapped true n = refl
 if_mapped false n = refl
 
 -- A run that isn't resident is unmapped.
-not_resident : (o : Object) (x : Option Header) (used : ℕ) → ShowsPart o 0 x → is_small_object o ≡ false
+not_resident : {o : Object} {x : Option Header} (used : ℕ) → ShowsPart o 0 x → is_small_object o ≡ false
     → is_resident_page (use_under x used) ≡ false → is_unmapped_header x ≡ true
-not_resident o x used (OfBlock first small leaf) large out = absurd (true≢false (sym small ∙ large))
-not_resident o x used (OfLeafBlock first small leaf) large out = absurd (true≢false (sym small ∙ large))
-not_resident o x used (OfRun mapped first big leaf) large out = ap not out
-not_resident o x used (OfLeafRun first big leaf) large out = absurd (true≢false out)
-not_resident o x used (OfLater mapped some big) large out = ap not out
+not_resident used (OfBlock first small leaf) large out = absurd (true≢false (sym small ∙ large))
+not_resident used (OfLeafBlock first small leaf) large out = absurd (true≢false (sym small ∙ large))
+not_resident used (OfRun mapped first big leaf) large out = ap not out
+not_resident used (OfLeafRun first big leaf) large out = absurd (true≢false out)
+not_resident used (OfLater mapped some big) large out = ap not out
 
 weigh : (unmapped : Bool) (cells words : ℕ)
     → (if unmapped then 0 else cells * words) ≡ cells * (if unmapped then 0 else words)
@@ -124,15 +122,13 @@ module _ (c : Config) (es : List Event) (h : IsHistory c es) (at : phase_of (lef
       let aligned = (run_begins o a.base large st.stands.begins).1 in
       let some = (words_within o sized).0 in
       let page = page_is i u in
-      unmapped_runs_take_no_memory c es h es [] (page_of_cell i) (sym (append-nil es))
-      (record {
+      unmapped_runs_take_no_memory c es h es [] (page_of_cell i) (sym (append-nil es)) (record {
         number = i;
         unreleased = u;
         freed = unmapped;
         page = (omega (arith, aligned, page), omega (arith, aligned, page, some));
         unmapped = λ run is there. unmapped_run (left c es) (gone_is_unmapped w _ gone) run is;
-      })
-      refl
+      }) refl
 
   -- so the header of a freed one is that of an unmapped run exactly where it isn't mapped.
   unmapped_where : (i : ℕ) → (placed_at xs i).released ≡ false → (placed_at xs i).freed ≡ true
@@ -143,12 +139,11 @@ module _ (c : Config) (es : List Event) (h : IsHistory c es) (at : phase_of (lef
       elim (cases_Bool (is_small_object o)) [
         | inl small ↦
             let mapped : is_mapped c a ≡ true = grind (arith, gone_is, and-false) in
-            false_from_ne_true _ (λ un. true≢false (sym small ∙ unmapped_is_large o _ (shows_there i u) un))
+            false_from_ne_true _ (λ un. true≢false (sym small ∙ unmapped_is_large (shows_there i u) un))
             ∙ sym (ap not mapped)
         | inr large ↦
             let unmapped : is_mapped c a ≡ false = grind (arith, gone_is) in
-            not_resident o _ (used_at w (page_of_cell i)) (shows_there i u) large
-            (not_resident_there i u large unmapped)
+            not_resident (used_at w (page_of_cell i)) (shows_there i u) large (not_resident_there i u large unmapped)
             ∙ sym (ap not unmapped)
       ]
 
@@ -159,7 +154,7 @@ module _ (c : Config) (es : List Event) (h : IsHistory c es) (at : phase_of (lef
   weight_is : (i : ℕ) → is_new f (placed_at xs i) ≡ true → weight (page_of_cell i) ≡ held_part c (placed_at xs i)
   weight_is i new =
       let a : PlacedAllocation = placed_at xs i in
-      let known = (unmarked_are c es h at).quarantined i new in
+      let known = (unmarked_are h at).quarantined i new in
       let st = allocations_stand c es h i known.0 in
       ap (λ n. if is_unmapped_header (header_in w (page_of_cell i)) then 0 else n)
       (cells_begin c w a h.within_limits st.stands st.headers).1
@@ -168,26 +163,23 @@ module _ (c : Config) (es : List Event) (h : IsHistory c es) (at : phase_of (lef
 
   pub held_told : held_by_allocations c xs ≡ held_by_allocations c (map f xs) + held_below w c.pages
   held_told =
-      let split = held_then c f never_granted (λ a. weight (cell_of_allocation c a).page) xs
-      (λ i.
+      let split = held_then c f never_granted (λ a. weight (cell_of_allocation c a).page) xs (λ i.
       let a : PlacedAllocation = placed_at xs i in
       held_split a.released (is_some_and (is_left_unmarked w) (pointed_cell c.pages w.pages (address_of a.base)))
       (not (a.freed && is_large (kinds_of c.types a.ty))) (storage_words c a) (weight (page_of_cell i))
       (λ new. weight_is i new)) in
-      let weighed = cells_weigh_as_much c es h (quiet c es h at) (is_new f) (left_unmarked w) (unmarked_are c es h at)
-      weight in
+      let weighed = cells_weigh_as_much c es h (quiet h at) (is_new f) (left_unmarked w) (unmarked_are h at) weight in
       let same : held_below w c.pages ≡ sum_below c.pages (λ p. cells_unmarked w p * weight p) =
       grind (arith, sum_same, weight, weigh) in
       omega (arith, split, weighed, same)
 
 -- Passes that know the same allocations know the same words to be held.
 pub held_alike : (p q : PassState) → q.table.config ≡ p.table.config
-    → (world_of q).allocations ≡ (world_of p).allocations
-    → held_by_allocations q.table.config (world_of q).allocations
+    → (world_of q).allocations ≡ (world_of p).allocations → held_by_allocations q.table.config (world_of q).allocations
     ≡ held_by_allocations p.table.config (world_of p).allocations
 held_alike p q table same = grind arith
 
 -- A pass that made the `release` knows it so.
-module _ (d q : PassState) (t : InTurn d) (u : InTurn q) (at : IsAtPhase d 3) (a : Acts d Step.Release q) where
+module _ {d q : PassState} (t : InTurn d) (u : InTurn q) (at : IsAtPhase d 3) (a : Acts d Step.Release q) where
   pub release_holds : IsGone d → HoldsFewer d q (held_below (now_of q).words d.table.config.pages)
   release_holds gone = grind (arith, held_told, made, phase_there, gone_there, same_before)

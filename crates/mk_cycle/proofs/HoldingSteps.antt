@@ -5,15 +5,15 @@ use Rattle.mk_laws.proofs.Vocabulary.{is_held, is_number_of, length, lt-ltb, ne_
 use Rattle.mk_laws.proofs.Vocabulary.{set_past, slice_index, slice_set, sym, true, ◌<◌, ◌==◌, ◌||◌, ◌∙◌, ◌≡◌}
 use Rattle.mk_cycle.proofs.Vocabulary.{Acts, HoldsGates, InTurn, IsEnabledTo, IsFreeForCycle, PassState, WordsState}
 use Rattle.mk_cycle.proofs.Vocabulary.{does_nothing, does_step, does_then, holds_gates, now_of, world_at}
-use Rattle.mk_cycle.proofs.KeptInParts.{free_then, keeps_at_once, keeps_then}
-use Rattle.mk_cycle.proofs.{Allowed.protocol, BeginSteps.all_from, CleaningSteps.calm_keeps, MayAct.may_act}
+use Rattle.mk_cycle.proofs.{Allowed.in_turn_before, Allowed.protocol, BeginSteps.all_from, CleaningSteps.calm_keeps}
+use Rattle.mk_cycle.proofs.{KeptInParts.free_then, KeptInParts.keeps_at_once, KeptInParts.keeps_then, MayAct.may_act}
 use Rattle.mk_cycle.specs.{Holding.IsHeldOrOwn, TurnKeeps.unchanged}
 
 pub holds_nothing : (p : PassState) → HoldsGates p p
 holds_nothing p = record { does = does_nothing holds_gates p; keeps = keeps_at_once unchanged p; held = λ j h. h }
 
-pub holds_then : (p q r : PassState) → HoldsGates p q → HoldsGates q r → HoldsGates p r
-holds_then p q r a b = record {
+pub holds_then : {p q r : PassState} → HoldsGates p q → HoldsGates q r → HoldsGates p r
+holds_then {p} {q} {r} a b = record {
   does = does_then holds_gates p q r a.does b.does;
   keeps = keeps_then unchanged p q r a.keeps b.keeps;
   held = λ j h. b.held j (a.held j h);
@@ -25,12 +25,11 @@ held_free p q k free = free_then p q k.keeps.call free
 pub held_table : (p q : PassState) (w : WordsState) → HoldsGates p q → p.table ≡ w → q.table ≡ w
 held_table p q w k is = ap (λ (x : PassState). x.table) k.keeps.call.pass ∙ is
 
-pub held_seat : (p q : PassState) → HoldsGates p q → q.seat ≡ p.seat
-held_seat p q k = ap (λ (x : PassState). x.seat) k.keeps.call.pass
+pub held_seat : {p q : PassState} → HoldsGates p q → q.seat ≡ p.seat
+held_seat k = ap (λ (x : PassState). x.seat) k.keeps.call.pass
 
 pub hold_allowed : (p : PassState) → InTurn p → IsFreeForCycle p → (j : ℕ) → j < p.table.config.callers
-    → is_number_of p.seat j ≡ false
-    → is_held (now_of p).words j ≡ false → IsEnabledTo p (Step.Hold j)
+    → is_number_of p.seat j ≡ false → is_held (now_of p).words j ≡ false → IsEnabledTo p (Step.Hold j)
 hold_allowed p t free j lt other none =
     may_act p (Step.Hold j) (protocol p t free) t.holds free.decided refl
     (and_from _ (not _) (lt-ltb j _ lt) (ap not other)) (ap not none) refl refl
@@ -51,27 +50,26 @@ stays_held gs i j two = elim (cases_eq j i) [
   ]
 ]
 
-module _ (p q : PassState) (t : InTurn p) (free : IsFreeForCycle p) (u : InTurn q) where
-  pub look_holds : (j : ℕ) → Acts p (Step.Look (Word.Gate j)) q → HoldsGates p q
-  look_holds j a = record {
-    does = does_step holds_gates p q (Step.Look (Word.Gate j)) a.makes refl;
-    keeps = calm_keeps p (Step.Look (Word.Gate j)) q a t u.history refl free unchanged refl;
-    held = λ i h. eq-eqb _ 2 (ap (λ (w : World). slice_index w.now.words.gates i) a.world
-        ∙ a.turn.held_gates i (eqb-true _ 2 h));
-  }
+pub look_holds : {p q : PassState} {j : ℕ} → IsFreeForCycle p → Acts p (Step.Look (Word.Gate j)) q → HoldsGates p q
+look_holds {p} {q} {j} free a = record {
+  does = does_step holds_gates p q (Step.Look (Word.Gate j)) a.makes refl;
+  keeps = calm_keeps p _ q a (in_turn_before a) a.makes.pass.history refl free unchanged refl;
+  held = λ i h. eq-eqb _ 2 (ap (λ (w : World). slice_index w.now.words.gates i) a.world
+      ∙ a.turn.held_gates i (eqb-true _ 2 h));
+}
 
-  pub hold_holds : (j : ℕ) → Acts p (Step.Hold j) q → HoldsGates p q
-  hold_holds j a = record {
-    does = does_step holds_gates p q (Step.Hold j) a.makes refl;
-    keeps = calm_keeps p (Step.Hold j) q a t u.history refl free unchanged refl;
-    held = λ i h. eq-eqb _ 2
-        (ap (λ (w : World). slice_index w.now.words.gates i) a.world
-        ∙ stays_held (world_at a.makes).now.words.gates j i (a.turn.held_gates i (eqb-true _ 2 h)));
-  }
+pub hold_holds : (p q : PassState) (t : InTurn p) (free : IsFreeForCycle p) (u : InTurn q) (j : ℕ)
+    → Acts p (Step.Hold j) q → HoldsGates p q
+hold_holds p q t free u j a = record {
+  does = does_step holds_gates p q (Step.Hold j) a.makes refl;
+  keeps = calm_keeps p (Step.Hold j) q a t u.history refl free unchanged refl;
+  held = λ i h. eq-eqb _ 2 (ap (λ (w : World). slice_index w.now.words.gates i) a.world
+      ∙ stays_held (world_at a.makes).now.words.gates j i (a.turn.held_gates i (eqb-true _ 2 h)));
+}
 
 pub all_held_below : (p : PassState) (callers : ℕ) → ((j : ℕ) → j < callers → IsHeldOrOwn p j)
     → others_are_held callers (now_of p).words p.seat ≡ true
 all_held_below p callers h = all_from callers (λ j. is_number_of p.seat j || is_held (now_of p).words j) h
 
-pub still_held_or_own : (p q : PassState) (j : ℕ) → HoldsGates p q → IsHeldOrOwn p j → IsHeldOrOwn q j
-still_held_or_own p q j k h = grind (arith, held_seat)
+pub still_held_or_own : {p q : PassState} (j : ℕ) → HoldsGates p q → IsHeldOrOwn p j → IsHeldOrOwn q j
+still_held_or_own j k h = grind (arith, held_seat)

@@ -24,15 +24,12 @@ in_parts (x ∷ xs) ys [] e behind h =
 in_parts (x ∷ xs) ys (b ∷ bs) e behind h =
     let head : x ≡ b = cc in
     let tail : xs ++ ys ≡ bs ++ e ∷ behind = cc in
-    ⊎_elim
-    (λ (t : InFirst xs ys bs e behind). inl (record {
+    ⊎_elim (λ (t : InFirst xs ys bs e behind). inl (record {
       rest = t.rest;
       is = ap (λ (y : Event). y ∷ xs) head ∙ ap (λ (l : List Event). b ∷ l) t.is;
       then = t.then;
-    }))
-    (λ (t : InSecond xs ys bs e behind). inr (record {
+    })) (λ (t : InSecond xs ys bs e behind). inr (record {
       rest = t.rest;
       first = ap (λ (y : Event). y ∷ bs) (sym head) ∙ ap (λ (l : List Event). x ∷ l) t.first;
       is = t.is;
-    }))
-    (in_parts xs ys bs e behind tail)
+    })) (in_parts xs ys bs e behind tail)

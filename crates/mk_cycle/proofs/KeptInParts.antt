@@ -5,8 +5,8 @@ use Rattle.mk_laws.proofs.Vocabulary.{◌≢◌}
 use Rattle.mk_cycle.proofs.Vocabulary.{Acts, Done, IsFreeForCycle, KeepsCall, KeepsGates, LeavesTurn, PassState}
 use Rattle.mk_cycle.proofs.Vocabulary.{event_of, is_pending_free, world_at}
 
-pub calls_then : (p q r : PassState) → KeepsCall p q → KeepsCall q r → KeepsCall p r
-calls_then p q r a b = record {
+pub calls_then : {p q r : PassState} → KeepsCall p q → KeepsCall q r → KeepsCall p r
+calls_then {r = r} a b = record {
   pass = b.pass ∙ ap (λ (x : PassState). record x { seen = r.seen }) a.pass;
   call = b.call ∙ a.call;
   done = b.done ∙ a.done;
@@ -26,7 +26,7 @@ keeps_at_once view p = record {
 pub keeps_then : (view : Steady → Steady) (p q r : PassState) → LeavesTurn view p q → LeavesTurn view q r
     → LeavesTurn view p r
 keeps_then view p q r a b = record {
-  call = calls_then p q r a.call b.call;
+  call = calls_then a.call b.call;
   steady = b.steady ∙ a.steady;
   counts = record {
     ends = b.counts.ends ∙ a.counts.ends;
@@ -53,8 +53,7 @@ pub gates_behind : (p : PassState) (s : Step) (q : PassState) (a : Acts p s q)
     → (world_behind p.table.config (world_at a.makes) (event_of p s)).now.words.gates
     ≡ (world_at a.makes).now.words.gates → KeepsGates p q
 gates_behind p s q a same j lt =
-    ap (λ (w : World). is_held w.now.words j) a.world
-    ∙ ap (λ gs. slice_index gs j == 2) same
+    ap (λ (w : World). is_held w.now.words j) a.world ∙ ap (λ gs. slice_index gs j == 2) same
     ∙ held_so _ _ (a.turn.held_gates j) (a.turn.other_gates j)
 
 pub free_then : (p q : PassState) → KeepsCall p q → IsFreeForCycle p → IsFreeForCycle q

@@ -46,13 +46,7 @@ is_turn _ h = cc
 
 no_markers : (c : Config) (x : MarkerState) (s : Step) → is_of_any_holder s ≡ true → marker_may c x s ≡ true
 no_markers c x Step.Attend h = cc
-no_markers c x Step.Quit h = cc
-no_markers c x (Step.Mlook w) h = cc
-no_markers c x (Step.Claim p k) h = cc
-no_markers c x Step.Mload h = cc
-no_markers c x Step.Mmark h = cc
-no_markers c x Step.Mblack h = cc
-no_markers c x _ h = refl
+no_markers c x _ h = cc
 
 opens : (c : Config) (m : Moment) (seat : Seat) → Holds c m seat → is_open_to seat Group.Turn ≡ true
 opens c m (Caller k) h = refl
@@ -69,13 +63,12 @@ host_next has (Step.Take o) is h = cc
 host_next has Step.Over is h = refl
 host_next has s is h = ap (λ (b : Bool). b && is_of_any_holder s) is ∙ h
 
-orders : (c : Config) (m : Moment) (seat : Seat) (s : Step) → Protocol c m → Holds c m seat
-    → is_pending_free (flight_of m seat) ≡ false
-    → is_of_any_holder s ≡ true → is_in_order c m seat s ≡ true
-orders c m (Caller k) s p holds pending h =
+orders : {c : Config} {m : Moment} (seat : Seat) (s : Step) → Protocol c m → Holds c m seat
+    → is_pending_free (flight_of m seat) ≡ false → is_of_any_holder s ≡ true → is_in_order c m seat s ≡ true
+orders {m} (Caller k) s p holds pending h =
     comes (flight_of m (Caller k)).stage (flight_of m (Caller k)).op s (p.stage k holds.0) holds.1 pending h
-orders c m (Marker k) s p holds pending h = absurd holds
-orders c m Host s p holds pending h = host_next (host_has_turn c m) s (eq-eqb m.words.turn (1 + c.callers) holds) h
+orders (Marker k) s p holds pending h = absurd holds
+orders {c} {m} Host s p holds pending h = host_next (host_has_turn c m) s (eq-eqb m.words.turn (1 + c.callers) holds) h
 
 pub may_act : (p : PassState) (s : Step) → Protocol p.table.config (now_of p) → Holds p.table.config (now_of p) p.seat
     → is_pending_free (call_of p) ≡ false → is_of_any_holder s ≡ true
@@ -84,11 +77,10 @@ pub may_act : (p : PassState) (s : Step) → Protocol p.table.config (now_of p) 
     → has_phase (phase_of (now_of p).words) s ≡ true → holder_may p.table.config (now_of p) (call_of p) s ≡ true
     → IsEnabledTo p s
 may_act p s protocol holds pending any range gates phase holder =
-    meets_enabled p.table.config (now_of p) (event_of p s)
-    (record {
+    meets_enabled p.table.config (now_of p) (event_of p s) (record {
       seat = exists p.table.config (now_of p) p.seat holds;
       kind = cc (is_turn (group_of s) (any_is s any), opens p.table.config (now_of p) p.seat holds);
-      order = orders p.table.config (now_of p) p.seat s protocol holds pending any;
+      order = orders p.seat s protocol holds pending any;
       range = range;
       gates = gates;
       phase = phase;
@@ -98,11 +90,9 @@ may_act p s protocol holds pending any range gates phase holder =
 
 -- A step that decides nothing is admitted.
 pub calm_admitted : (p : PassState) (s : Step) → IsHistory p.table.config p.seen → is_calm s ≡ true
-    → is_pending_free (call_of p) ≡ false
-    → IsAdmittedTo p s
+    → is_pending_free (call_of p) ≡ false → IsAdmittedTo p s
 calm_admitted p s h kind free =
     let c : Config = p.table.config in
     subst (λ (xs : List Decided). AreAdmitted c.globals (never_first c) (asked xs))
     (sym (no_more_calls c p.seen (event_of p s)
-    (undecided c (now_of p) p.seat s (λ n. calm_still c (now_of p) (call_of p) n s kind free))))
-    h.admitted
+    (undecided c (now_of p) p.seat s (λ n. calm_still c (now_of p) (call_of p) n s kind free)))) h.admitted

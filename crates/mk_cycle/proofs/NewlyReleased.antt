@@ -83,8 +83,7 @@ module _ (f : PlacedAllocation → PlacedAllocation) where
   -- What passes a test stands where the elements that pass it are left, and no ys come to pass it.
   pub left_filtered : (t : PlacedAllocation → Bool) (d : PlacedAllocation) (xs : List PlacedAllocation)
       → ((i : ℕ) → t (get_or xs i d) ≡ true → f (get_or xs i d) ≡ get_or xs i d)
-      → ((i : ℕ) → t (get_or xs i d) ≡ false → t (f (get_or xs i d)) ≡ false)
-      → filter t (map f xs) ≡ filter t xs
+      → ((i : ℕ) → t (get_or xs i d) ≡ false → t (f (get_or xs i d)) ≡ false) → filter t (map f xs) ≡ filter t xs
   left_filtered t d [] left none = refl
   left_filtered t d (a ∷ ys) left none =
       by (t a) refl (left_filtered t d ys (λ i. left (suc i)) (λ i. none (suc i)))

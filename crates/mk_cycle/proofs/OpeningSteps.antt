@@ -19,16 +19,15 @@ open_is_holders (Step.Open j) h = refl
 open_is_holders _ h = cc
 
 -- Only the turn's holder opens a gate.
-opens_itself : (p : PassState) (e : Event) → InTurn p → IsHistory p.table.config (p.seen ++ e ∷ [])
+opens_itself : {p : PassState} (e : Event) → InTurn p → IsHistory p.table.config (p.seen ++ e ∷ [])
     → is_open e.step ≡ true → e.seat ≡ p.seat
-opens_itself p e t h is =
+opens_itself {p} e t h is =
     let c : Config = p.table.config in
     let last = comes_last c p.seen e h in
     let orderly = (stands c p.seen t.history).known.now.orderly in
     same_holder c (view_of (now_of p)) e.seat p.seat orderly
     (acts_as_holder c (now_of p) e.seat e.step (actor_of c (now_of p) e.seat e.step orderly last.meets)
-    (open_is_holders e.step is))
-    (holds_turn c (now_of p) p.seat orderly t.holds)
+    (open_is_holders e.step is)) (holds_turn c (now_of p) p.seat orderly t.holds)
 
 -- one event further
 record Further (p q : PassState) : Type 0 where
@@ -38,10 +37,10 @@ record Further (p q : PassState) : Type 0 where
 behind : PassState → List Event → PassState
 behind p es = record p { seen = p.seen ++ es }
 
-by_another : (p : PassState) (e : Event) → InTurn p → IsAtPhase p 4 → IsHistory p.table.config (p.seen ++ e ∷ [])
+by_another : {p : PassState} (e : Event) → InTurn p → IsAtPhase p 4 → IsHistory p.table.config (p.seen ++ e ∷ [])
     → is_one_of p.seats e.seat ≡ false → Further p (behind p (e ∷ []))
 unfolding behind AreOfOthers
-by_another p e t at h other =
+by_another {p} e t at h other =
     let c : Config = p.table.config in
     let others : AreOfOthers p.seats (e ∷ []) = (other, tt) in
     let before = earlier_part_is_history c p.seen (e ∷ []) h in
@@ -49,17 +48,16 @@ by_another p e t at h other =
     (others_own p.seats p.seat (e ∷ []) t.own others) in
     record {
       none = record {
-        frees = others_free p (e ∷ []) t others h at;
+        frees = others_free (e ∷ []) t others h at;
         same = λ r. state_there _ _ (frame.turn t.holds).0.steady r;
       };
       turn = record { own = t.own; holds = (frame.own.holding t.holds).0; history = h };
     }
 
-by_itself : (p : PassState) (j : ℕ) → InTurn p → IsFreeForCycle p → IsAtPhase p 4
-    → IsHistory p.table.config (p.seen ++ event_of p (Step.Open j) ∷ [])
-    → Further p (behind p (event_of p (Step.Open j) ∷ []))
+by_itself : {p : PassState} (j : ℕ) → InTurn p → IsFreeForCycle p → IsAtPhase p 4 → IsHistory p.table.config
+    (p.seen ++ event_of p (Step.Open j) ∷ []) → Further p (behind p (event_of p (Step.Open j) ∷ []))
 unfolding behind AreOfOthers
-by_itself p j t free at h =
+by_itself {p} j t free at h =
     let q : PassState = record p { seen = p.seen ++ event_of p (Step.Open j) ∷ [] } in
     let makes : Makes p (Step.Open j) q =
     record {
@@ -74,31 +72,26 @@ by_itself p j t free at h =
     let next : InTurn q = record { own = t.own; holds = turn.holds; history = h } in
     record {
       none = record {
-        frees = frees_step p (Step.Open j) q a t next refl refl free at
-            (open_gives p.table.config (world_at a.makes) p.seat j);
-        same = λ r.
-            ap (λ (w : World). record {
-              page = page_of w.now.words r;
-              freed = slice_index w.now.words.freed r;
-              snapshot = slice_index w.now.words.snapshot r;
-            }) a.world
-            ∙ state_there _ _ a.turn.steady r;
+        frees = frees_step a t next refl refl free at (open_gives p.table.config (world_at a.makes) p.seat j);
+        same = λ r. ap (λ (w : World). record {
+          page = page_of w.now.words r;
+          freed = slice_index w.now.words.freed r;
+          snapshot = slice_index w.now.words.snapshot r;
+        }) a.world ∙ state_there _ _ a.turn.steady r;
       };
       turn = next;
     }
 
-opens_one : (p : PassState) (e : Event) → InTurn p → IsFreeForCycle p → IsAtPhase p 4
-    → IsHistory p.table.config (p.seen ++ e ∷ [])
-    → is_open e.step ≡ true → Further p (behind p (e ∷ []))
-opens_one p e t free at h is = by e.step refl is (opens_itself p e t h is)
+opens_one : {p : PassState} (e : Event) → InTurn p → IsFreeForCycle p → IsAtPhase p 4
+    → IsHistory p.table.config (p.seen ++ e ∷ []) → is_open e.step ≡ true → Further p (behind p (e ∷ []))
+opens_one {p} e t free at h is = by e.step refl is (opens_itself e t h is)
   where
     by : (x : Step) → e.step ≡ x → is_open x ≡ true → e.seat ≡ p.seat → Further p (behind p (e ∷ []))
     by (Step.Open j) at_step kind same =
-        let it : event_of p (Step.Open j) ≡ e =
-        ap (λ (s : Seat). record { seat = s; step = Step.Open j }) (sym same)
+        let it : event_of p (Step.Open j) ≡ e = ap (λ (s : Seat). record { seat = s; step = Step.Open j }) (sym same)
         ∙ ap (λ (x : Step). record { seat = e.seat; step = x }) (sym at_step) in
         subst (λ (f : Event). Further p (behind p (f ∷ []))) it
-        (by_itself p j t free at (subst (λ (f : Event). IsHistory p.table.config (p.seen ++ f ∷ [])) (sym it) h))
+        (by_itself j t free at (subst (λ (f : Event). IsHistory p.table.config (p.seen ++ f ∷ [])) (sym it) h))
     by _ at_step kind same = cc
 
 opens_all : (more : List Event) (p : PassState) → InTurn p → IsFreeForCycle p → IsAtPhase p 4 → OnlyOpen p.seats more
@@ -112,24 +105,24 @@ opens_all (e ∷ es) p t free at only h =
     let whole : IsHistory c ((p.seen ++ e ∷ []) ++ es) = subst (λ (xs : List Event). IsHistory c xs) (sym split) h in
     let first : IsHistory c (p.seen ++ e ∷ []) = earlier_part_is_history c (p.seen ++ e ∷ []) es whole in
     let one : Further p (record p { seen = p.seen ++ e ∷ [] }) = elim only.0 [
-      | inl other ↦ by_another p e t at first other
-      | inr opens ↦ opens_one p e t free at first opens
+      | inl other ↦ by_another e t at first other
+      | inr opens ↦ opens_one e t free at first opens
     ] in
-    let rest = opens_all es (record p { seen = p.seen ++ e ∷ [] }) one.turn (freed_free p _ one.none.frees free)
-    (freed_phase p _ one.none.frees at) only.1 whole in
-    subst (λ (xs : List Event). GivesNothingBack p (record p { seen = xs })) split (none_then p _ _ one.none rest)
+    let rest = opens_all es (record p { seen = p.seen ++ e ∷ [] }) one.turn (freed_free one.none.frees free)
+    (freed_phase one.none.frees at) only.1 whole in
+    subst (λ (xs : List Event). GivesNothingBack p (record p { seen = xs })) split (none_then one.none rest)
 
-pub opens_frees : (p q : PassState) → InTurn p → IsFreeForCycle p → IsAtPhase p 4 → Opens p q
+pub opens_frees : {p q : PassState} → InTurn p → IsFreeForCycle p → IsAtPhase p 4 → Opens p q
     → IsHistory q.table.config q.seen → GivesNothingBack p q
 unfolding behind
-opens_frees p q t free at o h =
+opens_frees {p} t free at o h =
     subst (λ (x : PassState). GivesNothingBack p x) (sym o.is)
     (opens_all o.more p t free at o.only (subst (λ (x : PassState). IsHistory x.table.config x.seen) o.is h))
 
 -- While all is stopped and the run that the call freed is gone, each gate may be opened.
-pub others_may_open : (p : PassState) → InTurn p → IsFreeForCycle p → IsAtPhase p 4
+pub others_may_open : {p : PassState} → InTurn p → IsFreeForCycle p → IsAtPhase p 4
     → others_are_held p.table.config.callers (now_of p).words p.seat ≡ true → OthersMayOpen p 0
-others_may_open p t free at held j le lt other =
+others_may_open {p} t free at held j le lt other =
     let w : Words = (now_of p).words in
     let all = all_below-at p.table.config.callers j (λ i. is_number_of p.seat i || is_held w i) held lt in
     may_act p (Step.Open j) (protocol p t free) t.holds free.decided refl

@@ -76,8 +76,7 @@ module _ (p : PassState) (s : Step) (q : PassState) (a : Acts p s q) (own : Has 
       let behind : is_run_gone (moment_behind c m (event_of p s)).words m.seats.holding.freed ≡ true =
       gone_on m.seats.holding.freed refl here in
       ap (λ (w : World). is_run_gone w.now.words w.now.seats.holding.freed) a.world
-      ∙ ap (λ (x : Option RunPages). is_run_gone (moment_behind c m (event_of p s)).words x) (k _)
-      ∙ behind
+      ∙ ap (λ (x : Option RunPages). is_run_gone (moment_behind c m (event_of p s)).words x) (k _) ∙ behind
     where
       gone_on : (freed : Option RunPages) → m.seats.holding.freed ≡ freed
           → is_run_gone m.words m.seats.holding.freed ≡ true
@@ -90,8 +89,7 @@ module _ (p : PassState) (s : Step) (q : PassState) (a : Acts p s q) (own : Has 
 
   pub keeps_call : ((n : ℕ) → progress c m (flight_of m p.seat) n s ≡ still (flight_of m p.seat))
       → ((n : ℕ) → done_in (holding_behind c m p.seat (flight_of m p.seat) n s m.seats.holding)
-      ≡ done_in m.seats.holding)
-      → is_heap_store s ≡ false → KeepsCall p q
+      ≡ done_in m.seats.holding) → is_heap_store s ≡ false → KeepsCall p q
   keeps_call st k none = grind (arith, same_pass, same_call, same_done, still_gone)
 
   seen_is : q.seen ≡ (p.seen ++ a.makes.others) ++ event_of p s ∷ []

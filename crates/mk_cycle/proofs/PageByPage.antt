@@ -1,10 +1,9 @@
 -- Pages are settled one by one, and pages without freed cells are passed over: what is known of those before, and of
 -- those still to come, goes on.
 use Rattle.std.proofs.Common.{le-ltb, ltb-false}
-use Rattle.mk_laws.proofs.Vocabulary.{Block, Free, Header, Later, LeafBlock, LeafRun, None, Option, Run, Some, Words, ℕ}
-use Rattle.mk_laws.proofs.Vocabulary.{and_from, ap, arith, cases_lt, eq-eqb, false, header_at, header_in, header_of}
-use Rattle.mk_laws.proofs.Vocabulary.{inl, inr, lt-ltb, nat_lt, not, or_parts, refl, run_count, slice_index, sym}
-use Rattle.mk_laws.proofs.Vocabulary.{use_under, used_at, ◌+◌, ◌<◌, ◌∙◌, ◌≡◌, ◌≤◌}
+use Rattle.mk_laws.proofs.Vocabulary.{Free, Header, Option, Some, Words, ℕ, and_from, ap, arith, cases_lt, eq-eqb}
+use Rattle.mk_laws.proofs.Vocabulary.{false, header_at, header_in, header_of, inl, inr, lt-ltb, nat_lt, not, or_parts}
+use Rattle.mk_laws.proofs.Vocabulary.{refl, run_count, slice_index, sym, use_under, used_at, ◌+◌, ◌<◌, ◌∙◌, ◌≡◌, ◌≤◌}
 use Rattle.mk_cycle.proofs.Vocabulary.{Frees, FreesPage, HasFreeCells, InTurn, IsOccupied, IsSettledPage, PassState}
 use Rattle.mk_cycle.proofs.Vocabulary.{Released, SamePage, below_more, held_below, held_unmarked, now_of}
 use Rattle.mk_cycle.proofs.Vocabulary.{released_below, released_on}
@@ -28,8 +27,7 @@ pub record AreSettledBelow (p q : PassState) (pages n end : ℕ) (all : Released
   pub counted : all ≡ released_below (now_of p).words n
   pub holds : held ≡ held_below (now_of p).words n
 
-pub settled_none : (p : PassState) (pages : ℕ) → ((r : ℕ) → r < pages → HasFreeCells p r)
-    → ((r : ℕ) → IsOccupied p r)
+pub settled_none : (p : PassState) (pages : ℕ) → ((r : ℕ) → r < pages → HasFreeCells p r) → ((r : ℕ) → IsOccupied p r)
     → AreSettledBelow p p pages 0 0 (record { count = 0; words = 0; kept = 0 }) 0
 settled_none p pages cells occupied = record {
   frees = frees_nothing p;
@@ -42,13 +40,13 @@ settled_none p pages cells occupied = record {
 }
 
 -- one page more
-module _ (p q r : PassState) (n pages : ℕ) (page : FreesPage n q r) where
+module _ (p : PassState) {q r : PassState} {n : ℕ} (pages : ℕ) (page : FreesPage n q r) where
   settled_on : ((s : ℕ) → s < n → IsSettledPage q s) → IsSettledPage r n → (s : ℕ) → s < n + 1 → IsSettledPage r s
-  settled_on before here = below_more _ _ (λ s lt. still_settled q r n s page lt (before s lt)) here
+  settled_on before here = below_more _ _ (λ s lt. still_settled s page lt (before s lt)) here
 
   cells_on : ((s : ℕ) → n ≤ s → s < pages → HasFreeCells q s) → (s : ℕ) → n + 1 ≤ s → s < pages → HasFreeCells r s
   cells_on before s le lt =
-      free_cells_stay q r s page.frees (page.others s (λ e. absurd (omega (arith, e, le))))
+      free_cells_stay s page.frees (page.others s (λ e. absurd (omega (arith, e, le))))
       (before s (omega (arith, le)) lt)
 
   same_on : ((s : ℕ) → n ≤ s → SamePage p q s) → (s : ℕ) → n + 1 ≤ s → SamePage p r s
@@ -63,18 +61,15 @@ module _ (p q r : PassState) (n pages : ℕ) (page : FreesPage n q r) where
       let was = before s (omega (arith, after)) (omega (arith, le, far)) few in
       let lt : n < s = omega (arith, after) in
       same_occupied q r s (page.others s (λ e. absurd (omega (arith, e, after))))
-      (page.others _ (head_elsewhere q t n s lt (past s far lt few) was)) ∙ was
+      (page.others _ (head_elsewhere t n s lt (past s far lt few) was)) ∙ was
 
-  pub settled_more : InTurn q → (end now : ℕ) → end ≤ now
-      → ((s : ℕ) → now ≤ s → n < s → s < pages → n + run_count (header_in (now_of q).words n) ≤ s)
-      → (all here : Released) (held more : ℕ) → AreSettledBelow p q pages n end all held
-      → IsSettledPage r n → here ≡ released_on (now_of q).words n
-      → more ≡ held_unmarked (now_of q).words n
-      → AreSettledBelow p r pages (n + 1) now
-      (record { count = all.count + here.count; words = all.words + here.words; kept = all.kept + here.kept })
-      (held + more)
-  settled_more t end now le past all here held more before settled counted is_held = record {
-    frees = frees_then p q r before.frees page.frees;
+  pub settled_more : InTurn q → {end : ℕ} (now : ℕ) → end ≤ now → ((s : ℕ) → now ≤ s → n < s → s < pages
+      → n + run_count (header_in (now_of q).words n) ≤ s) → {all : Released} (here : Released) {held : ℕ} (more : ℕ)
+      → AreSettledBelow p q pages n end all held → IsSettledPage r n → here ≡ released_on (now_of q).words n
+      → more ≡ held_unmarked (now_of q).words n → AreSettledBelow p r pages (n + 1) now (record
+      { count = all.count + here.count; words = all.words + here.words; kept = all.kept + here.kept }) (held + more)
+  settled_more t {end = end} now le past {all = all} here {held = held} more before settled counted is_held = record {
+    frees = frees_then before.frees page.frees;
     settled = settled_on before.settled settled;
     cells = cells_on before.cells;
     same = same_on before.same;
@@ -87,15 +82,9 @@ module _ (p q r : PassState) (n pages : ℕ) (page : FreesPage n q r) where
 
 -- A page that isn't in use has no header.
 
-free_header : (h : ℕ) (x : Option Header) (u : ℕ) → header_of h ≡ x → not (is_free_page (use_under x u)) ≡ false
-    → h ≡ 0
+free_header : (h : ℕ) (x : Option Header) (u : ℕ) → header_of h ≡ x → not (is_free_page (use_under x u)) ≡ false → h ≡ 0
 free_header h (Some Free) u is free = sym (word_of-header_of h Free is).1
-free_header h None u is free = cc
-free_header h (Some (Block class)) u is free = cc
-free_header h (Some (LeafBlock class)) u is free = cc
-free_header h (Some (Run n m)) u is free = cc
-free_header h (Some (LeafRun n)) u is free = cc
-free_header h (Some (Later d m)) u is free = cc
+free_header h _ u is free = cc
 
 pub no_header : (w : Words) (n : ℕ) → is_in_use w.pages n ≡ false → header_at w n ≡ 0
 no_header w n free = free_header (header_at w n) (header_of (header_at w n)) (used_at w n) refl free
@@ -104,9 +93,9 @@ not_below : (r end : ℕ) → nat_lt r end ≡ false → end ≤ r
 not_below r end h = ltb-false r end h
 
 -- A page without freed cells that is occupied is settled, and nothing was released on it.
-module _ (q : PassState) (t : InTurn q) (n : ℕ) (bare : has_freed_cells (now_of q).words.freed n ≡ false) where
+module _ {q : PassState} (t : InTurn q) (n : ℕ) (bare : has_freed_cells (now_of q).words.freed n ≡ false) where
   snapshot_none : slice_index (now_of q).words.snapshot n ≡ 0
-  snapshot_none = no_snapshot q t n (no_cells (slice_index (now_of q).words.freed n) bare)
+  snapshot_none = no_snapshot t n (no_cells (slice_index (now_of q).words.freed n) bare)
 
   bare_is_settled : IsOccupied q n → IsSettledPage q n
   bare_is_settled occupied = grind (arith, and_from, eq-eqb, none_left, snapshot_none)
@@ -116,7 +105,7 @@ module _ (q : PassState) (t : InTurn q) (n : ℕ) (bare : has_freed_cells (now_o
   nothing_released p same = grind (arith, nothing_on, snapshot_none)
 
 -- Pages that aren't unsettled are passed over.
-module _ (p q : PassState) (t : InTurn q) (n m end pages : ℕ) (le : n ≤ m) (few : m ≤ pages)
+module _ (p : PassState) {q : PassState} (t : InTurn q) (n m end pages : ℕ) (le : n ≤ m) (few : m ≤ pages)
     (out : (r : ℕ) → n ≤ r → r < m → may_be_unsettled (now_of q).words end r ≡ false) where
   bare_there : (r : ℕ) → n ≤ r → r < m → has_freed_cells (now_of q).words.freed r ≡ false
   bare_there r after lt = (or_parts _ _ (out r after lt)).1
@@ -128,7 +117,7 @@ module _ (p q : PassState) (t : InTurn q) (n m end pages : ℕ) (le : n ≤ m) (
       → (r : ℕ) → r < m → IsSettledPage q r
   settled_past before occupied r lt = elim (cases_lt r n) [
     | inl below ↦ before r below
-    | inr above ↦ bare_is_settled q t r (bare_there r above lt)
+    | inr above ↦ bare_is_settled t r (bare_there r above lt)
         (occupied r above (past_end r above lt) (omega (arith, lt, few)))
   ]
 
@@ -138,14 +127,14 @@ module _ (p q : PassState) (t : InTurn q) (n m end pages : ℕ) (le : n ≤ m) (
       let w : Words = (now_of p).words in
       let none : (r : ℕ) → n ≤ r → r < m
       → ◌≡◌ {A = Released} (record { count = 0; words = 0; kept = 0 }) (released_on w r) =
-      λ r after lt. nothing_released q t r (bare_there r after lt) p (same r after) in
+      λ r after lt. nothing_released t r (bare_there r after lt) p (same r after) in
       same_released _ _ (sym (sum_past n m _ le (λ r after lt. sym (ap (λ (x : Released). x.count) (none r after lt)))))
       (sym (sum_past n m _ le (λ r after lt. sym (ap (λ (x : Released). x.words) (none r after lt)))))
       (sym (sum_past n m _ le (λ r after lt. sym (ap (λ (x : Released). x.kept) (none r after lt)))))
 
-  pub settled_to : (all : Released) (held : ℕ) → AreSettledBelow p q pages n end all held
+  pub settled_to : {all : Released} {held : ℕ} → AreSettledBelow p q pages n end all held
       → AreSettledBelow p q pages m end all held
-  settled_to all held before = record {
+  settled_to before = record {
     frees = before.frees;
     settled = settled_past before.settled before.occupied;
     cells = λ r after lt. before.cells r (omega (arith, le, after)) lt;
@@ -153,7 +142,7 @@ module _ (p q : PassState) (t : InTurn q) (n m end pages : ℕ) (le : n ≤ m) (
     occupied = λ r after far lt. before.occupied r (omega (arith, le, after)) far lt;
     counted = before.counted ∙ counted_past before.same;
     holds = before.holds ∙ sym (sum_past n m _ le (λ r after lt. sym (none_held (now_of p).words r (nothing_released
-        q t r (bare_there r after lt) p (before.same r after)))));
+        t r (bare_there r after lt) p (before.same r after)))));
   }
 
 -- the next page that may be unsettled: the first, up to the end of a run, and after it the next that has freed cells

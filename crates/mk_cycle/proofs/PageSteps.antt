@@ -8,14 +8,13 @@ use Rattle.mk_core.specs.{Cells.are_left_unmarked, TurnConditions.are_wiped}
 use Rattle.mk_cycle.proofs.CellBits.{left_within, none_beyond, none_of_itself, part_within, rest_away, taken_away}
 use Rattle.mk_cycle.proofs.{BeginSteps.all_from, FreeingSteps.frees_then}
 
-pub page_at_once : (page : ℕ) (p q : PassState) → GivesNothingBack p q → FreesPage page p q
-page_at_once page p q a = record { frees = a.frees; others = λ r ne. a.same r }
+pub page_at_once : (page : ℕ) {p q : PassState} → GivesNothingBack p q → FreesPage page p q
+page_at_once page a = record { frees = a.frees; others = λ r ne. a.same r }
 
-pub page_then : (page : ℕ) (p q r : PassState) → FreesPage page p q → FreesPage page q r → FreesPage page p r
-page_then page p q r a b = record {
-  frees = frees_then p q r a.frees b.frees;
-  others = λ i ne. b.others i ne
-      ∙ a.others i ne;
+pub page_then : {page : ℕ} {p q r : PassState} → FreesPage page p q → FreesPage page q r → FreesPage page p r
+page_then {p} {q} {r} a b = record {
+  frees = frees_then a.frees b.frees;
+  others = λ i ne. b.others i ne ∙ a.others i ne;
 }
 
 -- a page whose state is the same has the same cells left unmarked
@@ -41,12 +40,10 @@ wiped_or_out false c h = refl
 pub gives_ok : (w : Words) (page used gone size : ℕ) → used_at w page ≡ used → left_unmarked w page ≡ gone
     → words_under (header_in w page) ≡ size
     → ((k : ℕ) → k < 32 → (i : ℕ) → has_bit (bit_and used gone) k ≡ true → i < size
-    → slice_index w.heap (64 * page + k * size + i) ≡ 0)
-    → gives_back w page (without used gone) ≡ true
+    → slice_index w.heap (64 * page + k * size + i) ≡ 0) → gives_back w page (without used gone) ≡ true
 gives_ok w page used gone size is_used is_gone is_size zeros =
     let cells : used_at w page - without used gone ≡ bit_and used gone = cc (is_used, taken_away used gone) in
-    and_from _ _
-    (and_from _ _
+    and_from _ _ (and_from _ _
     (eq-eqb _ _ (ap (λ (n : ℕ). bit_and (without used gone) n) is_used ∙ left_within used gone))
     (ap (λ (n : ℕ). are_left_unmarked w page n) cells
     ∙ eq-eqb _ 0 (ap (λ (n : ℕ). without (bit_and used gone) n) is_gone ∙ none_beyond used gone)))
@@ -67,12 +64,9 @@ drops_ok w page freed snapshot gone is_freed is_snapshot is_gone unused =
     let away : slice_index w.snapshot page - (snapshot - gone) ≡ gone =
     cc (is_snapshot, is_gone, rest_away snapshot m) in
     let left : left_unmarked w page ≡ gone = ap (λ (n : ℕ). without n m) is_snapshot ∙ sym is_gone in
-    and_from _ _
-    (and_from _ _
-    (and_from _ _
+    and_from _ _ (and_from _ _ (and_from _ _
     (eq-eqb _ _ (ap (λ (n : ℕ). bit_and (snapshot - gone) n) is_snapshot ∙ ap (λ (n : ℕ). bit_and n snapshot) kept
-    ∙ part_within snapshot m ∙ sym kept))
-    (ap (λ (n : ℕ). are_left_unmarked w page n) away
+    ∙ part_within snapshot m ∙ sym kept)) (ap (λ (n : ℕ). are_left_unmarked w page n) away
     ∙ eq-eqb _ 0 (ap (λ (n : ℕ). without gone n) left ∙ none_of_itself gone)))
     (eq-eqb _ 0 (ap (λ (n : ℕ). bit_and (used_at w page) n) away ∙ unused)))
     (eq-eqb _ _ (sym (ap (λ (n : ℕ). without (slice_index w.freed page) n) away

@@ -14,58 +14,51 @@ phase_more : (n markers phase : ℕ) → n % 8 ≡ phase → phase < 7 → n / 8
 phase_more n markers phase now small high few = omega arith
 
 -- the phase where the step is made
-pub phase_at : (p : PassState) (s : Step) (q : PassState) (a : Acts p s q) → InTurn p → InTurn q → (phase : ℕ)
-    → IsAtPhase p phase → phase < 7
-    → ((world_at a.makes).now.words.phase + 1) % 2 ^ 64 % 8 ≡ phase + 1
-phase_at p s q a t u phase at small = grind (arith, made, protocol, count_by-le-length, phase_more)
+pub phase_at : {p : PassState} {s : Step} {q : PassState} (a : Acts p s q) → InTurn p → InTurn q → (phase : ℕ)
+    → IsAtPhase p phase → phase < 7 → ((world_at a.makes).now.words.phase + 1) % 2 ^ 64 % 8 ≡ phase + 1
+phase_at a t u phase at small = grind (arith, made, protocol, count_by-le-length, phase_more)
 
-pub close_leaves : (p q : PassState) → InTurn p → IsFreeForCycle p → IsAtPhase p 2 → Acts p Step.Close q → InTurn q
+pub close_leaves : {p q : PassState} → InTurn p → IsFreeForCycle p → IsAtPhase p 2 → Acts p Step.Close q → InTurn q
     → LeavesTurn but_phase p q × IsAtPhase q 3
-close_leaves p q t free at a u = (
+close_leaves {p} {q} t free at a u = (
   calm_keeps p Step.Close q a t u.history refl free but_phase refl,
-  ap (λ (w : World). phase_of w.now.words) a.world ∙ phase_at p Step.Close q a t u 2 at (omega arith),
+  ap (λ (w : World). phase_of w.now.words) a.world ∙ phase_at a t u 2 at (omega arith),
 )
 
 but_release : Steady → Steady
 but_release s = record s { phase = 0; allocations = [] }
 
-pub releases_unmarked : (p b d q : PassState) → InTurn p → IsFreeForCycle p → ClosesMarks p b → InTurn b
-    → Acts b Step.Close d → InTurn d
-    → Acts d Step.Release q → InTurn q → ReleasesUnmarked p q
+pub releases_unmarked : {p b d q : PassState} → InTurn p → IsFreeForCycle p → ClosesMarks p b → InTurn b
+    → Acts b Step.Close d → InTurn d → Acts d Step.Release q → InTurn q → ReleasesUnmarked p q
 unfolding but_release
-releases_unmarked p b d q t free marks tb close td release tq =
+releases_unmarked {p} {b} {d} {q} t free marks tb close td release tq =
     let free_b = free_then p b marks.keeps.call free in
-    let one = close_leaves b d tb free_b marks.phase close td in
+    let one = close_leaves tb free_b marks.phase close td in
     let free_d = free_then b d one.0.call free_b in
     let two = calm_keeps d Step.Release q release td tq.history refl free_d but_release refl in
     let c : Config = p.table.config in
     let w : Words = (moment_of release.makes).words in
     let phase : ((world_at release.makes).now.words.phase + 1) % 2 ^ 64 % 8 ≡ 4 =
-    phase_at d Step.Release q release td tq 3 one.1 (omega arith) in
+    phase_at release td tq 3 one.1 (omega arith) in
     let same_b : b.table.config ≡ c = same_config p b marks.keeps.call.pass in
     let same_d : d.table.config ≡ c = same_config b d one.0.call.pass ∙ same_b in
     record {
       makes = record { closing = b; closed = d; marks = marks; close = close.makes; release = release.makes };
-      call = calls_then p d q (calls_then p b d marks.keeps.call one.0.call) two.call;
+      call = calls_then (calls_then marks.keeps.call one.0.call) two.call;
       steady =
-          ap (λ (x : World). steady_of x) release.world
-          ∙ ap (λ (n : ℕ). record (steady_of (world_at release.makes)) {
+          ap (λ (x : World). steady_of x) release.world ∙ ap (λ (n : ℕ). record (steady_of (world_at release.makes)) {
             phase = n;
             allocations = map (with_released d.table.config w) (world_at release.makes).allocations;
-          }) phase
-          ∙ ap (λ (s : Steady). record s {
+          }) phase ∙ ap (λ (s : Steady). record s {
             phase = 4;
             allocations = map (with_released d.table.config w) s.allocations;
-          }) release.turn.steady
-          ∙ ap (λ (s : Steady). record s {
+          }) release.turn.steady ∙ ap (λ (s : Steady). record s {
             phase = 4;
             allocations = map (with_released d.table.config w) s.allocations;
-          }) one.0.steady
-          ∙ ap (λ (s : Steady). record s {
+          }) one.0.steady ∙ ap (λ (s : Steady). record s {
             phase = 4;
             allocations = map (with_released d.table.config w) s.allocations;
-          }) marks.keeps.steady
-          ∙ ap (λ (e : Config). record (steady_of (world_of p)) {
+          }) marks.keeps.steady ∙ ap (λ (e : Config). record (steady_of (world_of p)) {
             phase = 4;
             allocations = map (with_released e w) (world_of p).allocations;
           }) same_d;
@@ -74,8 +67,6 @@ releases_unmarked p b d q t free marks tb close td release tq =
           (counts_then b d q (same_config b d one.0.call.pass) one.0.counts two.counts);
       fresh =
           subst (λ (e : Config). fresh_words_of e (world_of q).allocations ≡ fresh_words_of e (world_of d).allocations)
-          same_d
-          (fresh_words_stay d q td tq one.1 release)
-          ∙ ap (λ (s : Steady). fresh_words_of c s.allocations) (one.0.steady)
-          ∙ ap (λ (s : Steady). fresh_words_of c s.allocations) marks.keeps.steady;
+          same_d (fresh_words_stay td tq one.1 release) ∙ ap (λ (s : Steady). fresh_words_of c s.allocations)
+          (one.0.steady) ∙ ap (λ (s : Steady). fresh_words_of c s.allocations) marks.keeps.steady;
     }

@@ -1,19 +1,19 @@
 -- After a `release` the released cells have no word of a mapped allocation.
 use Rattle.std.proofs.Math.Bool.{and-false}
+use Rattle.mk_cycle.proofs.Vocabulary.{Acts, AreFreeCells, HasFreeCells, InTurn, IsAtPhase, IsGone, IsOccupied}
+use Rattle.mk_cycle.proofs.Vocabulary.{IsUnmappedWord, IsZero, PassState, allocations_stand, holder_finds}
+use Rattle.mk_cycle.proofs.Vocabulary.{left_unmarked, made, now_of, stands, world_at}
 use Rattle.mk_laws.proofs.Vocabulary.{Bool, Chosen, Config, Event, Granted, Header, InPlot, IsFreedCell, IsHistory}
 use Rattle.mk_laws.proofs.Vocabulary.{IsWordOf, IsWordOfMapped, List, Object, OfBlock, OfLater, OfLeafBlock, OfLeafRun}
 use Rattle.mk_laws.proofs.Vocabulary.{OfRun, Option, PlacedAllocation, Placing, ShowsPart, Steady, Step, Unplaced, Used}
 use Rattle.mk_laws.proofs.Vocabulary.{World, ℕ, and_parts, ap, arith, cases_eq, cells_begin, changed_at, eq-eqb, false}
-use Rattle.mk_laws.proofs.Vocabulary.{has_bit, has_bit_without, has_place, head_page, header_at, header_in, header_of}
+use Rattle.mk_laws.proofs.Vocabulary.{has_bit, has_bit_without, has_place, head_page, header_at, header_in}
 use Rattle.mk_laws.proofs.Vocabulary.{header_shows, inl, inr, is_large, is_mapped, is_phase, is_released_in}
 use Rattle.mk_laws.proofs.Vocabulary.{is_run_gone, is_small_object, is_unmapped_header, kinds_of, large_is_not_small}
 use Rattle.mk_laws.proofs.Vocabulary.{map, ne_eqb, not, object_placed, or_right, pages_made, pages_some, phase_of}
 use Rattle.mk_laws.proofs.Vocabulary.{placed_at, plot_of, refl, released_where_left, slice_index, storage_of, subst}
 use Rattle.mk_laws.proofs.Vocabulary.{sym, true, true≢false, typed_size, used_at, with_released, words_under, ◌&&◌, ◌*◌}
 use Rattle.mk_laws.proofs.Vocabulary.{◌++◌, ◌+◌, ◌/◌, ◌<◌, ◌==◌, ◌||◌, ◌∙◌, ◌≡◌, ◌⊎◌}
-use Rattle.mk_cycle.proofs.Vocabulary.{Acts, HasFreeCells, InTurn, IsAtPhase, IsGone, IsOccupied, IsUnmappedWord}
-use Rattle.mk_cycle.proofs.Vocabulary.{IsZero, PassState, allocations_stand, holder_finds, left_unmarked, made, now_of}
-use Rattle.mk_cycle.proofs.Vocabulary.{stands, world_at}
 use Rattle.mk_core.proofs.StandingAllocations.{placed_cell}
 use Rattle.mk_laws.{proofs.FreeWords.unmapped_words_are_zero, proofs.InvariantTheorems.allocations_are_disjoint}
 use Rattle.mk_laws.{proofs.MappedWords.mapped_stays, specs.FreeWords.IsOfNoneMapped}
@@ -23,15 +23,15 @@ pub plus_zero : (n : ℕ) → n + 0 ≡ n
 plus_zero n = omega arith
 
 -- What shows an unmapped run shows a large object.
-pub unmapped_is_large : (o : Object) (x : Option Header) → ShowsPart o 0 x → is_unmapped_header x ≡ true
+pub unmapped_is_large : {o : Object} {x : Option Header} → ShowsPart o 0 x → is_unmapped_header x ≡ true
     → is_small_object o ≡ false
-unmapped_is_large o x (OfBlock first small leaf) h = absurd (true≢false (sym h))
-unmapped_is_large o x (OfLeafBlock first small leaf) h = absurd (true≢false (sym h))
-unmapped_is_large o x (OfRun mapped first large leaf) h = large
-unmapped_is_large o x (OfLeafRun first large leaf) h = large
-unmapped_is_large o x (OfLater mapped some large) h = large
+unmapped_is_large (OfBlock first small leaf) h = absurd (true≢false (sym h))
+unmapped_is_large (OfLeafBlock first small leaf) h = absurd (true≢false (sym h))
+unmapped_is_large (OfRun mapped first large leaf) h = large
+unmapped_is_large (OfLeafRun first large leaf) h = large
+unmapped_is_large (OfLater mapped some large) h = large
 
-module _ (d q : PassState) (t : InTurn d) (u : InTurn q) (at : IsAtPhase d 3) (a : Acts d Step.Release q) where
+module _ {d q : PassState} (t : InTurn d) (u : InTurn q) (at : IsAtPhase d 3) (a : Acts d Step.Release q) where
   abbrev c : Config
   c = d.table.config
 
@@ -63,11 +63,10 @@ module _ (d q : PassState) (t : InTurn d) (u : InTurn q) (at : IsAtPhase d 3) (a
       by (inr r) = grind (arith, not_releasing)
 
   -- no allocation that is still mapped has one of its words
-  none_mapped : (page k n : ℕ) (f : IsFreedCell c w.allocations page k)
-      → has_bit (left_unmarked w.now.words page) k ≡ true
-      → IsWordOf (storage_of c (placed_at w.allocations f.number)) n
+  none_mapped : {page k : ℕ} (n : ℕ) (f : IsFreedCell c w.allocations page k)
+      → has_bit (left_unmarked w.now.words page) k ≡ true → IsWordOf (storage_of c (placed_at w.allocations f.number)) n
       → IsWordOfMapped c (map (with_released c w.now.words) w.allocations) n → ⊥
-  none_mapped page k n f has word m =
+  none_mapped n f has word m =
       let history = (made d Step.Release q a.makes).history in
       let x : PlacedAllocation = placed_at w.allocations m.number in
       let y : PlacedAllocation = placed_at w.allocations f.number in
@@ -89,10 +88,9 @@ module _ (d q : PassState) (t : InTurn d) (u : InTurn q) (at : IsAtPhase d 3) (a
       first_of_or false e h = refl
 
   -- The allocation of a cell whose header is that of an unmapped run isn't mapped,
-  unmapped_owner : (page k : ℕ) (f : IsFreedCell c w.allocations page k)
-      → is_unmapped_header (header_in w.now.words page) ≡ true
-      → is_mapped c (placed_at w.allocations f.number) ≡ false
-  unmapped_owner page k f gone =
+  unmapped_owner : {page k : ℕ} (f : IsFreedCell c w.allocations page k)
+      → is_unmapped_header (header_in w.now.words page) ≡ true → is_mapped c (placed_at w.allocations f.number) ≡ false
+  unmapped_owner {page} f gone =
       let history = (made d Step.Release q a.makes).history in
       let y : PlacedAllocation = placed_at w.allocations f.number in
       let o : Object = object_placed c y in
@@ -102,18 +100,17 @@ module _ (d q : PassState) (t : InTurn d) (u : InTurn q) (at : IsAtPhase d 3) (a
       let some : 0 < pages_made o = pages_some o sized in
       let shows : ShowsPart o 0 (header_in w.now.words page) = grind (arith, header_shows) in
       ap (λ (b : Bool). not y.released && not (b && is_large (kinds_of c.types y.ty))) f.freed
-      ∙ ap (λ (b : Bool). not y.released && not b) (large_is_not_small (kinds_of c.types y.ty)
-      ∙ ap not (unmapped_is_large o _ shows gone))
-      ∙ and-false (not y.released)
+      ∙ ap (λ (b : Bool). not y.released && not b)
+      (large_is_not_small (kinds_of c.types y.ty) ∙ ap not (unmapped_is_large shows gone)) ∙ and-false (not y.released)
 
   pub gone_there : IsGone d → is_run_gone w.now.words w.now.seats.holding.freed ≡ true
   gone_there gone = grind (arith, made, holder_finds)
 
   -- so its words are 0 by then.
-  unmapped_is_zero : IsGone d → (page k n : ℕ) (f : IsFreedCell c w.allocations page k)
+  unmapped_is_zero : IsGone d → {page k : ℕ} (n : ℕ) (f : IsFreedCell c w.allocations page k)
       → is_unmapped_header (header_in w.now.words page) ≡ true
       → IsWordOf (storage_of c (placed_at w.allocations f.number)) n → slice_index w.now.words.heap n ≡ 0
-  unmapped_is_zero gone page k n f unmapped word =
+  unmapped_is_zero gone {page = page} {k = k} n f unmapped word =
       let history = (made d Step.Release q a.makes).history in
       let three : phase_of w.now.words ≡ 3 = ap (λ (s : Steady). s.phase) a.turn.steady ∙ at in
       unmapped_words_are_zero c es history (λ four. absurd (omega arith)) (gone_there gone) n none
@@ -125,57 +122,48 @@ module _ (d q : PassState) (t : InTurn d) (u : InTurn q) (at : IsAtPhase d 3) (a
           allocations_are_disjoint c es history i f.number n (mapped_stays c (placed_at w.allocations i) mapped)
           f.unreleased there word in
           true≢false (sym (subst (λ (j : ℕ). is_mapped c (placed_at w.allocations j) ≡ true) number mapped)
-          ∙ unmapped_owner page k f unmapped)
+          ∙ unmapped_owner f unmapped)
 
   -- A word of a released cell is one of its allocation.
-  owned_word : (page k i : ℕ) → has_bit (left_unmarked w.now.words page) k ≡ true
-      → i < words_under (header_in w.now.words page) → (f : IsFreedCell c w.allocations page k)
-      → (64 * page + k * words_under (header_in w.now.words page) + i < 64 * c.pages)
-      × IsWordOf (storage_of c (placed_at w.allocations f.number))
-      (64 * page + k * words_under (header_in w.now.words page) + i)
-  owned_word page k i has small f = grind (arith, made, allocations_stand, es, cells_begin)
 
-  unmapped_there : (page k i : ℕ) → has_bit (left_unmarked w.now.words page) k ≡ true
-      → i < words_under (header_in w.now.words page)
-      → IsUnmappedWord q (64 * page + k * words_under (header_in w.now.words page) + i)
+  abbrev size : ℕ → ℕ
+  size page = words_under (header_in w.now.words page)
+
+  abbrev word_of : ℕ → ℕ → ℕ → ℕ
+  word_of page k i = 64 * page + k * size page + i
+
+  owned_word : {page k : ℕ} (i : ℕ) → has_bit (left_unmarked w.now.words page) k ≡ true → i < size page
+      → (f : IsFreedCell c w.allocations page k)
+      → (word_of page k i < 64 * c.pages)
+      × IsWordOf (storage_of c (placed_at w.allocations f.number)) (word_of page k i)
+  owned_word i has small f = grind (arith, made, allocations_stand, es, cells_begin)
+
+  unmapped_there : (page k i : ℕ) → has_bit (left_unmarked w.now.words page) k ≡ true → i < size page
+      → IsUnmappedWord q (word_of page k i)
   unmapped_there page k i has small =
       let f = owner page k has in
-      let n : ℕ = 64 * page + k * words_under (header_in w.now.words page) + i in
-      let own = owned_word page k i has small f in
+      let n : ℕ = word_of page k i in
+      let own = owned_word i has small f in
       record {
         within = subst (λ (e : Config). n < 64 * e.pages) (sym same_table) own.0;
-        unmapped = λ m. none_mapped page k n f has own.1
+        unmapped = λ m. none_mapped n f has own.1
             (subst (λ (e : Config). IsWordOfMapped e (map (with_released c w.now.words) w.allocations) n) same_table
             (subst (λ (xs : List PlacedAllocation). IsWordOfMapped q.table.config xs n)
             (ap (λ (x : World). x.allocations) a.world) m));
       }
 
   zero_there : IsGone d → (page k i : ℕ) → is_unmapped_header (header_in w.now.words page) ≡ true
-      → has_bit (left_unmarked w.now.words page) k ≡ true
-      → i < words_under (header_in w.now.words page)
-      → IsZero q (64 * page + k * words_under (header_in w.now.words page) + i)
+      → has_bit (left_unmarked w.now.words page) k ≡ true → i < size page → IsZero q (word_of page k i)
   zero_there gone page k i unmapped has small =
       let f = owner page k has in
-      let n : ℕ = 64 * page + k * words_under (header_in w.now.words page) + i in
-      ap (λ (x : World). slice_index x.now.words.heap n) a.world
-      ∙ unmapped_is_zero gone page k n f unmapped (owned_word page k i has small f).1
+      ap (λ (x : World). slice_index x.now.words.heap (word_of page k i)) a.world
+      ∙ unmapped_is_zero gone (word_of page k i) f unmapped (owned_word i has small f).1
 
   pub cells_are_free : IsGone d → (page : ℕ) → HasFreeCells q page
   cells_are_free gone page =
-      let header : header_at (now_of q).words page ≡ header_at w.now.words page =
-      ap (λ (x : World). header_at x.now.words page) a.world in
-      let left : left_unmarked (now_of q).words page ≡ left_unmarked w.now.words page =
-      ap (λ (x : World). left_unmarked x.now.words page) a.world in
-      let size : words_under (header_in (now_of q).words page) ≡ words_under (header_in w.now.words page) =
-      ap (λ (n : ℕ). words_under (header_of n)) header in
-      record {
-        unmapped = λ k i has lt. subst (λ (n : ℕ). IsUnmappedWord q (64 * page + k * n + i)) (sym size)
-            (unmapped_there page k i (sym (ap (λ (n : ℕ). has_bit n k) left) ∙ has)
-            (subst (λ (n : ℕ). i < n) size lt));
-        wiped = λ unmapped k i has lt. subst (λ (n : ℕ). IsZero q (64 * page + k * n + i)) (sym size)
-            (zero_there gone page k i (sym (ap (λ (n : ℕ). is_unmapped_header (header_of n)) header) ∙ unmapped)
-            (sym (ap (λ (n : ℕ). has_bit n k) left) ∙ has) (subst (λ (n : ℕ). i < n) size lt));
-      }
+      subst (λ (x : World). AreFreeCells q page (header_at x.now.words page) (left_unmarked x.now.words page))
+      (sym a.world)
+      (record { unmapped = unmapped_there page; wiped = λ unmapped k i. zero_there gone page k i unmapped })
 
   -- A page with a header has a used cell, a run's at its head: no New has a place.
   pub pages_are_occupied : has_place (now_of d).seats.holding.placing ≡ false → (page : ℕ) → IsOccupied q page

@@ -22,7 +22,7 @@ marked_rest true false = refl
 marked_rest false m = refl
 
 -- a history whose next event may be a `release`
-module _ (c : Config) (es : List Event) (h : IsHistory c es) (at : phase_of (left c es).now.words ≡ 3) where
+module _ {c : Config} {es : List Event} (h : IsHistory c es) (at : phase_of (left c es).now.words ≡ 3) where
   abbrev w : Words
   w = (left c es).now.words
 
@@ -44,8 +44,7 @@ module _ (c : Config) (es : List Event) (h : IsHistory c es) (at : phase_of (lef
       → has_bit_of c w.snapshot (placed_at xs i) ≡ ((placed_at xs i).freed && not (placed_at xs i).fresh)
   in_snapshot i u = (stands c es h).all.order.snapshot.quarantined cycling i u
 
-  left_where : (i : ℕ) → (placed_at xs i).released ≡ false
-      → (f (placed_at xs i)).released
+  left_where : (i : ℕ) → (placed_at xs i).released ≡ false → (f (placed_at xs i)).released
       ≡ has_bit (left_unmarked w (cell_of_allocation c (placed_at xs i)).page)
       (cell_of_allocation c (placed_at xs i)).index
   left_where i u = grind (arith, allocations_stand, released_where_left, xs)
@@ -79,8 +78,7 @@ module _ (c : Config) (es : List Event) (h : IsHistory c es) (at : phase_of (lef
         let both = and_parts (is_quarantined a) (not a.fresh) (new_is_in_snapshot i new) in
         let parts = and_parts a.freed (not a.released) both.0 in
         (not-true a.released parts.1, parts.0);
-    same = λ i u freed.
-        ap (λ b. not b && (f (placed_at xs i)).released) u ∙ left_where i u;
+    same = λ i u freed. ap (λ b. not b && (f (placed_at xs i)).released) u ∙ left_where i u;
   }
 
   abbrev is_kept : PlacedAllocation → Bool
@@ -190,7 +188,7 @@ module _ (c : Config) (es : List Event) (h : IsHistory c es) (at : phase_of (lef
       none a isnt = by a.released _ (not (a.freed && is_large (kinds_of c.types a.ty))) a.fresh isnt
 
 -- A pass that made the `release` knows it so.
-module _ (d q : PassState) (t : InTurn d) (u : InTurn q) (at : IsAtPhase d 3) (a : Acts d Step.Release q) where
+module _ {d q : PassState} (t : InTurn d) (u : InTurn q) (at : IsAtPhase d 3) (a : Acts d Step.Release q) where
   there : IsHistory d.table.config (d.seen ++ a.makes.others)
   there = (made d Step.Release q a.makes).history
 
@@ -216,9 +214,9 @@ module _ (d q : PassState) (t : InTurn d) (u : InTurn q) (at : IsAtPhase d 3) (a
       let words : released_below (now_of q).words c.pages ≡ released_below (world_at a.makes).now.words c.pages =
       ap (λ (x : World). released_below x.now.words c.pages) a.world in
       record {
-        count = cc (words, count_told c es there phase_there, newly);
-        words = cc (words, words_told c es there phase_there, newly);
-        kept = cc (same_before, kept_told c es there phase_there, words);
+        count = cc (words, count_told there phase_there, newly);
+        words = cc (words, words_told there phase_there, newly);
+        kept = cc (same_before, kept_told there phase_there, words);
       }
 
   pub fresh_words_stay : fresh_words_of d.table.config (world_of q).allocations
@@ -226,10 +224,10 @@ module _ (d q : PassState) (t : InTurn d) (u : InTurn q) (at : IsAtPhase d 3) (a
   fresh_words_stay = grind (arith, xs, behind, fresh_stays, there, phase_there, same_before)
 
 -- What is said of one pass is said of another that knows the same allocations before, and of one that does after.
-pub told_from : (p d q : PassState) (r : Released) → d.table.config ≡ p.table.config
+pub told_from : (p : PassState) {d q : PassState} {r : Released} → d.table.config ≡ p.table.config
     → (world_of d).allocations ≡ (world_of p).allocations → HasReleased d q r → HasReleased p q r
-told_from p d q r table same told = grind arith
+told_from p table same told = grind arith
 
-pub told_to : (p d q : PassState) (r : Released) → (world_of q).allocations ≡ (world_of d).allocations
+pub told_to : {p d : PassState} (q : PassState) {r : Released} → (world_of q).allocations ≡ (world_of d).allocations
     → HasReleased p d r → HasReleased p q r
-told_to p d q r same told = grind arith
+told_to q same told = grind arith

@@ -24,7 +24,7 @@ module _ {p b d q : PassState} (s : StopReleases p b d q) where
   free_marked = free_then p b s.marks.keeps.call s.free
 
   closes : LeavesTurn but_phase b d × IsAtPhase d 3
-  closes = close_leaves b d s.marked free_marked s.marks.phase s.close s.closed
+  closes = close_leaves s.marked free_marked s.marks.phase s.close s.closed
 
   free_closed : IsFreeForCycle d
   free_closed = free_then b d closes.0.call free_marked
@@ -40,13 +40,13 @@ module _ {p b d q : PassState} (s : StopReleases p b d q) where
       s.marks.keeps.steady
 
   pub stop_releases : ReleasesUnmarked p q
-  stop_releases = releases_unmarked p b d q s.begun s.free s.marks s.marked s.close s.closed s.release released
+  stop_releases = releases_unmarked s.begun s.free s.marks s.marked s.close s.closed s.release released
 
   pub stop_leaves_cells : (page : ℕ) → HasFreeCells q page
-  stop_leaves_cells = cells_are_free d q s.closed released closes.1 s.release free_closed.gone
+  stop_leaves_cells = cells_are_free s.closed released closes.1 s.release free_closed.gone
 
   pub stop_leaves_occupied : (page : ℕ) → IsOccupied q page
-  stop_leaves_occupied = pages_are_occupied d q s.closed released closes.1 s.release free_closed.unplaced
+  stop_leaves_occupied = pages_are_occupied s.closed released closes.1 s.release free_closed.unplaced
 
   module _ {w : WordsState} (table : p.table ≡ w) where
     pages : d.table.config.pages ≡ w.config.pages
@@ -55,10 +55,9 @@ module _ {p b d q : PassState} (s : StopReleases p b d q) where
     pub stop_tells : HasReleased p q (released_below (now_of q).words w.config.pages)
     stop_tells =
         subst (λ (n : ℕ). HasReleased p q (released_below (now_of q).words n)) pages
-        (told_from p d q _ same allocations (release_tells d q s.closed released closes.1 s.release))
+        (told_from p same allocations (release_tells s.closed released closes.1 s.release))
 
     pub stop_holds : HoldsFewer p q (held_below (now_of q).words w.config.pages)
     stop_holds =
         subst (λ (n : ℕ). HoldsFewer p q (held_below (now_of q).words n)) pages
-        (sym (held_alike p d same allocations)
-        ∙ release_holds d q s.closed released closes.1 s.release free_closed.gone)
+        (sym (held_alike p d same allocations) ∙ release_holds s.closed released closes.1 s.release free_closed.gone)

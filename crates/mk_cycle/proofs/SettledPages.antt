@@ -1,56 +1,59 @@
 -- Pages are settled one after the other.
+use Rattle.mk_cycle.proofs.Vocabulary.{AreFreeCells, Frees, FreesPage, GivesNothingBack, HasFreeCells, InTurn}
+use Rattle.mk_cycle.proofs.Vocabulary.{IsAtPhase, IsOccupied, IsSettledPage, PassState, SamePage, allocations_stand}
+use Rattle.mk_cycle.proofs.Vocabulary.{left_unmarked, now_of, page_state, stands, world_of}
 use Rattle.mk_laws.proofs.Vocabulary.{Bool, Header, IsFreedCell, Option, Some, Words, ℕ, and_from, and_parts, ap, arith}
 use Rattle.mk_laws.proofs.Vocabulary.{cases_eq, empties, eq-eqb, eqb-false, eqb-true, false, false_from_ne_true}
 use Rattle.mk_laws.proofs.Vocabulary.{has_bit, has_bit_without, head_page, head_page_under, header_at, header_in}
-use Rattle.mk_laws.proofs.Vocabulary.{header_of, inl, inr, is_phase, is_released_in, is_unmapped_header, ne_eqb, no_bit}
-use Rattle.mk_laws.proofs.Vocabulary.{not, not-true, or_cases, quarantine_word, refl, run_count, slice_index, subst}
-use Rattle.mk_laws.proofs.Vocabulary.{sym, true, true≢false, used_at, without, words_under, ◌&&◌, ◌*◌, ◌+◌, ◌-◌, ◌/◌}
-use Rattle.mk_laws.proofs.Vocabulary.{◌<◌, ◌==◌, ◌^◌, ◌||◌, ◌∙◌, ◌≡◌, ◌≢◌, ◌≤◌, ◌⊎◌}
-use Rattle.mk_cycle.proofs.Vocabulary.{Frees, FreesPage, GivesNothingBack, HasFreeCells, InTurn, IsAtPhase, IsOccupied}
-use Rattle.mk_cycle.proofs.Vocabulary.{IsSettledPage, IsUnmappedWord, IsZero, PassState, SamePage, allocations_stand}
-use Rattle.mk_cycle.proofs.Vocabulary.{left_unmarked, now_of, page_state, stands, world_of}
+use Rattle.mk_laws.proofs.Vocabulary.{header_of, inl, inr, is_phase, is_released_in, ne_eqb, no_bit, not, not-true}
+use Rattle.mk_laws.proofs.Vocabulary.{or_cases, quarantine_word, refl, run_count, slice_index, subst, sym, true}
+use Rattle.mk_laws.proofs.Vocabulary.{true≢false, used_at, without, ◌&&◌, ◌+◌, ◌-◌, ◌/◌, ◌<◌, ◌==◌, ◌^◌, ◌||◌, ◌∙◌, ◌≡◌}
+use Rattle.mk_laws.proofs.Vocabulary.{◌≢◌, ◌≤◌, ◌⊎◌}
 use Rattle.mk_core.proofs.WordBits.{zero_from_bits}
 use Rattle.mk_laws.proofs.FreePages.{free_pages_have_nothing}
 use Rattle.mk_cycle.proofs.PageSteps.{page_at_once, page_then, same_header, same_left, same_used}
 use Rattle.mk_cycle.proofs.{CleaningSteps.halves, GivingSteps.still_unmapped_word}
 use Rattle.mk_cycle.specs.Freeing.{GivesBack, is_occupied_page}
 
-pub free_cells_stay : (p q : PassState) (page : ℕ) → Frees p q → SamePage p q page → HasFreeCells p page
-    → HasFreeCells q page
-free_cells_stay p q page k same cells =
-    let header : header_at (now_of q).words page ≡ header_at (now_of p).words page = same_header p q page same in
-    let size : words_under (header_in (now_of q).words page) ≡ words_under (header_in (now_of p).words page) =
-    ap (λ (n : ℕ). words_under (header_of n)) header in
-    let left = same_left p q page same k.marks in
-    record {
-      unmapped = λ x i has lt. subst (λ (n : ℕ). IsUnmappedWord q (64 * page + x * n + i)) (sym size)
-          (still_unmapped_word p q _ k (cells.unmapped x i (sym (ap (λ (n : ℕ). has_bit n x) left) ∙ has)
-          (subst (λ (n : ℕ). i < n) size lt)));
-      wiped = λ gone x i has lt.
-          let there = sym (ap (λ (n : ℕ). has_bit n x) left) ∙ has in
-          let small = subst (λ (n : ℕ). i < n) size lt in
-          subst (λ (n : ℕ). IsZero q (64 * page + x * n + i)) (sym size)
-          (k.zeros _ (cells.unmapped x i there small).unmapped
-          (cells.wiped (sym (ap (λ (n : ℕ). is_unmapped_header (header_of n)) header) ∙ gone) x i there small));
-    }
+-- Free cells stay so, those of a page whose words are the same, and some of them.
 
-pub gives_then : (page : ℕ) (p b q : PassState) → GivesNothingBack p b → GivesBack page b q → GivesBack page p q
-gives_then page p b q k g = record {
-  frees = page_then page p b q (page_at_once page p b k) g.frees;
+pub still_free : {p q : PassState} {page header cells : ℕ} → Frees p q → AreFreeCells p page header cells
+    → AreFreeCells q page header cells
+still_free k free = record {
+  unmapped = λ x i has lt. still_unmapped_word k (free.unmapped x i has lt);
+  wiped = λ gone x i has lt. k.zeros _ (free.unmapped x i has lt).unmapped (free.wiped gone x i has lt);
+}
+
+pub free_cells_stay : {p q : PassState} (page : ℕ) → Frees p q → SamePage p q page → HasFreeCells p page
+    → HasFreeCells q page
+free_cells_stay {p} {q} page k same free =
+    subst (λ (n : ℕ). AreFreeCells q page n (left_unmarked (now_of q).words page)) (sym (same_header p q page same))
+    (subst (λ (n : ℕ). AreFreeCells q page (header_at (now_of p).words page) n)
+    (sym (same_left p q page same k.marks)) (still_free k free))
+
+pub some_free : {p : PassState} {page header all : ℕ} (some : ℕ) → AreFreeCells p page header all
+    → ((k : ℕ) → has_bit some k ≡ true → has_bit all k ≡ true) → AreFreeCells p page header some
+some_free some free among = record {
+  unmapped = λ k i has lt. free.unmapped k i (among k has) lt;
+  wiped = λ gone k i has lt. free.wiped gone k i (among k has) lt;
+}
+
+pub gives_then : {page : ℕ} {p b q : PassState} → GivesNothingBack p b → GivesBack page b q → GivesBack page p q
+gives_then {page} {p} {b} {q} k g = record {
+  frees = page_then (page_at_once page k) g.frees;
   header = g.header ∙ same_header p b page (k.same page);
   none_left = g.none_left;
 }
 
-pub gives_none : (page : ℕ) (p b : PassState) → GivesNothingBack p b → left_unmarked (now_of b).words page ≡ 0
+pub gives_none : (page : ℕ) {p b : PassState} → GivesNothingBack p b → left_unmarked (now_of b).words page ≡ 0
     → GivesBack page p b
-gives_none page p b k none =
-    record { frees = page_at_once page p b k; header = same_header p b page (k.same page); none_left = none }
+gives_none page {p = p} {b = b} k none =
+    record { frees = page_at_once page k; header = same_header p b page (k.same page); none_left = none }
 
 -- Where no cell is used and none is released, none is freed.
-unused_freed : (p : PassState) → InTurn p → IsAtPhase p 4 → (h : ℕ) → used_at (now_of p).words h ≡ 0
-    → left_unmarked (now_of p).words h ≡ 0
-    → (k : ℕ) → has_bit (slice_index (now_of p).words.freed h) k ≡ false
-unused_freed p t at h unused none k =
+unused_freed : {p : PassState} → InTurn p → IsAtPhase p 4 → (h : ℕ) → used_at (now_of p).words h ≡ 0
+    → left_unmarked (now_of p).words h ≡ 0 → (k : ℕ) → has_bit (slice_index (now_of p).words.freed h) k ≡ false
+unused_freed {p} t at h unused none k =
     false_from_ne_true (has_bit (slice_index (now_of p).words.freed h) k)
     (λ has. by ((stands p.table.config p.seen t.history).all.order.quarantined.owned h k has))
   where
@@ -64,24 +67,22 @@ unused_freed p t at h unused none k =
         parts.0 in
         true≢false (sym (has_bit_without _ _ k ∙ and_from _ _ first.1 parts.1) ∙ no_bit _ k none)
 
-pub empties_here : (p : PassState) → InTurn p → IsAtPhase p 4 → (page h : ℕ) → h ≡ head_page (now_of p).words page
+pub empties_here : {p : PassState} → InTurn p → IsAtPhase p 4 → (page h : ℕ) → h ≡ head_page (now_of p).words page
     → used_at (now_of p).words h ≡ 0 → left_unmarked (now_of p).words h ≡ 0 → empties (now_of p).words page 0 ≡ true
-empties_here p t at page h is unused none =
+empties_here {p} t at page h is unused none =
     let w : Words = (now_of p).words in
-    let freed : slice_index w.freed h ≡ 0 =
-    zero_from_bits (slice_index w.freed h) (unused_freed p t at h unused none) in
-    let snapshot : slice_index w.snapshot h ≡ 0 =
-    zero_from_bits _ (λ k. false_from_ne_true (has_bit (slice_index w.snapshot h) k)
-    (λ has. true≢false (sym ((stands p.table.config p.seen t.history).all.order.quarantined.within h k has)
-    ∙ unused_freed p t at h unused none k))) in
+    let freed : slice_index w.freed h ≡ 0 = zero_from_bits (slice_index w.freed h) (unused_freed t at h unused none) in
+    let snapshot : slice_index w.snapshot h ≡ 0 = zero_from_bits _
+    (λ k. false_from_ne_true (has_bit (slice_index w.snapshot h) k) (λ has. true≢false (sym ((stands p.table.config
+    p.seen t.history).all.order.quarantined.within h k has) ∙ unused_freed t at h unused none k))) in
     subst (λ (n : ℕ). ((0 == 0) && (used_at w n == 0) && (slice_index w.freed n == 0)
     && (slice_index w.snapshot n == 0)) ≡ true) is
     (and_from _ _ (and_from _ _ (and_from _ _ refl (eq-eqb _ 0 unused)) (eq-eqb _ 0 freed)) (eq-eqb _ 0 snapshot))
 
 -- A page without freed cells has none in its snapshot.
-pub no_snapshot : (p : PassState) → InTurn p → (page : ℕ) → slice_index (now_of p).words.freed page ≡ 0
+pub no_snapshot : {p : PassState} → InTurn p → (page : ℕ) → slice_index (now_of p).words.freed page ≡ 0
     → slice_index (now_of p).words.snapshot page ≡ 0
-no_snapshot p t page none =
+no_snapshot {p} t page none =
     let w : Words = (now_of p).words in
     let order = (stands p.table.config p.seen t.history).all.order in
     zero_from_bits _ (λ k. false_from_ne_true (has_bit (slice_index w.snapshot page) k)
@@ -124,9 +125,9 @@ pub same_occupied : (p q : PassState) (r : ℕ) → SamePage p q r → SamePage 
 same_occupied p q r same head_same = grind (arith, same_header, head_stays, same_used)
 
 -- A later page of a run isn't past it.
-pub head_elsewhere : (q : PassState) → InTurn q → (n r : ℕ) → n < r
+pub head_elsewhere : {q : PassState} → InTurn q → (n r : ℕ) → n < r
     → n + run_count (header_in (now_of q).words n) ≤ r → IsOccupied q r → head_page (now_of q).words r ≢ n
-head_elsewhere q t n r after past occupied = by (header_in (now_of q).words r) refl
+head_elsewhere {q} t n r after past occupied = by (header_in (now_of q).words r) refl
   where
     w : Words
     w = (now_of q).words
@@ -152,34 +153,33 @@ head_elsewhere q t n r after past occupied = by (header_in (now_of q).words r) r
     by _ is there = absurd (omega (arith, after, there))
 
 -- Settled pages stay so while a later one changes.
-pub still_settled : (p q : PassState) (page r : ℕ) → FreesPage page p q → r < page → IsSettledPage p r
+pub still_settled : {p q : PassState} {page : ℕ} (r : ℕ) → FreesPage page p q → r < page → IsSettledPage p r
     → IsSettledPage q r
-still_settled p q page r k lt h = grind (arith, head_near, same_left, same_occupied)
+still_settled r k lt h = grind (arith, head_near, same_left, same_occupied)
 
 -- what two looks say of the released cells
-pub marked_gone : (a b : PassState) (page quarantine marks : ℕ) → InTurn a → GivesNothingBack a b
+pub marked_gone : {a b : PassState} (page quarantine marks : ℕ) → InTurn a → GivesNothingBack a b
     → quarantine ≡ quarantine_word (slice_index (now_of a).words.freed page)
     (slice_index (now_of a).words.snapshot page)
     → marks ≡ slice_index (now_of b).words.marks page
     → without (quarantine / 2 ^ 32) marks ≡ left_unmarked (now_of b).words page
-marked_gone a b page quarantine marks t k word is = grind (arith, halves)
+marked_gone page quarantine marks t k word is = grind (arith, halves)
 
 -- where the snapshot is empty
-pub none_left_on : (a : PassState) (page quarantine : ℕ) → InTurn a
-    → quarantine ≡ quarantine_word (slice_index (now_of a).words.freed page)
-    (slice_index (now_of a).words.snapshot page)
-    → quarantine / 2 ^ 32 ≡ 0 → left_unmarked (now_of a).words page ≡ 0
-none_left_on a page quarantine t word none = grind (arith, none_left, halves)
+pub none_left_on : {a : PassState} (page quarantine : ℕ) → InTurn a → quarantine ≡ quarantine_word
+    (slice_index (now_of a).words.freed page) (slice_index (now_of a).words.snapshot page) → quarantine / 2 ^ 32 ≡ 0
+    → left_unmarked (now_of a).words page ≡ 0
+none_left_on page quarantine t word none = grind (arith, none_left, halves)
 
 -- No cell is released at the head of the page's run: it is the page itself, or one that is settled.
-pub none_at : (p q : PassState) (page h : ℕ) → GivesBack page p q → h ≤ page
+pub none_at : {p q : PassState} {page : ℕ} (h : ℕ) → GivesBack page p q → h ≤ page
     → ((r : ℕ) → r < page → IsSettledPage p r) → left_unmarked (now_of q).words h ≡ 0
-none_at p q page h g le settled = elim (cases_eq h page) [
+none_at {p} {q} {page} h g le settled = elim (cases_eq h page) [
   | inl e ↦ ap (λ (n : ℕ). left_unmarked (now_of q).words n) e ∙ g.none_left
   | inr ne ↦ same_left p q h (g.frees.others h ne) g.frees.frees.marks ∙ settled_left p h (settled h (omega arith))
 ]
 
-pub freed_settles : (a q : PassState) (page used : ℕ) → FreesPage page a q
+pub freed_settles : {a q : PassState} {page : ℕ} (used : ℕ) → FreesPage page a q
     → page_state q page ≡ record (page_state a page) { page = record { header = 0; used = used } }
     → left_unmarked (now_of a).words page ≡ 0 → IsSettledPage q page
-freed_settles a q page used k state none = grind (arith, settled_bare)
+freed_settles used k state none = grind (arith, settled_bare)

@@ -95,8 +95,7 @@ module _ {X : Type 0} (d : X) where
           → sum_below n (λ k. cond (t x && (key x == k)) 1 0 * g k) ≡ cond (t x) (g (key x)) 0
       by true is lt =
           sum_same n (λ k. cond (t x && (key x == k)) 1 0 * g k) (λ k. cond (key x == k) 1 0 * g k)
-          (λ k below. ap (λ (b : Bool). cond {A = ℕ} (b && (key x == k)) 1 0 * g k) is)
-          ∙ sum_of_one (key x) n g (lt is)
+          (λ k below. ap (λ (b : Bool). cond {A = ℕ} (b && (key x == k)) 1 0 * g k) is) ∙ sum_of_one (key x) n g (lt is)
           ∙ sym (ap (λ (b : Bool). cond {A = ℕ} b (g (key x)) 0) is)
       by false is lt = grind (arith, sum_of_none, none_times)
 
@@ -120,25 +119,21 @@ module _ {X : Type 0} (d : X) where
           → sum_below n (λ k. cond (t x && (key x == k)) 1 0) ≡ cond (t x) 1 0
       by true is lt =
           sum_same n (λ k. cond (t x && (key x == k)) 1 0) (λ k. cond (key x == k) 1 0)
-          (λ k below. ap (λ (b : Bool). cond {A = ℕ} (b && (key x == k)) 1 0) is)
-          ∙ one_if_same (key x) n (lt is)
+          (λ k below. ap (λ (b : Bool). cond {A = ℕ} (b && (key x == k)) 1 0) is) ∙ one_if_same (key x) n (lt is)
           ∙ sym (ap (λ (b : Bool). cond {A = ℕ} b 1 0) is)
       by false is lt = grind (arith, sum_of_none)
 
   -- where one element passes at most, and one exactly if the flag says so
   pub one_if_any : (u : X → Bool) (b : Bool) (xs : List X) → u d ≡ false
-      → (b ≡ true → (i : ℕ) × (u (get_or xs i d) ≡ true))
-      → ((i : ℕ) → u (get_or xs i d) ≡ true → b ≡ true)
-      → ((i j : ℕ) → u (get_or xs i d) ≡ true → u (get_or xs j d) ≡ true → i ≡ j)
-      → count_by u xs ≡ cond b 1 0
+      → (b ≡ true → (i : ℕ) × (u (get_or xs i d) ≡ true)) → ((i : ℕ) → u (get_or xs i d) ≡ true → b ≡ true)
+      → ((i j : ℕ) → u (get_or xs i d) ≡ true → u (get_or xs j d) ≡ true → i ≡ j) → count_by u xs ≡ cond b 1 0
   one_if_any u true [] none there only alone = let at = there refl in absurd (true≢false (sym at.1 ∙ none))
   one_if_any u false [] none there only alone = refl
   one_if_any u b (x ∷ xs) none there only alone = sum_by-cons (λ y. cond (u y) 1 0) x xs
       ∙ by (u x) refl (λ flag exists holds. one_if_any u flag xs none exists holds
       (λ i j h k. let e : suc i ≡ suc j = alone (suc i) (suc j) h k in omega arith))
     where
-      by : (h : Bool) → u x ≡ h
-          → ((flag : Bool) → (flag ≡ true → (i : ℕ) × (u (get_or xs i d) ≡ true))
+      by : (h : Bool) → u x ≡ h → ((flag : Bool) → (flag ≡ true → (i : ℕ) × (u (get_or xs i d) ≡ true))
           → ((i : ℕ) → u (get_or xs i d) ≡ true → flag ≡ true) → count_by u xs ≡ cond flag 1 0)
           → cond (u x) 1 0 + count_by u xs ≡ cond b 1 0
       by true is next =

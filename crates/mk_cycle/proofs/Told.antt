@@ -5,9 +5,9 @@ use Rattle.mk_cycle.proofs.Vocabulary.{Has, Makes, PassState, event_of, made}
 use Rattle.mk_cycle.specs.Telling.{IsToldAtClose, IsToldOf}
 
 -- at the step that closes them
-pub told_closing : (tells : Config → World → Type 0) (p q : PassState) → Has p.seats p.seat → Makes p Step.Close q
+pub told_closing : (tells : Config → World → Type 0) {p q : PassState} → Has p.seats p.seat → Makes p Step.Close q
     → IsHistory q.table.config q.seen → IsToldOf tells p → IsToldAtClose tells p q
-told_closing tells p q has makes history told = record {
+told_closing tells {p = p} {q = q} has makes history told = record {
   before = makes.others;
   behind = [];
   is = ap (λ (x : PassState). x.seen) makes.is;
@@ -15,9 +15,9 @@ told_closing tells p q has makes history told = record {
 }
 
 -- when more was seen after it
-pub told_later : (tells : Config → World → Type 0) (p q r : PassState) (more : List Event) → r.seen ≡ q.seen ++ more
-    → IsToldAtClose tells p q → IsToldAtClose tells p r
-told_later tells p q r more is t = record {
+pub told_later : {tells : Config → World → Type 0} {p q : PassState} (r : PassState) (more : List Event)
+    → r.seen ≡ q.seen ++ more → IsToldAtClose tells p q → IsToldAtClose tells p r
+told_later {p} r more is t = record {
   before = t.before;
   behind = t.behind ++ more;
   is = cc (is, t.is, append_assoc (p.seen ++ t.before) (event_of p Step.Close ∷ t.behind) more);
@@ -36,6 +36,7 @@ told_at tells p more q t =
       told = subst (λ (es : List Event). tells p.table.config (left p.table.config es)) same t.told;
     }
 
-pub told_earlier : (tells : Config → World → Type 0) (o p : PassState) (more : List Event) (q : PassState)
+pub told_earlier : {tells : Config → World → Type 0} (o : PassState) {p : PassState} (more : List Event) {q : PassState}
     → p ≡ record o { seen = o.seen ++ more } → IsToldAtClose tells p q → IsToldAtClose tells o q
-told_earlier tells o p more q is t = told_at tells o more q (subst (λ (x : PassState). IsToldAtClose tells x q) is t)
+told_earlier {tells} o more {q = q} is t =
+    told_at tells o more q (subst (λ (x : PassState). IsToldAtClose tells x q) is t)

@@ -5,9 +5,9 @@ use Rattle.mk_laws.proofs.Vocabulary.{subst, sym, [], ◌++◌, ◌∙◌, ◌�
 use Rattle.mk_cycle.proofs.Vocabulary.{Acts, Cleans, PassState, WasUndirty, now_of, world_at}
 
 -- where it is 0 now
-pub undirty_now : (p q : PassState) (page : ℕ) → Cleans p q → slice_index (now_of q).words.dirty page ≡ 0
+pub undirty_now : {p q : PassState} (page : ℕ) → Cleans p q → slice_index (now_of q).words.dirty page ≡ 0
     → WasUndirty page p q
-undirty_now p q page k zero =
+undirty_now {p} page k zero =
     let d = k.does in
     record {
       before = d.more;
@@ -18,12 +18,11 @@ undirty_now p q page k zero =
 
 -- when more is cleaned after it, or was before
 
-pub undirty_later : (p q r : PassState) (page : ℕ) → WasUndirty page p q → Cleans q r → WasUndirty page p r
-undirty_later p q r page u k = record {
+pub undirty_later : {p q r : PassState} {page : ℕ} → WasUndirty page p q → Cleans q r → WasUndirty page p r
+undirty_later {p} u k = record {
   before = u.before;
   behind = u.behind ++ k.does.more;
-  is = ap (λ (x : PassState). x.seen) k.does.is
-      ∙ ap (λ (l : List Event). l ++ k.does.more) u.is
+  is = ap (λ (x : PassState). x.seen) k.does.is ∙ ap (λ (l : List Event). l ++ k.does.more) u.is
       ∙ append_assoc p.seen (u.before ++ u.behind) k.does.more
       ∙ ap (λ (l : List Event). p.seen ++ l) (append_assoc u.before u.behind k.does.more);
   zero = u.zero;
@@ -38,8 +37,8 @@ undirty_at o more q page u = record {
   zero = cc (append_assoc o.seen more u.before, u.zero);
 }
 
-pub undirty_earlier : (o p q : PassState) (page : ℕ) → Cleans o p → WasUndirty page p q → WasUndirty page o q
-undirty_earlier o p q page k u =
+pub undirty_earlier : {o p q : PassState} {page : ℕ} → Cleans o p → WasUndirty page p q → WasUndirty page o q
+undirty_earlier {o} {q} {page} k u =
     undirty_at o k.does.more q page (subst (λ (x : PassState). WasUndirty page x q) k.does.is u)
 
 -- after a store of 0
@@ -50,8 +49,7 @@ zero_there xs i = elim (cases_lt i (length xs)) [
   | inr past ↦ ap (λ (ys : List ℕ). slice_index ys i) (set_past xs i 0 past) ∙ get_or_past xs i 0 past
 ]
 
-pub undirty_behind : (p q : PassState) (page : ℕ) → Acts p (Step.Undirty page) q
+pub undirty_behind : {p q : PassState} {page : ℕ} → Acts p (Step.Undirty page) q
     → slice_index (now_of q).words.dirty page ≡ 0
-undirty_behind p q page a =
-    ap (λ (w : World). slice_index w.now.words.dirty page) a.world
-    ∙ zero_there (world_at a.makes).now.words.dirty page
+undirty_behind {page = page} a =
+    ap (λ (w : World). slice_index w.now.words.dirty page) a.world ∙ zero_there (world_at a.makes).now.words.dirty page

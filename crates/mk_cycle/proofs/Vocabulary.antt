@@ -19,10 +19,10 @@ pub use Rattle.mk_words.specs.States.{PassState, WordsState, call_of, event_of, 
 pub use Rattle.mk_words.specs.Steps.{IsEnabledTo, Makes}
 pub use Rattle.mk_words.specs.TurnSteps.{Acts, world_at}
 pub use Rattle.mk_cycle.specs.Cleaning.{Cleans, IsClean, WasUndirty}
-pub use Rattle.mk_cycle.specs.EngineLaw.{IsAtPhase, IsFreeForCycle, is_pending_free}
+pub use Rattle.mk_cycle.specs.EngineLaw.{IsAtPhase, IsFreeForCycle, IsTurnAt, is_pending_free}
 pub use Rattle.mk_cycle.specs.FinishCycle.{HasReleased, HoldsFewer, newly_released}
-pub use Rattle.mk_cycle.specs.Freeing.{Frees, FreesPage, GivesNothingBack, HasFreeCells, IsOccupied, IsSettledPage}
-pub use Rattle.mk_cycle.specs.Freeing.{IsUnmappedWord, IsZero, PageState, SamePage, page_state}
+pub use Rattle.mk_cycle.specs.Freeing.{AreFreeCells, Frees, FreesPage, GivesNothingBack, HasFreeCells, IsOccupied}
+pub use Rattle.mk_cycle.specs.Freeing.{IsSettledPage, IsUnmappedWord, IsZero, PageState, SamePage, page_state}
 pub use Rattle.mk_cycle.specs.Holding.{HoldsGates}
 pub use Rattle.mk_cycle.specs.Kinds.{clears, holds_gates, is_giving_back, sets_tallies}
 pub use Rattle.mk_cycle.specs.ReleasedPages.{cells_unmarked, held_below, held_unmarked, released_below, released_on}

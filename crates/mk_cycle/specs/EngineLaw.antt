@@ -11,7 +11,7 @@ use Rattle.mk_core.specs.declared.seats.Stage.TheVariants as stage
 use Rattle.mk_core.specs.Words.{phase_of}
 use Rattle.mk_core.specs.ClosedMarks.{MarksAreClosed}
 use Rattle.mk_laws.specs.Protocol.{has_place}
-use Rattle.mk_words.specs.States.{PassState, world_of, now_of, call_of}
+use Rattle.mk_words.specs.States.{PassState, WordsState, world_of, now_of, call_of}
 use Rattle.mk_words.specs.Steps.{IsEnabledTo}
 use Rattle.mk_turns.specs.Doing.{Does, count_done}
 use Rattle.mk_cycle.specs.Kinds.{is_want, begins_marking, closes_marks}
@@ -35,6 +35,12 @@ pub record IsFreeForCycle (p : PassState) : Type 0 where
 
 abbrev pub IsAtPhase : PassState → ℕ → Type 0
 IsAtPhase p n = phase_of (now_of p).words ≡ n
+
+-- The turn is on these words, free for a cycle, and at this phase.
+pub record IsTurnAt (n : ℕ) (w : WordsState) (p : PassState) : Type 0 where
+  pub one_table : p.table ≡ w
+  pub free : IsFreeForCycle p
+  pub phase : IsAtPhase p n
 
 -- What an engine does in `begin`: it looks, marks, and holds gates that it opens again.
 pub record BeginsMarking (p q : PassState) : Type 0 where

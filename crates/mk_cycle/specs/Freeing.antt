@@ -2,7 +2,8 @@
 use Rattle.std.specs.Prelude.{◌≡◌, ◌≢◌, ℕ, ◌+◌, ◌*◌, ◌<◌, Bool, true, false, ◌==◌, ◌||◌, nat_lt, not, [], slice_index}
 use Rattle.mk_geom.specs.declared.pages.Page.{Page}
 use Rattle.mk_core.specs.Bits.{has_bit}
-use Rattle.mk_core.specs.Cells.{head_page, header_in, is_unmapped_header, left_unmarked, words_under}
+use Rattle.mk_geom.specs.Headers.{header_of}
+use Rattle.mk_core.specs.Cells.{head_page, is_unmapped_header, left_unmarked, words_under}
 use Rattle.mk_core.specs.Frames.{Steady}
 use Rattle.mk_core.specs.Moments.{is_held}
 use Rattle.mk_core.specs.StopConditions.{has_settled_page}
@@ -65,16 +66,17 @@ pub record FreesPage (page : ℕ) (p q : PassState) : Type 0 where
   pub frees : Frees p q
   pub others : (r : ℕ) → r ≢ page → SamePage p q r
 
--- The words of the page's released cells are those of no mapped allocation, and those of an unmapped run are 0: its
--- Free has wiped them.
-pub record HasFreeCells (p : PassState) (page : ℕ) : Type 0 where
-  pub unmapped : (k i : ℕ) → has_bit (left_unmarked (now_of p).words page) k ≡ true
-      → i < words_under (header_in (now_of p).words page)
-      → IsUnmappedWord p (64 * page + k * words_under (header_in (now_of p).words page) + i)
-  pub wiped : is_unmapped_header (header_in (now_of p).words page) ≡ true
-      → (k i : ℕ) → has_bit (left_unmarked (now_of p).words page) k ≡ true
-      → i < words_under (header_in (now_of p).words page)
-      → IsZero p (64 * page + k * words_under (header_in (now_of p).words page) + i)
+-- The words of these cells of the page, by its header word, are those of no mapped allocation, and those of an unmapped
+-- run are 0: its Free has wiped them.
+pub record AreFreeCells (p : PassState) (page header cells : ℕ) : Type 0 where
+  pub unmapped : (k i : ℕ) → has_bit cells k ≡ true → i < words_under (header_of header)
+      → IsUnmappedWord p (64 * page + k * words_under (header_of header) + i)
+  pub wiped : is_unmapped_header (header_of header) ≡ true → (k i : ℕ) → has_bit cells k ≡ true
+      → i < words_under (header_of header) → IsZero p (64 * page + k * words_under (header_of header) + i)
+
+-- It holds of the page's released cells.
+abbrev pub HasFreeCells : PassState → ℕ → Type 0
+HasFreeCells p page = AreFreeCells p page (header_at (now_of p).words page) (left_unmarked (now_of p).words page)
 
 abbrev pub IsQuarantineWord : PassState → ℕ → ℕ → Type 0
 IsQuarantineWord p page n =

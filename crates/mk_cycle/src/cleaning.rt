@@ -8,39 +8,31 @@ ghost use Rattle.mk_words.specs.PageMaps.{HasNoMarks};
 ghost use Rattle.mk_words.specs.States.{now_of};
 ghost use Rattle.mk_cycle.specs.Cleaning.{Cleans, IsUnmarked, IsUnscanned, HasTakenSnapshot, IsClean, IsCleanedPage};
 ghost use Rattle.mk_cycle.specs.Cleaning.{WasUndirty};
-ghost use Rattle.mk_cycle.specs.EngineLaw.{IsFreeForCycle, IsAtPhase, is_register};
-ghost use Rattle.mk_cycle.specs.TurnKeeps.{InTurn};
+ghost use Rattle.mk_cycle.specs.EngineLaw.{IsTurnAt, is_register};
 
 use crate::bits::FREED_END;
-use crate::turn_steps::{
-    clear, look, look_among, next_in_use, next_quarantined, next_uncleaned, take_snapshot, unblack,
-    undirty,
-};
+use crate::turn_steps::{in_turn, look, look_among, next_in_use, next_quarantined, next_uncleaned};
 use mk_core::Word;
 use mk_words::{Turn, Words};
 
 /// Looks at a word before the `begin`, in a table of this many pages.
 #[inline(always)]
 fn look_before(turn: &mut Turn, words: &Words, pages: u64, x: Word) -> u64
-    requires one_table { turn.old.pass.table ≡ words.now }
+    requires turn { IsTurnAt 0 words.now turn.old.pass }
     requires pages { pages ≡ words.now.config.pages }
-    requires free { IsFreeForCycle turn.old.pass }
-    requires phase { IsAtPhase turn.old.pass 0 }
     requires in_range { is_word words.now.config x ≡ true }
     requires no_register { is_register x ≡ false }
     ensures op { turn.new.op ≡ turn.old.op }
     ensures cleans { Cleans turn.old.pass turn.new.pass }
-    ensures is { InTurn turn.new.pass }
     ensures reads { result ≡ named_word (now_of turn.new.pass).words x }
 {
     look_among(turn, words, pages, x)
 }
 
 /// Clears the marks of a page, which were found to be these.
+#[tactic(auto, using(crate::proofs::Allowed::clear_allowed, crate::proofs::CleaningSteps::cleans_nothing))]
 fn clear_marks(turn: &mut Turn, words: &Words, page: u64, marks: u64)
-    requires one_table { turn.old.pass.table ≡ words.now }
-    requires free { IsFreeForCycle turn.old.pass }
-    requires phase { IsAtPhase turn.old.pass 0 }
+    requires turn { IsTurnAt 0 words.now turn.old.pass }
     requires within { page < words.now.config.pages }
     requires found { marks ≡ 0 → IsUnmarked turn.old.pass page }
     ensures op { turn.new.op ≡ turn.old.op }
@@ -48,15 +40,15 @@ fn clear_marks(turn: &mut Turn, words: &Words, page: u64, marks: u64)
     ensures unmarked { IsUnmarked turn.new.pass page }
 {
     if marks != 0 {
-        clear(turn, words, page);
+        in_turn(turn);
+        turn.clear(words, page);
     }
 }
 
 /// Clears the black word of a page, which was found to be this one.
+#[tactic(auto, using(crate::proofs::Allowed::unblack_allowed, crate::proofs::CleaningSteps::cleans_nothing))]
 fn clear_black(turn: &mut Turn, words: &Words, page: u64, blacks: u64)
-    requires one_table { turn.old.pass.table ≡ words.now }
-    requires free { IsFreeForCycle turn.old.pass }
-    requires phase { IsAtPhase turn.old.pass 0 }
+    requires turn { IsTurnAt 0 words.now turn.old.pass }
     requires within { page < words.now.config.pages }
     requires found { blacks ≡ 0 → IsUnscanned turn.old.pass page }
     ensures op { turn.new.op ≡ turn.old.op }
@@ -64,30 +56,29 @@ fn clear_black(turn: &mut Turn, words: &Words, page: u64, blacks: u64)
     ensures unscanned { IsUnscanned turn.new.pass page }
 {
     if blacks != 0 {
-        unblack(turn, words, page);
+        in_turn(turn);
+        turn.unblack(words, page);
     }
 }
 
 /// Clears the dirty word of a page, which was found to be this one. A caller may set it again at once.
+#[tactic(auto, using(crate::proofs::Allowed::undirty_allowed, crate::proofs::CleaningSteps::cleans_nothing))]
 fn clear_dirty(turn: &mut Turn, words: &Words, page: u64, dirty: u64)
-    requires one_table { turn.old.pass.table ≡ words.now }
-    requires free { IsFreeForCycle turn.old.pass }
-    requires phase { IsAtPhase turn.old.pass 0 }
+    requires turn { IsTurnAt 0 words.now turn.old.pass }
     requires within { page < words.now.config.pages }
     ensures op { turn.new.op ≡ turn.old.op }
     ensures cleans { Cleans turn.old.pass turn.new.pass }
     ensures undirty { dirty ≢ 0 → WasUndirty page turn.old.pass turn.new.pass }
 {
     if dirty != 0 {
-        undirty(turn, words, page);
+        in_turn(turn);
+        turn.undirty(words, page);
     }
 }
 
 /// Makes the freed cells of a page its snapshot.
 fn copy_freed(turn: &mut Turn, words: &Words, page: u64)
-    requires one_table { turn.old.pass.table ≡ words.now }
-    requires free { IsFreeForCycle turn.old.pass }
-    requires phase { IsAtPhase turn.old.pass 0 }
+    requires turn { IsTurnAt 0 words.now turn.old.pass }
     requires within { page < words.now.config.pages }
     ensures op { turn.new.op ≡ turn.old.op }
     ensures cleans { Cleans turn.old.pass turn.new.pass }
@@ -96,7 +87,7 @@ fn copy_freed(turn: &mut Turn, words: &Words, page: u64)
     let quarantine = look(turn, words, Word::Quar(page));
     let freed = quarantine % FREED_END;
     if quarantine / FREED_END != freed {
-        take_snapshot(turn, words, page, freed + FREED_END * freed);
+        turn.quar(words, page, freed + FREED_END * freed);
     }
 }
 
@@ -113,9 +104,7 @@ fn are_zero(marks: u64, blacks: u64, dirty: u64) -> bool
 /// Clears what is left of the cycle before on a page, on which these words were found.
 #[inline(always)]
 fn clean_words(turn: &mut Turn, words: &Words, page: u64, marks: u64, blacks: u64, dirty: u64)
-    requires one_table { turn.old.pass.table ≡ words.now }
-    requires free { IsFreeForCycle turn.old.pass }
-    requires phase { IsAtPhase turn.old.pass 0 }
+    requires turn { IsTurnAt 0 words.now turn.old.pass }
     requires within { page < words.now.config.pages }
     requires marks { marks ≡ 0 → IsUnmarked turn.old.pass page }
     requires blacks { blacks ≡ 0 → IsUnscanned turn.old.pass page }
@@ -132,10 +121,8 @@ fn clean_words(turn: &mut Turn, words: &Words, page: u64, marks: u64, blacks: u6
 /// Clears what is left of the cycle before on a page, if anything is.
 #[inline(always)]
 fn clean_page(turn: &mut Turn, words: &Words, pages: u64, page: u64)
-    requires one_table { turn.old.pass.table ≡ words.now }
+    requires turn { IsTurnAt 0 words.now turn.old.pass }
     requires pages { pages ≡ words.now.config.pages }
-    requires free { IsFreeForCycle turn.old.pass }
-    requires phase { IsAtPhase turn.old.pass 0 }
     requires within { page < words.now.config.pages }
     ensures op { turn.new.op ≡ turn.old.op }
     ensures cleans { Cleans turn.old.pass turn.new.pass }
@@ -153,9 +140,7 @@ fn clean_page(turn: &mut Turn, words: &Words, pages: u64, page: u64)
 
 /// Clears the marks of a free page, and reports it to the page map.
 fn clean_free(turn: &mut Turn, words: &Words, page: u64)
-    requires one_table { turn.old.pass.table ≡ words.now }
-    requires free { IsFreeForCycle turn.old.pass }
-    requires phase { IsAtPhase turn.old.pass 0 }
+    requires turn { IsTurnAt 0 words.now turn.old.pass }
     requires within { page < words.now.config.pages }
     ensures op { turn.new.op ≡ turn.old.op }
     ensures cleans { Cleans turn.old.pass turn.new.pass }
@@ -172,9 +157,7 @@ fn clean_free(turn: &mut Turn, words: &Words, page: u64)
 /// Clears the marks of free pages. Few free pages have any: those that a cycle freed, on which a number pointed at a
 /// cell that nobody had.
 fn clean_free_pages(turn: &mut Turn, words: &Words)
-    requires one_table { turn.old.pass.table ≡ words.now }
-    requires free { IsFreeForCycle turn.old.pass }
-    requires phase { IsAtPhase turn.old.pass 0 }
+    requires turn { IsTurnAt 0 words.now turn.old.pass }
     ensures op { turn.new.op ≡ turn.old.op }
     ensures cleans { Cleans turn.old.pass turn.new.pass }
     ensures bare { (page : ℕ) → page < words.now.config.pages → header_at (now_of turn.new.pass).words page ≡ 0
@@ -190,9 +173,7 @@ fn clean_free_pages(turn: &mut Turn, words: &Words)
 
 /// Clears what is left of the cycle before on pages in use. Nothing is on the others.
 fn clean_pages_in_use(turn: &mut Turn, words: &Words)
-    requires one_table { turn.old.pass.table ≡ words.now }
-    requires free { IsFreeForCycle turn.old.pass }
-    requires phase { IsAtPhase turn.old.pass 0 }
+    requires turn { IsTurnAt 0 words.now turn.old.pass }
     requires bare { (page : ℕ) → page < words.now.config.pages → header_at (now_of turn.old.pass).words page ≡ 0
         → HasNoMarks (now_of turn.old.pass).words page }
     ensures op { turn.new.op ≡ turn.old.op }
@@ -210,9 +191,7 @@ fn clean_pages_in_use(turn: &mut Turn, words: &Words)
 
 /// Makes the freed cells of all pages their snapshots. A page without freed cells has none in its snapshot.
 fn take_snapshots(turn: &mut Turn, words: &Words)
-    requires one_table { turn.old.pass.table ≡ words.now }
-    requires free { IsFreeForCycle turn.old.pass }
-    requires phase { IsAtPhase turn.old.pass 0 }
+    requires turn { IsTurnAt 0 words.now turn.old.pass }
     ensures op { turn.new.op ≡ turn.old.op }
     ensures cleans { Cleans turn.old.pass turn.new.pass }
     ensures snapshot { (page : ℕ) → page < words.now.config.pages → HasTakenSnapshot turn.new.pass page }
@@ -228,9 +207,7 @@ fn take_snapshots(turn: &mut Turn, words: &Words)
 /// Makes all pages ready for a `begin`. Most of them are.
 #[inline(always)]
 pub(crate) fn clean_pages(turn: &mut Turn, words: &Words)
-    requires one_table { turn.old.pass.table ≡ words.now }
-    requires free { IsFreeForCycle turn.old.pass }
-    requires phase { IsAtPhase turn.old.pass 0 }
+    requires turn { IsTurnAt 0 words.now turn.old.pass }
     ensures op { turn.new.op ≡ turn.old.op }
     ensures cleans { Cleans turn.old.pass turn.new.pass }
     ensures clean { (page : ℕ) → page < words.now.config.pages → IsClean turn.new.pass page }

@@ -8,7 +8,7 @@ ghost use Rattle.mk_core.specs.Words.{named_word};
 ghost use Rattle.mk_geom.specs.Headers.{header_of};
 ghost use Rattle.mk_words.specs.States.{now_of};
 ghost use Rattle.mk_cycle.specs.ReleasedPages.{IsOfOnePage};
-ghost use Rattle.mk_cycle.specs.EngineLaw.{IsFreeForCycle, IsAtPhase, is_register};
+ghost use Rattle.mk_cycle.specs.EngineLaw.{IsTurnAt, is_register};
 ghost use Rattle.mk_cycle.specs.Freeing.{GivesNothingBack};
 ghost use Rattle.mk_cycle.specs.TurnKeeps.{InTurn};
 
@@ -43,12 +43,11 @@ pub(crate) fn held_words(header: &ReadHeader, words: u64) -> u64
 }
 
 /// Looks at a word that is no register, while nothing is given back, in a table of this many pages.
+#[tactic(auto, using(crate::proofs::Allowed::in_turn_after))]
 #[inline(always)]
 pub(crate) fn look(turn: &mut Turn, words: &Words, pages: u64, x: Word) -> u64
-    requires one_table { turn.old.pass.table ≡ words.now }
+    requires turn { IsTurnAt 4 words.now turn.old.pass }
     requires pages { pages ≡ words.now.config.pages }
-    requires free { IsFreeForCycle turn.old.pass }
-    requires phase { IsAtPhase turn.old.pass 4 }
     requires in_range { is_word words.now.config x ≡ true }
     requires no_register { is_register x ≡ false }
     ensures op { turn.new.op ≡ turn.old.op }

@@ -3,7 +3,7 @@ ghost use Rattle.std.specs.Prelude.{◌≡◌, ◌<◌, ◌≤◌};
 ghost use Rattle.mk_core.specs.Cells.{left_unmarked};
 ghost use Rattle.mk_core.specs.Words.{header_at};
 ghost use Rattle.mk_words.specs.States.{now_of};
-ghost use Rattle.mk_cycle.specs.EngineLaw.{IsFreeForCycle, IsAtPhase};
+ghost use Rattle.mk_cycle.specs.EngineLaw.{IsTurnAt};
 ghost use Rattle.mk_cycle.specs.Freeing.{GivesBack, HasFreeCells, IsQuarantineWord};
 ghost use Rattle.mk_cycle.specs.ReleasedPages.{IsOfOnePage, held_unmarked, released_on};
 
@@ -12,7 +12,7 @@ use crate::counting::{self, held_words, released_cells};
 use crate::finishing::Released;
 use crate::reading::ReadHeader;
 use crate::settling::Settled;
-use crate::turn_steps::{drop_cells, give_cells, look_among};
+use crate::turn_steps::{in_turn, look_among};
 use crate::wiping::wipe_released;
 use mk_core::{Word, without};
 use mk_words::{Turn, Words};
@@ -27,10 +27,8 @@ fn give_back(
     quarantine: u64,
     gone: u64,
 )
-    requires one_table { turn.old.pass.table ≡ words.now }
+    requires turn { IsTurnAt 4 words.now turn.old.pass }
     requires pages { pages ≡ words.now.config.pages }
-    requires free { IsFreeForCycle turn.old.pass }
-    requires phase { IsAtPhase turn.old.pass 4 }
     requires within { page < words.now.config.pages }
     requires header { header.now ≡ header_at (now_of turn.old.pass).words page }
     requires quarantine { IsQuarantineWord turn.old.pass page quarantine }
@@ -41,10 +39,11 @@ fn give_back(
 {
     let used = look_among(turn, words, pages, Word::Used(page));
     wipe_released(turn, words, pages, page, header, used & gone);
-    give_cells(turn, words, page, without(used, gone));
+    in_turn(turn);
+    turn.used(words, page, without(used, gone));
     let freed = without(quarantine % FREED_END, gone);
     let snapshot = quarantine / FREED_END - gone;
-    drop_cells(turn, words, page, freed + FREED_END * snapshot);
+    turn.quar(words, page, freed + FREED_END * snapshot);
 }
 
 /// Gives back the released cells of a page with this header word, and returns what was released on it. Where its
@@ -57,10 +56,8 @@ pub(crate) fn release_cells(
     page: u64,
     header: &ReadHeader,
 ) -> Settled
-    requires one_table { turn.old.pass.table ≡ words.now }
+    requires turn { IsTurnAt 4 words.now turn.old.pass }
     requires pages { pages ≡ words.now.config.pages }
-    requires free { IsFreeForCycle turn.old.pass }
-    requires phase { IsAtPhase turn.old.pass 4 }
     requires within { page < words.now.config.pages }
     requires header { header.now ≡ header_at (now_of turn.old.pass).words page }
     requires cells { HasFreeCells turn.old.pass page }

@@ -1,14 +1,12 @@
 //! The stop of a cycle, and what comes after it up to the `end`.
-ghost use Rattle.std.specs.Prelude.{◌≡◌, true, false};
+ghost use Rattle.std.specs.Prelude.{◌≡◌, true};
 ghost use Rattle.mk_core.specs.Moments.{none_is_held};
 ghost use Rattle.mk_words.specs.States.{now_of};
-ghost use Rattle.mk_turns.specs.Sweeping.{SweepsNothing};
-ghost use Rattle.mk_cycle.specs.Closing.{IsClosedBy};
+ghost use Rattle.mk_cycle.specs.Closing.{ClosesAsPromised};
 ghost use Rattle.mk_cycle.specs.EngineLaw.{IsFreeForCycle, IsAtPhase};
 ghost use Rattle.mk_cycle.specs.FinishCycle.{HasReleased, HoldsFewer};
 ghost use Rattle.mk_cycle.specs.Freeing.{GivesNothingBack};
 ghost use Rattle.mk_cycle.specs.GivingAll.{GivesAllBack};
-ghost use Rattle.mk_cycle.specs.Telling.{IsToldAtClose};
 
 use crate::engine::Engine;
 use crate::holding::hold_gates;
@@ -50,9 +48,7 @@ pub(crate) fn give_all_back<E: Engine, R: Threads + Wait + Sync>(
     ensures gives { GivesAllBack turn.pass result.0.pass }
     ensures told { HasReleased turn.pass result.0.pass result.1.released }
     ensures held { HoldsFewer turn.pass result.0.pass result.1.held }
-    ensures reached { E.sweeps ≡ false → SweepsNothing turn.pass result.0.pass }
-    ensures told_at_close { IsToldAtClose (E.tells engine.new) turn.pass result.0.pass }
-    ensures closed { IsClosedBy (E.closes engine.new) turn.pass result.0.pass }
+    ensures promised { ClosesAsPromised E.sweeps (E.tells engine.new) (E.closes engine.new) turn.pass result.0.pass }
 {
     hold_gates(rt, &mut turn, words);
     let mut stop = turn.stopped();

@@ -1,14 +1,12 @@
 //! The stop of a cycle: the marks are closed, and what is unmarked is released.
-ghost use Rattle.std.specs.Prelude.{◌≡◌, ℕ, false};
+ghost use Rattle.std.specs.Prelude.{◌≡◌, ℕ};
 ghost use Rattle.mk_words.specs.States.{now_of};
-ghost use Rattle.mk_turns.specs.Sweeping.{SweepsNothing};
-ghost use Rattle.mk_cycle.specs.Closing.{IsClosedBy};
+ghost use Rattle.mk_cycle.specs.Closing.{ClosesAsPromised};
 ghost use Rattle.mk_cycle.specs.ReleasedPages.{held_below, released_below};
 ghost use Rattle.mk_cycle.specs.FinishCycle.{HasReleased, HoldsFewer};
 ghost use Rattle.mk_cycle.specs.Freeing.{HasFreeCells, IsOccupied};
 ghost use Rattle.mk_cycle.specs.EngineLaw.{IsFreeForCycle, IsAtPhase};
 ghost use Rattle.mk_cycle.specs.Releasing.{ReleasesUnmarked};
-ghost use Rattle.mk_cycle.specs.Telling.{IsToldAtClose};
 
 use crate::engine::Engine;
 use mk_words::{Stopped, Words};
@@ -35,9 +33,8 @@ pub(crate) fn release_unmarked<E: Engine, R: Threads + Wait + Sync>(
         (released_below (now_of stop.new.pass).words words.now.config.pages) }
     ensures held { HoldsFewer stop.old.pass stop.new.pass
         (held_below (now_of stop.new.pass).words words.now.config.pages) }
-    ensures reached { E.sweeps ≡ false → SweepsNothing stop.old.pass stop.new.pass }
-    ensures told_at_close { IsToldAtClose (E.tells engine.new) stop.old.pass stop.new.pass }
-    ensures closed { IsClosedBy (E.closes engine.new) stop.old.pass stop.new.pass }
+    ensures promised { ClosesAsPromised E.sweeps (E.tells engine.new)
+        (E.closes engine.new) stop.old.pass stop.new.pass }
 {
     stop.is_in_order();
     engine.close_marks(rt, words, stop);

@@ -5,7 +5,7 @@ ghost use Rattle.mk_core.specs.Cells.{head_page, left_unmarked};
 ghost use Rattle.mk_core.specs.Words.{header_at};
 ghost use Rattle.mk_page_map.specs.Members.{IsNext};
 ghost use Rattle.mk_words.specs.States.{now_of};
-ghost use Rattle.mk_cycle.specs.EngineLaw.{IsFreeForCycle, IsAtPhase};
+ghost use Rattle.mk_cycle.specs.EngineLaw.{IsTurnAt};
 ghost use Rattle.mk_cycle.specs.Freeing.{Frees, FreesPage, HasFreeCells, IsOccupied, IsSettledPage, may_be_unsettled};
 ghost use Rattle.mk_cycle.specs.ReleasedPages.{IsOfOnePage, held_below, held_unmarked, released_below, released_on};
 ghost use Rattle.mk_cycle.specs.TurnKeeps.{InTurn};
@@ -13,7 +13,7 @@ ghost use Rattle.mk_cycle.specs.TurnKeeps.{InTurn};
 use crate::finishing::Released;
 use crate::freeing::release_cells;
 use crate::reading::ReadHeader;
-use crate::turn_steps::{free_head, known_page, next_quarantined};
+use crate::turn_steps::{known_page, next_quarantined};
 use mk_words::{Turn, Words};
 
 /// What was released, and how many of its words were held until then.
@@ -25,9 +25,7 @@ pub(crate) struct Settled {
 
 /// Frees a page, if no cell is used at the head of its run.
 fn free_unused(turn: &mut Turn, words: &Words, page: u64, head: u64)
-    requires one_table { turn.old.pass.table ≡ words.now }
-    requires free { IsFreeForCycle turn.old.pass }
-    requires phase { IsAtPhase turn.old.pass 4 }
+    requires turn { IsTurnAt 4 words.now turn.old.pass }
     requires within { page < words.now.config.pages }
     requires near { head < words.now.config.pages }
     requires head { head ≡ head_page (now_of turn.old.pass).words page }
@@ -38,7 +36,7 @@ fn free_unused(turn: &mut Turn, words: &Words, page: u64, head: u64)
     ensures settled { IsSettledPage turn.new.pass page }
 {
     if known_page(turn, head).used == 0 {
-        free_head(turn, words, page);
+        turn.head(words, page, 0);
     }
 }
 
@@ -51,10 +49,8 @@ fn settle_taken(
     page: u64,
     header: &ReadHeader,
 ) -> Settled
-    requires one_table { turn.old.pass.table ≡ words.now }
+    requires turn { IsTurnAt 4 words.now turn.old.pass }
     requires pages { pages ≡ words.now.config.pages }
-    requires free { IsFreeForCycle turn.old.pass }
-    requires phase { IsAtPhase turn.old.pass 4 }
     requires within { page < words.now.config.pages }
     requires header { header.now ≡ header_at (now_of turn.old.pass).words page }
     requires cells { HasFreeCells turn.old.pass page }
@@ -93,9 +89,7 @@ fn next_to_settle(turn: &Turn, pages: u64, from: u64, end: u64) -> Option<u64>
 /// pages of runs: nothing was released on them, and they are in use.
 #[inline(always)]
 pub(crate) fn settle_pages(turn: &mut Turn, words: &Words) -> Settled
-    requires one_table { turn.old.pass.table ≡ words.now }
-    requires free { IsFreeForCycle turn.old.pass }
-    requires phase { IsAtPhase turn.old.pass 4 }
+    requires turn { IsTurnAt 4 words.now turn.old.pass }
     requires cells { (page : ℕ) → page < words.now.config.pages → HasFreeCells turn.old.pass page }
     requires occupied { (page : ℕ) → IsOccupied turn.old.pass page }
     ensures op { turn.new.op ≡ turn.old.op }

@@ -9,7 +9,7 @@ ghost use Rattle.mk_cycle.specs.EngineLaw.{IsFreeForCycle, is_register};
 ghost use Rattle.mk_cycle.specs.Tallying.{Sets, with_cycle_counted, with_tally};
 ghost use Rattle.mk_cycle.specs.TurnKeeps.{unchanged};
 
-use crate::turn_steps;
+use crate::turn_steps::{self, in_turn};
 use mk_core::{Tally, Word};
 use mk_words::{Turn, Words};
 
@@ -28,13 +28,15 @@ fn look(turn: &mut Turn, words: &Words, x: Word) -> u64
 }
 
 /// Stores a tally.
+#[tactic(auto, using(crate::proofs::Allowed::tally_allowed))]
 fn set(turn: &mut Turn, words: &Words, n: Tally, v: u64)
     requires one_table { turn.old.pass.table ≡ words.now }
     requires free { IsFreeForCycle turn.old.pass }
     ensures op { turn.new.op ≡ turn.old.op }
     ensures sets { Sets (with_tally n v) turn.old.pass turn.new.pass }
 {
-    turn_steps::tally(turn, words, n, v);
+    in_turn(turn);
+    turn.tally(words, n, v);
 }
 
 /// Raises a tally, to 2^64 - 1 at most.

@@ -1,17 +1,16 @@
 //! Released cells are wiped: their words are looked at, in a table of this many pages, and what isn't 0 is stored to.
 ghost use Rattle.std.specs.Prelude.{◌≡◌, ◌<◌, ◌+◌, ◌*◌, ◌/◌, ℕ, true, slice_index};
 ghost use Rattle.mk_core.specs.Bits.{has_bit};
-ghost use Rattle.mk_core.specs.Cells.{left_unmarked, words_under};
-ghost use Rattle.mk_core.specs.Words.{header_at};
+ghost use Rattle.mk_core.specs.Cells.{words_under};
 ghost use Rattle.mk_geom.specs.Headers.{header_of};
 ghost use Rattle.mk_words.specs.States.{now_of};
-ghost use Rattle.mk_cycle.specs.EngineLaw.{IsFreeForCycle, IsAtPhase};
-ghost use Rattle.mk_cycle.specs.Freeing.{GivesNothingBack, HasFreeCells, IsUnmapped, IsZero, IsUnmappedWord};
+ghost use Rattle.mk_cycle.specs.EngineLaw.{IsTurnAt};
+ghost use Rattle.mk_cycle.specs.Freeing.{AreFreeCells, GivesNothingBack, IsZero, IsUnmappedWord};
 ghost use Rattle.mk_cycle.specs.TurnKeeps.{InTurn};
 
 use crate::bits::lowest_bit;
 use crate::reading::ReadHeader;
-use crate::turn_steps::{in_turn, wipe};
+use crate::turn_steps::in_turn;
 use mk_core::{Word, bit, without};
 use mk_words::{Turn, Words};
 
@@ -21,10 +20,8 @@ const PAGE_PAIRS: u64 = 32;
 /// Looks at a word of the heap, which is on this page.
 #[inline(always)]
 fn look_at_heap(turn: &mut Turn, words: &Words, pages: u64, page: u64, word: u64) -> u64
-    requires one_table { turn.old.pass.table ≡ words.now }
+    requires turn { IsTurnAt 4 words.now turn.old.pass }
     requires pages { pages ≡ words.now.config.pages }
-    requires free { IsFreeForCycle turn.old.pass }
-    requires phase { IsAtPhase turn.old.pass 4 }
     requires within { word < 64 * words.now.config.pages }
     requires page { page ≡ word / 64 }
     ensures op { turn.new.op ≡ turn.old.op }
@@ -39,10 +36,8 @@ fn look_at_heap(turn: &mut Turn, words: &Words, pages: u64, page: u64, word: u64
 /// Sets a word of no mapped allocation, which is on this page, to 0.
 #[inline(always)]
 fn wipe_word(turn: &mut Turn, words: &Words, pages: u64, page: u64, word: u64)
-    requires one_table { turn.old.pass.table ≡ words.now }
+    requires turn { IsTurnAt 4 words.now turn.old.pass }
     requires pages { pages ≡ words.now.config.pages }
-    requires free { IsFreeForCycle turn.old.pass }
-    requires phase { IsAtPhase turn.old.pass 4 }
     requires page { page ≡ word / 64 }
     requires unmapped { IsUnmappedWord turn.old.pass word }
     ensures op { turn.new.op ≡ turn.old.op }
@@ -50,17 +45,15 @@ fn wipe_word(turn: &mut Turn, words: &Words, pages: u64, page: u64, word: u64)
     ensures zero { IsZero turn.new.pass word }
 {
     if look_at_heap(turn, words, pages, page, word) != 0 {
-        wipe(turn, words, word);
+        turn.wipe(words, word);
     }
 }
 
 /// Sets a pair of words to 0. The pairs begin at even words, so that both are on one page.
 #[inline(always)]
 fn wipe_pair(turn: &mut Turn, words: &Words, pages: u64, pair: u64)
-    requires one_table { turn.old.pass.table ≡ words.now }
+    requires turn { IsTurnAt 4 words.now turn.old.pass }
     requires pages { pages ≡ words.now.config.pages }
-    requires free { IsFreeForCycle turn.old.pass }
-    requires phase { IsAtPhase turn.old.pass 4 }
     requires first { IsUnmappedWord turn.old.pass (2 * pair) }
     requires second { IsUnmappedWord turn.old.pass (2 * pair + 1) }
     ensures op { turn.new.op ≡ turn.old.op }
@@ -76,10 +69,8 @@ fn wipe_pair(turn: &mut Turn, words: &Words, pages: u64, pair: u64)
 
 /// Sets this many pairs of words, from a first one on, to 0.
 fn wipe_cell(turn: &mut Turn, words: &Words, pages: u64, first: u64, pairs: u64)
-    requires one_table { turn.old.pass.table ≡ words.now }
+    requires turn { IsTurnAt 4 words.now turn.old.pass }
     requires pages { pages ≡ words.now.config.pages }
-    requires free { IsFreeForCycle turn.old.pass }
-    requires phase { IsAtPhase turn.old.pass 4 }
     requires unmapped { (i : ℕ) → i < 2 * pairs → IsUnmappedWord turn.old.pass (2 * first + i) }
     ensures op { turn.new.op ≡ turn.old.op }
     ensures frees { GivesNothingBack turn.old.pass turn.new.pass }
@@ -93,10 +84,8 @@ fn wipe_cell(turn: &mut Turn, words: &Words, pages: u64, first: u64, pairs: u64)
 
 /// Sets the words of those cells of a page to 0 whose bits are set. It goes from bit to bit.
 fn wipe_cells(turn: &mut Turn, words: &Words, pages: u64, page: u64, cells: u64, pairs: u64)
-    requires one_table { turn.old.pass.table ≡ words.now }
+    requires turn { IsTurnAt 4 words.now turn.old.pass }
     requires pages { pages ≡ words.now.config.pages }
-    requires free { IsFreeForCycle turn.old.pass }
-    requires phase { IsAtPhase turn.old.pass 4 }
     requires within { page < words.now.config.pages }
     requires few { pairs < 2049 }
     requires unmapped { (k i : ℕ) → has_bit cells k ≡ true → i < 2 * pairs
@@ -125,15 +114,10 @@ pub(crate) fn wipe_released(
     header: &ReadHeader,
     cells: u64,
 )
-    requires one_table { turn.old.pass.table ≡ words.now }
+    requires turn { IsTurnAt 4 words.now turn.old.pass }
     requires pages { pages ≡ words.now.config.pages }
-    requires free { IsFreeForCycle turn.old.pass }
-    requires phase { IsAtPhase turn.old.pass 4 }
     requires within { page < words.now.config.pages }
-    requires header { header.now ≡ header_at (now_of turn.old.pass).words page }
-    requires released { (k : ℕ) → has_bit cells k ≡ true
-        → has_bit (left_unmarked (now_of turn.old.pass).words page) k ≡ true }
-    requires cells { HasFreeCells turn.old.pass page }
+    requires cells { AreFreeCells turn.old.pass page header.now cells }
     ensures op { turn.new.op ≡ turn.old.op }
     ensures frees { GivesNothingBack turn.old.pass turn.new.pass }
     ensures zeros { (k : ℕ) → k < 32 → (i : ℕ) → has_bit cells k ≡ true → i < words_under (header_of header.now)

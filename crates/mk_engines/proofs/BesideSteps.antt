@@ -6,9 +6,9 @@ use Rattle.mk_laws.proofs.Vocabulary.{and_parts, ap, arith, cases_lt, cells_unde
 use Rattle.mk_laws.proofs.Vocabulary.{false_from_ne_true, flight_of, found, get_or-set_other, get_or-set_same}
 use Rattle.mk_laws.proofs.Vocabulary.{get_or_past, has_gates, header_at, header_of, histories_keep_lengths}
 use Rattle.mk_laws.proofs.Vocabulary.{if◌then◌else◌, inl, inr, is_held, is_marked, is_number_of, length, lt-ltb}
-use Rattle.mk_laws.proofs.Vocabulary.{marks_place, not, object_made, or_else, page_at_address, phase_of, place_now}
-use Rattle.mk_laws.proofs.Vocabulary.{pointed_cell, points_well, refl, set_past, slice_index, slice_set, subst, sym}
-use Rattle.mk_laws.proofs.Vocabulary.{true, world_behind, ◌++◌, ◌<◌, ◌==◌, ◌^◌, ◌||◌, ◌∙◌, ◌≡◌, ◌≢◌}
+use Rattle.mk_laws.proofs.Vocabulary.{marks_place, not, object_made, or_else, phase_of, place_now, pointed_cell}
+use Rattle.mk_laws.proofs.Vocabulary.{points_well, refl, set_past, slice_index, slice_set, subst, sym, true}
+use Rattle.mk_laws.proofs.Vocabulary.{world_behind, ◌++◌, ◌<◌, ◌==◌, ◌^◌, ◌||◌, ◌∙◌, ◌≡◌, ◌≢◌}
 use Rattle.mk_core.proofs.PointedPages.{pointed_within}
 use Rattle.mk_core.specs.{Effects.hand_given, Frames.steady_of, Growing.Finding, Ranges.is_word}
 use Rattle.mk_core.specs.{StopConditions.marks_by_hand, Words.named_word, declared.seats.Source.TheVariants.Root}
@@ -54,7 +54,7 @@ root_is_no_heap_word c m _ h = tt
 
 -- Which steps may come.
 
-module _ (p : PassState) (t : InTurn p) (b : IsBeside p) where
+module _ {p : PassState} (t : InTurn p) (b : IsBeside p) where
   pub may_look_at_root : (x : Word) → is_word p.table.config x ≡ true → is_root x ≡ true → IsOpenToLook p x
       → IsEnabledTo p (Step.Look x)
   may_look_at_root x range root seen =
@@ -67,23 +67,22 @@ module _ (p : PassState) (t : InTurn p) (b : IsBeside p) where
       gates _ h o = cc
 
   pub may_open : (j : ℕ) → j < p.table.config.callers → is_number_of p.seat j ≡ false
-      → is_held (now_of p).words j ≡ true
-      → IsEnabledTo p (Step.Open j)
+      → is_held (now_of p).words j ≡ true → IsEnabledTo p (Step.Open j)
   may_open j lt other held =
       may_act p (Step.Open j) (protocol p t b.free) t.holds b.free.decided refl
       (and_from _ (not _) (lt-ltb j _ lt) (ap not other)) held (ap (λ (n : ℕ). not (n == 3)) b.marking) b.free.gone
 
-  hand_marks : (cell : Cell) (r : HandPointsInto p cell)
+  hand_marks : {cell : Cell} (r : HandPointsInto p cell)
       → marks_by_hand p.table.config.pages (now_of p).words (hand_of p) cell.page (2 ^ cell.index) ≡ true
-  hand_marks cell r = grind (arith, marks_by)
+  hand_marks r = grind (arith, marks_by)
 
-  pub may_mark_beside : (cell : Cell) → HandPointsInto p cell → IsEnabledTo p (Step.Mark cell.page (2 ^ cell.index))
-  may_mark_beside cell r =
+  pub may_mark_beside : {cell : Cell} → HandPointsInto p cell → IsEnabledTo p (Step.Mark cell.page (2 ^ cell.index))
+  may_mark_beside {cell} r =
       let within = pointed_within p.table.config.pages (now_of p).words r.value cell r.points in
       may_act p (Step.Mark cell.page (2 ^ cell.index)) (protocol p t b.free) t.holds b.free.decided refl
       (lt-ltb cell.page _ within.0) refl (ap (λ (n : ℕ). (n == 1) || (n == 2)) b.marking)
       (ap (λ (x : Bool). x || marks_place (now_of p).words (object_made p.table.config (call_of p).op)
-      (place_now p.table.config (now_of p) (call_of p)) cell.page (2 ^ cell.index)) (hand_marks cell r))
+      (place_now p.table.config (now_of p) (call_of p)) cell.page (2 ^ cell.index)) (hand_marks r))
 
 -- One step.
 module _ (t u : TurnState) (s : Step) (a : Acts t.pass s u.pass) (b : IsBeside t.pass) (same : u.op ≡ t.op) where
@@ -104,12 +103,11 @@ module _ (t u : TurnState) (s : Step) (a : Acts t.pass s u.pass) (b : IsBeside t
       (marks_kind c (world_at a.makes).now _ s early d.meets) v (is_well c (world_at a.makes).now.words v others))
 
   pub goes_step : begins_marking s ≡ true → is_head s ≡ false → looks_at_root s ≡ false
-      → LeavesTurn unchanged t.pass u.pass
-      → TracesReached c (world_at a.makes).now s → GoesBeside t u
+      → LeavesTurn unchanged t.pass u.pass → TracesReached c (world_at a.makes).now s → GoesBeside t u
   goes_step kind none plain keeps rule = record {
     table = ap (λ (x : PassState). x.table) a.makes.is;
     op = same;
-    beside = still_beside t.pass u.pass b keeps;
+    beside = still_beside b keeps;
     marks = record {
       does = does_step begins_marking t.pass u.pass s a.makes kind;
       keeps = keeps;
@@ -124,32 +122,31 @@ module _ (t u : TurnState) (s : Step) (a : Acts t.pass s u.pass) (b : IsBeside t
   }
 
 module _ (t u : TurnState) (b : IsBeside t.pass) (same : u.op ≡ t.op) where
-  pub goes_look : (x : Word) → Acts t.pass (Step.Look x) u.pass → gives_no_hand x ≡ true → GoesBeside t u
-  goes_look x a plain =
+  pub goes_look : {x : Word} → Acts t.pass (Step.Look x) u.pass → gives_no_hand x ≡ true → GoesBeside t u
+  goes_look {x} a plain =
       goes_step t u (Step.Look x) a b same refl refl (no_root x plain)
       (calm_keeps t.pass (Step.Look x) u.pass a (in_turn_before a) a.makes.pass.history refl b.free unchanged refl)
       (no_heap_word t.pass.table.config (world_at a.makes).now x plain)
 
-  pub goes_hold : (j : ℕ) → Acts t.pass (Step.Hold j) u.pass → GoesBeside t u
-  goes_hold j a =
+  pub goes_hold : {j : ℕ} → Acts t.pass (Step.Hold j) u.pass → GoesBeside t u
+  goes_hold {j} a =
       goes_step t u (Step.Hold j) a b same refl refl refl
       (calm_keeps t.pass (Step.Hold j) u.pass a (in_turn_before a) a.makes.pass.history refl b.free unchanged refl) tt
 
-  pub goes_open : (j : ℕ) → Acts t.pass (Step.Open j) u.pass → GoesBeside t u
-  goes_open j a =
+  pub goes_open : {j : ℕ} → Acts t.pass (Step.Open j) u.pass → GoesBeside t u
+  goes_open {j} a =
       goes_step t u (Step.Open j) a b same refl refl refl
       (calm_keeps t.pass (Step.Open j) u.pass a (in_turn_before a) a.makes.pass.history refl b.free unchanged refl) tt
 
-  pub finds_in_root : (x : Word) (n : ℕ) → Acts t.pass (Step.Look x) u.pass → Finds t.pass (Step.Look x) n u.pass
-      → is_root x ≡ true
-      → FindsInRoot x n t u
-  finds_in_root x n a f root =
+  pub finds_in_root : {x : Word} (n : ℕ) → Acts t.pass (Step.Look x) u.pass → Finds t.pass (Step.Look x) n u.pass
+      → is_root x ≡ true → FindsInRoot x n t u
+  finds_in_root {x} n a f root =
       let keeps = calm_keeps t.pass (Step.Look x) u.pass a (in_turn_before a) a.makes.pass.history refl b.free
       unchanged refl in
       record {
         table = ap (λ (y : PassState). y.table) a.makes.is;
         op = same;
-        beside = still_beside t.pass u.pass b keeps;
+        beside = still_beside b keeps;
         does = does_step begins_marking t.pass u.pass (Step.Look x) a.makes refl;
         keeps = keeps;
         reached = keeps_step t.pass (Step.Look x) u.pass a.makes TracesReached (own_before a.makes)
@@ -160,7 +157,7 @@ module _ (t u : TurnState) (b : IsBeside t.pass) (same : u.op ≡ t.op) where
 
 -- the hand after a look
 
-module _ (p q : PassState) (x : Word) (a : Acts p (Step.Look x) q) where
+module _ {p q : PassState} {x : Word} (a : Acts p (Step.Look x) q) where
   hand_now : hand_of q ≡ or_else (hand_given p.table.config (world_at a.makes).now p.seat x
       (found p.table.config (world_at a.makes).now (event_of p (Step.Look x)))) (hand_of p)
   hand_now = grind arith
@@ -182,14 +179,13 @@ module _ (p q : PassState) (x : Word) (a : Acts p (Step.Look x) q) where
 
 -- The cell into which a value points is looked for.
 
-pub may_look_at_headers : (p : PassState) → InTurn p → IsBeside p → MayLookAtHeaders p
-may_look_at_headers p t b page lt = look_allowed p t b.free (Word.Head page) (lt-ltb page _ lt) refl
+pub may_look_at_headers : {p : PassState} → InTurn p → IsBeside p → MayLookAtHeaders p
+may_look_at_headers {p} t b page lt = look_allowed p t b.free (Word.Head page) (lt-ltb page _ lt) refl
 
 module _ {value : ℕ} {t u : TurnState} (l : LooksForCell value t u) where
   pub goes_for_cell : IsBeside t.pass → GoesBeside t u
   goes_for_cell b =
-      looked_for (λ (v : TurnState). GoesBeside t v) l (goes_nowhere t b)
-      (λ a. goes_look t u b l.op (Word.Head (page_at_address value)) a refl)
+      looked_for (λ (v : TurnState). GoesBeside t v) l (goes_nowhere t b) (λ a. goes_look t u b l.op a refl)
 
   pub gates_for_cell : KeepsGates t.pass u.pass
   gates_for_cell = grind (arith, looked_for, gates_at_once, gates_behind)
@@ -205,7 +201,7 @@ no_place w o None page value ne = refl
 no_place w o (Some x) page value ne = grind (arith, false_from_ne_true, and_parts, eqb-true)
 
 module _ (t u : TurnState) (b : IsBeside t.pass) (same : u.op ≡ t.op)
-    (cell : Cell) (a : Acts t.pass (Step.Mark cell.page (2 ^ cell.index)) u.pass) (r : HandPointsInto t.pass cell) where
+    {cell : Cell} (a : Acts t.pass (Step.Mark cell.page (2 ^ cell.index)) u.pass) (r : HandPointsInto t.pass cell) where
   points_there : pointed_cell t.pass.table.config.pages (world_at a.makes).now.words.pages r.value ≡ Some cell
   points_there = ap (λ (x : Steady). pointed_cell t.pass.table.config.pages x.pages r.value) a.turn.steady ∙ r.points
 
@@ -233,8 +229,7 @@ module _ (t u : TurnState) (b : IsBeside t.pass) (same : u.op ≡ t.op)
             keeps_call t.pass (Step.Mark cell.page (2 ^ cell.index)) u.pass a (own_before a.makes) a.holds
             a.makes.pass.history (λ n. refl)
             (λ n. ap (λ (x : Bool). done_in (record m.seats.holding { placing = if x then then_placed else placed }))
-            (no_place m.words (object_made c f.op) (place_now c m f) cell.page (2 ^ cell.index) has_header))
-            refl;
+            (no_place m.words (object_made c f.op) (place_now c m f) cell.page (2 ^ cell.index) has_header)) refl;
         steady = ap (λ (x : World). steady_of x) a.world ∙ a.turn.steady;
         counts =
             keeps_counts _ (Step.Mark cell.page (2 ^ cell.index)) _ a (own_before a.makes) a.holds a.makes.pass.history
@@ -260,8 +255,7 @@ module _ (t u : TurnState) (b : IsBeside t.pass) (same : u.op ≡ t.op)
       let c : Config = t.pass.table.config in
       let x : Words = (world_at a.makes).now.words in
       let within = pointed_within c.pages x r.value cell points_there in
-      ap (λ (v : World). is_marked v.now.words cell) a.world
-      ∙ marked_now x (world_behind c (world_at a.makes)
+      ap (λ (v : World). is_marked v.now.words cell) a.world ∙ marked_now x (world_behind c (world_at a.makes)
       (event_of t.pass (Step.Mark cell.page (2 ^ cell.index)))).now.words cell
       (subst (λ (n : ℕ). cell.page < n) (sym (histories_keep_lengths c (t.pass.seen ++ a.makes.others)).marks) within.0)
       within.1 refl
@@ -274,24 +268,22 @@ open_at gs j = elim (cases_lt j (length gs)) [
   | inr past ↦ cc (set_past gs j 0 past, get_or_past gs j 0 past)
 ]
 
-module _ (p : PassState) (s : Step) (q : PassState) (a : Acts p s q) where
+module _ {p : PassState} {s : Step} {q : PassState} (a : Acts p s q) where
   others_behind : (caller : ℕ) → ((j : ℕ) → j ≢ caller
       → slice_index (world_behind p.table.config (world_at a.makes) (event_of p s)).now.words.gates j
       ≡ slice_index (world_at a.makes).now.words.gates j) → KeepsOtherGates caller p q
   others_behind caller same j lt ne = grind (arith, held_so)
 
-pub hold_others : (p : PassState) (caller : ℕ) (q : PassState) → Acts p (Step.Hold caller) q
+pub hold_others : {p : PassState} {caller : ℕ} {q : PassState} → Acts p (Step.Hold caller) q
     → KeepsOtherGates caller p q
-hold_others p caller q a =
-    others_behind p (Step.Hold caller) q a caller
-    (λ j ne. get_or-set_other (world_at a.makes).now.words.gates caller j _ 0 ne)
+hold_others {p} {caller} {q} a =
+    others_behind a caller (λ j ne. get_or-set_other (world_at a.makes).now.words.gates caller j _ 0 ne)
 
-pub open_others : (p : PassState) (caller : ℕ) (q : PassState) → Acts p (Step.Open caller) q
+pub open_others : {p : PassState} {caller : ℕ} {q : PassState} → Acts p (Step.Open caller) q
     → KeepsOtherGates caller p q
-open_others p caller q a =
-    others_behind p (Step.Open caller) q a caller
-    (λ j ne. get_or-set_other (world_at a.makes).now.words.gates caller j 0 0 ne)
+open_others {p} {caller} {q} a =
+    others_behind a caller (λ j ne. get_or-set_other (world_at a.makes).now.words.gates caller j 0 0 ne)
 
-pub opened : (p : PassState) (caller : ℕ) (q : PassState) → Acts p (Step.Open caller) q
+pub opened : {p : PassState} {caller : ℕ} {q : PassState} → Acts p (Step.Open caller) q
     → is_held (now_of q).words caller ≡ false
-opened p caller q a = grind (arith, open_at)
+opened a = grind (arith, open_at)

@@ -8,9 +8,9 @@ use Rattle.mk_tracing.specs.{Grays.TracesReached, Stops.is_root, Tracing.OwnStep
 use Rattle.mk_turns.specs.Doing.{done_in}
 use Rattle.mk_words.specs.States.{PassState, world_of}
 
-pub marks_roots : (p q : PassState) → MarksBeside p q
+pub marks_roots : {p q : PassState} → MarksBeside p q
     → ((x : Word) → is_root x ≡ true → is_word p.table.config x ≡ true → LooksAt x p q) → IsBegun MarksRoots p q
-marks_roots p q marks looked =
+marks_roots {p} {q} marks looked =
     let d = marks.does in
     let since = since_is p q d.more d.is in
     record {

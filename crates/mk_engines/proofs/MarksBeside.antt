@@ -16,8 +16,8 @@ use Rattle.mk_turns.{proofs.Doing.does_nothing, proofs.Doing.does_then, specs.Do
 use Rattle.mk_words.specs.States.{PassState, TurnState, event_of, now_of}
 
 -- The turn goes on being free, and the cycle marking.
-pub still_beside : (p q : PassState) → IsBeside p → LeavesTurn unchanged p q → IsBeside q
-still_beside p q b k = grind (arith, free_then)
+pub still_beside : {p q : PassState} → IsBeside p → LeavesTurn unchanged p q → IsBeside q
+still_beside b k = grind (arith, free_then)
 
 pub beside_nothing : (p : PassState) → MarksBeside p p
 beside_nothing p = grind (arith, does_nothing, keeps_at_once, nothing_keeps, nothing_done)
@@ -44,65 +44,45 @@ found_on pages w v well xs is = grind (arith, all_on, or_on)
 
 -- Two parts, where the first is of these events.
 module _ (p : PassState) (xs : List Event) (r : PassState) where
-  two_parts : MarksBeside p (record p { seen = p.seen ++ xs }) → MarksBeside (record p { seen = p.seen ++ xs }) r
-      → MarksBeside p r
+  abbrev q : PassState
+  q = record p { seen = p.seen ++ xs }
+
+  abbrev still_found : List Finding → Bool
+  still_found fs = list_all (found_well p.table.config.pages (now_of r).words) fs
+
+  joined : Does begins_marking p q → LeavesTurn unchanged p q → MarksReachedAlone p q → StaysWell p q
+      → still_found (done_since p q) ≡ true → MarksBeside q r → MarksBeside p r
+  joined does keeps reached well found b = record {
+    does = does_then begins_marking p q r does b.does;
+    keeps = keeps_then unchanged p q r keeps b.keeps;
+    reached = rule_then p xs r b.does.more b.does.is TracesReached reached b.reached;
+    found =
+        ap still_found (done_then p xs r b.does.more b.does.is)
+        ∙ list_all-append (found_well p.table.config.pages (now_of r).words) (done_since p q) (done_since q r)
+        ∙ and_from (still_found (done_since p q)) (still_found (done_since q r)) found b.found;
+    well = λ u h. b.well u (well u h);
+  }
+
+  two_parts : MarksBeside p q → MarksBeside q r → MarksBeside p r
   two_parts a b =
-      let q : PassState = record p { seen = p.seen ++ xs } in
-      let pages : ℕ = p.table.config.pages in
-      record {
-        does = does_then begins_marking p q r a.does b.does;
-        keeps = keeps_then unchanged p q r a.keeps b.keeps;
-        reached = rule_then p xs r b.does.more b.does.is TracesReached a.reached b.reached;
-        found =
-            ap (λ (fs : List Finding). list_all (found_well pages (now_of r).words) fs)
-            (done_then p xs r b.does.more b.does.is)
-            ∙ list_all-append (found_well pages (now_of r).words) (done_since p q) (done_since q r)
-            ∙ and_from (list_all (found_well pages (now_of r).words) (done_since p q))
-            (list_all (found_well pages (now_of r).words) (done_since q r))
-            (found_on pages (now_of q).words (now_of r).words b.well (done_since p q) a.found) b.found;
-        well = λ u h. b.well u (a.well u h);
-      }
+      joined a.does a.keeps a.reached a.well
+      (found_on p.table.config.pages (now_of q).words (now_of r).words b.well (done_since p q) a.found) b
 
-  root_part : (x : Word) (n : ℕ) → IsBeside p → Does begins_marking p (record p { seen = p.seen ++ xs })
-      → LeavesTurn unchanged p (record p { seen = p.seen ++ xs }) → MarksReachedAlone p (record p {
-        seen = p.seen
-            ++ xs;
-      })
-      → StaysWell p (record p { seen = p.seen ++ xs })
-      → done_since p (record p { seen = p.seen ++ xs }) ≡ record { event = event_of p (Step.Look x); found = n } ∷ []
-      → MarksBeside (record p { seen = p.seen ++ xs }) r → points_well p.table.config.pages (now_of r).words n ≡ true
-      → MarksBeside p r
-  root_part x n beside does keeps reached well done b here =
-      let q : PassState = record p { seen = p.seen ++ xs } in
-      let pages : ℕ = p.table.config.pages in
-      record {
-        does = does_then begins_marking p q r does b.does;
-        keeps = keeps_then unchanged p q r keeps b.keeps;
-        reached = rule_then p xs r b.does.more b.does.is TracesReached reached b.reached;
-        found =
-            ap (λ (fs : List Finding). list_all (found_well pages (now_of r).words) fs)
-            (done_then p xs r b.does.more b.does.is)
-            ∙ list_all-append (found_well pages (now_of r).words) (done_since p q) (done_since q r)
-            ∙ and_from (list_all (found_well pages (now_of r).words) (done_since p q))
-            (list_all (found_well pages (now_of r).words) (done_since q r))
-            (ap (λ (fs : List Finding). list_all (found_well pages (now_of r).words) fs) done
-            ∙ and_from (not (is_root x) || points_well pages (now_of r).words n) true
-            (or_right (not (is_root x)) (points_well pages (now_of r).words n) here) refl)
-            b.found;
-        well = λ u h. b.well u (well u h);
-      }
+  root_part : (x : Word) (n : ℕ) → Does begins_marking p q → LeavesTurn unchanged p q → MarksReachedAlone p q
+      → StaysWell p q → done_since p q ≡ record { event = event_of p (Step.Look x); found = n } ∷ []
+      → MarksBeside q r → points_well p.table.config.pages (now_of r).words n ≡ true → MarksBeside p r
+  root_part x n does keeps reached well done b here =
+      joined does keeps reached well (ap still_found done
+      ∙ and_from (not (is_root x) || points_well p.table.config.pages (now_of r).words n) true
+      (or_right (not (is_root x)) (points_well p.table.config.pages (now_of r).words n) here) refl) b
 
-  looked_first : (x : Word) → Does begins_marking (record p { seen = p.seen ++ xs }) r
-      → LooksAt x p (record p { seen = p.seen ++ xs }) → LooksAt x p r
+  looked_first : (x : Word) → Does begins_marking q r → LooksAt x p q → LooksAt x p r
   looked_first x d here =
-      let q : PassState = record p { seen = p.seen ++ xs } in
       let test : Finding → Bool = λ (f : Finding). looks_at x f.event.step in
       cc (done_then p xs r d.more d.is, list_any-append test (done_since p q) (done_since q r), here)
 
-  looked_second : (x : Word) → Does begins_marking (record p { seen = p.seen ++ xs }) r
-      → LooksAt x (record p { seen = p.seen ++ xs }) r → LooksAt x p r
+  looked_second : (x : Word) → Does begins_marking q r → LooksAt x q r → LooksAt x p r
   looked_second x d here =
-      let q : PassState = record p { seen = p.seen ++ xs } in
       let test : Finding → Bool = λ (f : Finding). looks_at x f.event.step in
       ap (λ (fs : List Finding). list_any test fs) (done_then p xs r d.more d.is)
       ∙ list_any-append test (done_since p q) (done_since q r)
@@ -110,30 +90,30 @@ module _ (p : PassState) (xs : List Event) (r : PassState) where
 
 -- One part after another.
 
-pub beside_then : (p q r : PassState) → MarksBeside p q → MarksBeside q r → MarksBeside p r
-beside_then p q r a b =
+pub beside_then : {p q r : PassState} → MarksBeside p q → MarksBeside q r → MarksBeside p r
+beside_then {p} {r} a b =
     subst (λ (x : PassState). MarksBeside p x → MarksBeside x r → MarksBeside p r) (sym a.does.is)
     (two_parts p a.does.more r) a b
 
-pub goes_then : (t u v : TurnState) → GoesBeside t u → GoesBeside u v → GoesBeside t v
-goes_then t u v a b = record {
+pub goes_then : {t u v : TurnState} → GoesBeside t u → GoesBeside u v → GoesBeside t v
+goes_then {t} {u} {v} a b = record {
   table = b.table ∙ a.table;
   op = b.op ∙ a.op;
   beside = b.beside;
-  marks = beside_then t.pass u.pass v.pass a.marks b.marks;
+  marks = beside_then a.marks b.marks;
 }
 
 -- A root was looked at in the first part, or in the second.
 
-pub looked_then : (x : Word) (p q r : PassState) → Does begins_marking p q → Does begins_marking q r
+pub looked_then : (x : Word) {p q r : PassState} → Does begins_marking p q → Does begins_marking q r
     → LooksAt x p q → LooksAt x p r
-looked_then x p q r d e here =
+looked_then x {p = p} {r = r} d e here =
     subst (λ (y : PassState). Does begins_marking y r → LooksAt x p y → LooksAt x p r) (sym d.is)
     (looked_first p d.more r x) e here
 
-pub then_looked : (x : Word) (p q r : PassState) → Does begins_marking p q → Does begins_marking q r
+pub then_looked : (x : Word) {p q r : PassState} → Does begins_marking p q → Does begins_marking q r
     → LooksAt x q r → LooksAt x p r
-then_looked x p q r d e here =
+then_looked x {p = p} {r = r} d e here =
     subst (λ (y : PassState). Does begins_marking y r → LooksAt x y r → LooksAt x p r) (sym d.is)
     (looked_second p d.more r x) e here
 
@@ -144,43 +124,38 @@ same_root (Word.Reg j r) h = and_from (j == j) (r == r) (eq-eqb j j refl) (eq-eq
 same_root (Word.Global g) h = eq-eqb g g refl
 same_root _ h = cc
 
-module _ (x : Word) (n : ℕ) (t u v : TurnState) (beside : IsBeside t.pass) (f : FindsInRoot x n t u)
-    (b : GoesBeside u v) where
+module _ {x : Word} {n : ℕ} {t u v : TurnState} (f : FindsInRoot x n t u) (b : GoesBeside u v) where
   pub root_then : points_well t.pass.table.config.pages (now_of v.pass).words n ≡ true → GoesBeside t v
-  root_then here =
-      record {
-        table = b.table ∙ f.table;
-        op = b.op ∙ f.op;
-        beside = b.beside;
-        marks =
-            subst (λ (y : PassState). Does begins_marking t.pass y → LeavesTurn unchanged t.pass y
-            → MarksReachedAlone t.pass y
-            → StaysWell t.pass y → done_since t.pass y ≡ record
-            { event = event_of t.pass (Step.Look x); found = n } ∷ []
-            → MarksBeside y v.pass → points_well t.pass.table.config.pages (now_of v.pass).words n ≡ true
-            → MarksBeside t.pass v.pass)
-            (sym f.does.is) (root_part t.pass f.does.more v.pass x n beside)
-            f.does f.keeps f.reached f.well f.done b.marks here;
-      }
+  root_then here = record {
+    table = b.table ∙ f.table;
+    op = b.op ∙ f.op;
+    beside = b.beside;
+    marks =
+        subst (λ (y : PassState). Does begins_marking t.pass y → LeavesTurn unchanged t.pass y
+        → MarksReachedAlone t.pass y → StaysWell t.pass y → done_since t.pass y ≡ record
+        { event = event_of t.pass (Step.Look x); found = n } ∷ []
+        → MarksBeside y v.pass → points_well t.pass.table.config.pages (now_of v.pass).words n ≡ true
+        → MarksBeside t.pass v.pass) (sym f.does.is) (root_part t.pass f.does.more v.pass x n)
+        f.does f.keeps f.reached f.well f.done b.marks here;
+  }
 
   pub root_looked : is_root x ≡ true → LooksAt x t.pass v.pass
   root_looked root =
-      looked_then x _ _ _ f.does b.marks.does
-      (ap (λ (fs : List Finding). list_any (λ (g : Finding). looks_at x g.event.step) fs) f.done
-      ∙ ap (λ (c : Bool). c || false) (same_root x root))
+      looked_then x f.does b.marks.does (ap (λ (fs : List Finding). list_any
+      (λ (g : Finding). looks_at x g.event.step) fs) f.done ∙ ap (λ (c : Bool). c || false) (same_root x root))
 
 -- gates
 
 pub gates_at_once : (p : PassState) → KeepsGates p p
 gates_at_once p j lt = refl
 
-pub gates_on : (t u v : TurnState) → GoesBeside t u → KeepsGates t.pass u.pass → KeepsGates u.pass v.pass
+pub gates_on : {t u : TurnState} (v : TurnState) → GoesBeside t u → KeepsGates t.pass u.pass → KeepsGates u.pass v.pass
     → KeepsGates t.pass v.pass
-gates_on t u v on a b = gates_then t.pass u.pass v.pass on.marks.keeps.call.pass a b
+gates_on {t} {u} v on a b = gates_then t.pass u.pass v.pass on.marks.keeps.call.pass a b
 
-pub others_on : (caller : ℕ) (t u v : TurnState) → GoesBeside t u → KeepsOtherGates caller t.pass u.pass
+pub others_on : (caller : ℕ) {t u : TurnState} (v : TurnState) → GoesBeside t u → KeepsOtherGates caller t.pass u.pass
     → KeepsOtherGates caller u.pass v.pass → KeepsOtherGates caller t.pass v.pass
-others_on caller t u v on a b j lt ne = grind (arith, same_config)
+others_on caller v on a b j lt ne = grind (arith, same_config)
 
 pub held_is : (p : PassState) (caller : ℕ) → is_held (now_of p).words caller ≡ true → IsHeldOrOwn p caller
 held_is p caller h = or_right (is_number_of p.seat caller) (is_held (now_of p).words caller) h
@@ -198,13 +173,13 @@ all_looked p q registers globals _ root h = cc
 
 -- A root that was looked at was so over more of the turn.
 
-pub looked_on : (x : Word) (t u v : TurnState) → GoesBeside t u → GoesBeside u v → LooksAt x t.pass u.pass
+pub looked_on : (x : Word) {t u v : TurnState} → GoesBeside t u → GoesBeside u v → LooksAt x t.pass u.pass
     → LooksAt x t.pass v.pass
-looked_on x t u v a b here = looked_then x t.pass u.pass v.pass a.marks.does b.marks.does here
+looked_on x {t = t} {u = u} {v = v} a b here = looked_then x a.marks.does b.marks.does here
 
-pub on_looked : (x : Word) (t u v : TurnState) → GoesBeside t u → GoesBeside u v → LooksAt x u.pass v.pass
+pub on_looked : (x : Word) {t u v : TurnState} → GoesBeside t u → GoesBeside u v → LooksAt x u.pass v.pass
     → LooksAt x t.pass v.pass
-on_looked x t u v a b here = then_looked x t.pass u.pass v.pass a.marks.does b.marks.does here
+on_looked x {t = t} {u = u} {v = v} a b here = then_looked x a.marks.does b.marks.does here
 
 -- The roots below one are looked at, one after the other.
 pub record RootsLooked (t u : TurnState) (root : ℕ → Word) (n : ℕ) : Type 0 where
@@ -218,8 +193,8 @@ no_root_yet {t} beside = grind (arith, goes_nowhere, gates_at_once)
 pub next_root : {t u v : TurnState} {root : ℕ → Word} {i : ℕ} → RootsLooked t u root i → GoesBeside u v
     → KeepsGates u.pass v.pass → LooksAt (root i) u.pass v.pass → RootsLooked t v root (i + 1)
 next_root {t} {u} {v} {root} {i} before on gates here = record {
-  on = goes_then t u v before.on on;
-  gates = gates_on t u v before.on before.gates gates;
-  looked = below_more _ _ (λ k lt. looked_on (root k) t u v before.on on (before.looked k lt))
-      (on_looked (root i) t u v before.on on here);
+  on = goes_then before.on on;
+  gates = gates_on v before.on before.gates gates;
+  looked = below_more _ _ (λ k lt. looked_on (root k) before.on on (before.looked k lt))
+      (on_looked (root i) before.on on here);
 }

@@ -55,8 +55,7 @@ module _ (p : PassState) (s : Step) (q : PassState) (m : Makes p s q) where
 
   pub done_step : Has p.seats p.seat → done_since p q ≡ record { event = event_of p s; found = found_by m } ∷ []
   done_step has =
-      ap (λ (es : List Event). done_in p es) since_step
-      ∙ done_in_parts p m.others (event_of p s ∷ [])
+      ap (λ (es : List Event). done_in p es) since_step ∙ done_in_parts p m.others (event_of p s ∷ [])
       ∙ ap (λ (zs : List Finding). zs ++ done_in (record p { seen = p.seen ++ m.others }) (event_of p s ∷ []))
       (none_own c p.seats p.seat (left c p.seen) m.others has m.of_others)
       ∙ one_own c p.seat (world_at m) (event_of p s) (same_self p.seat)

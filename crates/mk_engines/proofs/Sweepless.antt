@@ -24,9 +24,9 @@ sweepless_rule p q more is keep = record {
   none = sweepless_from p.table.config p.seat (world_of p) more keep;
 }
 
-pub sweepless_beside : (kinds : Step → Bool) (p q : PassState) → Does kinds p q → MarksReachedAlone p q
+pub sweepless_beside : {kinds : Step → Bool} {p q : PassState} → Does kinds p q → MarksReachedAlone p q
     → SweepsNothing p q
-sweepless_beside kinds p q d keep =
+sweepless_beside {p} {q} d keep =
     sweepless_rule p q d.more d.is
     (subst (λ (es : List Event). OwnStepsKeep TracesReached p.table.config p.seat (world_of p) es)
     (since_is p q d.more d.is) keep)

@@ -30,18 +30,18 @@ loaded_at x o has turn decided = absurd (never (not (is_idle x)) turn)
     never true e = cc
     never false e = cc
 
-loaded_of : (c : Config) (m : Moment) (seat : Seat) → Protocol c m → Holds c m seat
+loaded_of : {c : Config} {m : Moment} (seat : Seat) → Protocol c m → Holds c m seat
     → is_pending_free (flight_of m seat) ≡ false → is_loaded seat (flight_of m seat) ≡ true
-loaded_of c m (Caller k) p holds decided =
+loaded_of {m} (Caller k) p holds decided =
     loaded_at (flight_of m (Caller k)).stage (flight_of m (Caller k)).op (p.stage k holds.0) holds.1 decided
-loaded_of c m (Marker k) p holds decided = refl
-loaded_of c m Host p holds decided = refl
+loaded_of (Marker k) p holds decided = refl
+loaded_of Host p holds decided = refl
 
 pub ready_of : (p : PassState) → IsHistory p.table.config p.seen → Holds p.table.config (now_of p) p.seat
     → IsFreeForCycle p → HolderIsLoaded p
 ready_of p history holds free =
     let protocol = lists_keep_the_protocol p.table.config p.seen history.within_limits history.enabled in
-    record { loaded = loaded_of p.table.config (now_of p) p.seat protocol holds free.decided }
+    record { loaded = loaded_of p.seat protocol holds free.decided }
 
 -- Its kinds are those of the law.
 
@@ -133,9 +133,9 @@ module _ (p q : PassState) (pass : q ≡ record p { seen = q.seen })
   unfolding steady_as
   keeps_turn counts = record { call = keeps_call; steady = ap steady_as same; counts = counts }
 
-pub closes_by_tracing : (p q : PassState) → Counted is_tracing TracesReached is_want p q 1 → IsWanted q
+pub closes_by_tracing : {p q : PassState} → Counted is_tracing TracesReached is_want p q 1 → IsWanted q
     → IsEnabledTo q Step.Close → MarksAreClosed q.table.config (world_of q) → ClosesMarks p q
-closes_by_tracing p q counted wanted close closed =
+closes_by_tracing {p} {q} counted wanted close closed =
     let t : Traces is_tracing TracesReached p q = counted.traces in
     let d : Does is_tracing p q = t.does in
     let pass : q ≡ record p { seen = q.seen } = d.is ∙ ap (λ (x : PassState). record p { seen = x.seen }) (sym d.is) in
@@ -144,8 +144,7 @@ closes_by_tracing p q counted wanted close closed =
         more = d.more;
         is = d.is;
         own_or_others = d.own_or_others;
-        of_kinds = closing_kinds
-            (done_in p d.more) d.of_kinds;
+        of_kinds = closing_kinds (done_in p d.more) d.of_kinds;
       };
       one_want = same_count (done_in p d.more) ∙ counted.count;
       keeps = keeps_turn p q pass t.untouched t.counts;

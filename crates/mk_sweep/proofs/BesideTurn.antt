@@ -59,10 +59,10 @@ move_marks Waits none = refl
 move_marks (Calls f lt le write) none = call_marks write
 move_marks (Marks {k} y lt write) none = absurd (none k refl lt)
 
-one_beside : (c : Config) (s : Seat) (seats : List Seat) (w : World) (e : Event) → HasMarkers seats → Known c w.now
+one_beside : {c : Config} (s : Seat) (seats : List Seat) (w : World) (e : Event) → HasMarkers seats → Known c w.now
     → IsEnabled c w.now e → Holds c w.now s → is_one_of seats e.seat ≡ false → is_same_seat s e.seat ≡ false
     → IsBeside c w e
-one_beside c s seats w e markers known on holds out other =
+one_beside {c} s seats w e markers known on holds out other =
     let meets = enabled_meets c w.now e on in
     let t = holds_turn c w.now s known.orderly holds in
     let turn = turn_of c (view_of w.now) s known.orderly t in
@@ -118,7 +118,7 @@ module _ (kinds : Step → Bool) (leave : LeaveTheTurn kinds) (c : Config) (s : 
   along w (e ∷ es) part =
       let next = known_behind c w.now e part.known part.on.0 in
       let other = λ (h : is_same_seat s e.seat ≡ false).
-      one_beside c s seats w e part.markers part.known part.on.0 part.holds (part.of_seats.0 ∙ h) h in
+      one_beside s seats w e part.markers part.known part.on.0 part.holds (part.of_seats.0 ∙ h) h in
       let turn : (world_behind c w e).now.words.turn ≡ w.now.words.turn =
       elim (cases_Bool (is_same_seat s e.seat)) [
         | inl own ↦ leave c w e.seat e.step (part.own.0 own)
@@ -134,8 +134,8 @@ module _ (kinds : Step → Bool) (leave : LeaveTheTurn kinds) (c : Config) (s : 
       }) in
       record { beside = (other, rest.beside); holds = rest.holds }
 
-  pub still_holds : (w : World) (es : List Event) → PartOfTurn kinds c s seats w es → Holds c (left_from c w es).now s
-  still_holds w es part = (along w es part).holds
+  pub still_holds : {w : World} {es : List Event} → PartOfTurn kinds c s seats w es → Holds c (left_from c w es).now s
+  still_holds {w} {es} part = (along w es part).holds
 
   -- A holder's kind of step that isn't one of these isn't in the part.
   none_in : (kind : Step → Bool) → ((x : Step) → kind x ≡ true → is_holders x ≡ true)
@@ -144,16 +144,16 @@ module _ (kinds : Step → Bool) (leave : LeaveTheTurn kinds) (c : Config) (s : 
   unfolding OwnStepsKeep AreBeside
   none_in kind of_holders out w [] beside own = refl
   none_in kind of_holders out w (e ∷ es) beside own =
-      both_fail (kind e.step) (list_any (λ (x : Event). kind x.step) es)
-      (elim (cases_Bool (is_same_seat s e.seat)) [
+      both_fail (kind e.step) (list_any (λ (x : Event). kind x.step) es) (elim (cases_Bool (is_same_seat s e.seat)) [
         | inl h ↦ out e.step (own.0 h)
         | inr h ↦ false_from_ne_true (kind e.step) (λ is. true≢false (sym (of_holders e.step is) ∙ (beside.0 h).kind))
       ]) (none_in kind of_holders out (world_behind c w e) es beside.1 own.1)
 
   pub none_of_kind : (kind : Step → Bool) → ((x : Step) → kind x ≡ true → is_holders x ≡ true)
-      → ((x : Step) → kinds x ≡ true → kind x ≡ false) → (w : World) (es : List Event)
+      → ((x : Step) → kinds x ≡ true → kind x ≡ false) → {w : World} {es : List Event}
       → PartOfTurn kinds c s seats w es → None_of kind es
-  none_of_kind kind of_holders out w es part = none_in kind of_holders out w es (along w es part).beside part.own
+  none_of_kind kind of_holders out {w = w} {es = es} part =
+      none_in kind of_holders out w es (along w es part).beside part.own
 
   -- others mark no cell
   module _ (cell : Cell) where
@@ -168,9 +168,9 @@ module _ (kinds : Step → Bool) (leave : LeaveTheTurn kinds) (c : Config) (s : 
       others_leave_it (world_behind c w e) es beside.1,
     )
 
-    pub others_mark_none : (w : World) (es : List Event) → PartOfTurn kinds c s seats w es
+    pub others_mark_none : {w : World} {es : List Event} → PartOfTurn kinds c s seats w es
         → OthersLeaveUnmarked c s cell w es
-    others_mark_none w es part = others_leave_it w es (along w es part).beside
+    others_mark_none {w} {es} part = others_leave_it w es (along w es part).beside
 
     -- nor does the holder, by steps that leave the mark words
     all_leave_it : LeaveTheMarks kinds → (w : World) (es : List Event) → AreBeside c s w es
@@ -185,9 +185,9 @@ module _ (kinds : Step → Bool) (leave : LeaveTheTurn kinds) (c : Config) (s : 
       all_leave_it marks (world_behind c w e) es beside.1 own.1,
     )
 
-    pub none_marks : LeaveTheMarks kinds → (w : World) (es : List Event) → PartOfTurn kinds c s seats w es
+    pub none_marks : LeaveTheMarks kinds → {w : World} {es : List Event} → PartOfTurn kinds c s seats w es
         → LeaveUnmarked c cell w es
-    none_marks marks w es part = all_leave_it marks w es (along w es part).beside part.own
+    none_marks marks {w = w} {es = es} part = all_leave_it marks w es (along w es part).beside part.own
 
 -- lists that leave a cell unmarked
 

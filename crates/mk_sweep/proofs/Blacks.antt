@@ -34,12 +34,11 @@ black_now w v cell lt small e =
 -- What is closed stays closed, and black pages black.
 
 pub closed_kept : {c : Config} {w v : Words} → BlacksMore w v → CellsAreClosed c w → CellsAreClosed c v
-closed_kept {c} more closed =
-    subst (CellsAreClosed c) (sym more.is) (record {
-      registers = closed.registers;
-      globals = closed.globals;
-      words = closed.words;
-    })
+closed_kept {c} more closed = subst (CellsAreClosed c) (sym more.is) (record {
+  registers = closed.registers;
+  globals = closed.globals;
+  words = closed.words;
+})
 
 pub page_stays_black : {w v : Words} (p : ℕ) → BlacksMore w v → PageIsBlack w p → PageIsBlack v p
 page_stays_black p more black k lt marked = grind arith

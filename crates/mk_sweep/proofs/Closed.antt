@@ -20,11 +20,11 @@ module _ (c : Config) (es : List Event) (h : IsHistory c es) (settled : IsSettle
   w = (left c es).now.words
 
   -- A scanned word was looked at.
-  pub scanned_well : (n : ℕ) → IsScannedWord c (left c es).allocations n
+  pub scanned_well : {n : ℕ} → IsScannedWord c (left c es).allocations n
       → word_points_well c.pages (left c es).now.words n ≡ true
-  scanned_well n x =
+  scanned_well {n} x =
       well n (some_there (words_below w c.pages) n (λ z.
-      let one = looked_at_once c es h settled n x in omega arith))
+      let one = looked_at_once h settled x in omega arith))
 
   zero_well : (n : ℕ) → slice_index (left c es).now.words.heap n ≡ 0
       → word_points_well c.pages (left c es).now.words n ≡ true
@@ -41,7 +41,7 @@ module _ (c : Config) (es : List Event) (h : IsHistory c es) (settled : IsSettle
           → has_no_pointers (header_in w cell.page) ≡ false → i < cell_words w cell → (b : Bool) → is_used w cell ≡ b
           → word_points_well c.pages w (first_word w cell + i) ≡ true
       by cell i known scanned lt true used =
-          scanned_well (first_word w cell + i) (used_word c es h settled cell.page cell.index i used scanned lt)
+          scanned_well (used_word c es h settled cell.page cell.index i used scanned lt)
       by cell i known scanned lt false none =
           zero_well _ (eqb-true _ 0 (all_below-at _ i (λ j. slice_index w.heap (first_word w cell + j) == 0)
           (unused_is_zero c es h settled cell known none) lt))
@@ -51,8 +51,8 @@ module _ (c : Config) (es : List Event) (h : IsHistory c es) (settled : IsSettle
 pub closed_still : {c : Config} {w : Words} → CellsAreClosed c w → CellsAreClosed c (record w { phase = 0 })
 closed_still closed = grind arith
 
-pub roots_now : (pages : ℕ) (w : Words) → RootsPointWell pages (record w { phase = 0 }) → RootsPointWell pages w
-roots_now pages w roots = record { registers = roots.registers; globals = roots.globals }
+pub roots_now : {pages : ℕ} (w : Words) → RootsPointWell pages (record w { phase = 0 }) → RootsPointWell pages w
+roots_now w roots = record { registers = roots.registers; globals = roots.globals }
 
 pub closed_behind : (words : WordsState) (t u : TurnState) → words ≡ u.pass.table
     → IsHistory u.pass.table.config u.pass.seen → IsSettled (world_of u.pass)

@@ -1,8 +1,8 @@
 -- The kinds of steps in the parts of a sweeping cycle; and what is swept where values and allocations are the same.
+use Rattle.mk_laws.proofs.Vocabulary.{Bool, List, ℕ, ap, false, is_close, is_release, refl, slice_index, subst, sym}
+use Rattle.mk_laws.proofs.Vocabulary.{true, true≢false, ◌∙◌, ◌≡◌}
 use Rattle.mk_sweep.proofs.Vocabulary.{Config, InGlobal, InRegister, InWord, IsScannedWord, IsSwept, IsSweptValue}
 use Rattle.mk_sweep.proofs.Vocabulary.{PlacedAllocation, Step, World, is_tracing}
-use Rattle.mk_laws.proofs.Vocabulary.{Bool, List, ℕ, ap, false, is_close, is_release, refl, slice_index, subst, sym}
-use Rattle.mk_laws.proofs.Vocabulary.{true, ◌∙◌, ◌≡◌}
 use Rattle.mk_core.specs.Touched.{PointsIntoAllocation}
 use Rattle.mk_laws.proofs.Actors.{is_holders}
 use Rattle.mk_cycle.specs.Kinds.{holds_gates}
@@ -38,21 +38,14 @@ no_kind x = false
 
 pub holding_leaves_turn : LeaveTheTurn holds_gates
 holding_leaves_turn c w seat (Step.Look x) is = refl
-holding_leaves_turn c w seat (Step.Hold j) is = refl
 holding_leaves_turn c w seat _ is = cc
 
 pub holding_leaves_marks : LeaveTheMarks holds_gates
 holding_leaves_marks c w seat (Step.Look x) is = refl
-holding_leaves_marks c w seat (Step.Hold j) is = refl
 holding_leaves_marks c w seat _ is = cc
 
 pub tracing_leaves_turn : LeaveTheTurn is_tracing
 tracing_leaves_turn c w seat (Step.Look x) is = refl
-tracing_leaves_turn c w seat Step.Want is = refl
-tracing_leaves_turn c w seat (Step.Mark p v) is = refl
-tracing_leaves_turn c w seat (Step.Undirty p) is = refl
-tracing_leaves_turn c w seat (Step.Black p v) is = refl
-tracing_leaves_turn c w seat (Step.Unblack p) is = refl
 tracing_leaves_turn c w seat _ is = cc
 
 pub nothing_leaves_turn : LeaveTheTurn no_kind
@@ -69,14 +62,13 @@ pub release_of_holder : (x : Step) → is_release x ≡ true → is_holders x �
 release_of_holder Step.Release is = refl
 release_of_holder _ is = cc
 
-pub holding_closes_none : (x : Step) → holds_gates x ≡ true → is_close x ≡ false
-holding_closes_none Step.Close is = cc
-holding_closes_none _ is = refl
+-- kinds without a `close`, and without a `release`
 
-pub holding_releases_none : (x : Step) → holds_gates x ≡ true → is_release x ≡ false
-holding_releases_none Step.Release is = cc
-holding_releases_none _ is = refl
+pub close_apart : (kinds : Step → Bool) → kinds Step.Close ≡ false → (x : Step) → kinds x ≡ true → is_close x ≡ false
+close_apart kinds none Step.Close is = absurd (true≢false (sym is ∙ none))
+close_apart kinds none _ is = refl
 
-pub tracing_closes_none : (x : Step) → is_tracing x ≡ true → is_close x ≡ false
-tracing_closes_none Step.Close is = cc
-tracing_closes_none _ is = refl
+pub release_apart : (kinds : Step → Bool) → kinds Step.Release ≡ false → (x : Step) → kinds x ≡ true
+    → is_release x ≡ false
+release_apart kinds none Step.Release is = absurd (true≢false (sym is ∙ none))
+release_apart kinds none _ is = refl

@@ -16,7 +16,7 @@ use Rattle.mk_sweep.proofs.CountedWords.{pages_found, pages_once, same_length, t
 use Rattle.mk_sweep.proofs.ScannedCells.{scanned_stands, used_cell}
 use Rattle.mk_sweep.specs.Swept.{scanned_words}
 
-module _ (c : Config) (es : List Event) (h : IsHistory c es) (settled : IsSettled (left c es)) where
+module _ {c : Config} {es : List Event} (h : IsHistory c es) (settled : IsSettled (left c es)) where
   abbrev w : Words
   w = (left c es).now.words
 
@@ -28,9 +28,9 @@ module _ (c : Config) (es : List Event) (h : IsHistory c es) (settled : IsSettle
   unreleased i is = grind (arith, xs, mapped_stays, and_parts)
 
   -- the allocation of a scanned word, where its page's cells show the word
-  pub of_page : (page n : ℕ) → HasOnPage (left c es).now.words page n → (x : IsScannedWord c (left c es).allocations n)
+  pub of_page : {page n : ℕ} → HasOnPage (left c es).now.words page n → (x : IsScannedWord c (left c es).allocations n)
       × ((cell_of_allocation c (placed_at (left c es).allocations x.number)).page ≡ page)
-  of_page page n x =
+  of_page {page} x =
       let o = used_cell c es h settled page x.cell.index x.cell.bit x.scanned in
       let a : PlacedAllocation = placed_at xs o.number in
       let st = scanned_stands c es h settled o.number o.scanned in
@@ -43,31 +43,30 @@ module _ (c : Config) (es : List Event) (h : IsHistory c es) (settled : IsSettle
         ap (λ (y : Cell). y.page) o.is,
       )
 
-  on_page : (n : ℕ) → (x : IsScannedWord c (left c es).allocations n)
+  on_page : {n : ℕ} → (x : IsScannedWord c (left c es).allocations n)
       → HasOnPage (left c es).now.words (cell_of_allocation c (placed_at (left c es).allocations x.number)).page n
-  on_page n x = grind (arith, xs, scanned_stands)
+  on_page x = grind (arith, xs, scanned_stands)
 
-  one_allocation : (n : ℕ) → (x y : IsScannedWord c (left c es).allocations n) → x.number ≡ y.number
-  one_allocation n x y =
+  one_allocation : {n : ℕ} → (x y : IsScannedWord c (left c es).allocations n) → x.number ≡ y.number
+  one_allocation {n} x y =
       allocations_are_disjoint c es h x.number y.number n (unreleased x.number x.scanned) (unreleased y.number
       y.scanned) x.word y.word
 
-  pub looked_at_once : (n : ℕ) → IsScannedWord c (left c es).allocations n
+  pub looked_at_once : {n : ℕ} → IsScannedWord c (left c es).allocations n
       → times n (words_below (left c es).now.words c.pages) ≡ 1
-  looked_at_once n x =
-      pages_once c.pages
-      (scanned_stands c es h settled x.number x.scanned).page (on_page n x) (λ other there.
-      let y = of_page other n there in
-      sym y.1 ∙ ap (λ i. (cell_of_allocation c (placed_at xs i)).page) (one_allocation n y.0 x))
+  looked_at_once {n} x =
+      pages_once c.pages (scanned_stands c es h settled x.number x.scanned).page (on_page x) (λ other there.
+      let y = of_page there in
+      sym y.1 ∙ ap (λ i. (cell_of_allocation c (placed_at xs i)).page) (one_allocation y.0 x))
 
   pub looked_at_is_scanned : (n : ℕ) → times n (words_below (left c es).now.words c.pages) ≢ 0
       → IsScannedWord c (left c es).allocations n
-  looked_at_is_scanned n some = let x = pages_found w c.pages n some in (of_page x.0 n x.2).0
+  looked_at_is_scanned n some = let x = pages_found w c.pages n some in (of_page x.2).0
 
   pub never_twice : (n : ℕ) → times n (words_below (left c es).now.words c.pages) ≤ 1
   never_twice n = elim (cases_eq (times n (words_below w c.pages)) 0) [
     | inl none ↦ omega arith
-    | inr some ↦ let one = looked_at_once n (looked_at_is_scanned n some) in omega arith
+    | inr some ↦ let one = looked_at_once (looked_at_is_scanned n some) in omega arith
   ]
 
   -- How many words these are.
@@ -92,20 +91,17 @@ module _ (c : Config) (es : List Event) (h : IsHistory c es) (settled : IsSettle
   unfolding scanned_word
   counted n = elim (cases_eq (times n (words_below w c.pages)) 0) [
     | inl none ↦
-        none ∙ sym (one_if_any never_granted (has_word n) false xs refl (λ e. absurd (true≢false (sym e)))
-        (λ i there.
-        let one = looked_at_once n (scanned_word n i there) in absurd (omega arith))
-        (λ i j a b. one_allocation n (scanned_word n i a) (scanned_word n j b)))
+        none ∙ sym (one_if_any never_granted (has_word n) false xs refl (λ e. absurd (true≢false (sym e))) (λ i there.
+        let one = looked_at_once (scanned_word n i there) in absurd (omega arith))
+        (λ i j a b. one_allocation (scanned_word n i a) (scanned_word n j b)))
     | inr some ↦
         let x = looked_at_is_scanned n some in
         let a : PlacedAllocation = placed_at xs x.number in
-        looked_at_once n x
-        ∙ sym (one_if_any never_granted (has_word n) true xs refl
-        (λ e. (
+        looked_at_once x ∙ sym (one_if_any never_granted (has_word n) true xs refl (λ e. (
           x.number,
           and_from (is_scanned_allocation c a) (is_in_range a.base (storage_words c a) n) x.scanned
               (in_range_from a.base (storage_words c a) n x.word.0 x.word.1),
-        )) (λ i there. refl) (λ i j b d. one_allocation n (scanned_word n i b) (scanned_word n j d)))
+        )) (λ i there. refl) (λ i j b d. one_allocation (scanned_word n i b) (scanned_word n j d)))
   ]
 
   pub as_many : length (words_below (left c es).now.words c.pages) ≡ scanned_words c (left c es).allocations

@@ -35,13 +35,13 @@ module _ (c : Config) (w : World) (S : ℕ → Bool) (h : all_are_into c w S ≡
   pub global_into : (g : ℕ) → is_into_members c w S (slice_index w.now.words.globals g) ≡ true
   global_into g = list_all-at (is_into_members c w S) w.now.words.globals 0 roots.1 refl g
 
-  value_into : (u : ℕ) → IsSweptValue c w u → is_into_members c w S u ≡ true
-  value_into u (InRegister i is) = subst (λ (v : ℕ). is_into_members c w S v ≡ true) is (register_into i)
-  value_into u (InGlobal g is) = subst (λ (v : ℕ). is_into_members c w S v ≡ true) is (global_into g)
-  value_into u (InWord n scanned is) = cc (is, list_all-at (is_into_members c w S) w.now.words.heap 0 outer.1 refl n)
+  value_into : {u : ℕ} → IsSweptValue c w u → is_into_members c w S u ≡ true
+  value_into (InRegister i is) = subst (λ (v : ℕ). is_into_members c w S v ≡ true) is (register_into i)
+  value_into (InGlobal g is) = subst (λ (v : ℕ). is_into_members c w S v ≡ true) is (global_into g)
+  value_into (InWord n scanned is) = cc (is, list_all-at (is_into_members c w S) w.now.words.heap 0 outer.1 refl n)
 
-  pub swept_by_test : (b : ℕ) → IsSwept c w b → S b ≡ true
-  swept_by_test b swept = points_into c w S swept.value b (value_into swept.value swept.found) swept.points
+  pub swept_by_test : {b : ℕ} → IsSwept c w b → S b ≡ true
+  swept_by_test {b} swept = points_into c w S swept.value b (value_into swept.found) swept.points
 
 -- A register holds the first of three objects, and a word of the first points to the second. The third is freed.
 
@@ -69,7 +69,7 @@ unfolding left_from all_below pointed_cell numbered_all begun_in_stop three_obje
 stopped_into_two = refl
 
 pub third_is_not_swept : IsSwept small stopped 2 → ⊥
-third_is_not_swept swept = false≢true (swept_by_test small stopped below_two stopped_into_two 2 swept)
+third_is_not_swept swept = false≢true (swept_by_test small stopped below_two stopped_into_two swept)
 
 -- A word of the first of two objects points to the second. Both are freed, and no register or global holds either.
 
@@ -119,7 +119,7 @@ unreached_into_second = refl
 
 pub first_is_not_swept_unreached : IsSwept pointer_page unreached 0 → ⊥
 first_is_not_swept_unreached swept =
-    false≢true (swept_by_test pointer_page unreached is_second unreached_into_second 0 swept)
+    false≢true (swept_by_test pointer_page unreached is_second unreached_into_second swept)
 
 -- The cycle releases the first, and keeps the second.
 pub only_the_first_is_released : ((placed_at (left pointer_page released_unswept).allocations 0).released ≡ true)

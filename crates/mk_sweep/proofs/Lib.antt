@@ -12,6 +12,7 @@ pub mod SweptMarks
 pub mod Unswept
 pub mod UnsweptReleased
 pub mod WordLists
+pub mod SweptWords
 pub mod BesideTurn
 pub mod CycleParts
 pub mod SweepCycles

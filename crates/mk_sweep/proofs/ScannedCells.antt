@@ -213,8 +213,7 @@ module _ (c : Config) (es : List Event) (h : IsHistory c es) (settled : IsSettle
       and_from (is_used w.now.words cell && not (heads_run (header_in w.now.words cell.page) && is_freed
       w.now.words cell)) (not (is_ungranted w.now.seats.holding.placing cell))
       (and_from (is_used w.now.words cell) (not (heads_run (header_in w.now.words cell.page) && is_freed
-      w.now.words cell))
-      (stands i u).used (ap not (by u parts.0 (heads_run (header_in w.now.words cell.page)) refl
+      w.now.words cell)) (stands i u).used (ap not (by u parts.0 (heads_run (header_in w.now.words cell.page)) refl
       (is_freed w.now.words cell) refl))) (ap not (none_ungranted w.now.seats.holding.placing cell settled.placing))
     where
       a : PlacedAllocation

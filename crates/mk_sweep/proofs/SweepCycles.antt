@@ -17,9 +17,9 @@ use Rattle.mk_laws.specs.Releases.{allocation_behind}
 use Rattle.mk_cycle.{proofs.GivingAll.held_phase, specs.Holding.HoldsGates, specs.Kinds.holds_gates}
 use Rattle.mk_sweep.proofs.BesideTurn.{IsOf, PartOfTurn, holds_still, leave_first, leave_in_parts, left_unmarked_by}
 use Rattle.mk_sweep.proofs.BesideTurn.{none_marks, none_of_kind, others_mark_none, still_holds}
-use Rattle.mk_sweep.proofs.CycleParts.{close_of_holder, holding_closes_none, holding_leaves_marks, holding_leaves_turn}
-use Rattle.mk_sweep.proofs.CycleParts.{holding_releases_none, no_kind, nothing_leaves_marks, nothing_leaves_turn}
-use Rattle.mk_sweep.proofs.CycleParts.{release_of_holder, swept_alike, tracing_closes_none, tracing_leaves_turn}
+use Rattle.mk_sweep.proofs.CycleParts.{close_apart, close_of_holder, holding_leaves_marks, holding_leaves_turn, no_kind}
+use Rattle.mk_sweep.proofs.CycleParts.{nothing_leaves_marks, nothing_leaves_turn, release_apart, release_of_holder}
+use Rattle.mk_sweep.proofs.CycleParts.{swept_alike, tracing_leaves_turn}
 use Rattle.mk_sweep.proofs.UnsweptReleased.{unswept_is_released}
 use Rattle.mk_sweep.specs.Unswept.{LeaveUnmarked, OthersLeaveUnmarked}
 use Rattle.mk_tracing.{proofs.Parts.kinds_keep, proofs.Parts.others_keep, specs.Tracing.OwnStepsKeep}
@@ -43,7 +43,7 @@ pub record SweepParts (p : PassState) (looks : ℕ) (es : List Event) : Type 0 w
   pub is : es ≡ swept ++ (waited ++ record { seat = p.seat; step = Step.Close } ∷ (stopped
       ++ record { seat = p.seat; step = Step.Release } ∷ rest))
 
-module _ (p : PassState) (looks : ℕ) (es : List Event) (has : Has p.seats p.seat) (markers : HasMarkers p.seats)
+module _ {p : PassState} {looks : ℕ} {es : List Event} (has : Has p.seats p.seat) (markers : HasMarkers p.seats)
     (history : IsHistory p.table.config es) (k : SweepParts p looks es) where
   abbrev c : Config
   c = p.table.config
@@ -117,8 +117,8 @@ module _ (p : PassState) (looks : ℕ) (es : List Event) (has : Has p.seats p.se
   start_history : IsHistory c start
   start_history = earlier_part_is_history c start holding holding_history
 
-  known : (xs : List Event) → IsHistory c xs → Known c (left c xs).now
-  known xs h = known_left c xs h.within_limits h.enabled
+  known : {xs : List Event} → IsHistory c xs → Known c (left c xs).now
+  known {xs} h = known_left c xs h.within_limits h.enabled
 
   -- who has the turn
 
@@ -130,13 +130,13 @@ module _ (p : PassState) (looks : ℕ) (es : List Event) (has : Has p.seats p.se
 
   front_holds : Holds c first.now s
   front_holds =
-      let there = known k.front last_begin.before in
+      let there = known last_begin.before in
       holds_is c first.now s there.orderly
       (acts_as_holder c first.now s Step.Begin (actor_of c first.now s Step.Begin there.orderly last_begin.meets) refl)
 
   start_holds : Holds c (left c start).now s
   start_holds =
-      holds_still s first (left c start) (known k.front last_begin.before) (known start start_history)
+      holds_still s first (left c start) (known last_begin.before) (known start_history)
       (ap (λ (w : World). w.now.words.turn) last_begin.leaves) front_holds
 
   -- the parts of the turn
@@ -146,7 +146,7 @@ module _ (p : PassState) (looks : ℕ) (es : List Event) (has : Has p.seats p.se
       → PartOfTurn kinds c s p.seats (left c xs) more
   part kinds xs more h holds of_seats own = record {
     markers = markers;
-    known = known xs (earlier_part_is_history c xs more h);
+    known = known (earlier_part_is_history c xs more h);
     holds = holds;
     on = ((enabled_in_parts c xs more).0 h.enabled).1;
     of_seats = of_seats;
@@ -164,7 +164,7 @@ module _ (p : PassState) (looks : ℕ) (es : List Event) (has : Has p.seats p.se
   held_holds : Holds c (left c k.held).now s
   held_holds =
       subst (λ (w : World). Holds c w.now s) (sym held_world)
-      (still_holds holds_gates holding_leaves_turn c s p.seats (left c start) holding holding_part)
+      (still_holds holds_gates holding_leaves_turn c s p.seats holding_part)
 
   sweeping_part : PartOfTurn is_tracing c s p.seats (left c k.held) sweeping
   sweeping_part =
@@ -174,7 +174,7 @@ module _ (p : PassState) (looks : ℕ) (es : List Event) (has : Has p.seats p.se
   swept_holds : Holds c (left c k.swept).now s
   swept_holds =
       subst (λ (w : World). Holds c w.now s) (sym (ap (left c) swept_is ∙ left_in_parts c k.held sweeping))
-      (still_holds is_tracing tracing_leaves_turn c s p.seats (left c k.held) sweeping sweeping_part)
+      (still_holds is_tracing tracing_leaves_turn c s p.seats sweeping_part)
 
   -- a part in which the holder does nothing
   others_part : (xs more : List Event) → IsHistory c (xs ++ more) → Holds c (left c xs).now s
@@ -189,14 +189,14 @@ module _ (p : PassState) (looks : ℕ) (es : List Event) (has : Has p.seats p.se
   closing_holds : Holds c (left c closing).now s
   closing_holds =
       subst (λ (w : World). Holds c w.now s) (sym (left_in_parts c k.swept k.waited))
-      (still_holds no_kind nothing_leaves_turn c s p.seats (left c k.swept) k.waited waiting_part)
+      (still_holds no_kind nothing_leaves_turn c s p.seats waiting_part)
 
   last_close : ComesLast c closing close
   last_close = comes_last c closing close closed_history
 
   closed_holds : Holds c (left c closed).now s
   closed_holds =
-      holds_still s (left c closing) (left c closed) (known closing closing_history) (known closed closed_history)
+      holds_still s (left c closing) (left c closed) (known closing_history) (known closed_history)
       (ap (λ (w : World). w.now.words.turn) last_close.leaves) closing_holds
 
   stopped_part : PartOfTurn no_kind c s p.seats (left c closed) k.stopped
@@ -210,20 +210,20 @@ module _ (p : PassState) (looks : ℕ) (es : List Event) (has : Has p.seats p.se
   pub closes_none : None_of is_close marking
   closes_none =
       none_joined is_close holding (sweeping ++ k.waited) (none_of_kind holds_gates holding_leaves_turn c s _ is_close
-      close_of_holder holding_closes_none (left c start) holding holding_part)
-      (none_joined is_close sweeping k.waited (none_of_kind is_tracing tracing_leaves_turn c s _ is_close
-      close_of_holder tracing_closes_none _ sweeping sweeping_part)
-      (none_of_kind no_kind nothing_leaves_turn c s _ is_close close_of_holder (λ x is. cc) _ k.waited waiting_part))
+      close_of_holder (close_apart holds_gates refl) holding_part) (none_joined is_close sweeping k.waited
+      (none_of_kind is_tracing tracing_leaves_turn c s _ is_close close_of_holder
+      (close_apart is_tracing refl) sweeping_part)
+      (none_of_kind no_kind nothing_leaves_turn c s _ is_close close_of_holder (λ x is. cc) waiting_part))
 
   pub releases_none : None_of is_release k.stopped
   releases_none =
-      none_of_kind no_kind nothing_leaves_turn c s p.seats is_release release_of_holder (λ x is. cc)
-      (left c closed) k.stopped stopped_part
+      none_of_kind no_kind nothing_leaves_turn c s p.seats is_release release_of_holder (λ x is. cc) stopped_part
 
   holding_keeps : None_of is_release holding
   holding_keeps =
-      none_of_kind holds_gates holding_leaves_turn c s p.seats is_release release_of_holder holding_releases_none
-      (left c start) holding holding_part
+      none_of_kind holds_gates holding_leaves_turn c s p.seats is_release release_of_holder
+      (release_apart holds_gates refl)
+      holding_part
 
   -- the cycle
 
@@ -285,10 +285,9 @@ module _ (p : PassState) (looks : ℕ) (es : List Event) (has : Has p.seats p.se
       others_leave c k.swept k.waited s closing_history.within_limits closing_history.enabled
       (others_own p.seats s k.waited has k.while_waiting)
 
-  swept_at_close : (i : ℕ) → IsSwept c (left c k.held) i → IsSwept c (left c (before_close cycle.marking)) i
-  swept_at_close i x =
-      subst (λ (xs : List Event). IsSwept c (left c xs) i) closing_is
-      (swept_alike (left c closing)
+  swept_at_close : {i : ℕ} → IsSwept c (left c k.held) i → IsSwept c (left c (before_close cycle.marking)) i
+  swept_at_close {i} x =
+      subst (λ (xs : List Event). IsSwept c (left c xs) i) closing_is (swept_alike (left c closing)
       (ap (λ (y : Written). y.registers) written ∙ ap (λ (u : Untouched). u.registers) untouched)
       (ap (λ (y : Written). y.globals) written ∙ ap (λ (u : Untouched). u.globals) untouched)
       (ap (λ (y : Written). y.heap) written ∙ ap (λ (u : Untouched). u.heap) untouched)
@@ -331,8 +330,7 @@ module _ (p : PassState) (looks : ℕ) (es : List Event) (has : Has p.seats p.se
 
     unmarked : is_marked (left c start).now.words cell ≡ false
     unmarked =
-        false_from_ne_true (is_marked (left c start).now.words cell)
-        (λ is. precise.marked i
+        false_from_ne_true (is_marked (left c start).now.words cell) (λ is. precise.marked i
         (subst (λ (w : World). (placed_at w.allocations i).released ≡ false) last_begin.leaves unreleased)
         (subst (λ (w : World). is_marked w.now.words (cell_of_allocation c (placed_at w.allocations i)) ≡ true)
         last_begin.leaves is))
@@ -345,27 +343,24 @@ module _ (p : PassState) (looks : ℕ) (es : List Event) (has : Has p.seats p.se
     unmarked_there =
         subst (λ (w : World). is_marked w.now.words cell ≡ false) (sym held_world)
         (left_unmarked_by c cell (left c start) holding
-        (none_marks holds_gates holding_leaves_turn c s _ cell holding_leaves_marks (left c start) holding holding_part)
-        unmarked)
+        (none_marks holds_gates holding_leaves_turn c s _ cell holding_leaves_marks holding_part) unmarked)
 
     none_marks_since : LeaveUnmarked c cell (left c k.swept) since_sweep
     none_marks_since =
         leave_in_parts c cell _ k.waited (close ∷ k.stopped) (none_marks no_kind nothing_leaves_turn c s _ cell
-        nothing_leaves_marks _ k.waited waiting_part) (subst (λ (w : World). LeaveUnmarked c cell w (close ∷ k.stopped))
+        nothing_leaves_marks waiting_part) (subst (λ (w : World). LeaveUnmarked c cell w (close ∷ k.stopped))
         (left_in_parts c k.swept k.waited) (leave_first c cell (left c closing) close k.stopped (λ was. was)
         (subst (λ (w : World). LeaveUnmarked c cell w k.stopped) last_close.leaves (none_marks no_kind
-        nothing_leaves_turn c s _ cell nothing_leaves_marks (left c closed) k.stopped stopped_part))))
+        nothing_leaves_turn c s _ cell nothing_leaves_marks stopped_part))))
 
     pub is_released_by_it : (IsSwept c (left c (before_close cycle.marking)) i → ⊥)
         → (allocation_behind c cycle i).released ≡ true
     is_released_by_it out =
         unswept_is_released (record p { seen = k.held }) (record p { seen = k.swept }) looks k.sweeps es cycle
-        since_sweep i history held_history release_is
-        (held_phase (record p { seen = start }) (record p { seen = k.held }) 1 k.holds
-        (ap (λ (w : World). phase_of w.now.words) last_begin.leaves
-        ∙ phase_moves c first.now s Step.Begin last_begin.meets))
-        snapshot unreleased_there (λ x. out (swept_at_close i x))
-        (subst (λ (x : Cell). is_marked (left c k.held).now.words x ≡ false) (sym same_cell) unmarked_there)
-        (subst (λ (x : Cell). OthersLeaveUnmarked c s x (left c k.held) sweeping) (sym same_cell)
-        (others_mark_none is_tracing tracing_leaves_turn c s p.seats cell (left c k.held) sweeping sweeping_part))
+        since_sweep i history held_history release_is (held_phase (record p { seen = start })
+        (record p { seen = k.held }) 1 k.holds (ap (λ (w : World). phase_of w.now.words) last_begin.leaves
+        ∙ phase_moves c first.now s Step.Begin last_begin.meets)) snapshot unreleased_there
+        (λ x. out (swept_at_close x)) (subst (λ (x : Cell). is_marked (left c k.held).now.words x ≡ false)
+        (sym same_cell) unmarked_there) (subst (λ (x : Cell). OthersLeaveUnmarked c s x (left c k.held) sweeping)
+        (sym same_cell) (others_mark_none is_tracing tracing_leaves_turn c s p.seats cell sweeping_part))
         (subst (λ (x : Cell). LeaveUnmarked c x (left c k.swept) since_sweep) (sym same_cell) none_marks_since)

@@ -32,16 +32,16 @@ module _ (c : Config) (v w : World) (same : untouched_of v ≡ untouched_of w) w
   pub word_alike : (n : ℕ) → IsScannedWord c v.allocations n → IsScannedWord c w.allocations n
   word_alike n = grind arith
 
-  pub value_alike : (u : ℕ) → IsSweptValue c v u → IsSweptValue c w u
-  value_alike u (InRegister i is) = InRegister i (sym (ap (λ (x : Untouched). slice_index x.registers i) same) ∙ is)
-  value_alike u (InGlobal g is) = InGlobal g (sym (ap (λ (x : Untouched). slice_index x.globals g) same) ∙ is)
-  value_alike u (InWord n scanned is) =
+  pub value_alike : {u : ℕ} → IsSweptValue c v u → IsSweptValue c w u
+  value_alike (InRegister i is) = InRegister i (sym (ap (λ (x : Untouched). slice_index x.registers i) same) ∙ is)
+  value_alike (InGlobal g is) = InGlobal g (sym (ap (λ (x : Untouched). slice_index x.globals g) same) ∙ is)
+  value_alike (InWord n scanned is) =
       InWord n (word_alike n scanned) (sym (ap (λ (x : Untouched). slice_index x.heap n) same) ∙ is)
 
-  pub cell_alike : (cell : Cell) → IsSweptCell c v cell → IsSweptCell c w cell
-  cell_alike cell s = record {
+  pub cell_alike : {cell : Cell} → IsSweptCell c v cell → IsSweptCell c w cell
+  cell_alike s = record {
     value = s.value;
-    found = value_alike s.value s.found;
+    found = value_alike s.found;
     points = sym (ap (λ (x : Untouched). pointed_cell c.pages x.pages s.value) same) ∙ s.points;
   }
 
@@ -85,9 +85,9 @@ settled_kept p q pass same two settled = grind (arith, ne_eqb, unmapped_kept)
 
 module _ (t u : TurnState) (sweeping : IsSweeping t.pass)
     (all : HoldsAll t.pass.table.config (now_of t.pass) t.pass.seat) (same : u.op ≡ t.op) where
-  pub sweeps_by_step : (s : Step) (a : Acts t.pass s u.pass) → is_stopped_step s ≡ true → is_marking s ≡ true
+  pub sweeps_by_step : {s : Step} (a : Acts t.pass s u.pass) → is_stopped_step s ≡ true → is_marking s ≡ true
       → SweepsBy (world_of t.pass) t.pass.table.config (world_at a.makes).now s → SweepsOn t u (word_looked_at s)
-  sweeps_by_step s a stopped kind ruled =
+  sweeps_by_step {s} a stopped kind ruled =
       let own = own_before a.makes in
       let traces = stopped_traces t.pass u.pass s a sweeping.wanted all stopped own (SweepsBy (world_of t.pass))
       kind ruled in
@@ -106,40 +106,38 @@ module _ (t u : TurnState) (sweeping : IsSweeping t.pass)
       }
 
   pub on_plain : (x : Word) → Acts t.pass (Step.Look x) u.pass → is_page_word x ≡ true → SweepsOn t u []
-  on_plain (Word.Head p) a h = sweeps_by_step (Step.Look (Word.Head p)) a refl refl tt
-  on_plain (Word.Used p) a h = sweeps_by_step (Step.Look (Word.Used p)) a refl refl tt
-  on_plain (Word.Mark p) a h = sweeps_by_step (Step.Look (Word.Mark p)) a refl refl tt
-  on_plain (Word.Black p) a h = sweeps_by_step (Step.Look (Word.Black p)) a refl refl tt
-  on_plain (Word.Dirty p) a h = sweeps_by_step (Step.Look (Word.Dirty p)) a refl refl tt
+  on_plain (Word.Head p) a h = sweeps_by_step a refl refl tt
+  on_plain (Word.Used p) a h = sweeps_by_step a refl refl tt
+  on_plain (Word.Mark p) a h = sweeps_by_step a refl refl tt
+  on_plain (Word.Black p) a h = sweeps_by_step a refl refl tt
+  on_plain (Word.Dirty p) a h = sweeps_by_step a refl refl tt
   on_plain _ a h = cc
 
   pub on_root : (x : Word) → Acts t.pass (Step.Look x) u.pass → is_root x ≡ true → SweepsOn t u []
-  on_root (Word.Reg j r) a h = sweeps_by_step (Step.Look (Word.Reg j r)) a refl refl tt
-  on_root (Word.Global g) a h = sweeps_by_step (Step.Look (Word.Global g)) a refl refl tt
+  on_root (Word.Reg j r) a h = sweeps_by_step a refl refl tt
+  on_root (Word.Global g) a h = sweeps_by_step a refl refl tt
   on_root _ a h = cc
 
-  pub on_word : (n : ℕ) → Acts t.pass (Step.Look (Word.Heap n)) u.pass
+  pub on_word : {n : ℕ} → Acts t.pass (Step.Look (Word.Heap n)) u.pass
       → IsScannedWord t.pass.table.config (world_of t.pass).allocations n → SweepsOn t u (n ∷ [])
-  on_word n a scanned = sweeps_by_step (Step.Look (Word.Heap n)) a refl refl scanned
+  on_word {n} a scanned = sweeps_by_step a refl refl scanned
 
-  pub on_mark : (cell : Cell) → Acts t.pass (Step.Mark cell.page (2 ^ cell.index)) u.pass → IsReachedCell t.pass cell
+  pub on_mark : {cell : Cell} → Acts t.pass (Step.Mark cell.page (2 ^ cell.index)) u.pass → IsReachedCell t.pass cell
       → SweepsOn t u []
-  on_mark cell a r =
-      sweeps_by_step (Step.Mark cell.page (2 ^ cell.index)) a refl refl
-      (record {
-        index = cell.index;
-        bit = refl;
-        swept = record { value = r.value; found = r.in_hand.found; points = r.points };
-      })
+  on_mark {cell} a r = sweeps_by_step a refl refl (record {
+    index = cell.index;
+    bit = refl;
+    swept = record { value = r.value; found = r.in_hand.found; points = r.points };
+  })
 
-  pub on_black : (page value : ℕ) → Acts t.pass (Step.Black page value) u.pass → SweepsOn t u []
-  on_black page value a = sweeps_by_step (Step.Black page value) a refl refl tt
+  pub on_black : {page value : ℕ} → Acts t.pass (Step.Black page value) u.pass → SweepsOn t u []
+  on_black {page} {value} a = sweeps_by_step a refl refl tt
 
-  pub on_unblack : (page : ℕ) → Acts t.pass (Step.Unblack page) u.pass → SweepsOn t u []
-  on_unblack page a = sweeps_by_step (Step.Unblack page) a refl refl tt
+  pub on_unblack : {page : ℕ} → Acts t.pass (Step.Unblack page) u.pass → SweepsOn t u []
+  on_unblack {page} a = sweeps_by_step a refl refl tt
 
-  pub on_undirty : (page : ℕ) → Acts t.pass (Step.Undirty page) u.pass → SweepsOn t u []
-  on_undirty page a = sweeps_by_step (Step.Undirty page) a refl refl tt
+  pub on_undirty : {page : ℕ} → Acts t.pass (Step.Undirty page) u.pass → SweepsOn t u []
+  on_undirty {page} a = sweeps_by_step a refl refl tt
 
 -- The cell into which a value points is looked for.
 
@@ -165,7 +163,7 @@ hand_kept {t} {u} {n} on same h = record {
   is = same ∙ h.is;
   value = h.value;
   found = subst (λ (x : Config). IsSweptValue x (world_of u.pass) n) (sym (ap (λ (x : WordsState). x.config)
-      on.table)) (value_alike _ _ _ (sym on.traces.untouched) n h.found);
+      on.table)) (value_alike _ _ _ (sym on.traces.untouched) h.found);
 }
 
 pub reached_within : {p : PassState} {cell : Cell} → IsReachedCell p cell
@@ -266,7 +264,6 @@ module _ (p q : PassState) (sweeping : IsSweeping p) (all : HoldsAll p.table.con
           is = hand_now p q sweeping.wanted all (Word.Heap n) acts k finds ∙ ap (λ (o : Option Hand). or_else o
               (hand_of p)) g.1;
           value = g.2 ∙ found_now p q sweeping.wanted all (Word.Heap n) acts k finds;
-          found = InWord n
-              (subst (λ (x : WordsState). IsScannedWord x.config (world_of q).allocations n)
+          found = InWord n (subst (λ (x : WordsState). IsScannedWord x.config (world_of q).allocations n)
               (sym (ap (λ (x : PassState). x.table) acts.makes.is)) there) (found_there p q (Word.Heap n) k finds);
         }

@@ -59,53 +59,48 @@ module _ {p : PassState} {t u : TurnState} (s : SweepsInStop p t u) where
   table : t.pass.table ≡ p.table
   table = ap (λ (x : PassState). x.table) s.waited.traces.does.is
 
-  scanned_there : (k : ℕ) → IsScannedWord p.table.config (world_of p).allocations k
+  scanned_there : {k : ℕ} → IsScannedWord p.table.config (world_of p).allocations k
       → IsScannedWord t.pass.table.config (world_of t.pass).allocations k
-  scanned_there k x = grind (arith, table, word_alike)
+  scanned_there x = grind (arith, table, word_alike)
 
-  scanned_before : (k : ℕ) → IsScannedWord u.pass.table.config (world_of u.pass).allocations k
+  scanned_before : {k : ℕ} → IsScannedWord u.pass.table.config (world_of u.pass).allocations k
       → IsScannedWord t.pass.table.config (world_of t.pass).allocations k
-  scanned_before k x = grind (arith, word_alike)
+  scanned_before x = grind (arith, word_alike)
 
   all_words_are : length (words_below (still_words t.pass) t.pass.table.config.pages)
       ≡ scanned_words p.table.config (world_of p).allocations
   all_words_are =
-      as_many t.pass.table.config t.pass.seen s.early s.sweeping.settled
-      ∙ ap (λ (y : WordsState). scanned_words y.config (world_of t.pass).allocations) table
-      ∙ ap (λ (x : Untouched). scanned_words p.table.config x.allocations) s.waited.traces.untouched
+      as_many s.early s.sweeping.settled ∙ ap (λ (y : WordsState). scanned_words y.config (world_of t.pass).allocations)
+      table ∙ ap (λ (x : Untouched). scanned_words p.table.config x.allocations) s.waited.traces.untouched
 
-  value_well : (v : ℕ) → IsSweptValue u.pass.table.config (world_of u.pass) v
+  value_well : {v : ℕ} → IsSweptValue u.pass.table.config (world_of u.pass) v
       → points_well u.pass.table.config.pages (now_of u.pass).words v ≡ true
-  value_well v (InRegister i is) = grind arith
-  value_well v (InGlobal g is) = grind arith
-  value_well v (InWord k scanned is) =
+  value_well (InRegister i is) = grind arith
+  value_well (InGlobal g is) = grind arith
+  value_well (InWord k scanned is) =
       ap (λ j. points_well u.pass.table.config.pages (now_of u.pass).words j) (sym is)
       ∙ s.well k (some_there (words_below (still_words t.pass) t.pass.table.config.pages) k (λ z.
-      let one =
-      looked_at_once t.pass.table.config t.pass.seen s.early s.sweeping.settled k (scanned_before k scanned) in
+      let one = looked_at_once s.early s.sweeping.settled (scanned_before scanned) in
       omega arith))
 
-  swept_is_marked : (i : ℕ) → IsSwept u.pass.table.config (world_of u.pass) i
-      → is_marked_allocation u.pass.table.config (now_of u.pass).words (placed_at (world_of u.pass).allocations i)
-      ≡ true
-  swept_is_marked i x =
+  swept_is_marked : {i : ℕ} → IsSwept u.pass.table.config (world_of u.pass) i → is_marked_allocation u.pass.table.config
+      (now_of u.pass).words (placed_at (world_of u.pass).allocations i) ≡ true
+  swept_is_marked {i} x =
       let c : Config = u.pass.table.config in
       let a : PlacedAllocation = placed_at (world_of u.pass).allocations i in
       let st = allocations_stand c u.pass.seen s.history i x.points.0 in
       marked_where_its_cell_is c (now_of u.pass).words a s.history.within_limits st.stands st.headers
       ∙ sym (points_well_where_marked c (now_of u.pass).words a s.history.within_limits st.stands st.headers x.value
-      x.points.1) ∙ value_well x.value x.found
+      x.points.1) ∙ value_well x.found
 
   pub sweeps : (n : ℕ) → n ≡ length (words_below (still_words t.pass) t.pass.table.config.pages) → Sweeps p u.pass n
   sweeps n is = record {
     traces = whole.traces;
-    never_twice = λ k. subst (λ ns. times k ns ≤ 1) (sym words_of_all)
-        (never_twice t.pass.table.config t.pass.seen s.early s.sweeping.settled k);
-    each = λ k x. ap (λ ns. times k ns) words_of_all
-        ∙ looked_at_once t.pass.table.config t.pass.seen s.early s.sweeping.settled k (scanned_there k x);
+    never_twice = λ k. subst (λ ns. times k ns ≤ 1) (sym words_of_all) (never_twice s.early s.sweeping.settled k);
+    each = λ k x. ap (λ ns. times k ns) words_of_all ∙ looked_at_once s.early s.sweeping.settled (scanned_there x);
     counted = is ∙ sym (ap length words_of_all);
     words = is ∙ all_words_are;
-    swept = swept_is_marked;
+    swept = λ i x. swept_is_marked x;
   }
 
   pub closes : HoldsAll u.pass.table.config (now_of u.pass) u.pass.seat

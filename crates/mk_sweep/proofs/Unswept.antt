@@ -67,11 +67,10 @@ unswept_stays_unmarked p q n s i history one unreleased out was others =
       found = x.found;
       points = (
         unreleased,
-        comes_back c w (never_behind c p.seen)
-            (record {
-              known = known_world c p.seen history.within_limits history.enabled;
-              all = histories_keep_the_invariant c p.seen history;
-            }) (inl one) i x.value unreleased x.points,
+        comes_back c w (never_behind c p.seen) (record {
+          known = known_world c p.seen history.within_limits history.enabled;
+          all = histories_keep_the_invariant c p.seen history;
+        }) (inl one) i x.value unreleased x.points,
       );
     })) was in
     cc (d.is, left_in_parts c p.seen d.more, behind)

@@ -13,8 +13,8 @@ use Rattle.mk_laws.specs.Releases.{allocation_before, allocation_behind}
 use Rattle.mk_sweep.proofs.Unswept.{unswept_stays_unmarked}
 use Rattle.mk_sweep.specs.Unswept.{LeaveUnmarked, UnsweptIsReleased}
 
-same_cell : (c : Config) (a b : PlacedAllocation) → AreOfOne a b → cell_of_allocation c b ≡ cell_of_allocation c a
-same_cell c a b one = cc (one.base, one.ty)
+same_cell : (c : Config) {a b : PlacedAllocation} → AreOfOne a b → cell_of_allocation c b ≡ cell_of_allocation c a
+same_cell c one = cc (one.base, one.ty)
 
 -- The allocation stands where this one stood, and its cell is unmarked.
 record StandsUnmarked (c : Config) (a : PlacedAllocation) (i : ℕ) (w : World) : Type 0 where
@@ -30,8 +30,7 @@ stands_along c a i w (e ∷ es) leave at =
     let v : World = world_behind c w e in
     let on = goes_on w.allocations v.allocations e.step i
     (allocation_step c w.now (flight_of w.now e.seat) e.step w.allocations) at.there in
-    stands_along c a i v es leave.1
-    (record {
+    stands_along c a i v es leave.1 (record {
       there = on.there;
       same = of_one_joined a (placed_at w.allocations i) (placed_at v.allocations i) at.same on.same;
       unmarked = leave.0 at.unmarked;
@@ -46,8 +45,7 @@ unswept_is_released p q n s es r rest i history seen is one snapshot unreleased 
       ]
       | inr kept ↦ (releases_are_exact c es history r i kept).1 (
         snapshot,
-        ap (is_marked (left c (before_release r)).now.words) (same_cell c a (allocation_before c r i) before.same)
-            ∙ before.unmarked,
+        ap (is_marked (left c (before_release r)).now.words) (same_cell c before.same) ∙ before.unmarked,
       )
     ]
   where

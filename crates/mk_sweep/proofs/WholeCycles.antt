@@ -88,8 +88,8 @@ module _ (p b q : PassState) (looks : ℕ) (same : b ≡ record p { seen = b.see
 
   pub releases_unswept : Has p.seats p.seat → HasMarkers p.seats → IsHistory p.table.config q.seen → ReleasesUnswept p q
   releases_unswept own markers history = record {
-    cycle = cycle p looks q.seen own markers history parts;
+    cycle = cycle own markers history parts;
     more = last.before.more ++ last.begin.others;
     since = append_assoc p.seen last.before.more last.begin.others;
-    each = is_released_by_it p looks q.seen own markers history parts;
+    each = is_released_by_it own markers history parts;
   }

@@ -15,7 +15,7 @@ use Rattle.mk_core.specs.Words.{Words, used_at}
 use Rattle.mk_laws.specs.SettledPages.{IsSettled}
 use Rattle.mk_words.specs.States.{PassState, TurnState, world_of}
 use Rattle.mk_turns.specs.Doing.{Does, done_in}
-use Rattle.mk_tracing.specs.Grays.{AllAreBlack}
+use Rattle.mk_tracing.specs.Grays.{AllAreBlack, MarksMore}
 use Rattle.mk_tracing.specs.Stops.{IsWanted, hand_of, still_words}
 use Rattle.mk_tracing.specs.Tracing.{Traces, is_marking}
 use Rattle.mk_sweep.specs.Swept.{IsSweptValue, SweepsBy}
@@ -95,3 +95,9 @@ pub record BlacksMore (w v : Words) : Type 0 where
 -- Each marked cell of the page is black.
 abbrev pub PageIsBlack : Words → ℕ → Type 0
 PageIsBlack w p = AllAreBlack (cells_under (header_in w p)) (slice_index w.marks p) (slice_index w.blacks p)
+
+-- The sweep goes on over these words: more is marked, and so is whatever they point into.
+pub record SweepsWords (pages : ℕ) (t u : TurnState) (words : List ℕ) : Type 0 where
+  pub on : SweepsOn t u words
+  pub more : MarksMore (still_words t.pass) (still_words u.pass)
+  pub well : PointWell pages (still_words u.pass) words

@@ -5,10 +5,9 @@ ghost use Rattle.std.specs.List.{range_with_len};
 ghost use Rattle.mk_core.specs.Cells.{has_no_pointers, header_in};
 ghost use Rattle.mk_core.specs.Words.{header_at, used_at};
 ghost use Rattle.mk_words.specs.States.{world_of};
-ghost use Rattle.mk_tracing.specs.Grays.{MarksMore};
 ghost use Rattle.mk_tracing.specs.Stops.{still_words};
 ghost use Rattle.mk_sweep.specs.Swept.{IsScannedWord};
-ghost use Rattle.mk_sweep.specs.Sweeping.{IsSweeping, PointWell, SweepsOn, words_below, words_if, words_on};
+ghost use Rattle.mk_sweep.specs.Sweeping.{IsSweeping, SweepsWords, words_below, words_if, words_on};
 
 use crate::stepping::{look_at, look_at_word};
 use crate::values::mark_value;
@@ -23,9 +22,7 @@ fn sweep_words(words: &Words, stop: &mut Stopped, first: u64, size: u64)
     requires few { first + size < 1000000 }
     requires scanned { (i : ℕ) → i < size
         → IsScannedWord words.now.config (world_of stop.old.pass).allocations (first + i) }
-    ensures on { SweepsOn stop.old stop.new (range_with_len first size) }
-    ensures more { MarksMore (still_words stop.old.pass) (still_words stop.new.pass) }
-    ensures well { PointWell words.now.config.pages (still_words stop.new.pass) (range_with_len first size) }
+    ensures sweeps { SweepsWords words.now.config.pages stop.old stop.new (range_with_len first size) }
 {
     for i in 0..size {
         let value = look_at_word(words, stop, first + i);
@@ -40,9 +37,7 @@ fn sweep_if_used(words: &Words, stop: &mut Stopped, used: bool, first: u64, size
     requires few { first + size < 1000000 }
     requires scanned { used ≡ true → (i : ℕ) → i < size
         → IsScannedWord words.now.config (world_of stop.old.pass).allocations (first + i) }
-    ensures on { SweepsOn stop.old stop.new (words_if used first size) }
-    ensures more { MarksMore (still_words stop.old.pass) (still_words stop.new.pass) }
-    ensures well { PointWell words.now.config.pages (still_words stop.new.pass) (words_if used first size) }
+    ensures sweeps { SweepsWords words.now.config.pages stop.old stop.new (words_if used first size) }
     ensures looks { result ≡ length (words_if used first size) }
     ensures few { result ≤ size }
 {
@@ -61,10 +56,7 @@ fn sweep_cells(words: &Words, stop: &mut Stopped, page: u64, header: u64, used: 
     requires header { header ≡ header_at (still_words stop.old.pass) page }
     requires used { used ≡ used_at (still_words stop.old.pass) page }
     requires scanned { has_no_pointers (header_in (still_words stop.old.pass) page) ≡ false }
-    ensures on { SweepsOn stop.old stop.new (words_on (still_words stop.old.pass) page) }
-    ensures more { MarksMore (still_words stop.old.pass) (still_words stop.new.pass) }
-    ensures well { PointWell words.now.config.pages (still_words stop.new.pass)
-        (words_on (still_words stop.old.pass) page) }
+    ensures sweeps { SweepsWords words.now.config.pages stop.old stop.new (words_on (still_words stop.old.pass) page) }
     ensures looks { result ≡ length (words_on (still_words stop.old.pass) page) }
     ensures few { result ≤ 131072 }
 {
@@ -84,10 +76,7 @@ fn sweep_page(words: &Words, stop: &mut Stopped, page: u64) -> u64
     requires one_table { stop.old.pass.table ≡ words.now }
     requires sweeping { IsSweeping stop.old.pass }
     requires page { page < words.now.config.pages }
-    ensures on { SweepsOn stop.old stop.new (words_on (still_words stop.old.pass) page) }
-    ensures more { MarksMore (still_words stop.old.pass) (still_words stop.new.pass) }
-    ensures well { PointWell words.now.config.pages (still_words stop.new.pass)
-        (words_on (still_words stop.old.pass) page) }
+    ensures sweeps { SweepsWords words.now.config.pages stop.old stop.new (words_on (still_words stop.old.pass) page) }
     ensures looks { result ≡ length (words_on (still_words stop.old.pass) page) }
     ensures few { result ≤ 131072 }
 {
@@ -103,10 +92,8 @@ fn sweep_page(words: &Words, stop: &mut Stopped, page: u64) -> u64
 pub(crate) fn sweep_pages(words: &Words, stop: &mut Stopped) -> u64
     requires one_table { stop.old.pass.table ≡ words.now }
     requires sweeping { IsSweeping stop.old.pass }
-    ensures on { SweepsOn stop.old stop.new (words_below (still_words stop.old.pass) words.now.config.pages) }
-    ensures more { MarksMore (still_words stop.old.pass) (still_words stop.new.pass) }
-    ensures well { PointWell words.now.config.pages (still_words stop.new.pass)
-        (words_below (still_words stop.old.pass) words.now.config.pages) }
+    ensures sweeps { SweepsWords words.now.config.pages stop.old stop.new (words_below
+        (still_words stop.old.pass) words.now.config.pages) }
     ensures looks { result ≡ length (words_below (still_words stop.old.pass) words.now.config.pages) }
 {
     words.is_within_limits();

@@ -1,76 +1,87 @@
 use Rattle.mk_laws.proofs.Vocabulary.{Step, World, ap, refl, subst, ◌<◌}
-use Rattle.mk_cycle.proofs.Vocabulary.{Cleans, WordsState, clears, does_sweep, only_seen_by, other_step_sweeps}
-use Rattle.mk_cycle.proofs.Vocabulary.{sweeps_then}
-use Rattle.mk_cycle.proofs.Begun.{begin_begun, begun_then, clearing_begins_none, does_begin_none}
-use Rattle.mk_cycle.proofs.CleaningSteps.{clean_stays, cleaned_free, cleaned_phase, cleaned_table, cleans_then, tallied}
-use Rattle.mk_cycle.proofs.CleaningSteps.{then_cleans}
-use Rattle.mk_cycle.proofs.{BeginSteps.begins_cycle, BeginSteps.begun_free, Sweepless.clearing_marks_nothing}
-use Rattle.mk_cycle.proofs.{Undirty.undirty_later, beginning.begin_cycle.Goals.After-tally}
+use Rattle.mk_cycle.proofs.Vocabulary.{WordsState, clears, does_sweep, only_seen_by, other_step_sweeps, sweeps_then}
+use Rattle.mk_cycle.proofs.Allowed.{in_turn_after, in_turn_before, tally_allowed}
+use Rattle.mk_cycle.proofs.BeginSteps.{IsCleared, begin_allowed, begins_cycle, begun_free}
+use Rattle.mk_cycle.proofs.CleaningSteps.{clean_stays, cleaned_turn, cleans_then, tallied}
+use Rattle.mk_cycle.proofs.{Begun.begin_begun, Begun.begins_none, Begun.begun_then, Begun.does_begin_none}
+use Rattle.mk_cycle.proofs.{Sweepless.marks_nothing, Undirty.undirty_later, beginning.begin_cycle.Goals.After-tally}
 use Rattle.mk_cycle.proofs.beginning.begin_cycle.Goals as goal
 
--- All words are cleaned, and nothing is fresh.
-all_cleans : (g : _) (c : After-tally g) → Cleans c.args.turn.now.pass c.tally.new.turn.pass
-all_cleans g c =
-    then_cleans _ _ _ c.requires.free c.requires.phase c.clean_pages.ensures.cleans
-    (λ free none. tallied _ _ c.tally.ensures.was free none c.tally.ensures.is 0 c.tally.ensures.acts)
+pub tally-requires-clause-enabled : goal.tally-requires-clause-enabled
+tally-requires-clause-enabled g c =
+    tally_allowed _ c.in_turn.ensures (cleaned_turn c.clean_pages.ensures.cleans
+    (record { one_table = c.requires.one_table; free = c.requires.free; phase = c.requires.phase })).free _ _
 
-pub begin-requires-clause-free : goal.begin-requires-clause-free
-begin-requires-clause-free g c =
-    cleaned_free _ _ (all_cleans g (goal.at.begin-requires-clause-free g c).After-tally) c.requires.free
+-- All words are cleaned, and nothing is fresh.
+cleared : (g : _) (c : After-tally g) → IsCleared c.args.words.now c.args.turn.now.pass c.tally.new.self.pass
+cleared g c =
+    let first = cleaned_turn c.clean_pages.ensures.cleans
+    (record { one_table = c.requires.one_table; free = c.requires.free; phase = c.requires.phase }) in
+    let next = tallied first c.tally.ensures.acts in
+    let turn = cleaned_turn next first in
+    record {
+      cleans = cleans_then c.clean_pages.ensures.cleans next;
+      turn = turn;
+      holds = in_turn_after c.tally.ensures.acts refl;
+      clean = λ page lt. clean_stays next (c.clean_pages.ensures.clean page
+          (subst (λ (w : WordsState). page < w.config.pages) turn.one_table lt));
+      fresh = ap (λ (w : World). w.now.words.fresh) c.tally.ensures.acts.world;
+    }
+
+pub begin-requires-clause-one_table : goal.begin-requires-clause-one_table
+begin-requires-clause-one_table g c =
+    (cleared g (goal.at.begin-requires-clause-one_table g c).After-tally).turn.one_table
+
+pub begin-requires-clause-enabled : goal.begin-requires-clause-enabled
+begin-requires-clause-enabled g c =
+    begin_allowed (cleared g (goal.at.begin-requires-clause-enabled g c).After-tally)
 
 pub begin-requires-2-clause-free : goal.begin-requires-2-clause-free
 begin-requires-2-clause-free g c =
-    let all = all_cleans g (goal.at.begin-requires-2-clause-free g c).After-tally in
-    begun_free _ _ c.begin.ensures.was (cleaned_free _ _ all c.requires.free) (cleaned_phase _ _ all c.requires.phase)
-    c.begin.ensures.is c.begin.ensures.acts
+    let x = cleared g (goal.at.begin-requires-2-clause-free g c).After-tally in
+    begun_free x.holds x.turn.free x.turn.phase (in_turn_after c.begin.ensures.acts refl) c.begin.ensures.acts
 
 pub returns-clause-law : goal.returns-clause-law
 returns-clause-law g c =
-    let first = c.clean_pages.ensures.cleans in
-    let free = cleaned_free _ _ first c.requires.free in
-    let none = cleaned_phase _ _ first c.requires.phase in
-    let next = tallied _ _ c.tally.ensures.was free none c.tally.ensures.is 0 c.tally.ensures.acts in
-    let all = cleans_then _ _ _ first next in
-    let p = c.args.turn.now.pass in
-    let b = c.tally.new.turn.pass in
-    begins_cycle p b _ c.begin-2.new.turn.pass all c.begin.ensures.was (cleaned_free _ _ next free)
-    (cleaned_phase _ _ next none) (λ page lt. clean_stays _ _ page next (c.clean_pages.ensures.clean page (subst
-    (λ (w : WordsState). page < w.config.pages) (cleaned_table p b c.args.words.now all c.requires.one_table) lt)))
-    (λ page lt. undirty_later _ _ _ page
+    let x = cleared g (goal.at.returns-clause-law g c).After-tally in
+    begins_cycle x (λ page lt. undirty_later
     (c.clean_pages.ensures.undirty page (subst (λ (w : WordsState). page < w.config.pages) c.requires.one_table lt))
-    next) (ap (λ (w : World). w.now.words.fresh) c.tally.ensures.acts.world) c.begin.ensures.acts c.begin.ensures.is
+    (tallied (cleaned_turn c.clean_pages.ensures.cleans (record {
+      one_table = c.requires.one_table;
+      free = c.requires.free;
+      phase = c.requires.phase;
+    })) c.tally.ensures.acts)) c.begin.ensures.acts
     c.begin-2.ensures.law
 
 pub returns-clause-reached : goal.returns-clause-reached
 returns-clause-reached g c none =
     let p = c.args.turn.now.pass in
-    let b = c.tally.new.turn.pass in
-    let d = c.begin.new.turn.pass in
+    let b = c.tally.new.self.pass in
+    let d = c.begin.new.self.pass in
     let q = c.begin-2.new.turn.pass in
-    let all = all_cleans g (goal.at.returns-clause-reached g c).After-tally in
+    let all = (cleared g (goal.at.returns-clause-reached g c).After-tally).cleans in
     let begin = c.begin.ensures.acts.makes in
-    sweeps_then p b q all.keeps.call.pass (does_sweep clears p b clearing_marks_nothing all.does)
-    (sweeps_then b d q (only_seen_by b d Step.Begin begin)
-    (other_step_sweeps b d Step.Begin begin refl)
+    sweeps_then p b q all.keeps.call.pass (does_sweep clears p b (marks_nothing clears (λ page v. refl)) all.does)
+    (sweeps_then b d q (only_seen_by b d Step.Begin begin) (other_step_sweeps b d Step.Begin begin refl)
     (c.begin-2.ensures.reached none))
 
 pub returns-clause-begun : goal.returns-clause-begun
 returns-clause-begun g c =
     let p = c.args.turn.now.pass in
-    let b = c.tally.new.turn.pass in
+    let b = c.tally.new.self.pass in
     let q = c.begin-2.new.turn.pass in
-    let all = all_cleans g (goal.at.returns-clause-begun g c).After-tally in
+    let all = (cleared g (goal.at.returns-clause-begun g c).After-tally).cleans in
     let begins = g.E.Engine.begins in
-    begun_then begins p b q all.keeps.call.pass (does_begin_none begins clears p b clearing_begins_none all.does)
-    (begin_begun begins b c.begin.new.turn.pass q c.begin.ensures.was.own c.begin.ensures.acts.makes
+    begun_then begins p b q all.keeps.call.pass (does_begin_none begins clears p b (begins_none clears refl) all.does)
+    (begin_begun begins b c.begin.new.self.pass q (in_turn_before c.begin.ensures.acts).own c.begin.ensures.acts.makes
     c.begin-2.ensures.law.does c.begin-2.ensures.begun)
 
 pub returns-clause-last : goal.returns-clause-last
 returns-clause-last g c =
-    let all = all_cleans g (goal.at.returns-clause-last g c).After-tally in
+    let all = (cleared g (goal.at.returns-clause-last g c).After-tally).cleans in
     record {
-      cleared = c.tally.new.turn.pass;
-      begun = c.begin.new.turn.pass;
+      cleared = c.tally.new.self.pass;
+      begun = c.begin.new.self.pass;
       before = all.does;
       begin = c.begin.ensures.acts.makes;
       part = c.begin-2.ensures.begun;

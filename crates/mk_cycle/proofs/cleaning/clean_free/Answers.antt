@@ -24,9 +24,8 @@ cleaned-requires-clause-none c = bare (goal.at.cleaned-requires-clause-none c).A
 pub returns-clause-cleans : goal.returns-clause-cleans
 returns-clause-cleans c =
     subst (λ (t : TurnState). Cleans c.args.turn.now.pass t.pass) (sym c.cleaned.ensures.same)
-    (cleans_then _ _ _ c.look_before-marks.ensures.cleans
-    (cleans_then _ _ _ c.look_before-blacks.ensures.cleans
-    (cleans_then _ _ _ c.clear_marks.ensures.cleans c.clear_black.ensures.cleans)))
+    (cleans_then c.look_before-marks.ensures.cleans (cleans_then c.look_before-blacks.ensures.cleans
+    (cleans_then c.clear_marks.ensures.cleans c.clear_black.ensures.cleans)))
 
 pub returns-clause-bare : goal.returns-clause-bare
 returns-clause-bare c =

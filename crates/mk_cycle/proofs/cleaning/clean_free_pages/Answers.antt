@@ -13,10 +13,10 @@ loop-page-preserved c =
     let q = c.loop-page.turn.pass in
     let n = c.in-Some.page in
     record {
-      pages = cleans_past c.requires.one_table i.pages next.1 x.op x.cleans;
-      below = free_bare_more q _ n x.cleans (free_bare_past q c.loop-page.from n i.below next.2) x.bare;
+      pages = cleans_past c.requires.turn.one_table i.pages next.1 x.op x.cleans;
+      below = free_bare_more x.cleans (free_bare_past q c.loop-page.from n i.below next.2) x.bare;
     }
 
 pub returns-clause-bare : goal.returns-clause-bare
 returns-clause-bare c =
-    let same = same_pages c.requires.one_table c.loop-page.invariant.pages in grind (arith, free_bare_past)
+    let same = same_pages c.requires.turn.one_table c.loop-page.invariant.pages in grind (arith, free_bare_past)

@@ -8,13 +8,13 @@ use Rattle.mk_cycle.proofs.cleaning.clean_page.Goals as goal
 -- what the three looks say
 looks : (c : After-look_before-dirty) → Cleans c.args.turn.now.pass c.look_before-dirty.new.turn.pass
 looks c =
-    cleans_then _ _ _ c.look_before-marks.ensures.cleans
-    (cleans_then _ _ _ c.look_before-blacks.ensures.cleans c.look_before-dirty.ensures.cleans)
+    cleans_then c.look_before-marks.ensures.cleans
+    (cleans_then c.look_before-blacks.ensures.cleans c.look_before-dirty.ensures.cleans)
 
 unmarked : (c : After-look_before-dirty) → c.look_before-marks.result ≡ 0
     → IsUnmarked c.look_before-dirty.new.turn.pass c.args.page
 unmarked c none =
-    (cleans_then _ _ _ c.look_before-blacks.ensures.cleans c.look_before-dirty.ensures.cleans).unmarked c.args.page
+    (cleans_then c.look_before-blacks.ensures.cleans c.look_before-dirty.ensures.cleans).unmarked c.args.page
     (sym c.look_before-marks.ensures.reads ∙ none)
 
 unscanned : (c : After-look_before-dirty) → c.look_before-blacks.result ≡ 0
@@ -24,7 +24,7 @@ unscanned c none =
 
 undirty : (c : After-look_before-dirty) → c.look_before-dirty.result ≡ 0
     → WasUndirty c.args.page c.args.turn.now.pass c.look_before-dirty.new.turn.pass
-undirty c none = undirty_now _ _ c.args.page (looks c) (sym c.look_before-dirty.ensures.reads ∙ none)
+undirty c none = undirty_now c.args.page (looks c) (sym c.look_before-dirty.ensures.reads ∙ none)
 
 pub returns-then-are_zero-clause-cleans : goal.returns-then-are_zero-clause-cleans
 returns-then-are_zero-clause-cleans c = looks (goal.at.returns-then-are_zero-clause-cleans c).After-look_before-dirty
@@ -50,12 +50,12 @@ clean_words-requires-clause-blacks c = unscanned (goal.at.clean_words-requires-c
 
 pub returns-clause-cleans : goal.returns-clause-cleans
 returns-clause-cleans c =
-    cleans_then _ _ _ (looks (goal.at.returns-clause-cleans c).After-look_before-dirty) c.clean_words.ensures.cleans
+    cleans_then (looks (goal.at.returns-clause-cleans c).After-look_before-dirty) c.clean_words.ensures.cleans
 
 pub returns-clause-undirty : goal.returns-clause-undirty
 returns-clause-undirty c =
     let x = (goal.at.returns-clause-undirty c).After-look_before-dirty in
     elim (cases_eq c.look_before-dirty.result 0) [
-      | inl none ↦ undirty_later _ _ _ c.args.page (undirty x none) c.clean_words.ensures.cleans
-      | inr some ↦ undirty_earlier _ _ _ c.args.page (looks x) (c.clean_words.ensures.undirty some)
+      | inl none ↦ undirty_later (undirty x none) c.clean_words.ensures.cleans
+      | inr some ↦ undirty_earlier (looks x) (c.clean_words.ensures.undirty some)
     ]

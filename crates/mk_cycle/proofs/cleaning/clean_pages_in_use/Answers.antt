@@ -10,21 +10,18 @@ loop-page-preserved c =
     let i = c.loop-page.invariant in
     let x = c.clean_page.ensures in
     let next = c.in-Some.ensures.next in
-    let p = c.args.turn.now.pass in
-    let q = c.loop-page.turn.pass in
     let n = c.in-Some.page in
-    let pages = cleans_past c.requires.one_table i.pages next.1 x.op x.cleans in
+    let pages = cleans_past c.requires.turn.one_table i.pages next.1 x.op x.cleans in
     record {
       pages = pages;
-      below = ready_more p q c.clean_page.new.turn.pass n i.pages.cleans x.cleans
-          (ready_past p q c.loop-page.from n c.args.words.now.config.pages c.in-Some.ensures.is i.pages.cleans
-          c.requires.bare (let begun = pages.begun in omega arith) i.below next.3)
-          x.bare x.undirty;
+      below = ready_more i.pages.cleans x.cleans
+          (ready_past c.loop-page.from n c.args.words.now.config.pages c.in-Some.ensures.is i.pages.cleans
+          c.requires.bare (let begun = pages.begun in omega arith) i.below next.3) x.bare x.undirty;
     }
 
 pub returns-clause-ready : goal.returns-clause-ready
 returns-clause-ready c =
     let i = c.loop-page.invariant in
-    let same = same_pages c.requires.one_table i.pages in
-    ready_past _ c.loop-page.turn.pass c.loop-page.from _ _ c.in_default.ensures.is i.pages.cleans c.requires.bare
+    let same = same_pages c.requires.turn.one_table i.pages in
+    ready_past c.loop-page.from _ _ c.in_default.ensures.is i.pages.cleans c.requires.bare
     (omega arith) i.below (λ page low high. c.in_default.ensures.next page low (omega arith))

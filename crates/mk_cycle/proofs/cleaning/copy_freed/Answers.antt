@@ -1,51 +1,47 @@
-use Rattle.mk_laws.proofs.Vocabulary.{ℕ, ap, quarantine_word, sym, ◌∙◌}
-use Rattle.mk_cycle.proofs.CleaningSteps.{cleaned_free, cleaned_phase, cleaned_table, halves, has_snapshot, looked}
-use Rattle.mk_cycle.proofs.CleaningSteps.{snapshot_taken, then_cleans}
-use Rattle.mk_cycle.proofs.Allowed.{on_table}
+use Rattle.mk_laws.proofs.Vocabulary.{ℕ, ap, quarantine_word, refl, sym, ◌∙◌}
+use Rattle.mk_cycle.proofs.Vocabulary.{Cleans, IsTurnAt}
+use Rattle.mk_cycle.proofs.Allowed.{in_turn_after, snapshot_allowed}
+use Rattle.mk_cycle.proofs.CleaningSteps.{Halves, cleaned_turn, cleans_then, halves, has_snapshot, looked}
+use Rattle.mk_cycle.proofs.CleaningSteps.{snapshot_taken}
+use Rattle.mk_cycle.proofs.{MayAct.calm_admitted, cleaning.copy_freed.Goals.After-look-quarantine}
 use Rattle.mk_cycle.proofs.cleaning.copy_freed.Goals as goal
 
-pub take_snapshot-requires-clause-free : goal.take_snapshot-requires-clause-free
-take_snapshot-requires-clause-free c =
-    cleaned_free _ _ (looked _ _ c.look-quarantine.ensures.was c.requires.free c.requires.phase
-    c.look-quarantine.ensures.is _ c.look-quarantine.ensures.acts) c.requires.free
+-- after the look
+first : (c : After-look-quarantine) → Cleans c.args.turn.now.pass c.look-quarantine.new.turn.pass
+first c = looked c.requires.turn c.look-quarantine.ensures.acts
 
-pub take_snapshot-requires-clause-value : goal.take_snapshot-requires-clause-value
-take_snapshot-requires-clause-value c =
-    ap (λ (n : ℕ). quarantine_word n n)
-    (halves _ c.args.page c.look-quarantine.result c.look-quarantine.ensures.is
-    c.look-quarantine.ensures.reads).freed
+turn : (c : After-look-quarantine) → IsTurnAt 0 c.args.words.now c.look-quarantine.new.turn.pass
+turn c = cleaned_turn (first c) c.requires.turn
+
+half : (c : After-look-quarantine) → Halves c.look-quarantine.new.turn.pass c.args.page c.look-quarantine.result
+half c = halves _ _ (in_turn_after c.look-quarantine.ensures.acts refl) c.look-quarantine.ensures.reads
+
+pub quar-requires-clause-enabled : goal.quar-requires-clause-enabled
+quar-requires-clause-enabled c =
+    let x = (goal.at.quar-requires-clause-enabled c).After-look-quarantine in
+    snapshot_allowed (in_turn_after c.look-quarantine.ensures.acts refl) (turn x) _ c.requires.within _
+    (ap (λ (n : ℕ). quarantine_word n n) (half x).freed)
+
+pub quar-requires-clause-admitted : goal.quar-requires-clause-admitted
+quar-requires-clause-admitted c =
+    calm_admitted c.look-quarantine.new.turn.pass _ c.look-quarantine.ensures.acts.makes.pass.history refl
+    (turn (goal.at.quar-requires-clause-admitted c).After-look-quarantine).free.decided
 
 pub returns-then-quarantine-freed-clause-cleans : goal.returns-then-quarantine-freed-clause-cleans
 returns-then-quarantine-freed-clause-cleans c =
-    let first = looked _ _ c.look-quarantine.ensures.was c.requires.free c.requires.phase c.look-quarantine.ensures.is _
-    c.look-quarantine.ensures.acts in
-    then_cleans _ _ _ c.requires.free c.requires.phase first
-    (λ free phase. snapshot_taken _ _ c.take_snapshot.ensures.was free phase c.take_snapshot.ensures.is c.args.page _
-    c.take_snapshot.ensures.acts
-    (on_table c.look-quarantine.new.turn.pass c.args.words.now
-    (cleaned_table c.args.turn.now.pass c.look-quarantine.new.turn.pass c.args.words.now first c.requires.one_table)
-    c.args.page c.requires.within)
-    (ap (λ (n : ℕ). quarantine_word n n)
-    (halves _ c.args.page c.look-quarantine.result c.look-quarantine.ensures.is
-    c.look-quarantine.ensures.reads).freed))
+    let x = (goal.at.returns-then-quarantine-freed-clause-cleans c).After-look-quarantine in
+    cleans_then (first x) (snapshot_taken (turn x) c.quar.ensures.acts c.requires.within
+    (ap (λ (n : ℕ). quarantine_word n n) (half x).freed))
 
 pub returns-then-quarantine-freed-clause-snapshot : goal.returns-then-quarantine-freed-clause-snapshot
 returns-then-quarantine-freed-clause-snapshot c =
-    let first = looked _ _ c.look-quarantine.ensures.was c.requires.free c.requires.phase c.look-quarantine.ensures.is _
-    c.look-quarantine.ensures.acts in
-    has_snapshot _ _ c.take_snapshot.ensures.was (cleaned_free _ _ first c.requires.free)
-    (cleaned_phase _ _ first c.requires.phase) c.take_snapshot.ensures.is _ _ c.take_snapshot.ensures.acts (on_table
-    c.look-quarantine.new.turn.pass _ (cleaned_table _ c.look-quarantine.new.turn.pass _ first c.requires.one_table) _
-    c.requires.within) (ap (λ (n : ℕ). quarantine_word n n)
-    (halves _ c.args.page c.look-quarantine.result c.look-quarantine.ensures.is c.look-quarantine.ensures.reads).freed)
+    let x = (goal.at.returns-then-quarantine-freed-clause-snapshot c).After-look-quarantine in
+    has_snapshot (turn x) c.quar.ensures.acts c.requires.within (ap (λ (n : ℕ). quarantine_word n n) (half x).freed)
 
 pub returns-else-quarantine-freed-clause-cleans : goal.returns-else-quarantine-freed-clause-cleans
-returns-else-quarantine-freed-clause-cleans c =
-    looked _ _ c.look-quarantine.ensures.was c.requires.free c.requires.phase c.look-quarantine.ensures.is _
-    c.look-quarantine.ensures.acts
+returns-else-quarantine-freed-clause-cleans c = looked c.requires.turn c.look-quarantine.ensures.acts
 
 pub returns-else-quarantine-freed-clause-snapshot : goal.returns-else-quarantine-freed-clause-snapshot
 returns-else-quarantine-freed-clause-snapshot c =
-    let h = halves _ c.args.page c.look-quarantine.result c.look-quarantine.ensures.is c.look-quarantine.ensures.reads
-    in
+    let h = half (goal.at.returns-else-quarantine-freed-clause-snapshot c).After-look-quarantine in
     sym h.snapshot ∙ c.if-quarantine-freed.false ∙ h.freed

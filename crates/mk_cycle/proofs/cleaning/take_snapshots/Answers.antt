@@ -10,17 +10,15 @@ loop-page-preserved c =
     let i = c.loop-page.invariant in
     let x = c.copy_freed.ensures in
     let next = c.in-Some.ensures.next in
-    let q = c.loop-page.turn.pass in
     let n = c.in-Some.page in
     record {
-      pages = cleans_past c.requires.one_table i.pages next.1 x.op x.cleans;
-      below = taken_more q c.copy_freed.new.turn.pass n x.cleans
-          (taken_past q c.loop-page.from n c.in-Some.ensures.is i.below next.3) x.snapshot;
+      pages = cleans_past c.requires.turn.one_table i.pages next.1 x.op x.cleans;
+      below = taken_more n x.cleans (taken_past c.loop-page.from n c.in-Some.ensures.is i.below next.3) x.snapshot;
     }
 
 pub returns-clause-snapshot : goal.returns-clause-snapshot
 returns-clause-snapshot c =
     let i = c.loop-page.invariant in
-    let same = same_pages c.requires.one_table i.pages in
-    taken_past c.loop-page.turn.pass c.loop-page.from c.args.words.now.config.pages c.in_default.ensures.is i.below
+    let same = same_pages c.requires.turn.one_table i.pages in
+    taken_past c.loop-page.from c.args.words.now.config.pages c.in_default.ensures.is i.below
     (λ page low high. c.in_default.ensures.next page low (omega arith))

@@ -1,97 +1,87 @@
-use Rattle.mk_laws.proofs.Vocabulary.{Step, ℕ, ap, gives_back, has_bit, header_of, quarantine_word, subst, sym}
-use Rattle.mk_laws.proofs.Vocabulary.{words_under, ◌-◌, ◌/◌, ◌^◌, ◌∙◌}
-use Rattle.mk_cycle.proofs.Vocabulary.{Acts, GivesNothingBack, now_of}
-use Rattle.mk_cycle.proofs.GiveBack.{GivesCells, drops_here, free_d, gives_all, gives_here, gone_too}
-use Rattle.mk_cycle.proofs.GivingSteps.{look_frees, none_then}
-use Rattle.mk_cycle.proofs.PageSteps.{same_header, same_left, same_used}
-use Rattle.mk_cycle.proofs.freeing.give_back.Goals.{After-give_cells, After-look_among-used, After-wipe_released}
-use Rattle.mk_cycle.proofs.{Allowed.on_table, FreeingSteps.freed_free, SettledPages.free_cells_stay}
+use Rattle.mk_laws.proofs.Vocabulary.{Step, ℕ, ap, gives_back, has_bit, header_of, quarantine_word, refl, subst, sym}
+use Rattle.mk_laws.proofs.Vocabulary.{true, words_under, ◌-◌, ◌/◌, ◌^◌, ◌∙◌, ◌≡◌}
+use Rattle.mk_cycle.proofs.Vocabulary.{Acts, AreFreeCells, GivesNothingBack, IsTurnAt, bit_and, now_of}
+use Rattle.mk_cycle.proofs.GiveBack.{GivesCells, drops_here, gives_all, gives_here, gone_too, turn_d}
+use Rattle.mk_cycle.proofs.GivingSteps.{look_frees, none_then, quar_allowed, used_allowed}
+use Rattle.mk_cycle.proofs.freeing.give_back.Goals.{After-look_among-used, After-used, After-wipe_released}
+use Rattle.mk_cycle.proofs.{Allowed.in_turn_after, Allowed.in_turn_before, FreeingSteps.freed_turn}
+use Rattle.mk_cycle.proofs.{MayAct.calm_admitted, PageSteps.same_used, SettledPages.some_free, SettledPages.still_free}
 use Rattle.mk_cycle.proofs.freeing.give_back.Goals as goal
 
 -- The look gives nothing back, nor does the wiping.
 
 looked : (c : After-look_among-used) → GivesNothingBack c.args.turn.now.pass c.look_among-used.new.turn.pass
-looked c =
-    let look = c.look_among-used.ensures in look_frees _ _ look.was look.is c.requires.free c.requires.phase _ look.acts
+looked c = look_frees c.requires.turn c.look_among-used.ensures.acts
 
 wiped : (c : After-wipe_released) → GivesNothingBack c.args.turn.now.pass c.wipe_released.new.turn.pass
-wiped c =
-    let look = c.look_among-used.ensures in
-    none_then _ _ _ (look_frees _ _ look.was look.is c.requires.free c.requires.phase _ look.acts)
-    c.wipe_released.ensures.frees
+wiped c = none_then (look_frees c.requires.turn c.look_among-used.ensures.acts) c.wipe_released.ensures.frees
 
-given : (c : After-give_cells)
-    → GivesCells c.args.turn.now.pass c.wipe_released.new.turn.pass c.give_cells.new.turn.pass c.args.page
+given : (c : After-used)
+    → GivesCells c.args.words.now c.args.turn.now.pass c.wipe_released.new.turn.pass c.used.new.self.pass c.args.page
     c.look_among-used.result c.args.gone c.args.quarantine
 given c =
-    let p = c.args.turn.now.pass in
     let look = c.look_among-used in
-    let first = look_frees _ _ look.ensures.was look.ensures.is c.requires.free c.requires.phase _ look.ensures.acts in
+    let first = look_frees c.requires.turn look.ensures.acts in
     record {
-      begun = look.ensures.was;
-      wiped = none_then _ _ _ first c.wipe_released.ensures.frees;
-      giving = c.give_cells.ensures.was;
-      free = c.requires.free;
-      phase = c.requires.phase;
-      within = on_table p c.args.words.now c.requires.one_table c.args.page c.requires.within;
-      is_used = look.ensures.reads ∙ same_used p look.new.turn.pass c.args.page (first.same c.args.page);
+      begun = in_turn_before look.ensures.acts;
+      wiped = none_then first c.wipe_released.ensures.frees;
+      turn = c.requires.turn;
+      within = c.requires.within;
+      is_used =
+          look.ensures.reads ∙ same_used c.args.turn.now.pass look.new.turn.pass c.args.page (first.same c.args.page);
       is_gone = c.requires.gone;
       word = c.requires.quarantine;
-      gives = subst (λ (n : ℕ). Acts c.wipe_released.new.turn.pass (Step.Used c.args.page n) c.give_cells.new.turn.pass)
-          c.without.ensures c.give_cells.ensures.acts;
-      given = c.give_cells.ensures.is;
+      gives = subst (λ (n : ℕ). Acts c.wipe_released.new.turn.pass (Step.Used c.args.page n) c.used.new.self.pass)
+          c.without.ensures c.used.ensures.acts;
     }
 
-pub wipe_released-requires-clause-free : goal.wipe_released-requires-clause-free
-wipe_released-requires-clause-free c =
-    freed_free _ _ (looked (goal.at.wipe_released-requires-clause-free c).After-look_among-used).frees c.requires.free
-
-pub wipe_released-requires-clause-header : goal.wipe_released-requires-clause-header
-wipe_released-requires-clause-header c =
-    let first = looked (goal.at.wipe_released-requires-clause-header c).After-look_among-used in
-    c.requires.header ∙ sym
-    (same_header c.args.turn.now.pass c.look_among-used.new.turn.pass c.args.page (first.same c.args.page))
-
-pub wipe_released-requires-clause-released : goal.wipe_released-requires-clause-released
-wipe_released-requires-clause-released c k has =
-    let first = looked (goal.at.wipe_released-requires-clause-released c).After-look_among-used in
-    let left =
-    same_left c.args.turn.now.pass c.look_among-used.new.turn.pass c.args.page (first.same c.args.page)
-    first.frees.marks in
-    ap (λ (n : ℕ). has_bit n k) (left ∙ sym c.requires.gone) ∙ gone_too c.look_among-used.result c.args.gone k has
+pub wipe_released-requires-clause-turn : goal.wipe_released-requires-clause-turn
+wipe_released-requires-clause-turn c =
+    freed_turn (looked (goal.at.wipe_released-requires-clause-turn c).After-look_among-used).frees c.requires.turn
 
 pub wipe_released-requires-clause-cells : goal.wipe_released-requires-clause-cells
 wipe_released-requires-clause-cells c =
-    let first = looked (goal.at.wipe_released-requires-clause-cells c).After-look_among-used in
-    free_cells_stay _ _ c.args.page first.frees (first.same c.args.page) c.requires.cells
+    let some : ℕ = bit_and c.look_among-used.result c.args.gone in
+    still_free (looked (goal.at.wipe_released-requires-clause-cells c).After-look_among-used).frees
+    (subst (λ (n : ℕ). AreFreeCells c.args.turn.now.pass c.args.page n some) (sym c.requires.header)
+    (some_free some c.requires.cells (λ k has. subst (λ (n : ℕ). has_bit n k ≡ true) c.requires.gone
+    (gone_too c.look_among-used.result c.args.gone k has))))
 
-pub give_cells-requires-clause-free : goal.give_cells-requires-clause-free
-give_cells-requires-clause-free c =
-    freed_free _ _ (wiped (goal.at.give_cells-requires-clause-free c).After-wipe_released).frees c.requires.free
+turn : (c : After-wipe_released) → IsTurnAt 4 c.args.words.now c.wipe_released.new.turn.pass
+turn c = freed_turn (wiped c).frees c.requires.turn
 
-pub give_cells-requires-clause-gives : goal.give_cells-requires-clause-gives
-give_cells-requires-clause-gives c =
-    let at = goal.at.give_cells-requires-clause-gives c in
+pub used-requires-clause-one_table : goal.used-requires-clause-one_table
+used-requires-clause-one_table c = (turn (goal.at.used-requires-clause-one_table c).After-wipe_released).one_table
+
+pub used-requires-clause-enabled : goal.used-requires-clause-enabled
+used-requires-clause-enabled c =
+    let at = goal.at.used-requires-clause-enabled c in
     let first = looked at.After-look_among-used in
     let p = c.args.turn.now.pass in
     let b = c.wipe_released.new.turn.pass in
-    ap (λ (n : ℕ). gives_back (now_of b).words c.args.page n) c.without.ensures ∙ gives_here p b _
-    c.look_among-used.result c.args.gone _ (wiped at.After-wipe_released)
+    used_allowed c.in_turn.ensures (turn at.After-wipe_released) _ _ c.requires.within
+    (ap (λ (n : ℕ). gives_back (now_of b).words c.args.page n) c.without.ensures
+    ∙ gives_here _ c.look_among-used.result c.args.gone _ (wiped at.After-wipe_released)
     (c.look_among-used.ensures.reads ∙ same_used p c.look_among-used.new.turn.pass _ (first.same _)) c.requires.gone
-    (ap (λ (n : ℕ). words_under (header_of n)) c.requires.header) c.wipe_released.ensures.zeros
+    (ap (λ (n : ℕ). words_under (header_of n)) c.requires.header) c.wipe_released.ensures.zeros)
 
-pub drop_cells-requires-clause-free : goal.drop_cells-requires-clause-free
-drop_cells-requires-clause-free c = free_d (given (goal.at.drop_cells-requires-clause-free c).After-give_cells)
+pub quar-requires-clause-one_table : goal.quar-requires-clause-one_table
+quar-requires-clause-one_table c = (turn_d (given (goal.at.quar-requires-clause-one_table c).After-used)).one_table
 
-pub drop_cells-requires-clause-drops : goal.drop_cells-requires-clause-drops
-drop_cells-requires-clause-drops c =
-    cc (c.without-freed.ensures, drops_here (given (goal.at.drop_cells-requires-clause-drops c).After-give_cells))
+pub quar-requires-clause-enabled : goal.quar-requires-clause-enabled
+quar-requires-clause-enabled c =
+    let x = given (goal.at.quar-requires-clause-enabled c).After-used in
+    quar_allowed (in_turn_after c.used.ensures.acts refl) (turn_d x) _ _ c.requires.within
+    (cc (c.without-freed.ensures, drops_here x))
+
+pub quar-requires-clause-admitted : goal.quar-requires-clause-admitted
+quar-requires-clause-admitted c =
+    calm_admitted c.used.new.self.pass _ c.used.ensures.acts.makes.pass.history refl
+    (turn_d (given (goal.at.quar-requires-clause-admitted c).After-used)).free.decided
 
 pub returns-clause-gives : goal.returns-clause-gives
 returns-clause-gives c =
-    let q = c.drop_cells.new.turn.pass in
-    gives_all (given (goal.at.returns-clause-gives c).After-give_cells) q
-    (subst (λ (n : ℕ). Acts c.give_cells.new.turn.pass
-    (Step.Quar c.args.page (quarantine_word n (c.args.quarantine / 2 ^ 32 - c.args.gone))) q)
-    c.without-freed.ensures c.drop_cells.ensures.acts)
-    c.drop_cells.ensures.is
+    gives_all (given (goal.at.returns-clause-gives c).After-used)
+    (subst (λ (n : ℕ). Acts c.used.new.self.pass
+    (Step.Quar c.args.page (quarantine_word n (c.args.quarantine / 2 ^ 32 - c.args.gone))) c.quar.new.self.pass)
+    c.without-freed.ensures c.quar.ensures.acts)

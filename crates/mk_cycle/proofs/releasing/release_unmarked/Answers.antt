@@ -8,8 +8,7 @@ use Rattle.mk_cycle.proofs.releasing.release_unmarked.Goals as goal
 
 -- the three parts
 parts : (g : _) (c : After-release g)
-    → StopReleases c.args.stop.now.pass c.close_marks.new.stop.pass c.close_phase.new.self.pass
-    c.release.new.self.pass
+    → StopReleases c.args.stop.now.pass c.close_marks.new.stop.pass c.close_phase.new.self.pass c.release.new.self.pass
 parts g c =
     let before = c.is_in_order.ensures in
     let marked = c.is_in_order-2.ensures in
@@ -39,38 +38,22 @@ returns-clause-told g c = stop_tells (parts g (goal.at.returns-clause-told g c).
 pub returns-clause-held : goal.returns-clause-held
 returns-clause-held g c = stop_holds (parts g (goal.at.returns-clause-held g c).After-release) c.requires.one_table
 
-pub returns-clause-reached : goal.returns-clause-reached
-returns-clause-reached g c none =
+pub returns-clause-promised : goal.returns-clause-promised
+returns-clause-promised g c =
     let p = c.args.stop.now.pass in
     let b = c.close_marks.new.stop.pass in
     let d = c.close_phase.new.self.pass in
     let q = c.release.new.self.pass in
     let close = c.close_phase.ensures.acts.makes in
-    sweeps_then p b q c.close_marks.ensures.law.keeps.call.pass (c.close_marks.ensures.reached none)
-    (sweeps_then b d q (only_seen_by b d Step.Close close)
-    (other_step_sweeps b d Step.Close close refl)
-    (other_step_sweeps d q Step.Release c.release.ensures.acts.makes refl))
-
-pub returns-clause-told_at_close : goal.returns-clause-told_at_close
-returns-clause-told_at_close g c =
-    let p = c.args.stop.now.pass in
-    let b = c.close_marks.new.stop.pass in
-    let d = c.close_phase.new.self.pass in
-    let q = c.release.new.self.pass in
-    let does = c.close_marks.ensures.law.does in
-    told_earlier _ p b does.more q does.is
-    (told_later _ b d q _ (ap (λ (x : PassState). x.seen) c.release.ensures.acts.makes.is ∙ append_assoc d.seen _ _)
-    (told_closing _ b d c.is_in_order-2.ensures.own c.close_phase.ensures.acts.makes c.is_in_order-3.ensures.history
-    c.close_marks.ensures.told))
-
-pub returns-clause-closed : goal.returns-clause-closed
-returns-clause-closed g c =
-    closed_in_stop _ c.args.stop.now.pass c.release.new.self.pass
-    (record {
-      closing = c.close_marks.new.stop.pass;
-      closed = c.close_phase.new.self.pass;
-      marks = c.close_marks.ensures.law;
-      close = c.close_phase.ensures.acts.makes;
-      release = c.release.ensures.acts.makes;
-    })
-    c.close_marks.ensures.closed
+    let release = c.release.ensures.acts.makes in
+    let marks = c.close_marks.ensures in
+    record {
+      reached = λ none. sweeps_then p b q marks.law.keeps.call.pass (marks.reached none)
+          (sweeps_then b d q (only_seen_by b d Step.Close close) (other_step_sweeps b d Step.Close close refl)
+          (other_step_sweeps d q Step.Release release refl));
+      told = told_earlier p marks.law.does.more marks.law.does.is
+          (told_later q _ (ap (λ (x : PassState). x.seen) release.is ∙ append_assoc d.seen _ _)
+          (told_closing _ c.is_in_order-2.ensures.own close c.is_in_order-3.ensures.history marks.told));
+      closed = closed_in_stop _ p q
+          (record { closing = b; closed = d; marks = marks.law; close = close; release = release }) marks.closed;
+    }

@@ -26,8 +26,8 @@ to_next c =
     let same_pages : c.loop-page.turn.pass.table.config.pages ≡ c.args.words.now.config.pages =
     grind (arith, freed_table) in
     let within = next.1 in
-    settled_to _ c.loop-page.turn.pass c.in-Some.ensures.is c.loop-page.from c.in-Some.page c.loop-page.end _ next.0
-    (omega (arith, within, same_pages)) next.3 c.loop-page.all c.loop-page.held i.settled
+    settled_to _ c.in-Some.ensures.is c.loop-page.from c.in-Some.page c.loop-page.end _ next.0
+    (omega (arith, within, same_pages)) next.3 i.settled
 
 pub settle_taken-here-requires-clause-settled : goal.settle_taken-here-requires-clause-settled
 settle_taken-here-requires-clause-settled c = grind (arith, to_next)
@@ -51,11 +51,9 @@ loop-page-preserved c =
     record {
       op = x.op ∙ i.op;
       begun = omega (arith, within, same_pages);
-      settled = settled_more p q c.settle_taken-here.new.turn.pass n pages x.frees c.in-Some.ensures.is c.loop-page.end
-          c.max-end.result (omega (arith, furthest))
-          (λ s far lt few. omega (arith, end, furthest, far, few, limits)) c.loop-page.all
-          c.settle_taken-here.result.released c.loop-page.held c.settle_taken-here.result.held before x.settled
-          x.released x.held;
+      settled = settled_more p pages x.frees c.in-Some.ensures.is c.max-end.result (omega (arith, furthest))
+          (λ s far lt few. omega (arith, end, furthest, far, few, limits)) c.settle_taken-here.result.released
+          c.settle_taken-here.result.held before x.settled x.released x.held;
       count = omega (arith, i.count, x.few.count, after);
       words = omega (arith, i.words, x.few.words, after);
       kept = omega (arith, i.kept, x.few.kept, after);
@@ -66,17 +64,15 @@ same_pages : (c : In_default) → c.loop-page.turn.pass.table.config.pages ≡ c
 same_pages c = grind (arith, freed_table)
 
 -- and where there is none, up to the end
-to_end : (c : In_default)
-    → AreSettledBelow c.args.turn.now.pass c.loop-page.turn.pass c.args.words.now.config.pages
+to_end : (c : In_default) → AreSettledBelow c.args.turn.now.pass c.loop-page.turn.pass c.args.words.now.config.pages
     c.args.words.now.config.pages c.loop-page.end c.loop-page.all c.loop-page.held
 to_end c =
-    settled_to _ c.loop-page.turn.pass c.in_default.ensures.is c.loop-page.from _ c.loop-page.end _
+    settled_to _ c.in_default.ensures.is c.loop-page.from _ c.loop-page.end _
     c.loop-page.invariant.begun (omega arith) (λ r le lt. c.in_default.ensures.next r le (omega (
       arith,
       lt,
-      same_pages
-          c,
-    ))) c.loop-page.all c.loop-page.held c.loop-page.invariant.settled
+      same_pages c,
+    ))) c.loop-page.invariant.settled
 
 pub returns-clause-settled : goal.returns-clause-settled
 returns-clause-settled c = (to_end (goal.at.returns-clause-settled c).In_default).settled

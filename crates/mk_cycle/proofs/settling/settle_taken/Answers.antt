@@ -1,10 +1,10 @@
 use Rattle.mk_laws.proofs.Vocabulary.{ℕ, subst, sym, ◌≤◌}
 use Rattle.mk_cycle.proofs.SettledPages.{head_before, none_at}
-use Rattle.mk_cycle.proofs.{FreeingSteps.freed_free, PageSteps.page_then}
+use Rattle.mk_cycle.proofs.{FreeingSteps.freed_turn, PageSteps.page_then}
 use Rattle.mk_cycle.proofs.settling.settle_taken.Goals as goal
 
-pub free_unused-requires-clause-free : goal.free_unused-requires-clause-free
-free_unused-requires-clause-free c = freed_free _ _ c.release_cells-here.ensures.gives.frees.frees c.requires.free
+pub free_unused-requires-clause-turn : goal.free_unused-requires-clause-turn
+free_unused-requires-clause-turn c = freed_turn c.release_cells-here.ensures.gives.frees.frees c.requires.turn
 
 pub free_unused-requires-clause-head : goal.free_unused-requires-clause-head
 free_unused-requires-clause-head c =
@@ -12,9 +12,8 @@ free_unused-requires-clause-head c =
 
 pub free_unused-requires-clause-none_at_head : goal.free_unused-requires-clause-none_at_head
 free_unused-requires-clause-none_at_head c =
-    none_at _ c.release_cells-here.new.turn.pass _ c.head_page.result c.release_cells-here.ensures.gives
+    none_at c.head_page.result c.release_cells-here.ensures.gives
     (subst (λ (n : ℕ). n ≤ c.args.page) (sym c.head_page.ensures) (head_before _ _)) c.requires.settled
 
 pub returns-clause-frees : goal.returns-clause-frees
-returns-clause-frees c =
-    page_then c.args.page _ _ _ c.release_cells-here.ensures.gives.frees c.free_unused.ensures.frees
+returns-clause-frees c = page_then c.release_cells-here.ensures.gives.frees c.free_unused.ensures.frees

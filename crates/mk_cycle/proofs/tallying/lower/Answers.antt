@@ -4,6 +4,5 @@ use Rattle.mk_cycle.proofs.tallying.lower.Goals as goal
 
 pub returns-clause-sets : goal.returns-clause-sets
 returns-clause-sets c =
-    set_by c.args.turn.now.pass c.look-before.new.turn.pass c.set.new.turn.pass c.args.n c.args.word
-    (λ m. m - c.args.by) c.look-before.result c.saturating_sub.result
-    c.requires.word c.look-before.ensures.sets c.look-before.ensures.reads c.saturating_sub.ensures c.set.ensures.sets
+    set_by c.args.n c.args.word (λ m. m - c.args.by) c.look-before.result c.saturating_sub.result c.requires.word
+    c.look-before.ensures.sets c.look-before.ensures.reads c.saturating_sub.ensures c.set.ensures.sets

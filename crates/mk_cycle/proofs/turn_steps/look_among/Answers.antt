@@ -1,7 +1,7 @@
 use Rattle.mk_laws.proofs.Vocabulary.{refl, subst, sym, true, ◌≡◌}
 use Rattle.mk_cycle.proofs.Vocabulary.{WordsState}
 use Rattle.mk_core.specs.Ranges.{is_word}
-use Rattle.mk_cycle.proofs.{Allowed.in_turn_after, Allowed.look_allowed, MayAct.calm_admitted}
+use Rattle.mk_cycle.proofs.{Allowed.look_allowed, MayAct.calm_admitted}
 use Rattle.mk_cycle.proofs.turn_steps.look_among.Goals as goal
 
 pub look_among-requires-clause-enabled : goal.look_among-requires-clause-enabled
@@ -13,6 +13,3 @@ look_among-requires-clause-enabled c =
 pub look_among-requires-clause-admitted : goal.look_among-requires-clause-admitted
 look_among-requires-clause-admitted c may =
     calm_admitted c.args.turn.now.pass _ c.in_turn.ensures.history refl c.requires.free.decided
-
-pub returns-clause-is : goal.returns-clause-is
-returns-clause-is c = in_turn_after c.look_among.ensures.acts refl

@@ -6,20 +6,16 @@ use Rattle.mk_cycle.proofs.wiping.look_at_heap.Goals as goal
 
 pub look_on_page-requires-clause-enabled : goal.look_on_page-requires-clause-enabled
 look_on_page-requires-clause-enabled c =
-    look_allowed c.args.turn.now.pass c.in_turn.ensures c.requires.free (Word.Heap c.args.word)
-    (subst (λ (w : WordsState). is_word w.config (Word.Heap c.args.word) ≡ true) (sym c.requires.one_table)
-    (lt-ltb c.args.word (64 * c.args.words.now.config.pages) c.requires.within))
-    refl
+    look_allowed c.args.turn.now.pass c.in_turn.ensures c.requires.turn.free (Word.Heap c.args.word)
+    (subst (λ (w : WordsState). is_word w.config (Word.Heap c.args.word) ≡ true) (sym c.requires.turn.one_table)
+    (lt-ltb c.args.word (64 * c.args.words.now.config.pages) c.requires.within)) refl
 
 pub look_on_page-requires-clause-admitted : goal.look_on_page-requires-clause-admitted
 look_on_page-requires-clause-admitted c may =
-    calm_admitted c.args.turn.now.pass _ c.in_turn.ensures.history refl c.requires.free.decided
+    calm_admitted c.args.turn.now.pass _ c.in_turn.ensures.history refl c.requires.turn.free.decided
 
 pub returns-clause-is : goal.returns-clause-is
 returns-clause-is c = in_turn_after c.look_on_page.ensures.acts refl
 
 pub returns-clause-frees : goal.returns-clause-frees
-returns-clause-frees c =
-    look_frees c.args.turn.now.pass c.look_on_page.new.self.pass c.in_turn.ensures
-    (in_turn_after c.look_on_page.ensures.acts refl) c.requires.free c.requires.phase (Word.Heap c.args.word)
-    c.look_on_page.ensures.acts
+returns-clause-frees c = look_frees c.requires.turn c.look_on_page.ensures.acts

@@ -11,7 +11,7 @@ unmapped_still : {p q : PassState} (first pairs : ℕ) → GivesNothingBack p q
     → ((i : ℕ) → i < 2 * pairs → IsUnmappedWord p (2 * first + i)) → (i n : ℕ) → i < 2 * pairs → 2 * first + i ≡ n
     → IsUnmappedWord q n
 unmapped_still {q = q} first pairs none unmapped i n lt is =
-    subst (λ (n : ℕ). IsUnmappedWord q n) is (still_unmapped_word _ _ _ none.frees (unmapped i lt))
+    subst (λ (n : ℕ). IsUnmappedWord q n) is (still_unmapped_word none.frees (unmapped i lt))
 
 pub wipe_pair-requires-clause-first : goal.wipe_pair-requires-clause-first
 wipe_pair-requires-clause-first c =
@@ -30,14 +30,10 @@ loop-i-preserved c =
     let zero : ℕ → Type 0 = λ k. IsZero c.wipe_pair.new.turn.pass (2 * c.args.first + k) in
     record {
       op = now.op ∙ before.op;
-      frees = none_then _ _ _ before.frees now.frees;
-      zeros = λ k lt. below_more zero (2 * c.loop-i.i + 1)
-          (below_more zero (2 * c.loop-i.i)
-          (λ j low. now.frees.frees.zeros (2 * c.args.first + j)
-          (still_unmapped_word _ _ _ before.frees.frees
-          (c.requires.unmapped j (omega (arith, low, c.loop-i-test.true)))).unmapped
-          (before.zeros j low))
+      frees = none_then before.frees now.frees;
+      zeros = λ k lt. below_more zero (2 * c.loop-i.i + 1) (below_more zero (2 * c.loop-i.i)
+          (λ j low. now.frees.frees.zeros (2 * c.args.first + j) (still_unmapped_word before.frees.frees
+          (c.requires.unmapped j (omega (arith, low, c.loop-i-test.true)))).unmapped (before.zeros j low))
           (subst (λ (n : ℕ). IsZero c.wipe_pair.new.turn.pass n) (omega arith) now.first))
-          (subst (λ (n : ℕ). IsZero c.wipe_pair.new.turn.pass n) (omega arith) now.second)
-          k (omega (arith, lt));
+          (subst (λ (n : ℕ). IsZero c.wipe_pair.new.turn.pass n) (omega arith) now.second) k (omega (arith, lt));
     }

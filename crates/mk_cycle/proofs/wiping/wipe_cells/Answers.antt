@@ -22,8 +22,7 @@ pub wipe_cell-requires-clause-unmapped : goal.wipe_cell-requires-clause-unmapped
 wipe_cell-requires-clause-unmapped c i lt =
     subst (λ (n : ℕ). IsUnmappedWord c.loop-rest.turn.pass n)
     (same_word c.args.page c.lowest_bit-index.result c.args.pairs i)
-    (still_unmapped_word _ _ _ c.loop-rest.invariant.frees.frees
-    (c.requires.unmapped c.lowest_bit-index.result i
+    (still_unmapped_word c.loop-rest.invariant.frees.frees (c.requires.unmapped c.lowest_bit-index.result i
     (c.loop-rest.invariant.among c.lowest_bit-index.result c.lowest_bit-index.ensures.one) lt))
 
 pub loop-rest-smaller : goal.loop-rest-smaller
@@ -43,9 +42,8 @@ loop-rest-preserved c =
     c.without-rest.ensures ∙ ap (λ (n : ℕ). without rest n) c.bit.ensures in
     record {
       op = c.wipe_cell.ensures.op ∙ before.op;
-      frees = none_then _ _ _ before.frees now;
-      among = λ j has. before.among j
-          (left_among rest index j (subst (λ (n : ℕ). has_bit n j ≡ true) left has));
+      frees = none_then before.frees now;
+      among = λ j has. before.among j (left_among rest index j (subst (λ (n : ℕ). has_bit n j ≡ true) left has));
       zeros = λ j gone i has lt. by j (subst (λ (n : ℕ). has_bit n j ≡ false) left gone) i has lt
           (cases_Bool (has_bit rest j));
     }
@@ -61,8 +59,7 @@ loop-rest-preserved c =
         (sym (same_word c.args.page c.lowest_bit-index.result c.args.pairs i)) (c.wipe_cell.ensures.zeros i lt))
     by j gone i has lt (inr none) =
         c.wipe_cell.ensures.frees.frees.zeros (64 * c.args.page + j * (2 * c.args.pairs) + i)
-        (still_unmapped_word _ _ (64 * c.args.page + j * (2 * c.args.pairs) + i) c.loop-rest.invariant.frees.frees
-        (c.requires.unmapped j i has lt)).unmapped
+        (still_unmapped_word c.loop-rest.invariant.frees.frees (c.requires.unmapped j i has lt)).unmapped
         (c.loop-rest.invariant.zeros j none i has lt)
 
 pub returns-clause-zeros : goal.returns-clause-zeros

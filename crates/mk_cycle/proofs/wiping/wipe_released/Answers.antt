@@ -1,22 +1,20 @@
 use Rattle.mk_laws.proofs.Vocabulary.{ℕ, subst, sym, ◌*◌, ◌+◌, ◌<◌, ◌∙◌}
 use Rattle.mk_cycle.proofs.Vocabulary.{IsUnmappedWord, IsZero}
-use Rattle.mk_cycle.proofs.{GiveBack.chosen_unmapped, GiveBack.chosen_wiped, GivingSteps.none_at_once}
+use Rattle.mk_cycle.proofs.GivingSteps.{none_at_once}
 use Rattle.mk_cycle.proofs.wiping.wipe_released.Goals as goal
 
 pub wipe_cells-requires-clause-unmapped : goal.wipe_cells-requires-clause-unmapped
 wipe_cells-requires-clause-unmapped c k i has lt =
     let size = c.pairs.ensures.exact in
     subst (λ (n : ℕ). IsUnmappedWord c.args.turn.now.pass (64 * c.args.page + k * n + i)) (sym size)
-    (chosen_unmapped c.args.turn.now.pass c.args.page c.args.header.now c.args.cells c.requires.header
-    c.requires.released c.requires.cells k i has (subst (λ (n : ℕ). i < n) size lt))
+    (c.requires.cells.unmapped k i has (subst (λ (n : ℕ). i < n) size lt))
 
 pub returns-then-is_unmapped-clause-frees : goal.returns-then-is_unmapped-clause-frees
 returns-then-is_unmapped-clause-frees c = none_at_once c.args.turn.now.pass
 
 pub returns-then-is_unmapped-clause-zeros : goal.returns-then-is_unmapped-clause-zeros
 returns-then-is_unmapped-clause-zeros c k few i has lt =
-    chosen_wiped c.args.turn.now.pass c.args.page c.args.header.now c.args.cells c.requires.header c.requires.released
-    c.requires.cells (sym c.is_unmapped.ensures ∙ c.if-is_unmapped.true) k i has lt
+    c.requires.cells.wiped (sym c.is_unmapped.ensures ∙ c.if-is_unmapped.true) k i has lt
 
 pub returns-clause-zeros : goal.returns-clause-zeros
 returns-clause-zeros c k few i has lt =

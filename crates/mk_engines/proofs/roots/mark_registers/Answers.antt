@@ -8,16 +8,13 @@ loop-caller-init g c = grind (arith, goes_nowhere, gates_at_once)
 
 pub loop-caller-preserved : goal.loop-caller-preserved
 loop-caller-preserved g c =
-    let t = c.args.turn.now in
-    let u = c.loop-caller.turn in
     let v = c.mark_caller.new.turn in
     let before = c.loop-caller.invariant in
     record {
-      on = goes_then t u v before.on c.mark_caller.ensures.on;
-      gates = gates_on t u v before.on before.gates c.mark_caller.ensures.gates;
+      on = goes_then before.on c.mark_caller.ensures.on;
+      gates = gates_on v before.on before.gates c.mark_caller.ensures.gates;
       looked =
-          below_more _ _
-          (λ k lt r few. looked_on (Word.Reg k r) t u v before.on c.mark_caller.ensures.on (before.looked k lt r few))
-          (λ r few. on_looked (Word.Reg c.loop-caller.caller r) t u v before.on c.mark_caller.ensures.on
-          (c.mark_caller.ensures.looked r few));
+          below_more _ _ (λ k lt r few. looked_on (Word.Reg k r) before.on c.mark_caller.ensures.on
+          (before.looked k lt r few)) (λ r few. on_looked
+          (Word.Reg c.loop-caller.caller r) before.on c.mark_caller.ensures.on (c.mark_caller.ensures.looked r few));
     }

@@ -4,23 +4,19 @@ use Rattle.mk_engines.proofs.roots.mark_registers_held.Goals as goal
 
 pub returns-then-was_open-clause-on : goal.returns-then-was_open-clause-on
 returns-then-was_open-clause-on g c =
-    goes_then _ _ _ (goes_then _ c.hold_gate-was_open.new.turn _ c.hold_gate-was_open.ensures.on
-    c.mark_registers_of.ensures.on) c.open_gate.ensures.on
+    goes_then (goes_then c.hold_gate-was_open.ensures.on c.mark_registers_of.ensures.on) c.open_gate.ensures.on
 
 pub returns-then-was_open-clause-looked : goal.returns-then-was_open-clause-looked
 returns-then-was_open-clause-looked g c r few =
     let x = Word.Reg c.args.caller r in
-    let t = c.args.turn.now in
     let marked = c.mark_registers_of.ensures in
-    looked_on x t _ _ (goes_then t c.hold_gate-was_open.new.turn _ c.hold_gate-was_open.ensures.on marked.on)
-    c.open_gate.ensures.on
-    (on_looked x t c.hold_gate-was_open.new.turn _ c.hold_gate-was_open.ensures.on marked.on (marked.looked r few))
+    looked_on x (goes_then c.hold_gate-was_open.ensures.on marked.on) c.open_gate.ensures.on
+    (on_looked x c.hold_gate-was_open.ensures.on marked.on (marked.looked r few))
 
 pub returns-else-was_open-clause-on : goal.returns-else-was_open-clause-on
-returns-else-was_open-clause-on g c =
-    goes_then _ c.hold_gate-was_open.new.turn _ c.hold_gate-was_open.ensures.on c.mark_registers_of.ensures.on
+returns-else-was_open-clause-on g c = goes_then c.hold_gate-was_open.ensures.on c.mark_registers_of.ensures.on
 
 pub returns-else-was_open-clause-looked : goal.returns-else-was_open-clause-looked
 returns-else-was_open-clause-looked g c r few =
-    on_looked (Word.Reg c.args.caller r) c.args.turn.now c.hold_gate-was_open.new.turn c.mark_registers_of.new.turn
+    on_looked (Word.Reg c.args.caller r)
     c.hold_gate-was_open.ensures.on c.mark_registers_of.ensures.on (c.mark_registers_of.ensures.looked r few)

@@ -5,17 +5,13 @@ use Rattle.mk_words.specs.States.{WordsState}
 use Rattle.mk_engines.proofs.roots.mark_roots.Goals as goal
 
 pub returns-clause-on : goal.returns-clause-on
-returns-clause-on g c = goes_then _ _ _ c.mark_registers.ensures.on c.mark_globals.ensures.on
+returns-clause-on g c = goes_then c.mark_registers.ensures.on c.mark_globals.ensures.on
 
 pub returns-clause-roots : goal.returns-clause-roots
 returns-clause-roots g c =
     let t = c.args.turn.now in
-    let u = c.mark_registers.new.turn in
     let v = c.mark_globals.new.turn in
-    marks_roots t.pass v.pass (returns-clause-on g c).marks
-    (all_looked t.pass v.pass
-    (λ k r lt few. looked_on (Word.Reg k r) t u v c.mark_registers.ensures.on c.mark_globals.ensures.on
-    (c.mark_registers.ensures.looked k
-    (subst (λ (w : WordsState). k < w.config.callers) c.requires.one_table lt) r few))
-    (λ i lt. on_looked (Word.Global i) t u v c.mark_registers.ensures.on c.mark_globals.ensures.on
-    (c.mark_globals.ensures.looked i lt)))
+    marks_roots (returns-clause-on g c).marks (all_looked t.pass v.pass (λ k r lt few. looked_on
+    (Word.Reg k r) c.mark_registers.ensures.on c.mark_globals.ensures.on (c.mark_registers.ensures.looked k
+    (subst (λ (w : WordsState). k < w.config.callers) c.requires.one_table lt) r few)) (λ i lt. on_looked
+    (Word.Global i) c.mark_registers.ensures.on c.mark_globals.ensures.on (c.mark_globals.ensures.looked i lt)))

@@ -19,5 +19,4 @@ look-requires-clause-admitted c may =
 
 pub returns-clause-on : goal.returns-clause-on
 returns-clause-on c =
-    goes_look c.args.turn.now c.look.new.self c.requires.beside c.look.ensures.op c.args.x c.look.ensures.acts
-    c.requires.plain
+    goes_look c.args.turn.now c.look.new.self c.requires.beside c.look.ensures.op c.look.ensures.acts c.requires.plain

@@ -7,7 +7,7 @@ close_marks-requires-clause-ready g c =
 
 pub returns-clause-law : goal.returns-clause-law
 returns-clause-law g c =
-    closes_by_tracing _ _ c.close_marks.ensures.traces c.close_marks.ensures.wanted c.close_marks.ensures.closes
+    closes_by_tracing c.close_marks.ensures.traces c.close_marks.ensures.wanted c.close_marks.ensures.closes
     c.close_marks.ensures.closed
 
 pub returns-clause-reached : goal.returns-clause-reached

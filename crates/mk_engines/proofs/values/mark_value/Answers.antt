@@ -8,7 +8,7 @@ use Rattle.mk_engines.proofs.values.mark_value.Goals as goal
 
 pub cell_pointed-requires-clause-may : goal.cell_pointed-requires-clause-may
 cell_pointed-requires-clause-may c =
-    may_look_at_headers c.args.turn.now.pass
+    may_look_at_headers
     (in_turn _ _ c.is_in_order.ensures.own c.is_in_order.ensures.turn c.is_in_order.ensures.history) c.requires.beside
 
 pub returns-in_default-clause-on : goal.returns-in_default-clause-on
@@ -23,27 +23,24 @@ is_marked-requires-clause-beside c = (goes_for_cell c.cell_pointed.ensures.looks
 pub is_marked-requires-clause-page : goal.is_marked-requires-clause-page
 is_marked-requires-clause-page c =
     (pointed_within c.args.words.now.config.pages
-    (now_of c.cell_pointed.new.turn.pass).words c.args.value c.in-Some.cell
-    (sym c.in-Some.ensures.points)).0
+    (now_of c.cell_pointed.new.turn.pass).words c.args.value c.in-Some.cell (sym c.in-Some.ensures.points)).0
 
 pub returns-then-is_marked-clause-on : goal.returns-then-is_marked-clause-on
 returns-then-is_marked-clause-on c =
-    goes_then _ _ _ (goes_for_cell c.cell_pointed.ensures.looks c.requires.beside) c.is_marked.ensures.on
+    goes_then (goes_for_cell c.cell_pointed.ensures.looks c.requires.beside) c.is_marked.ensures.on
 
 pub returns-then-is_marked-clause-gates : goal.returns-then-is_marked-clause-gates
 returns-then-is_marked-clause-gates c =
-    gates_on c.args.turn.now c.cell_pointed.new.turn c.is_marked.new.turn
-    (goes_for_cell c.cell_pointed.ensures.looks c.requires.beside) (gates_for_cell c.cell_pointed.ensures.looks)
-    c.is_marked.ensures.gates
+    gates_on c.is_marked.new.turn (goes_for_cell c.cell_pointed.ensures.looks c.requires.beside)
+    (gates_for_cell c.cell_pointed.ensures.looks) c.is_marked.ensures.gates
 
 pub returns-clause-on : goal.returns-clause-on
 returns-clause-on c =
-    goes_then _ _ _ (goes_then _ _ _ (goes_for_cell c.cell_pointed.ensures.looks c.requires.beside)
+    goes_then (goes_then (goes_for_cell c.cell_pointed.ensures.looks c.requires.beside)
     c.is_marked.ensures.on) c.mark_cell.ensures.on
 
 pub returns-clause-gates : goal.returns-clause-gates
 returns-clause-gates c =
-    gates_on c.args.turn.now c.cell_pointed.new.turn c.mark_cell.new.turn
-    (goes_for_cell c.cell_pointed.ensures.looks c.requires.beside) (gates_for_cell c.cell_pointed.ensures.looks)
-    (gates_on c.cell_pointed.new.turn c.is_marked.new.turn c.mark_cell.new.turn c.is_marked.ensures.on
-    c.is_marked.ensures.gates c.mark_cell.ensures.gates)
+    gates_on c.mark_cell.new.turn (goes_for_cell c.cell_pointed.ensures.looks c.requires.beside)
+    (gates_for_cell c.cell_pointed.ensures.looks)
+    (gates_on c.mark_cell.new.turn c.is_marked.ensures.on c.is_marked.ensures.gates c.mark_cell.ensures.gates)

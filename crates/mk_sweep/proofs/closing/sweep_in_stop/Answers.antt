@@ -7,10 +7,10 @@ use Rattle.mk_sweep.proofs.closing.sweep_in_stop.Goals as goal
 pub blacken_all-requires-clause-closed : goal.blacken_all-requires-clause-closed
 blacken_all-requires-clause-closed c =
     closed_behind _ c.mark_roots.new.stop c.sweep_pages-looks.new.stop
-    (sym (c.sweep_pages-looks.ensures.on.table ∙ c.mark_roots.ensures.on.table ∙ c.undirty_all.ensures.on.table
+    (sym (c.sweep_pages-looks.ensures.sweeps.on.table ∙ c.mark_roots.ensures.on.table ∙ c.undirty_all.ensures.on.table
     ∙ c.unblack_all.ensures.on.table ∙ c.requires.one_table)) c.is_in_order.ensures.history
-    c.sweep_pages-looks.ensures.on.sweeping.settled c.sweep_pages-looks.ensures.more c.mark_roots.ensures.roots
-    c.sweep_pages-looks.ensures.well
+    c.sweep_pages-looks.ensures.sweeps.on.sweeping.settled c.sweep_pages-looks.ensures.sweeps.more
+    c.mark_roots.ensures.roots c.sweep_pages-looks.ensures.sweeps.well
 
 pub returns-clause-on : goal.returns-clause-on
 returns-clause-on c =
@@ -21,7 +21,7 @@ returns-clause-on c =
     (ap (λ (x : Words). words_below x pages) c.mark_roots.ensures.more.is
     ∙ ap (λ (x : Words). words_below x pages) c.undirty_all.ensures.fewer.is
     ∙ ap (λ (x : Words). words_below x pages) c.unblack_all.ensures.fewer.is)
-    (then_quiet (quiet_then early c.sweep_pages-looks.ensures.on) c.blacken_all.ensures.on)
+    (then_quiet (quiet_then early c.sweep_pages-looks.ensures.sweeps.on) c.blacken_all.ensures.on)
 
 pub returns-clause-looks : goal.returns-clause-looks
 returns-clause-looks c =
@@ -33,16 +33,16 @@ returns-clause-looks c =
 pub returns-clause-clean : goal.returns-clause-clean
 returns-clause-clean c p lt =
     ap (λ (x : Words). slice_index x.dirty p) c.blacken_all.ensures.more.is
-    ∙ ap (λ (x : Words). slice_index x.dirty p) c.sweep_pages-looks.ensures.more.is
+    ∙ ap (λ (x : Words). slice_index x.dirty p) c.sweep_pages-looks.ensures.sweeps.more.is
     ∙ ap (λ (x : Words). slice_index x.dirty p) c.mark_roots.ensures.more.is ∙ c.undirty_all.ensures.clean p lt
 
 pub returns-clause-closed : goal.returns-clause-closed
 returns-clause-closed c =
     closed_kept c.blacken_all.ensures.more (closed_behind _ c.mark_roots.new.stop c.sweep_pages-looks.new.stop
-    (sym (c.sweep_pages-looks.ensures.on.table ∙ c.mark_roots.ensures.on.table ∙ c.undirty_all.ensures.on.table
+    (sym (c.sweep_pages-looks.ensures.sweeps.on.table ∙ c.mark_roots.ensures.on.table ∙ c.undirty_all.ensures.on.table
     ∙ c.unblack_all.ensures.on.table ∙ c.requires.one_table)) c.is_in_order.ensures.history
-    c.sweep_pages-looks.ensures.on.sweeping.settled c.sweep_pages-looks.ensures.more c.mark_roots.ensures.roots
-    c.sweep_pages-looks.ensures.well)
+    c.sweep_pages-looks.ensures.sweeps.on.sweeping.settled c.sweep_pages-looks.ensures.sweeps.more
+    c.mark_roots.ensures.roots c.sweep_pages-looks.ensures.sweeps.well)
 
 pub returns-clause-well : goal.returns-clause-well
 returns-clause-well c =
@@ -51,4 +51,4 @@ returns-clause-well c =
     (subst (λ ns. PointWell pages (still_words c.sweep_pages-looks.new.stop.pass) ns)
     (ap (λ (x : Words). words_below x pages) c.mark_roots.ensures.more.is ∙ ap (λ (x : Words). words_below x pages)
     c.undirty_all.ensures.fewer.is ∙ ap (λ (x : Words). words_below x pages) c.unblack_all.ensures.fewer.is)
-    c.sweep_pages-looks.ensures.well)
+    c.sweep_pages-looks.ensures.sweeps.well)

@@ -1,23 +1,14 @@
 use Rattle.std.proofs.Common.{length-append}
-use Rattle.mk_sweep.proofs.Vocabulary.{IsScannedWord, PointWell, SweepsOn, WordsState, has_bit, header_in, header_of}
-use Rattle.mk_sweep.proofs.Vocabulary.{still_words, words_if, words_of_cells, words_under, world_of}
+use Rattle.mk_sweep.proofs.Vocabulary.{IsScannedWord, WordsState, has_bit, header_in, header_of, still_words, words_if}
+use Rattle.mk_sweep.proofs.Vocabulary.{words_of_cells, words_under, world_of}
 use Rattle.mk_laws.proofs.Vocabulary.{Bool, List, ℕ, ap, arith, length, refl, subst, sym, ◌*◌, ◌++◌, ◌+◌, ◌<◌, ◌∙◌, ◌≡◌}
-use Rattle.mk_sweep.proofs.SweepSteps.{sweeps_from, sweeps_then, word_alike}
-use Rattle.mk_sweep.proofs.WordLists.{both_well, cell_more, none_well, words_of_scanned}
-use Rattle.mk_sweep.proofs.ScannedCells.{used_word}
-use Rattle.mk_tracing.proofs.MoreMarks.{more_same, more_then}
+use Rattle.mk_sweep.proofs.{ScannedCells.used_word, SweepSteps.word_alike, SweptWords.no_words, SweptWords.same_words}
+use Rattle.mk_sweep.proofs.{SweptWords.words_then, WordLists.cell_more, WordLists.words_of_scanned}
+use Rattle.mk_sweep.specs.Sweeping.{SweepsWords}
 use Rattle.mk_sweep.proofs.sweeping.sweep_cells.Goals as goal
 
 pub loop-index-init : goal.loop-index-init
-loop-index-init c =
-    let w = still_words c.args.stop.now.pass in
-    record {
-      on = sweeps_from c.args.stop.now c.requires.sweeping;
-      more = more_same w w refl;
-      well = none_well c.args.words.now.config.pages w;
-      looks = refl;
-      few = omega arith;
-    }
+loop-index-init c = record { sweeps = no_words c.requires.sweeping; looks = refl; few = omega arith }
 
 pub sweep_if_used-looks-requires-clause-scanned : goal.sweep_if_used-looks-requires-clause-scanned
 sweep_if_used-looks-requires-clause-scanned c used i lt =
@@ -33,34 +24,24 @@ sweep_if_used-looks-requires-clause-scanned c used i lt =
     subst (λ k. IsScannedWord p.table.config (world_of p).allocations (64 * c.args.page + c.loop-index.index * k + i))
     size word in
     word_alike c.args.words.now.config (world_of p) (world_of c.loop-index.stop.pass)
-    (sym c.loop-index.invariant.on.traces.untouched)
+    (sym c.loop-index.invariant.sweeps.on.traces.untouched)
     (64 * c.args.page + c.loop-index.index * c.words_under-size.result + i)
     (subst (λ (t : WordsState). IsScannedWord t.config (world_of p).allocations
     (64 * c.args.page + c.loop-index.index * c.words_under-size.result + i)) c.requires.one_table sized)
 
 pub loop-index-preserved : goal.loop-index-preserved
 loop-index-preserved c =
-    let w = still_words c.args.stop.now.pass in
-    let v = still_words c.loop-index.stop.pass in
-    let x = still_words c.sweep_if_used-looks.new.stop.pass in
     let size : ℕ = c.words_under-size.result in
     let before : List ℕ = words_of_cells c.args.page size c.args.used c.loop-index.index in
     let if_used : Bool → List ℕ = λ b. words_if b (64 * c.args.page + c.loop-index.index * size) size in
     let here : List ℕ = if_used (has_bit c.args.used c.loop-index.index) in
     let more : before ++ here ≡ words_of_cells c.args.page size c.args.used (c.loop-index.index + 1) =
     cell_more c.args.page size c.args.used c.loop-index.index in
-    let on : SweepsOn c.loop-index.stop c.sweep_if_used-looks.new.stop here =
-    subst (λ (b : Bool). SweepsOn c.loop-index.stop c.sweep_if_used-looks.new.stop (if_used b)) c.has_bit.ensures
-    c.sweep_if_used-looks.ensures.on in
-    let well : PointWell c.args.words.now.config.pages x here =
-    subst (λ (b : Bool). PointWell c.args.words.now.config.pages x (if_used b)) c.has_bit.ensures
-    c.sweep_if_used-looks.ensures.well in
+    let one : SweepsWords c.args.words.now.config.pages c.loop-index.stop c.sweep_if_used-looks.new.stop here =
+    subst (λ (b : Bool). SweepsWords c.args.words.now.config.pages c.loop-index.stop c.sweep_if_used-looks.new.stop
+    (if_used b)) c.has_bit.ensures c.sweep_if_used-looks.ensures.sweeps in
     record {
-      on = subst (λ ns. SweepsOn c.args.stop.now c.sweep_if_used-looks.new.stop ns) more
-          (sweeps_then c.loop-index.invariant.on on);
-      more = more_then w v x c.loop-index.invariant.more c.sweep_if_used-looks.ensures.more;
-      well = subst (λ ns. PointWell c.args.words.now.config.pages x ns) more (both_well _ before here
-          c.sweep_if_used-looks.ensures.more c.loop-index.invariant.well well);
+      sweeps = same_words more (words_then c.loop-index.invariant.sweeps one);
       looks =
           ap (λ k. k + c.sweep_if_used-looks.result) c.loop-index.invariant.looks ∙ ap (λ k. length before + k)
           (c.sweep_if_used-looks.ensures.looks ∙ ap (λ (b : Bool). length (if_used b)) c.has_bit.ensures)
@@ -72,29 +53,16 @@ loop-index-preserved c =
           omega arith;
     }
 
-pub returns-clause-on : goal.returns-clause-on
-returns-clause-on c =
+pub returns-clause-sweeps : goal.returns-clause-sweeps
+returns-clause-sweeps c =
     let end = c.loop-index-test.false in
     let at : c.loop-index.index ≡ c.cells_under-index-end.result = let most = c.loop-index.auto.index-end in omega
     arith in
-    subst (λ ns. SweepsOn c.args.stop.now c.loop-index.stop ns)
-    (ap (λ k. words_of_cells c.args.page c.words_under-size.result c.args.used k) at
+    same_words (ap (λ k. words_of_cells c.args.page c.words_under-size.result c.args.used k) at
     ∙ words_of_scanned (still_words c.args.stop.now.pass) c.args.page c.args.header c.args.used
-    c.words_under-size.result
-    c.cells_under-index-end.result c.requires.header c.requires.used c.words_under-size.ensures.exact
-    c.cells_under-index-end.ensures.exact c.requires.scanned) c.loop-index.invariant.on
-
-pub returns-clause-well : goal.returns-clause-well
-returns-clause-well c =
-    let end = c.loop-index-test.false in
-    let at : c.loop-index.index ≡ c.cells_under-index-end.result = let most = c.loop-index.auto.index-end in omega
-    arith in
-    subst (λ ns. PointWell c.args.words.now.config.pages (still_words c.loop-index.stop.pass) ns)
-    (ap (λ k. words_of_cells c.args.page c.words_under-size.result c.args.used k) at
-    ∙ words_of_scanned (still_words c.args.stop.now.pass) c.args.page c.args.header c.args.used
-    c.words_under-size.result
-    c.cells_under-index-end.result c.requires.header c.requires.used c.words_under-size.ensures.exact
-    c.cells_under-index-end.ensures.exact c.requires.scanned) c.loop-index.invariant.well
+    c.words_under-size.result c.cells_under-index-end.result c.requires.header c.requires.used
+    c.words_under-size.ensures.exact c.cells_under-index-end.ensures.exact c.requires.scanned)
+    c.loop-index.invariant.sweeps
 
 pub returns-clause-looks : goal.returns-clause-looks
 returns-clause-looks c = grind (arith, words_of_scanned)

@@ -1,12 +1,11 @@
-use Rattle.mk_sweep.proofs.Vocabulary.{MarksMore, PointWell, SweepsOn, still_words, words_below}
+use Rattle.mk_sweep.proofs.Vocabulary.{still_words, words_below}
 use Rattle.mk_laws.proofs.Vocabulary.{length, ◌*◌, ◌≡◌, ◌≤◌}
+use Rattle.mk_sweep.specs.Sweeping.{SweepsWords}
 use Rattle.mk_sweep.proofs.sweeping.sweep_pages.Given as goal
 
 abbrev pub invariant-loop-page : goal.invariant-loop-page
 invariant-loop-page l = record {
-  on : SweepsOn l.fn.stop l.stop (words_below (still_words l.fn.stop.pass) l.page);
-  more : MarksMore (still_words l.fn.stop.pass) (still_words l.stop.pass);
-  well : PointWell l.words.config.pages (still_words l.stop.pass) (words_below (still_words l.fn.stop.pass) l.page);
+  sweeps : SweepsWords l.words.config.pages l.fn.stop l.stop (words_below (still_words l.fn.stop.pass) l.page);
   looks : l.looks ≡ length (words_below (still_words l.fn.stop.pass) l.page);
   few : l.looks ≤ l.page * 131072;
 }

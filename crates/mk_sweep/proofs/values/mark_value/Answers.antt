@@ -53,8 +53,7 @@ points : (c : After-is_marked)
 points c =
     ap (λ (w : Words). pointed_cell c.args.words.now.config.pages w.pages c.args.value)
     (sym (words_for_cell c.cell_pointed.ensures.looks c.requires.sweeping
-    (c.is_in_order.ensures.turn.holds, c.is_in_order.ensures.gates)))
-    ∙ sym c.in-Some.ensures.points
+    (c.is_in_order.ensures.turn.holds, c.is_in_order.ensures.gates))) ∙ sym c.in-Some.ensures.points
 
 pub returns-then-is_marked-clause-on : goal.returns-then-is_marked-clause-on
 returns-then-is_marked-clause-on c = seen (goal.at.returns-then-is_marked-clause-on c).After-is_marked
@@ -66,7 +65,6 @@ returns-then-is_marked-clause-more c =
 pub mark_cell-requires-clause-reached : goal.mark_cell-requires-clause-reached
 mark_cell-requires-clause-reached c =
     let x = (goal.at.mark_cell-requires-clause-reached c).After-is_marked in
-    let q = c.is_marked.new.stop.pass in
     record {
       value = c.args.value;
       in_hand = hand_kept (seen x) (c.is_marked.ensures.hand ∙ c.cell_pointed.ensures.hand) c.requires.hand;

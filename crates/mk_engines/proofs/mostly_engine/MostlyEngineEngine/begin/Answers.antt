@@ -1,8 +1,7 @@
-use Rattle.mk_cycle.specs.Kinds.{begins_marking}
 use Rattle.mk_engines.proofs.Sweepless.{sweepless_beside}
 use Rattle.mk_engines.proofs.mostly_engine.MostlyEngineEngine.begin.Goals as goal
 
 pub returns-clause-reached : goal.returns-clause-reached
 returns-clause-reached g c =
     let marks = c.mark_roots.ensures.on.marks in
-    sweepless_beside begins_marking c.args.turn.now.pass c.mark_roots.new.turn.pass marks.does marks.reached
+    sweepless_beside marks.does marks.reached

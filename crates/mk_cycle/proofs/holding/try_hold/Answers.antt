@@ -1,0 +1,15 @@
+use Rattle.mk_laws.proofs.Vocabulary.{refl, subst, sym, ◌<◌}
+use Rattle.mk_cycle.proofs.Vocabulary.{WordsState}
+use Rattle.mk_cycle.proofs.{Allowed.in_turn_after, HoldingSteps.hold_allowed, HoldingSteps.hold_holds}
+use Rattle.mk_cycle.proofs.holding.try_hold.Goals as goal
+
+pub try_hold-requires-clause-enabled : goal.try_hold-requires-clause-enabled
+try_hold-requires-clause-enabled c =
+    hold_allowed _ c.in_turn.ensures c.requires.free c.args.caller
+    (subst (λ (w : WordsState). c.args.caller < w.config.callers) (sym c.requires.one_table) c.requires.within)
+    c.requires.another c.requires.open
+
+pub returns-clause-holds : goal.returns-clause-holds
+returns-clause-holds c =
+    hold_holds _ _ c.in_turn.ensures c.requires.free (in_turn_after c.try_hold.ensures.acts refl) _
+    c.try_hold.ensures.acts
