@@ -3,7 +3,7 @@ use Rattle.mk_laws.proofs.Vocabulary.{calls_from}
 use Rattle.mk_alloc.proofs.Vocabulary.{Answer, AreOfOthers, Bool, CalledInTurn, Caller, Config, Decided, Event, Flight}
 use Rattle.mk_alloc.proofs.Vocabulary.{Has, InTurn, IsFresh, IsHistory, KeepsRegisters, List, Makes, Op, PassState}
 use Rattle.mk_alloc.proofs.Vocabulary.{Seat, Some, Step, TakesTurn, TurnGoesOn, TurnOf, World, ℕ, and_parts, ap}
-use Rattle.mk_alloc.proofs.Vocabulary.{append-nil, append_assoc, append_cancel_left, at_rest, by_append, call_of}
+use Rattle.mk_alloc.proofs.Vocabulary.{append-nil, append_assoc, append_cancel_left, arith, at_rest, by_append, call_of}
 use Rattle.mk_alloc.proofs.Vocabulary.{caller_of_pass, calls, calls_by, calls_in_parts, entry_of, event_of, false}
 use Rattle.mk_alloc.proofs.Vocabulary.{is_one_of, is_same_seat, is_take, left, list_all, made, never_behind}
 use Rattle.mk_alloc.proofs.Vocabulary.{no_more_calls, not, not-true, not_both, now_of, only_one, only_seen}
@@ -22,8 +22,7 @@ use Rattle.mk_words.specs.Steps.{may_decide}
 -- Waiting and taking the turn add no entry, nor does a `give`.
 
 pub of_others_alone : (p : PassState) (others : List Event) → IsCallers p → Has p.seats p.seat
-    → AreOfOthers p.seats others
-    → AreOfOthers (Caller (caller_of_pass p) ∷ []) others
+    → AreOfOthers p.seats others → AreOfOthers (Caller (caller_of_pass p) ∷ []) others
 of_others_alone p others seat own of_others =
     subst (λ (s : Seat). AreOfOthers (s ∷ []) others) seat (others_own p.seats p.seat others own of_others)
 
@@ -34,22 +33,17 @@ idle_adds p es s idle =
     (no_more_calls p.table.config es (event_of p s)
     (decides_nothing p.table.config (left p.table.config es).now p.seat s idle))
 
-pub step_adds_none : (p q : PassState) (s : Step) (m : Makes p s q) → IsCallers p → Has p.seats p.seat → may_decide s
-    ≡ false
-    → own_calls p q.seen ≡ own_calls p p.seen
+pub step_adds_none : (p q : PassState) (s : Step) (m : Makes p s q) → IsCallers p → Has p.seats p.seat
+    → may_decide s ≡ false → own_calls p q.seen ≡ own_calls p p.seen
 step_adds_none p q s m seat own idle =
-    ap (λ (x : PassState). own_calls p x.seen) m.is
-    ∙ idle_adds p (p.seen ++ m.others) s idle
-    ∙ others_add_none p.table.config (caller_of_pass p) p.seen m.others
-    (of_others_alone p m.others seat own m.of_others)
+    ap (λ (x : PassState). own_calls p x.seen) m.is ∙ idle_adds p (p.seen ++ m.others) s idle ∙ others_add_none _ _ _
+    m.others (of_others_alone p m.others seat own m.of_others)
 
 take_idle : (s : Step) → is_take s ≡ true → may_decide s ≡ false
-take_idle (Step.Take o) h = refl
-take_idle _ h = cc
+take_idle x h = grind arith
 
-waits_add : (p : PassState) (es more : List Event) → IsCallers p → Has p.seats p.seat → list_all (waits_for p) more
-    ≡ true
-    → own_calls p (es ++ more) ≡ own_calls p es
+waits_add : (p : PassState) (es more : List Event) → IsCallers p → Has p.seats p.seat
+    → list_all (waits_for p) more ≡ true → own_calls p (es ++ more) ≡ own_calls p es
 waits_add p es [] seat own all = ap (λ (l : List Event). own_calls p l) (append-nil es)
 waits_add p es (e ∷ rest) seat own all =
     let parts = and_parts (waits_for p e) (list_all (waits_for p) rest) all in
@@ -84,8 +78,7 @@ module _ {o : Op} {p taken : PassState} (x : Taken o p taken) where
   waited_same = only_seen p waited x.takes.waits.more x.takes.waits.is
 
   pub taken_is : taken ≡ record p { seen = taken.seen }
-  taken_is = only_seen_by waited taken (Step.Take (Some o)) taking
-      ∙ ap (λ (y : PassState). record y { seen = taken.seen }) waited_same
+  taken_is = cc (only_seen_by waited taken (Step.Take (Some o)) taking, waited_same)
 
   pub taken_callers : IsCallers taken
   taken_callers = subst (λ (y : PassState). IsCallers y) (sym taken_is) x.seat
@@ -101,16 +94,14 @@ module _ {o : Op} {p taken : PassState} (x : Taken o p taken) where
 
   -- It has the turn then.
   pub taken_turn : InTurn taken
-  taken_turn =
-      record {
-        own = taking.pass.own;
-        holds = (takes_turn waited (Some o) 0 taken (record {
-          makes = taking;
-          tells =
-              x.takes.takes.finds;
-        }) refl).holds;
-        history = taking.pass.history;
-      }
+  taken_turn = record {
+    own = taking.pass.own;
+    holds = (takes_turn waited (Some o) 0 taken (record {
+      makes = taking;
+      tells = x.takes.takes.finds;
+    }) refl).holds;
+    history = taking.pass.history;
+  }
 
   abbrev pub to_taken : List Event
   to_taken = x.takes.waits.more ++ (taking.others ++ event_of waited (Step.Take (Some o)) ∷ [])
@@ -152,9 +143,7 @@ pub record GivenBack (o : Op) (a : Answer) (p taken done q : PassState) : Type 0
 
 module _ {o : Op} {a : Answer} {p taken done q : PassState} (g : GivenBack o a p taken done q) where
   pub done_is : done ≡ record p { seen = done.seen }
-  done_is =
-      only_seen taken done g.on.does.more g.on.does.is
-      ∙ ap (λ (y : PassState). record y { seen = done.seen }) (taken_is g.took)
+  done_is = cc (only_seen taken done g.on.does.more g.on.does.is, taken_is g.took)
 
   abbrev pub took_at : List Event
   took_at = (waited g.took).seen ++ (taking g.took).others
@@ -171,9 +160,7 @@ module _ {o : Op} {a : Answer} {p taken done q : PassState} (g : GivenBack o a p
       (seen_then taken.seen done.seen q.seen g.on.does.more _ (seen_by g.on.does) (seen_after g.gives))
 
   pub q_is : q ≡ record p { seen = p.seen ++ more }
-  q_is =
-      only_seen_by done q Step.Give g.gives ∙ ap (λ (y : PassState). record y { seen = q.seen }) done_is
-      ∙ ap (λ (l : List Event). record p { seen = l }) seen_is
+  q_is = cc (only_seen_by done q Step.Give g.gives, done_is, seen_is)
 
   pub entry : own_calls p (p.seen ++ more) ≡ own_calls p p.seen ++ entry_of (caller_of_pass p) o (Some a)
   entry =
@@ -201,11 +188,8 @@ module _ {o : Op} {a : Answer} {p taken done q : PassState} (g : GivenBack o a p
       (waited_same g.took)
       ∙ append_assoc took_at (record { seat = p.seat; step = Step.Take (Some o) } ∷ []) part
 
-  pub turn_is : done.seen ++ g.gives.others
-      ≡ took_at ++ record { seat = p.seat; step = Step.Take (Some o) } ∷ in_turn
-  turn_is =
-      ap (λ (l : List Event). l ++ g.gives.others) (seen_by g.on.does)
-      ∙ append_assoc taken.seen g.on.does.more g.gives.others ∙ within_is in_turn
+  pub turn_is : done.seen ++ g.gives.others ≡ took_at ++ record { seat = p.seat; step = Step.Take (Some o) } ∷ in_turn
+  turn_is = cc (seen_by g.on.does, append_assoc taken.seen g.on.does.more g.gives.others, within_is in_turn)
 
   pub given_turn : InTurn done
   given_turn = in_turn_then turn_stays taken done (λ y h. h) (taken_turn g.took) g.on.does (pass_before g.gives).history
@@ -234,30 +218,28 @@ module _ {o : Op} {a : Answer} {p taken done q : PassState} (g : GivenBack o a p
 
   -- the turn after its last event
   abbrev pub turn_of : TurnOf p.table.config p.seat (done.seen ++ g.gives.others)
-  turn_of =
-      record {
-        before = took_at;
-        op = Some o;
-        behind = in_turn;
-        is = turn_is;
-        took = turn_took;
-        goes_on = turn_goes_on;
-      }
+  turn_of = record {
+    before = took_at;
+    op = Some o;
+    behind = in_turn;
+    is = turn_is;
+    took = turn_took;
+    goes_on = turn_goes_on;
+  }
 
   abbrev pub called : (flag : Bool) → CallIsExact flag turn_of (Some o) → CalledInTurn flag p o a q
-  called flag exact =
-      record {
-        taken = taken;
-        done = done;
-        takes = g.took.takes;
-        acts = g.on.does;
-        gives = g.gives;
-        more = more;
-        is = q_is;
-        entry = entry;
-        decided = decided_in p o a more whole entry;
-        ends = record { turn = turn_of; exact = exact };
-        turn_op = refl;
-        turn_part = refl;
-        rest = g.rests;
-      }
+  called flag exact = record {
+    taken = taken;
+    done = done;
+    takes = g.took.takes;
+    acts = g.on.does;
+    gives = g.gives;
+    more = more;
+    is = q_is;
+    entry = entry;
+    decided = decided_in p o a more whole entry;
+    ends = record { turn = turn_of; exact = exact };
+    turn_op = refl;
+    turn_part = refl;
+    rest = g.rests;
+  }

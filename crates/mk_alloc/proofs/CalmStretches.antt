@@ -1,61 +1,35 @@
 -- Stretches of a turn that isn't for an undecided Free, in which nothing is granted and no New is full: no call of the
 -- holder's is decided, and up to a `release` the unreleased storage stays as it is.
-use Rattle.mk_alloc.proofs.Vocabulary.{AreOfOthers, Caller, Cell, Config, Decided, Event, Flight, Has, List, Moment}
-use Rattle.mk_alloc.proofs.Vocabulary.{Option, PassState, PlacedAllocation, Steady, Step, Storage, World, ℕ}
-use Rattle.mk_alloc.proofs.Vocabulary.{allocations_by, ap, caller_of_pass, calls_by, event_of, false, flight_of}
-use Rattle.mk_alloc.proofs.Vocabulary.{freed_where_it_stands, frees_none, is_pending_free, left, left_after, map}
-use Rattle.mk_alloc.proofs.Vocabulary.{no_more_calls, none_freed, only_one, others_add_none, others_one, own_calls}
-use Rattle.mk_alloc.proofs.Vocabulary.{progress, refl, still, sym, true, unreleased_storage, [], ◌++◌, ◌∙◌, ◌∷◌, ◌≡◌}
-use Rattle.mk_alloc.proofs.Vocabulary.{◌≢◌}
+use Rattle.mk_laws.proofs.Vocabulary.{group_of, is_of_turn}
+use Rattle.mk_alloc.proofs.Vocabulary.{AreOfOthers, Caller, Config, Decided, Event, Flight, Has, List, Moment}
+use Rattle.mk_alloc.proofs.Vocabulary.{PassState, PlacedAllocation, Steady, Step, Storage, World, ℕ, allocations_by, ap}
+use Rattle.mk_alloc.proofs.Vocabulary.{arith, caller_of_pass, calls_by, event_of, false, flight_of, frees_none}
+use Rattle.mk_alloc.proofs.Vocabulary.{is_pending_free, left, left_after, no_more_calls, none_freed, only_one}
+use Rattle.mk_alloc.proofs.Vocabulary.{others_add_none, others_one, own_calls, progress, refl, still, sym, true}
+use Rattle.mk_alloc.proofs.Vocabulary.{unreleased_storage, [], ◌++◌, ◌∙◌, ◌∷◌, ◌≡◌, ◌≢◌}
 use Rattle.mk_core.proofs.ChangedAllocations.{fresh_storage}
 use Rattle.mk_laws.proofs.Protocols.{protocol_of}
-use Rattle.mk_alloc.proofs.Stretches.{AreOfTurn, Here, SomeKinds, Stretch, Within, along, call_in}
+use Rattle.mk_alloc.proofs.Stretches.{AreOfTurn, Here, SomeKinds, Stretch, along, call_in}
 use Rattle.mk_cycle.proofs.{Calm.calm_still, OwnSteps.flight_behind, OwnSteps.undecided}
 
 -- the steps of cycles, and those that leave the unreleased storage
 
 abbrev pub is_of_cycles : SomeKinds
-is_of_cycles (Step.Look x) = true
-is_of_cycles (Step.Quar p v) = true
-is_of_cycles (Step.Tally n v) = true
-is_of_cycles (Step.Hold j) = true
-is_of_cycles (Step.Open j) = true
-is_of_cycles (Step.Clear p) = true
-is_of_cycles (Step.Wipe n) = true
-is_of_cycles (Step.Mark p v) = true
-is_of_cycles (Step.Head p v) = true
-is_of_cycles (Step.Used p v) = true
-is_of_cycles Step.Begin = true
-is_of_cycles Step.Want = true
-is_of_cycles Step.Close = true
-is_of_cycles Step.Release = true
-is_of_cycles Step.End = true
-is_of_cycles (Step.Undirty p) = true
-is_of_cycles (Step.Black p v) = true
-is_of_cycles (Step.Unblack p) = true
-is_of_cycles _ = false
+is_of_cycles (Step.Take o) = false
+is_of_cycles Step.Give = false
+is_of_cycles Step.Grant = false
+is_of_cycles Step.Full = false
+is_of_cycles x = is_of_turn (group_of x)
 
 abbrev pub releases_none : SomeKinds
 releases_none Step.Release = false
 releases_none x = is_of_cycles x
 
 pub cycles_in_turn : AreOfTurn is_of_cycles
-cycles_in_turn (Step.Take o) h = cc
-cycles_in_turn Step.Give h = cc
-cycles_in_turn (Step.Enter o) h = cc
-cycles_in_turn Step.Leave h = cc
-cycles_in_turn x h = refl
+cycles_in_turn x h = grind arith
 
-pub of_turn : {kinds : SomeKinds} → Within kinds is_of_cycles → AreOfTurn kinds
-of_turn within x h = cycles_in_turn x (within x h)
-
-pub of_cycles : Within releases_none is_of_cycles
-of_cycles Step.Release h = cc
-of_cycles x h = h
-
-pub cycle_still : (c : Config) (m : Moment) (f : Flight) (n : ℕ) (x : Step) → is_of_cycles x ≡ true → is_pending_free f
-    ≡ false
-    → progress c m f n x ≡ still f
+pub cycle_still : (c : Config) (m : Moment) (f : Flight) (n : ℕ) (x : Step) → is_of_cycles x ≡ true
+    → is_pending_free f ≡ false → progress c m f n x ≡ still f
 cycle_still c m f n (Step.Look x) h free = calm_still c m f n (Step.Look x) refl free
 cycle_still c m f n (Step.Quar p v) h free = calm_still c m f n (Step.Quar p v) refl free
 cycle_still c m f n _ h free = cc
@@ -73,12 +47,11 @@ module _ (p : PassState) (seat : p.seat ≡ Caller (caller_of_pass p)) (own : Ha
   -- One event of another's decides none of the holder's calls,
   pub other_undecided : (es : List Event) (e : Event) → Here p es e → e.seat ≢ p.seat
       → GoesUndecided p es (es ++ e ∷ [])
-  other_undecided es e h ne =
-      record {
-        call = ap (λ (w : World). flight_of w.now p.seat) h.behind
-            ∙ (left_after p.table.config (left p.table.config es) e.seat p.seat e.step h.known h.meets ne).own.flight;
-        calls = others_add_none p.table.config (caller_of_pass p) es (e ∷ []) (not_own e ne);
-      }
+  other_undecided es e h ne = record {
+    call = ap (λ (w : World). flight_of w.now p.seat) h.behind
+        ∙ (left_after p.table.config (left p.table.config es) e.seat p.seat e.step h.known h.meets ne).own.flight;
+    calls = others_add_none p.table.config (caller_of_pass p) es (e ∷ []) (not_own e ne);
+  }
 
   -- nor does one of its own.
   pub own_undecided : (es : List Event) (x : Step) → Here p es (event_of p x) → is_of_cycles x ≡ true
@@ -89,8 +62,7 @@ module _ (p : PassState) (seat : p.seat ≡ Caller (caller_of_pass p)) (own : Ha
       let st : (n : ℕ) → progress c m (flight_of m p.seat) n x ≡ still (flight_of m p.seat) = λ n.
       cycle_still c m (flight_of m p.seat) n x kind free in
       record {
-        call = ap (λ (w : World). flight_of w.now p.seat) h.behind
-            ∙ flight_behind c m p.seat x (protocol_of c m h.known) h.holds st;
+        call = cc (h.behind, flight_behind c m p.seat x (protocol_of c m h.known) h.holds st);
         calls = ap (λ (l : List Decided). calls_by (caller_of_pass p) l)
             (no_more_calls c es (event_of p x) (undecided c m p.seat x st));
       }
@@ -115,10 +87,7 @@ storage_in p es = unreleased_storage p.table.config (left p.table.config es).all
 
 storage_by : (c : Config) (m : Moment) (f : Flight) (x : Step) (xs : List PlacedAllocation) → releases_none x ≡ true
     → is_pending_free f ≡ false → unreleased_storage c (allocations_by c m f x xs) ≡ unreleased_storage c xs
-storage_by c m f (Step.Quar p v) xs h free =
-    ap (λ (cell : Option Cell). unreleased_storage c (map (freed_where_it_stands m.words cell) xs))
-    (frees_none c.pages m.words f p v free)
-    ∙ ap (λ (ys : List PlacedAllocation). unreleased_storage c ys) (none_freed m.words xs)
+storage_by c m f (Step.Quar p v) xs h free = cc (frees_none c.pages m.words f p v free, none_freed m.words xs)
 storage_by c m f Step.Begin xs h free = fresh_storage c xs
 storage_by c m f Step.Grant xs h free = cc
 storage_by c m f Step.Release xs h free = cc
@@ -135,8 +104,7 @@ module _ (p : PassState) (seat : p.seat ≡ Caller (caller_of_pass p)) (own : Ha
   own_storage es x h kind free =
       let c : Config = p.table.config in
       let w : World = left c es in
-      ap (λ (v : World). unreleased_storage c v.allocations) h.behind
-      ∙ storage_by c w.now (flight_of w.now p.seat) x w.allocations kind free
+      cc (h.behind, storage_by c w.now (flight_of w.now p.seat) x w.allocations kind free)
 
   other_storage : (es : List Event) (e : Event) → Here p es e → e.seat ≢ p.seat → storage_in p (es ++ e ∷ [])
       ≡ storage_in p es
@@ -149,11 +117,11 @@ module _ (p : PassState) (seat : p.seat ≡ Caller (caller_of_pass p)) (own : Ha
   pub stays_reserved : (es more : List Event) → is_pending_free (call_in p es) ≡ false
       → Stretch p releases_none es more → StaysReserved p es (es ++ more)
   stays_reserved es more free s =
-      along p releases_none (of_turn of_cycles) own (λ (l : List Event). StaysReserved p es l)
+      along p releases_none (λ x h. grind arith) own (λ (l : List Event). StaysReserved p es l)
       (λ fs x h kind so_far.
       let pending = ap (λ (f : Flight). is_pending_free f) so_far.call ∙ free in
       record {
-        call = (own_undecided p seat own fs x h (of_cycles x kind) pending).call ∙ so_far.call;
+        call = (own_undecided p seat own fs x h (grind arith) pending).call ∙ so_far.call;
         storage = own_storage fs x h kind pending ∙ so_far.storage;
       })
       (λ fs e h ne so_far. record {

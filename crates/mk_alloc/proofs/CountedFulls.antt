@@ -4,49 +4,29 @@ use Rattle.mk_laws.proofs.Vocabulary.{Tally, Word, ◌-◌, ◌^◌}
 use Rattle.mk_alloc.proofs.Vocabulary.{Acts, Answer, AnswersFull, BeginsNone, Caller, Config, Decided, Does, Done}
 use Rattle.mk_alloc.proofs.Vocabulary.{Ended, Event, Flight, Holding, IsAtPhase, IsQuiet, IsUnplaced, LeavesTurn, List}
 use Rattle.mk_alloc.proofs.Vocabulary.{Moment, None, Option, PassState, Placing, RunPages, Seat, Some, Stage, Steady}
-use Rattle.mk_alloc.proofs.Vocabulary.{Step, World, ℕ, answer_decided, ap, arith, asks_room, by_append, call_decided}
-use Rattle.mk_alloc.proofs.Vocabulary.{call_of, caller_of_pass, calls, calls_by, calls_more, calm_keeps, does_step}
-use Rattle.mk_alloc.proofs.Vocabulary.{does_then, does_wider, ends, entry_of, event_of, false, first_world, free_then}
-use Rattle.mk_alloc.proofs.Vocabulary.{full_answers, fulls_append, fulls_of, gates_behind, has_place, in_a_word}
-use Rattle.mk_alloc.proofs.Vocabulary.{is_begin, is_pending_free_at, is_run_gone, left, lets_go, made, now_of}
-use Rattle.mk_alloc.proofs.Vocabulary.{object_for, others_add_none, own_before, own_calls, place_now_for, refl}
-use Rattle.mk_alloc.proofs.Vocabulary.{same_config, steady_of, subst, sum_by_push, sym, true, turn_stays, unchanged}
-use Rattle.mk_alloc.proofs.Vocabulary.{world_of, [], ◌++◌, ◌+◌, ◌∙◌, ◌∷◌, ◌≡◌}
+use Rattle.mk_alloc.proofs.Vocabulary.{Step, World, ℕ, answer_decided, ap, arith, by_append, call_decided, call_of}
+use Rattle.mk_alloc.proofs.Vocabulary.{caller_of_pass, calls, calls_by, calls_more, calm_keeps, ends, entry_of}
+use Rattle.mk_alloc.proofs.Vocabulary.{event_of, false, first_world, free_then, full_answers, fulls_append, fulls_of}
+use Rattle.mk_alloc.proofs.Vocabulary.{gates_behind, has_place, in_a_word, is_pending_free_at, is_run_gone, left, made}
+use Rattle.mk_alloc.proofs.Vocabulary.{now_of, object_for, others_add_none, own_before, own_calls, place_now_for, refl}
+use Rattle.mk_alloc.proofs.Vocabulary.{same_config, steady_of, subst, sum_by_push, sym, true, unchanged, world_of, []}
+use Rattle.mk_alloc.proofs.Vocabulary.{◌++◌, ◌+◌, ◌∙◌, ◌∷◌, ◌≡◌}
+use Rattle.mk_alloc.proofs.CalledTurns.{of_others_alone, step_adds_none}
 use Rattle.mk_alloc.proofs.QuietTurns.{but_full, exact_kept, none_held_kept, same_phase, tidy_kept}
 use Rattle.mk_alloc.proofs.SeekingTurns.{new_callers, still_nowhere, unplaced_kept}
-use Rattle.mk_alloc.proofs.{CalledTurns.of_others_alone, CalledTurns.step_adds_none, FullLeaves.leaves_then}
-use Rattle.mk_alloc.proofs.{FullLeaves.made_leaves, Going.IsCallers, GrantParts.calm_last, OneCycles.begins_none_by}
-use Rattle.mk_alloc.proofs.{Parts.Part, Parts.before_act, PlacedTurns.none_freed_yet, RetiredTurns.given_is_decided}
-use Rattle.mk_alloc.proofs.{RoomParts.room_lacks, StepKinds.AreApart, Stretches.AreOfTurn, Stretches.SomeKinds}
+use Rattle.mk_alloc.proofs.Stretches.{SomeKinds, does_both, does_once, widened}
+use Rattle.mk_alloc.proofs.{FullLeaves.leaves_then, FullLeaves.made_leaves, Going.IsCallers, GrantParts.calm_last}
+use Rattle.mk_alloc.proofs.{OneCycles.begins_none_by, Parts.Part, Parts.before_act, PlacedTurns.none_freed_yet}
+use Rattle.mk_alloc.proofs.{RetiredTurns.given_is_decided, RoomParts.room_lacks}
 use Rattle.mk_caller.proofs.OwnSteps.{own_entry}
 use Rattle.mk_cycle.{proofs.KeptInParts.gates_then, specs.TurnKeeps.done_of}
 use Rattle.mk_words.specs.Steps.{Finds}
 
-counts_full : SomeKinds
+abbrev counts_full : SomeKinds
 counts_full (Step.Look x) = true
 counts_full (Step.Tally n v) = true
 counts_full Step.Full = true
 counts_full _ = false
-
-counting_stays : AreOfTurn counts_full
-unfolding counts_full
-counting_stays Step.Begin h = cc
-counting_stays _ h = cc
-
-counting_no_begin : AreApart counts_full is_begin
-unfolding counts_full
-counting_no_begin Step.Begin h = cc
-counting_no_begin _ h = refl
-
-counting_no_room : AreApart counts_full asks_room
-unfolding counts_full
-counting_no_room Step.Begin h = cc
-counting_no_room _ h = cc
-
-counting_lets_none_go : AreApart counts_full lets_go
-unfolding counts_full
-counting_lets_none_go Step.Begin h = cc
-counting_lets_none_go _ h = cc
 
 answers : (c : Config) (m : Moment) (seat : Seat) (k : ℕ) → seat ≡ Caller k
     → answer_decided c m (record { seat = seat; step = Step.Full }) ≡ Some Answer.Full
@@ -90,7 +70,7 @@ module _ {p p1 p2 : PassState} {n v : ℕ} (quiet : IsQuiet p) (u : IsUnplaced p
   done_same = k2.call.done ∙ k1.call.done
 
   pub tallied_unplaced : IsUnplaced p2
-  tallied_unplaced = unplaced_kept p p2 u call_same (ap (λ (x : Done). x.placing) done_same)
+  tallied_unplaced = unplaced_kept u call_same (ap (λ (x : Done). x.placing) done_same)
       (ap (λ (s : Steady). s.phase) steady)
 
   pub tallied_idle : IsAtPhase p 0 → IsAtPhase p2 0
@@ -104,10 +84,10 @@ module _ {p p1 p2 : PassState} {n v : ℕ} (quiet : IsQuiet p) (u : IsUnplaced p
 
   module _ {q : PassState} (full : Acts p2 Step.Full q) (raised : v ≡ min (n + 1) (2 ^ 64 - 1)) where
     seat : IsCallers p
-    seat = new_callers p u
+    seat = new_callers u
 
     seat2 : IsCallers p2
-    seat2 = new_callers p2 tallied_unplaced
+    seat2 = new_callers tallied_unplaced
 
     steady_q : steady_of (world_of q) ≡ steady_of (world_of p2)
     steady_q = ap (λ (w : World). steady_of w) full.world ∙ full.turn.steady
@@ -149,11 +129,9 @@ module _ {p p1 p2 : PassState} {n v : ℕ} (quiet : IsQuiet p) (u : IsUnplaced p
         ∙ fulls_append (calls p2.table.config es) ds in
         let before : full_answers p2.table.config es ≡ full_answers p2.table.config p2.seen = full.counts.fulls in
         let two : full_answers p2.table.config p2.seen ≡ full_answers p.table.config p.seen =
-        ap (λ (c : Config). full_answers c p2.seen) (same_config p1 p2 k2.call.pass) ∙ k2.counts.fulls
-        ∙ ap (λ (c : Config). full_answers c p1.seen) (same_config p p1 k1.call.pass) ∙ k1.counts.fulls in
+        cc (same_config p1 p2 k2.call.pass, k2.counts.fulls, same_config p p1 k1.call.pass, k1.counts.fulls) in
         let unchanged : full_answers p.table.config q.seen ≡ full_answers p2.table.config (es ++ e ∷ []) =
-        ap (λ (c : Config). full_answers c q.seen) (sym config2)
-        ∙ ap (λ (l : List Event). full_answers p2.table.config l) seen_q in
+        cc (config2, seen_q) in
         omega arith
 
     entry : own_calls p q.seen ≡ own_calls p p.seen ++ entry_of (caller_of_pass p) (call_of p).op (Some Answer.Full)
@@ -200,7 +178,7 @@ module _ {p p1 p2 : PassState} {n v : ℕ} (quiet : IsQuiet p) (u : IsUnplaced p
                 ∙ ap (λ (x : Placing). has_place x) tallied_unplaced.placing;
             gone =
                 ap (λ (x : Option RunPages). is_run_gone (now_of q).words x)
-                (ap (λ (h : Holding). h.freed) holding_q ∙ none_freed_yet p2 (before_act full) tallied_unplaced.new);
+                (ap (λ (h : Holding). h.freed) holding_q ∙ none_freed_yet (before_act full) tallied_unplaced.new);
           };
           phase = same_phase p q (ap (λ (s : Steady). s.phase) all_steady) quiet.phase;
           gates =
@@ -219,40 +197,35 @@ module _ {p p1 p2 : PassState} {n v : ℕ} (quiet : IsQuiet p) (u : IsUnplaced p
         }
 
     does : Does counts_full p q
-    unfolding counts_full
     does =
-        does_then counts_full p p1 q (does_step counts_full p p1 (Step.Look Word.Full) look.makes refl)
-        (does_then counts_full p1 p2 q (does_step counts_full p1 p2 (Step.Tally Tally.Full v) tallies.makes refl)
-        (does_step counts_full p2 q Step.Full full.makes refl))
+        does_both (does_once look.makes refl) (does_both (does_once tallies.makes refl) (does_once full.makes refl))
 
     part : Part counts_full p q
-    part = record { turn = before_act look; stays = counting_stays; does = does; history = full.makes.pass.history }
+    part = record { turn = before_act look; stays = λ x h. grind arith; does = does; history = full.makes.pass.history }
 
     pub full_begins_none : BeginsNone p q
-    full_begins_none = begins_none_by part counting_no_begin
+    full_begins_none = begins_none_by part (λ x h. grind arith)
 
     pub answers_full : AnswersFull p q
-    answers_full =
-        record {
-          seeks = record {
-            on = record {
-              does = does_wider counts_full turn_stays counting_stays p q does;
-              quiet = quiet_q;
-              entry = entry;
-              op = ap (λ (f : Flight). f.op) call_q;
-              decided = λ some. ap (λ (f : Flight). f.stage) call_q;
-              undecided = λ none. cc;
-            };
-            room = room_lacks (object_for p) part counting_no_room;
-            none = λ none. cc;
-            leaves = λ none. cc;
-            last = calm_last part counting_lets_none_go;
-          };
-          before = es;
-          behind = [];
-          is = seen_q ∙ ap (λ (x : PassState). es ++ event_of x Step.Full ∷ []) same_pass;
-          allocations = allocations_q;
-          leaves = leaves_then p p1 q k1.call.pass (made_leaves look.makes refl refl)
-              (leaves_then p1 p2 q k2.call.pass (made_leaves tallies.makes refl refl)
-              (made_leaves full.makes refl refl));
-        }
+    answers_full = record {
+      seeks = record {
+        on = record {
+          does = widened (λ x h. grind arith) does;
+          quiet = quiet_q;
+          entry = entry;
+          op = ap (λ (f : Flight). f.op) call_q;
+          decided = λ some. ap (λ (f : Flight). f.stage) call_q;
+          undecided = λ none. cc;
+        };
+        room = room_lacks (object_for p) part (λ x h. grind arith);
+        none = λ none. cc;
+        leaves = λ none. cc;
+        last = calm_last part (λ x h. grind arith);
+      };
+      before = es;
+      behind = [];
+      is = seen_q ∙ ap (λ (x : PassState). es ++ event_of x Step.Full ∷ []) same_pass;
+      allocations = allocations_q;
+      leaves = leaves_then k1.call.pass (made_leaves look.makes refl refl)
+          (leaves_then k2.call.pass (made_leaves tallies.makes refl refl) (made_leaves full.makes refl refl));
+    }

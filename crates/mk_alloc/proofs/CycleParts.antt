@@ -1,13 +1,11 @@
 -- The events of a cycle's parts: where its `begin` stands, and where it is closed, released and ended.
 use Rattle.mk_alloc.proofs.Vocabulary.{BeginsCycle, Does, Event, FinishesCycle, Has, InTurn, IsHistory, List, PassState}
-use Rattle.mk_alloc.proofs.Vocabulary.{Step, ap, append_assoc, begins_marking, clears, closes_marks, does_step}
-use Rattle.mk_alloc.proofs.Vocabulary.{does_then, does_wider, event_of, false, finishes, holds_gates, is_begin}
-use Rattle.mk_alloc.proofs.Vocabulary.{is_close, is_end, is_giving_back, is_release, is_want, pass_before, refl}
+use Rattle.mk_alloc.proofs.Vocabulary.{Step, ap, append_assoc, arith, begins_marking, clears, event_of, false, finishes}
+use Rattle.mk_alloc.proofs.Vocabulary.{is_begin, is_close, is_end, is_giving_back, is_release, pass_before, refl}
 use Rattle.mk_alloc.proofs.Vocabulary.{sets_tallies, sym, true, [], ◌++◌, ◌∙◌, ◌∷◌, ◌≡◌}
-use Rattle.mk_alloc.proofs.CalmStretches.{is_of_cycles, of_turn}
-use Rattle.mk_alloc.proofs.ListParts.{Lacks, lacks_in_parts}
 use Rattle.mk_alloc.proofs.Parts.{Part, behind_part, nothing_part, part_lacks, seen_behind, seen_then, step_behind}
-use Rattle.mk_alloc.proofs.{StepKinds.AreApart, StepKinds.IsHolders, Stretches.SomeKinds, Stretches.Within}
+use Rattle.mk_alloc.proofs.Stretches.{SomeKinds, does_both, does_once, widened}
+use Rattle.mk_alloc.proofs.{CalmStretches.is_of_cycles, ListParts.Lacks, ListParts.lacks_in_parts, StepKinds.IsHolders}
 
 -- The kinds of the parts are of cycles. Up to a `close` nothing is released, and after it no room is asked for.
 
@@ -23,101 +21,9 @@ gives_room Step.Begin = false
 gives_room Step.Want = false
 gives_room x = is_of_cycles x
 
-pub clears_of : Within clears is_of_cycles
-clears_of Step.Begin h = refl
-clears_of _ h = cc
-
-pub begins_of : Within begins_marking is_of_cycles
-begins_of Step.Begin h = refl
-begins_of _ h = cc
-
-gives_of : Within is_giving_back is_of_cycles
-gives_of Step.Begin h = refl
-gives_of _ h = cc
-
-marking_of : Within ends_marking is_of_cycles
-marking_of Step.Begin h = refl
-marking_of _ h = cc
-
-pub room_of : Within gives_room is_of_cycles
-room_of Step.Begin h = refl
-room_of _ h = cc
-
-holds_end : Within holds_gates ends_marking
-holds_end Step.Begin h = cc
-holds_end _ h = cc
-
-closes_end : Within closes_marks ends_marking
-closes_end Step.Begin h = cc
-closes_end _ h = cc
-
-gives_back : Within is_giving_back gives_room
-gives_back Step.Begin h = cc
-gives_back _ h = cc
-
-tallies_back : Within sets_tallies gives_room
-tallies_back Step.Begin h = cc
-tallies_back _ h = cc
-
--- The kinds of a cycle's own steps are the holder's.
-
+-- A `begin` is the holder's.
 pub begins_held : IsHolders is_begin
-begins_held Step.Begin h = cc
-begins_held _ h = refl
-
-closes_held : IsHolders is_close
-closes_held Step.Close h = cc
-closes_held _ h = refl
-
-releases_held : IsHolders is_release
-releases_held Step.Release h = cc
-releases_held _ h = refl
-
-ends_held : IsHolders is_end
-ends_held Step.End h = cc
-ends_held _ h = refl
-
-pub wants_held : IsHolders is_want
-wants_held Step.Want h = cc
-wants_held _ h = refl
-
-pub finishes_held : IsHolders finishes
-finishes_held Step.Begin h = refl
-finishes_held _ h = cc
-
--- and the parts lack them
-
-clears_apart : AreApart clears is_begin
-clears_apart Step.Begin h = cc
-clears_apart _ h = refl
-
-clears_finish : AreApart clears finishes
-clears_finish Step.Begin h = refl
-clears_finish _ h = cc
-
-marking_apart : AreApart begins_marking is_begin
-marking_apart Step.Begin h = cc
-marking_apart _ h = refl
-
-marking_finish : AreApart begins_marking finishes
-marking_finish Step.Begin h = refl
-marking_finish _ h = cc
-
-ending_apart : AreApart ends_marking is_begin
-ending_apart Step.Begin h = cc
-ending_apart _ h = refl
-
-ending_no_close : AreApart ends_marking is_close
-ending_no_close Step.Close h = cc
-ending_no_close _ h = refl
-
-room_apart : AreApart gives_room is_begin
-room_apart Step.Begin h = cc
-room_apart _ h = refl
-
-gives_no_end : AreApart is_giving_back is_end
-gives_no_end Step.End h = cc
-gives_no_end _ h = refl
+begins_held x h = grind arith
 
 -- A cycle's close, release and end stand in a list one after the other.
 pub record EndsIn (es : List Event) : Type 0 where
@@ -149,49 +55,40 @@ module _ {p q : PassState} (law : FinishesCycle p q) where
   closing = law.makes.releases.closing
 
   pub ends_marks : Does ends_marking p closing
-  ends_marks =
-      let m = law.makes in
-      does_then ends_marking p m.held closing (does_wider holds_gates ends_marking holds_end p m.held m.holds)
-      (does_wider closes_marks ends_marking closes_end m.held closing m.releases.marks.does)
+  ends_marks = does_both (widened (λ x h. grind arith) law.makes.holds)
+      (widened (λ x h. grind arith) law.makes.releases.marks.does)
 
   pub gives_room_back : Does gives_room closing q
   gives_room_back =
       let m = law.makes in
       let r = m.releases in
-      does_then gives_room closing r.closed q (does_step gives_room closing r.closed Step.Close r.close refl)
-      (does_then gives_room r.closed m.released q (does_step gives_room r.closed m.released Step.Release r.release refl)
-      (does_then gives_room m.released m.freed q
-      (does_wider is_giving_back gives_room gives_back m.released m.freed m.frees)
-      (does_then gives_room m.freed m.ended q (does_step gives_room m.freed m.ended Step.End m.end refl)
-      (does_wider sets_tallies gives_room tallies_back m.ended q m.behind))))
+      does_both (does_once r.close refl) (does_both (does_once r.release refl)
+      (does_both (widened (λ x h. grind arith) m.frees)
+      (does_both (does_once m.end refl) (widened (λ x h. grind arith) m.behind))))
 
   pub part_closing : InTurn p → Part ends_marking p closing
-  part_closing t =
-      record {
-        turn = t;
-        stays = of_turn marking_of;
-        does = ends_marks;
-        history = (pass_before law.makes.releases.close).history;
-      }
+  part_closing t = record {
+    turn = t;
+    stays = λ x h. grind arith;
+    does = ends_marks;
+    history = (pass_before law.makes.releases.close).history;
+  }
 
 pub finish_done : {p q : PassState} → FinishesCycle p q → Does is_of_cycles p q
-finish_done {p} {q} law =
-    does_then is_of_cycles p (closing law) q
-    (does_wider ends_marking is_of_cycles marking_of p (closing law) (ends_marks law))
-    (does_wider gives_room is_of_cycles room_of (closing law) q (gives_room_back law))
+finish_done law = does_both (widened (λ x h. grind arith) (ends_marks law))
+    (widened (λ x h. grind arith) (gives_room_back law))
 
 pub finish_does : (p q : PassState) → Has p.seats p.seat → FinishesCycle p q → Does is_of_cycles p q
 finish_does p q own law = finish_done law
 
 pub part_behind_closing : {p q : PassState} (law : FinishesCycle p q) → InTurn p → IsHistory q.table.config q.seen
     → Part gives_room (closing law) q
-part_behind_closing law t history =
-    record {
-      turn = behind_part (part_closing law t);
-      stays = of_turn room_of;
-      does = gives_room_back law;
-      history = history;
-    }
+part_behind_closing law t history = record {
+  turn = behind_part (part_closing law t);
+  stays = λ x h. grind arith;
+  does = gives_room_back law;
+  history = history;
+}
 
 three : (a b d z : List Event) (x y w : Event)
     → (a ++ x ∷ []) ++ ((b ++ y ∷ []) ++ ((d ++ w ∷ []) ++ z)) ≡ a ++ x ∷ (b ++ y ∷ (d ++ w ∷ z))
@@ -205,7 +102,7 @@ finish_in p q own law t history =
     let x = step_behind (part_closing law t) r.close refl in
     let y = step_behind (nothing_part x.turn) r.release refl in
     let gives : Part is_giving_back m.released m.freed =
-    record { turn = y.turn; stays = of_turn gives_of; does = m.frees; history = (pass_before m.end).history } in
+    record { turn = y.turn; stays = λ x h. grind arith; does = m.frees; history = (pass_before m.end).history } in
     let z = step_behind gives m.end refl in
     let more : List Event =
     x.before ++ event_of r.closing Step.Close
@@ -233,14 +130,15 @@ finish_in p q own law t history =
         closes = refl;
         releases = refl;
         ends = refl;
-        none_closed = x.lacks is_close closes_held ending_no_close;
-        none_released = y.lacks is_release releases_held (λ k h. cc);
-        none_ended = z.lacks is_end ends_held gives_no_end;
+        none_closed = x.lacks is_close (λ x h. grind arith) (λ x h. grind arith);
+        none_released = y.lacks is_release (λ x h. grind arith) (λ k h. cc);
+        none_ended = z.lacks is_end (λ x h. grind arith) (λ x h. grind arith);
       };
       begins_none = lacks_in_parts is_begin p.seen first.does.more last.does.more more
           (sym is ∙ seen_then p.seen r.closing.seen q.seen first.does.more last.does.more
           (seen_behind ends_marking p r.closing first.does) (seen_behind gives_room r.closing q last.does))
-          (part_lacks is_begin first begins_held ending_apart) (part_lacks is_begin last begins_held room_apart);
+          (part_lacks is_begin first begins_held (λ x h. grind arith))
+          (part_lacks is_begin last begins_held (λ x h. grind arith));
     }
 
 -- One `begin`, and no end of a cycle.
@@ -256,11 +154,10 @@ pub record BeginIn (p q : PassState) : Type 0 where
   pub finishes_none : Lacks finishes behind
 
 pub begin_done : {p q : PassState} → BeginsCycle p q → Does is_of_cycles p q
-begin_done {p} {q} law =
+begin_done law =
     let m = law.makes in
-    does_then is_of_cycles p m.cleared q (does_wider clears is_of_cycles clears_of p m.cleared m.before)
-    (does_then is_of_cycles m.cleared m.begun q (does_step is_of_cycles m.cleared m.begun Step.Begin m.begin refl)
-    (does_wider begins_marking is_of_cycles begins_of m.begun q m.behind))
+    does_both (widened (λ x h. grind arith) m.before)
+    (does_both (does_once m.begin refl) (widened (λ x h. grind arith) m.behind))
 
 pub begin_does : (p q : PassState) → Has p.seats p.seat → BeginsCycle p q → Does is_of_cycles p q
 begin_does p q own law = begin_done law
@@ -270,10 +167,10 @@ pub begin_in : (p q : PassState) → Has p.seats p.seat → BeginsCycle p q → 
 begin_in p q own law t history =
     let m = law.makes in
     let clearing : Part clears p m.cleared =
-    record { turn = t; stays = of_turn clears_of; does = m.before; history = (pass_before m.begin).history } in
+    record { turn = t; stays = λ x h. grind arith; does = m.before; history = (pass_before m.begin).history } in
     let x = step_behind clearing m.begin refl in
     let marking : Part begins_marking m.begun q =
-    record { turn = x.turn; stays = of_turn begins_of; does = m.behind; history = history } in
+    record { turn = x.turn; stays = λ x h. grind arith; does = m.behind; history = history } in
     let e : Event = event_of m.cleared Step.Begin in
     record {
       before = x.before;
@@ -283,8 +180,8 @@ begin_in p q own law t history =
           (seen_behind begins_marking m.begun q m.behind)
           ∙ ap (λ (l : List Event). p.seen ++ l) (append_assoc x.before (e ∷ []) m.behind.more);
       begins = refl;
-      none_before = x.lacks is_begin begins_held clears_apart;
-      none_behind = part_lacks is_begin marking begins_held marking_apart;
-      finishes_none_before = x.lacks finishes finishes_held clears_finish;
-      finishes_none = part_lacks finishes marking finishes_held marking_finish;
+      none_before = x.lacks is_begin begins_held (λ x h. grind arith);
+      none_behind = part_lacks is_begin marking begins_held (λ x h. grind arith);
+      finishes_none_before = x.lacks finishes (λ x h. grind arith) (λ x h. grind arith);
+      finishes_none = part_lacks finishes marking (λ x h. grind arith) (λ x h. grind arith);
     }

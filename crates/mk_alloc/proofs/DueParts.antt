@@ -6,60 +6,56 @@ use Rattle.mk_alloc.proofs.Vocabulary.{is_look, or_from, or_parts, refl, subst, 
 use Rattle.mk_alloc.proofs.Vocabulary.{◌++◌, ◌∙◌, ◌∷◌, ◌≡◌, ◌⊎◌}
 use Rattle.mk_laws.proofs.Longer.{longer_at}
 use Rattle.mk_alloc.proofs.CycleParts.{BeginIn, EndsIn, begin_done, begin_in, begins_held, finish_done, finish_in}
-use Rattle.mk_alloc.proofs.Going.{IsCallers, begun_on, callers_then, finished_on, look_part, looked_on}
-use Rattle.mk_alloc.proofs.Going.{looks_begin_none, on_then}
+use Rattle.mk_alloc.proofs.Going.{IsCallers, begun_on, callers_then, finished_on, look_part, looked_on, on_then}
 use Rattle.mk_alloc.proofs.ListParts.{Lacks, SomeKind, lacks_append}
 use Rattle.mk_alloc.proofs.Parts.{behind_part, history_before, in_turn_then, part_lacks, seen_behind, seen_then}
 use Rattle.mk_alloc.proofs.{CalmStretches.cycles_in_turn, CalmStretches.is_of_cycles, QuietTurns.quiet_looked}
 use Rattle.mk_alloc.specs.DueCycles.{RunsCycle}
 
 pub at_behind : (kind : SomeKind) (xs ys : List Event) → At kind ys → At kind (xs ++ ys)
-at_behind kind xs ys at =
-    record {
-      before = xs ++ at.before;
-      event = at.event;
-      behind = at.behind;
-      is = ap (λ (l : List Event). xs ++ l) at.is ∙ sym (append_assoc xs at.before (at.event ∷ at.behind));
-      of_kind = at.of_kind;
-    }
+at_behind kind xs ys at = record {
+  before = xs ++ at.before;
+  event = at.event;
+  behind = at.behind;
+  is = ap (λ (l : List Event). xs ++ l) at.is ∙ sym (append_assoc xs at.before (at.event ∷ at.behind));
+  of_kind = at.of_kind;
+}
 
 -- An end that stands in the second of two lists stands in both.
 pub ends_behind : (xs ys : List Event) → Lacks is_close xs → EndsIn ys → EndsIn (xs ++ ys)
-ends_behind xs ys none e =
-    record {
-      to_close = xs ++ e.to_close;
-      close = e.close;
-      to_release = e.to_release;
-      release = e.release;
-      to_end = e.to_end;
-      end = e.end;
-      behind = e.behind;
-      is = ap (λ (l : List Event). xs ++ l) e.is
-          ∙ sym (append_assoc xs e.to_close (e.close ∷ (e.to_release ++ e.release ∷ (e.to_end ++ e.end ∷ e.behind))));
-      closes = e.closes;
-      releases = e.releases;
-      ends = e.ends;
-      none_closed = lacks_append is_close xs e.to_close none e.none_closed;
-      none_released = e.none_released;
-      none_ended = e.none_ended;
-    }
+ends_behind xs ys none e = record {
+  to_close = xs ++ e.to_close;
+  close = e.close;
+  to_release = e.to_release;
+  release = e.release;
+  to_end = e.to_end;
+  end = e.end;
+  behind = e.behind;
+  is = ap (λ (l : List Event). xs ++ l) e.is
+      ∙ sym (append_assoc xs e.to_close (e.close ∷ (e.to_release ++ e.release ∷ (e.to_end ++ e.end ∷ e.behind))));
+  closes = e.closes;
+  releases = e.releases;
+  ends = e.ends;
+  none_closed = lacks_append is_close xs e.to_close none e.none_closed;
+  none_released = e.none_released;
+  none_ended = e.none_ended;
+}
 
 -- or in the first
 pub ends_before : (xs ys : List Event) → EndsIn xs → EndsIn (xs ++ ys)
 ends_before xs ys e = grind (arith, append_assoc)
 
 pub end_at : (es : List Event) → EndsIn es → At is_end es
-end_at es e =
-    record {
-      before = e.to_close ++ e.close ∷ (e.to_release ++ e.release ∷ e.to_end);
-      event = e.end;
-      behind = e.behind;
-      is = e.is
-          ∙ ap (λ (l : List Event). e.to_close ++ e.close ∷ l)
-          (sym (append_assoc e.to_release (e.release ∷ e.to_end) (e.end ∷ e.behind)))
-          ∙ sym (append_assoc e.to_close (e.close ∷ (e.to_release ++ e.release ∷ e.to_end)) (e.end ∷ e.behind));
-      of_kind = e.ends;
-    }
+end_at es e = record {
+  before = e.to_close ++ e.close ∷ (e.to_release ++ e.release ∷ e.to_end);
+  event = e.end;
+  behind = e.behind;
+  is = e.is
+      ∙ ap (λ (l : List Event). e.to_close ++ e.close ∷ l)
+      (sym (append_assoc e.to_release (e.release ∷ e.to_end) (e.end ∷ e.behind)))
+      ∙ sym (append_assoc e.to_close (e.close ∷ (e.to_release ++ e.release ∷ e.to_end)) (e.end ∷ e.behind));
+  of_kind = e.ends;
+}
 
 -- the lists of a turn in which a cycle runs
 pub run_list : (a b d e : List Event) (x : Event) → (a ++ (b ++ x ∷ d)) ++ e ≡ (a ++ b) ++ x ∷ (d ++ e)
@@ -86,10 +82,10 @@ older_in {p} {q} t seat quiet e history = by quiet.phase
         subst (λ (x : PassState). OlderIn p x) (sym same)
         (record {
           turn = behind_part look;
-          on = looked_on p e.looked t seat quiet e.looks h;
+          on = looked_on t seat quiet e.looks h;
           more = look.does.more;
           is = seen_behind is_look p e.looked look.does;
-          begins_none = part_lacks is_begin look begins_held looks_begin_none;
+          begins_none = part_lacks is_begin look begins_held (λ x h. grind arith);
           ended = λ (one : IsAtPhase p 1). absurd (omega arith);
         })
     by (inr one) =
@@ -99,14 +95,14 @@ older_in {p} {q} t seat quiet e history = by quiet.phase
         let f = finish_in e.looked q t1.own law t1 history in
         record {
           turn = in_turn_then is_of_cycles e.looked q cycles_in_turn t1 (finish_done law) history;
-          on = on_then None p e.looked q (looked_on p e.looked t seat quiet e.looks look.history)
-              (finished_on e.looked q t1 (callers_then is_look p e.looked look.does seat)
-              (quiet_looked p e.looked quiet e.looks) law history);
+          on = on_then None p e.looked q (looked_on t seat quiet e.looks look.history)
+              (finished_on t1 (callers_then is_look p e.looked look.does seat)
+              (quiet_looked quiet e.looks) law history);
           more = look.does.more ++ f.more;
           is = seen_then p.seen e.looked.seen q.seen look.does.more f.more (seen_behind is_look p e.looked look.does)
               f.is;
           begins_none = lacks_append is_begin look.does.more f.more (part_lacks is_begin look begins_held
-              looks_begin_none) f.begins_none;
+              (λ x h. grind arith)) f.begins_none;
           ended = λ here. at_behind is_end look.does.more f.more (end_at f.more f.ends);
         }
 
@@ -125,8 +121,7 @@ pub record RunIn (on : Bool) (p q : PassState) : Type 0 where
   pub older : IsAtPhase p 1 → At is_end first
 
 close_finishes : (x : Step) → finishes x ≡ false → is_close x ≡ false
-close_finishes Step.Close h = cc
-close_finishes _ h = refl
+close_finishes x h = grind arith
 
 pub no_close : (es : List Event) → Lacks finishes es → Lacks is_close es
 no_close [] h = refl
@@ -151,7 +146,7 @@ module _ {on : Bool} {p q : PassState} (t : InTurn p) (seat : IsCallers p) (quie
 
   on_begun : TurnGoesOn None p run.begun
   on_begun = on_then None p run.idle run.begun old.on
-      (begun_on run.idle run.begun old.turn (callers_then turn_stays p run.idle old.on.does seat) old.on.quiet
+      (begun_on old.turn (callers_then turn_stays p run.idle old.on.does seat) old.on.quiet
       run.begins h_begun)
 
   -- with what was seen after the begin of the cycle
@@ -193,6 +188,6 @@ module _ {on : Bool} {p q : PassState} (t : InTurn p) (seat : IsCallers p) (quie
           let f = finish_in run.begun q there.own law there history in
           with_rest f.more f.is f.begins_none
           (on_then None p run.begun q on_begun
-          (finished_on run.begun q there (callers_then turn_stays p run.begun on_begun.does seat) on_begun.quiet law
+          (finished_on there (callers_then turn_stays p run.begun on_begun.does seat) on_begun.quiet law
           history))
           (λ here. f.ends) (λ keeps. absurd (true≢false (sym keeps ∙ stops)))

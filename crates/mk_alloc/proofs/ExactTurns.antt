@@ -1,9 +1,9 @@
 -- The turns of a caller stay exact, whatever its next call is.
 use Rattle.mk_alloc.proofs.Vocabulary.{Bool, EndsExactly, Event, List, PassState, Some, Step, TurnsOfAreExact, ap}
-use Rattle.mk_alloc.proofs.Vocabulary.{append_assoc, event_of, is_take, only_seen, own_before, refl, subst, sym, []}
-use Rattle.mk_alloc.proofs.Vocabulary.{◌++◌, ◌∙◌, ◌∷◌, ◌≡◌}
-use Rattle.mk_alloc.proofs.OwnGives.{GivesNone, HaveNoGive, calls_give, does_give_none, doing_gives, none_more}
-use Rattle.mk_alloc.proofs.OwnGives.{one_gives, one_more, others_give}
+use Rattle.mk_alloc.proofs.Vocabulary.{append_assoc, arith, event_of, only_seen, own_before, refl, subst, sym, [], ◌++◌}
+use Rattle.mk_alloc.proofs.Vocabulary.{◌∙◌, ◌∷◌, ◌≡◌}
+use Rattle.mk_alloc.proofs.OwnGives.{GivesNone, calls_give, does_give_none, doing_gives, none_more, one_gives, one_more}
+use Rattle.mk_alloc.proofs.OwnGives.{others_give}
 use Rattle.mk_alloc.specs.Laws.{OwnAreExact, StayExactBehindCalls, StayExactBehindOthers, StayExactBehindTurns}
 use Rattle.mk_alloc.specs.Laws.{StayExactWhereHeld}
 use Rattle.mk_waiting.proofs.TakesAlone.{taking_does}
@@ -24,19 +24,14 @@ stay_exact_where_held on p o q own held exact =
 
 -- after more that a pass has seen, in which its seat gave nothing back
 goes_on : (on : Bool) (p q : PassState) (more : List Event) → q ≡ record p { seen = p.seen ++ more }
-    → GivesNone p.seat more
-    → OwnAreExact on p → OwnAreExact on q
+    → GivesNone p.seat more → OwnAreExact on p → OwnAreExact on q
 goes_on on p q more is none exact =
     subst (λ (x : PassState). OwnAreExact on x) (sym is) (none_more on p.table.config p.seat p.seen more none exact)
-
-taking_gives_none : HaveNoGive is_take
-taking_gives_none Step.Give h = cc
-taking_gives_none _ h = refl
 
 pub stay_exact_behind_turns : StayExactBehindTurns
 stay_exact_behind_turns on p o a q own called exact =
     let takes = taking_does p (Some o) called.taken own called.takes in
-    let taken = goes_on on p called.taken takes.more takes.is (does_give_none taking_gives_none takes) exact in
+    let taken = goes_on on p called.taken takes.more takes.is (does_give_none (λ x h. grind arith) takes) exact in
     let acts = called.acts in
     let done =
     goes_on on called.taken called.done acts.more acts.is (doing_gives called.taken called.done acts) taken in

@@ -1,37 +1,16 @@
 -- What the turn of a Free does with cycles, by the events after its `take`.
 use Rattle.mk_alloc.proofs.Vocabulary.{At, Bool, Config, Event, Flight, FreeIsExact, FreesFirst, IsDue, IsDueIn, List}
 use Rattle.mk_alloc.proofs.Vocabulary.{Moment, Seat, Step, TurnOf, ap, false, finishes, flight_of, has_step, is_begin}
-use Rattle.mk_alloc.proofs.Vocabulary.{is_end, is_freeing, is_loading, is_of_cycle, left, or_from, or_parts, refl}
-use Rattle.mk_alloc.proofs.Vocabulary.{subst, sym, true, [], ◌++◌, ◌∙◌, ◌∷◌, ◌≡◌}
+use Rattle.mk_alloc.proofs.Vocabulary.{is_end, is_of_cycle, left, or_from, or_parts, refl, subst, sym, true, [], ◌++◌}
+use Rattle.mk_alloc.proofs.Vocabulary.{◌∙◌, ◌∷◌, ◌≡◌}
 use Rattle.mk_core.specs.{Counts.decides_freed, Cycles.BeginsAndEndsIn, Cycles.BeginsIn}
 use Rattle.mk_alloc.proofs.ListParts.{IsAt, Lacks, SomeKind, cycle_in, lacks_at, none_at, only_at}
-use Rattle.mk_alloc.proofs.StepKinds.{AreApart, IsHolders}
-use Rattle.mk_alloc.proofs.{CycleParts.EndsIn, DueParts.end_at, Stretches.Within}
+use Rattle.mk_alloc.proofs.{CycleParts.EndsIn, DueParts.end_at}
 use Rattle.mk_alloc.specs.TurnCycles.{CycleIsOn}
 
 abbrev pub is_quar : SomeKind
 is_quar (Step.Quar p v) = true
 is_quar _ = false
-
-pub quars_held : IsHolders is_quar
-quars_held (Step.Quar p v) h = cc
-quars_held _ h = refl
-
-pub loading_no_quar : AreApart is_loading is_quar
-loading_no_quar (Step.Quar p v) h = cc
-loading_no_quar _ h = refl
-
-pub cycles_held : IsHolders is_of_cycle
-cycles_held Step.Begin h = cc
-cycles_held _ h = cc
-
-pub freeing_no_cycle : AreApart is_freeing is_of_cycle
-freeing_no_cycle Step.Begin h = cc
-freeing_no_cycle _ h = cc
-
-pub loading_frees : Within is_loading is_freeing
-loading_frees Step.Begin h = cc
-loading_frees _ h = cc
 
 -- Only a `quar` frees.
 due_is_quar : (c : Config) (m : Moment) (f : Flight) (x : Step) → decides_freed c m f x ≡ true → is_quar x ≡ true
@@ -70,26 +49,24 @@ module _ (on : Bool) (c : Config) (s : Seat) (es : List Event) (t : TurnOf c s e
 
   -- One that is due begins one cycle.
   pub due_exact : (xs : List Event) (begin : Event) (ys : List Event) → t.behind ≡ xs ++ begin ∷ ys
-      → is_begin begin.step ≡ true
-      → Lacks is_begin xs → Lacks is_begin ys → (on ≡ false → EndsIn ys) → (on ≡ true → Lacks finishes ys)
-      → (CycleIsOn t → At is_end xs) → FreesFirst t → FreeIsExact on t
-  due_exact xs begin ys is begins none_before none_behind stopped goes_on older frees =
-      record {
-        begins = (
-          (λ b. frees.due),
-          (λ d. record { before = xs; event = begin; behind = ys; is = is; of_kind = begins }),
-        );
-        first = λ d. frees;
-        undue = λ n. absurd (n frees.due);
-        stopped = λ off b. ended (stopped off);
-        one = λ off b. (
-          ap (λ (l : List Event). has_step is_begin l) (there b).behind_is ∙ none_behind,
-          subst (λ (l : List Event). At is_end l) (sym (there b).behind_is) (end_at ys (stopped off)),
-        );
-        goes_on = λ keeps b.
-            subst (λ (l : List Event). has_step finishes l ≡ false) (sym (there b).behind_is) (goes_on keeps);
-        older = λ keeps one b. subst (λ (l : List Event). At is_end l) (sym (there b).before_is) (older one);
-      }
+      → is_begin begin.step ≡ true → Lacks is_begin xs → Lacks is_begin ys → (on ≡ false → EndsIn ys)
+      → (on ≡ true → Lacks finishes ys) → (CycleIsOn t → At is_end xs) → FreesFirst t → FreeIsExact on t
+  due_exact xs begin ys is begins none_before none_behind stopped goes_on older frees = record {
+    begins = (
+      (λ b. frees.due),
+      (λ d. record { before = xs; event = begin; behind = ys; is = is; of_kind = begins }),
+    );
+    first = λ d. frees;
+    undue = λ n. absurd (n frees.due);
+    stopped = λ off b. ended (stopped off);
+    one = λ off b. (
+      ap (λ (l : List Event). has_step is_begin l) (there b).behind_is ∙ none_behind,
+      subst (λ (l : List Event). At is_end l) (sym (there b).behind_is) (end_at ys (stopped off)),
+    );
+    goes_on = λ keeps b.
+        subst (λ (l : List Event). has_step finishes l ≡ false) (sym (there b).behind_is) (goes_on keeps);
+    older = λ keeps one b. subst (λ (l : List Event). At is_end l) (sym (there b).before_is) (older one);
+  }
     where
       there : (b : BeginsIn t) → IsAt xs ys b.before b.behind
       there b =
@@ -98,6 +75,5 @@ module _ (on : Bool) (c : Config) (s : Seat) (es : List Event) (t : TurnOf c s e
 
       ended : EndsIn ys → BeginsAndEndsIn t
       ended e =
-          cycle_in t.behind xs e.to_close e.to_release e.to_end e.behind begin e.close e.release e.end
-          (is ∙ ap (λ (l : List Event). xs ++ begin ∷ l) e.is) begins e.closes e.releases e.ends
-          e.none_closed e.none_released e.none_ended
+          cycle_in _ xs e.to_close e.to_release e.to_end _ begin e.close e.release e.end (is ∙ ap (λ (l : List Event).
+          xs ++ begin ∷ l) e.is) begins e.closes e.releases e.ends e.none_closed e.none_released e.none_ended

@@ -3,17 +3,15 @@ use Rattle.mk_laws.proofs.Vocabulary.{register_at}
 use Rattle.mk_alloc.proofs.Vocabulary.{Answer, BeginsTurn, Bool, FreeIsExact, FreesObject, Has, InTurn}
 use Rattle.mk_alloc.proofs.Vocabulary.{IsAnsweredDouble, IsDueIn, IsDueSince, IsFresh, IsHistory, Makes, Op, PassState}
 use Rattle.mk_alloc.proofs.Vocabulary.{RunsIfDue, Some, Step, TakesTurn, TurnGoesOn, Value, ℕ, ap, append_assoc}
-use Rattle.mk_alloc.proofs.Vocabulary.{append_cancel_left, at_rest, call_of, caller_of_pass, cases_Bool, inl, inr}
-use Rattle.mk_alloc.proofs.Vocabulary.{is_freeing, is_loading, pass_before, refl, subst, sym, true, ◌++◌, ◌<◌, ◌∙◌, ◌∷◌}
-use Rattle.mk_alloc.proofs.Vocabulary.{◌≡◌}
+use Rattle.mk_alloc.proofs.Vocabulary.{append_cancel_left, arith, at_rest, call_of, caller_of_pass, cases_Bool, inl}
+use Rattle.mk_alloc.proofs.Vocabulary.{inr, is_freeing, is_loading, pass_before, refl, subst, sym, true, ◌++◌, ◌<◌, ◌∙◌}
+use Rattle.mk_alloc.proofs.Vocabulary.{◌∷◌, ◌≡◌}
 use Rattle.mk_never.specs.Admitted.{IsBase}
 use Rattle.mk_alloc.proofs.CalledTurns.{GivenBack, Taken, called, registers_taken, taken_callers, taken_is, taken_turn}
 use Rattle.mk_alloc.proofs.CalledTurns.{turn_of}
-use Rattle.mk_alloc.proofs.FreeTurns.{is_quar, loading_frees, loading_no_quar, not_due_without, quars_held}
-use Rattle.mk_alloc.proofs.Parts.{Part, part_lacks, seen_by}
-use Rattle.mk_alloc.proofs.RetiredTurns.{decided_on, due_in, due_since, freeing_in_turn, rests_exactly, run_or_rest}
-use Rattle.mk_alloc.proofs.RetiredTurns.{runs_exactly}
-use Rattle.mk_alloc.proofs.{DueParts.RunIn, DueParts.run_in, Going.IsCallers, Going.callers_then, Stretches.AreOfTurn}
+use Rattle.mk_alloc.proofs.RetiredTurns.{decided_on, due_in, due_since, rests_exactly, run_or_rest, runs_exactly}
+use Rattle.mk_alloc.proofs.{DueParts.RunIn, DueParts.run_in, FreeTurns.is_quar, FreeTurns.not_due_without}
+use Rattle.mk_alloc.proofs.{Going.IsCallers, Going.callers_then, Parts.Part, Parts.part_lacks, Parts.seen_by}
 use Rattle.mk_objects.specs.{Retired.FindsFreed, Retired.Retires, Retiring.IsUnloaded}
 use Rattle.mk_caller.specs.States as caller
 
@@ -64,7 +62,7 @@ module _ {flag due : Bool} {r : ℕ} {p taken retired done : PassState} (f : Fre
   freeing =
       record {
         turn = taken_turn f.took;
-        stays = freeing_in_turn;
+        stays = λ x h. grind arith;
         does = f.retires.decides.does;
         history = f.decided.history;
       }
@@ -96,10 +94,6 @@ module _ {flag due : Bool} {r : ℕ} {p taken retired done : PassState} (f : Fre
     pub freed_object : FreesObject flag p r due q
     freed_object = record { called = called given flag exact; is_due = (tells, told) }
 
-loads_in_turn : AreOfTurn is_loading
-loads_in_turn Step.Begin h = refl
-loads_in_turn _ h = cc
-
 -- The turn of one whose object was freed already.
 pub record Refuses (r : ℕ) (p taken done : PassState) : Type 0 where
   pub took : Taken (Op.Free r) p taken
@@ -109,7 +103,7 @@ pub record Refuses (r : ℕ) (p taken done : PassState) : Type 0 where
 module _ {r : ℕ} {p taken done : PassState} (f : Refuses r p taken done) where
   pub refused : TurnGoesOn (Some Answer.Double) taken done
   refused =
-      decided_on taken r f.begins.fresh f.begins.phase f.begins.tidy is_loading Answer.Double done loading_frees
+      decided_on taken r f.begins.fresh f.begins.phase f.begins.tidy is_loading Answer.Double done (λ x h. grind arith)
       f.finds.decides
 
   module _ {q : PassState} (gives : Makes done Step.Give q) (rests : call_of q ≡ at_rest) where
@@ -120,7 +114,7 @@ module _ {r : ℕ} {p taken done : PassState} (f : Refuses r p taken done) where
     loading =
         record {
           turn = taken_turn f.took;
-          stays = loads_in_turn;
+          stays = λ x h. grind arith;
           does = f.finds.decides.does;
           history = (pass_before gives).history;
         }
@@ -128,7 +122,7 @@ module _ {r : ℕ} {p taken done : PassState} (f : Refuses r p taken done) where
     not_due : IsDueSince taken done → ⊥
     not_due due =
         not_due_without taken.table.config (taken.seen ++ due.before) loading.does.more due.before due.event due.behind
-        (part_lacks is_quar loading quars_held loading_no_quar)
+        (part_lacks is_quar loading (λ x h. grind arith) (λ x h. grind arith))
         (append_cancel_left taken.seen loading.does.more (due.before ++ due.event ∷ due.behind)
         (sym (seen_by loading.does) ∙ due.is ∙ append_assoc taken.seen due.before (due.event ∷ due.behind)))
         due.due
@@ -136,7 +130,7 @@ module _ {r : ℕ} {p taken done : PassState} (f : Refuses r p taken done) where
     double_told : (flag : Bool) → IsAnsweredDouble flag p r q
     double_told flag =
         record {
-          called = called given_double flag (rests_exactly given_double loading_frees loading flag refl not_due);
+          called = called given_double flag (rests_exactly given_double (λ x h. grind arith) loading flag refl not_due);
           only_looks = f.finds.decides.does;
         }
 

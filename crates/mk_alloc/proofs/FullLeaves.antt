@@ -4,13 +4,14 @@ use Rattle.mk_laws.proofs.Vocabulary.{is_mapped, kinds_of, length-map, no_longer
 use Rattle.mk_laws.proofs.Vocabulary.{with_released}
 use Rattle.mk_alloc.proofs.Vocabulary.{Bool, Cell, Config, Event, Flight, Has, IsHistory, List, Makes, Moment, Op}
 use Rattle.mk_alloc.proofs.Vocabulary.{Option, OwnLeaveAllButReleased, PassState, PlacedAllocation, Seat, Some, Step}
-use Rattle.mk_alloc.proofs.Vocabulary.{TakesTurn, World, ℕ, allocations_by, and_parts, ap, append_assoc, call_of}
+use Rattle.mk_alloc.proofs.Vocabulary.{TakesTurn, World, ℕ, allocations_by, and_parts, ap, append_assoc, arith, call_of}
 use Rattle.mk_alloc.proofs.Vocabulary.{comes_last, event_of, false, flight_of, freed_where_it_stands, frees_none, inl}
 use Rattle.mk_alloc.proofs.Vocabulary.{inr, is_pending_free, is_same_seat, is_take, left, left_in_parts, length}
-use Rattle.mk_alloc.proofs.Vocabulary.{list_all, made, map, never_behind, none_freed, not, not-true, only_seen}
+use Rattle.mk_alloc.proofs.Vocabulary.{list_all, made, map, never_behind, none_freed, not, not-true, only_seen, or_left}
 use Rattle.mk_alloc.proofs.Vocabulary.{own_before, refl, same_seat, slice_index, stands, subst, sym, told_to_images}
-use Rattle.mk_alloc.proofs.Vocabulary.{true, true≢false, waits_for, world_behind, world_of, [], ◌++◌, ◌+◌, ◌<◌, ◌||◌}
-use Rattle.mk_alloc.proofs.Vocabulary.{◌∙◌, ◌∷◌, ◌≡◌, ◌≢◌, ◌⊎◌}
+use Rattle.mk_alloc.proofs.Vocabulary.{true, true≢false, waits_for, world_behind, world_of, [], ◌++◌, ◌+◌, ◌<◌, ◌∙◌}
+use Rattle.mk_alloc.proofs.Vocabulary.{◌∷◌, ◌≡◌, ◌≢◌, ◌⊎◌}
+use Rattle.mk_core.proofs.RegisterAccesses.{tally_leaves_registers}
 use Rattle.mk_core.specs.{Growing.AreOfOthers, History.left_from, TurnConditions.may_wipe}
 use Rattle.mk_laws.proofs.Basics.{WorldBehind, exists_placed, stands_of, unmapped_is}
 use Rattle.mk_laws.proofs.{GrantMoves.wiped_outside, ImagesBefore.words_are}
@@ -31,11 +32,6 @@ is_of_full x = is_of_cycles x
 
 -- One step
 
-tally_registers : (w : Words) (n : Tally) (v : ℕ) → (accessed w (Named (tally_word n)) (Store v)).registers
-    ≡ w.registers
-tally_registers w Tally.Held v = refl
-tally_registers w _ v = refl
-
 tally_globals : (w : Words) (n : Tally) (v : ℕ) → (accessed w (Named (tally_word n)) (Store v)).globals ≡ w.globals
 tally_globals w Tally.Held v = refl
 tally_globals w _ v = refl
@@ -48,7 +44,7 @@ registers_stay : (c : Config) (w : World) (s : Seat) (x : Step) → is_of_full x
     → (WorldBehind c w s x).now.words.registers ≡ w.now.words.registers
 registers_stay c w s Step.Reg h = cc
 registers_stay c w s Step.Grant h = cc
-registers_stay c w s (Step.Tally n v) h = tally_registers w.now.words n v
+registers_stay c w s (Step.Tally n v) h = tally_leaves_registers w.now.words n v
 registers_stay c w s _ h = refl
 
 globals_stay : (c : Config) (w : World) (s : Seat) (x : Step) → is_of_full x ≡ true
@@ -71,10 +67,6 @@ changed_each : (change : PlacedAllocation → PlacedAllocation) (xs : List Place
     → StaysOrIsReleased (placed_at xs a) (placed_at (map change xs) a)
 changed_each change xs a h is = subst (λ (b : PlacedAllocation). StaysOrIsReleased (placed_at xs a) b) (sym is) h
 
-still_released : (a b : Bool) → a ≡ true → (a || b) ≡ true
-still_released true b h = refl
-still_released false b h = cc
-
 each_stays : (c : Config) (m : Moment) (f : Flight) (x : Step) (xs : List PlacedAllocation) → is_of_full x ≡ true
     → (is_quar x ≡ true → is_pending_free f ≡ false) → (a : ℕ)
     → StaysOrIsReleased (placed_at xs a) (placed_at (allocations_by c m f x xs) a)
@@ -88,7 +80,7 @@ each_stays c m f Step.Begin xs h free a =
     changed_each no_longer_fresh xs a (record { same = refl; released = λ h. h }) (changed_at no_longer_fresh xs a refl)
 each_stays c m f Step.Release xs h free a =
     changed_each (with_released c m.words) xs a
-    (record { same = refl; released = λ h. still_released (placed_at xs a).released _ h })
+    (record { same = refl; released = λ h. or_left (placed_at xs a).released _ h })
     (changed_at (with_released c m.words) xs a refl)
 each_stays c m f _ xs h free a = same_each xs xs refl a
 
@@ -109,8 +101,7 @@ module _ (c : Config) (es : List Event) (s : Seat) (x : Step) (history : IsHisto
   w = left c es
 
   wiped_apart : (n : ℕ) → may_wipe c w.now n ≡ true → (a i : ℕ) → is_mapped c (placed_at w.allocations a) ≡ true
-      → i < length (kinds_of c.types (placed_at w.allocations a).ty)
-      → (placed_at w.allocations a).base + i ≢ n
+      → i < length (kinds_of c.types (placed_at w.allocations a).ty) → (placed_at w.allocations a).base + i ≢ n
   wiped_apart n may a i mapped lt =
       let last = comes_last c es (record { seat = s; step = x }) history in
       let st = stands c es last.before in
@@ -141,25 +132,23 @@ module _ (c : Config) (es : List Event) (s : Seat) (x : Step) (history : IsHisto
 
   pub step_leaves : is_of_full x ≡ true → (is_quar x ≡ true → is_pending_free (flight_of w.now s) ≡ false)
       → LeavesAllButReleased c w (WorldBehind c w s x)
-  step_leaves kind free =
-      record {
-        registers = registers_stay c w s x kind;
-        globals = globals_stay c w s x kind;
-        count = count_stays c w.now (flight_of w.now s) x w.allocations kind;
-        each = each_stays c w.now (flight_of w.now s) x w.allocations kind free;
-        words = words_stay kind;
-      }
+  step_leaves kind free = record {
+    registers = registers_stay c w s x kind;
+    globals = globals_stay c w s x kind;
+    count = count_stays c w.now (flight_of w.now s) x w.allocations kind;
+    each = each_stays c w.now (flight_of w.now s) x w.allocations kind free;
+    words = words_stay kind;
+  }
 
 take_leaves : (c : Config) (w : World) (s : Seat) (x : Step) → is_take x ≡ true
     → LeavesAllButReleased c w (WorldBehind c w s x)
-take_leaves c w s (Step.Take o) h =
-    record {
-      registers = refl;
-      globals = refl;
-      count = refl;
-      each = same_each w.allocations w.allocations refl;
-      words = λ a mapped i lt. refl;
-    }
+take_leaves c w s (Step.Take o) h = record {
+  registers = refl;
+  globals = refl;
+  count = refl;
+  each = same_each w.allocations w.allocations refl;
+  words = λ a mapped i lt. refl;
+}
 take_leaves c w s _ h = cc
 
 -- lists
@@ -205,18 +194,16 @@ last_own c s es xs e first last =
 
 -- parts of a turn
 
-pub leaves_then : (p q r : PassState) → q ≡ record p { seen = q.seen } → OwnLeaveAllButReleased p q
+pub leaves_then : {p q r : PassState} → q ≡ record p { seen = q.seen } → OwnLeaveAllButReleased p q
     → OwnLeaveAllButReleased q r → OwnLeaveAllButReleased p r
-leaves_then p q r same one two =
+leaves_then {p} {q} same one two =
     let c : Config = p.table.config in
     let there : world_of q ≡ left_from c (left c p.seen) one.more =
-    ap (λ (x : PassState). left x.table.config q.seen) same ∙ ap (λ (l : List Event). left c l) one.is
-    ∙ left_in_parts c p.seen one.more in
+    cc (same, one.is, left_in_parts c p.seen one.more) in
     record {
       more = one.more ++ two.more;
       is = two.is ∙ ap (λ (l : List Event). l ++ two.more) one.is ∙ append_assoc p.seen one.more two.more;
-      each = own_append c p.seat (world_of p) one.more two.more one.each
-          (subst (λ (w : World). OwnLeaveFrom c p.seat w two.more) there
+      each = own_append c _ _ one.more two.more one.each (subst (λ (w : World). OwnLeaveFrom c p.seat w two.more) there
           (subst (λ (x : PassState). OwnLeaveFrom x.table.config x.seat (world_of q) two.more) same two.each));
     }
 
@@ -237,7 +224,7 @@ pub taking_leaves : {p q : PassState} {o : Op} → Has p.seats p.seat → TakesT
     → OwnLeaveAllButReleased p q
 taking_leaves {p} {q} has t =
     let w = t.waits in
-    leaves_then p t.waited q (only_seen p t.waited w.more w.is)
+    leaves_then (only_seen p t.waited w.more w.is)
     (record {
       more = w.more;
       is = ap (λ (x : PassState). x.seen) w.is;
@@ -246,20 +233,18 @@ taking_leaves {p} {q} has t =
     (made_leaves t.takes.makes refl refl)
 
 -- a part of such steps as cycles are made of
-
 of_full : Within is_of_cycles is_of_full
-of_full Step.Begin h = refl
-of_full _ h = cc
+of_full x h = grind arith
 
-cycles_left : (p : PassState) → IsCallers p → Has p.seats p.seat → (es more : List Event)
+cycles_left : {p : PassState} → IsCallers p → Has p.seats p.seat → (es more : List Event)
     → is_pending_free (call_in p es) ≡ false → Stretch p is_of_cycles es more
     → OwnLeaveFrom p.table.config p.seat (left p.table.config es) more
 unfolding OwnLeaveFrom
-cycles_left p seat own es [] free s = tt
-cycles_left p seat own es (e ∷ rest) free s = (
+cycles_left seat own es [] free s = tt
+cycles_left {p} seat own es (e ∷ rest) free s = (
   λ same. leaves same f.who,
   subst (λ (w : World). OwnLeaveFrom c p.seat w rest) f.at.behind
-      (cycles_left p seat own (es ++ e ∷ []) rest
+      (cycles_left seat own (es ++ e ∷ []) rest
       (ap (λ (x : Flight). is_pending_free x)
       (goes_undecided p seat own es (e ∷ []) free (first_part p is_of_cycles es (e ∷ []) rest s)).call ∙ free)
       f.on),
@@ -280,10 +265,9 @@ cycles_left p seat own es (e ∷ rest) free s = (
 
 pub cycles_leave : {p q : PassState} → IsCallers p → is_pending_free (call_of p) ≡ false → Part is_of_cycles p q
     → OwnLeaveAllButReleased p q
-cycles_leave {p} {q} seat free x =
-    record {
-      more = x.does.more;
-      is = seen_by x.does;
-      each = cycles_left p seat x.turn.own p.seen x.does.more free
-          (does_stretch p q is_of_cycles x.does x.history x.turn.holds);
-    }
+cycles_leave {p} {q} seat free x = record {
+  more = x.does.more;
+  is = seen_by x.does;
+  each = cycles_left seat x.turn.own p.seen x.does.more free
+      (does_stretch p q is_of_cycles x.does x.history x.turn.holds);
+}

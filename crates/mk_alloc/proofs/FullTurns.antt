@@ -1,11 +1,10 @@
 -- A New is answered Full: the tally is raised, and the call decided.
-use Rattle.mk_laws.proofs.Vocabulary.{AreAdmitted, Call, OwnCycle, Unplaced, is_new_at, is_none, map-append}
-use Rattle.mk_laws.proofs.Vocabulary.{may_answer_full, place_on_pages}
+use Rattle.mk_laws.proofs.Vocabulary.{AreAdmitted, Call, Unplaced, is_new_at, map-append, place_on_pages}
 use Rattle.mk_alloc.proofs.Vocabulary.{Answer, Caller, Config, Decided, Ended, Event, Flight, Holds, InTurn, IsAtPhase}
 use Rattle.mk_alloc.proofs.Vocabulary.{IsEnabled, IsEnabledTo, IsHistory, IsTurn, IsUnplaced, List, Moment, None, Op}
-use Rattle.mk_alloc.proofs.Vocabulary.{Option, PassState, Place, Placing, Seat, Some, Stage, Step, ℕ, acting_caller, ap}
-use Rattle.mk_alloc.proofs.Vocabulary.{asked, call_of, caller_of_pass, calls, calls_more, comes_next, entry_of, eq-eqb}
-use Rattle.mk_alloc.proofs.Vocabulary.{first_world, flight_of, has_operands, is_undecided_new, known_left, left, lt-ltb}
+use Rattle.mk_alloc.proofs.Vocabulary.{PassState, Seat, Some, Stage, Step, ℕ, acting_caller, ap, asked, call_of}
+use Rattle.mk_alloc.proofs.Vocabulary.{caller_of_pass, calls, calls_more, comes_next, entry_of, eq-eqb, first_world}
+use Rattle.mk_alloc.proofs.Vocabulary.{flight_of, has_operands, is_undecided_new, known_left, left, lt-ltb}
 use Rattle.mk_alloc.proofs.Vocabulary.{meets_enabled, new_is_acting, now_of, object_for, object_made, op_for, phase_of}
 use Rattle.mk_alloc.proofs.Vocabulary.{place_now_for, refl, subst, sym, true, undecided_new, [], ◌++◌, ◌<◌, ◌∙◌, ◌∷◌}
 use Rattle.mk_alloc.proofs.Vocabulary.{◌≡◌}
@@ -38,21 +37,18 @@ full_for c m k lt new idle placing ended none =
       gates = refl;
       phase = eq-eqb (phase_of m.words) 0 idle;
       marker = refl;
-      holder =
-          ap (λ (x : Placing). may_answer_full c.resident m.words.pages o x m.seats.holding.cycle) placing
-          ∙ ap (λ (x : OwnCycle). may_answer_full c.resident m.words.pages o Unplaced x) ended
-          ∙ ap (λ (x : Option Place). is_none x) none;
+      holder = cc (placing, ended, none);
     })
 
-pub full_allowed : (p : PassState) → InTurn p → IsUnplaced p → IsAtPhase p 0
+pub full_allowed : {p : PassState} → InTurn p → IsUnplaced p → IsAtPhase p 0
     → (now_of p).seats.holding.cycle ≡ Ended → place_now_for p ≡ None → IsEnabledTo p Step.Full
-full_allowed p t u idle ended none =
+full_allowed {p} t u idle ended none =
     let turn : IsTurn p (op_for p.seat (call_of p)) = record { holds = t.holds; op = refl } in
     let acts = new_is_acting (call_of p) u.new in
     let fits = first_fit_finds_the_place p.table.config p.seen t.history (object_for p)
     (unplaced_settled p (acting_now p (op_for p.seat (call_of p)) turn acts) (acting_caller p acts) u t.history)
     ∙ none in
-    let seat = new_callers p u in
+    let seat = new_callers u in
     subst
     (λ (s : Seat). caller_of_pass p < p.table.config.callers → is_undecided_new (flight_of (now_of p) s) ≡ true
     → place_on_pages p.table.config.resident (now_of p).words.pages
@@ -62,8 +58,7 @@ full_allowed p t u idle ended none =
     (exists seat t) u.new fits
   where
     exists : IsCallers p → InTurn p → caller_of_pass p < p.table.config.callers
-    exists seat t =
-        (subst (λ (s : Seat). Holds p.table.config (now_of p) s) seat t.holds).0
+    exists seat t = (subst (λ (s : Seat). Holds p.table.config (now_of p) s) seat t.holds).0
 
 -- and admitted.
 
@@ -87,9 +82,9 @@ admitted_for c es k h lt new operands =
     (record { caller = k; op = Op.New n.d n.ty true } ∷ [])
     (h.admitted, (new_admitted c k n.d n.ty true (asked (calls c es)) lt ranges.0 ranges.1, tt)))
 
-pub full_admitted : (p : PassState) → InTurn p → IsUnplaced p → IsAdmittedTo p Step.Full
-full_admitted p t u =
-    let seat = new_callers p u in
+pub full_admitted : {p : PassState} → InTurn p → IsUnplaced p → IsAdmittedTo p Step.Full
+full_admitted {p} t u =
+    let seat = new_callers u in
     let operands = seat_operands p.table.config (now_of p) p.seat
     (known_left p.table.config p.seen t.history.within_limits t.history.enabled) in
     subst

@@ -1,13 +1,12 @@
 -- Parts of a turn in which it goes on: the parts of cycles decide nothing, and what goes on in two parts goes on.
 use Rattle.mk_alloc.proofs.Vocabulary.{Answer, BeginsCycle, Bool, Caller, Decided, Does, Event, FinishesCycle, Flight}
 use Rattle.mk_alloc.proofs.Vocabulary.{InTurn, IsHistory, IsQuiet, List, Looks, None, Op, Option, PassState, Some, Step}
-use Rattle.mk_alloc.proofs.Vocabulary.{TurnGoesOn, ap, append-nil, call_of, caller_of_pass, does_nothing, does_then}
-use Rattle.mk_alloc.proofs.Vocabulary.{does_wider, entry_of, is_begin, is_look, own_calls, refl, subst, sym, turn_stays}
-use Rattle.mk_alloc.proofs.Vocabulary.{◌++◌, ◌∙◌, ◌≡◌}
-use Rattle.mk_alloc.proofs.CalmStretches.{cycles_in_turn, goes_undecided, is_of_cycles, of_turn}
-use Rattle.mk_alloc.proofs.CycleParts.{begin_done, finish_done}
+use Rattle.mk_alloc.proofs.Vocabulary.{TurnGoesOn, ap, append-nil, arith, call_of, caller_of_pass, does_nothing}
+use Rattle.mk_alloc.proofs.Vocabulary.{entry_of, is_look, own_calls, refl, subst, sym, turn_stays, ◌++◌, ◌∙◌, ◌≡◌}
+use Rattle.mk_alloc.proofs.CalmStretches.{cycles_in_turn, goes_undecided, is_of_cycles}
 use Rattle.mk_alloc.proofs.QuietTurns.{quiet_begun, quiet_finished, quiet_looked}
-use Rattle.mk_alloc.proofs.{Parts.Part, Parts.seen_behind, StepKinds.AreApart, Stretches.Within, Stretches.does_stretch}
+use Rattle.mk_alloc.proofs.Stretches.{does_both, does_stretch, widened}
+use Rattle.mk_alloc.proofs.{CycleParts.begin_done, CycleParts.finish_done, Parts.Part, Parts.seen_behind}
 
 -- the pass of a caller
 abbrev pub IsCallers : PassState → Type 0
@@ -23,79 +22,67 @@ own_calls_same : (kinds : Step → Bool) (p q : PassState) → Does kinds p q �
     ≡ own_calls p es
 own_calls_same kinds p q d es = ap (λ (x : PassState). own_calls x es) d.is
 
-pub looks_of : Within is_look is_of_cycles
-looks_of Step.Begin h = cc
-looks_of _ h = cc
-
-pub looks_begin_none : AreApart is_look is_begin
-looks_begin_none Step.Begin h = cc
-looks_begin_none _ h = refl
-
 pub look_part : {p q : PassState} → InTurn p → Does is_look p q → IsHistory q.table.config q.seen → Part is_look p q
-look_part t d history = record { turn = t; stays = of_turn looks_of; does = d; history = history }
+look_part t d history = record { turn = t; stays = λ x h. grind arith; does = d; history = history }
 
 -- A part of a turn that is free for a cycle, of steps of cycles alone
-pub undecided_part : (p q : PassState) → InTurn p → IsCallers p → IsQuiet p → IsQuiet q → (d : Does is_of_cycles p q)
+pub undecided_part : {p q : PassState} → InTurn p → IsCallers p → IsQuiet p → IsQuiet q → (d : Does is_of_cycles p q)
     → IsHistory q.table.config q.seen → call_of q ≡ call_of p → TurnGoesOn None p q
-undecided_part p q t seat quiet after d history call =
-    record {
-      does = does_wider is_of_cycles turn_stays cycles_in_turn p q d;
-      quiet = after;
-      entry =
-          ap (λ (l : List Event). own_calls p l) (seen_behind is_of_cycles p q d)
-          ∙ (goes_undecided p seat t.own p.seen d.more quiet.free.decided
-          (does_stretch p q is_of_cycles d history t.holds)).calls
-          ∙ sym (append-nil (own_calls p p.seen));
-      op = ap (λ (f : Flight). f.op) call;
-      decided = λ some. cc;
-      undecided = λ none. call;
-    }
+undecided_part {p} {q} t seat quiet after d history call = record {
+  does = widened cycles_in_turn d;
+  quiet = after;
+  entry =
+      ap (λ (l : List Event). own_calls p l) (seen_behind is_of_cycles p q d)
+      ∙ (goes_undecided p seat t.own p.seen d.more quiet.free.decided
+      (does_stretch p q is_of_cycles d history t.holds)).calls
+      ∙ sym (append-nil (own_calls p p.seen));
+  op = ap (λ (f : Flight). f.op) call;
+  decided = λ some. cc;
+  undecided = λ none. call;
+}
 
-pub looked_on : (p q : PassState) → InTurn p → IsCallers p → IsQuiet p → Looks p q → IsHistory q.table.config q.seen
+pub looked_on : {p q : PassState} → InTurn p → IsCallers p → IsQuiet p → Looks p q → IsHistory q.table.config q.seen
     → TurnGoesOn None p q
-looked_on p q t seat quiet k history =
-    undecided_part p q t seat quiet (quiet_looked p q quiet k)
-    (does_wider is_look is_of_cycles looks_of p q k.does) history
+looked_on t seat quiet k history =
+    undecided_part t seat quiet (quiet_looked quiet k)
+    (widened (λ x h. grind arith) k.does) history
     k.keeps.call.call
 
-pub begun_on : (p q : PassState) → InTurn p → IsCallers p → IsQuiet p → BeginsCycle p q
-    → IsHistory q.table.config q.seen
-    → TurnGoesOn None p q
-begun_on p q t seat quiet b history =
-    undecided_part p q t seat quiet (quiet_begun p q quiet b) (begin_done b) history b.call
+pub begun_on : {p q : PassState} → InTurn p → IsCallers p → IsQuiet p → BeginsCycle p q
+    → IsHistory q.table.config q.seen → TurnGoesOn None p q
+begun_on t seat quiet b history =
+    undecided_part t seat quiet (quiet_begun quiet b) (begin_done b) history b.call
 
-pub finished_on : (p q : PassState) → InTurn p → IsCallers p → IsQuiet p → FinishesCycle p q
-    → IsHistory q.table.config q.seen
-    → TurnGoesOn None p q
-finished_on p q t seat quiet f history =
-    undecided_part p q t seat quiet (quiet_finished p q quiet f) (finish_done f) history f.call
+pub finished_on : {p q : PassState} → InTurn p → IsCallers p → IsQuiet p → FinishesCycle p q
+    → IsHistory q.table.config q.seen → TurnGoesOn None p q
+finished_on t seat quiet f history =
+    undecided_part t seat quiet (quiet_finished quiet f) (finish_done f) history f.call
 
 -- one part after the other
 
-pub nothing_on : (p : PassState) → IsQuiet p → TurnGoesOn None p p
-nothing_on p quiet =
-    record {
-      does = does_nothing turn_stays p;
-      quiet = quiet;
-      entry = sym (append-nil (own_calls p p.seen));
-      op = refl;
-      decided = λ some. cc;
-      undecided = λ none. refl;
-    }
+pub nothing_on : {p : PassState} → IsQuiet p → TurnGoesOn None p p
+nothing_on {p} quiet = record {
+  does = does_nothing turn_stays p;
+  quiet = quiet;
+  entry = sym (append-nil (own_calls p p.seen));
+  op = refl;
+  decided = λ some. cc;
+  undecided = λ none. refl;
+}
 
 -- nothing was decided before
 pub on_then : (a : Option Answer) (p q r : PassState) → TurnGoesOn None p q → TurnGoesOn a q r → TurnGoesOn a p r
 on_then a p q r x y =
     let d : Does turn_stays p q = x.does in
     record {
-      does = does_then turn_stays p q r d y.does;
+      does = does_both d y.does;
       quiet = y.quiet;
       entry =
-          sym (own_calls_same turn_stays p q d r.seen) ∙ y.entry
-          ∙ ap (λ (l : List Decided). l ++ entry_of (caller_of_pass q) (call_of q).op a)
-          (own_calls_same turn_stays p q d q.seen ∙ x.entry ∙ append-nil (own_calls p p.seen))
-          ∙ ap (λ k. own_calls p p.seen ++ entry_of k (call_of q).op a) (same_number turn_stays p q d)
-          ∙ ap (λ (o : Op). own_calls p p.seen ++ entry_of (caller_of_pass p) o a) x.op;
+          sym (own_calls_same turn_stays p q d _) ∙ y.entry ∙ ap
+          (λ (l : List Decided). l ++ entry_of (caller_of_pass q) (call_of q).op a)
+          (own_calls_same turn_stays p q d q.seen ∙ x.entry ∙ append-nil (own_calls p p.seen)) ∙ ap
+          (λ k. own_calls p p.seen ++ entry_of k (call_of q).op a) (same_number turn_stays p q d) ∙ ap
+          (λ (o : Op). own_calls p p.seen ++ entry_of (caller_of_pass p) o a) x.op;
       op = y.op ∙ x.op;
       decided = y.decided;
       undecided = λ none. y.undecided none ∙ x.undecided refl;
@@ -106,7 +93,7 @@ pub then_on : (a : Answer) (p q r : PassState) → TurnGoesOn (Some a) p q → T
 then_on a p q r x y =
     let d : Does turn_stays p q = x.does in
     record {
-      does = does_then turn_stays p q r d y.does;
+      does = does_both d y.does;
       quiet = y.quiet;
       entry =
           sym (own_calls_same turn_stays p q d r.seen) ∙ y.entry ∙ append-nil (own_calls q q.seen)

@@ -1,33 +1,11 @@
 -- Parts of a New's turn: what was granted in them, and what is let go after that.
-use Rattle.mk_alloc.proofs.Vocabulary.{At, Does, Event, GrantsNone, List, PassState, Step, ap, append_assoc}
-use Rattle.mk_alloc.proofs.Vocabulary.{append_cancel_left, has_step, is_grant, is_look, is_placing, lets_go, refl}
-use Rattle.mk_alloc.proofs.Vocabulary.{subst, sym, [], ⊎_elim, ◌++◌, ◌∙◌, ◌∷◌, ◌≡◌}
+use Rattle.mk_alloc.proofs.Vocabulary.{At, Does, Event, GrantsNone, List, PassState, ap, append_assoc}
+use Rattle.mk_alloc.proofs.Vocabulary.{append_cancel_left, arith, has_step, is_grant, lets_go, subst, sym, [], ⊎_elim}
+use Rattle.mk_alloc.proofs.Vocabulary.{◌++◌, ◌∙◌, ◌∷◌, ◌≡◌}
 use Rattle.mk_alloc.proofs.ListParts.{InFirst, InSecond, Lacks, lacks_append, lacks_at, lacks_second, stands}
 use Rattle.mk_alloc.proofs.Parts.{Part, part_lacks, seen_by, seen_by_both}
-use Rattle.mk_alloc.proofs.{CalmStretches.is_of_cycles, StepKinds.AreApart, StepKinds.IsHolders, Stretches.SomeKinds}
+use Rattle.mk_alloc.proofs.{StepKinds.AreApart, Stretches.SomeKinds}
 use Rattle.mk_alloc.specs.Rooms.{GrantsLast}
-
--- kinds
-
-pub grants_held : IsHolders is_grant
-grants_held Step.Grant h = cc
-grants_held _ h = refl
-
-pub lets_go_held : IsHolders lets_go
-lets_go_held Step.Begin h = refl
-lets_go_held _ h = cc
-
-pub looks_no_grant : AreApart is_look is_grant
-looks_no_grant Step.Grant h = cc
-looks_no_grant _ h = refl
-
-pub cycles_no_grant : AreApart is_of_cycles is_grant
-cycles_no_grant Step.Grant h = cc
-cycles_no_grant _ h = refl
-
-pub places_let_none_go : AreApart is_placing lets_go
-places_let_none_go Step.Begin h = cc
-places_let_none_go _ h = cc
 
 -- lists
 
@@ -78,7 +56,8 @@ last_before xs ys last none calm g =
 pub grants_none : {kinds : SomeKinds} {p q : PassState} → Part kinds p q → AreApart kinds is_grant → GrantsNone p q
 grants_none {p = p} x apart all is =
     ap (λ (l : List Event). has_step is_grant l)
-    (append_cancel_left p.seen all x.does.more (sym is ∙ seen_by x.does)) ∙ part_lacks is_grant x grants_held apart
+    (append_cancel_left p.seen all x.does.more (sym is ∙ seen_by x.does))
+    ∙ part_lacks is_grant x (λ x h. grind arith) apart
 
 pub none_last : (p q : PassState) → GrantsNone p q → GrantsLast p q
 none_last p q none more is g = absurd (lacks_at is_grant more g.before g.event g.behind (none more is) g.is g.of_kind)
@@ -87,7 +66,8 @@ pub calm_last : {kinds : SomeKinds} {p q : PassState} → Part kinds p q → Are
 calm_last {p = p} x apart all is =
     last_of_calm all
     (ap (λ (l : List Event). has_step lets_go l)
-    (append_cancel_left p.seen all x.does.more (sym is ∙ seen_by x.does)) ∙ part_lacks lets_go x lets_go_held apart)
+    (append_cancel_left p.seen all x.does.more (sym is ∙ seen_by x.does))
+    ∙ part_lacks lets_go x (λ x h. grind arith) apart)
 
 module _ {first second : SomeKinds} {p q r : PassState} (one : Does first p q) (two : Does second q r) where
   both_are : (all : List Event) → r.seen ≡ p.seen ++ all → all ≡ one.more ++ two.more

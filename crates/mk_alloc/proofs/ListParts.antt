@@ -1,8 +1,9 @@
 -- Lists in parts: where an event stands, and what they have of a kind.
 use Rattle.mk_laws.proofs.Vocabulary.{Cycle}
 use Rattle.mk_alloc.proofs.Vocabulary.{At, Bool, Event, List, Step, ap, append-nil, append_cancel_left, false, has_step}
-use Rattle.mk_alloc.proofs.Vocabulary.{inl, inr, is_begin, is_close, is_end, is_release, list_any-append, refl, sym}
-use Rattle.mk_alloc.proofs.Vocabulary.{true, true≢false, [], ⊎_elim, ◌++◌, ◌||◌, ◌∙◌, ◌∷◌, ◌≡◌, ◌⊎◌}
+use Rattle.mk_alloc.proofs.Vocabulary.{inl, inr, is_begin, is_close, is_end, is_release, list_any-append, or_from}
+use Rattle.mk_alloc.proofs.Vocabulary.{or_parts, refl, sym, true, true≢false, [], ⊎_elim, ◌++◌, ◌||◌, ◌∙◌, ◌∷◌, ◌≡◌}
+use Rattle.mk_alloc.proofs.Vocabulary.{◌⊎◌}
 use Rattle.mk_cycle.proofs.InParts as parts
 
 -- An event of a list in two parts stands in the first, or in the second.
@@ -35,11 +36,8 @@ pub has_append : (kind : SomeKind) (xs ys : List Event) → has_step kind (xs ++
     ≡ (has_step kind xs || has_step kind ys)
 has_append kind xs ys = list_any-append (λ (e : Event). kind e.step) xs ys
 
-both_false : (a b : Bool) → a ≡ false → b ≡ false → (a || b) ≡ false
-both_false a b one two = ap (λ (x : Bool). x || b) one ∙ two
-
 pub lacks_append : (kind : SomeKind) (xs ys : List Event) → Lacks kind xs → Lacks kind ys → Lacks kind (xs ++ ys)
-lacks_append kind xs ys one two = has_append kind xs ys ∙ both_false (has_step kind xs) (has_step kind ys) one two
+lacks_append kind xs ys one two = has_append kind xs ys ∙ or_from (has_step kind xs) (has_step kind ys) one two
 
 pub lacks_one : (kind : SomeKind) (e : Event) → kind e.step ≡ false → Lacks kind (e ∷ [])
 lacks_one kind e none = ap (λ (b : Bool). b || false) none
@@ -48,22 +46,13 @@ lacks_one kind e none = ap (λ (b : Bool). b || false) none
 pub lacks_in_parts : (kind : SomeKind) (es xs ys more : List Event) → es ++ more ≡ es ++ (xs ++ ys) → Lacks kind xs
     → Lacks kind ys → Lacks kind more
 lacks_in_parts kind es xs ys more same one two =
-    ap (λ (l : List Event). has_step kind l) (append_cancel_left es more (xs ++ ys) same)
-    ∙ lacks_append kind xs ys one two
-
-first_false : (a b : Bool) → (a || b) ≡ false → a ≡ false
-first_false true b h = h
-first_false false b h = refl
-
-second_false : (a b : Bool) → (a || b) ≡ false → b ≡ false
-second_false true b h = absurd (true≢false h)
-second_false false b h = h
+    cc (append_cancel_left es more (xs ++ ys) same, lacks_append kind xs ys one two)
 
 pub lacks_first : (kind : SomeKind) (xs ys : List Event) → Lacks kind (xs ++ ys) → Lacks kind xs
-lacks_first kind xs ys h = first_false (has_step kind xs) (has_step kind ys) (sym (has_append kind xs ys) ∙ h)
+lacks_first kind xs ys h = (or_parts (has_step kind xs) _ (sym (has_append kind xs ys) ∙ h)).0
 
 pub lacks_second : (kind : SomeKind) (xs ys : List Event) → Lacks kind (xs ++ ys) → Lacks kind ys
-lacks_second kind xs ys h = second_false (has_step kind xs) (has_step kind ys) (sym (has_append kind xs ys) ∙ h)
+lacks_second kind xs ys h = (or_parts (has_step kind xs) _ (sym (has_append kind xs ys) ∙ h)).1
 
 -- What lacks a kind has no event of it.
 pub lacks_at : (kind : SomeKind) (es before : List Event) (e : Event) (behind : List Event) → Lacks kind es
@@ -71,7 +60,7 @@ pub lacks_at : (kind : SomeKind) (es before : List Event) (e : Event) (behind : 
 lacks_at kind es before e behind lacks is of_kind =
     let last : Lacks kind (e ∷ behind) =
     lacks_second kind before (e ∷ behind) (ap (λ (l : List Event). has_step kind l) (sym is) ∙ lacks) in
-    true≢false (sym of_kind ∙ first_false (kind e.step) (has_step kind behind) last)
+    true≢false (sym of_kind ∙ (or_parts (kind e.step) _ last).0)
 
 pub none_at : (kind : SomeKind) (es : List Event) → Lacks kind es → At kind es → ⊥
 none_at kind es lacks at = lacks_at kind es at.before at.event at.behind lacks at.is at.of_kind
@@ -105,35 +94,34 @@ pub cycle_in : (es xs a b d ys : List Event) (begin close release end : Event)
     → es ≡ xs ++ begin ∷ (a ++ close ∷ (b ++ release ∷ (d ++ end ∷ ys)))
     → is_begin begin.step ≡ true → is_close close.step ≡ true → is_release release.step ≡ true → is_end end.step ≡ true
     → Lacks is_close a → Lacks is_release b → Lacks is_end d → Cycle es
-cycle_in es xs a b d ys begin close release end is begins closes releases ends no_close no_release no_end =
-    record {
-      releasing = record {
-        marking = record {
-          begin = record {
-            before = xs;
-            event = begin;
-            behind = a ++ close ∷ (b ++ release ∷ (d ++ end ∷ ys));
-            is = is;
-            of_kind = begins;
-          };
-          close = record {
-            at = record {
-              before = a;
-              event = close;
-              behind = b ++ release ∷ (d ++ end ∷ ys);
-              is = refl;
-              of_kind = closes;
-            };
-            none_before = no_close;
-          };
-        };
-        release = record {
-          at = record { before = b; event = release; behind = d ++ end ∷ ys; is = refl; of_kind = releases };
-          none_before = no_release;
-        };
+cycle_in es xs a b d ys begin close release end is begins closes releases ends no_close no_release no_end = record {
+  releasing = record {
+    marking = record {
+      begin = record {
+        before = xs;
+        event = begin;
+        behind = a ++ close ∷ (b ++ release ∷ (d ++ end ∷ ys));
+        is = is;
+        of_kind = begins;
       };
-      end = record {
-        at = record { before = d; event = end; behind = ys; is = refl; of_kind = ends };
-        none_before = no_end;
+      close = record {
+        at = record {
+          before = a;
+          event = close;
+          behind = b ++ release ∷ (d ++ end ∷ ys);
+          is = refl;
+          of_kind = closes;
+        };
+        none_before = no_close;
       };
-    }
+    };
+    release = record {
+      at = record { before = b; event = release; behind = d ++ end ∷ ys; is = refl; of_kind = releases };
+      none_before = no_release;
+    };
+  };
+  end = record {
+    at = record { before = d; event = end; behind = ys; is = refl; of_kind = ends };
+    none_before = no_end;
+  };
+}

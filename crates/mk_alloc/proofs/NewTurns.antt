@@ -4,12 +4,12 @@ use Rattle.mk_alloc.proofs.Vocabulary.{Answer, AnswersFull, At, BeginsTurn, Bool
 use Rattle.mk_alloc.proofs.Vocabulary.{HasNoPlace, Holding, InTurn, IsAnsweredFull, IsHistory, IsQuiet, IsUnplaced}
 use Rattle.mk_alloc.proofs.Vocabulary.{List, Makes, Misfits, Object, Op, PassState, PlacedAllocation, RunsOne}
 use Rattle.mk_alloc.proofs.Vocabulary.{RunsOneCycle, Seeks, Some, Steady, Step, TurnOf, World, ℕ, and_from, ap}
-use Rattle.mk_alloc.proofs.Vocabulary.{append_assoc, append_cancel_left, asks_room, at_rest, call_of, event_of, false}
-use Rattle.mk_alloc.proofs.Vocabulary.{gone_is_unmapped, has_operands, has_place, is_begin, is_grant, is_pending_free}
-use Rattle.mk_alloc.proofs.Vocabulary.{is_run_gone, is_undecided_new, is_want, length, lets_go, lt-ltb, made, nat_lt}
-use Rattle.mk_alloc.proofs.Vocabulary.{now_of, object_for, object_made, off_four, only_seen, only_seen_by, or_left}
-use Rattle.mk_alloc.proofs.Vocabulary.{pass_before, refl, subst, sym, true, turn_stays, unreleased_storage, within_turn}
-use Rattle.mk_alloc.proofs.Vocabulary.{world_of, [], ⊎_elim, ◌&&◌, ◌++◌, ◌<◌, ◌∙◌, ◌∷◌, ◌≡◌}
+use Rattle.mk_alloc.proofs.Vocabulary.{append_assoc, append_cancel_left, arith, asks_room, at_rest, call_of, event_of}
+use Rattle.mk_alloc.proofs.Vocabulary.{false, gone_is_unmapped, has_operands, has_place, is_begin, is_grant}
+use Rattle.mk_alloc.proofs.Vocabulary.{is_pending_free, is_run_gone, is_undecided_new, is_want, length, lets_go, lt-ltb}
+use Rattle.mk_alloc.proofs.Vocabulary.{made, now_of, object_for, object_made, off_four, only_seen, only_seen_by}
+use Rattle.mk_alloc.proofs.Vocabulary.{or_left, pass_before, refl, subst, sym, true, turn_stays, unreleased_storage}
+use Rattle.mk_alloc.proofs.Vocabulary.{within_turn, world_of, [], ⊎_elim, ◌&&◌, ◌++◌, ◌<◌, ◌∙◌, ◌∷◌, ◌≡◌}
 use Rattle.mk_geom.proofs.Bridge.{same_census}
 use Rattle.mk_geom.specs.{PageUses.census_among, Storages.census_of, declared.pages.Census.Census}
 use Rattle.mk_core.specs.Allocations.{census_of_allocations}
@@ -17,40 +17,36 @@ use Rattle.mk_laws.proofs.{InvariantTheorems.pages_show_the_storage, PlacementTh
 use Rattle.mk_alloc.proofs.CalledTurns.{GivenBack, Taken, called, done_is, given_turn, lacks_given, taken_is}
 use Rattle.mk_alloc.proofs.CalledTurns.{taken_turn, turn_of, within_is}
 use Rattle.mk_alloc.proofs.FullLeaves.{leaves_then, made_leaves, taking_leaves}
-use Rattle.mk_alloc.proofs.GrantParts.{grants_held, last_before, lets_go_held}
 use Rattle.mk_alloc.proofs.ListParts.{InFirst, InSecond, SomeKind, lacks_at, stands}
 use Rattle.mk_alloc.proofs.Parts.{history_before, in_turn_then, seen_after, seen_by}
-use Rattle.mk_alloc.proofs.{CycleParts.begins_held, OneCycles.one_before, RoomParts.rooms_held}
+use Rattle.mk_alloc.proofs.{CycleParts.begins_held, GrantParts.last_before, OneCycles.one_before}
 use Rattle.mk_alloc.specs.TurnCycles.{NewIsExact}
 
 -- Directly after its `take` the turn of a New is quiet, and its object has no place yet.
 
 pub begun_quiet : (p : PassState) (d ty : ℕ) (full : Bool) → BeginsTurn (Op.New d ty full) p → IsQuiet p
-begun_quiet p d ty full b =
-    record {
-      free = record {
-        decided = ap (λ (f : Flight). is_pending_free f) b.fresh.call;
-        unplaced = ap (λ (h : Holding). has_place h.placing) b.fresh.holding;
-        gone = ap (λ (h : Holding). is_run_gone (now_of p).words h.freed) b.fresh.holding;
-      };
-      phase = b.phase;
-      gates = b.fresh.gates;
-      exact = b.exact;
-      tidy = b.tidy;
-    }
+begun_quiet p d ty full b = record {
+  free = record {
+    decided = ap (λ (f : Flight). is_pending_free f) b.fresh.call;
+    unplaced = ap (λ (h : Holding). has_place h.placing) b.fresh.holding;
+    gone = ap (λ (h : Holding). is_run_gone (now_of p).words h.freed) b.fresh.holding;
+  };
+  phase = b.phase;
+  gates = b.fresh.gates;
+  exact = b.exact;
+  tidy = b.tidy;
+}
 
 pub begun_unplaced : (p : PassState) (d ty : ℕ) (full : Bool) → BeginsTurn (Op.New d ty full) p → IsUnplaced p
-begun_unplaced p d ty full b =
-    record {
-      new = ap (λ (f : Flight). is_undecided_new f) b.fresh.call;
-      placing = ap (λ (h : Holding). h.placing) b.fresh.holding;
-      phase = b.phase;
-    }
+begun_unplaced p d ty full b = record {
+  new = ap (λ (f : Flight). is_undecided_new f) b.fresh.call;
+  placing = ap (λ (h : Holding). h.placing) b.fresh.holding;
+  phase = b.phase;
+}
 
 pub operands_of : (c : Config) (d ty : ℕ) → d < 8 → ty < length c.types → has_operands c (Op.New d ty false) ≡ true
 operands_of c d ty small typed =
-    and_from (nat_lt 0 8 && nat_lt 0 8 && nat_lt 0 8 && nat_lt d 8 && nat_lt 0 64) (nat_lt ty (length c.types))
-    (ap (λ (b : Bool). true && b && true) (lt-ltb d 8 small)) (lt-ltb ty (length c.types) typed)
+    and_from _ _ (ap (λ (b : Bool). true && b && true) (lt-ltb d 8 small)) (lt-ltb ty _ typed)
 
 -- A New that sought room, and was answered in its turn.
 pub record NewGiven (d ty : ℕ) (a : Answer) (p taken done q : PassState) : Type 0 where
@@ -72,9 +68,7 @@ module _ {d ty : ℕ} {a : Answer} {p taken done q : PassState} (m : NewGiven d 
   o = object_made p.table.config (Op.New d ty false)
 
   same_object : object_for taken ≡ o
-  same_object =
-      ap (λ (f : Flight). object_made taken.table.config f.op) m.begins.fresh.call
-      ∙ ap (λ (x : PassState). object_made x.table.config (Op.New d ty false)) (taken_is m.took)
+  same_object = cc (m.begins.fresh.call, taken_is m.took)
 
   -- at each step that asks for room
   room_at : (kind : SomeKind) → ((x : Step) → kind x ≡ true → asks_room x ≡ true) → (at : At kind turn.behind)
@@ -91,36 +85,34 @@ module _ {d ty : ℕ} {a : Answer} {p taken done q : PassState} (m : NewGiven d 
       ∙ sym (append_assoc taken.seen at.before (at.event ∷ x.behind)))
       (within at.event.step at.of_kind)))))
       (λ (x : InSecond m.seeks.on.does.more m.gives.others at.before at.event at.behind).
-      absurd (lacks_at asks_room m.gives.others x.rest at.event at.behind (lacks_given given asks_room rooms_held) x.is
+      absurd (lacks_at asks_room m.gives.others x.rest at.event at.behind
+      (lacks_given given asks_room (λ x h. grind arith)) x.is
       (within at.event.step at.of_kind)))
       (stands m.seeks.on.does.more m.gives.others at.before at.event at.behind at.is)
 
   one_done : RunsOneCycle m.seeks.on.does.more
   one_done =
-      subst (λ (l : List Event). RunsOneCycle l)
-      (append_cancel_left taken.seen m.runs.more m.seeks.on.does.more (sym m.runs.is
-      ∙ seen_by m.seeks.on.does)) m.runs.one
+      subst (λ (l : List Event). RunsOneCycle l) (append_cancel_left taken.seen m.runs.more m.seeks.on.does.more
+      (sym m.runs.is ∙ seen_by m.seeks.on.does)) m.runs.one
 
   pub exact : NewIsExact turn o
-  exact =
-      record {
-        begins = room_at is_begin (λ x h. or_left (is_begin x) (is_want x) h);
-        ends = room_at is_want (λ x h. or_right (is_begin x) (is_want x) h);
-        one = one_before m.seeks.on.does.more m.gives.others one_done (lacks_given given is_begin begins_held);
-        keeps =
-            last_before m.seeks.on.does.more m.gives.others (m.seeks.last m.seeks.on.does.more
-            (seen_by m.seeks.on.does))
-            (lacks_given given is_grant grants_held) (lacks_given given lets_go lets_go_held);
-      }
+  exact = record {
+    begins = room_at is_begin (λ x h. or_left (is_begin x) (is_want x) h);
+    ends = room_at is_want (λ x h. or_right (is_begin x) (is_want x) h);
+    one = one_before m.seeks.on.does.more m.gives.others one_done (lacks_given given is_begin begins_held);
+    keeps =
+        last_before m.seeks.on.does.more m.gives.others (m.seeks.last m.seeks.on.does.more
+        (seen_by m.seeks.on.does))
+        (lacks_given given is_grant (λ x h. grind arith)) (lacks_given given lets_go (λ x h. grind arith));
+  }
 
   abbrev pub new_called : (flag : Bool) → CalledInTurn flag p (Op.New d ty false) a q
   new_called flag = called given flag exact
 
 -- the counts of the pages, where all is quiet
 pub census_told : {p : PassState} {pages : List Page} {census : Census} → InTurn p → IsQuiet p
-    → pages ≡ (now_of p).words.pages
-    → census ≡ census_among (uses_of_pages pages) → census
-    ≡ census_of_allocations p.table.config (world_of p).allocations
+    → pages ≡ (now_of p).words.pages → census ≡ census_among (uses_of_pages pages)
+    → census ≡ census_of_allocations p.table.config (world_of p).allocations
 census_told {p} t quiet shows is =
     let c : Config = p.table.config in
     let pages : List Page = (now_of p).words.pages in
@@ -150,8 +142,7 @@ module _ {d ty : ℕ} {p taken last done q : PassState} (m : NewGiven d ty Answe
       (history_before turn_stays last done full.seeks.on.does (pass_before m.gives).history)
 
   last_is : last ≡ record p { seen = last.seen }
-  last_is = only_seen taken last misfits.seeks.on.does.more misfits.seeks.on.does.is
-      ∙ ap (λ (x : PassState). record x { seen = last.seen }) (taken_is m.took)
+  last_is = cc (only_seen taken last misfits.seeks.on.does.more misfits.seeks.on.does.is, taken_is m.took)
 
   q_is : q ≡ record p { seen = q.seen }
   q_is = only_seen_by done q Step.Give m.gives ∙ ap (λ (x : PassState). record x { seen = q.seen }) (done_is (given m))
@@ -183,9 +174,9 @@ module _ {d ty : ℕ} {p taken last done q : PassState} (m : NewGiven d ty Answe
             ∙ ap (λ (xs : List PlacedAllocation). census_of_allocations p.table.config xs)
             (sym (given_allocations (given_turn (given m)) m.gives ∙ full.allocations));
         leaves =
-            leaves_then p taken q (taken_is m.took) (taking_leaves m.took.own m.took.takes)
-            (leaves_then taken last q (only_seen taken last misfits.seeks.on.does.more misfits.seeks.on.does.is)
+            leaves_then (taken_is m.took) (taking_leaves m.took.own m.took.takes)
+            (leaves_then (only_seen taken last misfits.seeks.on.does.more misfits.seeks.on.does.is)
             (misfits.seeks.leaves refl)
-            (leaves_then last done q (only_seen last done full.seeks.on.does.more full.seeks.on.does.is) full.leaves
+            (leaves_then (only_seen last done full.seeks.on.does.more full.seeks.on.does.is) full.leaves
             (made_leaves m.gives refl refl)));
       }

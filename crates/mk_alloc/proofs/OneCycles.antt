@@ -1,14 +1,13 @@
 -- One cycle at most: in lists, and in parts of a turn.
 use Rattle.mk_alloc.proofs.Vocabulary.{At, BeginsCycle, BeginsNone, Does, Event, FinishesCycle, InTurn, IsHistory}
-use Rattle.mk_alloc.proofs.Vocabulary.{IsPlaced, List, PassState, RunsOne, RunsOneCycle, Step, ap, append_assoc, false}
-use Rattle.mk_alloc.proofs.Vocabulary.{has_step, is_begin, is_end, is_look, is_placing, refl, subst, sym, ⊎_elim, ◌++◌}
-use Rattle.mk_alloc.proofs.Vocabulary.{◌∙◌, ◌∷◌, ◌≡◌}
+use Rattle.mk_alloc.proofs.Vocabulary.{IsPlaced, List, PassState, RunsOne, RunsOneCycle, ap, append_assoc, arith, false}
+use Rattle.mk_alloc.proofs.Vocabulary.{has_step, is_begin, is_end, is_look, subst, sym, ⊎_elim, ◌++◌, ◌∙◌, ◌∷◌, ◌≡◌}
 use Rattle.mk_laws.proofs.Longer.{longer_at}
 use Rattle.mk_alloc.proofs.CycleParts.{begin_in, begins_held, finish_in}
 use Rattle.mk_alloc.proofs.ListParts.{InFirst, InSecond, Lacks, lacks_append, lacks_at, none_at, only_at, stands}
 use Rattle.mk_alloc.proofs.Parts.{Part, part_lacks, seen_behind, seen_then}
-use Rattle.mk_alloc.proofs.{DueParts.at_behind, DueParts.end_at, Going.look_part, Going.looks_begin_none}
-use Rattle.mk_alloc.proofs.{GrantParts.first_behind, PlacedTurns.place_part, StepKinds.AreApart, Stretches.SomeKinds}
+use Rattle.mk_alloc.proofs.{DueParts.at_behind, DueParts.end_at, Going.look_part, GrantParts.first_behind}
+use Rattle.mk_alloc.proofs.{PlacedTurns.place_part, StepKinds.AreApart, Stretches.SomeKinds}
 use Rattle.mk_alloc.specs.Rooms.{EndsOnly}
 
 -- lists
@@ -52,42 +51,35 @@ one_run xs e ys none_before none_behind ended b =
 
 -- parts of a turn
 
-placing_no_begin : AreApart is_placing is_begin
-placing_no_begin Step.Begin h = cc
-placing_no_begin _ h = refl
-
 pub begins_none_by : {kinds : SomeKinds} {p q : PassState} → Part kinds p q → AreApart kinds is_begin → BeginsNone p q
-begins_none_by {kinds} {p} {q} x apart =
-    record {
-      more = x.does.more;
-      is = seen_behind kinds p q x.does;
-      none = part_lacks is_begin x begins_held apart;
-    }
+begins_none_by {kinds} {p} {q} x apart = record {
+  more = x.does.more;
+  is = seen_behind kinds p q x.does;
+  none = part_lacks is_begin x begins_held apart;
+}
 
-pub placed_begins_none : (p q : PassState) → InTurn p → IsPlaced p q → IsHistory q.table.config q.seen
-    → BeginsNone p q
-placed_begins_none p q t placed history = begins_none_by (place_part t placed.granted.does history) placing_no_begin
+pub placed_begins_none : (p q : PassState) → InTurn p → IsPlaced p q → IsHistory q.table.config q.seen → BeginsNone p q
+placed_begins_none p q t placed history = begins_none_by (place_part t placed.granted.does history) (λ x h. grind arith)
 
 pub looks_begins_none : {p q : PassState} → InTurn p → Does is_look p q → IsHistory q.table.config q.seen
     → BeginsNone p q
-looks_begins_none t d history = begins_none_by (look_part t d history) looks_begin_none
+looks_begins_none t d history = begins_none_by (look_part t d history) (λ x h. grind arith)
 
 -- one after the other
 
-pub none_then_none : (p q r : PassState) → BeginsNone p q → BeginsNone q r → BeginsNone p r
-none_then_none p q r x y =
-    record {
-      more = x.more ++ y.more;
-      is = seen_then p.seen q.seen r.seen x.more y.more x.is y.is;
-      none = lacks_append is_begin x.more y.more x.none y.none;
-    }
+pub none_then_none : {p q r : PassState} → BeginsNone p q → BeginsNone q r → BeginsNone p r
+none_then_none {p} {q} {r} x y = record {
+  more = x.more ++ y.more;
+  is = seen_then p.seen q.seen r.seen x.more y.more x.is y.is;
+  none = lacks_append is_begin x.more y.more x.none y.none;
+}
 
-pub ends_none : (p q : PassState) → EndsOnly p q → BeginsNone p q
-ends_none p q x = record { more = x.more; is = x.is; none = x.none }
+pub ends_none : {p q : PassState} → EndsOnly p q → BeginsNone p q
+ends_none x = record { more = x.more; is = x.is; none = x.none }
 
-pub finish_then_none : (p q r : PassState) → InTurn p → FinishesCycle p q → IsHistory q.table.config q.seen
+pub finish_then_none : {p q r : PassState} → InTurn p → FinishesCycle p q → IsHistory q.table.config q.seen
     → BeginsNone q r → EndsOnly p r
-finish_then_none p q r t law history y =
+finish_then_none {p} {q} {r} t law history y =
     let f = finish_in p q t.own law t history in
     record {
       more = f.more ++ y.more;
@@ -96,9 +88,9 @@ finish_then_none p q r t law history y =
       ended = longer_at y.more (end_at f.more f.ends);
     }
 
-pub begin_then_ends : (p q r : PassState) → InTurn p → BeginsCycle p q → IsHistory q.table.config q.seen
+pub begin_then_ends : {p q r : PassState} → InTurn p → BeginsCycle p q → IsHistory q.table.config q.seen
     → EndsOnly q r → RunsOne p r
-begin_then_ends p q r t law history y =
+begin_then_ends {p} {q} {r} t law history y =
     let b = begin_in p q t.own law t history in
     record {
       more = b.before ++ b.begin ∷ (b.behind ++ y.more);
@@ -111,18 +103,16 @@ begin_then_ends p q r t law history y =
 pub none_runs_one : (p q : PassState) → BeginsNone p q → RunsOne p q
 none_runs_one p q x = record { more = x.more; is = x.is; one = one_of_none x.more x.none }
 
-pub none_then_one : (p q r : PassState) → BeginsNone p q → RunsOne q r → RunsOne p r
-none_then_one p q r x y =
-    record {
-      more = x.more ++ y.more;
-      is = seen_then p.seen q.seen r.seen x.more y.more x.is y.is;
-      one = one_behind x.more y.more x.none y.one;
-    }
+pub none_then_one : {p q r : PassState} → BeginsNone p q → RunsOne q r → RunsOne p r
+none_then_one {p} {q} {r} x y = record {
+  more = x.more ++ y.more;
+  is = seen_then p.seen q.seen r.seen x.more y.more x.is y.is;
+  one = one_behind x.more y.more x.none y.one;
+}
 
-pub one_then_none : (p q r : PassState) → RunsOne p q → BeginsNone q r → RunsOne p r
-one_then_none p q r x y =
-    record {
-      more = x.more ++ y.more;
-      is = seen_then p.seen q.seen r.seen x.more y.more x.is y.is;
-      one = one_before x.more y.more x.one y.none;
-    }
+pub one_then_none : {p q r : PassState} → RunsOne p q → BeginsNone q r → RunsOne p r
+one_then_none {p} {q} {r} x y = record {
+  more = x.more ++ y.more;
+  is = seen_then p.seen q.seen r.seen x.more y.more x.is y.is;
+  one = one_before x.more y.more x.one y.none;
+}

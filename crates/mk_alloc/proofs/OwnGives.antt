@@ -3,7 +3,7 @@ use Rattle.std.proofs.Math.Bool.{and-false}
 use Rattle.mk_laws.proofs.Vocabulary.{false_from_ne_true, list_any}
 use Rattle.mk_alloc.proofs.Vocabulary.{Answer, Bool, Config, Does, EndsExactly, Event, Finding, Has, List, Makes, Op}
 use Rattle.mk_alloc.proofs.Vocabulary.{PassState, Seat, Stage, Step, TurnsOfAreExact, World, and_from, and_parts, ap}
-use Rattle.mk_alloc.proofs.Vocabulary.{append-nil, are_of, event_of, false, found, if◌then◌else◌, is_same_seat}
+use Rattle.mk_alloc.proofs.Vocabulary.{append-nil, are_of, arith, event_of, false, found, if◌then◌else◌, is_same_seat}
 use Rattle.mk_alloc.proofs.Vocabulary.{list_all, list_any-append, map, not, not-true, not_both, or_from, or_parts}
 use Rattle.mk_alloc.proofs.Vocabulary.{own_steps, refl, same_seat, same_self, stages_made, step_at, subst, sym, true}
 use Rattle.mk_alloc.proofs.Vocabulary.{true≢false, turn_stays, world_behind, world_of, [], ⊎_elim, ◌&&◌, ◌++◌, ◌∙◌, ◌∷◌}
@@ -101,12 +101,8 @@ pub does_give_none : {kinds : Step → Bool} {p q : PassState} → HaveNoGive ki
 does_give_none {kinds} {p} {q} none d =
     kinds_give kinds p.table.config p.seat (world_of p) d.more none d.of_kinds
 
-stays_no_give : HaveNoGive turn_stays
-stays_no_give Step.Give h = cc
-stays_no_give _ h = refl
-
 pub doing_gives : (p q : PassState) (d : Does turn_stays p q) → GivesNone p.seat d.more
-doing_gives p q d = does_give_none stays_no_give d
+doing_gives p q d = does_give_none (λ x h. grind arith) d
 
 -- The own steps of a call with `enter` and `leave` are those of its stages,
 

@@ -4,7 +4,8 @@ use Rattle.mk_alloc.proofs.Vocabulary.{ap, append_assoc, does_nothing, does_step
 use Rattle.mk_alloc.proofs.Vocabulary.{now_of, own_before, pass_before, subst, sym, true, turn_stays, [], ◌++◌, ◌∙◌}
 use Rattle.mk_alloc.proofs.Vocabulary.{◌∷◌, ◌≡◌}
 use Rattle.mk_alloc.proofs.ListParts.{Lacks, SomeKind, lacks_append}
-use Rattle.mk_alloc.proofs.Stretches.{AreOfTurn, SomeKinds, does_stretch, holds_behind, no_kinds, others_stretch}
+use Rattle.mk_alloc.proofs.Stretches.{AreOfTurn, SomeKinds, does_once, does_stretch, holds_behind, no_kinds}
+use Rattle.mk_alloc.proofs.Stretches.{others_stretch}
 use Rattle.mk_alloc.proofs.StepKinds.{AreApart, IsHolders, lacks}
 
 -- what a pass has seen after parts
@@ -40,8 +41,7 @@ made_as kinds p q s own m allowed = does_step kinds p q s m allowed
 pub history_before : (kinds : SomeKinds) (p q : PassState) → Does kinds p q → IsHistory q.table.config q.seen
     → IsHistory p.table.config p.seen
 history_before kinds p q d history =
-    earlier_part_is_history p.table.config p.seen d.more
-    (subst (λ (x : PassState). IsHistory x.table.config x.seen) d.is history)
+    earlier_part_is_history _ _ d.more (subst (λ (x : PassState). IsHistory x.table.config x.seen) d.is history)
 
 pub has_then : (kinds : SomeKinds) (p q : PassState) → Does kinds p q → Has p.seats p.seat → Has q.seats q.seat
 has_then kinds p q d own = subst (λ (x : PassState). Has x.seats x.seat) (sym d.is) own
@@ -49,13 +49,12 @@ has_then kinds p q d own = subst (λ (x : PassState). Has x.seats x.seat) (sym d
 -- and what it knows after
 pub in_turn_then : (kinds : SomeKinds) (p q : PassState) → AreOfTurn kinds → InTurn p → Does kinds p q
     → IsHistory q.table.config q.seen → InTurn q
-in_turn_then kinds p q stays t d history =
-    record {
-      own = has_then kinds p q d t.own;
-      holds = subst (λ (x : PassState). Holds x.table.config (now_of x) x.seat) (sym d.is)
-          (holds_behind p kinds stays t.own p.seen d.more (does_stretch p q kinds d history t.holds));
-      history = history;
-    }
+in_turn_then kinds p q stays t d history = record {
+  own = has_then kinds p q d t.own;
+  holds = subst (λ (x : PassState). Holds x.table.config (now_of x) x.seat) (sym d.is)
+      (holds_behind p kinds stays t.own p.seen d.more (does_stretch p q kinds d history t.holds));
+  history = history;
+}
 
 -- A part of a turn: its holder took only steps of these kinds.
 pub record Part (kinds : SomeKinds) (p q : PassState) : Type 0 where
@@ -72,7 +71,7 @@ behind_part {kinds} {p} {q} x = in_turn_then kinds p q x.stays x.turn x.does x.h
 
 pub behind_step : {p : PassState} {s : Step} {q : PassState} → InTurn p → Makes p s q → turn_stays s ≡ true → InTurn q
 behind_step {p} {s} {q} t m stays =
-    in_turn_then turn_stays p q (λ x h. h) t (does_step turn_stays p q s m stays) m.pass.history
+    in_turn_then turn_stays p q (λ x h. h) t (does_once m stays) m.pass.history
 
 -- before a step of the turn's holder
 pub before_act : {p : PassState} {s : Step} {q : PassState} → Acts p s q → InTurn p
@@ -104,14 +103,13 @@ pub record StepBehind (kinds : SomeKinds) (p r : PassState) (s : Step) (q : Pass
 
 pub step_behind : {kinds : SomeKinds} {p r : PassState} {s : Step} {q : PassState} → Part kinds p r → Makes r s q
     → turn_stays s ≡ true → StepBehind kinds p r s q
-step_behind {kinds} {p} {r} {s} {q} x m stays =
-    record {
-      before = x.does.more ++ m.others;
-      is =
-          seen_then p.seen r.seen q.seen x.does.more _ (seen_behind kinds p r x.does) (seen_made r q s m)
-          ∙ ap (λ (l : List Event). p.seen ++ l) (sym (append_assoc x.does.more m.others (event_of r s ∷ [])));
-      turn = behind_step (behind_part x) m stays;
-      lacks = λ kind holders apart.
-          lacks_append kind x.does.more m.others (part_lacks kind x holders apart)
-          (others_lack kind r q s holders (behind_part x) m m.pass.history);
-    }
+step_behind {kinds} {p} {r} {s} {q} x m stays = record {
+  before = x.does.more ++ m.others;
+  is =
+      seen_then p.seen r.seen q.seen x.does.more _ (seen_behind kinds p r x.does) (seen_made r q s m)
+      ∙ ap (λ (l : List Event). p.seen ++ l) (sym (append_assoc x.does.more m.others (event_of r s ∷ [])));
+  turn = behind_step (behind_part x) m stays;
+  lacks = λ kind holders apart.
+      lacks_append kind x.does.more m.others (part_lacks kind x holders apart)
+      (others_lack kind r q s holders (behind_part x) m m.pass.history);
+}

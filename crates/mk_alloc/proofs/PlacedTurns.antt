@@ -1,32 +1,27 @@
 -- A turn stays quiet where its New's object is granted, and where it only looks.
 use Rattle.mk_alloc.proofs.Vocabulary.{Answer, Config, CountsAreLeft, Does, Event, Flight, Holding, InTurn, IsHistory}
 use Rattle.mk_alloc.proofs.Vocabulary.{IsPlaced, IsQuiet, IsUnplaced, KeepsGates, LeavesTurn, List, None, OnlyLooks}
-use Rattle.mk_alloc.proofs.Vocabulary.{PassState, PlacedAllocation, Placing, Some, Stage, Steady, Step, TurnGoesOn}
-use Rattle.mk_alloc.proofs.Vocabulary.{World, ap, arith, call_of, does_wider, fresh_words_of, full_answers, has_place}
-use Rattle.mk_alloc.proofs.Vocabulary.{holds_turn, in_a_word, is_held, is_look, is_pending_free_at, is_placing}
-use Rattle.mk_alloc.proofs.Vocabulary.{is_undecided_new, known_left, left, looks_left, now_of, releases, same_config}
-use Rattle.mk_alloc.proofs.Vocabulary.{steady_of, subst, sum_by_push, sym, true, turn_stays, unchanged, undecided_new}
-use Rattle.mk_alloc.proofs.Vocabulary.{world_of, [], ◌++◌, ◌+◌, ◌∙◌, ◌∷◌, ◌≡◌}
+use Rattle.mk_alloc.proofs.Vocabulary.{PassState, PlacedAllocation, Placing, Some, Stage, Steady, TurnGoesOn, World, ap}
+use Rattle.mk_alloc.proofs.Vocabulary.{arith, call_of, fresh_words_of, full_answers, has_place, holds_turn, in_a_word}
+use Rattle.mk_alloc.proofs.Vocabulary.{is_held, is_pending_free_at, is_placing, is_undecided_new, known_left, left}
+use Rattle.mk_alloc.proofs.Vocabulary.{looks_left, now_of, releases, same_config, steady_of, subst, sum_by_push, sym}
+use Rattle.mk_alloc.proofs.Vocabulary.{true, unchanged, undecided_new, world_of, [], ◌++◌, ◌+◌, ◌∙◌, ◌∷◌, ◌≡◌}
 use Rattle.mk_laws.proofs.{Basics.none_on_its_way, FreshWords.fresh_pushed}
-use Rattle.mk_alloc.proofs.PlacingStretches.{LeavesBeside, leaves_beside, placing_in_turn}
+use Rattle.mk_alloc.proofs.Parts.{Part, seen_behind}
+use Rattle.mk_alloc.proofs.PlacingStretches.{LeavesBeside, leaves_beside}
 use Rattle.mk_alloc.proofs.QuietTurns.{none_held_kept, quiet_kept, same_phase}
-use Rattle.mk_alloc.proofs.{CalmStretches.of_turn, Going.looks_of, Parts.Part, Parts.seen_behind}
-use Rattle.mk_alloc.proofs.{RetiredTurns.given_is_decided, Stretches.Within, Stretches.does_stretch}
+use Rattle.mk_alloc.proofs.{RetiredTurns.given_is_decided, Stretches.does_stretch, Stretches.widened}
 use Rattle.mk_cycle.specs.TurnKeeps.{IsGone}
 use Rattle.mk_objects.{proofs.JoinedLooks.looks_call, specs.Placing.object_at_place, specs.Unchanged.IsAsLeft}
 
-looks_place : Within is_look is_placing
-looks_place Step.Begin h = cc
-looks_place _ h = cc
-
 pub place_part : {p q : PassState} → InTurn p → Does is_placing p q → IsHistory q.table.config q.seen
     → Part is_placing p q
-place_part t d history = record { turn = t; stays = placing_in_turn; does = d; history = history }
+place_part t d history = record { turn = t; stays = λ x h. grind arith; does = d; history = history }
 
 -- An undecided New has freed no run.
-pub none_freed_yet : (p : PassState) → InTurn p → is_undecided_new (call_of p) ≡ true → (now_of p).seats.holding.freed
+pub none_freed_yet : {p : PassState} → InTurn p → is_undecided_new (call_of p) ≡ true → (now_of p).seats.holding.freed
     ≡ None
-none_freed_yet p t new = grind (arith, known_left, none_on_its_way, holds_turn, undecided_new)
+none_freed_yet t new = grind (arith, known_left, none_on_its_way, holds_turn, undecided_new)
 
 module _ (p q : PassState) (t : InTurn p) (d : Does is_placing p q) (history : IsHistory q.table.config q.seen) where
   beside : LeavesBeside p p.seen q.seen
@@ -51,7 +46,7 @@ module _ (p q : PassState) (t : InTurn p) (d : Does is_placing p q) (history : I
 module _ (p q : PassState) (t : InTurn p) (u : IsUnplaced p) (quiet : IsQuiet p) (looks : OnlyLooks p q)
     (history : IsHistory q.table.config q.seen) where
   d : Does is_placing p q
-  d = does_wider is_look is_placing looks_place p q looks.does
+  d = widened (λ x h. grind arith) looks.does
 
   kept : LeavesTurn unchanged p q
   kept =
@@ -61,22 +56,21 @@ module _ (p q : PassState) (t : InTurn p) (u : IsUnplaced p) (quiet : IsQuiet p)
           pass = looks.same;
           call = looks_call looks;
           done = ap (λ (h : Holding). record { placing = h.placing; freed = h.freed; cycle = h.cycle }) l.holding;
-          gone = λ gone. gone_beside p q t d history (none_freed_yet p t u.new);
+          gone = λ gone. gone_beside p q t d history (none_freed_yet t u.new);
         };
         steady = l.steady;
         counts = counts_beside p q t d history;
       }
 
   pub looked_beside : TurnGoesOn None p q
-  looked_beside =
-      record {
-        does = does_wider is_look turn_stays (of_turn looks_of) p q looks.does;
-        quiet = quiet_kept p q quiet kept (gates_beside p q t d history);
-        entry = looks.calls;
-        op = ap (λ (f : Flight). f.op) (looks_call looks);
-        decided = λ some. cc;
-        undecided = λ none. looks_call looks;
-      }
+  looked_beside = record {
+    does = widened (λ x h. grind arith) looks.does;
+    quiet = quiet_kept quiet kept (gates_beside p q t d history);
+    entry = looks.calls;
+    op = ap (λ (f : Flight). f.op) (looks_call looks);
+    decided = λ some. cc;
+    undecided = λ none. looks_call looks;
+  }
 
 -- where the object is granted
 module _ (p q : PassState) (t : InTurn p) (u : IsUnplaced p) (quiet : IsQuiet p) (placed : IsPlaced p q)
@@ -131,7 +125,7 @@ module _ (p q : PassState) (t : InTurn p) (u : IsUnplaced p) (quiet : IsQuiet p)
           unplaced =
               ap (λ (w : World). has_place w.now.seats.holding.placing) there
               ∙ ap (λ (x : Placing). has_place x) placed.granted.world.placing;
-          gone = gone_beside p q t placed.granted.does history (none_freed_yet p t u.new);
+          gone = gone_beside p q t placed.granted.does history (none_freed_yet t u.new);
         };
         phase = same_phase p q (ap (λ (s : Steady). s.phase) steady) quiet.phase;
         gates = none_held_kept p q placed.granted.same (gates_beside p q t placed.granted.does history) quiet.gates;
@@ -149,12 +143,11 @@ module _ (p q : PassState) (t : InTurn p) (u : IsUnplaced p) (quiet : IsQuiet p)
       }
 
   pub placed_on : TurnGoesOn (Some Answer.Done) p q
-  placed_on =
-      record {
-        does = does_wider is_placing turn_stays placing_in_turn p q placed.granted.does;
-        quiet = quiet_behind;
-        entry = placed.granted.calls;
-        op = op_same;
-        decided = λ some. decided;
-        undecided = λ none. cc;
-      }
+  placed_on = record {
+    does = widened (λ x h. grind arith) placed.granted.does;
+    quiet = quiet_behind;
+    entry = placed.granted.calls;
+    op = op_same;
+    decided = λ some. decided;
+    undecided = λ none. cc;
+  }

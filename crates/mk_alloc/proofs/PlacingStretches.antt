@@ -1,18 +1,15 @@
 -- Stretches of a turn in which no gate is held or opened, no cycle ends, no New is full and no object is freed.
-use Rattle.mk_laws.proofs.Vocabulary.{Marker, Progress, decided, ne_eqb, sees_double, target}
+use Rattle.mk_laws.proofs.Vocabulary.{Marker, Progress, decided, sees_double, target}
 use Rattle.mk_alloc.proofs.Vocabulary.{Answer, Bool, Caller, Config, CountsAreLeft, Event, Flight, Has, Holding, Host}
 use Rattle.mk_alloc.proofs.Vocabulary.{List, Moment, PassState, Seat, Step, World, ℕ, actor_of, answer_decided, ap}
-use Rattle.mk_alloc.proofs.Vocabulary.{arith, calls_more, ends, eq-eqb, event_of, false, flight_of, found, fulls_append}
-use Rattle.mk_alloc.proofs.Vocabulary.{fulls_of, if◌then◌else◌, is_end, is_held, is_placing, left, left_after, progress}
-use Rattle.mk_alloc.proofs.Vocabulary.{refl, still, sum_by_push, true, [], ◌++◌, ◌+◌, ◌==◌, ◌∙◌, ◌∷◌, ◌≡◌, ◌≢◌}
+use Rattle.mk_alloc.proofs.Vocabulary.{arith, ends, event_of, false, flight_of, found, if◌then◌else◌, is_end, is_held}
+use Rattle.mk_alloc.proofs.Vocabulary.{is_placing, left, left_after, progress, refl, still, true, [], ◌++◌, ◌+◌, ◌∙◌}
+use Rattle.mk_alloc.proofs.Vocabulary.{◌∷◌, ◌≡◌, ◌≢◌}
 use Rattle.mk_core.specs.Effects.{holding_behind}
-use Rattle.mk_laws.proofs.OthersCounts.{answers_full, counts_nothing, entry_fulls}
-use Rattle.mk_laws.proofs.Basics.{Behind, tally_keeps}
-use Rattle.mk_alloc.proofs.Stretches.{AreOfTurn, Here, Stretch, along, holds_none}
-
-pub placing_in_turn : AreOfTurn is_placing
-placing_in_turn Step.Begin h = cc
-placing_in_turn _ h = cc
+use Rattle.mk_laws.proofs.{Basics.Behind, Basics.tally_keeps, OthersCounts.answers_full, OthersCounts.counts_nothing}
+use Rattle.mk_alloc.proofs.Stretches.{Here, Stretch, along, holds_none}
+use Rattle.mk_cycle.proofs.KeptInParts.{held_so}
+use Rattle.mk_objects.proofs.Counted.{counts_more}
 
 placing_gates : (c : Config) (m : Moment) (seat : Seat) (x : Step) → is_placing x ≡ true
     → (Behind c m seat x).words.gates ≡ m.words.gates
@@ -20,14 +17,12 @@ placing_gates c m seat (Step.Tally n v) h = (tally_keeps m.words n v).gates
 placing_gates c m seat _ h = cc
 
 placing_frees_none : (c : Config) (m : Moment) (seat : Seat) (f : Flight) (n : ℕ) (x : Step) (h : Holding)
-    → is_placing x ≡ true
-    → (holding_behind c m seat f n x h).freed ≡ h.freed
+    → is_placing x ≡ true → (holding_behind c m seat f n x h).freed ≡ h.freed
 placing_frees_none c m seat f n Step.Begin h kind = cc
 placing_frees_none c m seat f n _ h kind = cc
 
 placing_ends_none : (x : Step) → is_placing x ≡ true → is_end x ≡ false
-placing_ends_none Step.End h = cc
-placing_ends_none _ h = refl
+placing_ends_none x h = grind arith
 
 either_answer : (b : Bool) (x y : Progress) → answers_full x.answer ≡ false → answers_full y.answer ≡ false
     → answers_full (if b then x else y).answer ≡ false
@@ -47,11 +42,6 @@ placing_decides c m (Caller k) x h =
 placing_decides c m (Marker k) x h = refl
 placing_decides c m Host x h = refl
 
--- an event that ends no cycle and answers no Full
-counts_on : (c : Config) (es : List Event) (e : Event) → is_end e.step ≡ false
-    → answers_full (answer_decided c (left c es).now e) ≡ false → CountsAreLeft c es (es ++ e ∷ [])
-counts_on c es e no_end no_full = grind (arith, sum_by_push, fulls_of, entry_fulls, calls_more, fulls_append)
-
 -- Gates are held as before, the counts are as before, and so is the run that the call has freed.
 pub record LeavesBeside (p : PassState) (es fs : List Event) : Type 0 where
   pub gates : (j : ℕ) → is_held (left p.table.config fs).now.words j ≡ is_held (left p.table.config es).now.words j
@@ -65,10 +55,7 @@ beside_then p es fs gs a b = grind arith
 own_beside : (p : PassState) (es : List Event) (x : Step) → Here p es (event_of p x) → is_placing x ≡ true
     → LeavesBeside p es (es ++ event_of p x ∷ [])
 own_beside p es x h kind =
-    grind (arith, placing_gates, counts_on, placing_ends_none, placing_decides, placing_frees_none)
-
-held_so : (a b : ℕ) → (a ≡ 2 → b ≡ 2) → (a ≢ 2 → b ≢ 2) → (b == 2) ≡ (a == 2)
-held_so a b held free = grind (arith, eq-eqb, ne_eqb)
+    grind (arith, placing_gates, counts_more, placing_ends_none, placing_decides, placing_frees_none)
 
 other_beside : (p : PassState) (es : List Event) (e : Event) → Here p es e → e.seat ≢ p.seat
     → LeavesBeside p es (es ++ e ∷ [])
@@ -82,16 +69,14 @@ other_beside p es e h ne =
     record {
       gates = λ j.
           ap (λ (w : World). is_held w.now.words j) h.behind ∙ held_so _ _ (t.held_gates j) (t.other_gates j);
-      counts = counts_on c es e none.0 none.1;
-      freed =
-          ap (λ (w : World). w.now.seats.holding.freed) h.behind
-          ∙ ap (λ (x : Holding). x.freed) (l.own.holding h.holds).1;
+      counts = counts_more c es e none.0 none.1;
+      freed = cc (h.behind, (l.own.holding h.holds).1);
     }
 
 pub leaves_beside : (p : PassState) (es more : List Event) → Has p.seats p.seat → Stretch p is_placing es more
     → LeavesBeside p es (es ++ more)
 leaves_beside p es more own s =
-    along p is_placing placing_in_turn own (λ (l : List Event). LeavesBeside p es l)
+    along p is_placing (λ x h. grind arith) own (λ (l : List Event). LeavesBeside p es l)
     (λ fs x h kind so_far. beside_then p es fs (fs ++ event_of p x ∷ []) so_far (own_beside p fs x h kind))
     (λ fs e h ne so_far. beside_then p es fs (fs ++ e ∷ []) so_far (other_beside p fs e h ne))
     es more s (record { gates = λ j. refl; counts = record { ends = refl; fulls = refl }; freed = refl })

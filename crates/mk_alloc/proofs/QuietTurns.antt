@@ -3,30 +3,29 @@ use Rattle.mk_laws.proofs.Vocabulary.{IsSettled, Word, all_below-at, held_by_pag
 use Rattle.mk_alloc.proofs.Vocabulary.{Acts, BeginsCycle, Config, Done, FinishesCycle, InTurn, IsEnabledTo, IsHistory}
 use Rattle.mk_alloc.proofs.Vocabulary.{IsOutOfStop, IsQuiet, KeepsGates, LeavesTurn, List, Looks, Moment, PassState}
 use Rattle.mk_alloc.proofs.Vocabulary.{PlacedAllocation, Stage, Steady, Step, TalliesAreTidy, ℕ, and_from, ap, call_of}
-use Rattle.mk_alloc.proofs.Vocabulary.{calm_keeps, does_step, ends, eq-eqb, free_then, fresh_words_of, full_answers}
-use Rattle.mk_alloc.proofs.Vocabulary.{gates_behind, gone_is_unmapped, has_place, held_by_allocations, in_a_word, inl}
-use Rattle.mk_alloc.proofs.Vocabulary.{inr, is_held, is_look, is_pending_free, is_run_gone, none_is_held, not, now_of}
-use Rattle.mk_alloc.proofs.Vocabulary.{off_four, or_left, phase_of, refl, releases, same_config, steady_of, subst, sym}
-use Rattle.mk_alloc.proofs.Vocabulary.{true, unchanged, world_of, ◌&&◌, ◌==◌, ◌||◌, ◌∙◌, ◌≡◌, ◌⊎◌}
+use Rattle.mk_alloc.proofs.Vocabulary.{calm_keeps, ends, eq-eqb, free_then, fresh_words_of, full_answers, gates_behind}
+use Rattle.mk_alloc.proofs.Vocabulary.{gone_is_unmapped, has_place, held_by_allocations, in_a_word, inl, inr, is_held}
+use Rattle.mk_alloc.proofs.Vocabulary.{is_pending_free, is_run_gone, none_is_held, not, now_of, off_four, or_left}
+use Rattle.mk_alloc.proofs.Vocabulary.{phase_of, refl, releases, same_config, steady_of, subst, sym, true, unchanged}
+use Rattle.mk_alloc.proofs.Vocabulary.{world_of, ◌&&◌, ◌==◌, ◌||◌, ◌∙◌, ◌≡◌, ◌⊎◌}
 use Rattle.mk_core.specs.Counts.{TalliesAreExact}
+use Rattle.mk_alloc.proofs.Stretches.{does_once}
 use Rattle.mk_cycle.proofs.{Allowed.look_allowed, Allowed.protocol, BeginSteps.all_from, MayAct.may_act}
 use Rattle.mk_cycle.specs.EngineLaw.{IsFreeForCycle}
 use Rattle.mk_words.proofs.Tallies.{settled_tallies}
 
 -- the look at the phase
 
-pub phase_allowed : (p : PassState) → InTurn p → IsFreeForCycle p → IsEnabledTo p (Step.Look Word.Phase)
-phase_allowed p t free = look_allowed p t free Word.Phase refl refl
+pub phase_allowed : {p : PassState} → InTurn p → IsFreeForCycle p → IsEnabledTo p (Step.Look Word.Phase)
+phase_allowed {p} t free = look_allowed p t free Word.Phase refl refl
 
 pub looked : (p q : PassState) → InTurn p → IsFreeForCycle p → IsHistory q.table.config q.seen
-    → Acts p (Step.Look Word.Phase) q
-    → Looks p q
-looked p q t free history a =
-    record {
-      does = does_step is_look p q (Step.Look Word.Phase) a.makes refl;
-      keeps = calm_keeps p (Step.Look Word.Phase) q a t history refl free unchanged refl;
-      gates = gates_behind p (Step.Look Word.Phase) q a refl;
-    }
+    → Acts p (Step.Look Word.Phase) q → Looks p q
+looked p q t free history a = record {
+  does = does_once a.makes refl;
+  keeps = calm_keeps p (Step.Look Word.Phase) q a t history refl free unchanged refl;
+  gates = gates_behind p (Step.Look Word.Phase) q a refl;
+}
 
 -- What is exact and tidy stays so where all that only the holder changes is kept, but for the tally of the Fulls.
 
@@ -81,52 +80,48 @@ same_phase p q e (inr one) = inr (e ∙ one)
 
 -- So a turn stays quiet
 
-pub quiet_kept : (p q : PassState) → IsQuiet p → LeavesTurn unchanged p q → KeepsGates p q → IsQuiet q
-quiet_kept p q quiet k gates =
-    record {
-      free = free_then p q k.call quiet.free;
-      phase = same_phase p q (ap (λ (s : Steady). s.phase) k.steady) quiet.phase;
-      gates = none_held_kept p q k.call.pass gates quiet.gates;
-      exact = exact_kept p q k.call.pass (ap but_full k.steady) quiet.exact;
-      tidy = tidy_kept p q (ap but_full k.steady) k.counts.ends
-          (ap (λ (s : Steady). s.full) k.steady ∙ quiet.tidy.full ∙ ap in_a_word (sym k.counts.fulls)
-          ∙ ap (λ (c : Config). in_a_word (full_answers c q.seen)) (sym (same_config p q k.call.pass)))
-          quiet.tidy;
-    }
+pub quiet_kept : {p q : PassState} → IsQuiet p → LeavesTurn unchanged p q → KeepsGates p q → IsQuiet q
+quiet_kept {p} {q} quiet k gates = record {
+  free = free_then p q k.call quiet.free;
+  phase = same_phase p q (ap (λ (s : Steady). s.phase) k.steady) quiet.phase;
+  gates = none_held_kept p q k.call.pass gates quiet.gates;
+  exact = exact_kept p q k.call.pass (ap but_full k.steady) quiet.exact;
+  tidy = tidy_kept p q (ap but_full k.steady) k.counts.ends
+      (ap (λ (s : Steady). s.full) k.steady ∙ quiet.tidy.full ∙ ap in_a_word (sym k.counts.fulls)
+      ∙ ap (λ (c : Config). in_a_word (full_answers c q.seen)) (sym (same_config p q k.call.pass)))
+      quiet.tidy;
+}
 
 -- where it looks, begins a cycle, or finishes one.
 
-pub quiet_looked : (p q : PassState) → IsQuiet p → Looks p q → IsQuiet q
-quiet_looked p q quiet k = quiet_kept p q quiet k.keeps k.gates
+pub quiet_looked : {p q : PassState} → IsQuiet p → Looks p q → IsQuiet q
+quiet_looked quiet k = quiet_kept quiet k.keeps k.gates
 
-pub quiet_begun : (p q : PassState) → IsQuiet p → BeginsCycle p q → IsQuiet q
-quiet_begun p q quiet b =
-    record {
-      free = record {
-        decided = ap is_pending_free b.call ∙ quiet.free.decided;
-        unplaced = ap (λ (x : Done). has_place x.placing) b.done ∙ quiet.free.unplaced;
-        gone = b.gone;
-      };
-      phase = inr (ap (λ (s : Steady). s.phase) b.steady);
-      gates = none_held_kept p q b.pass b.gates quiet.gates;
-      exact = b.exact quiet.exact;
-      tidy = b.tidy quiet.tidy;
-    }
+pub quiet_begun : {p q : PassState} → IsQuiet p → BeginsCycle p q → IsQuiet q
+quiet_begun {p} {q} quiet b = record {
+  free = record {
+    decided = ap is_pending_free b.call ∙ quiet.free.decided;
+    unplaced = ap (λ (x : Done). has_place x.placing) b.done ∙ quiet.free.unplaced;
+    gone = b.gone;
+  };
+  phase = inr (ap (λ (s : Steady). s.phase) b.steady);
+  gates = none_held_kept p q b.pass b.gates quiet.gates;
+  exact = b.exact quiet.exact;
+  tidy = b.tidy quiet.tidy;
+}
 
-pub quiet_finished : (p q : PassState) → IsQuiet p → FinishesCycle p q → IsQuiet q
-quiet_finished p q quiet f =
-    record {
-      free = record {
-        decided = ap is_pending_free f.call ∙ quiet.free.decided;
-        unplaced = ap (λ (x : Done). has_place x.placing) f.done ∙ quiet.free.unplaced;
-        gone = f.gone;
-      };
-      phase = inl f.phase;
-      gates = subst (λ (c : Config). none_is_held c.callers (now_of q).words ≡ true)
-          (sym (same_config p q f.pass)) f.gates;
-      exact = f.exact quiet.exact;
-      tidy = f.tidy quiet.tidy;
-    }
+pub quiet_finished : {p q : PassState} → IsQuiet p → FinishesCycle p q → IsQuiet q
+quiet_finished {p} {q} quiet f = record {
+  free = record {
+    decided = ap is_pending_free f.call ∙ quiet.free.decided;
+    unplaced = ap (λ (x : Done). has_place x.placing) f.done ∙ quiet.free.unplaced;
+    gone = f.gone;
+  };
+  phase = inl f.phase;
+  gates = cc (same_config p q f.pass, f.gates);
+  exact = f.exact quiet.exact;
+  tidy = f.tidy quiet.tidy;
+}
 
 -- It may be given back, once its call is decided.
 
@@ -144,13 +139,9 @@ give_allowed p t quiet decided =
     } in
     let told = settled_tallies p.table.config p.seen t.history settled quiet.exact in
     may_act p Step.Give (protocol p t quiet.free) t.holds quiet.free.decided refl refl quiet.gates
-    (give_phase (phase_of m.words) quiet.phase)
-    (and_from (is_decided (call_of p).stage && is_run_gone m.words m.seats.holding.freed &&
-    (m.words.held == held_by_pages m.words))
-    (m.words.fresh == m.fresh_words)
+    (give_phase _ quiet.phase) (and_from (is_decided (call_of p).stage && is_run_gone m.words m.seats.holding.freed &&
+    (m.words.held == held_by_pages m.words)) (m.words.fresh == m.fresh_words)
     (and_from (is_decided (call_of p).stage && is_run_gone m.words m.seats.holding.freed)
     (m.words.held == held_by_pages m.words)
-    (and_from (is_decided (call_of p).stage) (is_run_gone m.words m.seats.holding.freed)
-    (ap (λ (s : Stage). is_decided s) decided) quiet.free.gone)
-    (eq-eqb m.words.held (held_by_pages m.words) told.0))
-    (eq-eqb m.words.fresh m.fresh_words told.1))
+    (and_from (is_decided (call_of p).stage) _ (ap (λ (s : Stage). is_decided s) decided) quiet.free.gone)
+    (eq-eqb m.words.held _ told.0)) (eq-eqb m.words.fresh m.fresh_words told.1))

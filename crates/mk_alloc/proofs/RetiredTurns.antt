@@ -2,22 +2,18 @@
 use Rattle.mk_alloc.proofs.Vocabulary.{Answer, Bool, Config, DecidesFree, Event, FreeIsExact, FreesFirst, Holding}
 use Rattle.mk_alloc.proofs.Vocabulary.{InTurn, IsDue, IsDueIn, IsDueSince, IsFresh, IsHistory, IsOutOfStop, List, Op}
 use Rattle.mk_alloc.proofs.Vocabulary.{PassState, Placing, RunsIfDue, Some, Stage, Step, TalliesAreTidy, TurnGoesOn}
-use Rattle.mk_alloc.proofs.Vocabulary.{TurnOf, ℕ, ap, append_assoc, append_cancel_left, call_of, cases_Bool, does_wider}
-use Rattle.mk_alloc.proofs.Vocabulary.{false, finishes, has_place, inl, inr, is_begin, is_end, is_freeing, is_of_cycle}
-use Rattle.mk_alloc.proofs.Vocabulary.{is_pending_free_at, none_is_held, now_of, phase_of, refl, same_config, subst}
-use Rattle.mk_alloc.proofs.Vocabulary.{sym, true, turn_stays, within_turn, ⊎_elim, ◌++◌, ◌∙◌, ◌∷◌, ◌≡◌}
+use Rattle.mk_alloc.proofs.Vocabulary.{TurnOf, ℕ, ap, append_assoc, append_cancel_left, arith, call_of, cases_Bool}
+use Rattle.mk_alloc.proofs.Vocabulary.{does_wider, false, finishes, has_place, inl, inr, is_begin, is_end, is_freeing}
+use Rattle.mk_alloc.proofs.Vocabulary.{is_of_cycle, is_pending_free_at, none_is_held, now_of, phase_of, refl}
+use Rattle.mk_alloc.proofs.Vocabulary.{same_config, subst, sym, true, turn_stays, within_turn, ⊎_elim, ◌++◌, ◌∙◌, ◌∷◌}
+use Rattle.mk_alloc.proofs.Vocabulary.{◌≡◌}
 use Rattle.mk_alloc.proofs.CalledTurns.{GivenBack, lacks_given, phase_taken, taken_is, turn_of, within_is}
 use Rattle.mk_alloc.proofs.DueParts.{RunIn, at_behind, ends_before, run_in, run_list}
-use Rattle.mk_alloc.proofs.FreeTurns.{cycles_held, due_exact, freeing_no_cycle, is_quar, not_due_without, quars_held}
-use Rattle.mk_alloc.proofs.FreeTurns.{undue_exact}
+use Rattle.mk_alloc.proofs.FreeTurns.{due_exact, is_quar, not_due_without, undue_exact}
+use Rattle.mk_alloc.proofs.Going.{IsCallers, then_on}
 use Rattle.mk_alloc.proofs.ListParts.{InFirst, InSecond, Lacks, lacks_append, lacks_first, stands}
-use Rattle.mk_alloc.proofs.{CycleParts.begins_held, CycleParts.finishes_held, Going.IsCallers, Going.then_on}
-use Rattle.mk_alloc.proofs.{Parts.Part, Parts.part_lacks, Parts.seen_by, Parts.seen_then, QuietTurns.same_phase}
-use Rattle.mk_alloc.proofs.{StepKinds.AreApart, Stretches.AreOfTurn, Stretches.SomeKinds, Stretches.Within}
-
-pub freeing_in_turn : AreOfTurn is_freeing
-freeing_in_turn Step.Begin h = refl
-freeing_in_turn _ h = cc
+use Rattle.mk_alloc.proofs.Parts.{Part, part_lacks, seen_by, seen_then}
+use Rattle.mk_alloc.proofs.{CycleParts.begins_held, QuietTurns.same_phase, Stretches.SomeKinds, Stretches.Within}
 
 pub given_is_decided : (o : Op) → is_pending_free_at o Stage.Give ≡ false
 given_is_decided (Op.Free p) = refl
@@ -30,7 +26,7 @@ module _ (taken : PassState) (r : ℕ) (fresh : IsFresh taken (Some (Op.Free r))
       → Within kinds is_freeing → DecidesFree kinds a taken q → TurnGoesOn (Some a) taken q
   decided_on kinds a q within d =
       record {
-        does = does_wider kinds turn_stays (λ x h. freeing_in_turn x (within x h)) taken q d.does;
+        does = does_wider kinds turn_stays (λ x h. let k = within x h in grind arith) taken q d.does;
         quiet = record {
           free = record {
             decided = ap (λ (s : Stage). is_pending_free_at (call_of q).op s) d.decided
@@ -60,10 +56,6 @@ run_or_rest {flag} {due} {a} {taken} {p} {q} x t seat run history = elim (cases_
   | inr rests ↦ subst (λ (y : PassState). TurnGoesOn (Some a) taken y) (sym (run.rests rests)) x
 ]
 
-freeing_no_begin : AreApart is_freeing is_begin
-freeing_no_begin Step.Begin h = cc
-freeing_no_begin _ h = refl
-
 module _ {p taken decided done q : PassState} {r : ℕ} {a : Answer} (g : GivenBack (Op.Free r) a p taken done q)
     {kinds : SomeKinds} (within : Within kinds is_freeing) (x : Part kinds taken decided) where
   abbrev c : Config
@@ -92,7 +84,7 @@ module _ {p taken decided done q : PassState} {r : ℕ} {a : Answer} (g : GivenB
       (sym (seen_by x.does) ∙ due.is ∙ append_assoc taken.seen due.before (due.event ∷ due.behind))
 
   lacks_cycle : Lacks is_of_cycle x.does.more
-  lacks_cycle = part_lacks is_of_cycle x cycles_held (λ y h. freeing_no_cycle y (within y h))
+  lacks_cycle = part_lacks is_of_cycle x (λ x h. grind arith) (λ y h. let k = within y h in grind arith)
 
   -- It is due in the turn where it is since its `take`.
 
@@ -139,7 +131,7 @@ module _ {p taken decided done q : PassState} {r : ℕ} {a : Answer} (g : GivenB
       })
       (λ (y : InSecond x.does.more g.gives.others due.before due.event due.behind).
       absurd (not_due_without c (within_turn turn due.before) g.gives.others y.rest due.event due.behind
-      (lacks_given g is_quar quars_held) y.is due.due))
+      (lacks_given g is_quar (λ x h. grind arith)) y.is due.due))
       (stands x.does.more g.gives.others due.before due.event due.behind (sym (rest_is same) ∙ due.is))
 
   -- A Free that isn't due
@@ -147,7 +139,8 @@ module _ {p taken decided done q : PassState} {r : ℕ} {a : Answer} (g : GivenB
   rests_exactly flag same not_due =
       undue_exact flag c p.seat (done.seen ++ g.gives.others) turn
       (subst (λ (l : List Event). Lacks is_of_cycle l) (sym (rest_is same))
-      (lacks_append is_of_cycle x.does.more g.gives.others lacks_cycle (lacks_given g is_of_cycle cycles_held)))
+      (lacks_append is_of_cycle x.does.more g.gives.others lacks_cycle
+      (lacks_given g is_of_cycle (λ x h. grind arith))))
       (λ due. not_due (due_since same due))
 
   -- and one that is
@@ -160,10 +153,10 @@ module _ {p taken decided done q : PassState} {r : ℕ} {a : Answer} (g : GivenB
       ∙ run_list x.does.more run.first run.second g.gives.others run.begin)
       run.begins
       (lacks_append is_begin x.does.more run.first
-      (part_lacks is_begin x begins_held (λ y h. freeing_no_begin y (within y h))) run.none_first)
+      (part_lacks is_begin x begins_held (λ y h. let k = within y h in grind arith)) run.none_first)
       (lacks_append is_begin run.second g.gives.others run.none_second (lacks_given g is_begin begins_held))
       (λ off. ends_before run.second g.gives.others (run.stopped off))
       (λ keeps. lacks_append finishes run.second g.gives.others (run.goes_on keeps)
-      (lacks_given g finishes finishes_held))
+      (lacks_given g finishes (λ x h. grind arith)))
       (λ one. at_behind is_end x.does.more run.first (run.older (phase ∙ sym (phase_taken g) ∙ one)))
       (frees_first (run.first ++ run.begin ∷ run.second) run.is due)

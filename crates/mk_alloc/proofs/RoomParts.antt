@@ -1,22 +1,15 @@
 -- Where a New asks for room: its cycle's begin and its end come while its object has no place.
 use Rattle.std.proofs.Common.{IsSome}
 use Rattle.mk_alloc.proofs.Vocabulary.{AsksRoom, BeginsCycle, Config, Does, Event, FinishesCycle, HasNoPlace, InTurn}
-use Rattle.mk_alloc.proofs.Vocabulary.{IsHistory, List, None, Object, Option, PassState, Place, Some, Step, Storage, ap}
-use Rattle.mk_alloc.proofs.Vocabulary.{append-nil, append_assoc, append_cancel_left, asks_room, begins_marking, call_of}
-use Rattle.mk_alloc.proofs.Vocabulary.{clears, does_step, does_then, does_wider, false, is_begin, is_look}
-use Rattle.mk_alloc.proofs.Vocabulary.{is_pending_free, is_placing, is_want, or_from, place_after, refl, subst, sym, []}
-use Rattle.mk_alloc.proofs.Vocabulary.{⊎_elim, ◌++◌, ◌∙◌, ◌∷◌, ◌≡◌}
+use Rattle.mk_alloc.proofs.Vocabulary.{IsHistory, List, None, Object, Option, PassState, Place, Some, Storage, ap}
+use Rattle.mk_alloc.proofs.Vocabulary.{append-nil, append_assoc, append_cancel_left, arith, asks_room, call_of, false}
+use Rattle.mk_alloc.proofs.Vocabulary.{is_pending_free, place_after, refl, subst, sym, [], ⊎_elim, ◌++◌, ◌∙◌, ◌∷◌, ◌≡◌}
 use Rattle.mk_geom.specs.Storages.{Fits}
-use Rattle.mk_alloc.proofs.CalmStretches.{of_cycles, of_turn, releases_none, stays_reserved}
-use Rattle.mk_alloc.proofs.CycleParts.{begins_held, closing, ends_marking, gives_room, gives_room_back}
-use Rattle.mk_alloc.proofs.CycleParts.{part_behind_closing, part_closing, wants_held}
+use Rattle.mk_alloc.proofs.CalmStretches.{releases_none, stays_reserved}
+use Rattle.mk_alloc.proofs.CycleParts.{closing, gives_room_back, part_behind_closing, part_closing}
 use Rattle.mk_alloc.proofs.ListParts.{InFirst, InSecond, lacks_at, stands}
-use Rattle.mk_alloc.proofs.Parts.{Part, part_lacks, seen_behind}
-use Rattle.mk_alloc.proofs.Stretches.{SomeKinds, Stretch, Within, does_stretch, first_part}
-use Rattle.mk_alloc.proofs.{Going.IsCallers, StepKinds.AreApart, StepKinds.IsHolders}
-
-pub rooms_held : IsHolders asks_room
-rooms_held x h = or_from (is_begin x) (is_want x) (begins_held x h) (wants_held x h)
+use Rattle.mk_alloc.proofs.Stretches.{SomeKinds, Stretch, does_both, does_once, does_stretch, first_part, widened}
+use Rattle.mk_alloc.proofs.{Going.IsCallers, Parts.Part, Parts.part_lacks, Parts.seen_behind, StepKinds.AreApart}
 
 -- What has no place among some storage
 
@@ -42,7 +35,7 @@ nowhere_then c es o none = fits_none (place_after c es o) none
 pub room_lacks : {kinds : SomeKinds} {p q : PassState} (o : Object) → Part kinds p q → AreApart kinds asks_room
     → AsksRoom o p q
 room_lacks {kinds} {p} {q} o x apart part e behind is asks =
-    absurd (lacks_at asks_room x.does.more part e behind (part_lacks asks_room x rooms_held apart)
+    absurd (lacks_at asks_room x.does.more part e behind (part_lacks asks_room x (λ x h. grind arith) apart)
     (append_cancel_left p.seen x.does.more (part ++ e ∷ behind)
     (sym (seen_behind kinds p q x.does) ∙ is ∙ append_assoc p.seen part (e ∷ behind))) asks)
 
@@ -50,14 +43,12 @@ pub room_then : {first second : SomeKinds} {p q r : PassState} (o : Object) → 
     → AsksRoom o p q → AsksRoom o q r → AsksRoom o p r
 room_then {first} {second} {p} {q} {r} o one two a b part e behind is asks =
     let seen = seen_behind second q r two in
-    ⊎_elim
-    (λ (x : InFirst q.seen (p.seen ++ part) e). a part e x.behind x.is asks)
-    (λ (x : InSecond q.seen two.more (p.seen ++ part) e behind).
-    subst (λ (l : List Event). HasNoPlace p.table.config o l) (sym x.first)
+    ⊎_elim (λ (x : InFirst q.seen (p.seen ++ part) e). a part e x.behind x.is asks)
+    (λ (x : InSecond q.seen two.more (p.seen ++ part) e behind). subst
+    (λ (l : List Event). HasNoPlace p.table.config o l) (sym x.first)
     (subst (λ (c : Config). HasNoPlace c o (q.seen ++ x.rest)) (ap (λ (y : PassState). y.table.config) one.is)
-    (b x.rest e behind
-    (seen ∙ ap (λ (l : List Event). q.seen ++ l) x.is ∙ sym (append_assoc q.seen x.rest (e ∷ behind))) asks)))
-    (stands q.seen two.more (p.seen ++ part) e behind (sym seen ∙ is))
+    (b x.rest e behind (seen ∙ ap (λ (l : List Event). q.seen ++ l) x.is ∙ sym
+    (append_assoc q.seen x.rest (e ∷ behind))) asks))) (stands _ two.more (p.seen ++ part) e behind (sym seen ∙ is))
 
 -- Up to a `release` an object without a place has none.
 module _ {p q : PassState} (o : Object) (seat : IsCallers p) (free : is_pending_free (call_of p) ≡ false)
@@ -83,43 +74,15 @@ module _ {p q : PassState} (o : Object) (seat : IsCallers p) (free : is_pending_
       (none_there x.does.more [] (sym (append-nil x.does.more)))
 
 -- So it is after a `begin`, and up to the `close` of a cycle.
-
-clears_none : Within clears releases_none
-clears_none Step.Begin h = refl
-clears_none _ h = cc
-
-marking_none : Within begins_marking releases_none
-marking_none Step.Begin h = refl
-marking_none _ h = cc
-
-ending_none : Within ends_marking releases_none
-ending_none Step.Begin h = refl
-ending_none _ h = cc
-
-back_asks_none : AreApart gives_room asks_room
-back_asks_none Step.Begin h = cc
-back_asks_none _ h = cc
-
-pub looks_no_room : AreApart is_look asks_room
-looks_no_room Step.Begin h = cc
-looks_no_room _ h = cc
-
-pub places_no_room : AreApart is_placing asks_room
-places_no_room Step.Begin h = cc
-places_no_room _ h = cc
-
 pub part_begun : {p q : PassState} → BeginsCycle p q → InTurn p → IsHistory q.table.config q.seen
     → Part releases_none p q
 part_begun {p} {q} law t history =
     let m = law.makes in
     record {
       turn = t;
-      stays = of_turn of_cycles;
-      does =
-          does_then releases_none p m.cleared q (does_wider clears releases_none clears_none p m.cleared m.before)
-          (does_then releases_none m.cleared m.begun q
-          (does_step releases_none m.cleared m.begun Step.Begin m.begin refl)
-          (does_wider begins_marking releases_none marking_none m.begun q m.behind));
+      stays = λ x h. grind arith;
+      does = does_both (widened (λ x h. grind arith) m.before)
+          (does_both (does_once m.begin refl) (widened (λ x h. grind arith) m.behind));
       history = history;
     }
 
@@ -128,8 +91,7 @@ pub finish_room : {p q : PassState} (o : Object) → IsCallers p → is_pending_
     → AsksRoom o p q
 finish_room {p} {q} o seat free none law t history =
     let x = part_closing law t in
-    let d : Does releases_none p (closing law) =
-    does_wider ends_marking releases_none ending_none p (closing law) x.does in
+    let d : Does releases_none p (closing law) = widened (λ x h. grind arith) x.does in
     room_then o d (gives_room_back law)
-    (room_kept o seat free none (record { turn = t; stays = of_turn of_cycles; does = d; history = x.history }))
-    (room_lacks o (part_behind_closing law t history) back_asks_none)
+    (room_kept o seat free none (record { turn = t; stays = λ x h. grind arith; does = d; history = x.history }))
+    (room_lacks o (part_behind_closing law t history) (λ x h. grind arith))

@@ -2,11 +2,11 @@
 use Rattle.std.proofs.lemmas.List.Folds.{list_all-append}
 use Rattle.mk_alloc.proofs.Vocabulary.{AreOfOthers, Bool, Config, Does, Event, Finding, Flight, Has, Holds, HoldsTurn}
 use Rattle.mk_alloc.proofs.Vocabulary.{IsHistory, IsTurn, List, Makes, Moment, PassState, Seat, Step, World, and_parts}
-use Rattle.mk_alloc.proofs.Vocabulary.{ap, append-nil, append_assoc, are_of, comes_last, earlier_part_is_history}
-use Rattle.mk_alloc.proofs.Vocabulary.{event_of, false, flight_of, found, holds_turn, if◌then◌else◌, inl, inr}
-use Rattle.mk_alloc.proofs.Vocabulary.{is_same_seat, known_left, left, left_after, now_of, op_for, refl, same_seat}
-use Rattle.mk_alloc.proofs.Vocabulary.{same_self, subst, sym, true, true≢false, turn_stays, view_of, world_behind, []}
-use Rattle.mk_alloc.proofs.Vocabulary.{◌++◌, ◌∙◌, ◌∷◌, ◌≡◌, ◌≢◌, ◌⊎◌}
+use Rattle.mk_alloc.proofs.Vocabulary.{ap, append-nil, append_assoc, are_of, comes_last, does_step, does_then}
+use Rattle.mk_alloc.proofs.Vocabulary.{does_wider, earlier_part_is_history, event_of, false, flight_of, found}
+use Rattle.mk_alloc.proofs.Vocabulary.{holds_turn, if◌then◌else◌, inl, inr, is_same_seat, known_left, left, left_after}
+use Rattle.mk_alloc.proofs.Vocabulary.{now_of, op_for, refl, same_seat, same_self, subst, sym, true, true≢false}
+use Rattle.mk_alloc.proofs.Vocabulary.{turn_stays, view_of, world_behind, [], ◌++◌, ◌∙◌, ◌∷◌, ◌≡◌, ◌≢◌, ◌⊎◌}
 use Rattle.mk_core.specs.Growing.{own_from}
 use Rattle.mk_laws.proofs.Basics.{Known, Meets, same_holder}
 use Rattle.mk_turns.proofs.Doing.{none_own, others_are_so, own_in_parts}
@@ -31,6 +31,18 @@ Within narrow wide = (x : Step) → narrow x ≡ true → wide x ≡ true
 -- or those of the holder of a turn that goes on.
 abbrev pub AreOfTurn : SomeKinds → Type 0
 AreOfTurn kinds = Within kinds turn_stays
+
+-- what a pass did by steps of some kinds: of more kinds, in two parts, and by one step
+
+pub widened : {narrow wide : SomeKinds} {p q : PassState} → Within narrow wide → Does narrow p q → Does wide p q
+widened {narrow} {wide} {p} {q} within d = does_wider narrow wide within p q d
+
+pub does_both : {kinds : SomeKinds} {p q r : PassState} → Does kinds p q → Does kinds q r → Does kinds p r
+does_both {kinds} {p} {q} {r} one two = does_then kinds p q r one two
+
+pub does_once : {kinds : SomeKinds} {p : PassState} {s : Step} {q : PassState} → Makes p s q → kinds s ≡ true
+    → Does kinds p q
+does_once {kinds} {p} {s} {q} m allowed = does_step kinds p q s m allowed
 
 -- After the first list, where the pass's seat holds the turn, come these events: its own are of these kinds.
 pub record Stretch (p : PassState) (kinds : SomeKinds) (es more : List Event) : Type 0 where
@@ -69,15 +81,12 @@ pub holds_none : (p : PassState) (es : List Event) (e : Event) → Here p es e �
     → HoldsTurn p.table.config (view_of (left p.table.config es).now) e.seat → ⊥
 holds_none p es e h ne out =
     let m : Moment = (left p.table.config es).now in
-    ne (same_holder p.table.config (view_of m) e.seat p.seat h.known.orderly out
-    (holds_turn p.table.config m p.seat h.known.orderly h.holds))
+    ne (same_holder _ (view_of m) _ _ h.known.orderly out (holds_turn _ m _ h.known.orderly h.holds))
 
-holds_own : (p : PassState) (es : List Event) (x : Step) → Has p.seats p.seat → Here p es (event_of p x) → turn_stays x
-    ≡ true
-    → Holds p.table.config (left p.table.config (es ++ event_of p x ∷ [])).now p.seat
+holds_own : (p : PassState) (es : List Event) (x : Step) → Has p.seats p.seat → Here p es (event_of p x)
+    → turn_stays x ≡ true → Holds p.table.config (left p.table.config (es ++ event_of p x ∷ [])).now p.seat
 holds_own p es x own h stays =
-    let m : Makes (seeing p es) x (seeing p (es ++ event_of p x ∷ [])) =
-    record {
+    let m : Makes (seeing p es) x (seeing p (es ++ event_of p x ∷ [])) = record {
       others = [];
       of_others = others_none p.seats;
       is = ap (λ (l : List Event). seeing p (l ++ event_of p x ∷ [])) (sym (append-nil es));
@@ -116,14 +125,12 @@ first_of p kinds es e rest stays own s = by (is_same_seat p.seat e.seat) refl s.
     on : are_of kinds (own_from p.table.config p.seat (world_behind p.table.config (left p.table.config es) e) rest)
         ≡ true
         → Holds p.table.config (left p.table.config (es ++ e ∷ [])).now p.seat → Stretch p kinds (es ++ e ∷ []) rest
-    on all holds =
-        record {
-          history = whole;
-          holds = holds;
-          own_or_others = s.own_or_others.1;
-          of_kinds = subst (λ (v : World). are_of kinds (own_from p.table.config p.seat v rest) ≡ true)
-              (sym at.behind) all;
-        }
+    on all holds = record {
+      history = whole;
+      holds = holds;
+      own_or_others = s.own_or_others.1;
+      of_kinds = cc (at.behind, all);
+    }
 
     by : (b : Bool) → is_same_seat p.seat e.seat ≡ b
         → are_of kinds (if b then record { event = e; found = found p.table.config (left p.table.config es).now e }
@@ -198,27 +205,24 @@ first_part p kinds es xs ys s =
 -- what a pass did
 pub does_stretch : (p q : PassState) (kinds : SomeKinds) (d : Does kinds p q) → IsHistory q.table.config q.seen
     → Holds p.table.config (now_of p) p.seat → Stretch p kinds p.seen d.more
-does_stretch p q kinds d history holds =
-    record {
-      history = subst (λ (x : PassState). IsHistory x.table.config x.seen) d.is history;
-      holds = holds;
-      own_or_others = d.own_or_others;
-      of_kinds = d.of_kinds;
-    }
+does_stretch p q kinds d history holds = record {
+  history = subst (λ (x : PassState). IsHistory x.table.config x.seen) d.is history;
+  holds = holds;
+  own_or_others = d.own_or_others;
+  of_kinds = d.of_kinds;
+}
 
 abbrev pub no_kinds : SomeKinds
 no_kinds _ = false
 
 -- what others did
 pub others_stretch : (p : PassState) (es others : List Event) → Has p.seats p.seat
-    → IsHistory p.table.config (es ++ others)
-    → Holds p.table.config (left p.table.config es).now p.seat → AreOfOthers p.seats others
-    → Stretch p no_kinds es others
-others_stretch p es others own history holds of_others =
-    record {
-      history = history;
-      holds = holds;
-      own_or_others = others_are_so p.seats p.seat others own of_others;
-      of_kinds = ap (λ (l : List Finding). are_of no_kinds l)
-          (none_own p.table.config p.seats p.seat (left p.table.config es) others own of_others);
-    }
+    → IsHistory p.table.config (es ++ others) → Holds p.table.config (left p.table.config es).now p.seat
+    → AreOfOthers p.seats others → Stretch p no_kinds es others
+others_stretch p es others own history holds of_others = record {
+  history = history;
+  holds = holds;
+  own_or_others = others_are_so p.seats p.seat others own of_others;
+  of_kinds = ap (λ (l : List Finding). are_of no_kinds l)
+      (none_own p.table.config p.seats p.seat (left p.table.config es) others own of_others);
+}

@@ -23,9 +23,7 @@ take_for : (c : Config) (m : Moment) (k : ℕ) (o : Op) → k < c.callers → fl
 take_for c m k o lt rest under operands = grind (arith, meets_enabled, lt-ltb)
 
 pub take_allowed : (p : PassState) (o : Op) → IsIdleCaller p → caller_of_pass p < p.table.config.callers
-    → is_under_turn o
-    ≡ true
-    → has_operands p.table.config o ≡ true → IsEnabledTo p (Step.Take (Some o))
+    → is_under_turn o ≡ true → has_operands p.table.config o ≡ true → IsEnabledTo p (Step.Take (Some o))
 take_allowed p o idle lt under operands = grind (arith, callers, take_for)
 
 at_most_one : (n : ℕ) → n ≤ 1 → (n ≡ 0) ⊎ (n ≡ 1)
@@ -34,9 +32,8 @@ at_most_one (suc zero) le = inr refl
 at_most_one (suc (suc n)) le = absurd (omega arith)
 
 -- Whose only seat is a caller's has seen no `over`.
-pub taken_phase : (p q : PassState) (o : Op) → IsCallers p → caller_of_pass p < p.table.config.callers → p.seats
-    ≡ p.seat ∷ []
-    → Has p.seats p.seat → TakesTurn p (Some o) q → IsFresh q (Some o) → IsHistory q.table.config q.seen
-    → CallersAreBeforeOver q.table.config q.seats q.seen → IsOutOfStop (now_of q)
+pub taken_phase : (p q : PassState) (o : Op) → IsCallers p → caller_of_pass p < p.table.config.callers
+    → p.seats ≡ p.seat ∷ [] → Has p.seats p.seat → TakesTurn p (Some o) q → IsFresh q (Some o)
+    → IsHistory q.table.config q.seen → CallersAreBeforeOver q.table.config q.seats q.seen → IsOutOfStop (now_of q)
 taken_phase p q o seat lt alone own takes fresh history before =
     grind (arith, give_phase, at_most_one, taken_same, end_is_behind_over, only_one)

@@ -1,11 +1,10 @@
 -- Calls sweep nothing, and turns whose engine doesn't.
 use Rattle.mk_alloc.proofs.Vocabulary.{Acts, Answer, Bool, DecidesFree, Does, EndsOlder, IsAtPhase, IsOutOfStop, Looks}
-use Rattle.mk_alloc.proofs.Vocabulary.{Op, PassState, Some, Stage, Step, SweepsNothing, ap, false, is_freeing}
+use Rattle.mk_alloc.proofs.Vocabulary.{Op, PassState, Some, Stage, Step, SweepsNothing, ap, arith, false, is_freeing}
 use Rattle.mk_alloc.proofs.Vocabulary.{is_loading, is_look, not, not-true, now_of, only_seen, refl, step_at, subst}
 use Rattle.mk_alloc.proofs.Vocabulary.{sweeps_then, sym, true, world_of, ⊎_elim, ◌∙◌, ◌≡◌}
 use Rattle.mk_alloc.proofs.{CalledTurns.GivenBack, CalledTurns.taken_is, OwnGives.steps_are}
 use Rattle.mk_alloc.specs.Laws.{CallsSweepNothing, SweepNothingWhereHeld}
-use Rattle.mk_objects.proofs.UnsweptNews.{look_is_no_mark}
 use Rattle.mk_turns.proofs.Sweeping.{does_sweep, kinds_sweep, other_step_sweeps, step_then_sweeps}
 use Rattle.mk_turns.specs.Sweeping.{HaveNoMark, is_mark}
 use Rattle.mk_waiting.proofs.Unswept.{taking_sweeps}
@@ -23,67 +22,55 @@ at_no_mark Stage.Probe = refl
 at_no_mark _ = refl
 
 pub calls_sweep_nothing : CallsSweepNothing
-calls_sweep_nothing p o a q called =
-    record {
-      more = called.more;
-      is = ap (λ (x : PassState). x.seen) called.is;
-      none = kinds_sweep no_mark p.table.config p.seat (world_of p) called.more no_mark_marks
-          (steps_are no_mark at_no_mark p o a called.more refl called.steps);
-    }
+calls_sweep_nothing p o a q called = record {
+  more = called.more;
+  is = ap (λ (x : PassState). x.seen) called.is;
+  none = kinds_sweep no_mark p.table.config p.seat (world_of p) called.more no_mark_marks
+      (steps_are no_mark at_no_mark p o a called.more refl called.steps);
+}
 
 pub sweep_nothing_where_held : SweepNothingWhereHeld
 sweep_nothing_where_held p o q own held = other_step_sweeps p q (Step.Enter o) held.finds.makes refl
 
 -- Parts of a turn.
 
-pub looking_sweeps : (p q : PassState) → Looks p q → SweepsNothing p q
-looking_sweeps p q looks = does_sweep is_look p q look_is_no_mark looks.does
+pub looking_sweeps : {p q : PassState} → Looks p q → SweepsNothing p q
+looking_sweeps {p} {q} looks = does_sweep is_look p q (λ x h. grind arith) looks.does
 
-pub part_then_sweeps : (kinds : Step → Bool) (p q r : PassState) → Does kinds p q → SweepsNothing p q
-    → SweepsNothing q r
-    → SweepsNothing p r
-part_then_sweeps kinds p q r d one two = sweeps_then p q r (only_seen p q d.more d.is) one two
+pub part_then_sweeps : {kinds : Step → Bool} {p q r : PassState} → Does kinds p q → SweepsNothing p q
+    → SweepsNothing q r → SweepsNothing p r
+part_then_sweeps {p = p} {q = q} {r = r} d one two = sweeps_then p q r (only_seen p q d.more d.is) one two
 
-pub looking_then_sweeps : (p q r : PassState) → Looks p q → SweepsNothing q r → SweepsNothing p r
-looking_then_sweeps p q r looks rest = part_then_sweeps is_look p q r looks.does (looking_sweeps p q looks) rest
+pub looking_then_sweeps : {p q r : PassState} → Looks p q → SweepsNothing q r → SweepsNothing p r
+looking_then_sweeps looks rest = part_then_sweeps looks.does (looking_sweeps looks) rest
 
 -- the steps that answer Full
-pub full_sweeps : (p q r s : PassState) (x y z : Step) → Acts p x q → Acts q y r → Acts r z s
-    → is_mark x ≡ false → is_mark y ≡ false → is_mark z ≡ false
-    → SweepsNothing p s
+pub full_sweeps : (p q r s : PassState) (x y z : Step) → Acts p x q → Acts q y r → Acts r z s → is_mark x ≡ false
+    → is_mark y ≡ false → is_mark z ≡ false → SweepsNothing p s
 full_sweeps p q r s x y z a b d first second third =
     step_then_sweeps p q s x a.makes first
     (step_then_sweeps q r s y b.makes second (other_step_sweeps r s z d.makes third))
 
 -- the parts of a Free that aren't of cycles
 
-freeing_has_no_mark : HaveNoMark is_freeing
-freeing_has_no_mark (Step.Mark p v) h = cc
-freeing_has_no_mark _ h = refl
-
-loading_has_no_mark : HaveNoMark is_loading
-loading_has_no_mark (Step.Mark p v) h = cc
-loading_has_no_mark _ h = refl
-
 pub freeing_then_sweeps : {a : Answer} {p q r : PassState} → DecidesFree is_freeing a p q → SweepsNothing q r
     → SweepsNothing p r
-freeing_then_sweeps {p = p} {q = q} {r = r} d rest =
-    part_then_sweeps is_freeing p q r d.does (does_sweep is_freeing p q freeing_has_no_mark d.does) rest
+freeing_then_sweeps {p = p} {q = q} d rest =
+    part_then_sweeps d.does (does_sweep is_freeing p q (λ x h. grind arith) d.does) rest
 
 pub loading_sweeps : {a : Answer} {p q : PassState} → DecidesFree is_loading a p q → SweepsNothing p q
-loading_sweeps {p = p} {q = q} d = does_sweep is_loading p q loading_has_no_mark d.does
+loading_sweeps {p = p} {q = q} d = does_sweep is_loading p q (λ x h. grind arith) d.does
 
 -- A turn from the wait for it to its `give`, where its parts sweep nothing.
 pub turn_sweeps : {o : Op} {a : Answer} {p taken done q : PassState} → GivenBack o a p taken done q
     → SweepsNothing taken done → SweepsNothing p q
-turn_sweeps {o} {a} {p} {taken} {done} {q} g inside =
+turn_sweeps {o} {p = p} {taken} {done} {q} g inside =
     sweeps_then p taken q (taken_is g.took) (taking_sweeps p (Some o) taken g.took.own g.took.takes)
-    (sweeps_then taken done q (only_seen taken done g.on.does.more g.on.does.is) inside
-    (other_step_sweeps done q Step.Give g.gives refl))
+    (part_then_sweeps g.on.does inside (other_step_sweeps done q Step.Give g.gives refl))
 
 -- Only the list has grown where an older cycle was ended.
-pub older_same : (p q : PassState) → IsOutOfStop (now_of p) → EndsOlder p q → q ≡ record p { seen = q.seen }
-older_same p q phase older =
+pub older_same : {p q : PassState} → IsOutOfStop (now_of p) → EndsOlder p q → q ≡ record p { seen = q.seen }
+older_same {p} {q} phase older =
     ⊎_elim
     (λ (none : IsAtPhase p 0).
     subst (λ (x : PassState). x ≡ record p { seen = x.seen }) (sym (older.none none)) older.looks.keeps.call.pass)

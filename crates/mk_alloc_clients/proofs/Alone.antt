@@ -135,10 +135,9 @@ module _ (n : NeverState) (k number : ℕ) (own : IsKnownToAlone n k number) (th
 
     exchange_stays : (q i p r : ℕ) → q < 8 → r < 8 → Stays (after_op n c (CasPtr q i p r))
     exchange_stays q i p r lt lr =
-        left_at_by (λ m. Stays m) (target_of n (register_at n c q) i) n _ nothing_stays
-        (λ a w got. if_by (λ m. Stays m) (is_same (word_at n a w) (register_at n c p)) _ _
-        (λ e. word_stays a w (register_at n c r) (reached_other q i a w lt got) (register_elsewhere r lr))
-        (λ e. nothing_stays))
+        left_at_by (λ m. Stays m) _ n _ nothing_stays (λ a w got. if_by (λ m. Stays m) (is_same (word_at n a w)
+        (register_at n c p)) _ _ (λ e. word_stays a w (register_at n c r) (reached_other q i a w lt got)
+        (register_elsewhere r lr)) (λ e. nothing_stays))
 
     pub op_stays_alone : (o : Op) → OperandsAreInRange n o → Stays (after_op n c o)
     op_stays_alone (New d ty full) h = if_by (λ m. Stays m) full _ _ (λ e. nothing_stays) (λ e. new_stays c d ty)

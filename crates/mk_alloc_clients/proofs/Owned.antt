@@ -106,9 +106,7 @@ stores_in n k d x owns =
         alone = word_alone n k a owns.alone there a 0 (Num x) (λ leads. leads);
       };
       stored =
-          number_is m k d a owns.ty owns.pointer
-          ∙ ap (λ (b : Allocation). number_in (get_or b.words 0 Null)) now
-          ∙ ap (λ (v : Value). number_in v) (get_or-set_same (words_of n a) 0 (Num x) Null owns.some);
+          cc (number_is m k d a owns.ty owns.pointer, now, get_or-set_same (words_of n a) 0 (Num x) Null owns.some);
     }
 
 pub store_leaves : (n : NeverState) (k d x : ℕ) → OwnsNumberIn n k d → HasStored k d x (after_op n k (Op.SetNum d 0 x))

@@ -1,11 +1,11 @@
 -- A number that is owned, along a history: other callers' calls keep it, and the caller's own are answered by it.
 use Rattle.std.proofs.Common.{Err, IfOk, Ok, OnOk, Result, length-append}
 use Rattle.mk_laws.proofs.Vocabulary.{Answer, AreAdmitted, Bool, Config, Decided, Event, IsHistory, Kind, List}
-use Rattle.mk_laws.proofs.Vocabulary.{NeverState, Number, Op, Some, Step, ℕ, admitted_in_parts, after_calls, answer_of}
-use Rattle.mk_laws.proofs.Vocabulary.{ap, append-nil, append_assoc, arith, asked, bases_of, call_decided, calls}
-use Rattle.mk_laws.proofs.Vocabulary.{calls_from, earlier_part_is_history, entry_of, eq-eqb, false, first_world}
-use Rattle.mk_laws.proofs.Vocabulary.{flagged, if◌then◌else◌, kinds_of, left, length, never_behind, never_in_parts}
-use Rattle.mk_laws.proofs.Vocabulary.{refl, subst, sym, true, true≢false, [], ◌++◌, ◌==◌, ◌∙◌, ◌∷◌, ◌≡◌}
+use Rattle.mk_laws.proofs.Vocabulary.{NeverState, Number, Op, Some, Step, ℕ, admitted_in_parts, answer_of, ap}
+use Rattle.mk_laws.proofs.Vocabulary.{append-nil, append_assoc, arith, asked, bases_of, call_decided, calls, calls_from}
+use Rattle.mk_laws.proofs.Vocabulary.{earlier_part_is_history, entry_of, eq-eqb, false, first_world, flagged}
+use Rattle.mk_laws.proofs.Vocabulary.{if◌then◌else◌, kinds_of, left, length, never_behind, never_in_parts, refl, subst}
+use Rattle.mk_laws.proofs.Vocabulary.{sym, true, true≢false, [], ◌++◌, ◌==◌, ◌∙◌, ◌∷◌, ◌≡◌}
 use Rattle.mk_alloc.proofs.Vocabulary.{PassState, by_append, caller_of_pass, calls_by, calls_in_parts, calls_more}
 use Rattle.mk_alloc.proofs.Vocabulary.{comes_last, event_of, others_add_none, own_calls, stands}
 use Rattle.mk_never.specs.{Laws.AreNotBy, NeverHeap.after_op, declared.operations.Reply.Reply}
@@ -34,9 +34,8 @@ pub kept : (c : Config) (es more : List Event) (k d : ℕ) → IsHistory c (es +
     → calls_by k (calls_from c (left c es) more) ≡ [] → OwnsNumberIn (never_behind c es) k d
     → KeepsNumber (never_behind c es) k d (never_behind c (es ++ more))
 kept c es more k d h none owns =
-    subst (λ (m : NeverState). KeepsNumber (never_behind c es) k d m) (sym (never_in_parts c es more))
-    (keeps_by_others c.globals (never_behind c es) k d (asked (calls_from c (left c es) more)) owns
-    ((admitted_in_parts c es more).0 h.admitted).1 (none_by k (calls_from c (left c es) more) none))
+    subst (λ (m : NeverState). KeepsNumber (never_behind c es) k d m) (sym (never_in_parts c es more)) (keeps_by_others
+    _ _ k d _ owns ((admitted_in_parts c es more).0 h.admitted).1 (none_by k _ none))
 
 -- nothing is beside one element more
 only_one : (a z y : List Decided) (e : Decided) → ((a ++ z) ++ e ∷ []) ++ y ≡ a ++ e ∷ [] → (z ≡ []) × (y ≡ [])
@@ -100,17 +99,13 @@ module _ (p : PassState) (o : Op) (a : Answer) (more : List Event) (once : flagg
 
   none : (earlier ≡ []) × (later ≡ [])
   none =
-      only_one (own_calls p p.seen) earlier later x
-      (ap (λ (l : List Decided). l ++ later)
-      (sym (own_through ∙ ap (λ (l : List Decided). (own_calls p p.seen ++ earlier) ++ l) own_one))
-      ∙ sym (by_append k (calls c through) (calls_from c (left c through) decided.behind))
-      ∙ ap (λ (l : List Decided). calls_by k l) (sym (calls_in_parts c through decided.behind))
-      ∙ ap (λ (l : List Event). own_calls p l) (sym cut) ∙ entry)
+      only_one _ earlier later x (ap (λ (l : List Decided). l ++ later) (sym (own_through ∙ ap (λ (l : List Decided).
+      (own_calls p p.seen ++ earlier) ++ l) own_one)) ∙ sym (by_append k (calls c through) (calls_from c (left c
+      through) decided.behind)) ∙ ap (λ (l : List Decided). calls_by k l) (sym (calls_in_parts c through
+      decided.behind)) ∙ ap (λ (l : List Event). own_calls p l) (sym cut) ∙ entry)
 
   pub never_through : never_behind c through ≡ after_op (never_behind c before) k o
-  never_through =
-      (comes_last c before decided.event through_history).never
-      ∙ ap (λ (l : List Decided). after_calls (never_behind c before) (asked l)) decides
+  never_through = cc ((comes_last c before decided.event through_history).never, decides)
 
   pub admitted_before : AreAdmitted c.globals (never_behind c before) (asked (x ∷ []))
   admitted_before =
@@ -155,13 +150,9 @@ module _ {p q : PassState} {a : Answer} (d : ℕ) (owns : OwnsNumber p d) (h : I
       let o : Op = Op.SetNum d 0 n in
       let there = kept_before p o a c.more refl (seen_history c) c.entry c.decided d owns in
       record {
-        done =
-            c.decided.reply
-            ∙ ap (λ (r : Reply). answer_of (bases c) r)
-            (store_replies (never_then p c.decided.before) (caller_of_pass p) d n there.owns);
-        has = subst (λ (r : PassState). HasNumber r d n) (sym c.is)
-            (number_left p o a c.more refl (seen_history c) c.entry c.decided d n
-            (store_leaves (never_then p c.decided.before) (caller_of_pass p) d n there.owns));
+        done = cc (c.decided.reply, store_replies (never_then p c.decided.before) (caller_of_pass p) d n there.owns);
+        has = subst (λ (r : PassState). HasNumber r d n) (sym c.is) (number_left p o a c.more refl (seen_history c)
+            c.entry c.decided d n (store_leaves _ _ d n there.owns));
       }
 
   pub loaded : Called p (Op.GetNum d 0) a q → IsLoaded a q d (number_owned p d)
@@ -226,9 +217,8 @@ granted p d ty more history entry decided kinds =
     let before : List Event = p.seen ++ decided.before in
     let all = (stands c before (before_history p o Answer.Done more refl history entry decided)).all.mirrors in
     let asks = (admitted_before p o Answer.Done more refl history entry decided).0 in
-    number_left p o Answer.Done more refl history entry decided d 0
-    (new_owns c.globals (never_behind c before) (caller_of_pass p) d ty all.typed asks.of_a_caller asks.in_range.0
-    (ap (λ (types : List (List Kind)). kinds_of types ty) all.types ∙ kinds))
+    number_left p o Answer.Done more refl history entry decided d 0 (new_owns _ (never_behind c before) _ d ty all.typed
+    asks.of_a_caller asks.in_range.0 (ap (λ (types : List (List Kind)). kinds_of types ty) all.types ∙ kinds))
 
 -- Its caller may store and load.
 

@@ -1,18 +1,13 @@
 -- What the engine does after each `begin` of the host's.
 use Rattle.std.proofs.Common.{⊎_elim}
-use Rattle.mk_laws.proofs.Vocabulary.{Config, Event, List, None, Seat, Step, Word, refl, subst, sym, ◌≡◌}
-use Rattle.mk_cycle.proofs.Begun.{HaveNoBegin, begun_then, does_begin_none, finish_begins_none, has_on}
-use Rattle.mk_cycle.proofs.Begun.{step_begins_none}
+use Rattle.mk_laws.proofs.Vocabulary.{Config, Event, List, None, Seat, Step, Word, arith, refl, subst, sym, ◌≡◌}
+use Rattle.mk_cycle.proofs.Begun.{begun_then, does_begin_none, finish_begins_none, has_on, step_begins_none}
 use Rattle.mk_cycle.specs.{BeginCycle.BeginsCycle, Begun.EachIsBegun, EngineLaw.IsAtPhase, FinishCycle.FinishesCycle}
 use Rattle.mk_heap.proofs.MovedHosts.{idle_moves, turn_moves}
 use Rattle.mk_heap.specs.Ending.{EndsCycle, SaysOver, TakesIdleTurn}
 use Rattle.mk_turns.proofs.Sweeping.{only_seen, only_seen_by}
 use Rattle.mk_waiting.{proofs.TakesAlone.taking_does, specs.Taking.is_take}
 use Rattle.mk_words.specs.{Seats.Has, States.PassState, Steps.Makes}
-
-taking_begins_none : HaveNoBegin is_take
-taking_begins_none Step.Begin h = cc
-taking_begins_none _ h = refl
 
 module _ (begins : Config → Seat → List Event → List Event → Type 0) where
   -- It finishes the cycle that is on, if one is.
@@ -35,7 +30,8 @@ module _ (begins : Config → Seat → List Event → List Event → Type 0) whe
       let m = turn_moves p takes.taken takes.takes in
       let same = only_seen p takes.taken m.more m.is in
       begun_then begins p takes.taken idle same
-      (does_begin_none begins is_take p takes.taken taking_begins_none (taking_does p None takes.taken own takes.takes))
+      (does_begin_none begins is_take p takes.taken (λ x h. grind arith)
+      (taking_does p None takes.taken own takes.takes))
       (ending_begun takes.taken idle (has_on p takes.taken same own) takes.ends)
 
   -- a whole cycle

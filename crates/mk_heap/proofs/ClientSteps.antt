@@ -19,8 +19,7 @@ pub may_clear : (p : PassState) (d : ℕ) → IsPassOf p.table p → d < 8 → A
 may_clear p d of small = grind (arith, registers_are)
 
 pub pass_of_next : (h : HostState) (x : CallerState) (w : WordsState) → x ≡ at_home (pass_for h (Caller h.callers))
-    → h.pass.table ≡ w
-    → h.callers < w.config.callers → IsPassOf x.pass.table x.pass
+    → h.pass.table ≡ w → h.callers < w.config.callers → IsPassOf x.pass.table x.pass
 pass_of_next h x w is table lt =
     subst (λ (y : CallerState). IsPassOf y.pass.table y.pass) (sym is)
     (record {

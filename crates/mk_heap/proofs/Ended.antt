@@ -41,9 +41,7 @@ rested_turn c m protocol no_turn rests = by (cases_eq m.words.turn 0) (cases_eq 
 
 pub counts_told : (c : Config) (es : List Event) (f : Final) → IsHistory c es → IsTidy c es
     → host_has_turn c (left c es).now ≡ false → ((s : Seat) → seat_exists c s ≡ true → Rests (left c es).now s)
-    → HasTallies (left c es).now.words c.pages f
-    → HasCounts c es
-    (report_of f)
+    → HasTallies (left c es).now.words c.pages f → HasCounts c es (report_of f)
 counts_told c es f h tidy no_turn rests told =
     let protocol = protocol_of c (left c es).now (known_left c es h.within_limits h.enabled) in
     let free = rested_turn c (left c es).now protocol no_turn rests in
@@ -83,8 +81,7 @@ module _ {h : HostState} {w : WordsState} (host : HasAllHome h w)
         ends_whole = grind (arith, all_rest)
 
         pub ends_counted : HasTallies (now_of h.pass).words w.config.pages f
-            → HasCounts (final.config_of f) (final.history_of f)
-            (report_of f)
+            → HasCounts (final.config_of f) (final.history_of f) (report_of f)
         ends_counted told =
             let r : Report = report_of f in
             subst (λ (c : Config). HasCounts c (final.history_of f) r) (ap (λ (x : WordsState). x.config) host.table ∙

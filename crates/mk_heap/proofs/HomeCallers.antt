@@ -1,12 +1,11 @@
 -- Where all callers are home, nobody makes a step of the turn's holder while the host waits for the turn: the phase
 -- stays.
 use Rattle.std.{proofs.Common.⊎_elim, specs.List.list_all}
-use Rattle.mk_laws.proofs.Vocabulary.{Bool, Caller, Config, Event, Group, Host, IsHistory, List, Marker, Moment, None}
-use Rattle.mk_laws.proofs.Vocabulary.{Seat, Step, World, ℕ, and_parts, ap, cases_lt, enabled_in_parts, enabled_meets}
-use Rattle.mk_laws.proofs.Vocabulary.{false, group_of, is_of_turn, is_one_of, is_open_to, left_in_parts, list_any}
-use Rattle.mk_laws.proofs.Vocabulary.{ltb-true, not, not-true, or_cases, or_from, or_parts, phase_of, refl, seat_exists}
-use Rattle.mk_laws.proofs.Vocabulary.{subst, sym, true, true≢false, world_behind, [], ◌&&◌, ◌++◌, ◌<◌, ◌||◌, ◌∙◌, ◌∷◌}
-use Rattle.mk_laws.proofs.Vocabulary.{◌≡◌, ◌≤◌}
+use Rattle.mk_laws.proofs.Vocabulary.{Bool, Caller, Config, Event, Host, IsHistory, List, Marker, Moment, None, Seat}
+use Rattle.mk_laws.proofs.Vocabulary.{Step, World, ℕ, and_parts, ap, arith, cases_lt, enabled_in_parts, enabled_meets}
+use Rattle.mk_laws.proofs.Vocabulary.{false, group_of, is_one_of, is_open_to, left_in_parts, list_any, ltb-true, not}
+use Rattle.mk_laws.proofs.Vocabulary.{not-true, or_cases, or_from, or_parts, phase_of, refl, seat_exists, subst, sym}
+use Rattle.mk_laws.proofs.Vocabulary.{true, true≢false, world_behind, [], ◌&&◌, ◌++◌, ◌<◌, ◌||◌, ◌∙◌, ◌∷◌, ◌≡◌, ◌≤◌}
 use Rattle.mk_core.specs.{Growing.AreOfOthers, Growing.is_same_seat, History.AreEnabledFrom, History.left_from}
 use Rattle.mk_laws.proofs.{Actors.Meets, Actors.is_holders, CyclePhases.moves_phase, CyclePhases.phase_behind}
 use Rattle.mk_heap.specs.{Ending.CallersAreJoined, Hosts.HostState, Hosts.IsHost}
@@ -23,20 +22,11 @@ callers_home h is joined = λ k lt.
 abbrev pub HoldersStepNone : List Event → Type 0
 HoldersStepNone es = list_any (λ (e : Event). is_holders e.step) es ≡ false
 
-markers_group : (k : ℕ) (g : Group) → is_open_to (Marker k) g ≡ true → g ≡ Group.Markers
-markers_group k Group.Callers h = cc
-markers_group k Group.Turn h = cc
-markers_group k Group.Host h = cc
-markers_group k Group.Markers h = refl
-
-of_markers : (x : Step) → group_of x ≡ Group.Markers → is_holders x ≡ false
-of_markers (Step.Take o) g = refl
-of_markers Step.Over g = cc
-of_markers x g = ap is_of_turn g
+markers_hold_none : (k : ℕ) (x : Step) → is_open_to (Marker k) (group_of x) ≡ true → is_holders x ≡ false
+markers_hold_none k x may = grind arith
 
 take_is_none : (x : Step) → is_take x ≡ true → is_holders x ≡ false
-take_is_none (Step.Take o) h = refl
-take_is_none _ h = cc
+take_is_none x h = grind arith
 
 module _ (p : PassState) (c : Config) (host : Has p.seats Host) (callers : HasCallers c p.seats) where
   not_home : (s : Seat) → Has p.seats s → not (is_one_of p.seats s) ≡ true → ⊥
@@ -52,7 +42,7 @@ module _ (p : PassState) (c : Config) (host : Has p.seats Host) (callers : HasCa
       by : (s : Seat) → seat_exists c s ≡ true → is_open_to s (group_of e.step) ≡ true
           → not (is_one_of p.seats s) ≡ true → is_holders e.step ≡ false
       by (Caller k) exists may out = absurd (not_home (Caller k) (callers k (ltb-true k c.callers exists)) out)
-      by (Marker k) exists may out = of_markers e.step (markers_group k (group_of e.step) may)
+      by (Marker k) exists may out = markers_hold_none k e.step may
       by Host exists may out = absurd (not_home Host host out)
 
   pub waiting_holds_none : (w : World) (es : List Event) → list_all (waits_for p) es ≡ true → AreEnabledFrom c w es

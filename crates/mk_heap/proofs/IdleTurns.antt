@@ -78,9 +78,8 @@ none_held_kept p q is keeps none =
 
 -- What is idle: a turn in which the look found no cycle on, and one in which a cycle was finished.
 
-pub looked_idle : (p q : PassState) → p.seat ≡ Host → InTurn p → IsFresh p None
-    → Acts p (Step.Look Word.Phase) q → IsAtPhase p 0 → TalliesAreExact p.table.config p.seen
-    → TalliesAreTidy p.table.config p.seen → IsIdleTurn q
+pub looked_idle : (p q : PassState) → p.seat ≡ Host → InTurn p → IsFresh p None → Acts p (Step.Look Word.Phase) q
+    → IsAtPhase p 0 → TalliesAreExact p.table.config p.seen → TalliesAreTidy p.table.config p.seen → IsIdleTurn q
 looked_idle p q host t f a none exact tidy =
     let keeps = look_keeps p q t (fresh_free p f) a in
     let less = keeps_less unchanged but_phase p q keeps in

@@ -22,8 +22,7 @@ look_counts_nothing : (c : Config) (w : World) (x : Word)
 look_counts_nothing c w x = grind arith
 
 tidy_behind_others : (c : Config) (es fs : List Event) → steady_of (left c fs) ≡ steady_of (left c es)
-    → CountsAreLeft c es fs
-    → TalliesAreTidy c es → TalliesAreTidy c fs
+    → CountsAreLeft c es fs → TalliesAreTidy c es → TalliesAreTidy c fs
 tidy_behind_others c es fs same counts t = grind arith
 
 -- A look leaves the tallies what they count (as in the clients of the shared words).

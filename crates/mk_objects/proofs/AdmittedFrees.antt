@@ -2,9 +2,9 @@
 use Rattle.std.proofs.lemmas.List.{length-replicate}
 use Rattle.mk_laws.proofs.Vocabulary.{Answer, AreAdmitted, AreOfOthers, Call, Caller, Config, Event, IsAdmitted}
 use Rattle.mk_laws.proofs.Vocabulary.{IsHistory, List, None, Null, Op, Option, Some, Step, Value, ℕ, after_calls}
-use Rattle.mk_laws.proofs.Vocabulary.{answer_decided, ap, append-nil, arith, asked, call_decided, calls}
+use Rattle.mk_laws.proofs.Vocabulary.{answer_decided, append-nil, arith, asked, call_decided, calls}
 use Rattle.mk_laws.proofs.Vocabulary.{earlier_part_is_history, entry_of, flight_of, left, map-append, never_behind}
-use Rattle.mk_laws.proofs.Vocabulary.{refl, register_at, [], ◌*◌, ◌++◌, ◌<◌, ◌∙◌, ◌∷◌, ◌≡◌}
+use Rattle.mk_laws.proofs.Vocabulary.{refl, register_at, [], ◌*◌, ◌++◌, ◌<◌, ◌∷◌, ◌≡◌}
 use Rattle.mk_objects.proofs.Vocabulary.{IsAdmittedBehind, IsBase, calls_more}
 use Rattle.mk_never.proofs.{Later.calls_stay, Parts.admitted_join}
 use Rattle.mk_core.specs.History.{never_first}
@@ -50,5 +50,4 @@ registers_kept {c} es others k x whole of_others none r lt =
     let before = earlier_part_is_history c (es ++ others) (e ∷ []) whole in
     let same : asked (calls c (es ++ others ++ e ∷ [])) ≡ asked (calls c (es ++ others)) =
     grind (arith, asked_more, append-nil) in
-    ap (λ (xs : List Call). register_at (after_calls (never_first c) xs) k r) same
-    ∙ (admitted_others_leave c es others (Caller k) before of_others).registers k r refl lt
+    cc (same, (admitted_others_leave c es others (Caller k) before of_others).registers k r refl lt)

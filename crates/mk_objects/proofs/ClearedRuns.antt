@@ -1,11 +1,10 @@
 -- A run is unmapped and wiped, and then the gates are opened.
-use Rattle.mk_laws.proofs.Vocabulary.{Bool, RunPages, Steady, ℕ, ap, false, is_held, is_number_of, is_run_gone, not}
-use Rattle.mk_laws.proofs.Vocabulary.{others_are_held, refl, subst, sym, true, ◌<◌, ◌||◌, ◌∙◌, ◌≡◌}
+use Rattle.mk_laws.proofs.Vocabulary.{Bool, RunPages, Steady, ℕ, ap, arith, false, is_held, is_number_of, is_run_gone}
+use Rattle.mk_laws.proofs.Vocabulary.{not, others_are_held, refl, subst, sym, true, ◌<◌, ◌||◌, ◌∙◌, ◌≡◌}
 use Rattle.mk_objects.proofs.Vocabulary.{PassState, RunIsUnmapped, RunIsWiped, SetsGates, Unmaps, Wipes, WordsState}
 use Rattle.mk_objects.proofs.Vocabulary.{all_below_from, all_others, is_clearing, is_settling, now_of, world_of}
-use Rattle.mk_objects.proofs.DecidedFrees.{Stays, clearing_follows, gates_stay, settling_follows, stays_then}
-use Rattle.mk_objects.proofs.DecidedFrees.{unmaps_stay, wipes_stay}
-use Rattle.mk_objects.proofs.ReachedParts.{reached_world, same_kinds}
+use Rattle.mk_objects.proofs.DecidedFrees.{Stays, gates_stay, stays_then, unmaps_stay, wipes_stay}
+use Rattle.mk_objects.proofs.ReachedParts.{reached_world}
 use Rattle.mk_objects.specs.{Deciding.ClearsRun, FreeParts.no_gate}
 
 -- Where the others' gates are held, all but the own one are.
@@ -43,10 +42,10 @@ clears {p} {b} {q} unmaps wipes opens gone =
     let two = wiped_now wipes in
     let three = reached_world opens in
     let cleared : Stays is_clearing p b =
-    stays_then (same_kinds is_clearing) (same_kinds is_clearing) (unmaps_stay unmaps) (wipes_stay wipes) in
+    stays_then (λ x h. h) (λ x h. h) (unmaps_stay unmaps) (wipes_stay wipes) in
     let table : b.table ≡ p.table = ap (λ (x : PassState). x.table) cleared.same in
     record {
-      stays = stays_then clearing_follows settling_follows cleared (gates_stay opens);
+      stays = stays_then (λ x h. grind arith) (λ x h. grind arith) cleared (gates_stay opens);
       held = ap (λ (x : Steady). x.held) three.but_gates.steady ∙ ap (λ (x : Steady). x.held) two.changes.steady
           ∙ ap (λ (x : Steady). x.held) one.changes.steady;
       fresh = ap (λ (x : Steady). x.fresh) three.but_gates.steady ∙ ap (λ (x : Steady). x.fresh) two.changes.steady

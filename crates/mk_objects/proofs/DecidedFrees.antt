@@ -1,65 +1,13 @@
 -- A Free is decided, and parts of its turn come before that and after it.
 use Rattle.mk_laws.proofs.Vocabulary.{Answer, Bool, Cell, Config, Flight, Holding, List, PlacedAllocation, RunPages}
-use Rattle.mk_laws.proofs.Vocabulary.{Seat, Some, Steady, Step, Tally, Words, World, ℕ, ap, cond, flight_of}
+use Rattle.mk_laws.proofs.Vocabulary.{Seat, Some, Steady, Step, Tally, Words, World, ℕ, ap, arith, cond, flight_of}
 use Rattle.mk_laws.proofs.Vocabulary.{freed_released, freed_where_it_stands, map, refl, sym, [], ◌+◌, ◌∙◌, ◌∷◌, ◌≡◌}
 use Rattle.mk_objects.proofs.Vocabulary.{Changes, ComesTo, HasFreed, IsFreedAt, PassState, SetsGates, SetsTally}
 use Rattle.mk_objects.proofs.Vocabulary.{StaysSo, Unmaps, Wipes, entry_for, is_clearing, is_following, is_freeing}
-use Rattle.mk_objects.proofs.Vocabulary.{is_holding, is_loading, is_look, is_settling, steady_of, sum_by-cons, world_of}
+use Rattle.mk_objects.proofs.Vocabulary.{is_settling, steady_of, sum_by-cons, world_of}
 use Rattle.mk_core.specs.Counts.{releases}
 use Rattle.mk_objects.proofs.ReachedParts.{AreAmong, reached_world, reaches_after, reaches_answered, reaches_so}
-use Rattle.mk_objects.proofs.ReachedParts.{same_kinds}
-use Rattle.mk_objects.proofs.FreedOnce.{FreesNot}
 use Rattle.mk_objects.specs.Deciding.{IsDecidedAt, counted}
-
--- kinds among others
-
-pub look_loads : AreAmong is_look is_loading
-look_loads (Step.Look x) h = cc
-look_loads _ h = cc
-
-pub load_frees : AreAmong is_loading is_freeing
-load_frees (Step.Look x) h = cc
-load_frees _ h = cc
-
-pub look_settles : AreAmong is_look is_settling
-look_settles (Step.Look x) h = cc
-look_settles _ h = cc
-
-pub settling_follows : AreAmong is_settling is_following
-settling_follows (Step.Look x) h = cc
-settling_follows _ h = cc
-
-pub clearing_follows : AreAmong is_clearing is_following
-clearing_follows (Step.Look x) h = cc
-clearing_follows _ h = cc
-
-pub following_frees : AreAmong is_following is_freeing
-following_frees (Step.Look x) h = cc
-following_frees _ h = cc
-
-pub look_frees : AreAmong is_look is_freeing
-look_frees x h = load_frees x (look_loads x h)
-
-pub hold_frees : AreAmong is_holding is_freeing
-hold_frees (Step.Hold j) h = cc
-hold_frees _ h = cc
-
--- None of them is a `quar`.
-
-pub loading_not : FreesNot is_loading
-loading_not (Step.Look x) h = cc
-loading_not _ h = cc
-
-pub holding_not : FreesNot is_holding
-holding_not (Step.Hold j) h = cc
-holding_not _ h = cc
-
-pub look_not : FreesNot is_look
-look_not x h = loading_not x (look_loads x h)
-
-pub following_not : FreesNot is_following
-following_not (Step.Look x) h = cc
-following_not _ h = cc
 
 -- What stays over each part.
 
@@ -71,14 +19,13 @@ pub stays_by : (s : Seat) (w v : World) (change : Steady → Steady) → flight_
     → v.now.seats.holding ≡ w.now.seats.holding → steady_of v ≡ change (steady_of w) → counted (change (steady_of w))
     ≡ counted (steady_of w) → (change (steady_of w)).fresh_words ≡ (steady_of w).fresh_words
     → (change (steady_of w)).allocations ≡ (steady_of w).allocations → StaysSo s w v
-stays_by s w v change call holding steady same fresh allocations =
-    record {
-      call = call;
-      holding = holding;
-      counted = ap counted steady ∙ same;
-      fresh_words = ap (λ (x : Steady). x.fresh_words) steady ∙ fresh;
-      allocations = ap (λ (x : Steady). x.allocations) steady ∙ allocations;
-    }
+stays_by s w v change call holding steady same fresh allocations = record {
+  call = call;
+  holding = holding;
+  counted = ap counted steady ∙ same;
+  fresh_words = ap (λ (x : Steady). x.fresh_words) steady ∙ fresh;
+  allocations = ap (λ (x : Steady). x.allocations) steady ∙ allocations;
+}
 
 pub gates_stay : {kinds : Step → Bool} {p q : PassState} {gates : ℕ → Bool} → SetsGates kinds p gates q
     → Stays kinds p q
@@ -105,14 +52,13 @@ pub held_stays : {p q : PassState} {n : ℕ} → SetsTally p Tally.Held n q → 
 held_stays a = reaches_so a (λ at. changes_stay at refl refl refl)
 
 so_then : {s : Seat} {w u v : World} → StaysSo s w u → StaysSo s u v → StaysSo s w v
-so_then a b =
-    record {
-      call = b.call ∙ a.call;
-      holding = b.holding ∙ a.holding;
-      counted = b.counted ∙ a.counted;
-      fresh_words = b.fresh_words ∙ a.fresh_words;
-      allocations = b.allocations ∙ a.allocations;
-    }
+so_then a b = record {
+  call = b.call ∙ a.call;
+  holding = b.holding ∙ a.holding;
+  counted = b.counted ∙ a.counted;
+  fresh_words = b.fresh_words ∙ a.fresh_words;
+  allocations = b.allocations ∙ a.allocations;
+}
 
 pub stays_then : {one two kinds : Step → Bool} → AreAmong one kinds → AreAmong two kinds → {p q r : PassState}
     → Stays one p q → Stays two q r → Stays kinds p r
@@ -136,16 +82,13 @@ freed_releases w cell (a ∷ xs) =
     ∙ sym (one a xs)
 
 decided_by : {c : Config} {s : Seat} {cell : Cell} {w v : World} → IsFreedAt c s cell w v → IsDecidedAt s w v
-decided_by {cell} {w} at =
-    record {
-      stage = ap (λ (f : Flight). f.stage) at.call;
-      op = ap (λ (f : Flight). f.op) at.call;
-      placing = ap (λ (h : Holding). h.placing) at.holding;
-      cycle = ap (λ (h : Holding). h.cycle) at.holding;
-      counted = ap counted at.steady
-          ∙ ap (λ (n : ℕ). record (counted (steady_of w)) { releases = n })
-          (freed_releases w.now.words cell w.allocations);
-    }
+decided_by {cell} {w} at = record {
+  stage = ap (λ (f : Flight). f.stage) at.call;
+  op = ap (λ (f : Flight). f.op) at.call;
+  placing = ap (λ (h : Holding). h.placing) at.holding;
+  cycle = ap (λ (h : Holding). h.cycle) at.holding;
+  counted = cc (at.steady, freed_releases w.now.words cell w.allocations);
+}
 
 abbrev pub Decides : (Step → Bool) → PassState → Answer → PassState → Type 0
 Decides kinds p a q = ComesTo kinds p (IsDecidedAt p.seat (world_of p)) (entry_for p a) q
@@ -156,19 +99,18 @@ freed_decides a = reaches_so a (λ at. decided_by at)
 -- what follows leaves it decided,
 
 decided_then : {s : Seat} {w u v : World} → IsDecidedAt s w u → StaysSo s u v → IsDecidedAt s w v
-decided_then a b =
-    record {
-      stage = ap (λ (f : Flight). f.stage) b.call ∙ a.stage;
-      op = ap (λ (f : Flight). f.op) b.call ∙ a.op;
-      placing = ap (λ (h : Holding). h.placing) b.holding ∙ a.placing;
-      cycle = ap (λ (h : Holding). h.cycle) b.holding ∙ a.cycle;
-      counted = b.counted ∙ a.counted;
-    }
+decided_then a b = record {
+  stage = ap (λ (f : Flight). f.stage) b.call ∙ a.stage;
+  op = ap (λ (f : Flight). f.op) b.call ∙ a.op;
+  placing = ap (λ (h : Holding). h.placing) b.holding ∙ a.placing;
+  cycle = ap (λ (h : Holding). h.cycle) b.holding ∙ a.cycle;
+  counted = b.counted ∙ a.counted;
+}
 
 pub decides_before : {p q r : PassState} {a : Answer} → Decides is_freeing p a q → Stays is_following q r
     → Decides is_freeing p a r
 decides_before d s =
-    reaches_after (same_kinds is_freeing) following_frees (λ x. StaysSo x.seat (world_of x)) d s
+    reaches_after (λ x h. h) (λ x h. grind arith) (λ x. StaysSo x.seat (world_of x)) d s
     (λ v one two. decided_then one two)
 
 -- and so it is after a part that leaves the call as it was, or one at this point of it.
@@ -176,18 +118,17 @@ decides_before d s =
 pub decided_behind : {s : Seat} (w : World) {u v : World} → (flight_of u.now s).op ≡ (flight_of w.now s).op
     → u.now.seats.holding ≡ w.now.seats.holding
     → counted (steady_of u) ≡ counted (steady_of w) → IsDecidedAt s u v → IsDecidedAt s w v
-decided_behind w op holding same b =
-    record {
-      stage = b.stage;
-      op = b.op ∙ op;
-      placing = b.placing ∙ ap (λ (h : Holding). h.placing) holding;
-      cycle = b.cycle ∙ ap (λ (h : Holding). h.cycle) holding;
-      counted = b.counted ∙ same;
-    }
+decided_behind w op holding same b = record {
+  stage = b.stage;
+  op = b.op ∙ op;
+  placing = b.placing ∙ ap (λ (h : Holding). h.placing) holding;
+  cycle = b.cycle ∙ ap (λ (h : Holding). h.cycle) holding;
+  counted = b.counted ∙ same;
+}
 
 pub decides_behind : {kinds : Step → Bool} → AreAmong kinds is_freeing → {p q r : PassState} {a : Answer}
     → Stays kinds p q → Decides is_freeing q a r → Decides is_freeing p a r
 decides_behind among {p} {a} s d =
-    reaches_answered among (same_kinds is_freeing) (λ x. IsDecidedAt x.seat (world_of x)) a s
+    reaches_answered among (λ x h. h) (λ x. IsDecidedAt x.seat (world_of x)) a s
     (ap (λ (f : Flight). f.op) s.world.call) d
     (λ v one two. decided_behind (world_of p) (ap (λ (f : Flight). f.op) one.call) one.holding one.counted two)

@@ -44,8 +44,7 @@ pub record IsPointed (p : PassState) (u : ℕ) : Type 0 where
   pub index : cell.index < 32
 
 pub target_of : (pages : ℕ) (w : Words) (f : Flight) (cell : Cell) → is_undecided_free f ≡ true
-    → pointed_cell pages w.pages f.p ≡ Some cell
-    → target pages w f ≡ Some cell
+    → pointed_cell pages w.pages f.p ≡ Some cell → target pages w f ≡ Some cell
 target_of pages w f cell free is = rw free is
 
 cell_within : {c : Config} {w : World} {a : PlacedAllocation} → IsWithinLimits c → StandsUsed c w a

@@ -24,8 +24,7 @@ bit_told count used k is =
 
 -- A cell that may be taken on a page with a header isn't used.
 clear_cell : (h u class index : ℕ) (leaf : Bool) (x : Option Header) → header_of h ≡ x → h ≢ 0
-    → MayTakeCell class leaf index (use_under x u)
-    → has_bit u index ≡ false
+    → MayTakeCell class leaf index (use_under x u) → has_bit u index ≡ false
 clear_cell h u class index leaf (Some Free) is some may = absurd (some (sym (word_of-header_of h Free is).1))
 clear_cell h u class index leaf None is some may = absurd may
 clear_cell h u class index leaf (Some (Run n m)) is some may = absurd may
@@ -36,12 +35,7 @@ clear_cell h u class index leaf (Some (LeafBlock k)) is some may = bit_told (cel
 
 free_is_zero : (h : ℕ) (x : Option Header) (u : ℕ) → header_of h ≡ x → is_free_page (use_under x u) ≡ true → h ≡ 0
 free_is_zero h (Some Free) u is free = sym (word_of-header_of h Free is).1
-free_is_zero h None u is free = cc
-free_is_zero h (Some (Block class)) u is free = cc
-free_is_zero h (Some (LeafBlock class)) u is free = cc
-free_is_zero h (Some (Run n m)) u is free = cc
-free_is_zero h (Some (LeafRun n)) u is free = cc
-free_is_zero h (Some (Later d m)) u is free = cc
+free_is_zero h _ u is free = cc
 
 -- The cell of a place that isn't on free pages isn't used.
 pub found_clear : (limit : ℕ) (pages : List Page) (o : Object) (place : Place) → IsSized o
@@ -53,9 +47,8 @@ found_clear limit pages o place sized at some = elim (cases_Bool (is_small_objec
       (class_for_small o.words sized.0 (leb-true o.words 32 s)) at in
       let page : slice_index_or pages place.page free_page ≡ is.page =
       get_or_from_slice_get pages place.page is.page free_page is.at in
-      ap (λ (x : Page). has_bit x.used place.index) page
-      ∙ clear_cell is.page.header is.page.used (class_made o) place.index o.leaf (header_of is.page.header) refl
-      (λ z. some (ap (λ (x : Page). x.header) page ∙ z)) is.may_take
+      ap (λ (x : Page). has_bit x.used place.index) page ∙ clear_cell _ is.page.used _ place.index o.leaf _ refl (λ z.
+      some (ap (λ (x : Page). x.header) page ∙ z)) is.may_take
   | inr l ↦
       let is = run_place_is limit o.words o.leaf pages place (leb-false o.words 32 l) at in
       let many = pages_some o sized in

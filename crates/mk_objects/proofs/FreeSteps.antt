@@ -151,9 +151,8 @@ pub quarantine_once : {p q : PassState} (cell : Cell) {value : ℕ} {o : Option 
     → IsOutOfStop (now_of p) → value ≡ freed_word (now_of p).words cell → Acts p (Step.Quar cell.page value) q
     → FreesOnce p q
 quarantine_once {p} cell turn at clear low is a =
-    frees_now (made_in p p.seen a) a.makes.pass.history turn.holds
-    (λ v kept. ap (λ (x : Option Cell). is_some x) (freed_left p.table.config cell kept
-    (out_of_stop (now_of p) v.now (ap (λ (x : Steady). x.phase) kept.steady) low) at clear is))
+    frees_now (made_in p _ a) a.makes.pass.history turn.holds (λ v kept. ap (λ (x : Option Cell). is_some x) (freed_left
+    p.table.config cell kept (out_of_stop (now_of p) v.now (ap (λ (x : Steady). x.phase) kept.steady) low) at clear is))
 
 pub quarantine_may : {p : PassState} (cell : Cell) {value : ℕ} {o : Option Op} → IsTurn p o
     → is_undecided_free (call_of p) ≡ true → target p.table.config.pages (now_of p).words (call_of p) ≡ Some cell

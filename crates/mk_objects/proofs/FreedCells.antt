@@ -30,15 +30,14 @@ module _ {c : Config} {w : World} {n : NeverState} (known : KnownWorld c w) (oth
       → f.p ≡ image_of (bases_of w.allocations) v → f.p ≢ 0 → PointsAt c w n k f
   by_value k f Null is sound safe e ne = absurd (ne e)
   by_value k f (Num m) is sound safe e ne = absurd sound
-  by_value k f (Ptr a t o) is sound safe e ne =
-      record {
-        number = a;
-        ty = t;
-        offset = o;
-        value = is;
-        unreleased = mirrors.safe.1.unreleased a safe;
-        cell = pointer_cell c w n known mirrors mirrors.safe.0 ready st a t o f.p sound safe e;
-      }
+  by_value k f (Ptr a t o) is sound safe e ne = record {
+    number = a;
+    ty = t;
+    offset = o;
+    value = is;
+    unreleased = mirrors.safe.1.unreleased a safe;
+    cell = pointer_cell c w n known mirrors mirrors.safe.0 ready st a t o f.p sound safe e;
+  }
 
   points_by : {k : ℕ} (s : Stage) (o : Op) (q p r l : ℕ) → is_undecided_free (flight s o q p r l) ≡ true
       → CarriesOwn (bases_of w.allocations) n k (flight s o q p r l) → PointsAt c w n k (flight s o q p r l)

@@ -57,10 +57,7 @@ module _ (p : PassState) (r : ℕ) (cell : Cell) (h : IsHistory p.table.config p
   object = object_placed p.table.config own
 
   others : ImagePremises p.table.config (world_of p)
-  others =
-      told_to_images p.table.config (world_of p) (never_behind p.table.config p.seen)
-      (known_world p.table.config p.seen h.within_limits h.enabled)
-      (histories_keep_the_invariant p.table.config p.seen h)
+  others = told_to_images _ _ _ (known_world _ _ h.within_limits h.enabled) (histories_keep_the_invariant _ _ h)
 
   laid : IsLaidOut p.table.config (now_of p).words (now_of p).seats.holding.freed own
   laid = others.laid_out x.number x.unreleased
@@ -72,9 +69,7 @@ module _ (p : PassState) (r : ℕ) (cell : Cell) (h : IsHistory p.table.config p
   its_freed low = grind (arith, freed_told, off_four)
 
   pub its_words : words_under (header_in (now_of p).words cell.page) ≡ storage_words p.table.config own
-  its_words =
-      ap (λ (y : Cell). words_under (header_in (now_of p).words y.page)) (sym x.is)
-      ∙ (cells_begin p.table.config (now_of p).words own h.within_limits laid.stands laid.headers).1
+  its_words = cc (x.is, (cells_begin p.table.config (now_of p).words own h.within_limits laid.stands laid.headers).1)
 
   part : ShowsPart object 0 (header_in (now_of p).words cell.page)
   part = grind (arith, object, first_page_shows, own, sized, laid)

@@ -21,10 +21,6 @@ frees_none : (c : Config) (m : Moment) (f : Flight) (x : Step) → is_quar x ≡
 frees_none c m f (Step.Quar p v) h = cc
 frees_none c m f _ h = refl
 
-quar_is_holders : (x : Step) → is_quar x ≡ true → is_holders x ≡ true
-quar_is_holders (Step.Quar p v) h = refl
-quar_is_holders _ h = cc
-
 -- Only the turn's holder frees.
 others_free_none : {c : Config} (s : Seat) (es : List Event) (e : Event) → IsHistory c (es ++ e ∷ [])
     → Holds c (left c es).now s → is_one_of (s ∷ []) e.seat ≡ false → is_quar e.step ≡ false
@@ -33,10 +29,11 @@ others_free_none {c} s es e h holds other = elim (cases_Bool (is_quar e.step)) [
   | inl same_kind ↦
       let last = comes_last c es e h in
       let m : Moment = (left c es).now in
+      let holders : is_holders e.step ≡ true = grind arith in
       let orderly = (stands c es last.before).known.now.orderly in
       absurd (other_seat s e.seat other (same_holder c (view_of m) e.seat s orderly
-      (acts_as_holder c m e.seat e.step (actor_of c m e.seat e.step orderly last.meets)
-      (quar_is_holders e.step same_kind)) (holds_turn c m s orderly holds)))
+      (acts_as_holder c m e.seat e.step (actor_of c m e.seat e.step orderly last.meets) holders)
+      (holds_turn c m s orderly holds)))
 ]
 
 -- nothing after a list
@@ -94,9 +91,8 @@ none_frees : {kinds : Step → Bool} {p q : PassState} (xs : List PlacedAllocati
     → IsHistory q.table.config q.seen → Holds p.table.config (now_of p) p.seat
     → FreesOnly p.table.config p.seen xs q.seen
 none_frees {kinds} {p} xs not_one d h holds =
-    along_turn p kinds (λ x kind. (and_parts _ _ (not_one x kind)).0) (FreesOnly p.table.config p.seen xs)
-    (none_kept p.table.config p.seat kinds p.seen xs (λ x kind. not-true _ (and_parts _ _ (not_one x kind)).1))
-    d h holds (frees_at_once p.table.config p.seen xs)
+    along_turn p kinds (λ x kind. (and_parts _ _ (not_one x kind)).0) _ (none_kept _ _ kinds _ xs (λ x kind. not-true _
+    (and_parts _ _ (not_one x kind)).1)) d h holds (frees_at_once _ _ xs)
 
 -- The `quar` frees once,
 
@@ -128,8 +124,7 @@ frees_now {p} {q} {x} m h holds frees =
       is = seen;
       frees = frees (left c es) m.kept;
       leaves = left_now;
-      only = subst (λ (l : List Event). FreesOnly c p.seen xs l) (sym seen)
-          (frees_more c p.seen e before (λ f. left_now));
+      only = subst (λ (l : List Event). FreesOnly c p.seen xs l) (sym seen) (frees_more c _ e before (λ f. left_now));
     }
 
 -- with a part of the turn before it,
@@ -172,33 +167,30 @@ once_before {p} {q} {r} not o table d h holds same =
       before = o.before;
       event = o.event;
       behind = o.behind ++ d.more;
-      is = seen ∙ ap (λ (l : List Event). l ++ d.more) o.is
-          ∙ append_assoc (p.seen ++ o.before) (o.event ∷ o.behind) d.more;
+      is = cc (seen, o.is, append_assoc (p.seen ++ o.before) (o.event ∷ o.behind) d.more);
       frees = o.frees;
       leaves = o.leaves ∙ sym same;
-      only = subst (λ (l : List Event). FreesOnly c p.seen xs l) (ap (λ (l : List Event). l ++ d.more) (sym was)
-          ∙ sym seen) (frees_then c p.seen (o.before ++ o.event ∷ o.behind) d.more
-          (subst (λ (l : List Event). FreesOnly c p.seen xs l) was
-          (subst (λ (ys : List PlacedAllocation). FreesOnly c p.seen ys q.seen) (sym same) o.only))
-          (subst (λ (l : List Event). FreesOnly c l xs (l ++ d.more)) was
-          (subst (λ (l : List Event). FreesOnly c q.seen xs l) seen second)));
+      only = subst (λ (l : List Event). FreesOnly c p.seen xs l) (ap (λ (l : List Event). l ++ d.more) (sym was) ∙ sym
+          seen) (frees_then c _ (o.before ++ o.event ∷ o.behind) d.more (subst (λ (l : List Event). FreesOnly c p.seen
+          xs l) was (subst (λ (ys : List PlacedAllocation). FreesOnly c p.seen ys q.seen) (sym same) o.only)) (subst (λ
+          (l : List Event). FreesOnly c l xs (l ++ d.more)) was (subst (λ (l : List Event). FreesOnly c q.seen xs l)
+          seen second)));
     }
 
 -- So it is due, where more than a quarter of the held words is fresh now,
 
 pub due_since : {p q : PassState} → FreesOnce p q → IsOverQuarter p.table.config (world_of q).allocations
     → IsDueSince p q
-due_since {p} o quarter =
-    record {
-      before = o.before;
-      event = o.event;
-      behind = o.behind;
-      is = o.is;
-      due = record {
-        decides = o.frees;
-        quarter = subst (λ (xs : List PlacedAllocation). IsOverQuarter p.table.config xs) (sym o.leaves) quarter;
-      };
-    }
+due_since {p} o quarter = record {
+  before = o.before;
+  event = o.event;
+  behind = o.behind;
+  is = o.is;
+  due = record {
+    decides = o.frees;
+    quarter = subst (λ (xs : List PlacedAllocation). IsOverQuarter p.table.config xs) (sym o.leaves) quarter;
+  };
+}
 
 -- and only there.
 pub due_then : {p q : PassState} → FreesOnce p q → IsDueSince p q
@@ -215,5 +207,4 @@ pub none_due : {kinds : Step → Bool} {p q : PassState} → FreesNot kinds → 
     → IsHistory q.table.config q.seen → Holds p.table.config (now_of p) p.seat → IsDueSince p q → ⊥
 none_due {p} not d h holds x =
     let free = none_frees [] not d h holds x.before x.event x.behind x.is x.due.decides in
-    no_quarter p.table.config (subst (λ (xs : List PlacedAllocation). IsOverQuarter p.table.config xs) free
-    x.due.quarter)
+    no_quarter _ (subst (λ (xs : List PlacedAllocation). IsOverQuarter p.table.config xs) free x.due.quarter)

@@ -1,15 +1,13 @@
 -- A Free on its way: up to its `quar` it only loads, or comes to be decided.
-use Rattle.mk_laws.proofs.Vocabulary.{Answer, Bool, Cell, Flight, Holding, Option, RunPages, Seat, Stage, Steady, Step}
-use Rattle.mk_laws.proofs.Vocabulary.{TalliesAreTidy, World, ℕ, ap, false, flight_of, if◌then◌else◌, in_a_word}
-use Rattle.mk_laws.proofs.Vocabulary.{is_freed, is_held, is_run_gone, not, nothing_done, refl, subst, sym, true, []}
-use Rattle.mk_laws.proofs.Vocabulary.{◌<◌, ◌==◌, ◌∙◌, ◌≡◌}
+use Rattle.mk_laws.proofs.Vocabulary.{Answer, Bool, Cell, Flight, Holding, Seat, Stage, Steady, Step, TalliesAreTidy}
+use Rattle.mk_laws.proofs.Vocabulary.{World, ℕ, ap, arith, false, flight_of, if◌then◌else◌, in_a_word, is_freed}
+use Rattle.mk_laws.proofs.Vocabulary.{is_held, is_run_gone, not, nothing_done, refl, subst, sym, true, [], ◌<◌, ◌==◌}
+use Rattle.mk_laws.proofs.Vocabulary.{◌∙◌, ◌≡◌}
 use Rattle.mk_objects.proofs.Vocabulary.{CallIsAt, ComesTo, IsAsLeft, OnlyLooks, PassState, all_below_from, call_of}
 use Rattle.mk_objects.proofs.Vocabulary.{entry_for, is_loading, loaded_free, none_is_held, now_of, world_of}
 use Rattle.mk_core.specs.Counts.{TalliesAreExact, releases}
-use Rattle.mk_objects.proofs.DecidedFrees.{Decides, look_loads}
 use Rattle.mk_objects.proofs.ReachedParts.{reached_table, reached_world, reaches_after, reaches_named, reaches_so}
-use Rattle.mk_objects.proofs.ReachedParts.{same_kinds}
-use Rattle.mk_objects.proofs.SmallFrees.{exact_still, none_held}
+use Rattle.mk_objects.proofs.{DecidedFrees.Decides, SmallFrees.exact_still, SmallFrees.none_held}
 use Rattle.mk_objects.specs.Retiring.{HasLoaded, HasSeen, entry_seen, seen_free}
 use Rattle.mk_objects.specs.{Deciding.Counted, Deciding.IsDecidedAt, Deciding.counted, Retired.DecidesFree}
 
@@ -20,31 +18,29 @@ pub at_named : {s : Seat} {f g : Flight} {w v : World} → CallIsAt s f w v → 
 at_named {s} {w} {v} at same = subst (λ (x : Flight). CallIsAt s x w v) same at
 
 pub is_at_then : {s : Seat} {f g : Flight} {w u v : World} → CallIsAt s f w u → CallIsAt s g u v → CallIsAt s g w v
-is_at_then a b =
-    record {
-      call = b.call;
-      holding = b.holding ∙ a.holding;
-      steady = b.steady ∙ a.steady;
-      registers = λ k r is lt. b.registers k r is lt ∙ a.registers k r is lt;
-      gates = λ j. b.gates j ∙ a.gates j;
-    }
+is_at_then a b = record {
+  call = b.call;
+  holding = b.holding ∙ a.holding;
+  steady = b.steady ∙ a.steady;
+  registers = λ k r is lt. b.registers k r is lt ∙ a.registers k r is lt;
+  gates = λ j. b.gates j ∙ a.gates j;
+}
 
 at_left : {s : Seat} {f : Flight} {u v : World} → IsAsLeft s u v → flight_of u.now s ≡ f → CallIsAt s f u v
-at_left b call =
-    record {
-      call = b.call ∙ call;
-      holding = b.holding;
-      steady = b.steady;
-      registers = b.registers;
-      gates = b.gates;
-    }
+at_left b call = record {
+  call = b.call ∙ call;
+  holding = b.holding;
+  steady = b.steady;
+  registers = b.registers;
+  gates = b.gates;
+}
 
 pub comes_loaded : {p q : PassState} {r u : ℕ} → HasLoaded p r u q → (u == 0) ≡ false → Comes p (loaded_free r u) q
 comes_loaded {p} a some = reaches_named (ap (λ (b : Bool). if b then entry_for p Answer.Done else []) some) a
 
 pub comes_looking : {p q r : PassState} {f : Flight} → Comes p f q → OnlyLooks q r → Comes p f r
 comes_looking a b =
-    reaches_after (same_kinds is_loading) look_loads (λ x. IsAsLeft x.seat (world_of x)) a b
+    reaches_after (λ x h. h) (λ x h. grind arith) (λ x. IsAsLeft x.seat (world_of x)) a b
     (λ v a b. is_at_then a (at_left b a.call))
 
 -- what is asked of the pass that has come so far
@@ -71,21 +67,20 @@ seen_at {q} cell {double} a b freed to =
 pub comes_seeing : {p q r : PassState} {f : Flight} (cell : Cell) → Comes p f q → HasSeen q cell r
     → is_freed (now_of q).words cell ≡ false → Comes p f r
 comes_seeing {f} cell a b live =
-    reaches_after (same_kinds is_loading) (same_kinds is_loading) (λ x. CallIsAt x.seat f (world_of x)) a
+    reaches_after (λ x h. h) (λ x h. h) (λ x. CallIsAt x.seat f (world_of x)) a
     (seen_at cell a b live refl) (λ v a b. is_at_then a b)
 
 -- a decided call
 
 decided_at : {s : Seat} {f : Flight} {w v : World} → CallIsAt s f w v → f.stage ≡ Stage.Give
     → f.op ≡ (flight_of w.now s).op → IsDecidedAt s w v
-decided_at at give same =
-    record {
-      stage = ap (λ (x : Flight). x.stage) at.call ∙ give;
-      op = ap (λ (x : Flight). x.op) at.call ∙ same;
-      placing = ap (λ (h : Holding). h.placing) at.holding;
-      cycle = ap (λ (h : Holding). h.cycle) at.holding;
-      counted = ap counted at.steady;
-    }
+decided_at at give same = record {
+  stage = ap (λ (x : Flight). x.stage) at.call ∙ give;
+  op = ap (λ (x : Flight). x.op) at.call ∙ same;
+  placing = ap (λ (h : Holding). h.placing) at.holding;
+  cycle = ap (λ (h : Holding). h.cycle) at.holding;
+  counted = ap counted at.steady;
+}
 
 -- What a turn that is decided leaves.
 
@@ -116,8 +111,7 @@ decides_free {p} {q} d gone gates exact =
       cycle = now.cycle;
       phase = ap (λ (x : Counted). x.phase) now.counted;
       gone = gone;
-      gates = all_below_from p.table.config.callers (λ j. not (is_held (now_of q).words j))
-          (λ j lt. ap not (gates j lt));
+      gates = all_below_from _ (λ j. not (is_held (now_of q).words j)) (λ j lt. ap not (gates j lt));
       exact = exact;
       tidy = tidy_by d;
     }

@@ -1,20 +1,15 @@
 -- A run that the call has unmapped and wiped stays so, while gates are opened and tallies set.
 use Rattle.mk_laws.proofs.Vocabulary.{Config, Event, Holding, Holds, IsHistory, List, None, Option, RunPages, Seat}
-use Rattle.mk_laws.proofs.Vocabulary.{Some, Step, World, and_parts, ap, false, is_heap_store, is_run_gone, left, refl}
-use Rattle.mk_laws.proofs.Vocabulary.{subst, sym, true, true≢false, world_behind, [], ◌++◌, ◌∙◌, ◌∷◌, ◌≡◌}
+use Rattle.mk_laws.proofs.Vocabulary.{Some, Step, World, ap, arith, is_run_gone, left, refl, subst, sym, true}
+use Rattle.mk_laws.proofs.Vocabulary.{world_behind, [], ◌++◌, ◌∙◌, ◌∷◌, ◌≡◌}
 use Rattle.mk_objects.proofs.Vocabulary.{Does, PassState, is_settling, now_of}
 use Rattle.mk_core.specs.Growing.{AreOfOthers}
 use Rattle.mk_laws.proofs.LastEvents.{ComesLast, comes_last, stands}
 use Rattle.mk_laws.proofs.{RunWords.gone_behind, RunsStill.holder_finds}
 use Rattle.mk_objects.proofs.TurnEvents.{Another, KeptInTurn, Own, along_turn}
-use Rattle.mk_objects.proofs.DecidedFrees.{following_not, settling_follows}
 
 abbrev pub IsGoneIn : World → Type 0
 IsGoneIn w = is_run_gone w.now.words w.now.seats.holding.freed ≡ true
-
-settling_stores_none : (x : Step) → is_settling x ≡ true → is_heap_store x ≡ false
-settling_stores_none (Step.Look x) h = cc
-settling_stores_none _ h = cc
 
 same_run : (c : Config) (w : World) (s : Seat) (x : Step) → is_settling x ≡ true
     → (world_behind c w (record { seat = s; step = x })).now.seats.holding.freed ≡ w.now.seats.holding.freed
@@ -29,8 +24,7 @@ gone_on : {c : Config} {es : List Event} {e : Event} → IsHistory c es → Come
 gone_on h last kind None is gone = refl
 gone_on {c} {es} {e} h last kind (Some run) is gone =
     let st = stands c es h in
-    gone_behind c (left c es) st.known st.all.order.laid run is gone e.seat e.step last.meets
-    (λ store. absurd (true≢false (sym store ∙ settling_stores_none e.step kind)))
+    gone_behind c _ st.known st.all.order.laid run is gone _ _ last.meets (λ store. grind arith)
 
 gone_kept : (c : Config) (s : Seat) → KeptInTurn c s is_settling (λ es. IsGoneIn (left c es))
 unfolding AreOfOthers
@@ -47,6 +41,5 @@ pub still_gone : {p q : PassState} → Does is_settling p q → IsHistory q.tabl
     → Holds p.table.config (now_of p) p.seat
     → IsGoneIn (left p.table.config p.seen) → IsGoneIn (left p.table.config q.seen)
 still_gone {p} d h holds gone =
-    along_turn p is_settling (λ x kind. (and_parts _ _ (following_not x (settling_follows x kind))).0)
-    (λ es. IsGoneIn (left p.table.config es))
-    (gone_kept p.table.config p.seat) d h holds gone
+    along_turn p is_settling (λ x kind. grind arith) (λ es. IsGoneIn (left p.table.config es)) (gone_kept _ _) d h holds
+    gone

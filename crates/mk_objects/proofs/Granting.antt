@@ -136,10 +136,9 @@ granted_behind {c} {place} {w} {v} at (OfCaller k lt) room =
 pub tallied_behind : {c : Config} {s : Seat} {place : Place} {w v : World} (n : ℕ) → IsGrantedAt c s place w v
     → HasCall c v.now s
     → IsGrantedAt c s place w (world_behind c v (record { seat = s; step = Step.Tally Tally.Held n }))
-tallied_behind {c} {v} n at (OfCaller k lt) =
-    record {
-      call = call_behind c v.now k (Step.Tally Tally.Held n) lt ∙ at.call;
-      placing = at.placing;
-      steady = ap (λ (x : Steady). record x { held = n }) at.steady;
-      register = at.register;
-    }
+tallied_behind {c} {v} n at (OfCaller k lt) = record {
+  call = call_behind c v.now k (Step.Tally Tally.Held n) lt ∙ at.call;
+  placing = at.placing;
+  steady = ap (λ (x : Steady). record x { held = n }) at.steady;
+  register = at.register;
+}

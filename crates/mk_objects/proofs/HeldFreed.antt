@@ -26,9 +26,7 @@ held_first c a xs false is = sum_by-cons words_mapped (storage_of c a) (unreleas
 pub held_sum : (c : Config) (xs : List PlacedAllocation) → held_by_allocations c xs ≡ sum_by (held_part c) xs
 unfolding unreleased_storage
 held_sum c [] = refl
-held_sum c (a ∷ xs) =
-    held_first c a xs a.released refl ∙ ap (λ n. held_part c a + n) (held_sum c xs)
-    ∙ sym (sum_by-cons (held_part c) a xs)
+held_sum c (a ∷ xs) = cc (held_first c a xs a.released refl, held_sum c xs, sum_by-cons (held_part c) a xs)
 
 pub held_set : (c : Config) (xs : List PlacedAllocation) (n : ℕ) (y : PlacedAllocation) → n < length xs
     → held_by_allocations c (slice_set xs n y) + held_part c (placed_at xs n) ≡ held_by_allocations c xs + held_part c y
@@ -36,8 +34,7 @@ held_set c xs n y lt = grind (arith, sum_by-set, held_part, held_sum)
 
 -- A free changes the allocation that stands in the cell, and no other.
 pub freed_one : (w : Words) (cell : Cell) (xs : List PlacedAllocation) (n : ℕ) → n < length xs
-    → stands_in w cell (placed_at xs n) ≡ true
-    → ((i : ℕ) → i ≢ n → stands_in w cell (placed_at xs i) ≡ false)
+    → stands_in w cell (placed_at xs n) ≡ true → ((i : ℕ) → i ≢ n → stands_in w cell (placed_at xs i) ≡ false)
     → map (freed_where_it_stands w (Some cell)) xs ≡ slice_set xs n (freed_and_fresh (placed_at xs n))
 freed_one w cell xs n lt stands others =
     ext_get_or never_granted (map (freed_where_it_stands w (Some cell)) xs)
@@ -45,16 +42,12 @@ freed_one w cell xs n lt stands others =
     (length-map xs (freed_where_it_stands w (Some cell)) ∙ sym (length-set xs n (freed_and_fresh (placed_at xs n))))
     (λ i le. elim (cases_eq i n) [
       | inl e ↦
-          changed_at (freed_where_it_stands w (Some cell)) xs i (freed_leaves w (Some cell)).none
-          ∙ ap (λ j. freed_where_it_stands w (Some cell) (placed_at xs j)) e
-          ∙ cond-true (stands_in w cell (placed_at xs n)) (freed_and_fresh (placed_at xs n)) (placed_at xs n) stands
-          ∙ sym (get_or-set_same xs n (freed_and_fresh (placed_at xs n)) never_granted lt)
-          ∙ ap (λ j. placed_at (slice_set xs n (freed_and_fresh (placed_at xs n))) j) (sym e)
+          changed_at _ xs i (freed_leaves w (Some cell)).none ∙ ap (λ j. freed_where_it_stands w (Some cell) (placed_at
+          xs j)) e ∙ cond-true _ _ _ stands ∙ sym (get_or-set_same xs n (freed_and_fresh (placed_at xs n)) never_granted
+          lt) ∙ ap (λ j. placed_at (slice_set xs n (freed_and_fresh (placed_at xs n))) j) (sym e)
       | inr ne ↦
-          changed_at (freed_where_it_stands w (Some cell)) xs i (freed_leaves w (Some cell)).none
-          ∙ cond-false (stands_in w cell (placed_at xs i)) (freed_and_fresh (placed_at xs i)) (placed_at xs i)
-          (others i ne)
-          ∙ sym (get_or-set_other xs n i (freed_and_fresh (placed_at xs n)) never_granted ne)
+          changed_at _ xs i (freed_leaves w (Some cell)).none ∙ cond-false _ _ _ (others i ne) ∙ sym (get_or-set_other
+          xs n i (freed_and_fresh (placed_at xs n)) never_granted ne)
     ])
 
 -- A small object that is freed stays mapped, and a large one doesn't.

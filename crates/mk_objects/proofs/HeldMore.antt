@@ -14,8 +14,7 @@ words_mapped s = if s.mapped then s.words else 0
 
 -- A live object is held besides.
 pub held_one_more : (c : Config) (xs : List PlacedAllocation) (a : PlacedAllocation) → a.released ≡ false
-    → a.freed ≡ false
-    → held_by_allocations c (xs ++ a ∷ []) ≡ held_by_allocations c xs + storage_words c a
+    → a.freed ≡ false → held_by_allocations c (xs ++ a ∷ []) ≡ held_by_allocations c xs + storage_words c a
 held_one_more c xs a unreleased live = grind (arith, unreleased_more, sum_by-append, words_mapped, sum_by-cons)
 
 -- No more is held than the pages have.

@@ -1,22 +1,20 @@
 -- Looks one after the other, and a part of a turn after looks.
-use Rattle.mk_laws.proofs.Vocabulary.{Answer, Bool, Config, Decided, Flight, Holding, List, Place, Placing, Seat, Some}
-use Rattle.mk_laws.proofs.Vocabulary.{Stage, Steady, Step, World, address_of, and_from, and_parts, ap, append-nil}
-use Rattle.mk_laws.proofs.Vocabulary.{base_made, caller_number, d_of, entry_of, flight_of, inl, inr, is_undecided_new}
-use Rattle.mk_laws.proofs.Vocabulary.{object_made, phase_of, place_by_placing, place_on_pages, refl, register_word}
-use Rattle.mk_laws.proofs.Vocabulary.{subst, sym, true, [], ◌%◌, ◌++◌, ◌^◌, ◌∙◌, ◌∷◌, ◌≡◌}
+use Rattle.mk_laws.proofs.Vocabulary.{Bool, Config, Flight, Holding, List, Place, Seat, Some, Stage, Steady, Step}
+use Rattle.mk_laws.proofs.Vocabulary.{World, address_of, and_from, and_parts, ap, append-nil, arith, base_made, d_of}
+use Rattle.mk_laws.proofs.Vocabulary.{flight_of, inl, inr, is_undecided_new, object_made, phase_of, place_on_pages}
+use Rattle.mk_laws.proofs.Vocabulary.{refl, register_word, subst, sym, true, [], ◌%◌, ◌++◌, ◌^◌, ◌∙◌, ◌∷◌, ◌≡◌}
 use Rattle.mk_objects.proofs.Vocabulary.{Does, GoesTo, IsAsLeft, IsGrantedAt, IsOutOfStop, IsUnplaced, OnlyLooks}
-use Rattle.mk_objects.proofs.Vocabulary.{PassState, WordsState, call_of, does_then, entry_for, held_by_allocations}
-use Rattle.mk_objects.proofs.Vocabulary.{is_look, is_placing, now_of, object_at_place, object_for, own_calls, steady_of}
+use Rattle.mk_objects.proofs.Vocabulary.{PassState, WordsState, call_of, does_then, held_by_allocations, is_look}
+use Rattle.mk_objects.proofs.Vocabulary.{is_placing, now_of, object_at_place, object_for, own_calls, steady_of}
 use Rattle.mk_objects.proofs.Vocabulary.{world_of}
 use Rattle.mk_core.specs.Growing.{Finding}
 use Rattle.mk_objects.proofs.Reaching.{reaches_nothing, seeing}
 use Rattle.mk_objects.proofs.{Counted.counts_then, Unchanged.left_joined, Unchanged.left_same}
 use Rattle.mk_objects.specs.Placing.{HeldIsExact, IsGranted}
-use Rattle.mk_turns.specs.Doing.{are_of, done_in}
+use Rattle.mk_turns.specs.Doing.{are_of}
 
 are_wider : (narrow wide : Step → Bool) → ((s : Step) → narrow s ≡ true → wide s ≡ true) → (xs : List Finding)
-    → are_of narrow xs ≡ true
-    → are_of wide xs ≡ true
+    → are_of narrow xs ≡ true → are_of wide xs ≡ true
 are_wider narrow wide widens [] all = refl
 are_wider narrow wide widens (x ∷ xs) all =
     let both = and_parts (narrow x.event.step) (are_of narrow xs) all in
@@ -24,18 +22,12 @@ are_wider narrow wide widens (x ∷ xs) all =
 
 pub does_wider : (narrow wide : Step → Bool) → ((s : Step) → narrow s ≡ true → wide s ≡ true) → (p q : PassState)
     → Does narrow p q → Does wide p q
-does_wider narrow wide widens p q d =
-    record {
-      more = d.more;
-      is = d.is;
-      own_or_others = d.own_or_others;
-      of_kinds = are_wider narrow wide widens
-          (done_in p d.more) d.of_kinds;
-    }
-
-looks_place : (s : Step) → is_look s ≡ true → is_placing s ≡ true
-looks_place (Step.Look x) h = refl
-looks_place _ h = cc
+does_wider narrow wide widens p q d = record {
+  more = d.more;
+  is = d.is;
+  own_or_others = d.own_or_others;
+  of_kinds = are_wider narrow wide widens _ d.of_kinds;
+}
 
 pub looks_nothing : (p : PassState) → OnlyLooks p p
 looks_nothing p = reaches_nothing is_look p (IsAsLeft p.seat (world_of p)) (left_same p.seat (world_of p))
@@ -54,51 +46,46 @@ pub looks_joined : {p q r : PassState} → OnlyLooks p q → OnlyLooks q r → O
 looks_joined {p} {q} {r} a b = by (subst (λ (x : PassState). OnlyLooks x r) a.same b)
   where
     by : OnlyLooks (seeing p q.seen) r → OnlyLooks p r
-    by b =
-        record {
-          same = b.same;
-          does = does_then is_look p q r a.does (subst (λ (x : PassState). Does is_look x r) (sym a.same) b.does);
-          calls = b.calls ∙ append-nil (own_calls p q.seen) ∙ a.calls;
-          world = left_joined a.world b.world;
-          counts = counts_then a.counts b.counts;
-        }
+    by b = record {
+      same = b.same;
+      does = does_then is_look p q r a.does (subst (λ (x : PassState). Does is_look x r) (sym a.same) b.does);
+      calls = b.calls ∙ append-nil (own_calls p q.seen) ∙ a.calls;
+      world = left_joined a.world b.world;
+      counts = counts_then a.counts b.counts;
+    }
 
 -- What is granted after looks is granted.
 granted_over : {c : Config} {s : Seat} {place : Place} {w u v : World} → IsAsLeft s w u → IsGrantedAt c s place u v
     → IsGrantedAt c s place w v
-granted_over {c} {s} {place} {w} {u} {v} a b =
-    record {
-      call = b.call ∙ ap (λ (f : Flight). record f { stage = Stage.Give }) a.call;
-      placing = b.placing;
-      steady = b.steady ∙ ap (λ (x : Steady). record x {
-        pages = v.now.words.pages;
-        held = v.now.words.held;
-        allocations = x.allocations ++ object_at_place c (flight_of u.now s) place ∷ [];
-      }) a.steady ∙ ap (λ (f : Flight). record (steady_of w) {
-        pages = v.now.words.pages;
-        held = v.now.words.held;
-        allocations = w.allocations ++ object_at_place c f place ∷ [];
-      }) a.call;
-      register = λ k is. ap (λ (f : Flight). register_word v.now.words k (d_of f.op)) (sym a.call) ∙ b.register k is
-          ∙ ap (λ (f : Flight). address_of (base_made (object_made c f.op) place) % 2 ^ 64) a.call;
-    }
+granted_over {c} {s} {place} {w} {u} {v} a b = record {
+  call = b.call ∙ ap (λ (f : Flight). record f { stage = Stage.Give }) a.call;
+  placing = b.placing;
+  steady = b.steady ∙ ap (λ (x : Steady). record x {
+    pages = v.now.words.pages;
+    held = v.now.words.held;
+    allocations = x.allocations ++ object_at_place c (flight_of u.now s) place ∷ [];
+  }) a.steady ∙ ap (λ (f : Flight). record (steady_of w) {
+    pages = v.now.words.pages;
+    held = v.now.words.held;
+    allocations = w.allocations ++ object_at_place c f place ∷ [];
+  }) a.call;
+  register = λ k is. ap (λ (f : Flight). register_word v.now.words k (d_of f.op)) (sym a.call) ∙ b.register k is
+      ∙ ap (λ (f : Flight). address_of (base_made (object_made c f.op) place) % 2 ^ 64) a.call;
+}
 
 pub granted_behind_looks : {p q r : PassState} {place : Place} → OnlyLooks p q → IsGranted q place r
     → IsGranted p place r
 granted_behind_looks {p} {q} {r} {place} a b = by (subst (λ (x : PassState). IsGranted x place r) a.same b)
   where
     by : IsGranted (seeing p q.seen) place r → IsGranted p place r
-    by b =
-        record {
-          same = b.same;
-          does = does_then is_placing p q r (does_wider is_look is_placing looks_place p q a.does)
-              (subst (λ (x : PassState). Does is_placing x r) (sym a.same) b.does);
-          calls = b.calls ∙ ap (λ (l : List Decided). l ++ entry_for (seeing p q.seen) Answer.Done)
-              (a.calls ∙ append-nil (own_calls p p.seen)) ∙ ap (λ (f : Flight). own_calls p p.seen ++ entry_of
-              (caller_number p.seat) f.op (Some Answer.Done)) a.world.call;
-          world = granted_over a.world b.world;
-          counts = counts_then a.counts b.counts;
-        }
+    by b = record {
+      same = b.same;
+      does = does_then is_placing p q r (does_wider is_look is_placing (λ x h. grind arith) p q a.does)
+          (subst (λ (x : PassState). Does is_placing x r) (sym a.same) b.does);
+      calls = cc (b.calls, a.calls, append-nil (own_calls p p.seen), a.world.call);
+      world = granted_over a.world b.world;
+      counts = counts_then a.counts b.counts;
+    }
 
 -- Looks leave a New unplaced, and the tally as it is.
 pub looks_unplaced : (p q : PassState) → OnlyLooks p q → IsUnplaced p → IsUnplaced q
@@ -122,9 +109,7 @@ looks_exact {p} {q} a exact =
     ∙ ap (λ (t : WordsState). held_by_allocations t.config (world_of q).allocations) (sym (looks_table a))
 
 pub looks_object : (p q : PassState) → OnlyLooks p q → object_for q ≡ object_for p
-looks_object p q a =
-    ap (λ (t : WordsState). object_made t.config (call_of q).op) (looks_table a)
-    ∙ ap (λ (f : Flight). object_made p.table.config f.op) (looks_call a)
+looks_object p q a = cc (looks_table a, looks_call a)
 
 pub looks_pages : {p q : PassState} → OnlyLooks p q → (now_of q).words.pages ≡ (now_of p).words.pages
 looks_pages {p} {q} a = ap (λ (x : Steady). x.pages) (looks_left p q a).steady
@@ -132,9 +117,7 @@ looks_pages {p} {q} a = ap (λ (x : Steady). x.pages) (looks_left p q a).steady
 -- the first fit on the pages is where an unplaced New goes
 pub goes_to : {p : PassState} (place : Place) → IsUnplaced p → place_on_pages p.table.config.resident
     (now_of p).words.pages (object_for p) ≡ Some place → GoesTo p place
-goes_to {p} place u fit =
-    record {
-      unplaced = u;
-      goes = rw u.new (ap (λ (x : Placing). place_by_placing p.table.config.resident (now_of p).words.pages
-          (object_for p) x) u.placing ∙ fit);
-    }
+goes_to {p} place u fit = record {
+  unplaced = u;
+  goes = cc (u.new, u.placing, fit);
+}

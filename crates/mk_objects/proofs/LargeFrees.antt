@@ -7,11 +7,11 @@ use Rattle.mk_laws.proofs.Vocabulary.{◌+◌, ◌<◌, ◌^◌, ◌↔◌, ◌�
 use Rattle.mk_objects.proofs.Vocabulary.{Changes, FreesCell, FreesOnce, HasFreed, IsFreedAt, IsTrue, MayFree, OnlyLooks}
 use Rattle.mk_objects.proofs.Vocabulary.{PassState, SetsTally, StaysSo, held_by_allocations, is_following, now_of}
 use Rattle.mk_objects.proofs.Vocabulary.{with_tally, words_freed, world_of}
-use Rattle.mk_objects.proofs.DecidedFrees.{Stays, held_stays, settling_follows, stays_now, stays_then}
+use Rattle.mk_objects.proofs.DecidedFrees.{Stays, held_stays, stays_now, stays_then}
 use Rattle.mk_objects.proofs.FreedObjects.{HasRun, IsObjectAt, its_freed, its_run, large_held, object_at, own}
-use Rattle.mk_objects.proofs.ReachedParts.{reached_table, reached_world, same_kinds}
-use Rattle.mk_objects.proofs.SmallFrees.{freed_now, frees_counted, fresh_told_by, tally_between}
 use Rattle.mk_objects.proofs.GoneRuns.{IsGoneIn, still_gone}
+use Rattle.mk_objects.proofs.SmallFrees.{freed_now, frees_counted, fresh_told_by, tally_between}
+use Rattle.mk_objects.proofs.ReachedParts.{reached_table, reached_world}
 use Rattle.mk_objects.specs.{Deciding.ClearsRun, Unmapping.IsStillMapped}
 
 -- what heads a run
@@ -83,7 +83,7 @@ module _ {p : PassState} {reg u : ℕ} {cell : Cell} (count : ℕ) (may : MayFre
       sets = tally_between Tally.Held _ looks tallied looks_again
 
       follows : Stays is_following q r
-      follows = stays_then (same_kinds is_following) settling_follows clears.stays (held_stays sets)
+      follows = stays_then (λ x h. h) (λ x h. grind arith) clears.stays (held_stays sets)
 
       stays : StaysSo q.seat (world_of q) (world_of r)
       stays = stays_now follows

@@ -44,7 +44,6 @@ alone e (y ∷ ys) x zs is =
     let inner = length-append ys (x ∷ zs) in
     absurd (omega arith)
 
-pub one_behind : {A : Type 0} (xs : List A) (e : A) (ys : List A) (x : A) (zs : List A) → xs ++ e ∷ [] ≡ xs ++ ys
-    ++ x ∷ zs
-    → (ys ≡ []) × (e ≡ x)
+pub one_behind : {A : Type 0} (xs : List A) (e : A) (ys : List A) (x : A) (zs : List A)
+    → xs ++ e ∷ [] ≡ xs ++ ys ++ x ∷ zs → (ys ≡ []) × (e ≡ x)
 one_behind xs e ys x zs is = grind (arith, alone, append_cancel_left, append_assoc)

@@ -126,16 +126,13 @@ load_steps c {k} r {n} {v} lt kept call small is =
     let words = loaded_words c v.now k r here in
     record {
       at = record {
-        call = call_behind c v.now k Step.Reg lt
-            ∙ ap (λ (f : Flight). (progress_reg f f.stage (found c v.now e)).flight) here
-            ∙ ap (λ i. (progress_reg (begun (Op.Free r)) Stage.LoadP i).flight) same ∙ loads_to r n;
+        call = cc (call_behind c v.now k Step.Reg lt, here, same, loads_to r n);
         holding = kept.holding;
         steady = ap (λ (ws : Words). steady_of (record v { now = record v.now { words = ws } })) words ∙ kept.steady;
         registers = λ j i is lt. ap (λ (ws : Words). register_word ws j i) words ∙ kept.registers j i is lt;
         gates = λ j. ap (λ (ws : Words). is_held ws j) words ∙ kept.gates j;
       };
-      answer = ap (λ (f : Flight). (progress_reg f f.stage (found c v.now e)).answer) here
-          ∙ ap (λ i. (progress_reg (begun (Op.Free r)) Stage.LoadP i).answer) same ∙ loads_answer r n;
+      answer = cc (here, same, loads_answer r n);
     }
 
 -- at the seat of a pass
@@ -203,8 +200,7 @@ null_at {c} {es} k r h small call base zero =
     let place : (8 * k + r) / 8 ≡ k = omega arith in
     let here : shown (flight_of (left c es).now (Caller ((8 * k + r) / 8))) ((8 * k + r) % 8)
     (register_word (left c es).now.words k r) ≡ 0 = grind arith in
-    null_by (bases_of (left c es).allocations) (register_at (never_behind c es) k r) base
-    (sym (images.registers (8 * k + r)) ∙ here)
+    null_by (bases_of (left c es).allocations) _ base (sym (images.registers (8 * k + r)) ∙ here)
 
 pub load_null : {p : PassState} {r n : ℕ} → IsHistory p.table.config p.seen → IsUnloaded p r → n ≡ register_of p r
     → (n == 0) ≡ true → value_of p r ≡ Null

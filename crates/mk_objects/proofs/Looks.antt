@@ -58,9 +58,8 @@ plain_is_idle OfPhase = refl
 pub look_reaches : {p q : PassState} {o : Option Op} {x : Word} → IsTurn p o → is_acting (call_of p).stage ≡ true
     → IsPlain x → Acts p (Step.Look x) q → OnlyLooks p q
 look_reaches {p} {o} turn acts plain a =
-    reaches_still (IsAsLeft p.seat (world_of p)) (IsAsLeft p.seat (world_of p))
-    (reaches_nothing is_look p (IsAsLeft p.seat (world_of p)) (left_same p.seat (world_of p))) a refl refl
-    (acting_caller p acts) (plain_is_idle plain) (looks_on p (acting_now p o turn acts) plain)
+    reaches_still _ _ (reaches_nothing is_look p _ (left_same _ _)) a refl refl (acting_caller p acts) (plain_is_idle
+    plain) (looks_on p (acting_now p o turn acts) plain)
 
 -- What it finds is what the word is for the holder.
 module _ (p q : PassState) (o : Option Op) (x : Word) (n : ℕ) (turn : IsTurn p o) (f : Finds p (Step.Look x) n q) where

@@ -1,17 +1,17 @@
 -- What the turn's holder may do, whatever the moment.
 use Rattle.mk_laws.proofs.Vocabulary.{Caller, Config, Flight, Group, Host, IsEnabled, Marker, Moment, Op, Seat, Stage}
-use Rattle.mk_laws.proofs.Vocabulary.{Step, Tally, Word, ℕ, address_of, and_from, ap, carves, comes_next, eq-eqb, false}
-use Rattle.mk_laws.proofs.Vocabulary.{flight_of, frees, group_of, has_gates, has_phase, header_of, holder_may, inl, inr}
-use Rattle.mk_laws.proofs.Vocabulary.{is_held, is_in_range, is_new_at, is_number_of, is_open_to, is_phase}
-use Rattle.mk_laws.proofs.Vocabulary.{is_released_cell, is_run_cell, is_run_gone, is_some_and, is_undecided_free}
-use Rattle.mk_laws.proofs.Vocabulary.{is_undecided_new, is_unmapped_header, is_used_once, lt-ltb, marker_at, marker_may}
-use Rattle.mk_laws.proofs.Vocabulary.{marks_place, nat_lt, not, object_made, or_left, or_right, others_are_held}
-use Rattle.mk_laws.proofs.Vocabulary.{phase_of, place_now, pointed_cell, refl, seat_exists, takes_cell, target, true}
-use Rattle.mk_laws.proofs.Vocabulary.{undecided_free, undecided_new, unmaps, ◌*◌, ◌<◌, ◌==◌, ◌||◌, ◌∙◌, ◌≡◌, ◌⊎◌}
+use Rattle.mk_laws.proofs.Vocabulary.{Step, Tally, Word, ℕ, and_from, ap, carves, comes_next, eq-eqb, false, flight_of}
+use Rattle.mk_laws.proofs.Vocabulary.{frees, group_of, has_gates, has_phase, header_of, holder_may, inl, inr, is_held}
+use Rattle.mk_laws.proofs.Vocabulary.{is_in_range, is_new_at, is_number_of, is_open_to, is_phase, is_run_cell}
+use Rattle.mk_laws.proofs.Vocabulary.{is_run_gone, is_undecided_free, is_undecided_new, is_unmapped_header}
+use Rattle.mk_laws.proofs.Vocabulary.{is_used_once, lt-ltb, marker_at, marker_may, marks_place, nat_lt, not}
+use Rattle.mk_laws.proofs.Vocabulary.{object_made, or_left, or_right, others_are_held, phase_of, place_now, refl}
+use Rattle.mk_laws.proofs.Vocabulary.{seat_exists, takes_cell, target, true, undecided_free, undecided_new, unmaps, ◌*◌}
+use Rattle.mk_laws.proofs.Vocabulary.{◌<◌, ◌==◌, ◌||◌, ◌∙◌, ◌≡◌, ◌⊎◌}
 use Rattle.mk_objects.proofs.Vocabulary.{IsOutOfStop, is_acting, is_steady_word}
 use Rattle.mk_core.proofs.Conditions.{meets_enabled}
-use Rattle.mk_core.specs.{Order.is_in_order, Order.is_of_any_holder, Order.may_decide_new, Ranges.is_word}
-use Rattle.mk_core.specs.{StopConditions.marks_by_hand, TurnConditions.is_in_gone_run, TurnConditions.takes_snapshot}
+use Rattle.mk_core.specs.Order.{is_in_order, is_of_any_holder, may_decide_new}
+use Rattle.mk_core.specs.{Ranges.is_word, TurnConditions.is_in_gone_run, TurnConditions.takes_snapshot}
 
 -- A seat that is acting is a caller's, and has the steps of any holder next.
 
@@ -36,8 +36,7 @@ next_of_acting Stage.Give o x acts any = any
 next_of_acting _ o x acts any = cc
 
 order_of_acting : (c : Config) (m : Moment) (s : Seat) (x : Step) → is_acting (flight_of m s).stage ≡ true
-    → is_of_any_holder x ≡ true
-    → is_in_order c m s x ≡ true
+    → is_of_any_holder x ≡ true → is_in_order c m s x ≡ true
 order_of_acting c m (Caller k) x acts any =
     next_of_acting (flight_of m (Caller k)).stage (flight_of m (Caller k)).op x acts any
 order_of_acting c m (Marker k) x acts any = cc
@@ -104,14 +103,12 @@ module _ {c : Config} {m : Moment} {s : Seat} (at : IsActing c m s) where
 
   pub may_look_quarantine : (p : ℕ) → p < c.pages → IsEnabled c m (record { seat = s; step = Step.Look (Word.Quar p) })
   may_look_quarantine p within =
-      may_by (Step.Look (Word.Quar p)) refl (order_of_acting c m s (Step.Look (Word.Quar p)) at.acts refl)
-      (lt-ltb p c.pages within)
-      refl refl refl refl
+      may_by (Step.Look (Word.Quar p)) refl (order_of_acting c m s (Step.Look (Word.Quar p)) at.acts refl) (lt-ltb p _
+      within) refl refl refl refl
 
   pub may_free : (p v : ℕ) → p < c.pages → IsOutOfStop m
       → (not (is_run_cell m.words (target c.pages m.words (flight_of m s))) || others_are_held c.callers m.words s)
-      ≡ true
-      → frees m.words (target c.pages m.words (flight_of m s)) p v ≡ true
+      ≡ true → frees m.words (target c.pages m.words (flight_of m s)) p v ≡ true
       → IsEnabled c m (record { seat = s; step = Step.Quar p v })
   may_free p v within low gates frees =
       may_by (Step.Quar p v) refl (order_of_acting c m s (Step.Quar p v) at.acts refl) (lt-ltb p c.pages within) gates
@@ -125,9 +122,8 @@ module _ {c : Config} {m : Moment} {s : Seat} (at : IsActing c m s) where
       → marks_place m.words (object_made c (flight_of m s).op) (place_now c m (flight_of m s)) p v ≡ true
       → IsEnabled c m (record { seat = s; step = Step.Mark p v })
   may_mark_place p v within one places =
-      may_by (Step.Mark p v) refl (order_of_acting c m s (Step.Mark p v) at.acts refl) (lt-ltb p c.pages within) refl
-      (ap (λ (n : ℕ). (n == 1) || (n == 2)) one) refl
-      (or_right (marks_by_hand c.pages m.words m.seats.holding.hand p v) _ places)
+      may_by (Step.Mark p v) refl (order_of_acting c m s (Step.Mark p v) at.acts refl) (lt-ltb p _ within) refl (ap (λ
+      (n : ℕ). (n == 1) || (n == 2)) one) refl (or_right _ _ places)
 
   pub may_carve : (p v : ℕ) → p < c.pages → IsOutOfStop m → is_unmapped_header (header_of v) ≡ false
       → carves m.words (object_made c (flight_of m s).op) (place_now c m (flight_of m s)) p v ≡ true
@@ -141,9 +137,8 @@ module _ {c : Config} {m : Moment} {s : Seat} (at : IsActing c m s) where
       → takes_cell m.words (object_made c (flight_of m s).op) (place_now c m (flight_of m s)) p v ≡ true
       → IsEnabled c m (record { seat = s; step = Step.Used p v })
   may_take p v within low once takes =
-      may_by (Step.Used p v) refl (order_of_acting c m s (Step.Used p v) at.acts refl) (lt-ltb p c.pages within)
-      refl (low_or_more (phase_of m.words) 4 low) refl
-      (rw (off_four m low, once) takes)
+      may_by (Step.Used p v) refl (order_of_acting c m s (Step.Used p v) at.acts refl) (lt-ltb p _ within) refl
+      (low_or_more _ 4 low) refl (rw (off_four m low, once) takes)
 
   pub may_grant : is_undecided_new (flight_of m s) ≡ true → IsOutOfStop m → is_used_once m.seats.holding.placing ≡ true
       → IsEnabled c m (record { seat = s; step = Step.Grant })
@@ -153,9 +148,8 @@ module _ {c : Config} {m : Moment} {s : Seat} (at : IsActing c m s) where
   pub may_hold : (j : ℕ) → j < c.callers → is_number_of s j ≡ false → is_held m.words j ≡ false
       → IsEnabled c m (record { seat = s; step = Step.Hold j })
   may_hold j lt other not_held =
-      may_by (Step.Hold j) refl (order_of_acting c m s (Step.Hold j) at.acts refl)
-      (and_from (nat_lt j c.callers) (not (is_number_of s j)) (lt-ltb j c.callers lt) (ap not other))
-      (ap not not_held) refl refl refl
+      may_by (Step.Hold j) refl (order_of_acting c m s (Step.Hold j) at.acts refl) (and_from _ (not _) (lt-ltb j _ lt)
+      (ap not other)) (ap not not_held) refl refl refl
 
   pub may_open : (j : ℕ) → j < c.callers → is_number_of s j ≡ false → is_held m.words j ≡ true → IsOutOfStop m
       → is_run_gone m.words m.seats.holding.freed ≡ true → IsEnabled c m (record { seat = s; step = Step.Open j })
@@ -171,10 +165,9 @@ module _ {c : Config} {m : Moment} {s : Seat} (at : IsActing c m s) where
   pub may_unmap : (p v : ℕ) → p < c.pages → IsOutOfStop m → others_are_held c.callers m.words s ≡ true
       → unmaps m.words m.seats.holding.freed p v ≡ true → IsEnabled c m (record { seat = s; step = Step.Head p v })
   may_unmap p v within low held unmap =
-      may_by (Step.Head p v) refl (order_of_acting c m s (Step.Head p v) at.acts refl) (lt-ltb p c.pages within)
-      (or_right (not (is_unmapped_header (header_of v))) _ held) (low_or_more (phase_of m.words) 4 low) refl
-      (rw (off_four m low)
-      (or_right (carves m.words (object_made c (flight_of m s).op) (place_now c m (flight_of m s)) p v) _ unmap))
+      may_by (Step.Head p v) refl (order_of_acting c m s (Step.Head p v) at.acts refl) (lt-ltb p _ within) (or_right
+      (not _) _ held) (low_or_more _ 4 low) refl (rw (off_four m low) (or_right (carves m.words (object_made c
+      (flight_of m s).op) (place_now c m (flight_of m s)) p v) _ unmap))
 
   pub may_look_heap : (n : ℕ) → n < 64 * c.pages → IsEnabled c m (record { seat = s; step = Step.Look (Word.Heap n) })
   may_look_heap n within =
@@ -185,5 +178,4 @@ module _ {c : Config} {m : Moment} {s : Seat} (at : IsActing c m s) where
       → IsEnabled c m (record { seat = s; step = Step.Wipe n })
   may_wipe n within gone =
       may_by (Step.Wipe n) refl (order_of_acting c m s (Step.Wipe n) at.acts refl) (lt-ltb n (64 * c.pages) within) refl
-      refl refl
-      (or_right (is_some_and (is_released_cell m.words) (pointed_cell c.pages m.words.pages (address_of n))) _ gone)
+      refl refl (or_right _ _ gone)

@@ -1,15 +1,12 @@
 -- A part of a turn after another, and what a part that is reached says of the pass.
 use Rattle.mk_laws.proofs.Vocabulary.{Answer, Bool, Decided, List, Op, Some, Step, World, ap, append-nil, append_assoc}
-use Rattle.mk_laws.proofs.Vocabulary.{caller_number, entry_of, flight_of, left, subst, sym, true, [], ◌++◌, ◌∙◌, ◌≡◌}
+use Rattle.mk_laws.proofs.Vocabulary.{caller_number, entry_of, flight_of, left, subst, sym, true, [], ◌++◌, ◌≡◌}
 use Rattle.mk_objects.proofs.Vocabulary.{ComesTo, Does, PassState, call_of, does_then, entry_for, own_calls, world_of}
 use Rattle.mk_objects.proofs.{Counted.counts_then, JoinedLooks.does_wider, Reaching.seeing}
 
 -- Each kind of the one is of the other.
 abbrev pub AreAmong : (Step → Bool) → (Step → Bool) → Type 0
 AreAmong narrow wide = (x : Step) → narrow x ≡ true → wide x ≡ true
-
-pub same_kinds : (kinds : Step → Bool) → AreAmong kinds kinds
-same_kinds kinds x h = h
 
 -- what is reached is of this sort, too
 pub reaches_so : {kinds : Step → Bool} {p q : PassState} {A B : World → Type 0} {ds : List Decided}
@@ -32,16 +29,14 @@ module _ {one two kinds : Step → Bool} (ones : AreAmong one kinds) (twos : Are
     where
       by : ComesTo two (seeing p q.seen) (B (seeing p q.seen)) (entries (seeing p q.seen)) r
           → ComesTo kinds p C (ds ++ entries (seeing p q.seen)) r
-      by b =
-          record {
-            same = b.same;
-            does = does_then kinds p q r (does_wider one kinds ones p q a.does)
-                (does_wider two kinds twos q r (subst (λ (x : PassState). Does two x r) (sym a.same) b.does));
-            calls = b.calls ∙ ap (λ (l : List Decided). l ++ entries (seeing p q.seen)) a.calls
-                ∙ append_assoc (own_calls p p.seen) ds (entries (seeing p q.seen));
-            world = joined _ a.world b.world;
-            counts = counts_then a.counts b.counts;
-          }
+      by b = record {
+        same = b.same;
+        does = does_then kinds p q r (does_wider one kinds ones p q a.does)
+            (does_wider two kinds twos q r (subst (λ (x : PassState). Does two x r) (sym a.same) b.does));
+        calls = cc (b.calls, a.calls, append_assoc (own_calls p p.seen) ds (entries (seeing p q.seen)));
+        world = joined _ a.world b.world;
+        counts = counts_then a.counts b.counts;
+      }
 
   -- where the later part adds no entry
   pub reaches_after : {p q r : PassState} {A : World → Type 0} (B : PassState → World → Type 0) {C : World
@@ -52,14 +47,13 @@ module _ {one two kinds : Step → Bool} (ones : AreAmong one kinds) (twos : Are
 -- A part of some kinds is one of more kinds.
 pub reaches_wider : {narrow wide : Step → Bool} → AreAmong narrow wide → {p q : PassState} {A : World → Type 0}
     {ds : List Decided} → ComesTo narrow p A ds q → ComesTo wide p A ds q
-reaches_wider {narrow} {wide} widens {p} {q} a =
-    record {
-      same = a.same;
-      does = does_wider narrow wide widens p q a.does;
-      calls = a.calls;
-      world = a.world;
-      counts = a.counts;
-    }
+reaches_wider {narrow} {wide} widens {p} {q} a = record {
+  same = a.same;
+  does = does_wider narrow wide widens p q a.does;
+  calls = a.calls;
+  world = a.world;
+  counts = a.counts;
+}
 
 -- The later part answers the call, whose operation the earlier one has left.
 pub reaches_answered : {one two kinds : Step → Bool} → AreAmong one kinds → AreAmong two kinds

@@ -36,15 +36,14 @@ pub record MadeIn (p : PassState) (es : List Event) (s : Step) (r : PassState) :
 
 -- what others had left it where it made its step
 pub kept_by : {p q : PassState} {s : Step} (a : Acts p s q) → IsAsLeft p.seat (world_of p) (world_at a.makes)
-kept_by a =
-    record {
-      call = a.own.flight;
-      holding = a.holding;
-      steady = a.turn.steady;
-      marks = a.turn.marks_grow;
-      registers = a.own.registers;
-      gates = λ j. held_so _ (a.turn.held_gates j) (a.turn.other_gates j);
-    }
+kept_by a = record {
+  call = a.own.flight;
+  holding = a.holding;
+  steady = a.turn.steady;
+  marks = a.turn.marks_grow;
+  registers = a.own.registers;
+  gates = λ j. held_so _ (a.turn.held_gates j) (a.turn.other_gates j);
+}
 
 pub made_in : (p : PassState) (es : List Event) {s : Step} {r : PassState} → Acts (seeing p es) s r → MadeIn p es s r
 made_in p es {s} {r} a =
@@ -63,14 +62,13 @@ made_in p es {s} {r} a =
 
 pub reaches_nothing : (kinds : Step → Bool) (p : PassState) (A : World → Type 0) → A (world_of p)
     → ComesTo kinds p A [] p
-reaches_nothing kinds p A here =
-    record {
-      same = refl;
-      does = does_nothing kinds p;
-      calls = sym (append-nil (own_calls p p.seen));
-      world = here;
-      counts = record { ends = refl; fulls = refl };
-    }
+reaches_nothing kinds p A here = record {
+  same = refl;
+  does = does_nothing kinds p;
+  calls = sym (append-nil (own_calls p p.seen));
+  world = here;
+  counts = record { ends = refl; fulls = refl };
+}
 
 -- What a step that is made in a world comes to, and the entry that it adds to the calls of its own.
 pub record StepsTo (p : PassState) (s : Step) (B : World → Type 0) (es : List Decided) (v : World) : Type 0 where
@@ -144,14 +142,13 @@ reaches_on A B reached acts allowed no_end caller next =
 
 idle_steps : (p : PassState) (s : Step) (B : World → Type 0) (v : World) → may_decide s ≡ false
     → B (world_behind p.table.config v (event_of p s)) → StepsTo p s B [] v
-idle_steps p s B v idle there =
-    record {
-      world = there;
-      answer = None;
-      decides = decides_nothing p.table.config v.now p.seat s idle;
-      no_full = refl;
-      entry = λ k is. refl;
-    }
+idle_steps p s B v idle there = record {
+  world = there;
+  answer = None;
+  decides = decides_nothing p.table.config v.now p.seat s idle;
+  no_full = refl;
+  entry = λ k is. refl;
+}
 
 pub reaches_still_in_stop : {kinds : Step → Bool} {p q r : PassState}
     (A B : World → Type 0) {ds : List Decided} {s : Step} → ComesTo kinds p A ds q → Acts q s r → kinds s ≡ true

@@ -1,26 +1,24 @@
 -- A Free's whole turn: its register was null, or its object was freed, or found freed.
 use Rattle.mk_laws.proofs.Vocabulary.{Answer, Bool, Cell, Flight, Holding, Holds, IsHistory, List, Null}
-use Rattle.mk_laws.proofs.Vocabulary.{PlacedAllocation, Ptr, Some, Stage, Steady, Value, ℕ, allocation_at, ap, false}
-use Rattle.mk_laws.proofs.Vocabulary.{freed_where_it_stands, has_bit, if◌then◌else◌, is_freed, is_held, length, map}
-use Rattle.mk_laws.proofs.Vocabulary.{never_behind, nothing_done, placed_at, quarantine_word, refl, slice_index}
-use Rattle.mk_laws.proofs.Vocabulary.{slice_set, subst, sym, target, true, true≢false, [], ◌%◌, ◌<◌, ◌==◌, ◌^◌, ◌∙◌}
-use Rattle.mk_laws.proofs.Vocabulary.{◌≡◌}
+use Rattle.mk_laws.proofs.Vocabulary.{PlacedAllocation, Ptr, Some, Stage, Steady, Value, ℕ, allocation_at, ap, arith}
+use Rattle.mk_laws.proofs.Vocabulary.{false, freed_where_it_stands, has_bit, if◌then◌else◌, is_freed, is_held, length}
+use Rattle.mk_laws.proofs.Vocabulary.{map, never_behind, nothing_done, placed_at, quarantine_word, refl, slice_index}
+use Rattle.mk_laws.proofs.Vocabulary.{subst, sym, target, true, true≢false, [], ◌%◌, ◌<◌, ◌==◌, ◌^◌, ◌∙◌, ◌≡◌}
 use Rattle.mk_objects.proofs.Vocabulary.{CallIsAt, ComesTo, FreesCell, IsBase, IsFreeAt, IsOutOfStop, MayFree}
-use Rattle.mk_objects.proofs.Vocabulary.{OnlyLooks, PassState, WordsState, call_of, entry_for, freed_and_fresh}
+use Rattle.mk_objects.proofs.Vocabulary.{OnlyLooks, PassState, WordsState, call_of, entry_for}
 use Rattle.mk_objects.proofs.Vocabulary.{histories_keep_the_invariant, is_freeing, is_loading, loaded_free}
 use Rattle.mk_objects.proofs.Vocabulary.{none_is_held, now_of, steady_of, value_of, world_of}
 use Rattle.mk_core.specs.Counts.{TalliesAreExact}
-use Rattle.mk_objects.proofs.DecidedFrees.{Decides, decided_behind, load_frees, loading_not}
 use Rattle.mk_objects.proofs.FreedObjects.{IsObjectAt, granted, it_is_freed, its_freed, object_at}
 use Rattle.mk_objects.proofs.FreedOnce.{due_since, due_then, none_due, once_behind}
 use Rattle.mk_objects.proofs.FreesUnderway.{Comes, come_call, come_now, come_table, comes_loaded, comes_looking}
 use Rattle.mk_objects.proofs.FreesUnderway.{comes_seeing, decides_free, is_at_then, leaves_all, same_allocations}
 use Rattle.mk_objects.proofs.FreesUnderway.{seen_at}
 use Rattle.mk_objects.proofs.JoinedLooks.{looks_call, looks_left, looks_table}
-use Rattle.mk_objects.proofs.PreparedFrees.{IsExactly, still_open}
-use Rattle.mk_objects.proofs.ReachedParts.{reaches_answered, reaches_named, reaches_wider, same_kinds}
-use Rattle.mk_objects.proofs.SeenDoubles.{freed_same, target_same}
-use Rattle.mk_objects.proofs.{FreeSteps.low_half, Serves.out_of_stop, SmallFrees.exact_still}
+use Rattle.mk_objects.proofs.ReachedParts.{reaches_answered, reaches_named, reaches_wider}
+use Rattle.mk_objects.proofs.{DecidedFrees.Decides, DecidedFrees.decided_behind, FreeSteps.low_half}
+use Rattle.mk_objects.proofs.{PreparedFrees.IsExactly, PreparedFrees.still_open, SeenDoubles.freed_same}
+use Rattle.mk_objects.proofs.{SeenDoubles.target_same, Serves.out_of_stop, SmallFrees.exact_still}
 use Rattle.mk_objects.specs.Retired.{FindsFreed, IsFreed, Retires, with_freed_object}
 use Rattle.mk_objects.specs.Retiring.{HasLoaded, HasSeen, IsUnloaded}
 use Rattle.mk_objects.specs.Deciding.{IsDecidedAt, counted}
@@ -33,17 +31,16 @@ pub retires_null : {p q : PassState} {r u : ℕ} → IsUnloaded p r → HasLoade
 retires_null {p} {q} {r} {u} unloaded loaded none null nothing gates exact h holds =
     let f : Flight = loaded_free r u in
     let named : ComesTo is_freeing p (CallIsAt p.seat f (world_of p)) (entry_for p Answer.Done) q =
-    reaches_wider load_frees
+    reaches_wider (λ x h. grind arith)
     (reaches_named (ap (λ (b : Bool). if b then entry_for p Answer.Done else []) none) loaded) in
     let give : f.stage ≡ Stage.Give = ap (λ (b : Bool). if b then Stage.Give else Stage.Turn) none in
     let same : f.op ≡ (call_of p).op = sym (ap (λ (x : Flight). x.op) unloaded.call) in
     record {
       decides = leaves_all Answer.Done named give same nothing gates exact;
       unfreed = λ freed. subst (λ (v : Value). IsFreed (never_behind p.table.config p.seen) v) null freed;
-      allocations = same_allocations Answer.Done named give same nothing gates exact
-          ∙ ap (λ (v : Value). with_freed_object v (world_of p).allocations) (sym null);
+      allocations = cc (same_allocations Answer.Done named give same nothing gates exact, null);
       is_due = λ yes_due. absurd (true≢false (sym yes_due));
-      not_due = λ is due. none_due loading_not loaded.does h holds due;
+      not_due = λ is due. none_due (λ x h. grind arith) loaded.does h holds due;
     }
 
 -- The freed bit of the word that was found is that of the cell.
@@ -74,9 +71,7 @@ module _ (p q : PassState) (r : ℕ) (f : Flight) (cell : Cell) (come : Comes p 
 
   twin : (placed_at (world_of q).allocations x.number).freed ≡ (allocation_at (never_behind p.table.config p.seen)
       x.number).freed
-  twin =
-      ap (λ (xs : List PlacedAllocation). (placed_at xs x.number).freed) same_list
-      ∙ (histories_keep_the_invariant p.table.config p.seen hp).mirrors.twins.freed x.number within
+  twin = cc (same_list, (histories_keep_the_invariant p.table.config p.seen hp).mirrors.twins.freed x.number within)
 
   pub never_freed : is_freed (now_of q).words cell ≡ (allocation_at (never_behind p.table.config p.seen) x.number).freed
   never_freed = its_freed q r cell hq x low_there ∙ twin
@@ -94,10 +89,7 @@ module _ (p q : PassState) (r : ℕ) (f : Flight) (cell : Cell) (come : Comes p 
 
   pub with_it_freed : map (freed_where_it_stands (now_of q).words (Some cell)) (world_of q).allocations
       ≡ with_freed_object (value_of p r) (world_of p).allocations
-  with_it_freed =
-      it_is_freed q r cell hq x
-      ∙ ap (λ (xs : List PlacedAllocation). slice_set xs x.number (freed_and_fresh (placed_at xs x.number))) same_list
-      ∙ ap (λ (v : Value). with_freed_object v (world_of p).allocations) (sym pointed)
+  with_it_freed = cc (it_is_freed q r cell hq x, same_list, pointed)
 
 -- It was freed already.
 pub finds_freed : {p q s : PassState} {r : ℕ} (u : ℕ) (cell : Cell) → IsUnloaded p r → Comes p (loaded_free r u) q
@@ -108,7 +100,7 @@ finds_freed {p} {s} {r} u cell unloaded come seen set nothing gates exact freed 
     let f : Flight = record (loaded_free r u) { stage = Stage.Give } in
     let same : (loaded_free r u).op ≡ (call_of p).op = sym (ap (λ (g : Flight). g.op) unloaded.call) in
     let joined : ComesTo is_loading p (CallIsAt p.seat f (world_of p)) (entry_for p Answer.Double) s =
-    reaches_answered (same_kinds is_loading) (same_kinds is_loading) (λ x. CallIsAt x.seat f (world_of x)) Answer.Double
+    reaches_answered (λ x h. h) (λ x h. h) (λ x. CallIsAt x.seat f (world_of x)) Answer.Double
     come (ap (λ (g : Flight). g.op) come.world.call ∙ same) (seen_at cell come seen set refl) (λ v a b. is_at_then a b)
     in
     record { decides = leaves_all Answer.Double joined refl same nothing gates exact; freed = freed }
@@ -127,10 +119,7 @@ target_stays : (p q : PassState) (cell : Cell) → p.table ≡ q.table → call_
     → target p.table.config.pages (now_of p).words (call_of p) ≡ Some cell
     → target q.table.config.pages (now_of q).words (call_of q) ≡ Some cell
 target_stays p q cell table call pages at =
-    ap (λ (t : WordsState). target t.config.pages (now_of q).words (call_of q)) (sym table)
-    ∙ ap (λ (g : Flight). target p.table.config.pages (now_of q).words g) call
-    ∙ target_same p.table.config.pages (now_of p).words (now_of q).words (call_of p) pages
-    ∙ at
+    cc (target_same p.table.config.pages (now_of p).words (now_of q).words (call_of p) pages)
 
 pub found_so : {p l q : PassState} {r u : ℕ} (cell : Cell) → HasLoaded p r u l → (u == 0) ≡ false → value_of l r
     ≡ value_of p r → OnlyLooks l q → value_of q r ≡ value_of l r → target l.table.config.pages (now_of l).words
@@ -149,12 +138,11 @@ found_so {l} {q} cell loaded some keeps looks still at within index =
 
 module _ {p q : PassState} {r u : ℕ} {cell : Cell} (unloaded : IsUnloaded p r) (x : IsFound p q r u cell) where
   pub free : IsFreeAt q r (loaded_free r u)
-  free =
-      record {
-        call = come_call x.come;
-        small = unloaded.small;
-        base = subst (λ (v : Value). IsBase v) (sym x.keeps) unloaded.base;
-      }
+  free = record {
+    call = come_call x.come;
+    small = unloaded.small;
+    base = subst (λ (v : Value). IsBase v) (sym x.keeps) unloaded.base;
+  }
 
   abbrev pub object_found : IsHistory q.table.config q.seen → IsObjectAt q r cell
   object_found h = object_at u cell h free x.some x.at
@@ -204,10 +192,10 @@ retires {p} {q} {t} {r} {u} {cell} {due} unloaded come may keeps low f before h 
     let same : g.op ≡ (call_of p).op = sym (ap (λ (x : Flight). x.op) unloaded.call) in
     let table = come_table come in
     let d : Decides is_freeing p Answer.Done t =
-    reaches_answered load_frees (same_kinds is_freeing) (λ x. IsDecidedAt x.seat (world_of x)) Answer.Done come
+    reaches_answered (λ x h. grind arith) (λ x h. h) (λ x. IsDecidedAt x.seat (world_of x)) Answer.Done come
     (ap (λ (x : Flight). x.op) come.world.call ∙ same) f.reaches (λ v a b. decided_behind (world_of p)
     (ap (λ (x : Flight). x.op) a.call ∙ same) a.holding (ap counted a.steady) b) in
-    let once = once_behind loading_not come.does h holds f.once in
+    let once = once_behind (λ x h. grind arith) come.does h holds f.once in
     let exactly = subst (λ (y : WordsState). IsExactly y due (world_of t).allocations) (sym table) f.exactly in
     record {
       decides = decides_free d f.gone (subst (λ (y : WordsState). (j : ℕ) → j < y.config.callers

@@ -172,14 +172,13 @@ module _ {p : PassState} {place : Place} (goes : GoesTo p place) (k : KnowsPlace
       (ap (λ (x : Steady). x.phase) on.serving.steady) goes.unplaced.phase) lt (omega arith))
 
   pub carved_all : {q : PassState} → HasCarved p place (pages_made (object_for p)) q → MayTake p place q
-  carved_all reached =
-      record {
-        same = reached.same;
-        does = reached.does;
-        calls = reached.calls;
-        world = ready_carved reached.world;
-        counts = reached.counts;
-      }
+  carved_all reached = record {
+    same = reached.same;
+    does = reached.does;
+    calls = reached.calls;
+    world = ready_carved reached.world;
+    counts = reached.counts;
+  }
 
 -- A block is ready.
 pub block_ready : {p : PassState} {place : Place} → KnowsPlace p place → header_at (now_of p).words place.page ≢ 0

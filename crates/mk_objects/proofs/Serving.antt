@@ -16,8 +16,7 @@ use Rattle.mk_objects.proofs.{MayAct.off_four, Unchanged.HasCall, Unchanged.OfCa
 -- What others do leaves it so.
 
 place_same : (c : Config) (u v : World) (f : Flight) → v.now.seats.holding ≡ u.now.seats.holding
-    → v.now.words.pages ≡ u.now.words.pages
-    → place_now c v.now f ≡ place_now c u.now f
+    → v.now.words.pages ≡ u.now.words.pages → place_now c v.now f ≡ place_now c u.now f
 place_same c u v f holding pages = grind arith
 
 pub serving_left : {c : Config} {s : Seat} {o : Object} {place : Place} {w u v : World} → Serving c s o place w u
@@ -56,8 +55,7 @@ pub new_placed : (c : Config) (m : Moment) (f : Flight) (place : Place) → is_u
 new_placed c m f place new placed once = grind (arith, chosen_place)
 
 pub chosen_now : (c : Config) (m : Moment) (f : Flight) (place : Place) → is_undecided_new f ≡ true
-    → m.seats.holding.placing ≡ Chosen place
-    → place_now c m f ≡ Some place
+    → m.seats.holding.placing ≡ Chosen place → place_now c m f ≡ Some place
 chosen_now c m f place new is = rw (new, is) refl
 
 -- A header is stored, and no other word of the pages changes.

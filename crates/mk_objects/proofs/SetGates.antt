@@ -10,9 +10,9 @@ use Rattle.mk_objects.proofs.Vocabulary.{Acts, HasGates, IsAsLeft, IsOutOfStop, 
 use Rattle.mk_objects.proofs.Vocabulary.{WordsState, all_others, call_of, held_from, held_to, is_acting, is_holding}
 use Rattle.mk_objects.proofs.Vocabulary.{is_settling, none_is_held, now_of, world_of}
 use Rattle.mk_objects.proofs.Looks.{acting_caller, acting_now, still_acting}
-use Rattle.mk_objects.proofs.ReachedParts.{reaches_after, reaches_so, same_kinds}
+use Rattle.mk_objects.proofs.Reaching.{reaches_first, reaches_nothing, seeing}
 use Rattle.mk_objects.proofs.Unchanged.{HasCall, OfCaller, acting_has_call, call_behind}
-use Rattle.mk_objects.proofs.{Reaching.reaches_first, Reaching.reaches_nothing, Reaching.seeing, Serves.out_of_stop}
+use Rattle.mk_objects.proofs.{ReachedParts.reaches_after, ReachedParts.reaches_so, Serves.out_of_stop}
 use Rattle.mk_objects.specs.FreeParts.{GateIsSet, IsButGates}
 
 -- One gate may have changed.
@@ -22,29 +22,27 @@ record AllButOne (s : Seat) (gate : ℕ) (w v : World) : Type 0 where
 
 hold_behind : {c : Config} {s : Seat} {w v : World} (gate : ℕ) → IsAsLeft s w v → HasCall c v.now s
     → AllButOne s gate w (world_behind c v (record { seat = s; step = Step.Hold gate }))
-hold_behind {c} {v} gate kept (OfCaller k lt) =
-    record {
-      but_gates = record {
-        call = call_behind c v.now k (Step.Hold gate) lt ∙ kept.call;
-        holding = kept.holding;
-        steady = kept.steady;
-      };
-      others = λ j ne. ap (λ (n : ℕ). n == 2) (get_or-set_other v.now.words.gates gate j _ 0 ne) ∙ kept.gates j;
-    }
+hold_behind {c} {v} gate kept (OfCaller k lt) = record {
+  but_gates = record {
+    call = call_behind c v.now k (Step.Hold gate) lt ∙ kept.call;
+    holding = kept.holding;
+    steady = kept.steady;
+  };
+  others = λ j ne. ap (λ (n : ℕ). n == 2) (get_or-set_other v.now.words.gates gate j _ 0 ne) ∙ kept.gates j;
+}
 
 open_behind : {c : Config} {s : Seat} {w v : World} (gate : ℕ) → IsAsLeft s w v → HasCall c v.now s
     → gate < length v.now.words.gates
     → GateIsSet s gate false w (world_behind c v (record { seat = s; step = Step.Open gate }))
-open_behind {c} {v} gate kept (OfCaller k lt) room =
-    record {
-      but_gates = record {
-        call = call_behind c v.now k (Step.Open gate) lt ∙ kept.call;
-        holding = kept.holding;
-        steady = kept.steady;
-      };
-      set = ap (λ (n : ℕ). n == 2) (get_or-set_same v.now.words.gates gate 0 0 room);
-      others = λ j ne. ap (λ (n : ℕ). n == 2) (get_or-set_other v.now.words.gates gate j 0 0 ne) ∙ kept.gates j;
-    }
+open_behind {c} {v} gate kept (OfCaller k lt) room = record {
+  but_gates = record {
+    call = call_behind c v.now k (Step.Open gate) lt ∙ kept.call;
+    holding = kept.holding;
+    steady = kept.steady;
+  };
+  set = ap (λ (n : ℕ). n == 2) (get_or-set_same v.now.words.gates gate 0 0 room);
+  others = λ j ne. ap (λ (n : ℕ). n == 2) (get_or-set_other v.now.words.gates gate j 0 0 ne) ∙ kept.gates j;
+}
 
 module _ {p : PassState} (q : PassState) {o : Option Op} (gate : ℕ) (turn : IsTurn p o)
     (acts : is_acting (call_of p).stage ≡ true) where
@@ -83,7 +81,7 @@ set_again a b = grind (arith, but_gates_then)
 pub sets_again : {kinds : Step → Bool} {p q r : PassState} {gate : ℕ} {first held : Bool}
     → SetsGate kinds p gate first q → SetsGate kinds q gate held r → SetsGate kinds p gate held r
 sets_again {kinds} {gate} {held} a b =
-    reaches_after (same_kinds kinds) (same_kinds kinds) (λ x. GateIsSet x.seat gate held (world_of x)) a b
+    reaches_after (λ x h. h) (λ x h. h) (λ x. GateIsSet x.seat gate held (world_of x)) a b
     (λ v a b. set_again a b)
 
 -- A gate that isn't held is set so.
@@ -94,30 +92,26 @@ set_nothing kinds p gate {held} is =
     (record { but_gates = record { call = refl; holding = refl; steady = refl }; set = is; others = λ j ne. refl })
 
 gates_more : (s : Seat) (callers : ℕ) (gates then : ℕ → Bool) (gate : ℕ) (held : Bool) (w u v : World)
-    → HasGates s callers gates w u
-    → GateIsSet s gate held u v → ((j : ℕ) → j ≢ gate → then j ≡ gates j) → then gate ≡ held
-    → HasGates s callers then w v
-gates_more s callers gates then gate held w u v a b others here =
-    record {
-      but_gates = but_gates_then a.but_gates b.but_gates;
-      held = λ j lt. elim (cases_eq j gate) [
-        | inl e ↦ ap (λ i. is_held v.now.words i) e ∙ b.set ∙ sym here ∙ ap then (sym e)
-        | inr ne ↦ b.others j ne ∙ a.held j lt ∙ sym (others j ne)
-      ];
-    }
+    → HasGates s callers gates w u → GateIsSet s gate held u v → ((j : ℕ) → j ≢ gate → then j ≡ gates j)
+    → then gate ≡ held → HasGates s callers then w v
+gates_more s callers gates then gate held w u v a b others here = record {
+  but_gates = but_gates_then a.but_gates b.but_gates;
+  held = λ j lt. elim (cases_eq j gate) [
+    | inl e ↦ ap (λ i. is_held v.now.words i) e ∙ b.set ∙ sym here ∙ ap then (sym e)
+    | inr ne ↦ b.others j ne ∙ a.held j lt ∙ sym (others j ne)
+  ];
+}
 
 pub sets_more : (kinds : Step → Bool) (p q r : PassState) (gates then : ℕ → Bool) (gate : ℕ) (held : Bool)
-    → SetsGates kinds p gates q
-    → SetsGate kinds q gate held r → ((j : ℕ) → j ≢ gate → then j ≡ gates j) → then gate ≡ held
-    → SetsGates kinds p then r
+    → SetsGates kinds p gates q → SetsGate kinds q gate held r → ((j : ℕ) → j ≢ gate → then j ≡ gates j)
+    → then gate ≡ held → SetsGates kinds p then r
 sets_more kinds p q r gates then gate held a b others here =
-    reaches_after (same_kinds kinds) (same_kinds kinds) (λ x. GateIsSet x.seat gate held (world_of x)) a b
+    reaches_after (λ x h. h) (λ x h. h) (λ x. GateIsSet x.seat gate held (world_of x)) a b
     (λ v a b. gates_more p.seat p.table.config.callers gates then gate held (world_of p) _ v a b others here)
 
 -- the gates by other names
 pub sets_named : {kinds : Step → Bool} {p q : PassState} {gates : ℕ → Bool} (then : ℕ → Bool)
-    → SetsGates kinds p gates q
-    → ((j : ℕ) → j < p.table.config.callers → gates j ≡ then j) → SetsGates kinds p then q
+    → SetsGates kinds p gates q → ((j : ℕ) → j < p.table.config.callers → gates j ≡ then j) → SetsGates kinds p then q
 sets_named then a same = reaches_so a (λ x. record { but_gates = x.but_gates; held = λ j lt. x.held j lt ∙ same j lt })
 
 pub sets_first : (kinds : Step → Bool) (p : PassState) (gates : ℕ → Bool)
@@ -161,9 +155,8 @@ opened_next s n j ne = ap (λ b. not b && not (is_number_of s j)) (next_below n 
 pub holds_none : (p : PassState) → none_is_held p.table.config.callers (now_of p).words ≡ true
     → SetsGates is_holding p (held_to p.seat 0) p
 holds_none p none =
-    sets_first is_holding p (held_to p.seat 0) (λ j lt.
-    not-true _ (all_below-at p.table.config.callers j (λ i. not (is_held (now_of p).words i)) none lt)
-    ∙ sym (none_below p.seat j))
+    sets_first is_holding p _ (λ j lt. not-true _ (all_below-at p.table.config.callers j (λ i. not (is_held (now_of
+    p).words i)) none lt) ∙ sym (none_below p.seat j))
 
 pub opens_none : (p : PassState)
     → ((j : ℕ) → j < p.table.config.callers → is_held (now_of p).words j ≡ all_others p.seat j)

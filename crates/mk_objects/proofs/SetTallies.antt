@@ -2,20 +2,19 @@
 use Rattle.mk_laws.proofs.Vocabulary.{Caller, Config, List, Op, Option, Seat, Steady, Step, Tally, World, ℕ, ap}
 use Rattle.mk_laws.proofs.Vocabulary.{flight_of, refl, slice_index, true, world_behind, ◌==◌, ◌∙◌, ◌≡◌}
 use Rattle.mk_objects.proofs.Vocabulary.{Acts, Changes, IsAsLeft, IsTurn, PassState, SetsTally, call_of, is_acting}
-use Rattle.mk_objects.proofs.Vocabulary.{steady_of, with_tally, world_of}
+use Rattle.mk_objects.proofs.Vocabulary.{steady_of, with_tally}
 use Rattle.mk_objects.proofs.Unchanged.{HasCall, OfCaller, acting_has_call, call_behind}
 use Rattle.mk_objects.proofs.{Looks.acting_caller, Looks.acting_now, Looks.still_acting, Reaching.reaches_first}
 
 changed_by : {s : Seat} {w v u : World} (change : Steady → Steady) → IsAsLeft s w v
     → flight_of u.now s ≡ flight_of v.now s → u.now.seats.holding ≡ v.now.seats.holding
     → steady_of u ≡ change (steady_of v) → u.now.words.gates ≡ v.now.words.gates → Changes s change w u
-changed_by change kept call holding steady gates =
-    record {
-      call = call ∙ kept.call;
-      holding = holding ∙ kept.holding;
-      steady = steady ∙ ap change kept.steady;
-      gates = λ j. ap (λ (xs : List ℕ). slice_index xs j == 2) gates ∙ kept.gates j;
-    }
+changed_by change kept call holding steady gates = record {
+  call = call ∙ kept.call;
+  holding = holding ∙ kept.holding;
+  steady = steady ∙ ap change kept.steady;
+  gates = λ j. ap (λ (xs : List ℕ). slice_index xs j == 2) gates ∙ kept.gates j;
+}
 
 tally_behind : {c : Config} {s : Seat} {w v : World} (t : Tally) (n : ℕ) → IsAsLeft s w v → HasCall c v.now s
     → Changes s (with_tally t n) w (world_behind c v (record { seat = s; step = Step.Tally t n }))
@@ -35,6 +34,5 @@ tally_behind {c} {w} {v} t n kept (OfCaller k lt) = by t (call_behind c v.now k 
 pub sets_tally : {p q : PassState} {o : Option Op} {t : Tally} {n : ℕ} → IsTurn p o → is_acting (call_of p).stage ≡ true
     → Acts p (Step.Tally t n) q → SetsTally p t n q
 sets_tally {p} {o} {t} {n} turn acts a =
-    reaches_first (Changes p.seat (with_tally t n) (world_of p)) a refl refl (acting_caller p acts) refl
-    (λ v kept known pages. tally_behind t n kept (acting_has_call known.orderly.flights
-    (still_acting (acting_now p o turn acts) kept)))
+    reaches_first _ a refl refl (acting_caller p acts) refl (λ v kept known pages. tally_behind t n kept
+    (acting_has_call known.orderly.flights (still_acting (acting_now p o turn acts) kept)))

@@ -6,14 +6,13 @@ use Rattle.mk_laws.proofs.Vocabulary.{not-true, refl, run_headed, subst, sym, tr
 use Rattle.mk_laws.proofs.Vocabulary.{◌^◌, ◌↔◌, ◌∙◌, ◌≡◌}
 use Rattle.mk_objects.proofs.Vocabulary.{Changes, FreesCell, FreesOnce, HasFreed, IsAsLeft, IsFreedAt, IsOverQuarter}
 use Rattle.mk_objects.proofs.Vocabulary.{IsTrue, MayFree, OnlyLooks, PassState, SetsTally, StaysSo, held_by_allocations}
-use Rattle.mk_objects.proofs.Vocabulary.{is_following, is_settling, min, none_is_held, now_of, steady_of, with_tally}
-use Rattle.mk_objects.proofs.Vocabulary.{words_freed, world_of}
+use Rattle.mk_objects.proofs.Vocabulary.{is_following, min, none_is_held, now_of, steady_of, with_tally, words_freed}
+use Rattle.mk_objects.proofs.Vocabulary.{world_of}
 use Rattle.mk_core.specs.Counts.{TalliesAreExact}
 use Rattle.mk_laws.proofs.Tallies.{fresh_is_told}
-use Rattle.mk_objects.proofs.DecidedFrees.{Stays, decides_before, following_not, freed_decides, fresh_stays}
-use Rattle.mk_objects.proofs.DecidedFrees.{look_settles, settling_follows, stays_now}
+use Rattle.mk_objects.proofs.DecidedFrees.{Stays, decides_before, freed_decides, fresh_stays, stays_now}
 use Rattle.mk_objects.proofs.FreedObjects.{object_at, small_held}
-use Rattle.mk_objects.proofs.ReachedParts.{reached_table, reached_world, reaches_after, reaches_wider, same_kinds}
+use Rattle.mk_objects.proofs.ReachedParts.{reached_table, reached_world, reaches_after, reaches_wider}
 use Rattle.mk_objects.proofs.{FreedOnce.once_before, GoneRuns.IsGoneIn, GoneRuns.still_gone}
 
 -- After a `quar` the call is decided.
@@ -29,9 +28,8 @@ pub over_quarter : (c : Config) (xs : List PlacedAllocation) {held fresh : ℕ} 
 over_quarter c xs due is_held is_fresh fits is = grind arith
 
 -- The count of fresh words is as it was, and as much more as is freed.
-pub fresh_told_by : (p q : PassState) (cell : Cell) → IsHistory p.table.config p.seen
-    → IsHistory q.table.config q.seen → p.table ≡ q.table
-    → TalliesAreExact p.table.config p.seen
+pub fresh_told_by : (p q : PassState) (cell : Cell) → IsHistory p.table.config p.seen → IsHistory q.table.config q.seen
+    → p.table ≡ q.table → TalliesAreExact p.table.config p.seen
     → (now_of q).fresh_words ≡ min ((now_of p).fresh_words + words_freed (now_of p).words (Some cell)) (2 ^ 64 - 1)
     → min ((now_of p).words.fresh + words_freed (now_of p).words (Some cell)) (2 ^ 64 - 1)
     ≡ in_a_word (fresh_words_of p.table.config (world_of q).allocations)
@@ -59,17 +57,15 @@ no_run _ page h = refl
 
 -- no gate was held
 pub none_held : (p : PassState) → none_is_held p.table.config.callers (now_of p).words ≡ true → (j : ℕ)
-    → j < p.table.config.callers
-    → is_held (now_of p).words j ≡ false
-none_held p none j lt = not-true _ (all_below-at p.table.config.callers j (λ i. not (is_held (now_of p).words i)) none
-    lt)
+    → j < p.table.config.callers → is_held (now_of p).words j ≡ false
+none_held p none j lt = not-true _ (all_below-at _ j (λ i. not (is_held (now_of p).words i)) none lt)
 
 -- The tally is set, between looks.
 pub tally_between : {p a b q : PassState} (t : Tally) (n : ℕ) → OnlyLooks p a → SetsTally a t n b → OnlyLooks b q
     → SetsTally p t n q
 tally_between t n before sets behind =
-    reaches_after look_settles (same_kinds is_settling) (λ x. Changes x.seat (with_tally t n) (world_of x)) before
-    (reaches_after (same_kinds is_settling) look_settles (λ x. IsAsLeft x.seat (world_of x)) sets behind
+    reaches_after (λ x h. grind arith) (λ x h. h) (λ x. Changes x.seat (with_tally t n) (world_of x)) before
+    (reaches_after (λ x h. h) (λ x h. grind arith) (λ x. IsAsLeft x.seat (world_of x)) sets behind
     (λ v one two. record {
       call = two.call ∙ one.call;
       holding = two.holding ∙ one.holding;
@@ -96,7 +92,7 @@ frees_counted {p} {q} {r} due freed follows once holds behind gone gates held fr
     record {
       reaches = decides_before (freed_decides freed) follows;
       allocations = stays.allocations ∙ ap (λ (x : Steady). x.allocations) (freed_now freed).steady;
-      once = once_before following_not once table follows.does behind holds stays.allocations;
+      once = once_before (λ x h. grind arith) once table follows.does behind holds stays.allocations;
       gone = gone;
       gates = gates;
       exact = exact_from p r (table ∙ sym (reached_table follows)) (sym held ∙ held_exact) (sym fresh ∙ fresh_exact);
@@ -111,7 +107,7 @@ module _ (p q a b r : PassState) (reg u : ℕ) (cell : Cell) (n : ℕ) (may : Ma
   sets = tally_between Tally.Fresh _ looks tallied looks_again
 
   follows : Stays is_following q r
-  follows = reaches_wider settling_follows (fresh_stays sets)
+  follows = reaches_wider (λ x h. grind arith) (fresh_stays sets)
 
   freed_there : IsFreedAt p.table.config p.seat cell (world_of p) (world_of q)
   freed_there = freed_now freed

@@ -38,12 +38,10 @@ cells_under_other h u class leaf other = by (header_of h) refl
     by (Some (Run n m)) is = refl
     by (Some (LeafRun n)) is = refl
     by (Some (Later d m)) is = refl
-    by (Some (Block k)) is = other_cells class k leaf false (bits_of (cells_of k) u)
-        (λ e sort. other (sym (word_of-header_of h (Block k) is).1
+    by (Some (Block k)) is = other_cells class k leaf false _ (λ e sort. other (sym (word_of-header_of h (Block k) is).1
         ∙ (λ i. word_of (block_header (sym e i) (sym sort i)))))
-    by (Some (LeafBlock k)) is = other_cells class k leaf true (bits_of (cells_of k) u)
-        (λ e sort. other (sym (word_of-header_of h (LeafBlock k) is).1
-        ∙ (λ i. word_of (block_header (sym e i) (sym sort i)))))
+    by (Some (LeafBlock k)) is = other_cells class k leaf true _ (λ e sort. other (sym (word_of-header_of h (LeafBlock
+        k) is).1 ∙ (λ i. word_of (block_header (sym e i) (sym sort i)))))
 
 -- A page with a header word isn't free.
 pub taken_under_other : (h u : ℕ) → h ≢ 0 → is_free_page (use_under (header_of h) u) ≡ false
@@ -69,8 +67,7 @@ pub record IsBlock (pages : List Page) (class : ℕ) (leaf : Bool) (page : ℕ) 
   pub within : page < length pages
   pub free : has_free_cell class leaf (use_of_page (page_at pages page)) ≡ true
 
-shifted : (found : Option ℕ) (n : ℕ) → option_map (λ k. k + 1) found ≡ Some n
-    → (k : ℕ) × (found ≡ Some k) × (k + 1 ≡ n)
+shifted : (found : Option ℕ) (n : ℕ) → option_map (λ k. k + 1) found ≡ Some n → (k : ℕ) × (found ≡ Some k) × (k + 1 ≡ n)
 shifted None n is = absurd (none-some n is)
 shifted (Some k) n is = (k, refl, same_Some (k + 1) n is)
 

@@ -42,8 +42,7 @@ small_index k = grind (arith, free_pages_of, block_of, few_cells)
 
 -- The call is settled before it is served, so few words are held.
 pub unplaced_settled : (p : PassState) → IsActing p.table.config (now_of p) p.seat → IsCallers p → IsUnplaced p
-    → IsHistory p.table.config p.seen
-    → IsSettled (world_of p)
+    → IsHistory p.table.config p.seen → IsSettled (world_of p)
 unplaced_settled p at caller unplaced h = grind (arith, unplaced_settles, ltb-true, off_four)
 
 pub few_held : {p : PassState} {place : Place} → KnowsPlace p place → GoesTo p place → IsHistory p.table.config p.seen
@@ -103,8 +102,7 @@ module _ {p : PassState} {place : Place} (goes : GoesTo p place) (k : KnowsPlace
   operands h = by p.seat k.caller.number k.caller.is
     where
       by : (s : Seat) (j : ℕ) → s ≡ Caller j → has_operands c (flight_of (now_of p) s).op ≡ true
-      by s j is = subst (λ (x : Seat). has_operands c (flight_of (now_of p) x).op ≡ true) (sym is)
-          ((known_left c p.seen h.within_limits h.enabled).operands j)
+      by s j is = cc (is, (known_left c p.seen h.within_limits h.enabled).operands j)
 
   pub grant_admits : {q : PassState} → HasTaken q → IsHistory q.table.config q.seen → IsHistory c p.seen
       → IsAdmittedTo q Step.Grant

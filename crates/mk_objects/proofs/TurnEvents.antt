@@ -23,8 +23,7 @@ KeptInTurn c s kinds claim =
     → claim es → claim (es ++ e ∷ [])
 
 comes_first : (b : Bool) (x : Finding) (xs : List Finding) (kinds : Step → Bool)
-    → are_of kinds (if b then x ∷ xs else xs) ≡ true
-    → (b ≡ true → kinds x.event.step ≡ true) × (are_of kinds xs ≡ true)
+    → are_of kinds (if b then x ∷ xs else xs) ≡ true → (b ≡ true → kinds x.event.step ≡ true) × (are_of kinds xs ≡ true)
 comes_first true x xs kinds h = let both = and_parts (kinds x.event.step) (are_of kinds xs) h in (λ is. both.0, both.1)
 comes_first false x xs kinds h = (λ is. absurd (true≢false (sym is)), h)
 
@@ -45,8 +44,7 @@ module _ (p : PassState) (kinds : Step → Bool) (stays : (x : Step) → kinds x
       ((others_leave c es (e ∷ []) p.seat before.within_limits h.enabled (other, tt)).own.holding holds).0
   holds_more es {e} h holds (Own same of_kind) =
       let it : event_of p e.step ≡ e = ap (λ (s : Seat). record { seat = s; step = e.step }) (sym same) in
-      let makes : Makes (seeing es) e.step (seeing (es ++ event_of p e.step ∷ [])) =
-      record {
+      let makes : Makes (seeing es) e.step (seeing (es ++ event_of p e.step ∷ [])) = record {
         others = [];
         of_others = tt;
         is = ap (λ (xs : List Event). seeing (xs ++ event_of p e.step ∷ [])) (sym (append-nil es));
@@ -93,8 +91,7 @@ module _ (p : PassState) (kinds : Step → Bool) (stays : (x : Step) → kinds x
 
   -- and over events of others alone
   pub along_others : (others : List Event) → IsHistory c (p.seen ++ others) → Holds c (now_of p) p.seat
-      → AreOfOthers (p.seat ∷ []) others
-      → claim p.seen → claim (p.seen ++ others)
+      → AreOfOthers (p.seat ∷ []) others → claim p.seen → claim (p.seen ++ others)
   along_others others h holds of_others there =
       let own : Has (p.seat ∷ []) p.seat = ap (λ b. b || false) (same_self p.seat) in
       along p.seen others h holds

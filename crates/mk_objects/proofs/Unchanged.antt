@@ -19,15 +19,14 @@ left_same s w = record {
 }
 
 pub left_joined : {s : Seat} {w u v : World} → IsAsLeft s w u → IsAsLeft s u v → IsAsLeft s w v
-left_joined {w} {u} {v} a b =
-    record {
-      call = b.call ∙ a.call;
-      holding = b.holding ∙ a.holding;
-      steady = b.steady ∙ a.steady;
-      marks = grows_joined w.now.words.marks u.now.words.marks v.now.words.marks a.marks b.marks;
-      registers = λ k r is lt. b.registers k r is lt ∙ a.registers k r is lt;
-      gates = λ j. b.gates j ∙ a.gates j;
-    }
+left_joined {w} {u} {v} a b = record {
+  call = b.call ∙ a.call;
+  holding = b.holding ∙ a.holding;
+  steady = b.steady ∙ a.steady;
+  marks = grows_joined w.now.words.marks u.now.words.marks v.now.words.marks a.marks b.marks;
+  registers = λ k r is lt. b.registers k r is lt ∙ a.registers k r is lt;
+  gates = λ j. b.gates j ∙ a.gates j;
+}
 
 -- After a step of its own a caller's call is what the step makes of it.
 pub call_behind : (c : Config) (m : Moment) (k : ℕ) (x : Step) → k < length m.seats.flights
@@ -68,15 +67,14 @@ steady_is_plain _ h = cc
 -- all words are as they were
 left_by : {s : Seat} {w v : World} → flight_of v.now s ≡ flight_of w.now s → v.now.seats.holding ≡ w.now.seats.holding
     → steady_of v ≡ steady_of w → v.now.words ≡ w.now.words → IsAsLeft s w v
-left_by {w = w} call holding steady words =
-    record {
-      call = call;
-      holding = holding;
-      steady = steady;
-      marks = subst (λ (x : Words). OnlyGrow w.now.words.marks x.marks) (sym words) (grows_same w.now.words.marks);
-      registers = λ k r is lt. ap (λ (x : Words). register_word x k r) words;
-      gates = λ j. ap (λ (x : Words). is_held x j) words;
-    }
+left_by {w = w} call holding steady words = record {
+  call = call;
+  holding = holding;
+  steady = steady;
+  marks = subst (λ (x : Words). OnlyGrow w.now.words.marks x.marks) (sym words) (grows_same w.now.words.marks);
+  registers = λ k r is lt. ap (λ (x : Words). register_word x k r) words;
+  gates = λ j. ap (λ (x : Words). is_held x j) words;
+}
 
 pub look_leaves : {c : Config} (w : World) {s : Seat} {x : Word} → HasCall c w.now s → IsPlain x
     → IsAsLeft s w (world_behind c w (record { seat = s; step = Step.Look x }))

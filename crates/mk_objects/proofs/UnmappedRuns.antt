@@ -1,12 +1,12 @@
 -- The pages of a run are unmapped one after the other.
 use Rattle.mk_laws.proofs.Vocabulary.{Config, Flight, Holding, Moment, None, Op, Option, Placing, RunPages, Seat, Some}
-use Rattle.mk_laws.proofs.Vocabulary.{Stage, Steady, Step, Unplaced, World, ℕ, all_below-at, ap, arith, cases_eq}
-use Rattle.mk_laws.proofs.Vocabulary.{chosen, eq-eqb, false, flight_of, header_at, if◌then◌else◌, inl, inr, is_held}
-use Rattle.mk_laws.proofs.Vocabulary.{is_phase, is_undecided_new, left, length, others_are_held, phase_of, place_now}
-use Rattle.mk_laws.proofs.Vocabulary.{refl, sym, true, unmapped_header, unmaps, world_behind, [], ◌+◌, ◌-◌, ◌<◌, ◌∙◌}
-use Rattle.mk_laws.proofs.Vocabulary.{◌≡◌, ◌≤◌}
+use Rattle.mk_laws.proofs.Vocabulary.{Stage, Steady, Step, World, ℕ, all_below-at, ap, arith, cases_eq, chosen, eq-eqb}
+use Rattle.mk_laws.proofs.Vocabulary.{false, flight_of, header_at, if◌then◌else◌, inl, inr, is_held, is_phase}
+use Rattle.mk_laws.proofs.Vocabulary.{is_undecided_new, left, length, others_are_held, phase_of, place_now, refl, sym}
+use Rattle.mk_laws.proofs.Vocabulary.{true, unmapped_header, unmaps, world_behind, [], ◌+◌, ◌-◌, ◌<◌, ◌∙◌, ◌≡◌, ◌≤◌}
 use Rattle.mk_objects.proofs.Vocabulary.{Acts, Changes, ComesTo, IsAsLeft, IsEnabledTo, IsOutOfStop, IsTurn, PassState}
 use Rattle.mk_objects.proofs.Vocabulary.{Unmaps, all_below_from, call_of, is_acting, is_clearing, now_of, world_of}
+use Rattle.mk_laws.proofs.Sorts.{chosen_none}
 use Rattle.mk_objects.proofs.Looks.{acting_caller, acting_now, acts_there}
 use Rattle.mk_objects.proofs.Unchanged.{HasCall, OfCaller, acting_has_call, call_behind}
 use Rattle.mk_objects.proofs.{MayAct.IsActing, MayAct.may_unmap, MayAct.off_four, ReachedParts.reached_there}
@@ -21,10 +21,6 @@ no_new f is = grind arith
 
 no_place : (c : Config) (m : Moment) (f : Flight) → f.stage ≡ Stage.Give → place_now c m f ≡ None
 no_place c m f is = rw (no_new f is) refl
-
-chosen_none : (x : Placing) → chosen x None ≡ x
-chosen_none Unplaced = refl
-chosen_none _ = refl
 
 same_holding : (c : Config) (m : Moment) (f : Flight) → f.stage ≡ Stage.Give → IsOutOfStop m
     → (if is_phase m.words 4 then m.seats.holding.placing else chosen m.seats.holding.placing

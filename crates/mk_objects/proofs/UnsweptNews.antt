@@ -1,6 +1,6 @@
 -- Serving a New sweeps nothing: it marks no cells but those of its place.
-use Rattle.mk_laws.proofs.Vocabulary.{Place, Steady, Step, ℕ, and_right, ap, false, free_page, header_at, not, phase_of}
-use Rattle.mk_laws.proofs.Vocabulary.{refl, slice_index_or, true, ◌∙◌, ◌≡◌}
+use Rattle.mk_laws.proofs.Vocabulary.{Place, Steady, Step, ℕ, and_right, ap, arith, false, free_page, header_at, not}
+use Rattle.mk_laws.proofs.Vocabulary.{phase_of, refl, slice_index_or, true, ◌∙◌, ◌≡◌}
 use Rattle.mk_objects.proofs.Vocabulary.{Acts, HasCarved, MayTake, OnlyLooks, PassState, bits_made, is_look, now_of}
 use Rattle.mk_objects.proofs.Vocabulary.{object_for}
 use Rattle.mk_objects.proofs.{Granting.serving_marks, Reaching.kept_by, Serves.KnowsPlace, Serving.serving_left}
@@ -8,8 +8,7 @@ use Rattle.mk_turns.proofs.Sweeping.{does_sweep, other_step_sweeps, step_sweeps,
 use Rattle.mk_turns.specs.Sweeping.{SweepsNothing, is_mark}
 
 pub look_is_no_mark : (x : Step) → is_look x ≡ true → is_mark x ≡ false
-look_is_no_mark (Step.Look w) h = refl
-look_is_no_mark _ h = cc
+look_is_no_mark x h = grind arith
 
 pub looks_sweep : {p q : PassState} → OnlyLooks p q → SweepsNothing p q
 looks_sweep {p} {q} looks = does_sweep is_look p q look_is_no_mark looks.does

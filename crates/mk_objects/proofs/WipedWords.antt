@@ -1,12 +1,12 @@
 -- The words of a run that is unmapped are wiped one after the other.
 use Rattle.mk_laws.proofs.Vocabulary.{Bool, Cell, Config, Hand, Holds, List, Moment, None, Op, Option, RunPages, Seat}
-use Rattle.mk_laws.proofs.Vocabulary.{Some, Stage, Step, Word, Words, World, Written, ℕ, address_of, all_below-at}
-use Rattle.mk_laws.proofs.Vocabulary.{and_from, ap, arith, cases_eq, eqb-true, false, flight_of, get_or-set_other}
+use Rattle.mk_laws.proofs.Vocabulary.{Some, Step, Word, Words, World, Written, ℕ, address_of, all_below-at, and_from}
+use Rattle.mk_laws.proofs.Vocabulary.{ap, arith, cases_eq, eqb-true, false, flight_of, get_or-set_other}
 use Rattle.mk_laws.proofs.Vocabulary.{get_or-set_same, has_no_pointers, header_at, header_in, header_of, if◌then◌else◌}
 use Rattle.mk_laws.proofs.Vocabulary.{inl, inr, is_heap_address, is_run_unmapped, le-leb, length, lt-ltb, or_else}
-use Rattle.mk_laws.proofs.Vocabulary.{others_are_held, page_at_address, refl, run_header, same_Some, slice_index}
-use Rattle.mk_laws.proofs.Vocabulary.{slice_set, stands, subst, suc, sym, true, unmapped_header, world_behind, zero, []}
-use Rattle.mk_laws.proofs.Vocabulary.{◌*◌, ◌+◌, ◌-◌, ◌/◌, ◌<◌, ◌∙◌, ◌≡◌, ◌≤◌}
+use Rattle.mk_laws.proofs.Vocabulary.{page_at_address, refl, run_header, same_Some, slice_index, stands, subst, suc}
+use Rattle.mk_laws.proofs.Vocabulary.{sym, true, unmapped_header, world_behind, zero, [], ◌*◌, ◌+◌, ◌-◌, ◌/◌, ◌<◌, ◌∙◌}
+use Rattle.mk_laws.proofs.Vocabulary.{◌≡◌, ◌≤◌}
 use Rattle.mk_objects.proofs.Vocabulary.{Acts, ComesTo, IsAsLeft, IsEnabledTo, IsTurn, PassState, WipesTo, call_of}
 use Rattle.mk_objects.proofs.Vocabulary.{is_clearing, now_of, option_and_then, world_of}
 use Rattle.mk_geom.proofs.{Bridge.run_in_range, HeaderLemmas.header_of-word_of}
@@ -18,7 +18,7 @@ use Rattle.mk_objects.proofs.MayAct.{IsActing, may_look_heap, may_wipe}
 use Rattle.mk_objects.proofs.ReachedParts.{reached_there, reaches_so}
 use Rattle.mk_objects.proofs.Unchanged.{HasCall, OfCaller, acting_has_call, call_behind}
 use Rattle.mk_objects.proofs.{Reaching.reaches_still_in_stop, UnmappedRuns.give_acts, UnmappedRuns.still_stopped}
-use Rattle.mk_objects.specs.Unmapping.{WipedTo}
+use Rattle.mk_objects.specs.Unmapping.{MayWipe, WipedTo}
 use Rattle.mk_turns.proofs.PointedCells.{found_there}
 use Rattle.mk_words.specs.Steps.{Finds}
 
@@ -58,8 +58,7 @@ gone_cell w run pages address d cell unmapped few near at is =
     let head = cell_is_head run.page run.count pages (word_at_address address) d
     (is_heap_address pages address) cell at under in
     let first : cell.page ≡ run.page + 0 = omega (arith, head) in
-    ap (λ (i : ℕ). has_no_pointers (header_of (header_at w i))) first
-    ∙ ap has_no_pointers (unmapped_at w run 0 unmapped few (omega (arith, near)))
+    cc (first, unmapped_at w run 0 unmapped few (omega (arith, near)))
 
 -- A look at such a word gives no hand.
 no_hand : (c : Config) (m : Moment) (s : Seat) (run : RunPages) (n value : ℕ) → is_run_unmapped m.words run ≡ true
@@ -80,20 +79,18 @@ wiped_left : {s : Seat} {run : RunPages} {w u v : World} {n : ℕ} → WipedTo s
 wiped_left at kept stop = grind arith
 
 wiped_seen : {c : Config} {s : Seat} {run : RunPages} {w v : World} {n : ℕ} (k : ℕ) → WipedTo s run w v n
-    → HasCall c v.now s
-    → ((value : ℕ) → hand_given c v.now s (Word.Heap k) value ≡ None)
+    → HasCall c v.now s → ((value : ℕ) → hand_given c v.now s (Word.Heap k) value ≡ None)
     → WipedTo s run w (world_behind c v (record { seat = s; step = Step.Look (Word.Heap k) })) n
-wiped_seen {c} {v} k at (OfCaller j lt) none =
-    record {
-      changes = record {
-        call = call_behind c v.now j (Step.Look (Word.Heap k)) lt ∙ at.changes.call;
-        holding = ap (λ (x : Option Hand). record v.now.seats.holding { hand = or_else x v.now.seats.holding.hand })
-            (none _) ∙ at.changes.holding;
-        steady = at.changes.steady;
-        gates = at.changes.gates;
-      };
-      zeros = at.zeros;
-    }
+wiped_seen {c} {v} k at (OfCaller j lt) none = record {
+  changes = record {
+    call = call_behind c v.now j (Step.Look (Word.Heap k)) lt ∙ at.changes.call;
+    holding = ap (λ (x : Option Hand). record v.now.seats.holding { hand = or_else x v.now.seats.holding.hand })
+        (none _) ∙ at.changes.holding;
+    steady = at.changes.steady;
+    gates = at.changes.gates;
+  };
+  zeros = at.zeros;
+}
 
 -- A word that is 0 already is wiped.
 wiped_already : {s : Seat} {run : RunPages} {w v : World} {n : ℕ} → WipedTo s run w v n
@@ -114,8 +111,7 @@ wiped_more {c} {run} {u} {v} {n} at kept (OfCaller k lt) stop room =
         gates = λ j. kept.gates j ∙ at.changes.gates j;
       };
       zeros = λ i le. elim (cases_eq i n) [
-        | inl e ↦ ap (λ j. slice_index (slice_set v.now.words.heap p 0) (64 * run.page + j)) e
-            ∙ get_or-set_same v.now.words.heap p 0 0 room
+        | inl e ↦ cc (e, get_or-set_same v.now.words.heap p 0 0 room)
         | inr ne ↦ get_or-set_other v.now.words.heap p (64 * run.page + i) 0 0 (λ e. ne (omega arith))
             ∙ ap (λ (xs : List ℕ). slice_index xs (64 * run.page + i)) heap ∙ at.zeros i (omega arith)
       ];
@@ -125,58 +121,52 @@ pub still_unmapped : (p : PassState) {run : RunPages} {v : World} {n : ℕ} → 
     → is_run_unmapped (now_of p).words run ≡ true → is_run_unmapped v.now.words run ≡ true
 still_unmapped p at unmapped = grind arith
 
-module _ {p : PassState} {o : Option Op} (run : RunPages) (turn : IsTurn p o) (give : (call_of p).stage ≡ Stage.Give)
-    (stopped : others_are_held p.table.config.callers (now_of p).words p.seat ≡ true) where
-  abbrev pub HasWiped : PassState → ℕ → Type 0
-  HasWiped q n = WipesTo p run n q
-
+module _ {p : PassState} {o : Option Op} {run : RunPages} (turn : IsTurn p o) (may : MayWipe p run) where
   wiping : IsActing p.table.config (now_of p) p.seat
-  wiping = acting_now p o turn (give_acts (call_of p) give)
+  wiping = acting_now p o turn (give_acts (call_of p) may.decided)
 
   there_wiping : (v : World) → flight_of v.now p.seat ≡ flight_of (now_of p) p.seat
       → IsActing p.table.config v.now p.seat
   there_wiping v same = acts_there (world_of p) v wiping same
 
-  pub look_may : {q : PassState} {n : ℕ} (k : ℕ) → HasWiped q n → k < 64 * run.count
-      → run.page + run.count ≤ p.table.config.pages → IsEnabledTo q (Step.Look (Word.Heap (64 * run.page + k)))
-  look_may k reached near within = grind (arith, reached_there, may_look_heap, there_wiping)
+  pub look_may : {q : PassState} {n : ℕ} (k : ℕ) → WipesTo p run n q → k < 64 * run.count
+      → IsEnabledTo q (Step.Look (Word.Heap (64 * run.page + k)))
+  look_may k reached near = grind (arith, reached_there, may_look_heap, there_wiping)
 
   -- with the turn held, and all other gates
-  with_turn : {q : PassState} {n : ℕ} → HasWiped q n → Holds q.table.config (now_of q) q.seat
+  with_turn : {q : PassState} {n : ℕ} → WipesTo p run n q → Holds q.table.config (now_of q) q.seat
       → ComesTo is_clearing p (λ v. WipedTo p.seat run (world_of p) v n × HoldsAll p.table.config v.now p.seat) [] q
   with_turn reached holds = grind (arith, reaches_so, still_stopped)
 
-  pub looks_then : {q r : PassState} {n : ℕ} (k : ℕ) → HasWiped q n → k < 64 * run.count → run.count ≤ 64
-      → is_run_unmapped (now_of p).words run ≡ true
-      → Acts q (Step.Look (Word.Heap (64 * run.page + k))) r → HasWiped r n
-  looks_then {n} k reached near few unmapped a =
+  pub looks_then : {q r : PassState} {n : ℕ} (k : ℕ) → WipesTo p run n q → k < 64 * run.count
+      → Acts q (Step.Look (Word.Heap (64 * run.page + k))) r → WipesTo p run n r
+  looks_then {n} k reached near a =
       reaches_still_in_stop (λ v. WipedTo p.seat run (world_of p) v n × HoldsAll p.table.config v.now p.seat)
       (λ v. WipedTo p.seat run (world_of p) v n) (with_turn reached a.holds) a refl refl
-      (acting_caller p (give_acts (call_of p) give)) refl (λ w v here kept stop known pages.
+      (acting_caller p (give_acts (call_of p) may.decided)) refl (λ w v here kept stop known pages.
       let on = wiped_left here.0 kept (stop here.1) in
       let call = acting_has_call known.orderly.flights (there_wiping v on.changes.call) in
       wiped_seen (64 * run.page + k) on call
-      (λ value. no_hand p.table.config v.now p.seat run k value (still_unmapped p on unmapped) few near))
+      (λ value. no_hand p.table.config v.now p.seat run k value (still_unmapped p on may.unmapped) may.few near))
 
   -- The word was found to be 0.
-  pub found_wiped : {q r : PassState} {n value : ℕ} → HasWiped r n
-      → Finds q (Step.Look (Word.Heap (64 * run.page + n))) value r → value ≡ 0 → HasWiped r (n + 1)
+  pub found_wiped : {q r : PassState} {n value : ℕ} → WipesTo p run n r
+      → Finds q (Step.Look (Word.Heap (64 * run.page + n))) value r → value ≡ 0 → WipesTo p run (n + 1) r
   found_wiped {q} {r} {n} {value} reached f none =
       reaches_so reached (λ at. wiped_already at (subst (λ (x : PassState). slice_index (now_of x).words.heap
       (64 * run.page + n) ≡ 0) reached.same (found_there q r (Word.Heap (64 * run.page + n)) value f ∙ none)))
 
-  pub wipe_may : {q : PassState} {n : ℕ} → HasWiped q n → (now_of p).seats.holding.freed ≡ Some run
-      → is_run_unmapped (now_of p).words run ≡ true
-      → n < 64 * run.count → run.page + run.count ≤ p.table.config.pages → IsEnabledTo q (Step.Wipe (64 * run.page + n))
-  wipe_may reached freed unmapped near within =
-      grind (arith, still_unmapped, and_from, le-leb, lt-ltb, reached_there, may_wipe, there_wiping)
+  pub wipe_may : {q : PassState} {n : ℕ} → WipesTo p run n q → n < 64 * run.count
+      → IsEnabledTo q (Step.Wipe (64 * run.page + n))
+  wipe_may reached near = grind (arith, still_unmapped, and_from, le-leb, lt-ltb, reached_there, may_wipe, there_wiping)
 
-  pub wipes_on : {q r : PassState} {n : ℕ} → HasWiped q n → n < 64 * run.count
-      → run.page + run.count ≤ p.table.config.pages → Acts q (Step.Wipe (64 * run.page + n)) r → HasWiped r (n + 1)
-  wipes_on {n} reached near within a =
+  pub wipes_on : {q r : PassState} {n : ℕ} → WipesTo p run n q → n < 64 * run.count
+      → Acts q (Step.Wipe (64 * run.page + n)) r → WipesTo p run (n + 1) r
+  wipes_on {n} reached near a =
+      let within = may.within in
       reaches_still_in_stop (λ v. WipedTo p.seat run (world_of p) v n × HoldsAll p.table.config v.now p.seat)
       (λ v. WipedTo p.seat run (world_of p) v (n + 1)) (with_turn reached a.holds) a refl refl
-      (acting_caller p (give_acts (call_of p) give)) refl (λ w v here kept stop known pages.
+      (acting_caller p (give_acts (call_of p) may.decided)) refl (λ w v here kept stop known pages.
       let call = acting_has_call known.orderly.flights (there_wiping v (kept.call ∙ here.0.changes.call)) in
       let room = pages.heap in
       wiped_more here.0 kept call (stop here.1) (omega arith))

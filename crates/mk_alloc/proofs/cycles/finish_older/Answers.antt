@@ -3,10 +3,7 @@ use Rattle.mk_alloc.proofs.cycles.finish_older.Goals as goal
 
 pub returns-then-is_cycle_on-clause-reached : goal.returns-then-is_cycle_on-clause-reached
 returns-then-is_cycle_on-clause-reached g c =
-    λ none.
-    looking_then_sweeps c.args.turn.pass c.is_cycle_on.new.turn.pass c.finish_cycle-turn.result.0.pass
-    c.is_cycle_on.ensures.looks (c.finish_cycle-turn.ensures.reached none)
+    λ none. looking_then_sweeps c.is_cycle_on.ensures.looks (c.finish_cycle-turn.ensures.reached none)
 
 pub returns-else-is_cycle_on-clause-reached : goal.returns-else-is_cycle_on-clause-reached
-returns-else-is_cycle_on-clause-reached g c =
-    λ none. looking_sweeps c.args.turn.pass c.is_cycle_on.new.turn.pass c.is_cycle_on.ensures.looks
+returns-else-is_cycle_on-clause-reached g c = λ none. looking_sweeps c.is_cycle_on.ensures.looks

@@ -7,8 +7,7 @@ use Rattle.mk_alloc.proofs.cycles.run_cycle.Goals as goal
 -- up to the begin of the cycle
 idle : (g : _) (c : After-begin_cycle g)
     → c.finish_older-turn.result.pass ≡ record c.args.turn.pass { seen = c.finish_older-turn.result.pass.seen }
-idle g c =
-    older_same c.args.turn.pass c.finish_older-turn.result.pass c.requires.quiet.phase c.finish_older-turn.ensures.ends
+idle g c = older_same c.requires.quiet.phase c.finish_older-turn.ensures.ends
 
 own_idle : (g : _) (c : After-begin_cycle g)
     → Has c.finish_older-turn.result.pass.seats c.finish_older-turn.result.pass.seat
@@ -19,8 +18,7 @@ own_idle g c =
 older : (g : _) (c : After-begin_cycle g)
     → EachIsBegun g.E.Engine.begins c.args.turn.pass c.finish_older-turn.result.pass
 older g c =
-    older_begun g.E.Engine.begins c.args.turn.pass c.finish_older-turn.result.pass
-    (subst (λ (x : PassState). Has x.seats x.seat) (idle g c) (own_idle g c)) c.requires.quiet.phase
+    older_begun (subst (λ (x : PassState). Has x.seats x.seat) (idle g c) (own_idle g c)) c.requires.quiet.phase
     c.finish_older-turn.ensures.ends
 
 pub returns-then-keeps_on-clause-reached : goal.returns-then-keeps_on-clause-reached

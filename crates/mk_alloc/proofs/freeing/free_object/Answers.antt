@@ -85,9 +85,9 @@ returns-in-Ok-clause-begun g c =
     let x = goal.at.returns-in-Ok-clause-begun g c in
     let begins = g.E.Engine.begins in
     subst (λ (x : CallerState). EachIsBegun begins c.args.caller.now.pass x.pass) (sym c.back.ensures)
-    (turn_begun begins
+    (turn_begun
     (given (frees g x.After-is_in_order-in-Ok (took g x.After-take-turn)) c.give.ensures.gives c.give.ensures.rests)
-    (freeing_then_begun begins c.in-Ok.ensures.freed.decides c.run_if_due-turn.ensures.begun))
+    (freeing_then_begun c.in-Ok.ensures.freed.decides c.run_if_due-turn.ensures.begun))
 
 -- It was freed before.
 refuses : (g : _) (c : After-take-turn g) {q : PassState} → FindsFreed c.take-turn.result.pass c.args.p q
@@ -117,7 +117,7 @@ returns-in-Err-clause-begun g c =
     let x = goal.at.returns-in-Err-clause-begun g c in
     let begins = g.E.Engine.begins in
     subst (λ (x : CallerState). EachIsBegun begins c.args.caller.now.pass x.pass) (sym c.back-in-Err.ensures)
-    (turn_begun begins
+    (turn_begun
     (given_double (refuses g x.After-take-turn c.in-Err.ensures.double) c.give-in-Err.ensures.gives
     c.give-in-Err.ensures.rests)
-    (loading_begun begins c.in-Err.ensures.double.decides))
+    (loading_begun c.in-Err.ensures.double.decides))

@@ -11,17 +11,15 @@ full-requires-clause-enabled c =
     let u = c.requires.unplaced in
     let look = c.look-count.ensures in
     let tallies = c.tally.ensures.acts in
-    full_allowed c.tally.new.self.pass (in_turn_after tallies refl)
-    (tallied_unplaced quiet u look.acts look.finds tallies)
+    full_allowed (in_turn_after tallies refl) (tallied_unplaced quiet u look.acts look.finds tallies)
     (tallied_idle quiet u look.acts look.finds tallies c.requires.idle)
     (tallied_ended quiet u look.acts look.finds tallies c.requires.ended)
     (tallied_nowhere quiet u look.acts look.finds tallies c.requires.nowhere)
 
 pub full-requires-clause-admitted : goal.full-requires-clause-admitted
 full-requires-clause-admitted c =
-    full_admitted c.tally.new.self.pass (in_turn_after c.tally.ensures.acts refl)
-    (tallied_unplaced c.requires.quiet c.requires.unplaced c.look-count.ensures.acts c.look-count.ensures.finds
-    c.tally.ensures.acts)
+    full_admitted (in_turn_after c.tally.ensures.acts refl) (tallied_unplaced c.requires.quiet c.requires.unplaced
+    c.look-count.ensures.acts c.look-count.ensures.finds c.tally.ensures.acts)
 
 pub returns-clause-full : goal.returns-clause-full
 returns-clause-full c =

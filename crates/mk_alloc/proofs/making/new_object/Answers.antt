@@ -1,13 +1,13 @@
 use Rattle.std.proofs.Common.{IfSome}
 use Rattle.mk_alloc.proofs.Vocabulary.{Answer, Bool, CalledInTurn, CallerState, EachIsBegun, IsAnsweredFull, Misfits}
-use Rattle.mk_alloc.proofs.Vocabulary.{Op, Option, PassState, Some, SweepsNothing, ℕ, begun_then, false, only_seen}
-use Rattle.mk_alloc.proofs.Vocabulary.{refl, subst, sym, turn_stays, ◌≡◌}
+use Rattle.mk_alloc.proofs.Vocabulary.{Op, Option, PassState, SweepsNothing, ℕ, false, refl, subst, sym, ◌≡◌}
 use Rattle.mk_geom.specs.declared.pages.Census.{Census}
+use Rattle.mk_alloc.proofs.BegunTurns.{none_begun, part_then_begun, turn_begun}
 use Rattle.mk_alloc.proofs.NewTurns.{NewGiven, census_told, given, is_answered_full, last_turn, new_called}
+use Rattle.mk_alloc.proofs.OneCycles.{none_runs_one, none_then_one}
+use Rattle.mk_alloc.proofs.UnsweptTurns.{part_then_sweeps, turn_sweeps}
 use Rattle.mk_alloc.proofs.making.new_object.Goals.{After-give, After-give-2, After-take-turn}
-use Rattle.mk_alloc.proofs.{BegunTurns.none_begun, BegunTurns.turn_begun, CalledTurns.Taken, OneCycles.none_runs_one}
-use Rattle.mk_alloc.proofs.{OneCycles.none_then_one, SeekingTurns.misfits_then, SeekingTurns.seeks_then}
-use Rattle.mk_alloc.proofs.{TakenTurns.took_by, UnsweptTurns.part_then_sweeps, UnsweptTurns.turn_sweeps}
+use Rattle.mk_alloc.proofs.{CalledTurns.Taken, SeekingTurns.misfits_then, SeekingTurns.seeks_then, TakenTurns.took_by}
 use Rattle.mk_alloc.specs.Rooms.{CountsFull, answer_with}
 use Rattle.mk_alloc.proofs.making.new_object.Goals as goal
 
@@ -21,15 +21,14 @@ at_once : (g : _) (c : After-give g) → Taken (Op.New c.args.d c.args.ty false)
     c.take-turn.result.pass
     → NewGiven c.args.d c.args.ty Answer.Done c.args.caller.now.pass c.take-turn.result.pass c.try_place.new.turn.pass
     c.give.result
-at_once g c took =
-    record {
-      took = took;
-      begins = c.take-turn.ensures.begins;
-      seeks = c.try_place.ensures.placed c.if-try_place.true;
-      runs = none_runs_one c.take-turn.result.pass c.try_place.new.turn.pass c.try_place.ensures.begins;
-      gives = c.give.ensures.gives;
-      rests = c.give.ensures.rests;
-    }
+at_once g c took = record {
+  took = took;
+  begins = c.take-turn.ensures.begins;
+  seeks = c.try_place.ensures.placed c.if-try_place.true;
+  runs = none_runs_one _ _ c.try_place.ensures.begins;
+  gives = c.give.ensures.gives;
+  rests = c.give.ensures.rests;
+}
 
 pub returns-then-try_place-clause-made : goal.returns-then-try_place-clause-made
 returns-then-try_place-clause-made g c =
@@ -50,8 +49,7 @@ returns-then-try_place-clause-begun g c =
     let x = goal.at.returns-then-try_place-clause-begun g c in
     let begins = g.E.Engine.begins in
     subst (λ (x : CallerState). EachIsBegun begins c.args.caller.now.pass x.pass) (sym c.back.ensures)
-    (turn_begun begins (given (at_once g x.After-give (took g x.After-take-turn)))
-    (none_begun begins c.take-turn.result.pass c.try_place.new.turn.pass c.try_place.ensures.begins))
+    (turn_begun (given (at_once g x.After-give (took g x.After-take-turn))) (none_begun c.try_place.ensures.begins))
 
 -- or it isn't, and room is made, or the answer is Full.
 later : (g : _) (c : After-give-2 g) → Taken (Op.New c.args.d c.args.ty false) c.args.caller.now.pass
@@ -59,22 +57,14 @@ later : (g : _) (c : After-give-2 g) → Taken (Op.New c.args.d c.args.ty false)
     → NewGiven c.args.d c.args.ty (answer_with c.make_room_or_count-turn.result.1) c.args.caller.now.pass
     c.take-turn.result.pass
     c.make_room_or_count-turn.result.0.pass c.give-2.result
-later g c took =
-    let taken : PassState = c.take-turn.result.pass in
-    let tried : PassState = c.try_place.new.turn.pass in
-    let done : PassState = c.make_room_or_count-turn.result.0.pass in
-    record {
-      took = took;
-      begins = c.take-turn.ensures.begins;
-      seeks = seeks_then (Some (answer_with c.make_room_or_count-turn.result.1)) taken tried done
-          (c.try_place.ensures.misfits c.if-try_place.false).seeks c.make_room_or_count-turn.ensures.seeks;
-      runs = none_then_one taken tried done c.try_place.ensures.begins c.make_room_or_count-turn.ensures.one;
-      gives = c.give-2.ensures.gives;
-      rests = c.give-2.ensures.rests;
-    }
-
-pub give-requires-2-clause-quiet : goal.give-requires-2-clause-quiet
-give-requires-2-clause-quiet g c = c.make_room_or_count-turn.ensures.seeks.on.quiet
+later g c took = record {
+  took = took;
+  begins = c.take-turn.ensures.begins;
+  seeks = seeks_then (c.try_place.ensures.misfits c.if-try_place.false).seeks c.make_room_or_count-turn.ensures.seeks;
+  runs = none_then_one c.try_place.ensures.begins c.make_room_or_count-turn.ensures.one;
+  gives = c.give-2.ensures.gives;
+  rests = c.give-2.ensures.rests;
+}
 
 -- nothing is swept in its turn,
 later_sweeps : (g : _) (c : After-give-2 g) → Taken (Op.New c.args.d c.args.ty false) c.args.caller.now.pass
@@ -82,22 +72,17 @@ later_sweeps : (g : _) (c : After-give-2 g) → Taken (Op.New c.args.d c.args.ty
     → g.E.Engine.sweeps ≡ false → SweepsNothing c.args.caller.now.pass c.give-2.result
 later_sweeps g c took none =
     turn_sweeps (given (later g c took))
-    (part_then_sweeps turn_stays c.take-turn.result.pass c.try_place.new.turn.pass
-    c.make_room_or_count-turn.result.0.pass (c.try_place.ensures.misfits c.if-try_place.false).seeks.on.does
-    c.try_place.ensures.reached (c.make_room_or_count-turn.ensures.reached none))
+    (part_then_sweeps (c.try_place.ensures.misfits c.if-try_place.false).seeks.on.does c.try_place.ensures.reached
+    (c.make_room_or_count-turn.ensures.reached none))
 
 -- and after each begin the engine does its part.
 later_begun : (g : _) (c : After-give-2 g) → Taken (Op.New c.args.d c.args.ty false) c.args.caller.now.pass
     c.take-turn.result.pass
     → EachIsBegun g.E.Engine.begins c.args.caller.now.pass c.give-2.result
 later_begun g c took =
-    let taken : PassState = c.take-turn.result.pass in
-    let tried : PassState = c.try_place.new.turn.pass in
-    let first = (c.try_place.ensures.misfits c.if-try_place.false).seeks.on.does in
-    let begins = g.E.Engine.begins in
-    turn_begun begins (given (later g c took))
-    (begun_then begins taken tried c.make_room_or_count-turn.result.0.pass (only_seen taken tried first.more first.is)
-    (none_begun begins taken tried c.try_place.ensures.begins) c.make_room_or_count-turn.ensures.begun)
+    turn_begun (given (later g c took))
+    (part_then_begun (c.try_place.ensures.misfits c.if-try_place.false).seeks.on.does
+    (none_begun c.try_place.ensures.begins) c.make_room_or_count-turn.ensures.begun)
 
 pub returns-in-None-clause-made : goal.returns-in-None-clause-made
 returns-in-None-clause-made g c =
@@ -139,7 +124,7 @@ full_is : {on : Bool} {d ty : ℕ} {p taken tried done q : PassState} {census : 
     → NewGiven d ty Answer.Full p taken done q → Misfits taken tried → CountsFull tried done census
     → IsAnsweredFull on p (Op.New d ty false) census q
 full_is {on = on} {taken = taken} {tried = tried} m first full =
-    let misfits = misfits_then taken tried full.last first.seeks full.misfits in
+    let misfits = misfits_then first.seeks full.misfits in
     is_answered_full m misfits full.full on
     (census_told (last_turn m misfits full.full) misfits.seeks.on.quiet refl full.counts)
 

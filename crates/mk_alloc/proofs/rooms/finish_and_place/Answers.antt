@@ -1,4 +1,4 @@
-use Rattle.mk_alloc.proofs.Vocabulary.{Answer, PassState, Some, in_turn, sweeps_then}
+use Rattle.mk_alloc.proofs.Vocabulary.{in_turn, sweeps_then}
 use Rattle.mk_alloc.proofs.SeekingTurns.{misfits_finished, seeks_finished, seeks_then}
 use Rattle.mk_alloc.proofs.OneCycles.{finish_then_none}
 use Rattle.mk_alloc.proofs.rooms.finish_and_place.Goals as goal
@@ -7,23 +7,18 @@ pub returns-clause-placed : goal.returns-clause-placed
 returns-clause-placed g c =
     let t = c.args.turn in
     let i = c.is_in_order.ensures in
-    let q : PassState = c.finish_cycle-turn.result.0.pass in
     λ placed.
-    seeks_then (Some Answer.Done) t.pass q c.try_place-placed.new.turn.pass
-    (seeks_finished t.pass q (in_turn t.pass t.op i.own i.turn i.history) c.requires.unplaced c.requires.quiet
-    c.requires.nowhere
-    c.finish_cycle-turn.ensures.law c.is_in_order-2.ensures.history)
+    seeks_then (seeks_finished (in_turn t.pass t.op i.own i.turn i.history) c.requires.unplaced c.requires.quiet
+    c.requires.nowhere c.finish_cycle-turn.ensures.law c.is_in_order-2.ensures.history)
     (c.try_place-placed.ensures.placed placed)
 
 pub returns-clause-misfits : goal.returns-clause-misfits
 returns-clause-misfits g c =
     let t = c.args.turn in
     let i = c.is_in_order.ensures in
-    let q : PassState = c.finish_cycle-turn.result.0.pass in
     λ misfits.
-    misfits_finished t.pass q c.try_place-placed.new.turn.pass
-    (in_turn t.pass t.op i.own i.turn i.history) c.requires.unplaced
-    c.requires.quiet c.requires.nowhere c.finish_cycle-turn.ensures.law c.is_in_order-2.ensures.history
+    misfits_finished (in_turn t.pass t.op i.own i.turn i.history) c.requires.unplaced c.requires.quiet
+    c.requires.nowhere c.finish_cycle-turn.ensures.law c.is_in_order-2.ensures.history
     (c.try_place-placed.ensures.misfits misfits) (c.try_place-placed.ensures.looks misfits)
 
 pub returns-clause-reached : goal.returns-clause-reached
@@ -36,6 +31,5 @@ pub returns-clause-ends : goal.returns-clause-ends
 returns-clause-ends g c =
     let t = c.args.turn in
     let i = c.is_in_order.ensures in
-    finish_then_none t.pass c.finish_cycle-turn.result.0.pass c.try_place-placed.new.turn.pass
-    (in_turn t.pass t.op i.own i.turn i.history) c.finish_cycle-turn.ensures.law c.is_in_order-2.ensures.history
-    c.try_place-placed.ensures.begins
+    finish_then_none (in_turn t.pass t.op i.own i.turn i.history) c.finish_cycle-turn.ensures.law
+    c.is_in_order-2.ensures.history c.try_place-placed.ensures.begins

@@ -1,56 +1,37 @@
-use Rattle.mk_alloc.proofs.Vocabulary.{Answer, Some, begun_then, only_seen, turn_stays}
-use Rattle.mk_alloc.proofs.{BegunTurns.none_begun, OneCycles.none_runs_one, OneCycles.none_then_one}
+use Rattle.mk_alloc.proofs.BegunTurns.{none_begun, part_then_begun}
+use Rattle.mk_alloc.proofs.OneCycles.{none_runs_one, none_then_one}
 use Rattle.mk_alloc.proofs.{SeekingTurns.misfits_then, SeekingTurns.seeks_then, UnsweptTurns.part_then_sweeps}
 use Rattle.mk_alloc.proofs.rooms.make_room.Goals as goal
 
 pub returns-clause-placed : goal.returns-clause-placed
 returns-clause-placed g c =
     let m = c.place_behind_older-turn.ensures.misfits c.if-placed.false in
-    λ placed.
-    seeks_then (Some Answer.Done) c.args.turn.pass c.place_behind_older-turn.result.0.pass
-    c.place_behind_cycle.result.0.pass
-    m.misfits.seeks (c.place_behind_cycle.ensures.placed placed)
+    λ placed. seeks_then m.misfits.seeks (c.place_behind_cycle.ensures.placed placed)
 
 pub returns-clause-misfits : goal.returns-clause-misfits
 returns-clause-misfits g c =
     let m = c.place_behind_older-turn.ensures.misfits c.if-placed.false in
     λ misfits.
     let n = c.place_behind_cycle.ensures.misfits misfits in
-    record {
-      misfits = misfits_then c.args.turn.pass c.place_behind_older-turn.result.0.pass
-          c.place_behind_cycle.result.0.pass
-          m.misfits.seeks n.misfits;
-      idle = n.idle;
-      ended = n.ended;
-    }
+    record { misfits = misfits_then m.misfits.seeks n.misfits; idle = n.idle; ended = n.ended }
 
 pub returns-clause-reached : goal.returns-clause-reached
 returns-clause-reached g c =
     let m = c.place_behind_older-turn.ensures.misfits c.if-placed.false in
     λ none.
-    part_then_sweeps turn_stays c.args.turn.pass c.place_behind_older-turn.result.0.pass
-    c.place_behind_cycle.result.0.pass m.misfits.seeks.on.does (c.place_behind_older-turn.ensures.reached none)
+    part_then_sweeps m.misfits.seeks.on.does (c.place_behind_older-turn.ensures.reached none)
     (c.place_behind_cycle.ensures.reached none)
 
 pub returns-then-placed-clause-one : goal.returns-then-placed-clause-one
-returns-then-placed-clause-one g c =
-    none_runs_one c.args.turn.pass c.place_behind_older-turn.result.0.pass c.place_behind_older-turn.ensures.begins
+returns-then-placed-clause-one g c = none_runs_one _ _ c.place_behind_older-turn.ensures.begins
 
 pub returns-clause-one : goal.returns-clause-one
-returns-clause-one g c =
-    none_then_one c.args.turn.pass c.place_behind_older-turn.result.0.pass c.place_behind_cycle.result.0.pass
-    c.place_behind_older-turn.ensures.begins c.place_behind_cycle.ensures.one
+returns-clause-one g c = none_then_one c.place_behind_older-turn.ensures.begins c.place_behind_cycle.ensures.one
 
 pub returns-then-placed-clause-begun : goal.returns-then-placed-clause-begun
-returns-then-placed-clause-begun g c =
-    none_begun g.E.Engine.begins c.args.turn.pass c.place_behind_older-turn.result.0.pass
-    c.place_behind_older-turn.ensures.begins
+returns-then-placed-clause-begun g c = none_begun c.place_behind_older-turn.ensures.begins
 
 pub returns-clause-begun : goal.returns-clause-begun
 returns-clause-begun g c =
-    let p = c.args.turn.pass in
-    let older = c.place_behind_older-turn.result.0.pass in
-    let d = (c.place_behind_older-turn.ensures.misfits c.if-placed.false).misfits.seeks.on.does in
-    begun_then g.E.Engine.begins p older c.place_behind_cycle.result.0.pass (only_seen p older d.more d.is)
-    (none_begun g.E.Engine.begins p older c.place_behind_older-turn.ensures.begins)
-    c.place_behind_cycle.ensures.begun
+    part_then_begun (c.place_behind_older-turn.ensures.misfits c.if-placed.false).misfits.seeks.on.does
+    (none_begun c.place_behind_older-turn.ensures.begins) c.place_behind_cycle.ensures.begun

@@ -1,5 +1,5 @@
-use Rattle.mk_alloc.proofs.Vocabulary.{Answer, Done, None, PassState, Seeks, Some, ap, begun_then, cycle_ended, in_turn}
-use Rattle.mk_alloc.proofs.Vocabulary.{sweeps_then, ◌∙◌}
+use Rattle.mk_alloc.proofs.Vocabulary.{Done, None, PassState, Seeks, ap, begun_then, cycle_ended, in_turn, sweeps_then}
+use Rattle.mk_alloc.proofs.Vocabulary.{◌∙◌}
 use Rattle.mk_alloc.proofs.SeekingTurns.{misfits_then, nowhere_begun, seeks_begun, seeks_then}
 use Rattle.mk_alloc.proofs.{BegunTurns.none_begun, OneCycles.begin_then_ends, OneCycles.ends_none}
 use Rattle.mk_alloc.proofs.{QuietTurns.quiet_begun, rooms.place_behind_cycle.Goals.After-is_in_order-2}
@@ -7,30 +7,27 @@ use Rattle.mk_alloc.proofs.rooms.place_behind_cycle.Goals as goal
 
 pub finish_and_place-requires-clause-quiet : goal.finish_and_place-requires-clause-quiet
 finish_and_place-requires-clause-quiet g c κs within =
-    quiet_begun c.args.turn.pass c.begin_cycle.new.turn.pass c.requires.quiet c.begin_cycle.ensures.law
+    quiet_begun c.requires.quiet c.begin_cycle.ensures.law
 
 pub finish_and_place-requires-clause-nowhere : goal.finish_and_place-requires-clause-nowhere
 finish_and_place-requires-clause-nowhere g c κs within =
     let t = c.args.turn in
     let i = c.is_in_order.ensures in
-    nowhere_begun t.pass c.begin_cycle.new.turn.pass
-    (in_turn t.pass t.op i.own i.turn i.history) c.requires.unplaced c.requires.quiet
-    c.requires.nowhere c.begin_cycle.ensures.law c.is_in_order-2.ensures.history
+    nowhere_begun (in_turn t.pass t.op i.own i.turn i.history) c.requires.unplaced c.requires.quiet c.requires.nowhere
+    c.begin_cycle.ensures.law c.is_in_order-2.ensures.history
 
 -- the cycle that begins
 sought : (g : _) (c : After-is_in_order-2 g) → Seeks None c.args.turn.pass c.begin_cycle.new.turn.pass
 sought g c =
     let t = c.args.turn in
     let i = c.is_in_order.ensures in
-    seeks_begun t.pass c.begin_cycle.new.turn.pass (in_turn t.pass t.op i.own i.turn i.history) c.requires.unplaced
-    c.requires.quiet c.requires.nowhere c.begin_cycle.ensures.law c.is_in_order-2.ensures.history
+    seeks_begun (in_turn t.pass t.op i.own i.turn i.history) c.requires.unplaced c.requires.quiet c.requires.nowhere
+    c.begin_cycle.ensures.law c.is_in_order-2.ensures.history
 
 pub returns-clause-placed : goal.returns-clause-placed
 returns-clause-placed g c =
     let x = goal.at.returns-clause-placed g c in
-    λ placed.
-    seeks_then (Some Answer.Done) c.args.turn.pass c.begin_cycle.new.turn.pass c.finish_and_place.result.0.pass
-    (sought g x.After-is_in_order-2) (c.finish_and_place.ensures.placed placed)
+    λ placed. seeks_then (sought g x.After-is_in_order-2) (c.finish_and_place.ensures.placed placed)
 
 pub returns-clause-misfits : goal.returns-clause-misfits
 returns-clause-misfits g c =
@@ -38,8 +35,7 @@ returns-clause-misfits g c =
     λ misfits.
     let m = c.finish_and_place.ensures.misfits misfits in
     record {
-      misfits = misfits_then c.args.turn.pass c.begin_cycle.new.turn.pass c.finish_and_place.result.0.pass
-          (sought g x.After-is_in_order-2) m.misfits;
+      misfits = misfits_then (sought g x.After-is_in_order-2) m.misfits;
       idle = m.idle;
       ended = c.finish_and_place.ensures.cycle misfits
           ∙ ap (λ (x : Done). cycle_ended x.cycle) c.begin_cycle.ensures.law.done;
@@ -55,13 +51,12 @@ pub returns-clause-one : goal.returns-clause-one
 returns-clause-one g c =
     let t = c.args.turn in
     let i = c.is_in_order.ensures in
-    begin_then_ends t.pass c.begin_cycle.new.turn.pass c.finish_and_place.result.0.pass
-    (in_turn t.pass t.op i.own i.turn i.history) c.begin_cycle.ensures.law c.is_in_order-2.ensures.history
-    c.finish_and_place.ensures.ends
+    begin_then_ends (in_turn t.pass t.op i.own i.turn i.history) c.begin_cycle.ensures.law
+    c.is_in_order-2.ensures.history c.finish_and_place.ensures.ends
 
 pub returns-clause-begun : goal.returns-clause-begun
 returns-clause-begun g c =
     let begun : PassState = c.begin_cycle.new.turn.pass in
     let last : PassState = c.finish_and_place.result.0.pass in
     begun_then g.E.Engine.begins c.args.turn.pass begun last c.begin_cycle.ensures.law.pass c.begin_cycle.ensures.begun
-    (none_begun g.E.Engine.begins begun last (ends_none begun last c.finish_and_place.ensures.ends))
+    (none_begun (ends_none c.finish_and_place.ensures.ends))

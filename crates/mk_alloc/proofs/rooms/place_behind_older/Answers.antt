@@ -1,4 +1,4 @@
-use Rattle.mk_alloc.proofs.Vocabulary.{Answer, BeginsNone, Misfits, PassState, Some, in_turn, sym, ◌∙◌}
+use Rattle.mk_alloc.proofs.Vocabulary.{BeginsNone, Misfits, in_turn, sym, ◌∙◌}
 use Rattle.mk_alloc.proofs.OneCycles.{ends_none, looks_begins_none, none_then_none}
 use Rattle.mk_alloc.proofs.SeekingTurns.{misfits_seen, misfits_then, phase_seen, seeks_then, seen_at}
 use Rattle.mk_alloc.proofs.UnsweptTurns.{looking_sweeps, looking_then_sweeps}
@@ -10,9 +10,8 @@ seen : (g : _) (c : After-is_in_order-2 g) → Misfits c.args.turn.pass c.is_cyc
 seen g c =
     let t = c.args.turn in
     let i = c.is_in_order.ensures in
-    misfits_seen t.pass c.is_cycle_on-is_on.new.turn.pass c.requires.unplaced c.requires.nowhere
-    (in_turn t.pass t.op i.own i.turn i.history) c.requires.quiet c.is_cycle_on-is_on.ensures.looks
-    c.is_in_order-2.ensures.history
+    misfits_seen (in_turn t.pass t.op i.own i.turn i.history) c.requires.unplaced c.requires.quiet c.requires.nowhere
+    c.is_cycle_on-is_on.ensures.looks c.is_in_order-2.ensures.history
 
 begins_none : (g : _) (c : After-is_in_order-2 g) → BeginsNone c.args.turn.pass c.is_cycle_on-is_on.new.turn.pass
 begins_none g c =
@@ -26,14 +25,14 @@ returns-then-not-is_on-clause-misfits g c =
     let x = goal.at.returns-then-not-is_on-clause-misfits g c in
     λ same. record {
       misfits = seen g x.After-is_in_order-2;
-      idle = seen_at c.args.turn.pass c.is_cycle_on-is_on.new.turn.pass c.is_cycle_on-is_on.ensures.looks 0
+      idle = seen_at c.is_cycle_on-is_on.ensures.looks
           (phase_seen c.args.turn.pass c.requires.quiet.phase
           (sym c.is_cycle_on-is_on.ensures.on ∙ c.if-not-is_on.true));
     }
 
 pub finish_and_place-requires-clause-quiet : goal.finish_and_place-requires-clause-quiet
 finish_and_place-requires-clause-quiet g c κs within =
-    quiet_looked c.args.turn.pass c.is_cycle_on-is_on.new.turn.pass c.requires.quiet c.is_cycle_on-is_on.ensures.looks
+    quiet_looked c.requires.quiet c.is_cycle_on-is_on.ensures.looks
 
 pub finish_and_place-requires-clause-nowhere : goal.finish_and_place-requires-clause-nowhere
 finish_and_place-requires-clause-nowhere g c κs within =
@@ -42,30 +41,21 @@ finish_and_place-requires-clause-nowhere g c κs within =
 pub returns-clause-placed : goal.returns-clause-placed
 returns-clause-placed g c =
     let x = goal.at.returns-clause-placed g c in
-    λ placed.
-    seeks_then (Some Answer.Done) c.args.turn.pass c.is_cycle_on-is_on.new.turn.pass c.finish_and_place.result.0.pass
-    (seen g x.After-is_in_order-2).seeks (c.finish_and_place.ensures.placed placed)
+    λ placed. seeks_then (seen g x.After-is_in_order-2).seeks (c.finish_and_place.ensures.placed placed)
 
 pub returns-clause-misfits : goal.returns-clause-misfits
 returns-clause-misfits g c =
     let x = goal.at.returns-clause-misfits g c in
     λ misfits.
     let n = c.finish_and_place.ensures.misfits misfits in
-    record {
-      misfits = misfits_then c.args.turn.pass c.is_cycle_on-is_on.new.turn.pass c.finish_and_place.result.0.pass
-          (seen g x.After-is_in_order-2).seeks n.misfits;
-      idle = n.idle;
-    }
+    record { misfits = misfits_then (seen g x.After-is_in_order-2).seeks n.misfits; idle = n.idle }
 
 pub returns-then-not-is_on-clause-reached : goal.returns-then-not-is_on-clause-reached
-returns-then-not-is_on-clause-reached g c =
-    λ none. looking_sweeps c.args.turn.pass c.is_cycle_on-is_on.new.turn.pass c.is_cycle_on-is_on.ensures.looks
+returns-then-not-is_on-clause-reached g c = λ none. looking_sweeps c.is_cycle_on-is_on.ensures.looks
 
 pub returns-clause-reached : goal.returns-clause-reached
 returns-clause-reached g c =
-    λ none.
-    looking_then_sweeps c.args.turn.pass c.is_cycle_on-is_on.new.turn.pass c.finish_and_place.result.0.pass
-    c.is_cycle_on-is_on.ensures.looks (c.finish_and_place.ensures.reached none)
+    λ none. looking_then_sweeps c.is_cycle_on-is_on.ensures.looks (c.finish_and_place.ensures.reached none)
 
 pub returns-then-not-is_on-clause-begins : goal.returns-then-not-is_on-clause-begins
 returns-then-not-is_on-clause-begins g c =
@@ -73,7 +63,5 @@ returns-then-not-is_on-clause-begins g c =
 
 pub returns-clause-begins : goal.returns-clause-begins
 returns-clause-begins g c =
-    let r : PassState = c.is_cycle_on-is_on.new.turn.pass in
-    let s : PassState = c.finish_and_place.result.0.pass in
-    none_then_none c.args.turn.pass r s (begins_none g (goal.at.returns-clause-begins g c).After-is_in_order-2)
-    (ends_none r s c.finish_and_place.ensures.ends)
+    none_then_none (begins_none g (goal.at.returns-clause-begins g c).After-is_in_order-2)
+    (ends_none c.finish_and_place.ensures.ends)

@@ -5,7 +5,7 @@ use Rattle.mk_alloc.proofs.turns.is_cycle_on.Goals as goal
 pub look-found-requires-clause-enabled : goal.look-found-requires-clause-enabled
 look-found-requires-clause-enabled c =
     let t = c.args.turn.now in
-    phase_allowed t.pass (in_turn t.pass t.op c.is_in_order.ensures.own c.is_in_order.ensures.turn
+    phase_allowed (in_turn t.pass t.op c.is_in_order.ensures.own c.is_in_order.ensures.turn
     c.is_in_order.ensures.history)
     c.requires.quiet.free
 

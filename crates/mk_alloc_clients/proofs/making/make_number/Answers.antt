@@ -13,9 +13,8 @@ use Rattle.mk_alloc_clients.proofs.making.make_number.Goals as goal
 pub try_take-requires-clause-enabled : goal.try_take-requires-clause-enabled
 try_take-requires-clause-enabled c =
     let p : PassState = c.args.caller.now.pass in
-    subst (λ (x : PassState). IsEnabledTo x (Step.Take (Some (Op.New c.args.d c.args.ty false))))
-    (sym c.lend-home.ensures.pass)
-    (may_take p c.args.d c.args.ty c.is_idle.ensures.idle c.requires.suits.exists
+    subst (λ (x : PassState). IsEnabledTo x (Step.Take (Some (Op.New c.args.d c.args.ty false)))) (sym
+    c.lend-home.ensures.pass) (may_take p c.args.d _ c.is_idle.ensures.idle c.requires.suits.exists
     c.requires.suits.register c.requires.suits.number)
 
 -- the turn, as it was taken
@@ -24,11 +23,9 @@ taken c =
     let p : PassState = c.args.caller.now.pass in
     let e = c.in-Ok.ensures in
     let i = c.is_in_order.ensures in
-    taken_new p c.args.d c.args.ty c.is_idle.ensures.idle c.requires.suits.exists c.in-Ok.turn.pass
-    c.requires.suits.alone
+    taken_new p c.args.d _ c.is_idle.ensures.idle c.requires.suits.exists c.in-Ok.turn.pass c.requires.suits.alone
     (subst (λ (x : PassState). Finds x (Step.Take (Some (Op.New c.args.d c.args.ty false))) 0 c.in-Ok.turn.pass)
-    c.lend-home.ensures.pass e.made)
-    e.fresh e.exact e.tidy i.before_over
+    c.lend-home.ensures.pass e.made) e.fresh e.exact e.tidy i.before_over
 
 pub place_number-requires-clause-unplaced : goal.place_number-requires-clause-unplaced
 place_number-requires-clause-unplaced c =

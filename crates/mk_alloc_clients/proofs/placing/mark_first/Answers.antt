@@ -29,5 +29,4 @@ returns-else-marking-clause-carved c =
     let p : PassState = c.args.turn.now.pass in
     let i = c.is_in_order.ensures in
     let k = knows_place i.turn i.history c.requires.goes in
-    marks_none c.requires.goes k c.requires.free
-    (eqb-false (phase_of (now_of p).words) 1 (sym c.requires.marking ∙ c.if-marking.false))
+    marks_none c.requires.goes k c.requires.free (eqb-false _ 1 (sym c.requires.marking ∙ c.if-marking.false))

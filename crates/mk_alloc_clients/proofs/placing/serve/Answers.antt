@@ -1,5 +1,4 @@
-use Rattle.mk_laws.proofs.Vocabulary.{Object, address_of, ap, arith, base_made, sym, words_made, words_within, ◌%◌, ◌^◌}
-use Rattle.mk_laws.proofs.Vocabulary.{◌∙◌, ◌≡◌}
+use Rattle.mk_laws.proofs.Vocabulary.{Object, ap, arith, sym, words_made, words_within, ◌∙◌, ◌≡◌}
 use Rattle.mk_alloc.proofs.Vocabulary.{PassState, object_for}
 use Rattle.mk_alloc_clients.proofs.placing.serve.Goals.{After-grant, After-is_in_order, After-used}
 use Rattle.mk_objects.proofs.Takes.{HasGranted, HasTaken, counted, counted_held, few_held, grant_address, grant_admits}
@@ -45,8 +44,7 @@ pub grant-requires-clause-address : goal.grant-requires-clause-address
 grant-requires-clause-address c =
     let x = goal.at.grant-requires-clause-address c in
     let k = knows x.After-is_in_order in
-    c.address.ensures ∙ ap (λ (o : Object). address_of (base_made o c.args.place) % 2 ^ 64) (sym c.requires.number)
-    ∙ sym (grant_address c.requires.goes k (taken x.After-used k))
+    cc (c.address.ensures, c.requires.number, grant_address c.requires.goes k (taken x.After-used k))
 
 pub address-requires-clause-page : goal.address-requires-clause-page
 address-requires-clause-page c =

@@ -1,7 +1,6 @@
-use Rattle.mk_laws.proofs.Vocabulary.{Option, Steady, ℕ, ap, free_page, header_at, header_of, heads_run, slice_index_or}
-use Rattle.mk_laws.proofs.Vocabulary.{sym, ◌∙◌, ◌≡◌}
+use Rattle.mk_laws.proofs.Vocabulary.{Option, Steady, ℕ, ap, arith, free_page, header_at, header_of, heads_run}
+use Rattle.mk_laws.proofs.Vocabulary.{slice_index_or, sym, ◌∙◌, ◌≡◌}
 use Rattle.mk_objects.proofs.Vocabulary.{PassState, now_of, option_map}
-use Rattle.mk_objects.proofs.DecidedFrees.{look_frees, look_not}
 use Rattle.mk_objects.proofs.PreparedFrees.{frees_behind, looks_prepare, still_open}
 use Rattle.mk_objects.proofs.{JoinedLooks.looks_left, JoinedLooks.looks_table, LargeFrees.heads_none}
 use Rattle.mk_objects.proofs.freeing.free_found.Goals as goal
@@ -27,10 +26,10 @@ free_small-requires-clause-small g c =
 
 pub returns-in-Some-clause-frees : goal.returns-in-Some-clause-frees
 returns-in-Some-clause-frees g c =
-    frees_behind (looks_prepare c.look_at-header.ensures.looks) look_frees look_not
+    frees_behind (looks_prepare c.look_at-header.ensures.looks) (λ x h. grind arith) (λ x h. grind arith)
     c.is_in_order-2.ensures.history c.is_in_order.ensures.turn.holds c.free_run.ensures.frees
 
 pub returns-in-None-clause-frees : goal.returns-in-None-clause-frees
 returns-in-None-clause-frees g c =
-    frees_behind (looks_prepare c.look_at-header.ensures.looks) look_frees look_not
+    frees_behind (looks_prepare c.look_at-header.ensures.looks) (λ x h. grind arith) (λ x h. grind arith)
     c.is_in_order-2.ensures.history c.is_in_order.ensures.turn.holds c.free_small.ensures.frees

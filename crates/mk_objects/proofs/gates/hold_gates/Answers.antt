@@ -1,5 +1,5 @@
 use Rattle.mk_laws.proofs.Vocabulary.{Seat, ap, arith, refl, subst, ◌+◌, ◌∙◌}
-use Rattle.mk_objects.proofs.Vocabulary.{PassState, SetsGate, WordsState, all_others, held_to, is_holding}
+use Rattle.mk_objects.proofs.Vocabulary.{PassState, SetsGate, WordsState, all_others, is_holding}
 use Rattle.mk_objects.proofs.SetGates.{caller_within, held_next, held_so_far, holds_none, none_yet_held, set_acting}
 use Rattle.mk_objects.proofs.SetGates.{set_held, set_seat, set_there, sets_more, sets_named}
 use Rattle.mk_objects.proofs.gates.hold_gates.Goals as goal
@@ -31,9 +31,8 @@ loop-caller-preserved g c =
     c.hold_other.ensures.sets in
     record {
       op = c.hold_other.ensures.op ∙ c.loop-caller.invariant.op;
-      sets = sets_more is_holding p q c.hold_other.new.turn.pass (held_to p.seat n) (held_to p.seat (n + 1)) n
-          (all_others p.seat n) c.loop-caller.invariant.sets one (λ j ne. held_next p.seat n j ne)
-          (held_so_far p.seat (n + 1) n (omega arith));
+      sets = sets_more is_holding p q _ _ _ n _ c.loop-caller.invariant.sets one (λ j ne. held_next p.seat n j ne)
+          (held_so_far _ (n + 1) n (omega arith));
       keeps = λ r lt. c.hold_other.ensures.keeps r lt ∙ c.loop-caller.invariant.keeps r lt;
     }
 

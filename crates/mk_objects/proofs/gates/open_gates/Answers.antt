@@ -1,5 +1,5 @@
 use Rattle.mk_laws.proofs.Vocabulary.{arith, refl, ◌+◌, ◌∙◌}
-use Rattle.mk_objects.proofs.Vocabulary.{PassState, held_from, is_settling}
+use Rattle.mk_objects.proofs.Vocabulary.{PassState, is_settling}
 use Rattle.mk_objects.proofs.SetGates.{all_yet_held, caller_within, opened_next, opened_so_far, opens_none, set_acting}
 use Rattle.mk_objects.proofs.SetGates.{set_held, set_phase, set_seat, set_there, sets_more, sets_named}
 use Rattle.mk_objects.proofs.gates.open_gates.Goals as goal
@@ -30,9 +30,8 @@ loop-caller-preserved c =
     let n = c.loop-caller.caller in
     record {
       op = c.open_other.ensures.op ∙ c.loop-caller.invariant.op;
-      sets = sets_more is_settling p q c.open_other.new.turn.pass (held_from p.seat n) (held_from p.seat (n + 1)) n _
-          c.loop-caller.invariant.sets c.open_other.ensures.sets (λ j ne. opened_next p.seat n j ne)
-          (opened_so_far p.seat (n + 1) n (omega arith));
+      sets = sets_more is_settling p q _ _ _ n _ c.loop-caller.invariant.sets c.open_other.ensures.sets (λ j ne.
+          opened_next p.seat n j ne) (opened_so_far _ (n + 1) n (omega arith));
       gone = c.open_other.ensures.gone;
     }
 

@@ -1,4 +1,4 @@
-use Rattle.mk_laws.proofs.Vocabulary.{Seat, ap, false, is_number_of, is_run_gone, not, sym, true, ◌∙◌, ◌≡◌}
+use Rattle.mk_laws.proofs.Vocabulary.{ap, false, is_number_of, is_run_gone, not, true, ◌∙◌, ◌≡◌}
 use Rattle.mk_objects.proofs.Vocabulary.{PassState, is_settling, now_of}
 use Rattle.mk_objects.proofs.SetGates.{one_there, set_nothing, sets_open}
 use Rattle.mk_objects.proofs.{GoneRuns.still_gone, Looks.acting_now, MayAct.may_open}
@@ -8,8 +8,7 @@ pub open_gate-requires-clause-enabled : goal.open_gate-requires-clause-enabled
 open_gate-requires-clause-enabled c =
     let p : PassState = c.args.turn.now.pass in
     let another : is_number_of p.seat c.args.caller ≡ false =
-    ap (λ (s : Seat). is_number_of s c.args.caller) (sym c.seat.ensures) ∙ sym c.is_own.ensures
-    ∙ c.if-not-is_own.true in
+    cc (c.seat.ensures, c.is_own.ensures, c.if-not-is_own.true) in
     may_open (acting_now p c.args.turn.now.op c.is_in_order.ensures.turn c.requires.acting) c.args.caller
     c.requires.within another (c.requires.held ∙ ap not another) c.requires.phase c.requires.gone
 
@@ -27,7 +26,5 @@ returns-then-not-is_own-clause-gone c =
 pub returns-else-not-is_own-clause-sets : goal.returns-else-not-is_own-clause-sets
 returns-else-not-is_own-clause-sets c =
     let p : PassState = c.args.turn.now.pass in
-    let own : is_number_of p.seat c.args.caller ≡ true =
-    ap (λ (s : Seat). is_number_of s c.args.caller) (sym c.seat.ensures) ∙ sym c.is_own.ensures
-    ∙ c.if-not-is_own.false in
+    let own : is_number_of p.seat c.args.caller ≡ true = cc (c.seat.ensures, c.is_own.ensures, c.if-not-is_own.false) in
     set_nothing is_settling p c.args.caller (c.requires.held ∙ ap not own)

@@ -5,9 +5,7 @@ use Rattle.mk_turns.proofs.Sweeping.{nothing_sweeps}
 use Rattle.mk_objects.proofs.placing.make_ready.Goals as goal
 
 pub carve-requires-clause-free : goal.carve-requires-clause-free
-carve-requires-clause-free c =
-    eqb-true (header_at (now_of c.args.turn.now.pass).words c.args.place.page) 0
-    (sym c.requires.free ∙ c.if-free.true)
+carve-requires-clause-free c = eqb-true _ 0 (sym c.requires.free ∙ c.if-free.true)
 
 pub returns-else-free-clause-ready : goal.returns-else-free-clause-ready
 returns-else-free-clause-ready c =

@@ -13,8 +13,7 @@ asked : (c : In-New) → (call_of c.args.turn.now.pass).op ≡ Op.New c.in-New.d
 asked c = grind (arith, op_known)
 
 -- and the shape is that of its object
-shape_is : (c : After-shape_of-shape) → (call_of c.args.turn.now.pass).op
-    ≡ Op.New c.in-New.d c.in-New.ty c.in-New.full
+shape_is : (c : After-shape_of-shape) → (call_of c.args.turn.now.pass).op ≡ Op.New c.in-New.d c.in-New.ty c.in-New.full
     → object_shaped c.shape_of-shape.result ≡ object_for c.args.turn.now.pass
 shape_is c is = grind (arith, shape_asked)
 
@@ -39,8 +38,7 @@ pub shape_of-shape-requires : goal.shape_of-shape-requires
 shape_of-shape-requires c =
     let has = type_asked c.args.turn.now.pass c.requires.one_table c.is_in_order.ensures.history
     (asked (goal.at.shape_of-shape-requires c).In-New) in
-    subst (λ (ts : List (List Kind)). c.in-New.ty < length ts) (sym c.types.ensures)
-    (ltb-true c.in-New.ty (length c.args.words.now.config.types) has)
+    subst (λ (ts : List (List Kind)). c.in-New.ty < length ts) (sym c.types.ensures) (ltb-true c.in-New.ty _ has)
 
 pub page-used-requires : goal.page-used-requires
 page-used-requires c =

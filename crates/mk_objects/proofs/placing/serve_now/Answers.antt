@@ -1,12 +1,10 @@
-use Rattle.mk_laws.proofs.Vocabulary.{Flight, ap, d_of, sym, ◌∙◌}
 use Rattle.mk_objects.proofs.JoinedLooks.{granted_behind_looks, looks_call, looks_joined}
 use Rattle.mk_objects.proofs.UnsweptNews.{looks_then_sweep}
 use Rattle.mk_objects.proofs.placing.serve_now.Goals as goal
 
 pub serve-requires-clause-register : goal.serve-requires-clause-register
 serve-requires-clause-register c =
-    c.requires.register ∙ sym (ap (λ (f : Flight). d_of f.op) (looks_call
-    (looks_joined c.look_at-held.ensures.looks c.is_marking-marking.ensures.looks)))
+    cc (c.requires.register, looks_call (looks_joined c.look_at-held.ensures.looks c.is_marking-marking.ensures.looks))
 
 pub returns-clause-granted : goal.returns-clause-granted
 returns-clause-granted c =

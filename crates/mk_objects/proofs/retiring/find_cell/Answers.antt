@@ -1,5 +1,5 @@
-use Rattle.mk_laws.proofs.Vocabulary.{Cell, Option, Some, ap, cell_at, header_at, lt-ltb, subst, sym, ◌<◌, ◌∙◌, ◌≡◌}
-use Rattle.mk_objects.proofs.Vocabulary.{PassState, WordsState, now_of}
+use Rattle.mk_laws.proofs.Vocabulary.{Cell, Option, Some, lt-ltb, subst, sym, ◌<◌, ◌∙◌, ◌≡◌}
+use Rattle.mk_objects.proofs.Vocabulary.{PassState}
 use Rattle.mk_objects.proofs.FoundCells.{IsPointed, pointed_now}
 use Rattle.mk_objects.proofs.retiring.find_cell.Goals.{After-is_in_order, After-lookup}
 use Rattle.mk_objects.proofs.retiring.find_cell.Goals as goal
@@ -12,11 +12,8 @@ pointed c = pointed_now c.args.turn.now.pass c.is_in_order.ensures.history c.req
 found : (c : After-lookup) (t : IsPointed c.args.turn.now.pass c.args.value) → c.lookup.result ≡ Some t.cell
 found c t =
     let p : PassState = c.args.turn.now.pass in
-    let pages : c.pages.result ≡ p.table.config.pages = c.pages.ensures
-    ∙ ap (λ (w : WordsState). w.config.pages) (sym c.requires.one_table) in
-    c.lookup.ensures ∙ ap (λ n. cell_at n c.look_at-header.result c.args.value) pages
-    ∙ ap (λ n. cell_at p.table.config.pages n c.args.value)
-    (c.look_at-header.ensures.finds ∙ ap (λ n. header_at (now_of p).words n) c.page_at-page.ensures) ∙ t.by_header
+    let pages : c.pages.result ≡ p.table.config.pages = cc (c.pages.ensures, c.requires.one_table) in
+    cc (c.lookup.ensures, pages, c.look_at-header.ensures.finds, c.page_at-page.ensures, t.by_header)
 
 same_cell : {x : Option Cell} {a b : Cell} → x ≡ Some a → x ≡ Some b → a ≡ b
 same_cell one other = cc

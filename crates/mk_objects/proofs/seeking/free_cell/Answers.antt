@@ -10,9 +10,8 @@ told : (c : After-lowest_free)
     → option_map (λ index. record { page = c.args.page; index = index; carve = false }) c.lowest_free.result
     ≡ free_cell_on c.args.class c.args.leaf (now_of c.args.turn.now.pass).words.pages c.args.page
 told c =
-    cell_told (now_of c.args.turn.now.pass).words.pages c.args.page c.args.class c.args.leaf c.requires.class
-    (ap (λ (p : Page). p.used) c.page.ensures) c.requires.block
-    c.lowest_free.ensures
+    cell_told (now_of c.args.turn.now.pass).words.pages _ c.args.class c.args.leaf c.requires.class (ap (λ (p : Page).
+    p.used) c.page.ensures) c.requires.block c.lowest_free.ensures
 
 pub unreachable-requires : goal.unreachable-requires
 unreachable-requires c =

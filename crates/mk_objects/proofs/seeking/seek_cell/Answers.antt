@@ -1,6 +1,5 @@
 use Rattle.mk_laws.proofs.Vocabulary.{ap, arith, cond-true, header_at, histories_keep_lengths, le-leb, sym, ◌==◌, ◌∙◌}
 use Rattle.mk_objects.proofs.Vocabulary.{PassState, now_of}
-use Rattle.mk_page_map.specs.Members.{page_at}
 use Rattle.mk_objects.proofs.SoughtPlaces.{IsBlock, block_found, block_has_header, place_in_block}
 use Rattle.mk_objects.proofs.seeking.seek_cell.Goals.{In-Some-first_block}
 use Rattle.mk_objects.proofs.seeking.seek_cell.Goals as goal
@@ -30,6 +29,5 @@ returns-clause-fits c = grind (arith, le-leb, cond-true, place_in_block)
 pub returns-clause-block : goal.returns-clause-block
 returns-clause-block c =
     let pages = (now_of c.args.turn.now.pass).words.pages in
-    ap (λ n. header_at (now_of c.args.turn.now.pass).words n == 0) c.free_cell.ensures.page
-    ∙ block_has_header (page_at pages c.in-Some-first_block.page) c.in-Some.class c.args.shape.leaf
-    (block (goal.at.returns-clause-block c).In-Some-first_block).free
+    ap (λ n. header_at (now_of c.args.turn.now.pass).words n == 0) c.free_cell.ensures.page ∙ block_has_header _
+    c.in-Some.class c.args.shape.leaf (block (goal.at.returns-clause-block c).In-Some-first_block).free

@@ -1,5 +1,5 @@
-use Rattle.mk_laws.proofs.Vocabulary.{ap, arith, histories_keep_lengths, length, ◌∙◌, ◌≡◌}
-use Rattle.mk_objects.proofs.Vocabulary.{PassState, WordsState, now_of}
+use Rattle.mk_laws.proofs.Vocabulary.{arith, histories_keep_lengths, length, ◌≡◌}
+use Rattle.mk_objects.proofs.Vocabulary.{PassState, now_of}
 use Rattle.mk_objects.proofs.SoughtPlaces.{resident_few}
 use Rattle.mk_objects.proofs.seeking.seek_large.Goals as goal
 
@@ -7,8 +7,7 @@ pub overflow_add-resident : goal.overflow_add-resident
 overflow_add-resident c =
     let p : PassState = c.args.turn.now.pass in
     let many : length (now_of p).words.pages ≡ c.args.words.now.config.pages =
-    (histories_keep_lengths p.table.config p.seen).pages
-    ∙ ap (λ (t : WordsState). t.config.pages) c.requires.one_table in
+    cc ((histories_keep_lengths p.table.config p.seen).pages, c.requires.one_table) in
     omega (
       arith,
       c.resident.ensures,

@@ -20,7 +20,6 @@ look_on_page-all-requires-clause-page c = omega (arith, c.requires.part, c.loop-
 pub loop-i-preserved : goal.loop-i-preserved
 loop-i-preserved c =
     let p : PassState = c.args.turn.now.pass in
-    let may = c.requires.may in
     let group = c.requires.group in
     let i = c.loop-i.invariant in
     let word : ℕ = 8 * c.args.group + c.loop-i.i in
@@ -28,8 +27,8 @@ loop-i-preserved c =
     let q : PassState = c.look_on_page-all.new.self.pass in
     let found : ℕ = c.look_on_page-all.result in
     let seen : (n : ℕ) → WipesTo p c.args.run n c.loop-i.turn.pass → WipesTo p c.args.run n q =
-    λ n reached. looks_then c.args.run c.is_in_order.ensures.turn may.decided may.stopped word reached
-    (omega (arith, group, c.loop-i-test.true)) may.few may.unmapped c.look_on_page-all.ensures.acts in
+    λ n reached. looks_then c.is_in_order.ensures.turn c.requires.may word reached
+    (omega (arith, group, c.loop-i-test.true)) c.look_on_page-all.ensures.acts in
     record {
       op = c.look_on_page-all.ensures.op ∙ i.op;
       still = seen (8 * c.args.group) i.still;
@@ -38,8 +37,8 @@ loop-i-preserved c =
           let most = le_or_l c.loop-i.all found in omega (arith, most, none) in
           let here : found ≡ 0 = let most = le_or_r c.loop-i.all found in omega (arith, most, none) in
           subst (λ n. WipesTo p c.args.run n q) next
-          (found_wiped c.args.run c.is_in_order.ensures.turn may.decided may.stopped (seen word
-          (i.zero before)) c.look_on_page-all.ensures.finds here);
+          (found_wiped c.is_in_order.ensures.turn c.requires.may (seen word (i.zero before))
+          c.look_on_page-all.ensures.finds here);
     }
 
 pub returns-clause-zero : goal.returns-clause-zero

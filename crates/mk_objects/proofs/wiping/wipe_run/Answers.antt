@@ -8,11 +8,10 @@ may : (c : Start) → MayWipe c.args.turn.now.pass c.args.run
 may c = grind arith
 
 pub loop-part-init : goal.loop-part-init
-loop-part-init c =
-    record {
-      op = refl;
-      wiped = wiped_from c.args.turn.now.pass (λ i lt. absurd (omega arith));
-    }
+loop-part-init c = record {
+  op = refl;
+  wiped = wiped_from c.args.turn.now.pass (λ i lt. absurd (omega arith));
+}
 
 pub wipe_page-requires-clause-may : goal.wipe_page-requires-clause-may
 wipe_page-requires-clause-may c = grind (arith, still_may, may)
@@ -21,11 +20,10 @@ pub wipe_page-requires-clause-wiped : goal.wipe_page-requires-clause-wiped
 wipe_page-requires-clause-wiped c = wiped_now c.loop-part.invariant.wiped
 
 pub loop-part-preserved : goal.loop-part-preserved
-loop-part-preserved c =
-    record {
-      op = c.wipe_page.ensures.op ∙ c.loop-part.invariant.op;
-      wiped = wipes_named (wipes_then c.loop-part.invariant.wiped c.wipe_page.ensures.wipes) (omega arith);
-    }
+loop-part-preserved c = record {
+  op = c.wipe_page.ensures.op ∙ c.loop-part.invariant.op;
+  wiped = wipes_named (wipes_then c.loop-part.invariant.wiped c.wipe_page.ensures.wipes) (omega arith);
+}
 
 pub returns-clause-wipes : goal.returns-clause-wipes
 returns-clause-wipes c = grind (arith, wiped_all, wipes_named)

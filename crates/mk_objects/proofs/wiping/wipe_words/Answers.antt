@@ -6,11 +6,10 @@ use Rattle.mk_objects.proofs.WipedRuns.{wiped_from}
 use Rattle.mk_objects.proofs.wiping.wipe_words.Goals as goal
 
 pub loop-word-init : goal.loop-word-init
-loop-word-init c =
-    record {
-      op = refl;
-      wiped = wiped_from c.args.turn.now.pass c.requires.wiped;
-    }
+loop-word-init c = record {
+  op = refl;
+  wiped = wiped_from c.args.turn.now.pass c.requires.wiped;
+}
 
 pub look_on_page-found-requires-clause-enabled : goal.look_on_page-found-requires-clause-enabled
 look_on_page-found-requires-clause-enabled c = grind (arith, look_may)
@@ -20,11 +19,10 @@ look_on_page-found-requires-clause-page c = omega (arith, c.requires.part, c.loo
 
 pub wipe-requires-clause-enabled : goal.wipe-requires-clause-enabled
 wipe-requires-clause-enabled c =
-    wipe_may c.args.run c.is_in_order.ensures.turn c.requires.may.decided c.requires.may.stopped
-    (looks_then c.args.run c.is_in_order.ensures.turn c.requires.may.decided c.requires.may.stopped c.loop-word.word
-    c.loop-word.invariant.wiped (omega (arith, c.requires.group, c.loop-word-test.true)) c.requires.may.few
-    c.requires.may.unmapped c.look_on_page-found.ensures.acts) c.requires.may.freed c.requires.may.unmapped
-    (omega (arith, c.requires.group, c.loop-word-test.true)) c.requires.may.within
+    let near : c.loop-word.word < 64 * c.args.run.count = omega (arith, c.requires.group, c.loop-word-test.true) in
+    wipe_may c.is_in_order.ensures.turn c.requires.may
+    (looks_then c.is_in_order.ensures.turn c.requires.may c.loop-word.word c.loop-word.invariant.wiped near
+    c.look_on_page-found.ensures.acts) near
 
 pub loop-word-preserved : goal.loop-word-preserved
 loop-word-preserved c =
@@ -32,22 +30,21 @@ loop-word-preserved c =
     let i = c.loop-word.invariant in
     let n = c.loop-word.word in
     let near : n < 64 * c.args.run.count = omega (arith, c.requires.group, c.loop-word-test.true) in
-    let seen = looks_then c.args.run c.is_in_order.ensures.turn c.requires.may.decided c.requires.may.stopped n i.wiped
-    near c.requires.may.few c.requires.may.unmapped c.look_on_page-found.ensures.acts in
+    let turn = c.is_in_order.ensures.turn in
+    let may = c.requires.may in
+    let seen = looks_then turn may n i.wiped near c.look_on_page-found.ensures.acts in
     elim c.if-found-ne0.branch [
       | then-found-ne0 w ↦
           record {
             op = ap (λ (t : TurnState). t.op) w.turn-is ∙ w.wipe.ensures.op ∙ c.look_on_page-found.ensures.op ∙ i.op;
             wiped = subst (λ (t : TurnState). WipesTo p c.args.run (n + 1) t.pass) (sym w.turn-is)
-                (wipes_on c.args.run c.is_in_order.ensures.turn c.requires.may.decided c.requires.may.stopped seen near
-                c.requires.may.within w.wipe.ensures.acts);
+                (wipes_on turn may seen near w.wipe.ensures.acts);
           }
       | else-found-ne0 w ↦
           record {
             op = ap (λ (t : TurnState). t.op) w.turn-is ∙ c.look_on_page-found.ensures.op ∙ i.op;
             wiped = subst (λ (t : TurnState). WipesTo p c.args.run (n + 1) t.pass) (sym w.turn-is)
-                (found_wiped c.args.run c.is_in_order.ensures.turn c.requires.may.decided c.requires.may.stopped seen
-                c.look_on_page-found.ensures.finds w.if-found-ne0.false);
+                (found_wiped turn may seen c.look_on_page-found.ensures.finds w.if-found-ne0.false);
           }
     ]
 

@@ -16,8 +16,7 @@ pub give-back-requires-clause-enabled : goal.give-back-requires-clause-enabled
 give-back-requires-clause-enabled g c = grind (arith, cycle_idle, give_allowed, in_turn, idle_may_give)
 
 -- the host's pass as the cycle left it
-ended : (g : _) (c : After-finish_cycle-turn g)
-    → MovesOn c.take_home-home.result c.finish_cycle-turn.result.0.pass
+ended : (g : _) (c : After-finish_cycle-turn g) → MovesOn c.take_home-home.result c.finish_cycle-turn.result.0.pass
 ended g c =
     finish_moves _ _ _
     (begin_moves _ _ _ (idle_moves _ _ c.take_idle_turn-turn.ensures.takes) c.begin_cycle.ensures.law)
