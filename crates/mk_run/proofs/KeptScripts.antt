@@ -1,17 +1,16 @@
 -- What an engine keeps to in the steps of the scripts' callers and of the host, up to the whole run.
-use Rattle.mk_laws.proofs.Vocabulary.{At, Bool, Caller, Config, Event, Host, IsHistory, List, Marker, Seat, Step, ℕ, ap}
+use Rattle.mk_laws.proofs.Vocabulary.{At, Bool, Caller, Config, Event, Host, IsHistory, List, Marker, Seat, Step, ℕ}
 use Rattle.mk_laws.proofs.Vocabulary.{arith, enabled_in_parts, enabled_meets, false, first_world, group_of, is_begin}
 use Rattle.mk_laws.proofs.Vocabulary.{is_open_to, left, length, ltb-true, refl, seat_exists, subst, sym, through, true}
 use Rattle.mk_laws.proofs.Vocabulary.{true≢false, [], ◌++◌, ◌+◌, ◌∙◌, ◌∷◌, ◌≡◌, ◌≤◌}
 use Rattle.mk_run.proofs.Vocabulary.{CallerState, EachIsBegun, Grows, Has, IsFirstPass, IsScript, IsWhole, Item}
-use Rattle.mk_run.proofs.Vocabulary.{PassState, StaysBeside, WordsState, at_home, config_of, has_first, script_names, ⊎_elim}
+use Rattle.mk_run.proofs.Vocabulary.{PassState, StaysBeside, WordsState, at_home, config_of, has_first, script_names}
+use Rattle.mk_run.proofs.Vocabulary.{⊎_elim}
 use Rattle.mk_core.specs.History.{AreEnabledFrom}
 use Rattle.mk_cycle.proofs.Begun.{HaveNoBegin, begun_append, kinds_begin_none, others_begin_none}
 use Rattle.mk_cycle.specs.Begun.{AreBegunFirst, CyclesAreBegun, IsBegunFirst}
-use Rattle.mk_run.proofs.JoinedScripts.{same_or_later}
-use Rattle.mk_run.proofs.UnsweptHistories.{markers_sweep, none_sweeps}
-use Rattle.mk_run.proofs.{UnsweptScripts.first_sweeps, UnsweptScripts.others_on as others_sweep_on}
-use Rattle.mk_run.proofs.{UnsweptScripts.seat_on as seat_sweeps_on}
+use Rattle.mk_run.proofs.UnsweptScripts.{first_sweeps, others_on as others_sweep_on, seat_on as seat_sweeps_on}
+use Rattle.mk_run.proofs.{JoinedScripts.same_or_later, UnsweptHistories.markers_sweep, UnsweptHistories.none_sweeps}
 use Rattle.mk_run.specs.Keeping.{PassKeeps, ScriptsKeep, SeatKeeps}
 use Rattle.mk_run.specs.{Scripts.is_beside_turns, Unswept.IsUnswept}
 use Rattle.mk_turns.specs.Sweeping.{SweepsNothingFrom}

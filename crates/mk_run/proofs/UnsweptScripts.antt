@@ -1,10 +1,7 @@
 -- A seat that makes no sweeping mark, as its pass sees more.
-use Rattle.mk_laws.proofs.Vocabulary.{Caller, Config, Event, Host, IsHistory, List, Marker, Seat, ℕ, arith, first_world}
-use Rattle.mk_laws.proofs.Vocabulary.{length, ltb-true, seat_exists, subst, sym, true, [], ◌+◌, ◌∷◌, ◌≡◌, ◌≤◌}
-use Rattle.mk_run.proofs.Vocabulary.{CallerState, Grows, Has, IsFirstPass, IsScript, Item, PassState, SweepsNothing}
-use Rattle.mk_run.proofs.Vocabulary.{WordsState, at_home, config_of, has_first, script_names, ⊎_elim}
-use Rattle.mk_run.proofs.{JoinedScripts.same_or_later, UnsweptHistories.markers_sweep, UnsweptHistories.none_sweeps}
-use Rattle.mk_run.specs.{Unswept.IsUnswept, UnsweptSeats.ScriptsSweepNothing, UnsweptSeats.SeatSweepsNothing}
+use Rattle.mk_laws.proofs.Vocabulary.{Config, Event, List, Seat, arith, subst, sym, [], ◌≡◌}
+use Rattle.mk_run.proofs.Vocabulary.{Grows, Has, PassState, SweepsNothing}
+use Rattle.mk_run.specs.UnsweptSeats.{SeatSweepsNothing}
 use Rattle.mk_turns.{proofs.Sweeping.others_sweep, proofs.Sweeping.sweeps_append, specs.Sweeping.SweepsNothingFrom}
 
 -- before the first event

@@ -1,6 +1,6 @@
 use Rattle.mk_laws.proofs.Vocabulary.{Caller, Config, Host, ap, arith, length, subst, sym, ◌+◌, ◌<◌, ◌∙◌, ◌≡◌}
-use Rattle.mk_run.proofs.Vocabulary.{AreReadyFrom, Grows, Has, HasJoined, HasMade, HostState, IsFirstPass, IsReadyScript}
-use Rattle.mk_run.proofs.Vocabulary.{IsScript, has_left, rules, script_names, with_joined}
+use Rattle.mk_run.proofs.Vocabulary.{AreReadyFrom, Grows, Has, HasJoined, HasMade, HostState, IsFirstPass}
+use Rattle.mk_run.proofs.Vocabulary.{IsReadyScript, IsScript, has_left, rules, script_names, with_joined}
 use Rattle.mk_run.proofs.HostTurns.{host_is_still, unseen_by_host}
 use Rattle.mk_run.proofs.JoinedScripts.{first_pass, next_made, one_joined, texts_joined}
 use Rattle.mk_run.proofs.KeptScripts.{none_joined, others_on, script_joined, scripts_on}
@@ -60,12 +60,15 @@ join-ran-requires-after_bounds g t c κs within =
           (
             λ a is. is,
             (
-              shared,
+              λ a is. is,
               (
-                next,
+                shared,
                 (
-                  left,
-                  (shared.2, shared.1, shared.0),
+                  next,
+                  (
+                    left,
+                    (shared.2, shared.1, shared.0),
+                  ),
                 ),
               ),
             ),
