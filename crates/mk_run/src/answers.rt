@@ -119,40 +119,6 @@ fn call_until_open<R: Wait>(rt: &R, caller: &mut Caller, op: Op) -> Answer
     unreachable!()
 }
 
-/// Carries out a New or a Free, in a turn of the caller's own.
-#[inline(always)]
-fn answer_in_turn<E: Engine, R: Threads + Wait + Sync>(
-    rt: &R,
-    caller: &mut Caller,
-    engine: &mut E,
-    op: Op,
-) -> Answer
-    requires home { caller.old.home ≡ true }
-    requires exists { caller_of_pass caller.old.pass < caller.old.pass.table.config.callers }
-    requires alone { caller.old.pass.seats ≡ caller.old.pass.seat ∷ [] }
-    requires entered { is_under_turn op ≡ true }
-    requires admitted { Admits caller.old.pass op }
-    requires made_for { E.made_for engine.old ≡ caller.old.pass.table.config.pages }
-    ensures home { caller.new.home ≡ true }
-    ensures made_for { E.made_for engine.new ≡ E.made_for engine.old }
-    ensures answers { Answers E.on caller.old.pass op result caller.new.pass }
-    ensures reached { E.sweeps ≡ false → SweepsNothing caller.old.pass caller.new.pass }
-    ensures begun { EachIsBegun E.begins caller.old.pass caller.new.pass }
-{
-    caller.is_idle();
-    match op {
-        Op::New { d, ty, .. } => match new_object(rt, caller, engine, d, ty) {
-            Ok(()) => Answer::Done,
-            Err(_) => Answer::Full,
-        },
-        Op::Free { p } => match free_object(rt, caller, engine, p) {
-            Ok(_) => Answer::Done,
-            Err(_) => Answer::Double,
-        },
-        _ => unreachable!(),
-    }
-}
-
 /// Carries out an operation, and returns its answer; none where its gate is held. Which pointer was loaded isn't
 /// reported.
 #[inline(always)]
@@ -178,7 +144,14 @@ pub fn answer_now<E: Engine, R: Threads + Wait + Sync>(
 {
     caller.is_idle();
     match op {
-        Op::New { .. } | Op::Free { .. } => Ok(answer_in_turn(rt, caller, engine, op)),
+        Op::New { d, ty, .. } => match new_object(rt, caller, engine, d, ty) {
+            Ok(()) => Ok(Answer::Done),
+            Err(_) => Ok(Answer::Full),
+        },
+        Op::Free { p } => match free_object(rt, caller, engine, p) {
+            Ok(_) => Ok(Answer::Done),
+            Err(_) => Ok(Answer::Double),
+        },
         _ => match call(caller, op) {
             Ok(told) => Ok(told),
             Err(held) => Err(held),
@@ -274,9 +247,19 @@ pub(crate) fn answer_put_off<E: Engine, R: Threads + Wait + Sync>(
     ensures begun { EachIsBegun E.begins caller.old.pass caller.new.pass }
 {
     match op {
-        Op::New { .. } | Op::Free { .. } => {
+        Op::New { d, ty, .. } => {
             caller.is_idle();
-            answer_in_turn(rt, caller, engine, op)
+            match new_object(rt, caller, engine, d, ty) {
+                Ok(()) => Answer::Done,
+                Err(_) => Answer::Full,
+            }
+        }
+        Op::Free { p } => {
+            caller.is_idle();
+            match free_object(rt, caller, engine, p) {
+                Ok(_) => Answer::Done,
+                Err(_) => Answer::Double,
+            }
         }
         _ => answer_when_open(rt, caller, feed),
     }
