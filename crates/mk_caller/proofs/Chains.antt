@@ -3,7 +3,7 @@ use Rattle.mk_laws.proofs.Vocabulary.{Answer, Bool, Event, Flight, KeepsRegister
 use Rattle.mk_laws.proofs.Vocabulary.{Progress, Some, Stage, Step, Unmapped, Value, ℕ, ap, append_assoc, at_rest, begun}
 use Rattle.mk_laws.proofs.Vocabulary.{d_of, i_of, if◌then◌else◌, ne_eqb, never_behind, onward, progress_reg, q_of, refl}
 use Rattle.mk_laws.proofs.Vocabulary.{refused, stage_refused, subst, sym, target_of, true, [], ◌++◌, ◌<◌, ◌==◌, ◌∙◌}
-use Rattle.mk_laws.proofs.Vocabulary.{◌∷◌, ◌≡◌, ◌≢◌}
+use Rattle.mk_laws.proofs.Vocabulary.{arith, ◌∷◌, ◌≡◌, ◌≢◌}
 use Rattle.mk_never.specs.{Admitted.OperandsAreInRange, declared.values.Target.Target}
 use Rattle.mk_caller.proofs.Joined.{joined, joined_on}
 use Rattle.mk_caller.specs.Moves.{CallGoesOn, IsAtFlight, MakesSteps, MayBeginCall, is_access, loads, passes}
@@ -142,12 +142,7 @@ null_steps _ h = cc
 
 pub access_is_small : (n : NeverState) (o : Op) → is_access o ≡ true → OperandsAreInRange n o → q_of o < 8
 access_is_small n (Op.GetNum q i) h r = r
-access_is_small n (Op.SetNum q i m) h r = r
-access_is_small n (Op.GetPtr d q i) h r = r.1
-access_is_small n (Op.SetPtr q i p) h r = r.0
-access_is_small n (Op.CasPtr q i p s) h r = r.0
-access_is_small n (Op.Lea d q i) h r = r.1
-access_is_small n _ h r = cc
+access_is_small n _ h r = grind arith
 
 pub refused_puts : (o : Op) (d : ℕ) → Some d ≡ refused_register o → (stage_refused o ≡ Stage.Put) × (d_of o ≡ d)
 refused_puts (Op.GetPtr d q i) e h = (refl, cc)
@@ -164,12 +159,7 @@ some_for o u ne =
 pub access_finds_some : (o : Op) (u : ℕ) → is_access o ≡ true → u ≢ 0
     → progress_reg (begun o) (begun o).stage u ≡ onward (record (begun o) { q = u }) None
 access_finds_some (Op.GetNum q i) u h ne = some_for (Op.GetNum q i) u ne
-access_finds_some (Op.SetNum q i n) u h ne = some_for (Op.SetNum q i n) u ne
-access_finds_some (Op.GetPtr d q i) u h ne = some_for (Op.GetPtr d q i) u ne
-access_finds_some (Op.SetPtr q i p) u h ne = some_for (Op.SetPtr q i p) u ne
-access_finds_some (Op.CasPtr q i p r) u h ne = some_for (Op.CasPtr q i p r) u ne
-access_finds_some (Op.Lea d q i) u h ne = some_for (Op.Lea d q i) u ne
-access_finds_some _ u h ne = cc
+access_finds_some o u h ne = cc (some_for o u ne)
 
 -- What a pass has seen goes on.
 pub record SeesMore (q r : PassState) : Type 0 where

@@ -23,16 +23,7 @@ record IsFree (c : Config) (m : Moment) (seat : Seat) (f : Flight) (s : Step) : 
 is_free : (c : Config) (m : Moment) (seat : Seat) (f : Flight) (s : Step) → group_of s ≡ Group.Callers
     → IsFree c m seat f s
 is_free c m seat f (Step.Enter o) h = record { gates = refl; phase = refl; marker = refl; holder = refl }
-is_free c m seat f Step.Leave h = record { gates = refl; phase = refl; marker = refl; holder = refl }
-is_free c m seat f Step.Reg h = record { gates = refl; phase = refl; marker = refl; holder = refl }
-is_free c m seat f Step.Probe h = record { gates = refl; phase = refl; marker = refl; holder = refl }
-is_free c m seat f Step.Read h = record { gates = refl; phase = refl; marker = refl; holder = refl }
-is_free c m seat f Step.Write h = record { gates = refl; phase = refl; marker = refl; holder = refl }
-is_free c m seat f Step.Cas h = record { gates = refl; phase = refl; marker = refl; holder = refl }
-is_free c m seat f Step.Getg h = record { gates = refl; phase = refl; marker = refl; holder = refl }
-is_free c m seat f Step.Setg h = record { gates = refl; phase = refl; marker = refl; holder = refl }
-is_free c m seat f Step.Dirty h = record { gates = refl; phase = refl; marker = refl; holder = refl }
-is_free c m seat f _ h = cc
+is_free c m seat f _ h = record { gates = cc; phase = cc; marker = cc; holder = cc }
 
 enabled_for : (c : Config) (m : Moment) (k : ℕ) (s : Step) → k < c.callers → group_of s ≡ Group.Callers
     → comes_next (flight_of m (Caller k)).stage (flight_of m (Caller k)).op s ≡ true

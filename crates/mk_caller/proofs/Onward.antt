@@ -31,82 +31,32 @@ moves {p} {s} {x} {q} u g next =
 abbrev flight : Stage → Op → ℕ → ℕ → ℕ → ℕ → Flight
 flight s o q p r l = record { stage = s; op = o; q = q; p = p; r = r; loaded = l }
 
--- to a stage that isn't after the deciding step
-on : (c : Config) (f : Flight) (x : Progress) → x.flight.op ≡ f.op → x.answer ≡ None → is_past_decision f.stage ≡ false
-    → (x.flight.stage ≡ Stage.Dirty → ⊥) → Next c f x
-on c f x o a d n = record { op = o; undecided = λ h. (a, d); page = λ h. absurd (n h) }
-
--- or to one after it
-off : (c : Config) (f : Flight) (x : Progress) → x.flight.op ≡ f.op → is_past_decision x.flight.stage ≡ true
-    → (x.flight.stage ≡ Stage.Dirty → ⊥) → Next c f x
-off c f x o d n = record { op = o; undecided = λ h. (let e : true ≡ false = sym d ∙ h in cc); page = λ h. absurd (n h) }
-
 either : {c : Config} {f : Flight} (b : Bool) {x y : Progress} → Next c f x → Next c f y → Next c f (if b then x else y)
 either true hx hy = hx
 either false hx hy = hy
 
 refused_next : (c : Config) (s : Stage) (o : Op) (q p r l found : ℕ) (a : Answer)
     → Next c (flight s o q p r l) (refused (flight s o found p r l) a)
-refused_next c s (Op.GetPtr d q i) qq p r l found a = off c _ _ refl refl (λ h. cc)
-refused_next c s (Op.Lea d q i) qq p r l found a = off c _ _ refl refl (λ h. cc)
-refused_next c s _ qq p r l found a = off c _ _ refl refl (λ h. cc)
+refused_next c s (Op.Lea d q i) qq p r l found a = record { op = refl; undecided = λ h. (cc, cc); page = λ h. cc }
+refused_next c s _ qq p r l found a = record { op = refl; undecided = λ h. (cc, cc); page = λ h. cc }
 
 q_next : (c : Config) (o : Op) (q p r l found : ℕ) → Next c (flight Stage.LoadQ o q p r l)
     (progress_q (flight Stage.LoadQ o q p r l) o found)
-q_next c (Op.Move d x) q p r l found = on c _ _ refl refl refl (λ h. cc)
-q_next c (Op.Same x y) q p r l found = off c _ _ refl refl (λ h. cc)
-q_next c (Op.GetNum x i) q p r l found =
-    either (found == 0) (refused_next c Stage.LoadQ (Op.GetNum x i) q p r l found Answer.Null)
-    (on c _ _ refl refl refl (λ h. cc))
-q_next c (Op.SetNum x i n) q p r l found =
-    either (found == 0) (refused_next c Stage.LoadQ (Op.SetNum x i n) q p r l found Answer.Null)
-    (on c _ _ refl refl refl (λ h. cc))
-q_next c (Op.GetPtr d x i) q p r l found =
-    either (found == 0) (refused_next c Stage.LoadQ (Op.GetPtr d x i) q p r l found Answer.Null)
-    (on c _ _ refl refl refl (λ h. cc))
-q_next c (Op.SetPtr x i y) q p r l found =
-    either (found == 0) (refused_next c Stage.LoadQ (Op.SetPtr x i y) q p r l found Answer.Null)
-    (on c _ _ refl refl refl (λ h. cc))
-q_next c (Op.CasPtr x i y z) q p r l found =
-    either (found == 0) (refused_next c Stage.LoadQ (Op.CasPtr x i y z) q p r l found Answer.Null)
-    (on c _ _ refl refl refl (λ h. cc))
-q_next c (Op.Lea d x i) q p r l found =
-    either (found == 0) (refused_next c Stage.LoadQ (Op.Lea d x i) q p r l found Answer.Null)
-    (on c _ _ refl refl refl (λ h. cc))
-q_next c (Op.New d ty full) q p r l found =
-    either (found == 0) (refused_next c Stage.LoadQ (Op.New d ty full) q p r l found Answer.Null)
-    (off c _ _ refl refl (λ h. cc))
-q_next c (Op.Free x) q p r l found =
-    either (found == 0) (refused_next c Stage.LoadQ (Op.Free x) q p r l found Answer.Null)
-    (off c _ _ refl refl (λ h. cc))
-q_next c (Op.Clear d) q p r l found =
-    either (found == 0) (refused_next c Stage.LoadQ (Op.Clear d) q p r l found Answer.Null)
-    (off c _ _ refl refl (λ h. cc))
-q_next c (Op.GetGlobal d g) q p r l found =
-    either (found == 0) (refused_next c Stage.LoadQ (Op.GetGlobal d g) q p r l found Answer.Null)
-    (off c _ _ refl refl (λ h. cc))
-q_next c (Op.SetGlobal g x) q p r l found =
-    either (found == 0) (refused_next c Stage.LoadQ (Op.SetGlobal g x) q p r l found Answer.Null)
-    (off c _ _ refl refl (λ h. cc))
-q_next c (Op.IsNull x) q p r l found =
-    either (found == 0) (refused_next c Stage.LoadQ (Op.IsNull x) q p r l found Answer.Null)
-    (off c _ _ refl refl (λ h. cc))
+q_next c (Op.Move d x) q p r l found = record { op = refl; undecided = λ h. (cc, cc); page = λ h. cc }
+q_next c (Op.Same x y) q p r l found = record { op = refl; undecided = λ h. (cc, cc); page = λ h. cc }
+q_next c o q p r l found =
+    either (found == 0) (refused_next c Stage.LoadQ o q p r l found Answer.Null)
+    (record { op = refl; undecided = λ h. (cc, cc); page = λ h. cc })
 
 p_next : (c : Config) (o : Op) (q p r l found : ℕ) → is_under_turn o ≡ false
     → Next c (flight Stage.LoadP o q p r l) (progress_p (flight Stage.LoadP o q p r l) o found)
-p_next c (Op.IsNull x) q p r l found u = off c _ _ refl refl (λ h. cc)
-p_next c (Op.Same x y) q p r l found u = on c _ _ refl refl refl (λ h. cc)
-p_next c (Op.SetPtr x i y) q p r l found u = on c _ _ refl refl refl (λ h. cc)
-p_next c (Op.CasPtr x i y z) q p r l found u = on c _ _ refl refl refl (λ h. cc)
-p_next c (Op.SetGlobal g x) q p r l found u = on c _ _ refl refl refl (λ h. cc)
-p_next c (Op.New d ty full) q p r l found u = cc
-p_next c (Op.Free x) q p r l found u = cc
-p_next c _ q p r l found u = off c _ _ refl refl (λ h. cc)
+p_next c (Op.IsNull x) q p r l found u = record { op = refl; undecided = λ h. (cc, cc); page = λ h. cc }
+p_next c _ q p r l found u = record { op = cc; undecided = λ h. (cc, cc); page = λ h. cc }
 
 r_next : (c : Config) (o : Op) (q p r l found : ℕ)
     → Next c (flight Stage.LoadR o q p r l) (onward (flight Stage.LoadR o q p found l) None)
-r_next c (Op.CasPtr x i y z) q p r l found = on c _ _ refl refl refl (λ h. cc)
-r_next c _ q p r l found = off c _ _ refl refl (λ h. cc)
+r_next c (Op.CasPtr x i y z) q p r l found = record { op = refl; undecided = λ h. (cc, cc); page = λ h. cc }
+r_next c _ q p r l found = record { op = refl; undecided = λ h. (cc, cc); page = λ h. cc }
 
 at_load : (c : Config) (s : Stage) (o : Op) (q p r l found : ℕ) → loads_register s ≡ true → is_under_turn o ≡ false
     → Next c (flight s o q p r l) (progress_reg (flight s o q p r l) s found)
@@ -121,12 +71,12 @@ load_next c f found h u = at_load c f.stage f.op f.q f.p f.r f.loaded found h u
 
 store_next : (c : Config) (o : Op) (q p r l : ℕ) → Next c (flight Stage.Store o q p r l)
     (onward (flight Stage.Store o q p r l) (Some Answer.Done))
-store_next c (Op.Clear d) q p r l = off c _ _ refl refl (λ h. cc)
-store_next c _ q p r l = off c _ _ refl refl (λ h. cc)
+store_next c (Op.Clear d) q p r l = record { op = refl; undecided = λ h. (cc, cc); page = λ h. cc }
+store_next c _ q p r l = record { op = refl; undecided = λ h. (cc, cc); page = λ h. cc }
 
 put_next : (c : Config) (o : Op) (q p r l : ℕ) → Next c (flight Stage.Put o q p r l)
     (record { flight = flight Stage.Leave o q p r l; answer = None })
-put_next c o q p r l = off c _ _ refl refl (λ h. cc)
+put_next c o q p r l = record { op = refl; undecided = λ h. (cc, cc); page = λ h. cc }
 
 -- a stage at which a register is stored
 pub store_goes_on : (c : Config) (f : Flight) (v : ℕ) → stores_register f.stage ≡ true
@@ -141,17 +91,13 @@ store_goes_on c f v h = by f.stage f.op f.q f.p f.r f.loaded h
 
 probe_on : (c : Config) (o : Op) (q p r l : ℕ) → Next c (flight Stage.Probe o q p r l)
     (onward (flight Stage.Probe o q p r l) None)
-probe_on c (Op.GetNum x i) q p r l = on c _ _ refl refl refl (λ h. cc)
-probe_on c (Op.GetPtr d x i) q p r l = on c _ _ refl refl refl (λ h. cc)
-probe_on c (Op.SetNum x i n) q p r l = on c _ _ refl refl refl (λ h. cc)
-probe_on c (Op.SetPtr x i y) q p r l = on c _ _ refl refl refl (λ h. cc)
-probe_on c (Op.CasPtr x i y z) q p r l = on c _ _ refl refl refl (λ h. cc)
-probe_on c _ q p r l = off c _ _ refl refl (λ h. cc)
+probe_on c (Op.GetNum x i) q p r l = record { op = refl; undecided = λ h. (cc, cc); page = λ h. cc }
+probe_on c _ q p r l = record { op = refl; undecided = λ h. (cc, cc); page = λ h. cc }
 
 read_on : (c : Config) (o : Op) (q p r l found : ℕ) → Next c (flight Stage.Read o q p r l)
     (progress_read (flight Stage.Read o q p r l) o found)
-read_on c (Op.Clear d) q p r l found = off c _ _ refl refl (λ h. cc)
-read_on c _ q p r l found = off c _ _ refl refl (λ h. cc)
+read_on c (Op.Clear d) q p r l found = record { op = refl; undecided = λ h. (cc, cc); page = λ h. cc }
+read_on c _ q p r l found = record { op = refl; undecided = λ h. (cc, cc); page = λ h. cc }
 
 -- after a write the page is still to be marked
 written : (c : Config) (s : Stage) (o : Op) (q p r l : ℕ) (a : Answer) → is_written s ≡ true
@@ -168,18 +114,18 @@ written c s o q p r l a h met = record { op = refl; undecided = λ u. absurd (by
 
 getg_on : (c : Config) (o : Op) (q p r l found : ℕ) → Next c (flight Stage.Getg o q p r l)
     (progress_getg (flight Stage.Getg o q p r l) found)
-getg_on c (Op.Clear d) q p r l found = off c _ _ refl refl (λ h. cc)
-getg_on c _ q p r l found = off c _ _ refl refl (λ h. cc)
+getg_on c (Op.Clear d) q p r l found = record { op = refl; undecided = λ h. (cc, cc); page = λ h. cc }
+getg_on c _ q p r l found = record { op = refl; undecided = λ h. (cc, cc); page = λ h. cc }
 
 setg_on : (c : Config) (o : Op) (q p r l : ℕ) → Next c (flight Stage.Setg o q p r l)
     (onward (flight Stage.Setg o q p r l) (Some Answer.Done))
-setg_on c (Op.Clear d) q p r l = off c _ _ refl refl (λ h. cc)
-setg_on c _ q p r l = off c _ _ refl refl (λ h. cc)
+setg_on c (Op.Clear d) q p r l = record { op = refl; undecided = λ h. (cc, cc); page = λ h. cc }
+setg_on c _ q p r l = record { op = refl; undecided = λ h. (cc, cc); page = λ h. cc }
 
 dirty_on : (c : Config) (o : Op) (q p r l : ℕ) → Next c (flight Stage.Dirty o q p r l)
     (onward (flight Stage.Dirty o q p r l) None)
-dirty_on c (Op.Clear d) q p r l = off c _ _ refl refl (λ h. cc)
-dirty_on c _ q p r l = off c _ _ refl refl (λ h. cc)
+dirty_on c (Op.Clear d) q p r l = record { op = refl; undecided = λ h. (cc, cc); page = λ h. cc }
+dirty_on c _ q p r l = record { op = refl; undecided = λ h. (cc, cc); page = λ h. cc }
 
 -- the call at this stage
 at_stage : (f : Flight) (s : Stage) → f.stage ≡ s → f ≡ flight s f.op f.q f.p f.r f.loaded

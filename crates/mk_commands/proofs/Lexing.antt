@@ -5,8 +5,8 @@ use Rattle.std.proofs.{lemmas.Bool.Decides.nat_tests, lemmas.Slice.Eq.bytes_eq-D
 use Rattle.std.specs.Str.{bytes_eq, chars}
 use Rattle.clap.specs.Lexer.{long_of, long_of_rest, name_and_value, short_of, strip_byte}
 use Rattle.clap.specs.Walk.{Text}
-use Rattle.mk_commands.specs.Given.{Said, behind, flag_said, markers_said, said, said_dashed, sweep_flag, unknown}
-use Rattle.mk_commands.specs.Given.{why_flag}
+use Rattle.mk_commands.specs.{Given.Flag, Given.Said, Given.behind, Given.flag_said, Given.markers_said, Given.said}
+use Rattle.mk_commands.specs.{Given.said_dashed, Given.sweep_flag, Given.unknown, Given.why_flag, Told.flag_name}
 
 -- ---- the parts of `--name=value`
 
@@ -84,6 +84,30 @@ said_long name v = if bytes_eq (codes "markers") name then markers_said v
     else if bytes_eq (codes "why") name then no_value v (flag_said why_flag)
     else unknown
 
+pub flag_long : (flag : Flag) (v : Option Text) → said_long (flag_name flag) v ≡ no_value v (flag_said flag)
+flag_long sweep_flag v = refl
+flag_long why_flag v = refl
+
+-- which option's name it is
+pub data NameView (id : Text) : Type 0 where
+  is_markers : id ≡ codes "markers" → NameView id
+  is_flag : (flag : Flag) → id ≡ flag_name flag → NameView id
+  is_other : bytes_eq (codes "markers") id ≡ false → bytes_eq (codes "sweep") id ≡ false
+      → bytes_eq (codes "why") id ≡ false → NameView id
+
+pub name_view : (id : Text) → NameView id
+name_view id = by _ _ _ refl refl refl
+  where
+    same : (name : Text) → bytes_eq name id ≡ true → id ≡ name
+    same name e = sym ((bytes_eq-Decides name id).0 e)
+
+    by : (m s w : Bool) → bytes_eq (codes "markers") id ≡ m → bytes_eq (codes "sweep") id ≡ s
+        → bytes_eq (codes "why") id ≡ w → NameView id
+    by true s w e f g = is_markers (same (codes "markers") e)
+    by false true w e f g = is_flag sweep_flag (same (codes "sweep") f)
+    by false false true e f g = is_flag why_flag (same (codes "why") g)
+    by false false false e f g = is_other e f g
+
 unknown_dashed : (rest : Text) → said_dashed (Some (45 ∷ rest)) ≡ unknown
 unfolding chars
 unknown_dashed [] = refl
@@ -92,26 +116,26 @@ unknown_dashed (x ∷ rest) = refl
 pub says_long : (word id : Text) (v : Option Text) → bytes_eq word (codes "--") ≡ false
     → long_of word ≡ Some (id, v) → said word ≡ said_long id v
 unfolding chars
-says_long word id v e l = on_markers (bytes_eq (codes "markers") id) refl
+says_long word id v e l = by (name_view id)
   where
     shape : word ≡ 45 ∷ 45 ∷ (id ++ tail_of v)
     shape = long_shape word (id, v) l
 
-    named : (name : Text) → bytes_eq name id ≡ true → word ≡ 45 ∷ 45 ∷ (name ++ tail_of v)
-    named name b = shape ∙ ap (λ (n : Text). 45 ∷ 45 ∷ (n ++ tail_of v)) (sym ((bytes_eq-Decides name id).0 b))
+    named : (name : Text) → id ≡ name → said (45 ∷ 45 ∷ (name ++ tail_of v)) ≡ said_long name v
+        → said word ≡ said_long id v
+    named name same says = ap said (shape ∙ ap (λ (n : Text). 45 ∷ 45 ∷ (n ++ tail_of v)) same) ∙ says
+        ∙ ap (λ (n : Text). said_long n v) (sym same)
 
     markers_says : (u : Option Text) → said (45 ∷ 45 ∷ (codes "markers" ++ tail_of u)) ≡ markers_said u
     markers_says None = refl
     markers_says (Some x) = refl
 
-    sweep_says : (u : Option Text)
-        → said (45 ∷ 45 ∷ (codes "sweep" ++ tail_of u)) ≡ no_value u (flag_said sweep_flag)
-    sweep_says None = refl
-    sweep_says (Some x) = refl
-
-    why_says : (u : Option Text) → said (45 ∷ 45 ∷ (codes "why" ++ tail_of u)) ≡ no_value u (flag_said why_flag)
-    why_says None = refl
-    why_says (Some x) = refl
+    flag_says : (flag : Flag) (u : Option Text)
+        → said (45 ∷ 45 ∷ (flag_name flag ++ tail_of u)) ≡ said_long (flag_name flag) u
+    flag_says sweep_flag None = refl
+    flag_says sweep_flag (Some x) = refl
+    flag_says why_flag None = refl
+    flag_says why_flag (Some x) = refl
 
     -- a word of another name
     is_not : (name other : Text) (u : Option Text) → bytes_eq name id ≡ false → long_of other ≡ Some (name, u)
@@ -146,18 +170,7 @@ says_long word id v e l = on_markers (bytes_eq (codes "markers") id) refl
           none_behind m _ refl,
         ) (ap (λ (u : Text). said_dashed (behind (codes "-") u)) shape ∙ unknown_dashed (id ++ tail_of v))
 
-    on_why : (b : Bool) → bytes_eq (codes "why") id ≡ b → bytes_eq (codes "markers") id ≡ false
-        → bytes_eq (codes "sweep") id ≡ false
-        → said word ≡ (if b then no_value v (flag_said why_flag) else unknown)
-    on_why true w m s = ap said (named (codes "why") w) ∙ why_says v
-    on_why false w m s = other m s w
-
-    on_sweep : (b : Bool) → bytes_eq (codes "sweep") id ≡ b → bytes_eq (codes "markers") id ≡ false
-        → said word ≡ (if b then no_value v (flag_said sweep_flag)
-        else if bytes_eq (codes "why") id then no_value v (flag_said why_flag) else unknown)
-    on_sweep true s m = ap said (named (codes "sweep") s) ∙ sweep_says v
-    on_sweep false s m = on_why (bytes_eq (codes "why") id) refl m s
-
-    on_markers : (b : Bool) → bytes_eq (codes "markers") id ≡ b → said word ≡ said_long id v
-    on_markers true m = rw m (ap said (named (codes "markers") m) ∙ markers_says v)
-    on_markers false m = rw m (on_sweep (bytes_eq (codes "sweep") id) refl m)
+    by : NameView id → said word ≡ said_long id v
+    by (is_markers same) = named (codes "markers") same (markers_says v)
+    by (is_flag flag same) = named (flag_name flag) same (flag_says flag v)
+    by (is_other m s w) = rw (m, s, w) (other m s w)

@@ -1,7 +1,6 @@
 -- A word more that is an option.
 use Rattle.std.proofs.Common.{Bool, List, None, Option, Some, ap, codes, false, if◌then◌else◌, is_some, option_and_then}
 use Rattle.std.proofs.Common.{refl, subst, sym, true, [], ◌++◌, ◌∙◌, ◌∷◌, ◌≡◌}
-use Rattle.std.proofs.lemmas.Slice.Eq.{bytes_eq-Decides}
 use Rattle.std.specs.Str.{bytes_eq}
 use Rattle.clap.specs.Faults.{long_fault, settle_fault}
 use Rattle.clap.specs.Walk.{Held, Row, Text, Walk, arg_by_long, has_row, idle, long_word, next, option, settled_rows}
@@ -9,10 +8,10 @@ use Rattle.clap.specs.Walk.{with_values, without}
 use Rattle.clap.specs.declared.builder.value_parser.Reading.TheVariants.{AsWritten}
 use Rattle.clap.specs.declared.error.kind.ErrorKind.{ErrorKind}
 use Rattle.clap.specs.{Kinds.Kinds, Lexer.long_of, declared.parser.matches.ValueSource.TheVariants.CommandLine}
-use Rattle.mk_commands.proofs.Standing.{Holds, IsAt, More, TellsAs, has_markers, has_the_flag, holds_flag}
-use Rattle.mk_commands.proofs.Standing.{holds_markers, passes_on, waits}
+use Rattle.mk_commands.proofs.Lexing.{NameView, flag_long, is_flag, is_markers, is_other, name_view, no_value, said_long}
+use Rattle.mk_commands.proofs.Standing.{Id, IsAt, More, TellsAs, flag_id, flag_some, given_for, has_id, holds_set}
+use Rattle.mk_commands.proofs.Standing.{markers_id, passes_on, still_holds, text_of, waits}
 use Rattle.mk_commands.proofs.Walking.{holding, long_is, position_of, rules, standing, word_stops}
-use Rattle.mk_commands.proofs.{Lexing.no_value, Lexing.said_long, Rows.row, Rows.values_set}
 use Rattle.mk_commands.specs.Given.{Flag, Form, Given, Numbers, bare, flag_said, gens, given_said, has_flag, markers_by}
 use Rattle.mk_commands.specs.Given.{runs, set_flag, sweep_flag, takes_flags, takes_markers, unknown, why_flag}
 use Rattle.mk_commands.specs.Given.{with_markers, with_words}
@@ -31,11 +30,9 @@ markers_fault : (form : Form) → takes_markers form ≡ true
     → has_row (codes "markers") (settled_rows (rules form) p rows) ≡ b
     → long_fault (rules form) false (arg_by_long (rules form) (codes "markers")) (Some x) (holding rows p)
     ≡ conflict_if b
-markers_fault runs k x rows p true s h = rw (s, h) refl
-markers_fault runs k x rows p false s h = rw (s, h) refl
-markers_fault gens k x rows p true s h = rw (s, h) refl
-markers_fault gens k x rows p false s h = rw (s, h) refl
 markers_fault bare k x rows p b s h = cc
+markers_fault _ k x rows p true s h = rw (s, h) refl
+markers_fault _ k x rows p false s h = rw (s, h) refl
 
 markers_met : (form : Form) → takes_markers form ≡ true
     → (word x : Text) (rows : List Row) (p : Option (Text × List Text))
@@ -45,9 +42,8 @@ markers_met : (form : Form) → takes_markers form ≡ true
           (without (codes "markers") (settled_rows (rules form) p rows))) None,
       next idle,
     )
-markers_met runs k word x rows p = refl
-markers_met gens k word x rows p = refl
 markers_met bare k word x rows p = cc
+markers_met _ k word x rows p = refl
 
 markers_wait : (form : Form) → takes_markers form ≡ true
     → (word : Text) (rows : List Row) (p : Option (Text × List Text))
@@ -55,14 +51,12 @@ markers_wait : (form : Form) → takes_markers form ≡ true
     ≡ (holding (settled_rows (rules form) p rows) (Some (codes "markers", [])), next (option (codes "markers"))))
     × (long_fault (rules form) false (arg_by_long (rules form) (codes "markers")) None (holding rows p)
     ≡ settle_fault (rules form) false (holding rows p))
-markers_wait runs k word rows p = (refl, refl)
-markers_wait gens k word rows p = (refl, refl)
 markers_wait bare k word rows p = cc
+markers_wait _ k word rows p = (refl, refl)
 
 no_markers : (form : Form) → takes_markers form ≡ false → arg_by_long (rules form) (codes "markers") ≡ None
-no_markers runs k = cc
-no_markers gens k = cc
 no_markers bare k = refl
+no_markers _ k = cc
 
 -- a flag, where it was given already and where it wasn't
 flag_fault : (form : Form) → takes_flags form ≡ true
@@ -71,11 +65,9 @@ flag_fault : (form : Form) → takes_flags form ≡ true
     → has_row (flag_name flag) (settled_rows (rules form) p rows) ≡ b
     → long_fault (rules form) false (arg_by_long (rules form) (flag_name flag)) None (holding rows p) ≡ conflict_if b
 flag_fault runs k sweep_flag rows p true s h = rw (s, h) refl
-flag_fault runs k sweep_flag rows p false s h = rw (s, h) refl
 flag_fault runs k why_flag rows p true s h = rw (s, h) refl
-flag_fault runs k why_flag rows p false s h = rw (s, h) refl
-flag_fault gens k flag rows p b s h = cc
-flag_fault bare k flag rows p b s h = cc
+flag_fault runs k _ rows p _ s h = rw (s, h) refl
+flag_fault _ k flag rows p b s h = cc
 
 flag_met : (form : Form) → takes_flags form ≡ true
     → (flag : Flag) (word : Text) (rows : List Row) (p : Option (Text × List Text))
@@ -87,23 +79,19 @@ flag_met : (form : Form) → takes_flags form ≡ true
     )
 flag_met runs k sweep_flag word rows p = refl
 flag_met runs k why_flag word rows p = refl
-flag_met gens k flag word rows p = cc
-flag_met bare k flag word rows p = cc
+flag_met _ k flag word rows p = cc
 
 -- it has no value, and only `run` has flags
 no_flag_value : (form : Form) (flag : Flag) (x : Text) (h : Held)
     → long_fault (rules form) false (arg_by_long (rules form) (flag_name flag)) (Some x) h ≡ [] → ⊥
 no_flag_value runs sweep_flag x h e = cc
-no_flag_value runs why_flag x h e = cc
 no_flag_value gens sweep_flag x h e = cc
-no_flag_value gens why_flag x h e = cc
-no_flag_value bare flag x h e = cc
+no_flag_value _ _ x h e = cc
 
 no_flag : (form : Form) → takes_flags form ≡ false → (flag : Flag) → arg_by_long (rules form) (flag_name flag) ≡ None
 no_flag runs k flag = cc
 no_flag gens k sweep_flag = refl
-no_flag gens k why_flag = refl
-no_flag bare k flag = refl
+no_flag _ k _ = cc
 
 -- a name that no option has
 no_option : (form : Form) (id : Text) → bytes_eq (codes "markers") id ≡ false → bytes_eq (codes "sweep") id ≡ false
@@ -121,10 +109,24 @@ pub is_none : (m : Option Text) → is_some m ≡ false → m ≡ None
 is_none None e = refl
 is_none (Some x) e = cc
 
-named : (word id literal : Text) (v : Option Text) → bytes_eq literal id ≡ true → long_of word ≡ Some (id, v)
-    → long_of word ≡ Some (literal, v)
-named word id literal v same l =
-    subst (λ (n : Text). long_of word ≡ Some (n, v)) (sym ((bytes_eq-Decides literal id).0 same)) l
+-- Another option is as it was.
+
+pub markers_alone : (t : Given) (v : Text) (a : Bool) (j : Id) → bytes_eq (codes "markers") (text_of j) ≡ false
+    → given_for j (record t { markers = Some v; awaits = a }) ≡ given_for j t
+markers_alone t v a markers_id e = cc
+markers_alone t v a (flag_id sweep_flag) e = refl
+markers_alone t v a _ e = refl
+
+flag_alone : (t : Given) (flag : Flag) (j : Id) → bytes_eq (flag_name flag) (text_of j) ≡ false
+    → given_for j (set_flag flag t) ≡ given_for j t
+flag_alone t sweep_flag (flag_id sweep_flag) e = cc
+flag_alone t why_flag (flag_id why_flag) e = cc
+flag_alone t sweep_flag _ e = refl
+flag_alone t why_flag _ e = refl
+
+flag_set : (t : Given) (flag : Flag) → given_for (flag_id flag) (set_flag flag t) ≡ Some (codes "true")
+flag_set t sweep_flag = refl
+flag_set t why_flag = refl
 
 -- the words that are left, where a number is awaited
 abbrev pub at_value : List Row → Numbers → Walk
@@ -168,24 +170,17 @@ module _ (form : Form) (name word : Text) (words : List Text) (rows : List Row) 
     abbrev left : List Row
     left = settled_rows (rules form) p rows
 
-    -- the option's new row, where it has none
-    row_set : (id v : Text) (u : Given) → has_row id left ≡ false
-        → Holds (left ++ row id AsWritten CommandLine (v ∷ []) ∷ []) u
-        → Holds (with_values id AsWritten CommandLine (v ∷ []) (without id left)) u
-    row_set id v u fresh =
-        subst (λ (r : List Row). Holds r u) (sym (values_set id AsWritten CommandLine (v ∷ []) left fresh))
-
     markers_value : takes_markers form ≡ true → (x : Text) → long_of word ≡ Some (codes "markers", Some x) → (b : Bool)
         → is_some t.markers ≡ b
         → Free (with_markers t x)
     markers_value k x l true has =
-        let kinds = markers_fault form k x rows p true i.0 (has_markers left t i.1 ∙ has) in
+        let kinds = markers_fault form k x rows p true i.0 (has_id left t i.1 markers_id ∙ has) in
         subst Free (sym (some_markers t x true has)) (long_refused (codes "markers") (Some x) l
         (λ g. let bad : ErrorKind.ArgumentConflict ∷ [] ≡ [] = sym kinds ∙ g in cc))
     markers_value k x l false has =
-        let fresh = has_markers left t i.1 ∙ has in
+        let fresh = has_id left t i.1 markers_id ∙ has in
         let u : Given = record t { markers = Some x; awaits = false } in
-        let held = row_set (codes "markers") x u fresh (holds_markers left t i.1 (is_none t.markers has) x false) in
+        let held = holds_set left t i.1 markers_id x u (is_none t.markers has) refl (markers_alone t x false) in
         subst Free (sym (some_markers t x false has)) (long_passes (codes "markers") (Some x) l false u _ None
         (markers_fault form k x rows p false i.0 fresh) (markers_met form k word x rows p) is en (refl, held, refl))
 
@@ -194,7 +189,7 @@ module _ (form : Form) (name word : Text) (words : List Text) (rows : List Row) 
     markers_next k l =
         let facts = markers_wait form k word rows p in
         long_passes (codes "markers") None l true (record t { awaits = true }) left (Some (codes "markers", []))
-        (facts.1 ∙ i.0) facts.0 is en (refl, i.1, refl, en, k)
+        (facts.1 ∙ i.0) facts.0 is en (refl, still_holds left t true t.ended i.1, refl, en, k)
 
     markers_go : (k : Bool) → takes_markers form ≡ k → (v : Option Text) → long_of word ≡ Some (codes "markers", v)
         → Free (if k then markers_by v t else None)
@@ -206,11 +201,14 @@ module _ (form : Form) (name word : Text) (words : List Text) (rows : List Row) 
         → has_flag flag t ≡ b
         → Free (if b then None else Some (set_flag flag t))
     flag_sets k flag l true has =
-        let kinds = flag_fault form k flag rows p true i.0 (has_the_flag left t i.1 flag ∙ has) in
+        let kinds = flag_fault form k flag rows p true i.0
+        (has_id left t i.1 (flag_id flag) ∙ flag_some (has_flag flag t) ∙ has) in
         long_refused (flag_name flag) None l (λ g. let bad : ErrorKind.ArgumentConflict ∷ [] ≡ [] = sym kinds ∙ g in cc)
     flag_sets k flag l false has =
-        let fresh = has_the_flag left t i.1 flag ∙ has in
-        let held = row_set (flag_name flag) (codes "true") (set_flag flag t) fresh (holds_flag left t i.1 flag has) in
+        let fresh = has_id left t i.1 (flag_id flag) ∙ flag_some (has_flag flag t) ∙ has in
+        let none : given_for (flag_id flag) t ≡ None = rw has refl in
+        let held = holds_set left t i.1 (flag_id flag) (codes "true") (set_flag flag t) none (flag_set t flag)
+        (flag_alone t flag) in
         let others = unchanged flag in
         long_passes (flag_name flag) None l false (set_flag flag t) _ None
         (flag_fault form k flag rows p false i.0 fresh) (flag_met form k flag word rows p) others.0 others.1
@@ -233,21 +231,15 @@ module _ (form : Form) (name word : Text) (words : List Text) (rows : List Row) 
 
     pub long_go : (id : Text) (v : Option Text) → long_of word ≡ Some (id, v)
         → Free (given_said form (said_long id v) word t)
-    long_go id v l = on_markers (bytes_eq (codes "markers") id) refl
+    long_go id v l = by (name_view id)
       where
-        on_why : (b : Bool) → bytes_eq (codes "why") id ≡ b → bytes_eq (codes "markers") id ≡ false
-            → bytes_eq (codes "sweep") id ≡ false
-            → Free (given_said form (if b then no_value v (flag_said why_flag) else unknown) word t)
-        on_why true w m s = flag_go why_flag v (named word id (codes "why") v w l)
-        on_why false w m s = long_unknown id v l (no_option form id m s w)
+        named : (name : Text) → id ≡ name
+            → (long_of word ≡ Some (name, v) → Free (given_said form (said_long name v) word t))
+            → Free (given_said form (said_long id v) word t)
+        named name same go = subst (λ (n : Text). Free (given_said form (said_long n v) word t)) (sym same)
+            (go (subst (λ (n : Text). long_of word ≡ Some (n, v)) same l))
 
-        on_sweep : (b : Bool) → bytes_eq (codes "sweep") id ≡ b → bytes_eq (codes "markers") id ≡ false
-            → Free (given_said form (if b then no_value v (flag_said sweep_flag)
-            else if bytes_eq (codes "why") id then no_value v (flag_said why_flag) else unknown) word t)
-        on_sweep true s m = flag_go sweep_flag v (named word id (codes "sweep") v s l)
-        on_sweep false s m = on_why (bytes_eq (codes "why") id) refl m s
-
-        on_markers : (b : Bool) → bytes_eq (codes "markers") id ≡ b → Free (given_said form (said_long id v) word t)
-        on_markers true m = rw m
-            (markers_go (takes_markers form) refl v (named word id (codes "markers") v m l))
-        on_markers false m = rw m (on_sweep (bytes_eq (codes "sweep") id) refl m)
+        by : NameView id → Free (given_said form (said_long id v) word t)
+        by (is_markers same) = named (codes "markers") same (markers_go (takes_markers form) refl v)
+        by (is_flag flag same) = named (flag_name flag) same (λ is. rw (flag_long flag v) (flag_go flag v is))
+        by (is_other m s w) = rw (m, s, w) (long_unknown id v l (no_option form id m s w))

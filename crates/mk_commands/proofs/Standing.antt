@@ -1,9 +1,10 @@
 -- Where the walk of clap stands, with what its rows hold, and a word more that is a number.
 use Rattle.std.proofs.Common.{Bool, List, None, Option, Some, ap, codes, false, if◌then◌else◌, is_some, option_and_then}
 use Rattle.std.proofs.Common.{refl, subst, sym, true, [], ◌++◌, ◌||◌, ◌∙◌, ◌∷◌, ◌≡◌}
+use Rattle.std.specs.Str.{bytes_eq}
 use Rattle.clap.specs.Faults.{settle_fault, step_fault, word_fault}
 use Rattle.clap.specs.Walk.{Held, Row, Step, Text, Waiting, Walk, after_step, has_row, idle, is_pending, option}
-use Rattle.clap.specs.Walk.{settled_rows, value, word_met}
+use Rattle.clap.specs.Walk.{settled_rows, value, with_values, without, word_met}
 use Rattle.clap.specs.declared.builder.value_parser.Reading.{Reading}
 use Rattle.clap.specs.declared.builder.value_parser.Reading.TheVariants.{AsWritten}
 use Rattle.clap.specs.declared.parser.matches.ValueSource.TheVariants.{CommandLine}
@@ -11,107 +12,82 @@ use Rattle.mk_commands.proofs.Walking.{and_false, count_filled, goes_on, holding
 use Rattle.mk_commands.proofs.Walking.{rules, shape, standing, start_filled, step_stops}
 use Rattle.mk_commands.proofs.Rows.{entry, entry_other, entry_same, has_entry, row, values_set}
 use Rattle.mk_commands.specs.Given.{Flag, Form, Given, Numbers, bare, gens, given_awaited, given_said, given_with_word}
-use Rattle.mk_commands.specs.Given.{has_flag, no_number, one_number, runs, said, set_flag, sweep_flag, takes_markers}
-use Rattle.mk_commands.specs.Given.{two_numbers, why_flag, with_number, with_words}
+use Rattle.mk_commands.specs.Given.{has_flag, no_number, one_number, runs, said, sweep_flag, takes_markers, two_numbers}
+use Rattle.mk_commands.specs.Given.{why_flag, with_number, with_words}
 use Rattle.mk_commands.specs.{Commands.count_of, Commands.start_of, Told.flag_name}
 
 -- ---- what the rows hold
+
+-- the ids of rows
+pub data Id : Type 0 where
+  markers_id : Id
+  flag_id : Flag → Id
+  start_id : Id
+  count_id : Id
+
+abbrev pub text_of : Id → Text
+text_of markers_id = codes "markers"
+text_of (flag_id flag) = flag_name flag
+text_of start_id = codes "start"
+text_of count_id = codes "count"
+
+-- what was given for an id
+abbrev pub given_for : Id → Given → Option Text
+given_for markers_id t = t.markers
+given_for (flag_id flag) t = if has_flag flag t then Some (codes "true") else None
+given_for start_id t = start_of t.numbers
+given_for count_id t = count_of t.numbers
 
 abbrev pub as_entry : Option Text → Option (List Text × Reading)
 as_entry None = None
 as_entry (Some v) = Some (v ∷ [], AsWritten)
 
-abbrev pub flag_entry : Bool → Option (List Text × Reading)
-flag_entry false = None
-flag_entry true = Some (codes "true" ∷ [], AsWritten)
-
-pub record HoldsAll (rows : List Row) (markers : Option Text) (sweep why : Bool) (numbers : Numbers) : Type 0 where
-  pub markers_are : entry (codes "markers") rows ≡ as_entry markers
-  pub sweep_is : entry (codes "sweep") rows ≡ flag_entry sweep
-  pub why_is : entry (codes "why") rows ≡ flag_entry why
-  pub start_is : entry (codes "start") rows ≡ as_entry (start_of numbers)
-  pub count_is : entry (codes "count") rows ≡ as_entry (count_of numbers)
-
 abbrev pub Holds : List Row → Given → Type 0
-Holds rows t = HoldsAll rows t.markers t.sweep t.why t.numbers
+Holds rows t = (k : Id) → entry (text_of k) rows ≡ as_entry (given_for k t)
+
+same_id : (k j : Id) → bytes_eq (text_of k) (text_of j) ≡ true → k ≡ j
+same_id markers_id markers_id e = refl
+same_id (flag_id sweep_flag) (flag_id sweep_flag) e = refl
+same_id (flag_id why_flag) (flag_id why_flag) e = refl
+same_id start_id start_id e = refl
+same_id count_id count_id e = refl
+same_id markers_id (flag_id sweep_flag) e = cc
+same_id start_id (flag_id sweep_flag) e = cc
+same_id count_id (flag_id sweep_flag) e = cc
+same_id _ _ e = cc
 
 as_some : (m : Option Text) → is_some (as_entry m) ≡ is_some m
 as_some None = refl
 as_some (Some v) = refl
 
-flag_some : (b : Bool) → is_some (flag_entry b) ≡ b
+pub flag_some : (b : Bool) → is_some (if b then Some (codes "true") else None) ≡ b
 flag_some false = refl
 flag_some true = refl
 
+pub still_holds : (rows : List Row) (t : Given) (a e : Bool) → Holds rows t
+    → Holds rows (record t { awaits = a; ended = e })
+still_holds rows t a e h (flag_id sweep_flag) = h (flag_id sweep_flag)
+still_holds rows t a e h k = h k
+
 module _ (rows : List Row) (t : Given) (h : Holds rows t) where
-  pub has_markers : has_row (codes "markers") rows ≡ is_some t.markers
-  has_markers = has_entry (codes "markers") rows ∙ ap is_some h.markers_are ∙ as_some t.markers
+  pub has_id : (k : Id) → has_row (text_of k) rows ≡ is_some (given_for k t)
+  has_id k = has_entry (text_of k) rows ∙ ap is_some (h k) ∙ as_some (given_for k t)
 
-  pub has_the_flag : (flag : Flag) → has_row (flag_name flag) rows ≡ has_flag flag t
-  has_the_flag sweep_flag = has_entry (codes "sweep") rows ∙ ap is_some h.sweep_is ∙ flag_some t.sweep
-  has_the_flag why_flag = has_entry (codes "why") rows ∙ ap is_some h.why_is ∙ flag_some t.why
-
-  has_start : has_row (codes "start") rows ≡ is_some (start_of t.numbers)
-  has_start = has_entry (codes "start") rows ∙ ap is_some h.start_is ∙ as_some (start_of t.numbers)
-
-  has_count : has_row (codes "count") rows ≡ is_some (count_of t.numbers)
-  has_count = has_entry (codes "count") rows ∙ ap is_some h.count_is ∙ as_some (count_of t.numbers)
-
-  abbrev new_row : Text → Text → Row
-  new_row id v = row id AsWritten CommandLine (v ∷ [])
-
-  pub holds_markers : t.markers ≡ None → (v : Text) (a : Bool)
-      → Holds (rows ++ new_row (codes "markers") v ∷ []) (record t { markers = Some v; awaits = a })
-  holds_markers none v a = record {
-    markers_are = entry_same (codes "markers") (new_row (codes "markers") v) rows refl
-        (h.markers_are ∙ ap as_entry none);
-    sweep_is = entry_other (codes "sweep") (new_row (codes "markers") v) rows refl ∙ h.sweep_is;
-    why_is = entry_other (codes "why") (new_row (codes "markers") v) rows refl ∙ h.why_is;
-    start_is = entry_other (codes "start") (new_row (codes "markers") v) rows refl ∙ h.start_is;
-    count_is = entry_other (codes "count") (new_row (codes "markers") v) rows refl ∙ h.count_is;
-  }
-
-  pub holds_flag : (flag : Flag) → has_flag flag t ≡ false
-      → Holds (rows ++ new_row (flag_name flag) (codes "true") ∷ []) (set_flag flag t)
-  holds_flag sweep_flag off = record {
-    markers_are = entry_other (codes "markers") (new_row (codes "sweep") (codes "true")) rows refl ∙ h.markers_are;
-    sweep_is = entry_same (codes "sweep") (new_row (codes "sweep") (codes "true")) rows refl
-        (h.sweep_is ∙ ap flag_entry off);
-    why_is = entry_other (codes "why") (new_row (codes "sweep") (codes "true")) rows refl ∙ h.why_is;
-    start_is = entry_other (codes "start") (new_row (codes "sweep") (codes "true")) rows refl ∙ h.start_is;
-    count_is = entry_other (codes "count") (new_row (codes "sweep") (codes "true")) rows refl ∙ h.count_is;
-  }
-  holds_flag why_flag off = record {
-    markers_are = entry_other (codes "markers") (new_row (codes "why") (codes "true")) rows refl ∙ h.markers_are;
-    sweep_is = entry_other (codes "sweep") (new_row (codes "why") (codes "true")) rows refl ∙ h.sweep_is;
-    why_is = entry_same (codes "why") (new_row (codes "why") (codes "true")) rows refl (h.why_is ∙ ap flag_entry off);
-    start_is = entry_other (codes "start") (new_row (codes "why") (codes "true")) rows refl ∙ h.start_is;
-    count_is = entry_other (codes "count") (new_row (codes "why") (codes "true")) rows refl ∙ h.count_is;
-  }
-
-  holds_start : t.numbers ≡ no_number → (v : Text)
-      → Holds (rows ++ new_row (codes "start") v ∷ []) (record t { numbers = one_number v })
-  holds_start none v = record {
-    markers_are = entry_other (codes "markers") (new_row (codes "start") v) rows refl ∙ h.markers_are;
-    sweep_is = entry_other (codes "sweep") (new_row (codes "start") v) rows refl ∙ h.sweep_is;
-    why_is = entry_other (codes "why") (new_row (codes "start") v) rows refl ∙ h.why_is;
-    start_is = entry_same (codes "start") (new_row (codes "start") v) rows refl
-        (h.start_is ∙ ap (λ ns. as_entry (start_of ns)) none);
-    count_is = entry_other (codes "count") (new_row (codes "start") v) rows refl ∙ h.count_is
-        ∙ ap (λ ns. as_entry (count_of ns)) none;
-  }
-
-  holds_count : (a : Text) → t.numbers ≡ one_number a → (v : Text)
-      → Holds (rows ++ new_row (codes "count") v ∷ []) (record t { numbers = two_numbers a v })
-  holds_count a one v = record {
-    markers_are = entry_other (codes "markers") (new_row (codes "count") v) rows refl ∙ h.markers_are;
-    sweep_is = entry_other (codes "sweep") (new_row (codes "count") v) rows refl ∙ h.sweep_is;
-    why_is = entry_other (codes "why") (new_row (codes "count") v) rows refl ∙ h.why_is;
-    start_is = entry_other (codes "start") (new_row (codes "count") v) rows refl ∙ h.start_is
-        ∙ ap (λ ns. as_entry (start_of ns)) one;
-    count_is = entry_same (codes "count") (new_row (codes "count") v) rows refl
-        (h.count_is ∙ ap (λ ns. as_entry (count_of ns)) one);
-  }
+  -- The row of an id that had none is set, and the others stay.
+  pub holds_set : (k : Id) (v : Text) (u : Given) → given_for k t ≡ None → given_for k u ≡ Some v
+      → ((j : Id) → bytes_eq (text_of k) (text_of j) ≡ false → given_for j u ≡ given_for j t)
+      → Holds (with_values (text_of k) AsWritten CommandLine (v ∷ []) (without (text_of k) rows)) u
+  holds_set k v u none some others j =
+      rw (values_set (text_of k) AsWritten CommandLine (v ∷ []) rows (has_id k ∙ ap is_some none))
+      (by (bytes_eq (text_of k) (text_of j)) refl)
+    where
+      by : (b : Bool) → bytes_eq (text_of k) (text_of j) ≡ b
+          → entry (text_of j) (rows ++ row (text_of k) AsWritten CommandLine (v ∷ []) ∷ []) ≡ as_entry (given_for j u)
+      by false e = entry_other (text_of j) _ rows e ∙ h j ∙ ap as_entry (sym (others j e))
+      by true e =
+          let same = same_id k j e in
+          entry_same (text_of j) _ rows e (h j ∙ ap as_entry (ap (λ i. given_for i t) (sym same) ∙ none))
+          ∙ ap as_entry (sym (ap (λ i. given_for i u) (sym same) ∙ some))
 
 -- ---- where the walk stands
 
@@ -178,6 +154,47 @@ or_off : (b : Bool) → (b || false) ≡ b
 or_off true = refl
 or_off false = refl
 
+start_alone : (t : Given) (v : Text) → t.numbers ≡ no_number → (j : Id)
+    → bytes_eq (codes "start") (text_of j) ≡ false → given_for j (record t { numbers = one_number v }) ≡ given_for j t
+start_alone t v none start_id e = cc
+start_alone t v none count_id e = ap count_of (sym none)
+start_alone t v none (flag_id sweep_flag) e = refl
+start_alone t v none _ e = refl
+
+count_alone : (t : Given) (a v : Text) → t.numbers ≡ one_number a → (j : Id)
+    → bytes_eq (codes "count") (text_of j) ≡ false
+    → given_for j (record t { numbers = two_numbers a v }) ≡ given_for j t
+count_alone t a v one count_id e = cc
+count_alone t a v one start_id e = ap start_of (sym one)
+count_alone t a v one (flag_id sweep_flag) e = refl
+count_alone t a v one _ e = refl
+
+module _ (form : Form) (name word : Text) (words : List Text) (t : Given) (rows : List Row)
+    (p : Option (Text × List Text)) (ns : Numbers) (tr : Bool) (is : t.numbers ≡ ns) (en : t.ended ≡ tr)
+    (i : IsAt false form t rows p)
+    (met : word_met (rules form) [] tr idle (position_of ns) word (holding rows p) ≡ (holding rows p, value))
+    (passes : word_fault (shape form name) [] tr idle word (holding rows p) ≡ []) (more : More form name words) where
+  abbrev left : List Row
+  left = settled_rows (rules form) p rows
+
+  -- The number is held, and the walk goes on from there.
+  holds_number : (k : Id) (now : Numbers)
+      → after_step (rules form) word (standing rows p idle (position_of ns) tr) (holding rows p) value
+      ≡ standing left (Some (text_of k, word ∷ [])) idle (position_of now) tr
+      → step_fault (shape form name) (position_of ns) (holding rows p) value ≡ []
+      → IsAt false form (record t { numbers = now }) left (Some (text_of k, word ∷ []))
+      → TellsAs form name (standing rows p idle (position_of ns) tr) (word ∷ words)
+      (with_words form words (record t { numbers = now }))
+  holds_number k now after fits at =
+      passes_on form name (standing rows p idle (position_of ns) tr) word words (holding rows p) value _ refl met passes
+      fits (subst (λ (w : Walk). TellsAs form name w words (with_words form words (record t { numbers = now })))
+      (sym after) (more false _ left (Some (text_of k, word ∷ [])) now tr refl en at))
+
+  refuses_number : (step_fault (shape form name) (position_of ns) (holding rows p) value ≡ [] → ⊥)
+      → rest_fault form name (standing rows p idle (position_of ns) tr) (word ∷ words) ≡ [] → ⊥
+  refuses_number =
+      step_stops form name (standing rows p idle (position_of ns) tr) word words (holding rows p) value refl met
+
 pub number_tells : (form : Form) (name word : Text) (words : List Text) (t : Given) (rows : List Row)
     (p : Option (Text × List Text)) (ns : Numbers) (tr : Bool)
     → t.numbers ≡ ns → t.ended ≡ tr → IsAt false form t rows p
@@ -187,36 +204,30 @@ pub number_tells : (form : Form) (name word : Text) (words : List Text) (t : Giv
     → TellsAs form name (standing rows p idle (position_of ns) tr) (word ∷ words)
     (option_and_then (with_words form words) (with_number form t word))
 number_tells runs name word words t rows p ns tr is en i met passes more =
-    step_stops runs name (standing rows p idle (position_of ns) tr) word words (holding rows p) value refl met (λ e. cc)
+    refuses_number runs name word words t rows p ns tr is en i met passes more (λ e. cc)
 number_tells bare name word words t rows p ns tr is en i met passes more =
-    step_stops bare name (standing rows p idle (position_of ns) tr) word words (holding rows p) value refl met (λ e. cc)
+    refuses_number bare name word words t rows p ns tr is en i met passes more (λ e. cc)
 number_tells gens name word words t rows p (two_numbers a b) tr is en i met passes more =
-    rw is (step_stops gens name (standing rows p idle 3 tr) word words (holding rows p) value refl met (λ e. cc))
+    rw is (refuses_number gens name word words t rows p (two_numbers a b) tr is en i met passes more (λ e. cc))
 number_tells gens name word words t rows p no_number tr is en i met passes more =
     let left = settled_rows (rules gens) p rows in
-    let u : Given = record t { numbers = one_number word } in
-    let fresh : has_row (codes "start") left ≡ false = has_start left t i.1 ∙ ap (λ ns. is_some (start_of ns)) is in
-    let after : after_step (rules gens) word (standing rows p idle 1 tr) (holding rows p) value
-    ≡ standing left (Some (codes "start", word ∷ [])) idle 2 tr =
-    rw (and_false (is_pending start_filled p), or_off tr) refl in
-    let held : Holds (settled_rows (rules gens) (Some (codes "start", word ∷ [])) left) u =
-    subst (λ (r : List Row). Holds r u) (sym (values_set (codes "start") AsWritten CommandLine (word ∷ []) left fresh))
-    (holds_start left t i.1 is word) in
-    rw is (passes_on gens name (standing rows p idle 1 tr) word words (holding rows p) value _ refl met passes
-    (rw (and_false (is_pending start_filled p)) i.0)
-    (subst (λ (w : Walk). TellsAs gens name w words (with_words gens words u)) (sym after)
-    (more false u left (Some (codes "start", word ∷ [])) (one_number word) tr refl en (rw fresh refl, held, i.2))))
+    let pends = and_false (is_pending start_filled p) in
+    let fresh : has_row (codes "start") left ≡ false =
+    has_id left t i.1 start_id ∙ ap (λ ns. is_some (start_of ns)) is in
+    rw is (holds_number gens name word words t rows p no_number tr is en i met passes more start_id (one_number word)
+    (rw (pends, or_off tr) refl) (rw pends i.0) (
+      rw fresh refl,
+      holds_set left t i.1 start_id word _ (ap start_of is) refl (start_alone t word is),
+      i.2,
+    ))
 number_tells gens name word words t rows p (one_number a) tr is en i met passes more =
     let left = settled_rows (rules gens) p rows in
-    let u : Given = record t { numbers = two_numbers a word } in
-    let fresh : has_row (codes "count") left ≡ false = has_count left t i.1 ∙ ap (λ ns. is_some (count_of ns)) is in
-    let after : after_step (rules gens) word (standing rows p idle 2 tr) (holding rows p) value
-    ≡ standing left (Some (codes "count", word ∷ [])) idle 3 tr =
-    rw (and_false (is_pending count_filled p), or_off tr) refl in
-    let held : Holds (settled_rows (rules gens) (Some (codes "count", word ∷ [])) left) u =
-    subst (λ (r : List Row). Holds r u) (sym (values_set (codes "count") AsWritten CommandLine (word ∷ []) left fresh))
-    (holds_count left t i.1 a is word) in
-    rw is (passes_on gens name (standing rows p idle 2 tr) word words (holding rows p) value _ refl met passes
-    (rw (and_false (is_pending count_filled p)) i.0)
-    (subst (λ (w : Walk). TellsAs gens name w words (with_words gens words u)) (sym after)
-    (more false u left (Some (codes "count", word ∷ [])) (two_numbers a word) tr refl en (rw fresh refl, held, i.2))))
+    let pends = and_false (is_pending count_filled p) in
+    let fresh : has_row (codes "count") left ≡ false =
+    has_id left t i.1 count_id ∙ ap (λ ns. is_some (count_of ns)) is in
+    rw is (holds_number gens name word words t rows p (one_number a) tr is en i met passes more count_id
+    (two_numbers a word) (rw (pends, or_off tr) refl) (rw pends i.0) (
+      rw fresh refl,
+      holds_set left t i.1 count_id word _ (ap count_of is) refl (count_alone t a word is),
+      i.2,
+    ))

@@ -12,14 +12,15 @@ use Rattle.clap.specs.declared.parser.matches.ValueSource.TheVariants.{DefaultVa
 use Rattle.clap.specs.{Kinds.Kinds, Kinds.or_else, Matches.found_of, Values.bool_text, Values.read_as, Walk.Row}
 use Rattle.clap.specs.{Walk.Rule, Walk.Text, Walk.first_of, Walk.has_row, Walk.idle, Walk.nothing_held, Walk.one_of}
 use Rattle.clap.specs.{Walk.rows_of, Walk.with_default, Walk.with_values, declared.builder.value_parser.Reading.Reading}
-use Rattle.mk_commands.proofs.Rows.{entry, entry_other, entry_same, first_of_entry, has_entry, one_of_entry, row}
-use Rattle.mk_commands.proofs.Rows.{values_added}
+use Rattle.mk_commands.proofs.Standing.{Holds, Id, TellsAs, as_entry, count_id, flag_id, given_for, markers_id}
+use Rattle.mk_commands.proofs.Standing.{start_id, text_of}
 use Rattle.mk_commands.proofs.Walking.{count_filled, flag_filled, markers_filled, rest_fault, rest_rows, rules, shape}
 use Rattle.mk_commands.proofs.Walking.{standing, start_filled}
-use Rattle.mk_commands.proofs.{Standing.Holds, Standing.TellsAs, Standing.as_entry, Standing.flag_entry, Tells.tells}
-use Rattle.mk_commands.specs.Commands.{count_of, start_of}
-use Rattle.mk_commands.specs.Given.{Form, Given, bare, gens, given_by, no_number, nothing_given, runs}
-use Rattle.mk_commands.specs.{Told.HasGiven, Told.app_named, declared.commands.Command.Command}
+use Rattle.mk_commands.proofs.{Rows.entry, Rows.entry_other, Rows.entry_same, Rows.first_of_entry, Rows.has_entry}
+use Rattle.mk_commands.proofs.{Rows.one_of_entry, Rows.row, Rows.values_added, Tells.tells}
+use Rattle.mk_commands.specs.Given.{Form, Given, bare, gens, given_by, no_number, nothing_given, runs, sweep_flag}
+use Rattle.mk_commands.specs.Given.{why_flag}
+use Rattle.mk_commands.specs.{Told.HasFlags, Told.HasGiven, Told.app_named, declared.commands.Command.Command}
 
 -- ---- the values that stand where a flag wasn't given
 
@@ -38,7 +39,8 @@ flag_other id other rows e = by_test (has_row id rows) refl
     by_test false h = ap (entry other) (values_added id AsWritten DefaultValue (codes "false" ∷ []) rows h)
         ∙ entry_other other (row id AsWritten DefaultValue (codes "false" ∷ [])) rows e
 
-flag_same : (id : Text) (rows : List Row) (b : Bool) → bytes_eq id id ≡ true → entry id rows ≡ flag_entry b
+flag_same : (id : Text) (rows : List Row) (b : Bool) → bytes_eq id id ≡ true
+    → entry id rows ≡ as_entry (if b then Some (codes "true") else None)
     → entry id (with_default rows (flag_filled id)) ≡ Some (bool_text b ∷ [], AsWritten)
 flag_same id rows true e h = let has : has_row id rows ≡ true = has_entry id rows ∙ ap is_some h in rw has h
 flag_same id rows false e h =
@@ -76,40 +78,36 @@ flag_found : (id : Text) (rows : List Row) (b : Bool) → entry id rows ≡ Some
 flag_found id rows b e = one_of_entry id rows
     ∙ ap (option_and_then (λ (p : List Text × Reading). option_map (read_as p.1) (slice_get p.0 0))) e
 
+-- what the words gave stands where the flags have their values
+stays : (form : Form) (rows : List Row) (t : Given) → Holds rows t → (k : Id)
+    → bytes_eq (codes "sweep") (text_of k) ≡ false → bytes_eq (codes "why") (text_of k) ≡ false
+    → first_of (text_of k) (with_defaults form rows) ≡ given_for k t
+stays form rows t h k not_sweep not_why =
+    first_found (text_of k) (with_defaults form rows) (given_for k t)
+    (ap (entry (text_of k)) (defaulted_is form rows) ∙ by form ∙ h k)
+  where
+    by : (f : Form) → entry (text_of k) (defaulted f rows) ≡ entry (text_of k) rows
+    by runs = flag_other (codes "why") (text_of k) _ not_why ∙ flag_other (codes "sweep") (text_of k) rows not_sweep
+    by _ = refl
+
 has_given : (form : Form) (rows : List Row) (t : Given) → Holds rows t → HasGiven form (with_defaults form rows) t
-has_given runs rows t h =
-    let sweep = flag_filled (codes "sweep") in
-    let why = flag_filled (codes "why") in
-    let one = with_default rows sweep in
-    subst (λ (r : List Row). HasGiven runs r t) (sym (defaulted_is runs rows)) (record {
-      markers = first_found (codes "markers") (defaulted runs rows) t.markers
-          (flag_other (codes "why") (codes "markers") one refl ∙ flag_other (codes "sweep") (codes "markers") rows refl
-          ∙ h.markers_are);
-      flags = (
-        flag_found (codes "sweep") (defaulted runs rows) t.sweep (flag_other (codes "why") (codes "sweep") one refl
-            ∙ flag_same (codes "sweep") rows t.sweep refl h.sweep_is),
-        flag_found (codes "why") (defaulted runs rows) t.why
-            (flag_same (codes "why") one t.why refl (flag_other (codes "sweep") (codes "why") rows refl ∙ h.why_is)),
-      );
-      start = first_found (codes "start") (defaulted runs rows) (start_of t.numbers)
-          (flag_other (codes "why") (codes "start") one refl ∙ flag_other (codes "sweep") (codes "start") rows refl
-          ∙ h.start_is);
-      count = first_found (codes "count") (defaulted runs rows) (count_of t.numbers)
-          (flag_other (codes "why") (codes "count") one refl ∙ flag_other (codes "sweep") (codes "count") rows refl
-          ∙ h.count_is);
-    })
-has_given gens rows t h = subst (λ (r : List Row). HasGiven gens r t) (sym (defaulted_is gens rows)) (record {
-  markers = first_found (codes "markers") rows t.markers h.markers_are;
-  flags = tt;
-  start = first_found (codes "start") rows (start_of t.numbers) h.start_is;
-  count = first_found (codes "count") rows (count_of t.numbers) h.count_is;
-})
-has_given bare rows t h = record {
-  markers = first_found (codes "markers") rows t.markers h.markers_are;
-  flags = tt;
-  start = first_found (codes "start") rows (start_of t.numbers) h.start_is;
-  count = first_found (codes "count") rows (count_of t.numbers) h.count_is;
+has_given form rows t h = record {
+  markers = stays form rows t h markers_id refl refl;
+  flags = by form;
+  start = stays form rows t h start_id refl refl;
+  count = stays form rows t h count_id refl refl;
 }
+  where
+    by : (f : Form) → HasFlags f (with_defaults f rows) t
+    by runs = subst (λ (r : List Row). HasFlags runs r t) (sym (defaulted_is runs rows)) (
+      flag_found (codes "sweep") (defaulted runs rows) t.sweep
+          (flag_other (codes "why") (codes "sweep") (with_default rows (flag_filled (codes "sweep"))) refl
+          ∙ flag_same (codes "sweep") rows t.sweep refl (h (flag_id sweep_flag))),
+      flag_found (codes "why") (defaulted runs rows) t.why
+          (flag_same (codes "why") (with_default rows (flag_filled (codes "sweep"))) t.why refl
+          (flag_other (codes "sweep") (codes "why") rows refl ∙ h (flag_id why_flag))),
+    )
+    by _ = tt
 
 -- ---- what comes after the last word refuses nothing
 
@@ -148,9 +146,8 @@ no_defaults_fault runs name rows =
     (two_empty _ _ (flag_none (codes "why") (with_default one (flag_filled (codes "sweep")))) refl))
 
 no_check_fault : (form : Form) (name : Text) (rows : List Row) → check_fault (shape form name) rows false ≡ []
-no_check_fault runs name rows = refl
-no_check_fault gens name rows = refl
 no_check_fault bare name rows = refl
+no_check_fault _ name rows = refl
 
 third_empty : (a b c d : Kinds) → c ≡ [] → d ≡ [] → or_else a (or_else [] (or_else b (or_else c d))) ≡ or_else a b
 third_empty [] [] c d e f = rw (e, f) refl
@@ -162,22 +159,20 @@ start_walk words form name = rest_fault form name (standing [] None idle 1 false
 
 fault_is : (form : Form) (name : Text) (words : List Text)
     → fault_of (app_named form name) words ≡ start_walk (drop 1 words) form name
-fault_is runs name words = leaf_fault (built (app_named runs name)) nothing_held (drop 1 words) refl
-    ∙ third_empty _ _ _ _ (no_defaults_fault runs name _) (no_check_fault runs name [])
-fault_is gens name words = leaf_fault (built (app_named gens name)) nothing_held (drop 1 words) refl
-    ∙ third_empty _ _ _ _ (no_defaults_fault gens name _) (no_check_fault gens name [])
 fault_is bare name words = leaf_fault (built (app_named bare name)) nothing_held (drop 1 words) refl
     ∙ third_empty _ _ _ _ (no_defaults_fault bare name _) (no_check_fault bare name [])
+fault_is form name words = leaf_fault (built (app_named form name)) nothing_held (drop 1 words) refl
+    ∙ third_empty _ _ _ _ (no_defaults_fault form name _) (no_check_fault form name [])
 
 matches_are : (form : Form) (name : Text) (words : List Text)
     → matches_of (app_named form name) words
     ≡ with_defaults form (rest_rows form (standing [] None idle 1 false) (drop 1 words))
-matches_are runs name words = refl
-matches_are gens name words = refl
 matches_are bare name words = refl
+matches_are _ name words = refl
 
 holds_nothing : Holds [] nothing_given
-holds_nothing = record { markers_are = refl; sweep_is = refl; why_is = refl; start_is = refl; count_is = refl }
+holds_nothing (flag_id sweep_flag) = refl
+holds_nothing _ = refl
 
 -- clap takes the words where they tell something, and finds it
 abbrev TakesGiven : Form → Text → List Text → Option Given → Type 0

@@ -1,22 +1,22 @@
 -- What clap takes and finds is what the words say.
-use Rattle.std.proofs.Common.{Bool, List, None, Option, Some, ap, codes, false, if◌then◌else◌, inl, inr, is_some}
-use Rattle.std.proofs.Common.{option_and_then, refl, subst, sym, true, [], ◌∙◌, ◌∷◌, ◌≡◌}
-use Rattle.std.specs.Str.{bytes_eq}
+use Rattle.std.proofs.Common.{Bool, List, None, Option, Some, ap, codes, false, inl, inr, is_some, option_and_then}
+use Rattle.std.proofs.Common.{refl, subst, sym, true, [], ◌∙◌, ◌∷◌, ◌≡◌}
 use Rattle.clap.specs.declared.builder.value_parser.Reading.TheVariants.{AsWritten}
 use Rattle.clap.specs.declared.error.kind.ErrorKind.{ErrorKind}
 use Rattle.clap.specs.{Faults.settle_fault, Faults.walk_fault, Walk.Row, Walk.Text, Walk.arg_by_long, Walk.has_row}
 use Rattle.clap.specs.{Walk.idle, Walk.next, Walk.option, Walk.plain_word, Walk.settled_rows, Walk.trailing}
 use Rattle.clap.specs.{Walk.with_values, Walk.without, declared.parser.matches.ValueSource.TheVariants.CommandLine}
-use Rattle.mk_commands.proofs.OptionWords.{Awaiting, Free, at_value, conflict_if, is_none, long_go, some_markers}
-use Rattle.mk_commands.proofs.Standing.{Holds, IsAt, More, TellsAs, has_markers, holds_markers, if_false, if_true}
-use Rattle.mk_commands.proofs.Standing.{number_tells, passes_on, told_awaiting, told_ended, told_free}
+use Rattle.mk_commands.proofs.Lexing.{NameView, flag_long, is_flag, is_markers, is_other, name_view, said_long}
+use Rattle.mk_commands.proofs.Lexing.{says_dashed, says_long}
+use Rattle.mk_commands.proofs.Standing.{Holds, IsAt, More, TellsAs, has_id, holds_set, if_false, if_true, markers_id}
+use Rattle.mk_commands.proofs.Standing.{number_tells, passes_on, still_holds, told_awaiting, told_ended, told_free}
 use Rattle.mk_commands.proofs.Walking.{PassesBy, View, bundle_is, bundle_stops, holding, is_bundle, is_ends, is_long}
 use Rattle.mk_commands.proofs.Walking.{is_odd, is_plain, long_is, long_stops, lost, odd_passes, plain_passes}
 use Rattle.mk_commands.proofs.Walking.{position_of, rules, standing, view, word_stops}
-use Rattle.mk_commands.proofs.{Lexing.no_value, Lexing.said_long, Lexing.says_dashed, Lexing.says_long, Rows.values_set}
-use Rattle.mk_commands.specs.Given.{Form, Given, Numbers, Said, bare, ends, flag_said, gens, given_awaited, given_said}
-use Rattle.mk_commands.specs.Given.{given_with_word, markers_said, plain, runs, said, sweep_flag, takes_markers}
-use Rattle.mk_commands.specs.Given.{unknown, why_flag, with_markers, with_words}
+use Rattle.mk_commands.proofs.OptionWords.{Awaiting, Free, at_value, conflict_if, is_none, long_go, markers_alone}
+use Rattle.mk_commands.proofs.OptionWords.{some_markers}
+use Rattle.mk_commands.specs.Given.{Form, Given, Numbers, Said, bare, ends, given_awaited, given_said, given_with_word}
+use Rattle.mk_commands.specs.Given.{plain, runs, said, takes_markers, unknown, with_markers, with_words}
 
 -- ---- a word where no number is awaited
 
@@ -46,7 +46,8 @@ free_tells form name word words t rows p ns false is en i more = on_view (view w
         by_said ends (rw e refl)
         (passes_on form name (standing rows p idle (position_of ns) false) word words (holding rows p)
         (trailing (position_of ns)) _ refl (rw e refl) (rw e refl) refl
-        (more false (record t { ended = true }) rows p ns true is refl i))
+        (more false (record t { ended = true }) rows p ns true is refl
+        (i.0, still_holds (settled_rows (rules form) p rows) t t.awaits true i.1, i.2)))
     on_view (is_long id v e l) =
         by_said (said_long id v) (says_long word id v e l)
         (long_go form name word words rows p ns t is en i e more id v l)
@@ -62,46 +63,36 @@ free_tells form name word words t rows p ns false is en i more = on_view (view w
 awaited : (form : Form) → takes_markers form ≡ true → (rows : List Row) (b : Bool) → has_row (codes "markers") rows ≡ b
     → (x : Text)
     → settle_fault (rules form) false (holding rows (Some (codes "markers", x ∷ []))) ≡ conflict_if b
-awaited runs k rows true h x = rw h refl
-awaited runs k rows false h x = rw h refl
-awaited gens k rows true h x = rw h refl
-awaited gens k rows false h x = rw h refl
 awaited bare k rows b h x = cc
+awaited _ k rows true h x = rw h refl
+awaited _ k rows false h x = rw h refl
 
 none_awaited : (form : Form) → takes_markers form ≡ true → (rows : List Row)
     → settle_fault (rules form) false (holding rows (Some (codes "markers", []))) ≡ [] → ⊥
 none_awaited runs k rows e = cc
-none_awaited gens k rows e = cc
-none_awaited bare k rows e = cc
+none_awaited _ k rows e = cc
 
 awaited_met : (form : Form) → takes_markers form ≡ true → (word : Text) (rows : List Row)
     → plain_word (rules form) (option (codes "markers")) word (holding rows (Some (codes "markers", [])))
     ≡ (holding rows (Some (codes "markers", word ∷ [])), next idle)
-awaited_met runs k word rows = refl
-awaited_met gens k word rows = refl
 awaited_met bare k word rows = cc
+awaited_met _ k word rows = refl
 
 awaited_rows : (form : Form) → takes_markers form ≡ true → (x : Text) (rows : List Row)
     → settled_rows (rules form) (Some (codes "markers", x ∷ [])) rows
     ≡ with_values (codes "markers") AsWritten CommandLine (x ∷ []) (without (codes "markers") rows)
-awaited_rows runs k x rows = refl
-awaited_rows gens k x rows = refl
 awaited_rows bare k x rows = cc
+awaited_rows _ k x rows = refl
 
 -- An option with a name is no number.
 never_long : (id : Text) (v : Option Text) (word : Text) (t : Given) → given_awaited (said_long id v) word t ≡ None
-never_long id v word t =
-    by_tests v (bytes_eq (codes "markers") id) (bytes_eq (codes "sweep") id) (bytes_eq (codes "why") id)
+never_long id v word t = by (name_view id) v
   where
-    by_tests : (u : Option Text) (m s w : Bool)
-        → given_awaited (if m then markers_said u else if s then no_value u (flag_said sweep_flag)
-        else if w then no_value u (flag_said why_flag) else unknown) word t ≡ None
-    by_tests u true s w = refl
-    by_tests None false true w = refl
-    by_tests (Some x) false true w = refl
-    by_tests None false false true = refl
-    by_tests (Some x) false false true = refl
-    by_tests u false false false = refl
+    by : NameView id → (u : Option Text) → given_awaited (said_long id u) word t ≡ None
+    by (is_markers same) u = rw same refl
+    by (is_flag flag same) None = rw (same, flag_long flag None) refl
+    by (is_flag flag same) (Some x) = rw (same, flag_long flag (Some x)) refl
+    by (is_other m s w) u = rw (m, s, w) refl
 
 awaiting_tells : (form : Form) (name word : Text) (words : List Text) (t : Given) (rows : List Row) (ns : Numbers)
     → t.numbers ≡ ns → Holds rows t → t.awaits ≡ true → t.ended ≡ false → takes_markers form ≡ true
@@ -128,18 +119,16 @@ awaiting_tells form name word words t rows ns is h a en k more = on_view (view w
     by_markers : PassesBy form name word → (b : Bool) → is_some t.markers ≡ b
         → Awaiting form name word words rows ns (with_markers t word)
     by_markers by true has =
-        let kinds = awaited form k rows true (has_markers rows t h ∙ has) word in
+        let kinds = awaited form k rows true (has_id rows t h markers_id ∙ has) word in
         subst (Awaiting form name word words rows ns) (sym (some_markers t word true has)) (takes_number by None
         (lost form name words rows (Some (codes "markers", word ∷ [])) idle ns false
         (λ g. let bad : ErrorKind.ArgumentConflict ∷ [] ≡ [] = sym kinds ∙ g in cc) (inr refl)))
     by_markers by false has =
-        let fresh = has_markers rows t h ∙ has in
+        let fresh = has_id rows t h markers_id ∙ has in
         let u : Given = record t { markers = Some word; awaits = false } in
         let held : Holds (settled_rows (rules form) (Some (codes "markers", word ∷ [])) rows) u =
-        subst (λ (r : List Row). Holds r u)
-        (sym (awaited_rows form k word rows
-        ∙ values_set (codes "markers") AsWritten CommandLine (word ∷ []) rows fresh))
-        (holds_markers rows t h (is_none t.markers has) word false) in
+        rw (awaited_rows form k word rows)
+        (holds_set rows t h markers_id word u (is_none t.markers has) refl (markers_alone t word false)) in
         subst (Awaiting form name word words rows ns) (sym (some_markers t word false has)) (takes_number by _
         (more false u rows (Some (codes "markers", word ∷ [])) ns false is en
         (awaited form k rows false fresh word, held, refl)))

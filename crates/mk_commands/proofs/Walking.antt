@@ -6,12 +6,12 @@ use Rattle.clap.proofs.{FaultLemmas.fault_ends, WalkLemmas.bundle_ends}
 use Rattle.clap.specs.Faults.{bundle_fault, flags_fault, long_fault, settle_fault, short_fault, step_fault, turn_fault}
 use Rattle.clap.specs.Faults.{walk_fault, word_fault}
 use Rattle.clap.specs.Walk.{Held, Row, Rule, Step, Text, Waiting, Walk, after_step, arg_by_long, arg_by_short, idle}
-use Rattle.clap.specs.Walk.{is_pending, long_word, option, plain as no_flag, plain_word, positional, settled_rows}
-use Rattle.clap.specs.Walk.{subcommand_met, takes_values, trailing, value, walked, word_met}
+use Rattle.clap.specs.Walk.{is_pending, long_word, plain as no_flag, plain_word, settled_rows, subcommand_met}
+use Rattle.clap.specs.Walk.{takes_values, trailing, value, walked, word_met}
 use Rattle.clap.specs.{Kinds.Kinds, Kinds.or_else, Lexer.long_of, Lexer.short_of, Simple.Shape, Simple.built}
 use Rattle.clap.specs.{Simple.filled, Simple.filled_from, Simple.with_index, declared.error.kind.ErrorKind.ErrorKind}
 use Rattle.mk_commands.proofs.Lexing.{says_dashed}
-use Rattle.mk_commands.specs.Given.{Form, Numbers, bare, gens, no_number, one_number, plain, runs, said, two_numbers}
+use Rattle.mk_commands.specs.Given.{Form, Numbers, bare, gens, no_number, one_number, plain, said, two_numbers}
 use Rattle.mk_commands.specs.Told.{app_named, flag_rule, markers_rule, positional_rule, rules_of}
 
 -- ---- the commands as clap builds them
@@ -63,14 +63,12 @@ first_empty [] b e = refl
 first_empty (k ∷ ks) b e = cc
 
 shape_rules : (form : Form) (name : Text) → (shape form name).rules ≡ rules form
-shape_rules runs name = refl
-shape_rules gens name = refl
 shape_rules bare name = refl
+shape_rules _ name = refl
 
 again_not : (form : Form) (name : Text) → (shape form name).args_override_self ≡ false
-again_not runs name = refl
-again_not gens name = refl
 again_not bare name = refl
+again_not _ name = refl
 
 -- a word that passes
 pub goes_on : (form : Form) (name : Text) (w : Walk) (word : Text) (words : List Text) (h : Held) (step : Step)
@@ -144,11 +142,9 @@ long_stops c (Some a) v h bad e = by_takes (takes_values a) refl v e
 number_stops : (form : Form) (name : Text) (ns : Numbers) (rows : List Row) (p : Option (Text × List Text))
     → (settle_fault (rules form) false (holding rows p) ≡ [] → ⊥)
     → step_fault (shape form name) (position_of ns) (holding rows p) value ≡ [] → ⊥
-number_stops runs name ns rows p bad e = cc
-number_stops bare name ns rows p bad e = cc
 number_stops gens name no_number rows p bad e = bad (rw (and_false (is_pending start_filled p)) at e)
 number_stops gens name (one_number a) rows p bad e = bad (rw (and_false (is_pending count_filled p)) at e)
-number_stops gens name (two_numbers a b) rows p bad e = cc
+number_stops _ name ns rows p bad e = cc
 
 -- short flags are unknown
 pub bundle_stops : (form : Form) (x : ℕ) (flags : Text) (h : Held) → slice_get (chars flags) 0 ≡ Some x → h.skip ≡ 0
@@ -161,9 +157,8 @@ bundle_stops form x (b ∷ flags) h first skip e = by_form form (rw (first, skip
         → short_fault (rules f) false (arg_by_short (rules f) x) (drop (length (encode_utf8 x)) (b ∷ flags))
         (record h { skip = 0 })
         (flags_fault (rules f) false (length flags) (drop (length (encode_utf8 x)) (b ∷ flags)) 0) ≡ [] → ⊥
-    by_form runs e = cc
-    by_form gens e = cc
     by_form bare e = cc
+    by_form _ e = cc
 
 -- ---- what a word is to clap
 
@@ -201,8 +196,7 @@ view word = on_ends (bytes_eq word (codes "--")) refl
 
 no_subcommand : (waiting : Waiting) (word : Text) → subcommand_met [] waiting word ≡ None
 no_subcommand idle word = refl
-no_subcommand (option id) word = refl
-no_subcommand positional word = refl
+no_subcommand _ word = refl
 
 -- a word that is no flag
 pub record PassesBy (form : Form) (name : Text) (word : Text) : Type 0 where

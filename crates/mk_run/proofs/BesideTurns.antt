@@ -37,13 +37,6 @@ steps_of_all (x ∷ xs) = ap (λ (b : Bool). is_beside_turns x.event.step && b) 
 
 stage_beside : (s : Stage) → is_beside_turns (step_at s) ≡ true
 stage_beside Stage.Probe = refl
-stage_beside Stage.Read = refl
-stage_beside Stage.Write = refl
-stage_beside Stage.Cas = refl
-stage_beside Stage.Getg = refl
-stage_beside Stage.Setg = refl
-stage_beside Stage.Dirty = refl
-stage_beside Stage.Leave = refl
 stage_beside _ = refl
 
 stages_beside : (xs : List Stage) → list_all is_beside_turns (map step_at xs) ≡ true

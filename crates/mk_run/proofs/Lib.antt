@@ -17,6 +17,6 @@ pub mod LastCycles
 pub mod LastOvers
 pub mod UnsweptHistories
 pub mod UnsweptScripts
-pub mod BegunScripts
+pub mod KeptScripts
 mod PutOff
 pub mod Vocabulary

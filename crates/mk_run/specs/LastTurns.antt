@@ -1,19 +1,37 @@
 -- The host's last turns, when the scripts are joined. Private functions alone cite these words.
-use Rattle.std.specs.Prelude.{◌≡◌, ℕ, Bool, List, [], ◌∷◌, ◌++◌}
+use Rattle.std.specs.Prelude.{◌≡◌, ℕ, Bool, false, List, [], ◌∷◌, ◌++◌}
 use Rattle.mk_core.specs.declared.config.Config.{Config}
 use Rattle.mk_core.specs.declared.events.Event.{Event}
 use Rattle.mk_core.specs.declared.events.Seat.{Seat}
 use Rattle.mk_core.specs.declared.events.Seat.TheVariants.{Caller, Host}
 use Rattle.mk_core.specs.Growing.{Grows}
 use Rattle.mk_core.specs.History.{World}
-use Rattle.mk_words.specs.Seats.{Has, HasCallers}
+use Rattle.mk_words.specs.Seats.{Has, HasCallers, has_over}
 use Rattle.mk_words.specs.States.{WordsState, PassState}
-use Rattle.mk_heap.specs.Ending.{MakesToldCycle, SaysOver}
+use Rattle.mk_heap.specs.Ending.{CallersAreJoined, MakesToldCycle, SaysOver}
+use Rattle.mk_heap.specs.Hosts.{HostState, with_seen}
 use Rattle.mk_run.specs.HostTurns.{cycles_begun, cycles_asked}
+use Rattle.mk_run.specs.Keeping.{PassKeeps}
+
+-- The host's seat is home and so are those of all callers, and it has not said that all is over.
+pub record HasAllHome (w : WordsState) (h : HostState) : Type 0 where
+  pub table : h.pass.table ≡ w
+  pub seat : h.pass.seat ≡ Host
+  pub own : Has h.pass.seats Host
+  pub joined : CallersAreJoined h
+  pub callers : HasCallers w.config h.pass.seats
+  pub before_over : has_over h.pass.seen ≡ false
 
 -- The callers whose seats are home make no step.
 abbrev pub CallersAreStill : PassState → List Event → Type 0
 CallersAreStill p es = (k : ℕ) → Has p.seats (Caller k) → Grows (Caller k ∷ []) p.seen es
+
+-- The host goes on, and no caller whose seat is home.
+pub record GoesOnAlone (sweeps : Bool) (begins : Config → Seat → List Event → List Event → Type 0) (h g : HostState)
+    : Type 0 where
+  pub is : g ≡ with_seen h g.pass.seen
+  pub still : CallersAreStill h.pass g.pass.seen
+  pub keeps : PassKeeps sweeps begins h.pass g.pass
 
 -- Since this was seen the host made its last turns, where asked with a last cycle: no other is begun there.
 pub record BeginsAsAsked (with_cycle : Bool) (seen es : List Event) : Type 0 where

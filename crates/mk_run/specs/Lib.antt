@@ -9,4 +9,4 @@ pub mod LastTurns
 pub mod HostTurns
 pub mod Unswept
 pub mod UnsweptSeats
-pub mod BegunSeats
+pub mod Keeping

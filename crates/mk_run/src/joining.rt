@@ -1,13 +1,12 @@
 //! Scripts on threads of their own, and the host that joins them.
-ghost use Rattle.std.specs.Prelude.{◌≡◌, ◌+◌, ◌∷◌, IfOk, IsOk, OnOk, false};
+ghost use Rattle.std.specs.Prelude.{◌≡◌, ◌+◌, ◌∷◌, IfOk, IsOk, OnOk};
 ghost use Rattle.std.specs.Thread.{IsSync};
 ghost use Rattle.mk_core.specs.declared.events.Seat.TheVariants as seat;
 ghost use denote.Param.Send.{IsSend};
 ghost use Rattle.mk_check.specs.Laws.{IsScript};
-ghost use Rattle.mk_run.specs.BegunSeats.{CyclesOfAreBegun, ScriptsBeginCycles};
 ghost use Rattle.mk_run.specs.Joining.{IsFirstPass, HasMade, HasRun, AreJoined};
+ghost use Rattle.mk_run.specs.Keeping.{ScriptsKeep, SeatKeeps};
 ghost use Rattle.mk_run.specs.Ready.{AreReadyFrom, IsReadyScript};
-ghost use Rattle.mk_run.specs.UnsweptSeats.{ScriptsSweepNothing, SeatSweepsNothing};
 
 use crate::paces::Pace;
 use crate::ready::ReadyScript;
@@ -51,9 +50,7 @@ fn run_alone<E: Engine, P: Pace, R: Threads + Wait + Sync>(
     requires pass { IsFirstPass run.now.heap.now k pass }
     requires ready { IsReadyScript E.made_for run.now.program.now run.now.heap.now.config.pages k ready }
     ensures ran { HasRun E.on run.now.program.now run.now.heap.now k result }
-    ensures reached { E.sweeps ≡ false
-        → SeatSweepsNothing run.now.heap.now.config (seat.Caller k) result.pass.seen }
-    ensures begun { CyclesOfAreBegun E.begins run.now.heap.now.config (seat.Caller k) result.pass.seen }
+    ensures keeps { SeatKeeps E.sweeps E.begins run.now.heap.now.config (seat.Caller k) result.pass.seen }
 {
     let mut caller = Caller::new(run.heap.words(), pass);
     let text = run_script(rt, run.alloc, &mut caller, ready, run.program, k, pace);
@@ -64,19 +61,19 @@ fn run_alone<E: Engine, P: Pace, R: Threads + Wait + Sync>(
     }
 }
 
-/// A text before others, where memory suffices.
-fn with_first(
-    first: Result<Text, NoMemory>,
-    others: Result<Vec<Text>, NoMemory>,
-) -> Result<Vec<Text>, NoMemory>
+/// What one thread returned before what others did, where memory suffices.
+pub fn with_first<T: Drop>(
+    first: Result<T, NoMemory>,
+    others: Result<Vec<T>, NoMemory>,
+) -> Result<Vec<T>, NoMemory>
     ensures first { OnOk result (IsOk first) }
     ensures others { OnOk result (IsOk others) }
     ensures items { IfOk result (λ all. IfOk first (λ x. IfOk others (λ xs. all.items ≡ x ∷ xs.items))) }
 {
-    let text = first?;
-    let mut texts = others?;
-    texts.insert(0, text)?;
-    Ok(texts)
+    let first = first?;
+    let mut all = others?;
+    all.insert(0, first)?;
+    Ok(all)
 }
 
 /// Runs the scripts from `k` on, each on a thread of its own, and joins them. A script whose thread can't be started
@@ -93,9 +90,8 @@ pub(crate) fn run_from<E: Engine + Send, P: Pace + Sync, R: Threads + Wait + Syn
     requires host { HasMade run.now.heap.now k host }
     requires scripts { AreReadyFrom E.made_for run.now.program.now run.now.heap.now.config k scripts.items }
     ensures joined { AreJoined E.on run.now.program.now run.now.heap.now k host.markers result }
-    ensures reached { E.sweeps ≡ false
-        → ScriptsSweepNothing run.now.program.now k run.now.heap.now.config result.host.pass.seen }
-    ensures begun { ScriptsBeginCycles E.begins run.now.program.now k run.now.heap.now.config result.host.pass.seen }
+    ensures keep { ScriptsKeep E.sweeps E.begins run.now.program.now k run.now.heap.now.config
+        result.host.pass.seen }
 {
     let Some(ready) = scripts.pop_front() else {
         return Joined {
@@ -112,9 +108,8 @@ pub(crate) fn run_from<E: Engine + Send, P: Pace + Sync, R: Threads + Wait + Syn
             requires pass { IsFirstPass run.now.heap.now k pass }
             requires ready { IsReadyScript E.made_for run.now.program.now run.now.heap.now.config.pages k ready }
             ensures ran { HasRun E.on run.entry.now.program.now run.entry.now.heap.now k result }
-            ensures reached { E.sweeps ≡ false
-                → SeatSweepsNothing run.entry.now.heap.now.config (seat.Caller k) result.pass.seen }
-            ensures begun { CyclesOfAreBegun E.begins run.entry.now.heap.now.config (seat.Caller k) result.pass.seen }
+            ensures keeps { SeatKeeps E.sweeps E.begins run.entry.now.heap.now.config (seat.Caller k)
+                result.pass.seen }
         { run_alone(rt, run, pace, k, pass, ready) },
         move || -> Joined
             requires shared { IsSync R.row × IsSync P.row × IsSend E.row }
@@ -123,9 +118,7 @@ pub(crate) fn run_from<E: Engine + Send, P: Pace + Sync, R: Threads + Wait + Syn
                 scripts.items }
             ensures joined { AreJoined E.on run.entry.now.program.now run.entry.now.heap.now (k + 1) host.markers
                 result }
-            ensures reached { E.sweeps ≡ false → ScriptsSweepNothing run.entry.now.program.now (k + 1)
-                run.entry.now.heap.now.config result.host.pass.seen }
-            ensures begun { ScriptsBeginCycles E.begins run.entry.now.program.now (k + 1)
+            ensures keep { ScriptsKeep E.sweeps E.begins run.entry.now.program.now (k + 1)
                 run.entry.now.heap.now.config result.host.pass.seen }
         { run_from(rt, run, pace, k + 1, host, scripts) },
     );

@@ -1,12 +1,6 @@
 //! The host's last turns, when the scripts are joined.
-ghost use Rattle.std.specs.Prelude.{◌≡◌, true, false};
-ghost use Rattle.mk_core.specs.declared.events.Seat.TheVariants as seat;
-ghost use Rattle.mk_words.specs.Seats.{Has, HasCallers, has_over};
-ghost use Rattle.mk_turns.specs.Sweeping.{SweepsNothing};
-ghost use Rattle.mk_cycle.specs.Begun.{EachIsBegun};
-ghost use Rattle.mk_heap.specs.Ending.{CallersAreJoined};
-ghost use Rattle.mk_heap.specs.Hosts.{with_seen};
-ghost use Rattle.mk_run.specs.LastTurns.{BeginsAsAsked, CallersAreStill, TakesLastTurns};
+ghost use Rattle.std.specs.Prelude.{◌≡◌, true};
+ghost use Rattle.mk_run.specs.LastTurns.{BeginsAsAsked, GoesOnAlone, HasAllHome, TakesLastTurns};
 
 use mk_cycle::Engine;
 use mk_heap::{Heap, Host};
@@ -20,17 +14,9 @@ fn cycle_and_over<E: Engine, R: Threads + Wait + Sync>(
     host: &mut Host,
     engine: &mut E,
 )
-    requires one_table { host.old.pass.table ≡ heap.now }
+    requires all_home { HasAllHome heap.now host.old }
     requires made_for { E.made_for engine.old ≡ heap.now.config.pages }
-    requires seat { host.old.pass.seat ≡ seat.Host }
-    requires own { Has host.old.pass.seats seat.Host }
-    requires joined { CallersAreJoined host.old }
-    requires callers { HasCallers heap.now.config host.old.pass.seats }
-    requires before_over { has_over host.old.pass.seen ≡ false }
-    ensures host { host.new ≡ with_seen host.old host.new.pass.seen }
-    ensures still { CallersAreStill host.old.pass host.new.pass.seen }
-    ensures reached { E.sweeps ≡ false → SweepsNothing host.old.pass host.new.pass }
-    ensures begun { EachIsBegun E.begins host.old.pass host.new.pass }
+    ensures host { GoesOnAlone E.sweeps E.begins host.old host.new }
     ensures turns { TakesLastTurns (E.tells engine.new) heap.now host.new.pass }
     ensures cycles { BeginsAsAsked true host.old.pass.seen host.new.pass.seen }
 {
@@ -47,17 +33,9 @@ pub(crate) fn take_last_turns<E: Engine, R: Threads + Wait + Sync>(
     engine: &mut E,
     with_cycle: bool,
 )
-    requires one_table { host.old.pass.table ≡ heap.now }
+    requires all_home { HasAllHome heap.now host.old }
     requires made_for { E.made_for engine.old ≡ heap.now.config.pages }
-    requires seat { host.old.pass.seat ≡ seat.Host }
-    requires own { Has host.old.pass.seats seat.Host }
-    requires joined { CallersAreJoined host.old }
-    requires callers { HasCallers heap.now.config host.old.pass.seats }
-    requires before_over { has_over host.old.pass.seen ≡ false }
-    ensures host { host.new ≡ with_seen host.old host.new.pass.seen }
-    ensures still { CallersAreStill host.old.pass host.new.pass.seen }
-    ensures reached { E.sweeps ≡ false → SweepsNothing host.old.pass host.new.pass }
-    ensures begun { EachIsBegun E.begins host.old.pass host.new.pass }
+    ensures host { GoesOnAlone E.sweeps E.begins host.old host.new }
     ensures turns { with_cycle ≡ true → TakesLastTurns (E.tells engine.new) heap.now host.new.pass }
     ensures cycles { BeginsAsAsked with_cycle host.old.pass.seen host.new.pass.seen }
 {

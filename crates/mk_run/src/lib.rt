@@ -18,6 +18,7 @@ mod scripts;
 mod why;
 
 pub use answers::{answer_now, answer_to, call};
+pub use joining::with_first;
 pub use marking::mark_until_over;
 pub use outcomes::Outcome;
 pub use paces::{NoPace, Pace};

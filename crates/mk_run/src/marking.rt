@@ -3,12 +3,11 @@ ghost use Rattle.std.specs.Prelude.{◌≡◌, ◌+◌, true, false};
 ghost use Rattle.std.specs.Thread.{IsSync};
 ghost use denote.Param.Send.{IsSend};
 ghost use Rattle.mk_marker.specs.Markers.{attends};
-ghost use Rattle.mk_run.specs.BegunSeats.{ScriptsBeginCycles};
 ghost use Rattle.mk_run.specs.Joining.{HasMade};
+ghost use Rattle.mk_run.specs.Keeping.{ScriptsKeep};
 ghost use Rattle.mk_run.specs.LastTurns.{TakesLastTurns};
 ghost use Rattle.mk_run.specs.Marking.{IsMarkersPass, IsOver};
 ghost use Rattle.mk_run.specs.Ready.{IsReadyRun};
-ghost use Rattle.mk_run.specs.UnsweptSeats.{ScriptsSweepNothing};
 
 use crate::joining::{Joined, run_from};
 use crate::last_turns::take_last_turns;
@@ -100,9 +99,7 @@ fn run_scripts<E: Engine + Send, P: Pace + Sync, R: Threads + Wait + Sync>(
     ensures over { IsOver E.on run.now.with_cycle run.now.program.now run.now.heap.now host.markers result.joined }
     ensures turns { run.now.with_cycle ≡ true
         → TakesLastTurns (E.tells result.engine) run.now.heap.now result.joined.host.pass }
-    ensures reached { E.sweeps ≡ false
-        → ScriptsSweepNothing run.now.program.now 0 run.now.heap.now.config result.joined.host.pass.seen }
-    ensures begun { ScriptsBeginCycles E.begins run.now.program.now 0 run.now.heap.now.config
+    ensures keep { ScriptsKeep E.sweeps E.begins run.now.program.now 0 run.now.heap.now.config
         result.joined.host.pass.seen }
 {
     let ReadyRun {
@@ -134,9 +131,7 @@ pub(crate) fn run_beside<E: Engine + Send, P: Pace + Sync, R: Threads + Wait + S
     ensures over { IsOver E.on run.now.with_cycle run.now.program.now run.now.heap.now number result.joined }
     ensures turns { run.now.with_cycle ≡ true
         → TakesLastTurns (E.tells result.engine) run.now.heap.now result.joined.host.pass }
-    ensures reached { E.sweeps ≡ false
-        → ScriptsSweepNothing run.now.program.now 0 run.now.heap.now.config result.joined.host.pass.seen }
-    ensures begun { ScriptsBeginCycles E.begins run.now.program.now 0 run.now.heap.now.config
+    ensures keep { ScriptsKeep E.sweeps E.begins run.now.program.now 0 run.now.heap.now.config
         result.joined.host.pass.seen }
 {
     if number >= run.markers {
@@ -160,9 +155,7 @@ pub(crate) fn run_beside<E: Engine + Send, P: Pace + Sync, R: Threads + Wait + S
                 (number + 1) result.joined }
             ensures turns { run.entry.now.with_cycle ≡ true
                 → TakesLastTurns (E.tells result.engine) run.entry.now.heap.now result.joined.host.pass }
-            ensures reached { E.sweeps ≡ false → ScriptsSweepNothing run.entry.now.program.now 0
-                run.entry.now.heap.now.config result.joined.host.pass.seen }
-            ensures begun { ScriptsBeginCycles E.begins run.entry.now.program.now 0 run.entry.now.heap.now.config
+            ensures keep { ScriptsKeep E.sweeps E.begins run.entry.now.program.now 0 run.entry.now.heap.now.config
                 result.joined.host.pass.seen }
         { run_beside(rt, run, pace, number + 1, host, ready) },
     );

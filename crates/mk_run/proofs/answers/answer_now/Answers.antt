@@ -1,7 +1,7 @@
 use Rattle.mk_laws.proofs.Vocabulary.{Answer, false, is_under_turn, refl, ◌≡◌}
 use Rattle.mk_run.proofs.Vocabulary.{calls_sweep_nothing, rules, sweep_nothing_where_held}
 use Rattle.mk_run.proofs.ScriptCalls.{answered_by_call, answered_free, answered_new, makes_none, type_exists}
-use Rattle.mk_run.proofs.BegunScripts.{beside_begun}
+use Rattle.mk_run.proofs.KeptScripts.{beside_begun}
 use Rattle.mk_run.proofs.answers.answer_now.Goals as goal
 
 pub new_object-requires-clause-ty : goal.new_object-requires-clause-ty

@@ -1,14 +1,13 @@
 use Rattle.mk_laws.proofs.Vocabulary.{Caller, Config, Host, ap, arith, length, subst, sym, ◌+◌, ◌<◌, ◌∙◌, ◌≡◌}
-use Rattle.mk_run.proofs.Vocabulary.{AreReadyFrom, Grows, Has, HasJoined, HasMade, HostState, IsFirstPass, IsReadyScript}
-use Rattle.mk_run.proofs.Vocabulary.{IsScript, has_left, rules, script_names, with_joined}
+use Rattle.mk_run.proofs.Vocabulary.{AreReadyFrom, Grows, Has, HasJoined, HasMade, HostState, IsFirstPass}
+use Rattle.mk_run.proofs.Vocabulary.{IsReadyScript, IsScript, has_left, rules, script_names, with_joined}
 use Rattle.mk_run.proofs.HostTurns.{host_is_still, unseen_by_host}
 use Rattle.mk_run.proofs.JoinedScripts.{first_pass, next_made, one_joined, texts_joined}
-use Rattle.mk_run.proofs.UnsweptScripts.{none_joined, script_joined, scripts_on}
+use Rattle.mk_run.proofs.KeptScripts.{none_joined, others_on, script_joined, scripts_on}
 use Rattle.mk_run.proofs.{LaterLists.of_one, ReadyScripts.ready_first}
 use Rattle.mk_run.specs.Joining.{AreJoined, HasRun}
 use denote.Param.Send.{Quiet-if}
 use mir.Syntax.{of_param}
-use Rattle.mk_run.proofs.BegunScripts as begun
 use Rattle.mk_run.proofs.joining.+fn-run_from-join+arg3+run_from.Goals as goal
 
 pub join-ran-requires-after_bounds : goal.join-ran-requires-after_bounds
@@ -118,25 +117,16 @@ returns-clause-joined g t c =
 pub returns-in_default-clause-joined : goal.returns-in_default-clause-joined
 returns-in_default-clause-joined g t c = grind (arith, unseen_by_host)
 
-pub returns-in_default-clause-reached : goal.returns-in_default-clause-reached
-returns-in_default-clause-reached g t c =
+pub returns-in_default-clause-keep : goal.returns-in_default-clause-keep
+returns-in_default-clause-keep g t c =
     let scripts = ap (λ (x : Config). x.callers) c.args.run.now.made_for in
     let all : c.args.k ≡ length (script_names c.args.run.now.program.now) =
     omega (arith, c.in_default.ensures.cases, c.args.scripts.ok, c.requires.scripts.count, scripts) in
-    λ none.
     none_joined c.args.run.now.program.now c.args.k c.args.run.now.heap.now.config c.args.host.pass.seen
     c.requires.host.seen all
 
-pub returns-in_default-clause-begun : goal.returns-in_default-clause-begun
-returns-in_default-clause-begun g t c =
-    let scripts = ap (λ (x : Config). x.callers) c.args.run.now.made_for in
-    let all : c.args.k ≡ length (script_names c.args.run.now.program.now) =
-    omega (arith, c.in_default.ensures.cases, c.args.scripts.ok, c.requires.scripts.count, scripts) in
-    begun.none_joined g.E.Engine.begins c.args.run.now.program.now c.args.k c.args.run.now.heap.now.config
-    c.args.host.pass.seen c.requires.host.seen all
-
-pub returns-clause-begun : goal.returns-clause-begun
-returns-clause-begun g t c =
+pub returns-clause-keep : goal.returns-clause-keep
+returns-clause-keep g t c =
     let program = c.args.run.now.program.now in
     let w = c.args.run.now.heap.now in
     let k = c.args.k in
@@ -147,29 +137,9 @@ returns-clause-begun g t c =
     let old = c.join-ran.result.1.host in
     let new = c.join_caller.new.self in
     let own : Grows old.pass.seats old.pass.seen new.pass.seen = c.join_caller.ensures.own in
-    begun.script_joined g.E.Engine.begins program k w.config pass.seats pass.seen new.pass.seen ran.alone
-    c.join_caller.ensures.came c.join-ran.ensures.first.1.1
-    (begun.scripts_on g.E.Engine.begins program (k + 1) w.config old.pass.seen new.pass.seen
-    (begun.others_on g.E.Engine.begins w.config Host old.pass.seats old.pass.seen new.pass.seen joined.own own)
-    (λ j le is. of_one old.pass.seats (Caller j) old.pass.seen new.pass.seen (joined.is_host.seats j le is) own)
-    c.join-ran.ensures.second.1.1)
-
-pub returns-clause-reached : goal.returns-clause-reached
-returns-clause-reached g t c =
-    let program = c.args.run.now.program.now in
-    let w = c.args.run.now.heap.now in
-    let k = c.args.k in
-    let ran : HasRun g.E.Engine.on program w k c.join-ran.result.0 = c.join-ran.ensures.first.0 in
-    let joined : AreJoined g.E.Engine.on program w (k + 1) c.caller.new.self.markers c.join-ran.result.1 =
-    c.join-ran.ensures.second.0 in
-    let pass = c.join-ran.result.0.pass in
-    let old = c.join-ran.result.1.host in
-    let new = c.join_caller.new.self in
-    let own : Grows old.pass.seats old.pass.seen new.pass.seen = c.join_caller.ensures.own in
-    λ none.
     script_joined program k w.config pass.seats pass.seen new.pass.seen ran.alone c.join_caller.ensures.came
-    (c.join-ran.ensures.first.1.0 none)
-    (scripts_on program (k + 1) w old.pass new.pass joined.is_host.table joined.is_host.seat
-    c.join_caller.ensures.reached
+    c.join-ran.ensures.first.1
+    (scripts_on program (k + 1) w.config old.pass.seen new.pass.seen
+    (others_on w.config Host old.pass.seats old.pass.seen new.pass.seen joined.own own)
     (λ j le is. of_one old.pass.seats (Caller j) old.pass.seen new.pass.seen (joined.is_host.seats j le is) own)
-    (c.join-ran.ensures.second.1.0 none))
+    c.join-ran.ensures.second.1)

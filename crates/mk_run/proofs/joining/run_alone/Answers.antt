@@ -1,7 +1,6 @@
 use Rattle.mk_laws.proofs.Vocabulary.{Seat, ap, subst, sym, [], ◌∙◌, ◌∷◌, ◌≡◌}
 use Rattle.mk_run.proofs.Vocabulary.{CallerState, PassState}
-use Rattle.mk_run.proofs.JoinedScripts.{follows_at_first, no_answers}
-use Rattle.mk_run.proofs.{BegunScripts.script_begun, UnsweptScripts.script_sweeps}
+use Rattle.mk_run.proofs.{JoinedScripts.follows_at_first, JoinedScripts.no_answers, KeptScripts.script_keeps}
 use Rattle.mk_run.proofs.joining.run_alone.Goals as goal
 
 pub new-caller-requires-clause-idle : goal.new-caller-requires-clause-idle
@@ -25,14 +24,9 @@ run_script-text-requires-clause-alone g c κs within =
     subst (λ (p : PassState). p.seats ≡ p.seat ∷ []) (sym is)
     (c.requires.pass.alone ∙ ap (λ (s : Seat). s ∷ []) (sym c.requires.pass.seat))
 
-pub returns-clause-reached : goal.returns-clause-reached
-returns-clause-reached g c =
-    λ none.
-    script_sweeps c.args.run.now.heap.now c.args.k c.args.pass c.new-caller.result c.run_script-text.new.caller.pass
-    c.finish.result c.requires.pass c.new-caller.ensures (c.run_script-text.ensures.reached none) c.finish.ensures.pass
-
-pub returns-clause-begun : goal.returns-clause-begun
-returns-clause-begun g c =
-    script_begun g.E.Engine.begins c.args.run.now.heap.now c.args.k c.args.pass c.new-caller.result
-    c.run_script-text.new.caller.pass c.finish.result c.requires.pass c.new-caller.ensures
-    c.run_script-text.ensures.begun c.finish.ensures.pass
+pub returns-clause-keeps : goal.returns-clause-keeps
+returns-clause-keeps g c =
+    script_keeps c.args.run.now.heap.now c.args.k c.args.pass c.new-caller.result c.run_script-text.new.caller.pass
+    c.finish.result c.requires.pass c.new-caller.ensures
+    (record { unswept = c.run_script-text.ensures.reached; begun = c.run_script-text.ensures.begun })
+    c.finish.ensures.pass

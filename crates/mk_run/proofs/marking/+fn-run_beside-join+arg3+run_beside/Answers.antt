@@ -1,9 +1,8 @@
 use Rattle.mk_laws.proofs.Vocabulary.{Caller, Host, ap, arith, refl, subst, sym, ◌+◌, ◌-◌, ◌<◌, ◌∙◌, ◌≡◌}
 use Rattle.mk_run.proofs.Vocabulary.{HasMade, HostState, IsOver, rules}
 use Rattle.mk_run.proofs.MarkersBeside.{first_marker, marker_joined, marker_made}
-use Rattle.mk_run.proofs.{LastTurns.last_turns_joined, LaterLists.of_one, UnsweptScripts.scripts_on}
+use Rattle.mk_run.proofs.{KeptScripts.others_on, KeptScripts.scripts_on, LastTurns.last_turns_joined, LaterLists.of_one}
 use Rattle.mk_run.specs.Marking.{IsMarkersPass}
-use Rattle.mk_run.proofs.BegunScripts as begun
 use Rattle.mk_run.proofs.marking.+fn-run_beside-join+arg3+run_beside.Goals as goal
 
 pub join-pass-requires-after_bounds : goal.join-pass-requires-after_bounds
@@ -42,33 +41,15 @@ returns-clause-turns g t c asked =
     c.join-pass.result.1.joined.host c.join_marker.new.self c.join-pass.result.0 c.join_marker.ensures.host
     c.join_marker.ensures.own (c.join-pass.ensures.second.1.0 asked)
 
-pub returns-clause-reached : goal.returns-clause-reached
-returns-clause-reached g t c =
+pub returns-clause-keep : goal.returns-clause-keep
+returns-clause-keep g t c =
     let w = c.args.run.now.heap.now in
     let before : IsOver g.E.Engine.on c.args.run.now.with_cycle c.args.run.now.program.now w (c.args.number + 1)
     c.join-pass.result.1.joined = c.join-pass.ensures.second.0 in
     let old = c.join-pass.result.1.joined.host in
     let new = c.join_marker.new.self in
-    λ none.
-    scripts_on c.args.run.now.program.now 0 w old.pass new.pass before.is_host.table before.is_host.seat
-    c.join_marker.ensures.reached
-    (λ j le is.
-    of_one old.pass.seats (Caller j) old.pass.seen new.pass.seen (before.is_host.seats j le is)
-    c.join_marker.ensures.own)
-    (c.join-pass.ensures.second.1.1.0 none)
-
-pub returns-clause-begun : goal.returns-clause-begun
-returns-clause-begun g t c =
-    let begins = g.E.Engine.begins in
-    let w = c.args.run.now.heap.now in
-    let before : IsOver g.E.Engine.on c.args.run.now.with_cycle c.args.run.now.program.now w (c.args.number + 1)
-    c.join-pass.result.1.joined = c.join-pass.ensures.second.0 in
-    let old = c.join-pass.result.1.joined.host in
-    let new = c.join_marker.new.self in
-    begun.scripts_on begins c.args.run.now.program.now 0 w.config old.pass.seen new.pass.seen
-    (begun.others_on begins w.config Host old.pass.seats old.pass.seen new.pass.seen before.own
-    c.join_marker.ensures.own)
-    (λ j le is.
-    of_one old.pass.seats (Caller j) old.pass.seen new.pass.seen (before.is_host.seats j le is)
-    c.join_marker.ensures.own)
-    c.join-pass.ensures.second.1.1.1
+    let own = c.join_marker.ensures.own in
+    scripts_on c.args.run.now.program.now 0 w.config old.pass.seen new.pass.seen
+    (others_on w.config Host old.pass.seats old.pass.seen new.pass.seen before.own own)
+    (λ j le is. of_one old.pass.seats (Caller j) old.pass.seen new.pass.seen (before.is_host.seats j le is) own)
+    c.join-pass.ensures.second.1.1

@@ -2,15 +2,20 @@ use Rattle.std.proofs.lemmas.Result.{IfOk-weaker}
 use Rattle.mk_laws.proofs.Vocabulary.{Host, ap, arith, subst, sym, ◌∙◌, ◌≡◌}
 use Rattle.mk_run.proofs.Vocabulary.{AreTextsFrom, Has, HasJoined, HostState}
 use Rattle.mk_run.proofs.WholeRuns.{all_callers_home, all_callers_joined, still_joined, still_texts}
-use Rattle.mk_run.proofs.{HostTurns.comes_last, UnsweptScripts.scripts_on}
-use Rattle.mk_run.proofs.BegunScripts as begun
+use Rattle.mk_run.proofs.{HostTurns.comes_last, KeptScripts.host_on, KeptScripts.scripts_on}
 use Rattle.mk_run.proofs.marking.run_scripts.Goals as goal
 
-pub take_last_turns-requires-clause-joined : goal.take_last_turns-requires-clause-joined
-take_last_turns-requires-clause-joined g c κs within = grind (arith, all_callers_joined)
-
-pub take_last_turns-requires-clause-callers : goal.take_last_turns-requires-clause-callers
-take_last_turns-requires-clause-callers g c κs within = grind (arith, all_callers_home)
+pub take_last_turns-requires-clause-all_home : goal.take_last_turns-requires-clause-all_home
+take_last_turns-requires-clause-all_home g c κs within =
+    let joined = c.run_from-host.ensures.joined in
+    record {
+      table = joined.is_host.table;
+      seat = joined.is_host.seat;
+      own = joined.own;
+      joined = grind (arith, all_callers_joined);
+      callers = grind (arith, all_callers_home);
+      before_over = joined.before_over;
+    }
 
 pub returns-clause-over : goal.returns-clause-over
 returns-clause-over g c =
@@ -20,8 +25,8 @@ returns-clause-over g c =
     let joined = c.run_from-host.ensures.joined in
     let h = c.run_from-host.result.host in
     let new = c.take_last_turns.new.host in
-    let is = c.take_last_turns.ensures.host in
-    let still = c.take_last_turns.ensures.still in
+    let is = c.take_last_turns.ensures.host.is in
+    let still = c.take_last_turns.ensures.host.still in
     let count : new.markers ≡ c.args.host.markers = ap (λ (x : HostState). x.markers) is ∙ joined.same_markers in
     record {
       is_host =
@@ -40,25 +45,13 @@ returns-clause-over g c =
           (λ texts t. still_texts on program w h new.pass.seen joined.is_host still texts.items t) joined.texts;
     }
 
-pub returns-clause-begun : goal.returns-clause-begun
-returns-clause-begun g c =
-    let begins = g.E.Engine.begins in
+pub returns-clause-keep : goal.returns-clause-keep
+returns-clause-keep g c =
     let w = c.args.run.now.heap.now in
     let joined = c.run_from-host.ensures.joined in
     let h = c.run_from-host.result.host in
     let new = c.take_last_turns.new.host in
-    begun.scripts_on begins c.args.run.now.program.now 0 w.config h.pass.seen new.pass.seen
-    (begun.host_on begins w h.pass new.pass joined.is_host.table joined.is_host.seat c.take_last_turns.ensures.begun)
-    (λ j le is. c.take_last_turns.ensures.still j (joined.is_host.seats j le is)) c.run_from-host.ensures.begun
-
-pub returns-clause-reached : goal.returns-clause-reached
-returns-clause-reached g c =
-    let program = c.args.run.now.program.now in
-    let w = c.args.run.now.heap.now in
-    let joined = c.run_from-host.ensures.joined in
-    let h = c.run_from-host.result.host in
-    let new = c.take_last_turns.new.host in
-    λ none.
-    scripts_on program 0 w h.pass new.pass joined.is_host.table joined.is_host.seat
-    (c.take_last_turns.ensures.reached none)
-    (λ j le is. c.take_last_turns.ensures.still j (joined.is_host.seats j le is)) (c.run_from-host.ensures.reached none)
+    let on = c.take_last_turns.ensures.host in
+    scripts_on c.args.run.now.program.now 0 w.config h.pass.seen new.pass.seen
+    (host_on w h.pass new.pass joined.is_host.table joined.is_host.seat on.keeps)
+    (λ j le is. on.still j (joined.is_host.seats j le is)) c.run_from-host.ensures.keep

@@ -1,8 +1,8 @@
-use Rattle.mk_laws.proofs.Vocabulary.{Config, Event, List, arith, subst, sym, ◌∙◌, ◌≡◌}
-use Rattle.mk_run.proofs.Vocabulary.{AreTextsFrom, IsWhole, config_of}
-use Rattle.mk_run.proofs.WholeRuns.{all_joined, is_run}
-use Rattle.mk_run.proofs.{BegunScripts.run_is_begun, LastOvers.run_ends_with_cycle, UnsweptScripts.run_is_unswept}
-use Rattle.mk_run.specs.{BegunSeats.ScriptsBeginCycles, Ready.IsReadyRun, UnsweptSeats.ScriptsSweepNothing}
+use Rattle.mk_laws.proofs.Vocabulary.{Config, arith, subst, sym, ◌∙◌, ◌≡◌}
+use Rattle.mk_run.proofs.Vocabulary.{AreTextsFrom, config_of}
+use Rattle.mk_run.proofs.KeptScripts.{run_is_begun, run_is_unswept}
+use Rattle.mk_run.proofs.{LastOvers.run_ends_with_cycle, WholeRuns.all_joined, WholeRuns.is_run}
+use Rattle.mk_run.specs.Ready.{IsReadyRun}
 use Rattle.mk_heap.specs.Reports as report
 use Rattle.mk_run.proofs.running.run_and_close.Goals as goal
 
@@ -37,33 +37,16 @@ returns-clause-cycle g c asked =
     c.close-report.ensures.whole
 
 pub returns-clause-reached : goal.returns-clause-reached
-returns-clause-reached g c none =
-    let program = c.args.program.now in
-    let h = c.run_beside-joined.result.joined.host in
-    let made = c.in_ok-heap.ensures.config ∙ c.in_ok-config.ensures.config in
-    let es = report.history_of c.close-report.result in
-    let same = c.close-report.ensures.config ∙ made in
-    let whole = subst (λ (d : Config). IsWhole d es) same c.close-report.ensures.whole in
-    run_is_unswept program c.args.markers es whole.history
-    (subst (λ (l : List Event). ScriptsSweepNothing program 0 (config_of program c.args.markers) l)
-    (sym c.close-report.ensures.history)
-    (subst (λ (d : Config). ScriptsSweepNothing program 0 d h.pass.seen) made
-    (c.run_beside-joined.ensures.reached none)))
+returns-clause-reached g c =
+    run_is_unswept c.args.program.now c.args.markers (c.in_ok-heap.ensures.config ∙ c.in_ok-config.ensures.config)
+    c.close-report.ensures.config c.close-report.ensures.history c.close-report.ensures.whole
+    c.run_beside-joined.ensures.keep
 
 pub returns-clause-begun : goal.returns-clause-begun
 returns-clause-begun g c =
-    let begins = g.E.Engine.begins in
-    let program = c.args.program.now in
-    let h = c.run_beside-joined.result.joined.host in
-    let made = c.in_ok-heap.ensures.config ∙ c.in_ok-config.ensures.config in
-    let es = report.history_of c.close-report.result in
-    let same = c.close-report.ensures.config ∙ made in
-    let whole = subst (λ (d : Config). IsWhole d es) same c.close-report.ensures.whole in
-    run_is_begun begins program c.args.markers es whole.history
-    (subst (λ (l : List Event). ScriptsBeginCycles begins program 0 (config_of program c.args.markers) l)
-    (sym c.close-report.ensures.history)
-    (subst (λ (d : Config). ScriptsBeginCycles begins program 0 d h.pass.seen) made
-    c.run_beside-joined.ensures.begun))
+    run_is_begun c.args.program.now c.args.markers (c.in_ok-heap.ensures.config ∙ c.in_ok-config.ensures.config)
+    c.close-report.ensures.config c.close-report.ensures.history c.close-report.ensures.whole
+    c.run_beside-joined.ensures.keep
 
 pub run_beside-joined-requires-clause-ready : goal.run_beside-joined-requires-clause-ready
 run_beside-joined-requires-clause-ready g c κs within =

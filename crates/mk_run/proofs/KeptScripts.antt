@@ -1,0 +1,147 @@
+-- What an engine keeps to in the steps of the scripts' callers and of the host, up to the whole run.
+use Rattle.mk_laws.proofs.Vocabulary.{At, Bool, Caller, Config, Event, Host, IsHistory, List, Marker, Seat, Step, ℕ}
+use Rattle.mk_laws.proofs.Vocabulary.{arith, enabled_in_parts, enabled_meets, false, first_world, group_of, is_begin}
+use Rattle.mk_laws.proofs.Vocabulary.{is_open_to, left, length, ltb-true, refl, seat_exists, subst, sym, through, true}
+use Rattle.mk_laws.proofs.Vocabulary.{true≢false, [], ◌++◌, ◌+◌, ◌∙◌, ◌∷◌, ◌≡◌, ◌≤◌}
+use Rattle.mk_run.proofs.Vocabulary.{CallerState, EachIsBegun, Grows, Has, IsFirstPass, IsScript, IsWhole, Item}
+use Rattle.mk_run.proofs.Vocabulary.{PassState, StaysBeside, WordsState, at_home, config_of, has_first, script_names}
+use Rattle.mk_run.proofs.Vocabulary.{⊎_elim}
+use Rattle.mk_core.specs.History.{AreEnabledFrom}
+use Rattle.mk_cycle.proofs.Begun.{HaveNoBegin, begun_append, kinds_begin_none, others_begin_none}
+use Rattle.mk_cycle.specs.Begun.{AreBegunFirst, CyclesAreBegun, IsBegunFirst}
+use Rattle.mk_run.proofs.UnsweptScripts.{first_sweeps, others_on as others_sweep_on, seat_on as seat_sweeps_on}
+use Rattle.mk_run.proofs.{JoinedScripts.same_or_later, UnsweptHistories.markers_sweep, UnsweptHistories.none_sweeps}
+use Rattle.mk_run.specs.Keeping.{PassKeeps, ScriptsKeep, SeatKeeps}
+use Rattle.mk_run.specs.{Scripts.is_beside_turns, Unswept.IsUnswept}
+use Rattle.mk_turns.specs.Sweeping.{SweepsNothingFrom}
+
+beside_begins_none : HaveNoBegin is_beside_turns
+beside_begins_none Step.Begin h = cc
+beside_begins_none _ h = refl
+
+marker_begins_none : (j : ℕ) (x : Step) → is_open_to (Marker j) (group_of x) ≡ true → is_begin x ≡ false
+marker_begins_none j Step.Begin h = cc
+marker_begins_none j _ h = refl
+
+nowhere : (before : List Event) (e : Event) (behind : List Event) → [] ≡ before ++ e ∷ behind → ⊥
+nowhere [] e behind is = cc
+nowhere (x ∷ xs) e behind is = cc
+
+-- An event of an enabled list is of a seat that exists, and of a kind that is open to it.
+open_to_its_seat : (c : Config) (es : List Event) (b : At is_begin es) → IsHistory c es
+    → (seat_exists c b.event.seat ≡ true) × (is_open_to b.event.seat (group_of b.event.step) ≡ true)
+unfolding AreEnabledFrom
+open_to_its_seat c es b history = grind (arith, enabled_in_parts, enabled_meets)
+
+-- a call beside the turn
+pub beside_begun : (begins : Config → Seat → List Event → List Event → Type 0) (p q : PassState) → StaysBeside p q
+    → EachIsBegun begins p q
+beside_begun begins p q h = record {
+  more = h.more;
+  is = h.is;
+  each = λ b own. absurd (kinds_begin_none is_beside_turns p.table.config p.seat (left p.table.config p.seen)
+      h.more beside_begins_none h.steps b own);
+}
+
+module _ {sweeps : Bool} {begins : Config → Seat → List Event → List Event → Type 0} where
+  -- before the first event
+  first_keeps : (c : Config) (s : Seat) (es : List Event) → es ≡ [] → SeatKeeps sweeps begins c s es
+  first_keeps c s es is = record {
+    unswept = λ off. first_sweeps c s es is;
+    begun = λ b own. absurd (nowhere b.before b.event b.behind (sym is ∙ b.is));
+  }
+
+  -- after more that its pass has seen, and after events of others
+
+  seat_on : (p q : PassState) → PassKeeps sweeps begins p q → SeatKeeps sweeps begins p.table.config p.seat p.seen
+      → SeatKeeps sweeps begins p.table.config p.seat q.seen
+  seat_on p q more before = record {
+    unswept = λ off. seat_sweeps_on p q (more.unswept off) (before.unswept off);
+    begun = subst (λ (l : List Event). AreBegunFirst begins p.table.config p.seat [] l) (sym more.begun.is)
+        (begun_append begins p.table.config p.seat [] p.seen more.begun.more before.begun more.begun.each);
+  }
+
+  pub others_on : (c : Config) (s : Seat) (seats : List Seat) (es fs : List Event) → Has seats s → Grows seats es fs
+      → SeatKeeps sweeps begins c s es → SeatKeeps sweeps begins c s fs
+  others_on c s seats es fs has g before = record {
+    unswept = λ off. others_sweep_on c s seats es fs has g (before.unswept off);
+    begun = subst (λ (l : List Event). AreBegunFirst begins c s [] l) (sym g.is)
+        (begun_append begins c s [] es g.more before.begun
+        (λ b own. absurd (others_begin_none seats s g.more has g.of_others b.before b.event b.behind b.is own)));
+  }
+
+  -- the run of one script, from its first pass
+  pub script_keeps : (w : WordsState) (k : ℕ) (first : PassState) (s : CallerState) (q r : PassState)
+      → IsFirstPass w k first → s ≡ at_home first → PassKeeps sweeps begins s.pass q → r ≡ q
+      → SeatKeeps sweeps begins w.config (Caller k) r.seen
+  script_keeps w k first s q r at is more same = grind (arith, first_keeps, seat_on)
+
+  -- The host goes on.
+  pub host_on : (w : WordsState) (p q : PassState) → p.table ≡ w → p.seat ≡ Host → PassKeeps sweeps begins p q
+      → SeatKeeps sweeps begins w.config Host p.seen → SeatKeeps sweeps begins w.config Host q.seen
+  host_on w p q table seat more before = grind (arith, seat_on)
+
+  -- The callers are still.
+  pub scripts_on : (program : List Item) (k : ℕ) (c : Config) (es fs : List Event)
+      → (SeatKeeps sweeps begins c Host es → SeatKeeps sweeps begins c Host fs)
+      → ((j : ℕ) → k ≤ j → IsScript program j → Grows (Caller j ∷ []) es fs)
+      → ScriptsKeep sweeps begins program k c es → ScriptsKeep sweeps begins program k c fs
+  scripts_on program k c es fs host still before = record {
+    callers = λ j le is.
+        others_on c (Caller j) (Caller j ∷ []) es fs (has_first (Caller j) []) (still j le is)
+        (before.callers j le is);
+    host = host before.host;
+  }
+
+  -- One more is joined.
+  pub script_joined : (program : List Item) (k : ℕ) (c : Config) (seats : List Seat) (es fs : List Event)
+      → seats ≡ Caller k ∷ [] → Grows seats es fs → SeatKeeps sweeps begins c (Caller k) es
+      → ScriptsKeep sweeps begins program (k + 1) c fs → ScriptsKeep sweeps begins program k c fs
+  script_joined program k c seats es fs alone came mine others = record {
+    callers = λ j le is.
+        ⊎_elim
+        (λ (same : j ≡ k). subst (λ (i : ℕ). SeatKeeps sweeps begins c (Caller i) fs) (sym same)
+        (others_on c (Caller k) (Caller k ∷ []) es fs (has_first (Caller k) [])
+        (subst (λ (l : List Seat). Grows l es fs) alone came) mine))
+        (λ (later : k + 1 ≤ j). others.callers j later is)
+        (same_or_later k j le);
+    host = others.host;
+  }
+
+  -- before any is made
+  pub none_joined : (program : List Item) (k : ℕ) (c : Config) (es : List Event) → es ≡ []
+      → k ≡ length (script_names program) → ScriptsKeep sweeps begins program k c es
+  none_joined program k c es none all =
+      record { callers = λ j le is. absurd (omega arith); host = first_keeps c Host es none }
+
+  -- All seats of the whole run are the scripts', the host's and markers'. No marker begins a cycle or sweeps.
+  module _ (program : List Item) (markers : ℕ) {w d : Config} {es seen : List Event}
+      (made : w ≡ config_of program markers) (same : d ≡ w) (is : es ≡ seen) (whole : IsWhole d es)
+      (keep : ScriptsKeep sweeps begins program 0 w seen) where
+    abbrev c : Config
+    c = config_of program markers
+
+    history : IsHistory c es
+    history = (subst (λ (x : Config). IsWhole x es) (same ∙ made) whole).history
+
+    scripts : ScriptsKeep sweeps begins program 0 c es
+    scripts = rw is (subst (λ (x : Config). ScriptsKeep sweeps begins program 0 x seen) made keep)
+
+    pub run_is_begun : CyclesAreBegun begins c es
+    run_is_begun b = let at = open_to_its_seat c es b history in by b.event.seat at.0 at.1 refl
+      where
+        by : (s : Seat) → seat_exists c s ≡ true → is_open_to s (group_of b.event.step) ≡ true → b.event.seat ≡ s
+            → IsBegunFirst begins c s (through b) b.behind
+        by (Caller j) exists may is =
+            (scripts.callers j (omega arith) (ltb-true j (length (script_names program)) exists)).begun b is
+        by (Marker j) exists may is = absurd (true≢false (sym b.of_kind ∙ marker_begins_none j b.event.step may))
+        by Host exists may is = scripts.host.begun b is
+
+    each_seat : sweeps ≡ false → (s : Seat) → seat_exists c s ≡ true → SweepsNothingFrom c s (first_world c) es
+    each_seat off (Caller j) exists =
+        (scripts.callers j (omega arith) (ltb-true j (length (script_names program)) exists)).unswept off
+    each_seat off (Marker j) exists = markers_sweep c j (first_world c) es history.enabled
+    each_seat off Host exists = scripts.host.unswept off
+
+    pub run_is_unswept : sweeps ≡ false → IsUnswept c es
+    run_is_unswept off = none_sweeps c (first_world c) es history.enabled (each_seat off)
