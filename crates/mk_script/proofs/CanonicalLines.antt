@@ -24,7 +24,7 @@ split_lines (item ∷ items) ws =
     refl
     ∙ ap (λ lines. line ∷ lines) (split_lines items ws.1)
 
-without_last : (lines : List (List ℕ)) → without_empty_last (lines ++ [] ∷ []) ≡ lines
+pub without_last : (lines : List (List ℕ)) → without_empty_last (lines ++ [] ∷ []) ≡ lines
 without_last [] = refl
 without_last (line ∷ []) = refl
 without_last (line ∷ next ∷ lines) = ap (λ rest. line ∷ rest) (without_last (next ∷ lines))

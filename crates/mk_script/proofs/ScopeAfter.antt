@@ -4,8 +4,8 @@ use Rattle.mk_script.proofs.Vocabulary.{At, Bool, IsPermutation, Item, List, ℕ
 use Rattle.mk_script.proofs.Vocabulary.{has_script, is_script, list_any, list_any-append, number_names, open_behind}
 use Rattle.mk_script.proofs.Vocabulary.{pointer_names, refl, reverse, script_names, sym, this_script, true, type_names}
 use Rattle.mk_script.proofs.Vocabulary.{[], ◌++◌, ◌||◌, ◌∙◌, ◌∷◌, ◌≡◌}
-use Rattle.mk_script.proofs.Pushed.{global_names-push, number_names-push, open_blocks-push, pointer_names-push}
-use Rattle.mk_script.proofs.Pushed.{script_names-push, this_script-push, type_names-push}
+use Rattle.mk_script.proofs.Pushed.{global_names-append, number_names-append, open_blocks-push, pointer_names-append}
+use Rattle.mk_script.proofs.Pushed.{script_names-append, this_script-push, type_names-append}
 use Rattle.mk_script.specs.ScopeOf.{IsScopeOf, has_lines}
 use Rattle.mk_script.specs.declared.items.Item.TheVariants.{Global, Heap, Num, Ptr, Script, TypeLine}
 use Rattle.mk_script.specs.{Scopes.is_instruction, declared.items.TypeWord.TypeWord, declared.scope.Scope.Scope}
@@ -59,12 +59,12 @@ pub kept : (set : List (List ℕ)) → IsPermutation (set ++ []) set
 kept set = rw (append-nil set) (IsPermutation-refl set)
 
 names_added : (names : List Item → List (List ℕ))
-    → ((before : List Item) (item : Item) → names (before ++ item ∷ []) ≡ names before ++ names (item ∷ []))
+    → ((items behind : List Item) → names (items ++ behind) ≡ names items ++ names behind)
     → (before : List Item) (item : Item) (set set' added : List (List ℕ)) → names (item ∷ []) ≡ added
     → IsPermutation (names before) set → IsPermutation (set ++ added) set'
     → IsPermutation (names (before ++ item ∷ [])) set'
-names_added names push before item set set' added are said more =
-    let names_are : names (before ++ item ∷ []) ≡ names before ++ added = cc (push before item, are) in
+names_added names append before item set set' added are said more =
+    let names_are : names (before ++ item ∷ []) ≡ names before ++ added = cc (append before (item ∷ []), are) in
     rw names_are (IsPermutation-trans (names before ++ added) (set ++ added) set'
     (IsPermutation-append_left added (names before) set said) more)
 
@@ -95,14 +95,14 @@ after_line old new before item types globals scripts pointers numbers scope adds
           ∙ sym (ap (list_any is_instruction) lines ∙ list_any-append is_instruction (this_script before) (item ∷ [])
           ∙ ap (λ some. list_any is_instruction (this_script before) || some)
           (or-false (is_instruction item) false refl));
-      types = names_added type_names type_names-push before item _ _ types adds.types_are scope.types types';
-      globals = names_added global_names global_names-push before item old.globals new.globals globals adds.globals_are
+      types = names_added type_names type_names-append before item _ _ types adds.types_are scope.types types';
+      globals = names_added global_names global_names-append before item old.globals new.globals globals adds.globals_are
           scope.globals globals';
-      scripts = names_added script_names script_names-push before item old.scripts new.scripts scripts adds.scripts_are
+      scripts = names_added script_names script_names-append before item old.scripts new.scripts scripts adds.scripts_are
           scope.scripts scripts';
-      pointers = rw lines (names_added pointer_names pointer_names-push (this_script before) item old.pointers
+      pointers = rw lines (names_added pointer_names pointer_names-append (this_script before) item old.pointers
           new.pointers pointers adds.pointers_are scope.pointers pointers');
-      numbers = rw lines (names_added number_names number_names-push (this_script before) item old.numbers new.numbers
+      numbers = rw lines (names_added number_names number_names-append (this_script before) item old.numbers new.numbers
           numbers adds.numbers_are scope.numbers numbers');
       blocks = blocks ∙ ap (λ open_ones. open_behind open_ones item) scope.blocks ∙ sym (open_blocks-push before item);
     }
@@ -123,12 +123,12 @@ after_script old new before item name is scope header script instruction types' 
       header = header ∙ has_lines-push before item;
       script = script ∙ sym (list_any-append is_script before (item ∷ []) ∙ rw is (or-true (has_script before)));
       instruction = instruction ∙ sym (ap (list_any is_instruction) lines);
-      types = rw types' (names_added type_names type_names-push before item old.types old.types [] adds.types_are
+      types = rw types' (names_added type_names type_names-append before item old.types old.types [] adds.types_are
           scope.types (kept old.types));
       globals = rw globals'
-          (names_added global_names global_names-push before item old.globals old.globals [] adds.globals_are
+          (names_added global_names global_names-append before item old.globals old.globals [] adds.globals_are
           scope.globals (kept old.globals));
-      scripts = names_added script_names script_names-push before item old.scripts new.scripts
+      scripts = names_added script_names script_names-append before item old.scripts new.scripts
           (name ∷ []) adds.scripts_are scope.scripts scripts';
       pointers = rw (lines, pointers') (IsPermutation-refl []);
       numbers = rw (lines, numbers') (IsPermutation-refl []);
