@@ -1,14 +1,39 @@
 -- The first fault, as lines are read one by one.
 use Rattle.std.proofs.{Common.IfOk, Common.cond, Common.count_by, lemmas.List.Recursion.is_count_by}
-use Rattle.mk_check.proofs.Vocabulary.{Err, Item, List, None, Ok, Option, Result, Some, TypeKind, ℕ, arith, around}
-use Rattle.mk_check.proofs.Vocabulary.{at_line, drop, drop_more, fault_from, get_or, is_script, length, refl}
-use Rattle.mk_check.proofs.Vocabulary.{script_names, take, take_more, typing_fault, ◌+◌, ◌<◌, ◌∙◌, ◌∷◌, ◌≡◌}
-use Rattle.mk_check.specs.Lookups.{Reading}
+use Rattle.mk_check.proofs.Vocabulary.{Bool, Err, Item, List, None, Ok, Option, Result, Some, TypeKind, ℕ, arith}
+use Rattle.mk_check.proofs.Vocabulary.{around, at_line, drop, drop_more, false, fault_from, get_or, is_script, is_some}
+use Rattle.mk_check.proofs.Vocabulary.{length, option_or, refl, script_names, take, take_more, true, typing_fault, ◌+◌, ◌<◌}
+use Rattle.mk_check.proofs.Vocabulary.{◌∙◌, ◌∷◌, ◌≡◌}
+use Rattle.mk_check.specs.{Lookups.Reading, Typing.TypingFault, Typing.unless}
 use Rattle.mk_script.specs.declared.items.Item.TheVariants.{Script}
 
 pub IfOk-map : {T E : Type 0} {P Q : T → Type 0} (r : Result T E) → ((x : T) → P x → Q x) → IfOk r P → IfOk r Q
 IfOk-map (Ok x) f p = f x p
 IfOk-map (Err e) f p = tt
+
+-- Tests that report nothing.
+
+pub or-None : {T : Type 0} (fault other : Option T) → option_or fault other ≡ None → (fault ≡ None) × (other ≡ None)
+or-None None other h = (refl, h)
+or-None (Some fault) other h = cc
+
+pub unless-None : (b : Bool) (fault : TypeKind) → unless b fault ≡ None → b ≡ true
+unless-None true fault h = refl
+unless-None false fault h = cc
+
+pub at_line-None : (line : ℕ) (fault : Option TypeKind) (other : Option TypingFault) → at_line line fault other ≡ None
+    → (fault ≡ None) × (other ≡ None)
+at_line-None line None other h = (refl, h)
+at_line-None line (Some fault) other h = cc
+
+-- a value, by its test
+pub record HasValue {X : Type 0} (o : Option X) : Type 0 where
+  pub value : X
+  pub is : o ≡ Some value
+
+pub has_value : {X : Type 0} (o : Option X) → is_some o ≡ true → HasValue o
+has_value None h = cc
+has_value (Some x) h = record { value = x; is = refl }
 
 module _ (program : List Item) (i : ℕ) (item : Item) (within : i < length program) (read : item ≡ get_or program i item)
     (reading : Reading) (at : reading ≡ record { program = program; count = i }) (behind : List Item)

@@ -4,7 +4,7 @@ use Rattle.mk_check.proofs.Vocabulary.{At, Bool, Err, Item, List, None, Ok, Opti
 use Rattle.mk_check.proofs.Vocabulary.{arith, false, false≢true, if◌then◌else◌, is_some, length, length-append}
 use Rattle.mk_check.proofs.Vocabulary.{length-replicate, option_map, refl, replicate, suc, sym, true, unwrap_or, []}
 use Rattle.mk_check.proofs.Vocabulary.{◌&&◌, ◌∙◌, ◌∷◌, ◌≡◌, ◌≤◌}
-use Rattle.mk_check.proofs.GrammarLemmas.{Err≢Ok, and-true, heap_line-item}
+use Rattle.mk_check.proofs.{GrammarLemmas.heap_line-item, GrammarLemmas.passed_then, Vocabulary.and_parts}
 use Rattle.mk_script.specs.Keywords.{has_word_count, keyword_of}
 use Rattle.mk_script.specs.Lines.{is_placed, line_item, other_line, placed_item}
 use Rattle.mk_script.specs.Operands.{at, field_of, fields_of, have_form, item_from, name, number, number_field, numbers}
@@ -63,7 +63,7 @@ fields-word (field ∷ fields) two forms =
     omega (
       arith,
       field-HasWord field
-          (and-true (is_some (field_of field)) (list_all (λ f. is_some (field_of f)) fields) forms).0,
+          (and_parts (is_some (field_of field)) (list_all (λ f. is_some (field_of f)) fields) forms).0,
       length-append (unwrap_or (field_of field) []) (fields_of fields),
     )
 
@@ -125,36 +125,29 @@ type_from : (found : Result (List ℕ) LineFault) (fields : List (List ℕ)) (t 
     → (found >>= (λ t'. Ok (TypeItem t' (fields_of fields)))) ≡ Ok (TypeItem t words) → fields_of fields ≡ words
 unfolding words_in
 type_from (Ok t') fields t words h = ap (words_in words) h
-type_from (Err fault) fields t words h = absurd (Err≢Ok fault (TypeItem t words) h)
+type_from (Err fault) fields t words h = cc
 
 form-word : (form : Keyword) (operands : List (List ℕ)) (t : List ℕ) (words : List TypeWord)
     → has_word_count form (length operands) ≡ true → have_form form operands ≡ true
     → item_from form operands ≡ Ok (TypeItem t words) → 1 ≤ length words
 unfolding item_from
-form-word TypeLine [] t words two forms h = absurd (Err≢Ok (Text TextKind.Word) (TypeItem t words) h)
+form-word TypeLine [] t words two forms h = cc
 form-word TypeLine (first ∷ fields) t words two forms h = grind (arith, type_from, fields-word)
 form-word form operands t words two forms h = absurd (false≢true (sym (other_form form operands refl) ∙ ap is_type h))
 
-if-Ok-both : {T E : Type 0} (b : Bool) (r : Result T E) (e : E) (x : T) → (if b then r else Err e) ≡ Ok x
-    → (b ≡ true) × (r ≡ Ok x)
-if-Ok-both true r e x h = (refl, h)
-if-Ok-both false r e x h = absurd (Err≢Ok e x h)
-
 placed-word : (before : List Item) (form : Option Keyword) (operands : List (List ℕ)) (t : List ℕ)
     (words : List TypeWord) → placed_item before form operands ≡ Ok (TypeItem t words) → 1 ≤ length words
-placed-word before None operands t words h = absurd (Err≢Ok (Text TextKind.Word) (TypeItem t words) h)
+placed-word before None operands t words h = cc
 placed-word before (Some form) operands t words h =
-    let both = if-Ok-both (has_word_count form (length operands) && have_form form operands && is_placed before form)
-    (item_from form operands) (Text TextKind.Word) (TypeItem t words) h in
-    let fits = and-true (has_word_count form (length operands)
-    && have_form form operands) (is_placed before form) both.0
-    in
-    let parts = and-true (has_word_count form (length operands)) (have_form form operands) fits.0 in
+    let both = passed_then (has_word_count form (length operands) && have_form form operands && is_placed before form) _
+    (item_from form operands) _ h in
+    let fits = and_parts (has_word_count form (length operands) && have_form form operands) _ both.0 in
+    let parts = and_parts (has_word_count form (length operands)) (have_form form operands) fits.0 in
     form-word form operands t words parts.0 parts.1 both.1
 
 other_line-word : (before : List Item) (words : List (List ℕ)) (t : List ℕ) (kinds : List TypeWord)
     → other_line before words ≡ Ok (TypeItem t kinds) → 1 ≤ length kinds
-other_line-word before [] t kinds h = absurd (Err≢Ok (Text TextKind.Word) (TypeItem t kinds) h)
+other_line-word before [] t kinds h = cc
 other_line-word before (word ∷ operands) t kinds h = placed-word before (keyword_of word) operands t kinds h
 
 -- a type that a line says has a word

@@ -47,13 +47,13 @@ pub record ServesMore (callers : ℕ) (new : List Flight) (k n : ℕ) (answers :
 
 -- the answers of a caller's among the calls
 
-among_more : (k : ℕ) (xs ys : List Decided) → answers_among k (xs ++ ys) ≡ answers_among k xs ++ answers_among k ys
+pub among_more : (k : ℕ) (xs ys : List Decided) → answers_among k (xs ++ ys) ≡ answers_among k xs ++ answers_among k ys
 among_more k xs ys = grind (arith, filter-append, map-append)
 
-same_number : (j : ℕ) → (j == j) ≡ true
+pub same_number : (j : ℕ) → (j == j) ≡ true
 same_number j = eq-eqb j j refl
 
-other_number : (j k : ℕ) → j ≢ k → (j == k) ≡ false
+pub other_number : (j k : ℕ) → j ≢ k → (j == k) ≡ false
 other_number j k ne = grind (arith, nat_tests)
 
 among_mine : (k : ℕ) (o : Op) (a : Option Answer) → answers_among k (entry_of k o a) ≡ as_list a
@@ -270,7 +270,7 @@ more_answers : (c : Config) (es : List Event) (e : Event) (k : ℕ)
     ++ (if is_same_seat (Caller k) e.seat then as_list (answer_decided c (left c es).now e) else [])
 more_answers c es e k = grind (arith, calls_more, among_more, event_among)
 
-more_ended : (es : List Event) (e : Event) (k : ℕ)
+pub more_ended : (es : List Event) (e : Event) (k : ℕ)
     → ended_calls k (es ++ e ∷ []) ≡ counted (ended_calls k es) (ends_call_of k e)
 more_ended es e k = grind (arith, sum_by_push, counts_more)
 

@@ -1,11 +1,12 @@
 -- What names stand for with one more line.
-use Rattle.std.proofs.{Common.Bor, Common.cond, lemmas.Bool.cases_Bool, lemmas.List.Sums.fold-append}
+use Rattle.std.proofs.{Common.Bor, Common.cond, lemmas.Bool.cases_Bool}
 use Rattle.std.specs.{Cmp.Lexicographic.nat_list_eq_equiv, Option.option_copied}
 use Rattle.mk_check.proofs.Vocabulary.{At, Bool, Err, Item, List, None, Ok, OnOk, Option, Result, Some, TypeWord, ℕ, ap}
 use Rattle.mk_check.proofs.Vocabulary.{append-nil, bytes_eq, bytes_eq-Decides, false, false≢true, first_at, global_type}
 use Rattle.mk_check.proofs.Vocabulary.{if◌then◌else◌, is_script, is_some, number_names, option_or, pointer_at, refl}
-use Rattle.mk_check.proofs.Vocabulary.{subst, sym, this_script, true, type_words, [], ⊎_elim, ◌++◌, ◌∙◌, ◌∷◌, ◌≡◌}
-use Rattle.mk_check.specs.{Lookups.lines_behind, declared.lookups.PointerRegister.PointerRegister}
+use Rattle.mk_check.proofs.Vocabulary.{subst, sym, true, type_words, [], ⊎_elim, ◌++◌, ◌∙◌, ◌∷◌, ◌≡◌}
+use Rattle.mk_check.specs.declared.lookups.PointerRegister.{PointerRegister}
+use Rattle.mk_script.proofs.Pushed.{number_names-append}
 use Rattle.mk_script.specs.declared.items.Item.TheVariants.{Global, Num, Ptr, Script, TypeLine}
 
 -- no value, by its test
@@ -90,12 +91,6 @@ pointer_at-append name (Ptr other at ∷ items) behind =
     (if-or (bytes_eq name other) at (pointer_at name items) (pointer_at name behind))
 pointer_at-append name (item ∷ items) behind = pointer_at-append name items behind
 
-pub number_names-append : (items behind : List Item)
-    → number_names (items ++ behind) ≡ number_names items ++ number_names behind
-number_names-append [] behind = refl
-number_names-append (Num name ∷ items) behind = ap (λ names. name ∷ names) (number_names-append items behind)
-number_names-append (item ∷ items) behind = number_names-append items behind
-
 -- Other lines declare no such name.
 
 none-of : {X : Type 0} (all before behind : Option X) → all ≡ option_or before behind → behind ≡ None → all ≡ before
@@ -150,8 +145,3 @@ is_script-other item differs = refl
 pub OnOk-map : {T E : Type 0} {P Q : Type 0} (r : Result T E) → (P → Q) → OnOk r P → OnOk r Q
 OnOk-map (Ok x) f p = f p
 OnOk-map (Err e) f p = tt
-
-pub this_script-push : (items : List Item) (item : Item)
-    → this_script (items ++ item ∷ []) ≡ lines_behind (this_script items) item
-this_script-push items item = fold-append (λ lines item. if is_script item then [] else lines ++ item ∷ []) [] items
-    (item ∷ [])

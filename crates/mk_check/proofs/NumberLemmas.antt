@@ -6,6 +6,7 @@ use Rattle.mk_check.proofs.Vocabulary.{kinds_among, length, length-append, map, 
 use Rattle.mk_check.proofs.Vocabulary.{refl, suc, sym, take, take_more, true, type_names, unwrap_or, [], ◌++◌, ◌+◌, ◌<◌}
 use Rattle.mk_check.proofs.Vocabulary.{◌∙◌, ◌∷◌, ◌≡◌}
 use Rattle.mk_check.specs.{Lookups.AddsFirst, Numbers.AreNumbers, Numbers.number_among}
+use Rattle.mk_script.proofs.Pushed.{global_names-append}
 use Rattle.mk_script.specs.declared.items.Item.TheVariants.{Global, TypeLine}
 
 place-step : (b : Bool) (o : Option ℕ) (n : ℕ)
@@ -35,12 +36,6 @@ number_among-push name (other ∷ others) last =
     ap (λ place. if bytes_eq name other then Some 0 else option_map (λ n. n + 1) place)
     (number_among-push name others last)
     ∙ number_among-step (bytes_eq name other) (bytes_eq name last) (number_among name others) (length others)
-
-pub type_names-append : (items behind : List Item)
-    → type_names (items ++ behind) ≡ type_names items ++ type_names behind
-type_names-append [] behind = refl
-type_names-append (TypeLine name words ∷ items) behind = ap (λ names. name ∷ names) (type_names-append items behind)
-type_names-append (item ∷ items) behind = type_names-append items behind
 
 pub type_names-push_other : (items : List Item) (item : Item)
     → ((name : List ℕ) (words : List TypeWord) → item ≡ TypeLine name words → ⊥)
@@ -93,13 +88,6 @@ module _ (types : List (List ℕ)) where
   length-kinds_among (TypeLine name words ∷ items) = ap suc (length-kinds_among items)
   length-kinds_among (item ∷ items) = length-kinds_among items
 
--- names of globals are no more with more lines
-pub length-global_names-append : (items behind : List Item)
-    → length (global_names (items ++ behind)) ≡ length (global_names items) + length (global_names behind)
-length-global_names-append [] behind = omega arith
-length-global_names-append (Global name ty ∷ items) behind = omega (arith, length-global_names-append items behind)
-length-global_names-append (item ∷ items) behind = length-global_names-append items behind
-
 -- one more line
 module _ (items : List Item) (i : ℕ) (item : Item) (within : i < length items) (read : item ≡ get_or items i item) where
   pub take-step : take (i + 1) items ≡ take i items ++ item ∷ []
@@ -115,7 +103,13 @@ module _ (items : List Item) (i : ℕ) (item : Item) (within : i < length items)
       ∙ ap (λ first. first ∷ drop (i + 1) items) (sym read)) in
       let split = ap (λ xs. length (global_names xs)) (parts
       ∙ ap (λ first. take i items ++ first ∷ drop (i + 1) items) is) in
-      omega (arith, split, length-global_names-append (take i items) (Global name ty ∷ drop (i + 1) items))
+      let rest = Global name ty ∷ drop (i + 1) items in
+      omega (
+        arith,
+        split,
+        ap length (global_names-append (take i items) rest),
+        length-append (global_names (take i items)) (global_names rest),
+      )
 
 -- one more name
 pub AreNumbers-push : {S : Type 0} (old new : HashMap (Bor (List ℕ)) ℕ S) (count : ℕ) (names : List (List ℕ))

@@ -4,6 +4,7 @@ use Rattle.mk_check.proofs.Vocabulary.{Around, At, Bool, Item, List, None, Optio
 use Rattle.mk_check.proofs.Vocabulary.{and_parts, ap, base_of, bytes_eq, bytes_eq-Decides, false, false≢true}
 use Rattle.mk_check.proofs.Vocabulary.{global_type, is_some, moved_by, option_map, pointer_at, refl, same_Some, sym}
 use Rattle.mk_check.proofs.Vocabulary.{true, type_words, typing_fault, word_among, ◌+◌, ◌==◌, ◌or◌, ◌∙◌, ◌≡◌}
+use Rattle.mk_check.proofs.FaultLemmas.{HasValue, has_value, or-None, unless-None}
 use Rattle.mk_check.specs.Typing.{base_of_global, inside_fault, is_base, is_number_word, kind_fault, number_word_fault}
 use Rattle.mk_check.specs.Typing.{place_behind, pointed_place, pointer_fault, pointer_word_fault, same_at, type_fault}
 use Rattle.mk_check.specs.Typing.{type_word_at, unless}
@@ -76,24 +77,6 @@ Says program script (Isnull number pointer) = IsDeclared script pointer
 Says program script (Show pointer) = IsDeclared script pointer
 Says program script item = Unit {0}
 
--- Tests that hold.
-
-or_none : (fault other : Option TypeKind) → (fault or other) ≡ None → (fault ≡ None) × (other ≡ None)
-or_none None other e = (refl, e)
-or_none (Some k) other e = cc
-
-unless_none : (test : Bool) (k : TypeKind) → unless test k ≡ None → test ≡ true
-unless_none true k e = refl
-unless_none false k e = cc
-
-record Is {X : Type 0} (o : Option X) : Type 0 where
-  value : X
-  is : o ≡ Some value
-
-is_some_one : {X : Type 0} (o : Option X) → is_some o ≡ true → Is o
-is_some_one None e = absurd (false≢true e)
-is_some_one (Some x) e = record { value = x; is = refl }
-
 record AreOne (s t : Option At) : Type 0 where
   at : At
   first : s ≡ Some at
@@ -123,7 +106,7 @@ module _ (a : Around) (script : List Item) (stays : (name : List ℕ) (at : At) 
     → pointer_at name script ≡ Some at) where
   declared : (pointer : List ℕ) → pointer_fault a pointer ≡ None → IsDeclared script pointer
   declared pointer e =
-      let found = is_some_one (pointer_at pointer a.script) (unless_none _ TypeKind.NoRegister e) in
+      let found = has_value (pointer_at pointer a.script) (unless-None _ TypeKind.NoRegister e) in
       record { at = found.value; declared = stays pointer found.value found.is }
 
   before : (pointer : List ℕ) (i : ℕ) (word : TypeWord) → type_word_at a (place_behind a pointer i) ≡ Some word
@@ -137,13 +120,13 @@ module _ (a : Around) (script : List Item) (stays : (name : List ℕ) (at : At) 
 
   before_number : (pointer : List ℕ) (i : ℕ) → number_word_fault a pointer i ≡ None
       → PointsBefore a.program script pointer i Number
-  before_number pointer i e = before pointer i Number (number_word _ (unless_none _ TypeKind.Kind e))
+  before_number pointer i e = before pointer i Number (number_word _ (unless-None _ TypeKind.Kind e))
 
   before_one : (pointer : List ℕ) (i : ℕ) (register : List ℕ) → pointer_word_fault a pointer i register ≡ None
       → PointsBeforeOne a.program script pointer i register
   before_one pointer i register e =
       let one = are_one (pointed_place (type_word_at a (place_behind a pointer i))) (pointer_at register a.script)
-      (unless_none _ TypeKind.Kind e) in
+      (unless-None _ TypeKind.Kind e) in
       record {
         at = one.at;
         word = before pointer i (Pointer one.at) (pointer_word _ one.at one.first);
@@ -154,11 +137,11 @@ module _ (a : Around) (script : List Item) (stays : (name : List ℕ) (at : At) 
       → kind_fault (pointer_at register a.script) (place_behind a pointer i) ≡ None
       → PointsBehind a.program script pointer i register
   behind pointer i register inside alike =
-      by_place (pointer_at pointer a.script) refl (is_some_one _ (unless_none _ TypeKind.Offset inside))
-      (are_one _ _ (unless_none _ TypeKind.Kind alike))
+      by_place (pointer_at pointer a.script) refl (has_value _ (unless-None _ TypeKind.Offset inside))
+      (are_one _ _ (unless-None _ TypeKind.Kind alike))
     where
       by_place : (place : Option At) → pointer_at pointer a.script ≡ place
-          → Is (type_word_at a (option_map (moved_by i) place))
+          → HasValue (type_word_at a (option_map (moved_by i) place))
           → AreOne (pointer_at register a.script) (option_map (moved_by i) place)
           → PointsBehind a.program script pointer i register
       by_place None is word one = let f = one.second in cc
@@ -173,14 +156,14 @@ module _ (a : Around) (script : List Item) (stays : (name : List ℕ) (at : At) 
   alike : (first second : List ℕ) → kind_fault (pointer_at first a.script) (pointer_at second a.script) ≡ None
       → AreAlike script first second
   alike first second e =
-      let one = are_one (pointer_at first a.script) (pointer_at second a.script) (unless_none _ TypeKind.Kind e) in
+      let one = are_one (pointer_at first a.script) (pointer_at second a.script) (unless-None _ TypeKind.Kind e) in
       record { at = one.at; first_is = stays first one.at one.first; second_is = stays second one.at one.second }
 
   to_type : (pointer ty : List ℕ) → type_fault a ty ≡ None
       → kind_fault (pointer_at pointer a.script) (Some (base_of ty)) ≡ None → PointsToType a.program script pointer ty
   to_type pointer ty e f =
-      let found = is_some_one (type_words ty a.program) (unless_none _ TypeKind.NoType e) in
-      let one = are_one (pointer_at pointer a.script) (Some (base_of ty)) (unless_none _ TypeKind.Kind f) in
+      let found = has_value (type_words ty a.program) (unless-None _ TypeKind.NoType e) in
+      let one = are_one (pointer_at pointer a.script) (Some (base_of ty)) (unless-None _ TypeKind.Kind f) in
       record {
         words = found.value;
         is = found.is;
@@ -191,7 +174,7 @@ module _ (a : Around) (script : List Item) (stays : (name : List ℕ) (at : At) 
       → PointsToGlobal a.program script pointer global
   to_global pointer global e =
       by_type (global_type global a.program) refl
-      (are_one (pointer_at pointer a.script) (base_of_global a global) (unless_none _ TypeKind.Kind e))
+      (are_one (pointer_at pointer a.script) (base_of_global a global) (unless-None _ TypeKind.Kind e))
     where
       by_type : (ty : Option (List ℕ)) → global_type global a.program ≡ ty
           → AreOne (pointer_at pointer a.script) (option_map base_of ty)
@@ -202,7 +185,7 @@ module _ (a : Around) (script : List Item) (stays : (name : List ℕ) (at : At) 
 
   to_base : (pointer : List ℕ) → unless (is_base (pointer_at pointer a.script)) TypeKind.InteriorFree ≡ None
       → PointsToBase script pointer
-  to_base pointer e = by_place (pointer_at pointer a.script) refl (unless_none _ TypeKind.InteriorFree e)
+  to_base pointer e = by_place (pointer_at pointer a.script) refl (unless-None _ TypeKind.InteriorFree e)
     where
       by_place : (place : Option At) → pointer_at pointer a.script ≡ place → is_base place ≡ true
           → PointsToBase script pointer
@@ -213,25 +196,25 @@ module _ (a : Around) (script : List Item) (stays : (name : List ℕ) (at : At) 
   pub says : (line : ℕ) (after : List Item) (item : Item) → typing_fault a line after item ≡ None
       → Says a.program script item
   says line after (New pointer ty) e =
-      let last = or_none _ _ e in to_type pointer ty (or_none (pointer_fault a pointer) _ last.0).1 last.1
-  says line after (Free pointer) e = to_base pointer (or_none (pointer_fault a pointer) _ e).1
-  says line after (Getn number pointer index) e = before_number pointer index (or_none _ _ e).1
-  says line after (Setn pointer index number) e = before_number pointer index (or_none _ _ e).1
-  says line after (Getp loaded pointer index) e = before_one pointer index loaded (or_none _ _ e).1
-  says line after (Setp pointer index stored) e = before_one pointer index stored (or_none _ _ e).1
+      let last = or-None _ _ e in to_type pointer ty (or-None (pointer_fault a pointer) _ last.0).1 last.1
+  says line after (Free pointer) e = to_base pointer (or-None (pointer_fault a pointer) _ e).1
+  says line after (Getn number pointer index) e = before_number pointer index (or-None _ _ e).1
+  says line after (Setn pointer index number) e = before_number pointer index (or-None _ _ e).1
+  says line after (Getp loaded pointer index) e = before_one pointer index loaded (or-None _ _ e).1
+  says line after (Setp pointer index stored) e = before_one pointer index stored (or-None _ _ e).1
   says line after (Casp number pointer index expected stored) e =
-      let last = or_none _ _ e in (
-        before_one pointer index expected (or_none _ _ last.0).1,
+      let last = or-None _ _ e in (
+        before_one pointer index expected (or-None _ _ last.0).1,
         before_one pointer index stored last.1,
       )
   says line after (Lea moved pointer index) e =
-      let last = or_none _ _ e in behind pointer index moved (or_none _ _ last.0).1 last.1
-  says line after (Move copied pointer) e = alike copied pointer (or_none _ _ e).1
+      let last = or-None _ _ e in behind pointer index moved (or-None _ _ last.0).1 last.1
+  says line after (Move copied pointer) e = alike copied pointer (or-None _ _ e).1
   says line after (Clear pointer) e = declared pointer e
-  says line after (Loadg loaded global) e = to_global loaded global (or_none _ _ e).1
-  says line after (Storeg stored global) e = to_global stored global (or_none _ _ e).1
+  says line after (Loadg loaded global) e = to_global loaded global (or-None _ _ e).1
+  says line after (Storeg stored global) e = to_global stored global (or-None _ _ e).1
   says line after (Same number first second) e =
-      let last = or_none _ _ e in (declared first (or_none _ _ last.0).1, declared second last.1)
-  says line after (Isnull number pointer) e = declared pointer (or_none _ _ e).1
+      let last = or-None _ _ e in (declared first (or-None _ _ last.0).1, declared second last.1)
+  says line after (Isnull number pointer) e = declared pointer (or-None _ _ e).1
   says line after (Show pointer) e = declared pointer e
   says line after item e = tt

@@ -2,15 +2,9 @@
 use Rattle.mk_check.proofs.Vocabulary.{At, Item, List, None, Option, Some, TypeKind, ℕ, ap, append_assoc, at_line}
 use Rattle.mk_check.proofs.Vocabulary.{before_next_script, fault_from, pointer_at, refl, script_from, script_of, suc}
 use Rattle.mk_check.proofs.Vocabulary.{sym, this_script, typing_fault, zero, [], ◌++◌, ◌+◌, ◌∷◌, ◌≡◌}
-use Rattle.mk_check.proofs.LookupLemmas.{pointer_at-append, this_script-push}
-use Rattle.mk_check.proofs.TypedLines.{Says, says}
+use Rattle.mk_check.proofs.{FaultLemmas.at_line-None, LookupLemmas.pointer_at-append, TypedLines.Says, TypedLines.says}
 use Rattle.mk_check.specs.{Blocks.AllFrom, Lookups.lines_behind, Typing.IsWellTyped, Typing.TypingFault}
-use Rattle.mk_script.specs.declared.items.Item.TheVariants.{Script}
-
-line_none : (line : ℕ) (fault : Option TypeKind) (other : Option TypingFault) → at_line line fault other ≡ None
-    → (fault ≡ None) × (other ≡ None)
-line_none line None other e = (refl, e)
-line_none line (Some k) other e = cc
+use Rattle.mk_script.{proofs.Pushed.this_script-push, specs.declared.items.Item.TheVariants.Script}
 
 -- what is declared before stays declared with more lines
 stays : (script before behind : List Item) → script ≡ before ++ behind → (name : List ℕ) (at : At)
@@ -21,7 +15,7 @@ module _ (program : List Item) where
   next_none : (before more : List Item) (line : ℕ) (item : Item) → fault_from program line before (item ∷ more) ≡ None
       → (typing_fault (record { program = program; script = this_script before }) line more item ≡ None)
       × (fault_from program (line + 1) (before ++ item ∷ []) more ≡ None)
-  next_none before more line item e = line_none line _ _ e
+  next_none before more line item e = at_line-None line _ _ e
 
   -- a line that is no script line, with the lines of its script around it
   more_lines : (script before more : List Item) (item : Item) → script ≡ this_script before ++ item ∷ more
