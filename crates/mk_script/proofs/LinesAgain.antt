@@ -53,14 +53,6 @@ placed_was before (Some k) operands line short e =
     let forms = and_parts _ _ fits.0 in
     (k, said k operands line short forms.0 forms.1 was.1, fits.1)
 
-placed_again : (before : List Item) (k : Keyword) (line : Item) (is : Printed k line) → is_placed before k ≡ true
-    → other_line before (words_of_item line) ≡ Ok line
-placed_again before k line is place =
-    ap (λ ws. other_line before ws) is.words
-    ∙ ap (λ form. placed_item before form is.operands) is.keyword
-    ∙ cond-true _ _ _ (and_from _ _ (and_from _ _ is.count is.formed) place)
-    ∙ is.reads
-
 other_was : (before : List Item) (words : List (List ℕ)) (line : Item) → IsShort line
     → other_line before words ≡ Ok line → (k : Keyword) × Printed k line × (is_placed before k ≡ true)
 other_was before [] line short e = no_item e
@@ -72,7 +64,10 @@ item_again [] words line short e = first_again words line e
 item_again (first ∷ before) words line short e =
     let was = other_was (first ∷ before) words line short e in
     record {
-      reads = placed_again (first ∷ before) was.0 line was.1 was.2;
+      reads = ap (λ ws. other_line (first ∷ before) ws) was.1.words
+          ∙ ap (λ form. placed_item (first ∷ before) form was.1.operands) was.1.keyword
+          ∙ cond-true _ _ _ (and_from _ _ (and_from _ _ was.1.count was.1.formed) was.2)
+          ∙ was.1.reads;
       apart = subst AreWords (sym was.1.words) was.1.apart;
     }
 
@@ -80,17 +75,11 @@ option_or_was : (first second : Option LineFault) → option_or first second ≡
 option_or_was None second e = e
 option_or_was (Some fault) second e = absurd cc
 
-at_most_was : (found greatest : ℕ) (limit : Which) → at_most found greatest limit ≡ None → found ≤ greatest
-at_most_was found greatest limit e = leb-true found greatest (cond_none (nat_le found greatest) _ e)
-
 is_short : (before : List Item) (line : Item) → limit_fault before line ≡ None → IsShort line
 is_short before (Item.TypeLine name words) e =
-    at_most_was _ 4096 Which.Words (option_or_was (at_most (length (type_names before) + 1) 64 Which.Types) _ e)
+    leb-true _ 4096 (cond_none (nat_le _ 4096) _
+        (option_or_was (at_most (length (type_names before) + 1) 64 Which.Types) _ e))
 is_short before line e = tt
-
-checked_again : (before : List Item) (line : Item) → is_twice before line ≡ false → limit_fault before line ≡ None
-    → ends_rightly (open_blocks before) line ≡ true → checked_item before line ≡ Ok line
-checked_again before line fresh within ends = rw (fresh, within, ends) refl
 
 pub line_again : (before : List Item) (words : List (List ℕ)) (line : Item) → line_of before words ≡ Ok line
     → (line_of before (words_of_item line) ≡ Ok line) × AreWords (words_of_item line)
@@ -98,6 +87,6 @@ line_again before words line e =
     let p = passed before words line e in
     let again = item_again before p.words line (is_short before line p.within) p.says in (
       then_again (line_item before (words_of_item line)) (checked_item before) line (Ok line) again.reads
-          (checked_again before line p.fresh p.within p.ends),
+          (rw (p.fresh, p.within, p.ends) refl),
       again.apart,
     )

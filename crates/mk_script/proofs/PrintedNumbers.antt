@@ -19,8 +19,7 @@ value_from-decimal n small = digits_value-decimal own n small
 -- no zero leads, but that of 0 itself
 leads_rightly : (n : ℕ) → n < 2 ^ 64
     → ((nat_eq (length (decimal n)) 1) || not (nat_eq (get_or (decimal n) 0 0) 48)) ≡ true
-leads_rightly zero small = let one = decimal_digit 0 (omega arith) in rw one
-leads_rightly (suc n) small = grind (arith, first_decimal, or_right, not_from_false, ne_eqb)
+leads_rightly x0 small = grind (arith, decimal_digit, first_decimal, or_right, not_from_false, ne_eqb)
 
 pub is_numeral-decimal : (n : ℕ) → n < 2 ^ 64 → is_numeral (decimal n) ≡ true
 is_numeral-decimal n small = grind (arith, and_from, all_ascii_digits-decimal, lt-ltb, decimal_nonempty, leads_rightly)

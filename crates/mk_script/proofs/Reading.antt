@@ -19,12 +19,10 @@ pub stops : (before : List Item) (line : List ℕ) (lines : List (List ℕ)) (nu
     → number ≡ length before + 1 → IsStopOfLine before (words_of_line line) found
     → stop_at number found ≢ TextStop.NoMemory
     → items_behind (line ∷ lines) before ≡ Err (stop_at number found)
-stops before line lines number (Fault fault) counts is memory = cc
-stops before line lines number NoMemory counts is memory = absurd (memory refl)
+stops before line lines number x4 counts is memory = grind arith
 
 pub from_first : (lines : List (List ℕ)) → 0 < length lines → items_of_lines lines ≡ items_behind lines []
-from_first [] some = absurd (omega arith)
-from_first (line ∷ lines) some = refl
+from_first x0 some = grind arith
 
 -- the same, along the lines of a text
 at_line : (lines : List (Bor (List ℕ))) (i : ℕ) (before : List Item) (d : Bor (List ℕ)) → i < length lines
@@ -58,12 +56,10 @@ pub ended_well : {A : Type 0} (view : A
     → List Item) (result : Result A TextStop) (expected found : Result (List Item) TextStop) → expected ≡ found
     → MatchResult result (λ kept. found ≡ Ok (view kept)) (λ stop. found ≡ Err stop)
     → IfOk result (λ kept. expected ≡ Ok (view kept))
-ended_well view (Ok kept) expected found is ended = is ∙ ended
-ended_well view (Err stop) expected found is ended = tt
+ended_well view x1 expected found is ended = grind arith
 
 pub ended_badly : {A : Type 0} (view : A
     → List Item) (result : Result A TextStop) (expected found : Result (List Item) TextStop) → expected ≡ found
     → MatchResult result (λ kept. found ≡ Ok (view kept)) (λ stop. found ≡ Err stop)
     → IfErr result (λ found_stop. found_stop ≢ TextStop.NoMemory → expected ≡ Err found_stop)
-ended_badly view (Ok kept) expected found is ended = tt
-ended_badly view (Err stop) expected found is ended = λ memory. is ∙ ended
+ended_badly view x1 expected found is ended = grind arith

@@ -14,11 +14,6 @@ pub numbers_before-append : (count : ℕ) (fields : List (List ℕ))
 numbers_before-append zero fields = refl
 numbers_before-append (suc more) fields = refl
 
-pub spaced_words-numbers_before : (count : ℕ) (fields : List (List ℕ))
-    → spaced_words (numbers_before count fields) ≡ spaced_words (numbers_before count []) ++ spaced_words fields
-spaced_words-numbers_before count fields = ap spaced_words (numbers_before-append count fields)
-    ∙ spaced_words-append (numbers_before count []) fields
-
 -- a line is its words with spaces between them, and a newline
 pub line_text-joined : (words : List (List ℕ)) → line_text words ≡ joined_words words ++ codes "\n"
 line_text-joined [] = refl
@@ -41,4 +36,5 @@ pub pointer_behind : (p q r s : List ℕ) (count : ℕ) (at : At) (fields : List
     → q ≡ p ++ spaced_words (numbers_before count []) → r ≡ q ++ (codes " " ++ codes "p:") → s ≡ r ++ at_text at
     → p ++ spaced_words (numbers_before count ((codes "p:" ++ at_text at) ∷ fields)) ≡ s ++ spaced_words fields
 pointer_behind p q r s count at fields e f g =
-    rw (g, f, e, spaced_words-numbers_before count ((codes "p:" ++ at_text at) ∷ fields)) (simp append_assoc)
+    rw (g, f, e, ap spaced_words (numbers_before-append count ((codes "p:" ++ at_text at) ∷ fields))
+        ∙ spaced_words-append (numbers_before count []) ((codes "p:" ++ at_text at) ∷ fields)) (simp append_assoc)

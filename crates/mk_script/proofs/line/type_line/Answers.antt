@@ -20,8 +20,4 @@ returns c = λ before scope placed.
     let fields = texts_of c.args.fields.now in
     let some : 0 < length fields = grind (arith, nat_tests, length-map c.args.fields.now (λ text. text.now)) in
     let formed : are_fields fields ≡ true = grind arith in
-    let is = placed_type before c.args.word.now fields some placed formed ∙ named_type c.args.word.now fields in
-    let named = is ∙ ap (λ found. found >>= (λ t. Ok (TypeLine t (fields_of fields)))) (sym c.name.ensures
-    ∙ c.in_ok-name.was) in
-    subst (λ found. Gives (checked_behind before found) c.checked_type.result) (sym named)
-    (c.checked_type.ensures before scope)
+    grind (arith, placed_type, named_type, Gives)
