@@ -13,8 +13,7 @@ open_is b false e f = refl
 open_is b true e f = cc
 
 pub ends_open : (items : List Item) (some : Bool) (line : ℕ) → some ≡ not (has_none (open_blocks items)) → some ≡ true
-    → line ≡ length items
-    → at_end items ≡ Err (Text line End)
+    → line ≡ length items → at_end items ≡ Err (Text line End)
 ends_open items some line e t l = rw (open_is some (has_none (open_blocks items)) e t, l) refl
 
 pub ends_without : (items : List Item) (some script : Bool) (line : ℕ) → some ≡ not (has_none (open_blocks items))
@@ -22,8 +21,7 @@ pub ends_without : (items : List Item) (some script : Bool) (line : ℕ) → som
     → script ≡ has_script items → script ≡ false → line ≡ length items → at_end items ≡ Err (Limit line Scripts 0)
 ends_without items some script line e t s f l = rw (
   closed_is some (has_none (open_blocks items)) e t,
-  sym s
-      ∙ f,
+  sym s ∙ f,
   l,
 ) refl
 

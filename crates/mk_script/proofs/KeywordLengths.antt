@@ -7,8 +7,7 @@ use Rattle.mk_script.specs.Keywords.{keyword_among, keywords}
 
 -- words of different lengths differ
 differ : (word other : List ℕ) → (length other == length word) ≡ false → bytes_eq word other ≡ false
-differ word other apart = ⊎_elim
-    (λ (same : bytes_eq word other ≡ true).
+differ word other apart = ⊎_elim (λ (same : bytes_eq word other ≡ true).
     absurd (false≢true (sym apart ∙ eq-eqb (length other) (length word)
     (sym (ap length ((bytes_eq-Decides word other).0 same))))))
     (λ (is : bytes_eq word other ≡ false). is) (cases_Bool (bytes_eq word other))

@@ -3,7 +3,7 @@ use Rattle.std.proofs.lemmas.List.Elements.{All-append, All-cons, All-nil, All-w
 use Rattle.std.proofs.lemmas.List.Splits.{slice_split_at, slice_split_none}
 use Rattle.std.proofs.{Common.ltb-true, Common.nat_lt, Common.true≢false, lemmas.Fmt.decimal_nonempty}
 use Rattle.std.proofs.{lemmas.List.Folds.list_all-append, lemmas.List.Sums.AllPass-from_list_all}
-use Rattle.std.specs.{Char.is_ascii_digit, List.All, List.slice_split}
+use Rattle.std.specs.List.{All, slice_split}
 use Rattle.mk_script.proofs.Vocabulary.{Bool, List, ℕ, all_ascii_digits, and_from, and_parts, ap, append-nil, arith}
 use Rattle.mk_script.proofs.Vocabulary.{cond-true, decimal, false, filter, is_empty, joined_words, length}
 use Rattle.mk_script.proofs.Vocabulary.{length-append, list_all, lt-ltb, nat_eq, nat_tests, not, refl, spaced_words}

@@ -1,10 +1,10 @@
 -- The line that said an item is said again by the item's own words.
 use Rattle.std.{proofs.Common.leb-true, specs.Option.option_or}
 use Rattle.mk_script.proofs.Vocabulary.{Bool, Err, Item, Keyword, LineFault, List, None, Ok, Option, Result, Some, ℕ}
-use Rattle.mk_script.proofs.Vocabulary.{and_from, and_parts, ap, bytes_eq, codes, cond, cond-true, ends_rightly, false}
-use Rattle.mk_script.proofs.Vocabulary.{has_word_count, have_form, is_placed, is_twice, item_from, keyword_of, length}
-use Rattle.mk_script.proofs.Vocabulary.{line_of, nat_le, open_blocks, refl, subst, sym, true, type_names, words_of_item}
-use Rattle.mk_script.proofs.Vocabulary.{[], ◌&&◌, ◌+◌, ◌∙◌, ◌∷◌, ◌≡◌, ◌≤◌}
+use Rattle.mk_script.proofs.Vocabulary.{and_from, and_parts, ap, bytes_eq, codes, cond, cond-true, false}
+use Rattle.mk_script.proofs.Vocabulary.{has_word_count, have_form, is_placed, item_from, keyword_of, length, line_of}
+use Rattle.mk_script.proofs.Vocabulary.{nat_le, refl, subst, sym, true, type_names, words_of_item, [], ◌&&◌, ◌+◌, ◌∙◌}
+use Rattle.mk_script.proofs.Vocabulary.{◌∷◌, ◌≡◌}
 use Rattle.mk_script.proofs.PrintedForms.{IsShort, read_number, said}
 use Rattle.mk_script.proofs.{LineWords.AreWords, LineWords.is_word-decimal, PassedLines.passed, PrintedOperands.Printed}
 use Rattle.mk_script.proofs.{PrintedOperands.no_item, Said.is_this, Said.then_again, Said.with_number}
@@ -30,8 +30,7 @@ cond_none false x e = absurd cc
 heap_again : (line : Item) (operands : List (List ℕ)) → item_from Keyword.Heap operands ≡ Ok line → IsAgain [] line
 unfolding item_from
 heap_again line (a ∷ b ∷ []) e =
-    with_number a e (λ pages p e. with_number b e (λ resident q e.
-    is_this e (IsAgain []) (record {
+    with_number a e (λ pages p e. with_number b e (λ resident q e. is_this e (IsAgain []) (record {
       reads = read_number pages p _ (read_number resident q _ refl);
       apart = (refl, (is_word-decimal pages p, (is_word-decimal resident q, tt)));
     })))
@@ -66,8 +65,7 @@ item_again (first ∷ before) words line short e =
     record {
       reads = ap (λ ws. other_line (first ∷ before) ws) was.1.words
           ∙ ap (λ form. placed_item (first ∷ before) form was.1.operands) was.1.keyword
-          ∙ cond-true _ _ _ (and_from _ _ (and_from _ _ was.1.count was.1.formed) was.2)
-          ∙ was.1.reads;
+          ∙ cond-true _ _ _ (and_from _ _ (and_from _ _ was.1.count was.1.formed) was.2) ∙ was.1.reads;
       apart = subst AreWords (sym was.1.words) was.1.apart;
     }
 
@@ -78,7 +76,7 @@ option_or_was (Some fault) second e = absurd cc
 is_short : (before : List Item) (line : Item) → limit_fault before line ≡ None → IsShort line
 is_short before (Item.TypeLine name words) e =
     leb-true _ 4096 (cond_none (nat_le _ 4096) _
-        (option_or_was (at_most (length (type_names before) + 1) 64 Which.Types) _ e))
+    (option_or_was (at_most (length (type_names before) + 1) 64 Which.Types) _ e))
 is_short before line e = tt
 
 pub line_again : (before : List Item) (words : List (List ℕ)) (line : Item) → line_of before words ≡ Ok line

@@ -9,8 +9,7 @@ pub among : (name : List ℕ) (names set : List (List ℕ)) → IsPermutation na
 among name names set same = sym (list_any-IsPermutation (bytes_eq name) names set same)
 
 pub among_both : (name : List ℕ) (names set others other_set : List (List ℕ)) → IsPermutation names set
-    → IsPermutation others other_set
-    → (is_among name set || is_among name other_set) ≡ is_among name (names ++ others)
+    → IsPermutation others other_set → (is_among name set || is_among name other_set) ≡ is_among name (names ++ others)
 among_both name names set others other_set same same' =
     cc (among name names set same, among name others other_set same', list_any-append (bytes_eq name) names others)
 

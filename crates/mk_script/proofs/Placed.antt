@@ -2,8 +2,8 @@
 use Rattle.std.proofs.Math.Bool.{and-false}
 use Rattle.mk_script.proofs.Vocabulary.{Bool, Err, Item, Keyword, LineFault, List, Ok, Result, Some, ℕ, are_fields}
 use Rattle.mk_script.proofs.Vocabulary.{arith, false, fields_of, has_word_count, have_form, if◌then◌else◌, is_placed}
-use Rattle.mk_script.proofs.Vocabulary.{item_from, le-leb, length, name, refl, sym, true, [], ◌&&◌, ◌<◌, ◌>>=◌, ◌∷◌}
-use Rattle.mk_script.proofs.Vocabulary.{◌≡◌, ◌≢◌}
+use Rattle.mk_script.proofs.Vocabulary.{item_from, le-leb, length, name, refl, true, [], ◌&&◌, ◌<◌, ◌>>=◌, ◌∷◌, ◌≡◌}
+use Rattle.mk_script.proofs.Vocabulary.{◌≢◌}
 use Rattle.mk_script.specs.Lines.{placed_item}
 use Rattle.mk_script.specs.declared.keywords.Keyword.TheVariants.{Add, Casp, Clear, Const, Else, End, Free, Getn, Getp}
 use Rattle.mk_script.specs.declared.keywords.Keyword.TheVariants.{Global, Heap, If, Isnull, Lea, Loadg, Move, New, Num}

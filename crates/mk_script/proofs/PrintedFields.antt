@@ -4,11 +4,11 @@ use Rattle.std.proofs.{Common.eqb-true, Common.inl, Common.inr, Common.leb-true,
 use Rattle.std.proofs.{lemmas.Bool.cond_both, lemmas.List.length-replicate, lemmas.List.replicate_more}
 use Rattle.std.specs.Option.{is_some, option_and_then, option_map, unwrap_or}
 use Rattle.std.specs.{List.All, Result.result_ok}
-use Rattle.mk_script.proofs.Vocabulary.{At, Bool, Err, LineFault, List, None, Ok, Option, Result, Some, ℕ, and_from}
+use Rattle.mk_script.proofs.Vocabulary.{At, Bool, LineFault, List, None, Ok, Option, Result, Some, ℕ, and_from}
 use Rattle.mk_script.proofs.Vocabulary.{and_parts, append_assoc, arith, at, at_text, codes, cond, cond-true, decimal}
-use Rattle.mk_script.proofs.Vocabulary.{false, fields_behind, fields_of, le-leb, length, length-append, list_all}
-use Rattle.mk_script.proofs.Vocabulary.{nat_eq, nat_le, number_of_word, refl, replicate, subst, suc, sym, true, zero}
-use Rattle.mk_script.proofs.Vocabulary.{[], ◌++◌, ◌+◌, ◌<◌, ◌^◌, ◌∷◌, ◌≡◌}
+use Rattle.mk_script.proofs.Vocabulary.{fields_behind, fields_of, le-leb, length, length-append, list_all, nat_eq}
+use Rattle.mk_script.proofs.Vocabulary.{nat_le, number_of_word, refl, replicate, subst, suc, sym, true, zero, [], ◌++◌}
+use Rattle.mk_script.proofs.Vocabulary.{◌+◌, ◌<◌, ◌^◌, ◌∷◌, ◌≡◌}
 use Rattle.mk_script.proofs.LineWords.{AreWords, is_solid-decimal, is_word, is_word-append}
 use Rattle.mk_script.proofs.Said.{IsPlace, at_again, at_was, is_solid-at}
 use Rattle.mk_script.proofs.PrintedNumbers.{number_of_word-decimal}
@@ -49,10 +49,9 @@ numbers_before_again zero fields words small fs = fs
 numbers_before_again (suc count) fields words small fs =
     one_more (numbers_text (suc count)) fields (replicate (suc count) Number) words
     (cond_both (nat_eq (suc count) 1) (codes "n") (codes "n*" ++ decimal (suc count))
-        (λ field. IsFieldOf field (replicate (suc count) Number))
-        (λ one. subst (λ k. IsFieldOf (codes "n") (replicate k Number)) (sym (eqb-true (suc count) 1 one))
-        (record { says = refl; word = refl }))
-        (λ more. many_numbers (suc count) (omega arith) small)) fs
+    (λ field. IsFieldOf field (replicate (suc count) Number))
+    (λ one. subst (λ k. IsFieldOf (codes "n") (replicate k Number)) (sym (eqb-true (suc count) 1 one))
+    (record { says = refl; word = refl })) (λ more. many_numbers (suc count) (omega arith) small)) fs
 
 pub fields_again : (words : List TypeWord) (count : ℕ) → All IsTypeWord words → count + length words < 2 ^ 64
     → AreFieldsOf (fields_behind words count) (replicate count Number ++ words)
@@ -68,7 +67,7 @@ fields_again (Pointer a ∷ words) count all small =
     let place : IsPlace a = All-head IsTypeWord (Pointer a) words all in
     numbers_before_again count ((codes "p:" ++ at_text a) ∷ fields_behind words 0) (Pointer a ∷ words) (omega arith)
     (one_more (codes "p:" ++ at_text a) (fields_behind words 0) (Pointer a ∷ []) words (
-        grind (arith, at_again, is_word-append, is_solid-at)) later)
+    grind (arith, at_again, is_word-append, is_solid-at)) later)
 
 numbers_before_some : (count : ℕ) (fields : List (List ℕ)) → 0 < count + length fields
     → 0 < length (numbers_before count fields)

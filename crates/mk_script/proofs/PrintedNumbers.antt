@@ -3,8 +3,8 @@ use Rattle.std.proofs.lemmas.Fmt.{decimal_digit, decimal_nonempty, digits_decima
 use Rattle.std.proofs.lemmas.Str.Parse.{IsNumeralModel, numerals_by_fold}
 use Rattle.std.proofs.{Common.ne_eqb, lemmas.Bool.not_from_false, lemmas.Bool.or_right, lemmas.Grind.common_steps}
 use Rattle.mk_script.proofs.Vocabulary.{List, Some, ℕ, all_ascii_digits, and_from, arith, cond-true, decimal, get_or}
-use Rattle.mk_script.proofs.Vocabulary.{length, lt-ltb, nat_eq, not, number_of_word, rules, suc, true, value_from, zero}
-use Rattle.mk_script.proofs.Vocabulary.{◌<◌, ◌^◌, ◌||◌, ◌≡◌}
+use Rattle.mk_script.proofs.Vocabulary.{length, lt-ltb, nat_eq, not, number_of_word, rules, true, value_from, ◌<◌, ◌^◌}
+use Rattle.mk_script.proofs.Vocabulary.{◌||◌, ◌≡◌}
 use Rattle.mk_script.specs.Names.{is_numeral}
 
 own : IsNumeralModel (λ ds. all_ascii_digits ds ≡ true) (value_from 0)

@@ -16,23 +16,19 @@ contradicts false a b = cc
 put : {A : Type 0} (text : A → List ℕ) (before after : List A) (key : A) (added : Bool)
     → added ≡ not (list_any (λ other. bytes_eq (text key) (text other)) before)
     → MatchBool added (IsPermutation (key ∷ before) after) (after ≡ before)
-    → is_among (text key) (map text before) ≡ false
-    → IsPermutation (map text before ++ text key ∷ []) (map text after)
+    → is_among (text key) (map text before) ≡ false → IsPermutation (map text before ++ text key ∷ []) (map text after)
 put text before after key true is_new puts absent =
     IsPermutation-trans (map text before ++ text key ∷ []) (text key ∷ map text before) (map text after)
-    (IsPermutation-to_front (map text before) (text key))
-    (IsPermutation-map text (key ∷ before) after puts)
+    (IsPermutation-to_front (map text before) (text key)) (IsPermutation-map text (key ∷ before) after puts)
 put text before after key false is_new puts absent =
     absurd (contradicts (list_any (λ other. bytes_eq (text key) (text other)) before) is_new
     (sym (list_any-map (bytes_eq (text key)) text before) ∙ absent))
 
 -- the same, at a name that the key's text is, and at the set's view
 pub puts_name : {A : Type 0} (text : A → List ℕ) (before after : List A) (key : A) (added : Bool) (name : List ℕ)
-    (names : List (List ℕ))
-    → text key ≡ name → map text before ≡ names
+    (names : List (List ℕ)) → text key ≡ name → map text before ≡ names
     → added ≡ not (list_any (λ other. bytes_eq (text key) (text other)) before)
-    → MatchBool added (IsPermutation (key ∷ before) after) (after ≡ before)
-    → is_among name names ≡ false
+    → MatchBool added (IsPermutation (key ∷ before) after) (after ≡ before) → is_among name names ≡ false
     → IsPermutation (names ++ name ∷ []) (map text after)
 puts_name text before after key added name names name_is names_are is_new puts absent =
     rw (← name_is, ← names_are) (put text before after key added is_new puts (rw (name_is, names_are) absent))

@@ -2,11 +2,10 @@
 use Rattle.std.proofs.Common.{drop-drop, drop_at, inl, inr, ne_eqb, ok_or, one-add, take_at}
 use Rattle.std.proofs.lemmas.Bool.{cases_cond, cond-false, cond_both, not_from_false, or_from, or_right}
 use Rattle.std.specs.List.{after_first, before_first, position_or_len}
-use Rattle.mk_script.proofs.Vocabulary.{At, Bool, Err, LineFault, List, None, Ok, Option, Result, Some, ℕ, and_from}
+use Rattle.mk_script.proofs.Vocabulary.{At, Bool, LineFault, List, None, Ok, Option, Result, Some, ℕ, and_from}
 use Rattle.mk_script.proofs.Vocabulary.{and_parts, ap, arith, at, at_text, codes, cond, cond-true, decimal, false}
 use Rattle.mk_script.proofs.Vocabulary.{length, list_all, list_any, list_any-append, name, nat_tests, number_of_word}
-use Rattle.mk_script.proofs.Vocabulary.{refl, subst, suc, sym, true, zero, [], ◌++◌, ◌+◌, ◌<◌, ◌>>=◌, ◌^◌, ◌∙◌, ◌∷◌}
-use Rattle.mk_script.proofs.Vocabulary.{◌≡◌}
+use Rattle.mk_script.proofs.Vocabulary.{refl, subst, sym, true, [], ◌++◌, ◌+◌, ◌<◌, ◌>>=◌, ◌^◌, ◌∙◌, ◌∷◌, ◌≡◌}
 use Rattle.mk_script.proofs.LineWords.{is_solid, is_solid-append, is_solid-decimal, is_solid-names, is_word}
 use Rattle.mk_script.proofs.LineWords.{is_word-append}
 use Rattle.mk_script.proofs.PrintedNumbers.{number_of_word-below, number_of_word-decimal}
@@ -110,14 +109,12 @@ pub is_this : {A : Type 0} {x y : A} → ◌≡◌ {A = Result A LineFault} (Ok 
 is_this {x} {y} e P p = let same : x ≡ y = cc in subst P same p
 
 pub at_was : (w : List ℕ) (a : At) → at w ≡ Ok a → IsPlace a
-at_was w a e =
-    elim (cases_cond (list_any is_plus w) _ _ (Ok a) (sym e)) [
-      | inl h ↦ with_name (before_first is_plus w) (sym h)
-          (λ n named rest. with_number (after_first is_plus w) rest
-          (λ k small done. is_this done IsPlace (record { named = named; small = small })))
-      | inr h ↦ with_name w (sym h)
-          (λ n named done. is_this done IsPlace (record { named = named; small = omega arith }))
-    ]
+at_was w a e = elim (cases_cond (list_any is_plus w) _ _ (Ok a) (sym e)) [
+  | inl h ↦ with_name (before_first is_plus w) (sym h) (λ n named rest. with_number (after_first is_plus w) rest
+      (λ k small done. is_this done IsPlace (record { named = named; small = small })))
+  | inr h ↦ with_name w (sym h)
+      (λ n named done. is_this done IsPlace (record { named = named; small = omega arith }))
+]
 
 pub with_at : {A P : Type 0} (w : List ℕ) {f : At → Result A LineFault} {y : A} → (at w >>= f) ≡ Ok y
     → ((a : At) → IsPlace a → f a ≡ Ok y → P) → P

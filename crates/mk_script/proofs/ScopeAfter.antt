@@ -81,15 +81,13 @@ pub after_line : (old new : Scope) (before : List Item) (item : Item)
     → IsPermutation (old.types ++ types) new.types → IsPermutation (old.globals ++ globals) new.globals
     → IsPermutation (old.scripts ++ scripts) new.scripts
     → IsPermutation (old.pointers ++ pointers) new.pointers → IsPermutation (old.numbers ++ numbers) new.numbers
-    → reverse new.blocks.items ≡ open_behind (reverse old.blocks.items) item
-    → IsScopeOf new (before ++ item ∷ [])
+    → reverse new.blocks.items ≡ open_behind (reverse old.blocks.items) item → IsScopeOf new (before ++ item ∷ [])
 after_line old new before item types globals scripts pointers numbers scope adds line header script instruction types'
     globals' scripts' pointers' numbers' blocks =
     let lines = this_script-line before item line in
     record {
       header = header ∙ has_lines-push before item;
-      script = script ∙ scope.script
-          ∙ sym (list_any-append is_script before (item ∷ [])
+      script = script ∙ scope.script ∙ sym (list_any-append is_script before (item ∷ [])
           ∙ or-false (has_script before) (is_script item || false) (rw line refl));
       instruction = instruction ∙ ap (λ some. some || is_instruction item) scope.instruction
           ∙ sym (ap (list_any is_instruction) lines ∙ list_any-append is_instruction (this_script before) (item ∷ [])
@@ -109,11 +107,9 @@ after_line old new before item types globals scripts pointers numbers scope adds
 
 -- a script's first line
 pub after_script : (old new : Scope) (before : List Item) (item : Item) (name : List ℕ) → item ≡ Script name
-    → IsScopeOf old before
-    → new.has_header ≡ true → new.has_script ≡ true → new.has_instruction ≡ false
+    → IsScopeOf old before → new.has_header ≡ true → new.has_script ≡ true → new.has_instruction ≡ false
     → new.types ≡ old.types → new.globals ≡ old.globals → IsPermutation (old.scripts ++ name ∷ []) new.scripts
-    → new.pointers ≡ [] → new.numbers ≡ []
-    → reverse new.blocks.items ≡ open_behind (reverse old.blocks.items) item
+    → new.pointers ≡ [] → new.numbers ≡ [] → reverse new.blocks.items ≡ open_behind (reverse old.blocks.items) item
     → IsScopeOf new (before ++ item ∷ [])
 after_script old new before item name is scope header script instruction types' globals' scripts' pointers' numbers'
     blocks =

@@ -36,5 +36,10 @@ pub pointer_behind : (p q r s : List ℕ) (count : ℕ) (at : At) (fields : List
     → q ≡ p ++ spaced_words (numbers_before count []) → r ≡ q ++ (codes " " ++ codes "p:") → s ≡ r ++ at_text at
     → p ++ spaced_words (numbers_before count ((codes "p:" ++ at_text at) ∷ fields)) ≡ s ++ spaced_words fields
 pointer_behind p q r s count at fields e f g =
-    rw (g, f, e, ap spaced_words (numbers_before-append count ((codes "p:" ++ at_text at) ∷ fields))
-        ∙ spaced_words-append (numbers_before count []) ((codes "p:" ++ at_text at) ∷ fields)) (simp append_assoc)
+    rw (
+      g,
+      f,
+      e,
+      ap spaced_words (numbers_before-append count ((codes "p:" ++ at_text at) ∷ fields))
+          ∙ spaced_words-append (numbers_before count []) ((codes "p:" ++ at_text at) ∷ fields),
+    ) (simp append_assoc)
