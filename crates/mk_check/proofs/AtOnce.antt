@@ -80,11 +80,7 @@ module _ {s : FeedState} {t : Place} {a : Answer} (is : IsAnsweredAtOnce s t a) 
 
   pub feeds_at_once : IsFeed (record { nodes = s.nodes; place = t })
   feeds_at_once = record {
-    stop = record {
-      within = is.behind.within;
-      fits = is.behind.fits is.feed.stop.fits;
-      stops = is.behind.at;
-    };
+    stop = record { within = is.behind.within; fits = is.behind.fits is.feed.stop.fits; stops = is.behind.at };
     some = record {
       program = is.feed.some.program;
       k = is.feed.some.k;

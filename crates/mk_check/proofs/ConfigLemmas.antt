@@ -1,20 +1,19 @@
 -- The configuration of a well typed program of some text is within its limits.
 use Rattle.std.proofs.{Common.add-one, lemmas.List.Elements.All-cons, lemmas.List.Elements.All-nil}
 use Rattle.mk_check.proofs.Vocabulary.{All, ArePassed, Around, At, Bool, Config, Item, Kind, List, None, Option, Some}
-use Rattle.mk_check.proofs.Vocabulary.{TypeKind, TypeWord, Which, ℕ, ap, arith, at_line, bytes_eq, false, false≢true}
-use Rattle.mk_check.proofs.Vocabulary.{fault_from, globals_among, globals_of, if◌then◌else◌, is_some, kind_of}
-use Rattle.mk_check.proofs.Vocabulary.{kinds_among, kinds_of, length, length-map, map, number_of_name, pages_of, refl}
-use Rattle.mk_check.proofs.Vocabulary.{resident_of, script_names, slice_get, slice_get_within, sym, this_script, true}
-use Rattle.mk_check.proofs.Vocabulary.{type_names, type_words, types_of, typing_fault, word_among, [], ◌++◌, ◌+◌, ◌<◌}
-use Rattle.mk_check.proofs.Vocabulary.{◌or◌, ◌∷◌, ◌≡◌, ◌≤◌}
+use Rattle.mk_check.proofs.Vocabulary.{TypeWord, Which, ℕ, ap, arith, bytes_eq, false≢true, fault_from, globals_among}
+use Rattle.mk_check.proofs.Vocabulary.{globals_of, if◌then◌else◌, is_some, kind_of, kinds_among, kinds_of, length}
+use Rattle.mk_check.proofs.Vocabulary.{length-map, map, number_of_name, pages_of, refl, resident_of, script_names}
+use Rattle.mk_check.proofs.Vocabulary.{slice_get, slice_get_within, this_script, true, type_names, type_words, types_of}
+use Rattle.mk_check.proofs.Vocabulary.{typing_fault, word_among, [], ◌++◌, ◌+◌, ◌<◌, ◌or◌, ◌∷◌, ◌≡◌, ◌≤◌}
 use Rattle.mk_core.specs.Config.{IsAmong, IsTypeAmong, IsWithinLimits}
+use Rattle.mk_check.proofs.FaultLemmas.{at_line-None, has_value, or-None, unless-None}
 use Rattle.mk_check.proofs.GrammarLemmas.{at_most-None, heap_within, length-global_names, length-script_names}
 use Rattle.mk_check.proofs.GrammarLemmas.{length-type_names}
-use Rattle.mk_check.proofs.FaultLemmas.{HasValue, at_line-None, has_value, or-None, unless-None}
 use Rattle.mk_check.proofs.NumberLemmas.{length-globals_among, length-kinds_among}
 use Rattle.mk_check.proofs.FormLemmas.{line_item-word}
-use Rattle.mk_check.specs.{Declarations.config_of, Typing.IsWellTyped, Typing.TypingFault, Typing.inside_fault}
-use Rattle.mk_check.specs.{Typing.offsets_fault, Typing.pointers_fault, Typing.type_fault, Typing.unless}
+use Rattle.mk_check.specs.Typing.{IsWellTyped, inside_fault, offsets_fault, pointers_fault, type_fault}
+use Rattle.mk_check.specs.Declarations.{config_of}
 use Rattle.mk_script.{proofs.PassedLines.IsWhole, specs.Lines.at_most, specs.declared.items.Item.TheVariants.Global}
 use Rattle.mk_script.{specs.declared.items.Item.TheVariants.TypeLine, specs.declared.items.TypeWord.TheVariants.Number}
 use Rattle.mk_script.{specs.declared.items.TypeWord.TheVariants.Pointer}
@@ -24,13 +23,8 @@ pub record IsAt (types : List (List Kind)) (place : ℕ) (found : List Kind) : T
   pub within : place < length types
   pub kinds : kinds_of types place ≡ found
 
-or_default : {X : Type 0} → X → Option X → X
-or_default other None = other
-or_default other (Some x) = x
-
-some_value : {X : Type 0} (other x y : X) → Some x ≡ Some y → x ≡ y
-unfolding or_default
-some_value other x y h = ap (or_default other) h
+some_value : {X : Type 0} (x y : X) → Some x ≡ Some y → x ≡ y
+some_value x y h = cc
 
 module _ (names : List (List ℕ)) where
   first_type : (words : List TypeWord) (types : List (List Kind))
@@ -42,12 +36,10 @@ module _ (names : List (List ℕ)) where
   later_type first types place found h = rw add-one (record { within = omega (arith, h.within); kinds = h.kinds })
 
   chosen : (b : Bool) (words sought : List TypeWord) (later : Option (List TypeWord)) (types : List (List Kind))
-      (place : ℕ)
-      → (later ≡ Some sought → IsAt types place (map (kind_of names) sought))
+      (place : ℕ) → (later ≡ Some sought → IsAt types place (map (kind_of names) sought))
       → (if b then Some words else later) ≡ Some sought
       → IsAt (map (kind_of names) words ∷ types) (if b then 0 else place + 1) (map (kind_of names) sought)
-  chosen true words sought later types place behind h = grind (arith, some_value, first_type)
-  chosen false words sought later types place behind h = grind (arith, later_type)
+  chosen x0 words sought later types place behind h = grind (arith, some_value, first_type, later_type)
 
   -- the type of a name
   pub type_words-IsAt : (name : List ℕ) (items : List Item) (sought : List TypeWord)
@@ -111,8 +103,7 @@ types-within program line before (TypeLine name words ∷ items) lines h =
         omega (arith, size, at_most-None (length words) 4096 Which.Words limits.1),
       ),
       words_among program (this_script before) words pointers.1,
-    )
-    (types-within program (line + 1) (before ++ TypeLine name words ∷ []) items lines.1 both.1)
+    ) (types-within program (line + 1) (before ++ TypeLine name words ∷ []) items lines.1 both.1)
 types-within program line before (item ∷ items) lines h =
     types-within program (line + 1) (before ++ item ∷ []) items lines.1
     (at_line-None line (typing_fault (record { program = program; script = this_script before }) line items item) _ h).1
@@ -153,8 +144,7 @@ config_within program markers lines typed few =
 -- a configuration that has what the program declares
 pub config_is : (program : List Item) (pages resident callers markers : ℕ) (types : List (List Kind)) (globals : List ℕ)
     → pages ≡ pages_of program → resident ≡ resident_of program → callers ≡ length (script_names program)
-    → types ≡ types_of program → globals ≡ globals_of program
-    → ◌≡◌ {A = Config} (record {
+    → types ≡ types_of program → globals ≡ globals_of program → ◌≡◌ {A = Config} (record {
       pages = pages;
       resident = resident;
       callers = callers;

@@ -13,8 +13,7 @@ pub take_answers_push : (scope : Scope) (fed : Fed) (answers : List Answer) (a :
 take_answers_push scope fed [] a = refl
 take_answers_push scope fed (b ∷ answers) a = take_answers_push scope (take_answer scope fed fed.left b) answers a
 
-pub feed_push : (program : List Item) (k : ℕ) (answers : List Answer) (a : Answer)
-    → feed program k (answers ++ a ∷ [])
+pub feed_push : (program : List Item) (k : ℕ) (answers : List Answer) (a : Answer) → feed program k (answers ++ a ∷ [])
     ≡ take_answer (script_scope program k) (feed program k answers) (feed program k answers).left a
 feed_push program k answers a =
     take_answers_push (script_scope program k) (fed_before_answers (script_scope program k) (script_of program k))
@@ -27,8 +26,7 @@ taken_at_end scope fed _ a h = refl
 
 -- A script that has ended takes no answer.
 pub feed_push-ended : (program : List Item) (k : ℕ) (answers : List Answer) (a : Answer)
-    → has_ended (feed program k answers) ≡ true
-    → feed program k (answers ++ a ∷ []) ≡ feed program k answers
+    → has_ended (feed program k answers) ≡ true → feed program k (answers ++ a ∷ []) ≡ feed program k answers
 feed_push-ended program k answers a h =
     feed_push program k answers a
     ∙ taken_at_end (script_scope program k) (feed program k answers) (feed program k answers).left a h
@@ -52,8 +50,7 @@ ops-feed_push program k answers a o h =
 -- A feed that has an operation waits.
 pub waits_for_op : (s : FeedState) (o : Option Op)
     → ((program : List Item) (k : ℕ) (answers : List Answer) → FeedStandsFor program k s answers
-    → IsNone o ↔ IsTrue (has_ended (feed program k answers)))
-    → is_some o ≡ true → IsWaiting s
+    → IsNone o ↔ IsTrue (has_ended (feed program k answers))) → is_some o ≡ true → IsWaiting s
 waits_for_op s o none some = λ program k answers st. by_end (has_ended (feed program k answers))
     (none program k answers st).1
   where

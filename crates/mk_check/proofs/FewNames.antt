@@ -1,12 +1,11 @@
 -- A program of a text declares few registers in a script, and few globals.
-use Rattle.mk_check.proofs.Vocabulary.{ArePassed, HasFew, Item, List, None, Which, ℕ, ap, arith, before_next_script}
-use Rattle.mk_check.proofs.Vocabulary.{false, if◌then◌else◌, is_script, is_whole, length, length-append, limit_fault}
-use Rattle.mk_check.proofs.Vocabulary.{number_names, pointer_names, refl, script_from, script_scope, suc, this_script}
-use Rattle.mk_check.proofs.Vocabulary.{zero, [], ◌++◌, ◌+◌, ◌∙◌, ◌∷◌, ◌≡◌, ◌≤◌}
+use Rattle.mk_check.proofs.Vocabulary.{ArePassed, HasFew, Item, List, None, ℕ, ap, arith, before_next_script, false}
+use Rattle.mk_check.proofs.Vocabulary.{is_script, is_whole, length, length-append, limit_fault, number_names}
+use Rattle.mk_check.proofs.Vocabulary.{number_names-append, pointer_names, refl, script_from, script_scope, suc}
+use Rattle.mk_check.proofs.Vocabulary.{this_script, zero, [], ◌++◌, ◌+◌, ◌∙◌, ◌∷◌, ◌≡◌, ◌≤◌}
 use Rattle.mk_check.proofs.GrammarLemmas.{at_most-None, length-global_names}
-use Rattle.mk_script.proofs.Pushed.{number_names-append, pointer_names-append, this_script-push}
-use Rattle.mk_script.specs.declared.items.Item.TheVariants.{Num, Ptr, Script}
-use Rattle.mk_script.specs.Grammar.{IsOfSomeText}
+use Rattle.mk_script.proofs.Pushed.{pointer_names-append, this_script-push}
+use Rattle.mk_script.specs.{Grammar.IsOfSomeText, declared.items.Item.TheVariants.Script}
 
 -- Registers of one kind that lines of a script declare, of which there may be this many.
 record AreLimited (names : List Item → List (List ℕ)) (greatest : ℕ) : Type 0 where
@@ -63,16 +62,12 @@ module _ (names : List Item → List (List ℕ)) (greatest : ℕ) (l : AreLimite
 pointer_fits : (before : List Item) (item : Item) → limit_fault before item ≡ None
     → length (pointer_names (this_script before)) ≤ 8
     → length (pointer_names (this_script before)) + length (pointer_names (item ∷ [])) ≤ 8
-pointer_fits before (Ptr name at) limit h =
-    at_most-None (length (pointer_names (this_script before)) + 1) 8 Which.Pointers limit
-pointer_fits before item limit h = omega arith
+pointer_fits before item limit h = grind (arith, at_most-None)
 
 number_fits : (before : List Item) (item : Item) → limit_fault before item ≡ None
     → length (number_names (this_script before)) ≤ 8
     → length (number_names (this_script before)) + length (number_names (item ∷ [])) ≤ 8
-number_fits before (Num name) limit h =
-    at_most-None (length (number_names (this_script before)) + 1) 8 Which.Numbers limit
-number_fits before item limit h = omega arith
+number_fits before item limit h = grind (arith, at_most-None)
 
 pub text_has_few : (program : List Item) (k : ℕ) → IsOfSomeText program → HasFew (script_scope program k)
 text_has_few program k text =

@@ -57,26 +57,21 @@ pub other_number : (j k : ℕ) → j ≢ k → (j == k) ≡ false
 other_number j k ne = grind (arith, nat_tests)
 
 among_mine : (k : ℕ) (o : Op) (a : Option Answer) → answers_among k (entry_of k o a) ≡ as_list a
-among_mine k o (Some a) = rw (same_number k) refl
-among_mine k o None = refl
+among_mine k o x2 = grind (arith, same_number)
 
 among_others : (k j : ℕ) (o : Op) (a : Option Answer) → j ≢ k → answers_among k (entry_of j o a) ≡ []
-among_others k j o (Some a) ne = rw (other_number j k ne) refl
-among_others k j o None ne = refl
+among_others k j o x3 ne = grind (arith, other_number)
 
 -- a caller's last step leaves it at rest, and decides nothing
 last_rests : (c : Config) (m : Moment) (f : Flight) (found : ℕ) (x : Step) → ends_call x ≡ true
     → progress c m f found x ≡ record { flight = at_rest; answer = None }
-last_rests c m f found Step.Leave h = refl
-last_rests c m f found x4 h = cc
+last_rests c m f found x4 h = grind arith
 
 few_pending : (s : Stage) → pending s ≤ 1
-few_pending Stage.Put = omega arith
-few_pending _ = omega arith
+few_pending x0 = grind arith
 
 pending_behind : (n p p' k : ℕ) (a : Option Answer) → k ≡ n + p → p' ≡ p + count a → k + length (as_list a) ≡ n + p'
-pending_behind n p p' k (Some a) h i = omega arith
-pending_behind n p p' k None h i = omega arith
+pending_behind n p p' k x4 h i = grind arith
 
 none_before : (a : Answer) (b : Option Answer) (p p' : ℕ) → b ≡ Some a → p' ≤ 1 → p' ≡ p + count b → p ≡ 0
 none_before a b p p' is few h = let e : count b ≡ 1 = ap count is in omega arith
@@ -123,8 +118,7 @@ ends_more callers flights k n answers p lt h one is =
     record {
       serves =
           serves_at callers (set flights k p.flight) k (n + 1) (answers ++ as_list p.answer) at_rest rests
-          (length-set flights k p.flight ∙ h.long) refl
-          (ap length more ∙ omega arith);
+          (length-set flights k p.flight ∙ h.long) refl (ap length more ∙ omega arith);
       last = λ _. (none, omega arith);
       once = λ b _ e. (let never = sym none ∙ e in cc);
       few = omega arith;
@@ -132,8 +126,7 @@ ends_more callers flights k n answers p lt h one is =
 
 -- a step of another's
 others_more : (callers : ℕ) (flights new : List Flight) (k n : ℕ) (answers : List Answer) (decided : Option Answer)
-    (last : Bool)
-    → get_or new k at_rest ≡ get_or flights k at_rest → length new ≡ length flights
+    (last : Bool) → get_or new k at_rest ≡ get_or flights k at_rest → length new ≡ length flights
     → Serves callers flights k n answers → ServesMore callers new k n answers decided false last
 others_more callers flights new k n answers decided last same long h =
     let a = h.decided in record {
@@ -172,15 +165,13 @@ own_step c m k n answers x false is enabled h =
 serves_more : (c : Config) (m : Moment) (k n : ℕ) (answers : List Answer) (seat : Seat) (x : Step)
     → IsEnabled c m (record { seat = seat; step = x }) → Serves c.callers m.seats.flights k n answers
     → Behind c m seat x k n answers
-serves_more c m k n answers (Caller j) x enabled h =
-    elim (cases_eq k j) [
-      | inl same ↦ subst (λ (i : ℕ). Behind c m (Caller i) x k n answers) same
-          (rw (same_number k) (own_step c m k n answers x (ends_call x) refl
-          (subst (λ (i : ℕ). IsEnabled c m (record { seat = Caller i; step = x })) (sym same) enabled) h))
-      | inr ne ↦ rw (other_number k j ne)
-          (others_more c.callers m.seats.flights _ k n answers _ (ends_call x)
-          (get_or-set_other m.seats.flights j k _ at_rest ne) (length-set m.seats.flights j _) h)
-    ]
+serves_more c m k n answers (Caller j) x enabled h = elim (cases_eq k j) [
+  | inl same ↦ subst (λ (i : ℕ). Behind c m (Caller i) x k n answers) same
+      (rw (same_number k) (own_step c m k n answers x (ends_call x) refl
+      (subst (λ (i : ℕ). IsEnabled c m (record { seat = Caller i; step = x })) (sym same) enabled) h))
+  | inr ne ↦ rw (other_number k j ne) (others_more c.callers m.seats.flights _ k n answers _ (ends_call x)
+      (get_or-set_other m.seats.flights j k _ at_rest ne) (length-set m.seats.flights j _) h)
+]
 serves_more c m k n answers (Marker j) x enabled h =
     others_more c.callers m.seats.flights m.seats.flights k n answers None (ends_call x) refl refl h
 serves_more c m k n answers Host x enabled h = others_more _ _ _ k n answers None _ refl refl h
@@ -189,12 +180,10 @@ serves_more c m k n answers Host x enabled h = others_more _ _ _ k n answers Non
 event_among : (c : Config) (m : Moment) (k : ℕ) (seat : Seat) (x : Step)
     → answers_among k (call_decided c m (record { seat = seat; step = x }))
     ≡ (if is_same_seat (Caller k) seat then as_list (answer_decided c m (record { seat = seat; step = x })) else [])
-event_among c m k (Caller j) x = grind (arith, same_number, as_list, among_mine, other_number, among_others)
-event_among c m k _ x = refl
+event_among c m k x3 x = grind (arith, same_number, as_list, among_mine, other_number, among_others)
 
 counts_more : (n : ℕ) (b : Bool) → n + (if b then 1 else 0) ≡ counted n b
-counts_more n true = refl
-counts_more n false = omega arith
+counts_more n x1 = grind arith
 
 serves_from : (c : Config) (w : World) (k n : ℕ) (answers : List Answer) (es : List Event) → AreEnabledFrom c w es
     → Serves c.callers w.now.seats.flights k n answers
@@ -259,13 +248,10 @@ waiting_case : (answers : List Answer) (n : ℕ) (a : Option Answer) (mine last 
     → ((b : Answer) → mine ≡ true → a ≡ Some b → length answers ≡ n)
     → slice_get (answers ++ (if mine then as_list a else [])) (counted n (mine && last))
     ≡ waiting_by mine last a (slice_get answers n)
-waiting_case answers n a true true l o = grind (arith, append-nil, slice_get_past)
-waiting_case answers n (Some b) true false l o = last_of answers n b (o b refl refl)
-waiting_case answers n _ _ _ l o = ap (λ (xs : List Answer). slice_get xs n) (append-nil answers)
+waiting_case answers n a x3 x4 l o = grind (arith, append-nil, slice_get_past, last_of)
 
 -- the answers and the count of the ended calls, with one event more
-more_answers : (c : Config) (es : List Event) (e : Event) (k : ℕ)
-    → answers_among k (calls c (es ++ e ∷ []))
+more_answers : (c : Config) (es : List Event) (e : Event) (k : ℕ) → answers_among k (calls c (es ++ e ∷ []))
     ≡ answers_among k (calls c es)
     ++ (if is_same_seat (Caller k) e.seat then as_list (answer_decided c (left c es).now e) else [])
 more_answers c es e k = grind (arith, calls_more, among_more, event_among)

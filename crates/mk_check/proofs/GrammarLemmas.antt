@@ -1,29 +1,25 @@
 -- Limits that the lines of a program of some text keep.
-use Rattle.std.proofs.Common.{is_ok, leb-true}
-use Rattle.mk_check.proofs.Vocabulary.{ArePassed, Bool, Err, Item, List, None, Ok, Option, Result, Some, Which, ℕ, ap}
-use Rattle.mk_check.proofs.Vocabulary.{append-nil, append_assoc, arith, false, false≢true, global_names, if◌then◌else◌}
-use Rattle.mk_check.proofs.Vocabulary.{is_some, length, length-append, limit_fault, option_or, pages_of, refl}
-use Rattle.mk_check.proofs.Vocabulary.{resident_of, script_names, subst, sym, true, type_names, [], ◌&&◌, ◌++◌, ◌+◌}
-use Rattle.mk_check.proofs.Vocabulary.{◌-◌, ◌∷◌, ◌≡◌, ◌≤◌}
+use Rattle.std.proofs.Common.{leb-true}
+use Rattle.mk_check.proofs.Vocabulary.{ArePassed, Bool, Err, Item, List, None, Ok, Result, Some, Which, ℕ, and_parts}
+use Rattle.mk_check.proofs.Vocabulary.{ap, append-nil, append_assoc, arith, false≢true, global_names, if◌then◌else◌}
+use Rattle.mk_check.proofs.Vocabulary.{length, length-append, limit_fault, pages_of, resident_of, script_names, subst}
+use Rattle.mk_check.proofs.Vocabulary.{sym, true, type_names, [], ◌++◌, ◌+◌, ◌-◌, ◌∷◌, ◌≡◌, ◌≤◌}
 use Rattle.mk_core.specs.Config.{IsBetween}
-use Rattle.mk_check.proofs.{FaultLemmas.or-None, Vocabulary.and_parts}
+use Rattle.mk_check.proofs.FaultLemmas.{or-None}
 use Rattle.mk_script.proofs.Pushed.{global_names-append, script_names-append, type_names-append}
 use Rattle.mk_script.proofs.PassedLines.{IsWhole}
 use Rattle.mk_script.specs.Lines.{at_most, has_script, heap_line, within}
 use Rattle.mk_script.specs.Operands.{item_from, number, ◌>>=◌}
 use Rattle.mk_script.specs.declared.items.Item.TheVariants.{Global, Heap, Script, TypeLine}
-use Rattle.mk_script.specs.{declared.faults.LineFault.LineFault, declared.faults.LineFault.TheVariants.Text}
-use Rattle.mk_script.specs.{declared.faults.TextKind.TheVariants.Header, declared.keywords.Keyword.Keyword}
+use Rattle.mk_script.specs.{declared.faults.LineFault.LineFault, declared.keywords.Keyword.Keyword}
 
 -- a test that an Ok has passed
 pub passed_then : {X Fault : Type 0} (test : Bool) (fault : Fault) (found : Result X Fault) (x : X)
     → (if test then found else Err fault) ≡ Ok x → (test ≡ true) × (found ≡ Ok x)
-passed_then true fault found x h = (refl, h)
-passed_then false fault found x h = cc
+passed_then x0 fault found x h = grind arith
 
 if-None : {T : Type 0} (b : Bool) (x : T) → (if b then None else Some x) ≡ None → b ≡ true
-if-None true x h = refl
-if-None false x h = cc
+if-None x0 x h = grind arith
 
 -- Counts of declarations.
 
@@ -62,8 +58,7 @@ length-global_names items program = bound (λ xs. length (global_names xs)) 64 g
 types-keep : (before : List Item) (item : Item) → limit_fault before item ≡ None → length (type_names before) ≤ 64
     → length (type_names (before ++ item ∷ [])) ≤ 64
 types-keep before (TypeLine name words) within h =
-    names-keep type_names 64 type_names-append before _
-    (at_most-None (length (type_names before) + 1) 64 Which.Types
+    names-keep type_names 64 type_names-append before _ (at_most-None (length (type_names before) + 1) 64 Which.Types
     (or-None (at_most (length (type_names before) + 1) 64 Which.Types)
     (at_most (length words) 4096 Which.Words) within).0)
 types-keep before item within h = names-keep type_names 64 type_names-append before item (omega arith)
@@ -87,8 +82,7 @@ some_script (item ∷ items) has = some_script items has
 pub length-script_names : (items : List Item) → IsWhole items → IsBetween 1 16 (length (script_names items))
 length-script_names items program = (
   some_script items program.script,
-  bound (λ xs. length (script_names xs)) 16 scripts-keep [] items program.lines
-      (omega arith),
+  bound (λ xs. length (script_names xs)) 16 scripts-keep [] items program.lines (omega arith),
 )
 
 -- The pages of the heap.
@@ -104,16 +98,14 @@ pub record IsHeapLine (item : Item) : Type 0 where
 
 two_numbers : (pages resident : Result ℕ LineFault) (item : Item)
     → (pages >>= (λ p. resident >>= (λ r. Ok (Heap p r)))) ≡ Ok item → IsHeapLine item
-two_numbers (Ok p) (Ok r) item h = record { pages = p; resident = r; is = cc }
-two_numbers x0 resident item h = cc
+two_numbers x0 resident item h = grind arith
 
 item_from-heap : (a b : List ℕ) (item : Item) → item_from Keyword.Heap (a ∷ b ∷ []) ≡ Ok item → IsHeapLine item
 unfolding item_from
 item_from-heap a b item h = two_numbers (number a) (number b) item h
 
 pub heap_line-item : (words : List (List ℕ)) (item : Item) → heap_line words ≡ Ok item → IsHeapLine item
-heap_line-item (word ∷ a ∷ b ∷ []) item h = grind (arith, item_from-heap, passed_then)
-heap_line-item words item h = cc
+heap_line-item words item h = grind (arith, item_from-heap, passed_then)
 
 pub record IsHeapWithin (items : List Item) : Type 0 where
   pub pages : IsBetween 1 4096 (pages_of items)

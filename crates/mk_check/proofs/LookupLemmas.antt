@@ -3,10 +3,9 @@ use Rattle.std.proofs.{Common.Bor, Common.cond, lemmas.Bool.cases_Bool}
 use Rattle.std.specs.{Cmp.Lexicographic.nat_list_eq_equiv, Option.option_copied}
 use Rattle.mk_check.proofs.Vocabulary.{At, Bool, Err, Item, List, None, Ok, OnOk, Option, Result, Some, TypeWord, ℕ, ap}
 use Rattle.mk_check.proofs.Vocabulary.{append-nil, bytes_eq, bytes_eq-Decides, false, false≢true, first_at, global_type}
-use Rattle.mk_check.proofs.Vocabulary.{if◌then◌else◌, is_script, is_some, number_names, option_or, pointer_at, refl}
-use Rattle.mk_check.proofs.Vocabulary.{subst, sym, true, type_words, [], ⊎_elim, ◌++◌, ◌∙◌, ◌∷◌, ◌≡◌}
+use Rattle.mk_check.proofs.Vocabulary.{if◌then◌else◌, is_script, is_some, number_names, number_names-append, option_or}
+use Rattle.mk_check.proofs.Vocabulary.{pointer_at, refl, subst, sym, true, type_words, [], ⊎_elim, ◌++◌, ◌∙◌, ◌∷◌, ◌≡◌}
 use Rattle.mk_check.specs.declared.lookups.PointerRegister.{PointerRegister}
-use Rattle.mk_script.proofs.Pushed.{number_names-append}
 use Rattle.mk_script.specs.declared.items.Item.TheVariants.{Global, Num, Ptr, Script, TypeLine}
 
 -- no value, by its test
@@ -25,13 +24,6 @@ if-or false x o p = refl
 
 module _ {X : Type 0} (old new : List ℕ → Option X) (name : List ℕ) (value : X) (absent : old name ≡ None)
     (updated : (other : List ℕ) → new other ≡ cond (bytes_eq name other) (Some value) (old other)) where
-  at_name : (other : List ℕ) → bytes_eq name other ≡ true
-      → new other ≡ option_or (old other) (if bytes_eq other name then Some value else None)
-  at_name other same =
-      let none : old other ≡ None = subst (λ n. old n ≡ None) ((bytes_eq-Decides name other).0 same) absent in
-      let back : bytes_eq other name ≡ true = nat_list_eq_equiv.symm other name ∙ same in
-      updated other ∙ rw (same, none, back) refl
-
   apart : (other : List ℕ) → bytes_eq name other ≡ false
       → new other ≡ option_or (old other) (if bytes_eq other name then Some value else None)
   apart other differs =
@@ -41,7 +33,10 @@ module _ {X : Type 0} (old new : List ℕ → Option X) (name : List ℕ) (value
   -- a value is put for a name that has none
   pub put_first : (other : List ℕ)
       → new other ≡ option_or (old other) (if bytes_eq other name then Some value else None)
-  put_first other = ⊎_elim (at_name other) (apart other) (cases_Bool (bytes_eq name other))
+  put_first other = ⊎_elim (λ same.
+      let none : old other ≡ None = subst (λ n. old n ≡ None) ((bytes_eq-Decides name other).0 same) absent in
+      let back : bytes_eq other name ≡ true = nat_list_eq_equiv.symm other name ∙ same in
+      updated other ∙ rw (same, none, back) refl) (apart other) (cases_Bool (bytes_eq name other))
 
 copied-or : {X : Type 0} (o : Option (Bor X)) (b : Bool) (x : Bor X)
     → option_copied (option_or o (if b then Some x else None))
@@ -55,8 +50,7 @@ pub known-more : {X : Type 0} (old new : List ℕ → Option (Bor X)) (before be
     → ((other : List ℕ) → new other ≡ option_or (old other) (if bytes_eq other name then Some value else None))
     → ((other : List ℕ) → option_copied (old other) ≡ before other)
     → ((other : List ℕ) → behind other ≡ option_or (before other) (if bytes_eq other name then Some value.now
-    else None))
-    → (other : List ℕ) → option_copied (new other) ≡ behind other
+    else None)) → (other : List ℕ) → option_copied (new other) ≡ behind other
 known-more old new before behind name value adds known more other =
     cc (adds other, copied-or (old other) (bytes_eq other name) value, known other, more other)
 

@@ -1,18 +1,17 @@
 -- Numbers of types, and tables of types and globals, as lines are read.
 use Rattle.std.{proofs.Common.take-append-drop, specs.Borrow.Bor, specs.HashMap.HashMap}
 use Rattle.mk_check.proofs.Vocabulary.{Bool, Item, List, None, Option, Some, TypeWord, ℕ, ap, arith, bytes_eq, drop}
-use Rattle.mk_check.proofs.Vocabulary.{drop_more, false, get_or, global_names, globals_among, if◌then◌else◌, kind_of}
+use Rattle.mk_check.proofs.Vocabulary.{drop_more, get_or, global_names, globals_among, if◌then◌else◌, kind_of}
 use Rattle.mk_check.proofs.Vocabulary.{kinds_among, length, length-append, map, number_of_name, option_map, option_or}
-use Rattle.mk_check.proofs.Vocabulary.{refl, suc, sym, take, take_more, true, type_names, unwrap_or, [], ◌++◌, ◌+◌, ◌<◌}
-use Rattle.mk_check.proofs.Vocabulary.{◌∙◌, ◌∷◌, ◌≡◌}
+use Rattle.mk_check.proofs.Vocabulary.{refl, suc, sym, take, take_more, type_names, unwrap_or, [], ◌++◌, ◌+◌, ◌<◌, ◌∙◌}
+use Rattle.mk_check.proofs.Vocabulary.{◌∷◌, ◌≡◌}
 use Rattle.mk_check.specs.{Lookups.AddsFirst, Numbers.AreNumbers, Numbers.number_among}
 use Rattle.mk_script.proofs.Pushed.{global_names-append}
 use Rattle.mk_script.specs.declared.items.Item.TheVariants.{Global, TypeLine}
 
 place-step : (b : Bool) (o : Option ℕ) (n : ℕ)
     → (if b then 0 else unwrap_or o n + 1) ≡ unwrap_or (if b then Some 0 else option_map (λ place. place + 1) o) (suc n)
-place-step false None n = omega arith
-place-step _ _ n = refl
+place-step x0 x1 n = grind arith
 
 pub number_of_name-among : (name : List ℕ) (names : List (List ℕ))
     → number_of_name name names ≡ unwrap_or (number_among name names) (length names)
@@ -23,13 +22,9 @@ number_of_name-among name (other ∷ others) =
 number_among-step : (b c : Bool) (o : Option ℕ) (n : ℕ)
     → (if b then Some 0 else option_map (λ place. place + 1) (option_or o (if c then Some n else None)))
     ≡ option_or (if b then Some 0 else option_map (λ place. place + 1) o) (if c then Some (suc n) else None)
-number_among-step true c o n = refl
-number_among-step false true None n = ap Some (omega arith)
-number_among-step false false None n = refl
-number_among-step false c (Some place) n = refl
+number_among-step x0 c o n = grind arith
 
-pub number_among-push : (name : List ℕ) (names : List (List ℕ)) (last : List ℕ)
-    → number_among name (names ++ last ∷ [])
+pub number_among-push : (name : List ℕ) (names : List (List ℕ)) (last : List ℕ) → number_among name (names ++ last ∷ [])
     ≡ option_or (number_among name names) (if bytes_eq name last then Some (length names) else None)
 number_among-push name [] last = refl
 number_among-push name (other ∷ others) last =
@@ -97,8 +92,7 @@ module _ (items : List Item) (i : ℕ) (item : Item) (within : i < length items)
   pub length-global_names-take : (name ty : List ℕ) → item ≡ Global name ty
       → length (global_names (take i items)) < length (global_names items)
   length-global_names-take name ty is =
-      let parts : items ≡ take i items ++ item ∷ drop (i + 1) items =
-      sym (take-append-drop i items)
+      let parts : items ≡ take i items ++ item ∷ drop (i + 1) items = sym (take-append-drop i items)
       ∙ ap (λ rest. take i items ++ rest) (drop_more items i item within
       ∙ ap (λ first. first ∷ drop (i + 1) items) (sym read)) in
       let split = ap (λ xs. length (global_names xs)) (parts

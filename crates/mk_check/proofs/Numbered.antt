@@ -80,8 +80,7 @@ then_run_agrees scope fed go rest go' h = by_left fed.left
 
 -- a part that agrees, and then the rest
 then_agrees : (scope : Scope) (fed : Fed) (go : Fed → Fed) (rest : Blocks) (stopped : Stopped) (go' : KeptState
-    → Stopped) (ops : List Op)
-    → Agrees scope fed stopped ops
+    → Stopped) (ops : List Op) → Agrees scope fed stopped ops
     → ((f : Fed) → Agrees scope (go f) (go' (kept_of f)) f.ops)
     → Agrees scope (then_run fed go rest) (stop_behind stopped go' (numbered scope rest)) ops
 then_agrees scope fed go rest stopped go' ops a h =
@@ -98,8 +97,7 @@ run_rounds_agrees : (scope : Scope) (rounds : ℕ) (body : Blocks) (go : Fed →
 run_rounds_agrees scope zero body go go' h fed = record { stop = refl; answers = refl }
 run_rounds_agrees scope (suc more) body go go' h fed =
     then_agrees scope (go fed) (run_rounds more body go) (Rounds more body Done) (go' (kept_of fed))
-    (stop_of_rounds more (numbered scope body) go') fed.ops
-    (h fed) (run_rounds_agrees scope more body go go' h)
+    (stop_of_rounds more (numbered scope body) go') fed.ops (h fed) (run_rounds_agrees scope more body go go' h)
 
 -- The steps stop where the blocks do.
 pub run_agrees : (scope : Scope) (b : Blocks) (fed : Fed)
@@ -114,17 +112,14 @@ run_agrees scope (Line line item rest) fed =
       answers = a.answers ∙ ops-run_line scope fed item;
     })
   where
-    by_test : (s t : Bool) → s ≡ t
-        → Agrees scope (run scope rest (run_line scope fed item))
+    by_test : (s t : Bool) → s ≡ t → Agrees scope (run scope rest (run_line scope fed item))
         (stop_of (numbered scope rest) (after_line (instruction_of scope item) (kept_of fed))) fed.ops
         → Agrees scope (if s then record fed { left = Line line item rest }
-        else run scope rest (run_line scope fed item))
-        (if t then record {
+        else run scope rest (run_line scope fed item)) (if t then record {
           left = steps.Line line (instruction_of scope item) (numbered scope rest);
           kept = kept_of fed;
         }
-        else stop_of (numbered scope rest) (after_line (instruction_of scope item) (kept_of fed)))
-        fed.ops
+        else stop_of (numbered scope rest) (after_line (instruction_of scope item) (kept_of fed))) fed.ops
     by_test true true e h = record { stop = refl; answers = refl }
     by_test true false e h = cc
     by_test false true e h = cc
@@ -137,10 +132,8 @@ run_agrees scope (Rounds rounds body rest) fed =
     (run_agrees scope rest)
 run_agrees scope (Choice number first second rest) fed =
     then_agrees scope (if number_in scope fed number == 0 then run scope second fed else run scope first fed)
-    (run scope rest) rest
-    (if number_in scope fed number == 0 then stop_of (numbered scope second) (kept_of fed)
-    else stop_of (numbered scope first) (kept_of fed))
-    (stop_of (numbered scope rest)) fed.ops
+    (run scope rest) rest (if number_in scope fed number == 0 then stop_of (numbered scope second) (kept_of fed)
+    else stop_of (numbered scope first) (kept_of fed)) (stop_of (numbered scope rest)) fed.ops
     (by_test (number_in scope fed number == 0) (run_agrees scope first fed) (run_agrees scope second fed))
     (run_agrees scope rest)
   where

@@ -38,8 +38,7 @@ record IsLine (nodes : List Node) (n : Node) (next : ℕ) (kept : Option ℕ) (s
   told : sequel_to (node_at nodes next) ≡ s
 
 kept_by : (next : ℕ) (shown : Bool) (kept : Option ℕ) (u s : Sequel) → (s ≡ Sequel.Other → ⊥)
-    → (sequels_by next shown kept u).kept ≡ s
-    → ((sequels_by next shown kept u).next ≡ next) × (shown ≡ false)
+    → (sequels_by next shown kept u).kept ≡ s → ((sequels_by next shown kept u).next ≡ next) × (shown ≡ false)
     × (kept ≡ Some (sequels_by next shown kept u).register) × (u ≡ s)
 kept_by next false (Some number) u s known e = (refl, refl, refl, e)
 kept_by next _ _ u s known e = absurd (known (sym e))

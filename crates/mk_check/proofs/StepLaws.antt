@@ -36,8 +36,7 @@ stop_of-then_steps Done b k = refl
 stop_of-then_steps (Line line instruction rest) b k =
     by_test (is_some (op_asked k.numbers instruction)) (stop_of-then_steps rest b (after_line instruction k))
   where
-    by_test : (t : Bool)
-        → stop_of (then_steps rest b) (after_line instruction k)
+    by_test : (t : Bool) → stop_of (then_steps rest b) (after_line instruction k)
         ≡ stop_behind (stop_of rest (after_line instruction k)) (stop_of b) b
         → (if t then record { left = Line line instruction (then_steps rest b); kept = k }
         else stop_of (then_steps rest b) (after_line instruction k))
@@ -125,8 +124,7 @@ stop_of-text text (Line line instruction rest) k =
     by_test (is_some (op_asked k.numbers instruction)) (ap (stop_of rest) (after_line-text text instruction k)
     ∙ stop_of-text text rest (after_line instruction k))
   where
-    by_test : (t : Bool)
-        → stop_of rest (after_line instruction (behind_text text k))
+    by_test : (t : Bool) → stop_of rest (after_line instruction (behind_text text k))
         ≡ stopped_behind_text text (stop_of rest (after_line instruction k))
         → (if t then record { left = Line line instruction rest; kept = behind_text text k }
         else stop_of rest (after_line instruction (behind_text text k)))

@@ -1,9 +1,9 @@
 -- What a well-typed line says of its registers, its types and its globals.
 use Rattle.std.proofs.Common.{eqb-true}
-use Rattle.mk_check.proofs.Vocabulary.{Around, At, Bool, Item, List, None, Option, Some, TypeKind, TypeWord, ℕ}
-use Rattle.mk_check.proofs.Vocabulary.{and_parts, ap, base_of, bytes_eq, bytes_eq-Decides, false, false≢true}
-use Rattle.mk_check.proofs.Vocabulary.{global_type, is_some, moved_by, option_map, pointer_at, refl, same_Some, sym}
-use Rattle.mk_check.proofs.Vocabulary.{true, type_words, typing_fault, word_among, ◌+◌, ◌==◌, ◌or◌, ◌∙◌, ◌≡◌}
+use Rattle.mk_check.proofs.Vocabulary.{Around, At, Item, List, None, Option, Some, TypeKind, TypeWord, ℕ, and_parts, ap}
+use Rattle.mk_check.proofs.Vocabulary.{base_of, bytes_eq, bytes_eq-Decides, false≢true, global_type, moved_by}
+use Rattle.mk_check.proofs.Vocabulary.{option_map, pointer_at, refl, same_Some, sym, true, type_words, typing_fault}
+use Rattle.mk_check.proofs.Vocabulary.{word_among, ◌+◌, ◌==◌, ◌or◌, ◌∙◌, ◌≡◌}
 use Rattle.mk_check.proofs.FaultLemmas.{HasValue, has_value, or-None, unless-None}
 use Rattle.mk_check.specs.Typing.{base_of_global, inside_fault, is_base, is_number_word, kind_fault, number_word_fault}
 use Rattle.mk_check.specs.Typing.{place_behind, pointed_place, pointer_fault, pointer_word_fault, same_at, type_fault}
@@ -164,11 +164,7 @@ module _ (a : Around) (script : List Item) (stays : (name : List ℕ) (at : At) 
   to_type pointer ty e f =
       let found = has_value (type_words ty a.program) (unless-None _ TypeKind.NoType e) in
       let one = are_one (pointer_at pointer a.script) (Some (base_of ty)) (unless-None _ TypeKind.Kind f) in
-      record {
-        words = found.value;
-        is = found.is;
-        declared = stays pointer (base_of ty) (one.first ∙ sym one.second);
-      }
+      record { words = found.value; is = found.is; declared = stays pointer (base_of ty) (one.first ∙ sym one.second) }
 
   to_global : (pointer global : List ℕ) → kind_fault (pointer_at pointer a.script) (base_of_global a global) ≡ None
       → PointsToGlobal a.program script pointer global

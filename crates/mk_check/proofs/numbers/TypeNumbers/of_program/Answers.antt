@@ -19,8 +19,5 @@ loop-item-preserved c =
           })
       | in_default w ↦
           rw (w.numbers-is, w.count-is, next, type_names-push_other front c.item-item.result w.in_default.not-TypeLine)
-          (record {
-            numbers = known.numbers;
-            fits = omega (arith, known.fits);
-          })
+          (record { numbers = known.numbers; fits = omega (arith, known.fits) })
     ]
