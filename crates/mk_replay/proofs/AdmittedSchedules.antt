@@ -15,7 +15,8 @@ use Rattle.mk_core.proofs.Histories.{calls_more, last_enabled}
 use Rattle.mk_core.specs.{Effects.flights_behind, History.calls_from, History.left_from, Order.is_in_order}
 use Rattle.mk_laws.{proofs.Promises.histories_keep_all_promises, specs.Promises.KeepsAllPromises}
 use Rattle.mk_check.proofs.AdmittedScripts.{first_are_noted, scripts_are_admitted}
-use Rattle.mk_check.proofs.{ConfigLemmas.config_within, GivenAnswers.as_list, GivenAnswers.counted, GivenAnswers.serves}
+use Rattle.mk_check.proofs.ConfigLemmas.{config_within}
+use Rattle.mk_check.proofs.GivenAnswers.{among_more, as_list, counted, more_ended, other_number, same_number, serves}
 use Rattle.mk_check.specs.Output.{answers_among, ended_calls, ends_call_of}
 use Rattle.mk_check.specs.{Feeding.next_op, Laws.IsChecked, Laws.IsScript}
 use Rattle.mk_replay.proofs.AskedCalls.{Asks, BeginsAsAsked, Waits, others_step, own_step, same_asks, waits}
@@ -24,30 +25,13 @@ use Rattle.mk_script.{proofs.PassedLines.is_whole, specs.Scopes.script_names}
 
 -- What one event more makes of a caller's answers, and of the count of its calls that ended.
 
-among_more : (k : ℕ) (xs ys : List Decided) → answers_among k (xs ++ ys) ≡ answers_among k xs ++ answers_among k ys
-among_more k xs ys = grind (arith, filter-append, map-append)
-
-is_same : (j : ℕ) → (j == j) ≡ true
-is_same j = eq-eqb j j refl
-
-is_other : (j k : ℕ) → j ≢ k → (j == k) ≡ false
-is_other j k other = grind (arith, nat_tests)
-
 own_among : (k : ℕ) (xs : List Decided) (o : Op) (a : Option Answer)
     → answers_among k (xs ++ entry_of k o a) ≡ answers_among k xs ++ as_list a
-own_among k xs o a = grind (arith, among_more, as_list, is_same)
+own_among k xs o a = grind (arith, among_more, as_list, same_number)
 
 others_among : (k j : ℕ) (xs : List Decided) (o : Op) (a : Option Answer) → j ≢ k
     → answers_among k (xs ++ entry_of j o a) ≡ answers_among k xs
-others_among k j xs o a other = grind (arith, among_more, append-nil, is_other)
-
-ended_more : (es : List Event) (e : Event) (k : ℕ)
-    → ended_calls k (es ++ e ∷ []) ≡ counted (ended_calls k es) (ends_call_of k e)
-ended_more es e k = sum_by_push (λ (x : Event). if ends_call_of k x then 1 else 0) es e ∙ counts (ends_call_of k e)
-  where
-    counts : (b : Bool) → ended_calls k es + (if b then 1 else 0) ≡ counted (ended_calls k es) b
-    counts true = refl
-    counts false = omega arith
+others_among k j xs o a other = grind (arith, among_more, append-nil, other_number)
 
 asked_more : (xs ys : List Decided) → asked (xs ++ ys) ≡ asked xs ++ asked ys
 asked_more xs ys = map-append _ xs ys
@@ -117,7 +101,7 @@ module _ (program : List Item) (es : List Event) where
       let inside : j < length m.seats.flights =
       subst (λ (i : ℕ). j < i) (sym (serves c es j before).long) (ltb-true j c.callers meets.seat) in
       let ended : ended_calls j (es ++ e ∷ []) ≡ counted n (ends_call s) =
-      ended_more es e j ∙ ap (λ (b : Bool). counted n (b && ends_call s)) (is_same j) in
+      more_ended es e j ∙ ap (λ (b : Bool). counted n (b && ends_call s)) (same_number j) in
       let answered : answers_among j (calls c (es ++ e ∷ [])) ≡ all ++ as_list p.answer =
       ap (answers_among j) (calls_more c (first_world c) es e) ∙ own_among j (calls c es) f.op p.answer in
       let once = λ (goes : ends_call s ≡ false) (b : Answer) (is : p.answer ≡ Some b).
@@ -138,7 +122,7 @@ module _ (program : List Item) (es : List Event) where
       let a = answer_decided c m e in
       same_asks program k (flight_of m (Caller k)) _ n _ all _ (asked (calls c es) ++ asked (entry_of j f.op a)) _
       (flight_behind e k ∙ get_or-set_other m.seats.flights j k _ at_rest (λ same. other (sym same)))
-      (ended_more es e k ∙ ap (λ (b : Bool). counted n (b && ends_call s)) (is_other k j (λ same. other (sym same))))
+      (more_ended es e k ∙ ap (λ (b : Bool). counted n (b && ends_call s)) (other_number k j (λ same. other (sym same))))
       (ap (answers_among k) (calls_more c (first_world c) es e) ∙ others_among k j (calls c es) f.op a other)
       (asked_behind e) (others_step program k (flight_of m (Caller k)) n all (asked (calls c es)) h j f.op a other)
 
@@ -152,7 +136,7 @@ module _ (program : List Item) (es : List Event) where
       let same : calls c (es ++ e ∷ []) ≡ calls c es = grind (arith, calls_more, append-nil) in
       same_asks program k (flight_of m (Caller k)) _ n _ all _ (asked (calls c es)) _
       (flight_behind e k ∙ ap (λ (fs : List Flight). get_or fs k at_rest) still)
-      (ended_more es e k ∙ ap (λ (b : Bool). counted n (b && ends_call e.step)) other)
+      (more_ended es e k ∙ ap (λ (b : Bool). counted n (b && ends_call e.step)) other)
       (ap (answers_among k) same) (ap asked same) h
 
   push_caller : (j : ℕ) (o : Op) (a : Option Answer) → IsScript program j

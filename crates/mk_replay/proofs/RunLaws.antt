@@ -11,7 +11,7 @@ use Rattle.mk_laws.proofs.Vocabulary.{get_or_append_left, inl, inr, length, refl
 use Rattle.mk_laws.proofs.Vocabulary.{slice_set, subst, sym, true, [], ◌++◌, ◌<◌, ◌==◌, ◌∙◌, ◌∷◌, ◌≡◌, ◌≢◌}
 use Rattle.mk_core.proofs.Histories.{calls_more, last_enabled}
 use Rattle.mk_core.specs.{Enabled.failing, Standing.CoreStandsFor, Standing.CoreState}
-use Rattle.mk_check.proofs.FeedLaws.{feed_push, feed_push-ended}
+use Rattle.mk_check.proofs.{FeedLaws.feed_push, FeedLaws.feed_push-ended, GivenAnswers.same_number}
 use Rattle.mk_check.specs.Feeding.{FeedStandsFor, FeedState, TakesAnswer as FeedTakesAnswer}
 use Rattle.mk_check.specs.{Feed.feed, Feed.has_ended, declared.text.Text.Text}
 use Rattle.mk_replay.proofs.ServedMore.{served_first, served_more}
@@ -43,9 +43,6 @@ pub answer_is : (c : Config) (es : List Event) (e : Event) (caller : ℕ) (o : O
     → calls c (es ++ e ∷ []) ≡ calls c es ++ entry_of caller o a → a ≡ answer_decided c (left c es).now e
 answer_is c es e caller o a h = grind (arith, append_cancel_left, calls_more, answer_of_entry, first_answer)
 
-is_same : (j : ℕ) → (j == j) ≡ true
-is_same j = eq-eqb j j refl
-
 is_other : (j k : ℕ) → j ≢ k → (k == j) ≡ false
 is_other j k ne = grind (arith, nat_tests)
 
@@ -55,7 +52,7 @@ mine : (players : List Player) (j : ℕ) (old new : Player) (e : Event) (a : Opt
     → (program : List Item) (d : Player) (x : Served) → IsPlayerOf program j x (get_or players j d)
     → IsPlayerOf program j (served_by j e a x) (get_or (set players j new) j d)
 mine players j old new e a lt at is takes program d x h =
-    let mine : is_same_seat (Seat.Caller j) e.seat ≡ true = ap (is_same_seat (Seat.Caller j)) is ∙ is_same j in
+    let mine : is_same_seat (Seat.Caller j) e.seat ≡ true = ap (is_same_seat (Seat.Caller j)) is ∙ same_number j in
     let here : get_or players j d ≡ old = get_or_default players j d old lt ∙ sym at in
     rw (mine, get_or-set_same players j new d lt) (takes program j x (subst (IsPlayerOf program j x) here h))
 
