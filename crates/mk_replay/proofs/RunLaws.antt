@@ -6,7 +6,7 @@ use Rattle.mk_replay.proofs.Vocabulary.{IsPlayerOf, Item, Op, TakesStep, answer_
 use Rattle.mk_replay.proofs.Vocabulary.{entry_of, event_of_entry, first_world, flight_of, is_same_seat, left}
 use Rattle.mk_replay.proofs.Vocabulary.{length-append, nat_tests, served_to}
 use Rattle.mk_laws.proofs.Vocabulary.{IsEnabled, List, None, Option, Seat, Some, ℕ, ap, arith, caller_number, cases_eq}
-use Rattle.mk_laws.proofs.Vocabulary.{enabled_meets, eq-eqb, false, get_or, get_or-set_other, get_or-set_same}
+use Rattle.mk_laws.proofs.Vocabulary.{enabled_meets, false, get_or, get_or-set_other, get_or-set_same}
 use Rattle.mk_laws.proofs.Vocabulary.{get_or_append_left, inl, inr, length, refl, seat_exists, slice_index_or}
 use Rattle.mk_laws.proofs.Vocabulary.{slice_set, subst, sym, true, [], ◌++◌, ◌<◌, ◌==◌, ◌∙◌, ◌∷◌, ◌≡◌, ◌≢◌}
 use Rattle.mk_core.proofs.Histories.{calls_more, last_enabled}
@@ -35,8 +35,7 @@ first_answer (x ∷ xs) = Some x.answer
 
 answer_of_entry : (caller : ℕ) (o : Op) (a : Option Answer) → first_answer (entry_of caller o a) ≡ a
 unfolding first_answer
-answer_of_entry caller o (Some a) = refl
-answer_of_entry caller o None = refl
+answer_of_entry caller o x2 = grind arith
 
 -- The answer that makes this history's calls is the one that the event decides.
 pub answer_is : (c : Config) (es : List Event) (e : Event) (caller : ℕ) (o : Op) (a : Option Answer)
@@ -68,13 +67,12 @@ others players j new e a is {k} d other h =
 pub one_takes : (players : List Player) (j : ℕ) (old new : Player) (e : Event) (a : Option Answer)
     → j < length players → old ≡ slice_index_or players j old → e.seat ≡ Seat.Caller j
     → TakesStep (ends_call e.step) a old new → TakeEvent e a players (slice_set players j new)
-one_takes players j old new e a lt at is takes = λ program k d x less h.
-    elim (cases_eq j k) [
-      | inl same ↦ subst (λ (i : ℕ). IsPlayerOf program i (served_by i e a x) (get_or (set players j new) i d)) same
-          (mine players j old new e a lt at is takes program d x
-          (subst (λ (i : ℕ). IsPlayerOf program i x (get_or players i d)) (sym same) h))
-      | inr other ↦ others players j new e a is d other h
-    ]
+one_takes players j old new e a lt at is takes = λ program k d x less h. elim (cases_eq j k) [
+  | inl same ↦ subst (λ (i : ℕ). IsPlayerOf program i (served_by i e a x) (get_or (set players j new) i d)) same
+      (mine players j old new e a lt at is takes program d x
+      (subst (λ (i : ℕ). IsPlayerOf program i x (get_or players i d)) (sym same) h))
+  | inr other ↦ others players j new e a is d other h
+]
 
 -- At a call's last step the answer that was kept, or is decided there, is given.
 pub last_takes : (old new : Player) (decided : Option Answer) (a : Answer) → option_or decided old.kept ≡ Some a
@@ -125,8 +123,7 @@ players_more program es e a players new count enabled is takes h = λ k d less.
 
 -- A run goes on after an event of the core.
 pub run_goes : {program : List Item} {es : List Event} (x : Entry) {old : Run} (new : Run) {core : CoreState}
-    (e : Event)
-    (a : Option Answer)
+    (e : Event) (a : Option Answer)
     → IsRunAfter program es old → (IsTrue (seat_exists (config_of program 8) x.seat) → e ≡ event_of_entry program es x)
     → e.seat ≡ x.seat → core.config ≡ old.core.config → CoreStandsFor core (es ++ e ∷ [])
     → calls old.core.config (es ++ e ∷ [])
@@ -143,11 +140,10 @@ run_goes {program} {es} x {old} new {core} e a h event seat same stands answers 
     let decided : a ≡ answer_decided c (left c es).now e = grind (arith, answer_is) in
     record {
       enabled = subst (λ (y : Event). failing c (left c es).now y ≡ 0) is enabled;
-      run = subst (λ (y : Event). IsRunAfter program (es ++ y ∷ []) new) is
-          (record {
-            config = ap (λ (k : CoreState). k.config) keeps ∙ config;
-            stands = subst (λ (k : CoreState). CoreStandsFor k (es ++ e ∷ [])) (sym keeps) stands;
-            count = count ∙ h.count;
-            players = players_more program es e a old.players.items new.players.items count all decided takes h.players;
-          });
+      run = subst (λ (y : Event). IsRunAfter program (es ++ y ∷ []) new) is (record {
+        config = ap (λ (k : CoreState). k.config) keeps ∙ config;
+        stands = subst (λ (k : CoreState). CoreStandsFor k (es ++ e ∷ [])) (sym keeps) stands;
+        count = count ∙ h.count;
+        players = players_more program es e a old.players.items new.players.items count all decided takes h.players;
+      });
     }

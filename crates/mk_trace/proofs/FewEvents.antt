@@ -8,7 +8,8 @@ use Rattle.mk_trace.proofs.Vocabulary.{with_trace_line, words_of_line, written_f
 use Rattle.mk_laws.proofs.Vocabulary.{Bool, List, ℕ, ap, arith, drop, false, if◌then◌else◌, length, nat_le, subst, sym}
 use Rattle.mk_laws.proofs.Vocabulary.{true, [], ◌+◌, ◌==◌, ◌∷◌, ◌≡◌, ◌≤◌}
 use Rattle.mk_script.specs.Words.{without_empty_last}
-use Rattle.mk_trace.proofs.ReadLines.{gone_on, passed_else, passed_then, then_next}
+use Rattle.mk_check.proofs.GrammarLemmas.{passed_then}
+use Rattle.mk_trace.proofs.ReadLines.{gone_on, passed_else, then_next}
 use Rattle.mk_trace.specs.{Grammar.along, Traces.contents_from, Traces.words_of_slots, declared.lines.Line.Line}
 
 -- before any event

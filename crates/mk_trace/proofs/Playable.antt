@@ -12,10 +12,9 @@ use Rattle.mk_trace.proofs.Vocabulary.{with_trace_line, words_of_line, written_f
 use Rattle.mk_laws.proofs.Vocabulary.{Bool, List, None, Option, Some, ℕ, arith, false, get_or, if◌then◌else◌, is_some}
 use Rattle.mk_laws.proofs.Vocabulary.{length, length-map, nat_le, refl, subst, true, [], ◌++◌, ◌+◌, ◌<◌, ◌==◌, ◌∷◌, ◌≡◌}
 use Rattle.mk_laws.proofs.Vocabulary.{◌≤◌}
-use Rattle.mk_check.proofs.GrammarLemmas.{at_most-None, option_or-None}
+use Rattle.mk_check.proofs.{FaultLemmas.or-None, GrammarLemmas.at_most-None, GrammarLemmas.passed_then, GrammarLemmas.within-None}
 use Rattle.mk_script.specs.{Lines.at_most, Lines.heap_limit, Lines.within, Operands.name, Operands.number}
-use Rattle.mk_trace.proofs.ReadLines.{along_keeps, bound, gone_on, passed_else, passed_then, then_next, unless_none}
-use Rattle.mk_trace.proofs.ReadLines.{within_none}
+use Rattle.mk_trace.proofs.ReadLines.{along_keeps, bound, gone_on, passed_else, then_next, unless_none}
 use Rattle.mk_trace.proofs.SlotTypes.{length-types_from, range_below, types_among}
 use Rattle.mk_trace.specs.Lines.{checked_slot, event_line, heap_pages, slot_from, slot_limit, slot_line, trace_line_of}
 use Rattle.mk_trace.specs.Typing.{event_on, on_slot, typed_write, words_at}
@@ -37,10 +36,10 @@ one_more : (before : List Slot) (slot found : Slot) → checked_slot before slot
 one_more before slot found h are =
     let fresh = passed_else (is_some (slot_number before slot.name)) _ _ found h in
     let is = unless_none (slot_limit (length before + 1) slot.words) slot found fresh.1 in
-    let limits = option_or-None (at_most (length before + 1) 64 Which.Types)
+    let limits = or-None (at_most (length before + 1) 64 Which.Types)
     (within 1 slot.words 4096 Which.Words) is.0 in
     let count = at_most-None (length before + 1) 64 Which.Types limits.0 in
-    let size = within_none 1 slot.words 4096 Which.Words limits.1 in
+    let size = within-None 1 slot.words 4096 Which.Words limits.1 in
     record {
       few = omega (arith, count, length-append before (found ∷ []));
       sizes = All-append SlotIsWithin before (found ∷ []) are.sizes
@@ -89,10 +88,10 @@ heap_within pages resident heap h =
     let p = bound (number pages) _ heap h in
     let r = bound (number resident) _ heap p.behind in
     let is = unless_none (heap_limit p.value r.value) (record { pages = p.value; resident = r.value }) heap r.behind in
-    let limits = option_or-None (within 1 p.value 4096 Which.Pages) (within 1 r.value p.value Which.Resident) is.0 in
+    let limits = or-None (within 1 p.value 4096 Which.Pages) (within 1 r.value p.value Which.Resident) is.0 in
     subst HeapIsWithin is.1 (record {
-      pages = within_none 1 p.value 4096 Which.Pages limits.0;
-      resident = within_none 1 r.value p.value Which.Resident limits.1;
+      pages = within-None 1 p.value 4096 Which.Pages limits.0;
+      resident = within-None 1 r.value p.value Which.Resident limits.1;
     })
 
 pub header_within : (words : List (List ℕ)) (heap : HeapPages) → header_line_of words ≡ Ok heap → HeapIsWithin heap

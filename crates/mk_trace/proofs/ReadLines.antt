@@ -46,19 +46,6 @@ pub passed_else : {X Fault : Type 0} (test : Bool) (fault : Fault) (found : Resu
 passed_else true fault found x h = absurd cc
 passed_else false fault found x h = (refl, h)
 
-pub passed_then : {X Fault : Type 0} (test : Bool) (fault : Fault) (found : Result X Fault) (x : X)
-    → (if test then found else Err fault) ≡ Ok x → (test ≡ true) × (found ≡ Ok x)
-passed_then true fault found x h = (refl, h)
-passed_then false fault found x h = absurd cc
-
-both : (a b : Bool) (fault : LineFault) → (if a && b then None else Some fault) ≡ None → (a ≡ true) × (b ≡ true)
-both true true fault h = (refl, refl)
-both _ _ fault h = absurd cc
-
-pub within_none : (least found greatest : ℕ) (which : Which) → within least found greatest which ≡ None
-    → IsBetween least greatest found
-within_none least found greatest which h = grind (arith, both, nat_tests)
-
 -- what each line keeps, all keep
 pub along_keeps : {Line Given Whole Fault : Type 0} (told : ℕ → Fault → TraceStop)
     (read : Whole → Line → Result Given Fault) (add : Whole → Given → Whole) (P : Whole → Type 0)
