@@ -1,6 +1,6 @@
 -- The generated text is refused by no step.
 use Rattle.std.proofs.Common.{Err}
-use Rattle.mk_gen.proofs.Vocabulary.{Item, List, Ok, Some, ℕ, ap, generated_text, program_of, subst, sym, ◌∙◌, ◌≡◌, ◌≤◌}
+use Rattle.mk_gen.proofs.Vocabulary.{Item, List, Ok, Some, ℕ, ap, generated_text, program_of, subst, ◌∙◌, ◌≡◌, ◌≤◌}
 use Rattle.mk_check.specs.Typing.{NamesFirstFault, first_typing_fault}
 use Rattle.mk_check.specs.declared.typing_faults.TypeStop.TheVariants.{IllTyped}
 use Rattle.mk_check.specs.{declared.typing_faults.TypeKind.TypeKind, declared.typing_faults.TypeStop.TypeStop}

@@ -1,13 +1,12 @@
 -- How many operations a script without `if` asks for, whatever it is answered.
 use Rattle.std.{proofs.Common.if◌then◌else◌, proofs.Common.is_some, proofs.lemmas.List.length_push, specs.Prelude.⊤}
-use Rattle.mk_gen.proofs.Vocabulary.{Bool, Item, List, None, Option, Some, ℕ, ap, arith, blocks_from, false, false≢true}
-use Rattle.mk_gen.proofs.Vocabulary.{length, refl, subst, suc, sym, true, zero, [], ◌*◌, ◌+◌, ◌∙◌, ◌∷◌, ◌≡◌}
+use Rattle.mk_gen.proofs.Vocabulary.{Bool, Item, List, Option, ℕ, ap, arith, blocks_from, false, length, refl, subst}
+use Rattle.mk_gen.proofs.Vocabulary.{suc, sym, true, zero, [], ◌*◌, ◌+◌, ◌∙◌, ◌∷◌, ◌≡◌}
 use Rattle.mk_never.specs.declared.operations.Op.{Op}
 use Rattle.mk_core.specs.declared.events.Answer.{Answer}
 use Rattle.mk_check.specs.Feed.{Fed, Scope, fed_before_answers, fed_before_lines, feed_script, has_ended, note, op_of}
 use Rattle.mk_check.specs.Feed.{run, run_line, run_rounds, take_answer, take_answers, with_answer}
 use Rattle.mk_check.specs.Blocks.{Blocks, Choice, Done, Line, Rounds, ScriptText, followed_by, is_end_of_block}
-use Rattle.mk_script.specs.declared.items.Item.TheVariants.{Else, Getn, Print}
 
 abbrev pub nowhere : Scope
 nowhere = record { types = []; globals = []; pointers = []; numbers = [] }
@@ -79,8 +78,7 @@ module _ (scope : Scope) where
   rounds_left (suc more) body go plain goes fed =
       let behind : (f : Fed) → IsLeft (more * calls_of body + 0) f (run_rounds more body go f) =
       λ f. recounted (omega arith) (rounds_left more body go plain goes f) in
-      recounted (omega arith)
-      (left_then (run_rounds more body go) (Rounds more body Done) (goes fed) (plain, tt) behind
+      recounted (omega arith) (left_then (run_rounds more body go) (Rounds more body Done) (goes fed) (plain, tt) behind
       (is_end_of_block (go fed).left) refl)
 
   line_keeps : (fed : Fed) (item : Item) → (run_line scope fed item).ops ≡ fed.ops

@@ -1,8 +1,8 @@
 -- The lines of a script are read by what stands after its first line alone.
 use Rattle.std.{proofs.lemmas.Bool.or_right, proofs.lemmas.List.Folds.list_any-append, specs.List.list_all}
-use Rattle.mk_gen.proofs.Vocabulary.{Bool, Item, List, None, Option, Script, Some, ℕ, and_parts, ap, checked_item}
-use Rattle.mk_gen.proofs.Vocabulary.{false, false≢true, length, line_item, refl, sym, this_script, this_script-push}
-use Rattle.mk_gen.proofs.Vocabulary.{true, words_of_line, [], ◌++◌, ◌+◌, ◌∙◌, ◌∷◌, ◌≡◌}
+use Rattle.mk_gen.proofs.Vocabulary.{Bool, Item, List, None, Option, Script, Some, ℕ, and_parts, ap, false, false≢true}
+use Rattle.mk_gen.proofs.Vocabulary.{length, line_item, refl, sym, this_script, this_script-push, true, words_of_line}
+use Rattle.mk_gen.proofs.Vocabulary.{[], ◌++◌, ◌+◌, ◌∙◌, ◌∷◌, ◌≡◌}
 use Rattle.mk_check.specs.Lookups.{lines_behind}
 use Rattle.mk_gen.proofs.ReadLines.{AreRead, IsRead}
 use Rattle.mk_script.proofs.Pushed.{open_blocks-push}
@@ -100,8 +100,7 @@ module _ (a b : List Item) (alike : AreAlike a b) where
   }
 
 pub AreRead-alike : (lines : List (List ℕ)) (items : List Item) {a b : List Item} → AreAlike a b
-    → list_all is_inside items ≡ true
-    → AreRead a lines items → AreRead b lines items
+    → list_all is_inside items ≡ true → AreRead a lines items → AreRead b lines items
 AreRead-alike [] [] alike inside are = tt
 AreRead-alike [] (item ∷ items) alike inside are = absurd are
 AreRead-alike (line ∷ lines) [] alike inside are = absurd are

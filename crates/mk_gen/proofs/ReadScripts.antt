@@ -2,9 +2,9 @@
 use Rattle.std.proofs.Common.{not, ◌&&◌, ◌/◌}
 use Rattle.std.proofs.{Math.Nat.mod-lt, lemmas.Bool.not-true, lemmas.List.Sums.fold-append}
 use Rattle.mk_gen.proofs.Vocabulary.{Bool, Item, List, Ok, Script, ℕ, and_parts, ap, append-nil, arith, body_lines}
-use Rattle.mk_gen.proofs.Vocabulary.{codes, draw, false≢true, leb-true, length, line_item, lines_of_scripts, nat_le}
-use Rattle.mk_gen.proofs.Vocabulary.{next_state, refl, script_body, scripts, sym, true, [], ◌++◌, ◌+◌, ◌<◌, ◌^◌, ◌and◌}
-use Rattle.mk_gen.proofs.Vocabulary.{◌∷◌, ◌≡◌, ◌≤◌}
+use Rattle.mk_gen.proofs.Vocabulary.{codes, draw, leb-true, length, line_item, lines_of_scripts, nat_le, next_state}
+use Rattle.mk_gen.proofs.Vocabulary.{refl, script_body, scripts, sym, true, [], ◌++◌, ◌+◌, ◌<◌, ◌^◌, ◌and◌, ◌∷◌, ◌≡◌}
+use Rattle.mk_gen.proofs.Vocabulary.{◌≤◌}
 use Rattle.mk_gen.proofs.ReadLines.{AreRead, AreRead-append, IsRead}
 use Rattle.mk_gen.proofs.{InScript.AreRead-alike, InScript.alike_at_first, ReadBody.body_is_read, ReadBody.by_words}
 use Rattle.mk_script.proofs.{PrintedForms.read_name, Pushed.script_names-append, Said.is_word-name}
@@ -57,8 +57,7 @@ module _ (turns number place : ℕ) where
       → AreReady before names → may_begin names name ≡ true
       → AreRead before ((codes "script " ++ name) ∷ body_lines turns number place) (script_items name)
   script_is_read t a i before names name ready may =
-      first_is_read name ready may
-      and AreRead-alike (body_lines turns number place) (script_body turns number place)
+      first_is_read name ready may and AreRead-alike (body_lines turns number place) (script_body turns number place)
       (alike_at_first before name) refl (body_is_read turns number place t a i)
 
 pub draw-lt : (x m : ℕ) → 0 < m → draw x m < m

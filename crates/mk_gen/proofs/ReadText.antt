@@ -3,8 +3,7 @@ use Rattle.mk_gen.proofs.Vocabulary.{Item, List, Ok, ℕ, all_names, arith, coun
 use Rattle.mk_gen.proofs.Vocabulary.{declarations, lines_of_scripts, next_state, program_of, refl, scripts, turns_of}
 use Rattle.mk_gen.proofs.Vocabulary.{[], ◌++◌, ◌<◌, ◌^◌, ◌≡◌, ◌≤◌}
 use Rattle.mk_gen.proofs.ReadLines.{AreRead, AreRead-append, program_of-lines}
-use Rattle.mk_gen.proofs.ReadScripts.{AreReady, draw-lt, scripts_are_read}
-use Rattle.mk_gen.proofs.ReadDeclarations.{declarations_are_read}
+use Rattle.mk_gen.proofs.{ReadDeclarations.declarations_are_read, ReadScripts.draw-lt, ReadScripts.scripts_are_read}
 use Rattle.mk_gen.specs.{Generated.generated_program, GeneratedText.generated_lines, GeneratedText.generated_text}
 use Rattle.mk_script.specs.Grammar.{at_end}
 
@@ -38,5 +37,4 @@ program_of-generated_text start count most =
     program_of-lines (generated_lines start count) (generated_program start count)
     (lines_are_read (turns_of count) (count_of_numbers start) (next_state start) (omega (arith, most))
     (numbers_some start) (omega (arith, draw-lt (next_state start) 100 (omega arith))))
-        (ends (turns_of count) (count_of_numbers start) (next_state start)) refl
-    refl
+    (ends (turns_of count) (count_of_numbers start) (next_state start)) refl refl
