@@ -1,7 +1,7 @@
 -- A script that is fed with one more answer.
 use Rattle.std.proofs.Common.{IsNone, IsTrue, ◌↔◌}
 use Rattle.mk_check.proofs.Vocabulary.{Answer, Blocks, Bool, Fed, FeedStandsFor, FeedState, IsWaiting, Item, Line, List}
-use Rattle.mk_check.proofs.Vocabulary.{Op, Option, Scope, Some, ℕ, ap, false, fed_before_answers, feed, first_op}
+use Rattle.mk_check.proofs.Vocabulary.{Op, Option, Scope, Some, ℕ, ap, arith, false, fed_before_answers, feed, first_op}
 use Rattle.mk_check.proofs.Vocabulary.{flagged, is_end_of_block, is_some, next_op, note, op_of, refl, script_of}
 use Rattle.mk_check.proofs.Vocabulary.{script_scope, take_answer, take_answers, true, with_answer, [], ◌++◌, ◌∙◌, ◌∷◌}
 use Rattle.mk_check.proofs.Vocabulary.{◌≡◌}
@@ -21,8 +21,7 @@ feed_push program k answers a =
 
 taken_at_end : (scope : Scope) (fed : Fed) (left : Blocks) (a : Answer) → is_end_of_block left ≡ true
     → take_answer scope fed left a ≡ fed
-taken_at_end scope fed (Line line item rest) a h = cc
-taken_at_end scope fed _ a h = refl
+taken_at_end scope fed x2 a h = grind arith
 
 -- A script that has ended takes no answer.
 pub feed_push-ended : (program : List Item) (k : ℕ) (answers : List Answer) (a : Answer)
@@ -55,5 +54,4 @@ waits_for_op s o none some = λ program k answers st. by_end (has_ended (feed pr
     (none program k answers st).1
   where
     by_end : (b : Bool) → (IsTrue b → IsNone o) → b ≡ false
-    by_end true f = let e : is_some o ≡ false = f refl in cc
-    by_end false f = refl
+    by_end x0 f = grind arith

@@ -1,8 +1,8 @@
 -- What names stand for with one more line.
 use Rattle.std.proofs.{Common.Bor, Common.cond, lemmas.Bool.cases_Bool}
 use Rattle.std.specs.{Cmp.Lexicographic.nat_list_eq_equiv, Option.option_copied}
-use Rattle.mk_check.proofs.Vocabulary.{At, Bool, Err, Item, List, None, Ok, OnOk, Option, Result, Some, TypeWord, ℕ, ap}
-use Rattle.mk_check.proofs.Vocabulary.{append-nil, bytes_eq, bytes_eq-Decides, false, false≢true, first_at, global_type}
+use Rattle.mk_check.proofs.Vocabulary.{At, Bool, Item, List, None, OnOk, Option, Result, Some, TypeWord, ℕ, ap}
+use Rattle.mk_check.proofs.Vocabulary.{append-nil, arith, bytes_eq, bytes_eq-Decides, false, first_at, global_type}
 use Rattle.mk_check.proofs.Vocabulary.{if◌then◌else◌, is_script, is_some, number_names, number_names-append, option_or}
 use Rattle.mk_check.proofs.Vocabulary.{pointer_at, refl, subst, sym, true, type_words, [], ⊎_elim, ◌++◌, ◌∙◌, ◌∷◌, ◌≡◌}
 use Rattle.mk_check.specs.declared.lookups.PointerRegister.{PointerRegister}
@@ -10,39 +10,31 @@ use Rattle.mk_script.specs.declared.items.Item.TheVariants.{Global, Num, Ptr, Sc
 
 -- no value, by its test
 pub None-from_is_some : {X : Type 0} (o : Option X) → is_some o ≡ false → o ≡ None
-None-from_is_some None absent = refl
-None-from_is_some (Some x) absent = absurd (false≢true (sym absent))
+None-from_is_some x0 absent = grind arith
 
 pub option_or-none : {X : Type 0} (o : Option X) → option_or o None ≡ o
-option_or-none None = refl
-option_or-none (Some x) = refl
+option_or-none x0 = grind arith
 
 if-or : {X : Type 0} (b : Bool) (x : X) (o p : Option X)
     → (if b then Some x else option_or o p) ≡ option_or (if b then Some x else o) p
-if-or true x o p = refl
-if-or false x o p = refl
+if-or x0 x o p = grind arith
 
 module _ {X : Type 0} (old new : List ℕ → Option X) (name : List ℕ) (value : X) (absent : old name ≡ None)
     (updated : (other : List ℕ) → new other ≡ cond (bytes_eq name other) (Some value) (old other)) where
-  apart : (other : List ℕ) → bytes_eq name other ≡ false
-      → new other ≡ option_or (old other) (if bytes_eq other name then Some value else None)
-  apart other differs =
-      let back : bytes_eq other name ≡ false = nat_list_eq_equiv.symm other name ∙ differs in
-      updated other ∙ rw (differs, back) (sym (option_or-none (old other)))
-
   -- a value is put for a name that has none
   pub put_first : (other : List ℕ)
       → new other ≡ option_or (old other) (if bytes_eq other name then Some value else None)
   put_first other = ⊎_elim (λ same.
       let none : old other ≡ None = subst (λ n. old n ≡ None) ((bytes_eq-Decides name other).0 same) absent in
       let back : bytes_eq other name ≡ true = nat_list_eq_equiv.symm other name ∙ same in
-      updated other ∙ rw (same, none, back) refl) (apart other) (cases_Bool (bytes_eq name other))
+      updated other ∙ rw (same, none, back) refl) (λ differs.
+      let back : bytes_eq other name ≡ false = nat_list_eq_equiv.symm other name ∙ differs in
+      updated other ∙ rw (differs, back) (sym (option_or-none (old other)))) (cases_Bool (bytes_eq name other))
 
 copied-or : {X : Type 0} (o : Option (Bor X)) (b : Bool) (x : Bor X)
     → option_copied (option_or o (if b then Some x else None))
     ≡ option_or (option_copied o) (if b then Some x.now else None)
-copied-or None true x = refl
-copied-or x0 b x = cc
+copied-or x0 b x = grind arith
 
 -- a line that declares a name, where the names before are known
 pub known-more : {X : Type 0} (old new : List ℕ → Option (Bor X)) (before behind : List ℕ
@@ -92,8 +84,7 @@ none-of all before behind split none = split ∙ ap (option_or before) none ∙ 
 
 type_words-other : (name : List ℕ) (item : Item)
     → ((other : List ℕ) (words : List TypeWord) → item ≡ TypeLine other words → ⊥) → type_words name (item ∷ []) ≡ None
-type_words-other name (TypeLine other words) differs = absurd (differs other words refl)
-type_words-other name item differs = refl
+type_words-other name item differs = grind arith
 
 pub type_words-push_other : (name : List ℕ) (items : List Item) (item : Item)
     → ((other : List ℕ) (words : List TypeWord) → item ≡ TypeLine other words → ⊥)
@@ -103,8 +94,7 @@ type_words-push_other name items item differs =
 
 global_type-other : (name : List ℕ) (item : Item) → ((other ty : List ℕ) → item ≡ Global other ty → ⊥)
     → global_type name (item ∷ []) ≡ None
-global_type-other name (Global other ty) differs = absurd (differs other ty refl)
-global_type-other name item differs = refl
+global_type-other name item differs = grind arith
 
 pub global_type-push_other : (name : List ℕ) (items : List Item) (item : Item)
     → ((other ty : List ℕ) → item ≡ Global other ty → ⊥)
@@ -114,8 +104,7 @@ global_type-push_other name items item differs =
 
 pointer_at-other : (name : List ℕ) (item : Item) → ((other : List ℕ) (at : At) → item ≡ Ptr other at → ⊥)
     → pointer_at name (item ∷ []) ≡ None
-pointer_at-other name (Ptr other at) differs = absurd (differs other at refl)
-pointer_at-other name item differs = refl
+pointer_at-other name item differs = grind arith
 
 pub pointer_at-push_other : (name : List ℕ) (items : List Item) (item : Item)
     → ((other : List ℕ) (at : At) → item ≡ Ptr other at → ⊥)
@@ -124,8 +113,7 @@ pointer_at-push_other name items item differs =
     none-of _ _ _ (pointer_at-append name items (item ∷ [])) (pointer_at-other name item differs)
 
 number_names-other : (item : Item) → ((other : List ℕ) → item ≡ Num other → ⊥) → number_names (item ∷ []) ≡ []
-number_names-other (Num other) differs = absurd (differs other refl)
-number_names-other item differs = refl
+number_names-other item differs = grind arith
 
 pub number_names-push_other : (items : List Item) (item : Item) → ((other : List ℕ) → item ≡ Num other → ⊥)
     → number_names (items ++ item ∷ []) ≡ number_names items
@@ -133,9 +121,7 @@ number_names-push_other items item differs =
     cc (number_names-append items (item ∷ []), number_names-other item differs, append-nil (number_names items))
 
 pub is_script-other : (item : Item) → ((name : List ℕ) → item ≡ Script name → ⊥) → is_script item ≡ false
-is_script-other (Script name) differs = absurd (differs name refl)
-is_script-other item differs = refl
+is_script-other item differs = grind arith
 
 pub OnOk-map : {T E : Type 0} {P Q : Type 0} (r : Result T E) → (P → Q) → OnOk r P → OnOk r Q
-OnOk-map (Ok x) f p = f p
-OnOk-map (Err e) f p = tt
+OnOk-map x0 f p = grind arith

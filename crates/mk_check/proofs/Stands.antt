@@ -135,8 +135,7 @@ answered_from : (program : List Item) (k : ℕ) (answers : List Answer) (a : Ans
     → (feed program k answers).left ≡ Line line item rest → length (feed program k answers).ops ≡ length answers
     → is_some (op_of (script_scope program k) (feed program k answers) item) ≡ true
     → stopped_in s.nodes s.place ≡ stop_on_answer (numbered (script_scope program k) (feed program k answers).left) a
-    (kept_of (feed program k answers))
-    → FeedStandsFor program k s (answers ++ a ∷ [])
+    (kept_of (feed program k answers)) → FeedStandsFor program k s (answers ++ a ∷ [])
 answered_from program k answers a line item rest s is taken some stop =
     let scope = script_scope program k in
     let fed = feed program k answers in

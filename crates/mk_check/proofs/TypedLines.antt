@@ -1,9 +1,9 @@
 -- What a well-typed line says of its registers, its types and its globals.
 use Rattle.std.proofs.Common.{eqb-true}
 use Rattle.mk_check.proofs.Vocabulary.{Around, At, Item, List, None, Option, Some, TypeKind, TypeWord, ℕ, and_parts, ap}
-use Rattle.mk_check.proofs.Vocabulary.{base_of, bytes_eq, bytes_eq-Decides, false≢true, global_type, moved_by}
-use Rattle.mk_check.proofs.Vocabulary.{option_map, pointer_at, refl, same_Some, sym, true, type_words, typing_fault}
-use Rattle.mk_check.proofs.Vocabulary.{word_among, ◌+◌, ◌==◌, ◌or◌, ◌∙◌, ◌≡◌}
+use Rattle.mk_check.proofs.Vocabulary.{arith, base_of, bytes_eq-Decides, global_type, moved_by, option_map, pointer_at}
+use Rattle.mk_check.proofs.Vocabulary.{refl, same_Some, sym, true, type_words, typing_fault, word_among, ◌+◌, ◌or◌, ◌∙◌}
+use Rattle.mk_check.proofs.Vocabulary.{◌≡◌}
 use Rattle.mk_check.proofs.FaultLemmas.{HasValue, has_value, or-None, unless-None}
 use Rattle.mk_check.specs.Typing.{base_of_global, inside_fault, is_base, is_number_word, kind_fault, number_word_fault}
 use Rattle.mk_check.specs.Typing.{place_behind, pointed_place, pointer_fault, pointer_word_fault, same_at, type_fault}
@@ -86,21 +86,13 @@ abbrev at_of : List ℕ → ℕ → At
 at_of name offset = record { name = name; offset = offset }
 
 are_one : (s t : Option At) → same_at s t ≡ true → AreOne s t
-are_one (Some s) (Some t) e =
-    let both = and_parts (bytes_eq s.name t.name) (s.offset == t.offset) e in
-    let name : s.name ≡ t.name = (bytes_eq-Decides s.name t.name).0 both.0 in
-    let offset : s.offset ≡ t.offset = eqb-true s.offset t.offset both.1 in
-    let same : t ≡ s = ap (λ (n : List ℕ). at_of n t.offset) (sym name) ∙ ap (at_of s.name) (sym offset) in
-    record { at = s; first = refl; second = ap Some same }
-are_one _ _ e = absurd (false≢true e)
+are_one x0 x1 e = grind (arith, and_parts, bytes_eq-Decides, eqb-true, at_of)
 
 number_word : (word : Option TypeWord) → is_number_word word ≡ true → word ≡ Some Number
-number_word (Some Number) e = refl
-number_word _ e = absurd (false≢true e)
+number_word x0 e = grind arith
 
 pointer_word : (word : Option TypeWord) (at : At) → pointed_place word ≡ Some at → word ≡ Some (Pointer at)
-pointer_word (Some (Pointer at')) at e = ap (λ (t : At). Some (Pointer t)) (same_Some at' at e)
-pointer_word _ at e = cc
+pointer_word x0 at e = grind (arith, same_Some)
 
 module _ (a : Around) (script : List Item) (stays : (name : List ℕ) (at : At) → pointer_at name a.script ≡ Some at
     → pointer_at name script ≡ Some at) where
@@ -115,8 +107,7 @@ module _ (a : Around) (script : List Item) (stays : (name : List ℕ) (at : At) 
     where
       by_place : (place : Option At) → pointer_at pointer a.script ≡ place
           → type_word_at a (option_map (moved_by i) place) ≡ Some word → PointsBefore a.program script pointer i word
-      by_place None is f = cc
-      by_place (Some at) is f = record { at = at; declared = stays pointer at is; is = f }
+      by_place x0 is f = grind (arith, declared)
 
   before_number : (pointer : List ℕ) (i : ℕ) → number_word_fault a pointer i ≡ None
       → PointsBefore a.program script pointer i Number
@@ -175,9 +166,7 @@ module _ (a : Around) (script : List Item) (stays : (name : List ℕ) (at : At) 
       by_type : (ty : Option (List ℕ)) → global_type global a.program ≡ ty
           → AreOne (pointer_at pointer a.script) (option_map base_of ty)
           → PointsToGlobal a.program script pointer global
-      by_type None is one = let f = one.second in cc
-      by_type (Some ty) is one =
-          record { ty = ty; is = is; declared = stays pointer (base_of ty) (one.first ∙ sym one.second) }
+      by_type x0 is one = grind (arith, declared)
 
   to_base : (pointer : List ℕ) → unless (is_base (pointer_at pointer a.script)) TypeKind.InteriorFree ≡ None
       → PointsToBase script pointer
@@ -185,32 +174,10 @@ module _ (a : Around) (script : List Item) (stays : (name : List ℕ) (at : At) 
     where
       by_place : (place : Option At) → pointer_at pointer a.script ≡ place → is_base place ≡ true
           → PointsToBase script pointer
-      by_place None is f = absurd (false≢true f)
-      by_place (Some at) is f = record { at = at; declared = stays pointer at is; base = eqb-true at.offset 0 f }
+      by_place x0 is f = grind (arith, declared, eqb-true)
 
   -- a well-typed line
   pub says : (line : ℕ) (after : List Item) (item : Item) → typing_fault a line after item ≡ None
       → Says a.program script item
-  says line after (New pointer ty) e =
-      let last = or-None _ _ e in to_type pointer ty (or-None (pointer_fault a pointer) _ last.0).1 last.1
-  says line after (Free pointer) e = to_base pointer (or-None (pointer_fault a pointer) _ e).1
-  says line after (Getn number pointer index) e = before_number pointer index (or-None _ _ e).1
-  says line after (Setn pointer index number) e = before_number pointer index (or-None _ _ e).1
-  says line after (Getp loaded pointer index) e = before_one pointer index loaded (or-None _ _ e).1
-  says line after (Setp pointer index stored) e = before_one pointer index stored (or-None _ _ e).1
-  says line after (Casp number pointer index expected stored) e =
-      let last = or-None _ _ e in (
-        before_one pointer index expected (or-None _ _ last.0).1,
-        before_one pointer index stored last.1,
-      )
-  says line after (Lea moved pointer index) e =
-      let last = or-None _ _ e in behind pointer index moved (or-None _ _ last.0).1 last.1
-  says line after (Move copied pointer) e = alike copied pointer (or-None _ _ e).1
-  says line after (Clear pointer) e = declared pointer e
-  says line after (Loadg loaded global) e = to_global loaded global (or-None _ _ e).1
-  says line after (Storeg stored global) e = to_global stored global (or-None _ _ e).1
-  says line after (Same number first second) e =
-      let last = or-None _ _ e in (declared first (or-None _ _ last.0).1, declared second last.1)
-  says line after (Isnull number pointer) e = declared pointer (or-None _ _ e).1
-  says line after (Show pointer) e = declared pointer e
-  says line after item e = tt
+  says line after item e =
+      grind (arith, or-None, to_type, to_base, before_number, before_one, behind, alike, declared, to_global)

@@ -27,8 +27,7 @@ module _ (program : List Item) where
         says (record { program = program; script = this_script before }) script
             (stays script (this_script before) (before_next_script (item ∷ more)) all) line more item none.0,
         rest_says script (before ++ item ∷ []) more (line + 1) (place + 1) (cc (
-          append_assoc (this_script before)
-              (item ∷ []) (before_next_script more),
+          append_assoc (this_script before) (item ∷ []) (before_next_script more),
           this_script-push before item,
         )) none.1,
       )

@@ -1,9 +1,9 @@
 use Rattle.std.{proofs.Common.OnErr, specs.declared.result.Result.Result}
-use Rattle.mk_check.proofs.Vocabulary.{Err, FeedState, IfOk-weaker, IsAtStop, IsFeed, IsTree, List, Node, None, Ok}
-use Rattle.mk_check.proofs.Vocabulary.{OnOk, Op, Option, Place, PlaceFits, PlaceIsWithin, StopsAt, TakesAnswer, ℕ}
-use Rattle.mk_check.proofs.Vocabulary.{after_answer, ap, false, is_some, kept_in, left_in, length, node_at, op_asked}
-use Rattle.mk_check.proofs.Vocabulary.{op_in, op_of_node, refusal_line, refusal_text, stop_on_answer, stopped_in, subst}
-use Rattle.mk_check.proofs.Vocabulary.{sym, true, with_kept, work_left, [], ◌++◌, ◌<◌, ◌∙◌, ◌∷◌, ◌≡◌}
+use Rattle.mk_check.proofs.Vocabulary.{FeedState, IfOk-weaker, IsAtStop, IsFeed, IsTree, List, Node, None, OnOk, Op}
+use Rattle.mk_check.proofs.Vocabulary.{Option, Place, PlaceFits, PlaceIsWithin, StopsAt, TakesAnswer, ℕ, after_answer}
+use Rattle.mk_check.proofs.Vocabulary.{ap, arith, false, is_some, kept_in, left_in, length, node_at, op_asked, op_in}
+use Rattle.mk_check.proofs.Vocabulary.{op_of_node, refusal_line, refusal_text, stop_on_answer, stopped_in, subst, sym}
+use Rattle.mk_check.proofs.Vocabulary.{true, with_kept, work_left, [], ◌++◌, ◌<◌, ◌∙◌, ◌∷◌, ◌≡◌}
 use Rattle.mk_check.proofs.Stands.{answer_stands, answer_stops, op_of_others, waits_for_answer}
 use Rattle.mk_check.proofs.feeding.Feed.answer_ahead.Goals.{After-follow, In_ok-take}
 use Rattle.mk_check.proofs.{Moves.line_fits, TreeNodes.is_at, WorkLaws.answer_nearer}
@@ -35,8 +35,7 @@ stops c e =
     c.in-Line.ensures.tree c.self.invariant.stop.within (waits c) starts c.in_ok-run.ensures e
 
 either : {T E : Type 0} (r : Result T E) (P Q X : Type 0) → OnOk r P → OnErr r Q → (P → X) → (Q → X) → X
-either (Ok x) P Q X p q f g = f p
-either (Err e) P Q X p q f g = g q
+either x0 x1 x2 x3 p q f g = grind arith
 
 -- the state that it was in
 feed : (c : After-follow) → IsFeed c.args.self.now
@@ -94,10 +93,7 @@ starts_at c =
 
 -- text doesn't change where a script stops
 stops_so : (n : Node) (q : Place) (text : List ℕ) → StopsAt n q → StopsAt n (record q { text = text })
-stops_so Node.Done q text h = h
-stops_so (Node.Line line instruction next) q text h = h
-stops_so (Node.Rounds rounds body next) q text h = h
-stops_so (Node.Choice number first second next) q text h = h
+stops_so x0 q text h = grind arith
 
 stops_behind_text : (nodes : List Node) (q t : Place) (text : List ℕ) → t ≡ record q { text = text }
     → PlaceIsWithin (length nodes) q → PlaceFits nodes q → StopsAt (node_at nodes q.at) q
