@@ -1,16 +1,15 @@
 -- How a text ends, by its blocks and its scripts.
 use Rattle.mk_script.proofs.Vocabulary.{Bool, Err, Item, List, Ok, ℕ, at_end, false, has_none, has_script, length, not}
+use Rattle.mk_script.proofs.Vocabulary.{arith}
 use Rattle.mk_script.proofs.Vocabulary.{open_blocks, refl, sym, true, ◌∙◌, ◌≡◌}
 use Rattle.mk_script.specs.declared.faults.TextStop.TheVariants.{Limit, Text}
 use Rattle.mk_script.specs.{declared.faults.TextKind.TheVariants.End, declared.faults.Which.TheVariants.Scripts}
 
 closed_is : (b closed : Bool) → b ≡ not closed → b ≡ false → closed ≡ true
-closed_is b true e f = refl
-closed_is b false e f = cc
+closed_is b x1 e f = grind arith
 
 open_is : (b closed : Bool) → b ≡ not closed → b ≡ true → closed ≡ false
-open_is b false e f = refl
-open_is b true e f = cc
+open_is b x1 e f = grind arith
 
 pub ends_open : (items : List Item) (some : Bool) (line : ℕ) → some ≡ not (has_none (open_blocks items)) → some ≡ true
     → line ≡ length items → at_end items ≡ Err (Text line End)

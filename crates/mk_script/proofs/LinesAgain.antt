@@ -1,5 +1,6 @@
 -- The line that said an item is said again by the item's own words.
 use Rattle.std.{proofs.Common.leb-true, specs.Option.option_or}
+use Rattle.mk_script.proofs.Vocabulary.{arith}
 use Rattle.mk_script.proofs.Vocabulary.{Bool, Err, Item, Keyword, LineFault, List, None, Ok, Option, Result, Some, ℕ}
 use Rattle.mk_script.proofs.Vocabulary.{and_from, and_parts, ap, bytes_eq, codes, cond, cond-true, false}
 use Rattle.mk_script.proofs.Vocabulary.{has_word_count, have_form, is_placed, item_from, keyword_of, length, line_of}
@@ -18,12 +19,10 @@ pub record IsAgain (before : List Item) (line : Item) : Type 0 where
 
 pub cond_ok : {A E : Type 0} (b : Bool) (r : Result A E) (fault : E) (x : A) → cond b r (Err fault) ≡ Ok x
     → (b ≡ true) × (r ≡ Ok x)
-cond_ok true r fault x e = (refl, e)
-cond_ok false r fault x e = absurd cc
+cond_ok x0 r fault x e = grind arith
 
 cond_none : {A : Type 0} (b : Bool) (x : A) → cond b None (Some x) ≡ None → b ≡ true
-cond_none true x e = refl
-cond_none false x e = absurd cc
+cond_none x0 x e = grind arith
 
 -- line 1
 
@@ -70,14 +69,10 @@ item_again (first ∷ before) words line short e =
     }
 
 option_or_was : (first second : Option LineFault) → option_or first second ≡ None → second ≡ None
-option_or_was None second e = e
-option_or_was (Some fault) second e = absurd cc
+option_or_was x0 second e = grind arith
 
 is_short : (before : List Item) (line : Item) → limit_fault before line ≡ None → IsShort line
-is_short before (Item.TypeLine name words) e =
-    leb-true _ 4096 (cond_none (nat_le _ 4096) _
-    (option_or_was (at_most (length (type_names before) + 1) 64 Which.Types) _ e))
-is_short before line e = tt
+is_short before line e = grind (arith, leb-true, cond_none, option_or_was)
 
 pub line_again : (before : List Item) (words : List (List ℕ)) (line : Item) → line_of before words ≡ Ok line
     → (line_of before (words_of_item line) ≡ Ok line) × AreWords (words_of_item line)

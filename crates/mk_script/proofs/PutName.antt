@@ -1,5 +1,6 @@
 -- The names of a set, and another that is put to them.
 use Rattle.std.proofs.lemmas.List.Sorted.{IsPermutation-map, IsPermutation-to_front, IsPermutation-trans}
+use Rattle.mk_script.proofs.Vocabulary.{arith}
 use Rattle.std.specs.Bool.{MatchBool}
 use Rattle.mk_script.proofs.Vocabulary.{Bool, IsPermutation, List, ℕ, ap, bytes_eq, false, is_among, list_any, map, not}
 use Rattle.mk_script.proofs.Vocabulary.{refl, sym, true, [], ◌++◌, ◌||◌, ◌∙◌, ◌∷◌, ◌≡◌}
@@ -10,8 +11,7 @@ list_any-map p f [] = refl
 list_any-map p f (x ∷ xs) = ap (λ rest. p (f x) || rest) (list_any-map p f xs)
 
 contradicts : (found : Bool) → false ≡ not found → found ≡ false → ⊥
-contradicts true a b = cc
-contradicts false a b = cc
+contradicts x0 a b = grind arith
 
 put : {A : Type 0} (text : A → List ℕ) (before after : List A) (key : A) (added : Bool)
     → added ≡ not (list_any (λ other. bytes_eq (text key) (text other)) before)

@@ -1,5 +1,6 @@
 -- The scope after one line more, by the line's kind.
 use Rattle.std.proofs.lemmas.List.Sorted.{IsPermutation-append_left, IsPermutation-refl, IsPermutation-trans}
+use Rattle.mk_script.proofs.Vocabulary.{arith}
 use Rattle.mk_script.proofs.Vocabulary.{At, Bool, IsPermutation, Item, List, ℕ, ap, append-nil, false, global_names}
 use Rattle.mk_script.proofs.Vocabulary.{has_script, is_script, list_any, list_any-append, number_names, open_behind}
 use Rattle.mk_script.proofs.Vocabulary.{pointer_names, refl, reverse, script_names, sym, this_script, true, type_names}
@@ -15,12 +16,10 @@ has_lines-push [] item = refl
 has_lines-push (first ∷ before) item = refl
 
 pub or-false : (a b : Bool) → b ≡ false → (a || b) ≡ a
-or-false true b fails = refl
-or-false false b fails = fails
+or-false x0 b fails = grind arith
 
 pub or-true : (a : Bool) → (a || true) ≡ true
-or-true true = refl
-or-true false = refl
+or-true x0 = grind arith
 
 -- the names that a line declares
 pub record Adds (item : Item) (types globals scripts pointers numbers : List (List ℕ)) : Type 0 where
@@ -42,17 +41,7 @@ pub other_adds : (item : Item) → ((pages resident : ℕ) → item ≡ Heap pag
     → ((name ty : List ℕ) → item ≡ Global name ty → ⊥) → ((name : List ℕ) → item ≡ Script name → ⊥)
     → ((name : List ℕ) (at : At) → item ≡ Ptr name at → ⊥) → ((name : List ℕ) → item ≡ Num name → ⊥)
     → Adds item [] [] [] [] [] × (is_script item ≡ false) × (is_instruction item ≡ true)
-other_adds (Heap pages resident) heap type global script ptr num = absurd (heap pages resident refl)
-other_adds (TypeLine name words) heap type global script ptr num = absurd (type name words refl)
-other_adds (Global name ty) heap type global script ptr num = absurd (global name ty refl)
-other_adds (Script name) heap type global script ptr num = absurd (script name refl)
-other_adds (Ptr name at) heap type global script ptr num = absurd (ptr name at refl)
-other_adds (Num name) heap type global script ptr num = absurd (num name refl)
-other_adds item heap type global script ptr num = (
-  record { types_are = refl; globals_are = refl; scripts_are = refl; pointers_are = refl; numbers_are = refl },
-  refl,
-  refl,
-)
+other_adds item heap type global script ptr num = grind arith
 
 -- a set that no name is put to
 pub kept : (set : List (List ℕ)) → IsPermutation (set ++ []) set

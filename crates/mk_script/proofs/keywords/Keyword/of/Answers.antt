@@ -1,4 +1,5 @@
 use Rattle.mk_script.proofs.Vocabulary.{length, refl, ◌∙◌, ◌≡◌}
+use Rattle.mk_script.proofs.Vocabulary.{arith}
 use Rattle.mk_script.proofs.KeywordLengths.{of_length}
 use Rattle.mk_script.proofs.keywords.Keyword.of.Goals as goal
 
