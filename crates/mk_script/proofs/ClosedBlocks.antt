@@ -1,10 +1,9 @@
 -- The lines of a text's program close the blocks that they open. Of each open block it is said here whether it may have
 -- an `else`.
 use Rattle.std.proofs.lemmas.List.Sums.{fold_push}
-use Rattle.mk_script.proofs.Vocabulary.{arith}
-use Rattle.mk_script.proofs.Vocabulary.{Bool, IsOfSomeText, Item, List, ap, append-nil, append_assoc, ends_rightly}
-use Rattle.mk_script.proofs.Vocabulary.{false, has_none, map, open_behind, open_blocks, refl, subst, sym, true, []}
-use Rattle.mk_script.proofs.Vocabulary.{◌++◌, ◌∙◌, ◌∷◌, ◌≡◌}
+use Rattle.mk_script.proofs.Vocabulary.{Bool, IsOfSomeText, Item, List, ap, append-nil, append_assoc, arith}
+use Rattle.mk_script.proofs.Vocabulary.{ends_rightly, false, has_none, map, open_behind, open_blocks, subst, sym, true}
+use Rattle.mk_script.proofs.Vocabulary.{[], ◌++◌, ◌∙◌, ◌∷◌, ◌≡◌}
 use Rattle.mk_script.proofs.PassedLines.{ArePassed, is_whole}
 use Rattle.mk_script.specs.declared.items.Item.TheVariants.{Else, End, If, Repeat, Script}
 use Rattle.mk_script.specs.Scopes.{InFirst, InRepeat, InSecond, OpenBlock}

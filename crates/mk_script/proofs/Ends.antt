@@ -1,7 +1,6 @@
 -- How a text ends, by its blocks and its scripts.
-use Rattle.mk_script.proofs.Vocabulary.{Bool, Err, Item, List, Ok, ℕ, at_end, false, has_none, has_script, length, not}
-use Rattle.mk_script.proofs.Vocabulary.{arith}
-use Rattle.mk_script.proofs.Vocabulary.{open_blocks, refl, sym, true, ◌∙◌, ◌≡◌}
+use Rattle.mk_script.proofs.Vocabulary.{Bool, Err, Item, List, Ok, ℕ, arith, at_end, false, has_none, has_script}
+use Rattle.mk_script.proofs.Vocabulary.{length, not, open_blocks, refl, sym, true, ◌∙◌, ◌≡◌}
 use Rattle.mk_script.specs.declared.faults.TextStop.TheVariants.{Limit, Text}
 use Rattle.mk_script.specs.{declared.faults.TextKind.TheVariants.End, declared.faults.Which.TheVariants.Scripts}
 

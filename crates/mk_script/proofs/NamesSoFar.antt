@@ -1,9 +1,8 @@
 -- What a set says of the names that it has.
 use Rattle.std.proofs.{Common.Result, lemmas.List.Sorted.length_permutation, lemmas.List.Sorted.list_any-IsPermutation}
-use Rattle.mk_script.proofs.Vocabulary.{arith}
 use Rattle.std.specs.Result.{OnOk}
-use Rattle.mk_script.proofs.Vocabulary.{Bool, Err, IsPermutation, List, Ok, ℕ, ap, bytes_eq, false, is_among, length}
-use Rattle.mk_script.proofs.Vocabulary.{list_any-append, refl, sym, true, ◌++◌, ◌||◌, ◌∙◌, ◌≡◌}
+use Rattle.mk_script.proofs.Vocabulary.{Bool, IsPermutation, List, ℕ, ap, arith, bytes_eq, false, is_among, length}
+use Rattle.mk_script.proofs.Vocabulary.{list_any-append, sym, true, ◌++◌, ◌||◌, ◌∙◌, ◌≡◌}
 
 pub among : (name : List ℕ) (names set : List (List ℕ)) → IsPermutation names set
     → is_among name set ≡ is_among name names

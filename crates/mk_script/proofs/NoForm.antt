@@ -1,6 +1,5 @@
 -- A line with a number of words that no form has.
 use Rattle.mk_script.proofs.Vocabulary.{Err, Keyword, List, ℕ, item_from, length, refl, [], ◌∷◌, ◌≡◌, ◌≢◌}
-use Rattle.mk_script.proofs.Vocabulary.{arith}
 use Rattle.mk_script.specs.declared.faults.LineFault.TheVariants.{Text}
 use Rattle.mk_script.specs.{declared.faults.TextKind.TheVariants.Word, declared.keywords.Keyword.TheVariants.TypeLine}
 

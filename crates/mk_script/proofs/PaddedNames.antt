@@ -1,9 +1,8 @@
 -- Names of one length that are padded with zeros are the same where all their bytes are.
 use Rattle.std.proofs.Common.{drop_at, take-append-drop}
-use Rattle.mk_script.proofs.Vocabulary.{arith}
 use Rattle.std.proofs.{lemmas.List.drop-replicate, lemmas.Slice.Eq.bytes_eq-Decides}
-use Rattle.mk_script.proofs.Vocabulary.{Bool, List, ℕ, ap, bytes_eq, drop, false, length, refl, replicate, sym, take}
-use Rattle.mk_script.proofs.Vocabulary.{true, ◌++◌, ◌-◌, ◌∙◌, ◌≡◌, ◌≤◌}
+use Rattle.mk_script.proofs.Vocabulary.{Bool, List, ℕ, ap, arith, bytes_eq, drop, length, replicate, sym, take, true}
+use Rattle.mk_script.proofs.Vocabulary.{◌++◌, ◌-◌, ◌∙◌, ◌≡◌, ◌≤◌}
 
 same_test : (r s : Bool) → (r ≡ true → s ≡ true) → (s ≡ true → r ≡ true) → r ≡ s
 same_test x0 x1 there back = grind arith

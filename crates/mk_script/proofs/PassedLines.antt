@@ -1,7 +1,6 @@
 -- What each line of a program of some text keeps, after the lines before it.
-use Rattle.mk_script.proofs.Vocabulary.{Bool, Err, IsOfSomeText, Item, LineFault, List, None, Ok, Option, Result, Some}
-use Rattle.mk_script.proofs.Vocabulary.{arith}
-use Rattle.mk_script.proofs.Vocabulary.{ℕ, ap, append-nil, append_assoc, ends_rightly, false, go_on, has_none}
+use Rattle.mk_script.proofs.Vocabulary.{Bool, Err, IsOfSomeText, Item, LineFault, List, None, Ok, Option, Result, ℕ, ap}
+use Rattle.mk_script.proofs.Vocabulary.{append-nil, append_assoc, arith, ends_rightly, false, go_on, has_none}
 use Rattle.mk_script.proofs.Vocabulary.{has_script, if◌then◌else◌, is_twice, items_behind, items_of_lines, length}
 use Rattle.mk_script.proofs.Vocabulary.{line_of, lines_of, nat_le, open_blocks, refl, subst, sym, true, words_of_line}
 use Rattle.mk_script.proofs.Vocabulary.{[], ◌++◌, ◌+◌, ◌>>=◌, ◌∙◌, ◌∷◌, ◌≡◌}

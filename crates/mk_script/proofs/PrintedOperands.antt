@@ -1,6 +1,5 @@
 -- A line of a form that reads its operands one after the other is read again as it is printed.
 use Rattle.mk_script.proofs.Vocabulary.{At, Err, Item, Keyword, LineFault, List, Ok, Result, Some, ℕ, ap, append-nil}
-use Rattle.mk_script.proofs.Vocabulary.{arith}
 use Rattle.mk_script.proofs.Vocabulary.{append_assoc, at, at_text, decimal, has_word_count, have_form, item_from}
 use Rattle.mk_script.proofs.Vocabulary.{keyword_of, length, name, refl, subst, suc, sym, true, words_of_item, [], ◌++◌}
 use Rattle.mk_script.proofs.Vocabulary.{◌>>=◌, ◌∙◌, ◌∷◌, ◌≡◌}

@@ -1,9 +1,8 @@
 -- The names of a set, and another that is put to them.
 use Rattle.std.proofs.lemmas.List.Sorted.{IsPermutation-map, IsPermutation-to_front, IsPermutation-trans}
-use Rattle.mk_script.proofs.Vocabulary.{arith}
 use Rattle.std.specs.Bool.{MatchBool}
-use Rattle.mk_script.proofs.Vocabulary.{Bool, IsPermutation, List, ℕ, ap, bytes_eq, false, is_among, list_any, map, not}
-use Rattle.mk_script.proofs.Vocabulary.{refl, sym, true, [], ◌++◌, ◌||◌, ◌∙◌, ◌∷◌, ◌≡◌}
+use Rattle.mk_script.proofs.Vocabulary.{Bool, IsPermutation, List, ℕ, ap, arith, bytes_eq, false, is_among, list_any}
+use Rattle.mk_script.proofs.Vocabulary.{map, not, refl, sym, true, [], ◌++◌, ◌||◌, ◌∙◌, ◌∷◌, ◌≡◌}
 
 pub list_any-map : {A B : Type 0} (p : B → Bool) (f : A → B) (xs : List A)
     → list_any p (map f xs) ≡ list_any (λ x. p (f x)) xs

@@ -1,6 +1,5 @@
 -- The canonical text of a text's program has the same program.
 use Rattle.mk_script.proofs.Vocabulary.{IsOfSomeText, Item, List, Ok, ap, append-nil, append_assoc, at_end}
-use Rattle.mk_script.proofs.Vocabulary.{arith}
 use Rattle.mk_script.proofs.Vocabulary.{canonical_text, cond-true, items_behind, items_of_lines, joined_words, le-leb}
 use Rattle.mk_script.proofs.Vocabulary.{length, line_of, refl, subst, sym, words_of_item, words_of_line, [], ◌++◌, ◌+◌}
 use Rattle.mk_script.proofs.Vocabulary.{◌∙◌, ◌∷◌, ◌≡◌, ◌≤◌}

@@ -112,8 +112,7 @@ pub at_was : (w : List ℕ) (a : At) → at w ≡ Ok a → IsPlace a
 at_was w a e = elim (cases_cond (list_any is_plus w) _ _ (Ok a) (sym e)) [
   | inl h ↦ with_name (before_first is_plus w) (sym h) (λ n named rest. with_number (after_first is_plus w) rest
       (λ k small done. is_this done IsPlace (record { named = named; small = small })))
-  | inr h ↦ with_name w (sym h)
-      (λ n named done. is_this done IsPlace (record { named = named; small = omega arith }))
+  | inr h ↦ with_name w (sym h) (λ n named done. is_this done IsPlace (record { named = named; small = omega arith }))
 ]
 
 pub with_at : {A P : Type 0} (w : List ℕ) {f : At → Result A LineFault} {y : A} → (at w >>= f) ≡ Ok y

@@ -1,10 +1,9 @@
 -- The scope after one line more, by the line's kind.
 use Rattle.std.proofs.lemmas.List.Sorted.{IsPermutation-append_left, IsPermutation-refl, IsPermutation-trans}
-use Rattle.mk_script.proofs.Vocabulary.{arith}
-use Rattle.mk_script.proofs.Vocabulary.{At, Bool, IsPermutation, Item, List, ℕ, ap, append-nil, false, global_names}
-use Rattle.mk_script.proofs.Vocabulary.{has_script, is_script, list_any, list_any-append, number_names, open_behind}
-use Rattle.mk_script.proofs.Vocabulary.{pointer_names, refl, reverse, script_names, sym, this_script, true, type_names}
-use Rattle.mk_script.proofs.Vocabulary.{[], ◌++◌, ◌||◌, ◌∙◌, ◌∷◌, ◌≡◌}
+use Rattle.mk_script.proofs.Vocabulary.{At, Bool, IsPermutation, Item, List, ℕ, ap, append-nil, arith, false}
+use Rattle.mk_script.proofs.Vocabulary.{global_names, has_script, is_script, list_any, list_any-append, number_names}
+use Rattle.mk_script.proofs.Vocabulary.{open_behind, pointer_names, refl, reverse, script_names, sym, this_script, true}
+use Rattle.mk_script.proofs.Vocabulary.{type_names, [], ◌++◌, ◌||◌, ◌∙◌, ◌∷◌, ◌≡◌}
 use Rattle.mk_script.proofs.Pushed.{global_names-append, number_names-append, open_blocks-push, pointer_names-append}
 use Rattle.mk_script.proofs.Pushed.{script_names-append, this_script-push, type_names-append}
 use Rattle.mk_script.specs.ScopeOf.{IsScopeOf, has_lines}

@@ -1,5 +1,4 @@
 use Rattle.mk_script.proofs.RoundTrip.{program_of-canonical_text}
-use Rattle.mk_script.proofs.Vocabulary.{arith}
 use Rattle.mk_script.proofs.laws.canonical_texts_are_read_back.Goals as goal
 
 pub returns : goal.returns

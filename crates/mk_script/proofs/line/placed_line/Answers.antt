@@ -1,5 +1,4 @@
 use Rattle.mk_script.proofs.Vocabulary.{ap, is_placed, rules, sym, texts_of, true, ◌∙◌, ◌≡◌, ◌≢◌}
-use Rattle.mk_script.proofs.Vocabulary.{arith}
 use Rattle.mk_script.proofs.{Converted.gives_fault, Placed.placed_plain}
 use Rattle.mk_script.specs.{Stops.checked_behind, declared.keywords.Keyword.TheVariants.TypeLine}
 use Rattle.mk_script.proofs.line.placed_line.Goals as goal

@@ -1,5 +1,4 @@
 use Rattle.mk_script.proofs.Vocabulary.{rules}
-use Rattle.mk_script.proofs.Vocabulary.{arith}
 use Rattle.mk_script.proofs.parsing.parse.Goals as goal
 
 pub from_items-requires : goal.from_items-requires

@@ -1,5 +1,4 @@
 use Rattle.mk_script.proofs.Pushed.{last_turned}
-use Rattle.mk_script.proofs.Vocabulary.{arith}
 use Rattle.mk_script.proofs.scope.begin_else.Goals as goal
 
 pub returns-in-Some : goal.returns-in-Some

@@ -1,5 +1,4 @@
 use Rattle.mk_script.proofs.Vocabulary.{ap, false, global_names, is_among, is_script, is_twice, number_names}
-use Rattle.mk_script.proofs.Vocabulary.{arith}
 use Rattle.mk_script.proofs.Vocabulary.{pointer_names, refl, reverse, script_names, sym, this_script, type_names, []}
 use Rattle.mk_script.proofs.Vocabulary.{◌||◌, ◌∙◌, ◌∷◌, ◌≡◌}
 use Rattle.mk_script.proofs.ScopeAfter.{adds, after_line, after_script, kept, or-false, or-true, other_adds}

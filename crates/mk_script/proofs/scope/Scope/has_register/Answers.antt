@@ -1,5 +1,4 @@
 use Rattle.mk_script.proofs.Vocabulary.{is_among, number_names, pointer_names, this_script}
-use Rattle.mk_script.proofs.Vocabulary.{arith}
 use Rattle.mk_script.proofs.NamesSoFar.{among_both, either_false, either_true}
 use Rattle.mk_script.proofs.scope.Scope.has_register.Goals as goal
 

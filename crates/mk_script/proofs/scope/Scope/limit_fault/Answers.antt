@@ -1,5 +1,4 @@
 use Rattle.mk_script.proofs.Vocabulary.{global_names, number_names, pointer_names, script_names, this_script}
-use Rattle.mk_script.proofs.Vocabulary.{arith}
 use Rattle.mk_script.proofs.NamesSoFar.{count}
 use Rattle.mk_script.proofs.scope.Scope.limit_fault.Goals as goal
 
