@@ -69,9 +69,6 @@ module _ (a b : List Item) (alike : AreAlike a b) where
   other_alike [] = refl
   other_alike (word ∷ operands) = form_alike (keyword_of word) operands
 
-  line_alike : (words : List (List ℕ)) → line_item a words ≡ line_item b words
-  line_alike words = other_line_of a words alike.script ∙ other_alike words ∙ sym (other_line_of b words alike.script')
-
   twice_alike : (item : Item) → is_inside item ≡ true → is_twice a item ≡ is_twice b item
   twice_alike (TypeLine name words) inside = absurd (false≢true inside)
   twice_alike (Global name ty) inside = absurd (false≢true inside)
@@ -93,7 +90,8 @@ module _ (a b : List Item) (alike : AreAlike a b) where
 
   pub read_alike : (line : List ℕ) (item : Item) → is_inside item ≡ true → IsRead a line item → IsRead b line item
   read_alike line item inside is = record {
-    says = sym (line_alike (words_of_line line)) ∙ is.says;
+    says = sym (other_line_of a (words_of_line line) alike.script ∙ other_alike (words_of_line line) ∙ sym
+        (other_line_of b (words_of_line line) alike.script')) ∙ is.says;
     passes = sym (rw (twice_alike item inside, limit_alike item inside, alike.blocks) refl) ∙ is.passes;
     is_whole = is.is_whole;
     is_short = is.is_short;
