@@ -119,9 +119,6 @@ module _ (program script : List Item) (few : HasFew (scope_of program script)) (
   abbrev Keeps : NeverState → Type 0
   Keeps m = AreAsDeclared program script m caller
 
-  free_keeps : (v : Value) → Keeps (after_free n v)
-  free_keeps x0 = grind arith
-
   sets : (name : List ℕ) (at : At) (v : Value) → pointer_at name script ≡ Some at → IsOfKind v (kind_at program at)
       → Keeps (with_register n caller (number_of_name name (pointer_names script)) v)
   sets name at v is of_kind = set_register program script n caller name at v fits.declared is of_kind
@@ -142,7 +139,7 @@ module _ (program script : List Item) (few : HasFew (scope_of program script)) (
       if_by Keeps full _ _ (λ e. fits.declared)
       (λ e. set_register program script (with_new n (number_of_name ty (type_names program))) caller pointer
       (base_of ty) _ fits.declared s.declared (refl, refl)))
-  line_keeps fed (Free pointer) s = λ a. free_keeps (register_of script n caller pointer)
+  line_keeps fed (Free pointer) s = λ a. grind arith
   line_keeps fed (Getn number pointer index) s = λ a. fits.declared
   line_keeps fed (Setn pointer index number) s = grind (arith, left_at_by, register_of)
   line_keeps fed (Getp loaded pointer index) s = λ a. load_keeps loaded pointer index s

@@ -214,10 +214,6 @@ noted_asked : (program : List Item) (k : ℕ) (answers : List Answer) (calls : L
     → AreNotedBy program k answers calls → All (IsAsked program (lines_of program k)) (ops_of_caller k calls)
 noted_asked program k answers calls checked are = grind (arith, lines_of, feed_asked)
 
-flagged_next : (program : List Item) (k : ℕ) (answers : List Answer) (o : Op) → next_op program k answers ≡ Some o
-    → flagged o Answer.Done ≡ o
-flagged_next program k answers o e = grind (arith, next_stands, flagged_asked)
-
 pub next_is_admitted : (program : List Item) (callers : ℕ) (calls : List Call) (k : ℕ) (answers : List Answer)
     → IsChecked program
     → length (script_names program) ≤ callers → IsScript program k → AreAdmittedFor program callers calls
@@ -243,7 +239,7 @@ next_is_admitted program callers calls k answers checked enough is_script admits
     record {
       asked = λ o e. subst
           (λ (x : Op). IsAdmitted (globals_of program) (after_calls (heap_of program callers) calls) k x)
-          (flagged_next program k answers o e) (noted_too o Answer.Done e);
+          (grind (arith, next_stands, flagged_asked)) (noted_too o Answer.Done e);
       noted = noted_too;
     }
 

@@ -138,12 +138,7 @@ module _ (nodes : List Node) where
   first_in_branch {p} {number} {first} {second} at asks =
       let both = and_parts (asks_first (steps_at (trees nodes) first)) (asks_first (steps_at (trees nodes) second))
       (sym (first_from at) ∙ asks) in
-      by_test (slice_index p.numbers number == 0) both.0 both.1
-    where
-      by_test : (b : Bool) → asks_first (steps_at (trees nodes) first) ≡ true
-          → asks_first (steps_at (trees nodes) second) ≡ true
-          → asks_first (steps_at (trees nodes) (if b then second else first)) ≡ true
-      by_test x0 f g = grind arith
+      grind arith
 
   pub no_print_here : {p : Place} {line : ℕ} {instruction : Instruction} {next : ℕ}
       → IsAt nodes p (Node.Line line instruction next) → is_asking instruction ≡ false

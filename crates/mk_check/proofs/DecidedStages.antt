@@ -85,15 +85,12 @@ may_refuse Stage.LoadQ = true
 may_refuse Stage.Probe = true
 may_refuse _ = false
 
-refused_stage : (s : Stage) (o : Op) → may_refuse s ≡ true → has_stage o s ≡ true → has_stage o (stage_refused o) ≡ true
-refused_stage x0 x1 m h = grind arith
-
 refused_pending : (s : Stage) (o : Op) → may_refuse s ≡ true → pending (stage_refused o) ≡ pending s + 1
 refused_pending x0 x1 m = grind arith
 
 refused_goes : (s : Stage) (o : Op) (q p r l q' p' r' l' : ℕ) (a : Answer) → may_refuse s ≡ true → has_stage o s ≡ true
     → Goes (flight s o q p r l) (refused (flight s o q' p' r' l') a)
-refused_goes s o q p r l q' p' r' l' a m h = record { stage = refused_stage s o m h; pending = refused_pending s o m }
+refused_goes s o q p r l q' p' r' l' a m h = record { stage = grind arith; pending = refused_pending s o m }
 
 -- `reg`
 
@@ -156,25 +153,14 @@ probe_goes : (o : Op) (q p r l : ℕ) (b : Bool) → has_stage o Stage.Probe ≡
     else onward (flight Stage.Probe o q p r l) None)
 probe_goes o q p r l b h = grind (arith, either, refused_goes, onward_goes)
 
-read_goes : (o : Op) (q p r l found : ℕ) → has_stage o Stage.Read ≡ true
-    → Goes (flight Stage.Read o q p r l) (progress_read (flight Stage.Read o q p r l) o found)
-read_goes o q p r l found h = grind (arith, onward_goes)
-
 -- the turn's steps
-
-give_stage : (o : Op) → has_stage o Stage.Turn ≡ true → has_stage o Stage.Give ≡ true
-give_stage x0 h = grind arith
 
 decided_goes : (o : Op) (q p r l : ℕ) (a : Answer) → has_stage o Stage.Turn ≡ true
     → Goes (flight Stage.Turn o q p r l) (decided (flight Stage.Turn o q p r l) a)
-decided_goes o q p r l a h = record { stage = give_stage o h; pending = refl }
+decided_goes o q p r l a h = record { stage = grind arith; pending = refl }
 
 sees_none : (w : Words) (x : Word) → sees_double w None x ≡ false
 sees_none w x1 = grind arith
-
-look_goes : (s : Stage) (o : Op) (q p r l : ℕ) (c : Config) (w : Words) (x : Word) → has_stage o s ≡ true
-    → comes_next s o (Step.Look x) ≡ true → Goes (flight s o q p r l) (progress_look c w (flight s o q p r l) x)
-look_goes s o q p r l c w x h n = grind (arith, either, flight, decided_goes, still_goes, sees_none)
 
 freed_goes : (o : Op) (q p r l : ℕ) (cell : Option Cell) → has_stage o Stage.Turn ≡ true
     → Goes (flight Stage.Turn o q p r l) (progress_freed (flight Stage.Turn o q p r l) cell)
@@ -183,11 +169,6 @@ freed_goes o q p r l x5 h = grind (arith, decided_goes, still_goes)
 -- nothing is freed where the Free is decided
 freed_none : (b : Bool) (f : Flight) → progress_freed f (if b then None else None) ≡ still f
 freed_none x0 f = grind arith
-
-quar_goes : (s : Stage) (o : Op) (q p r l : ℕ) (c : Config) (w : Words) (page v : ℕ) → has_stage o s ≡ true
-    → comes_next s o (Step.Quar page v) ≡ true
-    → Goes (flight s o q p r l) (progress_freed (flight s o q p r l) (cell_freed c.pages w (flight s o q p r l) page v))
-quar_goes s o q p r l c w page v h n = grind (arith, freed_goes, flight, freed_none, still_goes)
 
 -- a New is granted, or refused, while it is undecided
 
@@ -219,7 +200,7 @@ goes c m s o q p r l found Step.Reg h n e = reg_goes s o q p r l found h n
 goes c m s o q p r l found Step.Probe h n e =
     own c m s o q p r l found Step.Probe refl h n (λ i. probe_goes o q p r l (is_unmapped_header (header_of found)) i)
 goes c m s o q p r l found Step.Read h n e =
-    own c m s o q p r l found Step.Read refl h n (λ i. read_goes o q p r l found i)
+    own c m s o q p r l found Step.Read refl h n (λ i. grind (arith, onward_goes))
 goes c m s o q p r l found Step.Write h n e =
     own c m s o q p r l found Step.Write refl h n (λ i. onward_goes Stage.Write o q p r l q p r l _ refl i refl)
 goes c m s o q p r l found Step.Cas h n e =
@@ -230,8 +211,8 @@ goes c m s o q p r l found Step.Setg h n e =
     own c m s o q p r l found Step.Setg refl h n (λ i. onward_goes Stage.Setg o q p r l q p r l _ refl i refl)
 goes c m s o q p r l found Step.Dirty h n e =
     own c m s o q p r l found Step.Dirty refl h n (λ i. onward_goes Stage.Dirty o q p r l q p r l None refl i refl)
-goes c m s o q p r l found (Step.Look x) h n e = look_goes s o q p r l c m.words x h n
-goes c m s o q p r l found (Step.Quar page v) h n e = quar_goes s o q p r l c m.words page v h n
+goes c m s o q p r l found (Step.Look x) h n e = grind (arith, either, flight, decided_goes, still_goes, sees_none)
+goes c m s o q p r l found (Step.Quar page v) h n e = grind (arith, freed_goes, flight, freed_none, still_goes)
 goes c m s o q p r l found Step.Grant h n e =
     let is = grants_at_turn s o n in
     subst (At c m o q p r l found Step.Grant) (sym is)

@@ -19,16 +19,12 @@ feed_push program k answers a =
     take_answers_push (script_scope program k) (fed_before_answers (script_scope program k) (script_of program k))
     answers a
 
-taken_at_end : (scope : Scope) (fed : Fed) (left : Blocks) (a : Answer) → is_end_of_block left ≡ true
-    → take_answer scope fed left a ≡ fed
-taken_at_end scope fed x2 a h = grind arith
-
 -- A script that has ended takes no answer.
 pub feed_push-ended : (program : List Item) (k : ℕ) (answers : List Answer) (a : Answer)
     → has_ended (feed program k answers) ≡ true → feed program k (answers ++ a ∷ []) ≡ feed program k answers
 feed_push-ended program k answers a h =
     feed_push program k answers a
-    ∙ taken_at_end (script_scope program k) (feed program k answers) (feed program k answers).left a h
+    ∙ (grind arith)
 
 ops_taken : (scope : Scope) (fed : Fed) (left : Blocks) (a : Answer) (o : Op) → first_op scope fed left ≡ Some o
     → (take_answer scope fed left a).ops ≡ fed.ops ++ flagged o a ∷ []
@@ -50,8 +46,4 @@ ops-feed_push program k answers a o h =
 pub waits_for_op : (s : FeedState) (o : Option Op)
     → ((program : List Item) (k : ℕ) (answers : List Answer) → FeedStandsFor program k s answers
     → IsNone o ↔ IsTrue (has_ended (feed program k answers))) → is_some o ≡ true → IsWaiting s
-waits_for_op s o none some = λ program k answers st. by_end (has_ended (feed program k answers))
-    (none program k answers st).1
-  where
-    by_end : (b : Bool) → (IsTrue b → IsNone o) → b ≡ false
-    by_end x0 f = grind arith
+waits_for_op s o none some = λ program k answers st. grind arith

@@ -59,11 +59,6 @@ module _ (names : List Item → List (List ℕ)) (greatest : ℕ) (l : AreLimite
   script_is_few before (item ∷ more) line (suc k) passed h =
       script_is_few (before ++ item ∷ []) more (line + 1) (suc k) passed.1 (still_few before item passed.0.within h)
 
-pointer_fits : (before : List Item) (item : Item) → limit_fault before item ≡ None
-    → length (pointer_names (this_script before)) ≤ 8
-    → length (pointer_names (this_script before)) + length (pointer_names (item ∷ [])) ≤ 8
-pointer_fits before item limit h = grind (arith, at_most-None)
-
 number_fits : (before : List Item) (item : Item) → limit_fault before item ≡ None
     → length (number_names (this_script before)) ≤ 8
     → length (number_names (this_script before)) + length (number_names (item ∷ [])) ≤ 8
@@ -74,7 +69,8 @@ text_has_few program k text =
     let whole = is_whole program text in
     record {
       pointers = script_is_few pointer_names 8
-          (record { none = refl; append = pointer_names-append; fits = pointer_fits }) [] program 1 k whole.lines
+          (record { none = refl; append = pointer_names-append; fits =
+              (λ before item limit h. grind (arith, at_most-None)) }) [] program 1 k whole.lines
           (omega arith);
       globals = length-global_names program whole;
       numbers = script_is_few number_names 8

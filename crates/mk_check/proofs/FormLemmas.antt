@@ -102,13 +102,9 @@ placed-word before (Some form) operands t words h =
     let parts = and_parts (has_word_count form (length operands)) (have_form form operands) fits.0 in
     form-word form operands t words parts.0 parts.1 both.1
 
-other_line-word : (before : List Item) (words : List (List ℕ)) (t : List ℕ) (kinds : List TypeWord)
-    → other_line before words ≡ Ok (TypeItem t kinds) → 1 ≤ length kinds
-other_line-word before x1 t kinds h = grind (arith, placed-word)
-
 -- a type that a line says has a word
 pub line_item-word : (before : List Item) (words : List (List ℕ)) (t : List ℕ) (kinds : List TypeWord)
     → line_item before words ≡ Ok (TypeItem t kinds) → 1 ≤ length kinds
 line_item-word [] words t kinds h = let heap =
     heap_line-item words (TypeItem t kinds) h in absurd (false≢true (sym (ap (λ item. is_type (Ok item)) heap.is)))
-line_item-word (first ∷ before) words t kinds h = other_line-word (first ∷ before) words t kinds h
+line_item-word (first ∷ before) words t kinds h = grind (arith, placed-word)

@@ -62,14 +62,6 @@ among_mine k o x2 = grind (arith, same_number)
 among_others : (k j : ℕ) (o : Op) (a : Option Answer) → j ≢ k → answers_among k (entry_of j o a) ≡ []
 among_others k j o x3 ne = grind (arith, other_number)
 
--- a caller's last step leaves it at rest, and decides nothing
-last_rests : (c : Config) (m : Moment) (f : Flight) (found : ℕ) (x : Step) → ends_call x ≡ true
-    → progress c m f found x ≡ record { flight = at_rest; answer = None }
-last_rests c m f found x4 h = grind arith
-
-few_pending : (s : Stage) → pending s ≤ 1
-few_pending x0 = grind arith
-
 pending_behind : (n p p' k : ℕ) (a : Option Answer) → k ≡ n + p → p' ≡ p + count a → k + length (as_list a) ≡ n + p'
 pending_behind n p p' k x4 h i = grind arith
 
@@ -98,7 +90,7 @@ goes_more callers flights k n answers p lt h g =
           (get_or-set_same flights k p.flight at_rest (omega arith)) (length-set flights k p.flight
           ∙ h.long) g.stage (omega arith);
       last = λ e. cc;
-      once = λ b _ e. (let none = none_before b p.answer was (pending p.flight.stage) e (few_pending p.flight.stage)
+      once = λ b _ e. (let none = none_before b p.answer was (pending p.flight.stage) e (grind arith)
           g.pending in omega arith);
       few = omega arith;
     }
@@ -154,7 +146,7 @@ own_step c m k n answers x true is enabled h =
     let f = flight_of m (Caller k) in
     let meets = enabled_meets c m e enabled in
     ends_more c.callers m.seats.flights k n answers (progress c m f (found c m e) x) (ltb-true k c.callers meets.seat) h
-    (ends c m f x meets.order meets.holder is) (last_rests c m f (found c m e) x is)
+    (ends c m f x meets.order meets.holder is) (grind arith)
 own_step c m k n answers x false is enabled h =
     let e : Event = record { seat = Caller k; step = x } in
     let f = flight_of m (Caller k) in
@@ -243,13 +235,6 @@ given_case answers n a true true few l =
 given_case answers n a true false few l = take-append-le n answers (as_list a) few ∙ sym (append-nil (take n answers))
 given_case answers n a false last few l = ap (take n) (append-nil answers) ∙ sym (append-nil (take n answers))
 
-waiting_case : (answers : List Answer) (n : ℕ) (a : Option Answer) (mine last : Bool)
-    → ((mine && last) ≡ true → (a ≡ None) × (length answers ≡ n + 1))
-    → ((b : Answer) → mine ≡ true → a ≡ Some b → length answers ≡ n)
-    → slice_get (answers ++ (if mine then as_list a else [])) (counted n (mine && last))
-    ≡ waiting_by mine last a (slice_get answers n)
-waiting_case answers n a x3 x4 l o = grind (arith, append-nil, slice_get_past, last_of)
-
 -- the answers and the count of the ended calls, with one event more
 more_answers : (c : Config) (es : List Event) (e : Event) (k : ℕ) → answers_among k (calls c (es ++ e ∷ []))
     ≡ answers_among k (calls c es)
@@ -283,8 +268,7 @@ pub waiting_more : (c : Config) (es : List Event) (e : Event) (k : ℕ) → AreE
 waiting_more c es e k h =
     let s = step_of c es e k h in
     rw (more_ended es e k, more_answers c es e k)
-    (waiting_case (answers_among k (calls c es)) (ended_calls k es) (answer_decided c (left c es).now e)
-    (is_same_seat (Caller k) e.seat) (ends_call e.step) s.last s.once)
+    (grind (arith, append-nil, slice_get_past, last_of))
 
 -- There are no more answers than events.
 pub few_answers : (c : Config) (es : List Event) (k : ℕ) → length (answers_given c es k) ≤ length es

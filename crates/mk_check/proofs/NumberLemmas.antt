@@ -19,18 +19,13 @@ number_of_name-among name [] = refl
 number_of_name-among name (other ∷ others) =
     cc (number_of_name-among name others, place-step (bytes_eq name other) (number_among name others) (length others))
 
-number_among-step : (b c : Bool) (o : Option ℕ) (n : ℕ)
-    → (if b then Some 0 else option_map (λ place. place + 1) (option_or o (if c then Some n else None)))
-    ≡ option_or (if b then Some 0 else option_map (λ place. place + 1) o) (if c then Some (suc n) else None)
-number_among-step x0 c o n = grind arith
-
 pub number_among-push : (name : List ℕ) (names : List (List ℕ)) (last : List ℕ) → number_among name (names ++ last ∷ [])
     ≡ option_or (number_among name names) (if bytes_eq name last then Some (length names) else None)
 number_among-push name [] last = refl
 number_among-push name (other ∷ others) last =
     ap (λ place. if bytes_eq name other then Some 0 else option_map (λ n. n + 1) place)
     (number_among-push name others last)
-    ∙ number_among-step (bytes_eq name other) (bytes_eq name last) (number_among name others) (length others)
+    ∙ (grind arith)
 
 pub type_names-push_other : (items : List Item) (item : Item)
     → ((name : List ℕ) (words : List TypeWord) → item ≡ TypeLine name words → ⊥)

@@ -28,10 +28,6 @@ pub op_of-asked : (scope : Scope) (fed : Fed) (item : Item)
     → op_of scope fed item ≡ op_asked fed.numbers (instruction_of scope item)
 op_of-asked scope fed item = grind arith
 
-kept_of-run_line : (scope : Scope) (fed : Fed) (item : Item)
-    → kept_of (run_line scope fed item) ≡ after_line (instruction_of scope item) (kept_of fed)
-kept_of-run_line scope fed item = grind arith
-
 ops-run_line : (scope : Scope) (fed : Fed) (item : Item) → (run_line scope fed item).ops ≡ fed.ops
 ops-run_line scope fed item = grind arith
 
@@ -84,7 +80,7 @@ run_agrees scope (Line line item rest) fed =
     (ap (λ (o : Option Op). is_some o) (op_of-asked scope fed item))
     (let a = run_agrees scope rest (run_line scope fed item) in
     record {
-      stop = a.stop ∙ ap (stop_of (numbered scope rest)) (kept_of-run_line scope fed item);
+      stop = a.stop ∙ ap (stop_of (numbered scope rest)) (grind arith);
       answers = a.answers ∙ ops-run_line scope fed item;
     })
   where

@@ -14,14 +14,8 @@ use Rattle.mk_check.specs.{Feed.is_refusal, Spots.sequels_by, declared.feeding.t
 asks_if : (b : Bool) → (if b then Sequel.Asks else Sequel.Other) ≡ Sequel.Asks → b ≡ true
 asks_if x0 e = grind arith
 
-next_asks : (n : Node) → sequel_to n ≡ Sequel.Asks → asks_at n ≡ true
-next_asks x0 e = grind (arith, asks_if)
-
 ends_not : (b : Bool) (n : Node) → (if b then Sequel.Asks else Sequel.Other) ≡ Sequel.Ends → n ≡ Node.Done
 ends_not x0 n e = grind arith
-
-next_ends : (n : Node) → sequel_to n ≡ Sequel.Ends → n ≡ Node.Done
-next_ends x0 e = grind (arith, ends_not)
 
 -- The node is a line before this one, whose answer this register keeps, if any does, and this comes next.
 record IsLine (nodes : List Node) (n : Node) (next : ℕ) (kept : Option ℕ) (s : Sequel) : Type 0 where
@@ -53,14 +47,6 @@ line_told nodes line instruction by = record {
   keeps = by.2;
   told = ap (λ (j : ℕ). sequel_to (node_at nodes j)) by.0 ∙ by.3;
 }
-
-kept_line : (nodes : List Node) (n : Node) (s : Sequel) → (s ≡ Sequel.Other → ⊥) → (sequels_of nodes n).kept ≡ s
-    → IsLine nodes n (sequels_of nodes n).next (Some (sequels_of nodes n).register) s
-kept_line nodes x1 s known e = grind (arith, line_told, kept_by)
-
-unkept_line : (nodes : List Node) (n : Node) (s : Sequel) → (s ≡ Sequel.Other → ⊥)
-    → (sequels_of nodes n).unkept ≡ s → IsLine nodes n (sequels_of nodes n).next None s
-unkept_line nodes x1 s known e = grind (arith, line_told, unkept_by)
 
 asks_is_known : Sequel.Asks ≡ Sequel.Other → ⊥
 asks_is_known e = absurd cc
@@ -126,7 +112,7 @@ module _ (nodes : List Node) (p : Place) (tree : IsTree nodes) (w : PlaceIsWithi
     next = next;
     here = l.is;
     taken = stops_at_line nodes p next l.instruction tree (within_next l.line l.instruction next l.is) a t
-        (silent l.instruction a accepted l.shown) (next_asks (node_at nodes next) l.told)
+        (silent l.instruction a accepted l.shown) (grind (arith, asks_if))
         (is ∙ ap (λ (x : KeptState). with_kept (record p { at = next }) x) (sym after));
   }
 
@@ -139,7 +125,7 @@ module _ (nodes : List Node) (p : Place) (tree : IsTree nodes) (w : PlaceIsWithi
     next = next;
     here = l.is;
     taken = stops_in_round nodes p next l.instruction tree (within_next l.line l.instruction next l.is) a q t
-        (silent l.instruction a accepted l.shown) (next_ends (node_at nodes next) l.told) begins
+        (silent l.instruction a accepted l.shown) (grind (arith, ends_not)) begins
         (is ∙ ap (λ (x : KeptState). with_kept q x) (sym after));
   }
 
@@ -148,13 +134,13 @@ module _ (nodes : List Node) (p : Place) (tree : IsTree nodes) (w : PlaceIsWithi
         → IsLine nodes (node_at nodes p.at) s.next (Some s.register) told
     kept_here told known e =
         subst (λ (x : Sequels). IsLine nodes (node_at nodes p.at) x.next (Some x.register) told) (sym so)
-        (kept_line nodes (node_at nodes p.at) told known (sym (ap (λ (x : Sequels). x.kept) so) ∙ e))
+        (grind (arith, line_told, kept_by))
 
     unkept_here : (told : Sequel) → (told ≡ Sequel.Other → ⊥) → s.unkept ≡ told
         → IsLine nodes (node_at nodes p.at) s.next None told
     unkept_here told known e =
         subst (λ (x : Sequels). IsLine nodes (node_at nodes p.at) x.next None told) (sym so)
-        (unkept_line nodes (node_at nodes p.at) told known (sym (ap (λ (x : Sequels). x.unkept) so) ∙ e))
+        (grind (arith, line_told, unkept_by))
 
     pub number_at_line : (value : ℕ) (t : Place) → s.kept ≡ Sequel.Asks
         → t ≡ with_kept (record p { at = s.next }) (with_value (kept_in p) s.register value)

@@ -69,10 +69,6 @@ behind_text text k = record k { text = text ++ k.text }
 abbrev pub stopped_behind_text : List ℕ → Stopped → Stopped
 stopped_behind_text text s = record s { kept = behind_text text s.kept }
 
-pub after_line-text : (text : List ℕ) (instruction : Instruction) (k : KeptState)
-    → after_line instruction (behind_text text k) ≡ behind_text text (after_line instruction k)
-after_line-text text x1 k = grind (arith, append_assoc)
-
 stop_behind-text : (text : List ℕ) (left : Steps) (kept : KeptState) (go : KeptState → Stopped) (rest : Steps)
     → ((k : KeptState) → go (behind_text text k) ≡ stopped_behind_text text (go k))
     → stop_behind (record { left = left; kept = behind_text text kept }) go rest
@@ -94,7 +90,7 @@ pub stop_of-text : (text : List ℕ) (steps : Steps) (k : KeptState)
     → stop_of steps (behind_text text k) ≡ stopped_behind_text text (stop_of steps k)
 stop_of-text text Done k = refl
 stop_of-text text (Line line instruction rest) k =
-    by_test (is_some (op_asked k.numbers instruction)) (ap (stop_of rest) (after_line-text text instruction k)
+    by_test (is_some (op_asked k.numbers instruction)) (ap (stop_of rest) (grind (arith, append_assoc))
     ∙ stop_of-text text rest (after_line instruction k))
   where
     by_test : (t : Bool) → stop_of rest (after_line instruction (behind_text text k))

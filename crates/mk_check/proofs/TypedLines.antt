@@ -88,9 +88,6 @@ at_of name offset = record { name = name; offset = offset }
 are_one : (s t : Option At) → same_at s t ≡ true → AreOne s t
 are_one x0 x1 e = grind (arith, and_parts, bytes_eq-Decides, eqb-true, at_of)
 
-number_word : (word : Option TypeWord) → is_number_word word ≡ true → word ≡ Some Number
-number_word x0 e = grind arith
-
 pointer_word : (word : Option TypeWord) (at : At) → pointed_place word ≡ Some at → word ≡ Some (Pointer at)
 pointer_word x0 at e = grind (arith, same_Some)
 
@@ -111,7 +108,7 @@ module _ (a : Around) (script : List Item) (stays : (name : List ℕ) (at : At) 
 
   before_number : (pointer : List ℕ) (i : ℕ) → number_word_fault a pointer i ≡ None
       → PointsBefore a.program script pointer i Number
-  before_number pointer i e = before pointer i Number (number_word _ (unless-None _ TypeKind.Kind e))
+  before_number pointer i e = before pointer i Number (grind arith)
 
   before_one : (pointer : List ℕ) (i : ℕ) (register : List ℕ) → pointer_word_fault a pointer i register ≡ None
       → PointsBeforeOne a.program script pointer i register

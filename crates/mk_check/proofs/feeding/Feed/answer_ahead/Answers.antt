@@ -91,10 +91,6 @@ starts_at c =
     { text = q.text ++ refusal_line c.in-Line.line (refusal_text c.args.answer) } in later) c.copy_at.ensures) in
     subst (λ (q : Place). PlaceFits nodes q) (sym starts) (record { here = next.here; frames = next.frames })
 
--- text doesn't change where a script stops
-stops_so : (n : Node) (q : Place) (text : List ℕ) → StopsAt n q → StopsAt n (record q { text = text })
-stops_so x0 q text h = grind arith
-
 stops_behind_text : (nodes : List Node) (q t : Place) (text : List ℕ) → t ≡ record q { text = text }
     → PlaceIsWithin (length nodes) q → PlaceFits nodes q → StopsAt (node_at nodes q.at) q
     → IsAtStop (record { nodes = nodes; place = t })
@@ -102,7 +98,7 @@ stops_behind_text nodes q t text e w f h =
     subst (λ (p : Place). IsAtStop (record { nodes = nodes; place = p })) (sym e) (record {
       within = record { at = w.at; frames = w.frames };
       fits = record { here = f.here; frames = f.frames };
-      stops = stops_so (node_at nodes q.at) q text h;
+      stops = grind arith;
     })
 
 pub run-requires-clause-fits : goal.run-requires-clause-fits
