@@ -7,7 +7,7 @@ use Rattle.mk_check.proofs.Vocabulary.{◌<◌, ◌≡◌}
 use Rattle.mk_never.proofs.Edits.{if_by, left_at_by}
 use Rattle.mk_never.specs.Admitted.{AccessIsAdmitted, IsAdmitted, IsBase, IsNumber, IsPointer, Meets}
 use Rattle.mk_never.specs.Admitted.{OperandsAreInRange, StoreIsAdmitted}
-use Rattle.mk_never.specs.NeverHeap.{after_free, after_op, target_of, with_new, with_register, word_at}
+use Rattle.mk_never.specs.NeverHeap.{after_op, target_of, with_new, with_register, word_at}
 use Rattle.mk_never.specs.declared.types.Kind.TheVariants.{Num as NumKind, To}
 use Rattle.mk_never.specs.declared.values.Value.TheVariants.{Null}
 use Rattle.mk_check.proofs.DeclaredPlaces.{global_place, global_within, pointer_within, type_place}

@@ -1,10 +1,9 @@
 -- A script that is fed with one more answer.
 use Rattle.std.proofs.Common.{IsNone, IsTrue, ◌↔◌}
-use Rattle.mk_check.proofs.Vocabulary.{Answer, Blocks, Bool, Fed, FeedStandsFor, FeedState, IsWaiting, Item, Line, List}
-use Rattle.mk_check.proofs.Vocabulary.{Op, Option, Scope, Some, ℕ, ap, arith, false, fed_before_answers, feed, first_op}
-use Rattle.mk_check.proofs.Vocabulary.{flagged, is_end_of_block, is_some, next_op, note, op_of, refl, script_of}
-use Rattle.mk_check.proofs.Vocabulary.{script_scope, take_answer, take_answers, true, with_answer, [], ◌++◌, ◌∙◌, ◌∷◌}
-use Rattle.mk_check.proofs.Vocabulary.{◌≡◌}
+use Rattle.mk_check.proofs.Vocabulary.{Answer, Blocks, Fed, FeedStandsFor, FeedState, IsWaiting, Item, Line, List, Op}
+use Rattle.mk_check.proofs.Vocabulary.{Option, Scope, Some, ℕ, ap, arith, fed_before_answers, feed, first_op, flagged}
+use Rattle.mk_check.proofs.Vocabulary.{is_some, next_op, note, op_of, refl, script_of, script_scope, take_answer}
+use Rattle.mk_check.proofs.Vocabulary.{take_answers, true, with_answer, [], ◌++◌, ◌∙◌, ◌∷◌, ◌≡◌}
 use Rattle.mk_check.{proofs.Numbered.ops-with_answer, proofs.Numbered.run_agrees, specs.Feed.has_ended}
 
 pub take_answers_push : (scope : Scope) (fed : Fed) (answers : List Answer) (a : Answer)
@@ -22,9 +21,7 @@ feed_push program k answers a =
 -- A script that has ended takes no answer.
 pub feed_push-ended : (program : List Item) (k : ℕ) (answers : List Answer) (a : Answer)
     → has_ended (feed program k answers) ≡ true → feed program k (answers ++ a ∷ []) ≡ feed program k answers
-feed_push-ended program k answers a h =
-    feed_push program k answers a
-    ∙ (grind arith)
+feed_push-ended program k answers a h = feed_push program k answers a ∙ (grind arith)
 
 ops_taken : (scope : Scope) (fed : Fed) (left : Blocks) (a : Answer) (o : Op) → first_op scope fed left ≡ Some o
     → (take_answer scope fed left a).ops ≡ fed.ops ++ flagged o a ∷ []

@@ -68,10 +68,12 @@ pub text_has_few : (program : List Item) (k : ℕ) → IsOfSomeText program → 
 text_has_few program k text =
     let whole = is_whole program text in
     record {
-      pointers = script_is_few pointer_names 8
-          (record { none = refl; append = pointer_names-append; fits =
-              (λ before item limit h. grind (arith, at_most-None)) }) [] program 1 k whole.lines
-          (omega arith);
+      pointers = script_is_few pointer_names 8 (record {
+        none = refl;
+        append = pointer_names-append;
+        fits =
+            (λ before item limit h. grind (arith, at_most-None));
+      }) [] program 1 k whole.lines (omega arith);
       globals = length-global_names program whole;
       numbers = script_is_few number_names 8
           (record { none = refl; append = number_names-append; fits = number_fits }) [] program 1 k whole.lines

@@ -12,13 +12,13 @@ use Rattle.mk_check.proofs.Vocabulary.{◌≡◌, ◌≤◌}
 use Rattle.mk_core.proofs.Histories.{calls_more, enabled_parts, last_enabled}
 use Rattle.mk_core.proofs.Conditions.{enabled_meets}
 use Rattle.mk_core.specs.Decided.{Decided, entry_of}
+use Rattle.mk_core.specs.Effects.{answer_decided, flights_behind, progress}
 use Rattle.mk_core.specs.History.{AreEnabled, AreEnabledFrom, World, call_decided, calls, calls_from, first_world, left}
 use Rattle.mk_core.specs.History.{left_from, world_behind}
 use Rattle.mk_core.specs.declared.events.Seat.TheVariants.{Caller, Host, Marker}
-use Rattle.mk_core.specs.{Accesses.found, Calls.at_rest, Effects.answer_decided, Effects.flights_behind}
-use Rattle.mk_core.specs.{Effects.progress, Enabled.IsEnabled, Growing.is_same_seat, Moments.Moment, Moments.flight_of}
-use Rattle.mk_core.specs.{declared.events.Event.Event, declared.events.Seat.Seat, declared.events.Step.Step}
-use Rattle.mk_core.specs.{declared.seats.Flight.Flight, declared.seats.Progress.Progress, declared.seats.Stage.Stage}
+use Rattle.mk_core.specs.{Accesses.found, Calls.at_rest, Enabled.IsEnabled, Growing.is_same_seat, Moments.Moment}
+use Rattle.mk_core.specs.{Moments.flight_of, declared.events.Event.Event, declared.events.Seat.Seat}
+use Rattle.mk_core.specs.{declared.events.Step.Step, declared.seats.Flight.Flight, declared.seats.Progress.Progress}
 use Rattle.mk_check.proofs.DecidedStages.{Goes, count, ends, goes, has_stage, pending}
 use Rattle.mk_check.specs.Output.{EndedCallsAreAnswered, answer_waiting, answers_among, answers_given, ended_calls}
 use Rattle.mk_check.specs.Output.{ends_call, ends_call_of}
@@ -267,8 +267,7 @@ pub waiting_more : (c : Config) (es : List Event) (e : Event) (k : ℕ) → AreE
     (answer_waiting c es k)
 waiting_more c es e k h =
     let s = step_of c es e k h in
-    rw (more_ended es e k, more_answers c es e k)
-    (grind (arith, append-nil, slice_get_past, last_of))
+    rw (more_ended es e k, more_answers c es e k) (grind (arith, append-nil, slice_get_past, last_of))
 
 -- There are no more answers than events.
 pub few_answers : (c : Config) (es : List Event) (k : ℕ) → length (answers_given c es k) ≤ length es

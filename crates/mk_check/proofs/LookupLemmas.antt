@@ -85,20 +85,17 @@ none-of all before behind split none = split ∙ ap (option_or before) none ∙ 
 pub type_words-push_other : (name : List ℕ) (items : List Item) (item : Item)
     → ((other : List ℕ) (words : List TypeWord) → item ≡ TypeLine other words → ⊥)
     → type_words name (items ++ item ∷ []) ≡ type_words name items
-type_words-push_other name items item differs =
-    none-of _ _ _ (type_words-append name items (item ∷ [])) (grind arith)
+type_words-push_other name items item differs = none-of _ _ _ (type_words-append name items (item ∷ [])) (grind arith)
 
 pub global_type-push_other : (name : List ℕ) (items : List Item) (item : Item)
     → ((other ty : List ℕ) → item ≡ Global other ty → ⊥)
     → global_type name (items ++ item ∷ []) ≡ global_type name items
-global_type-push_other name items item differs =
-    none-of _ _ _ (global_type-append name items (item ∷ [])) (grind arith)
+global_type-push_other name items item differs = none-of _ _ _ (global_type-append name items (item ∷ [])) (grind arith)
 
 pub pointer_at-push_other : (name : List ℕ) (items : List Item) (item : Item)
     → ((other : List ℕ) (at : At) → item ≡ Ptr other at → ⊥)
     → pointer_at name (items ++ item ∷ []) ≡ pointer_at name items
-pointer_at-push_other name items item differs =
-    none-of _ _ _ (pointer_at-append name items (item ∷ [])) (grind arith)
+pointer_at-push_other name items item differs = none-of _ _ _ (pointer_at-append name items (item ∷ [])) (grind arith)
 
 number_names-other : (item : Item) → ((other : List ℕ) → item ≡ Num other → ⊥) → number_names (item ∷ []) ≡ []
 number_names-other item differs = grind arith

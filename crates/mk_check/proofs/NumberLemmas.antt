@@ -24,8 +24,7 @@ pub number_among-push : (name : List ℕ) (names : List (List ℕ)) (last : List
 number_among-push name [] last = refl
 number_among-push name (other ∷ others) last =
     ap (λ place. if bytes_eq name other then Some 0 else option_map (λ n. n + 1) place)
-    (number_among-push name others last)
-    ∙ (grind arith)
+    (number_among-push name others last) ∙ (grind arith)
 
 pub type_names-push_other : (items : List Item) (item : Item)
     → ((name : List ℕ) (words : List TypeWord) → item ≡ TypeLine name words → ⊥)

@@ -1,8 +1,7 @@
 -- Laws of what steps do: one part after another, rounds, and text that stands before.
-use Rattle.mk_check.proofs.Vocabulary.{Bool, Instruction, KeptState, List, Steps, Stopped, ℕ, after_line, ap}
-use Rattle.mk_check.proofs.Vocabulary.{append_assoc, arith, false, if◌then◌else◌, is_some, op_asked, refl, slice_index}
-use Rattle.mk_check.proofs.Vocabulary.{stop_behind, stop_of, stop_of_rounds, suc, then_steps, true, zero, ◌++◌, ◌==◌}
-use Rattle.mk_check.proofs.Vocabulary.{◌∙◌, ◌≡◌}
+use Rattle.mk_check.proofs.Vocabulary.{Bool, KeptState, List, Steps, Stopped, ℕ, after_line, ap, append_assoc, arith}
+use Rattle.mk_check.proofs.Vocabulary.{false, if◌then◌else◌, is_some, op_asked, refl, slice_index, stop_behind, stop_of}
+use Rattle.mk_check.proofs.Vocabulary.{stop_of_rounds, suc, then_steps, true, zero, ◌++◌, ◌==◌, ◌∙◌, ◌≡◌}
 use Rattle.mk_check.specs.Steps.{Choice, Done, Line, Rounds}
 
 pub then_steps_assoc : (a b c : Steps) → then_steps (then_steps a b) c ≡ then_steps a (then_steps b c)

@@ -5,9 +5,9 @@ use Rattle.mk_check.proofs.Vocabulary.{arith, base_of, bytes_eq-Decides, global_
 use Rattle.mk_check.proofs.Vocabulary.{refl, same_Some, sym, true, type_words, typing_fault, word_among, ◌+◌, ◌or◌, ◌∙◌}
 use Rattle.mk_check.proofs.Vocabulary.{◌≡◌}
 use Rattle.mk_check.proofs.FaultLemmas.{HasValue, has_value, or-None, unless-None}
-use Rattle.mk_check.specs.Typing.{base_of_global, inside_fault, is_base, is_number_word, kind_fault, number_word_fault}
-use Rattle.mk_check.specs.Typing.{place_behind, pointed_place, pointer_fault, pointer_word_fault, same_at, type_fault}
-use Rattle.mk_check.specs.Typing.{type_word_at, unless}
+use Rattle.mk_check.specs.Typing.{base_of_global, inside_fault, is_base, kind_fault, number_word_fault, place_behind}
+use Rattle.mk_check.specs.Typing.{pointed_place, pointer_fault, pointer_word_fault, same_at, type_fault, type_word_at}
+use Rattle.mk_check.specs.Typing.{unless}
 use Rattle.mk_script.specs.declared.items.Item.TheVariants.{Casp, Clear, Free, Getn, Getp, Isnull, Lea, Loadg, Move}
 use Rattle.mk_script.specs.declared.items.Item.TheVariants.{New, Same, Setn, Setp, Show, Storeg}
 use Rattle.mk_script.specs.declared.items.TypeWord.TheVariants.{Number, Pointer}
