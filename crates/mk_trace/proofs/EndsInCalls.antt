@@ -24,10 +24,7 @@ never_over : (c : Config) (w : World) (e : Event) (es : List Event) → AreEnabl
     → e.seat ≡ Caller 0 → is_over e.step ≡ false
 unfolding AreEnabledFrom
 never_over c w e es on seat =
-    by e.step (subst (λ (s : Seat). is_open_to s (group_of e.step) ≡ true) seat (enabled_meets c w.now e on.0).kind)
-  where
-    by : (s : Step) → is_open_to (Caller 0) (group_of s) ≡ true → is_over s ≡ false
-    by x0 h = grind arith
+    grind arith
 
 pub lacks_over : (c : Config) (w : World) (away : List Seat) (es : List Event) → OneSeat c away
     → AreEnabledFrom c w es → AreMine c away es → has_step is_over es ≡ false
@@ -38,9 +35,6 @@ lacks_over c w away (e ∷ es) all on own =
     (lacks_over c (world_behind c w e) away es all on.1 (mine_parts c away (e ∷ []) es own).1)
 
 -- What the caller does beside its turns changes no allocation.
-
-beside_changes_none : (s : Step) → is_beside_turns s ≡ true → changes s ≡ false
-beside_changes_none x0 h = grind arith
 
 own_all : (c : Config) (w : World) (e : Event) (es : List Event) → e.seat ≡ Caller 0
     → are_of is_beside_turns (own_from c (Caller 0) w (e ∷ es))
@@ -55,7 +49,7 @@ beside_lacks c w away (e ∷ es) all own beside =
     let parts = and_parts (is_beside_turns e.step)
     (are_of is_beside_turns (own_from c (Caller 0) (world_behind c w e) es))
     (sym (own_all c w e es (seat_is c away e es all own)) ∙ beside) in
-    or_from (changes e.step) (has_step changes es) (beside_changes_none e.step parts.0)
+    or_from (changes e.step) (has_step changes es) (grind arith)
     (beside_lacks c (world_behind c w e) away es all (mine_parts c away (e ∷ []) es own).1 parts.1)
 
 -- Of calls of which one is decided, none is decided after the event that decides it.

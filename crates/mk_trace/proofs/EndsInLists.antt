@@ -74,9 +74,6 @@ module _ (c : Config) (w : World) (xs : List Event) (b : Event) (ys : List Event
 
 -- One part after another.
 
-none_twice : {c : Config} {es fs gs : List Event} → EndsNone c es fs → EndsNone c fs gs → EndsNone c es gs
-none_twice h g = grind (arith, releases_then)
-
 one_behind_none : {c : Config} {es fs gs : List Event} → EndsNone c es fs → EndsOne c fs gs → EndsOne c es gs
 one_behind_none h g = grind arith
 
@@ -141,7 +138,7 @@ module _ (c : Config) (es xs ys : List Event) (on : AreEnabledFrom c (left c es)
       (idle_then c es xs h.phase) in
       subst (λ (l : List Event). IsBetweenCycles c l × (EndsNone c es l ⊎ EndsOne c es l)) (append_assoc es xs ys) (
         told.0,
-        ⊎_elim (λ (second : EndsNone c (es ++ xs) ((es ++ xs) ++ ys)). inl (none_twice first second))
+        ⊎_elim (λ (second : EndsNone c (es ++ xs) ((es ++ xs) ++ ys)). inl (grind (arith, releases_then)))
             (λ (second : EndsOne c (es ++ xs) ((es ++ xs) ++ ys)). inr (one_behind_none first second)) told.1,
       )
 
@@ -164,11 +161,7 @@ same_phase x0 n h = grind arith
 
 same_allocations : (c : Config) (w : World) (e : Event) → changes e.step ≡ false
     → (world_behind c w e).allocations ≡ w.allocations
-same_allocations c w e none = left_alike e.step w.allocations none
-  where
-    left_alike : (s : Step) (xs : List PlacedAllocation) → changes s ≡ false
-        → allocations_by c w.now (flight_of w.now e.seat) s xs ≡ xs
-    left_alike x0 xs h = grind arith
+same_allocations c w e none = grind arith
 
 leaves : (c : Config) (w : World) (es : List Event) → AreEnabledFrom c w es → has_step changes es ≡ false
     → Leaves c w es

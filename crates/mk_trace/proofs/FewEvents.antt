@@ -18,11 +18,8 @@ none_ended es empty = ap ends empty
 
 -- operations
 
-few_by : (full : Bool) (event : TraceEvent) → length (drop 1 (ops_of full event)) ≤ 5
-few_by full x1 = grind arith
-
 pub few_later : (full : Bool) (event : TraceEvent) (ops : List Op) → ops ≡ drop 1 (ops_of full event) → length ops ≤ 5
-few_later full event ops is = subst (λ (l : List Op). length l ≤ 5) (sym is) (few_by full event)
+few_later full event ops is = subst (λ (l : List Op). length l ≤ 5) (sym is) (grind arith)
 
 -- What each line adds at most one to, all add to.
 along_grows : {Line Given Whole Fault : Type 0} (told : ℕ → Fault → TraceStop)

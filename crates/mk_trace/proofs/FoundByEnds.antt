@@ -38,10 +38,6 @@ none_end (e ∷ es) none =
 pub ends-append : (xs ys : List Event) → ends (xs ++ ys) ≡ ends xs + ends ys
 ends-append xs ys = sum_by-append (λ (x : Event). cond (is_end x.step) 1 0) xs ys
 
-found_by_test : (b : Bool) (first : List PlacedAllocation) (xs ys : List (List PlacedAllocation))
-    → (if b then first ∷ (xs ++ ys) else xs ++ ys) ≡ (if b then first ∷ xs else xs) ++ ys
-found_by_test x0 first xs ys = grind arith
-
 pub found-append : (c : Config) (w : World) (xs ys : List Event)
     → found_by_ends_from c w (xs ++ ys) ≡ found_by_ends_from c w xs ++ found_by_ends_from c (left_from c w xs) ys
 unfolding found_by_ends_from left_from
@@ -49,8 +45,7 @@ found-append c w [] ys = refl
 found-append c w (e ∷ xs) ys =
     let on : World = world_behind c w e in
     ap (λ (l : List (List PlacedAllocation)). if is_end e.step then w.allocations ∷ l else l) (found-append c on xs ys)
-    ∙ found_by_test (is_end e.step) w.allocations (found_by_ends_from c on xs)
-    (found_by_ends_from c (left_from c on xs) ys)
+    ∙ (grind arith)
 
 pub found-none : (c : Config) (w : World) (e : Event) (es : List Event) → is_end e.step ≡ false
     → found_by_ends_from c w (e ∷ es) ≡ found_by_ends_from c (world_behind c w e) es
@@ -134,12 +129,6 @@ pub record IsOn (phase : ℕ) : Type 0 where
   pub least : 1 ≤ phase
   pub most : phase ≤ 4
 
-on_step : (s : Step) {n : ℕ} → AsksPhase s n → IsOn n → is_end s ≡ false → IsOn (phase_behind s n)
-on_step x0 asks on none = grind arith
-
-end_step : (s : Step) (n : ℕ) → is_end s ≡ true → phase_behind s n ≡ 0
-end_step x0 n is = grind arith
-
 pub grows_by : (c : Config) (w : World) (e : Event) → length w.allocations ≤ length (world_behind c w e).allocations
 grows_by c w e = by e.step
   where
@@ -164,7 +153,7 @@ module _ (c : Config) (w : World) (e : Event) (es : List Event) (on : AreEnabled
   unfolding left_from
   ends_here is =
       let moves = moves_phase c w e es on in
-      let rest = rests c behind es moves.2 (moves.1 ∙ end_step e.step (phase_of w.now.words) is)
+      let rest = rests c behind es moves.2 (moves.1 ∙ (grind arith))
       (or_parts (is_begin e.step) (has_step is_begin es) begins).1
       (or_parts (is_over e.step) (has_step is_over es) overs).1 in
       record {
@@ -190,7 +179,7 @@ ends_once c w [] on phase begins overs frees ends_in = absurd (true≢false (sym
 ends_once c w (e ∷ es) on phase begins overs frees ends_in =
     let moves = moves_phase c w e es on in
     ⊎_elim (ends_here c w e es on begins overs frees) (λ (none : is_end e.step ≡ false). ends_later c w e es on begins
-    overs frees none (ends_once c (world_behind c w e) es moves.2 (subst IsOn (sym moves.1) (on_step e.step moves.0
-    phase none)) (or_parts (is_begin e.step) (has_step is_begin es) begins).1 (or_parts (is_over e.step) (has_step
+    overs frees none (ends_once c (world_behind c w e) es moves.2 (subst IsOn (sym moves.1) (
+        grind arith)) (or_parts (is_begin e.step) (has_step is_begin es) begins).1 (or_parts (is_over e.step) (has_step
     is_over es) overs).1 (free_parts c w e es frees).1 (sym (ap (λ (b : Bool). b || has_step is_end es) none) ∙
     ends_in))) (cases_Bool _)

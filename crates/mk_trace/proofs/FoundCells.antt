@@ -43,13 +43,10 @@ pub cell_found : (pages : ℕ) (w : Words) (u header : ℕ) (found : Option Cell
 unfolding pointed_cell
 cell_found pages w u header found is same = same ∙ ap (λ (h : ℕ). cell_at pages h u) is
 
-none_if : (b : Bool) (x : Option Cell) → b ≡ false → None ≡ (if b then x else None)
-none_if x0 x is = grind arith
-
 pub nothing_found : (pages : ℕ) (w : Words) (u : ℕ) → is_heap_address pages u ≡ false
     → None ≡ pointed_cell pages w.pages u
 unfolding pointed_cell
-nothing_found pages w u outside = none_if (is_heap_address pages u) _ outside
+nothing_found pages w u outside = grind arith
 
 -- whether a cell is freed
 

@@ -32,13 +32,9 @@ freed_part : (n : ℕ) (freed released : Bool)
 freed_part n freed released = grind arith
 
 module _ (weight : ℕ → ℕ) where
-  by_test : (a : PlacedAllocation) (b : Bool)
-      → part weight a ≤ part weight (if b then record a { freed = true; fresh = true } else a)
-  by_test a x1 = grind (arith, freed_part)
-
   free_rises : (w : Words) (cell : Option Cell) (a : PlacedAllocation)
       → part weight a ≤ part weight (freed_where_it_stands w cell a)
-  free_rises w cell a = by_test a (is_some_and (λ (x : Cell). stands_in w x a) cell)
+  free_rises w cell a = grind (arith, freed_part)
 
   grant_adds_none : (c : Config) (m : Moment) (f : Flight) (xs : List PlacedAllocation)
       → weighed weight (xs ++ granted c m f ∷ []) ≡ weighed weight xs

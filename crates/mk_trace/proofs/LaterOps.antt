@@ -124,10 +124,6 @@ are_plain (x ∷ ops) zero o plain lt at = grind (arith, and_parts, is_plain)
 are_plain (x ∷ ops) (suc i) o plain lt at =
     are_plain ops i o (and_parts (is_plain x) (list_all is_plain ops) plain).1 (omega (arith, lt)) at
 
--- Only the first may be a New.
-later_plain : (full : Bool) (event : TraceEvent) → list_all is_plain (drop 1 (ops_of full event)) ≡ true
-later_plain x0 x1 = grind arith
-
 module _ (c : Config) (es : List Event) (full : Bool) (event : TraceEvent) (i : ℕ) (o : Op)
     (within : i < length (drop 1 (ops_of full event))) (at : o ≡ get_or (drop 1 (ops_of full event)) i o) where
   abbrev ops : List Op
@@ -140,7 +136,7 @@ module _ (c : Config) (es : List Event) (full : Bool) (event : TraceEvent) (i : 
   here = ap (λ (n : ℕ). get_or ops n o) (omega arith) ∙ sym (get_or-drop 1 ops i o) ∙ sym at
 
   plain : IsPlain o
-  plain = are_plain (drop 1 ops) i o (later_plain full event) within at
+  plain = are_plain (drop 1 ops) i o (grind arith) within at
 
   pub later_call : (refused : Bool) (fs : List Event) (told : Answer) (gs : List Event)
       → CallsAll c es full (take (i + 1) ops) refused fs → Calls c fs o told gs

@@ -12,11 +12,8 @@ is_no_look (Step.Look x) = false
 is_no_look Step.Give = false
 is_no_look _ = true
 
-pub named_same : (w : Words) (turn : ℕ) (x : Word) → named_word (record w { turn = turn }) x ≡ named_word w x
-named_same w turn x2 = grind arith
-
 pub word_left : {w v : World} → LeavesTable w v → (x : Word) → named_word v.now.words x ≡ named_word w.now.words x
-word_left {w} {v} leaves x = ap (λ (y : Words). named_word y x) leaves.words ∙ named_same w.now.words v.now.words.turn x
+word_left {w} {v} leaves x = ap (λ (y : Words). named_word y x) leaves.words ∙ (grind arith)
 
 pub leaves_then : (u v w : World) → LeavesTable u v → LeavesTable v w → LeavesTable u w
 leaves_then u v w one two = grind arith

@@ -61,10 +61,6 @@ none_of_others c elsewhere seats (e ∷ es) all mine others =
     absurd (not_both seats e.seat others.0 (has_mine c elsewhere seats e all
     (and_parts (is_mine c elsewhere e) (list_all (is_mine c elsewhere) es) mine).0))
 
-take_alone : (kind : Step → Bool) → ((x : Option Op) → kind (Step.Take x) ≡ false) → (s : Step) → is_take s ≡ true
-    → kind s ≡ false
-take_alone kind none x2 h = grind arith
-
 -- and who waits for the turn makes no step but takes.
 pub waiting_lacks : (kind : Step → Bool) (c : Config) (elsewhere : List Seat) (p : PassState) (es : List Event)
     → ((x : Option Op) → kind (Step.Take x) ≡ false) → HasTheRest c elsewhere p.seats → AreMine c elsewhere es
@@ -75,8 +71,8 @@ waiting_lacks kind c elsewhere p (e ∷ es) apart all mine waits =
     let parts = and_parts (waits_for p e) (list_all (waits_for p) es) waits in
     or_from (kind _) (has_step kind es) (⊎_elim (λ (out : not (is_one_of p.seats e.seat) ≡ true). absurd (true≢false
     (sym (has_mine c elsewhere p.seats e all mines.0) ∙ not-true (is_one_of p.seats e.seat) out))) (λ (take : (is_take
-    e.step && is_same_seat e.seat p.seat) ≡ true). take_alone kind apart e.step (and_parts (is_take e.step)
-    (is_same_seat e.seat p.seat) take).0) (or_cases (not _) _ parts.0)) (waiting_lacks kind c elsewhere p es apart all
+    e.step && is_same_seat e.seat p.seat) ≡ true).
+        grind arith) (or_cases (not _) _ parts.0)) (waiting_lacks kind c elsewhere p es apart all
     mines.1 parts.1)
 
 pub others_lack : (kind : Step → Bool) (c : Config) (elsewhere seats : List Seat) (es : List Event)

@@ -77,9 +77,6 @@ module _ (c : Config) (measure : List PlacedAllocation → ℕ) where
 -- The greatest measure over a history in two parts, where a grant alone makes the measure more, and what lets storage
 -- go alone makes it less.
 
-grant_keeps : (s : Step) → is_grant s ≡ true → lets_go s ≡ false
-grant_keeps x0 h = grind arith
-
 module _ (c : Config) (measure : List PlacedAllocation → ℕ) where
   -- what a world has, what it has after more events, and what it has at most on the way
 
@@ -120,7 +117,7 @@ module _ (c : Config) (measure : List PlacedAllocation → ℕ) where
         → LastIn (e ∷ es) → most w (e ∷ es) ≡ max (has w) (has (left_from c w (e ∷ es)))
     unfolding greatest_from left_from
     by_first w e es rest last =
-        ⊎_elim (λ (is : is_grant e.step ≡ true). (let one = rises_at w e (grant_keeps e.step is) in
+        ⊎_elim (λ (is : is_grant e.step ≡ true). (let one = rises_at w e (grind arith) in
         let later = rises (world_behind c w e) es (
         last (record { before = []; event = e; behind = es; is = refl; of_kind = is })) in
         let below = first_below c measure (world_behind c w e) es in

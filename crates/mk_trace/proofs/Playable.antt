@@ -62,10 +62,6 @@ by_word : (is_slot : Bool) (before : LinesSoFar) (word : List ℕ) (operands : L
 by_word true before word operands given h are = slot_line_more before operands given h are
 by_word false before word operands given h are = grind (arith, passed_else, bound)
 
-pub line_more : (before : LinesSoFar) (words : List (List ℕ)) (given : Line) → trace_line_of before words ≡ Ok given
-    → AreWithin before.slots → AreWithin (with_trace_line before given).slots
-line_more before x1 given h are = grind (arith, by_word)
-
 pub record HeapIsWithin (heap : HeapPages) : Type 0 where
   pub pages : IsBetween 1 4096 heap.pages
   pub resident : IsBetween 1 heap.pages heap.resident
@@ -147,7 +143,7 @@ of_lines (first ∷ lines) trace h =
     let header = gone_on (text_fault_at 1) (header_line_of (words_of_line first)) _ trace h in
     let written = then_next (written_from 2 lines nothing_written) _ trace header.behind in
     let slots = along_keeps text_fault_at read_behind with_trace_line (λ (w : LinesSoFar). AreWithin w.slots)
-    (λ before line given holds is. line_more before (words_of_line line) given is holds) 2 lines nothing_written
+    (λ before line given holds is. grind (arith, by_word)) 2 lines nothing_written
     written.value (record { few = omega arith; sizes = All-nil SlotIsWithin }) written.is in
     read header.value written.value trace (header_within
     (words_of_line first) header.value header.is) slots written.behind
