@@ -165,12 +165,7 @@ module _ (program : List Item) (es : List Event) where
       let s = step_of x.form (next_op_for program es x.seat) in
       let e : Event = record { seat = x.seat; step = s } in
       let meets = enabled_meets c m e (last_enabled c (first_world c) es e enabled) in
-      one_more x.seat s enabled (by_seat x.seat meets.order) h
-    where
-      by_seat : (seat : Seat) → is_in_order c m seat (step_of x.form (next_op_for program es seat)) ≡ true
-          → (k : ℕ) → seat ≡ Caller k
-          → BeginsAsAsked program k (answers_given c es k) (step_of x.form (next_op_for program es seat))
-      by_seat x0 order k is = grind (arith, begins_so)
+      one_more x.seat s enabled (λ k is. grind (arith, begins_so)) h
 
 -- Along a schedule.
 

@@ -42,10 +42,6 @@ op_stays : (c : Config) (m : Moment) (f : Flight) (n : ℕ) (x : Step) → begin
     → (progress c m f n x).flight.op ≡ f.op
 op_stays c m f n x4 b e = grind (arith, reg_op, either_op, read_op, freed_op)
 
--- only a call's first step comes next at rest
-not_at_rest : (s : Stage) (o : Op) (x : Step) → begins_call x ≡ false → comes_next s o x ≡ true → s ≢ Stage.Idle
-not_at_rest x0 o x b h = grind arith
-
 -- Where n calls of a caller have ended, n of its answers are decided, or one more.
 
 abbrev flight : Stage → Op → ℕ → ℕ → ℕ → ℕ → Flight
@@ -125,7 +121,7 @@ module _ (program : List Item) (k : ℕ) (f : Flight) (n : ℕ) (answers : List 
   own_step c m found Step.Leave order begun once = ends
   own_step c m found Step.Give order begun once = ends
   own_step c m found x order begun once = let p = progress c m f found x in
-      decides p.flight p.answer (op_stays c m f found x refl refl) (not_at_rest f.stage f.op x refl order) (once refl)
+      decides p.flight p.answer (op_stays c m f found x refl refl) (grind arith) (once refl)
 
   -- another's call, if one is decided
   pub others_step : (j : ℕ) (o : Op) (a : Option Answer) → j ≢ k

@@ -24,10 +24,6 @@ pub glue_first : (text : List ℕ) → pieces_of text ≡ glue [] (pieces_of tex
 unfolding pieces_of
 glue_first x0 = grind (arith, glue_nothing)
 
-glue_more : (text : List ℕ) (byte : ℕ) (pieces : List (List ℕ))
-    → glue text (in_front byte pieces) ≡ glue (text ++ byte ∷ []) pieces
-glue_more text byte x2 = grind (arith, append_assoc)
-
 -- whether a cut begins at the head
 abbrev pub is_cut : List ℕ → Bool
 is_cut [] = false
@@ -51,7 +47,7 @@ goes_on text i inside is so_far =
     let here : is_cut (get_or text i 0 ∷ drop (i + 1) text) ≡ false = sym (at_drop_more is_cut text i 0 inside) ∙ is in
     so_far ∙ ap (glue (take i text)) (at_drop_more pieces_of text i 0 inside
     ∙ uncut (get_or text i 0) (drop (i + 1) text) here)
-    ∙ glue_more (take i text) (get_or text i 0) (pieces_of (drop (i + 1) text))
+    ∙ (grind (arith, append_assoc))
     ∙ ap (λ front. glue front (pieces_of (drop (i + 1) text))) (sym (take_more text i 0 inside))
 
 long : (text : List ℕ) → is_cut text ≡ true → 2 ≤ length text

@@ -42,9 +42,6 @@ pub answer_is : (c : Config) (es : List Event) (e : Event) (caller : ℕ) (o : O
     → calls c (es ++ e ∷ []) ≡ calls c es ++ entry_of caller o a → a ≡ answer_decided c (left c es).now e
 answer_is c es e caller o a h = grind (arith, append_cancel_left, calls_more, answer_of_entry, first_answer)
 
-is_other : (j k : ℕ) → j ≢ k → (k == j) ≡ false
-is_other j k ne = grind (arith, nat_tests)
-
 mine : (players : List Player) (j : ℕ) (old new : Player) (e : Event) (a : Option Answer)
     → j < length players → old ≡ slice_index_or players j old → e.seat ≡ Seat.Caller j
     → TakesStep (ends_call e.step) a old new
@@ -60,7 +57,7 @@ others : (players : List Player) (j : ℕ) (new : Player) (e : Event) (a : Optio
     → IsPlayerOf program k (served_by k e a x) (get_or (set players j new) k d)
 others players j new e a is {k} d other h =
     let not_mine : is_same_seat (Seat.Caller k) e.seat ≡ false = ap (is_same_seat (Seat.Caller k)) is
-    ∙ is_other j k other in
+    ∙ (grind (arith, nat_tests)) in
     rw (not_mine, get_or-set_other players j k new d (λ same. other (sym same))) h
 
 -- One player takes a step of its caller.
@@ -109,18 +106,6 @@ texts_push {program} {es} texts t h new = λ k d less.
       | inr ne ↦ (let lt : k < length texts = omega arith in rw (get_or_append_left texts (t ∷ []) d k lt) (h k d lt))
     ]
 
--- The players after an event that decides this answer.
-players_more : (program : List Item) (es : List Event) (e : Event) (a : Option Answer) (players new : List Player)
-    → length new ≡ length players → AreEnabled (config_of program 8) (es ++ e ∷ [])
-    → a ≡ answer_decided (config_of program 8) (left (config_of program 8) es).now e
-    → TakeEvent e a players new → ArePlayersOf program es players → ArePlayersOf program (es ++ e ∷ []) new
-players_more program es e a players new count enabled is takes h = λ k d less.
-    let lt : k < length players = omega arith in
-    let c = config_of program 8 in
-    subst (λ (x : Served). IsPlayerOf program k x (get_or new k d))
-    (ap (λ (b : Option Answer). served_by k e b (served_to c es k)) is ∙ sym (served_more c es k e enabled))
-    (takes program k d (served_to c es k) lt (h k d lt))
-
 -- A run goes on after an event of the core.
 pub run_goes : {program : List Item} {es : List Event} (x : Entry) {old : Run} (new : Run) {core : CoreState}
     (e : Event) (a : Option Answer)
@@ -144,6 +129,11 @@ run_goes {program} {es} x {old} new {core} e a h event seat same stands answers 
         config = ap (λ (k : CoreState). k.config) keeps ∙ config;
         stands = subst (λ (k : CoreState). CoreStandsFor k (es ++ e ∷ [])) (sym keeps) stands;
         count = count ∙ h.count;
-        players = players_more program es e a old.players.items new.players.items count all decided takes h.players;
+        players = λ k d less.
+            let lt : k < length old.players.items = omega arith in
+            let c = config_of program 8 in
+            subst (λ (x : Served). IsPlayerOf program k x (get_or new.players.items k d))
+            (ap (λ (b : Option Answer). served_by k e b (served_to c es k)) decided ∙ sym (served_more c es k e all))
+            (takes program k d (served_to c es k) lt (h.players k d lt));
       });
     }
