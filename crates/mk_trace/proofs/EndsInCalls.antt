@@ -1,9 +1,8 @@
 -- What events of the one caller lack, and what is decided among those of its call.
-use Rattle.mk_trace.proofs.Vocabulary.{Answer, Caller, Config, Decided, Event, Op, Seat, Step, World, call_decided}
+use Rattle.mk_trace.proofs.Vocabulary.{Answer, Caller, Config, Decided, Event, Op, Seat, World, call_decided}
 use Rattle.mk_trace.proofs.Vocabulary.{calls_append, flagged, has_step, world_behind}
-use Rattle.mk_laws.proofs.Vocabulary.{Bool, List, ℕ, and_parts, ap, append_assoc, arith, enabled_meets, false, group_of}
-use Rattle.mk_laws.proofs.Vocabulary.{is_open_to, left_append, list_any, or_from, refl, subst, sym, true, [], ◌&&◌}
-use Rattle.mk_laws.proofs.Vocabulary.{◌++◌, ◌∙◌, ◌∷◌, ◌≡◌}
+use Rattle.mk_laws.proofs.Vocabulary.{Bool, List, ℕ, and_parts, ap, append_assoc, arith, false, left_append, list_any}
+use Rattle.mk_laws.proofs.Vocabulary.{or_from, refl, sym, true, [], ◌&&◌, ◌++◌, ◌∙◌, ◌∷◌, ◌≡◌}
 use Rattle.mk_core.specs.{Growing.own_from, History.AreEnabledFrom, History.calls_from, History.left_from}
 use Rattle.mk_run.specs.Scripts.{is_beside_turns}
 use Rattle.mk_trace.proofs.FoundByEnds.{FreesNoneFrom, is_over}
@@ -23,8 +22,7 @@ seat_is c away e es all own =
 never_over : (c : Config) (w : World) (e : Event) (es : List Event) → AreEnabledFrom c w (e ∷ es)
     → e.seat ≡ Caller 0 → is_over e.step ≡ false
 unfolding AreEnabledFrom
-never_over c w e es on seat =
-    grind arith
+never_over c w e es on seat = grind arith
 
 pub lacks_over : (c : Config) (w : World) (away : List Seat) (es : List Event) → OneSeat c away
     → AreEnabledFrom c w es → AreMine c away es → has_step is_over es ≡ false

@@ -1,8 +1,8 @@
 -- What ends find in a list of events that has one cycle at most.
 use Rattle.mk_trace.proofs.Vocabulary.{AreEnabledFrom, Config, EndsNone, EndsOne, EndsTell, Event, FreesNone}
-use Rattle.mk_trace.proofs.Vocabulary.{IsBetweenCycles, LeavesAllocations, PlacedAllocation, ReleasesNone, Step, World}
-use Rattle.mk_trace.proofs.Vocabulary.{allocations_by, ends, flight_of, has_step, is_begin, is_end, is_grant}
-use Rattle.mk_trace.proofs.Vocabulary.{is_of_cycle, left, lets_go, moves_phase, none_at, phase_of, world_behind, ⊎_elim}
+use Rattle.mk_trace.proofs.Vocabulary.{IsBetweenCycles, LeavesAllocations, ReleasesNone, Step, World, ends, has_step}
+use Rattle.mk_trace.proofs.Vocabulary.{is_begin, is_end, is_grant, is_of_cycle, left, lets_go, moves_phase, none_at}
+use Rattle.mk_trace.proofs.Vocabulary.{phase_of, world_behind, ⊎_elim}
 use Rattle.mk_laws.proofs.Vocabulary.{Bool, List, ℕ, ap, append-nil, append_assoc, arith, cases_Bool, enabled_parts}
 use Rattle.mk_laws.proofs.Vocabulary.{false, inl, inr, left_append, left_in_parts, or_from, or_parts, refl, subst, sym}
 use Rattle.mk_laws.proofs.Vocabulary.{true, true≢false, [], ◌++◌, ◌+◌, ◌||◌, ◌∙◌, ◌∷◌, ◌≡◌, ◌⊎◌}
@@ -134,8 +134,7 @@ module _ (c : Config) (es xs ys : List Event) (on : AreEnabledFrom c (left c es)
         behind = b.behind;
         is = ap (λ (l : List Event). xs ++ l) b.is ∙ sym (append_assoc xs b.before (b.event ∷ b.behind));
         of_kind = b.of_kind;
-      })) frees
-      (idle_then c es xs h.phase) in
+      })) frees (idle_then c es xs h.phase) in
       subst (λ (l : List Event). IsBetweenCycles c l × (EndsNone c es l ⊎ EndsOne c es l)) (append_assoc es xs ys) (
         told.0,
         ⊎_elim (λ (second : EndsNone c (es ++ xs) ((es ++ xs) ++ ys)). inl (grind (arith, releases_then)))

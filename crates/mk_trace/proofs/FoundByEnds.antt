@@ -180,6 +180,6 @@ ends_once c w (e ∷ es) on phase begins overs frees ends_in =
     let moves = moves_phase c w e es on in
     ⊎_elim (ends_here c w e es on begins overs frees) (λ (none : is_end e.step ≡ false). ends_later c w e es on begins
     overs frees none (ends_once c (world_behind c w e) es moves.2 (subst IsOn (sym moves.1) (
-        grind arith)) (or_parts (is_begin e.step) (has_step is_begin es) begins).1 (or_parts (is_over e.step) (has_step
+    grind arith)) (or_parts (is_begin e.step) (has_step is_begin es) begins).1 (or_parts (is_over e.step) (has_step
     is_over es) overs).1 (free_parts c w e es frees).1 (sym (ap (λ (b : Bool). b || has_step is_end es) none) ∙
     ends_in))) (cases_Bool _)

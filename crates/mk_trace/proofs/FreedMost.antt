@@ -3,9 +3,9 @@ use Rattle.mk_trace.proofs.Vocabulary.{Answer, AreLater, Cell, Config, Decided, 
 use Rattle.mk_trace.proofs.Vocabulary.{NeverState, Op, PlacedAllocation, Step, Value, Words, World, after_calls}
 use Rattle.mk_trace.proofs.Vocabulary.{after_free, allocations_by, asked, call_decided, calls_append, decides_freed}
 use Rattle.mk_trace.proofs.Vocabulary.{entry_of, first_world, flight_of, freed_where_it_stands, granted, greatest}
-use Rattle.mk_trace.proofs.Vocabulary.{has_step, is_release, is_some_and, lacks_append, lacks_one, left, max}
-use Rattle.mk_trace.proofs.Vocabulary.{never_behind, number_freed, register_at, stands_in, sum_by-append, sum_by-cons}
-use Rattle.mk_trace.proofs.Vocabulary.{unfreed, words_of_some, world_behind}
+use Rattle.mk_trace.proofs.Vocabulary.{has_step, is_release, lacks_append, lacks_one, left, max, never_behind}
+use Rattle.mk_trace.proofs.Vocabulary.{number_freed, register_at, sum_by-append, sum_by-cons, unfreed, words_of_some}
+use Rattle.mk_trace.proofs.Vocabulary.{world_behind}
 use Rattle.mk_laws.proofs.Vocabulary.{Bool, List, None, Option, Some, ℕ, ap, append-nil, append_assoc, arith}
 use Rattle.mk_laws.proofs.Vocabulary.{earlier_part_is_history, false, if◌then◌else◌, inl, inr, left_in_parts, list_any}
 use Rattle.mk_laws.proofs.Vocabulary.{never_in_parts, not, or_parts, refl, subst, sym, true, true≢false, [], ◌&&◌, ◌*◌}

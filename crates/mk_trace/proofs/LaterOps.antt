@@ -152,8 +152,7 @@ module _ (c : Config) (es : List Event) (full : Bool) (event : TraceEvent) (i : 
   later_may_come refused fs h admitted =
       next_may_come o (drop (i + 1 + 1) ops) h (subst (λ (l : List Op). AreAdmitted c.globals (never_behind c es)
       (calls_of_caller l)) (sym (take-append-drop (i + 1) ops) ∙ ap (λ (l : List Op). take (i + 1) ops ++ l) (
-      (drop_more ops (i + 1) o inside) ∙ ap (λ (x : Op). x ∷ drop (i + 1 + 1) ops) here))
-      admitted)
+      (drop_more ops (i + 1) o inside) ∙ ap (λ (x : Op). x ∷ drop (i + 1 + 1) ops) here)) admitted)
 
 -- all of them
 pub later_all : {c : Config} {es : List Event} {full : Bool} (event : TraceEvent) (i : ℕ) {refused : Bool}

@@ -72,8 +72,7 @@ waiting_lacks kind c elsewhere p (e ∷ es) apart all mine waits =
     or_from (kind _) (has_step kind es) (⊎_elim (λ (out : not (is_one_of p.seats e.seat) ≡ true). absurd (true≢false
     (sym (has_mine c elsewhere p.seats e all mines.0) ∙ not-true (is_one_of p.seats e.seat) out))) (λ (take : (is_take
     e.step && is_same_seat e.seat p.seat) ≡ true).
-        grind arith) (or_cases (not _) _ parts.0)) (waiting_lacks kind c elsewhere p es apart all
-    mines.1 parts.1)
+    grind arith) (or_cases (not _) _ parts.0)) (waiting_lacks kind c elsewhere p es apart all mines.1 parts.1)
 
 pub others_lack : (kind : Step → Bool) (c : Config) (elsewhere seats : List Seat) (es : List Event)
     → HasTheRest c elsewhere seats → AreMine c elsewhere es → AreOfOthers seats es → has_step kind es ≡ false

@@ -16,7 +16,7 @@ use Rattle.mk_check.proofs.FaultLemmas.{or-None}
 use Rattle.mk_script.specs.{Lines.at_most, Lines.within, Operands.name, Operands.number}
 use Rattle.mk_trace.proofs.ReadLines.{along_keeps, bound, gone_on, passed_else, then_next, unless_none}
 use Rattle.mk_trace.proofs.SlotTypes.{length-types_from, range_below, types_among}
-use Rattle.mk_trace.specs.Lines.{checked_slot, event_line, heap_pages, slot_from, slot_limit, slot_line, trace_line_of}
+use Rattle.mk_trace.specs.Lines.{checked_slot, event_line, heap_pages, slot_from, slot_limit, slot_line}
 use Rattle.mk_trace.specs.Typing.{event_on, on_slot, typed_write, words_at}
 use Rattle.mk_trace.specs.{Traces.contents_from, Traces.words_of_slots, declared.lines.Action.Action}
 use Rattle.mk_trace.specs.{declared.lines.EventLine.EventLine, declared.lines.Line.Line, declared.lines.Slot.Slot}
